@@ -1,0 +1,196 @@
+// A desk in memory, for tests: it fails at the calls that it is told.
+ghost use Rattle.std.specs.Option.{option_copied};
+ghost use Rattle.std.specs.Prelude.{◌≡◌, ◌≤◌, ◌<◌, ◌+◌, ◌^◌, ℕ, List, [], ◌∷◌, ◌++◌, length, take, drop, vec_len, true, map, MatchOption, IfSome, IfOk, OnOk, OnErr, Some, None, slice_get, if◌then◌else◌};
+ghost use Rattle.std.specs.Option.{option_map};
+
+mod parts;
+
+use crate::{Counts, Desk, Got, Name, NoMemory, Put};
+use parts::{add_output, append, give, input_of, is_failing, raise, with_name, write_last};
+use std::alloc::Global;
+
+#[derive(Drop)]
+pub struct Stored {
+    pub name: Name,
+    pub bytes: Vec<u8>,
+}
+
+#[derive(Drop)]
+pub struct Asked {
+    pub name: Name,
+    pub answer: Put,
+}
+
+#[derive(Drop)]
+pub struct Input {
+    pub bytes: Vec<u8>,
+    pub at: usize,
+    ghost at_in: { at ≤ vec_len bytes },
+}
+
+#[derive(Drop)]
+pub struct MemoryDesk {
+    alloc: Global,
+    piece: u32,
+    // the newest first
+    files: Vec<Stored>,
+    input: Option<Input>,
+    outputs: Vec<Stored>,
+    said: Vec<u8>,
+    // none once there was no memory for a name
+    asked: Option<Vec<Asked>>,
+    failing: Vec<u64>,
+    calls: u64,
+    counts: Counts,
+    ghost piece_is_some: { 1 ≤ piece },
+}
+
+impl MemoryDesk {
+    ghost use Rattle.jpg_base.specs.Desk.{DeskState};
+    ghost use Rattle.jpg_base.specs.Name.{file_of, is_same_name};
+    ghost use Rattle.jpg_base.specs.Memory.{memory_state, memory_said, memory_outputs, HasNothing, named};
+
+    /// A desk with no files, which gives at most this many bytes a read.
+    pub fn new(alloc: Global, piece: u32) -> MemoryDesk
+        requires { 1 ≤ piece }
+        ensures { HasNothing (memory_state result) }
+    {
+        MemoryDesk {
+            alloc,
+            piece,
+            files: Vec::new(alloc),
+            input: None,
+            outputs: Vec::new(alloc),
+            said: Vec::new(alloc),
+            asked: Some(Vec::new(alloc)),
+            failing: Vec::new(alloc),
+            calls: 0,
+            counts: Counts {
+                opens: 0,
+                reads: 0,
+                writes: 0,
+                says: 0,
+            },
+        }
+    }
+
+    /// A file with this name, in the place of one that there is.
+    pub fn add_file(&mut self, name: &Name, bytes: &[u8]) -> Result<(), NoMemory>
+        ensures ok { OnOk result (memory_state self.new ≡ record (memory_state self.old)
+            { files = Some (λ n. if is_same_name name.now n then Some bytes.now else file_of (map named self.old.files.items) n) }) }
+        ensures err { OnErr result (memory_state self.new ≡ memory_state self.old) }
+    {
+        let name = name.try_clone(self.alloc)?;
+        let Ok(bytes) = bytes.to_vec(self.alloc) else {
+            return Err(NoMemory);
+        };
+        match self.files.insert(0, Stored { name, bytes }) {
+            Ok(()) => Ok(()),
+            Err(_) => Err(NoMemory),
+        }
+    }
+
+    /// Makes the call of this number fail.
+    pub fn fail(&mut self, call: u64) -> Result<(), NoMemory>
+        ensures { memory_state self.new ≡ memory_state self.old }
+    {
+        match self.failing.push(call) {
+            Ok(()) => Ok(()),
+            Err(_) => Err(NoMemory),
+        }
+    }
+
+    pub fn outputs(&self) -> u32
+        ensures { length (memory_outputs self.now) < 2 ^ 32 → result ≡ length (memory_outputs self.now) }
+    {
+        u32::try_from(self.outputs.len()).unwrap_or(u32::MAX)
+    }
+
+    pub fn output(&self, i: u32) -> &[u8]
+        requires { i < length (memory_outputs self.now) }
+        ensures { option_map (λ p. p.1) (slice_get (memory_outputs self.now) i) ≡ Some result.now }
+    {
+        self.outputs[i as usize].bytes.as_slice()
+    }
+
+    pub fn said(&self) -> &[u8]
+        ensures { result.now ≡ memory_said self.now }
+    {
+        self.said.as_slice()
+    }
+}
+
+impl Desk for MemoryDesk {
+    ghost use Rattle.jpg_base.specs.Memory.{memory_state};
+
+    ghost state = { memory_state };
+
+    fn open(&mut self, name: &Name) -> Put {
+        let fails = is_failing(&mut self.calls, &self.failing);
+        match input_of(self.alloc, fails, &self.files, name) {
+            Some(input) => {
+                self.input = Some(input);
+                self.asked = with_name(self.alloc, self.asked.take(), name, Put::Done);
+                Put::Done
+            }
+            None => {
+                raise(&mut self.counts.opens);
+                self.input = None;
+                self.asked = with_name(self.alloc, self.asked.take(), name, Put::Failed);
+                Put::Failed
+            }
+        }
+    }
+
+    fn read(&mut self, buf: &mut [u8]) -> Got {
+        let fails = is_failing(&mut self.calls, &self.failing);
+        match &mut self.input {
+            Some(input) if !fails => give(input, self.piece, buf),
+            _ => {
+                raise(&mut self.counts.reads);
+                Got::Failed
+            }
+        }
+    }
+
+    fn create(&mut self, name: &Name) -> Put {
+        let fails = is_failing(&mut self.calls, &self.failing);
+        match add_output(self.alloc, fails, &mut self.outputs, name) {
+            Put::Done => {
+                self.asked = with_name(self.alloc, self.asked.take(), name, Put::Done);
+                Put::Done
+            }
+            Put::Failed => {
+                raise(&mut self.counts.opens);
+                self.asked = with_name(self.alloc, self.asked.take(), name, Put::Failed);
+                Put::Failed
+            }
+        }
+    }
+
+    fn write(&mut self, piece: &[u8]) -> Put {
+        let fails = is_failing(&mut self.calls, &self.failing);
+        match write_last(fails, &mut self.outputs, piece) {
+            Put::Done => Put::Done,
+            Put::Failed => {
+                raise(&mut self.counts.writes);
+                Put::Failed
+            }
+        }
+    }
+
+    fn say(&mut self, text: &[u8]) -> Put {
+        let fails = is_failing(&mut self.calls, &self.failing);
+        match append(fails, &mut self.said, text) {
+            Put::Done => Put::Done,
+            Put::Failed => {
+                raise(&mut self.counts.says);
+                Put::Failed
+            }
+        }
+    }
+
+    fn counts(&self) -> Counts {
+        self.counts
+    }
+}

@@ -1,0 +1,116 @@
+// The steps of the desk in memory, each over the parts that it changes.
+ghost use Rattle.std.specs.Prelude.{◌≡◌, ◌≤◌, ◌<◌, ℕ, length, map, take, IfSome, Some};
+ghost use Rattle.std.specs.Option.{option_copied};
+ghost use Rattle.jpg_base.specs.Desk.{Rose, NotesName, Gives, AfterAddOutput, AfterAppendLast, AfterAppend};
+ghost use Rattle.jpg_base.specs.Name.{file_of};
+ghost use Rattle.jpg_base.specs.Memory.{named, rest_of, told_names};
+
+use super::{Asked, Input, Stored};
+use crate::{Got, Name, Put};
+use std::alloc::Global;
+
+// Counts a call, and says whether it is one that fails.
+pub fn is_failing(calls: &mut u64, failing: &[u64]) -> bool {
+    *calls = calls.saturating_add(1);
+    failing.contains(calls)
+}
+
+pub fn raise(count: &mut u64)
+    ensures rose { Rose count.old count.new }
+    ensures kept { count.old ≤ count.new }
+{
+    *count = count.saturating_add(1);
+}
+
+fn find<'a>(files: &'a [Stored], name: &Name) -> Option<&'a [u8]>
+    ensures { option_copied result ≡ file_of (map named files.now) name.now }
+{
+    for file in files {
+        if file.name.is_same(name) {
+            return Some(file.bytes.as_slice());
+        }
+    }
+    None
+}
+
+// The input that the name gives, unless the call fails or there is no memory.
+pub fn input_of(alloc: Global, fails: bool, files: &[Stored], name: &Name) -> Option<Input>
+    ensures { IfSome result (λ input. file_of (map named files.now) name.now ≡ Some (rest_of input)) }
+{
+    if fails {
+        return None;
+    }
+    let bytes = find(files, name)?;
+    let bytes = bytes.to_vec(alloc).ok()?;
+    Some(Input { bytes, at: 0 })
+}
+
+pub fn with_name(
+    alloc: Global,
+    asked: Option<Vec<Asked>>,
+    name: &Name,
+    answer: Put,
+) -> Option<Vec<Asked>>
+    ensures { NotesName (told_names asked) (name.now, answer) (told_names result) }
+{
+    let mut list = asked?;
+    let name = name.try_clone(alloc).ok()?;
+    list.push(Asked { name, answer }).ok()?;
+    Some(list)
+}
+
+// The next bytes of the input.
+pub fn give(input: &mut Input, piece: u32, buf: &mut [u8]) -> Got
+    requires piece { 1 ≤ piece }
+    requires room { 0 < length buf.old }
+    ensures { Gives (rest_of input.old) result buf.new (rest_of input.new) }
+{
+    let rest = &input.bytes[input.at..];
+    let most = rest.len().min(buf.len()).min(piece as usize);
+    if most == 0 {
+        return Got::End;
+    }
+    buf[..most].copy_from_slice(&rest[..most]);
+    input.at += most;
+    Got::Bytes(most as u32)
+}
+
+pub fn add_output(alloc: Global, fails: bool, outputs: &mut Vec<Stored>, name: &Name) -> Put
+    ensures { AfterAddOutput (map named outputs.old.items) name.now result (map named outputs.new.items) }
+{
+    if fails {
+        return Put::Failed;
+    }
+    let Ok(name) = name.try_clone(alloc) else {
+        return Put::Failed;
+    };
+    let bytes = Vec::new(alloc);
+    match outputs.push(Stored { name, bytes }) {
+        Ok(()) => Put::Done,
+        Err(_) => Put::Failed,
+    }
+}
+
+// Appends the bytes, or a first part of them where the call fails.
+pub fn append(fails: bool, bytes: &mut Vec<u8>, piece: &[u8]) -> Put
+    ensures { AfterAppend bytes.old.items piece.now result bytes.new.items }
+{
+    if fails {
+        let _ = bytes.extend_from_slice(&piece[..piece.len() / 2]);
+        return Put::Failed;
+    }
+    match bytes.extend_from_slice(piece) {
+        Ok(()) => Put::Done,
+        Err(_) => Put::Failed,
+    }
+}
+
+pub fn write_last(fails: bool, outputs: &mut Vec<Stored>, piece: &[u8]) -> Put
+    requires { 0 < length outputs.old.items }
+    ensures after { AfterAppendLast (map named outputs.old.items) piece.now result (map named outputs.new.items) }
+    ensures count { length outputs.new.items ≡ length outputs.old.items }
+{
+    let last = outputs.len() - 1;
+    let stored = &mut outputs[last];
+    append(fails, &mut stored.bytes, piece)
+}

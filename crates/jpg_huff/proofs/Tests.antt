@@ -1,0 +1,70 @@
+-- A test that computes, of the arrays of a table.
+use Rattle.std.proofs.Common.{◌≡◌, ℕ, zero, suc, ◌+◌, ◌*◌, ◌^◌, ◌<◌, ◌≤◌, Bool, true, false, List, length, drop, get_or, refl, sym, ap, ◌∙◌, arith, ◌&&◌, eqb, ltb, leb}
+use Rattle.std.specs.Prelude.{◌⊎◌}
+use Rattle.std.proofs.Common.{inl, inr, ⊎_elim}
+use Rattle.std.specs.List.{sum}
+use Rattle.std.proofs.lemmas.Bool.Decides.{nat_tests}
+use Rattle.jpg_huff.specs.Index.{IsIndexed, limit_from}
+
+abbrev pub all_below : ℕ → (ℕ → Bool) → Bool
+all_below zero p = true
+all_below (suc n) p = p n && all_below n p
+
+both_true : (a b : Bool) → (a && b) ≡ true → (a ≡ true) × (b ≡ true)
+both_true true b e = (refl, e)
+both_true false b e = cc
+
+last_or_before : (i n : ℕ) → i < suc n → (i ≡ n) ⊎ (i < n)
+last_or_before i n h = grind arith
+
+pub all_below-at : (n : ℕ) (p : ℕ → Bool) → all_below n p ≡ true → (i : ℕ) → i < n → p i ≡ true
+all_below-at zero p e i h = absurd (omega arith)
+all_below-at (suc n) p e i h =
+    ⊎_elim
+    (λ (s : i ≡ n). ap p s ∙ (both_true (p n) (all_below n p) e).0)
+    (λ (l : i < n). all_below-at n p (both_true (p n) (all_below n p) e).1 i l)
+    (last_or_before i n h)
+
+abbrev pub is_indexed : List ℕ → ℕ → List ℕ → List ℕ → List ℕ → Bool
+is_indexed counts symbols firsts starts limits =
+    eqb (length counts) 16
+    && leb symbols 256
+    && eqb (get_or firsts 0 0) 0
+    && all_below 15 (λ i. eqb (get_or firsts (i + 1) 0) (2 * (get_or firsts i 0 + get_or counts i 0)))
+    && eqb (get_or starts 0 0) 0
+    && all_below 15 (λ i. eqb (get_or starts (i + 1) 0) (get_or starts i 0 + get_or counts i 0))
+    && all_below 16 (λ i. eqb (get_or limits i 0) (limit_from (get_or firsts i 0) (drop i counts)))
+    && all_below 16 (λ i. ltb (get_or firsts i 0 + get_or counts i 0) (2 ^ (i + 1)))
+    && all_below 16 (λ i. leb (get_or starts i 0 + sum (drop i counts)) symbols)
+
+eqb_is : (a b : ℕ) → eqb a b ≡ true → a ≡ b
+eqb_is a b e = grind (arith, nat_tests)
+
+ltb_is : (a b : ℕ) → ltb a b ≡ true → a < b
+ltb_is a b e = grind (arith, nat_tests)
+
+leb_is : (a b : ℕ) → leb a b ≡ true → a ≤ b
+leb_is a b e = grind (arith, nat_tests)
+
+-- the test shows the fact
+pub IsIndexed-from_test : (counts : List ℕ) (symbols : ℕ) (firsts starts limits : List ℕ) → is_indexed counts symbols firsts starts limits ≡ true → IsIndexed counts symbols firsts starts limits
+IsIndexed-from_test counts symbols firsts starts limits e =
+    let h9 = both_true _ (all_below 16 (λ i. leb (get_or starts i 0 + sum (drop i counts)) symbols)) e in
+    let h8 = both_true _ (all_below 16 (λ i. ltb (get_or firsts i 0 + get_or counts i 0) (2 ^ (i + 1)))) h9.0 in
+    let h7 = both_true _ (all_below 16 (λ i. eqb (get_or limits i 0) (limit_from (get_or firsts i 0) (drop i counts)))) h8.0 in
+    let h6 = both_true _ (all_below 15 (λ i. eqb (get_or starts (i + 1) 0) (get_or starts i 0 + get_or counts i 0))) h7.0 in
+    let h5 = both_true _ (eqb (get_or starts 0 0) 0) h6.0 in
+    let h4 = both_true _ (all_below 15 (λ i. eqb (get_or firsts (i + 1) 0) (2 * (get_or firsts i 0 + get_or counts i 0)))) h5.0 in
+    let h3 = both_true _ (eqb (get_or firsts 0 0) 0) h4.0 in
+    let h2 = both_true (eqb (length counts) 16) (leb symbols 256) h3.0 in
+    record {
+      sixteen = eqb_is _ _ h2.0;
+      size = leb_is _ _ h2.1;
+      first = eqb_is _ _ h3.1;
+      first_more = λ i h. eqb_is _ _ (all_below-at 15 (λ i. eqb (get_or firsts (i + 1) 0) (2 * (get_or firsts i 0 + get_or counts i 0))) h4.1 i h);
+      start = eqb_is _ _ h5.1;
+      start_more = λ i h. eqb_is _ _ (all_below-at 15 (λ i. eqb (get_or starts (i + 1) 0) (get_or starts i 0 + get_or counts i 0)) h6.1 i h);
+      limit = λ i h. eqb_is _ _ (all_below-at 16 (λ i. eqb (get_or limits i 0) (limit_from (get_or firsts i 0) (drop i counts))) h7.1 i h);
+      fits = λ i h. ltb_is _ _ (all_below-at 16 (λ i. ltb (get_or firsts i 0 + get_or counts i 0) (2 ^ (i + 1))) h8.1 i h);
+      enough = λ i h. leb_is _ _ (all_below-at 16 (λ i. leb (get_or starts i 0 + sum (drop i counts)) symbols) h9.1 i h);
+    }

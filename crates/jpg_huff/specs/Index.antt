@@ -1,0 +1,28 @@
+-- What a table keeps beside its counts and symbols, so that a walk needs no search.
+use Rattle.std.specs.Prelude.{◌≡◌, ℕ, zero, suc, ◌+◌, ◌-◌, ◌*◌, ◌/◌, ◌^◌, ◌<◌, ◌≤◌, List, [], ◌∷◌, ◌++◌, length, take, drop, sum, slice_index, Bool, Contains, ◌⊎◌}
+use Rattle.jpg_spec.specs.Codes.{Code, codes, AreCodes}
+
+-- Where c is the first number of a length: how many strings of that length begin a code of that length or of a longer one, or are before c.
+abbrev pub limit_from : ℕ → List ℕ → ℕ
+limit_from c [] = c
+limit_from c (count ∷ counts) = (limit_from (2 * (c + count)) counts + 1) / 2
+
+-- from this length on: the first number, the symbols before, and the limit
+pub record IsIndexed (counts : List ℕ) (symbols : ℕ) (firsts starts limits : List ℕ) : Type 0 where
+  pub sixteen : length counts ≡ 16
+  pub size : symbols ≤ 256
+  pub first : slice_index firsts 0 ≡ 0
+  pub first_more : (i : ℕ) → i < 15 → slice_index firsts (i + 1) ≡ 2 * (slice_index firsts i + slice_index counts i)
+  pub start : slice_index starts 0 ≡ 0
+  pub start_more : (i : ℕ) → i < 15 → slice_index starts (i + 1) ≡ slice_index starts i + slice_index counts i
+  pub limit : (i : ℕ) → i < 16 → slice_index limits i ≡ limit_from (slice_index firsts i) (drop i counts)
+  pub fits : (i : ℕ) → i < 16 → slice_index firsts i + slice_index counts i < 2 ^ (i + 1)
+  pub enough : (i : ℕ) → i < 16 → slice_index starts i + sum (drop i counts) ≤ symbols
+
+-- the bits are a front of a code, and not all of it
+abbrev pub BeginsCode : List Code → List Bool → Type 0
+BeginsCode table bits = (code : Code) × (next : Bool) × (more : List Bool) × Contains table code × (code.0 ≡ bits ++ next ∷ more)
+
+-- no code is these bits or begins with them
+abbrev pub BeginsNone : List Code → List Bool → Type 0
+BeginsNone table bits = (code : Code) (more : List Bool) → Contains table code → code.0 ≡ bits ++ more → ⊥

@@ -1,0 +1,16 @@
+-- What a walk answers.
+use Rattle.std.specs.Prelude.{◌≡◌, ℕ, Bool, List, [], Contains}
+use Rattle.jpg_spec.specs.Codes.{Code, codes}
+use Rattle.jpg_huff.specs.declared.table.Table.{Table}
+use Rattle.jpg_huff.specs.declared.walk.WalkStep.{WalkStep}
+use Rattle.jpg_huff.specs.declared.walk.WalkStep.TheVariants.{More, Symbol, NoCode}
+use Rattle.jpg_huff.specs.Index.{BeginsCode, BeginsNone}
+
+abbrev pub symbol_codes : Table → List Code
+symbol_codes t = codes t.counts t.symbols
+
+-- the answer at these bits, and what is kept of them
+abbrev pub Answers : List Code → List Bool → WalkStep → List Bool → Type 0
+Answers table bits More new = BeginsCode table bits × (new ≡ bits)
+Answers table bits (Symbol s) new = Contains table (bits, s) × (new ≡ [])
+Answers table bits NoCode new = BeginsNone table bits × (new ≡ [])

@@ -1,0 +1,9 @@
+pub mod Bands
+pub mod Excludes
+pub mod Facts
+pub mod Levels
+pub mod Once
+pub mod OneCode
+pub mod Strings
+pub mod Telling
+pub mod Writing

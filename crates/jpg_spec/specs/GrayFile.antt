@@ -1,0 +1,126 @@
+-- THE PLAIN GRAY FILE: a baseline file of one component, with the typical tables K.3 and K.5, sides of whole blocks, and one scan
+-- (T.81 B.2, F.1.2, JFIF 1.02).
+use Rattle.std.specs.Prelude.{◌≡◌, ℕ, ◌+◌, ◌*◌, ◌/◌, ◌%◌, ◌≤◌, Bool, nat_lt, ◌&&◌, ◌==◌, if◌then◌else◌, true, List, [], ◌∷◌, ◌++◌, length, map, flat_map, reverse, slice_index_or, codes, Some, ℤ, All}
+use Rattle.std.specs.Int.{to_be_bytes, w16}
+use Rattle.jpg_spec.specs.Bits.{Packs, SpellsData}
+use Rattle.jpg_spec.specs.Lists.{chunks}
+use Rattle.jpg_spec.specs.Typical.{dc_luma_counts, dc_luma_values, ac_luma_counts, ac_luma_values}
+use Rattle.jpg_spec.specs.Geometry.{Frame}
+use Rattle.jpg_spec.specs.Segments.{ScanHead}
+use Rattle.jpg_spec.specs.Elements.{Coding, UnitLeft, SpellsUnits, zeros}
+use Rattle.jpg_spec.specs.Scan.{TablesInForce, scan_coding}
+use Rattle.jpg_spec.specs.ScanText.{typical_table}
+use Rattle.jpg_spec.specs.Meaning.{Meaning}
+use Rattle.jpg_spec.specs.Moves.{mirrored, flip_h, headed}
+use Rattle.jpg_spec.specs.Script.{sequential_script}
+use Rattle.jpg_spec.specs.FileText.{segment_text, file_text, frame_of_meaning, Restart, off}
+use Rattle.jpg_spec.specs.declared.frame.Process.TheVariants.{Baseline}
+
+-- a gray picture: its sides, its quantisers in zigzag order, and its blocks row by row
+pub record Gray : Type 0 where
+  pub width : ℕ
+  pub height : ℕ
+  pub quants : List ℕ
+  pub blocks : List (List ℤ)
+
+abbrev pub across : Gray → ℕ
+across g = g.width / 8
+
+abbrev pub down : Gray → ℕ
+down g = g.height / 8
+
+-- a side of whole blocks, within the limit
+abbrev pub IsWholeSide : ℕ → Type 0
+IsWholeSide side = (8 ≤ side) × (side % 8 ≡ 0) × (side ≤ 65500)
+
+pub record IsGray (g : Gray) : Type 0 where
+  pub sides : IsWholeSide g.width × IsWholeSide g.height
+  pub few : across g * down g ≤ 8388608
+  pub quants : (length g.quants ≡ 64) × All (λ q. (1 ≤ q) × (q ≤ 255)) g.quants
+  pub blocks : (length g.blocks ≡ across g * down g) × All (λ block. length block ≡ 64) g.blocks
+
+-- THE BYTES BEFORE THE DATA
+
+abbrev pub start_of_image : List ℕ
+start_of_image = 0xff ∷ 0xd8 ∷ []
+
+abbrev pub end_of_image : List ℕ
+end_of_image = 0xff ∷ 0xd9 ∷ []
+
+-- version 1.01, unit 0, density 1 by 1, no thumbnail
+abbrev pub plain_jfif : List ℕ
+plain_jfif = codes "JFIF" ++ 0 ∷ 1 ∷ 1 ∷ 0 ∷ 0 ∷ 1 ∷ 0 ∷ 1 ∷ 0 ∷ 0 ∷ []
+
+-- precision 8, the sides, and one component of id 1, factors 1 by 1 and quantisation table 0
+abbrev pub plain_frame : ℕ → ℕ → List ℕ
+plain_frame width height = 8 ∷ to_be_bytes w16 height ++ to_be_bytes w16 width ++ 1 ∷ 1 ∷ 0x11 ∷ 0 ∷ []
+
+-- JFIF, the quantisation table, SOF0, K.3 and K.5 in slot 0, and the header of a scan of component 1 by these tables
+abbrev pub gray_front : ℕ → ℕ → List ℕ → List ℕ
+gray_front width height quants =
+    start_of_image ++ segment_text 0xe0 plain_jfif ++ segment_text 0xdb (0 ∷ quants) ++ segment_text 0xc0 (plain_frame width height)
+    ++ segment_text 0xc4 (0 ∷ dc_luma_counts ++ dc_luma_values) ++ segment_text 0xc4 (0x10 ∷ ac_luma_counts ++ ac_luma_values)
+    ++ segment_text 0xda (1 ∷ 1 ∷ 0 ∷ 0 ∷ 63 ∷ 0 ∷ [])
+
+-- ITS DATA
+
+abbrev pub gray_frame : ℕ → ℕ → Frame
+gray_frame width height =
+    record { process = Baseline; precision = 8; width = width; height = height; components = record { id = 1; h = 1; v = 1; quant = 0 } ∷ [] }
+
+abbrev pub gray_head : ScanHead
+gray_head = record { parts = record { component = 0; dc = 0; ac = 0 } ∷ []; ss = 0; se = 63; ah = 0; al = 0 }
+
+-- K.3 to K.6 in slots 0 and 1
+abbrev pub typical_tables : TablesInForce
+typical_tables class slot = Some (typical_table class slot)
+
+abbrev pub gray_coding : Coding
+gray_coding = scan_coding (gray_frame 8 8) typical_tables gray_head
+
+-- a block of a component that had no scan so far
+abbrev pub new_unit : ℕ → UnitLeft
+new_unit component = record { component = component; has_dc = true; old = zeros 64 }
+
+-- The bits are these blocks of one component, one after another, with prediction from 0.
+abbrev pub SpellsBlocks : Coding → ℕ → List (List ℤ) → List Bool → Type 0
+SpellsBlocks c component blocks bits = SpellsUnits c (map (λ block. new_unit component) blocks) (flat_map (λ block. block) blocks) bits
+
+-- THE FILE: the bytes are the plain file of this picture, with pad bits of any value.
+pub record SpellsGray (bytes : List ℕ) (g : Gray) : Type 0 where
+  pub is_gray : IsGray g
+  pub bits : List Bool
+  pub coded : List ℕ
+  pub text : List ℕ
+  pub spelled : SpellsBlocks gray_coding 0 g.blocks bits
+  pub packed : Packs bits coded
+  pub stuffed : SpellsData coded text
+  pub cut : bytes ≡ gray_front g.width g.height g.quants ++ text ++ end_of_image
+
+-- bytes that begin with a plain file, whatever follows its EOI
+abbrev pub BeginsWithPlain : List ℕ → Type 0
+BeginsWithPlain bytes = (g : Gray) × (front : List ℕ) × (rest : List ℕ) × (bytes ≡ front ++ rest) × SpellsGray front g
+
+-- WHAT IT MEANS, and the file of the picture mirrored left to right
+
+abbrev pub gray_meaning : Gray → Meaning
+gray_meaning g = record {
+  process = Baseline;
+  precision = 8;
+  width = g.width;
+  height = g.height;
+  components = record { id = 1; h = 1; v = 1; quants = g.quants } ∷ [];
+  blocks = λ i x y. if i == 0 && nat_lt x (across g) && nat_lt y (down g) then slice_index_or g.blocks (y * across g + x) (zeros 64) else zeros 64;
+  kept = (0xe0, plain_jfif) ∷ [];
+}
+
+-- its rows of blocks from right to left, each block mirrored
+abbrev pub flipped_gray : Gray → Gray
+flipped_gray g = record g { blocks = flat_map (λ row. map mirrored (reverse row)) (chunks (across g) g.blocks) }
+
+-- the text of a headed meaning in one sequential scan without restarts
+abbrev pub sequential_text : Meaning → List ℕ
+sequential_text H = file_text H (sequential_script (frame_of_meaning H)) off
+
+abbrev pub turned_text : Gray → List ℕ
+turned_text g = sequential_text (headed (flip_h (gray_meaning g)))

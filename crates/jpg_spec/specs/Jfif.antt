@@ -1,0 +1,69 @@
+-- The JFIF header, Adobe's segment, and the colours that they tell (JFIF 1.02, Adobe's APP14).
+use Rattle.std.specs.Prelude.{ℕ, Bool, true, false, nat_le, ◌&&◌, ◌==◌, if◌then◌else◌, List, [], ◌∷◌, ◌++◌, length, reverse, slice_index, Option, Some, None, find, codes}
+use Rattle.jpg_spec.specs.Lists.{begins_with, are_equal}
+use Rattle.jpg_spec.specs.Segments.{two_bytes}
+use Rattle.jpg_spec.specs.declared.frame.Colour.{Colour}
+use Rattle.jpg_spec.specs.declared.frame.Colour.TheVariants.{Gray, YCbCr, Rgb, Cmyk, Ycck, Unknown}
+
+-- Segments are pairs of a marker code and contents.
+abbrev pub begins_jfif : ℕ → List ℕ → Bool
+begins_jfif code contents = code == 0xe0 && begins_with (codes "JFIF" ++ 0 ∷ []) contents
+
+abbrev pub begins_adobe : ℕ → List ℕ → Bool
+begins_adobe code contents = code == 0xee && begins_with (codes "Adobe") contents
+
+abbrev pub is_jfif : ℕ × List ℕ → Bool
+is_jfif s = begins_jfif s.0 s.1 && nat_le 14 (length s.1)
+
+abbrev pub is_adobe : ℕ × List ℕ → Bool
+is_adobe s = begins_adobe s.0 s.1 && nat_le 12 (length s.1)
+
+pub record Jfif : Type 0 where
+  pub seen : Bool
+  pub major : ℕ
+  pub minor : ℕ
+  pub unit : ℕ
+  pub x : ℕ
+  pub y : ℕ
+
+-- that of the last JFIF segment
+abbrev pub jfif_told : Option (ℕ × List ℕ) → Jfif
+jfif_told None = record { seen = false; major = 1; minor = 1; unit = 0; x = 1; y = 1 }
+jfif_told (Some s) = record {
+  seen = true;
+  major = slice_index s.1 5;
+  minor = slice_index s.1 6;
+  unit = slice_index s.1 7;
+  x = two_bytes (slice_index s.1 8) (slice_index s.1 9);
+  y = two_bytes (slice_index s.1 10) (slice_index s.1 11);
+}
+
+abbrev pub jfif_of : List (ℕ × List ℕ) → Jfif
+jfif_of kept = jfif_told (find is_jfif (reverse kept))
+
+abbrev pub adobe_transform : List (ℕ × List ℕ) → Option ℕ
+adobe_transform kept = adobe_told (find is_adobe (reverse kept))
+  where
+    adobe_told : Option (ℕ × List ℕ) → Option ℕ
+    adobe_told None = None
+    adobe_told (Some s) = Some (slice_index s.1 11)
+
+abbrev pub is_some_zero : Option ℕ → Bool
+is_some_zero None = false
+is_some_zero (Some n) = n == 0
+
+abbrev pub is_some_number : Option ℕ → Bool
+is_some_number None = false
+is_some_number (Some n) = true
+
+abbrev pub colour_from : ℕ → List ℕ → List (ℕ × List ℕ) → Colour
+colour_from count ids kept =
+    if count == 1 then Gray
+    else if count == 3 then
+    (if (jfif_of kept).seen then YCbCr
+    else if is_some_zero (adobe_transform kept) then Rgb
+    else if is_some_number (adobe_transform kept) then YCbCr
+    else if are_equal ids (82 ∷ 71 ∷ 66 ∷ []) then Rgb
+    else YCbCr)
+    else if count == 4 then (if is_some_zero (adobe_transform kept) then Cmyk else if is_some_number (adobe_transform kept) then Ycck else Cmyk)
+    else Unknown

@@ -1,0 +1,42 @@
+-- WHAT A FILE MEANS: its frame's numbers, its components with their quantisation tables, the real blocks, and the markers kept (T.81 B.2.1).
+use Rattle.std.specs.Prelude.{ℕ, Bool, nat_lt, ◌&&◌, if◌then◌else◌, List, length, map}
+use Rattle.jpg_spec.specs.Geometry.{Frame, is_real}
+use Rattle.jpg_spec.specs.Segments.{QuantTable}
+use Rattle.jpg_spec.specs.Elements.{zeros}
+use Rattle.jpg_spec.specs.Scan.{Blocks}
+use Rattle.jpg_spec.specs.Jfif.{colour_from}
+use Rattle.jpg_spec.specs.declared.frame.Process.{Process}
+use Rattle.jpg_spec.specs.declared.frame.Colour.{Colour}
+
+pub record PictureComponent : Type 0 where
+  pub id : ℕ
+  pub h : ℕ
+  pub v : ℕ
+  pub quants : QuantTable
+
+pub record Meaning : Type 0 where
+  pub process : Process
+  pub precision : ℕ
+  pub width : ℕ
+  pub height : ℕ
+  pub components : List PictureComponent
+  pub blocks : Blocks
+  pub kept : List (ℕ × List ℕ)
+
+-- the real blocks alone, and zeros elsewhere, so that equal pictures are equal meanings
+abbrev pub real_blocks : Frame → Blocks → Blocks
+real_blocks f blocks i x y = if nat_lt i (length f.components) && is_real f i x y then blocks i x y else zeros 64
+
+-- the colours, by the number and ids of the components and the markers kept
+abbrev pub colour_of : Meaning → Colour
+colour_of M = colour_from (length M.components) (map (λ c. c.id) M.components) M.kept
+
+-- the frame's numbers of a meaning (without table slots)
+abbrev pub picture_frame : Meaning → Frame
+picture_frame M = record {
+  process = M.process;
+  precision = M.precision;
+  width = M.width;
+  height = M.height;
+  components = map (λ c. record { id = c.id; h = c.h; v = c.v; quant = 0 }) M.components;
+}

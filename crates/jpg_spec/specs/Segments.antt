@@ -1,0 +1,36 @@
+-- What marker segments hold: quantisation tables, Huffman tables and scan headers (T.81 B.2.3, B.2.4).
+use Rattle.std.specs.Prelude.{ℕ, ◌*◌, ◌+◌, ◌^◌, List, [], map}
+use Rattle.jpg_spec.specs.Codes.{Code, codes}
+use Rattle.jpg_spec.specs.declared.frame.ScanPart.{ScanPart}
+use Rattle.jpg_spec.specs.declared.frame.Limits.{Limits}
+
+-- the limits of the profile
+abbrev pub standard_limits : Limits
+standard_limits = record { side = 65500; blocks = 8388608; kept = 2 ^ 28; input = 2 ^ 40 }
+
+-- a number of two bytes
+abbrev pub two_bytes : ℕ → ℕ → ℕ
+two_bytes high low = 256 * high + low
+
+-- 64 quantisers in zigzag order
+abbrev pub QuantTable : Type 0
+QuantTable = List ℕ
+
+-- how many codes there are of each length from 1 to 16, and their symbols in order
+pub record HuffmanTable : Type 0 where
+  pub counts : List ℕ
+  pub symbols : List ℕ
+
+abbrev pub table_codes : HuffmanTable → List Code
+table_codes table = codes table.counts table.symbols
+
+-- A scan header: the components with their table slots, the band ss to se, and the bits ah and al.
+pub record ScanHead : Type 0 where
+  pub parts : List ScanPart
+  pub ss : ℕ
+  pub se : ℕ
+  pub ah : ℕ
+  pub al : ℕ
+
+abbrev pub head_components : ScanHead → List ℕ
+head_components head = map (λ p. p.component) head.parts

@@ -1,0 +1,214 @@
+//! The faults of an input, in the order in which they go before one another.
+ghost use Rattle.std.specs.Prelude.{◌≡◌};
+ghost use Rattle.jpg_spec.specs.Faults.{number_of, fault_name};
+
+/// Why an input is refused. The numbers order faults that stand at one place.
+#[derive(Clone, Copy, Debug, PartialEq, Eq)]
+pub enum Fault {
+    /// What isn't built yet.
+    NotBuilt,
+    /// Byte 1 isn't FF, or byte 2 isn't D8.
+    NotJpeg,
+    /// The input ends before EOI is whole, and shows no other fault.
+    Truncated,
+    /// Where an item begins outside scan data, a byte other than FF, or 00 after FF bytes (B.1.1.2).
+    NoMarker,
+    /// Outside scan data a code 01 to BF, D0 to D8 or F0 to FD, or EOI before the frame.
+    UnexpectedMarker,
+    /// A process that the suite doesn't read: codes C3, C5 to CF, DC, DE and DF (Table B.1).
+    UnsupportedProcess,
+    /// A second frame header.
+    SecondFrame,
+    /// A scan header before the frame header.
+    SosBeforeSof,
+    /// A length that doesn't fit the contents of its segment.
+    BadLength,
+    /// The kept markers exceed their limit.
+    MarkersTooLarge,
+    /// A side is 0 (B.2.2; no DNL).
+    EmptyImage,
+    /// A side exceeds its limit.
+    TooLarge,
+    /// The sample precision isn't one that is read.
+    Precision,
+    /// Not one to four components.
+    ComponentCount,
+    /// A sampling factor isn't 1 to 4 (B.2.2).
+    Sampling,
+    /// Two components with one identifier.
+    DuplicateComponent,
+    /// A component's quantisation table slot is above 3.
+    QuantSlot,
+    /// The padded grids hold too many blocks.
+    TooManyBlocks,
+    /// A quantisation table's precision, slot or entry isn't allowed (B.2.4.1).
+    BadQuant,
+    /// A Huffman table's class, slot or codes aren't allowed (B.2.4.2, Annex C).
+    BadHuffman,
+    /// A scan's components aren't one to four distinct ones of the frame (B.2.3).
+    ScanComponent,
+    /// An MCU of more than 10 blocks (B.2.3).
+    McuTooLarge,
+    /// The band or the bits of a progressive scan aren't allowed (G.1.1.1).
+    ScanParameters,
+    /// A sequential component in a second scan.
+    RepeatedScan,
+    /// A progressive scan that the scans before it don't admit (G.1.1.1).
+    Progression,
+    /// A table that the scan needs isn't there.
+    MissingTable,
+    /// A component's quantisation table isn't that of its first scan.
+    QuantChanged,
+    /// Bits that begin no code of the table.
+    NoCode,
+    /// A symbol that may not stand where it is.
+    BadSymbol,
+    /// A run of zeros past the end of the band.
+    BadRun,
+    /// A value that leaves the range of the precision.
+    CoefRange,
+    /// An end-of-band run past the end of its interval.
+    RunPastEnd,
+    /// A marker while units of the interval are left.
+    EntropyShort,
+    /// A data byte after the interval's last unit.
+    ExtraData,
+    /// Another marker than the RST that is due (E.1.4).
+    RestartWrong,
+    /// EOI while a component was in no scan.
+    MissingComponent,
+    /// The most bytes that may be taken hold no whole file, and show no fault.
+    InputTooLong,
+    /// Colours that can't be shown.
+    ColourOut,
+    /// A component whose sampling ratio isn't whole.
+    FractionalSampling,
+    /// The text of a script isn't one.
+    ScriptText,
+    /// The text of quantisation tables isn't one.
+    TableText,
+    /// A comment above 65,000 bytes.
+    CommentTooLong,
+    /// An image's text isn't one.
+    ImageText,
+    /// An image's header isn't allowed.
+    ImageHeader,
+    /// A form of image that isn't read.
+    ImageUnsupported,
+    /// An image that ends before its last sample.
+    ImageShort,
+    /// A sample above its greatest value.
+    ImageValue,
+}
+
+impl Fault {
+    /// Its number in the order of faults.
+    pub fn number(self) -> u8
+        ensures { result ≡ number_of self }
+    {
+        match self {
+            Fault::NotBuilt => 0,
+            Fault::NotJpeg => 1,
+            Fault::Truncated => 2,
+            Fault::NoMarker => 3,
+            Fault::UnexpectedMarker => 4,
+            Fault::UnsupportedProcess => 5,
+            Fault::SecondFrame => 6,
+            Fault::SosBeforeSof => 7,
+            Fault::BadLength => 8,
+            Fault::MarkersTooLarge => 9,
+            Fault::EmptyImage => 10,
+            Fault::TooLarge => 11,
+            Fault::Precision => 12,
+            Fault::ComponentCount => 13,
+            Fault::Sampling => 14,
+            Fault::DuplicateComponent => 15,
+            Fault::QuantSlot => 16,
+            Fault::TooManyBlocks => 17,
+            Fault::BadQuant => 18,
+            Fault::BadHuffman => 19,
+            Fault::ScanComponent => 20,
+            Fault::McuTooLarge => 21,
+            Fault::ScanParameters => 22,
+            Fault::RepeatedScan => 23,
+            Fault::Progression => 24,
+            Fault::MissingTable => 25,
+            Fault::QuantChanged => 26,
+            Fault::NoCode => 27,
+            Fault::BadSymbol => 28,
+            Fault::BadRun => 29,
+            Fault::CoefRange => 30,
+            Fault::RunPastEnd => 31,
+            Fault::EntropyShort => 32,
+            Fault::ExtraData => 33,
+            Fault::RestartWrong => 34,
+            Fault::MissingComponent => 35,
+            Fault::InputTooLong => 36,
+            Fault::ColourOut => 37,
+            Fault::FractionalSampling => 38,
+            Fault::ScriptText => 39,
+            Fault::TableText => 40,
+            Fault::CommentTooLong => 41,
+            Fault::ImageText => 42,
+            Fault::ImageHeader => 43,
+            Fault::ImageUnsupported => 44,
+            Fault::ImageShort => 45,
+            Fault::ImageValue => 46,
+        }
+    }
+
+    /// Its name, as messages give it.
+    pub fn name(self) -> &'static str
+        ensures { result.now ≡ fault_name self }
+    {
+        match self {
+            Fault::NotBuilt => "NotBuilt",
+            Fault::NotJpeg => "NotJpeg",
+            Fault::Truncated => "Truncated",
+            Fault::NoMarker => "NoMarker",
+            Fault::UnexpectedMarker => "UnexpectedMarker",
+            Fault::UnsupportedProcess => "UnsupportedProcess",
+            Fault::SecondFrame => "SecondFrame",
+            Fault::SosBeforeSof => "SosBeforeSof",
+            Fault::BadLength => "BadLength",
+            Fault::MarkersTooLarge => "MarkersTooLarge",
+            Fault::EmptyImage => "EmptyImage",
+            Fault::TooLarge => "TooLarge",
+            Fault::Precision => "Precision",
+            Fault::ComponentCount => "ComponentCount",
+            Fault::Sampling => "Sampling",
+            Fault::DuplicateComponent => "DuplicateComponent",
+            Fault::QuantSlot => "QuantSlot",
+            Fault::TooManyBlocks => "TooManyBlocks",
+            Fault::BadQuant => "BadQuant",
+            Fault::BadHuffman => "BadHuffman",
+            Fault::ScanComponent => "ScanComponent",
+            Fault::McuTooLarge => "McuTooLarge",
+            Fault::ScanParameters => "ScanParameters",
+            Fault::RepeatedScan => "RepeatedScan",
+            Fault::Progression => "Progression",
+            Fault::MissingTable => "MissingTable",
+            Fault::QuantChanged => "QuantChanged",
+            Fault::NoCode => "NoCode",
+            Fault::BadSymbol => "BadSymbol",
+            Fault::BadRun => "BadRun",
+            Fault::CoefRange => "CoefRange",
+            Fault::RunPastEnd => "RunPastEnd",
+            Fault::EntropyShort => "EntropyShort",
+            Fault::ExtraData => "ExtraData",
+            Fault::RestartWrong => "RestartWrong",
+            Fault::MissingComponent => "MissingComponent",
+            Fault::InputTooLong => "InputTooLong",
+            Fault::ColourOut => "ColourOut",
+            Fault::FractionalSampling => "FractionalSampling",
+            Fault::ScriptText => "ScriptText",
+            Fault::TableText => "TableText",
+            Fault::CommentTooLong => "CommentTooLong",
+            Fault::ImageText => "ImageText",
+            Fault::ImageHeader => "ImageHeader",
+            Fault::ImageUnsupported => "ImageUnsupported",
+            Fault::ImageShort => "ImageShort",
+            Fault::ImageValue => "ImageValue",
+        }
+    }
+}

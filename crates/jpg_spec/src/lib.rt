@@ -1,0 +1,9 @@
+//! What a JPEG file means and how one is written: the definitions that every contract of the suite
+//! cites (ITU-T T.81, JFIF 1.02, the manuals of release 6b), and the laws that hold between them.
+#![tactic(auto)]
+
+mod fault;
+mod frame;
+
+pub use fault::Fault;
+pub use frame::{Bounds, Colour, Component, Grid, Limits, Place, Process, ScanPart};
