@@ -18,3 +18,5 @@ pub mod Segments
 pub mod Sending
 pub mod Told
 pub mod Typical
+pub mod Messages
+pub mod Words

@@ -2,8 +2,10 @@
 //! cites (ITU-T T.81, JFIF 1.02, the manuals of release 6b), and the laws that hold between them.
 #![tactic(auto)]
 
+mod answers;
 mod fault;
 mod frame;
 
+pub use answers::{FaultAt, Usage, UsageFault, Which, Why};
 pub use fault::Fault;
 pub use frame::{Bounds, Colour, Component, Grid, Limits, Place, Process, ScanPart};

@@ -1,0 +1,116 @@
+//! The answers of the commands: what ended the work, and the texts that name it.
+ghost use Rattle.std.specs.Prelude.{◌≡◌};
+ghost use Rattle.jpg_spec.specs.Messages.{usage_name, which_name, code_of};
+
+use crate::Fault;
+
+/// A fault, and how many input bytes show it.
+#[derive(Clone, Copy, Debug, PartialEq, Eq)]
+pub struct FaultAt {
+    pub fault: Fault,
+    pub at: u64,
+}
+
+/// What is wrong with the words of a call.
+#[derive(Clone, Copy, Debug, PartialEq, Eq)]
+pub enum UsageFault {
+    /// No words.
+    NoTool,
+    /// The first word names no command.
+    UnknownTool,
+    UnknownSwitch,
+    /// A switch of release 6b that the suite leaves out.
+    LeftOutSwitch,
+    MissingValue,
+    BadValue,
+    TwoTransforms,
+    TooManyFiles,
+    TwoComments,
+    NeedsInput,
+    NoEnd,
+}
+
+impl UsageFault {
+    /// Its name, as messages give it.
+    pub fn name(self) -> &'static str
+        ensures { result.now ≡ usage_name self }
+    {
+        match self {
+            UsageFault::NoTool => "NoTool",
+            UsageFault::UnknownTool => "UnknownTool",
+            UsageFault::UnknownSwitch => "UnknownSwitch",
+            UsageFault::LeftOutSwitch => "LeftOutSwitch",
+            UsageFault::MissingValue => "MissingValue",
+            UsageFault::BadValue => "BadValue",
+            UsageFault::TwoTransforms => "TwoTransforms",
+            UsageFault::TooManyFiles => "TooManyFiles",
+            UsageFault::TwoComments => "TwoComments",
+            UsageFault::NeedsInput => "NeedsInput",
+            UsageFault::NoEnd => "NoEnd",
+        }
+    }
+}
+
+/// A fault of the words, and the index of the word that shows it.
+#[derive(Clone, Copy, Debug, PartialEq, Eq)]
+pub struct Usage {
+    pub fault: UsageFault,
+    pub word: u64,
+}
+
+/// The files of a command.
+#[derive(Clone, Copy, Debug, PartialEq, Eq)]
+pub enum Which {
+    Input,
+    Script,
+    Tables,
+    Comment,
+    Output,
+}
+
+impl Which {
+    /// Its name, as messages give it.
+    pub fn name(self) -> &'static str
+        ensures { result.now ≡ which_name self }
+    {
+        match self {
+            Which::Input => "input",
+            Which::Script => "script",
+            Which::Tables => "tables",
+            Which::Comment => "comment",
+            Which::Output => "output",
+        }
+    }
+}
+
+/// Why a command ended.
+#[derive(Clone, Copy, Debug, PartialEq, Eq)]
+pub enum Why {
+    /// The whole output was written.
+    Done,
+    /// The words ask for nothing that there is.
+    Usage(Usage),
+    /// The input has this fault at this place.
+    Refused(FaultAt),
+    /// The desk didn't open or create this file.
+    OpenFault(Which),
+    /// The desk didn't read this file.
+    ReadFault(Which),
+    /// The desk didn't write the output.
+    WriteFault,
+    /// Memory is wanting.
+    NoMemory,
+}
+
+impl Why {
+    /// The exit status: 0 for Done, 3 for NoMemory, 1 for the others.
+    pub fn code(self) -> u8
+        ensures { result ≡ code_of self }
+    {
+        match self {
+            Why::Done => 0,
+            Why::NoMemory => 3,
+            _ => 1,
+        }
+    }
+}
