@@ -1,0 +1,5 @@
+//! The commands: their words, their work over a desk, and their messages.
+#![tactic(auto)]
+
+mod message;
+

@@ -1,0 +1,124 @@
+//! Messages, put together without memory of their own.
+ghost use Rattle.std.specs.Prelude.{◌≡◌, ◌≤◌, ◌<◌, ◌+◌, ◌++◌, ◌∷◌, [], length, drop};
+ghost use Rattle.std.specs.Fmt.{decimal};
+ghost use Rattle.arrayvec.specs.ArrayVec.{array_vec_len};
+ghost use Rattle.jpg_spec.specs.Messages.{message, text_of};
+ghost use Rattle.jpg_spec.specs.declared.answers.Why.TheVariants as why;
+
+use arrayvec::ArrayVec;
+use jpg_spec::{FaultAt, Usage, Why};
+
+/// A message in work. The longest has 69 bytes.
+pub type Message = ArrayVec<u8, 128>;
+
+// Appends a text.
+fn add(message: &mut Message, text: &str)
+    requires room { array_vec_len message.old + length text.now ≤ 128 }
+    ensures text { message.new.items ≡ message.old.items ++ text.now }
+    ensures more { array_vec_len message.new ≡ array_vec_len message.old + length text.now }
+{
+    match message.try_extend_from_slice(text.as_bytes()) {
+        Ok(()) => {}
+        Err(_) => {}
+    }
+}
+
+// The digits of a number, in the last places of an array, and how many places are free before them.
+#[derive(Drop)]
+struct Digits {
+    places: [u8; 20],
+    free: u8,
+    ghost free_fits: { free ≤ 20 },
+}
+
+fn decimal_digits(number: u64) -> Digits
+    ensures { drop result.free result.places ≡ decimal number }
+{
+    let mut places = [0u8; 20];
+    let mut free: u8 = 20;
+    let mut rest = number;
+    while rest >= 10 {
+        free -= 1;
+        places[free as usize] = 48 + (rest % 10) as u8;
+        rest /= 10;
+    }
+    free -= 1;
+    places[free as usize] = 48 + rest as u8;
+    Digits { places, free }
+}
+
+// Appends a number in decimal digits.
+fn add_number(message: &mut Message, number: u64)
+    requires room { array_vec_len message.old + 20 ≤ 128 }
+    ensures text { message.new.items ≡ message.old.items ++ decimal number }
+    ensures most { array_vec_len message.new ≤ array_vec_len message.old + 20 }
+{
+    let digits = decimal_digits(number);
+    match message.try_extend_from_slice(&digits.places[digits.free as usize..]) {
+        Ok(()) => {}
+        Err(_) => {}
+    }
+}
+
+#[tactic(auto, using(crate::proofs::Names::usage_short))]
+fn add_usage(message: &mut Message, usage: Usage)
+    requires room { array_vec_len message.old ≤ 10 }
+    ensures text { message.new.items ≡ message.old.items ++ text_of (why.Usage usage) }
+    ensures room { array_vec_len message.new ≤ 100 }
+{
+    add(message, "usage: ");
+    add(message, usage.fault.name());
+    add(message, " at word ");
+    add_number(message, usage.word);
+}
+
+#[tactic(auto, using(crate::proofs::Names::fault_short))]
+fn add_refusal(message: &mut Message, fault: FaultAt)
+    requires room { array_vec_len message.old ≤ 10 }
+    ensures text { message.new.items ≡ message.old.items ++ text_of (why.Refused fault) }
+    ensures room { array_vec_len message.new ≤ 100 }
+{
+    add(message, "refused: ");
+    add(message, fault.fault.name());
+    add(message, " at byte ");
+    add_number(message, fault.at);
+}
+
+#[tactic(auto, using(crate::proofs::Names::which_short))]
+fn add_text(message: &mut Message, why: Why)
+    requires room { array_vec_len message.old ≤ 10 }
+    ensures text { message.new.items ≡ message.old.items ++ text_of why }
+    ensures room { array_vec_len message.new ≤ 100 }
+{
+    match why {
+        Why::Done => {}
+        Why::Usage(usage) => add_usage(message, usage),
+        Why::Refused(fault) => add_refusal(message, fault),
+        Why::OpenFault(which) => {
+            add(message, "can't open ");
+            add(message, which.name());
+        }
+        Why::ReadFault(which) => {
+            add(message, "can't read ");
+            add(message, which.name());
+        }
+        Why::WriteFault => add(message, "can't write output"),
+        Why::NoMemory => add(message, "out of memory"),
+    }
+}
+
+/// The line that names a command and why it ended; nothing where all was done.
+pub fn message_of(tool: &str, why: Why) -> Message
+    requires { length tool.now ≤ 8 }
+    ensures { result.items ≡ message tool.now why }
+{
+    let mut message = Message::new();
+    if let Why::Done = why {
+        return message;
+    }
+    add(&mut message, tool);
+    add(&mut message, ": ");
+    add_text(&mut message, why);
+    add(&mut message, "\n");
+    message
+}
