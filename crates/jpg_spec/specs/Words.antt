@@ -2,7 +2,8 @@
 use Rattle.std.specs.Prelude.{ℕ, Bool, true, false, not, ◌&&◌, if◌then◌else◌, List, [], ◌∷◌, codes}
 use Rattle.std.specs.Str.{bytes_eq}
 use Rattle.jpg_spec.specs.Lists.{any_of}
-use Rattle.jpg_spec.specs.declared.answers.Usage.{Usage}
+use Rattle.jpg_spec.specs.declared.answers.Asked.{Asked}
+use Rattle.jpg_spec.specs.declared.answers.Asked.TheVariants.{Wrong, NotBuilt, FlipHorizontal}
 use Rattle.jpg_spec.specs.declared.answers.UsageFault.TheVariants.{NoTool, UnknownTool}
 
 -- the commands
@@ -12,12 +13,6 @@ tools = codes "jpegtran" ∷ codes "djpeg" ∷ codes "cjpeg" ∷ codes "rdjpgcom
 abbrev pub is_tool : List ℕ → Bool
 is_tool word = any_of (bytes_eq word) tools
 
--- Wrong words, words that ask for what isn't built yet, or a picture to be mirrored left to right.
-pub data Asked : Type 0 where
-  wrong : Usage → Asked
-  not_built : Asked
-  flip_horizontal : Asked
-
 -- whether words are just these
 abbrev pub are_words : List (List ℕ) → List (List ℕ) → Bool
 are_words [] [] = true
@@ -26,11 +21,11 @@ are_words (v ∷ vs) [] = false
 are_words (v ∷ vs) (w ∷ ws) = bytes_eq v w && are_words vs ws
 
 abbrev pub asked : List (List ℕ) → Asked
-asked [] = wrong (record { fault = NoTool; word = 0 })
+asked [] = Wrong (record { fault = NoTool; word = 0 })
 asked (tool ∷ words) =
-    if not (is_tool tool) then wrong (record { fault = UnknownTool; word = 0 })
-    else if are_words (tool ∷ words) (codes "jpegtran" ∷ codes "-flip" ∷ codes "horizontal" ∷ []) then flip_horizontal
-    else not_built
+    if not (is_tool tool) then Wrong (record { fault = UnknownTool; word = 0 })
+    else if are_words (tool ∷ words) (codes "jpegtran" ∷ codes "-flip" ∷ codes "horizontal" ∷ []) then FlipHorizontal
+    else NotBuilt
 
 -- the command that a message names
 abbrev pub tool_of : List (List ℕ) → List ℕ

@@ -6,6 +6,6 @@ mod answers;
 mod fault;
 mod frame;
 
-pub use answers::{FaultAt, Usage, UsageFault, Which, Why};
+pub use answers::{Asked, FaultAt, Usage, UsageFault, Which, Why};
 pub use fault::Fault;
 pub use frame::{Bounds, Colour, Component, Grid, Limits, Place, Process, ScanPart};
