@@ -1,12 +1,13 @@
 -- Pieces of lists that a desk in memory moves.
-use Rattle.std.proofs.Common.{◌≡◌, ℕ, ◌+◌, ◌-◌, ◌<◌, ◌≤◌, List, [], ◌∷◌, ◌++◌, length, map, take, drop, get_or, set, refl, sym, ap, ◌∙◌, arith, Vec}
+use Rattle.std.proofs.Common.{◌≡◌, ℕ, ◌+◌, ◌-◌, ◌<◌, ◌≤◌, List, [], ◌∷◌, ◌++◌, length, map, take, drop, get_or, set, min, refl, sym, add-one, ap, ◌∙◌, arith, Vec}
 use Rattle.std.specs.declared.alloc.Global.{Global}
 use Rattle.std.proofs.lemmas.List.{take-append-drop, take_at, drop-drop, length-take-le, map-append, take_all, set_at, take_more}
 use Rattle.jpg_base.specs.declared.names.Put.{Put}
 use Rattle.jpg_base.specs.declared.names.Put.TheVariants.{Done, Failed}
+use Rattle.jpg_base.specs.declared.names.Got.TheVariants as got
 use Rattle.jpg_base.specs.declared.memory.Stored.{Stored}
 use Rattle.jpg_base.specs.Desk.{AfterAppend, AfterAppendLast, append_last, append_last-push}
-use Rattle.jpg_base.specs.Memory.{named}
+use Rattle.jpg_base.specs.Memory.{named, given}
 use Rattle.std.proofs.Common.{Some}
 
 -- the bytes that were copied to the front of a buffer, and those that are left after them
@@ -16,6 +17,15 @@ given_front bytes copied buf at most e le =
     sym (take-append-drop most (drop at bytes))
     ∙ ap (λ x. x ++ drop most (drop at bytes)) (sym e ∙ sym (take_at copied (drop most buf) most len))
     ∙ ap (λ x. take most (copied ++ drop most buf) ++ x) (drop-drop most at bytes)
+
+-- a read where bytes are left, and where none are
+pub given_some : (most : ℕ) (rest : List ℕ) → 0 < length rest → given most rest ≡ got.Bytes (min most (length rest))
+given_some most [] h = absurd (omega (arith, h))
+given_some most (byte ∷ rest) h = ap (λ n. got.Bytes (min most n)) (add-one (length rest))
+
+pub given_end : (most : ℕ) (rest : List ℕ) → length rest ≡ 0 → given most rest ≡ got.End
+given_end most [] h = refl
+given_end most (byte ∷ rest) h = absurd (omega (arith, h))
 
 -- a list that is not empty is its front and its last element
 front_and_last : {A : Type 0} (xs : List A) (d : A) → 0 < length xs → xs ≡ take (length xs - 1) xs ++ get_or xs (length xs - 1) d ∷ []

@@ -30,12 +30,34 @@ pub record DeskState : Type 0 where
 abbrev pub Rose : ℕ → ℕ → Type 0
 Rose before now = min (before + 1) (2 ^ 64 - 1) ≤ now
 
+-- a count after one more failure: it stops at its last value
+abbrev pub raised : ℕ → ℕ
+raised count = min (count + 1) (2 ^ 64 - 1)
+
 -- no count fell
 pub record NoneFell (old new : Counts) : Type 0 where
   pub opens : old.opens ≤ new.opens
   pub reads : old.reads ≤ new.reads
   pub writes : old.writes ≤ new.writes
   pub says : old.says ≤ new.says
+
+-- the counts after a call that raises the count of its kind by one where it fails, and no other count
+abbrev pub counted_open : Put → Counts → Counts
+counted_open Done counts = counts
+counted_open Failed counts = record counts { opens = raised counts.opens }
+
+abbrev pub counted_read : Got → Counts → Counts
+counted_read (got.Bytes n) counts = counts
+counted_read got.End counts = counts
+counted_read got.Failed counts = record counts { reads = raised counts.reads }
+
+abbrev pub counted_write : Put → Counts → Counts
+counted_write Done counts = counts
+counted_write Failed counts = record counts { writes = raised counts.writes }
+
+abbrev pub counted_say : Put → Counts → Counts
+counted_say Done counts = counts
+counted_say Failed counts = record counts { says = raised counts.says }
 
 -- the names asked for grew by one, or are told no more
 abbrev pub NotesName : Option (List (Name × Put)) → Name × Put → Option (List (Name × Put)) → Type 0

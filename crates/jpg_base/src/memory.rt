@@ -1,6 +1,6 @@
 // A desk in memory, for tests: it fails at the calls that it is told.
 ghost use Rattle.std.specs.Option.{option_copied};
-ghost use Rattle.std.specs.Prelude.{◌≡◌, ◌≤◌, ◌<◌, ◌+◌, ◌^◌, ℕ, List, [], ◌∷◌, ◌++◌, length, take, drop, vec_len, true, map, MatchOption, IfSome, IfOk, OnOk, OnErr, Some, None, slice_get, if◌then◌else◌};
+ghost use Rattle.std.specs.Prelude.{◌≡◌, ◌≤◌, ◌<◌, ◌+◌, ◌^◌, ◌-◌, min, ℕ, List, [], ◌∷◌, ◌++◌, length, take, drop, vec_len, true, map, MatchOption, IfSome, IfOk, OnOk, OnErr, Some, None, slice_get, if◌then◌else◌};
 ghost use Rattle.std.specs.Option.{option_map};
 
 mod parts;
@@ -48,12 +48,12 @@ pub struct MemoryDesk {
 impl MemoryDesk {
     ghost use Rattle.jpg_base.specs.Desk.{DeskState};
     ghost use Rattle.jpg_base.specs.Name.{file_of, is_same_name};
-    ghost use Rattle.jpg_base.specs.Memory.{memory_state, memory_said, memory_outputs, HasNothing, named};
+    ghost use Rattle.jpg_base.specs.Memory.{memory_state, memory_said, memory_outputs, memory_failing, memory_calls, memory_piece, SameNumbers, IsNew, with_file};
 
     /// A desk with no files, which gives at most this many bytes a read.
     pub fn new(alloc: Global, piece: u32) -> MemoryDesk
         requires { 1 ≤ piece }
-        ensures { HasNothing (memory_state result) }
+        ensures { IsNew result piece }
     {
         MemoryDesk {
             alloc,
@@ -76,9 +76,9 @@ impl MemoryDesk {
 
     /// A file with this name, in the place of one that there is.
     pub fn add_file(&mut self, name: &Name, bytes: &[u8]) -> Result<(), NoMemory>
-        ensures ok { OnOk result (memory_state self.new ≡ record (memory_state self.old)
-            { files = Some (λ n. if is_same_name name.now n then Some bytes.now else file_of (map named self.old.files.items) n) }) }
+        ensures ok { OnOk result (memory_state self.new ≡ with_file name.now bytes.now (memory_state self.old)) }
         ensures err { OnErr result (memory_state self.new ≡ memory_state self.old) }
+        ensures numbers { SameNumbers self.old self.new }
     {
         let name = name.try_clone(self.alloc)?;
         let Ok(bytes) = bytes.to_vec(self.alloc) else {
@@ -92,7 +92,11 @@ impl MemoryDesk {
 
     /// Makes the call of this number fail.
     pub fn fail(&mut self, call: u64) -> Result<(), NoMemory>
-        ensures { memory_state self.new ≡ memory_state self.old }
+        ensures ok { OnOk result (memory_failing self.new ≡ memory_failing self.old ++ call ∷ []) }
+        ensures err { OnErr result (memory_failing self.new ≡ memory_failing self.old) }
+        ensures calls { memory_calls self.new ≡ memory_calls self.old }
+        ensures piece { memory_piece self.new ≡ memory_piece self.old }
+        ensures state { memory_state self.new ≡ memory_state self.old }
     {
         match self.failing.push(call) {
             Ok(()) => Ok(()),
@@ -101,7 +105,7 @@ impl MemoryDesk {
     }
 
     pub fn outputs(&self) -> u32
-        ensures { length (memory_outputs self.now) < 2 ^ 32 → result ≡ length (memory_outputs self.now) }
+        ensures { result ≡ min (length (memory_outputs self.now)) (2 ^ 32 - 1) }
     {
         u32::try_from(self.outputs.len()).unwrap_or(u32::MAX)
     }
@@ -121,11 +125,16 @@ impl MemoryDesk {
 }
 
 impl Desk for MemoryDesk {
-    ghost use Rattle.jpg_base.specs.Memory.{memory_state};
+    ghost use Rattle.jpg_base.specs.Desk.{Opens, Reads, Creates, Writes, Says, counted_open, counted_read, counted_write, counted_say};
+    ghost use Rattle.jpg_base.specs.Memory.{memory_state, fails_next, read_answer, Called};
 
     ghost state = { memory_state };
 
-    fn open(&mut self, name: &Name) -> Put {
+    fn open(&mut self, name: &Name) -> Put
+        ensures desk { Opens (memory_state self.old) name.now result (memory_state self.new) }
+        ensures called { Called self.old (counted_open result (memory_state self.old).counts) self.new }
+        ensures fails { fails_next self.old ≡ true → result ≡ Put.Failed }
+    {
         let fails = is_failing(&mut self.calls, &self.failing);
         match input_of(self.alloc, fails, &self.files, name) {
             Some(input) => {
@@ -142,7 +151,13 @@ impl Desk for MemoryDesk {
         }
     }
 
-    fn read(&mut self, buf: &mut [u8]) -> Got {
+    fn read(&mut self, buf: &mut [u8]) -> Got
+        requires open { (memory_state self.old).input_open ≡ true }
+        requires room { 0 < length buf.old }
+        ensures desk { Reads (memory_state self.old) result buf.new (memory_state self.new) }
+        ensures called { Called self.old (counted_read result (memory_state self.old).counts) self.new }
+        ensures exact { result ≡ read_answer self.old (length buf.old) }
+    {
         let fails = is_failing(&mut self.calls, &self.failing);
         match &mut self.input {
             Some(input) if !fails => give(input, self.piece, buf),
@@ -153,7 +168,11 @@ impl Desk for MemoryDesk {
         }
     }
 
-    fn create(&mut self, name: &Name) -> Put {
+    fn create(&mut self, name: &Name) -> Put
+        ensures desk { Creates (memory_state self.old) name.now result (memory_state self.new) }
+        ensures called { Called self.old (counted_open result (memory_state self.old).counts) self.new }
+        ensures fails { fails_next self.old ≡ true → result ≡ Put.Failed }
+    {
         let fails = is_failing(&mut self.calls, &self.failing);
         match add_output(self.alloc, fails, &mut self.outputs, name) {
             Put::Done => {
@@ -168,7 +187,12 @@ impl Desk for MemoryDesk {
         }
     }
 
-    fn write(&mut self, piece: &[u8]) -> Put {
+    fn write(&mut self, piece: &[u8]) -> Put
+        requires { (memory_state self.old).output_created ≡ true }
+        ensures desk { Writes (memory_state self.old) piece.now result (memory_state self.new) }
+        ensures called { Called self.old (counted_write result (memory_state self.old).counts) self.new }
+        ensures fails { fails_next self.old ≡ true → result ≡ Put.Failed }
+    {
         let fails = is_failing(&mut self.calls, &self.failing);
         match write_last(fails, &mut self.outputs, piece) {
             Put::Done => Put::Done,
@@ -179,7 +203,11 @@ impl Desk for MemoryDesk {
         }
     }
 
-    fn say(&mut self, text: &[u8]) -> Put {
+    fn say(&mut self, text: &[u8]) -> Put
+        ensures desk { Says (memory_state self.old) text.now result (memory_state self.new) }
+        ensures called { Called self.old (counted_say result (memory_state self.old).counts) self.new }
+        ensures fails { fails_next self.old ≡ true → result ≡ Put.Failed }
+    {
         let fails = is_failing(&mut self.calls, &self.failing);
         match append(fails, &mut self.said, text) {
             Put::Done => Put::Done,
@@ -190,7 +218,9 @@ impl Desk for MemoryDesk {
         }
     }
 
-    fn counts(&self) -> Counts {
+    fn counts(&self) -> Counts
+        ensures { result ≡ (memory_state self.now).counts }
+    {
         self.counts
     }
 }

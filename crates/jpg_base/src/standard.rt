@@ -1,6 +1,6 @@
 // Real files and the standard streams. It tells nothing but its counts.
-ghost use Rattle.std.specs.Prelude.{◌≡◌, ◌≤◌, None, true, length};
-ghost use Rattle.jpg_base.specs.Desk.{Rose, GivesAtMost};
+ghost use Rattle.std.specs.Prelude.{◌≡◌, ◌≤◌, ◌<◌, None, true, length};
+ghost use Rattle.jpg_base.specs.Desk.{raised, Rose, GivesAtMost};
 
 use crate::{Counts, Desk, Got, Name, Put};
 use std::fs;
@@ -21,17 +21,24 @@ enum Sink<R: Runtime> {
     File(R::File),
 }
 
+// All that the desk tells of itself.
+#[derive(Clone, Copy)]
+pub struct Told {
+    pub counts: Counts,
+    pub input_open: bool,
+    pub output_created: bool,
+}
+
 #[derive(Drop)]
 pub struct StdDesk<R: Runtime> {
     rt: R,
     source: Source<R>,
     sink: Sink<R>,
-    input_open: bool,
-    output_created: bool,
-    counts: Counts,
+    told: Told,
 }
 
 fn raise(count: &mut u64)
+    ensures exact { count.new ≡ raised count.old }
     ensures rose { Rose count.old count.new }
     ensures kept { count.old ≤ count.new }
 {
@@ -39,18 +46,24 @@ fn raise(count: &mut u64)
 }
 
 impl<R: Runtime> StdDesk<R> {
-    pub fn new(rt: R) -> Self {
+    ghost use Rattle.jpg_base.specs.Standard.{std_state, TellsNothing};
+
+    pub fn new(rt: R) -> Self
+        ensures { TellsNothing (std_state result.told) }
+    {
         StdDesk {
             rt,
             source: Source::Closed,
             sink: Sink::Closed,
-            input_open: false,
-            output_created: false,
-            counts: Counts {
-                opens: 0,
-                reads: 0,
-                writes: 0,
-                says: 0,
+            told: Told {
+                counts: Counts {
+                    opens: 0,
+                    reads: 0,
+                    writes: 0,
+                    says: 0,
+                },
+                input_open: false,
+                output_created: false,
             },
         }
     }
@@ -89,18 +102,16 @@ fn print_whole<R: Runtime>(rt: &R, piece: &[u8]) -> Put {
 }
 
 impl<R: Runtime> Desk for StdDesk<R> {
-    ghost state = { λ d. record {
-      files = None;
-      left = None;
-      outputs = None;
-      said = None;
-      asked = None;
-      counts = d.counts;
-      input_open = d.input_open;
-      output_created = d.output_created;
-    } };
+    ghost use Rattle.jpg_base.specs.Desk.{Opens, Reads, Creates, Writes, Says, counted_open, counted_read, counted_write, counted_say};
+    ghost use Rattle.jpg_base.specs.Standard.{std_state};
 
-    fn open(&mut self, name: &Name) -> Put {
+    ghost state = { λ d. std_state d.told };
+
+    fn open(&mut self, name: &Name) -> Put
+        ensures desk { Opens (std_state self.old.told) name.now result (std_state self.new.told) }
+        ensures counts { (std_state self.new.told).counts ≡ counted_open result (std_state self.old.told).counts }
+        ensures out { name.now ≡ Name.Out → result ≡ Put.Failed }
+    {
         let source = match name {
             Name::In => Some(Source::Standard(self.rt.reader())),
             Name::Out => None,
@@ -112,31 +123,40 @@ impl<R: Runtime> Desk for StdDesk<R> {
         match source {
             Some(source) => {
                 self.source = source;
-                self.input_open = true;
+                self.told.input_open = true;
                 Put::Done
             }
             None => {
                 self.source = Source::Closed;
-                self.input_open = false;
-                raise(&mut self.counts.opens);
+                self.told.input_open = false;
+                raise(&mut self.told.counts.opens);
                 Put::Failed
             }
         }
     }
 
-    fn read(&mut self, buf: &mut [u8]) -> Got {
+    fn read(&mut self, buf: &mut [u8]) -> Got
+        requires open { (std_state self.old.told).input_open ≡ true }
+        requires room { 0 < length buf.old }
+        ensures desk { Reads (std_state self.old.told) result buf.new (std_state self.new.told) }
+        ensures counts { (std_state self.new.told).counts ≡ counted_read result (std_state self.old.told).counts }
+    {
         let answer = match &mut self.source {
             Source::Closed => Got::Failed,
             Source::Standard(reader) => read_some(reader, buf),
             Source::File(file) => read_some(file, buf),
         };
         if let Got::Failed = answer {
-            raise(&mut self.counts.reads);
+            raise(&mut self.told.counts.reads);
         }
         answer
     }
 
-    fn create(&mut self, name: &Name) -> Put {
+    fn create(&mut self, name: &Name) -> Put
+        ensures desk { Creates (std_state self.old.told) name.now result (std_state self.new.told) }
+        ensures counts { (std_state self.new.told).counts ≡ counted_open result (std_state self.old.told).counts }
+        ensures input { name.now ≡ Name.In → result ≡ Put.Failed }
+    {
         let sink = match name {
             Name::Out => Some(Sink::Standard),
             Name::In => None,
@@ -148,29 +168,36 @@ impl<R: Runtime> Desk for StdDesk<R> {
         match sink {
             Some(sink) => {
                 self.sink = sink;
-                self.output_created = true;
+                self.told.output_created = true;
                 Put::Done
             }
             None => {
-                raise(&mut self.counts.opens);
+                raise(&mut self.told.counts.opens);
                 Put::Failed
             }
         }
     }
 
-    fn write(&mut self, piece: &[u8]) -> Put {
+    fn write(&mut self, piece: &[u8]) -> Put
+        requires { (std_state self.old.told).output_created ≡ true }
+        ensures desk { Writes (std_state self.old.told) piece.now result (std_state self.new.told) }
+        ensures counts { (std_state self.new.told).counts ≡ counted_write result (std_state self.old.told).counts }
+    {
         let answer = match &mut self.sink {
             Sink::Closed => Put::Failed,
             Sink::Standard => print_whole(&self.rt, piece),
             Sink::File(file) => write_whole(file, piece),
         };
         if let Put::Failed = answer {
-            raise(&mut self.counts.writes);
+            raise(&mut self.told.counts.writes);
         }
         answer
     }
 
-    fn say(&mut self, text: &[u8]) -> Put {
+    fn say(&mut self, text: &[u8]) -> Put
+        ensures desk { Says (std_state self.old.told) text.now result (std_state self.new.told) }
+        ensures counts { (std_state self.new.told).counts ≡ counted_say result (std_state self.old.told).counts }
+    {
         let answer = match str::from_utf8(text) {
             Ok(text) => match self.rt.eprint(text) {
                 Ok(()) => Put::Done,
@@ -179,12 +206,12 @@ impl<R: Runtime> Desk for StdDesk<R> {
             Err(_) => Put::Failed,
         };
         if let Put::Failed = answer {
-            raise(&mut self.counts.says);
+            raise(&mut self.told.counts.says);
         }
         answer
     }
 
     fn counts(&self) -> Counts {
-        self.counts
+        self.told.counts
     }
 }

@@ -1,21 +1,28 @@
 // The steps of the desk in memory, each over the parts that it changes.
-ghost use Rattle.std.specs.Prelude.{◌≡◌, ◌≤◌, ◌<◌, ℕ, length, map, take, IfSome, Some};
+ghost use Rattle.std.specs.Prelude.{◌≡◌, ◌≤◌, ◌<◌, ℕ, length, map, take, min, true, IfSome, Some, None};
 ghost use Rattle.std.specs.Option.{option_copied};
-ghost use Rattle.jpg_base.specs.Desk.{Rose, NotesName, Gives, AfterAddOutput, AfterAppendLast, AfterAppend};
+ghost use Rattle.jpg_base.specs.Desk.{raised, Rose, NotesName, Gives, AfterAddOutput, AfterAppendLast, AfterAppend};
 ghost use Rattle.jpg_base.specs.Name.{file_of};
-ghost use Rattle.jpg_base.specs.Memory.{named, rest_of, told_names};
+ghost use Rattle.jpg_base.specs.Memory.{named, rest_of, told_names, is_next, given};
 
 use super::{Asked, Input, Stored};
 use crate::{Got, Name, Put};
 use std::alloc::Global;
 
-// Counts a call, and says whether it is one that fails.
-pub fn is_failing(calls: &mut u64, failing: &[u64]) -> bool {
-    *calls = calls.saturating_add(1);
-    failing.contains(calls)
+// Counts a call, and says whether it is one that fails. Calls after the last number are not.
+pub fn is_failing(calls: &mut u64, failing: &[u64]) -> bool
+    ensures fails { result ≡ is_next calls.old failing.now }
+    ensures counted { calls.new ≡ raised calls.old }
+{
+    let Some(call) = calls.checked_add(1) else {
+        return false;
+    };
+    *calls = call;
+    failing.contains(&call)
 }
 
 pub fn raise(count: &mut u64)
+    ensures exact { count.new ≡ raised count.old }
     ensures rose { Rose count.old count.new }
     ensures kept { count.old ≤ count.new }
 {
@@ -35,7 +42,8 @@ fn find<'a>(files: &'a [Stored], name: &Name) -> Option<&'a [u8]>
 
 // The input that the name gives, unless the call fails or there is no memory.
 pub fn input_of(alloc: Global, fails: bool, files: &[Stored], name: &Name) -> Option<Input>
-    ensures { IfSome result (λ input. file_of (map named files.now) name.now ≡ Some (rest_of input)) }
+    ensures found { IfSome result (λ input. file_of (map named files.now) name.now ≡ Some (rest_of input)) }
+    ensures fails { fails ≡ true → result ≡ None }
 {
     if fails {
         return None;
@@ -60,10 +68,12 @@ pub fn with_name(
 }
 
 // The next bytes of the input.
+#[tactic(auto, using(crate::proofs::Pieces::given_some, crate::proofs::Pieces::given_end))]
 pub fn give(input: &mut Input, piece: u32, buf: &mut [u8]) -> Got
     requires piece { 1 ≤ piece }
     requires room { 0 < length buf.old }
-    ensures { Gives (rest_of input.old) result buf.new (rest_of input.new) }
+    ensures gives { Gives (rest_of input.old) result buf.new (rest_of input.new) }
+    ensures exact { result ≡ given (min piece (length buf.old)) (rest_of input.old) }
 {
     let rest = &input.bytes[input.at..];
     let most = rest.len().min(buf.len()).min(piece as usize);
@@ -76,7 +86,8 @@ pub fn give(input: &mut Input, piece: u32, buf: &mut [u8]) -> Got
 }
 
 pub fn add_output(alloc: Global, fails: bool, outputs: &mut Vec<Stored>, name: &Name) -> Put
-    ensures { AfterAddOutput (map named outputs.old.items) name.now result (map named outputs.new.items) }
+    ensures after { AfterAddOutput (map named outputs.old.items) name.now result (map named outputs.new.items) }
+    ensures fails { fails ≡ true → result ≡ Put.Failed }
 {
     if fails {
         return Put::Failed;
@@ -93,7 +104,8 @@ pub fn add_output(alloc: Global, fails: bool, outputs: &mut Vec<Stored>, name: &
 
 // Appends the bytes, or a first part of them where the call fails.
 pub fn append(fails: bool, bytes: &mut Vec<u8>, piece: &[u8]) -> Put
-    ensures { AfterAppend bytes.old.items piece.now result bytes.new.items }
+    ensures after { AfterAppend bytes.old.items piece.now result bytes.new.items }
+    ensures fails { fails ≡ true → result ≡ Put.Failed }
 {
     if fails {
         let _ = bytes.extend_from_slice(&piece[..piece.len() / 2]);
@@ -109,6 +121,7 @@ pub fn write_last(fails: bool, outputs: &mut Vec<Stored>, piece: &[u8]) -> Put
     requires { 0 < length outputs.old.items }
     ensures after { AfterAppendLast (map named outputs.old.items) piece.now result (map named outputs.new.items) }
     ensures count { length outputs.new.items ≡ length outputs.old.items }
+    ensures fails { fails ≡ true → result ≡ Put.Failed }
 {
     let last = outputs.len() - 1;
     let stored = &mut outputs[last];

@@ -4,8 +4,8 @@ use Rattle.std.proofs.lemmas.List.{take_rest, length-append, length-drop}
 use Rattle.jpg_base.proofs.Pieces.{given_front}
 use Rattle.jpg_base.proofs.memory.parts.give.Goals as goal
 
-pub returns : goal.returns
-returns c = (
+pub returns-clause-gives : goal.returns-clause-gives
+returns-clause-gives c = (
   omega arith,
   grind (arith, common_steps, length-append, length-drop),
   given_front c.args.input.now.bytes.items _ c.args.buf.now c.args.input.now.at c.min-most.result

@@ -5,4 +5,4 @@ use Rattle.jpg_base.proofs.memory.parts.write_last.Goals as goal
 pub returns-clause-after : goal.returns-clause-after
 returns-clause-after c =
     appends_at c.args.outputs.now.items _ c.index_mut-stored.result.now c.args.piece.now c.append.result c.append.new.bytes
-    (omega (arith, c.args.outputs.now.ok.0)) c.requires c.index_mut-stored.ensures.value c.append.ensures
+    (omega (arith, c.args.outputs.now.ok.0)) c.requires c.index_mut-stored.ensures.value c.append.ensures.after
