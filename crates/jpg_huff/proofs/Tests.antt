@@ -1,10 +1,11 @@
 -- A test that computes, of the arrays of a table.
 use Rattle.std.proofs.Common.{◌≡◌, ℕ, zero, suc, ◌+◌, ◌*◌, ◌^◌, ◌<◌, ◌≤◌, Bool, true, false, List, length, drop, get_or, refl, sym, ap, ◌∙◌, arith, ◌&&◌, eqb, ltb, leb}
-use Rattle.std.specs.Prelude.{◌⊎◌}
+use Rattle.std.specs.Prelude.{◌⊎◌, Option, None, Some, ◌/◌, ◌%◌, [], ◌∷◌, cond, ◌==◌}
 use Rattle.std.proofs.Common.{inl, inr, ⊎_elim}
 use Rattle.std.specs.List.{sum}
 use Rattle.std.proofs.lemmas.Bool.Decides.{nat_tests}
-use Rattle.jpg_huff.specs.Index.{IsIndexed, limit_from}
+use Rattle.jpg_spec.specs.Codes.{Code, first_code}
+use Rattle.jpg_huff.specs.Index.{IsIndexed, limit_from, IsEncoder, entry_code}
 
 abbrev pub all_below : ℕ → (ℕ → Bool) → Bool
 all_below zero p = true
@@ -67,4 +68,60 @@ IsIndexed-from_test counts symbols firsts starts limits e =
       limit = λ i h. eqb_is _ _ (all_below-at 16 (λ i. eqb (get_or limits i 0) (limit_from (get_or firsts i 0) (drop i counts))) h7.1 i h);
       fits = λ i h. ltb_is _ _ (all_below-at 16 (λ i. ltb (get_or firsts i 0 + get_or counts i 0) (2 ^ (i + 1))) h8.1 i h);
       enough = λ i h. leb_is _ _ (all_below-at 16 (λ i. leb (get_or starts i 0 + sum (drop i counts)) symbols) h9.1 i h);
+    }
+
+-- whether two codes are the same
+abbrev same_bit : Bool → Bool → Bool
+same_bit true b = b
+same_bit false true = false
+same_bit false false = true
+
+abbrev same_bits : List Bool → List Bool → Bool
+same_bits [] [] = true
+same_bits [] (b ∷ bs) = false
+same_bits (a ∷ as) [] = false
+same_bits (a ∷ as) (b ∷ bs) = same_bit a b && same_bits as bs
+
+abbrev same_code : Option (List Bool) → Option (List Bool) → Bool
+same_code None None = true
+same_code None (Some b) = false
+same_code (Some a) None = false
+same_code (Some a) (Some b) = same_bits a b
+
+same_bit_is : (a b : Bool) → same_bit a b ≡ true → a ≡ b
+same_bit_is true true e = refl
+same_bit_is true false e = cc
+same_bit_is false true e = cc
+same_bit_is false false e = refl
+
+same_bits_is : (a b : List Bool) → same_bits a b ≡ true → a ≡ b
+same_bits_is [] [] e = refl
+same_bits_is [] (y ∷ b) e = cc
+same_bits_is (x ∷ a) [] e = cc
+same_bits_is (x ∷ a) (y ∷ b) e =
+    let both = both_true (same_bit x y) (same_bits a b) e in
+    let first = same_bit_is x y both.0 in
+    let later = same_bits_is a b both.1 in
+    cc
+
+same_code_is : (a b : Option (List Bool)) → same_code a b ≡ true → a ≡ b
+same_code_is None None e = refl
+same_code_is None (Some b) e = cc
+same_code_is (Some a) None e = cc
+same_code_is (Some a) (Some b) e = ap (λ (x : List Bool). (let o : Option (List Bool) = Some x in o)) (same_bits_is a b e)
+
+abbrev pub is_encoder : List Code → List ℕ → Bool
+is_encoder table entries =
+    all_below 256 (λ s. same_code (entry_code (get_or entries s 0)) (first_code table s))
+    && all_below 256 (λ s. leb (get_or entries s 0 / 65536) 16)
+    && all_below 256 (λ s. ltb (get_or entries s 0 % 65536) (2 ^ (get_or entries s 0 / 65536)))
+
+pub IsEncoder-from_test : (table : List Code) (entries : List ℕ) → is_encoder table entries ≡ true → IsEncoder table entries
+IsEncoder-from_test table entries e =
+    let h2 = both_true _ (all_below 256 (λ s. ltb (get_or entries s 0 % 65536) (2 ^ (get_or entries s 0 / 65536)))) e in
+    let h1 = both_true (all_below 256 (λ s. same_code (entry_code (get_or entries s 0)) (first_code table s))) (all_below 256 (λ s. leb (get_or entries s 0 / 65536) 16)) h2.0 in
+    record {
+      first = λ s h. same_code_is _ _ (all_below-at 256 (λ s. same_code (entry_code (get_or entries s 0)) (first_code table s)) h1.0 s h);
+      short = λ s h. leb_is _ _ (all_below-at 256 (λ s. leb (get_or entries s 0 / 65536) 16) h1.1 s h);
+      fits = λ s h. ltb_is _ _ (all_below-at 256 (λ s. ltb (get_or entries s 0 % 65536) (2 ^ (get_or entries s 0 / 65536))) h2.1 s h);
     }

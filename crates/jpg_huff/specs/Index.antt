@@ -1,6 +1,7 @@
 -- What a table keeps beside its counts and symbols, so that a walk needs no search.
-use Rattle.std.specs.Prelude.{◌≡◌, ℕ, zero, suc, ◌+◌, ◌-◌, ◌*◌, ◌/◌, ◌^◌, ◌<◌, ◌≤◌, List, [], ◌∷◌, ◌++◌, length, take, drop, sum, slice_index, Bool, Contains, ◌⊎◌}
-use Rattle.jpg_spec.specs.Codes.{Code, codes, AreCodes}
+use Rattle.std.specs.Prelude.{◌≡◌, ℕ, zero, suc, ◌+◌, ◌-◌, ◌*◌, ◌/◌, ◌%◌, ◌^◌, Option, None, Some, ◌<◌, ◌≤◌, List, [], ◌∷◌, ◌++◌, length, take, drop, sum, slice_index, Bool, ◌==◌, if◌then◌else◌, Contains, ◌⊎◌}
+use Rattle.jpg_spec.specs.Bits.{bits_of}
+use Rattle.jpg_spec.specs.Codes.{Code, first_code}
 
 -- Where c is the first number of a length: how many strings of that length begin a code of that length or of a longer one, or are before c.
 abbrev pub limit_from : ℕ → List ℕ → ℕ
@@ -26,3 +27,13 @@ BeginsCode table bits = (code : Code) × (next : Bool) × (more : List Bool) × 
 -- no code is these bits or begins with them
 abbrev pub BeginsNone : List Code → List Bool → Type 0
 BeginsNone table bits = (code : Code) (more : List Bool) → Contains table code → code.0 ≡ bits ++ more → ⊥
+
+-- What a table keeps for writing: for a code 65536 times its length, and its number; 0 for none.
+abbrev pub entry_code : ℕ → Option (List Bool)
+entry_code entry = if entry == 0 then None else Some (bits_of (entry / 65536) (entry % 65536))
+
+-- each symbol's first code
+pub record IsEncoder (table : List Code) (entries : List ℕ) : Type 0 where
+  pub first : (symbol : ℕ) → symbol < 256 → entry_code (slice_index entries symbol) ≡ first_code table symbol
+  pub short : (symbol : ℕ) → symbol < 256 → slice_index entries symbol / 65536 ≤ 16
+  pub fits : (symbol : ℕ) → symbol < 256 → slice_index entries symbol % 65536 < 2 ^ (slice_index entries symbol / 65536)

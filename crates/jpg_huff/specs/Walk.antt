@@ -1,13 +1,9 @@
 -- What a walk answers.
 use Rattle.std.specs.Prelude.{◌≡◌, ℕ, Bool, List, [], Contains}
-use Rattle.jpg_spec.specs.Codes.{Code, codes}
-use Rattle.jpg_huff.specs.declared.table.Table.{Table}
+use Rattle.jpg_spec.specs.Codes.{Code}
 use Rattle.jpg_huff.specs.declared.walk.WalkStep.{WalkStep}
 use Rattle.jpg_huff.specs.declared.walk.WalkStep.TheVariants.{More, Symbol, NoCode}
 use Rattle.jpg_huff.specs.Index.{BeginsCode, BeginsNone}
-
-abbrev pub symbol_codes : Table → List Code
-symbol_codes t = codes t.counts t.symbols
 
 -- the answer at these bits, and what is kept of them
 abbrev pub Answers : List Code → List Bool → WalkStep → List Bool → Type 0

@@ -1,15 +1,17 @@
 // Bytes that wait to be written.
-ghost use Rattle.std.specs.Prelude.{◌≡◌, ◌≤◌, ◌<◌, [], ◌∷◌, ◌++◌, length, true};
+ghost use Rattle.std.specs.Prelude.{◌≡◌, ◌≤◌, ◌<◌, ◌+◌, [], ◌∷◌, ◌++◌, length, true};
+ghost use Rattle.jpg_spec.specs.Bits.{bits_of, stuffed, stuffed_byte, whole_bytes};
 ghost use Rattle.jpg_huff.specs.Out.{Emits, OnlyWrites};
 
 use jpg_base::{Desk, Put};
 use std::marker::Model;
 
+/// The output could not be written.
 #[derive(Clone, Copy, Debug, PartialEq, Eq)]
 pub struct WriteFault;
 
 #[derive(Drop)]
-pub struct Buffer {
+pub(crate) struct Buffer {
     bytes: [u8; 4096],
     used: usize,
 }
@@ -25,7 +27,7 @@ impl Model for Buffer {
 }
 
 impl Buffer {
-    pub fn new() -> Buffer
+    pub(crate) fn new() -> Buffer
         ensures { result ≡ [] }
     {
         Buffer {
@@ -34,8 +36,10 @@ impl Buffer {
         }
     }
 
-    /// Writes all that waits. After a fault nothing waits.
-    pub fn flush<D: Desk>(&mut self, desk: &mut D) -> Result<(), WriteFault>
+    // Writes all that waits. After a fault nothing waits.
+    #[cold]
+    #[inline(never)]
+    pub(crate) fn flush<D: Desk>(&mut self, desk: &mut D) -> Result<(), WriteFault>
         requires { (D.state desk.old).output_created ≡ true }
         ensures kept { OnlyWrites (D.state desk.old) (D.state desk.new) }
         ensures emits { Emits (D.state desk.old) self.old [] result self.new (D.state desk.new) }
@@ -49,32 +53,162 @@ impl Buffer {
         }
     }
 
-    // Writes what waits where no byte more fits.
-    fn make_room<D: Desk>(&mut self, desk: &mut D) -> Result<(), WriteFault>
-        requires { (D.state desk.old).output_created ≡ true }
+    // Writes what waits where fewer than this many bytes more fit.
+    #[inline(always)]
+    fn make_room<D: Desk>(&mut self, room: usize, desk: &mut D) -> Result<(), WriteFault>
+        requires created { (D.state desk.old).output_created ≡ true }
+        requires room { room ≤ 4096 }
         ensures kept { OnlyWrites (D.state desk.old) (D.state desk.new) }
         ensures emits { Emits (D.state desk.old) self.old [] result self.new (D.state desk.new) }
-        ensures room { length self.new < 4096 }
+        ensures room { length self.new + room ≤ 4096 }
     {
-        if self.used == 4096 {
+        if self.used > 4096 - room {
             self.flush(desk)
         } else {
             Ok(())
         }
     }
 
-    /// Adds a byte.
-    pub fn push<D: Desk>(&mut self, byte: u8, desk: &mut D) -> Result<(), WriteFault>
+    // Adds a byte.
+    #[inline(always)]
+    fn add(&mut self, byte: u8)
+        requires { length self.old < 4096 }
+        ensures { self.new ≡ self.old ++ byte ∷ [] }
+    {
+        self.bytes[self.used] = byte;
+        self.used += 1;
+    }
+
+    // Adds a byte, and 00 after FF.
+    #[inline(always)]
+    fn add_stuffed(&mut self, byte: u8)
+        requires { length self.old + 2 ≤ 4096 }
+        ensures { self.new ≡ self.old ++ stuffed_byte byte }
+    {
+        self.add(byte);
+        if byte == 255 {
+            self.add(0);
+        }
+    }
+
+    // Adds four bytes as they are.
+    #[inline(always)]
+    fn add_four(&mut self, a: u8, b: u8, c: u8, d: u8)
+        requires { length self.old + 4 ≤ 4096 }
+        ensures { self.new ≡ self.old ++ a ∷ b ∷ c ∷ d ∷ [] }
+    {
+        let used = self.used;
+        self.bytes[used] = a;
+        self.bytes[used + 1] = b;
+        self.bytes[used + 2] = c;
+        self.bytes[used + 3] = d;
+        self.used = used + 4;
+    }
+
+    // Adds four bytes, and 00 after each FF.
+    #[inline(always)]
+    fn add_word(&mut self, a: u8, b: u8, c: u8, d: u8)
+        requires { length self.old + 8 ≤ 4096 }
+        ensures { self.new ≡ self.old ++ stuffed (a ∷ b ∷ c ∷ d ∷ []) }
+    {
+        if a != 255 && b != 255 && c != 255 && d != 255 {
+            self.add_four(a, b, c, d);
+        } else {
+            self.add_stuffed(a);
+            self.add_stuffed(b);
+            self.add_stuffed(c);
+            self.add_stuffed(d);
+        }
+    }
+
+    // The 32 bits of a word.
+    #[inline(always)]
+    pub(crate) fn push_word<D: Desk>(&mut self, word: u32, desk: &mut D) -> Result<(), WriteFault>
         requires { (D.state desk.old).output_created ≡ true }
         ensures kept { OnlyWrites (D.state desk.old) (D.state desk.new) }
-        ensures emits { Emits (D.state desk.old) self.old (byte ∷ []) result self.new (D.state desk.new) }
+        ensures emits { Emits (D.state desk.old) self.old (stuffed (whole_bytes (bits_of 32 word))) result self.new (D.state desk.new) }
     {
-        match self.make_room(desk) {
+        match self.make_room(8, desk) {
             Err(fault) => Err(fault),
             Ok(()) => {
-                self.bytes[self.used] = byte;
-                self.used += 1;
+                self.add_word(
+                    (word >> 24) as u8,
+                    (word >> 16) as u8,
+                    (word >> 8) as u8,
+                    word as u8,
+                );
                 Ok(())
+            }
+        }
+    }
+
+    // The whole bytes of the low `count` bits, where there is room.
+    fn add_bits(&mut self, word: u64, count: u8)
+        requires count { count ≤ 32 }
+        requires room { length self.old + 8 ≤ 4096 }
+        ensures { self.new ≡ self.old ++ stuffed (whole_bytes (bits_of count word)) }
+    {
+        let mut left = count;
+        while left >= 8 {
+            left -= 8;
+            self.add_stuffed((word >> left) as u8);
+        }
+    }
+
+    // The whole bytes of the low `count` bits.
+    pub(crate) fn push_bits<D: Desk>(
+        &mut self,
+        word: u64,
+        count: u8,
+        desk: &mut D,
+    ) -> Result<(), WriteFault>
+        requires created { (D.state desk.old).output_created ≡ true }
+        requires count { count ≤ 32 }
+        ensures kept { OnlyWrites (D.state desk.old) (D.state desk.new) }
+        ensures emits { Emits (D.state desk.old) self.old (stuffed (whole_bytes (bits_of count word))) result self.new (D.state desk.new) }
+    {
+        match self.make_room(8, desk) {
+            Err(fault) => Err(fault),
+            Ok(()) => {
+                self.add_bits(word, count);
+                Ok(())
+            }
+        }
+    }
+
+    // Adds bytes, where there is room.
+    fn add_piece(&mut self, piece: &[u8])
+        requires { length self.old + length piece.now ≤ 4096 }
+        ensures { self.new ≡ self.old ++ piece.now }
+    {
+        let used = self.used;
+        let end = used + piece.len();
+        self.bytes[used..end].copy_from_slice(piece);
+        self.used = end;
+    }
+
+    // Bytes as they are. Those that are more than a buffer are written at once.
+    pub(crate) fn push_piece<D: Desk>(
+        &mut self,
+        piece: &[u8],
+        desk: &mut D,
+    ) -> Result<(), WriteFault>
+        requires { (D.state desk.old).output_created ≡ true }
+        ensures kept { OnlyWrites (D.state desk.old) (D.state desk.new) }
+        ensures emits { Emits (D.state desk.old) self.old piece.now result self.new (D.state desk.new) }
+    {
+        match self.make_room(piece.len().min(4096), desk) {
+            Err(fault) => Err(fault),
+            Ok(()) => {
+                if piece.len() <= 4096 {
+                    self.add_piece(piece);
+                    Ok(())
+                } else {
+                    match desk.write(piece) {
+                        Put::Done => Ok(()),
+                        Put::Failed => Err(WriteFault),
+                    }
+                }
             }
         }
     }

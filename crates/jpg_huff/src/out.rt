@@ -1,18 +1,19 @@
 // Bits that go out as stuffed bytes.
 ghost use Rattle.std.specs.Prelude.{◌≡◌, ◌≤◌, ◌<◌, ◌^◌, [], true};
-ghost use Rattle.jpg_spec.specs.Bits.{bits_of, stuffed, stuffed_byte, whole_bytes};
-ghost use Rattle.jpg_huff.specs.Out.{Emits, OnlyWrites};
-ghost use Rattle.jpg_huff.specs.BitOut.{Puts, nothing_waits};
+ghost use Rattle.jpg_spec.specs.Bits.{bits_of};
+ghost use Rattle.jpg_huff.specs.Out.{OnlyWrites};
+ghost use Rattle.jpg_huff.specs.BitOut.{Puts, Pads, Sends, nothing_waits};
 
-use crate::{Buffer, WriteFault};
+use crate::WriteFault;
+use crate::buffer::Buffer;
 use jpg_base::Desk;
 use std::marker::Model;
 
-/// Bits and bytes that wait to be written.
+/// Bits and bytes that wait to be written: at most 4,096 bytes, and fewer than 32 bits behind them.
 #[derive(Drop)]
 pub struct BitOut {
     buffer: Buffer,
-    bits: u32,
+    word: u64,
     count: u8,
 }
 
@@ -23,65 +24,26 @@ impl Model for BitOut {
 
     ghost Value = { Waiting };
 
-    ghost view = { λ b. record { bytes = b.buffer; bits = bits_of b.count b.bits } };
+    ghost view = { λ b. record { bytes = b.buffer; bits = bits_of b.count b.word } };
 
-    ghost invariant = { λ b. (b.count < 8) × (b.bits < 2 ^ b.count) };
-}
-
-// A byte, and 00 after FF.
-fn stuff<D: Desk>(buffer: &mut Buffer, byte: u8, desk: &mut D) -> Result<(), WriteFault>
-    requires { (D.state desk.old).output_created ≡ true }
-    ensures kept { OnlyWrites (D.state desk.old) (D.state desk.new) }
-    ensures emits { Emits (D.state desk.old) buffer.old (stuffed_byte byte) result buffer.new (D.state desk.new) }
-{
-    match buffer.push(byte, desk) {
-        Err(fault) => Err(fault),
-        Ok(()) => {
-            if byte == 255 {
-                buffer.push(0, desk)
-            } else {
-                Ok(())
-            }
-        }
-    }
-}
-
-// The whole bytes at the front of the low `count` bits.
-fn emit_bytes<D: Desk>(
-    buffer: &mut Buffer,
-    bits: u32,
-    count: u8,
-    desk: &mut D,
-) -> Result<(), WriteFault>
-    requires created { (D.state desk.old).output_created ≡ true }
-    requires count { count < 32 }
-    ensures kept { OnlyWrites (D.state desk.old) (D.state desk.new) }
-    ensures emits { Emits (D.state desk.old) buffer.old (stuffed (whole_bytes (bits_of count bits))) result buffer.new (D.state desk.new) }
-{
-    let mut left = count;
-    while left >= 8 {
-        left -= 8;
-        let byte = ((bits >> left) & 0xff) as u8;
-        match stuff(buffer, byte, desk) {
-            Ok(()) => {}
-            Err(fault) => return Err(fault),
-        }
-    }
-    Ok(())
+    ghost invariant = { λ b. (b.count < 32) × (b.word < 2 ^ b.count) };
 }
 
 impl BitOut {
+    /// Nothing waits.
     pub fn new() -> BitOut
         ensures { result ≡ nothing_waits }
     {
         BitOut {
             buffer: Buffer::new(),
-            bits: 0,
+            word: 0,
             count: 0,
         }
     }
 
-    /// Adds the low `count` bits. After a fault nothing waits.
+    /// Adds the low `count` bits, 0 to 24, of a number below `2^count`, the most significant first.
+    /// After each byte FF that goes out stands 00. After a fault nothing waits.
+    #[inline(always)]
     pub fn put<D: Desk>(&mut self, bits: u32, count: u8, desk: &mut D) -> Result<(), WriteFault>
         requires created { (D.state desk.old).output_created ≡ true }
         requires count { count ≤ 24 }
@@ -90,18 +52,60 @@ impl BitOut {
         ensures puts { Puts (D.state desk.old) self.old (bits_of count bits) result self.new (D.state desk.new) }
     {
         let total = self.count + count;
-        let all = (self.bits << count) + bits;
-        match emit_bytes(&mut self.buffer, all, total, desk) {
-            Ok(()) => {
-                self.count = total % 8;
-                self.bits = all % (1 << (total % 8));
-                Ok(())
-            }
-            Err(fault) => {
-                self.count = 0;
-                self.bits = 0;
-                Err(fault)
+        let all = (self.word << count) + u64::from(bits);
+        if total < 32 {
+            self.word = all;
+            self.count = total;
+            Ok(())
+        } else {
+            let left = total - 32;
+            match self.buffer.push_word((all >> left) as u32, desk) {
+                Ok(()) => {
+                    self.word = all % (1 << left);
+                    self.count = left;
+                    Ok(())
+                }
+                Err(fault) => {
+                    self.word = 0;
+                    self.count = 0;
+                    Err(fault)
+                }
             }
         }
+    }
+
+    /// Fills the last byte with ones, so that no bits wait. After a fault nothing waits.
+    pub fn pad<D: Desk>(&mut self, desk: &mut D) -> Result<(), WriteFault>
+        requires { (D.state desk.old).output_created ≡ true }
+        ensures kept { OnlyWrites (D.state desk.old) (D.state desk.new) }
+        ensures pads { Pads (D.state desk.old) self.old result self.new (D.state desk.new) }
+    {
+        let fill = (8 - self.count % 8) % 8;
+        let all = (self.word << fill) + ((1 << fill) - 1);
+        let total = self.count + fill;
+        self.word = 0;
+        self.count = 0;
+        self.buffer.push_bits(all, total, desk)
+    }
+
+    /// Adds bytes as they are, where no bits wait. After a fault nothing waits.
+    pub fn raw<D: Desk>(&mut self, piece: &[u8], desk: &mut D) -> Result<(), WriteFault>
+        requires created { (D.state desk.old).output_created ≡ true }
+        requires none { self.old.bits ≡ [] }
+        ensures kept { OnlyWrites (D.state desk.old) (D.state desk.new) }
+        ensures sends { Sends (D.state desk.old) self.old piece.now result self.new (D.state desk.new) }
+    {
+        self.buffer.push_piece(piece, desk)
+    }
+
+    /// Writes all that waits, where no bits wait. Afterwards, and after a fault, nothing waits.
+    pub fn flush<D: Desk>(&mut self, desk: &mut D) -> Result<(), WriteFault>
+        requires created { (D.state desk.old).output_created ≡ true }
+        requires none { self.old.bits ≡ [] }
+        ensures kept { OnlyWrites (D.state desk.old) (D.state desk.new) }
+        ensures sends { Sends (D.state desk.old) self.old [] result self.new (D.state desk.new) }
+        ensures nothing { self.new ≡ nothing_waits }
+    {
+        self.buffer.flush(desk)
     }
 }

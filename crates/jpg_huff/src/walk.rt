@@ -1,10 +1,12 @@
 // From bits to symbols.
 ghost use Rattle.std.specs.Prelude.{◌≡◌, [], ◌∷◌, ◌++◌};
-ghost use Rattle.jpg_huff.specs.Walk.{Answers, symbol_codes};
+ghost use Rattle.jpg_huff.specs.Walk.{Answers};
+ghost use Rattle.jpg_huff.specs.Tables.{symbol_codes};
 
 use crate::Table;
 use std::marker::Model;
 
+/// What the bits so far are: a proper front of a code, a code with its symbol, or the front of none.
 #[derive(Clone, Copy, Debug, PartialEq, Eq)]
 pub enum WalkStep {
     More,
@@ -12,7 +14,7 @@ pub enum WalkStep {
     NoCode,
 }
 
-/// The bits of a code so far.
+/// The bits of a code so far, at most 15 (T.81 F.2.2.3).
 #[derive(Drop)]
 pub struct Walk {
     length: u8,
@@ -31,6 +33,7 @@ impl Model for Walk {
 }
 
 impl Walk {
+    /// A walk without bits.
     pub fn new() -> Walk
         ensures { result ≡ [] }
     {

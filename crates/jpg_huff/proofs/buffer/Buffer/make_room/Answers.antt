@@ -1,5 +1,0 @@
-use Rattle.jpg_huff.proofs.Emitted.{emits_nothing}
-use Rattle.jpg_huff.proofs.buffer.Buffer.make_room.Goals as goal
-
-pub returns-else-self-eq4096-clause-emits : goal.returns-else-self-eq4096-clause-emits
-returns-else-self-eq4096-clause-emits g c = emits_nothing (g.D.Desk.state c.args.desk.now) c.args.self.now

@@ -1,0 +1,57 @@
+// Data bytes and markers, as they stand in a file (T.81 B.1.1.5).
+ghost use Rattle.std.specs.Prelude.{◌≡◌, false};
+ghost use Rattle.jpg_huff.specs.Gate.{Passes};
+
+use std::marker::Model;
+
+/// What passes at a byte: nothing yet, a byte of data, or a marker's code.
+#[derive(Clone, Copy, Debug, PartialEq, Eq)]
+pub enum Passed {
+    More,
+    Data(u8),
+    Marker(u8),
+}
+
+/// Whether one or more FF wait for the byte after them.
+#[derive(Drop)]
+pub struct Gate {
+    waits: bool,
+}
+
+impl Model for Gate {
+    ghost use Rattle.std.specs.Prelude.{Bool};
+
+    ghost Value = { Bool };
+
+    ghost view = { λ g. g.waits };
+}
+
+impl Gate {
+    /// A gate at which nothing waits.
+    pub fn new() -> Gate
+        ensures { result ≡ false }
+    {
+        Gate { waits: false }
+    }
+
+    /// Takes a byte. A byte other than FF passes as data; after one or more FF, 00 passes as one
+    /// data byte FF, and another byte as a marker.
+    #[inline(always)]
+    pub fn byte(&mut self, byte: u8) -> Passed
+        ensures { Passes self.old byte result self.new }
+    {
+        if byte == 255 {
+            self.waits = true;
+            Passed::More
+        } else if !self.waits {
+            Passed::Data(byte)
+        } else {
+            self.waits = false;
+            if byte == 0 {
+                Passed::Data(255)
+            } else {
+                Passed::Marker(byte)
+            }
+        }
+    }
+}
