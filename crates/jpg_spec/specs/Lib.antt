@@ -1,6 +1,7 @@
 pub mod Bits
 pub mod Codes
 pub mod Elements
+pub mod Examples
 pub mod Faults
 pub mod FileText
 pub mod Geometry

@@ -2,6 +2,7 @@
 //! cites (ITU-T T.81, JFIF 1.02, the manuals of release 6b), and the laws that hold between them.
 #![tactic(auto)]
 
+pub mod examples;
 mod fault;
 mod frame;
 
