@@ -17,5 +17,6 @@ pub mod ScanText
 pub mod Script
 pub mod Segments
 pub mod Sending
+pub mod Sound
 pub mod Told
 pub mod Typical

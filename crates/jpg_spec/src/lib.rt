@@ -5,6 +5,7 @@
 pub mod examples;
 mod fault;
 mod frame;
+pub mod laws;
 
 pub use fault::Fault;
 pub use frame::{Bounds, Colour, Component, Grid, Limits, Place, Process, ScanPart};
