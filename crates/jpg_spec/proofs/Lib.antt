@@ -4,6 +4,8 @@ pub mod Facts
 pub mod Levels
 pub mod Once
 pub mod OneCode
+pub mod Sound
+pub mod Spelled
 pub mod Strings
 pub mod Telling
 pub mod Writing

@@ -18,16 +18,16 @@ negated : (a : Bool) → not a ≡ true → a ≡ false
 negated true e = cc
 negated false e = refl
 
-le_of : (a b : ℕ) → nat_le a b ≡ true → a ≤ b
+pub le_of : (a b : ℕ) → nat_le a b ≡ true → a ≤ b
 le_of a b e = grind (arith, nat_tests)
 
-lt_of : (a b : ℕ) → nat_lt a b ≡ true → a < b
+pub lt_of : (a b : ℕ) → nat_lt a b ≡ true → a < b
 lt_of a b e = grind (arith, nat_tests)
 
 not_lt_of : (a b : ℕ) → nat_lt a b ≡ false → b ≤ a
 not_lt_of a b e = grind (arith, nat_tests)
 
-same_of : (a b : ℕ) → (a == b) ≡ true → a ≡ b
+pub same_of : (a b : ℕ) → (a == b) ≡ true → a ≡ b
 same_of a b e = grind (arith, nat_tests)
 
 behind_step : (o : ℤ) (n : ℕ) (old : List ℤ) → drop (suc n + 1) (o ∷ old) ≡ drop (n + 1) old

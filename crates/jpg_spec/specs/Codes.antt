@@ -1,5 +1,5 @@
 -- Huffman codes (T.81 Annex C).
-use Rattle.std.specs.Prelude.{ℕ, zero, suc, drop, ◌+◌, ◌*◌, ◌^◌, ◌<◌, Bool, ◌==◌, if◌then◌else◌, List, [], ◌∷◌, ◌++◌, Option, Some, None}
+use Rattle.std.specs.Prelude.{ℕ, zero, suc, drop, ◌+◌, ◌*◌, ◌^◌, ◌<◌, Bool, true, nat_lt, ◌&&◌, ◌==◌, if◌then◌else◌, List, [], ◌∷◌, ◌++◌, Option, Some, None}
 use Rattle.jpg_spec.specs.Bits.{bits_of}
 
 -- a code: its bits, and the symbol that it stands for
@@ -26,6 +26,11 @@ codes counts symbols = codes_from 1 0 counts symbols
 abbrev pub AreCodes : ℕ → ℕ → List ℕ → Type 0
 AreCodes length c [] = Unit {0}
 AreCodes length c (count ∷ counts) = (c + count < 2 ^ length) × AreCodes (length + 1) (2 * (c + count)) counts
+
+-- the same as a test
+unfoldable pub are_codes : ℕ → ℕ → List ℕ → Bool
+are_codes length c [] = true
+are_codes length c (count ∷ counts) = nat_lt (c + count) (2 ^ length) && are_codes (length + 1) (2 * (c + count)) counts
 
 -- the first code of a symbol
 abbrev pub first_code : List Code → ℕ → Option (List Bool)

@@ -1,6 +1,7 @@
 pub mod Bits
 pub mod Codes
 pub mod Elements
+pub mod Examples
 pub mod Faults
 pub mod FileText
 pub mod Geometry
@@ -16,6 +17,7 @@ pub mod ScanText
 pub mod Script
 pub mod Segments
 pub mod Sending
+pub mod Sound
 pub mod Told
 pub mod Typical
 pub mod Messages

@@ -3,8 +3,10 @@
 #![tactic(auto)]
 
 mod answers;
+pub mod examples;
 mod fault;
 mod frame;
+pub mod laws;
 
 pub use answers::{Asked, FaultAt, Usage, UsageFault, Which, Why};
 pub use fault::Fault;

@@ -1,0 +1,56 @@
+//! Laws over the definitions: bits mean one thing at most, and data that show a fault mean none.
+ghost use Rattle.std.specs.Prelude.{◌≡◌, ◌++◌, ◌≤◌, ℕ, ℤ, Bool, true, List, length, sum, Contains};
+ghost use Rattle.jpg_spec.specs.Bits.{Packs};
+ghost use Rattle.jpg_spec.specs.Codes.{Code, codes, AreCodes, are_codes};
+ghost use Rattle.jpg_spec.specs.Typical.{dc_luma_counts, dc_luma_values, ac_luma_counts, ac_luma_values, dc_chroma_counts, dc_chroma_values, ac_chroma_counts, ac_chroma_values};
+ghost use Rattle.jpg_spec.specs.Geometry.{Frame};
+ghost use Rattle.jpg_spec.specs.Segments.{ScanHead};
+ghost use Rattle.jpg_spec.specs.Elements.{Coding, UnitLeft, SpellsUnits};
+ghost use Rattle.jpg_spec.specs.Scan.{TablesInForce, scan_coding};
+ghost use Rattle.jpg_spec.specs.ScanFaults.{DataShows};
+ghost use Rattle.jpg_spec.specs.GrayFile.{typical_tables};
+ghost use Rattle.jpg_spec.specs.Sound.{IsSound, AreTables};
+ghost use Rattle.jpg_spec.specs.declared.fault.Fault.{Fault};
+
+/// Counts that pass the test give codes that fit their lengths, none of all ones.
+pub fn tested_counts_give_codes()
+    ensures { (counts : List ℕ) → are_codes 1 0 counts ≡ true → AreCodes 1 0 counts }
+{}
+
+/// No code of a valid table begins another, so bits are cut into codes in one way.
+pub fn no_code_begins_another()
+    ensures { (counts symbols : List ℕ) (a b : Code) (x y : List Bool) → AreCodes 1 0 counts → Contains (codes counts symbols) a → Contains (codes counts symbols) b → a.0 ++ x ≡ b.0 ++ y → a ≡ b }
+{}
+
+/// The four typical tables are valid (T.81, K.3.3).
+pub fn typical_tables_are_valid()
+    ensures { AreTables typical_tables }
+{}
+
+/// The typical DC tables have 12 codes, and the typical AC tables 162 (T.81, K.3.3).
+pub fn typical_tables_have_their_codes()
+    ensures dc_luma { (sum dc_luma_counts ≡ 12) × (length dc_luma_values ≡ 12) }
+    ensures dc_chroma { (sum dc_chroma_counts ≡ 12) × (length dc_chroma_values ≡ 12) }
+    ensures ac_luma { (sum ac_luma_counts ≡ 162) × (length ac_luma_values ≡ 162) }
+    ensures ac_chroma { (sum ac_chroma_counts ≡ 162) × (length ac_chroma_values ≡ 162) }
+{}
+
+/// A scan's coding is sound where the tables in force are valid.
+pub fn codings_are_sound()
+    ensures { (f : Frame) (tables : TablesInForce) (head : ScanHead) → AreTables tables → IsSound (scan_coding f tables head) }
+{}
+
+/// Of two whole intervals neither begins the other, unless they are the same bits and values.
+pub fn intervals_are_spelled_once()
+    ensures { (c : Coding) (units : List UnitLeft) (told more : List ℤ) (bits cits x y : List Bool) → IsSound c → SpellsUnits c units told bits → SpellsUnits c units more cits → bits ++ x ≡ cits ++ y → (told ≡ more) × (bits ≡ cits) }
+{}
+
+/// Data that show a fault begin no whole interval, and no whole interval begins them.
+pub fn faults_exclude_intervals()
+    ensures { (c : Coding) (units : List UnitLeft) (fault : Fault) (told : List ℤ) (bits cits x y : List Bool) → IsSound c → DataShows c units fault bits → SpellsUnits c units told cits → bits ++ x ≡ cits ++ y → ⊥ }
+{}
+
+/// Bytes hold one interval at most: the same bits, and so the same pad bits.
+pub fn bytes_hold_one_interval()
+    ensures { (c : Coding) (units : List UnitLeft) (told more : List ℤ) (bits cits : List Bool) (coded : List ℕ) → IsSound c → Packs bits coded → SpellsUnits c units told bits → Packs cits coded → SpellsUnits c units more cits → (told ≡ more) × (bits ≡ cits) }
+{}
