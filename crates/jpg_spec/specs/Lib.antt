@@ -3,6 +3,7 @@ pub mod Codes
 pub mod Elements
 pub mod Faults
 pub mod FileText
+pub mod FrameHeader
 pub mod Geometry
 pub mod GrayFile
 pub mod Jfif
@@ -17,4 +18,5 @@ pub mod Script
 pub mod Segments
 pub mod Sending
 pub mod Told
+pub mod Transposed
 pub mod Typical
