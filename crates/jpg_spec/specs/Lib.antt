@@ -4,6 +4,7 @@ pub mod Elements
 pub mod Examples
 pub mod Faults
 pub mod FileText
+pub mod FrameHeader
 pub mod Geometry
 pub mod GrayFile
 pub mod Jfif
@@ -19,6 +20,7 @@ pub mod Segments
 pub mod Sending
 pub mod Sound
 pub mod Told
+pub mod Transposed
 pub mod Typical
 pub mod Messages
 pub mod Words

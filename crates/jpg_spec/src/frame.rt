@@ -1,4 +1,6 @@
 //! The numbers of a frame and of its scans (T.81, A.1, A.2, B.2.2, B.2.3).
+ghost use Rattle.std.specs.Prelude.{◌≡◌};
+ghost use Rattle.jpg_spec.specs.Segments.{standard_limits};
 
 /// The coding process that a frame header names (T.81, Table B.1).
 #[derive(Clone, Copy, Debug, PartialEq, Eq)]
@@ -69,6 +71,20 @@ pub struct Limits {
     pub blocks: u32,
     pub kept: u64,
     pub input: u64,
+}
+
+impl Limits {
+    /// Sides of 65500 samples, 8388608 blocks, 2^28 bytes of kept markers and 2^40 bytes of input.
+    pub fn standard() -> Limits
+        ensures { result ≡ standard_limits }
+    {
+        Limits {
+            side: 65500,
+            blocks: 8_388_608,
+            kept: 1 << 28,
+            input: 1 << 40,
+        }
+    }
 }
 
 /// A component of a scan: its index in the frame, and the slots of its DC and AC tables (T.81, B.2.3).

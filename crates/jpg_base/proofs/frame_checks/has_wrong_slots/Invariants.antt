@@ -1,0 +1,7 @@
+use Rattle.std.specs.Prelude.{◌≡◌, drop}
+use Rattle.jpg_spec.specs.Lists.{any_of}
+use Rattle.jpg_spec.specs.FrameHeader.{has_bad_slot}
+use Rattle.jpg_base.proofs.frame_checks.has_wrong_slots.Given as goal
+
+abbrev pub invariant-loop-component : goal.invariant-loop-component
+invariant-loop-component l = any_of has_bad_slot l.components ≡ any_of has_bad_slot (drop l.component-index l.components)

@@ -1,0 +1,232 @@
+// The header of a frame, and the grids that it bounds (T.81, A.1, A.2, B.2.2).
+ghost use Rattle.std.specs.Prelude.{◌≡◌, ◌<◌, ◌≤◌, length};
+ghost use Rattle.jpg_spec.specs.Geometry.{h_max, v_max, bounds, component_at};
+ghost use Rattle.jpg_spec.specs.FrameHeader.{AreLimits, HasFactors, IsFrame, checked_frame, mcu_grid, real_grid, padded_grid};
+ghost use Rattle.jpg_base.specs.Frame.{numbers_of};
+
+use crate::frame_checks::{
+    greatest_h, greatest_v, has_more_blocks, has_same_ids, has_wrong_factors, has_wrong_slots,
+    is_empty, is_larger, mcu_side, padded_side, real_side,
+};
+use arrayvec::ArrayVec;
+use jpg_spec::{Bounds, Component, Fault, Grid, Limits, Process};
+use std::marker::Model;
+
+/// A frame header whose numbers passed all checks (T.81, B.2.2): sides of 1 to 65500 samples, 8
+/// bits a sample, one to four components with factors 1 to 4, distinct identifiers and
+/// quantisation slots 0 to 3, and at most 8388608 blocks in the padded grids.
+#[derive(Drop)]
+pub struct Frame {
+    process: Process,
+    precision: u8,
+    width: u32,
+    height: u32,
+    components: ArrayVec<Component, 4>,
+    h_max: u8,
+    v_max: u8,
+}
+
+impl Model for Frame {
+    ghost use Rattle.jpg_spec.specs.Geometry.{Frame as Numbers};
+    ghost use Rattle.jpg_base.specs.Frame.{IsWhole, numbers_of};
+
+    ghost Value = { Numbers };
+
+    ghost view = { λ f. numbers_of f.process f.precision f.width f.height f.components.items };
+
+    ghost invariant = { λ f. IsWhole (numbers_of f.process f.precision f.width f.height f.components.items) f.h_max f.v_max };
+}
+
+impl Frame {
+    /// The frame of these numbers, or the first fault that forbids it, in this order: EmptyImage
+    /// (a side is 0), TooLarge (a side above `limits.side`), Precision (not 8), ComponentCount
+    /// (not one to four), Sampling (a factor not 1 to 4), DuplicateComponent (two equal
+    /// identifiers), QuantSlot (above 3), TooManyBlocks (more than `limits.blocks` in the padded
+    /// grids) (T.81, B.2.2). It takes no memory.
+    pub fn new(
+        process: Process,
+        precision: u8,
+        height: u32,
+        width: u32,
+        components: &[Component],
+        limits: &Limits,
+    ) -> Result<Frame, Fault>
+        requires { AreLimits limits.now }
+        ensures { result ≡ checked_frame limits.now (numbers_of process precision width height components.now) }
+    {
+        if is_empty(width, height) {
+            return Err(Fault::EmptyImage);
+        }
+        if is_larger(width, height, limits.side) {
+            return Err(Fault::TooLarge);
+        }
+        if precision != 8 {
+            return Err(Fault::Precision);
+        }
+        if components.is_empty() || components.len() > 4 {
+            return Err(Fault::ComponentCount);
+        }
+        if has_wrong_factors(components) {
+            return Err(Fault::Sampling);
+        }
+        if has_same_ids(components) {
+            return Err(Fault::DuplicateComponent);
+        }
+        if has_wrong_slots(components) {
+            return Err(Fault::QuantSlot);
+        }
+        if has_more_blocks(width, height, components, limits.blocks) {
+            return Err(Fault::TooManyBlocks);
+        }
+        let mut kept = ArrayVec::new();
+        let _ = kept.try_extend_from_slice(components);
+        Ok(Frame {
+            process,
+            precision,
+            width,
+            height,
+            components: kept,
+            h_max: greatest_h(components),
+            v_max: greatest_v(components),
+        })
+    }
+
+    /// The same frame again.
+    pub fn copy(&self) -> Frame
+        ensures { result ≡ self.now }
+    {
+        let mut components = ArrayVec::new();
+        let _ = components.try_extend_from_slice(self.components.as_slice());
+        Frame {
+            process: self.process,
+            precision: self.precision,
+            width: self.width,
+            height: self.height,
+            components,
+            h_max: self.h_max,
+            v_max: self.v_max,
+        }
+    }
+
+    /// What every frame keeps, for proofs. It does nothing.
+    pub fn checked(&self)
+        ensures { IsFrame self.now }
+    {
+        let _ = &self.precision;
+    }
+
+    pub fn process(&self) -> Process
+        ensures { result ≡ self.now.process }
+    {
+        self.process
+    }
+
+    /// Bits a sample.
+    pub fn precision(&self) -> u8
+        ensures { result ≡ self.now.precision }
+    {
+        self.precision
+    }
+
+    /// Samples in a row of the image.
+    pub fn width(&self) -> u32
+        ensures { result ≡ self.now.width }
+    {
+        self.width
+    }
+
+    /// Rows of samples in the image.
+    pub fn height(&self) -> u32
+        ensures { result ≡ self.now.height }
+    {
+        self.height
+    }
+
+    /// How many components there are, from 1 to 4.
+    pub fn count(&self) -> u8
+        ensures value { result ≡ length self.now.components }
+        ensures low { 1 ≤ result }
+        ensures high { result ≤ 4 }
+    {
+        self.components.len() as u8
+    }
+
+    /// The greatest factor across.
+    pub fn h_max(&self) -> u8
+        ensures value { result ≡ h_max self.now }
+        ensures low { 1 ≤ result }
+        ensures high { result ≤ 4 }
+    {
+        self.h_max
+    }
+
+    /// The greatest factor down.
+    pub fn v_max(&self) -> u8
+        ensures value { result ≡ v_max self.now }
+        ensures low { 1 ≤ result }
+        ensures high { result ≤ 4 }
+    {
+        self.v_max
+    }
+
+    /// The grid of MCUs of an interleaved scan (T.81, A.2.3).
+    pub fn mcus(&self) -> Grid
+        ensures value { result ≡ mcu_grid self.now }
+        ensures wide { result.wide ≤ 65532 }
+        ensures high { result.high ≤ 65532 }
+    {
+        Grid {
+            wide: mcu_side(self.width, self.h_max),
+            high: mcu_side(self.height, self.v_max),
+        }
+    }
+
+    /// The component at place `i` of the header, from 0.
+    pub fn component(&self, i: u8) -> Component
+        requires { i < length self.now.components }
+        ensures value { result ≡ component_at self.now i }
+        ensures factors { HasFactors result }
+        ensures slot { result.quant ≤ 3 }
+    {
+        self.components[i as usize]
+    }
+
+    /// The real blocks of component `i`: those that hold its samples (T.81, A.1.1, A.2.2).
+    pub fn blocks(&self, i: u8) -> Grid
+        requires { i < length self.now.components }
+        ensures { result ≡ real_grid self.now (component_at self.now i) }
+    {
+        let component = self.component(i);
+        Grid {
+            wide: real_side(self.width, component.h, self.h_max),
+            high: real_side(self.height, component.v, self.v_max),
+        }
+    }
+
+    /// The padded grid of component `i`: its factors times the MCUs (T.81, A.2.4).
+    pub fn padded(&self, i: u8) -> Grid
+        requires { i < length self.now.components }
+        ensures { result ≡ padded_grid self.now (component_at self.now i) }
+    {
+        let component = self.component(i);
+        let mcus = self.mcus();
+        Grid {
+            wide: padded_side(mcus.wide, component.h),
+            high: padded_side(mcus.high, component.v),
+        }
+    }
+
+    /// What the precision allows.
+    pub fn bounds(&self) -> Bounds
+        ensures { result ≡ bounds self.now }
+    {
+        Bounds {
+            dc_low: -1024,
+            dc_high: 1023,
+            ac: 1023,
+            dc_cat: 11,
+            ac_cat: 10,
+            al: 10,
+        }
+    }
+}

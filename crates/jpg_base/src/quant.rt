@@ -1,0 +1,73 @@
+// A quantisation table (T.81, B.2.4.1).
+ghost use Rattle.std.specs.Prelude.{◌≡◌, ◌<◌, replicate, slice_index, slice_set, length};
+ghost use Rattle.jpg_spec.specs.Transposed.{transposed};
+
+use std::marker::Model;
+
+/// The place in zigzag order of the frequencies exchanged, for each place.
+static EXCHANGED: [u8; 64] = [
+    0, 2, 1, 5, 4, 3, 9, 8, 7, 6, 14, 13, 12, 11, 10, 20, 19, 18, 17, 16, 15, 27, 26, 25, 24, 23,
+    22, 21, 35, 34, 33, 32, 31, 30, 29, 28, 42, 41, 40, 39, 38, 37, 36, 48, 47, 46, 45, 44, 43, 53,
+    52, 51, 50, 49, 57, 56, 55, 54, 60, 59, 58, 62, 61, 63,
+];
+
+/// 64 quantisers in zigzag order, from 0 to 65535 (T.81, B.2.4.1).
+#[derive(Clone, Copy)]
+pub struct QuantTable {
+    values: [u16; 64],
+}
+
+impl Model for QuantTable {
+    ghost use Rattle.std.specs.Prelude.{List, ℕ};
+
+    ghost Value = { List ℕ };
+
+    ghost view = { λ t. t.values };
+
+    ghost inverse = { λ values. record { values = values } };
+}
+
+impl QuantTable {
+    /// 64 ones.
+    pub fn ones() -> QuantTable
+        ensures { result ≡ replicate 64 1 }
+    {
+        QuantTable { values: [1; 64] }
+    }
+
+    /// The quantiser at place `k`.
+    pub fn get(&self, k: u8) -> u16
+        requires { k < 64 }
+        ensures value { result ≡ slice_index self.now k }
+        ensures long { length self.now ≡ 64 }
+    {
+        self.values[k as usize]
+    }
+
+    /// Puts `value` at place `k`. All other quantisers stay.
+    pub fn set(&mut self, k: u8, value: u16)
+        requires { k < 64 }
+        ensures value { self.new ≡ slice_set self.old k value }
+        ensures long { length self.old ≡ 64 }
+    {
+        self.values[k as usize] = value;
+    }
+
+    /// That it has 64 quantisers, for proofs. It does nothing.
+    pub fn long(&self)
+        ensures { length self.now ≡ 64 }
+    {
+        let _ = &self.values;
+    }
+
+    /// The table with its axes exchanged: each place has the quantiser of the frequencies exchanged.
+    pub fn transposed(&self) -> QuantTable
+        ensures { result ≡ transposed 0 self.now }
+    {
+        let mut values = [0; 64];
+        for k in 0..64 {
+            values[k] = self.values[EXCHANGED[k] as usize];
+        }
+        QuantTable { values }
+    }
+}

@@ -1,0 +1,34 @@
+// Why a call stops, and how far a feed came.
+use crate::NoMemory;
+use jpg_spec::Fault;
+
+/// A write to the output that failed.
+#[derive(Clone, Copy, Debug, PartialEq, Eq)]
+pub struct WriteFault;
+
+/// A fault, and its place: the length in bytes of the shortest front of the input that shows it.
+#[derive(Clone, Copy, Debug, PartialEq, Eq)]
+pub struct FaultAt {
+    pub fault: Fault,
+    pub at: u64,
+}
+
+/// Why reading stops: the input has a fault, or memory is wanting.
+#[derive(Clone, Copy, Debug, PartialEq, Eq)]
+pub enum Stop {
+    Fault(FaultAt),
+    NoMemory,
+}
+
+impl From<NoMemory> for Stop {
+    fn from(_: NoMemory) -> Stop {
+        Stop::NoMemory
+    }
+}
+
+/// What a piece of input led to: more is wanted, or the file is whole after this many bytes of the piece.
+#[derive(Clone, Copy, Debug, PartialEq, Eq)]
+pub enum Fed {
+    More,
+    Done { used: u64 },
+}
