@@ -1,17 +1,10 @@
 // Why a call stops, and how far a feed came.
 use crate::NoMemory;
-use jpg_spec::Fault;
+use jpg_spec::FaultAt;
 
 /// A write to the output that failed.
 #[derive(Clone, Copy, Debug, PartialEq, Eq)]
 pub struct WriteFault;
-
-/// A fault, and its place: the length in bytes of the shortest front of the input that shows it.
-#[derive(Clone, Copy, Debug, PartialEq, Eq)]
-pub struct FaultAt {
-    pub fault: Fault,
-    pub at: u64,
-}
 
 /// Why reading stops: the input has a fault, or memory is wanting.
 #[derive(Clone, Copy, Debug, PartialEq, Eq)]

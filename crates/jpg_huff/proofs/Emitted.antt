@@ -4,7 +4,7 @@ use Rattle.std.proofs.lemmas.List.{append_assoc, append-nil, take_more_set}
 use Rattle.jpg_base.specs.declared.names.Name.{Name}
 use Rattle.jpg_base.specs.Desk.{DeskState, NoneFell, Rose, AppendsLast, append_last}
 use Rattle.jpg_base.specs.Laws.{AppendsPart, AppendsPart-more, AppendsPart-then, AppendsLast-then, NoneFell-then}
-use Rattle.jpg_huff.specs.declared.buffer.WriteFault.{WriteFault}
+use Rattle.jpg_base.specs.declared.stop.WriteFault.{WriteFault}
 use Rattle.jpg_huff.specs.Out.{Emits, OnlyWrites}
 
 append_last-nil : (outputs : List (Name × List ℕ)) → append_last outputs [] ≡ outputs

@@ -3,12 +3,8 @@ ghost use Rattle.std.specs.Prelude.{◌≡◌, ◌≤◌, ◌<◌, ◌+◌, [], 
 ghost use Rattle.jpg_spec.specs.Bits.{bits_of, stuffed, stuffed_byte, whole_bytes};
 ghost use Rattle.jpg_huff.specs.Out.{Emits, OnlyWrites};
 
-use jpg_base::{Desk, Put};
+use jpg_base::{Desk, Put, WriteFault};
 use std::marker::Model;
-
-/// The output could not be written.
-#[derive(Clone, Copy, Debug, PartialEq, Eq)]
-pub struct WriteFault;
 
 #[derive(Drop)]
 pub(crate) struct Buffer {

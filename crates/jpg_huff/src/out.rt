@@ -4,9 +4,8 @@ ghost use Rattle.jpg_spec.specs.Bits.{bits_of};
 ghost use Rattle.jpg_huff.specs.Out.{OnlyWrites};
 ghost use Rattle.jpg_huff.specs.BitOut.{Puts, Pads, Sends, nothing_waits};
 
-use crate::WriteFault;
 use crate::buffer::Buffer;
-use jpg_base::Desk;
+use jpg_base::{Desk, WriteFault};
 use std::marker::Model;
 
 /// Bits and bytes that wait to be written: at most 4,096 bytes, and fewer than 32 bits behind them.

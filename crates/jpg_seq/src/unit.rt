@@ -1,0 +1,280 @@
+//! A unit of a sequential scan, read bit by bit (T.81, F.2.2).
+
+use crate::numbers::extend;
+use crate::symbols::{Judged, judge};
+use jpg_base::{Block, Bounds};
+use jpg_huff::{Table, Walk, WalkStep};
+
+#[derive(Clone, Copy, Debug, PartialEq, Eq)]
+pub enum UnitFault {
+    NoCode,
+    BadSymbol,
+    BadRun,
+    CoefRange,
+}
+
+#[derive(Clone, Copy, Debug, PartialEq, Eq)]
+pub enum UnitStep {
+    More,
+    Done,
+    Fault(UnitFault),
+}
+
+// Which part is in work.
+enum Stage {
+    First,
+    InCode,
+    InNumber,
+}
+
+enum Wants {
+    Another,
+    Enough,
+}
+
+// After an extra bit: more are wanted, or the number is whole.
+enum Extra {
+    Wanting,
+    Whole { run: u8, value: i16 },
+}
+
+/// A unit in work.
+#[derive(Drop)]
+pub struct UnitReader {
+    values: Block,
+    at: u8,
+    walk: Walk,
+    run: u8,
+    size: u8,
+    have: u8,
+    number: u32,
+}
+
+fn sum(a: i16, b: i16) -> i32
+{
+    i32::from(a) + i32::from(b)
+}
+
+fn narrow(x: i32) -> i16
+{
+    x as i16
+}
+
+impl UnitReader {
+    // a bit of a code
+    fn walk_bit(&mut self, table: &Table, bit: bool) -> WalkStep
+    {
+        self.walk.bit(table, bit)
+    }
+
+    // zeros
+    fn cover(&mut self, count: u8)
+    {
+        self.at += count;
+    }
+
+    // zeros and a value
+    fn place(&mut self, run: u8, value: i16)
+    {
+        self.values.set(self.at + run, value);
+        self.at += run + 1;
+    }
+
+    // how many values are left
+    fn left(&self) -> u8
+    {
+        64 - self.at
+    }
+
+    // a number of this size begins, or none
+    fn begin(&mut self, run: u8, size: u8)
+    {
+        self.run = run;
+        self.size = size;
+        self.have = 0;
+        self.number = 0;
+    }
+
+    // an extra bit
+    fn push_extra(&mut self, bit: bool)
+    {
+        self.number = 2 * self.number + u32::from(bit);
+        self.have += 1;
+    }
+
+    fn wants_more(&self) -> Wants
+    {
+        if self.have < self.size {
+            Wants::Another
+        } else {
+            Wants::Enough
+        }
+    }
+
+    // the number whose extra bits are whole
+    fn whole_number(&self) -> i16
+    {
+        extend(self.size, self.number)
+    }
+
+    fn stage(&self) -> Stage
+    {
+        if self.size > 0 {
+            Stage::InNumber
+        } else if self.at == 0 {
+            Stage::First
+        } else {
+            Stage::InCode
+        }
+    }
+
+    // whether values are left
+    fn covered(&self) -> UnitStep
+    {
+        if self.at == 64 {
+            UnitStep::Done
+        } else {
+            UnitStep::More
+        }
+    }
+
+    // an extra bit, and the number where it is the last
+    fn extra_bit(&mut self, bit: bool) -> Extra
+    {
+        self.push_extra(bit);
+        match self.wants_more() {
+            Wants::Another => Extra::Wanting,
+            Wants::Enough => {
+                let value = self.whole_number();
+                let run = self.kept_run();
+                self.begin(0, 0);
+                Extra::Whole { run, value }
+            }
+        }
+    }
+
+    fn kept_run(&self) -> u8
+    {
+        self.run
+    }
+
+    // the first value, by its difference
+    fn first(&mut self, bounds: &Bounds, prediction: i16, difference: i16) -> UnitStep
+    {
+        let first = sum(prediction, difference);
+        if first < bounds.dc_low {
+            UnitStep::Fault(UnitFault::CoefRange)
+        } else if first > bounds.dc_high {
+            UnitStep::Fault(UnitFault::CoefRange)
+        } else {
+            self.place(0, narrow(first));
+            UnitStep::More
+        }
+    }
+
+    // a bit of the first value's code
+    fn first_code_bit(
+        &mut self,
+        bounds: &Bounds,
+        dc: &Table,
+        prediction: i16,
+        bit: bool,
+    ) -> UnitStep
+    {
+        match self.walk_bit(dc, bit) {
+            WalkStep::More => UnitStep::More,
+            WalkStep::NoCode => UnitStep::Fault(UnitFault::NoCode),
+            WalkStep::Symbol(size) => {
+                if size > bounds.dc_cat {
+                    UnitStep::Fault(UnitFault::BadSymbol)
+                } else if size == 0 {
+                    self.first(bounds, prediction, 0)
+                } else {
+                    self.begin(0, size);
+                    UnitStep::More
+                }
+            }
+        }
+    }
+
+    // a bit of an element's code
+    fn code_bit(&mut self, bounds: &Bounds, ac: &Table, bit: bool) -> UnitStep
+    {
+        match self.walk_bit(ac, bit) {
+            WalkStep::More => UnitStep::More,
+            WalkStep::NoCode => UnitStep::Fault(UnitFault::NoCode),
+            WalkStep::Symbol(symbol) => {
+                let left = self.left();
+                match judge(bounds, left, symbol) {
+                    Judged::BadSymbol => UnitStep::Fault(UnitFault::BadSymbol),
+                    Judged::BadRun => UnitStep::Fault(UnitFault::BadRun),
+                    Judged::Value { run, size } => {
+                        self.begin(run, size);
+                        UnitStep::More
+                    }
+                    Judged::LongRun => {
+                        self.cover(left.min(16));
+                        self.covered()
+                    }
+                    Judged::End => {
+                        self.cover(left);
+                        self.covered()
+                    }
+                }
+            }
+        }
+    }
+
+    // a bit behind a code
+    fn number_bit(&mut self, bounds: &Bounds, prediction: i16, bit: bool) -> UnitStep
+    {
+        match self.extra_bit(bit) {
+            Extra::Wanting => UnitStep::More,
+            Extra::Whole { run, value } => match self.stage() {
+                Stage::First => self.first(bounds, prediction, value),
+                Stage::InCode => {
+                    self.place(run, value);
+                    self.covered()
+                }
+                Stage::InNumber => UnitStep::More,
+            },
+        }
+    }
+
+    /// Takes one more bit of a unit.
+    pub fn bit(
+        &mut self,
+        bounds: &Bounds,
+        dc: &Table,
+        ac: &Table,
+        prediction: i16,
+        bit: bool,
+    ) -> UnitStep
+    {
+        match self.stage() {
+            Stage::First => self.first_code_bit(bounds, dc, prediction, bit),
+            Stage::InCode => self.code_bit(bounds, ac, bit),
+            Stage::InNumber => self.number_bit(bounds, prediction, bit),
+        }
+    }
+
+    /// Before the first bit of a unit.
+    pub fn new() -> UnitReader
+    {
+        UnitReader {
+            values: Block::zero(),
+            at: 0,
+            walk: Walk::new(),
+            run: 0,
+            size: 0,
+            have: 0,
+            number: 0,
+        }
+    }
+
+    /// The whole block.
+    pub fn block(&self) -> Block
+    {
+        self.values
+    }
+}
