@@ -3,3 +3,4 @@ pub mod Levels
 pub mod Packed
 pub mod Steps
 pub mod Tests
+pub mod Tables
