@@ -4,3 +4,5 @@ pub mod Packed
 pub mod Steps
 pub mod Tests
 pub mod Tables
+pub mod Putting
+pub mod Buffers

@@ -2,6 +2,7 @@
 use Rattle.std.proofs.Common.{◌≡◌, ℕ, zero, suc, ◌+◌, ◌-◌, ◌*◌, ◌<◌, ◌≤◌, List, [], ◌∷◌, ◌++◌, length, take, drop, refl, sym, ap, ◌∙◌, arith, add-one}
 use Rattle.std.specs.List.{sum}
 use Rattle.std.proofs.lemmas.List.Sums.{sum_by-cons}
+use Rattle.jpg_spec.specs.Bits.{bits_of}
 use Rattle.jpg_spec.specs.Codes.{Code, codes, codes_at, codes_from}
 use Rattle.jpg_huff.specs.Tables.{symbol_codes}
 use Rattle.jpg_huff.specs.declared.table.Table.{Table}
@@ -10,12 +11,25 @@ level_take : (k n len c : ℕ) (symbols : List ℕ) → k ≤ n → codes_at k l
 level_take zero n len c symbols h = refl
 level_take (suc k) zero len c symbols h = absurd (omega arith)
 level_take (suc k) (suc n) len c [] h = refl
-level_take (suc k) (suc n) len c (s ∷ symbols) h = ap (λ (l : List Code). _ ∷ l) (level_take k n len (c + 1) symbols (omega arith))
+level_take (suc k) (suc n) len c (s ∷ symbols) h = ap (λ (l : List Code). (let first : Code = (bits_of len c, s) in first ∷ l)) (level_take k n len (c + 1) symbols (omega arith))
+
+take_none : (n : ℕ) → take {A = ℕ} n [] ≡ []
+take_none zero = refl
+take_none (suc n) = refl
+
+drop_none : (n : ℕ) → drop {A = ℕ} n [] ≡ []
+drop_none zero = refl
+drop_none (suc n) = refl
+
+none_of : (a b c : ℕ) → drop {A = ℕ} b (take a []) ≡ take c (drop b [])
+none_of a b c = ap (drop b) (take_none a) ∙ drop_none b ∙ sym (take_none c) ∙ ap (take c) (sym (drop_none b))
 
 drop_take : (k m : ℕ) (xs : List ℕ) → drop k (take (k + m) xs) ≡ take m (drop k xs)
-drop_take zero m xs = search arith
-drop_take (suc k) m [] = search arith
-drop_take (suc k) m (x ∷ xs) = search (arith, drop_take k m xs)
+drop_take zero m xs = let e : 0 + m ≡ m = omega arith in ap (λ n. take n xs) e
+drop_take (suc k) m [] = none_of (suc k + m) (suc k) m
+drop_take (suc k) m (x ∷ xs) =
+    let e : suc k + m ≡ suc (k + m) = omega arith in
+    ap (λ n. drop (suc k) (take n (x ∷ xs))) e ∙ drop_take k m xs
 
 levels_take : (counts : List ℕ) (len c : ℕ) (symbols : List ℕ) → codes_from len c counts (take (sum counts) symbols) ≡ codes_from len c counts symbols
 levels_take [] len c symbols = refl
