@@ -2,7 +2,8 @@
 use Rattle.std.proofs.Common.{◌≡◌, ℕ, ◌+◌, ◌<◌, ◌≤◌, List, [], ◌∷◌, ◌++◌, length, take, set, Option, None, Some, Result, Ok, Err, refl, sym, ap, ◌∙◌, subst, arith}
 use Rattle.std.proofs.lemmas.List.{append_assoc, append-nil, take_more_set}
 use Rattle.jpg_base.specs.declared.names.Name.{Name}
-use Rattle.jpg_base.specs.Desk.{DeskState, NoneFell, Rose, AppendsLast, append_last}
+use Rattle.jpg_base.specs.Desk.{DeskState, NoneFell, Rose, AppendsLast, append_last, Writes}
+use Rattle.jpg_base.specs.declared.names.Put.TheVariants.{Done, Failed}
 use Rattle.jpg_base.specs.Laws.{AppendsPart, AppendsPart-more, AppendsPart-then, AppendsLast-then, NoneFell-then}
 use Rattle.jpg_base.specs.declared.stop.WriteFault.{WriteFault}
 use Rattle.jpg_huff.specs.Out.{Emits, OnlyWrites}
@@ -56,3 +57,14 @@ OnlyWrites-then a b c h k =
       input_open = k.input_open ∙ h.input_open;
       output_created = k.output_created ∙ h.output_created;
     }
+
+-- what is written at once, where nothing waits
+pub emits_written : (s0 s1 : DeskState) (piece : List ℕ) → Writes s0 piece Done s1 → Emits s0 [] piece (Ok tt) [] s1
+emits_written s0 s1 piece w = (piece, w.after, sym (append-nil piece))
+
+pub emits_unwritten : (s0 s1 : DeskState) (piece : List ℕ) (fault : WriteFault) → Writes s0 piece Failed s1 → Emits s0 [] piece (Err fault) [] s1
+emits_unwritten s0 s1 piece fault w = (w.after.1, refl, w.after.0)
+
+-- room was made, and more waits or a fault came
+pub emits_more : (s0 s1 : DeskState) (old mid more new : List ℕ) → Emits s0 old [] (Ok tt) mid s1 → new ≡ mid ++ more → Emits s0 old more (Ok tt) new s1
+emits_more s0 s1 old mid more new h e = (h.0, h.1, ap (λ x. x ++ more) (sym (append-nil old) ∙ h.2) ∙ append_assoc h.0 mid more ∙ ap (λ x. h.0 ++ x) (sym e))

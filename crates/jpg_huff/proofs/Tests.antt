@@ -79,8 +79,8 @@ same_bit false false = true
 abbrev same_bits : List Bool → List Bool → Bool
 same_bits [] [] = true
 same_bits [] (b ∷ bs) = false
-same_bits (a ∷ as) [] = false
-same_bits (a ∷ as) (b ∷ bs) = same_bit a b && same_bits as bs
+same_bits (a ∷ more) [] = false
+same_bits (a ∷ more) (b ∷ bs) = same_bit a b && same_bits more bs
 
 abbrev same_code : Option (List Bool) → Option (List Bool) → Bool
 same_code None None = true

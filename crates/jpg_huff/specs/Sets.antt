@@ -1,13 +1,15 @@
 -- What is seen of a set of tables.
-use Rattle.std.specs.Prelude.{ℕ, zero, suc, List, [], ◌∷◌, Option, None, Some, replicate}
+use Rattle.std.specs.Prelude.{ℕ, List, [], ◌∷◌, Option, None, Some, slice_get}
 use Rattle.jpg_huff.specs.declared.table.Table.{Table}
 use Rattle.jpg_huff.specs.declared.set.TableSet.{TableSet}
 
 -- the table in a slot, if any
+abbrev pub joined : Option (Option Table) → Option Table
+joined None = None
+joined (Some table) = table
+
 abbrev pub in_slot : List (Option Table) → ℕ → Option Table
-in_slot [] slot = None
-in_slot (table ∷ tables) zero = table
-in_slot (table ∷ tables) (suc slot) = in_slot tables slot
+in_slot tables slot = joined (slice_get tables slot)
 
 -- the four slots for DC tables, and the four for AC tables
 abbrev pub dc_tables : TableSet → List (Option Table)

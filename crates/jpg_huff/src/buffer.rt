@@ -117,9 +117,9 @@ impl Buffer {
         }
     }
 
-    // The 32 bits of a word.
+    // The low 32 bits of a word.
     #[inline(always)]
-    pub(crate) fn push_word<D: Desk>(&mut self, word: u32, desk: &mut D) -> Result<(), WriteFault>
+    pub(crate) fn push_word<D: Desk>(&mut self, word: u64, desk: &mut D) -> Result<(), WriteFault>
         requires { (D.state desk.old).output_created ≡ true }
         ensures kept { OnlyWrites (D.state desk.old) (D.state desk.new) }
         ensures emits { Emits (D.state desk.old) self.old (stuffed (whole_bytes (bits_of 32 word))) result self.new (D.state desk.new) }
@@ -127,12 +127,11 @@ impl Buffer {
         match self.make_room(8, desk) {
             Err(fault) => Err(fault),
             Ok(()) => {
-                self.add_word(
-                    (word >> 24) as u8,
-                    (word >> 16) as u8,
-                    (word >> 8) as u8,
-                    word as u8,
-                );
+                let a = ((word >> 24) % 256) as u8;
+                let b = ((word >> 16) % 256) as u8;
+                let c = ((word >> 8) % 256) as u8;
+                let d = (word % 256) as u8;
+                self.add_word(a, b, c, d);
                 Ok(())
             }
         }
@@ -147,7 +146,7 @@ impl Buffer {
         let mut left = count;
         while left >= 8 {
             left -= 8;
-            self.add_stuffed((word >> left) as u8);
+            self.add_stuffed(((word >> left) % 256) as u8);
         }
     }
 

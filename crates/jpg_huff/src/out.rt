@@ -58,7 +58,7 @@ impl BitOut {
             Ok(())
         } else {
             let left = total - 32;
-            match self.buffer.push_word((all >> left) as u32, desk) {
+            match self.buffer.push_word(all >> left, desk) {
                 Ok(()) => {
                     self.word = all % (1 << left);
                     self.count = left;

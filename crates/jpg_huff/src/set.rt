@@ -30,7 +30,8 @@ impl TableSet {
     {
         match self.dc.get(slot as usize) {
             Some(Some(table)) => Some(table),
-            _ => None,
+            Some(None) => None,
+            None => None,
         }
     }
 
@@ -40,7 +41,8 @@ impl TableSet {
     {
         match self.ac.get(slot as usize) {
             Some(Some(table)) => Some(table),
-            _ => None,
+            Some(None) => None,
+            None => None,
         }
     }
 

@@ -1,0 +1,142 @@
+-- What putting bits comes to.
+use Rattle.std.proofs.Common.{◌≡◌, ℕ, zero, suc, ◌+◌, ◌-◌, ◌*◌, ◌/◌, ◌%◌, ◌^◌, ◌<◌, ◌≤◌, Bool, true, false, List, [], ◌∷◌, ◌++◌, length, replicate, Result, Ok, Err, refl, sym, ap, ◌∙◌, subst, arith, ◌==◌}
+use Rattle.std.proofs.lemmas.List.{append_assoc, append-nil, length-append}
+use Rattle.std.proofs.lemmas.Nat.{shl_whole, one_shl, shr_split, mul-add-lt, pow-add, pow_below, pow_pos, mod_below}
+use Rattle.std.proofs.Math.Nat.{pow-succ'}
+use Rattle.std.specs.List.{flat_map}
+use Rattle.jpg_base.specs.Desk.{DeskState}
+use Rattle.jpg_spec.specs.Bits.{bits_of, whole_bytes, padded, data_of, stuffed, stuffed_byte}
+use Rattle.jpg_huff.specs.declared.buffer.WriteFault.{WriteFault}
+use Rattle.jpg_huff.specs.Out.{Emits, OnlyWrites}
+use Rattle.jpg_huff.specs.Waiting.{Waiting}
+use Rattle.jpg_huff.specs.BitOut.{Puts, Pads}
+use Rattle.jpg_spec.proofs.Strings.{length-bits_of}
+use Rattle.jpg_huff.proofs.Emitted.{emits_then, emits_fault, emits_nothing}
+use Rattle.jpg_huff.proofs.Packed.{bits_of-add, bits_of-beside, bits_of-low, whole_bytes-front, whole_bytes-few}
+
+-- a byte of the low `left` bits, and those behind it
+pub whole_step : (left n : ℕ) → 8 ≤ left → stuffed (whole_bytes (bits_of left n)) ≡ stuffed_byte (n / 2 ^ (left - 8) % 256) ++ stuffed (whole_bytes (bits_of (left - 8) n))
+whole_step left n h =
+    let e : left ≡ 8 + (left - 8) = omega arith in
+    ap stuffed (ap (λ m. whole_bytes (bits_of m n)) e ∙ ap whole_bytes (bits_of-add 8 (left - 8) n) ∙ whole_bytes-front (n / 2 ^ (left - 8)) (bits_of (left - 8) n))
+
+-- four bytes of 32 bits
+pub word_bytes : (n : ℕ) → whole_bytes (bits_of 32 n) ≡ n / 2 ^ 24 % 256 ∷ n / 2 ^ 16 % 256 ∷ n / 2 ^ 8 % 256 ∷ n % 256 ∷ []
+unfolding whole_bytes
+word_bytes n =
+    let a : whole_bytes (bits_of (8 + 24) n) ≡ n / 2 ^ 24 % 256 ∷ whole_bytes (bits_of 24 n) = ap whole_bytes (bits_of-add 8 24 n) ∙ whole_bytes-front (n / 2 ^ 24) (bits_of 24 n) in
+    let b : whole_bytes (bits_of (8 + 16) n) ≡ n / 2 ^ 16 % 256 ∷ whole_bytes (bits_of 16 n) = ap whole_bytes (bits_of-add 8 16 n) ∙ whole_bytes-front (n / 2 ^ 16) (bits_of 16 n) in
+    let c : whole_bytes (bits_of (8 + 8) n) ≡ n / 2 ^ 8 % 256 ∷ whole_bytes (bits_of 8 n) = ap whole_bytes (bits_of-add 8 8 n) ∙ whole_bytes-front (n / 2 ^ 8) (bits_of 8 n) in
+    let d : whole_bytes (bits_of 8 n) ≡ n % 256 ∷ [] = ap whole_bytes (sym (append-nil (bits_of 8 n))) ∙ whole_bytes-front n [] in
+    a ∙ ap (λ l. n / 2 ^ 24 % 256 ∷ l) (b ∙ ap (λ l. n / 2 ^ 16 % 256 ∷ l) (c ∙ ap (λ l. n / 2 ^ 8 % 256 ∷ l) d))
+
+-- the number of all bits
+pub number_is : (a c k b v : ℕ) → a < 2 ^ c → c < 32 → k ≤ 24 → v ≡ b → (a * 2 ^ k) % 2 ^ 64 + v ≡ a * 2 ^ k + b
+number_is a c k b v h1 h2 h3 e = ap (λ x. x + v) (shl_whole a c k 64 h1 (omega arith)) ∙ ap (λ x. a * 2 ^ k + x) e
+
+pub number_fits : (a c k b n : ℕ) → a < 2 ^ c → b < 2 ^ k → n ≡ a * 2 ^ k + b → n < 2 ^ (c + k)
+number_fits a c k b n h1 h4 e =
+    let f : a * 2 ^ k + b < 2 ^ k * 2 ^ c = mul-add-lt a (2 ^ k) b (2 ^ c) h1 h4 in
+    let p : 2 ^ (k + c) ≡ 2 ^ k * 2 ^ c = pow-add 2 k c in
+    let q : c + k ≡ k + c = omega arith in
+    let r : 2 ^ (c + k) ≡ 2 ^ (k + c) = ap (λ m. 2 ^ m) q in
+    omega arith
+
+pub number_small : (t n : ℕ) → n < 2 ^ t → t < 64 → n < 2 ^ 64
+number_small t n h l = let q = pow_below t 64 l in omega arith
+
+pub low_fits : (t n : ℕ) → t < 64 → n % ((1 * 2 ^ t) % 2 ^ 64) < 2 ^ t
+low_fits t n l =
+    let p : (1 * 2 ^ t) % 2 ^ 64 ≡ 2 ^ t = one_shl t 64 l in
+    let P : ℕ → Type 0 = λ m. n % m < 2 ^ t in
+    subst P (sym p) (mod_below n (2 ^ t) (pow_pos t))
+
+all_bits : (a c k b n : ℕ) → b < 2 ^ k → n ≡ a * 2 ^ k + b → bits_of (c + k) n ≡ bits_of c a ++ bits_of k b
+all_bits a c k b n h e = ap (bits_of (c + k)) e ∙ bits_of-beside c k a b h
+
+-- those that stay
+low_bits : (t n : ℕ) → t < 64 → bits_of t (n % ((1 * 2 ^ t) % 2 ^ 64)) ≡ bits_of t n
+low_bits t n l =
+    let p : (1 * 2 ^ t) % 2 ^ 64 ≡ 2 ^ t = one_shl t 64 l in
+    ap (λ m. bits_of t (n % m)) p ∙ sym (bits_of-low t (n / 2 ^ t) (n % 2 ^ t)) ∙ ap (bits_of t) (shr_split n t)
+
+-- the first 32 bits and those behind them
+cut_bits : (a c k b n : ℕ) → b < 2 ^ k → n ≡ a * 2 ^ k + b → 32 ≤ c + k → bits_of c a ++ bits_of k b ≡ bits_of 32 (n / 2 ^ (c + k - 32)) ++ bits_of (c + k - 32) n
+cut_bits a c k b n h e l =
+    let t : c + k ≡ 32 + (c + k - 32) = omega arith in
+    sym (all_bits a c k b n h e) ∙ ap (λ m. bits_of m n) t ∙ bits_of-add 32 (c + k - 32) n
+
+pub puts_held : (s : DeskState) (old : Waiting) (held : List ℕ) (a c k b n : ℕ) → record { bytes = held; bits = bits_of c a } ≡ old → b < 2 ^ k → n ≡ a * 2 ^ k + b
+    → Puts s old (bits_of k b) (Ok tt) (record { bytes = held; bits = bits_of (c + k) n }) s
+unfolding whole_bytes
+puts_held s old held a c k b n view h e =
+    let Q : Waiting → Type 0 = λ w. Puts s w (bits_of k b) (Ok tt) (record { bytes = held; bits = bits_of (c + k) n }) s in
+    subst Q view (record {
+      front = [];
+      rest = bits_of (c + k) n;
+      all = sym (all_bits a c k b n h e);
+      whole = (0, refl);
+      bytes = emits_nothing s held;
+      behind = refl;
+    })
+
+pub puts_out : (s0 s1 : DeskState) (old : Waiting) (held new : List ℕ) (a c k b n : ℕ) → record { bytes = held; bits = bits_of c a } ≡ old → b < 2 ^ k → n ≡ a * 2 ^ k + b → 32 ≤ c + k → c + k < 64
+    → Emits s0 held (stuffed (whole_bytes (bits_of 32 (n / 2 ^ (c + k - 32))))) (Ok tt) new s1
+    → Puts s0 old (bits_of k b) (Ok tt) (record { bytes = new; bits = bits_of (c + k - 32) (n % ((1 * 2 ^ (c + k - 32)) % 2 ^ 64)) }) s1
+puts_out s0 s1 old held new a c k b n view h e l m emits =
+    let Q : Waiting → Type 0 = λ w. Puts s0 w (bits_of k b) (Ok tt) (record { bytes = new; bits = bits_of (c + k - 32) (n % ((1 * 2 ^ (c + k - 32)) % 2 ^ 64)) }) s1 in
+    subst Q view (record {
+      front = bits_of 32 (n / 2 ^ (c + k - 32));
+      rest = bits_of (c + k - 32) n;
+      all = cut_bits a c k b n h e l;
+      whole = (4, length-bits_of 32 (n / 2 ^ (c + k - 32)));
+      bytes = emits;
+      behind = low_bits (c + k - 32) n (omega arith);
+    })
+
+pub puts_fault : (s0 s1 : DeskState) (old : Waiting) (held new : List ℕ) (a c k b n : ℕ) (fault : WriteFault) → record { bytes = held; bits = bits_of c a } ≡ old → b < 2 ^ k → n ≡ a * 2 ^ k + b → 32 ≤ c + k
+    → Emits s0 held (stuffed (whole_bytes (bits_of 32 (n / 2 ^ (c + k - 32))))) (Err fault) new s1
+    → Puts s0 old (bits_of k b) (Err fault) (record { bytes = new; bits = bits_of 0 0 }) s1
+unfolding bits_of
+puts_fault s0 s1 old held new a c k b n fault view h e l emits =
+    let Q : Waiting → Type 0 = λ w. Puts s0 w (bits_of k b) (Err fault) (record { bytes = new; bits = [] }) s1 in
+    subst Q view (record {
+      front = bits_of 32 (n / 2 ^ (c + k - 32));
+      rest = bits_of (c + k - 32) n;
+      all = cut_bits a c k b n h e l;
+      whole = (4, length-bits_of 32 (n / 2 ^ (c + k - 32)));
+      bytes = emits;
+      behind = refl;
+    })
+
+-- ones at the end
+replicate_push : (f : ℕ) → replicate f true ++ true ∷ [] ≡ true ∷ replicate f true
+replicate_push zero = refl
+replicate_push (suc f) = ap (λ (l : List Bool). true ∷ l) (replicate_push f)
+
+ones : (f : ℕ) → bits_of f (2 ^ f - 1) ≡ replicate f true
+unfolding bits_of
+ones zero = refl
+ones (suc f) =
+    let p : 2 ^ suc f ≡ 2 * 2 ^ f = pow-succ' 2 f in
+    let q : 0 < 2 ^ f = pow_pos f in
+    let h : (2 ^ suc f - 1) / 2 ≡ 2 ^ f - 1 = omega arith in
+    let r : (2 ^ suc f - 1) % 2 ≡ 1 = omega arith in
+    ap (λ m. bits_of f m ++ ((2 ^ suc f - 1) % 2 == 1) ∷ []) h ∙ ap (λ m. bits_of f (2 ^ f - 1) ++ (m == 1) ∷ []) r ∙ ap (λ (x : List Bool). x ++ true ∷ []) (ones f) ∙ replicate_push f
+
+pub pad_number : (a c f : ℕ) → a < 2 ^ c → c < 32 → f < 8 → (a * 2 ^ f) % 2 ^ 64 + ((1 * 2 ^ f) % 2 ^ 64 - 1) ≡ a * 2 ^ f + (2 ^ f - 1)
+pad_number a c f h1 h2 h3 = number_is a c f (2 ^ f - 1) ((1 * 2 ^ f) % 2 ^ 64 - 1) h1 h2 (omega arith) (ap (λ m. m - 1) (one_shl f 64 (omega arith)))
+
+pub pads : (s0 s1 : DeskState) (old : Waiting) (held new : List ℕ) (r : Result (Unit {0}) WriteFault) (a c n : ℕ) → record { bytes = held; bits = bits_of c a } ≡ old → n ≡ a * 2 ^ ((8 - c % 8) % 8) + (2 ^ ((8 - c % 8) % 8) - 1)
+    → Emits s0 held (stuffed (whole_bytes (bits_of (c + (8 - c % 8) % 8) n))) r new s1
+    → Pads s0 old r (record { bytes = new; bits = bits_of 0 0 }) s1
+unfolding bits_of
+pads s0 s1 old held new r a c n view e emits =
+    let f = (8 - c % 8) % 8 in
+    let q : 0 < 2 ^ f = pow_pos f in
+    let Q : Waiting → Type 0 = λ w. Pads s0 w r (record { bytes = new; bits = [] }) s1 in
+    let P : List Bool → Type 0 = λ x. Emits s0 held (stuffed (whole_bytes x)) r new s1 in
+    let l : length (bits_of c a) ≡ c = length-bits_of c a in
+    let all : bits_of (c + f) n ≡ padded (bits_of c a) =
+    all_bits a c f (2 ^ f - 1) n (omega arith) e ∙ ap (λ x. bits_of c a ++ x) (ones f ∙ ap (λ m. replicate ((8 - m % 8) % 8) true) (sym l)) in
+    subst Q view (record { bytes = subst P all emits; none = refl })

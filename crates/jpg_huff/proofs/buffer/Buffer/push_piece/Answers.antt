@@ -1,0 +1,26 @@
+use Rattle.std.proofs.Common.{[], ◌≡◌, ◌++◌, ap, sym, ◌∙◌, subst, List, ℕ, Ok, Err, arith}
+use Rattle.jpg_huff.specs.Out.{Emits, OnlyWrites}
+use Rattle.jpg_huff.proofs.Emitted.{emits_fault, emits_then, emits_written, emits_unwritten}
+use Rattle.jpg_huff.proofs.Buffers.{none_left}
+use Rattle.jpg_huff.proofs.buffer.Buffer.push_piece.Goals as goal
+
+pub returns-in-Err-clause-emits : goal.returns-in-Err-clause-emits
+returns-in-Err-clause-emits g c =
+    let state = g.D.Desk.state in
+    emits_fault (state c.args.desk.now) (state c.make_room.new.desk) c.args.self.now [] c.args.piece.now c.make_room.new.self c.in-Err.fault c.in-Err.ensures.emits
+
+pub returns-in-Done-clause-emits : goal.returns-in-Done-clause-emits
+returns-in-Done-clause-emits g c =
+    let state = g.D.Desk.state in
+    let n : c.make_room.new.self ≡ [] = none_left c.make_room.new.self (omega (arith, c.in-Ok.ensures.room, c.min.ensures, c.if-piece-le4096.false)) in
+    let P : List ℕ → Type 0 = λ mid. Emits (state c.make_room.new.desk) mid c.args.piece.now (Ok tt) mid (state c.write.new.self) in
+    emits_then (state c.args.desk.now) (state c.make_room.new.desk) (state c.write.new.self) c.args.self.now [] c.make_room.new.self c.args.piece.now c.make_room.new.self (Ok tt)
+    c.in-Ok.ensures.kept c.in-Ok.ensures.emits (subst P (sym n) (emits_written (state c.make_room.new.desk) (state c.write.new.self) c.args.piece.now c.in-Done.ensures))
+
+pub returns-in-Failed-clause-emits : goal.returns-in-Failed-clause-emits
+returns-in-Failed-clause-emits g c =
+    let state = g.D.Desk.state in
+    let n : c.make_room.new.self ≡ [] = none_left c.make_room.new.self (omega (arith, c.in-Ok.ensures.room, c.min.ensures, c.if-piece-le4096.false)) in
+    let P : List ℕ → Type 0 = λ mid. Emits (state c.make_room.new.desk) mid c.args.piece.now (Err (record {})) mid (state c.write.new.self) in
+    emits_then (state c.args.desk.now) (state c.make_room.new.desk) (state c.write.new.self) c.args.self.now [] c.make_room.new.self c.args.piece.now c.make_room.new.self (Err (record {}))
+    c.in-Ok.ensures.kept c.in-Ok.ensures.emits (subst P (sym n) (emits_unwritten (state c.make_room.new.desk) (state c.write.new.self) c.args.piece.now (record {}) c.in-Failed.ensures))
