@@ -4,7 +4,7 @@ ghost use Rattle.std.specs.Prelude.{◌≡◌, ◌<◌, pos, replicate, slice_in
 use std::marker::Model;
 
 /// 64 numbers in zigzag order: place 0 is the DC, places 1 to 63 are the AC (T.81, A.3.6).
-#[derive(Clone, Copy)]
+#[derive(Clone, Copy, Debug, PartialEq, Eq)]
 pub struct Block {
     values: [i16; 64],
 }

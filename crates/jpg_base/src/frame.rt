@@ -5,8 +5,8 @@ ghost use Rattle.jpg_spec.specs.FrameHeader.{AreLimits, HasFactors, IsFrame, che
 ghost use Rattle.jpg_base.specs.Frame.{numbers_of};
 
 use crate::frame_checks::{
-    greatest_h, greatest_v, has_more_blocks, has_same_ids, has_wrong_factors, has_wrong_slots,
-    is_empty, is_larger, mcu_side, padded_side, real_side,
+    greatest_h, greatest_v, has_more_blocks, has_same_ids, has_wrong_count, has_wrong_factors,
+    has_wrong_slots, is_empty, is_larger, is_unread, mcu_side, padded_side, real_side,
 };
 use arrayvec::ArrayVec;
 use jpg_spec::{Bounds, Component, Fault, Grid, Limits, Process};
@@ -38,6 +38,7 @@ impl Model for Frame {
 }
 
 impl Frame {
+    #[tactic(auto, unfolding(jpg_spec::specs::FrameHeader::checked_frame))]
     /// The frame of these numbers, or the first fault that forbids it, in this order: EmptyImage
     /// (a side is 0), TooLarge (a side above `limits.side`), Precision (not 8), ComponentCount
     /// (not one to four), Sampling (a factor not 1 to 4), DuplicateComponent (two equal
@@ -60,10 +61,10 @@ impl Frame {
         if is_larger(width, height, limits.side) {
             return Err(Fault::TooLarge);
         }
-        if precision != 8 {
+        if is_unread(precision) {
             return Err(Fault::Precision);
         }
-        if components.is_empty() || components.len() > 4 {
+        if has_wrong_count(components) {
             return Err(Fault::ComponentCount);
         }
         if has_wrong_factors(components) {
@@ -78,14 +79,12 @@ impl Frame {
         if has_more_blocks(width, height, components, limits.blocks) {
             return Err(Fault::TooManyBlocks);
         }
-        let mut kept = ArrayVec::new();
-        let _ = kept.try_extend_from_slice(components);
         Ok(Frame {
             process,
             precision,
             width,
             height,
-            components: kept,
+            components: kept(components),
             h_max: greatest_h(components),
             v_max: greatest_v(components),
         })
@@ -95,14 +94,12 @@ impl Frame {
     pub fn copy(&self) -> Frame
         ensures { result ≡ self.now }
     {
-        let mut components = ArrayVec::new();
-        let _ = components.try_extend_from_slice(self.components.as_slice());
         Frame {
             process: self.process,
             precision: self.precision,
             width: self.width,
             height: self.height,
-            components,
+            components: kept(self.components.as_slice()),
             h_max: self.h_max,
             v_max: self.v_max,
         }
@@ -229,4 +226,14 @@ impl Frame {
             al: 10,
         }
     }
+}
+
+/// The components in a list of their own.
+fn kept(components: &[Component]) -> ArrayVec<Component, 4>
+    requires { length components.now ≤ 4 }
+    ensures { result.items ≡ components.now }
+{
+    let mut list = ArrayVec::new();
+    let _ = list.try_extend_from_slice(components);
+    list
 }

@@ -19,6 +19,18 @@ pub(crate) fn is_larger(width: u32, height: u32, side: u32) -> bool
     width > side || height > side
 }
 
+pub(crate) fn is_unread(precision: u8) -> bool
+    ensures { result ≡ not (precision == 8) }
+{
+    precision != 8
+}
+
+pub(crate) fn has_wrong_count(components: &[Component]) -> bool
+    ensures { result ≡ (length components.now == 0 || nat_lt 4 (length components.now)) }
+{
+    components.is_empty() || components.len() > 4
+}
+
 fn has_wrong_factor(component: Component) -> bool
     ensures { result ≡ has_bad_factor component }
 {
@@ -128,12 +140,7 @@ fn all_blocks(wide: u32, high: u32, components: &[Component]) -> u64
 }
 
 /// Whether the padded grids of all components hold more blocks than that.
-pub(crate) fn has_more_blocks(
-    width: u32,
-    height: u32,
-    components: &[Component],
-    most: u32,
-) -> bool
+pub(crate) fn has_more_blocks(width: u32, height: u32, components: &[Component], most: u32) -> bool
     requires width { width ≤ 65500 }
     requires height { height ≤ 65500 }
     requires some { 1 ≤ length components.now }

@@ -1,5 +1,6 @@
 // A quantisation table (T.81, B.2.4.1).
-ghost use Rattle.std.specs.Prelude.{◌≡◌, ◌<◌, replicate, slice_index, slice_set, length};
+ghost use Rattle.std.specs.Prelude.{◌≡◌, ◌<◌, replicate, slice_index, slice_set, length, IsTrue, ◌↔◌};
+ghost use Rattle.jpg_spec.specs.Lists.{are_equal};
 ghost use Rattle.jpg_spec.specs.Transposed.{transposed};
 
 use std::marker::Model;
@@ -12,7 +13,7 @@ static EXCHANGED: [u8; 64] = [
 ];
 
 /// 64 quantisers in zigzag order, from 0 to 65535 (T.81, B.2.4.1).
-#[derive(Clone, Copy)]
+#[derive(Clone, Copy, Debug, PartialEq, Eq)]
 pub struct QuantTable {
     values: [u16; 64],
 }
@@ -51,6 +52,14 @@ impl QuantTable {
         ensures long { length self.old ≡ 64 }
     {
         self.values[k as usize] = value;
+    }
+
+    /// Whether the tables have the same quantisers.
+    pub fn is_same(&self, other: &QuantTable) -> bool
+        ensures value { result ≡ are_equal self.now other.now }
+        ensures same { IsTrue result ↔ (self.now ≡ other.now) }
+    {
+        self.values == other.values
     }
 
     /// That it has 64 quantisers, for proofs. It does nothing.

@@ -1,4 +1,6 @@
 // Why a call stops, and how far a feed came.
+ghost use Rattle.std.specs.Prelude.{◌≡◌};
+
 use crate::NoMemory;
 use jpg_spec::FaultAt;
 
@@ -14,6 +16,10 @@ pub enum Stop {
 }
 
 impl From<NoMemory> for Stop {
+    ghost use Rattle.jpg_base.specs.declared.stop.Stop.TheVariants.{NoMemory as wants_memory};
+
+    ghost from_gives = { λ _ stop. stop ≡ wants_memory };
+
     fn from(_: NoMemory) -> Stop {
         Stop::NoMemory
     }

@@ -32,6 +32,7 @@ enum Took {
 }
 
 // What the units of a scan are read by, and how many there are.
+#[derive(Drop)]
 struct Scan<'a> {
     bounds: &'a Bounds,
     dc: &'a Table,
