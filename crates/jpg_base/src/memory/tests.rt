@@ -108,6 +108,8 @@ fn replaces_a_file(rt: HostRuntime) -> Result<(), Fail> {
     assert_eq!(rt; desk.open(&Name::Out), Put::Failed);
     assert_eq!(rt; desk.open(&file(rt.alloc(), "in")?), Put::Failed);
     assert_eq!(rt; desk.counts(), counts(2, 0, 0, 0));
+    let told = desk.asked.as_ref().map_or(0, |asked| asked.len());
+    assert_eq!(rt; told, 4, "the names asked for");
     Ok(())
 }
 
