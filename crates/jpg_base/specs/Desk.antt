@@ -90,12 +90,6 @@ pub record Opens (old : DeskState) (name : Name) (answer : Put) (new : DeskState
   pub said : new.said ≡ old.said
   pub output_created : new.output_created ≡ old.output_created
 
--- a number of bytes is at least one, and at most this
-abbrev pub GivesAtMost : Got → ℕ → Type 0
-GivesAtMost (got.Bytes n) most = (1 ≤ n) × (n ≤ most)
-GivesAtMost got.End most = Unit {0}
-GivesAtMost got.Failed most = Unit {0}
-
 -- the front of the buffer has at least one of the next bytes, or none are left
 abbrev pub AfterRead : DeskState → Got → List ℕ → DeskState → Type 0
 AfterRead old (got.Bytes n) buf new = (1 ≤ n) × (n ≤ length buf) × Consumes old.left new.left (take n buf)

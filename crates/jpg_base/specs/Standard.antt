@@ -1,5 +1,10 @@
 -- What a desk over real files tells: its counts, and whether an input is open and an output was created.
-use Rattle.std.specs.Prelude.{◌≡◌, None, false}
+use Rattle.std.specs.Prelude.{◌≡◌, ℕ, ◌≤◌, List, Option, None, false, length, take}
+use Rattle.std.specs.Io.KnownBytes.{Appends, Consumes, IsAtEnd, Keeps}
+use Rattle.jpg_base.specs.declared.names.Put.{Put}
+use Rattle.jpg_base.specs.declared.names.Put.TheVariants.{Done, Failed}
+use Rattle.jpg_base.specs.declared.names.Got.{Got}
+use Rattle.jpg_base.specs.declared.names.Got.TheVariants as got
 use Rattle.jpg_base.specs.declared.standard.Told.{Told}
 use Rattle.jpg_base.specs.Desk.{DeskState}
 
@@ -20,3 +25,14 @@ pub record TellsNothing (state : DeskState) : Type 0 where
   pub counts : state.counts ≡ record { opens = 0; reads = 0; writes = 0; says = 0 }
   pub input_open : state.input_open ≡ false
   pub output_created : state.output_created ≡ false
+
+-- what a read of a reader answers: the front of the buffer has at least one of the next bytes, or none are left
+abbrev pub ReadsSome : Option (List ℕ) → Got → List ℕ → Option (List ℕ) → Type 0
+ReadsSome old (got.Bytes n) buf new = (1 ≤ n) × (n ≤ length buf) × Consumes old new (take n buf)
+ReadsSome old got.End buf new = IsAtEnd new
+ReadsSome old got.Failed buf new = Keeps old new
+
+-- a writer gained the whole piece, or a first part of it
+abbrev pub WritesAll : Option (List ℕ) → List ℕ → Put → Option (List ℕ) → Type 0
+WritesAll old piece Done new = Appends old new piece
+WritesAll old piece Failed new = (n : ℕ) × Appends old new (take n piece)

@@ -4,6 +4,8 @@ ghost use Rattle.std.specs.Prelude.{◌≡◌, ◌≤◌, ◌<◌, ◌+◌, ◌^
 ghost use Rattle.std.specs.Option.{option_map};
 
 mod parts;
+#[cfg(test)]
+mod tests;
 
 use crate::{Counts, Desk, Got, Name, NoMemory, Put};
 use parts::{add_output, append, give, input_of, is_failing, raise, with_name, write_last};

@@ -1,6 +1,7 @@
 // Real files and the standard streams. It tells nothing but its counts.
 ghost use Rattle.std.specs.Prelude.{◌≡◌, ◌≤◌, ◌<◌, None, true, length};
-ghost use Rattle.jpg_base.specs.Desk.{raised, Rose, GivesAtMost};
+ghost use Rattle.jpg_base.specs.Desk.{raised, Rose};
+ghost use Rattle.jpg_base.specs.Standard.{ReadsSome, WritesAll};
 
 use crate::{Counts, Desk, Got, Name, Put};
 use std::fs;
@@ -71,7 +72,8 @@ impl<R: Runtime> StdDesk<R> {
 
 // One read of at most 2^32 - 1 bytes.
 fn read_some<T: Read>(reader: &mut T, buf: &mut [u8]) -> Got
-    ensures { GivesAtMost result (length buf.new) }
+    requires { 0 < length buf.old }
+    ensures { ReadsSome (T.remaining reader.old) result buf.new (T.remaining reader.new) }
 {
     let most = buf.len().min(u32::MAX as usize);
     match reader.read(&mut buf[..most]) {
@@ -82,7 +84,9 @@ fn read_some<T: Read>(reader: &mut T, buf: &mut [u8]) -> Got
 }
 
 // Writes all the bytes, in as many writes as it takes. A write of nothing is a failure.
-fn write_whole<W: Write>(writer: &mut W, piece: &[u8]) -> Put {
+fn write_whole<W: Write>(writer: &mut W, piece: &[u8]) -> Put
+    ensures { WritesAll (W.contents writer.old) piece.now result (W.contents writer.new) }
+{
     let mut rest = piece;
     while !rest.is_empty() {
         match writer.write(rest) {
