@@ -1,8 +1,9 @@
 //! Sequential scans, read and written (T.81 F.1.2, F.2.2).
 #![tactic(auto)]
 
+mod category;
+mod extend;
 mod list;
-mod numbers;
 mod plain;
 mod symbols;
 mod unit;

@@ -1,6 +1,6 @@
 //! A unit of a sequential scan, read bit by bit (T.81, F.2.2).
 
-use crate::numbers::extend;
+use crate::extend::extend;
 use crate::symbols::{Judged, judge};
 use jpg_base::{Block, Bounds};
 use jpg_huff::{Table, Walk, WalkStep};

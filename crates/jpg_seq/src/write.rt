@@ -1,7 +1,7 @@
 //! The data of a plain scan, written (T.81, F.1.2).
 
 use crate::BlockList;
-use crate::numbers::{category, extra_bits};
+use crate::category::{category, extra_bits};
 use jpg_base::{Block, Desk, Frame, WriteFault};
 use jpg_huff::{BitOut, Table, Typical, typical};
 

@@ -1,4 +1,5 @@
-//! A number's category and its extra bits (T.81, F.1.2.1, F.1.2.2).
+//! A number's category and its extra bits, for writing (T.81, F.1.2.1, F.1.2.2).
+ghost use Rattle.std.specs.Prelude.{◌≤◌};
 
 // The magnitude, without its sign.
 fn magnitude(value: i32) -> u32 {
@@ -24,31 +25,5 @@ pub fn extra_bits(value: i32) -> u32 {
         magnitude
     } else {
         ((1u64 << binary_digits(magnitude)) - 1 - u64::from(magnitude)) as u32
-    }
-}
-
-fn positive(magnitude: u32) -> i16
-    requires { magnitude < 2 ^ 15 }
-{
-    magnitude as i16
-}
-
-fn negative(magnitude: u32) -> i16
-    requires { magnitude < 2 ^ 15 }
-{
-    -(magnitude as i16)
-}
-
-/// The number that has this category and these extra bits (T.81, Figure F.12).
-pub fn extend(size: u8, bits: u32) -> i16
-    requires size { size ≤ 15 }
-    requires bits { bits < 2 ^ size }
-{
-    if size == 0 {
-        0
-    } else if bits >= 1 << (size - 1) {
-        positive(bits)
-    } else {
-        negative((1 << size) - 1 - bits)
     }
 }
