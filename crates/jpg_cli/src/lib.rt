@@ -2,4 +2,5 @@
 #![tactic(auto)]
 
 mod message;
+mod words;
 
