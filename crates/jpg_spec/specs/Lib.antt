@@ -20,3 +20,4 @@ pub mod Sending
 pub mod Sound
 pub mod Told
 pub mod Typical
+pub mod Written
