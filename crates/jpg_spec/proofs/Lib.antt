@@ -6,6 +6,7 @@ pub mod Full
 pub mod Levels
 pub mod Once
 pub mod OneCode
+pub mod Packing
 pub mod Sequential
 pub mod Small
 pub mod Sound

@@ -12,22 +12,8 @@ use Rattle.jpg_spec.specs.Elements.{Element, difference, value, ends, zeros, pre
 use Rattle.jpg_spec.specs.Told.{told_by, ToldBy}
 use Rattle.jpg_spec.specs.GrayFile.{Gray, IsGray, SpellsGray, gray_coding, new_unit}
 use Rattle.jpg_spec.specs.Examples.{ones, flat_block, smallest, two_values, extremes, plain_file}
+use Rattle.jpg_spec.proofs.Packing.{data_spelled}
 use Rattle.jpg_spec.proofs.Telling.{covers_by}
-
--- STUFFED BYTES spell the bytes
-
-byte_spelled : (byte : ℕ) → SpellsByte byte (stuffed_byte byte)
-byte_spelled byte =
-    ⊎_elim
-    (λ (e : byte ≡ 255). (let t : (byte == 255) ≡ true = grind (arith, nat_tests) in
-    inr (e, (0, ap (λ b. cond b (255 ∷ 0 ∷ []) (byte ∷ [])) t))))
-    (λ (e : byte ≢ 255). (let t : (byte == 255) ≡ false = grind (arith, nat_tests) in
-    inl (e, ap (λ b. cond b (255 ∷ 0 ∷ []) (byte ∷ [])) t)))
-    (cases_eq byte 255)
-
-pub data_spelled : (coded : List ℕ) → SpellsData coded (stuffed coded)
-data_spelled [] = refl
-data_spelled (byte ∷ later) = (stuffed_byte byte, stuffed later, refl, byte_spelled byte, data_spelled later)
 
 -- a file is the plain file of what its elements tell
 pub spelled_by : (g : Gray) (elements : List Element) (t : ToldBy) (coded text : List ℕ) (pad : List Bool) → IsGray g
