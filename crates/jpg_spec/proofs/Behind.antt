@@ -1,15 +1,14 @@
 -- Coverings with further units behind them, and with the codes that are chosen for them.
-use Rattle.std.proofs.Common.{◌≡◌, ℕ, zero, suc, ◌+◌, ◌<◌, ◌≤◌, Bool, true, false, cond, List, [], ◌∷◌, ◌++◌, length, take, drop, Some, None, Option, refl, sym, ap, ◌∙◌, subst, arith, ℤ, pos, ⊎_elim, inl, inr, ◌==◌, ◌≢◌}
+use Rattle.std.proofs.Common.{◌≡◌, ℕ, zero, suc, ◌≤◌, Bool, true, false, cond, List, [], ◌∷◌, ◌++◌, length, take, drop, Some, refl, sym, ap, ◌∙◌, subst, arith, ℤ, inl, inr, ◌==◌}
 use Rattle.std.specs.Prelude.{◌⊎◌, flat_map, unwrap_or}
 use Rattle.std.specs.List.{Contains}
-use Rattle.std.proofs.lemmas.Bool.{cases_eq}
 use Rattle.std.proofs.lemmas.Bool.Decides.{nat_tests}
 use Rattle.std.proofs.lemmas.List.{take-append-le, drop-append-le, length-append}
 use Rattle.std.proofs.lemmas.List.Elements.{Contains-append_right}
 use Rattle.jpg_spec.specs.Codes.{Code, first_code}
 use Rattle.jpg_spec.specs.Elements.{Coding, UnitLeft, Standing, Element, difference, dc_bit, value, long_run, ends, Covers, Tells, SpellsElement, codes_due, going_on, old_values, nonzeros_in, corrected, predictions_after, symbol_of, bits_behind}
 use Rattle.jpg_spec.specs.ScanText.{is_dc, code_of}
-use Rattle.jpg_spec.proofs.Once.{told_is, clash}
+use Rattle.jpg_spec.proofs.Once.{clash}
 use Rattle.jpg_spec.proofs.Levels.{contains_none, contains_cons}
 use Rattle.jpg_spec.proofs.Telling.{same_of}
 
@@ -34,9 +33,15 @@ tells_behind c p (long_run bits) u units us here left t =
 tells_behind c p (ends bands bits) u units us here left t =
     let few : bands ≤ length (u ∷ units) = omega (arith, t.3) in
     let same : take bands (u ∷ (units ++ us)) ≡ take bands (u ∷ units) = take-append-le bands (u ∷ units) us few in
-    let rest : drop bands (u ∷ (units ++ us)) ≡ drop bands (u ∷ units) ++ us = drop-append-le bands (u ∷ units) us few in
-    (t.0, t.1, t.2, omega (arith, t.3, length-append units us), ap (λ l. nonzeros_in (old_values l)) same ∙ t.4,
-      t.5 ∙ ap (λ l. corrected c.al (old_values l) bits) (sym same), ap (λ l. l ++ us) t.6 ∙ sym rest)
+    let rest : drop bands (u ∷ (units ++ us)) ≡ drop bands (u ∷ units) ++ us = drop-append-le bands (u ∷ units) us few in (
+      t.0,
+      t.1,
+      t.2,
+      omega (arith, t.3, length-append units us),
+      ap (λ l. nonzeros_in (old_values l)) same ∙ t.4,
+      t.5 ∙ ap (λ l. corrected c.al (old_values l) bits) (sym same),
+      ap (λ l. l ++ us) t.6 ∙ sym rest,
+    )
 
 pub covers_behind : (c : Coding) (s t : Standing) (us : List UnitLeft) (es : List Element) (told : List ℤ) (bits : List Bool) → Covers c s es told bits t → Covers c (with_behind s us) es told bits (with_behind t us)
 covers_behind c s t us [] told bits k = (k.0, k.1, ap (λ z. with_behind z us) k.2)

@@ -1,12 +1,12 @@
 -- The typical tables have codes for all that a sequential scan of precision 8 sends.
-use Rattle.std.proofs.Common.{◌≡◌, ◌≢◌, ℕ, zero, suc, ◌+◌, ◌-◌, ◌*◌, ◌<◌, ◌≤◌, Bool, true, false, cond, List, [], ◌∷◌, ◌++◌, length, Some, None, Option, refl, sym, ap, ◌∙◌, subst, arith, ℤ, pos, negsuc, ⊎_elim, lit≤, ◌==◌, ◌&&◌}
+use Rattle.std.proofs.Common.{◌≡◌, ◌≢◌, ℕ, zero, suc, ◌+◌, ◌-◌, ◌*◌, ◌<◌, ◌≤◌, Bool, true, false, cond, List, [], ◌∷◌, ◌++◌, Some, None, Option, refl, sym, ap, ◌∙◌, subst, arith, ℤ, pos, negsuc, ⊎_elim, lit≤, ◌==◌, ◌&&◌}
 use Rattle.std.specs.List.{Contains}
 use Rattle.std.proofs.lemmas.Bool.{cases_eq}
 use Rattle.std.proofs.lemmas.Bool.Decides.{nat_tests}
 use Rattle.std.proofs.lemmas.List.Elements.{Contains-append_right}
 use Rattle.jpg_spec.specs.Codes.{Code, codes, first_code}
 use Rattle.jpg_spec.specs.Numbers.{category, digits}
-use Rattle.jpg_spec.specs.Elements.{Coding, Element, value, long_run, ends}
+use Rattle.jpg_spec.specs.Elements.{Coding, Element, long_run, ends}
 use Rattle.jpg_spec.specs.Sending.{Sent, correction, newly, value_elements, band_elements}
 use Rattle.jpg_spec.specs.Segments.{table_codes}
 use Rattle.jpg_spec.specs.Typical.{dc_luma_counts, dc_luma_values, ac_luma_counts, ac_luma_values, dc_chroma_counts, dc_chroma_values, ac_chroma_counts, ac_chroma_values}

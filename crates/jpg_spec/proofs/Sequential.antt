@@ -1,24 +1,23 @@
 -- What a sequential scan writes is in the grammar.
-use Rattle.std.proofs.Common.{◌≡◌, ◌≢◌, ℕ, zero, suc, ◌+◌, ◌-◌, ◌*◌, ◌<◌, ◌≤◌, Bool, true, false, cond, List, [], ◌∷◌, ◌++◌, length, Some, None, Option, refl, sym, ap, ◌∙◌, subst, arith, ℤ, pos, negsuc, ⊎_elim, lit≤, lit<, ◌==◌, ◌&&◌}
+use Rattle.std.proofs.Common.{◌≡◌, ℕ, suc, ◌+◌, ◌≤◌, Bool, true, false, cond, List, [], ◌∷◌, ◌++◌, length, refl, sym, ap, ◌∙◌, subst, arith, ℤ, pos, lit<, ◌==◌, ◌&&◌}
 use Rattle.std.specs.Prelude.{map, flat_map, int_le, nat_abs, neg_ℤ, ◌+ℤ◌, ◌-ℤ◌, nat_lt}
-use Rattle.std.specs.List.{Contains, All}
+use Rattle.std.specs.List.{All}
 use Rattle.std.proofs.lemmas.List.{append_assoc, append-nil}
 use Rattle.std.proofs.lemmas.List.Elements.{All-head, All-tail}
-use Rattle.jpg_spec.specs.Codes.{Code}
 use Rattle.jpg_spec.specs.Numbers.{category, digits, extra_bits}
 use Rattle.jpg_spec.specs.Geometry.{Frame, bounds_of, is_progressive}
 use Rattle.jpg_spec.specs.Segments.{ScanHead}
-use Rattle.jpg_spec.specs.Elements.{Coding, UnitLeft, Standing, Element, difference, dc_bit, value, long_run, ends, Covers, SpellsElement, Tells, SpellsUnits, codes_due, is_zero, zeros, scaled, are_in_bounds, predicted, predictions_after, symbol_of, bits_behind, at_start}
-use Rattle.jpg_spec.specs.Sending.{Sent, sent, shifted, divided, band_elements}
+use Rattle.jpg_spec.specs.Elements.{Coding, UnitLeft, Standing, Element, difference, dc_bit, value, long_run, ends, Covers, SpellsElement, is_zero, zeros, scaled, are_in_bounds, predicted, symbol_of, bits_behind}
+use Rattle.jpg_spec.specs.Sending.{sent, shifted, divided, band_elements}
 use Rattle.jpg_spec.specs.Scan.{scan_coding, part_of}
-use Rattle.jpg_spec.specs.ScanText.{UnitDue, Owned, unit_elements, interval_elements, with_prediction, element_bits, typical_table, is_dc, code_of}
+use Rattle.jpg_spec.specs.ScanText.{UnitDue, Owned, unit_elements, with_prediction, element_bits, typical_table, is_dc, code_of}
 use Rattle.jpg_spec.specs.GrayFile.{typical_tables, new_unit}
 use Rattle.jpg_spec.specs.Written.{IsWritable, sequential_bits, SpellsDue}
 use Rattle.jpg_spec.specs.declared.frame.Bounds.{Bounds}
 use Rattle.jpg_spec.proofs.Telling.{both}
 use Rattle.jpg_spec.proofs.Small.{shifted_none, divided_none, scaled_none, ac_category, some_category, IsDc, dc_small, dc_category, back}
 use Rattle.jpg_spec.proofs.Writing.{AllSent, and_intro}
-use Rattle.jpg_spec.proofs.Bands.{AllBands, at, units_of, flat, covers_then, bands_cover}
+use Rattle.jpg_spec.proofs.Bands.{AllBands, at, covers_then, bands_cover}
 use Rattle.jpg_spec.proofs.Behind.{first_found, IsChosen, covers_chosen, covers_behind}
 use Rattle.jpg_spec.proofs.Full.{Has, IsFull, ac_full, dc_full, band_have}
 
@@ -44,9 +43,16 @@ sends_category c s v e z =
 all_sent : (c : Coding) → IsSequential c → (vs : List ℤ) → are_in_bounds c false vs ≡ true → AllSent c (map (sent false 0) vs) (zeros (length vs)) vs
 all_sent c s [] ok = (refl, refl)
 all_sent c s (v ∷ vs) ok =
-    let b = both (int_le (pos (nat_abs v)) c.bounds.ac) (are_in_bounds c false vs) ok in
-    (pos 0, zeros (length vs), v, vs, refl, refl,
-      (refl, sym (ap (scaled c.al) (divided_none v) ∙ ap (λ a. scaled a v) s.al ∙ scaled_none v), sends_category c s v b.0), all_sent c s vs b.1)
+    let b = both (int_le (pos (nat_abs v)) c.bounds.ac) (are_in_bounds c false vs) ok in (
+      pos 0,
+      zeros (length vs),
+      v,
+      vs,
+      refl,
+      refl,
+      (refl, sym (ap (scaled c.al) (divided_none v) ∙ ap (λ a. scaled a v) s.al ∙ scaled_none v), sends_category c s v b.0),
+      all_sent c s vs b.1,
+    )
 
 one_digit : digits 1 ≡ 1
 unfolding digits
@@ -121,10 +127,22 @@ unit_first c s p i v vs us chosen es told bits t dcp ok is later =
     let there : p i +ℤ d ≡ shifted 0 v = back (shifted 0 v) (p i) in
     let same : v ≡ scaled c.al (p i +ℤ d) = sym (ap (scaled c.al) (there ∙ shifted_none v) ∙ ap (λ a. scaled a v) s.al ∙ scaled_none v) in
     let next : with_prediction p i (shifted 0 v) ≡ predicted p i (p i +ℤ d) = ap (λ w. (let q : ℕ → ℤ = predicted p i w in q)) (sym there) in
-    let inside : are_in_bounds c true (v ∷ []) ≡ true = and_intro (int_le c.bounds.dc_low v && int_le v c.bounds.dc_high) true b.0 refl in
-    (new_unit i, us, v ∷ [], behind_dc i ∷ us, told, chosen (i, difference d), bits, refl, refl, refl, spells,
-      (pos 0, zeros 63, refl, s.refines, cat, refl, ap (λ w. w ∷ []) same, refl), inside,
-      subst (λ q. Covers c (at q (behind_dc i ∷ us)) es told bits t) next later)
+    let inside : are_in_bounds c true (v ∷ []) ≡ true = and_intro (int_le c.bounds.dc_low v && int_le v c.bounds.dc_high) true b.0 refl in (
+      new_unit i,
+      us,
+      v ∷ [],
+      behind_dc i ∷ us,
+      told,
+      chosen (i, difference d),
+      bits,
+      refl,
+      refl,
+      refl,
+      spells,
+      (pos 0, zeros 63, refl, s.refines, cat, refl, ap (λ w. w ∷ []) same, refl),
+      inside,
+      subst (λ q. Covers c (at q (behind_dc i ∷ us)) es told bits t) next later,
+    )
 
 -- THE LAW, from any predictions within the bounds
 units_spelled : (c : Coding) → IsSequential c → (chosen : Owned → List Bool) → AreChosen c chosen → (p : ℕ → ℤ) (due : List UnitDue) → ((j : ℕ) → IsDc (p j)) → All (λ u. IsWritable c u) due
@@ -149,12 +167,13 @@ units_spelled c s chosen is p ((i, v ∷ vs) ∷ later) dcs ok =
     let band = band_spelled c s q i vs (λ e. chosen (i, e)) us (omega (arith, h.0)) b.1 (is.others i) in
     let joined = covers_then c (at q (behind_dc i ∷ us)) (at q us) ih.0 (band_sent vs) more vs (flat_map (λ (u : UnitDue). u.1) later) (flat_map (λ e. chosen (i, e)) (band_sent vs)) (flat_map chosen owned) band ih.1 in
     let first = unit_first c s p i v vs us chosen (band_sent vs ++ more) (vs ++ flat_map (λ (u : UnitDue). u.1) later) (flat_map (λ e. chosen (i, e)) (band_sent vs) ++ flat_map chosen owned) ih.0 (dcs i) h.1 is joined in
-    let d = difference (shifted 0 v -ℤ p i) in
-    (ih.0,
+    let d = difference (shifted 0 v -ℤ p i) in (
+      ih.0,
       subst (λ x. Covers c (at p (new_unit i ∷ us)) x (v ∷ (vs ++ flat_map (λ (u : UnitDue). u.1) later)) (flat_map chosen ((i, d) ∷ (map (λ e. (let o : Owned = (i, e) in o)) (band_sent vs) ++ owned))) ih.0)
-      (ap (λ t. d ∷ t) (sym (owned_elements i (band_sent vs) owned)))
-      (subst (λ x. Covers c (at p (new_unit i ∷ us)) (d ∷ (band_sent vs ++ more)) (v ∷ (vs ++ flat_map (λ (u : UnitDue). u.1) later)) x ih.0) (ap (λ t. chosen (i, d) ++ t) (sym (owned_bits chosen i (band_sent vs) owned))) first),
-      ih.2)
+          (ap (λ t. d ∷ t) (sym (owned_elements i (band_sent vs) owned)))
+          (subst (λ x. Covers c (at p (new_unit i ∷ us)) (d ∷ (band_sent vs ++ more)) (v ∷ (vs ++ flat_map (λ (u : UnitDue). u.1) later)) x ih.0) (ap (λ t. chosen (i, d) ++ t) (sym (owned_bits chosen i (band_sent vs) owned))) first),
+      ih.2,
+    )
 
 -- THE CODING of a scan by the typical tables
 

@@ -1,11 +1,9 @@
 -- Plain gray files as spellings of their pictures.
-use Rattle.std.proofs.Common.{◌≡◌, ◌≢◌, ℕ, arith, cond, ⊎_elim, ◌+◌, ◌*◌, ◌<◌, ◌≤◌, Bool, true, false, List, [], ◌∷◌, ◌++◌, length, refl, sym, ap, ◌∙◌, subst, lit≤, lit<, ℤ, pos, negsuc, Some, inl, inr, ◌==◌}
-use Rattle.std.specs.Prelude.{map, flat_map, replicate}
+use Rattle.std.proofs.Common.{◌≡◌, ℕ, ◌<◌, ◌≤◌, Bool, true, false, List, [], ◌∷◌, ◌++◌, length, refl, subst, lit≤, lit<, pos, negsuc, Some}
+use Rattle.std.specs.Prelude.{map, flat_map}
 use Rattle.std.specs.List.{All}
-use Rattle.std.proofs.lemmas.Bool.{cases_eq}
-use Rattle.std.proofs.lemmas.Bool.Decides.{nat_tests}
 use Rattle.std.proofs.lemmas.List.Elements.{All-replicate, All-nil, All-cons}
-use Rattle.jpg_spec.specs.Bits.{bits_of, bits_of_bytes, stuffed_byte, stuffed, SpellsByte, SpellsData}
+use Rattle.jpg_spec.specs.Bits.{bits_of, bits_of_bytes, SpellsData}
 use Rattle.jpg_spec.specs.Codes.{codes}
 use Rattle.jpg_spec.specs.Numbers.{digits}
 use Rattle.jpg_spec.specs.Elements.{Element, difference, value, ends, zeros, predicted, Covers, at_start}

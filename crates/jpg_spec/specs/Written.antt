@@ -1,11 +1,9 @@
 -- WHAT A SEQUENTIAL SCAN of precision 8 can write, and the units that it writes (T.81 F.1.2).
-use Rattle.std.specs.Prelude.{◌≡◌, ℕ, Bool, true, false, List, length, map, flat_map, All}
-use Rattle.jpg_spec.specs.Geometry.{Frame}
+use Rattle.std.specs.Prelude.{◌≡◌, Bool, true, false, List, length, map, flat_map}
 use Rattle.jpg_spec.specs.Segments.{ScanHead}
-use Rattle.jpg_spec.specs.Elements.{Coding, UnitLeft, are_in_bounds, SpellsUnits}
-use Rattle.jpg_spec.specs.Scan.{scan_coding}
+use Rattle.jpg_spec.specs.Elements.{Coding, are_in_bounds, SpellsUnits}
 use Rattle.jpg_spec.specs.ScanText.{UnitDue, element_bits, interval_elements, typical_table}
-use Rattle.jpg_spec.specs.GrayFile.{typical_tables, new_unit}
+use Rattle.jpg_spec.specs.GrayFile.{new_unit}
 
 -- 64 values in the bounds
 abbrev pub IsWritable : Coding → UnitDue → Type 0
