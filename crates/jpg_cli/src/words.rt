@@ -1,12 +1,13 @@
 //! The words of a call.
-ghost use Rattle.std.specs.Prelude.{◌≡◌, ◌≤◌, MatchOption, length, map, true, false, string_bytes};
+ghost use Rattle.std.specs.Prelude.{◌≡◌, ◌≤◌, IfSome, IfNone, length, map, true, false, string_bytes};
 ghost use Rattle.jpg_spec.specs.Words.{asked, is_tool, tool_of};
 
 use jpg_spec::{Asked, Usage, UsageFault};
 
 // The command of this name.
 fn known_tool(word: &str) -> Option<&'static str>
-    ensures { MatchOption result (λ tool. (is_tool word.now ≡ true) × (tool.now ≡ word.now) × (length tool.now ≤ 8)) (is_tool word.now ≡ false) }
+    ensures known { IfSome result (λ tool. (is_tool word.now ≡ true) × (tool.now ≡ word.now) × (length tool.now ≤ 8)) }
+    ensures unknown { IfNone result (is_tool word.now ≡ false) }
 {
     match word {
         "jpegtran" => Some("jpegtran"),
