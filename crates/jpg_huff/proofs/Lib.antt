@@ -6,3 +6,5 @@ pub mod Tests
 pub mod Tables
 pub mod Putting
 pub mod Buffers
+pub mod Together
+pub mod Gates
