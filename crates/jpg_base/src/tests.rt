@@ -8,7 +8,14 @@ fn part(id: u8, h: u8, v: u8, quant: u8) -> Component {
 
 fn fault_of(precision: u8, height: u32, width: u32, components: &[Component]) -> Option<Fault> {
     let limits = Limits::standard();
-    match Frame::new(Process::Extended, precision, height, width, components, &limits) {
+    match Frame::new(
+        Process::Extended,
+        precision,
+        height,
+        width,
+        components,
+        &limits,
+    ) {
         Ok(_) => None,
         Err(fault) => Some(fault),
     }
@@ -17,8 +24,19 @@ fn fault_of(precision: u8, height: u32, width: u32, components: &[Component]) ->
 #[test]
 fn frames_are_accepted_or_refused(rt: HostRuntime) {
     let gray = [part(1, 1, 1, 0)];
-    let four = [part(1, 4, 4, 3), part(2, 1, 1, 0), part(3, 1, 1, 0), part(0, 1, 1, 0)];
-    let five = [gray[0], part(2, 1, 1, 0), part(3, 1, 1, 0), part(4, 1, 1, 0), part(5, 5, 1, 0)];
+    let four = [
+        part(1, 4, 4, 3),
+        part(2, 1, 1, 0),
+        part(3, 1, 1, 0),
+        part(0, 1, 1, 0),
+    ];
+    let five = [
+        gray[0],
+        part(2, 1, 1, 0),
+        part(3, 1, 1, 0),
+        part(4, 1, 1, 0),
+        part(5, 5, 1, 0),
+    ];
     let twins = [part(9, 1, 1, 0), part(2, 1, 1, 4), part(9, 1, 1, 0)];
     let rows: [(u8, u32, u32, &[Component], Option<Fault>); 24] = [
         (8, 8, 8, &gray, None),
@@ -77,7 +95,10 @@ fn tables_and_bytes_hold_what_is_put(rt: HostRuntime) -> Result<(), Fail> {
     let mut table = QuantTable::ones();
     table.set(28, 300);
     let turned = table.transposed();
-    assert_eq!(rt; (turned.get(35), turned.get(28), turned.get(0)), (300, 1, 1));
+    assert_eq!(rt;
+        (turned.get(35), turned.get(28), turned.get(0)),
+        (300, 1, 1)
+    );
     assert!(rt; !turned.is_same(&table) && turned.transposed().is_same(&table));
     let mut block = Block::zero();
     block.set(63, -1024);
