@@ -30,6 +30,9 @@ pub struct Told {
     pub output_created: bool,
 }
 
+/// Real files, standard input, output and error. `In` is read as standard input, `Out` is written as
+/// standard output, and what is said goes to standard error. To open `Out` and to create `In` fails,
+/// and so does a message that is no UTF-8. Each failure raises the count of its kind by one.
 #[derive(Drop)]
 pub struct StdDesk<R: Runtime> {
     rt: R,
@@ -49,6 +52,7 @@ fn raise(count: &mut u64)
 impl<R: Runtime> StdDesk<R> {
     ghost use Rattle.jpg_base.specs.Standard.{std_state, TellsNothing};
 
+    /// A desk with no input and no output yet, at which nothing has failed.
     pub fn new(rt: R) -> Self
         ensures { TellsNothing (std_state result.told) }
     {
