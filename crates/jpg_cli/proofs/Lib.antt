@@ -1,2 +1,4 @@
+pub mod Counted
 pub mod Decimal
+pub mod Input
 pub mod Names

@@ -1,6 +1,6 @@
 //! The words of a call.
 ghost use Rattle.std.specs.Prelude.{◌≡◌, ◌≤◌, IfSome, IfNone, length, map, true, false, string_bytes};
-ghost use Rattle.jpg_spec.specs.Words.{asked, is_tool, tool_of};
+ghost use Rattle.jpg_spec.specs.Words.{are_words, asked, flip_words, is_tool, tool_of};
 
 use jpg_spec::{Asked, Usage, UsageFault};
 
@@ -34,7 +34,9 @@ pub fn tool_name(words: &[String]) -> &'static str
     }
 }
 
-fn is_flip(words: &[String]) -> bool {
+fn is_flip(words: &[String]) -> bool
+    ensures { result ≡ are_words (map string_bytes words.now) flip_words }
+{
     match words {
         [tool, switch, value] => {
             tool.as_str() == "jpegtran"

@@ -1,0 +1,51 @@
+//! Blocks mirrored left to right (the manual of jpegtran).
+
+use jpg_base::{Block, NoMemory};
+use jpg_seq::BlockList;
+use std::alloc::Global;
+
+// Which places in zigzag order have an odd horizontal frequency.
+static ODD_ACROSS: [bool; 64] = [
+    false, true, false, false, true, false, true, false, true, false, false, true, false, true, false, true, false, true, false, true, false, false, true, false, true, false, true, false, true, false, true, false, true, false, true, false, true, false, true, false, true, false, true, true, false, true, false, true, false, true, false, true, false, true, true, false, true, false, true, false, true, true, false, true,
+];
+
+// The value with its sign changed where the frequency is odd.
+fn mirrored_value(odd: bool, value: i16) -> i16 {
+    if odd { value.wrapping_neg() } else { value }
+}
+
+// The block with the signs of its odd horizontal frequencies changed.
+fn mirrored(block: &Block) -> Block {
+    let mut result = Block::zero();
+    for k in 0..64 {
+        result.set(k, mirrored_value(ODD_ACROSS[k as usize], block.get(k)));
+    }
+    result
+}
+
+// A row of blocks from right to left, each mirrored.
+fn turn_row(
+    blocks: &BlockList,
+    first: usize,
+    across: usize,
+    result: &mut BlockList,
+) -> Result<(), NoMemory> {
+    for x in 0..across {
+        result.push(&mirrored(&blocks.get(first + (across - 1 - x))))?;
+    }
+    Ok(())
+}
+
+/// The blocks of a picture mirrored left to right: each row from right to left, each block mirrored.
+pub fn turned(
+    alloc: Global,
+    blocks: &BlockList,
+    across: usize,
+    down: usize,
+) -> Result<BlockList, NoMemory> {
+    let mut result = BlockList::new(alloc);
+    for y in 0..down {
+        turn_row(blocks, y * across, across, &mut result)?;
+    }
+    Ok(result)
+}
