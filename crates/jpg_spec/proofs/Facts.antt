@@ -34,11 +34,11 @@ bounds_of_digits (suc most) n h =
     (omega (arith, p, r.0), low)))
     (cases_eq n 0)
 
-below_digits : (n : ℕ) → n < 2 ^ digits n
+pub below_digits : (n : ℕ) → n < 2 ^ digits n
 unfolding digits
 below_digits n = (bounds_of_digits n n (omega arith)).0
 
-above_digits : (n : ℕ) → 1 ≤ n → 2 ^ digits n ≤ 2 * n
+pub above_digits : (n : ℕ) → 1 ≤ n → 2 ^ digits n ≤ 2 * n
 unfolding digits
 above_digits n h = (bounds_of_digits n n (omega arith)).1 h
 
