@@ -1,0 +1,4 @@
+pub mod InWork
+pub mod Judge
+pub mod Plain
+pub mod Step
