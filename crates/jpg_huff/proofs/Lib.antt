@@ -2,7 +2,9 @@ pub mod Emitted
 pub mod Levels
 pub mod Packed
 pub mod Steps
-pub mod Tests
+pub mod Computed
 pub mod Tables
 pub mod Putting
 pub mod Buffers
+pub mod Together
+pub mod Gates

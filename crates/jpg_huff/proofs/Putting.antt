@@ -31,7 +31,7 @@ word_bytes n =
     a ∙ ap (λ l. n / 2 ^ 24 % 256 ∷ l) (b ∙ ap (λ l. n / 2 ^ 16 % 256 ∷ l) (c ∙ ap (λ l. n / 2 ^ 8 % 256 ∷ l) d))
 
 -- the number of all bits
-pub number_is : (a c k b v : ℕ) → a < 2 ^ c → c < 32 → k ≤ 24 → v ≡ b → (a * 2 ^ k) % 2 ^ 64 + v ≡ a * 2 ^ k + b
+pub number_is : (a c k b v : ℕ) → a < 2 ^ c → c < 32 → k ≤ 32 → v ≡ b → (a * 2 ^ k) % 2 ^ 64 + v ≡ a * 2 ^ k + b
 number_is a c k b v h1 h2 h3 e = ap (λ x. x + v) (shl_whole a c k 64 h1 (omega arith)) ∙ ap (λ x. a * 2 ^ k + x) e
 
 pub number_fits : (a c k b n : ℕ) → a < 2 ^ c → b < 2 ^ k → n ≡ a * 2 ^ k + b → n < 2 ^ (c + k)

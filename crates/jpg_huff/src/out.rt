@@ -40,12 +40,12 @@ impl BitOut {
         }
     }
 
-    /// Adds the low `count` bits, 0 to 24, of a number below `2^count`, the most significant first.
+    /// Adds a number below `2^count` as `count` bits, 0 to 32, the most significant first.
     /// After each byte FF that goes out stands 00. After a fault nothing waits.
     #[inline(always)]
     pub fn put<D: Desk>(&mut self, bits: u32, count: u8, desk: &mut D) -> Result<(), WriteFault>
         requires created { (D.state desk.old).output_created ≡ true }
-        requires count { count ≤ 24 }
+        requires count { count ≤ 32 }
         requires bits { bits < 2 ^ count }
         ensures kept { OnlyWrites (D.state desk.old) (D.state desk.new) }
         ensures puts { Puts (D.state desk.old) self.old (bits_of count bits) result self.new (D.state desk.new) }

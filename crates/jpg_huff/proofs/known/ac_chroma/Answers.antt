@@ -1,7 +1,7 @@
 use Rattle.std.proofs.Common.{refl}
 use Rattle.jpg_spec.specs.Bits.{bits_of}
 use Rattle.jpg_spec.specs.Codes.{codes}
-use Rattle.jpg_huff.proofs.Tests.{IsIndexed-from_test, IsEncoder-from_test}
+use Rattle.jpg_huff.proofs.Computed.{IsIndexed-from_test, IsEncoder-from_test}
 use Rattle.jpg_huff.proofs.known.ac_chroma.Goals as goal
 
 pub invariant_of-result : goal.invariant_of-result

@@ -1,4 +1,4 @@
--- A test that computes, of the arrays of a table.
+-- Tests that compute, of the arrays of a table.
 use Rattle.std.proofs.Common.{◌≡◌, ℕ, zero, suc, ◌+◌, ◌*◌, ◌^◌, ◌<◌, ◌≤◌, Bool, true, false, List, length, drop, get_or, refl, sym, ap, ◌∙◌, arith, ◌&&◌, eqb, ltb, leb}
 use Rattle.std.specs.Prelude.{◌⊎◌, Option, None, Some, ◌/◌, ◌%◌, [], ◌∷◌, cond, ◌==◌}
 use Rattle.std.proofs.Common.{inl, inr, ⊎_elim}

@@ -1,0 +1,28 @@
+-- What holds of every table, and of bytes that go through a gate.
+use Rattle.std.specs.Prelude.{◌≡◌, ◌≢◌, ℕ, suc, ◌+◌, ◌-◌, ◌≤◌, Bool, true, false, List, [], ◌∷◌, ◌++◌, length, sum, replicate, Contains}
+use Rattle.jpg_spec.specs.Codes.{Code, AreCodes}
+use Rattle.jpg_spec.specs.Segments.{HuffmanTable}
+use Rattle.jpg_huff.specs.declared.gate.Passed.{Passed}
+use Rattle.jpg_huff.specs.declared.gate.Passed.TheVariants.{More, Data, Marker}
+use Rattle.jpg_huff.specs.Gate.{Passes}
+
+-- counts for sixteen lengths and as many symbols, whose codes fit
+pub record IsTable (table : HuffmanTable) : Type 0 where
+  pub sixteen : length table.counts ≡ 16
+  pub many : length table.symbols ≡ sum table.counts
+  pub most : sum table.counts ≤ 256
+  pub fit : AreCodes 1 0 table.counts
+
+-- of two codes that begin the same bits, neither is longer
+abbrev pub AreApart : List Code → Type 0
+AreApart table = (a b : Code) (x y : List Bool) → Contains table a → Contains table b → a.0 ++ x ≡ b.0 ++ y → a ≡ b
+
+-- bytes that are fed one by one, and the answers
+abbrev pub Feeds : Bool → List ℕ → List Passed → Bool → Type 0
+Feeds old [] answers new = (answers ≡ []) × (new ≡ old)
+Feeds old (byte ∷ bytes) [] new = ⊥
+Feeds old (byte ∷ bytes) (answer ∷ answers) new = (mid : Bool) × Passes old byte answer mid × Feeds mid bytes answers new
+
+-- nothing passes before the last of the bytes
+abbrev pub AtLast : Passed → List ℕ → List Passed → Type 0
+AtLast last bytes answers = answers ≡ replicate (length bytes - 1) More ++ last ∷ []
