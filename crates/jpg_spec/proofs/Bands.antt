@@ -39,7 +39,7 @@ length_units i [] us = omega arith
 length_units i (old ∷ olds) us = omega (arith, length_units i olds us)
 
 -- one covering after another
-covers_then : (c : Coding) (s m t : Standing) (es es' : List Element) (told told' : List ℤ) (bits bits' : List Bool) → Covers c s es told bits m → Covers c m es' told' bits' t → Covers c s (es ++ es') (told ++ told') (bits ++ bits') t
+pub covers_then : (c : Coding) (s m t : Standing) (es es' : List Element) (told told' : List ℤ) (bits bits' : List Bool) → Covers c s es told bits m → Covers c m es' told' bits' t → Covers c s (es ++ es') (told ++ told') (bits ++ bits') t
 covers_then c s m t [] es' told told' bits bits' k l =
     subst (λ x. Covers c x es' (told ++ told') (bits ++ bits') t) k.2
     (subst (λ x. Covers c m es' (x ++ told') (bits ++ bits') t) (sym k.0) (subst (λ x. Covers c m es' told' (x ++ bits') t) (sym k.1) l))
@@ -92,17 +92,17 @@ ended_covers c p i (w ∷ ws) bits us n d have ok =
 
 -- BANDS, split behind the last newly sent value
 
-record Split (c : Coding) (band : List Sent) (o n : List ℤ) : Type 0 where
-  o1 : List ℤ
-  o2 : List ℤ
-  n1 : List ℤ
-  n2 : List ℤ
-  joined : (o ≡ o1 ++ o2) × (n ≡ n1 ++ n2)
-  front : AllSent c (up_to_last band) o1 n1
-  fronted : Fronted (up_to_last band)
-  behind : AllSent c (behind_last band) o2 n2
-  none : any_of is_new (behind_last band) ≡ false
-  sum : length band ≡ length (up_to_last band) + length (behind_last band)
+pub record Split (c : Coding) (band : List Sent) (o n : List ℤ) : Type 0 where
+  pub o1 : List ℤ
+  pub o2 : List ℤ
+  pub n1 : List ℤ
+  pub n2 : List ℤ
+  pub joined : (o ≡ o1 ++ o2) × (n ≡ n1 ++ n2)
+  pub front : AllSent c (up_to_last band) o1 n1
+  pub fronted : Fronted (up_to_last band)
+  pub behind : AllSent c (behind_last band) o2 n2
+  pub none : any_of is_new (behind_last band) ≡ false
+  pub sum : length band ≡ length (up_to_last band) + length (behind_last band)
 
 same_new_by : (s : Sent) (band : List Sent) (b : Bool) → any_of is_new (s ∷ band) ≡ b → any_of is_new (up_to_last band) ≡ any_of is_new band
     → any_of is_new (cond b (s ∷ up_to_last band) []) ≡ any_of is_new (s ∷ band)
@@ -187,7 +187,7 @@ corrected-append al (pos (suc m) ∷ a) b (q ∷ x) y n = ap (λ t. grown al q (
 corrected-append al (negsuc m ∷ a) b [] y n = let f : ⊥ = omega arith in absurd f
 corrected-append al (negsuc m ∷ a) b (q ∷ x) y n = ap (λ t. grown al q (negsuc m) ∷ t) (corrected-append al a b x y (omega arith))
 
-split : (c : Coding) (band : List Sent) (o n : List ℤ) → AllSent c band o n → Split c band o n
+pub split : (c : Coding) (band : List Sent) (o n : List ℤ) → AllSent c band o n → Split c band o n
 split c [] o n h = record { o1 = []; o2 = o; n1 = []; n2 = n; joined = (refl, refl); front = (refl, refl); fronted = tt; behind = h; none = refl; sum = refl }
 split c (s ∷ band) o n h =
     let r = split_step c s band h.0 h.1 h.2 h.3 (any_of is_new (s ∷ band)) refl h.6 h.7 (split c band h.1 h.3 h.7) in
@@ -247,7 +247,7 @@ waits_on c p i most later olds news bits wait false fits full small some n ih ha
     less : (a b : ℕ) → a ≤ b → (a ≡ b → false ≡ true) → a < b
     less a b h k = ⊎_elim (λ (e : a ≡ b). (let f : false ≡ true = k e in cc)) (λ (e : a ≢ b). omega arith) (cases_eq a b)
 
-body : ℕ → ℕ → List Bool → List Sent → List Sent → List (List Sent) → List Element
+unfoldable pub body : ℕ → ℕ → List Bool → List Sent → List Sent → List (List Sent) → List Element
 body most bands bits front rest later =
     cond (is_empty front) [] (ended bands bits ++ value_elements 0 [] front)
     ++ cond (is_empty rest) (band_elements most 0 [] later)

@@ -38,11 +38,11 @@ below_digits : (n : ℕ) → n < 2 ^ digits n
 unfolding digits
 below_digits n = (bounds_of_digits n n (omega arith)).0
 
-above_digits : (n : ℕ) → 1 ≤ n → 2 ^ digits n ≤ 2 * n
+pub above_digits : (n : ℕ) → 1 ≤ n → 2 ^ digits n ≤ 2 * n
 unfolding digits
 above_digits n h = (bounds_of_digits n n (omega arith)).1 h
 
-some_digits : (n : ℕ) → 1 ≤ n → 1 ≤ digits n
+pub some_digits : (n : ℕ) → 1 ≤ n → 1 ≤ digits n
 some_digits n h = ⊎_elim (λ (e : digits n ≡ 0). (let p : 2 ^ digits n ≡ 1 = ap (λ k. 2 ^ k) e in let b = below_digits n in let f : ⊥ = omega (arith, p, b) in absurd f)) (λ (e : digits n ≢ 0). omega arith) (cases_eq (digits n) 0)
 
 no_digits : (n : ℕ) → 1 ≤ digits n → 1 ≤ n

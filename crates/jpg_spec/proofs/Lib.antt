@@ -1,9 +1,14 @@
 pub mod Bands
+pub mod Behind
 pub mod Excludes
 pub mod Facts
+pub mod Full
 pub mod Levels
 pub mod Once
 pub mod OneCode
+pub mod Packing
+pub mod Sequential
+pub mod Small
 pub mod Sound
 pub mod Spelled
 pub mod Strings

@@ -1,12 +1,11 @@
 -- Sound codings: their data are spelled in one way.
-use Rattle.std.proofs.Common.{◌≡◌, ℕ, ◌+◌, ◌*◌, ◌^◌, ◌<◌, ◌≤◌, Bool, true, false, cond, List, [], ◌∷◌, ◌++◌, length, Some, None, Option, refl, sym, ap, ◌∙◌, subst, arith, lit≤, inl, inr, ⊎_elim, ◌&&◌, ◌==◌, ℤ}
-use Rattle.std.specs.Prelude.{◌⊎◌, nat_lt}
-use Rattle.std.proofs.lemmas.Bool.Decides.{nat_tests}
+use Rattle.std.proofs.Common.{◌≡◌, ℕ, ◌+◌, ◌*◌, ◌^◌, ◌≤◌, Bool, true, false, cond, List, [], ◌∷◌, ◌++◌, length, Some, None, Option, refl, sym, ◌∙◌, subst, arith, lit≤, inl, inr, ◌&&◌, ◌==◌, ℤ}
+use Rattle.std.specs.Prelude.{nat_lt}
 use Rattle.jpg_spec.specs.Bits.{Packs}
 use Rattle.jpg_spec.specs.Codes.{Code, codes, AreCodes, are_codes}
 use Rattle.jpg_spec.specs.Geometry.{Frame, bounds, is_progressive}
 use Rattle.jpg_spec.specs.Segments.{HuffmanTable, ScanHead}
-use Rattle.jpg_spec.specs.Elements.{Coding, UnitLeft, codes_due, SpellsUnits, at_start}
+use Rattle.jpg_spec.specs.Elements.{Coding, UnitLeft, SpellsUnits, at_start}
 use Rattle.jpg_spec.specs.Scan.{TablesInForce, codes_of, scan_coding, part_of}
 use Rattle.jpg_spec.specs.ScanFaults.{DataShows}
 use Rattle.jpg_spec.specs.ScanText.{typical_table}
@@ -17,7 +16,7 @@ use Rattle.jpg_spec.specs.declared.fault.Fault.{Fault}
 use Rattle.jpg_spec.proofs.Telling.{both, lt_of}
 use Rattle.jpg_spec.proofs.Levels.{contains_none}
 use Rattle.jpg_spec.proofs.OneCode.{one_code}
-use Rattle.jpg_spec.proofs.Once.{OneWay, IsCoding, units_once}
+use Rattle.jpg_spec.proofs.Once.{OneWay, units_once}
 use Rattle.jpg_spec.proofs.Excludes.{data_excludes}
 use Rattle.jpg_spec.proofs.Facts.{facts}
 

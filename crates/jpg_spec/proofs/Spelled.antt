@@ -1,33 +1,17 @@
 -- Plain gray files as spellings of their pictures.
-use Rattle.std.proofs.Common.{◌≡◌, ◌≢◌, ℕ, arith, cond, ⊎_elim, ◌+◌, ◌*◌, ◌<◌, ◌≤◌, Bool, true, false, List, [], ◌∷◌, ◌++◌, length, refl, sym, ap, ◌∙◌, subst, lit≤, lit<, ℤ, pos, negsuc, Some, inl, inr, ◌==◌}
-use Rattle.std.specs.Prelude.{map, flat_map, replicate}
+use Rattle.std.proofs.Common.{◌≡◌, ℕ, ◌<◌, ◌≤◌, Bool, true, false, List, [], ◌∷◌, ◌++◌, length, refl, subst, lit≤, lit<, pos, negsuc, Some}
+use Rattle.std.specs.Prelude.{map, flat_map}
 use Rattle.std.specs.List.{All}
-use Rattle.std.proofs.lemmas.Bool.{cases_eq}
-use Rattle.std.proofs.lemmas.Bool.Decides.{nat_tests}
 use Rattle.std.proofs.lemmas.List.Elements.{All-replicate, All-nil, All-cons}
-use Rattle.jpg_spec.specs.Bits.{bits_of, bits_of_bytes, stuffed_byte, stuffed, SpellsByte, SpellsData}
+use Rattle.jpg_spec.specs.Bits.{bits_of, bits_of_bytes, SpellsData}
 use Rattle.jpg_spec.specs.Codes.{codes}
 use Rattle.jpg_spec.specs.Numbers.{digits}
 use Rattle.jpg_spec.specs.Elements.{Element, difference, value, ends, zeros, predicted, Covers, at_start}
 use Rattle.jpg_spec.specs.Told.{told_by, ToldBy}
 use Rattle.jpg_spec.specs.GrayFile.{Gray, IsGray, SpellsGray, gray_coding, new_unit}
 use Rattle.jpg_spec.specs.Examples.{ones, flat_block, smallest, two_values, extremes, plain_file}
+use Rattle.jpg_spec.proofs.Packing.{data_spelled}
 use Rattle.jpg_spec.proofs.Telling.{covers_by}
-
--- STUFFED BYTES spell the bytes
-
-byte_spelled : (byte : ℕ) → SpellsByte byte (stuffed_byte byte)
-byte_spelled byte =
-    ⊎_elim
-    (λ (e : byte ≡ 255). (let t : (byte == 255) ≡ true = grind (arith, nat_tests) in
-    inr (e, (0, ap (λ b. cond b (255 ∷ 0 ∷ []) (byte ∷ [])) t))))
-    (λ (e : byte ≢ 255). (let t : (byte == 255) ≡ false = grind (arith, nat_tests) in
-    inl (e, ap (λ b. cond b (255 ∷ 0 ∷ []) (byte ∷ [])) t)))
-    (cases_eq byte 255)
-
-pub data_spelled : (coded : List ℕ) → SpellsData coded (stuffed coded)
-data_spelled [] = refl
-data_spelled (byte ∷ later) = (stuffed_byte byte, stuffed later, refl, byte_spelled byte, data_spelled later)
 
 -- a file is the plain file of what its elements tell
 pub spelled_by : (g : Gray) (elements : List Element) (t : ToldBy) (coded text : List ℕ) (pad : List Bool) → IsGray g

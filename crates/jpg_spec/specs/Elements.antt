@@ -3,7 +3,7 @@
 --
 -- One grammar serves the five kinds of scan. A sequential block is a difference and then a band 1 to 63 whose EOBs stand for
 -- one band each. An AC first pass is a refinement of a band that is zero so far, so that no corrections are due.
-use Rattle.std.specs.Prelude.{◌≡◌, ◌⊎◌, ℕ, zero, suc, ◌+◌, ◌-◌, ◌*◌, ◌^◌, ◌<◌, ◌≤◌, Bool, true, false, nat_le, ◌&&◌, ◌==◌, if◌then◌else◌, List, [], ◌∷◌, ◌++◌, length, replicate, take, drop, flat_map, ℤ, pos, negsuc, nat_abs, ◌+ℤ◌, ◌*ℤ◌, int_le, Contains}
+use Rattle.std.specs.Prelude.{◌≡◌, ◌⊎◌, ℕ, zero, suc, ◌+◌, ◌-◌, ◌*◌, ◌^◌, ◌<◌, ◌≤◌, Bool, true, false, ◌&&◌, ◌==◌, if◌then◌else◌, List, [], ◌∷◌, ◌++◌, length, replicate, take, drop, flat_map, ℤ, pos, negsuc, nat_abs, ◌+ℤ◌, ◌*ℤ◌, int_le, Contains}
 use Rattle.jpg_spec.specs.Bits.{bits_of}
 use Rattle.jpg_spec.specs.Codes.{Code}
 use Rattle.jpg_spec.specs.Numbers.{category, extra_bits, digits}

@@ -1,9 +1,9 @@
 -- WORKED EXAMPLES: small pictures, the bytes of their files, and where the blocks of a mirrored picture stand.
-use Rattle.std.specs.Prelude.{ℕ, Bool, true, false, List, [], ◌∷◌, ◌++◌, replicate, ℤ, pos, negsuc}
+use Rattle.std.specs.Prelude.{ℕ, true, false, List, [], ◌∷◌, ◌++◌, replicate, ℤ, pos, negsuc}
 use Rattle.jpg_spec.specs.Geometry.{Frame}
 use Rattle.jpg_spec.specs.Elements.{zeros}
 use Rattle.jpg_spec.specs.Scan.{Blocks}
-use Rattle.jpg_spec.specs.Meaning.{Meaning, PictureComponent, picture_frame}
+use Rattle.jpg_spec.specs.Meaning.{Meaning, picture_frame}
 use Rattle.jpg_spec.specs.GrayFile.{Gray, gray_front, end_of_image}
 use Rattle.jpg_spec.specs.declared.frame.Process.TheVariants.{Baseline}
 use Rattle.jpg_spec.specs.declared.frame.Place.{Place}

@@ -1,5 +1,5 @@
 -- THE FAULTS of an input: their order and their names, and what is told where there is none.
-use Rattle.std.specs.Prelude.{ℕ, Bool, List, if◌then◌else◌, Result, Ok, Err, codes}
+use Rattle.std.specs.Prelude.{ℕ, Bool, List, if◌then◌else◌, Result, Err, codes}
 use Rattle.jpg_spec.specs.declared.fault.Fault.{Fault}
 use Rattle.jpg_spec.specs.declared.fault.Fault.TheVariants.{NotBuilt, NotJpeg, Truncated, NoMarker, UnexpectedMarker, UnsupportedProcess, SecondFrame, SosBeforeSof, BadLength, MarkersTooLarge, EmptyImage, TooLarge, Precision, ComponentCount, Sampling, DuplicateComponent, QuantSlot, TooManyBlocks, BadQuant, BadHuffman, ScanComponent, McuTooLarge, ScanParameters, RepeatedScan, Progression, MissingTable, QuantChanged, NoCode, BadSymbol, BadRun, CoefRange, RunPastEnd, EntropyShort, ExtraData, RestartWrong, MissingComponent, InputTooLong, ColourOut, FractionalSampling, ScriptText, TableText, CommentTooLong, ImageText, ImageHeader, ImageUnsupported, ImageShort, ImageValue}
 

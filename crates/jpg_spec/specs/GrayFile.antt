@@ -13,7 +13,7 @@ use Rattle.jpg_spec.specs.ScanText.{typical_table}
 use Rattle.jpg_spec.specs.Meaning.{Meaning}
 use Rattle.jpg_spec.specs.Moves.{mirrored, flip_h, headed}
 use Rattle.jpg_spec.specs.Script.{sequential_script}
-use Rattle.jpg_spec.specs.FileText.{segment_text, file_text, frame_of_meaning, Restart, off}
+use Rattle.jpg_spec.specs.FileText.{segment_text, file_text, frame_of_meaning, off}
 use Rattle.jpg_spec.specs.declared.frame.Process.TheVariants.{Baseline}
 
 -- a gray picture: its sides, its quantisers in zigzag order, and its blocks row by row

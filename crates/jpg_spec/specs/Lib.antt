@@ -24,3 +24,4 @@ pub mod Transposed
 pub mod Typical
 pub mod Messages
 pub mod Words
+pub mod Written

@@ -1,5 +1,5 @@
 -- WHAT A FILE MEANS: its frame's numbers, its components with their quantisation tables, the real blocks, and the markers kept (T.81 B.2.1).
-use Rattle.std.specs.Prelude.{ℕ, Bool, nat_lt, ◌&&◌, if◌then◌else◌, List, length, map}
+use Rattle.std.specs.Prelude.{ℕ, nat_lt, ◌&&◌, if◌then◌else◌, List, length, map}
 use Rattle.jpg_spec.specs.Geometry.{Frame, is_real}
 use Rattle.jpg_spec.specs.Segments.{QuantTable}
 use Rattle.jpg_spec.specs.Elements.{zeros}

@@ -1,5 +1,5 @@
 -- What marker segments hold: quantisation tables, Huffman tables and scan headers (T.81 B.2.3, B.2.4).
-use Rattle.std.specs.Prelude.{ℕ, ◌*◌, ◌+◌, ◌^◌, List, [], map}
+use Rattle.std.specs.Prelude.{ℕ, ◌*◌, ◌+◌, ◌^◌, List, map}
 use Rattle.jpg_spec.specs.Codes.{Code, codes}
 use Rattle.jpg_spec.specs.declared.frame.ScanPart.{ScanPart}
 use Rattle.jpg_spec.specs.declared.frame.Limits.{Limits}

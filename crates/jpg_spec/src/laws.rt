@@ -1,14 +1,16 @@
 //! Laws over the definitions: bits mean one thing at most, and data that show a fault mean none.
-ghost use Rattle.std.specs.Prelude.{◌≡◌, ◌++◌, ◌≤◌, ℕ, ℤ, Bool, true, List, length, sum, Contains};
-ghost use Rattle.jpg_spec.specs.Bits.{Packs};
+ghost use Rattle.std.specs.Prelude.{◌≡◌, ◌++◌, ℕ, ℤ, Bool, true, false, List, length, sum, Contains, All};
+ghost use Rattle.jpg_spec.specs.Bits.{Packs, SpellsData, whole_bytes, padded, data_of};
 ghost use Rattle.jpg_spec.specs.Codes.{Code, codes, AreCodes, are_codes};
 ghost use Rattle.jpg_spec.specs.Typical.{dc_luma_counts, dc_luma_values, ac_luma_counts, ac_luma_values, dc_chroma_counts, dc_chroma_values, ac_chroma_counts, ac_chroma_values};
-ghost use Rattle.jpg_spec.specs.Geometry.{Frame};
+ghost use Rattle.jpg_spec.specs.Geometry.{Frame, is_progressive};
 ghost use Rattle.jpg_spec.specs.Segments.{ScanHead};
 ghost use Rattle.jpg_spec.specs.Elements.{Coding, UnitLeft, SpellsUnits};
 ghost use Rattle.jpg_spec.specs.Scan.{TablesInForce, scan_coding};
 ghost use Rattle.jpg_spec.specs.ScanFaults.{DataShows};
 ghost use Rattle.jpg_spec.specs.GrayFile.{typical_tables};
+ghost use Rattle.jpg_spec.specs.ScanText.{UnitDue};
+ghost use Rattle.jpg_spec.specs.Written.{IsWritable, sequential_bits, SpellsDue};
 ghost use Rattle.jpg_spec.specs.Sound.{IsSound, AreTables};
 ghost use Rattle.jpg_spec.specs.declared.fault.Fault.{Fault};
 
@@ -53,4 +55,16 @@ pub fn faults_exclude_intervals()
 /// Bytes hold one interval at most: the same bits, and so the same pad bits.
 pub fn bytes_hold_one_interval()
     ensures { (c : Coding) (units : List UnitLeft) (told more : List ℤ) (bits cits : List Bool) (coded : List ℕ) → IsSound c → Packs bits coded → SpellsUnits c units told bits → Packs cits coded → SpellsUnits c units more cits → (told ≡ more) × (bits ≡ cits) }
+{}
+
+/// What a sequential scan of precision 8 writes of an interval, by the typical tables and their first codes,
+/// is a whole interval of its units, and tells their values.
+pub fn written_scans_are_in_the_grammar()
+    ensures { (f : Frame) (head : ScanHead) (due : List UnitDue) → is_progressive f.process ≡ false → f.precision ≡ 8 → All (λ u. IsWritable (scan_coding f typical_tables head) u) due → SpellsDue (scan_coding f typical_tables head) due (sequential_bits head due) }
+{}
+
+/// The data that are written of bits hold these bits, with fewer than eight pad bits, and spell their bytes.
+pub fn written_data_hold_their_bits()
+    ensures packs { (bits : List Bool) → Packs bits (whole_bytes (padded bits)) }
+    ensures spells { (bits : List Bool) → SpellsData (whole_bytes (padded bits)) (data_of bits) }
 {}
