@@ -4,7 +4,7 @@
 use arrayvec::ArrayVec;
 use jpg_base::{Component, Frame, Limits, NoMemory, Process, ScanHead, ScanPart};
 use jpg_huff::{Gate, Passed, TableSet, Typical, typical};
-use crate::turn::turned;
+use crate::turn::turn_blocks;
 use jpg_seq::{BlockList, PlainRead, read_plain};
 use std::alloc::Global;
 
@@ -176,7 +176,7 @@ pub enum Judged {
 // The picture turned left to right.
 fn turn_picture(alloc: Global, picture: GrayPicture) -> Judged {
     let grid = picture.frame.blocks(0);
-    match turned(
+    match turn_blocks(
         alloc,
         &picture.blocks,
         grid.wide as usize,

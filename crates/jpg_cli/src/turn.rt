@@ -16,11 +16,11 @@ fn mirrored_value(odd: bool, value: i16) -> i16 {
 
 // The block with the signs of its odd horizontal frequencies changed.
 fn mirrored(block: &Block) -> Block {
-    let mut result = Block::zero();
+    let mut turned = Block::zero();
     for k in 0..64 {
-        result.set(k, mirrored_value(ODD_ACROSS[k as usize], block.get(k)));
+        turned.set(k, mirrored_value(ODD_ACROSS[k as usize], block.get(k)));
     }
-    result
+    turned
 }
 
 // A row of blocks from right to left, each mirrored.
@@ -28,24 +28,24 @@ fn turn_row(
     blocks: &BlockList,
     first: usize,
     across: usize,
-    result: &mut BlockList,
+    turned: &mut BlockList,
 ) -> Result<(), NoMemory> {
     for x in 0..across {
-        result.push(&mirrored(&blocks.get(first + (across - 1 - x))))?;
+        turned.push(&mirrored(&blocks.get(first + (across - 1 - x))))?;
     }
     Ok(())
 }
 
 /// The blocks of a picture mirrored left to right: each row from right to left, each block mirrored.
-pub fn turned(
+pub fn turn_blocks(
     alloc: Global,
     blocks: &BlockList,
     across: usize,
     down: usize,
 ) -> Result<BlockList, NoMemory> {
-    let mut result = BlockList::new(alloc);
+    let mut turned = BlockList::new(alloc);
     for y in 0..down {
-        turn_row(blocks, y * across, across, &mut result)?;
+        turn_row(blocks, y * across, across, &mut turned)?;
     }
-    Ok(result)
+    Ok(turned)
 }
