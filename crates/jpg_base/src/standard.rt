@@ -4,9 +4,9 @@ ghost use Rattle.jpg_base.specs.Desk.{raised, Rose};
 ghost use Rattle.jpg_base.specs.Standard.{ReadsSome, WritesAll};
 
 use crate::{Counts, Desk, Got, Name, Put};
-use std::fs;
 use std::io::{Read, Write};
 use std::rt::Runtime;
+use std::{fs, io};
 
 #[derive(Drop)]
 enum Source<R: Runtime> {
@@ -102,13 +102,6 @@ fn write_whole<W: Write>(writer: &mut W, piece: &[u8]) -> Put
     Put::Done
 }
 
-fn print_whole<R: Runtime>(rt: &R, piece: &[u8]) -> Put {
-    match rt.write_all(piece) {
-        Ok(()) => Put::Done,
-        Err(_) => Put::Failed,
-    }
-}
-
 impl<R: Runtime> Desk for StdDesk<R> {
     ghost use Rattle.jpg_base.specs.Desk.{Opens, Reads, Creates, Writes, Says, counted_open, counted_read, counted_write, counted_say};
     ghost use Rattle.jpg_base.specs.Standard.{std_state};
@@ -193,7 +186,7 @@ impl<R: Runtime> Desk for StdDesk<R> {
     {
         let answer = match &mut self.sink {
             Sink::Closed => Put::Failed,
-            Sink::Standard => print_whole(&self.rt, piece),
+            Sink::Standard => write_whole(&mut io::writer(&self.rt), piece),
             Sink::File(file) => write_whole(file, piece),
         };
         if let Put::Failed = answer {
