@@ -1,4 +1,6 @@
 pub mod Counted
 pub mod Decimal
+pub mod PlainScan
 pub mod Input
 pub mod Names
+pub mod Output

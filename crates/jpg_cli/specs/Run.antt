@@ -51,13 +51,13 @@ Turned old other new = ⊥
 
 -- by what the words ask for
 abbrev pub Worked : Asked → DeskState → Why → DeskState → Type 0
-Worked (asked.Wrong usage) old why new = (why ≡ why.Usage usage) × Untouched old new
-Worked asked.NotBuilt old why new = (why ≡ why.Refused (not_built 0)) × Untouched old new
-Worked asked.FlipHorizontal old why new = Turned old why new
+Worked (asked.Wrong usage) old ended new = (ended ≡ why.Usage usage) × Untouched old new
+Worked asked.NotBuilt old ended new = (ended ≡ why.Refused (not_built 0)) × Untouched old new
+Worked asked.FlipHorizontal old ended new = Turned old ended new
 
 -- the work of a run, before its message
-pub record Works (words : List (List ℕ)) (old : DeskState) (why : Why) (new : DeskState) : Type 0 where
-  pub worked : Worked (asked words) old why new
+pub record Works (words : List (List ℕ)) (old : DeskState) (ended : Why) (new : DeskState) : Type 0 where
+  pub worked : Worked (asked words) old ended new
   pub counts : NoneFell old.counts new.counts
   pub files : new.files ≡ old.files
   pub said : new.said ≡ old.said

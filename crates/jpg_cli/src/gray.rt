@@ -1,10 +1,13 @@
 //! The plain gray file: a baseline file of one component, with the typical tables and sides that are
 //! multiples of 8 (T.81 B.2, JFIF 1.02).
+ghost use Rattle.std.specs.Prelude.{◌≡◌, IfSome};
+ghost use Rattle.jpg_spec.specs.GrayFile.{gray_frame, gray_head};
+ghost use Rattle.jpg_cli.specs.Gray.{HasLuma};
 
+use crate::turn::turn_blocks;
 use arrayvec::ArrayVec;
 use jpg_base::{Component, Frame, Limits, NoMemory, Process, ScanHead, ScanPart};
 use jpg_huff::{Gate, Passed, TableSet, Typical, typical};
-use crate::turn::turn_blocks;
 use jpg_seq::{BlockList, PlainRead, read_plain};
 use std::alloc::Global;
 
@@ -71,8 +74,8 @@ fn front_of(bytes: &[u8]) -> Option<Front<'_>> {
 fn data_of(rest: &[u8]) -> Option<&[u8]> {
     let mut gate = Gate::new();
     let mut end = 0;
-    for (i, byte) in rest.iter().enumerate() {
-        match gate.byte(*byte) {
+    for i in 0..rest.len() {
+        match gate.byte(rest[i]) {
             Passed::More => {}
             Passed::Data(_) => end = i + 1,
             Passed::Marker(code) => {
@@ -91,7 +94,9 @@ fn has_zero(quants: &[u8; 64]) -> bool {
 }
 
 // The frame of a gray picture whose sides are multiples of 8 within the limits.
-fn gray_frame(width: u32, height: u32) -> Option<Frame> {
+fn frame_of(width: u32, height: u32) -> Option<Frame>
+    ensures { IfSome result (λ f. f ≡ gray_frame width height) }
+{
     if width % 8 != 0 || height % 8 != 0 {
         return None;
     }
@@ -116,7 +121,9 @@ fn gray_frame(width: u32, height: u32) -> Option<Frame> {
 }
 
 // A scan of component 1 by the tables in slot 0.
-fn gray_head() -> ScanHead {
+fn scan_head() -> ScanHead
+    ensures { result ≡ gray_head }
+{
     let mut parts = ArrayVec::new();
     parts.push(ScanPart {
         component: 0,
@@ -133,7 +140,9 @@ fn gray_head() -> ScanHead {
 }
 
 // K.3 and K.5 in slot 0.
-fn gray_tables() -> TableSet {
+fn luma_tables() -> TableSet
+    ensures { HasLuma result }
+{
     let mut tables = TableSet::new();
     tables.set_dc(0, &typical(Typical::DcLuma));
     tables.set_ac(0, &typical(Typical::AcLuma));
@@ -148,13 +157,13 @@ fn read_gray(alloc: Global, bytes: &[u8]) -> Result<Option<GrayPicture>, NoMemor
     let Some(data) = data_of(front.rest) else {
         return Ok(None);
     };
-    let Some(frame) = gray_frame(front.width, front.height) else {
+    let Some(frame) = frame_of(front.width, front.height) else {
         return Ok(None);
     };
     if has_zero(&front.quants) {
         return Ok(None);
     }
-    match read_plain(alloc, &frame, &gray_head(), &gray_tables(), data) {
+    match read_plain(alloc, &frame, &scan_head(), &luma_tables(), data) {
         Err(_) => Err(NoMemory),
         Ok(PlainRead::NotPlain) => Ok(None),
         Ok(PlainRead::Blocks(blocks)) => Ok(Some(GrayPicture {
@@ -176,12 +185,12 @@ pub enum Judged {
 // The picture turned left to right.
 fn turn_picture(alloc: Global, picture: GrayPicture) -> Judged {
     let grid = picture.frame.blocks(0);
-    match turn_blocks(
-        alloc,
-        &picture.blocks,
-        grid.wide as usize,
-        grid.high as usize,
-    ) {
+    let across = grid.wide as usize;
+    let down = grid.high as usize;
+    if picture.blocks.len() != across * down {
+        return Judged::NotPlain;
+    }
+    match turn_blocks(alloc, &picture.blocks, across, down) {
         Err(_) => Judged::NoMemory,
         Ok(blocks) => Judged::Plain(GrayPicture {
             frame: picture.frame,

@@ -1,4 +1,5 @@
 //! Blocks mirrored left to right (the manual of jpegtran).
+ghost use Rattle.std.specs.Prelude.{◌≡◌, ◌≤◌, ◌+◌, ◌*◌, ◌<◌, ◌^◌, length};
 
 use jpg_base::{Block, NoMemory};
 use jpg_seq::BlockList;
@@ -23,15 +24,18 @@ fn mirrored(block: &Block) -> Block {
     turned
 }
 
-// A row of blocks from right to left, each mirrored.
+// The row of blocks before `end` from right to left, each mirrored.
 fn turn_row(
     blocks: &BlockList,
-    first: usize,
+    end: usize,
     across: usize,
     turned: &mut BlockList,
-) -> Result<(), NoMemory> {
+) -> Result<(), NoMemory>
+    requires row { across ≤ end }
+    requires end { end ≤ length blocks.now }
+{
     for x in 0..across {
-        turned.push(&mirrored(&blocks.get(first + (across - 1 - x))))?;
+        turned.push(&mirrored(&blocks.get(end - 1 - x)))?;
     }
     Ok(())
 }
@@ -42,10 +46,13 @@ pub fn turn_blocks(
     blocks: &BlockList,
     across: usize,
     down: usize,
-) -> Result<BlockList, NoMemory> {
+) -> Result<BlockList, NoMemory>
+    requires grid { length blocks.now ≡ across * down }
+    requires fits { across * down < 2 ^ 64 }
+{
     let mut turned = BlockList::new(alloc);
     for y in 0..down {
-        turn_row(blocks, y * across, across, &mut turned)?;
+        turn_row(blocks, y * across + across, across, &mut turned)?;
     }
     Ok(turned)
 }
