@@ -1,5 +1,5 @@
 -- The real blocks of a component lie in its padded grid, and there is one at least.
-use Rattle.std.proofs.Common.{◌≡◌, ℕ, ◌+◌, ◌-◌, ◌*◌, ◌/◌, ◌<◌, ◌≤◌, arith}
+use Rattle.std.proofs.Common.{◌≡◌, ℕ, ◌+◌, ◌-◌, ◌*◌, ◌<◌, ◌≤◌, arith}
 use Rattle.std.proofs.Math.Nat.{lt-div-mul-add, div-lt_iff_lt-mul, mul-le-mul_right}
 use Rattle.std.proofs.lemmas.Nat.{le-div, mul-le}
 use Rattle.jpg_spec.specs.Geometry.{div_up}
