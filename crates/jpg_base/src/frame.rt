@@ -38,12 +38,12 @@ impl Model for Frame {
 }
 
 impl Frame {
-    #[tactic(auto, unfolding(jpg_spec::specs::FrameHeader::checked_frame))]
     /// The frame of these numbers, or the first fault that forbids it, in this order: EmptyImage
     /// (a side is 0), TooLarge (a side above `limits.side`), Precision (not 8), ComponentCount
     /// (not one to four), Sampling (a factor not 1 to 4), DuplicateComponent (two equal
     /// identifiers), QuantSlot (above 3), TooManyBlocks (more than `limits.blocks` in the padded
     /// grids) (T.81, B.2.2). It takes no memory.
+    #[tactic(auto, unfolding(jpg_spec::specs::FrameHeader::checked_frame))]
     pub fn new(
         process: Process,
         precision: u8,
@@ -106,13 +106,15 @@ impl Frame {
         }
     }
 
-    /// What every frame keeps, for proofs. It does nothing.
+    /// Tells what every frame keeps: the facts of `IsFrame`, which hold of its numbers since they
+    /// passed the checks. It does nothing.
     pub fn checked(&self)
         ensures { IsFrame self.now }
     {
         let _ = &self.precision;
     }
 
+    /// The coding process (T.81, Table B.1).
     pub fn process(&self) -> Process
         ensures { result ≡ self.now.process }
     {
