@@ -5,7 +5,7 @@ ghost use Rattle.jpg_spec.specs.Bits.{SpellsByte, data_of};
 ghost use Rattle.jpg_huff.specs.declared.table.Table.{Table};
 ghost use Rattle.jpg_huff.specs.declared.gate.Passed.{Passed};
 ghost use Rattle.jpg_huff.specs.declared.gate.Passed.TheVariants.{Data, Marker};
-ghost use Rattle.jpg_huff.specs.declared.buffer.WriteFault.{WriteFault};
+ghost use Rattle.jpg_base.specs.declared.stop.WriteFault.{WriteFault};
 ghost use Rattle.jpg_huff.specs.Tables.{table_of, symbol_codes};
 ghost use Rattle.jpg_huff.specs.Laws.{IsTable, AreApart, Feeds, AtLast};
 ghost use Rattle.jpg_huff.specs.Out.{Emits, OnlyWrites};
