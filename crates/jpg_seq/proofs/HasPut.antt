@@ -58,3 +58,7 @@ pub part_fault : (s0 s1 s2 : DeskState) (old mid new : Waiting) (all rest bits l
 part_fault s0 s1 s2 old mid new all rest bits left fault e h k =
     subst (λ x. HasPut s0 old x (Err fault) new s2) (append_assoc h.front bits left ∙ ap (λ x. h.front ++ x) (sym e) ∙ h.joined)
     (put_fault s0 s2 old new (h.front ++ bits) left fault (put_then s0 s1 s2 old mid new h.front bits (Err fault) h.put k))
+
+-- the same bits in another way
+pub put_same : (s0 s1 : DeskState) (old new : Waiting) (xs ys : List Bool) (r : Result (Unit {0}) WriteFault) → xs ≡ ys → HasPut s0 old xs r new s1 → HasPut s0 old ys r new s1
+put_same s0 s1 old new xs ys r e h = subst (λ x. HasPut s0 old x r new s1) e h

@@ -9,7 +9,7 @@ invariant-loop-left g l =
     let state = g.D.Desk.state in
     record {
       created : (state l.desk).output_created ≡ true;
-      part : IsPart (state l.fn.desk) l.fn.out (run_bits (symbol_codes l.ac) l.fn.run l.value) (run_bits (symbol_codes l.ac) l.left l.value) l.out (state l.desk);
+      part : IsPart (state l.fn.desk) l.fn.out (run_bits (symbol_codes l.ac) l.fn.run l.fn.value) (run_bits (symbol_codes l.ac) l.left l.fn.value) l.out (state l.desk);
     }
 
 abbrev pub decreases-loop-left : goal.decreases-loop-left
