@@ -8,13 +8,14 @@ use Rattle.std.proofs.lemmas.Option.{get_or_from_slice_get, slice_get_within}
 use Rattle.jpg_spec.specs.Codes.{Code}
 use Rattle.jpg_spec.specs.Numbers.{category, extra_bits}
 use Rattle.jpg_spec.specs.Geometry.{Frame}
-use Rattle.jpg_spec.specs.Segments.{table_codes}
+use Rattle.jpg_spec.specs.Segments.{HuffmanTable, table_codes}
 use Rattle.jpg_spec.specs.Elements.{Coding, Element, difference, value, long_run, ends, is_zero, are_in_bounds}
 use Rattle.jpg_spec.specs.Sending.{sent, shifted, band_elements}
 use Rattle.jpg_spec.specs.Scan.{scan_coding}
 use Rattle.jpg_spec.specs.ScanText.{UnitDue, Owned, unit_elements, with_prediction, element_bits, typical_table, code_of}
 use Rattle.jpg_spec.specs.GrayFile.{gray_head, typical_tables}
 use Rattle.jpg_spec.specs.Written.{IsWritable, sequential_bits}
+use Rattle.jpg_huff.specs.Annex.{dc_luma_table, ac_luma_table}
 use Rattle.jpg_spec.proofs.Telling.{both}
 use Rattle.jpg_spec.proofs.Small.{shifted_none, ac_category}
 use Rattle.jpg_seq.specs.PlainText.{plain_bits, spelled, band_bits, block_bits, blocks_bits}
@@ -131,3 +132,6 @@ units_coded (block ∷ blocks) p =
 pub blocks_coded : (blocks : List (List ℤ)) → blocks_bits dc_codes ac_codes (pos 0) blocks ≡ plain_bits blocks
 unfolding plain_bits
 blocks_coded blocks = sym (units_coded blocks (λ i. pos 0))
+
+pub blocks_by : (dc ac : HuffmanTable) (blocks : List (List ℤ)) → dc ≡ dc_luma_table → ac ≡ ac_luma_table → blocks_bits (table_codes dc) (table_codes ac) (pos 0) blocks ≡ plain_bits blocks
+blocks_by dc ac blocks e f = ap (λ t. blocks_bits (table_codes t) (table_codes ac) (pos 0) blocks) e ∙ ap (λ t. blocks_bits dc_codes (table_codes t) (pos 0) blocks) f ∙ blocks_coded blocks

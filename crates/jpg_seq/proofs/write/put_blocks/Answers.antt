@@ -25,6 +25,25 @@ returns-in-Err g c =
     let blocks = c.args.blocks.now in
     let i = c.loop-i.i in
     let block = c.get-block.result in
-    let p = c.loop-i.prediction in
+    let p = to_z w16 c.loop-i.prediction-bits in
     part_fault (state c.args.desk.now) (state c.loop-i.desk) (state c.put_block.new.desk) c.args.out.now c.loop-i.out c.put_block.new.out (blocks_bits dc ac (pos 0) blocks) (blocks_bits dc ac p (drop i blocks))
     (block_bits dc ac p block) (blocks_bits dc ac (slice_index_or block 0 (pos 0)) (drop (i + 1) blocks)) c.in-Err.fault (blocks_at dc ac p blocks i block c.get-block.ensures) c.loop-i.invariant.part c.in-Err.ensures
+
+pub loop-i-preserved : goal.loop-i-preserved
+loop-i-preserved g c =
+    let state = g.D.Desk.state in
+    let dc = symbol_codes c.args.dc.now in
+    let ac = symbol_codes c.args.ac.now in
+    let blocks = c.args.blocks.now in
+    let i = c.loop-i.i in
+    let block = c.get-block.result in
+    let p = to_z w16 c.loop-i.prediction-bits in
+    let f : SFits w16 c.get-prediction.result = search rules in
+    let later : blocks_bits dc ac (to_z w16 (of_z w16 c.get-prediction.result)) (drop (i + 1) blocks) ≡ blocks_bits dc ac (slice_index_or block 0 (pos 0)) (drop (i + 1) blocks) =
+    ap (λ w. blocks_bits dc ac w (drop (i + 1) blocks)) (to_z-of_z w16 c.get-prediction.result f ∙ c.get-prediction.ensures.value) in
+    record {
+      created = c.in-Ok.ensures.kept.output_created ∙ c.loop-i.invariant.created;
+      part = part_same (state c.args.desk.now) (state c.put_block.new.desk) c.args.out.now c.put_block.new.out (blocks_bits dc ac (pos 0) blocks) _ _ (sym later)
+          (part_then (state c.args.desk.now) (state c.loop-i.desk) (state c.put_block.new.desk) c.args.out.now c.loop-i.out c.put_block.new.out (blocks_bits dc ac (pos 0) blocks) (blocks_bits dc ac p (drop i blocks))
+              (block_bits dc ac p block) (blocks_bits dc ac (slice_index_or block 0 (pos 0)) (drop (i + 1) blocks)) (blocks_at dc ac p blocks i block c.get-block.ensures) c.loop-i.invariant.part c.in-Ok.ensures);
+    }
