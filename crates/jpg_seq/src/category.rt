@@ -1,26 +1,30 @@
 //! A number's category and its extra bits, for writing (T.81, F.1.2.1, F.1.2.2).
-ghost use Rattle.std.specs.Prelude.{◌≤◌};
-
-// The magnitude, without its sign.
-fn magnitude(value: i32) -> u32 {
-    value.unsigned_abs()
-}
+ghost use Rattle.std.specs.Prelude.{◌≡◌, ◌≤◌, ◌<◌, ◌^◌, nat_abs};
+ghost use Rattle.jpg_spec.specs.Bits.{bits_of};
+ghost use Rattle.jpg_spec.specs.Numbers.{digits, category as category_of, extra_bits as extra_of};
 
 // The number of binary digits, 0 for 0.
 fn binary_digits(magnitude: u32) -> u8
-    ensures { result ≤ 32 }
+    ensures digits { result ≡ digits magnitude }
+    ensures fits { result ≤ 32 }
 {
     (32 - magnitude.leading_zeros()) as u8
 }
 
-/// The category: the number of binary digits of the magnitude.
-pub fn category(value: i32) -> u8 {
-    binary_digits(magnitude(value))
+/// The category: the number of binary digits of the magnitude, 0 to 32.
+pub fn category(value: i32) -> u8
+    ensures category { result ≡ category_of value }
+    ensures fits { result ≤ 32 }
+{
+    binary_digits(value.unsigned_abs())
 }
 
-/// The extra bits, as a number.
-pub fn extra_bits(value: i32) -> u32 {
-    let magnitude = magnitude(value);
+/// The extra bits, as a number of as many bits as the category.
+pub fn extra_bits(value: i32) -> u32
+    ensures extra { bits_of (category_of value) result ≡ extra_of value }
+    ensures fits { result < 2 ^ category_of value }
+{
+    let magnitude = value.unsigned_abs();
     if value >= 0 {
         magnitude
     } else {

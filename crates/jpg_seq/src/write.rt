@@ -1,9 +1,35 @@
 //! The data of a plain scan, written (T.81, F.1.2).
+ghost use Rattle.std.specs.Prelude.{◌≡◌, ◌≤◌, ◌++◌, [], drop, true, All, pos, ◌-ℤ◌};
+ghost use Rattle.jpg_spec.specs.Numbers.{category as category_of, extra_bits as extra_of};
+ghost use Rattle.jpg_spec.specs.ScanText.{code_of};
+ghost use Rattle.jpg_spec.specs.Scan.{scan_coding};
+ghost use Rattle.jpg_spec.specs.GrayFile.{gray_head, typical_tables};
+ghost use Rattle.jpg_spec.specs.Written.{IsWritable};
+ghost use Rattle.jpg_huff.specs.Tables.{symbol_codes};
+ghost use Rattle.jpg_huff.specs.Out.{Emits, OnlyWrites};
+ghost use Rattle.jpg_seq.specs.PlainText.{plain_data, run_bits, band_bits, block_bits, blocks_bits};
+ghost use Rattle.jpg_seq.specs.Put.{HasPut, IsShort};
 
 use crate::BlockList;
 use crate::category::{category, extra_bits};
 use jpg_base::{Block, Desk, Frame, WriteFault};
 use jpg_huff::{BitOut, Table, Typical, typical};
+
+// The first code of a symbol, if any.
+fn put_code<D: Desk>(
+    table: &Table,
+    symbol: u8,
+    out: &mut BitOut,
+    desk: &mut D,
+) -> Result<(), WriteFault>
+    requires { (D.state desk.old).output_created ≡ true }
+    ensures { HasPut (D.state desk.old) out.old (code_of (symbol_codes table.now) symbol) result out.new (D.state desk.new) }
+{
+    match table.code(symbol) {
+        Some(code) => out.put(u32::from(code.bits), code.length, desk),
+        None => Ok(()),
+    }
+}
 
 // The first code of a symbol, and then the extra bits of a value.
 fn put_value<D: Desk>(
@@ -12,20 +38,13 @@ fn put_value<D: Desk>(
     value: i32,
     out: &mut BitOut,
     desk: &mut D,
-) -> Result<(), WriteFault> {
-    put_code(table, symbol, out, desk)?;
-    out.put(extra_bits(value), category(value), desk)
-}
-
-fn put_code<D: Desk>(
-    table: &Table,
-    symbol: u8,
-    out: &mut BitOut,
-    desk: &mut D,
-) -> Result<(), WriteFault> {
-    match table.code(symbol) {
-        Some(code) => out.put(u32::from(code.bits), code.length, desk),
-        None => Ok(()),
+) -> Result<(), WriteFault>
+    requires { (D.state desk.old).output_created ≡ true }
+    ensures { HasPut (D.state desk.old) out.old (code_of (symbol_codes table.now) symbol ++ extra_of value) result out.new (D.state desk.new) }
+{
+    match put_code(table, symbol, out, desk) {
+        Ok(()) => out.put(extra_bits(value), category(value), desk),
+        Err(fault) => Err(fault),
     }
 }
 
@@ -36,12 +55,20 @@ fn put_run<D: Desk>(
     value: i16,
     out: &mut BitOut,
     desk: &mut D,
-) -> Result<(), WriteFault> {
-    for _ in 0..run / 16 {
-        put_code(ac, 0xf0, out, desk)?;
+) -> Result<(), WriteFault>
+    requires created { (D.state desk.old).output_created ≡ true }
+    requires short { category_of value ≤ 15 }
+    ensures { HasPut (D.state desk.old) out.old (run_bits (symbol_codes ac.now) run value) result out.new (D.state desk.new) }
+{
+    let mut left = run;
+    while left >= 16 {
+        match put_code(ac, 0xf0, out, desk) {
+            Ok(()) => left -= 16,
+            Err(fault) => return Err(fault),
+        }
     }
     let value = i32::from(value);
-    put_value(ac, 16 * (run % 16) + category(value), value, out, desk)
+    put_value(ac, 16 * left + category(value), value, out, desk)
 }
 
 // The values behind the first, and the end of the block where zeros are left.
@@ -50,21 +77,35 @@ fn put_band<D: Desk>(
     block: &Block,
     out: &mut BitOut,
     desk: &mut D,
-) -> Result<(), WriteFault> {
+) -> Result<(), WriteFault>
+    requires created { (D.state desk.old).output_created ≡ true }
+    requires short { IsShort block.now }
+    ensures { HasPut (D.state desk.old) out.old (band_bits (symbol_codes ac.now) (drop 1 block.now)) result out.new (D.state desk.new) }
+{
+    block.long();
     let mut run = 0;
     for k in 1..64 {
         let value = block.get(k);
         if value == 0 {
             run += 1;
         } else {
-            put_run(ac, run, value, out, desk)?;
-            run = 0;
+            match put_run(ac, run, value, out, desk) {
+                Ok(()) => run = 0,
+                Err(fault) => return Err(fault),
+            }
         }
     }
     if run > 0 {
-        put_code(ac, 0, out, desk)?;
+        put_code(ac, 0, out, desk)
+    } else {
+        Ok(())
     }
-    Ok(())
+}
+
+fn difference(value: i16, prediction: i16) -> i32
+    ensures { result ≡ value -ℤ prediction }
+{
+    i32::from(value) - i32::from(prediction)
 }
 
 fn put_block<D: Desk>(
@@ -74,28 +115,60 @@ fn put_block<D: Desk>(
     block: &Block,
     out: &mut BitOut,
     desk: &mut D,
-) -> Result<(), WriteFault> {
-    let difference = i32::from(block.get(0)) - i32::from(prediction);
-    put_value(dc, category(difference), difference, out, desk)?;
-    put_band(ac, block, out, desk)
+) -> Result<(), WriteFault>
+    requires created { (D.state desk.old).output_created ≡ true }
+    requires short { IsShort block.now }
+    ensures { HasPut (D.state desk.old) out.old (block_bits (symbol_codes dc.now) (symbol_codes ac.now) prediction block.now) result out.new (D.state desk.new) }
+{
+    let value = difference(block.get(0), prediction);
+    match put_value(dc, category(value), value, out, desk) {
+        Ok(()) => put_band(ac, block, out, desk),
+        Err(fault) => Err(fault),
+    }
+}
+
+fn put_blocks<D: Desk>(
+    dc: &Table,
+    ac: &Table,
+    blocks: &BlockList,
+    out: &mut BitOut,
+    desk: &mut D,
+) -> Result<(), WriteFault>
+    requires created { (D.state desk.old).output_created ≡ true }
+    requires short { All IsShort blocks.now }
+    ensures { HasPut (D.state desk.old) out.old (blocks_bits (symbol_codes dc.now) (symbol_codes ac.now) (pos 0) blocks.now) result out.new (D.state desk.new) }
+{
+    let mut prediction = 0;
+    for i in 0..blocks.len() {
+        let block = blocks.get(i);
+        match put_block(dc, ac, prediction, &block, out, desk) {
+            Ok(()) => prediction = block.get(0),
+            Err(fault) => return Err(fault),
+        }
+    }
+    Ok(())
 }
 
 /// Writes the data of a scan of these blocks by the typical luminance tables, padded with ones. The
-/// blocks are those of the frame's grid with values within its bounds, and no bits wait. After a
-/// fault a first part of the bytes has gone out.
+/// blocks have 64 values each within the bounds of the frame, and no bits wait, neither before nor
+/// afterwards. After a fault a first part of the bytes has gone out.
 pub fn write_plain<D: Desk>(
     blocks: &BlockList,
     frame: &Frame,
     out: &mut BitOut,
     desk: &mut D,
-) -> Result<(), WriteFault> {
+) -> Result<(), WriteFault>
+    requires created { (D.state desk.old).output_created ≡ true }
+    requires none { out.old.bits ≡ [] }
+    requires writable { All (λ block. IsWritable (scan_coding frame.now typical_tables gray_head) (0, block)) blocks.now }
+    ensures kept { OnlyWrites (D.state desk.old) (D.state desk.new) }
+    ensures emits { Emits (D.state desk.old) out.old.bytes (plain_data blocks.now) result out.new.bytes (D.state desk.new) }
+    ensures whole { out.new.bits ≡ [] }
+{
     let dc = typical(Typical::DcLuma);
     let ac = typical(Typical::AcLuma);
-    let mut prediction = 0;
-    for i in 0..blocks.len() {
-        let block = blocks.get(i);
-        put_block(&dc, &ac, prediction, &block, out, desk)?;
-        prediction = block.get(0);
+    match put_blocks(&dc, &ac, blocks, out, desk) {
+        Ok(()) => out.pad(desk),
+        Err(fault) => Err(fault),
     }
-    out.pad(desk)
 }

@@ -1,0 +1,55 @@
+use Rattle.std.proofs.Common.{◌≡◌, ◌+◌, ◌*◌, ◌-◌, ◌<◌, ◌++◌, refl, sym, ap, ◌∙◌, arith, rules}
+use mir.Syntax.{w16, w32}
+use mir.Val.{SFits, to_z, of_z}
+use Rattle.std.proofs.lemmas.Int.{to_z-of_z}
+use Rattle.jpg_spec.specs.Numbers.{category, extra_bits}
+use Rattle.jpg_spec.specs.ScanText.{code_of}
+use Rattle.jpg_huff.specs.Tables.{symbol_codes}
+use Rattle.jpg_seq.specs.PlainText.{run_bits}
+use Rattle.jpg_seq.proofs.Bands.{run_more, run_last}
+use Rattle.jpg_seq.proofs.HasPut.{put_same, part_start, part_then, part_last, part_fault}
+use Rattle.jpg_seq.proofs.write.put_run.Goals as goal
+
+pub loop-left-init : goal.loop-left-init
+loop-left-init g c =
+    let all = run_bits (symbol_codes c.args.ac.now) c.args.run (to_z w16 (of_z w16 c.args.value)) in
+    record { created = c.requires.created; part = part_start (g.D.Desk.state c.args.desk.now) c.args.out.now all all refl }
+
+pub loop-left-preserved : goal.loop-left-preserved
+loop-left-preserved g c =
+    let state = g.D.Desk.state in
+    let codes = symbol_codes c.args.ac.now in
+    let v = to_z w16 (of_z w16 c.args.value) in
+    let left = c.loop-left.left in
+    record {
+      created = c.in-Ok.ensures.kept.output_created ∙ c.loop-left.invariant.created;
+      part = part_then (state c.args.desk.now) (state c.loop-left.desk) (state c.put_code.new.desk) c.args.out.now c.loop-left.out c.put_code.new.out (run_bits codes c.args.run v)
+          (run_bits codes left v) (code_of codes 0xf0) (run_bits codes (left - 16) v) (run_more codes left v c.loop-left-test.true) c.loop-left.invariant.part c.in-Ok.ensures;
+    }
+
+pub returns-in-Err : goal.returns-in-Err
+returns-in-Err g c =
+    let state = g.D.Desk.state in
+    let codes = symbol_codes c.args.ac.now in
+    let v = to_z w16 (of_z w16 c.args.value) in
+    let left = c.loop-left.left in
+    let f : SFits w16 c.args.value = search rules in
+    let h = part_fault (state c.args.desk.now) (state c.loop-left.desk) (state c.put_code.new.desk) c.args.out.now c.loop-left.out c.put_code.new.out (run_bits codes c.args.run v) (run_bits codes left v)
+    (code_of codes 0xf0) (run_bits codes (left - 16) v) c.in-Err.fault (run_more codes left v c.loop-left-test.true) c.loop-left.invariant.part c.in-Err.ensures in
+    put_same _ _ _ _ _ _ _ (ap (run_bits codes c.args.run) (to_z-of_z w16 c.args.value f)) h
+
+pub returns : goal.returns
+returns g c =
+    let state = g.D.Desk.state in
+    let codes = symbol_codes c.args.ac.now in
+    let v = to_z w16 (of_z w16 c.args.value) in
+    let left = c.loop-left.left in
+    let f : SFits w16 c.args.value = search rules in
+    let l : left < 16 = omega (arith, c.loop-left-test.false) in
+    let w = to_z w32 (of_z w32 c.from-value.result) in
+    let fw : SFits w32 c.from-value.result = search rules in
+    let same : w ≡ v = to_z-of_z w32 c.from-value.result fw ∙ c.from-value.ensures in
+    let e = run_last codes left v l ∙ ap (λ x. code_of codes (16 * left + category x) ++ extra_bits x) (sym same) ∙ ap (λ n. code_of codes (16 * left + n) ++ extra_bits w) (sym c.category.ensures.category) in
+    let h = part_last (state c.args.desk.now) (state c.loop-left.desk) (state c.put_value.new.desk) c.args.out.now c.loop-left.out c.put_value.new.out (run_bits codes c.args.run v) (run_bits codes left v)
+    (code_of codes (16 * left + c.category.result) ++ extra_bits w) c.put_value.result e c.loop-left.invariant.part c.put_value.ensures in
+    put_same _ _ _ _ _ _ _ (ap (run_bits codes c.args.run) (to_z-of_z w16 c.args.value f)) h
