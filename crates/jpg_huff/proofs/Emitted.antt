@@ -5,7 +5,7 @@ use Rattle.jpg_base.specs.declared.names.Name.{Name}
 use Rattle.jpg_base.specs.Desk.{DeskState, AppendsLast, append_last, Writes}
 use Rattle.jpg_base.specs.declared.names.Put.TheVariants.{Done, Failed}
 use Rattle.jpg_base.specs.Laws.{AppendsPart, AppendsPart-more, AppendsPart-then, AppendsLast-then, NoneFell-then}
-use Rattle.jpg_huff.specs.declared.buffer.WriteFault.{WriteFault}
+use Rattle.jpg_huff.specs.declared.fault.WriteFault.{WriteFault}
 use Rattle.jpg_huff.specs.Out.{Emits, OnlyWrites}
 
 append_last-nil : (outputs : List (Name × List ℕ)) → append_last outputs [] ≡ outputs

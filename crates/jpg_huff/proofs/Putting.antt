@@ -5,7 +5,7 @@ use Rattle.std.proofs.lemmas.Nat.{shl_whole, one_shl, shr_split, mul-add-lt, pow
 use Rattle.std.proofs.Math.Nat.{pow-succ'}
 use Rattle.jpg_base.specs.Desk.{DeskState}
 use Rattle.jpg_spec.specs.Bits.{bits_of, whole_bytes, padded, stuffed, stuffed_byte}
-use Rattle.jpg_huff.specs.declared.buffer.WriteFault.{WriteFault}
+use Rattle.jpg_huff.specs.declared.fault.WriteFault.{WriteFault}
 use Rattle.jpg_huff.specs.Out.{Emits}
 use Rattle.jpg_huff.specs.Waiting.{Waiting}
 use Rattle.jpg_huff.specs.BitOut.{Puts, Pads}

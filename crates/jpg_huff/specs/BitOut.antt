@@ -2,7 +2,7 @@
 use Rattle.std.specs.Prelude.{◌≡◌, ℕ, ◌*◌, Bool, List, [], ◌++◌, length, Result, Ok, Err}
 use Rattle.jpg_base.specs.Desk.{DeskState}
 use Rattle.jpg_spec.specs.Bits.{stuffed, whole_bytes, data_of}
-use Rattle.jpg_huff.specs.declared.buffer.WriteFault.{WriteFault}
+use Rattle.jpg_huff.specs.declared.fault.WriteFault.{WriteFault}
 use Rattle.jpg_huff.specs.Out.{Emits}
 use Rattle.jpg_huff.specs.Waiting.{Waiting}
 

@@ -2,7 +2,7 @@
 use Rattle.std.specs.Prelude.{◌≡◌, ℕ, List, [], ◌++◌, Result, Ok, Err}
 use Rattle.jpg_base.specs.Desk.{DeskState, NoneFell, Rose, AppendsLast}
 use Rattle.jpg_base.specs.Laws.{AppendsPart}
-use Rattle.jpg_huff.specs.declared.buffer.WriteFault.{WriteFault}
+use Rattle.jpg_huff.specs.declared.fault.WriteFault.{WriteFault}
 
 -- nothing but the outputs and the counts changed
 pub record OnlyWrites (old new : DeskState) : Type 0 where

@@ -3,12 +3,9 @@ ghost use Rattle.std.specs.Prelude.{◌≡◌, ◌≤◌, ◌<◌, ◌+◌, [], 
 ghost use Rattle.jpg_spec.specs.Bits.{bits_of, stuffed, stuffed_byte, whole_bytes};
 ghost use Rattle.jpg_huff.specs.Out.{Emits, OnlyWrites};
 
+use crate::WriteFault;
 use jpg_base::{Desk, Put};
 use std::marker::Model;
-
-/// The output could not be written.
-#[derive(Clone, Copy, Debug, PartialEq, Eq)]
-pub struct WriteFault;
 
 #[derive(Drop)]
 pub(crate) struct Buffer {
