@@ -5,11 +5,7 @@ use Rattle.jpg_base.specs.declared.names.Name.{Name}
 use Rattle.jpg_base.specs.Desk.{DeskState, AppendsLast, append_last, Writes}
 use Rattle.jpg_base.specs.declared.names.Put.TheVariants.{Done, Failed}
 use Rattle.jpg_base.specs.Laws.{AppendsPart, AppendsPart-more, AppendsPart-then, AppendsLast-then, NoneFell-then}
-<<<<<<< HEAD
 use Rattle.jpg_base.specs.declared.stop.WriteFault.{WriteFault}
-=======
-use Rattle.jpg_huff.specs.declared.fault.WriteFault.{WriteFault}
->>>>>>> 5b35c5533ba1aadff0241115e61aa6aa89488b76
 use Rattle.jpg_huff.specs.Out.{Emits, OnlyWrites}
 
 append_last-nil : (outputs : List (Name × List ℕ)) → append_last outputs [] ≡ outputs
@@ -72,16 +68,3 @@ emits_unwritten s0 s1 piece fault w = (w.after.1, refl, w.after.0)
 -- room was made, and more waits or a fault came
 pub emits_more : (s0 s1 : DeskState) (old mid more new : List ℕ) → Emits s0 old [] (Ok tt) mid s1 → new ≡ mid ++ more → Emits s0 old more (Ok tt) new s1
 emits_more s0 s1 old mid more new h e = (h.0, h.1, ap (λ x. x ++ more) (sym (append-nil old) ∙ h.2) ∙ append_assoc h.0 mid more ∙ ap (λ x. h.0 ++ x) (sym e))
-
--- nothing happened
-pub OnlyWrites-same : (s : DeskState) → OnlyWrites s s
-OnlyWrites-same s =
-    record {
-      counts = record { opens = omega arith; reads = omega arith; writes = omega arith; says = omega arith };
-      asked = refl;
-      files = refl;
-      left = refl;
-      said = refl;
-      input_open = refl;
-      output_created = refl;
-    }

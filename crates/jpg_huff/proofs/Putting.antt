@@ -4,15 +4,9 @@ use Rattle.std.proofs.lemmas.List.{append-nil}
 use Rattle.std.proofs.lemmas.Nat.{shl_whole, one_shl, shr_split, mul-add-lt, pow-add, pow_below, pow_pos, mod_below}
 use Rattle.std.proofs.Math.Nat.{pow-succ'}
 use Rattle.jpg_base.specs.Desk.{DeskState}
-<<<<<<< HEAD
-use Rattle.jpg_spec.specs.Bits.{bits_of, whole_bytes, padded, data_of, stuffed, stuffed_byte}
-use Rattle.jpg_base.specs.declared.stop.WriteFault.{WriteFault}
-use Rattle.jpg_huff.specs.Out.{Emits, OnlyWrites}
-=======
 use Rattle.jpg_spec.specs.Bits.{bits_of, whole_bytes, padded, stuffed, stuffed_byte}
-use Rattle.jpg_huff.specs.declared.fault.WriteFault.{WriteFault}
+use Rattle.jpg_base.specs.declared.stop.WriteFault.{WriteFault}
 use Rattle.jpg_huff.specs.Out.{Emits}
->>>>>>> 5b35c5533ba1aadff0241115e61aa6aa89488b76
 use Rattle.jpg_huff.specs.Waiting.{Waiting}
 use Rattle.jpg_huff.specs.BitOut.{Puts, Pads}
 use Rattle.jpg_spec.proofs.Strings.{length-bits_of}

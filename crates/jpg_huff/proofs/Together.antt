@@ -4,11 +4,7 @@ use Rattle.std.proofs.lemmas.List.{append_assoc, append-nil, length-append}
 use Rattle.std.proofs.lemmas.List.Concat.{flat_map-append}
 use Rattle.jpg_base.specs.Desk.{DeskState}
 use Rattle.jpg_spec.specs.Bits.{number_from, whole_bytes, padded, data_of, stuffed, stuffed_byte}
-<<<<<<< HEAD
 use Rattle.jpg_base.specs.declared.stop.WriteFault.{WriteFault}
-=======
-use Rattle.jpg_huff.specs.declared.fault.WriteFault.{WriteFault}
->>>>>>> 5b35c5533ba1aadff0241115e61aa6aa89488b76
 use Rattle.jpg_huff.specs.Out.{Emits, OnlyWrites}
 use Rattle.jpg_huff.specs.Waiting.{Waiting}
 use Rattle.jpg_huff.specs.BitOut.{AreWhole, Puts, Pads}

@@ -2,11 +2,7 @@
 use Rattle.std.specs.Prelude.{◌≡◌, ℕ, ◌*◌, Bool, List, [], ◌++◌, length, Result, Ok, Err}
 use Rattle.jpg_base.specs.Desk.{DeskState}
 use Rattle.jpg_spec.specs.Bits.{stuffed, whole_bytes, data_of}
-<<<<<<< HEAD
 use Rattle.jpg_base.specs.declared.stop.WriteFault.{WriteFault}
-=======
-use Rattle.jpg_huff.specs.declared.fault.WriteFault.{WriteFault}
->>>>>>> 5b35c5533ba1aadff0241115e61aa6aa89488b76
 use Rattle.jpg_huff.specs.Out.{Emits}
 use Rattle.jpg_huff.specs.Waiting.{Waiting}
 

@@ -2,11 +2,7 @@
 use Rattle.std.specs.Prelude.{◌≡◌, ℕ, List, [], ◌++◌, Result, Ok, Err}
 use Rattle.jpg_base.specs.Desk.{DeskState, NoneFell, Rose, AppendsLast}
 use Rattle.jpg_base.specs.Laws.{AppendsPart}
-<<<<<<< HEAD
 use Rattle.jpg_base.specs.declared.stop.WriteFault.{WriteFault}
-=======
-use Rattle.jpg_huff.specs.declared.fault.WriteFault.{WriteFault}
->>>>>>> 5b35c5533ba1aadff0241115e61aa6aa89488b76
 
 -- nothing but the outputs and the counts changed
 pub record OnlyWrites (old new : DeskState) : Type 0 where

@@ -3,12 +3,7 @@ ghost use Rattle.std.specs.Prelude.{◌≡◌, ◌≤◌, ◌<◌, ◌+◌, [], 
 ghost use Rattle.jpg_spec.specs.Bits.{bits_of, stuffed, stuffed_byte, whole_bytes};
 ghost use Rattle.jpg_huff.specs.Out.{Emits, OnlyWrites};
 
-<<<<<<< HEAD
 use jpg_base::{Desk, Put, WriteFault};
-=======
-use crate::WriteFault;
-use jpg_base::{Desk, Put};
->>>>>>> 5b35c5533ba1aadff0241115e61aa6aa89488b76
 use std::marker::Model;
 
 #[derive(Drop)]

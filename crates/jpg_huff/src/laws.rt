@@ -5,13 +5,9 @@ ghost use Rattle.jpg_spec.specs.Bits.{SpellsByte, data_of};
 ghost use Rattle.jpg_huff.specs.declared.table.Table.{Table};
 ghost use Rattle.jpg_huff.specs.declared.gate.Passed.{Passed};
 ghost use Rattle.jpg_huff.specs.declared.gate.Passed.TheVariants.{Data, Marker};
-<<<<<<< HEAD
 ghost use Rattle.jpg_base.specs.declared.stop.WriteFault.{WriteFault};
-=======
-ghost use Rattle.jpg_huff.specs.declared.fault.WriteFault.{WriteFault};
 ghost use Rattle.jpg_huff.specs.declared.walk.WalkStep.{WalkStep};
 ghost use Rattle.jpg_huff.specs.Walk.{Answers};
->>>>>>> 5b35c5533ba1aadff0241115e61aa6aa89488b76
 ghost use Rattle.jpg_huff.specs.Tables.{table_of, symbol_codes};
 ghost use Rattle.jpg_huff.specs.Laws.{IsTable, AreApart, Feeds, AtLast};
 ghost use Rattle.jpg_huff.specs.Out.{Emits, OnlyWrites};
