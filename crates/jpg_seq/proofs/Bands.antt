@@ -1,6 +1,6 @@
 -- The elements of a band, value by value with a run of zeros that waits.
-use Rattle.std.proofs.Common.{◌≡◌, ◌≢◌, ℕ, zero, suc, ◌+◌, ◌-◌, ◌*◌, ◌/◌, ◌%◌, ◌<◌, ◌≤◌, Bool, true, false, cond, List, [], ◌∷◌, ◌++◌, length, refl, sym, ap, ◌∙◌, subst, arith, ℤ, pos, negsuc, ⊎_elim, lit≤, ◌==◌}
-use Rattle.std.specs.Prelude.{map, flat_map, replicate, not, ◌||◌, if◌then◌else◌}
+use Rattle.std.proofs.Common.{◌≡◌, ◌≢◌, ℕ, zero, suc, ◌+◌, ◌-◌, ◌*◌, ◌/◌, ◌%◌, ◌<◌, ◌≤◌, Bool, true, false, cond, List, [], ◌∷◌, ◌++◌, refl, sym, ap, ◌∙◌, arith, ℤ, pos, negsuc, ⊎_elim, lit≤, ◌==◌}
+use Rattle.std.specs.Prelude.{map, flat_map, replicate, if◌then◌else◌}
 use Rattle.std.proofs.lemmas.Bool.{cases_eq}
 use Rattle.std.proofs.lemmas.Bool.Decides.{nat_tests}
 use Rattle.std.proofs.lemmas.List.{append_assoc, append-nil}
@@ -9,7 +9,7 @@ use Rattle.jpg_spec.specs.Bits.{bits_of}
 use Rattle.jpg_spec.specs.Codes.{Code}
 use Rattle.jpg_spec.specs.Lists.{any_of, is_empty}
 use Rattle.jpg_spec.specs.Numbers.{digits, category, extra_bits}
-use Rattle.jpg_spec.specs.Elements.{Element, value, long_run, ends, is_zero, symbol_of, bits_behind}
+use Rattle.jpg_spec.specs.Elements.{Element, value, long_run, ends, is_zero}
 use Rattle.jpg_spec.specs.Sending.{Sent, newly, sent, is_new, up_to_last, behind_last, corrections_of, value_elements, band_elements}
 use Rattle.jpg_spec.specs.ScanText.{code_of}
 use Rattle.jpg_spec.proofs.Small.{divided_none}

@@ -1,6 +1,6 @@
 -- The bits of blocks one after another, by their places.
-use Rattle.std.proofs.Common.{◌≡◌, ℕ, zero, suc, ◌+◌, ◌-◌, ◌*◌, ◌/◌, ◌%◌, ◌<◌, ◌≤◌, Bool, true, false, List, [], ◌∷◌, ◌++◌, length, drop, Some, refl, sym, ap, ◌∙◌, subst, arith, add-one, ℤ, pos, negsuc, cond, ◌==◌, ◌&&◌, lit≤}
-use Rattle.std.specs.Prelude.{map, flat_map, replicate, slice_get, slice_index_or, All, int_le, nat_abs, neg_ℤ, ◌-ℤ◌}
+use Rattle.std.proofs.Common.{◌≡◌, ℕ, zero, suc, ◌+◌, ◌/◌, ◌%◌, ◌<◌, ◌≤◌, Bool, true, false, List, [], ◌∷◌, ◌++◌, length, drop, Some, refl, sym, ap, ◌∙◌, subst, arith, add-one, ℤ, pos, cond, ◌&&◌, lit≤}
+use Rattle.std.specs.Prelude.{map, flat_map, replicate, slice_get, slice_index_or, All, int_le, nat_abs, ◌-ℤ◌}
 use Rattle.std.proofs.Math.Seq.{drop-cons}
 use Rattle.std.proofs.lemmas.List.{append_assoc, drop_all}
 use Rattle.std.proofs.lemmas.List.Elements.{All-get_or, All-from_get_or}
@@ -9,18 +9,18 @@ use Rattle.jpg_spec.specs.Codes.{Code}
 use Rattle.jpg_spec.specs.Numbers.{category, extra_bits}
 use Rattle.jpg_spec.specs.Geometry.{Frame}
 use Rattle.jpg_spec.specs.Segments.{HuffmanTable, table_codes}
-use Rattle.jpg_spec.specs.Elements.{Coding, Element, difference, value, long_run, ends, is_zero, are_in_bounds}
+use Rattle.jpg_spec.specs.Elements.{Coding, Element, difference, value, long_run, is_zero, are_in_bounds}
 use Rattle.jpg_spec.specs.Sending.{sent, shifted, band_elements}
 use Rattle.jpg_spec.specs.Scan.{scan_coding}
 use Rattle.jpg_spec.specs.ScanText.{UnitDue, Owned, unit_elements, with_prediction, element_bits, typical_table, code_of}
 use Rattle.jpg_spec.specs.GrayFile.{gray_head, typical_tables}
-use Rattle.jpg_spec.specs.Written.{IsWritable, sequential_bits}
+use Rattle.jpg_spec.specs.Written.{IsWritable}
 use Rattle.jpg_huff.specs.Annex.{dc_luma_table, ac_luma_table}
 use Rattle.jpg_spec.proofs.Telling.{both}
 use Rattle.jpg_spec.proofs.Small.{shifted_none, ac_category}
 use Rattle.jpg_seq.specs.PlainText.{plain_bits, spelled, band_bits, block_bits, blocks_bits}
 use Rattle.jpg_seq.specs.Put.{IsShort}
-use Rattle.jpg_seq.proofs.Bands.{left_bits, plain_elements, end_elements, band_plain}
+use Rattle.jpg_seq.proofs.Bands.{left_bits, plain_elements, band_plain}
 
 -- the value at a place, and those behind it
 pub left_at : (codes : List Code) (block : List ℤ) (k run : ℕ) → k < length block → left_bits codes (drop k block) run ≡ left_bits codes (slice_index_or block k (pos 0) ∷ drop (k + 1) block) run

@@ -1,13 +1,10 @@
 -- Categories as they are counted.
-use Rattle.std.proofs.Common.{◌≡◌, ℕ, zero, suc, ◌+◌, ◌-◌, ◌*◌, ◌%◌, ◌^◌, ◌<◌, ◌≤◌, refl, sym, ap, ◌∙◌, subst, arith, ℤ, pos, negsuc, add-one, ⊎_elim}
+use Rattle.std.proofs.Common.{◌≡◌, ℕ, zero, suc, ◌-◌, ◌*◌, ◌%◌, ◌^◌, ◌<◌, ◌≤◌, refl, sym, subst, arith, ⊎_elim}
 use lib.Count.{count_leading_zeros}
-use Rattle.std.specs.Prelude.{nat_abs, ◌≤ℤ◌, ◌<ℤ◌}
-use Rattle.std.proofs.lemmas.Int.{ints}
-use Rattle.std.proofs.lemmas.Nat.{leading_top, one_shl, pow_below}
+use Rattle.std.proofs.lemmas.Nat.{leading_top, one_shl}
 use Rattle.std.proofs.lemmas.Bool.{cases_lt}
 use Rattle.std.proofs.Math.Nat.{pow-succ', pow-le-pow_right}
-use Rattle.jpg_spec.specs.Bits.{bits_of}
-use Rattle.jpg_spec.specs.Numbers.{digits, category, extra_bits}
+use Rattle.jpg_spec.specs.Numbers.{digits}
 use Rattle.jpg_spec.proofs.Facts.{below_digits, above_digits}
 
 powers_order : (a b : ℕ) → 2 ^ a < 2 ^ b → a < b

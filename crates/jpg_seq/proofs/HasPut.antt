@@ -1,11 +1,9 @@
 -- Bits that are put one after another.
-use Rattle.std.proofs.Common.{◌≡◌, ℕ, Bool, List, [], ◌++◌, Result, Ok, Err, refl, sym, ap, ◌∙◌, subst}
+use Rattle.std.proofs.Common.{◌≡◌, Bool, List, [], ◌++◌, Result, Ok, Err, sym, ap, ◌∙◌, subst}
 use Rattle.std.proofs.lemmas.List.{append_assoc, append-nil}
 use Rattle.jpg_base.specs.Desk.{DeskState}
 use Rattle.jpg_base.specs.declared.stop.WriteFault.{WriteFault}
-use Rattle.jpg_huff.specs.Out.{OnlyWrites}
 use Rattle.jpg_huff.specs.Waiting.{Waiting}
-use Rattle.jpg_huff.specs.BitOut.{Puts}
 use Rattle.jpg_huff.proofs.Emitted.{OnlyWrites-then, OnlyWrites-same}
 use Rattle.jpg_huff.proofs.Together.{puts_nothing, puts_then, puts_fault_more}
 use Rattle.jpg_seq.specs.Put.{HasPut}

@@ -1,4 +1,4 @@
-use Rattle.std.proofs.Common.{◌≡◌, ◌<◌, ◌^◌, ap, sym, subst, ◌∙◌, rules}
+use Rattle.std.proofs.Common.{◌<◌, ◌^◌, ap, sym, subst, ◌∙◌, rules}
 use mir.Syntax.{w32}
 use mir.Val.{SFits}
 use Rattle.std.specs.Prelude.{nat_abs}

@@ -1,4 +1,4 @@
-use Rattle.std.proofs.Common.{◌≡◌, ◌≢◌, ◌+◌, ◌<◌, ◌≤◌, ◌++◌, ◌∷◌, [], ℤ, pos, drop, length, refl, sym, ap, ◌∙◌, subst, arith, rules}
+use Rattle.std.proofs.Common.{◌≡◌, ◌≢◌, ◌+◌, ◌<◌, ◌≤◌, ◌++◌, ◌∷◌, pos, drop, length, sym, ap, ◌∙◌, subst, arith, rules}
 use mir.Syntax.{w16}
 use mir.Val.{SFits, to_z, of_z}
 use Rattle.std.specs.Prelude.{slice_index_or}
@@ -9,7 +9,7 @@ use Rattle.jpg_huff.specs.Tables.{symbol_codes}
 use Rattle.jpg_seq.specs.PlainText.{run_bits, band_bits}
 use Rattle.jpg_seq.proofs.Bands.{left_bits, left_all, left_zero, left_value, left_none, left_zeros}
 use Rattle.jpg_seq.proofs.Blocks.{left_at, left_end}
-use Rattle.jpg_seq.proofs.HasPut.{put_same, part_start, part_same, part_then, part_last, part_end, part_fault}
+use Rattle.jpg_seq.proofs.HasPut.{part_start, part_same, part_then, part_last, part_end, part_fault}
 use Rattle.jpg_seq.proofs.write.put_band.Goals as goal
 use Rattle.jpg_seq.proofs.write.put_band.Goals.{then-value-eq0, else-value-eq0+in-Ok}
 
@@ -62,25 +62,25 @@ loop-k-preserved g c =
     let rest = left_bits codes (drop k block) run in
     let a = left_at codes block k run l in
     elim c.if-value-eq0.branch [
-      then-value-eq0 w ↦
-        (let z : x ≡ pos 0 = sym e ∙ ap (to_z w16) w.if-value-eq0.true in
-        let s : rest ≡ left_bits codes (drop (k + 1) block) (run + 1) = a ∙ ap (λ y. left_bits codes (y ∷ drop (k + 1) block) run) z ∙ left_zero codes (drop (k + 1) block) run in
-        rw (w.out-is, w.desk-is, w.run-is)
-        (record {
-          created = c.loop-k.invariant.created;
-          part = part_same (state c.args.desk.now) (state c.loop-k.desk) c.args.out.now c.loop-k.out all rest (left_bits codes (drop (k + 1) block) (run + 1)) s c.loop-k.invariant.part;
-          few = omega (arith, c.loop-k.invariant.few);
-        }))
+      | then-value-eq0 w ↦
+          (let z : x ≡ pos 0 = sym e ∙ ap (to_z w16) w.if-value-eq0.true in
+          let s : rest ≡ left_bits codes (drop (k + 1) block) (run + 1) = a ∙ ap (λ y. left_bits codes (y ∷ drop (k + 1) block) run) z ∙ left_zero codes (drop (k + 1) block) run in
+          rw (w.out-is, w.desk-is, w.run-is)
+          (record {
+            created = c.loop-k.invariant.created;
+            part = part_same (state c.args.desk.now) (state c.loop-k.desk) c.args.out.now c.loop-k.out all rest (left_bits codes (drop (k + 1) block) (run + 1)) s c.loop-k.invariant.part;
+            few = omega (arith, c.loop-k.invariant.few);
+          }))
       | else-value-eq0+in-Ok w ↦
-        (let n : x ≢ pos 0 = λ z. w.if-value-eq0.false (ap (of_z w16) (c.get-value.ensures.value ∙ z)) in
-        let s : rest ≡ run_bits codes run v ++ left_bits codes (drop (k + 1) block) 0 = a ∙ left_value codes x (drop (k + 1) block) run n ∙ ap (λ y. run_bits codes run y ++ left_bits codes (drop (k + 1) block) 0) (sym e) in
-        rw (w.out-is, w.desk-is, w.run-is)
-        (record {
-          created = w.in-Ok.ensures.kept.output_created ∙ c.loop-k.invariant.created;
-          part = part_then (state c.args.desk.now) (state c.loop-k.desk) (state w.put_run.new.desk) c.args.out.now c.loop-k.out w.put_run.new.out all rest (run_bits codes run v)
-              (left_bits codes (drop (k + 1) block) 0) s c.loop-k.invariant.part w.in-Ok.ensures;
-          few = omega arith;
-        }))
+          (let n : x ≢ pos 0 = λ z. w.if-value-eq0.false (ap (of_z w16) (c.get-value.ensures.value ∙ z)) in
+          let s : rest ≡ run_bits codes run v ++ left_bits codes (drop (k + 1) block) 0 = a ∙ left_value codes x (drop (k + 1) block) run n ∙ ap (λ y. run_bits codes run y ++ left_bits codes (drop (k + 1) block) 0) (sym e) in
+          rw (w.out-is, w.desk-is, w.run-is)
+          (record {
+            created = w.in-Ok.ensures.kept.output_created ∙ c.loop-k.invariant.created;
+            part = part_then (state c.args.desk.now) (state c.loop-k.desk) (state w.put_run.new.desk) c.args.out.now c.loop-k.out w.put_run.new.out all rest (run_bits codes run v)
+                (left_bits codes (drop (k + 1) block) 0) s c.loop-k.invariant.part w.in-Ok.ensures;
+            few = omega arith;
+          }))
     ]
 
 pub returns-then-run-gt0 : goal.returns-then-run-gt0

@@ -1,4 +1,4 @@
-use Rattle.std.proofs.Common.{◌≡◌, Bool, List, ◌++◌, ℤ, pos, sym, ap, ◌∙◌, subst, rules, drop}
+use Rattle.std.proofs.Common.{◌≡◌, ◌++◌, pos, ap, ◌∙◌, rules, drop}
 use mir.Syntax.{w16, w32}
 use mir.Val.{SFits, to_z, of_z}
 use Rattle.std.specs.Prelude.{slice_index_or, ◌-ℤ◌}
@@ -21,7 +21,7 @@ returns-in-Ok g c =
     let fv : SFits w16 c.get.result = search rules in
     let fp : SFits w16 c.args.prediction = search rules in
     let e : w ≡ d = to_z-of_z w32 c.difference-value.result f ∙ c.difference-value.ensures
-        ∙ ap (λ x. x -ℤ to_z w16 (of_z w16 c.args.prediction)) (to_z-of_z w16 c.get.result fv ∙ c.get.ensures.value) ∙ ap (λ x. slice_index_or c.args.block.now 0 (pos 0) -ℤ x) (to_z-of_z w16 c.args.prediction fp) in
+    ∙ ap (λ x. x -ℤ to_z w16 (of_z w16 c.args.prediction)) (to_z-of_z w16 c.get.result fv ∙ c.get.ensures.value) ∙ ap (λ x. slice_index_or c.args.block.now 0 (pos 0) -ℤ x) (to_z-of_z w16 c.args.prediction fp) in
     let q = ap (λ n. code_of dc n ++ extra_bits w) c.category.ensures.category ∙ ap (λ x. code_of dc (category x) ++ extra_bits x) e in
     put_then (state c.args.desk.now) (state c.put_value.new.desk) (state c.put_band.new.desk) c.args.out.now c.put_value.new.out c.put_band.new.out (code_of dc (category d) ++ extra_bits d)
     (band_bits (symbol_codes c.args.ac.now) (drop 1 c.args.block.now)) c.put_band.result (put_same _ _ _ _ _ _ _ q c.in-Ok.ensures) c.put_band.ensures
@@ -37,7 +37,7 @@ returns-in-Err g c =
     let fv : SFits w16 c.get.result = search rules in
     let fp : SFits w16 c.args.prediction = search rules in
     let e : w ≡ d = to_z-of_z w32 c.difference-value.result f ∙ c.difference-value.ensures
-        ∙ ap (λ x. x -ℤ to_z w16 (of_z w16 c.args.prediction)) (to_z-of_z w16 c.get.result fv ∙ c.get.ensures.value) ∙ ap (λ x. slice_index_or c.args.block.now 0 (pos 0) -ℤ x) (to_z-of_z w16 c.args.prediction fp) in
+    ∙ ap (λ x. x -ℤ to_z w16 (of_z w16 c.args.prediction)) (to_z-of_z w16 c.get.result fv ∙ c.get.ensures.value) ∙ ap (λ x. slice_index_or c.args.block.now 0 (pos 0) -ℤ x) (to_z-of_z w16 c.args.prediction fp) in
     let q = ap (λ n. code_of dc n ++ extra_bits w) c.category.ensures.category ∙ ap (λ x. code_of dc (category x) ++ extra_bits x) e in
     put_fault (state c.args.desk.now) (state c.put_value.new.desk) c.args.out.now c.put_value.new.out (code_of dc (category d) ++ extra_bits d) (band_bits (symbol_codes c.args.ac.now) (drop 1 c.args.block.now)) c.in-Err.fault
     (put_same _ _ _ _ _ _ _ q c.in-Err.ensures)

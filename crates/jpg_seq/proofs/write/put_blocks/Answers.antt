@@ -1,12 +1,12 @@
-use Rattle.std.proofs.Common.{◌≡◌, ◌+◌, ◌<◌, ◌≤◌, ◌++◌, [], ℤ, pos, drop, length, refl, sym, ap, ◌∙◌, arith, rules}
+use Rattle.std.proofs.Common.{◌≡◌, ◌+◌, pos, drop, refl, sym, ap, ◌∙◌, rules}
 use mir.Syntax.{w16}
 use mir.Val.{SFits, to_z, of_z}
 use Rattle.std.specs.Prelude.{slice_index_or}
 use Rattle.std.proofs.lemmas.Int.{to_z-of_z}
 use Rattle.jpg_huff.specs.Tables.{symbol_codes}
 use Rattle.jpg_seq.specs.PlainText.{block_bits, blocks_bits}
-use Rattle.jpg_seq.proofs.Blocks.{blocks_at, blocks_end, short_at}
-use Rattle.jpg_seq.proofs.HasPut.{put_same, part_start, part_same, part_then, part_end, part_fault}
+use Rattle.jpg_seq.proofs.Blocks.{blocks_at, short_at}
+use Rattle.jpg_seq.proofs.HasPut.{part_start, part_same, part_then, part_fault}
 use Rattle.jpg_seq.proofs.write.put_blocks.Goals as goal
 
 pub loop-i-init : goal.loop-i-init
@@ -45,5 +45,5 @@ loop-i-preserved g c =
       created = c.in-Ok.ensures.kept.output_created ∙ c.loop-i.invariant.created;
       part = part_same (state c.args.desk.now) (state c.put_block.new.desk) c.args.out.now c.put_block.new.out (blocks_bits dc ac (pos 0) blocks) _ _ (sym later)
           (part_then (state c.args.desk.now) (state c.loop-i.desk) (state c.put_block.new.desk) c.args.out.now c.loop-i.out c.put_block.new.out (blocks_bits dc ac (pos 0) blocks) (blocks_bits dc ac p (drop i blocks))
-              (block_bits dc ac p block) (blocks_bits dc ac (slice_index_or block 0 (pos 0)) (drop (i + 1) blocks)) (blocks_at dc ac p blocks i block c.get-block.ensures) c.loop-i.invariant.part c.in-Ok.ensures);
+          (block_bits dc ac p block) (blocks_bits dc ac (slice_index_or block 0 (pos 0)) (drop (i + 1) blocks)) (blocks_at dc ac p blocks i block c.get-block.ensures) c.loop-i.invariant.part c.in-Ok.ensures);
     }

@@ -1,4 +1,4 @@
-use Rattle.std.proofs.Common.{◌≡◌, Bool, List, [], Ok, Option, ap, subst}
+use Rattle.std.proofs.Common.{◌≡◌, [], Ok, ap, subst}
 use Rattle.std.specs.Prelude.{unwrap_or}
 use Rattle.jpg_spec.specs.ScanText.{code_of}
 use Rattle.jpg_huff.specs.Tables.{symbol_codes}

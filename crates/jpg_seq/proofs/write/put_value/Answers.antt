@@ -1,4 +1,4 @@
-use Rattle.std.proofs.Common.{◌≡◌, Bool, List, Ok, ap, subst, ◌∙◌, rules}
+use Rattle.std.proofs.Common.{◌≡◌, ap, subst, ◌∙◌, rules}
 use mir.Syntax.{w32}
 use mir.Val.{SFits}
 use Rattle.std.proofs.lemmas.Int.{to_z-of_z}
@@ -7,7 +7,6 @@ use Rattle.jpg_spec.specs.Numbers.{extra_bits}
 use Rattle.jpg_spec.specs.ScanText.{code_of}
 use Rattle.jpg_huff.specs.Tables.{symbol_codes}
 use Rattle.jpg_huff.specs.BitOut.{Puts}
-use Rattle.jpg_seq.specs.Put.{HasPut}
 use Rattle.jpg_seq.proofs.HasPut.{put_then, put_fault}
 use Rattle.jpg_seq.proofs.write.put_value.Goals as goal
 
