@@ -68,3 +68,16 @@ emits_unwritten s0 s1 piece fault w = (w.after.1, refl, w.after.0)
 -- room was made, and more waits or a fault came
 pub emits_more : (s0 s1 : DeskState) (old mid more new : List ℕ) → Emits s0 old [] (Ok tt) mid s1 → new ≡ mid ++ more → Emits s0 old more (Ok tt) new s1
 emits_more s0 s1 old mid more new h e = (h.0, h.1, ap (λ x. x ++ more) (sym (append-nil old) ∙ h.2) ∙ append_assoc h.0 mid more ∙ ap (λ x. h.0 ++ x) (sym e))
+
+-- nothing happened
+pub OnlyWrites-same : (s : DeskState) → OnlyWrites s s
+OnlyWrites-same s =
+    record {
+      counts = record { opens = omega arith; reads = omega arith; writes = omega arith; says = omega arith };
+      asked = refl;
+      files = refl;
+      left = refl;
+      said = refl;
+      input_open = refl;
+      output_created = refl;
+    }
