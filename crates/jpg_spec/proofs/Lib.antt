@@ -7,10 +7,12 @@ pub mod Levels
 pub mod Once
 pub mod OneCode
 pub mod Packing
+pub mod Rows
 pub mod Sequential
 pub mod Small
 pub mod Sound
 pub mod Spelled
 pub mod Strings
 pub mod Telling
+pub mod Turned
 pub mod Writing
