@@ -7,6 +7,7 @@ pub mod Levels
 pub mod Once
 pub mod OneCode
 pub mod Packing
+pub mod PlainText
 pub mod Rows
 pub mod Sequential
 pub mod Small

@@ -1,7 +1,10 @@
 //! Laws over the plain gray file: how its picture is turned left to right, and what is written of it.
-ghost use Rattle.std.specs.Prelude.{◌≡◌, ◌-◌, ◌<◌, ℕ};
-ghost use Rattle.jpg_spec.specs.Moves.{mirrored, flip_h};
-ghost use Rattle.jpg_spec.specs.GrayFile.{Gray, IsGray, across, down, gray_meaning, flipped_gray};
+ghost use Rattle.std.specs.Prelude.{◌≡◌, ◌-◌, ◌<◌, ◌++◌, ℕ, ℤ, pos, true, false, List, map, flat_map};
+ghost use Rattle.jpg_spec.specs.Bits.{data_of};
+ghost use Rattle.jpg_spec.specs.ScanText.{element_bits, unit_elements, typical_table};
+ghost use Rattle.jpg_spec.specs.Moves.{mirrored, flip_h, headed};
+ghost use Rattle.jpg_spec.specs.GrayFile.{Gray, IsGray, across, down, gray_head, gray_front, end_of_image, gray_meaning, flipped_gray, sequential_text, turned_text};
+ghost use Rattle.jpg_spec.specs.Written.{plain_bits};
 
 /// The mirrored picture is a gray picture again, and mirrored twice a picture is what it was, and means the same.
 pub fn turning_twice_restores()
@@ -15,4 +18,12 @@ pub fn turning_twice_restores()
 pub fn flipped_meaning()
     ensures whole { (g : Gray) → IsGray g → gray_meaning (flipped_gray g) ≡ flip_h (gray_meaning g) }
     ensures blocks { (g : Gray) (x y : ℕ) → IsGray g → x < across g → y < down g → (gray_meaning (flipped_gray g)).blocks 0 x y ≡ mirrored ((gray_meaning g).blocks 0 (across g - 1 - x) y) }
+{}
+
+/// What is written of a gray picture in one sequential scan is the plain file's front, the data of its blocks in order,
+/// and EOI (T.81 B.2, F.1.2), and so is the turned file.
+pub fn turned_file_is_plain_text()
+    ensures picture { (g : Gray) → IsGray g → sequential_text (headed (gray_meaning g)) ≡ gray_front g.width g.height g.quants ++ data_of (plain_bits g.blocks) ++ end_of_image }
+    ensures turned { (g : Gray) → IsGray g → turned_text g ≡ gray_front g.width g.height g.quants ++ data_of (plain_bits (flipped_gray g).blocks) ++ end_of_image }
+    ensures bits { (blocks : List (List ℤ)) → plain_bits blocks ≡ flat_map (element_bits typical_table gray_head) (unit_elements true false 0 (λ i. pos 0) (map (λ block. (0, block)) blocks)) }
 {}
