@@ -34,7 +34,7 @@ bounds_of_digits (suc most) n h =
     (omega (arith, p, r.0), low)))
     (cases_eq n 0)
 
-below_digits : (n : ℕ) → n < 2 ^ digits n
+pub below_digits : (n : ℕ) → n < 2 ^ digits n
 unfolding digits
 below_digits n = (bounds_of_digits n n (omega arith)).0
 

@@ -16,4 +16,5 @@ pub mod Spelled
 pub mod Strings
 pub mod Telling
 pub mod Turned
+pub mod Within
 pub mod Writing

@@ -1,10 +1,10 @@
 //! Laws over the plain gray file: how its picture is turned left to right, and what is written of it.
-ghost use Rattle.std.specs.Prelude.{◌≡◌, ◌-◌, ◌<◌, ◌++◌, ℕ, ℤ, pos, true, false, List, map, flat_map};
+ghost use Rattle.std.specs.Prelude.{◌≡◌, ◌-◌, ◌<◌, ◌++◌, ℕ, ℤ, pos, true, false, List, map, flat_map, All};
 ghost use Rattle.jpg_spec.specs.Bits.{data_of};
 ghost use Rattle.jpg_spec.specs.ScanText.{element_bits, unit_elements, typical_table};
 ghost use Rattle.jpg_spec.specs.Moves.{mirrored, flip_h, headed};
-ghost use Rattle.jpg_spec.specs.GrayFile.{Gray, IsGray, across, down, gray_head, gray_front, end_of_image, gray_meaning, flipped_gray, sequential_text, turned_text};
-ghost use Rattle.jpg_spec.specs.Written.{plain_bits};
+ghost use Rattle.jpg_spec.specs.GrayFile.{Gray, IsGray, across, down, gray_head, gray_coding, gray_front, end_of_image, SpellsGray, gray_meaning, flipped_gray, sequential_text, turned_text};
+ghost use Rattle.jpg_spec.specs.Written.{IsWritable, plain_bits};
 
 /// The mirrored picture is a gray picture again, and mirrored twice a picture is what it was, and means the same.
 pub fn turning_twice_restores()
@@ -26,4 +26,18 @@ pub fn turned_file_is_plain_text()
     ensures picture { (g : Gray) → IsGray g → sequential_text (headed (gray_meaning g)) ≡ gray_front g.width g.height g.quants ++ data_of (plain_bits g.blocks) ++ end_of_image }
     ensures turned { (g : Gray) → IsGray g → turned_text g ≡ gray_front g.width g.height g.quants ++ data_of (plain_bits (flipped_gray g).blocks) ++ end_of_image }
     ensures bits { (blocks : List (List ℤ)) → plain_bits blocks ≡ flat_map (element_bits typical_table gray_head) (unit_elements true false 0 (λ i. pos 0) (map (λ block. (0, block)) blocks)) }
+{}
+
+/// The blocks of a plain file have 64 values each, in the bounds of their precision, and so have the mirrored blocks.
+pub fn plain_blocks_are_writable()
+    ensures blocks { (bytes : List ℕ) (g : Gray) → SpellsGray bytes g → All (λ block. IsWritable gray_coding (0, block)) g.blocks }
+    ensures flipped { (bytes : List ℕ) (g : Gray) → SpellsGray bytes g → All (λ block. IsWritable gray_coding (0, block)) (flipped_gray g).blocks }
+{}
+
+/// What is written of a gray picture of such blocks is a plain file of it. So the turned file is a plain file of the mirrored
+/// picture, and turned again it is one of the first picture.
+pub fn turned_file_is_plain()
+    ensures written { (g : Gray) → IsGray g → All (λ block. IsWritable gray_coding (0, block)) g.blocks → SpellsGray (sequential_text (headed (gray_meaning g))) g }
+    ensures turned { (bytes : List ℕ) (g : Gray) → SpellsGray bytes g → SpellsGray (turned_text g) (flipped_gray g) }
+    ensures again { (bytes : List ℕ) (g : Gray) → SpellsGray bytes g → SpellsGray (turned_text (flipped_gray g)) g }
 {}
