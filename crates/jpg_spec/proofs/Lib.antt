@@ -6,6 +6,7 @@ pub mod Full
 pub mod Levels
 pub mod Once
 pub mod OneCode
+pub mod OneFile
 pub mod Packing
 pub mod PlainText
 pub mod Rows

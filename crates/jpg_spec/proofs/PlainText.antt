@@ -163,13 +163,13 @@ frame_is g =
 
 -- THE SCAN
 
-dc_segment : List ℕ
+unfoldable pub dc_segment : List ℕ
 dc_segment = segment_text 0xc4 (0 ∷ dc_luma_counts ++ dc_luma_values)
 
-ac_segment : List ℕ
+unfoldable pub ac_segment : List ℕ
 ac_segment = segment_text 0xc4 (0x10 ∷ ac_luma_counts ++ ac_luma_values)
 
-scan_segment : List ℕ
+unfoldable pub scan_segment : List ℕ
 scan_segment = segment_text 0xda (1 ∷ 1 ∷ 0 ∷ 0 ∷ 63 ∷ 0 ∷ [])
 
 -- the scan of a frame whose process and precision are plain

@@ -1,6 +1,6 @@
 //! Laws over the plain gray file: how its picture is turned left to right, and what is written of it.
-ghost use Rattle.std.specs.Prelude.{◌≡◌, ◌-◌, ◌<◌, ◌++◌, ℕ, ℤ, pos, true, false, List, map, flat_map, All};
-ghost use Rattle.jpg_spec.specs.Bits.{data_of};
+ghost use Rattle.std.specs.Prelude.{◌≡◌, ◌-◌, ◌<◌, ◌∷◌, ◌++◌, ℕ, ℤ, pos, true, false, List, map, flat_map, All};
+ghost use Rattle.jpg_spec.specs.Bits.{data_of, SpellsData, IsMarkerCode};
 ghost use Rattle.jpg_spec.specs.ScanText.{element_bits, unit_elements, typical_table};
 ghost use Rattle.jpg_spec.specs.Moves.{mirrored, flip_h, headed};
 ghost use Rattle.jpg_spec.specs.GrayFile.{Gray, IsGray, across, down, gray_head, gray_coding, gray_front, end_of_image, SpellsGray, gray_meaning, flipped_gray, sequential_text, turned_text};
@@ -40,4 +40,14 @@ pub fn turned_file_is_plain()
     ensures written { (g : Gray) → IsGray g → All (λ block. IsWritable gray_coding (0, block)) g.blocks → SpellsGray (sequential_text (headed (gray_meaning g))) g }
     ensures turned { (bytes : List ℕ) (g : Gray) → SpellsGray bytes g → SpellsGray (turned_text g) (flipped_gray g) }
     ensures again { (bytes : List ℕ) (g : Gray) → SpellsGray bytes g → SpellsGray (turned_text (flipped_gray g)) g }
+{}
+
+/// The data before a marker are cut in one way: a data byte FF is followed by fill bytes and 00, a marker by neither (T.81 B.1.1.5).
+pub fn data_end_at_one_marker()
+    ensures { (coded other text more : List ℕ) (code mark : ℕ) (rest last : List ℕ) → IsMarkerCode code → IsMarkerCode mark → SpellsData coded text → SpellsData other more → text ++ 0xff ∷ code ∷ rest ≡ more ++ 0xff ∷ mark ∷ last → (coded ≡ other) × (text ≡ more) × (code ≡ mark) × (rest ≡ last) }
+{}
+
+/// Bytes begin with one plain file at most, and it means one picture.
+pub fn plain_files_mean_one_picture()
+    ensures { (g h : Gray) (front other rest last : List ℕ) → SpellsGray front g → SpellsGray other h → front ++ rest ≡ other ++ last → (g ≡ h) × (front ≡ other) }
 {}
