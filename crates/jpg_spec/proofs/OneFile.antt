@@ -1,15 +1,15 @@
 -- Bytes begin with one plain gray file at most.
-use Rattle.std.proofs.Common.{◌≡◌, ℕ, zero, suc, ◌+◌, ◌*◌, ◌/◌, ◌<◌, ◌≤◌, List, [], ◌∷◌, ◌++◌, length, refl, sym, ap, ◌∙◌, subst, arith, inl, inr, ℤ}
-use Rattle.std.specs.Prelude.{◌⊎◌, map, flat_map, replicate}
+use Rattle.std.proofs.Common.{◌≡◌, ℕ, zero, suc, ◌+◌, ◌*◌, ◌/◌, List, [], ◌∷◌, ◌++◌, length, refl, sym, ap, ◌∙◌, subst, arith, inl, inr, ℤ}
+use Rattle.std.specs.Prelude.{map, flat_map, replicate}
 use Rattle.std.specs.Int.{to_be_bytes, from_be_bytes, w16}
 use Rattle.std.specs.List.{All}
 use Rattle.std.proofs.lemmas.Nat.{from_be_bytes-to_be_bytes_2}
 use Rattle.std.proofs.lemmas.List.{append_assoc, append_cancel_left, length-append}
 use Rattle.std.proofs.lemmas.List.Elements.{All-head, All-tail}
 use Rattle.jpg_spec.specs.Bits.{Packs, SpellsByte, SpellsData, IsMarkerCode}
-use Rattle.jpg_spec.specs.Elements.{UnitLeft, SpellsUnits}
+use Rattle.jpg_spec.specs.Elements.{SpellsUnits}
 use Rattle.jpg_spec.specs.FileText.{segment_text}
-use Rattle.jpg_spec.specs.GrayFile.{Gray, IsGray, IsWholeSide, SpellsGray, across, down, start_of_image, plain_jfif, plain_frame, gray_front, end_of_image, gray_frame, gray_head, gray_coding, typical_tables, new_unit}
+use Rattle.jpg_spec.specs.GrayFile.{Gray, IsGray, IsWholeSide, SpellsGray, start_of_image, plain_jfif, plain_frame, gray_front, end_of_image, gray_frame, gray_head, gray_coding, typical_tables, new_unit}
 use Rattle.jpg_spec.proofs.Sound.{sound, typical_valid, packed_once}
 use Rattle.jpg_spec.proofs.Rows.{append_apart}
 use Rattle.jpg_spec.proofs.PlainText.{dc_segment, ac_segment, scan_segment}

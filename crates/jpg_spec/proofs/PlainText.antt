@@ -1,5 +1,5 @@
 -- What is written of a gray picture in one sequential scan is a plain file.
-use Rattle.std.proofs.Common.{◌≡◌, ℕ, zero, suc, ◌+◌, ◌-◌, ◌*◌, ◌/◌, ◌%◌, ◌<◌, ◌≤◌, Bool, true, false, cond, List, [], ◌∷◌, ◌++◌, length, get_or, refl, sym, ap, ◌∙◌, subst, arith, ⊎_elim, ℤ, pos, ◌==◌, ◌&&◌, None, Option}
+use Rattle.std.proofs.Common.{◌≡◌, ℕ, zero, suc, ◌+◌, ◌*◌, ◌/◌, ◌%◌, ◌<◌, ◌≤◌, true, false, cond, List, [], ◌∷◌, ◌++◌, length, get_or, refl, sym, ap, ◌∙◌, subst, arith, ℤ, pos, ◌==◌, ◌&&◌}
 use Rattle.std.specs.Prelude.{map, flat_map, nat_lt, ◌||◌}
 use Rattle.std.specs.Int.{to_be_bytes, w16}
 use Rattle.std.specs.List.{All}
@@ -9,25 +9,22 @@ use Rattle.std.proofs.lemmas.Grind.{flat_map-append}
 use Rattle.std.proofs.lemmas.List.Elements.{All-head, All-tail}
 use Rattle.std.proofs.lemmas.List.Folds.{flat_map-map}
 use Rattle.jpg_spec.specs.Bits.{data_of}
-use Rattle.jpg_spec.specs.Lists.{any_of, are_equal, below, chunks}
+use Rattle.jpg_spec.specs.Lists.{are_equal, below}
 use Rattle.jpg_spec.specs.Geometry.{Frame, units, div_up, place}
-use Rattle.jpg_spec.specs.Segments.{HuffmanTable}
 use Rattle.jpg_spec.specs.Elements.{zeros}
 use Rattle.jpg_spec.specs.Scan.{Blocks, block_at}
-use Rattle.jpg_spec.specs.ScanText.{UnitDue, Owned, units_due, last_dc, interval_elements, element_bits, scan_elements, scan_tables, scan_data, typical_table}
+use Rattle.jpg_spec.specs.ScanText.{UnitDue, units_due, last_dc, interval_elements, element_bits, scan_data, typical_table}
 use Rattle.jpg_spec.specs.Meaning.{Meaning}
-use Rattle.jpg_spec.specs.Moves.{is_wide, headed, flip_h}
+use Rattle.jpg_spec.specs.Moves.{is_wide, headed}
 use Rattle.jpg_spec.specs.Script.{sequential_script}
-use Rattle.jpg_spec.specs.FileText.{segment_text, slot_in, quant_text, quants_text, frame_text, frame_of_meaning, head_text, tables_text, scans_text, file_text, off, nothing_written, kept_text, sof_code}
+use Rattle.jpg_spec.specs.FileText.{segment_text, slot_in, quant_text, quants_text, frame_text, frame_of_meaning, scans_text, file_text, off, nothing_written, kept_text}
 use Rattle.jpg_spec.specs.GrayFile.{Gray, IsGray, across, down, gray_meaning, gray_frame, gray_head, gray_front, plain_frame, plain_jfif, end_of_image, sequential_text, flipped_gray, turned_text}
 use Rattle.jpg_spec.specs.Written.{sequential_bits, plain_bits}
 use Rattle.jpg_spec.specs.Typical.{dc_luma_counts, dc_luma_values, ac_luma_counts, ac_luma_values}
 use Rattle.jpg_spec.specs.declared.frame.Place.{Place}
-use Rattle.jpg_spec.specs.declared.frame.Process.{Process}
 use Rattle.jpg_spec.specs.declared.frame.Process.TheVariants.{Baseline, Extended}
-use Rattle.jpg_spec.specs.declared.frame.Component.{Component}
-use Rattle.jpg_spec.proofs.Rows.{map_map, joined, AreRows, flat_map_map, by_items, at_row, row_is, IsCut, at_below}
-use Rattle.jpg_spec.proofs.Turned.{grid, grid_at, rows_of, rows_cut, flipped_is, flipped_meaning_is}
+use Rattle.jpg_spec.proofs.Rows.{map_map, joined, flat_map_map, by_items, at_row, row_is}
+use Rattle.jpg_spec.proofs.Turned.{lt_yes, grid, grid_at, rows_of, rows_cut, flipped_is, flipped_meaning_is}
 
 -- THE UNITS
 
@@ -67,9 +64,6 @@ places_are g is =
     let w : div_up (div_up (g.width * 1) 1) 8 ≡ across g = side_is g.width is.sides.0.1 in
     let h : div_up (div_up (g.height * 1) 1) 8 ≡ down g = side_is g.height is.sides.1.1 in
     ap (λ n. flat_map (λ y. map (λ x. place f 0 x y) (below n)) (below (div_up (div_up (g.height * 1) 1) 8))) w ∙ ap (λ n. flat_map (λ y. map (λ x. place f 0 x y) (below (across g))) (below n)) h
-
-lt_yes : (a b : ℕ) → a < b → nat_lt a b ≡ true
-lt_yes a b h = grind (arith, nat_tests)
 
 real_at : (g : Gray) → IsGray g → (x y : ℕ) → x < across g → y < down g → (place (gray_frame g.width g.height) 0 x y).real ≡ true
 real_at g is x y h k =

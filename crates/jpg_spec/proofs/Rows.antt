@@ -5,7 +5,7 @@ use Rattle.std.specs.Prelude.{map, flat_map, reverse}
 use Rattle.std.specs.List.{All}
 use Rattle.std.proofs.Math.Seq.{take-append_seam, drop-append_seam}
 use Rattle.std.proofs.Math.Nat.{suc-mul}
-use Rattle.std.proofs.lemmas.List.{append_assoc, append-nil, length-append, length-map, get_or-map, get_or-append-add, get_or_append_left, ext_get_or, take-append-drop, length-take-le, length-drop, reverse-append, map-append, get_or-append_right}
+use Rattle.std.proofs.lemmas.List.{length-append, length-map, get_or-map, get_or-append-add, get_or_append_left, ext_get_or, take-append-drop, length-take-le, length-drop, reverse-append, map-append, get_or-append_right}
 use Rattle.std.proofs.lemmas.List.Elements.{All-head, All-tail, All-nil, All-append}
 use Rattle.jpg_spec.specs.Lists.{below, chunks_of, chunks}
 

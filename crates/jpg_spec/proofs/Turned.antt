@@ -1,13 +1,13 @@
 -- The gray picture mirrored left to right, row by row.
-use Rattle.std.proofs.Common.{◌≡◌, ℕ, zero, suc, ◌+◌, ◌-◌, ◌*◌, ◌/◌, ◌%◌, ◌<◌, ◌≤◌, Bool, true, false, cond, List, [], ◌∷◌, ◌++◌, length, get_or, refl, sym, ap, ◌∙◌, subst, arith, ⊎_elim, ℤ, pos, ◌==◌, ◌&&◌}
-use Rattle.std.specs.Prelude.{map, flat_map, reverse, zip, nat_lt, neg_ℤ, slice_index_or}
+use Rattle.std.proofs.Common.{◌≡◌, ℕ, zero, suc, ◌+◌, ◌-◌, ◌*◌, ◌/◌, ◌%◌, ◌<◌, ◌≤◌, Bool, true, false, cond, List, [], ◌∷◌, ◌++◌, length, get_or, refl, sym, ap, ◌∙◌, subst, arith, ⊎_elim, ℤ, ◌==◌, ◌&&◌}
+use Rattle.std.specs.Prelude.{map, flat_map, reverse, zip, nat_lt, neg_ℤ}
 use Rattle.std.specs.List.{All}
 use Rattle.std.proofs.Math.Path.{fun_ext}
 use Rattle.std.proofs.Math.IntN.{neg_ℤ-neg_ℤ}
 use Rattle.std.proofs.Math.Nat.{mul_comm}
 use Rattle.std.proofs.lemmas.Bool.{cases_lt}
 use Rattle.std.proofs.lemmas.Bool.Decides.{nat_tests}
-use Rattle.std.proofs.lemmas.List.{length-map, length-reverse, reverse-reverse, get_or-reverse, get_or-map, map-append}
+use Rattle.std.proofs.lemmas.List.{length-map, length-reverse, reverse-reverse, get_or-reverse, get_or-map}
 use Rattle.std.proofs.lemmas.List.Elements.{All-get_or, All-from_get_or, All-map, All-append, All-nil}
 use Rattle.std.proofs.lemmas.List.Folds.{flat_map-map}
 use Rattle.jpg_spec.specs.Lists.{chunks}
@@ -135,7 +135,7 @@ flipped_twice g is =
 
 -- THE MEANING of the mirrored picture is its meaning mirrored
 
-lt_yes : (a b : ℕ) → a < b → nat_lt a b ≡ true
+pub lt_yes : (a b : ℕ) → a < b → nat_lt a b ≡ true
 lt_yes a b h = grind (arith, nat_tests)
 
 lt_no : (a b : ℕ) → b ≤ a → nat_lt a b ≡ false

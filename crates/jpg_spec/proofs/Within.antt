@@ -1,5 +1,5 @@
 -- What a sequential scan tells of each unit lies in the bounds, and so does what is written of the mirrored blocks.
-use Rattle.std.proofs.Common.{◌≡◌, ℕ, zero, suc, ◌+◌, ◌*◌, ◌%◌, ◌^◌, ◌<◌, ◌≤◌, Bool, true, false, cond, List, [], ◌∷◌, ◌++◌, length, take, drop, refl, sym, ap, ◌∙◌, subst, arith, ⊎_elim, inl, inr, lit<, ℤ, pos, negsuc, ◌==◌, ◌&&◌}
+use Rattle.std.proofs.Common.{◌≡◌, ℕ, zero, suc, ◌+◌, ◌%◌, ◌^◌, ◌<◌, ◌≤◌, Bool, true, false, cond, List, [], ◌∷◌, ◌++◌, length, take, drop, refl, sym, ap, ◌∙◌, subst, arith, inl, inr, lit<, ℤ, pos, negsuc, ◌==◌, ◌&&◌}
 use Rattle.std.specs.Prelude.{◌⊎◌, map, flat_map, int_le, nat_abs, neg_ℤ}
 use Rattle.std.specs.List.{All}
 use Rattle.std.proofs.Math.Nat.{pow-le-pow_right}
@@ -8,7 +8,7 @@ use Rattle.std.proofs.lemmas.List.Elements.{All-head, All-tail, All-nil, All-con
 use Rattle.std.proofs.lemmas.List.Folds.{flat_map-map}
 use Rattle.jpg_spec.specs.Bits.{whole_bytes, padded, data_of}
 use Rattle.jpg_spec.specs.Numbers.{digits}
-use Rattle.jpg_spec.specs.Elements.{Coding, UnitLeft, Standing, Element, difference, dc_bit, value, long_run, ends, Covers, Tells, SpellsUnits, going_on, old_values, corrected, is_zero, grown, scaled, zeros_in, zeros, predictions_after, are_in_bounds}
+use Rattle.jpg_spec.specs.Elements.{Coding, UnitLeft, Standing, Element, difference, dc_bit, value, long_run, ends, Covers, Tells, SpellsUnits, going_on, old_values, corrected, is_zero, grown, scaled, zeros_in, predictions_after, are_in_bounds}
 use Rattle.jpg_spec.specs.Moves.{zigzag, mirrored, headed}
 use Rattle.jpg_spec.specs.ScanText.{UnitDue}
 use Rattle.jpg_spec.specs.GrayFile.{Gray, IsGray, SpellsGray, gray_frame, gray_head, gray_coding, new_unit, gray_meaning, flipped_gray, sequential_text, turned_text}
