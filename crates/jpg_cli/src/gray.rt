@@ -1,8 +1,8 @@
 //! The plain gray file: a baseline file of one component, with the typical tables and sides that are
 //! multiples of 8 (T.81 B.2, JFIF 1.02).
-ghost use Rattle.std.specs.Prelude.{◌≡◌, IfSome};
-ghost use Rattle.jpg_spec.specs.GrayFile.{gray_frame, gray_head};
-ghost use Rattle.jpg_cli.specs.Gray.{HasLuma};
+ghost use Rattle.std.specs.Prelude.{◌≡◌, ◌↔◌, ◌≤◌, ◌<◌, ◌^◌, ◌++◌, ℕ, List, length, All, IfSome, IfNone, IsTrue};
+ghost use Rattle.jpg_spec.specs.GrayFile.{gray_frame, gray_front, gray_head};
+ghost use Rattle.jpg_cli.specs.Gray.{AreSides, HasData, HasLuma, Judges};
 
 use crate::turn::turn_blocks;
 use arrayvec::ArrayVec;
@@ -56,7 +56,10 @@ struct Front<'a> {
     rest: &'a [u8],
 }
 
-fn front_of(bytes: &[u8]) -> Option<Front<'_>> {
+fn front_of(bytes: &[u8]) -> Option<Front<'_>>
+    ensures some { IfSome result (λ f. bytes.now ≡ gray_front f.width f.height f.quants ++ f.rest.now) }
+    ensures none { IfNone result ((width height : ℕ) (quants rest : List ℕ) → width < 2 ^ 16 → height < 2 ^ 16 → length quants ≡ 64 → bytes.now ≡ gray_front width height quants ++ rest → ⊥) }
+{
     let rest = bytes.strip_prefix(&BEFORE_QUANTS)?;
     let (quants, rest) = rest.split_first_chunk::<64>()?;
     let rest = rest.strip_prefix(&BEFORE_SIDES)?;
@@ -71,7 +74,10 @@ fn front_of(bytes: &[u8]) -> Option<Front<'_>> {
 }
 
 // The data bytes up to EOI, which has no fill bytes.
-fn data_of(rest: &[u8]) -> Option<&[u8]> {
+fn data_before_end(rest: &[u8]) -> Option<&[u8]>
+    ensures some { IfSome result (λ data. HasData rest.now data.now) }
+    ensures none { IfNone result ((text : List ℕ) → HasData rest.now text → ⊥) }
+{
     let mut gate = Gate::new();
     let mut end = 0;
     for i in 0..rest.len() {
@@ -89,13 +95,18 @@ fn data_of(rest: &[u8]) -> Option<&[u8]> {
     None
 }
 
-fn has_zero(quants: &[u8; 64]) -> bool {
-    quants.iter().any(|q| *q == 0)
+// Whether all are quantisers: none is 0.
+fn are_quantisers(quants: &[u8; 64]) -> bool
+    ensures { IsTrue result ↔ All (λ q. (1 ≤ q) × (q ≤ 255)) quants.now }
+{
+    quants.iter().all(|q| *q != 0)
 }
 
 // The frame of a gray picture whose sides are multiples of 8 within the limits.
 fn frame_of(width: u32, height: u32) -> Option<Frame>
-    ensures { IfSome result (λ f. f ≡ gray_frame width height) }
+    ensures frame { IfSome result (λ f. f ≡ gray_frame width height) }
+    ensures some { IfSome result (λ _. AreSides width height) }
+    ensures none { IfNone result (AreSides width height → ⊥) }
 {
     if width % 8 != 0 || height % 8 != 0 {
         return None;
@@ -154,13 +165,13 @@ fn read_gray(alloc: Global, bytes: &[u8]) -> Result<Option<GrayPicture>, NoMemor
     let Some(front) = front_of(bytes) else {
         return Ok(None);
     };
-    let Some(data) = data_of(front.rest) else {
+    let Some(data) = data_before_end(front.rest) else {
         return Ok(None);
     };
     let Some(frame) = frame_of(front.width, front.height) else {
         return Ok(None);
     };
-    if has_zero(&front.quants) {
+    if !are_quantisers(&front.quants) {
         return Ok(None);
     }
     match read_plain(alloc, &frame, &scan_head(), &luma_tables(), data) {
@@ -201,7 +212,9 @@ fn turn_picture(alloc: Global, picture: GrayPicture) -> Judged {
 }
 
 /// The picture of the plain file that the bytes begin with, turned left to right.
-pub fn judge(alloc: Global, bytes: &[u8]) -> Judged {
+pub fn judge(alloc: Global, bytes: &[u8]) -> Judged
+    ensures { Judges bytes.now result }
+{
     match read_gray(alloc, bytes) {
         Err(_) => Judged::NoMemory,
         Ok(None) => Judged::NotPlain,

@@ -1,5 +1,6 @@
 //! Blocks mirrored left to right (the manual of jpegtran).
-ghost use Rattle.std.specs.Prelude.{◌≡◌, ◌≤◌, ◌+◌, ◌*◌, ◌<◌, ◌^◌, length};
+ghost use Rattle.std.specs.Prelude.{◌≡◌, ◌≤◌, ◌+◌, ◌*◌, ◌<◌, ◌^◌, ◌≤ℤ◌, negsuc, length, All, IfOk};
+ghost use Rattle.jpg_spec.specs.GrayFile.{turned_rows};
 
 use jpg_base::{Block, NoMemory};
 use jpg_seq::BlockList;
@@ -7,7 +8,11 @@ use std::alloc::Global;
 
 // Which places in zigzag order have an odd horizontal frequency.
 static ODD_ACROSS: [bool; 64] = [
-    false, true, false, false, true, false, true, false, true, false, false, true, false, true, false, true, false, true, false, true, false, false, true, false, true, false, true, false, true, false, true, false, true, false, true, false, true, false, true, false, true, false, true, true, false, true, false, true, false, true, false, true, false, true, true, false, true, false, true, false, true, true, false, true,
+    false, true, false, false, true, false, true, false, true, false, false, true, false, true,
+    false, true, false, true, false, true, false, false, true, false, true, false, true, false,
+    true, false, true, false, true, false, true, false, true, false, true, false, true, false,
+    true, true, false, true, false, true, false, true, false, true, false, true, true, false, true,
+    false, true, false, true, true, false, true,
 ];
 
 // The value with its sign changed where the frequency is odd.
@@ -49,6 +54,8 @@ pub fn turn_blocks(
 ) -> Result<BlockList, NoMemory>
     requires grid { length blocks.now ≡ across * down }
     requires fits { across * down < 2 ^ 64 }
+    requires small { All (λ block. All (λ v. negsuc 32766 ≤ℤ v) block) blocks.now }
+    ensures { IfOk result (λ turned. turned ≡ turned_rows across blocks.now) }
 {
     let mut turned = BlockList::new(alloc);
     for y in 0..down {
