@@ -42,7 +42,7 @@ impl BitOut {
     }
 
     /// Adds a number below `2^count` as `count` bits, 0 to 32, the most significant first.
-    /// After each byte FF that goes out stands 00. After a fault nothing waits.
+    /// After each byte FF that goes out stands 00 (T.81 B.1.1.5). After a fault nothing waits.
     #[inline(always)]
     pub fn put<D: Desk>(&mut self, bits: u32, count: u8, desk: &mut D) -> Result<(), WriteFault>
         requires created { (D.state desk.old).output_created ≡ true }
@@ -74,7 +74,7 @@ impl BitOut {
         }
     }
 
-    /// Fills the last byte with ones, so that no bits wait. After a fault nothing waits.
+    /// Fills the last byte with ones (T.81 F.1.2.3), so that no bits wait. After a fault nothing waits.
     pub fn pad<D: Desk>(&mut self, desk: &mut D) -> Result<(), WriteFault>
         requires { (D.state desk.old).output_created ≡ true }
         ensures kept { OnlyWrites (D.state desk.old) (D.state desk.new) }
