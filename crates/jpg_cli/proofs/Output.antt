@@ -9,6 +9,7 @@ use Rattle.jpg_base.specs.declared.stop.WriteFault.{WriteFault}
 use Rattle.jpg_base.specs.Desk.{DeskState, NoneFell, NotesName, AppendsLast, Creates}
 use Rattle.jpg_base.specs.Laws.{Grows, Grows-from, NoneFell-then}
 use Rattle.jpg_huff.specs.Out.{Emits, OnlyWrites}
+use Rattle.jpg_huff.proofs.Emitted.{emits_then, emits_fault}
 use Rattle.jpg_spec.specs.declared.answers.Why.TheVariants as why
 use Rattle.jpg_cli.specs.Writing.{WritesAll, AfterOutput}
 
@@ -34,3 +35,21 @@ output_failed s0 s1 s2 due fault h k w = (
 
 pub output_counts : (s0 s1 s2 : DeskState) (answer : Put) → Creates s0 name.Out answer s1 → OnlyWrites s1 s2 → NoneFell s0.counts s2.counts
 output_counts s0 s1 s2 answer h k = NoneFell-then s0.counts s1.counts s2.counts h.counts k.counts
+
+-- what waited has gone out
+pub emits_end : (s0 s1 s2 : DeskState) (old due mid new : List ℕ) (r : Result (Unit {0}) WriteFault) → OnlyWrites s0 s1 → Emits s0 old due (Ok tt) mid s1 → Emits s1 mid [] r new s2 → Emits s0 old due r new s2
+emits_end s0 s1 s2 old due mid new r k e f =
+    let P : List ℕ → Type 0 = λ d. Emits s0 old d r new s2 in
+    subst P (append-nil due) (emits_then s0 s1 s2 old due mid [] new r k e f)
+
+-- a file from its front on
+pub file_done : (s0 s1 s2 : DeskState) (old front mid more new : List ℕ) (r : Result (Unit {0}) WriteFault) → old ≡ [] → OnlyWrites s0 s1 → Emits s0 old front (Ok tt) mid s1 → Emits s1 mid more r new s2 → new ≡ [] → WritesAll s0 (front ++ more) r s2
+file_done s0 s1 s2 old front mid more new r none k e f done =
+    let P : List ℕ → Type 0 = λ o. Emits s0 o (front ++ more) r new s2 in
+    all_written s0 s2 (front ++ more) r new done (subst P none (emits_then s0 s1 s2 old front mid more new r k e f))
+
+pub file_fault : (s0 s1 : DeskState) (old front more new : List ℕ) (fault : WriteFault) → old ≡ [] → Emits s0 old front (Err fault) new s1 → WritesAll s0 (front ++ more) (Err fault) s1
+file_fault s0 s1 old front more new fault none e =
+    let P : List ℕ → Type 0 = λ o. Emits s0 o (front ++ more) (Err fault) new s1 in
+    let f = subst P none (emits_fault s0 s1 old front more new fault e) in
+    all_written s0 s1 (front ++ more) (Err fault) new f.1 f

@@ -44,7 +44,7 @@ pub record IsPicture (p : GrayPicture) : Type 0 where
 
 -- the bytes of its file
 abbrev pub file_bytes : GrayPicture → List ℕ
-file_bytes p = gray_front p.frame.width p.frame.height p.quants ++ data_of (plain_bits p.blocks) ++ end_of_image
+file_bytes p = gray_front p.frame.width p.frame.height p.quants ++ (data_of (plain_bits p.blocks) ++ end_of_image)
 
 -- whether bytes begin with a plain file, and its picture mirrored left to right
 abbrev pub Judges : List ℕ → Judged → Type 0

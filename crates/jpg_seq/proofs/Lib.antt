@@ -4,3 +4,4 @@ pub mod Categories
 pub mod Extended
 pub mod HasPut
 pub mod Leaf
+pub mod Within

@@ -6,16 +6,18 @@ use Rattle.jpg_spec.specs.Numbers.{category, extra_bits}
 use Rattle.jpg_spec.specs.Elements.{Element, value, long_run, symbol_of, bits_behind}
 use Rattle.jpg_spec.specs.Sending.{sent, band_elements}
 use Rattle.jpg_spec.specs.ScanText.{code_of}
-use Rattle.jpg_spec.specs.GrayFile.{gray_head}
-use Rattle.jpg_spec.specs.Written.{sequential_bits}
+use Rattle.jpg_spec.specs.Geometry.{Frame}
+use Rattle.jpg_spec.specs.GrayFile.{gray_head, typical_tables}
+use Rattle.jpg_spec.specs.Scan.{scan_coding}
+use Rattle.jpg_spec.specs.Written.{IsWritable, sequential_bits}
 
--- the bits of blocks of one component by its typical tables, from prediction 0
-unfoldable pub plain_bits : List (List ℤ) → List Bool
-plain_bits blocks = sequential_bits gray_head (map (λ block. (0, block)) blocks)
-
--- and their data
+-- the data of blocks of one component by its typical tables
 abbrev pub plain_data : List (List ℤ) → List ℕ
 plain_data blocks = data_of (plain_bits blocks)
+
+-- 64 values within the bounds of the frame
+abbrev pub IsWithin : Frame → List ℤ → Type 0
+IsWithin f block = IsWritable (scan_coding f typical_tables gray_head) (0, block)
 
 -- IN PARTS, by any tables
 

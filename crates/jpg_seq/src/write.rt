@@ -2,13 +2,13 @@
 ghost use Rattle.std.specs.Prelude.{◌≡◌, ◌≤◌, ◌++◌, [], drop, true, All, pos, ◌-ℤ◌};
 ghost use Rattle.jpg_spec.specs.Numbers.{category as category_of, extra_bits as extra_of};
 ghost use Rattle.jpg_spec.specs.ScanText.{code_of};
-ghost use Rattle.jpg_spec.specs.Scan.{scan_coding};
-ghost use Rattle.jpg_spec.specs.GrayFile.{gray_head, typical_tables};
-ghost use Rattle.jpg_spec.specs.Written.{IsWritable};
 ghost use Rattle.jpg_huff.specs.Tables.{symbol_codes};
 ghost use Rattle.jpg_huff.specs.Out.{Emits, OnlyWrites};
-ghost use Rattle.jpg_seq.specs.PlainText.{plain_data, run_bits, band_bits, block_bits, blocks_bits};
+ghost use Rattle.jpg_seq.specs.PlainText.{IsWithin, plain_data, run_bits, band_bits, block_bits, blocks_bits};
 ghost use Rattle.jpg_seq.specs.Put.{HasPut, IsShort};
+
+#[cfg(test)]
+mod tests;
 
 use crate::BlockList;
 use crate::category::{category, extra_bits};
@@ -160,7 +160,7 @@ pub fn write_plain<D: Desk>(
 ) -> Result<(), WriteFault>
     requires created { (D.state desk.old).output_created ≡ true }
     requires none { out.old.bits ≡ [] }
-    requires writable { All (λ block. IsWritable (scan_coding frame.now typical_tables gray_head) (0, block)) blocks.now }
+    requires writable { All (IsWithin frame.now) blocks.now }
     ensures kept { OnlyWrites (D.state desk.old) (D.state desk.new) }
     ensures emits { Emits (D.state desk.old) out.old.bytes (plain_data blocks.now) result out.new.bytes (D.state desk.new) }
     ensures whole { out.new.bits ≡ [] }

@@ -18,5 +18,5 @@ abbrev pub SpellsDue : Coding → List UnitDue → List Bool → Type 0
 SpellsDue c due bits = SpellsUnits c (map (λ u. new_unit u.0) due) (flat_map (λ u. u.1) due) bits
 
 -- the same of the blocks of component 0 in a plain file
-abbrev pub plain_bits : List (List ℤ) → List Bool
+unfoldable pub plain_bits : List (List ℤ) → List Bool
 plain_bits blocks = sequential_bits gray_head (map (λ block. (0, block)) blocks)

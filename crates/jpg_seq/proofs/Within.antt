@@ -1,0 +1,53 @@
+-- Values that are put into a block within the bounds.
+use Rattle.std.proofs.Common.{◌≡◌, ℕ, zero, suc, ◌≤◌, Bool, true, false, List, [], ◌∷◌, length, refl, sym, ap, ◌∙◌, subst, ℤ, pos, negsuc, ◌&&◌, arith}
+use Rattle.std.specs.Prelude.{slice_set, int_le, nat_abs, neg_ℤ, ◌≤ℤ◌}
+use Rattle.std.proofs.lemmas.Bool.Decides.{nat_tests}
+use Rattle.std.proofs.lemmas.Int.{ints}
+use Rattle.std.proofs.lemmas.List.{length-set}
+use lib.Signed.{le_z_yes}
+use lib.Dec.{T}
+use Rattle.jpg_spec.specs.Geometry.{Frame}
+use Rattle.jpg_spec.specs.GrayFile.{gray_head, typical_tables}
+use Rattle.jpg_spec.specs.Scan.{scan_coding}
+use Rattle.jpg_seq.specs.PlainText.{IsWithin}
+use Rattle.jpg_spec.specs.Elements.{Coding, are_in_bounds}
+use Rattle.jpg_spec.proofs.Telling.{both}
+use Rattle.jpg_spec.proofs.Writing.{and_intro}
+
+true_of : (b : Bool) → T b → b ≡ true
+true_of true t = refl
+true_of false t = absurd t
+
+is_least : (a b : ℤ) → a ≤ℤ b → int_le a b ≡ true
+is_least a b h = true_of (int_le a b) h.le
+
+pub set_ac : (c : Coding) (values : List ℤ) (k : ℕ) (v : ℤ) → int_le (pos (nat_abs v)) c.bounds.ac ≡ true → are_in_bounds c false values ≡ true → are_in_bounds c false (slice_set values k v) ≡ true
+set_ac c [] k v small ok = refl
+set_ac c (w ∷ values) zero v small ok =
+    and_intro (int_le (pos (nat_abs v)) c.bounds.ac) (are_in_bounds c false values) small (both (int_le (pos (nat_abs w)) c.bounds.ac) (are_in_bounds c false values) ok).1
+set_ac c (w ∷ values) (suc k) v small ok =
+    let h = both (int_le (pos (nat_abs w)) c.bounds.ac) (are_in_bounds c false values) ok in
+    and_intro (int_le (pos (nat_abs w)) c.bounds.ac) (are_in_bounds c false (slice_set values k v)) h.0 (set_ac c values k v small h.1)
+
+pub set_later : (c : Coding) (block : List ℤ) (k : ℕ) (v : ℤ) → 1 ≤ k → int_le (pos (nat_abs v)) c.bounds.ac ≡ true → are_in_bounds c true block ≡ true → are_in_bounds c true (slice_set block k v) ≡ true
+set_later c [] k v h small ok = refl
+set_later c (w ∷ values) zero v h small ok = absurd (omega arith)
+set_later c (w ∷ values) (suc k) v h small ok =
+    let first = int_le c.bounds.dc_low w && int_le w c.bounds.dc_high in
+    let b = both first (are_in_bounds c false values) ok in
+    and_intro first (are_in_bounds c false (slice_set values k v)) b.0 (set_ac c values k v small b.1)
+
+pub set_first : (c : Coding) (block : List ℤ) (v : ℤ) → int_le c.bounds.dc_low v ≡ true → int_le v c.bounds.dc_high ≡ true → are_in_bounds c true block ≡ true → are_in_bounds c true (slice_set block 0 v) ≡ true
+set_first c [] v low high ok = refl
+set_first c (w ∷ values) v low high ok =
+    and_intro (int_le c.bounds.dc_low v && int_le v c.bounds.dc_high) (are_in_bounds c false values) (and_intro (int_le c.bounds.dc_low v) (int_le v c.bounds.dc_high) low high)
+    (both (int_le c.bounds.dc_low w && int_le w c.bounds.dc_high) (are_in_bounds c false values) ok).1
+
+pub small_of : (v : ℤ) → int_le (neg_ℤ (pos 1023)) v ≡ true → int_le v (pos 1023) ≡ true → int_le (pos (nat_abs v)) (pos 1023) ≡ true
+small_of (pos n) low high = high
+small_of (negsuc n) low high =
+    let h : neg_ℤ (pos 1023) ≤ℤ negsuc n = le_z_yes (subst T (sym low) tt) in
+    is_least (pos (suc n)) (pos 1023) (omega (arith, ints))
+
+pub within_set : (f : Frame) (block : List ℤ) (k : ℕ) (v : ℤ) (new : List ℤ) → new ≡ slice_set block k v → IsWithin f block → are_in_bounds (scan_coding f typical_tables gray_head) true (slice_set block k v) ≡ true → IsWithin f new
+within_set f block k v new e h ok = subst (λ b. IsWithin f b) (sym e) (length-set block k v ∙ h.0, ok)

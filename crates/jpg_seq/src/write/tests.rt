@@ -1,0 +1,101 @@
+// The data of blocks, as another program writes them.
+ghost use Rattle.std.specs.Prelude.{All, IfOk};
+ghost use Rattle.jpg_seq.specs.PlainText.{IsWithin};
+
+use super::write_plain;
+use crate::BlockList;
+use jpg_base::{Block, Component, Desk, Frame, Limits, MemoryDesk, Name, NoMemory, Process, Put};
+use jpg_huff::BitOut;
+use std::alloc::Global;
+use std::test::Fail;
+
+// A value of a block by its place; one out of bounds is left out.
+fn set(frame: &Frame, block: &mut Block, k: u8, value: i16)
+    requires { IsWithin frame.now block.old }
+    ensures { IsWithin frame.now block.new }
+{
+    if k == 0 {
+        if -1024 <= value && value <= 1023 {
+            block.set(0, value);
+        }
+    } else if k < 64 && -1023 <= value && value <= 1023 {
+        block.set(k, value);
+    }
+}
+
+fn block_of(frame: &Frame, values: &[(u8, i16)]) -> Block
+    ensures { IsWithin frame.now result }
+{
+    let mut block = Block::zero();
+    for (k, value) in values {
+        set(frame, &mut block, *k, *value);
+    }
+    block
+}
+
+fn list_of(alloc: Global, frame: &Frame, rows: &[&[(u8, i16)]]) -> Result<BlockList, NoMemory>
+    ensures { IfOk result (λ blocks. All (IsWithin frame.now) blocks) }
+{
+    let mut blocks = BlockList::new(alloc);
+    for row in rows {
+        let block = block_of(frame, row);
+        blocks.push(&block)?;
+    }
+    Ok(blocks)
+}
+
+// The bytes of the only output.
+fn written(desk: &MemoryDesk) -> Option<&[u8]> {
+    if desk.outputs() == 1 {
+        Some(desk.output(0))
+    } else {
+        None
+    }
+}
+
+#[test]
+fn blocks_are_written(rt: HostRuntime) -> Result<(), Fail> {
+    let parts = [Component {
+        id: 1,
+        h: 1,
+        v: 1,
+        quant: 0,
+    }];
+    let Ok(frame) = Frame::new(Process::Baseline, 8, 8, 8, &parts, &Limits::standard()) else {
+        panic!(rt; "a frame of 8 by 8");
+    };
+    let rows: [(&[&[(u8, i16)]], &[u8]); 14] = [
+        (&[&[]], &[0x2b]),
+        (&[&[(1, 5), (2, 2)]], &[0x25, 0x6a]),
+        (
+            &[&[(0, -1024)], &[(0, 1023)]],
+            &[0xff, 0x00, 0x3f, 0xfa, 0xff, 0x00, 0x7f, 0xfa],
+        ),
+        (&[&[(0, 5)], &[(0, 3)], &[(0, 3)]], &[0x96, 0x9b, 0x45, 0x7f]),
+        (
+            &[&[(1, -1), (18, -5), (63, -1023)]],
+            &[0x07, 0xf9, 0x8b, 0xfc, 0xff, 0x00, 0x9f, 0xfe, 0x10, 0x03],
+        ),
+        (&[&[(1, 1)]], &[0x0d, 0x7f]),
+        (&[&[(16, 1)]], &[0x3f, 0xfd, 0x75]),
+        (&[&[(17, 1)]], &[0x3f, 0xc9, 0xaf]),
+        (&[&[(18, 1)]], &[0x3f, 0xce, 0x6b]),
+        (&[&[(32, 1)]], &[0x3f, 0xcf, 0xff, 0x00, 0xae, 0xbf]),
+        (&[&[(33, 1)]], &[0x3f, 0xcf, 0xf9, 0x35]),
+        (&[&[(48, 1)]], &[0x3f, 0xcf, 0xf9, 0xff, 0x00, 0xf5, 0xd7]),
+        (&[&[(49, 1)]], &[0x3f, 0xcf, 0xf9, 0xff, 0x00, 0x26, 0xbf]),
+        (&[&[(63, 1)]], &[0x3f, 0xcf, 0xf9, 0xff, 0x00, 0x3f, 0xfd, 0x7f]),
+    ];
+    for (values, wanted) in rows {
+        let mut desk = MemoryDesk::new(rt.alloc(), 1);
+        let Put::Done = desk.create(&Name::Out) else {
+            panic!(rt; "a create");
+        };
+        let blocks = list_of(rt.alloc(), &frame, values)?;
+        let mut out = BitOut::new();
+        write_plain(&blocks, &frame, &mut out, &mut desk)?;
+        out.flush(&mut desk)?;
+        assert!(rt; written(&desk) == Some(wanted), "{values:?}");
+    }
+    Ok(())
+}
