@@ -177,7 +177,7 @@ unfolding scans_text scan_data scan_in dc_segment ac_segment scan_segment
 scans_are g = refl
 
 scan_is : (g : Gray) → IsGray g → scan_in (gray_frame g.width g.height) (gray_meaning g).blocks ≡ ((((dc_segment ++ (ac_segment ++ [])) ++ []) ++ scan_segment) ++ data_of (plain_bits g.blocks)) ++ []
-unfolding scan_in pair
+unfolding scan_in pair plain_bits
 scan_is g is =
     ap (λ due. ((((dc_segment ++ (ac_segment ++ [])) ++ []) ++ scan_segment) ++ data_of (sequential_bits gray_head due)) ++ []) (due_is g is)
 

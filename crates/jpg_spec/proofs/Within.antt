@@ -165,6 +165,7 @@ flipped_within bytes g s =
 -- THE LAW: what is written of a picture is a plain file of it
 
 pub written_spelled : (g : Gray) → IsGray g → All (λ block. IsWritable gray_coding (0, block)) g.blocks → SpellsGray (sequential_text (headed (gray_meaning g))) g
+unfolding plain_bits
 written_spelled g is within =
     let pair : List ℤ → UnitDue = λ block. (0, block) in
     let bits = plain_bits g.blocks in
