@@ -25,3 +25,7 @@ pub front_parts : (width height : ℕ) (quants : List ℕ) → length quants ≡
     → gray_front width height quants ≡ BEFORE_QUANTS ++ quants ++ BEFORE_SIDES ++ to_be_bytes w16 height ++ to_be_bytes w16 width ++ BEHIND_SIDES
 front_parts width height quants l =
     front_cut width height quants l ∙ ap (λ t. BEFORE_QUANTS ++ t) (sym (four quants BEFORE_SIDES (to_be_bytes w16 height) (to_be_bytes w16 width) BEHIND_SIDES))
+
+-- a part more
+pub more : (new old piece a b : List ℕ) → new ≡ old ++ piece → old ≡ a → piece ≡ b → new ≡ a ++ b
+more new old piece a b e f g = e ∙ ap (λ t. t ++ piece) f ∙ ap (λ t. a ++ t) g
