@@ -60,11 +60,21 @@ fn front_of(bytes: &[u8]) -> Option<Front<'_>>
     ensures some { IfSome result (λ f. bytes.now ≡ gray_front f.width f.height f.quants ++ f.rest.now) }
     ensures none { IfNone result ((width height : ℕ) (quants rest : List ℕ) → width < 2 ^ 16 → height < 2 ^ 16 → length quants ≡ 64 → bytes.now ≡ gray_front width height quants ++ rest → ⊥) }
 {
-    let rest = bytes.strip_prefix(&BEFORE_QUANTS)?;
-    let (quants, rest) = rest.split_first_chunk::<64>()?;
-    let rest = rest.strip_prefix(&BEFORE_SIDES)?;
-    let (sides, rest) = rest.split_first_chunk::<4>()?;
-    let rest = rest.strip_prefix(&BEHIND_SIDES)?;
+    let Some(rest) = bytes.strip_prefix(&BEFORE_QUANTS) else {
+        return None;
+    };
+    let Some((quants, rest)) = rest.split_first_chunk::<64>() else {
+        return None;
+    };
+    let Some(rest) = rest.strip_prefix(&BEFORE_SIDES) else {
+        return None;
+    };
+    let Some((sides, rest)) = rest.split_first_chunk::<4>() else {
+        return None;
+    };
+    let Some(rest) = rest.strip_prefix(&BEHIND_SIDES) else {
+        return None;
+    };
     Some(Front {
         quants: *quants,
         width: u32::from(u16::from_be_bytes([sides[2], sides[3]])),
