@@ -4,3 +4,4 @@ pub mod PlainScan
 pub mod Input
 pub mod Names
 pub mod Output
+pub mod Mirrored
