@@ -13,7 +13,7 @@ use Rattle.std.proofs.lemmas.Slice.Zip.{get_or-zip, length-zip}
 use Rattle.jpg_spec.specs.Lists.{chunks}
 use Rattle.jpg_spec.specs.Moves.{mirrored, zigzag}
 use Rattle.jpg_spec.specs.GrayFile.{turned_rows}
-use Rattle.jpg_spec.proofs.Rows.{joined, AreRows, IsCut, cut_into}
+use Rattle.jpg_spec.proofs.Rows.{joined, AreRows, cut_into}
 use Rattle.jpg_spec.proofs.Turned.{IsBlock, mirrored_block, turned_row}
 
 -- BLOCKS
