@@ -1,7 +1,8 @@
 pub mod Counted
 pub mod Decimal
-pub mod PlainScan
+pub mod Front
 pub mod Input
+pub mod Mirrored
 pub mod Names
 pub mod Output
-pub mod Front
+pub mod PlainScan
