@@ -33,12 +33,14 @@ fn add(front: &mut Front, piece: &[u8])
 fn front_of(width: u16, height: u16, quants: &[u8; 64]) -> Front
     ensures { result.items ≡ gray_front width height quants.now }
 {
+    let high = height.to_be_bytes();
+    let wide = width.to_be_bytes();
     let mut front = Front::new();
     add(&mut front, &BEFORE_QUANTS);
     add(&mut front, quants);
     add(&mut front, &BEFORE_SIDES);
-    add(&mut front, &height.to_be_bytes());
-    add(&mut front, &width.to_be_bytes());
+    add(&mut front, &high);
+    add(&mut front, &wide);
     add(&mut front, &BEHIND_SIDES);
     front
 }
