@@ -2,6 +2,7 @@ pub mod Counted
 pub mod Decimal
 pub mod Front
 pub mod Input
+pub mod Judging
 pub mod Mirrored
 pub mod Names
 pub mod Output
