@@ -1,4 +1,5 @@
 pub mod InWork
 pub mod Judge
 pub mod Plain
+pub mod Stands
 pub mod Step

@@ -39,7 +39,7 @@ length_units i [] us = omega arith
 length_units i (old ∷ olds) us = omega (arith, length_units i olds us)
 
 -- one covering after another
-covers_then : (c : Coding) (s m t : Standing) (es es' : List Element) (told told' : List ℤ) (bits bits' : List Bool) → Covers c s es told bits m → Covers c m es' told' bits' t → Covers c s (es ++ es') (told ++ told') (bits ++ bits') t
+pub covers_then : (c : Coding) (s m t : Standing) (es es' : List Element) (told told' : List ℤ) (bits bits' : List Bool) → Covers c s es told bits m → Covers c m es' told' bits' t → Covers c s (es ++ es') (told ++ told') (bits ++ bits') t
 covers_then c s m t [] es' told told' bits bits' k l =
     subst (λ x. Covers c x es' (told ++ told') (bits ++ bits') t) k.2
     (subst (λ x. Covers c m es' (x ++ told') (bits ++ bits') t) (sym k.0) (subst (λ x. Covers c m es' told' (x ++ bits') t) (sym k.1) l))
