@@ -1,7 +1,11 @@
 pub mod Apart
+pub mod Blocks
 pub mod Elements
+pub mod Ends
 pub mod Extended
+pub mod Forced
 pub mod Leaf
 pub mod Reading
 pub mod Steps
 pub mod Tests
+pub mod Text

@@ -1,3 +1,4 @@
+pub mod Coded
 pub mod InWork
 pub mod Judge
 pub mod Plain
