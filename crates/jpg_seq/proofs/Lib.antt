@@ -1,7 +1,15 @@
+pub mod Apart
 pub mod Bands
 pub mod Blocks
 pub mod Categories
+pub mod Elements
+pub mod Ends
 pub mod Extended
+pub mod Forced
 pub mod HasPut
 pub mod Leaf
+pub mod Reading
+pub mod Steps
+pub mod Tests
+pub mod Text
 pub mod Within

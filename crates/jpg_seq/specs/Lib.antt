@@ -1,6 +1,8 @@
+pub mod Coded
 pub mod InWork
 pub mod Judge
 pub mod Plain
 pub mod PlainText
 pub mod Put
+pub mod Stands
 pub mod Step

@@ -1,5 +1,5 @@
 -- What the parts of a unit's reader answer.
-use Rattle.std.specs.Prelude.{◌≡◌, ℕ, ◌<◌, ◌≤◌, Bool, List, [], ◌∷◌, ◌++◌, length, ℤ, ◌+ℤ◌, ◌≤ℤ◌, negsuc, pos}
+use Rattle.std.specs.Prelude.{◌≡◌, ℕ, ◌-◌, ◌^◌, ◌<◌, ◌≤◌, Bool, List, [], ◌∷◌, ◌++◌, length, ℤ, ◌+ℤ◌, ◌≤ℤ◌, negsuc, pos}
 use Rattle.jpg_spec.specs.Numbers.{category, extra_bits}
 use Rattle.jpg_spec.specs.declared.frame.Bounds.{Bounds}
 use Rattle.jpg_seq.specs.declared.unit.Stage.{Stage}
@@ -18,6 +18,7 @@ use Rattle.jpg_seq.specs.InWork.{InWork, IsOpen}
 pub record AreSane (b : Bounds) : Type 0 where
   pub low : negsuc 32767 ≤ℤ b.dc_low
   pub high : b.dc_high ≤ℤ pos 32767
+  pub ac : pos (2 ^ b.ac_cat - 1) ≤ℤ b.ac
   pub dc_cat : b.dc_cat ≤ 15
   pub ac_cat : b.ac_cat ≤ 15
 

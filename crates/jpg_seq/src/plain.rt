@@ -1,9 +1,15 @@
 //! The data of a plain scan: blocks of one component, one after another (T.81, F.2.2).
-ghost use Rattle.std.specs.Prelude.{◌≡◌, ◌<◌, ◌++◌, ◌∷◌, [], length, IfOk, slice_index_or, pos};
+ghost use Rattle.std.specs.Prelude.{◌≡◌, ◌<◌, ◌++◌, ◌∷◌, [], length, IfOk, slice_index_or, pos, ℕ, Bool, List};
 ghost use Rattle.jpg_spec.specs.Bits.{bits_of};
+ghost use Rattle.jpg_spec.specs.Codes.{Code};
+ghost use Rattle.jpg_spec.specs.Elements.{Coding};
+ghost use Rattle.jpg_spec.specs.Scan.{scan_coding};
+ghost use Rattle.jpg_spec.specs.declared.frame.Bounds.{Bounds};
 ghost use Rattle.jpg_seq.specs.Step.{AreSane};
 ghost use Rattle.jpg_seq.specs.InWork.{fresh};
-ghost use Rattle.jpg_seq.specs.Plain.{IsFirst, IsReady, StaysReady, IsPlainScan};
+ghost use Rattle.jpg_seq.specs.Stands.{IsCodingOf};
+ghost use Rattle.jpg_seq.specs.Plain.{IsFirst, IsReady, StaysReady, IsPlainScan, Reads, AfterBits, PlainBits, ReadsText, AfterText, IsPlainRead, last_or, in_force, block_count};
+ghost use Rattle.jpg_seq.specs.Coded.{CodesScan};
 
 use crate::BlockList;
 use crate::unit::{UnitReader, UnitStep};
@@ -103,6 +109,7 @@ impl Reading {
         requires sane { AreSane scan.now.bounds.now }
         requires ready { IsReady scan.now.count self.old }
         ensures ready { IfOk result (λ took. StaysReady scan.now.count took self.new) }
+        ensures reads { IfOk result (λ took. (c : Coding) (so_far : List Bool) → CodesScan scan.now c → Reads c scan.now.count so_far self.old → AfterBits c scan.now.count (so_far ++ bit ∷ []) took self.new) }
     {
         if self.blocks.len() < scan.count {
             match self
@@ -128,6 +135,7 @@ impl Reading {
         requires sane { AreSane scan.now.bounds.now }
         requires ready { IsReady scan.now.count self.old }
         ensures ready { IfOk result (λ took. StaysReady scan.now.count took self.new) }
+        ensures reads { IfOk result (λ took. (c : Coding) (so_far : List Bool) → CodesScan scan.now c → Reads c scan.now.count so_far self.old → AfterBits c scan.now.count (so_far ++ bits.now) took self.new) }
     {
         for bit in bits {
             match self.bit(scan, *bit)? {
@@ -143,13 +151,32 @@ impl Reading {
         requires sane { AreSane scan.now.bounds.now }
         requires ready { IsReady scan.now.count self.old }
         ensures ready { IfOk result (λ took. StaysReady scan.now.count took self.new) }
+        ensures reads { IfOk result (λ took. (c : Coding) (so_far : List Bool) → CodesScan scan.now c → Reads c scan.now.count so_far self.old → AfterBits c scan.now.count (so_far ++ bits_of 8 byte) took self.new) }
     {
         self.bits(scan, &bits_of_byte(byte))
     }
 
+    // One stuffed byte more.
+    fn stuffed(&mut self, scan: &Scan, gate: &mut Gate, byte: u8) -> Result<Took, NoMemory>
+        requires sane { AreSane scan.now.bounds.now }
+        requires ready { IsReady scan.now.count self.old }
+        ensures ready { IfOk result (λ took. StaysReady scan.now.count took self.new) }
+        ensures reads { IfOk result (λ took. (c : Coding) (text : List ℕ) → CodesScan scan.now c → ReadsText c scan.now.count gate.old text self.old → AfterText c scan.now.count (text ++ byte ∷ []) took gate.new self.new) }
+    {
+        match gate.byte(byte) {
+            Passed::More => Ok(Took::More),
+            Passed::Marker(_) => Ok(Took::Bad),
+            Passed::Data(byte) => self.byte(scan, byte),
+        }
+    }
+
     // The blocks, where all are there and fewer than eight bits stand behind them.
-    fn end(self, count: usize) -> PlainRead {
-        if self.blocks.len() == count && self.pad < 8 {
+    fn end(self, count: usize) -> PlainRead
+        ensures { (b : Bounds) (dc ac : List Code) (c : Coding) (bits : List Bool) → IsCodingOf b dc ac c 0 → Reads c count bits self → PlainBits c count bits result }
+    {
+        if self.blocks.len() < count {
+            PlainRead::NotPlain
+        } else if self.pad < 8 {
             PlainRead::Blocks(self.blocks)
         } else {
             PlainRead::NotPlain
@@ -157,26 +184,35 @@ impl Reading {
     }
 }
 
+// The last byte, 0 where there is none.
+fn last_byte(data: &[u8]) -> u8
+    ensures { result ≡ last_or 0 data.now }
+{
+    if data.is_empty() {
+        0
+    } else {
+        data[data.len() - 1]
+    }
+}
+
 // The blocks that stuffed bytes spell.
 fn read_scan(alloc: Global, scan: &Scan, data: &[u8]) -> Result<PlainRead, NoMemory>
     requires sane { AreSane scan.now.bounds.now }
+    ensures { IfOk result (λ read. (c : Coding) → CodesScan scan.now c → IsPlainRead c scan.now.count data.now read) }
 {
     let mut reading = Reading::new(alloc);
     let mut gate = Gate::new();
     for byte in data {
-        match gate.byte(*byte) {
-            Passed::More => {}
-            Passed::Marker(_) => return Ok(PlainRead::NotPlain),
-            Passed::Data(byte) => match reading.byte(scan, byte)? {
-                Took::More => {}
-                Took::Bad => return Ok(PlainRead::NotPlain),
-            },
+        match reading.stuffed(scan, &mut gate, *byte)? {
+            Took::More => {}
+            Took::Bad => return Ok(PlainRead::NotPlain),
         }
     }
-    match data.last() {
-        // A byte FF whose 00 is missing.
-        Some(0xff) => Ok(PlainRead::NotPlain),
-        _ => Ok(reading.end(scan.count)),
+    if last_byte(data) == 0xff {
+        // 00 is missing behind it.
+        Ok(PlainRead::NotPlain)
+    } else {
+        Ok(reading.end(scan.count))
     }
 }
 
@@ -192,6 +228,7 @@ pub fn read_plain(
     scan: &[u8],
 ) -> Result<PlainRead, NoMemory>
     requires { IsPlainScan frame.now head.now tables.now }
+    ensures { IfOk result (λ read. IsPlainRead (scan_coding frame.now (in_force tables.now) head.now) (block_count frame.now) scan.now read) }
 {
     let Some(part) = head.parts.first() else {
         return Ok(PlainRead::NotPlain);

@@ -1,11 +1,13 @@
 //! A unit of a sequential scan, read bit by bit (T.81, F.2.2).
-ghost use Rattle.std.specs.Prelude.{◌≡◌, ◌<◌, ◌≤◌, ◌≤ℤ◌, ◌+◌, ◌-◌, ◌+ℤ◌, negsuc, pos, [], ◌∷◌, ◌++◌, length};
+ghost use Rattle.std.specs.Prelude.{◌≡◌, ◌<◌, ◌≤◌, ◌≤ℤ◌, ◌+◌, ◌-◌, ◌+ℤ◌, negsuc, pos, [], ◌∷◌, ◌++◌, length, ℕ, ℤ, Bool, List};
+ghost use Rattle.jpg_spec.specs.Codes.{Code};
 ghost use Rattle.jpg_spec.specs.Numbers.{category, extra_bits};
-ghost use Rattle.jpg_spec.specs.Elements.{zeros};
+ghost use Rattle.jpg_spec.specs.Elements.{zeros, Coding, UnitLeft};
 ghost use Rattle.jpg_huff.specs.Walk.{Answers};
 ghost use Rattle.jpg_huff.specs.Tables.{symbol_codes};
 ghost use Rattle.jpg_seq.specs.InWork.{IsOpen, fresh};
 ghost use Rattle.jpg_seq.specs.Step.{AreSane, IsStage, DoesWant, AfterExtra, AfterFirst, AfterCover, StaysOpen};
+ghost use Rattle.jpg_seq.specs.Stands.{IsCodingOf, Stands, Answered};
 
 use crate::extend::extend;
 use crate::symbols::{Judged, judge};
@@ -231,6 +233,7 @@ impl UnitReader {
         requires sane { AreSane bounds.now }
         requires stage { (self.old.size ≡ 0) × (self.old.values ≡ []) }
         ensures open { StaysOpen result self.new }
+        ensures answered { (coding : Coding) (ac : List Code) (p : ℕ → ℤ) (i : ℕ) (others : List UnitLeft) (bits : List Bool) → IsCodingOf bounds.now (symbol_codes dc.now) ac coding i → p i ≡ prediction → Stands coding p i others bits self.old → Answered coding p i others (bits ++ bit ∷ []) result self.new }
     {
         match self.walk_bit(dc, bit) {
             WalkStep::More => UnitStep::More,
@@ -253,6 +256,7 @@ impl UnitReader {
         requires sane { AreSane bounds.now }
         requires stage { (self.old.size ≡ 0) × (1 ≤ length self.old.values) × (length self.old.values < 64) }
         ensures open { StaysOpen result self.new }
+        ensures answered { (coding : Coding) (dc : List Code) (p : ℕ → ℤ) (i : ℕ) (others : List UnitLeft) (bits : List Bool) → IsCodingOf bounds.now dc (symbol_codes ac.now) coding i → Stands coding p i others bits self.old → Answered coding p i others (bits ++ bit ∷ []) result self.new }
     {
         match self.walk_bit(ac, bit) {
             WalkStep::More => UnitStep::More,
@@ -285,6 +289,7 @@ impl UnitReader {
         requires open { IsOpen self.old }
         requires stage { 1 ≤ self.old.size }
         ensures open { StaysOpen result self.new }
+        ensures answered { (coding : Coding) (dc ac : List Code) (p : ℕ → ℤ) (i : ℕ) (others : List UnitLeft) (bits : List Bool) → IsCodingOf bounds.now dc ac coding i → p i ≡ prediction → Stands coding p i others bits self.old → Answered coding p i others (bits ++ bit ∷ []) result self.new }
     {
         match self.extra_bit(bit) {
             Extra::Wanting => UnitStep::More,
@@ -311,6 +316,7 @@ impl UnitReader {
         requires sane { AreSane bounds.now }
         requires open { IsOpen self.old }
         ensures open { StaysOpen result self.new }
+        ensures answered { (coding : Coding) (p : ℕ → ℤ) (i : ℕ) (others : List UnitLeft) (bits : List Bool) → IsCodingOf bounds.now (symbol_codes dc.now) (symbol_codes ac.now) coding i → p i ≡ prediction → Stands coding p i others bits self.old → Answered coding p i others (bits ++ bit ∷ []) result self.new }
     {
         match self.stage() {
             Stage::First => self.first_code_bit(bounds, dc, prediction, bit),

@@ -76,7 +76,7 @@ going_some : (u : UnitLeft) (pre : List ℤ) (o : ℤ) (rest : List ℤ) (us : L
 going_some u [] o rest us = refl
 going_some u (q ∷ pre) o rest us = refl
 
-going_same : (u v : UnitLeft) → u.component ≡ v.component → (l : List ℤ) (us : List UnitLeft) → going_on u l us ≡ going_on v l us
+pub going_same : (u v : UnitLeft) → u.component ≡ v.component → (l : List ℤ) (us : List UnitLeft) → going_on u l us ≡ going_on v l us
 going_same u v e [] us = refl
 going_same u v e (o ∷ l) us = ap (λ k. (let w : UnitLeft = record { component = k; has_dc = false; old = o ∷ l } in w ∷ us)) e
 
