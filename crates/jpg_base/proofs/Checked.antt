@@ -1,11 +1,11 @@
 -- What a frame header that passed the checks keeps.
-use Rattle.std.proofs.Common.{◌≡◌, ℕ, ◌≤◌, Bool, true, false, not, ◌||◌, ◌==◌, nat_lt, List, [], ◌∷◌, length, arith, All}
+use Rattle.std.proofs.Common.{◌≡◌, ℕ, ◌≤◌, Bool, false, not, ◌||◌, ◌==◌, nat_lt, List, [], ◌∷◌, length, arith, All}
 use Rattle.std.proofs.lemmas.Bool.{or_parts, ltb-false, eqb-true, not-false}
 use Rattle.std.proofs.lemmas.Bool.Decides.{nat_tests}
 use Rattle.std.proofs.lemmas.List.Elements.{All-nil, All-cons}
 use Rattle.jpg_spec.specs.Lists.{any_of, is_distinct}
 use Rattle.jpg_spec.specs.Geometry.{Frame, h_max, v_max, padded_blocks}
-use Rattle.jpg_spec.specs.FrameHeader.{HasFactors, IsFrame, AreLimits, has_bad_factor, has_bad_slot, identifiers}
+use Rattle.jpg_spec.specs.FrameHeader.{HasFactors, AreLimits, has_bad_factor, has_bad_slot, identifiers}
 use Rattle.jpg_spec.specs.declared.frame.Component.{Component}
 use Rattle.jpg_spec.specs.declared.frame.Limits.{Limits}
 use Rattle.jpg_base.specs.Frame.{IsWhole}

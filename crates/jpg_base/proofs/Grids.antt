@@ -1,9 +1,8 @@
 -- What the checks of a frame header say of its components and grids.
-use Rattle.std.proofs.Common.{◌≡◌, ℕ, zero, suc, ◌+◌, ◌*◌, ◌<◌, ◌≤◌, Bool, true, false, ◌||◌, nat_lt, ◌==◌, List, [], ◌∷◌, length, map, drop, max, refl, arith, rules, All, sum_by}
+use Rattle.std.proofs.Common.{ℕ, ◌*◌, ◌≤◌, List, [], ◌∷◌, length, arith, All}
 use Rattle.std.proofs.lemmas.Nat.{mul-le}
 use Rattle.std.proofs.lemmas.List.Elements.{All-head, All-tail, All-weaker}
 use Rattle.std.proofs.lemmas.List.Sums.{sum_by-le}
-use Rattle.jpg_spec.specs.Geometry.{greatest}
 use Rattle.jpg_spec.specs.FrameHeader.{HasFactors}
 use Rattle.jpg_spec.specs.declared.frame.Component.{Component}
 use Rattle.jpg_base.specs.Frame.{greatest_across, greatest_down, blocks_of}

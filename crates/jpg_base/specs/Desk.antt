@@ -1,5 +1,5 @@
 -- What a desk tells, and what its calls do to it.
-use Rattle.std.specs.Prelude.{◌≡◌, ℕ, ◌+◌, ◌-◌, ◌^◌, ◌≤◌, min, Bool, true, false, List, [], ◌∷◌, ◌++◌, length, take, drop, Option, None, Some, IsTrue}
+use Rattle.std.specs.Prelude.{◌≡◌, ℕ, ◌+◌, ◌-◌, ◌^◌, ◌≤◌, min, Bool, true, false, List, [], ◌∷◌, ◌++◌, length, take, Option, None, Some}
 use Rattle.std.specs.Prelude.{refl}
 use Rattle.std.proofs.Common.{ap, append_assoc}
 use Rattle.std.specs.Io.KnownBytes.{Appends, Consumes, IsAtEnd}
@@ -26,13 +26,13 @@ pub record DeskState : Type 0 where
   pub input_open : Bool
   pub output_created : Bool
 
--- a count rose, or stands at its last value
-abbrev pub Rose : ℕ → ℕ → Type 0
-Rose before now = min (before + 1) (2 ^ 64 - 1) ≤ now
-
 -- a count after one more failure: it stops at its last value
 abbrev pub raised : ℕ → ℕ
 raised count = min (count + 1) (2 ^ 64 - 1)
+
+-- a count rose, or stands at its last value
+abbrev pub Rose : ℕ → ℕ → Type 0
+Rose before now = raised before ≤ now
 
 -- no count fell
 pub record NoneFell (old new : Counts) : Type 0 where

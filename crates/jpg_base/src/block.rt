@@ -45,7 +45,7 @@ impl Block {
         self.values[k as usize] = value;
     }
 
-    /// That it has 64 numbers, for proofs. It does nothing.
+    /// Tells that it has 64 numbers. It does nothing.
     pub fn long(&self)
         ensures { length self.now ≡ 64 }
     {

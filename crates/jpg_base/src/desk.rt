@@ -5,33 +5,47 @@ ghost use Rattle.jpg_base.specs.Desk.{DeskState, Opens, Reads, Creates, Writes, 
 use crate::{Counts, Got, Name, Put};
 
 /// Files, an input, outputs and messages.
+///
+/// A call answers `Failed` only where the count of its kind rises in that call, or stands at
+/// `u64::MAX`. No count falls. What a call is not said to change stays as it was.
 pub trait Desk {
-    /// What it tells of itself.
+    /// What it tells of itself: the bytes of each file, those left of the input, the outputs, the
+    /// messages and the names asked for, each only where it knows them.
     ghost state: { Self → DeskState };
 
-    /// Makes the named file the input, read from its first byte.
+    /// Makes the named file the input, read from its first byte. After `Failed`, which counts as an
+    /// open, no input is open.
     fn open(&mut self, name: &Name) -> Put
         ensures { Opens (state self.old) name.now result (state self.new) };
 
-    /// Gives at least one of the next bytes, or says that none are left.
+    /// Puts at least one of the next bytes of the input at the front of `buf`, and gives their
+    /// number, which is at most `buf.len()` and `u32::MAX`. `End` comes exactly where no bytes are
+    /// left. `Failed` counts as a read, and takes no bytes. The rest of `buf` may hold anything.
+    ///
+    /// An input has to be open, and `buf` may not be empty.
     fn read(&mut self, buf: &mut [u8]) -> Got
         requires open { (state self.old).input_open ≡ true }
         requires room { 0 < length buf.old }
         ensures { Reads (state self.old) result buf.new (state self.new) };
 
-    /// Adds an empty output.
+    /// Adds an empty output of this name. `Failed` counts as an open, and adds none.
     fn create(&mut self, name: &Name) -> Put
         ensures { Creates (state self.old) name.now result (state self.new) };
 
-    /// Appends to the last output.
+    /// Appends the whole piece to the last output. At `Failed`, which counts as a write, it has
+    /// appended a first part of it, perhaps nothing.
+    ///
+    /// An output has to be created before.
     fn write(&mut self, piece: &[u8]) -> Put
         requires { (state self.old).output_created ≡ true }
         ensures { Writes (state self.old) piece.now result (state self.new) };
 
-    /// Appends to the messages.
+    /// Appends the whole text to the messages. At `Failed`, which counts as a say, it has appended
+    /// a first part of it, perhaps nothing.
     fn say(&mut self, text: &[u8]) -> Put
         ensures { Says (state self.old) text.now result (state self.new) };
 
+    /// How often each kind of call has failed so far.
     fn counts(&self) -> Counts
         ensures { result ≡ (state self.now).counts };
 }

@@ -1,7 +1,7 @@
 // The header of a frame, and the grids that it bounds (T.81, A.1, A.2, B.2.2).
-ghost use Rattle.std.specs.Prelude.{◌≡◌, ◌<◌, ◌≤◌, length};
-ghost use Rattle.jpg_spec.specs.Geometry.{h_max, v_max, bounds, component_at};
-ghost use Rattle.jpg_spec.specs.FrameHeader.{AreLimits, HasFactors, IsFrame, checked_frame, mcu_grid, real_grid, padded_grid};
+ghost use Rattle.std.specs.Prelude.{◌≡◌, ◌*◌, ◌<◌, ◌≤◌, length, IfOk};
+ghost use Rattle.jpg_spec.specs.Geometry.{h_max, v_max, bounds, component_at, padded_blocks};
+ghost use Rattle.jpg_spec.specs.FrameHeader.{AreLimits, HasFactors, IsFrame, checked_frame, mcu_grid, real_grid, padded_grid, padded_across, padded_down};
 ghost use Rattle.jpg_base.specs.Frame.{numbers_of};
 
 use crate::frame_checks::{
@@ -38,12 +38,12 @@ impl Model for Frame {
 }
 
 impl Frame {
-    #[tactic(auto, unfolding(jpg_spec::specs::FrameHeader::checked_frame))]
     /// The frame of these numbers, or the first fault that forbids it, in this order: EmptyImage
     /// (a side is 0), TooLarge (a side above `limits.side`), Precision (not 8), ComponentCount
     /// (not one to four), Sampling (a factor not 1 to 4), DuplicateComponent (two equal
     /// identifiers), QuantSlot (above 3), TooManyBlocks (more than `limits.blocks` in the padded
     /// grids) (T.81, B.2.2). It takes no memory.
+    #[tactic(auto, unfolding(jpg_spec::specs::FrameHeader::checked_frame))]
     pub fn new(
         process: Process,
         precision: u8,
@@ -53,7 +53,8 @@ impl Frame {
         limits: &Limits,
     ) -> Result<Frame, Fault>
         requires { AreLimits limits.now }
-        ensures { result ≡ checked_frame limits.now (numbers_of process precision width height components.now) }
+        ensures value { result ≡ checked_frame limits.now (numbers_of process precision width height components.now) }
+        ensures numbers { IfOk result (λ frame. frame ≡ numbers_of process precision width height components.now) }
     {
         if is_empty(width, height) {
             return Err(Fault::EmptyImage);
@@ -105,13 +106,15 @@ impl Frame {
         }
     }
 
-    /// What every frame keeps, for proofs. It does nothing.
+    /// Tells what every frame keeps: the facts of `IsFrame`, which hold of its numbers since they
+    /// passed the checks. It does nothing.
     pub fn checked(&self)
         ensures { IsFrame self.now }
     {
         let _ = &self.precision;
     }
 
+    /// The coding process (T.81, Table B.1).
     pub fn process(&self) -> Process
         ensures { result ≡ self.now.process }
     {
@@ -169,8 +172,8 @@ impl Frame {
     /// The grid of MCUs of an interleaved scan (T.81, A.2.3).
     pub fn mcus(&self) -> Grid
         ensures value { result ≡ mcu_grid self.now }
-        ensures wide { result.wide ≤ 65532 }
-        ensures high { result.high ≤ 65532 }
+        ensures some { (1 ≤ result.wide) × (1 ≤ result.high) }
+        ensures few { (result.wide ≤ 65532) × (result.high ≤ 65532) }
     {
         Grid {
             wide: mcu_side(self.width, self.h_max),
@@ -191,7 +194,10 @@ impl Frame {
     /// The real blocks of component `i`: those that hold its samples (T.81, A.1.1, A.2.2).
     pub fn blocks(&self, i: u8) -> Grid
         requires { i < length self.now.components }
-        ensures { result ≡ real_grid self.now (component_at self.now i) }
+        ensures value { result ≡ real_grid self.now (component_at self.now i) }
+        ensures some { (1 ≤ result.wide) × (1 ≤ result.high) }
+        ensures wide { result.wide ≤ padded_across self.now (component_at self.now i) }
+        ensures high { result.high ≤ padded_down self.now (component_at self.now i) }
     {
         let component = self.component(i);
         Grid {
@@ -203,7 +209,8 @@ impl Frame {
     /// The padded grid of component `i`: its factors times the MCUs (T.81, A.2.4).
     pub fn padded(&self, i: u8) -> Grid
         requires { i < length self.now.components }
-        ensures { result ≡ padded_grid self.now (component_at self.now i) }
+        ensures value { result ≡ padded_grid self.now (component_at self.now i) }
+        ensures few { result.wide * result.high ≤ padded_blocks self.now }
     {
         let component = self.component(i);
         let mcus = self.mcus();

@@ -159,6 +159,7 @@ pub(crate) fn mcu_side(side: u32, greatest: u8) -> u32
     requires low { 1 ≤ greatest }
     requires high { greatest ≤ 4 }
     ensures value { result ≡ div_up side (8 * greatest) }
+    ensures low { 1 ≤ side → 1 ≤ result }
     ensures high { result ≤ 65532 }
 {
     div_up(side, 8 * u32::from(greatest))
@@ -169,7 +170,9 @@ pub(crate) fn real_side(side: u32, factor: u8, greatest: u8) -> u32
     requires side { side ≤ 65500 }
     requires factor { factor ≤ 4 }
     requires low { 1 ≤ greatest }
-    ensures { result ≡ div_up (div_up (side * factor) greatest) 8 }
+    ensures value { result ≡ div_up (div_up (side * factor) greatest) 8 }
+    ensures low { 1 ≤ side → 1 ≤ factor → 1 ≤ result }
+    ensures padded { result ≤ div_up side (8 * greatest) * factor }
 {
     div_up(div_up(side * u32::from(factor), u32::from(greatest)), 8)
 }

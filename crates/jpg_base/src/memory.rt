@@ -30,6 +30,10 @@ pub struct Input {
     ghost at_in: { at ≤ vec_len bytes },
 }
 
+/// A desk whose files, outputs and messages lie in memory, for tests. It fails at the calls that it
+/// was told, where an absent name is opened, and where it finds no memory; each such call raises the
+/// count of its kind by one and no other count. It tells everything, but for the names asked for
+/// once it found no memory to note one.
 #[derive(Drop)]
 pub struct MemoryDesk {
     alloc: Global,
@@ -52,7 +56,8 @@ impl MemoryDesk {
     ghost use Rattle.jpg_base.specs.Name.{file_of, is_same_name};
     ghost use Rattle.jpg_base.specs.Memory.{memory_state, memory_said, memory_outputs, memory_failing, memory_calls, memory_piece, SameNumbers, IsNew, with_file};
 
-    /// A desk with no files, which gives at most this many bytes a read.
+    /// A desk with no files and no failures, which gives at most `piece` bytes a read. `piece` is at
+    /// least 1.
     pub fn new(alloc: Global, piece: u32) -> MemoryDesk
         requires { 1 ≤ piece }
         ensures { IsNew result piece }
@@ -76,7 +81,8 @@ impl MemoryDesk {
         }
     }
 
-    /// A file with this name, in the place of one that there is.
+    /// Adds a file with this name, in the place of one that there is. An input that is open keeps
+    /// the bytes that it had. At `NoMemory` nothing has changed.
     pub fn add_file(&mut self, name: &Name, bytes: &[u8]) -> Result<(), NoMemory>
         ensures ok { OnOk result (memory_state self.new ≡ with_file name.now bytes.now (memory_state self.old)) }
         ensures err { OnErr result (memory_state self.new ≡ memory_state self.old) }
@@ -92,7 +98,9 @@ impl MemoryDesk {
         }
     }
 
-    /// Makes the call of this number fail.
+    /// Makes the call of this number fail, where all calls of `open`, `read`, `create`, `write` and
+    /// `say` are counted together from 1. A number that has passed, and 0, change nothing. A `write`
+    /// or `say` that fails so appends at most the first half. At `NoMemory` nothing has changed.
     pub fn fail(&mut self, call: u64) -> Result<(), NoMemory>
         ensures ok { OnOk result (memory_failing self.new ≡ memory_failing self.old ++ call ∷ []) }
         ensures err { OnErr result (memory_failing self.new ≡ memory_failing self.old) }
@@ -106,12 +114,14 @@ impl MemoryDesk {
         }
     }
 
+    /// How many outputs were created, where they are at most `u32::MAX`; else `u32::MAX`.
     pub fn outputs(&self) -> u32
         ensures { result ≡ min (length (memory_outputs self.now)) (2 ^ 32 - 1) }
     {
         u32::try_from(self.outputs.len()).unwrap_or(u32::MAX)
     }
 
+    /// The bytes of an output, by its place from 0, which has to be less than `outputs`.
     pub fn output(&self, i: u32) -> &[u8]
         requires { i < length (memory_outputs self.now) }
         ensures { option_map (λ p. p.1) (slice_get (memory_outputs self.now) i) ≡ Some result.now }
@@ -119,6 +129,7 @@ impl MemoryDesk {
         self.outputs[i as usize].bytes.as_slice()
     }
 
+    /// The bytes of all messages, the first one first.
     pub fn said(&self) -> &[u8]
         ensures { result.now ≡ memory_said self.now }
     {

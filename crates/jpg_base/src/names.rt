@@ -4,6 +4,7 @@ ghost use Rattle.std.specs.Prelude.{◌≡◌, IfOk};
 use crate::Text;
 use std::alloc::Global;
 
+/// There was no memory for what was asked.
 #[derive(Clone, Copy, Debug, PartialEq, Eq)]
 pub struct NoMemory;
 
@@ -18,6 +19,7 @@ pub enum Name {
 impl Name {
     ghost use Rattle.jpg_base.specs.Name.{is_same_name};
 
+    /// Whether both stand for the same file: the texts of two file names are compared by their bytes.
     pub fn is_same(&self, other: &Name) -> bool
         ensures { result ≡ is_same_name self.now other.now }
     {
@@ -29,6 +31,7 @@ impl Name {
         }
     }
 
+    /// The same name once more. It answers `NoMemory` only where there is none for the text.
     pub fn try_clone(&self, alloc: Global) -> Result<Name, NoMemory>
         ensures { IfOk result (λ name. name ≡ self.now) }
     {
@@ -43,12 +46,15 @@ impl Name {
     }
 }
 
+/// What `open`, `create`, `write` and `say` answer.
 #[derive(Clone, Copy, Debug, PartialEq, Eq)]
 pub enum Put {
     Done,
     Failed,
 }
 
+/// What `read` answers: the number of bytes that it gave, at least one; that none are left; or
+/// that it failed.
 #[derive(Clone, Copy, Debug, PartialEq, Eq)]
 pub enum Got {
     Bytes(u32),
@@ -56,7 +62,8 @@ pub enum Got {
     Failed,
 }
 
-/// How often each kind of call has failed.
+/// How often each kind of call has failed. `open` and `create` share one count. A count stops at
+/// `u64::MAX`.
 #[derive(Clone, Copy, Debug, PartialEq, Eq)]
 pub struct Counts {
     pub opens: u64,

@@ -62,7 +62,7 @@ impl QuantTable {
         self.values == other.values
     }
 
-    /// That it has 64 quantisers, for proofs. It does nothing.
+    /// Tells that it has 64 quantisers. It does nothing.
     pub fn long(&self)
         ensures { length self.now ≡ 64 }
     {

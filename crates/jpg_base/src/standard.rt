@@ -4,9 +4,9 @@ ghost use Rattle.jpg_base.specs.Desk.{raised, Rose};
 ghost use Rattle.jpg_base.specs.Standard.{ReadsSome, WritesAll};
 
 use crate::{Counts, Desk, Got, Name, Put};
-use std::fs;
 use std::io::{Read, Write};
 use std::rt::Runtime;
+use std::{fs, io};
 
 #[derive(Drop)]
 enum Source<R: Runtime> {
@@ -30,6 +30,9 @@ pub struct Told {
     pub output_created: bool,
 }
 
+/// Real files, standard input, output and error. `In` is read as standard input, `Out` is written as
+/// standard output, and what is said goes to standard error. To open `Out` and to create `In` fails,
+/// and so does a message that is no UTF-8. Each failure raises the count of its kind by one.
 #[derive(Drop)]
 pub struct StdDesk<R: Runtime> {
     rt: R,
@@ -49,6 +52,7 @@ fn raise(count: &mut u64)
 impl<R: Runtime> StdDesk<R> {
     ghost use Rattle.jpg_base.specs.Standard.{std_state, TellsNothing};
 
+    /// A desk with no input and no output yet, at which nothing has failed.
     pub fn new(rt: R) -> Self
         ensures { TellsNothing (std_state result.told) }
     {
@@ -96,13 +100,6 @@ fn write_whole<W: Write>(writer: &mut W, piece: &[u8]) -> Put
         }
     }
     Put::Done
-}
-
-fn print_whole<R: Runtime>(rt: &R, piece: &[u8]) -> Put {
-    match rt.write_all(piece) {
-        Ok(()) => Put::Done,
-        Err(_) => Put::Failed,
-    }
 }
 
 impl<R: Runtime> Desk for StdDesk<R> {
@@ -189,7 +186,7 @@ impl<R: Runtime> Desk for StdDesk<R> {
     {
         let answer = match &mut self.sink {
             Sink::Closed => Put::Failed,
-            Sink::Standard => print_whole(&self.rt, piece),
+            Sink::Standard => write_whole(&mut io::writer(&self.rt), piece),
             Sink::File(file) => write_whole(file, piece),
         };
         if let Put::Failed = answer {

@@ -1,2 +1,7 @@
+pub mod Counted
 pub mod Decimal
+pub mod PlainScan
+pub mod Input
 pub mod Names
+pub mod Output
+pub mod Front

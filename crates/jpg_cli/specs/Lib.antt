@@ -1,0 +1,5 @@
+pub mod Gray
+pub mod Reading
+pub mod Run
+pub mod Saying
+pub mod Writing

@@ -1,7 +1,7 @@
 -- Tests that compute, of the arrays of a table.
-use Rattle.std.proofs.Common.{◌≡◌, ℕ, zero, suc, ◌+◌, ◌*◌, ◌^◌, ◌<◌, ◌≤◌, Bool, true, false, List, length, drop, get_or, refl, sym, ap, ◌∙◌, arith, ◌&&◌, eqb, ltb, leb}
-use Rattle.std.specs.Prelude.{◌⊎◌, Option, None, Some, ◌/◌, ◌%◌, [], ◌∷◌, cond, ◌==◌}
-use Rattle.std.proofs.Common.{inl, inr, ⊎_elim}
+use Rattle.std.proofs.Common.{◌≡◌, ℕ, zero, suc, ◌+◌, ◌*◌, ◌^◌, ◌<◌, ◌≤◌, Bool, true, false, List, length, drop, get_or, refl, ap, ◌∙◌, arith, ◌&&◌, eqb, ltb, leb}
+use Rattle.std.specs.Prelude.{◌⊎◌, Option, None, Some, ◌/◌, ◌%◌, [], ◌∷◌}
+use Rattle.std.proofs.Common.{⊎_elim}
 use Rattle.std.specs.List.{sum}
 use Rattle.std.proofs.lemmas.Bool.Decides.{nat_tests}
 use Rattle.jpg_spec.specs.Codes.{Code, first_code}

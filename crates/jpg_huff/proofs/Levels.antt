@@ -1,6 +1,5 @@
 -- Which numbers begin a code of a table.
-use Rattle.std.proofs.Common.{◌≡◌, ℕ, zero, suc, ◌+◌, ◌-◌, ◌*◌, ◌/◌, ◌%◌, ◌^◌, ◌<◌, ◌≤◌, Bool, true, false, List, [], ◌∷◌, ◌++◌, length, drop, get_or, refl, sym, ap, ◌∙◌, subst, arith, add-one, add-zero, add-suc, inl, inr, ⊎_elim, ◌==◌}
-use Rattle.std.specs.Prelude.{◌⊎◌}
+use Rattle.std.proofs.Common.{◌≡◌, ℕ, ◌+◌, ◌-◌, ◌*◌, ◌^◌, ◌<◌, ◌≤◌, Bool, true, false, List, [], ◌∷◌, ◌++◌, length, drop, get_or, sym, ap, ◌∙◌, arith, add-one, ⊎_elim}
 use Rattle.std.specs.List.{Contains, sum}
 use Rattle.std.proofs.lemmas.List.{append_assoc, length-append, append-nil, length-drop}
 use Rattle.std.proofs.lemmas.List.Elements.{Contains-append_left, Contains-append_right, Contains-append_cases}
@@ -10,7 +9,7 @@ use Rattle.std.proofs.Math.Nat.{pow-succ'}
 use Rattle.jpg_spec.specs.Bits.{bits_of}
 use Rattle.jpg_spec.specs.Codes.{Code, codes_at, codes_from, AreCodes}
 use Rattle.jpg_huff.specs.Index.{limit_from}
-use Rattle.jpg_spec.proofs.Strings.{bit_value, length-bits_of, bits_of-more, bits_of-split, bits_of_inj}
+use Rattle.jpg_spec.proofs.Strings.{bit_value, length-bits_of, bits_of-more, bits_of_inj}
 use Rattle.jpg_spec.proofs.Levels.{contains_none, in_level, from_level, front_not_below}
 
 -- a number below the limit begins a code

@@ -8,3 +8,4 @@ pub mod Putting
 pub mod Buffers
 pub mod Together
 pub mod Gates
+pub mod OneAnswer

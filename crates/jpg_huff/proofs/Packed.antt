@@ -1,12 +1,11 @@
 -- Bits of numbers, cut into bytes.
-use Rattle.std.proofs.Common.{◌≡◌, ℕ, zero, suc, ◌+◌, ◌-◌, ◌*◌, ◌/◌, ◌%◌, ◌^◌, ◌<◌, ◌≤◌, Bool, true, false, cond, List, [], ◌∷◌, ◌++◌, length, refl, sym, ap, ◌∙◌, subst, arith, add-one, add-zero, add-suc, ◌==◌}
-use Rattle.std.proofs.lemmas.List.{append_assoc, append-nil, length_push}
-use Rattle.std.proofs.lemmas.Nat.{shr_high, mod_low, pow_pos, mod_below, mod-pow-add}
+use Rattle.std.proofs.Common.{◌≡◌, ℕ, zero, suc, ◌+◌, ◌*◌, ◌/◌, ◌%◌, ◌^◌, ◌<◌, Bool, cond, List, [], ◌∷◌, ◌++◌, length, refl, sym, ap, ◌∙◌, arith, add-one, add-zero, add-suc, ◌==◌}
+use Rattle.std.proofs.lemmas.List.{append_assoc, append-nil}
+use Rattle.std.proofs.lemmas.Nat.{shr_high, mod-pow-add}
 use Rattle.std.proofs.lemmas.Bool.Decides.{nat_tests}
 use Rattle.std.proofs.Math.Nat.{div-div-eq-div-mul, pow-succ'}
-use Rattle.std.specs.List.{flat_map}
-use Rattle.jpg_spec.specs.Bits.{bits_of, number_from, whole_bytes, odd_bits, stuffed, stuffed_byte}
-use Rattle.jpg_spec.proofs.Strings.{bit_value, length-bits_of}
+use Rattle.jpg_spec.specs.Bits.{bits_of, number_from, whole_bytes, odd_bits}
+use Rattle.jpg_spec.proofs.Strings.{length-bits_of}
 
 -- the front and the rest of a string
 pub bits_of-add : (d t n : ℕ) → bits_of (d + t) n ≡ bits_of d (n / 2 ^ t) ++ bits_of t n

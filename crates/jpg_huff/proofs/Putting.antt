@@ -1,18 +1,17 @@
 -- What putting bits comes to.
-use Rattle.std.proofs.Common.{◌≡◌, ℕ, zero, suc, ◌+◌, ◌-◌, ◌*◌, ◌/◌, ◌%◌, ◌^◌, ◌<◌, ◌≤◌, Bool, true, false, List, [], ◌∷◌, ◌++◌, length, replicate, Result, Ok, Err, refl, sym, ap, ◌∙◌, subst, arith, ◌==◌}
-use Rattle.std.proofs.lemmas.List.{append_assoc, append-nil, length-append}
+use Rattle.std.proofs.Common.{◌≡◌, ℕ, zero, suc, ◌+◌, ◌-◌, ◌*◌, ◌/◌, ◌%◌, ◌^◌, ◌<◌, ◌≤◌, Bool, true, List, [], ◌∷◌, ◌++◌, length, replicate, Result, Ok, Err, refl, sym, ap, ◌∙◌, subst, arith, ◌==◌}
+use Rattle.std.proofs.lemmas.List.{append-nil}
 use Rattle.std.proofs.lemmas.Nat.{shl_whole, one_shl, shr_split, mul-add-lt, pow-add, pow_below, pow_pos, mod_below}
 use Rattle.std.proofs.Math.Nat.{pow-succ'}
-use Rattle.std.specs.List.{flat_map}
 use Rattle.jpg_base.specs.Desk.{DeskState}
-use Rattle.jpg_spec.specs.Bits.{bits_of, whole_bytes, padded, data_of, stuffed, stuffed_byte}
+use Rattle.jpg_spec.specs.Bits.{bits_of, whole_bytes, padded, stuffed, stuffed_byte}
 use Rattle.jpg_base.specs.declared.stop.WriteFault.{WriteFault}
-use Rattle.jpg_huff.specs.Out.{Emits, OnlyWrites}
+use Rattle.jpg_huff.specs.Out.{Emits}
 use Rattle.jpg_huff.specs.Waiting.{Waiting}
 use Rattle.jpg_huff.specs.BitOut.{Puts, Pads}
 use Rattle.jpg_spec.proofs.Strings.{length-bits_of}
-use Rattle.jpg_huff.proofs.Emitted.{emits_then, emits_fault, emits_nothing}
-use Rattle.jpg_huff.proofs.Packed.{bits_of-add, bits_of-beside, bits_of-low, whole_bytes-front, whole_bytes-few}
+use Rattle.jpg_huff.proofs.Emitted.{emits_nothing}
+use Rattle.jpg_huff.proofs.Packed.{bits_of-add, bits_of-beside, bits_of-low, whole_bytes-front}
 
 -- a byte of the low `left` bits, and those behind it
 pub whole_step : (left n : ℕ) → 8 ≤ left → stuffed (whole_bytes (bits_of left n)) ≡ stuffed_byte (n / 2 ^ (left - 8) % 256) ++ stuffed (whole_bytes (bits_of (left - 8) n))

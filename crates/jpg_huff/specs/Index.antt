@@ -1,5 +1,5 @@
 -- What a table keeps beside its counts and symbols, so that a walk needs no search.
-use Rattle.std.specs.Prelude.{◌≡◌, ℕ, zero, suc, ◌+◌, ◌-◌, ◌*◌, ◌/◌, ◌%◌, ◌^◌, Option, None, Some, ◌<◌, ◌≤◌, List, [], ◌∷◌, ◌++◌, length, take, drop, sum, slice_index, Bool, ◌==◌, if◌then◌else◌, Contains, ◌⊎◌}
+use Rattle.std.specs.Prelude.{◌≡◌, ℕ, ◌+◌, ◌*◌, ◌/◌, ◌%◌, ◌^◌, Option, None, Some, ◌<◌, ◌≤◌, List, [], ◌∷◌, ◌++◌, length, drop, sum, slice_index, Bool, ◌==◌, if◌then◌else◌, Contains}
 use Rattle.jpg_spec.specs.Bits.{bits_of}
 use Rattle.jpg_spec.specs.Codes.{Code, first_code}
 

@@ -1,9 +1,9 @@
 -- What holds of every table, and of bytes that go through a gate.
-use Rattle.std.specs.Prelude.{◌≡◌, ◌≢◌, ℕ, suc, ◌+◌, ◌-◌, ◌≤◌, Bool, true, false, List, [], ◌∷◌, ◌++◌, length, sum, replicate, Contains}
+use Rattle.std.specs.Prelude.{◌≡◌, ℕ, ◌-◌, ◌≤◌, Bool, List, [], ◌∷◌, ◌++◌, length, sum, replicate, Contains}
 use Rattle.jpg_spec.specs.Codes.{Code, AreCodes}
 use Rattle.jpg_spec.specs.Segments.{HuffmanTable}
 use Rattle.jpg_huff.specs.declared.gate.Passed.{Passed}
-use Rattle.jpg_huff.specs.declared.gate.Passed.TheVariants.{More, Data, Marker}
+use Rattle.jpg_huff.specs.declared.gate.Passed.TheVariants.{More}
 use Rattle.jpg_huff.specs.Gate.{Passes}
 
 -- counts for sixteen lengths and as many symbols, whose codes fit

@@ -1,5 +1,5 @@
 -- Bytes that go out, or wait to.
-use Rattle.std.specs.Prelude.{◌≡◌, ℕ, ◌+◌, ◌≤◌, Bool, true, List, [], ◌∷◌, ◌++◌, length, take, Option, None, Some, Result, Ok, Err}
+use Rattle.std.specs.Prelude.{◌≡◌, ℕ, List, [], ◌++◌, Result, Ok, Err}
 use Rattle.jpg_base.specs.Desk.{DeskState, NoneFell, Rose, AppendsLast}
 use Rattle.jpg_base.specs.Laws.{AppendsPart}
 use Rattle.jpg_base.specs.declared.stop.WriteFault.{WriteFault}

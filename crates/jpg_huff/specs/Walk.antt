@@ -1,5 +1,5 @@
 -- What a walk answers.
-use Rattle.std.specs.Prelude.{◌≡◌, ℕ, Bool, List, [], Contains}
+use Rattle.std.specs.Prelude.{◌≡◌, Bool, List, [], Contains}
 use Rattle.jpg_spec.specs.Codes.{Code}
 use Rattle.jpg_huff.specs.declared.walk.WalkStep.{WalkStep}
 use Rattle.jpg_huff.specs.declared.walk.WalkStep.TheVariants.{More, Symbol, NoCode}

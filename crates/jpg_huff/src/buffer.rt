@@ -101,6 +101,19 @@ impl Buffer {
         self.used = used + 4;
     }
 
+    // Adds four bytes, and 00 after each FF, of which there are few.
+    #[cold]
+    #[inline(never)]
+    fn add_four_stuffed(&mut self, a: u8, b: u8, c: u8, d: u8)
+        requires { length self.old + 8 ≤ 4096 }
+        ensures { self.new ≡ self.old ++ stuffed (a ∷ b ∷ c ∷ d ∷ []) }
+    {
+        self.add_stuffed(a);
+        self.add_stuffed(b);
+        self.add_stuffed(c);
+        self.add_stuffed(d);
+    }
+
     // Adds four bytes, and 00 after each FF.
     #[inline(always)]
     fn add_word(&mut self, a: u8, b: u8, c: u8, d: u8)
@@ -110,10 +123,7 @@ impl Buffer {
         if a != 255 && b != 255 && c != 255 && d != 255 {
             self.add_four(a, b, c, d);
         } else {
-            self.add_stuffed(a);
-            self.add_stuffed(b);
-            self.add_stuffed(c);
-            self.add_stuffed(d);
+            self.add_four_stuffed(a, b, c, d);
         }
     }
 

@@ -4,7 +4,7 @@ ghost use Rattle.jpg_huff.specs.Gate.{Passes};
 
 use std::marker::Model;
 
-/// What passes at a byte: nothing yet, a byte of data, or a marker's code.
+/// What passes at a byte: nothing yet, a byte of data, or a marker's code, 1 to 254 (T.81 B.1.1.2).
 #[derive(Clone, Copy, Debug, PartialEq, Eq)]
 pub enum Passed {
     More,
@@ -12,7 +12,7 @@ pub enum Passed {
     Marker(u8),
 }
 
-/// Whether one or more FF wait for the byte after them.
+/// Whether one or more FF wait for the byte after them (T.81 B.1.1.2, B.1.1.5).
 #[derive(Drop)]
 pub struct Gate {
     waits: bool,
@@ -35,7 +35,7 @@ impl Gate {
     }
 
     /// Takes a byte. A byte other than FF passes as data; after one or more FF, 00 passes as one
-    /// data byte FF, and another byte as a marker.
+    /// data byte FF, and another byte as a marker. T.81 has one FF before 00; here any number may stand.
     #[inline(always)]
     pub fn byte(&mut self, byte: u8) -> Passed
         ensures { Passes self.old byte result self.new }

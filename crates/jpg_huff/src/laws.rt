@@ -6,6 +6,8 @@ ghost use Rattle.jpg_huff.specs.declared.table.Table.{Table};
 ghost use Rattle.jpg_huff.specs.declared.gate.Passed.{Passed};
 ghost use Rattle.jpg_huff.specs.declared.gate.Passed.TheVariants.{Data, Marker};
 ghost use Rattle.jpg_base.specs.declared.stop.WriteFault.{WriteFault};
+ghost use Rattle.jpg_huff.specs.declared.walk.WalkStep.{WalkStep};
+ghost use Rattle.jpg_huff.specs.Walk.{Answers};
 ghost use Rattle.jpg_huff.specs.Tables.{table_of, symbol_codes};
 ghost use Rattle.jpg_huff.specs.Laws.{IsTable, AreApart, Feeds, AtLast};
 ghost use Rattle.jpg_huff.specs.Out.{Emits, OnlyWrites};
@@ -20,6 +22,12 @@ pub fn tables_fit()
 /// No code of a table begins another one.
 pub fn tables_are_apart()
     ensures { (t : Table) → AreApart (symbol_codes t) }
+{}
+
+/// At the same bits of a table a walk has one right answer, so it gives More exactly where a code
+/// has more bits, and NoCode exactly where none begins so.
+pub fn one_answer()
+    ensures { (t : Table) (bits new other : List Bool) (step step' : WalkStep) → Answers (symbol_codes t) bits step new → Answers (symbol_codes t) bits step' other → step ≡ step' }
 {}
 
 /// The bytes that spell a data byte give that byte at their last one, and nothing before

@@ -41,7 +41,8 @@ impl BitOut {
     }
 
     /// Adds a number below `2^count` as `count` bits, 0 to 32, the most significant first.
-    /// After each byte FF that goes out stands 00. After a fault nothing waits.
+    /// After each byte FF that goes out stands 00 (T.81 B.1.1.5). After WriteFault a first
+    /// part of the bytes that were due is written, and nothing waits.
     #[inline(always)]
     pub fn put<D: Desk>(&mut self, bits: u32, count: u8, desk: &mut D) -> Result<(), WriteFault>
         requires created { (D.state desk.old).output_created ≡ true }
@@ -73,7 +74,7 @@ impl BitOut {
         }
     }
 
-    /// Fills the last byte with ones, so that no bits wait. After a fault nothing waits.
+    /// Fills the last byte with ones (T.81 F.1.2.3), so that no bits wait. WriteFault is as in `put`.
     pub fn pad<D: Desk>(&mut self, desk: &mut D) -> Result<(), WriteFault>
         requires { (D.state desk.old).output_created ≡ true }
         ensures kept { OnlyWrites (D.state desk.old) (D.state desk.new) }
@@ -87,7 +88,7 @@ impl BitOut {
         self.buffer.push_bits(all, total, desk)
     }
 
-    /// Adds bytes as they are, where no bits wait. After a fault nothing waits.
+    /// Adds bytes as they are, where no bits wait. WriteFault is as in `put`.
     pub fn raw<D: Desk>(&mut self, piece: &[u8], desk: &mut D) -> Result<(), WriteFault>
         requires created { (D.state desk.old).output_created ≡ true }
         requires none { self.old.bits ≡ [] }
@@ -97,7 +98,7 @@ impl BitOut {
         self.buffer.push_piece(piece, desk)
     }
 
-    /// Writes all that waits, where no bits wait. Afterwards, and after a fault, nothing waits.
+    /// Writes all that waits, where no bits wait. Afterwards nothing waits. WriteFault is as in `put`.
     pub fn flush<D: Desk>(&mut self, desk: &mut D) -> Result<(), WriteFault>
         requires created { (D.state desk.old).output_created ≡ true }
         requires none { self.old.bits ≡ [] }

@@ -5,7 +5,7 @@ ghost use Rattle.jpg_huff.specs.Sets.{dc_tables, ac_tables, in_slot, no_tables};
 
 use crate::Table;
 
-/// Four optional DC tables and four optional AC tables.
+/// Four optional DC tables and four optional AC tables, by slots 0 to 3 (T.81 B.2.4.2).
 #[derive(Drop)]
 pub struct TableSet {
     dc: [Option<Table>; 4],
@@ -24,7 +24,7 @@ impl TableSet {
         }
     }
 
-    /// The DC table in a slot.
+    /// The DC table in a slot, None where there is none, and for slots from 4 on.
     pub fn dc(&self, slot: u8) -> Option<&Table>
         ensures { option_map (λ t. t.now) result ≡ in_slot (dc_tables self.now) slot }
     {
@@ -35,7 +35,7 @@ impl TableSet {
         }
     }
 
-    /// The AC table in a slot.
+    /// The AC table in a slot, None where there is none, and for slots from 4 on.
     pub fn ac(&self, slot: u8) -> Option<&Table>
         ensures { option_map (λ t. t.now) result ≡ in_slot (ac_tables self.now) slot }
     {

@@ -18,7 +18,8 @@ use Rattle.jpg_spec.specs.Written.{IsWritable}
 use Rattle.jpg_huff.specs.Annex.{dc_luma_table, ac_luma_table}
 use Rattle.jpg_spec.proofs.Telling.{both}
 use Rattle.jpg_spec.proofs.Small.{shifted_none, ac_category}
-use Rattle.jpg_seq.specs.PlainText.{plain_bits, spelled, band_bits, block_bits, blocks_bits}
+use Rattle.jpg_spec.specs.Written.{plain_bits}
+use Rattle.jpg_seq.specs.PlainText.{spelled, band_bits, block_bits, blocks_bits}
 use Rattle.jpg_seq.specs.Put.{IsShort}
 use Rattle.jpg_seq.proofs.Bands.{left_bits, plain_elements, band_plain}
 

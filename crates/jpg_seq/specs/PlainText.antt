@@ -11,11 +11,7 @@ use Rattle.jpg_spec.specs.GrayFile.{gray_head, typical_tables}
 use Rattle.jpg_spec.specs.Scan.{scan_coding}
 use Rattle.jpg_spec.specs.Written.{IsWritable, sequential_bits}
 
--- the bits of blocks of one component by its typical tables, from prediction 0
-unfoldable pub plain_bits : List (List ℤ) → List Bool
-plain_bits blocks = sequential_bits gray_head (map (λ block. (0, block)) blocks)
-
--- and their data
+-- the data of blocks of one component by its typical tables
 abbrev pub plain_data : List (List ℤ) → List ℕ
 plain_data blocks = data_of (plain_bits blocks)
 

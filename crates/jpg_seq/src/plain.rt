@@ -1,4 +1,9 @@
-//! The data of a plain scan: blocks of one component, one after another.
+//! The data of a plain scan: blocks of one component, one after another (T.81, F.2.2).
+ghost use Rattle.std.specs.Prelude.{◌≡◌, ◌<◌, ◌++◌, ◌∷◌, [], length, IfOk, slice_index_or, pos};
+ghost use Rattle.jpg_spec.specs.Bits.{bits_of};
+ghost use Rattle.jpg_seq.specs.Step.{AreSane};
+ghost use Rattle.jpg_seq.specs.InWork.{fresh};
+ghost use Rattle.jpg_seq.specs.Plain.{IsFirst, IsReady, StaysReady, IsPlainScan};
 
 use crate::BlockList;
 use crate::unit::{UnitReader, UnitStep};
@@ -40,8 +45,33 @@ struct Scan<'a> {
     count: usize,
 }
 
+// The bits of a byte, the most significant first.
+fn bits_of_byte(byte: u8) -> [bool; 8]
+    ensures { result ≡ bits_of 8 byte }
+{
+    let g = byte / 2;
+    let f = g / 2;
+    let e = f / 2;
+    let d = e / 2;
+    let c = d / 2;
+    let b = c / 2;
+    let a = b / 2;
+    [
+        a % 2 == 1,
+        b % 2 == 1,
+        c % 2 == 1,
+        d % 2 == 1,
+        e % 2 == 1,
+        f % 2 == 1,
+        g % 2 == 1,
+        byte % 2 == 1,
+    ]
+}
+
 impl Reading {
-    fn new(alloc: Global) -> Reading {
+    fn new(alloc: Global) -> Reading
+        ensures { IsFirst result }
+    {
         Reading {
             blocks: BlockList::new(alloc),
             unit: UnitReader::new(),
@@ -50,16 +80,30 @@ impl Reading {
         }
     }
 
+    // The block of a unit that is whole.
+    fn unit_block(&self) -> Block
+        requires { length self.now.unit.values ≡ 64 }
+        ensures { result ≡ self.now.unit.values }
+    {
+        self.unit.block()
+    }
+
     // A whole block.
-    fn keep(&mut self, block: Block) -> Result<Took, NoMemory> {
+    fn keep(&mut self, block: Block) -> Result<(), NoMemory>
+        ensures { IfOk result (λ u. self.new ≡ record { blocks = self.old.blocks ++ block ∷ []; unit = fresh; prediction = slice_index_or block 0 (pos 0); pad = self.old.pad }) }
+    {
         self.blocks.push(&block)?;
         self.prediction = block.get(0);
         self.unit = UnitReader::new();
-        Ok(Took::More)
+        Ok(())
     }
 
     // One bit more.
-    fn bit(&mut self, scan: &Scan, bit: bool) -> Result<Took, NoMemory> {
+    fn bit(&mut self, scan: &Scan, bit: bool) -> Result<Took, NoMemory>
+        requires sane { AreSane scan.now.bounds.now }
+        requires ready { IsReady scan.now.count self.old }
+        ensures ready { IfOk result (λ took. StaysReady scan.now.count took self.new) }
+    {
         if self.blocks.len() < scan.count {
             match self
                 .unit
@@ -67,7 +111,11 @@ impl Reading {
             {
                 UnitStep::More => Ok(Took::More),
                 UnitStep::Fault(_) => Ok(Took::Bad),
-                UnitStep::Done => self.keep(self.unit.block()),
+                UnitStep::Done => {
+                    let block = self.unit_block();
+                    self.keep(block)?;
+                    Ok(Took::More)
+                }
             }
         } else {
             self.pad = (self.pad + 1).min(8);
@@ -75,16 +123,28 @@ impl Reading {
         }
     }
 
-    // The bits of one data byte more, the most significant first.
-    fn byte(&mut self, scan: &Scan, byte: u8) -> Result<Took, NoMemory> {
-        for place in 0..8 {
-            let bit = byte >> (7 - place) & 1 == 1;
-            match self.bit(scan, bit)? {
+    // Bits more.
+    fn bits(&mut self, scan: &Scan, bits: &[bool]) -> Result<Took, NoMemory>
+        requires sane { AreSane scan.now.bounds.now }
+        requires ready { IsReady scan.now.count self.old }
+        ensures ready { IfOk result (λ took. StaysReady scan.now.count took self.new) }
+    {
+        for bit in bits {
+            match self.bit(scan, *bit)? {
                 Took::More => {}
                 Took::Bad => return Ok(Took::Bad),
             }
         }
         Ok(Took::More)
+    }
+
+    // The bits of one data byte more.
+    fn byte(&mut self, scan: &Scan, byte: u8) -> Result<Took, NoMemory>
+        requires sane { AreSane scan.now.bounds.now }
+        requires ready { IsReady scan.now.count self.old }
+        ensures ready { IfOk result (λ took. StaysReady scan.now.count took self.new) }
+    {
+        self.bits(scan, &bits_of_byte(byte))
     }
 
     // The blocks, where all are there and fewer than eight bits stand behind them.
@@ -98,7 +158,9 @@ impl Reading {
 }
 
 // The blocks that stuffed bytes spell.
-fn read_scan(alloc: Global, scan: &Scan, data: &[u8]) -> Result<PlainRead, NoMemory> {
+fn read_scan(alloc: Global, scan: &Scan, data: &[u8]) -> Result<PlainRead, NoMemory>
+    requires sane { AreSane scan.now.bounds.now }
+{
     let mut reading = Reading::new(alloc);
     let mut gate = Gate::new();
     for byte in data {
@@ -128,7 +190,9 @@ pub fn read_plain(
     head: &ScanHead,
     tables: &TableSet,
     scan: &[u8],
-) -> Result<PlainRead, NoMemory> {
+) -> Result<PlainRead, NoMemory>
+    requires { IsPlainScan frame.now head.now tables.now }
+{
     let Some(part) = head.parts.first() else {
         return Ok(PlainRead::NotPlain);
     };

@@ -1,4 +1,5 @@
 //! What a symbol of an AC table says in a sequential scan (T.81, F.1.2.2).
+ghost use Rattle.jpg_seq.specs.Judge.{Judges};
 
 use jpg_base::Bounds;
 
@@ -18,7 +19,9 @@ pub enum Judged {
 }
 
 /// What the symbol says where `left` values are left.
-pub fn judge(bounds: &Bounds, left: u8, symbol: u8) -> Judged {
+pub fn judge(bounds: &Bounds, left: u8, symbol: u8) -> Judged
+    ensures { Judges bounds.now.ac_cat left symbol result }
+{
     let run = symbol / 16;
     let size = symbol % 16;
     if size > bounds.ac_cat {

@@ -1,9 +1,17 @@
 //! A unit of a sequential scan, read bit by bit (T.81, F.2.2).
+ghost use Rattle.std.specs.Prelude.{◌≡◌, ◌<◌, ◌≤◌, ◌≤ℤ◌, ◌+◌, ◌-◌, ◌+ℤ◌, negsuc, pos, [], ◌∷◌, ◌++◌, length};
+ghost use Rattle.jpg_spec.specs.Numbers.{category, extra_bits};
+ghost use Rattle.jpg_spec.specs.Elements.{zeros};
+ghost use Rattle.jpg_huff.specs.Walk.{Answers};
+ghost use Rattle.jpg_huff.specs.Tables.{symbol_codes};
+ghost use Rattle.jpg_seq.specs.InWork.{IsOpen, fresh};
+ghost use Rattle.jpg_seq.specs.Step.{AreSane, IsStage, DoesWant, AfterExtra, AfterFirst, AfterCover, StaysOpen};
 
 use crate::extend::extend;
 use crate::symbols::{Judged, judge};
 use jpg_base::{Block, Bounds};
 use jpg_huff::{Table, Walk, WalkStep};
+use std::marker::Model;
 
 #[derive(Clone, Copy, Debug, PartialEq, Eq)]
 pub enum UnitFault {
@@ -50,12 +58,28 @@ pub struct UnitReader {
     number: u32,
 }
 
+impl Model for UnitReader {
+    ghost use Rattle.std.specs.Prelude.{take};
+    ghost use Rattle.jpg_spec.specs.Bits.{bits_of};
+    ghost use Rattle.jpg_seq.specs.InWork.{InWork, IsKept};
+
+    ghost Value = { InWork };
+
+    ghost view = { λ r. record { values = take r.at r.values; walked = r.walk; run = r.run; size = r.size; extra = bits_of r.have r.number } };
+
+    ghost invariant = { λ r. IsKept r.values r.at r.size r.have r.number };
+}
+
 fn sum(a: i16, b: i16) -> i32
+    ensures { result ≡ a +ℤ b }
 {
     i32::from(a) + i32::from(b)
 }
 
 fn narrow(x: i32) -> i16
+    requires low { negsuc 32767 ≤ℤ x }
+    requires high { x ≤ℤ pos 32767 }
+    ensures { result ≡ x }
 {
     x as i16
 }
@@ -63,18 +87,24 @@ fn narrow(x: i32) -> i16
 impl UnitReader {
     // a bit of a code
     fn walk_bit(&mut self, table: &Table, bit: bool) -> WalkStep
+        ensures answers { Answers (symbol_codes table.now) (self.old.walked ++ bit ∷ []) result self.new.walked }
+        ensures same { self.new ≡ record (self.old) { walked = self.new.walked } }
     {
         self.walk.bit(table, bit)
     }
 
     // zeros
     fn cover(&mut self, count: u8)
+        requires { length self.old.values + count ≤ 64 }
+        ensures { self.new ≡ record (self.old) { values = self.old.values ++ zeros count } }
     {
         self.at += count;
     }
 
     // zeros and a value
     fn place(&mut self, run: u8, value: i16)
+        requires { length self.old.values + run < 64 }
+        ensures { self.new ≡ record (self.old) { values = self.old.values ++ zeros run ++ value ∷ [] } }
     {
         self.values.set(self.at + run, value);
         self.at += run + 1;
@@ -82,12 +112,15 @@ impl UnitReader {
 
     // how many values are left
     fn left(&self) -> u8
+        ensures { result ≡ 64 - length self.now.values }
     {
         64 - self.at
     }
 
     // a number of this size begins, or none
     fn begin(&mut self, run: u8, size: u8)
+        requires { size ≤ 15 }
+        ensures { self.new ≡ record (self.old) { run = run; size = size; extra = [] } }
     {
         self.run = run;
         self.size = size;
@@ -97,12 +130,15 @@ impl UnitReader {
 
     // an extra bit
     fn push_extra(&mut self, bit: bool)
+        requires { length self.old.extra < self.old.size }
+        ensures { self.new ≡ record (self.old) { extra = self.old.extra ++ bit ∷ [] } }
     {
         self.number = 2 * self.number + u32::from(bit);
         self.have += 1;
     }
 
     fn wants_more(&self) -> Wants
+        ensures { DoesWant result self.now }
     {
         if self.have < self.size {
             Wants::Another
@@ -113,11 +149,15 @@ impl UnitReader {
 
     // the number whose extra bits are whole
     fn whole_number(&self) -> i16
+        requires { length self.now.extra ≡ self.now.size }
+        ensures category { category result ≡ self.now.size }
+        ensures extra { extra_bits result ≡ self.now.extra }
     {
         extend(self.size, self.number)
     }
 
     fn stage(&self) -> Stage
+        ensures { IsStage result self.now }
     {
         if self.size > 0 {
             Stage::InNumber
@@ -130,6 +170,8 @@ impl UnitReader {
 
     // whether values are left
     fn covered(&self) -> UnitStep
+        ensures step { AfterCover result self.now }
+        ensures fits { length self.now.values ≤ 64 }
     {
         if self.at == 64 {
             UnitStep::Done
@@ -140,6 +182,8 @@ impl UnitReader {
 
     // an extra bit, and the number where it is the last
     fn extra_bit(&mut self, bit: bool) -> Extra
+        requires { length self.old.extra < self.old.size }
+        ensures { AfterExtra self.old bit result self.new }
     {
         self.push_extra(bit);
         match self.wants_more() {
@@ -154,12 +198,16 @@ impl UnitReader {
     }
 
     fn kept_run(&self) -> u8
+        ensures { result ≡ self.now.run }
     {
         self.run
     }
 
     // the first value, by its difference
     fn first(&mut self, bounds: &Bounds, prediction: i16, difference: i16) -> UnitStep
+        requires empty { self.old.values ≡ [] }
+        requires sane { AreSane bounds.now }
+        ensures { AfterFirst bounds.now prediction difference self.old result self.new }
     {
         let first = sum(prediction, difference);
         if first < bounds.dc_low {
@@ -180,6 +228,9 @@ impl UnitReader {
         prediction: i16,
         bit: bool,
     ) -> UnitStep
+        requires sane { AreSane bounds.now }
+        requires stage { (self.old.size ≡ 0) × (self.old.values ≡ []) }
+        ensures open { StaysOpen result self.new }
     {
         match self.walk_bit(dc, bit) {
             WalkStep::More => UnitStep::More,
@@ -199,6 +250,9 @@ impl UnitReader {
 
     // a bit of an element's code
     fn code_bit(&mut self, bounds: &Bounds, ac: &Table, bit: bool) -> UnitStep
+        requires sane { AreSane bounds.now }
+        requires stage { (self.old.size ≡ 0) × (1 ≤ length self.old.values) × (length self.old.values < 64) }
+        ensures open { StaysOpen result self.new }
     {
         match self.walk_bit(ac, bit) {
             WalkStep::More => UnitStep::More,
@@ -227,6 +281,10 @@ impl UnitReader {
 
     // a bit behind a code
     fn number_bit(&mut self, bounds: &Bounds, prediction: i16, bit: bool) -> UnitStep
+        requires sane { AreSane bounds.now }
+        requires open { IsOpen self.old }
+        requires stage { 1 ≤ self.old.size }
+        ensures open { StaysOpen result self.new }
     {
         match self.extra_bit(bit) {
             Extra::Wanting => UnitStep::More,
@@ -250,6 +308,9 @@ impl UnitReader {
         prediction: i16,
         bit: bool,
     ) -> UnitStep
+        requires sane { AreSane bounds.now }
+        requires open { IsOpen self.old }
+        ensures open { StaysOpen result self.new }
     {
         match self.stage() {
             Stage::First => self.first_code_bit(bounds, dc, prediction, bit),
@@ -260,6 +321,7 @@ impl UnitReader {
 
     /// Before the first bit of a unit.
     pub fn new() -> UnitReader
+        ensures { result ≡ fresh }
     {
         UnitReader {
             values: Block::zero(),
@@ -274,6 +336,8 @@ impl UnitReader {
 
     /// The whole block.
     pub fn block(&self) -> Block
+        requires { length self.now.values ≡ 64 }
+        ensures { result ≡ self.now.values }
     {
         self.values
     }

@@ -6,11 +6,16 @@ pub mod Full
 pub mod Levels
 pub mod Once
 pub mod OneCode
+pub mod OneFile
 pub mod Packing
+pub mod PlainText
+pub mod Rows
 pub mod Sequential
 pub mod Small
 pub mod Sound
 pub mod Spelled
 pub mod Strings
 pub mod Telling
+pub mod Turned
+pub mod Within
 pub mod Writing

@@ -2,6 +2,7 @@
 use Rattle.std.specs.Prelude.{◌≡◌, ℕ, ◌*◌, ◌≤◌, Bool, true, nat_lt, not, ◌||◌, ◌==◌, List, length, map, All, Ok}
 use Rattle.jpg_spec.specs.Lists.{any_of, is_distinct}
 use Rattle.jpg_spec.specs.Faults.{Told, refuse}
+use Rattle.jpg_spec.specs.Segments.{standard_limits}
 use Rattle.jpg_spec.specs.Geometry.{Frame, mcus_across, mcus_down, blocks_across, blocks_down, padded_blocks}
 use Rattle.jpg_spec.specs.declared.fault.Fault.TheVariants.{EmptyImage, TooLarge, Precision, ComponentCount, Sampling, DuplicateComponent, QuantSlot, TooManyBlocks}
 use Rattle.jpg_spec.specs.declared.frame.Component.{Component}
@@ -52,12 +53,13 @@ pub record IsFrame (f : Frame) : Type 0 where
   pub slots : All (λ c. c.quant ≤ 3) f.components
   pub blocks : padded_blocks f ≤ 8388608
 
--- limits that don't exceed those of the profile
+-- limits that don't exceed those of the profile, and admit a byte of input
 pub record AreLimits (limits : Limits) : Type 0 where
-  pub side : limits.side ≤ 65500
-  pub blocks : limits.blocks ≤ 8388608
-  pub kept : limits.kept ≤ 268435456
-  pub input : limits.input ≤ 1099511627776
+  pub side : limits.side ≤ standard_limits.side
+  pub blocks : limits.blocks ≤ standard_limits.blocks
+  pub kept : limits.kept ≤ standard_limits.kept
+  pub input : limits.input ≤ standard_limits.input
+  pub some : 1 ≤ limits.input
 
 -- THE GRIDS
 

@@ -114,9 +114,12 @@ gray_meaning g = record {
   kept = (0xe0, plain_jfif) ∷ [];
 }
 
--- its rows of blocks from right to left, each block mirrored
+-- rows of this many blocks from right to left, each block mirrored
+abbrev pub turned_rows : ℕ → List (List ℤ) → List (List ℤ)
+turned_rows size blocks = flat_map (λ row. map mirrored (reverse row)) (chunks size blocks)
+
 abbrev pub flipped_gray : Gray → Gray
-flipped_gray g = record g { blocks = flat_map (λ row. map mirrored (reverse row)) (chunks (across g) g.blocks) }
+flipped_gray g = record g { blocks = turned_rows (across g) g.blocks }
 
 -- the text of a headed meaning in one sequential scan without restarts
 abbrev pub sequential_text : Meaning → List ℕ

@@ -10,6 +10,7 @@ pub mod GrayFile
 pub mod Jfif
 pub mod Lists
 pub mod Meaning
+pub mod Messages
 pub mod Moves
 pub mod Numbers
 pub mod Scan
@@ -22,6 +23,5 @@ pub mod Sound
 pub mod Told
 pub mod Transposed
 pub mod Typical
-pub mod Messages
 pub mod Words
 pub mod Written

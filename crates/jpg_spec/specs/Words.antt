@@ -20,11 +20,14 @@ are_words [] (w ∷ ws) = false
 are_words (v ∷ vs) [] = false
 are_words (v ∷ vs) (w ∷ ws) = bytes_eq v w && are_words vs ws
 
+abbrev pub flip_words : List (List ℕ)
+flip_words = codes "jpegtran" ∷ codes "-flip" ∷ codes "horizontal" ∷ []
+
 abbrev pub asked : List (List ℕ) → Asked
 asked [] = Wrong (record { fault = NoTool; word = 0 })
 asked (tool ∷ words) =
     if not (is_tool tool) then Wrong (record { fault = UnknownTool; word = 0 })
-    else if are_words (tool ∷ words) (codes "jpegtran" ∷ codes "-flip" ∷ codes "horizontal" ∷ []) then FlipHorizontal
+    else if are_words (tool ∷ words) flip_words then FlipHorizontal
     else NotBuilt
 
 -- the command that a message names

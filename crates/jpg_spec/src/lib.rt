@@ -6,6 +6,7 @@ mod answers;
 pub mod examples;
 mod fault;
 mod frame;
+pub mod gray_laws;
 pub mod laws;
 
 pub use answers::{Asked, FaultAt, Usage, UsageFault, Which, Why};

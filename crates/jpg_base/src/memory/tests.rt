@@ -79,7 +79,13 @@ fn reads_in_pieces(rt: HostRuntime) -> Result<(), Fail> {
         desk.read(&mut buf),
         desk.read(&mut buf),
     ];
-    let wanted = [Got::Bytes(2), Got::Bytes(3), Got::Bytes(2), Got::End, Got::End];
+    let wanted = [
+        Got::Bytes(2),
+        Got::Bytes(3),
+        Got::Bytes(2),
+        Got::End,
+        Got::End,
+    ];
     assert_eq!(rt; first, Got::Bytes(3));
     assert_eq!(rt; rest, wanted);
     assert_eq!(rt; small, [b'd', b'e']);

@@ -1,7 +1,6 @@
 use Rattle.std.proofs.Common.{ap, sym, ◌∙◌}
 use Rattle.jpg_spec.specs.Segments.{table_codes}
 use Rattle.jpg_spec.specs.Typical.{dc_luma, dc_chroma, ac_luma, ac_chroma}
-use Rattle.jpg_huff.specs.declared.kind.Typical.{Typical}
 use Rattle.jpg_huff.specs.Typical.{typical_codes}
 use Rattle.jpg_huff.proofs.known.typical.Goals as goal
 

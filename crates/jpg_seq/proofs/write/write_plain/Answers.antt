@@ -1,6 +1,6 @@
 use Rattle.jpg_huff.specs.Tables.{table_of}
 use Rattle.jpg_huff.proofs.Together.{puts_pad_all, puts_fault_all}
-use Rattle.jpg_seq.specs.PlainText.{plain_bits}
+use Rattle.jpg_spec.specs.Written.{plain_bits}
 use Rattle.jpg_seq.proofs.Blocks.{all_short, blocks_by}
 use Rattle.jpg_seq.proofs.HasPut.{put_same}
 use Rattle.jpg_seq.proofs.write.write_plain.Goals as goal

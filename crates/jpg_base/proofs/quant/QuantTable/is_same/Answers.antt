@@ -1,4 +1,4 @@
-use Rattle.std.proofs.Common.{◌≡◌, ◌∙◌}
+use Rattle.std.proofs.Common.{◌∙◌}
 use Rattle.jpg_base.proofs.Equal.{pointwise-are_equal}
 use Rattle.jpg_base.proofs.quant.QuantTable.is_same.Goals as goal
 

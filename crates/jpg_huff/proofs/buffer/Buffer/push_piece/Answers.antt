@@ -1,5 +1,5 @@
-use Rattle.std.proofs.Common.{[], ◌≡◌, ◌++◌, ap, sym, ◌∙◌, subst, List, ℕ, Ok, Err, arith}
-use Rattle.jpg_huff.specs.Out.{Emits, OnlyWrites}
+use Rattle.std.proofs.Common.{[], ◌≡◌, sym, subst, List, ℕ, Ok, Err, arith}
+use Rattle.jpg_huff.specs.Out.{Emits}
 use Rattle.jpg_huff.proofs.Emitted.{emits_fault, emits_then, emits_written, emits_unwritten}
 use Rattle.jpg_huff.proofs.Buffers.{none_left}
 use Rattle.jpg_huff.proofs.buffer.Buffer.push_piece.Goals as goal

@@ -1,4 +1,4 @@
-use Rattle.std.proofs.Common.{refl, ap}
+use Rattle.std.proofs.Common.{ap}
 use Rattle.std.specs.Prelude.{List, ℕ, []}
 use Rattle.jpg_spec.specs.Bits.{bits_of}
 use Rattle.jpg_huff.specs.Waiting.{Waiting}

@@ -1,5 +1,4 @@
-use Rattle.std.proofs.Common.{◌≡◌, ◌+◌, ◌*◌, ◌^◌, ◌%◌, ◌-◌, arith}
-use Rattle.jpg_spec.specs.Bits.{bits_of}
+use Rattle.std.proofs.Common.{◌%◌, ◌-◌, arith}
 use Rattle.jpg_huff.proofs.Putting.{pad_number, pads}
 use Rattle.jpg_huff.proofs.out.BitOut.pad.Goals as goal
 

@@ -1,6 +1,5 @@
-use Rattle.std.proofs.Common.{◌≡◌, ◌+◌, ◌*◌, ◌^◌, ◌%◌, arith}
-use Rattle.jpg_spec.specs.Bits.{bits_of}
-use Rattle.jpg_huff.proofs.Putting.{number_is, number_fits, low_fits, puts_held, puts_out, puts_fault}
+use Rattle.std.proofs.Common.{arith}
+use Rattle.jpg_huff.proofs.Putting.{number_is, number_fits, puts_held, puts_out, puts_fault}
 use Rattle.jpg_huff.proofs.out.BitOut.put.Goals as goal
 
 pub invariant_of-self : goal.invariant_of-self

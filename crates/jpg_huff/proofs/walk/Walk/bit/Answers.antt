@@ -1,7 +1,7 @@
-use Rattle.std.proofs.Common.{◌≡◌, ◌≤◌, ◌<◌, ◌+◌, ◌*◌, ◌-◌, arith, refl, subst, List, [], ◌∷◌, ◌++◌, ◌∙◌, inl, inr, get_or, length}
+use Rattle.std.proofs.Common.{◌≤◌, ◌+◌, ◌*◌, ◌-◌, arith, refl, subst, List, [], ◌∷◌, ◌++◌, ◌∙◌, inl, inr, get_or}
 use Rattle.std.specs.Prelude.{◌⊎◌, Contains}
 use Rattle.jpg_spec.specs.Bits.{bits_of}
-use Rattle.jpg_spec.specs.Codes.{Code, codes}
+use Rattle.jpg_spec.specs.Codes.{Code}
 use Rattle.jpg_huff.specs.Index.{BeginsCode, BeginsNone}
 use Rattle.jpg_huff.proofs.Tables.{codes_kept}
 use Rattle.jpg_huff.proofs.Steps.{at_below, at_symbol, at_more, at_none, place_below, bit_value_is}

@@ -1,0 +1,46 @@
+-- The plain gray file's frame, scan and tables.
+use Rattle.std.proofs.Common.{◌≡◌, ℕ, Bool, true, false, cond, List, [], ◌∷◌, length, Option, Some, Result, Ok, Err, refl, sym, ap, ◌∙◌, subst}
+use Rattle.std.specs.Prelude.{slice_set}
+use Rattle.jpg_spec.specs.declared.fault.Fault.{Fault}
+use Rattle.jpg_spec.specs.declared.frame.Limits.{Limits}
+use Rattle.jpg_spec.specs.Faults.{Told, refuse}
+use Rattle.jpg_spec.specs.Geometry.{Frame, is_progressive}
+use Rattle.jpg_spec.specs.FrameHeader.{checked_frame}
+use Rattle.jpg_spec.specs.Segments.{ScanHead}
+use Rattle.jpg_spec.specs.GrayFile.{gray_frame, gray_head}
+use Rattle.jpg_huff.specs.declared.table.Table.{Table}
+use Rattle.jpg_huff.specs.declared.set.TableSet.{TableSet}
+use Rattle.jpg_huff.specs.Sets.{dc_tables, ac_tables, in_slot, no_tables}
+use Rattle.jpg_seq.specs.Plain.{IsPlainScan}
+use Rattle.jpg_cli.specs.Gray.{HasLuma}
+
+-- where something is told, nothing was refused
+pub told : {X : Type 0} (fault : Fault) (bad : Bool) (rest : Told X) (x : X) → Ok x ≡ refuse fault bad rest → (bad ≡ false) × (Ok x ≡ rest)
+told fault true rest x e = cc
+told fault false rest x e = (refl, e)
+
+same : {X : Type 0} (x y : X) → (let r : Told X = Ok x in r) ≡ Ok y → x ≡ y
+same x y e = cc
+
+-- a frame that is told is the one that was checked
+pub told_frame : (limits : Limits) (f g : Frame) → Ok g ≡ checked_frame limits f → g ≡ f
+unfolding checked_frame
+told_frame limits f g e =
+    same g f
+    (told _ _ _ g (told _ _ _ g (told _ _ _ g (told _ _ _ g (told _ _ _ g (told _ _ _ g (told _ _ _ g (told _ _ _ g e).1).1).1).1).1).1).1).1
+
+pub at_slot : (old mid new : List (Option Table)) (t : Table) → new ≡ mid → mid ≡ slice_set old 0 (Some t) → old ≡ no_tables → in_slot new 0 ≡ Some t
+at_slot old mid new t e f g = ap (λ s. in_slot s 0) (e ∙ f ∙ ap (λ s. slice_set s 0 (Some t)) g)
+
+pub plain_scan : (f : Frame) (head : ScanHead) (set : TableSet) (width height : ℕ) → f ≡ gray_frame width height → head ≡ gray_head → HasLuma set → IsPlainScan f head set
+plain_scan f head set width height e h l = record {
+  sequential = ap (λ (g : Frame). is_progressive g.process) e;
+  one = ap (λ (g : Frame). length g.components) e;
+  part = record { component = 0; dc = 0; ac = 0 };
+  parts = ap (λ (g : ScanHead). g.parts) h;
+  component = refl;
+  dc = l.dc;
+  in_dc = l.in_dc;
+  ac = l.ac;
+  in_ac = l.in_ac;
+}

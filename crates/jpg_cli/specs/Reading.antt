@@ -1,0 +1,67 @@
+-- What reading the input does to a desk.
+use Rattle.std.specs.Prelude.{◌≡◌, ◌⊎◌, ℕ, ◌^◌, ◌<◌, ◌≤◌, List, [], ◌∷◌, ◌++◌, length, take, Option, None, Some, Result, Ok, Err}
+use Rattle.std.specs.Io.KnownBytes.{Consumes, IsAtEnd}
+use Rattle.jpg_base.specs.declared.names.Name.{Name}
+use Rattle.jpg_base.specs.declared.names.Name.TheVariants as name
+use Rattle.jpg_base.specs.declared.names.Put.{Put}
+use Rattle.jpg_base.specs.declared.names.Put.TheVariants as put
+use Rattle.jpg_base.specs.Desk.{DeskState, NoneFell, Rose}
+use Rattle.jpg_base.specs.Laws.{NotesNames}
+use Rattle.jpg_spec.specs.declared.answers.Why.{Why}
+use Rattle.jpg_spec.specs.declared.answers.Why.TheVariants as why
+use Rattle.jpg_spec.specs.declared.answers.Which.TheVariants as which
+use Rattle.jpg_cli.specs.declared.reading.Piece.{Piece}
+use Rattle.jpg_cli.specs.declared.reading.Piece.TheVariants as piece
+use Rattle.jpg_cli.specs.declared.reading.Taken.{Taken}
+use Rattle.jpg_cli.specs.declared.reading.Taken.TheVariants as taken
+
+-- nothing but the bytes left and the counts changed
+pub record OnlyReads (old new : DeskState) : Type 0 where
+  pub counts : NoneFell old.counts new.counts
+  pub asked : new.asked ≡ old.asked
+  pub files : new.files ≡ old.files
+  pub outputs : new.outputs ≡ old.outputs
+  pub said : new.said ≡ old.said
+  pub input_open : new.input_open ≡ old.input_open
+  pub output_created : new.output_created ≡ old.output_created
+
+abbrev pub AfterPiece : DeskState → List ℕ → ℕ → Piece → List ℕ → DeskState → Type 0
+AfterPiece old had most piece.Some bytes new = (more : List ℕ) × (0 < length more) × (length more ≤ most) × (bytes ≡ had ++ more) × Consumes old.left new.left more
+AfterPiece old had most piece.End bytes new = (bytes ≡ had) × IsAtEnd old.left × (new.left ≡ old.left)
+AfterPiece old had most piece.Failed bytes new = Rose old.counts.reads new.counts.reads
+AfterPiece old had most piece.NoMemory bytes new = Unit {0}
+
+abbrev pub AfterReading : DeskState → Taken → List ℕ → DeskState → Type 0
+AfterReading old taken.All bytes new = Consumes old.left new.left bytes × (length bytes ≤ 2 ^ 28) × ((2 ^ 28 ≤ length bytes) ⊎ IsAtEnd new.left)
+AfterReading old taken.Failed bytes new = Rose old.counts.reads new.counts.reads
+AfterReading old taken.NoMemory bytes new = Unit {0}
+
+-- the bytes of an input that are taken: its first 2 ^ 28, or all where it has fewer
+abbrev pub taken_of : List ℕ → List ℕ
+taken_of input = take (2 ^ 28) input
+
+-- where the files are told, the input is the file of this name
+abbrev pub IsFile : Option (Name → Option (List ℕ)) → Name → List ℕ → Type 0
+IsFile None name input = Unit {0}
+IsFile (Some files) name input = files name ≡ Some input
+
+-- the counts don't fall, and the files, outputs and messages stay
+pub record Keeps (old new : DeskState) : Type 0 where
+  pub counts : NoneFell old.counts new.counts
+  pub files : new.files ≡ old.files
+  pub outputs : new.outputs ≡ old.outputs
+  pub said : new.said ≡ old.said
+
+-- the names asked for: standard input, and then standard output
+abbrev pub asked_input : Put → List (Name × Put)
+asked_input answer = (name.In, answer) ∷ []
+
+abbrev pub asked_both : Put → List (Name × Put)
+asked_both answer = (name.In, put.Done) ∷ (name.Out, answer) ∷ []
+
+abbrev pub AfterInput : DeskState → Result (List ℕ) Why → DeskState → Type 0
+AfterInput old (Ok bytes) new = NotesNames old.asked (asked_input put.Done) new.asked × ((input : List ℕ) × IsFile old.files name.In input × (bytes ≡ taken_of input))
+AfterInput old (Err (why.OpenFault which.Input)) new = NotesNames old.asked (asked_input put.Failed) new.asked × Rose old.counts.opens new.counts.opens
+AfterInput old (Err (why.ReadFault which.Input)) new = NotesNames old.asked (asked_input put.Done) new.asked × Rose old.counts.reads new.counts.reads
+AfterInput old (Err why.NoMemory) new = NotesNames old.asked (asked_input put.Done) new.asked
+AfterInput old (Err other) new = ⊥

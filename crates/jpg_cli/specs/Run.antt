@@ -1,0 +1,71 @@
+-- WHAT A RUN DOES to a desk, by why it ended.
+use Rattle.std.specs.Prelude.{◌≡◌, ◌⊎◌, ℕ, List, [], ◌∷◌, length, take}
+use Rattle.std.specs.Io.KnownBytes.{Appends}
+use Rattle.jpg_base.specs.declared.names.Name.TheVariants as name
+use Rattle.jpg_base.specs.declared.names.Put.TheVariants as put
+use Rattle.jpg_base.specs.Desk.{DeskState, NoneFell, Rose, NotesName}
+use Rattle.jpg_base.specs.Laws.{NotesNames, Grows}
+use Rattle.jpg_spec.specs.declared.fault.Fault.TheVariants as fault
+use Rattle.jpg_spec.specs.declared.answers.FaultAt.{FaultAt}
+use Rattle.jpg_spec.specs.declared.answers.Asked.{Asked}
+use Rattle.jpg_spec.specs.declared.answers.Asked.TheVariants as asked
+use Rattle.jpg_spec.specs.declared.answers.Why.{Why}
+use Rattle.jpg_spec.specs.declared.answers.Why.TheVariants as why
+use Rattle.jpg_spec.specs.declared.answers.Which.TheVariants as which
+use Rattle.jpg_spec.specs.Words.{asked, tool_of}
+use Rattle.jpg_spec.specs.Messages.{message, code_of}
+use Rattle.jpg_cli.specs.declared.top.Ended.{Ended}
+use Rattle.jpg_cli.specs.Reading.{taken_of, IsFile, asked_input, asked_both}
+
+-- The text was said. Where the count of failed messages rose, a first part of it may have been said alone.
+abbrev pub SaysText : DeskState → List ℕ → DeskState → Type 0
+SaysText old text new =
+    Appends old.said new.said text ⊎ (Rose old.counts.says new.counts.says × ((n : ℕ) × Appends old.said new.said (take n text)))
+
+-- nothing was asked for, and nothing written
+abbrev pub Untouched : DeskState → DeskState → Type 0
+Untouched old new = (new.asked ≡ old.asked) × (new.outputs ≡ old.outputs)
+
+-- what isn't built yet, at this place
+abbrev pub not_built : ℕ → FaultAt
+not_built place = record { fault = fault.NotBuilt; at = place }
+
+-- WHY A PICTURE ISN'T TURNED, OR IS. Each answer has the names that were asked for, the outputs, and its cause.
+abbrev pub Turned : DeskState → Why → DeskState → Type 0
+Turned old why.Done new =
+    NotesNames old.asked (asked_both put.Done) new.asked × ((bytes : List ℕ) × Grows old.outputs (name.Out, bytes) new.outputs)
+Turned old (why.Refused f) new =
+    NotesNames old.asked (asked_input put.Done) new.asked × (new.outputs ≡ old.outputs)
+    × ((input : List ℕ) × IsFile old.files name.In input × (f ≡ not_built (length (taken_of input))))
+Turned old (why.OpenFault which.Input) new =
+    NotesNames old.asked (asked_input put.Failed) new.asked × (new.outputs ≡ old.outputs) × Rose old.counts.opens new.counts.opens
+Turned old (why.OpenFault which.Output) new =
+    NotesNames old.asked (asked_both put.Failed) new.asked × (new.outputs ≡ old.outputs) × Rose old.counts.opens new.counts.opens
+Turned old (why.ReadFault which.Input) new =
+    NotesNames old.asked (asked_input put.Done) new.asked × (new.outputs ≡ old.outputs) × Rose old.counts.reads new.counts.reads
+Turned old why.WriteFault new =
+    NotesNames old.asked (asked_both put.Done) new.asked × Rose old.counts.writes new.counts.writes
+    × ((bytes : List ℕ) × Grows old.outputs (name.Out, bytes) new.outputs)
+Turned old why.NoMemory new = NotesNames old.asked (asked_input put.Done) new.asked × (new.outputs ≡ old.outputs)
+Turned old other new = ⊥
+
+-- by what the words ask for
+abbrev pub Worked : Asked → DeskState → Why → DeskState → Type 0
+Worked (asked.Wrong usage) old ended new = (ended ≡ why.Usage usage) × Untouched old new
+Worked asked.NotBuilt old ended new = (ended ≡ why.Refused (not_built 0)) × Untouched old new
+Worked asked.FlipHorizontal old ended new = Turned old ended new
+
+-- the work of a run, before its message
+pub record Works (words : List (List ℕ)) (old : DeskState) (ended : Why) (new : DeskState) : Type 0 where
+  pub worked : Worked (asked words) old ended new
+  pub counts : NoneFell old.counts new.counts
+  pub files : new.files ≡ old.files
+  pub said : new.said ≡ old.said
+
+-- THE THEOREM: what a run does
+pub record Ran (words : List (List ℕ)) (old : DeskState) (ended : Ended) (new : DeskState) : Type 0 where
+  pub worked : Worked (asked words) old ended.why new
+  pub said : SaysText old (message (tool_of words) ended.why) new
+  pub code : ended.code ≡ code_of ended.why
+  pub counts : NoneFell old.counts new.counts
+  pub files : new.files ≡ old.files

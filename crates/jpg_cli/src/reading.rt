@@ -1,0 +1,82 @@
+//! The whole input, up to a limit, in the pieces that a desk gives.
+ghost use Rattle.std.specs.Prelude.{◌≡◌, ◌≤◌, ◌<◌, [], length, true};
+ghost use Rattle.jpg_cli.specs.Reading.{OnlyReads, AfterPiece, AfterReading, AfterInput, Keeps};
+
+use jpg_base::{Bytes, Desk, Got, Name, Put};
+use jpg_spec::{Which, Why};
+use std::alloc::Global;
+
+// The most bytes that are taken.
+const LIMIT: usize = 1 << 28;
+
+enum Piece {
+    Some,
+    End,
+    Failed,
+    NoMemory,
+}
+
+enum Taken {
+    All,
+    Failed,
+    NoMemory,
+}
+
+// One read of at most `most` bytes, which are added.
+fn read_piece<D: Desk>(
+    desk: &mut D,
+    most: usize,
+    buffer: &mut [u8; 65536],
+    bytes: &mut Bytes,
+) -> Piece
+    requires open { (D.state desk.old).input_open ≡ true }
+    requires room { 0 < most }
+    ensures kept { OnlyReads (D.state desk.old) (D.state desk.new) }
+    ensures after { AfterPiece (D.state desk.old) bytes.old most result bytes.new (D.state desk.new) }
+{
+    let room = most.min(buffer.len());
+    match desk.read(&mut buffer[..room]) {
+        Got::Bytes(count) => match bytes.push_all(&buffer[..count as usize]) {
+            Ok(()) => Piece::Some,
+            Err(_) => Piece::NoMemory,
+        },
+        Got::End => Piece::End,
+        Got::Failed => Piece::Failed,
+    }
+}
+
+fn read_all<D: Desk>(desk: &mut D, bytes: &mut Bytes) -> Taken
+    requires open { (D.state desk.old).input_open ≡ true }
+    requires empty { bytes.old ≡ [] }
+    ensures kept { OnlyReads (D.state desk.old) (D.state desk.new) }
+    ensures after { AfterReading (D.state desk.old) result bytes.new (D.state desk.new) }
+{
+    let mut buffer = [0u8; 65536];
+    while bytes.as_slice().len() < LIMIT {
+        match read_piece(desk, LIMIT - bytes.as_slice().len(), &mut buffer, bytes) {
+            Piece::Some => {}
+            Piece::End => return Taken::All,
+            Piece::Failed => return Taken::Failed,
+            Piece::NoMemory => return Taken::NoMemory,
+        }
+    }
+    Taken::All
+}
+
+/// The bytes of standard input, up to the limit.
+pub fn take_input<D: Desk>(alloc: Global, desk: &mut D) -> Result<Bytes, Why>
+    ensures kept { Keeps (D.state desk.old) (D.state desk.new) }
+    ensures after { AfterInput (D.state desk.old) result (D.state desk.new) }
+{
+    match desk.open(&Name::In) {
+        Put::Failed => Err(Why::OpenFault(Which::Input)),
+        Put::Done => {
+            let mut bytes = Bytes::new(alloc);
+            match read_all(desk, &mut bytes) {
+                Taken::All => Ok(bytes),
+                Taken::Failed => Err(Why::ReadFault(Which::Input)),
+                Taken::NoMemory => Err(Why::NoMemory),
+            }
+        }
+    }
+}

@@ -1,0 +1,88 @@
+//! The top call.
+ghost use Rattle.std.specs.Prelude.{◌≡◌, ◌≤◌, length, map, string_bytes};
+ghost use Rattle.jpg_spec.specs.Messages.{message};
+ghost use Rattle.jpg_cli.specs.Run.{Ran, Turned, Works, SaysText};
+ghost use Rattle.jpg_base.specs.Desk.{NoneFell};
+ghost use Rattle.jpg_cli.specs.Saying.{OnlySays};
+
+use crate::gray::{Judged, judge};
+use crate::message::message_of;
+use crate::reading::take_input;
+use crate::words::{read_words, tool_name};
+use crate::writing::write_gray;
+use jpg_base::{Desk, Put};
+use jpg_spec::{Asked, Fault, FaultAt, Why};
+use std::alloc::Global;
+
+/// How a command ended: its exit status, and why.
+#[derive(Clone, Copy, Debug, PartialEq, Eq)]
+pub struct Ended {
+    pub code: u8,
+    pub why: Why,
+}
+
+// Says why a command ended; nothing where all was done.
+fn tell<D: Desk>(tool: &str, why: Why, desk: &mut D)
+    requires { length tool.now ≤ 8 }
+    ensures kept { OnlySays (D.state desk.old) (D.state desk.new) }
+    ensures said { SaysText (D.state desk.old) (message tool.now why) (D.state desk.new) }
+{
+    let message = message_of(tool, why);
+    if message.is_empty() {
+        return;
+    }
+    match desk.say(message.as_slice()) {
+        Put::Done => {}
+        Put::Failed => {}
+    }
+}
+
+// Turns the picture on standard input.
+fn turn<D: Desk>(alloc: Global, desk: &mut D) -> Why
+    ensures counts { NoneFell (D.state desk.old).counts (D.state desk.new).counts }
+    ensures files { (D.state desk.new).files ≡ (D.state desk.old).files }
+    ensures said { (D.state desk.new).said ≡ (D.state desk.old).said }
+    ensures turned { Turned (D.state desk.old) result (D.state desk.new) }
+{
+    let bytes = match take_input(alloc, desk) {
+        Ok(bytes) => bytes,
+        Err(why) => return why,
+    };
+    match judge(alloc, bytes.as_slice()) {
+        Judged::NoMemory => Why::NoMemory,
+        Judged::NotPlain => Why::Refused(FaultAt {
+            fault: Fault::NotBuilt,
+            at: bytes.as_slice().len() as u64,
+        }),
+        Judged::Plain(picture) => write_gray(&picture, desk),
+    }
+}
+
+// The work, without its message.
+fn work<D: Desk>(alloc: Global, words: &[String], desk: &mut D) -> Why
+    ensures { Works (map string_bytes words.now) (D.state desk.old) result (D.state desk.new) }
+{
+    match read_words(words) {
+        Asked::Wrong(usage) => Why::Usage(usage),
+        Asked::NotBuilt => Why::Refused(FaultAt {
+            fault: Fault::NotBuilt,
+            at: 0,
+        }),
+        Asked::FlipHorizontal => turn(alloc, desk),
+    }
+}
+
+/// Runs the command that the words ask for over a desk: `jpegtran -flip horizontal` turns the plain
+/// gray file on standard input left to right onto standard output (a file of T.81's typical tables
+/// and sides that are multiples of 8). What is wrong or refused is named in a message, and nothing is
+/// written then.
+pub fn run<D: Desk>(alloc: Global, words: &[String], desk: &mut D) -> Ended
+    ensures { Ran (map string_bytes words.now) (D.state desk.old) result (D.state desk.new) }
+{
+    let why = work(alloc, words, desk);
+    tell(tool_name(words), why, desk);
+    Ended {
+        code: why.code(),
+        why,
+    }
+}

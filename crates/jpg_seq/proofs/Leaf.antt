@@ -1,0 +1,64 @@
+-- Values that are covered one after another.
+use Rattle.std.proofs.Common.{◌≡◌, ℕ, zero, suc, ◌+◌, ◌-◌, ◌*◌, ◌^◌, ◌<◌, ◌≤◌, Bool, true, false, List, [], ◌∷◌, ◌++◌, length, take, drop, set, refl, sym, ap, ◌∙◌, arith, add-one, ℤ, pos, min}
+use Rattle.std.proofs.lemmas.List.{append_assoc, length-append, length-set, length-take-le, drop-drop, drop-take, take-append-drop, drop-replicate}
+use Rattle.std.proofs.Math.Seq.{take-append-add}
+use Rattle.std.proofs.lemmas.Grind.{take-set_at, drop-set_at}
+use Rattle.std.proofs.Math.Nat.{pow-succ'}
+use Rattle.jpg_spec.specs.Bits.{bits_of}
+use Rattle.jpg_spec.proofs.Strings.{bit_value, length-bits_of, bits_of-more}
+use Rattle.jpg_huff.proofs.Levels.{bit_small}
+use Rattle.jpg_spec.specs.Elements.{zeros}
+use Rattle.jpg_seq.specs.InWork.{IsKept}
+
+take-replicate : (m n : ℕ) (y : ℤ) → m ≤ n → take m (zeros n) ≡ zeros m
+take-replicate zero n y h = refl
+take-replicate (suc m) zero y h = absurd (omega arith)
+take-replicate (suc m) (suc n) y h = ap (λ zs. pos 0 ∷ zs) (take-replicate m n y (omega arith))
+
+pub cover_rest : (values : List ℤ) (at n : ℕ) → at + n ≤ 64 → drop at values ≡ zeros (64 - at) → drop (at + n) values ≡ zeros (64 - (at + n))
+cover_rest values at n h e =
+    let m : 64 - at - n ≡ 64 - (at + n) = omega arith in
+    sym (drop-drop n at values) ∙ ap (drop n) e ∙ drop-replicate n (64 - at) (pos 0) ∙ ap zeros m
+
+pub cover_values : (values : List ℤ) (at n : ℕ) → length values ≡ 64 → at + n ≤ 64 → drop at values ≡ zeros (64 - at) → take (at + n) values ≡ take at values ++ zeros n
+cover_values values at n len h e =
+    let l : length (take at values) ≡ at = length-take-le at values (omega arith) in
+    ap (take (at + n)) (sym (take-append-drop at values))
+    ∙ ap (λ k. take (k + n) (take at values ++ drop at values)) (sym l)
+    ∙ take-append-add (take at values) (drop at values) n
+    ∙ ap (λ d. take at values ++ take n d) e
+    ∙ ap (λ d. take at values ++ d) (take-replicate n (64 - at) (pos 0) (omega arith))
+
+pub place_values : (values : List ℤ) (at run : ℕ) (v : ℤ) → length values ≡ 64 → at + run < 64 → drop at values ≡ zeros (64 - at)
+    → take (at + (run + 1)) (set values (at + run) v) ≡ take at values ++ zeros run ++ v ∷ []
+place_values values at run v len h e =
+    take-set_at values (at + run) (at + (run + 1)) v (omega arith) (omega arith)
+    ∙ ap (λ d. d ++ v ∷ []) (cover_values values at run len (omega arith) e)
+
+pub place_rest : (values : List ℤ) (at run : ℕ) (v : ℤ) → length values ≡ 64 → at + run < 64 → drop at values ≡ zeros (64 - at)
+    → drop (at + (run + 1)) (set values (at + run) v) ≡ zeros (64 - (at + (run + 1)))
+place_rest values at run v len h e =
+    let n : at + (run + 1) ≡ at + run + 1 = omega arith in
+    ap (λ k. drop k (set values (at + run) v)) n
+    ∙ sym (drop-drop 1 (at + run) (set values (at + run) v))
+    ∙ ap (drop 1) (drop-set_at values (at + run) (at + run) v refl (omega arith))
+    ∙ ap (λ k. drop k values) (sym n)
+    ∙ cover_rest values at (run + 1) (omega arith) e
+
+pub fits_more : (n have : ℕ) (b : Bool) → n < 2 ^ have → 2 * n + bit_value b < 2 ^ (have + 1)
+fits_more n have b h =
+    let p : 2 ^ (have + 1) ≡ 2 * 2 ^ have = ap (λ m. 2 ^ m) (add-one have) ∙ pow-succ' 2 have in
+    let q : bit_value b ≤ 1 = bit_small b in
+    omega arith
+
+-- what is kept where a value is placed
+pub placed_kept : (values new : List ℤ) (at run : ℕ) (v : ℤ) (n have number : ℕ) → IsKept values at n have number → at + run < 64 → new ≡ set values (at + run) v → IsKept new (at + (run + 1)) n have number
+placed_kept values new at run v n have number k h e =
+    record {
+      whole = ap length e ∙ length-set values (at + run) v ∙ k.whole;
+      at_most = omega arith;
+      rest = ap (drop (at + (run + 1))) e ∙ place_rest values at run v k.whole h k.rest;
+      size = k.size;
+      fewer = k.fewer;
+      fits = k.fits;
+    }

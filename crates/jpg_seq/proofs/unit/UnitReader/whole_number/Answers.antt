@@ -1,0 +1,26 @@
+use Rattle.std.proofs.Common.{rules, ◌≡◌, ◌∙◌, ap, sym, refl, arith, ◌<◌, ◌≤◌, ◌+◌, ◌-◌, ◌*◌, ◌^◌, [], ◌∷◌, ◌++◌, length, List, Bool, ℕ, nat_lt, ℤ, pos, take, drop, set}
+use mir.Syntax.{w16}
+use mir.Val.{SFits}
+use Rattle.std.proofs.lemmas.Int.{to_z-of_z}
+use Rattle.std.proofs.lemmas.List.{length-take-le}
+use Rattle.jpg_spec.specs.Bits.{bits_of}
+use Rattle.jpg_spec.specs.Numbers.{extra_bits}
+use Rattle.jpg_spec.proofs.Strings.{bit_value, length-bits_of, bits_of-more}
+use Rattle.jpg_huff.proofs.Steps.{bit_value_is}
+use Rattle.jpg_spec.specs.Elements.{zeros}
+use Rattle.jpg_seq.specs.InWork.{InWork, IsKept}
+use Rattle.jpg_seq.proofs.Leaf.{cover_rest, cover_values, place_values, place_rest, fits_more}
+use Rattle.jpg_seq.proofs.unit.UnitReader.whole_number.Goals as goal
+
+pub extend-requires-clause-bits : goal.extend-requires-clause-bits
+extend-requires-clause-bits c =
+    let i = c.self.inside in
+    let l : i.have ≡ i.size = sym (length-bits_of i.have i.number) ∙ ap (λ (s : InWork). length s.extra) c.self.view_is ∙ c.requires ∙ ap (λ (s : InWork). s.size) (sym c.self.view_is) in
+    rw l at c.self.invariant.fits
+
+pub returns-clause-extra : goal.returns-clause-extra
+returns-clause-extra c =
+    let i = c.self.inside in
+    let l : i.have ≡ i.size = sym (length-bits_of i.have i.number) ∙ ap (λ (s : InWork). length s.extra) c.self.view_is ∙ c.requires ∙ ap (λ (s : InWork). s.size) (sym c.self.view_is) in
+    let f : SFits w16 c.extend.result = search rules in
+    ap extra_bits (to_z-of_z w16 c.extend.result f) ∙ c.extend.ensures.extra ∙ ap (λ n. bits_of n i.number) (sym l) ∙ ap (λ (s : InWork). s.extra) c.self.view_is
