@@ -9,7 +9,7 @@ use Rattle.jpg_spec.specs.ScanText.{code_of}
 use Rattle.jpg_spec.specs.Geometry.{Frame}
 use Rattle.jpg_spec.specs.GrayFile.{gray_head, typical_tables}
 use Rattle.jpg_spec.specs.Scan.{scan_coding}
-use Rattle.jpg_spec.specs.Written.{IsWritable, sequential_bits}
+use Rattle.jpg_spec.specs.Written.{IsWritable, plain_bits}
 
 -- the data of blocks of one component by its typical tables
 abbrev pub plain_data : List (List ℤ) → List ℕ
