@@ -4,7 +4,9 @@ ghost use Rattle.jpg_seq.specs.PlainText.{IsWithin};
 
 use super::write_plain;
 use crate::BlockList;
-use jpg_base::{Block, Component, Desk, Frame, Limits, MemoryDesk, Name, NoMemory, Process, Put};
+use jpg_base::{
+    Block, Component, Desk, Frame, Limits, MemoryDesk, Name, NoMemory, Process, Put, WriteFault,
+};
 use jpg_huff::BitOut;
 use std::alloc::Global;
 use std::test::Fail;
@@ -44,6 +46,32 @@ fn list_of(alloc: Global, frame: &Frame, rows: &[&[(u8, i16)]]) -> Result<BlockL
     Ok(blocks)
 }
 
+// 64 ones.
+fn ones(alloc: Global, frame: &Frame) -> Result<BlockList, NoMemory>
+    ensures { IfOk result (λ blocks. All (IsWithin frame.now) blocks) }
+{
+    let mut block = Block::zero();
+    for k in 0..64 {
+        set(frame, &mut block, k, 1);
+    }
+    let mut blocks = BlockList::new(alloc);
+    blocks.push(&block)?;
+    Ok(blocks)
+}
+
+fn write(desk: &mut MemoryDesk, frame: &Frame, blocks: &BlockList) -> Result<(), WriteFault>
+    requires { All (IsWithin frame.now) blocks.now }
+{
+    match desk.create(&Name::Out) {
+        Put::Failed => Err(WriteFault),
+        Put::Done => {
+            let mut out = BitOut::new();
+            write_plain(blocks, frame, &mut out, desk)?;
+            out.flush(desk)
+        }
+    }
+}
+
 // The bytes of the only output.
 fn written(desk: &MemoryDesk) -> Option<&[u8]> {
     if desk.outputs() == 1 {
@@ -71,7 +99,10 @@ fn blocks_are_written(rt: HostRuntime) -> Result<(), Fail> {
             &[&[(0, -1024)], &[(0, 1023)]],
             &[0xff, 0x00, 0x3f, 0xfa, 0xff, 0x00, 0x7f, 0xfa],
         ),
-        (&[&[(0, 5)], &[(0, 3)], &[(0, 3)]], &[0x96, 0x9b, 0x45, 0x7f]),
+        (
+            &[&[(0, 5)], &[(0, 3)], &[(0, 3)]],
+            &[0x96, 0x9b, 0x45, 0x7f],
+        ),
         (
             &[&[(1, -1), (18, -5), (63, -1023)]],
             &[0x07, 0xf9, 0x8b, 0xfc, 0xff, 0x00, 0x9f, 0xfe, 0x10, 0x03],
@@ -84,18 +115,24 @@ fn blocks_are_written(rt: HostRuntime) -> Result<(), Fail> {
         (&[&[(33, 1)]], &[0x3f, 0xcf, 0xf9, 0x35]),
         (&[&[(48, 1)]], &[0x3f, 0xcf, 0xf9, 0xff, 0x00, 0xf5, 0xd7]),
         (&[&[(49, 1)]], &[0x3f, 0xcf, 0xf9, 0xff, 0x00, 0x26, 0xbf]),
-        (&[&[(63, 1)]], &[0x3f, 0xcf, 0xf9, 0xff, 0x00, 0x3f, 0xfd, 0x7f]),
+        (
+            &[&[(63, 1)]],
+            &[0x3f, 0xcf, 0xf9, 0xff, 0x00, 0x3f, 0xfd, 0x7f],
+        ),
     ];
     for (values, wanted) in rows {
         let mut desk = MemoryDesk::new(rt.alloc(), 1);
-        let Put::Done = desk.create(&Name::Out) else {
-            panic!(rt; "a create");
-        };
         let blocks = list_of(rt.alloc(), &frame, values)?;
-        let mut out = BitOut::new();
-        write_plain(&blocks, &frame, &mut out, &mut desk)?;
-        out.flush(&mut desk)?;
+        write(&mut desk, &frame, &blocks)?;
         assert!(rt; written(&desk) == Some(wanted), "{values:?}");
     }
+    let mut desk = MemoryDesk::new(rt.alloc(), 1);
+    let blocks = ones(rt.alloc(), &frame)?;
+    write(&mut desk, &frame, &blocks)?;
+    let wanted = [
+        0x52, 0x49, 0x24, 0x92, 0x49, 0x24, 0x92, 0x49, 0x24, 0x92, 0x49, 0x24, 0x92, 0x49, 0x24,
+        0x92, 0x49, 0x24, 0x92, 0x49, 0x24, 0x92, 0x49, 0x24, 0xff, 0x00,
+    ];
+    assert!(rt; written(&desk) == Some(wanted.as_slice()), "ones");
     Ok(())
 }
