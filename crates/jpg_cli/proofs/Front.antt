@@ -16,7 +16,7 @@ four : (q f d a s : List ℕ) → (((q ++ f) ++ d) ++ a) ++ s ≡ q ++ (f ++ (d 
 four q f d a s = simp append_assoc
 
 -- the constant parts, by computing
-pub front_cut : (width height : ℕ) (quants : List ℕ) → length quants ≡ 64
+front_cut : (width height : ℕ) (quants : List ℕ) → length quants ≡ 64
     → gray_front width height quants ≡ BEFORE_QUANTS ++ (quants ++ (BEFORE_SIDES ++ (to_be_bytes w16 height ++ (to_be_bytes w16 width ++ BEHIND_SIDES))))
 front_cut width height quants l =
     let f = segment_text 0xc0 (plain_frame width height) in
@@ -44,21 +44,28 @@ front_whole width height quants rest l =
 
 -- A PREFIX that stands, and one that doesn't
 
-pub cut_at : (n : ℕ) (bytes front rest : List ℕ) → front ≡ take n bytes → rest ≡ drop n bytes → bytes ≡ front ++ rest
+cut_at : (n : ℕ) (bytes front rest : List ℕ) → front ≡ take n bytes → rest ≡ drop n bytes → bytes ≡ front ++ rest
 cut_at n bytes front rest f r = sym (take-append-drop n bytes) ∙ ap (λ t. t ++ drop n bytes) (sym f) ∙ ap (λ t. front ++ t) (sym r)
 
-pub long_cut : (n : ℕ) (bytes front rest : List ℕ) → front ≡ take n bytes → length rest + n ≡ length bytes → length front ≡ n
+long_cut : (n : ℕ) (bytes front rest : List ℕ) → front ≡ take n bytes → length rest + n ≡ length bytes → length front ≡ n
 long_cut n bytes front rest f l = ap length f ∙ length-take-le n bytes (omega (arith, l))
 
 pub stripped : (prefix bytes rest : List ℕ) → bytes_eq (take (length prefix) bytes) prefix ≡ true → rest ≡ drop (length prefix) bytes → bytes ≡ prefix ++ rest
 stripped prefix bytes rest e r = cut_at (length prefix) bytes prefix rest (sym ((bytes_eq-Decides (take (length prefix) bytes) prefix).0 e)) r
 
-pub not_stripped : (prefix bytes rest : List ℕ) → bytes_eq (take (length prefix) bytes) prefix ≡ false → bytes ≡ prefix ++ rest → ⊥
+not_stripped : (prefix bytes rest : List ℕ) → bytes_eq (take (length prefix) bytes) prefix ≡ false → bytes ≡ prefix ++ rest → ⊥
 not_stripped prefix bytes rest e is =
     let same : take (length prefix) bytes ≡ prefix = ap (λ t. take (length prefix) t) is ∙ take-append_seam prefix rest in
     let yes : bytes_eq (take (length prefix) bytes) prefix ≡ true = (bytes_eq-Decides (take (length prefix) bytes) prefix).1 same in
     let no : false ≡ true = sym e ∙ yes in
     cc
+
+-- what `strip_prefix` and `split_first_chunk` say where they give a part
+abbrev pub IsStripped : List ℕ → List ℕ → List ℕ → Type 0
+IsStripped prefix bytes rest = (bytes_eq (take (length prefix) bytes) prefix ≡ true) × (rest ≡ drop (length prefix) bytes) × (length rest + length prefix ≡ length bytes)
+
+abbrev pub IsChunk : ℕ → List ℕ → List ℕ → List ℕ → Type 0
+IsChunk n bytes front rest = (front ≡ take n bytes) × (rest ≡ drop n bytes) × (length rest + n ≡ length bytes)
 
 -- THE FRONT in the order of reading
 
@@ -68,6 +75,14 @@ pub record AreQuants (bytes quants rest : List ℕ) : Type 0 where
   pub start : bytes ≡ BEFORE_QUANTS ++ before
   pub long : length quants ≡ 64
   pub cut : before ≡ quants ++ rest
+
+pub quants_read : (bytes before quants rest : List ℕ) → IsStripped BEFORE_QUANTS bytes before → IsChunk 64 before quants rest → AreQuants bytes quants rest
+quants_read bytes before quants rest s t = record {
+  before = before;
+  start = stripped BEFORE_QUANTS bytes before s.0 s.1;
+  long = long_cut 64 before quants rest t.0 t.2;
+  cut = cut_at 64 before quants rest t.0 t.1;
+}
 
 behind_quants : (bytes quants rest : List ℕ) (width height : ℕ) (others more : List ℕ) → AreQuants bytes quants rest → length others ≡ 64 → bytes ≡ gray_front width height others ++ more
     → rest ≡ BEFORE_SIDES ++ ((to_be_bytes w16 height ++ to_be_bytes w16 width) ++ (BEHIND_SIDES ++ more))
@@ -87,6 +102,14 @@ pub record AreSidesAt (rest sides last : List ℕ) : Type 0 where
   pub start : rest ≡ BEFORE_SIDES ++ before
   pub long : length sides ≡ 4
   pub cut : before ≡ sides ++ last
+
+pub sides_read : (bytes before sides rest : List ℕ) → IsStripped BEFORE_SIDES bytes before → IsChunk 4 before sides rest → AreSidesAt bytes sides rest
+sides_read bytes before sides rest s t = record {
+  before = before;
+  start = stripped BEFORE_SIDES bytes before s.0 s.1;
+  long = long_cut 4 before sides rest t.0 t.2;
+  cut = cut_at 4 before sides rest t.0 t.1;
+}
 
 pub no_end : (bytes quants rest sides last : List ℕ) (width height : ℕ) (others more : List ℕ) → AreQuants bytes quants rest → AreSidesAt rest sides last
     → bytes_eq (take (length BEHIND_SIDES) last) BEHIND_SIDES ≡ false → length others ≡ 64 → bytes ≡ gray_front width height others ++ more → ⊥

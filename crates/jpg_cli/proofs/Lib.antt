@@ -7,3 +7,4 @@ pub mod Mirrored
 pub mod Names
 pub mod Output
 pub mod PlainScan
+pub mod Sides

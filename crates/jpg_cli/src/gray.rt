@@ -136,7 +136,10 @@ fn frame_of(width: u32, height: u32) -> Option<Frame>
         &[component],
         &limits,
     ) {
-        Ok(frame) => Some(frame),
+        Ok(frame) => {
+            frame.checked();
+            Some(frame)
+        }
         Err(_) => None,
     }
 }
