@@ -26,7 +26,7 @@ use Rattle.jpg_seq.specs.Stands.{IsCodingOf, unit_in_work, standing_at, codes_ne
 use Rattle.jpg_seq.specs.Plain.{new_units, AreBlocks, Reads, NoneSpelled, AfterBits, AfterText, PlainBits, HoldsSoFar, ReadsText, IsPlainRead, last_or}
 use Rattle.jpg_seq.proofs.Apart.{AreApart, due_apart, walk_no_code}
 use Rattle.jpg_seq.proofs.Elements.{left_at}
-use Rattle.jpg_seq.proofs.Blocks.{flat, next_covers}
+use Rattle.jpg_seq.proofs.ReadBlocks.{flat, next_covers}
 use Rattle.jpg_seq.proofs.Text.{run_of_ff, waits_more, data_passes, data_goes_on, data_once, IsStop, stopped, last-append, last_data}
 
 -- A PART OF AN ELEMENT holds none

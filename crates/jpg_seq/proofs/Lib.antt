@@ -8,6 +8,7 @@ pub mod Extended
 pub mod Forced
 pub mod HasPut
 pub mod Leaf
+pub mod ReadBlocks
 pub mod Reading
 pub mod Steps
 pub mod Tests

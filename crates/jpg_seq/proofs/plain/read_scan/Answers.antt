@@ -5,7 +5,7 @@ use Rattle.jpg_huff.specs.Tables.{symbol_codes}
 use Rattle.jpg_seq.specs.declared.plain.Took.{Took}
 use Rattle.jpg_seq.specs.declared.plain.PlainRead.TheVariants.{NotPlain}
 use Rattle.jpg_seq.specs.Plain.{StaysReady, ReadsText, AfterText, IsPlainRead}
-use Rattle.jpg_seq.proofs.Blocks.{ready_first, start}
+use Rattle.jpg_seq.proofs.ReadBlocks.{ready_first, start}
 use Rattle.jpg_seq.proofs.Ends.{text_start, text_open, text_end}
 use Rattle.jpg_seq.proofs.plain.read_scan.Goals as goal
 

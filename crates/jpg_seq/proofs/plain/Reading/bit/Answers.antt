@@ -6,7 +6,7 @@ use Rattle.jpg_seq.specs.declared.plain.Reading.{Reading}
 use Rattle.jpg_seq.specs.InWork.{fresh}
 use Rattle.jpg_seq.specs.Stands.{fault_of}
 use Rattle.jpg_seq.specs.Plain.{IsReady, new_units}
-use Rattle.jpg_seq.proofs.Blocks.{step_more, step_fault, step_done, step_pad, ready_fresh}
+use Rattle.jpg_seq.proofs.ReadBlocks.{step_more, step_fault, step_done, step_pad, ready_fresh}
 use Rattle.jpg_seq.proofs.plain.Reading.bit.Goals as goal
 
 pub returns-in-More-clause-reads : goal.returns-in-More-clause-reads

@@ -2,7 +2,7 @@ use Rattle.std.proofs.Common.{rules, ◌≡◌, ◌<◌, ◌≤◌, ◌++◌, �
 use Rattle.std.proofs.lemmas.List.{take_more, take_all, take-append-drop}
 use Rattle.jpg_seq.specs.declared.plain.Took.{Took}
 use Rattle.jpg_seq.specs.Plain.{StaysReady, AfterBits}
-use Rattle.jpg_seq.proofs.Blocks.{list_start, list_more, list_bad, list_end}
+use Rattle.jpg_seq.proofs.ReadBlocks.{list_start, list_more, list_bad, list_end}
 use Rattle.jpg_seq.proofs.plain.Reading.bits.Goals as goal
 
 pub loop-bit-init : goal.loop-bit-init
