@@ -6,3 +6,4 @@ pub mod Input
 pub mod Names
 pub mod Output
 pub mod Front
+pub mod DataEnd

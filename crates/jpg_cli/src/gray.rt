@@ -85,7 +85,7 @@ fn front_of(bytes: &[u8]) -> Option<Front<'_>>
 
 // The data bytes up to EOI, which has no fill bytes.
 fn data_before_end(rest: &[u8]) -> Option<&[u8]>
-    ensures some { IfSome result (λ data. HasData rest.now data.now) }
+    ensures some { IfSome result (λ text. HasData rest.now text.now) }
     ensures none { IfNone result ((text : List ℕ) → HasData rest.now text → ⊥) }
 {
     let mut gate = Gate::new();
