@@ -1,4 +1,5 @@
 pub mod Counted
+pub mod DataEnd
 pub mod Decimal
 pub mod Front
 pub mod Input
