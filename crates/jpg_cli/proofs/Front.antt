@@ -16,7 +16,7 @@ four : (q f d a s : List ℕ) → (((q ++ f) ++ d) ++ a) ++ s ≡ q ++ (f ++ (d 
 four q f d a s = simp append_assoc
 
 -- the constant parts, by computing
-front_cut : (width height : ℕ) (quants : List ℕ) → length quants ≡ 64
+pub front_cut : (width height : ℕ) (quants : List ℕ) → length quants ≡ 64
     → gray_front width height quants ≡ BEFORE_QUANTS ++ (quants ++ (BEFORE_SIDES ++ (to_be_bytes w16 height ++ (to_be_bytes w16 width ++ BEHIND_SIDES))))
 front_cut width height quants l =
     let f = segment_text 0xc0 (plain_frame width height) in

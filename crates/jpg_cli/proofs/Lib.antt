@@ -9,3 +9,4 @@ pub mod Names
 pub mod Output
 pub mod PlainScan
 pub mod Sides
+pub mod TurnedPicture

@@ -14,21 +14,6 @@ use Rattle.jpg_huff.specs.Sets.{dc_tables, ac_tables, in_slot, no_tables}
 use Rattle.jpg_seq.specs.Plain.{IsPlainScan}
 use Rattle.jpg_cli.specs.Gray.{HasLuma}
 
--- where something is told, nothing was refused
-pub told : {X : Type 0} (fault : Fault) (bad : Bool) (rest : Told X) (x : X) → Ok x ≡ refuse fault bad rest → (bad ≡ false) × (Ok x ≡ rest)
-told fault true rest x e = cc
-told fault false rest x e = (refl, e)
-
-same : {X : Type 0} (x y : X) → (let r : Told X = Ok x in r) ≡ Ok y → x ≡ y
-same x y e = cc
-
--- a frame that is told is the one that was checked
-pub told_frame : (limits : Limits) (f g : Frame) → Ok g ≡ checked_frame limits f → g ≡ f
-unfolding checked_frame
-told_frame limits f g e =
-    same g f
-    (told _ _ _ g (told _ _ _ g (told _ _ _ g (told _ _ _ g (told _ _ _ g (told _ _ _ g (told _ _ _ g (told _ _ _ g e).1).1).1).1).1).1).1).1
-
 pub at_slot : (old mid new : List (Option Table)) (t : Table) → new ≡ mid → mid ≡ slice_set old 0 (Some t) → old ≡ no_tables → in_slot new 0 ≡ Some t
 at_slot old mid new t e f g = ap (λ s. in_slot s 0) (e ∙ f ∙ ap (λ s. slice_set s 0 (Some t)) g)
 

@@ -1,5 +1,5 @@
 -- The plain gray file as the code sees it: its tables, its scan, its picture, and what bytes begin with.
-use Rattle.std.specs.Prelude.{◌≡◌, ℕ, ◌*◌, ◌/◌, ◌≤◌, List, ◌++◌, length, All, Some}
+use Rattle.std.specs.Prelude.{◌≡◌, ℕ, ◌*◌, ◌/◌, ◌≤◌, List, ◌++◌, length, All, Option, Some, None}
 use Rattle.jpg_huff.specs.declared.table.Table.{Table}
 use Rattle.jpg_huff.specs.declared.set.TableSet.{TableSet}
 use Rattle.jpg_huff.specs.Sets.{dc_tables, ac_tables, in_slot}
@@ -45,6 +45,11 @@ pub record IsPicture (p : GrayPicture) : Type 0 where
 -- the bytes of its file
 abbrev pub file_bytes : GrayPicture → List ℕ
 file_bytes p = gray_front p.frame.width p.frame.height p.quants ++ (data_of (plain_bits p.blocks) ++ end_of_image)
+
+-- what is read of bytes: the plain file that they begin with, if any
+abbrev pub ReadsGray : List ℕ → Option GrayPicture → Type 0
+ReadsGray bytes (Some p) = (p.frame ≡ gray_frame p.frame.width p.frame.height) × BeginsWith bytes (picture_of p)
+ReadsGray bytes None = BeginsWithPlain bytes → ⊥
 
 -- whether bytes begin with a plain file, and its picture mirrored left to right
 abbrev pub Judges : List ℕ → Judged → Type 0

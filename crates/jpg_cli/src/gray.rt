@@ -1,8 +1,8 @@
 //! The plain gray file: a baseline file of one component, with the typical tables and sides that are
 //! multiples of 8 (T.81 B.2, JFIF 1.02).
-ghost use Rattle.std.specs.Prelude.{◌≡◌, ◌↔◌, ◌≤◌, ◌<◌, ◌^◌, ◌++◌, ℕ, List, length, All, IfSome, IfNone, IsTrue};
+ghost use Rattle.std.specs.Prelude.{◌≡◌, ◌↔◌, ◌≤◌, ◌<◌, ◌^◌, ◌++◌, ℕ, List, length, All, IfOk, IfSome, IfNone, IsTrue};
 ghost use Rattle.jpg_spec.specs.GrayFile.{gray_frame, gray_front, gray_head};
-ghost use Rattle.jpg_cli.specs.Gray.{AreSides, HasData, HasLuma, Judges};
+ghost use Rattle.jpg_cli.specs.Gray.{AreSides, BeginsWith, HasData, HasLuma, Judges, ReadsGray, picture_of};
 
 use crate::turn::turn_blocks;
 use arrayvec::ArrayVec;
@@ -58,6 +58,9 @@ struct Front<'a> {
 
 fn front_of(bytes: &[u8]) -> Option<Front<'_>>
     ensures some { IfSome result (λ f. bytes.now ≡ gray_front f.width f.height f.quants ++ f.rest.now) }
+    ensures wide { IfSome result (λ f. f.width < 2 ^ 16) }
+    ensures high { IfSome result (λ f. f.height < 2 ^ 16) }
+    ensures long { IfSome result (λ f. length f.quants ≡ 64) }
     ensures none { IfNone result ((width height : ℕ) (quants rest : List ℕ) → width < 2 ^ 16 → height < 2 ^ 16 → length quants ≡ 64 → bytes.now ≡ gray_front width height quants ++ rest → ⊥) }
 {
     let Some(rest) = bytes.strip_prefix(&BEFORE_QUANTS) else {
@@ -174,7 +177,9 @@ fn luma_tables() -> TableSet
 }
 
 // The picture of the plain file that the bytes begin with, or None where they begin with none.
-fn read_gray(alloc: Global, bytes: &[u8]) -> Result<Option<GrayPicture>, NoMemory> {
+fn read_gray(alloc: Global, bytes: &[u8]) -> Result<Option<GrayPicture>, NoMemory>
+    ensures { IfOk result (λ read. ReadsGray bytes.now read) }
+{
     let Some(front) = front_of(bytes) else {
         return Ok(None);
     };
@@ -207,14 +212,18 @@ pub enum Judged {
 }
 
 // The picture turned left to right.
-fn turn_picture(alloc: Global, picture: GrayPicture) -> Judged {
+fn turn_picture(alloc: Global, picture: GrayPicture) -> Judged
+    requires frame { picture.frame ≡ gray_frame picture.frame.width picture.frame.height }
+    requires plain { (bytes : List ℕ) × BeginsWith bytes (picture_of picture) }
+    ensures { (bytes : List ℕ) → BeginsWith bytes (picture_of picture) → Judges bytes result }
+{
     let grid = picture.frame.blocks(0);
-    let across = grid.wide as usize;
-    let down = grid.high as usize;
-    if picture.blocks.len() != across * down {
-        return Judged::NotPlain;
-    }
-    match turn_blocks(alloc, &picture.blocks, across, down) {
+    match turn_blocks(
+        alloc,
+        &picture.blocks,
+        grid.wide as usize,
+        grid.high as usize,
+    ) {
         Err(_) => Judged::NoMemory,
         Ok(blocks) => Judged::Plain(GrayPicture {
             frame: picture.frame,

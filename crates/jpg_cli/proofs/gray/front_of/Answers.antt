@@ -16,3 +16,7 @@ returns-in_default-strip_prefix-clause-none c width height others more w h =
 pub returns-in_default-strip_prefix-2-clause-none : goal.returns-in_default-strip_prefix-2-clause-none
 returns-in_default-strip_prefix-2-clause-none c width height others more w h =
     no_end c.args.bytes.now _ _ _ _ width height others more (quants_read c.args.bytes.now c.in-Some.rest.now _ _ c.in-Some.ensures.cases c.in-Some-split_first_chunk.ensures.cases) (sides_read c.in-Some-split_first_chunk.rest.now c.in-Some-strip_prefix.rest.now _ _ c.in-Some-strip_prefix.ensures.cases c.in-Some-split_first_chunk-2.ensures.cases) c.in_default-strip_prefix-2.ensures.cases
+
+pub returns-clause-long : goal.returns-clause-long
+returns-clause-long c =
+    (quants_read c.args.bytes.now c.in-Some.rest.now c.in-Some-split_first_chunk.quants.now c.in-Some-split_first_chunk.rest.now c.in-Some.ensures.cases c.in-Some-split_first_chunk.ensures.cases).long
