@@ -1,6 +1,7 @@
 pub mod Counted
 pub mod DataEnd
 pub mod Decimal
+pub mod Ending
 pub mod Front
 pub mod Input
 pub mod Judging
@@ -8,5 +9,6 @@ pub mod Mirrored
 pub mod Names
 pub mod Output
 pub mod PlainScan
+pub mod Running
 pub mod Sides
 pub mod TurnedPicture

@@ -1,5 +1,5 @@
 -- WHAT A RUN DOES to a desk, by why it ended.
-use Rattle.std.specs.Prelude.{◌≡◌, ◌⊎◌, ℕ, List, [], ◌∷◌, length, take}
+use Rattle.std.specs.Prelude.{◌≡◌, ◌⊎◌, ℕ, List, ◌++◌, length, take}
 use Rattle.std.specs.Io.KnownBytes.{Appends}
 use Rattle.jpg_base.specs.declared.names.Name.TheVariants as name
 use Rattle.jpg_base.specs.declared.names.Put.TheVariants as put
@@ -12,6 +12,8 @@ use Rattle.jpg_spec.specs.declared.answers.Asked.TheVariants as asked
 use Rattle.jpg_spec.specs.declared.answers.Why.{Why}
 use Rattle.jpg_spec.specs.declared.answers.Why.TheVariants as why
 use Rattle.jpg_spec.specs.declared.answers.Which.TheVariants as which
+use Rattle.jpg_base.specs.declared.names.Counts.{Counts}
+use Rattle.jpg_spec.specs.GrayFile.{Gray, SpellsGray, BeginsWithPlain, flipped_gray, turned_text}
 use Rattle.jpg_spec.specs.Words.{asked, tool_of}
 use Rattle.jpg_spec.specs.Messages.{message, code_of}
 use Rattle.jpg_cli.specs.declared.top.Ended.{Ended}
@@ -30,24 +32,46 @@ Untouched old new = (new.asked ≡ old.asked) × (new.outputs ≡ old.outputs)
 abbrev pub not_built : ℕ → FaultAt
 not_built place = record { fault = fault.NotBuilt; at = place }
 
--- WHY A PICTURE ISN'T TURNED, OR IS. Each answer has the names that were asked for, the outputs, and its cause.
+-- Where the files are told, standard input is this one, and the bytes of it that are taken begin with the plain file of this picture.
+abbrev pub PlainInput : DeskState → Gray → Type 0
+PlainInput old g =
+    (input : List ℕ) × (front : List ℕ) × (rest : List ℕ) × IsFile old.files name.In input × (taken_of input ≡ front ++ rest) × SpellsGray front g
+
+-- The bytes that are taken begin with no plain file, and the fault stands at their number.
+abbrev pub OtherInput : DeskState → FaultAt → Type 0
+OtherInput old f =
+    (input : List ℕ) × IsFile old.files name.In input × (BeginsWithPlain (taken_of input) → ⊥) × (f ≡ not_built (length (taken_of input)))
+
+-- WHY A PICTURE IS TURNED, OR ISN'T. Each answer has the names that were asked for, the outputs, and its cause. Done adds one output:
+-- the text of the picture mirrored left to right, which is a plain file again.
 abbrev pub Turned : DeskState → Why → DeskState → Type 0
 Turned old why.Done new =
-    NotesNames old.asked (asked_both put.Done) new.asked × ((bytes : List ℕ) × Grows old.outputs (name.Out, bytes) new.outputs)
+    NotesNames old.asked (asked_both put.Done) new.asked
+    × ((g : Gray) × PlainInput old g × Grows old.outputs (name.Out, turned_text g) new.outputs × SpellsGray (turned_text g) (flipped_gray g))
 Turned old (why.Refused f) new =
-    NotesNames old.asked (asked_input put.Done) new.asked × (new.outputs ≡ old.outputs)
-    × ((input : List ℕ) × IsFile old.files name.In input × (f ≡ not_built (length (taken_of input))))
+    NotesNames old.asked (asked_input put.Done) new.asked × (new.outputs ≡ old.outputs) × OtherInput old f
 Turned old (why.OpenFault which.Input) new =
     NotesNames old.asked (asked_input put.Failed) new.asked × (new.outputs ≡ old.outputs) × Rose old.counts.opens new.counts.opens
 Turned old (why.OpenFault which.Output) new =
     NotesNames old.asked (asked_both put.Failed) new.asked × (new.outputs ≡ old.outputs) × Rose old.counts.opens new.counts.opens
+    × ((g : Gray) × PlainInput old g)
 Turned old (why.ReadFault which.Input) new =
     NotesNames old.asked (asked_input put.Done) new.asked × (new.outputs ≡ old.outputs) × Rose old.counts.reads new.counts.reads
 Turned old why.WriteFault new =
     NotesNames old.asked (asked_both put.Done) new.asked × Rose old.counts.writes new.counts.writes
-    × ((bytes : List ℕ) × Grows old.outputs (name.Out, bytes) new.outputs)
+    × ((g : Gray) × (n : ℕ) × PlainInput old g × Grows old.outputs (name.Out, take n (turned_text g)) new.outputs)
 Turned old why.NoMemory new = NotesNames old.asked (asked_input put.Done) new.asked × (new.outputs ≡ old.outputs)
 Turned old other new = ⊥
+
+-- Where no count of open, read or write rose, the answer is the one that the input has, or want of memory.
+abbrev pub IsDue : DeskState → Why → Type 0
+IsDue old why.Done = (g : Gray) × PlainInput old g
+IsDue old (why.Refused f) = OtherInput old f
+IsDue old why.NoMemory = Unit {0}
+IsDue old other = ⊥
+
+abbrev pub NoneRose : Counts → Counts → Type 0
+NoneRose old new = (Rose old.opens new.opens → ⊥) × (Rose old.reads new.reads → ⊥) × (Rose old.writes new.writes → ⊥)
 
 -- by what the words ask for
 abbrev pub Worked : Asked → DeskState → Why → DeskState → Type 0

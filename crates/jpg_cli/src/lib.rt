@@ -2,6 +2,7 @@
 #![tactic(auto)]
 
 mod gray;
+mod laws;
 mod message;
 mod reading;
 mod top;
@@ -9,4 +10,5 @@ mod turn;
 mod words;
 mod writing;
 
+pub use laws::answers_are_due;
 pub use top::{Ended, run};

@@ -1,0 +1,94 @@
+-- A run is its work, and then its message.
+use Rattle.std.proofs.Common.{◌≡◌, ℕ, ◌+◌, ◌≤◌, List, [], ◌∷◌, ◌++◌, length, take, Option, None, Some, sym, ap, ◌∙◌, subst, arith, inl, inr}
+use Rattle.std.specs.Prelude.{◌⊎◌}
+use Rattle.std.specs.Io.KnownBytes.{Appends}
+use Rattle.jpg_base.specs.declared.names.Name.{Name}
+use Rattle.jpg_base.specs.declared.names.Name.TheVariants as name
+use Rattle.jpg_base.specs.declared.names.Put.{Put}
+use Rattle.jpg_base.specs.declared.names.Put.TheVariants as put
+use Rattle.jpg_base.specs.Desk.{DeskState, NoneFell}
+use Rattle.jpg_base.specs.Laws.{NotesNames, Grows, NoneFell-then}
+use Rattle.jpg_spec.specs.declared.answers.Why.{Why}
+use Rattle.jpg_spec.specs.declared.answers.Why.TheVariants as why
+use Rattle.jpg_spec.specs.declared.answers.Asked.{Asked}
+use Rattle.jpg_spec.specs.declared.answers.Asked.TheVariants as asked
+use Rattle.jpg_spec.specs.declared.answers.Which.TheVariants as which
+use Rattle.jpg_spec.specs.GrayFile.{turned_text}
+use Rattle.jpg_spec.specs.Words.{asked as asked_of, tool_of}
+use Rattle.jpg_spec.specs.Messages.{message, code_of}
+use Rattle.jpg_cli.specs.Reading.{asked_input, asked_both}
+use Rattle.jpg_cli.specs.Saying.{OnlySays}
+use Rattle.jpg_cli.specs.Run.{SaysText, Turned, Worked, Works, Ran, IsDue, NoneRose}
+
+notes_still : (a b c : Option (List (Name × Put))) (xs : List (Name × Put)) → c ≡ b → NotesNames a xs b → NotesNames a xs c
+notes_still a b c xs e h = let P : Option (List (Name × Put)) → Type 0 = λ m. NotesNames a xs m in subst P (sym e) h
+
+grows_still : (a b c : Option (List (Name × List ℕ))) (o : Name × List ℕ) → c ≡ b → Grows a o b → Grows a o c
+grows_still a b c o e h = let P : Option (List (Name × List ℕ)) → Type 0 = λ m. Grows a o m in subst P (sym e) h
+
+-- a message changes nothing of what was done
+turned_then : (s0 s1 s2 : DeskState) (w : Why) → OnlySays s1 s2 → Turned s0 w s1 → Turned s0 w s2
+turned_then s0 s1 s2 why.Done k t =
+    (notes_still s0.asked s1.asked s2.asked (asked_both put.Done) k.asked t.0, (t.1.0, t.1.1, grows_still s0.outputs s1.outputs s2.outputs (name.Out, turned_text t.1.0) k.outputs t.1.2, t.1.3))
+turned_then s0 s1 s2 (why.Usage u) k t = absurd t
+turned_then s0 s1 s2 (why.Refused f) k t = (notes_still s0.asked s1.asked s2.asked (asked_input put.Done) k.asked t.0, k.outputs ∙ t.1, t.2)
+turned_then s0 s1 s2 (why.OpenFault which.Input) k t =
+    (notes_still s0.asked s1.asked s2.asked (asked_input put.Failed) k.asked t.0, k.outputs ∙ t.1, (let r = t.2 in let f = k.counts.opens in omega arith))
+turned_then s0 s1 s2 (why.OpenFault which.Script) k t = absurd t
+turned_then s0 s1 s2 (why.OpenFault which.Tables) k t = absurd t
+turned_then s0 s1 s2 (why.OpenFault which.Comment) k t = absurd t
+turned_then s0 s1 s2 (why.OpenFault which.Output) k t =
+    (notes_still s0.asked s1.asked s2.asked (asked_both put.Failed) k.asked t.0, k.outputs ∙ t.1, (let r = t.2 in let f = k.counts.opens in omega arith), t.3)
+turned_then s0 s1 s2 (why.ReadFault which.Input) k t =
+    (notes_still s0.asked s1.asked s2.asked (asked_input put.Done) k.asked t.0, k.outputs ∙ t.1, (let r = t.2 in let f = k.counts.reads in omega arith))
+turned_then s0 s1 s2 (why.ReadFault which.Script) k t = absurd t
+turned_then s0 s1 s2 (why.ReadFault which.Tables) k t = absurd t
+turned_then s0 s1 s2 (why.ReadFault which.Comment) k t = absurd t
+turned_then s0 s1 s2 (why.ReadFault which.Output) k t = absurd t
+turned_then s0 s1 s2 why.WriteFault k t = (
+  notes_still s0.asked s1.asked s2.asked (asked_both put.Done) k.asked t.0,
+  (let r = t.1 in let f = k.counts.writes in omega arith),
+  (t.2.0, t.2.1, t.2.2, grows_still s0.outputs s1.outputs s2.outputs (name.Out, take t.2.1 (turned_text t.2.0)) k.outputs t.2.3),
+)
+turned_then s0 s1 s2 why.NoMemory k t = (notes_still s0.asked s1.asked s2.asked (asked_input put.Done) k.asked t.0, k.outputs ∙ t.1)
+
+worked_then : (a : Asked) (s0 s1 s2 : DeskState) (w : Why) → OnlySays s1 s2 → Worked a s0 w s1 → Worked a s0 w s2
+worked_then (asked.Wrong u) s0 s1 s2 w k t = (t.0, (k.asked ∙ t.1.0, k.outputs ∙ t.1.1))
+worked_then asked.NotBuilt s0 s1 s2 w k t = (t.0, (k.asked ∙ t.1.0, k.outputs ∙ t.1.1))
+worked_then asked.FlipHorizontal s0 s1 s2 w k t = turned_then s0 s1 s2 w k t
+
+said_still : (a : Option (List ℕ)) (b c : Option (List ℕ)) (t : List ℕ) → b ≡ a → Appends b c t → Appends a c t
+said_still a b c t e h = let P : Option (List ℕ) → Type 0 = λ m. Appends m c t in subst P e h
+
+says_still : (s0 s1 s2 : DeskState) (text : List ℕ) → s1.said ≡ s0.said → NoneFell s0.counts s1.counts → SaysText s1 text s2 → SaysText s0 text s2
+says_still s0 s1 s2 text e f (inl h) = inl (said_still s0.said s1.said s2.said text e h)
+says_still s0 s1 s2 text e f (inr h) = inr ((let r = h.0 in let g = f.says in omega arith), (h.1.0, said_still s0.said s1.said s2.said (take h.1.0 text) e h.1.1))
+
+-- the work and then the message
+pub ran : (words : List (List ℕ)) (s0 s1 s2 : DeskState) (code : ℕ) (w : Why) → Works words s0 w s1 → OnlySays s1 s2 → SaysText s1 (message (tool_of words) w) s2 → code ≡ code_of w
+    → Ran words s0 (record { code = code; why = w }) s2
+ran words s0 s1 s2 code w h k m e = record {
+  worked = worked_then (asked_of words) s0 s1 s2 w k h.worked;
+  said = says_still s0 s1 s2 (message (tool_of words) w) h.said h.counts m;
+  code = e;
+  counts = NoneFell-then s0.counts s1.counts s2.counts h.counts k.counts;
+  files = k.files ∙ h.files;
+}
+
+-- where nothing failed, the answer is the due one
+pub due_answer : (s0 s1 : DeskState) (w : Why) → NoneRose s0.counts s1.counts → Turned s0 w s1 → IsDue s0 w
+due_answer s0 s1 why.Done n t = (t.1.0, t.1.1)
+due_answer s0 s1 (why.Usage u) n t = absurd t
+due_answer s0 s1 (why.Refused f) n t = t.2
+due_answer s0 s1 (why.OpenFault which.Input) n t = absurd (n.0 t.2)
+due_answer s0 s1 (why.OpenFault which.Script) n t = absurd t
+due_answer s0 s1 (why.OpenFault which.Tables) n t = absurd t
+due_answer s0 s1 (why.OpenFault which.Comment) n t = absurd t
+due_answer s0 s1 (why.OpenFault which.Output) n t = absurd (n.0 t.2)
+due_answer s0 s1 (why.ReadFault which.Input) n t = absurd (n.1 t.2)
+due_answer s0 s1 (why.ReadFault which.Script) n t = absurd t
+due_answer s0 s1 (why.ReadFault which.Tables) n t = absurd t
+due_answer s0 s1 (why.ReadFault which.Comment) n t = absurd t
+due_answer s0 s1 (why.ReadFault which.Output) n t = absurd t
+due_answer s0 s1 why.WriteFault n t = absurd (n.2 t.1)
+due_answer s0 s1 why.NoMemory n t = tt
