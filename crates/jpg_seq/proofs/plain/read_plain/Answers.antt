@@ -15,7 +15,7 @@ returns c =
     let part = c.in-Some.part.now in
     let view : c.deref.result.now ≡ c.args.head.now.parts = search rules in
     let first : part ≡ q = c.in-Some.ensures.item.1 ∙ ap (λ (l : List ScanPart). get_or l 0 part) (view ∙ c.requires.parts) in
-    let n : c.blocks-grid.result.wide * c.blocks-grid.result.high ≡ block_count f = ap (λ (g : Grid). g.wide * g.high) c.blocks-grid.ensures in
+    let n : c.blocks-grid.result.wide * c.blocks-grid.result.high ≡ block_count f = ap (λ (g : Grid). g.wide * g.high) c.blocks-grid.ensures.value in
     ok_map c.read_scan.result _ _
     (λ read h. (let P : ℕ → Type 0 = λ m. IsPlainRead k m c.args.scan.now read in
     subst P n (h k (coding_of f c.args.head.now c.args.tables.now c.bounds-bounds.result part c.in-Some-Some.dc.now c.in-Some-Some.ac.now c.requires c.bounds-bounds.ensures first (sym c.in-Some-Some.ensures) (sym c.in-Some-Some.ensures')))))
