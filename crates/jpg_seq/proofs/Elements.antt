@@ -1,19 +1,18 @@
 -- The elements of a sequential unit, where its values were zeros so far.
-use Rattle.std.proofs.Common.{◌≡◌, ℕ, zero, suc, ◌+◌, ◌-◌, ◌*◌, ◌^◌, ◌<◌, ◌≤◌, Bool, true, false, List, [], ◌∷◌, ◌++◌, length, take, drop, replicate, refl, sym, ap, ◌∙◌, subst, arith, ℤ, pos, negsuc, ◌*ℤ◌, ◌+ℤ◌, ⊎_elim, inl, inr, min}
-use Rattle.std.specs.Prelude.{◌⊎◌}
-use Rattle.std.proofs.lemmas.List.{append_assoc, append-nil, length-append, length-replicate, replicate-append-replicate}
+use Rattle.std.proofs.Common.{◌≡◌, ℕ, zero, suc, ◌+◌, ◌-◌, ◌<◌, ◌≤◌, Bool, true, false, List, [], ◌∷◌, ◌++◌, length, refl, sym, ap, ◌∙◌, subst, arith, ℤ, pos, ◌*ℤ◌, ◌+ℤ◌, ⊎_elim, inl, inr, min}
+use Rattle.std.proofs.lemmas.List.{append-nil, length-append, length-replicate, replicate-append-replicate}
 use Rattle.std.proofs.lemmas.Int.{ints}
 use Rattle.std.proofs.lemmas.Bool.{cases_lt}
 use Rattle.jpg_spec.specs.Codes.{Code}
 use Rattle.jpg_spec.specs.Numbers.{digits, category}
-use Rattle.jpg_spec.specs.Elements.{Element, difference, value, long_run, ends, Coding, UnitLeft, Standing, Covers, Tells, SpellsElement, codes_due, going_on, predicted, predictions_after, zeros, zeros_in, nonzeros_in, corrected, scaled, old_values, are_in_bounds}
+use Rattle.jpg_spec.specs.Elements.{Element, difference, value, long_run, ends, Coding, UnitLeft, Standing, Covers, Tells, SpellsElement, codes_due, going_on, predicted, predictions_after, zeros, zeros_in, nonzeros_in, corrected, scaled, are_in_bounds}
 use Rattle.jpg_spec.specs.GrayFile.{new_unit}
 use Rattle.jpg_spec.specs.declared.frame.Bounds.{Bounds}
 use Rattle.jpg_spec.proofs.Bands.{covers_then}
 use Rattle.jpg_spec.proofs.Writing.{going_same}
 use Rattle.jpg_seq.specs.Step.{AreSane, InRange}
 use Rattle.jpg_seq.specs.Stands.{IsCodingOf, open_unit, unit_in_work, standing_at, codes_next}
-use Rattle.jpg_seq.proofs.Tests.{first_in_bounds, first_out, zeros_in_bounds, value_in_bounds, bounds_join}
+use Rattle.jpg_seq.proofs.Tests.{first_in_bounds, zeros_in_bounds, value_in_bounds, bounds_join}
 
 -- ZEROS
 

@@ -1,17 +1,17 @@
 -- Where bits of blocks end.
-use Rattle.std.proofs.Common.{◌≡◌, ◌≢◌, ℕ, zero, suc, ◌+◌, ◌-◌, ◌*◌, ◌<◌, ◌≤◌, Bool, true, false, List, [], ◌∷◌, ◌++◌, length, replicate, take, drop, refl, sym, ap, ◌∙◌, subst, arith, ℤ, pos, inl, inr, ⊎_elim, min, All}
-use Rattle.std.specs.Prelude.{◌⊎◌, map, Result, Ok, Err, IfOk}
-use Rattle.std.specs.List.{flat_map, Contains}
+use Rattle.std.proofs.Common.{◌≡◌, ◌≢◌, ℕ, zero, suc, ◌+◌, ◌-◌, ◌*◌, ◌<◌, ◌≤◌, Bool, true, false, List, [], ◌∷◌, ◌++◌, length, refl, sym, ap, ◌∙◌, subst, arith, ℤ, inl, inr, ⊎_elim}
+use Rattle.std.specs.Prelude.{map, Result, Ok, Err, IfOk}
+use Rattle.std.specs.List.{Contains}
 use Rattle.std.proofs.lemmas.List.{append_assoc, append-nil, length-append, append_cancel_left}
 use Rattle.std.proofs.lemmas.Grind.{flat_map-append}
 use Rattle.jpg_spec.specs.Codes.{Code}
 use Rattle.jpg_spec.specs.Numbers.{category, extra_bits}
-use Rattle.jpg_spec.specs.Bits.{bits_of, bits_of_bytes, Packs, SpellsData}
+use Rattle.jpg_spec.specs.Bits.{bits_of, bits_of_bytes, SpellsData}
 use Rattle.jpg_spec.specs.Elements.{Element, difference, dc_bit, value, long_run, ends, Coding, UnitLeft, Standing, Covers, SpellsUnits, SpellsElement, Tells, codes_due, at_start, symbol_of, bits_behind}
 use Rattle.jpg_spec.specs.GrayFile.{new_unit, SpellsBlocks}
 use Rattle.jpg_spec.specs.Sound.{IsSound}
 use Rattle.jpg_spec.specs.declared.frame.Bounds.{Bounds}
-use Rattle.jpg_spec.proofs.Once.{clash, fronts_once, GoesOn, no_units, head_inj, pair_0, pair_1, OneWay}
+use Rattle.jpg_spec.proofs.Once.{clash, fronts_once, GoesOn, no_units, head_inj, pair_0, pair_1}
 use Rattle.jpg_spec.proofs.Bands.{covers_then}
 use Rattle.jpg_spec.proofs.Facts.{facts}
 use Rattle.jpg_spec.proofs.Sound.{spelled_once}
@@ -23,11 +23,11 @@ use Rattle.jpg_seq.specs.declared.plain.PlainRead.{PlainRead}
 use Rattle.jpg_seq.specs.declared.plain.PlainRead.TheVariants.{Blocks, NotPlain}
 use Rattle.jpg_seq.specs.InWork.{InWork}
 use Rattle.jpg_seq.specs.Stands.{IsCodingOf, unit_in_work, standing_at, codes_next, IsWalk, IsPart, Stands}
-use Rattle.jpg_seq.specs.Plain.{new_units, AreBlocks, Reads, NoneSpelled, AfterBits, AfterText, PlainBits, HoldsSoFar, ReadsText, IsPlainRead, last_or}
+use Rattle.jpg_seq.specs.Plain.{new_units, Reads, NoneSpelled, AfterBits, AfterText, PlainBits, HoldsSoFar, ReadsText, IsPlainRead, last_or}
 use Rattle.jpg_seq.proofs.Apart.{AreApart, due_apart, walk_no_code}
 use Rattle.jpg_seq.proofs.Elements.{left_at}
 use Rattle.jpg_seq.proofs.ReadBlocks.{flat, next_covers}
-use Rattle.jpg_seq.proofs.Text.{run_of_ff, waits_more, data_passes, data_goes_on, data_once, IsStop, stopped, last-append, last_data}
+use Rattle.jpg_seq.proofs.Text.{run_of_ff, waits_more, data_passes, data_goes_on, data_once, stopped, last-append, last_data}
 
 -- A PART OF AN ELEMENT holds none
 

@@ -1,13 +1,13 @@
 -- The coding of a scan by the tables of a set.
-use Rattle.std.proofs.Common.{◌≡◌, ℕ, zero, suc, ◌+◌, ◌-◌, ◌*◌, ◌^◌, ◌<◌, ◌≤◌, Bool, true, false, cond, List, [], ◌∷◌, ◌++◌, length, drop, get_or, refl, sym, ap, ◌∙◌, subst, arith, Option, Some, None, ◌==◌, ◌&&◌}
+use Rattle.std.proofs.Common.{◌≡◌, ℕ, ◌+◌, ◌*◌, ◌^◌, Bool, true, false, cond, List, [], ◌∷◌, length, refl, sym, ap, ◌∙◌, subst, arith, Option, Some, None, ◌==◌, ◌&&◌}
 use Rattle.std.specs.Prelude.{nat_lt, slice_index_or, map}
 use Rattle.std.specs.Option.{option_map}
 use Rattle.std.proofs.lemmas.Bool.Decides.{nat_tests}
-use Rattle.jpg_spec.specs.Codes.{Code, AreCodes, are_codes}
+use Rattle.jpg_spec.specs.Codes.{AreCodes, are_codes}
 use Rattle.jpg_spec.specs.Lists.{index_of}
 use Rattle.jpg_spec.specs.Geometry.{Frame, bounds, is_progressive}
-use Rattle.jpg_spec.specs.Segments.{HuffmanTable, ScanHead, head_components}
-use Rattle.jpg_spec.specs.Scan.{TablesInForce, codes_of, part_of, scan_coding}
+use Rattle.jpg_spec.specs.Segments.{HuffmanTable, ScanHead}
+use Rattle.jpg_spec.specs.Scan.{codes_of, part_of, scan_coding}
 use Rattle.jpg_spec.specs.Sound.{AreTables}
 use Rattle.jpg_spec.specs.declared.frame.Bounds.{Bounds}
 use Rattle.jpg_spec.specs.declared.frame.ScanPart.{ScanPart}

@@ -1,11 +1,10 @@
 -- Values that are covered one after another.
-use Rattle.std.proofs.Common.{◌≡◌, ℕ, zero, suc, ◌+◌, ◌-◌, ◌*◌, ◌^◌, ◌<◌, ◌≤◌, Bool, true, false, List, [], ◌∷◌, ◌++◌, length, take, drop, set, refl, sym, ap, ◌∙◌, arith, add-one, ℤ, pos, min}
-use Rattle.std.proofs.lemmas.List.{append_assoc, length-append, length-set, length-take-le, drop-drop, drop-take, take-append-drop, drop-replicate}
+use Rattle.std.proofs.Common.{◌≡◌, ℕ, zero, suc, ◌+◌, ◌-◌, ◌*◌, ◌^◌, ◌<◌, ◌≤◌, Bool, List, [], ◌∷◌, ◌++◌, length, take, drop, set, refl, sym, ap, ◌∙◌, arith, add-one, ℤ, pos}
+use Rattle.std.proofs.lemmas.List.{length-set, length-take-le, drop-drop, take-append-drop, drop-replicate}
 use Rattle.std.proofs.Math.Seq.{take-append-add}
 use Rattle.std.proofs.lemmas.Grind.{take-set_at, drop-set_at}
 use Rattle.std.proofs.Math.Nat.{pow-succ'}
-use Rattle.jpg_spec.specs.Bits.{bits_of}
-use Rattle.jpg_spec.proofs.Strings.{bit_value, length-bits_of, bits_of-more}
+use Rattle.jpg_spec.proofs.Strings.{bit_value}
 use Rattle.jpg_huff.proofs.Levels.{bit_small}
 use Rattle.jpg_spec.specs.Elements.{zeros}
 use Rattle.jpg_seq.specs.InWork.{IsKept}

@@ -1,28 +1,22 @@
 -- Blocks of one component, bit by bit.
-use Rattle.std.proofs.Common.{◌≡◌, ℕ, zero, suc, ◌+◌, ◌-◌, ◌*◌, ◌<◌, ◌≤◌, Bool, true, false, List, [], ◌∷◌, ◌++◌, length, replicate, take, drop, refl, sym, ap, ◌∙◌, subst, arith, ℤ, pos, inl, inr, ⊎_elim, min, All}
-use Rattle.std.specs.Prelude.{◌⊎◌, slice_index_or, map}
-use Rattle.std.specs.List.{flat_map, Contains}
-use Rattle.std.proofs.lemmas.List.{append_assoc, append-nil, length-append, length-replicate, append_cancel_left}
+use Rattle.std.proofs.Common.{◌≡◌, ℕ, suc, ◌+◌, ◌-◌, ◌<◌, ◌≤◌, Bool, false, List, [], ◌∷◌, ◌++◌, length, refl, sym, ap, ◌∙◌, subst, arith, ℤ, pos, inl, min}
+use Rattle.std.specs.Prelude.{slice_index_or}
+use Rattle.std.specs.List.{flat_map}
+use Rattle.std.proofs.lemmas.List.{append_assoc, append-nil, length-append}
 use Rattle.std.proofs.lemmas.List.Elements.{All-push, All-nil}
 use Rattle.std.proofs.lemmas.Grind.{flat_map-append}
-use Rattle.jpg_spec.specs.Codes.{Code}
-use Rattle.jpg_spec.specs.Numbers.{category, extra_bits}
-use Rattle.jpg_spec.specs.Bits.{bits_of_bytes, Packs, SpellsData}
-use Rattle.jpg_spec.specs.Elements.{Element, difference, dc_bit, value, long_run, ends, Coding, UnitLeft, Standing, Covers, SpellsUnits, SpellsElement, Tells, codes_due, going_on, predicted, zeros, at_start, symbol_of, bits_behind}
-use Rattle.jpg_spec.specs.GrayFile.{new_unit, SpellsBlocks}
+use Rattle.jpg_spec.specs.Elements.{Element, Coding, UnitLeft, Standing, Covers, going_on, predicted, zeros, at_start}
+use Rattle.jpg_spec.specs.GrayFile.{new_unit}
 use Rattle.jpg_spec.specs.ScanFaults.{DataShows}
 use Rattle.jpg_spec.specs.Sound.{IsSound}
-use Rattle.jpg_spec.specs.declared.frame.Bounds.{Bounds}
 use Rattle.jpg_spec.specs.declared.fault.Fault.{Fault}
-use Rattle.jpg_spec.proofs.Once.{clash, fronts_once, GoesOn, no_units, head_inj, pair_0, pair_1, OneWay}
+use Rattle.jpg_spec.proofs.Once.{clash}
 use Rattle.jpg_spec.proofs.Bands.{covers_then}
-use Rattle.jpg_spec.proofs.Facts.{facts}
-use Rattle.jpg_spec.proofs.Sound.{spelled_once, fault_excludes}
+use Rattle.jpg_spec.proofs.Sound.{fault_excludes}
 use Rattle.jpg_seq.specs.declared.plain.Reading.{Reading}
 use Rattle.jpg_seq.specs.InWork.{InWork, IsOpen, fresh}
-use Rattle.jpg_seq.specs.Stands.{IsCodingOf, open_unit, unit_in_work, standing_at, codes_next, IsWalk, MayStand, IsPart, Stands, UnitShows}
+use Rattle.jpg_seq.specs.Stands.{open_unit, unit_in_work, standing_at, Stands, UnitShows}
 use Rattle.jpg_seq.specs.Plain.{IsFirst, new_units, AreBlocks, IsReady, Reads, NoneSpelled}
-use Rattle.jpg_seq.proofs.Apart.{AreApart, due_apart, walk_no_code}
 use Rattle.jpg_seq.proofs.Elements.{left_at}
 
 abbrev pub flat : List (List ℤ) → List ℤ

@@ -1,11 +1,10 @@
 -- From a unit in work to the answer at the next bit.
-use Rattle.std.proofs.Common.{◌≡◌, ℕ, zero, suc, ◌+◌, ◌-◌, ◌*◌, ◌/◌, ◌%◌, ◌<◌, ◌≤◌, Bool, true, false, List, [], ◌∷◌, ◌++◌, length, refl, sym, ap, ◌∙◌, subst, arith, ℤ, pos, ◌+ℤ◌, inl, inr, ⊎_elim, min}
-use Rattle.std.specs.Prelude.{◌⊎◌}
+use Rattle.std.proofs.Common.{◌≡◌, ℕ, ◌+◌, ◌-◌, ◌*◌, ◌/◌, ◌%◌, ◌<◌, ◌≤◌, Bool, List, [], ◌∷◌, ◌++◌, length, refl, sym, ap, ◌∙◌, subst, arith, ℤ, ◌+ℤ◌, inl, inr}
 use Rattle.std.specs.List.{Contains}
-use Rattle.std.proofs.lemmas.List.{append_assoc, append-nil, length-append}
+use Rattle.std.proofs.lemmas.List.{append_assoc, append-nil}
 use Rattle.jpg_spec.specs.Codes.{Code}
-use Rattle.jpg_spec.specs.Numbers.{category, extra_bits}
-use Rattle.jpg_spec.specs.Elements.{Element, difference, value, long_run, ends, Coding, UnitLeft, Covers, SpellsElement, codes_due, zeros, going_on}
+use Rattle.jpg_spec.specs.Numbers.{category}
+use Rattle.jpg_spec.specs.Elements.{Element, difference, Coding, UnitLeft, Covers, SpellsElement, zeros, going_on}
 use Rattle.jpg_spec.specs.GrayFile.{new_unit}
 use Rattle.jpg_spec.specs.ScanFaults.{BitsShow}
 use Rattle.jpg_spec.specs.declared.frame.Bounds.{Bounds}
@@ -18,8 +17,8 @@ use Rattle.jpg_seq.specs.declared.unit.UnitStep.TheVariants.{More, Done, Fault a
 use Rattle.jpg_seq.specs.declared.unit.UnitFault.TheVariants.{NoCode, BadSymbol, BadRun, CoefRange}
 use Rattle.jpg_seq.specs.InWork.{InWork}
 use Rattle.jpg_seq.specs.Judge.{IsBadSymbol, IsBadRun}
-use Rattle.jpg_seq.specs.Step.{AreSane, InRange, AfterFirst, AfterCover}
-use Rattle.jpg_seq.specs.Stands.{IsCodingOf, open_unit, unit_in_work, standing_at, codes_next, IsWalk, MayStand, IsPart, Stands, UnitShows, Answered}
+use Rattle.jpg_seq.specs.Step.{AfterFirst, AfterCover}
+use Rattle.jpg_seq.specs.Stands.{IsCodingOf, unit_in_work, standing_at, codes_next, IsWalk, MayStand, IsPart, Stands, UnitShows, Answered}
 use Rattle.jpg_seq.proofs.Apart.{due_apart, walk_shows}
 use Rattle.jpg_seq.proofs.Tests.{first_out, not_first_symbol, not_symbol}
 use Rattle.jpg_seq.proofs.Elements.{TellsHere, zeros_in_zeros, element_more, first_tells, first_more}

@@ -1,13 +1,13 @@
 -- Values within bounds, as tests.
-use Rattle.std.proofs.Common.{◌≡◌, ℕ, zero, suc, ◌+◌, ◌-◌, ◌*◌, ◌^◌, ◌<◌, ◌≤◌, Bool, true, false, List, [], ◌∷◌, ◌++◌, length, refl, sym, ap, ◌∙◌, subst, arith, ℤ, pos, negsuc, ◌≤ℤ◌, ◌&&◌, ⊎_elim, inl, inr}
-use Rattle.std.specs.Prelude.{int_le, nat_abs, nat_lt, nat_le, ◌||◌, ◌==◌, ◌%◌, ◌/◌, ◌⊎◌, ◌≢◌}
+use Rattle.std.proofs.Common.{◌≡◌, ℕ, zero, suc, ◌-◌, ◌^◌, ◌<◌, ◌≤◌, Bool, true, false, List, [], ◌∷◌, ◌++◌, refl, sym, ap, ◌∙◌, subst, arith, ℤ, pos, ◌≤ℤ◌, ◌&&◌, inl, inr}
+use Rattle.std.specs.Prelude.{int_le, nat_abs, nat_lt, nat_le, ◌||◌, ◌==◌, ◌%◌, ◌/◌}
 use lib.Dec.{T}
 use lib.Signed.{le_z_yes}
 use Rattle.std.proofs.lemmas.Int.{ints}
 use Rattle.std.proofs.lemmas.Bool.Decides.{nat_tests}
 use Rattle.std.proofs.Math.Nat.{pow-le-pow_right}
 use Rattle.std.proofs.lemmas.Nat.{pow_pos}
-use Rattle.jpg_spec.specs.Numbers.{digits, category}
+use Rattle.jpg_spec.specs.Numbers.{category}
 use Rattle.jpg_spec.specs.Elements.{Coding, are_in_bounds, zeros}
 use Rattle.jpg_spec.specs.ScanFaults.{is_symbol}
 use Rattle.jpg_spec.specs.declared.frame.Bounds.{Bounds}
@@ -15,7 +15,6 @@ use Rattle.jpg_spec.proofs.Facts.{below_digits}
 use Rattle.jpg_spec.proofs.Writing.{and_intro}
 use Rattle.jpg_seq.specs.Step.{AreSane, InRange}
 use Rattle.jpg_seq.specs.Judge.{IsBadSymbol}
-use Rattle.jpg_seq.specs.Stands.{IsCodingOf}
 
 is_true : (b : Bool) → T b → b ≡ true
 is_true true t = refl

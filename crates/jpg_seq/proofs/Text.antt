@@ -1,11 +1,8 @@
 -- Stuffed bytes are the data of one list of bytes at most.
-use Rattle.std.proofs.Common.{◌≡◌, ◌≢◌, ℕ, zero, suc, ◌+◌, ◌-◌, ◌<◌, ◌≤◌, Bool, true, false, List, [], ◌∷◌, ◌++◌, length, replicate, get_or, refl, sym, ap, ◌∙◌, subst, arith, inl, inr}
-use Rattle.std.specs.Prelude.{◌⊎◌}
+use Rattle.std.proofs.Common.{◌≡◌, ◌≢◌, ℕ, zero, suc, ◌-◌, ◌<◌, Bool, true, false, List, [], ◌∷◌, ◌++◌, length, replicate, get_or, refl, sym, ap, ◌∙◌, subst, arith, inl, inr}
 use Rattle.std.proofs.lemmas.List.{append_assoc, append-nil}
 use Rattle.jpg_spec.specs.Bits.{SpellsByte, SpellsData}
-use Rattle.jpg_huff.specs.Gate.{Passes, IsData}
-use Rattle.jpg_huff.specs.declared.gate.Passed.{Passed}
-use Rattle.jpg_huff.specs.declared.gate.Passed.TheVariants.{More, Data, Marker}
+use Rattle.jpg_huff.specs.Gate.{IsData}
 use Rattle.jpg_seq.specs.Plain.{HoldsSoFar, last_or}
 
 -- DATA that grow by a byte

@@ -1,5 +1,4 @@
 -- The codings that a scan's units are read by.
-use Rattle.std.specs.Prelude.{List}
 use Rattle.jpg_spec.specs.Elements.{Coding}
 use Rattle.jpg_huff.specs.Tables.{symbol_codes}
 use Rattle.jpg_seq.specs.declared.plain.Scan.{Scan}

@@ -1,5 +1,5 @@
 -- What the parts of a unit's reader answer.
-use Rattle.std.specs.Prelude.{◌≡◌, ℕ, ◌-◌, ◌^◌, ◌<◌, ◌≤◌, Bool, List, [], ◌∷◌, ◌++◌, length, ℤ, ◌+ℤ◌, ◌≤ℤ◌, negsuc, pos}
+use Rattle.std.specs.Prelude.{◌≡◌, ◌-◌, ◌^◌, ◌<◌, ◌≤◌, Bool, [], ◌∷◌, ◌++◌, length, ℤ, ◌+ℤ◌, ◌≤ℤ◌, negsuc, pos}
 use Rattle.jpg_spec.specs.Numbers.{category, extra_bits}
 use Rattle.jpg_spec.specs.declared.frame.Bounds.{Bounds}
 use Rattle.jpg_seq.specs.declared.unit.Stage.{Stage}
@@ -10,7 +10,6 @@ use Rattle.jpg_seq.specs.declared.unit.Extra.{Extra}
 use Rattle.jpg_seq.specs.declared.unit.Extra.TheVariants.{Wanting, Whole}
 use Rattle.jpg_seq.specs.declared.unit.UnitStep.{UnitStep}
 use Rattle.jpg_seq.specs.declared.unit.UnitStep.TheVariants.{More, Done, Fault}
-use Rattle.jpg_seq.specs.declared.unit.UnitFault.{UnitFault}
 use Rattle.jpg_seq.specs.declared.unit.UnitFault.TheVariants.{NoCode, BadSymbol, BadRun, CoefRange}
 use Rattle.jpg_seq.specs.InWork.{InWork, IsOpen}
 

@@ -1,4 +1,4 @@
-use Rattle.std.proofs.Common.{◌≡◌, ◌<◌, ◌≤◌, ◌^◌, ◌*◌, ◌%◌, ◌-◌, ◌∙◌, refl, sym, ap, arith, pos, ℤ, rules, neg_ℤ}
+use Rattle.std.proofs.Common.{◌^◌, ◌-◌, ◌∙◌, sym, ap, arith, pos, rules, neg_ℤ}
 use mir.Syntax.{w16}
 use mir.Val.{SFits}
 use Rattle.std.proofs.lemmas.Int.{to_z-of_z}

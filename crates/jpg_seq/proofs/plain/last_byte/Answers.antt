@@ -1,4 +1,4 @@
-use Rattle.std.proofs.Common.{rules, ◌≡◌, ◌<◌, length}
+use Rattle.std.proofs.Common.{rules}
 use Rattle.jpg_seq.proofs.Text.{last_is, empty_last}
 use Rattle.jpg_seq.proofs.plain.last_byte.Goals as goal
 

@@ -1,4 +1,4 @@
-use Rattle.std.proofs.Common.{rules, ◌≡◌, ◌∙◌, ◌*◌, ◌∷◌, [], ap, sym, refl, subst, ℕ, List, get_or}
+use Rattle.std.proofs.Common.{rules, ◌≡◌, ◌∙◌, ◌*◌, ap, sym, subst, ℕ, List, get_or}
 use Rattle.jpg_spec.specs.Scan.{scan_coding}
 use Rattle.jpg_spec.specs.declared.frame.ScanPart.{ScanPart}
 use Rattle.jpg_spec.specs.declared.frame.Grid.{Grid}

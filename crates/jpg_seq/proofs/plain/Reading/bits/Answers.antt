@@ -1,4 +1,4 @@
-use Rattle.std.proofs.Common.{rules, ◌≡◌, ◌<◌, ◌≤◌, ◌++◌, ◌∷◌, [], List, Bool, false, length, ℕ, ◌+◌, ◌∙◌, ap, sym, refl, subst, arith, take, drop, get_or}
+use Rattle.std.proofs.Common.{rules, ◌++◌, ◌∷◌, [], false, ◌+◌, subst, take, drop, get_or}
 use Rattle.std.proofs.lemmas.List.{take_more, take_all, take-append-drop}
 use Rattle.jpg_seq.specs.declared.plain.Took.{Took}
 use Rattle.jpg_seq.specs.Plain.{StaysReady, AfterBits}

@@ -1,4 +1,3 @@
-use Rattle.std.proofs.Common.{rules, ◌≡◌}
 use Rattle.jpg_seq.proofs.plain.Reading.byte.Goals as goal
 
 pub returns-clause-reads : goal.returns-clause-reads

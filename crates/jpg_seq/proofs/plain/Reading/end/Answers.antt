@@ -1,4 +1,4 @@
-use Rattle.std.proofs.Common.{rules, ◌≡◌, ◌<◌, ◌≤◌, length, ℕ, arith}
+use Rattle.std.proofs.Common.{rules}
 use Rattle.jpg_seq.proofs.Ends.{end_open, end_blocks, end_long}
 use Rattle.jpg_seq.proofs.plain.Reading.end.Goals as goal
 

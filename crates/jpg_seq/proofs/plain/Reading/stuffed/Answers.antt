@@ -1,9 +1,4 @@
-use Rattle.std.proofs.Common.{rules, ◌≡◌, List, ℕ, ◌++◌, ◌∷◌, []}
 use Rattle.jpg_spec.specs.Bits.{bits_of_bytes}
-use Rattle.jpg_spec.specs.Elements.{Coding}
-use Rattle.jpg_seq.specs.declared.plain.Took.{Took}
-use Rattle.jpg_seq.specs.Plain.{Reads, AfterBits, ReadsText, AfterText}
-use Rattle.jpg_seq.specs.Coded.{CodesScan}
 use Rattle.jpg_seq.proofs.Ends.{text_waits, text_marker, text_data, ok_map}
 use Rattle.jpg_seq.proofs.plain.Reading.stuffed.Goals as goal
 

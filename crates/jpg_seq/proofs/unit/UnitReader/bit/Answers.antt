@@ -1,9 +1,7 @@
-use Rattle.std.proofs.Common.{rules, ◌≡◌, ◌∙◌, ap, sym, refl, subst, arith, ◌<◌, ◌≤◌, ◌+◌, ◌-◌, ◌*◌, [], ◌∷◌, ◌++◌, length, List, Bool, ℕ, ℤ, pos, min, ◌+ℤ◌}
+use Rattle.std.proofs.Common.{rules}
 use mir.Syntax.{w16}
-use mir.Val.{SFits}
 use Rattle.std.proofs.lemmas.Int.{to_z-of_z}
 use Rattle.jpg_huff.specs.Tables.{symbol_codes}
-use Rattle.jpg_seq.specs.InWork.{InWork}
 use Rattle.jpg_seq.proofs.unit.UnitReader.bit.Goals as goal
 
 pub returns-in-First-clause-answered : goal.returns-in-First-clause-answered

@@ -1,7 +1,4 @@
-use Rattle.std.proofs.Common.{rules, ◌≡◌, ◌∙◌, ap, sym, refl, subst, arith, ◌<◌, ◌≤◌, ◌+◌, ◌-◌, ◌*◌, [], ◌∷◌, ◌++◌, length, List, Bool, ℕ, ℤ, pos, min, ◌+ℤ◌}
-use mir.Syntax.{w16}
-use mir.Val.{SFits}
-use Rattle.std.proofs.lemmas.Int.{to_z-of_z}
+use Rattle.std.proofs.Common.{◌≡◌, ◌∙◌, ap, arith, ◌-◌, length, min}
 use Rattle.jpg_huff.specs.Tables.{symbol_codes}
 use Rattle.jpg_seq.specs.InWork.{InWork}
 use Rattle.jpg_seq.proofs.Reading.{ac_next, may_later, more_read, none_read, bad_read, bad_run_read, number_begun, long_run_read, end_read}

@@ -1,4 +1,4 @@
-use Rattle.std.proofs.Common.{◌≡◌, ap, List, Bool}
+use Rattle.std.proofs.Common.{ap, List, Bool}
 use Rattle.jpg_spec.specs.Bits.{bits_of}
 use Rattle.jpg_seq.specs.InWork.{InWork, fresh}
 use Rattle.jpg_seq.proofs.unit.UnitReader.new.Goals as goal

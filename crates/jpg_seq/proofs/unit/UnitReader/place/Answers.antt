@@ -1,12 +1,12 @@
-use Rattle.std.proofs.Common.{rules, ◌≡◌, ◌∙◌, ap, sym, refl, arith, ◌<◌, ◌≤◌, ◌+◌, ◌-◌, [], ◌∷◌, ◌++◌, length, List, Bool, ℕ, ℤ, pos, take, drop, set}
+use Rattle.std.proofs.Common.{rules, ◌≡◌, ◌∙◌, ap, sym, arith, ◌+◌, [], ◌∷◌, ◌++◌, length, List, ℤ, take, set}
 use mir.Syntax.{w16}
 use mir.Val.{SFits}
 use Rattle.std.proofs.lemmas.Int.{to_z-of_z}
-use Rattle.std.proofs.lemmas.List.{length-take-le, length-set}
+use Rattle.std.proofs.lemmas.List.{length-take-le}
 use Rattle.jpg_spec.specs.Bits.{bits_of}
 use Rattle.jpg_spec.specs.Elements.{zeros}
-use Rattle.jpg_seq.specs.InWork.{InWork, IsKept}
-use Rattle.jpg_seq.proofs.Leaf.{place_values, place_rest, placed_kept}
+use Rattle.jpg_seq.specs.InWork.{InWork}
+use Rattle.jpg_seq.proofs.Leaf.{place_values, placed_kept}
 use Rattle.jpg_seq.proofs.unit.UnitReader.place.Goals as goal
 
 pub invariant_of-self : goal.invariant_of-self

@@ -1,12 +1,6 @@
-use Rattle.std.proofs.Common.{rules, ◌≡◌, ◌∙◌, ap, sym, refl, arith, ◌<◌, ◌≤◌, ◌+◌, ◌-◌, ◌*◌, ◌^◌, [], ◌∷◌, ◌++◌, length, List, Bool, ℕ, nat_lt, ℤ, pos, take, drop, set, min, ◌+ℤ◌, ◌≤ℤ◌}
-use mir.Syntax.{w16}
-use mir.Val.{SFits}
-use Rattle.std.proofs.lemmas.Int.{to_z-of_z, ints}
-use Rattle.jpg_spec.specs.Bits.{bits_of}
-use Rattle.jpg_spec.specs.Numbers.{extra_bits}
+use Rattle.std.proofs.Common.{◌≡◌, ◌∙◌, ap, sym, arith, length}
 use Rattle.jpg_spec.proofs.Strings.{length-bits_of}
-use Rattle.jpg_spec.specs.Elements.{zeros}
-use Rattle.jpg_seq.specs.InWork.{InWork, IsKept}
+use Rattle.jpg_seq.specs.InWork.{InWork}
 use Rattle.jpg_seq.proofs.unit.UnitReader.wants_more.Goals as goal
 
 pub returns-then-self : goal.returns-then-self
