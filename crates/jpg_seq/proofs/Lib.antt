@@ -13,4 +13,5 @@ pub mod Reading
 pub mod Steps
 pub mod Tests
 pub mod Text
+pub mod Typical
 pub mod Within

@@ -11,6 +11,9 @@ ghost use Rattle.jpg_seq.specs.Stands.{IsCodingOf};
 ghost use Rattle.jpg_seq.specs.Plain.{IsFirst, IsReady, StaysReady, IsPlainScan, Reads, AfterBits, PlainBits, ReadsText, AfterText, IsPlainRead, last_or, in_force, block_count};
 ghost use Rattle.jpg_seq.specs.Coded.{CodesScan};
 
+#[cfg(test)]
+mod tests;
+
 use crate::BlockList;
 use crate::unit::{UnitReader, UnitStep};
 use jpg_base::{Block, Bounds, Frame, NoMemory, ScanHead};
