@@ -28,29 +28,52 @@ grows_still a b c o e h = let P : Option (List (Name × List ℕ)) → Type 0 = 
 
 -- a message changes nothing of what was done
 turned_then : (s0 s1 s2 : DeskState) (w : Why) → OnlySays s1 s2 → Turned s0 w s1 → Turned s0 w s2
-turned_then s0 s1 s2 why.Done k t =
-    (notes_still s0.asked s1.asked s2.asked (asked_both put.Done) k.asked t.0, (t.1.0, t.1.1, grows_still s0.outputs s1.outputs s2.outputs (name.Out, turned_text t.1.0) k.outputs t.1.2, t.1.3))
+turned_then s0 s1 s2 why.Done k t = record {
+  names = notes_still s0.asked s1.asked s2.asked (asked_both put.Done) k.asked t.names;
+  output = grows_still s0.outputs s1.outputs s2.outputs (name.Out, turned_text t.picture) k.outputs t.output;
+  picture = t.picture;
+  input = t.input;
+  plain_again = t.plain_again;
+}
 turned_then s0 s1 s2 (why.Usage u) k t = absurd t
-turned_then s0 s1 s2 (why.Refused f) k t = (notes_still s0.asked s1.asked s2.asked (asked_input put.Done) k.asked t.0, k.outputs ∙ t.1, t.2)
-turned_then s0 s1 s2 (why.OpenFault which.Input) k t =
-    (notes_still s0.asked s1.asked s2.asked (asked_input put.Failed) k.asked t.0, k.outputs ∙ t.1, (let r = t.2 in let f = k.counts.opens in omega arith))
+turned_then s0 s1 s2 (why.Refused f) k t = record {
+  names = notes_still s0.asked s1.asked s2.asked (asked_input put.Done) k.asked t.names;
+  outputs = k.outputs ∙ t.outputs;
+  input = t.input;
+}
+turned_then s0 s1 s2 (why.OpenFault which.Input) k t = record {
+  names = notes_still s0.asked s1.asked s2.asked (asked_input put.Failed) k.asked t.names;
+  outputs = k.outputs ∙ t.outputs;
+  opens = (let r = t.opens in let f = k.counts.opens in omega arith);
+}
 turned_then s0 s1 s2 (why.OpenFault which.Script) k t = absurd t
 turned_then s0 s1 s2 (why.OpenFault which.Tables) k t = absurd t
 turned_then s0 s1 s2 (why.OpenFault which.Comment) k t = absurd t
-turned_then s0 s1 s2 (why.OpenFault which.Output) k t =
-    (notes_still s0.asked s1.asked s2.asked (asked_both put.Failed) k.asked t.0, k.outputs ∙ t.1, (let r = t.2 in let f = k.counts.opens in omega arith), t.3)
-turned_then s0 s1 s2 (why.ReadFault which.Input) k t =
-    (notes_still s0.asked s1.asked s2.asked (asked_input put.Done) k.asked t.0, k.outputs ∙ t.1, (let r = t.2 in let f = k.counts.reads in omega arith))
+turned_then s0 s1 s2 (why.OpenFault which.Output) k t = record {
+  names = notes_still s0.asked s1.asked s2.asked (asked_both put.Failed) k.asked t.names;
+  outputs = k.outputs ∙ t.outputs;
+  opens = (let r = t.opens in let f = k.counts.opens in omega arith);
+  picture = t.picture;
+  input = t.input;
+}
+turned_then s0 s1 s2 (why.ReadFault which.Input) k t = record {
+  names = notes_still s0.asked s1.asked s2.asked (asked_input put.Done) k.asked t.names;
+  outputs = k.outputs ∙ t.outputs;
+  reads = (let r = t.reads in let f = k.counts.reads in omega arith);
+}
 turned_then s0 s1 s2 (why.ReadFault which.Script) k t = absurd t
 turned_then s0 s1 s2 (why.ReadFault which.Tables) k t = absurd t
 turned_then s0 s1 s2 (why.ReadFault which.Comment) k t = absurd t
 turned_then s0 s1 s2 (why.ReadFault which.Output) k t = absurd t
-turned_then s0 s1 s2 why.WriteFault k t = (
-  notes_still s0.asked s1.asked s2.asked (asked_both put.Done) k.asked t.0,
-  (let r = t.1 in let f = k.counts.writes in omega arith),
-  (t.2.0, t.2.1, t.2.2, grows_still s0.outputs s1.outputs s2.outputs (name.Out, take t.2.1 (turned_text t.2.0)) k.outputs t.2.3),
-)
-turned_then s0 s1 s2 why.NoMemory k t = (notes_still s0.asked s1.asked s2.asked (asked_input put.Done) k.asked t.0, k.outputs ∙ t.1)
+turned_then s0 s1 s2 why.WriteFault k t = record {
+  names = notes_still s0.asked s1.asked s2.asked (asked_both put.Done) k.asked t.names;
+  writes = (let r = t.writes in let f = k.counts.writes in omega arith);
+  picture = t.picture;
+  input = t.input;
+  count = t.count;
+  output = grows_still s0.outputs s1.outputs s2.outputs (name.Out, take t.count (turned_text t.picture)) k.outputs t.output;
+}
+turned_then s0 s1 s2 why.NoMemory k t = record { names = notes_still s0.asked s1.asked s2.asked (asked_input put.Done) k.asked t.names; outputs = k.outputs ∙ t.outputs }
 
 worked_then : (a : Asked) (s0 s1 s2 : DeskState) (w : Why) → OnlySays s1 s2 → Worked a s0 w s1 → Worked a s0 w s2
 worked_then (asked.Wrong u) s0 s1 s2 w k t = (t.0, (k.asked ∙ t.1.0, k.outputs ∙ t.1.1))
@@ -77,18 +100,18 @@ ran words s0 s1 s2 code w h k m e = record {
 
 -- where nothing failed, the answer is the due one
 pub due_answer : (s0 s1 : DeskState) (w : Why) → NoneRose s0.counts s1.counts → Turned s0 w s1 → IsDue s0 w
-due_answer s0 s1 why.Done n t = (t.1.0, t.1.1)
+due_answer s0 s1 why.Done n t = (t.picture, t.input)
 due_answer s0 s1 (why.Usage u) n t = absurd t
-due_answer s0 s1 (why.Refused f) n t = t.2
-due_answer s0 s1 (why.OpenFault which.Input) n t = absurd (n.0 t.2)
+due_answer s0 s1 (why.Refused f) n t = t.input
+due_answer s0 s1 (why.OpenFault which.Input) n t = absurd (n.0 t.opens)
 due_answer s0 s1 (why.OpenFault which.Script) n t = absurd t
 due_answer s0 s1 (why.OpenFault which.Tables) n t = absurd t
 due_answer s0 s1 (why.OpenFault which.Comment) n t = absurd t
-due_answer s0 s1 (why.OpenFault which.Output) n t = absurd (n.0 t.2)
-due_answer s0 s1 (why.ReadFault which.Input) n t = absurd (n.1 t.2)
+due_answer s0 s1 (why.OpenFault which.Output) n t = absurd (n.0 t.opens)
+due_answer s0 s1 (why.ReadFault which.Input) n t = absurd (n.1 t.reads)
 due_answer s0 s1 (why.ReadFault which.Script) n t = absurd t
 due_answer s0 s1 (why.ReadFault which.Tables) n t = absurd t
 due_answer s0 s1 (why.ReadFault which.Comment) n t = absurd t
 due_answer s0 s1 (why.ReadFault which.Output) n t = absurd t
-due_answer s0 s1 why.WriteFault n t = absurd (n.2 t.1)
+due_answer s0 s1 why.WriteFault n t = absurd (n.2 t.writes)
 due_answer s0 s1 why.NoMemory n t = tt

@@ -42,25 +42,65 @@ abbrev pub OtherInput : DeskState → FaultAt → Type 0
 OtherInput old f =
     (input : List ℕ) × IsFile old.files name.In input × (BeginsWithPlain (taken_of input) → ⊥) × (f ≡ not_built (length (taken_of input)))
 
--- WHY A PICTURE IS TURNED, OR ISN'T. Each answer has the names that were asked for, the outputs, and its cause. Done adds one output:
--- the text of the picture mirrored left to right, which is a plain file again.
+-- HOW TURNING A PICTURE ENDS. Each answer has the names that were asked for, what became of the outputs, and its cause.
+
+-- Done: standard input began with a plain file, and standard output holds the text of its picture mirrored left to right,
+-- which is a plain file again.
+pub record IsDone (old new : DeskState) : Type 0 where
+  pub names : NotesNames old.asked (asked_both put.Done) new.asked
+  pub picture : Gray
+  pub input : PlainInput old picture
+  pub output : Grows old.outputs (name.Out, turned_text picture) new.outputs
+  pub plain_again : SpellsGray (turned_text picture) (flipped_gray picture)
+
+-- Refused: standard input began with no plain file, and nothing was written.
+pub record IsRefused (old : DeskState) (f : FaultAt) (new : DeskState) : Type 0 where
+  pub names : NotesNames old.asked (asked_input put.Done) new.asked
+  pub outputs : new.outputs ≡ old.outputs
+  pub input : OtherInput old f
+
+-- standard input wasn't opened
+pub record IsUnopened (old new : DeskState) : Type 0 where
+  pub names : NotesNames old.asked (asked_input put.Failed) new.asked
+  pub outputs : new.outputs ≡ old.outputs
+  pub opens : Rose old.counts.opens new.counts.opens
+
+-- standard input wasn't read
+pub record IsUnread (old new : DeskState) : Type 0 where
+  pub names : NotesNames old.asked (asked_input put.Done) new.asked
+  pub outputs : new.outputs ≡ old.outputs
+  pub reads : Rose old.counts.reads new.counts.reads
+
+-- standard output wasn't created, though the input began with a plain file
+pub record IsUncreated (old new : DeskState) : Type 0 where
+  pub names : NotesNames old.asked (asked_both put.Failed) new.asked
+  pub outputs : new.outputs ≡ old.outputs
+  pub opens : Rose old.counts.opens new.counts.opens
+  pub picture : Gray
+  pub input : PlainInput old picture
+
+-- standard output wasn't written to its end: it holds a first part of the text
+pub record IsUnwritten (old new : DeskState) : Type 0 where
+  pub names : NotesNames old.asked (asked_both put.Done) new.asked
+  pub writes : Rose old.counts.writes new.counts.writes
+  pub picture : Gray
+  pub input : PlainInput old picture
+  pub count : ℕ
+  pub output : Grows old.outputs (name.Out, take count (turned_text picture)) new.outputs
+
+-- memory was wanting before anything was written
+pub record IsOutOfMemory (old new : DeskState) : Type 0 where
+  pub names : NotesNames old.asked (asked_input put.Done) new.asked
+  pub outputs : new.outputs ≡ old.outputs
+
 abbrev pub Turned : DeskState → Why → DeskState → Type 0
-Turned old why.Done new =
-    NotesNames old.asked (asked_both put.Done) new.asked
-    × ((g : Gray) × PlainInput old g × Grows old.outputs (name.Out, turned_text g) new.outputs × SpellsGray (turned_text g) (flipped_gray g))
-Turned old (why.Refused f) new =
-    NotesNames old.asked (asked_input put.Done) new.asked × (new.outputs ≡ old.outputs) × OtherInput old f
-Turned old (why.OpenFault which.Input) new =
-    NotesNames old.asked (asked_input put.Failed) new.asked × (new.outputs ≡ old.outputs) × Rose old.counts.opens new.counts.opens
-Turned old (why.OpenFault which.Output) new =
-    NotesNames old.asked (asked_both put.Failed) new.asked × (new.outputs ≡ old.outputs) × Rose old.counts.opens new.counts.opens
-    × ((g : Gray) × PlainInput old g)
-Turned old (why.ReadFault which.Input) new =
-    NotesNames old.asked (asked_input put.Done) new.asked × (new.outputs ≡ old.outputs) × Rose old.counts.reads new.counts.reads
-Turned old why.WriteFault new =
-    NotesNames old.asked (asked_both put.Done) new.asked × Rose old.counts.writes new.counts.writes
-    × ((g : Gray) × (n : ℕ) × PlainInput old g × Grows old.outputs (name.Out, take n (turned_text g)) new.outputs)
-Turned old why.NoMemory new = NotesNames old.asked (asked_input put.Done) new.asked × (new.outputs ≡ old.outputs)
+Turned old why.Done new = IsDone old new
+Turned old (why.Refused f) new = IsRefused old f new
+Turned old (why.OpenFault which.Input) new = IsUnopened old new
+Turned old (why.OpenFault which.Output) new = IsUncreated old new
+Turned old (why.ReadFault which.Input) new = IsUnread old new
+Turned old why.WriteFault new = IsUnwritten old new
+Turned old why.NoMemory new = IsOutOfMemory old new
 Turned old other new = ⊥
 
 -- Where no count of open, read or write rose, the answer is the one that the input has, or want of memory.
