@@ -5,7 +5,6 @@ use Rattle.std.proofs.lemmas.List.{append_assoc, append-nil, length-append, leng
 use Rattle.std.proofs.Math.Seq.{drop-cons, take-append_seam}
 use Rattle.jpg_spec.specs.Bits.{SpellsByte, SpellsData, IsMarkerCode}
 use Rattle.jpg_spec.specs.GrayFile.{end_of_image}
-use Rattle.jpg_huff.specs.declared.gate.Passed.{Passed}
 use Rattle.jpg_huff.specs.declared.gate.Passed.TheVariants.{More, Data, Marker}
 use Rattle.jpg_huff.specs.Gate.{IsData, Passes}
 use Rattle.jpg_cli.specs.Gray.{HasData}
@@ -136,7 +135,7 @@ cut_more rest i end next byte old new lt is p k e = record {
   fill = suc k.fill;
   spelled = k.spelled;
   cut = k.cut ∙ ap (λ t. k.text ++ t)
-  (ap (λ t. replicate k.fill 255 ++ t) (next_byte rest i lt ∙ ap (λ n. n ∷ drop (i + 1) rest) (sym is ∙ p.0)) ∙ one_more k.fill (drop (i + 1) rest));
+      (ap (λ t. replicate k.fill 255 ++ t) (next_byte rest i lt ∙ ap (λ n. n ∷ drop (i + 1) rest) (sym is ∙ p.0)) ∙ one_more k.fill (drop (i + 1) rest));
   long = k.long ∙ sym e;
   at = omega (arith, k.at, e);
   waiting = subst (λ w. AreWaiting w (suc k.fill)) (sym p.1) (omega arith);
@@ -181,9 +180,12 @@ data_found rest found i end byte code old new lt is p k c at d =
     let one : k.fill ≡ 1 = omega (arith, at, k.at) in
     let behind : rest ≡ k.text ++ 255 ∷ 0xd9 ∷ drop (i + 1) rest =
     k.cut ∙ ap (λ n. k.text ++ (replicate n 255 ++ drop i rest)) one ∙ ap (λ t. k.text ++ 255 ∷ t) (next_byte rest i lt ∙ ap (λ n. n ∷ drop (i + 1) rest) (sym is ∙ sym p.3 ∙ c)) in
-    let same : found ≡ k.text = d ∙ ap (λ n. take n rest) (sym k.long) ∙ ap (λ t. take (length k.text) t) behind ∙ take-append_seam k.text (255 ∷ 0xd9 ∷ drop (i + 1) rest) in
-    (k.coded, drop (i + 1) rest, subst (λ t. SpellsData k.coded t) (sym same) k.spelled,
-    behind ∙ ap (λ t. t ++ 255 ∷ 0xd9 ∷ drop (i + 1) rest) (sym same) ∙ sym (append_assoc found end_of_image (drop (i + 1) rest)))
+    let same : found ≡ k.text = d ∙ ap (λ n. take n rest) (sym k.long) ∙ ap (λ t. take (length k.text) t) behind ∙ take-append_seam k.text (255 ∷ 0xd9 ∷ drop (i + 1) rest) in (
+      k.coded,
+      drop (i + 1) rest,
+      subst (λ t. SpellsData k.coded t) (sym same) k.spelled,
+      behind ∙ ap (λ t. t ++ 255 ∷ 0xd9 ∷ drop (i + 1) rest) (sym same) ∙ sym (append_assoc found end_of_image (drop (i + 1) rest)),
+    )
 
 pub none_at_marker : (rest : List ℕ) (i end byte code : ℕ) (old new : Bool) → i < length rest → byte ≡ get_or rest i 0 → Passes old byte (Marker code) new → IsCut rest i end old
     → (code ≡ 0xd9 → i ≡ end + 1 → ⊥) → (text : List ℕ) → HasData rest text → ⊥

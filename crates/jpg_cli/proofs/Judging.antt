@@ -1,26 +1,24 @@
 -- What the parts of a plain file come to: the file is told from its bytes, exactly.
-use Rattle.std.proofs.Common.{◌≡◌, ℕ, zero, suc, ◌+◌, ◌-◌, ◌*◌, ◌/◌, ◌%◌, ◌^◌, ◌<◌, ◌≤◌, Bool, true, false, cond, List, [], ◌∷◌, ◌++◌, length, Option, Some, None, refl, sym, ap, ◌∙◌, subst, arith, ℤ, ◌==◌}
-use Rattle.std.specs.Prelude.{IsTrue, All, slice_index_or, map, flat_map, max}
+use Rattle.std.proofs.Common.{◌≡◌, ℕ, ◌+◌, ◌-◌, ◌*◌, ◌/◌, ◌%◌, ◌^◌, ◌<◌, ◌≤◌, Bool, true, false, cond, List, [], ◌∷◌, ◌++◌, length, Some, refl, sym, ap, ◌∙◌, subst, arith, ℤ, ◌==◌}
+use Rattle.std.specs.Prelude.{IsTrue, All, slice_index_or}
 use Rattle.std.specs.Int.{to_be_bytes, from_be_bytes, w16}
 use Rattle.std.specs.Option.{option_map}
 use Rattle.std.proofs.Math.Path.{fun_ext}
 use Rattle.std.proofs.lemmas.List.{append_assoc, append_cancel_left}
 use Rattle.std.proofs.lemmas.Nat.{from_be_bytes-to_be_bytes_2}
-use Rattle.jpg_spec.specs.Bits.{Packs, SpellsData, IsMarkerCode}
+use Rattle.jpg_spec.specs.Bits.{SpellsData, IsMarkerCode}
 use Rattle.jpg_spec.specs.Codes.{Code}
 use Rattle.jpg_spec.specs.declared.frame.ScanPart.{ScanPart}
-use Rattle.jpg_spec.specs.Geometry.{Frame, div_up, greatest}
-use Rattle.jpg_spec.specs.Segments.{ScanHead, HuffmanTable, table_codes}
+use Rattle.jpg_spec.specs.Geometry.{Frame}
+use Rattle.jpg_spec.specs.Segments.{ScanHead}
 use Rattle.jpg_spec.specs.Elements.{Coding}
-use Rattle.jpg_spec.specs.Scan.{TablesInForce, codes_of, part_of, scan_coding}
-use Rattle.jpg_spec.specs.ScanText.{typical_table}
-use Rattle.jpg_spec.specs.GrayFile.{Gray, IsGray, IsWholeSide, SpellsBlocks, SpellsGray, BeginsWithPlain, gray_frame, gray_head, gray_coding, gray_front, end_of_image, typical_tables, across, down}
+use Rattle.jpg_spec.specs.Scan.{codes_of, part_of, scan_coding}
+use Rattle.jpg_spec.specs.GrayFile.{Gray, IsGray, SpellsGray, BeginsWithPlain, gray_frame, gray_head, gray_coding, gray_front, end_of_image, typical_tables}
 use Rattle.jpg_spec.proofs.Rows.{append_apart}
 use Rattle.jpg_spec.proofs.OneFile.{data_apart}
-use Rattle.jpg_huff.specs.declared.table.Table.{Table}
 use Rattle.jpg_huff.specs.declared.set.TableSet.{TableSet}
 use Rattle.jpg_huff.specs.Tables.{table_of}
-use Rattle.jpg_seq.specs.Plain.{in_force, block_count, AreBlocks, IsPlainRead}
+use Rattle.jpg_seq.specs.Plain.{in_force, block_count, IsPlainRead}
 use Rattle.jpg_seq.specs.declared.plain.PlainRead.{PlainRead}
 use Rattle.jpg_seq.specs.declared.plain.PlainRead.TheVariants.{Blocks, NotPlain}
 use Rattle.jpg_cli.specs.declared.gray.TheConstants.{BEFORE_QUANTS, BEFORE_SIDES, BEHIND_SIDES}

@@ -1,6 +1,6 @@
 -- Blocks mirrored place by place, and rows of blocks turned block by block.
 use Rattle.std.proofs.Common.{◌≡◌, ℕ, zero, suc, ◌+◌, ◌-◌, ◌*◌, ◌%◌, ◌<◌, ◌≤◌, List, [], ◌∷◌, ◌++◌, length, take, drop, set, get_or, refl, sym, ap, ◌∙◌, subst, arith, ℤ, pos, neg_ℤ, cond, ◌==◌, Some, drop-drop}
-use Rattle.std.specs.Prelude.{map, flat_map, reverse, slice_get}
+use Rattle.std.specs.Prelude.{flat_map, reverse, slice_get}
 use Rattle.std.specs.List.{All, zip}
 use Rattle.std.proofs.Math.Nat.{suc-mul, mul_comm}
 use Rattle.std.proofs.Math.Seq.{take-append_seam, drop-append_seam}

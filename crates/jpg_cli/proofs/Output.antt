@@ -1,5 +1,5 @@
 -- What creating and writing an output comes to, over the states that a desk tells.
-use Rattle.std.proofs.Common.{◌≡◌, ℕ, ◌+◌, ◌≤◌, List, [], ◌∷◌, ◌++◌, length, take, Option, None, Some, Result, Ok, Err, sym, ap, ◌∙◌, subst, arith}
+use Rattle.std.proofs.Common.{◌≡◌, ℕ, List, [], ◌++◌, take, Option, Result, Ok, Err, sym, ap, ◌∙◌, subst, arith}
 use Rattle.std.proofs.lemmas.List.{append-nil}
 use Rattle.jpg_base.specs.declared.names.Name.{Name}
 use Rattle.jpg_base.specs.declared.names.Name.TheVariants as name
@@ -7,7 +7,7 @@ use Rattle.jpg_base.specs.declared.names.Put.{Put}
 use Rattle.jpg_base.specs.declared.names.Put.TheVariants as put
 use Rattle.jpg_base.specs.declared.stop.WriteFault.{WriteFault}
 use Rattle.jpg_base.specs.Desk.{DeskState, NoneFell, NotesName, AppendsLast, Creates}
-use Rattle.jpg_base.specs.Laws.{Grows, Grows-from, NoneFell-then}
+use Rattle.jpg_base.specs.Laws.{Grows-from, NoneFell-then}
 use Rattle.jpg_huff.specs.Out.{Emits, OnlyWrites}
 use Rattle.jpg_huff.proofs.Emitted.{emits_then, emits_fault}
 use Rattle.jpg_spec.specs.declared.answers.Why.TheVariants as why

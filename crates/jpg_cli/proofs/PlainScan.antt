@@ -1,16 +1,12 @@
 -- The plain gray file's frame, scan and tables.
-use Rattle.std.proofs.Common.{◌≡◌, ℕ, Bool, true, false, cond, List, [], ◌∷◌, length, Option, Some, Result, Ok, Err, refl, sym, ap, ◌∙◌, subst}
+use Rattle.std.proofs.Common.{◌≡◌, ℕ, List, length, Option, Some, refl, ap, ◌∙◌}
 use Rattle.std.specs.Prelude.{slice_set}
-use Rattle.jpg_spec.specs.declared.fault.Fault.{Fault}
-use Rattle.jpg_spec.specs.declared.frame.Limits.{Limits}
-use Rattle.jpg_spec.specs.Faults.{Told, refuse}
 use Rattle.jpg_spec.specs.Geometry.{Frame, is_progressive}
-use Rattle.jpg_spec.specs.FrameHeader.{checked_frame}
 use Rattle.jpg_spec.specs.Segments.{ScanHead}
 use Rattle.jpg_spec.specs.GrayFile.{gray_frame, gray_head}
 use Rattle.jpg_huff.specs.declared.table.Table.{Table}
 use Rattle.jpg_huff.specs.declared.set.TableSet.{TableSet}
-use Rattle.jpg_huff.specs.Sets.{dc_tables, ac_tables, in_slot, no_tables}
+use Rattle.jpg_huff.specs.Sets.{in_slot, no_tables}
 use Rattle.jpg_seq.specs.Plain.{IsPlainScan}
 use Rattle.jpg_cli.specs.Gray.{HasLuma}
 

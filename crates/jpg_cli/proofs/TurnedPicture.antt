@@ -1,5 +1,5 @@
 -- The picture of a plain file can be turned, and written again.
-use Rattle.std.proofs.Common.{◌≡◌, ℕ, zero, suc, ◌+◌, ◌*◌, ◌/◌, ◌<◌, ◌≤◌, Bool, true, false, List, [], ◌∷◌, ◌++◌, length, refl, sym, ap, ◌∙◌, subst, arith, ℤ, pos, negsuc, ◌&&◌, ◌-◌, ◌%◌, Option, Some}
+use Rattle.std.proofs.Common.{◌≡◌, ℕ, zero, suc, ◌+◌, ◌*◌, ◌/◌, true, false, List, [], ◌∷◌, length, sym, ap, ◌∙◌, subst, arith, ℤ, pos, negsuc, ◌&&◌, ◌-◌, ◌%◌, Option, Some}
 use Rattle.std.specs.Prelude.{All, nat_abs, int_le, ◌≤ℤ◌, neg_ℤ}
 use Rattle.std.proofs.lemmas.Int.{ints}
 use Rattle.jpg_spec.specs.Geometry.{Frame}
@@ -7,11 +7,11 @@ use Rattle.jpg_spec.specs.FrameHeader.{real_grid}
 use Rattle.jpg_spec.specs.Geometry.{component_at}
 use Rattle.jpg_spec.specs.Elements.{are_in_bounds}
 use Rattle.jpg_spec.specs.Written.{IsWritable}
-use Rattle.jpg_spec.specs.GrayFile.{Gray, SpellsGray, gray_frame, gray_coding, flipped_gray, turned_rows, across, down}
+use Rattle.jpg_spec.specs.GrayFile.{Gray, gray_frame, gray_coding, flipped_gray, turned_rows, across, down}
 use Rattle.jpg_spec.proofs.Telling.{both}
 use Rattle.jpg_spec.proofs.Within.{gray_within, flipped_within}
 use Rattle.jpg_cli.specs.declared.gray.GrayPicture.{GrayPicture}
-use Rattle.jpg_cli.specs.Gray.{AreSides, BeginsWith, IsPicture, ReadsGray, picture_of}
+use Rattle.jpg_cli.specs.Gray.{BeginsWith, ReadsGray}
 
 -- VALUES IN THE BOUNDS keep their size when their sign is changed
 

@@ -3,7 +3,7 @@ use Rattle.std.specs.Prelude.{◌≡◌, ◌⊎◌, ℕ, List, ◌++◌, length,
 use Rattle.std.specs.Io.KnownBytes.{Appends}
 use Rattle.jpg_base.specs.declared.names.Name.TheVariants as name
 use Rattle.jpg_base.specs.declared.names.Put.TheVariants as put
-use Rattle.jpg_base.specs.Desk.{DeskState, NoneFell, Rose, NotesName}
+use Rattle.jpg_base.specs.Desk.{DeskState, NoneFell, Rose}
 use Rattle.jpg_base.specs.Laws.{NotesNames, Grows}
 use Rattle.jpg_spec.specs.declared.fault.Fault.TheVariants as fault
 use Rattle.jpg_spec.specs.declared.answers.FaultAt.{FaultAt}

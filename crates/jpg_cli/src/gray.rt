@@ -131,14 +131,7 @@ fn frame_of(width: u32, height: u32) -> Option<Frame>
         quant: 0,
     };
     let limits = Limits::standard();
-    match Frame::new(
-        Process::Baseline,
-        8,
-        height,
-        width,
-        &[component],
-        &limits,
-    ) {
+    match Frame::new(Process::Baseline, 8, height, width, &[component], &limits) {
         Ok(frame) => {
             frame.checked();
             Some(frame)

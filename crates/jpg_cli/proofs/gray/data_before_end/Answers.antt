@@ -9,8 +9,8 @@ loop-i-init c = cut_first c.args.rest.now c.new-gate.result c.new-gate.ensures
 pub loop-i-preserved : goal.loop-i-preserved
 loop-i-preserved c =
     elim c.match-byte.branch [
-      in-More w ↦ cut_more c.args.rest.now c.loop-i.i c.loop-i.end c.match-byte.end _ c.loop-i.gate c.byte.new.self c.loop-i-test.true refl w.in-More.ensures c.loop-i.invariant w.end-is
-    | in-Data w ↦ cut_data c.args.rest.now c.loop-i.i c.loop-i.end c.match-byte.end _ w.in-Data.field-0 c.loop-i.gate c.byte.new.self c.loop-i-test.true refl w.in-Data.ensures c.loop-i.invariant w.end-is
+      | in-More w ↦ cut_more c.args.rest.now c.loop-i.i c.loop-i.end c.match-byte.end _ c.loop-i.gate c.byte.new.self c.loop-i-test.true refl w.in-More.ensures c.loop-i.invariant w.end-is
+      | in-Data w ↦ cut_data c.args.rest.now c.loop-i.i c.loop-i.end c.match-byte.end _ w.in-Data.field-0 c.loop-i.gate c.byte.new.self c.loop-i-test.true refl w.in-Data.ensures c.loop-i.invariant w.end-is
     ]
 
 pub returns-then-i-end-clause-some : goal.returns-then-i-end-clause-some

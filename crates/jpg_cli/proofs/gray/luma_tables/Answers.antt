@@ -1,4 +1,4 @@
-use Rattle.std.proofs.Common.{refl, sym, ap, ◌∙◌}
+use Rattle.std.proofs.Common.{refl, ◌∙◌}
 use Rattle.jpg_huff.specs.Sets.{dc_tables, ac_tables}
 use Rattle.jpg_cli.proofs.PlainScan.{at_slot}
 use Rattle.jpg_cli.proofs.gray.luma_tables.Goals as goal

@@ -1,7 +1,5 @@
-use Rattle.std.proofs.Common.{List, ℕ, sym, ap, ◌∙◌, subst, refl}
-use Rattle.jpg_spec.specs.Elements.{Coding}
-use Rattle.jpg_spec.specs.GrayFile.{gray_coding}
-use Rattle.jpg_seq.specs.Plain.{IsPlainRead, block_count}
+use Rattle.std.proofs.Common.{refl}
+use Rattle.jpg_seq.specs.Plain.{block_count}
 use Rattle.jpg_seq.specs.declared.plain.PlainRead.TheVariants.{Blocks, NotPlain}
 use Rattle.jpg_cli.proofs.PlainScan.{plain_scan}
 use Rattle.jpg_cli.proofs.Judging.{FrontIs, same_coding, same_count, no_front, no_data, no_frame, no_quants, no_blocks, some_blocks, not_true, read_as, plain_read}

@@ -1,4 +1,4 @@
-use Rattle.std.proofs.Common.{◌+◌, ◌-◌, ◌≡◌, ◌≤◌, ◌<◌, ◌^◌, ◌++◌, ◌∷◌, [], length, drop, ℕ, false}
+use Rattle.std.proofs.Common.{◌+◌, ◌≡◌, ◌≤◌, ◌<◌, ◌^◌, length, drop, false}
 use Rattle.std.specs.Fmt.{digits_onto, decimal}
 use Rattle.jpg_cli.proofs.message.decimal_digits.Given as goal
 

@@ -1,6 +1,6 @@
-use Rattle.std.proofs.Common.{List, ℕ, ap, ◌∙◌, subst, length}
-use Rattle.jpg_spec.specs.GrayFile.{Gray, BeginsWithPlain, flipped_gray}
-use Rattle.jpg_cli.specs.Gray.{BeginsWith, picture_of}
+use Rattle.std.proofs.Common.{List, ℕ, ap, subst, length}
+use Rattle.jpg_spec.specs.GrayFile.{BeginsWithPlain}
+use Rattle.jpg_cli.specs.Gray.{BeginsWith}
 use Rattle.jpg_cli.specs.Run.{not_built}
 use Rattle.jpg_cli.proofs.Running.{file_is_turned, turned_output, turned_refused}
 use Rattle.jpg_cli.proofs.top.turn.Goals as goal

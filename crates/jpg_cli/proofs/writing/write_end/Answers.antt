@@ -1,4 +1,3 @@
-use Rattle.std.proofs.Common.{[]}
 use Rattle.jpg_spec.specs.GrayFile.{end_of_image}
 use Rattle.jpg_cli.proofs.Output.{emits_end}
 use Rattle.jpg_cli.proofs.writing.write_end.Goals as goal

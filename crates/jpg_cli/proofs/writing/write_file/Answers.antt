@@ -1,4 +1,4 @@
-use Rattle.std.proofs.Common.{List, ℕ, ◌∙◌, ap, subst, Ok, Err, [], ◌++◌}
+use Rattle.std.proofs.Common.{List, ℕ, ◌∙◌, ap, subst, Ok, Err}
 use Rattle.jpg_huff.specs.Out.{Emits}
 use Rattle.jpg_huff.specs.Waiting.{Waiting}
 use Rattle.jpg_cli.proofs.Output.{file_done, file_fault}
