@@ -188,30 +188,30 @@ impl Reading {
 }
 
 // The last byte, 0 where there is none.
-fn last_byte(data: &[u8]) -> u8
-    ensures { result ≡ last_or 0 data.now }
+fn last_byte(bytes: &[u8]) -> u8
+    ensures { result ≡ last_or 0 bytes.now }
 {
-    if data.is_empty() {
+    if bytes.is_empty() {
         0
     } else {
-        data[data.len() - 1]
+        bytes[bytes.len() - 1]
     }
 }
 
 // The blocks that stuffed bytes spell.
-fn read_scan(alloc: Global, scan: &Scan, data: &[u8]) -> Result<PlainRead, NoMemory>
+fn read_scan(alloc: Global, scan: &Scan, bytes: &[u8]) -> Result<PlainRead, NoMemory>
     requires sane { AreSane scan.now.bounds.now }
-    ensures { IfOk result (λ read. (c : Coding) → CodesScan scan.now c → IsPlainRead c scan.now.count data.now read) }
+    ensures { IfOk result (λ read. (c : Coding) → CodesScan scan.now c → IsPlainRead c scan.now.count bytes.now read) }
 {
     let mut reading = Reading::new(alloc);
     let mut gate = Gate::new();
-    for byte in data {
+    for byte in bytes {
         match reading.stuffed(scan, &mut gate, *byte)? {
             Took::More => {}
             Took::Bad => return Ok(PlainRead::NotPlain),
         }
     }
-    if last_byte(data) == 0xff {
+    if last_byte(bytes) == 0xff {
         // 00 is missing behind it.
         Ok(PlainRead::NotPlain)
     } else {
@@ -219,10 +219,10 @@ fn read_scan(alloc: Global, scan: &Scan, data: &[u8]) -> Result<PlainRead, NoMem
     }
 }
 
-/// The blocks of a gray scan, row by row, where the data spell some: the stuffed bytes of their bits
-/// with prediction from 0, all values within the frame's bounds, and fewer than eight pad bits of any
-/// value. The frame has one component of factors 1 by 1 and sides that are multiples of 8, and the
-/// tables have those that the head names.
+/// The blocks that the data of a scan spell, row by row, NotPlain where they spell none: stuffed
+/// bytes (T.81, B.1.1.5) of the blocks' bits with prediction from 0 and all values within the frame's
+/// bounds (T.81, F.2.2), and then fewer than eight pad bits of any value. The frame is sequential and
+/// of one component, and the tables that the head names for it are there. The only error is NoMemory.
 pub fn read_plain(
     alloc: Global,
     frame: &Frame,

@@ -15,17 +15,25 @@ use jpg_base::{Block, Bounds};
 use jpg_huff::{Table, Walk, WalkStep};
 use std::marker::Model;
 
+/// What bits of a unit show that may not stand there.
 #[derive(Clone, Copy, Debug, PartialEq, Eq)]
 pub enum UnitFault {
+    /// The front of no code.
     NoCode,
+    /// A category above the bounds, or a run that isn't followed by a value.
     BadSymbol,
+    /// A value behind place 63.
     BadRun,
+    /// A first value out of the bounds.
     CoefRange,
 }
 
+/// What a bit comes to.
 #[derive(Clone, Copy, Debug, PartialEq, Eq)]
 pub enum UnitStep {
+    /// The unit goes on.
     More,
+    /// It is whole.
     Done,
     Fault(UnitFault),
 }
@@ -304,7 +312,7 @@ impl UnitReader {
         }
     }
 
-    /// Takes one more bit of a unit.
+    /// Takes one more bit of a unit, whose first value is told by its difference to `prediction`.
     pub fn bit(
         &mut self,
         bounds: &Bounds,

@@ -18,7 +18,7 @@ loop-byte-init c =
 pub loop-byte-preserved : goal.loop-byte-preserved
 loop-byte-preserved c =
     let n = c.args.scan.now.count in
-    let bytes = c.args.data.now in let i = c.loop-byte.byte-index in
+    let bytes = c.args.bytes.now in let i = c.loop-byte.byte-index in
     let t = take_more bytes i 0 c.loop-byte-test.true in
     let R : Took → Type 0 = λ k. StaysReady n k c.stuffed.new.self in (
       subst R c.in-More.is c.in_ok-stuffed.ensures.ready,
@@ -31,7 +31,7 @@ loop-byte-preserved c =
 pub returns-in-Bad : goal.returns-in-Bad
 returns-in-Bad c = λ d h.
     let n = c.args.scan.now.count in
-    let bytes = c.args.data.now in let i = c.loop-byte.byte-index in
+    let bytes = c.args.bytes.now in let i = c.loop-byte.byte-index in
     let t = take_more bytes i 0 c.loop-byte-test.true in
     let P : Took → Type 0 = λ k. AfterText d n (take i bytes ++ get_or bytes i 0 ∷ []) k c.stuffed.new.gate c.stuffed.new.self in
     let Q : List ℕ → Type 0 = λ z. IsPlainRead d n z NotPlain in
@@ -40,13 +40,13 @@ returns-in-Bad c = λ d h.
 
 pub returns-then-last_byte-eq255 : goal.returns-then-last_byte-eq255
 returns-then-last_byte-eq255 c = λ d h.
-    let bytes = c.args.data.now in
+    let bytes = c.args.bytes.now in
     text_open d c.args.scan.now.count c.loop-byte.gate (take c.loop-byte.byte-index bytes) bytes c.loop-byte.reading (take_all c.loop-byte.byte-index bytes (search rules))
     (sym c.last_byte.ensures ∙ c.if-last_byte-eq255.true) (c.loop-byte.invariant.1 d h)
 
 pub returns-else-last_byte-eq255 : goal.returns-else-last_byte-eq255
 returns-else-last_byte-eq255 c = λ d h.
-    let bytes = c.args.data.now in
+    let bytes = c.args.bytes.now in
     let b : Bounds = c.args.scan.now.bounds.now in
     text_end d c.args.scan.now.count c.loop-byte.gate (take c.loop-byte.byte-index bytes) bytes c.loop-byte.reading c.end.result (take_all c.loop-byte.byte-index bytes (search rules))
     (λ e. c.if-last_byte-eq255.false (c.last_byte.ensures ∙ e)) (λ bits f. c.end.ensures b (symbol_codes c.args.scan.now.dc.now) (symbol_codes c.args.scan.now.ac.now) d bits h f) (c.loop-byte.invariant.1 d h)

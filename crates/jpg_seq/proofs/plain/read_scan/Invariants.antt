@@ -7,4 +7,4 @@ use Rattle.jpg_seq.proofs.plain.read_scan.Given as goal
 abbrev pub invariant-loop-byte : goal.invariant-loop-byte
 invariant-loop-byte l =
     IsReady l.scan.count l.reading
-    × ((c : Coding) → CodesScan l.scan c → ReadsText c l.scan.count l.gate (take l.byte-index l.data) l.reading)
+    × ((c : Coding) → CodesScan l.scan c → ReadsText c l.scan.count l.gate (take l.byte-index l.bytes) l.reading)
