@@ -89,7 +89,7 @@ fn are_blocks(blocks: &BlockList, rows: &[&[(u8, i16)]]) -> bool {
 
 #[test]
 fn blocks_are_read(rt: HostRuntime) -> Result<(), Fail> {
-    let rows: [(u32, &[u8], Option<&[&[(u8, i16)]]>); 18] = [
+    let rows: [(u32, &[u8], Option<&[&[(u8, i16)]]>); 22] = [
         (8, &[0x2b], Some(&[&[]])),
         // pad bits of zeros
         (8, &[0x28], Some(&[&[]])),
@@ -115,6 +115,42 @@ fn blocks_are_read(rt: HostRuntime) -> Result<(), Fail> {
             &[0x3f, 0xcf, 0xf9, 0xff, 0x00, 0x3f, 0xfd, 0x7f],
             Some(&[&[(63, 1)]]),
         ),
+        // each category with both signs
+        (
+            8,
+            &[
+                0x08, 0x64, 0x92, 0x0b, 0x8b, 0x0d, 0x43, 0x40, 0xf1, 0x07, 0x80, 0x3e, 0x20, 0x7c,
+                0x00, 0xfd, 0xa0, 0x3f, 0x60, 0x0f, 0xf8, 0x28, 0x07, 0xfc, 0x10, 0x03, 0xfe, 0x0e,
+                0x00, 0xff, 0x00, 0x83, 0x00, 0x2b,
+            ],
+            Some(&[&[
+                (1, 1),
+                (2, -1),
+                (3, 2),
+                (4, -3),
+                (5, 4),
+                (6, -7),
+                (7, 8),
+                (8, -15),
+                (9, 16),
+                (10, -31),
+                (11, 32),
+                (12, -63),
+                (13, 64),
+                (14, -127),
+                (15, 128),
+                (16, -255),
+                (17, 256),
+                (18, -511),
+                (19, 512),
+                (20, -1023),
+            ]]),
+        ),
+        // the greatest value, and one more
+        (8, &[0xfe, 0xff, 0x00, 0xeb], Some(&[&[(0, 1023)]])),
+        (8, &[0xff, 0x00, 0x40, 0x0a], None),
+        // one below the least value
+        (8, &[0xff, 0x00, 0x3f, 0xea], None),
         // sixteen zeros four times
         (8, &[0x3f, 0xcf, 0xf9, 0xff, 0x00, 0x3f, 0xe7], Some(&[&[]])),
         // a value behind place 63

@@ -92,7 +92,7 @@ fn blocks_are_written(rt: HostRuntime) -> Result<(), Fail> {
     let Ok(frame) = Frame::new(Process::Baseline, 8, 8, 8, &parts, &Limits::standard()) else {
         panic!(rt; "a frame of 8 by 8");
     };
-    let rows: [(&[&[(u8, i16)]], &[u8]); 14] = [
+    let rows: [(&[&[(u8, i16)]], &[u8]); 15] = [
         (&[&[]], &[0x2b]),
         (&[&[(1, 5), (2, 2)]], &[0x25, 0x6a]),
         (
@@ -106,6 +106,36 @@ fn blocks_are_written(rt: HostRuntime) -> Result<(), Fail> {
         (
             &[&[(1, -1), (18, -5), (63, -1023)]],
             &[0x07, 0xf9, 0x8b, 0xfc, 0xff, 0x00, 0x9f, 0xfe, 0x10, 0x03],
+        ),
+        // each category with both signs
+        (
+            &[&[
+                (1, 1),
+                (2, -1),
+                (3, 2),
+                (4, -3),
+                (5, 4),
+                (6, -7),
+                (7, 8),
+                (8, -15),
+                (9, 16),
+                (10, -31),
+                (11, 32),
+                (12, -63),
+                (13, 64),
+                (14, -127),
+                (15, 128),
+                (16, -255),
+                (17, 256),
+                (18, -511),
+                (19, 512),
+                (20, -1023),
+            ]],
+            &[
+                0x08, 0x64, 0x92, 0x0b, 0x8b, 0x0d, 0x43, 0x40, 0xf1, 0x07, 0x80, 0x3e, 0x20, 0x7c,
+                0x00, 0xfd, 0xa0, 0x3f, 0x60, 0x0f, 0xf8, 0x28, 0x07, 0xfc, 0x10, 0x03, 0xfe, 0x0e,
+                0x00, 0xff, 0x00, 0x83, 0x00, 0x2b,
+            ],
         ),
         (&[&[(1, 1)]], &[0x0d, 0x7f]),
         (&[&[(16, 1)]], &[0x3f, 0xfd, 0x75]),
