@@ -12,3 +12,6 @@ mod writing;
 
 pub use laws::answers_are_due;
 pub use top::{Ended, run};
+
+#[cfg(test)]
+mod tests;

@@ -1,0 +1,487 @@
+// Runs of the command over a desk in memory. The files are spelled here by themselves (T.81 B.2,
+// Annex K, JFIF 1.02).
+use crate::{Ended, run};
+use jpg_base::{Bytes, Counts, Desk, MemoryDesk, Name, NoMemory};
+use jpg_spec::{Fault, FaultAt, Usage, UsageFault, Which, Why};
+use std::alloc::Global;
+use std::test::Fail;
+
+static FLIP: [&str; 3] = ["jpegtran", "-flip", "horizontal"];
+
+static ONES: [u8; 64] = [1; 64];
+
+static OTHERS: [u8; 64] = [
+    1, 2, 3, 4, 5, 6, 7, 8, 9, 10, 11, 12, 13, 14, 15, 16, 17, 18, 19, 20, 21, 22, 23, 24, 25, 26,
+    27, 28, 29, 30, 31, 32, 33, 34, 35, 36, 37, 38, 39, 40, 41, 42, 43, 44, 45, 46, 47, 48, 49, 50,
+    51, 52, 53, 54, 55, 56, 57, 58, 59, 60, 61, 62, 63, 255,
+];
+
+// SOI, JFIF and the beginning of DQT.
+static TO_QUANTS: [u8; 25] = [
+    0xff, 0xd8, 0xff, 0xe0, 0x00, 0x10, 0x4a, 0x46, 0x49, 0x46, 0x00, 0x01, 0x01, 0x00, 0x00, 0x01,
+    0x00, 0x01, 0x00, 0x00, 0xff, 0xdb, 0x00, 0x43, 0x00,
+];
+
+// The end of SOF0, the tables K.3 and K.5, and SOS.
+static TO_DATA: [u8; 230] = [
+    0x01, 0x01, 0x11, 0x00, 0xff, 0xc4, 0x00, 0x1f, 0x00, 0x00, 0x01, 0x05, 0x01, 0x01, 0x01, 0x01,
+    0x01, 0x01, 0x00, 0x00, 0x00, 0x00, 0x00, 0x00, 0x00, 0x00, 0x01, 0x02, 0x03, 0x04, 0x05, 0x06,
+    0x07, 0x08, 0x09, 0x0a, 0x0b, 0xff, 0xc4, 0x00, 0xb5, 0x10, 0x00, 0x02, 0x01, 0x03, 0x03, 0x02,
+    0x04, 0x03, 0x05, 0x05, 0x04, 0x04, 0x00, 0x00, 0x01, 0x7d, 0x01, 0x02, 0x03, 0x00, 0x04, 0x11,
+    0x05, 0x12, 0x21, 0x31, 0x41, 0x06, 0x13, 0x51, 0x61, 0x07, 0x22, 0x71, 0x14, 0x32, 0x81, 0x91,
+    0xa1, 0x08, 0x23, 0x42, 0xb1, 0xc1, 0x15, 0x52, 0xd1, 0xf0, 0x24, 0x33, 0x62, 0x72, 0x82, 0x09,
+    0x0a, 0x16, 0x17, 0x18, 0x19, 0x1a, 0x25, 0x26, 0x27, 0x28, 0x29, 0x2a, 0x34, 0x35, 0x36, 0x37,
+    0x38, 0x39, 0x3a, 0x43, 0x44, 0x45, 0x46, 0x47, 0x48, 0x49, 0x4a, 0x53, 0x54, 0x55, 0x56, 0x57,
+    0x58, 0x59, 0x5a, 0x63, 0x64, 0x65, 0x66, 0x67, 0x68, 0x69, 0x6a, 0x73, 0x74, 0x75, 0x76, 0x77,
+    0x78, 0x79, 0x7a, 0x83, 0x84, 0x85, 0x86, 0x87, 0x88, 0x89, 0x8a, 0x92, 0x93, 0x94, 0x95, 0x96,
+    0x97, 0x98, 0x99, 0x9a, 0xa2, 0xa3, 0xa4, 0xa5, 0xa6, 0xa7, 0xa8, 0xa9, 0xaa, 0xb2, 0xb3, 0xb4,
+    0xb5, 0xb6, 0xb7, 0xb8, 0xb9, 0xba, 0xc2, 0xc3, 0xc4, 0xc5, 0xc6, 0xc7, 0xc8, 0xc9, 0xca, 0xd2,
+    0xd3, 0xd4, 0xd5, 0xd6, 0xd7, 0xd8, 0xd9, 0xda, 0xe1, 0xe2, 0xe3, 0xe4, 0xe5, 0xe6, 0xe7, 0xe8,
+    0xe9, 0xea, 0xf1, 0xf2, 0xf3, 0xf4, 0xf5, 0xf6, 0xf7, 0xf8, 0xf9, 0xfa, 0xff, 0xda, 0x00, 0x08,
+    0x01, 0x01, 0x00, 0x00, 0x3f, 0x00,
+];
+
+static END: [u8; 2] = [0xff, 0xd9];
+
+// A file of one component, up to its data.
+fn head(alloc: Global, width: u16, height: u16, quants: &[u8; 64]) -> Result<Bytes, NoMemory> {
+    let mut file = Bytes::new(alloc);
+    file.push_all(&TO_QUANTS)?;
+    file.push_all(quants)?;
+    file.push_all(&[0xff, 0xc0, 0x00, 0x0b, 0x08])?;
+    file.push_all(&height.to_be_bytes())?;
+    file.push_all(&width.to_be_bytes())?;
+    file.push_all(&TO_DATA)?;
+    Ok(file)
+}
+
+fn strings(alloc: Global, words: &[&str]) -> Result<Vec<String>, NoMemory> {
+    let mut list = Vec::new(alloc);
+    for word in words {
+        let Ok(text) = String::from_str(alloc, word) else {
+            return Err(NoMemory);
+        };
+        let Ok(()) = list.push(text) else {
+            return Err(NoMemory);
+        };
+    }
+    Ok(list)
+}
+
+// A desk with this input, which gives at most `piece` bytes a read, and 1 where that is 0.
+fn desk_with(alloc: Global, input: &[u8], piece: u32) -> Result<MemoryDesk, NoMemory> {
+    let mut desk = MemoryDesk::new(alloc, piece.max(1));
+    desk.add_file(&Name::In, input)?;
+    Ok(desk)
+}
+
+// The bytes of the only output.
+fn written(desk: &MemoryDesk) -> Option<&[u8]> {
+    if desk.outputs() == 1 {
+        Some(desk.output(0))
+    } else {
+        None
+    }
+}
+
+fn not_built(at: u64) -> Why {
+    Why::Refused(FaultAt {
+        fault: Fault::NotBuilt,
+        at,
+    })
+}
+
+#[test]
+fn plain_files_are_turned(rt: HostRuntime) -> Result<(), Fail> {
+    let flip = strings(rt.alloc(), &FLIP)?;
+    let rows: [(u16, u16, &[u8; 64], &[u8], &[u8]); 8] = [
+        (8, 8, &ONES, &[0x2b, 0xff, 0xd9], &[0x2b]),
+        (8, 8, &ONES, &[0x28, 0xff, 0xd9], &[0x2b]),
+        (8, 8, &ONES, &[0x25, 0x6a, 0xff, 0xd9], &[0x22, 0x6a]),
+        (8, 8, &OTHERS, &[0x25, 0x6a, 0xff, 0xd9], &[0x22, 0x6a]),
+        (8, 16, &ONES, &[0x28, 0xaf, 0xff, 0xd9], &[0x28, 0xaf]),
+        (
+            16,
+            8,
+            &ONES,
+            &[0xff, 0x00, 0x3f, 0xfa, 0xff, 0x00, 0x7f, 0xfa, 0xff, 0xd9],
+            &[0xfe, 0xff, 0x00, 0xeb, 0xfc, 0x00, 0x2b],
+        ),
+        (
+            16,
+            8,
+            &ONES,
+            &[
+                0xff, 0xff, 0x00, 0x3f, 0xfa, 0xff, 0xff, 0xff, 0x00, 0x7f, 0xfa, 0xff, 0xd9,
+            ],
+            &[0xfe, 0xff, 0x00, 0xeb, 0xfc, 0x00, 0x2b],
+        ),
+        (8, 8, &ONES, &[0x2b, 0xff, 0xd9, 0xff, 0xd8, 0x00], &[0x2b]),
+    ];
+    for (i, (width, height, quants, data, wanted)) in rows.iter().enumerate() {
+        let mut input = head(rt.alloc(), *width, *height, quants)?;
+        input.push_all(data)?;
+        let mut output = head(rt.alloc(), *width, *height, quants)?;
+        output.push_all(wanted)?;
+        output.push_all(&END)?;
+        for piece in [1, 2, 3, 100, 65536] {
+            let mut desk = desk_with(rt.alloc(), input.as_slice(), piece)?;
+            let ended = run(rt.alloc(), flip.as_slice(), &mut desk);
+            let done = Ended {
+                code: 0,
+                why: Why::Done,
+            };
+            assert_eq!(rt; ended, done, "file {i} by {piece}");
+            assert!(rt;
+                written(&desk) == Some(output.as_slice()),
+                "file {i} by {piece}"
+            );
+            assert!(rt; desk.said().is_empty(), "file {i} by {piece}");
+        }
+    }
+    Ok(())
+}
+
+#[test]
+fn other_files_are_refused(rt: HostRuntime) -> Result<(), Fail> {
+    let flip = strings(rt.alloc(), &FLIP)?;
+    let mut first = ONES;
+    first[0] = 0;
+    let mut last = ONES;
+    last[63] = 0;
+    let rows: [(u16, u16, &[u8; 64], &[u8], u64, &str); 14] = [
+        (8, 8, &ONES, &[0x2b, 0xff], 330, "330"),
+        (8, 8, &ONES, &[0x2b], 329, "329"),
+        (8, 8, &ONES, &[0x2b, 0xff, 0xff, 0xd9], 332, "332"),
+        (8, 8, &ONES, &[0x2b, 0xff, 0xda], 331, "331"),
+        (8, 8, &ONES, &[0x2b, 0xff, 0xd0, 0xff, 0xd9], 333, "333"),
+        (8, 8, &first, &[0x2b, 0xff, 0xd9], 331, "331"),
+        (8, 8, &last, &[0x2b, 0xff, 0xd9], 331, "331"),
+        (12, 8, &ONES, &[0x2b, 0xff, 0xd9], 331, "331"),
+        (8, 12, &ONES, &[0x2b, 0xff, 0xd9], 331, "331"),
+        (0, 8, &ONES, &[0x2b, 0xff, 0xd9], 331, "331"),
+        (8, 0, &ONES, &[0x2b, 0xff, 0xd9], 331, "331"),
+        (16, 8, &ONES, &[0x2b, 0xff, 0xd9], 331, "331"),
+        (8, 8, &ONES, &[0x2b, 0x00, 0xff, 0xd9], 332, "332"),
+        (8, 8, &ONES, &[0xff, 0xd9], 330, "330"),
+    ];
+    for (i, (width, height, quants, data, at, place)) in rows.iter().enumerate() {
+        let mut input = head(rt.alloc(), *width, *height, quants)?;
+        input.push_all(data)?;
+        let mut message = Bytes::new(rt.alloc());
+        message.push_all(b"jpegtran: refused: NotBuilt at byte ")?;
+        message.push_all(place.as_bytes())?;
+        message.push_all(b"\n")?;
+        let mut desk = desk_with(rt.alloc(), input.as_slice(), 100)?;
+        let ended = run(rt.alloc(), flip.as_slice(), &mut desk);
+        let refused = Ended {
+            code: 1,
+            why: not_built(*at),
+        };
+        assert_eq!(rt; ended, refused, "file {i}");
+        assert_eq!(rt; desk.outputs(), 0, "file {i}");
+        assert_eq!(rt; desk.said(), message.as_slice(), "file {i}");
+    }
+    let short: [(&[u8], u64, &[u8]); 2] = [
+        (b"", 0, b"jpegtran: refused: NotBuilt at byte 0\n"),
+        (b"GIF", 3, b"jpegtran: refused: NotBuilt at byte 3\n"),
+    ];
+    for (input, at, message) in short {
+        let mut desk = desk_with(rt.alloc(), input, 1)?;
+        let ended = run(rt.alloc(), flip.as_slice(), &mut desk);
+        let refused = Ended {
+            code: 1,
+            why: not_built(at),
+        };
+        assert_eq!(rt; ended, refused, "{input:?}");
+        assert_eq!(rt; desk.outputs(), 0, "{input:?}");
+        assert_eq!(rt; desk.said(), message, "{input:?}");
+    }
+    Ok(())
+}
+
+fn no_failures() -> Counts {
+    Counts {
+        opens: 0,
+        reads: 0,
+        writes: 0,
+        says: 0,
+    }
+}
+
+fn usage(fault: UsageFault) -> Why {
+    Why::Usage(Usage { fault, word: 0 })
+}
+
+// There is no input, so that an open would fail and raise its count.
+#[test]
+fn other_words_open_nothing(rt: HostRuntime) -> Result<(), Fail> {
+    let rows: [(&[&str], Why, &str); 6] = [
+        (
+            &[],
+            usage(UsageFault::NoTool),
+            "jpgsuite: usage: NoTool at word 0\n",
+        ),
+        (
+            &["frob"],
+            usage(UsageFault::UnknownTool),
+            "jpgsuite: usage: UnknownTool at word 0\n",
+        ),
+        (
+            &["djpeg"],
+            not_built(0),
+            "djpeg: refused: NotBuilt at byte 0\n",
+        ),
+        (
+            &["jpegtran", "-flip", "vertical"],
+            not_built(0),
+            "jpegtran: refused: NotBuilt at byte 0\n",
+        ),
+        (
+            &["jpegtran", "-flip", "horizontal", "x"],
+            not_built(0),
+            "jpegtran: refused: NotBuilt at byte 0\n",
+        ),
+        (
+            &["cjpeg", "-flip", "horizontal"],
+            not_built(0),
+            "cjpeg: refused: NotBuilt at byte 0\n",
+        ),
+    ];
+    for (i, (words, why, message)) in rows.iter().enumerate() {
+        let words = strings(rt.alloc(), words)?;
+        let mut desk = MemoryDesk::new(rt.alloc(), 1);
+        let ended = run(rt.alloc(), words.as_slice(), &mut desk);
+        assert_eq!(rt; ended, Ended { code: 1, why: *why }, "words {i}");
+        assert_eq!(rt; desk.outputs(), 0, "words {i}");
+        assert_eq!(rt; desk.counts(), no_failures(), "words {i}");
+        assert_eq!(rt; desk.said(), message.as_bytes(), "words {i}");
+    }
+    Ok(())
+}
+
+// The calls are an open, a read, a read at the end, a create and a write, and none says anything.
+#[test]
+fn failing_calls_end_the_run(rt: HostRuntime) -> Result<(), Fail> {
+    let flip = strings(rt.alloc(), &FLIP)?;
+    let mut input = head(rt.alloc(), 8, 8, &ONES)?;
+    input.push_all(&[0x2b, 0xff, 0xd9])?;
+    let rows: [(u64, u8, Why, u32, &str); 6] = [
+        (
+            1,
+            1,
+            Why::OpenFault(Which::Input),
+            0,
+            "jpegtran: can't open input\n",
+        ),
+        (
+            2,
+            1,
+            Why::ReadFault(Which::Input),
+            0,
+            "jpegtran: can't read input\n",
+        ),
+        (
+            3,
+            1,
+            Why::ReadFault(Which::Input),
+            0,
+            "jpegtran: can't read input\n",
+        ),
+        (
+            4,
+            1,
+            Why::OpenFault(Which::Output),
+            0,
+            "jpegtran: can't open output\n",
+        ),
+        (5, 1, Why::WriteFault, 1, "jpegtran: can't write output\n"),
+        (6, 0, Why::Done, 1, ""),
+    ];
+    for (call, code, why, outputs, message) in rows {
+        let mut desk = desk_with(rt.alloc(), input.as_slice(), 400)?;
+        desk.fail(call)?;
+        let ended = run(rt.alloc(), flip.as_slice(), &mut desk);
+        assert_eq!(rt; ended, Ended { code, why }, "at call {call}");
+        assert_eq!(rt; desk.outputs(), outputs, "at call {call}");
+        assert_eq!(rt; desk.said(), message.as_bytes(), "at call {call}");
+        // the file turned is the same
+        if let Some(bytes) = written(&desk) {
+            assert!(rt; input.as_slice().starts_with(bytes), "at call {call}");
+            assert_eq!(rt; bytes.len() < 331, call == 5, "at call {call}");
+        }
+    }
+    Ok(())
+}
+
+// A message that fails changes no answer.
+#[test]
+fn a_failing_message_changes_nothing(rt: HostRuntime) -> Result<(), Fail> {
+    let frob = strings(rt.alloc(), &["frob"])?;
+    let mut desk = MemoryDesk::new(rt.alloc(), 1);
+    desk.fail(1)?;
+    let ended = run(rt.alloc(), frob.as_slice(), &mut desk);
+    let why = usage(UsageFault::UnknownTool);
+    assert_eq!(rt; ended, Ended { code: 1, why });
+    assert!(rt; b"jpgsuite: usage: UnknownTool at word 0\n".starts_with(desk.said()));
+    assert_eq!(rt; desk.counts().says, 1);
+    Ok(())
+}
+
+// The lengths and the codes of the categories 0 to 11 (K.3).
+static DC_CODES: [(u32, u32); 12] = [
+    (2, 0b00),
+    (3, 0b010),
+    (3, 0b011),
+    (3, 0b100),
+    (3, 0b101),
+    (3, 0b110),
+    (4, 0b1110),
+    (5, 0b1_1110),
+    (6, 0b11_1110),
+    (7, 0b111_1110),
+    (8, 0b1111_1110),
+    (9, 0b1_1111_1110),
+];
+
+// Runs of zeros and sizes of the value behind them, with the lengths and the codes (K.5). A run of
+// 17 takes two codes.
+static AC_CODES: [(u32, u32, u32, u32); 15] = [
+    (0, 1, 2, 0x0),
+    (0, 2, 2, 0x1),
+    (0, 3, 3, 0x4),
+    (0, 5, 5, 0x1a),
+    (0, 8, 10, 0x3f6),
+    (0, 10, 16, 0xff83),
+    (1, 1, 4, 0xc),
+    (1, 4, 9, 0x1f6),
+    (2, 2, 8, 0xf9),
+    (3, 3, 12, 0xff5),
+    (5, 1, 7, 0x7a),
+    (7, 2, 12, 0xff7),
+    (10, 10, 16, 0xffcf),
+    (15, 5, 16, 0xfff9),
+    (17, 1, 15, 0x7f9c),
+];
+
+#[derive(Drop)]
+struct Spelling {
+    file: Bytes,
+    byte: u8,
+    count: u8,
+    state: u32,
+}
+
+impl Spelling {
+    fn bit(&mut self, bit: u8) -> Result<(), NoMemory> {
+        self.byte = (self.byte << 1) | bit;
+        self.count = self.count.wrapping_add(1) % 8;
+        if self.count == 0 {
+            self.file.push_all(&[self.byte])?;
+            if self.byte == 0xff {
+                self.file.push_all(&[0])?;
+            }
+        }
+        Ok(())
+    }
+
+    // The last `count` bits of a number.
+    fn put(&mut self, bits: u32, count: u32) -> Result<(), NoMemory> {
+        for i in 0..count {
+            self.bit(((bits >> ((count - 1 - i) % 32)) % 2) as u8)?;
+        }
+        Ok(())
+    }
+
+    // A number that looks random.
+    fn next(&mut self) -> u32 {
+        self.state = self.state.wrapping_mul(1664525).wrapping_add(1013904223);
+        self.state >> 16
+    }
+
+    // A DC in 0..2048, behind the one before it; a negative difference has the bits of its
+    // magnitude exchanged.
+    fn dc(&mut self, last: u32) -> Result<u32, NoMemory> {
+        let dc = self.next() % 2048;
+        let size = 32 - dc.abs_diff(last).leading_zeros();
+        let (length, code) = DC_CODES[size as usize % 12];
+        self.put(code, length)?;
+        if dc < last {
+            self.put(!last.abs_diff(dc), size)?;
+        } else {
+            self.put(dc.abs_diff(last), size)?;
+        }
+        Ok(dc)
+    }
+
+    fn block(&mut self, last: u32) -> Result<u32, NoMemory> {
+        let dc = self.dc(last)?;
+        let mut left = 63;
+        for _ in 0..20 {
+            let (run, size, length, code) = AC_CODES[self.next() as usize % 15];
+            if run < left {
+                left -= run + 1;
+                self.put(code, length)?;
+                let value = self.next();
+                self.put(value, size)?;
+            }
+        }
+        if left > 0 {
+            self.put(0b1010, 4)?;
+        }
+        Ok(dc)
+    }
+}
+
+// A file of 4096 blocks.
+fn large(alloc: Global) -> Result<Bytes, NoMemory> {
+    let mut spelling = Spelling {
+        file: head(alloc, 512, 512, &OTHERS)?,
+        byte: 0,
+        count: 0,
+        state: 1,
+    };
+    let mut last = 1024;
+    for _ in 0..4096 {
+        last = spelling.block(last)?;
+    }
+    for _ in 0..7 {
+        if spelling.count != 0 {
+            spelling.bit(1)?;
+        }
+    }
+    spelling.file.push_all(&END)?;
+    Ok(spelling.file)
+}
+
+// A sum that tells files apart.
+fn sum(bytes: &[u8]) -> u32 {
+    let mut sum = 0u32;
+    for byte in bytes {
+        sum = sum.wrapping_mul(31).wrapping_add(u32::from(*byte));
+    }
+    sum
+}
+
+// Another program gave the lengths and the sums of the file and of the file turned.
+#[test]
+fn turned_twice_is_the_same(rt: HostRuntime) -> Result<(), Fail> {
+    let flip = strings(rt.alloc(), &FLIP)?;
+    let input = large(rt.alloc())?;
+    assert_eq!(rt;
+        (input.as_slice().len(), sum(input.as_slice())),
+        (112377, 1025178869)
+    );
+    let mut desk = desk_with(rt.alloc(), input.as_slice(), 65536)?;
+    let ended = run(rt.alloc(), flip.as_slice(), &mut desk);
+    assert_eq!(rt; ended.why, Why::Done);
+    let Some(turned) = written(&desk) else {
+        panic!(rt; "one output");
+    };
+    assert_eq!(rt; (turned.len(), sum(turned)), (112422, 2037273014));
+    let mut desk = desk_with(rt.alloc(), turned, 65536)?;
+    let ended = run(rt.alloc(), flip.as_slice(), &mut desk);
+    assert_eq!(rt; ended.why, Why::Done);
+    assert!(rt; written(&desk) == Some(input.as_slice()));
+    Ok(())
+}
