@@ -65,10 +65,8 @@ fn write_end<D: Desk>(out: &mut BitOut, desk: &mut D) -> Result<(), WriteFault>
     ensures emits { Emits (D.state desk.old) out.old.bytes end_of_image result out.new.bytes (D.state desk.new) }
     ensures nothing { out.new.bytes ≡ [] }
 {
-    match out.raw(&[0xff, 0xd9], desk) {
-        Err(fault) => Err(fault),
-        Ok(()) => out.flush(desk),
-    }
+    out.raw(&[0xff, 0xd9], desk)?;
+    out.flush(desk)
 }
 
 // The data of the picture's scan, and the end.
@@ -84,10 +82,8 @@ fn write_data<D: Desk>(
     ensures emits { Emits (D.state desk.old) out.old.bytes (data_of (plain_bits picture.now.blocks) ++ end_of_image) result out.new.bytes (D.state desk.new) }
     ensures nothing { out.new.bytes ≡ [] }
 {
-    match write_plain(&picture.blocks, &picture.frame, out, desk) {
-        Err(fault) => Err(fault),
-        Ok(()) => write_end(out, desk),
-    }
+    write_plain(&picture.blocks, &picture.frame, out, desk)?;
+    write_end(out, desk)
 }
 
 // The whole file, with one write of the desk for each full buffer.
@@ -98,10 +94,8 @@ fn write_file<D: Desk>(picture: &GrayPicture, desk: &mut D) -> Result<(), WriteF
     ensures all { WritesAll (D.state desk.old) (file_bytes picture.now) result (D.state desk.new) }
 {
     let mut out = BitOut::new();
-    match out.raw(picture_front(picture).as_slice(), desk) {
-        Err(fault) => Err(fault),
-        Ok(()) => write_data(picture, &mut out, desk),
-    }
+    out.raw(picture_front(picture).as_slice(), desk)?;
+    write_data(picture, &mut out, desk)
 }
 
 /// Creates standard output and writes the picture's file to it.

@@ -134,17 +134,13 @@ impl Buffer {
         ensures kept { OnlyWrites (D.state desk.old) (D.state desk.new) }
         ensures emits { Emits (D.state desk.old) self.old (stuffed (whole_bytes (bits_of 32 word))) result self.new (D.state desk.new) }
     {
-        match self.make_room(8, desk) {
-            Err(fault) => Err(fault),
-            Ok(()) => {
-                let a = ((word >> 24) % 256) as u8;
-                let b = ((word >> 16) % 256) as u8;
-                let c = ((word >> 8) % 256) as u8;
-                let d = (word % 256) as u8;
-                self.add_word(a, b, c, d);
-                Ok(())
-            }
-        }
+        self.make_room(8, desk)?;
+        let a = ((word >> 24) % 256) as u8;
+        let b = ((word >> 16) % 256) as u8;
+        let c = ((word >> 8) % 256) as u8;
+        let d = (word % 256) as u8;
+        self.add_word(a, b, c, d);
+        Ok(())
     }
 
     // The whole bytes of the low `count` bits, where there is room.
@@ -172,13 +168,9 @@ impl Buffer {
         ensures kept { OnlyWrites (D.state desk.old) (D.state desk.new) }
         ensures emits { Emits (D.state desk.old) self.old (stuffed (whole_bytes (bits_of count word))) result self.new (D.state desk.new) }
     {
-        match self.make_room(8, desk) {
-            Err(fault) => Err(fault),
-            Ok(()) => {
-                self.add_bits(word, count);
-                Ok(())
-            }
-        }
+        self.make_room(8, desk)?;
+        self.add_bits(word, count);
+        Ok(())
     }
 
     // Adds bytes, where there is room.
@@ -202,19 +194,14 @@ impl Buffer {
         ensures kept { OnlyWrites (D.state desk.old) (D.state desk.new) }
         ensures emits { Emits (D.state desk.old) self.old piece.now result self.new (D.state desk.new) }
     {
-        match self.make_room(piece.len().min(4096), desk) {
-            Err(fault) => Err(fault),
-            Ok(()) => {
-                if piece.len() <= 4096 {
-                    self.add_piece(piece);
-                    Ok(())
-                } else {
-                    match desk.write(piece) {
-                        Put::Done => Ok(()),
-                        Put::Failed => Err(WriteFault),
-                    }
-                }
-            }
+        self.make_room(piece.len().min(4096), desk)?;
+        if piece.len() <= 4096 {
+            self.add_piece(piece);
+            return Ok(());
+        }
+        match desk.write(piece) {
+            Put::Done => Ok(()),
+            Put::Failed => Err(WriteFault),
         }
     }
 }

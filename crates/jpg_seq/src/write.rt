@@ -42,10 +42,8 @@ fn put_value<D: Desk>(
     requires { (D.state desk.old).output_created ≡ true }
     ensures { HasPut (D.state desk.old) out.old (code_of (symbol_codes table.now) symbol ++ extra_of value) result out.new (D.state desk.new) }
 {
-    match put_code(table, symbol, out, desk) {
-        Ok(()) => out.put(extra_bits(value), category(value), desk),
-        Err(fault) => Err(fault),
-    }
+    put_code(table, symbol, out, desk)?;
+    out.put(extra_bits(value), category(value), desk)
 }
 
 // A value behind a run of zeros, of which each sixteen are a code of their own.
@@ -62,10 +60,8 @@ fn put_run<D: Desk>(
 {
     let mut left = run;
     while left >= 16 {
-        match put_code(ac, 0xf0, out, desk) {
-            Ok(()) => left -= 16,
-            Err(fault) => return Err(fault),
-        }
+        put_code(ac, 0xf0, out, desk)?;
+        left -= 16;
     }
     let value = i32::from(value);
     put_value(ac, 16 * left + category(value), value, out, desk)
@@ -89,10 +85,8 @@ fn put_band<D: Desk>(
         if value == 0 {
             run += 1;
         } else {
-            match put_run(ac, run, value, out, desk) {
-                Ok(()) => run = 0,
-                Err(fault) => return Err(fault),
-            }
+            put_run(ac, run, value, out, desk)?;
+            run = 0;
         }
     }
     if run > 0 {
@@ -121,10 +115,8 @@ fn put_block<D: Desk>(
     ensures { HasPut (D.state desk.old) out.old (block_bits (symbol_codes dc.now) (symbol_codes ac.now) prediction block.now) result out.new (D.state desk.new) }
 {
     let value = difference(block.get(0), prediction);
-    match put_value(dc, category(value), value, out, desk) {
-        Ok(()) => put_band(ac, block, out, desk),
-        Err(fault) => Err(fault),
-    }
+    put_value(dc, category(value), value, out, desk)?;
+    put_band(ac, block, out, desk)
 }
 
 fn put_blocks<D: Desk>(
@@ -141,10 +133,8 @@ fn put_blocks<D: Desk>(
     let mut prediction = 0;
     for i in 0..blocks.len() {
         let block = blocks.get(i);
-        match put_block(dc, ac, prediction, &block, out, desk) {
-            Ok(()) => prediction = block.get(0),
-            Err(fault) => return Err(fault),
-        }
+        put_block(dc, ac, prediction, &block, out, desk)?;
+        prediction = block.get(0);
     }
     Ok(())
 }
@@ -167,8 +157,6 @@ pub fn write_plain<D: Desk>(
 {
     let dc = typical(Typical::DcLuma);
     let ac = typical(Typical::AcLuma);
-    match put_blocks(&dc, &ac, blocks, out, desk) {
-        Ok(()) => out.pad(desk),
-        Err(fault) => Err(fault),
-    }
+    put_blocks(&dc, &ac, blocks, out, desk)?;
+    out.pad(desk)
 }

@@ -3,6 +3,7 @@ use mir.Syntax.{w16}
 use mir.Val.{SFits, to_z, of_z}
 use Rattle.std.specs.Prelude.{slice_index_or}
 use Rattle.std.proofs.lemmas.Int.{to_z-of_z}
+use Rattle.std.proofs.lemmas.Result.{err_from_is_err_and}
 use Rattle.jpg_spec.specs.Numbers.{category}
 use Rattle.jpg_spec.specs.ScanText.{code_of}
 use Rattle.jpg_huff.specs.Tables.{symbol_codes}
@@ -11,7 +12,7 @@ use Rattle.jpg_seq.proofs.Bands.{left_bits, left_all, left_zero, left_value, lef
 use Rattle.jpg_seq.proofs.Blocks.{left_at, left_end}
 use Rattle.jpg_seq.proofs.HasPut.{part_start, part_same, part_then, part_last, part_end, part_fault}
 use Rattle.jpg_seq.proofs.write.put_band.Goals as goal
-use Rattle.jpg_seq.proofs.write.put_band.Goals.{then-value-eq0, else-value-eq0+in-Ok}
+use Rattle.jpg_seq.proofs.write.put_band.Goals.{then-value-eq0, else-value-eq0+in_ok-put_run}
 
 pub loop-k-init : goal.loop-k-init
 loop-k-init g c =
@@ -29,8 +30,8 @@ put_run-requires-clause-short g c =
     let e : to_z w16 (of_z w16 c.get-value.result) ≡ slice_index_or c.args.block.now c.loop-k.k (pos 0) = to_z-of_z w16 c.get-value.result f ∙ c.get-value.ensures.value in
     subst (λ v. category v ≤ 15) (sym e) (c.requires.short c.loop-k.k (omega (arith, c.loop-k.invariant.few)) (omega (arith, c.loop-k-test.true)))
 
-pub returns-in-Err : goal.returns-in-Err
-returns-in-Err g c =
+pub returns-in_err-put_run : goal.returns-in_err-put_run
+returns-in_err-put_run g c =
     let state = g.D.Desk.state in
     let codes = symbol_codes c.args.ac.now in
     let block = c.args.block.now in
@@ -43,8 +44,9 @@ returns-in-Err g c =
     let n : x ≢ pos 0 = λ z. c.if-value-eq0.false (ap (of_z w16) (c.get-value.ensures.value ∙ z)) in
     let l : k < length block = omega (arith, c.loop-k-test.true, c.long.ensures) in
     let s = left_at codes block k run l ∙ left_value codes x (drop (k + 1) block) run n ∙ ap (λ w. run_bits codes run w ++ left_bits codes (drop (k + 1) block) 0) (sym e) in
-    part_fault (state c.args.desk.now) (state c.loop-k.desk) (state c.put_run.new.desk) c.args.out.now c.loop-k.out c.put_run.new.out (band_bits codes (drop 1 block)) (left_bits codes (drop k block) run)
-    (run_bits codes run v) (left_bits codes (drop (k + 1) block) 0) c.in-Err.fault s c.loop-k.invariant.part c.in-Err.ensures
+    let back = err_from_is_err_and c.from_residual.result c.from_residual.ensures.1 in
+    rw (back.1, back.2) (part_fault (state c.args.desk.now) (state c.loop-k.desk) (state c.put_run.new.desk) c.args.out.now c.loop-k.out c.put_run.new.out (band_bits codes (drop 1 block)) (left_bits codes (drop k block) run)
+    (run_bits codes run v) (left_bits codes (drop (k + 1) block) 0) c.in_err-put_run.field-0.0 s c.loop-k.invariant.part c.in_err-put_run.ensures)
 
 pub loop-k-preserved : goal.loop-k-preserved
 loop-k-preserved g c =
@@ -71,14 +73,14 @@ loop-k-preserved g c =
             part = part_same (state c.args.desk.now) (state c.loop-k.desk) c.args.out.now c.loop-k.out all rest (left_bits codes (drop (k + 1) block) (run + 1)) s c.loop-k.invariant.part;
             few = omega (arith, c.loop-k.invariant.few);
           }))
-      | else-value-eq0+in-Ok w ↦
+      | else-value-eq0+in_ok-put_run w ↦
           (let n : x ≢ pos 0 = λ z. w.if-value-eq0.false (ap (of_z w16) (c.get-value.ensures.value ∙ z)) in
           let s : rest ≡ run_bits codes run v ++ left_bits codes (drop (k + 1) block) 0 = a ∙ left_value codes x (drop (k + 1) block) run n ∙ ap (λ y. run_bits codes run y ++ left_bits codes (drop (k + 1) block) 0) (sym e) in
           rw (w.out-is, w.desk-is, w.run-is)
           (record {
-            created = w.in-Ok.ensures.kept.output_created ∙ c.loop-k.invariant.created;
+            created = w.in_ok-put_run.ensures.kept.output_created ∙ c.loop-k.invariant.created;
             part = part_then (state c.args.desk.now) (state c.loop-k.desk) (state w.put_run.new.desk) c.args.out.now c.loop-k.out w.put_run.new.out all rest (run_bits codes run v)
-                (left_bits codes (drop (k + 1) block) 0) s c.loop-k.invariant.part w.in-Ok.ensures;
+                (left_bits codes (drop (k + 1) block) 0) s c.loop-k.invariant.part w.in_ok-put_run.ensures;
             few = omega arith;
           }))
     ]

@@ -3,6 +3,7 @@ use mir.Syntax.{w16, w32}
 use mir.Val.{SFits, to_z, of_z}
 use Rattle.std.specs.Prelude.{slice_index_or, ◌-ℤ◌}
 use Rattle.std.proofs.lemmas.Int.{to_z-of_z}
+use Rattle.std.proofs.lemmas.Result.{err_from_is_err_and}
 use Rattle.jpg_spec.specs.Numbers.{category, extra_bits}
 use Rattle.jpg_spec.specs.ScanText.{code_of}
 use Rattle.jpg_huff.specs.Tables.{symbol_codes}
@@ -10,9 +11,9 @@ use Rattle.jpg_seq.specs.PlainText.{band_bits, block_bits}
 use Rattle.jpg_seq.proofs.HasPut.{put_same, put_then, put_fault}
 use Rattle.jpg_seq.proofs.write.put_block.Goals as goal
 
-pub returns-in-Ok : goal.returns-in-Ok
+pub returns : goal.returns
 unfolding block_bits
-returns-in-Ok g c =
+returns g c =
     let state = g.D.Desk.state in
     let d = slice_index_or c.args.block.now 0 (pos 0) -ℤ c.args.prediction in
     let w = to_z w32 (of_z w32 c.difference-value.result) in
@@ -24,11 +25,11 @@ returns-in-Ok g c =
     ∙ ap (λ x. x -ℤ to_z w16 (of_z w16 c.args.prediction)) (to_z-of_z w16 c.get.result fv ∙ c.get.ensures.value) ∙ ap (λ x. slice_index_or c.args.block.now 0 (pos 0) -ℤ x) (to_z-of_z w16 c.args.prediction fp) in
     let q = ap (λ n. code_of dc n ++ extra_bits w) c.category.ensures.category ∙ ap (λ x. code_of dc (category x) ++ extra_bits x) e in
     put_then (state c.args.desk.now) (state c.put_value.new.desk) (state c.put_band.new.desk) c.args.out.now c.put_value.new.out c.put_band.new.out (code_of dc (category d) ++ extra_bits d)
-    (band_bits (symbol_codes c.args.ac.now) (drop 1 c.args.block.now)) c.put_band.result (put_same _ _ _ _ _ _ _ q c.in-Ok.ensures) c.put_band.ensures
+    (band_bits (symbol_codes c.args.ac.now) (drop 1 c.args.block.now)) c.put_band.result (put_same _ _ _ _ _ _ _ q c.in_ok-put_value.ensures) c.put_band.ensures
 
-pub returns-in-Err : goal.returns-in-Err
+pub returns-in_err-put_value : goal.returns-in_err-put_value
 unfolding block_bits
-returns-in-Err g c =
+returns-in_err-put_value g c =
     let state = g.D.Desk.state in
     let d = slice_index_or c.args.block.now 0 (pos 0) -ℤ c.args.prediction in
     let w = to_z w32 (of_z w32 c.difference-value.result) in
@@ -39,5 +40,6 @@ returns-in-Err g c =
     let e : w ≡ d = to_z-of_z w32 c.difference-value.result f ∙ c.difference-value.ensures
     ∙ ap (λ x. x -ℤ to_z w16 (of_z w16 c.args.prediction)) (to_z-of_z w16 c.get.result fv ∙ c.get.ensures.value) ∙ ap (λ x. slice_index_or c.args.block.now 0 (pos 0) -ℤ x) (to_z-of_z w16 c.args.prediction fp) in
     let q = ap (λ n. code_of dc n ++ extra_bits w) c.category.ensures.category ∙ ap (λ x. code_of dc (category x) ++ extra_bits x) e in
-    put_fault (state c.args.desk.now) (state c.put_value.new.desk) c.args.out.now c.put_value.new.out (code_of dc (category d) ++ extra_bits d) (band_bits (symbol_codes c.args.ac.now) (drop 1 c.args.block.now)) c.in-Err.fault
-    (put_same _ _ _ _ _ _ _ q c.in-Err.ensures)
+    let back = err_from_is_err_and c.from_residual.result c.from_residual.ensures.1 in
+    rw (back.1, back.2) (put_fault (state c.args.desk.now) (state c.put_value.new.desk) c.args.out.now c.put_value.new.out (code_of dc (category d) ++ extra_bits d) (band_bits (symbol_codes c.args.ac.now) (drop 1 c.args.block.now)) c.in_err-put_value.field-0.0
+    (put_same _ _ _ _ _ _ _ q c.in_err-put_value.ensures))

@@ -3,6 +3,7 @@ use mir.Syntax.{w16}
 use mir.Val.{SFits, to_z, of_z}
 use Rattle.std.specs.Prelude.{slice_index_or}
 use Rattle.std.proofs.lemmas.Int.{to_z-of_z}
+use Rattle.std.proofs.lemmas.Result.{err_from_is_err_and}
 use Rattle.jpg_huff.specs.Tables.{symbol_codes}
 use Rattle.jpg_seq.specs.PlainText.{block_bits, blocks_bits}
 use Rattle.jpg_seq.proofs.Blocks.{blocks_at, short_at}
@@ -17,8 +18,8 @@ loop-i-init g c =
 pub put_block-requires-clause-short : goal.put_block-requires-clause-short
 put_block-requires-clause-short g c = short_at c.args.blocks.now c.loop-i.i c.get-block.result c.requires.short c.get-block.ensures
 
-pub returns-in-Err : goal.returns-in-Err
-returns-in-Err g c =
+pub returns-in_err-put_block : goal.returns-in_err-put_block
+returns-in_err-put_block g c =
     let state = g.D.Desk.state in
     let dc = symbol_codes c.args.dc.now in
     let ac = symbol_codes c.args.ac.now in
@@ -26,8 +27,9 @@ returns-in-Err g c =
     let i = c.loop-i.i in
     let block = c.get-block.result in
     let p = to_z w16 c.loop-i.prediction-bits in
-    part_fault (state c.args.desk.now) (state c.loop-i.desk) (state c.put_block.new.desk) c.args.out.now c.loop-i.out c.put_block.new.out (blocks_bits dc ac (pos 0) blocks) (blocks_bits dc ac p (drop i blocks))
-    (block_bits dc ac p block) (blocks_bits dc ac (slice_index_or block 0 (pos 0)) (drop (i + 1) blocks)) c.in-Err.fault (blocks_at dc ac p blocks i block c.get-block.ensures) c.loop-i.invariant.part c.in-Err.ensures
+    let back = err_from_is_err_and c.from_residual.result c.from_residual.ensures.1 in
+    rw (back.1, back.2) (part_fault (state c.args.desk.now) (state c.loop-i.desk) (state c.put_block.new.desk) c.args.out.now c.loop-i.out c.put_block.new.out (blocks_bits dc ac (pos 0) blocks) (blocks_bits dc ac p (drop i blocks))
+    (block_bits dc ac p block) (blocks_bits dc ac (slice_index_or block 0 (pos 0)) (drop (i + 1) blocks)) c.in_err-put_block.field-0.0 (blocks_at dc ac p blocks i block c.get-block.ensures) c.loop-i.invariant.part c.in_err-put_block.ensures)
 
 pub loop-i-preserved : goal.loop-i-preserved
 loop-i-preserved g c =
@@ -42,8 +44,8 @@ loop-i-preserved g c =
     let later : blocks_bits dc ac (to_z w16 (of_z w16 c.get-prediction.result)) (drop (i + 1) blocks) ≡ blocks_bits dc ac (slice_index_or block 0 (pos 0)) (drop (i + 1) blocks) =
     ap (λ w. blocks_bits dc ac w (drop (i + 1) blocks)) (to_z-of_z w16 c.get-prediction.result f ∙ c.get-prediction.ensures.value) in
     record {
-      created = c.in-Ok.ensures.kept.output_created ∙ c.loop-i.invariant.created;
+      created = c.in_ok-put_block.ensures.kept.output_created ∙ c.loop-i.invariant.created;
       part = part_same (state c.args.desk.now) (state c.put_block.new.desk) c.args.out.now c.put_block.new.out (blocks_bits dc ac (pos 0) blocks) _ _ (sym later)
           (part_then (state c.args.desk.now) (state c.loop-i.desk) (state c.put_block.new.desk) c.args.out.now c.loop-i.out c.put_block.new.out (blocks_bits dc ac (pos 0) blocks) (blocks_bits dc ac p (drop i blocks))
-          (block_bits dc ac p block) (blocks_bits dc ac (slice_index_or block 0 (pos 0)) (drop (i + 1) blocks)) (blocks_at dc ac p blocks i block c.get-block.ensures) c.loop-i.invariant.part c.in-Ok.ensures);
+          (block_bits dc ac p block) (blocks_bits dc ac (slice_index_or block 0 (pos 0)) (drop (i + 1) blocks)) (blocks_at dc ac p blocks i block c.get-block.ensures) c.loop-i.invariant.part c.in_ok-put_block.ensures);
     }

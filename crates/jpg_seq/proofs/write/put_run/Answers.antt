@@ -2,6 +2,7 @@ use Rattle.std.proofs.Common.{◌≡◌, ◌+◌, ◌*◌, ◌-◌, ◌<◌, ◌
 use mir.Syntax.{w16, w32}
 use mir.Val.{SFits, to_z, of_z}
 use Rattle.std.proofs.lemmas.Int.{to_z-of_z}
+use Rattle.std.proofs.lemmas.Result.{err_from_is_err_and}
 use Rattle.jpg_spec.specs.Numbers.{category, extra_bits}
 use Rattle.jpg_spec.specs.ScanText.{code_of}
 use Rattle.jpg_huff.specs.Tables.{symbol_codes}
@@ -22,21 +23,22 @@ loop-left-preserved g c =
     let v = to_z w16 (of_z w16 c.args.value) in
     let left = c.loop-left.left in
     record {
-      created = c.in-Ok.ensures.kept.output_created ∙ c.loop-left.invariant.created;
+      created = c.in_ok-put_code.ensures.kept.output_created ∙ c.loop-left.invariant.created;
       part = part_then (state c.args.desk.now) (state c.loop-left.desk) (state c.put_code.new.desk) c.args.out.now c.loop-left.out c.put_code.new.out (run_bits codes c.args.run v)
-          (run_bits codes left v) (code_of codes 0xf0) (run_bits codes (left - 16) v) (run_more codes left v c.loop-left-test.true) c.loop-left.invariant.part c.in-Ok.ensures;
+          (run_bits codes left v) (code_of codes 0xf0) (run_bits codes (left - 16) v) (run_more codes left v c.loop-left-test.true) c.loop-left.invariant.part c.in_ok-put_code.ensures;
     }
 
-pub returns-in-Err : goal.returns-in-Err
-returns-in-Err g c =
+pub returns-in_err-put_code : goal.returns-in_err-put_code
+returns-in_err-put_code g c =
     let state = g.D.Desk.state in
     let codes = symbol_codes c.args.ac.now in
     let v = to_z w16 (of_z w16 c.args.value) in
     let left = c.loop-left.left in
     let f : SFits w16 c.args.value = search rules in
     let h = part_fault (state c.args.desk.now) (state c.loop-left.desk) (state c.put_code.new.desk) c.args.out.now c.loop-left.out c.put_code.new.out (run_bits codes c.args.run v) (run_bits codes left v)
-    (code_of codes 0xf0) (run_bits codes (left - 16) v) c.in-Err.fault (run_more codes left v c.loop-left-test.true) c.loop-left.invariant.part c.in-Err.ensures in
-    put_same _ _ _ _ _ _ _ (ap (run_bits codes c.args.run) (to_z-of_z w16 c.args.value f)) h
+    (code_of codes 0xf0) (run_bits codes (left - 16) v) c.in_err-put_code.field-0.0 (run_more codes left v c.loop-left-test.true) c.loop-left.invariant.part c.in_err-put_code.ensures in
+    let back = err_from_is_err_and c.from_residual.result c.from_residual.ensures.1 in
+    rw (back.1, back.2) (put_same _ _ _ _ _ _ _ (ap (run_bits codes c.args.run) (to_z-of_z w16 c.args.value f)) h)
 
 pub returns : goal.returns
 returns g c =

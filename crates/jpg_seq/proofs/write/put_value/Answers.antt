@@ -2,6 +2,7 @@ use Rattle.std.proofs.Common.{◌≡◌, ap, subst, ◌∙◌, rules}
 use mir.Syntax.{w32}
 use mir.Val.{SFits}
 use Rattle.std.proofs.lemmas.Int.{to_z-of_z}
+use Rattle.std.proofs.lemmas.Result.{err_from_is_err_and}
 use Rattle.jpg_spec.specs.Bits.{bits_of}
 use Rattle.jpg_spec.specs.Numbers.{extra_bits}
 use Rattle.jpg_spec.specs.ScanText.{code_of}
@@ -10,16 +11,17 @@ use Rattle.jpg_huff.specs.BitOut.{Puts}
 use Rattle.jpg_seq.proofs.HasPut.{put_then, put_fault}
 use Rattle.jpg_seq.proofs.write.put_value.Goals as goal
 
-pub returns-in-Ok : goal.returns-in-Ok
-returns-in-Ok g c =
+pub returns : goal.returns
+returns g c =
     let state = g.D.Desk.state in
     let f : SFits w32 c.args.value = search rules in
     let e : bits_of c.category.result c.extra_bits.result ≡ extra_bits c.args.value = ap (λ n. bits_of n c.extra_bits.result) c.category.ensures.category ∙ c.extra_bits.ensures.extra ∙ ap extra_bits (to_z-of_z w32 c.args.value f) in
     let puts = subst (λ bits. Puts (state c.put_code.new.desk) c.put_code.new.out bits c.put.result c.put.new.self (state c.put.new.desk)) e c.put.ensures.puts in
-    put_then (state c.args.desk.now) (state c.put_code.new.desk) (state c.put.new.desk) c.args.out.now c.put_code.new.out c.put.new.self (code_of (symbol_codes c.args.table.now) c.args.symbol) (extra_bits c.args.value) c.put.result c.in-Ok.ensures
+    put_then (state c.args.desk.now) (state c.put_code.new.desk) (state c.put.new.desk) c.args.out.now c.put_code.new.out c.put.new.self (code_of (symbol_codes c.args.table.now) c.args.symbol) (extra_bits c.args.value) c.put.result c.in_ok-put_code.ensures
     (record { kept = c.put.ensures.kept; puts = puts })
 
-pub returns-in-Err : goal.returns-in-Err
-returns-in-Err g c =
+pub returns-in_err-put_code : goal.returns-in_err-put_code
+returns-in_err-put_code g c =
     let state = g.D.Desk.state in
-    put_fault (state c.args.desk.now) (state c.put_code.new.desk) c.args.out.now c.put_code.new.out (code_of (symbol_codes c.args.table.now) c.args.symbol) (extra_bits c.args.value) c.in-Err.fault c.in-Err.ensures
+    let back = err_from_is_err_and c.from_residual.result c.from_residual.ensures.1 in
+    rw (back.1, back.2) (put_fault (state c.args.desk.now) (state c.put_code.new.desk) c.args.out.now c.put_code.new.out (code_of (symbol_codes c.args.table.now) c.args.symbol) (extra_bits c.args.value) c.in_err-put_code.field-0.0 c.in_err-put_code.ensures)

@@ -1,9 +1,13 @@
-use Rattle.std.proofs.Common.{[]}
+use Rattle.std.proofs.Common.{[], sym, subst, ap, ◌∙◌, Err}
+use Rattle.std.proofs.lemmas.Result.{err_from_is_err_and}
 use Rattle.jpg_spec.specs.Bits.{bits_of, stuffed, whole_bytes}
+use Rattle.jpg_huff.specs.Out.{Emits}
 use Rattle.jpg_huff.proofs.Emitted.{emits_fault}
 use Rattle.jpg_huff.proofs.buffer.Buffer.push_bits.Goals as goal
 
-pub returns-in-Err-clause-emits : goal.returns-in-Err-clause-emits
-returns-in-Err-clause-emits g c =
+pub returns-in_err-make_room-clause-emits : goal.returns-in_err-make_room-clause-emits
+returns-in_err-make_room-clause-emits g c =
     let state = g.D.Desk.state in
-    emits_fault (state c.args.desk.now) (state c.make_room.new.desk) c.args.self.now [] (stuffed (whole_bytes (bits_of c.args.count c.args.word))) c.make_room.new.self c.in-Err.fault c.in-Err.ensures.emits
+    let back = err_from_is_err_and c.from_residual.result c.from_residual.ensures.1 in
+    subst (λ r. Emits (state c.args.desk.now) c.args.self.now (stuffed (whole_bytes (bits_of c.args.count c.args.word))) r c.make_room.new.self (state c.make_room.new.desk)) (sym (back.1 ∙ ap Err back.2))
+    (emits_fault (state c.args.desk.now) (state c.make_room.new.desk) c.args.self.now [] (stuffed (whole_bytes (bits_of c.args.count c.args.word))) c.make_room.new.self c.in_err-make_room.field-0.0 c.in_err-make_room.ensures.emits)
