@@ -8,14 +8,18 @@ use Rattle.jpg_huff.specs.declared.table.Table.{Table}
 use Rattle.jpg_huff.specs.declared.new.TableFault.{TableFault}
 use Rattle.jpg_huff.specs.declared.new.TableFault.TheVariants.{TooManyCodes, ShortValues, OverfullCodes}
 
--- the counts and as many of the values, and they are right
+-- the counts, and as many of the values
+abbrev pub table_from : List ℕ → List ℕ → HuffmanTable
+table_from bits values = record { counts = bits; symbols = take (sum bits) values }
+
+-- a table of them, where they are right
 pub record IsMade (bits values : List ℕ) (t : Table) : Type 0 where
-  pub table : (let made : HuffmanTable = record { counts = bits; symbols = take (sum bits) values } in table_of t ≡ made)
+  pub table : table_of t ≡ table_from bits values
   pub most : sum bits ≤ 256
   pub many : sum bits ≤ length values
   pub fit : are_codes 1 0 bits ≡ true
 
--- the first thing that is wrong
+-- what is wrong, and nothing that is asked before it
 abbrev pub IsFault : List ℕ → List ℕ → TableFault → Type 0
 IsFault bits values TooManyCodes = 256 < sum bits
 IsFault bits values ShortValues = (sum bits ≤ 256) × (length values < sum bits)

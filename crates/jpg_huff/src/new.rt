@@ -21,7 +21,7 @@ pub enum TableFault {
 impl Table {
     /// The table of so many codes of each length from 1 to 16, for the first of the values in their
     /// order (T.81 B.2.4.2 and Annex C). Later values aren't looked at. A symbol may stand twice, and
-    /// no codes make a table too. The first fault is answered, in the order of the variants.
+    /// a table may have no codes. Of several faults the first in the order of the variants is answered.
     pub fn new(bits: &[u8; 16], values: &[u8]) -> Result<Table, TableFault>
         ensures { IsNew bits.now values.now result }
     {
@@ -123,7 +123,12 @@ fn keep_symbols(values: &[u8]) -> [u8; 256]
 }
 
 // What is written for each symbol.
-fn encode(bits: &[u8; 16], symbols: &[u8; 256], firsts: &[u32; 16], starts: &[u16; 16]) -> [u32; 256]
+fn encode(
+    bits: &[u8; 16],
+    symbols: &[u8; 256],
+    firsts: &[u32; 16],
+    starts: &[u16; 16],
+) -> [u32; 256]
     requires { (sum bits.now ≤ 256) × AreFirsts bits.now firsts.now × AreStarts bits.now starts.now }
     ensures { IsEncoder (codes bits.now symbols.now) result }
 {
@@ -143,30 +148,30 @@ fn no_entries() -> [u32; 256]
     [0; 256]
 }
 
-// The codes of one length, from this number on.
-fn add_level(encoder: &mut [u32; 256], symbols: &[u8], bits: u32, first: u32)
-    requires length { (1 ≤ bits) × (bits ≤ 16) }
-    requires fits { first + length symbols.now < 2 ^ bits }
+// The codes of one length in bits, from this number on.
+fn add_level(encoder: &mut [u32; 256], symbols: &[u8], size: u32, first: u32)
+    requires length { (1 ≤ size) × (size ≤ 16) }
+    requires fits { first + length symbols.now < 2 ^ size }
     requires entries { AreEntries encoder.old }
-    ensures adds { Leads encoder.old (codes_at (length symbols.now) bits first symbols.now) encoder.new [] }
+    ensures adds { Leads encoder.old (codes_at (length symbols.now) size first symbols.now) encoder.new [] }
     ensures entries { AreEntries encoder.new }
 {
     let mut number = first;
     for i in 0..symbols.len() {
-        add(encoder, symbols[i], bits, number);
+        add(encoder, symbols[i], size, number);
         number += 1;
     }
 }
 
-// One code, where its symbol has none yet.
-fn add(encoder: &mut [u32; 256], symbol: u8, bits: u32, number: u32)
-    requires length { (1 ≤ bits) × (bits ≤ 16) }
-    requires fits { number < 2 ^ bits }
+// One code of that many bits, where its symbol has none yet.
+fn add(encoder: &mut [u32; 256], symbol: u8, size: u32, number: u32)
+    requires length { (1 ≤ size) × (size ≤ 16) }
+    requires fits { number < 2 ^ size }
     requires entries { AreEntries encoder.old }
-    ensures adds { Leads encoder.old ((bits_of bits number, symbol) ∷ []) encoder.new [] }
+    ensures adds { Leads encoder.old ((bits_of size number, symbol) ∷ []) encoder.new [] }
     ensures entries { AreEntries encoder.new }
 {
     if encoder[symbol as usize] == 0 {
-        encoder[symbol as usize] = 65536 * bits + number;
+        encoder[symbol as usize] = 65536 * size + number;
     }
 }

@@ -15,7 +15,7 @@ loop-i-preserved c =
       due = omega (arith, i.due);
       entries = c.add.ensures.entries;
       leads = λ s h.
-          leads_more (entry_code (get_or c.loop-i.encoder s 0)) (entry_code (get_or c.add.new.encoder s 0)) ((bits_of c.args.bits c.loop-i.number, get_or symbols n 0) ∷ []) (codes_at (length symbols - (n + 1)) c.args.bits (c.loop-i.number + 1) (drop (n + 1) symbols)) s (c.add.ensures.adds s h)
-          ∙ ap (λ l. or_else (entry_code (get_or c.loop-i.encoder s 0)) (first_code l s)) (sym (code_split symbols c.args.bits c.loop-i.number n (omega arith)))
+          leads_more (entry_code (get_or c.loop-i.encoder s 0)) (entry_code (get_or c.add.new.encoder s 0)) ((bits_of c.args.size c.loop-i.number, get_or symbols n 0) ∷ []) (codes_at (length symbols - (n + 1)) c.args.size (c.loop-i.number + 1) (drop (n + 1) symbols)) s (c.add.ensures.adds s h)
+          ∙ ap (λ l. or_else (entry_code (get_or c.loop-i.encoder s 0)) (first_code l s)) (sym (code_split symbols c.args.size c.loop-i.number n (omega arith)))
           ∙ i.leads s h;
     }

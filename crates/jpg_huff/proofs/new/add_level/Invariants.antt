@@ -8,5 +8,5 @@ invariant-loop-i l =
     record {
       due : l.number ≡ l.first + l.i;
       entries : AreEntries l.encoder;
-      leads : Leads l.fn.encoder (codes_at (length l.symbols) l.bits l.first l.symbols) l.encoder (codes_at (length l.symbols - l.i) l.bits l.number (drop l.i l.symbols));
+      leads : Leads l.fn.encoder (codes_at (length l.symbols) l.size l.first l.symbols) l.encoder (codes_at (length l.symbols - l.i) l.size l.number (drop l.i l.symbols));
     }

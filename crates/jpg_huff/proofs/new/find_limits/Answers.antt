@@ -31,5 +31,5 @@ loop-left-preserved c =
       low = omega arith;
       is = here;
       done = set_down c.loop-left.limits p c.div_ceil-limit.result 16 (λ k. limit_from (first_number c.args.bits.now k) (drop k c.args.bits.now)) (omega (arith, i.size)) here
-      (λ k a b. i.done k (omega arith) b);
+          (λ k a b. i.done k (omega arith) b);
     }

@@ -13,7 +13,7 @@ invariant_of-result c =
     let size : length symbols ≡ 256 = omega arith in
     record {
       indexed = subst (λ n. IsIndexed bits n c.in-Some.firsts c.count_shorter-starts.result c.find_limits.result) (sym size)
-      (made_indexed bits c.in-Some.firsts c.count_shorter-starts.result c.find_limits.result (omega arith) (omega (arith, c.count_all-total.ensures)) c.in-Some.ensures.firsts c.count_shorter-starts.ensures c.find_limits.ensures);
+          (made_indexed bits c.in-Some.firsts c.count_shorter-starts.result c.find_limits.result (omega arith) (omega (arith, c.count_all-total.ensures)) c.in-Some.ensures.firsts c.count_shorter-starts.ensures c.find_limits.ensures);
       summed = c.count_all-total.ensures;
       encoded = subst (λ l. IsEncoder l c.encode.result) (sym e) c.encode.ensures;
     }
