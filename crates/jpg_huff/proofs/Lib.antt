@@ -1,5 +1,6 @@
 pub mod Emitted
 pub mod Levels
+pub mod Made
 pub mod Packed
 pub mod Steps
 pub mod Computed

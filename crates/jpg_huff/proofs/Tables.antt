@@ -12,7 +12,7 @@ use Rattle.jpg_huff.specs.Laws.{IsTable, AreApart}
 use Rattle.jpg_huff.proofs.Steps.{are_codes}
 use Rattle.jpg_huff.specs.declared.table.Table.{Table}
 
-level_take : (k n len c : ℕ) (symbols : List ℕ) → k ≤ n → codes_at k len c (take n symbols) ≡ codes_at k len c symbols
+pub level_take : (k n len c : ℕ) (symbols : List ℕ) → k ≤ n → codes_at k len c (take n symbols) ≡ codes_at k len c symbols
 level_take zero n len c symbols h = refl
 level_take (suc k) zero len c symbols h = absurd (omega arith)
 level_take (suc k) (suc n) len c [] h = refl

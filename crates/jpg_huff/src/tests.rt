@@ -1,4 +1,6 @@
-use crate::{BitOut, Code, Gate, Passed, TableSet, Typical, Walk, WalkStep, typical};
+use crate::{
+    BitOut, Code, Gate, Passed, Table, TableFault, TableSet, Typical, Walk, WalkStep, typical,
+};
 use jpg_base::{Desk, MemoryDesk, Name, Put};
 use std::test::Fail;
 
@@ -163,5 +165,68 @@ fn small_files_are_one_write(rt: HostRuntime) -> Result<(), Fail> {
     assert!(rt; written(&desk) == Some(wanted.as_slice()));
     assert!(rt; out.flush(&mut desk).is_err());
     assert!(rt; written(&desk) == Some(wanted.as_slice()));
+    Ok(())
+}
+
+// The counts of Table K.3 give the codes of the typical table.
+#[test]
+fn made_tables_have_the_codes_of_annex_c(rt: HostRuntime) -> Result<(), Fail> {
+    let bits = [0, 1, 5, 1, 1, 1, 1, 1, 1, 0, 0, 0, 0, 0, 0, 0];
+    let values = [0, 1, 2, 3, 4, 5, 6, 7, 8, 9, 10, 11, 99];
+    let Ok(table) = Table::new(&bits, &values) else {
+        assert!(rt; false);
+        return Ok(());
+    };
+    let known = typical(Typical::DcLuma);
+    assert!(rt; table.symbols() == known.symbols());
+    for symbol in 0..=255 {
+        assert!(rt; table.code(symbol) == known.code(symbol), "{symbol}");
+    }
+    let Ok(twice) = Table::new(
+        &[0, 3, 0, 0, 0, 0, 0, 0, 0, 0, 0, 0, 0, 0, 0, 0],
+        &[7, 8, 7],
+    ) else {
+        assert!(rt; false);
+        return Ok(());
+    };
+    assert!(rt; twice.code(7) == Some(Code { length: 2, bits: 0 }));
+    assert!(rt; twice.code(8) == Some(Code { length: 2, bits: 1 }));
+    Ok(())
+}
+
+// Which of its faults a table has, by its first six counts and its values.
+#[test]
+fn wrong_tables_are_refused(rt: HostRuntime) -> Result<(), Fail> {
+    let values = [9; 256];
+    let many = Some(TableFault::TooManyCodes);
+    let short = Some(TableFault::ShortValues);
+    let over = Some(TableFault::OverfullCodes);
+    let rows = [
+        ([0, 0, 0, 0, 0, 0], &values[..0], None),
+        ([1, 0, 0, 0, 0, 0], &values[..1], None),
+        ([0, 3, 0, 0, 0, 0], &values[..3], None),
+        ([1, 1, 1, 1, 1, 1], &values[..6], None),
+        ([1, 0, 0, 0, 0, 0], &values[..0], short),
+        ([0, 4, 0, 0, 0, 0], &values[..3], short),
+        ([0, 0, 0, 0, 255, 1], &values[..255], short),
+        ([0, 0, 0, 0, 255, 1], &values[..256], over),
+        ([2, 0, 0, 0, 0, 0], &values[..2], over),
+        ([0, 4, 0, 0, 0, 0], &values[..4], over),
+        ([1, 2, 0, 0, 0, 0], &values[..3], over),
+        ([1, 1, 1, 1, 1, 2], &values[..7], over),
+        ([0, 0, 0, 0, 255, 2], &values[..256], many),
+        ([0, 0, 0, 0, 255, 2], &values[..0], many),
+    ];
+    for (row, front, wanted) in rows {
+        let mut bits = [0; 16];
+        for i in 0..6 {
+            bits[i] = row[i];
+        }
+        let found = match Table::new(&bits, front) {
+            Ok(_) => None,
+            Err(fault) => Some(fault),
+        };
+        assert!(rt; found == wanted, "{row:?} {}", front.len());
+    }
     Ok(())
 }
