@@ -21,7 +21,7 @@ fn sof_fault(contents: &[u8]) -> Option<Fault> {
 
 #[test]
 fn frame_headers(rt: HostRuntime) {
-    let rows: [(&[u8], Option<Fault>); 13] = [
+    let rows: [(&[u8], Option<Fault>); 14] = [
         (&[8, 0, 16, 0, 8, 1, 1, 0x11, 0], None),
         (&[8, 0, 16, 0, 8, 2, 1, 0x22, 0, 7, 0x11, 3], None),
         (&[], Some(Fault::BadLength)),
@@ -39,6 +39,10 @@ fn frame_headers(rt: HostRuntime) {
         (
             &[8, 0, 16, 0, 8, 2, 1, 0x11, 4, 1, 0x11, 0],
             Some(Fault::DuplicateComponent),
+        ),
+        (
+            &[8, 0xff, 0xdc, 0xff, 0xdc, 1, 1, 0x11, 0],
+            Some(Fault::TooManyBlocks),
         ),
         (&[8, 0, 16, 0, 8, 1, 1, 0x11, 4], Some(Fault::QuantSlot)),
     ];
@@ -65,37 +69,36 @@ fn frames_have_their_numbers(rt: HostRuntime) -> Result<(), Fail> {
     Ok(())
 }
 
-// A table of 64 equal bytes behind a byte of precision and slot, and what follows.
-fn small(head: u8, value: u8, after: &[u8], out: &mut [u8; 65]) {
-    out[0] = head;
-    for k in 1..65 {
-        out[k] = value;
-    }
-    for k in 0..after.len() {
-        if k < 65 {
-            out[k] = after[k];
-        }
-    }
+// A table of 64 equal quantisers of one byte each.
+fn table(head: u8, value: u8) -> [u8; 65] {
+    let mut bytes = [value; 65];
+    bytes[0] = head;
+    bytes
 }
 
 #[test]
 fn quantisation_tables(rt: HostRuntime) {
     let mut set = QuantSet::new();
-    let mut bytes = [0; 65];
+    let first = table(2, 7);
+    let mut zero = table(2, 9);
+    zero[64] = 0;
     assert!(rt; read_dqt(&[], &mut set) == Ok(()));
     assert!(rt; set.get(2).is_none() && set.get(4).is_none());
-    small(2, 7, &[], &mut bytes);
-    assert!(rt; read_dqt(&bytes, &mut set) == Ok(()));
-    assert!(rt; set.get(2).map(|t| t.get(63)) == Some(7));
-    assert!(rt; read_dqt(&bytes[..64], &mut set) == Err(Fault::BadLength));
-    small(0x22, 0, &[], &mut bytes);
-    assert!(rt; read_dqt(&bytes[..1], &mut set) == Err(Fault::BadQuant));
-    small(4, 9, &[], &mut bytes);
-    assert!(rt; read_dqt(&bytes[..1], &mut set) == Err(Fault::BadQuant));
-    small(2, 9, &[2, 8, 0], &mut bytes);
-    assert!(rt; read_dqt(&bytes, &mut set) == Err(Fault::BadQuant));
+    assert!(rt; read_dqt(&first, &mut set) == Ok(()));
+    let short = [2; 64];
+    let rows: [(&[u8], Fault); 5] = [
+        (&short, Fault::BadLength),
+        (&[2], Fault::BadLength),
+        (&[0x22], Fault::BadQuant),
+        (&[4], Fault::BadQuant),
+        (&zero, Fault::BadQuant),
+    ];
+    for (contents, fault) in rows {
+        assert!(rt; read_dqt(contents, &mut set) == Err(fault), "{contents:?}");
+    }
     assert!(rt; set.get(2).map(|t| t.get(0)) == Some(7));
-    assert!(rt; set.get(0).is_none() && set.get(3).is_none());
+    assert!(rt; set.get(2).map(|t| t.get(63)) == Some(7));
+    assert!(rt; set.get(0).is_none() && set.get(3).is_none() && set.get(4).is_none());
 }
 
 #[test]

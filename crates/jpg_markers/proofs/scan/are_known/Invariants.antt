@@ -1,4 +1,4 @@
-use Rattle.std.specs.Prelude.{◌≡◌, ◌+◌, ◌*◌, ◌≤◌, ◌++◌, length}
+use Rattle.std.specs.Prelude.{◌≡◌, length}
 use Rattle.jpg_spec.specs.ScanContents.{are_among, ids_told}
 use Rattle.jpg_markers.proofs.scan.are_known.Given as goal
 

@@ -1,4 +1,4 @@
-use Rattle.std.specs.Prelude.{◌≡◌, ◌+◌, ◌*◌, ◌≤◌, ◌++◌, length}
+use Rattle.std.specs.Prelude.{◌≡◌, length}
 use Rattle.jpg_spec.specs.Lists.{is_distinct}
 use Rattle.jpg_spec.specs.ScanContents.{ids_told}
 use Rattle.jpg_markers.proofs.scan.has_same.Given as goal
