@@ -1,3 +1,4 @@
 pub mod Headers
+pub mod Heads
 pub mod Scans
 pub mod Tables

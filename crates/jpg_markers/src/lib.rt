@@ -13,7 +13,7 @@ pub use colour::{guess, guesses_are_of_markers};
 pub use frame::read_sof;
 pub use interval::read_dri;
 pub use quants::{QuantSet, read_dqt};
-pub use scan::read_sos;
+pub use scan::{accepted_heads_are_of_their_frames, read_sos};
 
 #[cfg(test)]
 mod tests;

@@ -1,9 +1,11 @@
 // The scan header (T.81 B.2.3, G.1.1.1).
-ghost use Rattle.std.specs.Prelude.{◌≡◌, ◌*◌, ◌<◌, ◌≤◌, not, length, map, All};
+ghost use Rattle.std.specs.Prelude.{◌≡◌, ◌*◌, ◌<◌, ◌≤◌, not, length, map, All, ℕ, List, Ok};
+ghost use Rattle.jpg_spec.specs.Geometry.{Frame as Numbers};
+ghost use Rattle.jpg_spec.specs.Segments.{ScanHead as Head};
 ghost use Rattle.jpg_spec.specs.Lists.{index_of, is_among, is_distinct};
 ghost use Rattle.jpg_spec.specs.Geometry.{component_at, factor_sum, is_progressive};
 ghost use Rattle.jpg_spec.specs.FrameHeader.{identifiers};
-ghost use Rattle.jpg_spec.specs.ScanContents.{are_among, are_bits, are_parameters, checked_head, head_told, ids_told, is_band, parts_told, scan_header};
+ghost use Rattle.jpg_spec.specs.ScanContents.{IsHead, are_among, are_bits, are_parameters, checked_head, head_told, ids_told, is_band, parts_told, scan_header};
 
 use arrayvec::ArrayVec;
 use jpg_base::{Frame, ScanHead};
@@ -185,3 +187,9 @@ fn blocks_of(frame: &Frame, parts: &[ScanPart]) -> u32
     }
     blocks
 }
+
+/// A scan header that is accepted has one to four distinct components of the frame, and several
+/// have at most ten blocks an MCU (T.81 B.2.3).
+pub fn accepted_heads_are_of_their_frames()
+    ensures { (f : Numbers) (contents : List ℕ) (head : Head) → scan_header f contents ≡ Ok head → IsHead f head }
+{}

@@ -1,5 +1,5 @@
 -- What the contents of a restart interval's segment and of a scan header's tell, or the first fault that they show (T.81 B.2.3, B.2.4.4).
-use Rattle.std.specs.Prelude.{ℕ, ◌+◌, ◌*◌, ◌/◌, ◌%◌, Bool, nat_lt, nat_le, not, ◌&&◌, ◌||◌, ◌==◌, if◌then◌else◌, List, [], ◌∷◌, length, slice_index, take, drop, Ok, Err}
+use Rattle.std.specs.Prelude.{◌≡◌, ℕ, ◌<◌, ◌≤◌, ◌+◌, ◌*◌, ◌/◌, ◌%◌, Bool, true, nat_lt, nat_le, not, ◌&&◌, ◌||◌, ◌==◌, if◌then◌else◌, List, [], ◌∷◌, length, slice_index, take, drop, All, Ok, Err}
 use Rattle.jpg_spec.specs.Lists.{all_of, is_among, is_distinct, index_of}
 use Rattle.jpg_spec.specs.Faults.{Told, refuse}
 use Rattle.jpg_spec.specs.Segments.{ScanHead, head_components, two_bytes}
@@ -62,3 +62,12 @@ scan_header f [] = Err BadLength
 scan_header f (count ∷ bytes) =
     refuse BadLength (not (length bytes == 2 * count + 3))
     (checked_head f count (ids_told (take (2 * count) bytes)) (head_told f (take (2 * count) bytes) (drop (2 * count) bytes)))
+
+-- WHAT A SCAN HEADER THAT IS ACCEPTED SAYS: one to four distinct components of the frame, and several of at most ten blocks an MCU
+
+pub record IsHead (f : Frame) (head : ScanHead) : Type 0 where
+  pub some : 1 ≤ length head.parts
+  pub few : length head.parts ≤ 4
+  pub known : All (λ p. p.component < length f.components) head.parts
+  pub distinct : is_distinct (head_components head) ≡ true
+  pub small : 2 ≤ length head.parts → factor_sum f (head_components head) ≤ 10
