@@ -1,9 +1,11 @@
 pub mod Bits
 pub mod Codes
+pub mod Colours
 pub mod Elements
 pub mod Examples
 pub mod Faults
 pub mod FileText
+pub mod FrameContents
 pub mod FrameHeader
 pub mod Geometry
 pub mod GrayFile
@@ -13,7 +15,9 @@ pub mod Meaning
 pub mod Messages
 pub mod Moves
 pub mod Numbers
+pub mod QuantContents
 pub mod Scan
+pub mod ScanContents
 pub mod ScanFaults
 pub mod ScanText
 pub mod Script

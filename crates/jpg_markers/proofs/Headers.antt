@@ -1,0 +1,34 @@
+-- Headers as their bytes tell them.
+use Rattle.std.proofs.Common.{◌≡◌, ℕ, zero, suc, ◌-◌, ◌*◌, ◌≤◌, ◌<◌, true, false, List, [], ◌∷◌, length, get_or, take, drop, refl, sym, ap, ◌∙◌, arith}
+use Rattle.std.specs.Prelude.{◌==◌}
+use Rattle.std.proofs.lemmas.Bool.{eq-eqb}
+use Rattle.std.proofs.lemmas.List.{take_all}
+use Rattle.jpg_spec.specs.Lists.{begins_with}
+use Rattle.jpg_spec.specs.Segments.{two_bytes}
+use Rattle.jpg_spec.specs.FrameHeader.{checked_frame}
+use Rattle.jpg_spec.specs.FrameContents.{frame_told, frame_header}
+use Rattle.jpg_spec.specs.declared.frame.Process.{Process}
+use Rattle.jpg_spec.specs.declared.frame.Limits.{Limits}
+
+-- a header of at least six bytes whose length is right, where n bytes stand behind these six
+pub frame_is : (limits : Limits) (process : Process) (contents : List ℕ) (n count height width : ℕ) → 6 ≤ length contents → n ≡ length contents - 6 → count ≡ get_or contents 5 0
+    → length (take n (drop 6 contents)) ≡ 3 * count → height ≡ two_bytes (get_or contents 1 0) (get_or contents 2 0) → width ≡ two_bytes (get_or contents 3 0) (get_or contents 4 0)
+    → checked_frame limits (frame_told process (get_or contents 0 0) height width (take n (drop 6 contents))) ≡ frame_header limits process contents
+frame_is limits process [] n count height width long n-is count-is right high wide = absurd (omega (arith, long))
+frame_is limits process (a ∷ []) n count height width long n-is count-is right high wide = absurd (omega (arith, long))
+frame_is limits process (a ∷ b ∷ []) n count height width long n-is count-is right high wide = absurd (omega (arith, long))
+frame_is limits process (a ∷ b ∷ c ∷ []) n count height width long n-is count-is right high wide = absurd (omega (arith, long))
+frame_is limits process (a ∷ b ∷ c ∷ d ∷ []) n count height width long n-is count-is right high wide = absurd (omega (arith, long))
+frame_is limits process (a ∷ b ∷ c ∷ d ∷ e ∷ []) n count height width long n-is count-is right high wide = absurd (omega (arith, long))
+frame_is limits process (a ∷ b ∷ c ∷ d ∷ e ∷ k ∷ parts) n count height width long n-is count-is right high wide =
+    let whole : take n parts ≡ parts = take_all n parts (omega (arith, n-is)) in
+    let same : length parts ≡ 3 * k = ap length (sym whole) ∙ right ∙ ap (λ (m : ℕ). 3 * m) count-is in
+    let tested : (length parts == 3 * k) ≡ true = eq-eqb (length parts) (3 * k) same in
+    rw (whole, high, wide, tested) refl
+
+-- what has no bytes begins with none
+pub too_short : (front rest : List ℕ) (i : ℕ) → i < length front → length rest < 1 → begins_with (drop i front) rest ≡ false
+too_short [] rest i low high = absurd (omega (arith, low))
+too_short (b ∷ front) [] zero low high = refl
+too_short (b ∷ front) [] (suc i) low high = too_short front [] i (omega (arith, low)) high
+too_short (b ∷ front) (x ∷ rest) i low high = absurd (omega (arith, high))

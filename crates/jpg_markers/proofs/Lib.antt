@@ -1,0 +1,4 @@
+pub mod Headers
+pub mod Heads
+pub mod Scans
+pub mod Tables

@@ -1,0 +1,98 @@
+// Application segments (JFIF 1.02, Adobe's APP14).
+ghost use Rattle.std.specs.Prelude.{◌≡◌, ◌≤◌, ℕ, Some, length};
+ghost use Rattle.jpg_spec.specs.Lists.{begins_with};
+ghost use Rattle.jpg_spec.specs.Jfif.{is_jfif, is_adobe, jfif_told};
+ghost use Rattle.jpg_markers.specs.Apps.{IsApp};
+
+use std::marker::Model;
+
+/// What a JFIF header tells: whether one was seen, its version, and the unit and the numbers of its
+/// density (JFIF 1.02). Without one it stands for version 1.01 and density 1 by 1.
+#[derive(Clone, Copy, Debug, PartialEq, Eq)]
+pub struct Jfif {
+    pub seen: bool,
+    pub major: u8,
+    pub minor: u8,
+    pub unit: u8,
+    pub x: u16,
+    pub y: u16,
+}
+
+impl Model for Jfif {
+    ghost use Rattle.jpg_spec.specs.Jfif.{Jfif as Told};
+
+    ghost Value = { Told };
+
+    ghost view = { λ j. record { seen = j.seen; major = j.major; minor = j.minor; unit = j.unit; x = j.x; y = j.y } };
+
+    ghost inverse = { λ j. record { seen = j.seen; major = j.major; minor = j.minor; unit = j.unit; x = j.x; y = j.y } };
+}
+
+/// What an application segment tells.
+#[derive(Clone, Copy, Debug, PartialEq, Eq)]
+pub enum App {
+    Jfif(Jfif),
+    /// Adobe's transform.
+    Adobe(u8),
+    Other,
+}
+
+/// What the segment of this code tells: a JFIF header is APP0 with `JFIF`, 00 and at least 14 bytes
+/// (JFIF 1.02), an Adobe segment APP14 with `Adobe` and at least 12.
+pub fn read_app(code: u8, contents: &[u8]) -> App
+    ensures { IsApp code contents.now result }
+{
+    if is_jfif(code, contents) {
+        return App::Jfif(header_of(contents));
+    }
+    if is_adobe(code, contents) {
+        return App::Adobe(contents[11]);
+    }
+    App::Other
+}
+
+/// The JFIF header of these contents.
+fn header_of(contents: &[u8]) -> Jfif
+    requires { 14 ≤ length contents.now }
+    ensures { (code : ℕ) → result ≡ jfif_told (Some (code, contents.now)) }
+{
+    Jfif {
+        seen: true,
+        major: contents[5],
+        minor: contents[6],
+        unit: contents[7],
+        x: u16::from_be_bytes([contents[8], contents[9]]),
+        y: u16::from_be_bytes([contents[10], contents[11]]),
+    }
+}
+
+fn is_jfif(code: u8, contents: &[u8]) -> bool
+    ensures { result ≡ is_jfif (code, contents.now) }
+{
+    code == 0xe0 && begins_with(contents, b"JFIF\0") && 14 <= contents.len()
+}
+
+fn is_adobe(code: u8, contents: &[u8]) -> bool
+    ensures { result ≡ is_adobe (code, contents.now) }
+{
+    code == 0xee && begins_with(contents, b"Adobe") && 12 <= contents.len()
+}
+
+/// Whether the contents begin with these bytes.
+fn begins_with(contents: &[u8], front: &[u8]) -> bool
+    ensures { result ≡ begins_with front.now contents.now }
+{
+    let mut rest = contents;
+    for byte in front {
+        match rest {
+            [first, tail @ ..] => {
+                if *byte != *first {
+                    return false;
+                }
+                rest = tail;
+            }
+            _ => return false,
+        }
+    }
+    true
+}

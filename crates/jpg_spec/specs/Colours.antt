@@ -1,0 +1,25 @@
+-- The colours that a frame's components, the JFIF header and Adobe's transform tell together (JFIF 1.02, Adobe's APP14).
+use Rattle.std.specs.Prelude.{ℕ, Bool, ◌==◌, if◌then◌else◌, List, [], ◌∷◌, Option}
+use Rattle.jpg_spec.specs.Lists.{are_equal}
+use Rattle.jpg_spec.specs.Jfif.{is_some_zero, is_some_number}
+use Rattle.jpg_spec.specs.declared.frame.Colour.{Colour}
+use Rattle.jpg_spec.specs.declared.frame.Colour.TheVariants.{Gray, YCbCr, Rgb, Cmyk, Ycck, Unknown}
+
+-- of three components: whether a JFIF header was seen, and Adobe's transform, if any
+abbrev pub three_colours : List ℕ → Bool → Option ℕ → Colour
+three_colours ids seen adobe =
+    if seen then YCbCr
+    else if is_some_zero adobe then Rgb
+    else if is_some_number adobe then YCbCr
+    else if are_equal ids (82 ∷ 71 ∷ 66 ∷ []) then Rgb
+    else YCbCr
+
+abbrev pub four_colours : Option ℕ → Colour
+four_colours adobe = if is_some_zero adobe then Cmyk else if is_some_number adobe then Ycck else Cmyk
+
+abbrev pub colours_of : ℕ → List ℕ → Bool → Option ℕ → Colour
+colours_of count ids seen adobe =
+    if count == 1 then Gray
+    else if count == 3 then three_colours ids seen adobe
+    else if count == 4 then four_colours adobe
+    else Unknown

@@ -1,0 +1,74 @@
+-- What the contents of a segment of quantisation tables tell, table by table, or the first fault that they show (T.81 B.2.4.1).
+use Rattle.std.specs.Prelude.{ℕ, zero, suc, ◌/◌, ◌%◌, Bool, nat_lt, ◌||◌, ◌==◌, if◌then◌else◌, List, [], ◌∷◌, length, take, drop, slice_get, slice_set, Option, None, Some, Ok, Err}
+use Rattle.jpg_spec.specs.Lists.{any_of}
+use Rattle.jpg_spec.specs.Faults.{Told, refuse}
+use Rattle.jpg_spec.specs.Segments.{QuantTable, two_bytes}
+use Rattle.jpg_spec.specs.declared.fault.Fault.TheVariants.{BadLength, BadQuant}
+
+-- what is told of what is told before it
+infixl 10 ◌>>=◌
+abbrev pub ◌>>=◌ : {X Y : Type 0} → Told X → (X → Told Y) → Told Y
+(Ok x) >>= next = next x
+(Err fault) >>= next = Err fault
+
+abbrev pub pairs_told : List ℕ → List ℕ
+pairs_told [] = []
+pairs_told (high ∷ []) = []
+pairs_told (high ∷ low ∷ bytes) = two_bytes high low ∷ pairs_told bytes
+
+-- Behind the byte of precision and slot stand 64 quantisers in zigzag order, of one byte or of two.
+abbrev pub table_size : ℕ → ℕ
+table_size pt = if pt / 16 == 1 then 128 else 64
+
+abbrev pub table_entries : ℕ → List ℕ → QuantTable
+table_entries pt bytes = if pt / 16 == 1 then pairs_told (take 128 bytes) else take 64 bytes
+
+abbrev pub is_zero : ℕ → Bool
+is_zero q = q == 0
+
+-- a slot and its table
+unfoldable pub quant_table_of : ℕ → List ℕ → Told (ℕ × QuantTable)
+quant_table_of pt bytes =
+    refuse BadQuant (nat_lt 1 (pt / 16) || nat_lt 3 (pt % 16))
+    (refuse BadLength (nat_lt (length bytes) (table_size pt))
+    (refuse BadQuant (any_of is_zero (table_entries pt bytes))
+    (Ok (pt % 16, table_entries pt bytes))))
+
+-- The tables of this many bytes or fewer. (The number only bounds the recursion.)
+unfoldable pub quant_tables_of : ℕ → List ℕ → Told (List (ℕ × QuantTable))
+quant_tables_of zero [] = Ok []
+quant_tables_of zero (pt ∷ bytes) = Err BadLength
+quant_tables_of (suc most) [] = Ok []
+quant_tables_of (suc most) (pt ∷ bytes) =
+    quant_table_of pt bytes >>= λ first.
+    quant_tables_of most (drop (table_size pt) bytes) >>= λ others.
+    Ok (first ∷ others)
+
+abbrev pub quant_tables : List ℕ → Told (List (ℕ × QuantTable))
+quant_tables contents = quant_tables_of (length contents) contents
+
+-- The four slots, and what they hold after a segment: a later table of a slot takes the place of an earlier one.
+abbrev pub Slots : Type 0
+Slots = List (Option QuantTable)
+
+abbrev pub no_quants : Slots
+no_quants = None ∷ None ∷ None ∷ None ∷ []
+
+abbrev pub joined : Option (Option QuantTable) → Option QuantTable
+joined None = None
+joined (Some table) = table
+
+-- the table in a slot, if any
+abbrev pub quant_in : Slots → ℕ → Option QuantTable
+quant_in slots slot = joined (slice_get slots slot)
+
+-- after one table
+abbrev pub quant_told : Slots → ℕ → List ℕ → Told Slots
+quant_told slots pt bytes = quant_table_of pt bytes >>= λ table. Ok (slice_set slots table.0 (Some table.1))
+
+abbrev pub put_tables : Slots → List (ℕ × QuantTable) → Slots
+put_tables slots [] = slots
+put_tables slots (table ∷ tables) = put_tables (slice_set slots table.0 (Some table.1)) tables
+
+abbrev pub quants_told : Slots → List ℕ → Told Slots
+quants_told slots contents = quant_tables contents >>= λ tables. Ok (put_tables slots tables)
