@@ -1,6 +1,7 @@
 -- Headers as their bytes tell them.
-use Rattle.std.proofs.Common.{◌≡◌, ℕ, zero, suc, ◌-◌, ◌*◌, ◌≤◌, ◌<◌, true, false, List, [], ◌∷◌, length, get_or, take, drop, refl, sym, ap, ◌∙◌, arith}
-use Rattle.std.specs.Prelude.{◌==◌}
+use Rattle.std.proofs.Common.{◌≡◌, ℕ, ◌-◌, ◌*◌, ◌≤◌, true, List, [], ◌∷◌, length, get_or, take, drop, refl, sym, ap, ◌∙◌, arith}
+use Rattle.std.specs.Prelude.{◌==◌, ◌&&◌}
+use lib.Pointwise.{pointwise}
 use Rattle.std.proofs.lemmas.Bool.{eq-eqb}
 use Rattle.std.proofs.lemmas.List.{take_all}
 use Rattle.jpg_spec.specs.Lists.{begins_with}
@@ -26,9 +27,8 @@ frame_is limits process (a ∷ b ∷ c ∷ d ∷ e ∷ k ∷ parts) n count heig
     let tested : (length parts == 3 * k) ≡ true = eq-eqb (length parts) (3 * k) same in
     rw (whole, high, wide, tested) refl
 
--- what has no bytes begins with none
-pub too_short : (front rest : List ℕ) (i : ℕ) → i < length front → length rest < 1 → begins_with (drop i front) rest ≡ false
-too_short [] rest i low high = absurd (omega (arith, low))
-too_short (b ∷ front) [] zero low high = refl
-too_short (b ∷ front) [] (suc i) low high = too_short front [] i (omega (arith, low)) high
-too_short (b ∷ front) (x ∷ rest) i low high = absurd (omega (arith, high))
+-- how the standard library says it
+pub starts_is : (front rest : List ℕ) → pointwise (λ a b. a == b) front (take (length front) rest) ≡ begins_with front rest
+starts_is [] rest = refl
+starts_is (b ∷ front) [] = refl
+starts_is (b ∷ front) (x ∷ rest) = ap (λ r. b == x && r) (starts_is front rest)

@@ -82,17 +82,5 @@ fn is_adobe(code: u8, contents: &[u8]) -> bool
 fn begins_with(contents: &[u8], front: &[u8]) -> bool
     ensures { result ≡ begins_with front.now contents.now }
 {
-    let mut rest = contents;
-    for byte in front {
-        match rest {
-            [first, tail @ ..] => {
-                if *byte != *first {
-                    return false;
-                }
-                rest = tail;
-            }
-            _ => return false,
-        }
-    }
-    true
+    contents.starts_with(front)
 }
