@@ -1,0 +1,98 @@
+-- THE FIRST FAULT of a file: the least front of the bytes that shows a fault, and the first of the faults in their order that this front shows.
+-- No clause speaks of a reader or of cuts. Each says how some first bytes are made, up to and with the byte that shows the fault.
+-- A file that ends early is no file and shows no fault with any of its bytes: its fault stands at its end alone.
+use Rattle.std.specs.Prelude.{◌≡◌, ◌⊎◌, ℕ, ◌+◌, ◌%◌, ◌<◌, ◌≤◌, Bool, false, List, [], ◌∷◌, ◌++◌, length, take, map, None, ℤ}
+use Rattle.jpg_spec.specs.Bits.{Packs, bits_of_bytes}
+use Rattle.jpg_spec.specs.Lists.{chunks}
+use Rattle.jpg_spec.specs.Elements.{SpellsUnits}
+use Rattle.jpg_spec.specs.Scan.{Blocks, Scan, unit_at}
+use Rattle.jpg_spec.specs.ScanFaults.{DataShows}
+use Rattle.jpg_spec.specs.Meaning.{Meaning}
+use Rattle.jpg_spec.specs.Markers.{Segment, SpellsMarker, SpellsSegment, code_fault, ShowsNoStart, NoMarkerBytes, TailShows, IsLeast}
+use Rattle.jpg_spec.specs.InForce.{frame_of}
+use Rattle.jpg_spec.specs.History.{is_complete}
+use Rattle.jpg_spec.specs.Items.{Item, segments_of, SpellsFront, SpellsIntervalsText, ends_in_scan, contents_rule}
+use Rattle.jpg_spec.specs.FileMeaning.{Leads, scan_after, Means}
+use Rattle.jpg_spec.specs.declared.fault.Fault.{Fault}
+use Rattle.jpg_spec.specs.declared.fault.Fault.TheVariants.{NotJpeg, Truncated, NoMarker, EntropyShort, ExtraData, RestartWrong, MissingComponent, InputTooLong}
+use Rattle.jpg_spec.specs.declared.frame.Limits.{Limits}
+use Rattle.jpg_spec.specs.declared.frame.Place.{Place}
+
+-- BETWEEN ITEMS: whole items that break no rule, and then bytes of a further one
+
+pub record BehindItems (limits : Limits) (bytes : List ℕ) (items : List Item) (tail : List ℕ) : Type 0 where
+  pub front : List ℕ
+  pub blocks : Blocks
+  pub cut : bytes ≡ front ++ tail
+  pub spelled : SpellsFront items front
+  pub leads : Leads limits items blocks
+
+-- what the bytes of a further item show; right behind scan data another byte than FF is one of theirs
+abbrev pub ItemShows : Limits → List Item → Fault → List ℕ → Type 0
+ItemShows limits items fault tail =
+    ((fault ≡ NoMarker) × (ends_in_scan items ≡ false) × NoMarkerBytes tail)
+    ⊎ (TailShows (contents_rule limits) (segments_of items) fault tail
+    ⊎ ((fault ≡ MissingComponent) × SpellsMarker 0xd9 tail × (code_fault (segments_of items) 0xd9 ≡ None)
+    × (is_complete (frame_of limits (segments_of items)) (segments_of items) ≡ false)))
+
+-- INSIDE SCAN DATA: whole intervals, the data bytes of the one in work, and then bytes that are no data byte yet
+
+abbrev pub Holds : Scan → Blocks → List Place → List ℕ → Type 0
+Holds s before places coded =
+    (told : List ℤ) × ((bits : List Bool) × (rest : List Bool) × (bits_of_bytes coded ≡ bits ++ rest) × SpellsUnits s.coding (map (unit_at s before) places) told bits)
+
+-- Whole intervals hold their units, with fewer than eight bits behind them. These intervals are due then.
+abbrev pub HoldsAll : Scan → Blocks → List (List Place) → List (List ℕ) → List (List Place) → Type 0
+HoldsAll s before places [] due = places ≡ due
+HoldsAll s before [] (coded ∷ intervals) due = ⊥
+HoldsAll s before (places ∷ later) (coded ∷ intervals) due =
+    (told : List ℤ) × ((bits : List Bool) × Packs bits coded × SpellsUnits s.coding (map (unit_at s before) places) told bits) × HoldsAll s before later intervals due
+
+pub record InsideScan (limits : Limits) (bytes : List ℕ) (tail : List ℕ) : Type 0 where
+  pub items : List Item
+  pub blocks : Blocks
+  pub contents : List ℕ
+  pub done : List (List ℕ)
+  pub coded : List ℕ
+  pub places : List Place
+  pub later : List (List Place)
+  pub front : List ℕ
+  pub head : List ℕ
+  pub text : List ℕ
+  pub cut : bytes ≡ front ++ head ++ text ++ tail
+  pub spelled : SpellsFront items front
+  pub header : SpellsSegment 0xda contents head
+  pub intervals : SpellsIntervalsText 0 (done ++ coded ∷ []) text
+  pub leads : Leads limits items blocks
+  pub allowed : (code_fault (segments_of items) 0xda ≡ None) × (contents_rule limits (segments_of items) 0xda contents ≡ None)
+  pub due : (let s = scan_after limits (segments_of items) contents in HoldsAll s blocks (chunks s.interval s.places) done (places ∷ later))
+
+abbrev pub ScanShows : (limits : Limits) → (bytes : List ℕ) → Fault → (tail : List ℕ) → InsideScan limits bytes tail → Type 0
+ScanShows limits bytes fault tail w =
+    let s = scan_after limits (segments_of w.items) w.contents in
+    ((tail ≡ []) × DataShows s.coding (map (unit_at s w.blocks) w.places) fault (bits_of_bytes w.coded))
+    ⊎ (((fault ≡ EntropyShort) × ((code : ℕ) × SpellsMarker code tail) × (Holds s w.blocks w.places w.coded → ⊥))
+    ⊎ (((fault ≡ ExtraData) × (tail ≡ []) × ((coded : List ℕ) × (byte : ℕ) × (w.coded ≡ coded ++ byte ∷ []) × Holds s w.blocks w.places coded))
+    ⊎ ((fault ≡ RestartWrong) × Holds s w.blocks w.places w.coded × ((next : List Place) × (others : List (List Place)) × (w.later ≡ next ∷ others))
+    × ((code : ℕ) × SpellsMarker code tail × (code ≡ 0xd0 + length w.done % 8 → ⊥)))))
+
+-- THE FIRST FAULT
+
+-- These bytes show the fault, with their last one. (The faults of the input's end aside.)
+abbrev pub Shows : Limits → Fault → List ℕ → Type 0
+Shows limits fault bytes =
+    ((fault ≡ NotJpeg) × ShowsNoStart bytes)
+    ⊎ (((items : List Item) × (tail : List ℕ) × BehindItems limits bytes items tail × ItemShows limits items fault tail)
+    ⊎ ((tail : List ℕ) × (w : InsideScan limits bytes tail) × ScanShows limits bytes fault tail w))
+
+abbrev pub ShowsNone : Limits → List ℕ → Type 0
+ShowsNone limits bytes = (fault : Fault) (n : ℕ) → n ≤ length bytes → Shows limits fault (take n bytes) → ⊥
+
+abbrev pub HasMeaning : Limits → List ℕ → Type 0
+HasMeaning limits bytes = (M : Meaning) × Means limits bytes M
+
+abbrev pub IsFirstFault : Limits → List ℕ → Fault → ℕ → Type 0
+IsFirstFault limits bytes fault n =
+    ((n ≤ limits.input) × IsLeast (Shows limits) bytes fault n)
+    ⊎ (((fault ≡ InputTooLong) × (n ≡ limits.input) × (limits.input ≤ length bytes) × ShowsNone limits (take n bytes) × (HasMeaning limits bytes → ⊥))
+    ⊎ ((fault ≡ Truncated) × (n ≡ length bytes) × (length bytes < limits.input) × ShowsNone limits bytes × (HasMeaning limits bytes → ⊥)))

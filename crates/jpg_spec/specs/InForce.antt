@@ -1,0 +1,74 @@
+-- WHAT IS IN FORCE after segments: the last definitions among them (T.81 B.2.2, B.2.4). Lists of segments have the newest first.
+use Rattle.std.specs.Prelude.{ℕ, ◌&&◌, ◌==◌, if◌then◌else◌, List, [], ◌∷◌, ◌++◌, reverse, Option, Some, None, Ok, Err, find, option_map, option_and_then, unwrap_or}
+use Rattle.jpg_spec.specs.Faults.{Told}
+use Rattle.jpg_spec.specs.Geometry.{Frame}
+use Rattle.jpg_spec.specs.Segments.{HuffmanTable, QuantTable, ScanHead}
+use Rattle.jpg_spec.specs.FrameContents.{frame_header}
+use Rattle.jpg_spec.specs.HuffContents.{HuffmanDefinition, huffman_tables}
+use Rattle.jpg_spec.specs.QuantContents.{quant_tables}
+use Rattle.jpg_spec.specs.ScanContents.{restart_interval, scan_header}
+use Rattle.jpg_spec.specs.Markers.{Segment, process_of_code}
+use Rattle.jpg_spec.specs.declared.frame.Process.TheVariants.{Baseline}
+use Rattle.jpg_spec.specs.declared.frame.Limits.{Limits}
+
+abbrev pub told_list : {X : Type 0} → Told (List X) → List X
+told_list (Ok xs) = xs
+told_list (Err fault) = []
+
+abbrev pub told_or : {X : Type 0} → X → Told X → X
+told_or default (Ok x) = x
+told_or default (Err fault) = default
+
+abbrev pub told_some : {X : Type 0} → Told X → Option X
+told_some (Ok x) = Some x
+told_some (Err fault) = None
+
+abbrev pub first_some : {X : Type 0} → Option X → Option X → Option X
+first_some (Some x) other = Some x
+first_some None other = other
+
+-- the frame of a frame header's segment
+abbrev pub frame_in : Limits → Segment → Option Frame
+frame_in limits s = option_and_then (λ process. told_some (frame_header limits process s.1)) (process_of_code s.0)
+
+abbrev pub frame_after : Limits → List Segment → Option Frame
+frame_after limits [] = None
+frame_after limits (s ∷ before) = first_some (frame_in limits s) (frame_after limits before)
+
+abbrev pub no_frame : Frame
+no_frame = record { process = Baseline; precision = 8; width = 0; height = 0; components = [] }
+
+abbrev pub frame_of : Limits → List Segment → Frame
+frame_of limits before = unwrap_or (frame_after limits before) no_frame
+
+-- the Huffman tables that were told, the newest first
+abbrev pub huffmans_told : List Segment → List HuffmanDefinition
+huffmans_told [] = []
+huffmans_told (s ∷ before) = (if s.0 == 0xc4 then reverse (told_list (huffman_tables s.1)) else []) ++ huffmans_told before
+
+abbrev pub huffman_in_force : List Segment → ℕ → ℕ → Option HuffmanTable
+huffman_in_force before class slot = option_map (λ d. d.table) (find (λ d. d.class == class && d.slot == slot) (huffmans_told before))
+
+-- the quantisation tables that were told with their slots, the newest first
+abbrev pub quants_told : List Segment → List (ℕ × QuantTable)
+quants_told [] = []
+quants_told (s ∷ before) = (if s.0 == 0xdb then reverse (told_list (quant_tables s.1)) else []) ++ quants_told before
+
+abbrev pub quant_in_force : List Segment → ℕ → Option QuantTable
+quant_in_force before slot = option_map (λ d. d.1) (find (λ d. d.0 == slot) (quants_told before))
+
+-- the restart interval, 0 where none was told
+abbrev pub restart_in_force : List Segment → ℕ
+restart_in_force [] = 0
+restart_in_force (s ∷ before) = if s.0 == 0xdd then told_or 0 (restart_interval s.1) else restart_in_force before
+
+abbrev pub no_head : ScanHead
+no_head = record { parts = []; ss = 0; se = 0; ah = 0; al = 0 }
+
+abbrev pub head_in : Frame → List ℕ → ScanHead
+head_in f contents = told_or no_head (scan_header f contents)
+
+-- the headers of the scans, the newest first
+abbrev pub heads_of : Frame → List Segment → List ScanHead
+heads_of f [] = []
+heads_of f (s ∷ before) = if s.0 == 0xda then head_in f s.1 ∷ heads_of f before else heads_of f before
