@@ -54,6 +54,10 @@ frame_text H =
     segment_text (sof_code H.process)
     (H.precision ∷ to_be_bytes w16 H.height ++ to_be_bytes w16 H.width ++ length H.components ∷ flat_map (component_bytes H) H.components)
 
+-- all before the scans: SOI, the kept markers, the quantisation tables, the frame header
+abbrev pub front_text : Meaning → List ℕ
+front_text H = 255 ∷ 0xd8 ∷ kept_text H.kept ++ quants_text H ++ frame_text H
+
 abbrev pub frame_of_meaning : Meaning → Frame
 frame_of_meaning H = record {
   process = H.process;
@@ -159,4 +163,4 @@ nothing_written = record { tables = λ class slot. None; interval = 0 }
 
 unfoldable pub file_text : Meaning → List Entry → Restart → List ℕ
 file_text H script restart =
-    255 ∷ 0xd8 ∷ kept_text H.kept ++ quants_text H ++ frame_text H ++ scans_text H restart nothing_written script ++ 255 ∷ 0xd9 ∷ []
+    front_text H ++ scans_text H restart nothing_written script ++ 255 ∷ 0xd9 ∷ []

@@ -1,6 +1,8 @@
 pub mod Bits
 pub mod Codes
 pub mod Colours
+pub mod CommentText
+pub mod CommentWords
 pub mod Elements
 pub mod Examples
 pub mod Faults
@@ -31,6 +33,7 @@ pub mod Script
 pub mod Segments
 pub mod Sending
 pub mod Sound
+pub mod Switches
 pub mod Told
 pub mod Transposed
 pub mod Typical

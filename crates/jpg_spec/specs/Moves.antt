@@ -7,6 +7,8 @@ use Rattle.jpg_spec.specs.Jfif.{begins_jfif, begins_adobe, Jfif, jfif_of}
 use Rattle.jpg_spec.specs.Meaning.{Meaning, PictureComponent, colour_of}
 use Rattle.jpg_spec.specs.declared.frame.Process.{Process}
 use Rattle.jpg_spec.specs.declared.frame.Process.TheVariants.{Baseline, Extended}
+use Rattle.jpg_spec.specs.declared.frame.Copying.{Copying}
+use Rattle.jpg_spec.specs.declared.frame.Copying.TheVariants as copying
 use Rattle.jpg_spec.specs.declared.frame.Colour.{Colour}
 use Rattle.jpg_spec.specs.declared.frame.Colour.TheVariants.{Gray, YCbCr, Rgb, Cmyk, Ycck, Unknown}
 
@@ -64,6 +66,16 @@ is_wide table = any_of (λ q. nat_lt 255 q) table
 abbrev pub sequential_process : Meaning → Process
 sequential_process M = if not (M.precision == 8) || any_of (λ c. is_wide c.quants) M.components then Extended else Baseline
 
--- a picture headed for a sequential file that passes on the comments alone
+-- the kept markers that are passed on
+abbrev pub copied : Copying → List (ℕ × List ℕ) → List (ℕ × List ℕ)
+copied copying.None kept = []
+copied copying.Comments kept = filter (λ s. s.0 == 0xfe) kept
+copied copying.All kept = kept
+
+-- a picture headed for a sequential file
+abbrev pub headed_by : Copying → Meaning → Meaning
+headed_by copying M = record M { process = sequential_process M; kept = headed_kept (colour_of M) (jfif_of M.kept) (copied copying M.kept) }
+
+-- the same, where the comments alone are passed on
 abbrev pub headed : Meaning → Meaning
-headed M = record M { process = sequential_process M; kept = headed_kept (colour_of M) (jfif_of M.kept) (filter (λ s. s.0 == 0xfe) M.kept) }
+headed M = headed_by copying.Comments M

@@ -24,6 +24,17 @@ pub enum Colour {
     Unknown,
 }
 
+/// Which of the kept markers an output passes on.
+#[derive(Clone, Copy, Debug, PartialEq, Eq)]
+pub enum Copying {
+    /// None of them.
+    None,
+    /// Comments alone.
+    Comments,
+    /// All of them.
+    All,
+}
+
 /// A component of a frame: its identifier, its sampling factors `h` across and `v` down (1 to 4),
 /// and the slot of its quantisation table (0 to 3) (T.81, B.2.2).
 #[derive(Clone, Copy, Debug, PartialEq, Eq, Default)]

@@ -11,4 +11,4 @@ pub mod laws;
 
 pub use answers::{Asked, FaultAt, Usage, UsageFault, Which, Why};
 pub use fault::Fault;
-pub use frame::{Bounds, Colour, Component, Grid, Limits, Place, Process, ScanPart};
+pub use frame::{Bounds, Colour, Component, Copying, Grid, Limits, Place, Process, ScanPart};

@@ -1,0 +1,44 @@
+-- THE SWITCHES of the commands: how a word matches one, and the lists of the commands (the manuals of release 6b; the matching rule is the suite's own).
+use Rattle.std.specs.Prelude.{ℕ, ◌+◌, Bool, true, false, nat_le, ◌&&◌, ◌==◌, if◌then◌else◌, List, [], ◌∷◌, length, map, drop, Option, Some, None, find, option_map, codes}
+use Rattle.jpg_spec.specs.Lists.{begins_with}
+use Rattle.jpg_spec.specs.Markers.{is_within}
+
+-- a word that begins with a hyphen
+abbrev pub is_switch : List ℕ → Bool
+is_switch [] = false
+is_switch (b ∷ bytes) = b == 45
+
+-- ASCII letters in lower case
+abbrev pub lower : ℕ → ℕ
+lower b = if is_within 65 90 b then b + 32 else b
+
+-- what a switch is for
+pub data Purpose : Type 0 where
+  -- left out of the suite, though release 6b has it
+  left_out : Purpose
+  replacing : Purpose
+  comment_given : Purpose
+  comment_in_file : Purpose
+
+-- a name, and how many letters of it a word has at least
+pub record Switch : Type 0 where
+  pub name : List ℕ
+  pub shortest : ℕ
+  pub purpose : Purpose
+
+-- The letters are the beginning of the name, in any case, and no fewer than its shortest form.
+abbrev pub is_match : List ℕ → Switch → Bool
+is_match letters s = nat_le s.shortest (length letters) && begins_with (map lower letters) s.name
+
+-- the purpose of a word that begins with a hyphen, in a command with these switches
+abbrev pub purpose_of : List Switch → List ℕ → Option Purpose
+purpose_of switches word = option_map (λ s. s.purpose) (find (is_match (drop 1 word)) switches)
+
+abbrev pub rdjpgcom_switches : List Switch
+rdjpgcom_switches = record { name = codes "verbose"; shortest = 1; purpose = left_out } ∷ []
+
+abbrev pub wrjpgcom_switches : List Switch
+wrjpgcom_switches =
+    record { name = codes "replace"; shortest = 1; purpose = replacing }
+    ∷ record { name = codes "comment"; shortest = 1; purpose = comment_given }
+    ∷ record { name = codes "cfile"; shortest = 2; purpose = comment_in_file } ∷ []
