@@ -66,20 +66,20 @@ fn header_of(contents: &[u8]) -> Jfif
     }
 }
 
-fn is_jfif(code: u8, contents: &[u8]) -> bool
+pub(crate) fn is_jfif(code: u8, contents: &[u8]) -> bool
     ensures { result ≡ is_jfif (code, contents.now) }
 {
     code == 0xe0 && begins_with(contents, b"JFIF\0") && 14 <= contents.len()
 }
 
-fn is_adobe(code: u8, contents: &[u8]) -> bool
+pub(crate) fn is_adobe(code: u8, contents: &[u8]) -> bool
     ensures { result ≡ is_adobe (code, contents.now) }
 {
     code == 0xee && begins_with(contents, b"Adobe") && 12 <= contents.len()
 }
 
 /// Whether the contents begin with these bytes.
-fn begins_with(contents: &[u8], front: &[u8]) -> bool
+pub(crate) fn begins_with(contents: &[u8], front: &[u8]) -> bool
     ensures { result ≡ begins_with front.now contents.now }
 {
     contents.starts_with(front)

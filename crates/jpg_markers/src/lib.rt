@@ -7,6 +7,8 @@ mod frame;
 mod interval;
 mod quants;
 mod scan;
+mod seen;
+mod segments;
 
 pub use app::{App, Jfif, read_app};
 pub use colour::{guess, guesses_are_of_markers};
@@ -14,6 +16,7 @@ pub use frame::read_sof;
 pub use interval::read_dri;
 pub use quants::{QuantSet, read_dqt};
 pub use scan::{accepted_heads_are_of_their_frames, read_sos};
+pub use segments::{SegStep, SegmentReader};
 
 #[cfg(test)]
 mod tests;

@@ -1,0 +1,124 @@
+-- What a reader of segments keeps of the bytes that it was given, and what they come to.
+use Rattle.std.specs.Prelude.{◌≡◌, ℕ, suc, ◌+◌, ◌<◌, ◌≤◌, List, [], ◌∷◌, ◌++◌, length, replicate, Option, Some, None, Result, Ok, Err, vec_capacity}
+use Rattle.jpg_spec.specs.Segments.{two_bytes}
+use Rattle.jpg_spec.specs.Markers.{Segment, SpellsSegment, code_fault, kept_rule, Between, BeginsSegment, Reached, at_soi, at_frame, at_eoi, at_segment, at_fault, at_part, Reaches}
+use Rattle.jpg_spec.specs.declared.frame.Limits.{Limits}
+use Rattle.jpg_spec.specs.declared.fault.Fault.{Fault}
+use Rattle.jpg_base.specs.declared.stop.Stop.{Stop}
+use Rattle.jpg_base.specs.declared.stop.Stop.TheVariants as stop
+use Rattle.jpg_markers.specs.declared.seen.Seen.{Seen}
+use Rattle.jpg_markers.specs.declared.segments.Halt.{Halt}
+use Rattle.jpg_markers.specs.declared.segments.Halt.TheVariants as halt
+use Rattle.jpg_markers.specs.declared.segments.Phase.{Phase}
+use Rattle.jpg_markers.specs.declared.segments.Phase.TheVariants as phase
+use Rattle.jpg_markers.specs.declared.segments.SegStep.{SegStep}
+use Rattle.jpg_markers.specs.declared.segments.SegStep.TheVariants as step
+use Rattle.jpg_markers.specs.declared.segments.SegmentReader.{SegmentReader}
+use Rattle.jpg_markers.specs.Seen.{HasSeen}
+
+-- what is seen of a reader: the last whole segment's code and contents among it, and why it stopped, if it did
+pub record Reading : Type 0 where
+  pub limits : Limits
+  pub taken : ℕ
+  pub phase : Phase
+  pub code : ℕ
+  pub high : ℕ
+  pub left : ℕ
+  pub contents : List ℕ
+  pub seen : Seen
+  pub stop : Option Stop
+
+abbrev pub reading_of : SegmentReader → Reading
+reading_of r = record {
+  limits = r.limits;
+  taken = r.taken;
+  phase = r.phase;
+  code = r.code;
+  high = r.high;
+  left = r.left;
+  contents = r.contents.items;
+  seen = r.seen;
+  stop = r.stop;
+}
+
+-- there is room for the contents of any segment
+abbrev pub HasRoom : SegmentReader → Type 0
+HasRoom r = 65533 ≤ vec_capacity r.contents
+
+-- THE PART of a segment that was read
+
+abbrev pub PartRead : Reading → Phase → List Segment → List ℕ → Type 0
+PartRead r phase.Empty before tail = ⊥
+PartRead r phase.HalfStart before tail = ⊥
+PartRead r phase.Between before tail = tail ≡ []
+PartRead r phase.Fill before tail = (fill : ℕ) × (tail ≡ replicate (suc fill) 255)
+PartRead r phase.Coded before tail = BeginsSegment before r.code tail
+PartRead r phase.HalfLength before tail = (marker : List ℕ) × BeginsSegment before r.code marker × (tail ≡ marker ++ r.high ∷ []) × (r.high < 256)
+PartRead r phase.Contents before tail =
+    (marker : List ℕ) × (high : ℕ) × (low : ℕ) × BeginsSegment before r.code marker × (tail ≡ marker ++ high ∷ low ∷ r.contents)
+    × (high < 256) × (low < 256) × (length r.contents + r.left + 2 ≡ two_bytes high low) × (1 ≤ r.left)
+PartRead r phase.Ended before tail = ⊥
+
+-- whole segments that break no rule, what they leave behind, and a part of one more
+abbrev pub IsBetween : Reading → Phase → List ℕ → Type 0
+IsBetween r p bytes =
+    (before : List Segment) × (tail : List ℕ) × Between (kept_rule r.limits) bytes before tail × HasSeen r.limits r.seen before × PartRead r p before tail
+
+abbrev pub AtPhase : Reading → Phase → List ℕ → Type 0
+AtPhase r phase.Empty bytes = (bytes ≡ []) × HasSeen r.limits r.seen []
+AtPhase r phase.HalfStart bytes = (bytes ≡ 255 ∷ []) × HasSeen r.limits r.seen []
+AtPhase r phase.Between bytes = IsBetween r phase.Between bytes
+AtPhase r phase.Fill bytes = IsBetween r phase.Fill bytes
+AtPhase r phase.Coded bytes = IsBetween r phase.Coded bytes
+AtPhase r phase.HalfLength bytes = IsBetween r phase.HalfLength bytes
+AtPhase r phase.Contents bytes = IsBetween r phase.Contents bytes
+AtPhase r phase.Ended bytes = ⊥
+
+-- The reader stands for these bytes, which were given to it, scan data left out.
+abbrev pub StandsFor : List ℕ → Reading → Type 0
+StandsFor bytes r = (r.stop ≡ None) × AtPhase r r.phase bytes
+
+-- WHAT THE BYTES COME TO
+
+-- the last segment is whole, and what it leaves behind isn't seen yet
+abbrev pub IsWhole : List ℕ → Reading → Type 0
+IsWhole bytes r =
+    (before : List Segment) × (tail : List ℕ) × Between (kept_rule r.limits) bytes before tail × HasSeen r.limits r.seen before
+    × SpellsSegment r.code r.contents tail × (code_fault before r.code ≡ None) × (r.code ≡ 0xd9 → ⊥)
+
+abbrev pub Comes : List ℕ → Result SegStep Stop → Reading → Type 0
+Comes bytes (Ok step.More) r = Reaches (kept_rule r.limits) bytes at_part × StandsFor bytes r
+Comes bytes (Ok step.Start) r = Reaches (kept_rule r.limits) bytes at_soi × StandsFor bytes r
+Comes bytes (Ok step.Frame) r = Reaches (kept_rule r.limits) bytes at_frame × StandsFor bytes r
+Comes bytes (Ok step.Eoi) r = Reaches (kept_rule r.limits) bytes at_eoi
+Comes bytes (Ok step.Whole) r = Reaches (kept_rule r.limits) bytes (at_segment (r.code, r.contents)) × StandsFor bytes r
+Comes bytes (Err (stop.Fault f)) r = Reaches (kept_rule r.limits) bytes (at_fault f.fault) × (f.at ≡ r.taken)
+Comes bytes (Err stop.NoMemory) r = Unit {0}
+
+-- the same before a halt is kept as a stop
+abbrev pub Goes : List ℕ → Result SegStep Halt → Reading → Type 0
+Goes bytes (Ok s) r = Comes bytes (Ok s) r
+Goes bytes (Err (halt.Fault f)) r = Reaches (kept_rule r.limits) bytes (at_fault f)
+Goes bytes (Err halt.NoMemory) r = Unit {0}
+
+-- the last answer was Whole for an SOS segment
+abbrev pub IsBehindScan : Reading → Type 0
+IsBehindScan r = (r.stop ≡ None) × (r.phase ≡ phase.Between) × (r.code ≡ 0xda)
+
+-- an answer that isn't want of memory
+abbrev pub NotWanting : Result SegStep Stop → Type 0
+NotWanting (Ok s) = Unit {0}
+NotWanting (Err (stop.Fault f)) = Unit {0}
+NotWanting (Err stop.NoMemory) = ⊥
+
+abbrev pub HaltsNot : Result SegStep Halt → Type 0
+HaltsNot (Ok s) = Unit {0}
+HaltsNot (Err (halt.Fault f)) = Unit {0}
+HaltsNot (Err halt.NoMemory) = ⊥
+
+-- what a step leaves as it was
+pub record Stays (old new : SegmentReader) : Type 0 where
+  pub limits : new.limits ≡ old.limits
+  pub taken : new.taken ≡ old.taken
+  pub stop : new.stop ≡ old.stop
+  pub room : HasRoom old → HasRoom new

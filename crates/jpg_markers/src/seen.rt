@@ -1,0 +1,157 @@
+// What segments leave behind for those after them (T.81 B.1.1, Table B.1).
+ghost use Rattle.std.specs.Prelude.{◌≡◌, ◌≤◌, ◌||◌, ◌==◌, ℕ, List, [], ◌∷◌, length, Some, None, IfSome, IfNone};
+ghost use Rattle.jpg_spec.specs.Jfif.{begins_jfif, begins_adobe};
+ghost use Rattle.jpg_spec.specs.Markers.{Segment, code_fault_if, counts_nothing, is_frame_code, is_kept_if, is_plain_adobe, is_plain_jfif, is_unexpected, is_unsupported, kept_rule, kept_size};
+ghost use Rattle.jpg_spec.specs.declared.frame.Limits.{Limits};
+ghost use Rattle.jpg_spec.specs.declared.fault.Fault.TheVariants as fault;
+ghost use Rattle.jpg_markers.specs.Seen.{HasSeen};
+
+use crate::app::{begins_with, is_adobe, is_jfif};
+use jpg_spec::Fault;
+
+/// What the whole segments so far leave behind: whether a frame header, a scan header, a JFIF header of
+/// 14 bytes and an Adobe segment of 12 were among them, and how many bytes of kept markers may follow.
+#[derive(Clone, Copy, Debug, PartialEq, Eq)]
+pub struct Seen {
+    pub framed: bool,
+    pub scanned: bool,
+    pub jfif: bool,
+    pub adobe: bool,
+    pub free: u64,
+}
+
+impl Seen {
+    /// No segments, with this limit for kept markers.
+    pub fn none(kept: u64) -> Seen
+        ensures { (limits : Limits) → limits.kept ≡ kept → HasSeen limits result [] }
+    {
+        Seen {
+            framed: false,
+            scanned: false,
+            jfif: false,
+            adobe: false,
+            free: kept,
+        }
+    }
+
+    /// The same with one segment more; None where its kept bytes exceed what is free.
+    pub fn with(&self, code: u8, contents: &[u8]) -> Option<Seen>
+        requires { length contents.now ≤ 65533 }
+        ensures some { IfSome result (λ next. (limits : Limits) (before : List Segment) → HasSeen limits self.now before → (kept_rule limits before code contents.now ≡ None) × HasSeen limits next ((code, contents.now) ∷ before)) }
+        ensures none { IfNone result ((limits : Limits) (before : List Segment) → HasSeen limits self.now before → kept_rule limits before code contents.now ≡ Some fault.MarkersTooLarge) }
+    {
+        let next = self.behind(code);
+        if !is_kept(self.scanned, code, contents) {
+            return Some(next);
+        }
+        let size = kept_size(self.jfif, self.adobe, code, contents);
+        if self.free < size {
+            return None;
+        }
+        Some(Seen {
+            free: self.free - size,
+            jfif: either(is_plain_jfif(code, contents), self.jfif),
+            adobe: either(is_plain_adobe(code, contents), self.adobe),
+            ..next
+        })
+    }
+
+    // Behind a segment of this code, whatever is kept.
+    fn behind(&self, code: u8) -> Seen
+        ensures { result ≡ record (self.now) { framed = is_frame_code code || self.now.framed; scanned = code == 0xda || self.now.scanned } }
+    {
+        Seen {
+            framed: either(is_frame_code(code), self.framed),
+            scanned: either(code == 0xda, self.scanned),
+            ..*self
+        }
+    }
+}
+
+fn either(a: bool, b: bool) -> bool
+    ensures { result ≡ (a || b) }
+{
+    a || b
+}
+
+/// Why a code may not stand here, where a frame header was seen or none (T.81 Table B.1).
+pub fn code_fault(framed: bool, code: u8) -> Option<Fault>
+    ensures { result ≡ code_fault_if framed code }
+{
+    if is_unexpected(code) || code == 0xd9 && !framed {
+        Some(Fault::UnexpectedMarker)
+    } else if is_unsupported(code) {
+        Some(Fault::UnsupportedProcess)
+    } else if is_frame_code(code) && framed {
+        Some(Fault::SecondFrame)
+    } else if code == 0xda && !framed {
+        Some(Fault::SosBeforeSof)
+    } else {
+        None
+    }
+}
+
+/// SOF0, SOF1 and SOF2.
+pub fn is_frame_code(code: u8) -> bool
+    ensures { result ≡ is_frame_code code }
+{
+    0xc0 <= code && code <= 0xc2
+}
+
+fn is_unexpected(code: u8) -> bool
+    ensures { result ≡ is_unexpected code }
+{
+    0x01 <= code && code <= 0xbf || (0xd0 <= code && code <= 0xd8 || 0xf0 <= code && code <= 0xfd)
+}
+
+fn is_unsupported(code: u8) -> bool
+    ensures { result ≡ is_unsupported code }
+{
+    code == 0xc3
+        || (0xc5 <= code && code <= 0xcf || (code == 0xdc || (code == 0xde || code == 0xdf)))
+}
+
+/// Whether a segment is kept: APPn and COM, but behind a scan no JFIF and Adobe segments.
+pub fn is_kept(scanned: bool, code: u8, contents: &[u8]) -> bool
+    ensures { result ≡ is_kept_if scanned code contents.now }
+{
+    (code == 0xfe || 0xe0 <= code && code <= 0xef)
+        && !(scanned && (begins_jfif(code, contents) || begins_adobe(code, contents)))
+}
+
+fn begins_jfif(code: u8, contents: &[u8]) -> bool
+    ensures { result ≡ begins_jfif code contents.now }
+{
+    code == 0xe0 && begins_with(contents, b"JFIF\0")
+}
+
+fn begins_adobe(code: u8, contents: &[u8]) -> bool
+    ensures { result ≡ begins_adobe code contents.now }
+{
+    code == 0xee && begins_with(contents, b"Adobe")
+}
+
+fn is_plain_jfif(code: u8, contents: &[u8]) -> bool
+    ensures { result ≡ is_plain_jfif (code, contents.now) }
+{
+    is_jfif(code, contents) && contents.len() == 14
+}
+
+fn is_plain_adobe(code: u8, contents: &[u8]) -> bool
+    ensures { result ≡ is_plain_adobe (code, contents.now) }
+{
+    is_adobe(code, contents) && contents.len() == 12
+}
+
+// What a kept segment counts: its contents and 4 bytes, but nothing where it is the first JFIF header
+// of 14 bytes or the first Adobe segment of 12.
+fn kept_size(jfif: bool, adobe: bool, code: u8, contents: &[u8]) -> u64
+    requires { length contents.now ≤ 65533 }
+    ensures { result ≡ kept_size jfif adobe (code, contents.now) }
+{
+    if is_plain_jfif(code, contents) && !jfif || is_plain_adobe(code, contents) && !adobe {
+        0
+    } else {
+        contents.len() as u64 + 4
+    }
+}

@@ -1,0 +1,343 @@
+// The segments of a file, read byte by byte (T.81 B.1.1).
+ghost use Rattle.std.specs.Prelude.{◌≡◌, ◌≤◌, ◌<◌, ◌+◌, ℕ, List, [], ◌∷◌, ◌++◌, None, Some, Err, IfOk, IfErr};
+ghost use Rattle.jpg_spec.specs.FrameHeader.{AreLimits};
+ghost use Rattle.jpg_base.specs.declared.stop.Stop.{Stop as Stopped};
+ghost use Rattle.jpg_base.specs.declared.stop.Stop.TheVariants as stop;
+ghost use Rattle.jpg_markers.specs.declared.segments.Phase.TheVariants as phase;
+ghost use Rattle.jpg_markers.specs.Reading.{reading_of, IsWhole, StandsFor, Comes, Goes, HasRoom, IsBehindScan, HaltsNot, NotWanting, Stays};
+
+use crate::seen::{Seen, code_fault, is_frame_code};
+use byteorder::{BigEndian, ByteOrder};
+use jpg_base::{NoMemory, Stop};
+use jpg_spec::{Fault, FaultAt, Limits};
+use std::alloc::Global;
+
+/// What a byte led to, where nothing was wrong: SOI is there, the marker of a frame header, EOI, the
+/// last byte of a segment, or none of these.
+#[derive(Clone, Copy, Debug, PartialEq, Eq)]
+pub enum SegStep {
+    More,
+    Start,
+    Frame,
+    Eoi,
+    Whole,
+}
+
+// Where the bytes stand: before SOI, inside it, behind a whole segment, behind FF, behind a code,
+// behind the first byte of a length, inside contents, behind EOI.
+#[derive(Clone, Copy, Debug, PartialEq, Eq)]
+enum Phase {
+    Empty,
+    HalfStart,
+    Between,
+    Fill,
+    Coded,
+    HalfLength,
+    Contents,
+    Ended,
+}
+
+// Why a byte isn't taken.
+#[derive(Clone, Copy, Debug, PartialEq, Eq)]
+enum Halt {
+    Fault(Fault),
+    NoMemory,
+}
+
+// The most bytes of contents.
+const LONGEST: usize = 65533;
+
+/// Reads a file's segments byte by byte (T.81 B.1.1). It judges markers, lengths, and the size of the
+/// markers that are kept; what contents tell is for others to judge. Scan data aren't given to it.
+#[derive(Drop)]
+pub struct SegmentReader {
+    limits: Limits,
+    taken: u64,
+    phase: Phase,
+    code: u8,
+    high: u8,
+    left: u16,
+    contents: Vec<u8>,
+    seen: Seen,
+    stop: Option<Stop>,
+}
+
+impl SegmentReader {
+    /// A reader that was given no bytes. It takes no memory yet.
+    pub fn new(alloc: Global, limits: Limits) -> SegmentReader
+        requires { AreLimits limits }
+        ensures stands { StandsFor [] (reading_of result) }
+        ensures limits { (reading_of result).limits ≡ limits }
+        ensures taken { (reading_of result).taken ≡ 0 }
+    {
+        SegmentReader {
+            limits,
+            taken: 0,
+            phase: Phase::Empty,
+            code: 0,
+            high: 0,
+            left: 0,
+            contents: Vec::new(alloc),
+            seen: Seen::none(limits.kept),
+            stop: None,
+        }
+    }
+
+    /// Takes a byte outside scan data. For all bytes that the reader stands for, its answer is what
+    /// these and the byte come to: Start behind SOI, Frame behind the marker of a frame header (SOF0,
+    /// SOF1 or SOF2), Eoi behind EOI, Whole with a segment's last byte, More where it is none of these,
+    /// and else the fault that they show, at the number of bytes taken: NotJpeg, NoMarker,
+    /// UnexpectedMarker, UnsupportedProcess, SecondFrame, SosBeforeSof, BadLength (a length below 2) or
+    /// MarkersTooLarge. NoMemory comes where the contents find none. After a stop it answers the same
+    /// stop.
+    pub fn byte(&mut self, byte: u8) -> Result<SegStep, Stop>
+        requires { (reading_of self.old).taken < (reading_of self.old).limits.input }
+        ensures answered { (bytes : List ℕ) → StandsFor bytes (reading_of self.old) → Comes (bytes ++ byte ∷ []) result (reading_of self.new) }
+        ensures taken { (reading_of self.old).stop ≡ None → (reading_of self.new).taken ≡ (reading_of self.old).taken + 1 }
+        ensures again { (stop : Stopped) → (reading_of self.old).stop ≡ Some stop → (result ≡ Err stop) × (self.new ≡ self.old) }
+        ensures stopped { IfErr result (λ stop. (reading_of self.new).stop ≡ Some stop) }
+        ensures limits { (reading_of self.new).limits ≡ (reading_of self.old).limits }
+        ensures room { HasRoom self.old → HasRoom self.new }
+        ensures memory { (bytes : List ℕ) → StandsFor bytes (reading_of self.old) → HasRoom self.old → NotWanting result }
+    {
+        if let Some(stop) = self.stop {
+            return Err(stop);
+        }
+        self.taken += 1;
+        let next = self.next(byte);
+        self.answer(next)
+    }
+
+    /// Takes the marker that ended scan data, as if `byte` were given FF and its code, which is byte
+    /// number `at` of the input. The last answer was Whole for SOS.
+    pub fn marker(&mut self, code: u8, at: u64) -> Result<SegStep, Stop>
+        requires behind { IsBehindScan (reading_of self.old) }
+        requires later { (reading_of self.old).taken + 2 ≤ at }
+        requires within { at ≤ (reading_of self.old).limits.input }
+        ensures answered { (bytes : List ℕ) → StandsFor bytes (reading_of self.old) → Comes (bytes ++ 255 ∷ code ∷ []) result (reading_of self.new) }
+        ensures taken { (reading_of self.new).taken ≡ at }
+        ensures stopped { IfErr result (λ stop. (reading_of self.new).stop ≡ Some stop) }
+        ensures limits { (reading_of self.new).limits ≡ (reading_of self.old).limits }
+        ensures room { HasRoom self.old → HasRoom self.new }
+        ensures memory { NotWanting result }
+    {
+        self.phase = Phase::Fill;
+        self.taken = at;
+        let next = self.code_byte(code);
+        self.answer(next)
+    }
+
+    /// Makes room for the contents of one segment of any length. It changes nothing else, and after
+    /// Ok no call finds memory wanting.
+    pub fn reserve(&mut self) -> Result<(), NoMemory>
+        ensures same { reading_of self.new ≡ reading_of self.old }
+        ensures room { IfOk result (λ _. HasRoom self.new) }
+        ensures kept { HasRoom self.old → HasRoom self.new }
+    {
+        let more = LONGEST.saturating_sub(self.contents.len());
+        match self.contents.reserve(more) {
+            Ok(()) => Ok(()),
+            Err(_) => Err(NoMemory),
+        }
+    }
+
+    /// The code of the last whole segment, where Whole was the last answer.
+    pub fn code(&self) -> u8
+        ensures { result ≡ (reading_of self.now).code }
+    {
+        self.code
+    }
+
+    /// The contents of the last whole segment, where Whole was the last answer: at most 65,533 bytes.
+    pub fn contents(&self) -> &[u8]
+        ensures { result.now ≡ (reading_of self.now).contents }
+    {
+        self.contents.as_slice()
+    }
+
+    /// How many bytes of the input were taken, those of scan data with them.
+    pub fn taken(&self) -> u64
+        ensures { result ≡ (reading_of self.now).taken }
+    {
+        self.taken
+    }
+
+    // Keeps a halt as the stop that every later call answers.
+    fn answer(&mut self, next: Result<SegStep, Halt>) -> Result<SegStep, Stop>
+        requires { (reading_of self.old).stop ≡ None }
+        ensures goes { (bytes : List ℕ) → Goes bytes next (reading_of self.old) → Comes bytes result (reading_of self.new) }
+        ensures stopped { IfErr result (λ stop. (reading_of self.new).stop ≡ Some stop) }
+        ensures limits { (reading_of self.new).limits ≡ (reading_of self.old).limits }
+        ensures taken { (reading_of self.new).taken ≡ (reading_of self.old).taken }
+        ensures room { HasRoom self.old → HasRoom self.new }
+        ensures memory { HaltsNot next → NotWanting result }
+    {
+        match next {
+            Ok(step) => Ok(step),
+            Err(Halt::Fault(fault)) => {
+                let stop = Stop::Fault(FaultAt {
+                    fault,
+                    at: self.taken,
+                });
+                self.stop = Some(stop);
+                Err(stop)
+            }
+            Err(Halt::NoMemory) => {
+                self.stop = Some(Stop::NoMemory);
+                Err(Stop::NoMemory)
+            }
+        }
+    }
+
+    // What a byte leads to, by where the bytes stand.
+    fn next(&mut self, byte: u8) -> Result<SegStep, Halt>
+        ensures goes { (bytes : List ℕ) → StandsFor bytes (reading_of self.old) → Goes (bytes ++ byte ∷ []) result (reading_of self.new) }
+        ensures stays { Stays self.old self.new }
+        ensures memory { (bytes : List ℕ) → StandsFor bytes (reading_of self.old) → HasRoom self.old → HaltsNot result }
+    {
+        match self.phase {
+            Phase::Contents => self.content_byte(byte),
+            Phase::Empty => self.first_byte(byte),
+            Phase::HalfStart => self.second_byte(byte),
+            Phase::Between => self.item_byte(byte),
+            Phase::Fill => self.code_byte(byte),
+            Phase::Coded => self.high_byte(byte),
+            Phase::HalfLength => self.low_byte(byte),
+            Phase::Ended => Ok(SegStep::More),
+        }
+    }
+
+    fn first_byte(&mut self, byte: u8) -> Result<SegStep, Halt>
+        requires { (reading_of self.old).phase ≡ phase.Empty }
+        ensures goes { (bytes : List ℕ) → StandsFor bytes (reading_of self.old) → Goes (bytes ++ byte ∷ []) result (reading_of self.new) }
+        ensures stays { Stays self.old self.new }
+        ensures memory { HaltsNot result }
+    {
+        if byte != 0xff {
+            return Err(Halt::Fault(Fault::NotJpeg));
+        }
+        self.phase = Phase::HalfStart;
+        Ok(SegStep::More)
+    }
+
+    fn second_byte(&mut self, byte: u8) -> Result<SegStep, Halt>
+        requires { (reading_of self.old).phase ≡ phase.HalfStart }
+        ensures goes { (bytes : List ℕ) → StandsFor bytes (reading_of self.old) → Goes (bytes ++ byte ∷ []) result (reading_of self.new) }
+        ensures stays { Stays self.old self.new }
+        ensures memory { HaltsNot result }
+    {
+        if byte != 0xd8 {
+            return Err(Halt::Fault(Fault::NotJpeg));
+        }
+        self.phase = Phase::Between;
+        Ok(SegStep::Start)
+    }
+
+    // The first byte behind a whole segment.
+    fn item_byte(&mut self, byte: u8) -> Result<SegStep, Halt>
+        requires { (reading_of self.old).phase ≡ phase.Between }
+        ensures goes { (bytes : List ℕ) → StandsFor bytes (reading_of self.old) → Goes (bytes ++ byte ∷ []) result (reading_of self.new) }
+        ensures stays { Stays self.old self.new }
+        ensures memory { HaltsNot result }
+    {
+        if byte != 0xff {
+            return Err(Halt::Fault(Fault::NoMarker));
+        }
+        self.phase = Phase::Fill;
+        Ok(SegStep::More)
+    }
+
+    // A byte behind FF: a further fill byte, or a marker's code.
+    fn code_byte(&mut self, code: u8) -> Result<SegStep, Halt>
+        requires { (reading_of self.old).phase ≡ phase.Fill }
+        ensures goes { (bytes : List ℕ) → StandsFor bytes (reading_of self.old) → Goes (bytes ++ code ∷ []) result (reading_of self.new) }
+        ensures stays { Stays self.old self.new }
+        ensures memory { HaltsNot result }
+    {
+        if code == 0xff {
+            return Ok(SegStep::More);
+        }
+        if code == 0 {
+            return Err(Halt::Fault(Fault::NoMarker));
+        }
+        if let Some(fault) = code_fault(self.seen.framed, code) {
+            return Err(Halt::Fault(fault));
+        }
+        if code == 0xd9 {
+            self.phase = Phase::Ended;
+            return Ok(SegStep::Eoi);
+        }
+        self.code = code;
+        self.phase = Phase::Coded;
+        if is_frame_code(code) {
+            Ok(SegStep::Frame)
+        } else {
+            Ok(SegStep::More)
+        }
+    }
+
+    // The first byte of a length.
+    fn high_byte(&mut self, byte: u8) -> Result<SegStep, Halt>
+        requires { (reading_of self.old).phase ≡ phase.Coded }
+        ensures goes { (bytes : List ℕ) → StandsFor bytes (reading_of self.old) → Goes (bytes ++ byte ∷ []) result (reading_of self.new) }
+        ensures stays { Stays self.old self.new }
+        ensures memory { HaltsNot result }
+    {
+        self.high = byte;
+        self.phase = Phase::HalfLength;
+        Ok(SegStep::More)
+    }
+
+    // The second byte of a length, which counts itself.
+    fn low_byte(&mut self, byte: u8) -> Result<SegStep, Halt>
+        requires { (reading_of self.old).phase ≡ phase.HalfLength }
+        ensures goes { (bytes : List ℕ) → StandsFor bytes (reading_of self.old) → Goes (bytes ++ byte ∷ []) result (reading_of self.new) }
+        ensures stays { Stays self.old self.new }
+        ensures memory { HaltsNot result }
+    {
+        let length = BigEndian::read_u16(&[self.high, byte]);
+        if length < 2 {
+            return Err(Halt::Fault(Fault::BadLength));
+        }
+        self.left = length - 2;
+        self.contents.clear();
+        if self.left == 0 {
+            return self.whole();
+        }
+        self.phase = Phase::Contents;
+        Ok(SegStep::More)
+    }
+
+    #[inline(always)]
+    fn content_byte(&mut self, byte: u8) -> Result<SegStep, Halt>
+        requires { (reading_of self.old).phase ≡ phase.Contents }
+        ensures goes { (bytes : List ℕ) → StandsFor bytes (reading_of self.old) → Goes (bytes ++ byte ∷ []) result (reading_of self.new) }
+        ensures stays { Stays self.old self.new }
+        ensures memory { (bytes : List ℕ) → StandsFor bytes (reading_of self.old) → HasRoom self.old → HaltsNot result }
+    {
+        if self.contents.push(byte).is_err() {
+            return Err(Halt::NoMemory);
+        }
+        if self.left > 1 {
+            self.left -= 1;
+            return Ok(SegStep::More);
+        }
+        self.whole()
+    }
+
+    // The last byte of a segment is there.
+    fn whole(&mut self) -> Result<SegStep, Halt>
+        ensures goes { (bytes : List ℕ) → (reading_of self.old).stop ≡ None → IsWhole bytes (reading_of self.old) → Goes bytes result (reading_of self.new) }
+        ensures stays { Stays self.old self.new }
+        ensures memory { HaltsNot result }
+    {
+        match self.seen.with(self.code, self.contents.as_slice()) {
+            None => Err(Halt::Fault(Fault::MarkersTooLarge)),
+            Some(seen) => {
+                self.seen = seen;
+                self.phase = Phase::Between;
+                Ok(SegStep::Whole)
+            }
+        }
+    }
+}
