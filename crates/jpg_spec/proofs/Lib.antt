@@ -4,11 +4,13 @@ pub mod Excludes
 pub mod Facts
 pub mod Full
 pub mod Levels
+pub mod MarkersOnce
 pub mod Once
 pub mod OneCode
 pub mod OneFile
 pub mod Packing
 pub mod PlainText
+pub mod Reached
 pub mod Rows
 pub mod Sequential
 pub mod Small
