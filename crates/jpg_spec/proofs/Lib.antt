@@ -11,6 +11,7 @@ pub mod OneFile
 pub mod Packing
 pub mod PlainText
 pub mod Reached
+pub mod ReadBytes
 pub mod Rows
 pub mod Sequential
 pub mod Small

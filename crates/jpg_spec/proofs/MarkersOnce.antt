@@ -1,10 +1,9 @@
 -- Bytes begin with one marker at most, and with one segment at most; of two lists of segments that begin the same bytes one goes on from the other.
-use Rattle.std.proofs.Common.{◌≡◌, ℕ, zero, suc, ◌+◌, ◌*◌, ◌/◌, ◌%◌, ◌<◌, List, [], ◌∷◌, ◌++◌, length, refl, sym, ap, ◌∙◌, subst, arith, inl, inr, ⊎_elim}
+use Rattle.std.proofs.Common.{◌≡◌, ℕ, zero, suc, ◌+◌, ◌/◌, ◌%◌, ◌<◌, List, [], ◌∷◌, ◌++◌, length, refl, sym, ap, ◌∙◌, arith, inl, inr, ⊎_elim}
 use Rattle.std.specs.Prelude.{◌⊎◌, replicate}
 use Rattle.std.specs.Int.{to_be_bytes, from_be_bytes, w16}
 use Rattle.std.proofs.lemmas.Nat.{from_be_bytes-to_be_bytes_2}
 use Rattle.std.proofs.lemmas.List.{append_assoc, append-nil, append_cancel_left}
-use Rattle.jpg_spec.specs.Bits.{IsMarkerCode}
 use Rattle.jpg_spec.specs.Segments.{two_bytes}
 use Rattle.jpg_spec.specs.Markers.{Segment, soi, SpellsMarker, SpellsSegment, SpellsSegments}
 use Rattle.jpg_spec.proofs.Rows.{append_apart}
@@ -139,9 +138,14 @@ more_once xs (y ∷ ys) a b u v s t e =
         let from : text ++ u ≡ t.1 ++ v = append_cancel_left t.0 (text ++ u) (t.1 ++ v) (sym (append_assoc t.0 text u) ∙ ap (λ l. l ++ u) (sym cut) ∙ e ∙ ap (λ l. l ++ v) t.2 ∙ append_assoc t.0 t.1 v) in
         let h = segment_once o.1.0 y.0 o.1.1 y.1 o.2 t.1 (o.3 ++ u) v o.6 t.4 (sym (append_assoc o.2 o.3 u) ∙ ap (λ l. l ++ u) (sym o.5) ∙ from) in
         let first = same_segment o.1 y h.0 h.1 in
-        inr (o.0, o.3,
-        same ∙ ap (λ l. l ++ ys) o.4 ∙ ap (λ z. o.0 ++ z ∷ [] ++ ys) first ∙ append_assoc o.0 (y ∷ []) ys,
-        cut ∙ ap (λ l. t.0 ++ l) (o.5 ∙ ap (λ l. l ++ o.3) h.2) ∙ sym (append_assoc t.0 t.1 o.3) ∙ ap (λ l. l ++ o.3) (sym t.2), o.8)
+        inr (
+          o.0,
+          o.3,
+          same ∙ ap (λ l. l ++ ys) o.4 ∙ ap (λ z. o.0 ++ z ∷ [] ++ ys) first ∙ append_assoc o.0 (y ∷ []) ys,
+          cut ∙ ap (λ l. t.0 ++ l) (o.5 ∙ ap (λ l. l ++ o.3) h.2) ∙ sym (append_assoc t.0 t.1 o.3) ∙ ap (λ l. l ++ o.3) (sym t.2),
+          o.8,
+        )
+
     by : GoesOn xs a ys t.0 ⊎ GoesOn ys t.0 xs a → GoesOn xs a (y ∷ ys) b ⊎ GoesOn (y ∷ ys) b xs a
     by (inl g) = inl (goes_more xs ys a b t.0 t.1 y t.2 t.4 t.5 g)
     by (inr g) = behind g.0 g.1 g.2 g.3 g.4

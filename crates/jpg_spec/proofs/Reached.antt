@@ -1,157 +1,60 @@
--- What bytes come to, read byte by byte: so they come to one thing, and none that shows a fault, or is at EOI, goes on.
-use Rattle.std.proofs.Common.{◌≡◌, ℕ, zero, suc, ◌+◌, ◌-◌, ◌<◌, ◌≤◌, Bool, true, false, cond, List, [], ◌∷◌, ◌++◌, length, refl, sym, ap, ◌∙◌, subst, arith, inl, inr, ⊎_elim, Option, Some, None}
-use Rattle.std.specs.Prelude.{◌⊎◌, ◌==◌, nat_lt, replicate}
-use Rattle.std.specs.Int.{to_be_bytes, w16}
-use Rattle.std.proofs.lemmas.List.{append_assoc, append-nil}
-use Rattle.std.proofs.lemmas.Bool.Decides.{nat_tests}
-use Rattle.jpg_spec.specs.Segments.{two_bytes}
-use Rattle.jpg_spec.specs.Markers.{Segment, soi, SpellsMarker, SpellsSegment, SpellsSegments, is_frame_code, code_fault, Rule, Pass, ShowsNoStart, Between, NoMarkerBytes, BeginsSegment, ShowsCode, ShowsLength, ShowsSegment, TailShows, SegmentsShow, PartOfSegment, Reached, at_soi, at_frame, at_eoi, at_segment, at_fault, at_part, Reaches}
+-- Bytes come to one thing at most, and behind those that show a fault, or are at EOI, nothing is reached.
+use Rattle.std.proofs.Common.{◌≡◌, ℕ, zero, suc, ◌<◌, List, [], ◌∷◌, ◌++◌, length, take, refl, sym, ap, ◌∙◌, subst, arith, Some, None}
+use Rattle.std.proofs.Math.Seq.{take_all}
+use Rattle.jpg_spec.specs.Faults.{number_of}
+use Rattle.jpg_spec.specs.Markers.{Rule, SegmentsShow, Reached, at_eoi, at_fault, Reaches, IsLeast}
 use Rattle.jpg_spec.specs.declared.fault.Fault.{Fault}
-use Rattle.jpg_spec.specs.declared.fault.Fault.TheVariants.{NotJpeg, NoMarker, BadLength}
-use Rattle.jpg_spec.proofs.MarkersOnce.{length_bytes}
+use Rattle.jpg_spec.proofs.ReadBytes.{State, starts, stopped, ended, behind, next, read, called, read_both, read_behind, read_fault, read_eoi, reads}
 
--- STATES between bytes
+some_once : {X : Type 0} (x y : X) → Some x ≡ Some y → x ≡ y
+some_once x y e = cc
 
--- nothing; the FF of SOI; whole segments; FF bytes behind them; a marker; a byte of its length; some contents, of which suc k bytes are left; a fault, EOI, and what is behind these
-pub data State : Type 0 where
-  starts : State
-  starting : State
-  whole : List Segment → State
-  filling : List Segment → State
-  marked : List Segment → ℕ → State
-  half : List Segment → ℕ → ℕ → State
-  inside : List Segment → ℕ → ℕ → List ℕ → State
-  stopped : Fault → State
-  ended : State
-  behind : State
+no_some : {X : Type 0} (x : X) → None ≡ Some x → ⊥
+no_some x e = cc
 
--- behind a segment that is whole
-abbrev pub judged : List Segment → ℕ → List ℕ → Option Fault → State
-judged before code contents None = whole ((code, contents) ∷ before)
-judged before code contents (Some fault) = stopped fault
+-- THE LAW: bytes come to one thing at most
+pub reached_once : (rule : Rule) (bytes : List ℕ) (x y : Reached) → Reaches rule bytes x → Reaches rule bytes y → x ≡ y
+reached_once rule bytes x y s t = some_once x y (sym (reads rule bytes x s) ∙ reads rule bytes y t)
 
--- contents, and how many of their bytes are left
-abbrev pub taken : Rule → List Segment → ℕ → ℕ → List ℕ → State
-taken rule before code zero contents = judged before code contents (rule before code contents)
-taken rule before code (suc left) contents = inside before code left contents
+same_fault : (f g : Fault) → at_fault f ≡ at_fault g → f ≡ g
+same_fault f g e = cc
 
--- behind a code that no fault forbids, or a fault
-abbrev pub allowed : List Segment → ℕ → Option Fault → State
-allowed before code None = cond (code == 0xd9) ended (marked before code)
-allowed before code (Some fault) = stopped fault
+pub fault_once : (rule : Rule) (bytes : List ℕ) (f g : Fault) → SegmentsShow rule f bytes → SegmentsShow rule g bytes → f ≡ g
+fault_once rule bytes f g s t = same_fault f g (reached_once rule bytes (at_fault f) (at_fault g) s t)
 
-abbrev pub counted : Rule → List Segment → ℕ → ℕ → State
-counted rule before code n = cond (nat_lt n 2) (stopped BadLength) (taken rule before code (n - 2) [])
+-- behind bytes that no byte goes on from nothing is reached
+nothing_behind : (rule : Rule) (front rest : List ℕ) (b : ℕ) (x : Reached) (s : State) → read rule starts front ≡ s → next rule s b ≡ behind → Reaches rule (front ++ b ∷ rest) x → ⊥
+nothing_behind rule front rest b x s e n r =
+    let h : read rule starts (front ++ b ∷ rest) ≡ behind =
+    read_both rule starts front (b ∷ rest) ∙ ap (λ t. read rule (next rule t b) rest) e ∙ ap (λ t. read rule t rest) n ∙ read_behind rule rest in
+    no_some x (sym (ap called h) ∙ reads rule (front ++ b ∷ rest) x r)
 
--- the next byte
-abbrev pub next : Rule → State → ℕ → State
-next rule starts b = cond (b == 255) starting (stopped NotJpeg)
-next rule starting b = cond (b == 0xd8) (whole []) (stopped NotJpeg)
-next rule (whole before) b = cond (b == 255) (filling before) (stopped NoMarker)
-next rule (filling before) b = cond (b == 255) (filling before) (cond (b == 0) (stopped NoMarker) (allowed before b (code_fault before b)))
-next rule (marked before code) b = half before code b
-next rule (half before code high) b = counted rule before code (two_bytes high b)
-next rule (inside before code left contents) b = taken rule before code left (contents ++ b ∷ [])
-next rule (stopped fault) b = behind
-next rule ended b = behind
-next rule behind b = behind
+-- THE LAW: a fault is shown by the first bytes that reach it, and nothing is reached behind them
+pub shown_first : (rule : Rule) (front rest : List ℕ) (b : ℕ) (x : Reached) (f : Fault) → Reaches rule (front ++ b ∷ rest) x → Reaches rule front (at_fault f) → ⊥
+shown_first rule front rest b x f r s = nothing_behind rule front rest b x (stopped f) (read_fault rule front f s) refl r
 
-abbrev pub read : Rule → State → List ℕ → State
-read rule s [] = s
-read rule s (b ∷ bytes) = read rule (next rule s b) bytes
+-- and nothing behind EOI
+pub ended_first : (rule : Rule) (front rest : List ℕ) (b : ℕ) (x : Reached) → Reaches rule (front ++ b ∷ rest) x → Reaches rule front at_eoi → ⊥
+ended_first rule front rest b x r s = nothing_behind rule front rest b x ended (read_eoi rule front s) refl r
 
--- what a state is called
-abbrev pub called : State → Option Reached
-called starts = Some at_part
-called starting = Some at_part
-called (whole []) = Some at_soi
-called (whole (s ∷ before)) = Some (at_segment s)
-called (filling before) = Some at_part
-called (marked before code) = Some (cond (is_frame_code code) at_frame at_part)
-called (half before code high) = Some at_part
-called (inside before code left contents) = Some at_part
-called (stopped fault) = Some (at_fault fault)
-called ended = Some at_eoi
-called behind = None
+-- the front of fewer bytes
+cut_at : {X : Type 0} (xs : List X) (n : ℕ) → n < length xs → (b : X) × (rest : List X) × (xs ≡ take n xs ++ b ∷ rest)
+cut_at [] n h = absurd (omega (arith, h))
+cut_at (x ∷ xs) zero h = (x, xs, refl)
+cut_at (x ∷ xs) (suc n) h = let r = cut_at xs n (omega (arith, h)) in (r.0, r.1, ap (λ l. x ∷ l) r.2)
 
--- HOW THEY ARE READ
+-- no shorter front of bytes that reach something shows a fault
+pub fronts_clean : (rule : Rule) (bytes : List ℕ) (x : Reached) (f : Fault) (n : ℕ) → Reaches rule bytes x → n < length bytes → SegmentsShow rule f (take n bytes) → ⊥
+fronts_clean rule bytes x f n r h s =
+    let c = cut_at bytes n h in
+    shown_first rule (take n bytes) c.1 c.0 x f (subst (λ l. Reaches rule l x) c.2 r) s
 
-pub read_both : (rule : Rule) (s : State) (a b : List ℕ) → read rule s (a ++ b) ≡ read rule (read rule s a) b
-read_both rule s [] b = refl
-read_both rule s (x ∷ a) b = read_both rule (next rule s x) a b
-
-pub read_behind : (rule : Rule) (bytes : List ℕ) → read rule behind bytes ≡ behind
-read_behind rule [] = refl
-read_behind rule (b ∷ bytes) = read_behind rule bytes
-
-pub read_fills : (rule : Rule) (before : List Segment) (fill : ℕ) → read rule (filling before) (replicate fill 255) ≡ filling before
-read_fills rule before zero = refl
-read_fills rule before (suc fill) = read_fills rule before fill
-
-test_no : (a b : ℕ) → (a ≡ b → ⊥) → (a == b) ≡ false
-test_no a b h = grind (arith, nat_tests)
-
--- FF bytes and another byte
-pub read_filled : (rule : Rule) (before : List Segment) (fill b : ℕ) → (b ≡ 255 → ⊥)
-    → read rule (whole before) (replicate (suc fill) 255 ++ b ∷ []) ≡ cond (b == 0) (stopped NoMarker) (allowed before b (code_fault before b))
-read_filled rule before fill b n =
-    read_both rule (filling before) (replicate fill 255) (b ∷ []) ∙ ap (λ s. next rule s b) (read_fills rule before fill)
-    ∙ ap (λ t. cond t (filling before) (cond (b == 0) (stopped NoMarker) (allowed before b (code_fault before b)))) (test_no b 255 n)
-
-pub read_marker : (rule : Rule) (before : List Segment) (code : ℕ) (bytes : List ℕ) → SpellsMarker code bytes → read rule (whole before) bytes ≡ allowed before code (code_fault before code)
-read_marker rule before code bytes s =
-    ap (λ l. read rule (whole before) l) s.1 ∙ read_filled rule before s.0 code s.2.1
-    ∙ ap (λ t. cond t (stopped NoMarker) (allowed before code (code_fault before code))) (test_no code 0 s.2.0)
-
--- a marker that begins a segment
-pub read_begin : (rule : Rule) (before : List Segment) (code : ℕ) (marker : List ℕ) → BeginsSegment before code marker → read rule (whole before) marker ≡ marked before code
-read_begin rule before code marker s =
-    read_marker rule before code marker s.0 ∙ ap (λ f. allowed before code f) s.1 ∙ ap (λ t. cond t ended (marked before code)) (test_no code 0xd9 s.2)
-
--- a marker and a length
-pub read_length : (rule : Rule) (before : List Segment) (code high low : ℕ) (marker : List ℕ) → BeginsSegment before code marker
-    → read rule (whole before) (marker ++ high ∷ low ∷ []) ≡ counted rule before code (two_bytes high low)
-read_length rule before code high low marker s =
-    read_both rule (whole before) marker (high ∷ low ∷ []) ∙ ap (λ t. read rule t (high ∷ low ∷ [])) (read_begin rule before code marker s)
-
--- contents, and what is left then
-pub read_contents : (rule : Rule) (before : List Segment) (code left : ℕ) (done contents : List ℕ)
-    → read rule (taken rule before code (length contents + left) done) contents ≡ taken rule before code left (done ++ contents)
-read_contents rule before code left done [] =
-    let z : 0 + left ≡ left = omega arith in
-    ap (λ n. taken rule before code n done) z ∙ ap (λ l. taken rule before code left l) (sym (append-nil done))
-read_contents rule before code left done (b ∷ contents) =
-    let n : suc (length contents) + left ≡ suc (length contents + left) = omega arith in
-    ap (λ k. read rule (taken rule before code k done) (b ∷ contents)) n ∙ read_contents rule before code left (done ++ b ∷ []) contents
-    ∙ ap (λ l. taken rule before code left l) (append_assoc done (b ∷ []) contents)
-
--- a marker, a length, and some of the contents that it counts
-pub read_some : (rule : Rule) (before : List Segment) (code high low left : ℕ) (marker contents : List ℕ) → BeginsSegment before code marker → two_bytes high low ≡ length contents + left + 2
-    → read rule (whole before) (marker ++ high ∷ low ∷ contents) ≡ taken rule before code left contents
-read_some rule before code high low left marker contents s n =
-    let two : nat_lt (length contents + left + 2) 2 ≡ false = grind (arith, nat_tests) in
-    let less : length contents + left + 2 - 2 ≡ length contents + left = omega arith in
-    ap (λ l. read rule (whole before) l) (sym (append_assoc marker (high ∷ low ∷ []) contents)) ∙ read_both rule (whole before) (marker ++ high ∷ low ∷ []) contents
-    ∙ ap (λ t. read rule t contents) (read_length rule before code high low marker s ∙ ap (λ k. counted rule before code k) n
-    ∙ ap (λ t. cond t (stopped BadLength) (taken rule before code (length contents + left + 2 - 2) [])) two ∙ ap (λ k. taken rule before code k []) less)
-    ∙ read_contents rule before code left [] contents
-
--- a whole segment
-pub read_segment : (rule : Rule) (before : List Segment) (code : ℕ) (contents bytes : List ℕ) → SpellsSegment code contents bytes → code_fault before code ≡ None → (code ≡ 0xd9 → ⊥)
-    → read rule (whole before) bytes ≡ judged before code contents (rule before code contents)
-read_segment rule before code contents bytes s f n =
-    let l = length_bytes (length contents + 2) s.2 in
-    let z : two_bytes l.0 l.1 ≡ length contents + 0 + 2 = omega (arith, l.3) in
-    let cut : bytes ≡ s.0 ++ l.0 ∷ l.1 ∷ contents = s.3 ∙ ap (λ k. s.0 ++ k ++ contents) l.2 ∙ append_assoc s.0 (l.0 ∷ l.1 ∷ []) contents in
-    ap (λ k. read rule (whole before) k) cut ∙ read_some rule before code l.0 l.1 0 s.0 contents (s.1, f, n) z
-
--- whole segments that break no rule
-pub read_segments : (rule : Rule) (before : List Segment) (bytes : List ℕ) → SpellsSegments before bytes → Pass rule before → read rule starts bytes ≡ whole before
-read_segments rule [] bytes s p = ap (λ l. read rule starts l) s
-read_segments rule (x ∷ before) bytes s p =
-    ap (λ l. read rule starts l) s.2 ∙ read_both rule starts s.0 s.1 ∙ ap (λ t. read rule t s.1) (read_segments rule before s.0 s.3 p.2)
-    ∙ read_segment rule before x.0 x.1 s.1 s.4 p.0 s.5 ∙ ap (λ f. judged before x.0 x.1 f) p.1
-
-pub read_between : (rule : Rule) (bytes : List ℕ) (before : List Segment) (tail : List ℕ) → Between rule bytes before tail → read rule starts bytes ≡ read rule (whole before) tail
-read_between rule bytes before tail w =
-    ap (λ l. read rule starts l) w.cut ∙ read_both rule starts w.front tail ∙ ap (λ t. read rule t tail) (read_segments rule before w.front w.spelled w.passed)
+-- what shows a fault is the least front that shows one, and shows no other
+pub least : (rule : Rule) (bytes : List ℕ) (f : Fault) → SegmentsShow rule f bytes → IsLeast (SegmentsShow rule) bytes f (length bytes)
+least rule bytes f s =
+    let all : take (length bytes) bytes ≡ bytes = take_all (length bytes) bytes (omega arith) in (
+      omega arith,
+      subst (λ l. SegmentsShow rule f l) (sym all) s,
+      λ other m h t. fronts_clean rule bytes (at_fault f) other m s h t,
+      λ other h t. (let e = ap number_of (fault_once rule bytes other f (subst (λ l. SegmentsShow rule other l) all t) s) in let z : ⊥ = omega (arith, e, h) in z),
+    )
