@@ -3,6 +3,7 @@ pub mod Behind
 pub mod Excludes
 pub mod Facts
 pub mod Full
+pub mod HeadersOnce
 pub mod Levels
 pub mod MarkersOnce
 pub mod Once
