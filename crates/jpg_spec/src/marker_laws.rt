@@ -1,6 +1,6 @@
 //! Laws over marker segments: bytes come to one thing at most, and the first bytes that show a fault show one (T.81 B.1.1.2 to B.1.1.4).
 ghost use Rattle.std.specs.Prelude.{◌≡◌, ◌<◌, ◌++◌, ◌∷◌, ℕ, List, length, take};
-ghost use Rattle.jpg_spec.specs.Markers.{Segment, SpellsMarker, SpellsSegment, Rule, Reached, at_eoi, at_fault, Reaches, SegmentsShow, IsLeast};
+ghost use Rattle.jpg_spec.specs.Markers.{SpellsMarker, SpellsSegment, Rule, Reached, at_eoi, at_fault, Reaches, SegmentsShow, IsLeast};
 ghost use Rattle.jpg_spec.specs.declared.fault.Fault.{Fault};
 
 /// Bytes begin with one marker at most, however many fill bytes FF it has (T.81, B.1.1.2 and B.1.1.3).
