@@ -3,12 +3,16 @@ pub mod Behind
 pub mod Excludes
 pub mod Facts
 pub mod Full
+pub mod HeadersOnce
 pub mod Levels
+pub mod MarkersOnce
 pub mod Once
 pub mod OneCode
 pub mod OneFile
 pub mod Packing
 pub mod PlainText
+pub mod Reached
+pub mod ReadBytes
 pub mod Rows
 pub mod Sequential
 pub mod Small

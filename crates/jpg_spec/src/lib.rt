@@ -8,6 +8,7 @@ mod fault;
 mod frame;
 pub mod gray_laws;
 pub mod laws;
+pub mod marker_laws;
 
 pub use answers::{Asked, FaultAt, Usage, UsageFault, Which, Why};
 pub use fault::Fault;
