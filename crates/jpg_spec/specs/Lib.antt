@@ -13,6 +13,7 @@ pub mod FrameContents
 pub mod FrameHeader
 pub mod Geometry
 pub mod GrayFile
+pub mod Header
 pub mod History
 pub mod HuffContents
 pub mod InForce
@@ -32,6 +33,7 @@ pub mod ScanText
 pub mod Script
 pub mod Segments
 pub mod Sending
+pub mod SingleScan
 pub mod Sound
 pub mod Switches
 pub mod Told
