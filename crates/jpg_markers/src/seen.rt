@@ -1,5 +1,5 @@
 // What segments leave behind for those after them (T.81 B.1.1, Table B.1).
-ghost use Rattle.std.specs.Prelude.{◌≡◌, ◌≤◌, ◌||◌, ◌==◌, ℕ, List, [], ◌∷◌, length, Some, None, IfSome, IfNone};
+ghost use Rattle.std.specs.Prelude.{◌≡◌, ◌||◌, ◌==◌, ℕ, List, [], ◌∷◌, Some, None, IfSome, IfNone};
 ghost use Rattle.jpg_spec.specs.Jfif.{begins_jfif, begins_adobe};
 ghost use Rattle.jpg_spec.specs.Markers.{Segment, code_fault_if, counts_nothing, is_frame_code, is_kept_if, is_plain_adobe, is_plain_jfif, is_unexpected, is_unsupported, kept_rule, kept_size};
 ghost use Rattle.jpg_spec.specs.declared.frame.Limits.{Limits};
@@ -36,7 +36,6 @@ impl Seen {
 
     /// The same with one segment more; None where its kept bytes exceed what is free.
     pub fn with(&self, code: u8, contents: &[u8]) -> Option<Seen>
-        requires { length contents.now ≤ 65533 }
         ensures some { IfSome result (λ next. (limits : Limits) (before : List Segment) → HasSeen limits self.now before → (kept_rule limits before code contents.now ≡ None) × HasSeen limits next ((code, contents.now) ∷ before)) }
         ensures none { IfNone result ((limits : Limits) (before : List Segment) → HasSeen limits self.now before → kept_rule limits before code contents.now ≡ Some fault.MarkersTooLarge) }
     {
@@ -146,7 +145,6 @@ fn is_plain_adobe(code: u8, contents: &[u8]) -> bool
 // What a kept segment counts: its contents and 4 bytes, but nothing where it is the first JFIF header
 // of 14 bytes or the first Adobe segment of 12.
 fn kept_size(jfif: bool, adobe: bool, code: u8, contents: &[u8]) -> u64
-    requires { length contents.now ≤ 65533 }
     ensures { result ≡ kept_size jfif adobe (code, contents.now) }
 {
     if is_plain_jfif(code, contents) && !jfif || is_plain_adobe(code, contents) && !adobe {

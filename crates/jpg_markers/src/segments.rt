@@ -103,6 +103,8 @@ impl SegmentReader {
         if let Some(stop) = self.stop {
             return Err(stop);
         }
+        let within = self.taken < self.limits.input;
+        prove!(within);
         self.taken += 1;
         let next = self.next(byte);
         self.answer(next)
@@ -315,14 +317,16 @@ impl SegmentReader {
         ensures stays { Stays self.old self.new }
         ensures memory { (bytes : List ℕ) → StandsFor bytes (reading_of self.old) → HasRoom self.old → HaltsNot result }
     {
-        if self.contents.push(byte).is_err() {
-            return Err(Halt::NoMemory);
+        match self.contents.push(byte) {
+            Ok(()) => {
+                if self.left > 1 {
+                    self.left -= 1;
+                    return Ok(SegStep::More);
+                }
+                self.whole()
+            }
+            Err(_) => Err(Halt::NoMemory),
         }
-        if self.left > 1 {
-            self.left -= 1;
-            return Ok(SegStep::More);
-        }
-        self.whole()
     }
 
     // The last byte of a segment is there.
