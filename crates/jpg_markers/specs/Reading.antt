@@ -1,9 +1,10 @@
 -- What a reader of segments keeps of the bytes that it was given, and what they come to.
-use Rattle.std.specs.Prelude.{◌≡◌, ℕ, suc, ◌+◌, ◌<◌, ◌≤◌, List, [], ◌∷◌, ◌++◌, length, replicate, Option, Some, None, Result, Ok, Err, vec_capacity}
+use Rattle.std.specs.Prelude.{◌≡◌, ◌⊎◌, ℕ, suc, ◌+◌, ◌<◌, ◌≤◌, List, [], ◌∷◌, ◌++◌, length, replicate, Option, Some, None, Result, Ok, Err, vec_capacity}
 use Rattle.jpg_spec.specs.Segments.{two_bytes}
-use Rattle.jpg_spec.specs.Markers.{Segment, SpellsSegment, code_fault, kept_rule, Between, BeginsSegment, Reached, at_soi, at_frame, at_eoi, at_segment, at_fault, at_part, Reaches}
+use Rattle.jpg_spec.specs.Markers.{Segment, Rule, SpellsMarker, SpellsSegment, code_fault, kept_rule, Between, ShowsNoStart, NoMarkerBytes, TailShows, BeginsSegment, Reached, at_soi, at_frame, at_eoi, at_segment, at_fault, at_part, Reaches}
 use Rattle.jpg_spec.specs.declared.frame.Limits.{Limits}
 use Rattle.jpg_spec.specs.declared.fault.Fault.{Fault}
+use Rattle.jpg_spec.specs.declared.fault.Fault.TheVariants.{NotJpeg, NoMarker}
 use Rattle.jpg_base.specs.declared.stop.Stop.{Stop}
 use Rattle.jpg_base.specs.declared.stop.Stop.TheVariants as stop
 use Rattle.jpg_markers.specs.declared.seen.Seen.{Seen}
@@ -60,46 +61,57 @@ PartRead r phase.Contents before tail =
 PartRead r phase.Ended before tail = ⊥
 
 -- whole segments that break no rule, what they leave behind, and a part of one more
-abbrev pub IsBetween : Reading → Phase → List ℕ → Type 0
-IsBetween r p bytes =
-    (before : List Segment) × (tail : List ℕ) × Between (kept_rule r.limits) bytes before tail × HasSeen r.limits r.seen before × PartRead r p before tail
+abbrev pub IsBetween : Reading → Phase → List ℕ → List Segment → Type 0
+IsBetween r p bytes before =
+    (tail : List ℕ) × Between (kept_rule r.limits) bytes before tail × HasSeen r.limits r.seen before × PartRead r p before tail
 
-abbrev pub AtPhase : Reading → Phase → List ℕ → Type 0
-AtPhase r phase.Empty bytes = (bytes ≡ []) × HasSeen r.limits r.seen []
-AtPhase r phase.HalfStart bytes = (bytes ≡ 255 ∷ []) × HasSeen r.limits r.seen []
-AtPhase r phase.Between bytes = IsBetween r phase.Between bytes
-AtPhase r phase.Fill bytes = IsBetween r phase.Fill bytes
-AtPhase r phase.Coded bytes = IsBetween r phase.Coded bytes
-AtPhase r phase.HalfLength bytes = IsBetween r phase.HalfLength bytes
-AtPhase r phase.Contents bytes = IsBetween r phase.Contents bytes
-AtPhase r phase.Ended bytes = ⊥
+abbrev pub AtPhase : Reading → Phase → List ℕ → List Segment → Type 0
+AtPhase r phase.Empty bytes before = (bytes ≡ []) × (before ≡ []) × HasSeen r.limits r.seen []
+AtPhase r phase.HalfStart bytes before = (bytes ≡ 255 ∷ []) × (before ≡ []) × HasSeen r.limits r.seen []
+AtPhase r phase.Between bytes before = IsBetween r phase.Between bytes before
+AtPhase r phase.Fill bytes before = IsBetween r phase.Fill bytes before
+AtPhase r phase.Coded bytes before = IsBetween r phase.Coded bytes before
+AtPhase r phase.HalfLength bytes before = IsBetween r phase.HalfLength bytes before
+AtPhase r phase.Contents bytes before = IsBetween r phase.Contents bytes before
+AtPhase r phase.Ended bytes before = ⊥
 
--- The reader stands for these bytes, which were given to it, scan data left out.
-abbrev pub StandsFor : List ℕ → Reading → Type 0
-StandsFor bytes r = (r.stop ≡ None) × AtPhase r r.phase bytes
+-- The reader stands for these bytes, which were given to it, scan data left out. The whole segments among them are these.
+abbrev pub StandsFor : List ℕ → List Segment → Reading → Type 0
+StandsFor bytes before r = (r.stop ≡ None) × AtPhase r r.phase bytes before
 
--- WHAT THE BYTES COME TO
+-- WHAT THE BYTES COME TO, behind these whole segments
 
 -- the last segment is whole, and what it leaves behind isn't seen yet
-abbrev pub IsWhole : List ℕ → Reading → Type 0
-IsWhole bytes r =
-    (before : List Segment) × (tail : List ℕ) × Between (kept_rule r.limits) bytes before tail × HasSeen r.limits r.seen before
+abbrev pub IsWhole : List ℕ → List Segment → Reading → Type 0
+IsWhole bytes before r =
+    (tail : List ℕ) × Between (kept_rule r.limits) bytes before tail × HasSeen r.limits r.seen before
     × SpellsSegment r.code r.contents tail × (code_fault before r.code ≡ None) × (r.code ≡ 0xd9 → ⊥)
 
-abbrev pub Comes : List ℕ → Result SegStep Stop → Reading → Type 0
-Comes bytes (Ok step.More) r = Reaches (kept_rule r.limits) bytes at_part × StandsFor bytes r
-Comes bytes (Ok step.Start) r = Reaches (kept_rule r.limits) bytes at_soi × StandsFor bytes r
-Comes bytes (Ok step.Frame) r = Reaches (kept_rule r.limits) bytes at_frame × StandsFor bytes r
-Comes bytes (Ok step.Eoi) r = Reaches (kept_rule r.limits) bytes at_eoi
-Comes bytes (Ok step.Whole) r = Reaches (kept_rule r.limits) bytes (at_segment (r.code, r.contents)) × StandsFor bytes r
-Comes bytes (Err (stop.Fault f)) r = Reaches (kept_rule r.limits) bytes (at_fault f.fault) × (f.at ≡ r.taken)
-Comes bytes (Err stop.NoMemory) r = Unit {0}
+-- the fault that they show
+abbrev pub ShowsBehind : Rule → List Segment → Fault → List ℕ → Type 0
+ShowsBehind rule before fault bytes =
+    ((fault ≡ NotJpeg) × ShowsNoStart bytes)
+    ⊎ ((tail : List ℕ) × Between rule bytes before tail × (((fault ≡ NoMarker) × NoMarkerBytes tail) ⊎ TailShows rule before fault tail))
+
+-- an EOI that may stand there
+abbrev pub EndsBehind : Rule → List Segment → List ℕ → Type 0
+EndsBehind rule before bytes = (tail : List ℕ) × Between rule bytes before tail × SpellsMarker 0xd9 tail × (code_fault before 0xd9 ≡ None)
+
+abbrev pub Comes : List ℕ → List Segment → Result SegStep Stop → Reading → Type 0
+Comes bytes before (Ok step.More) r = Reaches (kept_rule r.limits) bytes at_part × StandsFor bytes before r
+Comes bytes before (Ok step.Start) r = Reaches (kept_rule r.limits) bytes at_soi × StandsFor bytes before r
+Comes bytes before (Ok step.Frame) r = Reaches (kept_rule r.limits) bytes at_frame × StandsFor bytes before r
+Comes bytes before (Ok step.Eoi) r = Reaches (kept_rule r.limits) bytes at_eoi × EndsBehind (kept_rule r.limits) before bytes
+Comes bytes before (Ok step.Whole) r = Reaches (kept_rule r.limits) bytes (at_segment (r.code, r.contents)) × StandsFor bytes ((r.code, r.contents) ∷ before) r
+Comes bytes before (Err (stop.Fault f)) r =
+    Reaches (kept_rule r.limits) bytes (at_fault f.fault) × ShowsBehind (kept_rule r.limits) before f.fault bytes × (f.at ≡ r.taken)
+Comes bytes before (Err stop.NoMemory) r = Unit {0}
 
 -- the same before a halt is kept as a stop
-abbrev pub Goes : List ℕ → Result SegStep Halt → Reading → Type 0
-Goes bytes (Ok s) r = Comes bytes (Ok s) r
-Goes bytes (Err (halt.Fault f)) r = Reaches (kept_rule r.limits) bytes (at_fault f)
-Goes bytes (Err halt.NoMemory) r = Unit {0}
+abbrev pub Goes : List ℕ → List Segment → Result SegStep Halt → Reading → Type 0
+Goes bytes before (Ok s) r = Comes bytes before (Ok s) r
+Goes bytes before (Err (halt.Fault f)) r = Reaches (kept_rule r.limits) bytes (at_fault f) × ShowsBehind (kept_rule r.limits) before f bytes
+Goes bytes before (Err halt.NoMemory) r = Unit {0}
 
 -- the last answer was Whole for an SOS segment
 abbrev pub IsBehindScan : Reading → Type 0

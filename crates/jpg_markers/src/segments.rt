@@ -1,6 +1,7 @@
 // The segments of a file, read byte by byte (T.81 B.1.1).
 ghost use Rattle.std.specs.Prelude.{◌≡◌, ◌≤◌, ◌<◌, ◌+◌, ℕ, List, [], ◌∷◌, ◌++◌, None, Some, Err, IfOk, IfErr};
 ghost use Rattle.jpg_spec.specs.FrameHeader.{AreLimits};
+ghost use Rattle.jpg_spec.specs.Markers.{Segment};
 ghost use Rattle.jpg_base.specs.declared.stop.Stop.{Stop as Stopped};
 ghost use Rattle.jpg_base.specs.declared.stop.Stop.TheVariants as stop;
 ghost use Rattle.jpg_markers.specs.declared.segments.Phase.TheVariants as phase;
@@ -66,7 +67,7 @@ impl SegmentReader {
     /// A reader that was given no bytes. It takes no memory yet.
     pub fn new(alloc: Global, limits: Limits) -> SegmentReader
         requires { AreLimits limits }
-        ensures stands { StandsFor [] (reading_of result) }
+        ensures stands { StandsFor [] [] (reading_of result) }
         ensures limits { (reading_of result).limits ≡ limits }
         ensures taken { (reading_of result).taken ≡ 0 }
     {
@@ -92,13 +93,13 @@ impl SegmentReader {
     /// stop.
     pub fn byte(&mut self, byte: u8) -> Result<SegStep, Stop>
         requires { (reading_of self.old).taken < (reading_of self.old).limits.input }
-        ensures answered { (bytes : List ℕ) → StandsFor bytes (reading_of self.old) → Comes (bytes ++ byte ∷ []) result (reading_of self.new) }
+        ensures answered { (bytes : List ℕ) (before : List Segment) → StandsFor bytes before (reading_of self.old) → Comes (bytes ++ byte ∷ []) before result (reading_of self.new) }
         ensures taken { (reading_of self.old).stop ≡ None → (reading_of self.new).taken ≡ (reading_of self.old).taken + 1 }
         ensures again { (stop : Stopped) → (reading_of self.old).stop ≡ Some stop → (result ≡ Err stop) × (self.new ≡ self.old) }
         ensures stopped { IfErr result (λ stop. (reading_of self.new).stop ≡ Some stop) }
         ensures limits { (reading_of self.new).limits ≡ (reading_of self.old).limits }
         ensures room { HasRoom self.old → HasRoom self.new }
-        ensures memory { (bytes : List ℕ) → StandsFor bytes (reading_of self.old) → HasRoom self.old → NotWanting result }
+        ensures memory { (bytes : List ℕ) (before : List Segment) → StandsFor bytes before (reading_of self.old) → HasRoom self.old → NotWanting result }
     {
         if let Some(stop) = self.stop {
             return Err(stop);
@@ -116,7 +117,7 @@ impl SegmentReader {
         requires behind { IsBehindScan (reading_of self.old) }
         requires later { (reading_of self.old).taken + 2 ≤ at }
         requires within { at ≤ (reading_of self.old).limits.input }
-        ensures answered { (bytes : List ℕ) → StandsFor bytes (reading_of self.old) → Comes (bytes ++ 255 ∷ code ∷ []) result (reading_of self.new) }
+        ensures answered { (bytes : List ℕ) (before : List Segment) → StandsFor bytes before (reading_of self.old) → Comes (bytes ++ 255 ∷ code ∷ []) before result (reading_of self.new) }
         ensures taken { (reading_of self.new).taken ≡ at }
         ensures stopped { IfErr result (λ stop. (reading_of self.new).stop ≡ Some stop) }
         ensures limits { (reading_of self.new).limits ≡ (reading_of self.old).limits }
@@ -167,7 +168,7 @@ impl SegmentReader {
     // Keeps a halt as the stop that every later call answers.
     fn answer(&mut self, next: Result<SegStep, Halt>) -> Result<SegStep, Stop>
         requires { (reading_of self.old).stop ≡ None }
-        ensures goes { (bytes : List ℕ) → Goes bytes next (reading_of self.old) → Comes bytes result (reading_of self.new) }
+        ensures goes { (bytes : List ℕ) (before : List Segment) → Goes bytes before next (reading_of self.old) → Comes bytes before result (reading_of self.new) }
         ensures stopped { IfErr result (λ stop. (reading_of self.new).stop ≡ Some stop) }
         ensures limits { (reading_of self.new).limits ≡ (reading_of self.old).limits }
         ensures taken { (reading_of self.new).taken ≡ (reading_of self.old).taken }
@@ -193,9 +194,9 @@ impl SegmentReader {
 
     // What a byte leads to, by where the bytes stand.
     fn next(&mut self, byte: u8) -> Result<SegStep, Halt>
-        ensures goes { (bytes : List ℕ) → StandsFor bytes (reading_of self.old) → Goes (bytes ++ byte ∷ []) result (reading_of self.new) }
+        ensures goes { (bytes : List ℕ) (before : List Segment) → StandsFor bytes before (reading_of self.old) → Goes (bytes ++ byte ∷ []) before result (reading_of self.new) }
         ensures stays { Stays self.old self.new }
-        ensures memory { (bytes : List ℕ) → StandsFor bytes (reading_of self.old) → HasRoom self.old → HaltsNot result }
+        ensures memory { (bytes : List ℕ) (before : List Segment) → StandsFor bytes before (reading_of self.old) → HasRoom self.old → HaltsNot result }
     {
         match self.phase {
             Phase::Contents => self.content_byte(byte),
@@ -211,7 +212,7 @@ impl SegmentReader {
 
     fn first_byte(&mut self, byte: u8) -> Result<SegStep, Halt>
         requires { (reading_of self.old).phase ≡ phase.Empty }
-        ensures goes { (bytes : List ℕ) → StandsFor bytes (reading_of self.old) → Goes (bytes ++ byte ∷ []) result (reading_of self.new) }
+        ensures goes { (bytes : List ℕ) (before : List Segment) → StandsFor bytes before (reading_of self.old) → Goes (bytes ++ byte ∷ []) before result (reading_of self.new) }
         ensures stays { Stays self.old self.new }
         ensures memory { HaltsNot result }
     {
@@ -224,7 +225,7 @@ impl SegmentReader {
 
     fn second_byte(&mut self, byte: u8) -> Result<SegStep, Halt>
         requires { (reading_of self.old).phase ≡ phase.HalfStart }
-        ensures goes { (bytes : List ℕ) → StandsFor bytes (reading_of self.old) → Goes (bytes ++ byte ∷ []) result (reading_of self.new) }
+        ensures goes { (bytes : List ℕ) (before : List Segment) → StandsFor bytes before (reading_of self.old) → Goes (bytes ++ byte ∷ []) before result (reading_of self.new) }
         ensures stays { Stays self.old self.new }
         ensures memory { HaltsNot result }
     {
@@ -238,7 +239,7 @@ impl SegmentReader {
     // The first byte behind a whole segment.
     fn item_byte(&mut self, byte: u8) -> Result<SegStep, Halt>
         requires { (reading_of self.old).phase ≡ phase.Between }
-        ensures goes { (bytes : List ℕ) → StandsFor bytes (reading_of self.old) → Goes (bytes ++ byte ∷ []) result (reading_of self.new) }
+        ensures goes { (bytes : List ℕ) (before : List Segment) → StandsFor bytes before (reading_of self.old) → Goes (bytes ++ byte ∷ []) before result (reading_of self.new) }
         ensures stays { Stays self.old self.new }
         ensures memory { HaltsNot result }
     {
@@ -252,7 +253,7 @@ impl SegmentReader {
     // A byte behind FF: a further fill byte, or a marker's code.
     fn code_byte(&mut self, code: u8) -> Result<SegStep, Halt>
         requires { (reading_of self.old).phase ≡ phase.Fill }
-        ensures goes { (bytes : List ℕ) → StandsFor bytes (reading_of self.old) → Goes (bytes ++ code ∷ []) result (reading_of self.new) }
+        ensures goes { (bytes : List ℕ) (before : List Segment) → StandsFor bytes before (reading_of self.old) → Goes (bytes ++ code ∷ []) before result (reading_of self.new) }
         ensures stays { Stays self.old self.new }
         ensures memory { HaltsNot result }
     {
@@ -281,7 +282,7 @@ impl SegmentReader {
     // The first byte of a length.
     fn high_byte(&mut self, byte: u8) -> Result<SegStep, Halt>
         requires { (reading_of self.old).phase ≡ phase.Coded }
-        ensures goes { (bytes : List ℕ) → StandsFor bytes (reading_of self.old) → Goes (bytes ++ byte ∷ []) result (reading_of self.new) }
+        ensures goes { (bytes : List ℕ) (before : List Segment) → StandsFor bytes before (reading_of self.old) → Goes (bytes ++ byte ∷ []) before result (reading_of self.new) }
         ensures stays { Stays self.old self.new }
         ensures memory { HaltsNot result }
     {
@@ -293,7 +294,7 @@ impl SegmentReader {
     // The second byte of a length, which counts itself.
     fn low_byte(&mut self, byte: u8) -> Result<SegStep, Halt>
         requires { (reading_of self.old).phase ≡ phase.HalfLength }
-        ensures goes { (bytes : List ℕ) → StandsFor bytes (reading_of self.old) → Goes (bytes ++ byte ∷ []) result (reading_of self.new) }
+        ensures goes { (bytes : List ℕ) (before : List Segment) → StandsFor bytes before (reading_of self.old) → Goes (bytes ++ byte ∷ []) before result (reading_of self.new) }
         ensures stays { Stays self.old self.new }
         ensures memory { HaltsNot result }
     {
@@ -313,9 +314,9 @@ impl SegmentReader {
     #[inline(always)]
     fn content_byte(&mut self, byte: u8) -> Result<SegStep, Halt>
         requires { (reading_of self.old).phase ≡ phase.Contents }
-        ensures goes { (bytes : List ℕ) → StandsFor bytes (reading_of self.old) → Goes (bytes ++ byte ∷ []) result (reading_of self.new) }
+        ensures goes { (bytes : List ℕ) (before : List Segment) → StandsFor bytes before (reading_of self.old) → Goes (bytes ++ byte ∷ []) before result (reading_of self.new) }
         ensures stays { Stays self.old self.new }
-        ensures memory { (bytes : List ℕ) → StandsFor bytes (reading_of self.old) → HasRoom self.old → HaltsNot result }
+        ensures memory { (bytes : List ℕ) (before : List Segment) → StandsFor bytes before (reading_of self.old) → HasRoom self.old → HaltsNot result }
     {
         match self.contents.push(byte) {
             Ok(()) => {
@@ -331,7 +332,7 @@ impl SegmentReader {
 
     // The last byte of a segment is there.
     fn whole(&mut self) -> Result<SegStep, Halt>
-        ensures goes { (bytes : List ℕ) → (reading_of self.old).stop ≡ None → IsWhole bytes (reading_of self.old) → Goes bytes result (reading_of self.new) }
+        ensures goes { (bytes : List ℕ) (before : List Segment) → (reading_of self.old).stop ≡ None → IsWhole bytes before (reading_of self.old) → Goes bytes before result (reading_of self.new) }
         ensures stays { Stays self.old self.new }
         ensures memory { HaltsNot result }
     {

@@ -5,13 +5,13 @@ use Rattle.jpg_markers.proofs.Taking.{content_more, content_whole, contents_shor
 use Rattle.jpg_markers.proofs.segments.SegmentReader.content_byte.Goals as goal
 
 pub returns-then-self-gt1-clause-goes : goal.returns-then-self-gt1-clause-goes
-returns-then-self-gt1-clause-goes c = λ bytes s.
+returns-then-self-gt1-clause-goes c = λ bytes before s.
     let r = reading_of c.args.self.now in
-    let P : List ℕ → Type 0 = λ xs. Comes (bytes ++ c.args.byte ∷ []) (Ok step.More) (record r { left = r.left - 1; contents = xs }) in
-    subst P (sym c.in-Ok.ensures.items) (content_more r bytes c.args.byte (r.left - 1) c.requires s (omega (arith, c.if-self-gt1.true)) (omega (arith, c.if-self-gt1.true)))
+    let P : List ℕ → Type 0 = λ xs. Comes (bytes ++ c.args.byte ∷ []) before (Ok step.More) (record r { left = r.left - 1; contents = xs }) in
+    subst P (sym c.in-Ok.ensures.items) (content_more r bytes before c.args.byte (r.left - 1) c.requires s (omega (arith, c.if-self-gt1.true)) (omega (arith, c.if-self-gt1.true)))
 
 pub returns-else-self-gt1-clause-goes : goal.returns-else-self-gt1-clause-goes
-returns-else-self-gt1-clause-goes c = λ bytes s.
+returns-else-self-gt1-clause-goes c = λ bytes before s.
     let r = reading_of c.args.self.now in
-    let P : List ℕ → Type 0 = λ xs. IsWhole (bytes ++ c.args.byte ∷ []) (record r { contents = xs }) in
-    c.whole.ensures.goes (bytes ++ c.args.byte ∷ []) s.0 (subst P (sym c.in-Ok.ensures.items) (content_whole r bytes c.args.byte c.requires s (omega (arith, c.if-self-gt1.false))))
+    let P : List ℕ → Type 0 = λ xs. IsWhole (bytes ++ c.args.byte ∷ []) before (record r { contents = xs }) in
+    c.whole.ensures.goes (bytes ++ c.args.byte ∷ []) before s.0 (subst P (sym c.in-Ok.ensures.items) (content_whole r bytes before c.args.byte c.requires s (omega (arith, c.if-self-gt1.false))))

@@ -7,13 +7,13 @@ use Rattle.jpg_markers.proofs.Taking.{whole_fault, whole_passes}
 use Rattle.jpg_markers.proofs.segments.SegmentReader.whole.Goals as goal
 
 pub returns-in-None-clause-goes : goal.returns-in-None-clause-goes
-returns-in-None-clause-goes c = λ bytes going w.
+returns-in-None-clause-goes c = λ bytes before going w.
     let r = reading_of c.args.self.now in
-    whole_fault r bytes w
-    (λ before h. subst (λ (xs : List ℕ). kept_rule r.limits before r.code xs ≡ Some MarkersTooLarge) c.as_slice.ensures.value (c.in-None.ensures.none r.limits before h))
+    whole_fault r bytes before w
+    (λ b h. subst (λ (xs : List ℕ). kept_rule r.limits b r.code xs ≡ Some MarkersTooLarge) c.as_slice.ensures.value (c.in-None.ensures.none r.limits b h))
 
 pub returns-in-Some-clause-goes : goal.returns-in-Some-clause-goes
-returns-in-Some-clause-goes c = λ bytes going w.
+returns-in-Some-clause-goes c = λ bytes before going w.
     let r = reading_of c.args.self.now in
-    whole_passes r bytes c.in-Some.seen going w
-    (λ before h. subst (λ (xs : List ℕ). (kept_rule r.limits before r.code xs ≡ None) × HasSeen r.limits c.in-Some.seen ((r.code, xs) ∷ before)) c.as_slice.ensures.value (c.in-Some.ensures.some r.limits before h))
+    whole_passes r bytes before c.in-Some.seen going w
+    (λ b h. subst (λ (xs : List ℕ). (kept_rule r.limits b r.code xs ≡ None) × HasSeen r.limits c.in-Some.seen ((r.code, xs) ∷ b)) c.as_slice.ensures.value (c.in-Some.ensures.some r.limits b h))
