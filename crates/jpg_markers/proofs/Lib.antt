@@ -2,3 +2,5 @@ pub mod Headers
 pub mod Heads
 pub mod Scans
 pub mod Tables
+pub mod Sent
+pub mod SegmentText
