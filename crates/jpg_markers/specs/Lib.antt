@@ -1,3 +1,5 @@
 pub mod Apps
+pub mod Kept
 pub mod Reading
 pub mod Seen
+pub mod Sent

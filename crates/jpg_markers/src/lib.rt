@@ -5,18 +5,23 @@ mod app;
 mod colour;
 mod frame;
 mod interval;
+mod kept;
 mod quants;
 mod scan;
 mod seen;
 mod segments;
+mod writing;
 
 pub use app::{App, Jfif, read_app};
 pub use colour::{guess, guesses_are_of_markers};
 pub use frame::read_sof;
 pub use interval::read_dri;
+pub use jpg_spec::Copying;
+pub use kept::{Kept, KeptList};
 pub use quants::{QuantSet, read_dqt};
 pub use scan::{accepted_heads_are_of_their_frames, read_sos};
 pub use segments::{SegStep, SegmentReader};
+pub use writing::write_segment;
 
 #[cfg(test)]
 mod tests;
