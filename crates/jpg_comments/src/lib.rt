@@ -1,0 +1,12 @@
+//! Comments of a JPEG file: the text that rdjpgcom prints, and the segment that wrjpgcom writes
+//! (T.81 B.2.4.5, the manuals of both commands in release 6b).
+#![tactic(auto)]
+
+mod printed;
+mod segment;
+
+pub use printed::append_printed;
+pub use segment::append_segment;
+
+#[cfg(test)]
+mod tests;
