@@ -1,4 +1,5 @@
 pub mod Gray
+pub mod Header
 pub mod Reading
 pub mod Run
 pub mod Saying

@@ -117,6 +117,15 @@ Goes bytes before (Err halt.NoMemory) r = Unit {0}
 abbrev pub IsBehindScan : Reading → Type 0
 IsBehindScan r = (r.stop ≡ None) × (r.phase ≡ phase.Between) × (r.code ≡ 0xda)
 
+-- behind a whole segment the bytes stand between two
+abbrev pub BehindWhole : {X : Type 0} → Result SegStep X → Reading → Type 0
+BehindWhole (Ok step.More) r = Unit {0}
+BehindWhole (Ok step.Start) r = Unit {0}
+BehindWhole (Ok step.Frame) r = Unit {0}
+BehindWhole (Ok step.Eoi) r = Unit {0}
+BehindWhole (Ok step.Whole) r = r.phase ≡ phase.Between
+BehindWhole (Err e) r = Unit {0}
+
 -- an answer that isn't want of memory
 abbrev pub NotWanting : Result SegStep Stop → Type 0
 NotWanting (Ok s) = Unit {0}

@@ -5,7 +5,7 @@ ghost use Rattle.jpg_spec.specs.Markers.{Segment};
 ghost use Rattle.jpg_base.specs.declared.stop.Stop.{Stop as Stopped};
 ghost use Rattle.jpg_base.specs.declared.stop.Stop.TheVariants as stop;
 ghost use Rattle.jpg_markers.specs.declared.segments.Phase.TheVariants as phase;
-ghost use Rattle.jpg_markers.specs.Reading.{reading_of, IsWhole, StandsFor, Comes, Goes, HasRoom, IsBehindScan, HaltsNot, NotWanting, Stays};
+ghost use Rattle.jpg_markers.specs.Reading.{reading_of, BehindWhole, IsWhole, StandsFor, Comes, Goes, HasRoom, IsBehindScan, HaltsNot, NotWanting, Stays};
 
 use crate::seen::{Seen, code_fault, is_frame_code};
 use byteorder::{BigEndian, ByteOrder};
@@ -96,6 +96,8 @@ impl SegmentReader {
         ensures answered { (bytes : List ℕ) (before : List Segment) → StandsFor bytes before (reading_of self.old) → Comes (bytes ++ byte ∷ []) before result (reading_of self.new) }
         ensures taken { (reading_of self.old).stop ≡ None → (reading_of self.new).taken ≡ (reading_of self.old).taken + 1 }
         ensures again { (stop : Stopped) → (reading_of self.old).stop ≡ Some stop → (result ≡ Err stop) × (self.new ≡ self.old) }
+        ensures whole { BehindWhole result (reading_of self.new) }
+        ensures going { IfOk result (λ _. (reading_of self.new).stop ≡ None) }
         ensures stopped { IfErr result (λ stop. (reading_of self.new).stop ≡ Some stop) }
         ensures limits { (reading_of self.new).limits ≡ (reading_of self.old).limits }
         ensures room { HasRoom self.old → HasRoom self.new }
@@ -119,6 +121,7 @@ impl SegmentReader {
         requires within { at ≤ (reading_of self.old).limits.input }
         ensures answered { (bytes : List ℕ) (before : List Segment) → StandsFor bytes before (reading_of self.old) → Comes (bytes ++ 255 ∷ code ∷ []) before result (reading_of self.new) }
         ensures taken { (reading_of self.new).taken ≡ at }
+        ensures going { IfOk result (λ _. (reading_of self.new).stop ≡ None) }
         ensures stopped { IfErr result (λ stop. (reading_of self.new).stop ≡ Some stop) }
         ensures limits { (reading_of self.new).limits ≡ (reading_of self.old).limits }
         ensures room { HasRoom self.old → HasRoom self.new }
@@ -169,6 +172,8 @@ impl SegmentReader {
     fn answer(&mut self, next: Result<SegStep, Halt>) -> Result<SegStep, Stop>
         requires { (reading_of self.old).stop ≡ None }
         ensures goes { (bytes : List ℕ) (before : List Segment) → Goes bytes before next (reading_of self.old) → Comes bytes before result (reading_of self.new) }
+        ensures whole { BehindWhole next (reading_of self.old) → BehindWhole result (reading_of self.new) }
+        ensures going { IfOk result (λ _. (reading_of self.new).stop ≡ None) }
         ensures stopped { IfErr result (λ stop. (reading_of self.new).stop ≡ Some stop) }
         ensures limits { (reading_of self.new).limits ≡ (reading_of self.old).limits }
         ensures taken { (reading_of self.new).taken ≡ (reading_of self.old).taken }
@@ -196,6 +201,7 @@ impl SegmentReader {
     fn next(&mut self, byte: u8) -> Result<SegStep, Halt>
         ensures goes { (bytes : List ℕ) (before : List Segment) → StandsFor bytes before (reading_of self.old) → Goes (bytes ++ byte ∷ []) before result (reading_of self.new) }
         ensures stays { Stays self.old self.new }
+        ensures whole { BehindWhole result (reading_of self.new) }
         ensures memory { (bytes : List ℕ) (before : List Segment) → StandsFor bytes before (reading_of self.old) → HasRoom self.old → HaltsNot result }
     {
         match self.phase {
@@ -214,6 +220,7 @@ impl SegmentReader {
         requires { (reading_of self.old).phase ≡ phase.Empty }
         ensures goes { (bytes : List ℕ) (before : List Segment) → StandsFor bytes before (reading_of self.old) → Goes (bytes ++ byte ∷ []) before result (reading_of self.new) }
         ensures stays { Stays self.old self.new }
+        ensures whole { BehindWhole result (reading_of self.new) }
         ensures memory { HaltsNot result }
     {
         if byte != 0xff {
@@ -227,6 +234,7 @@ impl SegmentReader {
         requires { (reading_of self.old).phase ≡ phase.HalfStart }
         ensures goes { (bytes : List ℕ) (before : List Segment) → StandsFor bytes before (reading_of self.old) → Goes (bytes ++ byte ∷ []) before result (reading_of self.new) }
         ensures stays { Stays self.old self.new }
+        ensures whole { BehindWhole result (reading_of self.new) }
         ensures memory { HaltsNot result }
     {
         if byte != 0xd8 {
@@ -241,6 +249,7 @@ impl SegmentReader {
         requires { (reading_of self.old).phase ≡ phase.Between }
         ensures goes { (bytes : List ℕ) (before : List Segment) → StandsFor bytes before (reading_of self.old) → Goes (bytes ++ byte ∷ []) before result (reading_of self.new) }
         ensures stays { Stays self.old self.new }
+        ensures whole { BehindWhole result (reading_of self.new) }
         ensures memory { HaltsNot result }
     {
         if byte != 0xff {
@@ -255,6 +264,7 @@ impl SegmentReader {
         requires { (reading_of self.old).phase ≡ phase.Fill }
         ensures goes { (bytes : List ℕ) (before : List Segment) → StandsFor bytes before (reading_of self.old) → Goes (bytes ++ code ∷ []) before result (reading_of self.new) }
         ensures stays { Stays self.old self.new }
+        ensures whole { BehindWhole result (reading_of self.new) }
         ensures memory { HaltsNot result }
     {
         if code == 0xff {
@@ -284,6 +294,7 @@ impl SegmentReader {
         requires { (reading_of self.old).phase ≡ phase.Coded }
         ensures goes { (bytes : List ℕ) (before : List Segment) → StandsFor bytes before (reading_of self.old) → Goes (bytes ++ byte ∷ []) before result (reading_of self.new) }
         ensures stays { Stays self.old self.new }
+        ensures whole { BehindWhole result (reading_of self.new) }
         ensures memory { HaltsNot result }
     {
         self.high = byte;
@@ -296,6 +307,7 @@ impl SegmentReader {
         requires { (reading_of self.old).phase ≡ phase.HalfLength }
         ensures goes { (bytes : List ℕ) (before : List Segment) → StandsFor bytes before (reading_of self.old) → Goes (bytes ++ byte ∷ []) before result (reading_of self.new) }
         ensures stays { Stays self.old self.new }
+        ensures whole { BehindWhole result (reading_of self.new) }
         ensures memory { HaltsNot result }
     {
         let length = BigEndian::read_u16(&[self.high, byte]);
@@ -316,6 +328,7 @@ impl SegmentReader {
         requires { (reading_of self.old).phase ≡ phase.Contents }
         ensures goes { (bytes : List ℕ) (before : List Segment) → StandsFor bytes before (reading_of self.old) → Goes (bytes ++ byte ∷ []) before result (reading_of self.new) }
         ensures stays { Stays self.old self.new }
+        ensures whole { BehindWhole result (reading_of self.new) }
         ensures memory { (bytes : List ℕ) (before : List Segment) → StandsFor bytes before (reading_of self.old) → HasRoom self.old → HaltsNot result }
     {
         match self.contents.push(byte) {
@@ -334,6 +347,7 @@ impl SegmentReader {
     fn whole(&mut self) -> Result<SegStep, Halt>
         ensures goes { (bytes : List ℕ) (before : List Segment) → (reading_of self.old).stop ≡ None → IsWhole bytes before (reading_of self.old) → Goes bytes before result (reading_of self.new) }
         ensures stays { Stays self.old self.new }
+        ensures whole { BehindWhole result (reading_of self.new) }
         ensures memory { HaltsNot result }
     {
         match self.seen.with(self.code, self.contents.as_slice()) {
@@ -346,3 +360,6 @@ impl SegmentReader {
         }
     }
 }
+
+#[cfg(test)]
+mod tests;
