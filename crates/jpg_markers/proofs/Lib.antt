@@ -4,3 +4,6 @@ pub mod Scans
 pub mod Tables
 pub mod Sent
 pub mod SegmentText
+pub mod Distinct
+pub mod HeadText
+pub mod HeadSent

@@ -1,3 +1,5 @@
 pub mod Apps
 pub mod Kept
 pub mod Sent
+pub mod Passed
+pub mod OutHead

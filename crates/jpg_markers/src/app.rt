@@ -79,7 +79,7 @@ fn is_adobe(code: u8, contents: &[u8]) -> bool
 }
 
 /// Whether the contents begin with these bytes.
-fn begins_with(contents: &[u8], front: &[u8]) -> bool
+pub fn begins_with(contents: &[u8], front: &[u8]) -> bool
     ensures { result ≡ begins_with front.now contents.now }
 {
     contents.starts_with(front)
