@@ -28,6 +28,13 @@ impl Model for QuantTable {
     ghost inverse = { λ values. record { values = values } };
 }
 
+impl Default for QuantTable {
+    /// 64 ones.
+    fn default() -> QuantTable {
+        QuantTable::ones()
+    }
+}
+
 impl QuantTable {
     /// 64 ones.
     pub fn ones() -> QuantTable

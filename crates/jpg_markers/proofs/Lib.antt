@@ -5,3 +5,6 @@ pub mod SegmentText
 pub mod Sent
 pub mod Tables
 pub mod Taking
+pub mod Distinct
+pub mod HeadText
+pub mod HeadSent

@@ -59,6 +59,10 @@ part_then s0 s1 s2 old mid new all rest piece left e h k =
 pub part_end : (s0 s1 : DeskState) (old new : Waiting) (all rest : List ℕ) → rest ≡ [] → IsPart s0 old all rest new s1 → HasSent s0 old all (Ok tt) new s1
 part_end s0 s1 old new all rest e h = subst (λ x. HasSent s0 old x (Ok tt) new s1) (sym (append-nil h.front) ∙ ap (λ x. h.front ++ x) (sym e) ∙ h.joined) h.sent
 
+-- the last ones are sent
+pub part_last : (s0 s1 s2 : DeskState) (old mid new : Waiting) (all rest : List ℕ) (r : Result (Unit {0}) WriteFault) → IsPart s0 old all rest mid s1 → HasSent s1 mid rest r new s2 → HasSent s0 old all r new s2
+part_last s0 s1 s2 old mid new all rest r h k = subst (λ x. HasSent s0 old x r new s2) h.joined (sent_then s0 s1 s2 old mid new h.front rest r h.sent k)
+
 -- a fault came while some of those that are left were sent
 pub part_fault : (s0 s1 s2 : DeskState) (old mid new : Waiting) (all rest piece left : List ℕ) (fault : WriteFault) → rest ≡ piece ++ left → IsPart s0 old all rest mid s1 → HasSent s1 mid piece (Err fault) new s2 → HasSent s0 old all (Err fault) new s2
 part_fault s0 s1 s2 old mid new all rest piece left fault e h k =

@@ -3,3 +3,5 @@ pub mod Kept
 pub mod Reading
 pub mod Seen
 pub mod Sent
+pub mod Passed
+pub mod OutHead

@@ -1,4 +1,4 @@
-//! Marker segments: what their contents tell (T.81 B.2.2 to B.2.4, JFIF 1.02).
+//! Marker segments: what their contents tell, and how they are written (T.81 B.2, JFIF 1.02).
 #![tactic(auto)]
 
 mod app;
@@ -22,6 +22,7 @@ pub use quants::{QuantSet, read_dqt};
 pub use scan::{accepted_heads_are_of_their_frames, read_sos};
 pub use segments::{SegStep, SegmentReader};
 pub use writing::write_segment;
+pub use writing::{OutHead, file_head, write_segment};
 
 #[cfg(test)]
 mod tests;

@@ -4,7 +4,7 @@ use Rattle.jpg_huff.specs.BitOut.{Sends}
 use Rattle.jpg_spec.specs.FileText.{segment_text}
 use Rattle.jpg_markers.proofs.Sent.{sends_then, sends_fault}
 use Rattle.jpg_markers.proofs.SegmentText.{segment_head, head_is}
-use Rattle.jpg_markers.proofs.writing.write_segment.Goals as goal
+use Rattle.jpg_markers.proofs.writing.segment.write_segment.Goals as goal
 
 pub returns-clause-sends : goal.returns-clause-sends
 returns-clause-sends g c =

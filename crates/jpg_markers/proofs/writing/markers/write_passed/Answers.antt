@@ -1,0 +1,42 @@
+use Rattle.std.proofs.Common.{[], ◌∷◌, ◌+◌, ◌∙◌, drop}
+use Rattle.std.specs.Prelude.{filter}
+use Rattle.std.proofs.lemmas.Result.{err_from_is_err_and}
+use Rattle.jpg_spec.specs.FileText.{kept_text}
+use Rattle.jpg_markers.specs.Kept.{pair_of}
+use Rattle.jpg_markers.specs.Passed.{is_passed}
+use Rattle.jpg_markers.proofs.Sent.{part_start, part_then, part_fault}
+use Rattle.jpg_markers.proofs.HeadText.{passed_step}
+use Rattle.jpg_markers.proofs.writing.markers.write_passed.Goals as goal
+
+pub loop-i-init : goal.loop-i-init
+loop-i-init g c =
+    record {
+      created = c.requires.created;
+      none = c.requires.none;
+      part = part_start (g.D.Desk.state c.args.desk.now) c.args.out.now (kept_text (filter (is_passed c.args.copying c.args.colour) c.args.kept.now)) c.requires.none;
+    }
+
+pub loop-i-preserved : goal.loop-i-preserved
+loop-i-preserved g c =
+    let state = g.D.Desk.state in
+    let p = is_passed c.args.copying c.args.colour in
+    let kept = c.args.kept.now in
+    let i = c.loop-i.i in
+    let s = pair_of c.get.result.now in
+    record {
+      created = c.in_ok-write_member.ensures.kept.output_created ∙ c.loop-i.invariant.created;
+      none = c.in_ok-write_member.ensures.sends.none;
+      part = part_then (state c.args.desk.now) (state c.loop-i.desk) (state c.write_member.new.desk) c.args.out.now c.loop-i.out c.write_member.new.out (kept_text (filter p kept)) (kept_text (filter p (drop i kept)))
+          (kept_text (filter p (s ∷ []))) (kept_text (filter p (drop (i + 1) kept))) (passed_step p kept i s c.get.ensures.value) c.loop-i.invariant.part c.in_ok-write_member.ensures;
+    }
+
+pub returns-in_err-write_member : goal.returns-in_err-write_member
+returns-in_err-write_member g c =
+    let state = g.D.Desk.state in
+    let p = is_passed c.args.copying c.args.colour in
+    let kept = c.args.kept.now in
+    let i = c.loop-i.i in
+    let s = pair_of c.get.result.now in
+    let back = err_from_is_err_and c.from_residual.result c.from_residual.ensures.1 in
+    rw (back.1, back.2) (part_fault (state c.args.desk.now) (state c.loop-i.desk) (state c.write_member.new.desk) c.args.out.now c.loop-i.out c.write_member.new.out (kept_text (filter p kept)) (kept_text (filter p (drop i kept)))
+    (kept_text (filter p (s ∷ []))) (kept_text (filter p (drop (i + 1) kept))) c.in_err-write_member.field-0.0 (passed_step p kept i s c.get.ensures.value) c.loop-i.invariant.part c.in_err-write_member.ensures)
