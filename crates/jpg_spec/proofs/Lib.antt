@@ -26,3 +26,6 @@ pub mod Telling
 pub mod Turned
 pub mod Within
 pub mod Writing
+pub mod FrameFound
+pub mod SingleTurned
+pub mod SingleText

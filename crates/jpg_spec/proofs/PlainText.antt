@@ -33,7 +33,7 @@ abbrev pub AreReal : List Place → Type 0
 AreReal [] = Unit {0}
 AreReal (p ∷ places) = (p.real ≡ true) × AreReal places
 
-pub due_of : Blocks → Place → UnitDue
+unfoldable pub due_of : Blocks → Place → UnitDue
 due_of blocks p = (p.component, block_at blocks p)
 
 pub real_due : (blocks : Blocks) (last : ℕ → ℤ) (places : List Place) → AreReal places → units_due blocks last places ≡ map (due_of blocks) places
@@ -85,7 +85,7 @@ real_rows g is (suc n) h =
     let last : AreReal (row n ++ []) = subst (λ ps. AreReal ps) (sym (append-nil (row n))) (real_row g is n (across g) (omega (arith, h)) (omega arith)) in
     subst (λ ps. AreReal ps) (sym (flat_map-append row (below n) (n ∷ []))) (real_joined (flat_map row (below n)) (row n ++ []) (real_rows g is n (omega (arith, h))) last)
 
-pub pair : List ℤ → UnitDue
+unfoldable pub pair : List ℤ → UnitDue
 pair block = (0, block)
 
 -- what is due at these places is the picture's blocks in order

@@ -60,7 +60,7 @@ mirrored_zeros = refl
 abbrev pub turned_row : List (List ℤ) → List (List ℤ)
 turned_row row = map mirrored (reverse row)
 
-length_turned : (row : List (List ℤ)) → length (turned_row row) ≡ length row
+pub length_turned : (row : List (List ℤ)) → length (turned_row row) ≡ length row
 length_turned row = length-map (reverse row) mirrored ∙ length-reverse row
 
 row_twice : (row : List (List ℤ)) → All IsBlock row → turned_row (turned_row row) ≡ row
