@@ -15,6 +15,9 @@ pub mod Reached
 pub mod ReadBytes
 pub mod Rows
 pub mod Sequential
+pub mod SingleFrame
+pub mod SingleMeans
+pub mod SingleUnits
 pub mod Small
 pub mod Sound
 pub mod Spelled
@@ -23,3 +26,6 @@ pub mod Telling
 pub mod Turned
 pub mod Within
 pub mod Writing
+pub mod FrameFound
+pub mod SingleTurned
+pub mod SingleText

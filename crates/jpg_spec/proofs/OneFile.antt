@@ -152,7 +152,7 @@ same_gray g h w d q b =
     ∙ ap (λ (ns : List ℕ). (let k : Gray = record { width = h.width; height = h.height; quants = ns; blocks = g.blocks } in k)) q
     ∙ ap (λ (bs : List (List ℤ)). (let k : Gray = record { width = h.width; height = h.height; quants = h.quants; blocks = bs } in k)) b
 
-end_is_marker : IsMarkerCode 0xd9
+pub end_is_marker : IsMarkerCode 0xd9
 end_is_marker = (λ e. omega (arith, e), λ e. omega (arith, e))
 
 -- THE LAW: one plain file at most begins the bytes, and it means one picture

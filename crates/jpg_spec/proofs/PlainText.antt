@@ -33,10 +33,10 @@ abbrev pub AreReal : List Place → Type 0
 AreReal [] = Unit {0}
 AreReal (p ∷ places) = (p.real ≡ true) × AreReal places
 
-due_of : Blocks → Place → UnitDue
+unfoldable pub due_of : Blocks → Place → UnitDue
 due_of blocks p = (p.component, block_at blocks p)
 
-real_due : (blocks : Blocks) (last : ℕ → ℤ) (places : List Place) → AreReal places → units_due blocks last places ≡ map (due_of blocks) places
+pub real_due : (blocks : Blocks) (last : ℕ → ℤ) (places : List Place) → AreReal places → units_due blocks last places ≡ map (due_of blocks) places
 unfolding due_of
 real_due blocks last [] are = refl
 real_due blocks last (p ∷ places) are =
@@ -50,7 +50,7 @@ real_joined [] b h k = k
 real_joined (p ∷ a) b h k = (h.0, real_joined a b h.1 k)
 
 -- a side of whole blocks has no block in part
-side_is : (side : ℕ) → side % 8 ≡ 0 → div_up (div_up (side * 1) 1) 8 ≡ side / 8
+pub side_is : (side : ℕ) → side % 8 ≡ 0 → div_up (div_up (side * 1) 1) 8 ≡ side / 8
 side_is side h = omega (arith, h)
 
 -- places in rows, row by row
@@ -85,7 +85,7 @@ real_rows g is (suc n) h =
     let last : AreReal (row n ++ []) = subst (λ ps. AreReal ps) (sym (append-nil (row n))) (real_row g is n (across g) (omega (arith, h)) (omega arith)) in
     subst (λ ps. AreReal ps) (sym (flat_map-append row (below n) (n ∷ []))) (real_joined (flat_map row (below n)) (row n ++ []) (real_rows g is n (omega (arith, h))) last)
 
-pair : List ℤ → UnitDue
+unfoldable pub pair : List ℤ → UnitDue
 pair block = (0, block)
 
 -- what is due at these places is the picture's blocks in order
@@ -125,7 +125,7 @@ narrow (q ∷ quants) all =
     small : (q : ℕ) → q ≤ 255 → nat_lt 255 q ≡ false
     small q h = grind (arith, nat_tests)
 
-equal_itself : (xs : List ℕ) → are_equal xs xs ≡ true
+pub equal_itself : (xs : List ℕ) → are_equal xs xs ≡ true
 equal_itself [] = refl
 equal_itself (x ∷ xs) = ap (λ b. b && are_equal xs xs) (same x) ∙ equal_itself xs
   where

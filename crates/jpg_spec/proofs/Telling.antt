@@ -14,7 +14,7 @@ pub both : (a b : Bool) → (a && b) ≡ true → (a ≡ true) × (b ≡ true)
 both true b e = (refl, e)
 both false b e = cc
 
-negated : (a : Bool) → not a ≡ true → a ≡ false
+pub negated : (a : Bool) → not a ≡ true → a ≡ false
 negated true e = cc
 negated false e = refl
 
@@ -24,7 +24,7 @@ le_of a b e = grind (arith, nat_tests)
 pub lt_of : (a b : ℕ) → nat_lt a b ≡ true → a < b
 lt_of a b e = grind (arith, nat_tests)
 
-not_lt_of : (a b : ℕ) → nat_lt a b ≡ false → b ≤ a
+pub not_lt_of : (a b : ℕ) → nat_lt a b ≡ false → b ≤ a
 not_lt_of a b e = grind (arith, nat_tests)
 
 pub same_of : (a b : ℕ) → (a == b) ≡ true → a ≡ b

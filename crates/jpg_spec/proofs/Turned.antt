@@ -60,7 +60,7 @@ mirrored_zeros = refl
 abbrev pub turned_row : List (List ℤ) → List (List ℤ)
 turned_row row = map mirrored (reverse row)
 
-length_turned : (row : List (List ℤ)) → length (turned_row row) ≡ length row
+pub length_turned : (row : List (List ℤ)) → length (turned_row row) ≡ length row
 length_turned row = length-map (reverse row) mirrored ∙ length-reverse row
 
 row_twice : (row : List (List ℤ)) → All IsBlock row → turned_row (turned_row row) ≡ row
@@ -138,7 +138,7 @@ flipped_twice g is =
 pub lt_yes : (a b : ℕ) → a < b → nat_lt a b ≡ true
 lt_yes a b h = grind (arith, nat_tests)
 
-lt_no : (a b : ℕ) → b ≤ a → nat_lt a b ≡ false
+pub lt_no : (a b : ℕ) → b ≤ a → nat_lt a b ≡ false
 lt_no a b h = grind (arith, nat_tests)
 
 -- the block at a place, or zeros outside
@@ -203,7 +203,7 @@ whole_columns g = omega arith
 flip_first : (g : Gray) (x y : ℕ) → (flip_h (gray_meaning g)).blocks 0 x y ≡ cond (nat_lt x (across g)) (mirrored (grid g (across g - 1 - x) y)) (grid g x y)
 flip_first g x y = ap (λ k. cond (nat_lt x k) (mirrored (grid g (k - 1 - x) y)) (grid g x y)) (whole_columns g)
 
-not_zero : (i : ℕ) → (suc i == 0) ≡ false
+pub not_zero : (i : ℕ) → (suc i == 0) ≡ false
 not_zero i = grind (arith, nat_tests)
 
 others : (g : Gray) (i x y : ℕ) → (gray_meaning g).blocks (suc i) x y ≡ zeros 64

@@ -5,6 +5,7 @@
 mod answers;
 pub mod examples;
 mod fault;
+pub mod file_laws;
 mod frame;
 pub mod gray_laws;
 pub mod laws;

@@ -1,0 +1,147 @@
+-- Behind a header that breaks no rule the frame is one that passed its checks.
+use Rattle.std.proofs.Common.{◌≡◌, ℕ, ◌+◌, ◌*◌, ◌<◌, ◌≤◌, Bool, true, false, cond, not, List, [], ◌∷◌, length, refl, sym, ap, ◌∙◌, subst, arith, inl, inr, Option, Some, None, ◌==◌, ◌≢◌, ◌&&◌, ⊎_elim}
+use Rattle.std.specs.Prelude.{◌⊎◌, ◌||◌, nat_lt, nat_le, Ok, Err, unwrap_or, option_and_then}
+use Rattle.std.proofs.lemmas.Bool.{cases_eq}
+use Rattle.std.proofs.lemmas.Bool.Decides.{nat_tests}
+use Rattle.jpg_spec.specs.Lists.{any_of, is_distinct}
+use Rattle.jpg_spec.specs.Faults.{Told, refuse}
+use Rattle.jpg_spec.specs.Segments.{two_bytes}
+use Rattle.jpg_spec.specs.Geometry.{Frame, padded_blocks}
+use Rattle.jpg_spec.specs.FrameHeader.{has_bad_factor, has_bad_slot, identifiers, checked_frame}
+use Rattle.jpg_spec.specs.FrameContents.{frame_header, frame_told}
+use Rattle.jpg_spec.specs.Markers.{Segment, Pass, process_of_code, is_frame_code, has_frame, code_fault, code_fault_if}
+use Rattle.jpg_spec.specs.InForce.{told_some, first_some, no_frame, frame_in, frame_after, frame_of}
+use Rattle.jpg_spec.specs.Items.{fault_in}
+use Rattle.jpg_spec.specs.Header.{header_rule, IsHeader}
+use Rattle.jpg_spec.specs.declared.fault.Fault.TheVariants.{EmptyImage, TooLarge, Precision, ComponentCount, Sampling, DuplicateComponent, QuantSlot, TooManyBlocks, BadLength}
+use Rattle.jpg_spec.specs.declared.frame.Process.{Process}
+use Rattle.jpg_spec.specs.declared.frame.Process.TheVariants.{Baseline, Extended, Progressive}
+use Rattle.jpg_spec.specs.declared.frame.Limits.{Limits}
+use Rattle.jpg_spec.proofs.Telling.{negated, same_of}
+use Rattle.jpg_spec.proofs.SingleFrame.{neither, refused}
+
+-- WHAT THE CHECKS SAY
+
+pub record IsChecked (limits : Limits) (f : Frame) : Type 0 where
+  pub some : (f.width == 0 || f.height == 0) ≡ false
+  pub sides : (nat_lt limits.side f.width || nat_lt limits.side f.height) ≡ false
+  pub precision : f.precision ≡ 8
+  pub blocks : nat_lt limits.blocks (padded_blocks f) ≡ false
+
+pub checks : (limits : Limits) (f g : Frame) → checked_frame limits f ≡ Ok g → IsChecked limits f × (f ≡ g)
+unfolding checked_frame
+checks limits f g e =
+    let many : Told Frame = refuse TooManyBlocks (nat_lt limits.blocks (padded_blocks f)) (Ok f) in
+    let slots = refuse QuantSlot (any_of has_bad_slot f.components) many in
+    let twice = refuse DuplicateComponent (not (is_distinct (identifiers f.components))) slots in
+    let factors = refuse Sampling (any_of has_bad_factor f.components) twice in
+    let count = refuse ComponentCount (length f.components == 0 || nat_lt 4 (length f.components)) factors in
+    let precision = refuse Precision (not (f.precision == 8)) count in
+    let sides = refuse TooLarge (nat_lt limits.side f.width || nat_lt limits.side f.height) precision in
+    let a = refused EmptyImage (f.width == 0 || f.height == 0) sides g e in
+    let b = refused TooLarge (nat_lt limits.side f.width || nat_lt limits.side f.height) precision g a.1 in
+    let k = refused Precision (not (f.precision == 8)) count g b.1 in
+    let m = refused ComponentCount (length f.components == 0 || nat_lt 4 (length f.components)) factors g k.1 in
+    let n = refused Sampling (any_of has_bad_factor f.components) twice g m.1 in
+    let o = refused DuplicateComponent (not (is_distinct (identifiers f.components))) slots g n.1 in
+    let p = refused QuantSlot (any_of has_bad_slot f.components) many g o.1 in
+    let q = refused TooManyBlocks (nat_lt limits.blocks (padded_blocks f)) (Ok f) g p.1 in
+    (record { some = a.0; sides = b.0; precision = same_of f.precision 8 (affirmed (f.precision == 8) k.0); blocks = q.0 }, same_frame f g q.1)
+  where
+    same_frame : (f g : Frame) → (let a : Told Frame = Ok f in a) ≡ Ok g → f ≡ g
+    same_frame f g e = cc
+
+    affirmed : (b : Bool) → not b ≡ false → b ≡ true
+    affirmed true e = refl
+    affirmed false e = sym e
+
+-- A FRAME HEADER that shows no fault tells a frame that passed
+
+told_checked : (limits : Limits) (process : Process) (contents : List ℕ) (f : Frame) → frame_header limits process contents ≡ Ok f → IsChecked limits f
+told_checked limits process [] f e = cc
+told_checked limits process (p ∷ []) f e = cc
+told_checked limits process (p ∷ y1 ∷ []) f e = cc
+told_checked limits process (p ∷ y1 ∷ y0 ∷ []) f e = cc
+told_checked limits process (p ∷ y1 ∷ y0 ∷ x1 ∷ []) f e = cc
+told_checked limits process (p ∷ y1 ∷ y0 ∷ x1 ∷ x0 ∷ []) f e = cc
+told_checked limits process (p ∷ y1 ∷ y0 ∷ x1 ∷ x0 ∷ count ∷ parts) f e =
+    let told = frame_told process p (two_bytes y1 y0) (two_bytes x1 x0) parts in
+    let r = refused BadLength (not (length parts == 3 * count)) (checked_frame limits told) f e in
+    let h = checks limits told f r.1 in
+    subst (λ g. IsChecked limits g) h.1 h.0
+
+abbrev pub Found : Limits → Option Frame → Type 0
+Found limits o = (f : Frame) × (o ≡ Some f) × IsChecked limits f
+
+header_found : (limits : Limits) (process : Process) (contents : List ℕ) (others : Option Frame) → fault_in (frame_header limits process contents) ≡ None → Found limits (first_some (told_some (frame_header limits process contents)) others)
+header_found limits process contents others e = by (frame_header limits process contents) refl e
+  where
+    by : (t : Told Frame) → frame_header limits process contents ≡ t → fault_in t ≡ None → Found limits (first_some (told_some t) others)
+    by (Ok f) h e = (f, refl, told_checked limits process contents f h)
+    by (Err fault) h e = cc
+
+-- THE CODES of frame headers
+
+three : (code : ℕ) → is_frame_code code ≡ true → (code ≡ 0xc0) ⊎ ((code ≡ 0xc1) ⊎ (code ≡ 0xc2))
+three code e =
+    ⊎_elim
+    (λ a. inl a)
+    (λ (a : code ≢ 0xc0).
+    ⊎_elim
+    (λ b. inr (inl b))
+    (λ (b : code ≢ 0xc1). inr (inr (last code e a b)))
+    (cases_eq code 0xc1))
+    (cases_eq code 0xc0)
+  where
+    last : (code : ℕ) → is_frame_code code ≡ true → code ≢ 0xc0 → code ≢ 0xc1 → code ≡ 0xc2
+    last code e a b = grind (arith, nat_tests)
+
+no_process : (code : ℕ) → is_frame_code code ≡ false → process_of_code code ≡ None
+no_process code e = by (code == 0xc0) (code == 0xc1) (code == 0xc2) (differs 0xc0 refl) (differs 0xc1 refl) (differs 0xc2 refl)
+  where
+    differs : (n : ℕ) → is_frame_code n ≡ true → (code == n) ≡ true → ⊥
+    differs n t h = let k : code ≡ n = same_of code n h in let z : true ≡ false = sym t ∙ ap is_frame_code (sym k) ∙ e in cc
+
+    by : (a b c : Bool) → (a ≡ true → ⊥) → (b ≡ true → ⊥) → (c ≡ true → ⊥) → cond a (Some Baseline) (cond b (Some Extended) (cond c (Some Progressive) None)) ≡ None
+    by true b c h k l = absurd (h refl)
+    by false true c h k l = absurd (k refl)
+    by false false true h k l = absurd (l refl)
+    by false false false h k l = refl
+
+with_code : (limits : Limits) (before : List Segment) (s : Segment) (others : Option Frame) → header_rule limits before s.0 s.1 ≡ None → is_frame_code s.0 ≡ true → Found limits (first_some (frame_in limits s) others)
+with_code limits before (code, contents) others rule e =
+    ⊎_elim
+    (λ (a : code ≡ 0xc0). at a (λ h. header_found limits Baseline contents others h))
+    (λ m.
+    ⊎_elim
+    (λ (a : code ≡ 0xc1). at a (λ h. header_found limits Extended contents others h))
+    (λ (a : code ≡ 0xc2). at a (λ h. header_found limits Progressive contents others h))
+    m)
+    (three code e)
+  where
+    at : {n : ℕ} → code ≡ n → (header_rule limits before n contents ≡ None → Found limits (first_some (frame_in limits (n, contents)) others)) → Found limits (first_some (frame_in limits (code, contents)) others)
+    at {n} a found = subst (λ k. Found limits (first_some (frame_in limits (k, contents)) others)) (sym a) (found (subst (λ k. header_rule limits before k contents ≡ None) a rule))
+
+frame_found : (limits : Limits) (before : List Segment) → Pass (header_rule limits) before → has_frame before ≡ true → Found limits (frame_after limits before)
+frame_found limits [] p e = cc
+frame_found limits (s ∷ before) p e = by (is_frame_code s.0) refl (frame_found limits before p.2)
+  where
+    by : (b : Bool) → is_frame_code s.0 ≡ b → (has_frame before ≡ true → Found limits (frame_after limits before)) → Found limits (first_some (frame_in limits s) (frame_after limits before))
+    by true h older = with_code limits before s (frame_after limits before) p.1 h
+    by false h older =
+        let none : frame_in limits s ≡ None = ap (λ o. option_and_then (λ process. told_some (frame_header limits process s.1)) o) (no_process s.0 h) in
+        let framed : has_frame before ≡ true = sym (ap (λ b. b || has_frame before) h) ∙ e in
+        subst (λ o. Found limits (first_some o (frame_after limits before))) (sym none) (older framed)
+
+pub framed : (before : List Segment) → code_fault before 0xda ≡ None → has_frame before ≡ true
+framed before e = by (has_frame before) e
+  where
+    by : (b : Bool) → code_fault_if b 0xda ≡ None → b ≡ true
+    by true e = refl
+    by false e = cc
+
+-- THE LAW
+pub header_checked : (limits : Limits) (front : List ℕ) (before : List Segment) (contents : List ℕ) → IsHeader limits front before contents → IsChecked limits (frame_of limits before)
+header_checked limits front before contents is =
+    let r = frame_found limits before is.passed.2 (framed before is.passed.0) in
+    subst (λ f. IsChecked limits f) (sym (ap (λ o. unwrap_or o no_frame) r.1)) r.2
