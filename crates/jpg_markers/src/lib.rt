@@ -4,6 +4,7 @@
 mod app;
 mod colour;
 mod frame;
+mod huffmans;
 mod interval;
 mod quants;
 mod scan;
@@ -11,6 +12,7 @@ mod scan;
 pub use app::{App, Jfif, read_app};
 pub use colour::{guess, guesses_are_of_markers};
 pub use frame::read_sof;
+pub use huffmans::read_dht;
 pub use interval::read_dri;
 pub use quants::{QuantSet, read_dqt};
 pub use scan::{accepted_heads_are_of_their_frames, read_sos};
