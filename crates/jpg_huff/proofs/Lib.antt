@@ -10,3 +10,4 @@ pub mod Buffers
 pub mod Together
 pub mod Gates
 pub mod OneAnswer
+pub mod Sets

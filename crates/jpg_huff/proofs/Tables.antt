@@ -1,11 +1,14 @@
 -- The codes of a table, and of its symbols with others behind them.
-use Rattle.std.proofs.Common.{◌≡◌, ℕ, zero, suc, ◌+◌, ◌*◌, ◌≤◌, List, [], ◌∷◌, ◌++◌, take, drop, refl, sym, ap, ◌∙◌, subst, arith}
+use Rattle.std.proofs.Common.{◌≡◌, ℕ, zero, suc, ◌+◌, ◌*◌, ◌^◌, ◌≤◌, true, List, [], ◌∷◌, ◌++◌, ◌&&◌, take, drop, refl, sym, ap, ◌∙◌, subst, arith}
+use Rattle.std.specs.Prelude.{nat_lt}
 use Rattle.std.specs.List.{sum}
+use Rattle.std.proofs.lemmas.Bool.Decides.{nat_tests}
 use Rattle.std.proofs.lemmas.List.Sums.{sum_by-cons}
 use Rattle.jpg_spec.specs.Bits.{bits_of}
 use Rattle.jpg_spec.specs.Codes.{Code, codes, codes_at, codes_from}
 use Rattle.std.proofs.lemmas.List.{length-take, drop-take}
 use Rattle.jpg_spec.specs.Codes.{AreCodes}
+use Rattle.jpg_spec.specs.Codes as test
 use Rattle.jpg_spec.proofs.OneCode.{one_code}
 use Rattle.jpg_huff.specs.Tables.{symbol_codes, table_of}
 use Rattle.jpg_huff.specs.Laws.{IsTable, AreApart}
@@ -35,6 +38,15 @@ codes_take counts symbols = levels_take counts 1 0 symbols
 pub codes_kept : (t : Table) → codes t.counts t.symbols ≡ symbol_codes t
 codes_kept t = sym (ap (λ n. codes t.counts (take n t.symbols)) t.summed ∙ codes_take t.counts t.symbols)
 
+-- codes that fit pass the test
+tested : (len c : ℕ) (counts : List ℕ) → AreCodes len c counts → test.are_codes len c counts ≡ true
+unfolding test.are_codes
+tested len c [] h = refl
+tested len c (k ∷ counts) h =
+    let low = h.0 in
+    let first : nat_lt (c + k) (2 ^ len) ≡ true = grind (arith, nat_tests) in
+    ap (λ b. b && test.are_codes (len + 1) (2 * (c + k)) counts) first ∙ tested (len + 1) (2 * (c + k)) counts h.1
+
 -- what holds of every table
 pub is_table : (t : Table) → IsTable (table_of t)
 is_table t =
@@ -42,11 +54,13 @@ is_table t =
     let d : drop 0 t.counts ≡ t.counts = refl in
     let most : sum t.counts ≤ 256 = omega (arith, x.enough 0 (omega arith), x.start, x.size) in
     let P : ℕ → Type 0 = λ c. AreCodes 1 c t.counts in
+    let fit : AreCodes 1 0 t.counts = subst P x.first (are_codes t.counts t.symbols t.firsts t.starts t.limits 15 0 x refl) in
     record {
       sixteen = x.sixteen;
       many = length-take t.total t.symbols ∙ omega (arith, t.summed, x.enough 0 (omega arith), x.start);
       most = most;
-      fit = subst P x.first (are_codes t.counts t.symbols t.firsts t.starts t.limits 15 0 x refl);
+      fit = fit;
+      tested = tested 1 0 t.counts fit;
     }
 
 -- no code of a table begins another

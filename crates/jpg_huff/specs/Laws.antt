@@ -1,6 +1,6 @@
--- What holds of every table, and of bytes that go through a gate.
-use Rattle.std.specs.Prelude.{◌≡◌, ℕ, ◌-◌, ◌≤◌, Bool, List, [], ◌∷◌, ◌++◌, length, sum, replicate, Contains}
-use Rattle.jpg_spec.specs.Codes.{Code, AreCodes}
+-- What holds of every table and every set of them, and of bytes that go through a gate.
+use Rattle.std.specs.Prelude.{◌≡◌, ℕ, ◌-◌, ◌≤◌, Bool, true, List, [], ◌∷◌, ◌++◌, length, sum, replicate, slice_get, Option, Some, Contains}
+use Rattle.jpg_spec.specs.Codes.{Code, AreCodes, are_codes}
 use Rattle.jpg_spec.specs.Segments.{HuffmanTable}
 use Rattle.jpg_huff.specs.declared.gate.Passed.{Passed}
 use Rattle.jpg_huff.specs.declared.gate.Passed.TheVariants.{More}
@@ -12,6 +12,11 @@ pub record IsTable (table : HuffmanTable) : Type 0 where
   pub many : length table.symbols ≡ sum table.counts
   pub most : sum table.counts ≤ 256
   pub fit : AreCodes 1 0 table.counts
+  pub tested : are_codes 1 0 table.counts ≡ true
+
+-- each of these slots is empty or has such a table
+abbrev pub HaveTables : List (Option HuffmanTable) → Type 0
+HaveTables slots = (slot : ℕ) (table : HuffmanTable) → slice_get slots slot ≡ Some (Some table) → IsTable table
 
 -- of two codes that begin the same bits, neither is longer
 abbrev pub AreApart : List Code → Type 0

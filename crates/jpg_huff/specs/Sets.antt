@@ -1,7 +1,10 @@
 -- What is seen of a set of tables.
-use Rattle.std.specs.Prelude.{ℕ, List, [], ◌∷◌, Option, None, Some, slice_get}
+use Rattle.std.specs.Prelude.{ℕ, List, [], ◌∷◌, map, Option, None, Some, slice_get}
+use Rattle.std.specs.Option.{option_map}
+use Rattle.jpg_spec.specs.HuffContents.{HuffmanSlots}
 use Rattle.jpg_huff.specs.declared.table.Table.{Table}
 use Rattle.jpg_huff.specs.declared.set.TableSet.{TableSet}
+use Rattle.jpg_huff.specs.Tables.{table_of}
 
 -- the table in a slot, if any
 abbrev pub joined : Option (Option Table) → Option Table
@@ -20,3 +23,7 @@ ac_tables set = set.ac
 
 abbrev pub no_tables : List (Option Table)
 no_tables = None ∷ None ∷ None ∷ None ∷ []
+
+-- the same slots, of tables as counts and symbols
+abbrev pub slots_of : TableSet → HuffmanSlots
+slots_of set = record { dc = map (option_map table_of) (dc_tables set); ac = map (option_map table_of) (ac_tables set) }

@@ -3,13 +3,15 @@ ghost use Rattle.std.specs.Prelude.{◌≡◌, ◌≢◌, ◌++◌, ◌∷◌, [
 ghost use Rattle.jpg_base.specs.Desk.{DeskState};
 ghost use Rattle.jpg_spec.specs.Bits.{SpellsByte, data_of};
 ghost use Rattle.jpg_huff.specs.declared.table.Table.{Table};
+ghost use Rattle.jpg_huff.specs.declared.set.TableSet.{TableSet};
 ghost use Rattle.jpg_huff.specs.declared.gate.Passed.{Passed};
 ghost use Rattle.jpg_huff.specs.declared.gate.Passed.TheVariants.{Data, Marker};
 ghost use Rattle.jpg_base.specs.declared.stop.WriteFault.{WriteFault};
 ghost use Rattle.jpg_huff.specs.declared.walk.WalkStep.{WalkStep};
 ghost use Rattle.jpg_huff.specs.Walk.{Answers};
 ghost use Rattle.jpg_huff.specs.Tables.{table_of, symbol_codes};
-ghost use Rattle.jpg_huff.specs.Laws.{IsTable, AreApart, Feeds, AtLast};
+ghost use Rattle.jpg_huff.specs.Sets.{slots_of};
+ghost use Rattle.jpg_huff.specs.Laws.{IsTable, HaveTables, AreApart, Feeds, AtLast};
 ghost use Rattle.jpg_huff.specs.Out.{Emits, OnlyWrites};
 ghost use Rattle.jpg_huff.specs.Waiting.{Waiting};
 ghost use Rattle.jpg_huff.specs.BitOut.{Puts, Pads};
@@ -17,6 +19,12 @@ ghost use Rattle.jpg_huff.specs.BitOut.{Puts, Pads};
 /// Every table has sixteen counts, as many symbols as they say, and codes that fit (T.81 Annex C).
 pub fn tables_fit()
     ensures { (t : Table) → IsTable (table_of t) }
+{}
+
+/// Every table in the slots of a set, too, has codes that fit (T.81 B.2.4.2 and Annex C).
+pub fn sets_fit()
+    ensures dc { (set : TableSet) → HaveTables (slots_of set).dc }
+    ensures ac { (set : TableSet) → HaveTables (slots_of set).ac }
 {}
 
 /// No code of a table begins another one.

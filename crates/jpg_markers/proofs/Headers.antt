@@ -1,9 +1,10 @@
 -- Headers as their bytes tell them.
-use Rattle.std.proofs.Common.{◌≡◌, ℕ, ◌-◌, ◌*◌, ◌≤◌, true, List, [], ◌∷◌, length, get_or, take, drop, refl, sym, ap, ◌∙◌, arith}
+use Rattle.std.proofs.Common.{◌≡◌, ℕ, ◌+◌, ◌-◌, ◌*◌, ◌≤◌, true, List, [], ◌∷◌, length, get_or, take, drop, refl, sym, ap, ◌∙◌, arith}
 use Rattle.std.specs.Prelude.{◌==◌, ◌&&◌}
 use lib.Pointwise.{pointwise}
 use Rattle.std.proofs.lemmas.Bool.{eq-eqb}
-use Rattle.std.proofs.lemmas.List.{take_all}
+use Rattle.std.proofs.lemmas.List.{take_all, length-drop, get_or-drop}
+use Rattle.byteorder.specs.Endian.{big_number}
 use Rattle.jpg_spec.specs.Lists.{begins_with}
 use Rattle.jpg_spec.specs.Segments.{two_bytes}
 use Rattle.jpg_spec.specs.FrameHeader.{checked_frame}
@@ -26,6 +27,14 @@ frame_is limits process (a ∷ b ∷ c ∷ d ∷ e ∷ k ∷ parts) n count heig
     let same : length parts ≡ 3 * k = ap length (sym whole) ∙ right ∙ ap (λ (m : ℕ). 3 * m) count-is in
     let tested : (length parts == 3 * k) ≡ true = eq-eqb (length parts) (3 * k) same in
     rw (whole, high, wide, tested) refl
+
+-- the number of two bytes
+pub number_at : (bytes : List ℕ) (i : ℕ) → big_number 2 (take (length bytes - i) (drop i bytes)) ≡ two_bytes (get_or bytes i 0) (get_or bytes (i + 1) 0)
+number_at bytes i =
+    let whole : take (length bytes - i) (drop i bytes) ≡ drop i bytes = take_all (length bytes - i) (drop i bytes) (omega (arith, length-drop i bytes)) in
+    let first : get_or (drop i bytes) 0 0 ≡ get_or bytes i 0 = grind (arith, get_or-drop) in
+    let second : get_or (drop i bytes) 1 0 ≡ get_or bytes (i + 1) 0 = grind (arith, get_or-drop) in
+    ap (λ (xs : List ℕ). big_number 2 xs) whole ∙ omega (arith, first, second)
 
 -- how the standard library says it
 pub starts_is : (front rest : List ℕ) → pointwise (λ a b. a == b) front (take (length front) rest) ≡ begins_with front rest

@@ -1,3 +1,7 @@
+pub mod Definitions
+pub mod Distinct
+pub mod HeadSent
+pub mod HeadText
 pub mod Headers
 pub mod Heads
 pub mod Scans
@@ -5,6 +9,3 @@ pub mod SegmentText
 pub mod Sent
 pub mod Tables
 pub mod Taking
-pub mod Distinct
-pub mod HeadText
-pub mod HeadSent

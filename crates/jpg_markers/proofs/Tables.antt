@@ -1,10 +1,12 @@
 -- Quantisation tables as a loop reads them, one after the other.
-use Rattle.std.proofs.Common.{◌≡◌, ℕ, zero, suc, ◌-◌, ◌≤◌, ◌<◌, Bool, true, false, List, [], ◌∷◌, length, get_or, take, drop, slice_set, Some, Ok, Err, refl, ap, subst, ◌∙◌, arith}
+use Rattle.std.proofs.Common.{◌≡◌, ℕ, zero, suc, ◌+◌, ◌*◌, ◌-◌, ◌≤◌, ◌<◌, Bool, true, false, List, [], ◌∷◌, ◌++◌, length, get_or, take, drop, slice_set, Some, Ok, Err, refl, ap, subst, ◌∙◌, arith}
 use Rattle.std.specs.Prelude.{◌/◌, ◌==◌, if◌then◌else◌}
-use Rattle.std.proofs.lemmas.List.{length-take, length-drop, take_all}
+use Rattle.std.proofs.lemmas.Grind.{common_steps}
+use Rattle.std.proofs.lemmas.List.{length-take, length-drop, drop-drop, take_all}
+use Rattle.byteorder.specs.Endian.{big_number}
 use Rattle.jpg_spec.specs.Faults.{Told}
-use Rattle.jpg_spec.specs.Segments.{QuantTable}
-use Rattle.jpg_spec.specs.QuantContents.{◌>>=◌, Slots, table_size, quant_table_of, quant_told, quant_tables_of, put_tables, quants_told}
+use Rattle.jpg_spec.specs.Segments.{QuantTable, two_bytes}
+use Rattle.jpg_spec.specs.QuantContents.{◌>>=◌, Slots, pairs_told, table_size, quant_table_of, quant_told, quant_tables_of, put_tables, quants_told}
 use Rattle.jpg_spec.specs.declared.fault.Fault.{Fault}
 
 -- the bound of the recursion is no bound where it is at least the length
@@ -75,6 +77,29 @@ ends_at slots (pt ∷ bytes) n fault low n-is told =
 pub none_left_at : (slots : Slots) (rest : List ℕ) → length rest < 1 → quants_told slots rest ≡ Ok slots
 none_left_at slots [] high = none_left slots
 none_left_at slots (pt ∷ bytes) high = absurd (omega (arith, high))
+
+-- the pairs from one place on
+pairs_first : (bytes : List ℕ) → 2 ≤ length bytes → pairs_told bytes ≡ big_number 2 bytes ∷ pairs_told (drop 2 bytes)
+pairs_first [] long = absurd (omega (arith, long))
+pairs_first (high ∷ []) long = absurd (omega (arith, long))
+pairs_first (high ∷ low ∷ bytes) long =
+    let same : two_bytes high low ≡ big_number 2 (high ∷ low ∷ bytes) = omega arith in
+    ap (λ (q : ℕ). q ∷ pairs_told bytes) same
+
+pairs_more : (k : ℕ) (bytes : List ℕ) → 2 * k + 2 ≤ length bytes → pairs_told (drop (2 * k) bytes) ≡ big_number 2 (drop (2 * k) bytes) ∷ pairs_told (drop (2 * (k + 1)) bytes)
+pairs_more k bytes long =
+    let next : 2 * k + 2 ≡ 2 * (k + 1) = omega arith in
+    pairs_first (drop (2 * k) bytes) (omega (arith, long, length-drop (2 * k) bytes))
+    ∙ ap (λ (xs : List ℕ). big_number 2 (drop (2 * k) bytes) ∷ pairs_told xs) (drop-drop 2 (2 * k) bytes ∙ ap (λ (n : ℕ). drop n bytes) next)
+
+-- one more pair of a table
+pub pair_put : (table bytes : List ℕ) (k q : ℕ) → length table ≡ 64 → k < 64 → length bytes ≡ 128 → q ≡ big_number 2 (take (length bytes - 2 * k) (drop (2 * k) bytes))
+    → take (k + 1) (slice_set table k q) ++ pairs_told (drop (2 * (k + 1)) bytes) ≡ take k table ++ pairs_told (drop (2 * k) bytes)
+pair_put table bytes k q size low long is =
+    let whole : take (length bytes - 2 * k) (drop (2 * k) bytes) ≡ drop (2 * k) bytes = take_all (length bytes - 2 * k) (drop (2 * k) bytes) (omega (arith, length-drop (2 * k) bytes)) in
+    let same : q ≡ big_number 2 (drop (2 * k) bytes) = is ∙ ap (λ (xs : List ℕ). big_number 2 xs) whole in
+    let more = pairs_more k bytes (omega (arith, low, long)) in
+    grind (arith, common_steps, more, same)
 
 pub pairs_long : (head : ℕ) (bytes : List ℕ) → table_size head ≤ length bytes → head / 16 ≡ 1 → length (take 128 bytes) ≡ 128
 pairs_long head bytes long pairs =

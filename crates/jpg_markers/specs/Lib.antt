@@ -1,7 +1,8 @@
 pub mod Apps
+pub mod Huffmans
 pub mod Kept
+pub mod OutHead
+pub mod Passed
 pub mod Reading
 pub mod Seen
 pub mod Sent
-pub mod Passed
-pub mod OutHead

@@ -4,6 +4,7 @@ ghost use Rattle.jpg_spec.specs.Lists.{begins_with};
 ghost use Rattle.jpg_spec.specs.Jfif.{is_jfif, is_adobe, jfif_told};
 ghost use Rattle.jpg_markers.specs.Apps.{IsApp};
 
+use byteorder::{BigEndian, ByteOrder};
 use std::marker::Model;
 
 /// What a JFIF header tells: whether one was seen, its version, and the unit and the numbers of its
@@ -61,8 +62,8 @@ fn header_of(contents: &[u8]) -> Jfif
         major: contents[5],
         minor: contents[6],
         unit: contents[7],
-        x: u16::from_be_bytes([contents[8], contents[9]]),
-        y: u16::from_be_bytes([contents[10], contents[11]]),
+        x: BigEndian::read_u16(&contents[8..]),
+        y: BigEndian::read_u16(&contents[10..]),
     }
 }
 

@@ -4,6 +4,7 @@ ghost use Rattle.jpg_spec.specs.FrameHeader.{AreLimits};
 ghost use Rattle.jpg_spec.specs.FrameContents.{components_told, frame_header};
 
 use arrayvec::ArrayVec;
+use byteorder::{BigEndian, ByteOrder};
 use jpg_base::Frame;
 use jpg_spec::{Component, Fault, Limits, Process};
 
@@ -15,12 +16,12 @@ pub fn read_sof(process: Process, contents: &[u8], limits: &Limits) -> Result<Fr
     ensures { result ≡ frame_header limits.now process contents.now }
 {
     match contents {
-        [precision, y1, y0, x1, x0, count, parts @ ..] => {
+        [precision, _, _, _, _, count, parts @ ..] => {
             if parts.len() != 3 * usize::from(*count) {
                 return Err(Fault::BadLength);
             }
-            let height = u32::from(u16::from_be_bytes([*y1, *y0]));
-            let width = u32::from(u16::from_be_bytes([*x1, *x0]));
+            let height = u32::from(BigEndian::read_u16(&contents[1..]));
+            let width = u32::from(BigEndian::read_u16(&contents[3..]));
             let components = components_of(parts);
             Frame::new(
                 process,

@@ -2,6 +2,7 @@
 ghost use Rattle.std.specs.Prelude.{◌≡◌};
 ghost use Rattle.jpg_spec.specs.ScanContents.{restart_interval};
 
+use byteorder::{BigEndian, ByteOrder};
 use jpg_spec::Fault;
 
 /// The MCUs of a restart interval, from the two bytes of its segment. Other contents are of a bad
@@ -9,8 +10,8 @@ use jpg_spec::Fault;
 pub fn read_dri(contents: &[u8]) -> Result<u16, Fault>
     ensures { result ≡ restart_interval contents.now }
 {
-    match contents {
-        [high, low] => Ok(u16::from_be_bytes([*high, *low])),
-        _ => Err(Fault::BadLength),
+    if contents.len() != 2 {
+        return Err(Fault::BadLength);
     }
+    Ok(BigEndian::read_u16(contents))
 }

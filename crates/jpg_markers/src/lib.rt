@@ -4,6 +4,7 @@
 mod app;
 mod colour;
 mod frame;
+mod huffmans;
 mod interval;
 mod kept;
 mod quants;
@@ -15,6 +16,7 @@ mod writing;
 pub use app::{App, Jfif, read_app};
 pub use colour::{guess, guesses_are_of_markers};
 pub use frame::read_sof;
+pub use huffmans::read_dht;
 pub use interval::read_dri;
 pub use jpg_spec::Copying;
 pub use kept::{Kept, KeptList};

@@ -4,6 +4,7 @@ ghost use Rattle.std.specs.Option.{option_map};
 ghost use Rattle.jpg_spec.specs.Lists.{any_of};
 ghost use Rattle.jpg_spec.specs.QuantContents.{is_zero, no_quants, pairs_told, quant_in, quant_table_of, quant_told, quants_told, table_entries, table_size};
 
+use byteorder::{BigEndian, ByteOrder};
 use jpg_base::QuantTable;
 use jpg_spec::Fault;
 use std::marker::Model;
@@ -168,12 +169,8 @@ fn from_pairs(bytes: &[u8]) -> QuantTable
     ensures { result ≡ pairs_told bytes.now }
 {
     let mut table = QuantTable::ones();
-    let mut rest = bytes;
     for k in 0..64 {
-        if let [high, low, tail @ ..] = rest {
-            table.set(k, u16::from_be_bytes([*high, *low]));
-            rest = tail;
-        }
+        table.set(k, BigEndian::read_u16(&bytes[2 * k as usize..]));
     }
     table
 }

@@ -4,6 +4,8 @@ use jpg_base::{Frame, Limits};
 use jpg_spec::{Colour, Component, Fault, Process};
 use std::test::Fail;
 
+mod huffman_tables;
+
 #[test]
 fn intervals(rt: HostRuntime) {
     assert!(rt; read_dri(&[1, 2]) == Ok(258));
