@@ -2,6 +2,7 @@
 #![tactic(auto)]
 
 mod gray;
+mod header;
 mod laws;
 mod message;
 mod reading;
