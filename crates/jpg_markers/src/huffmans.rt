@@ -1,8 +1,7 @@
 // Huffman tables (T.81 B.2.4.2).
-ghost use Rattle.std.specs.Prelude.{◌≡◌, ◌+◌, ◌%◌, ◌<◌, ◌≤◌, Ok, Err, length, drop, IfOk, IfErr};
+ghost use Rattle.std.specs.Prelude.{◌≡◌, ◌%◌, ◌<◌, ◌≤◌, Ok, Err, length, drop, IfOk, IfErr};
 ghost use Rattle.jpg_spec.specs.HuffContents.{definition_size, huffman_table_of, huffmans_told, put_definition};
 ghost use Rattle.jpg_huff.specs.Sets.{slots_of};
-ghost use Rattle.jpg_huff.specs.Tables.{table_of};
 ghost use Rattle.jpg_markers.specs.Huffmans.{definition_of, table_told, tables_judged, kept_size};
 
 use jpg_huff::{Table, TableFault, TableSet};
