@@ -25,7 +25,6 @@ use Rattle.jpg_spec.specs.Header.{header_rule, IsHeader}
 use Rattle.jpg_spec.specs.SingleScan.{is_whole_frame, is_single_scan, blocks_across, blocks_down, mapped, single_coding, single_meaning}
 use Rattle.jpg_spec.specs.declared.fault.Fault.TheVariants.{ScanComponent, ScanParameters}
 use Rattle.jpg_spec.specs.declared.frame.Process.{Process}
-use Rattle.jpg_spec.specs.declared.frame.ScanPart.{ScanPart}
 use Rattle.jpg_spec.specs.declared.frame.Limits.{Limits}
 use Rattle.jpg_spec.proofs.Writing.{and_intro}
 use Rattle.jpg_spec.proofs.SingleFrame.{same_itself, not_refused, IsWhole, no_quant}
@@ -158,9 +157,6 @@ written_single limits p width height id quants ys is =
 slots : (i : ℕ) → ((part_of gray_head i).dc ≡ 0) × ((part_of gray_head i).ac ≡ 0)
 slots i = by (0 == i)
   where
-    part : Bool → ScanPart
-    part b = get_or gray_head.parts (cond b 0 1) (record { component = i; dc = 0; ac = 0 })
-
     by : (b : Bool) → ((get_or gray_head.parts (cond b 0 1) (record { component = i; dc = 0; ac = 0 })).dc ≡ 0) × ((get_or gray_head.parts (cond b 0 1) (record { component = i; dc = 0; ac = 0 })).ac ≡ 0)
     by true = (refl, refl)
     by false = (refl, refl)

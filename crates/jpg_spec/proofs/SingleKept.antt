@@ -247,9 +247,6 @@ pub input_count : (limits : Limits) (before : List Segment) → Pass (header_rul
 input_count limits [] p = omega arith
 input_count limits (s ∷ before) p = by (is_kept before s.0 s.1) refl (input_count limits before p.2)
   where
-    count : ℕ
-    count = kept_count (s ∷ kept_after before)
-
     few : is_kept before s.0 s.1 ≡ true → kept_count (s ∷ kept_after before) ≤ limits.kept
     few e =
         let k = both (may_keep s.0) (not (has_scan before && (begins_jfif s.0 s.1 || begins_adobe s.0 s.1))) e in

@@ -120,13 +120,13 @@ flip_is process width height id quants blocks kept m =
 
 -- THE MEANING OF THE FILE is of this form
 
+zero_either : (b : Bool) (block : List ℤ) → block ≡ zeros 64 → cond b block (zeros 64) ≡ block
+zero_either true block e = refl
+zero_either false block e = sym e
+
 -- what is no real block is zeros already
 real_is : (f : Frame) → IsWhole f → (blocks : List (List ℤ)) (i x y : ℕ) → real_blocks f (mapped (f.width / 8) (f.height / 8) blocks) i x y ≡ mapped (f.width / 8) (f.height / 8) blocks i x y
 real_is f whole blocks (suc i) x y = zero_either (nat_lt (suc i) (length f.components) && is_real f (suc i) x y) _ (spot_other (f.width / 8) (f.height / 8) blocks i x y)
-  where
-    zero_either : (b : Bool) (block : List ℤ) → block ≡ zeros 64 → cond b block (zeros 64) ≡ block
-    zero_either true block e = refl
-    zero_either false block e = sym e
 real_is f whole blocks zero x y =
     let w = f.width / 8 in
     let h = f.height / 8 in
@@ -140,10 +140,6 @@ real_is f whole blocks zero x y =
     (λ (k : w ≤ x). zero_either real _ (spot_beside w h blocks x y k))
     (cases_lt x w)
   where
-    zero_either : (b : Bool) (block : List ℤ) → block ≡ zeros 64 → cond b block (zeros 64) ≡ block
-    zero_either true block e = refl
-    zero_either false block e = sym e
-
     yes : x < f.width / 8 → y < f.height / 8 → (nat_lt 0 (length f.components) && is_real f 0 x y) ≡ true
     yes k l =
         ap (λ (cs : List Component). nat_lt 0 (length cs) && is_real f 0 x y) whole.one
