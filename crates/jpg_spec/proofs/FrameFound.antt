@@ -1,6 +1,6 @@
 -- Behind a header that breaks no rule the frame is one that passed its checks.
-use Rattle.std.proofs.Common.{◌≡◌, ℕ, ◌+◌, ◌*◌, ◌<◌, ◌≤◌, Bool, true, false, cond, not, List, [], ◌∷◌, length, refl, sym, ap, ◌∙◌, subst, arith, inl, inr, Option, Some, None, ◌==◌, ◌≢◌, ◌&&◌, ⊎_elim}
-use Rattle.std.specs.Prelude.{◌⊎◌, ◌||◌, nat_lt, nat_le, Ok, Err, unwrap_or, option_and_then}
+use Rattle.std.proofs.Common.{◌≡◌, ℕ, ◌*◌, Bool, true, false, cond, not, List, [], ◌∷◌, length, refl, sym, ap, ◌∙◌, subst, arith, inl, inr, Option, Some, None, ◌==◌, ◌≢◌, ⊎_elim}
+use Rattle.std.specs.Prelude.{◌⊎◌, ◌||◌, nat_lt, Ok, Err, unwrap_or, option_and_then}
 use Rattle.std.proofs.lemmas.Bool.{cases_eq}
 use Rattle.std.proofs.lemmas.Bool.Decides.{nat_tests}
 use Rattle.jpg_spec.specs.Lists.{any_of, is_distinct}
@@ -17,8 +17,8 @@ use Rattle.jpg_spec.specs.declared.fault.Fault.TheVariants.{EmptyImage, TooLarge
 use Rattle.jpg_spec.specs.declared.frame.Process.{Process}
 use Rattle.jpg_spec.specs.declared.frame.Process.TheVariants.{Baseline, Extended, Progressive}
 use Rattle.jpg_spec.specs.declared.frame.Limits.{Limits}
-use Rattle.jpg_spec.proofs.Telling.{negated, same_of}
-use Rattle.jpg_spec.proofs.SingleFrame.{neither, refused}
+use Rattle.jpg_spec.proofs.Telling.{same_of}
+use Rattle.jpg_spec.proofs.SingleFrame.{refused}
 
 -- WHAT THE CHECKS SAY
 

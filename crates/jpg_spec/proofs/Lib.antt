@@ -2,6 +2,7 @@ pub mod Bands
 pub mod Behind
 pub mod Excludes
 pub mod Facts
+pub mod FrameFound
 pub mod Full
 pub mod HeadersOnce
 pub mod Levels
@@ -15,8 +16,16 @@ pub mod Reached
 pub mod ReadBytes
 pub mod Rows
 pub mod Sequential
+pub mod SingleAgain
+pub mod SingleFileAgain
+pub mod SingleForce
 pub mod SingleFrame
+pub mod SingleKept
 pub mod SingleMeans
+pub mod SingleOutput
+pub mod SingleTables
+pub mod SingleText
+pub mod SingleTurned
 pub mod SingleUnits
 pub mod Small
 pub mod Sound
@@ -26,6 +35,3 @@ pub mod Telling
 pub mod Turned
 pub mod Within
 pub mod Writing
-pub mod FrameFound
-pub mod SingleTurned
-pub mod SingleText

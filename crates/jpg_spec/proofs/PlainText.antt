@@ -125,7 +125,7 @@ narrow (q ∷ quants) all =
     small : (q : ℕ) → q ≤ 255 → nat_lt 255 q ≡ false
     small q h = grind (arith, nat_tests)
 
-pub equal_itself : (xs : List ℕ) → are_equal xs xs ≡ true
+equal_itself : (xs : List ℕ) → are_equal xs xs ≡ true
 equal_itself [] = refl
 equal_itself (x ∷ xs) = ap (λ b. b && are_equal xs xs) (same x) ∙ equal_itself xs
   where
@@ -140,7 +140,7 @@ headed_is : (g : Gray) → IsGray g → headed (gray_meaning g) ≡ headed_gray 
 headed_is g is =
     ap (λ b. (let M : Meaning = record (gray_meaning g) { process = cond (b || false) Extended Baseline; kept = (0xe0, plain_jfif) ∷ [] } in M)) (narrow g.quants is.quants.1)
 
-slot_is : (quants : List ℕ) → slot_in (quants ∷ []) quants ≡ 0
+pub slot_is : (quants : List ℕ) → slot_in (quants ∷ []) quants ≡ 0
 slot_is quants = ap (λ b. cond b 0 1) (equal_itself quants)
 
 quants_is : (g : Gray) → IsGray g → quants_text (headed_gray g) ≡ segment_text 0xdb (0 ∷ g.quants)

@@ -63,10 +63,10 @@ whole_frame f e =
       height = same_of (f.height % 8) 0 sides.1;
     }
 
-h_max_is : (f : Frame) → IsWhole f → h_max f ≡ 1
+pub h_max_is : (f : Frame) → IsWhole f → h_max f ≡ 1
 h_max_is f w = ap (λ (cs : List Component). geometry.greatest (map (λ c. c.h) cs)) w.one ∙ ap (λ n. max n 0) w.h
 
-v_max_is : (f : Frame) → IsWhole f → v_max f ≡ 1
+pub v_max_is : (f : Frame) → IsWhole f → v_max f ≡ 1
 v_max_is f w = ap (λ (cs : List Component). geometry.greatest (map (λ c. c.v) cs)) w.one ∙ ap (λ n. max n 0) w.v
 
 pub across_is : (f : Frame) → IsWhole f → geometry.blocks_across f (component_at f 0) ≡ f.width / 8

@@ -1,5 +1,5 @@
 -- What is written of a gray picture of whole blocks, and of the picture of a file mirrored left to right.
-use Rattle.std.proofs.Common.{◌≡◌, ℕ, ◌+◌, ◌-◌, ◌*◌, ◌/◌, ◌%◌, ◌<◌, ◌≤◌, Bool, true, false, cond, List, [], ◌∷◌, ◌++◌, length, get_or, refl, sym, ap, ◌∙◌, subst, arith, zero, suc, ℤ, pos, ◌==◌, ◌&&◌}
+use Rattle.std.proofs.Common.{◌≡◌, ℕ, ◌+◌, ◌*◌, ◌/◌, ◌%◌, ◌<◌, Bool, true, false, cond, List, [], ◌∷◌, ◌++◌, length, get_or, refl, sym, ap, ◌∙◌, zero, suc, ℤ, pos, ◌==◌, ◌&&◌}
 use Rattle.std.specs.Prelude.{◌||◌, map, flat_map, reverse, nat_lt, filter, not, unwrap_or}
 use Rattle.std.specs.List.{All}
 use Rattle.std.proofs.lemmas.List.{append_assoc, append-nil, length-map}
@@ -10,12 +10,12 @@ use Rattle.jpg_spec.specs.Geometry as geometry
 use Rattle.jpg_spec.specs.Geometry.{Frame, component_at, place, is_progressive, units}
 use Rattle.jpg_spec.specs.Segments.{QuantTable}
 use Rattle.jpg_spec.specs.Elements.{zeros}
-use Rattle.jpg_spec.specs.Scan.{Blocks, block_at}
-use Rattle.jpg_spec.specs.ScanText.{UnitDue, units_due, interval_elements, element_bits, scan_data, typical_table}
+use Rattle.jpg_spec.specs.Scan.{Blocks}
+use Rattle.jpg_spec.specs.ScanText.{units_due, interval_elements, element_bits, scan_data, typical_table}
 use Rattle.jpg_spec.specs.Meaning.{Meaning}
 use Rattle.jpg_spec.specs.Moves.{is_wide, jfif_contents, flip_h, headed}
 use Rattle.jpg_spec.specs.Script.{sequential_script}
-use Rattle.jpg_spec.specs.FileText.{segment_text, front_text, frame_of_meaning, scans_text, file_text, off, nothing_written}
+use Rattle.jpg_spec.specs.FileText.{front_text, frame_of_meaning, scans_text, file_text, off, nothing_written}
 use Rattle.jpg_spec.specs.GrayFile.{gray_head, end_of_image, turned_rows, sequential_text}
 use Rattle.jpg_spec.specs.Written.{sequential_bits, plain_bits}
 use Rattle.jpg_spec.specs.Markers.{Segment, kept_after}

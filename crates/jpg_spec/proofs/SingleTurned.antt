@@ -1,6 +1,6 @@
 -- What one gray scan means, written out, and the same mirrored left to right.
-use Rattle.std.proofs.Common.{◌≡◌, ℕ, zero, suc, ◌+◌, ◌-◌, ◌*◌, ◌/◌, ◌<◌, ◌≤◌, Bool, true, false, cond, List, [], ◌∷◌, ◌++◌, length, get_or, refl, sym, ap, ◌∙◌, subst, arith, ⊎_elim, ℤ, ◌==◌, ◌&&◌}
-use Rattle.std.specs.Prelude.{map, flat_map, reverse, nat_lt, unwrap_or}
+use Rattle.std.proofs.Common.{◌≡◌, ℕ, zero, suc, ◌+◌, ◌-◌, ◌*◌, ◌/◌, ◌<◌, ◌≤◌, Bool, true, false, cond, List, [], ◌∷◌, length, get_or, refl, sym, ap, ◌∙◌, arith, ⊎_elim, ℤ, ◌&&◌}
+use Rattle.std.specs.Prelude.{map, reverse, nat_lt, unwrap_or}
 use Rattle.std.proofs.Math.Path.{fun_ext}
 use Rattle.std.proofs.Math.Nat.{mul_comm}
 use Rattle.std.proofs.lemmas.Bool.{cases_lt}
@@ -15,14 +15,12 @@ use Rattle.jpg_spec.specs.Scan.{Blocks}
 use Rattle.jpg_spec.specs.Meaning.{Meaning, PictureComponent, real_blocks}
 use Rattle.jpg_spec.specs.Moves.{mirrored, flip_h, most_across, component_of}
 use Rattle.jpg_spec.specs.Markers.{Segment, kept_after}
-use Rattle.jpg_spec.specs.InForce.{frame_of}
 use Rattle.jpg_spec.specs.History.{quant_of}
 use Rattle.jpg_spec.specs.FileMeaning.{picture_component, meaning_of}
 use Rattle.jpg_spec.specs.GrayFile.{turned_rows}
-use Rattle.jpg_spec.specs.SingleScan.{mapped, single_meaning}
+use Rattle.jpg_spec.specs.SingleScan.{mapped}
 use Rattle.jpg_spec.specs.declared.frame.Process.{Process}
 use Rattle.jpg_spec.specs.declared.frame.Component.{Component}
-use Rattle.jpg_spec.specs.declared.frame.Limits.{Limits}
 use Rattle.jpg_spec.proofs.Rows.{AreRows, IsCut, cut_into, joined, at_row, row_is, rows_map, length_joined}
 use Rattle.jpg_spec.proofs.Turned.{lt_yes, lt_no, mirrored_zeros, turned_row, length_turned}
 use Rattle.jpg_spec.proofs.SingleFrame.{IsWhole, across_is, down_is}
@@ -122,13 +120,13 @@ flip_is process width height id quants blocks kept m =
 
 -- THE MEANING OF THE FILE is of this form
 
+zero_either : (b : Bool) (block : List ℤ) → block ≡ zeros 64 → cond b block (zeros 64) ≡ block
+zero_either true block e = refl
+zero_either false block e = sym e
+
 -- what is no real block is zeros already
 real_is : (f : Frame) → IsWhole f → (blocks : List (List ℤ)) (i x y : ℕ) → real_blocks f (mapped (f.width / 8) (f.height / 8) blocks) i x y ≡ mapped (f.width / 8) (f.height / 8) blocks i x y
 real_is f whole blocks (suc i) x y = zero_either (nat_lt (suc i) (length f.components) && is_real f (suc i) x y) _ (spot_other (f.width / 8) (f.height / 8) blocks i x y)
-  where
-    zero_either : (b : Bool) (block : List ℤ) → block ≡ zeros 64 → cond b block (zeros 64) ≡ block
-    zero_either true block e = refl
-    zero_either false block e = sym e
 real_is f whole blocks zero x y =
     let w = f.width / 8 in
     let h = f.height / 8 in
@@ -142,10 +140,6 @@ real_is f whole blocks zero x y =
     (λ (k : w ≤ x). zero_either real _ (spot_beside w h blocks x y k))
     (cases_lt x w)
   where
-    zero_either : (b : Bool) (block : List ℤ) → block ≡ zeros 64 → cond b block (zeros 64) ≡ block
-    zero_either true block e = refl
-    zero_either false block e = sym e
-
     yes : x < f.width / 8 → y < f.height / 8 → (nat_lt 0 (length f.components) && is_real f 0 x y) ≡ true
     yes k l =
         ap (λ (cs : List Component). nat_lt 0 (length cs) && is_real f 0 x y) whole.one

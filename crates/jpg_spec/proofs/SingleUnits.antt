@@ -34,9 +34,6 @@ places_are f w =
 pub all_places : (P : Place → Type 0) (f : Frame) (w h : ℕ) → ((x y : ℕ) → x < w → y < h → P (place f 0 x y)) → All P (places_in f w h)
 all_places P f w h each = rows h (omega arith)
   where
-    at : ℕ → ℕ → Place
-    at y x = place f 0 x y
-
     row : (y n : ℕ) → y < h → n ≤ w → All P (map (λ x. place f 0 x y) (below n))
     row y zero k l = All-nil P
     row y (suc n) k l =

@@ -77,7 +77,7 @@ rows_twice [] all = refl
 rows_twice (row ∷ rows) all =
     ap (λ t. t ++ flat_map turned_row (map turned_row rows)) (row_twice row (all_front IsBlock row (joined rows) all)) ∙ ap (λ t. row ++ t) (rows_twice rows (all_back IsBlock row (joined rows) all))
 
-all_reverse : {A : Type 0} (P : A → Type 0) (xs : List A) (d : A) → All P xs → All P (reverse xs)
+pub all_reverse : {A : Type 0} (P : A → Type 0) (xs : List A) (d : A) → All P xs → All P (reverse xs)
 all_reverse P xs d all =
     All-from_get_or P (reverse xs) d
     (λ i h. (let k : i < length xs = omega (arith, h, length-reverse xs) in subst P (sym (get_or-reverse xs i d k)) (All-get_or P xs (length xs - 1 - i) d (omega arith) all)))

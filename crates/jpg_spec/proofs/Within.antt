@@ -106,7 +106,7 @@ step c p (ends bands bits) u units here left more run t ok w =
     let l : length here ≡ length u.old = ap length told ∙ length_corrected c.al (u.old ++ []) bits ∙ ap length (append-nil u.old) in
     (here, more, refl, l, ok, subst (λ l. AreWithin c l more) rest w)
 
-covers_within : (c : Coding) (s t : Standing) (es : List Element) (told : List ℤ) (bits : List Bool) → c.most_run ≡ 0 → Covers c s es told bits t → t.left ≡ [] → AreWithin c s.left told
+pub covers_within : (c : Coding) (s t : Standing) (es : List Element) (told : List ℤ) (bits : List Bool) → c.most_run ≡ 0 → Covers c s es told bits t → t.left ≡ [] → AreWithin c s.left told
 covers_within c s t [] told bits run k none = subst (λ l. AreWithin c l told) (sym (ap (λ (q : Standing). q.left) (sym k.2) ∙ none)) k.0
 covers_within c s t (e ∷ es) told bits run k none =
     let ih = covers_within c (record { predictions = predictions_after s.predictions (k.0).component e; left = k.3 }) t es k.4 k.6 run k.13 none in
@@ -118,7 +118,7 @@ covers_within c s t (e ∷ es) told bits run k none =
 abbrev pub IsWithin : Coding → List ℤ → Type 0
 IsWithin c block = are_in_bounds c true block ≡ true
 
-blocks_within : (c : Coding) (blocks : List (List ℤ)) → All (λ block. length block ≡ 64) blocks → AreWithin c (map (λ block. new_unit 0) blocks) (flat_map (λ block. block) blocks)
+pub blocks_within : (c : Coding) (blocks : List (List ℤ)) → All (λ block. length block ≡ 64) blocks → AreWithin c (map (λ block. new_unit 0) blocks) (flat_map (λ block. block) blocks)
     → All (λ block. IsWritable c (0, block)) blocks
 blocks_within c [] all w = All-nil (λ block. IsWritable c (0, block))
 blocks_within c (block ∷ blocks) all w =
@@ -155,7 +155,7 @@ mirror_within c places (v ∷ block) ok =
     let b = both (int_le c.bounds.dc_low v && int_le v c.bounds.dc_high) (are_in_bounds c false block) ok in
     and_intro (int_le c.bounds.dc_low v && int_le v c.bounds.dc_high) (are_in_bounds c false (mirror_at places block)) b.0 (mirror_rest c places block b.1)
 
-mirrored_writable : (c : Coding) (block : List ℤ) → IsWritable c (0, block) → IsWritable c (0, mirrored block)
+pub mirrored_writable : (c : Coding) (block : List ℤ) → IsWritable c (0, block) → IsWritable c (0, mirrored block)
 mirrored_writable c block h = (mirrored_block block h.0, subst (λ x. are_in_bounds c true x ≡ true) (sym (mirrored_is block)) (mirror_within c (drop 1 zigzag) block h.1))
 
 pub flipped_within : (bytes : List ℕ) (g : Gray) → SpellsGray bytes g → All (λ block. IsWritable gray_coding (0, block)) (flipped_gray g).blocks

@@ -1,11 +1,13 @@
 //! Laws over files of one gray scan: what they mean, and what is written of the picture mirrored left to right (T.81 B.2.1).
-ghost use Rattle.std.specs.Prelude.{◌≡◌, ◌≤◌, ◌*◌, ◌++◌, ℕ, ℤ, true, List, length};
+ghost use Rattle.std.specs.Prelude.{◌≡◌, ◌<◌, ◌≤◌, ◌*◌, ◌++◌, ℕ, ℤ, true, List, [], length, unwrap_or, All};
 ghost use Rattle.jpg_spec.specs.Geometry.{component_at};
 ghost use Rattle.jpg_spec.specs.Moves.{flip_h, headed};
-ghost use Rattle.jpg_spec.specs.GrayFile.{end_of_image, turned_rows, sequential_text};
+ghost use Rattle.jpg_spec.specs.GrayFile.{gray_coding, end_of_image, turned_rows, sequential_text};
 ghost use Rattle.jpg_spec.specs.Markers.{Segment};
-ghost use Rattle.jpg_spec.specs.InForce.{frame_of, head_in};
+ghost use Rattle.jpg_spec.specs.InForce.{frame_of, head_in, quant_in_force};
 ghost use Rattle.jpg_spec.specs.FileMeaning.{Means};
+ghost use Rattle.jpg_spec.specs.FrameHeader.{AreLimits};
+ghost use Rattle.jpg_spec.specs.Written.{IsWritable};
 ghost use Rattle.jpg_spec.specs.Header.{IsHeader};
 ghost use Rattle.jpg_spec.specs.SingleScan.{is_single_scan, blocks_across, blocks_down, SpellsScan, single_coding, single_meaning, single_text};
 ghost use Rattle.jpg_spec.specs.declared.frame.Limits.{Limits};
@@ -22,4 +24,17 @@ pub fn files_of_one_scan_have_their_meaning()
 pub fn turned_files_of_one_scan_are_written_out()
     ensures meaning { (limits : Limits) (before : List Segment) (contents front : List ℕ) (blocks : List (List ℤ)) → IsHeader limits front before contents → is_single_scan (frame_of limits before) before (head_in (frame_of limits before) contents) ≡ true → length blocks ≡ blocks_across (frame_of limits before) * blocks_down (frame_of limits before) → flip_h (single_meaning limits before contents blocks) ≡ single_meaning limits before contents (turned_rows (blocks_across (frame_of limits before)) blocks) }
     ensures text { (limits : Limits) (before : List Segment) (contents front : List ℕ) (blocks : List (List ℤ)) → IsHeader limits front before contents → is_single_scan (frame_of limits before) before (head_in (frame_of limits before) contents) ≡ true → length blocks ≡ blocks_across (frame_of limits before) * blocks_down (frame_of limits before) → sequential_text (headed (flip_h (single_meaning limits before contents blocks))) ≡ single_text (headed (flip_h (single_meaning limits before contents blocks))) (component_at (frame_of limits before) 0).id (turned_rows (blocks_across (frame_of limits before)) blocks) }
+{}
+
+/// The blocks of such a file have 64 values each, in the bounds of their precision, and so have the mirrored blocks (T.81, F.1.2).
+pub fn blocks_of_one_scan_are_writable()
+    ensures blocks { (limits : Limits) (before : List Segment) (contents text : List ℕ) (count : ℕ) (blocks : List (List ℤ)) → is_single_scan (frame_of limits before) before (head_in (frame_of limits before) contents) ≡ true → SpellsScan (single_coding limits before contents) count text blocks → All (λ block. IsWritable gray_coding (0, block)) blocks }
+    ensures turned { (across down : ℕ) (blocks : List (List ℤ)) → length blocks ≡ across * down → All (λ block. IsWritable gray_coding (0, block)) blocks → All (λ block. IsWritable gray_coding (0, block)) (turned_rows across blocks) }
+{}
+
+/// What is written of the mirrored picture of such a file means the mirrored meaning, with the comments and its own JFIF header
+/// as its markers (T.81, B.2.1). The quantisers are numbers of two bytes, as they are where the header is one of bytes.
+pub fn turned_files_of_one_scan_mean_the_turned_picture()
+    ensures tables { (limits : Limits) (before : List Segment) (contents front text : List ℕ) (blocks : List (List ℤ)) → AreLimits limits → IsHeader limits front before contents → is_single_scan (frame_of limits before) before (head_in (frame_of limits before) contents) ≡ true → SpellsScan (single_coding limits before contents) (blocks_across (frame_of limits before) * blocks_down (frame_of limits before)) text blocks → All (λ q. q < 65536) (unwrap_or (quant_in_force before (component_at (frame_of limits before) 0).quant) []) → length (sequential_text (headed (flip_h (single_meaning limits before contents blocks)))) ≤ limits.input → Means limits (sequential_text (headed (flip_h (single_meaning limits before contents blocks)))) (headed (flip_h (single_meaning limits before contents blocks))) }
+    ensures bytes { (limits : Limits) (before : List Segment) (contents front text : List ℕ) (blocks : List (List ℤ)) → AreLimits limits → IsHeader limits front before contents → is_single_scan (frame_of limits before) before (head_in (frame_of limits before) contents) ≡ true → SpellsScan (single_coding limits before contents) (blocks_across (frame_of limits before) * blocks_down (frame_of limits before)) text blocks → All (λ b. b < 256) front → length (sequential_text (headed (flip_h (single_meaning limits before contents blocks)))) ≤ limits.input → Means limits (sequential_text (headed (flip_h (single_meaning limits before contents blocks)))) (headed (flip_h (single_meaning limits before contents blocks))) }
 {}
