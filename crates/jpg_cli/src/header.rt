@@ -6,7 +6,9 @@ ghost use Rattle.jpg_cli.specs.Header.{Holds, IsOther, Takes, told_by};
 
 use jpg_base::{Frame, Limits, NoMemory};
 use jpg_huff::TableSet;
-use jpg_markers::{App, Jfif, KeptList, QuantSet, read_app, read_dht, read_dqt, read_dri, read_sof};
+use jpg_markers::{
+    App, Jfif, KeptList, QuantSet, read_app, read_dht, read_dqt, read_dri, read_sof,
+};
 use jpg_spec::{Fault, Process};
 use std::alloc::Global;
 
