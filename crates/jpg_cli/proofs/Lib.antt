@@ -12,3 +12,4 @@ pub mod PlainScan
 pub mod Running
 pub mod Sides
 pub mod TurnedPicture
+pub mod Opening

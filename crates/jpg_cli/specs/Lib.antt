@@ -1,3 +1,4 @@
+pub mod FirstScan
 pub mod Gray
 pub mod Header
 pub mod Reading

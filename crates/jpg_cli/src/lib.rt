@@ -2,6 +2,7 @@
 #![tactic(auto)]
 
 mod gray;
+mod first_scan;
 mod header;
 mod laws;
 mod message;

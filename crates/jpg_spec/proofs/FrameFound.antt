@@ -122,7 +122,7 @@ with_code limits before (code, contents) others rule e =
     at : {n : ℕ} → code ≡ n → (header_rule limits before n contents ≡ None → Found limits (first_some (frame_in limits (n, contents)) others)) → Found limits (first_some (frame_in limits (code, contents)) others)
     at {n} a found = subst (λ k. Found limits (first_some (frame_in limits (k, contents)) others)) (sym a) (found (subst (λ k. header_rule limits before k contents ≡ None) a rule))
 
-frame_found : (limits : Limits) (before : List Segment) → Pass (header_rule limits) before → has_frame before ≡ true → Found limits (frame_after limits before)
+pub frame_found : (limits : Limits) (before : List Segment) → Pass (header_rule limits) before → has_frame before ≡ true → Found limits (frame_after limits before)
 frame_found limits [] p e = cc
 frame_found limits (s ∷ before) p e = by (is_frame_code s.0) refl (frame_found limits before p.2)
   where
