@@ -9,6 +9,7 @@ pub mod MarkersOnce
 pub mod Once
 pub mod OneCode
 pub mod OneFile
+pub mod OneHeader
 pub mod Packing
 pub mod PlainText
 pub mod Reached

@@ -1,0 +1,23 @@
+//! Laws over the header of a file: it comes to one thing at most, and what it comes to is what the whole file does (T.81 B.2.1).
+ghost use Rattle.std.specs.Prelude.{◌≡◌, ◌≤◌, ◌++◌, ℕ, List, length, take};
+ghost use Rattle.jpg_spec.specs.Markers.{Segment};
+ghost use Rattle.jpg_spec.specs.Header.{HeaderShows, HeaderStands, IsHeader};
+ghost use Rattle.jpg_spec.specs.declared.fault.Fault.{Fault};
+ghost use Rattle.jpg_spec.specs.declared.frame.Limits.{Limits};
+
+/// The header of a file shows a fault, or is whole, or breaks off with the bytes: never two of these (T.81, B.2.1).
+pub fn headers_come_to_one_thing()
+    ensures shown_or_standing { (limits : Limits) (bytes : List ℕ) (fault : Fault) (n : ℕ) → HeaderShows limits fault (take n bytes) → HeaderStands limits bytes → ⊥ }
+    ensures shown_or_whole { (limits : Limits) (bytes front rest : List ℕ) (fault : Fault) (n : ℕ) (before : List Segment) (contents : List ℕ) → HeaderShows limits fault (take n bytes) → IsHeader limits front before contents → bytes ≡ front ++ rest → ⊥ }
+    ensures whole_or_standing { (limits : Limits) (bytes front rest : List ℕ) (before : List Segment) (contents : List ℕ) → IsHeader limits front before contents → bytes ≡ front ++ rest → HeaderStands limits bytes → ⊥ }
+{}
+
+/// Bytes begin with one whole header at most, of one list of segments and one scan header (T.81, B.2.1 and B.2.3).
+pub fn bytes_begin_with_one_header()
+    ensures { (limits : Limits) (bytes front other rest last : List ℕ) (before later : List Segment) (contents others : List ℕ) → IsHeader limits front before contents → IsHeader limits other later others → bytes ≡ front ++ rest → bytes ≡ other ++ last → (front ≡ other) × (before ≡ later) × (contents ≡ others) }
+{}
+
+/// The header of a file shows one fault at most, at one place (T.81, B.2.1).
+pub fn headers_show_one_fault()
+    ensures { (limits : Limits) (bytes : List ℕ) (f g : Fault) (m n : ℕ) → m ≤ length bytes → n ≤ length bytes → HeaderShows limits f (take m bytes) → HeaderShows limits g (take n bytes) → (m ≡ n) × (f ≡ g) }
+{}
