@@ -3,6 +3,8 @@ pub mod Behind
 pub mod Excludes
 pub mod Facts
 pub mod Full
+pub mod HeaderFirst
+pub mod HeaderShown
 pub mod HeadersOnce
 pub mod Levels
 pub mod MarkersOnce

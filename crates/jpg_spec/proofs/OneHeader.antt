@@ -1,8 +1,7 @@
 -- The header of a file comes to one thing at most: it shows a fault, or it is whole, or it stands alone.
-use Rattle.std.proofs.Common.{◌≡◌, ℕ, Bool, true, false, cond, ◌||◌, ◌==◌, ◌≤◌, List, [], ◌∷◌, ◌++◌, length, take, drop, refl, sym, ap, ◌∙◌, subst, arith, inl, inr, ⊎_elim, Option, Some, None}
+use Rattle.std.proofs.Common.{◌≡◌, ℕ, Bool, true, false, cond, ◌==◌, List, [], ◌∷◌, ◌++◌, refl, sym, ap, ◌∙◌, subst, inl, inr, Some, None}
 use Rattle.std.specs.Prelude.{◌⊎◌}
-use Rattle.std.proofs.lemmas.List.{append-nil}
-use Rattle.jpg_spec.specs.Markers.{Segment, Rule, SpellsMarker, SpellsSegments, code_fault, has_scan, Pass, ShowsNoStart, Between, NoMarkerBytes, BeginsSegment, ShowsSegment, TailShows, SegmentsShow, PartOfSegment, at_eoi, at_part, Reaches}
+use Rattle.jpg_spec.specs.Markers.{Segment, Rule, SpellsMarker, code_fault, has_scan, Pass, Between, NoMarkerBytes, BeginsSegment, ShowsSegment, TailShows, SegmentsShow, PartOfSegment, at_part}
 use Rattle.jpg_spec.specs.Header.{header_rule, InHeader, HeaderShows, HeaderStands, IsHeader}
 use Rattle.jpg_spec.specs.declared.fault.Fault.{Fault}
 use Rattle.jpg_spec.specs.declared.fault.Fault.TheVariants.{NotBuilt, NoMarker, MissingComponent}

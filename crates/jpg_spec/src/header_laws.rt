@@ -1,6 +1,7 @@
 //! Laws over the header of a file: it comes to one thing at most, and what it comes to is what the whole file does (T.81 B.2.1).
-ghost use Rattle.std.specs.Prelude.{◌≡◌, ◌≤◌, ◌++◌, ℕ, List, length, take};
+ghost use Rattle.std.specs.Prelude.{◌≡◌, ◌<◌, ◌≤◌, ◌++◌, ℕ, List, length, take};
 ghost use Rattle.jpg_spec.specs.Markers.{Segment};
+ghost use Rattle.jpg_spec.specs.FirstFault.{IsFirstFault};
 ghost use Rattle.jpg_spec.specs.Header.{HeaderShows, HeaderStands, IsHeader};
 ghost use Rattle.jpg_spec.specs.declared.fault.Fault.{Fault};
 ghost use Rattle.jpg_spec.specs.declared.frame.Limits.{Limits};
@@ -20,4 +21,15 @@ pub fn bytes_begin_with_one_header()
 /// The header of a file shows one fault at most, at one place (T.81, B.2.1).
 pub fn headers_show_one_fault()
     ensures { (limits : Limits) (bytes : List ℕ) (f g : Fault) (m n : ℕ) → m ≤ length bytes → n ≤ length bytes → HeaderShows limits f (take m bytes) → HeaderShows limits g (take n bytes) → (m ≡ n) × (f ≡ g) }
+{}
+
+/// What a header shows with byte n, within the input's limit, is the first fault of the whole file: nothing is shown by fewer bytes,
+/// and no other fault with this byte, whatever stands behind it (T.81, B.2.1).
+pub fn header_faults_are_first_faults()
+    ensures { (limits : Limits) (bytes : List ℕ) (fault : Fault) (n : ℕ) → n ≤ length bytes → n ≤ limits.input → HeaderShows limits fault (take n bytes) → IsFirstFault limits bytes fault n }
+{}
+
+/// A file of fewer bytes than the input's limit that breaks off in its header is truncated, at its end (T.81, B.2.1).
+pub fn unfinished_headers_are_truncated()
+    ensures { (limits : Limits) (bytes : List ℕ) → length bytes < limits.input → HeaderStands limits bytes → IsFirstFault limits bytes Fault.Truncated (length bytes) }
 {}
