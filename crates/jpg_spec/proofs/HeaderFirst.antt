@@ -1,7 +1,8 @@
 -- What the header of a file shows is the first fault of the file, and a header that breaks off with the bytes is a file that ends early.
-use Rattle.std.proofs.Common.{◌≡◌, ℕ, ◌<◌, ◌≤◌, Bool, true, false, cond, ◌||◌, ◌==◌, List, [], ◌∷◌, ◌++◌, length, take, drop, refl, sym, ap, ◌∙◌, subst, arith, inl, inr, Some, None}
+use Rattle.std.proofs.Common.{◌≡◌, ℕ, ◌+◌, ◌-◌, ◌<◌, ◌≤◌, Bool, true, false, cond, ◌||◌, ◌==◌, List, [], ◌∷◌, ◌++◌, length, take, drop, refl, sym, ap, ◌∙◌, subst, arith, inl, inr, Some, None}
 use Rattle.std.specs.Prelude.{◌⊎◌, Ok, Err}
 use Rattle.std.proofs.lemmas.List.{append_assoc, append-nil, take-append-drop, length-take-le}
+use Rattle.std.proofs.Math.Seq.{take-append-add}
 use Rattle.std.proofs.lemmas.Bool.Decides.{nat_tests}
 use Rattle.jpg_spec.specs.Faults.{Told, number_of}
 use Rattle.jpg_spec.specs.Segments.{ScanHead}
@@ -11,12 +12,13 @@ use Rattle.jpg_spec.specs.History.{admitted}
 use Rattle.jpg_spec.specs.QuantContents.{◌>>=◌}
 use Rattle.jpg_spec.specs.ScanContents.{scan_header}
 use Rattle.jpg_spec.specs.Scan.{Blocks}
+use Rattle.jpg_spec.specs.Meaning.{Meaning}
 use Rattle.jpg_spec.specs.Items.{Item, segment, scan, segments_of, SpellsFront, fault_in, contents_rule}
 use Rattle.jpg_spec.specs.FileMeaning.{Leads, Means}
 use Rattle.jpg_spec.specs.FirstFault.{BehindItems, ItemShows, InsideScan, Shows, HasMeaning, IsFirstFault}
 use Rattle.jpg_spec.specs.Header.{header_rule, InHeader, HeaderShows, HeaderStands, IsHeader}
 use Rattle.jpg_spec.specs.declared.fault.Fault.{Fault}
-use Rattle.jpg_spec.specs.declared.fault.Fault.TheVariants.{Truncated, MissingComponent}
+use Rattle.jpg_spec.specs.declared.fault.Fault.TheVariants.{Truncated, MissingComponent, InputTooLong}
 use Rattle.jpg_spec.specs.declared.frame.Limits.{Limits}
 use Rattle.jpg_spec.proofs.Telling.{same_of}
 use Rattle.jpg_spec.proofs.OneHeader.{shown_not_standing, whole_not_standing, shown_not_whole, shown_once}
@@ -188,23 +190,20 @@ standing_shows_none limits front rest fault s t = by (shows_or_whole limits faul
         let w = whole_before limits (front ++ rest) front rest refl h in
         whole_not_standing limits w.0 w.1 w.2 w.3 w.4 (subst (λ l. HeaderStands limits l) w.5 s)
 
--- and nothing is meant
-standing_means_none : (limits : Limits) (bytes : List ℕ) → HeaderStands limits bytes → HasMeaning limits bytes → ⊥
-standing_means_none limits bytes s t = by (items_header limits w.items w.blocks w.front w.spelled w.leads)
+-- and nothing is meant by bytes that reach EOI before
+standing_means_none : (limits : Limits) (bytes : List ℕ) (M : Meaning) (w : Means limits bytes M) (rest : List ℕ) → HeaderStands limits (w.front ++ w.marker ++ rest) → ⊥
+standing_means_none limits bytes M w rest s = by (items_header limits w.items w.blocks w.front w.spelled w.leads)
   where
-    w : Means limits bytes t.0
-    w = t.1
-
     before : List Segment
     before = segments_of w.items
 
     by : BeginsWhole limits w.front ⊎ AreOfHeader limits before w.front → ⊥
     by (inl h) =
-        let k = whole_before limits bytes w.front (w.marker ++ w.rest) (w.cut ∙ append_assoc w.front w.marker w.rest) h in
+        let k = whole_before limits (w.front ++ w.marker ++ rest) w.front (w.marker ++ rest) (append_assoc w.front w.marker rest) h in
         whole_not_standing limits k.0 k.1 k.2 k.3 k.4 (subst (λ l. HeaderStands limits l) k.5 s)
     by (inr h) =
         let within : InHeader limits (w.front ++ w.marker) before w.marker = (record { front = w.front; cut = refl; spelled = h.0; passed = h.1 }, h.2) in
-        shown_not_standing limits (w.front ++ w.marker) w.rest MissingComponent (inr (before, w.marker, within, inr (inr (refl, w.ended, w.framed)))) (subst (λ l. HeaderStands limits l) w.cut s)
+        shown_not_standing limits (w.front ++ w.marker) rest MissingComponent (inr (before, w.marker, within, inr (inr (refl, w.ended, w.framed)))) s
 
 pub standing_truncated : (limits : Limits) (bytes : List ℕ) → length bytes < limits.input → HeaderStands limits bytes → IsFirstFault limits bytes Truncated (length bytes)
 standing_truncated limits bytes short s =
@@ -213,5 +212,23 @@ standing_truncated limits bytes short s =
       refl,
       short,
       λ fault n long t. standing_shows_none limits (take n bytes) (drop n bytes) fault (subst (λ l. HeaderStands limits l) (sym (take-append-drop n bytes)) s) t,
-      λ means. standing_means_none limits bytes s means,
+      λ means. standing_means_none limits bytes means.0 means.1 means.1.rest (subst (λ l. HeaderStands limits l) means.1.cut s),
     ))
+
+pub standing_too_long : (limits : Limits) (bytes : List ℕ) → limits.input ≤ length bytes → HeaderStands limits (take limits.input bytes) → IsFirstFault limits bytes InputTooLong limits.input
+standing_too_long limits bytes long s =
+    inr (inl (
+      refl,
+      refl,
+      long,
+      λ fault n less t. (let first = take limits.input bytes in
+          standing_shows_none limits (take n first) (drop n first) fault (subst (λ l. HeaderStands limits l) (sym (take-append-drop n first)) s) t),
+      λ means. standing_means_none limits bytes means.0 means.1 _ (subst (λ l. HeaderStands limits l) (within means.0 means.1) s),
+    ))
+  where
+    within : (M : Meaning) (w : Means limits bytes M) → take limits.input bytes ≡ w.front ++ w.marker ++ take (limits.input - length (w.front ++ w.marker)) w.rest
+    within M w =
+        let less = w.long in
+        let ended : List ℕ = w.front ++ w.marker in
+        let sum : limits.input ≡ length ended + (limits.input - length ended) = omega (arith, less) in
+        ap (λ n. take n bytes) sum ∙ ap (take (length ended + (limits.input - length ended))) w.cut ∙ take-append-add ended w.rest (limits.input - length ended)

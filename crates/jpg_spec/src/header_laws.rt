@@ -33,3 +33,8 @@ pub fn header_faults_are_first_faults()
 pub fn unfinished_headers_are_truncated()
     ensures { (limits : Limits) (bytes : List ℕ) → length bytes < limits.input → HeaderStands limits bytes → IsFirstFault limits bytes Fault.Truncated (length bytes) }
 {}
+
+/// A file whose header isn't whole within the input's limit is too long, at the limit (T.81, B.2.1).
+pub fn headers_beyond_the_limit_are_too_long()
+    ensures { (limits : Limits) (bytes : List ℕ) → limits.input ≤ length bytes → HeaderStands limits (take limits.input bytes) → IsFirstFault limits bytes Fault.InputTooLong limits.input }
+{}
