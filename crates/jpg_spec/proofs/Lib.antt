@@ -4,12 +4,15 @@ pub mod Excludes
 pub mod Facts
 pub mod FrameFound
 pub mod Full
+pub mod HeaderFirst
+pub mod HeaderShown
 pub mod HeadersOnce
 pub mod Levels
 pub mod MarkersOnce
 pub mod Once
 pub mod OneCode
 pub mod OneFile
+pub mod OneHeader
 pub mod Packing
 pub mod PlainText
 pub mod Reached

@@ -149,14 +149,14 @@ gray_means s f text blocks g p =
 
 -- THE HEADER, as items
 
-front_items : (before : List Segment) (bytes : List ℕ) → has_scan before ≡ false → SpellsSegments before bytes → SpellsFront (items_of before) bytes
+pub front_items : (before : List Segment) (bytes : List ℕ) → has_scan before ≡ false → SpellsSegments before bytes → SpellsFront (items_of before) bytes
 front_items [] bytes none s = s
 front_items (x ∷ before) bytes none s =
     let k = neither (x.0 == 0xda) (has_scan before) none in
     (s.0, s.1, s.2, front_items before s.0 k.1 s.3, (s.4, s.5, λ e. (let z : true ≡ false = sym (same_itself 0xda) ∙ ap (λ n. n == 0xda) (sym e) ∙ k.0 in let f : ⊥ = cc in f)))
 
 -- the items of a header lead from no blocks to none
-header_leads : (limits : Limits) (before : List Segment) → has_scan before ≡ false → Pass (header_rule limits) before → Leads limits (items_of before) no_blocks
+pub header_leads : (limits : Limits) (before : List Segment) → has_scan before ≡ false → Pass (header_rule limits) before → Leads limits (items_of before) no_blocks
 header_leads limits [] none p = refl
 header_leads limits (s ∷ before) none p =
     let k = neither (s.0 == 0xda) (has_scan before) none in

@@ -8,6 +8,7 @@ mod fault;
 pub mod file_laws;
 mod frame;
 pub mod gray_laws;
+pub mod header_laws;
 pub mod laws;
 pub mod marker_laws;
 
