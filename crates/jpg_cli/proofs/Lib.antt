@@ -1,3 +1,4 @@
+pub mod Asking
 pub mod Counted
 pub mod DataEnd
 pub mod Decimal
@@ -5,6 +6,7 @@ pub mod Ending
 pub mod Front
 pub mod Input
 pub mod Judging
+pub mod Matching
 pub mod Mirrored
 pub mod Names
 pub mod Output

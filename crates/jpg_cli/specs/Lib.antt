@@ -1,7 +1,9 @@
 pub mod FirstScan
+pub mod CommentWords
 pub mod Gray
 pub mod Header
 pub mod Reading
 pub mod Run
 pub mod Saying
+pub mod Switches
 pub mod Writing

@@ -1,12 +1,14 @@
 //! The commands: their words, their work over a desk, and their messages.
 #![tactic(auto)]
 
+mod comment_words;
 mod gray;
 mod first_scan;
 mod header;
 mod laws;
 mod message;
 mod reading;
+mod switches;
 mod top;
 mod turn;
 mod words;

@@ -1,0 +1,90 @@
+-- What the words of rdjpgcom and wrjpgcom ask for (their manuals in release 6b), as the calls answer it.
+use Rattle.std.specs.Prelude.{◌≡◌, ℕ, List, [], drop, slice_index_or, Option, Some, None, Result, Ok, Err}
+use Rattle.std.specs.Borrow.{Bor}
+use Rattle.jpg_base.specs.declared.names.Name.{Name}
+use Rattle.jpg_base.specs.declared.names.Name.TheVariants as name
+use Rattle.jpg_spec.specs.CommentWords.{FileName, standard_input, standard_output, named, FilesAsked, CommentSource, from_input, from_words, from_file, WordsTold, words_right, words_wrong, WriteAsked, from_to, write_asked_from}
+use Rattle.jpg_spec.specs.Switches.{Purpose, left_out, replacing, comment_given, comment_in_file}
+use Rattle.jpg_spec.specs.declared.answers.Usage.{Usage}
+use Rattle.jpg_spec.specs.declared.answers.UsageFault.{UsageFault}
+use Rattle.jpg_spec.specs.declared.answers.UsageFault.TheVariants.{LeftOutSwitch, UnknownSwitch}
+use Rattle.jpg_cli.specs.declared.comment_words.Files.{Files}
+use Rattle.jpg_cli.specs.declared.comment_words.CommentFrom.{CommentFrom}
+use Rattle.jpg_cli.specs.declared.comment_words.CommentFrom.TheVariants as from
+use Rattle.jpg_cli.specs.declared.comment_words.CommentWord.{CommentWord}
+use Rattle.jpg_cli.specs.declared.comment_words.CommentWord.TheVariants as word
+use Rattle.jpg_cli.specs.declared.comment_words.Insertion.{Insertion}
+use Rattle.jpg_cli.specs.declared.comment_words.WriteWords.{WriteWords}
+use Rattle.jpg_cli.specs.declared.comment_words.WordsStop.{WordsStop}
+use Rattle.jpg_cli.specs.declared.comment_words.WordsStop.TheVariants as stop
+
+-- FILES AND COMMENTS
+
+abbrev pub file_told : Name → FileName
+file_told name.In = standard_input
+file_told name.Out = standard_output
+file_told (name.File text) = named text
+
+abbrev pub files_told : Files → FilesAsked
+files_told files = record { input = file_told files.input; output = file_told files.output }
+
+abbrev pub comment_told : CommentFrom → CommentSource
+comment_told from.Input = from_input
+comment_told (from.Given text) = from_words text
+comment_told (from.File name) = from_file name
+
+abbrev pub write_told : WriteWords → WriteAsked
+write_told words = record { files = files_told words.files; comment = comment_told words.comment; replace = words.replace }
+
+-- ANSWERS
+
+-- Where the words are right, what they ask for; where they aren't, what is wrong.
+abbrev pub IsRead : {X Y : Type 0} → (X → Y) → WordsTold Y → Result X Usage → Type 0
+IsRead told asked (Ok x) = asked ≡ words_right (told x)
+IsRead told asked (Err usage) = asked ≡ words_wrong usage
+
+-- The same, where memory can be wanting for words that are right.
+abbrev pub IsAnswer : {X Y : Type 0} → (X → Y) → WordsTold Y → Result X WordsStop → Type 0
+IsAnswer told asked (Ok x) = asked ≡ words_right (told x)
+IsAnswer told asked (Err (stop.Usage usage)) = asked ≡ words_wrong usage
+IsAnswer {Y} told asked (Err stop.NoMemory) = (y : Y) × (asked ≡ words_right y)
+
+-- WORDS THAT ARE READ
+
+-- an input's name, if there is one
+abbrev pub input_told : Option (Bor (List ℕ)) → FileName
+input_told None = standard_input
+input_told (Some word) = named word.now
+
+abbrev pub source_told : CommentWord → CommentSource
+source_told word.Input = from_input
+source_told (word.Given text) = from_words text.now
+source_told (word.File name) = from_file name.now
+
+-- what the switches and the file ask for
+abbrev pub insertion_told : Insertion × Option (Bor (List ℕ)) → WriteAsked
+insertion_told p = record { files = from_to (input_told p.1); comment = source_told p.0.comment; replace = p.0.replace }
+
+-- what the words ask for, after the switches before this index
+abbrev pub asked_from : List (List ℕ) → ℕ → Insertion → WordsTold WriteAsked
+asked_from words index insertion = write_asked_from index insertion.replace (source_told insertion.comment) (drop index words)
+
+-- After a switch the words ask for the same, or the switch is wrong.
+abbrev pub IsStep : List (List ℕ) → ℕ → Insertion → Result (Insertion × ℕ) Usage → Type 0
+IsStep words index insertion (Ok p) = asked_from words index insertion ≡ asked_from words p.1 p.0
+IsStep words index insertion (Err usage) = asked_from words index insertion ≡ words_wrong usage
+
+-- the word of this index
+abbrev pub word_at : List (List ℕ) → ℕ → List ℕ
+word_at words index = slice_index_or words index []
+
+abbrev pub usage_told : UsageFault → ℕ → Usage
+usage_told fault index = record { fault = fault; word = index }
+
+-- what is wrong with a switch that the command has for nothing
+abbrev pub fault_of : Option Purpose → UsageFault
+fault_of (Some left_out) = LeftOutSwitch
+fault_of (Some replacing) = UnknownSwitch
+fault_of (Some comment_given) = UnknownSwitch
+fault_of (Some comment_in_file) = UnknownSwitch
+fault_of None = UnknownSwitch

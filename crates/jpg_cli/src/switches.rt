@@ -1,0 +1,108 @@
+//! Switches of a call: how a word matches one (the manuals of release 6b; any beginning of a name
+//! that has its shortest form stands for it).
+ghost use Rattle.std.specs.Prelude.{◌≡◌, map, option_map, string_bytes};
+ghost use Rattle.jpg_spec.specs.Lists.{begins_with};
+ghost use Rattle.jpg_spec.specs.Switches.{is_match, is_switch, lower, purpose_of, rdjpgcom_switches, wrjpgcom_switches};
+ghost use Rattle.jpg_cli.specs.Switches.{told_purpose, told_switch};
+
+/// What a switch is for.
+#[derive(Clone, Copy, Debug, PartialEq, Eq)]
+pub enum Purpose {
+    /// Left out of the suite, though release 6b has it.
+    LeftOut,
+    /// `-replace`: the comments of the input are left out.
+    Replacing,
+    /// `-comment`: the next word is the comment.
+    CommentGiven,
+    /// `-cfile`: the next word names the file that holds the comment.
+    CommentInFile,
+}
+
+/// A switch: its name in lower case, how many letters of it a word has at least, and what it is for.
+#[derive(Clone, Copy)]
+pub struct Switch {
+    pub name: &'static str,
+    pub shortest: usize,
+    pub purpose: Purpose,
+}
+
+/// The switches of rdjpgcom.
+pub static RDJPGCOM_SWITCHES: [Switch; 1] = [Switch {
+    name: "verbose",
+    shortest: 1,
+    purpose: Purpose::LeftOut,
+}];
+
+/// The switches of wrjpgcom.
+pub static WRJPGCOM_SWITCHES: [Switch; 3] = [
+    Switch {
+        name: "replace",
+        shortest: 1,
+        purpose: Purpose::Replacing,
+    },
+    Switch {
+        name: "comment",
+        shortest: 1,
+        purpose: Purpose::CommentGiven,
+    },
+    Switch {
+        name: "cfile",
+        shortest: 2,
+        purpose: Purpose::CommentInFile,
+    },
+];
+
+/// Whether a word begins with a hyphen.
+pub fn is_switch(word: &str) -> bool
+    ensures { result ≡ is_switch word.now }
+{
+    matches!(word.as_bytes(), [b'-', ..])
+}
+
+/// What a word that begins with a hyphen is for, in a command with these switches.
+pub fn purpose_of(switches: &[Switch], word: &str) -> Option<Purpose>
+    ensures { option_map told_purpose result ≡ purpose_of (map told_switch switches.now) word.now }
+{
+    let letters = match word.as_bytes() {
+        [] => &[],
+        [_, letters @ ..] => letters,
+    };
+    for switch in switches {
+        if is_match(letters, switch) {
+            return Some(switch.purpose);
+        }
+    }
+    None
+}
+
+/// Whether the letters are the beginning of the switch's name, in any case, and no fewer than its
+/// shortest form.
+fn is_match(letters: &[u8], switch: &Switch) -> bool
+    ensures { result ≡ is_match letters.now (told_switch switch.now) }
+{
+    switch.shortest <= letters.len() && begins(letters, switch.name.as_bytes())
+}
+
+/// Whether the letters, in lower case, are the beginning of the name.
+fn begins(letters: &[u8], name: &[u8]) -> bool
+    ensures { result ≡ begins_with (map lower letters.now) name.now }
+{
+    let mut rest = name;
+    for letter in letters {
+        let [first, behind @ ..] = rest else {
+            return false;
+        };
+        if lower(*letter) != *first {
+            return false;
+        }
+        rest = behind;
+    }
+    true
+}
+
+/// An ASCII letter in lower case, any other byte as it is.
+fn lower(byte: u8) -> u8
+    ensures { result ≡ lower byte }
+{
+    byte.to_ascii_lowercase()
+}
