@@ -106,6 +106,21 @@ impl Frame {
         }
     }
 
+    /// The same frame with this process.
+    pub fn with_process(&self, process: Process) -> Frame
+        ensures { result ≡ record (self.now) { process = process } }
+    {
+        Frame {
+            process,
+            precision: self.precision,
+            width: self.width,
+            height: self.height,
+            components: kept(self.components.as_slice()),
+            h_max: self.h_max,
+            v_max: self.v_max,
+        }
+    }
+
     /// Tells what every frame keeps: the facts of `IsFrame`, which hold of its numbers since they
     /// passed the checks. It does nothing.
     pub fn checked(&self)

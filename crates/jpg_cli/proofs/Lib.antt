@@ -3,15 +3,10 @@ pub mod Counted
 pub mod DataEnd
 pub mod Decimal
 pub mod Ending
-pub mod Front
 pub mod Input
-pub mod Judging
 pub mod Matching
 pub mod Mirrored
 pub mod Names
-pub mod Output
-pub mod PlainScan
-pub mod Running
-pub mod Sides
-pub mod TurnedPicture
 pub mod Opening
+pub mod Output
+pub mod Running

@@ -1,11 +1,10 @@
 -- WHAT A RUN DOES to a desk, by why it ended.
-use Rattle.std.specs.Prelude.{◌≡◌, ◌⊎◌, ℕ, List, ◌++◌, length, take}
+use Rattle.std.specs.Prelude.{◌≡◌, ◌⊎◌, ℕ, ◌≤◌, List, length, take}
 use Rattle.std.specs.Io.KnownBytes.{Appends}
 use Rattle.jpg_base.specs.declared.names.Name.TheVariants as name
 use Rattle.jpg_base.specs.declared.names.Put.TheVariants as put
 use Rattle.jpg_base.specs.Desk.{DeskState, NoneFell, Rose}
 use Rattle.jpg_base.specs.Laws.{NotesNames, Grows}
-use Rattle.jpg_spec.specs.declared.fault.Fault.TheVariants as fault
 use Rattle.jpg_spec.specs.declared.answers.FaultAt.{FaultAt}
 use Rattle.jpg_spec.specs.declared.answers.Asked.{Asked}
 use Rattle.jpg_spec.specs.declared.answers.Asked.TheVariants as asked
@@ -13,7 +12,13 @@ use Rattle.jpg_spec.specs.declared.answers.Why.{Why}
 use Rattle.jpg_spec.specs.declared.answers.Why.TheVariants as why
 use Rattle.jpg_spec.specs.declared.answers.Which.TheVariants as which
 use Rattle.jpg_base.specs.declared.names.Counts.{Counts}
-use Rattle.jpg_spec.specs.GrayFile.{Gray, SpellsGray, BeginsWithPlain, flipped_gray, turned_text}
+use Rattle.jpg_spec.specs.Segments.{standard_limits}
+use Rattle.jpg_spec.specs.Meaning.{Meaning}
+use Rattle.jpg_spec.specs.Moves.{flip_h, headed}
+use Rattle.jpg_spec.specs.GrayFile.{sequential_text}
+use Rattle.jpg_spec.specs.FileMeaning.{Means}
+use Rattle.jpg_spec.specs.FirstFault.{IsFirstFault}
+use Rattle.jpg_cli.specs.Gray.{IsSingle, IsUnbuilt, meaning_in, not_built}
 use Rattle.jpg_spec.specs.Words.{asked, tool_of}
 use Rattle.jpg_spec.specs.Messages.{message, code_of}
 use Rattle.jpg_cli.specs.declared.top.Ended.{Ended}
@@ -28,36 +33,41 @@ SaysText old text new =
 abbrev pub Untouched : DeskState → DeskState → Type 0
 Untouched old new = (new.asked ≡ old.asked) × (new.outputs ≡ old.outputs)
 
--- what isn't built yet, at this place
-abbrev pub not_built : ℕ → FaultAt
-not_built place = record { fault = fault.NotBuilt; at = place }
+-- Where the files are told, standard input is this one. It means a picture, by the one gray scan with which the bytes of it that are taken begin.
+pub record GrayInput (old : DeskState) : Type 0 where
+  pub input : List ℕ
+  pub file : IsFile old.files name.In input
+  pub single : IsSingle (taken_of input)
+  pub means : Means standard_limits input (meaning_in (taken_of input) single)
 
--- Where the files are told, standard input is this one, and the bytes of it that are taken begin with the plain file of this picture.
-abbrev pub PlainInput : DeskState → Gray → Type 0
-PlainInput old g =
-    (input : List ℕ) × (front : List ℕ) × (rest : List ℕ) × IsFile old.files name.In input × (taken_of input ≡ front ++ rest) × SpellsGray front g
+-- the picture mirrored left to right, headed for its file
+abbrev pub turned_meaning : (old : DeskState) → GrayInput old → Meaning
+turned_meaning old g = headed (flip_h (meaning_in (taken_of g.input) g.single))
 
--- The bytes that are taken begin with no plain file, and the fault stands at their number.
-abbrev pub OtherInput : DeskState → FaultAt → Type 0
-OtherInput old f =
-    (input : List ℕ) × IsFile old.files name.In input × (BeginsWithPlain (taken_of input) → ⊥) × (f ≡ not_built (length (taken_of input)))
+-- the text of its file
+abbrev pub turned_file : (old : DeskState) → GrayInput old → List ℕ
+turned_file old g = sequential_text (turned_meaning old g)
+
+-- The input's first fault is this one, which its header shows; or its form isn't built yet.
+abbrev pub RefusedInput : DeskState → FaultAt → Type 0
+RefusedInput old f =
+    (input : List ℕ) × IsFile old.files name.In input × (IsFirstFault standard_limits input f.fault f.at ⊎ IsUnbuilt (taken_of input) f)
 
 -- HOW TURNING A PICTURE ENDS. Each answer has the names that were asked for, what became of the outputs, and its cause.
 
--- Done: standard input began with a plain file, and standard output holds the text of its picture mirrored left to right,
--- which is a plain file again.
+-- Done: standard input means a picture, and standard output holds the text of the file of the picture mirrored left to right,
+-- which means that picture (within the length that a file may have).
 pub record IsDone (old new : DeskState) : Type 0 where
   pub names : NotesNames old.asked (asked_both put.Done) new.asked
-  pub picture : Gray
-  pub input : PlainInput old picture
-  pub output : Grows old.outputs (name.Out, turned_text picture) new.outputs
-  pub plain_again : SpellsGray (turned_text picture) (flipped_gray picture)
+  pub picture : GrayInput old
+  pub output : Grows old.outputs (name.Out, turned_file old picture) new.outputs
+  pub again : length (turned_file old picture) ≤ standard_limits.input → Means standard_limits (turned_file old picture) (turned_meaning old picture)
 
--- Refused: standard input began with no plain file, and nothing was written.
+-- Refused: the input has this fault, and nothing was written.
 pub record IsRefused (old : DeskState) (f : FaultAt) (new : DeskState) : Type 0 where
   pub names : NotesNames old.asked (asked_input put.Done) new.asked
   pub outputs : new.outputs ≡ old.outputs
-  pub input : OtherInput old f
+  pub input : RefusedInput old f
 
 -- standard input wasn't opened
 pub record IsUnopened (old new : DeskState) : Type 0 where
@@ -71,22 +81,20 @@ pub record IsUnread (old new : DeskState) : Type 0 where
   pub outputs : new.outputs ≡ old.outputs
   pub reads : Rose old.counts.reads new.counts.reads
 
--- standard output wasn't created, though the input began with a plain file
+-- standard output wasn't created, though the input means a picture
 pub record IsUncreated (old new : DeskState) : Type 0 where
   pub names : NotesNames old.asked (asked_both put.Failed) new.asked
   pub outputs : new.outputs ≡ old.outputs
   pub opens : Rose old.counts.opens new.counts.opens
-  pub picture : Gray
-  pub input : PlainInput old picture
+  pub picture : GrayInput old
 
 -- standard output wasn't written to its end: it holds a first part of the text
 pub record IsUnwritten (old new : DeskState) : Type 0 where
   pub names : NotesNames old.asked (asked_both put.Done) new.asked
   pub writes : Rose old.counts.writes new.counts.writes
-  pub picture : Gray
-  pub input : PlainInput old picture
+  pub picture : GrayInput old
   pub count : ℕ
-  pub output : Grows old.outputs (name.Out, take count (turned_text picture)) new.outputs
+  pub output : Grows old.outputs (name.Out, take count (turned_file old picture)) new.outputs
 
 -- memory was wanting before anything was written
 pub record IsOutOfMemory (old new : DeskState) : Type 0 where
@@ -105,8 +113,8 @@ Turned old other new = ⊥
 
 -- Where no count of open, read or write rose, the answer is the one that the input has, or want of memory.
 abbrev pub IsDue : DeskState → Why → Type 0
-IsDue old why.Done = (g : Gray) × PlainInput old g
-IsDue old (why.Refused f) = OtherInput old f
+IsDue old why.Done = GrayInput old
+IsDue old (why.Refused f) = RefusedInput old f
 IsDue old why.NoMemory = Unit {0}
 IsDue old other = ⊥
 

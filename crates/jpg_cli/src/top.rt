@@ -50,10 +50,7 @@ fn turn<D: Desk>(alloc: Global, desk: &mut D) -> Why
     };
     match judge(alloc, bytes.as_slice()) {
         Judged::NoMemory => Why::NoMemory,
-        Judged::NotPlain => Why::Refused(FaultAt {
-            fault: Fault::NotBuilt,
-            at: bytes.as_slice().len() as u64,
-        }),
+        Judged::Refused(fault) => Why::Refused(fault),
         Judged::Plain(picture) => write_gray(&picture, desk),
     }
 }
@@ -72,10 +69,11 @@ fn work<D: Desk>(alloc: Global, words: &[String], desk: &mut D) -> Why
     }
 }
 
-/// Runs the command that the words ask for over a desk: `jpegtran -flip horizontal` turns the plain
-/// gray file on standard input left to right onto standard output (a file of T.81's typical tables
-/// and sides that are multiples of 8). What is wrong or refused is named in a message, and nothing is
-/// written then.
+/// Runs the command that the words ask for over a desk: `jpegtran -flip horizontal` turns the file on
+/// standard input left to right onto standard output: a sequential file of one gray scan, with any
+/// header, sides that are multiples of 8, and no restarts. Any other input is refused with the first
+/// fault that its header shows, or as not built yet, and nothing is written then. What is wrong or
+/// refused is named in a message.
 pub fn run<D: Desk>(alloc: Global, words: &[String], desk: &mut D) -> Ended
     ensures { Ran (map string_bytes words.now) (D.state desk.old) result (D.state desk.new) }
 {

@@ -23,7 +23,7 @@ pub use kept::{Kept, KeptList};
 pub use quants::{QuantSet, read_dqt};
 pub use scan::{accepted_heads_are_of_their_frames, read_sos};
 pub use segments::{SegStep, SegmentReader};
-pub use writing::{OutHead, file_head, write_segment};
+pub use writing::{OutHead, file_head, is_wide, write_segment};
 
 #[cfg(test)]
 mod tests;

@@ -18,6 +18,7 @@ pub use head::OutHead;
 use jpg_base::{Desk, WriteFault};
 use jpg_huff::BitOut;
 use markers::write_markers;
+pub use quants::is_wide;
 use quants::{distinct_tables, write_tables};
 pub use segment::write_segment;
 

@@ -99,8 +99,9 @@ fn write_table<D: Desk>(
     }
 }
 
-/// Whether an entry exceeds 255.
-fn is_wide(table: &QuantTable) -> bool
+/// Whether an entry exceeds 255, so that the table's entries have two bytes each (Pq of 1, T.81
+/// B.2.4.1) and its file isn't baseline.
+pub fn is_wide(table: &QuantTable) -> bool
     ensures { result ≡ is_wide table.now }
 {
     table.long();
