@@ -3,6 +3,9 @@ pub mod Counted
 pub mod DataEnd
 pub mod Decimal
 pub mod Ending
+pub mod Front
+pub mod Held
+pub mod InForce
 pub mod Input
 pub mod Matching
 pub mod Mirrored

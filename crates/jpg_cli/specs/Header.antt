@@ -1,14 +1,13 @@
 -- What a header's reader keeps of the segments before the first scan header.
-use Rattle.std.specs.Prelude.{◌≡◌, ℕ, ◌==◌, if◌then◌else◌, List, [], ◌∷◌, length, reverse, slice_get, Option, Some, None, find, option_map}
+use Rattle.std.specs.Prelude.{◌≡◌, ℕ, List, ◌∷◌, length, reverse, slice_get, Option, Some, None, find}
 use Rattle.jpg_spec.specs.Geometry.{Frame}
-use Rattle.jpg_spec.specs.Segments.{HuffmanTable, QuantTable}
+use Rattle.jpg_spec.specs.Segments.{HuffmanTable}
 use Rattle.jpg_spec.specs.Jfif.{Jfif, is_jfif, jfif_told}
 use Rattle.jpg_spec.specs.HuffContents.{HuffmanSlots}
 use Rattle.jpg_spec.specs.QuantContents.{Slots, quant_in}
 use Rattle.jpg_spec.specs.Markers.{Segment, kept_after}
 use Rattle.jpg_spec.specs.InForce.{frame_after, huffman_in_force, quant_in_force, restart_in_force}
 use Rattle.jpg_spec.specs.Header.{header_rule}
-use Rattle.jpg_spec.specs.declared.fault.Fault.{Fault}
 use Rattle.jpg_spec.specs.declared.frame.Limits.{Limits}
 use Rattle.jpg_huff.specs.Sets.{slots_of}
 use Rattle.jpg_cli.specs.declared.header.Header.{Header}
