@@ -1,8 +1,10 @@
 //! A file of one gray scan, judged and turned (T.81 B.2.1).
-ghost use Rattle.std.specs.Prelude.{◌≡◌, ◌≤◌, ◌<◌, ◌^◌, ◌*◌, ◌≤ℤ◌, negsuc, ℕ, List, ℤ, [], ◌∷◌, length, take, All, Some, IfOk, IfSome, IfNone, if◌then◌else◌, nat_lt};
+ghost use Rattle.std.specs.Prelude.{◌≡◌, ◌≤◌, ◌<◌, ◌^◌, ◌*◌, ◌≤ℤ◌, negsuc, ℕ, List, ℤ, [], ◌∷◌, length, take, All, Some, is_some, IfOk, IfSome, IfNone, if◌then◌else◌, nat_lt};
 ghost use Rattle.jpg_spec.specs.GrayFile.{turned_rows};
 ghost use Rattle.jpg_spec.specs.SingleScan.{is_whole_frame, blocks_across, blocks_down};
-ghost use Rattle.jpg_cli.specs.Header.{told_by};
+ghost use Rattle.jpg_spec.specs.QuantContents.{quant_in};
+ghost use Rattle.jpg_huff.specs.Sets.{slots_of};
+ghost use Rattle.jpg_cli.specs.Header.{huffman_in, told_by};
 ghost use Rattle.jpg_cli.specs.FirstScan.{HasHeader};
 ghost use Rattle.jpg_cli.specs.Gray.{HasData, IsTurned, Judges, IsWhole, breaks_off_at, has_tables, not_built, single_told};
 
@@ -11,8 +13,8 @@ use crate::header::Header;
 use crate::turn::turn_blocks;
 use arrayvec::ArrayVec;
 use jpg_base::{Frame, NoMemory, QuantTable, ScanHead};
-use jpg_huff::{Gate, Passed};
-use jpg_markers::{Copying, KeptList, OutHead, is_wide};
+use jpg_huff::{Gate, Passed, TableSet};
+use jpg_markers::{Copying, KeptList, OutHead, QuantSet, is_wide};
 use jpg_seq::{BlockList, PlainRead, read_plain};
 use jpg_spec::{Colour, Fault, FaultAt, Process};
 use std::alloc::Global;
@@ -130,14 +132,31 @@ fn has_tables(frame: &Frame, header: &Header, head: &ScanHead) -> bool
     requires { 1 ≤ length frame.now.components }
     ensures { result ≡ has_tables frame.now (told_by header.now) head.now }
 {
-    match head.parts.first() {
-        None => false,
-        Some(part) => {
-            header.quants.get(frame.component(0).quant).is_some()
-                && header.tables.dc(part.dc).is_some()
-                && header.tables.ac(part.ac).is_some()
+    match head.parts.as_slice() {
+        [] => false,
+        [part, ..] => {
+            has_quants(&header.quants, frame.component(0).quant)
+                && (has_dc(&header.tables, part.dc) && has_ac(&header.tables, part.ac))
         }
     }
+}
+
+fn has_quants(quants: &QuantSet, slot: u8) -> bool
+    ensures { result ≡ is_some (quant_in quants.now slot) }
+{
+    quants.get(slot).is_some()
+}
+
+fn has_dc(tables: &TableSet, slot: u8) -> bool
+    ensures { result ≡ is_some (huffman_in (slots_of tables.now).dc slot) }
+{
+    tables.dc(slot).is_some()
+}
+
+fn has_ac(tables: &TableSet, slot: u8) -> bool
+    ensures { result ≡ is_some (huffman_in (slots_of tables.now).ac slot) }
+{
+    tables.ac(slot).is_some()
 }
 
 // The data bytes up to EOI, which has no fill bytes.
