@@ -7,6 +7,7 @@ pub mod Front
 pub mod Held
 pub mod InForce
 pub mod Input
+pub mod Judged
 pub mod Matching
 pub mod Mirrored
 pub mod Names

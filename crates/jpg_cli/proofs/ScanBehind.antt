@@ -160,3 +160,7 @@ no_table h before contents f head holds told single none =
     let q = quant_in h.quants (component_at f 0).quant in
     let all = both (is_some q) (is_some (huffman_in h.tables.dc one.part.dc) && is_some (huffman_in h.tables.ac one.part.ac)) (sym (told_tables h f head one.part one.parts) ∙ has.1) in
     let z : false ≡ true = sym (ap (λ (o : Option QuantTable). is_some o) none) ∙ all.0 in cc
+
+pub plain_held : (bytes : List ℕ) (h : HeaderTold) (head : ScanHead) (k : HasHeader bytes h head) (f : Frame) (set : TableSet) → h.frame ≡ Some f → h.tables ≡ slots_of set → single_told f h head ≡ true → IsPlainScan f head set
+plain_held bytes h head k f set e t single =
+    plain_scan h k.before k.contents f head set k.holds t (ap (λ (g : Frame). scan_header g k.contents) (same_frame bytes h head k f e) ∙ k.told) single

@@ -1,5 +1,5 @@
 //! A file of one gray scan, judged and turned (T.81 B.2.1).
-ghost use Rattle.std.specs.Prelude.{◌≡◌, ◌≤◌, ◌<◌, ◌^◌, ◌*◌, ◌≤ℤ◌, negsuc, ℕ, List, ℤ, [], ◌∷◌, length, take, All, Some, is_some, IfOk, IfSome, IfNone, if◌then◌else◌, nat_lt};
+ghost use Rattle.std.specs.Prelude.{◌≡◌, ◌≤◌, ◌<◌, ◌^◌, ◌*◌, ◌≤ℤ◌, negsuc, ℕ, List, ℤ, [], ◌∷◌, length, take, drop, All, Some, is_some, IfOk, IfSome, IfNone, if◌then◌else◌, nat_lt};
 ghost use Rattle.jpg_spec.specs.GrayFile.{turned_rows};
 ghost use Rattle.jpg_spec.specs.SingleScan.{is_whole_frame, blocks_across, blocks_down};
 ghost use Rattle.jpg_spec.specs.QuantContents.{quant_in};
@@ -92,7 +92,7 @@ fn judge_scan(alloc: Global, scan: FirstScan, bytes: &[u8]) -> Judged
     let Some(table) = scan.header.quants.get(frame.component(0).quant) else {
         return Judged::Refused(not_built(scan.used));
     };
-    let Some(data) = data_before_end(&bytes[scan.used..]) else {
+    let Some(data) = data_before_end(behind(bytes, scan.used)) else {
         return Judged::Refused(not_built(bytes.len()));
     };
     match read_plain(alloc, frame, &scan.head, &scan.header.tables, data) {
@@ -107,6 +107,14 @@ fn judge_scan(alloc: Global, scan: FirstScan, bytes: &[u8]) -> Judged
             }
         }
     }
+}
+
+// The bytes behind a header.
+fn behind(bytes: &[u8], used: usize) -> &[u8]
+    requires { used ≤ length bytes.now }
+    ensures { result.now ≡ drop used bytes.now }
+{
+    &bytes[used..]
 }
 
 // Whether the header's scan is one of a gray component alone that can be read: sequential, without
