@@ -13,3 +13,4 @@ pub mod Names
 pub mod Opening
 pub mod Output
 pub mod Running
+pub mod TurnedText

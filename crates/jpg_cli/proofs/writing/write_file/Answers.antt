@@ -1,7 +1,6 @@
 use Rattle.std.proofs.Common.{◌∙◌, Err, sym, ap, subst}
 use Rattle.std.proofs.lemmas.Result.{err_from_is_err_and}
 use Rattle.jpg_spec.specs.GrayFile.{end_of_image}
-use Rattle.jpg_markers.specs.Sent.{HasSent}
 use Rattle.jpg_markers.proofs.Sent.{sent_then, sent_fault}
 use Rattle.jpg_cli.specs.Gray.{file_bytes, scan_bytes}
 use Rattle.jpg_cli.specs.Writing.{WritesAll}
