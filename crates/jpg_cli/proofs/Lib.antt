@@ -15,3 +15,4 @@ pub mod Opening
 pub mod Output
 pub mod Running
 pub mod ScanBehind
+pub mod TurnedText
