@@ -12,12 +12,11 @@ use Rattle.jpg_spec.specs.declared.answers.Why.TheVariants as why
 use Rattle.jpg_spec.specs.declared.answers.Asked.{Asked}
 use Rattle.jpg_spec.specs.declared.answers.Asked.TheVariants as asked
 use Rattle.jpg_spec.specs.declared.answers.Which.TheVariants as which
-use Rattle.jpg_spec.specs.GrayFile.{turned_text}
 use Rattle.jpg_spec.specs.Words.{asked as asked_of, tool_of}
 use Rattle.jpg_spec.specs.Messages.{message, code_of}
 use Rattle.jpg_cli.specs.Reading.{asked_input, asked_both}
 use Rattle.jpg_cli.specs.Saying.{OnlySays}
-use Rattle.jpg_cli.specs.Run.{SaysText, Turned, Worked, Works, Ran, IsDue, NoneRose}
+use Rattle.jpg_cli.specs.Run.{SaysText, Turned, turned_file, Worked, Works, Ran, IsDue, NoneRose}
 
 notes_still : (a b c : Option (List (Name × Put))) (xs : List (Name × Put)) → c ≡ b → NotesNames a xs b → NotesNames a xs c
 notes_still a b c xs e h = let P : Option (List (Name × Put)) → Type 0 = λ m. NotesNames a xs m in subst P (sym e) h
@@ -29,10 +28,9 @@ grows_still a b c o e h = let P : Option (List (Name × List ℕ)) → Type 0 = 
 turned_then : (s0 s1 s2 : DeskState) (w : Why) → OnlySays s1 s2 → Turned s0 w s1 → Turned s0 w s2
 turned_then s0 s1 s2 why.Done k t = record {
   names = notes_still s0.asked s1.asked s2.asked (asked_both put.Done) k.asked t.names;
-  output = grows_still s0.outputs s1.outputs s2.outputs (name.Out, turned_text t.picture) k.outputs t.output;
+  output = grows_still s0.outputs s1.outputs s2.outputs (name.Out, turned_file s0 t.picture) k.outputs t.output;
   picture = t.picture;
-  input = t.input;
-  plain_again = t.plain_again;
+  again = t.again;
 }
 turned_then s0 s1 s2 (why.Usage u) k t = absurd t
 turned_then s0 s1 s2 (why.Refused f) k t = record {
@@ -53,7 +51,6 @@ turned_then s0 s1 s2 (why.OpenFault which.Output) k t = record {
   outputs = k.outputs ∙ t.outputs;
   opens = (let r = t.opens in let f = k.counts.opens in omega arith);
   picture = t.picture;
-  input = t.input;
 }
 turned_then s0 s1 s2 (why.ReadFault which.Input) k t = record {
   names = notes_still s0.asked s1.asked s2.asked (asked_input put.Done) k.asked t.names;
@@ -68,9 +65,8 @@ turned_then s0 s1 s2 why.WriteFault k t = record {
   names = notes_still s0.asked s1.asked s2.asked (asked_both put.Done) k.asked t.names;
   writes = (let r = t.writes in let f = k.counts.writes in omega arith);
   picture = t.picture;
-  input = t.input;
   count = t.count;
-  output = grows_still s0.outputs s1.outputs s2.outputs (name.Out, take t.count (turned_text t.picture)) k.outputs t.output;
+  output = grows_still s0.outputs s1.outputs s2.outputs (name.Out, take t.count (turned_file s0 t.picture)) k.outputs t.output;
 }
 turned_then s0 s1 s2 why.NoMemory k t = record { names = notes_still s0.asked s1.asked s2.asked (asked_input put.Done) k.asked t.names; outputs = k.outputs ∙ t.outputs }
 
@@ -99,7 +95,7 @@ ran words s0 s1 s2 code w h k m e = record {
 
 -- where nothing failed, the answer is the due one
 pub due_answer : (s0 s1 : DeskState) (w : Why) → NoneRose s0.counts s1.counts → Turned s0 w s1 → IsDue s0 w
-due_answer s0 s1 why.Done n t = (t.picture, t.input)
+due_answer s0 s1 why.Done n t = t.picture
 due_answer s0 s1 (why.Usage u) n t = absurd t
 due_answer s0 s1 (why.Refused f) n t = t.input
 due_answer s0 s1 (why.OpenFault which.Input) n t = absurd (n.0 t.opens)

@@ -1,6 +1,6 @@
 -- What is judged of the bytes behind a whole header.
 use Rattle.std.proofs.Common.{◌≡◌, ℕ, zero, suc, ◌+◌, ◌*◌, ◌<◌, ◌≤◌, Bool, true, false, List, [], ◌∷◌, ◌++◌, length, take, drop, Option, Some, None, Ok, refl, sym, ap, ◌∙◌, subst, arith, inl, inr, ◌==◌, ◌&&◌, ℤ, pos, negsuc}
-use Rattle.std.specs.Prelude.{◌⊎◌, All, nat_abs, int_le, ◌≤ℤ◌, neg_ℤ}
+use Rattle.std.specs.Prelude.{◌⊎◌, ◌^◌, All, nat_abs, nat_lt, int_le, ◌≤ℤ◌, neg_ℤ, if◌then◌else◌}
 use Rattle.std.proofs.lemmas.List.{append_assoc, take-append-drop, length-take-le}
 use Rattle.std.proofs.lemmas.Int.{ints}
 use Rattle.jpg_spec.specs.Bits.{SpellsData, IsMarkerCode}
@@ -24,7 +24,9 @@ use Rattle.jpg_seq.specs.Plain.{in_force, block_count, IsPlainRead}
 use Rattle.jpg_seq.specs.declared.plain.PlainRead.TheVariants.{Blocks, NotPlain}
 use Rattle.jpg_cli.specs.Header.{HeaderTold}
 use Rattle.jpg_cli.specs.FirstScan.{HasHeader}
-use Rattle.jpg_cli.specs.Gray.{HasData, IsRefusal, IsSingle, not_built, single_told, has_tables}
+use Rattle.jpg_spec.specs.Header.{HeaderStands}
+use Rattle.std.proofs.lemmas.Bool.Decides.{nat_tests}
+use Rattle.jpg_cli.specs.Gray.{HasData, IsRefusal, IsSingle, breaks_off_at, not_built, truncated, single_told, has_tables}
 use Rattle.jpg_cli.proofs.ScanBehind.{same_frame, frame_is, single_found, coding_is}
 
 -- THE DATA before EOI are told from what follows the header.
@@ -168,3 +170,18 @@ read_many f c text blocks w (bits, coded, stuffed, packed, spelled, many, sizes)
 
 pub found_small : (bytes : List ℕ) (blocks : List (List ℤ)) (s : IsSingle bytes) → s.blocks ≡ blocks → All (λ block. All (λ v. negsuc 32766 ≤ℤ v) block) blocks
 found_small bytes blocks s e = subst (λ (b : List (List ℤ)). All (λ block. All (λ v. negsuc 32766 ≤ℤ v) block) b) e (blocks_small bytes s)
+
+-- BYTES THAT END inside a header
+
+pub broken_off : (bytes : List ℕ) (f : FaultAt) → HeaderStands standard_limits bytes → f ≡ breaks_off_at (length bytes) → IsRefusal bytes f
+broken_off bytes f stands e = by (nat_lt (length bytes) (2 ^ 28)) refl
+  where
+    less : (n : ℕ) → nat_lt n (2 ^ 28) ≡ true → n < 2 ^ 28
+    less n e = grind (arith, nat_tests, e)
+
+    least : (n : ℕ) → nat_lt n (2 ^ 28) ≡ false → 2 ^ 28 ≤ n
+    least n e = grind (arith, nat_tests, e)
+
+    by : (b : Bool) → nat_lt (length bytes) (2 ^ 28) ≡ b → IsRefusal bytes f
+    by true h = inr (inl (stands, less (length bytes) h, e ∙ ap (λ (b : Bool). if b then truncated (length bytes) else not_built (length bytes)) h))
+    by false h = inr (inr (inr (inr (stands, least (length bytes) h, e ∙ ap (λ (b : Bool). if b then truncated (length bytes) else not_built (length bytes)) h))))

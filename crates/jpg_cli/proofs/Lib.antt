@@ -3,7 +3,6 @@ pub mod Counted
 pub mod DataEnd
 pub mod Decimal
 pub mod Ending
-pub mod Front
 pub mod Held
 pub mod InForce
 pub mod Input
@@ -16,3 +15,4 @@ pub mod Output
 pub mod Running
 pub mod ScanBehind
 pub mod TurnedText
+pub mod Turning

@@ -56,9 +56,15 @@ kept before code contents fault e = by (code == 0xfe || is_within 0xe0 0xef code
 -- the size of kept markers is a rule of the header's too
 kept_is_rule : (before : List Segment) (code : ℕ) (contents : List ℕ) (fault : Fault) → kept_rule standard_limits before code contents ≡ Some fault → header_rule standard_limits before code contents ≡ Some fault
 kept_is_rule before code contents fault e =
-    rw (not_this code 0xda (kept before code contents fault e) refl, not_this code 0xc4 (kept before code contents fault e) refl, not_this code 0xdb (kept before code contents fault e) refl,
-    not_this code 0xdd (kept before code contents fault e) refl, not_this code 0xc0 (kept before code contents fault e) refl, not_this code 0xc1 (kept before code contents fault e) refl,
-    not_this code 0xc2 (kept before code contents fault e) refl) e
+    rw (
+      not_this code 0xda (kept before code contents fault e) refl,
+      not_this code 0xc4 (kept before code contents fault e) refl,
+      not_this code 0xdb (kept before code contents fault e) refl,
+      not_this code 0xdd (kept before code contents fault e) refl,
+      not_this code 0xc0 (kept before code contents fault e) refl,
+      not_this code 0xc1 (kept before code contents fault e) refl,
+      not_this code 0xc2 (kept before code contents fault e) refl,
+    ) e
 
 -- WHAT IS SHOWN
 

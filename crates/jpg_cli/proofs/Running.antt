@@ -1,6 +1,7 @@
 -- What the steps of a run come to, over the states that a desk tells.
-use Rattle.std.proofs.Common.{◌≡◌, ℕ, List, ◌++◌, length, take, Option, Ok, Err, sym, ap, ◌∙◌, subst, arith}
-use Rattle.std.proofs.lemmas.List.{append_assoc}
+use Rattle.std.proofs.Common.{◌≡◌, ℕ, zero, suc, ◌+◌, ◌^◌, ◌<◌, ◌≤◌, List, [], ◌∷◌, ◌++◌, length, take, drop, Option, Ok, Err, refl, sym, ap, ◌∙◌, subst, arith, inl, inr}
+use Rattle.std.specs.Prelude.{◌⊎◌, All}
+use Rattle.std.proofs.lemmas.List.{append_assoc, length-append, length-take, take_all, take-append-drop}
 use Rattle.jpg_base.specs.declared.names.Name.{Name}
 use Rattle.jpg_base.specs.declared.names.Name.TheVariants as name
 use Rattle.jpg_base.specs.declared.names.Put.{Put}
@@ -11,79 +12,125 @@ use Rattle.jpg_spec.specs.declared.answers.Why.{Why}
 use Rattle.jpg_spec.specs.declared.answers.Why.TheVariants as why
 use Rattle.jpg_spec.specs.declared.answers.FaultAt.{FaultAt}
 use Rattle.jpg_spec.specs.declared.answers.Which.TheVariants as which
-use Rattle.jpg_spec.specs.Bits.{data_of}
-use Rattle.jpg_spec.specs.Written.{plain_bits}
-use Rattle.jpg_spec.specs.GrayFile.{Gray, SpellsGray, BeginsWithPlain, gray_front, end_of_image, flipped_gray, turned_text}
-use Rattle.jpg_spec.proofs.PlainText.{turned_plain}
-use Rattle.jpg_spec.proofs.Within.{turned_spelled}
-use Rattle.jpg_cli.specs.declared.gray.GrayPicture.{GrayPicture}
-use Rattle.jpg_cli.specs.Reading.{Keeps, AfterInput, asked_input, asked_both}
+use Rattle.jpg_spec.specs.Segments.{standard_limits}
+use Rattle.jpg_spec.specs.GrayFile.{end_of_image}
+use Rattle.jpg_spec.specs.FileMeaning.{Means}
+use Rattle.jpg_spec.specs.FirstFault.{IsFirstFault}
+use Rattle.jpg_spec.specs.Header.{HeaderShows, HeaderStands}
+use Rattle.jpg_spec.proofs.HeaderFirst.{header_first, standing_truncated}
+use Rattle.jpg_spec.proofs.SingleMeans.{file_means}
+use Rattle.jpg_cli.specs.Reading.{Keeps, AfterInput, IsFile, taken_of, asked_input, asked_both}
 use Rattle.jpg_cli.specs.Writing.{AfterOutput}
-use Rattle.jpg_cli.specs.Gray.{BeginsWith, picture_of, file_bytes}
-use Rattle.jpg_cli.specs.Run.{PlainInput, Turned, not_built}
+use Rattle.jpg_cli.specs.Gray.{IsRefusal, IsSingle, IsUnbuilt, meaning_in, truncated, turned_text_in}
+use Rattle.jpg_cli.specs.Run.{GrayInput, Turned, turned_file, turned_meaning}
+use Rattle.jpg_cli.proofs.TurnedText.{again}
 
 -- the names asked for, the input and then the output
 both : (s0 s1 s2 : DeskState) (answer : Put) → NotesNames s0.asked (asked_input put.Done) s1.asked → NotesName s1.asked (name.Out, answer) s2.asked → NotesNames s0.asked (asked_both answer) s2.asked
 both s0 s1 s2 answer h k = NotesNames-then s0.asked s1.asked s2.asked (asked_input put.Done) (name.Out, answer) h k
 
--- the bytes that were taken are those of the input
-plain_input : (s0 s1 : DeskState) (bytes : List ℕ) (g : Gray) → AfterInput s0 (Ok bytes) s1 → BeginsWith bytes g → PlainInput s0 g
-plain_input s0 s1 bytes g h (front, rest, e, s) = (h.1.0, front, rest, h.1.1, sym h.1.2 ∙ e, s)
+-- WHAT IS JUDGED of the bytes taken is so of the input
 
--- the file of the turned picture is its text
-gray_file : Gray → List ℕ
-gray_file g = gray_front g.width g.height g.quants ++ (data_of (plain_bits g.blocks) ++ end_of_image)
+take_front : (n m : ℕ) (xs : List ℕ) → n ≤ m → take n (take m xs) ≡ take n xs
+take_front zero m xs l = refl
+take_front (suc n) zero xs l = absurd (omega (arith, l))
+take_front (suc n) (suc m) [] l = refl
+take_front (suc n) (suc m) (x ∷ xs) l = ap (λ (ys : List ℕ). x ∷ ys) (take_front n m xs (omega (arith, l)))
 
-pub file_is_turned : (p : GrayPicture) (bytes : List ℕ) (g : Gray) → picture_of p ≡ flipped_gray g → BeginsWith bytes g → file_bytes p ≡ turned_text g
-unfolding gray_file
-file_is_turned p bytes g e (front, rest, cut, s) =
-    ap gray_file e ∙ sym (append_assoc (gray_front g.width g.height g.quants) (data_of (plain_bits (flipped_gray g).blocks)) end_of_image) ∙ sym (turned_plain g s.is_gray)
+front_of_taken : (input : List ℕ) (n : ℕ) → n ≤ length (taken_of input) → take n (taken_of input) ≡ take n input
+front_of_taken input n l = take_front n (2 ^ 28) input (omega (arith, l, length-take (2 ^ 28) input))
 
-again : (bytes : List ℕ) (g : Gray) → BeginsWith bytes g → SpellsGray (turned_text g) (flipped_gray g)
-again bytes g (front, rest, cut, s) = turned_spelled front g s
+whole_taken : (input : List ℕ) → length (taken_of input) < 2 ^ 28 → taken_of input ≡ input
+whole_taken input l = take_all (2 ^ 28) input (omega (arith, l, length-take (2 ^ 28) input))
 
-pub turned_output : (s0 s1 s2 : DeskState) (bytes due : List ℕ) (g : Gray) (w : Why) → due ≡ turned_text g → Keeps s0 s1 → AfterInput s0 (Ok bytes) s1 → BeginsWith bytes g → AfterOutput s1 due w s2 → Turned s0 w s2
-turned_output s0 s1 s2 bytes due g why.Done e k h b o = record {
-  names = both s0 s1 s2 put.Done h.0 o.0;
-  picture = g;
-  input = plain_input s0 s1 bytes g h b;
-  output =
-      (let P : Option (List (Name × List ℕ)) → Type 0 = λ a. Grows a (name.Out, turned_text g) s2.outputs in
-      let Q : List ℕ → Type 0 = λ d. Grows s1.outputs (name.Out, d) s2.outputs in subst P k.outputs (subst Q e o.1));
-  plain_again = again bytes g b;
+-- a refusal of the bytes taken is the input's first fault, or isn't built
+refusal_of : (input : List ℕ) (f : FaultAt) → IsRefusal (taken_of input) f → IsFirstFault standard_limits input f.fault f.at ⊎ IsUnbuilt (taken_of input) f
+refusal_of input f (inl (l, shows)) =
+    inl (header_first standard_limits input f.fault f.at (omega (arith, l, length-take (2 ^ 28) input)) (omega (arith, l, length-take (2 ^ 28) input))
+    (subst (λ (b : List ℕ). HeaderShows standard_limits f.fault b) (front_of_taken input f.at l) shows))
+refusal_of input f (inr (inl (stands, l, e))) =
+    let whole = whole_taken input l in
+    let is : f ≡ truncated (length input) = e ∙ ap (λ (b : List ℕ). truncated (length b)) whole in
+    let first = standing_truncated standard_limits input (omega (arith, subst (λ (b : List ℕ). length b < 2 ^ 28) whole l)) (subst (λ (b : List ℕ). HeaderStands standard_limits b) whole stands) in
+    inl (subst (λ (g : FaultAt). IsFirstFault standard_limits input g.fault g.at) (sym is) first)
+refusal_of input f (inr (inr unbuilt)) = inr unbuilt
+
+-- the meaning of the bytes taken is that of the input
+means_input : (input : List ℕ) (s : IsSingle (taken_of input)) → Means standard_limits input (meaning_in (taken_of input) s)
+means_input input s =
+    let behind = drop (2 ^ 28) input in
+    let file = s.front ++ s.text ++ end_of_image in
+    let cut : input ≡ file ++ (s.rest ++ behind) = sym (take-append-drop (2 ^ 28) input) ∙ ap (λ (b : List ℕ). b ++ behind) s.cut ∙ append_assoc file s.rest behind in
+    let long : length file ≤ length (taken_of input) = omega (arith, ap length s.cut, length-append file s.rest) in
+    file_means standard_limits s.before s.contents s.front s.text (s.rest ++ behind) input s.blocks s.header s.single s.spelled cut (omega (arith, long, length-take (2 ^ 28) input))
+
+-- the file that the bytes taken begin with is that of the input
+pub record Found (s0 : DeskState) (bytes : List ℕ) (s : IsSingle bytes) : Type 0 where
+  pub picture : GrayInput s0
+  pub text : turned_file s0 picture ≡ turned_text_in bytes s
+  pub again : length (turned_file s0 picture) ≤ standard_limits.input → Means standard_limits (turned_file s0 picture) (turned_meaning s0 picture)
+
+found_input : (s0 s1 : DeskState) (bytes : List ℕ) (s : IsSingle bytes) → AfterInput s0 (Ok bytes) s1 → All (λ b. b < 256) s.front → Found s0 bytes s
+found_input s0 s1 bytes s (names, (input, is, e)) small = by bytes e s small
+  where
+    by : (b : List ℕ) → b ≡ taken_of input → (t : IsSingle b) → All (λ b. b < 256) t.front → Found s0 b t
+    by b e =
+        let P : List ℕ → Type 0 = λ x. (u : IsSingle x) → All (λ b. b < 256) u.front → Found s0 x u in
+        let at : P (taken_of input) = λ u m. record {
+          picture = record { input = input; file = is; single = u; means = means_input input u };
+          text = refl;
+          again = λ long. again (taken_of input) u m long;
+        } in
+        subst P (sym e) at
+
+pub taken_short : (s0 s1 : DeskState) (bytes : List ℕ) → AfterInput s0 (Ok bytes) s1 → length bytes ≤ 2 ^ 28
+taken_short s0 s1 bytes (names, (input, is, e)) = subst (λ (b : List ℕ). length b ≤ 2 ^ 28) (sym e) (omega (arith, length-take (2 ^ 28) input))
+
+-- THE ANSWERS
+
+pub turned_refused : (s0 s1 : DeskState) (bytes : List ℕ) (f : FaultAt) → Keeps s0 s1 → AfterInput s0 (Ok bytes) s1 → IsRefusal bytes f → Turned s0 (why.Refused f) s1
+turned_refused s0 s1 bytes f k h r = record {
+  names = h.0;
+  outputs = k.outputs;
+  input = (h.1.0, h.1.1, refusal_of h.1.0 f (subst (λ (b : List ℕ). IsRefusal b f) h.1.2 r));
 }
-turned_output s0 s1 s2 bytes due g (why.Usage u) e k h b o = absurd o
-turned_output s0 s1 s2 bytes due g (why.Refused f) e k h b o = absurd o
-turned_output s0 s1 s2 bytes due g (why.OpenFault which.Input) e k h b o = absurd o
-turned_output s0 s1 s2 bytes due g (why.OpenFault which.Script) e k h b o = absurd o
-turned_output s0 s1 s2 bytes due g (why.OpenFault which.Tables) e k h b o = absurd o
-turned_output s0 s1 s2 bytes due g (why.OpenFault which.Comment) e k h b o = absurd o
-turned_output s0 s1 s2 bytes due g (why.OpenFault which.Output) e k h b o = record {
+
+pub turned_output : (s0 s1 s2 : DeskState) (bytes due : List ℕ) (s : IsSingle bytes) (w : Why) → due ≡ turned_text_in bytes s → All (λ b. b < 256) s.front → Keeps s0 s1 → AfterInput s0 (Ok bytes) s1 → AfterOutput s1 due w s2 → Turned s0 w s2
+turned_output s0 s1 s2 bytes due s why.Done e small k h o =
+    let g = found_input s0 s1 bytes s h small in
+    record {
+      names = both s0 s1 s2 put.Done h.0 o.0;
+      picture = g.picture;
+      output =
+          (let P : Option (List (Name × List ℕ)) → Type 0 = λ a. Grows a (name.Out, turned_file s0 g.picture) s2.outputs in
+          let Q : List ℕ → Type 0 = λ d. Grows s1.outputs (name.Out, d) s2.outputs in subst P k.outputs (subst Q (e ∙ sym g.text) o.1));
+      again = g.again;
+    }
+turned_output s0 s1 s2 bytes due s (why.Usage u) e small k h o = absurd o
+turned_output s0 s1 s2 bytes due s (why.Refused f) e small k h o = absurd o
+turned_output s0 s1 s2 bytes due s (why.OpenFault which.Input) e small k h o = absurd o
+turned_output s0 s1 s2 bytes due s (why.OpenFault which.Script) e small k h o = absurd o
+turned_output s0 s1 s2 bytes due s (why.OpenFault which.Tables) e small k h o = absurd o
+turned_output s0 s1 s2 bytes due s (why.OpenFault which.Comment) e small k h o = absurd o
+turned_output s0 s1 s2 bytes due s (why.OpenFault which.Output) e small k h o = record {
   names = both s0 s1 s2 put.Failed h.0 o.0;
   outputs = o.2 ∙ k.outputs;
   opens = (let r = o.1 in let f = k.counts.opens in omega arith);
-  picture = g;
-  input = plain_input s0 s1 bytes g h b;
+  picture = (found_input s0 s1 bytes s h small).picture;
 }
-turned_output s0 s1 s2 bytes due g (why.ReadFault u) e k h b o = absurd o
-turned_output s0 s1 s2 bytes due g why.WriteFault e k h b o = record {
-  names = both s0 s1 s2 put.Done h.0 o.0;
-  writes = (let r = o.1 in let f = k.counts.writes in omega arith);
-  picture = g;
-  input = plain_input s0 s1 bytes g h b;
-  count = o.2.0;
-  output =
-      (let P : Option (List (Name × List ℕ)) → Type 0 = λ a. Grows a (name.Out, take o.2.0 (turned_text g)) s2.outputs in
-      let Q : List ℕ → Type 0 = λ d. Grows s1.outputs (name.Out, take o.2.0 d) s2.outputs in subst P k.outputs (subst Q e o.2.1));
-}
-turned_output s0 s1 s2 bytes due g why.NoMemory e k h b o = absurd o
-
-pub turned_refused : (s0 s1 : DeskState) (bytes : List ℕ) (f : FaultAt) → Keeps s0 s1 → AfterInput s0 (Ok bytes) s1 → (BeginsWithPlain bytes → ⊥) → f ≡ not_built (length bytes) → Turned s0 (why.Refused f) s1
-turned_refused s0 s1 bytes f k h none e = record {
-  names = h.0;
-  outputs = k.outputs;
-  input = (h.1.0, h.1.1, (let P : List ℕ → Type 0 = λ b. BeginsWithPlain b → ⊥ in subst P h.1.2 none), e ∙ ap (λ b. not_built (length b)) h.1.2);
-}
+turned_output s0 s1 s2 bytes due s (why.ReadFault u) e small k h o = absurd o
+turned_output s0 s1 s2 bytes due s why.WriteFault e small k h o =
+    let g = found_input s0 s1 bytes s h small in
+    record {
+      names = both s0 s1 s2 put.Done h.0 o.0;
+      writes = (let r = o.1 in let f = k.counts.writes in omega arith);
+      picture = g.picture;
+      count = o.2.0;
+      output =
+          (let P : Option (List (Name × List ℕ)) → Type 0 = λ a. Grows a (name.Out, take o.2.0 (turned_file s0 g.picture)) s2.outputs in
+          let Q : List ℕ → Type 0 = λ d. Grows s1.outputs (name.Out, take o.2.0 d) s2.outputs in subst P k.outputs (subst Q (e ∙ sym g.text) o.2.1));
+    }
+turned_output s0 s1 s2 bytes due s why.NoMemory e small k h o = absurd o
 
 pub turned_no_memory : (s0 s1 : DeskState) (bytes : List ℕ) → Keeps s0 s1 → AfterInput s0 (Ok bytes) s1 → Turned s0 why.NoMemory s1
 turned_no_memory s0 s1 bytes k h = record { names = h.0; outputs = k.outputs }

@@ -2,8 +2,8 @@
 #![tactic(auto)]
 
 mod comment_words;
-mod gray;
 mod first_scan;
+mod gray;
 mod header;
 mod laws;
 mod message;

@@ -28,27 +28,35 @@ returns-in-Ok-Whole-clause-stepped c = λ bytes before w.
 pub returns-in-Ok-Eoi-clause-stepped : goal.returns-in-Ok-Eoi-clause-stepped
 returns-in-Ok-Eoi-clause-stepped c = λ bytes before w.
     let all : List ℕ = bytes ++ c.args.byte ∷ [] in
-    let r = reading_of c.byte.new.self in
-    (end_byte bytes all before (reading_of c.args.reader.now) r (told_by c.args.header.now) w
-    (subst (λ (s : SegStep). Comes all before (Ok s) r) c.in-Ok-Eoi.field-0-is (c.in-Ok-Eoi.ensures.answered bytes before w.stands)) c.in-Ok-Eoi.ensures.limits, c.taken.ensures)
+    let r = reading_of c.byte.new.self in (
+      end_byte bytes all before (reading_of c.args.reader.now) r (told_by c.args.header.now) w
+          (subst (λ (s : SegStep). Comes all before (Ok s) r) c.in-Ok-Eoi.field-0-is (c.in-Ok-Eoi.ensures.answered bytes before w.stands)) c.in-Ok-Eoi.ensures.limits,
+      c.taken.ensures,
+    )
 
 pub returns-in-Ok-Frame-clause-stepped : goal.returns-in-Ok-Frame-clause-stepped
 returns-in-Ok-Frame-clause-stepped c = λ bytes before w.
     let all : List ℕ = bytes ++ c.args.byte ∷ [] in
-    let r = reading_of c.byte.new.self in
-    (before, frame_byte bytes all before (reading_of c.args.reader.now) r (told_by c.args.header.now) w
-    (subst (λ (s : SegStep). Comes all before (Ok s) r) c.in-Ok-Frame.field-0-is (c.in-Ok-Frame.ensures.answered bytes before w.stands)) c.in-Ok-Frame.ensures.limits)
+    let r = reading_of c.byte.new.self in (
+      before,
+      frame_byte bytes all before (reading_of c.args.reader.now) r (told_by c.args.header.now) w
+          (subst (λ (s : SegStep). Comes all before (Ok s) r) c.in-Ok-Frame.field-0-is (c.in-Ok-Frame.ensures.answered bytes before w.stands)) c.in-Ok-Frame.ensures.limits,
+    )
 
 pub returns-in-Ok-More-clause-stepped : goal.returns-in-Ok-More-clause-stepped
 returns-in-Ok-More-clause-stepped c = λ bytes before w.
     let all : List ℕ = bytes ++ c.args.byte ∷ [] in
-    let r = reading_of c.byte.new.self in
-    (before, more_byte bytes all before (reading_of c.args.reader.now) r (told_by c.args.header.now) w
-    (subst (λ (s : SegStep). Comes all before (Ok s) r) c.in-Ok-More.field-0-is (c.in-Ok-More.ensures.answered bytes before w.stands)) c.in-Ok-More.ensures.limits)
+    let r = reading_of c.byte.new.self in (
+      before,
+      more_byte bytes all before (reading_of c.args.reader.now) r (told_by c.args.header.now) w
+          (subst (λ (s : SegStep). Comes all before (Ok s) r) c.in-Ok-More.field-0-is (c.in-Ok-More.ensures.answered bytes before w.stands)) c.in-Ok-More.ensures.limits,
+    )
 
 pub returns-in-Ok-Start-clause-stepped : goal.returns-in-Ok-Start-clause-stepped
 returns-in-Ok-Start-clause-stepped c = λ bytes before w.
     let all : List ℕ = bytes ++ c.args.byte ∷ [] in
-    let r = reading_of c.byte.new.self in
-    (before, start_byte bytes all before (reading_of c.args.reader.now) r (told_by c.args.header.now) w
-    (subst (λ (s : SegStep). Comes all before (Ok s) r) c.in-Ok-Start.field-0-is (c.in-Ok-Start.ensures.answered bytes before w.stands)) c.in-Ok-Start.ensures.limits)
+    let r = reading_of c.byte.new.self in (
+      before,
+      start_byte bytes all before (reading_of c.args.reader.now) r (told_by c.args.header.now) w
+          (subst (λ (s : SegStep). Comes all before (Ok s) r) c.in-Ok-Start.field-0-is (c.in-Ok-Start.ensures.answered bytes before w.stands)) c.in-Ok-Start.ensures.limits,
+    )
