@@ -1,9 +1,9 @@
 -- What each further byte makes of the bytes that a reader of segments stands for.
-use Rattle.std.proofs.Common.{◌≡◌, ℕ, zero, suc, ◌+◌, ◌-◌, ◌*◌, ◌/◌, ◌%◌, ◌<◌, ◌≤◌, Bool, true, false, List, [], ◌∷◌, ◌++◌, length, replicate, Option, Some, None, Ok, Err, refl, sym, ap, ◌∙◌, subst, arith, inl, inr, ◌⊎◌}
+use Rattle.std.proofs.Common.{◌≡◌, ℕ, zero, suc, ◌+◌, ◌/◌, ◌%◌, ◌<◌, ◌≤◌, Bool, true, false, List, [], ◌∷◌, ◌++◌, length, replicate, Option, Some, None, Ok, refl, sym, ap, ◌∙◌, subst, arith, inl, inr}
 use Rattle.std.proofs.lemmas.List.{append_assoc, append-nil, length-append}
 use Rattle.std.specs.Int.{to_be_bytes, w16}
 use Rattle.jpg_spec.specs.Segments.{two_bytes}
-use Rattle.jpg_spec.specs.Markers.{Segment, Rule, soi, SpellsMarker, SpellsSegment, SpellsSegments, code_fault, code_fault_if, is_frame_code, kept_rule, Pass, Between, BeginsSegment, SegmentsShow, Reaches, at_soi, at_frame, at_eoi, at_segment, at_fault, at_part}
+use Rattle.jpg_spec.specs.Markers.{Segment, Rule, soi, SpellsMarker, SpellsSegment, SpellsSegments, code_fault, code_fault_if, is_frame_code, kept_rule, Pass, Between, BeginsSegment, SegmentsShow, Reaches, at_eoi}
 use Rattle.jpg_spec.specs.declared.fault.Fault.{Fault}
 use Rattle.jpg_spec.specs.declared.fault.Fault.TheVariants.{NotJpeg, NoMarker, BadLength, MarkersTooLarge}
 use Rattle.jpg_markers.specs.declared.seen.Seen.{Seen}
@@ -11,7 +11,7 @@ use Rattle.jpg_markers.specs.declared.segments.Phase.{Phase}
 use Rattle.jpg_markers.specs.declared.segments.Phase.TheVariants as phase
 use Rattle.jpg_markers.specs.declared.segments.SegStep.TheVariants as step
 use Rattle.jpg_markers.specs.Seen.{HasSeen}
-use Rattle.jpg_markers.specs.Reading.{Reading, PartRead, IsBetween, AtPhase, StandsFor, IsWhole, ShowsBehind, EndsBehind, Comes}
+use Rattle.jpg_markers.specs.Reading.{Reading, AtPhase, StandsFor, IsWhole, ShowsBehind, EndsBehind, Comes}
 
 -- BETWEEN segments
 

@@ -15,7 +15,7 @@ use Rattle.jpg_spec.specs.Scan.{Blocks}
 use Rattle.jpg_spec.specs.Meaning.{Meaning}
 use Rattle.jpg_spec.specs.Items.{Item, segment, scan, segments_of, SpellsFront, fault_in, contents_rule}
 use Rattle.jpg_spec.specs.FileMeaning.{Leads, Means}
-use Rattle.jpg_spec.specs.FirstFault.{BehindItems, ItemShows, InsideScan, Shows, HasMeaning, IsFirstFault}
+use Rattle.jpg_spec.specs.FirstFault.{BehindItems, ItemShows, InsideScan, Shows, IsFirstFault}
 use Rattle.jpg_spec.specs.Header.{header_rule, InHeader, HeaderShows, HeaderStands, IsHeader}
 use Rattle.jpg_spec.specs.declared.fault.Fault.{Fault}
 use Rattle.jpg_spec.specs.declared.fault.Fault.TheVariants.{Truncated, MissingComponent, InputTooLong}

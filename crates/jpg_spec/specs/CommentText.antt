@@ -1,8 +1,8 @@
 -- COMMENTS: as rdjpgcom prints them, and a file with one inserted, as wrjpgcom writes it (T.81 B.2.4.5, the manuals of both).
-use Rattle.std.specs.Prelude.{◌≡◌, ◌⊎◌, ℕ, ◌+◌, ◌/◌, ◌%◌, ◌<◌, ◌≤◌, Bool, true, false, not, ◌&&◌, ◌==◌, if◌then◌else◌, List, [], ◌∷◌, ◌++◌, length, take, flat_map, filter, reverse, None}
+use Rattle.std.specs.Prelude.{◌≡◌, ◌⊎◌, ℕ, ◌+◌, ◌/◌, ◌%◌, ◌<◌, ◌≤◌, Bool, true, false, not, ◌==◌, if◌then◌else◌, List, [], ◌∷◌, ◌++◌, length, take, flat_map, filter, reverse, None}
 use Rattle.jpg_spec.specs.Lists.{is_empty}
 use Rattle.jpg_spec.specs.FileText.{segment_text}
-use Rattle.jpg_spec.specs.Markers.{Segment, Rule, soi, SpellsMarker, SpellsSegments, code_fault, has_frame, has_scan, is_frame_code, is_within, kept_rule, Pass, Between, BeginsSegment, SegmentsShow, IsLeast}
+use Rattle.jpg_spec.specs.Markers.{Segment, soi, SpellsMarker, SpellsSegments, code_fault, has_scan, is_frame_code, is_within, kept_rule, Pass, Between, BeginsSegment, SegmentsShow, IsLeast}
 use Rattle.jpg_spec.specs.declared.fault.Fault.{Fault}
 use Rattle.jpg_spec.specs.declared.fault.Fault.TheVariants.{Truncated, InputTooLong}
 use Rattle.jpg_spec.specs.declared.frame.Limits.{Limits}

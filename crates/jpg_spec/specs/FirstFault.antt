@@ -8,7 +8,7 @@ use Rattle.jpg_spec.specs.Elements.{SpellsUnits}
 use Rattle.jpg_spec.specs.Scan.{Blocks, Scan, unit_at}
 use Rattle.jpg_spec.specs.ScanFaults.{DataShows}
 use Rattle.jpg_spec.specs.Meaning.{Meaning}
-use Rattle.jpg_spec.specs.Markers.{Segment, SpellsMarker, SpellsSegment, code_fault, ShowsNoStart, NoMarkerBytes, TailShows, IsLeast}
+use Rattle.jpg_spec.specs.Markers.{SpellsMarker, SpellsSegment, code_fault, ShowsNoStart, NoMarkerBytes, TailShows, IsLeast}
 use Rattle.jpg_spec.specs.InForce.{frame_of}
 use Rattle.jpg_spec.specs.History.{is_complete}
 use Rattle.jpg_spec.specs.Items.{Item, segments_of, SpellsFront, SpellsIntervalsText, ends_in_scan, contents_rule}

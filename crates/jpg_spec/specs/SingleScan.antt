@@ -1,13 +1,13 @@
 -- A FILE OF ONE GRAY SCAN: a sequential frame of one component with factors 1 by 1 and sides of whole blocks, one scan without restarts (T.81 A.2, F.1.2).
-use Rattle.std.specs.Prelude.{◌≡◌, ℕ, ◌+◌, ◌*◌, ◌/◌, ◌%◌, ◌≤◌, Bool, false, not, nat_lt, ◌&&◌, ◌==◌, if◌then◌else◌, List, [], ◌∷◌, ◌++◌, length, map, flat_map, slice_index_or, ℤ, All}
+use Rattle.std.specs.Prelude.{◌≡◌, ℕ, ◌+◌, ◌*◌, ◌/◌, ◌%◌, Bool, not, nat_lt, ◌&&◌, ◌==◌, if◌then◌else◌, List, [], ◌∷◌, ◌++◌, length, slice_index_or, ℤ, All}
 use Rattle.jpg_spec.specs.Bits.{Packs, SpellsData, data_of}
 use Rattle.jpg_spec.specs.Geometry.{Frame, component_at, is_progressive}
 use Rattle.jpg_spec.specs.Segments.{ScanHead}
-use Rattle.jpg_spec.specs.Elements.{Coding, SpellsUnits, zeros}
+use Rattle.jpg_spec.specs.Elements.{Coding, zeros}
 use Rattle.jpg_spec.specs.Scan.{Blocks, scan_coding}
 use Rattle.jpg_spec.specs.Meaning.{Meaning}
 use Rattle.jpg_spec.specs.Typical.{dc_luma_counts, dc_luma_values, ac_luma_counts, ac_luma_values}
-use Rattle.jpg_spec.specs.GrayFile.{end_of_image, SpellsBlocks, turned_rows}
+use Rattle.jpg_spec.specs.GrayFile.{end_of_image, SpellsBlocks}
 use Rattle.jpg_spec.specs.Written.{plain_bits}
 use Rattle.jpg_spec.specs.FileText.{segment_text, front_text}
 use Rattle.jpg_spec.specs.Markers.{Segment}

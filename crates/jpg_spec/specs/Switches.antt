@@ -1,5 +1,5 @@
 -- THE SWITCHES of the commands: how a word matches one, and the lists of the commands (the manuals of release 6b; the matching rule is the suite's own).
-use Rattle.std.specs.Prelude.{ℕ, ◌+◌, Bool, true, false, nat_le, ◌&&◌, ◌==◌, if◌then◌else◌, List, [], ◌∷◌, length, map, drop, Option, Some, None, find, option_map, codes}
+use Rattle.std.specs.Prelude.{ℕ, ◌+◌, Bool, false, nat_le, ◌&&◌, ◌==◌, if◌then◌else◌, List, [], ◌∷◌, length, map, drop, Option, find, option_map, codes}
 use Rattle.jpg_spec.specs.Lists.{begins_with}
 use Rattle.jpg_spec.specs.Markers.{is_within}
 

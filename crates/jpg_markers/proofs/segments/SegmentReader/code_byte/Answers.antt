@@ -1,5 +1,5 @@
-use Rattle.std.proofs.Common.{ℕ, List, [], ◌∷◌, ◌++◌, Ok, None, Some, sym, subst, ◌∙◌}
-use Rattle.jpg_spec.specs.Markers.{SegmentsShow, Reaches, at_eoi, kept_rule}
+use Rattle.std.proofs.Common.{ℕ, [], ◌∷◌, ◌++◌, Ok, None, Some, sym, subst, ◌∙◌}
+use Rattle.jpg_spec.specs.Markers.{SegmentsShow, kept_rule}
 use Rattle.jpg_spec.specs.declared.fault.Fault.TheVariants.{NoMarker}
 use Rattle.jpg_markers.specs.declared.segments.SegStep.TheVariants as step
 use Rattle.jpg_markers.specs.Reading.{Comes, ShowsBehind, reading_of}

@@ -1,7 +1,7 @@
 use Rattle.std.proofs.Common.{◌-◌, ◌++◌, ◌∷◌, [], List, ℕ, Ok, arith, sym, subst}
 use Rattle.jpg_markers.specs.declared.segments.SegStep.TheVariants as step
 use Rattle.jpg_markers.specs.Reading.{Comes, reading_of, IsWhole}
-use Rattle.jpg_markers.proofs.Taking.{content_more, content_whole, contents_short}
+use Rattle.jpg_markers.proofs.Taking.{content_more, content_whole}
 use Rattle.jpg_markers.proofs.segments.SegmentReader.content_byte.Goals as goal
 
 pub returns-then-self-gt1-clause-goes : goal.returns-then-self-gt1-clause-goes

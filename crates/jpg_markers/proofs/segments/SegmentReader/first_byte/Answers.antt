@@ -1,4 +1,3 @@
-use Rattle.std.proofs.Common.{refl}
 use Rattle.jpg_markers.specs.Reading.{reading_of}
 use Rattle.jpg_markers.proofs.Taking.{start_fault}
 use Rattle.jpg_markers.proofs.segments.SegmentReader.first_byte.Goals as goal

@@ -1,4 +1,3 @@
-use Rattle.std.proofs.Common.{refl}
 use Rattle.jpg_markers.specs.Reading.{reading_of}
 use Rattle.jpg_markers.proofs.Taking.{high_more}
 use Rattle.jpg_markers.proofs.segments.SegmentReader.high_byte.Goals as goal

@@ -1,6 +1,5 @@
 use Rattle.std.proofs.Common.{[], ◌∷◌, ◌++◌, arith}
-use Rattle.jpg_spec.specs.Segments.{two_bytes}
-use Rattle.jpg_markers.specs.Reading.{reading_of, IsWhole}
+use Rattle.jpg_markers.specs.Reading.{reading_of}
 use Rattle.jpg_markers.proofs.Taking.{low_fault, low_whole, low_more}
 use Rattle.jpg_markers.proofs.segments.SegmentReader.low_byte.Goals as goal
 

@@ -1,5 +1,5 @@
-use Rattle.std.proofs.Common.{◌≡◌, ◌∷◌, List, ℕ, Some, None, sym, subst}
-use Rattle.jpg_spec.specs.Markers.{Segment, kept_rule}
+use Rattle.std.proofs.Common.{◌≡◌, ◌∷◌, List, ℕ, Some, None, subst}
+use Rattle.jpg_spec.specs.Markers.{kept_rule}
 use Rattle.jpg_spec.specs.declared.fault.Fault.TheVariants.{MarkersTooLarge}
 use Rattle.jpg_markers.specs.Seen.{HasSeen}
 use Rattle.jpg_markers.specs.Reading.{reading_of}
