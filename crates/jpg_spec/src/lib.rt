@@ -10,6 +10,7 @@ mod frame;
 pub mod gray_laws;
 pub mod header_laws;
 pub mod laws;
+pub mod marker_examples;
 pub mod marker_laws;
 
 pub use answers::{Asked, FaultAt, Usage, UsageFault, Which, Why};
