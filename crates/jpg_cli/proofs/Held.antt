@@ -7,7 +7,7 @@ use Rattle.std.proofs.lemmas.Option.{slice_get-map}
 use Rattle.jpg_spec.specs.Lists.{any_of}
 use Rattle.jpg_spec.specs.Codes.{Code}
 use Rattle.jpg_spec.specs.Geometry.{Frame, component_at, is_progressive}
-use Rattle.jpg_spec.specs.Segments.{HuffmanTable, QuantTable, ScanHead}
+use Rattle.jpg_spec.specs.Segments.{HuffmanTable, ScanHead}
 use Rattle.jpg_spec.specs.Jfif.{is_jfif, jfif_told, jfif_of}
 use Rattle.jpg_spec.specs.QuantContents.{quant_in}
 use Rattle.jpg_spec.specs.HuffContents.{HuffmanSlots}
@@ -18,7 +18,6 @@ use Rattle.jpg_spec.specs.InForce.{huffman_in_force, quant_in_force}
 use Rattle.jpg_spec.specs.History.{needs_dc_table, needs_ac_table, lacks_table}
 use Rattle.jpg_spec.specs.declared.frame.Limits.{Limits}
 use Rattle.jpg_spec.specs.declared.frame.ScanPart.{ScanPart}
-use Rattle.jpg_spec.proofs.SingleTables.{IsQuants, in_force_quants}
 use Rattle.jpg_huff.specs.declared.table.Table.{Table}
 use Rattle.jpg_huff.specs.declared.set.TableSet.{TableSet}
 use Rattle.jpg_huff.specs.Sets.{dc_tables, ac_tables, in_slot, slots_of}
@@ -102,7 +101,3 @@ lacks_in_set limits h before set holds same f head p sequential one =
 -- THE JFIF HEADER is that of the markers that are kept.
 pub jfif_is : (limits : Limits) (h : HeaderTold) (before : List Segment) → Holds limits h before → h.jfif ≡ jfif_of h.kept
 jfif_is limits h before holds = holds.jfif ∙ ap (λ xs. jfif_told (find is_jfif xs)) (sym (ap reverse holds.kept ∙ reverse-reverse (kept_after before)))
-
--- A QUANTISATION TABLE that is held has 64 quantisers, none of them 0.
-pub quants_held : (limits : Limits) (h : HeaderTold) (before : List Segment) → Holds limits h before → (slot : ℕ) (table : QuantTable) → quant_in h.quants slot ≡ Some table → IsQuants table
-quants_held limits h before holds slot table e = in_force_quants before slot table (sym (holds.quants slot) ∙ e)

@@ -1,14 +1,12 @@
 -- Blocks mirrored place by place, and rows of blocks turned block by block.
-use Rattle.std.proofs.Common.{◌≡◌, ℕ, zero, suc, ◌+◌, ◌-◌, ◌*◌, ◌%◌, ◌<◌, ◌≤◌, List, [], ◌∷◌, ◌++◌, length, take, drop, set, get_or, refl, sym, ap, ◌∙◌, subst, arith, ℤ, pos, neg_ℤ, cond, ◌==◌, Some, drop-drop}
+use Rattle.std.proofs.Common.{◌≡◌, ℕ, zero, suc, ◌+◌, ◌-◌, ◌*◌, ◌%◌, ◌<◌, ◌≤◌, List, [], ◌∷◌, ◌++◌, length, take, drop, set, get_or, refl, sym, ap, ◌∙◌, arith, ℤ, pos, neg_ℤ, cond, ◌==◌, Some, drop-drop}
 use Rattle.std.specs.Prelude.{flat_map, reverse, slice_get}
-use Rattle.std.specs.List.{All, zip}
+use Rattle.std.specs.List.{zip}
 use Rattle.std.proofs.Math.Nat.{suc-mul, mul_comm}
 use Rattle.std.proofs.Math.Seq.{take-append_seam, drop-append_seam}
-use Rattle.std.proofs.lemmas.Nat.{mul-le}
 use Rattle.std.proofs.lemmas.List.{get_or-map, set_at, take_more, drop_more, length-take-le, length-drop, append_assoc, length-map, length-reverse, get_or-reverse, get_or-take, get_or-drop, take_all, drop_all, append-nil}
 use Rattle.std.proofs.lemmas.Grind.{flat_map-append}
-use Rattle.std.proofs.lemmas.List.Elements.{All-get_or}
-use Rattle.std.proofs.lemmas.Option.{get_or_from_slice_get, slice_get_within}
+use Rattle.std.proofs.lemmas.Option.{get_or_from_slice_get}
 use Rattle.std.proofs.lemmas.Slice.Zip.{get_or-zip, length-zip}
 use Rattle.jpg_spec.specs.Lists.{chunks}
 use Rattle.jpg_spec.specs.Moves.{mirrored, zigzag}
@@ -46,10 +44,6 @@ mirror_all xs values k h e is =
     let lm = mirrored_block xs h in
     is ∙ ap (λ r. take k (mirrored xs) ++ r) (drop_all k xs (omega arith)) ∙ append-nil (take k (mirrored xs)) ∙ take_all k (mirrored xs) (omega arith)
 
--- what holds of each block of a list holds of one
-pub block_at : (P : List ℤ → Type 0) (blocks : List (List ℤ)) (i : ℕ) (block : List ℤ) → All P blocks → slice_get blocks i ≡ Some block → P block
-block_at P blocks i block all e = subst P (get_or_from_slice_get blocks i block block e) (All-get_or P blocks i block (slice_get_within blocks i block e) all)
-
 -- ONE ROW
 
 -- the row of this many blocks that ends before a place
@@ -84,18 +78,7 @@ turn_step blocks old done end across x block new h k lt e is so =
     let last : get_or row x (mirrored block) ≡ new = turned_at blocks end across x block h k lt ∙ ap mirrored (get_or_from_slice_get blocks (end - 1 - x) block block e) ∙ sym is in
     ap (λ ys. ys ++ new ∷ []) so ∙ append_assoc old (take x row) (new ∷ []) ∙ ap (λ ys. old ++ ys) (ap (λ b. take x row ++ b ∷ []) (sym last) ∙ sym more)
 
--- the whole row
-pub turn_end : (blocks : List (List ℤ)) (end across x : ℕ) → across ≤ end → end ≤ length blocks → x ≡ across → take x (turned_row (row_before blocks end across)) ≡ turned_row (row_before blocks end across)
-turn_end blocks end across x h k e =
-    take_all x (turned_row (row_before blocks end across)) (omega (arith, e, row_length blocks end across h k, turned_length (row_before blocks end across)))
-
 -- ALL ROWS
-
--- a row ends within the picture
-pub row_end : (across down y : ℕ) → y < down → y * across + across ≤ across * down
-row_end across down y h =
-    let m : suc y * across ≤ down * across = mul-le (suc y) across down across (omega (arith, h)) (omega arith) in
-    omega (arith, m, suc-mul y across, mul_comm across down)
 
 -- the rows before one, turned
 abbrev pub turned_before : ℕ → ℕ → List (List ℤ) → List (List ℤ)

@@ -141,9 +141,6 @@ segment_fault bytes before r h fault w e =
     let (front, rest, cut, spelled, segment, end) = w.spelled in
     inr (before, rest, (record { front = front; cut = cut; spelled = spelled; passed = w.passed }, w.none), inr (inl (inr (inr (r.code, r.contents, segment, w.code, end, e)))))
 
-pub contents_short : (bytes : List ℕ) (before : List Segment) (r : Reading) (h : HeaderTold) → IsBehindSegment bytes before r h → length r.contents ≤ 65533
-contents_short bytes before r h w = let (front, rest, cut, spelled, (marker, m, short, is), end) = w.spelled in omega (arith, short)
-
 -- THE SCAN HEADER
 
 pub no_frame_yet : (bytes : List ℕ) (before : List Segment) (r : Reading) (h : HeaderTold) → IsBehindSegment bytes before r h → r.code ≡ 0xda → h.frame ≡ None → ⊥

@@ -1,5 +1,5 @@
 -- What the steps of a run come to, over the states that a desk tells.
-use Rattle.std.proofs.Common.{◌≡◌, ℕ, zero, suc, ◌^◌, ◌<◌, ◌≤◌, List, [], ◌∷◌, ◌++◌, length, take, drop, Option, Ok, Err, refl, sym, ap, ◌∙◌, subst, arith, inl, inr}
+use Rattle.std.proofs.Common.{◌≡◌, ℕ, zero, suc, ◌^◌, ◌<◌, ◌≤◌, List, [], ◌∷◌, ◌++◌, length, take, drop, Option, Ok, refl, sym, ap, ◌∙◌, subst, arith, inl, inr}
 use Rattle.std.specs.Prelude.{◌⊎◌, All}
 use Rattle.std.proofs.lemmas.List.{append_assoc, length-append, length-take, take_all, take-append-drop}
 use Rattle.jpg_base.specs.declared.names.Name.{Name}
@@ -131,23 +131,3 @@ turned_output s0 s1 s2 bytes due s why.WriteFault e small k h o =
           let Q : List ℕ → Type 0 = λ d. Grows s1.outputs (name.Out, take o.2.0 d) s2.outputs in subst P k.outputs (subst Q (e ∙ sym g.text) o.2.1));
     }
 turned_output s0 s1 s2 bytes due s why.NoMemory e small k h o = absurd o
-
-pub turned_no_memory : (s0 s1 : DeskState) (bytes : List ℕ) → Keeps s0 s1 → AfterInput s0 (Ok bytes) s1 → Turned s0 why.NoMemory s1
-turned_no_memory s0 s1 bytes k h = record { names = h.0; outputs = k.outputs }
-
-pub turned_input_fault : (s0 s1 : DeskState) (w : Why) → Keeps s0 s1 → AfterInput s0 (Err w) s1 → Turned s0 w s1
-turned_input_fault s0 s1 why.Done k h = absurd h
-turned_input_fault s0 s1 (why.Usage u) k h = absurd h
-turned_input_fault s0 s1 (why.Refused f) k h = absurd h
-turned_input_fault s0 s1 (why.OpenFault which.Input) k h = record { names = h.0; outputs = k.outputs; opens = h.1 }
-turned_input_fault s0 s1 (why.OpenFault which.Script) k h = absurd h
-turned_input_fault s0 s1 (why.OpenFault which.Tables) k h = absurd h
-turned_input_fault s0 s1 (why.OpenFault which.Comment) k h = absurd h
-turned_input_fault s0 s1 (why.OpenFault which.Output) k h = absurd h
-turned_input_fault s0 s1 (why.ReadFault which.Input) k h = record { names = h.0; outputs = k.outputs; reads = h.1 }
-turned_input_fault s0 s1 (why.ReadFault which.Script) k h = absurd h
-turned_input_fault s0 s1 (why.ReadFault which.Tables) k h = absurd h
-turned_input_fault s0 s1 (why.ReadFault which.Comment) k h = absurd h
-turned_input_fault s0 s1 (why.ReadFault which.Output) k h = absurd h
-turned_input_fault s0 s1 why.WriteFault k h = absurd h
-turned_input_fault s0 s1 why.NoMemory k h = record { names = h; outputs = k.outputs }
