@@ -7,5 +7,9 @@ not_code a b e f = omega (arith, e, f)
 
 pub returns : goal.returns
 returns c =
-    inr ([], 0xff ∷ 0xff ∷ 0xff ∷ 0xe0 ∷ 0x00 ∷ 0x01 ∷ [], record { front = soi; cut = refl; spelled = refl; passed = tt },
-    inr (inr (inl (refl, (0xe0, 0xff ∷ 0xff ∷ 0xff ∷ 0xe0 ∷ [], 0, 1, ((2, refl, ((λ e. omega (arith, e)), (λ e. omega (arith, e)))), refl, (λ e. omega (arith, e))), refl, omega arith)))))
+    inr (
+      [],
+      0xff ∷ 0xff ∷ 0xff ∷ 0xe0 ∷ 0x00 ∷ 0x01 ∷ [],
+      record { front = soi; cut = refl; spelled = refl; passed = tt },
+      inr (inr (inl (refl, (0xe0, 0xff ∷ 0xff ∷ 0xff ∷ 0xe0 ∷ [], 0, 1, ((2, refl, ((λ e. omega (arith, e)), (λ e. omega (arith, e)))), refl, (λ e. omega (arith, e))), refl, omega arith)))),
+    )
