@@ -4,10 +4,12 @@
 
 mod comments;
 mod ends;
+mod insert;
 mod printed;
 mod segment;
 
 pub use comments::Comments;
+pub use insert::Insert;
 pub use printed::append_printed;
 pub use segment::append_segment;
 
