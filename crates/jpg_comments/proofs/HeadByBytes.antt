@@ -1,27 +1,22 @@
 -- The head of a file that gets a comment, byte by byte.
-use Rattle.std.proofs.Common.{◌≡◌, ℕ, ◌+◌, ◌-◌, ◌<◌, ◌≤◌, Bool, true, false, not, ◌&&◌, ◌||◌, ◌==◌, if◌then◌else◌, List, [], ◌∷◌, ◌++◌, length, take, min, replicate, suc, Ok, Err, Some, None, refl, sym, ap, ◌∙◌, subst, arith, inl, inr, ◌⊎◌, Result}
+use Rattle.std.proofs.Common.{◌≡◌, ℕ, ◌+◌, ◌<◌, ◌≤◌, Bool, true, false, not, ◌||◌, ◌==◌, if◌then◌else◌, List, [], ◌∷◌, ◌++◌, length, take, suc, Ok, Err, Some, None, refl, sym, ap, ◌∙◌, subst, arith, inl, inr, ◌⊎◌}
 use Rattle.std.specs.Prelude.{reverse, filter, flat_map}
 use Rattle.std.specs.Int.{to_be_bytes, w16}
-use Rattle.std.proofs.lemmas.Bool.Decides.{nat_tests}
 use Rattle.std.proofs.lemmas.Grind.{flat_map-append}
-use Rattle.std.proofs.lemmas.List.{append_assoc, append-nil, length-append, reverse-append, take_all}
+use Rattle.std.proofs.lemmas.List.{append_assoc, append-nil, length-append, reverse-append}
 use Rattle.std.proofs.lemmas.List.Elements.{filter-append}
 use Rattle.jpg_spec.specs.FileText.{segment_text}
-use Rattle.jpg_spec.specs.Markers.{Segment, Rule, kept_rule, soi, has_frame, is_frame_code, code_fault, code_fault_if, SpellsMarker, SpellsSegment, SpellsSegments, Pass, Between, BeginsSegment, PartOfSegment, SegmentsShow, Reached, at_soi, at_frame, at_eoi, at_segment, at_fault, at_part, Reaches}
-use Rattle.jpg_spec.specs.CommentText.{IsHead, ShowsNothing, head_segments}
+use Rattle.jpg_spec.specs.Markers.{Segment, Rule, kept_rule, soi, has_frame, is_frame_code, code_fault_if, SpellsSegments, Pass, Between, PartOfSegment, SegmentsShow, Reached, at_soi, at_frame, at_eoi, at_segment, at_fault, at_part, Reaches}
+use Rattle.jpg_spec.specs.CommentText.{IsHead, ShowsNothing}
 use Rattle.jpg_spec.specs.declared.frame.Limits.{Limits}
-use Rattle.jpg_spec.specs.declared.fault.Fault.{Fault}
 use Rattle.jpg_spec.specs.declared.fault.Fault.TheVariants.{UnexpectedMarker}
 use Rattle.jpg_spec.proofs.Reached.{reached_once}
-use Rattle.jpg_base.specs.declared.names.NoMemory.{NoMemory}
 use Rattle.jpg_base.specs.declared.stop.Stop.{Stop}
 use Rattle.jpg_base.specs.declared.stop.Stop.TheVariants as stop
 use Rattle.jpg_markers.specs.declared.segments.Phase.{Phase}
 use Rattle.jpg_markers.specs.declared.segments.Phase.TheVariants as phase
 use Rattle.jpg_markers.specs.declared.segments.SegStep.TheVariants as step
 use Rattle.jpg_markers.specs.Reading.{Reading, AtPhase, StandsFor, EndsBehind, Comes}
-use Rattle.jpg_comments.specs.Appending.{AppendsText}
-use Rattle.jpg_comments.specs.Begun.{HasTaken}
 use Rattle.jpg_comments.specs.Inserting.{HoldsHead, head_text, kept_text, HasKept, IsAtFrame, AfterHeadByte}
 use Rattle.jpg_comments.proofs.Taken.{Tells, nothing_first, taken_on, shows_first, whole_front}
 

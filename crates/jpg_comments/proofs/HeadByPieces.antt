@@ -1,10 +1,10 @@
 -- The head of a file that gets a comment, piece by piece, and what is written behind it.
-use Rattle.std.proofs.Common.{◌≡◌, ℕ, ◌+◌, ◌-◌, ◌<◌, ◌≤◌, Bool, true, false, List, [], ◌∷◌, ◌++◌, length, take, drop, min, get_or, Option, Some, None, Ok, Err, refl, sym, ap, ◌∙◌, subst, arith, inl, inr, Result}
+use Rattle.std.proofs.Common.{◌≡◌, ℕ, ◌+◌, ◌-◌, ◌<◌, ◌≤◌, Bool, true, List, [], ◌∷◌, ◌++◌, length, take, drop, get_or, Some, None, Ok, Err, refl, sym, ap, ◌∙◌, subst, arith, inr, Result}
 use Rattle.std.proofs.lemmas.List.{append_assoc, append-nil, length-append, length-take-le, take_all, take-append-drop}
 use Rattle.std.proofs.Math.Seq.{take-append-add}
-use Rattle.jpg_spec.specs.CommentText.{IsHead, IsMarkerFault, IsHeadFault, IsInsertFault, IsInserted, inserted_head, comment_segment}
+use Rattle.jpg_spec.specs.CommentText.{IsHead, IsHeadFault, IsInsertFault, IsInserted, inserted_head, comment_segment}
 use Rattle.jpg_spec.specs.declared.frame.Limits.{Limits}
-use Rattle.jpg_spec.specs.declared.fault.Fault.{Fault}
+use Rattle.jpg_spec.specs.declared.answers.FaultAt.{FaultAt}
 use Rattle.jpg_spec.specs.declared.fault.Fault.TheVariants.{InputTooLong}
 use Rattle.jpg_base.specs.declared.names.NoMemory.{NoMemory}
 use Rattle.jpg_base.specs.declared.stop.Stop.{Stop}
@@ -14,7 +14,7 @@ use Rattle.jpg_comments.specs.Appending.{AppendsText}
 use Rattle.jpg_comments.specs.Begun.{Appends}
 use Rattle.jpg_comments.specs.Inserting.{HoldsHead, head_text, HasKept, IsAtFrame, AfterHeadByte, AfterHeadPiece, Copies, InsertsPart, InsertsUpTo}
 use Rattle.jpg_comments.proofs.Taken.{front_is, whole_front, first_fault, long_fault}
-use Rattle.jpg_comments.proofs.ByPiece.{joined, one_more, all_of_it}
+use Rattle.jpg_comments.proofs.ByPiece.{joined, one_more, all_of_it, followed}
 
 -- UP TO THE MARKER
 
@@ -26,7 +26,9 @@ head_stopped limits replace bytes piece head new i (stop.Fault f) r next less h 
     let rest = drop (i + 1) piece in
     let cut : bytes ++ piece ≡ all ++ rest = joined bytes piece (i + 1) ∙ ap (λ l. l ++ rest) (one_more bytes piece i less) in
     let n = h.1 in
-    subst (λ l. IsHeadFault limits l f.fault (f.at)) (sym cut) (subst (λ k. IsHeadFault limits (all ++ rest) f.fault k) (sym n) (first_fault limits (HoldsHead limits) all rest f.fault h.0))
+    λ more.
+    subst (λ l. IsHeadFault limits l f.fault (f.at)) (sym (followed (bytes ++ piece) all rest more cut))
+    (subst (λ k. IsHeadFault limits (all ++ (rest ++ more)) f.fault k) (sym n) (first_fault limits (HoldsHead limits) all (rest ++ more) f.fault h.0))
 head_stopped limits replace bytes piece head new i stop.NoMemory r next less h = tt
 
 -- as many bytes as may be taken
@@ -37,7 +39,9 @@ head_long limits replace bytes piece head new i most r next same many h =
     let front = bytes ++ take i piece in
     let rest = drop i piece in
     let long : length front ≡ limits.input = omega (arith, taken, least, many, same) in
-    subst (λ l. IsHeadFault limits l InputTooLong most) (sym (joined bytes piece i)) (subst (λ k. IsHeadFault limits (front ++ rest) InputTooLong k) same (long_fault limits (HoldsHead limits) front rest long h.1.nothing))
+    λ more.
+    subst (λ l. IsHeadFault limits l InputTooLong most) (sym (followed (bytes ++ piece) front rest more (joined bytes piece i)))
+    (subst (λ k. IsHeadFault limits (front ++ (rest ++ more)) InputTooLong k) same (long_fault limits (HoldsHead limits) front (rest ++ more) long h.1.nothing))
 
 -- the marker is there
 pub head_there : (limits : Limits) (replace : Bool) (bytes piece head : List ℕ) (i used : ℕ) (r : Reading) → i < length piece → used ≡ i + 1
@@ -79,6 +83,14 @@ long_inserted limits comment replace bytes text long h =
     ∙ ap (take n) (append_assoc h.2 h.3 (drop (limits.input) bytes)) ∙ whole_front h.2 (h.3 ++ drop (limits.input) bytes) in
     inr (refl, refl, long, (h.1, h.0, n, fits, subst (λ l. IsHead limits l h.0 h.1) (sym is) h.5))
 
+-- and more bytes behind them
+long_anyhow : (limits : Limits) (comment : List ℕ) (replace : Bool) (bytes text : List ℕ) (f : FaultAt) → f.fault ≡ InputTooLong → f.at ≡ limits.input → limits.input ≤ length bytes → IsInserted limits (take (limits.input) bytes) comment replace text
+    → (more : List ℕ) → IsInsertFault limits (bytes ++ more) f.fault (f.at)
+long_anyhow limits comment replace bytes text f is at long h = λ more.
+    let same = sym (front_is (limits.input) bytes more long) in
+    let fault = long_inserted limits comment replace (bytes ++ more) text (omega (arith, long, length-append bytes more)) (subst (λ l. IsInserted limits l comment replace text) same h) in
+    subst (λ x. IsInsertFault limits (bytes ++ more) x (f.at)) (sym is) (subst (λ k. IsInsertFault limits (bytes ++ more) InputTooLong k) (sym at) fault)
+
 -- what an answer of `copy` says of all bytes
 abbrev pub AfterCopy : Limits → List ℕ → Bool → List ℕ → List ℕ → Result ℕ Stop → Type 0
 AfterCopy limits comment replace bytes text (Ok n) = (n ≡ length bytes) × (length bytes < limits.input) × IsInserted limits bytes comment replace text
@@ -97,7 +109,7 @@ copied limits comment replace bytes text rest old new taken most (Err (stop.Faul
     let long : limits.input ≤ length (bytes ++ rest) = omega (arith, many, is, same, length-append bytes rest) in
     let front : bytes ++ take n rest ≡ take (limits.input) (bytes ++ rest) = sym (take-append-add bytes rest n) ∙ ap (λ k. take k (bytes ++ rest)) all in
     let written = subst (λ l. IsInserted limits l comment replace (text ++ take n rest)) front (inserted_more limits comment replace bytes text (take n rest) h) in
-    let fault = subst (λ x. IsInsertFault limits (bytes ++ rest) x (f.at)) (sym copies.0) (subst (λ k. IsInsertFault limits (bytes ++ rest) InputTooLong k) (sym at) (long_inserted limits comment replace (bytes ++ rest) (text ++ take n rest) long written)) in
+    let fault = long_anyhow limits comment replace (bytes ++ rest) (text ++ take n rest) f copies.0 at long written in
     (take n rest, copies.3, (fault, inr (copies.0, subst (λ k. IsInserted limits (take k (bytes ++ rest)) comment replace (text ++ take n rest)) (sym at) written)))
 copied limits comment replace bytes text rest old new taken most (Err stop.NoMemory) same is least h copies =
     let all = text ++ [] in

@@ -1,7 +1,6 @@
 -- A file with a comment inserted, piece by piece.
-use Rattle.std.proofs.Common.{◌≡◌, ℕ, ◌+◌, ◌<◌, ◌≤◌, Bool, List, [], ◌∷◌, ◌++◌, length, take, drop, Option, Some, None, Ok, Err, refl, sym, ap, ◌∙◌, subst, arith, inl, inr, Result}
-use Rattle.std.proofs.lemmas.List.{append-nil}
-use Rattle.jpg_spec.specs.CommentText.{IsHeadFault, IsInserted, comment_segment}
+use Rattle.std.proofs.Common.{◌≡◌, ℕ, ◌<◌, ◌≤◌, Bool, List, [], ◌++◌, length, take, drop, Option, Some, None, Ok, Err, refl, sym, ◌∙◌, subst, arith, inl, Result}
+use Rattle.jpg_spec.specs.CommentText.{IsInserted, comment_segment}
 use Rattle.jpg_spec.specs.declared.frame.Limits.{Limits}
 use Rattle.jpg_base.specs.declared.names.NoMemory.{NoMemory}
 use Rattle.jpg_base.specs.declared.stop.Stop.{Stop}
@@ -9,10 +8,10 @@ use Rattle.jpg_base.specs.declared.stop.Stop.TheVariants as stop
 use Rattle.jpg_markers.specs.Reading.{Reading, reading_of}
 use Rattle.jpg_comments.specs.Appending.{AppendsText}
 use Rattle.jpg_comments.specs.Begun.{Appends}
-use Rattle.jpg_comments.specs.Inserting.{HasKept, IsAtFrame, AfterHeadPiece, Copies, InsertsPart, InsertsUpTo}
-use Rattle.jpg_comments.specs.WriteInserted.{StandsAt, HasInserted, AfterTake}
+use Rattle.jpg_comments.specs.Inserting.{HasKept, AfterHeadPiece, Copies, InsertsUpTo}
+use Rattle.jpg_comments.specs.WriteInserted.{StandsAt, HasInserted}
 use Rattle.jpg_comments.specs.declared.insert.Insert.{Insert}
-use Rattle.jpg_comments.proofs.Taken.{appends_none, appends_then, appends_as}
+use Rattle.jpg_comments.proofs.Taken.{appends_then}
 use Rattle.jpg_comments.proofs.ByPiece.{joined}
 use Rattle.jpg_comments.proofs.HeadByPieces.{AfterCopy, copied, whole_head, head_inserted, head_part}
 
@@ -37,7 +36,7 @@ by_limits c bytes piece new result next h answered =
 -- a fault there, or want of memory
 pub stops_before : (limits : Limits) (comment : List ℕ) (replace : Bool) (bytes piece text new : List ℕ) (e : Stop) (next : Reading) → text ≡ [] → AfterHeadPiece limits replace bytes piece (Err e) new next
     → InsertsUpTo limits comment replace (bytes ++ piece) text e
-stops_before limits comment replace bytes piece text new (stop.Fault f) next none h = (inl h, inl (none, h))
+stops_before limits comment replace bytes piece text new (stop.Fault f) next none h = (λ rest. inl (h rest), inl (none, h))
 stops_before limits comment replace bytes piece text new stop.NoMemory next none h = inl none
 
 -- more is wanted

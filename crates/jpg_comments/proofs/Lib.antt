@@ -4,5 +4,7 @@ pub mod ByPiece
 pub mod HeadByBytes
 pub mod HeadByPieces
 pub mod InsertedPieces
+pub mod OneAnswer
+pub mod OneWhole
 pub mod Shown
 pub mod Taken

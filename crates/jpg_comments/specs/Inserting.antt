@@ -1,5 +1,5 @@
 -- A file with one comment more, written as it is read (T.81 B.2.4.5, the manual of wrjpgcom in release 6b).
-use Rattle.std.specs.Prelude.{◌≡◌, ◌⊎◌, ℕ, ◌+◌, ◌-◌, ◌<◌, ◌≤◌, Bool, true, false, ◌&&◌, ◌==◌, if◌then◌else◌, List, [], ◌∷◌, ◌++◌, length, take, flat_map, Option, Some, None, Result, Ok, Err}
+use Rattle.std.specs.Prelude.{◌≡◌, ◌⊎◌, ℕ, ◌+◌, ◌-◌, ◌<◌, ◌≤◌, Bool, true, false, ◌&&◌, ◌==◌, if◌then◌else◌, List, [], ◌++◌, length, take, flat_map, Option, Some, None, Result, Ok, Err}
 use Rattle.jpg_spec.specs.FileText.{segment_text}
 use Rattle.jpg_spec.specs.Markers.{Segment, soi, has_frame}
 use Rattle.jpg_spec.specs.CommentText.{SomeSegments, IsHead, IsHeadFault, IsInsertFault, IsInserted, head_segments}
@@ -44,7 +44,7 @@ AfterHeadByte limits replace bytes (Err stop.NoMemory) head r = Unit {0}
 abbrev pub AfterHeadPiece : Limits → Bool → List ℕ → List ℕ → Result (Option ℕ) Stop → List ℕ → Reading → Type 0
 AfterHeadPiece limits replace bytes piece (Ok None) head r = HasKept limits replace (bytes ++ piece) head r × (length (bytes ++ piece) < limits.input)
 AfterHeadPiece limits replace bytes piece (Ok (Some used)) head r = IsAtFrame limits replace (bytes ++ take used piece) head r × (used ≤ length piece)
-AfterHeadPiece limits replace bytes piece (Err (stop.Fault f)) head r = IsHeadFault limits (bytes ++ piece) f.fault f.at
+AfterHeadPiece limits replace bytes piece (Err (stop.Fault f)) head r = (rest : List ℕ) → IsHeadFault limits (bytes ++ piece ++ rest) f.fault f.at
 AfterHeadPiece limits replace bytes piece (Err stop.NoMemory) head r = Unit {0}
 
 -- THE REST
@@ -62,9 +62,9 @@ abbrev pub InsertsPart : Limits → List ℕ → Bool → List ℕ → List ℕ 
 InsertsPart limits comment replace bytes text =
     (text ≡ []) ⊎ ((n : ℕ) × (front : ℕ) × (whole : List ℕ) × IsInserted limits (take front bytes) comment replace whole × (text ≡ take n whole))
 
--- A fault before the frame header's marker, where nothing was written, or too many bytes, of which those are written that may be taken.
+-- A fault before the frame header's marker, where nothing was written, or too many bytes, of which those are written that may be taken. It stands whatever follows.
 abbrev pub InsertsUpTo : Limits → List ℕ → Bool → List ℕ → List ℕ → Stop → Type 0
 InsertsUpTo limits comment replace bytes text (stop.Fault f) =
-    IsInsertFault limits bytes f.fault f.at
-    × (((text ≡ []) × IsHeadFault limits bytes f.fault f.at) ⊎ ((f.fault ≡ InputTooLong) × IsInserted limits (take f.at bytes) comment replace text))
+    ((rest : List ℕ) → IsInsertFault limits (bytes ++ rest) f.fault f.at)
+    × (((text ≡ []) × ((rest : List ℕ) → IsHeadFault limits (bytes ++ rest) f.fault f.at)) ⊎ ((f.fault ≡ InputTooLong) × IsInserted limits (take f.at bytes) comment replace text))
 InsertsUpTo limits comment replace bytes text stop.NoMemory = InsertsPart limits comment replace bytes text

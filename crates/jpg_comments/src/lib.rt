@@ -5,6 +5,7 @@
 mod comments;
 mod ends;
 mod insert;
+pub mod laws;
 mod printed;
 mod segment;
 

@@ -1,10 +1,9 @@
-use Rattle.std.proofs.Common.{◌≡◌, ◌+◌, ◌∷◌, [], ◌++◌, List, ℕ, Bool, Result, Ok, Err, refl, sym, subst}
+use Rattle.std.proofs.Common.{◌∷◌, [], ◌++◌, Ok, refl, subst}
 use Rattle.std.proofs.lemmas.Result.{err_from_is_err_and}
-use Rattle.jpg_spec.specs.Markers.{Segment, at_soi, at_part}
+use Rattle.jpg_spec.specs.Markers.{at_soi, at_part}
 use Rattle.jpg_base.specs.declared.stop.Stop.{Stop}
 use Rattle.jpg_markers.specs.declared.segments.SegStep.{SegStep}
 use Rattle.jpg_markers.specs.Reading.{reading_of, Comes, BehindWhole}
-use Rattle.jpg_comments.specs.Inserting.{AfterHeadByte}
 use Rattle.jpg_comments.proofs.HeadByBytes.{kept_on, kept_stop, kept_eoi, kept_frame, kept_whole}
 use Rattle.jpg_comments.proofs.insert.read_byte.Goals as goal
 

@@ -1,4 +1,4 @@
-use Rattle.std.proofs.Common.{rules, ◌≡◌, ◌∷◌, [], ◌++◌, ◌+◌, ◌∙◌, ℕ, List, Bool, Result, Ok, Err, true, false, take, get_or, refl, sym, ap, subst, arith}
+use Rattle.std.proofs.Common.{rules, ◌∷◌, [], ◌++◌, ◌+◌, ◌∙◌, Bool, Ok, Err, take, get_or, sym, ap, subst, arith}
 use Rattle.std.proofs.lemmas.Result.{err_from_is_err_and}
 use Rattle.jpg_base.specs.declared.stop.Stop.{Stop}
 use Rattle.jpg_markers.specs.Reading.{reading_of}

@@ -1,4 +1,4 @@
-use Rattle.std.proofs.Common.{◌≡◌, ◌∷◌, [], ◌++◌, List, ℕ, ◌∙◌, sym, ap}
+use Rattle.std.proofs.Common.{◌∷◌, [], ◌++◌}
 use Rattle.std.proofs.lemmas.List.{append_assoc}
 use Rattle.jpg_comments.proofs.Appended.{leaves_all, leaves_same, leaves_rest, leaves_none, leaves_still, at_exit, pushed}
 use Rattle.jpg_comments.proofs.insert.write_head.Goals as goal

@@ -1,13 +1,9 @@
-use Rattle.std.proofs.Common.{◌≡◌, ◌++◌, ◌∙◌, [], List, ℕ, Option, Some, None, Result, Ok, Err, refl, sym, ap, subst}
+use Rattle.std.proofs.Common.{◌≡◌, ◌++◌, ◌∙◌, ℕ, Option, Some, Ok, Err, refl, ap, subst}
 use Rattle.std.proofs.lemmas.List.{take_rest}
 use Rattle.std.proofs.lemmas.Result.{err_from_is_err_and}
-use Rattle.jpg_base.specs.declared.stop.Stop.TheVariants as stop
-use Rattle.jpg_base.specs.declared.stop.Stop.{Stop}
 use Rattle.jpg_markers.specs.Reading.{reading_of}
 use Rattle.jpg_comments.specs.Appending.{AppendsText}
-use Rattle.jpg_comments.specs.Begun.{Appends}
 use Rattle.jpg_comments.specs.Inserting.{AfterHeadPiece, Copies, InsertsUpTo}
-use Rattle.jpg_comments.specs.WriteInserted.{HasInserted}
 use Rattle.jpg_comments.proofs.Taken.{appends_none, appends_as}
 use Rattle.jpg_comments.proofs.HeadByPieces.{AfterCopy, whole_head}
 use Rattle.jpg_comments.proofs.InsertedPieces.{StandsWith, kept_of, by_limits, stops_before, goes_on_before, head_at, stops_at_head, copies_rest, goes_on_behind}

@@ -1,4 +1,4 @@
-use Rattle.std.proofs.Common.{◌≡◌, ℕ, ◌∙◌, Result, Err, sym, subst}
+use Rattle.std.proofs.Common.{ℕ, ◌∙◌, Err, sym, subst}
 use Rattle.jpg_spec.specs.CommentText.{IsHeadFault}
 use Rattle.jpg_spec.specs.declared.fault.Fault.TheVariants.{Truncated}
 use Rattle.jpg_base.specs.declared.stop.Stop.{Stop}

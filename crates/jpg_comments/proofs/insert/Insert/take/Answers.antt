@@ -1,9 +1,6 @@
-use Rattle.std.proofs.Common.{◌≡◌, ◌++◌, ◌∙◌, [], List, ℕ, Option, Some, None, Result, Ok, Err, refl, sym, ap, subst}
+use Rattle.std.proofs.Common.{◌++◌, Some, Ok, Err, refl}
 use Rattle.std.proofs.lemmas.Result.{err_from_is_err_and}
 use Rattle.jpg_markers.specs.Reading.{reading_of}
-use Rattle.jpg_comments.specs.Begun.{Appends}
-use Rattle.jpg_comments.specs.Inserting.{Copies, InsertsUpTo}
-use Rattle.jpg_comments.specs.WriteInserted.{HasInserted}
 use Rattle.jpg_comments.proofs.Taken.{appends_as}
 use Rattle.jpg_comments.proofs.HeadByPieces.{AfterCopy}
 use Rattle.jpg_comments.proofs.InsertedPieces.{StandsWith, copies_more, goes_on_behind}
