@@ -15,9 +15,10 @@ use jpg_markers::{SegStep, SegmentReader};
 use jpg_spec::{Fault, FaultAt, Limits};
 use std::alloc::Global;
 
-// The most bytes of a comment that is inserted, and of a segment's contents.
+// The most bytes of a comment that is inserted.
 const LONGEST_COMMENT: usize = 65_000;
 
+// The most bytes of a segment's contents.
 const LONGEST: usize = 65_533;
 
 /// Inserts a comment before the frame header of a file (SOF0, SOF1 or SOF2).
