@@ -1,2 +1,5 @@
 pub mod Appended
+pub mod ByByte
+pub mod ByPiece
 pub mod Shown
+pub mod Taken

@@ -1,2 +1,5 @@
 pub mod Appending
+pub mod Begun
 pub mod Pieces
+pub mod Printing
+pub mod ReadComments

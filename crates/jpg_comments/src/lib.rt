@@ -2,9 +2,12 @@
 //! (T.81 B.2.4.5, the manuals of both commands in release 6b).
 #![tactic(auto)]
 
+mod comments;
+mod ends;
 mod printed;
 mod segment;
 
+pub use comments::Comments;
 pub use printed::append_printed;
 pub use segment::append_segment;
 

@@ -1,0 +1,134 @@
+-- The text of the comments, byte by byte.
+use Rattle.std.proofs.Common.{◌≡◌, ℕ, ◌+◌, ◌<◌, Bool, true, false, not, ◌||◌, ◌==◌, List, [], ◌∷◌, ◌++◌, length, take, Ok, Err, refl, sym, ap, ◌∙◌, subst, arith, inl, inr, Result}
+use Rattle.std.proofs.lemmas.Bool.Decides.{nat_tests}
+use Rattle.std.proofs.lemmas.List.{append-nil, length-append, take_all}
+use Rattle.std.proofs.Math.Seq.{take-append-add}
+use Rattle.jpg_spec.specs.Markers.{Segment, kept_rule, has_scan, SpellsSegments, Pass, SegmentsShow, Reached, at_soi, at_frame, at_eoi, at_segment, at_fault, at_part, Reaches}
+use Rattle.jpg_spec.specs.CommentText.{comments_text, IsReadWhole}
+use Rattle.jpg_spec.specs.declared.frame.Limits.{Limits}
+use Rattle.jpg_base.specs.declared.stop.Stop.{Stop}
+use Rattle.jpg_base.specs.declared.stop.Stop.TheVariants as stop
+use Rattle.jpg_markers.specs.declared.segments.Phase.TheVariants as phase
+use Rattle.jpg_markers.specs.declared.segments.SegStep.TheVariants as step
+use Rattle.jpg_markers.specs.Reading.{Reading, AtPhase, StandsFor, ShowsBehind, EndsBehind, Comes}
+use Rattle.jpg_comments.specs.Begun.{IsBegun, Appends}
+use Rattle.jpg_comments.specs.Printing.{HoldsWhole, HasPrinted, PrintsWhole, PrintsSegment, due_text, AfterByte}
+use Rattle.jpg_comments.proofs.Taken.{Tells, nothing_first, taken_on, shows_first, begun, whole_front}
+
+-- WHERE A FILE IS WHOLE: at EOI, and at the end of a scan header
+
+abbrev pub reads_on : Reached → Bool
+reads_on at_soi = true
+reads_on at_frame = true
+reads_on at_eoi = false
+reads_on (at_segment s) = not (s.0 == 0xda)
+reads_on (at_fault f) = false
+reads_on at_part = true
+
+pub read_wholes : (limits : Limits) (bytes : List ℕ) (before : List Segment) → IsReadWhole limits bytes before → (y : Reached) × Reaches (kept_rule limits) bytes y × (reads_on y ≡ false)
+read_wholes limits bytes before (inl h) = (at_segment (0xda, h.0), (before, h.1, h.2), refl)
+read_wholes limits bytes before (inr h) = (at_eoi, (before, h.0, h.1, h.2, h.3), refl)
+
+abbrev pub reading_tells : (limits : Limits) → Tells limits (HoldsWhole limits)
+reading_tells limits = record { goes = reads_on; faulty = λ f. refl; wholes = λ bytes w. read_wholes limits bytes w.0 w.1 }
+
+-- at the start
+pub printed_start : (limits : Limits) (r : Reading) → StandsFor [] [] r → r.limits ≡ limits → r.taken ≡ 0 → HasPrinted limits [] [] r
+printed_start limits r stands same none = (
+  [],
+  record { stands = stands; limited = same; taken = none; most = omega (arith, none); nothing = nothing_first limits (HoldsWhole limits) (reading_tells limits) refl },
+  refl,
+  refl,
+)
+
+-- A BYTE
+
+-- nothing is whole with it
+pub printed_on : (limits : Limits) (r next : Reading) (bytes text : List ℕ) (byte : ℕ) (x : Reached) (h : HasPrinted limits bytes text r) → r.taken < limits.input → next.limits ≡ r.limits → next.taken ≡ r.taken + 1
+    → reads_on x ≡ true → Reaches (kept_rule next.limits) (bytes ++ byte ∷ []) x → StandsFor (bytes ++ byte ∷ []) h.0 next → HasPrinted limits (bytes ++ byte ∷ []) text next
+printed_on limits r next bytes text byte x h short same one going reaches stands =
+    (h.0, taken_on limits (HoldsWhole limits) (reading_tells limits) r next bytes byte h.0 h.0 x h.1 short same one going reaches stands, h.2, h.3)
+
+-- EOI
+pub printed_eoi : (limits : Limits) (r next : Reading) (bytes text : List ℕ) (byte : ℕ) (h : HasPrinted limits bytes text r) → r.taken < limits.input → next.limits ≡ r.limits
+    → EndsBehind (kept_rule next.limits) h.0 (bytes ++ byte ∷ []) → PrintsWhole limits (bytes ++ byte ∷ []) text
+printed_eoi limits r next bytes text byte h short same ends =
+    let e : next.limits ≡ limits = same ∙ h.1.limited in
+    let k = subst (λ l. EndsBehind (kept_rule l) h.0 (bytes ++ byte ∷ [])) e ends in
+    let was = h.1.taken in
+    (h.0, inr (k.0, k.1, k.2, k.3, h.2), h.3, omega (arith, was, short, length-append bytes (byte ∷ [])))
+
+-- a fault, or want of memory
+pub printed_stop : (limits : Limits) (r next : Reading) (bytes text : List ℕ) (byte : ℕ) (e : Stop) (h : HasPrinted limits bytes text r) → r.taken < limits.input → next.limits ≡ r.limits → next.taken ≡ r.taken + 1
+    → Comes (bytes ++ byte ∷ []) h.0 (Err e) next → AfterByte limits (bytes ++ byte ∷ []) text (Err e) next
+printed_stop limits r next bytes text byte (stop.Fault f) h short same one comes =
+    let e : next.limits ≡ limits = same ∙ h.1.limited in
+    let was = h.1.taken in
+    let at = comes.2 in
+    let all = bytes ++ byte ∷ [] in
+    let k = subst (λ l. SegmentsShow (kept_rule l) f.fault all) e comes.0 in (
+      shows_first limits (HoldsWhole limits) bytes byte f.fault h.1.nothing (omega (arith, was, short)) k,
+      omega (arith, at, one, was, length-append bytes (byte ∷ [])),
+      (h.0, inl (subst (λ l. ShowsBehind (kept_rule l) h.0 f.fault all) e comes.1), h.3),
+    )
+printed_stop limits r next bytes text byte stop.NoMemory h short same one comes =
+    let all = comments_text h.0 in (
+      length all,
+      length bytes,
+      h.0,
+      subst (λ l. IsBegun (kept_rule limits) l h.0) (sym (whole_front bytes (byte ∷ []))) (begun limits r bytes h.0 h.1.limited h.1.stands),
+      h.3 ∙ sym (take_all (length all) all (omega arith)),
+    )
+
+-- A SEGMENT
+
+-- with the bytes of a segment that is whole
+pub printed_whole : (limits : Limits) (r next : Reading) (bytes text old new : List ℕ) (byte : ℕ) (result : Result Bool Stop) (h : HasPrinted limits bytes text r)
+    → r.taken < limits.input → next.limits ≡ r.limits → next.taken ≡ r.taken + 1 → next.phase ≡ phase.Between
+    → Comes (bytes ++ byte ∷ []) h.0 (Ok step.Whole) next → PrintsSegment next.code next.contents result old new
+    → Appends (λ all. AfterByte limits (bytes ++ byte ∷ []) all result next) text old new
+printed_whole limits r next bytes text old new byte (Ok true) h short same one between comes prints =
+    let e : next.limits ≡ limits = same ∙ h.1.limited in
+    let was = h.1.taken in
+    let all = bytes ++ byte ∷ [] in
+    let code : next.code ≡ 0xda = grind (arith, nat_tests, prints) in
+    let none : due_text next.code next.contents ≡ [] = ap (λ k. due_text k next.contents) code in
+    let at = subst (λ p. AtPhase next p all ((next.code, next.contents) ∷ h.0)) between comes.1.1 in
+    let spelled : SpellsSegments ((next.code, next.contents) ∷ h.0) all = subst (λ l. SpellsSegments ((next.code, next.contents) ∷ h.0) l) (sym (at.1.cut ∙ ap (λ t. at.1.front ++ t) at.3 ∙ append-nil at.1.front)) at.1.spelled in
+    let passed = subst (λ l. Pass (kept_rule l) ((next.code, next.contents) ∷ h.0)) e at.1.passed in (
+      [],
+      prints.1 ∙ ap (λ l. old ++ l) none,
+      (
+        h.0,
+        inl (next.contents, subst (λ k. SpellsSegments ((k, next.contents) ∷ h.0) all) code spelled, subst (λ k. Pass (kept_rule limits) ((k, next.contents) ∷ h.0)) code passed, h.2),
+        append-nil text ∙ h.3,
+        omega (arith, was, short, length-append bytes (byte ∷ [])),
+      ),
+    )
+printed_whole limits r next bytes text old new byte (Ok false) h short same one between comes prints =
+    let due = due_text next.code next.contents in (
+      due,
+      prints.1,
+      (
+        (next.code, next.contents) ∷ h.0,
+        taken_on limits (HoldsWhole limits) (reading_tells limits) r next bytes byte h.0 ((next.code, next.contents) ∷ h.0) (at_segment (next.code, next.contents)) h.1 short same one (ap not (sym prints.0)) comes.0 comes.1,
+        ap (λ b. b || has_scan h.0) (sym prints.0) ∙ h.2,
+        ap (λ l. l ++ due) h.3,
+      ),
+    )
+printed_whole limits r next bytes text old new byte (Err (stop.Fault f)) h short same one between comes prints = absurd prints
+printed_whole limits r next bytes text old new byte (Err stop.NoMemory) h short same one between comes prints =
+    let due = due_text next.code next.contents in
+    let all = bytes ++ byte ∷ [] in
+    let known = comments_text h.0 in (
+      take prints.0 due,
+      prints.1,
+      (
+        length known + prints.0,
+        length all,
+        (next.code, next.contents) ∷ h.0,
+        subst (λ l. IsBegun (kept_rule limits) l ((next.code, next.contents) ∷ h.0)) (sym (take_all (length all) all (omega arith)))
+            (begun limits next all ((next.code, next.contents) ∷ h.0) (same ∙ h.1.limited) comes.1),
+        ap (λ l. l ++ take prints.0 due) h.3 ∙ sym (take-append-add known due prints.0),
+      ),
+    )

@@ -1,0 +1,34 @@
+-- A file as far as it was read, segment by segment (T.81 B.1.1.2 to B.1.1.4).
+use Rattle.std.specs.Prelude.{◌≡◌, ◌⊎◌, ℕ, ◌<◌, ◌≤◌, true, List, [], ◌∷◌, ◌++◌, length, take}
+use Rattle.jpg_spec.specs.Markers.{Segment, Rule, kept_rule, is_frame_code, Between, BeginsSegment, PartOfSegment, SegmentsShow}
+use Rattle.jpg_spec.specs.CommentText.{ShowsNothing}
+use Rattle.jpg_spec.specs.declared.fault.Fault.{Fault}
+use Rattle.jpg_spec.specs.declared.frame.Limits.{Limits}
+use Rattle.jpg_markers.specs.Reading.{Reading, StandsFor, ShowsBehind}
+
+-- These segments are whole, and the bytes behind them begin one more, or are none.
+abbrev pub IsBegun : Rule → List ℕ → List Segment → Type 0
+IsBegun rule bytes before =
+    ((before ≡ []) × ((bytes ≡ []) ⊎ (bytes ≡ 255 ∷ [])))
+    ⊎ ((tail : List ℕ) × Between rule bytes before tail × (PartOfSegment before tail ⊎ ((code : ℕ) × BeginsSegment before code tail × (is_frame_code code ≡ true))))
+
+-- These are the whole segments before the fault that the bytes show with their last one, or else of bytes that show none.
+abbrev pub AreWholeBefore : Limits → List ℕ → Fault → List Segment → Type 0
+AreWholeBefore limits bytes fault before = ShowsBehind (kept_rule limits) before fault bytes ⊎ IsBegun (kept_rule limits) bytes before
+
+-- A reader was given these bytes, no front of which shows a fault or is whole. The whole segments among them are these.
+pub record HasTaken (limits : Limits) (is_whole : List ℕ → Type 0) (bytes : List ℕ) (before : List Segment) (r : Reading) : Type 0 where
+  pub stands : StandsFor bytes before r
+  pub limited : r.limits ≡ limits
+  pub taken : r.taken ≡ length bytes
+  pub most : r.taken ≤ limits.input
+  pub nothing : ShowsNothing limits is_whole bytes
+
+-- More text was appended, of which with the text before it this is so.
+abbrev pub Appends : (List ℕ → Type 0) → List ℕ → List ℕ → List ℕ → Type 0
+Appends P text old new = (more : List ℕ) × (new ≡ old ++ more) × P (text ++ more)
+
+-- Of bytes that a reader takes one by one the last shows this fault, and no front is whole.
+abbrev pub ShowsFirst : Limits → (List ℕ → Type 0) → List ℕ → Fault → Type 0
+ShowsFirst limits is_whole bytes fault =
+    ((m : ℕ) → m < length bytes → is_whole (take m bytes) → ⊥) × (length bytes ≤ limits.input) × SegmentsShow (kept_rule limits) fault bytes

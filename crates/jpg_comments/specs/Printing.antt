@@ -1,0 +1,62 @@
+-- The comments of a file, printed as they come (T.81 B.2.4.5, the manual of rdjpgcom in release 6b).
+use Rattle.std.specs.Prelude.{◌≡◌, ℕ, ◌<◌, ◌≤◌, Bool, true, false, List, [], ◌++◌, length, take, Result, Ok, Err, ◌==◌, if◌then◌else◌}
+use Rattle.jpg_spec.specs.Markers.{Segment, kept_rule, has_scan}
+use Rattle.jpg_spec.specs.CommentText.{printed, comments_text, IsReadWhole, SomeSegments, IsReadFault}
+use Rattle.jpg_spec.specs.declared.fault.Fault.{Fault}
+use Rattle.jpg_spec.specs.declared.frame.Limits.{Limits}
+use Rattle.jpg_base.specs.declared.stop.Fed.{Fed}
+use Rattle.jpg_base.specs.declared.stop.Fed.TheVariants as fed
+use Rattle.jpg_base.specs.declared.stop.Stop.{Stop}
+use Rattle.jpg_base.specs.declared.stop.Stop.TheVariants as stop
+use Rattle.jpg_markers.specs.Reading.{Reading}
+use Rattle.jpg_comments.specs.Begun.{IsBegun, AreWholeBefore, HasTaken, ShowsFirst}
+
+-- these bytes hold a whole file, of this reading's sense
+abbrev pub HoldsWhole : Limits → List ℕ → Type 0
+HoldsWhole limits bytes = SomeSegments (IsReadWhole limits bytes)
+
+-- The text of the comments among the bytes that were given to a reader.
+abbrev pub HasPrinted : Limits → List ℕ → List ℕ → Reading → Type 0
+HasPrinted limits bytes text r = (before : List Segment) × HasTaken limits (HoldsWhole limits) bytes before r × (has_scan before ≡ false) × (text ≡ comments_text before)
+
+-- WHAT IS APPENDED with further bytes
+
+-- the text of the comments of a whole file
+abbrev pub PrintsWhole : Limits → List ℕ → List ℕ → Type 0
+PrintsWhole limits bytes text = (before : List Segment) × IsReadWhole limits bytes before × (text ≡ comments_text before) × (length bytes ≤ limits.input)
+
+-- the text of the comments that were whole before a fault
+abbrev pub PrintsBefore : Limits → List ℕ → Fault → List ℕ → Type 0
+PrintsBefore limits bytes fault text = (before : List Segment) × AreWholeBefore limits bytes fault before × (text ≡ comments_text before)
+
+-- a first part of the text of the comments of a front
+abbrev pub PrintsPart : Limits → List ℕ → List ℕ → Type 0
+PrintsPart limits bytes text =
+    (n : ℕ) × (front : ℕ) × (before : List Segment) × IsBegun (kept_rule limits) (take front bytes) before × (text ≡ take n (comments_text before))
+
+-- with a byte more
+abbrev pub AfterByte : Limits → List ℕ → List ℕ → Result Bool Stop → Reading → Type 0
+AfterByte limits bytes text (Ok false) r = HasPrinted limits bytes text r
+AfterByte limits bytes text (Ok true) r = PrintsWhole limits bytes text
+AfterByte limits bytes text (Err (stop.Fault f)) r = ShowsFirst limits (HoldsWhole limits) bytes f.fault × (f.at ≡ length bytes) × PrintsBefore limits bytes f.fault text
+AfterByte limits bytes text (Err stop.NoMemory) r = PrintsPart limits bytes text
+
+-- with a piece more, by the reader that is left
+abbrev pub AfterPiece : Limits → List ℕ → List ℕ → List ℕ → Result Fed Stop → Reading → Type 0
+AfterPiece limits bytes piece text (Ok fed.More) r = HasPrinted limits (bytes ++ piece) text r × (length (bytes ++ piece) < limits.input)
+AfterPiece limits bytes piece text (Ok (fed.Done used)) r = PrintsWhole limits (bytes ++ take used piece) text × (1 ≤ used) × (used ≤ length piece)
+AfterPiece limits bytes piece text (Err (stop.Fault f)) r =
+    IsReadFault limits (bytes ++ piece) f.fault f.at × PrintsBefore limits (take f.at (bytes ++ piece)) f.fault text
+AfterPiece limits bytes piece text (Err stop.NoMemory) r = PrintsPart limits (bytes ++ piece) text
+
+-- A SEGMENT
+
+-- what is printed of a segment
+abbrev pub due_text : ℕ → List ℕ → List ℕ
+due_text code contents = if code == 0xfe then printed contents else []
+
+-- It is printed, and the answer tells whether it is the header of a scan.
+abbrev pub PrintsSegment : ℕ → List ℕ → Result Bool Stop → List ℕ → List ℕ → Type 0
+PrintsSegment code contents (Ok scan) old new = (scan ≡ (code == 0xda)) × (new ≡ old ++ due_text code contents)
+PrintsSegment code contents (Err (stop.Fault f)) old new = ⊥
+PrintsSegment code contents (Err stop.NoMemory) old new = (n : ℕ) × (new ≡ old ++ take n (due_text code contents))

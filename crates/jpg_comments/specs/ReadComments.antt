@@ -1,0 +1,38 @@
+-- The comments of a file that is fed piece by piece (T.81 B.2.4.5, the manual of rdjpgcom in release 6b).
+use Rattle.std.specs.Prelude.{◌≡◌, ℕ, ◌<◌, ◌≤◌, Bool, true, false, List, ◌++◌, length, take, Result, Ok, Err, None}
+use Rattle.jpg_spec.specs.CommentText.{IsReadFault}
+use Rattle.jpg_spec.specs.declared.frame.Limits.{Limits}
+use Rattle.jpg_base.specs.declared.stop.Fed.{Fed}
+use Rattle.jpg_base.specs.declared.stop.Fed.TheVariants as fed
+use Rattle.jpg_base.specs.declared.stop.Stop.{Stop}
+use Rattle.jpg_base.specs.declared.stop.Stop.TheVariants as stop
+use Rattle.jpg_markers.specs.Reading.{reading_of}
+use Rattle.jpg_comments.specs.Printing.{HasPrinted, PrintsWhole, PrintsBefore, PrintsPart}
+use Rattle.jpg_comments.specs.declared.comments.Comments.{Comments}
+
+-- The file is whole: neither `feed` nor `end` may be called any more.
+abbrev pub is_done : Comments → Bool
+is_done c = c.done
+
+-- The bytes were fed, and the text was appended for them. No front of them is whole or shows a fault, and more may come.
+abbrev pub HasRead : List ℕ → List ℕ → Comments → Type 0
+HasRead bytes text c = (c.stop ≡ None) × (c.done ≡ false) × (length bytes < c.limits.input) × HasPrinted c.limits bytes text (reading_of c.reader)
+
+-- THE ANSWER to a piece that is fed, by all bytes so far and by the whole text that was appended for them
+abbrev pub AfterFeed : List ℕ → List ℕ → List ℕ → Result Fed Stop → Comments → Type 0
+AfterFeed bytes piece text (Ok fed.More) c = HasRead (bytes ++ piece) text c
+AfterFeed bytes piece text (Ok (fed.Done used)) c = PrintsWhole c.limits (bytes ++ take used piece) text × (1 ≤ used) × (used ≤ length piece)
+AfterFeed bytes piece text (Err (stop.Fault f)) c =
+    IsReadFault c.limits (bytes ++ piece) f.fault f.at × PrintsBefore c.limits (take f.at (bytes ++ piece)) f.fault text
+AfterFeed bytes piece text (Err stop.NoMemory) c = PrintsPart c.limits (bytes ++ piece) text
+
+-- a fault of bytes that end
+abbrev pub StopsAt : Limits → List ℕ → Stop → Type 0
+StopsAt limits bytes (stop.Fault f) = IsReadFault limits bytes f.fault f.at
+StopsAt limits bytes stop.NoMemory = ⊥
+
+-- the word that keeps `done`
+abbrev pub EndsDone : Result Fed Stop → Comments → Type 0
+EndsDone (Ok fed.More) c = c.done ≡ false
+EndsDone (Ok (fed.Done used)) c = c.done ≡ true
+EndsDone (Err e) c = c.done ≡ false

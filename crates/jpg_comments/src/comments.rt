@@ -1,0 +1,145 @@
+// The comments of a file, read piece by piece (T.81 B.2.4.5).
+ghost use Rattle.std.specs.Prelude.{◌≡◌, ◌<◌, ◌++◌, ◌∷◌, [], ℕ, List, Some, None, true, false, Ok, Err};
+ghost use Rattle.jpg_spec.specs.FrameHeader.{AreLimits};
+ghost use Rattle.jpg_base.specs.declared.stop.Stop.{Stop as Stopped};
+ghost use Rattle.jpg_base.specs.declared.stop.Fed.TheVariants as fed;
+ghost use Rattle.jpg_markers.specs.Reading.{reading_of};
+ghost use Rattle.jpg_comments.specs.Begun.{Appends};
+ghost use Rattle.jpg_comments.specs.Printing.{HasPrinted, PrintsSegment, AfterByte, AfterPiece};
+
+use crate::append_printed;
+use crate::ends::{too_long, truncated};
+use jpg_base::{Bytes, Fed, Stop};
+use jpg_markers::{SegStep, SegmentReader};
+use jpg_spec::Limits;
+use std::alloc::Global;
+
+/// Reads the comments of a file up to its first scan, or up to EOI before any, and prints them.
+#[derive(Drop)]
+pub struct Comments {
+    limits: Limits,
+    reader: SegmentReader,
+    done: bool,
+    stop: Option<Stop>,
+    ghost limited: { (reading_of reader).limits ≡ limits },
+}
+
+impl Comments {
+    ghost use Rattle.jpg_comments.specs.ReadComments.{is_done, EndsDone, HasRead, AfterFeed, StopsAt};
+
+    /// A reader that was given no bytes. It takes no memory yet.
+    pub fn new(alloc: Global, limits: Limits) -> Comments
+        requires { AreLimits limits }
+        ensures read { HasRead [] [] result }
+        ensures done { is_done result ≡ false }
+        ensures limits { result.limits ≡ limits }
+    {
+        Comments {
+            limits,
+            reader: SegmentReader::new(alloc, limits),
+            done: false,
+            stop: None,
+        }
+    }
+
+    /// Takes a further piece of the file, of any length, and appends the text of each comment that is
+    /// whole with it. It answers Done with the end of the first scan header or with an EOI before
+    /// any, and tells how many bytes of the piece were used; what is behind these isn't looked at.
+    /// Else it answers the fault that the bytes so far show, at the number of bytes taken: NotJpeg,
+    /// NoMarker, UnexpectedMarker, UnsupportedProcess, SecondFrame, SosBeforeSof, BadLength (a length
+    /// below 2) or MarkersTooLarge; and InputTooLong where as many bytes were taken as may be. Else it
+    /// answers More. On a fault the text of the comments that were whole before it is appended, and
+    /// where memory is wanting a first part of such a text. After a stop it answers the same stop.
+    pub fn feed(&mut self, piece: &[u8], out: &mut Bytes) -> Result<Fed, Stop>
+        requires { is_done self.old ≡ false }
+        ensures answered { (bytes text : List ℕ) → HasRead bytes text self.old → Appends (λ all. AfterFeed bytes piece.now all result self.new) text out.old out.new }
+        ensures done { EndsDone result self.new }
+        ensures stopped { (stop : Stopped) → result ≡ Err stop → self.new.stop ≡ Some stop }
+        ensures again { (stop : Stopped) → self.old.stop ≡ Some stop → (result ≡ Err stop) × (self.new ≡ self.old) × (out.new ≡ out.old) }
+        ensures limits { self.new.limits ≡ self.old.limits }
+    {
+        if let Some(stop) = self.stop {
+            return Err(stop);
+        }
+        let answer = read_piece(&mut self.reader, self.limits.input, piece, out);
+        match answer {
+            Ok(Fed::More) => {}
+            Ok(Fed::Done { .. }) => self.done = true,
+            Err(stop) => self.stop = Some(stop),
+        }
+        answer
+    }
+
+    /// The file ends here. It answers Truncated at the number of bytes taken, or the earlier stop.
+    pub fn end(&mut self) -> Stop
+        requires { is_done self.old ≡ false }
+        ensures answered { (bytes text : List ℕ) → HasRead bytes text self.old → StopsAt self.old.limits bytes result }
+        ensures done { is_done self.new ≡ false }
+        ensures stopped { self.new.stop ≡ Some result }
+        ensures again { (stop : Stopped) → self.old.stop ≡ Some stop → (result ≡ stop) × (self.new ≡ self.old) }
+        ensures limits { self.new.limits ≡ self.old.limits }
+    {
+        if let Some(stop) = self.stop {
+            return stop;
+        }
+        let stop = truncated(self.reader.taken());
+        self.stop = Some(stop);
+        stop
+    }
+}
+
+// Reads the bytes of a piece up to the one that makes the file whole.
+fn read_piece(
+    reader: &mut SegmentReader,
+    most: u64,
+    piece: &[u8],
+    out: &mut Bytes,
+) -> Result<Fed, Stop>
+    requires { (reading_of reader.old).limits.input ≡ most }
+    ensures answered { (bytes text : List ℕ) → HasPrinted (reading_of reader.old).limits bytes text (reading_of reader.old) → Appends (λ all. AfterPiece (reading_of reader.old).limits bytes piece.now all result (reading_of reader.new)) text out.old out.new }
+    ensures limits { (reading_of reader.new).limits ≡ (reading_of reader.old).limits }
+{
+    let mut used = 0;
+    for byte in piece {
+        if reader.taken() >= most {
+            return Err(too_long(most));
+        }
+        used += 1;
+        if read_byte(reader, *byte, out)? {
+            return Ok(Fed::Done { used });
+        }
+    }
+    if reader.taken() >= most {
+        return Err(too_long(most));
+    }
+    Ok(Fed::More)
+}
+
+// Reads a byte, and tells whether the file is whole with it.
+fn read_byte(reader: &mut SegmentReader, byte: u8, out: &mut Bytes) -> Result<bool, Stop>
+    requires { (reading_of reader.old).taken < (reading_of reader.old).limits.input }
+    ensures answered { (bytes text : List ℕ) → HasPrinted (reading_of reader.old).limits bytes text (reading_of reader.old) → Appends (λ all. AfterByte (reading_of reader.old).limits (bytes ++ byte ∷ []) all result (reading_of reader.new)) text out.old out.new }
+    ensures limits { (reading_of reader.new).limits ≡ (reading_of reader.old).limits }
+{
+    match reader.byte(byte)? {
+        SegStep::Whole => print_segment(reader, out),
+        SegStep::Eoi => Ok(true),
+        SegStep::More => Ok(false),
+        SegStep::Start => Ok(false),
+        SegStep::Frame => Ok(false),
+    }
+}
+
+// Prints the last segment, where it is a comment, and tells whether it is the header of a scan.
+fn print_segment(reader: &SegmentReader, out: &mut Bytes) -> Result<bool, Stop>
+    ensures { PrintsSegment (reading_of reader.now).code (reading_of reader.now).contents result out.old out.new }
+{
+    let code = reader.code();
+    if code == 0xfe {
+        append_printed(reader.contents(), out)?;
+    }
+    Ok(code == 0xda)
+}
+
+#[cfg(test)]
+mod tests;
