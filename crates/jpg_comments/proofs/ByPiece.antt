@@ -27,6 +27,10 @@ one_more bytes piece i h = ap (λ l. bytes ++ l) (take_more piece i 0 h) ∙ sym
 pub all_of_it : (bytes piece : List ℕ) (i : ℕ) → length piece ≤ i → bytes ++ take i piece ≡ bytes ++ piece
 all_of_it bytes piece i h = ap (λ l. bytes ++ l) (take_all i piece h)
 
+-- with more behind them
+and_more : (bytes piece all rest more : List ℕ) → bytes ++ piece ≡ all ++ rest → (bytes ++ piece) ++ more ≡ all ++ (rest ++ more)
+and_more bytes piece all rest more cut = ap (λ l. l ++ more) cut ∙ append_assoc all rest more
+
 -- a front of a front
 front_longer : (n : ℕ) (all rest : List ℕ) → take (min n (length all)) (all ++ rest) ≡ take n all
 front_longer n all rest = front_is (min n (length all)) all rest (omega arith) ∙ take_min n all
@@ -40,9 +44,9 @@ part_longer limits all rest text h = (h.0, min h.1 (length all), h.2, subst (λ 
 stopped_longer : (limits : Limits) (bytes piece all rest text : List ℕ) (e : Stop) (r next : Reading) → bytes ++ piece ≡ all ++ rest → AfterByte limits all text (Err e) r → AfterPiece limits bytes piece text (Err e) next
 stopped_longer limits bytes piece all rest text (stop.Fault f) r next cut h =
     let n = h.1 in
-    let fault = first_fault limits (HoldsWhole limits) all rest f.fault h.0 in
     let front : take (f.at) (bytes ++ piece) ≡ all = ap (λ l. take (f.at) l) cut ∙ ap (λ k. take k (all ++ rest)) n ∙ whole_front all rest in (
-      subst (λ l. IsReadFault limits l f.fault (f.at)) (sym cut) (subst (λ k. IsReadFault limits (all ++ rest) f.fault k) (sym n) fault),
+      (λ more. subst (λ l. IsReadFault limits l f.fault (f.at)) (sym (and_more bytes piece all rest more cut))
+      (subst (λ k. IsReadFault limits (all ++ (rest ++ more)) f.fault k) (sym n) (first_fault limits (HoldsWhole limits) all (rest ++ more) f.fault h.0))),
       subst (λ l. PrintsBefore limits l f.fault text) (sym front) h.2,
     )
 stopped_longer limits bytes piece all rest text stop.NoMemory r next cut h = subst (λ l. PrintsPart limits l text) (sym cut) (part_longer limits all rest text h)
@@ -61,9 +65,9 @@ piece_long limits bytes piece text i most r next same many h =
     let rest = drop i piece in
     let cut = joined bytes piece i in
     let long : length front ≡ limits.input = omega (arith, taken, least, many, same) in
-    let fault = long_fault limits (HoldsWhole limits) front rest long h.1.nothing in
     let is : take most (bytes ++ piece) ≡ front = ap (λ l. take most l) cut ∙ ap (λ k. take k (front ++ rest)) (sym same ∙ sym long) ∙ whole_front front rest in (
-      subst (λ l. IsReadFault limits l InputTooLong most) (sym cut) (subst (λ k. IsReadFault limits (front ++ rest) InputTooLong k) same fault),
+      (λ more. subst (λ l. IsReadFault limits l InputTooLong most) (sym (and_more bytes piece front rest more cut))
+      (subst (λ k. IsReadFault limits (front ++ (rest ++ more)) InputTooLong k) same (long_fault limits (HoldsWhole limits) front (rest ++ more) long h.1.nothing))),
       (h.0, subst (λ l. AreWholeBefore limits l InputTooLong h.0) (sym is) (inr (begun limits r front h.0 h.1.limited h.1.stands)), h.3),
     )
 

@@ -34,6 +34,10 @@ abbrev pub PrintsPart : Limits → List ℕ → List ℕ → Type 0
 PrintsPart limits bytes text =
     (n : ℕ) × (front : ℕ) × (before : List Segment) × IsBegun (kept_rule limits) (take front bytes) before × (text ≡ take n (comments_text before))
 
+-- Every file that begins with these bytes has this first fault.
+abbrev pub IsFaultOf : Limits → List ℕ → Fault → ℕ → Type 0
+IsFaultOf limits bytes fault n = (more : List ℕ) → IsReadFault limits (bytes ++ more) fault n
+
 -- with a byte more
 abbrev pub AfterByte : Limits → List ℕ → List ℕ → Result Bool Stop → Reading → Type 0
 AfterByte limits bytes text (Ok false) r = HasPrinted limits bytes text r
@@ -46,7 +50,7 @@ abbrev pub AfterPiece : Limits → List ℕ → List ℕ → List ℕ → Result
 AfterPiece limits bytes piece text (Ok fed.More) r = HasPrinted limits (bytes ++ piece) text r × (length (bytes ++ piece) < limits.input)
 AfterPiece limits bytes piece text (Ok (fed.Done used)) r = PrintsWhole limits (bytes ++ take used piece) text × (1 ≤ used) × (used ≤ length piece)
 AfterPiece limits bytes piece text (Err (stop.Fault f)) r =
-    IsReadFault limits (bytes ++ piece) f.fault f.at × PrintsBefore limits (take f.at (bytes ++ piece)) f.fault text
+    IsFaultOf limits (bytes ++ piece) f.fault f.at × PrintsBefore limits (take f.at (bytes ++ piece)) f.fault text
 AfterPiece limits bytes piece text (Err stop.NoMemory) r = PrintsPart limits (bytes ++ piece) text
 
 -- A SEGMENT

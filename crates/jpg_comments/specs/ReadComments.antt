@@ -7,7 +7,7 @@ use Rattle.jpg_base.specs.declared.stop.Fed.TheVariants as fed
 use Rattle.jpg_base.specs.declared.stop.Stop.{Stop}
 use Rattle.jpg_base.specs.declared.stop.Stop.TheVariants as stop
 use Rattle.jpg_markers.specs.Reading.{reading_of}
-use Rattle.jpg_comments.specs.Printing.{HasPrinted, PrintsWhole, PrintsBefore, PrintsPart}
+use Rattle.jpg_comments.specs.Printing.{HasPrinted, PrintsWhole, PrintsBefore, PrintsPart, IsFaultOf}
 use Rattle.jpg_comments.specs.declared.comments.Comments.{Comments}
 
 -- The file is whole: neither `feed` nor `end` may be called any more.
@@ -23,7 +23,7 @@ abbrev pub AfterFeed : List ℕ → List ℕ → List ℕ → Result Fed Stop �
 AfterFeed bytes piece text (Ok fed.More) c = HasRead (bytes ++ piece) text c
 AfterFeed bytes piece text (Ok (fed.Done used)) c = PrintsWhole c.limits (bytes ++ take used piece) text × (1 ≤ used) × (used ≤ length piece)
 AfterFeed bytes piece text (Err (stop.Fault f)) c =
-    IsReadFault c.limits (bytes ++ piece) f.fault f.at × PrintsBefore c.limits (take f.at (bytes ++ piece)) f.fault text
+    IsFaultOf c.limits (bytes ++ piece) f.fault f.at × PrintsBefore c.limits (take f.at (bytes ++ piece)) f.fault text
 AfterFeed bytes piece text (Err stop.NoMemory) c = PrintsPart c.limits (bytes ++ piece) text
 
 -- a fault of bytes that end
