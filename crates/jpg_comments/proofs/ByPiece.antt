@@ -35,6 +35,10 @@ and_more bytes piece all rest more cut = ap (λ l. l ++ more) cut ∙ append_ass
 front_longer : (n : ℕ) (all rest : List ℕ) → take (min n (length all)) (all ++ rest) ≡ take n all
 front_longer n all rest = front_is (min n (length all)) all rest (omega arith) ∙ take_min n all
 
+-- what follows a piece follows the rest of it
+pub followed : (bytes front rest more : List ℕ) → bytes ≡ front ++ rest → bytes ++ more ≡ front ++ (rest ++ more)
+followed bytes front rest more e = ap (λ l. l ++ more) e ∙ append_assoc front rest more
+
 -- THE ANSWERS
 
 part_longer : (limits : Limits) (all rest text : List ℕ) → PrintsPart limits all text → PrintsPart limits (all ++ rest) text
@@ -45,8 +49,7 @@ stopped_longer : (limits : Limits) (bytes piece all rest text : List ℕ) (e : S
 stopped_longer limits bytes piece all rest text (stop.Fault f) r next cut h =
     let n = h.1 in
     let front : take (f.at) (bytes ++ piece) ≡ all = ap (λ l. take (f.at) l) cut ∙ ap (λ k. take k (all ++ rest)) n ∙ whole_front all rest in (
-      (λ more. subst (λ l. IsReadFault limits l f.fault (f.at)) (sym (and_more bytes piece all rest more cut))
-      (subst (λ k. IsReadFault limits (all ++ (rest ++ more)) f.fault k) (sym n) (first_fault limits (HoldsWhole limits) all (rest ++ more) f.fault h.0))),
+      λ more. subst (λ l. IsReadFault limits l f.fault (f.at)) (sym (followed (bytes ++ piece) all rest more cut)) (subst (λ k. IsReadFault limits (all ++ (rest ++ more)) f.fault k) (sym n) (first_fault limits (HoldsWhole limits) all (rest ++ more) f.fault h.0)),
       subst (λ l. PrintsBefore limits l f.fault text) (sym front) h.2,
     )
 stopped_longer limits bytes piece all rest text stop.NoMemory r next cut h = subst (λ l. PrintsPart limits l text) (sym cut) (part_longer limits all rest text h)
@@ -66,8 +69,9 @@ piece_long limits bytes piece text i most r next same many h =
     let cut = joined bytes piece i in
     let long : length front ≡ limits.input = omega (arith, taken, least, many, same) in
     let is : take most (bytes ++ piece) ≡ front = ap (λ l. take most l) cut ∙ ap (λ k. take k (front ++ rest)) (sym same ∙ sym long) ∙ whole_front front rest in (
-      (λ more. subst (λ l. IsReadFault limits l InputTooLong most) (sym (and_more bytes piece front rest more cut))
-      (subst (λ k. IsReadFault limits (front ++ (rest ++ more)) InputTooLong k) same (long_fault limits (HoldsWhole limits) front (rest ++ more) long h.1.nothing))),
+      λ more.
+          subst (λ l. IsReadFault limits l InputTooLong most) (sym (followed (bytes ++ piece) front rest more cut))
+          (subst (λ k. IsReadFault limits (front ++ (rest ++ more)) InputTooLong k) same (long_fault limits (HoldsWhole limits) front (rest ++ more) long h.1.nothing)),
       (h.0, subst (λ l. AreWholeBefore limits l InputTooLong h.0) (sym is) (inr (begun limits r front h.0 h.1.limited h.1.stands)), h.3),
     )
 

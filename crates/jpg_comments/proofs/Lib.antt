@@ -1,5 +1,10 @@
 pub mod Appended
 pub mod ByByte
 pub mod ByPiece
+pub mod HeadByBytes
+pub mod HeadByPieces
+pub mod InsertedPieces
+pub mod OneAnswer
+pub mod OneWhole
 pub mod Shown
 pub mod Taken

@@ -50,7 +50,7 @@ goes_on limits is_whole t bytes x going reaches = (
   λ w. (let y = t.wholes bytes w in not_both (t.goes x) going (ap t.goes (reached_once (kept_rule limits) bytes x y.0 reaches y.1) ∙ y.2)),
 )
 
-upto : (n m : ℕ) → (n ≤ m) ⊎ (m < n)
+pub upto : (n m : ℕ) → (n ≤ m) ⊎ (m < n)
 upto zero m = inl (omega arith)
 upto (suc n) zero = inr (omega arith)
 upto (suc n) (suc m) = next (upto n m)

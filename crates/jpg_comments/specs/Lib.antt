@@ -1,5 +1,7 @@
 pub mod Appending
 pub mod Begun
+pub mod Inserting
 pub mod Pieces
 pub mod Printing
 pub mod ReadComments
+pub mod WriteInserted

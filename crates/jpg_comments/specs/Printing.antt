@@ -45,12 +45,12 @@ AfterByte limits bytes text (Ok true) r = PrintsWhole limits bytes text
 AfterByte limits bytes text (Err (stop.Fault f)) r = ShowsFirst limits (HoldsWhole limits) bytes f.fault × (f.at ≡ length bytes) × PrintsBefore limits bytes f.fault text
 AfterByte limits bytes text (Err stop.NoMemory) r = PrintsPart limits bytes text
 
--- with a piece more, by the reader that is left
+-- with a piece more, whatever follows it, by the reader that is left
 abbrev pub AfterPiece : Limits → List ℕ → List ℕ → List ℕ → Result Fed Stop → Reading → Type 0
 AfterPiece limits bytes piece text (Ok fed.More) r = HasPrinted limits (bytes ++ piece) text r × (length (bytes ++ piece) < limits.input)
 AfterPiece limits bytes piece text (Ok (fed.Done used)) r = PrintsWhole limits (bytes ++ take used piece) text × (1 ≤ used) × (used ≤ length piece)
 AfterPiece limits bytes piece text (Err (stop.Fault f)) r =
-    IsFaultOf limits (bytes ++ piece) f.fault f.at × PrintsBefore limits (take f.at (bytes ++ piece)) f.fault text
+    ((rest : List ℕ) → IsReadFault limits (bytes ++ piece ++ rest) f.fault f.at) × PrintsBefore limits (take f.at (bytes ++ piece)) f.fault text
 AfterPiece limits bytes piece text (Err stop.NoMemory) r = PrintsPart limits (bytes ++ piece) text
 
 -- A SEGMENT

@@ -18,12 +18,12 @@ is_done c = c.done
 abbrev pub HasRead : List ℕ → List ℕ → Comments → Type 0
 HasRead bytes text c = (c.stop ≡ None) × (c.done ≡ false) × (length bytes < c.limits.input) × HasPrinted c.limits bytes text (reading_of c.reader)
 
--- THE ANSWER to a piece that is fed, by all bytes so far and by the whole text that was appended for them
+-- THE ANSWER to a piece that is fed, by all bytes so far and by the whole text that was appended for them. A fault stands whatever follows.
 abbrev pub AfterFeed : List ℕ → List ℕ → List ℕ → Result Fed Stop → Comments → Type 0
 AfterFeed bytes piece text (Ok fed.More) c = HasRead (bytes ++ piece) text c
 AfterFeed bytes piece text (Ok (fed.Done used)) c = PrintsWhole c.limits (bytes ++ take used piece) text × (1 ≤ used) × (used ≤ length piece)
 AfterFeed bytes piece text (Err (stop.Fault f)) c =
-    IsFaultOf c.limits (bytes ++ piece) f.fault f.at × PrintsBefore c.limits (take f.at (bytes ++ piece)) f.fault text
+    ((rest : List ℕ) → IsReadFault c.limits (bytes ++ piece ++ rest) f.fault f.at) × PrintsBefore c.limits (take f.at (bytes ++ piece)) f.fault text
 AfterFeed bytes piece text (Err stop.NoMemory) c = PrintsPart c.limits (bytes ++ piece) text
 
 -- a fault of bytes that end

@@ -4,10 +4,13 @@
 
 mod comments;
 mod ends;
+mod insert;
+pub mod laws;
 mod printed;
 mod segment;
 
 pub use comments::Comments;
+pub use insert::Insert;
 pub use printed::append_printed;
 pub use segment::append_segment;
 

@@ -1,0 +1,209 @@
+-- The head of a file that gets a comment, byte by byte.
+use Rattle.std.proofs.Common.{◌≡◌, ℕ, ◌+◌, ◌<◌, ◌≤◌, Bool, true, false, not, ◌||◌, ◌==◌, if◌then◌else◌, List, [], ◌∷◌, ◌++◌, length, take, suc, Ok, Err, Some, None, refl, sym, ap, ◌∙◌, subst, arith, inl, inr, ◌⊎◌}
+use Rattle.std.specs.Prelude.{reverse, filter, flat_map}
+use Rattle.std.specs.Int.{to_be_bytes, w16}
+use Rattle.std.proofs.lemmas.Grind.{flat_map-append}
+use Rattle.std.proofs.lemmas.List.{append_assoc, append-nil, length-append, reverse-append}
+use Rattle.std.proofs.lemmas.List.Elements.{filter-append}
+use Rattle.jpg_spec.specs.FileText.{segment_text}
+use Rattle.jpg_spec.specs.Markers.{Segment, Rule, kept_rule, soi, has_frame, is_frame_code, code_fault_if, SpellsSegments, Pass, Between, PartOfSegment, SegmentsShow, Reached, at_soi, at_frame, at_eoi, at_segment, at_fault, at_part, Reaches}
+use Rattle.jpg_spec.specs.CommentText.{IsHead, ShowsNothing}
+use Rattle.jpg_spec.specs.declared.frame.Limits.{Limits}
+use Rattle.jpg_spec.specs.declared.fault.Fault.TheVariants.{UnexpectedMarker}
+use Rattle.jpg_spec.proofs.Reached.{reached_once}
+use Rattle.jpg_base.specs.declared.stop.Stop.{Stop}
+use Rattle.jpg_base.specs.declared.stop.Stop.TheVariants as stop
+use Rattle.jpg_markers.specs.declared.segments.Phase.{Phase}
+use Rattle.jpg_markers.specs.declared.segments.Phase.TheVariants as phase
+use Rattle.jpg_markers.specs.declared.segments.SegStep.TheVariants as step
+use Rattle.jpg_markers.specs.Reading.{Reading, AtPhase, StandsFor, EndsBehind, Comes}
+use Rattle.jpg_comments.specs.Inserting.{HoldsHead, head_text, kept_text, HasKept, IsAtFrame, AfterHeadByte}
+use Rattle.jpg_comments.proofs.Taken.{Tells, nothing_first, taken_on, shows_first, whole_front}
+
+-- WHERE A HEAD IS WHOLE: at the marker of the frame header
+
+abbrev pub heads_on : Reached → Bool
+heads_on at_soi = true
+heads_on at_frame = false
+heads_on at_eoi = true
+heads_on (at_segment s) = true
+heads_on (at_fault f) = false
+heads_on at_part = true
+
+abbrev pub head_tells : (limits : Limits) → Tells limits (HoldsHead limits)
+head_tells limits = record { goes = heads_on; faulty = λ f. refl; wholes = λ bytes w. (at_frame, (w.1.0, w.1.1.0, w.1.1.1, (w.0, w.1.1.2, w.1.1.3)), refl) }
+
+-- at the start
+pub kept_start : (limits : Limits) (replace : Bool) (r : Reading) → StandsFor [] [] r → r.limits ≡ limits → r.taken ≡ 0 → HasKept limits replace [] (255 ∷ 0xd8 ∷ []) r
+kept_start limits replace r stands same none = (
+  [],
+  record { stands = stands; limited = same; taken = none; most = omega (arith, none); nothing = nothing_first limits (HoldsHead limits) (head_tells limits) refl },
+  refl,
+  by replace,
+)
+  where
+    by : (b : Bool) → 255 ∷ 0xd8 ∷ [] ≡ head_text b []
+    by true = refl
+    by false = refl
+
+-- A BYTE
+
+-- nothing is whole with it
+pub kept_on : (limits : Limits) (replace : Bool) (r next : Reading) (bytes head : List ℕ) (byte : ℕ) (x : Reached) (h : HasKept limits replace bytes head r) → r.taken < limits.input → next.limits ≡ r.limits → next.taken ≡ r.taken + 1
+    → heads_on x ≡ true → Reaches (kept_rule next.limits) (bytes ++ byte ∷ []) x → StandsFor (bytes ++ byte ∷ []) h.0 next → HasKept limits replace (bytes ++ byte ∷ []) head next
+kept_on limits replace r next bytes head byte x h short same one going reaches stands =
+    (h.0, taken_on limits (HoldsHead limits) (head_tells limits) r next bytes byte h.0 h.0 x h.1 short same one going reaches stands, h.2, h.3)
+
+-- a fault, or want of memory
+pub kept_stop : (limits : Limits) (replace : Bool) (r next : Reading) (bytes head new : List ℕ) (byte : ℕ) (e : Stop) (h : HasKept limits replace bytes head r) → r.taken < limits.input → next.limits ≡ r.limits → next.taken ≡ r.taken + 1
+    → Comes (bytes ++ byte ∷ []) h.0 (Err e) next → AfterHeadByte limits replace (bytes ++ byte ∷ []) (Err e) new next
+kept_stop limits replace r next bytes head new byte (stop.Fault f) h short same one comes =
+    let was = h.1.taken in
+    let at = comes.2 in (
+      shows_first limits (HoldsHead limits) bytes byte f.fault h.1.nothing (omega (arith, was, short)) (subst (λ l. SegmentsShow (kept_rule l) f.fault (bytes ++ byte ∷ [])) (same ∙ h.1.limited) comes.0),
+      omega (arith, at, one, was, length-append bytes (byte ∷ [])),
+    )
+kept_stop limits replace r next bytes head new byte stop.NoMemory h short same one comes = tt
+
+-- EOI may not stand before the frame
+pub kept_eoi : (limits : Limits) (replace : Bool) (r next : Reading) (bytes all head : List ℕ) (h : HasKept limits replace bytes head r) → EndsBehind (kept_rule next.limits) h.0 all → ⊥
+kept_eoi limits replace r next bytes all head h ends = no_some (ap (λ b. code_fault_if b 0xd9) (sym h.2) ∙ ends.3)
+  where
+    no_some : Some UnexpectedMarker ≡ None → ⊥
+    no_some e = cc
+
+-- THE FRAME HEADER'S MARKER
+
+apart : (b : Bool) → b ≡ true → b ≡ false → ⊥
+apart b t f = cc
+
+-- whole segments aren't it
+no_frame_whole : (rule : Rule) (bytes front : List ℕ) (before : List Segment) → bytes ≡ front → SpellsSegments before front → Pass rule before → Reaches rule bytes at_frame → ⊥
+no_frame_whole rule bytes front [] e s p reaches = apart true refl (ap heads_on (reached_once rule bytes at_soi at_frame (e ∙ s) reaches))
+no_frame_whole rule bytes front (x ∷ before) e s p reaches =
+    apart true refl (ap heads_on (reached_once rule bytes (at_segment x) at_frame (before, subst (λ l. SpellsSegments (x ∷ before) l) (sym e) s, p) reaches))
+
+-- nor is a part of a segment
+no_frame_part : (rule : Rule) (bytes : List ℕ) (before : List Segment) (tail : List ℕ) → Between rule bytes before tail → PartOfSegment before tail → Reaches rule bytes at_frame → ⊥
+no_frame_part rule bytes before [] between part reaches = no_frame_whole rule bytes between.front before (between.cut ∙ append-nil between.front) between.spelled between.passed reaches
+no_frame_part rule bytes before (t ∷ tail) between part reaches =
+    apart true refl (ap heads_on (reached_once rule bytes at_part at_frame (inr (before, t ∷ tail, between, part, no_nil t tail)) reaches))
+  where
+    no_nil : (x : ℕ) (xs : List ℕ) → x ∷ xs ≡ [] → ⊥
+    no_nil x xs e = cc
+
+frame_at : (r : Reading) (p : Phase) (bytes : List ℕ) (before : List Segment) → AtPhase r p bytes before → Reaches (kept_rule r.limits) bytes at_frame → IsHead r.limits bytes before r.code
+frame_at r phase.Empty bytes before h reaches = absurd (apart true refl (ap heads_on (reached_once (kept_rule r.limits) bytes at_part at_frame (inl (inl h.0)) reaches)))
+frame_at r phase.HalfStart bytes before h reaches = absurd (apart true refl (ap heads_on (reached_once (kept_rule r.limits) bytes at_part at_frame (inl (inr h.0)) reaches)))
+frame_at r phase.Between bytes before h reaches = absurd (no_frame_part (kept_rule r.limits) bytes before h.0 h.1 (inl (0, h.3)) reaches)
+frame_at r phase.Fill bytes before h reaches = absurd (no_frame_part (kept_rule r.limits) bytes before h.0 h.1 (inl (suc h.3.0, h.3.1)) reaches)
+frame_at r phase.Coded bytes before h reaches = by (frame_or_not (is_frame_code r.code))
+  where
+    frame_or_not : (b : Bool) → (b ≡ true) ⊎ (b ≡ false)
+    frame_or_not true = inl refl
+    frame_or_not false = inr refl
+
+    by : (is_frame_code r.code ≡ true) ⊎ (is_frame_code r.code ≡ false) → IsHead r.limits bytes before r.code
+    by (inl e) = (h.0, h.1, h.3, e)
+    by (inr e) = absurd (no_frame_part (kept_rule r.limits) bytes before h.0 h.1 (inr (r.code, h.0, h.3, inl (refl, e))) reaches)
+frame_at r phase.HalfLength bytes before h reaches =
+    let k = h.3 in absurd (no_frame_part (kept_rule r.limits) bytes before h.0 h.1 (inr (r.code, k.0, k.1, inr (inl (r.high, k.2, k.3)))) reaches)
+frame_at r phase.Contents bytes before h reaches =
+    let k = h.3 in
+    let long = k.7 in let some = k.8 in
+    absurd (no_frame_part (kept_rule r.limits) bytes before h.0 h.1 (inr (r.code, k.0, k.3, inr (inr (k.1, k.2, r.contents, k.4, k.5, k.6, omega (arith, long, some))))) reaches)
+frame_at r phase.Ended bytes before h reaches = absurd h
+
+pub kept_frame : (limits : Limits) (replace : Bool) (r next : Reading) (bytes head : List ℕ) (byte : ℕ) (h : HasKept limits replace bytes head r) → r.taken < limits.input → next.limits ≡ r.limits → next.taken ≡ r.taken + 1
+    → Comes (bytes ++ byte ∷ []) h.0 (Ok step.Frame) next → IsAtFrame limits replace (bytes ++ byte ∷ []) head next
+kept_frame limits replace r next bytes head byte h short same one comes =
+    let was = h.1.taken in
+    let all = bytes ++ byte ∷ [] in (
+      h.0,
+      subst (λ l. IsHead l all h.0 next.code) (same ∙ h.1.limited) (frame_at next next.phase all h.0 comes.1.1 comes.0),
+      h.3,
+      omega (arith, one, was, length-append bytes (byte ∷ [])),
+      omega (arith, was, short, length-append bytes (byte ∷ [])),
+    )
+
+-- A SEGMENT
+
+-- a segment that isn't a frame header, where no front is a head
+no_header : (limits : Limits) (bytes : List ℕ) (before : List Segment) (code : ℕ) (contents : List ℕ) → ShowsNothing limits (HoldsHead limits) bytes → SpellsSegments ((code, contents) ∷ before) bytes → Pass (kept_rule limits) ((code, contents) ∷ before)
+    → is_frame_code code ≡ false
+no_header limits bytes before code contents nothing s p = by (is_frame_code code) refl
+  where
+    marker : List ℕ
+    marker = s.4.0
+
+    rest : List ℕ
+    rest = to_be_bytes w16 (length contents + 2) ++ contents
+
+    front : List ℕ
+    front = s.0 ++ marker
+
+    cut : bytes ≡ front ++ rest
+    cut = s.2 ∙ ap (λ l. s.0 ++ l) (s.4.3 ∙ append_assoc marker (to_be_bytes w16 (length contents + 2)) contents) ∙ sym (append_assoc s.0 marker rest)
+
+    is : take (length front) bytes ≡ front
+    is = ap (λ l. take (length front) l) cut ∙ whole_front front rest
+
+    shorter : length front ≤ length bytes
+    shorter = let e = ap length cut in omega (arith, e, length-append front rest)
+
+    by : (b : Bool) → is_frame_code code ≡ b → is_frame_code code ≡ false
+    by false e = e
+    by true e =
+        let between : Between (kept_rule limits) front before marker = record { front = s.0; cut = refl; spelled = s.3; passed = p.2 } in
+        absurd ((nothing (length front) shorter).1 (subst (λ l. HoldsHead limits l) (sym is) (code, (before, (marker, between, (s.4.1, p.0, s.5), e)))))
+
+-- what is kept with one segment more
+kept_more : (replace : Bool) (code : ℕ) (contents : List ℕ) (before : List Segment) → head_text replace ((code, contents) ∷ before) ≡ head_text replace before ++ kept_text replace code contents
+kept_more replace code contents before = by replace
+  where
+    text : Segment → List ℕ
+    text = λ s. segment_text s.0 s.1
+
+    new : Segment
+    new = (code, contents)
+
+    other : Segment → Bool
+    other = λ s. not (s.0 == 0xfe)
+
+    turned : reverse (new ∷ before) ≡ reverse before ++ new ∷ []
+    turned = reverse-append (new ∷ []) before
+
+    one : (b : Bool) → (code == 0xfe) ≡ b → flat_map text (filter other (new ∷ [])) ≡ (if b then [] else segment_text code contents)
+    one true e = rw e refl
+    one false e = rw e (append-nil (segment_text code contents))
+
+    by : (b : Bool) → head_text b (new ∷ before) ≡ head_text b before ++ kept_text b code contents
+    by true =
+        ap (λ l. soi ++ l)
+        (ap (λ l. flat_map text (filter other l)) turned ∙ ap (flat_map text) (filter-append other (reverse before) (new ∷ []))
+        ∙ flat_map-append text (filter other (reverse before)) (filter other (new ∷ [])) ∙ ap (λ l. flat_map text (filter other (reverse before)) ++ l) (one (code == 0xfe) refl))
+    by false =
+        ap (λ l. soi ++ l)
+        (ap (flat_map text) turned ∙ flat_map-append text (reverse before) (new ∷ []) ∙ ap (λ l. flat_map text (reverse before) ++ l) (append-nil (segment_text code contents)))
+
+-- the segment's spelling
+whole_at : (r : Reading) (bytes : List ℕ) (before : List Segment) → r.phase ≡ phase.Between → StandsFor bytes before r → SpellsSegments before bytes × Pass (kept_rule r.limits) before
+whole_at r bytes before between s =
+    let at = subst (λ p. AtPhase r p bytes before) between s.1 in
+    (subst (λ l. SpellsSegments before l) (sym (at.1.cut ∙ ap (λ t. at.1.front ++ t) at.3 ∙ append-nil at.1.front)) at.1.spelled, at.1.passed)
+
+-- with the last byte of a segment
+pub kept_whole : (limits : Limits) (replace : Bool) (r next : Reading) (bytes head new : List ℕ) (byte : ℕ) (h : HasKept limits replace bytes head r)
+    → r.taken < limits.input → next.limits ≡ r.limits → next.taken ≡ r.taken + 1 → next.phase ≡ phase.Between → Comes (bytes ++ byte ∷ []) h.0 (Ok step.Whole) next
+    → (length next.contents ≤ 65533 → new ≡ head ++ kept_text replace next.code next.contents) → HasKept limits replace (bytes ++ byte ∷ []) new next
+kept_whole limits replace r next bytes head new byte h short same one between comes grows =
+    let all = bytes ++ byte ∷ [] in
+    let whole = whole_at next all ((next.code, next.contents) ∷ h.0) between comes.1 in
+    let passed = subst (λ l. Pass (kept_rule l) ((next.code, next.contents) ∷ h.0)) (same ∙ h.1.limited) whole.1 in
+    let on = taken_on limits (HoldsHead limits) (head_tells limits) r next bytes byte h.0 ((next.code, next.contents) ∷ h.0) (at_segment (next.code, next.contents)) h.1 short same one refl comes.0 comes.1 in
+    let fits = whole.0.4.2 in (
+      (next.code, next.contents) ∷ h.0,
+      on,
+      ap (λ b. b || has_frame h.0) (no_header limits all h.0 next.code next.contents on.nothing whole.0 passed) ∙ h.2,
+      grows (omega (arith, fits)) ∙ ap (λ l. l ++ kept_text replace next.code next.contents) h.3 ∙ sym (kept_more replace next.code next.contents h.0),
+    )

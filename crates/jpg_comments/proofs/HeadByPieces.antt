@@ -1,0 +1,140 @@
+-- The head of a file that gets a comment, piece by piece, and what is written behind it.
+use Rattle.std.proofs.Common.{◌≡◌, ℕ, ◌+◌, ◌-◌, ◌<◌, ◌≤◌, Bool, true, List, [], ◌∷◌, ◌++◌, length, take, drop, get_or, Some, None, Ok, Err, refl, sym, ap, ◌∙◌, subst, arith, inr, Result}
+use Rattle.std.proofs.lemmas.List.{append_assoc, append-nil, length-append, length-take-le, take_all, take-append-drop}
+use Rattle.std.proofs.Math.Seq.{take-append-add}
+use Rattle.jpg_spec.specs.CommentText.{IsHead, IsHeadFault, IsInsertFault, IsInserted, inserted_head, comment_segment}
+use Rattle.jpg_spec.specs.declared.frame.Limits.{Limits}
+use Rattle.jpg_spec.specs.declared.answers.FaultAt.{FaultAt}
+use Rattle.jpg_spec.specs.declared.fault.Fault.TheVariants.{InputTooLong}
+use Rattle.jpg_base.specs.declared.names.NoMemory.{NoMemory}
+use Rattle.jpg_base.specs.declared.stop.Stop.{Stop}
+use Rattle.jpg_base.specs.declared.stop.Stop.TheVariants as stop
+use Rattle.jpg_markers.specs.Reading.{Reading}
+use Rattle.jpg_comments.specs.Appending.{AppendsText}
+use Rattle.jpg_comments.specs.Begun.{Appends}
+use Rattle.jpg_comments.specs.Inserting.{HoldsHead, head_text, HasKept, IsAtFrame, AfterHeadByte, AfterHeadPiece, Copies, InsertsPart, InsertsUpTo}
+use Rattle.jpg_comments.proofs.Taken.{front_is, whole_front, first_fault, long_fault}
+use Rattle.jpg_comments.proofs.ByPiece.{joined, one_more, all_of_it, followed}
+
+-- UP TO THE MARKER
+
+-- a fault at a byte, or want of memory
+pub head_stopped : (limits : Limits) (replace : Bool) (bytes piece head new : List ℕ) (i : ℕ) (e : Stop) (r next : Reading) → i < length piece
+    → AfterHeadByte limits replace ((bytes ++ take i piece) ++ get_or piece i 0 ∷ []) (Err e) head r → AfterHeadPiece limits replace bytes piece (Err e) new next
+head_stopped limits replace bytes piece head new i (stop.Fault f) r next less h =
+    let all = (bytes ++ take i piece) ++ get_or piece i 0 ∷ [] in
+    let rest = drop (i + 1) piece in
+    let cut : bytes ++ piece ≡ all ++ rest = joined bytes piece (i + 1) ∙ ap (λ l. l ++ rest) (one_more bytes piece i less) in
+    let n = h.1 in
+    λ more.
+    subst (λ l. IsHeadFault limits l f.fault (f.at)) (sym (followed (bytes ++ piece) all rest more cut))
+    (subst (λ k. IsHeadFault limits (all ++ (rest ++ more)) f.fault k) (sym n) (first_fault limits (HoldsHead limits) all (rest ++ more) f.fault h.0))
+head_stopped limits replace bytes piece head new i stop.NoMemory r next less h = tt
+
+-- as many bytes as may be taken
+pub head_long : (limits : Limits) (replace : Bool) (bytes piece head new : List ℕ) (i most : ℕ) (r next : Reading) → limits.input ≡ most → most ≤ r.taken → HasKept limits replace (bytes ++ take i piece) head r
+    → AfterHeadPiece limits replace bytes piece (Err (stop.Fault (record { fault = InputTooLong; at = most }))) new next
+head_long limits replace bytes piece head new i most r next same many h =
+    let taken = h.1.taken in let least = h.1.most in
+    let front = bytes ++ take i piece in
+    let rest = drop i piece in
+    let long : length front ≡ limits.input = omega (arith, taken, least, many, same) in
+    λ more.
+    subst (λ l. IsHeadFault limits l InputTooLong most) (sym (followed (bytes ++ piece) front rest more (joined bytes piece i)))
+    (subst (λ k. IsHeadFault limits (front ++ (rest ++ more)) InputTooLong k) same (long_fault limits (HoldsHead limits) front (rest ++ more) long h.1.nothing))
+
+-- the marker is there
+pub head_there : (limits : Limits) (replace : Bool) (bytes piece head : List ℕ) (i used : ℕ) (r : Reading) → i < length piece → used ≡ i + 1
+    → AfterHeadByte limits replace ((bytes ++ take i piece) ++ get_or piece i 0 ∷ []) (Ok true) head r → AfterHeadPiece limits replace bytes piece (Ok (Some used)) head r
+head_there limits replace bytes piece head i used r less same h =
+    let is : bytes ++ take used piece ≡ (bytes ++ take i piece) ++ get_or piece i 0 ∷ [] = ap (λ n. bytes ++ take n piece) same ∙ one_more bytes piece i less in
+    (subst (λ l. IsAtFrame limits replace l head r) (sym is) h, omega (arith, same, less))
+
+-- more is wanted
+pub head_more : (limits : Limits) (replace : Bool) (bytes piece head : List ℕ) (i : ℕ) (r : Reading) → length piece ≤ i → r.taken < limits.input → HasKept limits replace (bytes ++ take i piece) head r
+    → AfterHeadPiece limits replace bytes piece (Ok None) head r
+head_more limits replace bytes piece head i r end short h =
+    let k = subst (λ l. HasKept limits replace l head r) (all_of_it bytes piece i end) h in
+    let taken = k.1.taken in
+    (k, omega (arith, taken, short))
+
+-- BEHIND IT
+
+-- more bytes are written as they come
+pub inserted_more : (limits : Limits) (comment : List ℕ) (replace : Bool) (bytes text more : List ℕ) → IsInserted limits bytes comment replace text → IsInserted limits (bytes ++ more) comment replace (text ++ more)
+inserted_more limits comment replace bytes text more h = (
+  h.0,
+  h.1,
+  h.2,
+  h.3 ++ more,
+  ap (λ l. l ++ more) h.4 ∙ append_assoc h.2 h.3 more,
+  h.5,
+  ap (λ l. l ++ more) h.6 ∙ append_assoc (inserted_head comment replace h.0 h.1) h.3 more,
+)
+
+-- as many bytes as may be taken, and a head among them
+long_inserted : (limits : Limits) (comment : List ℕ) (replace : Bool) (bytes text : List ℕ) → limits.input ≤ length bytes → IsInserted limits (take (limits.input) bytes) comment replace text → IsInsertFault limits bytes InputTooLong (limits.input)
+long_inserted limits comment replace bytes text long h =
+    let e = ap length h.4 in
+    let n = length h.2 in
+    let fits : n ≤ limits.input = omega (arith, e, long, length-append h.2 h.3, length-take-le (limits.input) bytes long) in
+    let is : take n bytes ≡ h.2 =
+    ap (take n) (sym (take-append-drop (limits.input) bytes)) ∙ ap (λ l. take n (l ++ drop (limits.input) bytes)) h.4
+    ∙ ap (take n) (append_assoc h.2 h.3 (drop (limits.input) bytes)) ∙ whole_front h.2 (h.3 ++ drop (limits.input) bytes) in
+    inr (refl, refl, long, (h.1, h.0, n, fits, subst (λ l. IsHead limits l h.0 h.1) (sym is) h.5))
+
+-- and more bytes behind them
+long_anyhow : (limits : Limits) (comment : List ℕ) (replace : Bool) (bytes text : List ℕ) (f : FaultAt) → f.fault ≡ InputTooLong → f.at ≡ limits.input → limits.input ≤ length bytes → IsInserted limits (take (limits.input) bytes) comment replace text
+    → (more : List ℕ) → IsInsertFault limits (bytes ++ more) f.fault (f.at)
+long_anyhow limits comment replace bytes text f is at long h = λ more.
+    let same = sym (front_is (limits.input) bytes more long) in
+    let fault = long_inserted limits comment replace (bytes ++ more) text (omega (arith, long, length-append bytes more)) (subst (λ l. IsInserted limits l comment replace text) same h) in
+    subst (λ x. IsInsertFault limits (bytes ++ more) x (f.at)) (sym is) (subst (λ k. IsInsertFault limits (bytes ++ more) InputTooLong k) (sym at) fault)
+
+-- what an answer of `copy` says of all bytes
+abbrev pub AfterCopy : Limits → List ℕ → Bool → List ℕ → List ℕ → Result ℕ Stop → Type 0
+AfterCopy limits comment replace bytes text (Ok n) = (n ≡ length bytes) × (length bytes < limits.input) × IsInserted limits bytes comment replace text
+AfterCopy limits comment replace bytes text (Err s) = InsertsUpTo limits comment replace bytes text s
+
+pub copied : (limits : Limits) (comment : List ℕ) (replace : Bool) (bytes text rest old new : List ℕ) (taken most : ℕ) (result : Result ℕ Stop) → limits.input ≡ most → taken ≡ length bytes → length bytes ≤ limits.input
+    → IsInserted limits bytes comment replace text → Copies taken most rest result old new → Appends (λ all. AfterCopy limits comment replace (bytes ++ rest) all result) text old new
+copied limits comment replace bytes text rest old new taken most (Ok n) same is least h copies =
+    let count = copies.0 in let short = copies.1 in
+    (rest, copies.2, (omega (arith, count, is, length-append bytes rest), omega (arith, count, is, short, same, length-append bytes rest), inserted_more limits comment replace bytes text rest h))
+copied limits comment replace bytes text rest old new taken most (Err (stop.Fault f)) same is least h copies =
+    let n = most - taken in
+    let at : f.at ≡ limits.input = copies.1 ∙ sym same in
+    let many = copies.2 in
+    let all : length bytes + n ≡ limits.input = omega (arith, is, least, same) in
+    let long : limits.input ≤ length (bytes ++ rest) = omega (arith, many, is, same, length-append bytes rest) in
+    let front : bytes ++ take n rest ≡ take (limits.input) (bytes ++ rest) = sym (take-append-add bytes rest n) ∙ ap (λ k. take k (bytes ++ rest)) all in
+    let written = subst (λ l. IsInserted limits l comment replace (text ++ take n rest)) front (inserted_more limits comment replace bytes text (take n rest) h) in
+    let fault = long_anyhow limits comment replace (bytes ++ rest) (text ++ take n rest) f copies.0 at long written in
+    (take n rest, copies.3, (fault, inr (copies.0, subst (λ k. IsInserted limits (take k (bytes ++ rest)) comment replace (text ++ take n rest)) (sym at) written)))
+copied limits comment replace bytes text rest old new taken most (Err stop.NoMemory) same is least h copies =
+    let all = text ++ [] in
+    let same_text : all ≡ text = append-nil text in
+    ([], copies ∙ sym (append-nil old), inr (length text, length bytes, text, subst (λ l. IsInserted limits l comment replace text) (sym (whole_front bytes rest)) h, same_text ∙ sym (take_all (length text) text (omega arith))))
+
+-- THE HEAD, where its marker is there
+
+abbrev pub whole_head : List ℕ → List ℕ → ℕ → List ℕ
+whole_head head segment code = head ++ segment ++ 255 ∷ code ∷ []
+
+pub head_inserted : (limits : Limits) (comment : List ℕ) (replace : Bool) (bytes head segment : List ℕ) (r : Reading) → segment ≡ comment_segment comment → IsAtFrame limits replace bytes head r
+    → IsInserted limits bytes comment replace (whole_head head segment r.code)
+head_inserted limits comment replace bytes head segment r same h = (
+  h.0,
+  r.code,
+  bytes,
+  [],
+  sym (append-nil bytes),
+  h.1,
+  ap (λ l. l ++ segment ++ 255 ∷ r.code ∷ []) h.2 ∙ ap (λ l. head_text replace h.0 ++ l ++ 255 ∷ r.code ∷ []) same ∙ sym (append-nil (inserted_head comment replace h.0 r.code)),
+)
+
+-- where memory is wanting, a first part of it was written
+pub head_part : (limits : Limits) (comment : List ℕ) (replace : Bool) (bytes rest whole old new : List ℕ) (e : NoMemory) → IsInserted limits bytes comment replace whole → AppendsText whole (Err e) old new
+    → Appends (λ all. InsertsPart limits comment replace (bytes ++ rest) all) [] old new
+head_part limits comment replace bytes rest whole old new e h part =
+    (take part.0 whole, part.1, inr (part.0, length bytes, whole, subst (λ l. IsInserted limits l comment replace whole) (sym (whole_front bytes rest)) h, refl))

@@ -1,0 +1,70 @@
+-- A file with one comment more, written as it is read (T.81 B.2.4.5, the manual of wrjpgcom in release 6b).
+use Rattle.std.specs.Prelude.{◌≡◌, ◌⊎◌, ℕ, ◌+◌, ◌-◌, ◌<◌, ◌≤◌, Bool, true, false, ◌&&◌, ◌==◌, if◌then◌else◌, List, [], ◌++◌, length, take, flat_map, Option, Some, None, Result, Ok, Err}
+use Rattle.jpg_spec.specs.FileText.{segment_text}
+use Rattle.jpg_spec.specs.Markers.{Segment, soi, has_frame}
+use Rattle.jpg_spec.specs.CommentText.{SomeSegments, IsHead, IsHeadFault, IsInsertFault, IsInserted, head_segments}
+use Rattle.jpg_spec.specs.declared.fault.Fault.TheVariants.{InputTooLong}
+use Rattle.jpg_spec.specs.declared.frame.Limits.{Limits}
+use Rattle.jpg_base.specs.declared.stop.Stop.{Stop}
+use Rattle.jpg_base.specs.declared.stop.Stop.TheVariants as stop
+use Rattle.jpg_markers.specs.Reading.{Reading}
+use Rattle.jpg_comments.specs.Begun.{HasTaken, ShowsFirst}
+
+-- THE HEAD
+
+-- these bytes end with the marker of the frame header
+abbrev pub HoldsHead : Limits → List ℕ → Type 0
+HoldsHead limits bytes = (code : ℕ) × SomeSegments (λ before. IsHead limits bytes before code)
+
+-- SOI and the segments, as they are written
+abbrev pub head_text : Bool → List Segment → List ℕ
+head_text replace before = soi ++ flat_map (λ s. segment_text s.0 s.1) (head_segments replace before)
+
+-- what is written of a segment
+abbrev pub kept_text : Bool → ℕ → List ℕ → List ℕ
+kept_text replace code contents = if replace && code == 0xfe then [] else segment_text code contents
+
+-- The head is kept of bytes that were given to a reader, in which the frame header's marker isn't there yet.
+abbrev pub HasKept : Limits → Bool → List ℕ → List ℕ → Reading → Type 0
+HasKept limits replace bytes head r = (before : List Segment) × HasTaken limits (HoldsHead limits) bytes before r × (has_frame before ≡ false) × (head ≡ head_text replace before)
+
+-- the frame header's marker is there
+abbrev pub IsAtFrame : Limits → Bool → List ℕ → List ℕ → Reading → Type 0
+IsAtFrame limits replace bytes head r =
+    (before : List Segment) × IsHead limits bytes before r.code × (head ≡ head_text replace before) × (r.taken ≡ length bytes) × (length bytes ≤ limits.input)
+
+-- with a byte more
+abbrev pub AfterHeadByte : Limits → Bool → List ℕ → Result Bool Stop → List ℕ → Reading → Type 0
+AfterHeadByte limits replace bytes (Ok false) head r = HasKept limits replace bytes head r
+AfterHeadByte limits replace bytes (Ok true) head r = IsAtFrame limits replace bytes head r
+AfterHeadByte limits replace bytes (Err (stop.Fault f)) head r = ShowsFirst limits (HoldsHead limits) bytes f.fault × (f.at ≡ length bytes)
+AfterHeadByte limits replace bytes (Err stop.NoMemory) head r = Unit {0}
+
+-- with a piece more, of which this many bytes are used where the marker is there
+abbrev pub AfterHeadPiece : Limits → Bool → List ℕ → List ℕ → Result (Option ℕ) Stop → List ℕ → Reading → Type 0
+AfterHeadPiece limits replace bytes piece (Ok None) head r = HasKept limits replace (bytes ++ piece) head r × (length (bytes ++ piece) < limits.input)
+AfterHeadPiece limits replace bytes piece (Ok (Some used)) head r = IsAtFrame limits replace (bytes ++ take used piece) head r × (used ≤ length piece)
+AfterHeadPiece limits replace bytes piece (Err (stop.Fault f)) head r = (rest : List ℕ) → IsHeadFault limits (bytes ++ piece ++ rest) f.fault f.at
+AfterHeadPiece limits replace bytes piece (Err stop.NoMemory) head r = Unit {0}
+
+-- THE REST
+
+-- It is copied whole, and the answer tells how many bytes were taken; or as many as may be taken; or nothing.
+abbrev pub Copies : ℕ → ℕ → List ℕ → Result ℕ Stop → List ℕ → List ℕ → Type 0
+Copies taken most rest (Ok n) old new = (n ≡ taken + length rest) × (n < most) × (new ≡ old ++ rest)
+Copies taken most rest (Err (stop.Fault f)) old new = (f.fault ≡ InputTooLong) × (f.at ≡ most) × (most ≤ taken + length rest) × (new ≡ old ++ take (most - taken) rest)
+Copies taken most rest (Err stop.NoMemory) old new = new ≡ old
+
+-- THE ANSWERS
+
+-- a first part of what was due
+abbrev pub InsertsPart : Limits → List ℕ → Bool → List ℕ → List ℕ → Type 0
+InsertsPart limits comment replace bytes text =
+    (text ≡ []) ⊎ ((n : ℕ) × (front : ℕ) × (whole : List ℕ) × IsInserted limits (take front bytes) comment replace whole × (text ≡ take n whole))
+
+-- A fault before the frame header's marker, where nothing was written, or too many bytes, of which those are written that may be taken. It stands whatever follows.
+abbrev pub InsertsUpTo : Limits → List ℕ → Bool → List ℕ → List ℕ → Stop → Type 0
+InsertsUpTo limits comment replace bytes text (stop.Fault f) =
+    ((rest : List ℕ) → IsInsertFault limits (bytes ++ rest) f.fault f.at)
+    × (((text ≡ []) × ((rest : List ℕ) → IsHeadFault limits (bytes ++ rest) f.fault f.at)) ⊎ ((f.fault ≡ InputTooLong) × IsInserted limits (take f.at bytes) comment replace text))
+InsertsUpTo limits comment replace bytes text stop.NoMemory = InsertsPart limits comment replace bytes text

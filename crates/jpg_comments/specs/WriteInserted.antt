@@ -1,0 +1,46 @@
+-- A file that is fed piece by piece and written with one comment more (T.81 B.2.4.5, the manual of wrjpgcom in release 6b).
+use Rattle.std.specs.Prelude.{◌≡◌, ℕ, ◌<◌, ◌≤◌, Bool, List, [], ◌++◌, length, Option, Some, None, Result, Ok, Err}
+use Rattle.jpg_spec.specs.CommentText.{IsHeadFault, IsInserted, comment_segment}
+use Rattle.jpg_spec.specs.declared.fault.Fault.TheVariants.{CommentTooLong}
+use Rattle.jpg_spec.specs.declared.frame.Limits.{Limits}
+use Rattle.jpg_base.specs.declared.stop.Fed.{Fed}
+use Rattle.jpg_base.specs.declared.stop.Fed.TheVariants as fed
+use Rattle.jpg_base.specs.declared.stop.Stop.{Stop}
+use Rattle.jpg_base.specs.declared.stop.Stop.TheVariants as stop
+use Rattle.jpg_markers.specs.Reading.{Reading, reading_of}
+use Rattle.jpg_comments.specs.Inserting.{HasKept, InsertsUpTo}
+use Rattle.jpg_comments.specs.declared.insert.Insert.{Insert}
+
+-- Before the frame header's marker the head is kept, and nothing is written; behind it all bytes are written as they come.
+abbrev pub StandsAt : Limits → List ℕ → Bool → List ℕ → List ℕ → Option ℕ → List ℕ → Reading → Type 0
+StandsAt limits comment replace bytes text None head r = HasKept limits replace bytes head r × (text ≡ [])
+StandsAt limits comment replace bytes text (Some taken) head r = (taken ≡ length bytes) × IsInserted limits bytes comment replace text
+
+-- The bytes were fed, and the text was written for them, with this comment inserted. They show no fault before the frame header, and more may come.
+abbrev pub HasInserted : List ℕ → List ℕ → List ℕ → Insert → Type 0
+HasInserted comment bytes text c =
+    (c.stop ≡ None) × (length bytes < c.limits.input) × (c.segment ≡ comment_segment comment) × StandsAt c.limits comment c.replace bytes text c.taken c.head (reading_of c.reader)
+
+-- A comment has at most 65,000 bytes.
+abbrev pub IsNewInsert : Limits → List ℕ → Bool → Result Insert Stop → Type 0
+IsNewInsert limits comment replace (Ok c) = (length comment ≤ 65000) × HasInserted comment [] [] c × (c.limits ≡ limits) × (c.replace ≡ replace)
+IsNewInsert limits comment replace (Err (stop.Fault f)) = (f.fault ≡ CommentTooLong) × (f.at ≡ 65001) × (65000 < length comment)
+IsNewInsert limits comment replace (Err stop.NoMemory) = length comment ≤ 65000
+
+-- THE ANSWERS, by all bytes so far and by the whole text that was written for them
+
+abbrev pub AfterTake : List ℕ → List ℕ → List ℕ → List ℕ → Result (Unit {0}) Stop → Insert → Type 0
+AfterTake comment bytes piece text (Ok u) c = HasInserted comment (bytes ++ piece) text c
+AfterTake comment bytes piece text (Err s) c = InsertsUpTo c.limits comment c.replace (bytes ++ piece) text s
+
+-- to a piece
+abbrev pub AfterInsert : List ℕ → List ℕ → List ℕ → List ℕ → Result Fed Stop → Insert → Type 0
+AfterInsert comment bytes piece text (Ok fed.More) c = HasInserted comment (bytes ++ piece) text c
+AfterInsert comment bytes piece text (Ok (fed.Done used)) c = ⊥
+AfterInsert comment bytes piece text (Err s) c = InsertsUpTo c.limits comment c.replace (bytes ++ piece) text s
+
+-- at the end: the whole file with the comment, or a fault before the frame header's marker
+abbrev pub EndsInsert : Limits → List ℕ → Bool → List ℕ → List ℕ → Result (Unit {0}) Stop → Type 0
+EndsInsert limits comment replace bytes text (Ok u) = IsInserted limits bytes comment replace text × (length bytes < limits.input)
+EndsInsert limits comment replace bytes text (Err (stop.Fault f)) = IsHeadFault limits bytes f.fault f.at × (text ≡ [])
+EndsInsert limits comment replace bytes text (Err stop.NoMemory) = ⊥

@@ -1,0 +1,251 @@
+// A file with one comment more, written piece by piece (T.81 B.2.4.5).
+ghost use Rattle.std.specs.Prelude.{◌≡◌, ◌≤◌, ◌<◌, ◌++◌, ◌∷◌, [], ℕ, List, Some, None, Ok, Err, IfOk, IfSome, length};
+ghost use Rattle.jpg_spec.specs.FrameHeader.{AreLimits};
+ghost use Rattle.jpg_base.specs.declared.stop.Stop.{Stop as Stopped};
+ghost use Rattle.jpg_base.specs.declared.stop.Fed.TheVariants as fed;
+ghost use Rattle.jpg_markers.specs.Reading.{reading_of};
+ghost use Rattle.jpg_comments.specs.Appending.{AppendsText};
+ghost use Rattle.jpg_comments.specs.Begun.{Appends};
+ghost use Rattle.jpg_comments.specs.Inserting.{kept_text, HasKept, AfterHeadByte, AfterHeadPiece, Copies};
+
+use crate::append_segment;
+use crate::ends::{too_long, truncated};
+use jpg_base::{Bytes, Fed, NoMemory, Stop};
+use jpg_markers::{SegStep, SegmentReader};
+use jpg_spec::{Fault, FaultAt, Limits};
+use std::alloc::Global;
+
+// The most bytes of a comment that is inserted.
+const LONGEST_COMMENT: usize = 65_000;
+
+// The most bytes of a segment's contents.
+const LONGEST: usize = 65_533;
+
+/// Inserts a comment before the frame header of a file (SOF0, SOF1 or SOF2).
+#[derive(Drop)]
+pub struct Insert {
+    limits: Limits,
+    reader: SegmentReader,
+    replace: bool,
+    // SOI and the segments before the frame header, as they are written
+    head: Bytes,
+    // the comment's segment
+    segment: Bytes,
+    // how many bytes were taken, once the frame header's marker is there
+    taken: Option<u64>,
+    stop: Option<Stop>,
+    ghost limited: { (reading_of reader).limits ≡ limits },
+}
+
+impl Insert {
+    ghost use Rattle.jpg_comments.specs.WriteInserted.{HasInserted, IsNewInsert, AfterTake, AfterInsert, EndsInsert};
+
+    /// A writer that was given no bytes. With `replace` it drops the comments that stand before the
+    /// frame header. An empty comment inserts nothing. It answers CommentTooLong at 65,001 where the
+    /// comment has more than 65,000 bytes.
+    pub fn new(alloc: Global, limits: Limits, comment: &[u8], replace: bool) -> Result<Insert, Stop>
+        requires { AreLimits limits }
+        ensures { IsNewInsert limits comment.now replace result }
+    {
+        if comment.len() > LONGEST_COMMENT {
+            return Err(Stop::Fault(FaultAt {
+                fault: Fault::CommentTooLong,
+                at: 65_001,
+            }));
+        }
+        let mut head = Bytes::new(alloc);
+        head.push_all(&[0xff, 0xd8])?;
+        let mut segment = Bytes::new(alloc);
+        if !comment.is_empty() {
+            append_segment(0xfe, comment, &mut segment)?;
+        }
+        Ok(Insert {
+            limits,
+            reader: SegmentReader::new(alloc, limits),
+            replace,
+            head,
+            segment,
+            taken: None,
+            stop: None,
+        })
+    }
+
+    /// Takes a further piece of the file, of any length. It appends nothing before the marker of the
+    /// frame header; there it appends the segments before it, each with one FF, the comment and the
+    /// marker, and from there on all bytes as they come. It never answers Done. Before that marker it
+    /// answers the fault that the bytes so far show, at the number of bytes taken: NotJpeg, NoMarker,
+    /// UnexpectedMarker, UnsupportedProcess, SosBeforeSof, BadLength (a length below 2) or
+    /// MarkersTooLarge; and InputTooLong wherever as many bytes were taken as may be, and where these
+    /// hold the marker, they are appended. Where memory is wanting, a first part of what was due is
+    /// appended. After a stop it answers the same stop.
+    pub fn feed(&mut self, piece: &[u8], out: &mut Bytes) -> Result<Fed, Stop>
+        ensures answered { (comment bytes text : List ℕ) → HasInserted comment bytes text self.old → Appends (λ all. AfterInsert comment bytes piece.now all result self.new) text out.old out.new }
+        ensures more { IfOk result (λ answer. answer ≡ fed.More) }
+        ensures stopped { (stop : Stopped) → result ≡ Err stop → self.new.stop ≡ Some stop }
+        ensures again { (stop : Stopped) → self.old.stop ≡ Some stop → (result ≡ Err stop) × (self.new ≡ self.old) × (out.new ≡ out.old) }
+        ensures limits { self.new.limits ≡ self.old.limits }
+        ensures replace { self.new.replace ≡ self.old.replace }
+    {
+        if let Some(stop) = self.stop {
+            return Err(stop);
+        }
+        match self.take(piece, out) {
+            Ok(()) => Ok(Fed::More),
+            Err(stop) => {
+                self.stop = Some(stop);
+                Err(stop)
+            }
+        }
+    }
+
+    /// The file ends here. It answers the earlier stop, and else Ok where the marker of the frame
+    /// header was reached, and Truncated at the number of bytes taken where it wasn't.
+    pub fn end(&mut self) -> Result<(), Stop>
+        ensures answered { (comment bytes text : List ℕ) → HasInserted comment bytes text self.old → EndsInsert self.old.limits comment self.old.replace bytes text result }
+        ensures stopped { (stop : Stopped) → result ≡ Err stop → self.new.stop ≡ Some stop }
+        ensures again { (stop : Stopped) → self.old.stop ≡ Some stop → (result ≡ Err stop) × (self.new ≡ self.old) }
+        ensures limits { self.new.limits ≡ self.old.limits }
+        ensures replace { self.new.replace ≡ self.old.replace }
+    {
+        if let Some(stop) = self.stop {
+            return Err(stop);
+        }
+        if let Some(_) = self.taken {
+            return Ok(());
+        }
+        let stop = truncated(self.reader.taken());
+        self.stop = Some(stop);
+        Err(stop)
+    }
+
+    // A piece, where nothing stopped.
+    fn take(&mut self, piece: &[u8], out: &mut Bytes) -> Result<(), Stop>
+        ensures answered { (comment bytes text : List ℕ) → HasInserted comment bytes text self.old → Appends (λ all. AfterTake comment bytes piece.now all result self.new) text out.old out.new }
+        ensures limits { self.new.limits ≡ self.old.limits }
+        ensures replace { self.new.replace ≡ self.old.replace }
+    {
+        match self.taken {
+            Some(taken) => {
+                let taken = copy(taken, self.limits.input, piece, out)?;
+                self.taken = Some(taken);
+                Ok(())
+            }
+            None => self.begin(piece, out),
+        }
+    }
+
+    // A piece, where the frame header's marker isn't there yet.
+    fn begin(&mut self, piece: &[u8], out: &mut Bytes) -> Result<(), Stop>
+        requires { self.old.taken ≡ None }
+        ensures answered { (comment bytes text : List ℕ) → HasInserted comment bytes text self.old → Appends (λ all. AfterTake comment bytes piece.now all result self.new) text out.old out.new }
+        ensures limits { self.new.limits ≡ self.old.limits }
+        ensures replace { self.new.replace ≡ self.old.replace }
+    {
+        let most = self.limits.input;
+        let used = read_head(&mut self.reader, &mut self.head, self.replace, most, piece)?;
+        let Some(used) = used else {
+            return Ok(());
+        };
+        write_head(
+            self.head.as_slice(),
+            self.segment.as_slice(),
+            self.reader.code(),
+            out,
+        )?;
+        let taken = copy(self.reader.taken(), most, &piece[used..], out)?;
+        self.taken = Some(taken);
+        Ok(())
+    }
+}
+
+// Reads the bytes of a piece up to the marker of the frame header, and tells how many these are, where
+// it is there.
+fn read_head(
+    reader: &mut SegmentReader,
+    head: &mut Bytes,
+    replace: bool,
+    most: u64,
+    piece: &[u8],
+) -> Result<Option<usize>, Stop>
+    requires { (reading_of reader.old).limits.input ≡ most }
+    ensures answered { (bytes : List ℕ) → HasKept (reading_of reader.old).limits replace bytes head.old (reading_of reader.old) → AfterHeadPiece (reading_of reader.old).limits replace bytes piece.now result head.new (reading_of reader.new) }
+    ensures limits { (reading_of reader.new).limits ≡ (reading_of reader.old).limits }
+    ensures within { IfOk result (λ answer. IfSome answer (λ used. used ≤ length piece.now)) }
+{
+    let mut used = 0;
+    for byte in piece {
+        if reader.taken() >= most {
+            return Err(too_long(most));
+        }
+        used += 1;
+        if read_byte(reader, head, replace, *byte)? {
+            return Ok(Some(used));
+        }
+    }
+    if reader.taken() >= most {
+        return Err(too_long(most));
+    }
+    Ok(None)
+}
+
+// Reads a byte, and tells whether the frame header's marker is there.
+fn read_byte(
+    reader: &mut SegmentReader,
+    head: &mut Bytes,
+    replace: bool,
+    byte: u8,
+) -> Result<bool, Stop>
+    requires { (reading_of reader.old).taken < (reading_of reader.old).limits.input }
+    ensures answered { (bytes : List ℕ) → HasKept (reading_of reader.old).limits replace bytes head.old (reading_of reader.old) → AfterHeadByte (reading_of reader.old).limits replace (bytes ++ byte ∷ []) result head.new (reading_of reader.new) }
+    ensures limits { (reading_of reader.new).limits ≡ (reading_of reader.old).limits }
+{
+    match reader.byte(byte)? {
+        SegStep::Whole => {
+            keep_segment(reader, head, replace)?;
+            Ok(false)
+        }
+        SegStep::Frame => Ok(true),
+        SegStep::More => Ok(false),
+        SegStep::Start => Ok(false),
+        SegStep::Eoi => Ok(false),
+    }
+}
+
+// Keeps the last segment with one FF, but no comment where comments are replaced.
+fn keep_segment(reader: &SegmentReader, head: &mut Bytes, replace: bool) -> Result<(), NoMemory>
+    ensures { length (reading_of reader.now).contents ≤ 65533 → AppendsText (kept_text replace (reading_of reader.now).code (reading_of reader.now).contents) result head.old head.new }
+{
+    let code = reader.code();
+    if replace && code == 0xfe {
+        return Ok(());
+    }
+    let contents = reader.contents();
+    let length = contents.len().min(LONGEST);
+    append_segment(code, &contents[..length], head)
+}
+
+// What stands before the contents of the frame header.
+fn write_head(head: &[u8], segment: &[u8], code: u8, out: &mut Bytes) -> Result<(), NoMemory>
+    ensures { AppendsText (head.now ++ segment.now ++ 255 ∷ code ∷ []) result out.old out.new }
+{
+    out.push_all(head)?;
+    out.push_all(segment)?;
+    out.push_all(&[0xff, code])
+}
+
+// Copies the bytes behind that, but none past the most that may be taken, and tells how many were taken.
+fn copy(taken: u64, most: u64, rest: &[u8], out: &mut Bytes) -> Result<u64, Stop>
+    ensures { Copies taken most rest.now result out.old out.new }
+{
+    let room = most.saturating_sub(taken);
+    let length = rest.len() as u64;
+    if length < room {
+        out.push_all(rest)?;
+        return Ok(taken + length);
+    }
+    out.push_all(&rest[..room as usize])?;
+    Err(too_long(most))
+}
+
+#[cfg(test)]
+mod tests;
