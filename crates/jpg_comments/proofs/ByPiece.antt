@@ -27,10 +27,6 @@ one_more bytes piece i h = ap (λ l. bytes ++ l) (take_more piece i 0 h) ∙ sym
 pub all_of_it : (bytes piece : List ℕ) (i : ℕ) → length piece ≤ i → bytes ++ take i piece ≡ bytes ++ piece
 all_of_it bytes piece i h = ap (λ l. bytes ++ l) (take_all i piece h)
 
--- with more behind them
-and_more : (bytes piece all rest more : List ℕ) → bytes ++ piece ≡ all ++ rest → (bytes ++ piece) ++ more ≡ all ++ (rest ++ more)
-and_more bytes piece all rest more cut = ap (λ l. l ++ more) cut ∙ append_assoc all rest more
-
 -- a front of a front
 front_longer : (n : ℕ) (all rest : List ℕ) → take (min n (length all)) (all ++ rest) ≡ take n all
 front_longer n all rest = front_is (min n (length all)) all rest (omega arith) ∙ take_min n all

@@ -34,10 +34,6 @@ abbrev pub PrintsPart : Limits → List ℕ → List ℕ → Type 0
 PrintsPart limits bytes text =
     (n : ℕ) × (front : ℕ) × (before : List Segment) × IsBegun (kept_rule limits) (take front bytes) before × (text ≡ take n (comments_text before))
 
--- Every file that begins with these bytes has this first fault.
-abbrev pub IsFaultOf : Limits → List ℕ → Fault → ℕ → Type 0
-IsFaultOf limits bytes fault n = (more : List ℕ) → IsReadFault limits (bytes ++ more) fault n
-
 -- with a byte more
 abbrev pub AfterByte : Limits → List ℕ → List ℕ → Result Bool Stop → Reading → Type 0
 AfterByte limits bytes text (Ok false) r = HasPrinted limits bytes text r

@@ -7,7 +7,7 @@ use Rattle.jpg_base.specs.declared.stop.Fed.TheVariants as fed
 use Rattle.jpg_base.specs.declared.stop.Stop.{Stop}
 use Rattle.jpg_base.specs.declared.stop.Stop.TheVariants as stop
 use Rattle.jpg_markers.specs.Reading.{reading_of}
-use Rattle.jpg_comments.specs.Printing.{HasPrinted, PrintsWhole, PrintsBefore, PrintsPart, IsFaultOf}
+use Rattle.jpg_comments.specs.Printing.{HasPrinted, PrintsWhole, PrintsBefore, PrintsPart}
 use Rattle.jpg_comments.specs.declared.comments.Comments.{Comments}
 
 -- The file is whole: neither `feed` nor `end` may be called any more.
