@@ -1,6 +1,6 @@
 -- What is judged of the bytes behind a whole header.
-use Rattle.std.proofs.Common.{◌≡◌, ℕ, zero, suc, ◌+◌, ◌*◌, ◌<◌, ◌≤◌, Bool, true, false, List, [], ◌∷◌, ◌++◌, length, take, drop, Option, Some, None, Ok, refl, sym, ap, ◌∙◌, subst, arith, inl, inr, ◌==◌, ◌&&◌, ℤ, pos, negsuc}
-use Rattle.std.specs.Prelude.{◌⊎◌, ◌^◌, All, nat_abs, nat_lt, int_le, ◌≤ℤ◌, neg_ℤ, if◌then◌else◌}
+use Rattle.std.proofs.Common.{◌≡◌, ℕ, zero, suc, ◌*◌, ◌<◌, ◌≤◌, Bool, true, false, List, [], ◌∷◌, ◌++◌, length, take, drop, Some, refl, sym, ap, ◌∙◌, subst, arith, inl, inr, ◌==◌, ◌&&◌, ℤ, pos, negsuc}
+use Rattle.std.specs.Prelude.{◌^◌, All, nat_abs, nat_lt, int_le, ◌≤ℤ◌, neg_ℤ, if◌then◌else◌}
 use Rattle.std.proofs.lemmas.List.{append_assoc, take-append-drop, length-take-le}
 use Rattle.std.proofs.lemmas.Int.{ints}
 use Rattle.jpg_spec.specs.Bits.{SpellsData, IsMarkerCode}
@@ -9,10 +9,9 @@ use Rattle.jpg_spec.specs.Geometry as geometry
 use Rattle.jpg_spec.specs.Segments.{ScanHead, standard_limits}
 use Rattle.jpg_spec.specs.Elements.{Coding, are_in_bounds}
 use Rattle.jpg_spec.specs.Scan.{scan_coding}
-use Rattle.jpg_spec.specs.Written.{IsWritable}
 use Rattle.jpg_spec.specs.GrayFile.{end_of_image, gray_coding}
-use Rattle.jpg_spec.specs.InForce.{frame_of, head_in}
-use Rattle.jpg_spec.specs.SingleScan.{is_whole_frame, is_single_scan, blocks_across, blocks_down, SpellsScan, single_coding}
+use Rattle.jpg_spec.specs.InForce.{frame_of}
+use Rattle.jpg_spec.specs.SingleScan.{is_whole_frame, blocks_across, blocks_down, SpellsScan, single_coding}
 use Rattle.jpg_spec.specs.declared.answers.FaultAt.{FaultAt}
 use Rattle.jpg_spec.proofs.OneFile.{data_apart}
 use Rattle.jpg_spec.proofs.SingleFrame.{whole_frame, across_is, down_is}

@@ -1,27 +1,27 @@
 -- What each further byte makes of the header that was read so far.
 use Rattle.std.proofs.lemmas.Bool.Decides.{nat_tests}
 use Rattle.std.proofs.lemmas.List.{append-nil, take_more}
-use Rattle.std.proofs.Common.{◌≡◌, ℕ, suc, ◌+◌, ◌<◌, ◌≤◌, Bool, true, false, not, List, [], ◌∷◌, ◌++◌, length, take, get_or, replicate, Option, Some, None, Ok, Err, refl, sym, ap, ◌∙◌, subst, arith, inl, inr, ◌==◌, ◌&&◌}
-use Rattle.std.specs.Prelude.{◌⊎◌, ◌||◌, nat_lt, nat_le, if◌then◌else◌, unwrap_or}
+use Rattle.std.proofs.Common.{◌≡◌, ℕ, suc, ◌+◌, ◌<◌, ◌≤◌, Bool, true, false, List, [], ◌∷◌, ◌++◌, length, take, get_or, Option, Some, None, Ok, Err, refl, sym, ap, ◌∙◌, subst, arith, inl, inr, ◌==◌}
+use Rattle.std.specs.Prelude.{◌⊎◌, ◌||◌, nat_lt, unwrap_or}
 use Rattle.jpg_spec.specs.Segments.{ScanHead, standard_limits}
 use Rattle.jpg_spec.specs.Geometry.{Frame}
 use Rattle.jpg_spec.specs.ScanContents.{scan_header}
-use Rattle.jpg_spec.specs.Markers.{Segment, Rule, SpellsMarker, SpellsSegment, SpellsSegments, Pass, Between, BeginsSegment, PartOfSegment, TailShows, NoMarkerBytes, code_fault, has_scan, is_kept, is_kept_if, is_within, kept_rule, kept_count, kept_after}
-use Rattle.jpg_spec.specs.InForce.{frame_of, frame_after, no_frame}
-use Rattle.jpg_spec.specs.Items.{fault_in, contents_rule}
-use Rattle.jpg_spec.specs.Header.{header_rule, InHeader, HeaderShows, HeaderStands, IsHeader}
+use Rattle.jpg_spec.specs.Markers.{Segment, Rule, SpellsSegments, Pass, Between, BeginsSegment, PartOfSegment, TailShows, code_fault, has_scan, is_within, kept_rule}
+use Rattle.jpg_spec.specs.InForce.{frame_of, no_frame}
+use Rattle.jpg_spec.specs.Items.{fault_in}
+use Rattle.jpg_spec.specs.Header.{header_rule, HeaderShows, HeaderStands}
 use Rattle.jpg_spec.specs.declared.fault.Fault.{Fault}
 use Rattle.jpg_spec.specs.declared.answers.FaultAt.{FaultAt}
 use Rattle.jpg_spec.specs.declared.frame.Limits.{Limits}
 use Rattle.jpg_base.specs.declared.stop.Stop.TheVariants as stop
-use Rattle.jpg_spec.specs.declared.fault.Fault.TheVariants.{MissingComponent, MarkersTooLarge}
+use Rattle.jpg_spec.specs.declared.fault.Fault.TheVariants.{MissingComponent}
 use Rattle.jpg_spec.proofs.Telling.{same_of}
 use Rattle.jpg_spec.proofs.FrameFound.{frame_found, framed}
 use Rattle.jpg_markers.specs.declared.segments.SegStep.TheVariants as segment_step
 use Rattle.jpg_markers.specs.declared.segments.Phase.{Phase}
 use Rattle.jpg_markers.specs.declared.segments.Phase.TheVariants as phase
 use Rattle.jpg_markers.specs.Reading.{Reading, StandsFor, AtPhase, IsBetween, PartRead, ShowsBehind, EndsBehind, Comes}
-use Rattle.jpg_cli.specs.Header.{HeaderTold, Holds, told_by}
+use Rattle.jpg_cli.specs.Header.{HeaderTold, told_by}
 use Rattle.jpg_cli.specs.FirstScan.{InWork, IsBehindSegment, HasHeader, AfterStep}
 use Rattle.jpg_cli.specs.declared.header.Header.{Header}
 use Rattle.jpg_cli.specs.declared.first_scan.Step.TheVariants as step

@@ -1,5 +1,5 @@
 -- What the steps of a run come to, over the states that a desk tells.
-use Rattle.std.proofs.Common.{◌≡◌, ℕ, zero, suc, ◌+◌, ◌^◌, ◌<◌, ◌≤◌, List, [], ◌∷◌, ◌++◌, length, take, drop, Option, Ok, Err, refl, sym, ap, ◌∙◌, subst, arith, inl, inr}
+use Rattle.std.proofs.Common.{◌≡◌, ℕ, zero, suc, ◌^◌, ◌<◌, ◌≤◌, List, [], ◌∷◌, ◌++◌, length, take, drop, Option, Ok, Err, refl, sym, ap, ◌∙◌, subst, arith, inl, inr}
 use Rattle.std.specs.Prelude.{◌⊎◌, All}
 use Rattle.std.proofs.lemmas.List.{append_assoc, length-append, length-take, take_all, take-append-drop}
 use Rattle.jpg_base.specs.declared.names.Name.{Name}
@@ -19,7 +19,7 @@ use Rattle.jpg_spec.specs.FirstFault.{IsFirstFault}
 use Rattle.jpg_spec.specs.Header.{HeaderShows, HeaderStands}
 use Rattle.jpg_spec.proofs.HeaderFirst.{header_first, standing_truncated}
 use Rattle.jpg_spec.proofs.SingleMeans.{file_means}
-use Rattle.jpg_cli.specs.Reading.{Keeps, AfterInput, IsFile, taken_of, asked_input, asked_both}
+use Rattle.jpg_cli.specs.Reading.{Keeps, AfterInput, taken_of, asked_input, asked_both}
 use Rattle.jpg_cli.specs.Writing.{AfterOutput}
 use Rattle.jpg_cli.specs.Gray.{IsRefusal, IsSingle, IsUnbuilt, meaning_in, truncated, turned_text_in}
 use Rattle.jpg_cli.specs.Run.{GrayInput, Turned, turned_file, turned_meaning}

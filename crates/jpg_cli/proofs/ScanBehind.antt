@@ -1,22 +1,18 @@
 -- What is held behind a whole header says whether its scan is one that can be read.
-use Rattle.std.proofs.Common.{◌≡◌, ℕ, zero, suc, ◌+◌, ◌-◌, ◌*◌, ◌/◌, ◌<◌, ◌≤◌, Bool, true, false, not, List, [], ◌∷◌, ◌++◌, length, map, take, drop, get_or, Option, Some, None, Ok, Err, refl, sym, ap, ◌∙◌, subst, arith, inl, inr, ◌==◌, ◌&&◌, ℤ}
-use Rattle.std.specs.Prelude.{◌⊎◌, ◌||◌, All, unwrap_or, is_some, is_none}
-use Rattle.std.proofs.lemmas.List.{append_assoc, take-append-drop, length-take-le}
-use Rattle.jpg_spec.specs.Bits.{SpellsData, IsMarkerCode}
-use Rattle.jpg_spec.specs.Geometry.{Frame, component_at, is_progressive}
-use Rattle.jpg_spec.specs.Segments.{ScanHead, QuantTable, head_components, standard_limits}
+use Rattle.std.proofs.Common.{◌≡◌, ℕ, Bool, true, false, not, List, [], ◌∷◌, length, map, Option, Some, None, Ok, refl, sym, ap, ◌∙◌, ◌==◌, ◌&&◌}
+use Rattle.std.specs.Prelude.{◌||◌, unwrap_or, is_some, is_none}
+use Rattle.jpg_spec.specs.Geometry.{Frame, component_at}
+use Rattle.jpg_spec.specs.Segments.{ScanHead, QuantTable, standard_limits}
 use Rattle.jpg_spec.specs.QuantContents.{quant_in}
 use Rattle.jpg_spec.specs.ScanContents.{scan_header}
-use Rattle.jpg_spec.specs.Elements.{Coding}
 use Rattle.jpg_spec.specs.Scan.{scan_coding}
 use Rattle.jpg_spec.specs.Markers.{Segment}
-use Rattle.jpg_spec.specs.InForce.{frame_of, frame_after, no_frame, no_head, told_or, head_in, huffman_in_force, restart_in_force}
+use Rattle.jpg_spec.specs.InForce.{frame_of, no_frame, no_head, told_or, head_in, huffman_in_force, restart_in_force}
 use Rattle.jpg_spec.specs.History.{lacks_table}
 use Rattle.jpg_spec.specs.SingleScan.{is_whole_frame, is_single_scan, single_coding}
 use Rattle.jpg_spec.specs.declared.frame.ScanPart.{ScanPart}
 use Rattle.jpg_spec.proofs.Telling.{both, negated}
 use Rattle.jpg_spec.proofs.SingleFrame.{whole_frame, one_named}
-use Rattle.jpg_huff.specs.declared.table.Table.{Table}
 use Rattle.jpg_huff.specs.declared.set.TableSet.{TableSet}
 use Rattle.jpg_huff.specs.Sets.{dc_tables, ac_tables, in_slot, slots_of}
 use Rattle.jpg_seq.specs.Plain.{in_force, IsPlainScan}

@@ -1,5 +1,5 @@
 -- The picture that was found, turned, is written as its definition says.
-use Rattle.std.proofs.Common.{◌≡◌, ℕ, zero, suc, ◌<◌, ◌≤◌, true, List, [], ◌∷◌, length, take, get_or, Option, Some, Ok, refl, sym, ap, ◌∙◌, subst, arith, ℤ}
+use Rattle.std.proofs.Common.{◌≡◌, ℕ, zero, suc, ◌<◌, List, [], ◌∷◌, take, get_or, Some, sym, ap, ◌∙◌, subst, arith, ℤ}
 use Rattle.std.specs.Prelude.{All}
 use Rattle.jpg_spec.specs.Geometry.{Frame, component_at}
 use Rattle.jpg_spec.specs.Segments.{ScanHead, QuantTable, standard_limits}

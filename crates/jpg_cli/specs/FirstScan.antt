@@ -6,10 +6,8 @@ use Rattle.jpg_spec.specs.ScanContents.{scan_header}
 use Rattle.jpg_spec.specs.Markers.{Segment, Pass, code_fault, has_scan, kept_rule, SpellsSegments}
 use Rattle.jpg_spec.specs.InForce.{frame_after}
 use Rattle.jpg_spec.specs.Header.{header_rule, HeaderShows, HeaderStands, IsHeader}
-use Rattle.jpg_spec.specs.declared.fault.Fault.{Fault}
 use Rattle.jpg_markers.specs.Reading.{Reading, StandsFor}
 use Rattle.jpg_cli.specs.Header.{HeaderTold, Holds, told_by}
-use Rattle.jpg_cli.specs.declared.first_scan.FirstScan.{FirstScan}
 use Rattle.jpg_cli.specs.declared.first_scan.HeaderRead.{HeaderRead}
 use Rattle.jpg_cli.specs.declared.first_scan.HeaderRead.TheVariants as read
 use Rattle.jpg_cli.specs.declared.first_scan.Step.{Step}

@@ -1,5 +1,5 @@
 -- The file of one gray scan that bytes begin with, if any, and its picture turned.
-use Rattle.std.specs.Prelude.{◌≡◌, ◌⊎◌, ℕ, ◌+◌, ◌*◌, ◌≤◌, ◌<◌, ◌^◌, Bool, true, false, nat_lt, ◌&&◌, ◌==◌, if◌then◌else◌, List, [], ◌∷◌, ◌++◌, length, take, All, ℤ, is_some, Option, Some, None}
+use Rattle.std.specs.Prelude.{◌≡◌, ◌⊎◌, ℕ, ◌*◌, ◌≤◌, ◌<◌, ◌^◌, Bool, true, false, nat_lt, ◌&&◌, ◌==◌, if◌then◌else◌, List, [], ◌∷◌, ◌++◌, length, take, All, ℤ, is_some}
 use Rattle.jpg_spec.specs.Bits.{SpellsData, data_of}
 use Rattle.jpg_spec.specs.FileText.{front_text}
 use Rattle.jpg_spec.specs.Geometry.{Frame, component_at}

@@ -1,13 +1,10 @@
-use Rattle.std.proofs.Common.{◌≡◌, ◌+◌, ◌≤◌, ◌++◌, ◌∷◌, [], List, ℕ, length, take, get_or, sym, subst, ◌∙◌, arith, refl}
-use Rattle.std.proofs.lemmas.List.{take_more, take_all}
+use Rattle.std.proofs.Common.{List, ℕ, take, subst, ◌∙◌, arith}
+use Rattle.std.proofs.lemmas.List.{take_all}
 use Rattle.jpg_spec.specs.Segments.{standard_limits}
-use Rattle.jpg_spec.specs.Header.{HeaderShows, HeaderStands}
+use Rattle.jpg_spec.specs.Header.{HeaderStands}
 use Rattle.jpg_markers.specs.Reading.{reading_of}
 use Rattle.jpg_cli.specs.Header.{told_by}
-use Rattle.jpg_cli.specs.FirstScan.{AfterStep}
-use Rattle.jpg_cli.specs.declared.first_scan.Step.{Step}
-use Rattle.jpg_cli.specs.declared.first_scan.Step.TheVariants as step
-use Rattle.jpg_cli.proofs.Opening.{header_stands, refused_at, scan_at, more_at}
+use Rattle.jpg_cli.proofs.Opening.{header_stands, refused_at, more_at}
 use Rattle.jpg_cli.proofs.first_scan.read_header.Goals as goal
 
 pub returns-in-Fault : goal.returns-in-Fault

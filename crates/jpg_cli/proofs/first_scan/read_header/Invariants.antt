@@ -1,4 +1,4 @@
-use Rattle.std.specs.Prelude.{◌≡◌, ◌≤◌, List, length, take}
+use Rattle.std.specs.Prelude.{◌≡◌, List, take}
 use Rattle.jpg_spec.specs.Markers.{Segment}
 use Rattle.jpg_markers.specs.Reading.{reading_of}
 use Rattle.jpg_cli.specs.Header.{told_by}

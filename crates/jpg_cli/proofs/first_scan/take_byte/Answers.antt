@@ -1,12 +1,8 @@
-use Rattle.std.proofs.Common.{◌≡◌, List, ℕ, [], ◌∷◌, ◌++◌, Ok, Err, sym, subst}
-use Rattle.jpg_spec.specs.Segments.{standard_limits}
-use Rattle.jpg_spec.specs.Markers.{Segment, kept_rule}
-use Rattle.jpg_spec.specs.declared.frame.Limits.{Limits}
+use Rattle.std.proofs.Common.{List, ℕ, [], ◌∷◌, ◌++◌, Ok, Err, subst}
 use Rattle.jpg_base.specs.declared.stop.Stop.{Stop}
 use Rattle.jpg_markers.specs.declared.segments.SegStep.{SegStep}
-use Rattle.jpg_markers.specs.Reading.{Reading, reading_of, BehindWhole, Comes}
+use Rattle.jpg_markers.specs.Reading.{reading_of, BehindWhole, Comes}
 use Rattle.jpg_cli.specs.Header.{told_by}
-use Rattle.jpg_cli.specs.FirstScan.{InWork}
 use Rattle.jpg_cli.proofs.Opening.{fault_byte, end_byte, behind_segment, more_byte, start_byte, frame_byte}
 use Rattle.jpg_cli.proofs.first_scan.take_byte.Goals as goal
 

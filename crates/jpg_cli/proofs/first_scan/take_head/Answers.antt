@@ -1,4 +1,4 @@
-use Rattle.std.proofs.Common.{◌≡◌, List, ℕ, Some, Err, sym, subst, ◌∙◌, ap}
+use Rattle.std.proofs.Common.{◌≡◌, List, ℕ, Err, sym, subst}
 use Rattle.jpg_spec.specs.ScanContents.{scan_header}
 use Rattle.jpg_markers.specs.Reading.{reading_of}
 use Rattle.jpg_cli.specs.Header.{told_by}

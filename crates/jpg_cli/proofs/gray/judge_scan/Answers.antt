@@ -1,15 +1,14 @@
-use Rattle.std.proofs.Common.{rules, ◌≡◌, ◌*◌, List, ℕ, ℤ, true, false, length, sym, ◌∙◌, refl, ap, subst, arith, Some}
-use Rattle.std.specs.Prelude.{All, ◌≤ℤ◌, negsuc}
+use Rattle.std.proofs.Common.{rules, ◌≡◌, ◌*◌, List, ℕ, true, false, length, sym, refl, subst, arith, Some}
 use Rattle.jpg_spec.specs.Geometry.{Frame}
 use Rattle.jpg_spec.specs.QuantContents.{quant_in}
 use Rattle.jpg_spec.specs.declared.frame.Component.{Component}
-use Rattle.jpg_spec.specs.SingleScan.{is_whole_frame, blocks_across, blocks_down}
+use Rattle.jpg_spec.specs.SingleScan.{blocks_across, blocks_down}
 use Rattle.jpg_spec.specs.Scan.{scan_coding}
 use Rattle.jpg_seq.specs.Plain.{in_force, block_count, IsPlainRead}
 use Rattle.jpg_seq.specs.declared.plain.PlainRead.{PlainRead}
 use Rattle.jpg_cli.specs.Header.{told_by}
-use Rattle.jpg_cli.specs.Gray.{HasData, IsTurned, single_told, has_tables, not_built}
-use Rattle.jpg_cli.proofs.ScanBehind.{no_frame_held, plain_held, no_table}
+use Rattle.jpg_cli.specs.Gray.{HasData, IsTurned, single_told}
+use Rattle.jpg_cli.proofs.ScanBehind.{no_frame_held, plain_held}
 use Rattle.jpg_cli.proofs.Judged.{other_scan, other_data, other_blocks, found, found_small, whole_of, read_many}
 use Rattle.jpg_cli.proofs.Turning.{judged}
 use Rattle.jpg_cli.proofs.gray.judge_scan.Goals as goal

@@ -1,4 +1,4 @@
-use Rattle.std.proofs.Common.{◌≡◌, ℕ, ◌^◌, ◌≤◌, List, length, sym, subst}
+use Rattle.std.proofs.Common.{ℕ, ◌^◌, ◌≤◌, List, length, sym, subst}
 use Rattle.jpg_cli.specs.Gray.{IsRefusal, Judges}
 use Rattle.jpg_cli.specs.declared.gray.Judged.TheVariants as judged
 use Rattle.jpg_cli.proofs.Running.{taken_short, turned_output, turned_refused}
