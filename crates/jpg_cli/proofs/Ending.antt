@@ -9,10 +9,11 @@ use Rattle.jpg_base.specs.Desk.{DeskState, NoneFell}
 use Rattle.jpg_base.specs.Laws.{NotesNames, Grows, NoneFell-then}
 use Rattle.jpg_spec.specs.declared.answers.Why.{Why}
 use Rattle.jpg_spec.specs.declared.answers.Why.TheVariants as why
-use Rattle.jpg_spec.specs.declared.answers.Asked.{Asked}
-use Rattle.jpg_spec.specs.declared.answers.Asked.TheVariants as asked
 use Rattle.jpg_spec.specs.declared.answers.Which.TheVariants as which
-use Rattle.jpg_spec.specs.Words.{asked as asked_of, tool_of}
+use Rattle.jpg_spec.specs.Words.{tool_of}
+use Rattle.jpg_spec.specs.CommentWords.{WordsTold, words_right, words_wrong}
+use Rattle.jpg_cli.specs.Commands.{Command, not_built, flip_horizontal, print_comments, command_asked, name_of}
+use Rattle.jpg_cli.proofs.CommentsPrinted.{printed_then}
 use Rattle.jpg_spec.specs.Messages.{message, code_of}
 use Rattle.jpg_cli.specs.Reading.{asked_input, asked_both}
 use Rattle.jpg_cli.specs.Saying.{OnlySays}
@@ -70,10 +71,12 @@ turned_then s0 s1 s2 why.WriteFault k t = record {
 }
 turned_then s0 s1 s2 why.NoMemory k t = record { names = notes_still s0.asked s1.asked s2.asked (asked_input put.Done) k.asked t.names; outputs = k.outputs ∙ t.outputs }
 
-worked_then : (a : Asked) (s0 s1 s2 : DeskState) (w : Why) → OnlySays s1 s2 → Worked a s0 w s1 → Worked a s0 w s2
-worked_then (asked.Wrong u) s0 s1 s2 w k t = (t.0, (k.asked ∙ t.1.0, k.outputs ∙ t.1.1))
-worked_then asked.NotBuilt s0 s1 s2 w k t = (t.0, (k.asked ∙ t.1.0, k.outputs ∙ t.1.1))
-worked_then asked.FlipHorizontal s0 s1 s2 w k t = turned_then s0 s1 s2 w k t
+worked_then : (a : WordsTold Command) (s0 s1 s2 : DeskState) (w : Why) → OnlySays s1 s2 → Worked a s0 w s1 → Worked a s0 w s2
+worked_then (words_wrong u) s0 s1 s2 w k t = (t.0, (k.asked ∙ t.1.0, k.outputs ∙ t.1.1))
+worked_then (words_right not_built) s0 s1 s2 w k t = (t.0, (k.asked ∙ t.1.0, k.outputs ∙ t.1.1))
+worked_then (words_right flip_horizontal) s0 s1 s2 w k t = turned_then s0 s1 s2 w k t
+worked_then (words_right (print_comments files)) s0 s1 s2 w k (inl t) = inl (printed_then s0 s1 s2 (name_of files.input) (name_of files.output) w k t)
+worked_then (words_right (print_comments files)) s0 s1 s2 w k (inr t) = inr (t.0, (k.asked ∙ t.1.0, k.outputs ∙ t.1.1))
 
 said_still : (a : Option (List ℕ)) (b c : Option (List ℕ)) (t : List ℕ) → b ≡ a → Appends b c t → Appends a c t
 said_still a b c t e h = let P : Option (List ℕ) → Type 0 = λ m. Appends m c t in subst P e h
@@ -86,7 +89,7 @@ says_still s0 s1 s2 text e f (inr h) = inr ((let r = h.0 in let g = f.says in om
 pub ran : (words : List (List ℕ)) (s0 s1 s2 : DeskState) (code : ℕ) (w : Why) → Works words s0 w s1 → OnlySays s1 s2 → SaysText s1 (message (tool_of words) w) s2 → code ≡ code_of w
     → Ran words s0 (record { code = code; why = w }) s2
 ran words s0 s1 s2 code w h k m e = record {
-  worked = worked_then (asked_of words) s0 s1 s2 w k h.worked;
+  worked = worked_then (command_asked words) s0 s1 s2 w k h.worked;
   said = says_still s0 s1 s2 (message (tool_of words) w) h.said h.counts m;
   code = e;
   counts = NoneFell-then s0.counts s1.counts s2.counts h.counts k.counts;

@@ -12,7 +12,7 @@ use Rattle.jpg_base.specs.Laws.{NotesNames}
 use Rattle.jpg_cli.specs.declared.reading.Taken.TheVariants as taken
 use Rattle.jpg_cli.specs.Reading.{OnlyReads, AfterReading, taken_of, IsFile, AfterInput}
 
-notes_one : (a b : Option (List (Name × Put))) (entry : Name × Put) → NotesName a entry b → NotesNames a (entry ∷ []) b
+pub notes_one : (a b : Option (List (Name × Put))) (entry : Name × Put) → NotesName a entry b → NotesNames a (entry ∷ []) b
 notes_one a None entry h = tt
 notes_one None (Some b) entry h = absurd h
 notes_one (Some a) (Some b) entry h = h
@@ -23,10 +23,10 @@ front_is input taken rest e le (inl ge) = sym (ap (take (2 ^ 28)) e ∙ take_at 
 front_is input taken rest e le (inr none) =
     sym (ap (take (2 ^ 28)) (e ∙ ap (λ r. taken ++ r) none ∙ append-nil taken) ∙ take_all (2 ^ 28) taken le)
 
-none_is_none : (x : List ℕ) → None ≡ Some x → ⊥
+pub none_is_none : (x : List ℕ) → None ≡ Some x → ⊥
 none_is_none x e = cc
 
-some_inj : (x y : List ℕ) → Some x ≡ Some y → x ≡ y
+pub some_inj : (x y : List ℕ) → Some x ≡ Some y → x ≡ y
 some_inj x y e = cc
 
 input_is : (files : Option (Name → Option (List ℕ))) (n : Name) (l1 l2 : Option (List ℕ)) (taken : List ℕ) → OpensFile files n l1 → Consumes l1 l2 taken → length taken ≤ 2 ^ 28

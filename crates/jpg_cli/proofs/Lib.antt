@@ -1,4 +1,7 @@
 pub mod Asking
+pub mod CommentsCopied
+pub mod CommentsPrinted
+pub mod CommentsRead
 pub mod Counted
 pub mod DataEnd
 pub mod Decimal

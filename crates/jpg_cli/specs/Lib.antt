@@ -1,7 +1,9 @@
 pub mod FirstScan
+pub mod Commands
 pub mod CommentWords
 pub mod Gray
 pub mod Header
+pub mod ReadComments
 pub mod Reading
 pub mod Run
 pub mod Saying

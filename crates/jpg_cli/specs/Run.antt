@@ -6,8 +6,6 @@ use Rattle.jpg_base.specs.declared.names.Put.TheVariants as put
 use Rattle.jpg_base.specs.Desk.{DeskState, NoneFell, Rose}
 use Rattle.jpg_base.specs.Laws.{NotesNames, Grows}
 use Rattle.jpg_spec.specs.declared.answers.FaultAt.{FaultAt}
-use Rattle.jpg_spec.specs.declared.answers.Asked.{Asked}
-use Rattle.jpg_spec.specs.declared.answers.Asked.TheVariants as asked
 use Rattle.jpg_spec.specs.declared.answers.Why.{Why}
 use Rattle.jpg_spec.specs.declared.answers.Why.TheVariants as why
 use Rattle.jpg_spec.specs.declared.answers.Which.TheVariants as which
@@ -19,7 +17,10 @@ use Rattle.jpg_spec.specs.GrayFile.{sequential_text}
 use Rattle.jpg_spec.specs.FileMeaning.{Means}
 use Rattle.jpg_spec.specs.FirstFault.{IsFirstFault}
 use Rattle.jpg_cli.specs.Gray.{IsSingle, IsUnbuilt, meaning_in, not_built}
-use Rattle.jpg_spec.specs.Words.{asked, tool_of}
+use Rattle.jpg_spec.specs.Words.{tool_of}
+use Rattle.jpg_spec.specs.CommentWords.{FilesAsked, WordsTold, words_right, words_wrong}
+use Rattle.jpg_cli.specs.Commands.{Command, not_built as unbuilt, flip_horizontal, print_comments, command_asked, name_of}
+use Rattle.jpg_cli.specs.ReadComments.{Printed}
 use Rattle.jpg_spec.specs.Messages.{message, code_of}
 use Rattle.jpg_cli.specs.declared.top.Ended.{Ended}
 use Rattle.jpg_cli.specs.Reading.{taken_of, IsFile, asked_input, asked_both}
@@ -121,22 +122,27 @@ IsDue old other = ⊥
 abbrev pub NoneRose : Counts → Counts → Type 0
 NoneRose old new = (Rose old.opens new.opens → ⊥) × (Rose old.reads new.reads → ⊥) × (Rose old.writes new.writes → ⊥)
 
+-- The comments of the input are printed, or memory was wanting for its name.
+abbrev pub RanRead : FilesAsked → DeskState → Why → DeskState → Type 0
+RanRead files old ended new = Printed (name_of files.input) (name_of files.output) old ended new ⊎ ((ended ≡ why.NoMemory) × Untouched old new)
+
 -- by what the words ask for
-abbrev pub Worked : Asked → DeskState → Why → DeskState → Type 0
-Worked (asked.Wrong usage) old ended new = (ended ≡ why.Usage usage) × Untouched old new
-Worked asked.NotBuilt old ended new = (ended ≡ why.Refused (not_built 0)) × Untouched old new
-Worked asked.FlipHorizontal old ended new = Turned old ended new
+abbrev pub Worked : WordsTold Command → DeskState → Why → DeskState → Type 0
+Worked (words_wrong usage) old ended new = (ended ≡ why.Usage usage) × Untouched old new
+Worked (words_right unbuilt) old ended new = (ended ≡ why.Refused (not_built 0)) × Untouched old new
+Worked (words_right flip_horizontal) old ended new = Turned old ended new
+Worked (words_right (print_comments files)) old ended new = RanRead files old ended new
 
 -- the work of a run, before its message
 pub record Works (words : List (List ℕ)) (old : DeskState) (ended : Why) (new : DeskState) : Type 0 where
-  pub worked : Worked (asked words) old ended new
+  pub worked : Worked (command_asked words) old ended new
   pub counts : NoneFell old.counts new.counts
   pub files : new.files ≡ old.files
   pub said : new.said ≡ old.said
 
 -- THE THEOREM: what a run does
 pub record Ran (words : List (List ℕ)) (old : DeskState) (ended : Ended) (new : DeskState) : Type 0 where
-  pub worked : Worked (asked words) old ended.why new
+  pub worked : Worked (command_asked words) old ended.why new
   pub said : SaysText old (message (tool_of words) ended.why) new
   pub code : ended.code ≡ code_of ended.why
   pub counts : NoneFell old.counts new.counts

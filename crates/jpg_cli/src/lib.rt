@@ -7,6 +7,7 @@ mod gray;
 mod header;
 mod laws;
 mod message;
+mod read_comments;
 mod reading;
 mod switches;
 mod top;

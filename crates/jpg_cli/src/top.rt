@@ -5,13 +5,15 @@ ghost use Rattle.jpg_cli.specs.Run.{Ran, Turned, Works, SaysText};
 ghost use Rattle.jpg_base.specs.Desk.{NoneFell};
 ghost use Rattle.jpg_cli.specs.Saying.{OnlySays};
 
+use crate::comment_words::WordsStop;
 use crate::gray::{Judged, judge};
 use crate::message::message_of;
+use crate::read_comments::print_comments;
 use crate::reading::take_input;
-use crate::words::{read_words, tool_name};
+use crate::words::{Asked, read_words, tool_name};
 use crate::writing::write_gray;
 use jpg_base::{Desk, Put};
-use jpg_spec::{Asked, Fault, FaultAt, Why};
+use jpg_spec::{Fault, FaultAt, Why};
 use std::alloc::Global;
 
 /// How a command ended: its exit status, and why.
@@ -59,21 +61,24 @@ fn turn<D: Desk>(alloc: Global, desk: &mut D) -> Why
 fn work<D: Desk>(alloc: Global, words: &[String], desk: &mut D) -> Why
     ensures { Works (map string_bytes words.now) (D.state desk.old) result (D.state desk.new) }
 {
-    match read_words(words) {
-        Asked::Wrong(usage) => Why::Usage(usage),
-        Asked::NotBuilt => Why::Refused(FaultAt {
+    match read_words(alloc, words) {
+        Err(WordsStop::Usage(usage)) => Why::Usage(usage),
+        Err(WordsStop::NoMemory) => Why::NoMemory,
+        Ok(Asked::NotBuilt) => Why::Refused(FaultAt {
             fault: Fault::NotBuilt,
             at: 0,
         }),
-        Asked::FlipHorizontal => turn(alloc, desk),
+        Ok(Asked::FlipHorizontal) => turn(alloc, desk),
+        Ok(Asked::Rdjpgcom(files)) => print_comments(alloc, &files, desk),
     }
 }
 
 /// Runs the command that the words ask for over a desk: `jpegtran -flip horizontal` turns the file on
 /// standard input left to right onto standard output: a sequential file of one gray scan, with any
 /// header, sides that are multiples of 8, and no restarts. Any other input is refused with the first
-/// fault that its header shows, or as not built yet, and nothing is written then. What is wrong or
-/// refused is named in a message.
+/// fault that its header shows, or as not built yet, and nothing is written then. `rdjpgcom [FILE]`
+/// prints the comments of a file, or of standard input, onto standard output. What is wrong or refused
+/// is named in a message.
 pub fn run<D: Desk>(alloc: Global, words: &[String], desk: &mut D) -> Ended
     ensures { Ran (map string_bytes words.now) (D.state desk.old) result (D.state desk.new) }
 {

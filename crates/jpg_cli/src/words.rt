@@ -1,8 +1,23 @@
 //! The words of a call.
 ghost use Rattle.std.specs.Prelude.{◌≡◌, ◌≤◌, IfSome, IfNone, length, map, true, false, string_bytes};
-ghost use Rattle.jpg_spec.specs.Words.{are_words, asked, flip_words, is_tool, tool_of};
+ghost use Rattle.jpg_spec.specs.Words.{are_words, flip_words, is_tool, tool_of};
+ghost use Rattle.jpg_cli.specs.declared.comment_words.WordsStop.TheVariants.{Usage as wrong};
+ghost use Rattle.jpg_cli.specs.Commands.{IsCommand, command_asked, command_told, other_command};
 
-use jpg_spec::{Asked, Usage, UsageFault};
+use crate::comment_words::{Files, WordsStop, rdjpgcom_words};
+use jpg_spec::{Usage, UsageFault};
+use std::alloc::Global;
+
+/// What the words of a call ask for.
+#[derive(Drop)]
+pub enum Asked {
+    /// What isn't built yet.
+    NotBuilt,
+    /// `jpegtran -flip horizontal`, from standard input to standard output.
+    FlipHorizontal,
+    /// `rdjpgcom`, with its files.
+    Rdjpgcom(Files),
+}
 
 // The command of this name.
 fn known_tool(word: &str) -> Option<&'static str>
@@ -47,27 +62,38 @@ fn is_flip(words: &[String]) -> bool
     }
 }
 
-/// What the words ask for.
-pub fn read_words(words: &[String]) -> Asked
-    ensures { result ≡ asked (map string_bytes words.now) }
+/// What the words ask for. Words that are wrong give their first fault: `NoTool`, `UnknownTool` at the
+/// command, or those of the command's own words; they take no memory.
+pub fn read_words(alloc: Global, words: &[String]) -> Result<Asked, WordsStop>
+    ensures { IsCommand (command_asked (map string_bytes words.now)) result }
 {
     match words {
-        [] => Asked::Wrong(Usage {
-            fault: UsageFault::NoTool,
-            word: 0,
-        }),
+        [] => Err(first_word(UsageFault::NoTool)),
         [tool, ..] => match known_tool(tool.as_str()) {
-            None => Asked::Wrong(Usage {
-                fault: UsageFault::UnknownTool,
-                word: 0,
-            }),
-            Some(_) => {
-                if is_flip(words) {
-                    Asked::FlipHorizontal
-                } else {
-                    Asked::NotBuilt
-                }
-            }
+            None => Err(first_word(UsageFault::UnknownTool)),
+            Some(_) if tool.as_str() == "rdjpgcom" => match rdjpgcom_words(alloc, words) {
+                Ok(files) => Ok(Asked::Rdjpgcom(files)),
+                Err(stop) => Err(stop),
+            },
+            Some(_) => Ok(other_words(words)),
         },
     }
+}
+
+// What the words of another command ask for.
+fn other_words(words: &[String]) -> Asked
+    ensures { command_told result ≡ other_command (map string_bytes words.now) }
+{
+    if is_flip(words) {
+        Asked::FlipHorizontal
+    } else {
+        Asked::NotBuilt
+    }
+}
+
+// The fault of the first word, or of no words.
+fn first_word(fault: UsageFault) -> WordsStop
+    ensures { result ≡ wrong (record { fault = fault; word = 0 }) }
+{
+    WordsStop::Usage(Usage { fault, word: 0 })
 }

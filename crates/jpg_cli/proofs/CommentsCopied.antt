@@ -1,0 +1,147 @@
+-- What reading pieces and writing the text of their comments comes to, over the states that a desk tells.
+use Rattle.std.proofs.Common.{◌≡◌, ℕ, ◌<◌, ◌≤◌, List, [], ◌∷◌, ◌++◌, length, take, Option, None, Some, refl, sym, ap, ◌∙◌, subst, arith}
+use Rattle.std.proofs.lemmas.List.{append-nil, length-take}
+use Rattle.std.specs.Io.KnownBytes.{Consumes, IsAtEnd}
+use Rattle.jpg_base.specs.declared.names.Name.{Name}
+use Rattle.jpg_base.specs.declared.names.Put.TheVariants as put
+use Rattle.jpg_base.specs.declared.names.Got.TheVariants as got
+use Rattle.jpg_base.specs.Desk.{DeskState, NoneFell, Rose, AppendsLast, append_last, AfterWrite, Reads}
+use Rattle.jpg_base.specs.Laws.{NoneFell-then, Consumes-then, AppendsLast-then, AppendsPart-then}
+use Rattle.jpg_huff.specs.Out.{OnlyWrites}
+use Rattle.jpg_spec.specs.Segments.{standard_limits}
+use Rattle.jpg_spec.specs.declared.answers.Why.{Why}
+use Rattle.jpg_spec.specs.declared.answers.Why.TheVariants as why
+use Rattle.jpg_spec.specs.declared.answers.Which.TheVariants as which
+use Rattle.jpg_comments.specs.Begun.{Appends}
+use Rattle.jpg_comments.specs.ReadComments.{HasRead}
+use Rattle.jpg_comments.specs.declared.comments.Comments.{Comments}
+use Rattle.jpg_cli.specs.ReadComments.{AfterEnd, AfterNext, AfterTaking, EndsCopying, HasCopied, IsFaultText, OnlyCopies, rest_of}
+use Rattle.jpg_cli.proofs.CommentsRead.{part_of_part, taken_part, text_so_far}
+
+-- NOTHING WRITTEN
+
+append_none : (outputs : List (Name × List ℕ)) → append_last outputs [] ≡ outputs
+append_none [] = refl
+append_none (o ∷ []) = ap (λ (b : List ℕ). (let q : List (Name × List ℕ) = (o.0, b) ∷ [] in q)) (append-nil o.1)
+append_none (o ∷ p ∷ os) = ap (λ (rest : List (Name × List ℕ)). o ∷ rest) (append_none (p ∷ os))
+
+pub none_written : (outputs : Option (List (Name × List ℕ))) → AppendsLast outputs [] outputs
+none_written None = tt
+none_written (Some outputs) = sym (append_none outputs)
+
+pub none_read : (left : Option (List ℕ)) → Consumes left left []
+none_read None = tt
+none_read (Some left) = refl
+
+-- FRAMES
+
+pub copies_none : (s : DeskState) → OnlyCopies s s
+copies_none s = record {
+  counts = record { opens = omega arith; reads = omega arith; writes = omega arith; says = omega arith };
+  asked = refl;
+  files = refl;
+  said = refl;
+  input_open = refl;
+  output_created = refl;
+}
+
+pub copies_then : (a b c : DeskState) → OnlyCopies a b → OnlyCopies b c → OnlyCopies a c
+copies_then a b c h k = record {
+  counts = NoneFell-then a.counts b.counts c.counts h.counts k.counts;
+  asked = k.asked ∙ h.asked;
+  files = k.files ∙ h.files;
+  said = k.said ∙ h.said;
+  input_open = k.input_open ∙ h.input_open;
+  output_created = k.output_created ∙ h.output_created;
+}
+
+-- A PIECE, read and then written
+
+outputs_still : (s0 s1 : DeskState) (text : List ℕ) (start : DeskState) → s1.outputs ≡ s0.outputs → AppendsLast start.outputs text s0.outputs → AppendsLast start.outputs text s1.outputs
+outputs_still s0 s1 text start e h = let P : Option (List (Name × List ℕ)) → Type 0 = λ o. AppendsLast start.outputs text o in subst P (sym e) h
+
+left_still : (s0 s1 : DeskState) (bytes : List ℕ) (start : DeskState) → s1.left ≡ s0.left → Consumes start.left s0.left bytes → Consumes start.left s1.left bytes
+left_still s0 s1 bytes start e h = let P : Option (List ℕ) → Type 0 = λ o. Consumes start.left o bytes in subst P (sym e) h
+
+-- a piece was read, and the text that was added is written
+pub copied : (start s0 s1 s2 : DeskState) (bytes text piece more : List ℕ) → HasCopied start bytes text s0 → Consumes s0.left s1.left piece → s1.outputs ≡ s0.outputs → OnlyWrites s1 s2 → AppendsLast s1.outputs more s2.outputs
+    → HasCopied start (bytes ++ piece) (text ++ more) s2
+copied start s0 s1 s2 bytes text piece more h read same k w = record {
+  read = left_still s1 s2 (bytes ++ piece) start k.left (Consumes-then start.left s0.left s1.left bytes piece h.read read);
+  written = AppendsLast-then start.outputs s1.outputs s2.outputs text more (outputs_still s0 s1 text start same h.written) w;
+}
+
+-- Nothing was read or written.
+pub copied_still : (start s0 s1 : DeskState) (bytes text : List ℕ) → HasCopied start bytes text s0 → s1.left ≡ s0.left → s1.outputs ≡ s0.outputs → HasCopied start bytes text s1
+copied_still start s0 s1 bytes text h left outputs = record { read = left_still s0 s1 bytes start left h.read; written = outputs_still s0 s1 text start outputs h.written }
+
+-- all was written: what the piece came to is so of the desk
+pub next_due : (start s2 : DeskState) (bytes text piece all : List ℕ) (due : Option Why) (c : Comments) → 0 < length piece → AfterTaking (bytes ++ piece) all due c → HasCopied start (bytes ++ piece) all s2 → AfterNext start bytes due c s2
+next_due start s2 bytes text piece all None c some h k = (piece, all, some, h, k)
+next_due start s2 bytes text piece all (Some why.Done) c some h k = (bytes ++ piece, all, k, h)
+next_due start s2 bytes text piece all (Some (why.Usage u)) c some h k = absurd h
+next_due start s2 bytes text piece all (Some (why.Refused f)) c some h k = (bytes ++ piece, all, k, h (rest_of s2.left))
+next_due start s2 bytes text piece all (Some (why.OpenFault w)) c some h k = absurd h
+next_due start s2 bytes text piece all (Some (why.ReadFault w)) c some h k = absurd h
+next_due start s2 bytes text piece all (Some why.WriteFault) c some h k = absurd h
+next_due start s2 bytes text piece all (Some why.NoMemory) c some h k = (bytes ++ piece, all, k, h)
+
+-- a part was written alone
+pub next_unwritten : (start s0 s1 s2 : DeskState) (bytes text piece more : List ℕ) (due : Option Why) (c : Comments) → c.limits ≡ standard_limits → OnlyCopies start s0 → NoneFell s0.counts s1.counts → AfterTaking (bytes ++ piece) (text ++ more) due c
+    → HasCopied start bytes text s0 → Consumes s0.left s1.left piece → s1.outputs ≡ s0.outputs → OnlyWrites s1 s2 → AfterWrite s1 more put.Failed s2 → EndsCopying start why.WriteFault s2
+next_unwritten start s0 s1 s2 bytes text piece more due c e still fell h had read same k w =
+    let written = AppendsPart-then start.outputs s1.outputs s2.outputs text more (outputs_still s0 s1 text start same had.written) w.1 in
+    let part = part_of_part (bytes ++ piece) (text ++ more) written.0 (taken_part (bytes ++ piece) (text ++ more) due c e h) in (
+      (bytes ++ piece, take written.0 (text ++ more), record { read = left_still s1 s2 (bytes ++ piece) start k.left (Consumes-then start.left s0.left s1.left bytes piece had.read read); written = written.1 }, part),
+      (let r = w.0 in let f = still.counts.writes in let g = fell.writes in omega arith),
+    )
+
+-- AT THE END
+
+none_left : (left : Option (List ℕ)) → IsAtEnd left → rest_of left ≡ []
+none_left None h = refl
+none_left (Some left) h = h
+
+pub next_end : (start s0 s1 : DeskState) (bytes text : List ℕ) (w : Why) → HasCopied start bytes text s0 → IsAtEnd s0.left → s1.left ≡ s0.left → s1.outputs ≡ s0.outputs → AfterEnd bytes text w → EndsCopying start w s1
+next_end start s0 s1 bytes text why.Done had end left outputs h = absurd h
+next_end start s0 s1 bytes text (why.Usage u) had end left outputs h = absurd h
+next_end start s0 s1 bytes text (why.Refused f) had end left outputs h =
+    let none : rest_of s1.left ≡ [] = ap rest_of left ∙ none_left s0.left end in
+    (bytes, text, copied_still start s0 s1 bytes text had left outputs, subst (λ (rest : List ℕ). IsFaultText f rest bytes text) (sym none) h)
+next_end start s0 s1 bytes text (why.OpenFault w) had end left outputs h = absurd h
+next_end start s0 s1 bytes text (why.ReadFault w) had end left outputs h = absurd h
+next_end start s0 s1 bytes text why.WriteFault had end left outputs h = absurd h
+next_end start s0 s1 bytes text why.NoMemory had end left outputs h = absurd h
+
+-- A READ that failed
+pub next_unread : (start s0 s1 : DeskState) (bytes text : List ℕ) (c : Comments) → c.limits ≡ standard_limits → HasRead bytes text c → OnlyCopies start s0 → HasCopied start bytes text s0 → Rose s0.counts.reads s1.counts.reads → s1.left ≡ s0.left → s1.outputs ≡ s0.outputs
+    → EndsCopying start (why.ReadFault which.Input) s1
+next_unread start s0 s1 bytes text c e h still had rose left outputs = (
+  (bytes, text, copied_still start s0 s1 bytes text had left outputs, text_so_far bytes text c e h),
+  (let f = still.counts.reads in omega (arith, rose, f)),
+)
+
+-- A PIECE, as it was taken
+
+some_taken : (n : ℕ) (buf : List ℕ) → 1 ≤ n → n ≤ length buf → 0 < length (take n buf)
+some_taken n buf some within = omega (arith, some, within, length-take n buf)
+
+text_added : (old out more : List ℕ) → old ≡ [] → out ≡ old ++ more → more ≡ out
+text_added old out more empty e = sym (e ∙ ap (λ (l : List ℕ). l ++ more) empty)
+
+pub next_taken : (start s0 s1 s2 : DeskState) (n : ℕ) (buf bytes text old out : List ℕ) (due : Option Why) (c : Comments) → old ≡ [] → Reads s0 (got.Bytes n) buf s1
+    → Appends (λ all. AfterTaking (bytes ++ take n buf) all due c) text old out → HasCopied start bytes text s0 → OnlyWrites s1 s2 → AfterWrite s1 out put.Done s2 → AfterNext start bytes due c s2
+next_taken start s0 s1 s2 n buf bytes text old out due c empty r h had k w =
+    let written = subst (λ (m : List ℕ). AppendsLast s1.outputs m s2.outputs) (sym (text_added old out h.0 empty h.1)) w in
+    next_due start s2 bytes text (take n buf) (text ++ h.0) due c (some_taken n buf r.after.0 r.after.1) h.2 (copied start s0 s1 s2 bytes text (take n buf) h.0 had r.after.2 r.outputs k written)
+
+pub next_failed : (start s0 s1 s2 : DeskState) (n : ℕ) (buf bytes text old out : List ℕ) (due : Option Why) (c : Comments) → c.limits ≡ standard_limits → old ≡ [] → Reads s0 (got.Bytes n) buf s1
+    → Appends (λ all. AfterTaking (bytes ++ take n buf) all due c) text old out → OnlyCopies start s0 → HasCopied start bytes text s0 → OnlyWrites s1 s2 → AfterWrite s1 out put.Failed s2 → EndsCopying start why.WriteFault s2
+next_failed start s0 s1 s2 n buf bytes text old out due c e empty r h still had k w =
+    let written = subst (λ (m : List ℕ). AfterWrite s1 m put.Failed s2) (sym (text_added old out h.0 empty h.1)) w in
+    next_unwritten start s0 s1 s2 bytes text (take n buf) h.0 due c e still r.counts h.2 had r.after.2 r.outputs k written
+
+-- no bytes at all
+pub no_bytes : (bytes : List ℕ) → length bytes ≡ 0 → bytes ≡ []
+no_bytes [] e = refl
+no_bytes (b ∷ bytes) e = absurd (omega (arith, e))

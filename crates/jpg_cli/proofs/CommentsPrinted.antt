@@ -1,0 +1,97 @@
+-- What printing the comments of an input comes to, over the states that a desk tells.
+use Rattle.std.proofs.Common.{◌≡◌, ℕ, List, ◌++◌, Option, None, Some, sym, ap, ◌∙◌, subst, arith}
+use Rattle.std.specs.Io.KnownBytes.{Consumes}
+use Rattle.jpg_base.specs.declared.names.Name.{Name}
+use Rattle.jpg_base.specs.declared.names.Put.{Put}
+use Rattle.jpg_base.specs.declared.names.Put.TheVariants as put
+use Rattle.jpg_base.specs.Desk.{DeskState, Creates, Opens, OpensFile}
+use Rattle.jpg_base.specs.Laws.{Grows, Grows-from, NotesNames, NotesNames-then}
+use Rattle.jpg_spec.specs.declared.answers.Why.{Why}
+use Rattle.jpg_spec.specs.declared.answers.Why.TheVariants as why
+use Rattle.jpg_spec.specs.declared.answers.Which.TheVariants as which
+use Rattle.jpg_cli.specs.Reading.{IsFile}
+use Rattle.jpg_cli.specs.Saying.{OnlySays}
+use Rattle.jpg_cli.specs.ReadComments.{Copies, EndsCopying, IsFaultText, IsTextPart, IsTextSoFar, IsWholeText, OnlyCopies, Printed, Prints, asked_one, asked_two, rest_of}
+use Rattle.jpg_cli.proofs.Input.{none_is_none, notes_one, some_inj}
+
+-- AN INPUT OPENED, AND AN OUTPUT CREATED
+
+file_read : (files : Option (Name → Option (List ℕ))) (n : Name) (l1 l2 : Option (List ℕ)) (bytes : List ℕ) → OpensFile files n l1 → Consumes l1 l2 bytes → IsFile files n (bytes ++ rest_of l2)
+file_read None n l1 l2 bytes h k = tt
+file_read (Some files) n None l2 bytes h k = absurd (none_is_none h.0 h.2)
+file_read (Some files) n (Some l) None bytes h k = absurd k
+file_read (Some files) n (Some l) (Some rest) bytes h k = h.1 ∙ ap Some (sym (some_inj l h.0 h.2) ∙ k)
+
+both_names : (s0 s1 s2 s3 : DeskState) (input output : Name) (answer : Put) → Opens s0 input put.Done s1 → Creates s1 output answer s2 → s3.asked ≡ s2.asked → NotesNames s0.asked (asked_two input output answer) s3.asked
+both_names s0 s1 s2 s3 input output answer h k same =
+    let P : Option (List (Name × Put)) → Type 0 = λ a. NotesNames s0.asked (asked_two input output answer) a in
+    subst P (sym same) (NotesNames-then s0.asked s1.asked s2.asked (asked_one input put.Done) (output, answer) (notes_one s0.asked s1.asked (input, put.Done) h.asked) k.asked)
+
+prints_from : (s0 s1 s2 s3 : DeskState) (input output : Name) (Is : List ℕ → List ℕ → Type 0) → Opens s0 input put.Done s1 → Creates s1 output put.Done s2 → OnlyCopies s2 s3 → Copies Is s2 s3 → Prints input output Is s0 s3
+prints_from s0 s1 s2 s3 input output Is h k w c =
+    let bytes = c.0 in let text = c.1 in
+    let L : Option (List ℕ) → Type 0 = λ l. Consumes l s3.left bytes in
+    let G : Option (List (Name × List ℕ)) → Type 0 = λ a. Grows a (output, text) s3.outputs in
+    record {
+      bytes = bytes;
+      text = text;
+      names = both_names s0 s1 s2 s3 input output put.Done h k w.asked;
+      file = file_read s0.files input s1.left s3.left bytes h.after.2 (subst L k.left c.2.read);
+      outputs = subst G h.outputs (Grows-from s1.outputs s2.outputs s3.outputs output text k.after.1 c.2.written);
+      is = c.3;
+    }
+
+pub printed_from : (s0 s1 s2 s3 : DeskState) (input output : Name) (w : Why) → Opens s0 input put.Done s1 → Creates s1 output put.Done s2 → OnlyCopies s2 s3 → EndsCopying s2 w s3 → Printed input output s0 w s3
+printed_from s0 s1 s2 s3 input output why.Done h k c e = prints_from s0 s1 s2 s3 input output IsWholeText h k c e
+printed_from s0 s1 s2 s3 input output (why.Usage u) h k c e = absurd e
+printed_from s0 s1 s2 s3 input output (why.Refused f) h k c e = prints_from s0 s1 s2 s3 input output (IsFaultText f (rest_of s3.left)) h k c e
+printed_from s0 s1 s2 s3 input output (why.OpenFault w) h k c e = absurd e
+printed_from s0 s1 s2 s3 input output (why.ReadFault which.Input) h k c e = (
+  prints_from s0 s1 s2 s3 input output IsTextSoFar h k c e.0,
+  (let r = e.1 in let f = h.counts.reads in let g = k.counts.reads in omega arith),
+)
+printed_from s0 s1 s2 s3 input output (why.ReadFault which.Script) h k c e = absurd e
+printed_from s0 s1 s2 s3 input output (why.ReadFault which.Tables) h k c e = absurd e
+printed_from s0 s1 s2 s3 input output (why.ReadFault which.Comment) h k c e = absurd e
+printed_from s0 s1 s2 s3 input output (why.ReadFault which.Output) h k c e = absurd e
+printed_from s0 s1 s2 s3 input output why.WriteFault h k c e = (
+  prints_from s0 s1 s2 s3 input output IsTextPart h k c e.0,
+  (let r = e.1 in let f = h.counts.writes in let g = k.counts.writes in omega arith),
+)
+printed_from s0 s1 s2 s3 input output why.NoMemory h k c e = prints_from s0 s1 s2 s3 input output IsTextPart h k c e
+
+-- A MESSAGE THEN
+
+prints_then : (s0 s1 s2 : DeskState) (input output : Name) (Is : List ℕ → List ℕ → Type 0) → OnlySays s1 s2 → Prints input output Is s0 s1 → Prints input output Is s0 s2
+prints_then s0 s1 s2 input output Is k h =
+    let N : Option (List (Name × Put)) → Type 0 = λ a. NotesNames s0.asked (asked_two input output put.Done) a in
+    let F : Option (List ℕ) → Type 0 = λ l. IsFile s0.files input (h.bytes ++ rest_of l) in
+    let G : Option (List (Name × List ℕ)) → Type 0 = λ a. Grows s0.outputs (output, h.text) a in
+    record { bytes = h.bytes; text = h.text; names = subst N (sym k.asked) h.names; file = subst F (sym k.left) h.file; outputs = subst G (sym k.outputs) h.outputs; is = h.is }
+
+pub printed_then : (s0 s1 s2 : DeskState) (input output : Name) (w : Why) → OnlySays s1 s2 → Printed input output s0 w s1 → Printed input output s0 w s2
+printed_then s0 s1 s2 input output why.Done k h = prints_then s0 s1 s2 input output IsWholeText k h
+printed_then s0 s1 s2 input output (why.Usage u) k h = absurd h
+printed_then s0 s1 s2 input output (why.Refused f) k h =
+    let P : Option (List ℕ) → Type 0 = λ l. Prints input output (IsFaultText f (rest_of l)) s0 s2 in
+    subst P (sym k.left) (prints_then s0 s1 s2 input output (IsFaultText f (rest_of s1.left)) k h)
+printed_then s0 s1 s2 input output (why.OpenFault which.Input) k h = record {
+  names = (let N : Option (List (Name × Put)) → Type 0 = λ a. NotesNames s0.asked (asked_one input put.Failed) a in subst N (sym k.asked) h.names);
+  outputs = k.outputs ∙ h.outputs;
+  opens = (let r = h.opens in let f = k.counts.opens in omega arith);
+}
+printed_then s0 s1 s2 input output (why.OpenFault which.Script) k h = absurd h
+printed_then s0 s1 s2 input output (why.OpenFault which.Tables) k h = absurd h
+printed_then s0 s1 s2 input output (why.OpenFault which.Comment) k h = absurd h
+printed_then s0 s1 s2 input output (why.OpenFault which.Output) k h = record {
+  names = (let N : Option (List (Name × Put)) → Type 0 = λ a. NotesNames s0.asked (asked_two input output put.Failed) a in subst N (sym k.asked) h.names);
+  outputs = k.outputs ∙ h.outputs;
+  opens = (let r = h.opens in let f = k.counts.opens in omega arith);
+}
+printed_then s0 s1 s2 input output (why.ReadFault which.Input) k h = (prints_then s0 s1 s2 input output IsTextSoFar k h.0, (let r = h.1 in let f = k.counts.reads in omega arith))
+printed_then s0 s1 s2 input output (why.ReadFault which.Script) k h = absurd h
+printed_then s0 s1 s2 input output (why.ReadFault which.Tables) k h = absurd h
+printed_then s0 s1 s2 input output (why.ReadFault which.Comment) k h = absurd h
+printed_then s0 s1 s2 input output (why.ReadFault which.Output) k h = absurd h
+printed_then s0 s1 s2 input output why.WriteFault k h = (prints_then s0 s1 s2 input output IsTextPart k h.0, (let r = h.1 in let f = k.counts.writes in omega arith))
+printed_then s0 s1 s2 input output why.NoMemory k h = prints_then s0 s1 s2 input output IsTextPart k h

@@ -1,0 +1,148 @@
+-- What the bytes of a file that were read come to, for the comments that were printed.
+use Rattle.std.proofs.Common.{◌≡◌, ℕ, zero, suc, ◌+◌, ◌<◌, ◌≤◌, List, [], ◌∷◌, ◌++◌, length, take, Option, None, Some, refl, sym, ap, ◌∙◌, subst, arith, inl, inr}
+use Rattle.std.proofs.lemmas.List.{append-nil, length-append, take_all, take-append-le}
+use Rattle.std.proofs.Math.Seq.{take-append-add}
+use Rattle.jpg_spec.specs.Segments.{standard_limits}
+use Rattle.jpg_spec.specs.Markers.{Segment}
+use Rattle.jpg_spec.specs.CommentText.{comments_text, IsReadFault, IsReadWhole, ShowsNothing}
+use Rattle.jpg_spec.specs.declared.fault.Fault.{Fault}
+use Rattle.jpg_spec.specs.declared.fault.Fault.TheVariants.{Truncated}
+use Rattle.jpg_spec.specs.declared.answers.FaultAt.{FaultAt}
+use Rattle.jpg_spec.specs.declared.answers.Why.{Why}
+use Rattle.jpg_spec.specs.declared.answers.Why.TheVariants as why
+use Rattle.jpg_spec.specs.declared.frame.Limits.{Limits}
+use Rattle.jpg_comments.specs.Begun.{AreWholeBefore}
+use Rattle.jpg_comments.specs.Printing.{HoldsWhole, HasPrinted, PrintsBefore, PrintsPart, PrintsWhole}
+use Rattle.jpg_comments.specs.ReadComments.{HasRead, StopsAt}
+use Rattle.jpg_comments.specs.declared.comments.Comments.{Comments}
+use Rattle.jpg_markers.specs.Reading.{reading_of}
+use Rattle.jpg_comments.proofs.Taken.{begun}
+use Rattle.jpg_base.specs.declared.stop.Stop.TheVariants as stop
+use Rattle.jpg_cli.specs.ReadComments.{AfterEnd, AfterTaking, AreWhole, IsFaultText, IsTextPart, IsTextSoFar, IsWholeText}
+
+-- FRONTS
+
+front_is : (n : ℕ) (front rest : List ℕ) → n ≤ length front → take n (front ++ rest) ≡ take n front
+front_is n front rest h = take-append-le n front rest h
+
+-- a first part of a first part
+take_again : (k n : ℕ) (xs : List ℕ) → (m : ℕ) × (take k (take n xs) ≡ take m xs)
+take_again zero n xs = (0, refl)
+take_again (suc k) zero xs = (0, refl)
+take_again (suc k) (suc n) [] = (0, refl)
+take_again (suc k) (suc n) (x ∷ xs) = (let h = take_again k n xs in (suc h.0, ap (λ (ys : List ℕ). x ∷ ys) h.1))
+
+-- BYTES SO FAR
+
+printed_so_far : (bytes text : List ℕ) (c : Comments) → c.limits ≡ standard_limits → HasRead bytes text c → HasPrinted standard_limits bytes text (reading_of c.reader)
+printed_so_far bytes text c e h = subst (λ l. HasPrinted l bytes text (reading_of c.reader)) e h.3
+
+pub text_so_far : (bytes text : List ℕ) (c : Comments) → c.limits ≡ standard_limits → HasRead bytes text c → IsTextSoFar bytes text
+text_so_far bytes text c e h =
+    let p = printed_so_far bytes text c e h in
+    record {
+      before = p.0;
+      nothing = p.1.nothing;
+      begun = begun standard_limits (reading_of c.reader) bytes p.0 p.1.limited p.1.stands;
+      is = p.3;
+    }
+
+-- A PIECE
+
+pub whole_text : (bytes piece text : List ℕ) (used : ℕ) (limits : Limits) → limits ≡ standard_limits → length piece ≤ 65536
+    → PrintsWhole limits (bytes ++ take used piece) text × (1 ≤ used) × (used ≤ length piece) → IsWholeText (bytes ++ piece) text
+whole_text bytes piece text used limits e short h =
+    let p = subst (λ l. PrintsWhole l (bytes ++ take used piece) text) e h.0 in
+    let some = h.1 in let within = h.2 in
+    record {
+      count = length bytes + used;
+      before = p.0;
+      within = omega (arith, within, length-append bytes piece);
+      last = omega (arith, some, short, length-append bytes piece);
+      whole = subst (λ l. IsReadWhole standard_limits l p.0) (sym (take-append-add bytes piece used)) p.1;
+      is = p.2;
+    }
+
+-- a fault that is a file's stands in its bytes
+fault_within : (bytes : List ℕ) (f : Fault) (n : ℕ) → IsReadFault standard_limits bytes f n → n ≤ length bytes
+fault_within bytes f n (w, inl h) = h.1.0
+fault_within bytes f n (w, inr (inl h)) = (let e = h.1 in let l = h.2 in omega (arith, e, l))
+fault_within bytes f n (w, inr (inr h)) = (let e = h.1 in omega (arith, e))
+
+pub fault_text : (bytes piece text : List ℕ) (f : FaultAt) (limits : Limits) → limits ≡ standard_limits
+    → ((rest : List ℕ) → IsReadFault limits (bytes ++ piece ++ rest) f.fault f.at) × PrintsBefore limits (take f.at (bytes ++ piece)) f.fault text → (rest : List ℕ) → IsFaultText f rest (bytes ++ piece) text
+fault_text bytes piece text f limits e h rest =
+    let of : (r : List ℕ) → IsReadFault standard_limits ((bytes ++ piece) ++ r) f.fault f.at = λ r.
+    subst (λ (l : Limits). IsReadFault l ((bytes ++ piece) ++ r) f.fault f.at) e (h.0 r) in
+    let p = subst (λ (l : Limits). PrintsBefore l (take f.at (bytes ++ piece)) f.fault text) e h.1 in
+    let within : f.at ≤ length (bytes ++ piece) = omega (arith, fault_within ((bytes ++ piece) ++ []) f.fault f.at (of []), length-append (bytes ++ piece) []) in
+    record {
+      before = p.0;
+      fault = of rest;
+      whole = subst (λ (l : List ℕ). AreWholeBefore standard_limits l f.fault p.0) (sym (front_is f.at (bytes ++ piece) rest within)) p.1;
+      is = p.2;
+    }
+
+pub part_text : (bytes text : List ℕ) (limits : Limits) → limits ≡ standard_limits → PrintsPart limits bytes text → IsTextPart bytes text
+part_text bytes text limits e h =
+    let p = subst (λ l. PrintsPart l bytes text) e h in
+    record { count = p.0; front = p.1; before = p.2; whole = inr (Truncated, inr p.3); is = p.4 }
+
+-- THE END
+
+no_fault_shown : (bytes : List ℕ) (f : FaultAt) → ShowsNothing standard_limits (HoldsWhole standard_limits) bytes → length bytes < standard_limits.input → IsReadFault standard_limits bytes f.fault f.at → f.at ≡ length bytes
+no_fault_shown bytes f nothing short (w, inl h) = absurd ((nothing f.at h.1.0).0 f.fault h.1.1)
+no_fault_shown bytes f nothing short (w, inr (inl h)) = absurd (let l = h.2 in omega (arith, l, short))
+no_fault_shown bytes f nothing short (w, inr (inr h)) = h.1
+
+pub end_text : (bytes text : List ℕ) (c : Comments) (f : FaultAt) → c.limits ≡ standard_limits → HasRead bytes text c → StopsAt c.limits bytes (stop.Fault f) → AfterEnd bytes text (why.Refused f)
+end_text bytes text c f e h s =
+    let so = text_so_far bytes text c e h in
+    let fault = subst (λ (l : Limits). IsReadFault l bytes f.fault f.at) e s in
+    let short = subst (λ (l : Limits). length bytes < l.input) e h.2 in
+    let at = no_fault_shown bytes f so.nothing short fault in
+    record {
+      before = so.before;
+      fault = subst (λ (l : List ℕ). IsReadFault standard_limits l f.fault f.at) (sym (append-nil bytes)) fault;
+      whole =
+          subst (λ (l : List ℕ). AreWholeBefore standard_limits l f.fault so.before)
+          (sym (ap (λ (n : ℕ). take n (bytes ++ [])) at ∙ front_is (length bytes) bytes [] (omega arith) ∙ take_all (length bytes) bytes (omega arith))) (inr so.begun);
+      is = so.is;
+    }
+
+-- FIRST PARTS
+
+pub part_of_part : (bytes text : List ℕ) (k : ℕ) → IsTextPart bytes text → IsTextPart bytes (take k text)
+part_of_part bytes text k h =
+    let again = take_again k h.count (comments_text h.before) in
+    record { front = h.front; count = again.0; before = h.before; whole = h.whole; is = ap (take k) h.is ∙ again.1 }
+
+all_of : (front : ℕ) (bytes text : List ℕ) (before : List Segment) → AreWhole (take front bytes) before → text ≡ comments_text before → IsTextPart bytes text
+all_of front bytes text before whole is = record {
+  front = front;
+  count = length (comments_text before);
+  before = before;
+  whole = whole;
+  is = is ∙ sym (take_all (length (comments_text before)) (comments_text before) (omega arith));
+}
+
+so_far_part : (bytes text : List ℕ) → IsTextSoFar bytes text → IsTextPart bytes text
+so_far_part bytes text h = all_of (length bytes) bytes text h.before (subst (λ (l : List ℕ). AreWhole l h.before) (sym (take_all (length bytes) bytes (omega arith))) (inr (Truncated, inr h.begun))) h.is
+
+whole_part : (bytes text : List ℕ) → IsWholeText bytes text → IsTextPart bytes text
+whole_part bytes text h = all_of h.count bytes text h.before (inl h.whole) h.is
+
+fault_part : (bytes text : List ℕ) (f : FaultAt) → IsFaultText f [] bytes text → IsTextPart bytes text
+fault_part bytes text f h =
+    all_of f.at bytes text h.before (inr (f.fault, subst (λ (l : List ℕ). AreWholeBefore standard_limits (take f.at l) f.fault h.before) (append-nil bytes) h.whole)) h.is
+
+-- what was taken is a first part
+pub taken_part : (bytes text : List ℕ) (due : Option Why) (c : Comments) → c.limits ≡ standard_limits → AfterTaking bytes text due c → IsTextPart bytes text
+taken_part bytes text None c e h = so_far_part bytes text (text_so_far bytes text c e h)
+taken_part bytes text (Some why.Done) c e h = whole_part bytes text h
+taken_part bytes text (Some (why.Usage u)) c e h = absurd h
+taken_part bytes text (Some (why.Refused f)) c e h = fault_part bytes text f (h [])
+taken_part bytes text (Some (why.OpenFault w)) c e h = absurd h
+taken_part bytes text (Some (why.ReadFault w)) c e h = absurd h
+taken_part bytes text (Some why.WriteFault) c e h = absurd h
+taken_part bytes text (Some why.NoMemory) c e h = h

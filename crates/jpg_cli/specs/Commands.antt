@@ -1,0 +1,56 @@
+-- WHAT THE WORDS OF A CALL ASK FOR: the first names the command, the others are its switches and files.
+use Rattle.std.specs.Prelude.{◌≡◌, ℕ, if◌then◌else◌, List, [], ◌∷◌, codes, Result, Ok, Err}
+use Rattle.std.specs.Str.{bytes_eq}
+use Rattle.jpg_base.specs.declared.names.Name.{Name}
+use Rattle.jpg_base.specs.declared.names.Name.TheVariants as name
+use Rattle.jpg_spec.specs.Words.{are_words, flip_words, is_tool}
+use Rattle.jpg_spec.specs.CommentWords.{FileName, standard_input, standard_output, named, FilesAsked, WordsTold, words_right, words_wrong, usage_at, read_asked}
+use Rattle.jpg_spec.specs.declared.answers.UsageFault.TheVariants.{NoTool, UnknownTool}
+use Rattle.jpg_cli.specs.CommentWords.{files_told}
+use Rattle.jpg_cli.specs.declared.words.Asked.{Asked}
+use Rattle.jpg_cli.specs.declared.words.Asked.TheVariants as asked
+use Rattle.jpg_cli.specs.declared.comment_words.WordsStop.{WordsStop}
+use Rattle.jpg_cli.specs.declared.comment_words.WordsStop.TheVariants as stop
+
+-- what isn't built yet; jpegtran -flip horizontal, from standard input to standard output; rdjpgcom
+pub data Command : Type 0 where
+  not_built : Command
+  flip_horizontal : Command
+  print_comments : FilesAsked → Command
+
+-- the same for rdjpgcom as for its files
+abbrev pub read_command : WordsTold FilesAsked → WordsTold Command
+read_command (words_wrong usage) = words_wrong usage
+read_command (words_right files) = words_right (print_comments files)
+
+-- of all other commands but one call isn't built yet
+abbrev pub other_command : List (List ℕ) → Command
+other_command words = if are_words words flip_words then flip_horizontal else not_built
+
+abbrev pub known_command : List ℕ → List (List ℕ) → WordsTold Command
+known_command tool words =
+    if bytes_eq tool (codes "rdjpgcom") then read_command (read_asked 1 words)
+    else words_right (other_command (tool ∷ words))
+
+abbrev pub command_asked : List (List ℕ) → WordsTold Command
+command_asked [] = usage_at NoTool 0
+command_asked (tool ∷ words) = if is_tool tool then known_command tool words else usage_at UnknownTool 0
+
+-- the name of a file
+abbrev pub name_of : FileName → Name
+name_of standard_input = name.In
+name_of standard_output = name.Out
+name_of (named text) = name.File text
+
+-- ANSWERS
+
+abbrev pub command_told : Asked → Command
+command_told asked.NotBuilt = not_built
+command_told asked.FlipHorizontal = flip_horizontal
+command_told (asked.Rdjpgcom files) = print_comments (files_told files)
+
+-- Where the words are right, what they ask for; where they aren't, what is wrong. Memory can be wanting where a file is named.
+abbrev pub IsCommand : WordsTold Command → Result Asked WordsStop → Type 0
+IsCommand told (Ok a) = told ≡ words_right (command_told a)
+IsCommand told (Err (stop.Usage usage)) = told ≡ words_wrong usage
+IsCommand told (Err stop.NoMemory) = (files : FilesAsked) × (told ≡ words_right (print_comments files))

@@ -1,0 +1,150 @@
+-- WHAT PRINTING THE COMMENTS of a file does to a desk (T.81 B.2.4.5, the manual of rdjpgcom in release 6b), by why it ended.
+use Rattle.std.specs.Prelude.{◌≡◌, ◌⊎◌, ℕ, ◌+◌, ◌<◌, ◌≤◌, List, [], ◌∷◌, ◌++◌, length, take, Option, None, Some}
+use Rattle.std.specs.Io.KnownBytes.{Consumes}
+use Rattle.jpg_base.specs.declared.names.Name.{Name}
+use Rattle.jpg_base.specs.declared.names.Put.{Put}
+use Rattle.jpg_base.specs.declared.names.Put.TheVariants as put
+use Rattle.jpg_base.specs.Desk.{DeskState, NoneFell, Rose, AppendsLast}
+use Rattle.jpg_base.specs.Laws.{NotesNames, Grows}
+use Rattle.jpg_spec.specs.Segments.{standard_limits}
+use Rattle.jpg_spec.specs.Markers.{Segment, kept_rule}
+use Rattle.jpg_spec.specs.CommentText.{comments_text, IsReadWhole, IsReadFault, ShowsNothing}
+use Rattle.jpg_spec.specs.declared.fault.Fault.{Fault}
+use Rattle.jpg_spec.specs.declared.answers.FaultAt.{FaultAt}
+use Rattle.jpg_spec.specs.declared.answers.Why.{Why}
+use Rattle.jpg_spec.specs.declared.answers.Why.TheVariants as why
+use Rattle.jpg_spec.specs.declared.answers.Which.TheVariants as which
+use Rattle.jpg_comments.specs.Begun.{IsBegun, AreWholeBefore}
+use Rattle.jpg_comments.specs.Printing.{HoldsWhole}
+use Rattle.jpg_comments.specs.ReadComments.{HasRead}
+use Rattle.jpg_comments.specs.declared.comments.Comments.{Comments}
+use Rattle.jpg_cli.specs.Reading.{IsFile}
+
+-- THE TEXT that was printed, by the bytes that were read
+
+-- the whole segments of bytes: of those of a whole file, of those whose last one shows a fault, or of others
+abbrev pub AreWhole : List ℕ → List Segment → Type 0
+AreWhole bytes before = IsReadWhole standard_limits bytes before ⊎ ((fault : Fault) × AreWholeBefore standard_limits bytes fault before)
+
+-- A front of the bytes is a whole file, with which the last piece of at most 65,536 bytes began or went on. The text is that of its comments.
+pub record IsWholeText (bytes text : List ℕ) : Type 0 where
+  pub count : ℕ
+  pub before : List Segment
+  pub within : count ≤ length bytes
+  pub last : length bytes < count + 65536
+  pub whole : IsReadWhole standard_limits (take count bytes) before
+  pub is : text ≡ comments_text before
+
+-- The file, which has this rest behind the bytes, has this fault. The text is that of the comments that are whole before it.
+pub record IsFaultText (f : FaultAt) (rest bytes text : List ℕ) : Type 0 where
+  pub before : List Segment
+  pub fault : IsReadFault standard_limits (bytes ++ rest) f.fault f.at
+  pub whole : AreWholeBefore standard_limits (take f.at (bytes ++ rest)) f.fault before
+  pub is : text ≡ comments_text before
+
+-- The bytes show no fault and hold no whole file. The text is that of the comments that are whole in them.
+pub record IsTextSoFar (bytes text : List ℕ) : Type 0 where
+  pub before : List Segment
+  pub nothing : ShowsNothing standard_limits (HoldsWhole standard_limits) bytes
+  pub begun : IsBegun (kept_rule standard_limits) bytes before
+  pub is : text ≡ comments_text before
+
+-- The text is a first part of that of the comments that are whole in a front of the bytes.
+pub record IsTextPart (bytes text : List ℕ) : Type 0 where
+  pub front : ℕ
+  pub count : ℕ
+  pub before : List Segment
+  pub whole : AreWhole (take front bytes) before
+  pub is : text ≡ take count (comments_text before)
+
+-- BY WHY IT ENDED
+
+-- the bytes that are left, where they are told
+abbrev pub rest_of : Option (List ℕ) → List ℕ
+rest_of None = []
+rest_of (Some rest) = rest
+
+-- the names asked for: the input, and then the output
+abbrev pub asked_one : Name → Put → List (Name × Put)
+asked_one input answer = (input, answer) ∷ []
+
+abbrev pub asked_two : Name → Name → Put → List (Name × Put)
+asked_two input output answer = (input, put.Done) ∷ (output, answer) ∷ []
+
+-- Bytes of the input were read, and the output holds a text, of which this is so.
+pub record Prints (input output : Name) (Is : List ℕ → List ℕ → Type 0) (old new : DeskState) : Type 0 where
+  pub bytes : List ℕ
+  pub text : List ℕ
+  pub names : NotesNames old.asked (asked_two input output put.Done) new.asked
+  pub file : IsFile old.files input (bytes ++ rest_of new.left)
+  pub outputs : Grows old.outputs (output, text) new.outputs
+  pub is : Is bytes text
+
+-- the input wasn't opened
+pub record IsInputUnopened (input : Name) (old new : DeskState) : Type 0 where
+  pub names : NotesNames old.asked (asked_one input put.Failed) new.asked
+  pub outputs : new.outputs ≡ old.outputs
+  pub opens : Rose old.counts.opens new.counts.opens
+
+-- the output wasn't created
+pub record IsOutputUncreated (input output : Name) (old new : DeskState) : Type 0 where
+  pub names : NotesNames old.asked (asked_two input output put.Failed) new.asked
+  pub outputs : new.outputs ≡ old.outputs
+  pub opens : Rose old.counts.opens new.counts.opens
+
+-- THE ANSWERS: the comments of the input were printed to the output, or as far as the answer has it
+abbrev pub Printed : Name → Name → DeskState → Why → DeskState → Type 0
+Printed input output old why.Done new = Prints input output IsWholeText old new
+Printed input output old (why.Refused f) new = Prints input output (IsFaultText f (rest_of new.left)) old new
+Printed input output old (why.OpenFault which.Input) new = IsInputUnopened input old new
+Printed input output old (why.OpenFault which.Output) new = IsOutputUncreated input output old new
+Printed input output old (why.ReadFault which.Input) new = Prints input output IsTextSoFar old new × Rose old.counts.reads new.counts.reads
+Printed input output old why.WriteFault new = Prints input output IsTextPart old new × Rose old.counts.writes new.counts.writes
+Printed input output old why.NoMemory new = Prints input output IsTextPart old new
+Printed input output old other new = ⊥
+
+-- STEP BY STEP, from a desk whose input is open and whose output is created
+
+-- nothing but the bytes left, the outputs and the counts changed
+pub record OnlyCopies (old new : DeskState) : Type 0 where
+  pub counts : NoneFell old.counts new.counts
+  pub asked : new.asked ≡ old.asked
+  pub files : new.files ≡ old.files
+  pub said : new.said ≡ old.said
+  pub input_open : new.input_open ≡ old.input_open
+  pub output_created : new.output_created ≡ old.output_created
+
+-- these bytes were read, and this text was written
+pub record HasCopied (old : DeskState) (bytes text : List ℕ) (new : DeskState) : Type 0 where
+  pub read : Consumes old.left new.left bytes
+  pub written : AppendsLast old.outputs text new.outputs
+
+abbrev pub Copies : (List ℕ → List ℕ → Type 0) → DeskState → DeskState → Type 0
+Copies Is old new = (bytes : List ℕ) × (text : List ℕ) × HasCopied old bytes text new × Is bytes text
+
+abbrev pub EndsCopying : DeskState → Why → DeskState → Type 0
+EndsCopying old why.Done new = Copies IsWholeText old new
+EndsCopying old (why.Refused f) new = Copies (IsFaultText f (rest_of new.left)) old new
+EndsCopying old (why.ReadFault which.Input) new = Copies IsTextSoFar old new × Rose old.counts.reads new.counts.reads
+EndsCopying old why.WriteFault new = Copies IsTextPart old new × Rose old.counts.writes new.counts.writes
+EndsCopying old why.NoMemory new = Copies IsTextPart old new
+EndsCopying old other new = ⊥
+
+-- What a piece comes to: the text for all the bytes so far, or why the reading ends.
+abbrev pub AfterTaking : List ℕ → List ℕ → Option Why → Comments → Type 0
+AfterTaking bytes text None c = HasRead bytes text c
+AfterTaking bytes text (Some why.Done) c = IsWholeText bytes text
+AfterTaking bytes text (Some (why.Refused f)) c = (rest : List ℕ) → IsFaultText f rest bytes text
+AfterTaking bytes text (Some why.NoMemory) c = IsTextPart bytes text
+AfterTaking bytes text (Some other) c = ⊥
+
+-- what bytes that end come to
+abbrev pub AfterEnd : List ℕ → List ℕ → Why → Type 0
+AfterEnd bytes text (why.Refused f) = IsFaultText f [] bytes text
+AfterEnd bytes text other = ⊥
+
+-- From these bytes on: one more piece was read and its text written, or why the reading ends.
+abbrev pub AfterNext : DeskState → List ℕ → Option Why → Comments → DeskState → Type 0
+AfterNext old bytes None c new =
+    (piece : List ℕ) × (text : List ℕ) × (0 < length piece) × HasRead (bytes ++ piece) text c × HasCopied old (bytes ++ piece) text new
+AfterNext old bytes (Some ended) c new = EndsCopying old ended new

@@ -1,0 +1,125 @@
+//! The comments of a file, printed (T.81 B.2.4.5, the manual of rdjpgcom in release 6b).
+ghost use Rattle.std.specs.Prelude.{◌≡◌, ◌≤◌, ◌++◌, [], List, ℕ, length, true, false};
+ghost use Rattle.jpg_spec.specs.Segments.{standard_limits};
+ghost use Rattle.jpg_base.specs.Desk.{AfterWrite, DeskState, NoneFell};
+ghost use Rattle.jpg_huff.specs.Out.{OnlyWrites};
+ghost use Rattle.jpg_comments.specs.Begun.{Appends};
+ghost use Rattle.jpg_comments.specs.ReadComments.{is_done, HasRead};
+ghost use Rattle.jpg_cli.specs.ReadComments.{AfterEnd, AfterNext, AfterTaking, EndsCopying, HasCopied, OnlyCopies, Printed};
+
+use crate::comment_words::Files;
+use jpg_base::{Bytes, Desk, Fed, Got, Put, Stop};
+use jpg_comments::Comments;
+use jpg_spec::{Limits, Which, Why};
+use std::alloc::Global;
+
+/// Opens the input, creates the output and prints the comments of the input to it, each as it is
+/// whole. The input is read in pieces of at most 65,536 bytes, and no piece is read after the one
+/// with which its first scan header is whole, or an EOI before any, or that shows a fault.
+pub fn print_comments<D: Desk>(alloc: Global, files: &Files, desk: &mut D) -> Why
+    ensures counts { NoneFell (D.state desk.old).counts (D.state desk.new).counts }
+    ensures files { (D.state desk.new).files ≡ (D.state desk.old).files }
+    ensures said { (D.state desk.new).said ≡ (D.state desk.old).said }
+    ensures printed { Printed files.now.input files.now.output (D.state desk.old) result (D.state desk.new) }
+{
+    match desk.open(&files.input) {
+        Put::Failed => Why::OpenFault(Which::Input),
+        Put::Done => match desk.create(&files.output) {
+            Put::Failed => Why::OpenFault(Which::Output),
+            Put::Done => copy_comments(alloc, desk),
+        },
+    }
+}
+
+// Prints the comments of the open input, piece by piece.
+fn copy_comments<D: Desk>(alloc: Global, desk: &mut D) -> Why
+    requires open { (D.state desk.old).input_open ≡ true }
+    requires created { (D.state desk.old).output_created ≡ true }
+    ensures kept { OnlyCopies (D.state desk.old) (D.state desk.new) }
+    ensures ended { EndsCopying (D.state desk.old) result (D.state desk.new) }
+{
+    let mut comments = Comments::new(alloc, Limits::standard());
+    let mut buffer = [0u8; 65536];
+    let mut out = Bytes::new(alloc);
+    loop {
+        if let Some(why) = next_piece(&mut comments, &mut buffer, &mut out, desk) {
+            return why;
+        }
+    }
+}
+
+// Reads a piece, and writes the text of the comments that are whole with it; or tells why the reading
+// ends.
+fn next_piece<D: Desk>(
+    comments: &mut Comments,
+    buffer: &mut [u8; 65536],
+    out: &mut Bytes,
+    desk: &mut D,
+) -> Option<Why>
+    requires open { (D.state desk.old).input_open ≡ true }
+    requires created { (D.state desk.old).output_created ≡ true }
+    requires more { is_done comments.old ≡ false }
+    requires limits { comments.old.limits ≡ standard_limits }
+    requires empty { out.old ≡ [] }
+    ensures kept { OnlyCopies (D.state desk.old) (D.state desk.new) }
+    ensures after { (start : DeskState) (bytes text : List ℕ) → HasRead bytes text comments.old → OnlyCopies start (D.state desk.old) → HasCopied start bytes text (D.state desk.old) → AfterNext start bytes result comments.new (D.state desk.new) }
+    ensures limits { comments.new.limits ≡ standard_limits }
+    ensures empty { out.new ≡ [] }
+{
+    match desk.read(&mut buffer[..]) {
+        Got::Failed => Some(Why::ReadFault(Which::Input)),
+        Got::End => Some(at_end(comments)),
+        Got::Bytes(count) => {
+            let due = take_piece(comments, &buffer[..count as usize], out);
+            match write_text(out, desk) {
+                Put::Done => due,
+                Put::Failed => Some(Why::WriteFault),
+            }
+        }
+    }
+}
+
+// The answer for an input that ends here.
+fn at_end(comments: &mut Comments) -> Why
+    requires more { is_done comments.old ≡ false }
+    requires limits { comments.old.limits ≡ standard_limits }
+    ensures ended { (bytes text : List ℕ) → HasRead bytes text comments.old → AfterEnd bytes text result }
+    ensures limits { comments.new.limits ≡ standard_limits }
+{
+    match comments.end() {
+        Stop::Fault(fault) => Why::Refused(fault),
+        Stop::NoMemory => Why::NoMemory,
+    }
+}
+
+// Appends the text of the comments that are whole with this piece, and tells why the reading ends, if
+// it does.
+fn take_piece(comments: &mut Comments, piece: &[u8], out: &mut Bytes) -> Option<Why>
+    requires more { is_done comments.old ≡ false }
+    requires limits { comments.old.limits ≡ standard_limits }
+    requires short { length piece.now ≤ 65536 }
+    ensures taken { (bytes text : List ℕ) → HasRead bytes text comments.old → Appends (λ all. AfterTaking (bytes ++ piece.now) all result comments.new) text out.old out.new }
+    ensures limits { comments.new.limits ≡ standard_limits }
+{
+    match comments.feed(piece, out) {
+        Ok(Fed::More) => None,
+        Ok(Fed::Done { .. }) => Some(Why::Done),
+        Err(Stop::Fault(fault)) => Some(Why::Refused(fault)),
+        Err(Stop::NoMemory) => Some(Why::NoMemory),
+    }
+}
+
+// Writes the text, if there is any, and clears it.
+fn write_text<D: Desk>(text: &mut Bytes, desk: &mut D) -> Put
+    requires { (D.state desk.old).output_created ≡ true }
+    ensures kept { OnlyWrites (D.state desk.old) (D.state desk.new) }
+    ensures written { AfterWrite (D.state desk.old) text.old result (D.state desk.new) }
+    ensures empty { text.new ≡ [] }
+{
+    if text.as_slice().is_empty() {
+        return Put::Done;
+    }
+    let answer = desk.write(text.as_slice());
+    text.clear();
+    answer
+}
