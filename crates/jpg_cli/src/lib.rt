@@ -20,3 +20,6 @@ pub use top::{Ended, run};
 
 #[cfg(test)]
 mod tests;
+
+#[cfg(test)]
+mod tests_comments;
