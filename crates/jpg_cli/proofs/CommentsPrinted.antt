@@ -1,6 +1,7 @@
 -- What printing the comments of an input comes to, over the states that a desk tells.
-use Rattle.std.proofs.Common.{◌≡◌, ℕ, List, ◌++◌, Option, None, Some, sym, ap, ◌∙◌, subst, arith}
+use Rattle.std.proofs.Common.{◌≡◌, ℕ, List, ◌++◌, take, Option, None, Some, sym, ap, ◌∙◌, subst, arith}
 use Rattle.std.specs.Io.KnownBytes.{Consumes}
+use Rattle.std.proofs.lemmas.List.{length-append, take-append-le}
 use Rattle.jpg_base.specs.declared.names.Name.{Name}
 use Rattle.jpg_base.specs.declared.names.Put.{Put}
 use Rattle.jpg_base.specs.declared.names.Put.TheVariants as put
@@ -10,8 +11,11 @@ use Rattle.jpg_spec.specs.declared.answers.Why.{Why}
 use Rattle.jpg_spec.specs.declared.answers.Why.TheVariants as why
 use Rattle.jpg_spec.specs.declared.answers.Which.TheVariants as which
 use Rattle.jpg_cli.specs.Reading.{IsFile}
+use Rattle.jpg_spec.specs.Segments.{standard_limits}
+use Rattle.jpg_spec.specs.CommentText.{IsReadWhole}
 use Rattle.jpg_cli.specs.Saying.{OnlySays}
-use Rattle.jpg_cli.specs.ReadComments.{Copies, EndsCopying, IsFaultText, IsTextPart, IsTextSoFar, IsWholeText, OnlyCopies, Printed, Prints, asked_one, asked_two, rest_of}
+use Rattle.jpg_cli.specs.Run.{NoneRose}
+use Rattle.jpg_cli.specs.ReadComments.{Copies, EndsCopying, IsFaultText, IsPrintDue, IsTextPart, IsTextSoFar, IsWholeText, OnlyCopies, Printed, Prints, asked_one, asked_two, rest_of}
 use Rattle.jpg_cli.proofs.Input.{none_is_none, notes_one, some_inj}
 
 -- AN INPUT OPENED, AND AN OUTPUT CREATED
@@ -95,3 +99,33 @@ printed_then s0 s1 s2 input output (why.ReadFault which.Comment) k h = absurd h
 printed_then s0 s1 s2 input output (why.ReadFault which.Output) k h = absurd h
 printed_then s0 s1 s2 input output why.WriteFault k h = (prints_then s0 s1 s2 input output IsTextPart k h.0, (let r = h.1 in let f = k.counts.writes in omega arith))
 printed_then s0 s1 s2 input output why.NoMemory k h = prints_then s0 s1 s2 input output IsTextPart k h
+
+-- WHERE NOTHING FAILED
+
+whole_due : (s0 s1 : DeskState) (input output : Name) → Prints input output IsWholeText s0 s1 → IsPrintDue input s0 why.Done
+whole_due s0 s1 input output h =
+    let rest = rest_of s1.left in
+    let is = h.is in
+    let front : take is.count (h.bytes ++ rest) ≡ take is.count h.bytes = take-append-le is.count h.bytes rest is.within in
+    let within = is.within in (
+      h.bytes ++ rest,
+      h.file,
+      (is.count, is.before, omega (arith, within, length-append h.bytes rest), subst (λ (b : List ℕ). IsReadWhole standard_limits b is.before) (sym front) is.whole),
+    )
+
+pub print_due : (s0 s1 : DeskState) (input output : Name) (w : Why) → NoneRose s0.counts s1.counts → Printed input output s0 w s1 → IsPrintDue input s0 w
+print_due s0 s1 input output why.Done n h = whole_due s0 s1 input output h
+print_due s0 s1 input output (why.Usage u) n h = absurd h
+print_due s0 s1 input output (why.Refused f) n h = (h.bytes ++ rest_of s1.left, h.file, h.is.fault)
+print_due s0 s1 input output (why.OpenFault which.Input) n h = absurd (n.0 h.opens)
+print_due s0 s1 input output (why.OpenFault which.Script) n h = absurd h
+print_due s0 s1 input output (why.OpenFault which.Tables) n h = absurd h
+print_due s0 s1 input output (why.OpenFault which.Comment) n h = absurd h
+print_due s0 s1 input output (why.OpenFault which.Output) n h = absurd (n.0 h.opens)
+print_due s0 s1 input output (why.ReadFault which.Input) n h = absurd (n.1 h.1)
+print_due s0 s1 input output (why.ReadFault which.Script) n h = absurd h
+print_due s0 s1 input output (why.ReadFault which.Tables) n h = absurd h
+print_due s0 s1 input output (why.ReadFault which.Comment) n h = absurd h
+print_due s0 s1 input output (why.ReadFault which.Output) n h = absurd h
+print_due s0 s1 input output why.WriteFault n h = absurd (n.2 h.1)
+print_due s0 s1 input output why.NoMemory n h = tt

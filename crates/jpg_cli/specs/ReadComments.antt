@@ -103,6 +103,14 @@ Printed input output old why.WriteFault new = Prints input output IsTextPart old
 Printed input output old why.NoMemory new = Prints input output IsTextPart old new
 Printed input output old other new = ⊥
 
+-- Where no count of open, read or write rose, the answer is the one that the input has, or want of memory.
+abbrev pub IsPrintDue : Name → DeskState → Why → Type 0
+IsPrintDue input old why.Done =
+    (bytes : List ℕ) × IsFile old.files input bytes × ((n : ℕ) × (before : List Segment) × (n ≤ length bytes) × IsReadWhole standard_limits (take n bytes) before)
+IsPrintDue input old (why.Refused f) = (bytes : List ℕ) × IsFile old.files input bytes × IsReadFault standard_limits bytes f.fault f.at
+IsPrintDue input old why.NoMemory = Unit {0}
+IsPrintDue input old other = ⊥
+
 -- STEP BY STEP, from a desk whose input is open and whose output is created
 
 -- nothing but the bytes left, the outputs and the counts changed

@@ -1,10 +1,18 @@
 //! Laws over what a run does, each on a function that does nothing.
 ghost use Rattle.jpg_base.specs.Desk.{DeskState};
 ghost use Rattle.jpg_spec.specs.declared.answers.Why.{Why};
+ghost use Rattle.jpg_base.specs.declared.names.Name.{Name};
 ghost use Rattle.jpg_cli.specs.Run.{IsDue, NoneRose, Turned};
+ghost use Rattle.jpg_cli.specs.ReadComments.{IsPrintDue, Printed};
 
 /// Where no count of open, read or write rose, a run that turns a picture ends as its input says:
 /// Done where the bytes taken begin with a plain file, Refused where they don't, or NoMemory.
 pub fn answers_are_due()
     ensures { (old new : DeskState) (why : Why) → NoneRose old.counts new.counts → Turned old why new → IsDue old why }
+{}
+
+/// Where no count of open, read or write rose, a run that prints comments ends as its input says: Done
+/// where a front of it is whole, Refused with the fault that it has, or NoMemory.
+pub fn printed_comments_are_due()
+    ensures { (old new : DeskState) (input output : Name) (why : Why) → NoneRose old.counts new.counts → Printed input output old why new → IsPrintDue input old why }
 {}

@@ -15,8 +15,11 @@ mod turn;
 mod words;
 mod writing;
 
-pub use laws::answers_are_due;
+pub use laws::{answers_are_due, printed_comments_are_due};
 pub use top::{Ended, run};
 
 #[cfg(test)]
 mod tests;
+
+#[cfg(test)]
+mod tests_comments;

@@ -1,0 +1,5 @@
+use Rattle.jpg_cli.proofs.CommentsPrinted.{print_due}
+use Rattle.jpg_cli.proofs.laws.printed_comments_are_due.Goals as goal
+
+pub returns : goal.returns
+returns c = λ old new input output why none printed. print_due old new input output why none printed
