@@ -5,8 +5,9 @@ ghost use Rattle.jpg_base.specs.declared.names.Name.{Name};
 ghost use Rattle.jpg_cli.specs.Run.{IsDue, NoneRose, Turned};
 ghost use Rattle.jpg_cli.specs.ReadComments.{IsPrintDue, Printed};
 
-/// Where no count of open, read or write rose, a run that turns a picture ends as its input says:
-/// Done where the bytes taken begin with a plain file, Refused where they don't, or NoMemory.
+/// Where no count of open, read or write rose, a run that turns a picture ends as its input says: Done
+/// where it means a picture by its one gray scan, Refused with its first fault or as not built yet, or
+/// NoMemory.
 pub fn answers_are_due()
     ensures { (old new : DeskState) (why : Why) → NoneRose old.counts new.counts → Turned old why new → IsDue old why }
 {}
