@@ -20,6 +20,5 @@ pub use top::{Ended, run};
 
 #[cfg(test)]
 mod tests;
-
 #[cfg(test)]
 mod tests_comments;
