@@ -1,6 +1,7 @@
 //! The commands: their words, their work over a desk, and their messages.
 #![tactic(auto)]
 
+mod comment_taken;
 mod comment_words;
 mod first_scan;
 mod gray;
