@@ -1,9 +1,9 @@
 -- What the bytes of a file that were read come to, for the comments that were printed.
-use Rattle.std.proofs.Common.{◌≡◌, ℕ, zero, suc, ◌+◌, ◌<◌, ◌≤◌, List, [], ◌∷◌, ◌++◌, length, take, Option, None, Some, refl, sym, ap, ◌∙◌, subst, arith, inl, inr}
+use Rattle.std.proofs.Common.{◌⊎◌, ◌≡◌, ℕ, zero, suc, ◌+◌, ◌<◌, ◌≤◌, List, [], ◌∷◌, ◌++◌, length, take, Option, None, Some, refl, sym, ap, ◌∙◌, subst, arith, inl, inr}
 use Rattle.std.proofs.lemmas.List.{append-nil, length-append, take_all, take-append-le}
 use Rattle.std.proofs.Math.Seq.{take-append-add}
 use Rattle.jpg_spec.specs.Segments.{standard_limits}
-use Rattle.jpg_spec.specs.Markers.{Segment}
+use Rattle.jpg_spec.specs.Markers.{Segment, kept_rule, SegmentsShow}
 use Rattle.jpg_spec.specs.CommentText.{comments_text, IsReadFault, IsReadWhole, ShowsNothing}
 use Rattle.jpg_spec.specs.declared.fault.Fault.{Fault}
 use Rattle.jpg_spec.specs.declared.fault.Fault.TheVariants.{Truncated}
@@ -69,16 +69,41 @@ fault_within bytes f n (w, inl h) = h.1.0
 fault_within bytes f n (w, inr (inl h)) = (let e = h.1 in let l = h.2 in omega (arith, e, l))
 fault_within bytes f n (w, inr (inr h)) = (let e = h.1 in omega (arith, e))
 
-pub fault_text : (bytes piece text : List ℕ) (f : FaultAt) (limits : Limits) → limits ≡ standard_limits
+upto : (n m : ℕ) → (n ≤ m) ⊎ (m < n)
+upto zero m = inl (omega arith)
+upto (suc n) zero = inr (omega arith)
+upto (suc n) (suc m) = next (upto n m)
+  where
+    next : (n ≤ m) ⊎ (m < n) → (suc n ≤ suc m) ⊎ (suc m < suc n)
+    next (inl h) = inl (omega (arith, h))
+    next (inr h) = inr (omega (arith, h))
+
+-- a fault stands in the last piece
+fault_last : (bytes piece : List ℕ) (f : FaultAt) → ShowsNothing standard_limits (HoldsWhole standard_limits) bytes → length bytes < standard_limits.input → length piece ≤ 65536
+    → IsReadFault standard_limits ((bytes ++ piece) ++ []) f.fault f.at → length (bytes ++ piece) < f.at + 65536
+fault_last bytes piece f nothing less short (w, inl h) = by (upto f.at (length bytes))
+  where
+    by : (f.at ≤ length bytes) ⊎ (length bytes < f.at) → length (bytes ++ piece) < f.at + 65536
+    by (inl l) =
+        let e : take f.at ((bytes ++ piece) ++ []) ≡ take f.at bytes = ap (take f.at) (append-nil (bytes ++ piece)) ∙ front_is f.at bytes piece l in
+        absurd ((nothing f.at l).0 f.fault (subst (λ (b : List ℕ). SegmentsShow (kept_rule standard_limits) f.fault b) e h.1.1))
+    by (inr l) = omega (arith, l, short, length-append bytes piece)
+fault_last bytes piece f nothing less short (w, inr (inl h)) = (let e = h.1 in omega (arith, e, less, short, length-append bytes piece))
+fault_last bytes piece f nothing less short (w, inr (inr h)) = (let e = h.1 in omega (arith, e, length-append (bytes ++ piece) []))
+
+pub fault_text : (bytes piece had text : List ℕ) (f : FaultAt) (c : Comments) (limits : Limits) → c.limits ≡ standard_limits → limits ≡ standard_limits → HasRead bytes had c → length piece ≤ 65536
     → ((rest : List ℕ) → IsReadFault limits (bytes ++ piece ++ rest) f.fault f.at) × PrintsBefore limits (take f.at (bytes ++ piece)) f.fault text → (rest : List ℕ) → IsFaultText f rest (bytes ++ piece) text
-fault_text bytes piece text f limits e h rest =
+fault_text bytes piece had text f c limits same e r short h rest =
     let of : (r : List ℕ) → IsReadFault standard_limits ((bytes ++ piece) ++ r) f.fault f.at = λ r.
     subst (λ (l : Limits). IsReadFault l ((bytes ++ piece) ++ r) f.fault f.at) e (h.0 r) in
     let p = subst (λ (l : Limits). PrintsBefore l (take f.at (bytes ++ piece)) f.fault text) e h.1 in
+    let so = text_so_far bytes had c same r in
+    let less = subst (λ (l : Limits). length bytes < l.input) same r.2 in
     let within : f.at ≤ length (bytes ++ piece) = omega (arith, fault_within ((bytes ++ piece) ++ []) f.fault f.at (of []), length-append (bytes ++ piece) []) in
     record {
       before = p.0;
       fault = of rest;
+      last = fault_last bytes piece f so.nothing less short (of []);
       whole = subst (λ (l : List ℕ). AreWholeBefore standard_limits l f.fault p.0) (sym (front_is f.at (bytes ++ piece) rest within)) p.1;
       is = p.2;
     }
@@ -104,6 +129,7 @@ end_text bytes text c f e h s =
     record {
       before = so.before;
       fault = subst (λ (l : List ℕ). IsReadFault standard_limits l f.fault f.at) (sym (append-nil bytes)) fault;
+      last = omega (arith, at);
       whole =
           subst (λ (l : List ℕ). AreWholeBefore standard_limits l f.fault so.before)
           (sym (ap (λ (n : ℕ). take n (bytes ++ [])) at ∙ front_is (length bytes) bytes [] (omega arith) ∙ take_all (length bytes) bytes (omega arith))) (inr so.begun);

@@ -18,10 +18,9 @@ notes_one None (Some b) entry h = absurd h
 notes_one (Some a) (Some b) entry h = h
 
 -- what was taken is the front of an input
-front_is : (input taken rest : List ℕ) → input ≡ taken ++ rest → length taken ≤ 2 ^ 28 → (2 ^ 28 ≤ length taken) ⊎ (rest ≡ []) → taken ≡ taken_of input
-front_is input taken rest e le (inl ge) = sym (ap (take (2 ^ 28)) e ∙ take_at taken rest (2 ^ 28) (omega arith))
-front_is input taken rest e le (inr none) =
-    sym (ap (take (2 ^ 28)) (e ∙ ap (λ r. taken ++ r) none ∙ append-nil taken) ∙ take_all (2 ^ 28) taken le)
+front_is : (limit : ℕ) (input taken rest : List ℕ) → input ≡ taken ++ rest → length taken ≤ limit → (limit ≤ length taken) ⊎ (rest ≡ []) → taken ≡ take limit input
+front_is limit input taken rest e le (inl ge) = sym (ap (take limit) e ∙ take_at taken rest limit (omega (arith, le, ge)))
+front_is limit input taken rest e le (inr none) = sym (ap (take limit) (e ∙ ap (λ r. taken ++ r) none ∙ append-nil taken) ∙ take_all limit taken le)
 
 pub none_is_none : (x : List ℕ) → None ≡ Some x → ⊥
 none_is_none x e = cc
@@ -29,17 +28,21 @@ none_is_none x e = cc
 pub some_inj : (x y : List ℕ) → Some x ≡ Some y → x ≡ y
 some_inj x y e = cc
 
-input_is : (files : Option (Name → Option (List ℕ))) (n : Name) (l1 l2 : Option (List ℕ)) (taken : List ℕ) → OpensFile files n l1 → Consumes l1 l2 taken → length taken ≤ 2 ^ 28
-    → (2 ^ 28 ≤ length taken) ⊎ IsAtEnd l2 → (input : List ℕ) × IsFile files n input × (taken ≡ taken_of input)
-input_is None n l1 l2 taken h k le end = (taken, tt, sym (take_all (2 ^ 28) taken le))
-input_is (Some files) n None l2 taken h k le end = absurd (none_is_none h.0 h.2)
-input_is (Some files) n (Some l) None taken h k le end = absurd k
-input_is (Some files) n (Some l) (Some rest) taken h k le end =
-    (h.0, h.1, front_is h.0 taken rest (sym (some_inj l h.0 h.2) ∙ k) le end)
+input_is : (limit : ℕ) (files : Option (Name → Option (List ℕ))) (n : Name) (l1 l2 : Option (List ℕ)) (taken : List ℕ) → OpensFile files n l1 → Consumes l1 l2 taken → length taken ≤ limit
+    → (limit ≤ length taken) ⊎ IsAtEnd l2 → (input : List ℕ) × IsFile files n input × (taken ≡ take limit input)
+input_is limit None n l1 l2 taken h k le end = (taken, tt, sym (take_all limit taken le))
+input_is limit (Some files) n None l2 taken h k le end = absurd (none_is_none h.0 h.2)
+input_is limit (Some files) n (Some l) None taken h k le end = absurd k
+input_is limit (Some files) n (Some l) (Some rest) taken h k le end =
+    (h.0, h.1, front_is limit h.0 taken rest (sym (some_inj l h.0 h.2) ∙ k) le end)
 
--- the input is read
-pub took_input : (s0 s1 s2 : DeskState) (v : List ℕ) → Opens s0 name.In put.Done s1 → OnlyReads s1 s2 → AfterReading s1 taken.All v s2 → AfterInput s0 (Ok v) s2
-took_input s0 s1 s2 v h k r = (
-  notes_one s0.asked s2.asked (name.In, put.Done) (let P : Option (List (Name × Put)) → Type 0 = λ a. NotesName s0.asked (name.In, put.Done) a in subst P (sym k.asked) h.asked),
-  input_is s0.files name.In s1.left s2.left v h.after.2 r.0 r.1 r.2,
+-- an input is read
+pub took : (limit : ℕ) (s0 s1 s2 : DeskState) (n : Name) (v : List ℕ) → Opens s0 n put.Done s1 → OnlyReads s1 s2 → AfterReading limit s1 taken.All v s2
+    → NotesNames s0.asked ((n, put.Done) ∷ []) s2.asked × ((input : List ℕ) × IsFile s0.files n input × (v ≡ take limit input))
+took limit s0 s1 s2 n v h k r = (
+  notes_one s0.asked s2.asked (n, put.Done) (let P : Option (List (Name × Put)) → Type 0 = λ a. NotesName s0.asked (n, put.Done) a in subst P (sym k.asked) h.asked),
+  input_is limit s0.files n s1.left s2.left v h.after.2 r.0 r.1 r.2,
 )
+
+pub took_input : (s0 s1 s2 : DeskState) (v : List ℕ) → Opens s0 name.In put.Done s1 → OnlyReads s1 s2 → AfterReading (2 ^ 28) s1 taken.All v s2 → AfterInput s0 (Ok v) s2
+took_input s0 s1 s2 v h k r = took (2 ^ 28) s0 s1 s2 name.In v h k r

@@ -1,5 +1,6 @@
 pub mod FirstScan
 pub mod Commands
+pub mod CommentTaken
 pub mod CommentWords
 pub mod Gray
 pub mod Header

@@ -26,7 +26,7 @@ use Rattle.jpg_cli.specs.Reading.{IsFile}
 abbrev pub AreWhole : List ℕ → List Segment → Type 0
 AreWhole bytes before = IsReadWhole standard_limits bytes before ⊎ ((fault : Fault) × AreWholeBefore standard_limits bytes fault before)
 
--- A front of the bytes is a whole file, with which the last piece of at most 65,536 bytes began or went on. The text is that of its comments.
+-- A front of the bytes is a whole file, and ends in the last piece that was read, of at most 65,536 bytes. The text is that of its comments.
 pub record IsWholeText (bytes text : List ℕ) : Type 0 where
   pub count : ℕ
   pub before : List Segment
@@ -35,10 +35,11 @@ pub record IsWholeText (bytes text : List ℕ) : Type 0 where
   pub whole : IsReadWhole standard_limits (take count bytes) before
   pub is : text ≡ comments_text before
 
--- The file, which has this rest behind the bytes, has this fault. The text is that of the comments that are whole before it.
+-- The file, which has this rest behind the bytes, has this fault, in the last piece that was read. The text is that of the comments that are whole before it.
 pub record IsFaultText (f : FaultAt) (rest bytes text : List ℕ) : Type 0 where
   pub before : List Segment
   pub fault : IsReadFault standard_limits (bytes ++ rest) f.fault f.at
+  pub last : length bytes < f.at + 65536
   pub whole : AreWholeBefore standard_limits (take f.at (bytes ++ rest)) f.fault before
   pub is : text ≡ comments_text before
 

@@ -31,10 +31,11 @@ AfterPiece old had most piece.End bytes new = (bytes ≡ had) × IsAtEnd old.lef
 AfterPiece old had most piece.Failed bytes new = Rose old.counts.reads new.counts.reads
 AfterPiece old had most piece.NoMemory bytes new = Unit {0}
 
-abbrev pub AfterReading : DeskState → Taken → List ℕ → DeskState → Type 0
-AfterReading old taken.All bytes new = Consumes old.left new.left bytes × (length bytes ≤ 2 ^ 28) × ((2 ^ 28 ≤ length bytes) ⊎ IsAtEnd new.left)
-AfterReading old taken.Failed bytes new = Rose old.counts.reads new.counts.reads
-AfterReading old taken.NoMemory bytes new = Unit {0}
+-- the whole input, or so many bytes of it
+abbrev pub AfterReading : ℕ → DeskState → Taken → List ℕ → DeskState → Type 0
+AfterReading limit old taken.All bytes new = Consumes old.left new.left bytes × (length bytes ≤ limit) × ((limit ≤ length bytes) ⊎ IsAtEnd new.left)
+AfterReading limit old taken.Failed bytes new = Rose old.counts.reads new.counts.reads
+AfterReading limit old taken.NoMemory bytes new = Unit {0}
 
 -- the bytes of an input that are taken: its first 2 ^ 28, or all where it has fewer
 abbrev pub taken_of : List ℕ → List ℕ

@@ -1,6 +1,7 @@
 //! The commands: their words, their work over a desk, and their messages.
 #![tactic(auto)]
 
+mod comment_taken;
 mod comment_words;
 mod first_scan;
 mod gray;
@@ -20,6 +21,5 @@ pub use top::{Ended, run};
 
 #[cfg(test)]
 mod tests;
-
 #[cfg(test)]
 mod tests_comments;

@@ -16,7 +16,8 @@ enum Piece {
     NoMemory,
 }
 
-enum Taken {
+/// What came of reading an input to its end or up to a limit.
+pub enum Taken {
     All,
     Failed,
     NoMemory,
@@ -45,15 +46,16 @@ fn read_piece<D: Desk>(
     }
 }
 
-fn read_all<D: Desk>(desk: &mut D, bytes: &mut Bytes) -> Taken
+/// Reads the input to its end, or up to so many bytes.
+pub fn read_up_to<D: Desk>(desk: &mut D, limit: usize, bytes: &mut Bytes) -> Taken
     requires open { (D.state desk.old).input_open ≡ true }
     requires empty { bytes.old ≡ [] }
     ensures kept { OnlyReads (D.state desk.old) (D.state desk.new) }
-    ensures after { AfterReading (D.state desk.old) result bytes.new (D.state desk.new) }
+    ensures after { AfterReading limit (D.state desk.old) result bytes.new (D.state desk.new) }
 {
     let mut buffer = [0u8; 65536];
-    while bytes.as_slice().len() < LIMIT {
-        match read_piece(desk, LIMIT - bytes.as_slice().len(), &mut buffer, bytes) {
+    while bytes.as_slice().len() < limit {
+        match read_piece(desk, limit - bytes.as_slice().len(), &mut buffer, bytes) {
             Piece::Some => {}
             Piece::End => return Taken::All,
             Piece::Failed => return Taken::Failed,
@@ -72,7 +74,7 @@ pub fn take_input<D: Desk>(alloc: Global, desk: &mut D) -> Result<Bytes, Why>
         Put::Failed => Err(Why::OpenFault(Which::Input)),
         Put::Done => {
             let mut bytes = Bytes::new(alloc);
-            match read_all(desk, &mut bytes) {
+            match read_up_to(desk, LIMIT, &mut bytes) {
                 Taken::All => Ok(bytes),
                 Taken::Failed => Err(Why::ReadFault(Which::Input)),
                 Taken::NoMemory => Err(Why::NoMemory),

@@ -87,7 +87,14 @@ fn comments_are_printed(rt: HostRuntime) -> Result<(), Fail> {
                 let words = strings(rt.alloc(), words)?;
                 let mut desk = desk_with(rt.alloc(), bytes, piece)?;
                 let ended = run(rt.alloc(), words.as_slice(), &mut desk);
-                assert_eq!(rt; ended, Ended { code: *code, why: *why }, "file {i}");
+                assert_eq!(rt;
+                    ended,
+                    Ended {
+                        code: *code,
+                        why: *why
+                    },
+                    "file {i}"
+                );
                 assert_eq!(rt; desk.outputs(), 1, "file {i}");
                 if desk.outputs() == 1 {
                     assert_eq!(rt; desk.output(0), *text, "file {i}");

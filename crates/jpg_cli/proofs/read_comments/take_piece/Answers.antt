@@ -18,7 +18,7 @@ returns-in-Ok-Done-clause-taken c = λ bytes text h.
 pub returns-in-Err-Fault-clause-taken : goal.returns-in-Err-Fault-clause-taken
 returns-in-Err-Fault-clause-taken c = λ bytes text h.
     let k = subst (λ (stop : Stop). Appends (λ all. AfterFeed bytes c.args.piece.now all (Err stop) c.feed.new.self) text c.args.out.now c.feed.new.out) c.in-Err-Fault.field-0-is (c.in-Err-Fault.ensures.answered bytes text h) in
-    (k.0, k.1, fault_text bytes c.args.piece.now (text ++ k.0) c.in-Err-Fault.fault c.feed.new.self.limits (c.in-Err-Fault.ensures.limits ∙ c.requires.limits) k.2)
+    (k.0, k.1, fault_text bytes c.args.piece.now text (text ++ k.0) c.in-Err-Fault.fault c.args.comments.now c.feed.new.self.limits c.requires.limits (c.in-Err-Fault.ensures.limits ∙ c.requires.limits) h c.requires.short k.2)
 
 pub returns-in-Err-NoMemory-clause-taken : goal.returns-in-Err-NoMemory-clause-taken
 returns-in-Err-NoMemory-clause-taken c = λ bytes text h.

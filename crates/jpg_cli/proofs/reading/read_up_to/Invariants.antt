@@ -1,7 +1,7 @@
 use Rattle.std.proofs.Common.{◌≡◌, ◌≤◌, ◌-◌, ◌^◌, length}
 use Rattle.std.specs.Io.KnownBytes.{Consumes}
 use Rattle.jpg_cli.specs.Reading.{OnlyReads}
-use Rattle.jpg_cli.proofs.reading.read_all.Given as goal
+use Rattle.jpg_cli.proofs.reading.read_up_to.Given as goal
 
 abbrev pub invariant-loop-buffer : goal.invariant-loop-buffer
 invariant-loop-buffer g l =
@@ -9,9 +9,9 @@ invariant-loop-buffer g l =
     record {
       kept : OnlyReads (state l.fn.desk) (state l.desk);
       taken : Consumes (state l.fn.desk).left (state l.desk).left l.bytes;
-      most : length l.bytes ≤ 2 ^ 28;
+      most : length l.bytes ≤ l.limit;
       room : length l.buffer ≡ 65536;
     }
 
 abbrev pub decreases-loop-buffer : goal.decreases-loop-buffer
-decreases-loop-buffer g l = 2 ^ 28 - length l.bytes
+decreases-loop-buffer g l = l.limit - length l.bytes
