@@ -1,10 +1,7 @@
--- WHAT THE WORDS OF A CALL ASK FOR: the first names the command, the others are its switches and files.
-use Rattle.std.specs.Prelude.{ℕ, Bool, true, false, not, ◌&&◌, if◌then◌else◌, List, [], ◌∷◌, codes}
+-- THE WORDS OF A CALL: the first names the command.
+use Rattle.std.specs.Prelude.{ℕ, Bool, true, false, ◌&&◌, if◌then◌else◌, List, [], ◌∷◌, codes}
 use Rattle.std.specs.Str.{bytes_eq}
 use Rattle.jpg_spec.specs.Lists.{any_of}
-use Rattle.jpg_spec.specs.declared.answers.Asked.{Asked}
-use Rattle.jpg_spec.specs.declared.answers.Asked.TheVariants.{Wrong, NotBuilt, FlipHorizontal}
-use Rattle.jpg_spec.specs.declared.answers.UsageFault.TheVariants.{NoTool, UnknownTool}
 
 -- the commands
 abbrev pub tools : List (List ℕ)
@@ -22,13 +19,6 @@ are_words (v ∷ vs) (w ∷ ws) = bytes_eq v w && are_words vs ws
 
 abbrev pub flip_words : List (List ℕ)
 flip_words = codes "jpegtran" ∷ codes "-flip" ∷ codes "horizontal" ∷ []
-
-abbrev pub asked : List (List ℕ) → Asked
-asked [] = Wrong (record { fault = NoTool; word = 0 })
-asked (tool ∷ words) =
-    if not (is_tool tool) then Wrong (record { fault = UnknownTool; word = 0 })
-    else if are_words (tool ∷ words) flip_words then FlipHorizontal
-    else NotBuilt
 
 -- the command that a message names
 abbrev pub tool_of : List (List ℕ) → List ℕ

@@ -58,17 +58,6 @@ pub struct Usage {
     pub word: u64,
 }
 
-/// What the words of a call ask for.
-#[derive(Clone, Copy, Debug, PartialEq, Eq)]
-pub enum Asked {
-    /// Nothing that there is.
-    Wrong(Usage),
-    /// What isn't built yet.
-    NotBuilt,
-    /// `jpegtran -flip horizontal`, from standard input to standard output.
-    FlipHorizontal,
-}
-
 /// The files of a command.
 #[derive(Clone, Copy, Debug, PartialEq, Eq)]
 pub enum Which {

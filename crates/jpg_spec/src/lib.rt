@@ -13,6 +13,6 @@ pub mod laws;
 pub mod marker_examples;
 pub mod marker_laws;
 
-pub use answers::{Asked, FaultAt, Usage, UsageFault, Which, Why};
+pub use answers::{FaultAt, Usage, UsageFault, Which, Why};
 pub use fault::Fault;
 pub use frame::{Bounds, Colour, Component, Copying, Grid, Limits, Place, Process, ScanPart};
