@@ -1,8 +1,7 @@
 -- What writing a file with a comment inserted comes to behind its head, over the states that a desk tells.
-use Rattle.std.proofs.Common.{◌⊎◌, ◌≡◌, ℕ, ◌+◌, ◌<◌, ◌≤◌, Bool, List, [], ◌++◌, length, take, Option, None, Some, refl, sym, ap, ◌∙◌, subst, arith, inl, inr}
+use Rattle.std.proofs.Common.{◌≡◌, ℕ, ◌<◌, Bool, List, [], ◌++◌, length, take, Option, None, Some, sym, ap, ◌∙◌, subst, arith, inl, inr}
 use Rattle.std.proofs.lemmas.List.{length-append, take_all}
-use Rattle.std.specs.Io.KnownBytes.{Consumes, IsAtEnd}
-use Rattle.jpg_base.specs.declared.names.Name.{Name}
+use Rattle.std.specs.Io.KnownBytes.{IsAtEnd}
 use Rattle.jpg_base.specs.declared.names.Put.TheVariants as put
 use Rattle.jpg_base.specs.declared.names.Got.TheVariants as got
 use Rattle.jpg_base.specs.Desk.{DeskState, AfterWrite, AppendsLast, Reads, Rose}
@@ -87,8 +86,7 @@ rest_failed start s0 s1 s2 n buf comment bytes text old out replace due c e same
     let piece = take n buf in
     let wrote = subst (λ (m : List ℕ). AfterWrite s1 m put.Failed s2) (sym (text_added old out h.0 empty h.1)) w in
     let written = AppendsPart-then start.outputs s1.outputs s2.outputs text h.0 (outputs_still s0 s1 text start r.outputs had.written) wrote.1 in
-    let part = part_of_part comment (bytes ++ piece) (text ++ h.0) replace written.0 (fed_part comment (bytes ++ piece) (text ++ h.0) replace due c e same h.2) in
-    (
+    let part = part_of_part comment (bytes ++ piece) (text ++ h.0) replace written.0 (fed_part comment (bytes ++ piece) (text ++ h.0) replace due c e same h.2) in (
       (bytes ++ piece, take written.0 (text ++ h.0), record { read = left_still s1 s2 (bytes ++ piece) start k.left (Consumes-then start.left s0.left s1.left bytes piece had.read r.after.2); written = written.1 }, part),
       (let v = wrote.0 in let f = still.counts.writes in let g = r.counts.writes in omega arith),
     )

@@ -1,5 +1,5 @@
 -- WHAT WRITING A FILE WITH A COMMENT INSERTED does to a desk, from the marker of the frame header on (T.81 B.2.4.5, the manual of wrjpgcom in release 6b).
-use Rattle.std.specs.Prelude.{◌≡◌, ℕ, ◌<◌, ◌≤◌, Bool, List, [], ◌++◌, length, take, Option, None, Some}
+use Rattle.std.specs.Prelude.{◌≡◌, ℕ, ◌<◌, Bool, List, [], ◌++◌, length, take, Option, None, Some}
 use Rattle.std.specs.Io.KnownBytes.{IsAtEnd}
 use Rattle.jpg_base.specs.Desk.{DeskState, Rose}
 use Rattle.jpg_base.specs.declared.stop.Stop.TheVariants as stop

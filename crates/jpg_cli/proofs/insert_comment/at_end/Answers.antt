@@ -1,4 +1,4 @@
-use Rattle.std.proofs.Common.{Err, Ok, List, subst}
+use Rattle.std.proofs.Common.{Err, Ok, subst}
 use Rattle.jpg_spec.specs.declared.frame.Limits.{Limits}
 use Rattle.jpg_base.specs.declared.stop.Stop.{Stop}
 use Rattle.jpg_base.specs.declared.stop.Stop.TheVariants as stop
