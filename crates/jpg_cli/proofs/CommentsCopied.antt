@@ -57,10 +57,10 @@ copies_then a b c h k = record {
 
 -- A PIECE, read and then written
 
-outputs_still : (s0 s1 : DeskState) (text : List ℕ) (start : DeskState) → s1.outputs ≡ s0.outputs → AppendsLast start.outputs text s0.outputs → AppendsLast start.outputs text s1.outputs
+pub outputs_still : (s0 s1 : DeskState) (text : List ℕ) (start : DeskState) → s1.outputs ≡ s0.outputs → AppendsLast start.outputs text s0.outputs → AppendsLast start.outputs text s1.outputs
 outputs_still s0 s1 text start e h = let P : Option (List (Name × List ℕ)) → Type 0 = λ o. AppendsLast start.outputs text o in subst P (sym e) h
 
-left_still : (s0 s1 : DeskState) (bytes : List ℕ) (start : DeskState) → s1.left ≡ s0.left → Consumes start.left s0.left bytes → Consumes start.left s1.left bytes
+pub left_still : (s0 s1 : DeskState) (bytes : List ℕ) (start : DeskState) → s1.left ≡ s0.left → Consumes start.left s0.left bytes → Consumes start.left s1.left bytes
 left_still s0 s1 bytes start e h = let P : Option (List ℕ) → Type 0 = λ o. Consumes start.left o bytes in subst P (sym e) h
 
 -- a piece was read, and the text that was added is written
@@ -123,10 +123,10 @@ next_unread start s0 s1 bytes text c e h still had rose left outputs = (
 
 -- A PIECE, as it was taken
 
-some_taken : (n : ℕ) (buf : List ℕ) → 1 ≤ n → n ≤ length buf → 0 < length (take n buf)
+pub some_taken : (n : ℕ) (buf : List ℕ) → 1 ≤ n → n ≤ length buf → 0 < length (take n buf)
 some_taken n buf some within = omega (arith, some, within, length-take n buf)
 
-text_added : (old out more : List ℕ) → old ≡ [] → out ≡ old ++ more → more ≡ out
+pub text_added : (old out more : List ℕ) → old ≡ [] → out ≡ old ++ more → more ≡ out
 text_added old out more empty e = sym (e ∙ ap (λ (l : List ℕ). l ++ more) empty)
 
 pub next_taken : (start s0 s1 s2 : DeskState) (n : ℕ) (buf bytes text old out : List ℕ) (due : Option Why) (c : Comments) → old ≡ [] → Reads s0 (got.Bytes n) buf s1

@@ -26,7 +26,7 @@ front_is : (n : ℕ) (front rest : List ℕ) → n ≤ length front → take n (
 front_is n front rest h = take-append-le n front rest h
 
 -- a first part of a first part
-take_again : (k n : ℕ) (xs : List ℕ) → (m : ℕ) × (take k (take n xs) ≡ take m xs)
+pub take_again : (k n : ℕ) (xs : List ℕ) → (m : ℕ) × (take k (take n xs) ≡ take m xs)
 take_again zero n xs = (0, refl)
 take_again (suc k) zero xs = (0, refl)
 take_again (suc k) (suc n) [] = (0, refl)

@@ -10,7 +10,7 @@ use Rattle.jpg_base.specs.declared.names.Put.TheVariants as put
 use Rattle.jpg_base.specs.Desk.{DeskState, NotesName, OpensFile, Opens}
 use Rattle.jpg_base.specs.Laws.{NotesNames}
 use Rattle.jpg_cli.specs.declared.reading.Taken.TheVariants as taken
-use Rattle.jpg_cli.specs.Reading.{OnlyReads, AfterReading, taken_of, IsFile, AfterInput}
+use Rattle.jpg_cli.specs.Reading.{OnlyReads, AfterReading, IsFile, AfterInput}
 
 pub notes_one : (a b : Option (List (Name × Put))) (entry : Name × Put) → NotesName a entry b → NotesNames a (entry ∷ []) b
 notes_one a None entry h = tt

@@ -9,6 +9,7 @@ pub mod Ending
 pub mod Held
 pub mod InForce
 pub mod Input
+pub mod InsertedCopied
 pub mod Judged
 pub mod Matching
 pub mod Mirrored

@@ -5,6 +5,7 @@ pub mod CommentWords
 pub mod Gray
 pub mod Header
 pub mod ReadComments
+pub mod InsertComment
 pub mod Reading
 pub mod Run
 pub mod Saying

@@ -6,6 +6,7 @@ mod comment_words;
 mod first_scan;
 mod gray;
 mod header;
+mod insert_comment;
 mod laws;
 mod message;
 mod read_comments;

@@ -109,8 +109,8 @@ fn take_piece(comments: &mut Comments, piece: &[u8], out: &mut Bytes) -> Option<
     }
 }
 
-// Writes the text, if there is any, and clears it.
-fn write_text<D: Desk>(text: &mut Bytes, desk: &mut D) -> Put
+/// Writes the text, if there is any, and clears it.
+pub fn write_text<D: Desk>(text: &mut Bytes, desk: &mut D) -> Put
     requires { (D.state desk.old).output_created ≡ true }
     ensures kept { OnlyWrites (D.state desk.old) (D.state desk.new) }
     ensures written { AfterWrite (D.state desk.old) text.old result (D.state desk.new) }
