@@ -22,5 +22,3 @@ pub use top::{Ended, run};
 
 #[cfg(test)]
 mod tests;
-#[cfg(test)]
-mod tests_comments;

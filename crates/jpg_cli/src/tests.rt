@@ -6,6 +6,7 @@ use jpg_spec::{Fault, FaultAt, Usage, UsageFault, Which, Why};
 use std::alloc::Global;
 use std::test::Fail;
 
+mod comments;
 mod refused;
 mod turned;
 

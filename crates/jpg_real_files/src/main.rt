@@ -1,5 +1,5 @@
-//! Runs over real files and the standard streams: a comment from a file into a file with a name, and the
-//! comments of standard input.
+//! Runs over real files and the standard streams: the comments of a file with a name, and those of standard
+//! input.
 #![tactic(auto)]
 
 use jpg_base::StdDesk;
@@ -7,8 +7,8 @@ use jpg_cli::run;
 use std::alloc::Global;
 use std::process::ExitCode;
 
-const INSERTING: [&str; 4] = ["wrjpgcom", "-cfile", "comment.txt", "gray.jpg"];
-const READING: [&str; 1] = ["rdjpgcom"];
+const NAMED: [&str; 2] = ["rdjpgcom", "signed.jpg"];
+const STANDARD: [&str; 1] = ["rdjpgcom"];
 
 // The words of a call as texts.
 fn owned(alloc: Global, words: &[&str]) -> Option<Vec<String>> {
@@ -24,13 +24,13 @@ fn owned(alloc: Global, words: &[&str]) -> Option<Vec<String>> {
 fn main(rt: HostRuntime) -> ExitCode {
     let alloc = rt.alloc();
     let mut desk = StdDesk::new(rt);
-    let Some(inserting) = owned(alloc, &INSERTING) else {
+    let Some(named) = owned(alloc, &NAMED) else {
         return ExitCode::from(3);
     };
-    let Some(reading) = owned(alloc, &READING) else {
+    let Some(standard) = owned(alloc, &STANDARD) else {
         return ExitCode::from(3);
     };
-    let inserted = run(alloc, inserting.as_slice(), &mut desk);
-    let read = run(alloc, reading.as_slice(), &mut desk);
-    ExitCode::from(inserted.code.max(read.code))
+    let first = run(alloc, named.as_slice(), &mut desk);
+    let second = run(alloc, standard.as_slice(), &mut desk);
+    ExitCode::from(first.code.max(second.code))
 }

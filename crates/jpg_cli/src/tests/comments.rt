@@ -1,4 +1,5 @@
 // Runs of rdjpgcom over a desk in memory (T.81 B.2.4.5, its manual in release 6b).
+use super::strings;
 use crate::{Ended, run};
 use jpg_base::{MemoryDesk, Name, NoMemory, Text};
 use jpg_spec::{Fault, FaultAt, Usage, UsageFault, Which, Why};
@@ -8,19 +9,6 @@ use std::test::Fail;
 // Two comments, a frame header, and a scan header with bytes behind it.
 const FILE: &[u8] =
     b"\xff\xd8\xff\xfe\x00\x05one\xff\xfe\x00\x05two\xff\xc0\x00\x03\x01\xff\xda\x00\x03\x09behind";
-
-fn strings(alloc: Global, words: &[&str]) -> Result<Vec<String>, NoMemory> {
-    let mut list = Vec::new(alloc);
-    for word in words {
-        let Ok(text) = String::from_str(alloc, word) else {
-            return Err(NoMemory);
-        };
-        let Ok(()) = list.push(text) else {
-            return Err(NoMemory);
-        };
-    }
-    Ok(list)
-}
 
 // A desk with these bytes as standard input and as a named file, which gives few bytes a read.
 fn desk_with(alloc: Global, bytes: &[u8], piece: u32) -> Result<MemoryDesk, NoMemory> {
