@@ -8,6 +8,7 @@ use std::alloc::Global;
 use std::process::ExitCode;
 
 const NAMED: [&str; 2] = ["rdjpgcom", "signed.jpg"];
+
 const STANDARD: [&str; 1] = ["rdjpgcom"];
 
 // The words of a call as texts.
