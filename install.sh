@@ -17,8 +17,8 @@ fi
 
 mkdir -p "$prefix/bin"
 install -m 755 out/jpg_suite "$prefix/bin/jpgsuite"
-for tool in jpegtran rdjpgcom; do
+for tool in jpegtran rdjpgcom wrjpgcom; do
     printf '#!/bin/sh\nexec jpgsuite %s "$@"\n' "$tool" > "$prefix/bin/$tool"
     chmod 755 "$prefix/bin/$tool"
 done
-echo "installed in $prefix/bin: jpgsuite, jpegtran, rdjpgcom"
+echo "installed in $prefix/bin: jpgsuite, jpegtran, rdjpgcom, wrjpgcom"

@@ -98,7 +98,7 @@ next_unwritten start s0 s1 s2 bytes text piece more due c e still fell h had rea
 
 -- AT THE END
 
-none_left : (left : Option (List ℕ)) → IsAtEnd left → rest_of left ≡ []
+pub none_left : (left : Option (List ℕ)) → IsAtEnd left → rest_of left ≡ []
 none_left None h = refl
 none_left (Some left) h = h
 

@@ -20,7 +20,7 @@ use Rattle.jpg_cli.proofs.Input.{none_is_none, notes_one, some_inj}
 
 -- AN INPUT OPENED, AND AN OUTPUT CREATED
 
-file_read : (files : Option (Name → Option (List ℕ))) (n : Name) (l1 l2 : Option (List ℕ)) (bytes : List ℕ) → OpensFile files n l1 → Consumes l1 l2 bytes → IsFile files n (bytes ++ rest_of l2)
+pub file_read : (files : Option (Name → Option (List ℕ))) (n : Name) (l1 l2 : Option (List ℕ)) (bytes : List ℕ) → OpensFile files n l1 → Consumes l1 l2 bytes → IsFile files n (bytes ++ rest_of l2)
 file_read None n l1 l2 bytes h k = tt
 file_read (Some files) n None l2 bytes h k = absurd (none_is_none h.0 h.2)
 file_read (Some files) n (Some l) None bytes h k = absurd k

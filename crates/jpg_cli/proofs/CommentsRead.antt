@@ -4,7 +4,7 @@ use Rattle.std.proofs.lemmas.List.{append-nil, length-append, take_all, take-app
 use Rattle.std.proofs.Math.Seq.{take-append-add}
 use Rattle.jpg_spec.specs.Segments.{standard_limits}
 use Rattle.jpg_spec.specs.Markers.{Segment, kept_rule, SegmentsShow}
-use Rattle.jpg_spec.specs.CommentText.{comments_text, IsReadFault, IsReadWhole, ShowsNothing}
+use Rattle.jpg_spec.specs.CommentText.{comments_text, IsMarkerFault, IsReadFault, IsReadWhole, ShowsNothing}
 use Rattle.jpg_spec.specs.declared.fault.Fault.{Fault}
 use Rattle.jpg_spec.specs.declared.fault.Fault.TheVariants.{Truncated}
 use Rattle.jpg_spec.specs.declared.answers.FaultAt.{FaultAt}
@@ -64,12 +64,12 @@ whole_text bytes piece text used limits e short h =
     }
 
 -- a fault that is a file's stands in its bytes
-fault_within : (bytes : List ℕ) (f : Fault) (n : ℕ) → IsReadFault standard_limits bytes f n → n ≤ length bytes
-fault_within bytes f n (w, inl h) = h.1.0
-fault_within bytes f n (w, inr (inl h)) = (let e = h.1 in let l = h.2 in omega (arith, e, l))
-fault_within bytes f n (w, inr (inr h)) = (let e = h.1 in omega (arith, e))
+fault_within : (is_whole : List ℕ → Type 0) (bytes : List ℕ) (f : Fault) (n : ℕ) → IsMarkerFault standard_limits is_whole bytes f n → n ≤ length bytes
+fault_within is_whole bytes f n (w, inl h) = h.1.0
+fault_within is_whole bytes f n (w, inr (inl h)) = (let e = h.1 in let l = h.2 in omega (arith, e, l))
+fault_within is_whole bytes f n (w, inr (inr h)) = (let e = h.1 in omega (arith, e))
 
-upto : (n m : ℕ) → (n ≤ m) ⊎ (m < n)
+pub upto : (n m : ℕ) → (n ≤ m) ⊎ (m < n)
 upto zero m = inl (omega arith)
 upto (suc n) zero = inr (omega arith)
 upto (suc n) (suc m) = next (upto n m)
@@ -79,17 +79,17 @@ upto (suc n) (suc m) = next (upto n m)
     next (inr h) = inr (omega (arith, h))
 
 -- a fault stands in the last piece
-fault_last : (bytes piece : List ℕ) (f : FaultAt) → ShowsNothing standard_limits (HoldsWhole standard_limits) bytes → length bytes < standard_limits.input → length piece ≤ 65536
-    → IsReadFault standard_limits ((bytes ++ piece) ++ []) f.fault f.at → length (bytes ++ piece) < f.at + 65536
-fault_last bytes piece f nothing less short (w, inl h) = by (upto f.at (length bytes))
+pub fault_last : (is_whole : List ℕ → Type 0) (bytes piece : List ℕ) (f : FaultAt) → ShowsNothing standard_limits is_whole bytes → length bytes < standard_limits.input → length piece ≤ 65536
+    → IsMarkerFault standard_limits is_whole ((bytes ++ piece) ++ []) f.fault f.at → length (bytes ++ piece) < f.at + 65536
+fault_last is_whole bytes piece f nothing less short (w, inl h) = by (upto f.at (length bytes))
   where
     by : (f.at ≤ length bytes) ⊎ (length bytes < f.at) → length (bytes ++ piece) < f.at + 65536
     by (inl l) =
         let e : take f.at ((bytes ++ piece) ++ []) ≡ take f.at bytes = ap (take f.at) (append-nil (bytes ++ piece)) ∙ front_is f.at bytes piece l in
         absurd ((nothing f.at l).0 f.fault (subst (λ (b : List ℕ). SegmentsShow (kept_rule standard_limits) f.fault b) e h.1.1))
     by (inr l) = omega (arith, l, short, length-append bytes piece)
-fault_last bytes piece f nothing less short (w, inr (inl h)) = (let e = h.1 in omega (arith, e, less, short, length-append bytes piece))
-fault_last bytes piece f nothing less short (w, inr (inr h)) = (let e = h.1 in omega (arith, e, length-append (bytes ++ piece) []))
+fault_last is_whole bytes piece f nothing less short (w, inr (inl h)) = (let e = h.1 in omega (arith, e, less, short, length-append bytes piece))
+fault_last is_whole bytes piece f nothing less short (w, inr (inr h)) = (let e = h.1 in omega (arith, e, length-append (bytes ++ piece) []))
 
 pub fault_text : (bytes piece had text : List ℕ) (f : FaultAt) (c : Comments) (limits : Limits) → c.limits ≡ standard_limits → limits ≡ standard_limits → HasRead bytes had c → length piece ≤ 65536
     → ((rest : List ℕ) → IsReadFault limits (bytes ++ piece ++ rest) f.fault f.at) × PrintsBefore limits (take f.at (bytes ++ piece)) f.fault text → (rest : List ℕ) → IsFaultText f rest (bytes ++ piece) text
@@ -99,11 +99,11 @@ fault_text bytes piece had text f c limits same e r short h rest =
     let p = subst (λ (l : Limits). PrintsBefore l (take f.at (bytes ++ piece)) f.fault text) e h.1 in
     let so = text_so_far bytes had c same r in
     let less = subst (λ (l : Limits). length bytes < l.input) same r.2 in
-    let within : f.at ≤ length (bytes ++ piece) = omega (arith, fault_within ((bytes ++ piece) ++ []) f.fault f.at (of []), length-append (bytes ++ piece) []) in
+    let within : f.at ≤ length (bytes ++ piece) = omega (arith, fault_within (HoldsWhole standard_limits) ((bytes ++ piece) ++ []) f.fault f.at (of []), length-append (bytes ++ piece) []) in
     record {
       before = p.0;
       fault = of rest;
-      last = fault_last bytes piece f so.nothing less short (of []);
+      last = fault_last (HoldsWhole standard_limits) bytes piece f so.nothing less short (of []);
       whole = subst (λ (l : List ℕ). AreWholeBefore standard_limits l f.fault p.0) (sym (front_is f.at (bytes ++ piece) rest within)) p.1;
       is = p.2;
     }
@@ -115,17 +115,17 @@ part_text bytes text limits e h =
 
 -- THE END
 
-no_fault_shown : (bytes : List ℕ) (f : FaultAt) → ShowsNothing standard_limits (HoldsWhole standard_limits) bytes → length bytes < standard_limits.input → IsReadFault standard_limits bytes f.fault f.at → f.at ≡ length bytes
-no_fault_shown bytes f nothing short (w, inl h) = absurd ((nothing f.at h.1.0).0 f.fault h.1.1)
-no_fault_shown bytes f nothing short (w, inr (inl h)) = absurd (let l = h.2 in omega (arith, l, short))
-no_fault_shown bytes f nothing short (w, inr (inr h)) = h.1
+pub no_fault_shown : (is_whole : List ℕ → Type 0) (bytes : List ℕ) (f : FaultAt) → ShowsNothing standard_limits is_whole bytes → length bytes < standard_limits.input → IsMarkerFault standard_limits is_whole bytes f.fault f.at → f.at ≡ length bytes
+no_fault_shown is_whole bytes f nothing short (w, inl h) = absurd ((nothing f.at h.1.0).0 f.fault h.1.1)
+no_fault_shown is_whole bytes f nothing short (w, inr (inl h)) = absurd (let l = h.2 in omega (arith, l, short))
+no_fault_shown is_whole bytes f nothing short (w, inr (inr h)) = h.1
 
 pub end_text : (bytes text : List ℕ) (c : Comments) (f : FaultAt) → c.limits ≡ standard_limits → HasRead bytes text c → StopsAt c.limits bytes (stop.Fault f) → AfterEnd bytes text (why.Refused f)
 end_text bytes text c f e h s =
     let so = text_so_far bytes text c e h in
     let fault = subst (λ (l : Limits). IsReadFault l bytes f.fault f.at) e s in
     let short = subst (λ (l : Limits). length bytes < l.input) e h.2 in
-    let at = no_fault_shown bytes f so.nothing short fault in
+    let at = no_fault_shown (HoldsWhole standard_limits) bytes f so.nothing short fault in
     record {
       before = so.before;
       fault = subst (λ (l : List ℕ). IsReadFault standard_limits l f.fault f.at) (sym (append-nil bytes)) fault;

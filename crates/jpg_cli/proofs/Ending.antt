@@ -12,12 +12,13 @@ use Rattle.jpg_spec.specs.declared.answers.Why.TheVariants as why
 use Rattle.jpg_spec.specs.declared.answers.Which.TheVariants as which
 use Rattle.jpg_spec.specs.Words.{tool_of}
 use Rattle.jpg_spec.specs.CommentWords.{WordsTold, words_right, words_wrong}
-use Rattle.jpg_cli.specs.Commands.{Command, not_built, flip_horizontal, print_comments, command_asked, name_of}
+use Rattle.jpg_cli.specs.Commands.{Command, not_built, flip_horizontal, print_comments, insert_comment, command_asked, name_of}
 use Rattle.jpg_cli.proofs.CommentsPrinted.{printed_then}
+use Rattle.jpg_cli.proofs.InsertedThen.{inserted_then}
 use Rattle.jpg_spec.specs.Messages.{message, code_of}
 use Rattle.jpg_cli.specs.Reading.{asked_input, asked_both}
 use Rattle.jpg_cli.specs.Saying.{OnlySays}
-use Rattle.jpg_cli.specs.Run.{SaysText, Turned, turned_file, Worked, Works, Ran, IsDue, NoneRose}
+use Rattle.jpg_cli.specs.Run.{SaysText, Turned, task_of, turned_file, Worked, Works, Ran, IsDue, NoneRose}
 
 notes_still : (a b c : Option (List (Name × Put))) (xs : List (Name × Put)) → c ≡ b → NotesNames a xs b → NotesNames a xs c
 notes_still a b c xs e h = let P : Option (List (Name × Put)) → Type 0 = λ m. NotesNames a xs m in subst P (sym e) h
@@ -77,6 +78,7 @@ worked_then (words_right not_built) s0 s1 s2 w k t = (t.0, (k.asked ∙ t.1.0, k
 worked_then (words_right flip_horizontal) s0 s1 s2 w k t = turned_then s0 s1 s2 w k t
 worked_then (words_right (print_comments files)) s0 s1 s2 w k (inl t) = inl (printed_then s0 s1 s2 (name_of files.input) (name_of files.output) w k t)
 worked_then (words_right (print_comments files)) s0 s1 s2 w k (inr t) = inr (t.0, (k.asked ∙ t.1.0, k.outputs ∙ t.1.1))
+worked_then (words_right (insert_comment asked)) s0 s1 s2 w k t = inserted_then s0 s1 s2 (task_of asked) w k t
 
 said_still : (a : Option (List ℕ)) (b c : Option (List ℕ)) (t : List ℕ) → b ≡ a → Appends b c t → Appends a c t
 said_still a b c t e h = let P : Option (List ℕ) → Type 0 = λ m. Appends m c t in subst P e h

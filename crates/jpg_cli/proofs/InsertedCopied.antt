@@ -25,7 +25,7 @@ use Rattle.jpg_cli.proofs.CommentsCopied.{copied, copied_still, left_still, outp
 
 -- THE TEXT
 
-not_none : (text : List ℕ) → text ≡ [] → 0 < length text → ⊥
+pub not_none : (text : List ℕ) → text ≡ [] → 0 < length text → ⊥
 not_none text e l = (let n : length text ≡ 0 = ap length e in omega (arith, n, l))
 
 stands_part : (comment bytes text head : List ℕ) (replace : Bool) (taken : Option ℕ) (r : Reading) → StandsAt standard_limits comment replace bytes text taken head r → InsertsPart standard_limits comment replace bytes text
@@ -37,13 +37,13 @@ stands_whole : (comment bytes text head : List ℕ) (replace : Bool) (taken : Op
 stands_whole comment bytes text head replace None r some h = absurd (not_none text h.1 some)
 stands_whole comment bytes text head replace (Some taken) r some h = h.1
 
-stands : (comment bytes text : List ℕ) (c : Insert) → c.limits ≡ standard_limits → HasInserted comment bytes text c → StandsAt standard_limits comment c.replace bytes text c.taken c.head (reading_of c.reader)
+pub stands : (comment bytes text : List ℕ) (c : Insert) → c.limits ≡ standard_limits → HasInserted comment bytes text c → StandsAt standard_limits comment c.replace bytes text c.taken c.head (reading_of c.reader)
 stands comment bytes text c e h = subst (λ (l : Limits). StandsAt l comment c.replace bytes text c.taken c.head (reading_of c.reader)) e h.3
 
-inserted_so_far : (comment bytes text : List ℕ) (c : Insert) → c.limits ≡ standard_limits → 0 < length text → HasInserted comment bytes text c → IsInserted standard_limits bytes comment c.replace text
+pub inserted_so_far : (comment bytes text : List ℕ) (c : Insert) → c.limits ≡ standard_limits → 0 < length text → HasInserted comment bytes text c → IsInserted standard_limits bytes comment c.replace text
 inserted_so_far comment bytes text c e some h = stands_whole comment bytes text c.head c.replace c.taken (reading_of c.reader) some (stands comment bytes text c e h)
 
-fed_part : (comment bytes text : List ℕ) (replace : Bool) (due : Option Why) (c : Insert) → c.limits ≡ standard_limits → c.replace ≡ replace → AfterFed comment replace bytes text due c → InsertsPart standard_limits comment replace bytes text
+pub fed_part : (comment bytes text : List ℕ) (replace : Bool) (due : Option Why) (c : Insert) → c.limits ≡ standard_limits → c.replace ≡ replace → AfterFed comment replace bytes text due c → InsertsPart standard_limits comment replace bytes text
 fed_part comment bytes text replace None c e same h =
     subst (λ (b : Bool). InsertsPart standard_limits comment b bytes text) same (stands_part comment bytes text c.head c.replace c.taken (reading_of c.reader) (stands comment bytes text c e h))
 fed_part comment bytes text replace (Some why.Done) c e same h = absurd h
@@ -55,7 +55,7 @@ fed_part comment bytes text replace (Some (why.ReadFault w)) c e same h = absurd
 fed_part comment bytes text replace (Some why.WriteFault) c e same h = absurd h
 fed_part comment bytes text replace (Some why.NoMemory) c e same h = h
 
-part_of_part : (comment bytes text : List ℕ) (replace : Bool) (k : ℕ) → InsertsPart standard_limits comment replace bytes text → InsertsPart standard_limits comment replace bytes (take k text)
+pub part_of_part : (comment bytes text : List ℕ) (replace : Bool) (k : ℕ) → InsertsPart standard_limits comment replace bytes text → InsertsPart standard_limits comment replace bytes (take k text)
 part_of_part comment bytes text replace k (inl none) = inl (ap (take k) none ∙ take_all k [] (omega arith))
 part_of_part comment bytes text replace k (inr (n, front, whole, is, e)) = (let again = take_again k n whole in inr (again.0, front, whole, is, ap (take k) e ∙ again.1))
 
@@ -96,7 +96,7 @@ rest_failed start s0 s1 s2 n buf comment bytes text old out replace due c e same
 pub rest_unread : (start s0 s1 : DeskState) (comment bytes text : List ℕ) (c : Insert) → c.limits ≡ standard_limits → 0 < length text → HasInserted comment bytes text c → OnlyCopies start s0 → HasCopied start bytes text s0 → Rose s0.counts.reads s1.counts.reads → s1.left ≡ s0.left
     → s1.outputs ≡ s0.outputs → EndsInserting comment c.replace start (why.ReadFault which.Input) s1
 rest_unread start s0 s1 comment bytes text c e some h still had rose left outputs = (
-  (bytes, text, copied_still start s0 s1 bytes text had left outputs, inserted_so_far comment bytes text c e some h),
+  (bytes, text, copied_still start s0 s1 bytes text had left outputs, (inserted_so_far comment bytes text c e some h, subst (λ (l : Limits). length bytes < l.input) e h.1)),
   (let f = still.counts.reads in omega (arith, rose, f)),
 )
 

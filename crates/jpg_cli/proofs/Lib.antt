@@ -1,4 +1,5 @@
 pub mod Asking
+pub mod CommentInserted
 pub mod CommentsCopied
 pub mod CommentsPrinted
 pub mod CommentsRead
@@ -6,10 +7,12 @@ pub mod Counted
 pub mod DataEnd
 pub mod Decimal
 pub mod Ending
+pub mod HeadTaken
 pub mod Held
 pub mod InForce
 pub mod Input
 pub mod InsertedCopied
+pub mod InsertedThen
 pub mod Judged
 pub mod Matching
 pub mod Mirrored

@@ -31,7 +31,7 @@ both s0 s1 s2 answer h k = NotesNames-then s0.asked s1.asked s2.asked (asked_inp
 
 -- WHAT IS JUDGED of the bytes taken is so of the input
 
-take_front : (n m : ℕ) (xs : List ℕ) → n ≤ m → take n (take m xs) ≡ take n xs
+pub take_front : (n m : ℕ) (xs : List ℕ) → n ≤ m → take n (take m xs) ≡ take n xs
 take_front zero m xs l = refl
 take_front (suc n) zero xs l = absurd (omega (arith, l))
 take_front (suc n) (suc m) [] l = refl

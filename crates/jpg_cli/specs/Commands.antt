@@ -1,27 +1,33 @@
 -- WHAT THE WORDS OF A CALL ASK FOR: the first names the command, the others are its switches and files.
-use Rattle.std.specs.Prelude.{◌≡◌, ℕ, if◌then◌else◌, List, [], ◌∷◌, codes, Result, Ok, Err}
+use Rattle.std.specs.Prelude.{◌≡◌, ◌⊎◌, ℕ, if◌then◌else◌, List, [], ◌∷◌, codes, Result, Ok, Err}
 use Rattle.std.specs.Str.{bytes_eq}
 use Rattle.jpg_base.specs.declared.names.Name.{Name}
 use Rattle.jpg_base.specs.declared.names.Name.TheVariants as name
 use Rattle.jpg_spec.specs.Words.{are_words, flip_words, is_tool}
-use Rattle.jpg_spec.specs.CommentWords.{FileName, standard_input, standard_output, named, FilesAsked, WordsTold, words_right, words_wrong, usage_at, read_asked}
+use Rattle.jpg_spec.specs.CommentWords.{FileName, standard_input, standard_output, named, FilesAsked, WordsTold, WriteAsked, words_right, words_wrong, usage_at, read_asked, write_asked}
 use Rattle.jpg_spec.specs.declared.answers.UsageFault.TheVariants.{NoTool, UnknownTool}
-use Rattle.jpg_cli.specs.CommentWords.{files_told}
+use Rattle.jpg_cli.specs.CommentWords.{files_told, write_told}
 use Rattle.jpg_cli.specs.declared.words.Asked.{Asked}
 use Rattle.jpg_cli.specs.declared.words.Asked.TheVariants as asked
 use Rattle.jpg_cli.specs.declared.comment_words.WordsStop.{WordsStop}
 use Rattle.jpg_cli.specs.declared.comment_words.WordsStop.TheVariants as stop
 
--- what isn't built yet; jpegtran -flip horizontal, from standard input to standard output; rdjpgcom
+-- what isn't built yet; jpegtran -flip horizontal, from standard input to standard output; rdjpgcom; wrjpgcom
 pub data Command : Type 0 where
   not_built : Command
   flip_horizontal : Command
   print_comments : FilesAsked → Command
+  insert_comment : WriteAsked → Command
 
 -- the same for rdjpgcom as for its files
 abbrev pub read_command : WordsTold FilesAsked → WordsTold Command
 read_command (words_wrong usage) = words_wrong usage
 read_command (words_right files) = words_right (print_comments files)
+
+-- and for wrjpgcom
+abbrev pub write_command : WordsTold WriteAsked → WordsTold Command
+write_command (words_wrong usage) = words_wrong usage
+write_command (words_right asked) = words_right (insert_comment asked)
 
 -- of all other commands but one call isn't built yet
 abbrev pub other_command : List (List ℕ) → Command
@@ -30,6 +36,7 @@ other_command words = if are_words words flip_words then flip_horizontal else no
 abbrev pub known_command : List ℕ → List (List ℕ) → WordsTold Command
 known_command tool words =
     if bytes_eq tool (codes "rdjpgcom") then read_command (read_asked 1 words)
+    else if bytes_eq tool (codes "wrjpgcom") then write_command (write_asked 1 words)
     else words_right (other_command (tool ∷ words))
 
 abbrev pub command_asked : List (List ℕ) → WordsTold Command
@@ -48,9 +55,10 @@ abbrev pub command_told : Asked → Command
 command_told asked.NotBuilt = not_built
 command_told asked.FlipHorizontal = flip_horizontal
 command_told (asked.Rdjpgcom files) = print_comments (files_told files)
+command_told (asked.Wrjpgcom words) = insert_comment (write_told words)
 
--- Where the words are right, what they ask for; where they aren't, what is wrong. Memory can be wanting where a file is named.
+-- Where the words are right, what they ask for; where they aren't, what is wrong. Memory can be wanting where a file is named, or a comment given.
 abbrev pub IsCommand : WordsTold Command → Result Asked WordsStop → Type 0
 IsCommand told (Ok a) = told ≡ words_right (command_told a)
 IsCommand told (Err (stop.Usage usage)) = told ≡ words_wrong usage
-IsCommand told (Err stop.NoMemory) = (files : FilesAsked) × (told ≡ words_right (print_comments files))
+IsCommand told (Err stop.NoMemory) = ((files : FilesAsked) × (told ≡ words_right (print_comments files))) ⊎ ((asked : WriteAsked) × (told ≡ words_right (insert_comment asked)))

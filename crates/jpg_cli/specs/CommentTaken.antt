@@ -1,5 +1,5 @@
 -- What taking the comment that is inserted does to a desk (the manual of wrjpgcom in release 6b).
-use Rattle.std.specs.Prelude.{◌≡◌, ◌⊎◌, ℕ, List, take, Result, Ok, Err}
+use Rattle.std.specs.Prelude.{◌≡◌, ◌⊎◌, ℕ, ◌≤◌, List, ◌++◌, length, take, Result, Ok, Err}
 use Rattle.jpg_base.specs.declared.names.Name.{Name}
 use Rattle.jpg_base.specs.declared.names.Name.TheVariants as name
 use Rattle.jpg_base.specs.declared.names.Put.TheVariants as put
@@ -10,13 +10,14 @@ use Rattle.jpg_spec.specs.declared.answers.Why.{Why}
 use Rattle.jpg_spec.specs.declared.answers.Why.TheVariants as why
 use Rattle.jpg_spec.specs.declared.answers.Which.TheVariants as which
 use Rattle.jpg_cli.specs.Reading.{IsFile}
-use Rattle.jpg_cli.specs.ReadComments.{asked_one}
+use Rattle.jpg_cli.specs.ReadComments.{asked_one, rest_of}
 
 -- The file of this name was read to its end, or up to one byte more than a comment may have; or why not.
 abbrev pub AfterFile : DeskState → Name → Result (List ℕ) Why → DeskState → Type 0
 AfterFile old file (Ok bytes) new = NotesNames old.asked (asked_one file put.Done) new.asked × ((comment : List ℕ) × IsFile old.files file comment × (bytes ≡ take 65001 comment))
 AfterFile old file (Err (why.OpenFault which.Comment)) new = NotesNames old.asked (asked_one file put.Failed) new.asked × Rose old.counts.opens new.counts.opens
-AfterFile old file (Err (why.ReadFault which.Comment)) new = NotesNames old.asked (asked_one file put.Done) new.asked × Rose old.counts.reads new.counts.reads
+AfterFile old file (Err (why.ReadFault which.Comment)) new =
+    NotesNames old.asked (asked_one file put.Done) new.asked × Rose old.counts.reads new.counts.reads × ((bytes : List ℕ) × (length bytes ≤ 65000) × IsFile old.files file (bytes ++ rest_of new.left))
 AfterFile old file (Err why.NoMemory) new = NotesNames old.asked (asked_one file put.Done) new.asked
 AfterFile old file (Err other) new = ⊥
 

@@ -1,19 +1,28 @@
--- WHAT WRITING A FILE WITH A COMMENT INSERTED does to a desk, from the marker of the frame header on (T.81 B.2.4.5, the manual of wrjpgcom in release 6b).
-use Rattle.std.specs.Prelude.{◌≡◌, ℕ, ◌<◌, Bool, List, [], ◌++◌, length, take, Option, None, Some}
-use Rattle.std.specs.Io.KnownBytes.{IsAtEnd}
+-- HOW A FILE WITH A COMMENT INSERTED is written piece by piece (T.81 B.2.4.5, the manual of wrjpgcom in release 6b).
+use Rattle.std.specs.Prelude.{◌≡◌, ℕ, ◌<◌, ◌≤◌, ◌+◌, Bool, List, [], ◌++◌, length, take, Option, None, Some, Result, Ok, Err}
+use Rattle.std.specs.Io.KnownBytes.{Consumes, IsAtEnd}
 use Rattle.jpg_base.specs.Desk.{DeskState, Rose}
 use Rattle.jpg_base.specs.declared.stop.Stop.TheVariants as stop
 use Rattle.jpg_spec.specs.Segments.{standard_limits}
-use Rattle.jpg_spec.specs.CommentText.{IsHeadFault, IsInsertFault, IsInserted}
-use Rattle.jpg_spec.specs.declared.fault.Fault.TheVariants.{InputTooLong}
+use Rattle.jpg_spec.specs.CommentText.{IsHeadFault, IsInsertFault, IsInserted, ShowsNothing}
+use Rattle.jpg_spec.specs.declared.fault.Fault.TheVariants.{CommentTooLong, InputTooLong}
 use Rattle.jpg_spec.specs.declared.answers.FaultAt.{FaultAt}
 use Rattle.jpg_spec.specs.declared.answers.Why.{Why}
 use Rattle.jpg_spec.specs.declared.answers.Why.TheVariants as why
 use Rattle.jpg_spec.specs.declared.answers.Which.TheVariants as which
-use Rattle.jpg_comments.specs.Inserting.{InsertsPart, InsertsUpTo}
+use Rattle.jpg_comments.specs.Inserting.{HoldsHead, InsertsPart, InsertsUpTo}
 use Rattle.jpg_comments.specs.WriteInserted.{HasInserted}
 use Rattle.jpg_comments.specs.declared.insert.Insert.{Insert}
+use Rattle.jpg_cli.specs.declared.insert_comment.AtHead.{AtHead}
+use Rattle.jpg_cli.specs.declared.insert_comment.AtHead.TheVariants as at_head
 use Rattle.jpg_cli.specs.ReadComments.{Copies, HasCopied, rest_of}
+
+-- A writer is new, with a comment that isn't too long; or there is none.
+abbrev pub IsBegunWith : List ℕ → Bool → Result Insert Why → Type 0
+IsBegunWith comment replace (Ok c) = (length comment ≤ 65000) × HasInserted comment [] [] c × (c.limits ≡ standard_limits) × (c.replace ≡ replace)
+IsBegunWith comment replace (Err (why.Refused f)) = (f.fault ≡ CommentTooLong) × (f.at ≡ 65001) × (65000 < length comment)
+IsBegunWith comment replace (Err why.NoMemory) = Unit {0}
+IsBegunWith comment replace (Err other) = ⊥
 
 -- A piece was taken: the text for all the bytes so far, or why the writing ends.
 abbrev pub AfterFed : List ℕ → Bool → List ℕ → List ℕ → Option Why → Insert → Type 0
@@ -30,7 +39,7 @@ AfterAll comment replace bytes text other = ⊥
 
 -- THE TEXT behind the frame header's marker, by the bytes that were read
 
--- the whole file
+-- the whole file with the comment inserted, of bytes that are fewer than may be taken
 abbrev pub IsWholeFile : List ℕ → Bool → List ℕ → List ℕ → Type 0
 IsWholeFile comment replace bytes text = IsInserted standard_limits bytes comment replace text × (length bytes < standard_limits.input)
 
@@ -42,7 +51,7 @@ IsLongFile comment replace f rest bytes text =
 abbrev pub EndsInserting : List ℕ → Bool → DeskState → Why → DeskState → Type 0
 EndsInserting comment replace old why.Done new = Copies (IsWholeFile comment replace) old new × IsAtEnd new.left
 EndsInserting comment replace old (why.Refused f) new = Copies (IsLongFile comment replace f (rest_of new.left)) old new
-EndsInserting comment replace old (why.ReadFault which.Input) new = Copies (λ bytes text. IsInserted standard_limits bytes comment replace text) old new × Rose old.counts.reads new.counts.reads
+EndsInserting comment replace old (why.ReadFault which.Input) new = Copies (IsWholeFile comment replace) old new × Rose old.counts.reads new.counts.reads
 EndsInserting comment replace old why.WriteFault new = Copies (InsertsPart standard_limits comment replace) old new × Rose old.counts.writes new.counts.writes
 EndsInserting comment replace old why.NoMemory new = Copies (InsertsPart standard_limits comment replace) old new
 EndsInserting comment replace old other new = ⊥
@@ -52,3 +61,28 @@ abbrev pub AfterRest : List ℕ → Bool → DeskState → List ℕ → Option W
 AfterRest comment replace old bytes None c new =
     (piece : List ℕ) × (text : List ℕ) × (0 < length piece) × (0 < length text) × HasInserted comment (bytes ++ piece) text c × HasCopied old (bytes ++ piece) text new
 AfterRest comment replace old bytes (Some ended) c new = EndsInserting comment replace old ended new
+
+-- UP TO THAT MARKER, where nothing is written
+
+-- The file, which has this rest behind the bytes, has this fault before its frame header, in the last piece that was read.
+abbrev pub IsFaultBefore : FaultAt → List ℕ → List ℕ → Type 0
+IsFaultBefore f rest bytes = IsHeadFault standard_limits (bytes ++ rest) f.fault f.at × (length bytes < f.at + 65536)
+
+-- a front of the bytes ends with the marker, in the last piece that was read
+abbrev pub IsAtHead : List ℕ → Type 0
+IsAtHead bytes = (count : ℕ) × (count ≤ length bytes) × (length bytes < count + 65536) × HoldsHead standard_limits (take count bytes)
+
+-- from these bytes on, why the reading ended
+abbrev pub EndsBefore : List ℕ → DeskState → Why → DeskState → Type 0
+EndsBefore bytes old (why.Refused f) new = (piece : List ℕ) × Consumes old.left new.left piece × IsFaultBefore f (rest_of new.left) (bytes ++ piece)
+EndsBefore bytes old (why.ReadFault which.Input) new = (new.left ≡ old.left) × ShowsNothing standard_limits (HoldsHead standard_limits) bytes × Rose old.counts.reads new.counts.reads
+EndsBefore bytes old why.NoMemory new = Unit {0}
+EndsBefore bytes old other new = ⊥
+
+-- From these bytes on one more piece was read: the marker isn't there yet, or what is due with it, or why the reading ended.
+abbrev pub AfterHead : List ℕ → Bool → List ℕ → DeskState → AtHead → Insert → List ℕ → DeskState → Type 0
+AfterHead comment replace bytes old at_head.Before c out new =
+    (piece : List ℕ) × (0 < length piece) × (out ≡ []) × Consumes old.left new.left piece × HasInserted comment (bytes ++ piece) [] c
+AfterHead comment replace bytes old (at_head.Begun due) c out new =
+    (piece : List ℕ) × (0 < length out) × Consumes old.left new.left piece × IsAtHead (bytes ++ piece) × AfterFed comment replace (bytes ++ piece) out due c
+AfterHead comment replace bytes old (at_head.Ended ended) c out new = EndsBefore bytes old ended new

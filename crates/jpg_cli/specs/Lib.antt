@@ -1,5 +1,6 @@
 pub mod FirstScan
 pub mod Commands
+pub mod CommentInserted
 pub mod CommentTaken
 pub mod CommentWords
 pub mod Gray

@@ -28,13 +28,13 @@ pub record OnlyReads (old new : DeskState) : Type 0 where
 abbrev pub AfterPiece : DeskState → List ℕ → ℕ → Piece → List ℕ → DeskState → Type 0
 AfterPiece old had most piece.Some bytes new = (more : List ℕ) × (0 < length more) × (length more ≤ most) × (bytes ≡ had ++ more) × Consumes old.left new.left more
 AfterPiece old had most piece.End bytes new = (bytes ≡ had) × IsAtEnd old.left × (new.left ≡ old.left)
-AfterPiece old had most piece.Failed bytes new = Rose old.counts.reads new.counts.reads
+AfterPiece old had most piece.Failed bytes new = (bytes ≡ had) × (new.left ≡ old.left) × Rose old.counts.reads new.counts.reads
 AfterPiece old had most piece.NoMemory bytes new = Unit {0}
 
--- the whole input, or so many bytes of it
+-- The whole input was read, or so many bytes of it; or fewer, where reading failed.
 abbrev pub AfterReading : ℕ → DeskState → Taken → List ℕ → DeskState → Type 0
 AfterReading limit old taken.All bytes new = Consumes old.left new.left bytes × (length bytes ≤ limit) × ((limit ≤ length bytes) ⊎ IsAtEnd new.left)
-AfterReading limit old taken.Failed bytes new = Rose old.counts.reads new.counts.reads
+AfterReading limit old taken.Failed bytes new = Consumes old.left new.left bytes × (length bytes < limit) × Rose old.counts.reads new.counts.reads
 AfterReading limit old taken.NoMemory bytes new = Unit {0}
 
 -- the bytes of an input that are taken: its first 2 ^ 28, or all where it has fewer

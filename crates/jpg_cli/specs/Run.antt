@@ -18,9 +18,10 @@ use Rattle.jpg_spec.specs.FileMeaning.{Means}
 use Rattle.jpg_spec.specs.FirstFault.{IsFirstFault}
 use Rattle.jpg_cli.specs.Gray.{IsSingle, IsUnbuilt, meaning_in, not_built}
 use Rattle.jpg_spec.specs.Words.{tool_of}
-use Rattle.jpg_spec.specs.CommentWords.{FilesAsked, WordsTold, words_right, words_wrong}
-use Rattle.jpg_cli.specs.Commands.{Command, not_built as unbuilt, flip_horizontal, print_comments, command_asked, name_of}
+use Rattle.jpg_spec.specs.CommentWords.{FilesAsked, WordsTold, WriteAsked, words_right, words_wrong}
+use Rattle.jpg_cli.specs.Commands.{Command, not_built as unbuilt, flip_horizontal, print_comments, insert_comment, command_asked, name_of}
 use Rattle.jpg_cli.specs.ReadComments.{Printed}
+use Rattle.jpg_cli.specs.CommentInserted.{Inserted, Task}
 use Rattle.jpg_spec.specs.Messages.{message, code_of}
 use Rattle.jpg_cli.specs.declared.top.Ended.{Ended}
 use Rattle.jpg_cli.specs.Reading.{taken_of, IsFile, asked_input, asked_both}
@@ -126,12 +127,17 @@ NoneRose old new = (Rose old.opens new.opens → ⊥) × (Rose old.reads new.rea
 abbrev pub RanRead : FilesAsked → DeskState → Why → DeskState → Type 0
 RanRead files old ended new = Printed (name_of files.input) (name_of files.output) old ended new ⊎ ((ended ≡ why.NoMemory) × Untouched old new)
 
+-- which comment the words insert into which file
+abbrev pub task_of : WriteAsked → Task
+task_of asked = record { comment = asked.comment; input = name_of asked.files.input; output = name_of asked.files.output; replace = asked.replace }
+
 -- by what the words ask for
 abbrev pub Worked : WordsTold Command → DeskState → Why → DeskState → Type 0
 Worked (words_wrong usage) old ended new = (ended ≡ why.Usage usage) × Untouched old new
 Worked (words_right unbuilt) old ended new = (ended ≡ why.Refused (not_built 0)) × Untouched old new
 Worked (words_right flip_horizontal) old ended new = Turned old ended new
 Worked (words_right (print_comments files)) old ended new = RanRead files old ended new
+Worked (words_right (insert_comment asked)) old ended new = Inserted (task_of asked) old ended new
 
 -- the work of a run, before its message
 pub record Works (words : List (List ℕ)) (old : DeskState) (ended : Why) (new : DeskState) : Type 0 where

@@ -11,9 +11,6 @@ use jpg_base::{Name, NoMemory, Text};
 use jpg_spec::{Usage, UsageFault};
 use std::alloc::Global;
 
-#[cfg(test)]
-mod tests;
-
 /// The input and the output of a command.
 #[derive(Drop)]
 pub struct Files {

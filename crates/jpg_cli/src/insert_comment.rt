@@ -1,20 +1,199 @@
-//! A file with a comment inserted, written piece by piece (T.81 B.2.4.5, the manual of wrjpgcom in
-//! release 6b).
-ghost use Rattle.std.specs.Prelude.{◌≡◌, ◌<◌, ◌++◌, [], List, ℕ, length, true};
+//! A comment inserted into a file, which is read and written piece by piece (T.81 B.2.4.5, the manual of
+//! wrjpgcom in release 6b).
+ghost use Rattle.std.specs.Prelude.{◌≡◌, ◌<◌, ◌++◌, [], List, ℕ, IfNone, length, true};
 ghost use Rattle.jpg_spec.specs.Segments.{standard_limits};
-ghost use Rattle.jpg_base.specs.Desk.{DeskState};
+ghost use Rattle.jpg_base.specs.Desk.{DeskState, NoneFell};
 ghost use Rattle.jpg_comments.specs.Begun.{Appends};
 ghost use Rattle.jpg_comments.specs.WriteInserted.{HasInserted};
-ghost use Rattle.jpg_cli.specs.InsertComment.{AfterAll, AfterFed, AfterRest};
+ghost use Rattle.jpg_comments.specs.declared.insert.Insert.{Insert as Inserting};
+ghost use Rattle.jpg_cli.specs.CommentInserted.{AfterBegin, Inserted, IsReading, IsWriting, Task, task_told};
+ghost use Rattle.jpg_cli.specs.InsertComment.{AfterAll, AfterFed, AfterHead, AfterRest, IsAtHead, IsBegunWith};
 ghost use Rattle.jpg_cli.specs.ReadComments.{HasCopied, OnlyCopies};
+ghost use Rattle.jpg_cli.specs.Reading.{OnlyReads};
 
+use crate::comment_taken::take_comment;
+use crate::comment_words::WriteWords;
 use crate::read_comments::write_text;
-use jpg_base::{Bytes, Desk, Got, Put, Stop};
+use jpg_base::{Bytes, Desk, Got, Name, Put, Stop};
 use jpg_comments::Insert;
-use jpg_spec::{Which, Why};
+use jpg_spec::{Limits, Which, Why};
+use std::alloc::Global;
 
-/// Reads a piece behind the marker of the frame header, and writes it; or tells why the writing ends.
-pub fn next_rest<D: Desk>(
+// What a piece comes to, up to the marker of the frame header.
+enum AtHead {
+    // The marker isn't there yet.
+    Before,
+    // It is there, and a text is due; and why the writing ends with it, if it does.
+    Begun(Option<Why>),
+    // Nothing is written.
+    Ended(Why),
+}
+
+/// Takes the comment, opens the input, and writes it to the output with the comment before its frame
+/// header. The output is created when the marker of the frame header is read. The input is read in
+/// pieces of at most 65,536 bytes to its end, or up to the piece that shows a fault.
+pub fn insert_comment<D: Desk>(alloc: Global, words: &WriteWords, desk: &mut D) -> Why
+    ensures counts { NoneFell (D.state desk.old).counts (D.state desk.new).counts }
+    ensures files { (D.state desk.new).files ≡ (D.state desk.old).files }
+    ensures said { (D.state desk.new).said ≡ (D.state desk.old).said }
+    ensures inserted { Inserted (task_told words.now) (D.state desk.old) result (D.state desk.new) }
+{
+    let comment = match take_comment(alloc, &words.comment, desk) {
+        Ok(comment) => comment,
+        Err(why) => return why,
+    };
+    let mut insert = match with_comment(alloc, comment.as_slice(), words.replace) {
+        Ok(insert) => insert,
+        Err(why) => return why,
+    };
+    match desk.open(&words.files.input) {
+        Put::Failed => Why::OpenFault(Which::Input),
+        Put::Done => insert_into(alloc, &mut insert, &words.files.output, desk),
+    }
+}
+
+// A writer that inserts this comment.
+fn with_comment(alloc: Global, comment: &[u8], replace: bool) -> Result<Insert, Why>
+    ensures { IsBegunWith comment.now replace result }
+{
+    match Insert::new(alloc, Limits::standard(), comment, replace) {
+        Ok(insert) => Ok(insert),
+        Err(Stop::Fault(fault)) => Err(Why::Refused(fault)),
+        Err(Stop::NoMemory) => Err(Why::NoMemory),
+    }
+}
+
+// Writes the open input to the output.
+fn insert_into<D: Desk>(alloc: Global, insert: &mut Insert, output: &Name, desk: &mut D) -> Why
+    requires open { (D.state desk.old).input_open ≡ true }
+    requires limits { insert.old.limits ≡ standard_limits }
+    requires begun { (comment : List ℕ) × HasInserted comment [] [] insert.old }
+    ensures counts { NoneFell (D.state desk.old).counts (D.state desk.new).counts }
+    ensures files { (D.state desk.new).files ≡ (D.state desk.old).files }
+    ensures said { (D.state desk.new).said ≡ (D.state desk.old).said }
+    ensures after { (task : Task) (comment : List ℕ) (start : DeskState) → task.output ≡ output.now → task.replace ≡ insert.old.replace → HasInserted comment [] [] insert.old → IsReading task comment [] start (D.state desk.old) → Inserted task start result (D.state desk.new) }
+{
+    let mut buffer = [0u8; 65536];
+    let mut out = Bytes::new(alloc);
+    match begin(insert, output, &mut buffer, &mut out, desk) {
+        Some(why) => why,
+        None => copy_rest(insert, &mut buffer, &mut out, desk),
+    }
+}
+
+// Reads up to the marker of the frame header, creates the output and writes the text that is due there;
+// or tells why the writing ends.
+fn begin<D: Desk>(
+    insert: &mut Insert,
+    output: &Name,
+    buffer: &mut [u8; 65536],
+    out: &mut Bytes,
+    desk: &mut D,
+) -> Option<Why>
+    requires open { (D.state desk.old).input_open ≡ true }
+    requires limits { insert.old.limits ≡ standard_limits }
+    requires begun { (comment : List ℕ) × HasInserted comment [] [] insert.old }
+    requires empty { out.old ≡ [] }
+    ensures counts { NoneFell (D.state desk.old).counts (D.state desk.new).counts }
+    ensures files { (D.state desk.new).files ≡ (D.state desk.old).files }
+    ensures said { (D.state desk.new).said ≡ (D.state desk.old).said }
+    ensures open { (D.state desk.new).input_open ≡ true }
+    ensures created { IfNone result ((D.state desk.new).output_created ≡ true) }
+    ensures more { IfNone result ((comment : List ℕ) × (bytes : List ℕ) × (text : List ℕ) × (0 < length text) × HasInserted comment bytes text insert.new) }
+    ensures after { (task : Task) (comment : List ℕ) (start : DeskState) → task.output ≡ output.now → task.replace ≡ insert.old.replace → HasInserted comment [] [] insert.old → IsReading task comment [] start (D.state desk.old) → AfterBegin task comment start result insert.new (D.state desk.new) }
+    ensures limits { insert.new.limits ≡ standard_limits }
+    ensures replace { insert.new.replace ≡ insert.old.replace }
+    ensures empty { IfNone result (out.new ≡ []) }
+{
+    loop {
+        match next_head(insert, buffer, out, desk) {
+            AtHead::Before => {}
+            AtHead::Begun(due) => return write_first(due, output, out, desk),
+            AtHead::Ended(why) => return Some(why),
+        }
+    }
+}
+
+// Reads a piece before the marker of the frame header is there.
+fn next_head<D: Desk>(
+    insert: &mut Insert,
+    buffer: &mut [u8; 65536],
+    out: &mut Bytes,
+    desk: &mut D,
+) -> AtHead
+    requires open { (D.state desk.old).input_open ≡ true }
+    requires limits { insert.old.limits ≡ standard_limits }
+    requires empty { out.old ≡ [] }
+    ensures kept { OnlyReads (D.state desk.old) (D.state desk.new) }
+    ensures after { (comment bytes : List ℕ) → HasInserted comment bytes [] insert.old → AfterHead comment insert.old.replace bytes (D.state desk.old) result insert.new out.new (D.state desk.new) }
+    ensures limits { insert.new.limits ≡ standard_limits }
+    ensures replace { insert.new.replace ≡ insert.old.replace }
+{
+    match desk.read(&mut buffer[..]) {
+        Got::Failed => AtHead::Ended(Why::ReadFault(Which::Input)),
+        Got::End => AtHead::Ended(at_end(insert)),
+        Got::Bytes(count) => {
+            let due = take_piece(insert, &buffer[..count as usize], out);
+            if !out.as_slice().is_empty() {
+                return AtHead::Begun(due);
+            }
+            match due {
+                None => AtHead::Before,
+                Some(why) => AtHead::Ended(why),
+            }
+        }
+    }
+}
+
+// Creates the output and writes the text that is due; or tells why the writing ends.
+fn write_first<D: Desk>(
+    due: Option<Why>,
+    output: &Name,
+    out: &mut Bytes,
+    desk: &mut D,
+) -> Option<Why>
+    ensures counts { NoneFell (D.state desk.old).counts (D.state desk.new).counts }
+    ensures files { (D.state desk.new).files ≡ (D.state desk.old).files }
+    ensures said { (D.state desk.new).said ≡ (D.state desk.old).said }
+    ensures open { (D.state desk.new).input_open ≡ (D.state desk.old).input_open }
+    ensures created { IfNone result ((D.state desk.new).output_created ≡ true) }
+    ensures due { IfNone result (due ≡ None) }
+    ensures after { (task : Task) (comment bytes : List ℕ) (start : DeskState) (insert : Inserting) → task.output ≡ output.now → 0 < length out.old → IsAtHead bytes → IsReading task comment bytes start (D.state desk.old) → AfterFed comment task.replace bytes out.old due insert → insert.limits ≡ standard_limits → insert.replace ≡ task.replace → AfterBegin task comment start result insert (D.state desk.new) }
+    ensures empty { IfNone result (out.new ≡ []) }
+{
+    match desk.create(output) {
+        Put::Failed => Some(Why::OpenFault(Which::Output)),
+        Put::Done => match write_text(out, desk) {
+            Put::Done => due,
+            Put::Failed => Some(Why::WriteFault),
+        },
+    }
+}
+
+// Writes the input from behind the marker of the frame header to its end, piece by piece.
+fn copy_rest<D: Desk>(
+    insert: &mut Insert,
+    buffer: &mut [u8; 65536],
+    out: &mut Bytes,
+    desk: &mut D,
+) -> Why
+    requires open { (D.state desk.old).input_open ≡ true }
+    requires created { (D.state desk.old).output_created ≡ true }
+    requires limits { insert.old.limits ≡ standard_limits }
+    requires begun { (comment : List ℕ) × (bytes : List ℕ) × (text : List ℕ) × (0 < length text) × HasInserted comment bytes text insert.old }
+    requires empty { out.old ≡ [] }
+    ensures kept { OnlyCopies (D.state desk.old) (D.state desk.new) }
+    ensures after { (task : Task) (comment bytes text : List ℕ) (start : DeskState) → task.replace ≡ insert.old.replace → HasInserted comment bytes text insert.old → 0 < length text → IsWriting task comment bytes text start (D.state desk.old) → Inserted task start result (D.state desk.new) }
+{
+    loop {
+        if let Some(why) = next_rest(insert, buffer, out, desk) {
+            return why;
+        }
+    }
+}
+
+// Reads a piece behind the marker of the frame header, and writes it; or tells why the writing ends.
+fn next_rest<D: Desk>(
     insert: &mut Insert,
     buffer: &mut [u8; 65536],
     out: &mut Bytes,
@@ -43,8 +222,8 @@ pub fn next_rest<D: Desk>(
     }
 }
 
-/// Appends the text for this piece, and tells why the writing ends, if it does.
-pub fn take_piece(insert: &mut Insert, piece: &[u8], out: &mut Bytes) -> Option<Why>
+// Appends the text for this piece, and tells why the writing ends, if it does.
+fn take_piece(insert: &mut Insert, piece: &[u8], out: &mut Bytes) -> Option<Why>
     requires limits { insert.old.limits ≡ standard_limits }
     ensures taken { (comment bytes text : List ℕ) → HasInserted comment bytes text insert.old → Appends (λ all. AfterFed comment insert.old.replace (bytes ++ piece.now) all result insert.new) text out.old out.new }
     ensures limits { insert.new.limits ≡ standard_limits }
@@ -57,8 +236,8 @@ pub fn take_piece(insert: &mut Insert, piece: &[u8], out: &mut Bytes) -> Option<
     }
 }
 
-/// The answer for an input that ends here.
-pub fn at_end(insert: &mut Insert) -> Why
+// The answer for an input that ends here.
+fn at_end(insert: &mut Insert) -> Why
     requires limits { insert.old.limits ≡ standard_limits }
     ensures ended { (comment bytes text : List ℕ) → HasInserted comment bytes text insert.old → AfterAll comment insert.old.replace bytes text result }
     ensures limits { insert.new.limits ≡ standard_limits }

@@ -17,8 +17,5 @@ mod turn;
 mod words;
 mod writing;
 
-pub use laws::{answers_are_due, printed_comments_are_due};
+pub use laws::{answers_are_due, inserted_comments_are_due, printed_comments_are_due};
 pub use top::{Ended, run};
-
-#[cfg(test)]
-mod tests;

@@ -7,6 +7,7 @@ ghost use Rattle.jpg_cli.specs.Saying.{OnlySays};
 
 use crate::comment_words::WordsStop;
 use crate::gray::{Judged, judge};
+use crate::insert_comment::insert_comment;
 use crate::message::message_of;
 use crate::read_comments::print_comments;
 use crate::reading::take_input;
@@ -70,6 +71,7 @@ fn work<D: Desk>(alloc: Global, words: &[String], desk: &mut D) -> Why
         }),
         Ok(Asked::FlipHorizontal) => turn(alloc, desk),
         Ok(Asked::Rdjpgcom(files)) => print_comments(alloc, &files, desk),
+        Ok(Asked::Wrjpgcom(words)) => insert_comment(alloc, &words, desk),
     }
 }
 

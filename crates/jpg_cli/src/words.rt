@@ -4,7 +4,7 @@ ghost use Rattle.jpg_spec.specs.Words.{are_words, flip_words, is_tool, tool_of};
 ghost use Rattle.jpg_cli.specs.declared.comment_words.WordsStop.TheVariants.{Usage as wrong};
 ghost use Rattle.jpg_cli.specs.Commands.{IsCommand, command_asked, command_told, other_command};
 
-use crate::comment_words::{Files, WordsStop, rdjpgcom_words};
+use crate::comment_words::{Files, WordsStop, WriteWords, rdjpgcom_words, wrjpgcom_words};
 use jpg_spec::{Usage, UsageFault};
 use std::alloc::Global;
 
@@ -17,6 +17,8 @@ pub enum Asked {
     FlipHorizontal,
     /// `rdjpgcom`, with its files.
     Rdjpgcom(Files),
+    /// `wrjpgcom`, with its files, the comment's source and whether it replaces others.
+    Wrjpgcom(WriteWords),
 }
 
 // The command of this name.
@@ -73,6 +75,10 @@ pub fn read_words(alloc: Global, words: &[String]) -> Result<Asked, WordsStop>
             None => Err(first_word(UsageFault::UnknownTool)),
             Some(_) if tool.as_str() == "rdjpgcom" => match rdjpgcom_words(alloc, words) {
                 Ok(files) => Ok(Asked::Rdjpgcom(files)),
+                Err(stop) => Err(stop),
+            },
+            Some(_) if tool.as_str() == "wrjpgcom" => match wrjpgcom_words(alloc, words) {
+                Ok(asked) => Ok(Asked::Wrjpgcom(asked)),
                 Err(stop) => Err(stop),
             },
             Some(_) => Ok(other_words(words)),

@@ -1,5 +1,5 @@
-//! Runs over real files and the standard streams: the comments of a file with a name, and those of standard
-//! input.
+//! Runs over real files and the standard streams: the comments of a file with a name, those of standard
+//! input, and the file with a comment inserted that another file holds.
 #![tactic(auto)]
 
 use jpg_base::StdDesk;
@@ -7,9 +7,11 @@ use jpg_cli::run;
 use std::alloc::Global;
 use std::process::ExitCode;
 
-const NAMED: [&str; 2] = ["rdjpgcom", "signed.jpg"];
+const NAMED: &[&str] = &["rdjpgcom", "signed.jpg"];
 
-const STANDARD: [&str; 1] = ["rdjpgcom"];
+const STANDARD: &[&str] = &["rdjpgcom"];
+
+const INSERTED: &[&str] = &["wrjpgcom", "-cfile", "note.txt", "signed.jpg"];
 
 // The words of a call as texts.
 fn owned(alloc: Global, words: &[&str]) -> Option<Vec<String>> {
@@ -25,13 +27,13 @@ fn owned(alloc: Global, words: &[&str]) -> Option<Vec<String>> {
 fn main(rt: HostRuntime) -> ExitCode {
     let alloc = rt.alloc();
     let mut desk = StdDesk::new(rt);
-    let Some(named) = owned(alloc, &NAMED) else {
-        return ExitCode::from(3);
-    };
-    let Some(standard) = owned(alloc, &STANDARD) else {
-        return ExitCode::from(3);
-    };
-    let first = run(alloc, named.as_slice(), &mut desk);
-    let second = run(alloc, standard.as_slice(), &mut desk);
-    ExitCode::from(first.code.max(second.code))
+    let mut code = 0;
+    for words in [NAMED, STANDARD, INSERTED] {
+        let Some(words) = owned(alloc, words) else {
+            return ExitCode::from(3);
+        };
+        let ended = run(alloc, words.as_slice(), &mut desk);
+        code = ended.code.max(code);
+    }
+    ExitCode::from(code)
 }

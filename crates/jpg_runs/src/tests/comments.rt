@@ -1,8 +1,8 @@
 // Runs of rdjpgcom over a desk in memory (T.81 B.2.4.5, its manual in release 6b).
 use super::strings;
-use crate::{Ended, run};
 use jpg_base::{MemoryDesk, Name, NoMemory, Text};
-use jpg_spec::{Fault, FaultAt, Usage, UsageFault, Which, Why};
+use jpg_cli::{Ended, run};
+use jpg_spec::{Fault, FaultAt, Which, Why};
 use std::alloc::Global;
 use std::test::Fail;
 
@@ -124,27 +124,6 @@ fn failing_calls_end_the_printing(rt: HostRuntime) -> Result<(), Fail> {
                 assert_eq!(rt; text.len(), most, "at call {call}");
             }
         }
-    }
-    Ok(())
-}
-
-#[test]
-fn wrong_words_print_nothing(rt: HostRuntime) -> Result<(), Fail> {
-    let rows: [(&[&str], UsageFault, u64); 3] = [
-        (&["rdjpgcom", "-verbose"], UsageFault::LeftOutSwitch, 1),
-        (&["rdjpgcom", "-x"], UsageFault::UnknownSwitch, 1),
-        (&["rdjpgcom", "a.jpg", "b"], UsageFault::TooManyFiles, 2),
-    ];
-    for (i, (words, fault, word)) in rows.iter().enumerate() {
-        let words = strings(rt.alloc(), words)?;
-        let mut desk = desk_with(rt.alloc(), FILE, 9)?;
-        let ended = run(rt.alloc(), words.as_slice(), &mut desk);
-        let why = Why::Usage(Usage {
-            fault: *fault,
-            word: *word,
-        });
-        assert_eq!(rt; ended, Ended { code: 1, why }, "words {i}");
-        assert_eq!(rt; desk.outputs(), 0, "words {i}");
     }
     Ok(())
 }

@@ -1,14 +1,16 @@
 // Runs of the command over a desk in memory. The files are spelled here by themselves (T.81 B.2,
 // Annex K, JFIF 1.02).
-use crate::{Ended, run};
 use jpg_base::{Bytes, Counts, Desk, MemoryDesk, Name, NoMemory};
+use jpg_cli::{Ended, run};
 use jpg_spec::{Fault, FaultAt, Usage, UsageFault, Which, Why};
 use std::alloc::Global;
 use std::test::Fail;
 
 mod comments;
+mod inserted;
 mod refused;
 mod turned;
+mod words;
 
 static FLIP: [&str; 3] = ["jpegtran", "-flip", "horizontal"];
 
@@ -112,7 +114,11 @@ fn no_failures() -> Counts {
 }
 
 fn usage(fault: UsageFault) -> Why {
-    Why::Usage(Usage { fault, word: 0 })
+    usage_at(fault, 0)
+}
+
+fn usage_at(fault: UsageFault, word: u64) -> Why {
+    Why::Usage(Usage { fault, word })
 }
 
 // There is no input, so that an open would fail and raise its count.

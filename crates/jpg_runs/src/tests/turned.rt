@@ -1,7 +1,7 @@
 // Files that are turned, with the files that are due.
 use super::{Change, FLIP, changed, desk_with, strings, written};
-use crate::{Ended, run};
 use jpg_base::{Bytes, Desk, NoMemory};
+use jpg_cli::{Ended, run};
 use jpg_spec::Why;
 use std::alloc::Global;
 use std::test::Fail;

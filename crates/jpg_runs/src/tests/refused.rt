@@ -1,7 +1,7 @@
 // Files that are refused, each with the first fault that its header shows, or as not built yet.
 use super::{Change, FLIP, SMALLEST, changed, desk_with, strings};
-use crate::{Ended, run};
 use jpg_base::Desk;
+use jpg_cli::{Ended, run};
 use jpg_spec::{Fault, FaultAt, Why};
 use std::test::Fail;
 

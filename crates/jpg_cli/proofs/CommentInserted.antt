@@ -1,0 +1,412 @@
+-- What inserting a comment comes to, over the states that a desk tells.
+use Rattle.std.proofs.Common.{◌⊎◌, ◌≡◌, ℕ, ◌<◌, ◌≤◌, ◌-◌, ◌^◌, Bool, false, IfNone, List, [], ◌∷◌, ◌++◌, length, take, Option, None, Some, Ok, Err, refl, sym, ap, ◌∙◌, subst, arith, inl, inr}
+use Rattle.std.proofs.lemmas.List.{append-nil, length-append, length-take, take_all, take-append-le}
+use Rattle.std.specs.Io.KnownBytes.{Consumes}
+use Rattle.std.specs.Option.{unwrap_or}
+use Rattle.jpg_base.specs.declared.names.Name.{Name}
+use Rattle.jpg_base.specs.declared.names.Name.TheVariants as name
+use Rattle.jpg_base.specs.declared.names.Put.{Put}
+use Rattle.jpg_base.specs.declared.names.Put.TheVariants as put
+use Rattle.jpg_base.specs.Desk.{AddsOutput, AfterWrite, AppendsLast, Creates, DeskState, Opens, OpensFile}
+use Rattle.jpg_base.specs.Laws.{Consumes-then, Grows-from, NoneFell-then, NotesNames, NotesNames-then}
+use Rattle.jpg_huff.specs.Out.{OnlyWrites}
+use Rattle.jpg_spec.specs.Segments.{standard_limits}
+use Rattle.jpg_spec.specs.CommentText.{ShowsNothing}
+use Rattle.jpg_spec.specs.declared.frame.Limits.{Limits}
+use Rattle.jpg_markers.specs.Reading.{reading_of}
+use Rattle.jpg_spec.specs.CommentWords.{CommentSource, from_input, from_words, from_file, is_given}
+use Rattle.jpg_spec.specs.declared.fault.Fault.{Fault}
+use Rattle.jpg_spec.specs.declared.fault.Fault.TheVariants.{CommentTooLong}
+use Rattle.jpg_spec.specs.declared.answers.FaultAt.{FaultAt}
+use Rattle.jpg_spec.specs.declared.answers.Why.{Why}
+use Rattle.jpg_spec.specs.declared.answers.Why.TheVariants as why
+use Rattle.jpg_spec.specs.declared.answers.Which.TheVariants as which
+use Rattle.jpg_comments.specs.Inserting.{HoldsHead, InsertsPart}
+use Rattle.jpg_comments.specs.WriteInserted.{HasInserted, StandsAt}
+use Rattle.jpg_comments.specs.declared.insert.Insert.{Insert}
+use Rattle.jpg_cli.specs.CommentInserted.{AfterBegin, Inserted, IsOutOfMemory, IsOutputUncreated, IsComment, IsReading, IsShortComment, IsWriting, ReadsAlone, Task, WritesText, asked_comment, asked_to_input, asked_to_output}
+use Rattle.jpg_cli.specs.CommentTaken.{AfterComment, AfterFile, AfterWords}
+use Rattle.jpg_cli.specs.InsertComment.{AfterFed, EndsBefore, EndsInserting, IsAtHead, IsBegunWith, IsFaultBefore, IsLongFile, IsWholeFile}
+use Rattle.jpg_cli.specs.ReadComments.{Copies, HasCopied, OnlyCopies, asked_one, rest_of}
+use Rattle.jpg_cli.specs.Reading.{IsFile, Keeps, OnlyReads}
+use Rattle.jpg_cli.proofs.CommentsPrinted.{file_read}
+use Rattle.jpg_cli.proofs.CommentsCopied.{none_read}
+use Rattle.jpg_cli.proofs.InsertedCopied.{fed_part, not_none, part_of_part, stands}
+
+-- READING
+
+-- more bytes were read
+pub reading_more : (task : Task) (comment bytes piece : List ℕ) (old s0 s1 : DeskState) → IsReading task comment bytes old s0 → OnlyReads s0 s1 → Consumes s0.left s1.left piece → IsReading task comment (bytes ++ piece) old s1
+reading_more task comment bytes piece old s0 s1 r k more = record {
+  left = r.left;
+  names = (let P : Option (List (Name × Put)) → Type 0 = λ a. NotesNames old.asked (asked_to_input task put.Done) a in subst P (sym k.asked) r.names);
+  source = r.source;
+  opened = r.opened;
+  read = Consumes-then r.left s0.left s1.left bytes piece r.read more;
+  outputs = k.outputs ∙ r.outputs;
+  counts = NoneFell-then old.counts s0.counts s1.counts r.counts k.counts;
+}
+
+-- THE OUTPUT
+
+output_names : (task : Task) (comment bytes : List ℕ) (old s0 s1 : DeskState) (answer : Put) → IsReading task comment bytes old s0 → Creates s0 task.output answer s1 → NotesNames old.asked (asked_to_output task answer) s1.asked
+output_names task comment bytes old s0 s1 answer r k = NotesNames-then old.asked s0.asked s1.asked (asked_to_input task put.Done) (task.output, answer) r.names k.asked
+
+-- it wasn't created
+uncreated : (task : Task) (comment bytes : List ℕ) (old s0 s1 : DeskState) → IsAtHead bytes → IsReading task comment bytes old s0 → Creates s0 task.output put.Failed s1 → IsOutputUncreated task old s1
+uncreated task comment bytes old s0 s1 at r k = record {
+  comment = comment;
+  bytes = bytes;
+  names = output_names task comment bytes old s0 s1 put.Failed r k;
+  outputs = k.after.1 ∙ r.outputs;
+  opens = (let rose = k.after.0 in let f = r.counts.opens in omega arith);
+  source = r.source;
+  file = file_read old.files task.input r.left s1.left bytes r.opened (let P : Option (List ℕ) → Type 0 = λ l. Consumes r.left l bytes in subst P (sym k.left) r.read);
+  is = at;
+}
+
+-- it was created, and this text written to it
+written_first : (task : Task) (comment bytes text : List ℕ) (old s0 s1 s2 : DeskState) → IsReading task comment bytes old s0 → Creates s0 task.output put.Done s1 → OnlyWrites s1 s2 → AppendsLast s1.outputs text s2.outputs → IsWriting task comment bytes text old s2
+written_first task comment bytes text old s0 s1 s2 r k w appended = record {
+  left = r.left;
+  created = s1.outputs;
+  names = (let P : Option (List (Name × Put)) → Type 0 = λ a. NotesNames old.asked (asked_to_output task put.Done) a in subst P (sym w.asked) (output_names task comment bytes old s0 s1 put.Done r k));
+  source = r.source;
+  opened = r.opened;
+  read = (let P : Option (List ℕ) → Type 0 = λ l. Consumes r.left l bytes in subst P (sym (w.left ∙ k.left)) r.read);
+  adds = (let P : Option (List (Name × List ℕ)) → Type 0 = λ o. AddsOutput o task.output s1.outputs in subst P r.outputs k.after.1);
+  written = appended;
+  counts = NoneFell-then old.counts s1.counts s2.counts (NoneFell-then old.counts s0.counts s1.counts r.counts k.counts) w.counts;
+}
+
+-- what was written stands when the run ends
+writes : (task : Task) (comment bytes text : List ℕ) (old now : DeskState) (Is : List ℕ → List ℕ → List ℕ → Type 0) → IsWriting task comment bytes text old now → Is comment bytes text → WritesText task Is old now
+writes task comment bytes text old now Is w is = record {
+  comment = comment;
+  bytes = bytes;
+  text = text;
+  names = w.names;
+  source = w.source;
+  file = file_read old.files task.input w.left now.left bytes w.opened w.read;
+  outputs = Grows-from old.outputs w.created now.outputs task.output text w.adds w.written;
+  is = is;
+}
+
+-- AT THE MARKER of the frame header
+
+due_first : (task : Task) (comment bytes text : List ℕ) (old now : DeskState) (due : Option Why) (c : Insert) → 0 < length text → AfterFed comment task.replace bytes text due c → IsWriting task comment bytes text old now → AfterBegin task comment old due c now
+due_first task comment bytes text old now None c some h w = (bytes, text, some, h, w)
+due_first task comment bytes text old now (Some why.Done) c some h w = absurd h
+due_first task comment bytes text old now (Some (why.Usage u)) c some h w = absurd h
+due_first task comment bytes text old now (Some (why.Refused f)) c some (of, inl (none, faults)) w = absurd (not_none text none some)
+due_first task comment bytes text old now (Some (why.Refused f)) c some (of, inr (long, is)) w =
+    inr (inr (writes task comment bytes text old now (λ with. IsLongFile with task.replace f (rest_of now.left)) w (of (rest_of now.left), long, is)))
+due_first task comment bytes text old now (Some (why.OpenFault which)) c some h w = absurd h
+due_first task comment bytes text old now (Some (why.ReadFault which)) c some h w = absurd h
+due_first task comment bytes text old now (Some why.WriteFault) c some h w = absurd h
+due_first task comment bytes text old now (Some why.NoMemory) c some h w = inr (writes task comment bytes text old now (λ with. InsertsPart standard_limits with task.replace) w h)
+
+pub first_uncreated : (task : Task) (comment bytes : List ℕ) (old s0 s1 : DeskState) (output : Name) → task.output ≡ output → IsAtHead bytes → IsReading task comment bytes old s0 → Creates s0 output put.Failed s1 → IsOutputUncreated task old s1
+first_uncreated task comment bytes old s0 s1 output e at r k = uncreated task comment bytes old s0 s1 at r (subst (λ (n : Name). Creates s0 n put.Failed s1) (sym e) k)
+
+pub first_written : (task : Task) (comment bytes text : List ℕ) (old s0 s1 s2 : DeskState) (output : Name) (due : Option Why) (c : Insert) → task.output ≡ output → 0 < length text → IsReading task comment bytes old s0 → AfterFed comment task.replace bytes text due c
+    → Creates s0 output put.Done s1 → OnlyWrites s1 s2 → AfterWrite s1 text put.Done s2 → AfterBegin task comment old due c s2
+first_written task comment bytes text old s0 s1 s2 output due c e some r h k w appended =
+    due_first task comment bytes text old s2 due c some h (written_first task comment bytes text old s0 s1 s2 r (subst (λ (n : Name). Creates s0 n put.Done s1) (sym e) k) w appended)
+
+pub first_unwritten : (task : Task) (comment bytes text : List ℕ) (old s0 s1 s2 : DeskState) (output : Name) (due : Option Why) (c : Insert) → task.output ≡ output → c.limits ≡ standard_limits → c.replace ≡ task.replace → IsReading task comment bytes old s0
+    → AfterFed comment task.replace bytes text due c → Creates s0 output put.Done s1 → OnlyWrites s1 s2 → AfterWrite s1 text put.Failed s2 → Inserted task old why.WriteFault s2
+first_unwritten task comment bytes text old s0 s1 s2 output due c e limits same r h k w (rose, (n, part)) = (
+  writes task comment bytes (take n text) old s2 (λ with. InsertsPart standard_limits with task.replace)
+      (written_first task comment bytes (take n text) old s0 s1 s2 r (subst (λ (m : Name). Creates s0 m put.Done s1) (sym e) k) w part)
+      (part_of_part comment bytes text task.replace n (fed_part comment bytes text task.replace due c limits same h)),
+  (let f = r.counts.writes in let g = k.counts.writes in omega (arith, rose, f, g)),
+)
+
+-- BEHIND IT
+
+-- the desk as it would be, had it told the output at its creation and the input as it was opened
+abbrev pub begun : (task : Task) (comment bytes text : List ℕ) (old now : DeskState) → IsWriting task comment bytes text old now → DeskState
+begun task comment bytes text old now w = record now { left = w.left; outputs = w.created }
+
+pub still_begun : (task : Task) (comment bytes text : List ℕ) (old now : DeskState) (w : IsWriting task comment bytes text old now) → OnlyCopies (begun task comment bytes text old now w) now
+still_begun task comment bytes text old now w = record {
+  counts = record { opens = omega arith; reads = omega arith; writes = omega arith; says = omega arith };
+  asked = refl;
+  files = refl;
+  said = refl;
+  input_open = refl;
+  output_created = refl;
+}
+
+pub copied_begun : (task : Task) (comment bytes text : List ℕ) (old now : DeskState) (w : IsWriting task comment bytes text old now) → HasCopied (begun task comment bytes text old now w) bytes text now
+copied_begun task comment bytes text old now w = record { read = w.read; written = w.written }
+
+-- more bytes were read, and their text written
+pub writing_more : (task : Task) (comment bytes text more all : List ℕ) (old s0 s1 : DeskState) (w : IsWriting task comment bytes text old s0) → OnlyCopies s0 s1 → HasCopied (begun task comment bytes text old s0 w) more all s1 → IsWriting task comment more all old s1
+writing_more task comment bytes text more all old s0 s1 w k h = record {
+  left = w.left;
+  created = w.created;
+  names = (let P : Option (List (Name × Put)) → Type 0 = λ a. NotesNames old.asked (asked_to_output task put.Done) a in subst P (sym k.asked) w.names);
+  source = w.source;
+  opened = w.opened;
+  read = h.read;
+  adds = w.adds;
+  written = h.written;
+  counts = NoneFell-then old.counts s0.counts s1.counts w.counts k.counts;
+}
+
+-- why the writing ended
+pub ends : (task : Task) (comment bytes text : List ℕ) (old s0 s1 : DeskState) (w : IsWriting task comment bytes text old s0) (ended : Why) → OnlyCopies s0 s1 → EndsInserting comment task.replace (begun task comment bytes text old s0 w) ended s1 → Inserted task old ended s1
+ends task comment bytes text old s0 s1 w ended k h = by ended h
+  where
+    copies : (Is : List ℕ → List ℕ → List ℕ → Type 0) → Copies (Is comment) (begun task comment bytes text old s0 w) s1 → WritesText task Is old s1
+    copies Is c = writes task comment c.0 c.1 old s1 Is (writing_more task comment bytes text c.0 c.1 old s0 s1 w k c.2) c.3
+
+    by : (ended : Why) → EndsInserting comment task.replace (begun task comment bytes text old s0 w) ended s1 → Inserted task old ended s1
+    by why.Done h = (copies (λ with. IsWholeFile with task.replace) h.0, h.1)
+    by (why.Usage u) h = absurd h
+    by (why.Refused f) h = inr (inr (copies (λ with. IsLongFile with task.replace f (rest_of s1.left)) h))
+    by (why.OpenFault which) h = absurd h
+    by (why.ReadFault which.Input) h = (inr (copies (λ with. IsWholeFile with task.replace) h.0), (let r = h.1 in let f = w.counts.reads in omega (arith, r, f)))
+    by (why.ReadFault which.Script) h = absurd h
+    by (why.ReadFault which.Tables) h = absurd h
+    by (why.ReadFault which.Comment) h = absurd h
+    by (why.ReadFault which.Output) h = absurd h
+    by why.WriteFault h = (copies (λ with. InsertsPart standard_limits with task.replace) h.0, (let r = h.1 in let f = w.counts.writes in omega (arith, r, f)))
+    by why.NoMemory h = inr (copies (λ with. InsertsPart standard_limits with task.replace) h)
+
+-- WHERE NOTHING IS WRITTEN
+
+-- what was read stands when the run ends
+reads_alone : (task : Task) (comment bytes : List ℕ) (old now : DeskState) (Is : List ℕ → Type 0) → IsReading task comment bytes old now → Is bytes → ReadsAlone task Is old now
+reads_alone task comment bytes old now Is r is = record {
+  comment = comment;
+  bytes = bytes;
+  names = r.names;
+  outputs = r.outputs;
+  source = r.source;
+  file = file_read old.files task.input r.left now.left bytes r.opened r.read;
+  is = is;
+}
+
+-- nothing more was read
+reading_still : (task : Task) (comment bytes : List ℕ) (old s0 s1 : DeskState) → IsReading task comment bytes old s0 → OnlyReads s0 s1 → s1.left ≡ s0.left → IsReading task comment bytes old s1
+reading_still task comment bytes old s0 s1 r k same =
+    let P : Option (List ℕ) → Type 0 = λ l. Consumes s0.left l [] in
+    subst (λ (b : List ℕ). IsReading task comment b old s1) (append-nil bytes) (reading_more task comment bytes [] old s0 s1 r k (subst P (sym same) (none_read s0.left)))
+
+out_of_memory : (task : Task) (comment bytes : List ℕ) (old s0 s1 : DeskState) → IsReading task comment bytes old s0 → OnlyReads s0 s1 → IsOutOfMemory task old s1
+out_of_memory task comment bytes old s0 s1 r k =
+    let due = asked_to_input task put.Done in
+    let N : List (Name × Put) → Type 0 = λ names. NotesNames old.asked names s1.asked in
+    let P : Option (List (Name × Put)) → Type 0 = λ a. NotesNames old.asked due a in
+    record { count = length due; names = subst N (sym (take_all (length due) due (omega arith))) (subst P (sym k.asked) r.names); outputs = k.outputs ∙ r.outputs }
+
+pub ended_before : (task : Task) (comment bytes : List ℕ) (old s0 s1 : DeskState) (w : Why) → IsReading task comment bytes old s0 → OnlyReads s0 s1 → EndsBefore bytes s0 w s1 → Inserted task old w s1
+ended_before task comment bytes old s0 s1 why.Done r k h = absurd h
+ended_before task comment bytes old s0 s1 (why.Usage u) r k h = absurd h
+ended_before task comment bytes old s0 s1 (why.Refused f) r k (piece, more, is) =
+    inr (inl (reads_alone task comment (bytes ++ piece) old s1 (IsFaultBefore f (rest_of s1.left)) (reading_more task comment bytes piece old s0 s1 r k more) is))
+ended_before task comment bytes old s0 s1 (why.OpenFault w) r k h = absurd h
+ended_before task comment bytes old s0 s1 (why.ReadFault which.Input) r k (same, nothing, rose) = (
+  inl (reads_alone task comment bytes old s1 (ShowsNothing standard_limits (HoldsHead standard_limits)) (reading_still task comment bytes old s0 s1 r k same) nothing),
+  (let f = r.counts.reads in omega (arith, rose, f)),
+)
+ended_before task comment bytes old s0 s1 (why.ReadFault which.Script) r k h = absurd h
+ended_before task comment bytes old s0 s1 (why.ReadFault which.Tables) r k h = absurd h
+ended_before task comment bytes old s0 s1 (why.ReadFault which.Comment) r k h = absurd h
+ended_before task comment bytes old s0 s1 (why.ReadFault which.Output) r k h = absurd h
+ended_before task comment bytes old s0 s1 why.WriteFault r k h = absurd h
+ended_before task comment bytes old s0 s1 why.NoMemory r k h = inl (out_of_memory task comment bytes old s0 s1 r k)
+
+pub reads_then : (a b c : DeskState) → OnlyReads a b → OnlyReads b c → OnlyReads a c
+reads_then a b c h k = record {
+  counts = NoneFell-then a.counts b.counts c.counts h.counts k.counts;
+  asked = k.asked ∙ h.asked;
+  files = k.files ∙ h.files;
+  outputs = k.outputs ∙ h.outputs;
+  said = k.said ∙ h.said;
+  input_open = k.input_open ∙ h.input_open;
+  output_created = k.output_created ∙ h.output_created;
+}
+
+-- THE LOOPS
+
+-- where the first text was written, more may come
+pub more_begun : (result due : Option Why) (replace : Bool) (comment bytes text : List ℕ) (c : Insert) → IfNone result (due ≡ None) → 0 < length text → AfterFed comment replace bytes text due c
+    → IfNone result ((with : List ℕ) × (all : List ℕ) × (written : List ℕ) × (0 < length written) × HasInserted with all written c)
+more_begun None due replace comment bytes text c none some h = (comment, bytes, text, some, subst (λ (d : Option Why). AfterFed comment replace bytes text d c) none h)
+more_begun (Some w) due replace comment bytes text c none some h = tt
+
+-- the number of bytes taken, behind the marker
+pub taken_behind : (comment bytes text : List ℕ) (c : Insert) → c.limits ≡ standard_limits → 0 < length text → HasInserted comment bytes text c → (unwrap_or c.taken 0 ≡ length bytes) × (length bytes < standard_limits.input)
+taken_behind comment bytes text c e some h = (by c.taken (stands comment bytes text c e h), subst (λ (l : Limits). length bytes < l.input) e h.1)
+  where
+    by : (taken : Option ℕ) → StandsAt standard_limits comment c.replace bytes text taken c.head (reading_of c.reader) → unwrap_or taken 0 ≡ length bytes
+    by None s = absurd (not_none text s.1 some)
+    by (Some taken) s = s.0
+
+-- a desk of which nothing is told
+abbrev pub blank : DeskState → DeskState
+blank s = record s { left = None; outputs = None }
+
+pub blank_still : (s : DeskState) → OnlyCopies (blank s) s
+blank_still s = record {
+  counts = record { opens = omega arith; reads = omega arith; writes = omega arith; says = omega arith };
+  asked = refl;
+  files = refl;
+  said = refl;
+  input_open = refl;
+  output_created = refl;
+}
+
+pub blank_copied : (s : DeskState) (bytes text : List ℕ) → HasCopied (blank s) bytes text s
+blank_copied s bytes text = record { read = tt; written = tt }
+
+-- each piece makes the bytes that may still come fewer
+pub fewer : (comment bytes piece text all : List ℕ) (was c : Insert) → was.limits ≡ standard_limits → c.limits ≡ standard_limits → 0 < length text → 0 < length all → 0 < length piece → HasInserted comment bytes text was → HasInserted comment (bytes ++ piece) all c
+    → 2 ^ 40 - unwrap_or c.taken 0 < 2 ^ 40 - unwrap_or was.taken 0
+fewer comment bytes piece text all was c e f some more longer h k =
+    let a = taken_behind comment bytes text was e some h in
+    let b = taken_behind comment (bytes ++ piece) all c f more k in
+    let before = a.0 in let after = b.0 in let room = b.1 in
+    omega (arith, before, after, room, longer, length-append bytes piece)
+
+-- THE COMMENT
+
+none_noted : (a b : Option (List (Name × Put))) → b ≡ a → NotesNames a [] b
+none_noted a None e = tt
+none_noted None (Some b) e = absurd (let z : Some b ≡ None = e in cc)
+none_noted (Some a) (Some b) e = (let z : b ≡ a = (let y : Some b ≡ Some a = e in cc) in z ∙ sym (append-nil a))
+
+-- The bytes of the words are taken as they are. Where they are too long, so is their front.
+pub took : (old now : DeskState) (source : CommentSource) (bytes : List ℕ) → AfterComment old source (Ok bytes) now → (comment : List ℕ) × IsComment old source comment × NotesNames old.asked (asked_comment source put.Done) now.asked × ((bytes ≡ comment) ⊎ (bytes ≡ take 65001 comment))
+took old now from_input bytes (names, (comment, is, front)) = (comment, is, names, inr front)
+took old now (from_words text) bytes (same, e) = (text, refl, none_noted old.asked now.asked same, inl e)
+took old now (from_file file) bytes (inl (names, (comment, is, front))) = (comment, is, names, inr front)
+took old now (from_file file) bytes (inr (e, same)) = absurd (let z : Ok bytes ≡ Err why.NoMemory = e in cc)
+
+-- all of it was taken
+all_taken : (bytes comment : List ℕ) → (bytes ≡ comment) ⊎ (bytes ≡ take 65001 comment) → length bytes ≤ 65000 → comment ≡ bytes
+all_taken bytes comment (inl e) short = sym e
+all_taken bytes comment (inr e) short = sym (e ∙ take_all 65001 comment (omega (arith, ap length e, length-take 65001 comment, short)))
+
+short_comment : (old now : DeskState) (source : CommentSource) (bytes : List ℕ) → AfterComment old source (Ok bytes) now → length bytes ≤ 65000 → IsShortComment old source bytes
+short_comment old now source bytes h short =
+    let t = took old now source bytes h in (subst (λ (b : List ℕ). IsComment old source b) (all_taken bytes t.0 t.3 short) t.1, short)
+
+long_comment : (bytes comment : List ℕ) → (bytes ≡ comment) ⊎ (bytes ≡ take 65001 comment) → 65000 < length bytes → 65000 < length comment
+long_comment bytes comment (inl e) long = omega (arith, ap length e, long)
+long_comment bytes comment (inr e) long = omega (arith, ap length e, length-take 65001 comment, long)
+
+same_fault : (f : FaultAt) → f.fault ≡ CommentTooLong → f.at ≡ 65001 → f ≡ record { fault = CommentTooLong; at = 65001 }
+same_fault f fault at = ap (λ (x : Fault). (let y : FaultAt = record { fault = x; at = f.at } in y)) fault ∙ ap (λ (n : ℕ). (let y : FaultAt = record { fault = CommentTooLong; at = n } in y)) at
+
+comment_long : (task : Task) (old now : DeskState) (bytes : List ℕ) (f : FaultAt) → Keeps old now → AfterComment old task.comment (Ok bytes) now → f.fault ≡ CommentTooLong → f.at ≡ 65001 → 65000 < length bytes → Inserted task old (why.Refused f) now
+comment_long task old now bytes f k h fault at long =
+    let t = took old now task.comment bytes h in
+    inl (record { comment = t.0; names = t.2; outputs = k.outputs; source = t.1; long = long_comment bytes t.0 t.3 long; fault = same_fault f fault at })
+
+front_of : (xs ys : List (Name × Put)) → take (length xs) (xs ++ ys) ≡ xs
+front_of xs ys = take-append-le (length xs) xs ys (omega arith) ∙ take_all (length xs) xs (omega arith)
+
+-- it was taken, and then memory was wanting
+comment_only : (task : Task) (old now : DeskState) (bytes : List ℕ) → Keeps old now → AfterComment old task.comment (Ok bytes) now → Inserted task old why.NoMemory now
+comment_only task old now bytes k h =
+    let asked = asked_comment task.comment put.Done in
+    let N : List (Name × Put) → Type 0 = λ names. NotesNames old.asked names now.asked in
+    inl (record { count = length asked; names = subst N (sym (front_of asked ((task.input, put.Done) ∷ []))) (took old now task.comment bytes h).2; outputs = k.outputs })
+
+pub not_begun : (task : Task) (old now : DeskState) (bytes : List ℕ) (w : Why) → Keeps old now → AfterComment old task.comment (Ok bytes) now → IsBegunWith bytes task.replace (Err w) → Inserted task old w now
+not_begun task old now bytes why.Done k h b = absurd b
+not_begun task old now bytes (why.Usage u) k h b = absurd b
+not_begun task old now bytes (why.Refused f) k h b = comment_long task old now bytes f k h b.0 b.1 b.2
+not_begun task old now bytes (why.OpenFault w) k h b = absurd b
+not_begun task old now bytes (why.ReadFault w) k h b = absurd b
+not_begun task old now bytes why.WriteFault k h b = absurd b
+not_begun task old now bytes why.NoMemory k h b = comment_only task old now bytes k h
+
+-- WHERE IT WASN'T TAKEN
+
+file_untaken : (task : Task) (old now : DeskState) (file : Name) (w : Why) → is_given task.comment ≡ false → ((answer : Put) → asked_comment task.comment answer ≡ asked_one file answer) → ((bytes : List ℕ) → IsFile old.files file bytes → IsComment old task.comment bytes) → Keeps old now → AfterFile old file (Err w) now → Inserted task old w now
+file_untaken task old now file why.Done from same is k h = absurd h
+file_untaken task old now file (why.Usage u) from same is k h = absurd h
+file_untaken task old now file (why.Refused f) from same is k h = absurd h
+file_untaken task old now file (why.OpenFault which.Input) from same is k h = absurd h
+file_untaken task old now file (why.OpenFault which.Script) from same is k h = absurd h
+file_untaken task old now file (why.OpenFault which.Tables) from same is k h = absurd h
+file_untaken task old now file (why.OpenFault which.Comment) from same is k h = record {
+  names = (let N : List (Name × Put) → Type 0 = λ names. NotesNames old.asked names now.asked in subst N (sym (same put.Failed)) h.0);
+  outputs = k.outputs;
+  opens = h.1;
+  from = from;
+}
+file_untaken task old now file (why.OpenFault which.Output) from same is k h = absurd h
+file_untaken task old now file (why.ReadFault which.Input) from same is k h = absurd h
+file_untaken task old now file (why.ReadFault which.Script) from same is k h = absurd h
+file_untaken task old now file (why.ReadFault which.Tables) from same is k h = absurd h
+file_untaken task old now file (why.ReadFault which.Comment) from same is k h = record {
+  names = (let N : List (Name × Put) → Type 0 = λ names. NotesNames old.asked names now.asked in subst N (sym (same put.Done)) h.0);
+  outputs = k.outputs;
+  reads = h.1;
+  from = from;
+  bytes = h.2.0;
+  source = (h.2.1, is (h.2.0 ++ rest_of now.left) h.2.2);
+}
+file_untaken task old now file (why.ReadFault which.Output) from same is k h = absurd h
+file_untaken task old now file why.WriteFault from same is k h = absurd h
+file_untaken task old now file why.NoMemory from same is k h =
+    let N : List (Name × Put) → Type 0 = λ names. NotesNames old.asked names now.asked in
+    let first : take 1 (asked_to_input task put.Done) ≡ asked_one file put.Done = ap (λ (names : List (Name × Put)). take 1 (names ++ (task.input, put.Done) ∷ [])) (same put.Done) in
+    inl (record { count = 1; names = subst N (sym first) h; outputs = k.outputs })
+
+nothing_asked : (task : Task) (old now : DeskState) → Keeps old now → now.asked ≡ old.asked → Inserted task old why.NoMemory now
+nothing_asked task old now k same = inl (record { count = 0; names = none_noted old.asked now.asked same; outputs = k.outputs })
+
+words_untaken : (task : Task) (old now : DeskState) (text : List ℕ) (w : Why) → Keeps old now → AfterWords old text (Err w) now → Inserted task old w now
+words_untaken task old now text why.Done k h = absurd h
+words_untaken task old now text (why.Usage u) k h = absurd h
+words_untaken task old now text (why.Refused f) k h = absurd h
+words_untaken task old now text (why.OpenFault w) k h = absurd h
+words_untaken task old now text (why.ReadFault w) k h = absurd h
+words_untaken task old now text why.WriteFault k h = absurd h
+words_untaken task old now text why.NoMemory k h = nothing_asked task old now k h
+
+untaken_from : (source : CommentSource) (input output : Name) (replace : Bool) (old now : DeskState) (w : Why) → Keeps old now → AfterComment old source (Err w) now
+    → Inserted (record { comment = source; input = input; output = output; replace = replace }) old w now
+untaken_from from_input input output replace old now w k h = file_untaken (record { comment = from_input; input = input; output = output; replace = replace }) old now name.In w refl (λ answer. refl) (λ bytes is. is) k h
+untaken_from (from_words text) input output replace old now w k h = words_untaken (record { comment = from_words text; input = input; output = output; replace = replace }) old now text w k h
+untaken_from (from_file file) input output replace old now w k (inl h) =
+    file_untaken (record { comment = from_file file; input = input; output = output; replace = replace }) old now (name.File file) w refl (λ answer. refl) (λ bytes is. is) k h
+untaken_from (from_file file) input output replace old now w k (inr (e, same)) =
+    let task : Task = record { comment = from_file file; input = input; output = output; replace = replace } in
+    subst (λ (v : Why). Inserted task old v now) (let z : why.NoMemory ≡ w = cc in z) (nothing_asked task old now k same)
+
+pub comment_untaken : (task : Task) (old now : DeskState) (w : Why) → Keeps old now → AfterComment old task.comment (Err w) now → Inserted task old w now
+comment_untaken task old now w k h = untaken_from task.comment task.input task.output task.replace old now w k h
+
+-- THE INPUT
+
+input_names : (task : Task) (old s1 s2 : DeskState) (bytes : List ℕ) (answer : Put) → AfterComment old task.comment (Ok bytes) s1 → Opens s1 task.input answer s2 → NotesNames old.asked (asked_to_input task answer) s2.asked
+input_names task old s1 s2 bytes answer h o = NotesNames-then old.asked s1.asked s2.asked (asked_comment task.comment put.Done) (task.input, answer) (took old s1 task.comment bytes h).2 o.asked
+
+pub input_unopened : (task : Task) (old s1 s2 : DeskState) (bytes : List ℕ) → Keeps old s1 → AfterComment old task.comment (Ok bytes) s1 → length bytes ≤ 65000 → Opens s1 task.input put.Failed s2 → Inserted task old (why.OpenFault which.Input) s2
+input_unopened task old s1 s2 bytes k h short o = record {
+  comment = bytes;
+  names = input_names task old s1 s2 bytes put.Failed h o;
+  outputs = o.outputs ∙ k.outputs;
+  opens = (let rose = o.after.0 in let f = k.counts.opens in omega (arith, rose, f));
+  source = short_comment old s1 task.comment bytes h short;
+}
+
+pub input_opened : (task : Task) (old s1 s2 : DeskState) (bytes : List ℕ) → Keeps old s1 → AfterComment old task.comment (Ok bytes) s1 → length bytes ≤ 65000 → Opens s1 task.input put.Done s2 → IsReading task bytes [] old s2
+input_opened task old s1 s2 bytes k h short o = record {
+  left = s2.left;
+  names = input_names task old s1 s2 bytes put.Done h o;
+  source = short_comment old s1 task.comment bytes h short;
+  opened = (let P : Option (Name → Option (List ℕ)) → Type 0 = λ files. OpensFile files task.input s2.left in subst P k.files o.after.2);
+  read = none_read s2.left;
+  outputs = o.outputs ∙ k.outputs;
+  counts = NoneFell-then old.counts s1.counts s2.counts k.counts o.counts;
+}

@@ -1,0 +1,171 @@
+-- What was done of a comment's insertion stays so with a message, and is due where nothing failed.
+use Rattle.std.proofs.Common.{◌≡◌, ℕ, List, ◌++◌, take, Option, refl, sym, ap, ◌∙◌, subst, arith, inl, inr}
+use Rattle.std.proofs.lemmas.List.{append-nil}
+use Rattle.std.specs.Io.KnownBytes.{IsAtEnd}
+use Rattle.jpg_base.specs.declared.names.Name.{Name}
+use Rattle.jpg_base.specs.declared.names.Name.TheVariants as name
+use Rattle.jpg_base.specs.declared.names.Put.{Put}
+use Rattle.jpg_base.specs.declared.names.Put.TheVariants as put
+use Rattle.jpg_base.specs.Desk.{DeskState}
+use Rattle.jpg_base.specs.Laws.{Grows, NotesNames}
+use Rattle.jpg_spec.specs.Segments.{standard_limits}
+use Rattle.jpg_spec.specs.CommentText.{ShowsNothing}
+use Rattle.jpg_spec.specs.declared.answers.FaultAt.{FaultAt}
+use Rattle.jpg_spec.specs.declared.answers.Why.{Why}
+use Rattle.jpg_spec.specs.declared.answers.Why.TheVariants as why
+use Rattle.jpg_spec.specs.declared.answers.Which.TheVariants as which
+use Rattle.jpg_comments.specs.Inserting.{HoldsHead, InsertsPart}
+use Rattle.jpg_cli.specs.Saying.{OnlySays}
+use Rattle.jpg_cli.specs.Reading.{IsFile}
+use Rattle.jpg_cli.specs.ReadComments.{rest_of}
+use Rattle.jpg_cli.specs.InsertComment.{IsFaultBefore, IsLongFile, IsWholeFile}
+use Rattle.jpg_cli.specs.CommentInserted.{Inserted, IsComment, IsInsertDue, ReadsAlone, Task, WritesText, asked_comment, asked_to_input, asked_to_output, task_told}
+use Rattle.jpg_cli.specs.CommentWords.{comment_told, file_told, write_told}
+use Rattle.jpg_cli.specs.declared.comment_words.WriteWords.{WriteWords}
+use Rattle.jpg_cli.specs.Commands.{name_of}
+use Rattle.jpg_cli.specs.Run.{NoneRose, task_of}
+use Rattle.jpg_cli.proofs.CommentsCopied.{none_left}
+
+-- A MESSAGE THEN
+
+notes_then : (s0 s1 s2 : DeskState) (names : List (Name × Put)) → OnlySays s1 s2 → NotesNames s0.asked names s1.asked → NotesNames s0.asked names s2.asked
+notes_then s0 s1 s2 names k h = let P : Option (List (Name × Put)) → Type 0 = λ a. NotesNames s0.asked names a in subst P (sym k.asked) h
+
+file_then : (s0 s1 s2 : DeskState) (input : Name) (bytes : List ℕ) → OnlySays s1 s2 → IsFile s0.files input (bytes ++ rest_of s1.left) → IsFile s0.files input (bytes ++ rest_of s2.left)
+file_then s0 s1 s2 input bytes k h = let P : Option (List ℕ) → Type 0 = λ l. IsFile s0.files input (bytes ++ rest_of l) in subst P (sym k.left) h
+
+reads_then : (s0 s1 s2 : DeskState) (task : Task) (Is : List ℕ → Type 0) → OnlySays s1 s2 → ReadsAlone task Is s0 s1 → ReadsAlone task Is s0 s2
+reads_then s0 s1 s2 task Is k h = record {
+  comment = h.comment;
+  bytes = h.bytes;
+  names = notes_then s0 s1 s2 (asked_to_input task put.Done) k h.names;
+  outputs = k.outputs ∙ h.outputs;
+  source = h.source;
+  file = file_then s0 s1 s2 task.input h.bytes k h.file;
+  is = h.is;
+}
+
+writes_then : (s0 s1 s2 : DeskState) (task : Task) (Is : List ℕ → List ℕ → List ℕ → Type 0) → OnlySays s1 s2 → WritesText task Is s0 s1 → WritesText task Is s0 s2
+writes_then s0 s1 s2 task Is k h =
+    let G : Option (List (Name × List ℕ)) → Type 0 = λ a. Grows s0.outputs (task.output, h.text) a in
+    record {
+      comment = h.comment;
+      bytes = h.bytes;
+      text = h.text;
+      names = notes_then s0 s1 s2 (asked_to_output task put.Done) k h.names;
+      source = h.source;
+      file = file_then s0 s1 s2 task.input h.bytes k h.file;
+      outputs = subst G (sym k.outputs) h.outputs;
+      is = h.is;
+    }
+
+refused_then : (s0 s1 s2 : DeskState) (task : Task) (f : FaultAt) → OnlySays s1 s2 → Inserted task s0 (why.Refused f) s1 → Inserted task s0 (why.Refused f) s2
+refused_then s0 s1 s2 task f k (inl h) = inl (record {
+  comment = h.comment;
+  names = notes_then s0 s1 s2 (asked_comment task.comment put.Done) k h.names;
+  outputs = k.outputs ∙ h.outputs;
+  source = h.source;
+  long = h.long;
+  fault = h.fault;
+})
+refused_then s0 s1 s2 task f k (inr (inl h)) =
+    let P : Option (List ℕ) → Type 0 = λ l. ReadsAlone task (IsFaultBefore f (rest_of l)) s0 s2 in
+    inr (inl (subst P (sym k.left) (reads_then s0 s1 s2 task (IsFaultBefore f (rest_of s1.left)) k h)))
+refused_then s0 s1 s2 task f k (inr (inr h)) =
+    let P : Option (List ℕ) → Type 0 = λ l. WritesText task (λ comment. IsLongFile comment task.replace f (rest_of l)) s0 s2 in
+    inr (inr (subst P (sym k.left) (writes_then s0 s1 s2 task (λ comment. IsLongFile comment task.replace f (rest_of s1.left)) k h)))
+
+pub inserted_then : (s0 s1 s2 : DeskState) (task : Task) (w : Why) → OnlySays s1 s2 → Inserted task s0 w s1 → Inserted task s0 w s2
+inserted_then s0 s1 s2 task why.Done k h =
+    (writes_then s0 s1 s2 task (λ comment. IsWholeFile comment task.replace) k h.0, (let P : Option (List ℕ) → Type 0 = λ l. IsAtEnd l in subst P (sym k.left) h.1))
+inserted_then s0 s1 s2 task (why.Usage u) k h = absurd h
+inserted_then s0 s1 s2 task (why.Refused f) k h = refused_then s0 s1 s2 task f k h
+inserted_then s0 s1 s2 task (why.OpenFault which.Input) k h = record {
+  comment = h.comment;
+  names = notes_then s0 s1 s2 (asked_to_input task put.Failed) k h.names;
+  outputs = k.outputs ∙ h.outputs;
+  opens = (let r = h.opens in let f = k.counts.opens in omega arith);
+  source = h.source;
+}
+inserted_then s0 s1 s2 task (why.OpenFault which.Script) k h = absurd h
+inserted_then s0 s1 s2 task (why.OpenFault which.Tables) k h = absurd h
+inserted_then s0 s1 s2 task (why.OpenFault which.Comment) k h = record {
+  names = notes_then s0 s1 s2 (asked_comment task.comment put.Failed) k h.names;
+  outputs = k.outputs ∙ h.outputs;
+  opens = (let r = h.opens in let f = k.counts.opens in omega arith);
+  from = h.from;
+}
+inserted_then s0 s1 s2 task (why.OpenFault which.Output) k h = record {
+  comment = h.comment;
+  bytes = h.bytes;
+  names = notes_then s0 s1 s2 (asked_to_output task put.Failed) k h.names;
+  outputs = k.outputs ∙ h.outputs;
+  opens = (let r = h.opens in let f = k.counts.opens in omega arith);
+  source = h.source;
+  file = file_then s0 s1 s2 task.input h.bytes k h.file;
+  is = h.is;
+}
+inserted_then s0 s1 s2 task (why.ReadFault which.Input) k (inl h, rose) =
+    (inl (reads_then s0 s1 s2 task (ShowsNothing standard_limits (HoldsHead standard_limits)) k h), (let f = k.counts.reads in omega (arith, rose, f)))
+inserted_then s0 s1 s2 task (why.ReadFault which.Input) k (inr h, rose) =
+    (inr (writes_then s0 s1 s2 task (λ comment. IsWholeFile comment task.replace) k h), (let f = k.counts.reads in omega (arith, rose, f)))
+inserted_then s0 s1 s2 task (why.ReadFault which.Script) k h = absurd h
+inserted_then s0 s1 s2 task (why.ReadFault which.Tables) k h = absurd h
+inserted_then s0 s1 s2 task (why.ReadFault which.Comment) k h = record {
+  names = notes_then s0 s1 s2 (asked_comment task.comment put.Done) k h.names;
+  outputs = k.outputs ∙ h.outputs;
+  reads = (let r = h.reads in let f = k.counts.reads in omega arith);
+  from = h.from;
+  bytes = h.bytes;
+  source = (h.source.0, (let P : Option (List ℕ) → Type 0 = λ l. IsComment s0 task.comment (h.bytes ++ rest_of l) in subst P (sym k.left) h.source.1));
+}
+inserted_then s0 s1 s2 task (why.ReadFault which.Output) k h = absurd h
+inserted_then s0 s1 s2 task why.WriteFault k h =
+    (writes_then s0 s1 s2 task (λ comment. InsertsPart standard_limits comment task.replace) k h.0, (let r = h.1 in let f = k.counts.writes in omega (arith, r, f)))
+inserted_then s0 s1 s2 task why.NoMemory k (inl h) = inl (record {
+  count = h.count;
+  names = notes_then s0 s1 s2 (take h.count (asked_to_input task put.Done)) k h.names;
+  outputs = k.outputs ∙ h.outputs;
+})
+inserted_then s0 s1 s2 task why.NoMemory k (inr h) = inr (writes_then s0 s1 s2 task (λ comment. InsertsPart standard_limits comment task.replace) k h)
+
+-- WHERE NOTHING FAILED
+
+whole_input : (s0 s1 : DeskState) (input : Name) (bytes : List ℕ) → IsFile s0.files input (bytes ++ rest_of s1.left) → IsAtEnd s1.left → IsFile s0.files input bytes
+whole_input s0 s1 input bytes h end =
+    let e : bytes ++ rest_of s1.left ≡ bytes = ap (λ (rest : List ℕ). bytes ++ rest) (none_left s1.left end) ∙ append-nil bytes in
+    subst (λ (b : List ℕ). IsFile s0.files input b) e h
+
+pub insert_due : (s0 s1 : DeskState) (task : Task) (w : Why) → NoneRose s0.counts s1.counts → Inserted task s0 w s1 → IsInsertDue task s0 w
+insert_due s0 s1 task why.Done n (h, end) = (h.comment, h.bytes, h.text, h.source, whole_input s0 s1 task.input h.bytes h.file end, h.is)
+insert_due s0 s1 task (why.Usage u) n h = absurd h
+insert_due s0 s1 task (why.Refused f) n (inl h) = inl (h.comment, h.source, h.long, h.fault)
+insert_due s0 s1 task (why.Refused f) n (inr (inl h)) = inr (h.comment, h.bytes ++ rest_of s1.left, h.source, h.file, inl h.is.0)
+insert_due s0 s1 task (why.Refused f) n (inr (inr h)) = inr (h.comment, h.bytes ++ rest_of s1.left, h.source, h.file, h.is.0)
+insert_due s0 s1 task (why.OpenFault which.Input) n h = absurd (n.0 h.opens)
+insert_due s0 s1 task (why.OpenFault which.Script) n h = absurd h
+insert_due s0 s1 task (why.OpenFault which.Tables) n h = absurd h
+insert_due s0 s1 task (why.OpenFault which.Comment) n h = absurd (n.0 h.opens)
+insert_due s0 s1 task (why.OpenFault which.Output) n h = absurd (n.0 h.opens)
+insert_due s0 s1 task (why.ReadFault which.Input) n h = absurd (n.1 h.1)
+insert_due s0 s1 task (why.ReadFault which.Script) n h = absurd h
+insert_due s0 s1 task (why.ReadFault which.Tables) n h = absurd h
+insert_due s0 s1 task (why.ReadFault which.Comment) n h = absurd (n.1 h.reads)
+insert_due s0 s1 task (why.ReadFault which.Output) n h = absurd h
+insert_due s0 s1 task why.WriteFault n h = absurd (n.2 h.1)
+insert_due s0 s1 task why.NoMemory n h = tt
+
+-- WHAT THE WORDS ASK FOR
+
+same_name : (n : Name) → name_of (file_told n) ≡ n
+same_name name.In = refl
+same_name name.Out = refl
+same_name (name.File text) = refl
+
+-- The names that the words tell are those of the files.
+pub asked_inserted : (words : WriteWords) (old new : DeskState) (w : Why) → Inserted (task_told words) old w new → Inserted (task_of (write_told words)) old w new
+asked_inserted words old new w h =
+    let to : Name → Name → Task = λ input output. record { comment = comment_told words.comment; input = input; output = output; replace = words.replace } in
+    let P : Name → Type 0 = λ input. Inserted (to input words.files.output) old w new in
+    let Q : Name → Type 0 = λ output. Inserted (to (name_of (file_told words.files.input)) output) old w new in
+    subst Q (sym (same_name words.files.output)) (subst P (sym (same_name words.files.input)) h)

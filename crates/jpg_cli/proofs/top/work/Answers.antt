@@ -1,0 +1,23 @@
+use Rattle.std.proofs.Common.{map, subst, sym, Ok}
+use Rattle.std.specs.Prelude.{string_bytes}
+use Rattle.jpg_spec.specs.CommentWords.{WordsTold}
+use Rattle.jpg_cli.specs.Commands.{Command, IsCommand, command_asked}
+use Rattle.jpg_cli.specs.Run.{Worked}
+use Rattle.jpg_cli.specs.declared.words.Asked.{Asked}
+use Rattle.jpg_cli.proofs.InsertedThen.{asked_inserted}
+use Rattle.jpg_cli.proofs.top.work.Goals as goal
+
+pub returns-in-Ok-Wrjpgcom : goal.returns-in-Ok-Wrjpgcom
+returns-in-Ok-Wrjpgcom g c =
+    let state = g.D.Desk.state in
+    let asked = command_asked (map string_bytes c.args.words.now) in
+    let told = subst (λ (a : Asked). IsCommand asked (Ok a)) c.in-Ok-Wrjpgcom.field-0-is c.in-Ok-Wrjpgcom.ensures in
+    let done = c.insert_comment.ensures in
+    record {
+      worked =
+          (let P : WordsTold Command → Type 0 = λ a. Worked a (state c.args.desk.now) c.insert_comment.result (state c.insert_comment.new.desk) in
+          subst P (sym told) (asked_inserted c.in-Ok-Wrjpgcom.words (state c.args.desk.now) (state c.insert_comment.new.desk) c.insert_comment.result done.inserted));
+      counts = done.counts;
+      files = done.files;
+      said = done.said;
+    }

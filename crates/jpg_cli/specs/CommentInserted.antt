@@ -1,0 +1,200 @@
+-- WHAT INSERTING A COMMENT into a file does to a desk (T.81 B.2.4.5, the manual of wrjpgcom in release 6b), by why it ended.
+use Rattle.std.specs.Prelude.{◌≡◌, ◌⊎◌, ℕ, ◌<◌, ◌≤◌, Bool, false, List, [], ◌∷◌, ◌++◌, length, take, Option, None, Some}
+use Rattle.std.specs.Io.KnownBytes.{Consumes, IsAtEnd}
+use Rattle.jpg_base.specs.declared.names.Name.{Name}
+use Rattle.jpg_base.specs.declared.names.Name.TheVariants as name
+use Rattle.jpg_base.specs.declared.names.Put.{Put}
+use Rattle.jpg_base.specs.declared.names.Put.TheVariants as put
+use Rattle.jpg_base.specs.Desk.{AddsOutput, AppendsLast, DeskState, NoneFell, OpensFile, Rose}
+use Rattle.jpg_base.specs.Laws.{NotesNames, Grows}
+use Rattle.jpg_spec.specs.Segments.{standard_limits}
+use Rattle.jpg_spec.specs.CommentText.{IsInsertFault, ShowsNothing}
+use Rattle.jpg_spec.specs.CommentWords.{CommentSource, from_input, from_words, from_file, is_given}
+use Rattle.jpg_spec.specs.declared.fault.Fault.TheVariants.{CommentTooLong}
+use Rattle.jpg_spec.specs.declared.answers.FaultAt.{FaultAt}
+use Rattle.jpg_spec.specs.declared.answers.Why.{Why}
+use Rattle.jpg_spec.specs.declared.answers.Why.TheVariants as why
+use Rattle.jpg_spec.specs.declared.answers.Which.TheVariants as which
+use Rattle.jpg_comments.specs.Inserting.{HoldsHead, InsertsPart}
+use Rattle.jpg_comments.specs.WriteInserted.{HasInserted}
+use Rattle.jpg_comments.specs.declared.insert.Insert.{Insert}
+use Rattle.jpg_cli.specs.CommentWords.{comment_told}
+use Rattle.jpg_cli.specs.declared.comment_words.WriteWords.{WriteWords}
+use Rattle.jpg_cli.specs.InsertComment.{IsAtHead, IsFaultBefore, IsLongFile, IsWholeFile}
+use Rattle.jpg_cli.specs.ReadComments.{rest_of}
+use Rattle.jpg_cli.specs.Reading.{IsFile}
+
+-- which comment is inserted into which file, and where the result goes; whether it replaces the comments before the frame header
+pub record Task : Type 0 where
+  pub comment : CommentSource
+  pub input : Name
+  pub output : Name
+  pub replace : Bool
+
+abbrev pub task_told : WriteWords → Task
+task_told words = record { comment = comment_told words.comment; input = words.files.input; output = words.files.output; replace = words.replace }
+
+-- THE NAMES asked for: the comment's file where it comes from one, the input, and then the output
+
+abbrev pub asked_comment : CommentSource → Put → List (Name × Put)
+asked_comment from_input answer = (name.In, answer) ∷ []
+asked_comment (from_words text) answer = []
+asked_comment (from_file file) answer = (name.File file, answer) ∷ []
+
+abbrev pub asked_to_input : Task → Put → List (Name × Put)
+asked_to_input task answer = asked_comment task.comment put.Done ++ (task.input, answer) ∷ []
+
+abbrev pub asked_to_output : Task → Put → List (Name × Put)
+asked_to_output task answer = asked_to_input task put.Done ++ (task.output, answer) ∷ []
+
+-- THE COMMENT
+
+-- Where the files are told, it is this one.
+abbrev pub IsComment : DeskState → CommentSource → List ℕ → Type 0
+IsComment old from_input comment = IsFile old.files name.In comment
+IsComment old (from_words text) comment = comment ≡ text
+IsComment old (from_file file) comment = IsFile old.files (name.File file) comment
+
+-- It is no longer than a comment may be.
+abbrev pub IsShortComment : DeskState → CommentSource → List ℕ → Type 0
+IsShortComment old source comment = IsComment old source comment × (length comment ≤ 65000)
+
+-- The bytes are a front of it, no longer than a comment may be, with those that are left behind them.
+abbrev pub IsShortFront : DeskState → CommentSource → List ℕ → DeskState → Type 0
+IsShortFront old source bytes new = (length bytes ≤ 65000) × IsComment old source (bytes ++ rest_of new.left)
+
+-- WHAT STANDS when the run ended
+
+-- These bytes of the input were read, of which this is so. No output was created.
+pub record ReadsAlone (task : Task) (Is : List ℕ → Type 0) (old new : DeskState) : Type 0 where
+  pub comment : List ℕ
+  pub bytes : List ℕ
+  pub names : NotesNames old.asked (asked_to_input task put.Done) new.asked
+  pub outputs : new.outputs ≡ old.outputs
+  pub source : IsShortComment old task.comment comment
+  pub file : IsFile old.files task.input (bytes ++ rest_of new.left)
+  pub is : Is bytes
+
+-- These bytes of the input were read, and the output holds a text, of which with the comment this is so.
+pub record WritesText (task : Task) (Is : List ℕ → List ℕ → List ℕ → Type 0) (old new : DeskState) : Type 0 where
+  pub comment : List ℕ
+  pub bytes : List ℕ
+  pub text : List ℕ
+  pub names : NotesNames old.asked (asked_to_output task put.Done) new.asked
+  pub source : IsShortComment old task.comment comment
+  pub file : IsFile old.files task.input (bytes ++ rest_of new.left)
+  pub outputs : Grows old.outputs (task.output, text) new.outputs
+  pub is : Is comment bytes text
+
+-- the comment is too long; the input wasn't opened
+pub record IsCommentLong (task : Task) (f : FaultAt) (old new : DeskState) : Type 0 where
+  pub comment : List ℕ
+  pub names : NotesNames old.asked (asked_comment task.comment put.Done) new.asked
+  pub outputs : new.outputs ≡ old.outputs
+  pub source : IsComment old task.comment comment
+  pub long : 65000 < length comment
+  pub fault : f ≡ record { fault = CommentTooLong; at = 65001 }
+
+-- the comment's file wasn't opened
+pub record IsCommentUnopened (task : Task) (old new : DeskState) : Type 0 where
+  pub names : NotesNames old.asked (asked_comment task.comment put.Failed) new.asked
+  pub outputs : new.outputs ≡ old.outputs
+  pub opens : Rose old.counts.opens new.counts.opens
+  pub from : is_given task.comment ≡ false
+
+-- the comment's file wasn't read behind these bytes, which are no more than a comment may have
+pub record IsCommentUnread (task : Task) (old new : DeskState) : Type 0 where
+  pub bytes : List ℕ
+  pub names : NotesNames old.asked (asked_comment task.comment put.Done) new.asked
+  pub outputs : new.outputs ≡ old.outputs
+  pub reads : Rose old.counts.reads new.counts.reads
+  pub from : is_given task.comment ≡ false
+  pub source : IsShortFront old task.comment bytes new
+
+-- the input wasn't opened
+pub record IsInputUnopened (task : Task) (old new : DeskState) : Type 0 where
+  pub comment : List ℕ
+  pub names : NotesNames old.asked (asked_to_input task put.Failed) new.asked
+  pub outputs : new.outputs ≡ old.outputs
+  pub opens : Rose old.counts.opens new.counts.opens
+  pub source : IsShortComment old task.comment comment
+
+-- the output wasn't created, though the input has that marker
+pub record IsOutputUncreated (task : Task) (old new : DeskState) : Type 0 where
+  pub comment : List ℕ
+  pub bytes : List ℕ
+  pub names : NotesNames old.asked (asked_to_output task put.Failed) new.asked
+  pub outputs : new.outputs ≡ old.outputs
+  pub opens : Rose old.counts.opens new.counts.opens
+  pub source : IsShortComment old task.comment comment
+  pub file : IsFile old.files task.input (bytes ++ rest_of new.left)
+  pub is : IsAtHead bytes
+
+-- memory was wanting before an output was created; the names asked for are the first of those due
+pub record IsOutOfMemory (task : Task) (old new : DeskState) : Type 0 where
+  pub count : ℕ
+  pub names : NotesNames old.asked (take count (asked_to_input task put.Done)) new.asked
+  pub outputs : new.outputs ≡ old.outputs
+
+-- THE ANSWERS
+abbrev pub Inserted : Task → DeskState → Why → DeskState → Type 0
+Inserted task old why.Done new = WritesText task (λ comment. IsWholeFile comment task.replace) old new × IsAtEnd new.left
+Inserted task old (why.Refused f) new =
+    IsCommentLong task f old new
+    ⊎ (ReadsAlone task (IsFaultBefore f (rest_of new.left)) old new ⊎ WritesText task (λ comment. IsLongFile comment task.replace f (rest_of new.left)) old new)
+Inserted task old (why.OpenFault which.Comment) new = IsCommentUnopened task old new
+Inserted task old (why.OpenFault which.Input) new = IsInputUnopened task old new
+Inserted task old (why.OpenFault which.Output) new = IsOutputUncreated task old new
+Inserted task old (why.ReadFault which.Comment) new = IsCommentUnread task old new
+Inserted task old (why.ReadFault which.Input) new =
+    (ReadsAlone task (ShowsNothing standard_limits (HoldsHead standard_limits)) old new ⊎ WritesText task (λ comment. IsWholeFile comment task.replace) old new)
+    × Rose old.counts.reads new.counts.reads
+Inserted task old why.WriteFault new = WritesText task (λ comment. InsertsPart standard_limits comment task.replace) old new × Rose old.counts.writes new.counts.writes
+Inserted task old why.NoMemory new = IsOutOfMemory task old new ⊎ WritesText task (λ comment. InsertsPart standard_limits comment task.replace) old new
+Inserted task old other new = ⊥
+
+-- Where no count of open, read or write rose, the answer is the one that the comment and the input have, or want of memory.
+
+abbrev pub HasLongComment : Task → FaultAt → DeskState → Type 0
+HasLongComment task f old = (comment : List ℕ) × IsComment old task.comment comment × (65000 < length comment) × (f ≡ record { fault = CommentTooLong; at = 65001 })
+
+abbrev pub HasInputFault : Task → FaultAt → DeskState → Type 0
+HasInputFault task f old =
+    (comment : List ℕ) × (bytes : List ℕ) × IsShortComment old task.comment comment × IsFile old.files task.input bytes × IsInsertFault standard_limits bytes f.fault f.at
+
+abbrev pub IsInsertDue : Task → DeskState → Why → Type 0
+IsInsertDue task old why.Done =
+    (comment : List ℕ) × (bytes : List ℕ) × (text : List ℕ) × IsShortComment old task.comment comment × IsFile old.files task.input bytes × IsWholeFile comment task.replace bytes text
+IsInsertDue task old (why.Refused f) = HasLongComment task f old ⊎ HasInputFault task f old
+IsInsertDue task old why.NoMemory = Unit {0}
+IsInsertDue task old other = ⊥
+
+-- STEP BY STEP, from a desk as it was when the run began
+
+-- The comment was taken, the input is open, and these bytes of it were read; no output was created.
+pub record IsReading (task : Task) (comment bytes : List ℕ) (old now : DeskState) : Type 0 where
+  pub left : Option (List ℕ)
+  pub names : NotesNames old.asked (asked_to_input task put.Done) now.asked
+  pub source : IsShortComment old task.comment comment
+  pub opened : OpensFile old.files task.input left
+  pub read : Consumes left now.left bytes
+  pub outputs : now.outputs ≡ old.outputs
+  pub counts : NoneFell old.counts now.counts
+
+-- The output was created too, and holds this text.
+pub record IsWriting (task : Task) (comment bytes text : List ℕ) (old now : DeskState) : Type 0 where
+  pub left : Option (List ℕ)
+  pub created : Option (List (Name × List ℕ))
+  pub names : NotesNames old.asked (asked_to_output task put.Done) now.asked
+  pub source : IsShortComment old task.comment comment
+  pub opened : OpensFile old.files task.input left
+  pub read : Consumes left now.left bytes
+  pub adds : AddsOutput old.outputs task.output created
+  pub written : AppendsLast created text now.outputs
+  pub counts : NoneFell old.counts now.counts
+
+-- From the marker of the frame header on: what was due there was written, or why the writing ended.
+abbrev pub AfterBegin : Task → List ℕ → DeskState → Option Why → Insert → DeskState → Type 0
+AfterBegin task comment old None c now =
+    (bytes : List ℕ) × (text : List ℕ) × (0 < length text) × HasInserted comment bytes text c × IsWriting task comment bytes text old now
+AfterBegin task comment old (Some ended) c now = Inserted task old ended now
