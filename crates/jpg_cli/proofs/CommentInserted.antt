@@ -30,7 +30,7 @@ use Rattle.jpg_cli.specs.InsertComment.{AfterFed, EndsBefore, EndsInserting, IsA
 use Rattle.jpg_cli.specs.ReadComments.{Copies, HasCopied, OnlyCopies, asked_one, rest_of}
 use Rattle.jpg_cli.specs.Reading.{IsFile, Keeps, OnlyReads}
 use Rattle.jpg_cli.proofs.CommentsPrinted.{file_read}
-use Rattle.jpg_cli.proofs.CommentsCopied.{none_read}
+use Rattle.jpg_cli.proofs.CommentsCopied.{had_told, none_read}
 use Rattle.jpg_cli.proofs.InsertedCopied.{fed_part, not_none, part_of_part, stands}
 
 -- READING
@@ -127,17 +127,7 @@ first_unwritten task comment bytes text old s0 s1 s2 output due c e limits same 
 
 -- the desk as it would be, had it told the output at its creation and the input as it was opened
 abbrev pub begun : (task : Task) (comment bytes text : List ℕ) (old now : DeskState) → IsWriting task comment bytes text old now → DeskState
-begun task comment bytes text old now w = record now { left = w.left; outputs = w.created }
-
-pub still_begun : (task : Task) (comment bytes text : List ℕ) (old now : DeskState) (w : IsWriting task comment bytes text old now) → OnlyCopies (begun task comment bytes text old now w) now
-still_begun task comment bytes text old now w = record {
-  counts = record { opens = omega arith; reads = omega arith; writes = omega arith; says = omega arith };
-  asked = refl;
-  files = refl;
-  said = refl;
-  input_open = refl;
-  output_created = refl;
-}
+begun task comment bytes text old now w = had_told w.left w.created now
 
 pub copied_begun : (task : Task) (comment bytes text : List ℕ) (old now : DeskState) (w : IsWriting task comment bytes text old now) → HasCopied (begun task comment bytes text old now w) bytes text now
 copied_begun task comment bytes text old now w = record { read = w.read; written = w.written }
@@ -249,17 +239,7 @@ taken_behind comment bytes text c e some h = (by c.taken (stands comment bytes t
 
 -- a desk of which nothing is told
 abbrev pub blank : DeskState → DeskState
-blank s = record s { left = None; outputs = None }
-
-pub blank_still : (s : DeskState) → OnlyCopies (blank s) s
-blank_still s = record {
-  counts = record { opens = omega arith; reads = omega arith; writes = omega arith; says = omega arith };
-  asked = refl;
-  files = refl;
-  said = refl;
-  input_open = refl;
-  output_created = refl;
-}
+blank s = had_told None None s
 
 pub blank_copied : (s : DeskState) (bytes text : List ℕ) → HasCopied (blank s) bytes text s
 blank_copied s bytes text = record { read = tt; written = tt }

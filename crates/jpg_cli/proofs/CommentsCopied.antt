@@ -35,8 +35,12 @@ none_read (Some left) = refl
 
 -- FRAMES
 
-pub copies_none : (s : DeskState) → OnlyCopies s s
-copies_none s = record {
+-- the desk as it would be, had it told these bytes left and these outputs
+abbrev pub had_told : Option (List ℕ) → Option (List (Name × List ℕ)) → DeskState → DeskState
+had_told left outputs s = record s { left = left; outputs = outputs }
+
+pub copies_told : (left : Option (List ℕ)) (outputs : Option (List (Name × List ℕ))) (s : DeskState) → OnlyCopies (had_told left outputs s) s
+copies_told left outputs s = record {
   counts = record { opens = omega arith; reads = omega arith; writes = omega arith; says = omega arith };
   asked = refl;
   files = refl;
@@ -44,6 +48,9 @@ copies_none s = record {
   input_open = refl;
   output_created = refl;
 }
+
+pub copies_none : (s : DeskState) → OnlyCopies s s
+copies_none s = copies_told s.left s.outputs s
 
 pub copies_then : (a b c : DeskState) → OnlyCopies a b → OnlyCopies b c → OnlyCopies a c
 copies_then a b c h k = record {

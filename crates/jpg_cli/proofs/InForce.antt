@@ -14,7 +14,7 @@ use Rattle.jpg_spec.specs.HuffContents as told
 use Rattle.jpg_spec.specs.QuantContents.{◌>>=◌, Slots, quant_in, table_size, table_entries, is_zero, quant_table_of, quant_tables_of, quant_tables, put_tables}
 use Rattle.jpg_spec.specs.QuantContents as quants
 use Rattle.jpg_spec.specs.Markers.{Segment}
-use Rattle.jpg_spec.specs.InForce.{told_list, huffmans_told, huffman_in_force, quants_told, quant_in_force}
+use Rattle.jpg_spec.specs.InForce.{told_list, huffmans_defined, huffman_in_force, quants_defined, quant_in_force}
 use Rattle.jpg_spec.specs.Items.{fault_in}
 use Rattle.jpg_spec.specs.Header.{header_rule}
 use Rattle.jpg_spec.specs.declared.fault.Fault.TheVariants.{BadLength, BadHuffman, BadQuant}
@@ -196,7 +196,7 @@ huffmans_taken h before contents new e holds = by (huffman_tables contents) refl
         let same = same_told (put_definitions h.tables ds) new k in
         let keeps = all_keep h.tables ds has in
         let older : (class slot : ℕ) → option_or (found (of_slot class slot) of_huffman (reverse ds)) (huffman_in_force before class slot) ≡ huffman_in_force ((0xc4, contents) ∷ before) class slot = λ class slot.
-        sym (found_append (of_slot class slot) of_huffman (reverse ds) (huffmans_told before)) ∙ ap (λ (t : Told (List HuffmanDefinition)). found (of_slot class slot) of_huffman (reverse (told_list t) ++ huffmans_told before)) (sym told) in (
+        sym (found_append (of_slot class slot) of_huffman (reverse ds) (huffmans_defined before)) ∙ ap (λ (t : Told (List HuffmanDefinition)). found (of_slot class slot) of_huffman (reverse (told_list t) ++ huffmans_defined before)) (sym told) in (
           ap fault_in told,
           record {
             frame = holds.frame;
@@ -288,7 +288,7 @@ quants_taken h before contents new e holds = by (quant_tables contents) refl e
         let are = all_slots (length contents) contents ds told in
         let same = same_told (put_tables h.quants ds) new k in
         let older : (slot : ℕ) → option_or (found (in_place slot) of_quants (reverse ds)) (quant_in_force before slot) ≡ quant_in_force ((0xdb, contents) ∷ before) slot = λ slot.
-        sym (found_append (in_place slot) of_quants (reverse ds) (quants_told before)) ∙ ap (λ (t : Told (List (ℕ × QuantTable))). found (in_place slot) of_quants (reverse (told_list t) ++ quants_told before)) (sym told) in (
+        sym (found_append (in_place slot) of_quants (reverse ds) (quants_defined before)) ∙ ap (λ (t : Told (List (ℕ × QuantTable))). found (in_place slot) of_quants (reverse (told_list t) ++ quants_defined before)) (sym told) in (
           ap fault_in told,
           record {
             frame = holds.frame;

@@ -17,5 +17,7 @@ mod turn;
 mod words;
 mod writing;
 
+pub use comment_words::{CommentFrom, Files, WordsStop, WriteWords};
 pub use laws::{answers_are_due, inserted_comments_are_due, printed_comments_are_due};
 pub use top::{Ended, run};
+pub use words::{Asked, read_words};

@@ -97,11 +97,12 @@ fn written(desk: &MemoryDesk) -> Option<&[u8]> {
     }
 }
 
+fn refused_at(fault: Fault, at: u64) -> Why {
+    Why::Refused(FaultAt { fault, at })
+}
+
 fn not_built(at: u64) -> Why {
-    Why::Refused(FaultAt {
-        fault: Fault::NotBuilt,
-        at,
-    })
+    refused_at(Fault::NotBuilt, at)
 }
 
 fn no_failures() -> Counts {

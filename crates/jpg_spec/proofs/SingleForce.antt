@@ -17,7 +17,7 @@ use Rattle.jpg_spec.specs.ScanText.{typical_table}
 use Rattle.jpg_spec.specs.FileText.{sof_code}
 use Rattle.jpg_spec.specs.GrayFile.{gray_head, typical_tables}
 use Rattle.jpg_spec.specs.Markers.{Segment, Pass, code_fault, code_fault_if, has_frame, has_scan, kept_after}
-use Rattle.jpg_spec.specs.InForce.{told_some, told_or, told_list, first_some, no_frame, no_head, frame_after, frame_of, head_in, huffmans_told, huffman_in_force, quants_told, quant_in_force, restart_in_force}
+use Rattle.jpg_spec.specs.InForce.{told_some, told_or, told_list, first_some, no_frame, no_head, frame_after, frame_of, head_in, huffmans_defined, huffman_in_force, quants_defined, quant_in_force, restart_in_force}
 use Rattle.jpg_spec.specs.Items.{fault_in}
 use Rattle.jpg_spec.specs.History.{names, quant_of, needs_dc_table, needs_ac_table, lacks_table}
 use Rattle.jpg_spec.specs.FileMeaning.{meaning_of}
@@ -95,14 +95,14 @@ written_header limits p width height id quants blocks ys is =
 
 dc_in_force : (p : Process) (width height id : ℕ) (quants : QuantTable) (ys : List Segment) → huffman_in_force (written_before p width height id quants ys) 0 0 ≡ Some (typical_table 0 0)
 dc_in_force p width height id quants ys =
-    let older = huffmans_told ((sof_code p, frame_contents width height id) ∷ (0xdb, quant_contents quants) ∷ ys) in
+    let older = huffmans_defined ((sof_code p, frame_contents width height id) ∷ (0xdb, quant_contents quants) ∷ ys) in
     let of : Told (List HuffmanDefinition) → Told (List HuffmanDefinition) → Option HuffmanTable = λ a b.
     option_map (λ (d : HuffmanDefinition). d.table) (find (λ (d : HuffmanDefinition). d.class == 0 && d.slot == 0) (reverse (told_list a) ++ (reverse (told_list b) ++ older))) in
     ap (λ a. of a (huffman_tables dc_contents)) ac_told ∙ ap (of (Ok (ac_definition ∷ []))) dc_told
 
 ac_in_force : (p : Process) (width height id : ℕ) (quants : QuantTable) (ys : List Segment) → huffman_in_force (written_before p width height id quants ys) 1 0 ≡ Some (typical_table 1 0)
 ac_in_force p width height id quants ys =
-    let older = huffmans_told ((sof_code p, frame_contents width height id) ∷ (0xdb, quant_contents quants) ∷ ys) in
+    let older = huffmans_defined ((sof_code p, frame_contents width height id) ∷ (0xdb, quant_contents quants) ∷ ys) in
     let of : Told (List HuffmanDefinition) → Option HuffmanTable = λ a.
     option_map (λ (d : HuffmanDefinition). d.table) (find (λ (d : HuffmanDefinition). d.class == 1 && d.slot == 0) (reverse (told_list a) ++ (reverse (told_list (huffman_tables dc_contents)) ++ older))) in
     ap of ac_told
@@ -110,8 +110,8 @@ ac_in_force p width height id quants ys =
 quants_in_force : (limits : Limits) (p : Process) (width height id : ℕ) (quants : QuantTable) (ys : List Segment) → IsWritten limits p width height id quants ys
     → quant_in_force (written_before p width height id quants ys) 0 ≡ Some quants
 quants_in_force limits p width height id quants ys is =
-    let of : Told (List (ℕ × QuantTable)) → Option QuantTable = λ t. option_map (λ (d : ℕ × QuantTable). d.1) (find (λ (d : ℕ × QuantTable). d.0 == 0) (reverse (told_list t) ++ quants_told ys)) in
-    ap (λ b. option_map (λ (d : ℕ × QuantTable). d.1) (find (λ (d : ℕ × QuantTable). d.0 == 0) (cond b (reverse (told_list (quant_tables (frame_contents width height id)))) [] ++ quants_told ((0xdb, quant_contents quants) ∷ ys))))
+    let of : Told (List (ℕ × QuantTable)) → Option QuantTable = λ t. option_map (λ (d : ℕ × QuantTable). d.1) (find (λ (d : ℕ × QuantTable). d.0 == 0) (reverse (told_list t) ++ quants_defined ys)) in
+    ap (λ b. option_map (λ (d : ℕ × QuantTable). d.1) (find (λ (d : ℕ × QuantTable). d.0 == 0) (cond b (reverse (told_list (quant_tables (frame_contents width height id)))) [] ++ quants_defined ((0xdb, quant_contents quants) ∷ ys))))
     (frame_code p).quant
     ∙ ap of (written_quants quants is.table is.entries)
 

@@ -16,7 +16,7 @@ use Rattle.jpg_spec.specs.HuffContents.{HuffmanDefinition, huffman_table_of, huf
 use Rattle.jpg_spec.specs.ScanText.{typical_table}
 use Rattle.jpg_spec.specs.Moves.{is_wide}
 use Rattle.jpg_spec.specs.Markers.{Segment, SpellsSegments}
-use Rattle.jpg_spec.specs.InForce.{told_list, quants_told, quant_in_force}
+use Rattle.jpg_spec.specs.InForce.{told_list, quants_defined, quant_in_force}
 use Rattle.jpg_spec.specs.Typical.{dc_luma_counts, dc_luma_values, ac_luma_counts, ac_luma_values}
 use Rattle.jpg_spec.specs.declared.fault.Fault.TheVariants.{BadLength, BadQuant}
 use Rattle.jpg_spec.proofs.Telling.{not_lt_of}
@@ -92,10 +92,10 @@ abbrev pub AllContents : (ℕ → Type 0) → List Segment → Type 0
 AllContents Q [] = Unit {0}
 AllContents Q (s ∷ before) = All Q s.1 × AllContents Q before
 
-all_in_force : (Q : ℕ → Type 0) (P : QuantTable → Type 0) → HoldsOfTables Q P → (before : List Segment) → AllContents Q before → All (λ d. P d.1) (quants_told before)
+all_in_force : (Q : ℕ → Type 0) (P : QuantTable → Type 0) → HoldsOfTables Q P → (before : List Segment) → AllContents Q before → All (λ d. P d.1) (quants_defined before)
 all_in_force Q P step [] of = All-nil (λ d. P d.1)
 all_in_force Q P step (s ∷ before) of =
-    All-append (λ d. P d.1) (cond (s.0 == 0xdb) (reverse (told_list (quant_tables s.1))) []) (quants_told before) (here (s.0 == 0xdb)) (all_in_force Q P step before of.1)
+    All-append (λ d. P d.1) (cond (s.0 == 0xdb) (reverse (told_list (quant_tables s.1))) []) (quants_defined before) (here (s.0 == 0xdb)) (all_in_force Q P step before of.1)
   where
     here : (b : Bool) → All (λ d. P d.1) (cond b (reverse (told_list (quant_tables s.1))) [])
     here true = all_reverse (λ d. P d.1) (told_list (quant_tables s.1)) (0, []) (all_told Q P step (length s.1) s.1 of.0)
@@ -114,11 +114,11 @@ found_in P test (y ∷ xs) x all e = by (test y) e (found_in P test xs x (All-ta
 
 -- what holds of the table in a slot
 pub in_force_holds : (Q : ℕ → Type 0) (P : QuantTable → Type 0) → HoldsOfTables Q P → (before : List Segment) (slot : ℕ) (table : QuantTable) → AllContents Q before → quant_in_force before slot ≡ Some table → P table
-in_force_holds Q P step before slot table of e = by (find (λ d. d.0 == slot) (quants_told before)) refl e
+in_force_holds Q P step before slot table of e = by (find (λ d. d.0 == slot) (quants_defined before)) refl e
   where
-    by : (o : Option (ℕ × QuantTable)) → find (λ d. d.0 == slot) (quants_told before) ≡ o → option_map (λ (d : ℕ × QuantTable). d.1) o ≡ Some table → P table
+    by : (o : Option (ℕ × QuantTable)) → find (λ d. d.0 == slot) (quants_defined before) ≡ o → option_map (λ (d : ℕ × QuantTable). d.1) o ≡ Some table → P table
     by None h k = cc
-    by (Some d) h k = subst P (same d.1 table k) (found_in (λ d. P d.1) (λ d. d.0 == slot) (quants_told before) d (all_in_force Q P step before of) h)
+    by (Some d) h k = subst P (same d.1 table k) (found_in (λ d. P d.1) (λ d. d.0 == slot) (quants_defined before) d (all_in_force Q P step before of) h)
       where
         same : (a b : QuantTable) → Some a ≡ Some b → a ≡ b
         same a b e = cc

@@ -41,21 +41,21 @@ no_frame = record { process = Baseline; precision = 8; width = 0; height = 0; co
 abbrev pub frame_of : Limits → List Segment → Frame
 frame_of limits before = unwrap_or (frame_after limits before) no_frame
 
--- the Huffman tables that were told, the newest first
-abbrev pub huffmans_told : List Segment → List HuffmanDefinition
-huffmans_told [] = []
-huffmans_told (s ∷ before) = (if s.0 == 0xc4 then reverse (told_list (huffman_tables s.1)) else []) ++ huffmans_told before
+-- the Huffman tables that segments define, the newest first
+abbrev pub huffmans_defined : List Segment → List HuffmanDefinition
+huffmans_defined [] = []
+huffmans_defined (s ∷ before) = (if s.0 == 0xc4 then reverse (told_list (huffman_tables s.1)) else []) ++ huffmans_defined before
 
 abbrev pub huffman_in_force : List Segment → ℕ → ℕ → Option HuffmanTable
-huffman_in_force before class slot = option_map (λ d. d.table) (find (λ d. d.class == class && d.slot == slot) (huffmans_told before))
+huffman_in_force before class slot = option_map (λ d. d.table) (find (λ d. d.class == class && d.slot == slot) (huffmans_defined before))
 
--- the quantisation tables that were told with their slots, the newest first
-abbrev pub quants_told : List Segment → List (ℕ × QuantTable)
-quants_told [] = []
-quants_told (s ∷ before) = (if s.0 == 0xdb then reverse (told_list (quant_tables s.1)) else []) ++ quants_told before
+-- the quantisation tables that segments define with their slots, the newest first
+abbrev pub quants_defined : List Segment → List (ℕ × QuantTable)
+quants_defined [] = []
+quants_defined (s ∷ before) = (if s.0 == 0xdb then reverse (told_list (quant_tables s.1)) else []) ++ quants_defined before
 
 abbrev pub quant_in_force : List Segment → ℕ → Option QuantTable
-quant_in_force before slot = option_map (λ d. d.1) (find (λ d. d.0 == slot) (quants_told before))
+quant_in_force before slot = option_map (λ d. d.1) (find (λ d. d.0 == slot) (quants_defined before))
 
 -- the restart interval, 0 where none was told
 abbrev pub restart_in_force : List Segment → ℕ

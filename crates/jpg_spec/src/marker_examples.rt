@@ -1,11 +1,11 @@
 //! Worked examples of markers, segments, comments and words: what the definitions say, by computation.
-ghost use Rattle.std.specs.Prelude.{◌≡◌, List, ℕ, [], ◌∷◌, ◌++◌, Some, None, Ok, Err, codes, replicate};
+ghost use Rattle.std.specs.Prelude.{◌≡◌, List, ℕ, [], ◌∷◌, ◌++◌, true, false, Some, None, Ok, Err, codes, replicate};
 ghost use Rattle.jpg_spec.specs.Segments.{standard_limits};
 ghost use Rattle.jpg_spec.specs.Typical.{dc_luma_counts, dc_luma_values};
 ghost use Rattle.jpg_spec.specs.HuffContents.{definition_told, huffman_tables};
 ghost use Rattle.jpg_spec.specs.QuantContents.{quant_tables};
 ghost use Rattle.jpg_spec.specs.Markers.{code_fault, kept_count, kept_rule, Reaches, at_fault};
-ghost use Rattle.jpg_spec.specs.CommentText.{printed};
+ghost use Rattle.jpg_spec.specs.CommentText.{printed, inserted_head, IsInserted};
 ghost use Rattle.jpg_spec.specs.CommentWords.{read_asked, write_asked, usage_at, words_right, from_to, named};
 ghost use Rattle.jpg_spec.specs.declared.fault.Fault.TheVariants as fault;
 ghost use Rattle.jpg_spec.specs.declared.answers.UsageFault.TheVariants as usage;
@@ -51,6 +51,20 @@ pub fn table_segments_are_told()
 /// `a\b`, CR, LF, `c` and the byte 01 are printed as `a\\b`, LF, `c\001`, LF.
 pub fn comments_are_printed()
     ensures { printed (97 ∷ 92 ∷ 98 ∷ 13 ∷ 10 ∷ 99 ∷ 1 ∷ []) ≡ 97 ∷ 92 ∷ 92 ∷ 98 ∷ 10 ∷ 99 ∷ 92 ∷ 48 ∷ 48 ∷ 49 ∷ 10 ∷ [] }
+{}
+
+/// Before the frame header of a file with an APP0 segment and a comment `old` stand these two and the
+/// comment `hi`, or, where it replaces others, the first and `hi`. An empty comment isn't inserted.
+pub fn comments_are_inserted()
+    ensures behind { inserted_head (codes "hi") false ((0xfe, codes "old") ∷ (0xe0, codes "q") ∷ []) 0xc0 ≡ 0xff ∷ 0xd8 ∷ 0xff ∷ 0xe0 ∷ 0 ∷ 3 ∷ 113 ∷ 0xff ∷ 0xfe ∷ 0 ∷ 5 ∷ 111 ∷ 108 ∷ 100 ∷ 0xff ∷ 0xfe ∷ 0 ∷ 4 ∷ 104 ∷ 105 ∷ 0xff ∷ 0xc0 ∷ [] }
+    ensures replaced { inserted_head (codes "hi") true ((0xfe, codes "old") ∷ (0xe0, codes "q") ∷ []) 0xc0 ≡ 0xff ∷ 0xd8 ∷ 0xff ∷ 0xe0 ∷ 0 ∷ 3 ∷ 113 ∷ 0xff ∷ 0xfe ∷ 0 ∷ 4 ∷ 104 ∷ 105 ∷ 0xff ∷ 0xc0 ∷ [] }
+    ensures empty { inserted_head [] false ((0xe0, codes "q") ∷ []) 0xc2 ≡ 0xff ∷ 0xd8 ∷ 0xff ∷ 0xe0 ∷ 0 ∷ 3 ∷ 113 ∷ 0xff ∷ 0xc2 ∷ [] }
+{}
+
+/// FF D8 FF FF C0 and any bytes: with an empty comment the fill byte goes, and what stands behind the
+/// marker of the frame header stays as it is.
+pub fn fill_is_left_out()
+    ensures { (rest : List ℕ) → IsInserted standard_limits (0xff ∷ 0xd8 ∷ 0xff ∷ 0xff ∷ 0xc0 ∷ rest) [] false (0xff ∷ 0xd8 ∷ 0xff ∷ 0xc0 ∷ rest) }
 {}
 
 /// wrjpgcom alone needs an input; `-cfile a -comment b` names two comments; rdjpgcom takes one file.

@@ -1,8 +1,8 @@
 // Runs of rdjpgcom over a desk in memory (T.81 B.2.4.5, its manual in release 6b).
-use super::strings;
+use super::{refused_at, strings};
 use jpg_base::{MemoryDesk, Name, NoMemory, Text};
 use jpg_cli::{Ended, run};
-use jpg_spec::{Fault, FaultAt, Which, Why};
+use jpg_spec::{Fault, Which, Why};
 use std::alloc::Global;
 use std::test::Fail;
 
@@ -16,10 +16,6 @@ fn desk_with(alloc: Global, bytes: &[u8], piece: u32) -> Result<MemoryDesk, NoMe
     desk.add_file(&Name::In, bytes)?;
     desk.add_file(&Name::File(Text::new(alloc, "a.jpg")?), bytes)?;
     Ok(desk)
-}
-
-fn refused(fault: Fault, at: u64) -> Why {
-    Why::Refused(FaultAt { fault, at })
 }
 
 #[test]
@@ -43,28 +39,28 @@ fn comments_are_printed(rt: HostRuntime) -> Result<(), Fail> {
         (
             b"\xff\xd8\xff\xfe\x00\x04hi\xff\xc3\x00",
             1,
-            refused(Fault::UnsupportedProcess, 10),
+            refused_at(Fault::UnsupportedProcess, 10),
             b"hi\n",
             "rdjpgcom: refused: UnsupportedProcess at byte 10\n",
         ),
         (
             b"\xff\xd8\xff\xfe\x00\x04hi",
             1,
-            refused(Fault::Truncated, 8),
+            refused_at(Fault::Truncated, 8),
             b"hi\n",
             "rdjpgcom: refused: Truncated at byte 8\n",
         ),
         (
             b"GIF89a",
             1,
-            refused(Fault::NotJpeg, 1),
+            refused_at(Fault::NotJpeg, 1),
             b"",
             "rdjpgcom: refused: NotJpeg at byte 1\n",
         ),
         (
             b"",
             1,
-            refused(Fault::Truncated, 0),
+            refused_at(Fault::Truncated, 0),
             b"",
             "rdjpgcom: refused: Truncated at byte 0\n",
         ),

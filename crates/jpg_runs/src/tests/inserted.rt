@@ -1,8 +1,8 @@
 // Runs of wrjpgcom over a desk in memory (T.81 B.2.4.5, its manual in release 6b).
-use super::{SMALLEST, changed, strings, usage_at};
+use super::{SMALLEST, changed, refused_at, strings, usage_at};
 use jpg_base::{Bytes, MemoryDesk, Name, NoMemory, Text};
 use jpg_cli::{Ended, run};
-use jpg_spec::{Fault, FaultAt, UsageFault, Which, Why};
+use jpg_spec::{Fault, UsageFault, Which, Why};
 use std::alloc::Global;
 use std::test::Fail;
 
@@ -27,10 +27,6 @@ fn desk_with(alloc: Global, bytes: &[u8], piece: u32) -> Result<MemoryDesk, NoMe
     desk.add_file(&Name::File(Text::new(alloc, "a.jpg")?), FILE)?;
     desk.add_file(&Name::File(Text::new(alloc, "note")?), b"new")?;
     Ok(desk)
-}
-
-fn refused(fault: Fault, at: u64) -> Why {
-    Why::Refused(FaultAt { fault, at })
 }
 
 #[test]
@@ -91,19 +87,19 @@ fn refused_inputs_create_nothing(rt: HostRuntime) -> Result<(), Fail> {
         (
             &["wrjpgcom", "-comment", "hi"],
             b"\xff\xd8\xff\xd9",
-            refused(Fault::UnexpectedMarker, 4),
+            refused_at(Fault::UnexpectedMarker, 4),
             "wrjpgcom: refused: UnexpectedMarker at byte 4\n",
         ),
         (
             &["wrjpgcom", "-comment", "hi"],
             b"\xff\xd8\xff\xfe\x00\x05old\xff\xff",
-            refused(Fault::Truncated, 11),
+            refused_at(Fault::Truncated, 11),
             "wrjpgcom: refused: Truncated at byte 11\n",
         ),
         (
             &["wrjpgcom", "-cfile", "note"],
             b"GIF89a",
-            refused(Fault::NotJpeg, 1),
+            refused_at(Fault::NotJpeg, 1),
             "wrjpgcom: refused: NotJpeg at byte 1\n",
         ),
         (
@@ -144,8 +140,8 @@ fn long_comments_are_judged_before_the_input(rt: HostRuntime) -> Result<(), Fail
     let words = strings(rt.alloc(), &["wrjpgcom", "-cfile", "long", "absent"])?;
     let rows = [
         (65_000, Why::OpenFault(Which::Input)),
-        (65_001, refused(Fault::CommentTooLong, 65_001)),
-        (65_002, refused(Fault::CommentTooLong, 65_001)),
+        (65_001, refused_at(Fault::CommentTooLong, 65_001)),
+        (65_002, refused_at(Fault::CommentTooLong, 65_001)),
     ];
     for (length, why) in rows {
         let mut comment = Bytes::new(rt.alloc());
