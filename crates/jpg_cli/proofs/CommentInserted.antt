@@ -11,7 +11,6 @@ use Rattle.jpg_base.specs.Desk.{AddsOutput, AfterWrite, AppendsLast, Creates, De
 use Rattle.jpg_base.specs.Laws.{Consumes-then, Grows-from, NoneFell-then, NotesNames, NotesNames-then}
 use Rattle.jpg_huff.specs.Out.{OnlyWrites}
 use Rattle.jpg_spec.specs.Segments.{standard_limits}
-use Rattle.jpg_spec.specs.CommentText.{ShowsNothing}
 use Rattle.jpg_spec.specs.declared.frame.Limits.{Limits}
 use Rattle.jpg_markers.specs.Reading.{reading_of}
 use Rattle.jpg_spec.specs.CommentWords.{CommentSource, from_input, from_words, from_file, is_given}
@@ -21,12 +20,12 @@ use Rattle.jpg_spec.specs.declared.answers.FaultAt.{FaultAt}
 use Rattle.jpg_spec.specs.declared.answers.Why.{Why}
 use Rattle.jpg_spec.specs.declared.answers.Why.TheVariants as why
 use Rattle.jpg_spec.specs.declared.answers.Which.TheVariants as which
-use Rattle.jpg_comments.specs.Inserting.{HoldsHead, InsertsPart}
+use Rattle.jpg_comments.specs.Inserting.{InsertsPart}
 use Rattle.jpg_comments.specs.WriteInserted.{HasInserted, StandsAt}
 use Rattle.jpg_comments.specs.declared.insert.Insert.{Insert}
 use Rattle.jpg_cli.specs.CommentInserted.{AfterBegin, Inserted, IsOutOfMemory, IsOutputUncreated, IsComment, IsReading, IsShortComment, IsWriting, ReadsAlone, Task, WritesText, asked_comment, asked_to_input, asked_to_output}
 use Rattle.jpg_cli.specs.CommentTaken.{AfterComment, AfterFile, AfterWords}
-use Rattle.jpg_cli.specs.InsertComment.{AfterFed, EndsBefore, EndsInserting, IsAtHead, IsBegunWith, IsFaultBefore, IsLongFile, IsWholeFile}
+use Rattle.jpg_cli.specs.InsertComment.{AfterFed, EndsBefore, EndsInserting, IsAtHead, IsBegunWith, IsFaultBefore, IsLongFile, IsNoHead, IsWholeFile}
 use Rattle.jpg_cli.specs.ReadComments.{Copies, HasCopied, OnlyCopies, asked_one, rest_of}
 use Rattle.jpg_cli.specs.Reading.{IsFile, Keeps, OnlyReads}
 use Rattle.jpg_cli.proofs.CommentsPrinted.{file_read}
@@ -200,7 +199,7 @@ ended_before task comment bytes old s0 s1 (why.Refused f) r k (piece, more, is) 
     inr (inl (reads_alone task comment (bytes ++ piece) old s1 (IsFaultBefore f (rest_of s1.left)) (reading_more task comment bytes piece old s0 s1 r k more) is))
 ended_before task comment bytes old s0 s1 (why.OpenFault w) r k h = absurd h
 ended_before task comment bytes old s0 s1 (why.ReadFault which.Input) r k (same, nothing, rose) = (
-  inl (reads_alone task comment bytes old s1 (ShowsNothing standard_limits (HoldsHead standard_limits)) (reading_still task comment bytes old s0 s1 r k same) nothing),
+  inl (reads_alone task comment bytes old s1 IsNoHead (reading_still task comment bytes old s0 s1 r k same) nothing),
   (let f = r.counts.reads in omega (arith, rose, f)),
 )
 ended_before task comment bytes old s0 s1 (why.ReadFault which.Script) r k h = absurd h

@@ -42,6 +42,7 @@ text_so_far bytes text c e h =
     let p = printed_so_far bytes text c e h in
     record {
       before = p.0;
+      short = subst (λ (l : Limits). length bytes < l.input) e h.2;
       nothing = p.1.nothing;
       begun = begun standard_limits (reading_of c.reader) bytes p.0 p.1.limited p.1.stands;
       is = p.3;

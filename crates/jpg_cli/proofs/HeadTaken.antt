@@ -43,7 +43,7 @@ nothing_there comment bytes c e h = by c.taken (stands comment bytes [] c e h)
     by (Some taken) s = absurd (not_none [] refl (text_is_some bytes comment [] c.replace s.1))
 
 pub head_unread : (comment bytes : List ℕ) (s0 s1 : DeskState) (c : Insert) → c.limits ≡ standard_limits → HasInserted comment bytes [] c → Rose s0.counts.reads s1.counts.reads → s1.left ≡ s0.left → EndsBefore bytes s0 (why.ReadFault which.Input) s1
-head_unread comment bytes s0 s1 c e h rose left = (left, (nothing_there comment bytes c e h).shows, rose)
+head_unread comment bytes s0 s1 c e h rose left = (let nothing = nothing_there comment bytes c e h in (left, (nothing.shows, nothing.short), rose))
 
 -- AT THE MARKER
 

@@ -9,16 +9,15 @@ use Rattle.jpg_base.specs.declared.names.Put.TheVariants as put
 use Rattle.jpg_base.specs.Desk.{DeskState}
 use Rattle.jpg_base.specs.Laws.{Grows, NotesNames}
 use Rattle.jpg_spec.specs.Segments.{standard_limits}
-use Rattle.jpg_spec.specs.CommentText.{ShowsNothing}
 use Rattle.jpg_spec.specs.declared.answers.FaultAt.{FaultAt}
 use Rattle.jpg_spec.specs.declared.answers.Why.{Why}
 use Rattle.jpg_spec.specs.declared.answers.Why.TheVariants as why
 use Rattle.jpg_spec.specs.declared.answers.Which.TheVariants as which
-use Rattle.jpg_comments.specs.Inserting.{HoldsHead, InsertsPart}
+use Rattle.jpg_comments.specs.Inserting.{InsertsPart}
 use Rattle.jpg_cli.specs.Saying.{OnlySays}
 use Rattle.jpg_cli.specs.Reading.{IsFile}
 use Rattle.jpg_cli.specs.ReadComments.{rest_of}
-use Rattle.jpg_cli.specs.InsertComment.{IsFaultBefore, IsLongFile, IsWholeFile}
+use Rattle.jpg_cli.specs.InsertComment.{IsFaultBefore, IsLongFile, IsNoHead, IsWholeFile}
 use Rattle.jpg_cli.specs.CommentInserted.{Inserted, IsComment, IsInsertDue, ReadsAlone, Task, WritesText, asked_comment, asked_to_input, asked_to_output, task_told}
 use Rattle.jpg_cli.specs.CommentWords.{comment_told, file_told, write_told}
 use Rattle.jpg_cli.specs.declared.comment_words.WriteWords.{WriteWords}
@@ -106,7 +105,7 @@ inserted_then s0 s1 s2 task (why.OpenFault which.Output) k h = record {
   is = h.is;
 }
 inserted_then s0 s1 s2 task (why.ReadFault which.Input) k (inl h, rose) =
-    (inl (reads_then s0 s1 s2 task (ShowsNothing standard_limits (HoldsHead standard_limits)) k h), (let f = k.counts.reads in omega (arith, rose, f)))
+    (inl (reads_then s0 s1 s2 task IsNoHead k h), (let f = k.counts.reads in omega (arith, rose, f)))
 inserted_then s0 s1 s2 task (why.ReadFault which.Input) k (inr h, rose) =
     (inr (writes_then s0 s1 s2 task (λ comment. IsWholeFile comment task.replace) k h), (let f = k.counts.reads in omega (arith, rose, f)))
 inserted_then s0 s1 s2 task (why.ReadFault which.Script) k h = absurd h

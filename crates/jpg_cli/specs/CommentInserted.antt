@@ -8,19 +8,19 @@ use Rattle.jpg_base.specs.declared.names.Put.TheVariants as put
 use Rattle.jpg_base.specs.Desk.{AddsOutput, AppendsLast, DeskState, NoneFell, OpensFile, Rose}
 use Rattle.jpg_base.specs.Laws.{NotesNames, Grows}
 use Rattle.jpg_spec.specs.Segments.{standard_limits}
-use Rattle.jpg_spec.specs.CommentText.{IsInsertFault, ShowsNothing}
+use Rattle.jpg_spec.specs.CommentText.{IsInsertFault}
 use Rattle.jpg_spec.specs.CommentWords.{CommentSource, from_input, from_words, from_file, is_given}
 use Rattle.jpg_spec.specs.declared.fault.Fault.TheVariants.{CommentTooLong}
 use Rattle.jpg_spec.specs.declared.answers.FaultAt.{FaultAt}
 use Rattle.jpg_spec.specs.declared.answers.Why.{Why}
 use Rattle.jpg_spec.specs.declared.answers.Why.TheVariants as why
 use Rattle.jpg_spec.specs.declared.answers.Which.TheVariants as which
-use Rattle.jpg_comments.specs.Inserting.{HoldsHead, InsertsPart}
+use Rattle.jpg_comments.specs.Inserting.{InsertsPart}
 use Rattle.jpg_comments.specs.WriteInserted.{HasInserted}
 use Rattle.jpg_comments.specs.declared.insert.Insert.{Insert}
 use Rattle.jpg_cli.specs.CommentWords.{comment_told}
 use Rattle.jpg_cli.specs.declared.comment_words.WriteWords.{WriteWords}
-use Rattle.jpg_cli.specs.InsertComment.{IsAtHead, IsFaultBefore, IsLongFile, IsWholeFile}
+use Rattle.jpg_cli.specs.InsertComment.{IsAtHead, IsFaultBefore, IsLongFile, IsNoHead, IsWholeFile}
 use Rattle.jpg_cli.specs.ReadComments.{rest_of}
 use Rattle.jpg_cli.specs.Reading.{IsFile}
 
@@ -147,8 +147,7 @@ Inserted task old (why.OpenFault which.Input) new = IsInputUnopened task old new
 Inserted task old (why.OpenFault which.Output) new = IsOutputUncreated task old new
 Inserted task old (why.ReadFault which.Comment) new = IsCommentUnread task old new
 Inserted task old (why.ReadFault which.Input) new =
-    (ReadsAlone task (ShowsNothing standard_limits (HoldsHead standard_limits)) old new ⊎ WritesText task (λ comment. IsWholeFile comment task.replace) old new)
-    × Rose old.counts.reads new.counts.reads
+    (ReadsAlone task IsNoHead old new ⊎ WritesText task (λ comment. IsWholeFile comment task.replace) old new) × Rose old.counts.reads new.counts.reads
 Inserted task old why.WriteFault new = WritesText task (λ comment. InsertsPart standard_limits comment task.replace) old new × Rose old.counts.writes new.counts.writes
 Inserted task old why.NoMemory new = IsOutOfMemory task old new ⊎ WritesText task (λ comment. InsertsPart standard_limits comment task.replace) old new
 Inserted task old other new = ⊥

@@ -72,10 +72,14 @@ IsFaultBefore f rest bytes = IsHeadFault standard_limits (bytes ++ rest) f.fault
 abbrev pub IsAtHead : List ℕ → Type 0
 IsAtHead bytes = (count : ℕ) × (count ≤ length bytes) × (length bytes < count + 65536) × HoldsHead standard_limits (take count bytes)
 
+-- no fault and no such marker, in fewer bytes than may be taken
+abbrev pub IsNoHead : List ℕ → Type 0
+IsNoHead bytes = ShowsNothing standard_limits (HoldsHead standard_limits) bytes × (length bytes < standard_limits.input)
+
 -- from these bytes on, why the reading ended
 abbrev pub EndsBefore : List ℕ → DeskState → Why → DeskState → Type 0
 EndsBefore bytes old (why.Refused f) new = (piece : List ℕ) × Consumes old.left new.left piece × IsFaultBefore f (rest_of new.left) (bytes ++ piece)
-EndsBefore bytes old (why.ReadFault which.Input) new = (new.left ≡ old.left) × ShowsNothing standard_limits (HoldsHead standard_limits) bytes × Rose old.counts.reads new.counts.reads
+EndsBefore bytes old (why.ReadFault which.Input) new = (new.left ≡ old.left) × IsNoHead bytes × Rose old.counts.reads new.counts.reads
 EndsBefore bytes old why.NoMemory new = Unit {0}
 EndsBefore bytes old other new = ⊥
 

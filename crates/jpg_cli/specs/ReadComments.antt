@@ -43,9 +43,10 @@ pub record IsFaultText (f : FaultAt) (rest bytes text : List ℕ) : Type 0 where
   pub whole : AreWholeBefore standard_limits (take f.at (bytes ++ rest)) f.fault before
   pub is : text ≡ comments_text before
 
--- The bytes show no fault and hold no whole file. The text is that of the comments that are whole in them.
+-- The bytes are fewer than may be taken, show no fault and hold no whole file. The text is that of the comments that are whole in them.
 pub record IsTextSoFar (bytes text : List ℕ) : Type 0 where
   pub before : List Segment
+  pub short : length bytes < standard_limits.input
   pub nothing : ShowsNothing standard_limits (HoldsWhole standard_limits) bytes
   pub begun : IsBegun (kept_rule standard_limits) bytes before
   pub is : text ≡ comments_text before
