@@ -1,4 +1,5 @@
 pub mod Asking
+pub mod Certain
 pub mod CommentInserted
 pub mod CommentsCopied
 pub mod CommentsPrinted

@@ -1,4 +1,5 @@
 pub mod FirstScan
+pub mod Certain
 pub mod Commands
 pub mod CommentInserted
 pub mod CommentTaken

@@ -1,10 +1,15 @@
 //! Laws over what a run does, each on a function that does nothing.
+ghost use Rattle.std.specs.Prelude.{◌≤◌, ◌<◌, ℕ, List, length, take};
 ghost use Rattle.jpg_base.specs.Desk.{DeskState};
+ghost use Rattle.jpg_spec.specs.Segments.{standard_limits};
+ghost use Rattle.jpg_spec.specs.Markers.{Segment};
+ghost use Rattle.jpg_spec.specs.CommentText.{IsInserted, IsReadWhole};
 ghost use Rattle.jpg_spec.specs.declared.answers.Why.{Why};
 ghost use Rattle.jpg_base.specs.declared.names.Name.{Name};
 ghost use Rattle.jpg_cli.specs.Run.{IsDue, NoneRose, Turned};
 ghost use Rattle.jpg_cli.specs.ReadComments.{IsPrintDue, Printed};
 ghost use Rattle.jpg_cli.specs.CommentInserted.{Inserted, IsInsertDue, Task};
+ghost use Rattle.jpg_cli.specs.Certain.{IsDoneOrWanting, IsTold, IsToldComment};
 
 /// Where no count of open, read or write rose, a run that turns a picture ends as its input says: Done
 /// where it means a picture by its one gray scan, Refused with its first fault or as not built yet, or
@@ -24,4 +29,18 @@ pub fn printed_comments_are_due()
 /// input, or NoMemory.
 pub fn inserted_comments_are_due()
     ensures { (old new : DeskState) (task : Task) (why : Why) → NoneRose old.counts new.counts → Inserted task old why new → IsInsertDue task old why }
+{}
+
+/// A file that is whole up to its first scan header, or up to EOI before any, has its comments printed:
+/// where the desk tells it, and no count of open, read or write rose, the run ends with Done, or for want
+/// of memory.
+pub fn whole_files_have_their_comments_printed()
+    ensures { (old new : DeskState) (input output : Name) (why : Why) (bytes : List ℕ) (n : ℕ) (before : List Segment) → IsTold old.files input bytes → n ≤ length bytes → n ≤ standard_limits.input → IsReadWhole standard_limits (take n bytes) before → NoneRose old.counts new.counts → Printed input output old why new → IsDoneOrWanting why }
+{}
+
+/// A file with a frame header, and shorter than an input may be, has a comment of at most 65,000 bytes
+/// inserted: where the desk tells both, and no count of open, read or write rose, the run ends with Done,
+/// or for want of memory.
+pub fn files_with_a_frame_header_have_the_comment_inserted()
+    ensures { (old new : DeskState) (task : Task) (why : Why) (comment bytes text : List ℕ) → IsToldComment old task.comment comment → length comment ≤ 65000 → IsTold old.files task.input bytes → IsInserted standard_limits bytes comment task.replace text → length bytes < standard_limits.input → NoneRose old.counts new.counts → Inserted task old why new → IsDoneOrWanting why }
 {}

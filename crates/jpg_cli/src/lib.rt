@@ -18,6 +18,9 @@ mod words;
 mod writing;
 
 pub use comment_words::{CommentFrom, Files, WordsStop, WriteWords};
-pub use laws::{answers_are_due, inserted_comments_are_due, printed_comments_are_due};
+pub use laws::{
+    answers_are_due, files_with_a_frame_header_have_the_comment_inserted,
+    inserted_comments_are_due, printed_comments_are_due, whole_files_have_their_comments_printed,
+};
 pub use top::{Ended, run};
 pub use words::{Asked, read_words};

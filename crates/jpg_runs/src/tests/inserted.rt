@@ -1,5 +1,5 @@
 // Runs of wrjpgcom over a desk in memory (T.81 B.2.4.5, its manual in release 6b).
-use super::{SMALLEST, changed, refused_at, strings, usage_at};
+use super::{Change, changed, refused_at, strings, usage_at};
 use jpg_base::{Bytes, MemoryDesk, Name, NoMemory, Text};
 use jpg_cli::{Ended, run};
 use jpg_spec::{Fault, UsageFault, Which, Why};
@@ -65,17 +65,25 @@ fn comments_are_inserted(rt: HostRuntime) -> Result<(), Fail> {
     Ok(())
 }
 
+// `hi` takes six bytes before the frame header; an empty comment takes none, and a fill byte goes.
 #[test]
-fn the_smallest_file_gains_six_bytes(rt: HostRuntime) -> Result<(), Fail> {
-    let words = strings(rt.alloc(), &["wrjpgcom", "-comment", "hi"])?;
-    let text = changed(rt.alloc(), &[(89, 89, b"\xff\xfe\x00\x04hi")])?;
-    for piece in [1, 65_536] {
-        let mut desk = desk_with(rt.alloc(), &SMALLEST, piece)?;
-        let ended = run(rt.alloc(), words.as_slice(), &mut desk);
-        assert_eq!(rt; ended.why, Why::Done);
-        assert_eq!(rt; desk.outputs(), 1);
-        if desk.outputs() == 1 {
-            assert!(rt; desk.output(0) == text.as_slice());
+fn the_smallest_file_gains_a_comment(rt: HostRuntime) -> Result<(), Fail> {
+    let rows: [(&str, &[Change], &[Change]); 2] = [
+        ("hi", &[], &[(89, 89, b"\xff\xfe\x00\x04hi")]),
+        ("", &[(2, 2, b"\xff")], &[]),
+    ];
+    for (comment, input, text) in rows {
+        let words = strings(rt.alloc(), &["wrjpgcom", "-comment", comment])?;
+        let input = changed(rt.alloc(), input)?;
+        let text = changed(rt.alloc(), text)?;
+        for piece in [1, 65_536] {
+            let mut desk = desk_with(rt.alloc(), input.as_slice(), piece)?;
+            let ended = run(rt.alloc(), words.as_slice(), &mut desk);
+            assert_eq!(rt; ended.why, Why::Done, "{comment}");
+            assert_eq!(rt; desk.outputs(), 1, "{comment}");
+            if desk.outputs() == 1 {
+                assert!(rt; desk.output(0) == text.as_slice(), "{comment}");
+            }
         }
     }
     Ok(())
