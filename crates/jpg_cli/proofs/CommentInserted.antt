@@ -11,7 +11,6 @@ use Rattle.jpg_base.specs.Desk.{AddsOutput, AfterWrite, AppendsLast, Creates, De
 use Rattle.jpg_base.specs.Laws.{Consumes-then, Grows-from, NoneFell-then, NotesNames, NotesNames-then}
 use Rattle.jpg_huff.specs.Out.{OnlyWrites}
 use Rattle.jpg_spec.specs.Segments.{standard_limits}
-use Rattle.jpg_spec.specs.declared.frame.Limits.{Limits}
 use Rattle.jpg_markers.specs.Reading.{reading_of}
 use Rattle.jpg_spec.specs.CommentWords.{CommentSource, from_input, from_words, from_file, is_given}
 use Rattle.jpg_spec.specs.declared.fault.Fault.{Fault}
@@ -30,13 +29,14 @@ use Rattle.jpg_cli.specs.ReadComments.{Copies, HasCopied, OnlyCopies, asked_one,
 use Rattle.jpg_cli.specs.Reading.{IsFile, Keeps, OnlyReads}
 use Rattle.jpg_cli.proofs.CommentsPrinted.{file_read}
 use Rattle.jpg_cli.proofs.CommentsCopied.{had_told, none_read}
-use Rattle.jpg_cli.proofs.InsertedCopied.{fed_part, not_none, part_of_part, stands}
+use Rattle.jpg_cli.proofs.InsertedCopied.{fed_part, fed_short, not_none, part_of_part, stands}
 
 -- READING
 
 -- more bytes were read
-pub reading_more : (task : Task) (comment bytes piece : List ℕ) (old s0 s1 : DeskState) → IsReading task comment bytes old s0 → OnlyReads s0 s1 → Consumes s0.left s1.left piece → IsReading task comment (bytes ++ piece) old s1
-reading_more task comment bytes piece old s0 s1 r k more = record {
+pub reading_more : (task : Task) (comment bytes piece : List ℕ) (old s0 s1 : DeskState) → length (bytes ++ piece) ≤ standard_limits.input → IsReading task comment bytes old s0 → OnlyReads s0 s1 → Consumes s0.left s1.left piece → IsReading task comment (bytes ++ piece) old s1
+reading_more task comment bytes piece old s0 s1 most r k more = record {
+  most = most;
   left = r.left;
   names = (let P : Option (List (Name × Put)) → Type 0 = λ a. NotesNames old.asked (asked_to_input task put.Done) a in subst P (sym k.asked) r.names);
   source = r.source;
@@ -60,6 +60,7 @@ uncreated task comment bytes old s0 s1 at r k = record {
   outputs = k.after.1 ∙ r.outputs;
   opens = (let rose = k.after.0 in let f = r.counts.opens in omega arith);
   source = r.source;
+  most = r.most;
   file = file_read old.files task.input r.left s1.left bytes r.opened (let P : Option (List ℕ) → Type 0 = λ l. Consumes r.left l bytes in subst P (sym k.left) r.read);
   is = at;
 }
@@ -73,6 +74,7 @@ written_first task comment bytes text old s0 s1 s2 r k w appended = record {
   source = r.source;
   opened = r.opened;
   read = (let P : Option (List ℕ) → Type 0 = λ l. Consumes r.left l bytes in subst P (sym (w.left ∙ k.left)) r.read);
+  most = r.most;
   adds = (let P : Option (List (Name × List ℕ)) → Type 0 = λ o. AddsOutput o task.output s1.outputs in subst P r.outputs k.after.1);
   written = appended;
   counts = NoneFell-then old.counts s1.counts s2.counts (NoneFell-then old.counts s0.counts s1.counts r.counts k.counts) w.counts;
@@ -87,6 +89,7 @@ writes task comment bytes text old now Is w is = record {
   names = w.names;
   source = w.source;
   file = file_read old.files task.input w.left now.left bytes w.opened w.read;
+  most = w.most;
   outputs = Grows-from old.outputs w.created now.outputs task.output text w.adds w.written;
   is = is;
 }
@@ -129,7 +132,7 @@ abbrev pub begun : (task : Task) (comment bytes text : List ℕ) (old now : Desk
 begun task comment bytes text old now w = had_told w.left w.created now
 
 pub copied_begun : (task : Task) (comment bytes text : List ℕ) (old now : DeskState) (w : IsWriting task comment bytes text old now) → HasCopied (begun task comment bytes text old now w) bytes text now
-copied_begun task comment bytes text old now w = record { read = w.read; written = w.written }
+copied_begun task comment bytes text old now w = record { most = w.most; read = w.read; written = w.written }
 
 -- more bytes were read, and their text written
 pub writing_more : (task : Task) (comment bytes text more all : List ℕ) (old s0 s1 : DeskState) (w : IsWriting task comment bytes text old s0) → OnlyCopies s0 s1 → HasCopied (begun task comment bytes text old s0 w) more all s1 → IsWriting task comment more all old s1
@@ -140,6 +143,7 @@ writing_more task comment bytes text more all old s0 s1 w k h = record {
   source = w.source;
   opened = w.opened;
   read = h.read;
+  most = h.most;
   adds = w.adds;
   written = h.written;
   counts = NoneFell-then old.counts s0.counts s1.counts w.counts k.counts;
@@ -176,6 +180,7 @@ reads_alone task comment bytes old now Is r is = record {
   outputs = r.outputs;
   source = r.source;
   file = file_read old.files task.input r.left now.left bytes r.opened r.read;
+  most = r.most;
   is = is;
 }
 
@@ -183,7 +188,7 @@ reads_alone task comment bytes old now Is r is = record {
 reading_still : (task : Task) (comment bytes : List ℕ) (old s0 s1 : DeskState) → IsReading task comment bytes old s0 → OnlyReads s0 s1 → s1.left ≡ s0.left → IsReading task comment bytes old s1
 reading_still task comment bytes old s0 s1 r k same =
     let P : Option (List ℕ) → Type 0 = λ l. Consumes s0.left l [] in
-    subst (λ (b : List ℕ). IsReading task comment b old s1) (append-nil bytes) (reading_more task comment bytes [] old s0 s1 r k (subst P (sym same) (none_read s0.left)))
+    subst (λ (b : List ℕ). IsReading task comment b old s1) (append-nil bytes) (reading_more task comment bytes [] old s0 s1 (let most = r.most in omega (arith, most, ap length (append-nil bytes))) r k (subst P (sym same) (none_read s0.left)))
 
 out_of_memory : (task : Task) (comment bytes : List ℕ) (old s0 s1 : DeskState) → IsReading task comment bytes old s0 → OnlyReads s0 s1 → IsOutOfMemory task old s1
 out_of_memory task comment bytes old s0 s1 r k =
@@ -195,8 +200,8 @@ out_of_memory task comment bytes old s0 s1 r k =
 pub ended_before : (task : Task) (comment bytes : List ℕ) (old s0 s1 : DeskState) (w : Why) → IsReading task comment bytes old s0 → OnlyReads s0 s1 → EndsBefore bytes s0 w s1 → Inserted task old w s1
 ended_before task comment bytes old s0 s1 why.Done r k h = absurd h
 ended_before task comment bytes old s0 s1 (why.Usage u) r k h = absurd h
-ended_before task comment bytes old s0 s1 (why.Refused f) r k (piece, more, is) =
-    inr (inl (reads_alone task comment (bytes ++ piece) old s1 (IsFaultBefore f (rest_of s1.left)) (reading_more task comment bytes piece old s0 s1 r k more) is))
+ended_before task comment bytes old s0 s1 (why.Refused f) r k (piece, more, most, is) =
+    inr (inl (reads_alone task comment (bytes ++ piece) old s1 (IsFaultBefore f (rest_of s1.left)) (reading_more task comment bytes piece old s0 s1 most r k more) is))
 ended_before task comment bytes old s0 s1 (why.OpenFault w) r k h = absurd h
 ended_before task comment bytes old s0 s1 (why.ReadFault which.Input) r k (same, nothing, rose) = (
   inl (reads_alone task comment bytes old s1 IsNoHead (reading_still task comment bytes old s0 s1 r k same) nothing),
@@ -222,6 +227,9 @@ reads_then a b c h k = record {
 
 -- THE LOOPS
 
+pub fed_most : (comment bytes text : List ℕ) (c : Insert) → c.limits ≡ standard_limits → HasInserted comment bytes text c → length bytes ≤ standard_limits.input
+fed_most comment bytes text c e h = (let short = fed_short comment bytes text c e h in omega (arith, short))
+
 -- where the first text was written, more may come
 pub more_begun : (result due : Option Why) (replace : Bool) (comment bytes text : List ℕ) (c : Insert) → IfNone result (due ≡ None) → 0 < length text → AfterFed comment replace bytes text due c
     → IfNone result ((with : List ℕ) × (all : List ℕ) × (written : List ℕ) × (0 < length written) × HasInserted with all written c)
@@ -230,7 +238,7 @@ more_begun (Some w) due replace comment bytes text c none some h = tt
 
 -- the number of bytes taken, behind the marker
 pub taken_behind : (comment bytes text : List ℕ) (c : Insert) → c.limits ≡ standard_limits → 0 < length text → HasInserted comment bytes text c → (unwrap_or c.taken 0 ≡ length bytes) × (length bytes < standard_limits.input)
-taken_behind comment bytes text c e some h = (by c.taken (stands comment bytes text c e h), subst (λ (l : Limits). length bytes < l.input) e h.1)
+taken_behind comment bytes text c e some h = (by c.taken (stands comment bytes text c e h), fed_short comment bytes text c e h)
   where
     by : (taken : Option ℕ) → StandsAt standard_limits comment c.replace bytes text taken c.head (reading_of c.reader) → unwrap_or taken 0 ≡ length bytes
     by None s = absurd (not_none text s.1 some)
@@ -240,8 +248,8 @@ taken_behind comment bytes text c e some h = (by c.taken (stands comment bytes t
 abbrev pub blank : DeskState → DeskState
 blank s = had_told None None s
 
-pub blank_copied : (s : DeskState) (bytes text : List ℕ) → HasCopied (blank s) bytes text s
-blank_copied s bytes text = record { read = tt; written = tt }
+pub blank_copied : (s : DeskState) (bytes text : List ℕ) → length bytes < standard_limits.input → HasCopied (blank s) bytes text s
+blank_copied s bytes text short = record { most = omega (arith, short); read = tt; written = tt }
 
 -- each piece makes the bytes that may still come fewer
 pub fewer : (comment bytes piece text all : List ℕ) (was c : Insert) → was.limits ≡ standard_limits → c.limits ≡ standard_limits → 0 < length text → 0 < length all → 0 < length piece → HasInserted comment bytes text was → HasInserted comment (bytes ++ piece) all c
@@ -386,6 +394,7 @@ input_opened task old s1 s2 bytes k h short o = record {
   source = short_comment old s1 task.comment bytes h short;
   opened = (let P : Option (Name → Option (List ℕ)) → Type 0 = λ files. OpensFile files task.input s2.left in subst P k.files o.after.2);
   read = none_read s2.left;
+  most = omega arith;
   outputs = o.outputs ∙ k.outputs;
   counts = NoneFell-then old.counts s1.counts s2.counts k.counts o.counts;
 }

@@ -1,6 +1,6 @@
 -- What reading pieces and writing the text of their comments comes to, over the states that a desk tells.
-use Rattle.std.proofs.Common.{◌≡◌, ℕ, ◌<◌, ◌≤◌, List, [], ◌∷◌, ◌++◌, length, take, Option, None, Some, refl, sym, ap, ◌∙◌, subst, arith}
-use Rattle.std.proofs.lemmas.List.{append-nil, length-take}
+use Rattle.std.proofs.Common.{◌≡◌, ℕ, ◌+◌, ◌==◌, Bool, true, ◌<◌, ◌≤◌, List, [], ◌∷◌, ◌++◌, length, take, Option, None, Some, refl, sym, ap, ◌∙◌, subst, arith}
+use Rattle.std.proofs.lemmas.List.{append-nil, length-append, length-take}
 use Rattle.std.specs.Io.KnownBytes.{Consumes, IsAtEnd}
 use Rattle.jpg_base.specs.declared.names.Name.{Name}
 use Rattle.jpg_base.specs.declared.names.Put.TheVariants as put
@@ -9,6 +9,7 @@ use Rattle.jpg_base.specs.Desk.{DeskState, NoneFell, Rose, AppendsLast, append_l
 use Rattle.jpg_base.specs.Laws.{NoneFell-then, Consumes-then, AppendsLast-then, AppendsPart-then}
 use Rattle.jpg_huff.specs.Out.{OnlyWrites}
 use Rattle.jpg_spec.specs.Segments.{standard_limits}
+use Rattle.jpg_spec.specs.declared.frame.Limits.{Limits}
 use Rattle.jpg_spec.specs.declared.answers.Why.{Why}
 use Rattle.jpg_spec.specs.declared.answers.Why.TheVariants as why
 use Rattle.jpg_spec.specs.declared.answers.Which.TheVariants as which
@@ -71,16 +72,17 @@ pub left_still : (s0 s1 : DeskState) (bytes : List ℕ) (start : DeskState) → 
 left_still s0 s1 bytes start e h = let P : Option (List ℕ) → Type 0 = λ o. Consumes start.left o bytes in subst P (sym e) h
 
 -- a piece was read, and the text that was added is written
-pub copied : (start s0 s1 s2 : DeskState) (bytes text piece more : List ℕ) → HasCopied start bytes text s0 → Consumes s0.left s1.left piece → s1.outputs ≡ s0.outputs → OnlyWrites s1 s2 → AppendsLast s1.outputs more s2.outputs
+pub copied : (start s0 s1 s2 : DeskState) (bytes text piece more : List ℕ) → length (bytes ++ piece) ≤ standard_limits.input → HasCopied start bytes text s0 → Consumes s0.left s1.left piece → s1.outputs ≡ s0.outputs → OnlyWrites s1 s2 → AppendsLast s1.outputs more s2.outputs
     → HasCopied start (bytes ++ piece) (text ++ more) s2
-copied start s0 s1 s2 bytes text piece more h read same k w = record {
+copied start s0 s1 s2 bytes text piece more most h read same k w = record {
+  most = most;
   read = left_still s1 s2 (bytes ++ piece) start k.left (Consumes-then start.left s0.left s1.left bytes piece h.read read);
   written = AppendsLast-then start.outputs s1.outputs s2.outputs text more (outputs_still s0 s1 text start same h.written) w;
 }
 
 -- Nothing was read or written.
 pub copied_still : (start s0 s1 : DeskState) (bytes text : List ℕ) → HasCopied start bytes text s0 → s1.left ≡ s0.left → s1.outputs ≡ s0.outputs → HasCopied start bytes text s1
-copied_still start s0 s1 bytes text h left outputs = record { read = left_still s0 s1 bytes start left h.read; written = outputs_still s0 s1 text start outputs h.written }
+copied_still start s0 s1 bytes text h left outputs = record { most = h.most; read = left_still s0 s1 bytes start left h.read; written = outputs_still s0 s1 text start outputs h.written }
 
 -- all was written: what the piece came to is so of the desk
 pub next_due : (start s2 : DeskState) (bytes text piece all : List ℕ) (due : Option Why) (c : Comments) → 0 < length piece → AfterTaking (bytes ++ piece) all due c → HasCopied start (bytes ++ piece) all s2 → AfterNext start bytes due c s2
@@ -94,12 +96,12 @@ next_due start s2 bytes text piece all (Some why.WriteFault) c some h k = absurd
 next_due start s2 bytes text piece all (Some why.NoMemory) c some h k = (bytes ++ piece, all, k, h)
 
 -- a part was written alone
-pub next_unwritten : (start s0 s1 s2 : DeskState) (bytes text piece more : List ℕ) (due : Option Why) (c : Comments) → c.limits ≡ standard_limits → OnlyCopies start s0 → NoneFell s0.counts s1.counts → AfterTaking (bytes ++ piece) (text ++ more) due c
+pub next_unwritten : (start s0 s1 s2 : DeskState) (bytes text piece more : List ℕ) (due : Option Why) (c : Comments) → length (bytes ++ piece) ≤ standard_limits.input → c.limits ≡ standard_limits → OnlyCopies start s0 → NoneFell s0.counts s1.counts → AfterTaking (bytes ++ piece) (text ++ more) due c
     → HasCopied start bytes text s0 → Consumes s0.left s1.left piece → s1.outputs ≡ s0.outputs → OnlyWrites s1 s2 → AfterWrite s1 more put.Failed s2 → EndsCopying start why.WriteFault s2
-next_unwritten start s0 s1 s2 bytes text piece more due c e still fell h had read same k w =
+next_unwritten start s0 s1 s2 bytes text piece more due c most e still fell h had read same k w =
     let written = AppendsPart-then start.outputs s1.outputs s2.outputs text more (outputs_still s0 s1 text start same had.written) w.1 in
     let part = part_of_part (bytes ++ piece) (text ++ more) written.0 (taken_part (bytes ++ piece) (text ++ more) due c e h) in (
-      (bytes ++ piece, take written.0 (text ++ more), record { read = left_still s1 s2 (bytes ++ piece) start k.left (Consumes-then start.left s0.left s1.left bytes piece had.read read); written = written.1 }, part),
+      (bytes ++ piece, take written.0 (text ++ more), record { most = most; read = left_still s1 s2 (bytes ++ piece) start k.left (Consumes-then start.left s0.left s1.left bytes piece had.read read); written = written.1 }, part),
       (let r = w.0 in let f = still.counts.writes in let g = fell.writes in omega arith),
     )
 
@@ -136,19 +138,32 @@ some_taken n buf some within = omega (arith, some, within, length-take n buf)
 pub text_added : (old out more : List ℕ) → old ≡ [] → out ≡ old ++ more → more ≡ out
 text_added old out more empty e = sym (e ∙ ap (λ (l : List ℕ). l ++ more) empty)
 
-pub next_taken : (start s0 s1 s2 : DeskState) (n : ℕ) (buf bytes text old out : List ℕ) (due : Option Why) (c : Comments) → old ≡ [] → Reads s0 (got.Bytes n) buf s1
+pub next_taken : (start s0 s1 s2 : DeskState) (n : ℕ) (buf bytes text old out : List ℕ) (due : Option Why) (c : Comments) → length (bytes ++ take n buf) ≤ standard_limits.input → old ≡ [] → Reads s0 (got.Bytes n) buf s1
     → Appends (λ all. AfterTaking (bytes ++ take n buf) all due c) text old out → HasCopied start bytes text s0 → OnlyWrites s1 s2 → AfterWrite s1 out put.Done s2 → AfterNext start bytes due c s2
-next_taken start s0 s1 s2 n buf bytes text old out due c empty r h had k w =
+next_taken start s0 s1 s2 n buf bytes text old out due c most empty r h had k w =
     let written = subst (λ (m : List ℕ). AppendsLast s1.outputs m s2.outputs) (sym (text_added old out h.0 empty h.1)) w in
-    next_due start s2 bytes text (take n buf) (text ++ h.0) due c (some_taken n buf r.after.0 r.after.1) h.2 (copied start s0 s1 s2 bytes text (take n buf) h.0 had r.after.2 r.outputs k written)
+    next_due start s2 bytes text (take n buf) (text ++ h.0) due c (some_taken n buf r.after.0 r.after.1) h.2 (copied start s0 s1 s2 bytes text (take n buf) h.0 most had r.after.2 r.outputs k written)
 
-pub next_failed : (start s0 s1 s2 : DeskState) (n : ℕ) (buf bytes text old out : List ℕ) (due : Option Why) (c : Comments) → c.limits ≡ standard_limits → old ≡ [] → Reads s0 (got.Bytes n) buf s1
+pub next_failed : (start s0 s1 s2 : DeskState) (n : ℕ) (buf bytes text old out : List ℕ) (due : Option Why) (c : Comments) → length (bytes ++ take n buf) ≤ standard_limits.input → c.limits ≡ standard_limits → old ≡ [] → Reads s0 (got.Bytes n) buf s1
     → Appends (λ all. AfterTaking (bytes ++ take n buf) all due c) text old out → OnlyCopies start s0 → HasCopied start bytes text s0 → OnlyWrites s1 s2 → AfterWrite s1 out put.Failed s2 → EndsCopying start why.WriteFault s2
-next_failed start s0 s1 s2 n buf bytes text old out due c e empty r h still had k w =
+next_failed start s0 s1 s2 n buf bytes text old out due c most e empty r h still had k w =
     let written = subst (λ (m : List ℕ). AfterWrite s1 m put.Failed s2) (sym (text_added old out h.0 empty h.1)) w in
-    next_unwritten start s0 s1 s2 bytes text (take n buf) h.0 due c e still r.counts h.2 had r.after.2 r.outputs k written
+    next_unwritten start s0 s1 s2 bytes text (take n buf) h.0 due c most e still r.counts h.2 had r.after.2 r.outputs k written
+
+-- a read of no more bytes than there is room for
+pub within_most : (bytes buf : List ℕ) (n room : ℕ) → room + length bytes ≡ standard_limits.input → length bytes < standard_limits.input → (1 ≤ room → n ≤ room) → length (bytes ++ take n buf) ≤ standard_limits.input
+within_most bytes buf n room e short fits =
+    let some : 1 ≤ room = omega (arith, e, short) in
+    omega (arith, e, fits some, length-append bytes (take n buf), length-take n buf)
+
+pub read_most : (bytes text buf : List ℕ) (n room : ℕ) (c : Comments) → c.limits ≡ standard_limits → HasRead bytes text c → room + length bytes ≡ c.limits.input → (1 ≤ room → n ≤ room) → length (bytes ++ take n buf) ≤ standard_limits.input
+read_most bytes text buf n room c e h left fits =
+    within_most bytes buf n room (left ∙ ap (λ (l : Limits). l.input) e) (subst (λ (l : Limits). length bytes < l.input) e h.2) fits
 
 -- no bytes at all
 pub no_bytes : (bytes : List ℕ) → length bytes ≡ 0 → bytes ≡ []
 no_bytes [] e = refl
 no_bytes (b ∷ bytes) e = absurd (omega (arith, e))
+
+pub no_text : (out slice : List ℕ) (empty : Bool) → slice ≡ out → empty ≡ (length slice == 0) → empty ≡ true → out ≡ []
+no_text out slice empty same is some = no_bytes out (grind (arith, same, is, some))

@@ -42,6 +42,7 @@ prints_from s0 s1 s2 s3 input output Is h k w c =
       names = both_names s0 s1 s2 s3 input output put.Done h k w.asked;
       file = file_read s0.files input s1.left s3.left bytes h.after.2 (subst L k.left c.2.read);
       outputs = subst G h.outputs (Grows-from s1.outputs s2.outputs s3.outputs output text k.after.1 c.2.written);
+      most = c.2.most;
       is = c.3;
     }
 
@@ -71,7 +72,7 @@ prints_then s0 s1 s2 input output Is k h =
     let N : Option (List (Name × Put)) → Type 0 = λ a. NotesNames s0.asked (asked_two input output put.Done) a in
     let F : Option (List ℕ) → Type 0 = λ l. IsFile s0.files input (h.bytes ++ rest_of l) in
     let G : Option (List (Name × List ℕ)) → Type 0 = λ a. Grows s0.outputs (output, h.text) a in
-    record { bytes = h.bytes; text = h.text; names = subst N (sym k.asked) h.names; file = subst F (sym k.left) h.file; outputs = subst G (sym k.outputs) h.outputs; is = h.is }
+    record { bytes = h.bytes; text = h.text; names = subst N (sym k.asked) h.names; file = subst F (sym k.left) h.file; most = h.most; outputs = subst G (sym k.outputs) h.outputs; is = h.is }
 
 pub printed_then : (s0 s1 s2 : DeskState) (input output : Name) (w : Why) → OnlySays s1 s2 → Printed input output s0 w s1 → Printed input output s0 w s2
 printed_then s0 s1 s2 input output why.Done k h = prints_then s0 s1 s2 input output IsWholeText k h

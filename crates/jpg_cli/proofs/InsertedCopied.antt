@@ -1,5 +1,5 @@
 -- What writing a file with a comment inserted comes to behind its head, over the states that a desk tells.
-use Rattle.std.proofs.Common.{◌≡◌, ℕ, ◌<◌, Bool, List, [], ◌++◌, length, take, Option, None, Some, sym, ap, ◌∙◌, subst, arith, inl, inr}
+use Rattle.std.proofs.Common.{◌≡◌, ℕ, ◌+◌, ◌<◌, ◌≤◌, Bool, List, [], ◌++◌, length, take, Option, None, Some, sym, ap, ◌∙◌, subst, arith, inl, inr}
 use Rattle.std.proofs.lemmas.List.{length-append, take_all}
 use Rattle.std.specs.Io.KnownBytes.{IsAtEnd}
 use Rattle.jpg_base.specs.declared.names.Put.TheVariants as put
@@ -21,7 +21,7 @@ use Rattle.jpg_comments.specs.declared.insert.Insert.{Insert}
 use Rattle.jpg_cli.specs.InsertComment.{AfterAll, AfterFed, AfterRest, EndsInserting}
 use Rattle.jpg_cli.specs.ReadComments.{HasCopied, OnlyCopies, rest_of}
 use Rattle.jpg_cli.proofs.CommentsRead.{take_again}
-use Rattle.jpg_cli.proofs.CommentsCopied.{copied, copied_still, left_still, outputs_still, some_taken, text_added}
+use Rattle.jpg_cli.proofs.CommentsCopied.{copied, copied_still, left_still, outputs_still, some_taken, text_added, within_most}
 
 -- THE TEXT
 
@@ -59,6 +59,13 @@ pub part_of_part : (comment bytes text : List ℕ) (replace : Bool) (k : ℕ) �
 part_of_part comment bytes text replace k (inl none) = inl (ap (take k) none ∙ take_all k [] (omega arith))
 part_of_part comment bytes text replace k (inr (n, front, whole, is, e)) = (let again = take_again k n whole in inr (again.0, front, whole, is, ap (take k) e ∙ again.1))
 
+-- fewer bytes than may be taken
+pub fed_short : (comment bytes text : List ℕ) (c : Insert) → c.limits ≡ standard_limits → HasInserted comment bytes text c → length bytes < standard_limits.input
+fed_short comment bytes text c e h = subst (λ (l : Limits). length bytes < l.input) e h.1
+
+pub read_most : (comment bytes text buf : List ℕ) (n room : ℕ) (c : Insert) → c.limits ≡ standard_limits → HasInserted comment bytes text c → room + length bytes ≡ c.limits.input → (1 ≤ room → n ≤ room) → length (bytes ++ take n buf) ≤ standard_limits.input
+read_most comment bytes text buf n room c e h left fits = within_most bytes buf n room (left ∙ ap (λ (l : Limits). l.input) e) (fed_short comment bytes text c e h) fits
+
 -- A PIECE, as it was fed
 
 rest_due : (start s2 : DeskState) (comment bytes piece all : List ℕ) (replace : Bool) (due : Option Why) (c : Insert) → 0 < length piece → 0 < length all → AfterFed comment replace (bytes ++ piece) all due c → HasCopied start (bytes ++ piece) all s2
@@ -73,21 +80,21 @@ rest_due start s2 comment bytes piece all replace (Some (why.ReadFault w)) c mor
 rest_due start s2 comment bytes piece all replace (Some why.WriteFault) c more some h k = absurd h
 rest_due start s2 comment bytes piece all replace (Some why.NoMemory) c more some h k = (bytes ++ piece, all, k, h)
 
-pub rest_fed : (start s0 s1 s2 : DeskState) (n : ℕ) (buf comment bytes text old out : List ℕ) (replace : Bool) (due : Option Why) (c : Insert) → old ≡ [] → 0 < length text → Reads s0 (got.Bytes n) buf s1
+pub rest_fed : (start s0 s1 s2 : DeskState) (n : ℕ) (buf comment bytes text old out : List ℕ) (replace : Bool) (due : Option Why) (c : Insert) → length (bytes ++ take n buf) ≤ standard_limits.input → old ≡ [] → 0 < length text → Reads s0 (got.Bytes n) buf s1
     → Appends (λ all. AfterFed comment replace (bytes ++ take n buf) all due c) text old out → HasCopied start bytes text s0 → OnlyWrites s1 s2 → AfterWrite s1 out put.Done s2 → AfterRest comment replace start bytes due c s2
-rest_fed start s0 s1 s2 n buf comment bytes text old out replace due c empty some r h had k w =
+rest_fed start s0 s1 s2 n buf comment bytes text old out replace due c most empty some r h had k w =
     let written = subst (λ (m : List ℕ). AppendsLast s1.outputs m s2.outputs) (sym (text_added old out h.0 empty h.1)) w in
     rest_due start s2 comment bytes (take n buf) (text ++ h.0) replace due c (some_taken n buf r.after.0 r.after.1) (omega (arith, some, length-append text h.0)) h.2
-    (copied start s0 s1 s2 bytes text (take n buf) h.0 had r.after.2 r.outputs k written)
+    (copied start s0 s1 s2 bytes text (take n buf) h.0 most had r.after.2 r.outputs k written)
 
-pub rest_failed : (start s0 s1 s2 : DeskState) (n : ℕ) (buf comment bytes text old out : List ℕ) (replace : Bool) (due : Option Why) (c : Insert) → c.limits ≡ standard_limits → c.replace ≡ replace → old ≡ [] → Reads s0 (got.Bytes n) buf s1
+pub rest_failed : (start s0 s1 s2 : DeskState) (n : ℕ) (buf comment bytes text old out : List ℕ) (replace : Bool) (due : Option Why) (c : Insert) → length (bytes ++ take n buf) ≤ standard_limits.input → c.limits ≡ standard_limits → c.replace ≡ replace → old ≡ [] → Reads s0 (got.Bytes n) buf s1
     → Appends (λ all. AfterFed comment replace (bytes ++ take n buf) all due c) text old out → OnlyCopies start s0 → HasCopied start bytes text s0 → OnlyWrites s1 s2 → AfterWrite s1 out put.Failed s2 → EndsInserting comment replace start why.WriteFault s2
-rest_failed start s0 s1 s2 n buf comment bytes text old out replace due c e same empty r h still had k w =
+rest_failed start s0 s1 s2 n buf comment bytes text old out replace due c most e same empty r h still had k w =
     let piece = take n buf in
     let wrote = subst (λ (m : List ℕ). AfterWrite s1 m put.Failed s2) (sym (text_added old out h.0 empty h.1)) w in
     let written = AppendsPart-then start.outputs s1.outputs s2.outputs text h.0 (outputs_still s0 s1 text start r.outputs had.written) wrote.1 in
     let part = part_of_part comment (bytes ++ piece) (text ++ h.0) replace written.0 (fed_part comment (bytes ++ piece) (text ++ h.0) replace due c e same h.2) in (
-      (bytes ++ piece, take written.0 (text ++ h.0), record { read = left_still s1 s2 (bytes ++ piece) start k.left (Consumes-then start.left s0.left s1.left bytes piece had.read r.after.2); written = written.1 }, part),
+      (bytes ++ piece, take written.0 (text ++ h.0), record { most = most; read = left_still s1 s2 (bytes ++ piece) start k.left (Consumes-then start.left s0.left s1.left bytes piece had.read r.after.2); written = written.1 }, part),
       (let v = wrote.0 in let f = still.counts.writes in let g = r.counts.writes in omega arith),
     )
 
@@ -96,7 +103,7 @@ rest_failed start s0 s1 s2 n buf comment bytes text old out replace due c e same
 pub rest_unread : (start s0 s1 : DeskState) (comment bytes text : List ℕ) (c : Insert) → c.limits ≡ standard_limits → 0 < length text → HasInserted comment bytes text c → OnlyCopies start s0 → HasCopied start bytes text s0 → Rose s0.counts.reads s1.counts.reads → s1.left ≡ s0.left
     → s1.outputs ≡ s0.outputs → EndsInserting comment c.replace start (why.ReadFault which.Input) s1
 rest_unread start s0 s1 comment bytes text c e some h still had rose left outputs = (
-  (bytes, text, copied_still start s0 s1 bytes text had left outputs, (inserted_so_far comment bytes text c e some h, subst (λ (l : Limits). length bytes < l.input) e h.1)),
+  (bytes, text, copied_still start s0 s1 bytes text had left outputs, (inserted_so_far comment bytes text c e some h, fed_short comment bytes text c e h)),
   (let f = still.counts.reads in omega (arith, rose, f)),
 )
 

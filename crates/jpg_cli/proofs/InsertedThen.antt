@@ -41,6 +41,7 @@ reads_then s0 s1 s2 task Is k h = record {
   outputs = k.outputs ∙ h.outputs;
   source = h.source;
   file = file_then s0 s1 s2 task.input h.bytes k h.file;
+  most = h.most;
   is = h.is;
 }
 
@@ -54,6 +55,7 @@ writes_then s0 s1 s2 task Is k h =
       names = notes_then s0 s1 s2 (asked_to_output task put.Done) k h.names;
       source = h.source;
       file = file_then s0 s1 s2 task.input h.bytes k h.file;
+      most = h.most;
       outputs = subst G (sym k.outputs) h.outputs;
       is = h.is;
     }
@@ -102,6 +104,7 @@ inserted_then s0 s1 s2 task (why.OpenFault which.Output) k h = record {
   opens = (let r = h.opens in let f = k.counts.opens in omega arith);
   source = h.source;
   file = file_then s0 s1 s2 task.input h.bytes k h.file;
+  most = h.most;
   is = h.is;
 }
 inserted_then s0 s1 s2 task (why.ReadFault which.Input) k (inl h, rose) =

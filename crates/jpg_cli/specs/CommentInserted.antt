@@ -65,7 +65,7 @@ IsShortFront old source bytes new = (length bytes ≤ 65000) × IsComment old so
 
 -- WHAT STANDS when the run ended
 
--- These bytes of the input were read, of which this is so. No output was created.
+-- These bytes of the input were read, no more than may be, of which this is so. No output was created.
 pub record ReadsAlone (task : Task) (Is : List ℕ → Type 0) (old new : DeskState) : Type 0 where
   pub comment : List ℕ
   pub bytes : List ℕ
@@ -73,9 +73,10 @@ pub record ReadsAlone (task : Task) (Is : List ℕ → Type 0) (old new : DeskSt
   pub outputs : new.outputs ≡ old.outputs
   pub source : IsShortComment old task.comment comment
   pub file : IsFile old.files task.input (bytes ++ rest_of new.left)
+  pub most : length bytes ≤ standard_limits.input
   pub is : Is bytes
 
--- These bytes of the input were read, and the output holds a text, of which with the comment this is so.
+-- These bytes of the input were read, no more than may be, and the output holds a text, of which with the comment this is so.
 pub record WritesText (task : Task) (Is : List ℕ → List ℕ → List ℕ → Type 0) (old new : DeskState) : Type 0 where
   pub comment : List ℕ
   pub bytes : List ℕ
@@ -83,6 +84,7 @@ pub record WritesText (task : Task) (Is : List ℕ → List ℕ → List ℕ →
   pub names : NotesNames old.asked (asked_to_output task put.Done) new.asked
   pub source : IsShortComment old task.comment comment
   pub file : IsFile old.files task.input (bytes ++ rest_of new.left)
+  pub most : length bytes ≤ standard_limits.input
   pub outputs : Grows old.outputs (task.output, text) new.outputs
   pub is : Is comment bytes text
 
@@ -128,6 +130,7 @@ pub record IsOutputUncreated (task : Task) (old new : DeskState) : Type 0 where
   pub opens : Rose old.counts.opens new.counts.opens
   pub source : IsShortComment old task.comment comment
   pub file : IsFile old.files task.input (bytes ++ rest_of new.left)
+  pub most : length bytes ≤ standard_limits.input
   pub is : IsAtHead bytes
 
 -- memory was wanting before an output was created; the names asked for are the first of those due
@@ -177,6 +180,7 @@ pub record IsReading (task : Task) (comment bytes : List ℕ) (old now : DeskSta
   pub source : IsShortComment old task.comment comment
   pub opened : OpensFile old.files task.input left
   pub read : Consumes left now.left bytes
+  pub most : length bytes ≤ standard_limits.input
   pub outputs : now.outputs ≡ old.outputs
   pub counts : NoneFell old.counts now.counts
 
@@ -188,6 +192,7 @@ pub record IsWriting (task : Task) (comment bytes text : List ℕ) (old now : De
   pub source : IsShortComment old task.comment comment
   pub opened : OpensFile old.files task.input left
   pub read : Consumes left now.left bytes
+  pub most : length bytes ≤ standard_limits.input
   pub adds : AddsOutput old.outputs task.output created
   pub written : AppendsLast created text now.outputs
   pub counts : NoneFell old.counts now.counts

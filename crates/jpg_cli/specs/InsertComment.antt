@@ -78,7 +78,8 @@ IsNoHead bytes = ShowsNothing standard_limits (HoldsHead standard_limits) bytes 
 
 -- from these bytes on, why the reading ended
 abbrev pub EndsBefore : List ℕ → DeskState → Why → DeskState → Type 0
-EndsBefore bytes old (why.Refused f) new = (piece : List ℕ) × Consumes old.left new.left piece × IsFaultBefore f (rest_of new.left) (bytes ++ piece)
+EndsBefore bytes old (why.Refused f) new =
+    (piece : List ℕ) × Consumes old.left new.left piece × (length (bytes ++ piece) ≤ standard_limits.input) × IsFaultBefore f (rest_of new.left) (bytes ++ piece)
 EndsBefore bytes old (why.ReadFault which.Input) new = (new.left ≡ old.left) × IsNoHead bytes × Rose old.counts.reads new.counts.reads
 EndsBefore bytes old why.NoMemory new = Unit {0}
 EndsBefore bytes old other new = ⊥
@@ -88,5 +89,5 @@ abbrev pub AfterHead : List ℕ → Bool → List ℕ → DeskState → AtHead �
 AfterHead comment replace bytes old at_head.Before c out new =
     (piece : List ℕ) × (0 < length piece) × (out ≡ []) × Consumes old.left new.left piece × HasInserted comment (bytes ++ piece) [] c
 AfterHead comment replace bytes old (at_head.Begun due) c out new =
-    (piece : List ℕ) × (0 < length out) × Consumes old.left new.left piece × IsAtHead (bytes ++ piece) × AfterFed comment replace (bytes ++ piece) out due c
+    (piece : List ℕ) × (0 < length out) × Consumes old.left new.left piece × (length (bytes ++ piece) ≤ standard_limits.input) × IsAtHead (bytes ++ piece) × AfterFed comment replace (bytes ++ piece) out due c
 AfterHead comment replace bytes old (at_head.Ended ended) c out new = EndsBefore bytes old ended new

@@ -73,12 +73,13 @@ asked_one input answer = (input, answer) ∷ []
 abbrev pub asked_two : Name → Name → Put → List (Name × Put)
 asked_two input output answer = (input, put.Done) ∷ (output, answer) ∷ []
 
--- Bytes of the input were read, and the output holds a text, of which this is so.
+-- Bytes of the input were read, no more than may be, and the output holds a text, of which this is so.
 pub record Prints (input output : Name) (Is : List ℕ → List ℕ → Type 0) (old new : DeskState) : Type 0 where
   pub bytes : List ℕ
   pub text : List ℕ
   pub names : NotesNames old.asked (asked_two input output put.Done) new.asked
   pub file : IsFile old.files input (bytes ++ rest_of new.left)
+  pub most : length bytes ≤ standard_limits.input
   pub outputs : Grows old.outputs (output, text) new.outputs
   pub is : Is bytes text
 
@@ -124,8 +125,9 @@ pub record OnlyCopies (old new : DeskState) : Type 0 where
   pub input_open : new.input_open ≡ old.input_open
   pub output_created : new.output_created ≡ old.output_created
 
--- these bytes were read, and this text was written
+-- These bytes were read, no more than may be, and this text was written.
 pub record HasCopied (old : DeskState) (bytes text : List ℕ) (new : DeskState) : Type 0 where
+  pub most : length bytes ≤ standard_limits.input
   pub read : Consumes old.left new.left bytes
   pub written : AppendsLast old.outputs text new.outputs
 

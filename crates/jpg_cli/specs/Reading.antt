@@ -3,6 +3,8 @@ use Rattle.std.specs.Prelude.{◌≡◌, ◌⊎◌, ℕ, ◌^◌, ◌<◌, ◌�
 use Rattle.std.specs.Io.KnownBytes.{Consumes, IsAtEnd}
 use Rattle.jpg_base.specs.declared.names.Name.{Name}
 use Rattle.jpg_base.specs.declared.names.Name.TheVariants as name
+use Rattle.jpg_base.specs.declared.names.Got.{Got}
+use Rattle.jpg_base.specs.declared.names.Got.TheVariants as got
 use Rattle.jpg_base.specs.declared.names.Put.{Put}
 use Rattle.jpg_base.specs.declared.names.Put.TheVariants as put
 use Rattle.jpg_base.specs.Desk.{DeskState, NoneFell, Rose}
@@ -30,6 +32,12 @@ AfterPiece old had most piece.Some bytes new = (more : List ℕ) × (0 < length 
 AfterPiece old had most piece.End bytes new = (bytes ≡ had) × IsAtEnd old.left × (new.left ≡ old.left)
 AfterPiece old had most piece.Failed bytes new = (bytes ≡ had) × (new.left ≡ old.left) × Rose old.counts.reads new.counts.reads
 AfterPiece old had most piece.NoMemory bytes new = Unit {0}
+
+-- no more bytes than there was room for
+abbrev pub IsWithin : ℕ → Got → Type 0
+IsWithin room (got.Bytes n) = 1 ≤ room → n ≤ room
+IsWithin room got.End = Unit {0}
+IsWithin room got.Failed = Unit {0}
 
 -- The whole input was read, or so many bytes of it; or fewer, where reading failed.
 abbrev pub AfterReading : ℕ → DeskState → Taken → List ℕ → DeskState → Type 0

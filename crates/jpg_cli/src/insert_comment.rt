@@ -14,6 +14,7 @@ ghost use Rattle.jpg_cli.specs.Reading.{OnlyReads};
 use crate::comment_taken::take_comment;
 use crate::comment_words::WriteWords;
 use crate::read_comments::write_text;
+use crate::reading::read_within;
 use jpg_base::{Bytes, Desk, Got, Name, Put, Stop};
 use jpg_comments::Insert;
 use jpg_spec::{Limits, Which, Why};
@@ -129,7 +130,7 @@ fn next_head<D: Desk>(
     ensures limits { insert.new.limits ≡ standard_limits }
     ensures replace { insert.new.replace ≡ insert.old.replace }
 {
-    match desk.read(&mut buffer[..]) {
+    match read_within(desk, insert.room(), buffer) {
         Got::Failed => AtHead::Ended(Why::ReadFault(Which::Input)),
         Got::End => AtHead::Ended(at_end(insert)),
         Got::Bytes(count) => {
@@ -209,7 +210,7 @@ fn next_rest<D: Desk>(
     ensures replace { insert.new.replace ≡ insert.old.replace }
     ensures empty { out.new ≡ [] }
 {
-    match desk.read(&mut buffer[..]) {
+    match read_within(desk, insert.room(), buffer) {
         Got::Failed => Some(Why::ReadFault(Which::Input)),
         Got::End => Some(at_end(insert)),
         Got::Bytes(count) => {

@@ -8,6 +8,7 @@ ghost use Rattle.jpg_comments.specs.ReadComments.{is_done, HasRead};
 ghost use Rattle.jpg_cli.specs.ReadComments.{AfterEnd, AfterNext, AfterTaking, EndsCopying, HasCopied, OnlyCopies, Printed};
 
 use crate::comment_words::Files;
+use crate::reading::read_within;
 use jpg_base::{Bytes, Desk, Fed, Got, Put, Stop};
 use jpg_comments::Comments;
 use jpg_spec::{Limits, Which, Why};
@@ -66,7 +67,7 @@ fn next_piece<D: Desk>(
     ensures limits { comments.new.limits ≡ standard_limits }
     ensures empty { out.new ≡ [] }
 {
-    match desk.read(&mut buffer[..]) {
+    match read_within(desk, comments.room(), buffer) {
         Got::Failed => Some(Why::ReadFault(Which::Input)),
         Got::End => Some(at_end(comments)),
         Got::Bytes(count) => {

@@ -1,6 +1,7 @@
 //! The whole input, up to a limit, in the pieces that a desk gives.
 ghost use Rattle.std.specs.Prelude.{◌≡◌, ◌≤◌, ◌<◌, [], length, true};
-ghost use Rattle.jpg_cli.specs.Reading.{OnlyReads, AfterPiece, AfterReading, AfterInput, Keeps};
+ghost use Rattle.jpg_base.specs.Desk.{Reads};
+ghost use Rattle.jpg_cli.specs.Reading.{OnlyReads, AfterPiece, AfterReading, AfterInput, IsWithin, Keeps};
 
 use jpg_base::{Bytes, Desk, Got, Name, Put};
 use jpg_spec::{Which, Why};
@@ -63,6 +64,16 @@ pub fn read_up_to<D: Desk>(desk: &mut D, limit: usize, bytes: &mut Bytes) -> Tak
         }
     }
     Taken::All
+}
+
+/// Reads into the buffer, but no more bytes than there is room for; at least one, where there is none.
+pub fn read_within<D: Desk>(desk: &mut D, room: u64, buffer: &mut [u8; 65536]) -> Got
+    requires { (D.state desk.old).input_open ≡ true }
+    ensures read { Reads (D.state desk.old) result buffer.new (D.state desk.new) }
+    ensures within { IsWithin room result }
+{
+    let most = room.clamp(1, 65_536) as usize;
+    desk.read(&mut buffer[..most])
 }
 
 /// The bytes of standard input, up to the limit.

@@ -1,5 +1,5 @@
 // The comments of a file, read piece by piece (T.81 B.2.4.5).
-ghost use Rattle.std.specs.Prelude.{◌≡◌, ◌<◌, ◌++◌, ◌∷◌, [], ℕ, List, Some, None, true, false, Ok, Err};
+ghost use Rattle.std.specs.Prelude.{◌≡◌, ◌<◌, ◌+◌, ◌-◌, length, ◌++◌, ◌∷◌, [], ℕ, List, Some, None, true, false, Ok, Err};
 ghost use Rattle.jpg_spec.specs.FrameHeader.{AreLimits};
 ghost use Rattle.jpg_base.specs.declared.stop.Stop.{Stop as Stopped};
 ghost use Rattle.jpg_base.specs.declared.stop.Fed.TheVariants as fed;
@@ -68,6 +68,14 @@ impl Comments {
             Err(stop) => self.stop = Some(stop),
         }
         answer
+    }
+
+    /// How many bytes more may be taken: the most of the limits without those that were taken.
+    pub fn room(&self) -> u64
+        ensures is { result ≡ self.now.limits.input - (reading_of self.now.reader).taken }
+        ensures left { (bytes text : List ℕ) → HasRead bytes text self.now → result + length bytes ≡ self.now.limits.input }
+    {
+        self.limits.input.saturating_sub(self.reader.taken())
     }
 
     /// The file ends here. It answers Truncated at the number of bytes taken, or the earlier stop.

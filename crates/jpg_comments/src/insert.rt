@@ -1,5 +1,6 @@
 // A file with one comment more, written piece by piece (T.81 B.2.4.5).
-ghost use Rattle.std.specs.Prelude.{◌≡◌, ◌≤◌, ◌<◌, ◌++◌, ◌∷◌, [], ℕ, List, Some, None, Ok, Err, IfOk, IfSome, length};
+ghost use Rattle.std.specs.Prelude.{◌≡◌, ◌≤◌, ◌<◌, ◌+◌, ◌-◌, ◌++◌, ◌∷◌, [], ℕ, List, Some, None, Ok, Err, IfOk, IfSome, length};
+ghost use Rattle.std.specs.Option.{unwrap_or};
 ghost use Rattle.jpg_spec.specs.FrameHeader.{AreLimits};
 ghost use Rattle.jpg_base.specs.declared.stop.Stop.{Stop as Stopped};
 ghost use Rattle.jpg_base.specs.declared.stop.Fed.TheVariants as fed;
@@ -96,6 +97,18 @@ impl Insert {
                 Err(stop)
             }
         }
+    }
+
+    /// How many bytes more may be taken: the most of the limits without those that were taken.
+    pub fn room(&self) -> u64
+        ensures is { result ≡ self.now.limits.input - unwrap_or self.now.taken (reading_of self.now.reader).taken }
+        ensures left { (comment bytes text : List ℕ) → HasInserted comment bytes text self.now → result + length bytes ≡ self.now.limits.input }
+    {
+        let taken = match self.taken {
+            Some(taken) => taken,
+            None => self.reader.taken(),
+        };
+        self.limits.input.saturating_sub(taken)
     }
 
     /// The file ends here. It answers the earlier stop, and else Ok where the marker of the frame

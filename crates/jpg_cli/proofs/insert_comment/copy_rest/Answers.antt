@@ -1,6 +1,7 @@
 use Rattle.std.proofs.Common.{Bool, None, ◌++◌, ◌∙◌, sym, subst}
 use Rattle.jpg_cli.specs.InsertComment.{EndsInserting}
 use Rattle.jpg_cli.proofs.CommentsCopied.{copies_then, copies_told}
+use Rattle.jpg_cli.proofs.InsertedCopied.{fed_short}
 use Rattle.jpg_cli.proofs.CommentInserted.{begun, blank, blank_copied, copied_begun, ends, fewer, writing_more}
 use Rattle.jpg_cli.proofs.insert_comment.copy_rest.Goals as goal
 
@@ -21,7 +22,7 @@ loop-why-smaller g c =
     let so = c.loop-why.invariant in
     let was = g.D.Desk.state c.loop-why.desk in
     let b = so.begun in
-    let more = c.in_default.ensures.after (blank was) b.0 b.1 b.2 b.4 b.3 (copies_told None None was) (blank_copied was b.1 b.2) in
+    let more = c.in_default.ensures.after (blank was) b.0 b.1 b.2 b.4 b.3 (copies_told None None was) (blank_copied was b.1 b.2 (fed_short b.0 b.1 b.2 c.loop-why.insert so.limits b.4)) in
     fewer b.0 b.1 more.0 b.2 more.1 c.loop-why.insert c.next_rest.new.insert so.limits c.in_default.ensures.limits b.3 more.3 more.2 b.4 more.4
 
 pub loop-why-preserved : goal.loop-why-preserved
@@ -32,7 +33,7 @@ loop-why-preserved g c =
     let was = state c.loop-why.desk in
     let now = state c.next_rest.new.desk in
     let b = so.begun in
-    let some = step.after (blank was) b.0 b.1 b.2 b.4 b.3 (copies_told None None was) (blank_copied was b.1 b.2) in
+    let some = step.after (blank was) b.0 b.1 b.2 b.4 b.3 (copies_told None None was) (blank_copied was b.1 b.2 (fed_short b.0 b.1 b.2 c.loop-why.insert so.limits b.4)) in
     record {
       kept = copies_then (state c.args.desk.now) was now so.kept step.kept;
       begun = (b.0, b.1 ++ some.0, some.1, some.3, some.4);
