@@ -19,17 +19,16 @@ use Rattle.jpg_spec.specs.declared.answers.FaultAt.{FaultAt}
 use Rattle.jpg_spec.specs.declared.answers.Why.{Why}
 use Rattle.jpg_spec.specs.declared.answers.Why.TheVariants as why
 use Rattle.jpg_spec.specs.declared.answers.Which.TheVariants as which
-use Rattle.jpg_comments.specs.Inserting.{InsertsPart}
 use Rattle.jpg_comments.specs.WriteInserted.{HasInserted, StandsAt}
 use Rattle.jpg_comments.specs.declared.insert.Insert.{Insert}
 use Rattle.jpg_cli.specs.CommentInserted.{AfterBegin, Inserted, IsOutOfMemory, IsOutputUncreated, IsComment, IsReading, IsShortComment, IsWriting, ReadsAlone, Task, WritesText, asked_comment, asked_to_input, asked_to_output}
 use Rattle.jpg_cli.specs.CommentTaken.{AfterComment, AfterFile, AfterWords}
-use Rattle.jpg_cli.specs.InsertComment.{AfterFed, EndsBefore, EndsInserting, IsAtHead, IsBegunWith, IsFaultBefore, IsLongFile, IsNoHead, IsWholeFile}
+use Rattle.jpg_cli.specs.InsertComment.{AfterFed, EndsBefore, EndsInserting, IsAtHead, IsBegunWith, IsFaultBefore, IsFilePart, IsLongFile, IsNoHead, IsWholeFile}
 use Rattle.jpg_cli.specs.ReadComments.{Copies, HasCopied, OnlyCopies, asked_one, rest_of}
 use Rattle.jpg_cli.specs.Reading.{IsFile, Keeps, OnlyReads}
 use Rattle.jpg_cli.proofs.CommentsPrinted.{file_read}
 use Rattle.jpg_cli.proofs.CommentsCopied.{had_told, none_read}
-use Rattle.jpg_cli.proofs.InsertedCopied.{fed_part, fed_short, not_none, part_of_part, stands}
+use Rattle.jpg_cli.proofs.InsertedCopied.{fed_part, fed_short, file_part, not_none, part_of_part, stands}
 
 -- READING
 
@@ -106,7 +105,7 @@ due_first task comment bytes text old now (Some (why.Refused f)) c some (of, inr
 due_first task comment bytes text old now (Some (why.OpenFault which)) c some h w = absurd h
 due_first task comment bytes text old now (Some (why.ReadFault which)) c some h w = absurd h
 due_first task comment bytes text old now (Some why.WriteFault) c some h w = absurd h
-due_first task comment bytes text old now (Some why.NoMemory) c some h w = inr (writes task comment bytes text old now (λ with. InsertsPart standard_limits with task.replace) w h)
+due_first task comment bytes text old now (Some why.NoMemory) c some h w = inr (writes task comment bytes text old now (λ with. IsFilePart with task.replace) w (file_part comment bytes text task.replace some h))
 
 pub first_uncreated : (task : Task) (comment bytes : List ℕ) (old s0 s1 : DeskState) (output : Name) → task.output ≡ output → IsAtHead bytes → IsReading task comment bytes old s0 → Creates s0 output put.Failed s1 → IsOutputUncreated task old s1
 first_uncreated task comment bytes old s0 s1 output e at r k = uncreated task comment bytes old s0 s1 at r (subst (λ (n : Name). Creates s0 n put.Failed s1) (sym e) k)
@@ -116,12 +115,12 @@ pub first_written : (task : Task) (comment bytes text : List ℕ) (old s0 s1 s2 
 first_written task comment bytes text old s0 s1 s2 output due c e some r h k w appended =
     due_first task comment bytes text old s2 due c some h (written_first task comment bytes text old s0 s1 s2 r (subst (λ (n : Name). Creates s0 n put.Done s1) (sym e) k) w appended)
 
-pub first_unwritten : (task : Task) (comment bytes text : List ℕ) (old s0 s1 s2 : DeskState) (output : Name) (due : Option Why) (c : Insert) → task.output ≡ output → c.limits ≡ standard_limits → c.replace ≡ task.replace → IsReading task comment bytes old s0
+pub first_unwritten : (task : Task) (comment bytes text : List ℕ) (old s0 s1 s2 : DeskState) (output : Name) (due : Option Why) (c : Insert) → task.output ≡ output → 0 < length text → c.limits ≡ standard_limits → c.replace ≡ task.replace → IsReading task comment bytes old s0
     → AfterFed comment task.replace bytes text due c → Creates s0 output put.Done s1 → OnlyWrites s1 s2 → AfterWrite s1 text put.Failed s2 → Inserted task old why.WriteFault s2
-first_unwritten task comment bytes text old s0 s1 s2 output due c e limits same r h k w (rose, (n, part)) = (
-  writes task comment bytes (take n text) old s2 (λ with. InsertsPart standard_limits with task.replace)
+first_unwritten task comment bytes text old s0 s1 s2 output due c e some limits same r h k w (rose, (n, part)) = (
+  writes task comment bytes (take n text) old s2 (λ with. IsFilePart with task.replace)
       (written_first task comment bytes (take n text) old s0 s1 s2 r (subst (λ (m : Name). Creates s0 m put.Done s1) (sym e) k) w part)
-      (part_of_part comment bytes text task.replace n (fed_part comment bytes text task.replace due c limits same h)),
+      (part_of_part comment bytes text task.replace n (file_part comment bytes text task.replace some (fed_part comment bytes text task.replace due c limits same h))),
   (let f = r.counts.writes in let g = k.counts.writes in omega (arith, rose, f, g)),
 )
 
@@ -166,8 +165,8 @@ ends task comment bytes text old s0 s1 w ended k h = by ended h
     by (why.ReadFault which.Tables) h = absurd h
     by (why.ReadFault which.Comment) h = absurd h
     by (why.ReadFault which.Output) h = absurd h
-    by why.WriteFault h = (copies (λ with. InsertsPart standard_limits with task.replace) h.0, (let r = h.1 in let f = w.counts.writes in omega (arith, r, f)))
-    by why.NoMemory h = inr (copies (λ with. InsertsPart standard_limits with task.replace) h)
+    by why.WriteFault h = (copies (λ with. IsFilePart with task.replace) h.0, (let r = h.1 in let f = w.counts.writes in omega (arith, r, f)))
+    by why.NoMemory h = inr (copies (λ with. IsFilePart with task.replace) h)
 
 -- WHERE NOTHING IS WRITTEN
 

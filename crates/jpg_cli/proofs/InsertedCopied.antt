@@ -18,7 +18,7 @@ use Rattle.jpg_comments.specs.Begun.{Appends}
 use Rattle.jpg_comments.specs.Inserting.{InsertsPart}
 use Rattle.jpg_comments.specs.WriteInserted.{HasInserted, StandsAt}
 use Rattle.jpg_comments.specs.declared.insert.Insert.{Insert}
-use Rattle.jpg_cli.specs.InsertComment.{AfterAll, AfterFed, AfterRest, EndsInserting}
+use Rattle.jpg_cli.specs.InsertComment.{AfterAll, AfterFed, AfterRest, EndsInserting, IsFilePart}
 use Rattle.jpg_cli.specs.ReadComments.{HasCopied, OnlyCopies, rest_of}
 use Rattle.jpg_cli.proofs.CommentsRead.{take_again}
 use Rattle.jpg_cli.proofs.CommentsCopied.{copied, copied_still, left_still, outputs_still, some_taken, text_added, within_most}
@@ -55,9 +55,13 @@ fed_part comment bytes text replace (Some (why.ReadFault w)) c e same h = absurd
 fed_part comment bytes text replace (Some why.WriteFault) c e same h = absurd h
 fed_part comment bytes text replace (Some why.NoMemory) c e same h = h
 
-pub part_of_part : (comment bytes text : List ℕ) (replace : Bool) (k : ℕ) → InsertsPart standard_limits comment replace bytes text → InsertsPart standard_limits comment replace bytes (take k text)
-part_of_part comment bytes text replace k (inl none) = inl (ap (take k) none ∙ take_all k [] (omega arith))
-part_of_part comment bytes text replace k (inr (n, front, whole, is, e)) = (let again = take_again k n whole in inr (again.0, front, whole, is, ap (take k) e ∙ again.1))
+-- where there is a text, the marker is in the bytes
+pub file_part : (comment bytes text : List ℕ) (replace : Bool) → 0 < length text → InsertsPart standard_limits comment replace bytes text → IsFilePart comment replace bytes text
+file_part comment bytes text replace some (inl none) = absurd (not_none text none some)
+file_part comment bytes text replace some (inr h) = h
+
+pub part_of_part : (comment bytes text : List ℕ) (replace : Bool) (k : ℕ) → IsFilePart comment replace bytes text → IsFilePart comment replace bytes (take k text)
+part_of_part comment bytes text replace k (n, front, whole, is, e) = (let again = take_again k n whole in (again.0, front, whole, is, ap (take k) e ∙ again.1))
 
 -- fewer bytes than may be taken
 pub fed_short : (comment bytes text : List ℕ) (c : Insert) → c.limits ≡ standard_limits → HasInserted comment bytes text c → length bytes < standard_limits.input
@@ -78,7 +82,7 @@ rest_due start s2 comment bytes piece all replace (Some (why.Refused f)) c more 
 rest_due start s2 comment bytes piece all replace (Some (why.OpenFault w)) c more some h k = absurd h
 rest_due start s2 comment bytes piece all replace (Some (why.ReadFault w)) c more some h k = absurd h
 rest_due start s2 comment bytes piece all replace (Some why.WriteFault) c more some h k = absurd h
-rest_due start s2 comment bytes piece all replace (Some why.NoMemory) c more some h k = (bytes ++ piece, all, k, h)
+rest_due start s2 comment bytes piece all replace (Some why.NoMemory) c more some h k = (bytes ++ piece, all, k, file_part comment (bytes ++ piece) all replace some h)
 
 pub rest_fed : (start s0 s1 s2 : DeskState) (n : ℕ) (buf comment bytes text old out : List ℕ) (replace : Bool) (due : Option Why) (c : Insert) → length (bytes ++ take n buf) ≤ standard_limits.input → old ≡ [] → 0 < length text → Reads s0 (got.Bytes n) buf s1
     → Appends (λ all. AfterFed comment replace (bytes ++ take n buf) all due c) text old out → HasCopied start bytes text s0 → OnlyWrites s1 s2 → AfterWrite s1 out put.Done s2 → AfterRest comment replace start bytes due c s2
@@ -87,13 +91,13 @@ rest_fed start s0 s1 s2 n buf comment bytes text old out replace due c most empt
     rest_due start s2 comment bytes (take n buf) (text ++ h.0) replace due c (some_taken n buf r.after.0 r.after.1) (omega (arith, some, length-append text h.0)) h.2
     (copied start s0 s1 s2 bytes text (take n buf) h.0 most had r.after.2 r.outputs k written)
 
-pub rest_failed : (start s0 s1 s2 : DeskState) (n : ℕ) (buf comment bytes text old out : List ℕ) (replace : Bool) (due : Option Why) (c : Insert) → length (bytes ++ take n buf) ≤ standard_limits.input → c.limits ≡ standard_limits → c.replace ≡ replace → old ≡ [] → Reads s0 (got.Bytes n) buf s1
+pub rest_failed : (start s0 s1 s2 : DeskState) (n : ℕ) (buf comment bytes text old out : List ℕ) (replace : Bool) (due : Option Why) (c : Insert) → length (bytes ++ take n buf) ≤ standard_limits.input → c.limits ≡ standard_limits → c.replace ≡ replace → old ≡ [] → 0 < length text → Reads s0 (got.Bytes n) buf s1
     → Appends (λ all. AfterFed comment replace (bytes ++ take n buf) all due c) text old out → OnlyCopies start s0 → HasCopied start bytes text s0 → OnlyWrites s1 s2 → AfterWrite s1 out put.Failed s2 → EndsInserting comment replace start why.WriteFault s2
-rest_failed start s0 s1 s2 n buf comment bytes text old out replace due c most e same empty r h still had k w =
+rest_failed start s0 s1 s2 n buf comment bytes text old out replace due c most e same empty some r h still had k w =
     let piece = take n buf in
     let wrote = subst (λ (m : List ℕ). AfterWrite s1 m put.Failed s2) (sym (text_added old out h.0 empty h.1)) w in
     let written = AppendsPart-then start.outputs s1.outputs s2.outputs text h.0 (outputs_still s0 s1 text start r.outputs had.written) wrote.1 in
-    let part = part_of_part comment (bytes ++ piece) (text ++ h.0) replace written.0 (fed_part comment (bytes ++ piece) (text ++ h.0) replace due c e same h.2) in (
+    let part = part_of_part comment (bytes ++ piece) (text ++ h.0) replace written.0 (file_part comment (bytes ++ piece) (text ++ h.0) replace (omega (arith, some, length-append text h.0)) (fed_part comment (bytes ++ piece) (text ++ h.0) replace due c e same h.2)) in (
       (bytes ++ piece, take written.0 (text ++ h.0), record { most = most; read = left_still s1 s2 (bytes ++ piece) start k.left (Consumes-then start.left s0.left s1.left bytes piece had.read r.after.2); written = written.1 }, part),
       (let v = wrote.0 in let f = still.counts.writes in let g = r.counts.writes in omega arith),
     )

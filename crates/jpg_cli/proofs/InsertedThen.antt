@@ -8,16 +8,14 @@ use Rattle.jpg_base.specs.declared.names.Put.{Put}
 use Rattle.jpg_base.specs.declared.names.Put.TheVariants as put
 use Rattle.jpg_base.specs.Desk.{DeskState}
 use Rattle.jpg_base.specs.Laws.{Grows, NotesNames}
-use Rattle.jpg_spec.specs.Segments.{standard_limits}
 use Rattle.jpg_spec.specs.declared.answers.FaultAt.{FaultAt}
 use Rattle.jpg_spec.specs.declared.answers.Why.{Why}
 use Rattle.jpg_spec.specs.declared.answers.Why.TheVariants as why
 use Rattle.jpg_spec.specs.declared.answers.Which.TheVariants as which
-use Rattle.jpg_comments.specs.Inserting.{InsertsPart}
 use Rattle.jpg_cli.specs.Saying.{OnlySays}
 use Rattle.jpg_cli.specs.Reading.{IsFile}
 use Rattle.jpg_cli.specs.ReadComments.{rest_of}
-use Rattle.jpg_cli.specs.InsertComment.{IsFaultBefore, IsLongFile, IsNoHead, IsWholeFile}
+use Rattle.jpg_cli.specs.InsertComment.{IsFaultBefore, IsFilePart, IsLongFile, IsNoHead, IsWholeFile}
 use Rattle.jpg_cli.specs.CommentInserted.{Inserted, IsComment, IsInsertDue, ReadsAlone, Task, WritesText, asked_comment, asked_to_input, asked_to_output, task_told}
 use Rattle.jpg_cli.specs.CommentWords.{comment_told, file_told, write_told}
 use Rattle.jpg_cli.specs.declared.comment_words.WriteWords.{WriteWords}
@@ -123,13 +121,13 @@ inserted_then s0 s1 s2 task (why.ReadFault which.Comment) k h = record {
 }
 inserted_then s0 s1 s2 task (why.ReadFault which.Output) k h = absurd h
 inserted_then s0 s1 s2 task why.WriteFault k h =
-    (writes_then s0 s1 s2 task (λ comment. InsertsPart standard_limits comment task.replace) k h.0, (let r = h.1 in let f = k.counts.writes in omega (arith, r, f)))
+    (writes_then s0 s1 s2 task (λ comment. IsFilePart comment task.replace) k h.0, (let r = h.1 in let f = k.counts.writes in omega (arith, r, f)))
 inserted_then s0 s1 s2 task why.NoMemory k (inl h) = inl (record {
   count = h.count;
   names = notes_then s0 s1 s2 (take h.count (asked_to_input task put.Done)) k h.names;
   outputs = k.outputs ∙ h.outputs;
 })
-inserted_then s0 s1 s2 task why.NoMemory k (inr h) = inr (writes_then s0 s1 s2 task (λ comment. InsertsPart standard_limits comment task.replace) k h)
+inserted_then s0 s1 s2 task why.NoMemory k (inr h) = inr (writes_then s0 s1 s2 task (λ comment. IsFilePart comment task.replace) k h)
 
 -- WHERE NOTHING FAILED
 

@@ -15,12 +15,11 @@ use Rattle.jpg_spec.specs.declared.answers.FaultAt.{FaultAt}
 use Rattle.jpg_spec.specs.declared.answers.Why.{Why}
 use Rattle.jpg_spec.specs.declared.answers.Why.TheVariants as why
 use Rattle.jpg_spec.specs.declared.answers.Which.TheVariants as which
-use Rattle.jpg_comments.specs.Inserting.{InsertsPart}
 use Rattle.jpg_comments.specs.WriteInserted.{HasInserted}
 use Rattle.jpg_comments.specs.declared.insert.Insert.{Insert}
 use Rattle.jpg_cli.specs.CommentWords.{comment_told}
 use Rattle.jpg_cli.specs.declared.comment_words.WriteWords.{WriteWords}
-use Rattle.jpg_cli.specs.InsertComment.{IsAtHead, IsFaultBefore, IsLongFile, IsNoHead, IsWholeFile}
+use Rattle.jpg_cli.specs.InsertComment.{IsAtHead, IsFaultBefore, IsFilePart, IsLongFile, IsNoHead, IsWholeFile}
 use Rattle.jpg_cli.specs.ReadComments.{rest_of}
 use Rattle.jpg_cli.specs.Reading.{IsFile}
 
@@ -151,8 +150,8 @@ Inserted task old (why.OpenFault which.Output) new = IsOutputUncreated task old 
 Inserted task old (why.ReadFault which.Comment) new = IsCommentUnread task old new
 Inserted task old (why.ReadFault which.Input) new =
     (ReadsAlone task IsNoHead old new ⊎ WritesText task (λ comment. IsWholeFile comment task.replace) old new) × Rose old.counts.reads new.counts.reads
-Inserted task old why.WriteFault new = WritesText task (λ comment. InsertsPart standard_limits comment task.replace) old new × Rose old.counts.writes new.counts.writes
-Inserted task old why.NoMemory new = IsOutOfMemory task old new ⊎ WritesText task (λ comment. InsertsPart standard_limits comment task.replace) old new
+Inserted task old why.WriteFault new = WritesText task (λ comment. IsFilePart comment task.replace) old new × Rose old.counts.writes new.counts.writes
+Inserted task old why.NoMemory new = IsOutOfMemory task old new ⊎ WritesText task (λ comment. IsFilePart comment task.replace) old new
 Inserted task old other new = ⊥
 
 -- Where no count of open, read or write rose, the answer is the one that the comment and the input have, or want of memory.

@@ -43,6 +43,10 @@ AfterAll comment replace bytes text other = ⊥
 abbrev pub IsWholeFile : List ℕ → Bool → List ℕ → List ℕ → Type 0
 IsWholeFile comment replace bytes text = IsInserted standard_limits bytes comment replace text × (length bytes < standard_limits.input)
 
+-- a first part of the file with the comment inserted, of a front of the bytes, in which the frame header's marker is
+abbrev pub IsFilePart : List ℕ → Bool → List ℕ → List ℕ → Type 0
+IsFilePart comment replace bytes text = (n : ℕ) × (front : ℕ) × (whole : List ℕ) × IsInserted standard_limits (take front bytes) comment replace whole × (text ≡ take n whole)
+
 -- as many bytes as may be taken
 abbrev pub IsLongFile : List ℕ → Bool → FaultAt → List ℕ → List ℕ → List ℕ → Type 0
 IsLongFile comment replace f rest bytes text =
@@ -52,8 +56,8 @@ abbrev pub EndsInserting : List ℕ → Bool → DeskState → Why → DeskState
 EndsInserting comment replace old why.Done new = Copies (IsWholeFile comment replace) old new × IsAtEnd new.left
 EndsInserting comment replace old (why.Refused f) new = Copies (IsLongFile comment replace f (rest_of new.left)) old new
 EndsInserting comment replace old (why.ReadFault which.Input) new = Copies (IsWholeFile comment replace) old new × Rose old.counts.reads new.counts.reads
-EndsInserting comment replace old why.WriteFault new = Copies (InsertsPart standard_limits comment replace) old new × Rose old.counts.writes new.counts.writes
-EndsInserting comment replace old why.NoMemory new = Copies (InsertsPart standard_limits comment replace) old new
+EndsInserting comment replace old why.WriteFault new = Copies (IsFilePart comment replace) old new × Rose old.counts.writes new.counts.writes
+EndsInserting comment replace old why.NoMemory new = Copies (IsFilePart comment replace) old new
 EndsInserting comment replace old other new = ⊥
 
 -- From these bytes on: one more piece was read and written, or why the writing ends.

@@ -79,8 +79,9 @@ fn work<D: Desk>(alloc: Global, words: &[String], desk: &mut D) -> Why
 /// standard input left to right onto standard output: a sequential file of one gray scan, with any
 /// header, sides that are multiples of 8, and no restarts. Any other input is refused with the first
 /// fault that its header shows, or as not built yet, and nothing is written then. `rdjpgcom [FILE]`
-/// prints the comments of a file, or of standard input, onto standard output. What is wrong or refused
-/// is named in a message.
+/// prints the comments of a file, or of standard input, onto standard output. `wrjpgcom` writes a file,
+/// or standard input, with a comment inserted before its frame header onto standard output. What is
+/// wrong or refused is named in a message.
 pub fn run<D: Desk>(alloc: Global, words: &[String], desk: &mut D) -> Ended
     ensures { Ran (map string_bytes words.now) (D.state desk.old) result (D.state desk.new) }
 {

@@ -25,4 +25,4 @@ returns-in-Failed-write_text-clause-after g c = λ start comment bytes text h so
     let state = g.D.Desk.state in
     let most = read_most comment bytes text c.read_within.new.buffer c.in-Bytes.count c.room.result c.args.insert.now c.requires.limits h (c.room.ensures.left comment bytes text h) c.in-Bytes.ensures.within in
     rest_failed start (state c.args.desk.now) (state c.read_within.new.desk) (state c.write_text.new.desk) c.in-Bytes.count c.read_within.new.buffer comment bytes text c.args.out.now c.take_piece-due.new.out c.args.insert.now.replace c.take_piece-due.result c.take_piece-due.new.insert
-    most c.take_piece-due.ensures.limits c.take_piece-due.ensures.replace c.requires.empty c.in-Bytes.ensures.read (c.take_piece-due.ensures.taken comment bytes text h) still had c.in-Failed-write_text.ensures.kept c.in-Failed-write_text.ensures.written
+    most c.take_piece-due.ensures.limits c.take_piece-due.ensures.replace c.requires.empty some c.in-Bytes.ensures.read (c.take_piece-due.ensures.taken comment bytes text h) still had c.in-Failed-write_text.ensures.kept c.in-Failed-write_text.ensures.written

@@ -15,5 +15,5 @@ returns-in-Done-write_text-clause-after g c = λ task comment bytes start insert
 pub returns-in-Failed-write_text-clause-after : goal.returns-in-Failed-write_text-clause-after
 returns-in-Failed-write_text-clause-after g c = λ task comment bytes start insert e some at r h limits same.
     let state = g.D.Desk.state in
-    first_unwritten task comment bytes c.args.out.now start (state c.args.desk.now) (state c.create.new.self) (state c.write_text.new.desk) c.args.output.now c.args.due insert e limits same r h
+    first_unwritten task comment bytes c.args.out.now start (state c.args.desk.now) (state c.create.new.self) (state c.write_text.new.desk) c.args.output.now c.args.due insert e some limits same r h
     c.in-Done.ensures c.in-Failed-write_text.ensures.kept c.in-Failed-write_text.ensures.written
