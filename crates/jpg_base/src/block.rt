@@ -1,7 +1,16 @@
 // A block of 64 coefficients (T.81, A.3.6).
-ghost use Rattle.std.specs.Prelude.{◌≡◌, ◌<◌, pos, replicate, slice_index_or, slice_set, length};
+ghost use Rattle.std.specs.Prelude.{◌≡◌, ◌<◌, ◌≤ℤ◌, ℕ, pos, negsuc, replicate, slice_index_or, slice_set, length};
+ghost use Rattle.jpg_spec.specs.Transposed.{transposed};
 
 use std::marker::Model;
+use std::simd::i16x64;
+
+/// The place in zigzag order of the frequencies exchanged, for each place.
+const EXCHANGED: [usize; 64] = [
+    0, 2, 1, 5, 4, 3, 9, 8, 7, 6, 14, 13, 12, 11, 10, 20, 19, 18, 17, 16, 15, 27, 26, 25, 24, 23,
+    22, 21, 35, 34, 33, 32, 31, 30, 29, 28, 42, 41, 40, 39, 38, 37, 36, 48, 47, 46, 45, 44, 43, 53,
+    52, 51, 50, 49, 57, 56, 55, 54, 60, 59, 58, 62, 61, 63,
+];
 
 /// 64 numbers in zigzag order: place 0 is the DC, places 1 to 63 are the AC (T.81, A.3.6).
 #[derive(Clone, Copy, Debug, PartialEq, Eq)]
@@ -51,4 +60,42 @@ impl Block {
     {
         let _ = &self.values;
     }
+
+    /// The block with its frequencies exchanged: each place has the number of the frequencies exchanged.
+    #[inline(always)]
+    pub fn transposed(&self) -> Block
+        ensures value { result ≡ transposed (pos 0) self.now }
+        ensures long { length self.now ≡ 64 }
+    {
+        Block {
+            values: exchanged(&self.values),
+        }
+    }
+}
+
+// Tells that the number fits its type. It does nothing.
+#[inline(always)]
+fn fits(value: i16)
+    ensures { (negsuc 32767 ≤ℤ value) × (value ≤ℤ pos 32767) }
+{
+    let _ = value;
+}
+
+// Tells that all numbers fit their type. It does nothing.
+#[inline(always)]
+fn all_fit(values: &[i16; 64])
+    ensures { (k : ℕ) → k < 64 → (negsuc 32767 ≤ℤ slice_index_or values.now k (pos 0)) × (slice_index_or values.now k (pos 0) ≤ℤ pos 32767) }
+{
+    for k in 0..64 {
+        fits(values[k]);
+    }
+}
+
+// The numbers of the frequencies exchanged.
+#[inline(always)]
+fn exchanged(values: &[i16; 64]) -> [i16; 64]
+    ensures { result ≡ transposed (pos 0) values.now }
+{
+    all_fit(values);
+    i16x64::from_array(*values).swizzle(EXCHANGED).to_array()
 }

@@ -22,7 +22,8 @@ pub trait Desk {
     /// number, which is at most `buf.len()` and `u32::MAX`. `End` comes exactly where no bytes are
     /// left. `Failed` counts as a read, and takes no bytes. The rest of `buf` may hold anything.
     ///
-    /// An input has to be open, and `buf` may not be empty.
+    /// An input has to be open, and `buf` may not be empty. Behind `End` and `Failed` no input counts
+    /// as open: whoever is generic over desks reads no further.
     fn read(&mut self, buf: &mut [u8]) -> Got
         requires open { (state self.old).input_open ≡ true }
         requires room { 0 < length buf.old }

@@ -1,6 +1,5 @@
 // A desk in memory, for tests: it fails at the calls that it is told.
-ghost use Rattle.std.specs.Option.{option_copied};
-ghost use Rattle.std.specs.Prelude.{◌≡◌, ◌≤◌, ◌<◌, ◌+◌, ◌^◌, ◌-◌, min, ℕ, List, [], ◌∷◌, ◌++◌, length, take, drop, vec_len, true, map, MatchOption, IfSome, IfOk, OnOk, OnErr, Some, None, slice_get, if◌then◌else◌};
+ghost use Rattle.std.specs.Prelude.{◌≡◌, ◌≤◌, ◌<◌, ◌+◌, ◌^◌, ◌-◌, min, [], ◌∷◌, ◌++◌, length, take, vec_len, true, OnOk, OnErr, Some, None, slice_get};
 ghost use Rattle.std.specs.Option.{option_map};
 
 mod parts;
@@ -52,8 +51,6 @@ pub struct MemoryDesk {
 }
 
 impl MemoryDesk {
-    ghost use Rattle.jpg_base.specs.Desk.{DeskState};
-    ghost use Rattle.jpg_base.specs.Name.{file_of, is_same_name};
     ghost use Rattle.jpg_base.specs.Memory.{memory_state, memory_said, memory_outputs, memory_failing, memory_calls, memory_piece, SameNumbers, IsNew, with_file};
 
     /// A desk with no files and no failures, which gives at most `piece` bytes a read. `piece` is at
@@ -100,7 +97,7 @@ impl MemoryDesk {
 
     /// Makes the call of this number fail, where all calls of `open`, `read`, `create`, `write` and
     /// `say` are counted together from 1. A number that has passed, and 0, change nothing. A `write`
-    /// or `say` that fails so appends at most the first half. At `NoMemory` nothing has changed.
+    /// or `say` that fails so appends a first part, perhaps nothing. At `NoMemory` nothing has changed.
     pub fn fail(&mut self, call: u64) -> Result<(), NoMemory>
         ensures ok { OnOk result (memory_failing self.new ≡ memory_failing self.old ++ call ∷ []) }
         ensures err { OnErr result (memory_failing self.new ≡ memory_failing self.old) }
@@ -169,6 +166,7 @@ impl Desk for MemoryDesk {
         requires room { 0 < length buf.old }
         ensures desk { Reads (memory_state self.old) result buf.new (memory_state self.new) }
         ensures called { Called self.old (counted_read result (memory_state self.old).counts) self.new }
+        ensures open { (memory_state self.new).input_open ≡ true }
         ensures exact { result ≡ read_answer self.old (length buf.old) }
     {
         let fails = is_failing(&mut self.calls, &self.failing);

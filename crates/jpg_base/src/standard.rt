@@ -4,6 +4,7 @@ ghost use Rattle.jpg_base.specs.Desk.{raised, Rose};
 ghost use Rattle.jpg_base.specs.Standard.{ReadsSome, WritesAll};
 
 use crate::{Counts, Desk, Got, Name, Put};
+use std::alloc::AllocError;
 use std::io::{Read, Write};
 use std::rt::Runtime;
 use std::{fs, io};
@@ -15,11 +16,26 @@ enum Source<R: Runtime> {
     File(R::File),
 }
 
+// Where bytes are written. Standard output and files differ in this alone.
 #[derive(Drop)]
 enum Sink<R: Runtime> {
     Closed,
-    Standard,
+    Standard(R),
     File(R::File),
+}
+
+impl<R: Runtime> Write for Sink<R> {
+    fn write(&mut self, piece: &[u8]) -> io::Result<usize> {
+        match self {
+            Sink::Closed => Ok(0),
+            Sink::Standard(rt) => io::writer(rt).write(piece),
+            Sink::File(file) => file.write(piece),
+        }
+    }
+
+    fn flush(&mut self) -> io::Result<()> {
+        Ok(())
+    }
 }
 
 // All that the desk tells of itself.
@@ -71,6 +87,15 @@ impl<R: Runtime> StdDesk<R> {
                 output_created: false,
             },
         }
+    }
+}
+
+// Standard output, unless there is no memory for it.
+fn standard_output<R: Runtime>(rt: &R) -> Option<Sink<R>> {
+    let rt: Result<R, AllocError> = rt.clone();
+    match rt {
+        Ok(rt) => Some(Sink::Standard(rt)),
+        Err(_) => None,
     }
 }
 
@@ -141,6 +166,7 @@ impl<R: Runtime> Desk for StdDesk<R> {
         requires room { 0 < length buf.old }
         ensures desk { Reads (std_state self.old.told) result buf.new (std_state self.new.told) }
         ensures counts { (std_state self.new.told).counts ≡ counted_read result (std_state self.old.told).counts }
+        ensures open { (std_state self.new.told).input_open ≡ true }
     {
         let answer = match &mut self.source {
             Source::Closed => Got::Failed,
@@ -159,7 +185,7 @@ impl<R: Runtime> Desk for StdDesk<R> {
         ensures input { name.now ≡ Name.In → result ≡ Put.Failed }
     {
         let sink = match name {
-            Name::Out => Some(Sink::Standard),
+            Name::Out => standard_output(&self.rt),
             Name::In => None,
             Name::File(path) => match fs::create(&self.rt, path.as_str()) {
                 Ok(file) => Some(Sink::File(file)),
@@ -184,11 +210,7 @@ impl<R: Runtime> Desk for StdDesk<R> {
         ensures desk { Writes (std_state self.old.told) piece.now result (std_state self.new.told) }
         ensures counts { (std_state self.new.told).counts ≡ counted_write result (std_state self.old.told).counts }
     {
-        let answer = match &mut self.sink {
-            Sink::Closed => Put::Failed,
-            Sink::Standard => write_whole(&mut io::writer(&self.rt), piece),
-            Sink::File(file) => write_whole(file, piece),
-        };
+        let answer = write_whole(&mut self.sink, piece);
         if let Put::Failed = answer {
             raise(&mut self.told.counts.writes);
         }

@@ -5,8 +5,7 @@ use Rattle.jpg_base.specs.declared.names.Name.{Name}
 use Rattle.jpg_base.specs.declared.names.Name.TheVariants as name
 use Rattle.jpg_base.specs.Desk.{DeskState}
 use Rattle.jpg_spec.specs.Segments.{standard_limits}
-use Rattle.jpg_spec.specs.Markers.{Segment}
-use Rattle.jpg_spec.specs.CommentText.{IsInserted, IsInsertFault, IsReadFault, IsReadWhole}
+use Rattle.jpg_spec.specs.CommentText.{IsInserted, IsInsertFault, IsReadFault}
 use Rattle.jpg_spec.specs.CommentWords.{CommentSource, from_input, from_words, from_file}
 use Rattle.jpg_spec.specs.declared.answers.FaultAt.{FaultAt}
 use Rattle.jpg_spec.specs.declared.answers.Why.{Why}
@@ -14,7 +13,7 @@ use Rattle.jpg_spec.specs.declared.answers.Why.TheVariants as why
 use Rattle.jpg_comments.specs.Inserting.{HoldsHead}
 use Rattle.jpg_comments.specs.Printing.{HoldsWhole}
 use Rattle.jpg_comments.proofs.OneAnswer.{heads_sound, reading_sound, whole_no_fault}
-use Rattle.jpg_cli.specs.Certain.{IsDoneOrWanting, IsTold, IsToldComment}
+use Rattle.jpg_cli.specs.Certain.{HasFrameHeader, HasWholeFile, IsDoneOrWanting, IsTold, IsToldComment}
 use Rattle.jpg_cli.specs.CommentInserted.{HasInputFault, HasLongComment, Inserted, IsComment, IsInsertDue, Task}
 use Rattle.jpg_cli.specs.ReadComments.{IsPrintDue, Printed}
 use Rattle.jpg_cli.specs.Reading.{IsFile}
@@ -24,7 +23,7 @@ use Rattle.jpg_cli.proofs.Input.{some_inj}
 use Rattle.jpg_cli.proofs.InsertedThen.{insert_due}
 
 -- a file that is told is one
-one_file : (files : Option (Name → Option (List ℕ))) (n : Name) (bytes other : List ℕ) → IsTold files n bytes → IsFile files n other → other ≡ bytes
+pub one_file : (files : Option (Name → Option (List ℕ))) (n : Name) (bytes other : List ℕ) → IsTold files n bytes → IsFile files n other → other ≡ bytes
 one_file None n bytes other told is = absurd told
 one_file (Some files) n bytes other told is = some_inj other bytes (sym is ∙ told)
 
@@ -35,16 +34,15 @@ one_comment old (from_file file) comment other told is = one_file old.files (nam
 
 -- PRINTED
 
-pub printed_certain : (old new : DeskState) (input output : Name) (w : Why) (bytes : List ℕ) (n : ℕ) (before : List Segment) → IsTold old.files input bytes → n ≤ length bytes → n ≤ standard_limits.input → IsReadWhole standard_limits (take n bytes) before
-    → NoneRose old.counts new.counts → Printed input output old w new → IsDoneOrWanting w
-printed_certain old new input output w bytes n before told long most whole none printed = by w (print_due old new input output w none printed)
+pub printed_certain : (old new : DeskState) (input output : Name) (w : Why) → HasWholeFile old input → NoneRose old.counts new.counts → Printed input output old w new → IsDoneOrWanting w
+printed_certain old new input output w (bytes, n, told, front) none printed = by w (print_due old new input output w none printed)
   where
     by : (w : Why) → IsPrintDue input old w → IsDoneOrWanting w
     by why.Done due = tt
     by (why.Usage u) due = absurd due
     by (why.Refused f) (other, is, fault) =
         let shown = subst (λ (b : List ℕ). IsReadFault standard_limits b f.fault f.at) (one_file old.files input bytes other told is) fault in
-        absurd (whole_no_fault standard_limits (HoldsWhole standard_limits) (reading_sound standard_limits) bytes n f.at f.fault long most (before, whole) shown)
+        absurd (whole_no_fault standard_limits (HoldsWhole standard_limits) (reading_sound standard_limits) bytes n f.at f.fault front.0 front.1 front.2 shown)
     by (why.OpenFault u) due = absurd due
     by (why.ReadFault u) due = absurd due
     by why.WriteFault due = absurd due
@@ -62,14 +60,16 @@ no_insert_fault bytes comment text task f (before, code, front, rest, cut, head,
     whole_no_fault standard_limits (HoldsHead standard_limits) (heads_sound standard_limits) bytes (length front) f.at f.fault within (omega (arith, within, short)) holds fault
 no_insert_fault bytes comment text task f inserted short (inr (long, at, most, there)) = omega (arith, most, short)
 
-pub inserted_certain : (old new : DeskState) (task : Task) (w : Why) (comment bytes text : List ℕ) → IsToldComment old task.comment comment → length comment ≤ 65000 → IsTold old.files task.input bytes → IsInserted standard_limits bytes comment task.replace text
-    → length bytes < standard_limits.input → NoneRose old.counts new.counts → Inserted task old w new → IsDoneOrWanting w
-inserted_certain old new task w comment bytes text from fits told is short none done = by w (insert_due old new task w none done)
+pub inserted_certain : (old new : DeskState) (task : Task) (w : Why) → HasFrameHeader old task → NoneRose old.counts new.counts → Inserted task old w new → IsDoneOrWanting w
+inserted_certain old new task w has none done = by w (insert_due old new task w none done)
   where
     refused : (f : FaultAt) → HasLongComment task f old ⊎ HasInputFault task f old → ⊥
-    refused f (inl (other, source, long, fault)) = (let same = ap length (one_comment old task.comment comment other from source) in omega (arith, same, long, fits))
+    refused f (inl (other, source, long, fault)) =
+        let fits = has.fits in
+        let same = ap length (one_comment old task.comment has.comment other has.source source) in omega (arith, same, long, fits)
     refused f (inr (with, other, source, file, fault)) =
-        no_insert_fault bytes comment text task f is short (subst (λ (b : List ℕ). IsInsertFault standard_limits b f.fault f.at) (one_file old.files task.input bytes other told file) fault)
+        no_insert_fault has.bytes has.comment has.text task f has.inserted has.short
+        (subst (λ (b : List ℕ). IsInsertFault standard_limits b f.fault f.at) (one_file old.files task.input has.bytes other has.told file) fault)
 
     by : (w : Why) → IsInsertDue task old w → IsDoneOrWanting w
     by why.Done due = tt

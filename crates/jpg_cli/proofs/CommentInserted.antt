@@ -21,14 +21,14 @@ use Rattle.jpg_spec.specs.declared.answers.Why.TheVariants as why
 use Rattle.jpg_spec.specs.declared.answers.Which.TheVariants as which
 use Rattle.jpg_comments.specs.WriteInserted.{HasInserted, StandsAt}
 use Rattle.jpg_comments.specs.declared.insert.Insert.{Insert}
-use Rattle.jpg_cli.specs.CommentInserted.{AfterBegin, Inserted, IsOutOfMemory, IsOutputUncreated, IsComment, IsReading, IsShortComment, IsWriting, ReadsAlone, Task, WritesText, asked_comment, asked_to_input, asked_to_output}
-use Rattle.jpg_cli.specs.CommentTaken.{AfterComment, AfterFile, AfterWords}
+use Rattle.jpg_cli.specs.CommentInserted.{AfterBegin, Inserted, IsOutOfMemory, IsOutputUncreated, IsComment, IsCommentRead, IsReading, IsShortComment, IsWriting, ReadsAlone, ReadsComment, ReadsLast, Task, WritesText, asked_comment, asked_to_input, asked_to_output}
+use Rattle.jpg_cli.specs.CommentTaken.{AfterComment, AfterFile, AfterWords, IsUnasked}
 use Rattle.jpg_cli.specs.InsertComment.{AfterFed, EndsBefore, EndsInserting, IsAtHead, IsBegunWith, IsFaultBefore, IsFilePart, IsLongFile, IsNoHead, IsWholeFile}
-use Rattle.jpg_cli.specs.ReadComments.{Copies, HasCopied, OnlyCopies, asked_one, rest_of}
-use Rattle.jpg_cli.specs.Reading.{IsFile, Keeps, OnlyReads}
-use Rattle.jpg_cli.proofs.CommentsPrinted.{file_read}
+use Rattle.jpg_cli.specs.ReadComments.{Copies, HasCopied, OnlyCopies, asked_one}
+use Rattle.jpg_cli.specs.Reading.{IsFile, Keeps, OnlyReads, ReadsPart, rest_of}
+use Rattle.jpg_cli.proofs.Input.{file_read}
 use Rattle.jpg_cli.proofs.CommentsCopied.{had_told, none_read}
-use Rattle.jpg_cli.proofs.InsertedCopied.{fed_part, fed_short, file_part, not_none, part_of_part, stands}
+use Rattle.jpg_cli.proofs.InsertedCopied.{fed_part, fed_short, file_part, long_file, not_none, part_of_part, stands}
 
 -- READING
 
@@ -101,7 +101,7 @@ due_first task comment bytes text old now (Some why.Done) c some h w = absurd h
 due_first task comment bytes text old now (Some (why.Usage u)) c some h w = absurd h
 due_first task comment bytes text old now (Some (why.Refused f)) c some (of, inl (none, faults)) w = absurd (not_none text none some)
 due_first task comment bytes text old now (Some (why.Refused f)) c some (of, inr (long, is)) w =
-    inr (inr (writes task comment bytes text old now (λ with. IsLongFile with task.replace f (rest_of now.left)) w (of (rest_of now.left), long, is)))
+    inr (inr (writes task comment bytes text old now (λ with. IsLongFile with task.replace f (rest_of now.left)) w (long_file comment bytes text (rest_of now.left) task.replace f of long is)))
 due_first task comment bytes text old now (Some (why.OpenFault which)) c some h w = absurd h
 due_first task comment bytes text old now (Some (why.ReadFault which)) c some h w = absurd h
 due_first task comment bytes text old now (Some why.WriteFault) c some h w = absurd h
@@ -189,12 +189,16 @@ reading_still task comment bytes old s0 s1 r k same =
     let P : Option (List ℕ) → Type 0 = λ l. Consumes s0.left l [] in
     subst (λ (b : List ℕ). IsReading task comment b old s1) (append-nil bytes) (reading_more task comment bytes [] old s0 s1 (let most = r.most in omega (arith, most, ap length (append-nil bytes))) r k (subst P (sym same) (none_read s0.left)))
 
-out_of_memory : (task : Task) (comment bytes : List ℕ) (old s0 s1 : DeskState) → IsReading task comment bytes old s0 → OnlyReads s0 s1 → IsOutOfMemory task old s1
-out_of_memory task comment bytes old s0 s1 r k =
+out_of_memory : (task : Task) (comment bytes : List ℕ) (old now : DeskState) → IsReading task comment bytes old now → IsOutOfMemory task old now
+out_of_memory task comment bytes old now r =
     let due = asked_to_input task put.Done in
-    let N : List (Name × Put) → Type 0 = λ names. NotesNames old.asked names s1.asked in
-    let P : Option (List (Name × Put)) → Type 0 = λ a. NotesNames old.asked due a in
-    record { count = length due; names = subst N (sym (take_all (length due) due (omega arith))) (subst P (sym k.asked) r.names); outputs = k.outputs ∙ r.outputs }
+    let N : List (Name × Put) → Type 0 = λ names. NotesNames old.asked names now.asked in
+    record {
+      count = length due;
+      names = subst N (sym (take_all (length due) due (omega arith))) r.names;
+      outputs = r.outputs;
+      read = inr (inr (bytes, r.most, file_read old.files task.input r.left now.left bytes r.opened r.read));
+    }
 
 pub ended_before : (task : Task) (comment bytes : List ℕ) (old s0 s1 : DeskState) (w : Why) → IsReading task comment bytes old s0 → OnlyReads s0 s1 → EndsBefore bytes s0 w s1 → Inserted task old w s1
 ended_before task comment bytes old s0 s1 why.Done r k h = absurd h
@@ -211,7 +215,7 @@ ended_before task comment bytes old s0 s1 (why.ReadFault which.Tables) r k h = a
 ended_before task comment bytes old s0 s1 (why.ReadFault which.Comment) r k h = absurd h
 ended_before task comment bytes old s0 s1 (why.ReadFault which.Output) r k h = absurd h
 ended_before task comment bytes old s0 s1 why.WriteFault r k h = absurd h
-ended_before task comment bytes old s0 s1 why.NoMemory r k h = inl (out_of_memory task comment bytes old s0 s1 r k)
+ended_before task comment bytes old s0 s1 why.NoMemory r k (piece, more, most) = inl (out_of_memory task comment (bytes ++ piece) old s1 (reading_more task comment bytes piece old s0 s1 most r k more))
 
 pub reads_then : (a b c : DeskState) → OnlyReads a b → OnlyReads b c → OnlyReads a c
 reads_then a b c h k = record {
@@ -220,7 +224,6 @@ reads_then a b c h k = record {
   files = k.files ∙ h.files;
   outputs = k.outputs ∙ h.outputs;
   said = k.said ∙ h.said;
-  input_open = k.input_open ∙ h.input_open;
   output_created = k.output_created ∙ h.output_created;
 }
 
@@ -267,11 +270,22 @@ none_noted None (Some b) e = absurd (let z : Some b ≡ None = e in cc)
 none_noted (Some a) (Some b) e = (let z : b ≡ a = (let y : Some b ≡ Some a = e in cc) in z ∙ sym (append-nil a))
 
 -- The bytes of the words are taken as they are. Where they are too long, so is their front.
-pub took : (old now : DeskState) (source : CommentSource) (bytes : List ℕ) → AfterComment old source (Ok bytes) now → (comment : List ℕ) × IsComment old source comment × NotesNames old.asked (asked_comment source put.Done) now.asked × ((bytes ≡ comment) ⊎ (bytes ≡ take 65001 comment))
-took old now from_input bytes (names, (comment, is, front)) = (comment, is, names, inr front)
-took old now (from_words text) bytes (same, e) = (text, refl, none_noted old.asked now.asked same, inl e)
-took old now (from_file file) bytes (inl (names, (comment, is, front))) = (comment, is, names, inr front)
+pub took : (old now : DeskState) (source : CommentSource) (bytes : List ℕ) → AfterComment old source (Ok bytes) now
+    → (comment : List ℕ) × IsComment old source comment × NotesNames old.asked (asked_comment source put.Done) now.asked × ((bytes ≡ comment) ⊎ (bytes ≡ take 65001 comment)) × IsCommentRead source comment now
+took old now from_input bytes (names, is, front) = (bytes ++ rest_of now.left, is, names, inr front, ap (λ (b : List ℕ). b ++ rest_of now.left) front)
+took old now (from_words text) bytes (same, e) = (text, refl, none_noted old.asked now.asked same.0, inl e, tt)
+took old now (from_file file) bytes (inl (names, is, front)) = (bytes ++ rest_of now.left, is, names, inr front, ap (λ (b : List ℕ). b ++ rest_of now.left) front)
 took old now (from_file file) bytes (inr (e, same)) = absurd (let z : Ok bytes ≡ Err why.NoMemory = e in cc)
+
+few_taken : (bytes all : List ℕ) → bytes ≡ take 65001 all → length bytes ≤ 65001
+few_taken bytes all e = omega (arith, ap length e, length-take 65001 all)
+
+-- what was read of it
+comment_read : (old now : DeskState) (source : CommentSource) (bytes : List ℕ) → AfterComment old source (Ok bytes) now → (now.left ≡ old.left) ⊎ ReadsComment source old now
+comment_read old now from_input bytes (names, is, front) = inr (bytes, few_taken bytes (bytes ++ rest_of now.left) front, is)
+comment_read old now (from_words text) bytes (same, e) = inl same.1
+comment_read old now (from_file file) bytes (inl (names, is, front)) = inr (bytes, few_taken bytes (bytes ++ rest_of now.left) front, is)
+comment_read old now (from_file file) bytes (inr (e, same)) = absurd (let z : Ok bytes ≡ Err why.NoMemory = e in cc)
 
 -- all of it was taken
 all_taken : (bytes comment : List ℕ) → (bytes ≡ comment) ⊎ (bytes ≡ take 65001 comment) → length bytes ≤ 65000 → comment ≡ bytes
@@ -292,17 +306,26 @@ same_fault f fault at = ap (λ (x : Fault). (let y : FaultAt = record { fault = 
 comment_long : (task : Task) (old now : DeskState) (bytes : List ℕ) (f : FaultAt) → Keeps old now → AfterComment old task.comment (Ok bytes) now → f.fault ≡ CommentTooLong → f.at ≡ 65001 → 65000 < length bytes → Inserted task old (why.Refused f) now
 comment_long task old now bytes f k h fault at long =
     let t = took old now task.comment bytes h in
-    inl (record { comment = t.0; names = t.2; outputs = k.outputs; source = t.1; long = long_comment bytes t.0 t.3 long; fault = same_fault f fault at })
+    inl (record { comment = t.0; names = t.2; outputs = k.outputs; source = t.1; read = t.4; long = long_comment bytes t.0 t.3 long; fault = same_fault f fault at })
 
 front_of : (xs ys : List (Name × Put)) → take (length xs) (xs ++ ys) ≡ xs
 front_of xs ys = take-append-le (length xs) xs ys (omega arith) ∙ take_all (length xs) xs (omega arith)
+
+comment_last : (task : Task) (old now : DeskState) → (now.left ≡ old.left) ⊎ ReadsComment task.comment old now → ReadsLast task old now
+comment_last task old now (inl same) = inl same
+comment_last task old now (inr read) = inr (inl read)
 
 -- it was taken, and then memory was wanting
 comment_only : (task : Task) (old now : DeskState) (bytes : List ℕ) → Keeps old now → AfterComment old task.comment (Ok bytes) now → Inserted task old why.NoMemory now
 comment_only task old now bytes k h =
     let asked = asked_comment task.comment put.Done in
     let N : List (Name × Put) → Type 0 = λ names. NotesNames old.asked names now.asked in
-    inl (record { count = length asked; names = subst N (sym (front_of asked ((task.input, put.Done) ∷ []))) (took old now task.comment bytes h).2; outputs = k.outputs })
+    inl (record {
+      count = length asked;
+      names = subst N (sym (front_of asked ((task.input, put.Done) ∷ []))) (took old now task.comment bytes h).2;
+      outputs = k.outputs;
+      read = comment_last task old now (comment_read old now task.comment bytes h);
+    })
 
 pub not_begun : (task : Task) (old now : DeskState) (bytes : List ℕ) (w : Why) → Keeps old now → AfterComment old task.comment (Ok bytes) now → IsBegunWith bytes task.replace (Err w) → Inserted task old w now
 not_begun task old now bytes why.Done k h b = absurd b
@@ -315,24 +338,25 @@ not_begun task old now bytes why.NoMemory k h b = comment_only task old now byte
 
 -- WHERE IT WASN'T TAKEN
 
-file_untaken : (task : Task) (old now : DeskState) (file : Name) (w : Why) → is_given task.comment ≡ false → ((answer : Put) → asked_comment task.comment answer ≡ asked_one file answer) → ((bytes : List ℕ) → IsFile old.files file bytes → IsComment old task.comment bytes) → Keeps old now → AfterFile old file (Err w) now → Inserted task old w now
-file_untaken task old now file why.Done from same is k h = absurd h
-file_untaken task old now file (why.Usage u) from same is k h = absurd h
-file_untaken task old now file (why.Refused f) from same is k h = absurd h
-file_untaken task old now file (why.OpenFault which.Input) from same is k h = absurd h
-file_untaken task old now file (why.OpenFault which.Script) from same is k h = absurd h
-file_untaken task old now file (why.OpenFault which.Tables) from same is k h = absurd h
-file_untaken task old now file (why.OpenFault which.Comment) from same is k h = record {
+file_untaken : (task : Task) (old now : DeskState) (file : Name) (w : Why) → is_given task.comment ≡ false → ((answer : Put) → asked_comment task.comment answer ≡ asked_one file answer) → ((bytes : List ℕ) → IsFile old.files file bytes → IsComment old task.comment bytes)
+    → (ReadsPart 65001 file old now → ReadsComment task.comment old now) → Keeps old now → AfterFile old file (Err w) now → Inserted task old w now
+file_untaken task old now file why.Done from same is part k h = absurd h
+file_untaken task old now file (why.Usage u) from same is part k h = absurd h
+file_untaken task old now file (why.Refused f) from same is part k h = absurd h
+file_untaken task old now file (why.OpenFault which.Input) from same is part k h = absurd h
+file_untaken task old now file (why.OpenFault which.Script) from same is part k h = absurd h
+file_untaken task old now file (why.OpenFault which.Tables) from same is part k h = absurd h
+file_untaken task old now file (why.OpenFault which.Comment) from same is part k h = record {
   names = (let N : List (Name × Put) → Type 0 = λ names. NotesNames old.asked names now.asked in subst N (sym (same put.Failed)) h.0);
   outputs = k.outputs;
   opens = h.1;
   from = from;
 }
-file_untaken task old now file (why.OpenFault which.Output) from same is k h = absurd h
-file_untaken task old now file (why.ReadFault which.Input) from same is k h = absurd h
-file_untaken task old now file (why.ReadFault which.Script) from same is k h = absurd h
-file_untaken task old now file (why.ReadFault which.Tables) from same is k h = absurd h
-file_untaken task old now file (why.ReadFault which.Comment) from same is k h = record {
+file_untaken task old now file (why.OpenFault which.Output) from same is part k h = absurd h
+file_untaken task old now file (why.ReadFault which.Input) from same is part k h = absurd h
+file_untaken task old now file (why.ReadFault which.Script) from same is part k h = absurd h
+file_untaken task old now file (why.ReadFault which.Tables) from same is part k h = absurd h
+file_untaken task old now file (why.ReadFault which.Comment) from same is part k h = record {
   names = (let N : List (Name × Put) → Type 0 = λ names. NotesNames old.asked names now.asked in subst N (sym (same put.Done)) h.0);
   outputs = k.outputs;
   reads = h.1;
@@ -340,15 +364,15 @@ file_untaken task old now file (why.ReadFault which.Comment) from same is k h = 
   bytes = h.2.0;
   source = (h.2.1, is (h.2.0 ++ rest_of now.left) h.2.2);
 }
-file_untaken task old now file (why.ReadFault which.Output) from same is k h = absurd h
-file_untaken task old now file why.WriteFault from same is k h = absurd h
-file_untaken task old now file why.NoMemory from same is k h =
+file_untaken task old now file (why.ReadFault which.Output) from same is part k h = absurd h
+file_untaken task old now file why.WriteFault from same is part k h = absurd h
+file_untaken task old now file why.NoMemory from same is part k h =
     let N : List (Name × Put) → Type 0 = λ names. NotesNames old.asked names now.asked in
     let first : take 1 (asked_to_input task put.Done) ≡ asked_one file put.Done = ap (λ (names : List (Name × Put)). take 1 (names ++ (task.input, put.Done) ∷ [])) (same put.Done) in
-    inl (record { count = 1; names = subst N (sym first) h; outputs = k.outputs })
+    inl (record { count = 1; names = subst N (sym first) h.0; outputs = k.outputs; read = inr (inl (part h.1)) })
 
-nothing_asked : (task : Task) (old now : DeskState) → Keeps old now → now.asked ≡ old.asked → Inserted task old why.NoMemory now
-nothing_asked task old now k same = inl (record { count = 0; names = none_noted old.asked now.asked same; outputs = k.outputs })
+nothing_asked : (task : Task) (old now : DeskState) → Keeps old now → IsUnasked old now → Inserted task old why.NoMemory now
+nothing_asked task old now k same = inl (record { count = 0; names = none_noted old.asked now.asked same.0; outputs = k.outputs; read = inl same.1 })
 
 words_untaken : (task : Task) (old now : DeskState) (text : List ℕ) (w : Why) → Keeps old now → AfterWords old text (Err w) now → Inserted task old w now
 words_untaken task old now text why.Done k h = absurd h
@@ -361,10 +385,10 @@ words_untaken task old now text why.NoMemory k h = nothing_asked task old now k 
 
 untaken_from : (source : CommentSource) (input output : Name) (replace : Bool) (old now : DeskState) (w : Why) → Keeps old now → AfterComment old source (Err w) now
     → Inserted (record { comment = source; input = input; output = output; replace = replace }) old w now
-untaken_from from_input input output replace old now w k h = file_untaken (record { comment = from_input; input = input; output = output; replace = replace }) old now name.In w refl (λ answer. refl) (λ bytes is. is) k h
+untaken_from from_input input output replace old now w k h = file_untaken (record { comment = from_input; input = input; output = output; replace = replace }) old now name.In w refl (λ answer. refl) (λ bytes is. is) (λ part. part) k h
 untaken_from (from_words text) input output replace old now w k h = words_untaken (record { comment = from_words text; input = input; output = output; replace = replace }) old now text w k h
 untaken_from (from_file file) input output replace old now w k (inl h) =
-    file_untaken (record { comment = from_file file; input = input; output = output; replace = replace }) old now (name.File file) w refl (λ answer. refl) (λ bytes is. is) k h
+    file_untaken (record { comment = from_file file; input = input; output = output; replace = replace }) old now (name.File file) w refl (λ answer. refl) (λ bytes is. is) (λ part. part) k h
 untaken_from (from_file file) input output replace old now w k (inr (e, same)) =
     let task : Task = record { comment = from_file file; input = input; output = output; replace = replace } in
     subst (λ (v : Why). Inserted task old v now) (let z : why.NoMemory ≡ w = cc in z) (nothing_asked task old now k same)

@@ -16,7 +16,9 @@ use Rattle.jpg_spec.specs.declared.answers.Which.TheVariants as which
 use Rattle.jpg_comments.specs.Begun.{Appends}
 use Rattle.jpg_comments.specs.ReadComments.{HasRead}
 use Rattle.jpg_comments.specs.declared.comments.Comments.{Comments}
-use Rattle.jpg_cli.specs.ReadComments.{AfterEnd, AfterNext, AfterTaking, EndsCopying, HasCopied, IsFaultText, OnlyCopies, rest_of}
+use Rattle.jpg_cli.specs.Reading.{rest_of}
+use Rattle.jpg_cli.specs.ReadComments.{AfterEnd, AfterNext, AfterTaking, EndsCopying, HasCopied, IsFaultText, OnlyCopies}
+use Rattle.jpg_cli.proofs.Input.{none_left}
 use Rattle.jpg_cli.proofs.CommentsRead.{part_of_part, taken_part, text_so_far}
 
 -- NOTHING WRITTEN
@@ -46,7 +48,6 @@ copies_told left outputs s = record {
   asked = refl;
   files = refl;
   said = refl;
-  input_open = refl;
   output_created = refl;
 }
 
@@ -59,7 +60,6 @@ copies_then a b c h k = record {
   asked = k.asked ∙ h.asked;
   files = k.files ∙ h.files;
   said = k.said ∙ h.said;
-  input_open = k.input_open ∙ h.input_open;
   output_created = k.output_created ∙ h.output_created;
 }
 
@@ -106,10 +106,6 @@ next_unwritten start s0 s1 s2 bytes text piece more due c most e still fell h ha
     )
 
 -- AT THE END
-
-pub none_left : (left : Option (List ℕ)) → IsAtEnd left → rest_of left ≡ []
-none_left None h = refl
-none_left (Some left) h = h
 
 pub next_end : (start s0 s1 : DeskState) (bytes text : List ℕ) (w : Why) → HasCopied start bytes text s0 → IsAtEnd s0.left → s1.left ≡ s0.left → s1.outputs ≡ s0.outputs → AfterEnd bytes text w → EndsCopying start w s1
 next_end start s0 s1 bytes text why.Done had end left outputs h = absurd h

@@ -1,30 +1,24 @@
 -- What printing the comments of an input comes to, over the states that a desk tells.
-use Rattle.std.proofs.Common.{◌≡◌, ℕ, List, ◌++◌, take, Option, None, Some, sym, ap, ◌∙◌, subst, arith}
+use Rattle.std.proofs.Common.{◌≡◌, ℕ, List, ◌++◌, take, Option, sym, ◌∙◌, subst, arith}
 use Rattle.std.specs.Io.KnownBytes.{Consumes}
 use Rattle.std.proofs.lemmas.List.{length-append, take-append-le}
 use Rattle.jpg_base.specs.declared.names.Name.{Name}
 use Rattle.jpg_base.specs.declared.names.Put.{Put}
 use Rattle.jpg_base.specs.declared.names.Put.TheVariants as put
-use Rattle.jpg_base.specs.Desk.{DeskState, Creates, Opens, OpensFile}
+use Rattle.jpg_base.specs.Desk.{DeskState, Creates, Opens}
 use Rattle.jpg_base.specs.Laws.{Grows, Grows-from, NotesNames, NotesNames-then}
 use Rattle.jpg_spec.specs.declared.answers.Why.{Why}
 use Rattle.jpg_spec.specs.declared.answers.Why.TheVariants as why
 use Rattle.jpg_spec.specs.declared.answers.Which.TheVariants as which
-use Rattle.jpg_cli.specs.Reading.{IsFile}
+use Rattle.jpg_cli.specs.Reading.{IsFile, rest_of}
 use Rattle.jpg_spec.specs.Segments.{standard_limits}
 use Rattle.jpg_spec.specs.CommentText.{IsReadWhole}
 use Rattle.jpg_cli.specs.Saying.{OnlySays}
 use Rattle.jpg_cli.specs.Run.{NoneRose}
-use Rattle.jpg_cli.specs.ReadComments.{Copies, EndsCopying, IsFaultText, IsPrintDue, IsTextPart, IsTextSoFar, IsWholeText, OnlyCopies, Printed, Prints, asked_one, asked_two, rest_of}
-use Rattle.jpg_cli.proofs.Input.{none_is_none, notes_one, some_inj}
+use Rattle.jpg_cli.specs.ReadComments.{Copies, EndsCopying, IsFaultText, IsPrintDue, IsTextPart, IsTextSoFar, IsWholeText, OnlyCopies, Printed, Prints, asked_one, asked_two}
+use Rattle.jpg_cli.proofs.Input.{file_read, notes_one}
 
 -- AN INPUT OPENED, AND AN OUTPUT CREATED
-
-pub file_read : (files : Option (Name → Option (List ℕ))) (n : Name) (l1 l2 : Option (List ℕ)) (bytes : List ℕ) → OpensFile files n l1 → Consumes l1 l2 bytes → IsFile files n (bytes ++ rest_of l2)
-file_read None n l1 l2 bytes h k = tt
-file_read (Some files) n None l2 bytes h k = absurd (none_is_none h.0 h.2)
-file_read (Some files) n (Some l) None bytes h k = absurd k
-file_read (Some files) n (Some l) (Some rest) bytes h k = h.1 ∙ ap Some (sym (some_inj l h.0 h.2) ∙ k)
 
 both_names : (s0 s1 s2 s3 : DeskState) (input output : Name) (answer : Put) → Opens s0 input put.Done s1 → Creates s1 output answer s2 → s3.asked ≡ s2.asked → NotesNames s0.asked (asked_two input output answer) s3.asked
 both_names s0 s1 s2 s3 input output answer h k same =
@@ -108,10 +102,14 @@ whole_due s0 s1 input output h =
     let rest = rest_of s1.left in
     let is = h.is in
     let front : take is.count (h.bytes ++ rest) ≡ take is.count h.bytes = take-append-le is.count h.bytes rest is.within in
-    let within = is.within in (
+    let within = is.within in let most = h.most in (
       h.bytes ++ rest,
+      is.count,
+      is.before,
       h.file,
-      (is.count, is.before, omega (arith, within, length-append h.bytes rest), subst (λ (b : List ℕ). IsReadWhole standard_limits b is.before) (sym front) is.whole),
+      omega (arith, within, length-append h.bytes rest),
+      omega (arith, within, most),
+      subst (λ (b : List ℕ). IsReadWhole standard_limits b is.before) (sym front) is.whole,
     )
 
 pub print_due : (s0 s1 : DeskState) (input output : Name) (w : Why) → NoneRose s0.counts s1.counts → Printed input output s0 w s1 → IsPrintDue input s0 w

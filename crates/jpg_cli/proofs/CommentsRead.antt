@@ -65,7 +65,7 @@ whole_text bytes piece text used limits e short h =
     }
 
 -- a fault that is a file's stands in its bytes
-fault_within : (is_whole : List ℕ → Type 0) (bytes : List ℕ) (f : Fault) (n : ℕ) → IsMarkerFault standard_limits is_whole bytes f n → n ≤ length bytes
+pub fault_within : (is_whole : List ℕ → Type 0) (bytes : List ℕ) (f : Fault) (n : ℕ) → IsMarkerFault standard_limits is_whole bytes f n → n ≤ length bytes
 fault_within is_whole bytes f n (w, inl h) = h.1.0
 fault_within is_whole bytes f n (w, inr (inl h)) = (let e = h.1 in let l = h.2 in omega (arith, e, l))
 fault_within is_whole bytes f n (w, inr (inr h)) = (let e = h.1 in omega (arith, e))
@@ -104,8 +104,9 @@ fault_text bytes piece had text f c limits same e r short h rest =
     record {
       before = p.0;
       fault = of rest;
+      within = within;
       last = fault_last (HoldsWhole standard_limits) bytes piece f so.nothing less short (of []);
-      whole = subst (λ (l : List ℕ). AreWholeBefore standard_limits l f.fault p.0) (sym (front_is f.at (bytes ++ piece) rest within)) p.1;
+      whole = p.1;
       is = p.2;
     }
 
@@ -130,10 +131,9 @@ end_text bytes text c f e h s =
     record {
       before = so.before;
       fault = subst (λ (l : List ℕ). IsReadFault standard_limits l f.fault f.at) (sym (append-nil bytes)) fault;
+      within = omega (arith, at);
       last = omega (arith, at);
-      whole =
-          subst (λ (l : List ℕ). AreWholeBefore standard_limits l f.fault so.before)
-          (sym (ap (λ (n : ℕ). take n (bytes ++ [])) at ∙ front_is (length bytes) bytes [] (omega arith) ∙ take_all (length bytes) bytes (omega arith))) (inr so.begun);
+      whole = subst (λ (l : List ℕ). AreWholeBefore standard_limits l f.fault so.before) (sym (ap (λ (n : ℕ). take n bytes) at ∙ take_all (length bytes) bytes (omega arith))) (inr so.begun);
       is = so.is;
     }
 
@@ -161,7 +161,7 @@ whole_part bytes text h = all_of h.count bytes text h.before (inl h.whole) h.is
 
 fault_part : (bytes text : List ℕ) (f : FaultAt) → IsFaultText f [] bytes text → IsTextPart bytes text
 fault_part bytes text f h =
-    all_of f.at bytes text h.before (inr (f.fault, subst (λ (l : List ℕ). AreWholeBefore standard_limits (take f.at l) f.fault h.before) (append-nil bytes) h.whole)) h.is
+    all_of f.at bytes text h.before (inr (f.fault, h.whole)) h.is
 
 -- what was taken is a first part
 pub taken_part : (bytes text : List ℕ) (due : Option Why) (c : Comments) → c.limits ≡ standard_limits → AfterTaking bytes text due c → IsTextPart bytes text

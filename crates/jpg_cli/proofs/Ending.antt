@@ -1,5 +1,5 @@
 -- A run is its work, and then its message.
-use Rattle.std.proofs.Common.{◌≡◌, ℕ, List, take, Option, sym, ◌∙◌, subst, arith, inl, inr}
+use Rattle.std.proofs.Common.{◌≡◌, ℕ, ◌^◌, ◌-◌, List, take, Option, sym, ◌∙◌, subst, arith, inl, inr}
 use Rattle.std.specs.Io.KnownBytes.{Appends}
 use Rattle.jpg_base.specs.declared.names.Name.{Name}
 use Rattle.jpg_base.specs.declared.names.Name.TheVariants as name
@@ -15,6 +15,7 @@ use Rattle.jpg_spec.specs.CommentWords.{WordsTold, words_right, words_wrong}
 use Rattle.jpg_cli.specs.Commands.{Command, not_built, flip_horizontal, print_comments, insert_comment, command_asked, name_of}
 use Rattle.jpg_cli.proofs.CommentsPrinted.{printed_then}
 use Rattle.jpg_cli.proofs.InsertedThen.{inserted_then}
+use Rattle.jpg_cli.proofs.Input.{part_still, read_still}
 use Rattle.jpg_spec.specs.Messages.{message, code_of}
 use Rattle.jpg_cli.specs.Reading.{asked_input, asked_both}
 use Rattle.jpg_cli.specs.Saying.{OnlySays}
@@ -32,13 +33,15 @@ turned_then s0 s1 s2 why.Done k t = record {
   names = notes_still s0.asked s1.asked s2.asked (asked_both put.Done) k.asked t.names;
   output = grows_still s0.outputs s1.outputs s2.outputs (name.Out, turned_file s0 t.picture) k.outputs t.output;
   picture = t.picture;
+  read = read_still (2 ^ 28) t.picture.input s1 s2 k.left t.read;
   again = t.again;
 }
 turned_then s0 s1 s2 (why.Usage u) k t = absurd t
 turned_then s0 s1 s2 (why.Refused f) k t = record {
   names = notes_still s0.asked s1.asked s2.asked (asked_input put.Done) k.asked t.names;
   outputs = k.outputs ∙ t.outputs;
-  input = t.input;
+  refused = t.refused;
+  read = read_still (2 ^ 28) t.refused.input s1 s2 k.left t.read;
 }
 turned_then s0 s1 s2 (why.OpenFault which.Input) k t = record {
   names = notes_still s0.asked s1.asked s2.asked (asked_input put.Failed) k.asked t.names;
@@ -53,11 +56,13 @@ turned_then s0 s1 s2 (why.OpenFault which.Output) k t = record {
   outputs = k.outputs ∙ t.outputs;
   opens = (let r = t.opens in let f = k.counts.opens in omega arith);
   picture = t.picture;
+  read = read_still (2 ^ 28) t.picture.input s1 s2 k.left t.read;
 }
 turned_then s0 s1 s2 (why.ReadFault which.Input) k t = record {
   names = notes_still s0.asked s1.asked s2.asked (asked_input put.Done) k.asked t.names;
   outputs = k.outputs ∙ t.outputs;
   reads = (let r = t.reads in let f = k.counts.reads in omega arith);
+  read = part_still (2 ^ 28 - 1) name.In s0 s1 s2 k.left t.read;
 }
 turned_then s0 s1 s2 (why.ReadFault which.Script) k t = absurd t
 turned_then s0 s1 s2 (why.ReadFault which.Tables) k t = absurd t
@@ -67,17 +72,22 @@ turned_then s0 s1 s2 why.WriteFault k t = record {
   names = notes_still s0.asked s1.asked s2.asked (asked_both put.Done) k.asked t.names;
   writes = (let r = t.writes in let f = k.counts.writes in omega arith);
   picture = t.picture;
+  read = read_still (2 ^ 28) t.picture.input s1 s2 k.left t.read;
   count = t.count;
   output = grows_still s0.outputs s1.outputs s2.outputs (name.Out, take t.count (turned_file s0 t.picture)) k.outputs t.output;
 }
-turned_then s0 s1 s2 why.NoMemory k t = record { names = notes_still s0.asked s1.asked s2.asked (asked_input put.Done) k.asked t.names; outputs = k.outputs ∙ t.outputs }
+turned_then s0 s1 s2 why.NoMemory k t = record {
+  names = notes_still s0.asked s1.asked s2.asked (asked_input put.Done) k.asked t.names;
+  outputs = k.outputs ∙ t.outputs;
+  read = part_still (2 ^ 28) name.In s0 s1 s2 k.left t.read;
+}
 
 worked_then : (a : WordsTold Command) (s0 s1 s2 : DeskState) (w : Why) → OnlySays s1 s2 → Worked a s0 w s1 → Worked a s0 w s2
-worked_then (words_wrong u) s0 s1 s2 w k t = (t.0, (k.asked ∙ t.1.0, k.outputs ∙ t.1.1))
-worked_then (words_right not_built) s0 s1 s2 w k t = (t.0, (k.asked ∙ t.1.0, k.outputs ∙ t.1.1))
+worked_then (words_wrong u) s0 s1 s2 w k t = (t.0, (k.asked ∙ t.1.0, k.outputs ∙ t.1.1, k.left ∙ t.1.2))
+worked_then (words_right not_built) s0 s1 s2 w k t = (t.0, (k.asked ∙ t.1.0, k.outputs ∙ t.1.1, k.left ∙ t.1.2))
 worked_then (words_right flip_horizontal) s0 s1 s2 w k t = turned_then s0 s1 s2 w k t
 worked_then (words_right (print_comments files)) s0 s1 s2 w k (inl t) = inl (printed_then s0 s1 s2 (name_of files.input) (name_of files.output) w k t)
-worked_then (words_right (print_comments files)) s0 s1 s2 w k (inr t) = inr (t.0, (k.asked ∙ t.1.0, k.outputs ∙ t.1.1))
+worked_then (words_right (print_comments files)) s0 s1 s2 w k (inr t) = inr (t.0, (k.asked ∙ t.1.0, k.outputs ∙ t.1.1, k.left ∙ t.1.2))
 worked_then (words_right (insert_comment asked)) s0 s1 s2 w k t = inserted_then s0 s1 s2 (task_of asked) w k t
 
 said_still : (a : Option (List ℕ)) (b c : Option (List ℕ)) (t : List ℕ) → b ≡ a → Appends b c t → Appends a c t
@@ -102,7 +112,7 @@ ran words s0 s1 s2 code w h k m e = record {
 pub due_answer : (s0 s1 : DeskState) (w : Why) → NoneRose s0.counts s1.counts → Turned s0 w s1 → IsDue s0 w
 due_answer s0 s1 why.Done n t = t.picture
 due_answer s0 s1 (why.Usage u) n t = absurd t
-due_answer s0 s1 (why.Refused f) n t = t.input
+due_answer s0 s1 (why.Refused f) n t = t.refused
 due_answer s0 s1 (why.OpenFault which.Input) n t = absurd (n.0 t.opens)
 due_answer s0 s1 (why.OpenFault which.Script) n t = absurd t
 due_answer s0 s1 (why.OpenFault which.Tables) n t = absurd t

@@ -15,11 +15,12 @@ use Rattle.jpg_comments.specs.Begun.{Appends}
 use Rattle.jpg_comments.specs.Inserting.{HoldsHead}
 use Rattle.jpg_comments.specs.WriteInserted.{HasInserted, StandsAt}
 use Rattle.jpg_comments.specs.declared.insert.Insert.{Insert}
+use Rattle.jpg_cli.specs.Reading.{rest_of}
 use Rattle.jpg_cli.specs.InsertComment.{AfterAll, AfterFed, AfterHead, EndsBefore, IsAtHead}
 use Rattle.jpg_cli.specs.declared.insert_comment.AtHead.TheVariants as at_head
-use Rattle.jpg_cli.specs.ReadComments.{rest_of}
-use Rattle.jpg_cli.proofs.CommentsRead.{fault_last, no_fault_shown, upto}
-use Rattle.jpg_cli.proofs.CommentsCopied.{none_left, none_read, text_added}
+use Rattle.jpg_cli.proofs.CommentsRead.{fault_last, fault_within, no_fault_shown, upto}
+use Rattle.jpg_cli.proofs.CommentsCopied.{none_read, text_added}
+use Rattle.jpg_cli.proofs.Input.{none_left}
 use Rattle.jpg_cli.proofs.InsertedCopied.{inserted_so_far, not_none, stands}
 use Rattle.jpg_cli.proofs.Running.{take_front}
 
@@ -108,12 +109,14 @@ ended s0 s1 piece comment bytes text replace why.Done was c most e short h read 
 ended s0 s1 piece comment bytes text replace (why.Usage u) was c most e short h read fed none = absurd fed
 ended s0 s1 piece comment bytes text replace (why.Refused f) was c most e short h read (of, inl (empty, faults)) none =
     let nothing = nothing_there comment bytes was e h in
-    (piece, read, most, (faults (rest_of s1.left), fault_last (HoldsHead standard_limits) bytes piece f nothing.shows nothing.short short (faults [])))
+    let within = fault_within (HoldsHead standard_limits) ((bytes ++ piece) ++ []) f.fault f.at (faults []) in
+    let last = fault_last (HoldsHead standard_limits) bytes piece f nothing.shows nothing.short short (faults []) in
+    (piece, read, most, (faults (rest_of s1.left), omega (arith, within, length-append (bytes ++ piece) []), last))
 ended s0 s1 piece comment bytes text replace (why.Refused f) was c most e short h read (of, inr (long, is)) none = absurd (not_none text none (text_is_some (take f.at (bytes ++ piece)) comment text replace is))
 ended s0 s1 piece comment bytes text replace (why.OpenFault w) was c most e short h read fed none = absurd fed
 ended s0 s1 piece comment bytes text replace (why.ReadFault w) was c most e short h read fed none = absurd fed
 ended s0 s1 piece comment bytes text replace why.WriteFault was c most e short h read fed none = absurd fed
-ended s0 s1 piece comment bytes text replace why.NoMemory was c most e short h read fed none = tt
+ended s0 s1 piece comment bytes text replace why.NoMemory was c most e short h read fed none = (piece, read, most)
 
 pub head_ended : (s0 s1 : DeskState) (n : ℕ) (buf comment bytes old out : List ℕ) (replace : Bool) (w : Why) (was c : Insert) → length (bytes ++ take n buf) ≤ standard_limits.input → was.limits ≡ standard_limits → old ≡ [] → length buf ≤ 65536
     → HasInserted comment bytes [] was → Reads s0 (got.Bytes n) buf s1 → Appends (λ text. AfterFed comment replace (bytes ++ take n buf) text (Some w) c) [] old out → out ≡ [] → EndsBefore bytes s0 w s1
@@ -131,7 +134,7 @@ head_ends s0 s1 comment bytes replace (why.Refused f) was e h end left a =
       [],
       (let P : Option (List ℕ) → Type 0 = λ l. Consumes s0.left l [] in subst P (sym left) (none_read s0.left)),
       (let short = nothing.short in omega (arith, short, ap length (append-nil bytes))),
-      (subst (λ (b : List ℕ). IsHeadFault standard_limits b f.fault f.at) (sym same) a.0, omega (arith, at, ap length (append-nil bytes))),
+      (subst (λ (b : List ℕ). IsHeadFault standard_limits b f.fault f.at) (sym same) a.0, omega (arith, at, ap length (append-nil bytes)), omega (arith, at, ap length (append-nil bytes))),
     )
 head_ends s0 s1 comment bytes replace (why.OpenFault w) was e h end left a = absurd a
 head_ends s0 s1 comment bytes replace (why.ReadFault w) was e h end left a = absurd a

@@ -1,16 +1,15 @@
 -- What reading the input comes to, over the states that a desk tells.
-use Rattle.std.proofs.Common.{◌≡◌, ℕ, ◌^◌, ◌≤◌, List, [], ◌∷◌, ◌++◌, length, take, Option, None, Some, Ok, sym, ap, ◌∙◌, subst, arith, inl, inr}
+use Rattle.std.proofs.Common.{◌≡◌, ℕ, ◌≤◌, List, [], ◌∷◌, ◌++◌, length, take, Option, None, Some, refl, sym, ap, ◌∙◌, subst, arith, inl, inr}
 use Rattle.std.specs.Prelude.{◌⊎◌}
 use Rattle.std.specs.Io.KnownBytes.{Consumes, IsAtEnd}
 use Rattle.std.proofs.lemmas.List.{take_all, take_at, append-nil}
 use Rattle.jpg_base.specs.declared.names.Name.{Name}
-use Rattle.jpg_base.specs.declared.names.Name.TheVariants as name
 use Rattle.jpg_base.specs.declared.names.Put.{Put}
 use Rattle.jpg_base.specs.declared.names.Put.TheVariants as put
 use Rattle.jpg_base.specs.Desk.{DeskState, NotesName, OpensFile, Opens}
 use Rattle.jpg_base.specs.Laws.{NotesNames}
 use Rattle.jpg_cli.specs.declared.reading.Taken.TheVariants as taken
-use Rattle.jpg_cli.specs.Reading.{OnlyReads, AfterReading, IsFile, AfterInput}
+use Rattle.jpg_cli.specs.Reading.{OnlyReads, AfterReading, IsFile, ReadsPart, rest_of, IsReadTo}
 
 pub notes_one : (a b : Option (List (Name × Put))) (entry : Name × Put) → NotesName a entry b → NotesNames a (entry ∷ []) b
 notes_one a None entry h = tt
@@ -28,21 +27,37 @@ none_is_none x e = cc
 pub some_inj : (x y : List ℕ) → Some x ≡ Some y → x ≡ y
 some_inj x y e = cc
 
-input_is : (limit : ℕ) (files : Option (Name → Option (List ℕ))) (n : Name) (l1 l2 : Option (List ℕ)) (taken : List ℕ) → OpensFile files n l1 → Consumes l1 l2 taken → length taken ≤ limit
-    → (limit ≤ length taken) ⊎ IsAtEnd l2 → (input : List ℕ) × IsFile files n input × (taken ≡ take limit input)
-input_is limit None n l1 l2 taken h k le end = (taken, tt, sym (take_all limit taken le))
-input_is limit (Some files) n None l2 taken h k le end = absurd (none_is_none h.0 h.2)
-input_is limit (Some files) n (Some l) None taken h k le end = absurd k
-input_is limit (Some files) n (Some l) (Some rest) taken h k le end =
-    (h.0, h.1, front_is limit h.0 taken rest (sym (some_inj l h.0 h.2) ∙ k) le end)
+-- none are left of an input at its end
+pub none_left : (left : Option (List ℕ)) → IsAtEnd left → rest_of left ≡ []
+none_left None h = refl
+none_left (Some left) h = h
+
+none_behind : (limit : ℕ) (taken : List ℕ) (left : Option (List ℕ)) → (limit ≤ length taken) ⊎ IsAtEnd left → (limit ≤ length taken) ⊎ (rest_of left ≡ [])
+none_behind limit taken left (inl ge) = inl ge
+none_behind limit taken left (inr end) = inr (none_left left end)
+
+-- a file that is opened and read has the bytes that were read, and those that are left
+pub file_read : (files : Option (Name → Option (List ℕ))) (n : Name) (l1 l2 : Option (List ℕ)) (bytes : List ℕ) → OpensFile files n l1 → Consumes l1 l2 bytes → IsFile files n (bytes ++ rest_of l2)
+file_read None n l1 l2 bytes h k = tt
+file_read (Some files) n None l2 bytes h k = absurd (none_is_none h.0 h.2)
+file_read (Some files) n (Some l) None bytes h k = absurd k
+file_read (Some files) n (Some l) (Some rest) bytes h k = h.1 ∙ ap Some (sym (some_inj l h.0 h.2) ∙ k)
+
+noted : (s0 s1 s2 : DeskState) (n : Name) → Opens s0 n put.Done s1 → OnlyReads s1 s2 → NotesNames s0.asked ((n, put.Done) ∷ []) s2.asked
+noted s0 s1 s2 n h k = notes_one s0.asked s2.asked (n, put.Done) (let P : Option (List (Name × Put)) → Type 0 = λ a. NotesName s0.asked (n, put.Done) a in subst P (sym k.asked) h.asked)
 
 -- an input is read
 pub took : (limit : ℕ) (s0 s1 s2 : DeskState) (n : Name) (v : List ℕ) → Opens s0 n put.Done s1 → OnlyReads s1 s2 → AfterReading limit s1 taken.All v s2
-    → NotesNames s0.asked ((n, put.Done) ∷ []) s2.asked × ((input : List ℕ) × IsFile s0.files n input × (v ≡ take limit input))
+    → NotesNames s0.asked ((n, put.Done) ∷ []) s2.asked × IsFile s0.files n (v ++ rest_of s2.left) × (v ≡ take limit (v ++ rest_of s2.left))
 took limit s0 s1 s2 n v h k r = (
-  notes_one s0.asked s2.asked (n, put.Done) (let P : Option (List (Name × Put)) → Type 0 = λ a. NotesName s0.asked (n, put.Done) a in subst P (sym k.asked) h.asked),
-  input_is limit s0.files n s1.left s2.left v h.after.2 r.0 r.1 r.2,
+  noted s0 s1 s2 n h k,
+  file_read s0.files n s1.left s2.left v h.after.2 r.0,
+  front_is limit (v ++ rest_of s2.left) v (rest_of s2.left) refl r.1 (none_behind limit v s2.left r.2),
 )
 
-pub took_input : (s0 s1 s2 : DeskState) (v : List ℕ) → Opens s0 name.In put.Done s1 → OnlyReads s1 s2 → AfterReading (2 ^ 28) s1 taken.All v s2 → AfterInput s0 (Ok v) s2
-took_input s0 s1 s2 v h k r = took (2 ^ 28) s0 s1 s2 name.In v h k r
+-- what was read of a file stays so where no more of it is read
+pub part_still : (most : ℕ) (file : Name) (a b c : DeskState) → c.left ≡ b.left → ReadsPart most file a b → ReadsPart most file a c
+part_still most file a b c e (bytes, few, is) = (bytes, few, (let P : Option (List ℕ) → Type 0 = λ l. IsFile a.files file (bytes ++ rest_of l) in subst P (sym e) is))
+
+pub read_still : (most : ℕ) (bytes : List ℕ) (b c : DeskState) → c.left ≡ b.left → IsReadTo most bytes b → IsReadTo most bytes c
+read_still most bytes b c e h = let P : Option (List ℕ) → Type 0 = λ l. bytes ≡ take most bytes ++ rest_of l in subst P (sym e) h

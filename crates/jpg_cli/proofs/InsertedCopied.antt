@@ -1,6 +1,6 @@
 -- What writing a file with a comment inserted comes to behind its head, over the states that a desk tells.
 use Rattle.std.proofs.Common.{◌≡◌, ℕ, ◌+◌, ◌<◌, ◌≤◌, Bool, List, [], ◌++◌, length, take, Option, None, Some, sym, ap, ◌∙◌, subst, arith, inl, inr}
-use Rattle.std.proofs.lemmas.List.{length-append, take_all}
+use Rattle.std.proofs.lemmas.List.{length-append, take_all, take-append-le}
 use Rattle.std.specs.Io.KnownBytes.{IsAtEnd}
 use Rattle.jpg_base.specs.declared.names.Put.TheVariants as put
 use Rattle.jpg_base.specs.declared.names.Got.TheVariants as got
@@ -8,19 +8,22 @@ use Rattle.jpg_base.specs.Desk.{DeskState, AfterWrite, AppendsLast, Reads, Rose}
 use Rattle.jpg_base.specs.Laws.{AppendsPart-then, Consumes-then}
 use Rattle.jpg_huff.specs.Out.{OnlyWrites}
 use Rattle.jpg_spec.specs.Segments.{standard_limits}
-use Rattle.jpg_spec.specs.CommentText.{IsInserted}
+use Rattle.jpg_spec.specs.CommentText.{IsInserted, IsInsertFault}
+use Rattle.jpg_spec.specs.declared.fault.Fault.TheVariants.{InputTooLong}
+use Rattle.jpg_spec.specs.declared.answers.FaultAt.{FaultAt}
 use Rattle.jpg_spec.specs.declared.answers.Why.{Why}
 use Rattle.jpg_spec.specs.declared.answers.Why.TheVariants as why
 use Rattle.jpg_spec.specs.declared.answers.Which.TheVariants as which
 use Rattle.jpg_spec.specs.declared.frame.Limits.{Limits}
 use Rattle.jpg_markers.specs.Reading.{Reading, reading_of}
 use Rattle.jpg_comments.specs.Begun.{Appends}
-use Rattle.jpg_comments.specs.Inserting.{InsertsPart}
+use Rattle.jpg_comments.specs.Inserting.{HoldsHead, InsertsPart}
 use Rattle.jpg_comments.specs.WriteInserted.{HasInserted, StandsAt}
 use Rattle.jpg_comments.specs.declared.insert.Insert.{Insert}
-use Rattle.jpg_cli.specs.InsertComment.{AfterAll, AfterFed, AfterRest, EndsInserting, IsFilePart}
-use Rattle.jpg_cli.specs.ReadComments.{HasCopied, OnlyCopies, rest_of}
-use Rattle.jpg_cli.proofs.CommentsRead.{take_again}
+use Rattle.jpg_cli.specs.Reading.{rest_of}
+use Rattle.jpg_cli.specs.InsertComment.{AfterAll, AfterFed, AfterRest, EndsInserting, IsFilePart, IsLongFile}
+use Rattle.jpg_cli.specs.ReadComments.{HasCopied, OnlyCopies}
+use Rattle.jpg_cli.proofs.CommentsRead.{fault_within, take_again}
 use Rattle.jpg_cli.proofs.CommentsCopied.{copied, copied_still, left_still, outputs_still, some_taken, text_added, within_most}
 
 -- THE TEXT
@@ -70,6 +73,16 @@ fed_short comment bytes text c e h = subst (λ (l : Limits). length bytes < l.in
 pub read_most : (comment bytes text buf : List ℕ) (n room : ℕ) (c : Insert) → c.limits ≡ standard_limits → HasInserted comment bytes text c → room + length bytes ≡ c.limits.input → (1 ≤ room → n ≤ room) → length (bytes ++ take n buf) ≤ standard_limits.input
 read_most comment bytes text buf n room c e h left fits = within_most bytes buf n room (left ∙ ap (λ (l : Limits). l.input) e) (fed_short comment bytes text c e h) fits
 
+-- as many bytes as may be taken are there
+long_within : (bytes : List ℕ) (f : FaultAt) → IsInsertFault standard_limits (bytes ++ []) f.fault f.at → f.at ≤ length bytes
+long_within bytes f (inl h) = omega (arith, fault_within (HoldsHead standard_limits) (bytes ++ []) f.fault f.at h, length-append bytes [])
+long_within bytes f (inr (is, at, most, there)) = omega (arith, at, most, length-append bytes [])
+
+pub long_file : (comment bytes text rest : List ℕ) (replace : Bool) (f : FaultAt) → ((rest : List ℕ) → IsInsertFault standard_limits (bytes ++ rest) f.fault f.at) → f.fault ≡ InputTooLong
+    → IsInserted standard_limits (take f.at bytes) comment replace text → IsLongFile comment replace f rest bytes text
+long_file comment bytes text rest replace f of long is =
+    (of rest, long, subst (λ (b : List ℕ). IsInserted standard_limits b comment replace text) (sym (take-append-le f.at bytes rest (long_within bytes f (of [])))) is)
+
 -- A PIECE, as it was fed
 
 rest_due : (start s2 : DeskState) (comment bytes piece all : List ℕ) (replace : Bool) (due : Option Why) (c : Insert) → 0 < length piece → 0 < length all → AfterFed comment replace (bytes ++ piece) all due c → HasCopied start (bytes ++ piece) all s2
@@ -78,7 +91,8 @@ rest_due start s2 comment bytes piece all replace None c more some h k = (piece,
 rest_due start s2 comment bytes piece all replace (Some why.Done) c more some h k = absurd h
 rest_due start s2 comment bytes piece all replace (Some (why.Usage u)) c more some h k = absurd h
 rest_due start s2 comment bytes piece all replace (Some (why.Refused f)) c more some (of, inl (none, faults)) k = absurd (not_none all none some)
-rest_due start s2 comment bytes piece all replace (Some (why.Refused f)) c more some (of, inr (long, is)) k = (bytes ++ piece, all, k, (of (rest_of s2.left), long, is))
+rest_due start s2 comment bytes piece all replace (Some (why.Refused f)) c more some (of, inr (long, is)) k =
+    (bytes ++ piece, all, k, long_file comment (bytes ++ piece) all (rest_of s2.left) replace f of long is)
 rest_due start s2 comment bytes piece all replace (Some (why.OpenFault w)) c more some h k = absurd h
 rest_due start s2 comment bytes piece all replace (Some (why.ReadFault w)) c more some h k = absurd h
 rest_due start s2 comment bytes piece all replace (Some why.WriteFault) c more some h k = absurd h

@@ -12,16 +12,17 @@ use Rattle.jpg_spec.specs.declared.answers.FaultAt.{FaultAt}
 use Rattle.jpg_spec.specs.declared.answers.Why.{Why}
 use Rattle.jpg_spec.specs.declared.answers.Why.TheVariants as why
 use Rattle.jpg_spec.specs.declared.answers.Which.TheVariants as which
+use Rattle.jpg_spec.specs.Segments.{standard_limits}
+use Rattle.jpg_spec.specs.CommentWords.{CommentSource, from_input, from_words, from_file}
 use Rattle.jpg_cli.specs.Saying.{OnlySays}
-use Rattle.jpg_cli.specs.Reading.{IsFile}
-use Rattle.jpg_cli.specs.ReadComments.{rest_of}
+use Rattle.jpg_cli.specs.Reading.{IsFile, rest_of}
 use Rattle.jpg_cli.specs.InsertComment.{IsFaultBefore, IsFilePart, IsLongFile, IsNoHead, IsWholeFile}
-use Rattle.jpg_cli.specs.CommentInserted.{Inserted, IsComment, IsInsertDue, ReadsAlone, Task, WritesText, asked_comment, asked_to_input, asked_to_output, task_told}
+use Rattle.jpg_cli.specs.CommentInserted.{Inserted, IsComment, IsCommentRead, IsInsertDue, ReadsAlone, ReadsComment, ReadsLast, Task, WritesText, asked_comment, asked_to_input, asked_to_output, task_told}
 use Rattle.jpg_cli.specs.CommentWords.{comment_told, file_told, write_told}
 use Rattle.jpg_cli.specs.declared.comment_words.WriteWords.{WriteWords}
 use Rattle.jpg_cli.specs.Commands.{name_of}
 use Rattle.jpg_cli.specs.Run.{NoneRose, task_of}
-use Rattle.jpg_cli.proofs.CommentsCopied.{none_left}
+use Rattle.jpg_cli.proofs.Input.{none_left, part_still, read_still}
 
 -- A MESSAGE THEN
 
@@ -58,12 +59,28 @@ writes_then s0 s1 s2 task Is k h =
       is = h.is;
     }
 
+comment_read_then : (s1 s2 : DeskState) (source : CommentSource) (comment : List ℕ) → s2.left ≡ s1.left → IsCommentRead source comment s1 → IsCommentRead source comment s2
+comment_read_then s1 s2 from_input comment e h = read_still 65001 comment s1 s2 e h
+comment_read_then s1 s2 (from_words text) comment e h = tt
+comment_read_then s1 s2 (from_file file) comment e h = read_still 65001 comment s1 s2 e h
+
+reads_comment_then : (s0 s1 s2 : DeskState) (source : CommentSource) → s2.left ≡ s1.left → ReadsComment source s0 s1 → ReadsComment source s0 s2
+reads_comment_then s0 s1 s2 from_input e h = part_still 65001 name.In s0 s1 s2 e h
+reads_comment_then s0 s1 s2 (from_words text) e h = absurd h
+reads_comment_then s0 s1 s2 (from_file file) e h = part_still 65001 (name.File file) s0 s1 s2 e h
+
+reads_last_then : (s0 s1 s2 : DeskState) (task : Task) → s2.left ≡ s1.left → ReadsLast task s0 s1 → ReadsLast task s0 s2
+reads_last_then s0 s1 s2 task e (inl same) = inl (e ∙ same)
+reads_last_then s0 s1 s2 task e (inr (inl h)) = inr (inl (reads_comment_then s0 s1 s2 task.comment e h))
+reads_last_then s0 s1 s2 task e (inr (inr h)) = inr (inr (part_still standard_limits.input task.input s0 s1 s2 e h))
+
 refused_then : (s0 s1 s2 : DeskState) (task : Task) (f : FaultAt) → OnlySays s1 s2 → Inserted task s0 (why.Refused f) s1 → Inserted task s0 (why.Refused f) s2
 refused_then s0 s1 s2 task f k (inl h) = inl (record {
   comment = h.comment;
   names = notes_then s0 s1 s2 (asked_comment task.comment put.Done) k h.names;
   outputs = k.outputs ∙ h.outputs;
   source = h.source;
+  read = comment_read_then s1 s2 task.comment h.comment k.left h.read;
   long = h.long;
   fault = h.fault;
 })
@@ -126,6 +143,7 @@ inserted_then s0 s1 s2 task why.NoMemory k (inl h) = inl (record {
   count = h.count;
   names = notes_then s0 s1 s2 (take h.count (asked_to_input task put.Done)) k h.names;
   outputs = k.outputs ∙ h.outputs;
+  read = reads_last_then s0 s1 s2 task k.left h.read;
 })
 inserted_then s0 s1 s2 task why.NoMemory k (inr h) = inr (writes_then s0 s1 s2 task (λ comment. IsFilePart comment task.replace) k h)
 

@@ -18,6 +18,7 @@ pub mod Judged
 pub mod Matching
 pub mod Mirrored
 pub mod Names
+pub mod OneRefusal
 pub mod Opening
 pub mod Output
 pub mod Running

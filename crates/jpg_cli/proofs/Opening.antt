@@ -75,7 +75,7 @@ shown_segment before fault tail (inr (inr (code, contents, spelled, good, end, e
 
 pub header_fault : (bytes : List ℕ) (before : List Segment) (fault : Fault) → ShowsBehind (kept_rule standard_limits) before fault bytes
     → Pass (header_rule standard_limits) before → has_scan before ≡ false → HeaderShows standard_limits fault bytes
-header_fault bytes before fault (inl x) p n = inl x
+header_fault bytes before fault (inl (is, none, x)) p n = inl (is, x)
 header_fault bytes before fault (inr (tail, between, (inl x))) p n = inr (before, tail, (between_by (kept_rule standard_limits) (header_rule standard_limits) bytes before tail between p, n), inl x)
 header_fault bytes before fault (inr (tail, between, (inr x))) p n =
     inr (before, tail, (between_by (kept_rule standard_limits) (header_rule standard_limits) bytes before tail between p, n), inr (inl (shown_segment before fault tail x)))

@@ -19,10 +19,12 @@ use Rattle.jpg_spec.specs.FirstFault.{IsFirstFault}
 use Rattle.jpg_spec.specs.Header.{HeaderShows, HeaderStands}
 use Rattle.jpg_spec.proofs.HeaderFirst.{header_first, standing_truncated}
 use Rattle.jpg_spec.proofs.SingleMeans.{file_means}
-use Rattle.jpg_cli.specs.Reading.{Keeps, AfterInput, taken_of, asked_input, asked_both}
+use Rattle.jpg_spec.proofs.FileLaws.{means_once}
+use Rattle.jpg_cli.specs.Reading.{Keeps, AfterInput, taken_of, asked_input, asked_both, rest_of}
 use Rattle.jpg_cli.specs.Writing.{AfterOutput}
 use Rattle.jpg_cli.specs.Gray.{IsRefusal, IsSingle, IsUnbuilt, meaning_in, truncated, turned_text_in}
-use Rattle.jpg_cli.specs.Run.{GrayInput, Turned, turned_file, turned_meaning}
+use Rattle.jpg_cli.specs.Run.{GrayInput, IsTaken, Turned, turned_file, turned_meaning}
+use Rattle.jpg_cli.proofs.Input.{read_still}
 use Rattle.jpg_cli.proofs.TurnedText.{again}
 
 -- the names asked for, the input and then the output
@@ -64,70 +66,88 @@ means_input input s =
     let long : length file ≤ length (taken_of input) = omega (arith, ap length s.cut, length-append file s.rest) in
     file_means standard_limits s.before s.contents s.front s.text (s.rest ++ behind) input s.blocks s.header s.single s.spelled cut (omega (arith, long, length-take (2 ^ 28) input))
 
--- the file that the bytes taken begin with is that of the input
-pub record Found (s0 : DeskState) (bytes : List ℕ) (s : IsSingle bytes) : Type 0 where
-  pub picture : GrayInput s0
-  pub text : turned_file s0 picture ≡ turned_text_in bytes s
-  pub again : length (turned_file s0 picture) ≤ standard_limits.input → Means standard_limits (turned_file s0 picture) (turned_meaning s0 picture)
+-- and so one picture alone
+pub one_picture : (input : List ℕ) (s t : IsSingle (taken_of input)) → meaning_in (taken_of input) s ≡ meaning_in (taken_of input) t
+one_picture input s t = (means_once standard_limits input input (meaning_in (taken_of input) s) (meaning_in (taken_of input) t) (means_input input s) (means_input input t) refl).0
 
-found_input : (s0 s1 : DeskState) (bytes : List ℕ) (s : IsSingle bytes) → AfterInput s0 (Ok bytes) s1 → All (λ b. b < 256) s.front → Found s0 bytes s
-found_input s0 s1 bytes s (names, (input, is, e)) small = by bytes e s small
+-- the file that the bytes taken begin with is that of the input
+pub record Found (s0 s1 : DeskState) (bytes : List ℕ) (s : IsSingle bytes) : Type 0 where
+  pub picture : GrayInput s0
+  pub read : IsTaken picture.input s1
+  pub text : turned_file s0 picture ≡ turned_text_in bytes s
+  pub again : Means standard_limits (turned_file s0 picture) (turned_meaning s0 picture)
+
+found_input : (s0 s1 : DeskState) (bytes : List ℕ) (s : IsSingle bytes) → AfterInput s0 (Ok bytes) s1 → All (λ b. b < 256) s.front → Found s0 s1 bytes s
+found_input s0 s1 bytes s (names, is, taken) small = by bytes taken s small
   where
-    by : (b : List ℕ) → b ≡ taken_of input → (t : IsSingle b) → All (λ b. b < 256) t.front → Found s0 b t
+    input : List ℕ
+    input = bytes ++ rest_of s1.left
+
+    by : (b : List ℕ) → b ≡ taken_of input → (t : IsSingle b) → All (λ b. b < 256) t.front → Found s0 s1 b t
     by b e =
-        let P : List ℕ → Type 0 = λ x. (u : IsSingle x) → All (λ b. b < 256) u.front → Found s0 x u in
+        let P : List ℕ → Type 0 = λ x. (u : IsSingle x) → All (λ b. b < 256) u.front → Found s0 s1 x u in
         let at : P (taken_of input) = λ u m. record {
           picture = record { input = input; file = is; single = u; means = means_input input u };
+          read = ap (λ (x : List ℕ). x ++ rest_of s1.left) taken;
           text = refl;
-          again = λ long. again (taken_of input) u m long;
+          again = again (taken_of input) u m;
         } in
         subst P (sym e) at
 
 pub taken_short : (s0 s1 : DeskState) (bytes : List ℕ) → AfterInput s0 (Ok bytes) s1 → length bytes ≤ 2 ^ 28
-taken_short s0 s1 bytes (names, (input, is, e)) = subst (λ (b : List ℕ). length b ≤ 2 ^ 28) (sym e) (omega (arith, length-take (2 ^ 28) input))
+taken_short s0 s1 bytes (names, is, e) = subst (λ (b : List ℕ). length b ≤ 2 ^ 28) (sym e) (omega (arith, length-take (2 ^ 28) (bytes ++ rest_of s1.left)))
 
 -- THE ANSWERS
+
+pub turned_wanting : (s0 s1 : DeskState) (bytes : List ℕ) → Keeps s0 s1 → AfterInput s0 (Ok bytes) s1 → Turned s0 why.NoMemory s1
+turned_wanting s0 s1 bytes k h = record { names = h.0; outputs = k.outputs; read = (bytes, taken_short s0 s1 bytes h, h.1) }
 
 pub turned_refused : (s0 s1 : DeskState) (bytes : List ℕ) (f : FaultAt) → Keeps s0 s1 → AfterInput s0 (Ok bytes) s1 → IsRefusal bytes f → Turned s0 (why.Refused f) s1
 turned_refused s0 s1 bytes f k h r = record {
   names = h.0;
   outputs = k.outputs;
-  input = (h.1.0, h.1.1, refusal_of h.1.0 f (subst (λ (b : List ℕ). IsRefusal b f) h.1.2 r));
+  refused =
+      (let input = bytes ++ rest_of s1.left in
+      let due = subst (λ (b : List ℕ). IsRefusal b f) h.2 r in record { input = input; file = h.1; refusal = due; cause = refusal_of input f due });
+  read = ap (λ (b : List ℕ). b ++ rest_of s1.left) h.2;
 }
 
-pub turned_output : (s0 s1 s2 : DeskState) (bytes due : List ℕ) (s : IsSingle bytes) (w : Why) → due ≡ turned_text_in bytes s → All (λ b. b < 256) s.front → Keeps s0 s1 → AfterInput s0 (Ok bytes) s1 → AfterOutput s1 due w s2 → Turned s0 w s2
-turned_output s0 s1 s2 bytes due s why.Done e small k h o =
+pub turned_output : (s0 s1 s2 : DeskState) (bytes due : List ℕ) (s : IsSingle bytes) (w : Why) → due ≡ turned_text_in bytes s → All (λ b. b < 256) s.front → Keeps s0 s1 → AfterInput s0 (Ok bytes) s1 → s2.left ≡ s1.left → AfterOutput s1 due w s2 → Turned s0 w s2
+turned_output s0 s1 s2 bytes due s why.Done e small k h left o =
     let g = found_input s0 s1 bytes s h small in
     record {
       names = both s0 s1 s2 put.Done h.0 o.0;
       picture = g.picture;
+      read = read_still (2 ^ 28) g.picture.input s1 s2 left g.read;
       output =
           (let P : Option (List (Name × List ℕ)) → Type 0 = λ a. Grows a (name.Out, turned_file s0 g.picture) s2.outputs in
           let Q : List ℕ → Type 0 = λ d. Grows s1.outputs (name.Out, d) s2.outputs in subst P k.outputs (subst Q (e ∙ sym g.text) o.1));
       again = g.again;
     }
-turned_output s0 s1 s2 bytes due s (why.Usage u) e small k h o = absurd o
-turned_output s0 s1 s2 bytes due s (why.Refused f) e small k h o = absurd o
-turned_output s0 s1 s2 bytes due s (why.OpenFault which.Input) e small k h o = absurd o
-turned_output s0 s1 s2 bytes due s (why.OpenFault which.Script) e small k h o = absurd o
-turned_output s0 s1 s2 bytes due s (why.OpenFault which.Tables) e small k h o = absurd o
-turned_output s0 s1 s2 bytes due s (why.OpenFault which.Comment) e small k h o = absurd o
-turned_output s0 s1 s2 bytes due s (why.OpenFault which.Output) e small k h o = record {
+turned_output s0 s1 s2 bytes due s (why.Usage u) e small k h left o = absurd o
+turned_output s0 s1 s2 bytes due s (why.Refused f) e small k h left o = absurd o
+turned_output s0 s1 s2 bytes due s (why.OpenFault which.Input) e small k h left o = absurd o
+turned_output s0 s1 s2 bytes due s (why.OpenFault which.Script) e small k h left o = absurd o
+turned_output s0 s1 s2 bytes due s (why.OpenFault which.Tables) e small k h left o = absurd o
+turned_output s0 s1 s2 bytes due s (why.OpenFault which.Comment) e small k h left o = absurd o
+turned_output s0 s1 s2 bytes due s (why.OpenFault which.Output) e small k h left o = record {
   names = both s0 s1 s2 put.Failed h.0 o.0;
   outputs = o.2 ∙ k.outputs;
   opens = (let r = o.1 in let f = k.counts.opens in omega arith);
   picture = (found_input s0 s1 bytes s h small).picture;
+  read = (let g = found_input s0 s1 bytes s h small in read_still (2 ^ 28) g.picture.input s1 s2 left g.read);
 }
-turned_output s0 s1 s2 bytes due s (why.ReadFault u) e small k h o = absurd o
-turned_output s0 s1 s2 bytes due s why.WriteFault e small k h o =
+turned_output s0 s1 s2 bytes due s (why.ReadFault u) e small k h left o = absurd o
+turned_output s0 s1 s2 bytes due s why.WriteFault e small k h left o =
     let g = found_input s0 s1 bytes s h small in
     record {
       names = both s0 s1 s2 put.Done h.0 o.0;
       writes = (let r = o.1 in let f = k.counts.writes in omega arith);
       picture = g.picture;
+      read = read_still (2 ^ 28) g.picture.input s1 s2 left g.read;
       count = o.2.0;
       output =
           (let P : Option (List (Name × List ℕ)) → Type 0 = λ a. Grows a (name.Out, take o.2.0 (turned_file s0 g.picture)) s2.outputs in
           let Q : List ℕ → Type 0 = λ d. Grows s1.outputs (name.Out, take o.2.0 d) s2.outputs in subst P k.outputs (subst Q (e ∙ sym g.text) o.2.1));
     }
-turned_output s0 s1 s2 bytes due s why.NoMemory e small k h o = absurd o
+turned_output s0 s1 s2 bytes due s why.NoMemory e small k h left o = absurd o

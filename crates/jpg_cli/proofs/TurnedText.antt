@@ -4,7 +4,6 @@ use Rattle.std.specs.Prelude.{◌||◌, reverse, unwrap_or}
 use Rattle.std.specs.List.{All}
 use Rattle.jpg_spec.specs.Lists.{is_among}
 use Rattle.jpg_spec.specs.Geometry.{Frame, component_at}
-use Rattle.jpg_spec.specs.FrameHeader.{AreLimits}
 use Rattle.jpg_spec.specs.Segments.{QuantTable, standard_limits}
 use Rattle.jpg_spec.specs.Elements.{zeros}
 use Rattle.jpg_spec.specs.Jfif.{jfif_of}
@@ -31,7 +30,7 @@ use Rattle.jpg_spec.proofs.SingleFrame.{IsWhole, told_ok, one_named, no_quant, s
 use Rattle.jpg_spec.proofs.SingleTurned.{picture}
 use Rattle.jpg_spec.proofs.SingleText.{headed_process, headed_markers, headed_single, file_text_is}
 use Rattle.jpg_spec.proofs.SingleAgain.{single_writable, turned_writable}
-use Rattle.jpg_spec.proofs.SingleFileAgain.{bytes_again}
+use Rattle.jpg_spec.proofs.SingleFileAgain.{standard_again}
 use Rattle.jpg_markers.specs.OutHead.{head_meaning, with_tables}
 use Rattle.jpg_cli.specs.Gray.{IsPicture, IsSingle, IsTurned, file_bytes, meaning_in, turned_text_in}
 use Rattle.jpg_cli.specs.Header.{HeaderTold, Holds}
@@ -124,9 +123,6 @@ turned_picture bytes s h table p t =
       precision = ap (λ (g : Frame). g.precision) t.frame ∙ (header_checked standard_limits s.front s.before s.contents s.header).precision;
     }
 
--- THE TEXT means that meaning again, within the limit of an input.
-pub again : (bytes : List ℕ) (s : IsSingle bytes) → All (λ b. b < 256) s.front → length (turned_text_in bytes s) ≤ standard_limits.input → Means standard_limits (turned_text_in bytes s) (headed (flip_h (meaning_in bytes s)))
-again bytes s all long = bytes_again standard_limits s.before s.contents s.front s.text s.blocks standard s.header s.single s.spelled all long
-  where
-    standard : AreLimits standard_limits
-    standard = record { side = omega arith; blocks = omega arith; kept = omega arith; input = omega arith; some = omega arith }
+-- THE TEXT means that meaning again.
+pub again : (bytes : List ℕ) (s : IsSingle bytes) → All (λ b. b < 256) s.front → Means standard_limits (turned_text_in bytes s) (headed (flip_h (meaning_in bytes s)))
+again bytes s all = standard_again s.before s.contents s.front s.text s.blocks (record { header = s.header; single = s.single; spelled = s.spelled }) all

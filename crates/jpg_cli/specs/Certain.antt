@@ -1,8 +1,14 @@
 -- WHERE AN ANSWER IS CERTAIN: over a desk that tells its files, where all calls are done and memory is there.
-use Rattle.std.specs.Prelude.{◌≡◌, ℕ, List, Option, None, Some}
+use Rattle.std.specs.Prelude.{◌≡◌, ℕ, ◌<◌, ◌≤◌, List, length, Option, None, Some}
 use Rattle.jpg_base.specs.declared.names.Name.{Name}
 use Rattle.jpg_base.specs.declared.names.Name.TheVariants as name
 use Rattle.jpg_base.specs.Desk.{DeskState}
+use Rattle.jpg_spec.specs.Segments.{standard_limits}
+use Rattle.jpg_spec.specs.CommentText.{IsInserted}
+use Rattle.jpg_comments.specs.Answers.{IsWholeFront}
+use Rattle.jpg_cli.specs.CommentInserted.{Task}
+use Rattle.jpg_cli.specs.Gray.{IsSingle}
+use Rattle.jpg_cli.specs.Reading.{taken_of}
 use Rattle.jpg_spec.specs.CommentWords.{CommentSource, from_input, from_words, from_file}
 use Rattle.jpg_spec.specs.declared.answers.Why.{Why}
 use Rattle.jpg_spec.specs.declared.answers.Why.TheVariants as why
@@ -23,3 +29,24 @@ abbrev pub IsDoneOrWanting : Why → Type 0
 IsDoneOrWanting why.Done = Unit {0}
 IsDoneOrWanting why.NoMemory = Unit {0}
 IsDoneOrWanting other = ⊥
+
+-- WHAT A FILE HAS that a command wants
+
+-- The file of this name is told, and begins with a whole file, as rdjpgcom reads it.
+abbrev pub HasWholeFile : DeskState → Name → Type 0
+HasWholeFile old input = (bytes : List ℕ) × (n : ℕ) × IsTold old.files input bytes × IsWholeFront standard_limits bytes n
+
+-- The comment and the input of this task are told, the comment is no longer than it may be, and the input is shorter and has a frame header.
+pub record HasFrameHeader (old : DeskState) (task : Task) : Type 0 where
+  pub comment : List ℕ
+  pub bytes : List ℕ
+  pub text : List ℕ
+  pub source : IsToldComment old task.comment comment
+  pub fits : length comment ≤ 65000
+  pub told : IsTold old.files task.input bytes
+  pub inserted : IsInserted standard_limits bytes comment task.replace text
+  pub short : length bytes < standard_limits.input
+
+-- Standard input is told, and the bytes of it that are taken begin with the file of one gray scan.
+abbrev pub HasGrayFile : DeskState → Type 0
+HasGrayFile old = (input : List ℕ) × IsTold old.files name.In input × IsSingle (taken_of input)

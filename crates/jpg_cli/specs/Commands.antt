@@ -61,4 +61,5 @@ command_told (asked.Wrjpgcom words) = insert_comment (write_told words)
 abbrev pub IsCommand : WordsTold Command → Result Asked WordsStop → Type 0
 IsCommand told (Ok a) = told ≡ words_right (command_told a)
 IsCommand told (Err (stop.Usage usage)) = told ≡ words_wrong usage
-IsCommand told (Err stop.NoMemory) = ((files : FilesAsked) × (told ≡ words_right (print_comments files))) ⊎ ((asked : WriteAsked) × (told ≡ words_right (insert_comment asked)))
+IsCommand told (Err stop.NoMemory) =
+    ((files : FilesAsked) × (told ≡ words_right (print_comments files))) ⊎ ((asked : WriteAsked) × (told ≡ words_right (insert_comment asked)))

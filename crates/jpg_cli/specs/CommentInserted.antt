@@ -15,13 +15,12 @@ use Rattle.jpg_spec.specs.declared.answers.FaultAt.{FaultAt}
 use Rattle.jpg_spec.specs.declared.answers.Why.{Why}
 use Rattle.jpg_spec.specs.declared.answers.Why.TheVariants as why
 use Rattle.jpg_spec.specs.declared.answers.Which.TheVariants as which
-use Rattle.jpg_comments.specs.WriteInserted.{HasInserted}
+use Rattle.jpg_comments.specs.WriteInserted.{insert_limits, is_replacing, HasInserted}
 use Rattle.jpg_comments.specs.declared.insert.Insert.{Insert}
 use Rattle.jpg_cli.specs.CommentWords.{comment_told}
 use Rattle.jpg_cli.specs.declared.comment_words.WriteWords.{WriteWords}
-use Rattle.jpg_cli.specs.InsertComment.{IsAtHead, IsFaultBefore, IsFilePart, IsLongFile, IsNoHead, IsWholeFile}
-use Rattle.jpg_cli.specs.ReadComments.{rest_of}
-use Rattle.jpg_cli.specs.Reading.{IsFile}
+use Rattle.jpg_cli.specs.InsertComment.{AfterFed, IsAtHead, IsFaultBefore, IsFilePart, IsLongFile, IsNoHead, IsWholeFile}
+use Rattle.jpg_cli.specs.Reading.{IsFile, IsReadTo, ReadsPart, rest_of}
 
 -- which comment is inserted into which file, and where the result goes; whether it replaces the comments before the frame header
 pub record Task : Type 0 where
@@ -62,6 +61,22 @@ IsShortComment old source comment = IsComment old source comment × (length comm
 abbrev pub IsShortFront : DeskState → CommentSource → List ℕ → DeskState → Type 0
 IsShortFront old source bytes new = (length bytes ≤ 65000) × IsComment old source (bytes ++ rest_of new.left)
 
+-- the fault of one that is longer
+abbrev pub too_long : FaultAt
+too_long = record { fault = CommentTooLong; at = 65001 }
+
+-- Where it comes from a file, that was read up to its first 65,001 bytes, one more than a comment may have, and the others are left.
+abbrev pub IsCommentRead : CommentSource → List ℕ → DeskState → Type 0
+IsCommentRead from_input comment new = IsReadTo 65001 comment new
+IsCommentRead (from_words text) comment new = Unit {0}
+IsCommentRead (from_file file) comment new = IsReadTo 65001 comment new
+
+-- Bytes of the file that it comes from were read, no more than that.
+abbrev pub ReadsComment : CommentSource → DeskState → DeskState → Type 0
+ReadsComment from_input old new = ReadsPart 65001 name.In old new
+ReadsComment (from_words text) old new = ⊥
+ReadsComment (from_file file) old new = ReadsPart 65001 (name.File file) old new
+
 -- WHAT STANDS when the run ended
 
 -- These bytes of the input were read, no more than may be, of which this is so. No output was created.
@@ -93,8 +108,9 @@ pub record IsCommentLong (task : Task) (f : FaultAt) (old new : DeskState) : Typ
   pub names : NotesNames old.asked (asked_comment task.comment put.Done) new.asked
   pub outputs : new.outputs ≡ old.outputs
   pub source : IsComment old task.comment comment
+  pub read : IsCommentRead task.comment comment new
   pub long : 65000 < length comment
-  pub fault : f ≡ record { fault = CommentTooLong; at = 65001 }
+  pub fault : f ≡ too_long
 
 -- the comment's file wasn't opened
 pub record IsCommentUnopened (task : Task) (old new : DeskState) : Type 0 where
@@ -132,11 +148,16 @@ pub record IsOutputUncreated (task : Task) (old new : DeskState) : Type 0 where
   pub most : length bytes ≤ standard_limits.input
   pub is : IsAtHead bytes
 
+-- No file was opened; or of the one that was opened last, no more bytes were read than may be.
+abbrev pub ReadsLast : Task → DeskState → DeskState → Type 0
+ReadsLast task old new = (new.left ≡ old.left) ⊎ (ReadsComment task.comment old new ⊎ ReadsPart standard_limits.input task.input old new)
+
 -- memory was wanting before an output was created; the names asked for are the first of those due
 pub record IsOutOfMemory (task : Task) (old new : DeskState) : Type 0 where
   pub count : ℕ
   pub names : NotesNames old.asked (take count (asked_to_input task put.Done)) new.asked
   pub outputs : new.outputs ≡ old.outputs
+  pub read : ReadsLast task old new
 
 -- THE ANSWERS
 abbrev pub Inserted : Task → DeskState → Why → DeskState → Type 0
@@ -157,15 +178,17 @@ Inserted task old other new = ⊥
 -- Where no count of open, read or write rose, the answer is the one that the comment and the input have, or want of memory.
 
 abbrev pub HasLongComment : Task → FaultAt → DeskState → Type 0
-HasLongComment task f old = (comment : List ℕ) × IsComment old task.comment comment × (65000 < length comment) × (f ≡ record { fault = CommentTooLong; at = 65001 })
+HasLongComment task f old = (comment : List ℕ) × IsComment old task.comment comment × (65000 < length comment) × (f ≡ too_long)
 
 abbrev pub HasInputFault : Task → FaultAt → DeskState → Type 0
 HasInputFault task f old =
-    (comment : List ℕ) × (bytes : List ℕ) × IsShortComment old task.comment comment × IsFile old.files task.input bytes × IsInsertFault standard_limits bytes f.fault f.at
+    (comment : List ℕ) × (bytes : List ℕ) × IsShortComment old task.comment comment × IsFile old.files task.input bytes
+    × IsInsertFault standard_limits bytes f.fault f.at
 
 abbrev pub IsInsertDue : Task → DeskState → Why → Type 0
 IsInsertDue task old why.Done =
-    (comment : List ℕ) × (bytes : List ℕ) × (text : List ℕ) × IsShortComment old task.comment comment × IsFile old.files task.input bytes × IsWholeFile comment task.replace bytes text
+    (comment : List ℕ) × (bytes : List ℕ) × (text : List ℕ) × IsShortComment old task.comment comment × IsFile old.files task.input bytes
+    × IsWholeFile comment task.replace bytes text
 IsInsertDue task old (why.Refused f) = HasLongComment task f old ⊎ HasInputFault task f old
 IsInsertDue task old why.NoMemory = Unit {0}
 IsInsertDue task old other = ⊥
@@ -201,3 +224,30 @@ abbrev pub AfterBegin : Task → List ℕ → DeskState → Option Why → Inser
 AfterBegin task comment old None c now =
     (bytes : List ℕ) × (text : List ℕ) × (0 < length text) × HasInserted comment bytes text c × IsWriting task comment bytes text old now
 AfterBegin task comment old (Some ended) c now = Inserted task old ended now
+
+-- FOR ALL TASKS of this output and way, comments and desks as they were when the run began
+
+-- the input was opened, and none of it read
+abbrev pub EndsTask : Name → Insert → DeskState → Why → DeskState → Type 0
+EndsTask output had old ended now =
+    (task : Task) (comment : List ℕ) (start : DeskState) → task.output ≡ output → task.replace ≡ is_replacing had → HasInserted comment [] [] had
+    → IsReading task comment [] start old → Inserted task start ended now
+
+abbrev pub BeginsTask : Name → Insert → DeskState → Option Why → Insert → DeskState → Type 0
+BeginsTask output had old due c now =
+    (task : Task) (comment : List ℕ) (start : DeskState) → task.output ≡ output → task.replace ≡ is_replacing had → HasInserted comment [] [] had
+    → IsReading task comment [] start old → AfterBegin task comment start due c now
+
+-- The marker is in the bytes that were read, and this text is due.
+abbrev pub WritesFirst : Name → Option Why → List ℕ → DeskState → Option Why → DeskState → Type 0
+WritesFirst output due text old ended now =
+    (task : Task) (comment bytes : List ℕ) (start : DeskState) (c : Insert) → task.output ≡ output → 0 < length text → IsAtHead bytes
+    → IsReading task comment bytes start old → AfterFed comment task.replace bytes text due c → insert_limits c ≡ standard_limits
+    → is_replacing c ≡ task.replace
+    → AfterBegin task comment start ended c now
+
+-- The bytes that were read were written.
+abbrev pub WritesRest : Insert → DeskState → Why → DeskState → Type 0
+WritesRest had old ended now =
+    (task : Task) (comment bytes text : List ℕ) (start : DeskState) → task.replace ≡ is_replacing had → HasInserted comment bytes text had → 0 < length text
+    → IsWriting task comment bytes text start old → Inserted task start ended now

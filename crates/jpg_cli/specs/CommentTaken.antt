@@ -1,5 +1,5 @@
 -- What taking the comment that is inserted does to a desk (the manual of wrjpgcom in release 6b).
-use Rattle.std.specs.Prelude.{◌≡◌, ◌⊎◌, ℕ, ◌≤◌, List, ◌++◌, length, take, Result, Ok, Err}
+use Rattle.std.specs.Prelude.{◌≡◌, ◌⊎◌, ℕ, List, ◌++◌, take, Result, Ok, Err}
 use Rattle.jpg_base.specs.declared.names.Name.{Name}
 use Rattle.jpg_base.specs.declared.names.Name.TheVariants as name
 use Rattle.jpg_base.specs.declared.names.Put.TheVariants as put
@@ -9,26 +9,32 @@ use Rattle.jpg_spec.specs.CommentWords.{CommentSource, from_input, from_words, f
 use Rattle.jpg_spec.specs.declared.answers.Why.{Why}
 use Rattle.jpg_spec.specs.declared.answers.Why.TheVariants as why
 use Rattle.jpg_spec.specs.declared.answers.Which.TheVariants as which
-use Rattle.jpg_cli.specs.Reading.{IsFile}
-use Rattle.jpg_cli.specs.ReadComments.{asked_one, rest_of}
+use Rattle.jpg_cli.specs.Reading.{IsFile, ReadsPart, rest_of}
+use Rattle.jpg_cli.specs.ReadComments.{asked_one}
 
 -- The file of this name was read to its end, or up to one byte more than a comment may have; or why not.
 abbrev pub AfterFile : DeskState → Name → Result (List ℕ) Why → DeskState → Type 0
-AfterFile old file (Ok bytes) new = NotesNames old.asked (asked_one file put.Done) new.asked × ((comment : List ℕ) × IsFile old.files file comment × (bytes ≡ take 65001 comment))
+AfterFile old file (Ok bytes) new =
+    NotesNames old.asked (asked_one file put.Done) new.asked × IsFile old.files file (bytes ++ rest_of new.left)
+    × (bytes ≡ take 65001 (bytes ++ rest_of new.left))
 AfterFile old file (Err (why.OpenFault which.Comment)) new = NotesNames old.asked (asked_one file put.Failed) new.asked × Rose old.counts.opens new.counts.opens
 AfterFile old file (Err (why.ReadFault which.Comment)) new =
-    NotesNames old.asked (asked_one file put.Done) new.asked × Rose old.counts.reads new.counts.reads × ((bytes : List ℕ) × (length bytes ≤ 65000) × IsFile old.files file (bytes ++ rest_of new.left))
-AfterFile old file (Err why.NoMemory) new = NotesNames old.asked (asked_one file put.Done) new.asked
+    NotesNames old.asked (asked_one file put.Done) new.asked × Rose old.counts.reads new.counts.reads × ReadsPart 65000 file old new
+AfterFile old file (Err why.NoMemory) new = NotesNames old.asked (asked_one file put.Done) new.asked × ReadsPart 65001 file old new
 AfterFile old file (Err other) new = ⊥
+
+-- no name was asked for, and nothing read
+abbrev pub IsUnasked : DeskState → DeskState → Type 0
+IsUnasked old new = (new.asked ≡ old.asked) × (new.left ≡ old.left)
 
 -- the words themselves
 abbrev pub AfterWords : DeskState → List ℕ → Result (List ℕ) Why → DeskState → Type 0
-AfterWords old text (Ok bytes) new = (new.asked ≡ old.asked) × (bytes ≡ text)
-AfterWords old text (Err why.NoMemory) new = new.asked ≡ old.asked
+AfterWords old text (Ok bytes) new = IsUnasked old new × (bytes ≡ text)
+AfterWords old text (Err why.NoMemory) new = IsUnasked old new
 AfterWords old text (Err other) new = ⊥
 
 -- The comment, by where it comes from. A file isn't opened where there is no memory for its name.
 abbrev pub AfterComment : DeskState → CommentSource → Result (List ℕ) Why → DeskState → Type 0
 AfterComment old from_input result new = AfterFile old name.In result new
 AfterComment old (from_words text) result new = AfterWords old text result new
-AfterComment old (from_file file) result new = AfterFile old (name.File file) result new ⊎ ((result ≡ Err why.NoMemory) × (new.asked ≡ old.asked))
+AfterComment old (from_file file) result new = AfterFile old (name.File file) result new ⊎ ((result ≡ Err why.NoMemory) × IsUnasked old new)

@@ -1,5 +1,5 @@
 -- What the words of rdjpgcom and wrjpgcom ask for (their manuals in release 6b), as the calls answer it.
-use Rattle.std.specs.Prelude.{◌≡◌, ℕ, List, [], drop, slice_index_or, Option, Some, None, Result, Ok, Err}
+use Rattle.std.specs.Prelude.{◌≡◌, ℕ, ◌+◌, ◌<◌, List, [], drop, length, slice_index_or, Option, Some, None, Result, Ok, Err}
 use Rattle.std.specs.Borrow.{Bor}
 use Rattle.jpg_base.specs.declared.names.Name.{Name}
 use Rattle.jpg_base.specs.declared.names.Name.TheVariants as name
@@ -7,7 +7,7 @@ use Rattle.jpg_spec.specs.CommentWords.{FileName, standard_input, standard_outpu
 use Rattle.jpg_spec.specs.Switches.{Purpose, left_out, replacing, comment_given, comment_in_file}
 use Rattle.jpg_spec.specs.declared.answers.Usage.{Usage}
 use Rattle.jpg_spec.specs.declared.answers.UsageFault.{UsageFault}
-use Rattle.jpg_spec.specs.declared.answers.UsageFault.TheVariants.{LeftOutSwitch, UnknownSwitch}
+use Rattle.jpg_spec.specs.declared.answers.UsageFault.TheVariants.{LeftOutSwitch, MissingValue, UnknownSwitch}
 use Rattle.jpg_cli.specs.declared.comment_words.Files.{Files}
 use Rattle.jpg_cli.specs.declared.comment_words.CommentFrom.{CommentFrom}
 use Rattle.jpg_cli.specs.declared.comment_words.CommentFrom.TheVariants as from
@@ -88,3 +88,8 @@ fault_of (Some replacing) = UnknownSwitch
 fault_of (Some comment_given) = UnknownSwitch
 fault_of (Some comment_in_file) = UnknownSwitch
 fault_of None = UnknownSwitch
+
+-- The value of the switch of this index is the word behind it, where there is one.
+abbrev pub IsValue : List (List ℕ) → ℕ → Result (Bor (List ℕ)) Usage → Type 0
+IsValue words index (Ok text) = (index + 1 < length words) × (text.now ≡ word_at words (index + 1))
+IsValue words index (Err fault) = (length words ≡ index + 1) × (fault ≡ usage_told MissingValue index)

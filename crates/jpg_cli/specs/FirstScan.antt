@@ -1,5 +1,5 @@
 -- What is read of a header, byte by byte.
-use Rattle.std.specs.Prelude.{◌≡◌, ℕ, ◌≤◌, false, List, ◌∷◌, length, take, Ok, Some, None}
+use Rattle.std.specs.Prelude.{◌≡◌, ℕ, ◌≤◌, false, List, [], ◌∷◌, ◌++◌, length, take, Ok, Some, None}
 use Rattle.jpg_spec.specs.Geometry.{Frame}
 use Rattle.jpg_spec.specs.Segments.{ScanHead, standard_limits}
 use Rattle.jpg_spec.specs.ScanContents.{scan_header}
@@ -48,6 +48,14 @@ AfterStep bytes step.More r h = (before : List Segment) × InWork bytes before r
 AfterStep bytes (step.Scan head) r h = HasHeader bytes (told_by h) head
 AfterStep bytes (step.Fault f) r h = HeaderShows standard_limits f.fault bytes × (f.at ≡ r.taken)
 AfterStep bytes step.NoMemory r h = Unit {0}
+
+-- for all bytes before a further one, and for all with which a segment is whole
+
+abbrev pub StepsOn : Reading → HeaderTold → ℕ → Step → Reading → Header → Type 0
+StepsOn old had byte answer new h = (bytes : List ℕ) (before : List Segment) → InWork bytes before old had → AfterStep (bytes ++ byte ∷ []) answer new h
+
+abbrev pub StepsBehind : Reading → HeaderTold → Step → Header → Type 0
+StepsBehind r had answer h = (bytes : List ℕ) (before : List Segment) → IsBehindSegment bytes before r had → AfterStep bytes answer r h
 
 -- THE ANSWER
 abbrev pub ReadsHeader : List ℕ → HeaderRead → Type 0

@@ -42,7 +42,8 @@ breaks_off_at n = if nat_lt n (2 ^ 28) then truncated n else not_built n
 
 -- the tables are there that the first part of a scan header names
 abbrev pub has_tables_of : Frame → HeaderTold → ScanHead → ℕ → ℕ → Bool
-has_tables_of f h head dc ac = is_some (quant_in h.quants (component_at f 0).quant) && (is_some (huffman_in h.tables.dc dc) && is_some (huffman_in h.tables.ac ac))
+has_tables_of f h head dc ac =
+    is_some (quant_in h.quants (component_at f 0).quant) && (is_some (huffman_in h.tables.dc dc) && is_some (huffman_in h.tables.ac ac))
 
 abbrev pub has_tables : Frame → HeaderTold → ScanHead → Bool
 has_tables f h head = elim head.parts as (λ x. Bool) [ [] ↦ false | part ∷ parts ↦ has_tables_of f h head part.dc part.ac ]

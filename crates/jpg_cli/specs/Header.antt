@@ -1,11 +1,11 @@
 -- What a header's reader keeps of the segments before the first scan header.
-use Rattle.std.specs.Prelude.{◌≡◌, ℕ, List, ◌∷◌, length, reverse, slice_get, Option, Some, None, find}
+use Rattle.std.specs.Prelude.{◌≡◌, ℕ, false, List, ◌∷◌, length, reverse, slice_get, Option, Some, None, find}
 use Rattle.jpg_spec.specs.Geometry.{Frame}
-use Rattle.jpg_spec.specs.Segments.{HuffmanTable}
+use Rattle.jpg_spec.specs.Segments.{HuffmanTable, standard_limits}
 use Rattle.jpg_spec.specs.Jfif.{Jfif, is_jfif, jfif_told}
 use Rattle.jpg_spec.specs.HuffContents.{HuffmanSlots}
 use Rattle.jpg_spec.specs.QuantContents.{Slots, quant_in}
-use Rattle.jpg_spec.specs.Markers.{Segment, kept_after}
+use Rattle.jpg_spec.specs.Markers.{Segment, has_scan, kept_after, kept_rule}
 use Rattle.jpg_spec.specs.InForce.{frame_after, huffman_in_force, quant_in_force, restart_in_force}
 use Rattle.jpg_spec.specs.Header.{header_rule}
 use Rattle.jpg_spec.specs.declared.frame.Limits.{Limits}
@@ -51,6 +51,16 @@ abbrev pub Takes : Limits → List Segment → ℕ → List ℕ → Took → Hea
 Takes limits before code contents took.Done h = (header_rule limits before code contents ≡ None) × Holds limits h ((code, contents) ∷ before)
 Takes limits before code contents (took.Fault fault) h = header_rule limits before code contents ≡ Some fault
 Takes limits before code contents took.NoMemory h = Unit {0}
+
+-- the same for all segments before of which this is held
+abbrev pub TakesNext : HeaderTold → ℕ → List ℕ → Took → HeaderTold → Type 0
+TakesNext old code contents answer new = (before : List Segment) → Holds standard_limits old before → Takes standard_limits before code contents answer new
+
+-- where none of them is a scan header, and the kept bytes are within their limit
+abbrev pub TakesKept : HeaderTold → ℕ → List ℕ → Took → HeaderTold → Type 0
+TakesKept old code contents answer new =
+    (before : List Segment) → Holds standard_limits old before → has_scan before ≡ false → kept_rule standard_limits before code contents ≡ None
+    → Takes standard_limits before code contents answer new
 
 -- a code that defines nothing and begins no scan
 pub record IsOther (code : ℕ) : Type 0 where

@@ -1,5 +1,5 @@
 -- HOW A FILE WITH A COMMENT INSERTED is written piece by piece (T.81 B.2.4.5, the manual of wrjpgcom in release 6b).
-use Rattle.std.specs.Prelude.{◌≡◌, ℕ, ◌<◌, ◌≤◌, ◌+◌, Bool, List, [], ◌++◌, length, take, Option, None, Some, Result, Ok, Err}
+use Rattle.std.specs.Prelude.{◌≡◌, ℕ, ◌<◌, ◌≤◌, ◌+◌, Bool, true, List, [], ◌++◌, length, take, Option, None, Some, Result, Ok, Err}
 use Rattle.std.specs.Io.KnownBytes.{Consumes, IsAtEnd}
 use Rattle.jpg_base.specs.Desk.{DeskState, Rose}
 use Rattle.jpg_base.specs.declared.stop.Stop.TheVariants as stop
@@ -11,11 +11,13 @@ use Rattle.jpg_spec.specs.declared.answers.Why.{Why}
 use Rattle.jpg_spec.specs.declared.answers.Why.TheVariants as why
 use Rattle.jpg_spec.specs.declared.answers.Which.TheVariants as which
 use Rattle.jpg_comments.specs.Inserting.{HoldsHead, InsertsPart, InsertsUpTo}
-use Rattle.jpg_comments.specs.WriteInserted.{HasInserted}
+use Rattle.jpg_comments.specs.Begun.{Appends}
+use Rattle.jpg_comments.specs.WriteInserted.{is_replacing, HasInserted}
 use Rattle.jpg_comments.specs.declared.insert.Insert.{Insert}
 use Rattle.jpg_cli.specs.declared.insert_comment.AtHead.{AtHead}
 use Rattle.jpg_cli.specs.declared.insert_comment.AtHead.TheVariants as at_head
-use Rattle.jpg_cli.specs.ReadComments.{Copies, HasCopied, rest_of}
+use Rattle.jpg_cli.specs.ReadComments.{Copies, HasCopied, OnlyCopies}
+use Rattle.jpg_cli.specs.Reading.{rest_of}
 
 -- A writer is new, with a comment that isn't too long; or there is none.
 abbrev pub IsBegunWith : List ℕ → Bool → Result Insert Why → Type 0
@@ -45,12 +47,14 @@ IsWholeFile comment replace bytes text = IsInserted standard_limits bytes commen
 
 -- a first part of the file with the comment inserted, of a front of the bytes, in which the frame header's marker is
 abbrev pub IsFilePart : List ℕ → Bool → List ℕ → List ℕ → Type 0
-IsFilePart comment replace bytes text = (n : ℕ) × (front : ℕ) × (whole : List ℕ) × IsInserted standard_limits (take front bytes) comment replace whole × (text ≡ take n whole)
+IsFilePart comment replace bytes text =
+    (n : ℕ) × (front : ℕ) × (whole : List ℕ) × IsInserted standard_limits (take front bytes) comment replace whole × (text ≡ take n whole)
 
--- as many bytes as may be taken
+-- the file of as many bytes as may be taken with the comment inserted, where this rest is behind the bytes
 abbrev pub IsLongFile : List ℕ → Bool → FaultAt → List ℕ → List ℕ → List ℕ → Type 0
 IsLongFile comment replace f rest bytes text =
-    IsInsertFault standard_limits (bytes ++ rest) f.fault f.at × (f.fault ≡ InputTooLong) × IsInserted standard_limits (take f.at bytes) comment replace text
+    IsInsertFault standard_limits (bytes ++ rest) f.fault f.at × (f.fault ≡ InputTooLong)
+    × IsInserted standard_limits (take f.at (bytes ++ rest)) comment replace text
 
 abbrev pub EndsInserting : List ℕ → Bool → DeskState → Why → DeskState → Type 0
 EndsInserting comment replace old why.Done new = Copies (IsWholeFile comment replace) old new × IsAtEnd new.left
@@ -63,16 +67,17 @@ EndsInserting comment replace old other new = ⊥
 -- From these bytes on: one more piece was read and written, or why the writing ends.
 abbrev pub AfterRest : List ℕ → Bool → DeskState → List ℕ → Option Why → Insert → DeskState → Type 0
 AfterRest comment replace old bytes None c new =
-    (piece : List ℕ) × (text : List ℕ) × (0 < length piece) × (0 < length text) × HasInserted comment (bytes ++ piece) text c × HasCopied old (bytes ++ piece) text new
+    (piece : List ℕ) × (text : List ℕ) × (0 < length piece) × (0 < length text) × HasInserted comment (bytes ++ piece) text c
+    × HasCopied old (bytes ++ piece) text new
 AfterRest comment replace old bytes (Some ended) c new = EndsInserting comment replace old ended new
 
 -- UP TO THAT MARKER, where nothing is written
 
--- The file, which has this rest behind the bytes, has this fault before its frame header, in the last piece that was read.
+-- The file, which has this rest behind the bytes, has this fault before its frame header. It is in the bytes, fewer than 65,536 of which are behind it.
 abbrev pub IsFaultBefore : FaultAt → List ℕ → List ℕ → Type 0
-IsFaultBefore f rest bytes = IsHeadFault standard_limits (bytes ++ rest) f.fault f.at × (length bytes < f.at + 65536)
+IsFaultBefore f rest bytes = IsHeadFault standard_limits (bytes ++ rest) f.fault f.at × (f.at ≤ length bytes) × (length bytes < f.at + 65536)
 
--- a front of the bytes ends with the marker, in the last piece that was read
+-- a front of the bytes ends with the marker, and fewer than 65,536 bytes are behind it
 abbrev pub IsAtHead : List ℕ → Type 0
 IsAtHead bytes = (count : ℕ) × (count ≤ length bytes) × (length bytes < count + 65536) × HoldsHead standard_limits (take count bytes)
 
@@ -83,9 +88,10 @@ IsNoHead bytes = ShowsNothing standard_limits (HoldsHead standard_limits) bytes 
 -- from these bytes on, why the reading ended
 abbrev pub EndsBefore : List ℕ → DeskState → Why → DeskState → Type 0
 EndsBefore bytes old (why.Refused f) new =
-    (piece : List ℕ) × Consumes old.left new.left piece × (length (bytes ++ piece) ≤ standard_limits.input) × IsFaultBefore f (rest_of new.left) (bytes ++ piece)
+    (piece : List ℕ) × Consumes old.left new.left piece × (length (bytes ++ piece) ≤ standard_limits.input)
+    × IsFaultBefore f (rest_of new.left) (bytes ++ piece)
 EndsBefore bytes old (why.ReadFault which.Input) new = (new.left ≡ old.left) × IsNoHead bytes × Rose old.counts.reads new.counts.reads
-EndsBefore bytes old why.NoMemory new = Unit {0}
+EndsBefore bytes old why.NoMemory new = (piece : List ℕ) × Consumes old.left new.left piece × (length (bytes ++ piece) ≤ standard_limits.input)
 EndsBefore bytes old other new = ⊥
 
 -- From these bytes on one more piece was read: the marker isn't there yet, or what is due with it, or why the reading ended.
@@ -93,5 +99,29 @@ abbrev pub AfterHead : List ℕ → Bool → List ℕ → DeskState → AtHead �
 AfterHead comment replace bytes old at_head.Before c out new =
     (piece : List ℕ) × (0 < length piece) × (out ≡ []) × Consumes old.left new.left piece × HasInserted comment (bytes ++ piece) [] c
 AfterHead comment replace bytes old (at_head.Begun due) c out new =
-    (piece : List ℕ) × (0 < length out) × Consumes old.left new.left piece × (length (bytes ++ piece) ≤ standard_limits.input) × IsAtHead (bytes ++ piece) × AfterFed comment replace (bytes ++ piece) out due c
+    (piece : List ℕ) × (0 < length out) × Consumes old.left new.left piece × (length (bytes ++ piece) ≤ standard_limits.input) × IsAtHead (bytes ++ piece)
+    × AfterFed comment replace (bytes ++ piece) out due c
 AfterHead comment replace bytes old (at_head.Ended ended) c out new = EndsBefore bytes old ended new
+
+-- Where more of the input may be read, it is open.
+abbrev pub IsOpenAfter : AtHead → DeskState → Type 0
+IsOpenAfter at_head.Before now = now.input_open ≡ true
+IsOpenAfter (at_head.Begun due) now = now.input_open ≡ true
+IsOpenAfter (at_head.Ended ended) now = Unit {0}
+
+-- FOR ALL BYTES that were read before, and the text that was written or appended for them
+
+abbrev pub ReadsHead : Insert → DeskState → AtHead → Insert → List ℕ → DeskState → Type 0
+ReadsHead had old answer c out new =
+    (comment bytes : List ℕ) → HasInserted comment bytes [] had → AfterHead comment (is_replacing had) bytes old answer c out new
+
+abbrev pub CopiesNext : Insert → DeskState → Option Why → Insert → DeskState → Type 0
+CopiesNext had old due c new =
+    (start : DeskState) (comment bytes text : List ℕ) → HasInserted comment bytes text had → 0 < length text → OnlyCopies start old
+    → HasCopied start bytes text old
+    → AfterRest comment (is_replacing had) start bytes due c new
+
+abbrev pub TakesPiece : Insert → List ℕ → List ℕ → Option Why → List ℕ → Insert → Type 0
+TakesPiece had piece old due out c =
+    (comment bytes text : List ℕ) → HasInserted comment bytes text had
+    → Appends (λ all. AfterFed comment (is_replacing had) (bytes ++ piece) all due c) text old out

@@ -14,11 +14,11 @@ use Rattle.jpg_spec.specs.declared.answers.FaultAt.{FaultAt}
 use Rattle.jpg_spec.specs.declared.answers.Why.{Why}
 use Rattle.jpg_spec.specs.declared.answers.Why.TheVariants as why
 use Rattle.jpg_spec.specs.declared.answers.Which.TheVariants as which
-use Rattle.jpg_comments.specs.Begun.{IsBegun, AreWholeBefore}
+use Rattle.jpg_comments.specs.Begun.{Appends, IsBegun, AreWholeBefore}
 use Rattle.jpg_comments.specs.Printing.{HoldsWhole}
 use Rattle.jpg_comments.specs.ReadComments.{HasRead}
 use Rattle.jpg_comments.specs.declared.comments.Comments.{Comments}
-use Rattle.jpg_cli.specs.Reading.{IsFile}
+use Rattle.jpg_cli.specs.Reading.{IsFile, rest_of}
 
 -- THE TEXT that was printed, by the bytes that were read
 
@@ -26,7 +26,7 @@ use Rattle.jpg_cli.specs.Reading.{IsFile}
 abbrev pub AreWhole : List ℕ → List Segment → Type 0
 AreWhole bytes before = IsReadWhole standard_limits bytes before ⊎ ((fault : Fault) × AreWholeBefore standard_limits bytes fault before)
 
--- A front of the bytes is a whole file, and ends in the last piece that was read, of at most 65,536 bytes. The text is that of its comments.
+-- A front of the bytes is a whole file, and fewer than 65,536 bytes were read behind it. The text is that of its comments.
 pub record IsWholeText (bytes text : List ℕ) : Type 0 where
   pub count : ℕ
   pub before : List Segment
@@ -35,12 +35,14 @@ pub record IsWholeText (bytes text : List ℕ) : Type 0 where
   pub whole : IsReadWhole standard_limits (take count bytes) before
   pub is : text ≡ comments_text before
 
--- The file, which has this rest behind the bytes, has this fault, in the last piece that was read. The text is that of the comments that are whole before it.
+-- The file, which has this rest behind the bytes, has this fault. It is in the bytes, fewer than 65,536 of which are behind it. The text is that of the
+-- comments that are whole before it.
 pub record IsFaultText (f : FaultAt) (rest bytes text : List ℕ) : Type 0 where
   pub before : List Segment
   pub fault : IsReadFault standard_limits (bytes ++ rest) f.fault f.at
+  pub within : f.at ≤ length bytes
   pub last : length bytes < f.at + 65536
-  pub whole : AreWholeBefore standard_limits (take f.at (bytes ++ rest)) f.fault before
+  pub whole : AreWholeBefore standard_limits (take f.at bytes) f.fault before
   pub is : text ≡ comments_text before
 
 -- The bytes are fewer than may be taken, show no fault and hold no whole file. The text is that of the comments that are whole in them.
@@ -60,11 +62,6 @@ pub record IsTextPart (bytes text : List ℕ) : Type 0 where
   pub is : text ≡ take count (comments_text before)
 
 -- BY WHY IT ENDED
-
--- the bytes that are left, where they are told
-abbrev pub rest_of : Option (List ℕ) → List ℕ
-rest_of None = []
-rest_of (Some rest) = rest
 
 -- the names asked for: the input, and then the output
 abbrev pub asked_one : Name → Put → List (Name × Put)
@@ -109,20 +106,20 @@ Printed input output old other new = ⊥
 -- Where no count of open, read or write rose, the answer is the one that the input has, or want of memory.
 abbrev pub IsPrintDue : Name → DeskState → Why → Type 0
 IsPrintDue input old why.Done =
-    (bytes : List ℕ) × IsFile old.files input bytes × ((n : ℕ) × (before : List Segment) × (n ≤ length bytes) × IsReadWhole standard_limits (take n bytes) before)
+    (bytes : List ℕ) × (n : ℕ) × (before : List Segment) × IsFile old.files input bytes × (n ≤ length bytes) × (n ≤ standard_limits.input)
+    × IsReadWhole standard_limits (take n bytes) before
 IsPrintDue input old (why.Refused f) = (bytes : List ℕ) × IsFile old.files input bytes × IsReadFault standard_limits bytes f.fault f.at
 IsPrintDue input old why.NoMemory = Unit {0}
 IsPrintDue input old other = ⊥
 
 -- STEP BY STEP, from a desk whose input is open and whose output is created
 
--- nothing but the bytes left, the outputs and the counts changed
+-- nothing but the bytes left, the outputs, the counts and whether the input is open changed
 pub record OnlyCopies (old new : DeskState) : Type 0 where
   pub counts : NoneFell old.counts new.counts
   pub asked : new.asked ≡ old.asked
   pub files : new.files ≡ old.files
   pub said : new.said ≡ old.said
-  pub input_open : new.input_open ≡ old.input_open
   pub output_created : new.output_created ≡ old.output_created
 
 -- These bytes were read, no more than may be, and this text was written.
@@ -160,3 +157,12 @@ abbrev pub AfterNext : DeskState → List ℕ → Option Why → Comments → De
 AfterNext old bytes None c new =
     (piece : List ℕ) × (text : List ℕ) × (0 < length piece) × HasRead (bytes ++ piece) text c × HasCopied old (bytes ++ piece) text new
 AfterNext old bytes (Some ended) c new = EndsCopying old ended new
+
+-- FOR ALL BYTES that were read before, and the text that was written or appended for them
+
+abbrev pub CopiesNext : Comments → DeskState → Option Why → Comments → DeskState → Type 0
+CopiesNext had old due c new =
+    (start : DeskState) (bytes text : List ℕ) → HasRead bytes text had → OnlyCopies start old → HasCopied start bytes text old → AfterNext start bytes due c new
+
+abbrev pub TakesPiece : Comments → List ℕ → List ℕ → Option Why → List ℕ → Comments → Type 0
+TakesPiece had piece old due out c = (bytes text : List ℕ) → HasRead bytes text had → Appends (λ all. AfterTaking (bytes ++ piece) all due c) text old out

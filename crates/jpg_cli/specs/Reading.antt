@@ -1,5 +1,5 @@
 -- What reading the input does to a desk.
-use Rattle.std.specs.Prelude.{◌≡◌, ◌⊎◌, ℕ, ◌^◌, ◌<◌, ◌≤◌, List, [], ◌∷◌, ◌++◌, length, take, Option, None, Some, Result, Ok, Err}
+use Rattle.std.specs.Prelude.{◌≡◌, ◌⊎◌, ℕ, ◌^◌, ◌-◌, ◌<◌, ◌≤◌, true, List, [], ◌∷◌, ◌++◌, length, take, Option, None, Some, Result, Ok, Err}
 use Rattle.std.specs.Io.KnownBytes.{Consumes, IsAtEnd}
 use Rattle.jpg_base.specs.declared.names.Name.{Name}
 use Rattle.jpg_base.specs.declared.names.Name.TheVariants as name
@@ -17,21 +17,23 @@ use Rattle.jpg_cli.specs.declared.reading.Piece.TheVariants as piece
 use Rattle.jpg_cli.specs.declared.reading.Taken.{Taken}
 use Rattle.jpg_cli.specs.declared.reading.Taken.TheVariants as taken
 
--- nothing but the bytes left and the counts changed
+-- nothing but the bytes left, the counts and whether the input is open changed
 pub record OnlyReads (old new : DeskState) : Type 0 where
   pub counts : NoneFell old.counts new.counts
   pub asked : new.asked ≡ old.asked
   pub files : new.files ≡ old.files
   pub outputs : new.outputs ≡ old.outputs
   pub said : new.said ≡ old.said
-  pub input_open : new.input_open ≡ old.input_open
   pub output_created : new.output_created ≡ old.output_created
 
+-- More bytes were read, at most so many, and the input is still open; or none, since it ended or reading failed. Where memory was wanting for them,
+-- they are lost.
 abbrev pub AfterPiece : DeskState → List ℕ → ℕ → Piece → List ℕ → DeskState → Type 0
-AfterPiece old had most piece.Some bytes new = (more : List ℕ) × (0 < length more) × (length more ≤ most) × (bytes ≡ had ++ more) × Consumes old.left new.left more
+AfterPiece old had most piece.Some bytes new =
+    (more : List ℕ) × (0 < length more) × (length more ≤ most) × (bytes ≡ had ++ more) × Consumes old.left new.left more × (new.input_open ≡ true)
 AfterPiece old had most piece.End bytes new = (bytes ≡ had) × IsAtEnd old.left × (new.left ≡ old.left)
 AfterPiece old had most piece.Failed bytes new = (bytes ≡ had) × (new.left ≡ old.left) × Rose old.counts.reads new.counts.reads
-AfterPiece old had most piece.NoMemory bytes new = Unit {0}
+AfterPiece old had most piece.NoMemory bytes new = (more : List ℕ) × (length more ≤ most) × Consumes old.left new.left more
 
 -- no more bytes than there was room for
 abbrev pub IsWithin : ℕ → Got → Type 0
@@ -43,7 +45,7 @@ IsWithin room got.Failed = Unit {0}
 abbrev pub AfterReading : ℕ → DeskState → Taken → List ℕ → DeskState → Type 0
 AfterReading limit old taken.All bytes new = Consumes old.left new.left bytes × (length bytes ≤ limit) × ((limit ≤ length bytes) ⊎ IsAtEnd new.left)
 AfterReading limit old taken.Failed bytes new = Consumes old.left new.left bytes × (length bytes < limit) × Rose old.counts.reads new.counts.reads
-AfterReading limit old taken.NoMemory bytes new = Unit {0}
+AfterReading limit old taken.NoMemory bytes new = (read : List ℕ) × Consumes old.left new.left read × (length read ≤ limit)
 
 -- the bytes of an input that are taken: its first 2 ^ 28, or all where it has fewer
 abbrev pub taken_of : List ℕ → List ℕ
@@ -53,6 +55,19 @@ taken_of input = take (2 ^ 28) input
 abbrev pub IsFile : Option (Name → Option (List ℕ)) → Name → List ℕ → Type 0
 IsFile None name input = Unit {0}
 IsFile (Some files) name input = files name ≡ Some input
+
+-- the bytes that are left, where they are told
+abbrev pub rest_of : Option (List ℕ) → List ℕ
+rest_of None = []
+rest_of (Some rest) = rest
+
+-- Bytes of the file of this name were read, at most so many, and the others are left.
+abbrev pub ReadsPart : ℕ → Name → DeskState → DeskState → Type 0
+ReadsPart most file old new = (bytes : List ℕ) × (length bytes ≤ most) × IsFile old.files file (bytes ++ rest_of new.left)
+
+-- Of a file of these bytes the first so many were read, and the others are left.
+abbrev pub IsReadTo : ℕ → List ℕ → DeskState → Type 0
+IsReadTo most bytes new = bytes ≡ take most bytes ++ rest_of new.left
 
 -- the counts don't fall, and the files, outputs and messages stay
 pub record Keeps (old new : DeskState) : Type 0 where
@@ -68,9 +83,13 @@ asked_input answer = (name.In, answer) ∷ []
 abbrev pub asked_both : Put → List (Name × Put)
 asked_both answer = (name.In, put.Done) ∷ (name.Out, answer) ∷ []
 
+-- The input was read to its end, or up to 2 ^ 28 bytes of it; or why not.
 abbrev pub AfterInput : DeskState → Result (List ℕ) Why → DeskState → Type 0
-AfterInput old (Ok bytes) new = NotesNames old.asked (asked_input put.Done) new.asked × ((input : List ℕ) × IsFile old.files name.In input × (bytes ≡ taken_of input))
+AfterInput old (Ok bytes) new =
+    NotesNames old.asked (asked_input put.Done) new.asked × IsFile old.files name.In (bytes ++ rest_of new.left)
+    × (bytes ≡ taken_of (bytes ++ rest_of new.left))
 AfterInput old (Err (why.OpenFault which.Input)) new = NotesNames old.asked (asked_input put.Failed) new.asked × Rose old.counts.opens new.counts.opens
-AfterInput old (Err (why.ReadFault which.Input)) new = NotesNames old.asked (asked_input put.Done) new.asked × Rose old.counts.reads new.counts.reads
-AfterInput old (Err why.NoMemory) new = NotesNames old.asked (asked_input put.Done) new.asked
+AfterInput old (Err (why.ReadFault which.Input)) new =
+    NotesNames old.asked (asked_input put.Done) new.asked × Rose old.counts.reads new.counts.reads × ReadsPart (2 ^ 28 - 1) name.In old new
+AfterInput old (Err why.NoMemory) new = NotesNames old.asked (asked_input put.Done) new.asked × ReadsPart (2 ^ 28) name.In old new
 AfterInput old (Err other) new = ⊥

@@ -1,5 +1,5 @@
 -- WHAT A RUN DOES to a desk, by why it ended.
-use Rattle.std.specs.Prelude.{◌≡◌, ◌⊎◌, ℕ, ◌≤◌, List, length, take}
+use Rattle.std.specs.Prelude.{◌≡◌, ◌⊎◌, ℕ, ◌^◌, ◌-◌, ◌≤◌, List, length, take}
 use Rattle.std.specs.Io.KnownBytes.{Appends}
 use Rattle.jpg_base.specs.declared.names.Name.TheVariants as name
 use Rattle.jpg_base.specs.declared.names.Put.TheVariants as put
@@ -16,7 +16,7 @@ use Rattle.jpg_spec.specs.Moves.{flip_h, headed}
 use Rattle.jpg_spec.specs.GrayFile.{sequential_text}
 use Rattle.jpg_spec.specs.FileMeaning.{Means}
 use Rattle.jpg_spec.specs.FirstFault.{IsFirstFault}
-use Rattle.jpg_cli.specs.Gray.{IsSingle, IsUnbuilt, meaning_in, not_built}
+use Rattle.jpg_cli.specs.Gray.{IsRefusal, IsSingle, IsUnbuilt, meaning_in, not_built}
 use Rattle.jpg_spec.specs.Words.{tool_of}
 use Rattle.jpg_spec.specs.CommentWords.{FilesAsked, WordsTold, WriteAsked, words_right, words_wrong}
 use Rattle.jpg_cli.specs.Commands.{Command, not_built as unbuilt, flip_horizontal, print_comments, insert_comment, command_asked, name_of}
@@ -24,16 +24,16 @@ use Rattle.jpg_cli.specs.ReadComments.{Printed}
 use Rattle.jpg_cli.specs.CommentInserted.{Inserted, Task}
 use Rattle.jpg_spec.specs.Messages.{message, code_of}
 use Rattle.jpg_cli.specs.declared.top.Ended.{Ended}
-use Rattle.jpg_cli.specs.Reading.{taken_of, IsFile, asked_input, asked_both}
+use Rattle.jpg_cli.specs.Reading.{taken_of, IsFile, IsReadTo, ReadsPart, asked_input, asked_both}
 
 -- The text was said. Where the count of failed messages rose, a first part of it may have been said alone.
 abbrev pub SaysText : DeskState → List ℕ → DeskState → Type 0
 SaysText old text new =
     Appends old.said new.said text ⊎ (Rose old.counts.says new.counts.says × ((n : ℕ) × Appends old.said new.said (take n text)))
 
--- nothing was asked for, and nothing written
+-- nothing was asked for, nothing read and nothing written
 abbrev pub Untouched : DeskState → DeskState → Type 0
-Untouched old new = (new.asked ≡ old.asked) × (new.outputs ≡ old.outputs)
+Untouched old new = (new.asked ≡ old.asked) × (new.outputs ≡ old.outputs) × (new.left ≡ old.left)
 
 -- Where the files are told, standard input is this one. It means a picture, by the one gray scan with which the bytes of it that are taken begin.
 pub record GrayInput (old : DeskState) : Type 0 where
@@ -50,26 +50,34 @@ turned_meaning old g = headed (flip_h (meaning_in (taken_of g.input) g.single))
 abbrev pub turned_file : (old : DeskState) → GrayInput old → List ℕ
 turned_file old g = sequential_text (turned_meaning old g)
 
--- The input's first fault is this one, which its header shows; or its form isn't built yet.
-abbrev pub RefusedInput : DeskState → FaultAt → Type 0
-RefusedInput old f =
-    (input : List ℕ) × IsFile old.files name.In input × (IsFirstFault standard_limits input f.fault f.at ⊎ IsUnbuilt (taken_of input) f)
+-- This is what the bytes of the input that are taken are refused with: the input's first fault, which its header shows; or its form isn't built yet.
+pub record RefusedInput (old : DeskState) (f : FaultAt) : Type 0 where
+  pub input : List ℕ
+  pub file : IsFile old.files name.In input
+  pub refusal : IsRefusal (taken_of input) f
+  pub cause : IsFirstFault standard_limits input f.fault f.at ⊎ IsUnbuilt (taken_of input) f
+
+-- no more of an input was read than its bytes that are taken
+abbrev pub IsTaken : List ℕ → DeskState → Type 0
+IsTaken input new = IsReadTo (2 ^ 28) input new
 
 -- HOW TURNING A PICTURE ENDS. Each answer has the names that were asked for, what became of the outputs, and its cause.
 
 -- Done: standard input means a picture, and standard output holds the text of the file of the picture mirrored left to right,
--- which means that picture (within the length that a file may have).
+-- which means that picture.
 pub record IsDone (old new : DeskState) : Type 0 where
   pub names : NotesNames old.asked (asked_both put.Done) new.asked
   pub picture : GrayInput old
+  pub read : IsTaken picture.input new
   pub output : Grows old.outputs (name.Out, turned_file old picture) new.outputs
-  pub again : length (turned_file old picture) ≤ standard_limits.input → Means standard_limits (turned_file old picture) (turned_meaning old picture)
+  pub again : Means standard_limits (turned_file old picture) (turned_meaning old picture)
 
 -- Refused: the input has this fault, and nothing was written.
 pub record IsRefused (old : DeskState) (f : FaultAt) (new : DeskState) : Type 0 where
   pub names : NotesNames old.asked (asked_input put.Done) new.asked
   pub outputs : new.outputs ≡ old.outputs
-  pub input : RefusedInput old f
+  pub refused : RefusedInput old f
+  pub read : IsTaken refused.input new
 
 -- standard input wasn't opened
 pub record IsUnopened (old new : DeskState) : Type 0 where
@@ -77,11 +85,12 @@ pub record IsUnopened (old new : DeskState) : Type 0 where
   pub outputs : new.outputs ≡ old.outputs
   pub opens : Rose old.counts.opens new.counts.opens
 
--- standard input wasn't read
+-- standard input wasn't read behind some of its bytes, which are fewer than may be taken
 pub record IsUnread (old new : DeskState) : Type 0 where
   pub names : NotesNames old.asked (asked_input put.Done) new.asked
   pub outputs : new.outputs ≡ old.outputs
   pub reads : Rose old.counts.reads new.counts.reads
+  pub read : ReadsPart (2 ^ 28 - 1) name.In old new
 
 -- standard output wasn't created, though the input means a picture
 pub record IsUncreated (old new : DeskState) : Type 0 where
@@ -89,12 +98,14 @@ pub record IsUncreated (old new : DeskState) : Type 0 where
   pub outputs : new.outputs ≡ old.outputs
   pub opens : Rose old.counts.opens new.counts.opens
   pub picture : GrayInput old
+  pub read : IsTaken picture.input new
 
 -- standard output wasn't written to its end: it holds a first part of the text
 pub record IsUnwritten (old new : DeskState) : Type 0 where
   pub names : NotesNames old.asked (asked_both put.Done) new.asked
   pub writes : Rose old.counts.writes new.counts.writes
   pub picture : GrayInput old
+  pub read : IsTaken picture.input new
   pub count : ℕ
   pub output : Grows old.outputs (name.Out, take count (turned_file old picture)) new.outputs
 
@@ -102,6 +113,7 @@ pub record IsUnwritten (old new : DeskState) : Type 0 where
 pub record IsOutOfMemory (old new : DeskState) : Type 0 where
   pub names : NotesNames old.asked (asked_input put.Done) new.asked
   pub outputs : new.outputs ≡ old.outputs
+  pub read : ReadsPart (2 ^ 28) name.In old new
 
 abbrev pub Turned : DeskState → Why → DeskState → Type 0
 Turned old why.Done new = IsDone old new

@@ -1,10 +1,10 @@
 //! The words of rdjpgcom and wrjpgcom (their manuals in release 6b).
-ghost use Rattle.std.specs.Prelude.{◌≡◌, ◌<◌, ◌≤◌, ◌+◌, IfOk, MatchResult, length, map, drop, option_map, [], true, false, string_bytes};
+ghost use Rattle.std.specs.Prelude.{◌≡◌, ◌<◌, ◌≤◌, ◌+◌, IfOk, length, map, drop, option_map, [], true, false, string_bytes};
 ghost use Rattle.jpg_spec.specs.Switches.{is_switch};
 ghost use Rattle.jpg_spec.specs.CommentWords.{from_to, read_asked, write_asked, write_asked_from};
 ghost use Rattle.jpg_spec.specs.declared.answers.UsageFault.TheVariants.{MissingValue};
 ghost use Rattle.jpg_cli.specs.Switches.{told_purpose};
-ghost use Rattle.jpg_cli.specs.CommentWords.{IsAnswer, IsRead, IsStep, asked_from, comment_told, fault_of, files_told, input_told, insertion_told, source_told, usage_told, word_at, write_told};
+ghost use Rattle.jpg_cli.specs.CommentWords.{IsAnswer, IsRead, IsStep, asked_from, comment_told, fault_of, files_told, input_told, insertion_told, source_told, usage_told, word_at, write_told, IsValue};
 
 use crate::switches::{Purpose, RDJPGCOM_SWITCHES, WRJPGCOM_SWITCHES, is_switch, purpose_of};
 use jpg_base::{Name, NoMemory, Text};
@@ -241,7 +241,7 @@ impl<'a> Insertion<'a> {
 /// The value of the switch of this index: the word behind it.
 fn value_of(words: &[String], index: usize) -> Result<&str, Usage>
     requires { index < length words.now }
-    ensures { MatchResult result (λ text. (index + 1 < length words.now) × (text.now ≡ word_at (map string_bytes words.now) (index + 1))) (λ fault. (length words.now ≡ index + 1) × (fault ≡ usage_told MissingValue index)) }
+    ensures { IsValue (map string_bytes words.now) index result }
 {
     match words.get(index + 1) {
         Some(text) => Ok(text.as_str()),

@@ -1,9 +1,9 @@
 //! The header of an input, read byte by byte (T.81 B.2.1).
-ghost use Rattle.std.specs.Prelude.{◌≡◌, ◌≤◌, ◌<◌, ◌+◌, ◌^◌, ◌++◌, ℕ, List, [], ◌∷◌, length};
+ghost use Rattle.std.specs.Prelude.{◌≡◌, ◌≤◌, ◌<◌, ◌+◌, ◌^◌, ℕ, List, length};
 ghost use Rattle.jpg_spec.specs.Markers.{Segment};
-ghost use Rattle.jpg_markers.specs.Reading.{Comes, reading_of};
+ghost use Rattle.jpg_markers.specs.Reading.{reading_of};
 ghost use Rattle.jpg_cli.specs.Header.{told_by};
-ghost use Rattle.jpg_cli.specs.FirstScan.{AfterStep, InWork, IsBehindSegment, ReadsHeader};
+ghost use Rattle.jpg_cli.specs.FirstScan.{InWork, ReadsHeader, StepsOn, StepsBehind};
 
 use crate::header::{Header, Took};
 use jpg_base::{Limits, ScanHead, Stop};
@@ -66,7 +66,7 @@ pub fn read_header(alloc: Global, bytes: &[u8]) -> HeaderRead
 fn take_byte(reader: &mut SegmentReader, header: &mut Header, byte: u8) -> Step
     requires stands { (bytes : List ℕ) × (before : List Segment) × InWork bytes before (reading_of reader.old) (told_by header.old) }
     requires room { (reading_of reader.old).taken < 2 ^ 28 }
-    ensures stepped { (bytes : List ℕ) (before : List Segment) → InWork bytes before (reading_of reader.old) (told_by header.old) → AfterStep (bytes ++ byte ∷ []) result (reading_of reader.new) header.new }
+    ensures stepped { StepsOn (reading_of reader.old) (told_by header.old) byte result (reading_of reader.new) header.new }
     ensures taken { (reading_of reader.new).taken ≡ (reading_of reader.old).taken + 1 }
 {
     match reader.byte(byte) {
@@ -86,7 +86,7 @@ fn take_byte(reader: &mut SegmentReader, header: &mut Header, byte: u8) -> Step
 // Takes the last whole segment.
 fn take_segment(reader: &SegmentReader, header: &mut Header) -> Step
     requires short { length (reading_of reader.now).contents ≤ 65533 }
-    ensures { (bytes : List ℕ) (before : List Segment) → IsBehindSegment bytes before (reading_of reader.now) (told_by header.old) → AfterStep bytes result (reading_of reader.now) header.new }
+    ensures { StepsBehind (reading_of reader.now) (told_by header.old) result header.new }
 {
     if reader.code() == 0xda {
         return take_head(reader, header);
@@ -104,7 +104,7 @@ fn take_segment(reader: &SegmentReader, header: &mut Header) -> Step
 // Takes the scan header. It comes behind a frame.
 fn take_head(reader: &SegmentReader, header: &Header) -> Step
     requires scan { (reading_of reader.now).code ≡ 0xda }
-    ensures { (bytes : List ℕ) (before : List Segment) → IsBehindSegment bytes before (reading_of reader.now) (told_by header.now) → AfterStep bytes result (reading_of reader.now) header.now }
+    ensures { StepsBehind (reading_of reader.now) (told_by header.now) result header.now }
 {
     let Some(frame) = &header.frame else {
         return Step::Fault(FaultAt {

@@ -1,6 +1,5 @@
 //! A file of one gray scan, judged and turned (T.81 B.2.1).
-ghost use Rattle.std.specs.Prelude.{◌≡◌, ◌≤◌, ◌<◌, ◌^◌, ◌*◌, ◌≤ℤ◌, negsuc, ℕ, List, ℤ, [], ◌∷◌, length, take, drop, All, Some, is_some, IfOk, IfSome, IfNone, if◌then◌else◌, nat_lt};
-ghost use Rattle.jpg_spec.specs.GrayFile.{turned_rows};
+ghost use Rattle.std.specs.Prelude.{◌≡◌, ◌≤◌, ◌<◌, ◌^◌, ◌*◌, ◌≤ℤ◌, negsuc, ℕ, List, ℤ, [], length, take, drop, All, Some, is_some, IfOk, IfSome, IfNone};
 ghost use Rattle.jpg_spec.specs.SingleScan.{is_whole_frame, blocks_across, blocks_down};
 ghost use Rattle.jpg_spec.specs.QuantContents.{quant_in};
 ghost use Rattle.jpg_huff.specs.Sets.{slots_of};

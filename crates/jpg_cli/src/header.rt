@@ -1,8 +1,8 @@
 //! The header of a file: its segments up to the first scan header, and what they tell (T.81 B.2.1).
-ghost use Rattle.std.specs.Prelude.{◌≡◌, ◌≤◌, ◌==◌, ◌||◌, false, List, [], ◌∷◌, length, Some, None};
+ghost use Rattle.std.specs.Prelude.{◌≡◌, ◌≤◌, ◌==◌, ◌||◌, false, [], length, Some, None};
 ghost use Rattle.jpg_spec.specs.Segments.{standard_limits};
-ghost use Rattle.jpg_spec.specs.Markers.{Segment, has_scan, is_within, kept_rule, process_of_code};
-ghost use Rattle.jpg_cli.specs.Header.{Holds, IsOther, Takes, told_by};
+ghost use Rattle.jpg_spec.specs.Markers.{is_within, process_of_code};
+ghost use Rattle.jpg_cli.specs.Header.{Holds, IsOther, Takes, told_by, TakesNext, TakesKept};
 
 use jpg_base::{Frame, Limits, NoMemory};
 use jpg_huff::TableSet;
@@ -57,7 +57,7 @@ impl Header {
     pub fn take(&mut self, code: u8, contents: &[u8]) -> Took
         requires other { code ≡ 0xda → ⊥ }
         requires short { length contents.now ≤ 65533 }
-        ensures { (before : List Segment) → Holds standard_limits (told_by self.old) before → has_scan before ≡ false → kept_rule standard_limits before code contents.now ≡ None → Takes standard_limits before code contents.now result (told_by self.new) }
+        ensures { TakesKept (told_by self.old) code contents.now result (told_by self.new) }
     {
         match code {
             0xc4 => self.take_huffmans(contents),
@@ -71,7 +71,7 @@ impl Header {
     }
 
     fn take_huffmans(&mut self, contents: &[u8]) -> Took
-        ensures { (before : List Segment) → Holds standard_limits (told_by self.old) before → Takes standard_limits before 0xc4 contents.now result (told_by self.new) }
+        ensures { TakesNext (told_by self.old) 0xc4 contents.now result (told_by self.new) }
     {
         match read_dht(contents, &mut self.tables) {
             Ok(()) => Took::Done,
@@ -80,7 +80,7 @@ impl Header {
     }
 
     fn take_quants(&mut self, contents: &[u8]) -> Took
-        ensures { (before : List Segment) → Holds standard_limits (told_by self.old) before → Takes standard_limits before 0xdb contents.now result (told_by self.new) }
+        ensures { TakesNext (told_by self.old) 0xdb contents.now result (told_by self.new) }
     {
         match read_dqt(contents, &mut self.quants) {
             Ok(()) => Took::Done,
@@ -89,7 +89,7 @@ impl Header {
     }
 
     fn take_interval(&mut self, contents: &[u8]) -> Took
-        ensures { (before : List Segment) → Holds standard_limits (told_by self.old) before → Takes standard_limits before 0xdd contents.now result (told_by self.new) }
+        ensures { TakesNext (told_by self.old) 0xdd contents.now result (told_by self.new) }
     {
         match read_dri(contents) {
             Ok(interval) => {
@@ -102,7 +102,7 @@ impl Header {
 
     fn take_frame(&mut self, code: u8, process: Process, contents: &[u8]) -> Took
         requires { process_of_code code ≡ Some process }
-        ensures { (before : List Segment) → Holds standard_limits (told_by self.old) before → Takes standard_limits before code contents.now result (told_by self.new) }
+        ensures { TakesNext (told_by self.old) code contents.now result (told_by self.new) }
     {
         match read_sof(process, contents, &Limits::standard()) {
             Ok(frame) => {
@@ -117,7 +117,7 @@ impl Header {
     fn take_other(&mut self, code: u8, contents: &[u8]) -> Took
         requires other { IsOther code }
         requires short { length contents.now ≤ 65533 }
-        ensures { (before : List Segment) → Holds standard_limits (told_by self.old) before → has_scan before ≡ false → kept_rule standard_limits before code contents.now ≡ None → Takes standard_limits before code contents.now result (told_by self.new) }
+        ensures { TakesKept (told_by self.old) code contents.now result (told_by self.new) }
     {
         if !is_kept_code(code) {
             return Took::Done;

@@ -1,14 +1,13 @@
 //! A comment inserted into a file, which is read and written piece by piece (T.81 B.2.4.5, the manual of
 //! wrjpgcom in release 6b).
-ghost use Rattle.std.specs.Prelude.{◌≡◌, ◌<◌, ◌++◌, [], List, ℕ, IfNone, length, true};
+ghost use Rattle.std.specs.Prelude.{◌≡◌, ◌<◌, [], List, ℕ, IfNone, length, true};
 ghost use Rattle.jpg_spec.specs.Segments.{standard_limits};
-ghost use Rattle.jpg_base.specs.Desk.{DeskState, NoneFell};
+ghost use Rattle.jpg_base.specs.Desk.{NoneFell};
 ghost use Rattle.jpg_comments.specs.Begun.{Appends};
-ghost use Rattle.jpg_comments.specs.WriteInserted.{HasInserted};
-ghost use Rattle.jpg_comments.specs.declared.insert.Insert.{Insert as Inserting};
-ghost use Rattle.jpg_cli.specs.CommentInserted.{AfterBegin, Inserted, IsReading, IsWriting, Task, task_told};
-ghost use Rattle.jpg_cli.specs.InsertComment.{AfterAll, AfterFed, AfterHead, AfterRest, IsAtHead, IsBegunWith};
-ghost use Rattle.jpg_cli.specs.ReadComments.{HasCopied, OnlyCopies};
+ghost use Rattle.jpg_comments.specs.WriteInserted.{insert_limits, is_replacing, HasInserted};
+ghost use Rattle.jpg_cli.specs.CommentInserted.{Inserted, task_told, EndsTask, BeginsTask, WritesFirst, WritesRest};
+ghost use Rattle.jpg_cli.specs.InsertComment.{AfterAll, IsBegunWith, IsOpenAfter, ReadsHead, CopiesNext, TakesPiece};
+ghost use Rattle.jpg_cli.specs.ReadComments.{OnlyCopies};
 ghost use Rattle.jpg_cli.specs.Reading.{OnlyReads};
 
 use crate::comment_taken::take_comment;
@@ -32,7 +31,8 @@ enum AtHead {
 
 /// Takes the comment, opens the input, and writes it to the output with the comment before its frame
 /// header. The output is created when the marker of the frame header is read. The input is read in
-/// pieces of at most 65,536 bytes to its end, or up to the piece that shows a fault.
+/// pieces of at most 65,536 bytes to its end, or up to fewer bytes than that behind the byte that shows
+/// a fault.
 pub fn insert_comment<D: Desk>(alloc: Global, words: &WriteWords, desk: &mut D) -> Why
     ensures counts { NoneFell (D.state desk.old).counts (D.state desk.new).counts }
     ensures files { (D.state desk.new).files ≡ (D.state desk.old).files }
@@ -67,12 +67,12 @@ fn with_comment(alloc: Global, comment: &[u8], replace: bool) -> Result<Insert, 
 // Writes the open input to the output.
 fn insert_into<D: Desk>(alloc: Global, insert: &mut Insert, output: &Name, desk: &mut D) -> Why
     requires open { (D.state desk.old).input_open ≡ true }
-    requires limits { insert.old.limits ≡ standard_limits }
+    requires limits { insert_limits insert.old ≡ standard_limits }
     requires begun { (comment : List ℕ) × HasInserted comment [] [] insert.old }
     ensures counts { NoneFell (D.state desk.old).counts (D.state desk.new).counts }
     ensures files { (D.state desk.new).files ≡ (D.state desk.old).files }
     ensures said { (D.state desk.new).said ≡ (D.state desk.old).said }
-    ensures after { (task : Task) (comment : List ℕ) (start : DeskState) → task.output ≡ output.now → task.replace ≡ insert.old.replace → HasInserted comment [] [] insert.old → IsReading task comment [] start (D.state desk.old) → Inserted task start result (D.state desk.new) }
+    ensures after { EndsTask output.now insert.old (D.state desk.old) result (D.state desk.new) }
 {
     let mut buffer = [0u8; 65536];
     let mut out = Bytes::new(alloc);
@@ -92,18 +92,18 @@ fn begin<D: Desk>(
     desk: &mut D,
 ) -> Option<Why>
     requires open { (D.state desk.old).input_open ≡ true }
-    requires limits { insert.old.limits ≡ standard_limits }
+    requires limits { insert_limits insert.old ≡ standard_limits }
     requires begun { (comment : List ℕ) × HasInserted comment [] [] insert.old }
     requires empty { out.old ≡ [] }
     ensures counts { NoneFell (D.state desk.old).counts (D.state desk.new).counts }
     ensures files { (D.state desk.new).files ≡ (D.state desk.old).files }
     ensures said { (D.state desk.new).said ≡ (D.state desk.old).said }
-    ensures open { (D.state desk.new).input_open ≡ true }
+    ensures open { IfNone result ((D.state desk.new).input_open ≡ true) }
     ensures created { IfNone result ((D.state desk.new).output_created ≡ true) }
     ensures more { IfNone result ((comment : List ℕ) × (bytes : List ℕ) × (text : List ℕ) × (0 < length text) × HasInserted comment bytes text insert.new) }
-    ensures after { (task : Task) (comment : List ℕ) (start : DeskState) → task.output ≡ output.now → task.replace ≡ insert.old.replace → HasInserted comment [] [] insert.old → IsReading task comment [] start (D.state desk.old) → AfterBegin task comment start result insert.new (D.state desk.new) }
-    ensures limits { insert.new.limits ≡ standard_limits }
-    ensures replace { insert.new.replace ≡ insert.old.replace }
+    ensures after { BeginsTask output.now insert.old (D.state desk.old) result insert.new (D.state desk.new) }
+    ensures limits { insert_limits insert.new ≡ standard_limits }
+    ensures replace { is_replacing insert.new ≡ is_replacing insert.old }
     ensures empty { IfNone result (out.new ≡ []) }
 {
     loop {
@@ -123,12 +123,13 @@ fn next_head<D: Desk>(
     desk: &mut D,
 ) -> AtHead
     requires open { (D.state desk.old).input_open ≡ true }
-    requires limits { insert.old.limits ≡ standard_limits }
+    requires limits { insert_limits insert.old ≡ standard_limits }
     requires empty { out.old ≡ [] }
     ensures kept { OnlyReads (D.state desk.old) (D.state desk.new) }
-    ensures after { (comment bytes : List ℕ) → HasInserted comment bytes [] insert.old → AfterHead comment insert.old.replace bytes (D.state desk.old) result insert.new out.new (D.state desk.new) }
-    ensures limits { insert.new.limits ≡ standard_limits }
-    ensures replace { insert.new.replace ≡ insert.old.replace }
+    ensures open { IsOpenAfter result (D.state desk.new) }
+    ensures after { ReadsHead insert.old (D.state desk.old) result insert.new out.new (D.state desk.new) }
+    ensures limits { insert_limits insert.new ≡ standard_limits }
+    ensures replace { is_replacing insert.new ≡ is_replacing insert.old }
 {
     match read_within(desk, insert.room(), buffer) {
         Got::Failed => AtHead::Ended(Why::ReadFault(Which::Input)),
@@ -159,7 +160,7 @@ fn write_first<D: Desk>(
     ensures open { (D.state desk.new).input_open ≡ (D.state desk.old).input_open }
     ensures created { IfNone result ((D.state desk.new).output_created ≡ true) }
     ensures due { IfNone result (due ≡ None) }
-    ensures after { (task : Task) (comment bytes : List ℕ) (start : DeskState) (insert : Inserting) → task.output ≡ output.now → 0 < length out.old → IsAtHead bytes → IsReading task comment bytes start (D.state desk.old) → AfterFed comment task.replace bytes out.old due insert → insert.limits ≡ standard_limits → insert.replace ≡ task.replace → AfterBegin task comment start result insert (D.state desk.new) }
+    ensures after { WritesFirst output.now due out.old (D.state desk.old) result (D.state desk.new) }
     ensures empty { IfNone result (out.new ≡ []) }
 {
     match desk.create(output) {
@@ -180,11 +181,11 @@ fn copy_rest<D: Desk>(
 ) -> Why
     requires open { (D.state desk.old).input_open ≡ true }
     requires created { (D.state desk.old).output_created ≡ true }
-    requires limits { insert.old.limits ≡ standard_limits }
+    requires limits { insert_limits insert.old ≡ standard_limits }
     requires begun { (comment : List ℕ) × (bytes : List ℕ) × (text : List ℕ) × (0 < length text) × HasInserted comment bytes text insert.old }
     requires empty { out.old ≡ [] }
     ensures kept { OnlyCopies (D.state desk.old) (D.state desk.new) }
-    ensures after { (task : Task) (comment bytes text : List ℕ) (start : DeskState) → task.replace ≡ insert.old.replace → HasInserted comment bytes text insert.old → 0 < length text → IsWriting task comment bytes text start (D.state desk.old) → Inserted task start result (D.state desk.new) }
+    ensures after { WritesRest insert.old (D.state desk.old) result (D.state desk.new) }
 {
     loop {
         if let Some(why) = next_rest(insert, buffer, out, desk) {
@@ -202,12 +203,13 @@ fn next_rest<D: Desk>(
 ) -> Option<Why>
     requires open { (D.state desk.old).input_open ≡ true }
     requires created { (D.state desk.old).output_created ≡ true }
-    requires limits { insert.old.limits ≡ standard_limits }
+    requires limits { insert_limits insert.old ≡ standard_limits }
     requires empty { out.old ≡ [] }
     ensures kept { OnlyCopies (D.state desk.old) (D.state desk.new) }
-    ensures after { (start : DeskState) (comment bytes text : List ℕ) → HasInserted comment bytes text insert.old → 0 < length text → OnlyCopies start (D.state desk.old) → HasCopied start bytes text (D.state desk.old) → AfterRest comment insert.old.replace start bytes result insert.new (D.state desk.new) }
-    ensures limits { insert.new.limits ≡ standard_limits }
-    ensures replace { insert.new.replace ≡ insert.old.replace }
+    ensures open { IfNone result ((D.state desk.new).input_open ≡ true) }
+    ensures after { CopiesNext insert.old (D.state desk.old) result insert.new (D.state desk.new) }
+    ensures limits { insert_limits insert.new ≡ standard_limits }
+    ensures replace { is_replacing insert.new ≡ is_replacing insert.old }
     ensures empty { out.new ≡ [] }
 {
     match read_within(desk, insert.room(), buffer) {
@@ -225,10 +227,10 @@ fn next_rest<D: Desk>(
 
 // Appends the text for this piece, and tells why the writing ends, if it does.
 fn take_piece(insert: &mut Insert, piece: &[u8], out: &mut Bytes) -> Option<Why>
-    requires limits { insert.old.limits ≡ standard_limits }
-    ensures taken { (comment bytes text : List ℕ) → HasInserted comment bytes text insert.old → Appends (λ all. AfterFed comment insert.old.replace (bytes ++ piece.now) all result insert.new) text out.old out.new }
-    ensures limits { insert.new.limits ≡ standard_limits }
-    ensures replace { insert.new.replace ≡ insert.old.replace }
+    requires limits { insert_limits insert.old ≡ standard_limits }
+    ensures taken { TakesPiece insert.old piece.now out.old result out.new insert.new }
+    ensures limits { insert_limits insert.new ≡ standard_limits }
+    ensures replace { is_replacing insert.new ≡ is_replacing insert.old }
 {
     match insert.feed(piece, out) {
         Ok(_) => None,
@@ -239,10 +241,10 @@ fn take_piece(insert: &mut Insert, piece: &[u8], out: &mut Bytes) -> Option<Why>
 
 // The answer for an input that ends here.
 fn at_end(insert: &mut Insert) -> Why
-    requires limits { insert.old.limits ≡ standard_limits }
-    ensures ended { (comment bytes text : List ℕ) → HasInserted comment bytes text insert.old → AfterAll comment insert.old.replace bytes text result }
-    ensures limits { insert.new.limits ≡ standard_limits }
-    ensures replace { insert.new.replace ≡ insert.old.replace }
+    requires limits { insert_limits insert.old ≡ standard_limits }
+    ensures ended { (comment bytes text : List ℕ) → HasInserted comment bytes text insert.old → AfterAll comment (is_replacing insert.old) bytes text result }
+    ensures limits { insert_limits insert.new ≡ standard_limits }
+    ensures replace { is_replacing insert.new ≡ is_replacing insert.old }
 {
     match insert.end() {
         Ok(()) => Why::Done,

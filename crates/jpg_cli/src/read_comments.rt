@@ -1,11 +1,11 @@
 //! The comments of a file, printed (T.81 B.2.4.5, the manual of rdjpgcom in release 6b).
-ghost use Rattle.std.specs.Prelude.{◌≡◌, ◌≤◌, ◌++◌, [], List, ℕ, length, true, false};
+ghost use Rattle.std.specs.Prelude.{◌≡◌, ◌≤◌, [], List, ℕ, IfNone, length, true, false};
 ghost use Rattle.jpg_spec.specs.Segments.{standard_limits};
-ghost use Rattle.jpg_base.specs.Desk.{AfterWrite, DeskState, NoneFell};
+ghost use Rattle.jpg_base.specs.Desk.{AfterWrite, NoneFell};
 ghost use Rattle.jpg_huff.specs.Out.{OnlyWrites};
 ghost use Rattle.jpg_comments.specs.Begun.{Appends};
-ghost use Rattle.jpg_comments.specs.ReadComments.{is_done, HasRead};
-ghost use Rattle.jpg_cli.specs.ReadComments.{AfterEnd, AfterNext, AfterTaking, EndsCopying, HasCopied, OnlyCopies, Printed};
+ghost use Rattle.jpg_comments.specs.ReadComments.{comments_limits, is_done, HasRead};
+ghost use Rattle.jpg_cli.specs.ReadComments.{AfterEnd, EndsCopying, OnlyCopies, Printed, CopiesNext, TakesPiece};
 
 use crate::comment_words::Files;
 use crate::reading::read_within;
@@ -15,8 +15,8 @@ use jpg_spec::{Limits, Which, Why};
 use std::alloc::Global;
 
 /// Opens the input, creates the output and prints the comments of the input to it, each as it is
-/// whole. The input is read in pieces of at most 65,536 bytes, and no piece is read after the one
-/// with which its first scan header is whole, or an EOI before any, or that shows a fault.
+/// whole. The input is read in pieces of at most 65,536 bytes, and fewer bytes than that are read
+/// behind the end of its first scan header, or an EOI before any, or the byte that shows a fault.
 pub fn print_comments<D: Desk>(alloc: Global, files: &Files, desk: &mut D) -> Why
     ensures counts { NoneFell (D.state desk.old).counts (D.state desk.new).counts }
     ensures files { (D.state desk.new).files ≡ (D.state desk.old).files }
@@ -60,11 +60,12 @@ fn next_piece<D: Desk>(
     requires open { (D.state desk.old).input_open ≡ true }
     requires created { (D.state desk.old).output_created ≡ true }
     requires more { is_done comments.old ≡ false }
-    requires limits { comments.old.limits ≡ standard_limits }
+    requires limits { comments_limits comments.old ≡ standard_limits }
     requires empty { out.old ≡ [] }
     ensures kept { OnlyCopies (D.state desk.old) (D.state desk.new) }
-    ensures after { (start : DeskState) (bytes text : List ℕ) → HasRead bytes text comments.old → OnlyCopies start (D.state desk.old) → HasCopied start bytes text (D.state desk.old) → AfterNext start bytes result comments.new (D.state desk.new) }
-    ensures limits { comments.new.limits ≡ standard_limits }
+    ensures open { IfNone result ((D.state desk.new).input_open ≡ true) }
+    ensures after { CopiesNext comments.old (D.state desk.old) result comments.new (D.state desk.new) }
+    ensures limits { comments_limits comments.new ≡ standard_limits }
     ensures empty { out.new ≡ [] }
 {
     match read_within(desk, comments.room(), buffer) {
@@ -83,9 +84,9 @@ fn next_piece<D: Desk>(
 // The answer for an input that ends here.
 fn at_end(comments: &mut Comments) -> Why
     requires more { is_done comments.old ≡ false }
-    requires limits { comments.old.limits ≡ standard_limits }
+    requires limits { comments_limits comments.old ≡ standard_limits }
     ensures ended { (bytes text : List ℕ) → HasRead bytes text comments.old → AfterEnd bytes text result }
-    ensures limits { comments.new.limits ≡ standard_limits }
+    ensures limits { comments_limits comments.new ≡ standard_limits }
 {
     match comments.end() {
         Stop::Fault(fault) => Why::Refused(fault),
@@ -97,10 +98,10 @@ fn at_end(comments: &mut Comments) -> Why
 // it does.
 fn take_piece(comments: &mut Comments, piece: &[u8], out: &mut Bytes) -> Option<Why>
     requires more { is_done comments.old ≡ false }
-    requires limits { comments.old.limits ≡ standard_limits }
+    requires limits { comments_limits comments.old ≡ standard_limits }
     requires short { length piece.now ≤ 65536 }
-    ensures taken { (bytes text : List ℕ) → HasRead bytes text comments.old → Appends (λ all. AfterTaking (bytes ++ piece.now) all result comments.new) text out.old out.new }
-    ensures limits { comments.new.limits ≡ standard_limits }
+    ensures taken { TakesPiece comments.old piece.now out.old result out.new comments.new }
+    ensures limits { comments_limits comments.new ≡ standard_limits }
 {
     match comments.feed(piece, out) {
         Ok(Fed::More) => None,

@@ -1,5 +1,5 @@
 //! The whole input, up to a limit, in the pieces that a desk gives.
-ghost use Rattle.std.specs.Prelude.{◌≡◌, ◌≤◌, ◌<◌, [], length, true};
+ghost use Rattle.std.specs.Prelude.{◌≡◌, ◌<◌, [], true};
 ghost use Rattle.jpg_base.specs.Desk.{Reads};
 ghost use Rattle.jpg_cli.specs.Reading.{OnlyReads, AfterPiece, AfterReading, AfterInput, IsWithin, Keeps};
 

@@ -1,8 +1,8 @@
 //! Switches of a call: how a word matches one (the manuals of release 6b; any beginning of a name
 //! that has its shortest form stands for it).
-ghost use Rattle.std.specs.Prelude.{◌≡◌, map, option_map, string_bytes};
+ghost use Rattle.std.specs.Prelude.{◌≡◌, map, option_map};
 ghost use Rattle.jpg_spec.specs.Lists.{begins_with};
-ghost use Rattle.jpg_spec.specs.Switches.{is_match, is_switch, lower, purpose_of, rdjpgcom_switches, wrjpgcom_switches};
+ghost use Rattle.jpg_spec.specs.Switches.{is_match, is_switch, lower, purpose_of};
 ghost use Rattle.jpg_cli.specs.Switches.{told_purpose, told_switch};
 
 /// What a switch is for.

@@ -120,6 +120,7 @@ pub fn write_gray<D: Desk>(picture: &GrayPicture, desk: &mut D) -> Why
     ensures counts { NoneFell (D.state desk.old).counts (D.state desk.new).counts }
     ensures files { (D.state desk.new).files ≡ (D.state desk.old).files }
     ensures said { (D.state desk.new).said ≡ (D.state desk.old).said }
+    ensures left { (D.state desk.new).left ≡ (D.state desk.old).left }
     ensures output { AfterOutput (D.state desk.old) (file_bytes picture.now) result (D.state desk.new) }
 {
     match desk.create(&Name::Out) {

@@ -10,7 +10,8 @@ use Rattle.jpg_markers.specs.Reading.{Reading, StandsFor, ShowsBehind}
 abbrev pub IsBegun : Rule → List ℕ → List Segment → Type 0
 IsBegun rule bytes before =
     ((before ≡ []) × ((bytes ≡ []) ⊎ (bytes ≡ 255 ∷ [])))
-    ⊎ ((tail : List ℕ) × Between rule bytes before tail × (PartOfSegment before tail ⊎ ((code : ℕ) × BeginsSegment before code tail × (is_frame_code code ≡ true))))
+    ⊎ ((tail : List ℕ) × Between rule bytes before tail
+    × (PartOfSegment before tail ⊎ ((code : ℕ) × BeginsSegment before code tail × (is_frame_code code ≡ true))))
 
 -- These are the whole segments before the fault that the bytes show with their last one, or else of bytes that show none.
 abbrev pub AreWholeBefore : Limits → List ℕ → Fault → List Segment → Type 0

@@ -1,5 +1,5 @@
 -- A file with one comment more, written as it is read (T.81 B.2.4.5, the manual of wrjpgcom in release 6b).
-use Rattle.std.specs.Prelude.{◌≡◌, ◌⊎◌, ℕ, ◌+◌, ◌-◌, ◌<◌, ◌≤◌, Bool, true, false, ◌&&◌, ◌==◌, if◌then◌else◌, List, [], ◌++◌, length, take, flat_map, Option, Some, None, Result, Ok, Err}
+use Rattle.std.specs.Prelude.{◌≡◌, ◌⊎◌, ℕ, ◌+◌, ◌-◌, ◌<◌, ◌≤◌, Bool, true, false, ◌&&◌, ◌==◌, if◌then◌else◌, List, [], ◌∷◌, ◌++◌, length, take, flat_map, Option, Some, None, Result, Ok, Err}
 use Rattle.jpg_spec.specs.FileText.{segment_text}
 use Rattle.jpg_spec.specs.Markers.{Segment, soi, has_frame}
 use Rattle.jpg_spec.specs.CommentText.{SomeSegments, IsHead, IsHeadFault, IsInsertFault, IsInserted, head_segments}
@@ -8,6 +8,8 @@ use Rattle.jpg_spec.specs.declared.frame.Limits.{Limits}
 use Rattle.jpg_base.specs.declared.stop.Stop.{Stop}
 use Rattle.jpg_base.specs.declared.stop.Stop.TheVariants as stop
 use Rattle.jpg_markers.specs.Reading.{Reading}
+use Rattle.jpg_base.specs.declared.names.NoMemory.{NoMemory}
+use Rattle.jpg_comments.specs.Appending.{AppendsText}
 use Rattle.jpg_comments.specs.Begun.{HasTaken, ShowsFirst}
 
 -- THE HEAD
@@ -26,7 +28,8 @@ kept_text replace code contents = if replace && code == 0xfe then [] else segmen
 
 -- The head is kept of bytes that were given to a reader, in which the frame header's marker isn't there yet.
 abbrev pub HasKept : Limits → Bool → List ℕ → List ℕ → Reading → Type 0
-HasKept limits replace bytes head r = (before : List Segment) × HasTaken limits (HoldsHead limits) bytes before r × (has_frame before ≡ false) × (head ≡ head_text replace before)
+HasKept limits replace bytes head r =
+    (before : List Segment) × HasTaken limits (HoldsHead limits) bytes before r × (has_frame before ≡ false) × (head ≡ head_text replace before)
 
 -- the frame header's marker is there
 abbrev pub IsAtFrame : Limits → Bool → List ℕ → List ℕ → Reading → Type 0
@@ -47,12 +50,27 @@ AfterHeadPiece limits replace bytes piece (Ok (Some used)) head r = IsAtFrame li
 AfterHeadPiece limits replace bytes piece (Err (stop.Fault f)) head r = (rest : List ℕ) → IsHeadFault limits (bytes ++ piece ++ rest) f.fault f.at
 AfterHeadPiece limits replace bytes piece (Err stop.NoMemory) head r = Unit {0}
 
+-- FOR ALL BYTES that a reader was given, of which this head was kept
+
+abbrev pub KeepsByte : Bool → Reading → ℕ → List ℕ → Result Bool Stop → List ℕ → Reading → Type 0
+KeepsByte replace old byte had answer head new =
+    (bytes : List ℕ) → HasKept old.limits replace bytes had old → AfterHeadByte old.limits replace (bytes ++ byte ∷ []) answer head new
+
+abbrev pub KeepsPiece : Bool → Reading → List ℕ → List ℕ → Result (Option ℕ) Stop → List ℕ → Reading → Type 0
+KeepsPiece replace old piece had answer head new =
+    (bytes : List ℕ) → HasKept old.limits replace bytes had old → AfterHeadPiece old.limits replace bytes piece answer head new
+
+-- the last segment, whose contents fit into one
+abbrev pub KeepsSegment : Bool → Reading → List ℕ → Result (Unit {0}) NoMemory → List ℕ → Type 0
+KeepsSegment replace r had answer head = length r.contents ≤ 65533 → AppendsText (kept_text replace r.code r.contents) answer had head
+
 -- THE REST
 
 -- It is copied whole, and the answer tells how many bytes were taken; or as many as may be taken; or nothing.
 abbrev pub Copies : ℕ → ℕ → List ℕ → Result ℕ Stop → List ℕ → List ℕ → Type 0
 Copies taken most rest (Ok n) old new = (n ≡ taken + length rest) × (n < most) × (new ≡ old ++ rest)
-Copies taken most rest (Err (stop.Fault f)) old new = (f.fault ≡ InputTooLong) × (f.at ≡ most) × (most ≤ taken + length rest) × (new ≡ old ++ take (most - taken) rest)
+Copies taken most rest (Err (stop.Fault f)) old new =
+    (f.fault ≡ InputTooLong) × (f.at ≡ most) × (most ≤ taken + length rest) × (new ≡ old ++ take (most - taken) rest)
 Copies taken most rest (Err stop.NoMemory) old new = new ≡ old
 
 -- THE ANSWERS
@@ -66,5 +84,6 @@ InsertsPart limits comment replace bytes text =
 abbrev pub InsertsUpTo : Limits → List ℕ → Bool → List ℕ → List ℕ → Stop → Type 0
 InsertsUpTo limits comment replace bytes text (stop.Fault f) =
     ((rest : List ℕ) → IsInsertFault limits (bytes ++ rest) f.fault f.at)
-    × (((text ≡ []) × ((rest : List ℕ) → IsHeadFault limits (bytes ++ rest) f.fault f.at)) ⊎ ((f.fault ≡ InputTooLong) × IsInserted limits (take f.at bytes) comment replace text))
+    × (((text ≡ []) × ((rest : List ℕ) → IsHeadFault limits (bytes ++ rest) f.fault f.at))
+    ⊎ ((f.fault ≡ InputTooLong) × IsInserted limits (take f.at bytes) comment replace text))
 InsertsUpTo limits comment replace bytes text stop.NoMemory = InsertsPart limits comment replace bytes text

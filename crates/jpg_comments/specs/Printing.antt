@@ -1,5 +1,5 @@
 -- The comments of a file, printed as they come (T.81 B.2.4.5, the manual of rdjpgcom in release 6b).
-use Rattle.std.specs.Prelude.{◌≡◌, ℕ, ◌<◌, ◌≤◌, Bool, true, false, List, [], ◌++◌, length, take, Result, Ok, Err, ◌==◌, if◌then◌else◌}
+use Rattle.std.specs.Prelude.{◌≡◌, ℕ, ◌<◌, ◌≤◌, Bool, true, false, List, [], ◌∷◌, ◌++◌, length, take, Result, Ok, Err, ◌==◌, if◌then◌else◌}
 use Rattle.jpg_spec.specs.Markers.{Segment, kept_rule, has_scan}
 use Rattle.jpg_spec.specs.CommentText.{printed, comments_text, IsReadWhole, SomeSegments, IsReadFault}
 use Rattle.jpg_spec.specs.declared.fault.Fault.{Fault}
@@ -9,7 +9,7 @@ use Rattle.jpg_base.specs.declared.stop.Fed.TheVariants as fed
 use Rattle.jpg_base.specs.declared.stop.Stop.{Stop}
 use Rattle.jpg_base.specs.declared.stop.Stop.TheVariants as stop
 use Rattle.jpg_markers.specs.Reading.{Reading}
-use Rattle.jpg_comments.specs.Begun.{IsBegun, AreWholeBefore, HasTaken, ShowsFirst}
+use Rattle.jpg_comments.specs.Begun.{Appends, IsBegun, AreWholeBefore, HasTaken, ShowsFirst}
 
 -- these bytes hold a whole file, of this reading's sense
 abbrev pub HoldsWhole : Limits → List ℕ → Type 0
@@ -17,7 +17,8 @@ HoldsWhole limits bytes = SomeSegments (IsReadWhole limits bytes)
 
 -- The text of the comments among the bytes that were given to a reader.
 abbrev pub HasPrinted : Limits → List ℕ → List ℕ → Reading → Type 0
-HasPrinted limits bytes text r = (before : List Segment) × HasTaken limits (HoldsWhole limits) bytes before r × (has_scan before ≡ false) × (text ≡ comments_text before)
+HasPrinted limits bytes text r =
+    (before : List Segment) × HasTaken limits (HoldsWhole limits) bytes before r × (has_scan before ≡ false) × (text ≡ comments_text before)
 
 -- WHAT IS APPENDED with further bytes
 
@@ -38,7 +39,8 @@ PrintsPart limits bytes text =
 abbrev pub AfterByte : Limits → List ℕ → List ℕ → Result Bool Stop → Reading → Type 0
 AfterByte limits bytes text (Ok false) r = HasPrinted limits bytes text r
 AfterByte limits bytes text (Ok true) r = PrintsWhole limits bytes text
-AfterByte limits bytes text (Err (stop.Fault f)) r = ShowsFirst limits (HoldsWhole limits) bytes f.fault × (f.at ≡ length bytes) × PrintsBefore limits bytes f.fault text
+AfterByte limits bytes text (Err (stop.Fault f)) r =
+    ShowsFirst limits (HoldsWhole limits) bytes f.fault × (f.at ≡ length bytes) × PrintsBefore limits bytes f.fault text
 AfterByte limits bytes text (Err stop.NoMemory) r = PrintsPart limits bytes text
 
 -- with a piece more, whatever follows it, by the reader that is left
@@ -48,6 +50,16 @@ AfterPiece limits bytes piece text (Ok (fed.Done used)) r = PrintsWhole limits (
 AfterPiece limits bytes piece text (Err (stop.Fault f)) r =
     ((rest : List ℕ) → IsReadFault limits (bytes ++ piece ++ rest) f.fault f.at) × PrintsBefore limits (take f.at (bytes ++ piece)) f.fault text
 AfterPiece limits bytes piece text (Err stop.NoMemory) r = PrintsPart limits (bytes ++ piece) text
+
+-- FOR ALL BYTES that a reader was given, and the text that was appended for them
+
+abbrev pub PrintsByte : Reading → ℕ → List ℕ → Result Bool Stop → List ℕ → Reading → Type 0
+PrintsByte old byte had answer out new =
+    (bytes text : List ℕ) → HasPrinted old.limits bytes text old → Appends (λ all. AfterByte old.limits (bytes ++ byte ∷ []) all answer new) text had out
+
+abbrev pub PrintsPiece : Reading → List ℕ → List ℕ → Result Fed Stop → List ℕ → Reading → Type 0
+PrintsPiece old piece had answer out new =
+    (bytes text : List ℕ) → HasPrinted old.limits bytes text old → Appends (λ all. AfterPiece old.limits bytes piece all answer new) text had out
 
 -- A SEGMENT
 

@@ -1,5 +1,5 @@
 -- The comments of a file that is fed piece by piece (T.81 B.2.4.5, the manual of rdjpgcom in release 6b).
-use Rattle.std.specs.Prelude.{◌≡◌, ℕ, ◌<◌, ◌≤◌, Bool, true, false, List, ◌++◌, length, take, Result, Ok, Err, None}
+use Rattle.std.specs.Prelude.{◌≡◌, ℕ, ◌<◌, ◌≤◌, Bool, true, false, List, ◌++◌, length, take, Option, Result, Ok, Err, None}
 use Rattle.jpg_spec.specs.CommentText.{IsReadFault}
 use Rattle.jpg_spec.specs.declared.frame.Limits.{Limits}
 use Rattle.jpg_base.specs.declared.stop.Fed.{Fed}
@@ -7,8 +7,21 @@ use Rattle.jpg_base.specs.declared.stop.Fed.TheVariants as fed
 use Rattle.jpg_base.specs.declared.stop.Stop.{Stop}
 use Rattle.jpg_base.specs.declared.stop.Stop.TheVariants as stop
 use Rattle.jpg_markers.specs.Reading.{reading_of}
+use Rattle.jpg_comments.specs.Begun.{Appends}
 use Rattle.jpg_comments.specs.Printing.{HasPrinted, PrintsWhole, PrintsBefore, PrintsPart}
 use Rattle.jpg_comments.specs.declared.comments.Comments.{Comments}
+
+-- the limits that it was given
+abbrev pub comments_limits : Comments → Limits
+comments_limits c = c.limits
+
+-- how many bytes were taken
+abbrev pub comments_taken : Comments → ℕ
+comments_taken c = (reading_of c.reader).taken
+
+-- why it stopped, if it did
+abbrev pub comments_stop : Comments → Option Stop
+comments_stop c = c.stop
 
 -- The file is whole: neither `feed` nor `end` may be called any more.
 abbrev pub is_done : Comments → Bool
@@ -25,6 +38,10 @@ AfterFeed bytes piece text (Ok (fed.Done used)) c = PrintsWhole c.limits (bytes 
 AfterFeed bytes piece text (Err (stop.Fault f)) c =
     ((rest : List ℕ) → IsReadFault c.limits (bytes ++ piece ++ rest) f.fault f.at) × PrintsBefore c.limits (take f.at (bytes ++ piece)) f.fault text
 AfterFeed bytes piece text (Err stop.NoMemory) c = PrintsPart c.limits (bytes ++ piece) text
+
+-- for all bytes that were fed before, and the text that was appended for them
+abbrev pub Feeds : Comments → List ℕ → List ℕ → Result Fed Stop → List ℕ → Comments → Type 0
+Feeds old piece had answer out new = (bytes text : List ℕ) → HasRead bytes text old → Appends (λ all. AfterFeed bytes piece all answer new) text had out
 
 -- a fault of bytes that end
 abbrev pub StopsAt : Limits → List ℕ → Stop → Type 0

@@ -1,11 +1,9 @@
 // The comments of a file, read piece by piece (T.81 B.2.4.5).
-ghost use Rattle.std.specs.Prelude.{◌≡◌, ◌<◌, ◌+◌, ◌-◌, length, ◌++◌, ◌∷◌, [], ℕ, List, Some, None, true, false, Ok, Err};
+ghost use Rattle.std.specs.Prelude.{◌≡◌, ◌<◌, ◌+◌, ◌-◌, length, [], ℕ, List, Some, None, true, false, Ok, Err};
 ghost use Rattle.jpg_spec.specs.FrameHeader.{AreLimits};
 ghost use Rattle.jpg_base.specs.declared.stop.Stop.{Stop as Stopped};
-ghost use Rattle.jpg_base.specs.declared.stop.Fed.TheVariants as fed;
 ghost use Rattle.jpg_markers.specs.Reading.{reading_of};
-ghost use Rattle.jpg_comments.specs.Begun.{Appends};
-ghost use Rattle.jpg_comments.specs.Printing.{HasPrinted, PrintsSegment, AfterByte, AfterPiece};
+ghost use Rattle.jpg_comments.specs.Printing.{PrintsByte, PrintsPiece, PrintsSegment};
 
 use crate::append_printed;
 use crate::ends::{too_long, truncated};
@@ -25,14 +23,14 @@ pub struct Comments {
 }
 
 impl Comments {
-    ghost use Rattle.jpg_comments.specs.ReadComments.{is_done, EndsDone, HasRead, AfterFeed, StopsAt};
+    ghost use Rattle.jpg_comments.specs.ReadComments.{comments_limits, comments_stop, comments_taken, is_done, EndsDone, Feeds, HasRead, StopsAt};
 
     /// A reader that was given no bytes. It takes no memory yet.
     pub fn new(alloc: Global, limits: Limits) -> Comments
         requires { AreLimits limits }
         ensures read { HasRead [] [] result }
         ensures done { is_done result ≡ false }
-        ensures limits { result.limits ≡ limits }
+        ensures limits { comments_limits result ≡ limits }
     {
         Comments {
             limits,
@@ -44,19 +42,20 @@ impl Comments {
 
     /// Takes a further piece of the file, of any length, and appends the text of each comment that is
     /// whole with it. It answers Done with the end of the first scan header or with an EOI before
-    /// any, and tells how many bytes of the piece were used; what is behind these isn't looked at.
+    /// any, and tells how many bytes of the piece were used, that end among them.
     /// Else it answers the fault that the bytes so far show, at the number of bytes taken: NotJpeg,
     /// NoMarker, UnexpectedMarker, UnsupportedProcess, SecondFrame, SosBeforeSof, BadLength (a length
     /// below 2) or MarkersTooLarge; and InputTooLong where as many bytes were taken as may be. Else it
     /// answers More. On a fault the text of the comments that were whole before it is appended, and
-    /// where memory is wanting a first part of such a text. After a stop it answers the same stop.
+    /// where memory is wanting a first part of such a text. After a stop it answers the same stop. It
+    /// may not be called once the file is whole (`is_done`).
     pub fn feed(&mut self, piece: &[u8], out: &mut Bytes) -> Result<Fed, Stop>
         requires { is_done self.old ≡ false }
-        ensures answered { (bytes text : List ℕ) → HasRead bytes text self.old → Appends (λ all. AfterFeed bytes piece.now all result self.new) text out.old out.new }
+        ensures answered { Feeds self.old piece.now out.old result out.new self.new }
         ensures done { EndsDone result self.new }
-        ensures stopped { (stop : Stopped) → result ≡ Err stop → self.new.stop ≡ Some stop }
-        ensures again { (stop : Stopped) → self.old.stop ≡ Some stop → (result ≡ Err stop) × (self.new ≡ self.old) × (out.new ≡ out.old) }
-        ensures limits { self.new.limits ≡ self.old.limits }
+        ensures stopped { (stop : Stopped) → result ≡ Err stop → comments_stop self.new ≡ Some stop }
+        ensures again { (stop : Stopped) → comments_stop self.old ≡ Some stop → (result ≡ Err stop) × (self.new ≡ self.old) × (out.new ≡ out.old) }
+        ensures limits { comments_limits self.new ≡ comments_limits self.old }
     {
         if let Some(stop) = self.stop {
             return Err(stop);
@@ -72,20 +71,28 @@ impl Comments {
 
     /// How many bytes more may be taken: the most of the limits without those that were taken.
     pub fn room(&self) -> u64
-        ensures is { result ≡ self.now.limits.input - (reading_of self.now.reader).taken }
-        ensures left { (bytes text : List ℕ) → HasRead bytes text self.now → result + length bytes ≡ self.now.limits.input }
+        ensures is { result ≡ (comments_limits self.now).input - comments_taken self.now }
+        ensures left { (bytes text : List ℕ) → HasRead bytes text self.now → result + length bytes ≡ (comments_limits self.now).input }
     {
         self.limits.input.saturating_sub(self.reader.taken())
     }
 
-    /// The file ends here. It answers Truncated at the number of bytes taken, or the earlier stop.
+    /// Whether the file is whole, so that neither `feed` nor `end` may be called any more.
+    pub fn is_done(&self) -> bool
+        ensures { result ≡ is_done self.now }
+    {
+        self.done
+    }
+
+    /// The file ends here. It answers Truncated at the number of bytes taken, or the earlier stop. It
+    /// may not be called once the file is whole (`is_done`).
     pub fn end(&mut self) -> Stop
         requires { is_done self.old ≡ false }
-        ensures answered { (bytes text : List ℕ) → HasRead bytes text self.old → StopsAt self.old.limits bytes result }
+        ensures answered { (bytes text : List ℕ) → HasRead bytes text self.old → StopsAt (comments_limits self.old) bytes result }
         ensures done { is_done self.new ≡ false }
-        ensures stopped { self.new.stop ≡ Some result }
-        ensures again { (stop : Stopped) → self.old.stop ≡ Some stop → (result ≡ stop) × (self.new ≡ self.old) }
-        ensures limits { self.new.limits ≡ self.old.limits }
+        ensures stopped { comments_stop self.new ≡ Some result }
+        ensures again { (stop : Stopped) → comments_stop self.old ≡ Some stop → (result ≡ stop) × (self.new ≡ self.old) }
+        ensures limits { comments_limits self.new ≡ comments_limits self.old }
     {
         if let Some(stop) = self.stop {
             return stop;
@@ -104,7 +111,7 @@ fn read_piece(
     out: &mut Bytes,
 ) -> Result<Fed, Stop>
     requires { (reading_of reader.old).limits.input ≡ most }
-    ensures answered { (bytes text : List ℕ) → HasPrinted (reading_of reader.old).limits bytes text (reading_of reader.old) → Appends (λ all. AfterPiece (reading_of reader.old).limits bytes piece.now all result (reading_of reader.new)) text out.old out.new }
+    ensures answered { PrintsPiece (reading_of reader.old) piece.now out.old result out.new (reading_of reader.new) }
     ensures limits { (reading_of reader.new).limits ≡ (reading_of reader.old).limits }
 {
     let mut used = 0;
@@ -126,7 +133,7 @@ fn read_piece(
 // Reads a byte, and tells whether the file is whole with it.
 fn read_byte(reader: &mut SegmentReader, byte: u8, out: &mut Bytes) -> Result<bool, Stop>
     requires { (reading_of reader.old).taken < (reading_of reader.old).limits.input }
-    ensures answered { (bytes text : List ℕ) → HasPrinted (reading_of reader.old).limits bytes text (reading_of reader.old) → Appends (λ all. AfterByte (reading_of reader.old).limits (bytes ++ byte ∷ []) all result (reading_of reader.new)) text out.old out.new }
+    ensures answered { PrintsByte (reading_of reader.old) byte out.old result out.new (reading_of reader.new) }
     ensures limits { (reading_of reader.new).limits ≡ (reading_of reader.old).limits }
 {
     match reader.byte(byte)? {

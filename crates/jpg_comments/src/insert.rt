@@ -1,13 +1,11 @@
 // A file with one comment more, written piece by piece (T.81 B.2.4.5).
 ghost use Rattle.std.specs.Prelude.{◌≡◌, ◌≤◌, ◌<◌, ◌+◌, ◌-◌, ◌++◌, ◌∷◌, [], ℕ, List, Some, None, Ok, Err, IfOk, IfSome, length};
-ghost use Rattle.std.specs.Option.{unwrap_or};
 ghost use Rattle.jpg_spec.specs.FrameHeader.{AreLimits};
 ghost use Rattle.jpg_base.specs.declared.stop.Stop.{Stop as Stopped};
 ghost use Rattle.jpg_base.specs.declared.stop.Fed.TheVariants as fed;
 ghost use Rattle.jpg_markers.specs.Reading.{reading_of};
 ghost use Rattle.jpg_comments.specs.Appending.{AppendsText};
-ghost use Rattle.jpg_comments.specs.Begun.{Appends};
-ghost use Rattle.jpg_comments.specs.Inserting.{kept_text, HasKept, AfterHeadByte, AfterHeadPiece, Copies};
+ghost use Rattle.jpg_comments.specs.Inserting.{Copies, KeepsByte, KeepsPiece, KeepsSegment};
 
 use crate::append_segment;
 use crate::ends::{too_long, truncated};
@@ -39,7 +37,7 @@ pub struct Insert {
 }
 
 impl Insert {
-    ghost use Rattle.jpg_comments.specs.WriteInserted.{HasInserted, IsNewInsert, AfterTake, AfterInsert, EndsInsert};
+    ghost use Rattle.jpg_comments.specs.WriteInserted.{insert_limits, insert_stop, insert_taken, is_replacing, Ends, HasInserted, Inserts, IsNewInsert, Takes};
 
     /// A writer that was given no bytes. With `replace` it drops the comments that stand before the
     /// frame header. An empty comment inserts nothing. It answers CommentTooLong at 65,001 where the
@@ -80,12 +78,12 @@ impl Insert {
     /// hold the marker, they are appended. Where memory is wanting, a first part of what was due is
     /// appended. After a stop it answers the same stop.
     pub fn feed(&mut self, piece: &[u8], out: &mut Bytes) -> Result<Fed, Stop>
-        ensures answered { (comment bytes text : List ℕ) → HasInserted comment bytes text self.old → Appends (λ all. AfterInsert comment bytes piece.now all result self.new) text out.old out.new }
+        ensures answered { Inserts self.old piece.now out.old result out.new self.new }
         ensures more { IfOk result (λ answer. answer ≡ fed.More) }
-        ensures stopped { (stop : Stopped) → result ≡ Err stop → self.new.stop ≡ Some stop }
-        ensures again { (stop : Stopped) → self.old.stop ≡ Some stop → (result ≡ Err stop) × (self.new ≡ self.old) × (out.new ≡ out.old) }
-        ensures limits { self.new.limits ≡ self.old.limits }
-        ensures replace { self.new.replace ≡ self.old.replace }
+        ensures stopped { (stop : Stopped) → result ≡ Err stop → insert_stop self.new ≡ Some stop }
+        ensures again { (stop : Stopped) → insert_stop self.old ≡ Some stop → (result ≡ Err stop) × (self.new ≡ self.old) × (out.new ≡ out.old) }
+        ensures limits { insert_limits self.new ≡ insert_limits self.old }
+        ensures replace { is_replacing self.new ≡ is_replacing self.old }
     {
         if let Some(stop) = self.stop {
             return Err(stop);
@@ -101,8 +99,8 @@ impl Insert {
 
     /// How many bytes more may be taken: the most of the limits without those that were taken.
     pub fn room(&self) -> u64
-        ensures is { result ≡ self.now.limits.input - unwrap_or self.now.taken (reading_of self.now.reader).taken }
-        ensures left { (comment bytes text : List ℕ) → HasInserted comment bytes text self.now → result + length bytes ≡ self.now.limits.input }
+        ensures is { result ≡ (insert_limits self.now).input - insert_taken self.now }
+        ensures left { (comment bytes text : List ℕ) → HasInserted comment bytes text self.now → result + length bytes ≡ (insert_limits self.now).input }
     {
         let taken = match self.taken {
             Some(taken) => taken,
@@ -114,11 +112,11 @@ impl Insert {
     /// The file ends here. It answers the earlier stop, and else Ok where the marker of the frame
     /// header was reached, and Truncated at the number of bytes taken where it wasn't.
     pub fn end(&mut self) -> Result<(), Stop>
-        ensures answered { (comment bytes text : List ℕ) → HasInserted comment bytes text self.old → EndsInsert self.old.limits comment self.old.replace bytes text result }
-        ensures stopped { (stop : Stopped) → result ≡ Err stop → self.new.stop ≡ Some stop }
-        ensures again { (stop : Stopped) → self.old.stop ≡ Some stop → (result ≡ Err stop) × (self.new ≡ self.old) }
-        ensures limits { self.new.limits ≡ self.old.limits }
-        ensures replace { self.new.replace ≡ self.old.replace }
+        ensures answered { Ends self.old result }
+        ensures stopped { (stop : Stopped) → result ≡ Err stop → insert_stop self.new ≡ Some stop }
+        ensures again { (stop : Stopped) → insert_stop self.old ≡ Some stop → (result ≡ Err stop) × (self.new ≡ self.old) }
+        ensures limits { insert_limits self.new ≡ insert_limits self.old }
+        ensures replace { is_replacing self.new ≡ is_replacing self.old }
     {
         if let Some(stop) = self.stop {
             return Err(stop);
@@ -133,9 +131,9 @@ impl Insert {
 
     // A piece, where nothing stopped.
     fn take(&mut self, piece: &[u8], out: &mut Bytes) -> Result<(), Stop>
-        ensures answered { (comment bytes text : List ℕ) → HasInserted comment bytes text self.old → Appends (λ all. AfterTake comment bytes piece.now all result self.new) text out.old out.new }
-        ensures limits { self.new.limits ≡ self.old.limits }
-        ensures replace { self.new.replace ≡ self.old.replace }
+        ensures answered { Takes self.old piece.now out.old result out.new self.new }
+        ensures limits { insert_limits self.new ≡ insert_limits self.old }
+        ensures replace { is_replacing self.new ≡ is_replacing self.old }
     {
         match self.taken {
             Some(taken) => {
@@ -150,9 +148,9 @@ impl Insert {
     // A piece, where the frame header's marker isn't there yet.
     fn begin(&mut self, piece: &[u8], out: &mut Bytes) -> Result<(), Stop>
         requires { self.old.taken ≡ None }
-        ensures answered { (comment bytes text : List ℕ) → HasInserted comment bytes text self.old → Appends (λ all. AfterTake comment bytes piece.now all result self.new) text out.old out.new }
-        ensures limits { self.new.limits ≡ self.old.limits }
-        ensures replace { self.new.replace ≡ self.old.replace }
+        ensures answered { Takes self.old piece.now out.old result out.new self.new }
+        ensures limits { insert_limits self.new ≡ insert_limits self.old }
+        ensures replace { is_replacing self.new ≡ is_replacing self.old }
     {
         let most = self.limits.input;
         let used = read_head(&mut self.reader, &mut self.head, self.replace, most, piece)?;
@@ -181,7 +179,7 @@ fn read_head(
     piece: &[u8],
 ) -> Result<Option<usize>, Stop>
     requires { (reading_of reader.old).limits.input ≡ most }
-    ensures answered { (bytes : List ℕ) → HasKept (reading_of reader.old).limits replace bytes head.old (reading_of reader.old) → AfterHeadPiece (reading_of reader.old).limits replace bytes piece.now result head.new (reading_of reader.new) }
+    ensures answered { KeepsPiece replace (reading_of reader.old) piece.now head.old result head.new (reading_of reader.new) }
     ensures limits { (reading_of reader.new).limits ≡ (reading_of reader.old).limits }
     ensures within { IfOk result (λ answer. IfSome answer (λ used. used ≤ length piece.now)) }
 {
@@ -209,7 +207,7 @@ fn read_byte(
     byte: u8,
 ) -> Result<bool, Stop>
     requires { (reading_of reader.old).taken < (reading_of reader.old).limits.input }
-    ensures answered { (bytes : List ℕ) → HasKept (reading_of reader.old).limits replace bytes head.old (reading_of reader.old) → AfterHeadByte (reading_of reader.old).limits replace (bytes ++ byte ∷ []) result head.new (reading_of reader.new) }
+    ensures answered { KeepsByte replace (reading_of reader.old) byte head.old result head.new (reading_of reader.new) }
     ensures limits { (reading_of reader.new).limits ≡ (reading_of reader.old).limits }
 {
     match reader.byte(byte)? {
@@ -226,7 +224,7 @@ fn read_byte(
 
 // Keeps the last segment with one FF, but no comment where comments are replaced.
 fn keep_segment(reader: &SegmentReader, head: &mut Bytes, replace: bool) -> Result<(), NoMemory>
-    ensures { length (reading_of reader.now).contents ≤ 65533 → AppendsText (kept_text replace (reading_of reader.now).code (reading_of reader.now).contents) result head.old head.new }
+    ensures { KeepsSegment replace (reading_of reader.now) head.old result head.new }
 {
     let code = reader.code();
     if replace && code == 0xfe {

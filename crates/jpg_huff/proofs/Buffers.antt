@@ -1,5 +1,5 @@
 -- How long what waits is.
-use Rattle.std.proofs.Common.{◌≡◌, ◌≢◌, ℕ, ◌≤◌, List, [], ◌∷◌, length, refl, sym, subst, arith, ⊎_elim}
+use Rattle.std.proofs.Common.{◌≡◌, ◌≢◌, ℕ, ◌≤◌, List, [], ◌∷◌, length, sym, subst, arith, ⊎_elim}
 use Rattle.std.proofs.lemmas.Bool.{cases_eq}
 use Rattle.std.proofs.lemmas.Bool.Decides.{nat_tests}
 use Rattle.jpg_spec.specs.Bits.{stuffed_byte}
@@ -14,7 +14,3 @@ length-stuffed_byte byte =
     (λ (e : byte ≡ 255). let Q : ℕ → Type 0 = λ b. length (stuffed_byte b) ≤ 2 in subst Q (sym e) (omega arith))
     (λ (n : byte ≢ 255). subst P (sym (stuffed_other byte n)) (omega arith))
     (cases_eq byte 255)
-
-pub none_left : (l : List ℕ) → length l ≤ 0 → l ≡ []
-none_left [] h = refl
-none_left (x ∷ l) h = absurd (omega arith)

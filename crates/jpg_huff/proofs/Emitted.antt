@@ -22,11 +22,6 @@ AppendsLast-nil (Some a) = sym (append_last-nil a)
 pub emits_nothing : (s : DeskState) (old : List ℕ) → Emits s old [] (Ok tt) old s
 emits_nothing s old = ([], AppendsLast-nil s.outputs, append-nil old)
 
--- more waits
-pub emits_waiting : (s0 s1 : DeskState) (old due mid more : List ℕ) → Emits s0 old due (Ok tt) mid s1 → Emits s0 old (due ++ more) (Ok tt) (mid ++ more) s1
-emits_waiting s0 s1 old due mid more h =
-    (h.0, h.1, sym (append_assoc old due more) ∙ ap (λ x. x ++ more) h.2 ∙ append_assoc h.0 mid more)
-
 -- a fault leaves a first part of more
 pub emits_fault : (s0 s1 : DeskState) (old due more new : List ℕ) (fault : WriteFault) → Emits s0 old due (Err fault) new s1 → Emits s0 old (due ++ more) (Err fault) new s1
 emits_fault s0 s1 old due more new fault h =

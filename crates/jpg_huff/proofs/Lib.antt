@@ -1,8 +1,11 @@
 pub mod Buffers
+pub mod Categories
 pub mod Computed
 pub mod Emitted
+pub mod Fronts
 pub mod Gates
 pub mod Levels
+pub mod Looked
 pub mod Made
 pub mod OneAnswer
 pub mod Packed

@@ -137,9 +137,6 @@ pub level_first : (counts symbols : List ℕ) → codes_from 1 (first_number cou
 unfolding codes
 level_first counts symbols = ap (λ c. codes_from 1 c counts symbols) (first_none counts)
 
-pub level_none : (counts symbols : List ℕ) (len c i : ℕ) → length counts ≤ i → codes_from len c (drop i counts) symbols ≡ []
-level_none counts symbols len c i h = ap (λ ks. codes_from len c ks symbols) (drop_all i counts h)
-
 -- one code of a length
 pub code_split : (symbols : List ℕ) (len c i : ℕ) → i < length symbols
     → codes_at (length symbols - i) len c (drop i symbols) ≡ (bits_of len c, get_or symbols i 0) ∷ codes_at (length symbols - (i + 1)) len (c + 1) (drop (i + 1) symbols)

@@ -5,7 +5,8 @@ use Rattle.std.proofs.lemmas.List.{append-nil, length-append}
 use Rattle.jpg_spec.specs.Codes.{Code}
 use Rattle.jpg_huff.specs.declared.walk.WalkStep.{WalkStep}
 use Rattle.jpg_huff.specs.declared.walk.WalkStep.TheVariants.{More, Symbol, NoCode}
-use Rattle.jpg_huff.specs.Index.{BeginsCode, BeginsNone}
+use Rattle.jpg_spec.specs.Parts.{BeginsCode}
+use Rattle.jpg_huff.specs.Walk.{BeginsNoCode}
 use Rattle.jpg_huff.specs.Walk.{Answers}
 use Rattle.jpg_huff.specs.Laws.{AreApart}
 
@@ -17,10 +18,10 @@ no_front table bits s apart b c =
     let m = ap length b.4 ∙ length-append bits (b.1 ∷ b.2) in
     omega arith
 
-begun : (table : List Code) (bits : List Bool) → BeginsCode table bits → BeginsNone table bits → ⊥
+begun : (table : List Code) (bits : List Bool) → BeginsCode table bits → BeginsNoCode table bits → ⊥
 begun table bits b n = n b.0 (b.1 ∷ b.2) b.3 b.4
 
-whole : (table : List Code) (bits : List Bool) (s : ℕ) → Contains table (bits, s) → BeginsNone table bits → ⊥
+whole : (table : List Code) (bits : List Bool) (s : ℕ) → Contains table (bits, s) → BeginsNoCode table bits → ⊥
 whole table bits s c n = n (bits, s) [] c (sym (append-nil bits))
 
 pub one_answer : (table : List Code) (bits new new' : List Bool) (step step' : WalkStep) → AreApart table → Answers table bits step new → Answers table bits step' new' → step ≡ step'

@@ -1,7 +1,7 @@
 -- What putting bits comes to.
 use Rattle.std.proofs.Common.{◌≡◌, ℕ, zero, suc, ◌+◌, ◌-◌, ◌*◌, ◌/◌, ◌%◌, ◌^◌, ◌<◌, ◌≤◌, Bool, true, List, [], ◌∷◌, ◌++◌, length, replicate, Result, Ok, Err, refl, sym, ap, ◌∙◌, subst, arith, ◌==◌}
 use Rattle.std.proofs.lemmas.List.{append-nil}
-use Rattle.std.proofs.lemmas.Nat.{shl_whole, one_shl, shr_split, mul-add-lt, pow-add, pow_below, pow_pos, mod_below}
+use Rattle.std.proofs.lemmas.Nat.{shl_whole, one_shl, shr_split, mul-add-lt, pow-add, pow_pos}
 use Rattle.std.proofs.Math.Nat.{pow-succ'}
 use Rattle.jpg_base.specs.Desk.{DeskState}
 use Rattle.jpg_spec.specs.Bits.{bits_of, whole_bytes, padded, stuffed, stuffed_byte}
@@ -11,7 +11,8 @@ use Rattle.jpg_huff.specs.Waiting.{Waiting}
 use Rattle.jpg_huff.specs.BitOut.{Puts, Pads}
 use Rattle.jpg_spec.proofs.Strings.{length-bits_of}
 use Rattle.jpg_huff.proofs.Emitted.{emits_nothing}
-use Rattle.jpg_huff.proofs.Packed.{bits_of-add, bits_of-beside, bits_of-low, whole_bytes-front}
+use Rattle.jpg_base.proofs.BitsAt.{bits_of-add, bits_of-beside, bits_of-low}
+use Rattle.jpg_huff.proofs.Packed.{whole_bytes-front}
 
 -- a byte of the low `left` bits, and those behind it
 pub whole_step : (left n : ℕ) → 8 ≤ left → stuffed (whole_bytes (bits_of left n)) ≡ stuffed_byte (n / 2 ^ (left - 8) % 256) ++ stuffed (whole_bytes (bits_of (left - 8) n))
@@ -40,15 +41,6 @@ number_fits a c k b n h1 h4 e =
     let q : c + k ≡ k + c = omega arith in
     let r : 2 ^ (c + k) ≡ 2 ^ (k + c) = ap (λ m. 2 ^ m) q in
     omega arith
-
-pub number_small : (t n : ℕ) → n < 2 ^ t → t < 64 → n < 2 ^ 64
-number_small t n h l = let q = pow_below t 64 l in omega arith
-
-pub low_fits : (t n : ℕ) → t < 64 → n % ((1 * 2 ^ t) % 2 ^ 64) < 2 ^ t
-low_fits t n l =
-    let p : (1 * 2 ^ t) % 2 ^ 64 ≡ 2 ^ t = one_shl t 64 l in
-    let P : ℕ → Type 0 = λ m. n % m < 2 ^ t in
-    subst P (sym p) (mod_below n (2 ^ t) (pow_pos t))
 
 all_bits : (a c k b n : ℕ) → b < 2 ^ k → n ≡ a * 2 ^ k + b → bits_of (c + k) n ≡ bits_of c a ++ bits_of k b
 all_bits a c k b n h e = ap (bits_of (c + k)) e ∙ bits_of-beside c k a b h

@@ -9,17 +9,19 @@ use Rattle.std.proofs.Math.Nat.{pow-succ'}
 use mir.Val.{bool_byte}
 use Rattle.jpg_spec.specs.Bits.{bits_of}
 use Rattle.jpg_spec.specs.Codes.{Code, codes, codes_at, codes_from, AreCodes}
-use Rattle.jpg_huff.specs.Index.{limit_from, IsIndexed, BeginsCode, BeginsNone}
+use Rattle.jpg_spec.specs.Parts.{BeginsCode}
+use Rattle.jpg_huff.specs.Index.{limit_from, IsIndexed}
+use Rattle.jpg_huff.specs.Walk.{BeginsNoCode}
 use Rattle.jpg_spec.proofs.Strings.{bit_value, length-bits_of, bits_of-more, bits_of-split, bits_of_inj, append_inj}
 use Rattle.jpg_spec.proofs.Levels.{in_level, from_level, front_not_below}
 use Rattle.jpg_huff.proofs.Levels.{reach, below_limit, bit_small}
 
 -- the codes longer than i bits
-abbrev longer : List ℕ → List ℕ → List ℕ → List ℕ → ℕ → List Code
+abbrev pub longer : List ℕ → List ℕ → List ℕ → List ℕ → ℕ → List Code
 longer counts symbols firsts starts i = codes_from (i + 1) (get_or firsts i 0) (drop i counts) (drop (get_or starts i 0) symbols)
 
 -- Those of one more bit, and then the longer ones.
-level_split : (counts symbols firsts starts limits : List ℕ) (i : ℕ) → IsIndexed counts (length symbols) firsts starts limits → i < 15
+pub level_split : (counts symbols firsts starts limits : List ℕ) (i : ℕ) → IsIndexed counts (length symbols) firsts starts limits → i < 15
     → longer counts symbols firsts starts i ≡ codes_at (get_or counts i 0) (i + 1) (get_or firsts i 0) (drop (get_or starts i 0) symbols) ++ longer counts symbols firsts starts (i + 1)
 level_split counts symbols firsts starts limits i x h =
     let d : drop i counts ≡ get_or counts i 0 ∷ drop (i + 1) counts = drop_more counts i 0 (omega (arith, x.sixteen)) in
@@ -131,7 +133,7 @@ begins_code counts symbols firsts starts limits i n x h le lt =
 
 -- a number from the limit on begins no code
 pub begins_none : (counts symbols firsts starts limits : List ℕ) (i n : ℕ) → IsIndexed counts (length symbols) firsts starts limits → i < 16
-    → n < 2 ^ (i + 1) → get_or limits i 0 ≤ n → BeginsNone (codes counts symbols) (bits_of (i + 1) n)
+    → n < 2 ^ (i + 1) → get_or limits i 0 ≤ n → BeginsNoCode (codes counts symbols) (bits_of (i + 1) n)
 begins_none counts symbols firsts starts limits i n x h fits le code more c e =
     let l = ap length e ∙ length-append (bits_of (i + 1) n) more in
     let inside = in_longer counts symbols firsts starts limits i code x h (omega (arith, length-bits_of (i + 1) n)) c in
@@ -181,9 +183,9 @@ last_limit counts symbols firsts starts limits x =
     omega arith
 
 pub at_none : (counts symbols firsts starts limits : List ℕ) (i n v : ℕ) (old : List Bool) (bit : Bool) → IsIndexed counts (length symbols) firsts starts limits → i < 16 → n < 2 ^ i → bits_of i n ≡ old → v ≡ bit_value bit
-    → get_or firsts i 0 + get_or counts i 0 ≤ 2 * n + v → (15 ≤ i) ⊎ (get_or limits i 0 ≤ 2 * n + v) → BeginsNone (codes counts symbols) (old ++ bit ∷ [])
+    → get_or firsts i 0 + get_or counts i 0 ≤ 2 * n + v → (15 ≤ i) ⊎ (get_or limits i 0 ≤ 2 * n + v) → BeginsNoCode (codes counts symbols) (old ++ bit ∷ [])
 at_none counts symbols firsts starts limits i n v old bit x h fits view e le past =
-    let P : List Bool → Type 0 = λ s. BeginsNone (codes counts symbols) s in
+    let P : List Bool → Type 0 = λ s. BeginsNoCode (codes counts symbols) s in
     let p : 2 ^ (i + 1) ≡ 2 * 2 ^ i = ap (λ m. 2 ^ m) (add-one i) ∙ pow-succ' 2 i in
     let over : get_or limits i 0 ≤ 2 * n + v =
     ⊎_elim
@@ -196,9 +198,9 @@ at_none counts symbols firsts starts limits i n v old bit x h fits view e le pas
 
 -- a number before the first of its length extends a shorter code, or is past all of them
 pub at_below : (counts symbols firsts starts limits : List ℕ) (i n v : ℕ) (old : List Bool) (bit : Bool) → IsIndexed counts (length symbols) firsts starts limits → i < 16 → n < 2 ^ i → bits_of i n ≡ old → v ≡ bit_value bit
-    → 2 * n + v < get_or firsts i 0 → BeginsNone (codes counts symbols) (old ++ bit ∷ [])
+    → 2 * n + v < get_or firsts i 0 → BeginsNoCode (codes counts symbols) (old ++ bit ∷ [])
 at_below counts symbols firsts starts limits i n v old bit x h fits view e lt =
-    let P : List Bool → Type 0 = λ s. BeginsNone (codes counts symbols) s in
+    let P : List Bool → Type 0 = λ s. BeginsNoCode (codes counts symbols) s in
     let p : 2 ^ (i + 1) ≡ 2 * 2 ^ i = ap (λ m. 2 ^ m) (add-one i) ∙ pow-succ' 2 i in
     let small : 2 * n + v < 2 ^ (i + 1) = omega (arith, bit_small bit) in
     subst P (next_bits i n v old bit view e)

@@ -1,5 +1,5 @@
 -- What a table keeps beside its counts and symbols, so that a walk needs no search.
-use Rattle.std.specs.Prelude.{◌≡◌, ℕ, ◌+◌, ◌*◌, ◌/◌, ◌%◌, ◌^◌, Option, None, Some, ◌<◌, ◌≤◌, List, [], ◌∷◌, ◌++◌, length, drop, sum, slice_index, Bool, ◌==◌, if◌then◌else◌, Contains}
+use Rattle.std.specs.Prelude.{◌≡◌, ℕ, ◌+◌, ◌*◌, ◌/◌, ◌%◌, ◌^◌, Option, None, Some, ◌<◌, ◌≤◌, List, [], ◌∷◌, length, drop, sum, slice_index, Bool, ◌==◌, if◌then◌else◌}
 use Rattle.jpg_spec.specs.Bits.{bits_of}
 use Rattle.jpg_spec.specs.Codes.{Code, first_code}
 
@@ -19,14 +19,6 @@ pub record IsIndexed (counts : List ℕ) (symbols : ℕ) (firsts starts limits :
   pub limit : (i : ℕ) → i < 16 → slice_index limits i ≡ limit_from (slice_index firsts i) (drop i counts)
   pub fits : (i : ℕ) → i < 16 → slice_index firsts i + slice_index counts i < 2 ^ (i + 1)
   pub enough : (i : ℕ) → i < 16 → slice_index starts i + sum (drop i counts) ≤ symbols
-
--- the bits are a front of a code, and not all of it
-abbrev pub BeginsCode : List Code → List Bool → Type 0
-BeginsCode table bits = (code : Code) × (next : Bool) × (more : List Bool) × Contains table code × (code.0 ≡ bits ++ next ∷ more)
-
--- no code is these bits or begins with them
-abbrev pub BeginsNone : List Code → List Bool → Type 0
-BeginsNone table bits = (code : Code) (more : List Bool) → Contains table code → code.0 ≡ bits ++ more → ⊥
 
 -- What a table keeps for writing: for a code 65536 times its length, and its number; 0 for none.
 abbrev pub entry_code : ℕ → Option (List Bool)

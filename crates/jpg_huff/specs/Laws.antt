@@ -1,10 +1,18 @@
 -- What holds of every table and every set of them, and of bytes that go through a gate.
-use Rattle.std.specs.Prelude.{◌≡◌, ℕ, ◌-◌, ◌≤◌, Bool, true, List, [], ◌∷◌, ◌++◌, length, sum, replicate, slice_get, Option, Some, Contains}
+use Rattle.std.specs.Prelude.{◌≡◌, ℕ, ◌-◌, ◌≤◌, Bool, true, false, List, [], ◌∷◌, ◌++◌, length, sum, replicate, slice_get, Option, Some, Result, Contains}
 use Rattle.jpg_spec.specs.Codes.{Code, AreCodes, are_codes}
 use Rattle.jpg_spec.specs.Segments.{HuffmanTable}
 use Rattle.jpg_huff.specs.declared.gate.Passed.{Passed}
 use Rattle.jpg_huff.specs.declared.gate.Passed.TheVariants.{More}
 use Rattle.jpg_huff.specs.Gate.{Passes}
+use Rattle.jpg_base.specs.Desk.{DeskState}
+use Rattle.jpg_base.specs.declared.stop.WriteFault.{WriteFault}
+use Rattle.jpg_spec.specs.Bits.{data_of}
+use Rattle.jpg_huff.specs.declared.walk.WalkStep.{WalkStep}
+use Rattle.jpg_huff.specs.BitOut.{Puts, Pads}
+use Rattle.jpg_huff.specs.Out.{Emits}
+use Rattle.jpg_huff.specs.Waiting.{Waiting}
+use Rattle.jpg_huff.specs.Walk.{Answers}
 
 -- counts for sixteen lengths and as many symbols, whose codes fit
 pub record IsTable (table : HuffmanTable) : Type 0 where
@@ -31,3 +39,19 @@ Feeds old (byte ∷ bytes) (answer ∷ answers) new = (mid : Bool) × Passes old
 -- nothing passes before the last of the bytes
 abbrev pub AtLast : Passed → List ℕ → List Passed → Type 0
 AtLast last bytes answers = answers ≡ replicate (length bytes - 1) More ++ last ∷ []
+
+-- at the same bits one answer of a walk is right
+abbrev pub HasOneAnswer : List Code → Type 0
+HasOneAnswer table = (bits new other : List Bool) (a b : WalkStep) → Answers table bits a new → Answers table bits b other → a ≡ b
+
+-- the bytes that are fed pass as this, at the last of them
+abbrev pub PassAs : Passed → List ℕ → Type 0
+PassAs last bytes = (answers : List Passed) (new : Bool) → Feeds false bytes answers new → AtLast last bytes answers × (new ≡ false)
+
+-- what is put behind these bits is as put at once
+abbrev pub PutsGoOn : DeskState → Waiting → List Bool → Waiting → DeskState → Type 0
+PutsGoOn s0 old xs mid s1 = (s2 : DeskState) (new : Waiting) (ys : List Bool) (r : Result (Unit {0}) WriteFault) → Puts s1 mid ys r new s2 → Puts s0 old (xs ++ ys) r new s2
+
+-- a pad behind these bits makes their data of them
+abbrev pub PadGivesData : DeskState → Waiting → List Bool → Waiting → DeskState → Type 0
+PadGivesData s0 old xs mid s1 = (s2 : DeskState) (new : Waiting) (r : Result (Unit {0}) WriteFault) → Pads s1 mid r new s2 → Emits s0 old.bytes (data_of xs) r new.bytes s2

@@ -1,12 +1,16 @@
 -- What a walk answers.
-use Rattle.std.specs.Prelude.{◌≡◌, Bool, List, [], Contains}
+use Rattle.std.specs.Prelude.{◌≡◌, ◌++◌, Bool, List, [], Contains}
 use Rattle.jpg_spec.specs.Codes.{Code}
 use Rattle.jpg_huff.specs.declared.walk.WalkStep.{WalkStep}
 use Rattle.jpg_huff.specs.declared.walk.WalkStep.TheVariants.{More, Symbol, NoCode}
-use Rattle.jpg_huff.specs.Index.{BeginsCode, BeginsNone}
+use Rattle.jpg_spec.specs.Parts.{BeginsCode}
+
+-- no code is these bits or begins with them
+abbrev pub BeginsNoCode : List Code → List Bool → Type 0
+BeginsNoCode table bits = (code : Code) (more : List Bool) → Contains table code → code.0 ≡ bits ++ more → ⊥
 
 -- the answer at these bits, and what is kept of them
 abbrev pub Answers : List Code → List Bool → WalkStep → List Bool → Type 0
 Answers table bits More new = BeginsCode table bits × (new ≡ bits)
 Answers table bits (Symbol s) new = Contains table (bits, s) × (new ≡ [])
-Answers table bits NoCode new = BeginsNone table bits × (new ≡ [])
+Answers table bits NoCode new = BeginsNoCode table bits × (new ≡ [])

@@ -20,7 +20,7 @@ at_is r p bytes before e s = subst (λ (q : Phase). AtPhase r q bytes before) e 
 
 -- a fault behind these segments, and what shows it
 shown : (rule : Rule) (before : List Segment) (fault : Fault) (bytes : List ℕ) → ShowsBehind rule before fault bytes → SegmentsShow rule fault bytes × ShowsBehind rule before fault bytes
-shown rule before fault bytes (inl x) = (inl x, inl x)
+shown rule before fault bytes (inl (is, none, x)) = (inl (is, x), inl (is, none, x))
 shown rule before fault bytes (inr (tail, between, x)) = (inr (before, tail, between, x), inr (tail, between, x))
 
 further : (rule : Rule) (bytes : List ℕ) (before : List Segment) (tail more : List ℕ) → Between rule bytes before tail → Between rule (bytes ++ more) before (tail ++ more)
@@ -50,7 +50,7 @@ start_more r bytes before e s =
 pub start_fault : (r : Reading) (bytes : List ℕ) (before : List Segment) (byte : ℕ) → r.phase ≡ phase.Empty → StandsFor bytes before r → (byte ≡ 255 → ⊥) → SegmentsShow (kept_rule r.limits) NotJpeg (bytes ++ byte ∷ []) × ShowsBehind (kept_rule r.limits) before NotJpeg (bytes ++ byte ∷ [])
 start_fault r bytes before byte e s ne =
     let a = at_is r phase.Empty bytes before e s in
-    shown (kept_rule r.limits) before NotJpeg (bytes ++ byte ∷ []) (inl (refl, inl (byte, ap (λ (b : List ℕ). b ++ byte ∷ []) a.0, ne)))
+    shown (kept_rule r.limits) before NotJpeg (bytes ++ byte ∷ []) (inl (refl, a.1, inl (byte, ap (λ (b : List ℕ). b ++ byte ∷ []) a.0, ne)))
 
 pub second_start : (r : Reading) (bytes : List ℕ) (before : List Segment) → r.phase ≡ phase.HalfStart → StandsFor bytes before r → Comes (bytes ++ 0xd8 ∷ []) before (Ok step.Start) (record r { phase = phase.Between })
 second_start r bytes before e s =
@@ -62,7 +62,7 @@ second_start r bytes before e s =
 pub second_fault : (r : Reading) (bytes : List ℕ) (before : List Segment) (byte : ℕ) → r.phase ≡ phase.HalfStart → StandsFor bytes before r → (byte ≡ 0xd8 → ⊥) → SegmentsShow (kept_rule r.limits) NotJpeg (bytes ++ byte ∷ []) × ShowsBehind (kept_rule r.limits) before NotJpeg (bytes ++ byte ∷ [])
 second_fault r bytes before byte e s ne =
     let a = at_is r phase.HalfStart bytes before e s in
-    shown (kept_rule r.limits) before NotJpeg (bytes ++ byte ∷ []) (inl (refl, inr (byte, ap (λ (b : List ℕ). b ++ byte ∷ []) a.0, ne)))
+    shown (kept_rule r.limits) before NotJpeg (bytes ++ byte ∷ []) (inl (refl, a.1, inr (byte, ap (λ (b : List ℕ). b ++ byte ∷ []) a.0, ne)))
 
 -- BEHIND A SEGMENT
 

@@ -2,7 +2,7 @@
 use Rattle.std.specs.Prelude.{ℕ, ◌+◌, ◌*◌, List, [], ◌∷◌, ◌++◌, length, map, zip, flat_map}
 use Rattle.std.specs.Int.{to_be_bytes, w16}
 use Rattle.jpg_spec.specs.Elements.{zeros}
-use Rattle.jpg_spec.specs.FileText.{slot_in}
+use Rattle.jpg_spec.specs.FileText.{kept_text, segment_text, slot_in, sof_code}
 use Rattle.jpg_spec.specs.Geometry.{Frame}
 use Rattle.jpg_spec.specs.Meaning.{Meaning, PictureComponent}
 use Rattle.jpg_spec.specs.Moves.{copied, headed_kept}
@@ -40,3 +40,11 @@ component_texts distinct parts = flat_map (λ p. component_text p.0 (slot_in dis
 
 abbrev pub frame_contents : List QuantTable → Frame → List QuantTable → List ℕ
 frame_contents distinct f tables = front_contents f ++ component_texts distinct (zip f.components tables)
+
+-- the segment of the frame header
+abbrev pub frame_segment : List QuantTable → OutHead → List ℕ
+frame_segment distinct head = segment_text (sof_code head.frame.process) (frame_contents distinct head.frame head.quants.items)
+
+-- THE MARKERS that are written: the own header, and the kept ones that are passed on
+abbrev pub markers_text : OutHead → List (ℕ × List ℕ) → List ℕ
+markers_text head kept = kept_text (headed_kept head.colour head.jfif (copied head.copying kept))

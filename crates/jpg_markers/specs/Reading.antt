@@ -90,7 +90,7 @@ IsWhole bytes before r =
 -- the fault that they show
 abbrev pub ShowsBehind : Rule → List Segment → Fault → List ℕ → Type 0
 ShowsBehind rule before fault bytes =
-    ((fault ≡ NotJpeg) × ShowsNoStart bytes)
+    ((fault ≡ NotJpeg) × (before ≡ []) × ShowsNoStart bytes)
     ⊎ ((tail : List ℕ) × Between rule bytes before tail × (((fault ≡ NoMarker) × NoMarkerBytes tail) ⊎ TailShows rule before fault tail))
 
 -- an EOI that may stand there
@@ -112,6 +112,17 @@ abbrev pub Goes : List ℕ → List Segment → Result SegStep Halt → Reading 
 Goes bytes before (Ok s) r = Comes bytes before (Ok s) r
 Goes bytes before (Err (halt.Fault f)) r = Reaches (kept_rule r.limits) bytes (at_fault f) × ShowsBehind (kept_rule r.limits) before f bytes
 Goes bytes before (Err halt.NoMemory) r = Unit {0}
+
+-- For all bytes that a reader stands for, its answer is what these and further ones come to.
+abbrev pub ComesWith : Reading → List ℕ → Result SegStep Stop → Reading → Type 0
+ComesWith old more answer new = (bytes : List ℕ) (before : List Segment) → StandsFor bytes before old → Comes (bytes ++ more) before answer new
+
+abbrev pub GoesWith : Reading → List ℕ → Result SegStep Halt → Reading → Type 0
+GoesWith old more answer new = (bytes : List ℕ) (before : List Segment) → StandsFor bytes before old → Goes (bytes ++ more) before answer new
+
+-- Where a segment is whole, the answer is what the bytes come to.
+abbrev pub GoesWhole : Reading → Result SegStep Halt → Reading → Type 0
+GoesWhole old answer new = (bytes : List ℕ) (before : List Segment) → old.stop ≡ None → IsWhole bytes before old → Goes bytes before answer new
 
 -- the last answer was Whole for an SOS segment
 abbrev pub IsBehindScan : Reading → Type 0

@@ -1,5 +1,5 @@
 // Quantisation tables (T.81 B.2.4.1).
-ghost use Rattle.std.specs.Prelude.{◌≡◌, ◌<◌, ◌≤◌, Some, Ok, Err, length, slice_set, drop, IfOk, IfErr, IfNone, ◌↔◌, IsErr};
+ghost use Rattle.std.specs.Prelude.{◌≡◌, ◌<◌, ◌≤◌, Some, Ok, Err, length, slice_set, drop, IfOk, IfErr};
 ghost use Rattle.std.specs.Option.{option_map};
 ghost use Rattle.jpg_spec.specs.Lists.{any_of};
 ghost use Rattle.jpg_spec.specs.QuantContents.{is_zero, no_quants, pairs_told, quant_in, quant_table_of, quant_told, quants_told, table_entries, table_size};

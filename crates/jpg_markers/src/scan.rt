@@ -3,7 +3,7 @@ ghost use Rattle.std.specs.Prelude.{◌≡◌, ◌*◌, ◌<◌, ◌≤◌, not,
 ghost use Rattle.jpg_spec.specs.Geometry.{Frame as Numbers};
 ghost use Rattle.jpg_spec.specs.Segments.{ScanHead as Head};
 ghost use Rattle.jpg_spec.specs.Lists.{index_of, is_among, is_distinct};
-ghost use Rattle.jpg_spec.specs.Geometry.{component_at, factor_sum, is_progressive};
+ghost use Rattle.jpg_spec.specs.Geometry.{factor_sum, is_progressive};
 ghost use Rattle.jpg_spec.specs.FrameHeader.{identifiers};
 ghost use Rattle.jpg_spec.specs.ScanContents.{IsHead, are_among, are_bits, are_parameters, checked_head, head_told, ids_told, is_band, parts_told, scan_header};
 

@@ -1,10 +1,9 @@
 // What segments leave behind for those after them (T.81 B.1.1, Table B.1).
-ghost use Rattle.std.specs.Prelude.{◌≡◌, ◌||◌, ◌==◌, ℕ, List, [], ◌∷◌, Some, None, IfSome, IfNone};
+ghost use Rattle.std.specs.Prelude.{◌≡◌, ◌||◌, ◌==◌, [], Some, None, IfSome, IfNone};
 ghost use Rattle.jpg_spec.specs.Jfif.{begins_jfif, begins_adobe};
-ghost use Rattle.jpg_spec.specs.Markers.{Segment, code_fault_if, counts_nothing, is_frame_code, is_kept_if, is_plain_adobe, is_plain_jfif, is_unexpected, is_unsupported, kept_rule, kept_size};
+ghost use Rattle.jpg_spec.specs.Markers.{code_fault_if, is_frame_code, is_kept_if, is_plain_adobe, is_plain_jfif, is_unexpected, is_unsupported, kept_size};
 ghost use Rattle.jpg_spec.specs.declared.frame.Limits.{Limits};
-ghost use Rattle.jpg_spec.specs.declared.fault.Fault.TheVariants as fault;
-ghost use Rattle.jpg_markers.specs.Seen.{HasSeen};
+ghost use Rattle.jpg_markers.specs.Seen.{Exceeds, HasSeen, Leaves};
 
 use crate::app::{begins_with, is_adobe, is_jfif};
 use jpg_spec::Fault;
@@ -36,8 +35,8 @@ impl Seen {
 
     /// The same with one segment more; None where its kept bytes exceed what is free.
     pub fn with(&self, code: u8, contents: &[u8]) -> Option<Seen>
-        ensures some { IfSome result (λ next. (limits : Limits) (before : List Segment) → HasSeen limits self.now before → (kept_rule limits before code contents.now ≡ None) × HasSeen limits next ((code, contents.now) ∷ before)) }
-        ensures none { IfNone result ((limits : Limits) (before : List Segment) → HasSeen limits self.now before → kept_rule limits before code contents.now ≡ Some fault.MarkersTooLarge) }
+        ensures some { IfSome result (Leaves self.now code contents.now) }
+        ensures none { IfNone result (Exceeds self.now code contents.now) }
     {
         let next = self.behind(code);
         if !is_kept(self.scanned, code, contents) {

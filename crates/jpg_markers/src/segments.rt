@@ -1,11 +1,11 @@
 // The segments of a file, read byte by byte (T.81 B.1.1).
-ghost use Rattle.std.specs.Prelude.{◌≡◌, ◌≤◌, ◌<◌, ◌+◌, ℕ, List, [], ◌∷◌, ◌++◌, None, Some, Err, IfOk, IfErr};
+ghost use Rattle.std.specs.Prelude.{◌≡◌, ◌≤◌, ◌<◌, ◌+◌, ℕ, List, [], ◌∷◌, None, Some, Err, IfOk, IfErr};
 ghost use Rattle.jpg_spec.specs.FrameHeader.{AreLimits};
 ghost use Rattle.jpg_spec.specs.Markers.{Segment};
 ghost use Rattle.jpg_base.specs.declared.stop.Stop.{Stop as Stopped};
 ghost use Rattle.jpg_base.specs.declared.stop.Stop.TheVariants as stop;
 ghost use Rattle.jpg_markers.specs.declared.segments.Phase.TheVariants as phase;
-ghost use Rattle.jpg_markers.specs.Reading.{reading_of, BehindWhole, IsWhole, StandsFor, Comes, Goes, HasRoom, IsBehindScan, HaltsNot, NotWanting, Stays};
+ghost use Rattle.jpg_markers.specs.Reading.{reading_of, BehindWhole, StandsFor, Comes, Goes, HasRoom, IsBehindScan, HaltsNot, NotWanting, Stays, ComesWith, GoesWith, GoesWhole};
 
 use crate::seen::{Seen, code_fault, is_frame_code};
 use byteorder::{BigEndian, ByteOrder};
@@ -89,11 +89,11 @@ impl SegmentReader {
     /// SOF1 or SOF2), Eoi behind EOI, Whole with a segment's last byte, More where it is none of these,
     /// and else the fault that they show, at the number of bytes taken: NotJpeg, NoMarker,
     /// UnexpectedMarker, UnsupportedProcess, SecondFrame, SosBeforeSof, BadLength (a length below 2) or
-    /// MarkersTooLarge. NoMemory comes where the contents find none. After a stop it answers the same
-    /// stop.
+    /// MarkersTooLarge. NoMemory comes where the contents find none, and not after `reserve`. After a
+    /// stop it answers the same stop. Behind EOI it stands for no bytes, and what it answers isn't said.
     pub fn byte(&mut self, byte: u8) -> Result<SegStep, Stop>
         requires { (reading_of self.old).taken < (reading_of self.old).limits.input }
-        ensures answered { (bytes : List ℕ) (before : List Segment) → StandsFor bytes before (reading_of self.old) → Comes (bytes ++ byte ∷ []) before result (reading_of self.new) }
+        ensures answered { ComesWith (reading_of self.old) (byte ∷ []) result (reading_of self.new) }
         ensures taken { (reading_of self.old).stop ≡ None → (reading_of self.new).taken ≡ (reading_of self.old).taken + 1 }
         ensures again { (stop : Stopped) → (reading_of self.old).stop ≡ Some stop → (result ≡ Err stop) × (self.new ≡ self.old) }
         ensures whole { BehindWhole result (reading_of self.new) }
@@ -119,7 +119,7 @@ impl SegmentReader {
         requires behind { IsBehindScan (reading_of self.old) }
         requires later { (reading_of self.old).taken + 2 ≤ at }
         requires within { at ≤ (reading_of self.old).limits.input }
-        ensures answered { (bytes : List ℕ) (before : List Segment) → StandsFor bytes before (reading_of self.old) → Comes (bytes ++ 255 ∷ code ∷ []) before result (reading_of self.new) }
+        ensures answered { ComesWith (reading_of self.old) (255 ∷ code ∷ []) result (reading_of self.new) }
         ensures taken { (reading_of self.new).taken ≡ at }
         ensures going { IfOk result (λ _. (reading_of self.new).stop ≡ None) }
         ensures stopped { IfErr result (λ stop. (reading_of self.new).stop ≡ Some stop) }
@@ -199,7 +199,7 @@ impl SegmentReader {
 
     // What a byte leads to, by where the bytes stand.
     fn next(&mut self, byte: u8) -> Result<SegStep, Halt>
-        ensures goes { (bytes : List ℕ) (before : List Segment) → StandsFor bytes before (reading_of self.old) → Goes (bytes ++ byte ∷ []) before result (reading_of self.new) }
+        ensures goes { GoesWith (reading_of self.old) (byte ∷ []) result (reading_of self.new) }
         ensures stays { Stays self.old self.new }
         ensures whole { BehindWhole result (reading_of self.new) }
         ensures memory { (bytes : List ℕ) (before : List Segment) → StandsFor bytes before (reading_of self.old) → HasRoom self.old → HaltsNot result }
@@ -218,7 +218,7 @@ impl SegmentReader {
 
     fn first_byte(&mut self, byte: u8) -> Result<SegStep, Halt>
         requires { (reading_of self.old).phase ≡ phase.Empty }
-        ensures goes { (bytes : List ℕ) (before : List Segment) → StandsFor bytes before (reading_of self.old) → Goes (bytes ++ byte ∷ []) before result (reading_of self.new) }
+        ensures goes { GoesWith (reading_of self.old) (byte ∷ []) result (reading_of self.new) }
         ensures stays { Stays self.old self.new }
         ensures whole { BehindWhole result (reading_of self.new) }
         ensures memory { HaltsNot result }
@@ -232,7 +232,7 @@ impl SegmentReader {
 
     fn second_byte(&mut self, byte: u8) -> Result<SegStep, Halt>
         requires { (reading_of self.old).phase ≡ phase.HalfStart }
-        ensures goes { (bytes : List ℕ) (before : List Segment) → StandsFor bytes before (reading_of self.old) → Goes (bytes ++ byte ∷ []) before result (reading_of self.new) }
+        ensures goes { GoesWith (reading_of self.old) (byte ∷ []) result (reading_of self.new) }
         ensures stays { Stays self.old self.new }
         ensures whole { BehindWhole result (reading_of self.new) }
         ensures memory { HaltsNot result }
@@ -247,7 +247,7 @@ impl SegmentReader {
     // The first byte behind a whole segment.
     fn item_byte(&mut self, byte: u8) -> Result<SegStep, Halt>
         requires { (reading_of self.old).phase ≡ phase.Between }
-        ensures goes { (bytes : List ℕ) (before : List Segment) → StandsFor bytes before (reading_of self.old) → Goes (bytes ++ byte ∷ []) before result (reading_of self.new) }
+        ensures goes { GoesWith (reading_of self.old) (byte ∷ []) result (reading_of self.new) }
         ensures stays { Stays self.old self.new }
         ensures whole { BehindWhole result (reading_of self.new) }
         ensures memory { HaltsNot result }
@@ -262,7 +262,7 @@ impl SegmentReader {
     // A byte behind FF: a further fill byte, or a marker's code.
     fn code_byte(&mut self, code: u8) -> Result<SegStep, Halt>
         requires { (reading_of self.old).phase ≡ phase.Fill }
-        ensures goes { (bytes : List ℕ) (before : List Segment) → StandsFor bytes before (reading_of self.old) → Goes (bytes ++ code ∷ []) before result (reading_of self.new) }
+        ensures goes { GoesWith (reading_of self.old) (code ∷ []) result (reading_of self.new) }
         ensures stays { Stays self.old self.new }
         ensures whole { BehindWhole result (reading_of self.new) }
         ensures memory { HaltsNot result }
@@ -292,7 +292,7 @@ impl SegmentReader {
     // The first byte of a length.
     fn high_byte(&mut self, byte: u8) -> Result<SegStep, Halt>
         requires { (reading_of self.old).phase ≡ phase.Coded }
-        ensures goes { (bytes : List ℕ) (before : List Segment) → StandsFor bytes before (reading_of self.old) → Goes (bytes ++ byte ∷ []) before result (reading_of self.new) }
+        ensures goes { GoesWith (reading_of self.old) (byte ∷ []) result (reading_of self.new) }
         ensures stays { Stays self.old self.new }
         ensures whole { BehindWhole result (reading_of self.new) }
         ensures memory { HaltsNot result }
@@ -305,7 +305,7 @@ impl SegmentReader {
     // The second byte of a length, which counts itself.
     fn low_byte(&mut self, byte: u8) -> Result<SegStep, Halt>
         requires { (reading_of self.old).phase ≡ phase.HalfLength }
-        ensures goes { (bytes : List ℕ) (before : List Segment) → StandsFor bytes before (reading_of self.old) → Goes (bytes ++ byte ∷ []) before result (reading_of self.new) }
+        ensures goes { GoesWith (reading_of self.old) (byte ∷ []) result (reading_of self.new) }
         ensures stays { Stays self.old self.new }
         ensures whole { BehindWhole result (reading_of self.new) }
         ensures memory { HaltsNot result }
@@ -326,7 +326,7 @@ impl SegmentReader {
     #[inline(always)]
     fn content_byte(&mut self, byte: u8) -> Result<SegStep, Halt>
         requires { (reading_of self.old).phase ≡ phase.Contents }
-        ensures goes { (bytes : List ℕ) (before : List Segment) → StandsFor bytes before (reading_of self.old) → Goes (bytes ++ byte ∷ []) before result (reading_of self.new) }
+        ensures goes { GoesWith (reading_of self.old) (byte ∷ []) result (reading_of self.new) }
         ensures stays { Stays self.old self.new }
         ensures whole { BehindWhole result (reading_of self.new) }
         ensures memory { (bytes : List ℕ) (before : List Segment) → StandsFor bytes before (reading_of self.old) → HasRoom self.old → HaltsNot result }
@@ -345,7 +345,7 @@ impl SegmentReader {
 
     // The last byte of a segment is there.
     fn whole(&mut self) -> Result<SegStep, Halt>
-        ensures goes { (bytes : List ℕ) (before : List Segment) → (reading_of self.old).stop ≡ None → IsWhole bytes before (reading_of self.old) → Goes bytes before result (reading_of self.new) }
+        ensures goes { GoesWhole (reading_of self.old) result (reading_of self.new) }
         ensures stays { Stays self.old self.new }
         ensures whole { BehindWhole result (reading_of self.new) }
         ensures memory { HaltsNot result }

@@ -38,9 +38,6 @@ blocks_at dc ac prediction blocks i block e =
     ∙ ap (λ b. b ∷ drop (suc i) blocks) (get_or_from_slice_get blocks i block block e)
     ∙ ap (λ n. block ∷ drop n blocks) (sym (add-one i)))
 
-pub blocks_end : (dc ac : List Code) (prediction : ℤ) (blocks : List (List ℤ)) (i : ℕ) → length blocks ≤ i → blocks_bits dc ac prediction (drop i blocks) ≡ []
-blocks_end dc ac prediction blocks i h = ap (blocks_bits dc ac prediction) (drop_all i blocks h)
-
 pub short_at : (blocks : List (List ℤ)) (i : ℕ) (block : List ℤ) → All IsShort blocks → slice_get blocks i ≡ Some block → IsShort block
 short_at blocks i block all e = subst (λ b. IsShort b) (get_or_from_slice_get blocks i block block e) (All-get_or (λ b. IsShort b) blocks i block (slice_get_within blocks i block e) all)
 

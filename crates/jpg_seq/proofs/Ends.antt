@@ -1,19 +1,16 @@
 -- Where bits of blocks end.
-use Rattle.std.proofs.Common.{◌≡◌, ◌≢◌, ℕ, zero, suc, ◌+◌, ◌-◌, ◌*◌, ◌<◌, ◌≤◌, Bool, true, false, List, [], ◌∷◌, ◌++◌, length, refl, sym, ap, ◌∙◌, subst, arith, ℤ, inl, inr, ⊎_elim}
+use Rattle.std.proofs.Common.{◌≡◌, ◌≢◌, ℕ, zero, suc, ◌-◌, ◌<◌, ◌≤◌, Bool, true, false, List, [], ◌∷◌, ◌++◌, length, refl, sym, ap, ◌∙◌, subst, arith, ℤ}
 use Rattle.std.specs.Prelude.{map, Result, Ok, Err, IfOk}
-use Rattle.std.specs.List.{Contains}
-use Rattle.std.proofs.lemmas.List.{append_assoc, append-nil, length-append, append_cancel_left}
+use Rattle.std.proofs.lemmas.List.{append_assoc, append-nil, length-append}
 use Rattle.std.proofs.lemmas.Grind.{flat_map-append}
 use Rattle.jpg_spec.specs.Codes.{Code}
-use Rattle.jpg_spec.specs.Numbers.{category, extra_bits}
 use Rattle.jpg_spec.specs.Bits.{bits_of, bits_of_bytes, SpellsData}
-use Rattle.jpg_spec.specs.Elements.{Element, difference, dc_bit, value, long_run, ends, Coding, UnitLeft, Standing, Covers, SpellsUnits, SpellsElement, Tells, codes_due, at_start, symbol_of, bits_behind}
+use Rattle.jpg_spec.specs.Elements.{Element, Coding, UnitLeft, Covers, SpellsUnits, at_start}
 use Rattle.jpg_spec.specs.GrayFile.{new_unit, SpellsBlocks}
 use Rattle.jpg_spec.specs.Sound.{IsSound}
 use Rattle.jpg_spec.specs.declared.frame.Bounds.{Bounds}
-use Rattle.jpg_spec.proofs.Once.{clash, fronts_once, GoesOn, no_units, head_inj, pair_0, pair_1}
 use Rattle.jpg_spec.proofs.Bands.{covers_then}
-use Rattle.jpg_spec.proofs.Facts.{facts}
+use Rattle.jpg_spec.proofs.PartStands.{part_not_held}
 use Rattle.jpg_spec.proofs.Sound.{spelled_once}
 use Rattle.jpg_huff.specs.Gate.{IsData}
 use Rattle.jpg_seq.specs.declared.plain.Reading.{Reading}
@@ -22,124 +19,34 @@ use Rattle.jpg_seq.specs.declared.plain.Took.TheVariants.{More, Bad}
 use Rattle.jpg_seq.specs.declared.plain.PlainRead.{PlainRead}
 use Rattle.jpg_seq.specs.declared.plain.PlainRead.TheVariants.{Blocks, NotPlain}
 use Rattle.jpg_seq.specs.InWork.{InWork}
-use Rattle.jpg_seq.specs.Stands.{IsCodingOf, unit_in_work, standing_at, codes_next, IsWalk, IsPart, Stands}
+use Rattle.jpg_seq.specs.Stands.{IsCodingOf, unit_in_work, standing_at, Stands}
 use Rattle.jpg_seq.specs.Plain.{new_units, Reads, NoneSpelled, AfterBits, AfterText, PlainBits, HoldsSoFar, ReadsText, IsPlainRead, last_or}
-use Rattle.jpg_seq.proofs.Apart.{AreApart, due_apart, walk_no_code}
-use Rattle.jpg_seq.proofs.Elements.{left_at}
+use Rattle.jpg_seq.proofs.Parts.{open_part}
 use Rattle.jpg_seq.proofs.ReadBlocks.{flat, next_covers}
 use Rattle.jpg_seq.proofs.Text.{run_of_ff, waits_more, data_passes, data_goes_on, data_once, stopped, last-append, last_data}
 
--- A PART OF AN ELEMENT holds none
-
-small_category : (c : Coding) (b : Bounds) (dc ac : List Code) (i size : ℕ) → IsCodingOf b dc ac c i → size ≤ (c.bounds).ac_cat → size ≤ 15
-small_category c b dc ac i size k h =
-    let e : (c.bounds).ac_cat ≡ b.ac_cat = ap (λ (x : Bounds). x.ac_cat) k.bounds in
-    omega (arith, h, e, k.categories, (k.sound).categories)
-
-abbrev Spelled : List Code → ℕ → List Bool → List Bool → Type 0
-Spelled codes symbol behind front = (code : List Bool) × Contains codes (code, symbol) × (front ≡ code ++ behind)
-
-regroup : (part front code behind y : List Bool) → part ≡ front ++ y → front ≡ code ++ behind → part ≡ code ++ (behind ++ y)
-regroup part front code behind y e f = e ∙ ap (λ z. z ++ y) f ∙ append_assoc code behind y
-
-walk_no_element : (codes : List Code) (walked part front behind y : List Bool) (symbol : ℕ) → AreApart codes → (w : (part ≡ walked) × IsWalk codes walked) → Spelled codes symbol behind front → part ≡ front ++ y → ⊥
-walk_no_element codes walked part front behind y symbol apart w s e = walk_no_code codes walked s.0 (behind ++ y) symbol apart w.1 s.1 (sym w.0 ∙ regroup part front s.0 behind y e s.2)
-
--- a code and some bits, where an element is spelled
-number_bits : (codes : List Code) (code so_far part front behind y : List Bool) (s symbol : ℕ) → AreApart codes → Contains codes (code, s) → part ≡ code ++ so_far → Spelled codes symbol behind front → part ≡ front ++ y
-    → (s ≡ symbol) × (length behind ≤ length so_far)
-number_bits codes code so_far part front behind y s symbol apart h p t e =
-    let l : code ++ so_far ≡ t.0 ++ (behind ++ y) = sym p ∙ regroup part front t.0 behind y e t.2 in
-    let q = apart.one (code, s) (t.0, symbol) so_far (behind ++ y) h t.1 l in
-    let same : code ≡ t.0 = pair_0 code t.0 s symbol q in
-    let r : so_far ≡ behind ++ y = append_cancel_left code so_far (behind ++ y) (l ∙ ap (λ z. z ++ (behind ++ y)) (sym same)) in
-    (pair_1 code t.0 s symbol q, omega (arith, ap length r, length-append behind y))
-
-first_no_element : (c : Coding) (b : Bounds) (dc ac : List Code) (i : ℕ) (walked : List Bool) (run size : ℕ) (so_far part : List Bool) (q : ℤ) (others : List UnitLeft) (e : Element) (here : List ℤ) (left : List UnitLeft) (front y : List Bool)
-    → IsCodingOf b dc ac c i → IsPart c i (record { values = []; walked = walked; run = run; size = size; extra = so_far }) part
-    → SpellsElement (codes_next c i []) e front → Tells c q e (unit_in_work i []) others here left → part ≡ front ++ y → ⊥
-first_no_element c b dc ac i walked run size so_far part q others (difference d) here left front y k (inl w) s t e =
-    walk_no_element (codes_next c i []) walked part front (extra_bits d) y (category d) (due_apart c (unit_in_work i []) k.sound) (w.1, w.2) s e
-first_no_element c b dc ac i walked run size so_far part q others (difference d) here left front y k (inr w) s t e =
-    let h = w.1 in
-    let n = number_bits (codes_next c i []) h.0 so_far part front (extra_bits d) y (16 * run + size) (category d) (due_apart c (unit_in_work i []) k.sound) h.1 h.2 s e in
-    omega (arith, n.0, n.1, h.3, h.5.0, facts.size d)
-first_no_element c b dc ac i walked run size so_far part q others (dc_bit x) here left front y k w s t e = clash c.refines t.3 k.first
-first_no_element c b dc ac i walked run size so_far part q others (value r v cs) here left front y k w s t e = clash true refl t.2
-first_no_element c b dc ac i walked run size so_far part q others (long_run cs) here left front y k w s t e = clash true refl t.2
-first_no_element c b dc ac i walked run size so_far part q others (ends n cs) here left front y k w s t e = clash true refl t.0
-
-later_no_element : (c : Coding) (b : Bounds) (dc ac : List Code) (i : ℕ) (u : ℤ) (values : List ℤ) (walked : List Bool) (run size : ℕ) (so_far part : List Bool) (q : ℤ) (others : List UnitLeft) (e : Element) (here : List ℤ) (left : List UnitLeft) (front y : List Bool)
-    → IsCodingOf b dc ac c i → IsPart c i (record { values = u ∷ values; walked = walked; run = run; size = size; extra = so_far }) part
-    → SpellsElement (codes_next c i (u ∷ values)) e front → Tells c q e (unit_in_work i (u ∷ values)) others here left → part ≡ front ++ y → ⊥
-later_no_element c b dc ac i u values walked run size so_far part q others (difference d) here left front y k w s t e = clash false t.2 refl
-later_no_element c b dc ac i u values walked run size so_far part q others (dc_bit x) here left front y k w s t e = clash false t.2 refl
-later_no_element c b dc ac i u values walked run size so_far part q others (value r v cs) here left front y k (inl w) s t e =
-    walk_no_element (codes_next c i (u ∷ values)) walked part front (extra_bits v ++ cs) y (16 * r + category v) (due_apart c (unit_in_work i (u ∷ values)) k.sound) (w.1, w.2) s e
-later_no_element c b dc ac i u values walked run size so_far part q others (value r v cs) here left front y k (inr w) s t e =
-    let h = w.1 in
-    let n = number_bits (codes_next c i (u ∷ values)) h.0 so_far part front (extra_bits v ++ cs) y (16 * run + size) (16 * r + category v) (due_apart c (unit_in_work i (u ∷ values)) k.sound) h.1 h.2 s e in
-    let most = small_category c b dc ac i size k h.5.0 in
-    let high : category v ≤ 15 = omega (arith, t.4, (k.sound).categories) in
-    omega (arith, n.0, n.1, h.3, most, high, facts.size v, length-append (extra_bits v) cs)
-later_no_element c b dc ac i u values walked run size so_far part q others (long_run cs) here left front y k (inl w) s t e =
-    walk_no_element (codes_next c i (u ∷ values)) walked part front cs y 240 (due_apart c (unit_in_work i (u ∷ values)) k.sound) (w.1, w.2) s e
-later_no_element c b dc ac i u values walked run size so_far part q others (long_run cs) here left front y k (inr w) s t e =
-    let h = w.1 in
-    let n = number_bits (codes_next c i (u ∷ values)) h.0 so_far part front cs y (16 * run + size) 240 (due_apart c (unit_in_work i (u ∷ values)) k.sound) h.1 h.2 s e in
-    let most = small_category c b dc ac i size k h.5.0 in
-    omega (arith, n.0, w.0, most)
-later_no_element c b dc ac i u values walked run size so_far part q others (ends m cs) here left front y k (inl w) s t e =
-    walk_no_element (codes_next c i (u ∷ values)) walked part front (bits_behind (ends m cs)) y (symbol_of (ends m cs)) (due_apart c (unit_in_work i (u ∷ values)) k.sound) (w.1, w.2) s e
-later_no_element c b dc ac i u values walked run size so_far part q others (ends m cs) here left front y k (inr w) s t e =
-    let h = w.1 in
-    let n = number_bits (codes_next c i (u ∷ values)) h.0 so_far part front (bits_behind (ends m cs)) y (16 * run + size) (symbol_of (ends m cs)) (due_apart c (unit_in_work i (u ∷ values)) k.sound) h.1 h.2 s e in
-    let most = small_category c b dc ac i size k h.5.0 in
-    omega (arith, n.0, w.0, most)
-
-part_no_element : (c : Coding) (b : Bounds) (dc ac : List Code) (i : ℕ) (values : List ℤ) (walked : List Bool) (run size : ℕ) (so_far part : List Bool) (q : ℤ) (others : List UnitLeft) (e : Element) (here : List ℤ) (left : List UnitLeft) (front y : List Bool)
-    → IsCodingOf b dc ac c i → IsPart c i (record { values = values; walked = walked; run = run; size = size; extra = so_far }) part
-    → SpellsElement (codes_next c i values) e front → Tells c q e (unit_in_work i values) others here left → part ≡ front ++ y → ⊥
-part_no_element c b dc ac i [] walked run size so_far part q others e here left front y k w s t same = first_no_element c b dc ac i walked run size so_far part q others e here left front y k w s t same
-part_no_element c b dc ac i (u ∷ values) walked run size so_far part q others e here left front y k w s t same = later_no_element c b dc ac i u values walked run size so_far part q others e here left front y k w s t same
-
 -- AN OPEN UNIT: its bits begin no whole interval that ends there
-pub open_no_units : (c : Coding) (b : Bounds) (dc ac : List Code) (units others : List UnitLeft) (p : ℕ → ℤ) (elements : List Element) (told : List ℤ) (front part bits : List Bool) (s : InWork) (more : List ℤ) (cits y : List Bool) → IsCodingOf b dc ac c 0
-    → Covers c (at_start units) elements told front (standing_at p 0 others []) → Stands c p 0 others part s → bits ≡ front ++ part → SpellsUnits c units more cits → bits ≡ cits ++ y → ⊥
-open_no_units c b dc ac units others p elements told front part bits s more cits y k covers st split h e =
-    ⊎_elim
-    (λ (g : GoesOn c (elements ++ st.elements) h.0 (told ++ s.values) more (front ++ st.front) cits (standing_at p 0 others s.values) h.1).
-    longer g.elements g.values g.spelling h.1 h.3 g.covers (append_cancel_left (front ++ st.front) st.part (g.spelling ++ y) (same ∙ ap (λ x. x ++ y) g.joined.2 ∙ append_assoc (front ++ st.front) g.spelling y)))
-    (λ (g : GoesOn c h.0 (elements ++ st.elements) more (told ++ s.values) cits (front ++ st.front) h.1 (standing_at p 0 others s.values)). shorter g.elements g.values g.spelling h.1 h.3 g.covers)
-    (fronts_once c (at_start units) (elements ++ st.elements) h.0 (told ++ s.values) more (front ++ st.front) cits st.part y (standing_at p 0 others s.values) h.1 facts ((k.sound).categories, (k.sound).runs) (λ u. (due_apart c u k.sound).one) whole h.2 same)
-  where
-    whole : Covers c (at_start units) (elements ++ st.elements) (told ++ s.values) (front ++ st.front) (standing_at p 0 others s.values)
-    whole = covers_then c (at_start units) (standing_at p 0 others []) (standing_at p 0 others s.values) elements st.elements told s.values front st.front covers st.covers
-
-    same : (front ++ st.front) ++ st.part ≡ cits ++ y
-    same = append_assoc front st.front st.part ∙ ap (λ x. front ++ x) (sym st.split) ∙ sym split ∙ e
-
-    left : (standing_at p 0 others s.values).left ≡ unit_in_work 0 s.values ∷ others
-    left = left_at p 0 others s.values st.unfinished
-
-    longer : (es : List Element) (values : List ℤ) (spelling : List Bool) (t : Standing) → t.left ≡ [] → Covers c (standing_at p 0 others s.values) es values spelling t → st.part ≡ spelling ++ y → ⊥
-    longer [] values spelling t nil q r = no_units (unit_in_work 0 s.values) others (sym left ∙ ap (λ (z : Standing). z.left) (sym q.2) ∙ nil)
-    longer (e ∷ es) values spelling t nil q r =
-        let u = unit_in_work 0 s.values in
-        let i = head_inj u q.0 others q.1 (sym left ∙ q.7) in
-        let pr = (standing_at p 0 others s.values).predictions in
-        let Q : UnitLeft → List UnitLeft → Type 0 = λ v vs. SpellsElement (codes_due c v) e q.5 × Tells c (pr v.component) e v vs q.2 q.3 in
-        let q0 : Q q.0 q.1 = (q.10, q.11) in
-        let q1 : Q u q.1 = subst (λ v. Q v q.1) (sym i.0) q0 in
-        let q2 : Q u others = subst (λ vs. Q u vs) (sym i.1) q1 in
-        part_no_element c b dc ac 0 s.values s.walked s.run s.size s.extra st.part (pr u.component) others e q.2 q.3 q.5 (q.6 ++ y) k st.is_part q2.0 q2.1
-        (r ∙ ap (λ x. x ++ y) q.9 ∙ append_assoc q.5 q.6 y)
-
-    shorter : (es : List Element) (values : List ℤ) (spelling : List Bool) (t : Standing) → t.left ≡ [] → Covers c t es values spelling (standing_at p 0 others s.values) → ⊥
-    shorter [] values spelling t nil q = no_units (unit_in_work 0 s.values) others (sym left ∙ ap (λ (z : Standing). z.left) q.2 ∙ nil)
-    shorter (e ∷ es) values spelling t nil q = no_units q.0 q.1 (sym q.7 ∙ nil)
-
--- WHERE THE BITS END
+pub open_no_units : (c : Coding) (b : Bounds) (dc ac : List Code) (comp : ℕ) (units others : List UnitLeft) (p : ℕ → ℤ) (elements : List Element) (told : List ℤ) (front part bits : List Bool) (s : InWork) (more : List ℤ) (cits y : List Bool) → IsCodingOf b dc ac c comp
+    → Covers c (at_start units) elements told front (standing_at p comp others []) → Stands c p comp others part s → bits ≡ front ++ part → SpellsUnits c units more cits → bits ≡ cits ++ y → ⊥
+open_no_units c b dc ac comp units others p elements told front part bits s more cits y k covers st split h e =
+    part_not_held c units (told ++ s.values) (unit_in_work comp s.values ∷ others) bits k.sound
+    (record {
+      elements = elements ++ st.elements;
+      before = told ++ s.values;
+      front = front ++ st.front;
+      standing = standing_at p comp others s.values;
+      unit = unit_in_work comp s.values;
+      others = others;
+      here = [];
+      part = st.part;
+      cut = split ∙ ap (λ x. front ++ x) st.split ∙ sym (append_assoc front st.front st.part);
+      covers = covers_then c (at_start units) (standing_at p comp others []) (standing_at p comp others s.values) elements st.elements told s.values front st.front covers st.covers;
+      same = sym (append-nil (told ++ s.values));
+      first = refl;
+      is_part = open_part c b dc ac comp p others s st.part k st.unfinished st.is_part;
+      in_bounds = refl;
+    })
+    more cits y h e
 
 units_are : (n : ℕ) (blocks : List (List ℤ)) → length blocks ≡ n → map (λ block. new_unit 0) blocks ≡ new_units n
 units_are zero [] e = refl
@@ -162,7 +69,7 @@ end_blocks c count bits s le few f =
 
 pub end_open : (c : Coding) (b : Bounds) (dc ac : List Code) (count : ℕ) (bits : List Bool) (s : Reading) → IsCodingOf b dc ac c 0 → length s.blocks < count → Reads c count bits s → PlainBits c count bits NotPlain
 end_open c b dc ac count bits s k lt f = λ blocks front pad spelled n few e.
-    open_no_units c b dc ac (new_units count) (new_units (count - length s.blocks - 1)) f.predictions f.elements (flat s.blocks) f.front f.part bits s.unit (flat blocks) front pad k
+    open_no_units c b dc ac 0 (new_units count) (new_units (count - length s.blocks - 1)) f.predictions f.elements (flat s.blocks) f.front f.part bits s.unit (flat blocks) front pad k
     (next_covers c count bits s lt f) (f.in_work lt) f.split (from_blocks c count blocks front n spelled) e
 
 pub end_long : (c : Coding) (count : ℕ) (bits : List Bool) (s : Reading) → IsSound c → count ≤ length s.blocks → 8 ≤ s.pad → Reads c count bits s → PlainBits c count bits NotPlain

@@ -46,7 +46,7 @@ found_valid : (o : Option Table) (table : HuffmanTable) → option_map table_of 
 found_valid None table e = absurd (none_some table e)
 found_valid (Some t) table e = subst (λ (h : HuffmanTable). are_codes 1 0 h.counts ≡ true) (some_inj (table_of t) table e) (table_valid t)
 
-valid : (set : TableSet) → AreTables (in_force set)
+pub valid : (set : TableSet) → AreTables (in_force set)
 valid set class slot table e = found_valid (in_slot (cond (class == 0) (dc_tables set) (ac_tables set)) slot) table e
 
 pub part_is : (head : ScanHead) (part : ScanPart) → head.parts ≡ part ∷ [] → part.component ≡ 0 → part_of head 0 ≡ part
@@ -57,7 +57,7 @@ part_is head part e z =
     subst P (sym e) (ap (λ (b : Bool). slice_index_or (part ∷ []) (cond b 0 (1 + index_of 0 [])) d) t)
 
 -- the codes of a table that is found
-codes_found : (o : Option Table) (t : Table) → o ≡ Some t → codes_of (option_map table_of o) ≡ symbol_codes t
+pub codes_found : (o : Option Table) (t : Table) → o ≡ Some t → codes_of (option_map table_of o) ≡ symbol_codes t
 codes_found o t e = ap (λ (x : Option Table). codes_of (option_map table_of x)) e
 
 pub coding_of : (f : Frame) (head : ScanHead) (set : TableSet) (b : Bounds) (part : ScanPart) (dc ac : Table) → (is : IsPlainScan f head set) → b ≡ bounds f → part ≡ is.part

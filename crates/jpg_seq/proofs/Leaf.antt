@@ -1,13 +1,11 @@
 -- Values that are covered one after another.
-use Rattle.std.proofs.Common.{◌≡◌, ℕ, zero, suc, ◌+◌, ◌-◌, ◌*◌, ◌^◌, ◌<◌, ◌≤◌, Bool, List, [], ◌∷◌, ◌++◌, length, take, drop, set, refl, sym, ap, ◌∙◌, arith, add-one, ℤ, pos}
+use Rattle.std.proofs.Common.{◌≡◌, ℕ, zero, suc, ◌+◌, ◌-◌, ◌<◌, ◌≤◌, Bool, List, [], ◌∷◌, ◌++◌, length, take, drop, set, refl, sym, ap, ◌∙◌, arith, ℤ, pos}
 use Rattle.std.proofs.lemmas.List.{length-set, length-take-le, drop-drop, take-append-drop, drop-replicate}
 use Rattle.std.proofs.Math.Seq.{take-append-add}
 use Rattle.std.proofs.lemmas.Grind.{take-set_at, drop-set_at}
-use Rattle.std.proofs.Math.Nat.{pow-succ'}
-use Rattle.jpg_spec.proofs.Strings.{bit_value}
-use Rattle.jpg_huff.proofs.Levels.{bit_small}
 use Rattle.jpg_spec.specs.Elements.{zeros}
 use Rattle.jpg_seq.specs.InWork.{IsKept}
+use Rattle.jpg_seq.specs.Work.{IsBlockSoFar}
 
 take-replicate : (m n : ℕ) (y : ℤ) → m ≤ n → take m (zeros n) ≡ zeros m
 take-replicate zero n y h = refl
@@ -44,12 +42,6 @@ place_rest values at run v len h e =
     ∙ ap (λ k. drop k values) (sym n)
     ∙ cover_rest values at (run + 1) (omega arith) e
 
-pub fits_more : (n have : ℕ) (b : Bool) → n < 2 ^ have → 2 * n + bit_value b < 2 ^ (have + 1)
-fits_more n have b h =
-    let p : 2 ^ (have + 1) ≡ 2 * 2 ^ have = ap (λ m. 2 ^ m) (add-one have) ∙ pow-succ' 2 have in
-    let q : bit_value b ≤ 1 = bit_small b in
-    omega arith
-
 -- what is kept where a value is placed
 pub placed_kept : (values new : List ℤ) (at run : ℕ) (v : ℤ) (n have number : ℕ) → IsKept values at n have number → at + run < 64 → new ≡ set values (at + run) v → IsKept new (at + (run + 1)) n have number
 placed_kept values new at run v n have number k h e =
@@ -60,4 +52,17 @@ placed_kept values new at run v n have number k h e =
       size = k.size;
       fewer = k.fewer;
       fits = k.fits;
+    }
+
+-- the same, where bits wait
+pub covered_so_far : (values : List ℤ) (at n : ℕ) (part : List Bool) → IsBlockSoFar values at part → at + n ≤ 64 → IsBlockSoFar values (at + n) part
+covered_so_far values at n part k h = record { whole = k.whole; at_most = h; rest = cover_rest values at n h k.rest; few = k.few }
+
+pub placed_so_far : (values new : List ℤ) (at run : ℕ) (v : ℤ) (part : List Bool) → IsBlockSoFar values at part → at + run < 64 → new ≡ set values (at + run) v → IsBlockSoFar new (at + (run + 1)) part
+placed_so_far values new at run v part k h e =
+    record {
+      whole = ap length e ∙ length-set values (at + run) v ∙ k.whole;
+      at_most = omega arith;
+      rest = ap (drop (at + (run + 1))) e ∙ place_rest values at run v k.whole h k.rest;
+      few = k.few;
     }

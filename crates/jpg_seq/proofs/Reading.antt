@@ -8,8 +8,8 @@ use Rattle.jpg_spec.specs.Numbers.{digits, category, extra_bits}
 use Rattle.jpg_spec.specs.Elements.{Element, value, long_run, ends, Coding, UnitLeft, Covers, SpellsElement, zeros, symbol_of, bits_behind}
 use Rattle.jpg_spec.specs.declared.frame.Bounds.{Bounds}
 use Rattle.jpg_spec.specs.declared.fault.Fault.TheVariants as fault
-use Rattle.jpg_huff.specs.Index as huff
-use Rattle.jpg_huff.specs.Index.{BeginsCode}
+use Rattle.jpg_huff.specs.Walk.{BeginsNoCode}
+use Rattle.jpg_spec.specs.Parts.{BeginsCode}
 use Rattle.jpg_seq.specs.declared.unit.UnitStep.{UnitStep}
 use Rattle.jpg_seq.specs.InWork.{InWork}
 use Rattle.jpg_seq.specs.Judge.{IsBadSymbol, IsBadRun}
@@ -71,9 +71,9 @@ more_read c p i others bits s mid next table t z f same begins w =
     subst P (sym (walked_is s mid (s.walked ++ next ∷ []) same w)) (code_more c p i others bits s next z f (subst Q t begins))
 
 pub none_read : (c : Coding) (b : Bounds) (dc ac : List Code) (p : ℕ → ℤ) (i : ℕ) (others : List UnitLeft) (bits : List Bool) (s : InWork) (next : Bool) (table : List Code) → IsCodingOf b dc ac c i → table ≡ codes_next c i s.values → s.size ≡ 0
-    → Stands c p i others bits s → huff.BeginsNone table (s.walked ++ next ∷ []) → UnitShows c p i others fault.NoCode (bits ++ next ∷ [])
+    → Stands c p i others bits s → BeginsNoCode table (s.walked ++ next ∷ []) → UnitShows c p i others fault.NoCode (bits ++ next ∷ [])
 none_read c b dc ac p i others bits s next table k t z f begins =
-    let Q : List Code → Type 0 = λ t. huff.BeginsNone t (s.walked ++ next ∷ []) in
+    let Q : List Code → Type 0 = λ t. BeginsNoCode t (s.walked ++ next ∷ []) in
     code_none c b dc ac p i others bits s next k z f (subst Q t begins)
 
 pub bad_first_read : (c : Coding) (b : Bounds) (dc ac : List Code) (p : ℕ → ℤ) (i : ℕ) (others : List UnitLeft) (bits : List Bool) (s : InWork) (next : Bool) (symbol : ℕ) → IsCodingOf b dc ac c i → s.size ≡ 0 → s.values ≡ [] → Stands c p i others bits s

@@ -10,23 +10,23 @@ use Rattle.jpg_spec.specs.ScanFaults.{BitsShow}
 use Rattle.jpg_spec.specs.declared.frame.Bounds.{Bounds}
 use Rattle.jpg_spec.specs.declared.fault.Fault.{Fault}
 use Rattle.jpg_spec.specs.declared.fault.Fault.TheVariants as fault
-use Rattle.jpg_huff.specs.Index as huff
-use Rattle.jpg_huff.specs.Index.{BeginsCode}
+use Rattle.jpg_huff.specs.Walk.{BeginsNoCode}
+use Rattle.jpg_spec.specs.Parts.{BeginsCode, IsFront}
 use Rattle.jpg_seq.specs.declared.unit.UnitStep.{UnitStep}
 use Rattle.jpg_seq.specs.declared.unit.UnitStep.TheVariants.{More, Done, Fault as Shown}
-use Rattle.jpg_seq.specs.declared.unit.UnitFault.TheVariants.{NoCode, BadSymbol, BadRun, CoefRange}
+use Rattle.jpg_coefs.specs.declared.machine.UnitFault.TheVariants.{NoCode, BadSymbol, BadRun, CoefRange, RunPastEnd}
 use Rattle.jpg_seq.specs.InWork.{InWork}
 use Rattle.jpg_seq.specs.Judge.{IsBadSymbol, IsBadRun}
 use Rattle.jpg_seq.specs.Step.{AfterFirst, AfterCover}
-use Rattle.jpg_seq.specs.Stands.{IsCodingOf, unit_in_work, standing_at, codes_next, IsWalk, MayStand, IsPart, Stands, UnitShows, Answered}
-use Rattle.jpg_seq.proofs.Apart.{due_apart, walk_shows}
+use Rattle.jpg_seq.specs.Stands.{IsCodingOf, unit_in_work, standing_at, codes_next, MayStand, IsPart, Stands, UnitShows, Answered}
+use Rattle.jpg_huff.proofs.Fronts.{due_apart, walk_shows}
 use Rattle.jpg_seq.proofs.Tests.{first_out, not_first_symbol, not_symbol}
 use Rattle.jpg_seq.proofs.Elements.{TellsHere, zeros_in_zeros, element_more, first_tells, first_more}
 
 abbrev pub InNumber : Coding → ℕ → InWork → List Bool → Type 0
 InNumber c i s part = (code : List Bool) × Contains (codes_next c i s.values) (code, 16 * s.run + s.size) × (part ≡ code ++ s.extra) × (length s.extra < s.size) × (s.walked ≡ []) × MayStand c.bounds s.values s.run s.size
 
-pub in_code : (c : Coding) (i : ℕ) (s : InWork) (part : List Bool) → s.size ≡ 0 → IsPart c i s part → (part ≡ s.walked) × IsWalk (codes_next c i s.values) s.walked
+pub in_code : (c : Coding) (i : ℕ) (s : InWork) (part : List Bool) → s.size ≡ 0 → IsPart c i s part → (part ≡ s.walked) × IsFront (codes_next c i s.values) s.walked
 in_code c i s part z (inl h) = (h.1, h.2)
 in_code c i s part z (inr h) = absurd (omega (arith, h.0))
 
@@ -52,7 +52,7 @@ code_shows c p i others bits s next shown z f h =
     record { elements = f.elements; values = s.values; front = f.front; here = s.walked ++ next ∷ []; unfinished = f.unfinished; covers = f.covers; split = split_more bits f.front f.part s.walked next f.split w.0; shows = h }
 
 pub code_none : (c : Coding) (b : Bounds) (dc ac : List Code) (p : ℕ → ℤ) (i : ℕ) (others : List UnitLeft) (bits : List Bool) (s : InWork) (next : Bool) → IsCodingOf b dc ac c i → s.size ≡ 0 → Stands c p i others bits s
-    → huff.BeginsNone (codes_next c i s.values) (s.walked ++ next ∷ []) → UnitShows c p i others fault.NoCode (bits ++ next ∷ [])
+    → BeginsNoCode (codes_next c i s.values) (s.walked ++ next ∷ []) → UnitShows c p i others fault.NoCode (bits ++ next ∷ [])
 code_none c b dc ac p i others bits s next k z f h =
     let w = in_code c i s f.part z f.is_part in
     code_shows c p i others bits s next fault.NoCode z f (inl (refl, walk_shows (codes_next c i s.values) s.walked next (due_apart c (unit_in_work i s.values) k.sound) w.1 h))
@@ -64,7 +64,7 @@ code_bad_first c b dc ac p i others bits s next symbol k z e f h bad =
     let P : List ℤ → Type 0 = λ v. Contains (codes_next c i v) (s.walked ++ next ∷ [], symbol) → BitsShow c (standing_at p i others v) (unit_in_work i v) others fault.BadSymbol (s.walked ++ next ∷ []) in
     code_shows c p i others bits s next fault.BadSymbol z f (subst P (sym e) (λ h. inr (inl (refl, (symbol, h, not_first_symbol c b symbol k.bounds bad)))) h)
 
-bad_shows : (c : Coding) (b : Bounds) (dc ac : List Code) (p : ℕ → ℤ) (i : ℕ) (others : List UnitLeft) (values : List ℤ) (code : List Bool) (symbol : ℕ) → IsCodingOf b dc ac c i → 1 ≤ length values
+pub bad_shows : (c : Coding) (b : Bounds) (dc ac : List Code) (p : ℕ → ℤ) (i : ℕ) (others : List UnitLeft) (values : List ℤ) (code : List Bool) (symbol : ℕ) → IsCodingOf b dc ac c i → 1 ≤ length values
     → Contains (codes_next c i values) (code, symbol) → IsBadSymbol b.ac_cat symbol → BitsShow c (standing_at p i others values) (unit_in_work i values) others fault.BadSymbol code
 bad_shows c b dc ac p i others [] code symbol k some h bad = absurd (omega arith)
 bad_shows c b dc ac p i others (v ∷ values) code symbol k some h bad = inr (inl (refl, (symbol, h, not_symbol c b.ac_cat symbol k.categories k.runs bad)))
@@ -74,7 +74,7 @@ pub code_bad : (c : Coding) (b : Bounds) (dc ac : List Code) (p : ℕ → ℤ) (
 code_bad c b dc ac p i others bits s next symbol k z some f h bad =
     code_shows c p i others bits s next fault.BadSymbol z f (bad_shows c b dc ac p i others s.values (s.walked ++ next ∷ []) symbol k some h bad)
 
-run_shows : (c : Coding) (b : Bounds) (dc ac : List Code) (p : ℕ → ℤ) (i : ℕ) (others : List UnitLeft) (values : List ℤ) (code : List Bool) (symbol : ℕ) → IsCodingOf b dc ac c i → 1 ≤ length values
+pub run_shows : (c : Coding) (b : Bounds) (dc ac : List Code) (p : ℕ → ℤ) (i : ℕ) (others : List UnitLeft) (values : List ℤ) (code : List Bool) (symbol : ℕ) → IsCodingOf b dc ac c i → 1 ≤ length values
     → Contains (codes_next c i values) (code, symbol) → IsBadRun b.ac_cat (64 - length values) symbol → BitsShow c (standing_at p i others values) (unit_in_work i values) others fault.BadRun code
 run_shows c b dc ac p i others [] code symbol k some h bad = absurd (omega arith)
 run_shows c b dc ac p i others (v ∷ values) code symbol k some h bad =
@@ -138,3 +138,4 @@ after_first c b dc ac p i others d bits front part elements s Done new k covers 
 after_first c b dc ac p i others d bits front part elements s (Shown NoCode) new k covers split small sp z w after = absurd after
 after_first c b dc ac p i others d bits front part elements s (Shown BadSymbol) new k covers split small sp z w after = absurd after
 after_first c b dc ac p i others d bits front part elements s (Shown BadRun) new k covers split small sp z w after = absurd after
+after_first c b dc ac p i others d bits front part elements s (Shown RunPastEnd) new k covers split small sp z w after = absurd after

@@ -1,4 +1,5 @@
 pub mod Coded
+pub mod Coder
 pub mod InWork
 pub mod Judge
 pub mod Plain
@@ -6,3 +7,7 @@ pub mod PlainText
 pub mod Put
 pub mod Stands
 pub mod Step
+pub mod Work
+pub mod Reader
+pub mod SoFar
+pub mod NewReader

@@ -7,12 +7,10 @@ use Rattle.jpg_spec.specs.ScanFaults.{BitsShow}
 use Rattle.jpg_spec.specs.Sound.{IsSound}
 use Rattle.jpg_spec.specs.declared.frame.Bounds.{Bounds}
 use Rattle.jpg_spec.specs.declared.fault.Fault.{Fault}
-use Rattle.jpg_spec.specs.declared.fault.Fault.TheVariants as fault
-use Rattle.jpg_huff.specs.Index.{BeginsCode}
+use Rattle.jpg_spec.specs.Parts.{IsFront}
 use Rattle.jpg_seq.specs.declared.unit.UnitStep.{UnitStep}
 use Rattle.jpg_seq.specs.declared.unit.UnitStep.TheVariants.{More, Done, Fault as Shown}
-use Rattle.jpg_seq.specs.declared.unit.UnitFault.{UnitFault}
-use Rattle.jpg_seq.specs.declared.unit.UnitFault.TheVariants.{NoCode, BadSymbol, BadRun, CoefRange}
+use Rattle.jpg_coefs.specs.Machine.{fault_of}
 use Rattle.jpg_seq.specs.InWork.{InWork}
 
 -- A sequential coding by these bounds, whose codes for a component are these.
@@ -44,10 +42,6 @@ standing_at p i others (v ∷ values) = record { predictions = predicted p i v; 
 abbrev pub codes_next : Coding → ℕ → List ℤ → List Code
 codes_next c i values = codes_due c (unit_in_work i values)
 
--- the bits of a code so far, or none
-abbrev pub IsWalk : List Code → List Bool → Type 0
-IsWalk codes bits = (bits ≡ []) ⊎ BeginsCode codes bits
-
 -- a size that may be due behind these values
 abbrev pub MayStand : Bounds → List ℤ → ℕ → ℕ → Type 0
 MayStand b [] run size = (run ≡ 0) × (size ≤ b.dc_cat)
@@ -56,7 +50,7 @@ MayStand b (v ∷ values) run size = (size ≤ b.ac_cat) × (run + length values
 -- a part of an element: bits of its code, or its code and bits behind it
 abbrev pub IsPart : Coding → ℕ → InWork → List Bool → Type 0
 IsPart c i s part =
-    ((s.size ≡ 0) × (part ≡ s.walked) × IsWalk (codes_next c i s.values) s.walked)
+    ((s.size ≡ 0) × (part ≡ s.walked) × IsFront (codes_next c i s.values) s.walked)
     ⊎ ((1 ≤ s.size) × ((code : List Bool) × Contains (codes_next c i s.values) (code, 16 * s.run + s.size) × (part ≡ code ++ s.extra) × (length s.extra < s.size) × (s.walked ≡ []) × MayStand c.bounds s.values s.run s.size))
 
 -- The bits are whole elements of a unit that others follow, and a part of the next.
@@ -79,12 +73,6 @@ pub record UnitShows (c : Coding) (p : ℕ → ℤ) (i : ℕ) (others : List Uni
   pub covers : Covers c (standing_at p i others []) elements values front (standing_at p i others values)
   pub split : bits ≡ front ++ here
   pub shows : BitsShow c (standing_at p i others values) (unit_in_work i values) others shown here
-
-abbrev pub fault_of : UnitFault → Fault
-fault_of NoCode = fault.NoCode
-fault_of BadSymbol = fault.BadSymbol
-fault_of BadRun = fault.BadRun
-fault_of CoefRange = fault.CoefRange
 
 -- the answer at these bits of a unit
 abbrev pub Answered : Coding → (ℕ → ℤ) → ℕ → List UnitLeft → List Bool → UnitStep → InWork → Type 0

@@ -10,7 +10,7 @@ use Rattle.jpg_seq.specs.declared.unit.Extra.{Extra}
 use Rattle.jpg_seq.specs.declared.unit.Extra.TheVariants.{Wanting, Whole}
 use Rattle.jpg_seq.specs.declared.unit.UnitStep.{UnitStep}
 use Rattle.jpg_seq.specs.declared.unit.UnitStep.TheVariants.{More, Done, Fault}
-use Rattle.jpg_seq.specs.declared.unit.UnitFault.TheVariants.{NoCode, BadSymbol, BadRun, CoefRange}
+use Rattle.jpg_coefs.specs.declared.machine.UnitFault.TheVariants.{NoCode, BadSymbol, BadRun, CoefRange, RunPastEnd}
 use Rattle.jpg_seq.specs.InWork.{InWork, IsOpen}
 
 -- bounds of values that a word of 16 bits holds, and categories below sixteen
@@ -48,6 +48,7 @@ AfterFirst b prediction d old Done new = ⊥
 AfterFirst b prediction d old (Fault NoCode) new = ⊥
 AfterFirst b prediction d old (Fault BadSymbol) new = ⊥
 AfterFirst b prediction d old (Fault BadRun) new = ⊥
+AfterFirst b prediction d old (Fault RunPastEnd) new = ⊥
 
 -- whether the block is covered
 abbrev pub AfterCover : UnitStep → InWork → Type 0

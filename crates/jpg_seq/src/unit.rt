@@ -9,24 +9,11 @@ ghost use Rattle.jpg_seq.specs.InWork.{IsOpen, fresh};
 ghost use Rattle.jpg_seq.specs.Step.{AreSane, IsStage, DoesWant, AfterExtra, AfterFirst, AfterCover, StaysOpen};
 ghost use Rattle.jpg_seq.specs.Stands.{IsCodingOf, Stands, Answered};
 
-use crate::extend::extend;
 use crate::symbols::{Judged, judge};
 use jpg_base::{Block, Bounds};
-use jpg_huff::{Table, Walk, WalkStep};
+use jpg_coefs::UnitFault;
+use jpg_huff::{Table, Walk, WalkStep, extend};
 use std::marker::Model;
-
-/// What bits of a unit show that may not stand there.
-#[derive(Clone, Copy, Debug, PartialEq, Eq)]
-pub enum UnitFault {
-    /// The front of no code.
-    NoCode,
-    /// A category above the bounds, or a run that isn't followed by a value.
-    BadSymbol,
-    /// A value behind place 63.
-    BadRun,
-    /// A first value out of the bounds.
-    CoefRange,
-}
 
 /// What a bit comes to.
 #[derive(Clone, Copy, Debug, PartialEq, Eq)]
@@ -80,13 +67,13 @@ impl Model for UnitReader {
     ghost invariant = { λ r. IsKept r.values r.at r.size r.have r.number };
 }
 
-fn sum(a: i16, b: i16) -> i32
+pub(crate) fn sum(a: i16, b: i16) -> i32
     ensures { result ≡ a +ℤ b }
 {
     i32::from(a) + i32::from(b)
 }
 
-fn narrow(x: i32) -> i16
+pub(crate) fn narrow(x: i32) -> i16
     requires low { negsuc 32767 ≤ℤ x }
     requires high { x ≤ℤ pos 32767 }
     ensures { result ≡ x }

@@ -11,9 +11,8 @@ ghost use Rattle.jpg_seq.specs.Put.{HasPut, IsShort};
 mod tests;
 
 use crate::BlockList;
-use crate::category::{category, extra_bits};
 use jpg_base::{Block, Desk, Frame, WriteFault};
-use jpg_huff::{BitOut, Table, Typical, typical};
+use jpg_huff::{BitOut, Table, Typical, category, extra_bits, typical};
 
 // The first code of a symbol, if any.
 fn put_code<D: Desk>(

@@ -173,7 +173,7 @@ behind_told c (newly (pos zero) ∷ rest) o n h e =
 behind_told c (newly (pos (suc m)) ∷ rest) o n h e = cc
 behind_told c (newly (negsuc m) ∷ rest) o n h e = cc
 
-corrected-append : (al : ℕ) (a b : List ℤ) (x y : List Bool) → nonzeros_in a ≡ length x → corrected al (a ++ b) (x ++ y) ≡ corrected al a x ++ corrected al b y
+pub corrected-append : (al : ℕ) (a b : List ℤ) (x y : List Bool) → nonzeros_in a ≡ length x → corrected al (a ++ b) (x ++ y) ≡ corrected al a x ++ corrected al b y
 corrected-append al [] b [] y n = refl
 corrected-append al [] b (q ∷ x) y n = let f : ⊥ = omega arith in absurd f
 corrected-append al (pos zero ∷ a) b [] y n = zero_front al (a ++ b) y ∙ ap (λ t. pos 0 ∷ t) (corrected-append al a b [] y (omega arith))
@@ -204,7 +204,7 @@ units_push i (w ∷ wait) o us = ap (λ t. (let u : UnitLeft = record { componen
 length_push' : (wait : List (List ℤ)) (o : List ℤ) → length (wait ++ o ∷ []) ≡ length wait + 1
 length_push' wait o = length-append wait (o ∷ [])
 
-nonzeros-append : (a b : List ℤ) → nonzeros_in (a ++ b) ≡ nonzeros_in a + nonzeros_in b
+pub nonzeros-append : (a b : List ℤ) → nonzeros_in (a ++ b) ≡ nonzeros_in a + nonzeros_in b
 nonzeros-append [] b = omega arith
 nonzeros-append (o ∷ a) b = omega (arith, nonzeros-append a b)
 

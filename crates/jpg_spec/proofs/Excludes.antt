@@ -14,7 +14,7 @@ use Rattle.jpg_spec.specs.Told.{values_told}
 use Rattle.jpg_spec.proofs.Once.{NumberFacts, IsCoding, OneWay, append_inj, clash, told_is, symbol_once, element_once, GoesOn, fronts_once, no_units, head_inj, pair_0, pair_1, zeros-append}
 
 -- one of two fronts of a list is a front of the other
-fronts : (a b x y : List Bool) → a ++ x ≡ b ++ y → ((more : List Bool) × (b ≡ a ++ more)) ⊎ ((more : List Bool) × (a ≡ b ++ more))
+pub fronts : (a b x y : List Bool) → a ++ x ≡ b ++ y → ((more : List Bool) × (b ≡ a ++ more)) ⊎ ((more : List Bool) × (a ≡ b ++ more))
 fronts [] b x y e = inl (b, refl)
 fronts (a ∷ as') [] x y e = inr (a ∷ as', refl)
 fronts (a ∷ as') (b ∷ bs) x y e =
@@ -28,7 +28,7 @@ fronts (a ∷ as') (b ∷ bs) x y e =
 Coded : List Code → Element → List Bool → Type 0
 Coded codes e front = (code : List Bool) × Contains codes (code, symbol_of e) × (front ≡ code ++ bits_behind e)
 
-codes_are_due : (c : Coding) (p : ℤ) (e : Element) (u : UnitLeft) (us : List UnitLeft) (here : List ℤ) (left : List UnitLeft) (codes : List Code) (front : List Bool)
+pub codes_are_due : (c : Coding) (p : ℤ) (e : Element) (u : UnitLeft) (us : List UnitLeft) (here : List ℤ) (left : List UnitLeft) (codes : List Code) (front : List Bool)
     → Tells c p e u us here left → ((u.has_dc ≡ true) × (c.refines ≡ true) → ⊥) → SpellsElement codes e front → (code : List Bool) × Contains codes (code, symbol_of e) × (front ≡ code ++ bits_behind e)
 codes_are_due c p (difference d) u us here left codes front t due s = s
 codes_are_due c p (dc_bit b) u us here left codes front t due s = absurd (due (t.2, t.3))
@@ -36,19 +36,19 @@ codes_are_due c p (value run v bits) u us here left codes front t due s = s
 codes_are_due c p (long_run bits) u us here left codes front t due s = s
 codes_are_due c p (ends bands bits) u us here left codes front t due s = s
 
-no_code : (codes : List Code) (symbol : ℕ) (b front bits y z : List Bool) → BeginsNone codes bits → (code : List Bool) × Contains codes (code, symbol) × (front ≡ code ++ b) → bits ++ z ≡ front ++ y → ⊥
+pub no_code : (codes : List Code) (symbol : ℕ) (b front bits y z : List Bool) → BeginsNone codes bits → (code : List Bool) × Contains codes (code, symbol) × (front ≡ code ++ b) → bits ++ z ≡ front ++ y → ⊥
 no_code codes symbol b front bits y z none s same =
     let e : bits ++ z ≡ s.0 ++ (b ++ y) = same ∙ ap (λ f. f ++ y) s.2 ∙ append_assoc s.0 b y in
     ⊎_elim (λ (r : (more : List Bool) × (s.0 ≡ bits ++ more)). none.1 (s.0, symbol) r.0 s.1 r.1)
     (λ (r : (more : List Bool) × (bits ≡ s.0 ++ more)). none.2 (s.0, symbol) r.0 s.1 r.1)
     (fronts bits s.0 z (b ++ y) e)
 
-or_true : (b : Bool) → (b || true) ≡ true
+pub or_true : (b : Bool) → (b || true) ≡ true
 or_true true = refl
 or_true false = refl
 
 -- the symbol of an element that may stand there is a symbol there
-right_symbol : (c : Coding) (p : ℤ) (e : Element) (u : UnitLeft) (us : List UnitLeft) (here : List ℤ) (left : List UnitLeft)
+pub right_symbol : (c : Coding) (p : ℤ) (e : Element) (u : UnitLeft) (us : List UnitLeft) (here : List ℤ) (left : List UnitLeft)
     → IsCoding c → ((u.has_dc ≡ true) × (c.refines ≡ true) → ⊥) → Tells c p e u us here left → is_symbol c u.has_dc (symbol_of e) ≡ true
 right_symbol c p (difference d) u us here left ic due t = ap (λ b. is_symbol c b (category d)) t.2 ∙ (let h = t.4 in grind (arith, nat_tests))
 right_symbol c p (dc_bit b) u us here left ic due t = absurd (due (t.2, t.3))
@@ -74,13 +74,13 @@ right_symbol c p (ends bands bits) u us here left ic due t =
     ∙ ap (λ k. k && (nat_le (16 * n / 16) c.most_run || 16 * n == 0xf0)) z
     ∙ ap (λ k. nat_le k c.most_run || 16 * n == 0xf0) q ∙ ap (λ k. k || 16 * n == 0xf0) a)
 
-first_code_once : (codes : List Code) → OneWay codes → (code code' : List Bool) (s s' : ℕ) (b y z front : List Bool) → Contains codes (code, s) → Contains codes (code', s') → front ≡ code' ++ b → code ++ z ≡ front ++ y
+pub first_code_once : (codes : List Code) → OneWay codes → (code code' : List Bool) (s s' : ℕ) (b y z front : List Bool) → Contains codes (code, s) → Contains codes (code', s') → front ≡ code' ++ b → code ++ z ≡ front ++ y
     → (code ≡ code') × (s ≡ s')
 first_code_once codes one code code' s s' b y z front h k e same =
     let q = one (code, s) (code', s') z (b ++ y) h k (same ∙ ap (λ f. f ++ y) e ∙ append_assoc code' b y) in
     (pair_0 code code' s s' q, pair_1 code code' s s' q)
 
-bad_run : (c : Coding) (p : ℤ) (e : Element) (u : UnitLeft) (us : List UnitLeft) (here : List ℤ) (left : List UnitLeft) (run size : ℕ)
+pub bad_run : (c : Coding) (p : ℤ) (e : Element) (u : UnitLeft) (us : List UnitLeft) (here : List ℤ) (left : List UnitLeft) (run size : ℕ)
     → IsCoding c → Tells c p e u us here left → u.has_dc ≡ false → 1 ≤ size → size ≤ c.most_category → zeros_in u.old ≤ run → 16 * run + size ≡ symbol_of e → ⊥
 bad_run c p (difference d) u us here left run size ic t dc low high few same = clash u.has_dc t.2 dc
 bad_run c p (dc_bit b) u us here left run size ic t dc low high few same = clash u.has_dc t.2 dc
@@ -95,7 +95,7 @@ bad_run c p (value r v bits) u us here left run size ic t dc low high few same =
 bad_run c p (long_run bits) u us here left run size ic t dc low high few same = let most = ic.0 in omega arith
 bad_run c p (ends bands bits) u us here left run size ic t dc low high few same = let most = ic.0 in omega arith
 
-past_end : (c : Coding) (p : ℤ) (e : Element) (u : UnitLeft) (us : List UnitLeft) (here : List ℤ) (left : List UnitLeft) (n m : ℕ) (x b y z : List Bool)
+pub past_end : (c : Coding) (p : ℤ) (e : Element) (u : UnitLeft) (us : List UnitLeft) (here : List ℤ) (left : List UnitLeft) (n m : ℕ) (x b y z : List Bool)
     → NumberFacts → IsCoding c → Tells c p e u us here left → u.has_dc ≡ false → n ≤ c.most_run → m < 2 ^ n → 1 + length us < 2 ^ n + m → 16 * n ≡ symbol_of e
     → bits_of n m ++ z ≡ bits_behind e ++ y → ⊥
 past_end c p (difference d) u us here left n m x b y z facts ic t dc most fits past same e = clash u.has_dc t.2 dc

@@ -51,7 +51,7 @@ no_digits zero h = h
 no_digits (suc n) h = omega arith
 
 -- a further top bit doesn't change the bits below
-bits_high : (d y : ℕ) → bits_of d (2 ^ d + y) ≡ bits_of d y
+pub bits_high : (d y : ℕ) → bits_of d (2 ^ d + y) ≡ bits_of d y
 unfolding bits_of
 bits_high zero y = refl
 bits_high (suc d) y =
@@ -61,7 +61,7 @@ bits_high (suc d) y =
     ap (λ k. bits_of d k ++ ((2 ^ suc d + y) % 2 == 1) ∷ []) q ∙ ap (λ k. k ++ ((2 ^ suc d + y) % 2 == 1) ∷ []) (bits_high d (y / 2)) ∙ ap (λ k. bits_of d (y / 2) ++ (k == 1) ∷ []) r
 
 -- a number is its top bit and what is below
-top : (b : ℕ) → 1 ≤ b → (b ≡ 2 ^ (digits b - 1) + (b - 2 ^ (digits b - 1))) × (b - 2 ^ (digits b - 1) < 2 ^ (digits b - 1))
+pub top : (b : ℕ) → 1 ≤ b → (b ≡ 2 ^ (digits b - 1) + (b - 2 ^ (digits b - 1))) × (b - 2 ^ (digits b - 1) < 2 ^ (digits b - 1))
 top b h =
     let s = some_digits b h in
     let e : digits b ≡ suc (digits b - 1) = omega arith in

@@ -97,7 +97,7 @@ three code e =
     last : (code : ℕ) → is_frame_code code ≡ true → code ≢ 0xc0 → code ≢ 0xc1 → code ≡ 0xc2
     last code e a b = grind (arith, nat_tests)
 
-no_process : (code : ℕ) → is_frame_code code ≡ false → process_of_code code ≡ None
+pub no_process : (code : ℕ) → is_frame_code code ≡ false → process_of_code code ≡ None
 no_process code e = by (code == 0xc0) (code == 0xc1) (code == 0xc2) (differs 0xc0 refl) (differs 0xc1 refl) (differs 0xc2 refl)
   where
     differs : (n : ℕ) → is_frame_code n ≡ true → (code == n) ≡ true → ⊥

@@ -21,7 +21,7 @@ abbrev pub all_pass : ℕ → (ℕ → Bool) → Bool
 all_pass zero test = true
 all_pass (suc n) test = test n && all_pass n test
 
-passed : (n : ℕ) (test : ℕ → Bool) → all_pass n test ≡ true → (k : ℕ) → k < n → test k ≡ true
+pub passed : (n : ℕ) (test : ℕ → Bool) → all_pass n test ≡ true → (k : ℕ) → k < n → test k ≡ true
 passed zero test e k h = let f : ⊥ = omega arith in absurd f
 passed (suc n) test e k h =
     let b = both (test n) (all_pass n test) e in

@@ -45,7 +45,7 @@ with_scan limits before front head contents h s allowed told =
     record { spelled = (front, head, refl, h.0, s, λ e. (let z : ⊥ = omega (arith, e) in z)); passed = (allowed, told, h.1); first = h.2 }
 
 -- a scan header that passes after the scans before it passes by itself
-scan_passed : (limits : Limits) (before : List Segment) (contents : List ℕ) → contents_rule limits before 0xda contents ≡ None → fault_in (scan_header (frame_of limits before) contents) ≡ None
+pub scan_passed : (limits : Limits) (before : List Segment) (contents : List ℕ) → contents_rule limits before 0xda contents ≡ None → fault_in (scan_header (frame_of limits before) contents) ≡ None
 scan_passed limits before contents e = by (scan_header (frame_of limits before) contents) refl e
   where
     by : (t : Told ScanHead) → scan_header (frame_of limits before) contents ≡ t → contents_rule limits before 0xda contents ≡ None → fault_in (scan_header (frame_of limits before) contents) ≡ None

@@ -6,7 +6,7 @@ use Rattle.jpg_spec.specs.Faults.{Told}
 use Rattle.jpg_spec.specs.Geometry.{Frame}
 use Rattle.jpg_spec.specs.Segments.{ScanHead}
 use Rattle.jpg_spec.specs.Markers.{Segment, SpellsMarker, code_fault, code_fault_if, has_frame, has_scan, Pass, NoMarkerBytes, ShowsSegment, TailShows}
-use Rattle.jpg_spec.specs.InForce.{no_frame, frame_of, heads_of, head_in}
+use Rattle.jpg_spec.specs.InForce.{no_frame, frame_of}
 use Rattle.jpg_spec.specs.History.{admitted, has_begun, is_complete}
 use Rattle.jpg_spec.specs.QuantContents.{◌>>=◌}
 use Rattle.jpg_spec.specs.ScanContents.{scan_header}
@@ -20,16 +20,11 @@ use Rattle.jpg_spec.specs.declared.frame.Limits.{Limits}
 use Rattle.jpg_spec.proofs.Telling.{same_of}
 use Rattle.jpg_spec.proofs.HeadersOnce.{items_of, segments_of_items}
 use Rattle.jpg_spec.proofs.SingleFrame.{neither}
+use Rattle.jpg_spec.proofs.SingleFrame.{no_heads}
 use Rattle.jpg_spec.proofs.SingleMeans.{front_items, header_leads}
 use Rattle.jpg_spec.proofs.FrameFound.{frame_found}
 
 -- BEHIND SEGMENTS ALONE no component had a scan
-
-no_heads : (f : Frame) (before : List Segment) → has_scan before ≡ false → heads_of f before ≡ []
-no_heads f [] none = refl
-no_heads f (s ∷ before) none =
-    let k = neither (s.0 == 0xda) (has_scan before) none in
-    ap (λ b. cond b (head_in f s.1 ∷ heads_of f before) (heads_of f before)) k.0 ∙ no_heads f before k.1
 
 none_begun : (count : ℕ) → (count == 0) ≡ false → all_of (has_begun []) (below count) ≡ false
 none_begun zero e = cc

@@ -19,7 +19,7 @@ one_is y x (suc k) h e = absurd (omega arith)
 pub contains_cons : {A : Type 0} (y : A) (ys : List A) (x : A) → Contains (y ∷ ys) x → (y ≡ x) ⊎ Contains ys x
 contains_cons y ys x h = ⊎_elim (λ a. inl (one_is y x a.0 a.1 a.2)) (λ b. inr b) (Contains-append_cases (y ∷ []) ys x h)
 
-contains_here : {A : Type 0} (y : A) (ys : List A) → Contains (y ∷ ys) y
+pub contains_here : {A : Type 0} (y : A) (ys : List A) → Contains (y ∷ ys) y
 contains_here y ys = (0, omega arith, refl)
 
 -- a code of the length

@@ -254,7 +254,7 @@ coded_front codes one symbol b front front' x x' s s' same =
     s.2 ∙ ap (λ k. k ++ b) (pair_0 s.0 s'.0 symbol symbol (one (s.0, symbol) (s'.0, symbol) (b ++ x) (b ++ x') s.1 s'.1 all)) ∙ sym s'.2
 
 -- the code of an element is told by the bits too
-front_once : (codes : List Code) → ((a b : Code) (x y : List Bool) → Contains codes a → Contains codes b → a.0 ++ x ≡ b.0 ++ y → a ≡ b)
+pub front_once : (codes : List Code) → ((a b : Code) (x y : List Bool) → Contains codes a → Contains codes b → a.0 ++ x ≡ b.0 ++ y → a ≡ b)
     → (e : Element) (front front' x x' : List Bool) → SpellsElement codes e front → SpellsElement codes e front' → front ++ x ≡ front' ++ x' → front ≡ front'
 front_once codes one (dc_bit b) front front' x x' s s' same = s ∙ sym s'
 front_once codes one (difference d) front front' x x' s s' same = coded_front codes one _ (bits_behind (difference d)) front front' x x' s s' same

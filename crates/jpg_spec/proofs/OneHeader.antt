@@ -43,14 +43,14 @@ closed_next rule behind b e = cc
 closed_over : (rule : Rule) (s : State) (b : ℕ) (bytes : List ℕ) → phase s ≡ closed → phase (read rule s (b ∷ bytes)) ≡ over
 closed_over rule s b bytes e = ap phase (ap (λ t. read rule t bytes) (closed_next rule s b e) ∙ read_behind rule bytes)
 
-not_closed : (p : Phase) → p ≡ over → p ≡ closed → ⊥
+pub not_closed : (p : Phase) → p ≡ over → p ≡ closed → ⊥
 not_closed p e h = let z : over ≡ closed = sym e ∙ h in cc
 
 not_going : (p : Phase) → p ≡ over → p ≡ going → ⊥
 not_going p e h = let z : over ≡ going = sym e ∙ h in cc
 
 -- of the fronts of some bytes one at most says what they are
-closed_once : (rule : Rule) (s : State) (a b x y : List ℕ) → phase (read rule s a) ≡ closed → phase (read rule s b) ≡ closed → a ++ x ≡ b ++ y → a ≡ b
+pub closed_once : (rule : Rule) (s : State) (a b x y : List ℕ) → phase (read rule s a) ≡ closed → phase (read rule s b) ≡ closed → a ++ x ≡ b ++ y → a ≡ b
 closed_once rule s [] [] x y h k e = refl
 closed_once rule s [] (d ∷ b) x y h k e = absurd (not_closed (phase (read rule s (d ∷ b))) (closed_over rule s d b h) k)
 closed_once rule s (c ∷ a) [] x y h k e = absurd (not_closed (phase (read rule s (c ∷ a))) (closed_over rule s c a k) h)
@@ -59,14 +59,14 @@ closed_once rule s (c ∷ a) (d ∷ b) x y h k e =
     ap (λ n. n ∷ a) g.0 ∙ ap (λ l. d ∷ l) (closed_once rule (next rule s d) a b x y (subst (λ n. phase (read rule (next rule s n) a) ≡ closed) g.0 h) k g.1)
 
 -- and behind it no more may follow
-going_front : (rule : Rule) (s : State) (a x : List ℕ) → phase (read rule s a) ≡ closed → phase (read rule s (a ++ x)) ≡ going → ⊥
+pub going_front : (rule : Rule) (s : State) (a x : List ℕ) → phase (read rule s a) ≡ closed → phase (read rule s (a ++ x)) ≡ going → ⊥
 going_front rule s a x h k = by x (sym (ap phase (read_both rule s a x)) ∙ k)
   where
     by : (x : List ℕ) → phase (read rule (read rule s a) x) ≡ going → ⊥
     by [] g = let z : closed ≡ going = sym h ∙ g in cc
     by (b ∷ x) g = not_going (phase (read rule (read rule s a) (b ∷ x))) (closed_over rule (read rule s a) b x h) g
 
-part_going : (s : State) → called s ≡ Some at_part → phase s ≡ going
+pub part_going : (s : State) → called s ≡ Some at_part → phase s ≡ going
 part_going starts e = refl
 part_going starting e = refl
 part_going (whole before) e = refl

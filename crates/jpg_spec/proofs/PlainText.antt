@@ -125,7 +125,7 @@ narrow (q ∷ quants) all =
     small : (q : ℕ) → q ≤ 255 → nat_lt 255 q ≡ false
     small q h = grind (arith, nat_tests)
 
-equal_itself : (xs : List ℕ) → are_equal xs xs ≡ true
+pub equal_itself : (xs : List ℕ) → are_equal xs xs ≡ true
 equal_itself [] = refl
 equal_itself (x ∷ xs) = ap (λ b. b && are_equal xs xs) (same x) ∙ equal_itself xs
   where

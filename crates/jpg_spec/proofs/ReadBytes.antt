@@ -157,25 +157,25 @@ read_between rule bytes before tail w =
 
 -- WHAT SHOWS A FAULT is read as this fault
 
-read_no_start : (rule : Rule) (bytes : List ℕ) → ShowsNoStart bytes → read rule starts bytes ≡ stopped NotJpeg
+pub read_no_start : (rule : Rule) (bytes : List ℕ) → ShowsNoStart bytes → read rule starts bytes ≡ stopped NotJpeg
 read_no_start rule bytes (inl s) = ap (λ l. read rule starts l) s.1 ∙ ap (λ t. cond t starting (stopped NotJpeg)) (test_no s.0 255 s.2)
 read_no_start rule bytes (inr s) = ap (λ l. read rule starts l) s.1 ∙ ap (λ t. cond t (whole []) (stopped NotJpeg)) (test_no s.0 0xd8 s.2)
 
-read_no_marker : (rule : Rule) (before : List Segment) (tail : List ℕ) → NoMarkerBytes tail → read rule (whole before) tail ≡ stopped NoMarker
+pub read_no_marker : (rule : Rule) (before : List Segment) (tail : List ℕ) → NoMarkerBytes tail → read rule (whole before) tail ≡ stopped NoMarker
 read_no_marker rule before tail (inl s) = ap (λ l. read rule (whole before) l) s.1 ∙ ap (λ t. cond t (filling before) (stopped NoMarker)) (test_no s.0 255 s.2)
 read_no_marker rule before tail (inr s) = ap (λ l. read rule (whole before) l) s.1 ∙ read_filled rule before s.0 0 (λ h. omega (arith, h))
 
-read_code : (rule : Rule) (before : List Segment) (fault : Fault) (tail : List ℕ) → ShowsCode before fault tail → read rule (whole before) tail ≡ stopped fault
+pub read_code : (rule : Rule) (before : List Segment) (fault : Fault) (tail : List ℕ) → ShowsCode before fault tail → read rule (whole before) tail ≡ stopped fault
 read_code rule before fault tail s = read_marker rule before s.0 tail s.1 ∙ ap (λ f. allowed before s.0 f) s.2
 
-read_short : (rule : Rule) (before : List Segment) (tail : List ℕ) → ShowsLength before tail → read rule (whole before) tail ≡ stopped BadLength
+pub read_short : (rule : Rule) (before : List Segment) (tail : List ℕ) → ShowsLength before tail → read rule (whole before) tail ≡ stopped BadLength
 read_short rule before tail s =
     let few = s.6 in
     let n = two_bytes s.2 s.3 in
     let two : nat_lt n 2 ≡ true = grind (arith, nat_tests) in
     ap (λ l. read rule (whole before) l) s.5 ∙ read_length rule before s.0 s.2 s.3 s.1 s.4 ∙ ap (λ t. cond t (stopped BadLength) (taken rule before s.0 (n - 2) [])) two
 
-read_broken : (rule : Rule) (before : List Segment) (fault : Fault) (tail : List ℕ) → ShowsSegment rule before fault tail → read rule (whole before) tail ≡ stopped fault
+pub read_broken : (rule : Rule) (before : List Segment) (fault : Fault) (tail : List ℕ) → ShowsSegment rule before fault tail → read rule (whole before) tail ≡ stopped fault
 read_broken rule before fault tail s = read_segment rule before s.0 s.1 tail s.2 s.3 s.4 ∙ ap (λ f. judged before s.0 s.1 f) s.5
 
 pub read_tail_fault : (rule : Rule) (before : List Segment) (fault : Fault) (tail : List ℕ) → TailShows rule before fault tail → read rule (whole before) tail ≡ stopped fault
@@ -196,7 +196,7 @@ read_fault rule bytes fault (inr s) = read_between rule bytes s.0 s.1 s.2 ∙ by
 pub read_eoi : (rule : Rule) (bytes : List ℕ) → Reaches rule bytes at_eoi → read rule starts bytes ≡ ended
 read_eoi rule bytes s = read_between rule bytes s.0 s.1 s.2 ∙ read_marker rule s.0 0xd9 s.1 s.3 ∙ ap (λ f. allowed s.0 0xd9 f) s.4
 
-called_part : (rule : Rule) (before : List Segment) (tail : List ℕ) → PartOfSegment before tail → (tail ≡ [] → ⊥) → called (read rule (whole before) tail) ≡ Some at_part
+pub called_part : (rule : Rule) (before : List Segment) (tail : List ℕ) → PartOfSegment before tail → (tail ≡ [] → ⊥) → called (read rule (whole before) tail) ≡ Some at_part
 called_part rule before tail (inl s) n = by s.0 s.1
   where
     by : (fill : ℕ) → tail ≡ replicate fill 255 → called (read rule (whole before) tail) ≡ Some at_part

@@ -43,7 +43,7 @@ flat_map_map f g (x ∷ xs) = map-append g (f x) (flat_map f xs) ∙ ap (λ t. m
 
 -- THE NUMBERS BELOW ONE
 
-length_below : (n : ℕ) → length (below n) ≡ n
+pub length_below : (n : ℕ) → length (below n) ≡ n
 length_below zero = refl
 length_below (suc n) = omega (arith, length-append (below n) (n ∷ []), length_below n)
 

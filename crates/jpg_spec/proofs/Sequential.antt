@@ -101,7 +101,7 @@ pub record AreChosen (c : Coding) (chosen : Owned → List Bool) : Type 0 where
   pub first : (i : ℕ) (d : ℤ) → chosen (i, difference d) ≡ code_of (c.dc i) (category d) ++ extra_bits d
   pub others : (i : ℕ) → IsChosen (c.ac i) (λ e. chosen (i, e))
 
-dc_predicted : (p : ℕ → ℤ) (i : ℕ) (w : ℤ) → ((j : ℕ) → IsDc (p j)) → IsDc w → (j : ℕ) → IsDc (with_prediction p i w j)
+pub dc_predicted : (p : ℕ → ℤ) (i : ℕ) (w : ℤ) → ((j : ℕ) → IsDc (p j)) → IsDc w → (j : ℕ) → IsDc (with_prediction p i w j)
 dc_predicted p i w all h j = by (j == i)
   where
     by : (b : Bool) → IsDc (cond b w (p j))

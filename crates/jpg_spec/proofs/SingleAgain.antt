@@ -40,7 +40,7 @@ use Rattle.jpg_spec.proofs.SingleForce.{frame_of_is, written_header, written_sin
 
 -- THE BLOCKS can be written
 
-same_within : (c d : Coding) → c.bounds ≡ d.bounds → (has_dc : Bool) (told : List ℤ) → are_in_bounds c has_dc told ≡ are_in_bounds d has_dc told
+pub same_within : (c d : Coding) → c.bounds ≡ d.bounds → (has_dc : Bool) (told : List ℤ) → are_in_bounds c has_dc told ≡ are_in_bounds d has_dc told
 same_within c d e has_dc [] = refl
 same_within c d e true (v ∷ told) =
     ap (λ (b : Bounds). int_le b.dc_low v && int_le v b.dc_high && are_in_bounds c false told) e

@@ -152,7 +152,7 @@ one_named f (count ∷ bytes) head w e =
 
 -- THE FIRST SCAN of the file is admitted
 
-no_heads : (f : Frame) (before : List Segment) → has_scan before ≡ false → heads_of f before ≡ []
+pub no_heads : (f : Frame) (before : List Segment) → has_scan before ≡ false → heads_of f before ≡ []
 no_heads f [] e = refl
 no_heads f (s ∷ before) e =
     let k = neither (s.0 == 0xda) (has_scan before) e in

@@ -189,7 +189,7 @@ within_kept limits before code contents h = by (is_kept before code contents) (l
     by true e = ap (λ c. cond c (Some MarkersTooLarge) None) e
     by false e = refl
 
-passes_more : (limits : Limits) (s : Segment) (before : List Segment) → ArePassedOn (s ∷ before) → kept_count (s ∷ before) ≤ limits.kept → Pass (header_rule limits) before → Pass (header_rule limits) (s ∷ before)
+pub passes_more : (limits : Limits) (s : Segment) (before : List Segment) → ArePassedOn (s ∷ before) → kept_count (s ∷ before) ≤ limits.kept → Pass (header_rule limits) before → Pass (header_rule limits) (s ∷ before)
 unfolding ArePassedOn
 passes_more limits s before are few p =
     let same = all_kept before are.2 in
@@ -231,7 +231,7 @@ abbrev pub may_keep : ℕ → Bool
 may_keep code = code == 0xfe || is_within 0xe0 0xef code
 
 -- kept markers are judged by their rule alone
-kept_alone : (limits : Limits) (before : List Segment) (code : ℕ) (contents : List ℕ) → may_keep code ≡ true → header_rule limits before code contents ≡ kept_rule limits before code contents
+pub kept_alone : (limits : Limits) (before : List Segment) (code : ℕ) (contents : List ℕ) → may_keep code ≡ true → header_rule limits before code contents ≡ kept_rule limits before code contents
 kept_alone limits before code contents e =
     skipped (code == 0xda) _ _ (differs 0xda refl) ∙ skipped (code == 0xc4) _ _ (differs 0xc4 refl) ∙ skipped (code == 0xdb) _ _ (differs 0xdb refl) ∙ skipped (code == 0xdd) _ _ (differs 0xdd refl)
     ∙ skipped (code == 0xda) _ _ (differs 0xda refl) ∙ skipped (code == 0xc0) _ _ (differs 0xc0 refl) ∙ skipped (code == 0xc1) _ _ (differs 0xc1 refl) ∙ skipped (code == 0xc2) _ _ (differs 0xc2 refl)

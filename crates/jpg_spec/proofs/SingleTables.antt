@@ -195,19 +195,19 @@ unfoldable pub AreTwoBytes : QuantTable → Type 0
 AreTwoBytes [] = Unit {0}
 AreTwoBytes (q ∷ table) = (q < 65536) × AreTwoBytes table
 
-pairs_again : (table : QuantTable) → AreTwoBytes table → pairs_told (flat_map (to_be_bytes w16) table) ≡ table
+pub pairs_again : (table : QuantTable) → AreTwoBytes table → pairs_told (flat_map (to_be_bytes w16) table) ≡ table
 unfolding AreTwoBytes
 pairs_again [] are = refl
 pairs_again (q ∷ table) are =
     let e : two_bytes (q / 256 % 256) (q % 256) ≡ q = omega (arith, are.0) in
     ap (λ n. n ∷ pairs_told (flat_map (to_be_bytes w16) table)) e ∙ ap (λ ns. q ∷ ns) (pairs_again table are.1)
 
-length_pairs_written : (table : QuantTable) → length (flat_map (to_be_bytes w16) table) ≡ length table + length table
+pub length_pairs_written : (table : QuantTable) → length (flat_map (to_be_bytes w16) table) ≡ length table + length table
 length_pairs_written [] = refl
 length_pairs_written (q ∷ table) = omega (arith, length-append (to_be_bytes w16 q) (flat_map (to_be_bytes w16) table), length_pairs_written table)
 
 -- bytes of one table alone
-one_table : (pt : ℕ) (bytes : List ℕ) (table : QuantTable) → IsQuants table → (nat_lt 1 (pt / 16) || nat_lt 3 (pt % 16)) ≡ false → length bytes ≡ table_size pt → table_entries pt bytes ≡ table
+pub one_table : (pt : ℕ) (bytes : List ℕ) (table : QuantTable) → IsQuants table → (nat_lt 1 (pt / 16) || nat_lt 3 (pt % 16)) ≡ false → length bytes ≡ table_size pt → table_entries pt bytes ≡ table
     → quant_tables (pt ∷ bytes) ≡ Ok ((pt % 16, table) ∷ [])
 unfolding quant_table_of quant_tables_of
 one_table pt bytes table is ok l e =

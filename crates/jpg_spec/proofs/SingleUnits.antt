@@ -18,6 +18,7 @@ use Rattle.jpg_spec.proofs.Rows.{map_map, joined, flat_map_map, cut_into, by_ite
 use Rattle.jpg_spec.proofs.Turned.{lt_yes, lt_no, not_zero}
 use Rattle.jpg_spec.proofs.PlainText.{places_in}
 use Rattle.jpg_spec.proofs.SingleFrame.{same_itself, IsWhole, across_is, down_is}
+use Rattle.jpg_spec.proofs.PlacesFound.{or_second}
 
 -- THE PLACES of the scan, row by row
 
@@ -48,17 +49,13 @@ all_places P f w h each = rows h (omega arith)
         subst (λ ps. All P ps) (sym (flat_map-append g (below n) (n ∷ []))) (All-append P (flat_map g (below n)) (g n ++ []) (rows n (omega (arith, l))) last)
 
 -- a place among them
-any_append : {A : Type 0} (t : A → Bool) (xs ys : List A) → any_of t (xs ++ ys) ≡ (any_of t xs || any_of t ys)
+pub any_append : {A : Type 0} (t : A → Bool) (xs ys : List A) → any_of t (xs ++ ys) ≡ (any_of t xs || any_of t ys)
 any_append t [] ys = refl
 any_append t (x ∷ xs) ys = by (t x) (any_append t xs ys)
   where
     by : (b : Bool) → any_of t (xs ++ ys) ≡ (any_of t xs || any_of t ys) → (b || any_of t (xs ++ ys)) ≡ ((b || any_of t xs) || any_of t ys)
     by true e = refl
     by false e = e
-
-or_right : (a b : Bool) → b ≡ true → (a || b) ≡ true
-or_right true b e = refl
-or_right false b e = e
 
 any_below : {A : Type 0} (t : A → Bool) (g : ℕ → List A) (n x : ℕ) → x < n → any_of t (g x) ≡ true → any_of t (flat_map g (below n)) ≡ true
 any_below t g zero x h e = absurd (omega (arith, h))
@@ -67,7 +64,7 @@ any_below t g (suc n) x h e =
     ∙ ⊎_elim
     (λ (k : x < n). ap (λ b. b || any_of t (g n ++ [])) (any_below t g n x k e))
     (λ (k : n ≤ x). (let s : x ≡ n = omega (arith, h, k) in
-    or_right (any_of t (flat_map g (below n))) (any_of t (g n ++ [])) (ap (any_of t) (append-nil (g n)) ∙ ap (λ m. any_of t (g m)) (sym s) ∙ e)))
+    or_second (any_of t (flat_map g (below n))) (any_of t (g n ++ [])) (ap (any_of t) (append-nil (g n)) ∙ ap (λ m. any_of t (g m)) (sym s) ∙ e)))
     (cases_lt x n)
 
 any_at : {A : Type 0} (t : A → Bool) (g : ℕ → A) (n x : ℕ) → x < n → t (g x) ≡ true → any_of t (map g (below n)) ≡ true

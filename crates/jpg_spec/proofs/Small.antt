@@ -14,7 +14,7 @@ use Rattle.jpg_spec.specs.Elements.{is_zero, scaled}
 use Rattle.jpg_spec.specs.Sending.{shifted, divided}
 use Rattle.jpg_spec.proofs.Facts.{above_digits, some_digits}
 
-few_digits : (k n : ℕ) → n < 2 ^ k → digits n ≤ k
+pub few_digits : (k n : ℕ) → n < 2 ^ k → digits n ≤ k
 unfolding digits
 few_digits k zero h = omega arith
 few_digits k (suc n) h =

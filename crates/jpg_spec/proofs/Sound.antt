@@ -32,11 +32,11 @@ pub one_table : (counts symbols : List ℕ) → AreCodes 1 0 counts → OneWay (
 unfolding codes
 one_table counts symbols are = λ a b x y h k e. one_code counts 1 0 symbols a b x y are h k e
 
-one_way : (table : List Code) → AreTableCodes table → OneWay table
+pub one_way : (table : List Code) → AreTableCodes table → OneWay table
 one_way table (inl e) = subst (λ t. OneWay t) (sym e) (λ a b x y h k e. absurd (contains_none a h))
 one_way table (inr t) = subst (λ t. OneWay t) (sym t.3) (one_table t.0 t.1 t.2)
 
-one_due : (c : Coding) (u : UnitLeft) (has_dc : Bool) → IsSound c → OneWay (cond has_dc (c.dc u.component) (c.ac u.component))
+pub one_due : (c : Coding) (u : UnitLeft) (has_dc : Bool) → IsSound c → OneWay (cond has_dc (c.dc u.component) (c.ac u.component))
 one_due c u true s = one_way (c.dc u.component) (s.dc u.component)
 one_due c u false s = one_way (c.ac u.component) (s.ac u.component)
 

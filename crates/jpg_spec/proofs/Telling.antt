@@ -9,6 +9,7 @@ use Rattle.jpg_spec.specs.Codes.{Code, first_code}
 use Rattle.jpg_spec.specs.Numbers.{category, digits}
 use Rattle.jpg_spec.specs.Elements.{Coding, UnitLeft, Element, difference, dc_bit, value, long_run, ends, Covers, Tells, SpellsElement, codes_due, zeros_in, nonzeros_in, old_values, predictions_after, are_in_bounds}
 use Rattle.jpg_spec.specs.Told.{before_zero, behind_zero, long_passed, long_left, may_stand, values_told, units_after, with_code, spelling, ToldBy, before_told, told_by}
+use Rattle.jpg_spec.proofs.Levels.{contains_here}
 
 pub both : (a b : Bool) → (a && b) ≡ true → (a ≡ true) × (b ≡ true)
 both true b e = (refl, e)
@@ -34,7 +35,7 @@ behind_step : (o : ℤ) (n : ℕ) (old : List ℤ) → drop (suc n + 1) (o ∷ o
 behind_step o n old = let e : suc n + 1 ≡ suc (n + 1) = omega arith in ap (λ k. drop k (o ∷ old)) e
 
 -- the value at the (run + 1)th zero
-at_zero : (run : ℕ) (old : List ℤ) → run < zeros_in old → (old ≡ before_zero run old ++ pos 0 ∷ behind_zero run old) × (zeros_in (before_zero run old) ≡ run)
+pub at_zero : (run : ℕ) (old : List ℤ) → run < zeros_in old → (old ≡ before_zero run old ++ pos 0 ∷ behind_zero run old) × (zeros_in (before_zero run old) ≡ run)
 at_zero run [] h = let f : ⊥ = omega arith in absurd f
 at_zero zero (pos zero ∷ old) h = (refl, refl)
 at_zero zero (pos (suc n) ∷ old) h =
@@ -121,9 +122,6 @@ tells c prediction (ends bands bits) u units h =
     )
 
 -- THE CODES
-
-contains_here : {A : Type 0} (y : A) (ys : List A) → Contains (y ∷ ys) y
-contains_here y ys = (0, omega arith, refl)
 
 found_here : (code : Code) (symbol : ℕ) (rest : Option (List Bool)) → code.1 ≡ symbol → cond (code.1 == symbol) (Some code.0) rest ≡ Some code.0
 found_here code symbol rest e = grind (arith, nat_tests)

@@ -62,7 +62,7 @@ going c u [] units here more l join w = (here ++ [], more, ap (λ t. t ++ more) 
 going c u (o ∷ old) units here more l join w =
     (here ++ w.0, w.1, ap (λ t. here ++ t) w.2 ∙ sym (append_assoc here w.0 w.1), omega (arith, l, length-append here w.0, w.3), join w.0 w.4, w.5)
 
-length_corrected : (al : ℕ) (old : List ℤ) (bits : List Bool) → length (corrected al old bits) ≡ length old
+pub length_corrected : (al : ℕ) (old : List ℤ) (bits : List Bool) → length (corrected al old bits) ≡ length old
 length_corrected al [] bits = refl
 length_corrected al (o ∷ old) [] = ap suc (length_corrected al old [])
 length_corrected al (o ∷ old) (b ∷ bits) = by (is_zero o) (length_corrected al old (b ∷ bits)) (length_corrected al old bits)
@@ -77,8 +77,16 @@ one_band bands h k =
     let b = below_digits bands in
     omega (arith, p, b, h)
 
--- an element keeps it so, where an EOB ends one band
-step : (c : Coding) (p : ℤ) (e : Element) (u : UnitLeft) (units : List UnitLeft) (here : List ℤ) (left : List UnitLeft) (more : List ℤ) → c.most_run ≡ 0
+-- an EOB ends one band
+abbrev pub EndsOne : Element → Type 0
+EndsOne (difference d) = Unit {0}
+EndsOne (dc_bit b) = Unit {0}
+EndsOne (value run v bits) = Unit {0}
+EndsOne (long_run bits) = Unit {0}
+EndsOne (ends bands bits) = bands ≡ 1
+
+-- an element keeps it so
+pub step : (c : Coding) (p : ℤ) (e : Element) (u : UnitLeft) (units : List UnitLeft) (here : List ℤ) (left : List UnitLeft) (more : List ℤ) → EndsOne e
     → Tells c p e u units here left → are_in_bounds c u.has_dc here ≡ true → AreWithin c left more → AreWithin c (u ∷ units) (here ++ more)
 step c p (difference d) u units here left more run t ok w =
     going c u t.1 units here more (omega (arith, ap length t.5, ap length t.6)) (joins_dc c u.has_dc here _ t.2 t.6 ok) (subst (λ l. AreWithin c l more) t.7 w)
@@ -100,17 +108,24 @@ step c p (long_run bits) u units here left more run t ok w =
     sixteen all passed old (inl f) = omega (arith, ap length f.1, length-append f.0 (pos 0 ∷ old), ap length f.3, length-append f.0 (pos 0 ∷ []))
     sixteen all passed old (inr f) = omega (arith, ap length f.0, ap length f.2)
 step c p (ends bands bits) u units here left more run t ok w =
-    let one : bands ≡ 1 = one_band bands t.1 (omega (arith, t.2, run)) in
+    let one : bands ≡ 1 = run in
     let told : here ≡ corrected c.al (u.old ++ []) bits = t.5 ∙ ap (λ n. corrected c.al (old_values (take n (u ∷ units))) bits) one in
     let rest : left ≡ units = t.6 ∙ ap (λ n. drop n (u ∷ units)) one in
     let l : length here ≡ length u.old = ap length told ∙ length_corrected c.al (u.old ++ []) bits ∙ ap length (append-nil u.old) in
     (here, more, refl, l, ok, subst (λ l. AreWithin c l more) rest w)
 
+pub ends_one : (c : Coding) (p : ℤ) (e : Element) (u : UnitLeft) (units : List UnitLeft) (here : List ℤ) (left : List UnitLeft) → c.most_run ≡ 0 → Tells c p e u units here left → EndsOne e
+ends_one c p (difference d) u units here left run t = tt
+ends_one c p (dc_bit b) u units here left run t = tt
+ends_one c p (value run' v bits) u units here left run t = tt
+ends_one c p (long_run bits) u units here left run t = tt
+ends_one c p (ends bands bits) u units here left run t = one_band bands t.1 (omega (arith, t.2, run))
+
 pub covers_within : (c : Coding) (s t : Standing) (es : List Element) (told : List ℤ) (bits : List Bool) → c.most_run ≡ 0 → Covers c s es told bits t → t.left ≡ [] → AreWithin c s.left told
 covers_within c s t [] told bits run k none = subst (λ l. AreWithin c l told) (sym (ap (λ (q : Standing). q.left) (sym k.2) ∙ none)) k.0
 covers_within c s t (e ∷ es) told bits run k none =
     let ih = covers_within c (record { predictions = predictions_after s.predictions (k.0).component e; left = k.3 }) t es k.4 k.6 run k.13 none in
-    let here : AreWithin c (k.0 ∷ k.1) (k.2 ++ k.4) = step c (s.predictions (k.0).component) e k.0 k.1 k.2 k.3 k.4 run k.11 k.12 ih in
+    let here : AreWithin c (k.0 ∷ k.1) (k.2 ++ k.4) = step c (s.predictions (k.0).component) e k.0 k.1 k.2 k.3 k.4 (ends_one c (s.predictions (k.0).component) e k.0 k.1 k.2 k.3 run k.11) k.11 k.12 ih in
     subst (λ l. AreWithin c l told) (sym k.7) (subst (λ x. AreWithin c (k.0 ∷ k.1) x) (sym k.8) here)
 
 -- BLOCKS

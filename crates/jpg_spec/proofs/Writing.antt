@@ -27,16 +27,16 @@ abbrev pub AllHave : List Code → List Element → Type 0
 AllHave codes [] = Unit {0}
 AllHave codes (e ∷ es) = ((code : List Bool) × Contains codes (code, symbol_of e)) × AllHave codes es
 
-zeros_push : (pre : List ℤ) (o : ℤ) → zeros_in (pre ++ o ∷ []) ≡ zeros_in pre + (cond (is_zero o) 1 0)
+pub zeros_push : (pre : List ℤ) (o : ℤ) → zeros_in (pre ++ o ∷ []) ≡ zeros_in pre + (cond (is_zero o) 1 0)
 zeros_push [] o = omega arith
 zeros_push (p ∷ pre) o = omega (arith, zeros_push pre o)
 
-nonzeros_push : (pre : List ℤ) (o : ℤ) → nonzeros_in (pre ++ o ∷ []) ≡ nonzeros_in pre + (cond (is_zero o) 0 1)
+pub nonzeros_push : (pre : List ℤ) (o : ℤ) → nonzeros_in (pre ++ o ∷ []) ≡ nonzeros_in pre + (cond (is_zero o) 0 1)
 nonzeros_push [] o = omega arith
 nonzeros_push (p ∷ pre) o = omega (arith, nonzeros_push pre o)
 
 -- a further correction, and a further zero
-corrected_push : (al : ℕ) (pre : List ℤ) (cs : List Bool) (o : ℤ) (b : Bool) → is_zero o ≡ false → nonzeros_in pre ≡ length cs → corrected al (pre ++ o ∷ []) (cs ++ b ∷ []) ≡ corrected al pre cs ++ grown al b o ∷ []
+pub corrected_push : (al : ℕ) (pre : List ℤ) (cs : List Bool) (o : ℤ) (b : Bool) → is_zero o ≡ false → nonzeros_in pre ≡ length cs → corrected al (pre ++ o ∷ []) (cs ++ b ∷ []) ≡ corrected al pre cs ++ grown al b o ∷ []
 corrected_push al [] [] o b z n = ap (λ t. cond t (o ∷ []) (grown al b o ∷ [])) z
 corrected_push al [] (x ∷ cs) o b z n = let f : ⊥ = omega arith in absurd f
 corrected_push al (pos zero ∷ pre) [] o b z n = ap (λ t. pos zero ∷ t) (corrected_push al pre [] o b z (omega arith))
@@ -46,7 +46,7 @@ corrected_push al (pos (suc m) ∷ pre) (x ∷ cs) o b z n = ap (λ t. grown al 
 corrected_push al (negsuc m ∷ pre) [] o b z n = let f : ⊥ = omega arith in absurd f
 corrected_push al (negsuc m ∷ pre) (x ∷ cs) o b z n = ap (λ t. grown al x (negsuc m) ∷ t) (corrected_push al pre cs o b z (omega arith))
 
-corrected_zero : (al : ℕ) (pre : List ℤ) (cs : List Bool) → nonzeros_in pre ≡ length cs → corrected al (pre ++ pos 0 ∷ []) cs ≡ corrected al pre cs ++ pos 0 ∷ []
+pub corrected_zero : (al : ℕ) (pre : List ℤ) (cs : List Bool) → nonzeros_in pre ≡ length cs → corrected al (pre ++ pos 0 ∷ []) cs ≡ corrected al pre cs ++ pos 0 ∷ []
 corrected_zero al [] [] n = refl
 corrected_zero al [] (x ∷ cs) n = refl
 corrected_zero al (pos zero ∷ pre) [] n = ap (λ t. pos zero ∷ t) (corrected_zero al pre [] (omega arith))

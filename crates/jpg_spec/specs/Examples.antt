@@ -1,12 +1,17 @@
 -- WORKED EXAMPLES: small pictures, the bytes of their files, and where the blocks of a mirrored picture stand.
-use Rattle.std.specs.Prelude.{ℕ, true, false, List, [], ◌∷◌, ◌++◌, replicate, ℤ, pos, negsuc}
+use Rattle.std.specs.Prelude.{ℕ, zero, suc, ◌+◌, ◌*◌, ◌==◌, if◌then◌else◌, true, false, List, [], ◌∷◌, ◌++◌, replicate, slice_index_or, ℤ, pos, negsuc}
 use Rattle.jpg_spec.specs.Geometry.{Frame}
 use Rattle.jpg_spec.specs.Elements.{zeros}
 use Rattle.jpg_spec.specs.Scan.{Blocks}
 use Rattle.jpg_spec.specs.Meaning.{Meaning, picture_frame}
-use Rattle.jpg_spec.specs.GrayFile.{Gray, gray_front, end_of_image}
+use Rattle.jpg_spec.specs.GrayFile.{Gray, gray_front, end_of_image, gray_meaning, sequential_text}
+use Rattle.jpg_spec.specs.Moves.{headed}
+use Rattle.jpg_spec.specs.Transforms.{transformed}
+use Rattle.jpg_spec.specs.declared.transform.Transform.{Transform}
 use Rattle.jpg_spec.specs.declared.frame.Process.TheVariants.{Baseline}
 use Rattle.jpg_spec.specs.declared.frame.Place.{Place}
+use Rattle.jpg_spec.specs.declared.image.ImageKind.TheVariants as image
+use Rattle.jpg_spec.specs.declared.image.ImageInfo.{ImageInfo}
 
 -- all quantisers 1
 abbrev pub ones : List ℕ
@@ -82,3 +87,35 @@ abbrev pub three_units : List Place
 three_units =
     real_at 0 0 0 ∷ real_at 0 1 0 ∷ real_at 0 0 1 ∷ real_at 0 1 1 ∷ real_at 1 0 0 ∷ real_at 2 0 0 ∷
     real_at 0 2 0 ∷ padding_at 0 3 0 ∷ real_at 0 2 1 ∷ padding_at 0 3 1 ∷ real_at 1 1 0 ∷ real_at 2 1 0 ∷ []
+
+-- 7 by 8, one block
+abbrev pub narrow : List ℤ → Meaning
+narrow block = record {
+  process = Baseline;
+  precision = 8;
+  width = 7;
+  height = 8;
+  components = record { id = 1; h = 1; v = 1; quants = ones } ∷ [];
+  blocks = λ i x y. block;
+  kept = [];
+}
+
+-- the file of the picture with 5 and 2, transformed
+abbrev pub two_transformed : Transform → List ℕ
+two_transformed t = sequential_text (headed (transformed t (gray_meaning two_values)))
+
+-- the three components with blocks of a DC value alone, row by row
+abbrev pub flat_values : ℕ → List ℤ
+flat_values zero = pos 100 ∷ negsuc 199 ∷ pos 300 ∷ negsuc 399 ∷ pos 500 ∷ negsuc 599 ∷ []
+flat_values (suc zero) = pos 200 ∷ negsuc 99 ∷ []
+flat_values (suc (suc i)) = negsuc 299 ∷ pos 400 ∷ []
+
+abbrev pub flat_picture : Meaning
+flat_picture = three_components (λ i x y. flat_block (slice_index_or (flat_values i) (if i == 0 then 3 * y + x else x) (pos 0)))
+
+-- an image of 8 by 8 gray pixels of 128, and one of 3 by 1 colours
+abbrev pub gray_square : ImageInfo
+gray_square = record { width = 8; height = 8; kind = image.Gray; x_metre = 0; y_metre = 0 }
+
+abbrev pub gray_rows : List (List ℕ)
+gray_rows = replicate 8 (replicate 8 128)

@@ -1,5 +1,5 @@
 -- THE FIRST FAULT of a file: the least front of the bytes that shows a fault, and the first of the faults in their order that this front shows.
--- No clause speaks of a reader or of cuts. Each says how some first bytes are made, up to and with the byte that shows the fault.
+-- No clause speaks of a reader or of cuts. Each says how first bytes are made that show the fault.
 -- A file that ends early is no file and shows no fault with any of its bytes: its fault stands at its end alone.
 use Rattle.std.specs.Prelude.{◌≡◌, ◌⊎◌, ℕ, ◌+◌, ◌%◌, ◌<◌, ◌≤◌, Bool, false, List, [], ◌∷◌, ◌++◌, length, take, map, None, ℤ}
 use Rattle.jpg_spec.specs.Bits.{Packs, bits_of_bytes}
@@ -78,7 +78,8 @@ ScanShows limits bytes fault tail w =
 
 -- THE FIRST FAULT
 
--- These bytes show the fault, with their last one. (The faults of the input's end aside.)
+-- These bytes show the fault. All but faults of scan data and ExtraData are shown with the last byte alone; those are shown by all longer data of
+-- their interval too, so that the least front is the one that shows them first. (The faults of the input's end aside.)
 abbrev pub Shows : Limits → Fault → List ℕ → Type 0
 Shows limits fault bytes =
     ((fault ≡ NotJpeg) × ShowsNoStart bytes)

@@ -1,5 +1,5 @@
 -- A frame's header, what its numbers bound, and where the blocks of a scan stand (T.81 A.1, A.2, B.2.2).
-use Rattle.std.specs.Prelude.{ℕ, ◌+◌, ◌-◌, ◌*◌, ◌/◌, Bool, true, false, nat_lt, ◌&&◌, List, [], ◌∷◌, slice_index_or, map, sum_by, max, flat_map, pos, neg_ℤ}
+use Rattle.std.specs.Prelude.{◌<◌, length, ℕ, ◌+◌, ◌-◌, ◌*◌, ◌/◌, Bool, true, false, nat_lt, ◌&&◌, List, [], ◌∷◌, slice_index_or, map, sum_by, max, flat_map, pos, neg_ℤ}
 use Rattle.jpg_spec.specs.Lists.{below}
 use Rattle.jpg_spec.specs.declared.frame.Process.{Process}
 use Rattle.jpg_spec.specs.declared.frame.Process.TheVariants.{Baseline, Extended, Progressive}
@@ -66,6 +66,12 @@ component_at f i = slice_index_or f.components i no_component
 
 abbrev pub is_real : Frame → ℕ → ℕ → ℕ → Bool
 is_real f i x y = nat_lt x (blocks_across f (component_at f i)) && nat_lt y (blocks_down f (component_at f i))
+
+-- a place of a component's real grid
+pub record IsReal (f : Frame) (i x y : ℕ) : Type 0 where
+  pub component : i < length f.components
+  pub across : x < blocks_across f (component_at f i)
+  pub down : y < blocks_down f (component_at f i)
 
 abbrev pub place : Frame → ℕ → ℕ → ℕ → Place
 place f i x y = record { component = i; x = x; y = y; real = is_real f i x y }

@@ -1,4 +1,4 @@
--- HOW A PICTURE IS MOVED (the manual of jpegtran): mirrored left to right, and headed for writing.
+-- HOW A PICTURE IS MOVED (the manual of jpegtran): mirrored left to right or top to bottom, and headed for writing.
 use Rattle.std.specs.Prelude.{ℕ, Bool, ◌-◌, ◌*◌, ◌/◌, ◌%◌, not, nat_lt, ◌==◌, if◌then◌else◌, List, [], ◌∷◌, ◌++◌, map, slice_index_or, zip, filter, ℤ, neg_ℤ, codes, ◌||◌}
 use Rattle.std.specs.Int.{to_be_bytes, w16}
 use Rattle.jpg_spec.specs.Lists.{any_of}
@@ -26,18 +26,40 @@ zigzag =
 unfoldable pub mirrored : List ℤ → List ℤ
 mirrored block = map (λ p. if p.0 % 2 == 1 then neg_ℤ p.1 else p.1) (zip zigzag block)
 
+-- the sign of odd vertical frequencies is changed
+unfoldable pub mirrored_down : List ℤ → List ℤ
+mirrored_down block = map (λ p. if p.0 / 8 % 2 == 1 then neg_ℤ p.1 else p.1) (zip zigzag block)
+
 abbrev pub most_across : Meaning → ℕ
 most_across M = greatest (map (λ c. c.h) M.components)
 
+abbrev pub most_down : Meaning → ℕ
+most_down M = greatest (map (λ c. c.v) M.components)
+
 abbrev pub component_of : Meaning → ℕ → PictureComponent
 component_of M i = slice_index_or M.components i (record { id = 0; h = 1; v = 1; quants = [] })
+
+-- the columns and the rows of a component that lie in whole iMCUs
+abbrev pub whole_columns : Meaning → ℕ → ℕ
+whole_columns M i = (M.width / (8 * most_across M)) * (component_of M i).h
+
+abbrev pub whole_rows : Meaning → ℕ → ℕ
+whole_rows M i = (M.height / (8 * most_down M)) * (component_of M i).v
 
 -- Columns of whole iMCUs change places and are mirrored. The others stay.
 abbrev pub flip_h : Meaning → Meaning
 flip_h M = record M {
   blocks = λ i x y.
-      let whole = (M.width / (8 * most_across M)) * (component_of M i).h in
+      let whole = whole_columns M i in
       if nat_lt x whole then mirrored (M.blocks i (whole - 1 - x) y) else M.blocks i x y;
+}
+
+-- The same for rows.
+abbrev pub flip_v : Meaning → Meaning
+flip_v M = record M {
+  blocks = λ i x y.
+      let whole = whole_rows M i in
+      if nat_lt y whole then mirrored_down (M.blocks i x (whole - 1 - y)) else M.blocks i x y;
 }
 
 -- HEADED: the own JFIF or Adobe segment, and then the kept segments that are passed on

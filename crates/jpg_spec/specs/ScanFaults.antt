@@ -28,7 +28,8 @@ BitsShow c s u units fault bits =
     ⊎ ((fault ≡ RunPastEnd) × ((n : ℕ) × (x : ℕ) × (code : List Bool) × Contains (codes_due c u) (code, 16 * n) × (u.has_dc ≡ false) × (n ≤ c.most_run)
     × (bits ≡ code ++ bits_of n x) × (x < 2 ^ n) × (1 + length units < 2 ^ n + x))))))
 
--- Whole elements, then bits that show a fault, then any bits of the last byte.
+-- Whole elements, then bits that show a fault, and then any more bits. (The first fault of a file stands at the least number of bytes
+-- that show one, so that there these are bits of the last byte.)
 pub record DataShows (c : Coding) (units : List UnitLeft) (fault : Fault) (bits : List Bool) : Type 0 where
   pub elements : List Element
   pub told : List ℤ

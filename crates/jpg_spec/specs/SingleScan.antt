@@ -1,11 +1,13 @@
 -- A FILE OF ONE GRAY SCAN: a sequential frame of one component with factors 1 by 1 and sides of whole blocks, one scan without restarts (T.81 A.2, F.1.2).
-use Rattle.std.specs.Prelude.{◌≡◌, ℕ, ◌+◌, ◌*◌, ◌/◌, ◌%◌, Bool, not, nat_lt, ◌&&◌, ◌==◌, if◌then◌else◌, List, [], ◌∷◌, ◌++◌, length, slice_index_or, ℤ, All}
+use Rattle.std.specs.Prelude.{◌≡◌, ℕ, ◌+◌, ◌*◌, ◌/◌, ◌%◌, Bool, true, not, nat_lt, ◌&&◌, ◌==◌, if◌then◌else◌, List, [], ◌∷◌, ◌++◌, length, slice_index_or, ℤ, All}
 use Rattle.jpg_spec.specs.Bits.{Packs, SpellsData, data_of}
 use Rattle.jpg_spec.specs.Geometry.{Frame, component_at, is_progressive}
 use Rattle.jpg_spec.specs.Segments.{ScanHead}
 use Rattle.jpg_spec.specs.Elements.{Coding, zeros}
 use Rattle.jpg_spec.specs.Scan.{Blocks, scan_coding}
 use Rattle.jpg_spec.specs.Meaning.{Meaning}
+use Rattle.jpg_spec.specs.Moves.{flip_h, headed}
+use Rattle.jpg_spec.specs.Header.{IsHeader}
 use Rattle.jpg_spec.specs.Typical.{dc_luma_counts, dc_luma_values, ac_luma_counts, ac_luma_values}
 use Rattle.jpg_spec.specs.GrayFile.{end_of_image, SpellsBlocks}
 use Rattle.jpg_spec.specs.Written.{plain_bits}
@@ -66,3 +68,21 @@ single_head_text id = segment_text 0xda (1 ∷ id ∷ 0 ∷ 0 ∷ 63 ∷ 0 ∷ [
 -- the file of a headed meaning of one gray component, with these blocks row by row
 abbrev pub single_text : Meaning → ℕ → List (List ℤ) → List ℕ
 single_text H id blocks = front_text H ++ luma_tables_text ++ single_head_text id ++ data_of (plain_bits blocks) ++ end_of_image
+
+-- A whole header whose scan is a single gray one, and how many blocks the scan has.
+pub record IsSingleHeader (limits : Limits) (before : List Segment) (contents front : List ℕ) : Type 0 where
+  pub header : IsHeader limits front before contents
+  pub single : is_single_scan (frame_of limits before) before (head_in (frame_of limits before) contents) ≡ true
+
+abbrev pub single_count : Limits → List Segment → ℕ
+single_count limits before = blocks_across (frame_of limits before) * blocks_down (frame_of limits before)
+
+-- Such a header, and the data of these blocks.
+pub record IsSingleFile (limits : Limits) (before : List Segment) (contents front text : List ℕ) (blocks : List (List ℤ)) : Type 0 where
+  pub header : IsHeader limits front before contents
+  pub single : is_single_scan (frame_of limits before) before (head_in (frame_of limits before) contents) ≡ true
+  pub spelled : (let f = frame_of limits before in SpellsScan (single_coding limits before contents) (blocks_across f * blocks_down f) text blocks)
+
+-- its picture mirrored left to right, and headed for its file
+abbrev pub turned_single : Limits → List Segment → List ℕ → List (List ℤ) → Meaning
+turned_single limits before contents blocks = headed (flip_h (single_meaning limits before contents blocks))

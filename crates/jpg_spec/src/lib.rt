@@ -5,14 +5,26 @@
 mod answers;
 pub mod examples;
 mod fault;
+pub mod file_examples;
 pub mod file_laws;
+pub mod file_meaning_laws;
 mod frame;
 pub mod gray_laws;
 pub mod header_laws;
+pub mod history_examples;
+mod image;
 pub mod laws;
 pub mod marker_examples;
 pub mod marker_laws;
+pub mod pixel_examples;
+pub mod strip_laws;
+mod transform;
+pub mod transform_examples;
+pub mod transform_laws;
+pub mod written_laws;
 
 pub use answers::{FaultAt, Usage, UsageFault, Which, Why};
 pub use fault::Fault;
 pub use frame::{Bounds, Colour, Component, Copying, Grid, Limits, Place, Process, ScanPart};
+pub use image::{EndKind, ImageInfo, ImageKind};
+pub use transform::{PictureFault, Transform};

@@ -1,10 +1,10 @@
 // Frame headers as they are written (T.81 B.2.2).
-ghost use Rattle.std.specs.Prelude.{◌≡◌, ◌≤◌, ◌+◌, [], ◌∷◌, ◌++◌, length, true};
-ghost use Rattle.std.specs.Int.{to_be_bytes, w16};
+ghost use Rattle.std.specs.Prelude.{◌≡◌, ◌≤◌, ◌+◌, [], ◌++◌, length, true};
+ghost use Rattle.std.specs.Int.{to_be_bytes};
 ghost use Rattle.arrayvec.specs.ArrayVec.{array_vec_len};
-ghost use Rattle.jpg_spec.specs.FileText.{segment_text, sof_code};
+ghost use Rattle.jpg_spec.specs.FileText.{sof_code};
 ghost use Rattle.jpg_spec.specs.FrameHeader.{HasFactors};
-ghost use Rattle.jpg_markers.specs.OutHead.{component_text, frame_contents, front_contents};
+ghost use Rattle.jpg_markers.specs.OutHead.{component_text, frame_contents, frame_segment, front_contents};
 ghost use Rattle.jpg_markers.specs.Sent.{HasSent};
 
 use super::head::OutHead;
@@ -30,7 +30,7 @@ pub fn write_frame<D: Desk>(
     requires none { out.old.bits ≡ [] }
     requires few { length distinct.now ≤ 4 }
     requires tables { array_vec_len head.now.quants ≡ length head.now.frame.components }
-    ensures { HasSent (D.state desk.old) out.old (segment_text (sof_code head.now.frame.process) (frame_contents distinct.now head.now.frame head.now.quants.items)) result out.new (D.state desk.new) }
+    ensures { HasSent (D.state desk.old) out.old (frame_segment distinct.now head.now) result out.new (D.state desk.new) }
 {
     let contents = contents_of(&head.frame, head.quants.as_slice(), distinct);
     write_segment(

@@ -1,8 +1,9 @@
 // The own header of a file, and the kept markers that are passed on (JFIF 1.02, Adobe's APP14).
 ghost use Rattle.std.specs.Prelude.{◌≡◌, [], ◌∷◌, ◌==◌, if◌then◌else◌, filter, true};
 ghost use Rattle.jpg_spec.specs.FileText.{kept_text};
-ghost use Rattle.jpg_spec.specs.Moves.{adobe_contents, copied, headed_kept, jfif_contents};
+ghost use Rattle.jpg_spec.specs.Moves.{adobe_contents, jfif_contents};
 ghost use Rattle.jpg_markers.specs.Kept.{IsKept, pair_of};
+ghost use Rattle.jpg_markers.specs.OutHead.{markers_text};
 ghost use Rattle.jpg_markers.specs.Passed.{is_copied, is_passed, is_replaced, own_header};
 ghost use Rattle.jpg_markers.specs.Sent.{HasSent};
 
@@ -23,7 +24,7 @@ pub fn write_markers<D: Desk>(
 ) -> Result<(), WriteFault>
     requires created { (D.state desk.old).output_created ≡ true }
     requires none { out.old.bits ≡ [] }
-    ensures { HasSent (D.state desk.old) out.old (kept_text (headed_kept head.now.colour head.now.jfif (copied head.now.copying kept.now))) result out.new (D.state desk.new) }
+    ensures { HasSent (D.state desk.old) out.old (markers_text head.now kept.now) result out.new (D.state desk.new) }
 {
     write_own(head.colour, &head.jfif, out, desk)?;
     write_passed(head.copying, head.colour, kept, out, desk)

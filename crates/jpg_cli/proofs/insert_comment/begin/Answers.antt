@@ -13,6 +13,7 @@ loop-due-preserved g c =
     let some = step.after so.begun.0 so.begun.1 so.begun.2 in
     record {
       kept = reads_then (state c.args.desk.now) was now so.kept step.kept;
+      opened = step.open;
       begun = (so.begun.0, so.begun.1 ++ some.0, some.4);
       reading =
           λ task comment start h r.

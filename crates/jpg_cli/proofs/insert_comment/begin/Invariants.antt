@@ -1,4 +1,4 @@
-use Rattle.std.specs.Prelude.{◌≡◌, ◌-◌, ◌^◌, List, ℕ, []}
+use Rattle.std.specs.Prelude.{◌≡◌, ◌-◌, ◌^◌, List, ℕ, [], true}
 use Rattle.jpg_base.specs.Desk.{DeskState}
 use Rattle.jpg_spec.specs.Segments.{standard_limits}
 use Rattle.jpg_markers.specs.Reading.{reading_of}
@@ -12,6 +12,7 @@ invariant-loop-due g l =
     let state = g.D.Desk.state in
     record {
       kept : OnlyReads (state l.initial.desk) (state l.desk);
+      opened : (state l.desk).input_open ≡ true;
       begun : (comment : List ℕ) × (bytes : List ℕ) × HasInserted comment bytes [] l.insert;
       reading :
           (task : Task) (comment : List ℕ) (start : DeskState) → HasInserted comment [] [] l.initial.insert → IsReading task comment [] start (state l.initial.desk)

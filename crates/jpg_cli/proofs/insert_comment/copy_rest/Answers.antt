@@ -36,6 +36,7 @@ loop-why-preserved g c =
     let some = step.after (blank was) b.0 b.1 b.2 b.4 b.3 (copies_told None None was) (blank_copied was b.1 b.2 (fed_short b.0 b.1 b.2 c.loop-why.insert so.limits b.4)) in
     record {
       kept = copies_then (state c.args.desk.now) was now so.kept step.kept;
+      opened = step.open;
       begun = (b.0, b.1 ++ some.0, some.1, some.3, some.4);
       writing =
           λ task comment bytes text start same h longer w.

@@ -1,4 +1,4 @@
-use Rattle.std.specs.Prelude.{◌≡◌, ◌<◌, ◌-◌, ◌^◌, List, ℕ, [], length}
+use Rattle.std.specs.Prelude.{◌≡◌, ◌<◌, ◌-◌, ◌^◌, List, ℕ, [], true, length}
 use Rattle.std.specs.Option.{unwrap_or}
 use Rattle.jpg_base.specs.Desk.{DeskState}
 use Rattle.jpg_spec.specs.Segments.{standard_limits}
@@ -12,6 +12,7 @@ invariant-loop-why g l =
     let state = g.D.Desk.state in
     record {
       kept : OnlyCopies (state l.initial.desk) (state l.desk);
+      opened : (state l.desk).input_open ≡ true;
       begun : (comment : List ℕ) × (bytes : List ℕ) × (text : List ℕ) × (0 < length text) × HasInserted comment bytes text l.insert;
       writing :
           (task : Task) (comment bytes text : List ℕ) (start : DeskState) → task.replace ≡ l.initial.insert.replace → HasInserted comment bytes text l.initial.insert → 0 < length text

@@ -8,6 +8,7 @@ loop-why-init g c =
     record {
       kept = copies_none s;
       read = ([], [], c.new-comments.ensures.read, record { most = omega arith; read = none_read s.left; written = none_written s.outputs });
+      opened = c.requires.open;
       limits = c.new-comments.ensures.limits ∙ c.standard.ensures;
       empty = c.new-out.ensures;
       room = refl;

@@ -1,4 +1,4 @@
-use Rattle.std.specs.Prelude.{◌≡◌, ◌-◌, ◌^◌, List, ℕ, [], length}
+use Rattle.std.specs.Prelude.{◌≡◌, ◌-◌, ◌^◌, List, ℕ, [], true, length}
 use Rattle.jpg_spec.specs.Segments.{standard_limits}
 use Rattle.jpg_markers.specs.Reading.{reading_of}
 use Rattle.jpg_comments.specs.ReadComments.{HasRead}
@@ -11,6 +11,7 @@ invariant-loop-why g l =
     record {
       kept : OnlyCopies (state l.initial.desk) (state l.desk);
       read : (bytes : List ℕ) × (text : List ℕ) × HasRead bytes text l.comments × HasCopied (state l.initial.desk) bytes text (state l.desk);
+      opened : (state l.desk).input_open ≡ true;
       limits : l.comments.limits ≡ standard_limits;
       empty : l.out ≡ [];
       room : length l.buffer ≡ 65536;

@@ -1,4 +1,4 @@
-use Rattle.std.proofs.Common.{◌≡◌, ◌≤◌, ◌-◌, length}
+use Rattle.std.proofs.Common.{◌≡◌, ◌≤◌, ◌-◌, true, length}
 use Rattle.std.specs.Io.KnownBytes.{Consumes}
 use Rattle.jpg_cli.specs.Reading.{OnlyReads}
 use Rattle.jpg_cli.proofs.reading.read_up_to.Given as goal
@@ -10,6 +10,7 @@ invariant-loop-buffer g l =
       kept : OnlyReads (state l.fn.desk) (state l.desk);
       taken : Consumes (state l.fn.desk).left (state l.desk).left l.bytes;
       most : length l.bytes ≤ l.limit;
+      opened : (state l.desk).input_open ≡ true;
       room : length l.buffer ≡ 65536;
     }
 

@@ -19,22 +19,22 @@ pub returns-in_default-comment : goal.returns-in_default-comment
 returns-in_default-comment c =
     let ws = map string_bytes c.args.words.now in
     let value = c.in_ok-text-in-Some-CommentGiven.ensures in
-    let less : c.args.index + 1 < length ws = omega (arith, length-map c.args.words.now string_bytes, value.0) in
+    let less : c.args.index + 1 < length ws = value.0 in
     let p : purpose_of wrjpgcom_switches (word_at ws c.args.index) ≡ Some comment_given =
     ap (purpose_of wrjpgcom_switches) (sym c.word_at.ensures) ∙ sym c.purpose_of.ensures ∙ ap (option_map told_purpose) c.in-Some-CommentGiven.is ∙ ap (λ q. Some (told_purpose q)) c.in-Some-CommentGiven.field-0-is in
     record {
       told = given_at ws c.args.index c.args.self.replace (source_told c.args.self.comment) c.in_ok-text-in-Some-CommentGiven.text.now less value.1 c.requires.switch p (not_in_file c.args.self.comment c.in_default-comment.not-File);
-      behind = (omega arith, omega (arith, value.0));
+      behind = (omega arith, omega (arith, length-map c.args.words.now string_bytes, value.0));
     }
 
 pub returns-in_default-comment-2 : goal.returns-in_default-comment-2
 returns-in_default-comment-2 c =
     let ws = map string_bytes c.args.words.now in
     let value = c.in_ok-name-in-Some-CommentInFile.ensures in
-    let less : c.args.index + 1 < length ws = omega (arith, length-map c.args.words.now string_bytes, value.0) in
+    let less : c.args.index + 1 < length ws = value.0 in
     let p : purpose_of wrjpgcom_switches (word_at ws c.args.index) ≡ Some comment_in_file =
     ap (purpose_of wrjpgcom_switches) (sym c.word_at.ensures) ∙ sym c.purpose_of.ensures ∙ ap (option_map told_purpose) c.in-Some-CommentInFile.is ∙ ap (λ q. Some (told_purpose q)) c.in-Some-CommentInFile.field-0-is in
     record {
       told = in_file_at ws c.args.index c.args.self.replace (source_told c.args.self.comment) c.in_ok-name-in-Some-CommentInFile.name.now less value.1 c.requires.switch p (not_given c.args.self.comment c.in_default-comment-2.not-Given);
-      behind = (omega arith, omega (arith, value.0));
+      behind = (omega arith, omega (arith, length-map c.args.words.now string_bytes, value.0));
     }

@@ -2,7 +2,7 @@ use Rattle.std.proofs.Common.{[], ◌≡◌, sym, subst, List, ℕ, Ok, Err, ari
 use Rattle.std.proofs.lemmas.Result.{err_from_is_err_and}
 use Rattle.jpg_huff.specs.Out.{Emits}
 use Rattle.jpg_huff.proofs.Emitted.{emits_fault, emits_then, emits_written, emits_unwritten}
-use Rattle.jpg_huff.proofs.Buffers.{none_left}
+use Rattle.std.proofs.lemmas.List.{nil_from_length}
 use Rattle.jpg_huff.proofs.buffer.Buffer.push_piece.Goals as goal
 
 pub returns-in_err-make_room-clause-emits : goal.returns-in_err-make_room-clause-emits
@@ -15,7 +15,7 @@ returns-in_err-make_room-clause-emits g c =
 pub returns-in-Done-clause-emits : goal.returns-in-Done-clause-emits
 returns-in-Done-clause-emits g c =
     let state = g.D.Desk.state in
-    let n : c.make_room.new.self ≡ [] = none_left c.make_room.new.self (omega (arith, c.in_ok-make_room.ensures.room, c.min.ensures, c.if-piece-le4096.false)) in
+    let n : c.make_room.new.self ≡ [] = nil_from_length c.make_room.new.self (omega (arith, c.in_ok-make_room.ensures.room, c.min.ensures, c.if-piece-le4096.false)) in
     let P : List ℕ → Type 0 = λ mid. Emits (state c.make_room.new.desk) mid c.args.piece.now (Ok tt) mid (state c.write.new.self) in
     emits_then (state c.args.desk.now) (state c.make_room.new.desk) (state c.write.new.self) c.args.self.now [] c.make_room.new.self c.args.piece.now c.make_room.new.self (Ok tt)
     c.in_ok-make_room.ensures.kept c.in_ok-make_room.ensures.emits (subst P (sym n) (emits_written (state c.make_room.new.desk) (state c.write.new.self) c.args.piece.now c.in-Done.ensures))
@@ -23,7 +23,7 @@ returns-in-Done-clause-emits g c =
 pub returns-in-Failed-clause-emits : goal.returns-in-Failed-clause-emits
 returns-in-Failed-clause-emits g c =
     let state = g.D.Desk.state in
-    let n : c.make_room.new.self ≡ [] = none_left c.make_room.new.self (omega (arith, c.in_ok-make_room.ensures.room, c.min.ensures, c.if-piece-le4096.false)) in
+    let n : c.make_room.new.self ≡ [] = nil_from_length c.make_room.new.self (omega (arith, c.in_ok-make_room.ensures.room, c.min.ensures, c.if-piece-le4096.false)) in
     let P : List ℕ → Type 0 = λ mid. Emits (state c.make_room.new.desk) mid c.args.piece.now (Err (record {})) mid (state c.write.new.self) in
     emits_then (state c.args.desk.now) (state c.make_room.new.desk) (state c.write.new.self) c.args.self.now [] c.make_room.new.self c.args.piece.now c.make_room.new.self (Err (record {}))
     c.in_ok-make_room.ensures.kept c.in_ok-make_room.ensures.emits (subst P (sym n) (emits_unwritten (state c.make_room.new.desk) (state c.write.new.self) c.args.piece.now (record {}) c.in-Failed.ensures))

@@ -2,7 +2,8 @@ use Rattle.std.proofs.Common.{◌≤◌, ◌+◌, ◌*◌, ◌-◌, arith, refl,
 use Rattle.std.specs.Prelude.{◌⊎◌, Contains}
 use Rattle.jpg_spec.specs.Bits.{bits_of}
 use Rattle.jpg_spec.specs.Codes.{Code}
-use Rattle.jpg_huff.specs.Index.{BeginsCode, BeginsNone}
+use Rattle.jpg_spec.specs.Parts.{BeginsCode}
+use Rattle.jpg_huff.specs.Walk.{BeginsNoCode}
 use Rattle.jpg_huff.proofs.Tables.{codes_kept}
 use Rattle.jpg_huff.proofs.Steps.{at_below, at_symbol, at_more, at_none, place_below, bit_value_is}
 use Rattle.jpg_huff.proofs.walk.Walk.bit.Goals as goal
@@ -18,7 +19,7 @@ pub returns-then-number-first : goal.returns-then-number-first
 unfolding bits_of
 returns-then-number-first c =
     let t = c.args.table.now in let w = c.self.inside in
-    let P : List Code → Type 0 = λ l. BeginsNone l (c.args.self.now ++ c.args.bit ∷ []) in
+    let P : List Code → Type 0 = λ l. BeginsNoCode l (c.args.self.now ++ c.args.bit ∷ []) in
     (subst P (codes_kept t) (at_below t.counts t.symbols t.firsts t.starts t.limits w.length w.number c.from.result c.args.self.now c.args.bit t.indexed c.self.invariant.0 c.self.invariant.1 c.self.view_is (c.from.ensures ∙ bit_value_is c.args.bit) (omega arith)), refl)
 
 pub returns-then-number-first-2 : goal.returns-then-number-first-2
@@ -39,7 +40,7 @@ pub returns-else-at-lt15 : goal.returns-else-at-lt15
 unfolding bits_of
 returns-else-at-lt15 c =
     let t = c.args.table.now in let w = c.self.inside in
-    let P : List Code → Type 0 = λ l. BeginsNone l (c.args.self.now ++ c.args.bit ∷ []) in
+    let P : List Code → Type 0 = λ l. BeginsNoCode l (c.args.self.now ++ c.args.bit ∷ []) in
     let past : (15 ≤ w.length) ⊎ (get_or t.limits w.length 0 ≤ 2 * w.number + c.from.result) =
     elim c.else-at-lt15.branch [ else-at-lt15-via-then-at-lt15+else-number-table v ↦ inr (omega arith) | else-at-lt15-via-else-at-lt15 v ↦ inl (omega arith) ] in
     (subst P (codes_kept t) (at_none t.counts t.symbols t.firsts t.starts t.limits w.length w.number c.from.result c.args.self.now c.args.bit t.indexed c.self.invariant.0 c.self.invariant.1 c.self.view_is (c.from.ensures ∙ bit_value_is c.args.bit) (omega arith) past), refl)

@@ -4,7 +4,7 @@ use mir.Syntax.{w16}
 use Rattle.std.proofs.lemmas.Int.{to_z-of_z}
 use Rattle.jpg_seq.specs.declared.plain.Reading.{Reading}
 use Rattle.jpg_seq.specs.InWork.{fresh}
-use Rattle.jpg_seq.specs.Stands.{fault_of}
+use Rattle.jpg_coefs.specs.Machine.{fault_of}
 use Rattle.jpg_seq.specs.Plain.{new_units}
 use Rattle.jpg_seq.proofs.ReadBlocks.{step_more, step_fault, step_done, step_pad, ready_fresh}
 use Rattle.jpg_seq.proofs.plain.Reading.bit.Goals as goal

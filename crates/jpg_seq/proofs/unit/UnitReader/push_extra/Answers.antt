@@ -3,7 +3,7 @@ use Rattle.jpg_spec.specs.Bits.{bits_of}
 use Rattle.jpg_spec.proofs.Strings.{length-bits_of, bits_of-more}
 use Rattle.jpg_huff.proofs.Steps.{bit_value_is}
 use Rattle.jpg_seq.specs.InWork.{InWork}
-use Rattle.jpg_seq.proofs.Leaf.{fits_more}
+use Rattle.jpg_huff.proofs.Categories.{fits_more}
 use Rattle.jpg_seq.proofs.unit.UnitReader.push_extra.Goals as goal
 
 pub invariant_of-self : goal.invariant_of-self

@@ -1,0 +1,125 @@
+-- Bits of numbers, one behind another.
+use Rattle.std.proofs.Common.{◌≡◌, ℕ, zero, suc, ◌+◌, ◌-◌, ◌*◌, ◌/◌, ◌%◌, ◌^◌, ◌<◌, ◌≤◌, Bool, List, [], ◌∷◌, ◌++◌, length, take, drop, refl, sym, ap, ◌∙◌, arith, add-one, add-zero, add-suc, ◌==◌, min, subst, true, false, get_or}
+use mir.Val.{bool_byte}
+use Rattle.std.specs.Int.Bits.{bit_or}
+use Rattle.std.proofs.lemmas.List.{append_assoc, append-nil, length-append, drop_more, take_min, drop_min}
+use Rattle.std.proofs.lemmas.Nat.{shr_high, pow-add, or_shifted, mod-mul-add, pow_pos}
+use Rattle.std.proofs.Math.Nat.{div-div-eq-div-mul, pow-succ', mod-lt, mul-lt-mul_of_pos_right, mul_assoc, add-mul}
+use Rattle.std.proofs.Math.Seq.{take-append_seam, drop-append_seam}
+use Rattle.jpg_spec.specs.Bits.{bits_of}
+use Rattle.jpg_spec.proofs.Strings.{length-bits_of}
+
+-- the front and the rest of a string
+pub bits_of-add : (d t n : ℕ) → bits_of (d + t) n ≡ bits_of d (n / 2 ^ t) ++ bits_of t n
+unfolding bits_of
+bits_of-add d zero n = let z : n / 1 ≡ n = omega arith in rw (add-zero, z, append-nil) refl
+bits_of-add d (suc t) n =
+    let p : n / 2 / 2 ^ t ≡ n / 2 ^ suc t = div-div-eq-div-mul n 2 (2 ^ t) ∙ ap (λ x. n / x) (sym (pow-succ' 2 t)) in
+    ap (λ m. bits_of m n) (add-suc d t) ∙ ap (λ x. x ++ (n % 2 == 1) ∷ []) (bits_of-add d t (n / 2) ∙ ap (λ x. bits_of d x ++ bits_of t (n / 2)) p)
+    ∙ append_assoc (bits_of d (n / 2 ^ suc t)) (bits_of t (n / 2)) ((n % 2 == 1) ∷ [])
+
+-- only the low bits of a number count
+pub bits_of-low : (t a b : ℕ) → bits_of t (a * 2 ^ t + b) ≡ bits_of t b
+unfolding bits_of
+bits_of-low zero a b = refl
+bits_of-low (suc t) a b =
+    let p : a * 2 ^ suc t ≡ 2 * (a * 2 ^ t) = ap (λ x. a * x) (pow-succ' 2 t) ∙ omega arith in
+    let h : (a * 2 ^ suc t + b) / 2 ≡ a * 2 ^ t + b / 2 = omega arith in
+    let r : (a * 2 ^ suc t + b) % 2 ≡ b % 2 = omega arith in
+    ap (λ x. bits_of t x ++ ((a * 2 ^ suc t + b) % 2 == 1) ∷ []) h ∙ ap (λ x. bits_of t (a * 2 ^ t + b / 2) ++ (x == 1) ∷ []) r
+    ∙ ap (λ x. x ++ (b % 2 == 1) ∷ []) (bits_of-low t a (b / 2))
+
+pub bits_of-mod : (t n : ℕ) → bits_of t (n % 2 ^ t) ≡ bits_of t n
+bits_of-mod t n =
+    let e : n ≡ n / 2 ^ t * 2 ^ t + n % 2 ^ t = search arith in
+    sym (bits_of-low t (n / 2 ^ t) (n % 2 ^ t)) ∙ ap (bits_of t) (sym e)
+
+-- numbers side by side
+pub bits_of-beside : (c t a b : ℕ) → b < 2 ^ t → bits_of (c + t) (a * 2 ^ t + b) ≡ bits_of c a ++ bits_of t b
+bits_of-beside c t a b h =
+    bits_of-add c t (a * 2 ^ t + b) ∙ ap (λ x. bits_of c x ++ bits_of t (a * 2 ^ t + b)) (shr_high a t b h) ∙ ap (λ x. bits_of c a ++ x) (bits_of-low t a b)
+
+take_front : (n : ℕ) (xs ys : List Bool) → length xs ≡ n → take n (xs ++ ys) ≡ xs
+take_front n xs ys l = ap (λ k. take k (xs ++ ys)) (sym l) ∙ take-append_seam xs ys
+
+drop_front : (n : ℕ) (xs ys : List Bool) → length xs ≡ n → drop n (xs ++ ys) ≡ ys
+drop_front n xs ys l = ap (λ k. drop k (xs ++ ys)) (sym l) ∙ drop-append_seam xs ys
+
+-- bits in the middle of a string
+pub middle : (count before n word : ℕ) → before + n ≤ count → take n (drop before (bits_of count word)) ≡ bits_of n (word / 2 ^ (count - before - n) % 2 ^ n)
+middle count before n word h =
+    let rest = count - before - n in
+    let e : count ≡ before + (n + rest) = omega arith in
+    let cut : bits_of count word ≡ bits_of before (word / 2 ^ (n + rest)) ++ (bits_of n (word / 2 ^ rest) ++ bits_of rest word) =
+    ap (λ m. bits_of m word) e ∙ bits_of-add before (n + rest) word ∙ ap (λ x. bits_of before (word / 2 ^ (n + rest)) ++ x) (bits_of-add n rest word) in
+    ap (λ x. take n (drop before x)) cut
+    ∙ ap (take n) (drop_front before (bits_of before (word / 2 ^ (n + rest))) (bits_of n (word / 2 ^ rest) ++ bits_of rest word) (length-bits_of before (word / 2 ^ (n + rest))))
+    ∙ take_front n (bits_of n (word / 2 ^ rest)) (bits_of rest word) (length-bits_of n (word / 2 ^ rest))
+    ∙ sym (bits_of-mod n (word / 2 ^ rest))
+
+-- the bits behind the first ones
+pub behind : (count n word : ℕ) → n ≤ count → bits_of (count - n) word ≡ drop n (bits_of count word)
+behind count n word h =
+    let e : count ≡ n + (count - n) = omega arith in
+    sym (ap (λ m. drop n (bits_of m word)) e ∙ ap (drop n) (bits_of-add n (count - n) word)
+    ∙ drop_front n (bits_of n (word / 2 ^ (count - n))) (bits_of (count - n) word) (length-bits_of n (word / 2 ^ (count - n))))
+
+-- the low bits of a number that was cut to more
+pub bits_of-cut : (t m n : ℕ) → t ≤ m → bits_of t (n % 2 ^ m) ≡ bits_of t n
+bits_of-cut t m n h =
+    let e : n ≡ n / 2 ^ m * 2 ^ m + n % 2 ^ m = search arith in
+    let d : m - t + t ≡ m = omega arith in
+    let p : 2 ^ m ≡ 2 ^ (m - t) * 2 ^ t = ap (λ k. 2 ^ k) (sym d) ∙ pow-add 2 (m - t) t in
+    let q : n / 2 ^ m * 2 ^ m ≡ n / 2 ^ m * 2 ^ (m - t) * 2 ^ t = ap (λ k. n / 2 ^ m * k) p ∙ sym (mul_assoc (n / 2 ^ m) (2 ^ (m - t)) (2 ^ t)) in
+    sym (ap (bits_of t) (e ∙ ap (λ k. k + n % 2 ^ m) q) ∙ bits_of-low t (n / 2 ^ m * 2 ^ (m - t)) (n % 2 ^ m))
+
+-- a word of 64 bits that is shifted
+shifted : (word n : ℕ) → n ≤ 64 → word * 2 ^ n % 2 ^ 64 ≡ word % 2 ^ (64 - n) * 2 ^ n
+shifted word n h =
+    let d : 64 - n + n ≡ 64 = omega arith in
+    let p : 2 ^ (64 - n) * 2 ^ n ≡ 2 ^ 64 = sym (pow-add 2 (64 - n) n) ∙ ap (λ k. 2 ^ k) d in
+    let e : word ≡ word / 2 ^ (64 - n) * 2 ^ (64 - n) + word % 2 ^ (64 - n) = search arith in
+    let r : word % 2 ^ (64 - n) < 2 ^ (64 - n) = mod-lt word (pow_pos (64 - n)) in
+    let s : word % 2 ^ (64 - n) * 2 ^ n < 2 ^ 64 = subst (λ k. word % 2 ^ (64 - n) * 2 ^ n < k) p (mul-lt-mul_of_pos_right r (pow_pos n)) in
+    let m : word * 2 ^ n ≡ word / 2 ^ (64 - n) * 2 ^ 64 + word % 2 ^ (64 - n) * 2 ^ n =
+    ap (λ k. k * 2 ^ n) e ∙ add-mul (word / 2 ^ (64 - n) * 2 ^ (64 - n)) (word % 2 ^ (64 - n)) (2 ^ n) ∙ ap (λ k. k + word % 2 ^ (64 - n) * 2 ^ n) (mul_assoc (word / 2 ^ (64 - n)) (2 ^ (64 - n)) (2 ^ n) ∙ ap (λ k. word / 2 ^ (64 - n) * k) p) in
+    ap (λ k. k % 2 ^ 64) m ∙ mod-mul-add (word / 2 ^ (64 - n)) (2 ^ 64) (word % 2 ^ (64 - n) * 2 ^ n) s
+
+-- bits that are appended
+pub appended : (word count n number : ℕ) → count + n ≤ 64 → number < 2 ^ n → bits_of (count + n) (bit_or (word * 2 ^ n % 2 ^ 64) number) ≡ bits_of count word ++ bits_of n number
+appended word count n number h fits =
+    let high = word % 2 ^ (64 - n) in
+    let s : word * 2 ^ n % 2 ^ 64 ≡ high * 2 ^ n = shifted word n (omega arith) in
+    ap (λ k. bits_of (count + n) (bit_or k number)) s ∙ ap (bits_of (count + n)) (or_shifted high n number fits) ∙ bits_of-beside count n high number fits
+    ∙ ap (λ x. x ++ bits_of n number) (bits_of-cut count (64 - n) word (omega arith))
+
+-- ONE BIT
+
+pub bit_small : (b : Bool) → bool_byte b ≤ 1
+bit_small true = omega arith
+bit_small false = omega arith
+
+pub bit_bits : (b : Bool) (n : ℕ) → n ≡ bool_byte b → bits_of 1 n ≡ b ∷ []
+unfolding bits_of
+bit_bits true n e = ap (bits_of 1) e
+bit_bits false n e = ap (bits_of 1) e
+
+first_is : (x y : Bool) (xs ys : List Bool) → x ∷ xs ≡ y ∷ ys → x ≡ y
+first_is x y xs ys e = ap (λ (l : List Bool). get_or l 0 false) e
+
+odd_is : (n : ℕ) → n < 2 → (n % 2 == 1) ≡ (n == 1)
+odd_is n h = ap (λ m. m == 1) (let e : n % 2 ≡ n = omega arith in e)
+
+pub one_bit : (bits : List Bool) (i n : ℕ) → i < length bits → bits_of 1 n ≡ take 1 (drop i bits) → n < 2 ^ 1 → (n == 1) ≡ get_or bits i false
+unfolding bits_of
+one_bit bits i n h e lt =
+    let d : drop i bits ≡ get_or bits i false ∷ drop (i + 1) bits = drop_more bits i false h in
+    let t : (n % 2 == 1) ∷ [] ≡ get_or bits i false ∷ [] = e ∙ ap (take 1) d in
+    sym (odd_is n (omega (arith, lt))) ∙ first_is (n % 2 == 1) (get_or bits i false) [] [] t
+
+-- 32 bits of a store, or all that it has
+pub take_some : (xs : List Bool) (n : ℕ) → n ≡ min (length xs) 32 → take n xs ≡ take 32 xs
+take_some xs n e = (let m : n ≡ min 32 (length xs) = omega (arith, e) in ap (λ k. take k xs) m ∙ take_min 32 xs)
+
+pub drop_some : (xs : List Bool) (n : ℕ) → n ≡ min (length xs) 32 → drop n xs ≡ drop 32 xs
+drop_some xs n e = (let m : n ≡ min 32 (length xs) = omega (arith, e) in ap (λ k. drop k xs) m ∙ drop_min 32 xs)

@@ -1,0 +1,7 @@
+use Rattle.std.proofs.Common.{rules, ◌≡◌, ◌⊎◌, ◌<◌, ◌≤◌, ◌+◌, ◌-◌, ◌*◌, ◌/◌, ◌%◌, ◌^◌, ◌++◌, [], List, Bool, ℕ, length, take, drop, refl, sym, ap, ◌∙◌, subst, arith, inl, inr}
+use Rattle.jpg_spec.specs.Bits.{bits_of}
+use Rattle.jpg_spec.proofs.Strings.{length-bits_of}
+use Rattle.jpg_base.proofs.store.BitStore.len.Goals as goal
+
+pub returns-clause-value : goal.returns-clause-value
+returns-clause-value c = sym (length-bits_of c.self.inside.count c.self.inside.word) ∙ ap length c.self.view_is

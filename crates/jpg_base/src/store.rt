@@ -1,0 +1,168 @@
+// Bits that wait in a word.
+ghost use Rattle.std.specs.Prelude.{◌≡◌, ◌<◌, ◌≤◌, ◌+◌, ◌-◌, ◌^◌, [], ◌∷◌, ◌++◌, length, take, drop, slice_index_or, false};
+ghost use Rattle.jpg_spec.specs.Bits.{bits_of};
+
+use std::marker::Model;
+
+/// At most 64 bits in their order. They are the low `count` bits of the word; what stands above them
+/// is of no account.
+#[derive(Drop)]
+pub struct BitStore {
+    word: u64,
+    count: u8,
+}
+
+impl Model for BitStore {
+    ghost use Rattle.std.specs.Prelude.{List, Bool, ◌≤◌};
+    ghost use Rattle.jpg_spec.specs.Bits.{bits_of};
+
+    ghost Value = { List Bool };
+
+    ghost view = { λ s. bits_of s.count s.word };
+
+    ghost invariant = { λ s. s.count ≤ 64 };
+}
+
+impl BitStore {
+    /// No bits.
+    pub fn new() -> BitStore
+        ensures { result ≡ [] }
+    {
+        BitStore { word: 0, count: 0 }
+    }
+
+    /// The same bits again.
+    #[inline(always)]
+    pub fn copy(&self) -> BitStore
+        ensures { result ≡ self.now }
+    {
+        BitStore {
+            word: self.word,
+            count: self.count,
+        }
+    }
+
+    /// How many bits there are.
+    #[inline(always)]
+    pub fn len(&self) -> u8
+        ensures value { result ≡ length self.now }
+        ensures most { result ≤ 64 }
+    {
+        self.count
+    }
+
+    /// Appends the bits of a byte.
+    #[inline(always)]
+    pub fn push(&mut self, byte: u8)
+        requires { length self.old ≤ 56 }
+        ensures { self.new ≡ self.old ++ bits_of 8 byte }
+    {
+        self.append(u64::from(byte), 8);
+    }
+
+    // Appends the low bits of a number.
+    #[inline(always)]
+    fn append(&mut self, number: u64, n: u8)
+        requires room { length self.old + n ≤ 64 }
+        requires few { n ≤ 32 }
+        requires fits { number < 2 ^ n }
+        ensures { self.new ≡ self.old ++ bits_of n number }
+    {
+        self.word = self.word << n | number;
+        self.count += n;
+    }
+
+    // The `n` bits behind the first ones.
+    #[inline(always)]
+    fn part(&self, before: u8, n: u8) -> u64
+        requires some { 1 ≤ n }
+        requires few { n ≤ 32 }
+        requires there { before + n ≤ length self.now }
+        ensures value { bits_of n result ≡ take n (drop before self.now) }
+        ensures fits { result < 2 ^ n }
+    {
+        (self.word >> (self.count - before - n)) % (1 << n)
+    }
+
+    /// The first `n` bits as a number.
+    #[inline(always)]
+    pub fn peek(&self, n: u8) -> u32
+        requires few { n ≤ 24 }
+        requires there { n ≤ length self.now }
+        ensures value { bits_of n result ≡ take n self.now }
+        ensures fits { result < 2 ^ n }
+    {
+        if n == 0 { 0 } else { self.part(0, n) as u32 }
+    }
+
+    /// The `n` bits behind the first `before` ones as a number.
+    #[inline(always)]
+    pub fn peek_behind(&self, before: u8, n: u8) -> u32
+        requires some { 1 ≤ n }
+        requires few { n ≤ 24 }
+        requires there { before + n ≤ length self.now }
+        ensures value { bits_of n result ≡ take n (drop before self.now) }
+        ensures fits { result < 2 ^ n }
+    {
+        self.part(before, n) as u32
+    }
+
+    /// The bit at place `i`.
+    #[inline(always)]
+    pub fn bit(&self, i: u8) -> bool
+        requires { i < length self.now }
+        ensures { result ≡ slice_index_or self.now i false }
+    {
+        self.part(i, 1) == 1
+    }
+
+    /// Appends a bit.
+    #[inline(always)]
+    pub fn push_bit(&mut self, bit: bool)
+        requires { length self.old ≤ 63 }
+        ensures { self.new ≡ self.old ++ bit ∷ [] }
+    {
+        self.append(u64::from(bit), 1);
+    }
+
+    /// Drops the first `n` bits.
+    #[inline(always)]
+    pub fn skip(&mut self, n: u8)
+        requires { n ≤ length self.old }
+        ensures { self.new ≡ drop n self.old }
+    {
+        self.count -= n;
+    }
+
+    /// Takes 32 bits from the front of another store, or all that it has.
+    #[inline(always)]
+    pub fn take_from(&mut self, store: &mut BitStore)
+        requires { length self.old ≤ 32 }
+        ensures taken { self.new ≡ self.old ++ take 32 store.old }
+        ensures left { store.new ≡ drop 32 store.old }
+    {
+        let n = store.len().min(32);
+        if n > 0 {
+            let number = store.part(0, n);
+            self.append(number, n);
+            store.skip(n);
+        }
+    }
+
+    /// These bits, and behind them 32 from the front of another store, or all that it has.
+    #[inline(always)]
+    pub fn joined(&self, store: &BitStore) -> BitStore
+        requires { length self.now ≤ 32 }
+        ensures { result ≡ self.now ++ take 32 store.now }
+    {
+        let mut all = BitStore {
+            word: self.word,
+            count: self.count,
+        };
+        let n = store.len().min(32);
+        if n > 0 {
+            all.append(store.part(0, n), n);
+        }
+        all
+    }
+}

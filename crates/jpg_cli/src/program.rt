@@ -1,0 +1,64 @@
+//! The program: its words, real files and the standard streams, and its exit status.
+use crate::top::run;
+use jpg_base::StdDesk;
+use std::alloc::Global;
+use std::env;
+use std::io::ErrorKind;
+use std::process::ExitCode;
+use std::rt::Runtime;
+
+const VERSION: &str = "jpgsuite 0.3.0\n";
+
+const HELP: &str = "\
+jpegtran -flip horizontal < INPUT > OUTPUT
+rdjpgcom [FILE] > OUTPUT
+wrjpgcom [-replace] [-comment TEXT | -cfile FILE] [FILE] > OUTPUT
+";
+
+// What is told of the program itself, where the words ask for that alone.
+fn told(words: &[String]) -> Option<&'static str> {
+    match words {
+        [word] if word.as_str() == "--help" => Some(HELP),
+        [word] if word.as_str() == "--version" => Some(VERSION),
+        _ => None,
+    }
+}
+
+// The words behind the program's name; else the exit status.
+fn words<R: Runtime<A = Global>>(rt: &R) -> Result<Vec<String>, u8> {
+    let mut words = Vec::new(rt.alloc());
+    let args = match env::args(rt) {
+        Ok(args) => args,
+        Err(error) => match error.kind() {
+            ErrorKind::OutOfMemory => return Err(3),
+            _ => return Err(1),
+        },
+    };
+    for word in args.skip(1) {
+        match words.push(word) {
+            Ok(()) => {}
+            Err(_) => return Err(3),
+        }
+    }
+    Ok(words)
+}
+
+/// Runs the command that the program's words ask for over real files and the standard streams, and
+/// ends with its exit status. `--help` and `--version` alone print what they ask for. Where there is no
+/// memory for the words it ends with 3, and where a word isn't UTF-8 with 1; both times it says nothing.
+pub fn run_program<R: Runtime<A = Global>>(rt: R) -> ExitCode {
+    let alloc = rt.alloc();
+    let words = match words(&rt) {
+        Ok(words) => words,
+        Err(code) => return ExitCode::from(code),
+    };
+    if let Some(text) = told(words.as_slice()) {
+        return match print!(rt; "{text}") {
+            Ok(()) => ExitCode::from(0),
+            Err(_) => ExitCode::from(1),
+        };
+    }
+    let mut desk = StdDesk::new(rt);
+    let ended = run(alloc, words.as_slice(), &mut desk);
+    ExitCode::from(ended.code)
+}

@@ -1,0 +1,4 @@
+pub mod Apart
+pub mod Chains
+pub mod Maps
+pub mod Stored

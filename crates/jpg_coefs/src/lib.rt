@@ -1,0 +1,12 @@
+//! The coefficients of a picture, and the traits of what reads and writes them (T.81 A.2, F.1.1.5).
+#![tactic(auto)]
+
+mod coefs;
+mod laws;
+mod machine;
+mod view;
+
+pub use coefs::Coefs;
+pub use laws::{bits_are_taken_in_order, one_block_changes, zero_blocks_are_none};
+pub use machine::{ScanMachine, Taken, UnitFault, UnitStep};
+pub use view::BlockView;

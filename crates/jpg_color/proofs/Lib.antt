@@ -1,0 +1,3 @@
+pub mod Pixels
+pub mod Places
+pub mod Three

@@ -1,0 +1,42 @@
+// The samples of a block (T.81, A.3.3).
+ghost use Rattle.std.specs.Prelude.{◌≡◌, ◌≤◌, ◌*ℤ◌, pos, All, nat_abs, max};
+ghost use Rattle.jpg_spec.specs.Dct.{inverse};
+
+use crate::{narrow, wide};
+
+/// A coefficient times its quantiser.
+pub fn dequantise(value: i16, q: u16) -> i32
+    ensures { result ≡ value *ℤ pos q }
+{
+    i32::from(value) * i32::from(q)
+}
+
+#[inline(always)]
+fn larger(a: u32, b: u32) -> u32
+    ensures { result ≡ max a b }
+{
+    if a < b { b } else { a }
+}
+
+// The greatest magnitude.
+fn greatest(values: &[i32; 64]) -> u32
+    ensures { All (λ x. nat_abs x ≤ result) values.now }
+{
+    let mut greatest = 0;
+    for value in values {
+        greatest = larger(greatest, value.unsigned_abs());
+    }
+    greatest
+}
+
+/// The 64 samples of a block of dequantised coefficients, both in natural order.
+pub fn idct(values: &[i32; 64]) -> [u8; 64]
+    requires { All (λ x. nat_abs x ≤ 67108864) values.now }
+    ensures { result ≡ inverse values.now }
+{
+    if greatest(values) <= 8191 {
+        narrow::block(values)
+    } else {
+        wide::block(values)
+    }
+}

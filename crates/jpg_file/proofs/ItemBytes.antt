@@ -1,0 +1,301 @@
+-- What a byte between items makes of the bytes so far.
+use Rattle.std.proofs.Common.{◌≡◌, ℕ, suc, ◌+◌, ◌≤◌, List, [], ◌∷◌, ◌++◌, length, refl, sym, ap, ◌∙◌, subst, arith, Some, None, Ok, Err, inl, inr, ◌⊎◌}
+use Rattle.std.specs.Prelude.{replicate}
+use Rattle.std.specs.Int.{to_be_bytes, w16}
+use Rattle.std.proofs.lemmas.List.{append_assoc, append-nil, length-append, length-replicate}
+use Rattle.jpg_spec.specs.Scan.{Blocks}
+use Rattle.jpg_spec.specs.Markers.{Segment, Rule, soi, SpellsMarker, SpellsSegment, SpellsSegments, BeginsSegment, PartOfSegment, NoMarkerBytes, TailShows, ShowsNoStart, code_fault, kept_rule}
+use Rattle.jpg_spec.specs.Markers as markers
+use Rattle.jpg_spec.specs.Items.{Item, segment, segments_of, contents_rule}
+use Rattle.jpg_spec.specs.FileMeaning.{no_blocks}
+use Rattle.jpg_spec.specs.FirstFault.{Shows}
+use Rattle.jpg_spec.specs.FileStands.{FileStands}
+use Rattle.jpg_spec.specs.ScanReading.{Beside}
+use Rattle.jpg_spec.specs.declared.fault.Fault.{Fault}
+use Rattle.jpg_spec.specs.declared.fault.Fault.TheVariants.{NoMarker}
+use Rattle.jpg_spec.specs.declared.frame.Limits.{Limits}
+use Rattle.jpg_spec.specs.declared.answers.FaultAt.{FaultAt}
+use Rattle.jpg_spec.proofs.MarkersOnce.{heads, no_head}
+use Rattle.jpg_spec.proofs.ItemSteps.{same_tail, beside_more, segment_shown, contents_shown, part_stands, segment_passed}
+use Rattle.jpg_base.specs.declared.stop.Stop.TheVariants as stop
+use Rattle.jpg_markers.specs.declared.segments.SegStep.TheVariants as step
+use Rattle.jpg_markers.specs.declared.segments.Phase.{Phase}
+use Rattle.jpg_markers.specs.declared.segments.Phase.TheVariants as phase
+use Rattle.jpg_markers.specs.Reading.{Reading, StandsFor, AtPhase, IsBetween, PartRead, ShowsBehind, EndsBehind, Comes, reading_of}
+use Rattle.jpg_file.specs.Held.{Holds, told_by}
+use Rattle.jpg_file.specs.declared.items.Items.{Items}
+use Rattle.jpg_file.specs.Items.{IsBeside, AtPlace, Between, BehindSegment, BehindEnd, GoesOn}
+
+-- THE START
+
+segments_soi : (xs : List Segment) (front : List ℕ) → SpellsSegments xs front → (y : List ℕ) × (front ≡ soi ++ y)
+segments_soi [] front s = ([], s ∙ sym (append-nil soi))
+segments_soi (x ∷ xs) front s = let r = segments_soi xs s.0 s.3 in (r.0 ++ s.1, s.2 ∙ ap (λ l. l ++ s.1) r.1 ∙ append_assoc soi r.0 s.1)
+
+no_start_soi : (a y : List ℕ) → ShowsNoStart a → a ≡ soi ++ y → ⊥
+no_start_soi a y (inl s) e = s.2 (heads s.0 255 [] (0xd8 ∷ y) (sym s.1 ∙ e)).0
+no_start_soi a y (inr s) e = s.2 (heads s.0 0xd8 [] y (heads 255 255 (s.0 ∷ []) (0xd8 ∷ y) (sym s.1 ∙ e)).1).0
+
+beside_soi : (limits : Limits) (rule : Rule) (sent bytes : List ℕ) (items : List Item) (tail : List ℕ) → Beside limits rule sent bytes items tail → (y : List ℕ) × (sent ≡ soi ++ y)
+beside_soi limits rule sent bytes items tail w =
+    let r = segments_soi (segments_of items) (w.between).front (w.between).spelled in
+    (r.0 ++ tail, (w.between).cut ∙ ap (λ l. l ++ tail) r.1 ∙ append_assoc soi r.0 tail)
+
+-- behind SOI, before any item
+first_beside : (limits : Limits) (bytes tail : List ℕ) → markers.Between (kept_rule limits) bytes [] tail → IsBeside limits bytes bytes [] no_blocks tail
+first_beside limits bytes tail b = record {
+  beside = record {
+    fill = 0;
+    between = b;
+    behind = record { front = b.front; blocks = no_blocks; cut = b.cut; spelled = b.spelled; leads = refl };
+    plain = inl (refl, refl);
+  };
+  leads = refl;
+}
+
+start_more : (limits : Limits) (bytes : List ℕ) (b : ℕ) (r : Reading) → (p : Phase) → r.limits ≡ limits → AtPhase r p (bytes ++ b ∷ []) [] → AtPlace limits (bytes ++ b ∷ []) (bytes ++ b ∷ []) [] no_blocks
+start_more limits bytes b r p e a = by p a
+  where
+    between : (q : Phase) → IsBetween r q (bytes ++ b ∷ []) [] → AtPlace limits (bytes ++ b ∷ []) (bytes ++ b ∷ []) [] no_blocks
+    between q (tail, w, seen, part) = inr (tail, first_beside limits (bytes ++ b ∷ []) tail (subst (λ (l : Limits). markers.Between (kept_rule l) (bytes ++ b ∷ []) [] tail) e w))
+
+    by : (q : Phase) → AtPhase r q (bytes ++ b ∷ []) [] → AtPlace limits (bytes ++ b ∷ []) (bytes ++ b ∷ []) [] no_blocks
+    by phase.Empty k = absurd (omega (arith, ap length k.0, length-append bytes (b ∷ [])))
+    by phase.HalfStart k = inl (record { same = refl; short = inr k.0; no_items = refl; blank = refl })
+    by phase.Between k = between phase.Between k
+    by phase.Fill k = between phase.Fill k
+    by phase.Coded k = between phase.Coded k
+    by phase.HalfLength k = between phase.HalfLength k
+    by phase.Contents k = between phase.Contents k
+    by phase.Ended k = absurd k
+
+-- A BYTE that goes on
+place_more : (limits : Limits) (bytes sent : List ℕ) (b : ℕ) (items : List Item) (blocks : Blocks) (r : Reading) → r.limits ≡ limits → StandsFor (sent ++ b ∷ []) (segments_of items) r → AtPlace limits bytes sent items blocks
+    → AtPlace limits (bytes ++ b ∷ []) (sent ++ b ∷ []) items blocks
+place_more limits bytes sent b items blocks r e stands (inr (tail, w)) = inr (tail ++ b ∷ [], record { beside = beside_more limits (kept_rule limits) sent bytes items tail (b ∷ []) w.beside; leads = w.leads })
+place_more limits bytes sent b items blocks r e stands (inl s) =
+    let S : List Item → Type 0 = λ z. StandsFor (sent ++ b ∷ []) (segments_of z) r in
+    let k = subst S s.no_items stands in
+    let P : List ℕ → Type 0 = λ z. AtPlace limits (z ++ b ∷ []) (sent ++ b ∷ []) items blocks in
+    let Q : List Item → Type 0 = λ z. AtPlace limits (sent ++ b ∷ []) (sent ++ b ∷ []) z blocks in
+    let R : Blocks → Type 0 = λ z. AtPlace limits (sent ++ b ∷ []) (sent ++ b ∷ []) [] z in
+    subst P (sym s.same) (subst Q (sym s.no_items) (subst R (sym s.blank) (start_more limits sent b r r.phase e k.1)))
+
+pub goes_on : (limits : Limits) (bytes : List ℕ) (b : ℕ) (items : List Item) (blocks : Blocks) (w new : Items) → (k : Between limits bytes items blocks w) → StandsFor (k.sent ++ b ∷ []) (segments_of items) (reading_of new.segments)
+    → (reading_of new.segments).limits ≡ (reading_of w.segments).limits → new.limits ≡ w.limits → told_by new.held ≡ told_by w.held → (more : List Item) × GoesOn items more × Between limits (bytes ++ b ∷ []) more blocks new
+goes_on limits bytes b items blocks w new k stands e f same = (
+  items,
+  inl refl,
+  record {
+    sent = k.sent ++ b ∷ [];
+    stands = stands;
+    at = place_more limits bytes k.sent b items blocks (reading_of new.segments) (e ∙ k.bounded.0) stands k.at;
+    bounded = (e ∙ k.bounded.0, f ∙ k.bounded.1);
+    holds = subst (λ h. Holds limits h (segments_of items)) (sym same) k.holds;
+  },
+)
+
+-- A FAULT of markers and lengths
+pub beside_fault : (limits : Limits) (bytes sent : List ℕ) (items : List Item) (blocks : Blocks) (tail : List ℕ) (fault : Fault) → IsBeside limits bytes sent items blocks tail → ShowsBehind (kept_rule limits) (segments_of items) fault sent → Shows limits fault bytes
+beside_fault limits bytes sent items blocks tail fault w (inl s) =
+    let y = beside_soi limits (kept_rule limits) sent bytes items tail w.beside in absurd (no_start_soi sent y.0 s.2 y.1)
+beside_fault limits bytes sent items blocks tail fault w (inr (other, between, shown)) =
+    let e = same_tail (kept_rule limits) sent (segments_of items) tail other (w.beside).between between in
+    segment_shown limits sent bytes items fault tail w.beside (subst (λ t. ((fault ≡ NoMarker) × NoMarkerBytes t) ⊎ TailShows (kept_rule limits) (segments_of items) fault t) (sym e) shown)
+
+start_fault : (limits : Limits) (bytes : List ℕ) (fault : Fault) → ShowsBehind (kept_rule limits) [] fault bytes → Shows limits fault bytes
+start_fault limits bytes fault (inl (which, first, shown)) = inl (which, shown)
+start_fault limits bytes fault (inr (tail, between, shown)) = beside_fault limits bytes bytes [] no_blocks tail fault (first_beside limits bytes tail between) (inr (tail, between, shown))
+
+pub byte_fault : (limits : Limits) (bytes : List ℕ) (b : ℕ) (items : List Item) (blocks : Blocks) (w new : Items) (f : FaultAt) → (k : Between limits bytes items blocks w) → (reading_of new.segments).limits ≡ (reading_of w.segments).limits
+    → Comes (k.sent ++ b ∷ []) (segments_of items) (Err (stop.Fault f)) (reading_of new.segments) → Shows limits f.fault (bytes ++ b ∷ []) × (f.at ≡ (reading_of new.segments).taken)
+byte_fault limits bytes b items blocks w new f k e c =
+    let shown = subst (λ (l : Limits). ShowsBehind (kept_rule l) (segments_of items) f.fault (k.sent ++ b ∷ [])) (e ∙ k.bounded.0) c.1 in
+    (by k.at shown, c.2)
+  where
+    by : AtPlace limits bytes k.sent items blocks → ShowsBehind (kept_rule limits) (segments_of items) f.fault (k.sent ++ b ∷ []) → Shows limits f.fault (bytes ++ b ∷ [])
+    by (inr (tail, at)) shown =
+        beside_fault limits (bytes ++ b ∷ []) (k.sent ++ b ∷ []) items blocks (tail ++ b ∷ []) f.fault (record { beside = beside_more limits (kept_rule limits) k.sent bytes items tail (b ∷ []) at.beside; leads = at.leads }) shown
+    by (inl s) shown =
+        let S : List Item → Type 0 = λ z. ShowsBehind (kept_rule limits) (segments_of z) f.fault (k.sent ++ b ∷ []) in
+        subst (λ z. Shows limits f.fault (z ++ b ∷ [])) (sym s.same) (start_fault limits (k.sent ++ b ∷ []) f.fault (subst S s.no_items shown))
+
+-- A SEGMENT more is whole
+
+-- the segment at the end of what was sent
+pub record LastSegment (limits : Limits) (sent : List ℕ) (before : List Segment) (code : ℕ) (contents : List ℕ) : Type 0 where
+  pub rest : List ℕ
+  pub between : markers.Between (kept_rule limits) sent before rest
+  pub spelled : SpellsSegment code contents rest
+  pub no_end : code ≡ 0xd9 → ⊥
+  pub allowed : code_fault before code ≡ None
+  pub kept : kept_rule limits before code contents ≡ None
+
+pub last_segment : (limits : Limits) (sent : List ℕ) (before : List Segment) (r : Reading) → r.limits ≡ limits → r.phase ≡ phase.Between → StandsFor sent ((r.code, r.contents) ∷ before) r → LastSegment limits sent before r.code r.contents
+last_segment limits sent before r e p stands =
+    let (tail, between, seen, none) = subst (λ (q : Phase). AtPhase r q sent ((r.code, r.contents) ∷ before)) p stands.1 in
+    let b = subst (λ (l : Limits). markers.Between (kept_rule l) sent ((r.code, r.contents) ∷ before) tail) e between in
+    let s = b.spelled in
+    record {
+      rest = s.1;
+      between = record { front = s.0; cut = b.cut ∙ ap (λ (t : List ℕ). b.front ++ t) none ∙ append-nil b.front ∙ s.2; spelled = s.3; passed = (b.passed).2 };
+      spelled = s.4;
+      no_end = s.5;
+      allowed = (b.passed).0;
+      kept = (b.passed).1;
+    }
+
+long_segment : (code : ℕ) (contents bytes : List ℕ) → SpellsSegment code contents bytes → 2 ≤ length bytes
+long_segment code contents bytes s =
+    let m = s.1 in
+    let a = ap length s.3 in
+    let b = length-append (s.0 ++ to_be_bytes w16 (length contents + 2)) contents in
+    let d = length-append s.0 (to_be_bytes w16 (length contents + 2)) in
+    let f = ap length m.1 in
+    let g = length-append (replicate (suc m.0) 255) (code ∷ []) in
+    let h = length-replicate {A = ℕ} (suc m.0) 255 in
+    omega (arith, a, b, d, f, g, h)
+
+-- none is whole before SOI is
+start_no_segment : (limits : Limits) (sent : List ℕ) (b : ℕ) (code : ℕ) (contents : List ℕ) → (sent ≡ []) ⊎ (sent ≡ 255 ∷ []) → LastSegment limits (sent ++ b ∷ []) [] code contents → ⊥
+start_no_segment limits sent b code contents short s =
+    let a = ap length (s.between).cut in
+    let d = length-append (s.between).front s.rest in
+    let f = ap length (s.between).spelled in
+    let g = long_segment code contents s.rest s.spelled in
+    let h = length-append sent (b ∷ []) in
+    omega (arith, a, d, f, g, h, few short)
+  where
+    few : (sent ≡ []) ⊎ (sent ≡ 255 ∷ []) → length sent ≤ 1
+    few (inl e) = omega (arith, ap length e)
+    few (inr e) = omega (arith, ap length e)
+
+pub behind_segment : (limits : Limits) (bytes : List ℕ) (b : ℕ) (items : List Item) (blocks : Blocks) (w new : Items) → (k : Between limits bytes items blocks w) → Comes (k.sent ++ b ∷ []) (segments_of items) (Ok step.Whole) (reading_of new.segments)
+    → (reading_of new.segments).phase ≡ phase.Between → (reading_of new.segments).limits ≡ (reading_of w.segments).limits → new.limits ≡ w.limits → told_by new.held ≡ told_by w.held → BehindSegment limits (bytes ++ b ∷ []) items blocks new
+behind_segment limits bytes b items blocks w new k c p e f same = by k.at
+  where
+    r : Reading
+    r = reading_of new.segments
+
+    last : LastSegment limits (k.sent ++ b ∷ []) (segments_of items) r.code r.contents
+    last = last_segment limits (k.sent ++ b ∷ []) (segments_of items) r (e ∙ k.bounded.0) p c.1
+
+    by : AtPlace limits bytes k.sent items blocks → BehindSegment limits (bytes ++ b ∷ []) items blocks new
+    by (inl s) =
+        let S : List Item → Type 0 = λ z. LastSegment limits (k.sent ++ b ∷ []) (segments_of z) r.code r.contents in
+        absurd (start_no_segment limits k.sent b r.code r.contents s.short (subst S s.no_items last))
+    by (inr (tail, at)) =
+        let beside = beside_more limits (kept_rule limits) k.sent bytes items tail (b ∷ []) at.beside in
+        let t = same_tail (kept_rule limits) (k.sent ++ b ∷ []) (segments_of items) (tail ++ b ∷ []) last.rest beside.between last.between in
+        record {
+          sent = k.sent ++ b ∷ [];
+          tail = tail ++ b ∷ [];
+          stands = c.1;
+          at = record { beside = beside; leads = at.leads };
+          spelled = subst (λ z. SpellsSegment r.code r.contents z) (sym t) last.spelled;
+          allowed = last.allowed;
+          no_end = last.no_end;
+          phase = p;
+          kept = last.kept;
+          bounded = (e ∙ k.bounded.0, f ∙ k.bounded.1);
+          holds = subst (λ h. Holds limits h (segments_of items)) (sym same) k.holds;
+        }
+
+-- and breaks no rule, or shows a fault
+pub segment_taken : (limits : Limits) (bytes : List ℕ) (items : List Item) (blocks : Blocks) (w new : Items) → (k : BehindSegment limits bytes items blocks w) → ((reading_of w.segments).code ≡ 0xda → ⊥)
+    → contents_rule limits (segments_of items) (reading_of w.segments).code (reading_of w.segments).contents ≡ None → reading_of new.segments ≡ reading_of w.segments → new.limits ≡ w.limits
+    → Holds limits (told_by new.held) (((reading_of w.segments).code, (reading_of w.segments).contents) ∷ segments_of items) → (more : List Item) × GoesOn items more × Between limits bytes more blocks new
+segment_taken limits bytes items blocks w new k other rule same f holds =
+    let r = reading_of w.segments in
+    let more : List Item = segment r.code r.contents ∷ items in
+    let S : Reading → Type 0 = λ q. StandsFor k.sent ((r.code, r.contents) ∷ segments_of items) q in (
+      more,
+      inr (r.code, r.contents, refl, other),
+      record {
+        sent = k.sent;
+        stands = subst S (sym same) k.stands;
+        at = inr (
+          [],
+          record {
+            beside = segment_passed limits (kept_rule limits) k.sent bytes items r.code r.contents k.tail (k.at).beside k.spelled k.allowed k.no_end other k.kept rule;
+            leads = (k.allowed, rule, (k.at).leads);
+          },
+        );
+        bounded = (ap (λ (q : Reading). q.limits) same ∙ k.bounded.0, f ∙ k.bounded.1);
+        holds = holds;
+      },
+    )
+
+pub segment_fault : (limits : Limits) (bytes : List ℕ) (items : List Item) (blocks : Blocks) (w : Items) (fault : Fault) → (k : BehindSegment limits bytes items blocks w)
+    → contents_rule limits (segments_of items) (reading_of w.segments).code (reading_of w.segments).contents ≡ Some fault → Shows limits fault bytes
+segment_fault limits bytes items blocks w fault k broken =
+    contents_shown limits (kept_rule limits) k.sent bytes items (reading_of w.segments).code (reading_of w.segments).contents fault k.tail (k.at).beside k.spelled k.allowed k.no_end broken
+
+-- EOI
+no_first_end : code_fault [] 0xd9 ≡ None → ⊥
+no_first_end e = cc
+
+pub behind_end : (limits : Limits) (bytes : List ℕ) (b : ℕ) (items : List Item) (blocks : Blocks) (w new : Items) → (k : Between limits bytes items blocks w) → Comes (k.sent ++ b ∷ []) (segments_of items) (Ok step.Eoi) (reading_of new.segments)
+    → (reading_of new.segments).limits ≡ (reading_of w.segments).limits → told_by new.held ≡ told_by w.held → BehindEnd limits (bytes ++ b ∷ []) items blocks new
+behind_end limits bytes b items blocks w new k c e same = by k.at
+  where
+    ends : EndsBehind (kept_rule limits) (segments_of items) (k.sent ++ b ∷ [])
+    ends = subst (λ (l : Limits). EndsBehind (kept_rule l) (segments_of items) (k.sent ++ b ∷ [])) (e ∙ k.bounded.0) c.1
+
+    by : AtPlace limits bytes k.sent items blocks → BehindEnd limits (bytes ++ b ∷ []) items blocks new
+    by (inl s) = absurd (no_first_end (subst (λ (z : List Item). code_fault (segments_of z) 0xd9 ≡ None) s.no_items ends.3))
+    by (inr (tail, at)) =
+        let beside = beside_more limits (kept_rule limits) k.sent bytes items tail (b ∷ []) at.beside in
+        let t = same_tail (kept_rule limits) (k.sent ++ b ∷ []) (segments_of items) (tail ++ b ∷ []) ends.0 beside.between ends.1 in
+        record {
+          sent = k.sent ++ b ∷ [];
+          tail = tail ++ b ∷ [];
+          at = record { beside = beside; leads = at.leads };
+          ended = subst (λ z. SpellsMarker 0xd9 z) (sym t) ends.2;
+          allowed = ends.3;
+          holds = subst (λ h. Holds limits h (segments_of items)) (sym same) k.holds;
+        }
+
+-- WHAT STANDS
+part_read : (r : Reading) (p : Phase) (before : List Segment) (tail : List ℕ) → PartRead r p before tail → ((code : ℕ) × BeginsSegment before code tail) ⊎ PartOfSegment before tail
+part_read r phase.Empty before tail e = absurd e
+part_read r phase.HalfStart before tail e = absurd e
+part_read r phase.Between before tail e = inr (inl (0, e))
+part_read r phase.Fill before tail (fill, e) = inr (inl (suc fill, e))
+part_read r phase.Coded before tail e = inl (r.code, e)
+part_read r phase.HalfLength before tail (marker, begins, e, fits) = inr (inr (r.code, marker, begins, inr (inl (r.high, e, fits))))
+part_read r phase.Contents before tail (marker, high, low, begins, e, h, l, long, some) = inr (inr (r.code, marker, begins, inr (inr (high, low, r.contents, e, h, l, omega (arith, long, some)))))
+part_read r phase.Ended before tail e = absurd e
+
+pub between_stands : (limits : Limits) (bytes : List ℕ) (items : List Item) (blocks : Blocks) (w : Items) → Between limits bytes items blocks w → FileStands limits bytes
+between_stands limits bytes items blocks w k = by k.at
+  where
+    r : Reading
+    r = reading_of w.segments
+
+    start : (sent : List ℕ) → (sent ≡ []) ⊎ (sent ≡ 255 ∷ []) → FileStands limits sent
+    start sent s = inl s
+
+    go : (tail : List ℕ) → IsBeside limits bytes k.sent items blocks tail → (p : Phase) → IsBetween r p k.sent (segments_of items) → FileStands limits bytes
+    go tail at p (other, between, seen, part) =
+        let b = subst (λ (l : Limits). markers.Between (kept_rule l) k.sent (segments_of items) other) k.bounded.0 between in
+        let t = same_tail (kept_rule limits) k.sent (segments_of items) tail other (at.beside).between b in
+        part_stands limits (kept_rule limits) k.sent bytes items tail at.beside (part_read r p (segments_of items) tail (subst (λ z. PartRead r p (segments_of items) z) (sym t) part))
+
+    beside : (tail : List ℕ) → IsBeside limits bytes k.sent items blocks tail → (p : Phase) → AtPhase r p k.sent (segments_of items) → FileStands limits bytes
+    beside tail at phase.Empty a =
+        let y = beside_soi limits (kept_rule limits) k.sent bytes items tail at.beside in
+        let z : [] ≡ soi ++ y.0 = sym a.0 ∙ y.1 in absurd (no_head 255 (0xd8 ∷ y.0) z)
+    beside tail at phase.HalfStart a =
+        let y = beside_soi limits (kept_rule limits) k.sent bytes items tail at.beside in
+        let z : 255 ∷ [] ≡ soi ++ y.0 = sym a.0 ∙ y.1 in absurd (no_head 0xd8 y.0 (heads 255 255 [] (0xd8 ∷ y.0) z).1)
+    beside tail at phase.Between a = go tail at phase.Between a
+    beside tail at phase.Fill a = go tail at phase.Fill a
+    beside tail at phase.Coded a = go tail at phase.Coded a
+    beside tail at phase.HalfLength a = go tail at phase.HalfLength a
+    beside tail at phase.Contents a = go tail at phase.Contents a
+    beside tail at phase.Ended a = absurd a
+
+    by : AtPlace limits bytes k.sent items blocks → FileStands limits bytes
+    by (inl s) = subst (λ z. FileStands limits z) (sym s.same) (start k.sent s.short)
+    by (inr (tail, at)) = beside tail at r.phase (k.stands).1

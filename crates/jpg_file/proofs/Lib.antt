@@ -1,0 +1,14 @@
+pub mod Chains
+pub mod ScanBytes
+pub mod InForce
+pub mod ItemBytes
+pub mod ScanLeft
+pub mod Beginning
+pub mod Scannings
+pub mod Beginnings
+pub mod Ending
+pub mod Lacking
+pub mod HeadTables
+pub mod Heads
+pub mod HeadReady
+pub mod HeadTaken

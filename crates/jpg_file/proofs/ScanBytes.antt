@@ -1,0 +1,310 @@
+-- Inside the data of a scan: what the machine's answers make of the place.
+use Rattle.std.proofs.Common.{◌≡◌, ℕ, suc, ◌+◌, ◌-◌, ◌%◌, ◌≤◌, min, Bool, true, false, List, [], ◌∷◌, ◌++◌, length, refl, sym, ap, ◌∙◌, subst, arith, ℤ}
+use Rattle.std.specs.Prelude.{map, flat_map, replicate}
+use Rattle.std.proofs.lemmas.List.{length-append}
+use Rattle.jpg_spec.specs.Bits.{bits_of, bits_of_bytes}
+use Rattle.jpg_spec.specs.Segments.{head_components}
+use Rattle.jpg_spec.specs.Elements.{Coding, UnitLeft, SpellsUnits}
+use Rattle.jpg_spec.specs.Scan.{Scan, ScanMeans, unit_at, band, block_at}
+use Rattle.jpg_spec.specs.ScanFaults.{DataShows}
+use Rattle.jpg_spec.specs.InForce.{head_in}
+use Rattle.jpg_spec.specs.Items.{Item}
+use Rattle.jpg_spec.specs.FirstFault.{Shows}
+use Rattle.jpg_spec.specs.FileStands.{FileStands}
+use Rattle.jpg_spec.specs.ScanReading.{ScanPlace, scan_at, with_byte, with_interval, ScanAt}
+use Rattle.jpg_spec.specs.Parts.{StandsInUnits}
+use Rattle.jpg_spec.specs.PictureInWork.{AreDistinct, joined, IntervalRead, ScanSoFar}
+use Rattle.jpg_spec.specs.declared.fault.Fault.TheVariants as fault
+use Rattle.jpg_spec.specs.declared.frame.Limits.{Limits}
+use Rattle.jpg_spec.specs.declared.frame.Place.{Place}
+use Rattle.jpg_spec.proofs.PlacesDistinct.{units_distinct}
+use Rattle.jpg_spec.proofs.PictureInWork.{byte_bits, byte_packs, so_far_units, so_far_next, so_far_last}
+use Rattle.jpg_spec.proofs.IntervalUnits.{sequential_units}
+use Rattle.jpg_spec.proofs.ScanSteps.{plain_data, stuffed_data, filled_data, marker_data, marker_code, complete_stands}
+use Rattle.jpg_spec.proofs.ScanAnswers.{units_at, bits_shown, bits_complete, interval_extra, units_due, units_short, interval_wrong, interval_begun}
+use Rattle.jpg_coefs.specs.Picture.{Picture, map_of}
+use Rattle.jpg_coefs.specs.Machine.{Interval, Follows, units_of, fault_of}
+use Rattle.jpg_coefs.specs.declared.machine.UnitFault.{UnitFault}
+use Rattle.jpg_seq.specs.declared.reader.SeqReader.{SeqReader}
+use Rattle.jpg_seq.specs.Reader.{SeqStands, SeqReady, IsSequential, sequential}
+use Rattle.jpg_file.specs.Data.{EndsWhole, AfterBits}
+use Rattle.jpg_file.specs.declared.data.DataStep.TheVariants as came
+use Rattle.jpg_file.specs.declared.scan.ScanWork.{ScanWork}
+use Rattle.jpg_huff.specs.Gate.{IsData}
+use Rattle.jpg_file.specs.declared.scan.InScan.{InScan}
+use Rattle.jpg_file.specs.declared.scan.ScanStep.{ScanStep}
+use Rattle.jpg_file.specs.declared.scan.ScanStep.TheVariants.{More, Marker, Fault as Stopped}
+use Rattle.jpg_file.specs.InData.{frame_at, IsReadable, IsInterval, IsDue, IsRead, AtInterval, AreIntervals, AtWork, MarkerAt, NextBegins, Waits, InData, AfterData, AfterMarker, AfterByte, Ended}
+use Rattle.jpg_seq.proofs.Due.{keeps_units}
+
+abbrev pub Due : Limits → ScanPlace → SeqReader → Picture → Type 0
+Due limits p m now = IsDue SeqReader sequential limits p m now
+
+abbrev pub Read : Limits → ScanPlace → SeqReader → Picture → Type 0
+Read limits p m now = IsRead SeqReader sequential limits p m now
+
+pub due_at : (limits : Limits) (p : ScanPlace) (w : ScanWork) (now : Picture) → w.whole ≡ false → AtWork limits p w now → Due limits p w.machine now
+due_at limits p w now e k = subst (λ b. AtInterval limits p b w.machine now) e k.at
+
+pub read_at : (limits : Limits) (p : ScanPlace) (w : ScanWork) (now : Picture) → w.whole ≡ true → AtWork limits p w now → Read limits p w.machine now
+read_at limits p w now e k = subst (λ b. AtInterval limits p b w.machine now) e k.at
+
+distinct_places : (limits : Limits) (p : ScanPlace) → IsReadable limits p → AreDistinct (scan_at limits p).places
+distinct_places limits p r = units_distinct (frame_at limits p) (head_components (head_in (frame_at limits p) p.contents)) r.distinct
+
+-- the units of the interval in work stand in the picture as before the scan
+same_units : (limits : Limits) (p : ScanPlace) (i : Interval) → IsReadable limits p → IsInterval limits p i → ScanSoFar (scan_at limits p) p.blocks (map_of i.before) p.done (p.places ∷ p.later) → units_of i ≡ units_at limits p
+same_units limits p i r is w =
+    let s = scan_at limits p in
+    ap (λ (q : Scan). map (unit_at q (map_of i.before)) i.places) is.scan
+    ∙ ap (map (unit_at s (map_of i.before))) is.places
+    ∙ so_far_units s p.blocks (map_of i.before) p.done p.places p.later (distinct_places limits p r) w
+
+-- what is said of them
+of_place : (limits : Limits) (p : ScanPlace) (i : Interval) (P : Coding → List UnitLeft → Type 0) → IsReadable limits p → IsInterval limits p i → ScanSoFar (scan_at limits p) p.blocks (map_of i.before) p.done (p.places ∷ p.later)
+    → P i.scan.coding (units_of i) → P (scan_at limits p).coding (units_at limits p)
+of_place limits p i P r is w k =
+    subst (λ (q : Scan). P q.coding (units_at limits p)) is.scan (subst (λ us. P i.scan.coding us) (same_units limits p i r is w) k)
+
+-- where units are due
+pub record AreDueUnits (limits : Limits) (p : ScanPlace) : Type 0 where
+  pub told : List ℤ
+  pub left : List UnitLeft
+  pub stands : StandsInUnits (scan_at limits p).coding (units_at limits p) told left (bits_of_bytes p.coded)
+
+due_units : (limits : Limits) (p : ScanPlace) (m : SeqReader) (now : Picture) → IsReadable limits p → Due limits p m now → AreDueUnits limits p
+due_units limits p m now r d =
+    let u = keeps_units.unfinished m d.interval (bits_of_bytes p.coded) now d.stands in
+    record {
+      told = u.whole ++ u.part;
+      left = u.left;
+      stands = of_place limits p d.interval (λ c us. StandsInUnits c us (u.whole ++ u.part) u.left (bits_of_bytes p.coded)) r d.is d.so_far u.stands;
+    }
+
+-- A DATA BYTE whose bits the machine took
+
+pub due_more : (limits : Limits) (p : ScanPlace) (byte : ℕ) (w : ScanWork) (m : SeqReader) (now after : Picture) → w.whole ≡ false → AtWork limits p w now
+    → ((i : Interval) (bits : List Bool) → SeqStands w.machine i bits now → AfterBits sequential i bits (bits_of 8 byte) came.More m after) → AtWork limits (with_byte p byte) (record w { machine = m }) after
+due_more limits p byte w m now after e k took =
+    let d = due_at limits p w now e k in
+    let due : Due limits (with_byte p byte) m after = record {
+      interval = d.interval;
+      is = record { scan = (d.is).scan; places = (d.is).places; later = (d.is).later };
+      framed = d.framed;
+      stands = subst (λ l. SeqStands m d.interval l after) (sym (byte_bits p.coded byte)) (took d.interval (bits_of_bytes p.coded) d.stands);
+      so_far = d.so_far;
+    } in
+    record {
+      readable = record { plain = (k.readable).plain; distinct = (k.readable).distinct };
+      at = subst (λ b. AtInterval limits (with_byte p byte) b m after) (sym e) due;
+      turn = k.turn;
+      due = k.due;
+      later = k.later;
+    }
+
+pub due_fault : (limits : Limits) (bytes : List ℕ) (p : ScanPlace) (byte : ℕ) (w : ScanWork) (m : SeqReader) (now after : Picture) (f : UnitFault) → ScanAt limits bytes (with_byte p byte) [] → w.whole ≡ false → AtWork limits p w now
+    → ((i : Interval) (bits : List Bool) → SeqStands w.machine i bits now → AfterBits sequential i bits (bits_of 8 byte) (came.Fault f) m after) → Shows limits (fault_of f) bytes
+due_fault limits bytes p byte w m now after f at e k took =
+    let d = due_at limits p w now e k in
+    let i = d.interval in
+    let t = took i (bits_of_bytes p.coded) d.stands in
+    bits_shown limits bytes p byte (fault_of f) t.0 t.1 at t.2
+    (of_place limits p i (λ c us. DataShows c us (fault_of f) (bits_of_bytes p.coded ++ t.0)) k.readable d.is d.so_far t.3)
+
+pub due_whole : (limits : Limits) (p : ScanPlace) (byte : ℕ) (w : ScanWork) (m : SeqReader) (now after : Picture) → w.whole ≡ false → AtWork limits p w now
+    → ((i : Interval) (bits : List Bool) → SeqStands w.machine i bits now → AfterBits sequential i bits (bits_of 8 byte) came.Whole m after) → AtWork limits (with_byte p byte) (record w { machine = m; whole = true }) after
+due_whole limits p byte w m now after e k took =
+    let d = due_at limits p w now e k in
+    let i = d.interval in
+    let s = scan_at limits p in
+    let t = took i (bits_of_bytes p.coded) d.stands in
+    let front : List Bool = t.0 in
+    let bits = bits_of_bytes p.coded ++ front in
+    let ends : EndsWhole SeqReader sequential i bits m after = t.4 in
+    let whole = ends.whole in
+    let distinct = distinct_places limits p k.readable in
+    let told : List ℤ = flat_map (λ q. band i.scan (block_at (map_of after) q)) i.places in
+    let spelled = of_place limits p i (λ c us. SpellsUnits c us told bits) k.readable d.is d.so_far (whole.read).spelled in
+    let read : IntervalRead s p.places (map_of i.before) (map_of after) bits =
+    subst (λ (q : Scan). IntervalRead q p.places (map_of i.before) (map_of after) bits) (d.is).scan (subst (λ l. IntervalRead i.scan l (map_of i.before) (map_of after) bits) (d.is).places whole.read) in
+    let packs = byte_packs p.coded byte front t.1 t.2 t.3 in
+    let is_read : Read limits (with_byte p byte) m after = record {
+      interval = i;
+      is = record { scan = (d.is).scan; places = (d.is).places; later = (d.is).later };
+      fits = keeps_units.fits w.machine i (bits_of_bytes p.coded) now d.stands;
+      framed = whole.frame ∙ d.framed;
+      completes = bits_complete limits p byte front t.1 told t.2 t.3 spelled;
+      so_far = so_far_next s p.blocks (map_of i.before) (map_of after) p.done (p.coded ++ byte ∷ []) bits p.places p.later distinct d.so_far packs read;
+      ready = ends.ready;
+    } in
+    record {
+      readable = record { plain = (k.readable).plain; distinct = (k.readable).distinct };
+      at = is_read;
+      turn = k.turn;
+      due = k.due;
+      later = k.later;
+    }
+
+-- behind a whole interval
+pub whole_extra : (limits : Limits) (bytes : List ℕ) (p : ScanPlace) (byte : ℕ) (w : ScanWork) (now : Picture) → ScanAt limits bytes (with_byte p byte) [] → w.whole ≡ true → AtWork limits p w now → Shows limits fault.ExtraData bytes
+whole_extra limits bytes p byte w now at e k = interval_extra limits bytes p byte at (read_at limits p w now e k).completes
+
+-- A MARKER
+
+pub short_marker : (limits : Limits) (bytes : List ℕ) (p : ScanPlace) (fill code : ℕ) (w : ScanWork) (now : Picture) → (code ≡ 0 → ⊥) → (code ≡ 255 → ⊥) → ScanAt limits bytes p (replicate (suc fill) 255 ++ code ∷ []) → w.whole ≡ false → AtWork limits p w now
+    → Shows limits fault.EntropyShort bytes
+short_marker limits bytes p fill code w now z f at e k =
+    let u = due_units limits p w.machine now k.readable (due_at limits p w now e k) in
+    units_short limits bytes p fill code u.told u.left z f at u.stands
+
+none_later : (n : ℕ) (later : List (List Place)) → AreIntervals n later → length (joined later) ≡ 0 → later ≡ []
+none_later n [] k e = refl
+none_later n (next ∷ others) k e = absurd (omega (arith, k.0, e, length-append next (joined others)))
+
+pub some_later : (n : ℕ) (later : List (List Place)) → 1 ≤ length (joined later) → (next : List Place) × (others : List (List Place)) × (later ≡ next ∷ others)
+some_later n [] e = absurd (omega arith)
+some_later n (next ∷ others) e = (next, others, refl)
+
+pub last_marker : (limits : Limits) (p : ScanPlace) (w : ScanWork) (now : Picture) → w.whole ≡ true → w.due ≡ 0 → AtWork limits p w now → ScanMeans (scan_at limits p) (p.done ++ p.coded ∷ []) p.blocks (map_of now)
+last_marker limits p w now e none k =
+    let s = scan_at limits p in
+    let r = read_at limits p w now e k in
+    let later = none_later w.interval p.later k.later (sym k.due ∙ none) in
+    so_far_last s p.blocks (map_of now) (p.done ++ p.coded ∷ []) (subst (λ l. ScanSoFar s p.blocks (map_of now) (p.done ++ p.coded ∷ []) l) later r.so_far)
+
+pub wrong_marker : (limits : Limits) (bytes : List ℕ) (p : ScanPlace) (fill code : ℕ) (w : ScanWork) (now : Picture) → (code ≡ 0 → ⊥) → (code ≡ 255 → ⊥) → ScanAt limits bytes p (replicate (suc fill) 255 ++ code ∷ [])
+    → w.whole ≡ true → (w.due ≡ 0 → ⊥) → (code ≡ 0xd0 + w.turn → ⊥) → AtWork limits p w now → Shows limits fault.RestartWrong bytes
+wrong_marker limits bytes p fill code w now z f at e some wrong k =
+    let r = read_at limits p w now e k in
+    let l = some_later w.interval p.later (omega (arith, some, k.due)) in
+    interval_wrong limits bytes p l.0 l.1 fill code z f at r.completes l.2 (λ h. wrong (omega (arith, h, k.turn)))
+
+pub right_marker : (limits : Limits) (bytes : List ℕ) (p : ScanPlace) (fill code : ℕ) (w : ScanWork) (now : Picture) → ScanAt limits bytes p (replicate (suc fill) 255 ++ code ∷ [])
+    → w.whole ≡ true → (w.due ≡ 0 → ⊥) → code ≡ 0xd0 + w.turn → AtWork limits p w now
+    → (next : List Place) × (others : List (List Place)) × NextBegins limits bytes (with_interval p next others) w now
+right_marker limits bytes p fill code w now at e some right k =
+    let r = read_at limits p w now e k in
+    let l = some_later w.interval p.later (omega (arith, some, k.due)) in
+    let c : code ≡ 0xd0 + length p.done % 8 = omega (arith, right, k.turn) in
+    let here = subst (λ n. ScanAt limits bytes p (replicate (suc fill) 255 ++ n ∷ [])) c at in
+    (l.0, l.1, record { old = p; next = l.0; others = l.1; is = refl; due = l.2; at = interval_begun limits bytes p l.0 l.1 fill here r.completes l.2; whole = e; work = k })
+
+-- THE NEXT INTERVAL
+
+abbrev pub next_one : Limits → ScanPlace → List Place → List (List Place) → Interval → Picture → Interval
+next_one limits p next others i now =
+    record { scan = i.scan; places = next; later = joined others; before = now }
+
+pub next_ready : (limits : Limits) (bytes : List ℕ) (p : ScanPlace) (w : ScanWork) (now : Picture) → (b : NextBegins limits bytes p w now)
+    → SeqReady w.machine (next_one limits b.old b.next b.others (read_at limits b.old w now b.whole b.work).interval now)
+next_ready limits bytes p w now b =
+    let old = b.old in
+    let r = read_at limits old w now b.whole b.work in
+    let i = r.interval in
+    let j = next_one limits old b.next b.others i now in
+    let at : ScanAt limits bytes (with_interval old b.next b.others) [] = subst (λ q. ScanAt limits bytes q []) b.is b.at in
+    let follows : Follows i now j = record { scan = refl; before = refl; places = sym ((r.is).later ∙ ap joined b.due) } in
+    let new = with_interval old b.next b.others in
+    let so_far = subst (λ l. ScanSoFar (scan_at limits old) old.blocks (map_of now) (old.done ++ old.coded ∷ []) l) b.due r.so_far in
+    let readable : IsReadable limits new = record { plain = ((b.work).readable).plain; distinct = ((b.work).readable).distinct } in
+    let is : IsInterval limits new j = record { scan = (r.is).scan; places = refl; later = refl } in
+    let fits : IsSequential j = record {
+      units = same_units limits new j readable is so_far ∙ sequential_units limits bytes new [] at ((b.work).readable).plain;
+      ss = (r.fits).ss;
+      se = (r.fits).se;
+    } in
+    r.ready j follows fits
+
+pub next_count : (limits : Limits) (bytes : List ℕ) (p : ScanPlace) (w : ScanWork) (now : Picture) → (b : NextBegins limits bytes p w now) → (length b.next ≡ min w.interval w.due) × (1 ≤ length b.next)
+next_count limits bytes p w now b =
+    let k = subst (λ l. AreIntervals w.interval l) b.due (b.work).later in
+    let all : w.due ≡ length b.next + length (joined b.others) = (b.work).due ∙ ap (λ l. length (joined l)) b.due ∙ length-append b.next (joined b.others) in
+    (k.1 ∙ ap (min w.interval) (sym all), k.0)
+
+pub next_work : (limits : Limits) (bytes : List ℕ) (p : ScanPlace) (w : ScanWork) (m : SeqReader) (now : Picture) → (b : NextBegins limits bytes p w now)
+    → ((i : Interval) → SeqReady w.machine i → length i.places ≡ min w.interval w.due → SeqStands m i [] i.before)
+    → AtWork limits p (record w { machine = m; whole = false; due = w.due - min w.interval w.due; turn = (w.turn + 1) % 8 }) now
+next_work limits bytes p w m now b begun =
+    let old = b.old in
+    let r = read_at limits old w now b.whole b.work in
+    let j = next_one limits old b.next b.others r.interval now in
+    let new = with_interval old b.next b.others in
+    let new_w : ScanWork = record w { machine = m; whole = false; due = w.due - min w.interval w.due; turn = (w.turn + 1) % 8 } in
+    let c = next_count limits bytes p w now b in
+    let s = scan_at limits old in
+    let k = subst (λ l. AreIntervals w.interval l) b.due (b.work).later in
+    let all : w.due ≡ length b.next + length (joined b.others) = (b.work).due ∙ ap (λ l. length (joined l)) b.due ∙ length-append b.next (joined b.others) in
+    let due : Due limits new m now = record {
+      interval = j;
+      is = record { scan = (r.is).scan; places = refl; later = refl };
+      framed = r.framed;
+      stands = begun j (next_ready limits bytes p w now b) c.0;
+      so_far = subst (λ l. ScanSoFar s old.blocks (map_of now) (old.done ++ old.coded ∷ []) l) b.due r.so_far;
+    } in
+    let work : AtWork limits new new_w now = record {
+      readable = record { plain = ((b.work).readable).plain; distinct = ((b.work).readable).distinct };
+      at = due;
+      turn = omega (arith, (b.work).turn, length-append old.done (old.coded ∷ []));
+      due = omega (arith, all, c.0);
+      later = k.2;
+    } in
+    subst (λ q. AtWork limits q new_w now) (sym b.is) work
+
+-- A BYTE of the file, by what the gate lets through
+
+pub ff_byte : (limits : Limits) (items : List Item) (contents bytes : List ℕ) (byte : ℕ) (s : InScan) (gate : Bool) (now : Picture) → InData limits items contents bytes s now → byte ≡ 255 → gate ≡ true
+    → InData limits items contents (bytes ++ byte ∷ []) (record s { gate = gate }) now
+ff_byte limits items contents bytes byte s gate now d e g = record {
+  place = d.place;
+  of = d.of;
+  fill = suc d.fill;
+  at = subst (λ n. ScanAt limits (bytes ++ n ∷ []) d.place (replicate (suc d.fill) 255)) (sym e) (filled_data limits bytes d.place d.fill d.at);
+  waits = subst (λ b. Waits b (suc d.fill)) (sym g) (d.fill, refl);
+  work = d.work;
+}
+
+pub data_at : (limits : Limits) (items : List Item) (contents bytes : List ℕ) (byte passed : ℕ) (s : InScan) (now : Picture) → (d : InData limits items contents bytes s now) → IsData s.gate byte passed
+    → ScanAt limits (bytes ++ byte ∷ []) (with_byte d.place passed) []
+data_at limits items contents bytes byte passed s now d k = by s.gate d.waits k
+  where
+    by : (g : Bool) → Waits g d.fill → IsData g byte passed → ScanAt limits (bytes ++ byte ∷ []) (with_byte d.place passed) []
+    by false none (other, is) =
+        subst (λ n. ScanAt limits (bytes ++ byte ∷ []) (with_byte d.place n) []) (sym is) (plain_data limits bytes d.place byte (subst (λ n. ScanAt limits bytes d.place (replicate n 255)) none d.at) other)
+    by true (n, some) (zero_byte, is) =
+        subst (λ m. ScanAt limits (bytes ++ byte ∷ []) (with_byte d.place m) []) (sym is)
+        (subst (λ m. ScanAt limits (bytes ++ m ∷ []) (with_byte d.place 255) []) (sym zero_byte) (stuffed_data limits bytes d.place n (subst (λ m. ScanAt limits bytes d.place (replicate m 255)) some d.at)))
+
+pub data_byte : (limits : Limits) (items : List Item) (contents bytes : List ℕ) (p : ScanPlace) (gate : Bool) (w : ScanWork) (now : Picture) (answer : ScanStep) → (p.items ≡ items) × (p.contents ≡ contents) → ScanAt limits bytes p [] → gate ≡ false
+    → AfterData limits bytes p answer w now → AfterByte limits items contents bytes answer (record { gate = gate; work = w }) now
+data_byte limits items contents bytes p gate w now More of at g k = record { place = p; of = of; fill = 0; at = at; waits = subst (λ b. Waits b 0) (sym g) refl; work = k }
+data_byte limits items contents bytes p gate w now (Marker code) of at g k = absurd k
+data_byte limits items contents bytes p gate w now (Stopped f) of at g k = k
+
+-- behind FF bytes
+pub marker_at : (limits : Limits) (items : List Item) (contents bytes : List ℕ) (code : ℕ) (s : InScan) (now : Picture) → (d : InData limits items contents bytes s now) → s.gate ≡ true → (code ≡ 0 → ⊥) → (code ≡ 255 → ⊥)
+    → MarkerAt limits (bytes ++ code ∷ []) d.place code s.work now
+marker_at limits items contents bytes code s now d g z f =
+    let some = subst (λ b. Waits b d.fill) g d.waits in
+    record {
+      fill = some.0;
+      no_zero = z;
+      no_fill = f;
+      at = marker_data limits bytes d.place some.0 code (subst (λ m. ScanAt limits bytes d.place (replicate m 255)) some.1 d.at);
+      work = d.work;
+    }
+
+pub marker_byte : (limits : Limits) (items : List Item) (contents bytes : List ℕ) (p : ScanPlace) (n code : ℕ) (gate : Bool) (w : ScanWork) (now : Picture) (answer : ScanStep) → (p.items ≡ items) × (p.contents ≡ contents) → (code ≡ 0 → ⊥) → (code ≡ 255 → ⊥)
+    → ScanAt limits bytes p (replicate (suc n) 255 ++ code ∷ []) → gate ≡ false → AfterMarker limits bytes p code answer w now → AfterByte limits items contents bytes answer (record { gate = gate; work = w }) now
+marker_byte limits items contents bytes p n code gate w now More of z f at g (next, others, begun, k) =
+    record { place = with_interval p next others; of = of; fill = 0; at = begun; waits = subst (λ b. Waits b 0) (sym g) refl; work = k }
+marker_byte limits items contents bytes p n code gate w now (Marker c) of z f at g (is, means) =
+    subst (λ k. Ended limits items contents bytes k now) (sym is) (record { place = p; of = of; fill = n; at = at; marker = marker_code 0 code z f; means = means })
+marker_byte limits items contents bytes p n code gate w now (Stopped f) of z g at h k = k
+
+-- INSIDE DATA a file stands
+pub data_stands : (limits : Limits) (items : List Item) (contents bytes : List ℕ) (s : InScan) (now : Picture) → InData limits items contents bytes s now → FileStands limits bytes
+data_stands limits items contents bytes s now d = by s.work.whole (d.work).at
+  where
+    by : (b : Bool) → AtInterval limits d.place b s.work.machine now → FileStands limits bytes
+    by false k = (let u = due_units limits d.place s.work.machine now (d.work).readable k in units_due limits bytes d.place d.fill u.told u.left d.at u.stands)
+    by true k = complete_stands limits bytes d.place d.fill d.at k.completes

@@ -1,0 +1,9 @@
+use Rattle.std.specs.Prelude.{◌≡◌, ◌<◌, All, length}
+use Rattle.jpg_file.specs.Held.{lacks_any, told_by}
+use Rattle.jpg_file.proofs.held.lacks_table.Given as goal
+
+abbrev pub invariant-loop-rest : goal.invariant-loop-rest
+invariant-loop-rest l = (lacks_any (told_by l.held) l.frame l.parts ≡ lacks_any (told_by l.held) l.frame l.rest) × All (λ p. p.component < length l.frame.components) l.rest
+
+abbrev pub decreases-loop-rest : goal.decreases-loop-rest
+decreases-loop-rest l = length l.rest

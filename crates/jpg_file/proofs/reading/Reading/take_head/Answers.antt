@@ -1,0 +1,62 @@
+use Rattle.std.proofs.Common.{◌∙◌, List, Ok, Err, map, refl, ap, arith}
+use Rattle.std.specs.Prelude.{◌||◌}
+use Rattle.jpg_spec.specs.Lists.{is_among}
+use Rattle.jpg_spec.specs.Geometry.{Frame}
+use Rattle.jpg_spec.specs.InForce.{head_in}
+use Rattle.jpg_spec.specs.Items.{segments_of}
+use Rattle.jpg_spec.specs.declared.frame.ScanPart.{ScanPart}
+use Rattle.jpg_file.specs.Begun.{begun_at}
+use Rattle.jpg_spec.specs.Segments.{ScanHead}
+use Rattle.jpg_markers.specs.Reading.{reading_of}
+use Rattle.jpg_file.specs.Reading.{waiting}
+use Rattle.jpg_file.proofs.Beginnings.{begun_more}
+use Rattle.jpg_file.proofs.HeadTaken.{found, judged, head_begins, head_shows}
+use Rattle.jpg_file.proofs.reading.Reading.take_head.Goals as goal
+
+pub begin_scan-scan-requires : goal.begin_scan-scan-requires
+begin_scan-scan-requires c =
+    let o = c.requires.stands in
+    let r = c.args.self.now in
+    let b = c.args.begun.now in
+    let f = c.copy-frame.result in
+    let q = c.in-Some-coefs.coefs in
+    let w = found r.items.limits o.0 o.1 o.2 r b f c.in-Some.held q o.3 c.in-Some.is c.copy-frame.ensures c.in-Some-coefs.is in
+    let j = judged r.items.limits o.0 o.1 o.2 r b f q c.contents.result.now (Ok c.in-Ok.head) w c.contents.ensures c.in-Ok.ensures in
+    (r.items.limits, o.1, o.2, (reading_of r.items.segments).contents, o.0, head_begins r.items.limits o.0 o.1 o.2 r b f q c.in-Ok.head w j)
+
+pub returns-in-Err : goal.returns-in-Err
+returns-in-Err c = λ bytes items blocks k.
+    let r = c.args.self.now in
+    let b = c.args.begun.now in
+    let f = c.copy-frame.result in
+    let q = c.in-Some-coefs.coefs in
+    let w = found r.items.limits bytes items blocks r b f c.in-Some.held q k c.in-Some.is c.copy-frame.ensures c.in-Some-coefs.is in
+    head_shows r.items.limits bytes items blocks r b f q c.in-Err.fault w (judged r.items.limits bytes items blocks r b f q c.contents.result.now (Err c.in-Err.fault) w c.contents.ensures c.in-Err.ensures)
+
+pub returns-in-Ok : goal.returns-in-Ok
+returns-in-Ok c = λ bytes items blocks k.
+    let r = c.args.self.now in
+    let b = c.args.begun.now in
+    let f = c.copy-frame.result in
+    let q = c.in-Some-coefs.coefs in
+    let head = c.in-Ok.head in
+    let contents = (reading_of r.items.segments).contents in
+    let w = found r.items.limits bytes items blocks r b f c.in-Some.held q k c.in-Some.is c.copy-frame.ensures c.in-Some-coefs.is in
+    let j = judged r.items.limits bytes items blocks r b f q c.contents.result.now (Ok head) w c.contents.ensures c.in-Ok.ensures in
+    let begins = head_begins r.items.limits bytes items blocks r b f q head w j in
+    let same = c.as_slice.ensures.value ∙ ap (λ (h : ScanHead). h.parts) c.head.view_is in (
+      record {
+        items = items;
+        contents = contents;
+        coefs = q;
+        has = c.in-Some-coefs.is;
+        scan = c.begin_scan-scan.result;
+        inside = refl;
+        at = c.begin_scan-scan.ensures.begun r.items.limits items blocks contents bytes begins;
+        head = c.head_done.ensures.behind bytes items blocks k.segment k.code;
+        count = k.count;
+        behind = omega (arith, k.same, c.head_done.ensures.same, ap waiting c.begin_scan-scan.ensures.gate);
+      },
+      begun_more r.items.limits b c.note.new.self (segments_of items) contents head (ap (λ (g : Frame). head_in g contents) (begins.header).framed ∙ (begins.header).header)
+          (λ i. c.note.ensures i ∙ ap (λ (l : List ScanPart). begun_at b i || is_among i (map (λ (p : ScanPart). p.component) l)) same) k.begun,
+    )

@@ -1,0 +1,79 @@
+-- What a reader of a file keeps of the segments so far.
+use Rattle.std.specs.Prelude.{◌≡◌, ℕ, Bool, false, List, [], ◌∷◌, length, reverse, slice_get, Option, Some, None, find, is_none, ◌||◌}
+use Rattle.jpg_spec.specs.Geometry.{Frame, component_at}
+use Rattle.jpg_spec.specs.Segments.{HuffmanTable}
+use Rattle.jpg_spec.specs.Jfif.{Jfif, is_jfif, jfif_told}
+use Rattle.jpg_spec.specs.HuffContents.{HuffmanSlots}
+use Rattle.jpg_spec.specs.QuantContents.{Slots, quant_in}
+use Rattle.jpg_spec.specs.Markers.{Segment, has_scan, kept_after, kept_rule}
+use Rattle.jpg_spec.specs.InForce.{frame_after, huffman_in_force, quant_in_force, restart_in_force}
+use Rattle.jpg_spec.specs.Items.{contents_rule}
+use Rattle.jpg_spec.specs.declared.frame.Limits.{Limits}
+use Rattle.jpg_spec.specs.declared.frame.ScanPart.{ScanPart}
+use Rattle.jpg_huff.specs.Sets.{slots_of}
+use Rattle.jpg_file.specs.declared.held.Held.{Held}
+use Rattle.jpg_file.specs.declared.held.Took.{Took}
+use Rattle.jpg_file.specs.declared.held.Took.TheVariants as took
+
+-- what segments told so far
+pub record HeldTold : Type 0 where
+  pub frame : Option Frame
+  pub tables : HuffmanSlots
+  pub quants : Slots
+  pub interval : ℕ
+  pub scanned : Bool
+  pub kept : List Segment
+  pub jfif : Jfif
+
+abbrev pub told_by : Held → HeldTold
+told_by h = record { frame = h.frame; tables = slots_of h.tables; quants = h.quants; interval = h.interval; scanned = h.scanned; kept = h.kept; jfif = h.jfif }
+
+abbrev pub joined : {X : Type 0} → Option (Option X) → Option X
+joined None = None
+joined (Some x) = x
+
+abbrev pub huffman_in : List (Option HuffmanTable) → ℕ → Option HuffmanTable
+huffman_in slots slot = joined (slice_get slots slot)
+
+-- It is what is in force behind these segments.
+pub record Holds (limits : Limits) (h : HeldTold) (before : List Segment) : Type 0 where
+  pub frame : h.frame ≡ frame_after limits before
+  pub dc_slots : length h.tables.dc ≡ 4
+  pub ac_slots : length h.tables.ac ≡ 4
+  pub dc : (slot : ℕ) → huffman_in h.tables.dc slot ≡ huffman_in_force before 0 slot
+  pub ac : (slot : ℕ) → huffman_in h.tables.ac slot ≡ huffman_in_force before 1 slot
+  pub quant_slots : length h.quants ≡ 4
+  pub quants : (slot : ℕ) → quant_in h.quants slot ≡ quant_in_force before slot
+  pub interval : h.interval ≡ restart_in_force before
+  pub scanned : h.scanned ≡ has_scan before
+  pub kept : h.kept ≡ reverse (kept_after before)
+  pub jfif : h.jfif ≡ jfif_told (find is_jfif (kept_after before))
+
+-- a part of a sequential scan whose tables aren't all there, the quantisation table in this slot
+abbrev pub lacks_part : HeldTold → ℕ → ScanPart → Bool
+lacks_part h quant p = is_none (quant_in h.quants quant) || (is_none (huffman_in h.tables.dc p.dc) || is_none (huffman_in h.tables.ac p.ac))
+
+abbrev pub lacks_any : HeldTold → Frame → List ScanPart → Bool
+lacks_any h f [] = false
+lacks_any h f (p ∷ parts) = lacks_part h (component_at f p.component).quant p || lacks_any h f parts
+
+-- a further segment, and what it made of the header
+abbrev pub Takes : Limits → List Segment → ℕ → List ℕ → Took → HeldTold → Type 0
+Takes limits before code contents took.Done h = (contents_rule limits before code contents ≡ None) × Holds limits h ((code, contents) ∷ before)
+Takes limits before code contents (took.Fault fault) h = contents_rule limits before code contents ≡ Some fault
+Takes limits before code contents took.NoMemory h = Unit {0}
+
+-- whatever segments told what is held, and leave room for what is kept of this one
+abbrev pub HoldsSegment : HeldTold → Limits → ℕ → List ℕ → Took → HeldTold → Type 0
+HoldsSegment old limits code contents answer new =
+    (before : List Segment) → Holds limits old before → kept_rule limits before code contents ≡ None → Takes limits before code contents answer new
+
+-- a code that defines nothing and begins no scan
+pub record IsOther (code : ℕ) : Type 0 where
+  pub huffmans : code ≡ 0xc4 → ⊥
+  pub quants : code ≡ 0xdb → ⊥
+  pub interval : code ≡ 0xdd → ⊥
+  pub scan : code ≡ 0xda → ⊥
+  pub baseline : code ≡ 0xc0 → ⊥
+  pub extended : code ≡ 0xc1 → ⊥
+  pub progressive : code ≡ 0xc2 → ⊥

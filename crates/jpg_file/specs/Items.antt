@@ -1,0 +1,107 @@
+-- Between the items of a file: what a reader stands for there, and what a further byte comes to (T.81 B.1.1, B.2.1).
+use Rattle.std.specs.Prelude.{◌≡◌, ◌⊎◌, ℕ, List, [], ◌∷◌, ◌++◌, None}
+use Rattle.jpg_spec.specs.Scan.{Blocks}
+use Rattle.jpg_spec.specs.Markers.{SpellsMarker, SpellsSegment, code_fault, kept_rule}
+use Rattle.jpg_spec.specs.Items.{Item, segment, scan, segments_of}
+use Rattle.jpg_spec.specs.FileMeaning.{Leads, no_blocks}
+use Rattle.jpg_spec.specs.FirstFault.{Shows}
+use Rattle.jpg_spec.specs.ScanReading.{Beside}
+use Rattle.jpg_spec.specs.declared.frame.Limits.{Limits}
+use Rattle.jpg_markers.specs.Reading.{reading_of, StandsFor, IsBehindScan}
+use Rattle.jpg_markers.specs.declared.segments.Phase.TheVariants as phase
+use Rattle.jpg_coefs.specs.Picture.{Picture, map_of}
+use Rattle.jpg_file.specs.Held.{Holds, told_by}
+use Rattle.jpg_file.specs.InData.{Ended}
+use Rattle.jpg_file.specs.declared.items.Items.{Items}
+use Rattle.jpg_file.specs.declared.items.ItemStep.{ItemStep}
+use Rattle.jpg_file.specs.declared.items.ItemStep.TheVariants.{More, Head, Eoi, Fault, NoMemory}
+
+-- before SOI is whole
+pub record IsStart (bytes sent : List ℕ) (items : List Item) (blocks : Blocks) : Type 0 where
+  pub same : bytes ≡ sent
+  pub short : (sent ≡ []) ⊎ (sent ≡ 255 ∷ [])
+  pub no_items : items ≡ []
+  pub blank : blocks ≡ no_blocks
+
+-- behind SOI: whole items, which lead to these blocks, and the same bytes of a further segment on both sides
+pub record IsBeside (limits : Limits) (bytes sent : List ℕ) (items : List Item) (blocks : Blocks) (tail : List ℕ) : Type 0 where
+  pub beside : Beside limits (kept_rule limits) sent bytes items tail
+  pub leads : Leads limits items blocks
+
+abbrev pub AtPlace : Limits → List ℕ → List ℕ → List Item → Blocks → Type 0
+AtPlace limits bytes sent items blocks = IsStart bytes sent items blocks ⊎ ((tail : List ℕ) × IsBeside limits bytes sent items blocks tail)
+
+-- The bytes are these items and a part of one more; the reader of segments was sent the same but for the data of scans.
+pub record Between (limits : Limits) (bytes : List ℕ) (items : List Item) (blocks : Blocks) (w : Items) : Type 0 where
+  pub sent : List ℕ
+  pub stands : StandsFor sent (segments_of items) (reading_of w.segments)
+  pub at : AtPlace limits bytes sent items blocks
+  pub bounded : ((reading_of w.segments).limits ≡ limits) × (w.limits ≡ limits)
+  pub holds : Holds limits (told_by w.held) (segments_of items)
+
+-- A segment is whole that isn't judged by its contents yet.
+pub record BehindSegment (limits : Limits) (bytes : List ℕ) (items : List Item) (blocks : Blocks) (w : Items) : Type 0 where
+  pub sent : List ℕ
+  pub tail : List ℕ
+  pub stands : StandsFor sent (((reading_of w.segments).code, (reading_of w.segments).contents) ∷ segments_of items) (reading_of w.segments)
+  pub at : IsBeside limits bytes sent items blocks tail
+  pub spelled : SpellsSegment (reading_of w.segments).code (reading_of w.segments).contents tail
+  pub allowed : code_fault (segments_of items) (reading_of w.segments).code ≡ None
+  pub no_end : (reading_of w.segments).code ≡ 0xd9 → ⊥
+  pub phase : (reading_of w.segments).phase ≡ phase.Between
+  pub kept : kept_rule limits (segments_of items) (reading_of w.segments).code (reading_of w.segments).contents ≡ None
+  pub bounded : ((reading_of w.segments).limits ≡ limits) × (w.limits ≡ limits)
+  pub holds : Holds limits (told_by w.held) (segments_of items)
+
+-- EOI is there
+pub record BehindEnd (limits : Limits) (bytes : List ℕ) (items : List Item) (blocks : Blocks) (w : Items) : Type 0 where
+  pub sent : List ℕ
+  pub tail : List ℕ
+  pub at : IsBeside limits bytes sent items blocks tail
+  pub ended : SpellsMarker 0xd9 tail
+  pub allowed : code_fault (segments_of items) 0xd9 ≡ None
+  pub holds : Holds limits (told_by w.held) (segments_of items)
+
+-- no item more, or one that is no scan
+abbrev pub GoesOn : List Item → List Item → Type 0
+GoesOn items new = (new ≡ items) ⊎ ((code : ℕ) × (contents : List ℕ) × (new ≡ segment code contents ∷ items) × (code ≡ 0xda → ⊥))
+
+abbrev pub AfterItem : Limits → List ℕ → List Item → Blocks → ItemStep → Items → Type 0
+AfterItem limits bytes items blocks More w = (new : List Item) × GoesOn items new × Between limits bytes new blocks w
+AfterItem limits bytes items blocks Head w = BehindSegment limits bytes items blocks w × ((reading_of w.segments).code ≡ 0xda)
+AfterItem limits bytes items blocks Eoi w = BehindEnd limits bytes items blocks w
+AfterItem limits bytes items blocks (Fault f) w = Shows limits f.fault bytes × (f.at ≡ (reading_of w.segments).taken)
+AfterItem limits bytes items blocks NoMemory w = Unit {0}
+
+-- A BYTE outside scan data, and a segment that is judged: whatever stood before, this stands behind.
+abbrev pub TakesItemByte : Items → ℕ → ItemStep → Items → Type 0
+TakesItemByte old byte answer new =
+    (bytes : List ℕ) (items : List Item) (blocks : Blocks) → Between old.limits bytes items blocks old → AfterItem old.limits (bytes ++ byte ∷ []) items blocks answer new
+
+abbrev pub JudgesSegment : Items → ItemStep → Items → Type 0
+JudgesSegment old answer new =
+    (bytes : List ℕ) (items : List Item) (blocks : Blocks) → BehindSegment old.limits bytes items blocks old → AfterItem old.limits bytes items blocks answer new
+
+-- INSIDE A SCAN: the reader of segments waits behind its header
+pub record BehindHead (limits : Limits) (items : List Item) (contents : List ℕ) (w : Items) : Type 0 where
+  pub sent : List ℕ
+  pub stands : StandsFor sent ((0xda, contents) ∷ segments_of items) (reading_of w.segments)
+  pub behind : IsBehindScan (reading_of w.segments)
+  pub bounded : ((reading_of w.segments).limits ≡ limits) × (w.limits ≡ limits)
+  pub holds : Holds limits (told_by w.held) ((0xda, contents) ∷ segments_of items)
+
+-- behind the marker that ended its data: the scan is an item, with these intervals
+abbrev pub AfterScan : Limits → List Item → List ℕ → List ℕ → Blocks → ItemStep → Items → Type 0
+AfterScan limits items contents bytes blocks answer w = (intervals : List (List ℕ)) × AfterItem limits bytes (scan contents intervals ∷ items) blocks answer w
+
+-- a scan header that was judged is behind
+abbrev pub PassesHead : Items → Items → Type 0
+PassesHead old new =
+    (bytes : List ℕ) (items : List Item) (blocks : Blocks) → BehindSegment old.limits bytes items blocks old → (reading_of old.segments).code ≡ 0xda
+    → BehindHead old.limits items (reading_of old.segments).contents new
+
+-- the marker that ended the data of a scan
+abbrev pub TakesMarker : Items → ℕ → ItemStep → Items → Type 0
+TakesMarker old code answer new =
+    (items : List Item) (contents bytes : List ℕ) (now : Picture) → BehindHead old.limits items contents old → Ended old.limits items contents bytes code now
+    → AfterScan old.limits items contents bytes (map_of now) answer new

@@ -1,0 +1,22 @@
+-- A whole segment of a scan header, judged (T.81 B.2.3, G.1.1.1).
+use Rattle.std.specs.Prelude.{◌≡◌, ℕ, false, List, Some, None, Result, Ok, Err}
+use Rattle.jpg_spec.specs.Geometry.{Frame}
+use Rattle.jpg_spec.specs.Segments.{ScanHead}
+use Rattle.jpg_spec.specs.ScanContents.{IsHead, scan_header}
+use Rattle.jpg_spec.specs.Markers.{Segment}
+use Rattle.jpg_spec.specs.InForce.{frame_of}
+use Rattle.jpg_spec.specs.Items.{contents_rule}
+use Rattle.jpg_spec.specs.declared.fault.Fault.{Fault}
+use Rattle.jpg_spec.specs.declared.frame.Limits.{Limits}
+use Rattle.jpg_file.specs.Begun.{HasBegun}
+use Rattle.jpg_file.specs.Held.{HeldTold, Holds, lacks_any}
+use Rattle.jpg_file.specs.declared.begun.Begun.{Begun}
+
+abbrev pub Judged : Limits → List Segment → List ℕ → Frame → HeldTold → Result ScanHead Fault → Type 0
+Judged limits before contents f h (Ok head) = (contents_rule limits before 0xda contents ≡ None) × (scan_header f contents ≡ Ok head) × IsHead f head × (lacks_any h f head.parts ≡ false)
+Judged limits before contents f h (Err fault) = contents_rule limits before 0xda contents ≡ Some fault
+
+-- whatever segments told what is held, and which components were in a scan
+abbrev pub JudgesHead : List ℕ → Frame → HeldTold → Begun → Result ScanHead Fault → Type 0
+JudgesHead contents f h b answer =
+    (limits : Limits) (before : List Segment) → frame_of limits before ≡ f → Holds limits h before → HasBegun limits b before → Judged limits before contents f h answer

@@ -1,0 +1,108 @@
+-- A file in work: what its reader stands for (T.81 B.2.1).
+use Rattle.std.specs.Prelude.{◌≡◌, ◌⊎◌, ℕ, ◌+◌, ◌≤◌, Bool, true, false, List, [], ◌∷◌, ◌++◌, length, Some, None}
+use Rattle.jpg_spec.specs.Items.{Item, segments_of}
+use Rattle.jpg_spec.specs.Geometry.{Frame, is_progressive}
+use Rattle.jpg_spec.specs.FrameHeader.{IsFrame}
+use Rattle.jpg_spec.specs.Scan.{Blocks}
+use Rattle.jpg_spec.specs.FirstFault.{Shows}
+use Rattle.jpg_spec.specs.declared.frame.Limits.{Limits}
+use Rattle.jpg_coefs.specs.Picture.{Picture, map_of}
+use Rattle.jpg_markers.specs.Reading.{reading_of}
+use Rattle.jpg_file.specs.InData.{InData}
+use Rattle.jpg_file.specs.Begun.{HasBegun}
+use Rattle.jpg_file.specs.declared.begun.Begun.{Begun}
+use Rattle.jpg_file.specs.declared.items.Items.{Items}
+use Rattle.jpg_file.specs.Items.{Between, BehindSegment, BehindHead, AfterItem, AfterScan}
+use Rattle.jpg_file.specs.declared.scan.InScan.{InScan}
+use Rattle.jpg_file.specs.declared.items.ItemStep.{ItemStep}
+use Rattle.jpg_file.specs.declared.items.ItemStep.TheVariants.{More, Head, Eoi, Fault, NoMemory}
+use Rattle.jpg_file.specs.declared.reading.Reading.{Reading}
+
+-- between items, which lead to these blocks
+pub record Itemising (limits : Limits) (bytes : List ℕ) (items : List Item) (blocks : Blocks) (r : Reading) : Type 0 where
+  pub at : Between limits bytes items blocks r.items
+  pub none : r.scan ≡ None
+  pub count : r.taken ≡ length bytes
+  pub same : (reading_of (r.items).segments).taken ≡ r.taken
+
+-- what an item's byte comes to, the picture as it was
+pub record AfterItemByte (limits : Limits) (bytes : List ℕ) (items : List Item) (blocks : Blocks) (answer : ItemStep) (r : Reading) : Type 0 where
+  pub after : AfterItem limits bytes items blocks answer r.items
+  pub none : r.scan ≡ None
+  pub count : r.taken ≡ length bytes
+  pub same : (reading_of (r.items).segments).taken ≡ r.taken
+
+-- the bytes that stand behind the last data byte: FF at least, where FF waits
+abbrev pub waiting : Bool → ℕ
+waiting false = 0
+waiting true = 1
+
+-- inside the data of a scan
+pub record Scanning (limits : Limits) (bytes : List ℕ) (r : Reading) : Type 0 where
+  pub items : List Item
+  pub contents : List ℕ
+  pub coefs : Picture
+  pub has : r.coefs ≡ Some coefs
+  pub scan : InScan
+  pub inside : r.scan ≡ Some scan
+  pub at : InData limits items contents bytes scan coefs
+  pub head : BehindHead limits items contents r.items
+  pub count : r.taken ≡ length bytes
+  pub behind : (reading_of (r.items).segments).taken + waiting scan.gate ≤ r.taken
+
+-- Behind the data the items go on, with the scan as the last of them and the picture that is held.
+pub record ScanDone (limits : Limits) (bytes : List ℕ) (answer : ItemStep) (r : Reading) : Type 0 where
+  pub items : List Item
+  pub contents : List ℕ
+  pub coefs : Picture
+  pub has : r.coefs ≡ Some coefs
+  pub none : r.scan ≡ None
+  pub after : AfterScan limits items contents bytes (map_of coefs) answer r.items
+  pub count : r.taken ≡ length bytes
+  pub same : (reading_of (r.items).segments).taken ≡ r.taken
+
+-- a fault of the data
+abbrev pub IsShown : Limits → List ℕ → ItemStep → Type 0
+IsShown limits bytes More = ⊥
+IsShown limits bytes Head = ⊥
+IsShown limits bytes Eoi = ⊥
+IsShown limits bytes (Fault f) = Shows limits f.fault bytes × (f.at ≡ length bytes)
+IsShown limits bytes NoMemory = ⊥
+
+abbrev pub AfterScanByte : Limits → List ℕ → ItemStep → Reading → Type 0
+AfterScanByte limits bytes answer r = ((answer ≡ More) × Scanning limits bytes r) ⊎ (ScanDone limits bytes answer r ⊎ IsShown limits bytes answer)
+
+-- a scan header is whole, in a sequential frame, and there is a picture
+pub record HeadWhole (limits : Limits) (bytes : List ℕ) (items : List Item) (blocks : Blocks) (r : Reading) (b : Begun) : Type 0 where
+  pub segment : BehindSegment limits bytes items blocks r.items
+  pub code : (reading_of (r.items).segments).code ≡ 0xda
+  pub frame : Frame
+  pub framed : r.items.held.frame ≡ Some frame
+  pub is_frame : IsFrame frame
+  pub plain : is_progressive frame.process ≡ false
+  pub begun : HasBegun limits b (segments_of items)
+  pub coefs : Picture
+  pub has : r.coefs ≡ Some coefs
+  pub pictured : coefs.frame ≡ frame
+  pub as_map : blocks ≡ map_of coefs
+  pub count : r.taken ≡ length bytes
+  pub same : (reading_of (r.items).segments).taken ≡ r.taken
+
+abbrev pub AfterHead : Limits → List ℕ → List Item → Items → ItemStep → Reading → Begun → Type 0
+AfterHead limits bytes items old More r b = Scanning limits bytes r × HasBegun limits b ((0xda, (reading_of old.segments).contents) ∷ segments_of items)
+AfterHead limits bytes items old Head r b = ⊥
+AfterHead limits bytes items old Eoi r b = ⊥
+AfterHead limits bytes items old (Fault f) r b = Shows limits f.fault bytes × (f.at ≡ length bytes)
+AfterHead limits bytes items old NoMemory r b = ⊥
+
+-- WHATEVER stood before, this stands behind a header and a byte.
+abbrev pub TakesHead : Reading → Begun → ItemStep → Reading → Begun → Type 0
+TakesHead old before answer new b =
+    (bytes : List ℕ) (items : List Item) (blocks : Blocks) → HeadWhole old.items.limits bytes items blocks old before → AfterHead old.items.limits bytes items old.items answer new b
+
+abbrev pub TakesByteOfItems : Reading → ℕ → ItemStep → Reading → Type 0
+TakesByteOfItems old byte answer new =
+    (bytes : List ℕ) (items : List Item) (blocks : Blocks) → Itemising old.items.limits bytes items blocks old → AfterItemByte old.items.limits (bytes ++ byte ∷ []) items blocks answer new
+
+abbrev pub TakesByteOfScan : Reading → ℕ → ItemStep → Reading → Type 0
+TakesByteOfScan old byte answer new = (bytes : List ℕ) → Scanning old.items.limits bytes old → AfterScanByte old.items.limits (bytes ++ byte ∷ []) answer new

@@ -1,0 +1,186 @@
+// What the segments of a file told so far (T.81 B.2).
+ghost use Rattle.std.specs.Prelude.{◌≡◌, ◌≤◌, ◌==◌, ◌&&◌, ◌||◌, ◌<◌, All, not, List, [], ◌∷◌, length, Some, None};
+ghost use Rattle.jpg_spec.specs.FrameHeader.{AreLimits};
+ghost use Rattle.jpg_spec.specs.Jfif.{begins_jfif, begins_adobe};
+ghost use Rattle.jpg_spec.specs.Markers.{Segment, is_kept_if, is_within, kept_rule, process_of_code};
+ghost use Rattle.jpg_spec.specs.declared.frame.Limits.{Limits as Bounded};
+ghost use Rattle.jpg_spec.specs.Geometry.{component_at};
+ghost use Rattle.jpg_file.specs.Held.{Holds, HoldsSegment, IsOther, Takes, lacks_any, lacks_part, told_by};
+
+use jpg_base::{Frame, Limits, NoMemory};
+use jpg_huff::TableSet;
+use jpg_markers::{
+    App, Jfif, KeptList, QuantSet, read_app, read_dht, read_dqt, read_dri, read_sof,
+};
+use jpg_spec::{Fault, Process, ScanPart};
+use std::alloc::Global;
+
+/// What the segments so far tell: the frame, the tables in force, the restart interval (in MCUs, 0 for
+/// none), whether a scan began, the markers that are kept, and the last JFIF header.
+#[derive(Drop)]
+pub struct Held {
+    pub frame: Option<Frame>,
+    pub tables: TableSet,
+    pub quants: QuantSet,
+    pub interval: u16,
+    pub scanned: bool,
+    pub kept: KeptList,
+    pub jfif: Jfif,
+}
+
+/// What became of a segment.
+pub enum Took {
+    /// What it tells is held.
+    Done,
+    /// Its contents break this rule.
+    Fault(Fault),
+    /// Memory is wanting for what is kept of it.
+    NoMemory,
+}
+
+impl Held {
+    /// Before any segment.
+    pub fn new(alloc: Global) -> Held
+        ensures { (limits : Bounded) → Holds limits (told_by result) [] }
+    {
+        Held {
+            frame: None,
+            tables: TableSet::new(),
+            quants: QuantSet::new(),
+            interval: 0,
+            scanned: false,
+            kept: KeptList::new(alloc),
+            jfif: Jfif {
+                seen: false,
+                major: 1,
+                minor: 1,
+                unit: 0,
+                x: 1,
+                y: 1,
+            },
+        }
+    }
+
+    /// Takes a whole segment of this marker code that is no scan header and whose kept bytes are within
+    /// their limit.
+    pub fn take(&mut self, limits: Limits, code: u8, contents: &[u8]) -> Took
+        requires limits { AreLimits limits }
+        requires other { code ≡ 0xda → ⊥ }
+        requires short { length contents.now ≤ 65533 }
+        ensures { HoldsSegment (told_by self.old) limits code contents.now result (told_by self.new) }
+    {
+        match code {
+            0xc4 => self.take_huffmans(limits, contents),
+            0xdb => self.take_quants(limits, contents),
+            0xdd => self.take_interval(limits, contents),
+            0xc0 => self.take_frame(limits, 0xc0, Process::Baseline, contents),
+            0xc1 => self.take_frame(limits, 0xc1, Process::Extended, contents),
+            0xc2 => self.take_frame(limits, 0xc2, Process::Progressive, contents),
+            _ => self.take_other(limits, code, contents),
+        }
+    }
+
+    fn take_huffmans(&mut self, limits: Limits, contents: &[u8]) -> Took
+        ensures { (before : List Segment) → Holds limits (told_by self.old) before → Takes limits before 0xc4 contents.now result (told_by self.new) }
+    {
+        match read_dht(contents, &mut self.tables) {
+            Ok(()) => Took::Done,
+            Err(fault) => Took::Fault(fault),
+        }
+    }
+
+    fn take_quants(&mut self, limits: Limits, contents: &[u8]) -> Took
+        ensures { (before : List Segment) → Holds limits (told_by self.old) before → Takes limits before 0xdb contents.now result (told_by self.new) }
+    {
+        match read_dqt(contents, &mut self.quants) {
+            Ok(()) => Took::Done,
+            Err(fault) => Took::Fault(fault),
+        }
+    }
+
+    fn take_interval(&mut self, limits: Limits, contents: &[u8]) -> Took
+        ensures { (before : List Segment) → Holds limits (told_by self.old) before → Takes limits before 0xdd contents.now result (told_by self.new) }
+    {
+        match read_dri(contents) {
+            Ok(interval) => {
+                self.interval = interval;
+                Took::Done
+            }
+            Err(fault) => Took::Fault(fault),
+        }
+    }
+
+    fn take_frame(&mut self, limits: Limits, code: u8, process: Process, contents: &[u8]) -> Took
+        requires limits { AreLimits limits }
+        requires process { process_of_code code ≡ Some process }
+        ensures { (before : List Segment) → Holds limits (told_by self.old) before → Takes limits before code contents.now result (told_by self.new) }
+    {
+        match read_sof(process, contents, &limits) {
+            Ok(frame) => {
+                self.frame = Some(frame);
+                Took::Done
+            }
+            Err(fault) => Took::Fault(fault),
+        }
+    }
+
+    // Application segments and comments are kept. Others tell nothing.
+    fn take_other(&mut self, limits: Limits, code: u8, contents: &[u8]) -> Took
+        requires other { IsOther code }
+        requires short { length contents.now ≤ 65533 }
+        ensures { HoldsSegment (told_by self.old) limits code contents.now result (told_by self.new) }
+    {
+        if !is_kept(self.scanned, code, contents) {
+            return Took::Done;
+        }
+        match self.kept.push(code, contents) {
+            Err(NoMemory) => Took::NoMemory,
+            Ok(()) => {
+                if let App::Jfif(jfif) = read_app(code, contents) {
+                    self.jfif = jfif;
+                }
+                Took::Done
+            }
+        }
+    }
+}
+
+// Whether a table that this part of a sequential scan needs isn't there.
+fn lacks_one(frame: &Frame, held: &Held, part: ScanPart) -> bool
+    requires { part.component < length frame.now.components }
+    ensures { result ≡ lacks_part (told_by held.now) (component_at frame.now part.component).quant part }
+{
+    let quant = frame.component(part.component).quant;
+    held.quants.get(quant).is_none()
+        || held.tables.dc(part.dc).is_none()
+        || held.tables.ac(part.ac).is_none()
+}
+
+/// Whether a table that a sequential scan of these parts needs isn't there.
+pub fn lacks_table(frame: &Frame, parts: &[ScanPart], held: &Held) -> bool
+    requires { All (λ p. p.component < length frame.now.components) parts.now }
+    ensures { result ≡ lacks_any (told_by held.now) frame.now parts.now }
+{
+    let mut rest = parts;
+    while let [part, tail @ ..] = rest {
+        if lacks_one(frame, held, *part) {
+            return true;
+        }
+        rest = tail;
+    }
+    false
+}
+
+// Whether a marker is kept: APPn and COM, but behind the first scan header no JFIF and Adobe segments.
+fn is_kept(scanned: bool, code: u8, contents: &[u8]) -> bool
+    ensures { result ≡ is_kept_if scanned code contents.now }
+{
+    (code == 0xfe || 0xe0 <= code && code <= 0xef) && !(scanned && is_header(code, contents))
+}
+
+fn is_header(code: u8, contents: &[u8]) -> bool
+    ensures { result ≡ (begins_jfif code contents.now || begins_adobe code contents.now) }
+{
+    code == 0xe0 && contents.starts_with(b"JFIF\0")
+        || code == 0xee && contents.starts_with(b"Adobe")
+}

@@ -1,0 +1,123 @@
+// The items of a file, byte by byte, scan data left out (T.81 B.1.1, B.2.1).
+ghost use Rattle.std.specs.Prelude.{◌≡◌, ◌<◌, ◌+◌, ◌++◌, ◌≤◌, ℕ, List, [], ◌∷◌, length, None};
+ghost use Rattle.jpg_spec.specs.FrameHeader.{AreLimits};
+ghost use Rattle.jpg_spec.specs.Scan.{Blocks};
+ghost use Rattle.jpg_spec.specs.Items.{Item};
+ghost use Rattle.jpg_spec.specs.FileMeaning.{no_blocks};
+ghost use Rattle.jpg_spec.specs.declared.frame.Limits.{Limits as Bounded};
+ghost use Rattle.jpg_markers.specs.Reading.{reading_of};
+ghost use Rattle.jpg_file.specs.Items.{Between, BehindHead, BehindSegment, JudgesSegment, PassesHead, TakesItemByte, TakesMarker};
+
+use crate::held::{Held, Took};
+use jpg_base::{Limits, Stop};
+use jpg_markers::{SegStep, SegmentReader};
+use jpg_spec::FaultAt;
+use std::alloc::Global;
+
+/// The reader of segments, and what they told.
+#[derive(Drop)]
+pub struct Items {
+    pub limits: Limits,
+    pub segments: SegmentReader,
+    pub held: Held,
+}
+
+/// What a byte comes to.
+#[derive(Clone, Copy, Debug, PartialEq, Eq)]
+pub enum ItemStep {
+    /// The file goes on.
+    More,
+    /// A segment of a scan header is whole, and isn't judged yet.
+    Head,
+    /// EOI is there.
+    Eoi,
+    /// The byte shows this fault, at the number of bytes taken.
+    Fault(FaultAt),
+    /// Memory is wanting.
+    NoMemory,
+}
+
+impl Items {
+    /// Before any byte.
+    pub fn new(alloc: Global, limits: Limits) -> Items
+        requires { AreLimits limits }
+        ensures between { Between limits [] [] no_blocks result }
+        ensures taken { (reading_of result.segments).taken ≡ 0 }
+    {
+        Items {
+            limits,
+            segments: SegmentReader::new(alloc, limits),
+            held: Held::new(alloc),
+        }
+    }
+
+    /// Takes a byte outside scan data.
+    pub fn byte(&mut self, byte: u8) -> ItemStep
+        requires stands { (bytes : List ℕ) × (items : List Item) × (blocks : Blocks) × Between self.old.limits bytes items blocks self.old }
+        requires limits { AreLimits self.old.limits }
+        requires room { (reading_of self.old.segments).taken < self.old.limits.input }
+        ensures after { TakesItemByte self.old byte result self.new }
+        ensures taken { (reading_of self.new.segments).taken ≡ (reading_of self.old.segments).taken + 1 }
+    {
+        match self.segments.byte(byte) {
+            Err(Stop::Fault(fault)) => ItemStep::Fault(fault),
+            Err(Stop::NoMemory) => ItemStep::NoMemory,
+            Ok(SegStep::Whole) => self.segment(),
+            Ok(SegStep::Eoi) => ItemStep::Eoi,
+            Ok(SegStep::More) => ItemStep::More,
+            Ok(SegStep::Start) => ItemStep::More,
+            Ok(SegStep::Frame) => ItemStep::More,
+        }
+    }
+
+    /// Takes the marker that ended a scan's data, whose code is byte number `at` of the file.
+    pub fn marker(&mut self, code: u8, at: u64) -> ItemStep
+        requires stands { (items : List Item) × (contents : List ℕ) × BehindHead self.old.limits items contents self.old }
+        requires limits { AreLimits self.old.limits }
+        requires later { (reading_of self.old.segments).taken + 2 ≤ at }
+        requires within { at ≤ self.old.limits.input }
+        ensures after { TakesMarker self.old code result self.new }
+        ensures taken { (reading_of self.new.segments).taken ≡ at }
+    {
+        match self.segments.marker(code, at) {
+            Err(Stop::Fault(fault)) => ItemStep::Fault(fault),
+            Err(Stop::NoMemory) => ItemStep::NoMemory,
+            Ok(SegStep::Whole) => self.segment(),
+            Ok(SegStep::Eoi) => ItemStep::Eoi,
+            Ok(SegStep::More) => ItemStep::More,
+            Ok(SegStep::Start) => ItemStep::More,
+            Ok(SegStep::Frame) => ItemStep::More,
+        }
+    }
+
+    /// A scan header that was judged is behind.
+    pub fn head_done(&mut self)
+        requires { (bytes : List ℕ) × (items : List Item) × (blocks : Blocks) × BehindSegment self.old.limits bytes items blocks self.old }
+        ensures behind { PassesHead self.old self.new }
+        ensures limits { self.new.limits ≡ self.old.limits }
+        ensures same { (reading_of self.new.segments).taken ≡ (reading_of self.old.segments).taken }
+    {
+        self.held.scanned = true;
+    }
+
+    // Judges a segment that is whole.
+    fn segment(&mut self) -> ItemStep
+        requires limits { AreLimits self.old.limits }
+        requires short { length (reading_of self.old.segments).contents ≤ 65533 }
+        ensures after { JudgesSegment self.old result self.new }
+        ensures same { self.new.segments ≡ self.old.segments }
+    {
+        let code = self.segments.code();
+        if code == 0xda {
+            return ItemStep::Head;
+        }
+        match self.held.take(self.limits, code, self.segments.contents()) {
+            Took::Done => ItemStep::More,
+            Took::Fault(fault) => ItemStep::Fault(FaultAt {
+                fault,
+                at: self.segments.taken(),
+            }),
+            Took::NoMemory => ItemStep::NoMemory,
+        }
+    }
+}

@@ -1,0 +1,130 @@
+// The data of a scan, read byte by byte (T.81 B.1.1.5, E.1.4).
+ghost use Rattle.std.specs.Prelude.{◌≡◌, false, true, ℕ, List, [], ◌∷◌, ◌++◌};
+ghost use Rattle.jpg_spec.specs.Items.{Item};
+ghost use Rattle.jpg_spec.specs.ScanReading.{ScanPlace, ScanAt, with_byte};
+ghost use Rattle.jpg_spec.specs.declared.frame.Limits.{Limits};
+ghost use Rattle.jpg_coefs.specs.Machine.{fault_of};
+ghost use Rattle.jpg_file.specs.declared.scan.ScanStep.TheVariants as answer;
+ghost use Rattle.jpg_file.specs.InData.{AtWork, IsInside, MarkerAt, NextBegins, TakesCode, TakesData, TakesScanByte};
+
+use crate::data::{DataStep, take_data};
+use jpg_coefs::{Coefs, ScanMachine, UnitFault};
+use jpg_huff::{Gate, Passed};
+use jpg_seq::SeqReader;
+use jpg_spec::Fault;
+
+/// The scan in work: its machine, whether the interval is whole, how many units an interval has (0:
+/// all of them), how many units are due behind the one in work, and which RST is due.
+#[derive(Drop)]
+pub struct ScanWork {
+    pub machine: SeqReader,
+    pub whole: bool,
+    pub interval: u64,
+    pub due: u64,
+    pub turn: u8,
+}
+
+/// A scan in work, and whether FF bytes wait.
+#[derive(Drop)]
+pub struct InScan {
+    pub gate: Gate,
+    pub work: ScanWork,
+}
+
+/// What a byte comes to.
+#[derive(Clone, Copy, Debug, PartialEq, Eq)]
+pub enum ScanStep {
+    /// The data go on.
+    More,
+    /// The marker of this code ended the data of the scan, whose intervals are whole.
+    Marker(u8),
+    /// The byte shows this fault.
+    Fault(Fault),
+}
+
+// The fault of a unit among those of files.
+fn named(fault: UnitFault) -> Fault
+    ensures { result ≡ fault_of fault }
+{
+    match fault {
+        UnitFault::NoCode => Fault::NoCode,
+        UnitFault::BadSymbol => Fault::BadSymbol,
+        UnitFault::BadRun => Fault::BadRun,
+        UnitFault::CoefRange => Fault::CoefRange,
+        UnitFault::RunPastEnd => Fault::RunPastEnd,
+    }
+}
+
+impl InScan {
+    /// Takes a byte of the file, behind those of the scan so far.
+    pub fn byte(&mut self, coefs: &mut Coefs, byte: u8) -> ScanStep
+        requires { IsInside self.old coefs.old }
+        ensures after { TakesScanByte self.old coefs.old byte result self.new coefs.new }
+        ensures waited { (code : ℕ) → result ≡ answer.Marker code → self.old.gate ≡ true }
+    {
+        match self.gate.byte(byte) {
+            Passed::More => ScanStep::More,
+            Passed::Data(data) => self.work.data(coefs, data),
+            Passed::Marker(code) => self.work.marker(coefs, code),
+        }
+    }
+}
+
+impl ScanWork {
+    // Takes a data byte.
+    fn data(&mut self, coefs: &mut Coefs, byte: u8) -> ScanStep
+        requires { (limits : Limits) × (p : ScanPlace) × AtWork limits p self.old coefs.old }
+        ensures { TakesData self.old coefs.old byte result self.new coefs.new }
+    {
+        if self.whole {
+            ScanStep::Fault(Fault::ExtraData)
+        } else {
+            self.due_data(coefs, byte)
+        }
+    }
+
+    // Takes a data byte while units are due.
+    fn due_data(&mut self, coefs: &mut Coefs, byte: u8) -> ScanStep
+        requires open { (limits : Limits) × (p : ScanPlace) × AtWork limits p self.old coefs.old }
+        requires due { self.old.whole ≡ false }
+        ensures { TakesData self.old coefs.old byte result self.new coefs.new }
+    {
+        match take_data(&mut self.machine, coefs, byte) {
+            DataStep::More => ScanStep::More,
+            DataStep::Whole => {
+                self.whole = true;
+                ScanStep::More
+            }
+            DataStep::Fault(fault) => ScanStep::Fault(named(fault)),
+        }
+    }
+
+    // Takes a marker's code.
+    fn marker(&mut self, coefs: &Coefs, code: u8) -> ScanStep
+        requires { (limits : Limits) × (p : ScanPlace) × (bytes : List ℕ) × MarkerAt limits bytes p code self.old coefs.now }
+        ensures { TakesCode self.old coefs.now code result self.new }
+    {
+        if !self.whole {
+            ScanStep::Fault(Fault::EntropyShort)
+        } else if self.due == 0 {
+            ScanStep::Marker(code)
+        } else if code != 0xd0 + self.turn {
+            ScanStep::Fault(Fault::RestartWrong)
+        } else {
+            self.next_interval(coefs);
+            ScanStep::More
+        }
+    }
+
+    // Begins the next interval.
+    fn next_interval(&mut self, coefs: &Coefs)
+        requires open { (limits : Limits) × (p : ScanPlace) × (bytes : List ℕ) × NextBegins limits bytes p self.old coefs.now }
+        ensures { (limits : Limits) (p : ScanPlace) (bytes : List ℕ) → NextBegins limits bytes p self.old coefs.now → AtWork limits p self.new coefs.now }
+    {
+        let units = self.interval.min(self.due);
+        self.machine.restart(units);
+        self.whole = false;
+        self.due -= units;
+        self.turn = (self.turn + 1) % 8;
+    }
+}

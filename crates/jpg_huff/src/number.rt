@@ -1,0 +1,64 @@
+//! A number's category and its extra bits (T.81, F.1.2.1, F.1.2.2), and the number that they tell
+//! (F.2.2.1, Figure F.12).
+ghost use Rattle.std.specs.Prelude.{◌≡◌, ◌≤◌, ◌<◌, ◌^◌, nat_abs, pos, neg_ℤ};
+ghost use Rattle.jpg_spec.specs.Bits.{bits_of};
+ghost use Rattle.jpg_spec.specs.Numbers.{digits, category as category_of, extra_bits as extra_of};
+
+// The number of binary digits, 0 for 0.
+fn binary_digits(magnitude: u32) -> u8
+    ensures digits { result ≡ digits magnitude }
+    ensures fits { result ≤ 32 }
+{
+    (32 - magnitude.leading_zeros()) as u8
+}
+
+/// The category: the number of binary digits of the magnitude, 0 to 32.
+pub fn category(value: i32) -> u8
+    ensures category { result ≡ category_of value }
+    ensures fits { result ≤ 32 }
+{
+    binary_digits(value.unsigned_abs())
+}
+
+/// The extra bits, as a number of as many bits as the category.
+pub fn extra_bits(value: i32) -> u32
+    ensures extra { bits_of (category_of value) result ≡ extra_of value }
+    ensures fits { result < 2 ^ category_of value }
+{
+    let magnitude = value.unsigned_abs();
+    if value >= 0 {
+        magnitude
+    } else {
+        ((1u64 << binary_digits(magnitude)) - 1 - u64::from(magnitude)) as u32
+    }
+}
+
+fn positive(magnitude: u32) -> i16
+    requires { magnitude < 2 ^ 15 }
+    ensures { result ≡ pos magnitude }
+{
+    magnitude as i16
+}
+
+fn negative(magnitude: u32) -> i16
+    requires { magnitude < 2 ^ 15 }
+    ensures { result ≡ neg_ℤ (pos magnitude) }
+{
+    -(magnitude as i16)
+}
+
+/// The number of this category, 0 to 15, that has these extra bits, given as a number of as many bits.
+pub fn extend(size: u8, bits: u32) -> i16
+    requires size { size ≤ 15 }
+    requires bits { bits < 2 ^ size }
+    ensures category { category_of result ≡ size }
+    ensures extra { extra_of result ≡ bits_of size bits }
+{
+    if size == 0 {
+        0
+    } else if bits >= 1 << (size - 1) {
+        positive(bits)
+    } else {
+        negative((1 << size) - 1 - bits)
+    }
+}

@@ -1,0 +1,9 @@
+pub mod DcUnits
+pub mod Due
+pub mod Known
+pub mod Leaf
+pub mod Multiples
+pub mod Passing
+pub mod Reading
+pub mod Steps
+pub mod Units

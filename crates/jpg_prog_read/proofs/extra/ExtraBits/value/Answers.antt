@@ -1,0 +1,22 @@
+use Rattle.std.proofs.Common.{rules, ◌≡◌, ◌∙◌, ap, sym, length}
+use mir.Syntax.{w16}
+use mir.Val.{SFits}
+use Rattle.std.proofs.lemmas.Int.{to_z-of_z}
+use Rattle.jpg_spec.specs.Bits.{bits_of}
+use Rattle.jpg_spec.specs.Numbers.{extra_bits}
+use Rattle.jpg_spec.proofs.Strings.{length-bits_of}
+use Rattle.jpg_prog_read.specs.ExtraWork.{ExtraWork}
+use Rattle.jpg_prog_read.proofs.extra.ExtraBits.value.Goals as goal
+
+pub extend-requires-clause-bits : goal.extend-requires-clause-bits
+extend-requires-clause-bits c =
+    let i = c.self.inside in
+    let l : i.have ≡ i.size = sym (length-bits_of i.have i.number) ∙ ap (λ (s : ExtraWork). length s.bits) c.self.view_is ∙ c.requires ∙ ap (λ (s : ExtraWork). s.size) (sym c.self.view_is) in
+    rw l at c.self.invariant.below
+
+pub returns-clause-extra : goal.returns-clause-extra
+returns-clause-extra c =
+    let i = c.self.inside in
+    let l : i.have ≡ i.size = sym (length-bits_of i.have i.number) ∙ ap (λ (s : ExtraWork). length s.bits) c.self.view_is ∙ c.requires ∙ ap (λ (s : ExtraWork). s.size) (sym c.self.view_is) in
+    let f : SFits w16 c.extend.result = search rules in
+    ap extra_bits (to_z-of_z w16 c.extend.result f) ∙ c.extend.ensures.extra ∙ ap (λ n. bits_of n i.number) (sym l) ∙ ap (λ (s : ExtraWork). s.bits) c.self.view_is

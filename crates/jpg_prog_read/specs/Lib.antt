@@ -1,0 +1,12 @@
+pub mod DcStands
+pub mod DcWork
+pub mod Due
+pub mod ExtraWork
+pub mod InWork
+pub mod Interval
+pub mod Judge
+pub mod Known
+pub mod Machine
+pub mod Scaled
+pub mod Stands
+pub mod Step

@@ -1,0 +1,550 @@
+//! The units of a band, read bit by bit: first passes and refinements (T.81, G.1.2.2, G.1.2.3).
+ghost use Rattle.std.specs.Prelude.{◌≡◌, ◌<◌, ◌≤◌, ◌+◌, ◌-◌, pos, false, [], ◌∷◌, ◌++◌, length, take, drop, slice_index_or, ℕ, Bool, List};
+ghost use Rattle.jpg_spec.specs.Bits.{bits_of};
+ghost use Rattle.jpg_spec.specs.Codes.{Code};
+ghost use Rattle.jpg_spec.specs.Numbers.{category, extra_bits, digits};
+ghost use Rattle.jpg_spec.specs.Elements.{zeros_in, is_zero};
+ghost use Rattle.jpg_huff.specs.Walk.{Answers};
+ghost use Rattle.jpg_huff.specs.Tables.{symbol_codes};
+ghost use Rattle.jpg_prog_read.specs.InWork.{IsOpen, IsMoving, IsPassing, IsBetween, IsFresh, AreRefinable, band_of, with_block};
+ghost use Rattle.jpg_prog_read.specs.Step.{AreSane, IsNext, IsSkipped, AfterEnd, AfterValue, StaysOpen, KeepsOutside, HasSkipped, StandsOn};
+ghost use Rattle.jpg_prog_read.specs.ExtraWork.{IsWanting};
+ghost use Rattle.jpg_prog_read.specs.declared.scan.BandScan.{BandScan};
+ghost use Rattle.jpg_prog_read.specs.Stands.{UnitPlace, Stands, Answered, AnswersStep, AnswersBit, AnswersBand};
+
+use crate::extra::{Extra, ExtraBits};
+use crate::numbers::{Scaled, corrected, one_where_zero, scaled_within};
+use crate::scan::BandScan;
+use crate::stage::Stage;
+use crate::symbols::{Judged, judge};
+use jpg_base::Block;
+use jpg_coefs::UnitFault;
+use jpg_huff::{Table, Walk, WalkStep};
+use std::marker::Model;
+
+/// What a bit of a unit of a band comes to.
+#[derive(Clone, Copy, Debug, PartialEq, Eq)]
+pub enum BandStep {
+    /// The unit goes on.
+    More,
+    /// It is whole.
+    Done,
+    Fault(UnitFault),
+}
+
+// The next old value.
+#[derive(Drop)]
+enum Next {
+    None,
+    Zero,
+    Old(i16),
+}
+
+// Where passing zeros ends.
+enum Skipped {
+    AtEnd,
+    AtOld,
+    AtZero,
+}
+
+// Whether all ends of bands were met.
+enum Ended {
+    All,
+    Some,
+}
+
+/// A unit of a band in work.
+#[derive(Drop)]
+pub struct BandReader {
+    values: Block,
+    start: u8,
+    at: u8,
+    end: u8,
+    stage: Stage,
+    walk: Walk,
+    run: u8,
+    extra: ExtraBits,
+    due: i16,
+    bands: u32,
+}
+
+impl Model for BandReader {
+    ghost use Rattle.std.specs.Prelude.{take, drop, ◌-◌};
+    ghost use Rattle.jpg_prog_read.specs.InWork.{InWork, IsKept};
+
+    ghost Value = { InWork };
+
+    ghost view = { λ r.
+        record {
+          front = take r.start r.values;
+          done = take (r.at - r.start) (drop r.start r.values);
+          rest = take (r.end - r.at) (drop r.at r.values);
+          behind = drop r.end r.values;
+          stage = r.stage;
+          walked = r.walk;
+          run = r.run;
+          size = r.extra.size;
+          extra = r.extra.bits;
+          due = r.due;
+          bands = r.bands;
+        } };
+
+    ghost invariant = { λ r. IsKept r.values r.start r.at r.end };
+}
+
+impl BandReader {
+    // a bit of a code
+    fn walk_bit(&mut self, table: &Table, bit: bool) -> WalkStep
+        ensures answers { Answers (symbol_codes table.now) (self.old.walked ++ bit ∷ []) result self.new.walked }
+        ensures same { self.new ≡ record (self.old) { walked = self.new.walked } }
+    {
+        self.walk.bit(table, bit)
+    }
+
+    // the next value of the band
+    fn put(&mut self, value: i16)
+        requires { 1 ≤ length self.old.rest }
+        ensures { self.new ≡ record (self.old) { done = self.old.done ++ value ∷ []; rest = drop 1 self.old.rest } }
+    {
+        self.values.set(self.at, value);
+        self.at += 1;
+    }
+
+    fn next(&self) -> Next
+        ensures { IsNext result self.now }
+    {
+        if self.at == self.end {
+            Next::None
+        } else {
+            let value = self.values.get(self.at);
+            if value == 0 {
+                Next::Zero
+            } else {
+                Next::Old(value)
+            }
+        }
+    }
+
+    // how many zeros are left
+    fn zeros_left(&self) -> u8
+        ensures { result ≡ zeros_in self.now.rest }
+    {
+        let mut count = 0;
+        for k in self.at..self.end {
+            count += one_where_zero(self.values.get(k));
+        }
+        count
+    }
+
+    fn stage(&self) -> Stage
+        ensures { result ≡ self.now.stage }
+    {
+        self.stage
+    }
+
+    fn run_left(&self) -> u8
+        ensures { result ≡ self.now.run }
+    {
+        self.run
+    }
+
+    fn due(&self) -> i16
+        ensures { result ≡ self.now.due }
+    {
+        self.due
+    }
+
+    // a number of this category begins
+    fn begin(&mut self, stage: Stage, run: u8, size: u8)
+        requires { size ≤ 15 }
+        ensures { self.new ≡ record (self.old) { stage = stage; run = run; size = size; extra = [] } }
+    {
+        self.stage = stage;
+        self.run = run;
+        self.extra = ExtraBits::new(size);
+    }
+
+    // an extra bit, and whether more are wanted
+    fn extra_bit(&mut self, bit: bool) -> Extra
+        requires { length self.old.extra < self.old.size }
+        ensures new { self.new ≡ record (self.old) { extra = self.old.extra ++ bit ∷ [] } }
+        ensures wants { IsWanting result self.new.size self.new.extra }
+    {
+        self.extra.push(bit)
+    }
+
+    // the number whose extra bits are whole
+    fn whole_number(&self) -> i16
+        requires { length self.now.extra ≡ self.now.size }
+        ensures category { category result ≡ self.now.size }
+        ensures extra { extra_bits result ≡ self.now.extra }
+    {
+        self.extra.value()
+    }
+
+    // how many bands end
+    fn whole_count(&self) -> u32
+        requires whole { length self.now.extra ≡ self.now.size }
+        requires size { self.now.size ≤ 14 }
+        ensures some { 1 ≤ result }
+        ensures digits { digits result ≡ self.now.size + 1 }
+        ensures extra { bits_of self.now.size result ≡ self.now.extra }
+    {
+        self.extra.bands()
+    }
+
+    // a value is due behind the run
+    fn begin_value(&mut self, value: i16)
+        ensures { self.new ≡ record (self.old) { stage = Stage.Value; due = value } }
+    {
+        self.stage = Stage::Value;
+        self.due = value;
+    }
+
+    fn begin_long(&mut self)
+        ensures { self.new ≡ record (self.old) { stage = Stage.Long; run = 15 } }
+    {
+        self.stage = Stage::Long;
+        self.run = 15;
+    }
+
+    fn begin_ends(&mut self, bands: u32)
+        ensures small { zeros_in self.old.rest < 255 }
+        ensures new { self.new ≡ record (self.old) { stage = Stage.Ends; run = 255; bands = bands } }
+    {
+        self.stage = Stage::Ends;
+        self.run = 255;
+        self.bands = bands;
+    }
+
+    fn end_element(&mut self)
+        ensures { self.new ≡ record (self.old) { stage = Stage.Code } }
+    {
+        self.stage = Stage::Code;
+    }
+
+    // one end of a band was met
+    fn end_band(&mut self) -> Ended
+        requires { 1 ≤ self.old.bands }
+        ensures { AfterEnd self.old result self.new }
+    {
+        self.bands -= 1;
+        if self.bands == 0 {
+            self.stage = Stage::Code;
+            Ended::All
+        } else {
+            Ended::Some
+        }
+    }
+
+    // whether values are left
+    fn covered(&self) -> BandStep
+        ensures { AfterValue result self.now }
+    {
+        match self.next() {
+            Next::None => BandStep::Done,
+            _ => BandStep::More,
+        }
+    }
+
+    fn pass_zero(&mut self)
+        requires some { 1 ≤ length self.old.rest }
+        requires run { 1 ≤ self.old.run }
+        ensures { self.new ≡ record (self.old) { done = self.old.done ++ pos 0 ∷ []; rest = drop 1 self.old.rest; run = self.old.run - 1 } }
+    {
+        self.put(0);
+        self.run -= 1;
+    }
+
+    // past zeros
+    fn skip(&mut self) -> Skipped
+        requires passing { IsPassing self.old.stage self.old }
+        ensures at { IsSkipped result self.new }
+        ensures same { HasSkipped self.old self.new }
+        ensures stands { StandsOn self.old self.new }
+    {
+        loop {
+            match self.next() {
+                Next::None => {
+                    return Skipped::AtEnd;
+                }
+                Next::Old(_) => {
+                    return Skipped::AtOld;
+                }
+                Next::Zero => {
+                    if self.run_left() == 0 {
+                        return Skipped::AtZero;
+                    }
+                    self.pass_zero();
+                }
+            }
+        }
+    }
+
+    // the value that is due, at its place
+    fn place(&mut self, scan: &BandScan) -> BandStep
+        requires sane { AreSane scan.now }
+        requires zero { self.old.rest ≡ pos 0 ∷ drop 1 self.old.rest }
+        requires stage { (self.old.stage ≡ Stage.Value) × (self.old.run ≡ 0) }
+        requires fits { AreRefinable scan.now self.old.rest }
+        ensures open { StaysOpen scan.now result self.new }
+        ensures outside { KeepsOutside self.old self.new }
+        ensures answered { AnswersStep scan.now self.old result self.new }
+    {
+        match scaled_within(self.due(), scan.scale, scan.most_magnitude) {
+            Scaled::Beyond => BandStep::Fault(UnitFault::CoefRange),
+            Scaled::Within(value) => {
+                self.put(value);
+                self.end_element();
+                self.covered()
+            }
+        }
+    }
+
+    // the sixteenth zero
+    fn pass_last(&mut self) -> BandStep
+        requires zero { self.old.rest ≡ pos 0 ∷ drop 1 self.old.rest }
+        requires stage { (self.old.stage ≡ Stage.Long) × (self.old.run ≡ 0) }
+        ensures open { (b : BandScan) → AreRefinable b self.old.rest → StaysOpen b result self.new }
+        ensures outside { KeepsOutside self.old self.new }
+        ensures answered { (b : BandScan) → AnswersStep b self.old result self.new }
+    {
+        self.put(0);
+        self.end_element();
+        self.covered()
+    }
+
+    // the end of the band while ends are due
+    fn leave(&mut self) -> BandStep
+        requires end { self.old.rest ≡ [] }
+        requires stage { (self.old.stage ≡ Stage.Ends) × (1 ≤ self.old.bands) }
+        ensures open { (b : BandScan) → StaysOpen b result self.new }
+        ensures outside { KeepsOutside self.old self.new }
+        ensures answered { (at : UnitPlace) (bits : List Bool) → Stands at bits self.old → Answered at bits result self.new }
+    {
+        match self.end_band() {
+            Ended::All => BandStep::Done,
+            Ended::Some => BandStep::Done,
+        }
+    }
+
+    // on to the next value that wants a correction, or to the end of the element
+    fn advance(&mut self, scan: &BandScan) -> BandStep
+        requires sane { AreSane scan.now }
+        requires moving { IsMoving scan.now self.old }
+        ensures open { StaysOpen scan.now result self.new }
+        ensures outside { KeepsOutside self.old self.new }
+        ensures answered { AnswersStep scan.now self.old result self.new }
+    {
+        match self.skip() {
+            Skipped::AtOld => BandStep::More,
+            Skipped::AtZero => match self.stage() {
+                Stage::Value => self.place(scan),
+                Stage::Long => self.pass_last(),
+                // these don't come
+                Stage::Code => BandStep::Fault(UnitFault::NoCode),
+                Stage::Number => BandStep::Fault(UnitFault::NoCode),
+                Stage::Count => BandStep::Fault(UnitFault::NoCode),
+                Stage::Ends => BandStep::Fault(UnitFault::NoCode),
+            },
+            Skipped::AtEnd => match self.stage() {
+                Stage::Ends => self.leave(),
+                Stage::Long => {
+                    self.end_element();
+                    BandStep::Done
+                }
+                // these don't come
+                Stage::Code => BandStep::Fault(UnitFault::NoCode),
+                Stage::Number => BandStep::Fault(UnitFault::NoCode),
+                Stage::Count => BandStep::Fault(UnitFault::NoCode),
+                Stage::Value => BandStep::Fault(UnitFault::NoCode),
+            },
+        }
+    }
+
+    // the next old value
+    fn first(&self) -> i16
+        requires { 1 ≤ length self.now.rest }
+        ensures { self.now.rest ≡ result ∷ drop 1 self.now.rest }
+    {
+        self.values.get(self.at)
+    }
+
+    // a bit of a code
+    fn code_bit(&mut self, scan: &BandScan, table: &Table, bit: bool) -> BandStep
+        requires sane { AreSane scan.now }
+        requires open { IsOpen scan.now self.old }
+        requires stage { self.old.stage ≡ Stage.Code }
+        ensures open { StaysOpen scan.now result self.new }
+        ensures outside { KeepsOutside self.old self.new }
+        ensures answered { (left : ℕ) → AnswersBit scan.now (symbol_codes table.now) left self.old bit result self.new }
+    {
+        match self.walk_bit(table, bit) {
+            WalkStep::More => BandStep::More,
+            WalkStep::NoCode => BandStep::Fault(UnitFault::NoCode),
+            WalkStep::Symbol(symbol) => {
+                let zeros = self.zeros_left();
+                match judge(scan.most_category, zeros, symbol) {
+                    Judged::BadSymbol => BandStep::Fault(UnitFault::BadSymbol),
+                    Judged::BadRun => BandStep::Fault(UnitFault::BadRun),
+                    Judged::Value { run, size } => {
+                        self.begin(Stage::Number, run, size);
+                        BandStep::More
+                    }
+                    Judged::Count { size } => {
+                        self.begin(Stage::Count, 0, size);
+                        BandStep::More
+                    }
+                    Judged::Long => {
+                        self.begin_long();
+                        self.advance(scan)
+                    }
+                    Judged::End => {
+                        self.begin_ends(1);
+                        self.advance(scan)
+                    }
+                }
+            }
+        }
+    }
+
+    // a bit of a value's number
+    fn number_bit(&mut self, scan: &BandScan, bit: bool) -> BandStep
+        requires sane { AreSane scan.now }
+        requires open { IsOpen scan.now self.old }
+        requires stage { self.old.stage ≡ Stage.Number }
+        requires wants { length self.old.extra < self.old.size }
+        ensures open { StaysOpen scan.now result self.new }
+        ensures outside { KeepsOutside self.old self.new }
+        ensures answered { (ac : List Code) (left : ℕ) → AnswersBit scan.now ac left self.old bit result self.new }
+    {
+        match self.extra_bit(bit) {
+            Extra::Wanting => BandStep::More,
+            Extra::Enough => {
+                let value = self.whole_number();
+                self.begin_value(value);
+                self.advance(scan)
+            }
+        }
+    }
+
+    // a bit of the number of bands, of which `left` are left
+    fn count_bit(&mut self, scan: &BandScan, left: u32, bit: bool) -> BandStep
+        requires sane { AreSane scan.now }
+        requires open { IsOpen scan.now self.old }
+        requires stage { self.old.stage ≡ Stage.Count }
+        requires wants { length self.old.extra < self.old.size }
+        requires size { self.old.size ≤ 14 }
+        ensures open { StaysOpen scan.now result self.new }
+        ensures outside { KeepsOutside self.old self.new }
+        ensures answered { (ac : List Code) → AnswersBit scan.now ac left self.old bit result self.new }
+    {
+        match self.extra_bit(bit) {
+            Extra::Wanting => BandStep::More,
+            Extra::Enough => {
+                let bands = self.whole_count();
+                if bands > left {
+                    BandStep::Fault(UnitFault::RunPastEnd)
+                } else {
+                    self.begin_ends(bands);
+                    self.advance(scan)
+                }
+            }
+        }
+    }
+
+    // the correction of an old value
+    fn correction_bit(&mut self, scan: &BandScan, bit: bool) -> BandStep
+        requires sane { AreSane scan.now }
+        requires open { IsOpen scan.now self.old }
+        requires passing { IsPassing self.old.stage self.old }
+        requires old { is_zero (slice_index_or self.old.rest 0 (pos 0)) ≡ false }
+        ensures open { StaysOpen scan.now result self.new }
+        ensures outside { KeepsOutside self.old self.new }
+        ensures answered { (ac : List Code) (left : ℕ) → AnswersBit scan.now ac left self.old bit result self.new }
+    {
+        let old = self.first();
+        self.put(corrected(old, scan.scale, bit));
+        self.advance(scan)
+    }
+
+    /// Takes one more bit. `left` is the number of units that are left, this one included.
+    pub fn bit(&mut self, scan: &BandScan, table: &Table, left: u32, bit: bool) -> BandStep
+        requires sane { AreSane scan.now }
+        requires open { IsOpen scan.now self.old }
+        ensures open { StaysOpen scan.now result self.new }
+        ensures outside { KeepsOutside self.old self.new }
+        ensures answered { AnswersBit scan.now (symbol_codes table.now) left self.old bit result self.new }
+    {
+        match self.stage() {
+            Stage::Code => self.code_bit(scan, table, bit),
+            Stage::Number => self.number_bit(scan, bit),
+            Stage::Count => self.count_bit(scan, left, bit),
+            Stage::Value => self.correction_bit(scan, bit),
+            Stage::Long => self.correction_bit(scan, bit),
+            Stage::Ends => self.correction_bit(scan, bit),
+        }
+    }
+
+    // the block of the next unit
+    fn load(&mut self, scan: &BandScan, block: &Block)
+        requires sane { AreSane scan.now }
+        ensures new { self.new ≡ with_block self.old (take scan.now.start block.now) (band_of scan.now block.now) (drop scan.now.end block.now) }
+        ensures small { zeros_in (band_of scan.now block.now) < 255 }
+        ensures long { length block.now ≡ 64 }
+    {
+        block.long();
+        self.values = *block;
+        self.start = scan.start;
+        self.at = scan.start;
+        self.end = scan.end;
+        self.run = 255;
+    }
+
+    /// Begins the next unit, of which this is the block.
+    pub fn start(&mut self, scan: &BandScan, block: &Block) -> BandStep
+        requires sane { AreSane scan.now }
+        requires some { scan.now.start < scan.now.end }
+        requires between { IsBetween self.old }
+        requires fits { AreRefinable scan.now (band_of scan.now block.now) }
+        ensures long { length block.now ≡ 64 }
+        ensures first { self.old.stage ≡ Stage.Code → result ≡ BandStep.More }
+        ensures open { StaysOpen scan.now result self.new }
+        ensures outside { (self.new.front ≡ take scan.now.start block.now) × (self.new.behind ≡ drop scan.now.end block.now) }
+        ensures answered { AnswersBand scan.now (band_of scan.now block.now) self.old result self.new }
+    {
+        self.load(scan, block);
+        match self.stage() {
+            Stage::Ends => self.advance(scan),
+            _ => BandStep::More,
+        }
+    }
+
+    /// Before the first unit of an interval.
+    pub fn new() -> BandReader
+        ensures { IsFresh result }
+    {
+        BandReader {
+            values: Block::zero(),
+            start: 0,
+            at: 0,
+            end: 0,
+            stage: Stage::Code,
+            walk: Walk::new(),
+            run: 0,
+            extra: ExtraBits::new(0),
+            due: 0,
+            bands: 0,
+        }
+    }
+
+    /// The block, with the new values of its band.
+    pub fn block(&self) -> Block
+        requires { self.now.rest ≡ [] }
+        ensures value { result ≡ self.now.front ++ (self.now.done ++ self.now.behind) }
+        ensures long { length result ≡ 64 }
+    {
+        self.values.long();
+        self.values
+    }
+}

@@ -1,0 +1,105 @@
+//! Extra bits while they come in (T.81, F.2.2.1, G.1.2.2).
+ghost use Rattle.std.specs.Prelude.{◌≡◌, ◌<◌, ◌≤◌, ◌+◌, [], ◌∷◌, ◌++◌, length};
+ghost use Rattle.jpg_spec.specs.Bits.{bits_of};
+ghost use Rattle.jpg_spec.specs.Numbers.{category, extra_bits, digits};
+ghost use Rattle.jpg_prog_read.specs.ExtraWork.{IsWanting};
+
+use jpg_huff::extend;
+use std::marker::Model;
+
+/// Whether more bits are wanted.
+pub enum Extra {
+    Wanting,
+    Enough,
+}
+
+/// The extra bits of a number of some category, 0 to 15, while they come in.
+#[derive(Drop)]
+pub struct ExtraBits {
+    size: u8,
+    have: u8,
+    number: u32,
+}
+
+impl Model for ExtraBits {
+    ghost use Rattle.jpg_spec.specs.Bits.{bits_of};
+    ghost use Rattle.jpg_prog_read.specs.ExtraWork.{ExtraWork, IsExtraKept};
+
+    ghost Value = { ExtraWork };
+
+    ghost view = { λ r. record { size = r.size; bits = bits_of r.have r.number } };
+
+    ghost invariant = { λ r. IsExtraKept r.size r.have r.number };
+}
+
+impl ExtraBits {
+    /// Before the first bit of a number of this category.
+    pub fn new(size: u8) -> ExtraBits
+        requires { size ≤ 15 }
+        ensures { result ≡ record { size = size; bits = [] } }
+    {
+        ExtraBits {
+            size,
+            have: 0,
+            number: 0,
+        }
+    }
+
+    /// The category.
+    pub fn size(&self) -> u8
+        ensures { result ≡ self.now.size }
+    {
+        self.size
+    }
+
+    // one more bit
+    fn add(&mut self, bit: bool)
+        requires { length self.old.bits < self.old.size }
+        ensures { self.new ≡ record (self.old) { bits = self.old.bits ++ bit ∷ [] } }
+    {
+        self.number = 2 * self.number + u32::from(bit);
+        self.have += 1;
+    }
+
+    // whether more are wanted
+    fn wants(&self) -> Extra
+        requires { length self.now.bits ≤ self.now.size }
+        ensures { IsWanting result self.now.size self.now.bits }
+    {
+        if self.have < self.size {
+            Extra::Wanting
+        } else {
+            Extra::Enough
+        }
+    }
+
+    /// Takes one more bit, and tells whether more are wanted.
+    pub fn push(&mut self, bit: bool) -> Extra
+        requires { length self.old.bits < self.old.size }
+        ensures new { self.new ≡ record (self.old) { bits = self.old.bits ++ bit ∷ [] } }
+        ensures wants { IsWanting result self.new.size self.new.bits }
+    {
+        self.add(bit);
+        self.wants()
+    }
+
+    /// The number that they tell (F.2.2.1, Figure F.12).
+    pub fn value(&self) -> i16
+        requires { length self.now.bits ≡ self.now.size }
+        ensures category { category result ≡ self.now.size }
+        ensures extra { extra_bits result ≡ self.now.bits }
+    {
+        extend(self.size, self.number)
+    }
+
+    /// How many bands end behind the code of EOBn where these are its n bits (G.1.2.2).
+    pub fn bands(&self) -> u32
+        requires whole { length self.now.bits ≡ self.now.size }
+        requires size { self.now.size ≤ 14 }
+        ensures some { 1 ≤ result }
+        ensures digits { digits result ≡ self.now.size + 1 }
+        ensures extra { bits_of self.now.size result ≡ self.now.bits }
+    {
+        (1 << self.size) + self.number
+    }
+}

@@ -1,0 +1,10 @@
+//! Rows of samples made wider (release 6b's upsampling).
+#![tactic(auto)]
+
+mod ratio;
+mod repeat;
+mod smooth;
+
+pub use ratio::{FractionalSampling, Ratio};
+pub use repeat::repeat_row;
+pub use smooth::{up_row, up_rows2};

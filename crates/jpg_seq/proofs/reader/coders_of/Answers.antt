@@ -1,0 +1,10 @@
+use Rattle.jpg_seq.proofs.NewCoders.{none_filled, filled_more}
+use Rattle.jpg_seq.proofs.reader.coders_of.Goals as goal
+
+pub loop-part-init : goal.loop-part-init
+loop-part-init c = none_filled c.args.tables.now c.args.parts.now
+
+pub loop-part-preserved : goal.loop-part-preserved
+loop-part-preserved c =
+    let l = c.loop-part in let o = c.coder_of.ensures in
+    filled_more c.args.tables.now c.args.parts.now l.part-index l.coders c.coder_of.result o.0 l.invariant (c.requires.small l.part-index (record { component = 0; dc = 0; ac = 0 }) c.loop-part-test.true) o.1 o.2

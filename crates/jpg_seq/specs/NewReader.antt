@@ -1,0 +1,57 @@
+-- The machine of a sequential scan before its first unit.
+use Rattle.std.specs.Prelude.{◌≡◌, ℕ, ◌<◌, true, false, List, ◌++◌, length, slice_get, slice_index_or, Option, Some, All}
+use Rattle.jpg_spec.specs.Lists.{is_distinct}
+use Rattle.jpg_spec.specs.Geometry.{Frame, is_progressive, units}
+use Rattle.jpg_spec.specs.Segments.{ScanHead, head_components}
+use Rattle.jpg_spec.specs.Scan.{scan_coding}
+use Rattle.jpg_spec.specs.declared.frame.ScanPart.{ScanPart}
+use Rattle.jpg_base.specs.Cursor.{AreIn}
+use Rattle.jpg_huff.specs.declared.table.Table.{Table}
+use Rattle.jpg_huff.specs.declared.set.TableSet.{TableSet}
+use Rattle.jpg_huff.specs.Sets.{dc_tables, ac_tables, in_slot}
+use Rattle.jpg_huff.specs.Tables.{symbol_codes}
+use Rattle.jpg_coefs.specs.Picture.{map_of}
+use Rattle.jpg_coefs.specs.Machine.{Interval}
+use Rattle.jpg_seq.specs.declared.work.Coder.{Coder}
+use Rattle.jpg_seq.specs.Plain.{in_force}
+use Rattle.jpg_seq.specs.Reader.{joined, IsSequential}
+
+-- the tables of a part are there
+pub record HasTables (set : TableSet) (p : ScanPart) : Type 0 where
+  pub dc : Table
+  pub in_dc : in_slot (dc_tables set) p.dc ≡ Some dc
+  pub ac : Table
+  pub in_ac : in_slot (ac_tables set) p.ac ≡ Some ac
+
+-- a scan header of a sequential frame, whose tables are there
+pub record IsSeqScan (f : Frame) (head : ScanHead) (set : TableSet) : Type 0 where
+  pub sequential : is_progressive f.process ≡ false
+  pub components : AreIn f (head_components head)
+  pub distinct : is_distinct (head_components head) ≡ true
+  pub tables : All (HasTables set) head.parts
+
+-- an interval of the scan, before its first unit
+pub record IsOfScan (f : Frame) (head : ScanHead) (set : TableSet) (i : Interval) : Type 0 where
+  pub coding : i.scan.coding ≡ scan_coding f (in_force set) head
+  pub kind : IsSequential i
+  pub sized : (k x y : ℕ) → length (map_of i.before k x y) ≡ 64
+  pub places : i.places ++ i.later ≡ units f (head_components head)
+  pub frame : i.before.frame ≡ f
+
+-- what is kept of a part's tables
+pub record IsCoderOf (set : TableSet) (p : ScanPart) (coder : Coder) : Type 0 where
+  pub dc : Table
+  pub in_dc : in_slot (dc_tables set) p.dc ≡ Some dc
+  pub ac : Table
+  pub in_ac : in_slot (ac_tables set) p.ac ≡ Some ac
+  pub dc_codes : coder.dc ≡ symbol_codes dc
+  pub ac_codes : coder.ac ≡ symbol_codes ac
+
+abbrev pub part_at : List ScanPart → ℕ → ScanPart
+part_at parts j = slice_index_or parts j (record { component = 0; dc = 0; ac = 0 })
+
+-- where the first parts were filled in
+pub record AreFilled (set : TableSet) (parts : List ScanPart) (n : ℕ) (coders : List (Option Coder)) : Type 0 where
+  pub four : length coders ≡ 4
+  pub found : (k : ℕ) (coder : Coder) → joined (slice_get coders k) ≡ Some coder → (j : ℕ) × (j < n) × ((part_at parts j).component ≡ k) × IsCoderOf set (part_at parts j) coder
+  pub there : (j : ℕ) → j < n → (coder : Coder) × (joined (slice_get coders (part_at parts j).component) ≡ Some coder)

@@ -1,0 +1,180 @@
+//! The machine that reads a sequential scan (T.81, F.2.2).
+ghost use Rattle.std.specs.Prelude.{◌≡◌, ◌≤◌, ◌<◌, length, Bool, List, Some, All};
+ghost use Rattle.jpg_seq.specs.declared.work.Coder.{Coder as Coded};
+ghost use Rattle.jpg_seq.specs.NewReader.{HasTables, IsCoderOf, AreFilled, IsSeqScan, IsOfScan};
+ghost use Rattle.jpg_spec.specs.Geometry.{padded_blocks};
+ghost use Rattle.jpg_coefs.specs.Machine.{Interval, TakesBits};
+ghost use Rattle.jpg_base.specs.Cursor.{IsPadded};
+ghost use Rattle.jpg_coefs.specs.Picture.{with_block};
+ghost use Rattle.jpg_seq.specs.Work.{EndsUnit};
+ghost use Rattle.jpg_seq.specs.Reader.{CanRead, ReadsOn, SeqStands, behind, with_work, sequential};
+
+use crate::work::{Coder, Took, UnitWork};
+use jpg_base::{BitStore, Bounds, Cursor, Frame, Place, ScanHead, ScanPart};
+use jpg_coefs::{Coefs, ScanMachine, Taken, UnitFault, UnitStep};
+use jpg_huff::{Decoder, TableSet};
+
+/// A machine that reads a sequential scan: what it reads by, the places that are left, the predictions
+/// by component, the unit in work, and how many units of the interval are left.
+#[derive(Drop)]
+pub struct SeqReader {
+    bounds: Bounds,
+    coders: [Option<Coder>; 4],
+    cursor: Cursor,
+    predictions: [i16; 4],
+    unit: UnitWork,
+    left: u64,
+}
+
+// The tables of a part.
+fn coder_of(part: &ScanPart, tables: &TableSet) -> Option<Coder>
+    requires { HasTables tables.now part.now }
+    ensures { (coder : Coded) × (result ≡ Some coder) × IsCoderOf tables.now part.now coder }
+{
+    let (Some(dc), Some(ac)) = (tables.dc(part.dc), tables.ac(part.ac)) else {
+        return None;
+    };
+    Some(Coder {
+        dc: Decoder::new(dc),
+        ac: Decoder::new(ac),
+    })
+}
+
+// The tables of the parts, by component.
+fn coders_of(parts: &[ScanPart], tables: &TableSet) -> [Option<Coder>; 4]
+    requires there { All (HasTables tables.now) parts.now }
+    requires small { All (λ p. p.component < 4) parts.now }
+    ensures { AreFilled tables.now parts.now (length parts.now) result }
+{
+    let mut coders = [None, None, None, None];
+    for part in parts {
+        coders[part.component as usize] = coder_of(part, tables);
+    }
+    coders
+}
+
+impl SeqReader {
+    /// Before the first unit of a scan, between intervals. The frame is sequential, the head's
+    /// components are distinct ones of it, and the tables that it names are there.
+    pub fn new(frame: &Frame, head: &ScanHead, tables: &TableSet) -> SeqReader
+        requires { IsSeqScan frame.now head.now tables.now }
+        ensures { (i : Interval) → IsOfScan frame.now head.now tables.now i → sequential.ready result i }
+    {
+        frame.checked();
+        SeqReader {
+            bounds: frame.bounds(),
+            coders: coders_of(head.parts.as_slice(), tables),
+            cursor: Cursor::new(frame, head),
+            predictions: [0; 4],
+            unit: UnitWork::new(),
+            left: 0,
+        }
+    }
+
+    // Takes bits of the unit in work.
+    #[inline(always)]
+    fn unit_bits(&self, component: u8, unit: &mut UnitWork, store: &mut BitStore) -> Took
+        requires { CanRead (with_work self.now unit.old) component }
+        ensures reads { ReadsOn (with_work self.now unit.old) component store.old result unit.new store.new }
+        ensures ends { EndsUnit result }
+    {
+        match &self.coders[component as usize] {
+            Some(coder) => unit.take(
+                &self.bounds,
+                coder,
+                self.predictions[component as usize],
+                store,
+            ),
+            None => Took::Empty,
+        }
+    }
+
+    // A unit that is whole: its block is put, and the next unit begins.
+    #[inline(always)]
+    fn put(&mut self, unit: &mut UnitWork, coefs: &mut Coefs, place: Place)
+        requires small { place.component < 4 }
+        requires padded { IsPadded coefs.old.frame place.component place.x place.y }
+        requires whole { length unit.old.values ≡ 64 }
+        requires left { 1 ≤ self.old.left }
+        requires place { 1 ≤ length self.old.cursor }
+        ensures machine { with_work self.new unit.new ≡ behind (with_work self.old unit.old) place.component }
+        ensures count { length coefs.old.blocks ≡ padded_blocks coefs.old.frame }
+        ensures block { coefs.new ≡ with_block coefs.old place.component place.x place.y unit.old.values }
+    {
+        coefs.checked();
+        let block = unit.block();
+        coefs.set_block(place.component, place.x, place.y, &block);
+        self.predictions[place.component as usize] = block.get(0);
+        *unit = UnitWork::new();
+        self.cursor.step();
+        self.left -= 1;
+    }
+
+    // Bits of the store, as `bits` takes them.
+    #[inline(always)]
+    fn read(
+        &mut self,
+        unit: &mut UnitWork,
+        store: &mut BitStore,
+        coefs: &mut Coefs,
+        most: u64,
+    ) -> Taken
+        requires open { (i : Interval) × (bits : List Bool) × SeqStands (with_work self.old unit.old) i bits coefs.old }
+        requires some { 1 ≤ most }
+        ensures { TakesBits sequential most (with_work self.old unit.old) coefs.old store.old result (with_work self.new unit.new) coefs.new store.new }
+    {
+        let mut done = 0;
+        loop {
+            let place = self.cursor.place();
+            match self.unit_bits(place.component, unit, store) {
+                Took::More => return Taken::More,
+                Took::Empty => return Taken::More,
+                Took::Fault(fault) => return Taken::Fault(fault),
+                Took::Done => {
+                    self.put(unit, coefs, place);
+                    if self.left == 0 {
+                        return Taken::IntervalDone;
+                    }
+                    done += 1;
+                    if done >= most {
+                        return Taken::Units;
+                    }
+                }
+            }
+        }
+    }
+}
+
+impl ScanMachine for SeqReader {
+    ghost kind = { sequential };
+
+    fn bits(&mut self, store: &mut BitStore, coefs: &mut Coefs, most: u64) -> Taken {
+        let mut unit = self.unit.copy();
+        let mut bits = store.copy();
+        let taken = self.read(&mut unit, &mut bits, coefs, most);
+        self.unit = unit;
+        *store = bits;
+        taken
+    }
+
+    fn bit(&mut self, bit: bool, coefs: &mut Coefs) -> Result<UnitStep, UnitFault> {
+        let mut store = BitStore::new();
+        store.push_bit(bit);
+        match self.bits(&mut store, coefs, 1) {
+            Taken::More => Ok(UnitStep::More),
+            Taken::Units => Ok(UnitStep::More),
+            Taken::IntervalDone => Ok(UnitStep::IntervalDone),
+            Taken::Fault(fault) => Err(fault),
+        }
+    }
+
+    fn restart(&mut self, units: u64) {
+        self.unit = UnitWork::new();
+        self.predictions = [0; 4];
+        self.left = units;
+    }
+
+    fn units_left(&self) -> u64 {
+        self.left
+    }
+}

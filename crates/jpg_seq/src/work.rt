@@ -1,0 +1,414 @@
+//! A unit of a sequential scan, read from a store of bits, elements at once (T.81, F.2.2).
+ghost use Rattle.std.specs.Prelude.{◌≡◌, ◌<◌, ◌≤◌, ◌+◌, [], ◌∷◌, ◌++◌, length, take, List, ℤ};
+ghost use Rattle.jpg_spec.specs.Elements.{zeros};
+ghost use Rattle.jpg_seq.specs.Step.{AreSane};
+ghost use Rattle.jpg_seq.specs.Work.{IsLaterNext, IsNext, Takes, IsAtWork, IsCovered, IsFirstValue, GrowsOn, EndsUnit, env_of, no_work};
+ghost use Rattle.jpg_seq.specs.Coder.{env_in};
+ghost use Rattle.jpg_spec.specs.Codes.{Code};
+
+use crate::symbols::{Judged, judge};
+use crate::unit::{narrow, sum};
+use jpg_base::{BitStore, Block, Bounds};
+use jpg_coefs::UnitFault;
+use jpg_huff::{Decoder, Spotted, extend};
+use std::marker::Model;
+
+/// What stands first in bits: a part of an element, or an element or bits that show a fault, by their
+/// number.
+#[derive(Clone, Copy, Debug, PartialEq, Eq)]
+pub enum Next {
+    Part,
+    Value { run: u8, value: i16, length: u8 },
+    Zeros { count: u8, length: u8 },
+    Bad { fault: UnitFault, length: u8 },
+}
+
+/// What taking bits came to: an element is whole, all bits were taken, the unit is whole, a fault.
+#[derive(Clone, Copy, Debug, PartialEq, Eq)]
+pub enum Took {
+    More,
+    Empty,
+    Done,
+    Fault(UnitFault),
+}
+
+/// The tables of a component.
+#[derive(Drop)]
+pub struct Coder {
+    pub dc: Decoder,
+    pub ac: Decoder,
+}
+
+// The first value by its difference.
+#[inline(always)]
+fn first_value(bounds: &Bounds, prediction: i16, difference: i16, length: u8) -> Next
+    requires sane { AreSane bounds.now }
+    ensures { IsFirstValue bounds.now prediction difference length result }
+{
+    let first = sum(prediction, difference);
+    if first < bounds.dc_low {
+        Next::Bad {
+            fault: UnitFault::CoefRange,
+            length,
+        }
+    } else if first > bounds.dc_high {
+        Next::Bad {
+            fault: UnitFault::CoefRange,
+            length,
+        }
+    } else {
+        Next::Value {
+            run: 0,
+            value: narrow(first),
+            length,
+        }
+    }
+}
+
+// What stands first in the bits of a unit.
+#[inline(always)]
+fn first_next(bounds: &Bounds, dc: &Decoder, prediction: i16, bits: &BitStore) -> Next
+    requires sane { AreSane bounds.now }
+    ensures { (ac : List Code) → IsNext (env_of bounds.now dc.now ac prediction) [] bits.now result }
+{
+    dc.apart();
+    match dc.spot(bits) {
+        Spotted::Part => Next::Part,
+        Spotted::NoCode { length } => Next::Bad {
+            fault: UnitFault::NoCode,
+            length,
+        },
+        Spotted::Symbol { length, symbol } => {
+            if symbol > bounds.dc_cat {
+                Next::Bad {
+                    fault: UnitFault::BadSymbol,
+                    length,
+                }
+            } else if symbol == 0 {
+                first_value(bounds, prediction, 0, length)
+            } else if length + symbol <= bits.len() {
+                let difference = extend(symbol, bits.peek_behind(length, symbol));
+                first_value(bounds, prediction, difference, length + symbol)
+            } else {
+                Next::Part
+            }
+        }
+    }
+}
+
+// What stands first in bits behind the first value, where `left` values are left.
+#[inline(always)]
+fn later_next(bounds: &Bounds, ac: &Decoder, left: u8, bits: &BitStore) -> Next
+    requires sane { AreSane bounds.now }
+    requires left { (1 ≤ left) × (left ≤ 63) }
+    ensures { IsLaterNext bounds.now ac.now left bits.now result }
+{
+    ac.apart();
+    match ac.spot(bits) {
+        Spotted::Part => Next::Part,
+        Spotted::NoCode { length } => Next::Bad {
+            fault: UnitFault::NoCode,
+            length,
+        },
+        Spotted::Symbol { length, symbol } => match judge(bounds, left, symbol) {
+            Judged::BadSymbol => Next::Bad {
+                fault: UnitFault::BadSymbol,
+                length,
+            },
+            Judged::BadRun => Next::Bad {
+                fault: UnitFault::BadRun,
+                length,
+            },
+            Judged::LongRun => Next::Zeros {
+                count: left.min(16),
+                length,
+            },
+            Judged::End => Next::Zeros {
+                count: left,
+                length,
+            },
+            Judged::Value { run, size } => {
+                if length + size <= bits.len() {
+                    let value = extend(size, bits.peek_behind(length, size));
+                    Next::Value {
+                        run,
+                        value,
+                        length: length + size,
+                    }
+                } else {
+                    Next::Part
+                }
+            }
+        },
+    }
+}
+
+/// A unit in work: its values so far, and the bits of the element in work.
+#[derive(Drop)]
+pub struct UnitWork {
+    values: Block,
+    at: u8,
+    part: BitStore,
+}
+
+impl Model for UnitWork {
+    ghost use Rattle.std.specs.Prelude.{take};
+    ghost use Rattle.jpg_seq.specs.Work.{Work, IsBlockSoFar};
+
+    ghost Value = { Work };
+
+    ghost view = { λ u. record { values = take u.at u.values; part = u.part } };
+
+    ghost invariant = { λ u. IsBlockSoFar u.values u.at u.part };
+}
+
+impl UnitWork {
+    /// Before the first bit of a unit.
+    #[inline(always)]
+    pub fn new() -> UnitWork
+        ensures { result ≡ no_work }
+    {
+        UnitWork {
+            values: Block::zero(),
+            at: 0,
+            part: BitStore::new(),
+        }
+    }
+
+    // zeros
+    #[inline(always)]
+    fn cover(&mut self, count: u8)
+        requires { length self.old.values + count ≤ 64 }
+        ensures { self.new ≡ record (self.old) { values = self.old.values ++ zeros count } }
+    {
+        self.at += count;
+    }
+
+    // zeros and a value
+    #[inline(always)]
+    fn place(&mut self, run: u8, value: i16)
+        requires { length self.old.values + run < 64 }
+        ensures { self.new ≡ record (self.old) { values = self.old.values ++ (zeros run ++ value ∷ []) } }
+    {
+        self.values.set(self.at + run, value);
+        self.at += run + 1;
+    }
+
+    // how many values there are
+    #[inline(always)]
+    fn count(&self) -> u8
+        ensures value { result ≡ length self.now.values }
+        ensures most { result ≤ 64 }
+    {
+        self.at
+    }
+
+    // whether values are left
+    #[inline(always)]
+    fn covered(&self) -> Took
+        ensures { IsCovered self.now result }
+    {
+        if self.at == 64 {
+            Took::Done
+        } else {
+            Took::More
+        }
+    }
+
+    // all bits of the store behind the part
+    #[inline(always)]
+    fn keep(&mut self, store: &mut BitStore)
+        requires { length self.old.part + length store.old < 32 }
+        ensures work { self.new ≡ record (self.old) { part = self.old.part ++ store.old } }
+        ensures empty { store.new ≡ [] }
+    {
+        self.part.take_from(store);
+    }
+
+    // no part
+    #[inline(always)]
+    fn clear(&mut self)
+        ensures { self.new ≡ record (self.old) { part = [] } }
+    {
+        self.part = BitStore::new();
+    }
+
+    // how many bits the part has
+    #[inline(always)]
+    fn waiting(&self) -> u8
+        ensures { result ≡ length self.now.part }
+    {
+        self.part.len()
+    }
+
+    // the part, and bits of the store
+    #[inline(always)]
+    fn joined(&self, store: &BitStore) -> BitStore
+        ensures { result ≡ self.now.part ++ take 32 store.now }
+    {
+        self.part.joined(store)
+    }
+
+    // what stands first in bits
+    #[inline(always)]
+    fn next(&self, bounds: &Bounds, coder: &Coder, prediction: i16, bits: &BitStore) -> Next
+        requires sane { AreSane bounds.now }
+        requires left { length self.now.values < 64 }
+        ensures { IsNext (env_in bounds.now coder.now prediction) self.now.values bits.now result }
+    {
+        let at = self.count();
+        if at == 0 {
+            first_next(bounds, &coder.dc, prediction, bits)
+        } else {
+            later_next(bounds, &coder.ac, 64 - at, bits)
+        }
+    }
+
+    // An element's worth of bits where no part waits.
+    #[inline(always)]
+    fn element(
+        &mut self,
+        bounds: &Bounds,
+        coder: &Coder,
+        prediction: i16,
+        store: &mut BitStore,
+    ) -> Took
+        requires sane { AreSane bounds.now }
+        requires left { length self.old.values < 64 }
+        requires none { self.old.part ≡ [] }
+        ensures takes { Takes (env_in bounds.now coder.now prediction) self.old store.old result self.new store.new }
+        ensures grows { GrowsOn result self.old self.new }
+    {
+        match self.next(bounds, coder, prediction, store) {
+            Next::Part => {
+                self.keep(store);
+                Took::Empty
+            }
+            Next::Bad { fault, length } => {
+                store.skip(length);
+                Took::Fault(fault)
+            }
+            Next::Value { run, value, length } => {
+                store.skip(length);
+                self.place(run, value);
+                self.covered()
+            }
+            Next::Zeros { count, length } => {
+                store.skip(length);
+                self.cover(count);
+                self.covered()
+            }
+        }
+    }
+
+    // The same where a part waits.
+    #[inline(always)]
+    fn waited_element(
+        &mut self,
+        bounds: &Bounds,
+        coder: &Coder,
+        prediction: i16,
+        store: &mut BitStore,
+    ) -> Took
+        requires sane { AreSane bounds.now }
+        requires work { IsAtWork (env_in bounds.now coder.now prediction) self.old }
+        ensures { Takes (env_in bounds.now coder.now prediction) self.old store.old result self.new store.new }
+    {
+        let bits = self.joined(store);
+        let have = self.waiting();
+        match self.next(bounds, coder, prediction, &bits) {
+            Next::Part => {
+                self.keep(store);
+                Took::Empty
+            }
+            Next::Bad { fault, length } => {
+                store.skip(length - have);
+                Took::Fault(fault)
+            }
+            Next::Value { run, value, length } => {
+                store.skip(length - have);
+                self.clear();
+                self.place(run, value);
+                self.covered()
+            }
+            Next::Zeros { count, length } => {
+                store.skip(length - have);
+                self.clear();
+                self.cover(count);
+                self.covered()
+            }
+        }
+    }
+
+    // Elements where no part waits, up to the end of the unit or of the store.
+    #[inline(always)]
+    fn elements(
+        &mut self,
+        bounds: &Bounds,
+        coder: &Coder,
+        prediction: i16,
+        store: &mut BitStore,
+    ) -> Took
+        requires sane { AreSane bounds.now }
+        requires left { length self.old.values < 64 }
+        requires none { self.old.part ≡ [] }
+        ensures takes { Takes (env_in bounds.now coder.now prediction) self.old store.old result self.new store.new }
+        ensures ends { EndsUnit result }
+    {
+        loop {
+            match self.element(bounds, coder, prediction, store) {
+                Took::More => {}
+                Took::Empty => return Took::Empty,
+                Took::Done => return Took::Done,
+                Took::Fault(fault) => return Took::Fault(fault),
+            }
+        }
+    }
+
+    /// Takes bits up to the end of the unit or of the store, or up to one that shows a fault.
+    #[inline(always)]
+    pub fn take(
+        &mut self,
+        bounds: &Bounds,
+        coder: &Coder,
+        prediction: i16,
+        store: &mut BitStore,
+    ) -> Took
+        requires sane { AreSane bounds.now }
+        requires work { IsAtWork (env_in bounds.now coder.now prediction) self.old }
+        ensures takes { Takes (env_in bounds.now coder.now prediction) self.old store.old result self.new store.new }
+        ensures ends { EndsUnit result }
+    {
+        if self.waiting() == 0 {
+            self.elements(bounds, coder, prediction, store)
+        } else {
+            match self.waited_element(bounds, coder, prediction, store) {
+                Took::More => self.elements(bounds, coder, prediction, store),
+                Took::Empty => Took::Empty,
+                Took::Done => Took::Done,
+                Took::Fault(fault) => Took::Fault(fault),
+            }
+        }
+    }
+
+    /// The same again.
+    #[inline(always)]
+    pub fn copy(&self) -> UnitWork
+        ensures { result ≡ self.now }
+    {
+        UnitWork {
+            values: self.values,
+            at: self.at,
+            part: self.part.copy(),
+        }
+    }
+
+    /// The whole block.
+    #[inline(always)]
+    pub fn block(&self) -> Block
+        requires { length self.now.values ≡ 64 }
+        ensures { result ≡ self.now.values }
+    {
+        self.values
+    }
+}

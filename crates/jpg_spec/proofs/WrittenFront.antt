@@ -1,0 +1,219 @@
+-- The front of a file that is written: its markers, its quantisation tables and its frame header, and what is in force behind them.
+use Rattle.std.proofs.Common.{◌≡◌, ℕ, zero, suc, ◌+◌, ◌-◌, ◌*◌, ◌/◌, ◌%◌, ◌<◌, ◌≤◌, Bool, true, false, cond, not, List, [], ◌∷◌, ◌++◌, length, refl, sym, ap, ◌∙◌, arith, Option, Some, None, ◌==◌, ◌&&◌}
+use Rattle.std.specs.Prelude.{◌||◌, map, flat_map, reverse, nat_lt, nat_le, Ok, is_none}
+use Rattle.std.specs.Int.{to_be_bytes, w16}
+use Rattle.std.specs.List.{All}
+use Rattle.std.proofs.lemmas.Bool.Decides.{nat_tests}
+use Rattle.std.proofs.lemmas.List.Elements.{All-head, All-tail, All-nil, All-cons}
+use Rattle.jpg_spec.specs.Lists.{any_of, is_distinct}
+use Rattle.jpg_spec.specs.Faults.{Told, refuse}
+use Rattle.jpg_spec.specs.Geometry.{Frame, padded_blocks}
+use Rattle.jpg_spec.specs.FrameHeader.{HasFactors, IsFrame, AreLimits, has_bad_factor, has_bad_slot, identifiers, checked_frame}
+use Rattle.jpg_spec.specs.FrameContents.{components_told, frame_header}
+use Rattle.jpg_spec.specs.Segments.{two_bytes, standard_limits}
+use Rattle.jpg_spec.specs.Meaning.{Meaning, PictureComponent}
+use Rattle.jpg_spec.specs.QuantContents.{quant_tables}
+use Rattle.jpg_spec.specs.HuffContents.{huffman_tables}
+use Rattle.jpg_spec.specs.Markers.{Segment, Pass, code_fault_if, is_frame_code, is_within, kept_count}
+use Rattle.jpg_spec.specs.InForce.{told_list, huffmans_defined, quants_defined}
+use Rattle.jpg_spec.specs.Header.{header_rule}
+use Rattle.jpg_spec.specs.FileText.{distinct_quants, slot_in, component_bytes, frame_of_meaning}
+use Rattle.jpg_spec.specs.WrittenFile.{IsKeptMarker}
+use Rattle.jpg_spec.specs.declared.fault.Fault.TheVariants.{EmptyImage, TooLarge, Precision, ComponentCount, Sampling, DuplicateComponent, QuantSlot, TooManyBlocks, BadLength}
+use Rattle.jpg_spec.specs.declared.frame.Component.{Component}
+use Rattle.jpg_spec.specs.declared.frame.Limits.{Limits}
+use Rattle.jpg_spec.proofs.Telling.{both, negated, same_of, le_of, not_lt_of}
+use Rattle.jpg_spec.proofs.Full.{passed}
+use Rattle.jpg_spec.proofs.SingleFrame.{neither, refused, not_refused, same_itself}
+use Rattle.jpg_spec.proofs.SingleKept.{IsPassedOn, ArePassedOn, passes_more, kept_alone, may_keep}
+use Rattle.jpg_spec.proofs.TablesInForce.{affirmed}
+
+-- THE FRAME passes its checks
+
+factors_ok : (c : Component) → has_bad_factor c ≡ false → HasFactors c
+factors_ok c e =
+    let a = neither (c.h == 0) (nat_lt 4 c.h || (c.v == 0 || nat_lt 4 c.v)) e in
+    let b = neither (nat_lt 4 c.h) (c.v == 0 || nat_lt 4 c.v) a.1 in
+    let k = neither (c.v == 0) (nat_lt 4 c.v) b.1 in
+    record { h_low = some c.h a.0; h_high = not_lt_of 4 c.h b.0; v_low = some c.v k.0; v_high = not_lt_of 4 c.v k.1 }
+  where
+    some : (n : ℕ) → (n == 0) ≡ false → 1 ≤ n
+    some zero e = cc
+    some (suc n) e = omega arith
+
+all_factors : (cs : List Component) → any_of has_bad_factor cs ≡ false → All HasFactors cs
+all_factors [] e = All-nil HasFactors
+all_factors (c ∷ cs) e = let n = neither (has_bad_factor c) (any_of has_bad_factor cs) e in All-cons HasFactors c cs (factors_ok c n.0) (all_factors cs n.1)
+
+all_slots : (cs : List Component) → any_of has_bad_slot cs ≡ false → All (λ c. c.quant ≤ 3) cs
+all_slots [] e = All-nil (λ c. c.quant ≤ 3)
+all_slots (c ∷ cs) e = let n = neither (has_bad_slot c) (any_of has_bad_slot cs) e in All-cons (λ c. c.quant ≤ 3) c cs (not_lt_of 3 c.quant n.0) (all_slots cs n.1)
+
+pub standard_are_limits : AreLimits standard_limits
+standard_are_limits = record { side = omega arith; blocks = omega arith; kept = omega arith; input = omega arith; some = omega arith }
+
+pub frame_is : (limits : Limits) (f g : Frame) → AreLimits limits → checked_frame limits f ≡ Ok g → IsFrame f
+unfolding checked_frame
+frame_is limits f g limited e =
+    let many : Told Frame = refuse TooManyBlocks (nat_lt limits.blocks (padded_blocks f)) (Ok f) in
+    let slots = refuse QuantSlot (any_of has_bad_slot f.components) many in
+    let twice = refuse DuplicateComponent (not (is_distinct (identifiers f.components))) slots in
+    let factors = refuse Sampling (any_of has_bad_factor f.components) twice in
+    let count = refuse ComponentCount (length f.components == 0 || nat_lt 4 (length f.components)) factors in
+    let precision = refuse Precision (not (f.precision == 8)) count in
+    let sides = refuse TooLarge (nat_lt limits.side f.width || nat_lt limits.side f.height) precision in
+    let a = refused EmptyImage (f.width == 0 || f.height == 0) sides g e in
+    let b = refused TooLarge (nat_lt limits.side f.width || nat_lt limits.side f.height) precision g a.1 in
+    let k = refused Precision (not (f.precision == 8)) count g b.1 in
+    let m = refused ComponentCount (length f.components == 0 || nat_lt 4 (length f.components)) factors g k.1 in
+    let n = refused Sampling (any_of has_bad_factor f.components) twice g m.1 in
+    let o = refused DuplicateComponent (not (is_distinct (identifiers f.components))) slots g n.1 in
+    let p = refused QuantSlot (any_of has_bad_slot f.components) many g o.1 in
+    let q = refused TooManyBlocks (nat_lt limits.blocks (padded_blocks f)) (Ok f) g p.1 in
+    let empty = neither (f.width == 0) (f.height == 0) a.0 in
+    let large = neither (nat_lt limits.side f.width) (nat_lt limits.side f.height) b.0 in
+    let none = neither (length f.components == 0) (nat_lt 4 (length f.components)) m.0 in
+    let s = limited.side in
+    let t = limited.blocks in
+    let w = not_lt_of limits.side f.width large.0 in
+    let h = not_lt_of limits.side f.height large.1 in
+    let z = not_lt_of limits.blocks (padded_blocks f) q.0 in
+    record {
+      width_low = some f.width empty.0;
+      width_high = omega (arith, s, w);
+      height_low = some f.height empty.1;
+      height_high = omega (arith, s, h);
+      precision = same_of f.precision 8 (affirmed (f.precision == 8) k.0);
+      count_low = some (length f.components) none.0;
+      count_high = not_lt_of 4 (length f.components) none.1;
+      factors = all_factors f.components n.0;
+      distinct = affirmed (is_distinct (identifiers f.components)) o.0;
+      slots = all_slots f.components p.0;
+      blocks = omega (arith, t, z);
+    }
+  where
+    some : (n : ℕ) → (n == 0) ≡ false → 1 ≤ n
+    some zero e = cc
+    some (suc n) e = omega arith
+
+-- ITS HEADER tells it
+
+abbrev pub frame_component : Meaning → PictureComponent → Component
+frame_component H c = record { id = c.id; h = c.h; v = c.v; quant = slot_in (distinct_quants H) c.quants }
+
+abbrev pub frame_contents : Meaning → List ℕ
+frame_contents H = H.precision ∷ to_be_bytes w16 H.height ++ to_be_bytes w16 H.width ++ length H.components ∷ flat_map (component_bytes H) H.components
+
+components_again : (H : Meaning) (cs : List PictureComponent) → All HasFactors (map (frame_component H) cs) → components_told (flat_map (component_bytes H) cs) ≡ map (frame_component H) cs
+components_again H [] all = refl
+components_again H (c ∷ cs) all =
+    let f = All-head HasFactors (frame_component H c) (map (frame_component H) cs) all in
+    let h : (16 * c.h + c.v) / 16 ≡ c.h = omega (arith, f.v_high) in
+    let v : (16 * c.h + c.v) % 16 ≡ c.v = omega (arith, f.v_high) in
+    let slot = slot_in (distinct_quants H) c.quants in
+    let later = components_told (flat_map (component_bytes H) cs) in
+    ap (λ (n : ℕ). (let x : Component = record { id = c.id; h = n; v = (16 * c.h + c.v) % 16; quant = slot } in x ∷ later)) h
+    ∙ ap (λ (n : ℕ). (let x : Component = record { id = c.id; h = c.h; v = n; quant = slot } in x ∷ later)) v
+    ∙ ap (λ t. frame_component H c ∷ t) (components_again H cs (All-tail HasFactors (frame_component H c) (map (frame_component H) cs) all))
+
+pub length_components : (H : Meaning) (cs : List PictureComponent) → length (flat_map (component_bytes H) cs) ≡ 3 * length cs
+length_components H [] = refl
+length_components H (c ∷ cs) = omega (arith, length_components H cs)
+
+pub frame_told_is : (limits : Limits) (H : Meaning) → IsFrame (frame_of_meaning H) → checked_frame limits (frame_of_meaning H) ≡ Ok (frame_of_meaning H) → frame_header limits H.process (frame_contents H) ≡ Ok (frame_of_meaning H)
+frame_told_is limits H is checked =
+    let parts = flat_map (component_bytes H) H.components in
+    let wide = is.width_high in
+    let high = is.height_high in
+    let h : two_bytes (H.height / 256 % 256) (H.height % 256) ≡ H.height = omega (arith, high) in
+    let w : two_bytes (H.width / 256 % 256) (H.width % 256) ≡ H.width = omega (arith, wide) in
+    let l : (length parts == 3 * length H.components) ≡ true = ap (λ n. n == 3 * length H.components) (length_components H H.components) ∙ same_itself (3 * length H.components) in
+    let of : ℕ → ℕ → List Component → Frame = λ height width cs. record { process = H.process; precision = H.precision; width = width; height = height; components = cs } in
+    not_refused BadLength (not (length parts == 3 * length H.components)) _ (ap not l)
+    ∙ ap (λ n. checked_frame limits (of n (two_bytes (H.width / 256 % 256) (H.width % 256)) (components_told parts))) h
+    ∙ ap (λ n. checked_frame limits (of H.height n (components_told parts))) w
+    ∙ ap (λ cs. checked_frame limits (of H.height H.width cs)) (components_again H H.components is.factors) ∙ checked
+
+pub frame_short : (H : Meaning) → length H.components ≤ 4 → length (frame_contents H) + 2 < 65536
+frame_short H few = omega (arith, length_components H H.components, few)
+
+-- THE KEPT MARKERS
+
+abbrev pub is_plain_code : ℕ → Bool
+is_plain_code code =
+    not (is_frame_code code) && (not (code == 0xda) && (not (code == 0xdd) && (not (code == 0xdb) && (not (code == 0xc4) && (not (code == 0xd9) && (not (code == 0) && (not (code == 255)
+    && (is_none (code_fault_if true code) && is_none (code_fault_if false code)))))))))
+
+marker_plain : (code : ℕ) → may_keep code ≡ true → is_plain_code code ≡ true
+marker_plain code e = by (code == 0xfe) refl e
+  where
+    by : (b : Bool) → (code == 0xfe) ≡ b → (b || is_within 0xe0 0xef code) ≡ true → is_plain_code code ≡ true
+    by true s h = ap is_plain_code (same_of code 0xfe s)
+    by false s h =
+        let k = both (nat_le 0xe0 code) (nat_le code 0xef) h in
+        let low : 0xe0 ≤ code = le_of 0xe0 code k.0 in
+        let high : code ≤ 0xef = le_of code 0xef k.1 in
+        let z : 0xe0 + (code - 0xe0) ≡ code = omega (arith, low) in
+        ap is_plain_code (sym z) ∙ passed 16 (λ n. is_plain_code (0xe0 + n)) refl (code - 0xe0) (omega (arith, high, low))
+
+no_fault : {X : Type 0} (o : Option X) → is_none o ≡ true → o ≡ None
+no_fault None e = refl
+no_fault (Some x) e = cc
+
+pub passed_on : (code : ℕ) → may_keep code ≡ true → IsPassedOn code
+passed_on code e =
+    let p = marker_plain code e in
+    let a = both (not (is_frame_code code)) _ p in
+    let b = both (not (code == 0xda)) _ a.1 in
+    let k = both (not (code == 0xdd)) _ b.1 in
+    let m = both (not (code == 0xdb)) _ k.1 in
+    let n = both (not (code == 0xc4)) _ m.1 in
+    let o = both (not (code == 0xd9)) _ n.1 in
+    let q = both (not (code == 0)) _ o.1 in
+    let r = both (not (code == 255)) _ q.1 in
+    let t = both (is_none (code_fault_if true code)) (is_none (code_fault_if false code)) r.1 in
+    record {
+      frame = negated (is_frame_code code) a.0;
+      scan = negated (code == 0xda) b.0;
+      restart = negated (code == 0xdd) k.0;
+      kept = e;
+      marker = (differs 0 (negated (code == 0) q.0), differs 255 (negated (code == 255) r.0));
+      eoi = differs 0xd9 (negated (code == 0xd9) o.0);
+      allowed = λ b. allowed b (no_fault (code_fault_if true code) t.0) (no_fault (code_fault_if false code) t.1);
+      rule = λ limits before contents. kept_alone limits before code contents e;
+    }
+  where
+    differs : (n : ℕ) → (code == n) ≡ false → code ≡ n → ⊥
+    differs n f s = grind (arith, nat_tests)
+
+    allowed : (b : Bool) → code_fault_if true code ≡ None → code_fault_if false code ≡ None → code_fault_if b code ≡ None
+    allowed true x y = x
+    allowed false x y = y
+
+pub markers_passed : (kept : List Segment) → All IsKeptMarker kept → ArePassedOn kept
+unfolding ArePassedOn
+markers_passed [] all = tt
+markers_passed (s ∷ kept) all =
+    let h = All-head IsKeptMarker s kept all in
+    (passed_on s.0 h.0, h.1, markers_passed kept (All-tail IsKeptMarker s kept all))
+
+pub markers_pass : (limits : Limits) (kept : List Segment) → ArePassedOn kept → kept_count kept ≤ limits.kept → Pass (header_rule limits) kept
+unfolding ArePassedOn
+markers_pass limits [] are few = tt
+markers_pass limits (s ∷ kept) are few = passes_more limits s kept are few (markers_pass limits kept are.2 (omega (arith, few)))
+
+-- kept markers define no tables
+pub no_tables : (kept : List Segment) → All IsKeptMarker kept → (quants_defined kept ≡ []) × (huffmans_defined kept ≡ [])
+no_tables [] all = (refl, refl)
+no_tables (s ∷ kept) all =
+    let h = All-head IsKeptMarker s kept all in
+    let later = no_tables kept (All-tail IsKeptMarker s kept all) in
+    let p = marker_plain s.0 h.0 in
+    let a = both (not (is_frame_code s.0)) _ p in
+    let b = both (not (s.0 == 0xda)) _ a.1 in
+    let k = both (not (s.0 == 0xdd)) _ b.1 in
+    let m = both (not (s.0 == 0xdb)) _ k.1 in
+    let n = both (not (s.0 == 0xc4)) _ m.1 in (
+      ap (λ t. cond t (reverse (told_list (quant_tables s.1))) [] ++ quants_defined kept) (negated (s.0 == 0xdb) m.0) ∙ later.0,
+      ap (λ t. cond t (reverse (told_list (huffman_tables s.1))) [] ++ huffmans_defined kept) (negated (s.0 == 0xc4) n.0) ∙ later.1,
+    )

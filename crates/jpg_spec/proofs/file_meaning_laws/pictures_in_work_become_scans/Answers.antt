@@ -1,0 +1,11 @@
+use Rattle.jpg_spec.proofs.PictureInWork.{so_far_first, so_far_next, so_far_last}
+use Rattle.jpg_spec.proofs.file_meaning_laws.pictures_in_work_become_scans.Goals as goal
+
+pub returns-clause-first : goal.returns-clause-first
+returns-clause-first c = λ s before sizes. so_far_first s before sizes
+
+pub returns-clause-next : goal.returns-clause-next
+returns-clause-next c = λ s before work new done coded bits places later distinct w packs r. so_far_next s before work new done coded bits places later distinct w packs r
+
+pub returns-clause-last : goal.returns-clause-last
+returns-clause-last c = λ s before work intervals w. so_far_last s before work intervals w

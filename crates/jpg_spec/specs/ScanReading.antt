@@ -1,0 +1,77 @@
+-- WHAT A READER OF A FILE STANDS FOR, between items and inside the data of a scan (T.81 B.1.1, B.2.1, F.2.2, G.1.2).
+use Rattle.std.specs.Prelude.{◌≡◌, ◌⊎◌, ℕ, false, List, [], ◌∷◌, ◌++◌, replicate, map, None}
+use Rattle.jpg_spec.specs.Bits.{bits_of_bytes}
+use Rattle.jpg_spec.specs.Lists.{chunks}
+use Rattle.jpg_spec.specs.Scan.{Blocks, Scan, unit_at}
+use Rattle.jpg_spec.specs.ScanFaults.{DataShows}
+use Rattle.jpg_spec.specs.Markers.{SpellsMarker, SpellsSegment, code_fault, Rule, Between}
+use Rattle.jpg_spec.specs.Items.{Item, scan, segments_of, SpellsFront, SpellsIntervalsText, ends_in_scan, contents_rule}
+use Rattle.jpg_spec.specs.FileMeaning.{Leads, scan_after}
+use Rattle.jpg_spec.specs.FirstFault.{BehindItems, Holds, HoldsAll}
+use Rattle.jpg_spec.specs.declared.fault.Fault.{Fault}
+use Rattle.jpg_spec.specs.declared.frame.Limits.{Limits}
+use Rattle.jpg_spec.specs.declared.frame.Place.{Place}
+use Rattle.jpg_spec.specs.FileStands.{Completes, AreDue}
+
+-- the bytes begin with a marker
+abbrev pub BeginsMarker : List ℕ → Type 0
+BeginsMarker bytes = (code : ℕ) × (marker : List ℕ) × (rest : List ℕ) × SpellsMarker code marker × (bytes ≡ marker ++ rest)
+
+-- Between items. What a reader of segments was sent leaves out the data of scans, and fill bytes behind them:
+-- the same whole segments, and the same bytes of a further one behind them.
+pub record Beside (limits : Limits) (rule : Rule) (sent bytes : List ℕ) (items : List Item) (tail : List ℕ) : Type 0 where
+  pub fill : ℕ
+  pub between : Between rule sent (segments_of items) tail
+  pub behind : BehindItems limits bytes items (replicate fill 255 ++ tail)
+  pub plain : ((fill ≡ 0) × (ends_in_scan items ≡ false)) ⊎ BeginsMarker tail
+
+-- A place inside scan data, with all that a reader keeps of it: the items and the blocks before the scan, the contents of its header,
+-- the intervals done, the data bytes of the one in work, its units, and the intervals behind it.
+pub record ScanPlace : Type 0 where
+  pub items : List Item
+  pub blocks : Blocks
+  pub contents : List ℕ
+  pub done : List (List ℕ)
+  pub coded : List ℕ
+  pub places : List Place
+  pub later : List (List Place)
+
+abbrev pub scan_at : Limits → ScanPlace → Scan
+scan_at limits p = scan_after limits (segments_of p.items) p.contents
+
+-- with a data byte more, and with the next interval begun
+abbrev pub with_byte : ScanPlace → ℕ → ScanPlace
+with_byte p byte = record p { coded = p.coded ++ byte ∷ [] }
+
+abbrev pub with_interval : ScanPlace → List Place → List (List Place) → ScanPlace
+with_interval p next others = record p { done = p.done ++ p.coded ∷ []; coded = []; places = next; later = others }
+
+-- the scan as an item, when its data end here
+abbrev pub scan_item : ScanPlace → Item
+scan_item p = scan p.contents (p.done ++ p.coded ∷ [])
+
+-- The bytes stand at this place, with a tail behind the data bytes: InsideScan, told by its place.
+pub record ScanAt (limits : Limits) (bytes : List ℕ) (p : ScanPlace) (tail : List ℕ) : Type 0 where
+  pub front : List ℕ
+  pub head : List ℕ
+  pub text : List ℕ
+  pub cut : bytes ≡ front ++ head ++ text ++ tail
+  pub spelled : SpellsFront p.items front
+  pub header : SpellsSegment 0xda p.contents head
+  pub intervals : SpellsIntervalsText 0 (p.done ++ p.coded ∷ []) text
+  pub leads : Leads limits p.items p.blocks
+  pub allowed : (code_fault (segments_of p.items) 0xda ≡ None) × (contents_rule limits (segments_of p.items) 0xda p.contents ≡ None)
+  pub due : (let s = scan_at limits p in HoldsAll s p.blocks (chunks s.interval s.places) p.done (p.places ∷ p.later))
+
+-- what the data bytes of the interval in work are
+abbrev pub HoldsAt : Limits → ScanPlace → Type 0
+HoldsAt limits p = Holds (scan_at limits p) p.blocks p.places p.coded
+
+abbrev pub CompletesAt : Limits → ScanPlace → Type 0
+CompletesAt limits p = Completes (scan_at limits p) p.blocks p.places p.coded
+
+abbrev pub IsDueAt : Limits → ScanPlace → Type 0
+IsDueAt limits p = AreDue (scan_at limits p) p.blocks p.places p.coded
+
+abbrev pub ShowsAt : Limits → ScanPlace → Fault → Type 0
+ShowsAt limits p fault = DataShows (scan_at limits p).coding (map (unit_at (scan_at limits p) p.blocks) p.places) fault (bits_of_bytes p.coded)

@@ -1,0 +1,218 @@
+-- A view of a picture moved shows the meaning moved.
+use Rattle.std.proofs.Common.{◌≡◌, ℕ, ◌+◌, ◌-◌, ◌*◌, ◌/◌, ◌<◌, Bool, true, false, cond, ◌&&◌, List, [], ◌∷◌, length, get_or, map, refl, sym, ap, ◌∙◌, subst, arith, ℤ}
+use Rattle.std.specs.Prelude.{nat_lt}
+use Rattle.std.proofs.lemmas.List.{length-map}
+use Rattle.std.proofs.lemmas.List.Elements.{All-head, All-nil, All-cons}
+use Rattle.std.proofs.lemmas.Nat.{div-mul-add}
+use Rattle.std.specs.List.{All}
+use Rattle.jpg_spec.specs.Geometry.{Frame, IsReal, div_up, greatest, h_max, v_max, blocks_across, blocks_down, component_at, is_real}
+use Rattle.jpg_spec.specs.Elements.{zeros}
+use Rattle.jpg_spec.specs.FrameHeader.{IsFrame}
+use Rattle.jpg_spec.specs.Meaning.{Meaning, PictureComponent, picture_frame, real_blocks}
+use Rattle.jpg_spec.specs.Moves.{most_across, most_down, component_of}
+use Rattle.jpg_spec.specs.Transforms.{transformed, transposes, mirrors_across, mirrors_down, opposite, changed_columns, changed_rows, placed, signed, turned_over}
+use Rattle.jpg_spec.specs.Moved.{Grids, frame_grids, picture_grids, trimmed, whole_side, trimmed_frame, transformed_frame, grayed, grayed_frame, Choice, moved, headed_as, columns_in, rows_in}
+use Rattle.jpg_spec.specs.WholeBlocks.{HasWholeBlocks}
+use Rattle.jpg_spec.specs.declared.transform.Transform.{Transform}
+use Rattle.jpg_spec.proofs.Turned.{lt_yes}
+use Rattle.jpg_spec.proofs.Transforming.{by_formula}
+use Rattle.jpg_base.proofs.Grids.{across_low, down_low}
+use Rattle.jpg_spec.specs.Scan.{Blocks}
+use Rattle.jpg_transform.specs.Places.{IsOutput, Shows, ComesFrom}
+use Rattle.jpg_spec.proofs.MovedGrids.{real_side, over_grids, trim_grids, columns_by, rows_by, turned_frame, turned_picture, cut_picture, framed_picture, columns_picture, rows_picture, columns_frame, rows_frame, columns_cut, rows_cut, IsIn, to_grids, from_grids, untrimmed, opposite_in}
+
+-- WHAT `new` IS GIVEN: the frame of the output, and the columns and rows that change places
+
+pub record Given (g : Frame) (t : Transform) (over : Bool) (columns rows : ℕ → ℕ) : Type 0 where
+  pub frame : IsFrame g
+  pub over_is : over ≡ transposes t
+  pub columns_are : (i : ℕ) → i < length g.components → columns i ≡ columns_in t g i
+  pub rows_are : (i : ℕ) → i < length g.components → rows i ≡ rows_in t g i
+
+abbrev pub IsMade : Bool → Transform → Frame → Frame → Type 0
+IsMade trim t f g = frame_grids g ≡ frame_grids (trimmed_frame trim t (transformed_frame t f))
+
+some_across : (g : Frame) → IsFrame g → 0 < h_max g
+some_across g is = (let h = across_low g.components is.factors is.count_low in omega (arith, h))
+
+some_down : (g : Frame) → IsFrame g → 0 < v_max g
+some_down g is = (let h = down_low g.components is.factors is.count_low in omega (arith, h))
+
+made : (trim : Bool) (t : Transform) (f g : Frame) → IsMade trim t f g → frame_grids g ≡ trim_grids trim t (over_grids (transposes t) (frame_grids f))
+made trim t f g m = m ∙ ap (trim_grids trim t) (turned_frame t f)
+
+-- REAL PLACES
+
+not_both : (b : Bool) → b ≡ true → b ≡ false → ⊥
+not_both true e f = absurd (cc)
+not_both false e f = absurd (cc)
+
+comes : (over : Bool) (f : Frame) (i x y : ℕ) → IsIn (over_grids over (frame_grids f)) i x y → ComesFrom over f i x y
+comes true f i x y r =
+    let n : i < length (map (λ c. c.h) f.components) =
+    (let l = length-map f.components (λ c. c.h) in let m = length-map f.components (λ c. c.v) in omega (arith, l, m, r.component)) in
+    record { turned = λ e. from_grids f i y x (record { component = n; across = r.down; down = r.across }); plain = λ e. absurd (not_both true refl e) }
+comes false f i x y r = record { turned = λ e. absurd (not_both false e refl); plain = λ e. from_grids f i x y r }
+
+place_before : (f g : Frame) (t : Transform) (trim : Bool) (i x y : ℕ) → IsFrame g → IsMade trim t f g → IsReal g i x y → ComesFrom (transposes t) f i (opposite (columns_in t g i) x) (opposite (rows_in t g i) y)
+place_before f g t trim i x y is m r =
+    let G = frame_grids g in
+    let N = over_grids (transposes t) (frame_grids f) in
+    let e = made trim t f g m in
+    let h : 0 < greatest N.across = subst (λ (K : Grids). 0 < greatest K.across) e (some_across g is) in
+    let v : 0 < greatest N.down = subst (λ (K : Grids). 0 < greatest K.down) e (some_down g is) in
+    let here : IsIn G i (opposite (columns_by t G i) x) (opposite (rows_by t G i) y) = opposite_in t G i x y (some_across g is) (some_down g is) (to_grids g i x y r) in
+    let named : IsIn G i (opposite (columns_in t g i) x) (opposite (rows_in t g i) y) =
+    subst (λ c. IsIn G i (opposite c x) (opposite (rows_in t g i) y)) (sym (columns_frame t g i)) (subst (λ c. IsIn G i (opposite (columns_by t G i) x) (opposite c y)) (sym (rows_frame t g i)) here) in
+    comes (transposes t) f i (opposite (columns_in t g i) x) (opposite (rows_in t g i) y)
+    (untrimmed trim t N i (opposite (columns_in t g i) x) (opposite (rows_in t g i) y) h v (subst (λ (K : Grids). IsIn K i (opposite (columns_in t g i) x) (opposite (rows_in t g i) y)) e named))
+
+pub reached : (f g : Frame) (t : Transform) (over : Bool) (columns rows : ℕ → ℕ) (trim : Bool) (i x y : ℕ) → Given g t over columns rows → IsMade trim t f g → IsReal g i x y
+    → ComesFrom over f i (opposite (columns i) x) (opposite (rows i) y)
+reached f g t over columns rows trim i x y given m r =
+    subst (λ (b : Bool). ComesFrom b f i (opposite (columns i) x) (opposite (rows i) y)) (sym given.over_is)
+    (subst (λ (c : ℕ). ComesFrom (transposes t) f i (opposite c x) (opposite (rows i) y)) (sym (given.columns_are i r.component))
+    (subst (λ (c : ℕ). ComesFrom (transposes t) f i (opposite (columns_in t g i) x) (opposite c y)) (sym (given.rows_are i r.component)) (place_before f g t trim i x y given.frame m r)))
+
+-- BLOCKS
+
+real_true : (f : Frame) (blocks : Blocks) (i x y : ℕ) → IsReal f i x y → real_blocks f blocks i x y ≡ blocks i x y
+real_true f blocks i x y r =
+    ap (λ b. cond (b && is_real f i x y) (blocks i x y) (zeros 64)) (lt_yes i (length f.components) r.component)
+    ∙ ap (λ b. cond (b && nat_lt y (blocks_down f (component_at f i))) (blocks i x y) (zeros 64)) (lt_yes x (blocks_across f (component_at f i)) r.across)
+    ∙ ap (λ b. cond b (blocks i x y) (zeros 64)) (lt_yes y (blocks_down f (component_at f i)) r.down)
+
+cut_block : (trim : Bool) (t : Transform) (M : Meaning) (i x y : ℕ) → IsIn (picture_grids (trimmed trim t M)) i x y → (trimmed trim t M).blocks i x y ≡ M.blocks i x y
+cut_block false t M i x y r = refl
+cut_block true t M i x y r =
+    let N : Meaning = record M {
+      width = cond (mirrors_across t) (whole_side M.width (8 * most_across M)) M.width;
+      height = cond (mirrors_down t) (whole_side M.height (8 * most_down M)) M.height;
+    } in
+    real_true (picture_frame N) M.blocks i x y (from_grids (picture_frame N) i x y (subst (λ (K : Grids). IsIn K i x y) (sym (framed_picture N)) r))
+
+placed_same : (over : Bool) (c r : ℕ) (A B : ℕ → ℕ → List ℤ) (x y : ℕ)
+    → (over ≡ true → A (opposite r y) (opposite c x) ≡ B (opposite r y) (opposite c x)) → (over ≡ false → A (opposite c x) (opposite r y) ≡ B (opposite c x) (opposite r y)) → placed over c r A x y ≡ placed over c r B x y
+placed_same true c r A B x y e f = ap (λ b. signed (nat_lt x c) (nat_lt y r) (turned_over true b)) (e refl)
+placed_same false c r A B x y e f = ap (λ b. signed (nat_lt x c) (nat_lt y r) b) (f refl)
+
+pub shown : (f g : Frame) (t : Transform) (over : Bool) (columns rows : ℕ → ℕ) (blocks : Blocks) (M : Meaning) (trim : Bool) → Given g t over columns rows → HasWholeBlocks M → Shows M f blocks → IsMade trim t f g
+    → Shows (trimmed trim t (transformed t M)) g (λ i x y. placed over (columns i) (rows i) (blocks i) x y)
+shown f g t over columns rows blocks M trim given w s m = record { grids = grids; same = same }
+  where
+    turned : picture_grids (transformed t M) ≡ over_grids (transposes t) (frame_grids f)
+    turned = turned_picture t M ∙ ap (over_grids (transposes t)) s.grids
+
+    grids : picture_grids (trimmed trim t (transformed t M)) ≡ frame_grids g
+    grids = cut_picture trim t (transformed t M) ∙ ap (trim_grids trim t) turned ∙ sym (made trim t f g m)
+
+    columns_same : (i : ℕ) → i < length g.components → changed_columns t (transformed t M) i ≡ columns i
+    columns_same i n =
+        let e = made trim t f g m in
+        let K = over_grids (transposes t) (frame_grids f) in
+        let h : 0 < greatest K.across = subst (λ (L : Grids). 0 < greatest L.across) e (some_across g given.frame) in
+        columns_picture t (transformed t M) i ∙ ap (λ (L : Grids). columns_by t L i) turned ∙ sym (columns_cut trim t K i h) ∙ ap (λ (L : Grids). columns_by t L i) (sym e) ∙ sym (columns_frame t g i) ∙ sym (given.columns_are i n)
+
+    rows_same : (i : ℕ) → i < length g.components → changed_rows t (transformed t M) i ≡ rows i
+    rows_same i n =
+        let e = made trim t f g m in
+        let K = over_grids (transposes t) (frame_grids f) in
+        let v : 0 < greatest K.down = subst (λ (L : Grids). 0 < greatest L.down) e (some_down g given.frame) in
+        rows_picture t (transformed t M) i ∙ ap (λ (L : Grids). rows_by t L i) turned ∙ sym (rows_cut trim t K i v) ∙ ap (λ (L : Grids). rows_by t L i) (sym e) ∙ sym (rows_frame t g i) ∙ sym (given.rows_are i n)
+
+    same : (i x y : ℕ) → IsReal g i x y → (trimmed trim t (transformed t M)).blocks i x y ≡ placed over (columns i) (rows i) (blocks i) x y
+    same i x y r =
+        let from = reached f g t over columns rows trim i x y given m r in
+        cut_block trim t (transformed t M) i x y (subst (λ (K : Grids). IsIn K i x y) (sym grids) (to_grids g i x y r))
+        ∙ by_formula M t w i x y
+        ∙ ap (λ c. placed (transposes t) c (changed_rows t (transformed t M) i) (M.blocks i) x y) (columns_same i r.component)
+        ∙ ap (λ c. placed (transposes t) (columns i) c (M.blocks i) x y) (rows_same i r.component)
+        ∙ ap (λ b. placed b (columns i) (rows i) (M.blocks i) x y) (sym given.over_is)
+        ∙ placed_same over (columns i) (rows i) (M.blocks i) (blocks i) x y (λ e. s.same i _ _ (from.turned e)) (λ e. s.same i _ _ (from.plain e))
+
+-- GRAY: the first component, whole
+
+whole_up : (w h : ℕ) → 0 < h → div_up (w * h) h ≡ w
+whole_up w h some =
+    let e : w * h + h - 1 ≡ w * h + (h - 1) = omega (arith, some) in
+    ap (λ n. n / h) e ∙ div-mul-add w h (h - 1) (omega (arith, some))
+
+first_side : (w k h : ℕ) → 0 < h → k ≡ h → real_side w 1 1 ≡ real_side w k h
+first_side w k h some e = ap (λ n. div_up n 8) (whole_up w 1 (omega arith) ∙ sym (whole_up w h some) ∙ ap (λ n. div_up (w * n) h) (sym e))
+
+-- the facts of a source that may be grayed
+pub record MayGray (gray : Bool) (f : Frame) : Type 0 where
+  pub across : gray ≡ true → (component_at f 0).h ≡ h_max f
+  pub down : gray ≡ true → (component_at f 0).v ≡ v_max f
+
+gray_real : (gray : Bool) (f : Frame) (i x y : ℕ) → IsFrame f → MayGray gray f → IsReal (grayed_frame gray f) i x y → IsReal f i x y
+gray_real false f i x y is may r = r
+gray_real true f i x y is may r =
+    let z : i ≡ 0 = omega (arith, r.component) in
+    let k : IsReal (grayed_frame true f) 0 x y = subst (λ j. IsReal (grayed_frame true f) j x y) z r in
+    let some : 0 < length f.components = omega (arith, is.count_low) in
+    let here : IsReal f 0 x y = record {
+      component = some;
+      across = subst (λ n. x < n) (first_side f.width (component_at f 0).h (h_max f) (some_across f is) (may.across refl)) k.across;
+      down = subst (λ n. y < n) (first_side f.height (component_at f 0).v (v_max f) (some_down f is) (may.down refl)) k.down;
+    } in
+    subst (λ j. IsReal f j x y) (sym z) here
+
+gray_comes : (gray over : Bool) (f : Frame) (i x y : ℕ) → IsFrame f → MayGray gray f → ComesFrom over (grayed_frame gray f) i x y → ComesFrom over f i x y
+gray_comes gray over f i x y is may c = record {
+  turned = λ e. gray_real gray f i y x is may (c.turned e);
+  plain = λ e. gray_real gray f i x y is may (c.plain e);
+}
+
+gray_shown : (gray : Bool) (f : Frame) (M : Meaning) (blocks : Blocks) → IsFrame f → MayGray gray f → Shows M f blocks → Shows (grayed gray M) (grayed_frame gray f) blocks
+gray_shown false f M blocks is may s = s
+gray_shown true f M blocks is may s = record {
+  grids = ap (λ (K : Grids). (let G : Grids = record { width = K.width; height = K.height; across = 1 ∷ []; down = 1 ∷ [] } in G)) s.grids;
+  same = λ i x y r. (let N : Meaning = record M { components = record (component_of M 0) { h = 1; v = 1 } ∷ [] } in
+      let w : (frame_grids (grayed_frame true f)) ≡ frame_grids (picture_frame N) = sym (framed_picture N ∙ ap (λ (K : Grids). (let G : Grids = record { width = K.width; height = K.height; across = 1 ∷ []; down = 1 ∷ [] } in G)) s.grids) in
+      real_true (picture_frame N) M.blocks i x y (from_grids (picture_frame N) i x y (subst (λ (K : Grids). IsIn K i x y) w (to_grids (grayed_frame true f) i x y r)))
+      ∙ s.same i x y (gray_real true f i x y is may r));
+}
+
+length_cond : (b : Bool) (block : List ℤ) → length block ≡ 64 → length (cond b block (zeros 64)) ≡ 64
+length_cond true block l = l
+length_cond false block l = refl
+
+first_quants : (cs : List PictureComponent) → All (λ c. length c.quants ≡ 64) cs → 0 < length cs → length (get_or cs 0 (record { id = 0; h = 1; v = 1; quants = [] })).quants ≡ 64
+first_quants [] all some = absurd (omega (arith, some))
+first_quants (c ∷ cs) all some = All-head (λ c. length c.quants ≡ 64) c cs all
+
+gray_whole : (gray : Bool) (M : Meaning) → 0 < length M.components → HasWholeBlocks M → HasWholeBlocks (grayed gray M)
+gray_whole false M some w = w
+gray_whole true M some w = record {
+  blocks = λ i x y. length_cond _ (M.blocks i x y) (w.blocks i x y);
+  quants = All-cons (λ c. length c.quants ≡ 64) _ [] (first_quants M.components w.quants some) (All-nil (λ c. length c.quants ≡ 64));
+}
+
+-- THE WHOLE CHOICE
+
+may_gray : (choice : Choice) (t : Transform) (f g : Frame) → IsOutput choice t f g → MayGray choice.gray f
+may_gray choice t f g o = record { across = o.gray_across; down = o.gray_down }
+
+made_by : (choice : Choice) (t : Transform) (f g : Frame) → IsOutput choice t f g → IsMade choice.trim t (grayed_frame choice.gray f) g
+made_by choice t f g o = o.grids ∙ ap (λ (u : Transform). frame_grids (trimmed_frame choice.trim u (transformed_frame u (grayed_frame choice.gray f)))) o.transform_is
+
+pub reached_by : (choice : Choice) (f g : Frame) (t : Transform) (over : Bool) (columns rows : ℕ → ℕ) (i x y : ℕ) → IsFrame f → Given g t over columns rows → IsOutput choice t f g → IsReal g i x y
+    → ComesFrom over f i (opposite (columns i) x) (opposite (rows i) y)
+reached_by choice f g t over columns rows i x y is given o r =
+    gray_comes choice.gray over f i (opposite (columns i) x) (opposite (rows i) y) is (may_gray choice t f g o)
+    (reached (grayed_frame choice.gray f) g t over columns rows choice.trim i x y given (made_by choice t f g o) r)
+
+pub shown_by : (choice : Choice) (f g : Frame) (t : Transform) (over : Bool) (columns rows : ℕ → ℕ) (blocks : Blocks) (M : Meaning) → IsFrame f → Given g t over columns rows → HasWholeBlocks M → Shows M f blocks → IsOutput choice t f g
+    → Shows (moved choice M) g (λ i x y. placed over (columns i) (rows i) (blocks i) x y)
+shown_by choice f g t over columns rows blocks M is given w s o =
+    let may = may_gray choice t f g o in
+    let some : 0 < length M.components =
+    (let e : length (map (λ c. c.h) M.components) ≡ length (map (λ c. c.h) f.components) = ap (λ (K : Grids). length K.across) s.grids in
+    let l = length-map M.components (λ c. c.h) in let k = length-map f.components (λ c. c.h) in omega (arith, e, l, k, is.count_low)) in
+    subst (λ (u : Transform). Shows (headed_as choice (trimmed choice.trim u (transformed u (grayed choice.gray M)))) g (λ i x y. placed over (columns i) (rows i) (blocks i) x y)) (sym o.transform_is)
+    (headed (trimmed choice.trim t (transformed t (grayed choice.gray M)))
+    (shown (grayed_frame choice.gray f) g t over columns rows blocks (grayed choice.gray M) choice.trim given (gray_whole choice.gray M some w) (gray_shown choice.gray f M blocks is may s) (made_by choice t f g o)))
+  where
+    headed : (N : Meaning) → Shows N g (λ i x y. placed over (columns i) (rows i) (blocks i) x y) → Shows (headed_as choice N) g (λ i x y. placed over (columns i) (rows i) (blocks i) x y)
+    headed N h = record { grids = h.grids; same = h.same }

@@ -1,0 +1,16 @@
+// A picture moved, as a view of another (the manual of jpegtran).
+ghost use Rattle.jpg_transform.specs.Places.{Reaches};
+
+use crate::Source;
+use jpg_base::Frame;
+
+/// A picture moved: a view of another, that takes no memory.
+#[derive(Drop)]
+pub struct Moved<'a, S: Source> {
+    pub(crate) source: &'a S,
+    pub(crate) frame: &'a Frame,
+    pub(crate) over: bool,
+    pub(crate) columns: [u32; 4],
+    pub(crate) rows: [u32; 4],
+    ghost reaches: { Reaches (S.numbers source.now) over columns rows frame.now },
+}

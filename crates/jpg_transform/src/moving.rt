@@ -1,0 +1,120 @@
+// The blocks of a picture moved, each found and turned as it is asked for (the manual of jpegtran).
+ghost use Rattle.std.specs.Prelude.{◌≡◌, ◌<◌, ℕ, length, slice_index};
+ghost use Rattle.jpg_spec.specs.Moved.{Choice, columns_in, rows_in};
+ghost use Rattle.jpg_spec.specs.Transforms.{opposite};
+ghost use Rattle.jpg_transform.specs.Places.{IsOutput, ShowsMoved};
+ghost use Rattle.jpg_transform.specs.MovedBlocks.{moved_blocks, moved_numbers};
+
+use crate::signs::{signed, signed_over};
+use crate::table::{mirrors_across, mirrors_down, transposes};
+use crate::{Moved, Source};
+use jpg_base::{Block, Frame};
+use jpg_coefs::BlockView;
+use jpg_spec::Transform;
+
+// How many columns of a component of the output change places.
+fn columns_of(transform: Transform, frame: &Frame, i: u8) -> u32
+    requires { i < length frame.now.components }
+    ensures { result ≡ columns_in transform frame.now i }
+{
+    if mirrors_across(transform) {
+        let component = frame.component(i);
+        frame.width() / (8 * u32::from(frame.h_max())) * u32::from(component.h)
+    } else {
+        0
+    }
+}
+
+// How many rows of a component of the output change places.
+fn rows_of(transform: Transform, frame: &Frame, i: u8) -> u32
+    requires { i < length frame.now.components }
+    ensures { result ≡ rows_in transform frame.now i }
+{
+    if mirrors_down(transform) {
+        let component = frame.component(i);
+        frame.height() / (8 * u32::from(frame.v_max())) * u32::from(component.v)
+    } else {
+        0
+    }
+}
+
+// The columns of all components.
+fn all_columns(transform: Transform, frame: &Frame) -> [u32; 4]
+    ensures { (i : ℕ) → i < length frame.now.components → slice_index result i ≡ columns_in transform frame.now i }
+{
+    let mut columns = [0; 4];
+    for i in 0..frame.count() {
+        columns[i as usize] = columns_of(transform, frame, i);
+    }
+    columns
+}
+
+// The rows of all components.
+fn all_rows(transform: Transform, frame: &Frame) -> [u32; 4]
+    ensures { (i : ℕ) → i < length frame.now.components → slice_index result i ≡ rows_in transform frame.now i }
+{
+    let mut rows = [0; 4];
+    for i in 0..frame.count() {
+        rows[i as usize] = rows_of(transform, frame, i);
+    }
+    rows
+}
+
+// The column or row opposite, where it is one of those that change places.
+#[inline(always)]
+fn opposite(changed: u32, x: u32) -> u32
+    ensures { result ≡ opposite changed x }
+{
+    if x < changed { changed - 1 - x } else { x }
+}
+
+impl<'a, S: Source> Moved<'a, S> {
+    /// The source grayed, moved by this transform and trimmed, as the output's frame says: its sides and factors are
+    /// those of the source's frame moved so, for some choice of graying and trimming. It takes no memory.
+    pub fn new(source: &'a S, frame: &'a Frame, transform: Transform) -> Moved<'a, S>
+        requires { (choice : Choice) × IsOutput choice transform (S.numbers source.now) frame.now }
+        ensures frame { moved_numbers result ≡ frame.now }
+        ensures shows { ShowsMoved transform (S.numbers source.now) (S.blocks source.now) frame.now (moved_blocks result) }
+    {
+        source.frame().checked();
+        frame.checked();
+        Moved {
+            source,
+            frame,
+            over: transposes(transform),
+            columns: all_columns(transform, frame),
+            rows: all_rows(transform, frame),
+        }
+    }
+}
+
+impl<'a, S: Source> BlockView for Moved<'a, S> {
+    ghost numbers = { λ m. moved_numbers m };
+
+    ghost blocks = { λ m. moved_blocks m };
+
+    fn frame(&self) -> &Frame {
+        self.frame
+    }
+
+    fn block(&self, component: u8, x: u32, y: u32) -> Block {
+        self.source.checked();
+        let columns = self.columns[component as usize];
+        let rows = self.rows[component as usize];
+        let column = opposite(columns, x);
+        let row = opposite(rows, y);
+        if self.over {
+            signed_over(
+                x < columns,
+                y < rows,
+                &self.source.block(component, row, column),
+            )
+        } else {
+            signed(
+                x < columns,
+                y < rows,
+                &self.source.block(component, column, row),
+            )
+        }
+    }
+}
