@@ -8,7 +8,7 @@ use Rattle.jpg_base.specs.declared.names.Name.TheVariants as name
 use Rattle.jpg_base.specs.declared.names.Put.{Put}
 use Rattle.jpg_base.specs.declared.names.Put.TheVariants as put
 use Rattle.jpg_base.specs.Desk.{AddsOutput, AfterWrite, AppendsLast, Creates, DeskState, Opens, OpensFile}
-use Rattle.jpg_base.specs.Laws.{Consumes-then, Grows-from, NoneFell-then, NotesNames, NotesNames-then}
+use Rattle.jpg_base.specs.Laws.{Consumes-then, Grows-from, NoneFell-then, NotesNames}
 use Rattle.jpg_huff.specs.Out.{OnlyWrites}
 use Rattle.jpg_spec.specs.Segments.{standard_limits}
 use Rattle.jpg_markers.specs.Reading.{reading_of}
@@ -21,10 +21,12 @@ use Rattle.jpg_spec.specs.declared.answers.Why.TheVariants as why
 use Rattle.jpg_spec.specs.declared.answers.Which.TheVariants as which
 use Rattle.jpg_comments.specs.WriteInserted.{HasInserted, StandsAt}
 use Rattle.jpg_comments.specs.declared.insert.Insert.{Insert}
-use Rattle.jpg_cli.specs.CommentInserted.{AfterBegin, Inserted, IsOutOfMemory, IsOutputUncreated, IsComment, IsCommentRead, IsReading, IsShortComment, IsWriting, ReadsAlone, ReadsComment, ReadsLast, Task, WritesText, asked_comment, asked_to_input, asked_to_output}
+use Rattle.jpg_cli.specs.CommentInserted.{AfterBegin, Inserted, IsOutOfMemory, IsComment, IsCommentRead, IsReading, IsShortComment, IsWriting, ReadsAlone, ReadsComment, ReadsInput, ReadsLast, Task, WritesText, names_of, names_to_input, names_to_output}
+use Rattle.jpg_cli.specs.Endings.{Asks, Unopened}
+use Rattle.jpg_cli.proofs.Endings.{asks_next, asks_still}
 use Rattle.jpg_cli.specs.CommentTaken.{AfterComment, AfterFile, AfterWords, IsUnasked}
 use Rattle.jpg_cli.specs.InsertComment.{AfterFed, EndsBefore, EndsInserting, IsAtHead, IsBegunWith, IsFaultBefore, IsFilePart, IsLongFile, IsNoHead, IsWholeFile}
-use Rattle.jpg_cli.specs.ReadComments.{Copies, HasCopied, OnlyCopies, asked_one}
+use Rattle.jpg_cli.specs.ReadComments.{Copies, HasCopied, OnlyCopies}
 use Rattle.jpg_cli.specs.Reading.{IsFile, Keeps, OnlyReads, ReadsPart, rest_of}
 use Rattle.jpg_cli.proofs.Input.{file_read}
 use Rattle.jpg_cli.proofs.CommentsCopied.{had_told, none_read}
@@ -37,7 +39,7 @@ pub reading_more : (task : Task) (comment bytes piece : List ℕ) (old s0 s1 : D
 reading_more task comment bytes piece old s0 s1 most r k more = record {
   most = most;
   left = r.left;
-  names = (let P : Option (List (Name × Put)) → Type 0 = λ a. NotesNames old.asked (asked_to_input task put.Done) a in subst P (sym k.asked) r.names);
+  names = asks_still old s0 s1 (names_to_input task) put.Done k.asked r.names;
   source = r.source;
   opened = r.opened;
   read = Consumes-then r.left s0.left s1.left bytes piece r.read more;
@@ -47,29 +49,32 @@ reading_more task comment bytes piece old s0 s1 most r k more = record {
 
 -- THE OUTPUT
 
-output_names : (task : Task) (comment bytes : List ℕ) (old s0 s1 : DeskState) (answer : Put) → IsReading task comment bytes old s0 → Creates s0 task.output answer s1 → NotesNames old.asked (asked_to_output task answer) s1.asked
-output_names task comment bytes old s0 s1 answer r k = NotesNames-then old.asked s0.asked s1.asked (asked_to_input task put.Done) (task.output, answer) r.names k.asked
+output_names : (task : Task) (comment bytes : List ℕ) (old s0 s1 : DeskState) (answer : Put) → IsReading task comment bytes old s0 → Creates s0 task.output answer s1 → Asks (names_to_output task) answer old s1
+output_names task comment bytes old s0 s1 answer r k = asks_next old s0 s1 (names_to_input task) task.output answer r.names k.asked
 
 -- it wasn't created
-uncreated : (task : Task) (comment bytes : List ℕ) (old s0 s1 : DeskState) → IsAtHead bytes → IsReading task comment bytes old s0 → Creates s0 task.output put.Failed s1 → IsOutputUncreated task old s1
-uncreated task comment bytes old s0 s1 at r k = record {
-  comment = comment;
-  bytes = bytes;
-  names = output_names task comment bytes old s0 s1 put.Failed r k;
-  outputs = k.after.1 ∙ r.outputs;
-  opens = (let rose = k.after.0 in let f = r.counts.opens in omega arith);
-  source = r.source;
-  most = r.most;
-  file = file_read old.files task.input r.left s1.left bytes r.opened (let P : Option (List ℕ) → Type 0 = λ l. Consumes r.left l bytes in subst P (sym k.left) r.read);
-  is = at;
-}
+uncreated : (task : Task) (comment bytes : List ℕ) (old s0 s1 : DeskState) → IsAtHead bytes → IsReading task comment bytes old s0 → Creates s0 task.output put.Failed s1 → Unopened (names_to_output task) old s1 × ReadsInput task IsAtHead old s1
+uncreated task comment bytes old s0 s1 at r k =
+    let P : Option (List ℕ) → Type 0 = λ l. Consumes r.left l bytes in (
+      record {
+        stopped = record { asked = output_names task comment bytes old s0 s1 put.Failed r k; outputs = k.after.1 ∙ r.outputs };
+        opens = (let rose = k.after.0 in let f = r.counts.opens in omega arith);
+      },
+      record {
+        comment = comment;
+        bytes = bytes;
+        source = r.source;
+        read = (r.most, file_read old.files task.input r.left s1.left bytes r.opened (subst P (sym k.left) r.read));
+        is = at;
+      },
+    )
 
 -- it was created, and this text written to it
 written_first : (task : Task) (comment bytes text : List ℕ) (old s0 s1 s2 : DeskState) → IsReading task comment bytes old s0 → Creates s0 task.output put.Done s1 → OnlyWrites s1 s2 → AppendsLast s1.outputs text s2.outputs → IsWriting task comment bytes text old s2
 written_first task comment bytes text old s0 s1 s2 r k w appended = record {
   left = r.left;
   created = s1.outputs;
-  names = (let P : Option (List (Name × Put)) → Type 0 = λ a. NotesNames old.asked (asked_to_output task put.Done) a in subst P (sym w.asked) (output_names task comment bytes old s0 s1 put.Done r k));
+  names = asks_still old s1 s2 (names_to_output task) put.Done w.asked (output_names task comment bytes old s0 s1 put.Done r k);
   source = r.source;
   opened = r.opened;
   read = (let P : Option (List ℕ) → Type 0 = λ l. Consumes r.left l bytes in subst P (sym (w.left ∙ k.left)) r.read);
@@ -83,14 +88,14 @@ written_first task comment bytes text old s0 s1 s2 r k w appended = record {
 writes : (task : Task) (comment bytes text : List ℕ) (old now : DeskState) (Is : List ℕ → List ℕ → List ℕ → Type 0) → IsWriting task comment bytes text old now → Is comment bytes text → WritesText task Is old now
 writes task comment bytes text old now Is w is = record {
   comment = comment;
-  bytes = bytes;
-  text = text;
-  names = w.names;
   source = w.source;
-  file = file_read old.files task.input w.left now.left bytes w.opened w.read;
-  most = w.most;
-  outputs = Grows-from old.outputs w.created now.outputs task.output text w.adds w.written;
-  is = is;
+  copied = record {
+    bytes = bytes;
+    text = text;
+    read = (w.most, file_read old.files task.input w.left now.left bytes w.opened w.read);
+    wrote = record { asked = w.names; outputs = Grows-from old.outputs w.created now.outputs task.output text w.adds w.written };
+    is = is;
+  };
 }
 
 -- AT THE MARKER of the frame header
@@ -107,7 +112,7 @@ due_first task comment bytes text old now (Some (why.ReadFault which)) c some h 
 due_first task comment bytes text old now (Some why.WriteFault) c some h w = absurd h
 due_first task comment bytes text old now (Some why.NoMemory) c some h w = inr (writes task comment bytes text old now (λ with. IsFilePart with task.replace) w (file_part comment bytes text task.replace some h))
 
-pub first_uncreated : (task : Task) (comment bytes : List ℕ) (old s0 s1 : DeskState) (output : Name) → task.output ≡ output → IsAtHead bytes → IsReading task comment bytes old s0 → Creates s0 output put.Failed s1 → IsOutputUncreated task old s1
+pub first_uncreated : (task : Task) (comment bytes : List ℕ) (old s0 s1 : DeskState) (output : Name) → task.output ≡ output → IsAtHead bytes → IsReading task comment bytes old s0 → Creates s0 output put.Failed s1 → Unopened (names_to_output task) old s1 × ReadsInput task IsAtHead old s1
 first_uncreated task comment bytes old s0 s1 output e at r k = uncreated task comment bytes old s0 s1 at r (subst (λ (n : Name). Creates s0 n put.Failed s1) (sym e) k)
 
 pub first_written : (task : Task) (comment bytes text : List ℕ) (old s0 s1 s2 : DeskState) (output : Name) (due : Option Why) (c : Insert) → task.output ≡ output → 0 < length text → IsReading task comment bytes old s0 → AfterFed comment task.replace bytes text due c
@@ -138,7 +143,7 @@ pub writing_more : (task : Task) (comment bytes text more all : List ℕ) (old s
 writing_more task comment bytes text more all old s0 s1 w k h = record {
   left = w.left;
   created = w.created;
-  names = (let P : Option (List (Name × Put)) → Type 0 = λ a. NotesNames old.asked (asked_to_output task put.Done) a in subst P (sym k.asked) w.names);
+  names = asks_still old s0 s1 (names_to_output task) put.Done k.asked w.names;
   source = w.source;
   opened = w.opened;
   read = h.read;
@@ -172,16 +177,16 @@ ends task comment bytes text old s0 s1 w ended k h = by ended h
 
 -- what was read stands when the run ends
 reads_alone : (task : Task) (comment bytes : List ℕ) (old now : DeskState) (Is : List ℕ → Type 0) → IsReading task comment bytes old now → Is bytes → ReadsAlone task Is old now
-reads_alone task comment bytes old now Is r is = record {
-  comment = comment;
-  bytes = bytes;
-  names = r.names;
-  outputs = r.outputs;
-  source = r.source;
-  file = file_read old.files task.input r.left now.left bytes r.opened r.read;
-  most = r.most;
-  is = is;
-}
+reads_alone task comment bytes old now Is r is = (
+  record { asked = r.names; outputs = r.outputs },
+  record {
+    comment = comment;
+    bytes = bytes;
+    source = r.source;
+    read = (r.most, file_read old.files task.input r.left now.left bytes r.opened r.read);
+    is = is;
+  },
+)
 
 -- nothing more was read
 reading_still : (task : Task) (comment bytes : List ℕ) (old s0 s1 : DeskState) → IsReading task comment bytes old s0 → OnlyReads s0 s1 → s1.left ≡ s0.left → IsReading task comment bytes old s1
@@ -191,13 +196,12 @@ reading_still task comment bytes old s0 s1 r k same =
 
 out_of_memory : (task : Task) (comment bytes : List ℕ) (old now : DeskState) → IsReading task comment bytes old now → IsOutOfMemory task old now
 out_of_memory task comment bytes old now r =
-    let due = asked_to_input task put.Done in
-    let N : List (Name × Put) → Type 0 = λ names. NotesNames old.asked names now.asked in
+    let due = names_to_input task in
+    let N : List Name → Type 0 = λ names. Asks names put.Done old now in
     record {
       count = length due;
-      names = subst N (sym (take_all (length due) due (omega arith))) r.names;
-      outputs = r.outputs;
-      read = inr (inr (bytes, r.most, file_read old.files task.input r.left now.left bytes r.opened r.read));
+      stopped = record { asked = subst N (sym (take_all (length due) due (omega arith))) r.names; outputs = r.outputs };
+      read = inr (inr (bytes, (r.most, file_read old.files task.input r.left now.left bytes r.opened r.read)));
     }
 
 pub ended_before : (task : Task) (comment bytes : List ℕ) (old s0 s1 : DeskState) (w : Why) → IsReading task comment bytes old s0 → OnlyReads s0 s1 → EndsBefore bytes s0 w s1 → Inserted task old w s1
@@ -271,7 +275,7 @@ none_noted (Some a) (Some b) e = (let z : b ≡ a = (let y : Some b ≡ Some a =
 
 -- The bytes of the words are taken as they are. Where they are too long, so is their front.
 pub took : (old now : DeskState) (source : CommentSource) (bytes : List ℕ) → AfterComment old source (Ok bytes) now
-    → (comment : List ℕ) × IsComment old source comment × NotesNames old.asked (asked_comment source put.Done) now.asked × ((bytes ≡ comment) ⊎ (bytes ≡ take 65001 comment)) × IsCommentRead source comment now
+    → (comment : List ℕ) × IsComment old source comment × Asks (names_of source) put.Done old now × ((bytes ≡ comment) ⊎ (bytes ≡ take 65001 comment)) × IsCommentRead source comment now
 took old now from_input bytes (names, is, front) = (bytes ++ rest_of now.left, is, names, inr front, ap (λ (b : List ℕ). b ++ rest_of now.left) front)
 took old now (from_words text) bytes (same, e) = (text, refl, none_noted old.asked now.asked same.0, inl e, tt)
 took old now (from_file file) bytes (inl (names, is, front)) = (bytes ++ rest_of now.left, is, names, inr front, ap (λ (b : List ℕ). b ++ rest_of now.left) front)
@@ -282,9 +286,9 @@ few_taken bytes all e = omega (arith, ap length e, length-take 65001 all)
 
 -- what was read of it
 comment_read : (old now : DeskState) (source : CommentSource) (bytes : List ℕ) → AfterComment old source (Ok bytes) now → (now.left ≡ old.left) ⊎ ReadsComment source old now
-comment_read old now from_input bytes (names, is, front) = inr (bytes, few_taken bytes (bytes ++ rest_of now.left) front, is)
+comment_read old now from_input bytes (names, is, front) = inr (bytes, (few_taken bytes (bytes ++ rest_of now.left) front, is))
 comment_read old now (from_words text) bytes (same, e) = inl same.1
-comment_read old now (from_file file) bytes (inl (names, is, front)) = inr (bytes, few_taken bytes (bytes ++ rest_of now.left) front, is)
+comment_read old now (from_file file) bytes (inl (names, is, front)) = inr (bytes, (few_taken bytes (bytes ++ rest_of now.left) front, is))
 comment_read old now (from_file file) bytes (inr (e, same)) = absurd (let z : Ok bytes ≡ Err why.NoMemory = e in cc)
 
 -- all of it was taken
@@ -306,9 +310,9 @@ same_fault f fault at = ap (λ (x : Fault). (let y : FaultAt = record { fault = 
 comment_long : (task : Task) (old now : DeskState) (bytes : List ℕ) (f : FaultAt) → Keeps old now → AfterComment old task.comment (Ok bytes) now → f.fault ≡ CommentTooLong → f.at ≡ 65001 → 65000 < length bytes → Inserted task old (why.Refused f) now
 comment_long task old now bytes f k h fault at long =
     let t = took old now task.comment bytes h in
-    inl (record { comment = t.0; names = t.2; outputs = k.outputs; source = t.1; read = t.4; long = long_comment bytes t.0 t.3 long; fault = same_fault f fault at })
+    inl (record { comment = t.0; stopped = record { asked = t.2; outputs = k.outputs }; source = t.1; read = t.4; long = long_comment bytes t.0 t.3 long; fault = same_fault f fault at })
 
-front_of : (xs ys : List (Name × Put)) → take (length xs) (xs ++ ys) ≡ xs
+front_of : (xs ys : List Name) → take (length xs) (xs ++ ys) ≡ xs
 front_of xs ys = take-append-le (length xs) xs ys (omega arith) ∙ take_all (length xs) xs (omega arith)
 
 comment_last : (task : Task) (old now : DeskState) → (now.left ≡ old.left) ⊎ ReadsComment task.comment old now → ReadsLast task old now
@@ -318,12 +322,11 @@ comment_last task old now (inr read) = inr (inl read)
 -- it was taken, and then memory was wanting
 comment_only : (task : Task) (old now : DeskState) (bytes : List ℕ) → Keeps old now → AfterComment old task.comment (Ok bytes) now → Inserted task old why.NoMemory now
 comment_only task old now bytes k h =
-    let asked = asked_comment task.comment put.Done in
-    let N : List (Name × Put) → Type 0 = λ names. NotesNames old.asked names now.asked in
+    let names = names_of task.comment in
+    let N : List Name → Type 0 = λ names. Asks names put.Done old now in
     inl (record {
-      count = length asked;
-      names = subst N (sym (front_of asked ((task.input, put.Done) ∷ []))) (took old now task.comment bytes h).2;
-      outputs = k.outputs;
+      count = length names;
+      stopped = record { asked = subst N (sym (front_of names (task.input ∷ []))) (took old now task.comment bytes h).2; outputs = k.outputs };
       read = comment_last task old now (comment_read old now task.comment bytes h);
     })
 
@@ -338,7 +341,7 @@ not_begun task old now bytes why.NoMemory k h b = comment_only task old now byte
 
 -- WHERE IT WASN'T TAKEN
 
-file_untaken : (task : Task) (old now : DeskState) (file : Name) (w : Why) → is_given task.comment ≡ false → ((answer : Put) → asked_comment task.comment answer ≡ asked_one file answer) → ((bytes : List ℕ) → IsFile old.files file bytes → IsComment old task.comment bytes)
+file_untaken : (task : Task) (old now : DeskState) (file : Name) (w : Why) → is_given task.comment ≡ false → names_of task.comment ≡ file ∷ [] → ((bytes : List ℕ) → IsFile old.files file bytes → IsComment old task.comment bytes)
     → (ReadsPart 65001 file old now → ReadsComment task.comment old now) → Keeps old now → AfterFile old file (Err w) now → Inserted task old w now
 file_untaken task old now file why.Done from same is part k h = absurd h
 file_untaken task old now file (why.Usage u) from same is part k h = absurd h
@@ -346,33 +349,30 @@ file_untaken task old now file (why.Refused f) from same is part k h = absurd h
 file_untaken task old now file (why.OpenFault which.Input) from same is part k h = absurd h
 file_untaken task old now file (why.OpenFault which.Script) from same is part k h = absurd h
 file_untaken task old now file (why.OpenFault which.Tables) from same is part k h = absurd h
-file_untaken task old now file (why.OpenFault which.Comment) from same is part k h = record {
-  names = (let N : List (Name × Put) → Type 0 = λ names. NotesNames old.asked names now.asked in subst N (sym (same put.Failed)) h.0);
-  outputs = k.outputs;
-  opens = h.1;
-  from = from;
-}
+file_untaken task old now file (why.OpenFault which.Comment) from same is part k h =
+    let N : List Name → Type 0 = λ names. Asks names put.Failed old now in
+    (record { stopped = record { asked = subst N (sym same) h.0; outputs = k.outputs }; opens = h.1 }, from)
 file_untaken task old now file (why.OpenFault which.Output) from same is part k h = absurd h
 file_untaken task old now file (why.ReadFault which.Input) from same is part k h = absurd h
 file_untaken task old now file (why.ReadFault which.Script) from same is part k h = absurd h
 file_untaken task old now file (why.ReadFault which.Tables) from same is part k h = absurd h
-file_untaken task old now file (why.ReadFault which.Comment) from same is part k h = record {
-  names = (let N : List (Name × Put) → Type 0 = λ names. NotesNames old.asked names now.asked in subst N (sym (same put.Done)) h.0);
-  outputs = k.outputs;
-  reads = h.1;
-  from = from;
-  bytes = h.2.0;
-  source = (h.2.1, is (h.2.0 ++ rest_of now.left) h.2.2);
-}
+file_untaken task old now file (why.ReadFault which.Comment) from same is part k h =
+    let N : List Name → Type 0 = λ names. Asks names put.Done old now in
+    record {
+      bytes = h.2.0;
+      unread = record { stopped = record { asked = subst N (sym same) h.0; outputs = k.outputs }; reads = h.1 };
+      from = from;
+      source = (h.2.1.0, is (h.2.0 ++ rest_of now.left) h.2.1.1);
+    }
 file_untaken task old now file (why.ReadFault which.Output) from same is part k h = absurd h
 file_untaken task old now file why.WriteFault from same is part k h = absurd h
 file_untaken task old now file why.NoMemory from same is part k h =
-    let N : List (Name × Put) → Type 0 = λ names. NotesNames old.asked names now.asked in
-    let first : take 1 (asked_to_input task put.Done) ≡ asked_one file put.Done = ap (λ (names : List (Name × Put)). take 1 (names ++ (task.input, put.Done) ∷ [])) (same put.Done) in
-    inl (record { count = 1; names = subst N (sym first) h.0; outputs = k.outputs; read = inr (inl (part h.1)) })
+    let N : List Name → Type 0 = λ names. Asks names put.Done old now in
+    let first : take 1 (names_to_input task) ≡ file ∷ [] = ap (λ (names : List Name). take 1 (names ++ task.input ∷ [])) same in
+    inl (record { count = 1; stopped = record { asked = subst N (sym first) h.0; outputs = k.outputs }; read = inr (inl (part h.1)) })
 
 nothing_asked : (task : Task) (old now : DeskState) → Keeps old now → IsUnasked old now → Inserted task old why.NoMemory now
-nothing_asked task old now k same = inl (record { count = 0; names = none_noted old.asked now.asked same.0; outputs = k.outputs; read = inl same.1 })
+nothing_asked task old now k same = inl (record { count = 0; stopped = record { asked = none_noted old.asked now.asked same.0; outputs = k.outputs }; read = inl same.1 })
 
 words_untaken : (task : Task) (old now : DeskState) (text : List ℕ) (w : Why) → Keeps old now → AfterWords old text (Err w) now → Inserted task old w now
 words_untaken task old now text why.Done k h = absurd h
@@ -385,10 +385,10 @@ words_untaken task old now text why.NoMemory k h = nothing_asked task old now k 
 
 untaken_from : (source : CommentSource) (input output : Name) (replace : Bool) (old now : DeskState) (w : Why) → Keeps old now → AfterComment old source (Err w) now
     → Inserted (record { comment = source; input = input; output = output; replace = replace }) old w now
-untaken_from from_input input output replace old now w k h = file_untaken (record { comment = from_input; input = input; output = output; replace = replace }) old now name.In w refl (λ answer. refl) (λ bytes is. is) (λ part. part) k h
+untaken_from from_input input output replace old now w k h = file_untaken (record { comment = from_input; input = input; output = output; replace = replace }) old now name.In w refl refl (λ bytes is. is) (λ part. part) k h
 untaken_from (from_words text) input output replace old now w k h = words_untaken (record { comment = from_words text; input = input; output = output; replace = replace }) old now text w k h
 untaken_from (from_file file) input output replace old now w k (inl h) =
-    file_untaken (record { comment = from_file file; input = input; output = output; replace = replace }) old now (name.File file) w refl (λ answer. refl) (λ bytes is. is) (λ part. part) k h
+    file_untaken (record { comment = from_file file; input = input; output = output; replace = replace }) old now (name.File file) w refl refl (λ bytes is. is) (λ part. part) k h
 untaken_from (from_file file) input output replace old now w k (inr (e, same)) =
     let task : Task = record { comment = from_file file; input = input; output = output; replace = replace } in
     subst (λ (v : Why). Inserted task old v now) (let z : why.NoMemory ≡ w = cc in z) (nothing_asked task old now k same)
@@ -398,26 +398,26 @@ comment_untaken task old now w k h = untaken_from task.comment task.input task.o
 
 -- THE INPUT
 
-input_names : (task : Task) (old s1 s2 : DeskState) (bytes : List ℕ) (answer : Put) → AfterComment old task.comment (Ok bytes) s1 → Opens s1 task.input answer s2 → NotesNames old.asked (asked_to_input task answer) s2.asked
-input_names task old s1 s2 bytes answer h o = NotesNames-then old.asked s1.asked s2.asked (asked_comment task.comment put.Done) (task.input, answer) (took old s1 task.comment bytes h).2 o.asked
+input_names : (task : Task) (old s1 s2 : DeskState) (bytes : List ℕ) (answer : Put) → AfterComment old task.comment (Ok bytes) s1 → Opens s1 task.input answer s2 → Asks (names_to_input task) answer old s2
+input_names task old s1 s2 bytes answer h o = asks_next old s1 s2 (names_of task.comment) task.input answer (took old s1 task.comment bytes h).2 o.asked
 
 pub input_unopened : (task : Task) (old s1 s2 : DeskState) (bytes : List ℕ) → Keeps old s1 → AfterComment old task.comment (Ok bytes) s1 → length bytes ≤ 65000 → Opens s1 task.input put.Failed s2 → Inserted task old (why.OpenFault which.Input) s2
-input_unopened task old s1 s2 bytes k h short o = record {
-  comment = bytes;
-  names = input_names task old s1 s2 bytes put.Failed h o;
-  outputs = o.outputs ∙ k.outputs;
-  opens = (let rose = o.after.0 in let f = k.counts.opens in omega (arith, rose, f));
-  source = short_comment old s1 task.comment bytes h short;
-}
+input_unopened task old s1 s2 bytes k h short o = (
+  record {
+    stopped = record { asked = input_names task old s1 s2 bytes put.Failed h o; outputs = o.outputs ∙ k.outputs };
+    opens = (let rose = o.after.0 in let f = k.kept.counts.opens in omega (arith, rose, f));
+  },
+  (bytes, short_comment old s1 task.comment bytes h short),
+)
 
 pub input_opened : (task : Task) (old s1 s2 : DeskState) (bytes : List ℕ) → Keeps old s1 → AfterComment old task.comment (Ok bytes) s1 → length bytes ≤ 65000 → Opens s1 task.input put.Done s2 → IsReading task bytes [] old s2
 input_opened task old s1 s2 bytes k h short o = record {
   left = s2.left;
   names = input_names task old s1 s2 bytes put.Done h o;
   source = short_comment old s1 task.comment bytes h short;
-  opened = (let P : Option (Name → Option (List ℕ)) → Type 0 = λ files. OpensFile files task.input s2.left in subst P k.files o.after.2);
+  opened = (let P : Option (Name → Option (List ℕ)) → Type 0 = λ files. OpensFile files task.input s2.left in subst P k.kept.files o.after.2);
   read = none_read s2.left;
   most = omega arith;
   outputs = o.outputs ∙ k.outputs;
-  counts = NoneFell-then old.counts s1.counts s2.counts k.counts o.counts;
+  counts = NoneFell-then old.counts s1.counts s2.counts k.kept.counts o.counts;
 }

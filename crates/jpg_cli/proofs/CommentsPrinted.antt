@@ -1,31 +1,31 @@
 -- What printing the comments of an input comes to, over the states that a desk tells.
-use Rattle.std.proofs.Common.{◌≡◌, ℕ, List, ◌++◌, take, Option, sym, ◌∙◌, subst, arith}
+use Rattle.std.proofs.Common.{◌≡◌, ℕ, List, [], ◌∷◌, ◌++◌, take, Option, sym, subst, arith}
 use Rattle.std.specs.Io.KnownBytes.{Consumes}
 use Rattle.std.proofs.lemmas.List.{length-append, take-append-le}
 use Rattle.jpg_base.specs.declared.names.Name.{Name}
 use Rattle.jpg_base.specs.declared.names.Put.{Put}
 use Rattle.jpg_base.specs.declared.names.Put.TheVariants as put
 use Rattle.jpg_base.specs.Desk.{DeskState, Creates, Opens}
-use Rattle.jpg_base.specs.Laws.{Grows, Grows-from, NotesNames, NotesNames-then}
+use Rattle.jpg_base.specs.Laws.{Grows, Grows-from}
 use Rattle.jpg_spec.specs.declared.answers.Why.{Why}
 use Rattle.jpg_spec.specs.declared.answers.Why.TheVariants as why
 use Rattle.jpg_spec.specs.declared.answers.Which.TheVariants as which
-use Rattle.jpg_cli.specs.Reading.{IsFile, rest_of}
+use Rattle.jpg_cli.specs.Reading.{rest_of}
 use Rattle.jpg_spec.specs.Segments.{standard_limits}
 use Rattle.jpg_spec.specs.CommentText.{IsReadWhole}
 use Rattle.jpg_cli.specs.Saying.{OnlySays}
 use Rattle.jpg_cli.specs.Run.{NoneRose}
-use Rattle.jpg_cli.specs.ReadComments.{Copies, EndsCopying, IsFaultText, IsPrintDue, IsTextPart, IsTextSoFar, IsWholeText, OnlyCopies, Printed, Prints, asked_one, asked_two}
+use Rattle.jpg_cli.specs.ReadComments.{Copies, EndsCopying, IsFaultText, IsPrintDue, IsTextPart, IsTextSoFar, IsWholeText, OnlyCopies, Printed}
+use Rattle.jpg_cli.specs.Endings.{Asks, Copied}
+use Rattle.jpg_cli.proofs.Endings.{copied_then, asks_next, asks_still, unopened_then}
 use Rattle.jpg_cli.proofs.Input.{file_read, notes_one}
 
 -- AN INPUT OPENED, AND AN OUTPUT CREATED
 
-both_names : (s0 s1 s2 s3 : DeskState) (input output : Name) (answer : Put) → Opens s0 input put.Done s1 → Creates s1 output answer s2 → s3.asked ≡ s2.asked → NotesNames s0.asked (asked_two input output answer) s3.asked
-both_names s0 s1 s2 s3 input output answer h k same =
-    let P : Option (List (Name × Put)) → Type 0 = λ a. NotesNames s0.asked (asked_two input output answer) a in
-    subst P (sym same) (NotesNames-then s0.asked s1.asked s2.asked (asked_one input put.Done) (output, answer) (notes_one s0.asked s1.asked (input, put.Done) h.asked) k.asked)
+both_names : (s0 s1 s2 : DeskState) (input output : Name) (answer : Put) → Opens s0 input put.Done s1 → Creates s1 output answer s2 → Asks (input ∷ output ∷ []) answer s0 s2
+both_names s0 s1 s2 input output answer h k = asks_next s0 s1 s2 (input ∷ []) output answer (notes_one s0.asked s1.asked (input, put.Done) h.asked) k.asked
 
-prints_from : (s0 s1 s2 s3 : DeskState) (input output : Name) (Is : List ℕ → List ℕ → Type 0) → Opens s0 input put.Done s1 → Creates s1 output put.Done s2 → OnlyCopies s2 s3 → Copies Is s2 s3 → Prints input output Is s0 s3
+prints_from : (s0 s1 s2 s3 : DeskState) (input output : Name) (Is : List ℕ → List ℕ → Type 0) → Opens s0 input put.Done s1 → Creates s1 output put.Done s2 → OnlyCopies s2 s3 → Copies Is s2 s3 → Copied [] input output Is s0 s3
 prints_from s0 s1 s2 s3 input output Is h k w c =
     let bytes = c.0 in let text = c.1 in
     let L : Option (List ℕ) → Type 0 = λ l. Consumes l s3.left bytes in
@@ -33,10 +33,11 @@ prints_from s0 s1 s2 s3 input output Is h k w c =
     record {
       bytes = bytes;
       text = text;
-      names = both_names s0 s1 s2 s3 input output put.Done h k w.asked;
-      file = file_read s0.files input s1.left s3.left bytes h.after.2 (subst L k.left c.2.read);
-      outputs = subst G h.outputs (Grows-from s1.outputs s2.outputs s3.outputs output text k.after.1 c.2.written);
-      most = c.2.most;
+      read = (c.2.most, file_read s0.files input s1.left s3.left bytes h.after.2 (subst L k.left c.2.read));
+      wrote = record {
+        asked = asks_still s0 s2 s3 (input ∷ output ∷ []) put.Done w.asked (both_names s0 s1 s2 input output put.Done h k);
+        outputs = subst G h.outputs (Grows-from s1.outputs s2.outputs s3.outputs output text k.after.1 c.2.written);
+      };
       is = c.3;
     }
 
@@ -61,52 +62,37 @@ printed_from s0 s1 s2 s3 input output why.NoMemory h k c e = prints_from s0 s1 s
 
 -- A MESSAGE THEN
 
-prints_then : (s0 s1 s2 : DeskState) (input output : Name) (Is : List ℕ → List ℕ → Type 0) → OnlySays s1 s2 → Prints input output Is s0 s1 → Prints input output Is s0 s2
-prints_then s0 s1 s2 input output Is k h =
-    let N : Option (List (Name × Put)) → Type 0 = λ a. NotesNames s0.asked (asked_two input output put.Done) a in
-    let F : Option (List ℕ) → Type 0 = λ l. IsFile s0.files input (h.bytes ++ rest_of l) in
-    let G : Option (List (Name × List ℕ)) → Type 0 = λ a. Grows s0.outputs (output, h.text) a in
-    record { bytes = h.bytes; text = h.text; names = subst N (sym k.asked) h.names; file = subst F (sym k.left) h.file; most = h.most; outputs = subst G (sym k.outputs) h.outputs; is = h.is }
-
 pub printed_then : (s0 s1 s2 : DeskState) (input output : Name) (w : Why) → OnlySays s1 s2 → Printed input output s0 w s1 → Printed input output s0 w s2
-printed_then s0 s1 s2 input output why.Done k h = prints_then s0 s1 s2 input output IsWholeText k h
+printed_then s0 s1 s2 input output why.Done k h = copied_then s0 s1 s2 [] input output IsWholeText k h
 printed_then s0 s1 s2 input output (why.Usage u) k h = absurd h
 printed_then s0 s1 s2 input output (why.Refused f) k h =
-    let P : Option (List ℕ) → Type 0 = λ l. Prints input output (IsFaultText f (rest_of l)) s0 s2 in
-    subst P (sym k.left) (prints_then s0 s1 s2 input output (IsFaultText f (rest_of s1.left)) k h)
-printed_then s0 s1 s2 input output (why.OpenFault which.Input) k h = record {
-  names = (let N : Option (List (Name × Put)) → Type 0 = λ a. NotesNames s0.asked (asked_one input put.Failed) a in subst N (sym k.asked) h.names);
-  outputs = k.outputs ∙ h.outputs;
-  opens = (let r = h.opens in let f = k.counts.opens in omega arith);
-}
+    let P : Option (List ℕ) → Type 0 = λ l. Copied [] input output (IsFaultText f (rest_of l)) s0 s2 in
+    subst P (sym k.left) (copied_then s0 s1 s2 [] input output (IsFaultText f (rest_of s1.left)) k h)
+printed_then s0 s1 s2 input output (why.OpenFault which.Input) k h = unopened_then s0 s1 s2 (input ∷ []) k h
 printed_then s0 s1 s2 input output (why.OpenFault which.Script) k h = absurd h
 printed_then s0 s1 s2 input output (why.OpenFault which.Tables) k h = absurd h
 printed_then s0 s1 s2 input output (why.OpenFault which.Comment) k h = absurd h
-printed_then s0 s1 s2 input output (why.OpenFault which.Output) k h = record {
-  names = (let N : Option (List (Name × Put)) → Type 0 = λ a. NotesNames s0.asked (asked_two input output put.Failed) a in subst N (sym k.asked) h.names);
-  outputs = k.outputs ∙ h.outputs;
-  opens = (let r = h.opens in let f = k.counts.opens in omega arith);
-}
-printed_then s0 s1 s2 input output (why.ReadFault which.Input) k h = (prints_then s0 s1 s2 input output IsTextSoFar k h.0, (let r = h.1 in let f = k.counts.reads in omega arith))
+printed_then s0 s1 s2 input output (why.OpenFault which.Output) k h = unopened_then s0 s1 s2 (input ∷ output ∷ []) k h
+printed_then s0 s1 s2 input output (why.ReadFault which.Input) k h = (copied_then s0 s1 s2 [] input output IsTextSoFar k h.0, (let r = h.1 in let f = k.counts.reads in omega arith))
 printed_then s0 s1 s2 input output (why.ReadFault which.Script) k h = absurd h
 printed_then s0 s1 s2 input output (why.ReadFault which.Tables) k h = absurd h
 printed_then s0 s1 s2 input output (why.ReadFault which.Comment) k h = absurd h
 printed_then s0 s1 s2 input output (why.ReadFault which.Output) k h = absurd h
-printed_then s0 s1 s2 input output why.WriteFault k h = (prints_then s0 s1 s2 input output IsTextPart k h.0, (let r = h.1 in let f = k.counts.writes in omega arith))
-printed_then s0 s1 s2 input output why.NoMemory k h = prints_then s0 s1 s2 input output IsTextPart k h
+printed_then s0 s1 s2 input output why.WriteFault k h = (copied_then s0 s1 s2 [] input output IsTextPart k h.0, (let r = h.1 in let f = k.counts.writes in omega arith))
+printed_then s0 s1 s2 input output why.NoMemory k h = copied_then s0 s1 s2 [] input output IsTextPart k h
 
 -- WHERE NOTHING FAILED
 
-whole_due : (s0 s1 : DeskState) (input output : Name) → Prints input output IsWholeText s0 s1 → IsPrintDue input s0 why.Done
+whole_due : (s0 s1 : DeskState) (input output : Name) → Copied [] input output IsWholeText s0 s1 → IsPrintDue input s0 why.Done
 whole_due s0 s1 input output h =
     let rest = rest_of s1.left in
     let is = h.is in
     let front : take is.count (h.bytes ++ rest) ≡ take is.count h.bytes = take-append-le is.count h.bytes rest is.within in
-    let within = is.within in let most = h.most in (
+    let within = is.within in let most = h.read.0 in (
       h.bytes ++ rest,
       is.count,
       is.before,
-      h.file,
+      h.read.1,
       omega (arith, within, length-append h.bytes rest),
       omega (arith, within, most),
       subst (λ (b : List ℕ). IsReadWhole standard_limits b is.before) (sym front) is.whole,
@@ -115,7 +101,7 @@ whole_due s0 s1 input output h =
 pub print_due : (s0 s1 : DeskState) (input output : Name) (w : Why) → NoneRose s0.counts s1.counts → Printed input output s0 w s1 → IsPrintDue input s0 w
 print_due s0 s1 input output why.Done n h = whole_due s0 s1 input output h
 print_due s0 s1 input output (why.Usage u) n h = absurd h
-print_due s0 s1 input output (why.Refused f) n h = (h.bytes ++ rest_of s1.left, h.file, h.is.fault)
+print_due s0 s1 input output (why.Refused f) n h = (h.bytes ++ rest_of s1.left, h.read.1, h.is.fault)
 print_due s0 s1 input output (why.OpenFault which.Input) n h = absurd (n.0 h.opens)
 print_due s0 s1 input output (why.OpenFault which.Script) n h = absurd h
 print_due s0 s1 input output (why.OpenFault which.Tables) n h = absurd h

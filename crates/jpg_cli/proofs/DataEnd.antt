@@ -4,7 +4,7 @@ use Rattle.std.specs.Prelude.{replicate}
 use Rattle.std.proofs.lemmas.List.{append_assoc, append-nil, length-append, length-replicate, drop_all}
 use Rattle.std.proofs.Math.Seq.{drop-cons, take-append_seam}
 use Rattle.jpg_spec.specs.Bits.{SpellsByte, SpellsData, IsMarkerCode}
-use Rattle.jpg_spec.specs.GrayFile.{end_of_image}
+use Rattle.jpg_spec.specs.Markers.{eoi}
 use Rattle.jpg_huff.specs.declared.gate.Passed.TheVariants.{More, Data, Marker}
 use Rattle.jpg_huff.specs.Gate.{IsData, Passes}
 use Rattle.jpg_cli.specs.Gray.{HasData}
@@ -184,7 +184,7 @@ data_found rest found i end byte code old new lt is p k c at d =
       k.coded,
       drop (i + 1) rest,
       subst (λ t. SpellsData k.coded t) (sym same) k.spelled,
-      behind ∙ ap (λ t. t ++ 255 ∷ 0xd9 ∷ drop (i + 1) rest) (sym same) ∙ sym (append_assoc found end_of_image (drop (i + 1) rest)),
+      behind ∙ ap (λ t. t ++ 255 ∷ 0xd9 ∷ drop (i + 1) rest) (sym same) ∙ sym (append_assoc found eoi (drop (i + 1) rest)),
     )
 
 pub none_at_marker : (rest : List ℕ) (i end byte code : ℕ) (old new : Bool) → i < length rest → byte ≡ get_or rest i 0 → Passes old byte (Marker code) new → IsCut rest i end old
@@ -194,13 +194,13 @@ none_at_marker rest i end byte code old new lt is p k n text h =
     let mark : IsMarkerCode code = (λ e. p.2 (sym p.3 ∙ e), λ e. p.1 (sym p.3 ∙ e)) in
     let ends : Ends k.fill (code ∷ drop (i + 1) rest) = (waiting_fill old k.fill p.0 k.waiting, mark) in
     let one = one_end k.coded h.0 k.text text k.fill (code ∷ drop (i + 1) rest) h.1 k.spelled h.2 ends
-    (ap (λ t. k.text ++ (replicate k.fill 255 ++ t)) (sym code_at) ∙ sym k.cut ∙ h.3 ∙ append_assoc text end_of_image h.1) in
+    (ap (λ t. k.text ++ (replicate k.fill 255 ++ t)) (sym code_at) ∙ sym k.cut ∙ h.3 ∙ append_assoc text eoi h.1) in
     n (heads code 0xd9 (drop (i + 1) rest) h.1 one.1).0 (omega (arith, k.at, one.0))
 
 pub none_at_end : (rest : List ℕ) (i end : ℕ) (waits : Bool) → length rest ≤ i → IsCut rest i end waits → (text : List ℕ) → HasData rest text → ⊥
 none_at_end rest i end waits le k text h =
     let none : drop i rest ≡ [] = drop_all i rest le in
     let one = one_end k.coded h.0 k.text text k.fill [] h.1 k.spelled h.2 record {}
-    (ap (λ t. k.text ++ (replicate k.fill 255 ++ t)) (sym none) ∙ sym k.cut ∙ h.3 ∙ append_assoc text end_of_image h.1) in
+    (ap (λ t. k.text ++ (replicate k.fill 255 ++ t)) (sym none) ∙ sym k.cut ∙ h.3 ∙ append_assoc text eoi h.1) in
     let e : [] ≡ 0xd9 ∷ h.1 = one.1 in
     cc

@@ -1,12 +1,10 @@
 -- A run is its work, and then its message.
-use Rattle.std.proofs.Common.{◌≡◌, ℕ, ◌^◌, ◌-◌, List, take, Option, sym, ◌∙◌, subst, arith, inl, inr}
+use Rattle.std.proofs.Common.{◌≡◌, ℕ, ◌^◌, ◌-◌, List, [], ◌∷◌, take, Option, ◌∙◌, subst, arith, inl, inr}
 use Rattle.std.specs.Io.KnownBytes.{Appends}
-use Rattle.jpg_base.specs.declared.names.Name.{Name}
 use Rattle.jpg_base.specs.declared.names.Name.TheVariants as name
-use Rattle.jpg_base.specs.declared.names.Put.{Put}
 use Rattle.jpg_base.specs.declared.names.Put.TheVariants as put
 use Rattle.jpg_base.specs.Desk.{DeskState, NoneFell}
-use Rattle.jpg_base.specs.Laws.{NotesNames, Grows, NoneFell-then}
+use Rattle.jpg_base.specs.Laws.{NoneFell-then}
 use Rattle.jpg_spec.specs.declared.answers.Why.{Why}
 use Rattle.jpg_spec.specs.declared.answers.Why.TheVariants as why
 use Rattle.jpg_spec.specs.declared.answers.Which.TheVariants as which
@@ -16,71 +14,41 @@ use Rattle.jpg_cli.specs.Commands.{Command, not_built, flip_horizontal, print_co
 use Rattle.jpg_cli.proofs.CommentsPrinted.{printed_then}
 use Rattle.jpg_cli.proofs.InsertedThen.{inserted_then}
 use Rattle.jpg_cli.proofs.Input.{part_still, read_still}
-use Rattle.jpg_spec.specs.Messages.{message, code_of}
-use Rattle.jpg_cli.specs.Reading.{asked_input, asked_both}
+use Rattle.jpg_spec.specs.Messages.{message, status_of}
+use Rattle.jpg_spec.specs.declared.answers.FaultAt.{FaultAt}
+use Rattle.jpg_cli.proofs.Endings.{stopped_then, unopened_then, unread_then, wrote_then}
 use Rattle.jpg_cli.specs.Saying.{OnlySays}
-use Rattle.jpg_cli.specs.Run.{SaysText, Turned, task_of, turned_file, Worked, Works, Ran, IsDue, NoneRose}
+use Rattle.jpg_cli.specs.Run.{ReadsFault, ReadsPicture, SaysText, Turned, WroteGray, task_of, turned_file, Worked, Works, Ran, IsDue, NoneRose}
 
-notes_still : (a b c : Option (List (Name × Put))) (xs : List (Name × Put)) → c ≡ b → NotesNames a xs b → NotesNames a xs c
-notes_still a b c xs e h = let P : Option (List (Name × Put)) → Type 0 = λ m. NotesNames a xs m in subst P (sym e) h
+abbrev picture_then : (s0 s1 s2 : DeskState) → OnlySays s1 s2 → ReadsPicture s0 s1 → ReadsPicture s0 s2
+picture_then s0 s1 s2 k h = record { picture = h.picture; read = read_still (2 ^ 28) h.picture.input s1 s2 k.left h.read }
 
-grows_still : (a b c : Option (List (Name × List ℕ))) (o : Name × List ℕ) → c ≡ b → Grows a o b → Grows a o c
-grows_still a b c o e h = let P : Option (List (Name × List ℕ)) → Type 0 = λ m. Grows a o m in subst P (sym e) h
+fault_then : (s0 s1 s2 : DeskState) (f : FaultAt) → OnlySays s1 s2 → ReadsFault s0 f s1 → ReadsFault s0 f s2
+fault_then s0 s1 s2 f k h = record { refused = h.refused; read = read_still (2 ^ 28) h.refused.input s1 s2 k.left h.read }
+
+gray_then : (s0 s1 s2 : DeskState) (text : List ℕ) → OnlySays s1 s2 → WroteGray text s0 s1 → WroteGray text s0 s2
+gray_then s0 s1 s2 text k h = wrote_then s0 s1 s2 (name.In ∷ []) name.Out text k h
 
 -- a message changes nothing of what was done
 turned_then : (s0 s1 s2 : DeskState) (w : Why) → OnlySays s1 s2 → Turned s0 w s1 → Turned s0 w s2
-turned_then s0 s1 s2 why.Done k t = record {
-  names = notes_still s0.asked s1.asked s2.asked (asked_both put.Done) k.asked t.names;
-  output = grows_still s0.outputs s1.outputs s2.outputs (name.Out, turned_file s0 t.picture) k.outputs t.output;
-  picture = t.picture;
-  read = read_still (2 ^ 28) t.picture.input s1 s2 k.left t.read;
-  again = t.again;
-}
+turned_then s0 s1 s2 why.Done k (input, wrote, again) = (picture_then s0 s1 s2 k input, gray_then s0 s1 s2 (turned_file s0 input.picture) k wrote, again)
 turned_then s0 s1 s2 (why.Usage u) k t = absurd t
-turned_then s0 s1 s2 (why.Refused f) k t = record {
-  names = notes_still s0.asked s1.asked s2.asked (asked_input put.Done) k.asked t.names;
-  outputs = k.outputs ∙ t.outputs;
-  refused = t.refused;
-  read = read_still (2 ^ 28) t.refused.input s1 s2 k.left t.read;
-}
-turned_then s0 s1 s2 (why.OpenFault which.Input) k t = record {
-  names = notes_still s0.asked s1.asked s2.asked (asked_input put.Failed) k.asked t.names;
-  outputs = k.outputs ∙ t.outputs;
-  opens = (let r = t.opens in let f = k.counts.opens in omega arith);
-}
+turned_then s0 s1 s2 (why.Refused f) k t = (stopped_then s0 s1 s2 (name.In ∷ []) put.Done k t.0, fault_then s0 s1 s2 f k t.1)
+turned_then s0 s1 s2 (why.OpenFault which.Input) k t = unopened_then s0 s1 s2 (name.In ∷ []) k t
 turned_then s0 s1 s2 (why.OpenFault which.Script) k t = absurd t
 turned_then s0 s1 s2 (why.OpenFault which.Tables) k t = absurd t
 turned_then s0 s1 s2 (why.OpenFault which.Comment) k t = absurd t
-turned_then s0 s1 s2 (why.OpenFault which.Output) k t = record {
-  names = notes_still s0.asked s1.asked s2.asked (asked_both put.Failed) k.asked t.names;
-  outputs = k.outputs ∙ t.outputs;
-  opens = (let r = t.opens in let f = k.counts.opens in omega arith);
-  picture = t.picture;
-  read = read_still (2 ^ 28) t.picture.input s1 s2 k.left t.read;
-}
-turned_then s0 s1 s2 (why.ReadFault which.Input) k t = record {
-  names = notes_still s0.asked s1.asked s2.asked (asked_input put.Done) k.asked t.names;
-  outputs = k.outputs ∙ t.outputs;
-  reads = (let r = t.reads in let f = k.counts.reads in omega arith);
-  read = part_still (2 ^ 28 - 1) name.In s0 s1 s2 k.left t.read;
-}
+turned_then s0 s1 s2 (why.OpenFault which.Output) k t = (unopened_then s0 s1 s2 (name.In ∷ name.Out ∷ []) k t.0, picture_then s0 s1 s2 k t.1)
+turned_then s0 s1 s2 (why.ReadFault which.Input) k t = (unread_then s0 s1 s2 (name.In ∷ []) k t.0, part_still (2 ^ 28 - 1) name.In s0 s1 s2 k.left t.1)
 turned_then s0 s1 s2 (why.ReadFault which.Script) k t = absurd t
 turned_then s0 s1 s2 (why.ReadFault which.Tables) k t = absurd t
 turned_then s0 s1 s2 (why.ReadFault which.Comment) k t = absurd t
 turned_then s0 s1 s2 (why.ReadFault which.Output) k t = absurd t
-turned_then s0 s1 s2 why.WriteFault k t = record {
-  names = notes_still s0.asked s1.asked s2.asked (asked_both put.Done) k.asked t.names;
-  writes = (let r = t.writes in let f = k.counts.writes in omega arith);
-  picture = t.picture;
-  read = read_still (2 ^ 28) t.picture.input s1 s2 k.left t.read;
-  count = t.count;
-  output = grows_still s0.outputs s1.outputs s2.outputs (name.Out, take t.count (turned_file s0 t.picture)) k.outputs t.output;
-}
-turned_then s0 s1 s2 why.NoMemory k t = record {
-  names = notes_still s0.asked s1.asked s2.asked (asked_input put.Done) k.asked t.names;
-  outputs = k.outputs ∙ t.outputs;
-  read = part_still (2 ^ 28) name.In s0 s1 s2 k.left t.read;
-}
+turned_then s0 s1 s2 why.WriteFault k (rose, (input, count, wrote)) = (
+  (let f = k.counts.writes in omega (arith, rose, f)),
+  (picture_then s0 s1 s2 k input, count, gray_then s0 s1 s2 (take count (turned_file s0 input.picture)) k wrote),
+)
+turned_then s0 s1 s2 why.NoMemory k t = (stopped_then s0 s1 s2 (name.In ∷ []) put.Done k t.0, part_still (2 ^ 28) name.In s0 s1 s2 k.left t.1)
 
 worked_then : (a : WordsTold Command) (s0 s1 s2 : DeskState) (w : Why) → OnlySays s1 s2 → Worked a s0 w s1 → Worked a s0 w s2
 worked_then (words_wrong u) s0 s1 s2 w k t = (t.0, (k.asked ∙ t.1.0, k.outputs ∙ t.1.1, k.left ∙ t.1.2))
@@ -98,30 +66,30 @@ says_still s0 s1 s2 text e f (inl h) = inl (said_still s0.said s1.said s2.said t
 says_still s0 s1 s2 text e f (inr h) = inr ((let r = h.0 in let g = f.says in omega arith), (h.1.0, said_still s0.said s1.said s2.said (take h.1.0 text) e h.1.1))
 
 -- the work and then the message
-pub ran : (words : List (List ℕ)) (s0 s1 s2 : DeskState) (code : ℕ) (w : Why) → Works words s0 w s1 → OnlySays s1 s2 → SaysText s1 (message (tool_of words) w) s2 → code ≡ code_of w
+pub ran : (words : List (List ℕ)) (s0 s1 s2 : DeskState) (code : ℕ) (w : Why) → Works words s0 w s1 → OnlySays s1 s2 → SaysText s1 (message (tool_of words) w) s2 → code ≡ status_of w
     → Ran words s0 (record { code = code; why = w }) s2
 ran words s0 s1 s2 code w h k m e = record {
   worked = worked_then (command_asked words) s0 s1 s2 w k h.worked;
-  said = says_still s0 s1 s2 (message (tool_of words) w) h.said h.counts m;
+  said = says_still s0 s1 s2 (message (tool_of words) w) h.kept.said h.kept.counts m;
   code = e;
-  counts = NoneFell-then s0.counts s1.counts s2.counts h.counts k.counts;
-  files = k.files ∙ h.files;
+  counts = NoneFell-then s0.counts s1.counts s2.counts h.kept.counts k.counts;
+  files = k.files ∙ h.kept.files;
 }
 
 -- where nothing failed, the answer is the due one
 pub due_answer : (s0 s1 : DeskState) (w : Why) → NoneRose s0.counts s1.counts → Turned s0 w s1 → IsDue s0 w
-due_answer s0 s1 why.Done n t = t.picture
+due_answer s0 s1 why.Done n t = t.0.picture
 due_answer s0 s1 (why.Usage u) n t = absurd t
-due_answer s0 s1 (why.Refused f) n t = t.refused
+due_answer s0 s1 (why.Refused f) n t = t.1.refused
 due_answer s0 s1 (why.OpenFault which.Input) n t = absurd (n.0 t.opens)
 due_answer s0 s1 (why.OpenFault which.Script) n t = absurd t
 due_answer s0 s1 (why.OpenFault which.Tables) n t = absurd t
 due_answer s0 s1 (why.OpenFault which.Comment) n t = absurd t
-due_answer s0 s1 (why.OpenFault which.Output) n t = absurd (n.0 t.opens)
-due_answer s0 s1 (why.ReadFault which.Input) n t = absurd (n.1 t.reads)
+due_answer s0 s1 (why.OpenFault which.Output) n t = absurd (n.0 t.0.opens)
+due_answer s0 s1 (why.ReadFault which.Input) n t = absurd (n.1 t.0.reads)
 due_answer s0 s1 (why.ReadFault which.Script) n t = absurd t
 due_answer s0 s1 (why.ReadFault which.Tables) n t = absurd t
 due_answer s0 s1 (why.ReadFault which.Comment) n t = absurd t
 due_answer s0 s1 (why.ReadFault which.Output) n t = absurd t
-due_answer s0 s1 why.WriteFault n t = absurd (n.2 t.writes)
+due_answer s0 s1 why.WriteFault n t = absurd (n.2 t.0)
 due_answer s0 s1 why.NoMemory n t = tt

@@ -4,7 +4,7 @@ use Rattle.std.specs.Prelude.{◌||◌, nat_lt, is_none, reverse, find, option_m
 use Rattle.std.proofs.Math.Path.{fun_ext}
 use Rattle.std.proofs.lemmas.List.{reverse-reverse}
 use Rattle.std.proofs.lemmas.Option.{slice_get-map}
-use Rattle.jpg_spec.specs.Lists.{any_of}
+use Rattle.jpg_spec.specs.Lists.{any_of, slot_value}
 use Rattle.jpg_spec.specs.Codes.{Code}
 use Rattle.jpg_spec.specs.Geometry.{Frame, component_at, is_progressive}
 use Rattle.jpg_spec.specs.Segments.{HuffmanTable, ScanHead}
@@ -21,18 +21,17 @@ use Rattle.jpg_spec.specs.declared.frame.ScanPart.{ScanPart}
 use Rattle.jpg_huff.specs.declared.table.Table.{Table}
 use Rattle.jpg_huff.specs.declared.set.TableSet.{TableSet}
 use Rattle.jpg_huff.specs.Sets.{dc_tables, ac_tables, in_slot, slots_of}
-use Rattle.jpg_huff.specs.Sets as sets
 use Rattle.jpg_huff.specs.Tables.{table_of}
 use Rattle.jpg_seq.specs.Plain.{in_force}
-use Rattle.jpg_cli.specs.Header.{HeaderTold, Holds, huffman_in, joined}
+use Rattle.jpg_cli.specs.Header.{HeaderTold, Holds, huffman_in}
 
 -- THE TABLES of a set
 
 -- a slot of a set, as counts and symbols
 pub slot_seen : (tables : List (Option Table)) (slot : ℕ) → option_map table_of (in_slot tables slot) ≡ huffman_in (map (option_map table_of) tables) slot
-slot_seen tables slot = by (slice_get tables slot) ∙ ap joined (sym (slice_get-map (option_map table_of) tables slot))
+slot_seen tables slot = by (slice_get tables slot) ∙ ap slot_value (sym (slice_get-map (option_map table_of) tables slot))
   where
-    by : (o : Option (Option Table)) → option_map table_of (sets.joined o) ≡ joined (option_map (option_map table_of) o)
+    by : (o : Option (Option Table)) → option_map table_of (slot_value o) ≡ slot_value (option_map (option_map table_of) o)
     by None = refl
     by (Some None) = refl
     by (Some (Some table)) = refl

@@ -57,7 +57,7 @@ took limit s0 s1 s2 n v h k r = (
 
 -- what was read of a file stays so where no more of it is read
 pub part_still : (most : ℕ) (file : Name) (a b c : DeskState) → c.left ≡ b.left → ReadsPart most file a b → ReadsPart most file a c
-part_still most file a b c e (bytes, few, is) = (bytes, few, (let P : Option (List ℕ) → Type 0 = λ l. IsFile a.files file (bytes ++ rest_of l) in subst P (sym e) is))
+part_still most file a b c e (bytes, (few, is)) = (bytes, (few, (let P : Option (List ℕ) → Type 0 = λ l. IsFile a.files file (bytes ++ rest_of l) in subst P (sym e) is)))
 
 pub read_still : (most : ℕ) (bytes : List ℕ) (b c : DeskState) → c.left ≡ b.left → IsReadTo most bytes b → IsReadTo most bytes c
 read_still most bytes b c e h = let P : Option (List ℕ) → Type 0 = λ l. bytes ≡ take most bytes ++ rest_of l in subst P (sym e) h

@@ -4,10 +4,8 @@ use Rattle.std.proofs.lemmas.List.{append-nil}
 use Rattle.std.specs.Io.KnownBytes.{IsAtEnd}
 use Rattle.jpg_base.specs.declared.names.Name.{Name}
 use Rattle.jpg_base.specs.declared.names.Name.TheVariants as name
-use Rattle.jpg_base.specs.declared.names.Put.{Put}
 use Rattle.jpg_base.specs.declared.names.Put.TheVariants as put
 use Rattle.jpg_base.specs.Desk.{DeskState}
-use Rattle.jpg_base.specs.Laws.{Grows, NotesNames}
 use Rattle.jpg_spec.specs.declared.answers.FaultAt.{FaultAt}
 use Rattle.jpg_spec.specs.declared.answers.Why.{Why}
 use Rattle.jpg_spec.specs.declared.answers.Why.TheVariants as why
@@ -16,48 +14,35 @@ use Rattle.jpg_spec.specs.Segments.{standard_limits}
 use Rattle.jpg_spec.specs.CommentWords.{CommentSource, from_input, from_words, from_file}
 use Rattle.jpg_cli.specs.Saying.{OnlySays}
 use Rattle.jpg_cli.specs.Reading.{IsFile, rest_of}
-use Rattle.jpg_cli.specs.InsertComment.{IsFaultBefore, IsFilePart, IsLongFile, IsNoHead, IsWholeFile}
-use Rattle.jpg_cli.specs.CommentInserted.{Inserted, IsComment, IsCommentRead, IsInsertDue, ReadsAlone, ReadsComment, ReadsLast, Task, WritesText, asked_comment, asked_to_input, asked_to_output, task_told}
+use Rattle.jpg_cli.specs.InsertComment.{IsAtHead, IsFaultBefore, IsFilePart, IsLongFile, IsNoHead, IsWholeFile}
+use Rattle.jpg_cli.specs.CommentInserted.{Inserted, IsComment, IsCommentRead, IsInsertDue, ReadsAlone, ReadsComment, ReadsInput, ReadsLast, Task, WritesText, names_of, names_to_input, names_to_output, task_told}
 use Rattle.jpg_cli.specs.CommentWords.{comment_told, file_told, write_told}
 use Rattle.jpg_cli.specs.declared.comment_words.WriteWords.{WriteWords}
 use Rattle.jpg_cli.specs.Commands.{name_of}
 use Rattle.jpg_cli.specs.Run.{NoneRose, task_of}
+use Rattle.jpg_cli.proofs.Endings.{bytes_then, copied_then, stopped_then, unopened_then, unread_then}
 use Rattle.jpg_cli.proofs.Input.{none_left, part_still, read_still}
 
 -- A MESSAGE THEN
 
-notes_then : (s0 s1 s2 : DeskState) (names : List (Name × Put)) → OnlySays s1 s2 → NotesNames s0.asked names s1.asked → NotesNames s0.asked names s2.asked
-notes_then s0 s1 s2 names k h = let P : Option (List (Name × Put)) → Type 0 = λ a. NotesNames s0.asked names a in subst P (sym k.asked) h
-
-file_then : (s0 s1 s2 : DeskState) (input : Name) (bytes : List ℕ) → OnlySays s1 s2 → IsFile s0.files input (bytes ++ rest_of s1.left) → IsFile s0.files input (bytes ++ rest_of s2.left)
-file_then s0 s1 s2 input bytes k h = let P : Option (List ℕ) → Type 0 = λ l. IsFile s0.files input (bytes ++ rest_of l) in subst P (sym k.left) h
-
-reads_then : (s0 s1 s2 : DeskState) (task : Task) (Is : List ℕ → Type 0) → OnlySays s1 s2 → ReadsAlone task Is s0 s1 → ReadsAlone task Is s0 s2
-reads_then s0 s1 s2 task Is k h = record {
+input_then : (s0 s1 s2 : DeskState) (task : Task) (Is : List ℕ → Type 0) → OnlySays s1 s2 → ReadsInput task Is s0 s1 → ReadsInput task Is s0 s2
+input_then s0 s1 s2 task Is k h = record {
   comment = h.comment;
   bytes = h.bytes;
-  names = notes_then s0 s1 s2 (asked_to_input task put.Done) k h.names;
-  outputs = k.outputs ∙ h.outputs;
   source = h.source;
-  file = file_then s0 s1 s2 task.input h.bytes k h.file;
-  most = h.most;
+  read = bytes_then s0 s1 s2 standard_limits.input task.input h.bytes k.left h.read;
   is = h.is;
 }
 
+reads_then : (s0 s1 s2 : DeskState) (task : Task) (Is : List ℕ → Type 0) → OnlySays s1 s2 → ReadsAlone task Is s0 s1 → ReadsAlone task Is s0 s2
+reads_then s0 s1 s2 task Is k h = (stopped_then s0 s1 s2 (names_to_input task) put.Done k h.0, input_then s0 s1 s2 task Is k h.1)
+
 writes_then : (s0 s1 s2 : DeskState) (task : Task) (Is : List ℕ → List ℕ → List ℕ → Type 0) → OnlySays s1 s2 → WritesText task Is s0 s1 → WritesText task Is s0 s2
-writes_then s0 s1 s2 task Is k h =
-    let G : Option (List (Name × List ℕ)) → Type 0 = λ a. Grows s0.outputs (task.output, h.text) a in
-    record {
-      comment = h.comment;
-      bytes = h.bytes;
-      text = h.text;
-      names = notes_then s0 s1 s2 (asked_to_output task put.Done) k h.names;
-      source = h.source;
-      file = file_then s0 s1 s2 task.input h.bytes k h.file;
-      most = h.most;
-      outputs = subst G (sym k.outputs) h.outputs;
-      is = h.is;
-    }
+writes_then s0 s1 s2 task Is k h = record {
+  comment = h.comment;
+  source = h.source;
+  copied = copied_then s0 s1 s2 (names_of task.comment) task.input task.output (Is h.comment) k h.copied;
+}
 
 comment_read_then : (s1 s2 : DeskState) (source : CommentSource) (comment : List ℕ) → s2.left ≡ s1.left → IsCommentRead source comment s1 → IsCommentRead source comment s2
 comment_read_then s1 s2 from_input comment e h = read_still 65001 comment s1 s2 e h
@@ -77,8 +62,7 @@ reads_last_then s0 s1 s2 task e (inr (inr h)) = inr (inr (part_still standard_li
 refused_then : (s0 s1 s2 : DeskState) (task : Task) (f : FaultAt) → OnlySays s1 s2 → Inserted task s0 (why.Refused f) s1 → Inserted task s0 (why.Refused f) s2
 refused_then s0 s1 s2 task f k (inl h) = inl (record {
   comment = h.comment;
-  names = notes_then s0 s1 s2 (asked_comment task.comment put.Done) k h.names;
-  outputs = k.outputs ∙ h.outputs;
+  stopped = stopped_then s0 s1 s2 (names_of task.comment) put.Done k h.stopped;
   source = h.source;
   read = comment_read_then s1 s2 task.comment h.comment k.left h.read;
   long = h.long;
@@ -96,32 +80,11 @@ inserted_then s0 s1 s2 task why.Done k h =
     (writes_then s0 s1 s2 task (λ comment. IsWholeFile comment task.replace) k h.0, (let P : Option (List ℕ) → Type 0 = λ l. IsAtEnd l in subst P (sym k.left) h.1))
 inserted_then s0 s1 s2 task (why.Usage u) k h = absurd h
 inserted_then s0 s1 s2 task (why.Refused f) k h = refused_then s0 s1 s2 task f k h
-inserted_then s0 s1 s2 task (why.OpenFault which.Input) k h = record {
-  comment = h.comment;
-  names = notes_then s0 s1 s2 (asked_to_input task put.Failed) k h.names;
-  outputs = k.outputs ∙ h.outputs;
-  opens = (let r = h.opens in let f = k.counts.opens in omega arith);
-  source = h.source;
-}
+inserted_then s0 s1 s2 task (why.OpenFault which.Input) k h = (unopened_then s0 s1 s2 (names_to_input task) k h.0, h.1)
 inserted_then s0 s1 s2 task (why.OpenFault which.Script) k h = absurd h
 inserted_then s0 s1 s2 task (why.OpenFault which.Tables) k h = absurd h
-inserted_then s0 s1 s2 task (why.OpenFault which.Comment) k h = record {
-  names = notes_then s0 s1 s2 (asked_comment task.comment put.Failed) k h.names;
-  outputs = k.outputs ∙ h.outputs;
-  opens = (let r = h.opens in let f = k.counts.opens in omega arith);
-  from = h.from;
-}
-inserted_then s0 s1 s2 task (why.OpenFault which.Output) k h = record {
-  comment = h.comment;
-  bytes = h.bytes;
-  names = notes_then s0 s1 s2 (asked_to_output task put.Failed) k h.names;
-  outputs = k.outputs ∙ h.outputs;
-  opens = (let r = h.opens in let f = k.counts.opens in omega arith);
-  source = h.source;
-  file = file_then s0 s1 s2 task.input h.bytes k h.file;
-  most = h.most;
-  is = h.is;
-}
+inserted_then s0 s1 s2 task (why.OpenFault which.Comment) k h = (unopened_then s0 s1 s2 (names_of task.comment) k h.0, h.1)
+inserted_then s0 s1 s2 task (why.OpenFault which.Output) k h = (unopened_then s0 s1 s2 (names_to_output task) k h.0, input_then s0 s1 s2 task IsAtHead k h.1)
 inserted_then s0 s1 s2 task (why.ReadFault which.Input) k (inl h, rose) =
     (inl (reads_then s0 s1 s2 task IsNoHead k h), (let f = k.counts.reads in omega (arith, rose, f)))
 inserted_then s0 s1 s2 task (why.ReadFault which.Input) k (inr h, rose) =
@@ -129,9 +92,7 @@ inserted_then s0 s1 s2 task (why.ReadFault which.Input) k (inr h, rose) =
 inserted_then s0 s1 s2 task (why.ReadFault which.Script) k h = absurd h
 inserted_then s0 s1 s2 task (why.ReadFault which.Tables) k h = absurd h
 inserted_then s0 s1 s2 task (why.ReadFault which.Comment) k h = record {
-  names = notes_then s0 s1 s2 (asked_comment task.comment put.Done) k h.names;
-  outputs = k.outputs ∙ h.outputs;
-  reads = (let r = h.reads in let f = k.counts.reads in omega arith);
+  unread = unread_then s0 s1 s2 (names_of task.comment) k h.unread;
   from = h.from;
   bytes = h.bytes;
   source = (h.source.0, (let P : Option (List ℕ) → Type 0 = λ l. IsComment s0 task.comment (h.bytes ++ rest_of l) in subst P (sym k.left) h.source.1));
@@ -141,8 +102,7 @@ inserted_then s0 s1 s2 task why.WriteFault k h =
     (writes_then s0 s1 s2 task (λ comment. IsFilePart comment task.replace) k h.0, (let r = h.1 in let f = k.counts.writes in omega (arith, r, f)))
 inserted_then s0 s1 s2 task why.NoMemory k (inl h) = inl (record {
   count = h.count;
-  names = notes_then s0 s1 s2 (take h.count (asked_to_input task put.Done)) k h.names;
-  outputs = k.outputs ∙ h.outputs;
+  stopped = stopped_then s0 s1 s2 (take h.count (names_to_input task)) put.Done k h.stopped;
   read = reads_last_then s0 s1 s2 task k.left h.read;
 })
 inserted_then s0 s1 s2 task why.NoMemory k (inr h) = inr (writes_then s0 s1 s2 task (λ comment. IsFilePart comment task.replace) k h)
@@ -155,20 +115,21 @@ whole_input s0 s1 input bytes h end =
     subst (λ (b : List ℕ). IsFile s0.files input b) e h
 
 pub insert_due : (s0 s1 : DeskState) (task : Task) (w : Why) → NoneRose s0.counts s1.counts → Inserted task s0 w s1 → IsInsertDue task s0 w
-insert_due s0 s1 task why.Done n (h, end) = (h.comment, h.bytes, h.text, h.source, whole_input s0 s1 task.input h.bytes h.file end, h.is)
+insert_due s0 s1 task why.Done n (h, end) =
+    (let copied = h.copied in (h.comment, copied.bytes, copied.text, h.source, whole_input s0 s1 task.input copied.bytes copied.read.1 end, copied.is))
 insert_due s0 s1 task (why.Usage u) n h = absurd h
 insert_due s0 s1 task (why.Refused f) n (inl h) = inl (h.comment, h.source, h.long, h.fault)
-insert_due s0 s1 task (why.Refused f) n (inr (inl h)) = inr (h.comment, h.bytes ++ rest_of s1.left, h.source, h.file, inl h.is.0)
-insert_due s0 s1 task (why.Refused f) n (inr (inr h)) = inr (h.comment, h.bytes ++ rest_of s1.left, h.source, h.file, h.is.0)
-insert_due s0 s1 task (why.OpenFault which.Input) n h = absurd (n.0 h.opens)
+insert_due s0 s1 task (why.Refused f) n (inr (inl (stopped, h))) = inr (h.comment, h.bytes ++ rest_of s1.left, h.source, h.read.1, inl h.is.0)
+insert_due s0 s1 task (why.Refused f) n (inr (inr h)) = let copied = h.copied in inr (h.comment, copied.bytes ++ rest_of s1.left, h.source, copied.read.1, copied.is.0)
+insert_due s0 s1 task (why.OpenFault which.Input) n h = absurd (n.0 h.0.opens)
 insert_due s0 s1 task (why.OpenFault which.Script) n h = absurd h
 insert_due s0 s1 task (why.OpenFault which.Tables) n h = absurd h
-insert_due s0 s1 task (why.OpenFault which.Comment) n h = absurd (n.0 h.opens)
-insert_due s0 s1 task (why.OpenFault which.Output) n h = absurd (n.0 h.opens)
+insert_due s0 s1 task (why.OpenFault which.Comment) n h = absurd (n.0 h.0.opens)
+insert_due s0 s1 task (why.OpenFault which.Output) n h = absurd (n.0 h.0.opens)
 insert_due s0 s1 task (why.ReadFault which.Input) n h = absurd (n.1 h.1)
 insert_due s0 s1 task (why.ReadFault which.Script) n h = absurd h
 insert_due s0 s1 task (why.ReadFault which.Tables) n h = absurd h
-insert_due s0 s1 task (why.ReadFault which.Comment) n h = absurd (n.1 h.reads)
+insert_due s0 s1 task (why.ReadFault which.Comment) n h = absurd (n.1 h.unread.reads)
 insert_due s0 s1 task (why.ReadFault which.Output) n h = absurd h
 insert_due s0 s1 task why.WriteFault n h = absurd (n.2 h.1)
 insert_due s0 s1 task why.NoMemory n h = tt

@@ -9,7 +9,8 @@ use Rattle.jpg_spec.specs.Geometry as geometry
 use Rattle.jpg_spec.specs.Segments.{ScanHead, standard_limits}
 use Rattle.jpg_spec.specs.Elements.{Coding, are_in_bounds}
 use Rattle.jpg_spec.specs.Scan.{scan_coding}
-use Rattle.jpg_spec.specs.GrayFile.{end_of_image, gray_coding}
+use Rattle.jpg_spec.specs.GrayFile.{gray_coding}
+use Rattle.jpg_spec.specs.Markers.{eoi}
 use Rattle.jpg_spec.specs.InForce.{frame_of}
 use Rattle.jpg_spec.specs.SingleScan.{is_whole_frame, blocks_across, blocks_down, SpellsScan, single_coding}
 use Rattle.jpg_spec.specs.declared.answers.FaultAt.{FaultAt}
@@ -30,8 +31,8 @@ use Rattle.jpg_cli.proofs.ScanBehind.{same_frame, frame_is, single_found, coding
 
 -- THE DATA before EOI are told from what follows the header.
 
-end_is : (text more : List ℕ) → (text ++ end_of_image) ++ more ≡ text ++ 0xff ∷ 0xd9 ∷ more
-end_is text more = append_assoc text end_of_image more
+end_is : (text more : List ℕ) → (text ++ eoi) ++ more ≡ text ++ 0xff ∷ 0xd9 ∷ more
+end_is text more = append_assoc text eoi more
 
 far : (a b : ℕ) → a < b → b ≡ a → ⊥
 far a b l e = omega arith
@@ -128,8 +129,8 @@ found bytes used h head k f set text blocks e t single w (coded', more, s', cut)
       text = text;
       rest = more;
       blocks = blocks;
-      cut = sym (take-append-drop used bytes) ∙ ap (λ (x : List ℕ). take used bytes ++ x) (cut ∙ append_assoc text end_of_image more)
-          ∙ sym (append_assoc (take used bytes) text (end_of_image ++ more)) ∙ sym (append_assoc (take used bytes ++ text) end_of_image more);
+      cut = sym (take-append-drop used bytes) ∙ ap (λ (x : List ℕ). take used bytes ++ x) (cut ∙ append_assoc text eoi more)
+          ∙ sym (append_assoc (take used bytes) text (eoi ++ more)) ∙ sym (append_assoc (take used bytes ++ text) eoi more);
       header = k.header;
       single = sym (single_found (take used bytes) h head k f e) ∙ single;
       spelled = subst (λ (n : ℕ). SpellsScan (single_coding standard_limits k.before k.contents) n text blocks) count (subst (λ (c : Coding). SpellsScan c (block_count f) text blocks) coding scan);

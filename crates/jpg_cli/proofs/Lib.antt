@@ -8,6 +8,7 @@ pub mod Counted
 pub mod DataEnd
 pub mod Decimal
 pub mod Ending
+pub mod Endings
 pub mod HeadTaken
 pub mod Held
 pub mod InForce

@@ -8,10 +8,10 @@ use Rattle.std.proofs.lemmas.List.{get_or-map, set_at, take_more, drop_more, len
 use Rattle.std.proofs.lemmas.Grind.{flat_map-append}
 use Rattle.std.proofs.lemmas.Option.{get_or_from_slice_get}
 use Rattle.std.proofs.lemmas.Slice.Zip.{get_or-zip, length-zip}
-use Rattle.jpg_spec.specs.Lists.{chunks}
+use Rattle.jpg_spec.specs.Lists.{chunks, joined}
 use Rattle.jpg_spec.specs.Moves.{mirrored, zigzag}
 use Rattle.jpg_spec.specs.GrayFile.{turned_rows}
-use Rattle.jpg_spec.proofs.Rows.{joined, AreRows, cut_into}
+use Rattle.jpg_spec.proofs.Rows.{AreRows, cut_into}
 use Rattle.jpg_spec.proofs.Turned.{IsBlock, mirrored_block, turned_row}
 
 -- BLOCKS

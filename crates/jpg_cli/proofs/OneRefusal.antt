@@ -6,8 +6,7 @@ use Rattle.jpg_base.specs.Desk.{DeskState}
 use Rattle.jpg_spec.specs.declared.fault.Fault.{Fault}
 use Rattle.jpg_spec.specs.declared.answers.FaultAt.{FaultAt}
 use Rattle.jpg_spec.specs.Segments.{standard_limits}
-use Rattle.jpg_spec.specs.GrayFile.{end_of_image}
-use Rattle.jpg_spec.specs.Markers.{Segment}
+use Rattle.jpg_spec.specs.Markers.{Segment, eoi}
 use Rattle.jpg_spec.specs.InForce.{frame_of, head_in}
 use Rattle.jpg_spec.specs.SingleScan.{is_single_scan, blocks_across, blocks_down, SpellsScan, single_coding}
 use Rattle.jpg_spec.specs.Header.{HeaderShows, HeaderStands, IsHeader}
@@ -104,10 +103,10 @@ spelled_again before later contents others text blocks e k s =
 
 -- all behind the header
 abbrev pub behind : (bytes : List ℕ) → IsSingle bytes → List ℕ
-behind bytes s = s.text ++ end_of_image ++ s.rest
+behind bytes s = s.text ++ eoi ++ s.rest
 
 pub cut_behind : (bytes : List ℕ) (s : IsSingle bytes) → bytes ≡ s.front ++ behind bytes s
-cut_behind bytes s = s.cut ∙ ap (λ (b : List ℕ). b ++ s.rest) (append_assoc s.front s.text end_of_image) ∙ append_assoc s.front (s.text ++ end_of_image) s.rest
+cut_behind bytes s = s.cut ∙ ap (λ (b : List ℕ). b ++ s.rest) (append_assoc s.front s.text eoi) ∙ append_assoc s.front (s.text ++ eoi) s.rest
 
 pub single_not_refused : (bytes : List ℕ) (f : FaultAt) → IsSingle bytes → IsRefusal bytes f → ⊥
 single_not_refused bytes f s (inl (a, t)) = shown_whole bytes s.front (behind bytes s) f.fault f.at s.before s.contents t s.header (cut_behind bytes s)

@@ -4,32 +4,30 @@ use Rattle.std.specs.Prelude.{◌⊎◌, All}
 use Rattle.std.proofs.lemmas.List.{append_assoc, length-append, length-take, take_all, take-append-drop}
 use Rattle.jpg_base.specs.declared.names.Name.{Name}
 use Rattle.jpg_base.specs.declared.names.Name.TheVariants as name
-use Rattle.jpg_base.specs.declared.names.Put.{Put}
 use Rattle.jpg_base.specs.declared.names.Put.TheVariants as put
 use Rattle.jpg_base.specs.Desk.{DeskState, NotesName}
-use Rattle.jpg_base.specs.Laws.{NotesNames, NotesNames-then, Grows}
+use Rattle.jpg_base.specs.Laws.{Grows}
 use Rattle.jpg_spec.specs.declared.answers.Why.{Why}
 use Rattle.jpg_spec.specs.declared.answers.Why.TheVariants as why
 use Rattle.jpg_spec.specs.declared.answers.FaultAt.{FaultAt}
 use Rattle.jpg_spec.specs.declared.answers.Which.TheVariants as which
 use Rattle.jpg_spec.specs.Segments.{standard_limits}
-use Rattle.jpg_spec.specs.GrayFile.{end_of_image}
+use Rattle.jpg_spec.specs.Markers.{eoi}
 use Rattle.jpg_spec.specs.FileMeaning.{Means}
 use Rattle.jpg_spec.specs.FirstFault.{IsFirstFault}
 use Rattle.jpg_spec.specs.Header.{HeaderShows, HeaderStands}
 use Rattle.jpg_spec.proofs.HeaderFirst.{header_first, standing_truncated}
 use Rattle.jpg_spec.proofs.SingleMeans.{file_means}
 use Rattle.jpg_spec.proofs.FileLaws.{means_once}
-use Rattle.jpg_cli.specs.Reading.{Keeps, AfterInput, taken_of, asked_input, asked_both, rest_of}
+use Rattle.jpg_cli.specs.Reading.{Keeps, taken_of, rest_of}
+use Rattle.jpg_cli.specs.Endings.{Asks}
+use Rattle.jpg_cli.specs.InputTaken.{AfterInput}
+use Rattle.jpg_cli.proofs.Endings.{asks_next}
 use Rattle.jpg_cli.specs.Writing.{AfterOutput}
 use Rattle.jpg_cli.specs.Gray.{IsRefusal, IsSingle, IsUnbuilt, meaning_in, truncated, turned_text_in}
-use Rattle.jpg_cli.specs.Run.{GrayInput, IsTaken, Turned, turned_file, turned_meaning}
+use Rattle.jpg_cli.specs.Run.{GrayInput, IsTaken, ReadsPicture, Turned, WroteGray, turned_file, turned_meaning}
 use Rattle.jpg_cli.proofs.Input.{read_still}
 use Rattle.jpg_cli.proofs.TurnedText.{again}
-
--- the names asked for, the input and then the output
-both : (s0 s1 s2 : DeskState) (answer : Put) → NotesNames s0.asked (asked_input put.Done) s1.asked → NotesName s1.asked (name.Out, answer) s2.asked → NotesNames s0.asked (asked_both answer) s2.asked
-both s0 s1 s2 answer h k = NotesNames-then s0.asked s1.asked s2.asked (asked_input put.Done) (name.Out, answer) h k
 
 -- WHAT IS JUDGED of the bytes taken is so of the input
 
@@ -61,7 +59,7 @@ refusal_of input f (inr (inr unbuilt)) = inr unbuilt
 means_input : (input : List ℕ) (s : IsSingle (taken_of input)) → Means standard_limits input (meaning_in (taken_of input) s)
 means_input input s =
     let behind = drop (2 ^ 28) input in
-    let file = s.front ++ s.text ++ end_of_image in
+    let file = s.front ++ s.text ++ eoi in
     let cut : input ≡ file ++ (s.rest ++ behind) = sym (take-append-drop (2 ^ 28) input) ∙ ap (λ (b : List ℕ). b ++ behind) s.cut ∙ append_assoc file s.rest behind in
     let long : length file ≤ length (taken_of input) = omega (arith, ap length s.cut, length-append file s.rest) in
     file_means standard_limits s.before s.contents s.front s.text (s.rest ++ behind) input s.blocks s.header s.single s.spelled cut (omega (arith, long, length-take (2 ^ 28) input))
@@ -100,54 +98,56 @@ taken_short s0 s1 bytes (names, is, e) = subst (λ (b : List ℕ). length b ≤ 
 -- THE ANSWERS
 
 pub turned_wanting : (s0 s1 : DeskState) (bytes : List ℕ) → Keeps s0 s1 → AfterInput s0 (Ok bytes) s1 → Turned s0 why.NoMemory s1
-turned_wanting s0 s1 bytes k h = record { names = h.0; outputs = k.outputs; read = (bytes, taken_short s0 s1 bytes h, h.1) }
+turned_wanting s0 s1 bytes k h = (record { asked = h.0; outputs = k.outputs }, (bytes, (taken_short s0 s1 bytes h, h.1)))
 
 pub turned_refused : (s0 s1 : DeskState) (bytes : List ℕ) (f : FaultAt) → Keeps s0 s1 → AfterInput s0 (Ok bytes) s1 → IsRefusal bytes f → Turned s0 (why.Refused f) s1
-turned_refused s0 s1 bytes f k h r = record {
-  names = h.0;
-  outputs = k.outputs;
-  refused =
-      (let input = bytes ++ rest_of s1.left in
-      let due = subst (λ (b : List ℕ). IsRefusal b f) h.2 r in record { input = input; file = h.1; refusal = due; cause = refusal_of input f due });
-  read = ap (λ (b : List ℕ). b ++ rest_of s1.left) h.2;
+turned_refused s0 s1 bytes f k h r =
+    let input = bytes ++ rest_of s1.left in
+    let due = subst (λ (b : List ℕ). IsRefusal b f) h.2 r in (
+      record { asked = h.0; outputs = k.outputs },
+      record {
+        refused = record { input = input; file = h.1; refusal = due; cause = refusal_of input f due };
+        read = ap (λ (b : List ℕ). b ++ rest_of s1.left) h.2;
+      },
+    )
+
+wrote_gray : (s0 s1 s2 : DeskState) (due text : List ℕ) → due ≡ text → Keeps s0 s1 → Asks (name.In ∷ []) put.Done s0 s1 → NotesName s1.asked (name.Out, put.Done) s2.asked → Grows s1.outputs (name.Out, due) s2.outputs → WroteGray text s0 s2
+wrote_gray s0 s1 s2 due text e k h o grows = record {
+  asked = asks_next s0 s1 s2 (name.In ∷ []) name.Out put.Done h o;
+  outputs =
+      (let P : Option (List (Name × List ℕ)) → Type 0 = λ a. Grows a (name.Out, text) s2.outputs in
+      let Q : List ℕ → Type 0 = λ d. Grows s1.outputs (name.Out, d) s2.outputs in subst P k.outputs (subst Q e grows));
 }
+
+abbrev read_picture : (s0 s1 s2 : DeskState) (bytes : List ℕ) (s : IsSingle bytes) → s2.left ≡ s1.left → Found s0 s1 bytes s → ReadsPicture s0 s2
+read_picture s0 s1 s2 bytes s left g = record { picture = g.picture; read = read_still (2 ^ 28) g.picture.input s1 s2 left g.read }
 
 pub turned_output : (s0 s1 s2 : DeskState) (bytes due : List ℕ) (s : IsSingle bytes) (w : Why) → due ≡ turned_text_in bytes s → All (λ b. b < 256) s.front → Keeps s0 s1 → AfterInput s0 (Ok bytes) s1 → s2.left ≡ s1.left → AfterOutput s1 due w s2 → Turned s0 w s2
 turned_output s0 s1 s2 bytes due s why.Done e small k h left o =
     let g = found_input s0 s1 bytes s h small in
-    record {
-      names = both s0 s1 s2 put.Done h.0 o.0;
-      picture = g.picture;
-      read = read_still (2 ^ 28) g.picture.input s1 s2 left g.read;
-      output =
-          (let P : Option (List (Name × List ℕ)) → Type 0 = λ a. Grows a (name.Out, turned_file s0 g.picture) s2.outputs in
-          let Q : List ℕ → Type 0 = λ d. Grows s1.outputs (name.Out, d) s2.outputs in subst P k.outputs (subst Q (e ∙ sym g.text) o.1));
-      again = g.again;
-    }
+    (read_picture s0 s1 s2 bytes s left g, wrote_gray s0 s1 s2 due (turned_file s0 g.picture) (e ∙ sym g.text) k h.0 o.0 o.1, g.again)
 turned_output s0 s1 s2 bytes due s (why.Usage u) e small k h left o = absurd o
 turned_output s0 s1 s2 bytes due s (why.Refused f) e small k h left o = absurd o
 turned_output s0 s1 s2 bytes due s (why.OpenFault which.Input) e small k h left o = absurd o
 turned_output s0 s1 s2 bytes due s (why.OpenFault which.Script) e small k h left o = absurd o
 turned_output s0 s1 s2 bytes due s (why.OpenFault which.Tables) e small k h left o = absurd o
 turned_output s0 s1 s2 bytes due s (why.OpenFault which.Comment) e small k h left o = absurd o
-turned_output s0 s1 s2 bytes due s (why.OpenFault which.Output) e small k h left o = record {
-  names = both s0 s1 s2 put.Failed h.0 o.0;
-  outputs = o.2 ∙ k.outputs;
-  opens = (let r = o.1 in let f = k.counts.opens in omega arith);
-  picture = (found_input s0 s1 bytes s h small).picture;
-  read = (let g = found_input s0 s1 bytes s h small in read_still (2 ^ 28) g.picture.input s1 s2 left g.read);
-}
+turned_output s0 s1 s2 bytes due s (why.OpenFault which.Output) e small k h left o = (
+  record {
+    stopped = record { asked = asks_next s0 s1 s2 (name.In ∷ []) name.Out put.Failed h.0 o.0; outputs = o.2 ∙ k.outputs };
+    opens = (let r = o.1 in let f = k.kept.counts.opens in omega arith);
+  },
+  read_picture s0 s1 s2 bytes s left (found_input s0 s1 bytes s h small),
+)
 turned_output s0 s1 s2 bytes due s (why.ReadFault u) e small k h left o = absurd o
 turned_output s0 s1 s2 bytes due s why.WriteFault e small k h left o =
     let g = found_input s0 s1 bytes s h small in
-    record {
-      names = both s0 s1 s2 put.Done h.0 o.0;
-      writes = (let r = o.1 in let f = k.counts.writes in omega arith);
-      picture = g.picture;
-      read = read_still (2 ^ 28) g.picture.input s1 s2 left g.read;
-      count = o.2.0;
-      output =
-          (let P : Option (List (Name × List ℕ)) → Type 0 = λ a. Grows a (name.Out, take o.2.0 (turned_file s0 g.picture)) s2.outputs in
-          let Q : List ℕ → Type 0 = λ d. Grows s1.outputs (name.Out, take o.2.0 d) s2.outputs in subst P k.outputs (subst Q (e ∙ sym g.text) o.2.1));
-    }
+    let count = o.2.0 in (
+      (let r = o.1 in let f = k.kept.counts.writes in omega arith),
+      (
+        read_picture s0 s1 s2 bytes s left g,
+        count,
+        wrote_gray s0 s1 s2 (take count due) (take count (turned_file s0 g.picture)) (ap (take count) (e ∙ sym g.text)) k h.0 o.0 o.2.1,
+      ),
+    )
 turned_output s0 s1 s2 bytes due s why.NoMemory e small k h left o = absurd o

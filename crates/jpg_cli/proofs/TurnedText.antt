@@ -1,5 +1,5 @@
 -- The bytes that are written of a turned picture are the text of the file's meaning mirrored and headed.
-use Rattle.std.proofs.Common.{◌≡◌, ℕ, ◌*◌, ◌<◌, ◌≤◌, Bool, true, false, cond, List, [], ◌∷◌, length, refl, sym, ap, ◌∙◌, subst, arith, ℤ, Some, None}
+use Rattle.std.proofs.Common.{◌≡◌, ℕ, ◌*◌, ◌<◌, Bool, true, false, cond, List, [], ◌∷◌, length, refl, sym, ap, ◌∙◌, subst, ℤ, Some, None}
 use Rattle.std.specs.Prelude.{◌||◌, reverse, unwrap_or}
 use Rattle.std.specs.List.{All}
 use Rattle.jpg_spec.specs.Lists.{is_among}

@@ -3,10 +3,8 @@ use Rattle.std.specs.Prelude.{◌≡◌, ◌⊎◌, ℕ, ◌<◌, ◌≤◌, Boo
 use Rattle.std.specs.Io.KnownBytes.{Consumes, IsAtEnd}
 use Rattle.jpg_base.specs.declared.names.Name.{Name}
 use Rattle.jpg_base.specs.declared.names.Name.TheVariants as name
-use Rattle.jpg_base.specs.declared.names.Put.{Put}
 use Rattle.jpg_base.specs.declared.names.Put.TheVariants as put
 use Rattle.jpg_base.specs.Desk.{AddsOutput, AppendsLast, DeskState, NoneFell, OpensFile, Rose}
-use Rattle.jpg_base.specs.Laws.{NotesNames, Grows}
 use Rattle.jpg_spec.specs.Segments.{standard_limits}
 use Rattle.jpg_spec.specs.CommentText.{IsInsertFault}
 use Rattle.jpg_spec.specs.CommentWords.{CommentSource, from_input, from_words, from_file, is_given}
@@ -20,7 +18,8 @@ use Rattle.jpg_comments.specs.declared.insert.Insert.{Insert}
 use Rattle.jpg_cli.specs.CommentWords.{comment_told}
 use Rattle.jpg_cli.specs.declared.comment_words.WriteWords.{WriteWords}
 use Rattle.jpg_cli.specs.InsertComment.{AfterFed, IsAtHead, IsFaultBefore, IsFilePart, IsLongFile, IsNoHead, IsWholeFile}
-use Rattle.jpg_cli.specs.Reading.{IsFile, IsReadTo, ReadsPart, rest_of}
+use Rattle.jpg_cli.specs.Endings.{Asks, Copied, Stopped, Unopened, Unread}
+use Rattle.jpg_cli.specs.Reading.{IsFile, IsReadTo, ReadsBytes, ReadsPart, rest_of}
 
 -- which comment is inserted into which file, and where the result goes; whether it replaces the comments before the frame header
 pub record Task : Type 0 where
@@ -34,16 +33,16 @@ task_told words = record { comment = comment_told words.comment; input = words.f
 
 -- THE NAMES asked for: the comment's file where it comes from one, the input, and then the output
 
-abbrev pub asked_comment : CommentSource → Put → List (Name × Put)
-asked_comment from_input answer = (name.In, answer) ∷ []
-asked_comment (from_words text) answer = []
-asked_comment (from_file file) answer = (name.File file, answer) ∷ []
+abbrev pub names_of : CommentSource → List Name
+names_of from_input = name.In ∷ []
+names_of (from_words text) = []
+names_of (from_file file) = name.File file ∷ []
 
-abbrev pub asked_to_input : Task → Put → List (Name × Put)
-asked_to_input task answer = asked_comment task.comment put.Done ++ (task.input, answer) ∷ []
+abbrev pub names_to_input : Task → List Name
+names_to_input task = names_of task.comment ++ task.input ∷ []
 
-abbrev pub asked_to_output : Task → Put → List (Name × Put)
-asked_to_output task answer = asked_to_input task put.Done ++ (task.output, answer) ∷ []
+abbrev pub names_to_output : Task → List Name
+names_to_output task = names_to_input task ++ task.output ∷ []
 
 -- THE COMMENT
 
@@ -79,74 +78,39 @@ ReadsComment (from_file file) old new = ReadsPart 65001 (name.File file) old new
 
 -- WHAT STANDS when the run ended
 
--- These bytes of the input were read, no more than may be, of which this is so. No output was created.
-pub record ReadsAlone (task : Task) (Is : List ℕ → Type 0) (old new : DeskState) : Type 0 where
+-- The comment was taken, and these bytes of the input were read, no more than may be, of which this is so.
+pub record ReadsInput (task : Task) (Is : List ℕ → Type 0) (old new : DeskState) : Type 0 where
   pub comment : List ℕ
   pub bytes : List ℕ
-  pub names : NotesNames old.asked (asked_to_input task put.Done) new.asked
-  pub outputs : new.outputs ≡ old.outputs
   pub source : IsShortComment old task.comment comment
-  pub file : IsFile old.files task.input (bytes ++ rest_of new.left)
-  pub most : length bytes ≤ standard_limits.input
+  pub read : ReadsBytes standard_limits.input task.input bytes old new
   pub is : Is bytes
 
--- These bytes of the input were read, no more than may be, and the output holds a text, of which with the comment this is so.
+-- No output was created.
+abbrev pub ReadsAlone : Task → (List ℕ → Type 0) → DeskState → DeskState → Type 0
+ReadsAlone task Is old new = Stopped (names_to_input task) put.Done old new × ReadsInput task Is old new
+
+-- The output holds a text, of which with the comment and the bytes of the input that were read this is so.
 pub record WritesText (task : Task) (Is : List ℕ → List ℕ → List ℕ → Type 0) (old new : DeskState) : Type 0 where
   pub comment : List ℕ
-  pub bytes : List ℕ
-  pub text : List ℕ
-  pub names : NotesNames old.asked (asked_to_output task put.Done) new.asked
   pub source : IsShortComment old task.comment comment
-  pub file : IsFile old.files task.input (bytes ++ rest_of new.left)
-  pub most : length bytes ≤ standard_limits.input
-  pub outputs : Grows old.outputs (task.output, text) new.outputs
-  pub is : Is comment bytes text
+  pub copied : Copied (names_of task.comment) task.input task.output (Is comment) old new
 
 -- the comment is too long; the input wasn't opened
 pub record IsCommentLong (task : Task) (f : FaultAt) (old new : DeskState) : Type 0 where
   pub comment : List ℕ
-  pub names : NotesNames old.asked (asked_comment task.comment put.Done) new.asked
-  pub outputs : new.outputs ≡ old.outputs
+  pub stopped : Stopped (names_of task.comment) put.Done old new
   pub source : IsComment old task.comment comment
   pub read : IsCommentRead task.comment comment new
   pub long : 65000 < length comment
   pub fault : f ≡ too_long
 
--- the comment's file wasn't opened
-pub record IsCommentUnopened (task : Task) (old new : DeskState) : Type 0 where
-  pub names : NotesNames old.asked (asked_comment task.comment put.Failed) new.asked
-  pub outputs : new.outputs ≡ old.outputs
-  pub opens : Rose old.counts.opens new.counts.opens
-  pub from : is_given task.comment ≡ false
-
--- the comment's file wasn't read behind these bytes, which are no more than a comment may have
+-- the comment, which comes from a file, wasn't read behind these bytes of it, which are no more than a comment may have
 pub record IsCommentUnread (task : Task) (old new : DeskState) : Type 0 where
   pub bytes : List ℕ
-  pub names : NotesNames old.asked (asked_comment task.comment put.Done) new.asked
-  pub outputs : new.outputs ≡ old.outputs
-  pub reads : Rose old.counts.reads new.counts.reads
+  pub unread : Unread (names_of task.comment) old new
   pub from : is_given task.comment ≡ false
   pub source : IsShortFront old task.comment bytes new
-
--- the input wasn't opened
-pub record IsInputUnopened (task : Task) (old new : DeskState) : Type 0 where
-  pub comment : List ℕ
-  pub names : NotesNames old.asked (asked_to_input task put.Failed) new.asked
-  pub outputs : new.outputs ≡ old.outputs
-  pub opens : Rose old.counts.opens new.counts.opens
-  pub source : IsShortComment old task.comment comment
-
--- the output wasn't created, though the input has that marker
-pub record IsOutputUncreated (task : Task) (old new : DeskState) : Type 0 where
-  pub comment : List ℕ
-  pub bytes : List ℕ
-  pub names : NotesNames old.asked (asked_to_output task put.Failed) new.asked
-  pub outputs : new.outputs ≡ old.outputs
-  pub opens : Rose old.counts.opens new.counts.opens
-  pub source : IsShortComment old task.comment comment
-  pub file : IsFile old.files task.input (bytes ++ rest_of new.left)
-  pub most : length bytes ≤ standard_limits.input
-  pub is : IsAtHead bytes
 
 -- No file was opened; or of the one that was opened last, no more bytes were read than may be.
 abbrev pub ReadsLast : Task → DeskState → DeskState → Type 0
@@ -155,8 +119,7 @@ ReadsLast task old new = (new.left ≡ old.left) ⊎ (ReadsComment task.comment 
 -- memory was wanting before an output was created; the names asked for are the first of those due
 pub record IsOutOfMemory (task : Task) (old new : DeskState) : Type 0 where
   pub count : ℕ
-  pub names : NotesNames old.asked (take count (asked_to_input task put.Done)) new.asked
-  pub outputs : new.outputs ≡ old.outputs
+  pub stopped : Stopped (take count (names_to_input task)) put.Done old new
   pub read : ReadsLast task old new
 
 -- THE ANSWERS
@@ -165,9 +128,10 @@ Inserted task old why.Done new = WritesText task (λ comment. IsWholeFile commen
 Inserted task old (why.Refused f) new =
     IsCommentLong task f old new
     ⊎ (ReadsAlone task (IsFaultBefore f (rest_of new.left)) old new ⊎ WritesText task (λ comment. IsLongFile comment task.replace f (rest_of new.left)) old new)
-Inserted task old (why.OpenFault which.Comment) new = IsCommentUnopened task old new
-Inserted task old (why.OpenFault which.Input) new = IsInputUnopened task old new
-Inserted task old (why.OpenFault which.Output) new = IsOutputUncreated task old new
+Inserted task old (why.OpenFault which.Comment) new = Unopened (names_of task.comment) old new × (is_given task.comment ≡ false)
+Inserted task old (why.OpenFault which.Input) new =
+    Unopened (names_to_input task) old new × ((comment : List ℕ) × IsShortComment old task.comment comment)
+Inserted task old (why.OpenFault which.Output) new = Unopened (names_to_output task) old new × ReadsInput task IsAtHead old new
 Inserted task old (why.ReadFault which.Comment) new = IsCommentUnread task old new
 Inserted task old (why.ReadFault which.Input) new =
     (ReadsAlone task IsNoHead old new ⊎ WritesText task (λ comment. IsWholeFile comment task.replace) old new) × Rose old.counts.reads new.counts.reads
@@ -198,7 +162,7 @@ IsInsertDue task old other = ⊥
 -- The comment was taken, the input is open, and these bytes of it were read; no output was created.
 pub record IsReading (task : Task) (comment bytes : List ℕ) (old now : DeskState) : Type 0 where
   pub left : Option (List ℕ)
-  pub names : NotesNames old.asked (asked_to_input task put.Done) now.asked
+  pub names : Asks (names_to_input task) put.Done old now
   pub source : IsShortComment old task.comment comment
   pub opened : OpensFile old.files task.input left
   pub read : Consumes left now.left bytes
@@ -210,7 +174,7 @@ pub record IsReading (task : Task) (comment bytes : List ℕ) (old now : DeskSta
 pub record IsWriting (task : Task) (comment bytes text : List ℕ) (old now : DeskState) : Type 0 where
   pub left : Option (List ℕ)
   pub created : Option (List (Name × List ℕ))
-  pub names : NotesNames old.asked (asked_to_output task put.Done) now.asked
+  pub names : Asks (names_to_output task) put.Done old now
   pub source : IsShortComment old task.comment comment
   pub opened : OpensFile old.files task.input left
   pub read : Consumes left now.left bytes

@@ -1,26 +1,25 @@
 -- What taking the comment that is inserted does to a desk (the manual of wrjpgcom in release 6b).
-use Rattle.std.specs.Prelude.{◌≡◌, ◌⊎◌, ℕ, List, ◌++◌, take, Result, Ok, Err}
+use Rattle.std.specs.Prelude.{◌≡◌, ◌⊎◌, ℕ, List, [], ◌∷◌, ◌++◌, take, Result, Ok, Err}
 use Rattle.jpg_base.specs.declared.names.Name.{Name}
 use Rattle.jpg_base.specs.declared.names.Name.TheVariants as name
 use Rattle.jpg_base.specs.declared.names.Put.TheVariants as put
 use Rattle.jpg_base.specs.Desk.{DeskState, Rose}
-use Rattle.jpg_base.specs.Laws.{NotesNames}
 use Rattle.jpg_spec.specs.CommentWords.{CommentSource, from_input, from_words, from_file}
 use Rattle.jpg_spec.specs.declared.answers.Why.{Why}
 use Rattle.jpg_spec.specs.declared.answers.Why.TheVariants as why
 use Rattle.jpg_spec.specs.declared.answers.Which.TheVariants as which
+use Rattle.jpg_cli.specs.Endings.{Asks}
 use Rattle.jpg_cli.specs.Reading.{IsFile, ReadsPart, rest_of}
-use Rattle.jpg_cli.specs.ReadComments.{asked_one}
 
 -- The file of this name was read to its end, or up to one byte more than a comment may have; or why not.
 abbrev pub AfterFile : DeskState → Name → Result (List ℕ) Why → DeskState → Type 0
 AfterFile old file (Ok bytes) new =
-    NotesNames old.asked (asked_one file put.Done) new.asked × IsFile old.files file (bytes ++ rest_of new.left)
+    Asks (file ∷ []) put.Done old new × IsFile old.files file (bytes ++ rest_of new.left)
     × (bytes ≡ take 65001 (bytes ++ rest_of new.left))
-AfterFile old file (Err (why.OpenFault which.Comment)) new = NotesNames old.asked (asked_one file put.Failed) new.asked × Rose old.counts.opens new.counts.opens
+AfterFile old file (Err (why.OpenFault which.Comment)) new = Asks (file ∷ []) put.Failed old new × Rose old.counts.opens new.counts.opens
 AfterFile old file (Err (why.ReadFault which.Comment)) new =
-    NotesNames old.asked (asked_one file put.Done) new.asked × Rose old.counts.reads new.counts.reads × ReadsPart 65000 file old new
-AfterFile old file (Err why.NoMemory) new = NotesNames old.asked (asked_one file put.Done) new.asked × ReadsPart 65001 file old new
+    Asks (file ∷ []) put.Done old new × Rose old.counts.reads new.counts.reads × ReadsPart 65000 file old new
+AfterFile old file (Err why.NoMemory) new = Asks (file ∷ []) put.Done old new × ReadsPart 65001 file old new
 AfterFile old file (Err other) new = ⊥
 
 -- no name was asked for, and nothing read

@@ -8,8 +8,8 @@ use Rattle.jpg_spec.specs.QuantContents.{quant_in}
 use Rattle.jpg_spec.specs.Meaning.{Meaning}
 use Rattle.jpg_spec.specs.Moves.{flip_h, headed}
 use Rattle.jpg_spec.specs.Written.{IsWritable, plain_bits}
-use Rattle.jpg_spec.specs.GrayFile.{end_of_image, gray_coding, sequential_text, turned_rows}
-use Rattle.jpg_spec.specs.Markers.{Segment}
+use Rattle.jpg_spec.specs.GrayFile.{gray_coding, sequential_text, turned_rows}
+use Rattle.jpg_spec.specs.Markers.{Segment, eoi}
 use Rattle.jpg_spec.specs.InForce.{frame_of, head_in}
 use Rattle.jpg_spec.specs.Header.{HeaderShows, HeaderStands, IsHeader}
 use Rattle.jpg_spec.specs.SingleScan.{is_whole_frame, is_single_scan, blocks_across, blocks_down, SpellsScan, single_coding, single_meaning, single_text, luma_tables_text, single_head_text}
@@ -27,7 +27,7 @@ use Rattle.jpg_cli.specs.declared.gray.Judged.TheVariants as judged
 
 -- data bytes, spelled as text, and EOI behind them
 abbrev pub HasData : List ℕ → List ℕ → Type 0
-HasData rest text = (coded : List ℕ) × (more : List ℕ) × SpellsData coded text × (rest ≡ text ++ end_of_image ++ more)
+HasData rest text = (coded : List ℕ) × (more : List ℕ) × SpellsData coded text × (rest ≡ text ++ eoi ++ more)
 
 -- what isn't built yet, at this place
 abbrev pub not_built : ℕ → FaultAt
@@ -63,7 +63,7 @@ pub record IsSingle (bytes : List ℕ) : Type 0 where
   pub text : List ℕ
   pub rest : List ℕ
   pub blocks : List (List ℤ)
-  pub cut : bytes ≡ front ++ text ++ end_of_image ++ rest
+  pub cut : bytes ≡ front ++ text ++ eoi ++ rest
   pub header : IsHeader standard_limits front before contents
   pub single : is_single_scan (frame_of standard_limits before) before (head_in (frame_of standard_limits before) contents) ≡ true
   pub spelled : (let f = frame_of standard_limits before in SpellsScan (single_coding standard_limits before contents) (blocks_across f * blocks_down f) text blocks)
@@ -96,7 +96,7 @@ pub record OtherData (bytes : List ℕ) (f : FaultAt) : Type 0 where
   pub cut : bytes ≡ front ++ rest
   pub header : IsHeader standard_limits front before contents
   pub single : is_single_scan (frame_of standard_limits before) before (head_in (frame_of standard_limits before) contents) ≡ true
-  pub none : (text more : List ℕ) (blocks : List (List ℤ)) → rest ≡ text ++ end_of_image ++ more
+  pub none : (text more : List ℕ) (blocks : List (List ℤ)) → rest ≡ text ++ eoi ++ more
       → (let f = frame_of standard_limits before in SpellsScan (single_coding standard_limits before contents) (blocks_across f * blocks_down f) text blocks) → ⊥
   pub fault : f ≡ not_built (length bytes)
 

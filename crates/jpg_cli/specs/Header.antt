@@ -1,5 +1,6 @@
 -- What a header's reader keeps of the segments before the first scan header.
 use Rattle.std.specs.Prelude.{◌≡◌, ℕ, false, List, ◌∷◌, length, reverse, slice_get, Option, Some, None, find}
+use Rattle.jpg_spec.specs.Lists.{slot_value}
 use Rattle.jpg_spec.specs.Geometry.{Frame}
 use Rattle.jpg_spec.specs.Segments.{HuffmanTable, standard_limits}
 use Rattle.jpg_spec.specs.Jfif.{Jfif, is_jfif, jfif_told}
@@ -26,12 +27,8 @@ pub record HeaderTold : Type 0 where
 abbrev pub told_by : Header → HeaderTold
 told_by h = record { frame = h.frame; tables = slots_of h.tables; quants = h.quants; interval = h.interval; kept = h.kept; jfif = h.jfif }
 
-abbrev pub joined : {X : Type 0} → Option (Option X) → Option X
-joined None = None
-joined (Some x) = x
-
 abbrev pub huffman_in : List (Option HuffmanTable) → ℕ → Option HuffmanTable
-huffman_in slots slot = joined (slice_get slots slot)
+huffman_in slots slot = slot_value (slice_get slots slot)
 
 -- It is what is in force behind these segments, of which none is a scan header.
 pub record Holds (limits : Limits) (h : HeaderTold) (before : List Segment) : Type 0 where

@@ -1,3 +1,4 @@
+pub mod Endings
 pub mod FirstScan
 pub mod Certain
 pub mod Commands
@@ -7,6 +8,7 @@ pub mod CommentWords
 pub mod Gray
 pub mod Header
 pub mod ReadComments
+pub mod InputTaken
 pub mod InsertComment
 pub mod Reading
 pub mod Run

@@ -2,10 +2,7 @@
 use Rattle.std.specs.Prelude.{◌≡◌, ◌⊎◌, ℕ, ◌+◌, ◌<◌, ◌≤◌, List, [], ◌∷◌, ◌++◌, length, take, Option, None, Some}
 use Rattle.std.specs.Io.KnownBytes.{Consumes}
 use Rattle.jpg_base.specs.declared.names.Name.{Name}
-use Rattle.jpg_base.specs.declared.names.Put.{Put}
-use Rattle.jpg_base.specs.declared.names.Put.TheVariants as put
 use Rattle.jpg_base.specs.Desk.{DeskState, NoneFell, Rose, AppendsLast}
-use Rattle.jpg_base.specs.Laws.{NotesNames, Grows}
 use Rattle.jpg_spec.specs.Segments.{standard_limits}
 use Rattle.jpg_spec.specs.Markers.{Segment, kept_rule}
 use Rattle.jpg_spec.specs.CommentText.{comments_text, IsReadWhole, IsReadFault, ShowsNothing}
@@ -18,6 +15,7 @@ use Rattle.jpg_comments.specs.Begun.{Appends, IsBegun, AreWholeBefore}
 use Rattle.jpg_comments.specs.Printing.{HoldsWhole}
 use Rattle.jpg_comments.specs.ReadComments.{HasRead}
 use Rattle.jpg_comments.specs.declared.comments.Comments.{Comments}
+use Rattle.jpg_cli.specs.Endings.{Copied, Unopened}
 use Rattle.jpg_cli.specs.Reading.{IsFile, rest_of}
 
 -- THE TEXT that was printed, by the bytes that were read
@@ -63,44 +61,15 @@ pub record IsTextPart (bytes text : List ℕ) : Type 0 where
 
 -- BY WHY IT ENDED
 
--- the names asked for: the input, and then the output
-abbrev pub asked_one : Name → Put → List (Name × Put)
-asked_one input answer = (input, answer) ∷ []
-
-abbrev pub asked_two : Name → Name → Put → List (Name × Put)
-asked_two input output answer = (input, put.Done) ∷ (output, answer) ∷ []
-
--- Bytes of the input were read, no more than may be, and the output holds a text, of which this is so.
-pub record Prints (input output : Name) (Is : List ℕ → List ℕ → Type 0) (old new : DeskState) : Type 0 where
-  pub bytes : List ℕ
-  pub text : List ℕ
-  pub names : NotesNames old.asked (asked_two input output put.Done) new.asked
-  pub file : IsFile old.files input (bytes ++ rest_of new.left)
-  pub most : length bytes ≤ standard_limits.input
-  pub outputs : Grows old.outputs (output, text) new.outputs
-  pub is : Is bytes text
-
--- the input wasn't opened
-pub record IsInputUnopened (input : Name) (old new : DeskState) : Type 0 where
-  pub names : NotesNames old.asked (asked_one input put.Failed) new.asked
-  pub outputs : new.outputs ≡ old.outputs
-  pub opens : Rose old.counts.opens new.counts.opens
-
--- the output wasn't created
-pub record IsOutputUncreated (input output : Name) (old new : DeskState) : Type 0 where
-  pub names : NotesNames old.asked (asked_two input output put.Failed) new.asked
-  pub outputs : new.outputs ≡ old.outputs
-  pub opens : Rose old.counts.opens new.counts.opens
-
 -- THE ANSWERS: the comments of the input were printed to the output, or as far as the answer has it
 abbrev pub Printed : Name → Name → DeskState → Why → DeskState → Type 0
-Printed input output old why.Done new = Prints input output IsWholeText old new
-Printed input output old (why.Refused f) new = Prints input output (IsFaultText f (rest_of new.left)) old new
-Printed input output old (why.OpenFault which.Input) new = IsInputUnopened input old new
-Printed input output old (why.OpenFault which.Output) new = IsOutputUncreated input output old new
-Printed input output old (why.ReadFault which.Input) new = Prints input output IsTextSoFar old new × Rose old.counts.reads new.counts.reads
-Printed input output old why.WriteFault new = Prints input output IsTextPart old new × Rose old.counts.writes new.counts.writes
-Printed input output old why.NoMemory new = Prints input output IsTextPart old new
+Printed input output old why.Done new = Copied [] input output IsWholeText old new
+Printed input output old (why.Refused f) new = Copied [] input output (IsFaultText f (rest_of new.left)) old new
+Printed input output old (why.OpenFault which.Input) new = Unopened (input ∷ []) old new
+Printed input output old (why.OpenFault which.Output) new = Unopened (input ∷ output ∷ []) old new
+Printed input output old (why.ReadFault which.Input) new = Copied [] input output IsTextSoFar old new × Rose old.counts.reads new.counts.reads
+Printed input output old why.WriteFault new = Copied [] input output IsTextPart old new × Rose old.counts.writes new.counts.writes
+Printed input output old why.NoMemory new = Copied [] input output IsTextPart old new
 Printed input output old other new = ⊥
 
 -- Where no count of open, read or write rose, the answer is the one that the input has, or want of memory.

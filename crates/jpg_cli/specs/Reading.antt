@@ -1,17 +1,10 @@
 -- What reading the input does to a desk.
-use Rattle.std.specs.Prelude.{◌≡◌, ◌⊎◌, ℕ, ◌^◌, ◌-◌, ◌<◌, ◌≤◌, true, List, [], ◌∷◌, ◌++◌, length, take, Option, None, Some, Result, Ok, Err}
+use Rattle.std.specs.Prelude.{◌≡◌, ◌⊎◌, ℕ, ◌^◌, ◌<◌, ◌≤◌, true, List, [], ◌++◌, length, take, Option, None, Some}
 use Rattle.std.specs.Io.KnownBytes.{Consumes, IsAtEnd}
 use Rattle.jpg_base.specs.declared.names.Name.{Name}
-use Rattle.jpg_base.specs.declared.names.Name.TheVariants as name
 use Rattle.jpg_base.specs.declared.names.Got.{Got}
 use Rattle.jpg_base.specs.declared.names.Got.TheVariants as got
-use Rattle.jpg_base.specs.declared.names.Put.{Put}
-use Rattle.jpg_base.specs.declared.names.Put.TheVariants as put
 use Rattle.jpg_base.specs.Desk.{DeskState, NoneFell, Rose}
-use Rattle.jpg_base.specs.Laws.{NotesNames}
-use Rattle.jpg_spec.specs.declared.answers.Why.{Why}
-use Rattle.jpg_spec.specs.declared.answers.Why.TheVariants as why
-use Rattle.jpg_spec.specs.declared.answers.Which.TheVariants as which
 use Rattle.jpg_cli.specs.declared.reading.Piece.{Piece}
 use Rattle.jpg_cli.specs.declared.reading.Piece.TheVariants as piece
 use Rattle.jpg_cli.specs.declared.reading.Taken.{Taken}
@@ -61,35 +54,25 @@ abbrev pub rest_of : Option (List ℕ) → List ℕ
 rest_of None = []
 rest_of (Some rest) = rest
 
--- Bytes of the file of this name were read, at most so many, and the others are left.
+-- These bytes of the file of this name were read, at most so many, and the others are left.
+abbrev pub ReadsBytes : ℕ → Name → List ℕ → DeskState → DeskState → Type 0
+ReadsBytes most file bytes old new = (length bytes ≤ most) × IsFile old.files file (bytes ++ rest_of new.left)
+
+-- Some bytes of it were, at most so many.
 abbrev pub ReadsPart : ℕ → Name → DeskState → DeskState → Type 0
-ReadsPart most file old new = (bytes : List ℕ) × (length bytes ≤ most) × IsFile old.files file (bytes ++ rest_of new.left)
+ReadsPart most file old new = (bytes : List ℕ) × ReadsBytes most file bytes old new
 
 -- Of a file of these bytes the first so many were read, and the others are left.
 abbrev pub IsReadTo : ℕ → List ℕ → DeskState → Type 0
 IsReadTo most bytes new = bytes ≡ take most bytes ++ rest_of new.left
 
--- the counts don't fall, and the files, outputs and messages stay
-pub record Keeps (old new : DeskState) : Type 0 where
+-- No count fell, and the files and what was said stayed.
+pub record OnlyWorks (old new : DeskState) : Type 0 where
   pub counts : NoneFell old.counts new.counts
   pub files : new.files ≡ old.files
-  pub outputs : new.outputs ≡ old.outputs
   pub said : new.said ≡ old.said
 
--- the names asked for: standard input, and then standard output
-abbrev pub asked_input : Put → List (Name × Put)
-asked_input answer = (name.In, answer) ∷ []
-
-abbrev pub asked_both : Put → List (Name × Put)
-asked_both answer = (name.In, put.Done) ∷ (name.Out, answer) ∷ []
-
--- The input was read to its end, or up to 2 ^ 28 bytes of it; or why not.
-abbrev pub AfterInput : DeskState → Result (List ℕ) Why → DeskState → Type 0
-AfterInput old (Ok bytes) new =
-    NotesNames old.asked (asked_input put.Done) new.asked × IsFile old.files name.In (bytes ++ rest_of new.left)
-    × (bytes ≡ taken_of (bytes ++ rest_of new.left))
-AfterInput old (Err (why.OpenFault which.Input)) new = NotesNames old.asked (asked_input put.Failed) new.asked × Rose old.counts.opens new.counts.opens
-AfterInput old (Err (why.ReadFault which.Input)) new =
-    NotesNames old.asked (asked_input put.Done) new.asked × Rose old.counts.reads new.counts.reads × ReadsPart (2 ^ 28 - 1) name.In old new
-AfterInput old (Err why.NoMemory) new = NotesNames old.asked (asked_input put.Done) new.asked × ReadsPart (2 ^ 28) name.In old new
-AfterInput old (Err other) new = ⊥
+-- The outputs stayed too.
+pub record Keeps (old new : DeskState) : Type 0 where
+  pub kept : OnlyWorks old new
+  pub outputs : new.outputs ≡ old.outputs

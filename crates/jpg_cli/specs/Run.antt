@@ -1,10 +1,9 @@
 -- WHAT A RUN DOES to a desk, by why it ended.
-use Rattle.std.specs.Prelude.{◌≡◌, ◌⊎◌, ℕ, ◌^◌, ◌-◌, ◌≤◌, List, length, take}
+use Rattle.std.specs.Prelude.{◌≡◌, ◌⊎◌, ℕ, ◌^◌, ◌-◌, List, [], ◌∷◌, take}
 use Rattle.std.specs.Io.KnownBytes.{Appends}
 use Rattle.jpg_base.specs.declared.names.Name.TheVariants as name
 use Rattle.jpg_base.specs.declared.names.Put.TheVariants as put
 use Rattle.jpg_base.specs.Desk.{DeskState, NoneFell, Rose}
-use Rattle.jpg_base.specs.Laws.{NotesNames, Grows}
 use Rattle.jpg_spec.specs.declared.answers.FaultAt.{FaultAt}
 use Rattle.jpg_spec.specs.declared.answers.Why.{Why}
 use Rattle.jpg_spec.specs.declared.answers.Why.TheVariants as why
@@ -22,9 +21,10 @@ use Rattle.jpg_spec.specs.CommentWords.{FilesAsked, WordsTold, WriteAsked, words
 use Rattle.jpg_cli.specs.Commands.{Command, not_built as unbuilt, flip_horizontal, print_comments, insert_comment, command_asked, name_of}
 use Rattle.jpg_cli.specs.ReadComments.{Printed}
 use Rattle.jpg_cli.specs.CommentInserted.{Inserted, Task}
-use Rattle.jpg_spec.specs.Messages.{message, code_of}
+use Rattle.jpg_spec.specs.Messages.{message, status_of}
 use Rattle.jpg_cli.specs.declared.top.Ended.{Ended}
-use Rattle.jpg_cli.specs.Reading.{taken_of, IsFile, IsReadTo, ReadsPart, asked_input, asked_both}
+use Rattle.jpg_cli.specs.Reading.{OnlyWorks, taken_of, IsFile, IsReadTo, ReadsPart}
+use Rattle.jpg_cli.specs.Endings.{Stopped, Unopened, Unread, Wrote}
 
 -- The text was said. Where the count of failed messages rose, a first part of it may have been said alone.
 abbrev pub SaysText : DeskState → List ℕ → DeskState → Type 0
@@ -61,68 +61,34 @@ pub record RefusedInput (old : DeskState) (f : FaultAt) : Type 0 where
 abbrev pub IsTaken : List ℕ → DeskState → Type 0
 IsTaken input new = IsReadTo (2 ^ 28) input new
 
--- HOW TURNING A PICTURE ENDS. Each answer has the names that were asked for, what became of the outputs, and its cause.
-
--- Done: standard input means a picture, and standard output holds the text of the file of the picture mirrored left to right,
--- which means that picture.
-pub record IsDone (old new : DeskState) : Type 0 where
-  pub names : NotesNames old.asked (asked_both put.Done) new.asked
+-- Standard input means a picture, and no more of it was read than may be.
+pub record ReadsPicture (old new : DeskState) : Type 0 where
   pub picture : GrayInput old
   pub read : IsTaken picture.input new
-  pub output : Grows old.outputs (name.Out, turned_file old picture) new.outputs
-  pub again : Means standard_limits (turned_file old picture) (turned_meaning old picture)
 
--- Refused: the input has this fault, and nothing was written.
-pub record IsRefused (old : DeskState) (f : FaultAt) (new : DeskState) : Type 0 where
-  pub names : NotesNames old.asked (asked_input put.Done) new.asked
-  pub outputs : new.outputs ≡ old.outputs
+-- Standard input is refused with this fault, and no more of it was read than may be.
+pub record ReadsFault (old : DeskState) (f : FaultAt) (new : DeskState) : Type 0 where
   pub refused : RefusedInput old f
   pub read : IsTaken refused.input new
 
--- standard input wasn't opened
-pub record IsUnopened (old new : DeskState) : Type 0 where
-  pub names : NotesNames old.asked (asked_input put.Failed) new.asked
-  pub outputs : new.outputs ≡ old.outputs
-  pub opens : Rose old.counts.opens new.counts.opens
+-- Standard input was opened, and standard output, which holds this text, was created.
+abbrev pub WroteGray : List ℕ → DeskState → DeskState → Type 0
+WroteGray text old new = Wrote (name.In ∷ []) name.Out text old new
 
--- standard input wasn't read behind some of its bytes, which are fewer than may be taken
-pub record IsUnread (old new : DeskState) : Type 0 where
-  pub names : NotesNames old.asked (asked_input put.Done) new.asked
-  pub outputs : new.outputs ≡ old.outputs
-  pub reads : Rose old.counts.reads new.counts.reads
-  pub read : ReadsPart (2 ^ 28 - 1) name.In old new
-
--- standard output wasn't created, though the input means a picture
-pub record IsUncreated (old new : DeskState) : Type 0 where
-  pub names : NotesNames old.asked (asked_both put.Failed) new.asked
-  pub outputs : new.outputs ≡ old.outputs
-  pub opens : Rose old.counts.opens new.counts.opens
-  pub picture : GrayInput old
-  pub read : IsTaken picture.input new
-
--- standard output wasn't written to its end: it holds a first part of the text
-pub record IsUnwritten (old new : DeskState) : Type 0 where
-  pub names : NotesNames old.asked (asked_both put.Done) new.asked
-  pub writes : Rose old.counts.writes new.counts.writes
-  pub picture : GrayInput old
-  pub read : IsTaken picture.input new
-  pub count : ℕ
-  pub output : Grows old.outputs (name.Out, take count (turned_file old picture)) new.outputs
-
--- memory was wanting before anything was written
-pub record IsOutOfMemory (old new : DeskState) : Type 0 where
-  pub names : NotesNames old.asked (asked_input put.Done) new.asked
-  pub outputs : new.outputs ≡ old.outputs
-  pub read : ReadsPart (2 ^ 28) name.In old new
-
+-- HOW TURNING A PICTURE ENDS. Done: standard output holds the text of the file of the picture mirrored left to right, which means that picture.
+-- Where standard output wasn't written to its end, it holds a first part of that text.
 abbrev pub Turned : DeskState → Why → DeskState → Type 0
-Turned old why.Done new = IsDone old new
-Turned old (why.Refused f) new = IsRefused old f new
-Turned old (why.OpenFault which.Input) new = IsUnopened old new
-Turned old (why.OpenFault which.Output) new = IsUncreated old new
-Turned old (why.ReadFault which.Input) new = IsUnread old new
-Turned old why.WriteFault new = IsUnwritten old new
-Turned old why.NoMemory new = IsOutOfMemory old new
+Turned old why.Done new =
+    (input : ReadsPicture old new) × WroteGray (turned_file old input.picture) old new
+    × Means standard_limits (turned_file old input.picture) (turned_meaning old input.picture)
+Turned old (why.Refused f) new = Stopped (name.In ∷ []) put.Done old new × ReadsFault old f new
+Turned old (why.OpenFault which.Input) new = Unopened (name.In ∷ []) old new
+Turned old (why.OpenFault which.Output) new = Unopened (name.In ∷ name.Out ∷ []) old new × ReadsPicture old new
+Turned old (why.ReadFault which.Input) new = Unread (name.In ∷ []) old new × ReadsPart (2 ^ 28 - 1) name.In old new
+Turned old why.WriteFault new =
+    Rose old.counts.writes new.counts.writes
+    × ((input : ReadsPicture old new) × (count : ℕ) × WroteGray (take count (turned_file old input.picture)) old new)
+Turned old why.NoMemory new = Stopped (name.In ∷ []) put.Done old new × ReadsPart (2 ^ 28) name.In old new
 Turned old other new = ⊥
 
 -- Where no count of open, read or write rose, the answer is the one that the input has, or want of memory.
@@ -154,14 +120,12 @@ Worked (words_right (insert_comment asked)) old ended new = Inserted (task_of as
 -- the work of a run, before its message
 pub record Works (words : List (List ℕ)) (old : DeskState) (ended : Why) (new : DeskState) : Type 0 where
   pub worked : Worked (command_asked words) old ended new
-  pub counts : NoneFell old.counts new.counts
-  pub files : new.files ≡ old.files
-  pub said : new.said ≡ old.said
+  pub kept : OnlyWorks old new
 
 -- THE THEOREM: what a run does
 pub record Ran (words : List (List ℕ)) (old : DeskState) (ended : Ended) (new : DeskState) : Type 0 where
   pub worked : Worked (command_asked words) old ended.why new
   pub said : SaysText old (message (tool_of words) ended.why) new
-  pub code : ended.code ≡ code_of ended.why
+  pub code : ended.code ≡ status_of ended.why
   pub counts : NoneFell old.counts new.counts
   pub files : new.files ≡ old.files

@@ -2,13 +2,12 @@
 //! wrjpgcom in release 6b).
 ghost use Rattle.std.specs.Prelude.{◌≡◌, ◌<◌, [], List, ℕ, IfNone, length, true};
 ghost use Rattle.jpg_spec.specs.Segments.{standard_limits};
-ghost use Rattle.jpg_base.specs.Desk.{NoneFell};
 ghost use Rattle.jpg_comments.specs.Begun.{Appends};
 ghost use Rattle.jpg_comments.specs.WriteInserted.{insert_limits, is_replacing, HasInserted};
 ghost use Rattle.jpg_cli.specs.CommentInserted.{Inserted, task_told, EndsTask, BeginsTask, WritesFirst, WritesRest};
 ghost use Rattle.jpg_cli.specs.InsertComment.{AfterAll, IsBegunWith, IsOpenAfter, ReadsHead, CopiesNext, TakesPiece};
 ghost use Rattle.jpg_cli.specs.ReadComments.{OnlyCopies};
-ghost use Rattle.jpg_cli.specs.Reading.{OnlyReads};
+ghost use Rattle.jpg_cli.specs.Reading.{OnlyWorks, OnlyReads};
 
 use crate::comment_taken::take_comment;
 use crate::comment_words::WriteWords;
@@ -34,9 +33,7 @@ enum AtHead {
 /// pieces of at most 65,536 bytes to its end, or up to fewer bytes than that behind the byte that shows
 /// a fault.
 pub fn insert_comment<D: Desk>(alloc: Global, words: &WriteWords, desk: &mut D) -> Why
-    ensures counts { NoneFell (D.state desk.old).counts (D.state desk.new).counts }
-    ensures files { (D.state desk.new).files ≡ (D.state desk.old).files }
-    ensures said { (D.state desk.new).said ≡ (D.state desk.old).said }
+    ensures kept { OnlyWorks (D.state desk.old) (D.state desk.new) }
     ensures inserted { Inserted (task_told words.now) (D.state desk.old) result (D.state desk.new) }
 {
     let comment = match take_comment(alloc, &words.comment, desk) {
@@ -69,9 +66,7 @@ fn insert_into<D: Desk>(alloc: Global, insert: &mut Insert, output: &Name, desk:
     requires open { (D.state desk.old).input_open ≡ true }
     requires limits { insert_limits insert.old ≡ standard_limits }
     requires begun { (comment : List ℕ) × HasInserted comment [] [] insert.old }
-    ensures counts { NoneFell (D.state desk.old).counts (D.state desk.new).counts }
-    ensures files { (D.state desk.new).files ≡ (D.state desk.old).files }
-    ensures said { (D.state desk.new).said ≡ (D.state desk.old).said }
+    ensures kept { OnlyWorks (D.state desk.old) (D.state desk.new) }
     ensures after { EndsTask output.now insert.old (D.state desk.old) result (D.state desk.new) }
 {
     let mut buffer = [0u8; 65536];
@@ -95,9 +90,7 @@ fn begin<D: Desk>(
     requires limits { insert_limits insert.old ≡ standard_limits }
     requires begun { (comment : List ℕ) × HasInserted comment [] [] insert.old }
     requires empty { out.old ≡ [] }
-    ensures counts { NoneFell (D.state desk.old).counts (D.state desk.new).counts }
-    ensures files { (D.state desk.new).files ≡ (D.state desk.old).files }
-    ensures said { (D.state desk.new).said ≡ (D.state desk.old).said }
+    ensures kept { OnlyWorks (D.state desk.old) (D.state desk.new) }
     ensures open { IfNone result ((D.state desk.new).input_open ≡ true) }
     ensures created { IfNone result ((D.state desk.new).output_created ≡ true) }
     ensures more { IfNone result ((comment : List ℕ) × (bytes : List ℕ) × (text : List ℕ) × (0 < length text) × HasInserted comment bytes text insert.new) }
@@ -154,9 +147,7 @@ fn write_first<D: Desk>(
     out: &mut Bytes,
     desk: &mut D,
 ) -> Option<Why>
-    ensures counts { NoneFell (D.state desk.old).counts (D.state desk.new).counts }
-    ensures files { (D.state desk.new).files ≡ (D.state desk.old).files }
-    ensures said { (D.state desk.new).said ≡ (D.state desk.old).said }
+    ensures kept { OnlyWorks (D.state desk.old) (D.state desk.new) }
     ensures open { (D.state desk.new).input_open ≡ (D.state desk.old).input_open }
     ensures created { IfNone result ((D.state desk.new).output_created ≡ true) }
     ensures due { IfNone result (due ≡ None) }

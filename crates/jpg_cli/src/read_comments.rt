@@ -1,10 +1,11 @@
 //! The comments of a file, printed (T.81 B.2.4.5, the manual of rdjpgcom in release 6b).
 ghost use Rattle.std.specs.Prelude.{◌≡◌, ◌≤◌, [], List, ℕ, IfNone, length, true, false};
 ghost use Rattle.jpg_spec.specs.Segments.{standard_limits};
-ghost use Rattle.jpg_base.specs.Desk.{AfterWrite, NoneFell};
+ghost use Rattle.jpg_base.specs.Desk.{AfterWrite};
 ghost use Rattle.jpg_huff.specs.Out.{OnlyWrites};
 ghost use Rattle.jpg_comments.specs.Begun.{Appends};
 ghost use Rattle.jpg_comments.specs.ReadComments.{comments_limits, is_done, HasRead};
+ghost use Rattle.jpg_cli.specs.Reading.{OnlyWorks};
 ghost use Rattle.jpg_cli.specs.ReadComments.{AfterEnd, EndsCopying, OnlyCopies, Printed, CopiesNext, TakesPiece};
 
 use crate::comment_words::Files;
@@ -18,9 +19,7 @@ use std::alloc::Global;
 /// whole. The input is read in pieces of at most 65,536 bytes, and fewer bytes than that are read
 /// behind the end of its first scan header, or an EOI before any, or the byte that shows a fault.
 pub fn print_comments<D: Desk>(alloc: Global, files: &Files, desk: &mut D) -> Why
-    ensures counts { NoneFell (D.state desk.old).counts (D.state desk.new).counts }
-    ensures files { (D.state desk.new).files ≡ (D.state desk.old).files }
-    ensures said { (D.state desk.new).said ≡ (D.state desk.old).said }
+    ensures kept { OnlyWorks (D.state desk.old) (D.state desk.new) }
     ensures printed { Printed files.now.input files.now.output (D.state desk.old) result (D.state desk.new) }
 {
     match desk.open(&files.input) {

@@ -1,7 +1,8 @@
 //! The whole input, up to a limit, in the pieces that a desk gives.
 ghost use Rattle.std.specs.Prelude.{◌≡◌, ◌<◌, [], true};
 ghost use Rattle.jpg_base.specs.Desk.{Reads};
-ghost use Rattle.jpg_cli.specs.Reading.{OnlyReads, AfterPiece, AfterReading, AfterInput, IsWithin, Keeps};
+ghost use Rattle.jpg_cli.specs.Reading.{OnlyReads, AfterPiece, AfterReading, IsWithin, Keeps};
+ghost use Rattle.jpg_cli.specs.InputTaken.{AfterInput};
 
 use jpg_base::{Bytes, Desk, Got, Name, Put};
 use jpg_spec::{Which, Why};

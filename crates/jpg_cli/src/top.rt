@@ -1,8 +1,8 @@
 //! The top call.
 ghost use Rattle.std.specs.Prelude.{◌≡◌, ◌≤◌, length, map, string_bytes};
 ghost use Rattle.jpg_spec.specs.Messages.{message};
+ghost use Rattle.jpg_cli.specs.Reading.{OnlyWorks};
 ghost use Rattle.jpg_cli.specs.Run.{Ran, Turned, Works, SaysText};
-ghost use Rattle.jpg_base.specs.Desk.{NoneFell};
 ghost use Rattle.jpg_cli.specs.Saying.{OnlySays};
 
 use crate::comment_words::WordsStop;
@@ -42,9 +42,7 @@ fn tell<D: Desk>(tool: &str, why: Why, desk: &mut D)
 
 // Turns the picture on standard input.
 fn turn<D: Desk>(alloc: Global, desk: &mut D) -> Why
-    ensures counts { NoneFell (D.state desk.old).counts (D.state desk.new).counts }
-    ensures files { (D.state desk.new).files ≡ (D.state desk.old).files }
-    ensures said { (D.state desk.new).said ≡ (D.state desk.old).said }
+    ensures kept { OnlyWorks (D.state desk.old) (D.state desk.new) }
     ensures turned { Turned (D.state desk.old) result (D.state desk.new) }
 {
     let bytes = match take_input(alloc, desk) {

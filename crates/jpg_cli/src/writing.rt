@@ -1,10 +1,10 @@
 //! A file of one gray scan, written (T.81 B.2.1).
 ghost use Rattle.std.specs.Prelude.{◌≡◌, [], true};
-ghost use Rattle.jpg_spec.specs.GrayFile.{end_of_image};
+ghost use Rattle.jpg_spec.specs.Markers.{eoi};
 ghost use Rattle.jpg_spec.specs.SingleScan.{luma_tables_text};
-ghost use Rattle.jpg_base.specs.Desk.{NoneFell};
 ghost use Rattle.jpg_markers.specs.Sent.{HasSent};
 ghost use Rattle.jpg_huff.specs.Out.{OnlyWrites};
+ghost use Rattle.jpg_cli.specs.Reading.{OnlyWorks};
 ghost use Rattle.jpg_cli.specs.Writing.{WritesAll, AfterOutput};
 ghost use Rattle.jpg_cli.specs.Gray.{IsPicture, file_bytes, front_bytes, header_bytes, scan_bytes};
 
@@ -95,7 +95,7 @@ fn write_scan<D: Desk>(
 fn write_end<D: Desk>(out: &mut BitOut, desk: &mut D) -> Result<(), WriteFault>
     requires created { (D.state desk.old).output_created ≡ true }
     requires none { out.old.bits ≡ [] }
-    ensures sent { HasSent (D.state desk.old) out.old end_of_image result out.new (D.state desk.new) }
+    ensures sent { HasSent (D.state desk.old) out.old eoi result out.new (D.state desk.new) }
     ensures nothing { out.new.bytes ≡ [] }
 {
     out.raw(&[0xff, 0xd9], desk)?;
@@ -117,9 +117,7 @@ fn write_file<D: Desk>(picture: &GrayPicture, desk: &mut D) -> Result<(), WriteF
 /// Creates standard output and writes the picture's file to it.
 pub fn write_gray<D: Desk>(picture: &GrayPicture, desk: &mut D) -> Why
     requires { IsPicture picture.now }
-    ensures counts { NoneFell (D.state desk.old).counts (D.state desk.new).counts }
-    ensures files { (D.state desk.new).files ≡ (D.state desk.old).files }
-    ensures said { (D.state desk.new).said ≡ (D.state desk.old).said }
+    ensures kept { OnlyWorks (D.state desk.old) (D.state desk.new) }
     ensures left { (D.state desk.new).left ≡ (D.state desk.old).left }
     ensures output { AfterOutput (D.state desk.old) (file_bytes picture.now) result (D.state desk.new) }
 {

@@ -32,7 +32,8 @@ pub record IsWhole (i : Interval) (bits : List Bool) (now : Picture) : Type 0 wh
   pub frame : now.frame ≡ i.before.frame
   pub read : IntervalRead i.scan i.places (map_of i.before) (map_of now) bits
 
--- The bits are whole units, whose values stand in the picture, and whole elements and a part of one more of the units behind them.
+-- Units are left: the bits are whole units, whose values (`whole`) stand in the picture, and of the units behind them whole elements
+-- (which told `part`) and a part of one more.
 pub record IsUnfinished (i : Interval) (bits : List Bool) (now : Picture) (units : ℕ) : Type 0 where
   pub done : List Place
   pub due : List Place
@@ -69,7 +70,7 @@ pub record Kind (M : Type 0) : Type 1 where
   pub left : M → ℕ
   pub fits : Interval → Type 0
 
--- what each kind keeps
+-- what each kind keeps: where a machine stands, so many units are unfinished, and the interval is of its kind
 pub record KeepsUnits (M : Type 0) (k : Kind M) : Type 0 where
   pub unfinished : (m : M) (i : Interval) (bits : List Bool) (now : Picture) → k.stands m i bits now → IsUnfinished i bits now (k.left m)
   pub fits : (m : M) (i : Interval) (bits : List Bool) (now : Picture) → k.stands m i bits now → k.fits i

@@ -7,7 +7,7 @@ use Rattle.std.proofs.lemmas.List.{append_assoc, append-nil, length-append, reve
 use Rattle.std.proofs.lemmas.List.Elements.{filter-append}
 use Rattle.jpg_spec.specs.FileText.{segment_text}
 use Rattle.jpg_spec.specs.Markers.{Segment, Rule, kept_rule, soi, has_frame, is_frame_code, code_fault_if, SpellsSegments, Pass, Between, PartOfSegment, SegmentsShow, Reached, at_soi, at_frame, at_eoi, at_segment, at_fault, at_part, Reaches}
-use Rattle.jpg_spec.specs.CommentText.{IsHead, ShowsNothing}
+use Rattle.jpg_spec.specs.CommentText.{ShowsNothing, IsFileFront}
 use Rattle.jpg_spec.specs.declared.frame.Limits.{Limits}
 use Rattle.jpg_spec.specs.declared.fault.Fault.TheVariants.{UnexpectedMarker}
 use Rattle.jpg_spec.proofs.Reached.{reached_once}
@@ -92,7 +92,7 @@ no_frame_part rule bytes before (t ∷ tail) between part reaches =
     no_nil : (x : ℕ) (xs : List ℕ) → x ∷ xs ≡ [] → ⊥
     no_nil x xs e = cc
 
-frame_at : (r : Reading) (p : Phase) (bytes : List ℕ) (before : List Segment) → AtPhase r p bytes before → Reaches (kept_rule r.limits) bytes at_frame → IsHead r.limits bytes before r.code
+frame_at : (r : Reading) (p : Phase) (bytes : List ℕ) (before : List Segment) → AtPhase r p bytes before → Reaches (kept_rule r.limits) bytes at_frame → IsFileFront r.limits bytes before r.code
 frame_at r phase.Empty bytes before h reaches = absurd (apart true refl (ap heads_on (reached_once (kept_rule r.limits) bytes at_part at_frame (inl (inl h.0)) reaches)))
 frame_at r phase.HalfStart bytes before h reaches = absurd (apart true refl (ap heads_on (reached_once (kept_rule r.limits) bytes at_part at_frame (inl (inr h.0)) reaches)))
 frame_at r phase.Between bytes before h reaches = absurd (no_frame_part (kept_rule r.limits) bytes before h.0 h.1 (inl (0, h.3)) reaches)
@@ -103,7 +103,7 @@ frame_at r phase.Coded bytes before h reaches = by (frame_or_not (is_frame_code 
     frame_or_not true = inl refl
     frame_or_not false = inr refl
 
-    by : (is_frame_code r.code ≡ true) ⊎ (is_frame_code r.code ≡ false) → IsHead r.limits bytes before r.code
+    by : (is_frame_code r.code ≡ true) ⊎ (is_frame_code r.code ≡ false) → IsFileFront r.limits bytes before r.code
     by (inl e) = (h.0, h.1, h.3, e)
     by (inr e) = absurd (no_frame_part (kept_rule r.limits) bytes before h.0 h.1 (inr (r.code, h.0, h.3, inl (refl, e))) reaches)
 frame_at r phase.HalfLength bytes before h reaches =
@@ -120,7 +120,7 @@ kept_frame limits replace r next bytes head byte h short same one comes =
     let was = h.1.taken in
     let all = bytes ++ byte ∷ [] in (
       h.0,
-      subst (λ l. IsHead l all h.0 next.code) (same ∙ h.1.limited) (frame_at next next.phase all h.0 comes.1.1 comes.0),
+      subst (λ l. IsFileFront l all h.0 next.code) (same ∙ h.1.limited) (frame_at next next.phase all h.0 comes.1.1 comes.0),
       h.3,
       omega (arith, one, was, length-append bytes (byte ∷ [])),
       omega (arith, was, short, length-append bytes (byte ∷ [])),

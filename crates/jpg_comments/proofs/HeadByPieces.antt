@@ -2,7 +2,7 @@
 use Rattle.std.proofs.Common.{◌≡◌, ℕ, ◌+◌, ◌-◌, ◌<◌, ◌≤◌, Bool, true, List, [], ◌∷◌, ◌++◌, length, take, drop, get_or, Some, None, Ok, Err, refl, sym, ap, ◌∙◌, subst, arith, inr, Result}
 use Rattle.std.proofs.lemmas.List.{append_assoc, append-nil, length-append, length-take-le, take_all, take-append-drop}
 use Rattle.std.proofs.Math.Seq.{take-append-add}
-use Rattle.jpg_spec.specs.CommentText.{IsHead, IsHeadFault, IsInsertFault, IsInserted, inserted_head, comment_segment}
+use Rattle.jpg_spec.specs.CommentText.{IsHeadFault, IsInsertFault, IsInserted, inserted_head, comment_segment, IsFileFront}
 use Rattle.jpg_spec.specs.declared.frame.Limits.{Limits}
 use Rattle.jpg_spec.specs.declared.answers.FaultAt.{FaultAt}
 use Rattle.jpg_spec.specs.declared.fault.Fault.TheVariants.{InputTooLong}
@@ -81,7 +81,7 @@ long_inserted limits comment replace bytes text long h =
     let is : take n bytes ≡ h.2 =
     ap (take n) (sym (take-append-drop (limits.input) bytes)) ∙ ap (λ l. take n (l ++ drop (limits.input) bytes)) h.4
     ∙ ap (take n) (append_assoc h.2 h.3 (drop (limits.input) bytes)) ∙ whole_front h.2 (h.3 ++ drop (limits.input) bytes) in
-    inr (refl, refl, long, (h.1, h.0, n, fits, subst (λ l. IsHead limits l h.0 h.1) (sym is) h.5))
+    inr (refl, refl, long, (h.1, h.0, n, fits, subst (λ l. IsFileFront limits l h.0 h.1) (sym is) h.5))
 
 -- and more bytes behind them
 long_anyhow : (limits : Limits) (comment : List ℕ) (replace : Bool) (bytes text : List ℕ) (f : FaultAt) → f.fault ≡ InputTooLong → f.at ≡ limits.input → limits.input ≤ length bytes → IsInserted limits (take (limits.input) bytes) comment replace text

@@ -4,7 +4,7 @@ use Rattle.std.specs.Int.{to_be_bytes, w16}
 use Rattle.std.proofs.lemmas.List.{append_assoc, append-nil, length-append, length-take-le, take-append-drop, append_cancel_left}
 use Rattle.jpg_spec.specs.Lists.{any_of}
 use Rattle.jpg_spec.specs.Markers.{Segment, has_frame, has_scan, is_frame_code, is_unexpected, is_unsupported, code_fault, code_fault_if, SpellsMarker, SpellsSegments}
-use Rattle.jpg_spec.specs.CommentText.{IsReadWhole, IsHead, IsInserted, inserted_head}
+use Rattle.jpg_spec.specs.CommentText.{IsReadWhole, IsInserted, inserted_head, IsFileFront}
 use Rattle.jpg_spec.specs.declared.fault.Fault.TheVariants.{UnexpectedMarker, UnsupportedProcess, SecondFrame, SosBeforeSof}
 use Rattle.jpg_spec.specs.declared.frame.Limits.{Limits}
 use Rattle.jpg_spec.proofs.MarkersOnce.{SpellsMore, GoesOn, marker_once, oldest, segments_once}
@@ -45,7 +45,7 @@ pub record Head (limits : Limits) (bytes : List ℕ) (before : List Segment) (co
   pub allowed : code_fault before code ≡ None
   pub frame : is_frame_code code ≡ true
 
-head_of : (limits : Limits) (bytes front rest : List ℕ) (before : List Segment) (code : ℕ) → bytes ≡ front ++ rest → IsHead limits front before code → Head limits bytes before code rest
+head_of : (limits : Limits) (bytes front rest : List ℕ) (before : List Segment) (code : ℕ) → bytes ≡ front ++ rest → IsFileFront limits front before code → Head limits bytes before code rest
 head_of limits bytes front rest before code e h = record {
   front = h.1.front;
   tail = h.0;

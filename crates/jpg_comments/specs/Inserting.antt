@@ -2,7 +2,7 @@
 use Rattle.std.specs.Prelude.{◌≡◌, ◌⊎◌, ℕ, ◌+◌, ◌-◌, ◌<◌, ◌≤◌, Bool, true, false, ◌&&◌, ◌==◌, if◌then◌else◌, List, [], ◌∷◌, ◌++◌, length, take, flat_map, Option, Some, None, Result, Ok, Err}
 use Rattle.jpg_spec.specs.FileText.{segment_text}
 use Rattle.jpg_spec.specs.Markers.{Segment, soi, has_frame}
-use Rattle.jpg_spec.specs.CommentText.{SomeSegments, IsHead, IsHeadFault, IsInsertFault, IsInserted, head_segments}
+use Rattle.jpg_spec.specs.CommentText.{SomeSegments, IsHeadFault, IsInsertFault, IsInserted, head_segments, IsFileFront}
 use Rattle.jpg_spec.specs.declared.fault.Fault.TheVariants.{InputTooLong}
 use Rattle.jpg_spec.specs.declared.frame.Limits.{Limits}
 use Rattle.jpg_base.specs.declared.stop.Stop.{Stop}
@@ -16,7 +16,7 @@ use Rattle.jpg_comments.specs.Begun.{HasTaken, ShowsFirst}
 
 -- these bytes end with the marker of the frame header
 abbrev pub HoldsHead : Limits → List ℕ → Type 0
-HoldsHead limits bytes = (code : ℕ) × SomeSegments (λ before. IsHead limits bytes before code)
+HoldsHead limits bytes = (code : ℕ) × SomeSegments (λ before. IsFileFront limits bytes before code)
 
 -- SOI and the segments, as they are written
 abbrev pub head_text : Bool → List Segment → List ℕ
@@ -34,7 +34,7 @@ HasKept limits replace bytes head r =
 -- the frame header's marker is there
 abbrev pub IsAtFrame : Limits → Bool → List ℕ → List ℕ → Reading → Type 0
 IsAtFrame limits replace bytes head r =
-    (before : List Segment) × IsHead limits bytes before r.code × (head ≡ head_text replace before) × (r.taken ≡ length bytes) × (length bytes ≤ limits.input)
+    (before : List Segment) × IsFileFront limits bytes before r.code × (head ≡ head_text replace before) × (r.taken ≡ length bytes) × (length bytes ≤ limits.input)
 
 -- with a byte more
 abbrev pub AfterHeadByte : Limits → Bool → List ℕ → Result Bool Stop → List ℕ → Reading → Type 0

@@ -3,7 +3,7 @@ use Rattle.std.proofs.Common.{◌≡◌, ℕ, zero, suc, ◌-◌, ◌*◌, ◌�
 use Rattle.std.specs.Prelude.{map}
 use Rattle.std.proofs.lemmas.List.{append-nil, length-append, length-take, length-drop, take-append-drop}
 use Rattle.std.proofs.lemmas.Bool.Decides.{nat_tests}
-use Rattle.jpg_spec.specs.Lists.{chunks, chunks_of, is_distinct}
+use Rattle.jpg_spec.specs.Lists.{chunks, chunks_of, is_distinct, joined}
 use Rattle.jpg_spec.specs.Geometry.{Frame, units, mcu_units, is_progressive}
 use Rattle.jpg_spec.specs.Segments.{ScanHead, head_components}
 use Rattle.jpg_spec.specs.Scan.{Scan, Blocks, unit_at, scan_of}
@@ -12,7 +12,7 @@ use Rattle.jpg_spec.specs.InForce.{frame_of, head_in, huffman_in_force, restart_
 use Rattle.jpg_spec.specs.Items.{Item, segments_of}
 use Rattle.jpg_spec.specs.FileMeaning.{scan_after}
 use Rattle.jpg_spec.specs.ScanReading.{ScanAt}
-use Rattle.jpg_spec.specs.PictureInWork.{joined, ScanSoFar}
+use Rattle.jpg_spec.specs.PictureInWork.{ScanSoFar}
 use Rattle.jpg_spec.specs.declared.frame.Limits.{Limits}
 use Rattle.jpg_spec.specs.declared.frame.Place.{Place}
 use Rattle.jpg_spec.proofs.PictureInWork.{so_far_first}

@@ -5,13 +5,13 @@ use Rattle.std.specs.Option.{option_or}
 use Rattle.std.proofs.lemmas.Bool.{eqb-true, eqb-false, or_parts}
 use Rattle.std.proofs.lemmas.List.{reverse-append, length-set}
 use Rattle.std.proofs.lemmas.List.Folds.{find-append}
-use Rattle.jpg_spec.specs.Lists.{any_of}
+use Rattle.jpg_spec.specs.Lists.{any_of, slot_value}
 use Rattle.jpg_spec.specs.Codes.{are_codes}
 use Rattle.jpg_spec.specs.Faults.{Told, refuse}
 use Rattle.jpg_spec.specs.Segments.{HuffmanTable, QuantTable}
 use Rattle.jpg_spec.specs.HuffContents.{HuffmanDefinition, HuffmanSlots, counts_of, symbols_size, definition_size, definition_told, huffman_table_of, huffman_tables_of, huffman_tables, put_definition, put_definitions}
 use Rattle.jpg_spec.specs.HuffContents as told
-use Rattle.jpg_spec.specs.QuantContents.{◌>>=◌, Slots, quant_in, table_size, table_entries, is_zero, quant_table_of, quant_tables_of, quant_tables, put_tables}
+use Rattle.jpg_spec.specs.QuantContents.{◌>>=◌, Slots, quant_in, table_size, table_entries, quant_table_of, quant_tables_of, quant_tables, put_tables, is_zero_quant}
 use Rattle.jpg_spec.specs.QuantContents as quants
 use Rattle.jpg_spec.specs.Markers.{Segment}
 use Rattle.jpg_spec.specs.InForce.{told_list, huffmans_defined, huffman_in_force, quants_defined, quant_in_force}
@@ -20,7 +20,7 @@ use Rattle.jpg_spec.specs.declared.frame.Limits.{Limits}
 use Rattle.jpg_spec.specs.declared.fault.Fault.TheVariants.{BadLength, BadHuffman, BadQuant}
 use Rattle.jpg_spec.proofs.Telling.{not_lt_of}
 use Rattle.jpg_spec.proofs.SingleFrame.{refused}
-use Rattle.jpg_file.specs.Held.{HeldTold, Holds, huffman_in, joined}
+use Rattle.jpg_file.specs.Held.{HeldTold, Holds, huffman_in}
 
 -- A SLOT
 
@@ -83,12 +83,12 @@ AreDue (d ∷ ds) = IsDue d × AreDue ds
 abbrev of_huffman : HuffmanDefinition → HuffmanTable
 of_huffman d = d.table
 
-slot_joined : (b : Bool) (table : HuffmanTable) (o : Option (Option HuffmanTable)) → joined (cond b (Some (Some table)) o) ≡ cond b (Some table) (joined o)
+slot_joined : (b : Bool) (table : HuffmanTable) (o : Option (Option HuffmanTable)) → slot_value (cond b (Some (Some table)) o) ≡ cond b (Some table) (slot_value o)
 slot_joined true table o = refl
 slot_joined false table o = refl
 
 in_slot : (slots : List (Option HuffmanTable)) (i j : ℕ) (table : HuffmanTable) → i < length slots → huffman_in (slice_set slots i (Some table)) j ≡ cond (i == j) (Some table) (huffman_in slots j)
-in_slot slots i j table low = ap joined (at_slot slots i j (Some table) low) ∙ slot_joined (i == j) table (slice_get slots j)
+in_slot slots i j table low = ap slot_value (at_slot slots i j (Some table) low) ∙ slot_joined (i == j) table (slice_get slots j)
 
 -- the slots after a definition of this class
 abbrev put_class : HuffmanSlots → ℕ → ℕ → HuffmanTable → HuffmanSlots
@@ -225,12 +225,12 @@ abbrev AreSlots : List (ℕ × QuantTable) → Type 0
 AreSlots [] = Unit {0}
 AreSlots (d ∷ ds) = (d.0 < 4) × AreSlots ds
 
-quant_joined : (b : Bool) (table : QuantTable) (o : Option (Option QuantTable)) → quants.joined (cond b (Some (Some table)) o) ≡ cond b (Some table) (quants.joined o)
+quant_joined : (b : Bool) (table : QuantTable) (o : Option (Option QuantTable)) → slot_value (cond b (Some (Some table)) o) ≡ cond b (Some table) (slot_value o)
 quant_joined true table o = refl
 quant_joined false table o = refl
 
 quant_put : (slots : Slots) (i j : ℕ) (table : QuantTable) → i < length slots → quant_in (slice_set slots i (Some table)) j ≡ cond (i == j) (Some table) (quant_in slots j)
-quant_put slots i j table low = ap quants.joined (at_slot slots i j (Some table) low) ∙ quant_joined (i == j) table (slice_get slots j)
+quant_put slots i j table low = ap slot_value (at_slot slots i j (Some table) low) ∙ quant_joined (i == j) table (slice_get slots j)
 
 tables_keep : (slots : Slots) (ds : List (ℕ × QuantTable)) → length (put_tables slots ds) ≡ length slots
 tables_keep slots [] = refl
@@ -249,11 +249,11 @@ one_slot : (pt : ℕ) (bytes : List ℕ) (d : ℕ × QuantTable) → quant_table
 unfolding quant_table_of
 one_slot pt bytes d e =
     let told : ℕ × QuantTable = (pt % 16, table_entries pt bytes) in
-    let some : Told (ℕ × QuantTable) = refuse BadQuant (any_of is_zero (table_entries pt bytes)) (Ok told) in
+    let some : Told (ℕ × QuantTable) = refuse BadQuant (any_of is_zero_quant (table_entries pt bytes)) (Ok told) in
     let long = refuse BadLength (nat_lt (length bytes) (table_size pt)) some in
     let a = refused BadQuant (nat_lt 1 (pt / 16) || nat_lt 3 (pt % 16)) long d e in
     let b = refused BadLength (nat_lt (length bytes) (table_size pt)) some d a.1 in
-    let k = refused BadQuant (any_of is_zero (table_entries pt bytes)) (Ok told) d b.1 in
+    let k = refused BadQuant (any_of is_zero_quant (table_entries pt bytes)) (Ok told) d b.1 in
     let p = or_parts (nat_lt 1 (pt / 16)) (nat_lt 3 (pt % 16)) a.0 in
     let slot = not_lt_of 3 (pt % 16) p.1 in
     let is : told.0 < 4 = omega (arith, slot) in

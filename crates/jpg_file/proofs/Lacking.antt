@@ -2,7 +2,7 @@
 use Rattle.std.proofs.Common.{◌≡◌, ℕ, true, false, not, ◌==◌, ◌&&◌, List, [], ◌∷◌, map, refl, sym, ap, ◌∙◌, Option, Some, None}
 use Rattle.std.specs.Prelude.{◌||◌, nat_lt, is_none, option_map, slice_get}
 use Rattle.std.proofs.lemmas.Option.{slice_get-map}
-use Rattle.jpg_spec.specs.Lists.{any_of}
+use Rattle.jpg_spec.specs.Lists.{any_of, slot_value}
 use Rattle.jpg_spec.specs.Geometry.{Frame, component_at, is_progressive}
 use Rattle.jpg_spec.specs.Segments.{ScanHead}
 use Rattle.jpg_spec.specs.Markers.{Segment}
@@ -12,15 +12,14 @@ use Rattle.jpg_spec.specs.declared.frame.Limits.{Limits}
 use Rattle.jpg_spec.specs.declared.frame.ScanPart.{ScanPart}
 use Rattle.jpg_huff.specs.declared.table.Table.{Table}
 use Rattle.jpg_huff.specs.Sets.{in_slot}
-use Rattle.jpg_huff.specs.Sets as sets
 use Rattle.jpg_huff.specs.Tables.{table_of}
-use Rattle.jpg_file.specs.Held.{HeldTold, Holds, huffman_in, joined, lacks_any, lacks_part}
+use Rattle.jpg_file.specs.Held.{HeldTold, Holds, huffman_in, lacks_any, lacks_part}
 
 -- a slot of a set, as counts and symbols
 pub slot_seen : (tables : List (Option Table)) (slot : ℕ) → option_map table_of (in_slot tables slot) ≡ huffman_in (map (option_map table_of) tables) slot
-slot_seen tables slot = by (slice_get tables slot) ∙ ap joined (sym (slice_get-map (option_map table_of) tables slot))
+slot_seen tables slot = by (slice_get tables slot) ∙ ap slot_value (sym (slice_get-map (option_map table_of) tables slot))
   where
-    by : (o : Option (Option Table)) → option_map table_of (sets.joined o) ≡ joined (option_map (option_map table_of) o)
+    by : (o : Option (Option Table)) → option_map table_of (slot_value o) ≡ slot_value (option_map (option_map table_of) o)
     by None = refl
     by (Some None) = refl
     by (Some (Some table)) = refl

@@ -13,7 +13,8 @@ use Rattle.jpg_spec.specs.FirstFault.{Shows}
 use Rattle.jpg_spec.specs.FileStands.{FileStands}
 use Rattle.jpg_spec.specs.ScanReading.{ScanPlace, scan_at, with_byte, with_interval, ScanAt}
 use Rattle.jpg_spec.specs.Parts.{StandsInUnits}
-use Rattle.jpg_spec.specs.PictureInWork.{AreDistinct, joined, IntervalRead, ScanSoFar}
+use Rattle.jpg_spec.specs.PictureInWork.{AreDistinct, IntervalRead, ScanSoFar}
+use Rattle.jpg_spec.specs.Lists.{joined}
 use Rattle.jpg_spec.specs.declared.fault.Fault.TheVariants as fault
 use Rattle.jpg_spec.specs.declared.frame.Limits.{Limits}
 use Rattle.jpg_spec.specs.declared.frame.Place.{Place}

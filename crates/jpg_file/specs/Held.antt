@@ -1,5 +1,6 @@
 -- What a reader of a file keeps of the segments so far.
 use Rattle.std.specs.Prelude.{◌≡◌, ℕ, Bool, false, List, [], ◌∷◌, length, reverse, slice_get, Option, Some, None, find, is_none, ◌||◌}
+use Rattle.jpg_spec.specs.Lists.{slot_value}
 use Rattle.jpg_spec.specs.Geometry.{Frame, component_at}
 use Rattle.jpg_spec.specs.Segments.{HuffmanTable}
 use Rattle.jpg_spec.specs.Jfif.{Jfif, is_jfif, jfif_told}
@@ -28,12 +29,8 @@ pub record HeldTold : Type 0 where
 abbrev pub told_by : Held → HeldTold
 told_by h = record { frame = h.frame; tables = slots_of h.tables; quants = h.quants; interval = h.interval; scanned = h.scanned; kept = h.kept; jfif = h.jfif }
 
-abbrev pub joined : {X : Type 0} → Option (Option X) → Option X
-joined None = None
-joined (Some x) = x
-
 abbrev pub huffman_in : List (Option HuffmanTable) → ℕ → Option HuffmanTable
-huffman_in slots slot = joined (slice_get slots slot)
+huffman_in slots slot = slot_value (slice_get slots slot)
 
 -- It is what is in force behind these segments.
 pub record Holds (limits : Limits) (h : HeldTold) (before : List Segment) : Type 0 where

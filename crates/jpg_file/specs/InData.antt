@@ -1,7 +1,7 @@
 -- Inside the data of a scan: what its machine stands for, and what a further byte comes to (T.81 B.1.1.5, E.1.4).
 use Rattle.std.specs.Prelude.{◌≡◌, ℕ, suc, ◌+◌, ◌%◌, ◌≤◌, min, Bool, true, false, List, [], ◌∷◌, ◌++◌, length, replicate}
 use Rattle.jpg_spec.specs.Bits.{bits_of_bytes}
-use Rattle.jpg_spec.specs.Lists.{is_distinct}
+use Rattle.jpg_spec.specs.Lists.{is_distinct, joined}
 use Rattle.jpg_spec.specs.Geometry.{Frame, is_progressive}
 use Rattle.jpg_spec.specs.Segments.{head_components}
 use Rattle.jpg_spec.specs.Scan.{ScanMeans}
@@ -10,7 +10,7 @@ use Rattle.jpg_spec.specs.InForce.{frame_of, head_in}
 use Rattle.jpg_spec.specs.Items.{Item, segments_of}
 use Rattle.jpg_spec.specs.FirstFault.{Shows}
 use Rattle.jpg_spec.specs.ScanReading.{ScanPlace, scan_at, ScanAt, CompletesAt, with_byte, with_interval}
-use Rattle.jpg_spec.specs.PictureInWork.{joined, ScanSoFar}
+use Rattle.jpg_spec.specs.PictureInWork.{ScanSoFar}
 use Rattle.jpg_spec.specs.declared.frame.Limits.{Limits}
 use Rattle.jpg_spec.specs.declared.frame.Place.{Place}
 use Rattle.jpg_coefs.specs.Picture.{Picture, map_of}

@@ -1,18 +1,15 @@
 -- What is seen of a set of tables.
-use Rattle.std.specs.Prelude.{ℕ, List, [], ◌∷◌, map, Option, None, Some, slice_get}
+use Rattle.std.specs.Prelude.{ℕ, List, [], ◌∷◌, map, Option, None, slice_get}
 use Rattle.std.specs.Option.{option_map}
+use Rattle.jpg_spec.specs.Lists.{slot_value}
 use Rattle.jpg_spec.specs.HuffContents.{HuffmanSlots}
 use Rattle.jpg_huff.specs.declared.table.Table.{Table}
 use Rattle.jpg_huff.specs.declared.set.TableSet.{TableSet}
 use Rattle.jpg_huff.specs.Tables.{table_of}
 
 -- the table in a slot, if any
-abbrev pub joined : Option (Option Table) → Option Table
-joined None = None
-joined (Some table) = table
-
 abbrev pub in_slot : List (Option Table) → ℕ → Option Table
-in_slot tables slot = joined (slice_get tables slot)
+in_slot tables slot = slot_value (slice_get tables slot)
 
 -- the four slots for DC tables, and the four for AC tables
 abbrev pub dc_tables : TableSet → List (Option Table)

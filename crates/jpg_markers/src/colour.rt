@@ -1,8 +1,7 @@
 // The colours of a file (JFIF 1.02, Adobe's APP14).
-ghost use Rattle.std.specs.Prelude.{◌≡◌, ℕ, List, [], ◌∷◌, length};
+ghost use Rattle.std.specs.Prelude.{◌≡◌, [], ◌∷◌, length};
 ghost use Rattle.jpg_spec.specs.FrameHeader.{identifiers};
 ghost use Rattle.jpg_spec.specs.Lists.{are_equal};
-ghost use Rattle.jpg_spec.specs.Jfif.{adobe_transform, colour_from, jfif_of};
 ghost use Rattle.jpg_spec.specs.Colours.{colours_of, three_colours, four_colours};
 
 use crate::app::Jfif;
@@ -61,8 +60,3 @@ fn has_letters(frame: &Frame) -> bool
 {
     frame.component(0).id == 82 && frame.component(1).id == 71 && frame.component(2).id == 66
 }
-
-/// The colours are those of the markers of a file: its last JFIF header and its last Adobe segment.
-pub fn guesses_are_of_markers()
-    ensures { (count : ℕ) (ids : List ℕ) (kept : List (ℕ × List ℕ)) → colour_from count ids kept ≡ colours_of count ids (jfif_of kept).seen (adobe_transform kept) }
-{}

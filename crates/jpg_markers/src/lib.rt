@@ -14,7 +14,7 @@ mod segments;
 mod writing;
 
 pub use app::{App, Jfif, read_app};
-pub use colour::{guess, guesses_are_of_markers};
+pub use colour::guess;
 pub use frame::read_sof;
 pub use huffmans::read_dht;
 pub use interval::read_dri;

@@ -2,7 +2,7 @@
 ghost use Rattle.std.specs.Prelude.{◌≡◌, ◌<◌, ◌≤◌, Some, Ok, Err, length, slice_set, drop, IfOk, IfErr};
 ghost use Rattle.std.specs.Option.{option_map};
 ghost use Rattle.jpg_spec.specs.Lists.{any_of};
-ghost use Rattle.jpg_spec.specs.QuantContents.{is_zero, no_quants, pairs_told, quant_in, quant_table_of, quant_told, quants_told, table_entries, table_size};
+ghost use Rattle.jpg_spec.specs.QuantContents.{no_quants, pairs_told, quant_in, quant_table_of, quant_told, quants_told, table_entries, table_size, is_zero_quant};
 
 use byteorder::{BigEndian, ByteOrder};
 use jpg_base::QuantTable;
@@ -177,7 +177,7 @@ fn from_pairs(bytes: &[u8]) -> QuantTable
 
 /// Whether a quantiser is 0.
 fn has_zero(table: &QuantTable) -> bool
-    ensures { result ≡ any_of is_zero table.now }
+    ensures { result ≡ any_of is_zero_quant table.now }
 {
     table.long();
     for k in 0..64 {

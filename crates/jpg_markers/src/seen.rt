@@ -1,7 +1,7 @@
 // What segments leave behind for those after them (T.81 B.1.1, Table B.1).
 ghost use Rattle.std.specs.Prelude.{◌≡◌, ◌||◌, ◌==◌, [], Some, None, IfSome, IfNone};
 ghost use Rattle.jpg_spec.specs.Jfif.{begins_jfif, begins_adobe};
-ghost use Rattle.jpg_spec.specs.Markers.{code_fault_if, is_frame_code, is_kept_if, is_plain_adobe, is_plain_jfif, is_unexpected, is_unsupported, kept_size};
+ghost use Rattle.jpg_spec.specs.Markers.{code_fault_if, is_frame_code, is_kept_if, is_plain_adobe, is_plain_jfif, is_unexpected, is_unsupported, counted_size};
 ghost use Rattle.jpg_spec.specs.declared.frame.Limits.{Limits};
 ghost use Rattle.jpg_markers.specs.Seen.{Exceeds, HasSeen, Leaves};
 
@@ -42,7 +42,7 @@ impl Seen {
         if !is_kept(self.scanned, code, contents) {
             return Some(next);
         }
-        let size = kept_size(self.jfif, self.adobe, code, contents);
+        let size = counted_size(self.jfif, self.adobe, code, contents);
         if self.free < size {
             return None;
         }
@@ -143,8 +143,8 @@ fn is_plain_adobe(code: u8, contents: &[u8]) -> bool
 
 // What a kept segment counts: its contents and 4 bytes, but nothing where it is the first JFIF header
 // of 14 bytes or the first Adobe segment of 12.
-fn kept_size(jfif: bool, adobe: bool, code: u8, contents: &[u8]) -> u64
-    ensures { result ≡ kept_size jfif adobe (code, contents.now) }
+fn counted_size(jfif: bool, adobe: bool, code: u8, contents: &[u8]) -> u64
+    ensures { result ≡ counted_size jfif adobe (code, contents.now) }
 {
     if is_plain_jfif(code, contents) && !jfif || is_plain_adobe(code, contents) && !adobe {
         0

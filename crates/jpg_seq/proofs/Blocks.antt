@@ -9,10 +9,10 @@ use Rattle.jpg_spec.specs.Codes.{Code}
 use Rattle.jpg_spec.specs.Numbers.{category, extra_bits}
 use Rattle.jpg_spec.specs.Geometry.{Frame}
 use Rattle.jpg_spec.specs.Segments.{HuffmanTable, table_codes}
-use Rattle.jpg_spec.specs.Elements.{Coding, Element, difference, value, long_run, is_zero, are_in_bounds}
+use Rattle.jpg_spec.specs.Elements.{Coding, Element, difference, value, long_run, is_zero, are_in_bounds, predicted}
 use Rattle.jpg_spec.specs.Sending.{sent, shifted, band_elements}
 use Rattle.jpg_spec.specs.Scan.{scan_coding}
-use Rattle.jpg_spec.specs.ScanText.{UnitDue, Owned, unit_elements, with_prediction, element_bits, typical_table, code_of}
+use Rattle.jpg_spec.specs.ScanText.{UnitDue, Owned, unit_elements, element_bits, typical_table, code_of}
 use Rattle.jpg_spec.specs.GrayFile.{gray_head, typical_tables}
 use Rattle.jpg_spec.specs.Written.{IsWritable}
 use Rattle.jpg_huff.specs.Annex.{dc_luma_table, ac_luma_table}
@@ -114,7 +114,7 @@ unfolding block_bits
 units_coded [] p = refl
 units_coded (block ∷ blocks) p =
     let v = slice_index_or block 0 (pos 0) in
-    let q = with_prediction p 0 (shifted 0 v) in
+    let q = predicted p 0 (shifted 0 v) in
     let es = band_elements 1 0 [] (map (sent false 0) (drop 1 block) ∷ []) in
     let rest = unit_elements true false 0 q (due blocks) in
     let d : shifted 0 v -ℤ p 0 ≡ v -ℤ p 0 = ap (λ w. w -ℤ p 0) (shifted_none v) in

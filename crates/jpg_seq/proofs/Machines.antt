@@ -11,7 +11,7 @@ use Rattle.jpg_spec.specs.Geometry.{Frame, padded_blocks}
 use Rattle.jpg_spec.specs.declared.frame.Place.{Place}
 use Rattle.jpg_spec.proofs.Bands.{covers_then}
 use Rattle.jpg_spec.proofs.Once.{clash}
-use Rattle.jpg_spec.specs.Lists.{any_of}
+use Rattle.jpg_spec.specs.Lists.{any_of, slot_value}
 use Rattle.jpg_spec.specs.Scan.{Scan, band, block_at, coefficient}
 use Rattle.jpg_spec.specs.PictureInWork.{is_at, is_in_band, AreDistinct, UnitsRead}
 use Rattle.jpg_spec.proofs.PictureInWork.{apart_of, apart_swap, distinct_behind}
@@ -27,7 +27,7 @@ use Rattle.jpg_coefs.specs.declared.machine.UnitFault.{UnitFault}
 use Rattle.jpg_seq.specs.Stands.{standing_at, unit_in_work, open_unit}
 use Rattle.jpg_seq.specs.Work.{Work, Env, IsPartOf, Reads, Adds, StepsTo, Leads, IsLast, IsWrong, IsAtWork, no_work}
 use Rattle.jpg_seq.specs.Coder.{env_in}
-use Rattle.jpg_seq.specs.Reader.{joined, coder_at, prediction_at, behind, new_units_at, IsReadable, ReadsBy, SeqStands, sequential}
+use Rattle.jpg_seq.specs.Reader.{coder_at, prediction_at, behind, new_units_at, IsReadable, ReadsBy, SeqStands, sequential}
 use Rattle.jpg_seq.proofs.Elements.{left_at}
 
 abbrev pub env_at : SeqReader → Coder → ℕ → Env
@@ -353,7 +353,7 @@ step_fault m new p coder now after b fault first there h i bits o =
 
 -- THE TABLES OF A COMPONENT
 
-pub coder_same : (coders : List (Option Coder)) (k : ℕ) (d : Option Coder) (x y : Coder) → joined (slice_get coders k) ≡ Some y → get_or coders k d ≡ Some x → x ≡ y
+pub coder_same : (coders : List (Option Coder)) (k : ℕ) (d : Option Coder) (x y : Coder) → slot_value (slice_get coders k) ≡ Some y → get_or coders k d ≡ Some x → x ≡ y
 coder_same [] k d x y e f = absurd cc
 coder_same (o ∷ coders) zero d x y e f = some_same x y (sym f ∙ e)
 coder_same (o ∷ coders) (suc k) d x y e f = coder_same coders k d x y e f

@@ -8,7 +8,7 @@ use Rattle.std.proofs.lemmas.List.{length-set, length-map, get_or-map}
 use Rattle.std.proofs.lemmas.List.Elements.{All-weaker}
 use Rattle.std.proofs.lemmas.Bool.{cases_eq, cases_lt}
 use Rattle.std.proofs.lemmas.Bool.Decides.{nat_tests}
-use Rattle.jpg_spec.specs.Lists.{is_among, is_distinct, index_of}
+use Rattle.jpg_spec.specs.Lists.{is_among, is_distinct, index_of, slot_value}
 use Rattle.jpg_spec.specs.Elements.{Coding}
 use Rattle.jpg_spec.specs.Geometry.{Frame, bounds, is_progressive, units}
 use Rattle.jpg_spec.specs.FrameHeader.{IsFrame}
@@ -30,11 +30,11 @@ use Rattle.jpg_seq.specs.declared.work.Coder.{Coder}
 use Rattle.jpg_seq.specs.Step.{AreSane}
 use Rattle.jpg_seq.specs.Stands.{IsCodingOf}
 use Rattle.jpg_seq.specs.Plain.{in_force}
-use Rattle.jpg_seq.specs.Reader.{joined, IsReadable, ReadsBy, SeqReady}
+use Rattle.jpg_seq.specs.Reader.{IsReadable, ReadsBy, SeqReady}
 use Rattle.jpg_seq.specs.NewReader.{IsSeqScan, IsOfScan, IsCoderOf, AreFilled, part_at}
 use Rattle.jpg_seq.proofs.Forced.{valid, codes_found}
 
-at_set : (coders : List (Option Coder)) (c : ℕ) (o : Option Coder) → c < length coders → joined (slice_get (set coders c o) c) ≡ o
+at_set : (coders : List (Option Coder)) (c : ℕ) (o : Option Coder) → c < length coders → slot_value (slice_get (set coders c o) c) ≡ o
 at_set [] c o h = absurd (omega arith)
 at_set (q ∷ coders) zero None h = refl
 at_set (q ∷ coders) zero (Some x) h = refl
@@ -53,7 +53,7 @@ some_same a b e = cc
 pub none_filled : (set : TableSet) (parts : List ScanPart) → AreFilled set parts 0 (None ∷ None ∷ None ∷ None ∷ [])
 none_filled set parts = record { four = refl; found = λ k coder e. absurd (no_coder k coder e); there = λ j h. absurd (omega arith) }
   where
-    no_coder : (k : ℕ) (coder : Coder) → joined (slice_get (None ∷ None ∷ None ∷ None ∷ []) k) ≡ Some coder → ⊥
+    no_coder : (k : ℕ) (coder : Coder) → slot_value (slice_get (None ∷ None ∷ None ∷ None ∷ []) k) ≡ Some coder → ⊥
     no_coder zero coder e = cc
     no_coder (suc zero) coder e = cc
     no_coder (suc (suc zero)) coder e = cc
@@ -64,21 +64,21 @@ pub filled_more : (tables : TableSet) (parts : List ScanPart) (n : ℕ) (coders 
     → AreFilled tables parts (n + 1) (set coders (part_at parts n).component o)
 filled_more tables parts n coders o coder f small is of =
     let c = (part_at parts n).component in
-    let here : joined (slice_get (set coders c o) c) ≡ Some coder = at_set coders c o (omega (arith, f.four, small)) ∙ is in
+    let here : slot_value (slice_get (set coders c o) c) ≡ Some coder = at_set coders c o (omega (arith, f.four, small)) ∙ is in
     record {
       four = length-set coders c o ∙ f.four;
       found = λ k x e.
           ⊎_elim
-          (λ (s : k ≡ c). (let same : coder ≡ x = some_same coder x (sym here ∙ ap (λ (q : ℕ). joined (slice_get (set coders c o) q)) (sym s) ∙ e) in
+          (λ (s : k ≡ c). (let same : coder ≡ x = some_same coder x (sym here ∙ ap (λ (q : ℕ). slot_value (slice_get (set coders c o) q)) (sym s) ∙ e) in
           (n, omega arith, sym s, subst (λ (q : Coder). IsCoderOf tables (part_at parts n) q) same of)))
-          (λ (d : k ≡ c → ⊥). (let r = f.found k x (ap joined (sym (other_set coders c k o d)) ∙ e) in (r.0, omega (arith, r.1), r.2, r.3)))
+          (λ (d : k ≡ c → ⊥). (let r = f.found k x (ap slot_value (sym (other_set coders c k o d)) ∙ e) in (r.0, omega (arith, r.1), r.2, r.3)))
           (cases_eq k c);
       there = λ j h.
           ⊎_elim
-          (λ (s : (part_at parts j).component ≡ c). (coder, ap (λ (q : ℕ). joined (slice_get (set coders c o) q)) s ∙ here))
+          (λ (s : (part_at parts j).component ≡ c). (coder, ap (λ (q : ℕ). slot_value (slice_get (set coders c o) q)) s ∙ here))
           (λ (d : (part_at parts j).component ≡ c → ⊥).
           ⊎_elim
-          (λ (a : j < n). (let r = f.there j a in (r.0, ap joined (other_set coders c (part_at parts j).component o d) ∙ r.1)))
+          (λ (a : j < n). (let r = f.there j a in (r.0, ap slot_value (other_set coders c (part_at parts j).component o d) ∙ r.1)))
           (λ (b : n ≤ j). (let q : j ≡ n = omega arith in absurd (d (ap (λ (z : ℕ). (part_at parts z).component) q))))
           (cases_lt j n))
           (cases_eq (part_at parts j).component c);
@@ -164,7 +164,7 @@ new_ready f head set m frame is b filled cursor four left i of =
       small = omega (arith, o.place.component, frame.count_high);
       padded = o.place;
       coder = t.0;
-      there = ap (λ (q : ℕ). joined (slice_get m.coders q)) (sym e) ∙ t.1;
+      there = ap (λ (q : ℕ). slot_value (slice_get m.coders q)) (sym e) ∙ t.1;
     }))
     (units f ids) (units_in f ids frame is.components) in
     let G : Coding → Type 0 = λ c. ReadsBy m c in

@@ -1,6 +1,6 @@
 -- The machine of a sequential scan before its first unit.
 use Rattle.std.specs.Prelude.{◌≡◌, ℕ, ◌<◌, true, false, List, ◌++◌, length, slice_get, slice_index_or, Option, Some, All}
-use Rattle.jpg_spec.specs.Lists.{is_distinct}
+use Rattle.jpg_spec.specs.Lists.{is_distinct, slot_value}
 use Rattle.jpg_spec.specs.Geometry.{Frame, is_progressive, units}
 use Rattle.jpg_spec.specs.Segments.{ScanHead, head_components}
 use Rattle.jpg_spec.specs.Scan.{scan_coding}
@@ -14,7 +14,7 @@ use Rattle.jpg_coefs.specs.Picture.{map_of}
 use Rattle.jpg_coefs.specs.Machine.{Interval}
 use Rattle.jpg_seq.specs.declared.work.Coder.{Coder}
 use Rattle.jpg_seq.specs.Plain.{in_force}
-use Rattle.jpg_seq.specs.Reader.{joined, IsSequential}
+use Rattle.jpg_seq.specs.Reader.{IsSequential}
 
 -- the tables of a part are there
 pub record HasTables (set : TableSet) (p : ScanPart) : Type 0 where
@@ -53,5 +53,5 @@ part_at parts j = slice_index_or parts j (record { component = 0; dc = 0; ac = 0
 -- where the first parts were filled in
 pub record AreFilled (set : TableSet) (parts : List ScanPart) (n : ℕ) (coders : List (Option Coder)) : Type 0 where
   pub four : length coders ≡ 4
-  pub found : (k : ℕ) (coder : Coder) → joined (slice_get coders k) ≡ Some coder → (j : ℕ) × (j < n) × ((part_at parts j).component ≡ k) × IsCoderOf set (part_at parts j) coder
-  pub there : (j : ℕ) → j < n → (coder : Coder) × (joined (slice_get coders (part_at parts j).component) ≡ Some coder)
+  pub found : (k : ℕ) (coder : Coder) → slot_value (slice_get coders k) ≡ Some coder → (j : ℕ) × (j < n) × ((part_at parts j).component ≡ k) × IsCoderOf set (part_at parts j) coder
+  pub there : (j : ℕ) → j < n → (coder : Coder) × (slot_value (slice_get coders (part_at parts j).component) ≡ Some coder)

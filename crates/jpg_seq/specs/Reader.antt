@@ -1,5 +1,6 @@
 -- What the machine of a sequential scan stands for (T.81 F.2.2).
-use Rattle.std.specs.Prelude.{◌≡◌, ℕ, ◌+◌, ◌-◌, ◌<◌, Bool, List, [], ◌∷◌, ◌++◌, length, map, drop, slice_get, slice_set, slice_index_or, Option, None, Some, ℤ, pos, All}
+use Rattle.std.specs.Prelude.{◌≡◌, ℕ, ◌+◌, ◌-◌, ◌<◌, Bool, List, [], ◌∷◌, ◌++◌, length, map, drop, slice_get, slice_set, slice_index_or, Option, Some, ℤ, pos, All}
+use Rattle.jpg_spec.specs.Lists.{slot_value}
 use Rattle.jpg_spec.specs.Elements.{Element, Coding, UnitLeft, Covers, at_start}
 use Rattle.jpg_spec.specs.Geometry.{Frame}
 use Rattle.jpg_spec.specs.GrayFile.{new_unit}
@@ -17,12 +18,8 @@ use Rattle.jpg_seq.specs.Work.{Work, IsAtWork, Takes, no_work}
 use Rattle.jpg_seq.specs.Coder.{env_in}
 
 -- the tables of a component
-abbrev pub joined : Option (Option Coder) → Option Coder
-joined None = None
-joined (Some coder) = coder
-
 abbrev pub coder_at : SeqReader → ℕ → Option Coder
-coder_at m k = joined (slice_get m.coders k)
+coder_at m k = slot_value (slice_get m.coders k)
 
 abbrev pub prediction_at : SeqReader → ℕ → ℤ
 prediction_at m k = slice_index_or m.predictions k (pos 0)

@@ -4,7 +4,7 @@ use Rattle.std.specs.Prelude.{◌||◌, map, flat_map, nat_le, min}
 use Rattle.std.proofs.Math.Path.{fun_ext}
 use Rattle.std.proofs.lemmas.List.{append-nil, ext_get_or, get_or-drop, get_or-take, length-drop, take-append-drop, length-take}
 use Rattle.std.proofs.lemmas.List.Concat.{flat_map-append}
-use Rattle.jpg_spec.specs.Lists.{any_of, chunks, chunks_of}
+use Rattle.jpg_spec.specs.Lists.{any_of, chunks, chunks_of, joined}
 use Rattle.jpg_spec.specs.Scan.{Blocks, Scan, band, block_at, SpellsIntervals, coefficient, is_named, ScanMeans, unit_at}
 use Rattle.jpg_spec.specs.Sound.{IsSound}
 use Rattle.jpg_spec.specs.Items.{Item, segment, scan, segments_of}
@@ -14,7 +14,7 @@ use Rattle.jpg_spec.specs.declared.frame.Limits.{Limits}
 use Rattle.jpg_spec.proofs.Telling.{both, same_of, le_of}
 use Rattle.jpg_spec.proofs.Rows.{append_apart}
 use Rattle.jpg_spec.proofs.Sound.{packed_once}
-use Rattle.jpg_spec.specs.PictureInWork.{joined, is_at}
+use Rattle.jpg_spec.specs.PictureInWork.{is_at}
 use Rattle.jpg_spec.proofs.TablesInForce.{scan_sound}
 
 -- CHUNKS joined are the list

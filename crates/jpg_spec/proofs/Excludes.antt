@@ -10,7 +10,7 @@ use Rattle.jpg_spec.specs.Numbers.{category, digits}
 use Rattle.jpg_spec.specs.declared.fault.Fault.{Fault}
 use Rattle.jpg_spec.specs.Elements.{Covers, SpellsUnits, at_start, Coding, UnitLeft, Standing, Element, difference, dc_bit, value, long_run, ends, Tells, SpellsElement, codes_due, zeros_in, symbol_of, bits_behind, are_in_bounds}
 use Rattle.jpg_spec.specs.ScanFaults.{BitsShow, DataShows, BeginsNone, is_symbol}
-use Rattle.jpg_spec.specs.Told.{values_told}
+use Rattle.jpg_spec.proofs.Told.{values_told}
 use Rattle.jpg_spec.proofs.Once.{NumberFacts, IsCoding, OneWay, append_inj, clash, told_is, symbol_once, element_once, GoesOn, fronts_once, no_units, head_inj, pair_0, pair_1, zeros-append}
 
 -- one of two fronts of a list is a front of the other

@@ -7,17 +7,17 @@ use Rattle.std.proofs.lemmas.Bool.{cases_lt}
 use Rattle.std.proofs.lemmas.List.{length-append, length-map}
 use Rattle.std.proofs.lemmas.List.Elements.{All-head, All-tail}
 use Rattle.jpg_spec.specs.Bits.{stuffed}
-use Rattle.jpg_spec.specs.Lists.{any_of, is_among}
+use Rattle.jpg_spec.specs.Lists.{any_of, is_among, joined}
 use Rattle.jpg_spec.specs.Geometry.{Frame, is_progressive, units, mcu_units}
 use Rattle.jpg_spec.specs.FrameHeader.{AreLimits}
 use Rattle.jpg_spec.specs.Segments.{HuffmanTable, ScanHead, head_components}
 use Rattle.jpg_spec.specs.Scan.{Blocks, scan_coding}
 use Rattle.jpg_spec.specs.ScanText.{units_due, last_dc, intervals_text, typical_table}
-use Rattle.jpg_spec.specs.GrayFile.{gray_coding, typical_tables, end_of_image}
+use Rattle.jpg_spec.specs.GrayFile.{gray_coding, typical_tables}
+use Rattle.jpg_spec.specs.Markers.{eoi}
 use Rattle.jpg_spec.specs.Meaning.{Meaning, PictureComponent, colour_of}
 use Rattle.jpg_spec.specs.Script.{Entry}
 use Rattle.jpg_spec.specs.Written.{IsWritable}
-use Rattle.jpg_spec.specs.PictureInWork.{joined}
 use Rattle.jpg_spec.specs.FileText.{Written, nothing_written, Restart, segment_text, front_text, frame_of_meaning, head_text, tables_text, tables_given, with_table, holds_table, interval_of, scans_text, file_text}
 use Rattle.jpg_spec.specs.WrittenFile.{HasQuants, IsHeaded, is_sequential_entry, is_script_behind}
 use Rattle.jpg_spec.specs.declared.frame.Place.{Place}
@@ -245,5 +245,5 @@ sequential_short limits H script restart limited headed sequential passes =
     let scans = scans_long H restart nothing_written [] script fit passes in
     let left = left_most (length f.components) [] in
     let a = length-append (front_text H) (scans_text H restart nothing_written script) in
-    let b = length-append (front_text H ++ scans_text H restart nothing_written script) end_of_image in
+    let b = length-append (front_text H ++ scans_text H restart nothing_written script) eoi in
     omega (arith, front, headed.count, limited.kept, scans, left, is.count_high, a, b)

@@ -16,7 +16,7 @@ use Rattle.jpg_spec.specs.declared.frame.Limits.{Limits}
 use Rattle.jpg_spec.proofs.MarkersOnce.{segment_once}
 use Rattle.jpg_spec.proofs.HeadersOnce.{SpellsItems}
 use Rattle.jpg_spec.specs.FileStands.{Completes, StandsInside}
-use Rattle.jpg_spec.specs.ScanReading.{BeginsMarker}
+use Rattle.jpg_spec.specs.ScanReading.{LeadingMarker}
 use Rattle.jpg_spec.proofs.ScansOnce.{At}
 use Rattle.jpg_spec.proofs.ScansExclude.{Closes, IsCalm, closed_not_calm, ended_not_standing, closed_once}
 use Rattle.jpg_spec.proofs.TablesInForce.{scan_sound}
@@ -63,47 +63,50 @@ inside_head limits bytes tail rest i = record {
 
 -- WHAT STANDS BEHIND A WHOLE SCAN
 
-segment_marker : (code : ℕ) (contents bytes x : List ℕ) → SpellsSegment code contents bytes → BeginsMarker (bytes ++ x)
-segment_marker code contents bytes x s = (
-  code,
-  s.0,
-  (to_be_bytes w16 (length contents + 2) ++ contents) ++ x,
-  s.1,
-  ap (λ l. l ++ x) (s.3 ∙ append_assoc s.0 (to_be_bytes w16 (length contents + 2)) contents) ∙ append_assoc s.0 (to_be_bytes w16 (length contents + 2) ++ contents) x,
-)
+segment_marker : (code : ℕ) (contents bytes x : List ℕ) → SpellsSegment code contents bytes → LeadingMarker (bytes ++ x)
+segment_marker code contents bytes x s = record {
+  code = code;
+  marker = s.0;
+  rest = (to_be_bytes w16 (length contents + 2) ++ contents) ++ x;
+  spelled = s.1;
+  cut = ap (λ l. l ++ x) (s.3 ∙ append_assoc s.0 (to_be_bytes w16 (length contents + 2)) contents) ∙ append_assoc s.0 (to_be_bytes w16 (length contents + 2) ++ contents) x;
+}
 
-begins_more : (a x : List ℕ) → BeginsMarker a → BeginsMarker (a ++ x)
-begins_more a x b = (b.0, b.1, b.2 ++ x, b.3, ap (λ l. l ++ x) b.4 ∙ append_assoc b.1 b.2 x)
+last_marker : (code : ℕ) (tail : List ℕ) → SpellsMarker code tail → LeadingMarker tail
+last_marker code tail m = record { code = code; marker = tail; rest = []; spelled = m; cut = sym (append-nil tail) }
 
-item_marker : (first : Item) (here x : List ℕ) → SpellsItem first here → BeginsMarker (here ++ x)
+begins_more : (a x : List ℕ) → LeadingMarker a → LeadingMarker (a ++ x)
+begins_more a x b = record { code = b.code; marker = b.marker; rest = b.rest ++ x; spelled = b.spelled; cut = ap (λ l. l ++ x) b.cut ∙ append_assoc b.marker b.rest x }
+
+item_marker : (first : Item) (here x : List ℕ) → SpellsItem first here → LeadingMarker (here ++ x)
 item_marker (segment c xs) here x s = segment_marker c xs here x s.0
 item_marker (scan xs m) here x s =
-    let b = begins_more (s.0 ++ s.1) x (begins_more s.0 s.1 (subst (λ l. BeginsMarker l) (append-nil s.0) (segment_marker 0xda xs s.0 [] s.3))) in
-    subst (λ l. BeginsMarker (l ++ x)) (sym s.2) b
+    let b = begins_more (s.0 ++ s.1) x (begins_more s.0 s.1 (subst (λ l. LeadingMarker l) (append-nil s.0) (segment_marker 0xda xs s.0 [] s.3))) in
+    subst (λ l. LeadingMarker (l ++ x)) (sym s.2) b
 
-items_marker : (x : Item) (xs : List Item) (text v : List ℕ) → SpellsItems (x ∷ xs) text → BeginsMarker (text ++ v)
+items_marker : (x : Item) (xs : List Item) (text v : List ℕ) → SpellsItems (x ∷ xs) text → LeadingMarker (text ++ v)
 items_marker x xs text v s =
     let o = oldest_item x xs text s in
-    subst (λ l. BeginsMarker l) (sym (ap (λ l. l ++ v) o.cut ∙ append_assoc o.here o.rest v)) (item_marker o.first o.here (o.rest ++ v) o.spelled)
+    subst (λ l. LeadingMarker l) (sym (ap (λ l. l ++ v) o.cut ∙ append_assoc o.here o.rest v)) (item_marker o.first o.here (o.rest ++ v) o.spelled)
 
 clash : (b : Bool) → b ≡ true → b ≡ false → ⊥
 clash b e f = cc
 
-ends_marker : (limits : Limits) (items : List Item) (tail : List ℕ) → Ends limits items tail → ends_in_scan items ≡ true → BeginsMarker tail
+ends_marker : (limits : Limits) (items : List Item) (tail : List ℕ) → Ends limits items tail → ends_in_scan items ≡ true → LeadingMarker tail
 ends_marker limits items tail (inl (fault, inl k)) e = absurd (clash (ends_in_scan items) e k.1)
-ends_marker limits items tail (inl (fault, inr (inl (inl k)))) e = (k.0, tail, [], k.1, sym (append-nil tail))
-ends_marker limits items tail (inl (fault, inr (inl (inr (inl k))))) e = let q = k.1 in (q.0, q.1, q.2 ∷ q.3 ∷ [], q.4.0, q.5)
-ends_marker limits items tail (inl (fault, inr (inl (inr (inr k))))) e = subst (λ l. BeginsMarker l) (append-nil tail) (segment_marker k.0 k.1 tail [] k.2)
-ends_marker limits items tail (inl (fault, inr (inr k))) e = (0xd9, tail, [], k.1, sym (append-nil tail))
-ends_marker limits items tail (inr k) e = (0xd9, tail, [], k.0, sym (append-nil tail))
+ends_marker limits items tail (inl (fault, inr (inl (inl k)))) e = last_marker k.0 tail k.1
+ends_marker limits items tail (inl (fault, inr (inl (inr (inl k))))) e = let q = k.1 in record { code = q.0; marker = q.1; rest = q.2 ∷ q.3 ∷ []; spelled = q.4.0; cut = q.5 }
+ends_marker limits items tail (inl (fault, inr (inl (inr (inr k))))) e = subst (λ l. LeadingMarker l) (append-nil tail) (segment_marker k.0 k.1 tail [] k.2)
+ends_marker limits items tail (inl (fault, inr (inr k))) e = last_marker 0xd9 tail k.1
+ends_marker limits items tail (inr k) e = last_marker 0xd9 tail k.0
 
 abbrev pub IsQuiet : List ℕ → Type 0
-IsQuiet u = ((fill : ℕ) × (u ≡ replicate fill 255)) ⊎ BeginsMarker u
+IsQuiet u = ((fill : ℕ) × (u ≡ replicate fill 255)) ⊎ LeadingMarker u
 
 goes_quiet : (items : List Item) (tail : List ℕ) → Goes items tail → IsQuiet tail
-goes_quiet items tail (inl k) = inr (k.0, tail, [], k.1.0, sym (append-nil tail))
+goes_quiet items tail (inl k) = inr (last_marker k.0 tail k.1.0)
 goes_quiet items tail (inr (inl k)) = inl k
-goes_quiet items tail (inr (inr k)) = let q = by k.3 in inr (k.0, k.1, q.0, q.1, q.2)
+goes_quiet items tail (inr (inr k)) = let q = by k.3 in inr (record { code = k.0; marker = k.1; rest = q.0; spelled = q.1; cut = q.2 })
   where
     by : ((tail ≡ k.1) × (is_frame_code k.0 ≡ false)) ⊎ (((high : ℕ) × (tail ≡ k.1 ++ high ∷ []) × (high < 256))
         ⊎ ((high : ℕ) × (low : ℕ) × (contents : List ℕ) × (tail ≡ k.1 ++ high ∷ low ∷ contents) × (high < 256) × (low < 256) × (length contents + 2 < two_bytes high low)))
@@ -152,8 +155,8 @@ next_quiet : (items later : List Item) (text v : List ℕ) → SpellsItems later
 next_quiet items [] text v s quiet = subst (λ l. IsQuiet (l ++ v)) (sym s) (quiet refl)
 next_quiet items (x ∷ later) text v s quiet = inr (items_marker x later text v s)
 
-next_marker : (items later : List Item) (text v : List ℕ) → SpellsItems later text → (later ≡ [] → BeginsMarker v) → BeginsMarker (text ++ v)
-next_marker items [] text v s quiet = subst (λ l. BeginsMarker (l ++ v)) (sym s) (quiet refl)
+next_marker : (items later : List Item) (text v : List ℕ) → SpellsItems later text → (later ≡ [] → LeadingMarker v) → LeadingMarker (text ++ v)
+next_marker items [] text v s quiet = subst (λ l. LeadingMarker (l ++ v)) (sym s) (quiet refl)
 next_marker items (x ∷ later) text v s quiet = items_marker x later text v s
 
 scan_last : (first : Item) (items items' later : List Item) (contents : List ℕ) (intervals : List (List ℕ)) → first ≡ scan contents intervals → items' ≡ later ++ first ∷ items → later ≡ [] → ends_in_scan items' ≡ true
@@ -205,7 +208,7 @@ ends_apart limits a b x items items' tail tail' w k w' l e =
 
 -- behind items, and inside a scan: what ends there goes on with no scan, and its items don't end inside one
 ends_meet_inside : (limits : Limits) (a b x y : List ℕ) (items : List Item) (tail tail' : List ℕ) → BehindItems limits a items tail → Ends limits items tail → (i : InsideScan limits b tail') → a ++ x ≡ b ++ y
-    → (first : Item) × (v : List ℕ) × NextScan limits i.items i.contents i.blocks (i.text ++ (tail' ++ y)) first v × BeginsMarker v
+    → (first : Item) × (v : List ℕ) × NextScan limits i.items i.contents i.blocks (i.text ++ (tail' ++ y)) first v × LeadingMarker v
 ends_meet_inside limits a b x y items tail tail' w k i e =
     by (meet limits items i.items w.front i.front (tail ++ x) u w.blocks i.blocks w.spelled i.spelled w.leads i.leads (sym (behind_stream limits a x items tail w) ∙ e ∙ inside_stream limits b y tail' i))
   where
@@ -215,7 +218,7 @@ ends_meet_inside limits a b x y items tail tail' w k i e =
     u : List ℕ
     u = i.head ++ rest
 
-    by : Meets limits items (tail ++ x) i.items u → (first : Item) × (v : List ℕ) × NextScan limits i.items i.contents i.blocks rest first v × BeginsMarker v
+    by : Meets limits items (tail ++ x) i.items u → (first : Item) × (v : List ℕ) × NextScan limits i.items i.contents i.blocks rest first v × LeadingMarker v
     by (inl s) = absurd (ends_not_head limits items tail x u k (subst (λ z. HasHead limits (segments_of z) u) (sym s.0) (inside_head limits b tail' rest i)) s.1)
     by (inr (inl g)) = absurd (ends_not_head limits items tail x (tail ++ x) k (next_head limits items i.items (tail ++ x) u g) refl)
     by (inr (inr g)) =
@@ -277,7 +280,7 @@ one_header limits a b tail tail' r r' i j e = let h = segment_once 0xda 0xda i.c
 
 -- a place that closes is met by no scan that goes on
 closed_meets_next : (limits : Limits) (a tail x : List ℕ) (fault : Fault) (i : InsideScan limits a tail) (items' : List Item) (v : List ℕ) → ScanShows limits a fault tail i
-    → HasNext limits i.items (i.head ++ (i.text ++ (tail ++ x))) items' v → BeginsMarker v → ⊥
+    → HasNext limits i.items (i.head ++ (i.text ++ (tail ++ x))) items' v → LeadingMarker v → ⊥
 closed_meets_next limits a tail x fault i items' v c g m =
     let rest = i.text ++ (tail ++ x) in
     let n = next_in limits a tail rest i (i.head ++ rest) items' v refl g in

@@ -20,7 +20,7 @@ use Rattle.jpg_spec.specs.declared.frame.Place.{Place}
 use Rattle.jpg_spec.proofs.Telling.{same_of}
 use Rattle.jpg_spec.proofs.MarkersOnce.{segment_once, byte_no_marker, stuffed_no_marker}
 use Rattle.jpg_spec.specs.FileStands.{FileStands}
-use Rattle.jpg_spec.specs.ScanReading.{BeginsMarker, Beside, ScanPlace, scan_at, scan_item, ScanAt}
+use Rattle.jpg_spec.specs.ScanReading.{LeadingMarker, Beside, ScanPlace, scan_at, scan_item, ScanAt}
 use Rattle.jpg_spec.proofs.ScanSteps.{scan_ends, first_place}
 
 -- FILL BYTES before a marker
@@ -147,21 +147,21 @@ beside_more limits rule sent bytes items tail more w = record {
   };
   plain = ⊎_elim
       (λ (p : (w.fill ≡ 0) × (ends_in_scan items ≡ false)). inl p)
-      (λ (b : BeginsMarker tail). inr (b.0, b.1, b.2 ++ more, b.3, ap (λ l. l ++ more) b.4 ∙ append_assoc b.1 b.2 more)) w.plain;
+      (λ (b : LeadingMarker tail). inr (record { code = b.code; marker = b.marker; rest = b.rest ++ more; spelled = b.spelled; cut = ap (λ l. l ++ more) b.cut ∙ append_assoc b.marker b.rest more })) w.plain;
 }
 
 -- ANSWERS
 
-no_marker_begins : (tail : List ℕ) → NoMarkerBytes tail → BeginsMarker tail → ⊥
-no_marker_begins tail (inl s) b = byte_no_marker s.0 b.0 b.1 [] b.2 s.2 b.3 (sym s.1 ∙ b.4)
-no_marker_begins tail (inr s) b = stuffed_no_marker s.0 b.0 b.1 [] b.2 b.3 (append-nil (replicate (suc s.0) 255 ++ 0 ∷ []) ∙ sym s.1 ∙ b.4)
+no_marker_begins : (tail : List ℕ) → NoMarkerBytes tail → LeadingMarker tail → ⊥
+no_marker_begins tail (inl s) b = byte_no_marker s.0 b.code b.marker [] b.rest s.2 b.spelled (sym s.1 ∙ b.cut)
+no_marker_begins tail (inr s) b = stuffed_no_marker s.0 b.code b.marker [] b.rest b.spelled (append-nil (replicate (suc s.0) 255 ++ 0 ∷ []) ∙ sym s.1 ∙ b.cut)
 
 -- the fault that the reader of segments finds
 pub segment_shown : (limits : Limits) (sent bytes : List ℕ) (items : List Item) (fault : Fault) (tail : List ℕ) → Beside limits (kept_rule limits) sent bytes items tail
     → ((fault ≡ NoMarker) × NoMarkerBytes tail) ⊎ TailShows (kept_rule limits) (segments_of items) fault tail → Shows limits fault bytes
 segment_shown limits sent bytes items fault tail w (inl s) = by w.plain
   where
-    by : ((w.fill ≡ 0) × (ends_in_scan items ≡ false)) ⊎ BeginsMarker tail → Shows limits fault bytes
+    by : ((w.fill ≡ 0) × (ends_in_scan items ≡ false)) ⊎ LeadingMarker tail → Shows limits fault bytes
     by (inl p) = inr (inl (items, replicate w.fill 255 ++ tail, w.behind, inl (s.0, p.1, subst (λ n. NoMarkerBytes (replicate n 255 ++ tail)) (sym p.0) s.1)))
     by (inr b) = absurd (no_marker_begins tail s.1 b)
 segment_shown limits sent bytes items fault tail w (inr s) =
@@ -244,7 +244,7 @@ scan_left limits rule sent bytes p after fill code w marker means between =
           spelled = e.spelled;
           leads = e.leads;
         };
-        plain = inr (code, last, [], marker, refl);
+        plain = inr (record { code = code; marker = last; rest = []; spelled = marker; cut = refl });
       },
       (p.blocks, w.allowed.0, w.allowed.1, w.leads, means),
     )

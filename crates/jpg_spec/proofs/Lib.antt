@@ -89,6 +89,7 @@ pub mod TablesInForce
 pub mod TailsOnce
 pub mod Strips
 pub mod Telling
+pub mod Told
 pub mod Transforming
 pub mod Turned
 pub mod UnitsCount

@@ -8,7 +8,7 @@ use Rattle.jpg_spec.specs.Bits.{bits_of}
 use Rattle.jpg_spec.specs.Codes.{Code}
 use Rattle.jpg_spec.specs.Numbers.{category, digits, extra_bits}
 use Rattle.jpg_spec.specs.Elements.{Coding, UnitLeft, Standing, Covers, predictions_after, Element, difference, dc_bit, value, long_run, ends, Tells, SpellsElement, codes_due, zeros_in, nonzeros_in, is_zero, scaled, corrected, going_on, old_values, bits_behind}
-use Rattle.jpg_spec.specs.Told.{before_zero, behind_zero, long_passed, long_left, values_told, units_after}
+use Rattle.jpg_spec.proofs.Told.{before_zero, behind_zero, long_passed, long_left, values_told, units_after}
 
 -- WHAT IS PASSED is told by the run
 

@@ -9,7 +9,8 @@ use Rattle.std.proofs.lemmas.List.Elements.{All-head, All-tail}
 use Rattle.jpg_spec.specs.Bits.{Packs, SpellsByte, SpellsData, IsMarkerCode}
 use Rattle.jpg_spec.specs.Elements.{SpellsUnits}
 use Rattle.jpg_spec.specs.FileText.{segment_text}
-use Rattle.jpg_spec.specs.GrayFile.{Gray, IsGray, IsWholeSide, SpellsGray, start_of_image, plain_jfif, plain_frame, gray_front, end_of_image, gray_frame, gray_head, gray_coding, typical_tables, new_unit}
+use Rattle.jpg_spec.specs.GrayFile.{Gray, IsGray, IsWholeSide, SpellsGray, plain_jfif, plain_frame, gray_front, gray_frame, gray_head, gray_coding, typical_tables, new_unit}
+use Rattle.jpg_spec.specs.Markers.{soi, eoi}
 use Rattle.jpg_spec.proofs.Sound.{sound, typical_valid, packed_once}
 use Rattle.jpg_spec.proofs.Rows.{append_apart}
 use Rattle.jpg_spec.proofs.PlainText.{dc_segment, ac_segment, scan_segment}
@@ -92,23 +93,23 @@ regroup : (p q f d a s text e rest : List ℕ) → ((((((((p ++ q) ++ f) ++ d) +
 regroup p q f d a s text e rest = simp append_assoc
 
 first_segments : List ℕ
-first_segments = start_of_image ++ segment_text 0xe0 plain_jfif
+first_segments = soi ++ segment_text 0xe0 plain_jfif
 
-file_is : (g : Gray) (text rest : List ℕ) → (gray_front g.width g.height g.quants ++ text ++ end_of_image) ++ rest
-    ≡ first_segments ++ (segment_text 0xdb (0 ∷ g.quants) ++ (segment_text 0xc0 (plain_frame g.width g.height) ++ (dc_segment ++ (ac_segment ++ (scan_segment ++ (text ++ (end_of_image ++ rest)))))))
+file_is : (g : Gray) (text rest : List ℕ) → (gray_front g.width g.height g.quants ++ text ++ eoi) ++ rest
+    ≡ first_segments ++ (segment_text 0xdb (0 ∷ g.quants) ++ (segment_text 0xc0 (plain_frame g.width g.height) ++ (dc_segment ++ (ac_segment ++ (scan_segment ++ (text ++ (eoi ++ rest)))))))
 unfolding first_segments dc_segment ac_segment scan_segment
 file_is g text rest =
-    regroup first_segments (segment_text 0xdb (0 ∷ g.quants)) (segment_text 0xc0 (plain_frame g.width g.height)) dc_segment ac_segment scan_segment text end_of_image rest
+    regroup first_segments (segment_text 0xdb (0 ∷ g.quants)) (segment_text 0xc0 (plain_frame g.width g.height)) dc_segment ac_segment scan_segment text eoi rest
 
 -- one front tells the sides and the quantisers
 pub record SameFront (g h : Gray) (text more rest last : List ℕ) : Type 0 where
   pub width : g.width ≡ h.width
   pub height : g.height ≡ h.height
   pub quants : g.quants ≡ h.quants
-  pub behind : text ++ (end_of_image ++ rest) ≡ more ++ (end_of_image ++ last)
+  pub behind : text ++ (eoi ++ rest) ≡ more ++ (eoi ++ last)
 
 fronts_apart : (g h : Gray) (text more rest last : List ℕ) → IsGray g → IsGray h
-    → (gray_front g.width g.height g.quants ++ text ++ end_of_image) ++ rest ≡ (gray_front h.width h.height h.quants ++ more ++ end_of_image) ++ last → SameFront g h text more rest last
+    → (gray_front g.width g.height g.quants ++ text ++ eoi) ++ rest ≡ (gray_front h.width h.height h.quants ++ more ++ eoi) ++ last → SameFront g h text more rest last
 fronts_apart g h text more rest last a b e =
     let e1 = append_cancel_left first_segments _ _ (sym (file_is g text rest) ∙ e ∙ file_is h more last) in
     let q = segment_apart 0xdb (0 ∷ g.quants) (0 ∷ h.quants) _ _ (omega (arith, a.quants.0, b.quants.0)) e1 in
@@ -168,4 +169,4 @@ one_file g h front other rest last s t e =
     let told = packed_once gray_coding (map (λ block. new_unit 0) g.blocks) (flat_map (λ block. block) g.blocks) (flat_map (λ block. block) h.blocks) s.bits t.bits s.coded
     (sound (gray_frame 8 8) typical_tables gray_head typical_valid) s.packed s.spelled packed spelled in
     let same : g ≡ h = same_gray g h f.width f.height f.quants (blocks_apart g.blocks h.blocks count s.is_gray.blocks.1 t.is_gray.blocks.1 told.0) in
-    (same, s.cut ∙ ap (λ (k : Gray). gray_front k.width k.height k.quants ++ s.text ++ end_of_image) same ∙ ap (λ l. gray_front h.width h.height h.quants ++ l ++ end_of_image) d.1 ∙ sym t.cut)
+    (same, s.cut ∙ ap (λ (k : Gray). gray_front k.width k.height k.quants ++ s.text ++ eoi) same ∙ ap (λ l. gray_front h.width h.height h.quants ++ l ++ eoi) d.1 ∙ sym t.cut)

@@ -9,7 +9,7 @@ use Rattle.jpg_spec.specs.Bits.{bits_of}
 use Rattle.jpg_spec.specs.Codes.{Code}
 use Rattle.jpg_spec.specs.Numbers.{category, extra_bits, digits}
 use Rattle.jpg_spec.specs.Elements.{Coding, UnitLeft, Standing, Element, difference, value, long_run, ends, Tells, SpellsElement, codes_due, is_zero, zeros_in, nonzeros_in, old_values, scaled, corrected, going_on}
-use Rattle.jpg_spec.specs.Told.{before_zero, behind_zero}
+use Rattle.jpg_spec.proofs.Told.{before_zero, behind_zero}
 use Rattle.jpg_spec.specs.Parts.{BeginsCode, IsFront, InCode, InDifference, InNumber, InCount, InValue, InLong, InEnds, WantsCorrection, PartOfElement, in_code, in_difference, in_number, in_count, in_value, in_long, in_ends}
 use Rattle.jpg_spec.proofs.Facts.{facts}
 use Rattle.jpg_spec.proofs.ExtraBits.{number_of_bits, value_of_bits}

@@ -5,7 +5,7 @@ use Rattle.std.proofs.lemmas.Bool.Decides.{nat_tests}
 use Rattle.std.proofs.lemmas.List.{append_assoc, append-nil, length-append}
 use Rattle.std.proofs.lemmas.List.Concat.{flat_map-append}
 use Rattle.jpg_spec.specs.Bits.{Packs, bits_of, bits_of_bytes}
-use Rattle.jpg_spec.specs.Lists.{any_of, chunks}
+use Rattle.jpg_spec.specs.Lists.{any_of, chunks, joined}
 use Rattle.jpg_spec.specs.Elements.{Coding, UnitLeft, SpellsUnits, at_start}
 use Rattle.jpg_spec.specs.Scan.{Blocks, Scan, unit_at, band, block_at, SpellsInterval, SpellsIntervals, coefficient, is_named, ScanMeans}
 use Rattle.jpg_spec.specs.ScanFaults.{DataShows}
@@ -17,7 +17,7 @@ use Rattle.jpg_spec.specs.declared.frame.Limits.{Limits}
 use Rattle.jpg_spec.proofs.Strings.{length-bits_of}
 use Rattle.jpg_spec.proofs.SingleFrame.{neither}
 use Rattle.jpg_spec.specs.Parts.{StandsInUnits, in_code}
-use Rattle.jpg_spec.specs.PictureInWork.{is_at, AreDistinct, joined, IntervalRead, ScanSoFar}
+use Rattle.jpg_spec.specs.PictureInWork.{is_at, AreDistinct, IntervalRead, ScanSoFar}
 use Rattle.jpg_spec.proofs.BlocksOnce.{joined_chunks}
 use Rattle.jpg_spec.proofs.DataFacts.{bits_join, shows_more}
 

@@ -3,12 +3,12 @@ use Rattle.std.proofs.Common.{◌≡◌, ℕ, zero, suc, Bool, true, false, cond
 use Rattle.std.specs.Prelude.{◌||◌, map, flat_map, int_le, nat_abs, slice_index_or}
 use Rattle.std.specs.List.{All}
 use Rattle.std.proofs.lemmas.List.Elements.{All-nil, All-cons}
-use Rattle.jpg_spec.specs.Lists.{any_of}
+use Rattle.jpg_spec.specs.Lists.{any_of, joined}
 use Rattle.jpg_spec.specs.Elements.{Coding, are_in_bounds, zeros}
 use Rattle.jpg_spec.specs.Scan.{Blocks, block_at}
 use Rattle.jpg_spec.specs.ScanText.{units_due, last_dc}
 use Rattle.jpg_spec.specs.Written.{IsWritable}
-use Rattle.jpg_spec.specs.PictureInWork.{is_at, AreDistinct, joined}
+use Rattle.jpg_spec.specs.PictureInWork.{is_at, AreDistinct}
 use Rattle.jpg_spec.specs.declared.frame.Place.{Place}
 use Rattle.jpg_spec.proofs.Telling.{both}
 use Rattle.jpg_spec.proofs.SingleFrame.{neither}

@@ -9,7 +9,7 @@ use Rattle.std.proofs.lemmas.Grind.{flat_map-append}
 use Rattle.std.proofs.lemmas.List.Elements.{All-head, All-tail}
 use Rattle.std.proofs.lemmas.List.Folds.{flat_map-map}
 use Rattle.jpg_spec.specs.Bits.{data_of}
-use Rattle.jpg_spec.specs.Lists.{are_equal, below}
+use Rattle.jpg_spec.specs.Lists.{are_equal, below, joined}
 use Rattle.jpg_spec.specs.Geometry.{Frame, units, div_up, place}
 use Rattle.jpg_spec.specs.Elements.{zeros}
 use Rattle.jpg_spec.specs.Scan.{Blocks, block_at}
@@ -18,12 +18,13 @@ use Rattle.jpg_spec.specs.Meaning.{Meaning}
 use Rattle.jpg_spec.specs.Moves.{is_wide, headed}
 use Rattle.jpg_spec.specs.Script.{sequential_script}
 use Rattle.jpg_spec.specs.FileText.{segment_text, slot_in, quant_text, quants_text, frame_text, frame_of_meaning, scans_text, file_text, off, nothing_written, kept_text}
-use Rattle.jpg_spec.specs.GrayFile.{Gray, IsGray, across, down, gray_meaning, gray_frame, gray_head, gray_front, plain_frame, plain_jfif, end_of_image, sequential_text, flipped_gray, turned_text}
+use Rattle.jpg_spec.specs.GrayFile.{Gray, IsGray, across, down, gray_meaning, gray_frame, gray_head, gray_front, plain_frame, plain_jfif, sequential_text, flipped_gray, turned_text}
+use Rattle.jpg_spec.specs.Markers.{eoi}
 use Rattle.jpg_spec.specs.Written.{sequential_bits, plain_bits}
 use Rattle.jpg_spec.specs.Typical.{dc_luma_counts, dc_luma_values, ac_luma_counts, ac_luma_values}
 use Rattle.jpg_spec.specs.declared.frame.Place.{Place}
 use Rattle.jpg_spec.specs.declared.frame.Process.TheVariants.{Baseline, Extended}
-use Rattle.jpg_spec.proofs.Rows.{map_map, joined, flat_map_map, by_items, at_row, row_is}
+use Rattle.jpg_spec.proofs.Rows.{map_map, flat_map_map, by_items, at_row, row_is}
 use Rattle.jpg_spec.proofs.Turned.{lt_yes, grid, grid_at, rows_of, rows_cut, flipped_is, flipped_meaning_is}
 
 -- THE UNITS
@@ -195,21 +196,21 @@ unfolding front_text dc_segment ac_segment scan_segment
 front_is g = refl
 
 file_is : (g : Gray) → file_text (headed_gray g) (sequential_script (frame_of_meaning (headed_gray g))) off
-    ≡ (front_text (quants_text (headed_gray g)) (frame_text (headed_gray g)) ++ scans_text (headed_gray g) off nothing_written (sequential_script (frame_of_meaning (headed_gray g)))) ++ end_of_image
+    ≡ (front_text (quants_text (headed_gray g)) (frame_text (headed_gray g)) ++ scans_text (headed_gray g) off nothing_written (sequential_script (frame_of_meaning (headed_gray g)))) ++ eoi
 unfolding file_text front_text
 file_is g = refl
 
-pub plain_text : (g : Gray) → IsGray g → sequential_text (headed (gray_meaning g)) ≡ gray_front g.width g.height g.quants ++ data_of (plain_bits g.blocks) ++ end_of_image
+pub plain_text : (g : Gray) → IsGray g → sequential_text (headed (gray_meaning g)) ≡ gray_front g.width g.height g.quants ++ data_of (plain_bits g.blocks) ++ eoi
 plain_text g is =
     let front = front_text (segment_text 0xdb (0 ∷ g.quants)) (segment_text 0xc0 (plain_frame g.width g.height)) in
     let coded = data_of (plain_bits g.blocks) in
     ap sequential_text (headed_is g is) ∙ file_is g
-    ∙ ap (λ t. (front_text t (frame_text (headed_gray g)) ++ scans_text (headed_gray g) off nothing_written (sequential_script (frame_of_meaning (headed_gray g)))) ++ end_of_image) (quants_is g is)
-    ∙ ap (λ t. (front_text (segment_text 0xdb (0 ∷ g.quants)) t ++ scans_text (headed_gray g) off nothing_written (sequential_script (frame_of_meaning (headed_gray g)))) ++ end_of_image) (frame_text_is g)
-    ∙ ap (λ t. (front ++ t) ++ end_of_image) (scans_are g ∙ ap (λ f. scan_in f (gray_meaning g).blocks) (frame_is g) ∙ scan_is g is)
-    ∙ regroup front dc_segment ac_segment scan_segment coded end_of_image
-    ∙ ap (λ t. (t ++ coded) ++ end_of_image) (front_is g)
+    ∙ ap (λ t. (front_text t (frame_text (headed_gray g)) ++ scans_text (headed_gray g) off nothing_written (sequential_script (frame_of_meaning (headed_gray g)))) ++ eoi) (quants_is g is)
+    ∙ ap (λ t. (front_text (segment_text 0xdb (0 ∷ g.quants)) t ++ scans_text (headed_gray g) off nothing_written (sequential_script (frame_of_meaning (headed_gray g)))) ++ eoi) (frame_text_is g)
+    ∙ ap (λ t. (front ++ t) ++ eoi) (scans_are g ∙ ap (λ f. scan_in f (gray_meaning g).blocks) (frame_is g) ∙ scan_is g is)
+    ∙ regroup front dc_segment ac_segment scan_segment coded eoi
+    ∙ ap (λ t. (t ++ coded) ++ eoi) (front_is g)
 
 -- THE LAW: the turned file
-pub turned_plain : (g : Gray) → IsGray g → turned_text g ≡ gray_front g.width g.height g.quants ++ data_of (plain_bits (flipped_gray g).blocks) ++ end_of_image
+pub turned_plain : (g : Gray) → IsGray g → turned_text g ≡ gray_front g.width g.height g.quants ++ data_of (plain_bits (flipped_gray g).blocks) ++ eoi
 turned_plain g is = ap (λ M. sequential_text (headed M)) (sym (flipped_meaning_is g is)) ∙ plain_text (flipped_gray g) (flipped_is g is)

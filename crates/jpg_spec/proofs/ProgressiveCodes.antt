@@ -5,9 +5,9 @@ use Rattle.std.proofs.lemmas.Bool.{cases_eq}
 use Rattle.std.proofs.lemmas.Bool.Decides.{nat_tests}
 use Rattle.jpg_spec.specs.Lists.{is_empty, is_among, below}
 use Rattle.jpg_spec.specs.Segments.{ScanHead, table_codes}
-use Rattle.jpg_spec.specs.Elements.{Coding, Element, long_run, is_dc_bit, symbol_of}
+use Rattle.jpg_spec.specs.Elements.{Coding, Element, long_run, is_dc_bit, symbol_of, predicted}
 use Rattle.jpg_spec.specs.Sending.{Sent, correction, newly, shifted, up_to_last, behind_last, corrections_of, value_elements, ended, band_elements}
-use Rattle.jpg_spec.specs.ScanText.{UnitDue, Owned, unit_elements, with_prediction, is_dc, table_of, symbols_used, flat_table}
+use Rattle.jpg_spec.specs.ScanText.{UnitDue, Owned, unit_elements, is_dc, table_of, symbols_used, flat_table}
 use Rattle.jpg_spec.proofs.Telling.{same_of}
 use Rattle.jpg_spec.proofs.Rows.{at_below, length_below}
 use Rattle.jpg_spec.proofs.Small.{few_digits, IsDc, dc_category}
@@ -176,7 +176,7 @@ differences al p (u ∷ due) l dcs h =
     let w = shifted al (slice_index_or u.1 0 (pos 0)) in
     let d = dc_shifted al (slice_index_or u.1 0 (pos 0)) l h.0 in
     let few = dc_category w (p u.0) d (dcs u.0) in
-    (record { dc = refl; coded = refl; byte = omega (arith, few) }, differences al (with_prediction p u.0 w) due l (λ j. on j (j == u.0) d) h.1)
+    (record { dc = refl; coded = refl; byte = omega (arith, few) }, differences al (predicted p u.0 w) due l (λ j. on j (j == u.0) d) h.1)
   where
     on : (j : ℕ) (b : Bool) → IsDc (shifted al (slice_index_or u.1 0 (pos 0))) → IsDc (cond b (shifted al (slice_index_or u.1 0 (pos 0))) (p j))
     on j true d = d

@@ -10,12 +10,12 @@ use Rattle.jpg_spec.specs.FrameHeader.{AreLimits}
 use Rattle.jpg_spec.specs.Segments.{ScanHead, head_components}
 use Rattle.jpg_spec.specs.Scan.{Blocks, Scan, TablesInForce, codes_of, part_of, scan_coding, scan_of, band, block_at, unit_at, SpellsInterval, SpellsIntervals}
 use Rattle.jpg_spec.specs.ScanText.{intervals_text, symbols_used}
-use Rattle.jpg_spec.specs.GrayFile.{end_of_image}
+use Rattle.jpg_spec.specs.Markers.{eoi}
 use Rattle.jpg_spec.specs.Meaning.{Meaning}
 use Rattle.jpg_spec.specs.Script.{Entry}
 use Rattle.jpg_spec.specs.ScanContents.{is_band, are_bits}
 use Rattle.jpg_spec.specs.History.{is_next}
-use Rattle.jpg_spec.specs.PictureInWork.{joined}
+use Rattle.jpg_spec.specs.Lists.{joined}
 use Rattle.jpg_spec.specs.FileText.{Written, nothing_written, Restart, segment_text, front_text, frame_of_meaning, written_head, head_text, tables_text, tables_given, interval_of, scans_text, file_text}
 use Rattle.jpg_spec.specs.WrittenFile.{IsHeaded, IsRestart, is_progressive_entry, is_progressive_behind}
 use Rattle.jpg_spec.specs.declared.frame.Place.{Place}
@@ -280,5 +280,5 @@ progressive_short limits H script restart limited headed progressive passes smal
     let scans = scans_long limits H restart [] nothing_written (front_text H) script fit small passes (starts limits H (IsKnown H []) limited headed (none_known H)) in
     let left = all_start (length f.components) in
     let a = length-append (front_text H) (scans_text H restart nothing_written script) in
-    let b = length-append (front_text H ++ scans_text H restart nothing_written script) end_of_image in
+    let b = length-append (front_text H ++ scans_text H restart nothing_written script) eoi in
     omega (arith, front, headed.count, limited.kept, scans, left, is.count_high, a, b)

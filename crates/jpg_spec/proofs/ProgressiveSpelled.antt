@@ -9,7 +9,7 @@ use Rattle.jpg_spec.specs.Numbers.{category, digits, extra_bits}
 use Rattle.jpg_spec.specs.Geometry.{bounds_of}
 use Rattle.jpg_spec.specs.Elements.{Coding, UnitLeft, Standing, Element, difference, dc_bit, Covers, SpellsElement, SpellsUnits, is_zero, scaled, grown, are_in_bounds, predicted, symbol_of}
 use Rattle.jpg_spec.specs.Sending.{correction, newly, sent, shifted, divided, band_elements}
-use Rattle.jpg_spec.specs.ScanText.{UnitDue, Owned, unit_elements, with_prediction, code_of}
+use Rattle.jpg_spec.specs.ScanText.{UnitDue, Owned, unit_elements, code_of}
 use Rattle.jpg_spec.specs.declared.frame.Bounds.{Bounds}
 use Rattle.jpg_spec.proofs.Telling.{lt_of, not_lt_of}
 use Rattle.jpg_spec.proofs.Small.{few_digits, some_category, IsDc, dc_category, back}
@@ -202,7 +202,7 @@ dc_first c r l b chosen is p dcs (u ∷ units) (d ∷ due) told h have =
     let cat : category e ≤ c.bounds.dc_cat = subst (λ (k : Bounds). category e ≤ k.dc_cat) (sym b) few in
     let code = have.0 in
     let spells : SpellsElement (c.dc d.0) (difference e) (chosen (d.0, difference e)) = (code_of (c.dc d.0) (category e), first_found (c.dc d.0) (category e) code.0 code.1, is d.0 e) in
-    let q = with_prediction p d.0 w in
+    let q = predicted p d.0 w in
     let later = dc_first c r l b chosen is q (dc_predicted p d.0 w dcs dcw) units due h.1 h.8 have.1 in
     let there : p u.component +ℤ e ≡ w = ap (λ i. p i +ℤ e) h.2 ∙ back w (p d.0) in
     let next : q ≡ predicted p u.component (p u.component +ℤ e) = ap (λ x. (let z : ℕ → ℤ = predicted p d.0 x in z)) (sym there) ∙ ap (λ i. (let z : ℕ → ℤ = predicted p i (p u.component +ℤ e) in z)) (sym h.2) in (
@@ -235,7 +235,7 @@ dc_refining c r b chosen is p q (u ∷ units) [] told h = absurd h
 dc_refining c r b chosen is p q (u ∷ units) (d ∷ due) told h =
     let v = slice_index_or d.1 0 (pos 0) in
     let bit = nat_abs (shifted c.al v) % 2 == 1 in
-    let later = dc_refining c r b chosen is p (with_prediction q d.0 (shifted c.al v)) units due h.1 h.8 in (
+    let later = dc_refining c r b chosen is p (predicted q d.0 (shifted c.al v)) units due h.1 h.8 in (
       later.0,
       (
         u,
@@ -244,7 +244,7 @@ dc_refining c r b chosen is p q (u ∷ units) (d ∷ due) told h =
         units,
         h.1,
         chosen (d.0, dc_bit bit),
-        flat_map chosen (unit_elements false true c.al (with_prediction q d.0 (shifted c.al v)) due),
+        flat_map chosen (unit_elements false true c.al (predicted q d.0 (shifted c.al v)) due),
         refl,
         h.7,
         refl,

@@ -5,7 +5,7 @@ use Rattle.std.specs.Int.{to_be_bytes, w16}
 use Rattle.jpg_spec.specs.Bits.{data_of, stuffed}
 use Rattle.jpg_spec.specs.Lists.{any_of, all_of}
 use Rattle.jpg_spec.specs.Geometry.{Frame, component_at, is_progressive}
-use Rattle.jpg_spec.specs.Segments.{HuffmanTable, QuantTable, ScanHead, head_components}
+use Rattle.jpg_spec.specs.Segments.{HuffmanTable, QuantTable, ScanHead, head_components, needs_dc, needs_ac}
 use Rattle.jpg_spec.specs.ScanText.{Owned, units_due, interval_elements, element_bits, intervals_text, scan_data, typical_table, flat_table, symbols_used}
 use Rattle.jpg_spec.specs.Meaning.{Meaning, colour_of}
 use Rattle.jpg_spec.specs.Script.{Entry}
@@ -13,7 +13,7 @@ use Rattle.jpg_spec.specs.ScanContents.{are_parameters}
 use Rattle.jpg_spec.specs.Markers.{Segment}
 use Rattle.jpg_spec.specs.InForce.{huffman_in_force, quant_in_force, heads_of}
 use Rattle.jpg_spec.specs.History.{has_begun, is_next, needs_dc_table, needs_ac_table, lacks_table, quant_of, is_same_table, admitted}
-use Rattle.jpg_spec.specs.FileText.{Written, segment_text, frame_of_meaning, slot_for, needs_dc, needs_ac, written_head, head_text, tables_needed, with_table, tables_text, tables_given, Restart, interval_of, scans_text}
+use Rattle.jpg_spec.specs.FileText.{Written, segment_text, frame_of_meaning, slot_for, written_head, head_text, tables_needed, with_table, tables_text, tables_given, Restart, interval_of, scans_text}
 use Rattle.jpg_spec.specs.declared.fault.Fault.TheVariants.{RepeatedScan, Progression, MissingTable, QuantChanged}
 use Rattle.jpg_spec.specs.declared.frame.Place.{Place}
 use Rattle.jpg_spec.specs.declared.frame.ScanPart.{ScanPart}
@@ -44,7 +44,7 @@ slots_of H a b (i ∷ components) = ((few a, few b), slots_of H a b components)
     few false = lit≤ tt
 
 pub head_slots : (H : Meaning) (e : Entry) → Each HasSlots (written_head H e).parts
-head_slots H e = slots_of H (needs_dc (is_progressive H.process) e) (needs_ac (is_progressive H.process) e) e.components
+head_slots H e = slots_of H (needs_dc (is_progressive H.process) e.ss e.ah) (needs_ac (is_progressive H.process) e.ss) e.components
 
 parts_spoken : (f : Frame) (parts : List ScanPart) → Each HasSlots parts → Each (λ i. i < length f.components) (map (λ (p : ScanPart). p.component) parts) → Each (IsPartOf f) parts
 parts_spoken f [] s h = tt

@@ -4,7 +4,7 @@ use Rattle.std.specs.Prelude.{◌⊎◌, ◌||◌, map, flat_map, nat_le, nat_lt
 use Rattle.std.proofs.lemmas.Bool.Decides.{nat_tests}
 use Rattle.std.proofs.lemmas.Bool.{cases_lt}
 use Rattle.std.proofs.lemmas.List.{append_assoc, length-append, length-take, length-take-le, get_or-replicate, get_or_past, length-replicate, length-drop, take-append-drop}
-use Rattle.jpg_spec.specs.Lists.{any_of, chunks, is_distinct}
+use Rattle.jpg_spec.specs.Lists.{any_of, chunks, is_distinct, joined}
 use Rattle.jpg_spec.specs.Geometry.{Frame, is_real, is_progressive, bounds, bounds_of, factor_sum}
 use Rattle.jpg_spec.specs.Segments.{ScanHead, head_components}
 use Rattle.jpg_spec.specs.Elements.{Coding, UnitLeft, Standing, Element, difference, dc_bit, value, long_run, ends, Covers, Tells, at_start, going_on, old_values, corrected, predictions_after, are_in_bounds, zeros}
@@ -17,7 +17,7 @@ use Rattle.jpg_spec.proofs.FirstPasses.{IsHeadAt, head_at}
 use Rattle.jpg_spec.specs.InForce.{frame_of, head_in}
 use Rattle.jpg_spec.specs.Items.{Item, segment, scan, segments_of, contents_rule}
 use Rattle.jpg_spec.specs.FileMeaning.{scan_after, Leads}
-use Rattle.jpg_spec.specs.PictureInWork.{is_at, joined}
+use Rattle.jpg_spec.specs.PictureInWork.{is_at}
 use Rattle.jpg_spec.specs.Ranges.{is_coefficient, AreInRange}
 use Rattle.jpg_spec.specs.Meaning.{Meaning, real_blocks, picture_frame}
 use Rattle.jpg_spec.specs.FileMeaning.{Means}

@@ -7,7 +7,7 @@ use Rattle.std.proofs.Math.Seq.{take-append_seam, drop-append_seam}
 use Rattle.std.proofs.Math.Nat.{suc-mul}
 use Rattle.std.proofs.lemmas.List.{length-append, length-map, get_or-map, get_or-append-add, get_or_append_left, ext_get_or, take-append-drop, length-take-le, length-drop, reverse-append, map-append, get_or-append_right}
 use Rattle.std.proofs.lemmas.List.Elements.{All-head, All-tail, All-nil, All-append}
-use Rattle.jpg_spec.specs.Lists.{below, chunks_of, chunks}
+use Rattle.jpg_spec.specs.Lists.{below, chunks_of, chunks, joined}
 
 -- fronts of one length are equal, and so is the rest
 pub append_apart : {A : Type 0} (xs ys a b : List A) → length xs ≡ length ys → xs ++ a ≡ ys ++ b → (xs ≡ ys) × (a ≡ b)
@@ -66,9 +66,6 @@ by_items n f xs d l same =
     (λ i h. (let s : i < n = omega (arith, m, h) in get_or-map f (below n) i 0 d (omega (arith, length_below n, s)) ∙ ap f (at_below n i s) ∙ same i s))
 
 -- ROWS
-
-abbrev pub joined : {A : Type 0} → List (List A) → List A
-joined rows = flat_map (λ row. row) rows
 
 abbrev pub AreRows : {A : Type 0} → ℕ → List (List A) → Type 0
 AreRows w [] = Unit {0}

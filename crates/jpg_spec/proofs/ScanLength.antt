@@ -11,10 +11,10 @@ use Rattle.jpg_spec.specs.Elements.{Coding, UnitLeft, SpellsUnits, at_start}
 use Rattle.jpg_spec.specs.Scan.{part_of, scan_coding}
 use Rattle.jpg_spec.specs.ScanText.{UnitDue, typical_table}
 use Rattle.jpg_spec.specs.Meaning.{Meaning, PictureComponent}
-use Rattle.jpg_spec.specs.Markers.{kept_count}
+use Rattle.jpg_spec.specs.Markers.{kept_count, eoi}
 use Rattle.jpg_spec.specs.FileText.{front_text}
 use Rattle.jpg_spec.specs.SingleScan.{luma_tables_text, single_head_text, single_text}
-use Rattle.jpg_spec.specs.GrayFile.{gray_frame, gray_head, gray_coding, typical_tables, new_unit, end_of_image}
+use Rattle.jpg_spec.specs.GrayFile.{gray_frame, gray_head, gray_coding, typical_tables, new_unit}
 use Rattle.jpg_spec.specs.Written.{IsWritable, sequential_bits, plain_bits}
 use Rattle.jpg_spec.proofs.Sequential.{written_spells}
 use Rattle.jpg_spec.proofs.FrontLength.{HasLength, front_few}
@@ -91,5 +91,5 @@ single_few H id blocks few all ok =
     let a = length-append (front_text H) luma_tables_text in
     let b = length-append before head in
     let d = length-append (before ++ head) coded in
-    let e = length-append (before ++ head ++ coded) end_of_image in
+    let e = length-append (before ++ head ++ coded) eoi in
     omega (arith, front_few H few all, plain_few blocks ok, tables, a, b, d, e)

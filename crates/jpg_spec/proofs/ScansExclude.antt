@@ -13,7 +13,7 @@ use Rattle.jpg_spec.specs.declared.fault.Fault.TheVariants.{EntropyShort, ExtraD
 use Rattle.jpg_spec.specs.declared.frame.Place.{Place}
 use Rattle.jpg_spec.proofs.MarkersOnce.{no_head, marker_once, fill_no_marker}
 use Rattle.jpg_spec.specs.FileStands.{Completes, AreDue}
-use Rattle.jpg_spec.specs.ScanReading.{BeginsMarker}
+use Rattle.jpg_spec.specs.ScanReading.{LeadingMarker}
 use Rattle.jpg_spec.proofs.Gate.{data_no_marker, data_no_fill}
 use Rattle.jpg_spec.proofs.ScansOnce.{At, InLater, IsAhead, scan_once, no_places}
 use Rattle.jpg_spec.proofs.FaultsOnce.{data_show_once}
@@ -32,7 +32,7 @@ Closes s before done coded places later fault tail =
 abbrev pub IsCalm : Scan → Blocks → List Place → List (List Place) → List ℕ → List ℕ → Type 0
 IsCalm s before places later coded u =
     (((fill : ℕ) × (u ≡ replicate fill 255)) × (AreDue s before places coded ⊎ Completes s before places coded))
-    ⊎ (Completes s before places coded × (later ≡ []) × BeginsMarker u)
+    ⊎ (Completes s before places coded × (later ≡ []) × LeadingMarker u)
 
 no_more : (m t : List ℕ) → SpellsData m t → t ≡ [] → m ≡ []
 no_more [] t s e = refl
@@ -100,7 +100,7 @@ closed_later s before done c places later fault tail x sound g (inr (inr (inr k)
 -- nothing is missing where calm data go on with a place that closes
 calm_ends : (s : Scan) (before : Blocks) (places : List Place) (later : List (List Place)) (d m t u v : List ℕ) → IsCalm s before places later d v → SpellsData m t → v ≡ t ++ u → (m ≡ []) × (t ≡ [])
 calm_ends s before places later d m t u v (inl calm) k e = data_no_fill calm.0.0 m t u k (sym e ∙ calm.0.1)
-calm_ends s before places later d m t u v (inr calm) k e = data_no_marker calm.2.0 m t calm.2.1 u calm.2.2 k calm.2.3 (sym e ∙ calm.2.4)
+calm_ends s before places later d m t u v (inr calm) k e = data_no_marker calm.2.code m t calm.2.marker u calm.2.rest k calm.2.spelled (sym e ∙ calm.2.cut)
 
 calm_not_later : (s : Scan) (before : Blocks) (places : List Place) (later : List (List Place)) (done : List (List ℕ)) (d v : List ℕ) → IsCalm s before places later d v → InLater s before 0 done d v places later → ⊥
 calm_not_later s before places later done d v (inl calm) g =
@@ -219,18 +219,18 @@ closed_once s before all done c text places later f tail done' d text' places' l
 pub ended_not_standing : (s : Scan) (before : Blocks) (all : List (List Place)) (done : List (List ℕ)) (c text u : List ℕ) (places : List Place) (later : List (List Place))
     → (done' : List (List ℕ)) (d text' v : List ℕ) (places' : List Place) (later' : List (List Place)) (fill : ℕ)
     → At s before all 0 done c places later text → At s before all 0 done' d places' later' text' → text ++ u ≡ text' ++ v
-    → later ≡ [] → BeginsMarker u → v ≡ replicate fill 255 → ⊥
+    → later ≡ [] → LeadingMarker u → v ≡ replicate fill 255 → ⊥
 ended_not_standing s before all done c text u places later done' d text' v places' later' fill a b e none k f =
     by (scan_once s before all 0 done c text u places later done' d text' v places' later' a b e)
   where
     by : IsAhead s before 0 done c u places later done' d v places' later' ⊎ IsAhead s before 0 done' d v places' later' done c u places later → ⊥
     by (inl (inl g)) =
-        let z = data_no_marker k.0 g.more g.text k.1 v k.2 g.spelled k.3 (sym g.behind ∙ k.4) in
-        fill_no_marker fill k.0 k.1 k.2 k.3 (sym f ∙ sym (g.behind ∙ ap (λ l. l ++ v) z.1) ∙ k.4)
+        let z = data_no_marker k.code g.more g.text k.marker v k.rest g.spelled k.spelled (sym g.behind ∙ k.cut) in
+        fill_no_marker fill k.code k.marker k.rest k.spelled (sym f ∙ sym (g.behind ∙ ap (λ l. l ++ v) z.1) ∙ k.cut)
     by (inl (inr g)) = no_places g.others.0 g.others.1 (sym none ∙ g.others.2)
     by (inr (inl g)) =
         let z = data_no_fill fill g.more g.text u g.spelled (sym g.behind ∙ f) in
-        fill_no_marker fill k.0 k.1 k.2 k.3 (sym f ∙ g.behind ∙ ap (λ l. l ++ u) z.1 ∙ k.4)
+        fill_no_marker fill k.code k.marker k.rest k.spelled (sym f ∙ g.behind ∙ ap (λ l. l ++ u) z.1 ∙ k.cut)
     by (inr (inr g)) =
         let z = data_no_fill fill g.more g.text (g.marker ++ g.rest) g.spelled (sym g.behind ∙ f) in
         fill_no_marker fill (0xd0 + (0 + length done') % 8) g.marker g.rest g.code (sym f ∙ g.behind ∙ ap (λ l. l ++ (g.marker ++ g.rest)) z.1)

@@ -10,7 +10,7 @@ use Rattle.jpg_spec.specs.Segments.{ScanHead}
 use Rattle.jpg_spec.specs.Elements.{Coding, UnitLeft, Standing, Element, difference, dc_bit, value, long_run, ends, Covers, SpellsElement, is_zero, zeros, scaled, are_in_bounds, predicted, symbol_of, bits_behind}
 use Rattle.jpg_spec.specs.Sending.{sent, shifted, divided, band_elements}
 use Rattle.jpg_spec.specs.Scan.{scan_coding, part_of}
-use Rattle.jpg_spec.specs.ScanText.{UnitDue, Owned, unit_elements, with_prediction, element_bits, typical_table, is_dc, code_of}
+use Rattle.jpg_spec.specs.ScanText.{UnitDue, Owned, unit_elements, element_bits, typical_table, is_dc, code_of}
 use Rattle.jpg_spec.specs.GrayFile.{typical_tables, new_unit}
 use Rattle.jpg_spec.specs.Written.{IsWritable, sequential_bits, SpellsDue}
 use Rattle.jpg_spec.specs.declared.frame.Bounds.{Bounds}
@@ -101,7 +101,7 @@ pub record AreChosen (c : Coding) (chosen : Owned → List Bool) : Type 0 where
   pub first : (i : ℕ) (d : ℤ) → chosen (i, difference d) ≡ code_of (c.dc i) (category d) ++ extra_bits d
   pub others : (i : ℕ) → IsChosen (c.ac i) (λ e. chosen (i, e))
 
-pub dc_predicted : (p : ℕ → ℤ) (i : ℕ) (w : ℤ) → ((j : ℕ) → IsDc (p j)) → IsDc w → (j : ℕ) → IsDc (with_prediction p i w j)
+pub dc_predicted : (p : ℕ → ℤ) (i : ℕ) (w : ℤ) → ((j : ℕ) → IsDc (p j)) → IsDc w → (j : ℕ) → IsDc (predicted p i w j)
 dc_predicted p i w all h j = by (j == i)
   where
     by : (b : Bool) → IsDc (cond b w (p j))
@@ -111,7 +111,7 @@ dc_predicted p i w all h j = by (j == i)
 -- a unit: its difference, and then its band
 unit_first : (c : Coding) → IsSequential c → (p : ℕ → ℤ) (i : ℕ) (v : ℤ) (vs : List ℤ) (us : List UnitLeft) (chosen : Owned → List Bool) (es : List Element) (told : List ℤ) (bits : List Bool) (t : Standing)
     → IsDc (p i) → are_in_bounds c true (v ∷ vs) ≡ true → AreChosen c chosen
-    → Covers c (at (with_prediction p i (shifted 0 v)) (behind_dc i ∷ us)) es told bits t
+    → Covers c (at (predicted p i (shifted 0 v)) (behind_dc i ∷ us)) es told bits t
     → Covers c (at p (new_unit i ∷ us)) (difference (shifted 0 v -ℤ p i) ∷ es) (v ∷ told) (chosen (i, difference (shifted 0 v -ℤ p i)) ++ bits) t
 unit_first c s p i v vs us chosen es told bits t dcp ok is later =
     let d = shifted 0 v -ℤ p i in
@@ -126,7 +126,7 @@ unit_first c s p i v vs us chosen es told bits t dcp ok is later =
     let spells : SpellsElement (c.dc i) (difference d) (chosen (i, difference d)) = (code_of (c.dc i) (category d), first_found (c.dc i) (category d) has.0 has.1, is.first i d) in
     let there : p i +ℤ d ≡ shifted 0 v = back (shifted 0 v) (p i) in
     let same : v ≡ scaled c.al (p i +ℤ d) = sym (ap (scaled c.al) (there ∙ shifted_none v) ∙ ap (λ a. scaled a v) s.al ∙ scaled_none v) in
-    let next : with_prediction p i (shifted 0 v) ≡ predicted p i (p i +ℤ d) = ap (λ w. (let q : ℕ → ℤ = predicted p i w in q)) (sym there) in
+    let next : predicted p i (shifted 0 v) ≡ predicted p i (p i +ℤ d) = ap (λ w. (let q : ℕ → ℤ = predicted p i w in q)) (sym there) in
     let inside : are_in_bounds c true (v ∷ []) ≡ true = and_intro (int_le c.bounds.dc_low v && int_le v c.bounds.dc_high) true b.0 refl in (
       new_unit i,
       us,
@@ -159,7 +159,7 @@ units_spelled c s chosen is p ((i, v ∷ vs) ∷ later) dcs ok =
     let low : int_le (neg_ℤ (pos 1024)) v ≡ true = subst (λ (k : Bounds). int_le k.dc_low v ≡ true) s.bounds b'.0 in
     let high : int_le v (pos 1023) ≡ true = subst (λ (k : Bounds). int_le v k.dc_high ≡ true) s.bounds b'.1 in
     let dcv : IsDc (shifted 0 v) = subst (λ w. IsDc w) (sym (shifted_none v)) (dc_small v low high) in
-    let q = with_prediction p i (shifted 0 v) in
+    let q = predicted p i (shifted 0 v) in
     let us = map (λ (u : UnitDue). new_unit u.0) later in
     let owned = unit_elements true false 0 q later in
     let more = map (λ (o : Owned). o.1) owned in

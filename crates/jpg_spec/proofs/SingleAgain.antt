@@ -13,11 +13,11 @@ use Rattle.jpg_spec.specs.Segments.{QuantTable, ScanHead, head_components}
 use Rattle.jpg_spec.specs.Elements.{Coding, SpellsUnits, are_in_bounds}
 use Rattle.jpg_spec.specs.Scan.{scan_coding}
 use Rattle.jpg_spec.specs.ScanText.{UnitDue}
-use Rattle.jpg_spec.specs.Markers.{Segment}
+use Rattle.jpg_spec.specs.Markers.{Segment, eoi}
 use Rattle.jpg_spec.specs.InForce.{frame_of, head_in, quant_in_force, huffman_in_force}
 use Rattle.jpg_spec.specs.History.{needs_dc_table, needs_ac_table, lacks_table}
 use Rattle.jpg_spec.specs.FileMeaning.{Means}
-use Rattle.jpg_spec.specs.GrayFile.{gray_head, gray_coding, typical_tables, new_unit, end_of_image, turned_rows, sequential_text}
+use Rattle.jpg_spec.specs.GrayFile.{gray_head, gray_coding, typical_tables, new_unit, turned_rows, sequential_text}
 use Rattle.jpg_spec.specs.Written.{IsWritable, plain_bits}
 use Rattle.jpg_spec.specs.SingleScan.{is_single_scan, blocks_across, blocks_down, SpellsScan, single_coding}
 use Rattle.jpg_spec.specs.declared.frame.Process.{Process}
@@ -103,12 +103,12 @@ picture_again limits p width height id quants blocks ys is many within long =
     let before = written_before p width height id quants ys in
     let f = written_frame p width height id in
     let coded = data_of (plain_bits blocks) in
-    let text : sequential_text H ≡ header_text H id ++ coded ++ end_of_image = picture_text p width height id quants blocks (reverse ys) is.sequential is.across is.down many in
+    let text : sequential_text H ≡ header_text H id ++ coded ++ eoi = picture_text p width height id quants blocks (reverse ys) is.sequential is.across is.down many in
     let plain : SpellsScan (scan_coding f typical_tables gray_head) (blocks_across f * blocks_down f) coded blocks = blocks_spelled f (width / 8 * (height / 8)) blocks is.sequential refl within many in
     let spelled = subst (λ g. SpellsScan (single_coding limits before (written_head id)) (blocks_across g * blocks_down g) coded blocks) (sym (frame_of_is limits p width height id quants ys is))
     (subst (λ c. SpellsScan c (blocks_across f * blocks_down f) coded blocks) (sym (written_coding limits p width height id quants ys is)) plain) in
     let means = file_means limits before (written_head id) (header_text H id) coded [] (sequential_text H) blocks (written_header limits p width height id quants blocks ys is) (written_single limits p width height id quants ys is) spelled
-    (text ∙ sym (append-nil (header_text H id ++ coded ++ end_of_image))) (subst (λ t. length t ≤ limits.input) text long) in
+    (text ∙ sym (append-nil (header_text H id ++ coded ++ eoi))) (subst (λ t. length t ≤ limits.input) text long) in
     subst (λ M. Means limits (sequential_text H) M) (written_meaning limits p width height id quants blocks ys is) means
 
 -- THE TABLE of the file

@@ -9,7 +9,7 @@ use Rattle.jpg_spec.specs.Bits.{IsMarkerCode}
 use Rattle.jpg_spec.specs.Jfif.{Jfif, begins_jfif, begins_adobe}
 use Rattle.jpg_spec.specs.Moves.{jfif_contents}
 use Rattle.jpg_spec.specs.FileText.{segment_text, kept_text}
-use Rattle.jpg_spec.specs.Markers.{Segment, soi, SpellsSegment, SpellsSegments, Pass, code_fault_if, is_frame_code, is_within, has_frame, has_scan, is_kept, is_kept_if, kept_after, is_plain_jfif, is_plain_adobe, kept_size, kept_count, kept_rule}
+use Rattle.jpg_spec.specs.Markers.{Segment, soi, SpellsSegment, SpellsSegments, Pass, code_fault_if, is_frame_code, is_within, has_frame, has_scan, is_kept, is_kept_if, kept_after, is_plain_jfif, is_plain_adobe, kept_count, kept_rule, counted_size}
 use Rattle.jpg_spec.specs.InForce.{told_or, restart_in_force}
 use Rattle.jpg_spec.specs.ScanContents.{restart_interval}
 use Rattle.jpg_spec.specs.Header.{header_rule}
@@ -142,11 +142,11 @@ abbrev pub passed_on : Jfif → List Segment → List Segment
 passed_on j xs = comments xs ++ jfif_first j
 
 -- a comment counts its contents and 4 more
-comment_size : (a b : Bool) (s : Segment) → is_comment s ≡ true → kept_size a b s ≡ length s.1 + 4
+comment_size : (a b : Bool) (s : Segment) → is_comment s ≡ true → counted_size a b s ≡ length s.1 + 4
 comment_size a b s e = by s.0 (same_of s.0 0xfe e)
   where
-    by : (code : ℕ) → code ≡ 0xfe → kept_size a b (code, s.1) ≡ length s.1 + 4
-    by code k = ap (λ n. kept_size a b (n, s.1)) k
+    by : (code : ℕ) → code ≡ 0xfe → counted_size a b (code, s.1) ≡ length s.1 + 4
+    by code k = ap (λ n. counted_size a b (n, s.1)) k
 
 -- what the step of one segment does to the comments
 step : (P : List Segment → Type 0) (s : Segment) (xs : List Segment) → P (filter is_other (filter is_comment xs)) → (is_comment s ≡ true → P (s ∷ comments xs)) → P (comments (s ∷ xs))

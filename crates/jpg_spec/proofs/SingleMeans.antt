@@ -13,14 +13,14 @@ use Rattle.jpg_spec.specs.Geometry.{Frame, units, mcu_units}
 use Rattle.jpg_spec.specs.Segments.{ScanHead, head_components}
 use Rattle.jpg_spec.specs.Elements.{UnitLeft, SpellsUnits, zeros}
 use Rattle.jpg_spec.specs.Scan.{Scan, TablesInForce, block_at, band, unit_at, coefficient, is_named, scan_of, SpellsIntervals, ScanMeans}
-use Rattle.jpg_spec.specs.Markers.{Segment, SpellsSegments, Pass, code_fault, code_fault_if, has_frame, has_scan}
+use Rattle.jpg_spec.specs.Markers.{Segment, SpellsSegments, Pass, code_fault, code_fault_if, has_frame, has_scan, eoi}
 use Rattle.jpg_spec.specs.InForce.{frame_of, head_in, no_head, huffman_in_force, restart_in_force}
 use Rattle.jpg_spec.specs.History.{admitted, is_complete}
 use Rattle.jpg_spec.specs.Items.{scan, segments_of, SpellsFront, fault_in, contents_rule}
 use Rattle.jpg_spec.specs.ScanContents.{scan_header}
 use Rattle.jpg_spec.specs.QuantContents.{◌>>=◌}
 use Rattle.jpg_spec.specs.FileMeaning.{no_blocks, Leads, scan_after, Means, meaning_of}
-use Rattle.jpg_spec.specs.GrayFile.{end_of_image, new_unit}
+use Rattle.jpg_spec.specs.GrayFile.{new_unit}
 use Rattle.jpg_spec.specs.Header.{header_rule, IsHeader}
 use Rattle.jpg_spec.specs.SingleScan.{is_single_scan, blocks_across, blocks_down, SpellsScan, single_coding, mapped, single_meaning}
 use Rattle.jpg_spec.specs.declared.frame.Limits.{Limits}
@@ -177,7 +177,7 @@ eoi_stands before contents e = by (has_frame before) e
 pub file_means : (limits : Limits) (before : List Segment) (contents front text rest bytes : List ℕ) (blocks : List (List ℤ)) → IsHeader limits front before contents
     → is_single_scan (frame_of limits before) before (head_in (frame_of limits before) contents) ≡ true
     → SpellsScan (single_coding limits before contents) (blocks_across (frame_of limits before) * blocks_down (frame_of limits before)) text blocks
-    → bytes ≡ front ++ text ++ end_of_image ++ rest → length (front ++ text ++ end_of_image) ≤ limits.input → Means limits bytes (single_meaning limits before contents blocks)
+    → bytes ≡ front ++ text ++ eoi ++ rest → length (front ++ text ++ eoi) ≤ limits.input → Means limits bytes (single_meaning limits before contents blocks)
 file_means limits before contents front text rest bytes blocks is single p cut long =
     let f = frame_of limits before in
     let head = head_in f contents in
@@ -197,7 +197,7 @@ file_means limits before contents front text rest bytes blocks is single p cut l
       items = scan contents (p.coded ∷ []) ∷ items;
       blocks = after;
       front = front ++ text;
-      marker = end_of_image;
+      marker = eoi;
       rest = rest;
       cut = cut;
       spelled = (s.0, s.1 ++ text, ap (λ l. l ++ text) s.2 ∙ append_assoc s.0 s.1 text, front_items before s.0 is.first s.3, (s.1, text, refl, s.4, p.stuffed));

@@ -11,7 +11,7 @@ use Rattle.jpg_spec.specs.Lists.{any_of}
 use Rattle.jpg_spec.specs.Faults.{Told, refuse}
 use Rattle.jpg_spec.specs.Codes.{are_codes}
 use Rattle.jpg_spec.specs.Segments.{QuantTable, two_bytes}
-use Rattle.jpg_spec.specs.QuantContents.{◌>>=◌, pairs_told, table_size, table_entries, is_zero, quant_table_of, quant_tables_of, quant_tables}
+use Rattle.jpg_spec.specs.QuantContents.{◌>>=◌, pairs_told, table_size, table_entries, quant_table_of, quant_tables_of, quant_tables, is_zero_quant}
 use Rattle.jpg_spec.specs.HuffContents.{HuffmanDefinition, huffman_table_of, huffman_tables_of, huffman_tables}
 use Rattle.jpg_spec.specs.ScanText.{typical_table}
 use Rattle.jpg_spec.specs.Moves.{is_wide}
@@ -50,7 +50,7 @@ ac_told = refl
 
 pub record IsQuants (table : QuantTable) : Type 0 where
   pub long : length table ≡ 64
-  pub some : any_of is_zero table ≡ false
+  pub some : any_of is_zero_quant table ≡ false
 
 length_pairs : (n : ℕ) (bytes : List ℕ) → length bytes ≡ n + n → length (pairs_told bytes) ≡ n
 length_pairs zero [] l = refl
@@ -128,11 +128,11 @@ table_told : (pt : ℕ) (bytes : List ℕ) (d : ℕ × QuantTable) → quant_tab
 unfolding quant_table_of
 table_told pt bytes d e =
     let told : ℕ × QuantTable = (pt % 16, table_entries pt bytes) in
-    let zeros : Told (ℕ × QuantTable) = refuse BadQuant (any_of is_zero (table_entries pt bytes)) (Ok told) in
+    let zeros : Told (ℕ × QuantTable) = refuse BadQuant (any_of is_zero_quant (table_entries pt bytes)) (Ok told) in
     let short = refuse BadLength (nat_lt (length bytes) (table_size pt)) zeros in
     let a = refused BadQuant (nat_lt 1 (pt / 16) || nat_lt 3 (pt % 16)) short d e in
     let b = refused BadLength (nat_lt (length bytes) (table_size pt)) zeros d a.1 in
-    let k = refused BadQuant (any_of is_zero (table_entries pt bytes)) (Ok told) d b.1 in
+    let k = refused BadQuant (any_of is_zero_quant (table_entries pt bytes)) (Ok told) d b.1 in
     let is : IsQuants told.1 = record { long = length_entries (pt / 16 == 1) bytes (not_lt_of (length bytes) (table_size pt) b.0); some = k.0 } in
     (ap (λ (t : ℕ × QuantTable). t.1) (sym (same told d k.1)), subst (λ (t : ℕ × QuantTable). IsQuants t.1) (same told d k.1) is)
   where
@@ -214,7 +214,7 @@ one_table pt bytes table is ok l e =
     let told : ℕ × QuantTable = (pt % 16, table) in
     let whole : quant_table_of pt bytes ≡ Ok told =
     not_refused BadQuant (nat_lt 1 (pt / 16) || nat_lt 3 (pt % 16)) _ ok ∙ not_refused BadLength (nat_lt (length bytes) (table_size pt)) _ (lt_no (length bytes) (table_size pt) (omega (arith, l)))
-    ∙ not_refused BadQuant (any_of is_zero (table_entries pt bytes)) _ (ap (any_of is_zero) e ∙ is.some)
+    ∙ not_refused BadQuant (any_of is_zero_quant (table_entries pt bytes)) _ (ap (any_of is_zero_quant) e ∙ is.some)
     ∙ ap (λ t. (let r : Told (ℕ × QuantTable) = Ok (pt % 16, t) in r)) e in
     let rest : drop (table_size pt) bytes ≡ [] = drop_of_length-le bytes (omega (arith, l)) in
     ap (λ r. r >>= λ first. quant_tables_of (length bytes) (drop (table_size pt) bytes) >>= λ others. Ok (first ∷ others)) whole

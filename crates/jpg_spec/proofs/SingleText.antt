@@ -16,9 +16,9 @@ use Rattle.jpg_spec.specs.Meaning.{Meaning}
 use Rattle.jpg_spec.specs.Moves.{is_wide, jfif_contents, flip_h, headed}
 use Rattle.jpg_spec.specs.Script.{sequential_script}
 use Rattle.jpg_spec.specs.FileText.{front_text, frame_of_meaning, scans_text, file_text, off, nothing_written}
-use Rattle.jpg_spec.specs.GrayFile.{gray_head, end_of_image, turned_rows, sequential_text}
+use Rattle.jpg_spec.specs.GrayFile.{gray_head, turned_rows, sequential_text}
 use Rattle.jpg_spec.specs.Written.{sequential_bits, plain_bits}
-use Rattle.jpg_spec.specs.Markers.{Segment, kept_after}
+use Rattle.jpg_spec.specs.Markers.{Segment, kept_after, eoi}
 use Rattle.jpg_spec.specs.InForce.{frame_of, head_in}
 use Rattle.jpg_spec.specs.History.{quant_of}
 use Rattle.jpg_spec.specs.Header.{IsHeader}
@@ -99,7 +99,7 @@ head_is : (id : ℕ) → head_segment id ≡ single_head_text id
 unfolding head_segment
 head_is id = refl
 
-file_is : (H : Meaning) → sequential_text H ≡ (front_text H ++ scans_text H off nothing_written (sequential_script (frame_of_meaning H))) ++ end_of_image
+file_is : (H : Meaning) → sequential_text H ≡ (front_text H ++ scans_text H off nothing_written (sequential_script (frame_of_meaning H))) ++ eoi
 unfolding file_text
 file_is H = refl
 
@@ -115,10 +115,10 @@ picture_text p width height id quants blocks kept e w h many =
     let f = frame_of_meaning H in
     let coded = data_of (plain_bits blocks) in
     file_is H
-    ∙ ap (λ t. (front_text H ++ t) ++ end_of_image) (scans_are p width height id quants blocks kept e ∙ scan_is f id blocks (whole_picture p width height id quants blocks kept e w h) many)
-    ∙ regroup (front_text H) dc_segment ac_segment (head_segment id) coded end_of_image
-    ∙ ap (λ t. (((front_text H ++ t) ++ head_segment id) ++ coded) ++ end_of_image) luma_is
-    ∙ ap (λ t. (((front_text H ++ luma_tables_text) ++ t) ++ coded) ++ end_of_image) (head_is id)
+    ∙ ap (λ t. (front_text H ++ t) ++ eoi) (scans_are p width height id quants blocks kept e ∙ scan_is f id blocks (whole_picture p width height id quants blocks kept e w h) many)
+    ∙ regroup (front_text H) dc_segment ac_segment (head_segment id) coded eoi
+    ∙ ap (λ t. (((front_text H ++ t) ++ head_segment id) ++ coded) ++ eoi) luma_is
+    ∙ ap (λ t. (((front_text H ++ luma_tables_text) ++ t) ++ coded) ++ eoi) (head_is id)
 
 -- THE HEADED PICTURE
 

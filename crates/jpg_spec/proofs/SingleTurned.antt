@@ -6,7 +6,7 @@ use Rattle.std.proofs.Math.Nat.{mul_comm}
 use Rattle.std.proofs.lemmas.Bool.{cases_lt}
 use Rattle.std.proofs.lemmas.List.{length-map, length-reverse, get_or-reverse, get_or-map}
 use Rattle.std.proofs.lemmas.List.Folds.{flat_map-map}
-use Rattle.jpg_spec.specs.Lists.{below, chunks}
+use Rattle.jpg_spec.specs.Lists.{below, chunks, joined}
 use Rattle.jpg_spec.specs.Geometry as geometry
 use Rattle.jpg_spec.specs.Geometry.{Frame, component_at, is_real}
 use Rattle.jpg_spec.specs.Segments.{QuantTable}
@@ -21,7 +21,7 @@ use Rattle.jpg_spec.specs.GrayFile.{turned_rows}
 use Rattle.jpg_spec.specs.SingleScan.{mapped}
 use Rattle.jpg_spec.specs.declared.frame.Process.{Process}
 use Rattle.jpg_spec.specs.declared.frame.Component.{Component}
-use Rattle.jpg_spec.proofs.Rows.{AreRows, IsCut, cut_into, joined, at_row, row_is, rows_map, length_joined}
+use Rattle.jpg_spec.proofs.Rows.{AreRows, IsCut, cut_into, at_row, row_is, rows_map, length_joined}
 use Rattle.jpg_spec.proofs.Turned.{lt_yes, lt_no, mirrored_zeros, turned_row, length_turned}
 use Rattle.jpg_spec.proofs.SingleFrame.{IsWhole, across_is, down_is}
 use Rattle.jpg_spec.proofs.SingleUnits.{spot_in, spot_beside, spot_under, spot_other}

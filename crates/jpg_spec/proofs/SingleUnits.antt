@@ -8,13 +8,13 @@ use Rattle.std.proofs.lemmas.List.{append-nil, get_or_past, map-append}
 use Rattle.std.proofs.lemmas.List.Elements.{All-nil, All-cons, All-append, All-get_or}
 use Rattle.std.proofs.lemmas.List.Folds.{flat_map-map}
 use Rattle.std.proofs.lemmas.Grind.{flat_map-append}
-use Rattle.jpg_spec.specs.Lists.{any_of, below, chunks}
+use Rattle.jpg_spec.specs.Lists.{any_of, below, chunks, joined}
 use Rattle.jpg_spec.specs.Geometry as geometry
 use Rattle.jpg_spec.specs.Geometry.{Frame, units, place, component_at}
 use Rattle.jpg_spec.specs.Elements.{zeros}
 use Rattle.jpg_spec.specs.SingleScan.{mapped}
 use Rattle.jpg_spec.specs.declared.frame.Place.{Place}
-use Rattle.jpg_spec.proofs.Rows.{map_map, joined, flat_map_map, cut_into, by_items, at_row, row_is}
+use Rattle.jpg_spec.proofs.Rows.{map_map, flat_map_map, cut_into, by_items, at_row, row_is}
 use Rattle.jpg_spec.proofs.Turned.{lt_yes, lt_no, not_zero}
 use Rattle.jpg_spec.proofs.PlainText.{places_in}
 use Rattle.jpg_spec.proofs.SingleFrame.{same_itself, IsWhole, across_is, down_is}

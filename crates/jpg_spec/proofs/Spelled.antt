@@ -7,7 +7,7 @@ use Rattle.jpg_spec.specs.Bits.{bits_of, bits_of_bytes, SpellsData}
 use Rattle.jpg_spec.specs.Codes.{codes}
 use Rattle.jpg_spec.specs.Numbers.{digits}
 use Rattle.jpg_spec.specs.Elements.{Element, difference, value, ends, zeros, predicted, Covers, at_start}
-use Rattle.jpg_spec.specs.Told.{told_by, ToldBy}
+use Rattle.jpg_spec.proofs.Told.{told_by, ToldBy}
 use Rattle.jpg_spec.specs.GrayFile.{Gray, IsGray, SpellsGray, gray_coding, new_unit}
 use Rattle.jpg_spec.specs.Examples.{ones, flat_block, smallest, two_values, extremes, plain_file}
 use Rattle.jpg_spec.proofs.Packing.{data_spelled}

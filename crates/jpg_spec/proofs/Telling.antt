@@ -8,7 +8,7 @@ use Rattle.std.proofs.lemmas.Bool.Decides.{nat_tests}
 use Rattle.jpg_spec.specs.Codes.{Code, first_code}
 use Rattle.jpg_spec.specs.Numbers.{category, digits}
 use Rattle.jpg_spec.specs.Elements.{Coding, UnitLeft, Element, difference, dc_bit, value, long_run, ends, Covers, Tells, SpellsElement, codes_due, zeros_in, nonzeros_in, old_values, predictions_after, are_in_bounds}
-use Rattle.jpg_spec.specs.Told.{before_zero, behind_zero, long_passed, long_left, may_stand, values_told, units_after, with_code, spelling, ToldBy, before_told, told_by}
+use Rattle.jpg_spec.proofs.Told.{before_zero, behind_zero, long_passed, long_left, may_stand, values_told, units_after, with_code, spelling, ToldBy, before_told, told_by}
 use Rattle.jpg_spec.proofs.Levels.{contains_here}
 
 pub both : (a b : Bool) → (a && b) ≡ true → (a ≡ true) × (b ≡ true)

@@ -12,6 +12,7 @@ use Rattle.jpg_spec.specs.Moves.{mirrored, mirrored_down, most_across, most_down
 use Rattle.jpg_spec.specs.Transposed.{transposed}
 use Rattle.jpg_spec.specs.Transforms.{exchanged_axes, transpose, transformed, inverse, transposes, changed_columns, changed_rows, placed, signed, turned_over}
 use Rattle.jpg_spec.specs.WholeBlocks.{HasWholeBlocks}
+use Rattle.jpg_spec.specs.Laws.{with_blocks}
 use Rattle.jpg_spec.specs.declared.transform.Transform.{Transform}
 use Rattle.jpg_spec.specs.declared.transform.Transform.TheVariants.{Keep, FlipH, FlipV, Transpose, Transverse, Rotate90, Rotate180, Rotate270}
 use Rattle.jpg_spec.proofs.Rows.{map_map, map_alike}
@@ -77,9 +78,6 @@ whole_t M w = record {
 }
 
 -- TWO FLIPS AND A TRANSPOSITION
-
-abbrev with_blocks : Meaning → Blocks → Meaning
-with_blocks M blocks = record M { blocks = blocks }
 
 pub h_twice : (M : Meaning) → HasWholeBlocks M → flip_h (flip_h M) ≡ M
 h_twice M w =

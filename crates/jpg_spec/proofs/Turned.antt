@@ -10,12 +10,12 @@ use Rattle.std.proofs.lemmas.Bool.Decides.{nat_tests}
 use Rattle.std.proofs.lemmas.List.{length-map, length-reverse, reverse-reverse, get_or-reverse, get_or-map}
 use Rattle.std.proofs.lemmas.List.Elements.{All-get_or, All-from_get_or, All-map, All-append, All-nil}
 use Rattle.std.proofs.lemmas.List.Folds.{flat_map-map}
-use Rattle.jpg_spec.specs.Lists.{chunks}
+use Rattle.jpg_spec.specs.Lists.{chunks, joined}
 use Rattle.jpg_spec.specs.Elements.{zeros}
 use Rattle.jpg_spec.specs.Meaning.{Meaning}
 use Rattle.jpg_spec.specs.Moves.{zigzag, mirrored, flip_h, most_across, component_of}
 use Rattle.jpg_spec.specs.GrayFile.{Gray, IsGray, across, down, gray_meaning, flipped_gray}
-use Rattle.jpg_spec.proofs.Rows.{map_map, map_reverse, map_alike, joined, AreRows, length_joined, at_row, row_is, rows_map, rows_again, IsCut, cut_into, all_front, all_back}
+use Rattle.jpg_spec.proofs.Rows.{map_map, map_reverse, map_alike, AreRows, length_joined, at_row, row_is, rows_map, rows_again, IsCut, cut_into, all_front, all_back}
 
 -- BLOCKS
 

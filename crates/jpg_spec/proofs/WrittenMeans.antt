@@ -12,11 +12,10 @@ use Rattle.jpg_spec.specs.Scan.{Blocks}
 use Rattle.jpg_spec.specs.Meaning.{Meaning, PictureComponent, real_blocks}
 use Rattle.jpg_spec.specs.Moves.{component_of}
 use Rattle.jpg_spec.specs.Script.{Entry}
-use Rattle.jpg_spec.specs.Markers.{Segment, code_fault_if, kept_after}
+use Rattle.jpg_spec.specs.Markers.{Segment, code_fault_if, kept_after, eoi}
 use Rattle.jpg_spec.specs.History.{has_begun, quant_of, is_complete}
 use Rattle.jpg_spec.specs.Items.{segments_of}
 use Rattle.jpg_spec.specs.FileMeaning.{picture_component, meaning_of, Means}
-use Rattle.jpg_spec.specs.GrayFile.{end_of_image}
 use Rattle.jpg_spec.specs.FileText.{Written, nothing_written, Restart, front_text, frame_of_meaning, scans_text, file_text}
 use Rattle.jpg_spec.specs.WrittenFile.{IsHeaded, is_script_behind, IsRestart}
 use Rattle.jpg_spec.specs.declared.frame.Component.{Component}
@@ -87,7 +86,7 @@ same_tests a b (x ∷ xs) h = ap (λ t. t && all_of a xs) (h x) ∙ ap (λ t. b 
 pub ends : (limits : Limits) (H : Meaning) (heads : List ScanHead) (P : Blocks → Type 0) (w : Written) (text : List ℕ) → IsHeaded limits H → Sends limits H heads P w text
     → all_of (has_begun heads) (below (length H.components)) ≡ true
     → ((blocks : Blocks) → P blocks → (i x y : ℕ) → i < length H.components → is_real (frame_of_meaning H) i x y ≡ true → blocks i x y ≡ H.blocks i x y)
-    → length (text ++ end_of_image) ≤ limits.input → Means limits (text ++ end_of_image) H
+    → length (text ++ eoi) ≤ limits.input → Means limits (text ++ eoi) H
 ends limits H heads P w text headed (items, s) begun shown long =
     let f = frame_of_meaning H in
     let segments = segments_of items in
@@ -100,9 +99,9 @@ ends limits H heads P w text headed (items, s) begun shown long =
       items = items;
       blocks = s.blocks;
       front = text;
-      marker = end_of_image;
+      marker = eoi;
       rest = [];
-      cut = sym (append-nil (text ++ end_of_image));
+      cut = sym (append-nil (text ++ eoi));
       spelled = s.spelled;
       ended = (0, refl, end_is_marker);
       long = long;

@@ -16,6 +16,7 @@ use Rattle.jpg_spec.specs.ScanText.{UnitDue, units_due, last_dc}
 use Rattle.jpg_spec.specs.GrayFile.{typical_tables, new_unit}
 use Rattle.jpg_spec.specs.Written.{sequential_bits}
 use Rattle.jpg_spec.specs.PictureInWork.{is_at, AreDistinct}
+use Rattle.jpg_spec.specs.Laws.{IsNewUnit}
 use Rattle.jpg_spec.specs.declared.frame.Place.{Place}
 use Rattle.jpg_spec.proofs.Telling.{both, same_of}
 use Rattle.jpg_spec.proofs.Writing.{and_intro}
@@ -39,9 +40,6 @@ each_rows P n xs h = each_flat P (λ row. row) (chunks n xs) (subst (λ l. Each 
 
 abbrev pub sequential_coded : ScanHead → Blocks → List Place → List ℕ
 sequential_coded head blocks places = whole_bytes (padded (sequential_bits head (units_due blocks (λ i. pos 0) places)))
-
-abbrev pub IsNewUnit : Scan → Blocks → Place → Type 0
-IsNewUnit s before p = unit_at s before p ≡ new_unit p.component
 
 units_new : (s : Scan) (before blocks : Blocks) (last : ℕ → ℤ) (places : List Place) → Each (IsNewUnit s before) places → map (unit_at s before) places ≡ map (λ (u : UnitDue). new_unit u.0) (units_due blocks last places)
 units_new s before blocks last [] h = refl

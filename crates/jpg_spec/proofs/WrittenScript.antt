@@ -19,6 +19,7 @@ use Rattle.jpg_spec.specs.Items.{Item, segments_of, SpellsIntervalsText}
 use Rattle.jpg_spec.specs.FileMeaning.{scan_after}
 use Rattle.jpg_spec.specs.FileText.{Written, segment_text, frame_of_meaning, head_text, tables_text, tables_given, Restart, off, rows, mcus, interval_of, scans_text}
 use Rattle.jpg_spec.specs.WrittenFile.{IsBaselineBlock, is_sequential_entry, is_script_behind, IsRestart}
+use Rattle.jpg_spec.specs.Laws.{IsNewUnit}
 use Rattle.jpg_spec.specs.declared.frame.Colour.{Colour}
 use Rattle.jpg_spec.specs.declared.frame.Place.{Place}
 use Rattle.jpg_spec.specs.declared.frame.ScanPart.{ScanPart}
@@ -31,7 +32,7 @@ use Rattle.jpg_spec.proofs.FirstPasses.{sequential_unit}
 use Rattle.jpg_spec.proofs.PlacesSome.{units_some, chunks_some}
 use Rattle.jpg_spec.proofs.PlacesFound.{each_units}
 use Rattle.jpg_spec.proofs.PlacedBlocks.{Each, each_map, IsRealSendable}
-use Rattle.jpg_spec.proofs.WrittenScan.{sequential_coded, scan_rows, scan_after_blocks, IsNewUnit, other_after, real_after, scan_means}
+use Rattle.jpg_spec.proofs.WrittenScan.{sequential_coded, scan_rows, scan_after_blocks, other_after, real_after, scan_means}
 use Rattle.jpg_spec.proofs.WrittenHead.{IsSpoken, head_contents}
 use Rattle.jpg_spec.proofs.WrittenState.{IsSent, Sends, quants_due, tables_step, interval_step}
 use Rattle.jpg_spec.proofs.WrittenStep.{ids_of, intervals_text_spelled, rule_is, head_in_is, scan_is, scan_step}

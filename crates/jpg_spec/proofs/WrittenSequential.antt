@@ -8,7 +8,7 @@ use Rattle.jpg_spec.specs.Codes.{are_codes}
 use Rattle.jpg_spec.specs.Lists.{any_of, all_of, is_among, is_distinct, index_of}
 use Rattle.jpg_spec.specs.Geometry.{Frame, component_at, factor_sum, is_progressive}
 use Rattle.jpg_spec.specs.FrameHeader.{identifiers}
-use Rattle.jpg_spec.specs.Segments.{HuffmanTable, QuantTable, ScanHead, head_components}
+use Rattle.jpg_spec.specs.Segments.{HuffmanTable, QuantTable, ScanHead, head_components, needs_dc, needs_ac}
 use Rattle.jpg_spec.specs.Scan.{TablesInForce}
 use Rattle.jpg_spec.specs.ScanText.{Owned, units_due, interval_elements, scan_elements, element_bits, intervals_text, scan_data, typical_table, scan_tables, flat_table, symbols_used}
 use Rattle.jpg_spec.specs.Meaning.{Meaning, colour_of}
@@ -18,7 +18,7 @@ use Rattle.jpg_spec.specs.ScanContents.{are_parameters}
 use Rattle.jpg_spec.specs.Markers.{Segment}
 use Rattle.jpg_spec.specs.InForce.{huffman_in_force, quant_in_force, heads_of}
 use Rattle.jpg_spec.specs.History.{has_begun, is_next, needs_dc_table, needs_ac_table, lacks_table, quant_of, is_same_table, admitted}
-use Rattle.jpg_spec.specs.FileText.{Written, segment_text, frame_of_meaning, slot_for, has_chroma, needs_dc, needs_ac, written_head, head_text, tables_needed, with_table, tables_text, tables_given, Restart, interval_of, scans_text}
+use Rattle.jpg_spec.specs.FileText.{Written, segment_text, frame_of_meaning, slot_for, has_chroma, written_head, head_text, tables_needed, with_table, tables_text, tables_given, Restart, interval_of, scans_text}
 use Rattle.jpg_spec.specs.WrittenFile.{is_sequential_entry}
 use Rattle.jpg_spec.specs.declared.fault.Fault.TheVariants.{RepeatedScan, Progression, MissingTable, QuantChanged}
 use Rattle.jpg_spec.specs.declared.frame.Colour.{Colour}
@@ -44,7 +44,7 @@ plain_head colour components = record { parts = map (plain_part colour) componen
 pub head_is_plain : (H : Meaning) (e : Entry) → is_progressive H.process ≡ false → written_head H e ≡ plain_head (colour_of H) e.components
 head_is_plain H e s =
     ap (λ is_prog. (let h : ScanHead = record {
-      parts = map (λ i. record { component = i; dc = cond (needs_dc is_prog e) (slot_for (colour_of H) i) 0; ac = cond (needs_ac is_prog e) (slot_for (colour_of H) i) 0 }) e.components;
+      parts = map (λ i. record { component = i; dc = cond (needs_dc is_prog e.ss e.ah) (slot_for (colour_of H) i) 0; ac = cond (needs_ac is_prog e.ss) (slot_for (colour_of H) i) 0 }) e.components;
       ss = cond is_prog e.ss 0;
       se = cond is_prog e.se 63;
       ah = cond is_prog e.ah 0;

@@ -12,7 +12,7 @@ use Rattle.jpg_spec.specs.FrameContents.{frame_header}
 use Rattle.jpg_spec.specs.Segments.{QuantTable}
 use Rattle.jpg_spec.specs.Meaning.{Meaning, PictureComponent}
 use Rattle.jpg_spec.specs.Moves.{component_of}
-use Rattle.jpg_spec.specs.QuantContents.{quant_tables, is_zero}
+use Rattle.jpg_spec.specs.QuantContents.{quant_tables, is_zero_quant}
 use Rattle.jpg_spec.specs.HuffContents.{HuffmanDefinition, huffman_tables}
 use Rattle.jpg_spec.specs.ScanContents.{restart_interval}
 use Rattle.jpg_spec.specs.Scan.{Blocks}
@@ -128,9 +128,9 @@ quants_fit all (c ∷ cs) of same q s =
     let is : IsQuants c.quants = record { long = h.0; some = none c.quants h.1 } in
     ((is, two_bytes_each c.quants (λ k d l. (h.1 k d l).1), subst (λ n. n ≤ 3) (same c) few), quants_fit all cs of same (All-tail HasQuants c cs q) (All-tail (λ c. c.quant ≤ 3) (of c) (map of cs) s))
   where
-    none : (qs : List ℕ) → All IsQuantiser qs → any_of is_zero qs ≡ false
+    none : (qs : List ℕ) → All IsQuantiser qs → any_of is_zero_quant qs ≡ false
     none [] a = refl
-    none (x ∷ qs) a = ap (λ b. b || any_of is_zero qs) (some x (All-head IsQuantiser x qs a).0) ∙ none qs (All-tail IsQuantiser x qs a)
+    none (x ∷ qs) a = ap (λ b. b || any_of is_zero_quant qs) (some x (All-head IsQuantiser x qs a).0) ∙ none qs (All-tail IsQuantiser x qs a)
       where
         some : (x : ℕ) → 1 ≤ x → (x == 0) ≡ false
         some x h = grind (arith, nat_tests, h)

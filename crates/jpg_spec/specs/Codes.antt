@@ -1,4 +1,4 @@
--- Huffman codes (T.81 Annex C).
+-- Huffman codes (T.81, Annex C).
 use Rattle.std.specs.Prelude.{ℕ, zero, suc, drop, ◌+◌, ◌*◌, ◌^◌, ◌<◌, Bool, true, nat_lt, ◌&&◌, ◌==◌, if◌then◌else◌, List, [], ◌∷◌, ◌++◌, Option, Some, None}
 use Rattle.jpg_spec.specs.Bits.{bits_of}
 

@@ -1,9 +1,16 @@
 -- The colours that a frame's components, the JFIF header and Adobe's transform tell together (JFIF 1.02, Adobe's APP14).
-use Rattle.std.specs.Prelude.{ℕ, Bool, ◌==◌, if◌then◌else◌, List, [], ◌∷◌, Option}
+use Rattle.std.specs.Prelude.{ℕ, Bool, true, false, ◌==◌, if◌then◌else◌, List, [], ◌∷◌, Option, Some, None}
 use Rattle.jpg_spec.specs.Lists.{are_equal}
-use Rattle.jpg_spec.specs.Jfif.{is_some_zero, is_some_number}
 use Rattle.jpg_spec.specs.declared.frame.Colour.{Colour}
 use Rattle.jpg_spec.specs.declared.frame.Colour.TheVariants.{Gray, YCbCr, Rgb, Cmyk, Ycck, Unknown}
+
+abbrev pub is_some_zero : Option ℕ → Bool
+is_some_zero None = false
+is_some_zero (Some n) = n == 0
+
+abbrev pub is_some_number : Option ℕ → Bool
+is_some_number None = false
+is_some_number (Some n) = true
 
 -- of three components: whether a JFIF header was seen, and Adobe's transform, if any
 abbrev pub three_colours : List ℕ → Bool → Option ℕ → Colour
@@ -17,6 +24,7 @@ three_colours ids seen adobe =
 abbrev pub four_colours : Option ℕ → Colour
 four_colours adobe = if is_some_zero adobe then Cmyk else if is_some_number adobe then Ycck else Cmyk
 
+-- by the number and ids of the components
 abbrev pub colours_of : ℕ → List ℕ → Bool → Option ℕ → Colour
 colours_of count ids seen adobe =
     if count == 1 then Gray

@@ -1,4 +1,4 @@
--- COMMENTS: as rdjpgcom prints them, and a file with one inserted, as wrjpgcom writes it (T.81 B.2.4.5, the manuals of both).
+-- COMMENTS: as rdjpgcom prints them, and a file with one inserted, as wrjpgcom writes it (T.81, B.2.4.5, the manuals of both).
 use Rattle.std.specs.Prelude.{◌≡◌, ◌⊎◌, ℕ, ◌+◌, ◌/◌, ◌%◌, ◌<◌, ◌≤◌, Bool, true, false, not, ◌==◌, if◌then◌else◌, List, [], ◌∷◌, ◌++◌, length, take, flat_map, filter, reverse, None}
 use Rattle.jpg_spec.specs.Lists.{is_empty}
 use Rattle.jpg_spec.specs.FileText.{segment_text}
@@ -44,8 +44,8 @@ IsReadWhole limits bytes before =
     ⊎ ((tail : List ℕ) × Between (kept_rule limits) bytes before tail × SpellsMarker 0xd9 tail × (code_fault before 0xd9 ≡ None) × (has_scan before ≡ false))
 
 -- for wrjpgcom: at the code byte of the frame header's marker; with the segments before it and that code
-abbrev pub IsHead : Limits → List ℕ → List Segment → ℕ → Type 0
-IsHead limits bytes before code =
+abbrev pub IsFileFront : Limits → List ℕ → List Segment → ℕ → Type 0
+IsFileFront limits bytes before code =
     (tail : List ℕ) × Between (kept_rule limits) bytes before tail × BeginsSegment before code tail × (is_frame_code code ≡ true)
 
 -- FAULTS of markers and lengths, where the contents of segments aren't judged, but for the size of kept markers
@@ -69,13 +69,13 @@ abbrev pub IsReadFault : Limits → List ℕ → Fault → ℕ → Type 0
 IsReadFault limits bytes fault n = IsMarkerFault limits (λ front. SomeSegments (IsReadWhole limits front)) bytes fault n
 
 abbrev pub IsHeadFault : Limits → List ℕ → Fault → ℕ → Type 0
-IsHeadFault limits bytes fault n = IsMarkerFault limits (λ front. (code : ℕ) × SomeSegments (λ before. IsHead limits front before code)) bytes fault n
+IsHeadFault limits bytes fault n = IsMarkerFault limits (λ front. (code : ℕ) × SomeSegments (λ before. IsFileFront limits front before code)) bytes fault n
 
 -- a wrjpgcom input is too long too where its head is whole
 abbrev pub IsInsertFault : Limits → List ℕ → Fault → ℕ → Type 0
 IsInsertFault limits bytes fault n =
     IsHeadFault limits bytes fault n ⊎ ((fault ≡ InputTooLong) × (n ≡ limits.input) × (limits.input ≤ length bytes)
-    × ((code : ℕ) × (before : List Segment) × (m : ℕ) × (m ≤ limits.input) × IsHead limits (take m bytes) before code))
+    × ((code : ℕ) × (before : List Segment) × (m : ℕ) × (m ≤ limits.input) × IsFileFront limits (take m bytes) before code))
 
 -- INSERTED
 
@@ -95,5 +95,5 @@ inserted_head comment replace before code =
 -- The text is the bytes with the comment inserted before the frame header.
 abbrev pub IsInserted : Limits → List ℕ → List ℕ → Bool → List ℕ → Type 0
 IsInserted limits bytes comment replace text =
-    (before : List Segment) × (code : ℕ) × (front : List ℕ) × (rest : List ℕ) × (bytes ≡ front ++ rest) × IsHead limits front before code
+    (before : List Segment) × (code : ℕ) × (front : List ℕ) × (rest : List ℕ) × (bytes ≡ front ++ rest) × IsFileFront limits front before code
     × (text ≡ inserted_head comment replace before code ++ rest)

@@ -1,5 +1,5 @@
 -- THE ELEMENTS OF A SCAN, what they tell of its coefficients, and the bits that spell them
--- (T.81 F.1.2 and F.2.2 sequential, G.1.2.1 DC, G.1.2.2 AC first, G.1.2.3 AC refinement).
+-- (T.81, F.1.2 and F.2.2 sequential, G.1.2.1 DC, G.1.2.2 AC first, G.1.2.3 AC refinement).
 --
 -- One grammar serves the five kinds of scan. A sequential block is a difference and then a band 1 to 63 whose EOBs stand for
 -- one band each. An AC first pass is a refinement of a band that is zero so far, so that no corrections are due.

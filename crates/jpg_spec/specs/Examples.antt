@@ -1,10 +1,11 @@
 -- WORKED EXAMPLES: small pictures, the bytes of their files, and where the blocks of a mirrored picture stand.
-use Rattle.std.specs.Prelude.{ℕ, zero, suc, ◌+◌, ◌*◌, ◌==◌, if◌then◌else◌, true, false, List, [], ◌∷◌, ◌++◌, replicate, slice_index_or, ℤ, pos, negsuc}
+use Rattle.std.specs.Prelude.{ℕ, zero, suc, ◌+◌, ◌*◌, ◌==◌, if◌then◌else◌, true, false, List, [], ◌∷◌, ◌++◌, replicate, slice_index_or, codes, ℤ, pos, negsuc}
 use Rattle.jpg_spec.specs.Geometry.{Frame}
 use Rattle.jpg_spec.specs.Elements.{zeros}
 use Rattle.jpg_spec.specs.Scan.{Blocks}
 use Rattle.jpg_spec.specs.Meaning.{Meaning, picture_frame}
-use Rattle.jpg_spec.specs.GrayFile.{Gray, gray_front, end_of_image, gray_meaning, sequential_text}
+use Rattle.jpg_spec.specs.GrayFile.{Gray, gray_front, gray_meaning, sequential_text}
+use Rattle.jpg_spec.specs.Markers.{eoi}
 use Rattle.jpg_spec.specs.Moves.{headed}
 use Rattle.jpg_spec.specs.Transforms.{transformed}
 use Rattle.jpg_spec.specs.declared.transform.Transform.{Transform}
@@ -38,7 +39,7 @@ extremes = gray_of 16 8 (flat_block (negsuc 1023) ∷ flat_block (pos 1023) ∷ 
 
 -- the plain file of a picture with these data
 abbrev pub plain_file : Gray → List ℕ → List ℕ
-plain_file g coded = gray_front g.width g.height g.quants ++ coded ++ end_of_image
+plain_file g coded = gray_front g.width g.height g.quants ++ coded ++ eoi
 
 abbrev pub smallest_file : List ℕ
 smallest_file =
@@ -119,3 +120,24 @@ gray_square = record { width = 8; height = 8; kind = image.Gray; x_metre = 0; y_
 
 abbrev pub gray_rows : List (List ℕ)
 gray_rows = replicate 8 (replicate 8 128)
+
+-- an APP0 segment and a comment behind it, the newest first; their texts, and that of another comment
+abbrev pub two_segments : List (ℕ × List ℕ)
+two_segments = (0xfe, codes "old") ∷ (0xe0, codes "q") ∷ []
+
+abbrev pub app_text : List ℕ
+app_text = 0xff ∷ 0xe0 ∷ 0 ∷ 3 ∷ 113 ∷ []
+
+abbrev pub old_text : List ℕ
+old_text = 0xff ∷ 0xfe ∷ 0 ∷ 5 ∷ 111 ∷ 108 ∷ 100 ∷ []
+
+abbrev pub hi_text : List ℕ
+hi_text = 0xff ∷ 0xfe ∷ 0 ∷ 4 ∷ 104 ∷ 105 ∷ []
+
+-- the ninth row of the flat picture's pixels
+abbrev pub ninth_row : List (List ℕ)
+ninth_row = replicate 8 (26 ∷ 96 ∷ 122 ∷ []) ++ replicate 7 (139 ∷ 209 ∷ 235 ∷ []) ++ (170 ∷ 196 ∷ 219 ∷ []) ∷ (92 ∷ 34 ∷ 48 ∷ []) ∷ []
+
+-- a block of two AC values
+abbrev pub low_values : List ℤ
+low_values = pos 0 ∷ pos 5 ∷ pos 2 ∷ zeros 61

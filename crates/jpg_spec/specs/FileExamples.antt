@@ -8,7 +8,8 @@ use Rattle.jpg_spec.specs.Meaning.{Meaning}
 use Rattle.jpg_spec.specs.Moves.{headed}
 use Rattle.jpg_spec.specs.Script.{Entry}
 use Rattle.jpg_spec.specs.FileText.{segment_text, sof_code}
-use Rattle.jpg_spec.specs.GrayFile.{start_of_image, end_of_image, plain_jfif, plain_frame, gray_meaning}
+use Rattle.jpg_spec.specs.GrayFile.{plain_jfif, plain_frame, gray_meaning}
+use Rattle.jpg_spec.specs.Markers.{soi, eoi}
 use Rattle.jpg_spec.specs.Examples.{ones, gray_of, three_components}
 use Rattle.jpg_spec.specs.declared.frame.Process.{Process}
 use Rattle.jpg_spec.specs.declared.frame.Process.TheVariants.{Baseline, Progressive}
@@ -17,7 +18,7 @@ use Rattle.jpg_spec.specs.declared.frame.Process.TheVariants.{Baseline, Progress
 
 -- SOI, JFIF, the quantisation table and a frame header; of one component, or of the three of 17 by 16 samples
 abbrev pub tables_start : List ℕ
-tables_start = start_of_image ++ segment_text 0xe0 plain_jfif ++ segment_text 0xdb (0 ∷ ones)
+tables_start = soi ++ segment_text 0xe0 plain_jfif ++ segment_text 0xdb (0 ∷ ones)
 
 abbrev pub gray_start : Process → ℕ → ℕ → List ℕ
 gray_start process width height = tables_start ++ segment_text (sof_code process) (plain_frame width height)
@@ -69,7 +70,7 @@ four_blocks = gray_picture Baseline 16 16 (replicate 4 (zeros 64))
 -- its file with this restart interval
 abbrev pub four_text : ℕ → List ℕ → List ℕ
 four_text interval coded =
-    gray_start Baseline 16 16 ++ typical_text 0 0 ++ typical_text 1 0 ++ restart_text interval ++ scan_text 1 0 0 63 0 coded ++ end_of_image
+    gray_start Baseline 16 16 ++ typical_text 0 0 ++ typical_text 1 0 ++ restart_text interval ++ scan_text 1 0 0 63 0 coded ++ eoi
 
 -- 2 and 1 in places 1 and 2
 abbrev pub two_and_one : Meaning
@@ -84,7 +85,7 @@ two_and_one_text =
     ++ flat_text 0x10 2 (0x00 ∷ 0x01 ∷ []) ++ scan_text 1 0 1 63 0x21 (0x67 ∷ [])
     ++ scan_text 1 0 0 0 0x10 (0x7f ∷ [])
     ++ scan_text 1 0 1 63 0x10 (0x63 ∷ [])
-    ++ end_of_image
+    ++ eoi
 
 -- -3 in place 1, and 1 in place 18, behind sixteen zeros
 abbrev pub far_apart : Meaning
@@ -99,7 +100,7 @@ far_apart_text =
     ++ flat_text 0x10 2 (0x00 ∷ 0x01 ∷ []) ++ scan_text 1 0 1 63 0x21 (0x47 ∷ [])
     ++ scan_text 1 0 0 0 0x10 (0x7f ∷ [])
     ++ flat_text 0x10 2 (0x00 ∷ 0x01 ∷ 0xf0 ∷ []) ++ scan_text 1 0 1 63 0x10 (0xac ∷ [])
-    ++ end_of_image
+    ++ eoi
 
 -- two blocks of nineteen 2s
 abbrev pub many_twos : Meaning
@@ -115,7 +116,7 @@ many_twos_text =
     ++ scan_text 1 0 1 63 0x21 (0x6d ∷ 0xb6 ∷ 0xdb ∷ 0x6d ∷ 0xb6 ∷ 0xdb ∷ 0x6d ∷ 0x8d ∷ 0xb6 ∷ 0xdb ∷ 0x6d ∷ 0xb6 ∷ 0xdb ∷ 0x6d ∷ 0xb3 ∷ [])
     ++ scan_text 1 0 0 0 0x10 (0x3f ∷ [])
     ++ flat_text 0x10 1 (0x10 ∷ []) ++ scan_text 1 0 1 63 0x10 (0 ∷ 0 ∷ 0 ∷ 0 ∷ 0 ∷ [])
-    ++ end_of_image
+    ++ eoi
 
 -- three blocks of several values
 abbrev pub mixed_values : Meaning
@@ -135,7 +136,7 @@ mixed_values_text =
     ++ scan_text 1 0 0 0 0x10 (0xff ∷ 0x00 ∷ 0xff ∷ 0xd0 ∷ 0xff ∷ 0x00 ∷ [])
     ++ flat_text 0x10 3 (0x00 ∷ 0x01 ∷ 0x61 ∷ 0x71 ∷ 0xe1 ∷ 0xf0 ∷ [])
     ++ scan_text 1 0 1 63 0x10 (0xba ∷ 0x82 ∷ 0xdb ∷ 0x3f ∷ 0xff ∷ 0xd0 ∷ 0x3a ∷ 0xdd ∷ 0x61 ∷ [])
-    ++ end_of_image
+    ++ eoi
 
 -- THREE COMPONENTS of 17 by 16 samples: the blocks of each row by row
 
@@ -166,7 +167,7 @@ three_scan_text =
     ++ three_text 0x00 0x11 0 63 0
     (0x0d ∷ 0x4b ∷ 0x9a ∷ 0xa6 ∷ 0xd5 ∷ 0x2e ∷ 0xea ∷ 0xb7 ∷ 0xfd ∷ 0x7e ∷ 0xa6 ∷ 0xcf ∷ 0xfa ∷ 0xff ∷ 0x00 ∷ 0xdb ∷ 0x8f ∷ 0xff ∷ 0xd0 ∷
     0xb5 ∷ 0xcd ∷ 0x15 ∷ 0x07 ∷ 0xcd ∷ 0x45 ∷ 0x74 ∷ 0x5f ∷ 0xfa ∷ 0xfc ∷ 0xce ∷ 0xbb ∷ 0xff ∷ 0x00 ∷ 0x5f ∷ 0xfa ∷ 0x51 ∷ [])
-    ++ end_of_image
+    ++ eoi
 
 -- the scans of 6b's own script for three components
 abbrev pub three_passes : List Entry
@@ -188,4 +189,4 @@ three_passes_text =
     ++ flat_text 0x11 2 (0x00 ∷ 0x01 ∷ 0x11 ∷ []) ++ scan_text 3 0x01 1 63 0x10 (0x62 ∷ 0x8f ∷ [])
     ++ flat_text 0x11 3 (0x00 ∷ 0x01 ∷ 0x11 ∷ 0xb1 ∷ 0xc1 ∷ 0xf0 ∷ []) ++ scan_text 2 0x01 1 63 0x10 (0x3b ∷ 0x21 ∷ 0x6b ∷ 0x8f ∷ [])
     ++ flat_text 0x10 3 (0x00 ∷ 0x01 ∷ 0x11 ∷ 0x20 ∷ 0x21 ∷ []) ++ scan_text 1 0x00 1 63 0x10 (0x30 ∷ 0xa2 ∷ 0x58 ∷ 0x3f ∷ [])
-    ++ end_of_image
+    ++ eoi

@@ -1,4 +1,4 @@
--- BYTES THAT STAND: the first bytes of a file that show no fault, and with which no file is whole (T.81 B.1.1, B.2.1).
+-- BYTES THAT STAND: the first bytes of a file that show no fault, and with which no file is whole (T.81, B.1.1, B.2.1).
 use Rattle.std.specs.Prelude.{◌≡◌, ◌⊎◌, ℕ, Bool, List, [], ◌∷◌, replicate, map, ℤ}
 use Rattle.jpg_spec.specs.Bits.{Packs, bits_of_bytes}
 use Rattle.jpg_spec.specs.Elements.{SpellsUnits}

@@ -1,10 +1,11 @@
--- THE FILE THAT IS WRITTEN for a headed meaning (T.81 B.2; the choices are the writer's own).
-use Rattle.std.specs.Prelude.{ℕ, ◌+◌, ◌*◌, min, Bool, true, false, not, nat_lt, ◌&&◌, ◌||◌, ◌==◌, if◌then◌else◌, List, [], ◌∷◌, ◌++◌, length, map, flat_map, slice_index_or, Option, Some, None}
+-- THE FILE THAT IS WRITTEN for a headed meaning (T.81, B.2; the choices are the writer's own).
+use Rattle.std.specs.Prelude.{ℕ, ◌+◌, ◌*◌, min, Bool, true, false, ◌&&◌, ◌||◌, ◌==◌, if◌then◌else◌, List, [], ◌∷◌, ◌++◌, length, map, flat_map, slice_index_or, Option, Some, None}
 use Rattle.std.specs.Int.{to_be_bytes, w16}
 use Rattle.jpg_spec.specs.Lists.{any_of, are_equal}
 use Rattle.jpg_spec.specs.Geometry.{Frame, is_progressive, scan_mcus_across}
-use Rattle.jpg_spec.specs.Segments.{HuffmanTable, QuantTable, ScanHead, head_components}
-use Rattle.jpg_spec.specs.Meaning.{Meaning, PictureComponent, colour_of}
+use Rattle.jpg_spec.specs.Segments.{HuffmanTable, QuantTable, ScanHead, head_components, needs_dc, needs_ac}
+use Rattle.jpg_spec.specs.Markers.{soi, eoi}
+use Rattle.jpg_spec.specs.Meaning.{Meaning, PictureComponent, colour_of, picture_frame}
 use Rattle.jpg_spec.specs.Moves.{is_wide}
 use Rattle.jpg_spec.specs.Script.{Entry}
 use Rattle.jpg_spec.specs.ScanText.{scan_elements, scan_tables, scan_data, is_same}
@@ -56,14 +57,11 @@ frame_text H =
 
 -- all before the scans: SOI, the kept markers, the quantisation tables, the frame header
 abbrev pub front_text : Meaning → List ℕ
-front_text H = 255 ∷ 0xd8 ∷ kept_text H.kept ++ quants_text H ++ frame_text H
+front_text H = soi ++ kept_text H.kept ++ quants_text H ++ frame_text H
 
+-- the frame's numbers, with the slots of the tables
 abbrev pub frame_of_meaning : Meaning → Frame
-frame_of_meaning H = record {
-  process = H.process;
-  precision = H.precision;
-  width = H.width;
-  height = H.height;
+frame_of_meaning H = record (picture_frame H) {
   components = map (λ c. record { id = c.id; h = c.h; v = c.v; quant = slot_in (distinct_quants H) c.quants }) H.components;
 }
 
@@ -81,18 +79,12 @@ has_chroma Unknown = false
 abbrev pub slot_for : Colour → ℕ → ℕ
 slot_for colour i = if has_chroma colour && (i == 1 || i == 2) then 1 else 0
 
-abbrev pub needs_dc : Bool → Entry → Bool
-needs_dc is_prog e = not is_prog || e.ss == 0 && e.ah == 0
-
-abbrev pub needs_ac : Bool → Entry → Bool
-needs_ac is_prog e = not is_prog || nat_lt 0 e.ss
-
 -- a slot number that isn't needed is 0
 abbrev pub written_head : Meaning → Entry → ScanHead
 written_head H e =
     let is_prog = is_progressive H.process in
     record {
-      parts = map (λ i. record { component = i; dc = if needs_dc is_prog e then slot_for (colour_of H) i else 0; ac = if needs_ac is_prog e then slot_for (colour_of H) i else 0 }) e.components;
+      parts = map (λ i. record { component = i; dc = if needs_dc is_prog e.ss e.ah then slot_for (colour_of H) i else 0; ac = if needs_ac is_prog e.ss then slot_for (colour_of H) i else 0 }) e.components;
       ss = if is_prog then e.ss else 0;
       se = if is_prog then e.se else 63;
       ah = if is_prog then e.ah else 0;
@@ -107,7 +99,7 @@ head_text H head =
 -- the classes and slots that a scan needs, per component DC and then AC
 abbrev pub tables_needed : Bool → Entry → ScanHead → List (ℕ × ℕ)
 tables_needed is_prog e head =
-    flat_map (λ p. (if needs_dc is_prog e then (0, p.dc) ∷ [] else []) ++ (if needs_ac is_prog e then (1, p.ac) ∷ [] else [])) head.parts
+    flat_map (λ p. (if needs_dc is_prog e.ss e.ah then (0, p.dc) ∷ [] else []) ++ (if needs_ac is_prog e.ss then (1, p.ac) ∷ [] else [])) head.parts
 
 -- what was written so far: the last table of each class and slot, and the restart interval
 pub record Written : Type 0 where
@@ -163,4 +155,4 @@ nothing_written = record { tables = λ class slot. None; interval = 0 }
 
 unfoldable pub file_text : Meaning → List Entry → Restart → List ℕ
 file_text H script restart =
-    front_text H ++ scans_text H restart nothing_written script ++ 255 ∷ 0xd9 ∷ []
+    front_text H ++ scans_text H restart nothing_written script ++ eoi

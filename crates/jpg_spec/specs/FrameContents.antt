@@ -1,4 +1,4 @@
--- What the contents of a frame header's segment tell, or the first fault that they show (T.81 B.2.2).
+-- What the contents of a frame header's segment tell, or the first fault that they show (T.81, B.2.2).
 use Rattle.std.specs.Prelude.{ℕ, ◌*◌, ◌/◌, ◌%◌, not, ◌==◌, List, [], ◌∷◌, length, Err}
 use Rattle.jpg_spec.specs.Faults.{Told, refuse}
 use Rattle.jpg_spec.specs.Segments.{two_bytes}

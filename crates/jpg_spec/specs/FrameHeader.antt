@@ -1,4 +1,4 @@
--- What a frame header may say, and what it bounds (T.81 B.2.2): the checks in their order, and the padded grids.
+-- What a frame header may say, and what it bounds (T.81, B.2.2): the checks in their order, and the padded grids.
 use Rattle.std.specs.Prelude.{◌≡◌, ℕ, ◌*◌, ◌≤◌, Bool, true, nat_lt, not, ◌||◌, ◌==◌, List, length, map, All, Ok}
 use Rattle.jpg_spec.specs.Lists.{any_of, is_distinct}
 use Rattle.jpg_spec.specs.Faults.{Told, refuse}

@@ -1,4 +1,4 @@
--- A frame's header, what its numbers bound, and where the blocks of a scan stand (T.81 A.1, A.2, B.2.2).
+-- A frame's header, what its numbers bound, and where the blocks of a scan stand (T.81, A.1, A.2, B.2.2).
 use Rattle.std.specs.Prelude.{◌<◌, length, ℕ, ◌+◌, ◌-◌, ◌*◌, ◌/◌, Bool, true, false, nat_lt, ◌&&◌, List, [], ◌∷◌, slice_index_or, map, sum_by, max, flat_map, pos, neg_ℤ}
 use Rattle.jpg_spec.specs.Lists.{below}
 use Rattle.jpg_spec.specs.declared.frame.Process.{Process}

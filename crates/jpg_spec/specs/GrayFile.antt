@@ -1,5 +1,5 @@
 -- THE PLAIN GRAY FILE: a baseline file of one component, with the typical tables K.3 and K.5, sides of whole blocks, and one scan
--- (T.81 B.2, F.1.2, JFIF 1.02).
+-- (T.81, B.2, F.1.2, JFIF 1.02).
 use Rattle.std.specs.Prelude.{◌≡◌, ℕ, ◌+◌, ◌*◌, ◌/◌, ◌%◌, ◌≤◌, Bool, nat_lt, ◌&&◌, ◌==◌, if◌then◌else◌, true, List, [], ◌∷◌, ◌++◌, length, map, flat_map, reverse, slice_index_or, codes, Some, ℤ, All}
 use Rattle.std.specs.Int.{to_be_bytes, w16}
 use Rattle.jpg_spec.specs.Bits.{Packs, SpellsData}
@@ -10,6 +10,7 @@ use Rattle.jpg_spec.specs.Segments.{ScanHead}
 use Rattle.jpg_spec.specs.Elements.{Coding, UnitLeft, SpellsUnits, zeros}
 use Rattle.jpg_spec.specs.Scan.{TablesInForce, scan_coding}
 use Rattle.jpg_spec.specs.ScanText.{typical_table}
+use Rattle.jpg_spec.specs.Markers.{soi, eoi}
 use Rattle.jpg_spec.specs.Meaning.{Meaning}
 use Rattle.jpg_spec.specs.Moves.{mirrored, flip_h, headed}
 use Rattle.jpg_spec.specs.Script.{sequential_script}
@@ -41,12 +42,6 @@ pub record IsGray (g : Gray) : Type 0 where
 
 -- THE BYTES BEFORE THE DATA
 
-abbrev pub start_of_image : List ℕ
-start_of_image = 0xff ∷ 0xd8 ∷ []
-
-abbrev pub end_of_image : List ℕ
-end_of_image = 0xff ∷ 0xd9 ∷ []
-
 -- version 1.01, unit 0, density 1 by 1, no thumbnail
 abbrev pub plain_jfif : List ℕ
 plain_jfif = codes "JFIF" ++ 0 ∷ 1 ∷ 1 ∷ 0 ∷ 0 ∷ 1 ∷ 0 ∷ 1 ∷ 0 ∷ 0 ∷ []
@@ -58,7 +53,7 @@ plain_frame width height = 8 ∷ to_be_bytes w16 height ++ to_be_bytes w16 width
 -- JFIF, the quantisation table, SOF0, K.3 and K.5 in slot 0, and the header of a scan of component 1 by these tables
 abbrev pub gray_front : ℕ → ℕ → List ℕ → List ℕ
 gray_front width height quants =
-    start_of_image ++ segment_text 0xe0 plain_jfif ++ segment_text 0xdb (0 ∷ quants) ++ segment_text 0xc0 (plain_frame width height)
+    soi ++ segment_text 0xe0 plain_jfif ++ segment_text 0xdb (0 ∷ quants) ++ segment_text 0xc0 (plain_frame width height)
     ++ segment_text 0xc4 (0 ∷ dc_luma_counts ++ dc_luma_values) ++ segment_text 0xc4 (0x10 ∷ ac_luma_counts ++ ac_luma_values)
     ++ segment_text 0xda (1 ∷ 1 ∷ 0 ∷ 0 ∷ 63 ∷ 0 ∷ [])
 
@@ -95,11 +90,7 @@ pub record SpellsGray (bytes : List ℕ) (g : Gray) : Type 0 where
   pub spelled : SpellsBlocks gray_coding 0 g.blocks bits
   pub packed : Packs bits coded
   pub stuffed : SpellsData coded text
-  pub cut : bytes ≡ gray_front g.width g.height g.quants ++ text ++ end_of_image
-
--- bytes that begin with a plain file, whatever follows its EOI
-abbrev pub BeginsWithPlain : List ℕ → Type 0
-BeginsWithPlain bytes = (g : Gray) × (front : List ℕ) × (rest : List ℕ) × (bytes ≡ front ++ rest) × SpellsGray front g
+  pub cut : bytes ≡ gray_front g.width g.height g.quants ++ text ++ eoi
 
 -- WHAT IT MEANS, and the file of the picture mirrored left to right
 

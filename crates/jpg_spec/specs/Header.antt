@@ -1,4 +1,4 @@
--- THE HEADER OF A FILE: its segments up to the first scan header (T.81 B.2.1). The scan header is judged by itself here, not by the tables in force.
+-- THE HEADER OF A FILE: its segments up to the first scan header (T.81, B.2.1). The scan header is judged by itself here, not by the tables in force.
 use Rattle.std.specs.Prelude.{◌≡◌, ◌⊎◌, ℕ, false, ◌==◌, if◌then◌else◌, List, [], ◌∷◌, None}
 use Rattle.jpg_spec.specs.ScanContents.{scan_header}
 use Rattle.jpg_spec.specs.Markers.{Segment, Rule, SpellsMarker, SpellsSegments, code_fault, has_scan, Pass, ShowsNoStart, Between, NoMarkerBytes, BeginsSegment, TailShows, PartOfSegment}

@@ -1,9 +1,9 @@
--- WHICH SCANS the scans before them admit, and with which tables (T.81 B.2.3, B.2.4, G.1.1.1). Lists have the newest first.
-use Rattle.std.specs.Prelude.{ℕ, Bool, true, false, nat_lt, nat_le, not, ◌&&◌, ◌||◌, ◌==◌, if◌then◌else◌, List, [], ◌∷◌, length, Option, Some, None, Ok, find, is_some, is_none, option_map}
+-- WHICH SCANS the scans before them admit, and with which tables (T.81, B.2.3, B.2.4, G.1.1.1). Lists have the newest first.
+use Rattle.std.specs.Prelude.{ℕ, Bool, true, false, nat_le, not, ◌&&◌, ◌||◌, ◌==◌, if◌then◌else◌, List, [], ◌∷◌, length, Option, Some, None, Ok, find, is_some, is_none, option_map}
 use Rattle.jpg_spec.specs.Lists.{any_of, all_of, is_among, are_equal, below}
 use Rattle.jpg_spec.specs.Faults.{Told, refuse}
 use Rattle.jpg_spec.specs.Geometry.{Frame, component_at, is_progressive}
-use Rattle.jpg_spec.specs.Segments.{QuantTable, ScanHead, head_components}
+use Rattle.jpg_spec.specs.Segments.{QuantTable, ScanHead, head_components, needs_dc, needs_ac}
 use Rattle.jpg_spec.specs.Markers.{Segment}
 use Rattle.jpg_spec.specs.InForce.{first_some, head_in, heads_of, huffman_in_force, quant_in_force}
 use Rattle.jpg_spec.specs.declared.fault.Fault.TheVariants.{RepeatedScan, Progression, MissingTable, QuantChanged}
@@ -39,12 +39,12 @@ quant_of f (s ∷ before) i =
     if s.0 == 0xda then first_some (quant_of f before i) (if names (head_in f s.1) i then quant_in_force before (component_at f i).quant else None)
     else quant_of f before i
 
--- which tables a scan needs
+-- which tables a scan of a frame needs
 abbrev pub needs_dc_table : Frame → ScanHead → Bool
-needs_dc_table f head = not (is_progressive f.process) || head.ss == 0 && head.ah == 0
+needs_dc_table f head = needs_dc (is_progressive f.process) head.ss head.ah
 
 abbrev pub needs_ac_table : Frame → ScanHead → Bool
-needs_ac_table f head = not (is_progressive f.process) || nat_lt 0 head.ss
+needs_ac_table f head = needs_ac (is_progressive f.process) head.ss
 
 abbrev pub lacks_table : Frame → List Segment → ScanHead → Bool
 lacks_table f before head =

@@ -1,5 +1,5 @@
--- What the contents of a segment of Huffman tables tell, table by table, or the first fault that they show (T.81 B.2.4.2).
-use Rattle.std.specs.Prelude.{ℕ, zero, suc, ◌+◌, ◌/◌, ◌%◌, nat_lt, not, ◌||◌, ◌==◌, if◌then◌else◌, List, [], ◌∷◌, length, sum, take, drop, slice_set, Option, Some, None, Ok, Err}
+-- What the contents of a segment of Huffman tables tell, table by table, or the first fault that they show (T.81, B.2.4.2).
+use Rattle.std.specs.Prelude.{ℕ, zero, suc, ◌+◌, ◌/◌, ◌%◌, nat_lt, not, ◌||◌, ◌==◌, if◌then◌else◌, List, [], ◌∷◌, length, sum, take, drop, slice_set, Option, Some, Ok, Err}
 use Rattle.jpg_spec.specs.Codes.{are_codes}
 use Rattle.jpg_spec.specs.Faults.{Told, refuse}
 use Rattle.jpg_spec.specs.Segments.{HuffmanTable}
@@ -54,9 +54,7 @@ pub record HuffmanSlots : Type 0 where
   pub dc : List (Option HuffmanTable)
   pub ac : List (Option HuffmanTable)
 
-abbrev pub no_huffman : HuffmanSlots
-no_huffman = record { dc = None ∷ None ∷ None ∷ None ∷ []; ac = None ∷ None ∷ None ∷ None ∷ [] }
-
+-- after one table
 abbrev pub put_definition : HuffmanSlots → HuffmanDefinition → HuffmanSlots
 put_definition slots d =
     if d.class == 0 then record slots { dc = slice_set slots.dc d.slot (Some d.table) } else record slots { ac = slice_set slots.ac d.slot (Some d.table) }
@@ -64,10 +62,6 @@ put_definition slots d =
 abbrev pub put_definitions : HuffmanSlots → List HuffmanDefinition → HuffmanSlots
 put_definitions slots [] = slots
 put_definitions slots (d ∷ ds) = put_definitions (put_definition slots d) ds
-
--- after one table
-abbrev pub huffman_told : HuffmanSlots → ℕ → List ℕ → Told HuffmanSlots
-huffman_told slots tc bytes = huffman_table_of tc bytes >>= λ d. Ok (put_definition slots d)
 
 abbrev pub huffmans_told : HuffmanSlots → List ℕ → Told HuffmanSlots
 huffmans_told slots contents = huffman_tables contents >>= λ ds. Ok (put_definitions slots ds)

@@ -1,4 +1,4 @@
--- WHAT IS IN FORCE after segments: the last definitions among them (T.81 B.2.2, B.2.4). Lists of segments have the newest first.
+-- WHAT IS IN FORCE after segments: the last definitions among them (T.81, B.2.2, B.2.4). Lists of segments have the newest first.
 use Rattle.std.specs.Prelude.{ℕ, ◌&&◌, ◌==◌, if◌then◌else◌, List, [], ◌∷◌, ◌++◌, reverse, Option, Some, None, Ok, Err, find, option_map, option_and_then, unwrap_or}
 use Rattle.jpg_spec.specs.Faults.{Told}
 use Rattle.jpg_spec.specs.Geometry.{Frame}

@@ -1,4 +1,4 @@
--- WHAT A FILE IS MADE OF (T.81 B.1.1, B.2.1): SOI, segments and scans, EOI; and the rules for all of them. Lists of items have the newest first.
+-- WHAT A FILE IS MADE OF (T.81, B.1.1, B.2.1): SOI, segments and scans, EOI; and the rules for all of them. Lists of items have the newest first.
 use Rattle.std.specs.Prelude.{◌≡◌, ℕ, ◌+◌, ◌%◌, Bool, true, false, ◌==◌, if◌then◌else◌, List, [], ◌∷◌, ◌++◌, map, Option, Some, None, Ok, Err}
 use Rattle.jpg_spec.specs.Bits.{SpellsData}
 use Rattle.jpg_spec.specs.Faults.{Told}

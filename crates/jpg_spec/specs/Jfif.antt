@@ -1,9 +1,7 @@
--- The JFIF header, Adobe's segment, and the colours that they tell (JFIF 1.02, Adobe's APP14).
-use Rattle.std.specs.Prelude.{ℕ, Bool, true, false, nat_le, ◌&&◌, ◌==◌, if◌then◌else◌, List, [], ◌∷◌, ◌++◌, length, reverse, slice_index, Option, Some, None, find, codes}
-use Rattle.jpg_spec.specs.Lists.{begins_with, are_equal}
+-- The JFIF header and Adobe's segment (JFIF 1.02, Adobe's APP14).
+use Rattle.std.specs.Prelude.{ℕ, Bool, true, false, nat_le, ◌&&◌, ◌==◌, List, [], ◌∷◌, ◌++◌, length, reverse, slice_index, Option, Some, None, find, codes}
+use Rattle.jpg_spec.specs.Lists.{begins_with}
 use Rattle.jpg_spec.specs.Segments.{two_bytes}
-use Rattle.jpg_spec.specs.declared.frame.Colour.{Colour}
-use Rattle.jpg_spec.specs.declared.frame.Colour.TheVariants.{Gray, YCbCr, Rgb, Cmyk, Ycck, Unknown}
 
 -- Segments are pairs of a marker code and contents.
 abbrev pub begins_jfif : ℕ → List ℕ → Bool
@@ -47,23 +45,3 @@ adobe_transform kept = adobe_told (find is_adobe (reverse kept))
     adobe_told : Option (ℕ × List ℕ) → Option ℕ
     adobe_told None = None
     adobe_told (Some s) = Some (slice_index s.1 11)
-
-abbrev pub is_some_zero : Option ℕ → Bool
-is_some_zero None = false
-is_some_zero (Some n) = n == 0
-
-abbrev pub is_some_number : Option ℕ → Bool
-is_some_number None = false
-is_some_number (Some n) = true
-
-abbrev pub colour_from : ℕ → List ℕ → List (ℕ × List ℕ) → Colour
-colour_from count ids kept =
-    if count == 1 then Gray
-    else if count == 3 then
-    (if (jfif_of kept).seen then YCbCr
-    else if is_some_zero (adobe_transform kept) then Rgb
-    else if is_some_number (adobe_transform kept) then YCbCr
-    else if are_equal ids (82 ∷ 71 ∷ 66 ∷ []) then Rgb
-    else YCbCr)
-    else if count == 4 then (if is_some_zero (adobe_transform kept) then Cmyk else if is_some_number (adobe_transform kept) then Ycck else Cmyk)
-    else Unknown

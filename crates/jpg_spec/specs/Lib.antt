@@ -24,6 +24,7 @@ pub mod ImageText
 pub mod InForce
 pub mod Items
 pub mod Jfif
+pub mod Laws
 pub mod Lists
 pub mod Markers
 pub mod Meaning
@@ -49,7 +50,6 @@ pub mod SingleScan
 pub mod Sound
 pub mod Strips
 pub mod Switches
-pub mod Told
 pub mod Transforms
 pub mod Transposed
 pub mod Typical

@@ -1,4 +1,4 @@
--- MARKERS AND SEGMENTS, as they stand in a file (T.81 B.1.1.2 to B.1.1.4, Table B.1), and which of them may stand where.
+-- MARKERS AND SEGMENTS, as they stand in a file (T.81, B.1.1.2 to B.1.1.4, Table B.1), and which of them may stand where.
 -- Lists of segments have the newest first.
 use Rattle.std.specs.Prelude.{◌≡◌, ◌⊎◌, ℕ, suc, ◌+◌, ◌<◌, ◌≤◌, Bool, true, false, nat_lt, nat_le, not, ◌&&◌, ◌||◌, ◌==◌, if◌then◌else◌, List, [], ◌∷◌, ◌++◌, length, take, replicate, Option, Some, None}
 use Rattle.std.specs.Int.{to_be_bytes, w16}
@@ -21,6 +21,9 @@ Segment = ℕ × List ℕ
 
 abbrev pub soi : List ℕ
 soi = 255 ∷ 0xd8 ∷ []
+
+abbrev pub eoi : List ℕ
+eoi = 255 ∷ 0xd9 ∷ []
 
 -- any number of fill bytes FF, then FF and a code
 abbrev pub SpellsMarker : ℕ → List ℕ → Type 0
@@ -99,12 +102,12 @@ is_plain_adobe s = is_adobe s && length s.1 == 12
 abbrev pub counts_nothing : Bool → Bool → Segment → Bool
 counts_nothing jfif_before adobe_before s = is_plain_jfif s && not jfif_before || is_plain_adobe s && not adobe_before
 
-abbrev pub kept_size : Bool → Bool → Segment → ℕ
-kept_size jfif_before adobe_before s = if counts_nothing jfif_before adobe_before s then 0 else length s.1 + 4
+abbrev pub counted_size : Bool → Bool → Segment → ℕ
+counted_size jfif_before adobe_before s = if counts_nothing jfif_before adobe_before s then 0 else length s.1 + 4
 
 abbrev pub kept_count : List Segment → ℕ
 kept_count [] = 0
-kept_count (s ∷ before) = kept_size (any_of is_plain_jfif before) (any_of is_plain_adobe before) s + kept_count before
+kept_count (s ∷ before) = counted_size (any_of is_plain_jfif before) (any_of is_plain_adobe before) s + kept_count before
 
 -- RULES
 

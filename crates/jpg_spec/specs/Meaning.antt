@@ -1,10 +1,11 @@
--- WHAT A FILE MEANS: its frame's numbers, its components with their quantisation tables, the real blocks, and the markers kept (T.81 B.2.1).
+-- WHAT A FILE MEANS: its frame's numbers, its components with their quantisation tables, the real blocks, and the markers kept (T.81, B.2.1).
 use Rattle.std.specs.Prelude.{ℕ, nat_lt, ◌&&◌, if◌then◌else◌, List, length, map}
 use Rattle.jpg_spec.specs.Geometry.{Frame, is_real}
 use Rattle.jpg_spec.specs.Segments.{QuantTable}
 use Rattle.jpg_spec.specs.Elements.{zeros}
 use Rattle.jpg_spec.specs.Scan.{Blocks}
-use Rattle.jpg_spec.specs.Jfif.{colour_from}
+use Rattle.jpg_spec.specs.Jfif.{jfif_of, adobe_transform}
+use Rattle.jpg_spec.specs.Colours.{colours_of}
 use Rattle.jpg_spec.specs.declared.frame.Process.{Process}
 use Rattle.jpg_spec.specs.declared.frame.Colour.{Colour}
 
@@ -27,9 +28,9 @@ pub record Meaning : Type 0 where
 abbrev pub real_blocks : Frame → Blocks → Blocks
 real_blocks f blocks i x y = if nat_lt i (length f.components) && is_real f i x y then blocks i x y else zeros 64
 
--- the colours, by the number and ids of the components and the markers kept
+-- the colours, by the components and the markers kept: the last JFIF header and the last Adobe segment
 abbrev pub colour_of : Meaning → Colour
-colour_of M = colour_from (length M.components) (map (λ c. c.id) M.components) M.kept
+colour_of M = colours_of (length M.components) (map (λ c. c.id) M.components) (jfif_of M.kept).seen (adobe_transform M.kept)
 
 -- the frame's numbers of a meaning (without table slots)
 abbrev pub picture_frame : Meaning → Frame

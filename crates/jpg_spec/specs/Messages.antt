@@ -53,11 +53,11 @@ message tool WriteFault = line tool (text_of WriteFault)
 message tool NoMemory = line tool (text_of NoMemory)
 
 -- the exit status
-abbrev pub code_of : Why → ℕ
-code_of Done = 0
-code_of (Usage u) = 1
-code_of (Refused f) = 1
-code_of (OpenFault which) = 1
-code_of (ReadFault which) = 1
-code_of WriteFault = 1
-code_of NoMemory = 3
+abbrev pub status_of : Why → ℕ
+status_of Done = 0
+status_of (Usage u) = 1
+status_of (Refused f) = 1
+status_of (OpenFault which) = 1
+status_of (ReadFault which) = 1
+status_of WriteFault = 1
+status_of NoMemory = 3

@@ -1,9 +1,8 @@
 -- A PICTURE MOVED as a choice asks for it (the manual of jpegtran): grayed, transformed, trimmed, and headed for writing.
 use Rattle.std.specs.Prelude.{◌≡◌, ℕ, ◌*◌, ◌/◌, Bool, true, false, not, ◌&&◌, ◌||◌, ◌==◌, if◌then◌else◌, List, [], ◌∷◌, map, Option, Some, None}
 use Rattle.jpg_spec.specs.Geometry.{Frame, component_at, h_max, v_max}
-use Rattle.jpg_spec.specs.Jfif.{jfif_of}
 use Rattle.jpg_spec.specs.Meaning.{Meaning, colour_of, picture_frame, real_blocks}
-use Rattle.jpg_spec.specs.Moves.{most_across, most_down, component_of, sequential_process, headed_kept, copied}
+use Rattle.jpg_spec.specs.Moves.{most_across, most_down, component_of, sequential_process, headed_by}
 use Rattle.jpg_spec.specs.Transforms.{transformed, transposes, mirrors_across, mirrors_down}
 use Rattle.jpg_spec.specs.Script.{Entry}
 use Rattle.jpg_spec.specs.FileText.{Restart}
@@ -70,10 +69,7 @@ process_due true M = Progressive
 process_due false M = sequential_process M
 
 abbrev pub headed_as : Choice → Meaning → Meaning
-headed_as choice M = record M {
-  process = process_due (asks_progressive choice.scans) M;
-  kept = headed_kept (colour_of M) (jfif_of M.kept) (copied choice.copying M.kept);
-}
+headed_as choice M = record (headed_by choice.copying M) { process = process_due (asks_progressive choice.scans) M }
 
 -- MOVED
 

@@ -1,4 +1,4 @@
--- The category of a number, and its additional bits (T.81 F.1.2).
+-- The category of a number, and its additional bits (T.81, F.1.2).
 use Rattle.std.specs.Prelude.{ℕ, zero, suc, ◌+◌, ◌-◌, ◌/◌, ◌^◌, Bool, true, false, ◌==◌, List}
 use Rattle.std.specs.Prelude.{ℤ, pos, negsuc, nat_abs}
 use Rattle.jpg_spec.specs.Bits.{bits_of}

@@ -1,4 +1,4 @@
--- WHOLE ELEMENTS AND A PART OF ONE MORE (T.81 F.2.2, G.1.2): bits of its code; its code and some of its additional bits; or these and
+-- WHOLE ELEMENTS AND A PART OF ONE MORE (T.81, F.2.2, G.1.2): bits of its code; its code and some of its additional bits; or these and
 -- some of its corrections. What was passed has its new values, and the rest is left. Of several bands that end, those passed have changed.
 use Rattle.std.specs.Prelude.{◌≡◌, ◌⊎◌, ℕ, ◌+◌, ◌-◌, ◌*◌, ◌<◌, ◌≤◌, true, false, Bool, List, [], ◌∷◌, ◌++◌, length, ℤ, Contains}
 use Rattle.jpg_spec.specs.Bits.{bits_of}

@@ -1,6 +1,6 @@
--- THE PICTURE IN WORK while a scan is read: what the intervals done tell stands in it, and all else stands as before the scan (T.81 B.1.1, E.1.4).
+-- THE PICTURE IN WORK while a scan is read: what the intervals done tell stands in it, and all else stands as before the scan (T.81, B.1.1, E.1.4).
 use Rattle.std.specs.Prelude.{◌≡◌, ℕ, ℤ, Bool, true, false, ◌≤◌, None, ◌==◌, ◌&&◌, List, [], ◌∷◌, ◌++◌, length, map, flat_map, nat_le}
-use Rattle.jpg_spec.specs.Lists.{any_of, chunks, is_among}
+use Rattle.jpg_spec.specs.Lists.{any_of, chunks, is_among, joined}
 use Rattle.jpg_spec.specs.Elements.{SpellsUnits}
 use Rattle.jpg_spec.specs.Scan.{Blocks, Scan, unit_at, band, block_at, SpellsIntervals, coefficient}
 use Rattle.jpg_spec.specs.Geometry.{is_progressive}
@@ -19,9 +19,6 @@ is_at i x y p = p.component == i && p.x == x && p.y == y
 abbrev pub AreDistinct : List Place → Type 0
 AreDistinct [] = Unit {0}
 AreDistinct (p ∷ places) = (any_of (is_at p.component p.x p.y) places ≡ false) × AreDistinct places
-
-abbrev pub joined : {A : Type 0} → List (List A) → List A
-joined rows = flat_map (λ row. row) rows
 
 abbrev pub is_in_band : Scan → ℕ → Bool
 is_in_band s k = nat_le s.ss k && nat_le k s.se

@@ -1,6 +1,6 @@
--- What the contents of a segment of quantisation tables tell, table by table, or the first fault that they show (T.81 B.2.4.1).
+-- What the contents of a segment of quantisation tables tell, table by table, or the first fault that they show (T.81, B.2.4.1).
 use Rattle.std.specs.Prelude.{ℕ, zero, suc, ◌/◌, ◌%◌, Bool, nat_lt, ◌||◌, ◌==◌, if◌then◌else◌, List, [], ◌∷◌, length, take, drop, slice_get, slice_set, Option, None, Some, Ok, Err}
-use Rattle.jpg_spec.specs.Lists.{any_of}
+use Rattle.jpg_spec.specs.Lists.{any_of, slot_value}
 use Rattle.jpg_spec.specs.Faults.{Told, refuse}
 use Rattle.jpg_spec.specs.Segments.{QuantTable, two_bytes}
 use Rattle.jpg_spec.specs.declared.fault.Fault.TheVariants.{BadLength, BadQuant}
@@ -23,15 +23,15 @@ table_size pt = if pt / 16 == 1 then 128 else 64
 abbrev pub table_entries : ℕ → List ℕ → QuantTable
 table_entries pt bytes = if pt / 16 == 1 then pairs_told (take 128 bytes) else take 64 bytes
 
-abbrev pub is_zero : ℕ → Bool
-is_zero q = q == 0
+abbrev pub is_zero_quant : ℕ → Bool
+is_zero_quant q = q == 0
 
 -- a slot and its table
 unfoldable pub quant_table_of : ℕ → List ℕ → Told (ℕ × QuantTable)
 quant_table_of pt bytes =
     refuse BadQuant (nat_lt 1 (pt / 16) || nat_lt 3 (pt % 16))
     (refuse BadLength (nat_lt (length bytes) (table_size pt))
-    (refuse BadQuant (any_of is_zero (table_entries pt bytes))
+    (refuse BadQuant (any_of is_zero_quant (table_entries pt bytes))
     (Ok (pt % 16, table_entries pt bytes))))
 
 -- The tables of this many bytes or fewer. (The number only bounds the recursion.)
@@ -54,13 +54,9 @@ Slots = List (Option QuantTable)
 abbrev pub no_quants : Slots
 no_quants = None ∷ None ∷ None ∷ None ∷ []
 
-abbrev pub joined : Option (Option QuantTable) → Option QuantTable
-joined None = None
-joined (Some table) = table
-
 -- the table in a slot, if any
 abbrev pub quant_in : Slots → ℕ → Option QuantTable
-quant_in slots slot = joined (slice_get slots slot)
+quant_in slots slot = slot_value (slice_get slots slot)
 
 -- after one table
 abbrev pub quant_told : Slots → ℕ → List ℕ → Told Slots

@@ -1,4 +1,4 @@
--- THE RANGE OF COEFFICIENTS: the first of a block is its DC, the others are AC (T.81 F.1.2, G.1.2).
+-- THE RANGE OF COEFFICIENTS: the first of a block is its DC, the others are AC (T.81, F.1.2, G.1.2).
 use Rattle.std.specs.Prelude.{◌≡◌, ℕ, Bool, true, ◌&&◌, ◌==◌, if◌then◌else◌, length, ℤ, pos, nat_abs, int_le}
 use Rattle.jpg_spec.specs.Scan.{Blocks, coefficient}
 use Rattle.jpg_spec.specs.declared.frame.Bounds.{Bounds}

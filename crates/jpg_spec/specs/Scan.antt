@@ -1,4 +1,4 @@
--- WHAT A SCAN MEANS between the blocks before and after it (T.81 A.2, B.1.1.5, E.1.4, G.1.1.1).
+-- WHAT A SCAN MEANS between the blocks before and after it (T.81, A.2, B.1.1.5, E.1.4, G.1.1.1).
 use Rattle.std.specs.Prelude.{◌≡◌, ℕ, ◌+◌, ◌-◌, ◌*◌, Bool, false, nat_lt, nat_le, ◌&&◌, ◌==◌, if◌then◌else◌, List, [], ◌∷◌, length, take, drop, flat_map, map, slice_index_or, Option, Some, None, ℤ, pos}
 use Rattle.jpg_spec.specs.Bits.{Packs}
 use Rattle.jpg_spec.specs.Codes.{Code}

@@ -1,4 +1,4 @@
--- What the contents of a restart interval's segment and of a scan header's tell, or the first fault that they show (T.81 B.2.3, B.2.4.4).
+-- What the contents of a restart interval's segment and of a scan header's tell, or the first fault that they show (T.81, B.2.3, B.2.4.4).
 use Rattle.std.specs.Prelude.{◌≡◌, ℕ, ◌<◌, ◌≤◌, ◌+◌, ◌*◌, ◌/◌, ◌%◌, Bool, true, nat_lt, nat_le, not, ◌&&◌, ◌||◌, ◌==◌, if◌then◌else◌, List, [], ◌∷◌, length, slice_index, take, drop, All, Ok, Err}
 use Rattle.jpg_spec.specs.Lists.{all_of, is_among, is_distinct, index_of}
 use Rattle.jpg_spec.specs.Faults.{Told, refuse}
@@ -30,7 +30,7 @@ parts_told f [] = []
 parts_told f (id ∷ []) = []
 parts_told f (id ∷ slots ∷ bytes) = part_told f id slots ∷ parts_told f bytes
 
--- DC alone, or a band of AC of one component; Ah is 0 or one more than Al (T.81 G.1.1.1)
+-- DC alone, or a band of AC of one component; Ah is 0 or one more than Al (T.81, G.1.1.1)
 abbrev pub is_band : ℕ → ScanHead → Bool
 is_band count head = if head.ss == 0 then head.se == 0 else count == 1 && (nat_le head.ss head.se && nat_le head.se 63)
 

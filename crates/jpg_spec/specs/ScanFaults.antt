@@ -1,4 +1,4 @@
--- WHICH BITS OF A SCAN SHOW A FAULT: whole elements, and then one thing that may not stand there (T.81 F.2.2, G.1.2).
+-- WHICH BITS OF A SCAN SHOW A FAULT: whole elements, and then one thing that may not stand there (T.81, F.2.2, G.1.2).
 use Rattle.std.specs.Prelude.{◌≡◌, ◌⊎◌, ℕ, ◌+◌, ◌*◌, ◌/◌, ◌%◌, ◌^◌, ◌<◌, ◌≤◌, Bool, true, false, nat_lt, nat_le, ◌&&◌, ◌||◌, ◌==◌, List, ◌∷◌, ◌++◌, length, ℤ, Contains}
 use Rattle.jpg_spec.specs.Bits.{bits_of}
 use Rattle.jpg_spec.specs.Codes.{Code}

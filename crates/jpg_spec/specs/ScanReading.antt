@@ -1,4 +1,4 @@
--- WHAT A READER OF A FILE STANDS FOR, between items and inside the data of a scan (T.81 B.1.1, B.2.1, F.2.2, G.1.2).
+-- WHAT A READER OF A FILE STANDS FOR, between items and inside the data of a scan (T.81, B.1.1, B.2.1, F.2.2, G.1.2).
 use Rattle.std.specs.Prelude.{◌≡◌, ◌⊎◌, ℕ, false, List, [], ◌∷◌, ◌++◌, replicate, map, None}
 use Rattle.jpg_spec.specs.Bits.{bits_of_bytes}
 use Rattle.jpg_spec.specs.Lists.{chunks}
@@ -13,9 +13,13 @@ use Rattle.jpg_spec.specs.declared.frame.Limits.{Limits}
 use Rattle.jpg_spec.specs.declared.frame.Place.{Place}
 use Rattle.jpg_spec.specs.FileStands.{Completes, AreDue}
 
--- the bytes begin with a marker
-abbrev pub BeginsMarker : List ℕ → Type 0
-BeginsMarker bytes = (code : ℕ) × (marker : List ℕ) × (rest : List ℕ) × SpellsMarker code marker × (bytes ≡ marker ++ rest)
+-- The bytes begin with a marker.
+pub record LeadingMarker (bytes : List ℕ) : Type 0 where
+  pub code : ℕ
+  pub marker : List ℕ
+  pub rest : List ℕ
+  pub spelled : SpellsMarker code marker
+  pub cut : bytes ≡ marker ++ rest
 
 -- Between items. What a reader of segments was sent leaves out the data of scans, and fill bytes behind them:
 -- the same whole segments, and the same bytes of a further one behind them.
@@ -23,7 +27,7 @@ pub record Beside (limits : Limits) (rule : Rule) (sent bytes : List ℕ) (items
   pub fill : ℕ
   pub between : Between rule sent (segments_of items) tail
   pub behind : BehindItems limits bytes items (replicate fill 255 ++ tail)
-  pub plain : ((fill ≡ 0) × (ends_in_scan items ≡ false)) ⊎ BeginsMarker tail
+  pub plain : ((fill ≡ 0) × (ends_in_scan items ≡ false)) ⊎ LeadingMarker tail
 
 -- A place inside scan data, with all that a reader keeps of it: the items and the blocks before the scan, the contents of its header,
 -- the intervals done, the data bytes of the one in work, its units, and the intervals behind it.

@@ -1,4 +1,4 @@
--- THE SCANS THAT ARE WRITTEN: their elements, the tables of their codes, and their data (T.81 F.1.2, E.1.4; the choices are the writer's own).
+-- THE SCANS THAT ARE WRITTEN: their elements, the tables of their codes, and their data (T.81, F.1.2, E.1.4; the choices are the writer's own).
 use Rattle.std.specs.Prelude.{ℕ, zero, suc, ◌+◌, ◌-◌, ◌*◌, ◌%◌, ◌^◌, Bool, true, false, not, nat_lt, ◌&&◌, ◌==◌, if◌then◌else◌, List, [], ◌∷◌, ◌++◌, length, take, drop, map, flat_map, filter, replicate, slice_index_or, unwrap_or, ℤ, pos, nat_abs, ◌-ℤ◌}
 use Rattle.jpg_spec.specs.Bits.{data_of}
 use Rattle.jpg_spec.specs.Codes.{Code, first_code}
@@ -6,7 +6,7 @@ use Rattle.jpg_spec.specs.Lists.{below, chunks, are_equal, is_among}
 use Rattle.jpg_spec.specs.Typical.{dc_luma_counts, dc_luma_values, ac_luma_counts, ac_luma_values, dc_chroma_counts, dc_chroma_values, ac_chroma_counts, ac_chroma_values}
 use Rattle.jpg_spec.specs.Geometry.{Frame, units, is_progressive, mcu_units}
 use Rattle.jpg_spec.specs.Segments.{HuffmanTable, table_codes, ScanHead, head_components}
-use Rattle.jpg_spec.specs.Elements.{Element, difference, dc_bit, value, long_run, ends, is_dc_bit, symbol_of, bits_behind, zeros}
+use Rattle.jpg_spec.specs.Elements.{Element, difference, dc_bit, value, long_run, ends, is_dc_bit, symbol_of, bits_behind, predicted, zeros}
 use Rattle.jpg_spec.specs.Sending.{Sent, sent, shifted, band_elements}
 use Rattle.jpg_spec.specs.Scan.{Blocks, block_at, part_of}
 use Rattle.jpg_spec.specs.declared.frame.Place.{Place}
@@ -34,9 +34,6 @@ abbrev pub dc_element : Bool → ℕ → ℤ → ℤ → Element
 dc_element false al prediction v = difference (shifted al v -ℤ prediction)
 dc_element true al prediction v = dc_bit (nat_abs (shifted al v) % 2 == 1)
 
-abbrev pub with_prediction : (ℕ → ℤ) → ℕ → ℤ → ℕ → ℤ
-with_prediction predictions component w i = if i == component then w else predictions i
-
 -- DC of each unit; in a sequential scan its band follows
 abbrev pub unit_elements : Bool → Bool → ℕ → (ℕ → ℤ) → List UnitDue → List Owned
 unit_elements is_seq refines al predictions [] = []
@@ -44,7 +41,7 @@ unit_elements is_seq refines al predictions (u ∷ later) =
     let v = slice_index_or u.1 0 (pos 0) in
     (u.0, dc_element refines al (predictions u.0) v)
     ∷ (if is_seq then map (λ e. (u.0, e)) (band_elements 1 0 [] (map (sent false 0) (drop 1 u.1) ∷ [])) else [])
-    ++ unit_elements is_seq refines al (with_prediction predictions u.0 (shifted al v)) later
+    ++ unit_elements is_seq refines al (predicted predictions u.0 (shifted al v)) later
 
 abbrev pub band_of : ScanHead → List ℤ → List Sent
 band_of head block = map (sent (nat_lt 0 head.ah) head.al) (take (head.se + 1 - head.ss) (drop head.ss block))

@@ -1,5 +1,5 @@
--- What marker segments hold: quantisation tables, Huffman tables and scan headers (T.81 B.2.3, B.2.4).
-use Rattle.std.specs.Prelude.{ℕ, ◌*◌, ◌+◌, ◌^◌, List, map}
+-- What marker segments hold: quantisation tables, Huffman tables and scan headers (T.81, B.2.3, B.2.4).
+use Rattle.std.specs.Prelude.{ℕ, ◌*◌, ◌+◌, ◌^◌, Bool, not, nat_lt, ◌==◌, ◌&&◌, ◌||◌, List, map}
 use Rattle.jpg_spec.specs.Codes.{Code, codes}
 use Rattle.jpg_spec.specs.declared.frame.ScanPart.{ScanPart}
 use Rattle.jpg_spec.specs.declared.frame.Limits.{Limits}
@@ -34,3 +34,10 @@ pub record ScanHead : Type 0 where
 
 abbrev pub head_components : ScanHead → List ℕ
 head_components head = map (λ p. p.component) head.parts
+
+-- which tables a scan needs, by its process, ss and ah (G.1.2): DC tables in a first pass of DC, AC tables where its band begins behind DC
+abbrev pub needs_dc : Bool → ℕ → ℕ → Bool
+needs_dc is_prog ss ah = not is_prog || ss == 0 && ah == 0
+
+abbrev pub needs_ac : Bool → ℕ → Bool
+needs_ac is_prog ss = not is_prog || nat_lt 0 ss

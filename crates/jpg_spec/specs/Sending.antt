@@ -1,4 +1,4 @@
--- WHAT A SCAN SENDS of a band, and the elements that the writer chooses for it (T.81 F.1.2, G.1.2; the choices are the writer's own).
+-- WHAT A SCAN SENDS of a band, and the elements that the writer chooses for it (T.81, F.1.2, G.1.2; the choices are the writer's own).
 use Rattle.std.specs.Prelude.{ℕ, zero, suc, ◌+◌, ◌/◌, ◌%◌, ◌^◌, Bool, true, false, not, nat_lt, ◌||◌, ◌==◌, if◌then◌else◌, List, [], ◌∷◌, ◌++◌, length, ℤ, pos, negsuc, neg_ℤ, nat_abs}
 use Rattle.jpg_spec.specs.Lists.{is_empty, any_of}
 use Rattle.jpg_spec.specs.Elements.{Element, value, long_run, ends, is_zero}

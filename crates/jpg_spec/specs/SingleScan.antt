@@ -1,4 +1,4 @@
--- A FILE OF ONE GRAY SCAN: a sequential frame of one component with factors 1 by 1 and sides of whole blocks, one scan without restarts (T.81 A.2, F.1.2).
+-- A FILE OF ONE GRAY SCAN: a sequential frame of one component with factors 1 by 1 and sides of whole blocks, one scan without restarts (T.81, A.2, F.1.2).
 use Rattle.std.specs.Prelude.{◌≡◌, ℕ, ◌+◌, ◌*◌, ◌/◌, ◌%◌, Bool, true, not, nat_lt, ◌&&◌, ◌==◌, if◌then◌else◌, List, [], ◌∷◌, ◌++◌, length, slice_index_or, ℤ, All}
 use Rattle.jpg_spec.specs.Bits.{Packs, SpellsData, data_of}
 use Rattle.jpg_spec.specs.Geometry.{Frame, component_at, is_progressive}
@@ -9,10 +9,10 @@ use Rattle.jpg_spec.specs.Meaning.{Meaning}
 use Rattle.jpg_spec.specs.Moves.{flip_h, headed}
 use Rattle.jpg_spec.specs.Header.{IsHeader}
 use Rattle.jpg_spec.specs.Typical.{dc_luma_counts, dc_luma_values, ac_luma_counts, ac_luma_values}
-use Rattle.jpg_spec.specs.GrayFile.{end_of_image, SpellsBlocks}
+use Rattle.jpg_spec.specs.GrayFile.{SpellsBlocks}
 use Rattle.jpg_spec.specs.Written.{plain_bits}
 use Rattle.jpg_spec.specs.FileText.{segment_text, front_text}
-use Rattle.jpg_spec.specs.Markers.{Segment}
+use Rattle.jpg_spec.specs.Markers.{Segment, eoi}
 use Rattle.jpg_spec.specs.InForce.{frame_of, head_in, huffman_in_force, restart_in_force}
 use Rattle.jpg_spec.specs.History.{lacks_table}
 use Rattle.jpg_spec.specs.FileMeaning.{meaning_of}
@@ -67,7 +67,7 @@ single_head_text id = segment_text 0xda (1 ∷ id ∷ 0 ∷ 0 ∷ 63 ∷ 0 ∷ [
 
 -- the file of a headed meaning of one gray component, with these blocks row by row
 abbrev pub single_text : Meaning → ℕ → List (List ℤ) → List ℕ
-single_text H id blocks = front_text H ++ luma_tables_text ++ single_head_text id ++ data_of (plain_bits blocks) ++ end_of_image
+single_text H id blocks = front_text H ++ luma_tables_text ++ single_head_text id ++ data_of (plain_bits blocks) ++ eoi
 
 -- A whole header whose scan is a single gray one, and how many blocks the scan has.
 pub record IsSingleHeader (limits : Limits) (before : List Segment) (contents front : List ℕ) : Type 0 where

@@ -1,4 +1,4 @@
--- The typical tables K.3 to K.6 (T.81 Annex K).
+-- The typical tables K.3 to K.6 (T.81, Annex K).
 use Rattle.std.specs.Prelude.{ℕ, List, [], ◌∷◌}
 use Rattle.jpg_spec.specs.Codes.{Code, codes}
 

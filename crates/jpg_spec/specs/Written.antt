@@ -1,4 +1,4 @@
--- WHAT A SEQUENTIAL SCAN of precision 8 can write, and the units that it writes (T.81 F.1.2).
+-- WHAT A SEQUENTIAL SCAN of precision 8 can write, and the units that it writes (T.81, F.1.2).
 use Rattle.std.specs.Prelude.{◌≡◌, Bool, true, false, List, length, map, flat_map, ℤ}
 use Rattle.jpg_spec.specs.Segments.{ScanHead}
 use Rattle.jpg_spec.specs.Elements.{Coding, are_in_bounds, SpellsUnits}

@@ -1,6 +1,6 @@
 //! The answers of the commands: what ended the work, and the texts that name it.
 ghost use Rattle.std.specs.Prelude.{◌≡◌};
-ghost use Rattle.jpg_spec.specs.Messages.{usage_name, which_name, code_of};
+ghost use Rattle.jpg_spec.specs.Messages.{usage_name, which_name, status_of};
 
 use crate::Fault;
 
@@ -105,7 +105,7 @@ pub enum Why {
 impl Why {
     /// The exit status: 0 for Done, 3 for NoMemory, 1 for the others.
     pub fn code(self) -> u8
-        ensures { result ≡ code_of self }
+        ensures { result ≡ status_of self }
     {
         match self {
             Why::Done => 0,

@@ -1,8 +1,8 @@
 //! The faults of an input, in the order in which they go before one another.
 ghost use Rattle.std.specs.Prelude.{◌≡◌};
-ghost use Rattle.jpg_spec.specs.Faults.{number_of, fault_name};
+ghost use Rattle.jpg_spec.specs.Faults.{fault_name};
 
-/// Why an input is refused. The numbers order faults that stand at one place.
+/// Why an input is refused. Of faults that stand at one place the first in this order is told.
 #[derive(Clone, Copy, Debug, PartialEq, Eq)]
 pub enum Fault {
     /// What isn't built yet.
@@ -102,61 +102,6 @@ pub enum Fault {
 }
 
 impl Fault {
-    /// Its number in the order of faults.
-    pub fn number(self) -> u8
-        ensures { result ≡ number_of self }
-    {
-        match self {
-            Fault::NotBuilt => 0,
-            Fault::NotJpeg => 1,
-            Fault::Truncated => 2,
-            Fault::NoMarker => 3,
-            Fault::UnexpectedMarker => 4,
-            Fault::UnsupportedProcess => 5,
-            Fault::SecondFrame => 6,
-            Fault::SosBeforeSof => 7,
-            Fault::BadLength => 8,
-            Fault::MarkersTooLarge => 9,
-            Fault::EmptyImage => 10,
-            Fault::TooLarge => 11,
-            Fault::Precision => 12,
-            Fault::ComponentCount => 13,
-            Fault::Sampling => 14,
-            Fault::DuplicateComponent => 15,
-            Fault::QuantSlot => 16,
-            Fault::TooManyBlocks => 17,
-            Fault::BadQuant => 18,
-            Fault::BadHuffman => 19,
-            Fault::ScanComponent => 20,
-            Fault::McuTooLarge => 21,
-            Fault::ScanParameters => 22,
-            Fault::RepeatedScan => 23,
-            Fault::Progression => 24,
-            Fault::MissingTable => 25,
-            Fault::QuantChanged => 26,
-            Fault::NoCode => 27,
-            Fault::BadSymbol => 28,
-            Fault::BadRun => 29,
-            Fault::CoefRange => 30,
-            Fault::RunPastEnd => 31,
-            Fault::EntropyShort => 32,
-            Fault::ExtraData => 33,
-            Fault::RestartWrong => 34,
-            Fault::MissingComponent => 35,
-            Fault::InputTooLong => 36,
-            Fault::ColourOut => 37,
-            Fault::FractionalSampling => 38,
-            Fault::ScriptText => 39,
-            Fault::TableText => 40,
-            Fault::CommentTooLong => 41,
-            Fault::ImageText => 42,
-            Fault::ImageHeader => 43,
-            Fault::ImageUnsupported => 44,
-            Fault::ImageShort => 45,
-            Fault::ImageValue => 46,
-        }
-    }
-
     /// Its name, as messages give it.
     pub fn name(self) -> &'static str
         ensures { result.now ≡ fault_name self }

@@ -1,9 +1,9 @@
-//! Laws over files of one gray scan: what they mean, and what is written of the picture mirrored left to right (T.81 B.2.1).
+//! Laws over files of one gray scan: what they mean, and what is written of the picture mirrored left to right (T.81, B.2.1).
 ghost use Rattle.std.specs.Prelude.{◌≡◌, ◌<◌, ◌≤◌, ◌*◌, ◌^◌, ◌++◌, ℕ, ℤ, true, List, [], length, unwrap_or, All};
 ghost use Rattle.jpg_spec.specs.Geometry.{component_at};
 ghost use Rattle.jpg_spec.specs.Moves.{flip_h};
-ghost use Rattle.jpg_spec.specs.GrayFile.{gray_coding, end_of_image, turned_rows, sequential_text};
-ghost use Rattle.jpg_spec.specs.Markers.{Segment};
+ghost use Rattle.jpg_spec.specs.GrayFile.{gray_coding, turned_rows, sequential_text};
+ghost use Rattle.jpg_spec.specs.Markers.{Segment, eoi};
 ghost use Rattle.jpg_spec.specs.InForce.{frame_of, head_in, quant_in_force};
 ghost use Rattle.jpg_spec.specs.FileMeaning.{Means};
 ghost use Rattle.jpg_spec.specs.FrameHeader.{AreLimits};
@@ -15,7 +15,7 @@ ghost use Rattle.jpg_spec.specs.declared.frame.Limits.{Limits};
 /// A whole header, the data of one gray scan, EOI and any bytes behind it mean the numbers and tables of the header,
 /// and the blocks of the scan row by row (T.81, B.2.1).
 pub fn files_of_one_scan_have_their_meaning()
-    ensures { (limits : Limits) (before : List Segment) (contents front text rest bytes : List ℕ) (blocks : List (List ℤ)) → IsSingleFile limits before contents front text blocks → bytes ≡ front ++ text ++ end_of_image ++ rest → length (front ++ text ++ end_of_image) ≤ limits.input → Means limits bytes (single_meaning limits before contents blocks) }
+    ensures { (limits : Limits) (before : List Segment) (contents front text rest bytes : List ℕ) (blocks : List (List ℤ)) → IsSingleFile limits before contents front text blocks → bytes ≡ front ++ text ++ eoi ++ rest → length (front ++ text ++ eoi) ≤ limits.input → Means limits bytes (single_meaning limits before contents blocks) }
 {}
 
 /// Mirrored left to right such a file means the same numbers and tables, and its rows of blocks from right to left, each block

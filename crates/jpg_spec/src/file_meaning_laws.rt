@@ -1,26 +1,25 @@
-//! Laws over whole files: they stand, show one fault or have one meaning, and never two of these (T.81 B.2.1, Annexes F and G).
-ghost use Rattle.std.specs.Prelude.{◌≡◌, ◌<◌, ◌≤◌, ◌+◌, ◌-◌, ◌++◌, ◌∷◌, [], ℕ, ℤ, Bool, true, false, None, List, length, map, take};
-ghost use Rattle.jpg_spec.specs.Bits.{Packs};
-ghost use Rattle.jpg_spec.specs.Lists.{any_of, chunks, is_distinct};
+//! Laws over whole files: they stand, show one fault or have one meaning, and never two of these (T.81, B.2.1, Annexes F and G).
+ghost use Rattle.std.specs.Prelude.{◌≡◌, ◌<◌, ◌≤◌, ◌+◌, ◌++◌, [], ℕ, ℤ, Bool, true, List, length, take};
+ghost use Rattle.jpg_spec.specs.Lists.{chunks, is_distinct};
 ghost use Rattle.jpg_spec.specs.Segments.{ScanHead, head_components};
-ghost use Rattle.jpg_spec.specs.Geometry.{Frame, bounds, units, is_progressive};
+ghost use Rattle.jpg_spec.specs.Geometry.{Frame, bounds, units};
 ghost use Rattle.jpg_spec.specs.FrameHeader.{IsFrame};
 ghost use Rattle.jpg_spec.specs.ScanContents.{IsHead};
-ghost use Rattle.jpg_spec.specs.Elements.{Coding, UnitLeft, SpellsUnits, zeros};
-ghost use Rattle.jpg_spec.specs.Scan.{Blocks, Scan, ScanMeans, band, block_at, unit_at};
-ghost use Rattle.jpg_spec.specs.GrayFile.{new_unit};
-ghost use Rattle.jpg_spec.specs.InForce.{frame_of, huffman_in_force};
+ghost use Rattle.jpg_spec.specs.Elements.{Coding, UnitLeft};
+ghost use Rattle.jpg_spec.specs.Scan.{Blocks, Scan, ScanMeans};
+ghost use Rattle.jpg_spec.specs.InForce.{huffman_in_force};
 ghost use Rattle.jpg_spec.specs.ScanFaults.{DataShows};
 ghost use Rattle.jpg_spec.specs.Meaning.{Meaning, picture_frame};
 ghost use Rattle.jpg_spec.specs.Ranges.{AreInRange};
 ghost use Rattle.jpg_spec.specs.Sound.{IsSound, AreTables};
 ghost use Rattle.jpg_spec.specs.Markers.{Segment};
-ghost use Rattle.jpg_spec.specs.Items.{Item, segments_of};
+ghost use Rattle.jpg_spec.specs.Items.{Item};
 ghost use Rattle.jpg_spec.specs.FileMeaning.{Leads, Means, scan_after};
-ghost use Rattle.jpg_spec.specs.FirstFault.{Shows, IsFirstFault};
+ghost use Rattle.jpg_spec.specs.FirstFault.{Shows, HasMeaning, IsFirstFault};
 ghost use Rattle.jpg_spec.specs.FileStands.{FileStands, IsWholeFile};
 ghost use Rattle.jpg_spec.specs.Parts.{AreUnderWay, HoldsNoInterval, ShowsNoFault, StandsInOneWay, CountsAll};
-ghost use Rattle.jpg_spec.specs.PictureInWork.{is_at, BeginsScan, IsFirstPass, AreDistinct, IntervalRead, UnitsRead, OneChanges, ScanSoFar};
+ghost use Rattle.jpg_spec.specs.PictureInWork.{IsFirstPass, AreDistinct, IntervalRead, UnitsRead, ScanSoFar};
+ghost use Rattle.jpg_spec.specs.Laws.{NothingShown, LastShows, IsTruncated, IsTooLong, AtMostOneFault, NextIntervalRead, NextUnitRead, AllUnitsRead, ScanBegun, begun_scan, IsSequentialBehind, IsNewUnit, IsZeroBand, bounds_behind};
 ghost use Rattle.jpg_spec.specs.declared.fault.Fault.{Fault};
 ghost use Rattle.jpg_spec.specs.declared.frame.Limits.{Limits};
 ghost use Rattle.jpg_spec.specs.declared.frame.Place.{Place};
@@ -50,8 +49,8 @@ pub fn items_lead_to_one_picture()
 pub fn files_come_to_one_thing()
     ensures shown_or_standing { (limits : Limits) (front rest : List ℕ) (fault : Fault) → Shows limits fault front → FileStands limits (front ++ rest) → ⊥ }
     ensures whole_or_standing { (limits : Limits) (front rest : List ℕ) (M : Meaning) → IsWholeFile limits front M → FileStands limits (front ++ rest) → ⊥ }
-    ensures shown_or_whole { (limits : Limits) (front rest : List ℕ) (fault : Fault) (M : Meaning) → Shows limits fault front → Means limits (front ++ rest) M → ⊥ }
-    ensures whole_or_shown { (limits : Limits) (front rest : List ℕ) (fault : Fault) (M : Meaning) → IsWholeFile limits front M → Shows limits fault (front ++ rest) → ⊥ }
+    ensures shown_or_whole { (limits : Limits) (front rest : List ℕ) (fault : Fault) → Shows limits fault front → HasMeaning limits (front ++ rest) → ⊥ }
+    ensures whole_or_shown { (limits : Limits) (bytes more : List ℕ) (M : Meaning) → IsWholeFile limits bytes M → NothingShown limits (bytes ++ more) }
 {}
 
 /// Bytes show one fault at most with their last one, or with those before it.
@@ -61,23 +60,23 @@ pub fn files_show_one_fault()
 
 /// A fault that bytes show with one byte behind others that stand is the file's first, at this byte, whatever stands behind it.
 pub fn faults_behind_standing_bytes_are_first()
-    ensures { (limits : Limits) (front rest : List ℕ) (byte : ℕ) (fault : Fault) → FileStands limits front → Shows limits fault (front ++ byte ∷ []) → length front < limits.input → IsFirstFault limits ((front ++ byte ∷ []) ++ rest) fault (length (front ++ byte ∷ [])) }
+    ensures { (limits : Limits) (bytes rest : List ℕ) (f : Fault) → LastShows limits bytes f → IsFirstFault limits (bytes ++ rest) f (length bytes) }
 {}
 
 /// A file of fewer bytes than the input's limit that stands is truncated, at its end.
 pub fn standing_files_are_truncated()
-    ensures { (limits : Limits) (bytes : List ℕ) → FileStands limits bytes → length bytes < limits.input → IsFirstFault limits bytes Fault.Truncated (length bytes) }
+    ensures { (limits : Limits) (bytes : List ℕ) → FileStands limits bytes → length bytes < limits.input → IsTruncated limits bytes }
 {}
 
 /// A file that stands at the input's limit is too long, at the limit.
 pub fn files_beyond_the_limit_are_too_long()
-    ensures { (limits : Limits) (bytes : List ℕ) → FileStands limits (take limits.input bytes) → limits.input ≤ length bytes → IsFirstFault limits bytes Fault.InputTooLong limits.input }
+    ensures { (limits : Limits) (bytes : List ℕ) → FileStands limits (take limits.input bytes) → limits.input ≤ length bytes → IsTooLong limits bytes }
 {}
 
 /// A file never has both a meaning and a first fault, and it has one first fault at most, at one place.
 pub fn first_faults_are_one()
-    ensures never_both { (limits : Limits) (bytes : List ℕ) (M : Meaning) (fault : Fault) (n : ℕ) → Means limits bytes M → IsFirstFault limits bytes fault n → ⊥ }
-    ensures one { (limits : Limits) (bytes : List ℕ) (f g : Fault) (m n : ℕ) → IsFirstFault limits bytes f m → IsFirstFault limits bytes g n → (f ≡ g) × (m ≡ n) }
+    ensures never_both { (limits : Limits) (bytes : List ℕ) (fault : Fault) (n : ℕ) → HasMeaning limits bytes → IsFirstFault limits bytes fault n → ⊥ }
+    ensures one { (limits : Limits) (bytes : List ℕ) → AtMostOneFault (IsFirstFault limits bytes) }
 {}
 
 /// Data show one fault at most.
@@ -111,25 +110,25 @@ pub fn scans_have_places()
 /// when none is due (T.81, E.1.4).
 pub fn pictures_in_work_become_scans()
     ensures first { (s : Scan) (before : Blocks) → ((i x y : ℕ) → length (before i x y) ≡ 64) → ScanSoFar s before before [] (chunks s.interval s.places) }
-    ensures next { (s : Scan) (before work new : Blocks) (done : List (List ℕ)) (coded : List ℕ) (bits : List Bool) (places : List Place) (later : List (List Place)) → AreDistinct s.places → ScanSoFar s before work done (places ∷ later) → Packs bits coded → IntervalRead s places work new bits → ScanSoFar s before new (done ++ coded ∷ []) later }
+    ensures next { (s : Scan) (before new : Blocks) (done : List (List ℕ)) (w : NextIntervalRead s before new done) → ScanSoFar s before new done w.left }
     ensures last { (s : Scan) (before work : Blocks) (intervals : List (List ℕ)) → ScanSoFar s before work intervals [] → ScanMeans s intervals before work }
 {}
 
 /// An interval is read unit by unit: what each tells stands at its place, and the places before it keep what they have (T.81, A.2).
 pub fn intervals_are_read_unit_by_unit()
     ensures first { (s : Scan) (old : Blocks) → ((i x y : ℕ) → length (old i x y) ≡ 64) → UnitsRead s [] old old [] }
-    ensures next { (s : Scan) (places : List Place) (p : Place) (old mid new : Blocks) (told : List ℤ) → any_of (is_at p.component p.x p.y) places ≡ false → UnitsRead s places old mid told → OneChanges s p mid new → UnitsRead s (places ++ p ∷ []) old new (told ++ band s (block_at new p)) }
-    ensures last { (s : Scan) (places : List Place) (old new : Blocks) (told : List ℤ) (bits : List Bool) → UnitsRead s places old new told → SpellsUnits s.coding (map (unit_at s old) places) told bits → IntervalRead s places old new bits }
+    ensures next { (s : Scan) (places : List Place) (old new : Blocks) (told : List ℤ) → NextUnitRead s places old new told → UnitsRead s places old new told }
+    ensures last { (s : Scan) (places : List Place) (old new : Blocks) (w : AllUnitsRead s places old new) → IntervalRead s places old new w.bits }
 {}
 
 /// What no scan named yet is zero: the units of a sequential scan, and the band of a progressive scan's first pass (T.81, F.1.2 and G.1.1.1).
 pub fn scans_find_zeros()
-    ensures sequential { (limits : Limits) (items : List Item) (blocks : Blocks) (contents : List ℕ) (p : Place) → BeginsScan limits items blocks contents p → is_progressive (frame_of limits (segments_of items)).process ≡ false → unit_at (scan_after limits (segments_of items) contents) blocks p ≡ new_unit p.component }
-    ensures first { (limits : Limits) (items : List Item) (blocks : Blocks) (contents : List ℕ) (p : Place) (s : Scan) → BeginsScan limits items blocks contents p → IsFirstPass limits items contents → s ≡ scan_after limits (segments_of items) contents → band s (block_at blocks p) ≡ zeros (s.se + 1 - s.ss) }
+    ensures sequential { (limits : Limits) (b : ScanBegun limits) → IsSequentialBehind limits b.items → IsNewUnit (begun_scan limits b) b.blocks b.place }
+    ensures first { (limits : Limits) (b : ScanBegun limits) → IsFirstPass limits b.items b.contents → IsZeroBand (begun_scan limits b) b.blocks b.place }
 {}
 
 /// The coefficients of a file lie in the bounds of its frame, after every scan and in its meaning (T.81, F.1.2 and G.1.2).
 pub fn coefficients_lie_in_their_range()
-    ensures items { (limits : Limits) (items : List Item) (blocks : Blocks) → Leads limits items blocks → AreInRange (bounds (frame_of limits (segments_of items))) blocks }
+    ensures items { (limits : Limits) (items : List Item) (blocks : Blocks) → Leads limits items blocks → AreInRange (bounds_behind limits items) blocks }
     ensures meaning { (limits : Limits) (bytes : List ℕ) (M : Meaning) → Means limits bytes M → AreInRange (bounds (picture_frame M)) M.blocks }
 {}

@@ -3,7 +3,8 @@ ghost use Rattle.std.specs.Prelude.{◌≡◌, ◌-◌, ◌<◌, ◌∷◌, ◌+
 ghost use Rattle.jpg_spec.specs.Bits.{data_of, SpellsData, IsMarkerCode};
 ghost use Rattle.jpg_spec.specs.ScanText.{element_bits, unit_elements, typical_table};
 ghost use Rattle.jpg_spec.specs.Moves.{mirrored, flip_h, headed};
-ghost use Rattle.jpg_spec.specs.GrayFile.{Gray, IsGray, across, down, gray_head, gray_coding, gray_front, end_of_image, SpellsGray, gray_meaning, flipped_gray, sequential_text, turned_text};
+ghost use Rattle.jpg_spec.specs.GrayFile.{Gray, IsGray, across, down, gray_head, gray_coding, gray_front, SpellsGray, gray_meaning, flipped_gray, sequential_text, turned_text};
+ghost use Rattle.jpg_spec.specs.Markers.{eoi};
 ghost use Rattle.jpg_spec.specs.Written.{IsWritable, plain_bits};
 
 /// The mirrored picture is a gray picture again, and mirrored twice a picture is what it was, and means the same.
@@ -21,10 +22,10 @@ pub fn flipped_meaning()
 {}
 
 /// What is written of a gray picture in one sequential scan is the plain file's front, the data of its blocks in order,
-/// and EOI (T.81 B.2, F.1.2), and so is the turned file.
+/// and EOI (T.81, B.2, F.1.2), and so is the turned file.
 pub fn turned_file_is_plain_text()
-    ensures picture { (g : Gray) → IsGray g → sequential_text (headed (gray_meaning g)) ≡ gray_front g.width g.height g.quants ++ data_of (plain_bits g.blocks) ++ end_of_image }
-    ensures turned { (g : Gray) → IsGray g → turned_text g ≡ gray_front g.width g.height g.quants ++ data_of (plain_bits (flipped_gray g).blocks) ++ end_of_image }
+    ensures picture { (g : Gray) → IsGray g → sequential_text (headed (gray_meaning g)) ≡ gray_front g.width g.height g.quants ++ data_of (plain_bits g.blocks) ++ eoi }
+    ensures turned { (g : Gray) → IsGray g → turned_text g ≡ gray_front g.width g.height g.quants ++ data_of (plain_bits (flipped_gray g).blocks) ++ eoi }
     ensures bits { (blocks : List (List ℤ)) → plain_bits blocks ≡ flat_map (element_bits typical_table gray_head) (unit_elements true false 0 (λ i. pos 0) (map (λ block. (0, block)) blocks)) }
 {}
 
@@ -42,7 +43,7 @@ pub fn turned_file_is_plain()
     ensures again { (bytes : List ℕ) (g : Gray) → SpellsGray bytes g → SpellsGray (turned_text (flipped_gray g)) g }
 {}
 
-/// The data before a marker are cut in one way: a data byte FF is followed by fill bytes and 00, a marker by neither (T.81 B.1.1.5).
+/// The data before a marker are cut in one way: a data byte FF is followed by fill bytes and 00, a marker by neither (T.81, B.1.1.5).
 pub fn data_end_at_one_marker()
     ensures { (coded other text more : List ℕ) (code mark : ℕ) (rest last : List ℕ) → IsMarkerCode code → IsMarkerCode mark → SpellsData coded text → SpellsData other more → text ++ 0xff ∷ code ∷ rest ≡ more ++ 0xff ∷ mark ∷ last → (coded ≡ other) × (text ≡ more) × (code ≡ mark) × (rest ≡ last) }
 {}

@@ -1,4 +1,4 @@
-//! Worked examples of the scans that a file admits, by computation (T.81 B.2.3, B.2.4, G.1.1.1).
+//! Worked examples of the scans that a file admits, by computation (T.81, B.2.3, B.2.4, G.1.1.1).
 ghost use Rattle.std.specs.Prelude.{◌≡◌, [], ◌∷◌, None, Some, replicate};
 ghost use Rattle.jpg_spec.specs.Segments.{standard_limits};
 ghost use Rattle.jpg_spec.specs.Items.{contents_rule};

@@ -1,18 +1,17 @@
 //! Laws over the definitions: bits mean one thing at most, and data that show a fault mean none.
-ghost use Rattle.std.specs.Prelude.{◌≡◌, ◌++◌, ℕ, ℤ, Bool, true, false, List, length, sum, Contains, All};
+ghost use Rattle.std.specs.Prelude.{◌≡◌, ℕ, Bool, true, List, length, sum};
 ghost use Rattle.jpg_spec.specs.Bits.{Packs, SpellsData, whole_bytes, padded, data_of};
-ghost use Rattle.jpg_spec.specs.Codes.{Code, codes, AreCodes, are_codes};
+ghost use Rattle.jpg_spec.specs.Codes.{codes, AreCodes, are_codes};
 ghost use Rattle.jpg_spec.specs.Typical.{dc_luma_counts, dc_luma_values, ac_luma_counts, ac_luma_values, dc_chroma_counts, dc_chroma_values, ac_chroma_counts, ac_chroma_values};
-ghost use Rattle.jpg_spec.specs.Geometry.{Frame, is_progressive};
+ghost use Rattle.jpg_spec.specs.Geometry.{Frame};
 ghost use Rattle.jpg_spec.specs.Segments.{ScanHead};
-ghost use Rattle.jpg_spec.specs.Elements.{Coding, UnitLeft, SpellsUnits};
+ghost use Rattle.jpg_spec.specs.Elements.{Coding, UnitLeft};
 ghost use Rattle.jpg_spec.specs.Scan.{TablesInForce, scan_coding};
-ghost use Rattle.jpg_spec.specs.ScanFaults.{DataShows};
 ghost use Rattle.jpg_spec.specs.GrayFile.{typical_tables};
 ghost use Rattle.jpg_spec.specs.ScanText.{UnitDue};
-ghost use Rattle.jpg_spec.specs.Written.{IsWritable, sequential_bits, SpellsDue};
+ghost use Rattle.jpg_spec.specs.Written.{sequential_bits, SpellsDue};
 ghost use Rattle.jpg_spec.specs.Sound.{IsSound, AreTables};
-ghost use Rattle.jpg_spec.specs.declared.fault.Fault.{Fault};
+ghost use Rattle.jpg_spec.specs.Laws.{LeadingCode, LeadingInterval, LeadingFault, PackedInterval, typical_coding, AreWritable};
 
 /// Counts that pass the test give codes that fit their lengths, none of all ones.
 pub fn tested_counts_give_codes()
@@ -21,7 +20,7 @@ pub fn tested_counts_give_codes()
 
 /// No code of a valid table begins another, so bits are cut into codes in one way.
 pub fn no_code_begins_another()
-    ensures { (counts symbols : List ℕ) (a b : Code) (x y : List Bool) → AreCodes 1 0 counts → Contains (codes counts symbols) a → Contains (codes counts symbols) b → a.0 ++ x ≡ b.0 ++ y → a ≡ b }
+    ensures { (counts symbols : List ℕ) (bits : List Bool) (a b : LeadingCode (codes counts symbols) bits) → AreCodes 1 0 counts → a.code ≡ b.code }
 {}
 
 /// The four typical tables are valid (T.81, K.3.3).
@@ -44,23 +43,23 @@ pub fn codings_are_sound()
 
 /// Of two whole intervals neither begins the other, unless they are the same bits and values.
 pub fn intervals_are_spelled_once()
-    ensures { (c : Coding) (units : List UnitLeft) (told more : List ℤ) (bits cits x y : List Bool) → IsSound c → SpellsUnits c units told bits → SpellsUnits c units more cits → bits ++ x ≡ cits ++ y → (told ≡ more) × (bits ≡ cits) }
+    ensures { (c : Coding) (due : List UnitLeft) (bits : List Bool) (a b : LeadingInterval c due bits) → IsSound c → (a.told ≡ b.told) × (a.front ≡ b.front) }
 {}
 
 /// Data that show a fault begin no whole interval, and no whole interval begins them.
 pub fn faults_exclude_intervals()
-    ensures { (c : Coding) (units : List UnitLeft) (fault : Fault) (told : List ℤ) (bits cits x y : List Bool) → IsSound c → DataShows c units fault bits → SpellsUnits c units told cits → bits ++ x ≡ cits ++ y → ⊥ }
+    ensures { (c : Coding) (units : List UnitLeft) (bits : List Bool) → IsSound c → LeadingFault c units bits → LeadingInterval c units bits → ⊥ }
 {}
 
 /// Bytes hold one interval at most: the same bits, and so the same pad bits.
 pub fn bytes_hold_one_interval()
-    ensures { (c : Coding) (units : List UnitLeft) (told more : List ℤ) (bits cits : List Bool) (coded : List ℕ) → IsSound c → Packs bits coded → SpellsUnits c units told bits → Packs cits coded → SpellsUnits c units more cits → (told ≡ more) × (bits ≡ cits) }
+    ensures { (c : Coding) (units : List UnitLeft) (coded : List ℕ) (a b : PackedInterval c units coded) → IsSound c → (a.told ≡ b.told) × (a.bits ≡ b.bits) }
 {}
 
 /// What a sequential scan of precision 8 writes of an interval, by the typical tables and their first codes,
 /// is a whole interval of its units, and tells their values.
 pub fn written_scans_are_in_the_grammar()
-    ensures { (f : Frame) (head : ScanHead) (due : List UnitDue) → is_progressive f.process ≡ false → f.precision ≡ 8 → All (λ u. IsWritable (scan_coding f typical_tables head) u) due → SpellsDue (scan_coding f typical_tables head) due (sequential_bits head due) }
+    ensures { (f : Frame) (head : ScanHead) (due : List UnitDue) → AreWritable f head due → SpellsDue (typical_coding f head) due (sequential_bits head due) }
 {}
 
 /// The data that are written of bits hold these bits, with fewer than eight pad bits, and spell their bytes.

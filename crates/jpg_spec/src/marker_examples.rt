@@ -4,15 +4,16 @@ ghost use Rattle.jpg_spec.specs.Segments.{standard_limits};
 ghost use Rattle.jpg_spec.specs.Typical.{dc_luma_counts, dc_luma_values};
 ghost use Rattle.jpg_spec.specs.HuffContents.{definition_told, huffman_tables};
 ghost use Rattle.jpg_spec.specs.QuantContents.{quant_tables};
-ghost use Rattle.jpg_spec.specs.Markers.{code_fault, kept_count, kept_rule, Reaches, at_fault};
+ghost use Rattle.jpg_spec.specs.Markers.{code_fault, kept_count, kept_rule, Reaches, at_fault, soi};
 ghost use Rattle.jpg_spec.specs.CommentText.{printed, inserted_head, IsInserted};
 ghost use Rattle.jpg_spec.specs.CommentWords.{read_asked, write_asked, usage_at, words_right, from_to, named};
+ghost use Rattle.jpg_spec.specs.Examples.{two_segments, app_text, old_text, hi_text};
 ghost use Rattle.jpg_spec.specs.declared.fault.Fault.TheVariants as fault;
 ghost use Rattle.jpg_spec.specs.declared.answers.UsageFault.TheVariants as usage;
 
 /// Before a frame EOI, a scan header and an arithmetic process may not stand; behind one EOI and a
 /// scan header may, and no second frame. A restart marker and SOI stand nowhere among segments
-/// (T.81 Table B.1).
+/// (T.81, Table B.1).
 pub fn codes_are_judged()
     ensures end { code_fault [] 0xd9 ≡ Some fault.UnexpectedMarker }
     ensures scan { code_fault [] 0xda ≡ Some fault.SosBeforeSof }
@@ -32,13 +33,13 @@ pub fn kept_markers_count()
 {}
 
 /// FF D8 FF FF FF E0 00 01: behind two fill bytes a segment whose length doesn't count itself. Its last
-/// byte shows the fault (T.81 B.1.1.4).
+/// byte shows the fault (T.81, B.1.1.4).
 pub fn lengths_count_themselves()
     ensures { Reaches (kept_rule standard_limits) (0xff ∷ 0xd8 ∷ 0xff ∷ 0xff ∷ 0xff ∷ 0xe0 ∷ 0x00 ∷ 0x01 ∷ []) (at_fault fault.BadLength) }
 {}
 
 /// A segment of tables may be empty. K.3 as table 0 is a table; two codes of one bit are too many, and
-/// so is class 2 (T.81 B.2.4.1, B.2.4.2, Annex C).
+/// so is class 2 (T.81, B.2.4.1, B.2.4.2, Annex C).
 pub fn table_segments_are_told()
     ensures none { huffman_tables [] ≡ Ok [] }
     ensures no_quantisers { quant_tables [] ≡ Ok [] }
@@ -56,9 +57,9 @@ pub fn comments_are_printed()
 /// Before the frame header of a file with an APP0 segment and a comment `old` stand these two and the
 /// comment `hi`, or, where it replaces others, the first and `hi`. An empty comment isn't inserted.
 pub fn comments_are_inserted()
-    ensures behind { inserted_head (codes "hi") false ((0xfe, codes "old") ∷ (0xe0, codes "q") ∷ []) 0xc0 ≡ 0xff ∷ 0xd8 ∷ 0xff ∷ 0xe0 ∷ 0 ∷ 3 ∷ 113 ∷ 0xff ∷ 0xfe ∷ 0 ∷ 5 ∷ 111 ∷ 108 ∷ 100 ∷ 0xff ∷ 0xfe ∷ 0 ∷ 4 ∷ 104 ∷ 105 ∷ 0xff ∷ 0xc0 ∷ [] }
-    ensures replaced { inserted_head (codes "hi") true ((0xfe, codes "old") ∷ (0xe0, codes "q") ∷ []) 0xc0 ≡ 0xff ∷ 0xd8 ∷ 0xff ∷ 0xe0 ∷ 0 ∷ 3 ∷ 113 ∷ 0xff ∷ 0xfe ∷ 0 ∷ 4 ∷ 104 ∷ 105 ∷ 0xff ∷ 0xc0 ∷ [] }
-    ensures empty { inserted_head [] false ((0xe0, codes "q") ∷ []) 0xc2 ≡ 0xff ∷ 0xd8 ∷ 0xff ∷ 0xe0 ∷ 0 ∷ 3 ∷ 113 ∷ 0xff ∷ 0xc2 ∷ [] }
+    ensures behind { inserted_head (codes "hi") false two_segments 0xc0 ≡ soi ++ app_text ++ old_text ++ hi_text ++ 0xff ∷ 0xc0 ∷ [] }
+    ensures replaced { inserted_head (codes "hi") true two_segments 0xc0 ≡ soi ++ app_text ++ hi_text ++ 0xff ∷ 0xc0 ∷ [] }
+    ensures empty { inserted_head [] false ((0xe0, codes "q") ∷ []) 0xc2 ≡ soi ++ app_text ++ 0xff ∷ 0xc2 ∷ [] }
 {}
 
 /// FF D8 FF FF C0 and any bytes: with an empty comment the fill byte goes, and what stands behind the

@@ -1,16 +1,18 @@
-//! Laws over marker segments: bytes come to one thing at most, and the first bytes that show a fault show one (T.81 B.1.1.2 to B.1.1.4).
-ghost use Rattle.std.specs.Prelude.{◌≡◌, ◌<◌, ◌++◌, ◌∷◌, ℕ, List, length, take};
-ghost use Rattle.jpg_spec.specs.Markers.{SpellsMarker, SpellsSegment, Rule, Reached, at_eoi, at_fault, Reaches, SegmentsShow, IsLeast};
+//! Laws over marker segments: bytes come to one thing at most, and the first bytes that show a fault show one (T.81, B.1.1.2 to B.1.1.4).
+ghost use Rattle.std.specs.Prelude.{◌≡◌, ◌++◌, ◌∷◌, ℕ, List, length};
+ghost use Rattle.jpg_spec.specs.Markers.{Rule, Reached, at_eoi, at_fault, Reaches, SegmentsShow, IsLeast};
+ghost use Rattle.jpg_spec.specs.ScanReading.{LeadingMarker};
+ghost use Rattle.jpg_spec.specs.Laws.{LeadingSegment, NoFrontShows};
 ghost use Rattle.jpg_spec.specs.declared.fault.Fault.{Fault};
 
 /// Bytes begin with one marker at most, however many fill bytes FF it has (T.81, B.1.1.2 and B.1.1.3).
 pub fn bytes_begin_with_one_marker()
-    ensures { (code other : ℕ) (front more x y : List ℕ) → SpellsMarker code front → SpellsMarker other more → front ++ x ≡ more ++ y → (code ≡ other) × (front ≡ more) × (x ≡ y) }
+    ensures { (bytes : List ℕ) (a b : LeadingMarker bytes) → (a.code ≡ b.code) × (a.marker ≡ b.marker) × (a.rest ≡ b.rest) }
 {}
 
 /// Bytes begin with one marker segment at most: a marker, a length, and the contents that it counts (T.81, B.1.1.4).
 pub fn bytes_begin_with_one_segment()
-    ensures { (code other : ℕ) (contents others front more x y : List ℕ) → SpellsSegment code contents front → SpellsSegment other others more → front ++ x ≡ more ++ y → (code ≡ other) × (contents ≡ others) × (front ≡ more) × (x ≡ y) }
+    ensures { (bytes : List ℕ) (a b : LeadingSegment bytes) → (a.code ≡ b.code) × (a.contents ≡ b.contents) × (a.front ≡ b.front) × (a.rest ≡ b.rest) }
 {}
 
 /// With their last byte SOI and segments come to one thing at most, by any rule for whole segments (T.81, B.1.1.2 to B.1.1.4).
@@ -30,7 +32,7 @@ pub fn nothing_is_behind_eoi()
 
 /// Of bytes that come to something no shorter front shows a fault (T.81, B.1.1.2 to B.1.1.4).
 pub fn fronts_show_no_fault()
-    ensures { (rule : Rule) (bytes : List ℕ) (x : Reached) (f : Fault) (n : ℕ) → Reaches rule bytes x → n < length bytes → SegmentsShow rule f (take n bytes) → ⊥ }
+    ensures { (rule : Rule) (bytes : List ℕ) (x : Reached) → Reaches rule bytes x → NoFrontShows rule bytes }
 {}
 
 /// Bytes that show a fault are the least front of themselves that shows one, and they show no other (T.81, B.1.1.2 to B.1.1.4).

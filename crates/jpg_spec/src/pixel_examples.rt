@@ -1,6 +1,7 @@
 //! Worked examples of samples and colours, by computation.
-ghost use Rattle.std.specs.Prelude.{◌≡◌, ℕ, List, [], ◌∷◌, ◌++◌, pos, replicate, length, codes, flat_map, true, false, None, Some};
-ghost use Rattle.jpg_spec.specs.Examples.{gray_square, gray_rows, flat_picture};
+ghost use Rattle.std.specs.Prelude.{◌≡◌, ℕ, List, [], ◌∷◌, ◌++◌, pos, replicate, length, codes, true, false, None, Some};
+ghost use Rattle.jpg_spec.specs.Lists.{joined};
+ghost use Rattle.jpg_spec.specs.Examples.{gray_square, gray_rows, flat_picture, ninth_row};
 ghost use Rattle.jpg_spec.specs.Pixels.{pixel_row, info, out_fault, out_fault_of};
 ghost use Rattle.jpg_spec.specs.declared.image.ImageKind.TheVariants.{Rgb};
 ghost use Rattle.jpg_spec.specs.declared.frame.Colour.{Colour};
@@ -52,7 +53,7 @@ pub fn images_have_their_texts()
 /// Rows of 17 by 16 pixels of three components with factors 2x2,1x1,1x1, whose blocks have a DC value alone: the ninth row in colours, and
 /// the eighth in gray. At the last columns the colours of two blocks are mixed. (The numbers are those of a program of another language.)
 pub fn pictures_have_their_pixels()
-    ensures colours { pixel_row flat_picture false true 8 ≡ flat_map (λ p. p) (replicate 8 (26 ∷ 96 ∷ 122 ∷ []) ++ replicate 7 (139 ∷ 209 ∷ 235 ∷ []) ++ (170 ∷ 196 ∷ 219 ∷ []) ∷ (92 ∷ 34 ∷ 48 ∷ []) ∷ []) }
+    ensures colours { pixel_row flat_picture false true 8 ≡ joined ninth_row }
     ensures gray { pixel_row flat_picture true true 7 ≡ replicate 8 141 ++ replicate 8 103 ++ 166 ∷ [] }
     ensures told { info flat_picture false ≡ record { width = 17; height = 16; kind = Rgb; x_metre = 0; y_metre = 0 } }
 {}

@@ -1,32 +1,33 @@
 //! Laws on images that are made row by row: a row needs the rows of samples beside it alone.
-ghost use Rattle.std.specs.Prelude.{◌≡◌, ◌+◌, ◌-◌, ◌*◌, ◌/◌, ◌<◌, ◌≤◌, ℕ, List, Bool};
+ghost use Rattle.std.specs.Prelude.{◌≡◌, ◌-◌, ◌/◌, ℕ, List, Bool};
 ghost use Rattle.jpg_spec.specs.Scan.{Blocks};
 ghost use Rattle.jpg_spec.specs.Meaning.{Meaning};
-ghost use Rattle.jpg_spec.specs.Upsampling.{Stretch, upsampled_row};
-ghost use Rattle.jpg_spec.specs.Pixels.{plane_row, stretch_of, upsampled};
-ghost use Rattle.jpg_spec.specs.Strips.{IsReady, IsMade, Agree, rows_from, kept_row, known_rows, needed, ready, IsCovered};
+ghost use Rattle.jpg_spec.specs.Upsampling.{Stretch};
+ghost use Rattle.jpg_spec.specs.Pixels.{plane_row, stretch_of};
+ghost use Rattle.jpg_spec.specs.Strips.{IsReady, IsMade, Agree, rows_from, kept_row, known_rows};
+ghost use Rattle.jpg_spec.specs.Laws.{MakeSameRow, with_blocks, AgreeInRow, AgreeWhereMade, KeepsRow, MakesReady};
 
 /// Of the rows that k rows of a plane make, those that j rows didn't make yet are made from row j - 1 on.
 pub fn rows_need_their_neighbours()
-    ensures { (s : Stretch) (rows others : ℕ → List ℕ) (j k y : ℕ) → IsMade s j k y → Agree (j - 1) k rows others → upsampled_row s rows y ≡ upsampled_row s others y }
+    ensures { (s : Stretch) (rows others : ℕ → List ℕ) (j k y : ℕ) → IsMade s j k y → Agree (j - 1) k rows others → MakeSameRow s rows others y }
 {}
 
 /// So they are made from the rows that are kept.
 pub fn kept_rows_make_the_next()
-    ensures { (s : Stretch) (rows : ℕ → List ℕ) (j k y : ℕ) → IsMade s j k y → upsampled_row s (kept_row (j - 1) (rows_from rows (j - 1) (k - (j - 1)))) y ≡ upsampled_row s rows y }
+    ensures { (s : Stretch) (rows : ℕ → List ℕ) (j k y : ℕ) → IsMade s j k y → MakeSameRow s (kept_row (j - 1) (rows_from rows (j - 1) (k - (j - 1)))) rows y }
 {}
 
 /// A row of samples needs its own row of blocks.
 pub fn samples_need_their_blocks()
-    ensures { (M : Meaning) (others : Blocks) (i y : ℕ) → ((x : ℕ) → M.blocks i x (y / 8) ≡ others i x (y / 8)) → plane_row M i y ≡ plane_row (record M { blocks = others }) i y }
+    ensures { (M : Meaning) (others : Blocks) (i y : ℕ) → AgreeInRow M.blocks others i (y / 8) → plane_row M i y ≡ plane_row (with_blocks M others) i y }
 {}
 
 /// The first rows of the image need the first rows of blocks.
 pub fn first_rows_need_the_first_blocks()
-    ensures { (M : Meaning) (others : Blocks) (smooth : Bool) (i n k y : ℕ) → ((x z : ℕ) → z < n → M.blocks i x z ≡ others i x z) → 1 ≤ (stretch_of M smooth i).down → k ≤ (stretch_of M smooth i).high → k ≤ 8 * n → IsReady (stretch_of M smooth i) k y → upsampled M smooth i y ≡ upsampled (record M { blocks = others }) smooth i y }
+    ensures { (M : Meaning) (others : Blocks) (smooth : Bool) (i y : ℕ) → AgreeWhereMade M others smooth i y → KeepsRow M others smooth i y }
 {}
 
 /// Rows of the image that m MCU rows make ready are made from the rows of samples that these tell.
 pub fn ready_rows_are_told()
-    ensures { (M : Meaning) (gray smooth : Bool) (all m i y : ℕ) → IsCovered M smooth all i → i < needed M gray → m ≤ all → y < ready M gray smooth all m → IsReady (stretch_of M smooth i) (known_rows M i m) y }
+    ensures { (M : Meaning) (gray smooth : Bool) (all m i y : ℕ) → MakesReady M gray smooth all m i y → IsReady (stretch_of M smooth i) (known_rows M i m) y }
 {}

@@ -6,7 +6,7 @@ ghost use Rattle.jpg_spec.specs.Moves.{mirrored, mirrored_down};
 ghost use Rattle.jpg_spec.specs.Transposed.{transposed};
 ghost use Rattle.jpg_spec.specs.Transforms.{transformed};
 ghost use Rattle.jpg_spec.specs.Moved.{trimmed, gray_fault};
-ghost use Rattle.jpg_spec.specs.Examples.{two_values, plain_file, three_components, narrow, two_transformed};
+ghost use Rattle.jpg_spec.specs.Examples.{two_values, plain_file, three_components, narrow, two_transformed, low_values};
 ghost use Rattle.jpg_spec.specs.declared.transform.Transform.TheVariants.{FlipH, FlipV, Transpose, Transverse, Rotate90, Rotate180, Rotate270};
 ghost use Rattle.jpg_spec.specs.declared.transform.PictureFault.TheVariants.{GrayFactors};
 
@@ -34,7 +34,7 @@ pub fn sides_are_trimmed_to_whole_mcus()
     ensures kept { (blocks : Blocks) → (trimmed true FlipV (transformed FlipV (three_components blocks))).width ≡ 17 }
     ensures width { (trimmed true Rotate90 (transformed Rotate90 (narrow (zeros 64)))).width ≡ 8 }
     ensures height { (trimmed true Rotate90 (transformed Rotate90 (narrow (zeros 64)))).height ≡ 7 }
-    ensures block { (trimmed true Rotate90 (transformed Rotate90 (narrow (pos 0 ∷ pos 5 ∷ pos 2 ∷ zeros 61)))).blocks 0 0 0 ≡ pos 0 ∷ negsuc 1 ∷ pos 5 ∷ zeros 61 }
+    ensures block { (trimmed true Rotate90 (transformed Rotate90 (narrow low_values))).blocks 0 0 0 ≡ pos 0 ∷ negsuc 1 ∷ pos 5 ∷ zeros 61 }
     ensures small { (trimmed true FlipH (narrow (zeros 64))).width ≡ 7 }
 {}
 

@@ -1,43 +1,41 @@
-//! Laws over files that are written: they mean their picture (T.81 B.2.1, F.1.2).
-ghost use Rattle.std.specs.Prelude.{◌≡◌, ◌^◌, ◌<◌, ◌≤◌, false, List, length};
-ghost use Rattle.jpg_spec.specs.Geometry.{is_progressive};
+//! Laws over files that are written: they mean their picture (T.81, B.2.1, F.1.2).
+ghost use Rattle.std.specs.Prelude.{ℕ, ◌^◌, ◌<◌, List, length};
 ghost use Rattle.jpg_spec.specs.FrameHeader.{AreLimits};
 ghost use Rattle.jpg_spec.specs.Segments.{standard_limits};
 ghost use Rattle.jpg_spec.specs.Meaning.{Meaning};
-ghost use Rattle.jpg_spec.specs.Script.{Entry, sequential_script};
 ghost use Rattle.jpg_spec.specs.FileMeaning.{Means};
-ghost use Rattle.jpg_spec.specs.FileText.{Restart, frame_of_meaning, file_text};
 ghost use Rattle.jpg_spec.specs.Moves.{headed_by};
-ghost use Rattle.jpg_spec.specs.WrittenFile.{IsHeaded, IsRestart, IsSequentialFile, IsProgressiveFile};
+ghost use Rattle.jpg_spec.specs.WrittenFile.{IsHeaded};
+ghost use Rattle.jpg_spec.specs.Laws.{HasSequentialScript, IsSequentialText, IsOwnText, IsProgressiveText, Fits};
 ghost use Rattle.jpg_spec.specs.declared.frame.Copying.{Copying};
 ghost use Rattle.jpg_spec.specs.declared.frame.Limits.{Limits};
 
 /// What is written of a meaning in a sequential script, with restarts or without, means it; and so in the script of one scan
 /// of all components, or of one scan for each (T.81, B.2.1 and F.1.2).
 pub fn sequential_files_mean_their_picture()
-    ensures scripts { (limits : Limits) (H : Meaning) (script : List Entry) (restart : Restart) → AreLimits limits → IsSequentialFile limits H script → IsRestart restart → length (file_text H script restart) ≤ limits.input → Means limits (file_text H script restart) H }
-    ensures own { (limits : Limits) (H : Meaning) (restart : Restart) → AreLimits limits → IsHeaded limits H → is_progressive H.process ≡ false → IsRestart restart → length (file_text H (sequential_script (frame_of_meaning H)) restart) ≤ limits.input → Means limits (file_text H (sequential_script (frame_of_meaning H)) restart) H }
+    ensures scripts { (limits : Limits) (H : Meaning) (bytes : List ℕ) → IsSequentialText limits H bytes → Fits limits bytes → Means limits bytes H }
+    ensures own { (limits : Limits) (H : Meaning) (bytes : List ℕ) → IsOwnText limits H bytes → Fits limits bytes → Means limits bytes H }
 {}
 
 /// What is written of a meaning in a sequential script has fewer than 2^39 bytes: a block has at most 64 values of 31 bits, a byte FF is stuffed,
 /// and no component has two scans. So within the standard limits it means the meaning, whatever its script and restarts.
 pub fn sequential_files_are_short()
-    ensures short { (limits : Limits) (H : Meaning) (script : List Entry) (restart : Restart) → AreLimits limits → IsSequentialFile limits H script → length (file_text H script restart) < 2 ^ 39 }
-    ensures means { (H : Meaning) (script : List Entry) (restart : Restart) → IsSequentialFile standard_limits H script → IsRestart restart → Means standard_limits (file_text H script restart) H }
-    ensures own { (H : Meaning) (restart : Restart) → IsHeaded standard_limits H → is_progressive H.process ≡ false → IsRestart restart → Means standard_limits (file_text H (sequential_script (frame_of_meaning H)) restart) H }
+    ensures short { (limits : Limits) (H : Meaning) (bytes : List ℕ) → AreLimits limits → HasSequentialScript limits H bytes → length bytes < 2 ^ 39 }
+    ensures means { (H : Meaning) (bytes : List ℕ) → IsSequentialText standard_limits H bytes → Means standard_limits bytes H }
+    ensures own { (H : Meaning) (bytes : List ℕ) → IsOwnText standard_limits H bytes → Means standard_limits bytes H }
 {}
 
 /// What is written of a meaning in a progressive script that its scans' history admits, with restarts or without, means it
 /// (T.81, B.2.1 and G.1).
 pub fn progressive_files_mean_their_picture()
-    ensures { (limits : Limits) (H : Meaning) (script : List Entry) (restart : Restart) → AreLimits limits → IsProgressiveFile limits H script → IsRestart restart → length (file_text H script restart) ≤ limits.input → Means limits (file_text H script restart) H }
+    ensures { (limits : Limits) (H : Meaning) (bytes : List ℕ) → IsProgressiveText limits H bytes → Fits limits bytes → Means limits bytes H }
 {}
 
 /// Such a file has fewer than 2^39 bytes too, however many scans its script has: each scan brings what it names down by a bit, of which a
 /// value has eleven. So within the standard limits it means the meaning.
 pub fn progressive_files_are_short()
-    ensures short { (limits : Limits) (H : Meaning) (script : List Entry) (restart : Restart) → AreLimits limits → IsProgressiveFile limits H script → IsRestart restart → length (file_text H script restart) < 2 ^ 39 }
-    ensures means { (H : Meaning) (script : List Entry) (restart : Restart) → IsProgressiveFile standard_limits H script → IsRestart restart → Means standard_limits (file_text H script restart) H }
+    ensures short { (limits : Limits) (H : Meaning) (bytes : List ℕ) → AreLimits limits → IsProgressiveText limits H bytes → length bytes < 2 ^ 39 }
+    ensures means { (H : Meaning) (bytes : List ℕ) → IsProgressiveText standard_limits H bytes → Means standard_limits bytes H }
 {}
 
 /// A headed meaning may be written where the meaning that is headed may (the manual of jpegtran).

@@ -17,7 +17,5 @@ returns-in-Ok-Wrjpgcom g c =
       worked =
           (let P : WordsTold Command → Type 0 = λ a. Worked a (state c.args.desk.now) c.insert_comment.result (state c.insert_comment.new.desk) in
           subst P (sym told) (asked_inserted c.in-Ok-Wrjpgcom.words (state c.args.desk.now) (state c.insert_comment.new.desk) c.insert_comment.result done.inserted));
-      counts = done.counts;
-      files = done.files;
-      said = done.said;
+      kept = done.kept;
     }

@@ -9,7 +9,7 @@ pub returns-clause-whole_or_standing : goal.returns-clause-whole_or_standing
 returns-clause-whole_or_standing c = λ limits front rest M w t. whole_file_not_standing limits front rest M w t
 
 pub returns-clause-shown_or_whole : goal.returns-clause-shown_or_whole
-returns-clause-shown_or_whole c = λ limits front rest fault M s w. shown_not_whole limits fault front rest (front ++ rest) M w.rest s w w.cut
+returns-clause-shown_or_whole c = λ limits front rest fault s w. shown_not_whole limits fault front rest (front ++ rest) w.0 w.1.rest s w.1 w.1.cut
 
 pub returns-clause-whole_or_shown : goal.returns-clause-whole_or_shown
-returns-clause-whole_or_shown c = λ limits front rest fault M w s. whole_file_not_shown limits front rest fault M w s
+returns-clause-whole_or_shown c = λ limits bytes more M w fault s. whole_file_not_shown limits bytes more fault M w s

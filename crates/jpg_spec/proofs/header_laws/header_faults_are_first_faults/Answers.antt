@@ -2,4 +2,4 @@ use Rattle.jpg_spec.proofs.HeaderFirst.{header_first}
 use Rattle.jpg_spec.proofs.header_laws.header_faults_are_first_faults.Goals as goal
 
 pub returns : goal.returns
-returns c = λ limits bytes fault n long within s. header_first limits bytes fault n long within s
+returns c = λ limits bytes fault n w within. header_first limits bytes fault n w.within within w.shown

@@ -6,11 +6,11 @@ use Rattle.jpg_spec.proofs.header_laws.headers_come_to_one_thing.Goals as goal
 
 pub returns-clause-shown_or_standing : goal.returns-clause-shown_or_standing
 returns-clause-shown_or_standing c =
-    λ limits bytes fault n s t. shown_not_standing limits (take n bytes) (drop n bytes) fault s (subst (λ l. HeaderStands limits l) (sym (take-append-drop n bytes)) t)
+    λ limits bytes w t. shown_not_standing limits (take w.1 bytes) (drop w.1 bytes) w.0 w.2 (subst (λ l. HeaderStands limits l) (sym (take-append-drop w.1 bytes)) t)
 
 pub returns-clause-shown_or_whole : goal.returns-clause-shown_or_whole
 returns-clause-shown_or_whole c =
-    λ limits bytes front rest fault n before contents s t cut. shown_not_whole limits (take n bytes) front (drop n bytes) rest fault before contents s t (take-append-drop n bytes ∙ cut)
+    λ limits bytes w h. shown_not_whole limits (take w.1 bytes) h.front (drop w.1 bytes) h.rest w.0 h.before h.contents w.2 h.header (take-append-drop w.1 bytes ∙ h.cut)
 
 pub returns-clause-whole_or_standing : goal.returns-clause-whole_or_standing
-returns-clause-whole_or_standing c = λ limits bytes front rest before contents s cut t. whole_not_standing limits front rest before contents s (subst (λ l. HeaderStands limits l) cut t)
+returns-clause-whole_or_standing c = λ limits bytes h t. whole_not_standing limits h.front h.rest h.before h.contents h.header (subst (λ l. HeaderStands limits l) h.cut t)

@@ -1,5 +1,6 @@
+use Rattle.std.proofs.Common.{sym, ◌∙◌}
 use Rattle.jpg_spec.proofs.Sound.{fault_excludes}
 use Rattle.jpg_spec.proofs.laws.faults_exclude_intervals.Goals as goal
 
 pub returns : goal.returns
-returns c = λ coding units fault told bits cits x y s d k e. fault_excludes coding units fault told bits cits x y s d k e
+returns c = λ coding units bits s d w. fault_excludes coding units d.fault w.told d.front w.front d.rest w.rest s d.shown w.spelled (sym d.cut ∙ w.cut)

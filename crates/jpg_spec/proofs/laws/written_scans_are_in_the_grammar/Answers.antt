@@ -2,4 +2,4 @@ use Rattle.jpg_spec.proofs.Sequential.{written_spells}
 use Rattle.jpg_spec.proofs.laws.written_scans_are_in_the_grammar.Goals as goal
 
 pub returns : goal.returns
-returns c = λ f head due e p ok. written_spells f head due e p ok
+returns c = λ f head due w. written_spells f head due w.sequential w.precision w.each

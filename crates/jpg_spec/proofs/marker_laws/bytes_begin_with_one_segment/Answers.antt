@@ -1,5 +1,6 @@
+use Rattle.std.proofs.Common.{sym, ◌∙◌}
 use Rattle.jpg_spec.proofs.MarkersOnce.{segment_once}
 use Rattle.jpg_spec.proofs.marker_laws.bytes_begin_with_one_segment.Goals as goal
 
 pub returns : goal.returns
-returns c = λ code other contents others front more x y s t e. segment_once code other contents others front more x y s t e
+returns c = λ bytes a b. segment_once a.code b.code a.contents b.contents a.front b.front a.rest b.rest a.spelled b.spelled (sym a.cut ∙ b.cut)

@@ -1,6 +1,7 @@
-use Rattle.std.proofs.Common.{arith}
+use Rattle.std.proofs.Common.{arith, List, ℕ, ◌<◌, ◌^◌, length, sym, subst}
 use Rattle.jpg_spec.specs.Segments.{standard_limits}
 use Rattle.jpg_spec.specs.Script.{sequential_script}
+use Rattle.jpg_spec.specs.FileMeaning.{Means}
 use Rattle.jpg_spec.specs.FileText.{frame_of_meaning}
 use Rattle.jpg_spec.proofs.WrittenFront.{standard_are_limits, frame_is}
 use Rattle.jpg_spec.proofs.WrittenScripts.{sequential_passes}
@@ -9,17 +10,21 @@ use Rattle.jpg_spec.proofs.FileLength.{sequential_short}
 use Rattle.jpg_spec.proofs.written_laws.sequential_files_are_short.Goals as goal
 
 pub returns-clause-short : goal.returns-clause-short
-returns-clause-short c = λ limits H script restart limited is. sequential_short limits H script restart limited is.headed is.sequential is.passes
+returns-clause-short c = λ limits H bytes limited w.
+    subst (λ (l : List ℕ). length l < 2 ^ 39) (sym w.text) (sequential_short limits H w.script w.restart limited w.file.headed w.file.sequential w.file.passes)
 
 pub returns-clause-means : goal.returns-clause-means
-returns-clause-means c = λ H script restart is small.
-    let short = sequential_short standard_limits H script restart standard_are_limits is.headed is.sequential is.passes in
-    sequential_means standard_limits H script restart standard_are_limits is.headed is.sequential is.passes small (omega (arith, short))
+returns-clause-means c = λ H bytes is.
+    let w = is.written in
+    let short = sequential_short standard_limits H w.script w.restart standard_are_limits w.file.headed w.file.sequential w.file.passes in
+    subst (λ (l : List ℕ). Means standard_limits l H) (sym w.text)
+    (sequential_means standard_limits H w.script w.restart standard_are_limits w.file.headed w.file.sequential w.file.passes is.small (omega (arith, short)))
 
 pub returns-clause-own : goal.returns-clause-own
-returns-clause-own c = λ H restart headed sequential small.
+returns-clause-own c = λ H bytes w.
     let f = frame_of_meaning H in
     let script = sequential_script f in
-    let passes = sequential_passes f (frame_is standard_limits f f standard_are_limits headed.frame) in
-    let short = sequential_short standard_limits H script restart standard_are_limits headed sequential passes in
-    sequential_means standard_limits H script restart standard_are_limits headed sequential passes small (omega (arith, short))
+    let passes = sequential_passes f (frame_is standard_limits f f standard_are_limits w.headed.frame) in
+    let short = sequential_short standard_limits H script w.restart standard_are_limits w.headed w.sequential passes in
+    subst (λ (l : List ℕ). Means standard_limits l H) (sym w.text)
+    (sequential_means standard_limits H script w.restart standard_are_limits w.headed w.sequential passes w.small (omega (arith, short)))

@@ -1,4 +1,6 @@
+use Rattle.std.proofs.Common.{List, ℕ, ◌≤◌, length, sym, subst}
 use Rattle.jpg_spec.specs.Script.{sequential_script}
+use Rattle.jpg_spec.specs.FileMeaning.{Means}
 use Rattle.jpg_spec.specs.FileText.{frame_of_meaning}
 use Rattle.jpg_spec.proofs.WrittenFront.{frame_is}
 use Rattle.jpg_spec.proofs.WrittenScripts.{sequential_passes}
@@ -6,9 +8,16 @@ use Rattle.jpg_spec.proofs.WrittenMeans.{sequential_means}
 use Rattle.jpg_spec.proofs.written_laws.sequential_files_mean_their_picture.Goals as goal
 
 pub returns-clause-scripts : goal.returns-clause-scripts
-returns-clause-scripts c = λ limits H script restart limited is small long. sequential_means limits H script restart limited is.headed is.sequential is.passes small long
+returns-clause-scripts c = λ limits H bytes is fits.
+    let w = is.written in
+    subst (λ (l : List ℕ). Means limits l H) (sym w.text)
+    (sequential_means limits H w.script w.restart fits.limited w.file.headed w.file.sequential w.file.passes is.small
+    (subst (λ (l : List ℕ). length l ≤ limits.input) w.text fits.long))
 
 pub returns-clause-own : goal.returns-clause-own
-returns-clause-own c = λ limits H restart limited headed sequential small long.
-    sequential_means limits H (sequential_script (frame_of_meaning H)) restart limited headed sequential
-    (sequential_passes (frame_of_meaning H) (frame_is limits (frame_of_meaning H) (frame_of_meaning H) limited headed.frame)) small long
+returns-clause-own c = λ limits H bytes w fits.
+    let f = frame_of_meaning H in
+    subst (λ (l : List ℕ). Means limits l H) (sym w.text)
+    (sequential_means limits H (sequential_script f) w.restart fits.limited w.headed w.sequential
+    (sequential_passes f (frame_is limits f f fits.limited w.headed.frame)) w.small
+    (subst (λ (l : List ℕ). length l ≤ limits.input) w.text fits.long))
