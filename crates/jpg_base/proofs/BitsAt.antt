@@ -5,9 +5,10 @@ use Rattle.std.specs.Int.Bits.{bit_or}
 use Rattle.std.proofs.lemmas.List.{append_assoc, append-nil, length-append, drop_more, take_min, drop_min}
 use Rattle.std.proofs.lemmas.Nat.{shr_high, pow-add, or_shifted, mod-mul-add, pow_pos}
 use Rattle.std.proofs.Math.Nat.{div-div-eq-div-mul, pow-succ', mod-lt, mul-lt-mul_of_pos_right, mul_assoc, add-mul}
-use Rattle.std.proofs.Math.Seq.{take-append_seam, drop-append_seam}
+use Rattle.std.proofs.Math.Seq.{drop-append_seam}
 use Rattle.jpg_spec.specs.Bits.{bits_of}
 use Rattle.jpg_spec.proofs.Strings.{length-bits_of}
+use Rattle.jpg_spec.proofs.Common.{take_front}
 
 -- the front and the rest of a string
 pub bits_of-add : (d t n : ℕ) → bits_of (d + t) n ≡ bits_of d (n / 2 ^ t) ++ bits_of t n
@@ -38,9 +39,6 @@ bits_of-mod t n =
 pub bits_of-beside : (c t a b : ℕ) → b < 2 ^ t → bits_of (c + t) (a * 2 ^ t + b) ≡ bits_of c a ++ bits_of t b
 bits_of-beside c t a b h =
     bits_of-add c t (a * 2 ^ t + b) ∙ ap (λ x. bits_of c x ++ bits_of t (a * 2 ^ t + b)) (shr_high a t b h) ∙ ap (λ x. bits_of c a ++ x) (bits_of-low t a b)
-
-take_front : (n : ℕ) (xs ys : List Bool) → length xs ≡ n → take n (xs ++ ys) ≡ xs
-take_front n xs ys l = ap (λ k. take k (xs ++ ys)) (sym l) ∙ take-append_seam xs ys
 
 drop_front : (n : ℕ) (xs ys : List Bool) → length xs ≡ n → drop n (xs ++ ys) ≡ ys
 drop_front n xs ys l = ap (λ k. drop k (xs ++ ys)) (sym l) ∙ drop-append_seam xs ys

@@ -8,8 +8,9 @@ use Rattle.jpg_spec.specs.Geometry.{Frame, h_max, v_max, padded_blocks}
 use Rattle.jpg_spec.specs.FrameHeader.{HasFactors, AreLimits, has_bad_factor, has_bad_slot, identifiers}
 use Rattle.jpg_spec.specs.declared.frame.Component.{Component}
 use Rattle.jpg_spec.specs.declared.frame.Limits.{Limits}
-use Rattle.jpg_base.specs.Frame.{IsWhole}
+use Rattle.jpg_base.specs.Frame.{IsCheckedFrame}
 use Rattle.jpg_base.proofs.Grids.{across_low, across_high, down_low, down_high}
+use Rattle.jpg_spec.proofs.WrittenFront.{all_factors}
 
 -- a test that nothing meets
 none_meet : {X : Type 0} (test : X → Bool) (P : X → Type 0) → ((x : X) → test x ≡ false → P x) → (xs : List X) → any_of test xs ≡ false → All P xs
@@ -17,12 +18,6 @@ none_meet test P one [] e = All-nil P
 none_meet test P one (x ∷ xs) e =
     let parts : (test x ≡ false) × (any_of test xs ≡ false) = or_parts (test x) (any_of test xs) e in
     All-cons P x xs (one x parts.0) (none_meet test P one xs parts.1)
-
-good_factors : (c : Component) → has_bad_factor c ≡ false → HasFactors c
-good_factors c e = grind (arith, nat_tests)
-
-pub factors_from : (cs : List Component) → any_of has_bad_factor cs ≡ false → All HasFactors cs
-factors_from cs e = none_meet has_bad_factor HasFactors good_factors cs e
 
 good_slot : (c : Component) → has_bad_slot c ≡ false → c.quant ≤ 3
 good_slot c e = ltb-false 3 c.quant e
@@ -37,9 +32,9 @@ pub whole : (limits : Limits) (f : Frame) (across down : ℕ) → AreLimits limi
     → any_of has_bad_slot f.components ≡ false
     → nat_lt limits.blocks (padded_blocks f) ≡ false
     → across ≡ h_max f → down ≡ v_max f
-    → IsWhole f across down
+    → IsCheckedFrame f across down
 whole limits f across down within empty large depth count factors same slots blocks a d =
-    let all : All HasFactors f.components = factors_from f.components factors in
+    let all : All HasFactors f.components = all_factors f.components factors in
     let some : 1 ≤ length f.components = grind (arith, nat_tests) in
     record {
       checked = record {

@@ -8,7 +8,7 @@ use Rattle.jpg_spec.specs.Geometry.{Frame, factor_sum, component_at, place}
 use Rattle.jpg_spec.specs.declared.frame.ScanPart.{ScanPart}
 use Rattle.jpg_spec.specs.declared.frame.Place.{Place}
 use Rattle.jpg_base.specs.declared.cursor.CursorPart.{CursorPart}
-use Rattle.jpg_base.specs.Cursor.{part_of, spot_of}
+use Rattle.jpg_base.specs.Cursor.{cursor_part_of, spot_of}
 use Rattle.jpg_base.proofs.UnitCounts.{mcu_from, in_part, behind_part}
 
 ids_from : (parts : List ScanPart) (n : ℕ) (p : ScanPart) → n < length parts → map (λ (q : ScanPart). q.component) (drop n parts) ≡ (get_or parts n p).component ∷ map (λ (q : ScanPart). q.component) (drop (n + 1) parts)
@@ -36,7 +36,7 @@ fewer_left f parts n k p h lt le =
     let i = (get_or parts n p).component in
     omega (arith, lt, ap (factor_sum f) (ids_from parts n p h), sum_by-cons (λ (j : ℕ). (component_at f j).h * (component_at f j).v) i ids)
 
-pub spot_same : (f : Frame) (i : ℕ) (p : CursorPart) (column row k x y : ℕ) → p ≡ part_of f i → x ≡ column * p.h + k % p.h → y ≡ row * p.v + k / p.h
+pub spot_same : (f : Frame) (i : ℕ) (p : CursorPart) (column row k x y : ℕ) → p ≡ cursor_part_of f i → x ≡ column * p.h + k % p.h → y ≡ row * p.v + k / p.h
     → spot_of p x y ≡ place f i (column * (component_at f i).h + k % (component_at f i).h) (row * (component_at f i).v + k / (component_at f i).h)
 spot_same f i p column row k x y e ex ey =
     ap (λ (n : ℕ). spot_of p n y) ex ∙ ap (λ (n : ℕ). spot_of p (column * p.h + k % p.h) n) ey

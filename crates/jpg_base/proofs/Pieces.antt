@@ -7,7 +7,8 @@ use Rattle.jpg_base.specs.declared.names.Put.TheVariants.{Done, Failed}
 use Rattle.jpg_base.specs.declared.names.Got.TheVariants as got
 use Rattle.jpg_base.specs.declared.memory.Stored.{Stored}
 use Rattle.jpg_base.specs.Desk.{AfterAppend, AfterAppendLast, append_last, append_last-push}
-use Rattle.jpg_base.specs.Memory.{named, given}
+use Rattle.jpg_base.specs.Input.{given}
+use Rattle.jpg_base.specs.Memory.{named}
 
 -- the bytes that were copied to the front of a buffer, and those that are left after them
 pub given_front : (bytes copied buf : List ℕ) (at most : ℕ) → copied ≡ take most (drop at bytes) → most ≤ length (drop at bytes) → drop at bytes ≡ take most (copied ++ drop most buf) ++ drop (at + most) bytes

@@ -18,7 +18,7 @@ use Rattle.jpg_spec.specs.Segments.{ScanHead, head_components}
 use Rattle.jpg_spec.specs.declared.frame.Place.{Place}
 use Rattle.jpg_spec.specs.declared.frame.ScanPart.{ScanPart}
 use Rattle.jpg_base.specs.declared.cursor.CursorPart.{CursorPart}
-use Rattle.jpg_base.specs.Cursor.{AreIn, IsPadded, lone_part, part_of, part_spots, mcu_spots, line_spots, all_spots}
+use Rattle.jpg_base.specs.Cursor.{AreIn, IsPadded, lone_part, cursor_part_of, part_spots, mcu_spots, line_spots, all_spots}
 
 pub flat_map_same : {A B : Type 0} (f g : A → List B) (xs : List A) → ((x : A) → f x ≡ g x) → flat_map f xs ≡ flat_map g xs
 flat_map_same f g [] same = refl
@@ -41,11 +41,11 @@ lone_units f i components e =
     let wide = blocks_across f (component_at f i) in
     flat_map_same (line_spots (lone_part f i ∷ []) wide) (λ y. map (λ x. place f i x y) (below wide)) (below (blocks_down f (component_at f i))) (lone_line f i wide) ∙ ap (units f) (sym e)
 
-several_mcu : (f : Frame) (parts : List ScanPart) (row column : ℕ) → mcu_spots (map (λ p. part_of f p.component) parts) row column ≡ flat_map (mcu_part f column row) (map (λ p. p.component) parts)
+several_mcu : (f : Frame) (parts : List ScanPart) (row column : ℕ) → mcu_spots (map (λ p. cursor_part_of f p.component) parts) row column ≡ flat_map (mcu_part f column row) (map (λ p. p.component) parts)
 several_mcu f parts row column =
-    flat_map-map (λ p. part_spots p column row) (λ p. part_of f p.component) parts ∙ sym (flat_map-map (mcu_part f column row) (λ p. p.component) parts)
+    flat_map-map (λ p. part_spots p column row) (λ p. cursor_part_of f p.component) parts ∙ sym (flat_map-map (mcu_part f column row) (λ p. p.component) parts)
 
-several_all : (f : Frame) (parts : List ScanPart) → all_spots (map (λ p. part_of f p.component) parts) (mcus_across f) (mcus_down f) ≡ interleaved_units f (map (λ p. p.component) parts)
+several_all : (f : Frame) (parts : List ScanPart) → all_spots (map (λ p. cursor_part_of f p.component) parts) (mcus_across f) (mcus_down f) ≡ interleaved_units f (map (λ p. p.component) parts)
 several_all f parts =
     flat_map_same _ _ (below (mcus_down f)) (λ row. flat_map_same _ _ (below (mcus_across f)) (several_mcu f parts row))
 
@@ -55,7 +55,7 @@ interleaved_are f [] h = absurd (omega arith)
 interleaved_are f (i ∷ []) h = absurd (omega arith)
 interleaved_are f (i ∷ j ∷ more) h = refl
 
-pub several_units : (f : Frame) (parts : List ScanPart) → 2 ≤ length parts → all_spots (map (λ p. part_of f p.component) parts) (mcus_across f) (mcus_down f) ≡ units f (map (λ p. p.component) parts)
+pub several_units : (f : Frame) (parts : List ScanPart) → 2 ≤ length parts → all_spots (map (λ p. cursor_part_of f p.component) parts) (mcus_across f) (mcus_down f) ≡ units f (map (λ p. p.component) parts)
 several_units f parts h = several_all f parts ∙ interleaved_are f (map (λ p. p.component) parts) (omega (arith, length-map parts (λ (p : ScanPart). p.component)))
 
 pub only_one : (parts : List ScanPart) (d : ScanPart) → length parts ≡ 1 → map (λ p. p.component) parts ≡ (get_or parts 0 d).component ∷ []

@@ -1,4 +1,4 @@
--- The places of a scan from one of them on (T.81 A.2).
+-- The places of a scan from one of them on (T.81, A.2).
 use Rattle.std.specs.Prelude.{◌≡◌, ℕ, ◌+◌, ◌*◌, ◌^◌, ◌<◌, ◌≤◌, nat_lt, ◌&&◌, if◌then◌else◌, List, [], ◌∷◌, ◌++◌, length, map, flat_map, drop, slice_index_or, All}
 use Rattle.jpg_spec.specs.Lists.{below}
 use Rattle.jpg_spec.specs.Geometry.{Frame, component_at, blocks_across, blocks_down, mcus_down}
@@ -27,13 +27,13 @@ pub record IsPadded (f : Frame) (i x y : ℕ) : Type 0 where
 abbrev pub lone_part : Frame → ℕ → CursorPart
 lone_part f i = record { component = i; h = 1; v = 1; wide = blocks_across f (component_at f i); high = blocks_down f (component_at f i) }
 
-abbrev pub part_of : Frame → ℕ → CursorPart
-part_of f i = record { component = i; h = (component_at f i).h; v = (component_at f i).v; wide = blocks_across f (component_at f i); high = blocks_down f (component_at f i) }
+abbrev pub cursor_part_of : Frame → ℕ → CursorPart
+cursor_part_of f i = record { component = i; h = (component_at f i).h; v = (component_at f i).v; wide = blocks_across f (component_at f i); high = blocks_down f (component_at f i) }
 
 abbrev pub parts_of : Frame → List ℕ → List CursorPart
 parts_of f [] = []
 parts_of f (i ∷ []) = lone_part f i ∷ []
-parts_of f (i ∷ j ∷ more) = map (part_of f) (i ∷ j ∷ more)
+parts_of f (i ∷ j ∷ more) = map (cursor_part_of f) (i ∷ j ∷ more)
 
 abbrev pub no_part : CursorPart
 no_part = record { component = 0; h = 0; v = 0; wide = 0; high = 0 }

@@ -97,10 +97,10 @@ AfterRead old got.End buf new = IsAtEnd old.left × (new.left ≡ old.left)
 AfterRead old got.Failed buf new = Rose old.counts.reads new.counts.reads × (new.left ≡ old.left)
 
 -- With bytes the input stays open. Behind its end, and behind a failure, it isn't said to be.
-abbrev pub StaysOpen : DeskState → Got → DeskState → Type 0
-StaysOpen old (got.Bytes n) new = new.input_open ≡ old.input_open
-StaysOpen old got.End new = Unit {0}
-StaysOpen old got.Failed new = Unit {0}
+abbrev pub KeepsInputOpen : DeskState → Got → DeskState → Type 0
+KeepsInputOpen old (got.Bytes n) new = new.input_open ≡ old.input_open
+KeepsInputOpen old got.End new = Unit {0}
+KeepsInputOpen old got.Failed new = Unit {0}
 
 -- `read`
 pub record Reads (old : DeskState) (answer : Got) (buf : List ℕ) (new : DeskState) : Type 0 where
@@ -110,7 +110,7 @@ pub record Reads (old : DeskState) (answer : Got) (buf : List ℕ) (new : DeskSt
   pub files : new.files ≡ old.files
   pub outputs : new.outputs ≡ old.outputs
   pub said : new.said ≡ old.said
-  pub input_open : StaysOpen old answer new
+  pub input_open : KeepsInputOpen old answer new
   pub output_created : new.output_created ≡ old.output_created
 
 -- outputs that are told gain an empty one

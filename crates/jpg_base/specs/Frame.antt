@@ -21,7 +21,7 @@ abbrev pub blocks_of : ℕ → ℕ → List Component → ℕ
 blocks_of wide high components = sum_by (λ c. (wide * c.h) * (high * c.v)) components
 
 -- a frame that passed the checks, kept with its greatest factors
-pub record IsWhole (f : Frame) (most_across : ℕ) (most_down : ℕ) : Type 0 where
+pub record IsCheckedFrame (f : Frame) (most_across : ℕ) (most_down : ℕ) : Type 0 where
   pub checked : IsFrame f
   pub across : most_across ≡ h_max f
   pub down : most_down ≡ v_max f

@@ -10,9 +10,9 @@ use Rattle.jpg_base.specs.declared.names.Got.TheVariants as got
 use Rattle.jpg_base.specs.declared.names.Counts.{Counts}
 use Rattle.jpg_base.specs.declared.memory.Stored.{Stored}
 use Rattle.jpg_base.specs.declared.memory.Asked.{Asked}
-use Rattle.jpg_base.specs.declared.memory.Input.{Input}
 use Rattle.jpg_base.specs.declared.memory.MemoryDesk.{MemoryDesk}
 use Rattle.jpg_base.specs.Desk.{DeskState, raised}
+use Rattle.jpg_base.specs.Input.{input_rest, given_of}
 use Rattle.jpg_base.specs.Name.{file_of, is_same_name}
 
 abbrev pub named : Stored → Name × List ℕ
@@ -24,13 +24,10 @@ answered a = (a.name, a.answer)
 abbrev pub told_names : Option (Vec Asked Global) → Option (List (Name × Put))
 told_names asked = option_map (λ v. map answered v.items) asked
 
-abbrev pub rest_of : Input → List ℕ
-rest_of i = drop i.at i.bytes.items
-
 abbrev pub memory_state : MemoryDesk → DeskState
 memory_state d = record {
   files = Some (file_of (map named d.files.items));
-  left = option_map rest_of d.input;
+  left = option_map input_rest d.input;
   outputs = Some (map named d.outputs.items);
   said = Some d.said.items;
   asked = told_names d.asked;
@@ -58,12 +55,12 @@ abbrev pub memory_piece : MemoryDesk → ℕ
 memory_piece d = d.piece
 
 -- whether the call after so many calls is among these. Calls after the last number are not.
-abbrev pub is_next : ℕ → List ℕ → Bool
-is_next calls failing = nat_lt calls (2 ^ 64 - 1) && list_any (λ call. nat_eq call (calls + 1)) failing
+abbrev pub is_failing_next : ℕ → List ℕ → Bool
+is_failing_next calls failing = nat_lt calls (2 ^ 64 - 1) && list_any (λ call. nat_eq call (calls + 1)) failing
 
 -- whether the next call is one that fails
 abbrev pub fails_next : MemoryDesk → Bool
-fails_next d = is_next d.calls d.failing.items
+fails_next d = is_failing_next d.calls d.failing.items
 
 -- a state with one file more, in the place of one of this name
 abbrev pub with_file : Name → List ℕ → DeskState → DeskState
@@ -71,18 +68,9 @@ with_file name bytes state = record state {
   files = option_map (λ had. (λ n. if is_same_name name n then Some bytes else had n)) state.files;
 }
 
--- what a read of at most this many bytes answers where these are left
-abbrev pub given : ℕ → List ℕ → Got
-given most [] = got.End
-given most (byte ∷ rest) = got.Bytes (min most (length rest + 1))
-
-abbrev pub given_of : ℕ → Option (List ℕ) → Got
-given_of most None = got.Failed
-given_of most (Some rest) = given most rest
-
 -- what a read into a buffer of this length answers
 abbrev pub read_answer : MemoryDesk → ℕ → Got
-read_answer d room = if fails_next d then got.Failed else given_of (min d.piece room) (option_map rest_of d.input)
+read_answer d room = if fails_next d then got.Failed else given_of (min d.piece room) (option_map input_rest d.input)
 
 -- the number of calls, those that fail and the most bytes of a read stay as they were
 pub record SameNumbers (old new : MemoryDesk) : Type 0 where

@@ -5,7 +5,7 @@ ghost use Rattle.jpg_spec.specs.Transposed.{transposed};
 use std::marker::Model;
 use std::simd::i16x64;
 
-/// The place in zigzag order of the frequencies exchanged, for each place.
+// The place in zigzag order of the frequencies exchanged, for each place.
 const EXCHANGED: [usize; 64] = [
     0, 2, 1, 5, 4, 3, 9, 8, 7, 6, 14, 13, 12, 11, 10, 20, 19, 18, 17, 16, 15, 27, 26, 25, 24, 23,
     22, 21, 35, 34, 33, 32, 31, 30, 29, 28, 42, 41, 40, 39, 38, 37, 36, 48, 47, 46, 45, 44, 43, 53,

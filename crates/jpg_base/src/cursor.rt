@@ -2,7 +2,7 @@
 ghost use Rattle.std.specs.Prelude.{◌≡◌, ◌<◌, ◌≤◌, ◌^◌, nat_lt, ◌&&◌, ◌*◌, ◌/◌, [], ◌∷◌, length, map, flat_map, slice_index_or, drop, slice_get, Some, All};
 ghost use Rattle.jpg_spec.specs.Geometry.{units, mcu_part, mcu_units, factor_sum, scan_mcus_across};
 ghost use Rattle.jpg_spec.specs.Segments.{head_components};
-ghost use Rattle.jpg_base.specs.Cursor.{AreIn, HasPartFactors, part_of, lone_part, spot_of, scan_mcus_down, all_spots};
+ghost use Rattle.jpg_base.specs.Cursor.{AreIn, HasPartFactors, cursor_part_of, lone_part, spot_of, scan_mcus_down, all_spots};
 ghost use Rattle.jpg_spec.specs.declared.frame.Place.{Place as Spot};
 
 use crate::{Frame, ScanHead};
@@ -223,7 +223,7 @@ impl Frame {
     // What a scan's cursor has of a component among others.
     fn cursor_part(&self, i: u8) -> CursorPart
         requires { i < length self.now.components }
-        ensures value { result ≡ part_of self.now i }
+        ensures value { result ≡ cursor_part_of self.now i }
         ensures factors { HasPartFactors result }
     {
         let component = self.component(i);
@@ -241,7 +241,7 @@ impl Frame {
     fn cursor_parts(&self, parts: &[ScanPart]) -> ArrayVec<CursorPart, 4>
         requires few { length parts.now ≤ 4 }
         requires there { All (λ p. p.component < length self.now.components) parts.now }
-        ensures value { result.items ≡ map (λ p. part_of self.now p.component) parts.now }
+        ensures value { result.items ≡ map (λ p. cursor_part_of self.now p.component) parts.now }
         ensures factors { All HasPartFactors result.items }
     {
         let mut list = ArrayVec::new();

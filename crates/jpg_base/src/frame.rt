@@ -28,13 +28,13 @@ pub struct Frame {
 
 impl Model for Frame {
     ghost use Rattle.jpg_spec.specs.Geometry.{Frame as Numbers};
-    ghost use Rattle.jpg_base.specs.Frame.{IsWhole, numbers_of};
+    ghost use Rattle.jpg_base.specs.Frame.{IsCheckedFrame, numbers_of};
 
     ghost Value = { Numbers };
 
     ghost view = { λ f. numbers_of f.process f.precision f.width f.height f.components.items };
 
-    ghost invariant = { λ f. IsWhole (numbers_of f.process f.precision f.width f.height f.components.items) f.h_max f.v_max };
+    ghost invariant = { λ f. IsCheckedFrame (numbers_of f.process f.precision f.width f.height f.components.items) f.h_max f.v_max };
 }
 
 impl Frame {
@@ -250,7 +250,7 @@ impl Frame {
     }
 }
 
-/// The components in a list of their own.
+// The components in a list of their own.
 fn kept(components: &[Component]) -> ArrayVec<Component, 4>
     requires { length components.now ≤ 4 }
     ensures { result.items ≡ components.now }

@@ -114,7 +114,7 @@ pub(crate) fn div_up(number: u32, divisor: u32) -> u32
     number.div_ceil(divisor)
 }
 
-/// The blocks of a component's padded grid, from the MCUs across and down.
+// The blocks of a component's padded grid, from the MCUs across and down.
 fn component_blocks(wide: u32, high: u32, component: Component) -> u64
     requires wide { wide ≤ 65532 }
     requires high { high ≤ 65532 }
@@ -124,7 +124,7 @@ fn component_blocks(wide: u32, high: u32, component: Component) -> u64
     u64::from(wide * u32::from(component.h)) * u64::from(high * u32::from(component.v))
 }
 
-/// The blocks of the padded grids of all components, from the MCUs across and down.
+// The blocks of the padded grids of all components, from the MCUs across and down.
 fn all_blocks(wide: u32, high: u32, components: &[Component]) -> u64
     requires wide { wide ≤ 65532 }
     requires high { high ≤ 65532 }

@@ -6,8 +6,9 @@ mod parts;
 #[cfg(test)]
 mod tests;
 
+use crate::input::Input;
 use crate::{Counts, Desk, Got, Name, NoMemory, Put};
-use parts::{add_output, append, give, input_of, is_failing, raise, with_name, write_last};
+use parts::{add_output, append, input_of, is_failing, raise, with_name, write_last};
 use std::alloc::Global;
 
 #[derive(Drop)]
@@ -20,13 +21,6 @@ pub struct Stored {
 pub struct Asked {
     pub name: Name,
     pub answer: Put,
-}
-
-#[derive(Drop)]
-pub struct Input {
-    pub bytes: Vec<u8>,
-    pub at: usize,
-    ghost at_in: { at ≤ vec_len bytes },
 }
 
 /// A desk whose files, outputs and messages lie in memory, for tests. It fails at the calls that it
@@ -171,7 +165,7 @@ impl Desk for MemoryDesk {
     {
         let fails = is_failing(&mut self.calls, &self.failing);
         match &mut self.input {
-            Some(input) if !fails => give(input, self.piece, buf),
+            Some(input) if !fails => input.give(self.piece, buf),
             _ => {
                 raise(&mut self.counts.reads);
                 Got::Failed

@@ -38,7 +38,7 @@ impl<R: Runtime> Write for Sink<R> {
     }
 }
 
-// All that the desk tells of itself.
+/// All that the desk tells of itself.
 #[derive(Clone, Copy)]
 pub struct Told {
     pub counts: Counts,

@@ -13,11 +13,17 @@ use Rattle.jpg_spec.specs.declared.answers.Why.TheVariants as why
 use Rattle.jpg_comments.specs.Inserting.{HoldsHead}
 use Rattle.jpg_comments.specs.Printing.{HoldsWhole}
 use Rattle.jpg_comments.proofs.OneAnswer.{heads_sound, reading_sound, whole_no_fault}
-use Rattle.jpg_cli.specs.Certain.{HasFrameHeader, HasWholeFile, IsDoneOrWanting, IsTold, IsToldComment}
+use Rattle.jpg_cli.specs.Certain.{HasFrameHeader, HasPicture, HasWholeFile, IsDoneOrUnbuilt, IsDoneOrWanting, IsTold, IsToldComment}
 use Rattle.jpg_cli.specs.CommentInserted.{HasInputFault, HasLongComment, Inserted, IsComment, IsInsertDue, Task}
 use Rattle.jpg_cli.specs.ReadComments.{IsPrintDue, Printed}
 use Rattle.jpg_cli.specs.Reading.{IsFile}
-use Rattle.jpg_cli.specs.Run.{NoneRose}
+use Rattle.jpg_cli.specs.Run.{IsAnswerDue, NoneRose, Turned}
+use Rattle.jpg_cli.specs.ReadPicture.{IsRefused}
+use Rattle.jpg_spec.specs.FirstFault.{IsFirstFault}
+use Rattle.jpg_spec.specs.Moved.{Choice}
+use Rattle.jpg_spec.specs.declared.fault.Fault.TheVariants.{NotBuilt}
+use Rattle.jpg_spec.proofs.FileLaws.{means_no_fault}
+use Rattle.jpg_cli.proofs.Ending.{due_answer}
 use Rattle.jpg_cli.proofs.CommentsPrinted.{print_due}
 use Rattle.jpg_cli.proofs.Input.{some_inj}
 use Rattle.jpg_cli.proofs.InsertedThen.{insert_due}
@@ -75,6 +81,24 @@ inserted_certain old new task w has none done = by w (insert_due old new task w 
     by why.Done due = tt
     by (why.Usage u) due = absurd due
     by (why.Refused f) due = absurd (refused f due)
+    by (why.OpenFault u) due = absurd due
+    by (why.ReadFault u) due = absurd due
+    by why.WriteFault due = absurd due
+    by why.NoMemory due = tt
+
+-- TURNED
+
+pub turned_certain : (choice : Choice) (old new : DeskState) (w : Why) → HasPicture old → NoneRose old.counts new.counts → Turned choice old w new → IsDoneOrUnbuilt w
+turned_certain choice old new w (input, M, told, means) none turned = by w (due_answer choice old new w none turned)
+  where
+    refused : (f : FaultAt) (other : List ℕ) → other ≡ input → IsRefused other f → f.fault ≡ NotBuilt
+    refused f other same (inl fault) = absurd (means_no_fault standard_limits input M f.fault f.at means (subst (λ (b : List ℕ). IsFirstFault standard_limits b f.fault f.at) same fault))
+    refused f other same (inr unbuilt) = unbuilt.0
+
+    by : (w : Why) → IsAnswerDue old w → IsDoneOrUnbuilt w
+    by why.Done due = tt
+    by (why.Usage u) due = absurd due
+    by (why.Refused f) due = refused f due.input (one_file old.files name.In input due.input told due.file) due.refused
     by (why.OpenFault u) due = absurd due
     by (why.ReadFault u) due = absurd due
     by why.WriteFault due = absurd due

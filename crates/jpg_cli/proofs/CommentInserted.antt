@@ -22,14 +22,19 @@ use Rattle.jpg_spec.specs.declared.answers.Which.TheVariants as which
 use Rattle.jpg_comments.specs.WriteInserted.{HasInserted, StandsAt}
 use Rattle.jpg_comments.specs.declared.insert.Insert.{Insert}
 use Rattle.jpg_cli.specs.CommentInserted.{AfterBegin, Inserted, IsOutOfMemory, IsComment, IsCommentRead, IsReading, IsShortComment, IsWriting, ReadsAlone, ReadsComment, ReadsInput, ReadsLast, Task, WritesText, names_of, names_to_input, names_to_output}
-use Rattle.jpg_cli.specs.Endings.{Asks, Unopened}
+use Rattle.jpg_cli.specs.Endings.{Asks, Stopped, Unopened, Unread}
 use Rattle.jpg_cli.proofs.Endings.{asks_next, asks_still}
-use Rattle.jpg_cli.specs.CommentTaken.{AfterComment, AfterFile, AfterWords, IsUnasked}
-use Rattle.jpg_cli.specs.InsertComment.{AfterFed, EndsBefore, EndsInserting, IsAtHead, IsBegunWith, IsFaultBefore, IsFilePart, IsLongFile, IsNoHead, IsWholeFile}
-use Rattle.jpg_cli.specs.ReadComments.{Copies, HasCopied, OnlyCopies}
-use Rattle.jpg_cli.specs.Reading.{IsFile, Keeps, OnlyReads, ReadsPart, rest_of}
+use Rattle.jpg_cli.specs.CommentTaken.{AfterComment, AfterWords}
+use Rattle.jpg_cli.specs.FileTaken.{AfterFile}
+use Rattle.jpg_cli.specs.InsertComment.{AfterFed, EndsBefore, EndsInserting, IsAtHead, IsBegunWith, IsFaultBefore, IsFilePart, IsLongFile, IsNoHead, IsInsertedWhole}
+use Rattle.jpg_cli.specs.ReadComments.{Copies, HasCopied}
+use Rattle.jpg_cli.specs.Stays.{OnlyCopies}
+use Rattle.jpg_cli.specs.Reading.{IsFile, ReadsPart, rest_of}
+use Rattle.jpg_cli.specs.Stays.{Keeps, OnlyReads}
+use Rattle.jpg_cli.specs.FileTaken.{AfterFile}
+use Rattle.jpg_cli.specs.Stays.{Keeps, OnlyCopies, OnlyReads, Untouched}
 use Rattle.jpg_cli.proofs.Input.{file_read}
-use Rattle.jpg_cli.proofs.CommentsCopied.{had_told, none_read}
+use Rattle.jpg_cli.proofs.CommentsCopied.{copies_then, had_told, none_read}
 use Rattle.jpg_cli.proofs.InsertedCopied.{fed_part, fed_short, file_part, long_file, not_none, part_of_part, stands}
 
 -- READING
@@ -39,12 +44,12 @@ pub reading_more : (task : Task) (comment bytes piece : List ℕ) (old s0 s1 : D
 reading_more task comment bytes piece old s0 s1 most r k more = record {
   most = most;
   left = r.left;
-  names = asks_still old s0 s1 (names_to_input task) put.Done k.asked r.names;
+  names = asks_still old s0 s1 (names_to_input task) put.Done k.copies.asked r.names;
   source = r.source;
   opened = r.opened;
   read = Consumes-then r.left s0.left s1.left bytes piece r.read more;
   outputs = k.outputs ∙ r.outputs;
-  counts = NoneFell-then old.counts s0.counts s1.counts r.counts k.counts;
+  counts = NoneFell-then old.counts s0.counts s1.counts r.counts k.copies.works.stays.counts;
 }
 
 -- THE OUTPUT
@@ -150,7 +155,7 @@ writing_more task comment bytes text more all old s0 s1 w k h = record {
   most = h.most;
   adds = w.adds;
   written = h.written;
-  counts = NoneFell-then old.counts s0.counts s1.counts w.counts k.counts;
+  counts = NoneFell-then old.counts s0.counts s1.counts w.counts k.works.stays.counts;
 }
 
 -- why the writing ended
@@ -161,11 +166,11 @@ ends task comment bytes text old s0 s1 w ended k h = by ended h
     copies Is c = writes task comment c.0 c.1 old s1 Is (writing_more task comment bytes text c.0 c.1 old s0 s1 w k c.2) c.3
 
     by : (ended : Why) → EndsInserting comment task.replace (begun task comment bytes text old s0 w) ended s1 → Inserted task old ended s1
-    by why.Done h = (copies (λ with. IsWholeFile with task.replace) h.0, h.1)
+    by why.Done h = (copies (λ with. IsInsertedWhole with task.replace) h.0, h.1)
     by (why.Usage u) h = absurd h
     by (why.Refused f) h = inr (inr (copies (λ with. IsLongFile with task.replace f (rest_of s1.left)) h))
     by (why.OpenFault which) h = absurd h
-    by (why.ReadFault which.Input) h = (inr (copies (λ with. IsWholeFile with task.replace) h.0), (let r = h.1 in let f = w.counts.reads in omega (arith, r, f)))
+    by (why.ReadFault which.Input) h = (inr (copies (λ with. IsInsertedWhole with task.replace) h.0), (let r = h.1 in let f = w.counts.reads in omega (arith, r, f)))
     by (why.ReadFault which.Script) h = absurd h
     by (why.ReadFault which.Tables) h = absurd h
     by (why.ReadFault which.Comment) h = absurd h
@@ -222,14 +227,7 @@ ended_before task comment bytes old s0 s1 why.WriteFault r k h = absurd h
 ended_before task comment bytes old s0 s1 why.NoMemory r k (piece, more, most) = inl (out_of_memory task comment (bytes ++ piece) old s1 (reading_more task comment bytes piece old s0 s1 most r k more))
 
 pub reads_then : (a b c : DeskState) → OnlyReads a b → OnlyReads b c → OnlyReads a c
-reads_then a b c h k = record {
-  counts = NoneFell-then a.counts b.counts c.counts h.counts k.counts;
-  asked = k.asked ∙ h.asked;
-  files = k.files ∙ h.files;
-  outputs = k.outputs ∙ h.outputs;
-  said = k.said ∙ h.said;
-  output_created = k.output_created ∙ h.output_created;
-}
+reads_then a b c h k = record { copies = copies_then a b c h.copies k.copies; outputs = k.outputs ∙ h.outputs }
 
 -- THE LOOPS
 
@@ -277,7 +275,7 @@ none_noted (Some a) (Some b) e = (let z : b ≡ a = (let y : Some b ≡ Some a =
 pub took : (old now : DeskState) (source : CommentSource) (bytes : List ℕ) → AfterComment old source (Ok bytes) now
     → (comment : List ℕ) × IsComment old source comment × Asks (names_of source) put.Done old now × ((bytes ≡ comment) ⊎ (bytes ≡ take 65001 comment)) × IsCommentRead source comment now
 took old now from_input bytes (names, is, front) = (bytes ++ rest_of now.left, is, names, inr front, ap (λ (b : List ℕ). b ++ rest_of now.left) front)
-took old now (from_words text) bytes (same, e) = (text, refl, none_noted old.asked now.asked same.0, inl e, tt)
+took old now (from_words text) bytes (same, e) = (text, refl, none_noted old.asked now.asked same.asked, inl e, tt)
 took old now (from_file file) bytes (inl (names, is, front)) = (bytes ++ rest_of now.left, is, names, inr front, ap (λ (b : List ℕ). b ++ rest_of now.left) front)
 took old now (from_file file) bytes (inr (e, same)) = absurd (let z : Ok bytes ≡ Err why.NoMemory = e in cc)
 
@@ -287,7 +285,7 @@ few_taken bytes all e = omega (arith, ap length e, length-take 65001 all)
 -- what was read of it
 comment_read : (old now : DeskState) (source : CommentSource) (bytes : List ℕ) → AfterComment old source (Ok bytes) now → (now.left ≡ old.left) ⊎ ReadsComment source old now
 comment_read old now from_input bytes (names, is, front) = inr (bytes, (few_taken bytes (bytes ++ rest_of now.left) front, is))
-comment_read old now (from_words text) bytes (same, e) = inl same.1
+comment_read old now (from_words text) bytes (same, e) = inl same.left
 comment_read old now (from_file file) bytes (inl (names, is, front)) = inr (bytes, (few_taken bytes (bytes ++ rest_of now.left) front, is))
 comment_read old now (from_file file) bytes (inr (e, same)) = absurd (let z : Ok bytes ≡ Err why.NoMemory = e in cc)
 
@@ -342,37 +340,32 @@ not_begun task old now bytes why.NoMemory k h b = comment_only task old now byte
 -- WHERE IT WASN'T TAKEN
 
 file_untaken : (task : Task) (old now : DeskState) (file : Name) (w : Why) → is_given task.comment ≡ false → names_of task.comment ≡ file ∷ [] → ((bytes : List ℕ) → IsFile old.files file bytes → IsComment old task.comment bytes)
-    → (ReadsPart 65001 file old now → ReadsComment task.comment old now) → Keeps old now → AfterFile old file (Err w) now → Inserted task old w now
+    → (ReadsPart 65001 file old now → ReadsComment task.comment old now) → Keeps old now → AfterFile file 65001 which.Comment old (Err w) now → Inserted task old w now
 file_untaken task old now file why.Done from same is part k h = absurd h
 file_untaken task old now file (why.Usage u) from same is part k h = absurd h
 file_untaken task old now file (why.Refused f) from same is part k h = absurd h
-file_untaken task old now file (why.OpenFault which.Input) from same is part k h = absurd h
-file_untaken task old now file (why.OpenFault which.Script) from same is part k h = absurd h
-file_untaken task old now file (why.OpenFault which.Tables) from same is part k h = absurd h
-file_untaken task old now file (why.OpenFault which.Comment) from same is part k h =
-    let N : List Name → Type 0 = λ names. Asks names put.Failed old now in
-    (record { stopped = record { asked = subst N (sym same) h.0; outputs = k.outputs }; opens = h.1 }, from)
-file_untaken task old now file (why.OpenFault which.Output) from same is part k h = absurd h
-file_untaken task old now file (why.ReadFault which.Input) from same is part k h = absurd h
-file_untaken task old now file (why.ReadFault which.Script) from same is part k h = absurd h
-file_untaken task old now file (why.ReadFault which.Tables) from same is part k h = absurd h
-file_untaken task old now file (why.ReadFault which.Comment) from same is part k h =
-    let N : List Name → Type 0 = λ names. Asks names put.Done old now in
-    record {
-      bytes = h.2.0;
-      unread = record { stopped = record { asked = subst N (sym same) h.0; outputs = k.outputs }; reads = h.1 };
-      from = from;
-      source = (h.2.1.0, is (h.2.0 ++ rest_of now.left) h.2.1.1);
-    }
-file_untaken task old now file (why.ReadFault which.Output) from same is part k h = absurd h
+file_untaken task old now file (why.OpenFault which.Comment) from same is part k h = (subst (λ (names : List Name). Unopened names old now) (sym same) h.1, from)
+file_untaken task old now file (why.OpenFault which.Input) from same is part k h = absurd (let z : which.Input ≡ which.Comment = h.0 in cc)
+file_untaken task old now file (why.OpenFault which.Script) from same is part k h = absurd (let z : which.Script ≡ which.Comment = h.0 in cc)
+file_untaken task old now file (why.OpenFault which.Tables) from same is part k h = absurd (let z : which.Tables ≡ which.Comment = h.0 in cc)
+file_untaken task old now file (why.OpenFault which.Output) from same is part k h = absurd (let z : which.Output ≡ which.Comment = h.0 in cc)
+file_untaken task old now file (why.ReadFault which.Comment) from same is part k h = record {
+  bytes = h.2.0;
+  unread = subst (λ (names : List Name). Unread names old now) (sym same) h.1;
+  from = from;
+  source = (h.2.1.0, is (h.2.0 ++ rest_of now.left) h.2.1.1);
+}
+file_untaken task old now file (why.ReadFault which.Input) from same is part k h = absurd (let z : which.Input ≡ which.Comment = h.0 in cc)
+file_untaken task old now file (why.ReadFault which.Script) from same is part k h = absurd (let z : which.Script ≡ which.Comment = h.0 in cc)
+file_untaken task old now file (why.ReadFault which.Tables) from same is part k h = absurd (let z : which.Tables ≡ which.Comment = h.0 in cc)
+file_untaken task old now file (why.ReadFault which.Output) from same is part k h = absurd (let z : which.Output ≡ which.Comment = h.0 in cc)
 file_untaken task old now file why.WriteFault from same is part k h = absurd h
 file_untaken task old now file why.NoMemory from same is part k h =
-    let N : List Name → Type 0 = λ names. Asks names put.Done old now in
-    let first : take 1 (names_to_input task) ≡ file ∷ [] = ap (λ (names : List Name). take 1 (names ++ task.input ∷ [])) same in
-    inl (record { count = 1; stopped = record { asked = subst N (sym first) h.0; outputs = k.outputs }; read = inr (inl (part h.1)) })
+    let first : file ∷ [] ≡ take 1 (names_to_input task) = ap (λ (names : List Name). take 1 (names ++ task.input ∷ [])) (sym same) in
+    inl (record { count = 1; stopped = subst (λ (names : List Name). Stopped names put.Done old now) first h.0; read = inr (inl (part h.1)) })
 
-nothing_asked : (task : Task) (old now : DeskState) → Keeps old now → IsUnasked old now → Inserted task old why.NoMemory now
-nothing_asked task old now k same = inl (record { count = 0; stopped = record { asked = none_noted old.asked now.asked same.0; outputs = k.outputs }; read = inl same.1 })
+nothing_asked : (task : Task) (old now : DeskState) → Keeps old now → Untouched old now → Inserted task old why.NoMemory now
+nothing_asked task old now k same = inl (record { count = 0; stopped = record { asked = none_noted old.asked now.asked same.asked; outputs = k.outputs }; read = inl same.left })
 
 words_untaken : (task : Task) (old now : DeskState) (text : List ℕ) (w : Why) → Keeps old now → AfterWords old text (Err w) now → Inserted task old w now
 words_untaken task old now text why.Done k h = absurd h
@@ -405,7 +398,7 @@ pub input_unopened : (task : Task) (old s1 s2 : DeskState) (bytes : List ℕ) �
 input_unopened task old s1 s2 bytes k h short o = (
   record {
     stopped = record { asked = input_names task old s1 s2 bytes put.Failed h o; outputs = o.outputs ∙ k.outputs };
-    opens = (let rose = o.after.0 in let f = k.kept.counts.opens in omega (arith, rose, f));
+    opens = (let rose = o.after.0 in let f = k.works.stays.counts.opens in omega (arith, rose, f));
   },
   (bytes, short_comment old s1 task.comment bytes h short),
 )
@@ -415,9 +408,9 @@ input_opened task old s1 s2 bytes k h short o = record {
   left = s2.left;
   names = input_names task old s1 s2 bytes put.Done h o;
   source = short_comment old s1 task.comment bytes h short;
-  opened = (let P : Option (Name → Option (List ℕ)) → Type 0 = λ files. OpensFile files task.input s2.left in subst P k.kept.files o.after.2);
+  opened = (let P : Option (Name → Option (List ℕ)) → Type 0 = λ files. OpensFile files task.input s2.left in subst P k.works.stays.files o.after.2);
   read = none_read s2.left;
   most = omega arith;
   outputs = o.outputs ∙ k.outputs;
-  counts = NoneFell-then old.counts s1.counts s2.counts k.kept.counts o.counts;
+  counts = NoneFell-then old.counts s1.counts s2.counts k.works.stays.counts o.counts;
 }

@@ -17,7 +17,8 @@ use Rattle.jpg_comments.specs.Begun.{Appends}
 use Rattle.jpg_comments.specs.ReadComments.{HasRead}
 use Rattle.jpg_comments.specs.declared.comments.Comments.{Comments}
 use Rattle.jpg_cli.specs.Reading.{rest_of}
-use Rattle.jpg_cli.specs.ReadComments.{AfterEnd, AfterNext, AfterTaking, EndsCopying, HasCopied, IsFaultText, OnlyCopies}
+use Rattle.jpg_cli.specs.ReadComments.{AfterEnd, AfterNext, AfterTaking, EndsCopying, HasCopied, IsFaultText}
+use Rattle.jpg_cli.specs.Stays.{OnlyCopies, OnlyWorks}
 use Rattle.jpg_cli.proofs.Input.{none_left}
 use Rattle.jpg_cli.proofs.CommentsRead.{part_of_part, taken_part, text_so_far}
 
@@ -44,22 +45,24 @@ had_told left outputs s = record s { left = left; outputs = outputs }
 
 pub copies_told : (left : Option (List ℕ)) (outputs : Option (List (Name × List ℕ))) (s : DeskState) → OnlyCopies (had_told left outputs s) s
 copies_told left outputs s = record {
-  counts = record { opens = omega arith; reads = omega arith; writes = omega arith; says = omega arith };
+  works = record { stays = record { counts = record { opens = omega arith; reads = omega arith; writes = omega arith; says = omega arith }; files = refl }; said = refl };
   asked = refl;
-  files = refl;
-  said = refl;
   output_created = refl;
 }
 
 pub copies_none : (s : DeskState) → OnlyCopies s s
 copies_none s = copies_told s.left s.outputs s
 
+works_then : (a b c : DeskState) → OnlyWorks a b → OnlyWorks b c → OnlyWorks a c
+works_then a b c h k = record {
+  stays = record { counts = NoneFell-then a.counts b.counts c.counts h.stays.counts k.stays.counts; files = k.stays.files ∙ h.stays.files };
+  said = k.said ∙ h.said;
+}
+
 pub copies_then : (a b c : DeskState) → OnlyCopies a b → OnlyCopies b c → OnlyCopies a c
 copies_then a b c h k = record {
-  counts = NoneFell-then a.counts b.counts c.counts h.counts k.counts;
+  works = works_then a b c h.works k.works;
   asked = k.asked ∙ h.asked;
-  files = k.files ∙ h.files;
-  said = k.said ∙ h.said;
   output_created = k.output_created ∙ h.output_created;
 }
 
@@ -102,7 +105,7 @@ next_unwritten start s0 s1 s2 bytes text piece more due c most e still fell h ha
     let written = AppendsPart-then start.outputs s1.outputs s2.outputs text more (outputs_still s0 s1 text start same had.written) w.1 in
     let part = part_of_part (bytes ++ piece) (text ++ more) written.0 (taken_part (bytes ++ piece) (text ++ more) due c e h) in (
       (bytes ++ piece, take written.0 (text ++ more), record { most = most; read = left_still s1 s2 (bytes ++ piece) start k.left (Consumes-then start.left s0.left s1.left bytes piece had.read read); written = written.1 }, part),
-      (let r = w.0 in let f = still.counts.writes in let g = fell.writes in omega arith),
+      (let r = w.0 in let f = still.works.stays.counts.writes in let g = fell.writes in omega arith),
     )
 
 -- AT THE END
@@ -123,7 +126,7 @@ pub next_unread : (start s0 s1 : DeskState) (bytes text : List ℕ) (c : Comment
     → EndsCopying start (why.ReadFault which.Input) s1
 next_unread start s0 s1 bytes text c e h still had rose left outputs = (
   (bytes, text, copied_still start s0 s1 bytes text had left outputs, text_so_far bytes text c e h),
-  (let f = still.counts.reads in omega (arith, rose, f)),
+  (let f = still.works.stays.counts.reads in omega (arith, rose, f)),
 )
 
 -- A PIECE, as it was taken

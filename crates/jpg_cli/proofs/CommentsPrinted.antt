@@ -13,9 +13,9 @@ use Rattle.jpg_spec.specs.declared.answers.Which.TheVariants as which
 use Rattle.jpg_cli.specs.Reading.{rest_of}
 use Rattle.jpg_spec.specs.Segments.{standard_limits}
 use Rattle.jpg_spec.specs.CommentText.{IsReadWhole}
-use Rattle.jpg_cli.specs.Saying.{OnlySays}
+use Rattle.jpg_cli.specs.Stays.{OnlyCopies, OnlySays}
 use Rattle.jpg_cli.specs.Run.{NoneRose}
-use Rattle.jpg_cli.specs.ReadComments.{Copies, EndsCopying, IsFaultText, IsPrintDue, IsTextPart, IsTextSoFar, IsWholeText, OnlyCopies, Printed}
+use Rattle.jpg_cli.specs.ReadComments.{Copies, EndsCopying, IsFaultText, IsPrintDue, IsTextPart, IsTextSoFar, IsWholeText, Printed}
 use Rattle.jpg_cli.specs.Endings.{Asks, Copied}
 use Rattle.jpg_cli.proofs.Endings.{copied_then, asks_next, asks_still, unopened_then}
 use Rattle.jpg_cli.proofs.Input.{file_read, notes_one}
@@ -67,18 +67,18 @@ printed_then s0 s1 s2 input output why.Done k h = copied_then s0 s1 s2 [] input 
 printed_then s0 s1 s2 input output (why.Usage u) k h = absurd h
 printed_then s0 s1 s2 input output (why.Refused f) k h =
     let P : Option (List ℕ) → Type 0 = λ l. Copied [] input output (IsFaultText f (rest_of l)) s0 s2 in
-    subst P (sym k.left) (copied_then s0 s1 s2 [] input output (IsFaultText f (rest_of s1.left)) k h)
+    subst P (sym k.same.left) (copied_then s0 s1 s2 [] input output (IsFaultText f (rest_of s1.left)) k h)
 printed_then s0 s1 s2 input output (why.OpenFault which.Input) k h = unopened_then s0 s1 s2 (input ∷ []) k h
 printed_then s0 s1 s2 input output (why.OpenFault which.Script) k h = absurd h
 printed_then s0 s1 s2 input output (why.OpenFault which.Tables) k h = absurd h
 printed_then s0 s1 s2 input output (why.OpenFault which.Comment) k h = absurd h
 printed_then s0 s1 s2 input output (why.OpenFault which.Output) k h = unopened_then s0 s1 s2 (input ∷ output ∷ []) k h
-printed_then s0 s1 s2 input output (why.ReadFault which.Input) k h = (copied_then s0 s1 s2 [] input output IsTextSoFar k h.0, (let r = h.1 in let f = k.counts.reads in omega arith))
+printed_then s0 s1 s2 input output (why.ReadFault which.Input) k h = (copied_then s0 s1 s2 [] input output IsTextSoFar k h.0, (let r = h.1 in let f = k.stays.counts.reads in omega arith))
 printed_then s0 s1 s2 input output (why.ReadFault which.Script) k h = absurd h
 printed_then s0 s1 s2 input output (why.ReadFault which.Tables) k h = absurd h
 printed_then s0 s1 s2 input output (why.ReadFault which.Comment) k h = absurd h
 printed_then s0 s1 s2 input output (why.ReadFault which.Output) k h = absurd h
-printed_then s0 s1 s2 input output why.WriteFault k h = (copied_then s0 s1 s2 [] input output IsTextPart k h.0, (let r = h.1 in let f = k.counts.writes in omega arith))
+printed_then s0 s1 s2 input output why.WriteFault k h = (copied_then s0 s1 s2 [] input output IsTextPart k h.0, (let r = h.1 in let f = k.stays.counts.writes in omega arith))
 printed_then s0 s1 s2 input output why.NoMemory k h = copied_then s0 s1 s2 [] input output IsTextPart k h
 
 -- WHERE NOTHING FAILED

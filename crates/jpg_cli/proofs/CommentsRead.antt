@@ -22,9 +22,6 @@ use Rattle.jpg_cli.specs.ReadComments.{AfterEnd, AfterTaking, AreWhole, IsFaultT
 
 -- FRONTS
 
-front_is : (n : ℕ) (front rest : List ℕ) → n ≤ length front → take n (front ++ rest) ≡ take n front
-front_is n front rest h = take-append-le n front rest h
-
 -- a first part of a first part
 pub take_again : (k n : ℕ) (xs : List ℕ) → (m : ℕ) × (take k (take n xs) ≡ take m xs)
 take_again zero n xs = (0, refl)
@@ -86,7 +83,7 @@ fault_last is_whole bytes piece f nothing less short (w, inl h) = by (upto f.at 
   where
     by : (f.at ≤ length bytes) ⊎ (length bytes < f.at) → length (bytes ++ piece) < f.at + 65536
     by (inl l) =
-        let e : take f.at ((bytes ++ piece) ++ []) ≡ take f.at bytes = ap (take f.at) (append-nil (bytes ++ piece)) ∙ front_is f.at bytes piece l in
+        let e : take f.at ((bytes ++ piece) ++ []) ≡ take f.at bytes = ap (take f.at) (append-nil (bytes ++ piece)) ∙ take-append-le f.at bytes piece l in
         absurd ((nothing f.at l).0 f.fault (subst (λ (b : List ℕ). SegmentsShow (kept_rule standard_limits) f.fault b) e h.1.1))
     by (inr l) = omega (arith, l, short, length-append bytes piece)
 fault_last is_whole bytes piece f nothing less short (w, inr (inl h)) = (let e = h.1 in omega (arith, e, less, short, length-append bytes piece))

@@ -8,7 +8,7 @@ use Rattle.jpg_base.specs.Laws.{Grows, NotesNames, NotesNames-then}
 use Rattle.jpg_spec.specs.Segments.{standard_limits}
 use Rattle.jpg_cli.specs.Endings.{asked_for, Asks, Copied, Stopped, Unopened, Unread, Wrote}
 use Rattle.jpg_cli.specs.Reading.{IsFile, ReadsBytes, rest_of}
-use Rattle.jpg_cli.specs.Saying.{OnlySays}
+use Rattle.jpg_cli.specs.Stays.{OnlySays}
 
 -- ONE MORE NAME
 
@@ -29,18 +29,18 @@ asks_still s0 s1 s2 names answer e h = let P : Option (List (Name × Put)) → T
 -- A MESSAGE THEN
 
 pub stopped_then : (s0 s1 s2 : DeskState) (names : List Name) (answer : Put) → OnlySays s1 s2 → Stopped names answer s0 s1 → Stopped names answer s0 s2
-stopped_then s0 s1 s2 names answer k h = record { asked = asks_still s0 s1 s2 names answer k.asked h.asked; outputs = k.outputs ∙ h.outputs }
+stopped_then s0 s1 s2 names answer k h = record { asked = asks_still s0 s1 s2 names answer k.same.asked h.asked; outputs = k.same.outputs ∙ h.outputs }
 
 pub unopened_then : (s0 s1 s2 : DeskState) (names : List Name) → OnlySays s1 s2 → Unopened names s0 s1 → Unopened names s0 s2
-unopened_then s0 s1 s2 names k h = record { stopped = stopped_then s0 s1 s2 names put.Failed k h.stopped; opens = (let r = h.opens in let f = k.counts.opens in omega arith) }
+unopened_then s0 s1 s2 names k h = record { stopped = stopped_then s0 s1 s2 names put.Failed k h.stopped; opens = (let r = h.opens in let f = k.stays.counts.opens in omega arith) }
 
 pub unread_then : (s0 s1 s2 : DeskState) (names : List Name) → OnlySays s1 s2 → Unread names s0 s1 → Unread names s0 s2
-unread_then s0 s1 s2 names k h = record { stopped = stopped_then s0 s1 s2 names put.Done k h.stopped; reads = (let r = h.reads in let f = k.counts.reads in omega arith) }
+unread_then s0 s1 s2 names k h = record { stopped = stopped_then s0 s1 s2 names put.Done k h.stopped; reads = (let r = h.reads in let f = k.stays.counts.reads in omega arith) }
 
 pub wrote_then : (s0 s1 s2 : DeskState) (names : List Name) (output : Name) (text : List ℕ) → OnlySays s1 s2 → Wrote names output text s0 s1 → Wrote names output text s0 s2
 wrote_then s0 s1 s2 names output text k h = record {
-  asked = asks_still s0 s1 s2 (names ++ output ∷ []) put.Done k.asked h.asked;
-  outputs = (let G : Option (List (Name × List ℕ)) → Type 0 = λ a. Grows s0.outputs (output, text) a in subst G (sym k.outputs) h.outputs);
+  asked = asks_still s0 s1 s2 (names ++ output ∷ []) put.Done k.same.asked h.asked;
+  outputs = (let G : Option (List (Name × List ℕ)) → Type 0 = λ a. Grows s0.outputs (output, text) a in subst G (sym k.same.outputs) h.outputs);
 }
 
 pub bytes_then : (s0 s1 s2 : DeskState) (most : ℕ) (file : Name) (bytes : List ℕ) → s2.left ≡ s1.left → ReadsBytes most file bytes s0 s1 → ReadsBytes most file bytes s0 s2
@@ -50,7 +50,7 @@ pub copied_then : (s0 s1 s2 : DeskState) (before : List Name) (input output : Na
 copied_then s0 s1 s2 before input output Is k h = record {
   bytes = h.bytes;
   text = h.text;
-  read = bytes_then s0 s1 s2 standard_limits.input input h.bytes k.left h.read;
+  read = bytes_then s0 s1 s2 standard_limits.input input h.bytes k.same.left h.read;
   wrote = wrote_then s0 s1 s2 (before ++ input ∷ []) output h.text k h.wrote;
   is = h.is;
 }

@@ -16,13 +16,13 @@ use Rattle.jpg_comments.specs.Inserting.{HoldsHead}
 use Rattle.jpg_comments.specs.WriteInserted.{HasInserted, StandsAt}
 use Rattle.jpg_comments.specs.declared.insert.Insert.{Insert}
 use Rattle.jpg_cli.specs.Reading.{rest_of}
-use Rattle.jpg_cli.specs.InsertComment.{AfterAll, AfterFed, AfterHead, EndsBefore, IsAtHead}
+use Rattle.jpg_cli.specs.InsertComment.{AfterAll, AfterFed, AfterHeadRead, EndsBefore, IsAtHead}
 use Rattle.jpg_cli.specs.declared.insert_comment.AtHead.TheVariants as at_head
 use Rattle.jpg_cli.proofs.CommentsRead.{fault_last, fault_within, no_fault_shown, upto}
 use Rattle.jpg_cli.proofs.CommentsCopied.{none_read, text_added}
 use Rattle.jpg_cli.proofs.Input.{none_left}
 use Rattle.jpg_cli.proofs.InsertedCopied.{inserted_so_far, not_none, stands}
-use Rattle.jpg_cli.proofs.Running.{take_front}
+use Rattle.jpg_spec.proofs.Common.{take_shorter}
 
 -- A file with a comment inserted is never empty.
 pub text_is_some : (bytes comment text : List ℕ) (replace : Bool) → IsInserted standard_limits bytes comment replace text → 0 < length text
@@ -61,7 +61,7 @@ head_in_piece bytes piece comment text replace k nothing short (before, code, fr
 
     front_is : take (length front) all ≡ front
     front_is =
-        sym (take_front (length front) k all (omega (arith, long, length-take k all))) ∙ ap (take (length front)) cut
+        sym (take_shorter (length front) k all (omega (arith, long, length-take k all))) ∙ ap (take (length front)) cut
         ∙ take-append-le (length front) front rest (omega arith) ∙ take_all (length front) front (omega arith)
 
     holds : HoldsHead standard_limits (take (length front) all)
@@ -95,7 +95,7 @@ short_taken : (n : ℕ) (buf : List ℕ) → length buf ≤ 65536 → length (ta
 short_taken n buf short = omega (arith, short, length-take n buf)
 
 pub head_begun : (s0 s1 : DeskState) (n : ℕ) (buf comment bytes old out : List ℕ) (replace : Bool) (due : Option Why) (was c : Insert) → length (bytes ++ take n buf) ≤ standard_limits.input → was.limits ≡ standard_limits → c.limits ≡ standard_limits → old ≡ [] → length buf ≤ 65536
-    → HasInserted comment bytes [] was → Reads s0 (got.Bytes n) buf s1 → Appends (λ text. AfterFed comment replace (bytes ++ take n buf) text due c) [] old out → 0 < length out → AfterHead comment replace bytes s0 (at_head.Begun due) c out s1
+    → HasInserted comment bytes [] was → Reads s0 (got.Bytes n) buf s1 → Appends (λ text. AfterFed comment replace (bytes ++ take n buf) text due c) [] old out → 0 < length out → AfterHeadRead comment replace bytes s0 (at_head.Begun due) c out s1
 head_begun s0 s1 n buf comment bytes old out replace due was c most e f empty short h r k some =
     let fed = fed_text comment (bytes ++ take n buf) old out replace due c empty k in
     let nothing = nothing_there comment bytes was e h in

@@ -9,7 +9,8 @@ use Rattle.jpg_base.specs.declared.names.Put.TheVariants as put
 use Rattle.jpg_base.specs.Desk.{DeskState, NotesName, OpensFile, Opens}
 use Rattle.jpg_base.specs.Laws.{NotesNames}
 use Rattle.jpg_cli.specs.declared.reading.Taken.TheVariants as taken
-use Rattle.jpg_cli.specs.Reading.{OnlyReads, AfterReading, IsFile, ReadsPart, rest_of, IsReadTo}
+use Rattle.jpg_cli.specs.Reading.{AfterReading, IsFile, ReadsPart, rest_of, IsReadTo}
+use Rattle.jpg_cli.specs.Stays.{OnlyReads}
 
 pub notes_one : (a b : Option (List (Name × Put))) (entry : Name × Put) → NotesName a entry b → NotesNames a (entry ∷ []) b
 notes_one a None entry h = tt
@@ -43,8 +44,8 @@ file_read (Some files) n None l2 bytes h k = absurd (none_is_none h.0 h.2)
 file_read (Some files) n (Some l) None bytes h k = absurd k
 file_read (Some files) n (Some l) (Some rest) bytes h k = h.1 ∙ ap Some (sym (some_inj l h.0 h.2) ∙ k)
 
-noted : (s0 s1 s2 : DeskState) (n : Name) → Opens s0 n put.Done s1 → OnlyReads s1 s2 → NotesNames s0.asked ((n, put.Done) ∷ []) s2.asked
-noted s0 s1 s2 n h k = notes_one s0.asked s2.asked (n, put.Done) (let P : Option (List (Name × Put)) → Type 0 = λ a. NotesName s0.asked (n, put.Done) a in subst P (sym k.asked) h.asked)
+pub noted : (s0 s1 s2 : DeskState) (n : Name) → Opens s0 n put.Done s1 → OnlyReads s1 s2 → NotesNames s0.asked ((n, put.Done) ∷ []) s2.asked
+noted s0 s1 s2 n h k = notes_one s0.asked s2.asked (n, put.Done) (let P : Option (List (Name × Put)) → Type 0 = λ a. NotesName s0.asked (n, put.Done) a in subst P (sym k.copies.asked) h.asked)
 
 -- an input is read
 pub took : (limit : ℕ) (s0 s1 s2 : DeskState) (n : Name) (v : List ℕ) → Opens s0 n put.Done s1 → OnlyReads s1 s2 → AfterReading limit s1 taken.All v s2

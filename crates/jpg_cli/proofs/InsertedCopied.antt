@@ -22,7 +22,8 @@ use Rattle.jpg_comments.specs.WriteInserted.{HasInserted, StandsAt}
 use Rattle.jpg_comments.specs.declared.insert.Insert.{Insert}
 use Rattle.jpg_cli.specs.Reading.{rest_of}
 use Rattle.jpg_cli.specs.InsertComment.{AfterAll, AfterFed, AfterRest, EndsInserting, IsFilePart, IsLongFile}
-use Rattle.jpg_cli.specs.ReadComments.{HasCopied, OnlyCopies}
+use Rattle.jpg_cli.specs.ReadComments.{HasCopied}
+use Rattle.jpg_cli.specs.Stays.{OnlyCopies}
 use Rattle.jpg_cli.proofs.CommentsRead.{fault_within, take_again}
 use Rattle.jpg_cli.proofs.CommentsCopied.{copied, copied_still, left_still, outputs_still, some_taken, text_added, within_most}
 
@@ -113,7 +114,7 @@ rest_failed start s0 s1 s2 n buf comment bytes text old out replace due c most e
     let written = AppendsPart-then start.outputs s1.outputs s2.outputs text h.0 (outputs_still s0 s1 text start r.outputs had.written) wrote.1 in
     let part = part_of_part comment (bytes ++ piece) (text ++ h.0) replace written.0 (file_part comment (bytes ++ piece) (text ++ h.0) replace (omega (arith, some, length-append text h.0)) (fed_part comment (bytes ++ piece) (text ++ h.0) replace due c e same h.2)) in (
       (bytes ++ piece, take written.0 (text ++ h.0), record { most = most; read = left_still s1 s2 (bytes ++ piece) start k.left (Consumes-then start.left s0.left s1.left bytes piece had.read r.after.2); written = written.1 }, part),
-      (let v = wrote.0 in let f = still.counts.writes in let g = r.counts.writes in omega arith),
+      (let v = wrote.0 in let f = still.works.stays.counts.writes in let g = r.counts.writes in omega arith),
     )
 
 -- THE END
@@ -122,7 +123,7 @@ pub rest_unread : (start s0 s1 : DeskState) (comment bytes text : List ℕ) (c :
     → s1.outputs ≡ s0.outputs → EndsInserting comment c.replace start (why.ReadFault which.Input) s1
 rest_unread start s0 s1 comment bytes text c e some h still had rose left outputs = (
   (bytes, text, copied_still start s0 s1 bytes text had left outputs, (inserted_so_far comment bytes text c e some h, fed_short comment bytes text c e h)),
-  (let f = still.counts.reads in omega (arith, rose, f)),
+  (let f = still.works.stays.counts.reads in omega (arith, rose, f)),
 )
 
 pub rest_ends : (start s0 s1 : DeskState) (comment bytes text : List ℕ) (replace : Bool) (w : Why) → 0 < length text → HasCopied start bytes text s0 → IsAtEnd s0.left → s1.left ≡ s0.left → s1.outputs ≡ s0.outputs → AfterAll comment replace bytes text w → EndsInserting comment replace start w s1

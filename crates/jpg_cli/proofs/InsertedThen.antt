@@ -12,9 +12,9 @@ use Rattle.jpg_spec.specs.declared.answers.Why.TheVariants as why
 use Rattle.jpg_spec.specs.declared.answers.Which.TheVariants as which
 use Rattle.jpg_spec.specs.Segments.{standard_limits}
 use Rattle.jpg_spec.specs.CommentWords.{CommentSource, from_input, from_words, from_file}
-use Rattle.jpg_cli.specs.Saying.{OnlySays}
+use Rattle.jpg_cli.specs.Stays.{OnlySays}
 use Rattle.jpg_cli.specs.Reading.{IsFile, rest_of}
-use Rattle.jpg_cli.specs.InsertComment.{IsAtHead, IsFaultBefore, IsFilePart, IsLongFile, IsNoHead, IsWholeFile}
+use Rattle.jpg_cli.specs.InsertComment.{IsAtHead, IsFaultBefore, IsFilePart, IsLongFile, IsNoHead, IsInsertedWhole}
 use Rattle.jpg_cli.specs.CommentInserted.{Inserted, IsComment, IsCommentRead, IsInsertDue, ReadsAlone, ReadsComment, ReadsInput, ReadsLast, Task, WritesText, names_of, names_to_input, names_to_output, task_told}
 use Rattle.jpg_cli.specs.CommentWords.{comment_told, file_told, write_told}
 use Rattle.jpg_cli.specs.declared.comment_words.WriteWords.{WriteWords}
@@ -30,7 +30,7 @@ input_then s0 s1 s2 task Is k h = record {
   comment = h.comment;
   bytes = h.bytes;
   source = h.source;
-  read = bytes_then s0 s1 s2 standard_limits.input task.input h.bytes k.left h.read;
+  read = bytes_then s0 s1 s2 standard_limits.input task.input h.bytes k.same.left h.read;
   is = h.is;
 }
 
@@ -64,20 +64,20 @@ refused_then s0 s1 s2 task f k (inl h) = inl (record {
   comment = h.comment;
   stopped = stopped_then s0 s1 s2 (names_of task.comment) put.Done k h.stopped;
   source = h.source;
-  read = comment_read_then s1 s2 task.comment h.comment k.left h.read;
+  read = comment_read_then s1 s2 task.comment h.comment k.same.left h.read;
   long = h.long;
   fault = h.fault;
 })
 refused_then s0 s1 s2 task f k (inr (inl h)) =
     let P : Option (List ℕ) → Type 0 = λ l. ReadsAlone task (IsFaultBefore f (rest_of l)) s0 s2 in
-    inr (inl (subst P (sym k.left) (reads_then s0 s1 s2 task (IsFaultBefore f (rest_of s1.left)) k h)))
+    inr (inl (subst P (sym k.same.left) (reads_then s0 s1 s2 task (IsFaultBefore f (rest_of s1.left)) k h)))
 refused_then s0 s1 s2 task f k (inr (inr h)) =
     let P : Option (List ℕ) → Type 0 = λ l. WritesText task (λ comment. IsLongFile comment task.replace f (rest_of l)) s0 s2 in
-    inr (inr (subst P (sym k.left) (writes_then s0 s1 s2 task (λ comment. IsLongFile comment task.replace f (rest_of s1.left)) k h)))
+    inr (inr (subst P (sym k.same.left) (writes_then s0 s1 s2 task (λ comment. IsLongFile comment task.replace f (rest_of s1.left)) k h)))
 
 pub inserted_then : (s0 s1 s2 : DeskState) (task : Task) (w : Why) → OnlySays s1 s2 → Inserted task s0 w s1 → Inserted task s0 w s2
 inserted_then s0 s1 s2 task why.Done k h =
-    (writes_then s0 s1 s2 task (λ comment. IsWholeFile comment task.replace) k h.0, (let P : Option (List ℕ) → Type 0 = λ l. IsAtEnd l in subst P (sym k.left) h.1))
+    (writes_then s0 s1 s2 task (λ comment. IsInsertedWhole comment task.replace) k h.0, (let P : Option (List ℕ) → Type 0 = λ l. IsAtEnd l in subst P (sym k.same.left) h.1))
 inserted_then s0 s1 s2 task (why.Usage u) k h = absurd h
 inserted_then s0 s1 s2 task (why.Refused f) k h = refused_then s0 s1 s2 task f k h
 inserted_then s0 s1 s2 task (why.OpenFault which.Input) k h = (unopened_then s0 s1 s2 (names_to_input task) k h.0, h.1)
@@ -86,24 +86,24 @@ inserted_then s0 s1 s2 task (why.OpenFault which.Tables) k h = absurd h
 inserted_then s0 s1 s2 task (why.OpenFault which.Comment) k h = (unopened_then s0 s1 s2 (names_of task.comment) k h.0, h.1)
 inserted_then s0 s1 s2 task (why.OpenFault which.Output) k h = (unopened_then s0 s1 s2 (names_to_output task) k h.0, input_then s0 s1 s2 task IsAtHead k h.1)
 inserted_then s0 s1 s2 task (why.ReadFault which.Input) k (inl h, rose) =
-    (inl (reads_then s0 s1 s2 task IsNoHead k h), (let f = k.counts.reads in omega (arith, rose, f)))
+    (inl (reads_then s0 s1 s2 task IsNoHead k h), (let f = k.stays.counts.reads in omega (arith, rose, f)))
 inserted_then s0 s1 s2 task (why.ReadFault which.Input) k (inr h, rose) =
-    (inr (writes_then s0 s1 s2 task (λ comment. IsWholeFile comment task.replace) k h), (let f = k.counts.reads in omega (arith, rose, f)))
+    (inr (writes_then s0 s1 s2 task (λ comment. IsInsertedWhole comment task.replace) k h), (let f = k.stays.counts.reads in omega (arith, rose, f)))
 inserted_then s0 s1 s2 task (why.ReadFault which.Script) k h = absurd h
 inserted_then s0 s1 s2 task (why.ReadFault which.Tables) k h = absurd h
 inserted_then s0 s1 s2 task (why.ReadFault which.Comment) k h = record {
   unread = unread_then s0 s1 s2 (names_of task.comment) k h.unread;
   from = h.from;
   bytes = h.bytes;
-  source = (h.source.0, (let P : Option (List ℕ) → Type 0 = λ l. IsComment s0 task.comment (h.bytes ++ rest_of l) in subst P (sym k.left) h.source.1));
+  source = (h.source.0, (let P : Option (List ℕ) → Type 0 = λ l. IsComment s0 task.comment (h.bytes ++ rest_of l) in subst P (sym k.same.left) h.source.1));
 }
 inserted_then s0 s1 s2 task (why.ReadFault which.Output) k h = absurd h
 inserted_then s0 s1 s2 task why.WriteFault k h =
-    (writes_then s0 s1 s2 task (λ comment. IsFilePart comment task.replace) k h.0, (let r = h.1 in let f = k.counts.writes in omega (arith, r, f)))
+    (writes_then s0 s1 s2 task (λ comment. IsFilePart comment task.replace) k h.0, (let r = h.1 in let f = k.stays.counts.writes in omega (arith, r, f)))
 inserted_then s0 s1 s2 task why.NoMemory k (inl h) = inl (record {
   count = h.count;
   stopped = stopped_then s0 s1 s2 (take h.count (names_to_input task)) put.Done k h.stopped;
-  read = reads_last_then s0 s1 s2 task k.left h.read;
+  read = reads_last_then s0 s1 s2 task k.same.left h.read;
 })
 inserted_then s0 s1 s2 task why.NoMemory k (inr h) = inr (writes_then s0 s1 s2 task (λ comment. IsFilePart comment task.replace) k h)
 

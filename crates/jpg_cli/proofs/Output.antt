@@ -1,30 +1,15 @@
 -- What creating and writing an output comes to, over the states that a desk tells.
-use Rattle.std.proofs.Common.{◌≡◌, ℕ, List, [], ◌++◌, take, Option, Result, Ok, Err, sym, ap, ◌∙◌, subst, arith}
-use Rattle.std.proofs.lemmas.List.{append-nil}
+use Rattle.std.proofs.Common.{ℕ, List, take, Option, Ok, Err, sym, subst, arith}
 use Rattle.jpg_base.specs.declared.names.Name.{Name}
 use Rattle.jpg_base.specs.declared.names.Name.TheVariants as name
 use Rattle.jpg_base.specs.declared.names.Put.{Put}
 use Rattle.jpg_base.specs.declared.names.Put.TheVariants as put
 use Rattle.jpg_base.specs.declared.stop.WriteFault.{WriteFault}
-use Rattle.jpg_base.specs.Desk.{DeskState, NotesName, AppendsLast, Creates}
+use Rattle.jpg_base.specs.Desk.{DeskState, NotesName, Creates}
 use Rattle.jpg_base.specs.Laws.{Grows-from}
-use Rattle.jpg_huff.specs.BitOut.{nothing_waits}
-use Rattle.jpg_huff.specs.Out.{Emits, OnlyWrites}
-use Rattle.jpg_huff.specs.Waiting.{Waiting}
-use Rattle.jpg_markers.specs.Sent.{HasSent}
+use Rattle.jpg_huff.specs.Out.{OnlyWrites}
 use Rattle.jpg_spec.specs.declared.answers.Why.TheVariants as why
 use Rattle.jpg_cli.specs.Writing.{WritesAll, AfterOutput}
-
--- nothing waited before, and nothing does now
-pub all_written : (s0 s1 : DeskState) (old new : Waiting) (due : List ℕ) (r : Result (Unit {0}) WriteFault) → old ≡ nothing_waits → new.bytes ≡ [] → HasSent s0 old due r new s1 → WritesAll s0 due r s1
-all_written s0 s1 old new due r empty none h =
-    let P : List ℕ → Type 0 = λ bytes. Emits s0 bytes due r new.bytes s1 in by r (subst P (ap (λ (w : Waiting). w.bytes) empty) h.sends.bytes)
-  where
-    by : (r : Result (Unit {0}) WriteFault) → Emits s0 [] due r new.bytes s1 → WritesAll s0 due r s1
-    by (Ok u) e =
-        let P : List ℕ → Type 0 = λ b. AppendsLast s0.outputs b s1.outputs in
-        subst P (sym (e.2 ∙ ap (λ n. e.0 ++ n) none ∙ append-nil e.0)) e.1
-    by (Err fault) e = (e.0, e.2)
 
 pub output_done : (s0 s1 s2 : DeskState) (due : List ℕ) → Creates s0 name.Out put.Done s1 → OnlyWrites s1 s2 → WritesAll s1 due (Ok tt) s2 → AfterOutput s0 due why.Done s2
 output_done s0 s1 s2 due h k w = (

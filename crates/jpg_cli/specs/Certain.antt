@@ -3,12 +3,13 @@ use Rattle.std.specs.Prelude.{◌≡◌, ℕ, ◌<◌, ◌≤◌, List, length, 
 use Rattle.jpg_base.specs.declared.names.Name.{Name}
 use Rattle.jpg_base.specs.declared.names.Name.TheVariants as name
 use Rattle.jpg_base.specs.Desk.{DeskState}
+use Rattle.jpg_spec.specs.FileMeaning.{Means}
+use Rattle.jpg_spec.specs.Meaning.{Meaning}
 use Rattle.jpg_spec.specs.Segments.{standard_limits}
-use Rattle.jpg_spec.specs.CommentText.{IsInserted}
+use Rattle.jpg_spec.specs.declared.fault.Fault.TheVariants.{NotBuilt}
+use Rattle.jpg_spec.specs.CommentText.{IsInserted, longest_comment}
 use Rattle.jpg_comments.specs.Answers.{IsWholeFront}
 use Rattle.jpg_cli.specs.CommentInserted.{Task}
-use Rattle.jpg_cli.specs.Gray.{IsSingle}
-use Rattle.jpg_cli.specs.Reading.{taken_of}
 use Rattle.jpg_spec.specs.CommentWords.{CommentSource, from_input, from_words, from_file}
 use Rattle.jpg_spec.specs.declared.answers.Why.{Why}
 use Rattle.jpg_spec.specs.declared.answers.Why.TheVariants as why
@@ -42,11 +43,18 @@ pub record HasFrameHeader (old : DeskState) (task : Task) : Type 0 where
   pub bytes : List ℕ
   pub text : List ℕ
   pub source : IsToldComment old task.comment comment
-  pub fits : length comment ≤ 65000
+  pub fits : length comment ≤ longest_comment
   pub told : IsTold old.files task.input bytes
   pub inserted : IsInserted standard_limits bytes comment task.replace text
   pub short : length bytes < standard_limits.input
 
--- Standard input is told, and the bytes of it that are taken begin with the file of one gray scan.
-abbrev pub HasGrayFile : DeskState → Type 0
-HasGrayFile old = (input : List ℕ) × IsTold old.files name.In input × IsSingle (taken_of input)
+-- Standard input is told, and means a picture.
+abbrev pub HasPicture : DeskState → Type 0
+HasPicture old = (input : List ℕ) × (M : Meaning) × IsTold old.files name.In input × Means standard_limits input M
+
+-- All was done, or memory was wanting, or the file isn't read yet.
+abbrev pub IsDoneOrUnbuilt : Why → Type 0
+IsDoneOrUnbuilt why.Done = Unit {0}
+IsDoneOrUnbuilt why.NoMemory = Unit {0}
+IsDoneOrUnbuilt (why.Refused f) = f.fault ≡ NotBuilt
+IsDoneOrUnbuilt other = ⊥

@@ -1,12 +1,12 @@
--- WHAT INSERTING A COMMENT into a file does to a desk (T.81 B.2.4.5, the manual of wrjpgcom in release 6b), by why it ended.
-use Rattle.std.specs.Prelude.{◌≡◌, ◌⊎◌, ℕ, ◌<◌, ◌≤◌, Bool, false, List, [], ◌∷◌, ◌++◌, length, take, Option, None, Some}
+-- WHAT INSERTING A COMMENT into a file does to a desk (T.81, B.2.4.5, the manual of wrjpgcom in release 6b), by why it ended.
+use Rattle.std.specs.Prelude.{◌≡◌, ◌⊎◌, ℕ, ◌<◌, ◌≤◌, Bool, false, List, [], ◌∷◌, ◌++◌, length, take, Option, None, Some, ◌+◌}
 use Rattle.std.specs.Io.KnownBytes.{Consumes, IsAtEnd}
 use Rattle.jpg_base.specs.declared.names.Name.{Name}
 use Rattle.jpg_base.specs.declared.names.Name.TheVariants as name
 use Rattle.jpg_base.specs.declared.names.Put.TheVariants as put
 use Rattle.jpg_base.specs.Desk.{AddsOutput, AppendsLast, DeskState, NoneFell, OpensFile, Rose}
 use Rattle.jpg_spec.specs.Segments.{standard_limits}
-use Rattle.jpg_spec.specs.CommentText.{IsInsertFault}
+use Rattle.jpg_spec.specs.CommentText.{IsInsertFault, longest_comment}
 use Rattle.jpg_spec.specs.CommentWords.{CommentSource, from_input, from_words, from_file, is_given}
 use Rattle.jpg_spec.specs.declared.fault.Fault.TheVariants.{CommentTooLong}
 use Rattle.jpg_spec.specs.declared.answers.FaultAt.{FaultAt}
@@ -17,7 +17,7 @@ use Rattle.jpg_comments.specs.WriteInserted.{insert_limits, is_replacing, HasIns
 use Rattle.jpg_comments.specs.declared.insert.Insert.{Insert}
 use Rattle.jpg_cli.specs.CommentWords.{comment_told}
 use Rattle.jpg_cli.specs.declared.comment_words.WriteWords.{WriteWords}
-use Rattle.jpg_cli.specs.InsertComment.{AfterFed, IsAtHead, IsFaultBefore, IsFilePart, IsLongFile, IsNoHead, IsWholeFile}
+use Rattle.jpg_cli.specs.InsertComment.{AfterFed, IsAtHead, IsFaultBefore, IsFilePart, IsLongFile, IsNoHead, IsInsertedWhole}
 use Rattle.jpg_cli.specs.Endings.{Asks, Copied, Stopped, Unopened, Unread}
 use Rattle.jpg_cli.specs.Reading.{IsFile, IsReadTo, ReadsBytes, ReadsPart, rest_of}
 
@@ -54,27 +54,27 @@ IsComment old (from_file file) comment = IsFile old.files (name.File file) comme
 
 -- It is no longer than a comment may be.
 abbrev pub IsShortComment : DeskState → CommentSource → List ℕ → Type 0
-IsShortComment old source comment = IsComment old source comment × (length comment ≤ 65000)
+IsShortComment old source comment = IsComment old source comment × (length comment ≤ longest_comment)
 
 -- The bytes are a front of it, no longer than a comment may be, with those that are left behind them.
 abbrev pub IsShortFront : DeskState → CommentSource → List ℕ → DeskState → Type 0
-IsShortFront old source bytes new = (length bytes ≤ 65000) × IsComment old source (bytes ++ rest_of new.left)
+IsShortFront old source bytes new = (length bytes ≤ longest_comment) × IsComment old source (bytes ++ rest_of new.left)
 
 -- the fault of one that is longer
 abbrev pub too_long : FaultAt
-too_long = record { fault = CommentTooLong; at = 65001 }
+too_long = record { fault = CommentTooLong; at = longest_comment + 1 }
 
--- Where it comes from a file, that was read up to its first 65,001 bytes, one more than a comment may have, and the others are left.
+-- Where it comes from a file, that was read up to one byte more than a comment may have, and the others are left.
 abbrev pub IsCommentRead : CommentSource → List ℕ → DeskState → Type 0
-IsCommentRead from_input comment new = IsReadTo 65001 comment new
+IsCommentRead from_input comment new = IsReadTo (longest_comment + 1) comment new
 IsCommentRead (from_words text) comment new = Unit {0}
-IsCommentRead (from_file file) comment new = IsReadTo 65001 comment new
+IsCommentRead (from_file file) comment new = IsReadTo (longest_comment + 1) comment new
 
 -- Bytes of the file that it comes from were read, no more than that.
 abbrev pub ReadsComment : CommentSource → DeskState → DeskState → Type 0
-ReadsComment from_input old new = ReadsPart 65001 name.In old new
+ReadsComment from_input old new = ReadsPart (longest_comment + 1) name.In old new
 ReadsComment (from_words text) old new = ⊥
-ReadsComment (from_file file) old new = ReadsPart 65001 (name.File file) old new
+ReadsComment (from_file file) old new = ReadsPart (longest_comment + 1) (name.File file) old new
 
 -- WHAT STANDS when the run ended
 
@@ -102,7 +102,7 @@ pub record IsCommentLong (task : Task) (f : FaultAt) (old new : DeskState) : Typ
   pub stopped : Stopped (names_of task.comment) put.Done old new
   pub source : IsComment old task.comment comment
   pub read : IsCommentRead task.comment comment new
-  pub long : 65000 < length comment
+  pub long : longest_comment < length comment
   pub fault : f ≡ too_long
 
 -- the comment, which comes from a file, wasn't read behind these bytes of it, which are no more than a comment may have
@@ -124,7 +124,7 @@ pub record IsOutOfMemory (task : Task) (old new : DeskState) : Type 0 where
 
 -- THE ANSWERS
 abbrev pub Inserted : Task → DeskState → Why → DeskState → Type 0
-Inserted task old why.Done new = WritesText task (λ comment. IsWholeFile comment task.replace) old new × IsAtEnd new.left
+Inserted task old why.Done new = WritesText task (λ comment. IsInsertedWhole comment task.replace) old new × IsAtEnd new.left
 Inserted task old (why.Refused f) new =
     IsCommentLong task f old new
     ⊎ (ReadsAlone task (IsFaultBefore f (rest_of new.left)) old new ⊎ WritesText task (λ comment. IsLongFile comment task.replace f (rest_of new.left)) old new)
@@ -134,7 +134,7 @@ Inserted task old (why.OpenFault which.Input) new =
 Inserted task old (why.OpenFault which.Output) new = Unopened (names_to_output task) old new × ReadsInput task IsAtHead old new
 Inserted task old (why.ReadFault which.Comment) new = IsCommentUnread task old new
 Inserted task old (why.ReadFault which.Input) new =
-    (ReadsAlone task IsNoHead old new ⊎ WritesText task (λ comment. IsWholeFile comment task.replace) old new) × Rose old.counts.reads new.counts.reads
+    (ReadsAlone task IsNoHead old new ⊎ WritesText task (λ comment. IsInsertedWhole comment task.replace) old new) × Rose old.counts.reads new.counts.reads
 Inserted task old why.WriteFault new = WritesText task (λ comment. IsFilePart comment task.replace) old new × Rose old.counts.writes new.counts.writes
 Inserted task old why.NoMemory new = IsOutOfMemory task old new ⊎ WritesText task (λ comment. IsFilePart comment task.replace) old new
 Inserted task old other new = ⊥
@@ -142,7 +142,7 @@ Inserted task old other new = ⊥
 -- Where no count of open, read or write rose, the answer is the one that the comment and the input have, or want of memory.
 
 abbrev pub HasLongComment : Task → FaultAt → DeskState → Type 0
-HasLongComment task f old = (comment : List ℕ) × IsComment old task.comment comment × (65000 < length comment) × (f ≡ too_long)
+HasLongComment task f old = (comment : List ℕ) × IsComment old task.comment comment × (longest_comment < length comment) × (f ≡ too_long)
 
 abbrev pub HasInputFault : Task → FaultAt → DeskState → Type 0
 HasInputFault task f old =
@@ -152,7 +152,7 @@ HasInputFault task f old =
 abbrev pub IsInsertDue : Task → DeskState → Why → Type 0
 IsInsertDue task old why.Done =
     (comment : List ℕ) × (bytes : List ℕ) × (text : List ℕ) × IsShortComment old task.comment comment × IsFile old.files task.input bytes
-    × IsWholeFile comment task.replace bytes text
+    × IsInsertedWhole comment task.replace bytes text
 IsInsertDue task old (why.Refused f) = HasLongComment task f old ⊎ HasInputFault task f old
 IsInsertDue task old why.NoMemory = Unit {0}
 IsInsertDue task old other = ⊥

@@ -4,10 +4,11 @@ use Rattle.std.specs.Borrow.{Bor}
 use Rattle.jpg_base.specs.declared.names.Name.{Name}
 use Rattle.jpg_base.specs.declared.names.Name.TheVariants as name
 use Rattle.jpg_spec.specs.CommentWords.{FileName, standard_input, standard_output, named, FilesAsked, CommentSource, from_input, from_words, from_file, WordsTold, words_right, words_wrong, WriteAsked, from_to, write_asked_from}
-use Rattle.jpg_spec.specs.Switches.{Purpose, left_out, replacing, comment_given, comment_in_file}
 use Rattle.jpg_spec.specs.declared.answers.Usage.{Usage}
 use Rattle.jpg_spec.specs.declared.answers.UsageFault.{UsageFault}
 use Rattle.jpg_spec.specs.declared.answers.UsageFault.TheVariants.{LeftOutSwitch, MissingValue, UnknownSwitch}
+use Rattle.jpg_spec.specs.declared.switch.Purpose.TheVariants.{LeftOut, Replacing, CommentGiven, CommentInFile}
+use Rattle.jpg_spec.specs.declared.switch.Purpose.{Purpose}
 use Rattle.jpg_cli.specs.declared.comment_words.Files.{Files}
 use Rattle.jpg_cli.specs.declared.comment_words.CommentFrom.{CommentFrom}
 use Rattle.jpg_cli.specs.declared.comment_words.CommentFrom.TheVariants as from
@@ -39,9 +40,9 @@ write_told words = record { files = files_told words.files; comment = comment_to
 -- ANSWERS
 
 -- Where the words are right, what they ask for; where they aren't, what is wrong.
-abbrev pub IsRead : {X Y : Type 0} → (X → Y) → WordsTold Y → Result X Usage → Type 0
-IsRead told asked (Ok x) = asked ≡ words_right (told x)
-IsRead told asked (Err usage) = asked ≡ words_wrong usage
+abbrev pub AnswersWords : {X Y : Type 0} → (X → Y) → WordsTold Y → Result X Usage → Type 0
+AnswersWords told asked (Ok x) = asked ≡ words_right (told x)
+AnswersWords told asked (Err usage) = asked ≡ words_wrong usage
 
 -- The same, where memory can be wanting for words that are right.
 abbrev pub IsAnswer : {X Y : Type 0} → (X → Y) → WordsTold Y → Result X WordsStop → Type 0
@@ -82,12 +83,12 @@ abbrev pub usage_told : UsageFault → ℕ → Usage
 usage_told fault index = record { fault = fault; word = index }
 
 -- what is wrong with a switch that the command has for nothing
-abbrev pub fault_of : Option Purpose → UsageFault
-fault_of (Some left_out) = LeftOutSwitch
-fault_of (Some replacing) = UnknownSwitch
-fault_of (Some comment_given) = UnknownSwitch
-fault_of (Some comment_in_file) = UnknownSwitch
-fault_of None = UnknownSwitch
+abbrev pub fault_of_switch : Option Purpose → UsageFault
+fault_of_switch (Some LeftOut) = LeftOutSwitch
+fault_of_switch (Some Replacing) = UnknownSwitch
+fault_of_switch (Some CommentGiven) = UnknownSwitch
+fault_of_switch (Some CommentInFile) = UnknownSwitch
+fault_of_switch None = UnknownSwitch
 
 -- The value of the switch of this index is the word behind it, where there is one.
 abbrev pub IsValue : List (List ℕ) → ℕ → Result (Bor (List ℕ)) Usage → Type 0

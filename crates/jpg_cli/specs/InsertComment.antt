@@ -1,10 +1,10 @@
--- HOW A FILE WITH A COMMENT INSERTED is written piece by piece (T.81 B.2.4.5, the manual of wrjpgcom in release 6b).
+-- HOW A FILE WITH A COMMENT INSERTED is written piece by piece (T.81, B.2.4.5, the manual of wrjpgcom in release 6b).
 use Rattle.std.specs.Prelude.{◌≡◌, ℕ, ◌<◌, ◌≤◌, ◌+◌, Bool, true, List, [], ◌++◌, length, take, Option, None, Some, Result, Ok, Err}
 use Rattle.std.specs.Io.KnownBytes.{Consumes, IsAtEnd}
 use Rattle.jpg_base.specs.Desk.{DeskState, Rose}
 use Rattle.jpg_base.specs.declared.stop.Stop.TheVariants as stop
 use Rattle.jpg_spec.specs.Segments.{standard_limits}
-use Rattle.jpg_spec.specs.CommentText.{IsHeadFault, IsInsertFault, IsInserted, ShowsNothing}
+use Rattle.jpg_spec.specs.CommentText.{IsHeadFault, IsInsertFault, IsInserted, ShowsNothing, longest_comment}
 use Rattle.jpg_spec.specs.declared.fault.Fault.TheVariants.{CommentTooLong, InputTooLong}
 use Rattle.jpg_spec.specs.declared.answers.FaultAt.{FaultAt}
 use Rattle.jpg_spec.specs.declared.answers.Why.{Why}
@@ -16,13 +16,14 @@ use Rattle.jpg_comments.specs.WriteInserted.{is_replacing, HasInserted}
 use Rattle.jpg_comments.specs.declared.insert.Insert.{Insert}
 use Rattle.jpg_cli.specs.declared.insert_comment.AtHead.{AtHead}
 use Rattle.jpg_cli.specs.declared.insert_comment.AtHead.TheVariants as at_head
-use Rattle.jpg_cli.specs.ReadComments.{Copies, HasCopied, OnlyCopies}
+use Rattle.jpg_cli.specs.ReadComments.{Copies, HasCopied}
+use Rattle.jpg_cli.specs.Stays.{OnlyCopies}
 use Rattle.jpg_cli.specs.Reading.{rest_of}
 
 -- A writer is new, with a comment that isn't too long; or there is none.
 abbrev pub IsBegunWith : List ℕ → Bool → Result Insert Why → Type 0
-IsBegunWith comment replace (Ok c) = (length comment ≤ 65000) × HasInserted comment [] [] c × (c.limits ≡ standard_limits) × (c.replace ≡ replace)
-IsBegunWith comment replace (Err (why.Refused f)) = (f.fault ≡ CommentTooLong) × (f.at ≡ 65001) × (65000 < length comment)
+IsBegunWith comment replace (Ok c) = (length comment ≤ longest_comment) × HasInserted comment [] [] c × (c.limits ≡ standard_limits) × (c.replace ≡ replace)
+IsBegunWith comment replace (Err (why.Refused f)) = (f.fault ≡ CommentTooLong) × (f.at ≡ longest_comment + 1) × (longest_comment < length comment)
 IsBegunWith comment replace (Err why.NoMemory) = Unit {0}
 IsBegunWith comment replace (Err other) = ⊥
 
@@ -42,8 +43,8 @@ AfterAll comment replace bytes text other = ⊥
 -- THE TEXT behind the frame header's marker, by the bytes that were read
 
 -- the whole file with the comment inserted, of bytes that are fewer than may be taken
-abbrev pub IsWholeFile : List ℕ → Bool → List ℕ → List ℕ → Type 0
-IsWholeFile comment replace bytes text = IsInserted standard_limits bytes comment replace text × (length bytes < standard_limits.input)
+abbrev pub IsInsertedWhole : List ℕ → Bool → List ℕ → List ℕ → Type 0
+IsInsertedWhole comment replace bytes text = IsInserted standard_limits bytes comment replace text × (length bytes < standard_limits.input)
 
 -- a first part of the file with the comment inserted, of a front of the bytes, in which the frame header's marker is
 abbrev pub IsFilePart : List ℕ → Bool → List ℕ → List ℕ → Type 0
@@ -57,9 +58,9 @@ IsLongFile comment replace f rest bytes text =
     × IsInserted standard_limits (take f.at (bytes ++ rest)) comment replace text
 
 abbrev pub EndsInserting : List ℕ → Bool → DeskState → Why → DeskState → Type 0
-EndsInserting comment replace old why.Done new = Copies (IsWholeFile comment replace) old new × IsAtEnd new.left
+EndsInserting comment replace old why.Done new = Copies (IsInsertedWhole comment replace) old new × IsAtEnd new.left
 EndsInserting comment replace old (why.Refused f) new = Copies (IsLongFile comment replace f (rest_of new.left)) old new
-EndsInserting comment replace old (why.ReadFault which.Input) new = Copies (IsWholeFile comment replace) old new × Rose old.counts.reads new.counts.reads
+EndsInserting comment replace old (why.ReadFault which.Input) new = Copies (IsInsertedWhole comment replace) old new × Rose old.counts.reads new.counts.reads
 EndsInserting comment replace old why.WriteFault new = Copies (IsFilePart comment replace) old new × Rose old.counts.writes new.counts.writes
 EndsInserting comment replace old why.NoMemory new = Copies (IsFilePart comment replace) old new
 EndsInserting comment replace old other new = ⊥
@@ -95,13 +96,13 @@ EndsBefore bytes old why.NoMemory new = (piece : List ℕ) × Consumes old.left 
 EndsBefore bytes old other new = ⊥
 
 -- From these bytes on one more piece was read: the marker isn't there yet, or what is due with it, or why the reading ended.
-abbrev pub AfterHead : List ℕ → Bool → List ℕ → DeskState → AtHead → Insert → List ℕ → DeskState → Type 0
-AfterHead comment replace bytes old at_head.Before c out new =
+abbrev pub AfterHeadRead : List ℕ → Bool → List ℕ → DeskState → AtHead → Insert → List ℕ → DeskState → Type 0
+AfterHeadRead comment replace bytes old at_head.Before c out new =
     (piece : List ℕ) × (0 < length piece) × (out ≡ []) × Consumes old.left new.left piece × HasInserted comment (bytes ++ piece) [] c
-AfterHead comment replace bytes old (at_head.Begun due) c out new =
+AfterHeadRead comment replace bytes old (at_head.Begun due) c out new =
     (piece : List ℕ) × (0 < length out) × Consumes old.left new.left piece × (length (bytes ++ piece) ≤ standard_limits.input) × IsAtHead (bytes ++ piece)
     × AfterFed comment replace (bytes ++ piece) out due c
-AfterHead comment replace bytes old (at_head.Ended ended) c out new = EndsBefore bytes old ended new
+AfterHeadRead comment replace bytes old (at_head.Ended ended) c out new = EndsBefore bytes old ended new
 
 -- Where more of the input may be read, it is open.
 abbrev pub IsOpenAfter : AtHead → DeskState → Type 0
@@ -113,15 +114,15 @@ IsOpenAfter (at_head.Ended ended) now = Unit {0}
 
 abbrev pub ReadsHead : Insert → DeskState → AtHead → Insert → List ℕ → DeskState → Type 0
 ReadsHead had old answer c out new =
-    (comment bytes : List ℕ) → HasInserted comment bytes [] had → AfterHead comment (is_replacing had) bytes old answer c out new
+    (comment bytes : List ℕ) → HasInserted comment bytes [] had → AfterHeadRead comment (is_replacing had) bytes old answer c out new
 
-abbrev pub CopiesNext : Insert → DeskState → Option Why → Insert → DeskState → Type 0
-CopiesNext had old due c new =
+abbrev pub InsertsNext : Insert → DeskState → Option Why → Insert → DeskState → Type 0
+InsertsNext had old due c new =
     (start : DeskState) (comment bytes text : List ℕ) → HasInserted comment bytes text had → 0 < length text → OnlyCopies start old
     → HasCopied start bytes text old
     → AfterRest comment (is_replacing had) start bytes due c new
 
-abbrev pub TakesPiece : Insert → List ℕ → List ℕ → Option Why → List ℕ → Insert → Type 0
-TakesPiece had piece old due out c =
+abbrev pub InsertsPiece : Insert → List ℕ → List ℕ → Option Why → List ℕ → Insert → Type 0
+InsertsPiece had piece old due out c =
     (comment bytes text : List ℕ) → HasInserted comment bytes text had
     → Appends (λ all. AfterFed comment (is_replacing had) (bytes ++ piece) all due c) text old out

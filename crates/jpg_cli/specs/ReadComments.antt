@@ -1,8 +1,8 @@
--- WHAT PRINTING THE COMMENTS of a file does to a desk (T.81 B.2.4.5, the manual of rdjpgcom in release 6b), by why it ended.
+-- WHAT PRINTING THE COMMENTS of a file does to a desk (T.81, B.2.4.5, the manual of rdjpgcom in release 6b), by why it ended.
 use Rattle.std.specs.Prelude.{◌≡◌, ◌⊎◌, ℕ, ◌+◌, ◌<◌, ◌≤◌, List, [], ◌∷◌, ◌++◌, length, take, Option, None, Some}
 use Rattle.std.specs.Io.KnownBytes.{Consumes}
 use Rattle.jpg_base.specs.declared.names.Name.{Name}
-use Rattle.jpg_base.specs.Desk.{DeskState, NoneFell, Rose, AppendsLast}
+use Rattle.jpg_base.specs.Desk.{DeskState, Rose, AppendsLast}
 use Rattle.jpg_spec.specs.Segments.{standard_limits}
 use Rattle.jpg_spec.specs.Markers.{Segment, kept_rule}
 use Rattle.jpg_spec.specs.CommentText.{comments_text, IsReadWhole, IsReadFault, ShowsNothing}
@@ -17,6 +17,7 @@ use Rattle.jpg_comments.specs.ReadComments.{HasRead}
 use Rattle.jpg_comments.specs.declared.comments.Comments.{Comments}
 use Rattle.jpg_cli.specs.Endings.{Copied, Unopened}
 use Rattle.jpg_cli.specs.Reading.{IsFile, rest_of}
+use Rattle.jpg_cli.specs.Stays.{OnlyCopies}
 
 -- THE TEXT that was printed, by the bytes that were read
 
@@ -82,14 +83,6 @@ IsPrintDue input old why.NoMemory = Unit {0}
 IsPrintDue input old other = ⊥
 
 -- STEP BY STEP, from a desk whose input is open and whose output is created
-
--- nothing but the bytes left, the outputs, the counts and whether the input is open changed
-pub record OnlyCopies (old new : DeskState) : Type 0 where
-  pub counts : NoneFell old.counts new.counts
-  pub asked : new.asked ≡ old.asked
-  pub files : new.files ≡ old.files
-  pub said : new.said ≡ old.said
-  pub output_created : new.output_created ≡ old.output_created
 
 -- These bytes were read, no more than may be, and this text was written.
 pub record HasCopied (old : DeskState) (bytes text : List ℕ) (new : DeskState) : Type 0 where

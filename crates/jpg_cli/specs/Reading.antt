@@ -1,23 +1,14 @@
 -- What reading the input does to a desk.
-use Rattle.std.specs.Prelude.{◌≡◌, ◌⊎◌, ℕ, ◌^◌, ◌<◌, ◌≤◌, true, List, [], ◌++◌, length, take, Option, None, Some}
+use Rattle.std.specs.Prelude.{◌≡◌, ◌⊎◌, ℕ, ◌<◌, ◌≤◌, true, List, [], ◌++◌, length, take, Option, None, Some}
 use Rattle.std.specs.Io.KnownBytes.{Consumes, IsAtEnd}
 use Rattle.jpg_base.specs.declared.names.Name.{Name}
 use Rattle.jpg_base.specs.declared.names.Got.{Got}
 use Rattle.jpg_base.specs.declared.names.Got.TheVariants as got
-use Rattle.jpg_base.specs.Desk.{DeskState, NoneFell, Rose}
+use Rattle.jpg_base.specs.Desk.{DeskState, Rose}
 use Rattle.jpg_cli.specs.declared.reading.Piece.{Piece}
 use Rattle.jpg_cli.specs.declared.reading.Piece.TheVariants as piece
 use Rattle.jpg_cli.specs.declared.reading.Taken.{Taken}
 use Rattle.jpg_cli.specs.declared.reading.Taken.TheVariants as taken
-
--- nothing but the bytes left, the counts and whether the input is open changed
-pub record OnlyReads (old new : DeskState) : Type 0 where
-  pub counts : NoneFell old.counts new.counts
-  pub asked : new.asked ≡ old.asked
-  pub files : new.files ≡ old.files
-  pub outputs : new.outputs ≡ old.outputs
-  pub said : new.said ≡ old.said
-  pub output_created : new.output_created ≡ old.output_created
 
 -- More bytes were read, at most so many, and the input is still open; or none, since it ended or reading failed. Where memory was wanting for them,
 -- they are lost.
@@ -29,20 +20,16 @@ AfterPiece old had most piece.Failed bytes new = (bytes ≡ had) × (new.left �
 AfterPiece old had most piece.NoMemory bytes new = (more : List ℕ) × (length more ≤ most) × Consumes old.left new.left more
 
 -- no more bytes than there was room for
-abbrev pub IsWithin : ℕ → Got → Type 0
-IsWithin room (got.Bytes n) = 1 ≤ room → n ≤ room
-IsWithin room got.End = Unit {0}
-IsWithin room got.Failed = Unit {0}
+abbrev pub FitsRoom : ℕ → Got → Type 0
+FitsRoom room (got.Bytes n) = 1 ≤ room → n ≤ room
+FitsRoom room got.End = Unit {0}
+FitsRoom room got.Failed = Unit {0}
 
 -- The whole input was read, or so many bytes of it; or fewer, where reading failed.
 abbrev pub AfterReading : ℕ → DeskState → Taken → List ℕ → DeskState → Type 0
 AfterReading limit old taken.All bytes new = Consumes old.left new.left bytes × (length bytes ≤ limit) × ((limit ≤ length bytes) ⊎ IsAtEnd new.left)
 AfterReading limit old taken.Failed bytes new = Consumes old.left new.left bytes × (length bytes < limit) × Rose old.counts.reads new.counts.reads
 AfterReading limit old taken.NoMemory bytes new = (read : List ℕ) × Consumes old.left new.left read × (length read ≤ limit)
-
--- the bytes of an input that are taken: its first 2 ^ 28, or all where it has fewer
-abbrev pub taken_of : List ℕ → List ℕ
-taken_of input = take (2 ^ 28) input
 
 -- where the files are told, the input is the file of this name
 abbrev pub IsFile : Option (Name → Option (List ℕ)) → Name → List ℕ → Type 0
@@ -65,14 +52,3 @@ ReadsPart most file old new = (bytes : List ℕ) × ReadsBytes most file bytes o
 -- Of a file of these bytes the first so many were read, and the others are left.
 abbrev pub IsReadTo : ℕ → List ℕ → DeskState → Type 0
 IsReadTo most bytes new = bytes ≡ take most bytes ++ rest_of new.left
-
--- No count fell, and the files and what was said stayed.
-pub record OnlyWorks (old new : DeskState) : Type 0 where
-  pub counts : NoneFell old.counts new.counts
-  pub files : new.files ≡ old.files
-  pub said : new.said ≡ old.said
-
--- The outputs stayed too.
-pub record Keeps (old new : DeskState) : Type 0 where
-  pub kept : OnlyWorks old new
-  pub outputs : new.outputs ≡ old.outputs

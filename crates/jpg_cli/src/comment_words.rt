@@ -1,14 +1,13 @@
 //! The words of rdjpgcom and wrjpgcom (their manuals in release 6b).
-ghost use Rattle.std.specs.Prelude.{◌≡◌, ◌<◌, ◌≤◌, ◌+◌, IfOk, length, map, drop, option_map, [], true, false, string_bytes};
+ghost use Rattle.std.specs.Prelude.{◌≡◌, ◌<◌, ◌≤◌, ◌+◌, IfOk, length, map, drop, [], true, false, string_bytes};
 ghost use Rattle.jpg_spec.specs.Switches.{is_switch};
 ghost use Rattle.jpg_spec.specs.CommentWords.{from_to, read_asked, write_asked, write_asked_from};
 ghost use Rattle.jpg_spec.specs.declared.answers.UsageFault.TheVariants.{MissingValue};
-ghost use Rattle.jpg_cli.specs.Switches.{told_purpose};
-ghost use Rattle.jpg_cli.specs.CommentWords.{IsAnswer, IsRead, IsStep, asked_from, comment_told, fault_of, files_told, input_told, insertion_told, source_told, usage_told, word_at, write_told, IsValue};
+ghost use Rattle.jpg_cli.specs.CommentWords.{IsAnswer, AnswersWords, IsStep, asked_from, comment_told, fault_of_switch, files_told, input_told, insertion_told, source_told, usage_told, word_at, write_told, IsValue};
 
-use crate::switches::{Purpose, RDJPGCOM_SWITCHES, WRJPGCOM_SWITCHES, is_switch, purpose_of};
+use crate::switches::{RDJPGCOM_SWITCHES, WRJPGCOM_SWITCHES, is_switch, purpose_of};
 use jpg_base::{Name, NoMemory, Text};
-use jpg_spec::{Usage, UsageFault};
+use jpg_spec::{Purpose, Usage, UsageFault};
 use std::alloc::Global;
 
 /// The input and the output of a command.
@@ -89,7 +88,7 @@ pub fn wrjpgcom_words(alloc: Global, words: &[String]) -> Result<WriteWords, Wor
     })
 }
 
-/// From the named file, or standard input where there is no name, to standard output.
+// From the named file, or standard input where there is no name, to standard output.
 fn files_from(alloc: Global, input: Option<&str>) -> Result<Files, NoMemory>
     ensures { IfOk result (λ files. files_told files ≡ from_to (input_told input.entry)) }
 {
@@ -103,9 +102,9 @@ fn files_from(alloc: Global, input: Option<&str>) -> Result<Files, NoMemory>
     })
 }
 
-/// The name of rdjpgcom's input, if the words give one.
+// The name of rdjpgcom's input, if the words give one.
 fn read_input(words: &[String]) -> Result<Option<&str>, Usage>
-    ensures { IsRead (λ input. from_to (input_told input)) (read_asked 1 (drop 1 (map string_bytes words.now))) result }
+    ensures { AnswersWords (λ input. from_to (input_told input)) (read_asked 1 (drop 1 (map string_bytes words.now))) result }
 {
     match words {
         [] | [_] => Ok(None),
@@ -122,14 +121,14 @@ fn read_input(words: &[String]) -> Result<Option<&str>, Usage>
     }
 }
 
-/// What the switches of wrjpgcom ask for.
+// What the switches of wrjpgcom ask for.
 #[derive(Clone, Copy)]
 struct Insertion<'a> {
     comment: CommentWord<'a>,
     replace: bool,
 }
 
-/// Where a comment comes from, as the words say it.
+// Where a comment comes from, as the words say it.
 #[derive(Clone, Copy)]
 enum CommentWord<'a> {
     Input,
@@ -138,7 +137,7 @@ enum CommentWord<'a> {
 }
 
 impl<'a> CommentWord<'a> {
-    /// The same with copies of its texts.
+    // The same with copies of its texts.
     fn to_comment(self, alloc: Global) -> Result<CommentFrom, NoMemory>
         ensures { IfOk result (λ comment. comment_told comment ≡ source_told self.entry) }
     {
@@ -150,9 +149,9 @@ impl<'a> CommentWord<'a> {
     }
 }
 
-/// What the switches of wrjpgcom ask for, and the name of its input, if the words give one.
+// What the switches of wrjpgcom ask for, and the name of its input, if the words give one.
 fn read_insertion(words: &[String]) -> Result<(Insertion<'_>, Option<&str>), Usage>
-    ensures { IsRead insertion_told (write_asked 1 (drop 1 (map string_bytes words.now))) result }
+    ensures { AnswersWords insertion_told (write_asked 1 (drop 1 (map string_bytes words.now))) result }
 {
     let mut insertion = Insertion {
         comment: CommentWord::Input,
@@ -171,7 +170,7 @@ fn read_insertion(words: &[String]) -> Result<(Insertion<'_>, Option<&str>), Usa
 }
 
 impl<'a> Insertion<'a> {
-    /// What is asked for after the switch of this index, and the index behind it and its value.
+    // What is asked for after the switch of this index, and the index behind it and its value.
     fn after_switch(
         self,
         words: &'a [String],
@@ -210,7 +209,7 @@ impl<'a> Insertion<'a> {
         }
     }
 
-    /// What is asked for with the input of this index, which nothing may follow.
+    // What is asked for with the input of this index, which nothing may follow.
     fn with_input(
         self,
         words: &'a [String],
@@ -218,7 +217,7 @@ impl<'a> Insertion<'a> {
     ) -> Result<(Insertion<'a>, Option<&'a str>), Usage>
         requires within { index < length words.now }
         requires file { is_switch (word_at (map string_bytes words.now) index) ≡ false }
-        ensures { IsRead insertion_told (asked_from (map string_bytes words.now) index self.entry) result }
+        ensures { AnswersWords insertion_told (asked_from (map string_bytes words.now) index self.entry) result }
     {
         if index + 1 < words.len() {
             return Err(usage(UsageFault::TooManyFiles, index + 1));
@@ -226,10 +225,10 @@ impl<'a> Insertion<'a> {
         Ok((self, Some(word_at(words, index))))
     }
 
-    /// What is asked for where the words end at this index: the input is standard input, which can't
-    /// give the comment too.
+    // What is asked for where the words end at this index: the input is standard input, which can't
+    // give the comment too.
     fn without_input(self, index: usize) -> Result<(Insertion<'a>, Option<&'a str>), Usage>
-        ensures { IsRead insertion_told (write_asked_from index self.entry.replace (source_told self.entry.comment) []) result }
+        ensures { AnswersWords insertion_told (write_asked_from index self.entry.replace (source_told self.entry.comment) []) result }
     {
         match self.comment {
             CommentWord::Input => Err(usage(UsageFault::NeedsInput, index)),
@@ -238,7 +237,7 @@ impl<'a> Insertion<'a> {
     }
 }
 
-/// The value of the switch of this index: the word behind it.
+// The value of the switch of this index: the word behind it.
 fn value_of(words: &[String], index: usize) -> Result<&str, Usage>
     requires { index < length words.now }
     ensures { IsValue (map string_bytes words.now) index result }
@@ -256,9 +255,9 @@ fn word_at(words: &[String], index: usize) -> &str
     words[index].as_str()
 }
 
-/// What is wrong with a switch that a command doesn't have: it is left out of the suite, or unknown.
+// What is wrong with a switch that a command doesn't have: it is left out of the suite, or unknown.
 fn switch_fault(purpose: Option<Purpose>) -> UsageFault
-    ensures { result ≡ fault_of (option_map told_purpose purpose) }
+    ensures { result ≡ fault_of_switch purpose }
 {
     match purpose {
         Some(Purpose::LeftOut) => UsageFault::LeftOutSwitch,

@@ -1,13 +1,12 @@
-//! A comment inserted into a file, which is read and written piece by piece (T.81 B.2.4.5, the manual of
+//! A comment inserted into a file, which is read and written piece by piece (T.81, B.2.4.5, the manual of
 //! wrjpgcom in release 6b).
 ghost use Rattle.std.specs.Prelude.{◌≡◌, ◌<◌, [], List, ℕ, IfNone, length, true};
 ghost use Rattle.jpg_spec.specs.Segments.{standard_limits};
 ghost use Rattle.jpg_comments.specs.Begun.{Appends};
 ghost use Rattle.jpg_comments.specs.WriteInserted.{insert_limits, is_replacing, HasInserted};
 ghost use Rattle.jpg_cli.specs.CommentInserted.{Inserted, task_told, EndsTask, BeginsTask, WritesFirst, WritesRest};
-ghost use Rattle.jpg_cli.specs.InsertComment.{AfterAll, IsBegunWith, IsOpenAfter, ReadsHead, CopiesNext, TakesPiece};
-ghost use Rattle.jpg_cli.specs.ReadComments.{OnlyCopies};
-ghost use Rattle.jpg_cli.specs.Reading.{OnlyWorks, OnlyReads};
+ghost use Rattle.jpg_cli.specs.InsertComment.{AfterAll, IsBegunWith, IsOpenAfter, ReadsHead, InsertsNext, InsertsPiece};
+ghost use Rattle.jpg_cli.specs.Stays.{OnlyCopies, OnlyReads, OnlyWorks};
 
 use crate::comment_taken::take_comment;
 use crate::comment_words::WriteWords;
@@ -198,7 +197,7 @@ fn next_rest<D: Desk>(
     requires empty { out.old ≡ [] }
     ensures kept { OnlyCopies (D.state desk.old) (D.state desk.new) }
     ensures open { IfNone result ((D.state desk.new).input_open ≡ true) }
-    ensures after { CopiesNext insert.old (D.state desk.old) result insert.new (D.state desk.new) }
+    ensures after { InsertsNext insert.old (D.state desk.old) result insert.new (D.state desk.new) }
     ensures limits { insert_limits insert.new ≡ standard_limits }
     ensures replace { is_replacing insert.new ≡ is_replacing insert.old }
     ensures empty { out.new ≡ [] }
@@ -219,7 +218,7 @@ fn next_rest<D: Desk>(
 // Appends the text for this piece, and tells why the writing ends, if it does.
 fn take_piece(insert: &mut Insert, piece: &[u8], out: &mut Bytes) -> Option<Why>
     requires limits { insert_limits insert.old ≡ standard_limits }
-    ensures taken { TakesPiece insert.old piece.now out.old result out.new insert.new }
+    ensures taken { InsertsPiece insert.old piece.now out.old result out.new insert.new }
     ensures limits { insert_limits insert.new ≡ standard_limits }
     ensures replace { is_replacing insert.new ≡ is_replacing insert.old }
 {

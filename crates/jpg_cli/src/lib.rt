@@ -3,25 +3,22 @@
 
 mod comment_taken;
 mod comment_words;
-mod first_scan;
-mod gray;
-mod header;
+mod flip;
 mod insert_comment;
 mod laws;
 mod message;
 mod program;
 mod read_comments;
+mod read_picture;
 mod reading;
 mod switches;
 mod top;
-mod turn;
 mod words;
-mod writing;
 
 pub use comment_words::{CommentFrom, Files, WordsStop, WriteWords};
 pub use laws::{
-    answers_are_due, files_with_a_frame_header_have_the_comment_inserted, gray_files_are_turned,
-    inserted_comments_are_due, printed_comments_are_due, refusals_are_one,
+    answers_are_due, files_with_a_frame_header_have_the_comment_inserted,
+    inserted_comments_are_due, pictures_are_turned, printed_comments_are_due,
     whole_files_have_their_comments_printed,
 };
 pub use program::run_program;

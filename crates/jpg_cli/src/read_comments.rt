@@ -1,12 +1,12 @@
-//! The comments of a file, printed (T.81 B.2.4.5, the manual of rdjpgcom in release 6b).
+//! The comments of a file, printed (T.81, B.2.4.5, the manual of rdjpgcom in release 6b).
 ghost use Rattle.std.specs.Prelude.{◌≡◌, ◌≤◌, [], List, ℕ, IfNone, length, true, false};
 ghost use Rattle.jpg_spec.specs.Segments.{standard_limits};
 ghost use Rattle.jpg_base.specs.Desk.{AfterWrite};
 ghost use Rattle.jpg_huff.specs.Out.{OnlyWrites};
 ghost use Rattle.jpg_comments.specs.Begun.{Appends};
 ghost use Rattle.jpg_comments.specs.ReadComments.{comments_limits, is_done, HasRead};
-ghost use Rattle.jpg_cli.specs.Reading.{OnlyWorks};
-ghost use Rattle.jpg_cli.specs.ReadComments.{AfterEnd, EndsCopying, OnlyCopies, Printed, CopiesNext, TakesPiece};
+ghost use Rattle.jpg_cli.specs.Stays.{OnlyCopies, OnlyWorks};
+ghost use Rattle.jpg_cli.specs.ReadComments.{AfterEnd, EndsCopying, Printed, CopiesNext, TakesPiece};
 
 use crate::comment_words::Files;
 use crate::reading::read_within;

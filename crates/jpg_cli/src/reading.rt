@@ -1,15 +1,13 @@
-//! The whole input, up to a limit, in the pieces that a desk gives.
+//! Files read to their end or up to a limit, in the pieces that a desk gives.
 ghost use Rattle.std.specs.Prelude.{◌≡◌, ◌<◌, [], true};
 ghost use Rattle.jpg_base.specs.Desk.{Reads};
-ghost use Rattle.jpg_cli.specs.Reading.{OnlyReads, AfterPiece, AfterReading, IsWithin, Keeps};
-ghost use Rattle.jpg_cli.specs.InputTaken.{AfterInput};
+ghost use Rattle.jpg_cli.specs.Reading.{AfterPiece, AfterReading, FitsRoom};
+ghost use Rattle.jpg_cli.specs.Stays.{Keeps, OnlyReads};
+ghost use Rattle.jpg_cli.specs.FileTaken.{AfterFile};
 
 use jpg_base::{Bytes, Desk, Got, Name, Put};
 use jpg_spec::{Which, Why};
 use std::alloc::Global;
-
-// The most bytes that are taken.
-const LIMIT: usize = 1 << 28;
 
 enum Piece {
     Some,
@@ -71,24 +69,30 @@ pub fn read_up_to<D: Desk>(desk: &mut D, limit: usize, bytes: &mut Bytes) -> Tak
 pub fn read_within<D: Desk>(desk: &mut D, room: u64, buffer: &mut [u8; 65536]) -> Got
     requires { (D.state desk.old).input_open ≡ true }
     ensures read { Reads (D.state desk.old) result buffer.new (D.state desk.new) }
-    ensures within { IsWithin room result }
+    ensures within { FitsRoom room result }
 {
     let most = room.clamp(1, 65_536) as usize;
     desk.read(&mut buffer[..most])
 }
 
-/// The bytes of standard input, up to the limit.
-pub fn take_input<D: Desk>(alloc: Global, desk: &mut D) -> Result<Bytes, Why>
+/// The bytes of the file of this name, up to so many. A fault says which file it is.
+pub fn take_file<D: Desk>(
+    alloc: Global,
+    name: &Name,
+    limit: usize,
+    which: Which,
+    desk: &mut D,
+) -> Result<Bytes, Why>
     ensures kept { Keeps (D.state desk.old) (D.state desk.new) }
-    ensures after { AfterInput (D.state desk.old) result (D.state desk.new) }
+    ensures after { AfterFile name.now limit which (D.state desk.old) result (D.state desk.new) }
 {
-    match desk.open(&Name::In) {
-        Put::Failed => Err(Why::OpenFault(Which::Input)),
+    match desk.open(name) {
+        Put::Failed => Err(Why::OpenFault(which)),
         Put::Done => {
             let mut bytes = Bytes::new(alloc);
-            match read_up_to(desk, LIMIT, &mut bytes) {
+            match read_up_to(desk, limit, &mut bytes) {
                 Taken::All => Ok(bytes),
-                Taken::Failed => Err(Why::ReadFault(Which::Input)),
+                Taken::Failed => Err(Why::ReadFault(which)),
                 Taken::NoMemory => Err(Why::NoMemory),
             }
         }

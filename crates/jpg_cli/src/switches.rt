@@ -1,22 +1,11 @@
 //! Switches of a call: how a word matches one (the manuals of release 6b; any beginning of a name
 //! that has its shortest form stands for it).
-ghost use Rattle.std.specs.Prelude.{◌≡◌, map, option_map};
+ghost use Rattle.std.specs.Prelude.{◌≡◌, map};
 ghost use Rattle.jpg_spec.specs.Lists.{begins_with};
 ghost use Rattle.jpg_spec.specs.Switches.{is_match, is_switch, lower, purpose_of};
-ghost use Rattle.jpg_cli.specs.Switches.{told_purpose, told_switch};
+ghost use Rattle.jpg_cli.specs.Switches.{told_switch};
 
-/// What a switch is for.
-#[derive(Clone, Copy, Debug, PartialEq, Eq)]
-pub enum Purpose {
-    /// Left out of the suite, though release 6b has it.
-    LeftOut,
-    /// `-replace`: the comments of the input are left out.
-    Replacing,
-    /// `-comment`: the next word is the comment.
-    CommentGiven,
-    /// `-cfile`: the next word names the file that holds the comment.
-    CommentInFile,
-}
+use jpg_spec::Purpose;
 
 /// A switch: its name in lower case, how many letters of it a word has at least, and what it is for.
 #[derive(Clone, Copy)]
@@ -61,7 +50,7 @@ pub fn is_switch(word: &str) -> bool
 
 /// What a word that begins with a hyphen is for, in a command with these switches.
 pub fn purpose_of(switches: &[Switch], word: &str) -> Option<Purpose>
-    ensures { option_map told_purpose result ≡ purpose_of (map told_switch switches.now) word.now }
+    ensures { result ≡ purpose_of (map told_switch switches.now) word.now }
 {
     let letters = match word.as_bytes() {
         [] => &[],
@@ -75,15 +64,15 @@ pub fn purpose_of(switches: &[Switch], word: &str) -> Option<Purpose>
     None
 }
 
-/// Whether the letters are the beginning of the switch's name, in any case, and no fewer than its
-/// shortest form.
+// Whether the letters are the beginning of the switch's name, in any case, and no fewer than its
+// shortest form.
 fn is_match(letters: &[u8], switch: &Switch) -> bool
     ensures { result ≡ is_match letters.now (told_switch switch.now) }
 {
     switch.shortest <= letters.len() && begins(letters, switch.name.as_bytes())
 }
 
-/// Whether the letters, in lower case, are the beginning of the name.
+// Whether the letters, in lower case, are the beginning of the name.
 fn begins(letters: &[u8], name: &[u8]) -> bool
     ensures { result ≡ begins_with (map lower letters.now) name.now }
 {
@@ -100,7 +89,7 @@ fn begins(letters: &[u8], name: &[u8]) -> bool
     true
 }
 
-/// An ASCII letter in lower case, any other byte as it is.
+// An ASCII letter in lower case, any other byte as it is.
 fn lower(byte: u8) -> u8
     ensures { result ≡ lower byte }
 {

@@ -1,18 +1,15 @@
 //! The top call.
-ghost use Rattle.std.specs.Prelude.{◌≡◌, ◌≤◌, length, map, string_bytes};
+ghost use Rattle.std.specs.Prelude.{◌≤◌, length, map, string_bytes};
 ghost use Rattle.jpg_spec.specs.Messages.{message};
-ghost use Rattle.jpg_cli.specs.Reading.{OnlyWorks};
-ghost use Rattle.jpg_cli.specs.Run.{Ran, Turned, Works, SaysText};
-ghost use Rattle.jpg_cli.specs.Saying.{OnlySays};
+ghost use Rattle.jpg_cli.specs.Stays.{OnlySays};
+ghost use Rattle.jpg_cli.specs.Run.{Ran, Works, SaysText};
 
 use crate::comment_words::WordsStop;
-use crate::gray::{Judged, judge};
+use crate::flip::flip;
 use crate::insert_comment::insert_comment;
 use crate::message::message_of;
 use crate::read_comments::print_comments;
-use crate::reading::take_input;
 use crate::words::{Asked, read_words, tool_name};
-use crate::writing::write_gray;
 use jpg_base::{Desk, Put};
 use jpg_spec::{Fault, FaultAt, Why};
 use std::alloc::Global;
@@ -40,22 +37,6 @@ fn tell<D: Desk>(tool: &str, why: Why, desk: &mut D)
     }
 }
 
-// Turns the picture on standard input.
-fn turn<D: Desk>(alloc: Global, desk: &mut D) -> Why
-    ensures kept { OnlyWorks (D.state desk.old) (D.state desk.new) }
-    ensures turned { Turned (D.state desk.old) result (D.state desk.new) }
-{
-    let bytes = match take_input(alloc, desk) {
-        Ok(bytes) => bytes,
-        Err(why) => return why,
-    };
-    match judge(alloc, bytes.as_slice()) {
-        Judged::NoMemory => Why::NoMemory,
-        Judged::Refused(fault) => Why::Refused(fault),
-        Judged::Plain(picture) => write_gray(&picture, desk),
-    }
-}
-
 // The work, without its message.
 fn work<D: Desk>(alloc: Global, words: &[String], desk: &mut D) -> Why
     ensures { Works (map string_bytes words.now) (D.state desk.old) result (D.state desk.new) }
@@ -67,19 +48,18 @@ fn work<D: Desk>(alloc: Global, words: &[String], desk: &mut D) -> Why
             fault: Fault::NotBuilt,
             at: 0,
         }),
-        Ok(Asked::FlipHorizontal) => turn(alloc, desk),
+        Ok(Asked::FlipHorizontal) => flip(alloc, desk),
         Ok(Asked::Rdjpgcom(files)) => print_comments(alloc, &files, desk),
         Ok(Asked::Wrjpgcom(words)) => insert_comment(alloc, &words, desk),
     }
 }
 
-/// Runs the command that the words ask for over a desk: `jpegtran -flip horizontal` turns the file on
-/// standard input left to right onto standard output: a sequential file of one gray scan, with any
-/// header, sides that are multiples of 8, and no restarts. Any other input is refused with the first
-/// fault that its header shows, or as not built yet, and nothing is written then. `rdjpgcom [FILE]`
-/// prints the comments of a file, or of standard input, onto standard output. `wrjpgcom` writes a file,
-/// or standard input, with a comment inserted before its frame header onto standard output. What is
-/// wrong or refused is named in a message.
+/// Runs the command that the words ask for over a desk: `jpegtran -flip horizontal` turns the sequential
+/// file on standard input left to right onto standard output. A file is refused with its first fault, or
+/// as not built yet at the end of the header of a progressive frame, and nothing is written then.
+/// `rdjpgcom [FILE]` prints the comments of a file, or of standard input, onto standard output. `wrjpgcom`
+/// writes a file, or standard input, with a comment inserted before its frame header onto standard output.
+/// What is wrong or refused is named in a message.
 pub fn run<D: Desk>(alloc: Global, words: &[String], desk: &mut D) -> Ended
     ensures { Ran (map string_bytes words.now) (D.state desk.old) result (D.state desk.new) }
 {

@@ -13,10 +13,9 @@ use Rattle.jpg_spec.specs.FrameHeader.{padded_across, padded_down}
 use Rattle.jpg_spec.specs.Scan.{Scan, block_at}
 use Rattle.jpg_spec.specs.PictureInWork.{is_at, OneChanges}
 use Rattle.jpg_spec.specs.declared.frame.Place.{Place}
-use Rattle.jpg_spec.proofs.Telling.{both, lt_of}
-use Rattle.jpg_spec.proofs.Turned.{lt_yes}
+use Rattle.jpg_spec.proofs.Common.{both, lt_of, lt_yes}
 use Rattle.jpg_base.specs.Cursor.{IsPadded}
-use Rattle.jpg_coefs.specs.Picture.{Picture, HasPlace, KeepsOutside, is_padded, index_of, block_in, map_of, put_at}
+use Rattle.jpg_coefs.specs.Picture.{Picture, HasPlace, KeepsOutside, is_padded, block_index, block_in, map_of, put_at}
 use Rattle.jpg_coefs.proofs.Apart.{changed, stays}
 
 padded_is : (f : Frame) (i x y : ℕ) → is_padded f i x y ≡ true → IsPadded f i x y
@@ -44,7 +43,7 @@ map_sizes q all i x y = by (is_padded q.frame i x y)
         (cases_lt j (length q.blocks))
 
     by : (b : Bool) → length (cond b (block_in q i x y) (zeros 64)) ≡ 64
-    by true = at (index_of q.frame i x y)
+    by true = at (block_index q.frame i x y)
     by false = length-replicate 64 (pos 0)
 
 -- a new picture has no blocks but zero ones
@@ -57,9 +56,9 @@ blank_is q n e = fun_ext (λ i. fun_ext (λ x. fun_ext (λ y. by i x y (is_padde
         (λ (h : n ≤ j). get_or_past (replicate n (zeros 64)) j (zeros 64) (omega (arith, h, length-replicate n (zeros 64))))
         (cases_lt j n)
 
-    by : (i x y : ℕ) (b : Bool) → cond b (slice_index_or q.blocks (index_of q.frame i x y) (zeros 64)) (zeros 64) ≡ zeros 64
+    by : (i x y : ℕ) (b : Bool) → cond b (slice_index_or q.blocks (block_index q.frame i x y) (zeros 64)) (zeros 64) ≡ zeros 64
     by i x y false = refl
-    by i x y true = ap (λ (l : List (List ℤ)). slice_index_or l (index_of q.frame i x y) (zeros 64)) e ∙ at (index_of q.frame i x y)
+    by i x y true = ap (λ (l : List (List ℤ)). slice_index_or l (block_index q.frame i x y) (zeros 64)) e ∙ at (block_index q.frame i x y)
 
 -- A BLOCK IS PUT at a place
 

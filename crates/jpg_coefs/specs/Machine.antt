@@ -1,4 +1,4 @@
--- What the machines of all kinds of scan stand for, and what one bit makes of it (T.81 F.2.2, G.2).
+-- What the machines of all kinds of scan stand for, and what one bit makes of it (T.81, F.2.2, G.2).
 use Rattle.std.specs.Prelude.{◌≡◌, ℕ, ◌+◌, ◌<◌, ◌≤◌, Bool, List, [], ◌∷◌, ◌++◌, length, map, ℤ, Result, Ok, Err}
 use Rattle.jpg_spec.specs.Elements.{UnitLeft}
 use Rattle.jpg_spec.specs.Parts.{StandsInUnits}
@@ -28,7 +28,7 @@ abbrev pub units_of : Interval → List UnitLeft
 units_of i = map (unit_at i.scan (map_of i.before)) i.places
 
 -- The bits are the whole interval, and what they tell stands in the picture.
-pub record IsWhole (i : Interval) (bits : List Bool) (now : Picture) : Type 0 where
+pub record IsWholeInterval (i : Interval) (bits : List Bool) (now : Picture) : Type 0 where
   pub frame : now.frame ≡ i.before.frame
   pub read : IntervalRead i.scan i.places (map_of i.before) (map_of now) bits
 
@@ -78,7 +78,7 @@ pub record KeepsUnits (M : Type 0) (k : Kind M) : Type 0 where
 -- what the answer at these bits says
 abbrev pub Answered : {M : Type 0} → Kind M → Interval → List Bool → Result UnitStep UnitFault → M → Picture → Type 0
 Answered k i bits (Ok More) m now = k.stands m i bits now
-Answered k i bits (Ok IntervalDone) m now = IsWhole i bits now × ((j : Interval) → Follows i now j → k.fits j → k.ready m j)
+Answered k i bits (Ok IntervalDone) m now = IsWholeInterval i bits now × ((j : Interval) → Follows i now j → k.fits j → k.ready m j)
 Answered k i bits (Err f) m now = DataShows i.scan.coding (units_of i) (fault_of f) bits
 
 -- ONE BIT: whatever interval and bits the machine stood for, it is answered at these bits and this one.

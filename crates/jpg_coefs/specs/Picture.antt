@@ -1,4 +1,4 @@
--- The blocks of a picture in their order of storage: component by component, row by row of the padded grids (T.81 A.2.4).
+-- The blocks of a picture in their order of storage: component by component, row by row of the padded grids (T.81, A.2.4).
 use Rattle.std.specs.Prelude.{◌≡◌, ℕ, ◌+◌, ◌*◌, ◌<◌, Bool, false, nat_lt, ◌&&◌, if◌then◌else◌, List, length, take, sum_by, slice_index, slice_index_or, slice_set, ℤ, pos}
 use Rattle.jpg_spec.specs.Elements.{zeros}
 use Rattle.jpg_spec.specs.Geometry.{Frame, component_at, padded_blocks}
@@ -17,12 +17,12 @@ pub record Picture : Type 0 where
 abbrev pub grid_blocks : Frame → Component → ℕ
 grid_blocks f c = padded_across f c * padded_down f c
 
-abbrev pub offset : Frame → ℕ → ℕ
-offset f i = sum_by (grid_blocks f) (take i f.components)
+abbrev pub component_offset : Frame → ℕ → ℕ
+component_offset f i = sum_by (grid_blocks f) (take i f.components)
 
 -- where a block is stored
-abbrev pub index_of : Frame → ℕ → ℕ → ℕ → ℕ
-index_of f i x y = offset f i + (y * padded_across f (component_at f i) + x)
+abbrev pub block_index : Frame → ℕ → ℕ → ℕ → ℕ
+block_index f i x y = component_offset f i + (y * padded_across f (component_at f i) + x)
 
 -- whether a place lies in its component's padded grid
 abbrev pub is_padded : Frame → ℕ → ℕ → ℕ → Bool
@@ -30,14 +30,14 @@ is_padded f i x y = nat_lt i (length f.components) && (nat_lt x (padded_across f
 
 -- the block at a place of a padded grid
 abbrev pub block_in : Picture → ℕ → ℕ → ℕ → List ℤ
-block_in p i x y = slice_index_or p.blocks (index_of p.frame i x y) (zeros 64)
+block_in p i x y = slice_index_or p.blocks (block_index p.frame i x y) (zeros 64)
 
 -- The picture as a map of blocks, zero outside the padded grids.
 abbrev pub map_of : Picture → Blocks
 map_of p i x y = if is_padded p.frame i x y then block_in p i x y else zeros 64
 
 abbrev pub with_block : Picture → ℕ → ℕ → ℕ → List ℤ → Picture
-with_block p i x y block = record p { blocks = slice_set p.blocks (index_of p.frame i x y) block }
+with_block p i x y block = record p { blocks = slice_set p.blocks (block_index p.frame i x y) block }
 
 -- the same at a place of a scan
 abbrev pub put_at : Picture → Place → List ℤ → Picture
@@ -56,6 +56,6 @@ pub record KeepsOutside (s : Scan) (q : Picture) (p : Place) (block : List ℤ) 
 -- what is kept of a frame: where each component begins, and how wide its rows are
 pub record IsLaidOut (f : Frame) (offsets strides : List ℕ) (count : ℕ) : Type 0 where
   pub frame : IsFrame f
-  pub begins : (i : ℕ) → i < length f.components → slice_index offsets i ≡ offset f i
+  pub begins : (i : ℕ) → i < length f.components → slice_index offsets i ≡ component_offset f i
   pub wide : (i : ℕ) → i < length f.components → slice_index strides i ≡ padded_across f (component_at f i)
   pub all : count ≡ padded_blocks f

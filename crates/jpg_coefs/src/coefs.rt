@@ -3,7 +3,7 @@ ghost use Rattle.std.specs.Prelude.{◌≡◌, ◌<◌, ◌≤◌, IfOk, replica
 ghost use Rattle.jpg_spec.specs.Elements.{zeros};
 ghost use Rattle.jpg_spec.specs.Geometry.{padded_blocks};
 ghost use Rattle.jpg_base.specs.Cursor.{IsPadded};
-ghost use Rattle.jpg_coefs.specs.Picture.{Picture, index_of, block_in, map_of, with_block};
+ghost use Rattle.jpg_coefs.specs.Picture.{Picture, block_index, block_in, map_of, with_block};
 
 use crate::BlockView;
 use jpg_base::{Block, Frame, NoMemory};
@@ -53,7 +53,7 @@ impl Coefs {
     // Where a block is stored.
     fn place(&self, component: u8, x: u32, y: u32) -> usize
         requires { IsPadded self.now.frame component x y }
-        ensures value { result ≡ index_of self.now.frame component x y }
+        ensures value { result ≡ block_index self.now.frame component x y }
         ensures there { result < length self.now.blocks }
     {
         let i = component as usize;
@@ -68,6 +68,14 @@ impl Coefs {
         let _ = block.get(0);
         let place = self.place(component, x, y);
         self.blocks[place] = *block;
+    }
+
+    /// Makes all blocks zero. The frame stays.
+    pub fn clear(&mut self)
+        ensures frame { self.new.frame ≡ self.old.frame }
+        ensures zero { self.new.blocks ≡ replicate (padded_blocks self.old.frame) (zeros 64) }
+    {
+        self.blocks.fill(Block::zero());
     }
 }
 

@@ -1,4 +1,4 @@
-//! The coefficients of a picture, and the traits of what reads and writes them (T.81 A.2, F.1.1.5).
+//! The coefficients of a picture, and the traits of what reads and writes them (T.81, A.2, F.1.1.5).
 #![tactic(auto)]
 
 mod coefs;

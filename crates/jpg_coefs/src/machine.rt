@@ -1,4 +1,4 @@
-// What reads the units of a scan (T.81 F.2.2, G.2).
+// What reads the units of a scan (T.81, F.2.2, G.2).
 ghost use Rattle.std.specs.Prelude.{◌≡◌, ◌≤◌, [], Bool, List, ℕ, length};
 ghost use Rattle.jpg_coefs.specs.Picture.{Picture};
 ghost use Rattle.jpg_coefs.specs.Machine.{Interval, Kind, Step, TakesBits};

@@ -1,11 +1,11 @@
 // Blocks of coefficients as blocks of samples (T.81, A.3.3, A.3.4).
 ghost use Rattle.std.specs.Prelude.{◌≡◌, ◌<◌, ◌≤◌, ◌*ℤ◌, pos, nat_abs, All, slice_index};
-ghost use Rattle.jpg_spec.specs.Dct.{number_at, dequantised, inverse};
+ghost use Rattle.jpg_spec.specs.Dct.{number_at, dequantised, inverse_dct};
 
 use jpg_base::{Block, QuantTable};
 use jpg_dct::{dequantise, idct};
 
-/// The place in zigzag order of each natural index.
+// The place in zigzag order of each natural index.
 static PLACES: [u8; 64] = [
     0, 1, 5, 6, 14, 15, 27, 28, 2, 4, 7, 13, 16, 26, 29, 42, 3, 8, 12, 17, 25, 30, 41, 43, 9, 11,
     18, 24, 31, 40, 44, 53, 10, 19, 23, 32, 39, 45, 52, 54, 20, 22, 33, 38, 46, 51, 55, 60, 21, 34,
@@ -21,7 +21,7 @@ fn product(block: &Block, quants: &QuantTable, k: u8) -> i32
     dequantise(block.get(k), quants.get(k))
 }
 
-/// A block in natural order, each coefficient times its quantiser.
+// A block in natural order, each coefficient times its quantiser.
 fn dequantised(block: &Block, quants: &QuantTable) -> [i32; 64]
     requires { All (λ x. nat_abs x ≤ 1024) block.now }
     ensures value { result ≡ dequantised quants.now block.now }
@@ -37,7 +37,7 @@ fn dequantised(block: &Block, quants: &QuantTable) -> [i32; 64]
 /// The 64 samples of a block, row by row.
 pub fn block_samples(block: &Block, quants: &QuantTable) -> [u8; 64]
     requires { All (λ x. nat_abs x ≤ 1024) block.now }
-    ensures { result ≡ inverse (dequantised quants.now block.now) }
+    ensures { result ≡ inverse_dct (dequantised quants.now block.now) }
 {
     idct(&dequantised(block, quants))
 }

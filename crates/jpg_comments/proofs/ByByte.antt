@@ -12,7 +12,7 @@ use Rattle.jpg_markers.specs.declared.segments.Phase.TheVariants as phase
 use Rattle.jpg_markers.specs.declared.segments.SegStep.TheVariants as step
 use Rattle.jpg_markers.specs.Reading.{Reading, AtPhase, StandsFor, ShowsBehind, EndsBehind, Comes}
 use Rattle.jpg_comments.specs.Begun.{IsBegun, Appends}
-use Rattle.jpg_comments.specs.Printing.{HoldsWhole, HasPrinted, PrintsWhole, PrintsSegment, due_text, AfterByte}
+use Rattle.jpg_comments.specs.Printing.{HoldsWhole, HasPrinted, PrintsWhole, PrintsSegment, due_text, AfterPrintedByte}
 use Rattle.jpg_comments.proofs.Taken.{Tells, nothing_first, taken_on, shows_first, begun, whole_front}
 
 -- WHERE A FILE IS WHOLE: at EOI, and at the end of a scan header
@@ -60,7 +60,7 @@ printed_eoi limits r next bytes text byte h short same ends =
 
 -- a fault, or want of memory
 pub printed_stop : (limits : Limits) (r next : Reading) (bytes text : List ℕ) (byte : ℕ) (e : Stop) (h : HasPrinted limits bytes text r) → r.taken < limits.input → next.limits ≡ r.limits → next.taken ≡ r.taken + 1
-    → Comes (bytes ++ byte ∷ []) h.0 (Err e) next → AfterByte limits (bytes ++ byte ∷ []) text (Err e) next
+    → Comes (bytes ++ byte ∷ []) h.0 (Err e) next → AfterPrintedByte limits (bytes ++ byte ∷ []) text (Err e) next
 printed_stop limits r next bytes text byte (stop.Fault f) h short same one comes =
     let e : next.limits ≡ limits = same ∙ h.1.limited in
     let was = h.1.taken in
@@ -86,7 +86,7 @@ printed_stop limits r next bytes text byte stop.NoMemory h short same one comes 
 pub printed_whole : (limits : Limits) (r next : Reading) (bytes text old new : List ℕ) (byte : ℕ) (result : Result Bool Stop) (h : HasPrinted limits bytes text r)
     → r.taken < limits.input → next.limits ≡ r.limits → next.taken ≡ r.taken + 1 → next.phase ≡ phase.Between
     → Comes (bytes ++ byte ∷ []) h.0 (Ok step.Whole) next → PrintsSegment next.code next.contents result old new
-    → Appends (λ all. AfterByte limits (bytes ++ byte ∷ []) all result next) text old new
+    → Appends (λ all. AfterPrintedByte limits (bytes ++ byte ∷ []) all result next) text old new
 printed_whole limits r next bytes text old new byte (Ok true) h short same one between comes prints =
     let e : next.limits ≡ limits = same ∙ h.1.limited in
     let was = h.1.taken in

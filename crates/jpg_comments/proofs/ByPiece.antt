@@ -1,6 +1,6 @@
 -- The text of the comments, piece by piece.
 use Rattle.std.proofs.Common.{◌≡◌, ℕ, ◌+◌, ◌<◌, ◌≤◌, true, List, [], ◌∷◌, ◌++◌, length, take, drop, min, get_or, Ok, Err, sym, ap, ◌∙◌, subst, arith, inr, Result}
-use Rattle.std.proofs.lemmas.List.{append_assoc, take_all, take_min, take_more, take-append-drop}
+use Rattle.std.proofs.lemmas.List.{append_assoc, take_all, take_min, take_more, take-append-drop, take-append-le}
 use Rattle.jpg_spec.specs.Markers.{kept_rule}
 use Rattle.jpg_spec.specs.CommentText.{IsReadFault}
 use Rattle.jpg_spec.specs.declared.frame.Limits.{Limits}
@@ -11,10 +11,10 @@ use Rattle.jpg_base.specs.declared.stop.Stop.{Stop}
 use Rattle.jpg_base.specs.declared.stop.Stop.TheVariants as stop
 use Rattle.jpg_markers.specs.Reading.{Reading, reading_of}
 use Rattle.jpg_comments.specs.Begun.{IsBegun, AreWholeBefore, Appends}
-use Rattle.jpg_comments.specs.Printing.{HoldsWhole, HasPrinted, PrintsWhole, PrintsBefore, PrintsPart, AfterByte, AfterPiece}
+use Rattle.jpg_comments.specs.Printing.{HoldsWhole, HasPrinted, PrintsWhole, PrintsBefore, PrintsPart, AfterPrintedByte, AfterPrintedPiece}
 use Rattle.jpg_comments.specs.ReadComments.{HasRead, AfterFeed}
 use Rattle.jpg_comments.specs.declared.comments.Comments.{Comments}
-use Rattle.jpg_comments.proofs.Taken.{front_is, whole_front, first_fault, long_fault, begun}
+use Rattle.jpg_comments.proofs.Taken.{whole_front, first_fault, long_fault, begun}
 
 -- A PIECE, and a front of it
 
@@ -29,7 +29,7 @@ all_of_it bytes piece i h = ap (λ l. bytes ++ l) (take_all i piece h)
 
 -- a front of a front
 front_longer : (n : ℕ) (all rest : List ℕ) → take (min n (length all)) (all ++ rest) ≡ take n all
-front_longer n all rest = front_is (min n (length all)) all rest (omega arith) ∙ take_min n all
+front_longer n all rest = take-append-le (min n (length all)) all rest (omega arith) ∙ take_min n all
 
 -- what follows a piece follows the rest of it
 pub followed : (bytes front rest more : List ℕ) → bytes ≡ front ++ rest → bytes ++ more ≡ front ++ (rest ++ more)
@@ -41,7 +41,7 @@ part_longer : (limits : Limits) (all rest text : List ℕ) → PrintsPart limits
 part_longer limits all rest text h = (h.0, min h.1 (length all), h.2, subst (λ l. IsBegun (kept_rule limits) l h.2) (sym (front_longer h.1 all rest)) h.3, h.4)
 
 -- a fault at the last of some bytes, or want of memory
-stopped_longer : (limits : Limits) (bytes piece all rest text : List ℕ) (e : Stop) (r next : Reading) → bytes ++ piece ≡ all ++ rest → AfterByte limits all text (Err e) r → AfterPiece limits bytes piece text (Err e) next
+stopped_longer : (limits : Limits) (bytes piece all rest text : List ℕ) (e : Stop) (r next : Reading) → bytes ++ piece ≡ all ++ rest → AfterPrintedByte limits all text (Err e) r → AfterPrintedPiece limits bytes piece text (Err e) next
 stopped_longer limits bytes piece all rest text (stop.Fault f) r next cut h =
     let n = h.1 in
     let front : take (f.at) (bytes ++ piece) ≡ all = ap (λ l. take (f.at) l) cut ∙ ap (λ k. take k (all ++ rest)) n ∙ whole_front all rest in (
@@ -51,13 +51,13 @@ stopped_longer limits bytes piece all rest text (stop.Fault f) r next cut h =
 stopped_longer limits bytes piece all rest text stop.NoMemory r next cut h = subst (λ l. PrintsPart limits l text) (sym cut) (part_longer limits all rest text h)
 
 pub piece_stopped : (limits : Limits) (bytes piece text : List ℕ) (i : ℕ) (e : Stop) (r next : Reading) → i < length piece
-    → AfterByte limits ((bytes ++ take i piece) ++ get_or piece i 0 ∷ []) text (Err e) r → AfterPiece limits bytes piece text (Err e) next
+    → AfterPrintedByte limits ((bytes ++ take i piece) ++ get_or piece i 0 ∷ []) text (Err e) r → AfterPrintedPiece limits bytes piece text (Err e) next
 piece_stopped limits bytes piece text i e r next less h =
     stopped_longer limits bytes piece ((bytes ++ take i piece) ++ get_or piece i 0 ∷ []) (drop (i + 1) piece) text e r next (joined bytes piece (i + 1) ∙ ap (λ l. l ++ drop (i + 1) piece) (one_more bytes piece i less)) h
 
 -- as many bytes as may be taken
 pub piece_long : (limits : Limits) (bytes piece text : List ℕ) (i most : ℕ) (r next : Reading) → limits.input ≡ most → most ≤ r.taken → HasPrinted limits (bytes ++ take i piece) text r
-    → AfterPiece limits bytes piece text (Err (stop.Fault (record { fault = InputTooLong; at = most }))) next
+    → AfterPrintedPiece limits bytes piece text (Err (stop.Fault (record { fault = InputTooLong; at = most }))) next
 piece_long limits bytes piece text i most r next same many h =
     let taken = h.1.taken in let least = h.1.most in
     let front = bytes ++ take i piece in
@@ -73,13 +73,13 @@ piece_long limits bytes piece text i most r next same many h =
 
 -- a whole file
 pub piece_whole : (limits : Limits) (bytes piece text : List ℕ) (i used : ℕ) (r next : Reading) → i < length piece → used ≡ i + 1
-    → AfterByte limits ((bytes ++ take i piece) ++ get_or piece i 0 ∷ []) text (Ok true) r → AfterPiece limits bytes piece text (Ok (fed.Done used)) next
+    → AfterPrintedByte limits ((bytes ++ take i piece) ++ get_or piece i 0 ∷ []) text (Ok true) r → AfterPrintedPiece limits bytes piece text (Ok (fed.Done used)) next
 piece_whole limits bytes piece text i used r next less same h =
     let is : bytes ++ take used piece ≡ (bytes ++ take i piece) ++ get_or piece i 0 ∷ [] = ap (λ n. bytes ++ take n piece) same ∙ one_more bytes piece i less in
     (subst (λ l. PrintsWhole limits l text) (sym is) h, omega (arith, same), omega (arith, same, less))
 
 -- more is wanted
-pub piece_more : (limits : Limits) (bytes piece text : List ℕ) (i : ℕ) (r : Reading) → length piece ≤ i → r.taken < limits.input → HasPrinted limits (bytes ++ take i piece) text r → AfterPiece limits bytes piece text (Ok fed.More) r
+pub piece_more : (limits : Limits) (bytes piece text : List ℕ) (i : ℕ) (r : Reading) → length piece ≤ i → r.taken < limits.input → HasPrinted limits (bytes ++ take i piece) text r → AfterPrintedPiece limits bytes piece text (Ok fed.More) r
 piece_more limits bytes piece text i r end short h =
     let k = subst (λ l. HasPrinted limits l text r) (all_of_it bytes piece i end) h in
     let taken = k.1.taken in
@@ -90,29 +90,29 @@ piece_more limits bytes piece text i r end short h =
 -- what the reader's part of a state answers to a piece
 abbrev Answered : Comments → Reading → List ℕ → List ℕ → List ℕ → List ℕ → List ℕ → Result Fed Stop → Type 0
 Answered c next bytes text piece old new result =
-    HasPrinted (reading_of c.reader).limits bytes text (reading_of c.reader) → Appends (λ all. AfterPiece (reading_of c.reader).limits bytes piece all result next) text old new
+    HasPrinted (reading_of c.reader).limits bytes text (reading_of c.reader) → Appends (λ all. AfterPrintedPiece (reading_of c.reader).limits bytes piece all result next) text old new
 
 by_limits : (c : Comments) (next : Reading) (bytes text piece old new : List ℕ) (result : Result Fed Stop) → HasRead bytes text c → Answered c next bytes text piece old new result
-    → Appends (λ all. AfterPiece c.limits bytes piece all result next) text old new
+    → Appends (λ all. AfterPrintedPiece c.limits bytes piece all result next) text old new
 by_limits c next bytes text piece old new result h answered =
     let same = h.3.1.limited in
-    subst (λ l. Appends (λ all. AfterPiece l bytes piece all result next) text old new) same (answered (subst (λ l. HasPrinted l bytes text (reading_of c.reader)) (sym same) h.3))
+    subst (λ l. Appends (λ all. AfterPrintedPiece l bytes piece all result next) text old new) same (answered (subst (λ l. HasPrinted l bytes text (reading_of c.reader)) (sym same) h.3))
 
 pub fed_more : (c next : Comments) (bytes text piece old new : List ℕ) (result : Result Fed Stop) → result ≡ Ok fed.More → HasRead bytes text c → next.limits ≡ c.limits → next.stop ≡ c.stop → next.done ≡ c.done
     → Answered c (reading_of next.reader) bytes text piece old new result → Appends (λ all. AfterFeed bytes piece all result next) text old new
 fed_more c next bytes text piece old new result e h limits stop done answered =
     let k = by_limits c (reading_of next.reader) bytes text piece old new result h answered in
-    let after = subst (λ l. AfterPiece l bytes piece (text ++ k.0) (Ok fed.More) (reading_of next.reader)) (sym limits) (subst (λ x. AfterPiece c.limits bytes piece (text ++ k.0) x (reading_of next.reader)) e k.2) in
+    let after = subst (λ l. AfterPrintedPiece l bytes piece (text ++ k.0) (Ok fed.More) (reading_of next.reader)) (sym limits) (subst (λ x. AfterPrintedPiece c.limits bytes piece (text ++ k.0) x (reading_of next.reader)) e k.2) in
     (k.0, k.1, subst (λ x. AfterFeed bytes piece (text ++ k.0) x next) (sym e) (stop ∙ h.0, done ∙ h.1, after.1, after.0))
 
 pub fed_done : (c next : Comments) (bytes text piece old new : List ℕ) (result : Result Fed Stop) (used : ℕ) → result ≡ Ok (fed.Done used) → HasRead bytes text c → next.limits ≡ c.limits
     → Answered c (reading_of next.reader) bytes text piece old new result → Appends (λ all. AfterFeed bytes piece all result next) text old new
 fed_done c next bytes text piece old new result used e h limits answered =
     let k = by_limits c (reading_of next.reader) bytes text piece old new result h answered in
-    let after = subst (λ l. AfterPiece l bytes piece (text ++ k.0) (Ok (fed.Done used)) (reading_of next.reader)) (sym limits) (subst (λ x. AfterPiece c.limits bytes piece (text ++ k.0) x (reading_of next.reader)) e k.2) in
+    let after = subst (λ l. AfterPrintedPiece l bytes piece (text ++ k.0) (Ok (fed.Done used)) (reading_of next.reader)) (sym limits) (subst (λ x. AfterPrintedPiece c.limits bytes piece (text ++ k.0) x (reading_of next.reader)) e k.2) in
     (k.0, k.1, subst (λ x. AfterFeed bytes piece (text ++ k.0) x next) (sym e) after)
 
-stops_alike : (c : Comments) (bytes text piece : List ℕ) (s : Stop) (r : Reading) → AfterPiece c.limits bytes piece text (Err s) r → AfterFeed bytes piece text (Err s) c
+stops_alike : (c : Comments) (bytes text piece : List ℕ) (s : Stop) (r : Reading) → AfterPrintedPiece c.limits bytes piece text (Err s) r → AfterFeed bytes piece text (Err s) c
 stops_alike c bytes text piece (stop.Fault f) r h = h
 stops_alike c bytes text piece stop.NoMemory r h = h
 
@@ -120,5 +120,5 @@ pub fed_stop : (c next : Comments) (bytes text piece old new : List ℕ) (result
     → Answered c (reading_of next.reader) bytes text piece old new result → Appends (λ all. AfterFeed bytes piece all result next) text old new
 fed_stop c next bytes text piece old new result s e h limits answered =
     let k = by_limits c (reading_of next.reader) bytes text piece old new result h answered in
-    let after = subst (λ l. AfterPiece l bytes piece (text ++ k.0) (Err s) (reading_of next.reader)) (sym limits) (subst (λ x. AfterPiece c.limits bytes piece (text ++ k.0) x (reading_of next.reader)) e k.2) in
+    let after = subst (λ l. AfterPrintedPiece l bytes piece (text ++ k.0) (Err s) (reading_of next.reader)) (sym limits) (subst (λ x. AfterPrintedPiece c.limits bytes piece (text ++ k.0) x (reading_of next.reader)) e k.2) in
     (k.0, k.1, subst (λ x. AfterFeed bytes piece (text ++ k.0) x next) (sym e) (stops_alike next bytes (text ++ k.0) piece s (reading_of next.reader) after))

@@ -11,13 +11,14 @@ use Rattle.jpg_spec.specs.CommentText.{ShowsNothing, IsFileFront}
 use Rattle.jpg_spec.specs.declared.frame.Limits.{Limits}
 use Rattle.jpg_spec.specs.declared.fault.Fault.TheVariants.{UnexpectedMarker}
 use Rattle.jpg_spec.proofs.Reached.{reached_once}
+use Rattle.jpg_spec.proofs.Common.{clash}
 use Rattle.jpg_base.specs.declared.stop.Stop.{Stop}
 use Rattle.jpg_base.specs.declared.stop.Stop.TheVariants as stop
 use Rattle.jpg_markers.specs.declared.segments.Phase.{Phase}
 use Rattle.jpg_markers.specs.declared.segments.Phase.TheVariants as phase
 use Rattle.jpg_markers.specs.declared.segments.SegStep.TheVariants as step
 use Rattle.jpg_markers.specs.Reading.{Reading, AtPhase, StandsFor, EndsBehind, Comes}
-use Rattle.jpg_comments.specs.Inserting.{HoldsHead, head_text, kept_text, HasKept, IsAtFrame, AfterHeadByte}
+use Rattle.jpg_comments.specs.Inserting.{HoldsHead, copied_head, copied_segment, HasKept, IsAtFrame, AfterHeadByte}
 use Rattle.jpg_comments.proofs.Taken.{Tells, nothing_first, taken_on, shows_first, whole_front}
 
 -- WHERE A HEAD IS WHOLE: at the marker of the frame header
@@ -42,7 +43,7 @@ kept_start limits replace r stands same none = (
   by replace,
 )
   where
-    by : (b : Bool) → 255 ∷ 0xd8 ∷ [] ≡ head_text b []
+    by : (b : Bool) → 255 ∷ 0xd8 ∷ [] ≡ copied_head b []
     by true = refl
     by false = refl
 
@@ -74,27 +75,24 @@ kept_eoi limits replace r next bytes all head h ends = no_some (ap (λ b. code_f
 
 -- THE FRAME HEADER'S MARKER
 
-apart : (b : Bool) → b ≡ true → b ≡ false → ⊥
-apart b t f = cc
-
 -- whole segments aren't it
 no_frame_whole : (rule : Rule) (bytes front : List ℕ) (before : List Segment) → bytes ≡ front → SpellsSegments before front → Pass rule before → Reaches rule bytes at_frame → ⊥
-no_frame_whole rule bytes front [] e s p reaches = apart true refl (ap heads_on (reached_once rule bytes at_soi at_frame (e ∙ s) reaches))
+no_frame_whole rule bytes front [] e s p reaches = clash true refl (ap heads_on (reached_once rule bytes at_soi at_frame (e ∙ s) reaches))
 no_frame_whole rule bytes front (x ∷ before) e s p reaches =
-    apart true refl (ap heads_on (reached_once rule bytes (at_segment x) at_frame (before, subst (λ l. SpellsSegments (x ∷ before) l) (sym e) s, p) reaches))
+    clash true refl (ap heads_on (reached_once rule bytes (at_segment x) at_frame (before, subst (λ l. SpellsSegments (x ∷ before) l) (sym e) s, p) reaches))
 
 -- nor is a part of a segment
 no_frame_part : (rule : Rule) (bytes : List ℕ) (before : List Segment) (tail : List ℕ) → Between rule bytes before tail → PartOfSegment before tail → Reaches rule bytes at_frame → ⊥
 no_frame_part rule bytes before [] between part reaches = no_frame_whole rule bytes between.front before (between.cut ∙ append-nil between.front) between.spelled between.passed reaches
 no_frame_part rule bytes before (t ∷ tail) between part reaches =
-    apart true refl (ap heads_on (reached_once rule bytes at_part at_frame (inr (before, t ∷ tail, between, part, no_nil t tail)) reaches))
+    clash true refl (ap heads_on (reached_once rule bytes at_part at_frame (inr (before, t ∷ tail, between, part, no_nil t tail)) reaches))
   where
     no_nil : (x : ℕ) (xs : List ℕ) → x ∷ xs ≡ [] → ⊥
     no_nil x xs e = cc
 
 frame_at : (r : Reading) (p : Phase) (bytes : List ℕ) (before : List Segment) → AtPhase r p bytes before → Reaches (kept_rule r.limits) bytes at_frame → IsFileFront r.limits bytes before r.code
-frame_at r phase.Empty bytes before h reaches = absurd (apart true refl (ap heads_on (reached_once (kept_rule r.limits) bytes at_part at_frame (inl (inl h.0)) reaches)))
-frame_at r phase.HalfStart bytes before h reaches = absurd (apart true refl (ap heads_on (reached_once (kept_rule r.limits) bytes at_part at_frame (inl (inr h.0)) reaches)))
+frame_at r phase.Empty bytes before h reaches = absurd (clash true refl (ap heads_on (reached_once (kept_rule r.limits) bytes at_part at_frame (inl (inl h.0)) reaches)))
+frame_at r phase.HalfStart bytes before h reaches = absurd (clash true refl (ap heads_on (reached_once (kept_rule r.limits) bytes at_part at_frame (inl (inr h.0)) reaches)))
 frame_at r phase.Between bytes before h reaches = absurd (no_frame_part (kept_rule r.limits) bytes before h.0 h.1 (inl (0, h.3)) reaches)
 frame_at r phase.Fill bytes before h reaches = absurd (no_frame_part (kept_rule r.limits) bytes before h.0 h.1 (inl (suc h.3.0, h.3.1)) reaches)
 frame_at r phase.Coded bytes before h reaches = by (frame_or_not (is_frame_code r.code))
@@ -158,7 +156,7 @@ no_header limits bytes before code contents nothing s p = by (is_frame_code code
         absurd ((nothing (length front) shorter).1 (subst (λ l. HoldsHead limits l) (sym is) (code, (before, (marker, between, (s.4.1, p.0, s.5), e)))))
 
 -- what is kept with one segment more
-kept_more : (replace : Bool) (code : ℕ) (contents : List ℕ) (before : List Segment) → head_text replace ((code, contents) ∷ before) ≡ head_text replace before ++ kept_text replace code contents
+kept_more : (replace : Bool) (code : ℕ) (contents : List ℕ) (before : List Segment) → copied_head replace ((code, contents) ∷ before) ≡ copied_head replace before ++ copied_segment replace code contents
 kept_more replace code contents before = by replace
   where
     text : Segment → List ℕ
@@ -177,7 +175,7 @@ kept_more replace code contents before = by replace
     one true e = rw e refl
     one false e = rw e (append-nil (segment_text code contents))
 
-    by : (b : Bool) → head_text b (new ∷ before) ≡ head_text b before ++ kept_text b code contents
+    by : (b : Bool) → copied_head b (new ∷ before) ≡ copied_head b before ++ copied_segment b code contents
     by true =
         ap (λ l. soi ++ l)
         (ap (λ l. flat_map text (filter other l)) turned ∙ ap (flat_map text) (filter-append other (reverse before) (new ∷ []))
@@ -195,7 +193,7 @@ whole_at r bytes before between s =
 -- with the last byte of a segment
 pub kept_whole : (limits : Limits) (replace : Bool) (r next : Reading) (bytes head new : List ℕ) (byte : ℕ) (h : HasKept limits replace bytes head r)
     → r.taken < limits.input → next.limits ≡ r.limits → next.taken ≡ r.taken + 1 → next.phase ≡ phase.Between → Comes (bytes ++ byte ∷ []) h.0 (Ok step.Whole) next
-    → (length next.contents ≤ 65533 → new ≡ head ++ kept_text replace next.code next.contents) → HasKept limits replace (bytes ++ byte ∷ []) new next
+    → (length next.contents ≤ 65533 → new ≡ head ++ copied_segment replace next.code next.contents) → HasKept limits replace (bytes ++ byte ∷ []) new next
 kept_whole limits replace r next bytes head new byte h short same one between comes grows =
     let all = bytes ++ byte ∷ [] in
     let whole = whole_at next all ((next.code, next.contents) ∷ h.0) between comes.1 in
@@ -205,5 +203,5 @@ kept_whole limits replace r next bytes head new byte h short same one between co
       (next.code, next.contents) ∷ h.0,
       on,
       ap (λ b. b || has_frame h.0) (no_header limits all h.0 next.code next.contents on.nothing whole.0 passed) ∙ h.2,
-      grows (omega (arith, fits)) ∙ ap (λ l. l ++ kept_text replace next.code next.contents) h.3 ∙ sym (kept_more replace next.code next.contents h.0),
+      grows (omega (arith, fits)) ∙ ap (λ l. l ++ copied_segment replace next.code next.contents) h.3 ∙ sym (kept_more replace next.code next.contents h.0),
     )

@@ -1,6 +1,6 @@
 -- The head of a file that gets a comment, piece by piece, and what is written behind it.
 use Rattle.std.proofs.Common.{◌≡◌, ℕ, ◌+◌, ◌-◌, ◌<◌, ◌≤◌, Bool, true, List, [], ◌∷◌, ◌++◌, length, take, drop, get_or, Some, None, Ok, Err, refl, sym, ap, ◌∙◌, subst, arith, inr, Result}
-use Rattle.std.proofs.lemmas.List.{append_assoc, append-nil, length-append, length-take-le, take_all, take-append-drop}
+use Rattle.std.proofs.lemmas.List.{append_assoc, append-nil, length-append, length-take-le, take_all, take-append-drop, take-append-le}
 use Rattle.std.proofs.Math.Seq.{take-append-add}
 use Rattle.jpg_spec.specs.CommentText.{IsHeadFault, IsInsertFault, IsInserted, inserted_head, comment_segment, IsFileFront}
 use Rattle.jpg_spec.specs.declared.frame.Limits.{Limits}
@@ -12,8 +12,8 @@ use Rattle.jpg_base.specs.declared.stop.Stop.TheVariants as stop
 use Rattle.jpg_markers.specs.Reading.{Reading}
 use Rattle.jpg_comments.specs.Appending.{AppendsText}
 use Rattle.jpg_comments.specs.Begun.{Appends}
-use Rattle.jpg_comments.specs.Inserting.{HoldsHead, head_text, HasKept, IsAtFrame, AfterHeadByte, AfterHeadPiece, Copies, InsertsPart, InsertsUpTo}
-use Rattle.jpg_comments.proofs.Taken.{front_is, whole_front, first_fault, long_fault}
+use Rattle.jpg_comments.specs.Inserting.{HoldsHead, copied_head, HasKept, IsAtFrame, AfterHeadByte, AfterHeadPiece, CopiesRest, InsertsPart, InsertsUpTo}
+use Rattle.jpg_comments.proofs.Taken.{whole_front, first_fault, long_fault}
 use Rattle.jpg_comments.proofs.ByPiece.{joined, one_more, all_of_it, followed}
 
 -- UP TO THE MARKER
@@ -87,7 +87,7 @@ long_inserted limits comment replace bytes text long h =
 long_anyhow : (limits : Limits) (comment : List ℕ) (replace : Bool) (bytes text : List ℕ) (f : FaultAt) → f.fault ≡ InputTooLong → f.at ≡ limits.input → limits.input ≤ length bytes → IsInserted limits (take (limits.input) bytes) comment replace text
     → (more : List ℕ) → IsInsertFault limits (bytes ++ more) f.fault (f.at)
 long_anyhow limits comment replace bytes text f is at long h = λ more.
-    let same = sym (front_is (limits.input) bytes more long) in
+    let same = sym (take-append-le (limits.input) bytes more long) in
     let fault = long_inserted limits comment replace (bytes ++ more) text (omega (arith, long, length-append bytes more)) (subst (λ l. IsInserted limits l comment replace text) same h) in
     subst (λ x. IsInsertFault limits (bytes ++ more) x (f.at)) (sym is) (subst (λ k. IsInsertFault limits (bytes ++ more) InputTooLong k) (sym at) fault)
 
@@ -97,7 +97,7 @@ AfterCopy limits comment replace bytes text (Ok n) = (n ≡ length bytes) × (le
 AfterCopy limits comment replace bytes text (Err s) = InsertsUpTo limits comment replace bytes text s
 
 pub copied : (limits : Limits) (comment : List ℕ) (replace : Bool) (bytes text rest old new : List ℕ) (taken most : ℕ) (result : Result ℕ Stop) → limits.input ≡ most → taken ≡ length bytes → length bytes ≤ limits.input
-    → IsInserted limits bytes comment replace text → Copies taken most rest result old new → Appends (λ all. AfterCopy limits comment replace (bytes ++ rest) all result) text old new
+    → IsInserted limits bytes comment replace text → CopiesRest taken most rest result old new → Appends (λ all. AfterCopy limits comment replace (bytes ++ rest) all result) text old new
 copied limits comment replace bytes text rest old new taken most (Ok n) same is least h copies =
     let count = copies.0 in let short = copies.1 in
     (rest, copies.2, (omega (arith, count, is, length-append bytes rest), omega (arith, count, is, short, same, length-append bytes rest), inserted_more limits comment replace bytes text rest h))
@@ -130,7 +130,7 @@ head_inserted limits comment replace bytes head segment r same h = (
   [],
   sym (append-nil bytes),
   h.1,
-  ap (λ l. l ++ segment ++ 255 ∷ r.code ∷ []) h.2 ∙ ap (λ l. head_text replace h.0 ++ l ++ 255 ∷ r.code ∷ []) same ∙ sym (append-nil (inserted_head comment replace h.0 r.code)),
+  ap (λ l. l ++ segment ++ 255 ∷ r.code ∷ []) h.2 ∙ ap (λ l. copied_head replace h.0 ++ l ++ 255 ∷ r.code ∷ []) same ∙ sym (append-nil (inserted_head comment replace h.0 r.code)),
 )
 
 -- where memory is wanting, a first part of it was written

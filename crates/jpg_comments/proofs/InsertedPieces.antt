@@ -8,7 +8,7 @@ use Rattle.jpg_base.specs.declared.stop.Stop.TheVariants as stop
 use Rattle.jpg_markers.specs.Reading.{Reading, reading_of}
 use Rattle.jpg_comments.specs.Appending.{AppendsText}
 use Rattle.jpg_comments.specs.Begun.{Appends}
-use Rattle.jpg_comments.specs.Inserting.{HasKept, AfterHeadPiece, Copies, InsertsUpTo}
+use Rattle.jpg_comments.specs.Inserting.{HasKept, AfterHeadPiece, CopiesRest, InsertsUpTo}
 use Rattle.jpg_comments.specs.WriteInserted.{StandsAt, HasInserted}
 use Rattle.jpg_comments.specs.declared.insert.Insert.{Insert}
 use Rattle.jpg_comments.proofs.Taken.{appends_then}
@@ -63,7 +63,7 @@ stops_at_head limits comment replace bytes piece text whole old new used e none 
 
 -- the bytes behind it
 pub copies_rest : (limits : Limits) (comment : List ℕ) (replace : Bool) (bytes piece text head segment old mid new : List ℕ) (used taken most : ℕ) (r : Reading) (result : Result ℕ Stop) → limits.input ≡ most → text ≡ [] → segment ≡ comment_segment comment
-    → AfterHeadPiece limits replace bytes piece (Ok (Some used)) head r → mid ≡ old ++ whole_head head segment r.code → taken ≡ r.taken → Copies taken most (drop used piece) result mid new
+    → AfterHeadPiece limits replace bytes piece (Ok (Some used)) head r → mid ≡ old ++ whole_head head segment r.code → taken ≡ r.taken → CopiesRest taken most (drop used piece) result mid new
     → Appends (λ all. AfterCopy limits comment replace (bytes ++ piece) all result) text old new
 copies_rest limits comment replace bytes piece text head segment old mid new used taken most r result same none is h wrote count copies =
     let whole = whole_head head segment r.code in
@@ -75,7 +75,7 @@ copies_rest limits comment replace bytes piece text head segment old mid new use
     subst (λ t. Appends Q t old new) (sym none) (appends_then (λ t. t ≡ whole) Q [] old mid new (whole, wrote, refl) (λ t e. subst (λ u. Appends Q u mid new) (sym e) all))
 
 -- the bytes behind one that was there before
-pub copies_more : (comment bytes piece text old new : List ℕ) (taken most : ℕ) (c : Insert) (result : Result ℕ Stop) → c.limits.input ≡ most → c.taken ≡ Some taken → HasInserted comment bytes text c → Copies taken most piece result old new
+pub copies_more : (comment bytes piece text old new : List ℕ) (taken most : ℕ) (c : Insert) (result : Result ℕ Stop) → c.limits.input ≡ most → c.taken ≡ Some taken → HasInserted comment bytes text c → CopiesRest taken most piece result old new
     → Appends (λ all. AfterCopy c.limits comment c.replace (bytes ++ piece) all result) text old new
 copies_more comment bytes piece text old new taken most c result same some h copies =
     let k = subst (λ o. StandsAt c.limits comment c.replace bytes text o c.head (reading_of c.reader)) some h.3 in

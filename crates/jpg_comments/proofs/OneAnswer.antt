@@ -1,5 +1,5 @@
 -- Where a front of the bytes is whole they have no fault of marker segments, and else one at most.
-use Rattle.std.proofs.Common.{◌≡◌, ℕ, zero, suc, ◌<◌, ◌≤◌, List, [], ◌∷◌, length, take, refl, sym, ap, ◌∙◌, subst, arith, inl, inr, ◌⊎◌}
+use Rattle.std.proofs.Common.{◌≡◌, ℕ, ◌<◌, ◌≤◌, List, length, take, sym, ◌∙◌, subst, arith, inl, inr, ◌⊎◌}
 use Rattle.std.proofs.lemmas.List.{length-take-le}
 use Rattle.jpg_spec.specs.Markers.{Segment, kept_rule, SegmentsShow, IsLeast, Reached, at_frame, at_eoi, at_segment, at_fault, Reaches}
 use Rattle.jpg_spec.specs.CommentText.{IsReadWhole, IsInsertFault, ShowsNothing, IsMarkerFault}
@@ -7,16 +7,10 @@ use Rattle.jpg_spec.specs.declared.fault.Fault.{Fault}
 use Rattle.jpg_spec.specs.declared.fault.Fault.TheVariants.{Truncated, InputTooLong}
 use Rattle.jpg_spec.specs.declared.frame.Limits.{Limits}
 use Rattle.jpg_spec.proofs.Reached.{reached_once, fault_once, fronts_clean}
+use Rattle.jpg_spec.proofs.Common.{take_shorter}
 use Rattle.jpg_comments.specs.Printing.{HoldsWhole}
 use Rattle.jpg_comments.specs.Inserting.{HoldsHead}
 use Rattle.jpg_comments.proofs.Taken.{upto}
-
--- a front of a front
-shorter : (m n : ℕ) (bytes : List ℕ) → m ≤ n → take m (take n bytes) ≡ take m bytes
-shorter zero n bytes h = refl
-shorter (suc m) zero bytes h = absurd (omega (arith, h))
-shorter (suc m) (suc n) [] h = refl
-shorter (suc m) (suc n) (b ∷ bytes) h = ap (λ l. b ∷ l) (shorter m n bytes (omega (arith, h)))
 
 -- Whole bytes come to something that is no fault.
 abbrev pub IsSound : Limits → (List ℕ → Type 0) → Type 0
@@ -48,7 +42,7 @@ no_front_shows limits is_whole sound bytes n m f less long w s = by (upto n m)
     by (inl h) =
         let same : m ≡ n = omega (arith, h, less) in
         y.2 f (reached_once (kept_rule limits) all y.0 (at_fault f) y.1 (subst (λ k. SegmentsShow (kept_rule limits) f (take k bytes)) same s))
-    by (inr h) = fronts_clean (kept_rule limits) all y.0 f m y.1 (omega (arith, h, length-take-le n bytes long)) (subst (λ l. SegmentsShow (kept_rule limits) f l) (sym (shorter m n bytes less)) s)
+    by (inr h) = fronts_clean (kept_rule limits) all y.0 f m y.1 (omega (arith, h, length-take-le n bytes long)) (subst (λ l. SegmentsShow (kept_rule limits) f l) (sym (take_shorter m n bytes less)) s)
 
 -- where a front is whole there is no fault
 pub whole_no_fault : (limits : Limits) (is_whole : List ℕ → Type 0) → IsSound limits is_whole → (bytes : List ℕ) (n at : ℕ) (f : Fault) → n ≤ length bytes → n ≤ limits.input → is_whole (take n bytes) → IsMarkerFault limits is_whole bytes f at → ⊥
@@ -61,7 +55,7 @@ whole_no_fault limits is_whole sound bytes n at f long most w h = by (upto at n)
     by (inl less) (inl k) = no_front_shows limits is_whole sound bytes n at f less long w k.1.1
     by (inl less) (inr (inl k)) =
         let is = k.1 in let fits = k.2 in
-        (k.3 n (omega (arith, is, most, fits, length-take-le at bytes (omega (arith, is, fits))))).1 (subst is_whole (sym (shorter n at bytes (omega (arith, is, most)))) w)
+        (k.3 n (omega (arith, is, most, fits, length-take-le at bytes (omega (arith, is, fits))))).1 (subst is_whole (sym (take_shorter n at bytes (omega (arith, is, most)))) w)
     by (inl less) (inr (inr k)) = (k.3 n long).1 w
 
 -- ONE FAULT
@@ -75,7 +69,7 @@ Alternatives limits is_whole bytes f n =
 -- a shown fault, where nothing is shown
 shown_nothing : (limits : Limits) (is_whole : List ℕ → Type 0) (bytes : List ℕ) (f : Fault) (n : ℕ) → n ≤ limits.input → IsLeast (SegmentsShow (kept_rule limits)) bytes f n → (limits.input ≤ length bytes) → ShowsNothing limits is_whole (take (limits.input) bytes) → ⊥
 shown_nothing limits is_whole bytes f n most least long nothing =
-    (nothing n (omega (arith, most, length-take-le (limits.input) bytes long))).0 f (subst (λ l. SegmentsShow (kept_rule limits) f l) (sym (shorter n (limits.input) bytes most)) least.1)
+    (nothing n (omega (arith, most, length-take-le (limits.input) bytes long))).0 f (subst (λ l. SegmentsShow (kept_rule limits) f l) (sym (take_shorter n (limits.input) bytes most)) least.1)
 
 two_least : (limits : Limits) (bytes : List ℕ) (f g : Fault) (n m : ℕ) → IsLeast (SegmentsShow (kept_rule limits)) bytes f n → IsLeast (SegmentsShow (kept_rule limits)) bytes g m → (f ≡ g) × (n ≡ m)
 two_least limits bytes f g n m a b = by (upto n m) (upto m n)

@@ -8,6 +8,7 @@ use Rattle.jpg_spec.specs.CommentText.{IsReadWhole, IsInserted, inserted_head, I
 use Rattle.jpg_spec.specs.declared.fault.Fault.TheVariants.{UnexpectedMarker, UnsupportedProcess, SecondFrame, SosBeforeSof}
 use Rattle.jpg_spec.specs.declared.frame.Limits.{Limits}
 use Rattle.jpg_spec.proofs.MarkersOnce.{SpellsMore, GoesOn, marker_once, oldest, segments_once}
+use Rattle.jpg_spec.proofs.Common.{clash}
 
 -- AMONG SEGMENTS
 
@@ -18,9 +19,6 @@ any_behind test (m ∷ more) x xs e = or_true (test m) (any_of test (more ++ x �
     or_true : (a b : Bool) → b ≡ true → (a || b) ≡ true
     or_true true b h = refl
     or_true false b h = h
-
-not_both : (b : Bool) → b ≡ true → b ≡ false → ⊥
-not_both b t f = cc
 
 -- a marker, where more segments go on from the same place
 marker_of_oldest : (x : Segment) (more : List Segment) (text tail u v : List ℕ) (code : ℕ) → SpellsMore (x ∷ more) text → SpellsMarker code tail → text ++ u ≡ tail ++ v
@@ -124,7 +122,7 @@ same_tail x y xs ys e = cc
 
 -- a scan among segments
 no_scan : (later before : List Segment) (contents : List ℕ) (xs : List Segment) → xs ≡ later ++ (0xda, contents) ∷ before → has_scan xs ≡ false → ⊥
-no_scan later before contents xs e none = not_both (has_scan xs) (ap has_scan e ∙ any_behind (λ s. s.0 == 0xda) later (0xda, contents) before refl) none
+no_scan later before contents xs e none = clash (has_scan xs) (ap has_scan e ∙ any_behind (λ s. s.0 == 0xda) later (0xda, contents) before refl) none
 
 scan_goes_on : (before more : List Segment) (contents others : List ℕ) (later : List Segment) → (0xda, others) ∷ more ≡ later ++ (0xda, contents) ∷ before → has_scan more ≡ false → (later ≡ []) × (before ≡ more)
 scan_goes_on before more contents others [] e none = (refl, sym (same_tail (0xda, others) (0xda, contents) more before e))

@@ -7,6 +7,7 @@ use Rattle.jpg_spec.specs.declared.fault.Fault.{Fault}
 use Rattle.jpg_spec.specs.declared.fault.Fault.TheVariants.{Truncated, InputTooLong}
 use Rattle.jpg_spec.specs.declared.frame.Limits.{Limits}
 use Rattle.jpg_spec.proofs.Reached.{reached_once, least}
+use Rattle.jpg_spec.proofs.Common.{clash}
 use Rattle.jpg_markers.specs.declared.segments.Phase.{Phase}
 use Rattle.jpg_markers.specs.declared.segments.Phase.TheVariants as phase
 use Rattle.jpg_markers.specs.Reading.{Reading, AtPhase, StandsFor}
@@ -27,11 +28,8 @@ appends_as P Q text old new h f = (h.0, h.1, f (text ++ h.0) h.2)
 
 -- FRONTS
 
-pub front_is : (n : ℕ) (front rest : List ℕ) → n ≤ length front → take n (front ++ rest) ≡ take n front
-front_is n front rest h = take-append-le n front rest h
-
 pub whole_front : (front rest : List ℕ) → take (length front) (front ++ rest) ≡ front
-whole_front front rest = front_is (length front) front rest (omega arith) ∙ take_all (length front) front (omega arith)
+whole_front front rest = take-append-le (length front) front rest (omega arith) ∙ take_all (length front) front (omega arith)
 
 -- What the bytes come to tells where they are whole: `goes` is false there and at faults.
 pub record Tells (limits : Limits) (is_whole : List ℕ → Type 0) : Type 0 where
@@ -39,15 +37,12 @@ pub record Tells (limits : Limits) (is_whole : List ℕ → Type 0) : Type 0 whe
   pub faulty : (f : Fault) → goes (at_fault f) ≡ false
   pub wholes : (bytes : List ℕ) → is_whole bytes → (y : Reached) × Reaches (kept_rule limits) bytes y × (goes y ≡ false)
 
-not_both : (b : Bool) → b ≡ true → b ≡ false → ⊥
-not_both b t f = absurd cc
-
 -- bytes that go on are not whole and show no fault
 pub goes_on : (limits : Limits) (is_whole : List ℕ → Type 0) (t : Tells limits is_whole) (bytes : List ℕ) (x : Reached) → t.goes x ≡ true → Reaches (kept_rule limits) bytes x
     → ((fault : Fault) → SegmentsShow (kept_rule limits) fault bytes → ⊥) × (is_whole bytes → ⊥)
 goes_on limits is_whole t bytes x going reaches = (
-  λ fault s. not_both (t.goes x) going (ap t.goes (reached_once (kept_rule limits) bytes x (at_fault fault) reaches s) ∙ t.faulty fault),
-  λ w. (let y = t.wholes bytes w in not_both (t.goes x) going (ap t.goes (reached_once (kept_rule limits) bytes x y.0 reaches y.1) ∙ y.2)),
+  λ fault s. clash (t.goes x) going (ap t.goes (reached_once (kept_rule limits) bytes x (at_fault fault) reaches s) ∙ t.faulty fault),
+  λ w. (let y = t.wholes bytes w in clash (t.goes x) going (ap t.goes (reached_once (kept_rule limits) bytes x y.0 reaches y.1) ∙ y.2)),
 )
 
 pub upto : (n m : ℕ) → (n ≤ m) ⊎ (m < n)
@@ -69,7 +64,7 @@ nothing_more limits is_whole t bytes byte x going reaches before = λ n long. by
 
     by : (n : ℕ) → (n ≤ length bytes) ⊎ (length bytes < n) → ((fault : Fault) → SegmentsShow (kept_rule limits) fault (take n all) → ⊥) × (is_whole (take n all) → ⊥)
     by n (inl h) =
-        let e = front_is n bytes (byte ∷ []) h in
+        let e = take-append-le n bytes (byte ∷ []) h in
         let old = before n h in
         (λ fault s. old.0 fault (subst (λ l. SegmentsShow (kept_rule limits) fault l) e s), λ w. old.1 (subst is_whole e w))
     by n (inr h) =
@@ -104,16 +99,16 @@ taken_on limits is_whole t r next bytes byte before more x h short same one goin
 least_longer : (rule : Rule) (front rest : List ℕ) (f : Fault) → IsLeast (SegmentsShow rule) front f (length front) → IsLeast (SegmentsShow rule) (front ++ rest) f (length front)
 least_longer rule front rest f h = (
   omega (arith, length-append front rest),
-  subst (λ l. SegmentsShow rule f l) (sym (front_is (length front) front rest (omega arith))) h.1,
-  λ other m less s. h.2 other m less (subst (λ l. SegmentsShow rule other l) (front_is m front rest (omega (arith, less))) s),
-  λ other less s. h.3 other less (subst (λ l. SegmentsShow rule other l) (front_is (length front) front rest (omega arith)) s),
+  subst (λ l. SegmentsShow rule f l) (sym (take-append-le (length front) front rest (omega arith))) h.1,
+  λ other m less s. h.2 other m less (subst (λ l. SegmentsShow rule other l) (take-append-le m front rest (omega (arith, less))) s),
+  λ other less s. h.3 other less (subst (λ l. SegmentsShow rule other l) (take-append-le (length front) front rest (omega arith)) s),
 )
 
 -- the first bytes that show a fault show it first of all bytes that begin with them
 pub first_fault : (limits : Limits) (is_whole : List ℕ → Type 0) (front rest : List ℕ) (f : Fault) → ShowsFirst limits is_whole front f
     → IsMarkerFault limits is_whole (front ++ rest) f (length front)
 first_fault limits is_whole front rest f s = (
-  λ m less w. s.0 m less (subst is_whole (front_is m front rest (omega (arith, less))) w),
+  λ m less w. s.0 m less (subst is_whole (take-append-le m front rest (omega (arith, less))) w),
   inl (s.1, least_longer (kept_rule limits) front rest f (least (kept_rule limits) front f s.2)),
 )
 
@@ -122,7 +117,7 @@ pub long_fault : (limits : Limits) (is_whole : List ℕ → Type 0) (front rest 
     → IsMarkerFault limits is_whole (front ++ rest) InputTooLong (limits.input)
 long_fault limits is_whole front rest long nothing =
     let e : take (limits.input) (front ++ rest) ≡ front = ap (λ n. take n (front ++ rest)) (sym long) ∙ whole_front front rest in (
-      λ m less w. (nothing m (omega (arith, long, less))).1 (subst is_whole (front_is m front rest (omega (arith, long, less))) w),
+      λ m less w. (nothing m (omega (arith, long, less))).1 (subst is_whole (take-append-le m front rest (omega (arith, long, less))) w),
       inr (inl (refl, refl, omega (arith, long, length-append front rest), subst (λ l. ShowsNothing limits is_whole l) (sym e) nothing)),
     )
 
@@ -140,7 +135,7 @@ pub shows_first : (limits : Limits) (is_whole : List ℕ → Type 0) (bytes : Li
 shows_first limits is_whole bytes byte f nothing short s = (
   λ m less w.
       (let small : m ≤ length bytes = omega (arith, less, length-append bytes (byte ∷ [])) in
-      (nothing m small).1 (subst is_whole (front_is m bytes (byte ∷ []) small) w)),
+      (nothing m small).1 (subst is_whole (take-append-le m bytes (byte ∷ []) small) w)),
   omega (arith, short, length-append bytes (byte ∷ [])),
   s,
 )

@@ -21,3 +21,7 @@ BeginsWhole limits bytes n before = (n ≤ length bytes) × IsReadWhole limits (
 -- No two lists are such ones.
 abbrev pub AtMostOne : (List ℕ → Type 0) → Type 0
 AtMostOne Is = (text other : List ℕ) → Is text → Is other → text ≡ other
+
+-- There is one such front at most, and it has one list of segments.
+abbrev pub AtMostOneFront : (ℕ → List Segment → Type 0) → Type 0
+AtMostOneFront Is = (n m : ℕ) (before more : List Segment) → Is n before → Is m more → (n ≡ m) × (before ≡ more)

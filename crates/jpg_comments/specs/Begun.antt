@@ -1,4 +1,4 @@
--- A file as far as it was read, segment by segment (T.81 B.1.1.2 to B.1.1.4).
+-- A file as far as it was read, segment by segment (T.81, B.1.1.2 to B.1.1.4).
 use Rattle.std.specs.Prelude.{◌≡◌, ◌⊎◌, ℕ, ◌<◌, ◌≤◌, true, List, [], ◌∷◌, ◌++◌, length, take}
 use Rattle.jpg_spec.specs.Markers.{Segment, Rule, kept_rule, is_frame_code, Between, BeginsSegment, PartOfSegment, SegmentsShow}
 use Rattle.jpg_spec.specs.CommentText.{ShowsNothing}

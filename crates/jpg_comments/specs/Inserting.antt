@@ -1,4 +1,4 @@
--- A file with one comment more, written as it is read (T.81 B.2.4.5, the manual of wrjpgcom in release 6b).
+-- A file with one comment more, written as it is read (T.81, B.2.4.5, the manual of wrjpgcom in release 6b).
 use Rattle.std.specs.Prelude.{◌≡◌, ◌⊎◌, ℕ, ◌+◌, ◌-◌, ◌<◌, ◌≤◌, Bool, true, false, ◌&&◌, ◌==◌, if◌then◌else◌, List, [], ◌∷◌, ◌++◌, length, take, flat_map, Option, Some, None, Result, Ok, Err}
 use Rattle.jpg_spec.specs.FileText.{segment_text}
 use Rattle.jpg_spec.specs.Markers.{Segment, soi, has_frame}
@@ -19,22 +19,22 @@ abbrev pub HoldsHead : Limits → List ℕ → Type 0
 HoldsHead limits bytes = (code : ℕ) × SomeSegments (λ before. IsFileFront limits bytes before code)
 
 -- SOI and the segments, as they are written
-abbrev pub head_text : Bool → List Segment → List ℕ
-head_text replace before = soi ++ flat_map (λ s. segment_text s.0 s.1) (head_segments replace before)
+abbrev pub copied_head : Bool → List Segment → List ℕ
+copied_head replace before = soi ++ flat_map (λ s. segment_text s.0 s.1) (head_segments replace before)
 
 -- what is written of a segment
-abbrev pub kept_text : Bool → ℕ → List ℕ → List ℕ
-kept_text replace code contents = if replace && code == 0xfe then [] else segment_text code contents
+abbrev pub copied_segment : Bool → ℕ → List ℕ → List ℕ
+copied_segment replace code contents = if replace && code == 0xfe then [] else segment_text code contents
 
 -- The head is kept of bytes that were given to a reader, in which the frame header's marker isn't there yet.
 abbrev pub HasKept : Limits → Bool → List ℕ → List ℕ → Reading → Type 0
 HasKept limits replace bytes head r =
-    (before : List Segment) × HasTaken limits (HoldsHead limits) bytes before r × (has_frame before ≡ false) × (head ≡ head_text replace before)
+    (before : List Segment) × HasTaken limits (HoldsHead limits) bytes before r × (has_frame before ≡ false) × (head ≡ copied_head replace before)
 
 -- the frame header's marker is there
 abbrev pub IsAtFrame : Limits → Bool → List ℕ → List ℕ → Reading → Type 0
 IsAtFrame limits replace bytes head r =
-    (before : List Segment) × IsFileFront limits bytes before r.code × (head ≡ head_text replace before) × (r.taken ≡ length bytes) × (length bytes ≤ limits.input)
+    (before : List Segment) × IsFileFront limits bytes before r.code × (head ≡ copied_head replace before) × (r.taken ≡ length bytes) × (length bytes ≤ limits.input)
 
 -- with a byte more
 abbrev pub AfterHeadByte : Limits → Bool → List ℕ → Result Bool Stop → List ℕ → Reading → Type 0
@@ -62,16 +62,16 @@ KeepsPiece replace old piece had answer head new =
 
 -- the last segment, whose contents fit into one
 abbrev pub KeepsSegment : Bool → Reading → List ℕ → Result (Unit {0}) NoMemory → List ℕ → Type 0
-KeepsSegment replace r had answer head = length r.contents ≤ 65533 → AppendsText (kept_text replace r.code r.contents) answer had head
+KeepsSegment replace r had answer head = length r.contents ≤ 65533 → AppendsText (copied_segment replace r.code r.contents) answer had head
 
 -- THE REST
 
 -- It is copied whole, and the answer tells how many bytes were taken; or as many as may be taken; or nothing.
-abbrev pub Copies : ℕ → ℕ → List ℕ → Result ℕ Stop → List ℕ → List ℕ → Type 0
-Copies taken most rest (Ok n) old new = (n ≡ taken + length rest) × (n < most) × (new ≡ old ++ rest)
-Copies taken most rest (Err (stop.Fault f)) old new =
+abbrev pub CopiesRest : ℕ → ℕ → List ℕ → Result ℕ Stop → List ℕ → List ℕ → Type 0
+CopiesRest taken most rest (Ok n) old new = (n ≡ taken + length rest) × (n < most) × (new ≡ old ++ rest)
+CopiesRest taken most rest (Err (stop.Fault f)) old new =
     (f.fault ≡ InputTooLong) × (f.at ≡ most) × (most ≤ taken + length rest) × (new ≡ old ++ take (most - taken) rest)
-Copies taken most rest (Err stop.NoMemory) old new = new ≡ old
+CopiesRest taken most rest (Err stop.NoMemory) old new = new ≡ old
 
 -- THE ANSWERS
 

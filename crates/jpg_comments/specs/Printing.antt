@@ -1,4 +1,4 @@
--- The comments of a file, printed as they come (T.81 B.2.4.5, the manual of rdjpgcom in release 6b).
+-- The comments of a file, printed as they come (T.81, B.2.4.5, the manual of rdjpgcom in release 6b).
 use Rattle.std.specs.Prelude.{◌≡◌, ℕ, ◌<◌, ◌≤◌, Bool, true, false, List, [], ◌∷◌, ◌++◌, length, take, Result, Ok, Err, ◌==◌, if◌then◌else◌}
 use Rattle.jpg_spec.specs.Markers.{Segment, kept_rule, has_scan}
 use Rattle.jpg_spec.specs.CommentText.{printed, comments_text, IsReadWhole, SomeSegments, IsReadFault}
@@ -36,30 +36,30 @@ PrintsPart limits bytes text =
     (n : ℕ) × (front : ℕ) × (before : List Segment) × IsBegun (kept_rule limits) (take front bytes) before × (text ≡ take n (comments_text before))
 
 -- with a byte more
-abbrev pub AfterByte : Limits → List ℕ → List ℕ → Result Bool Stop → Reading → Type 0
-AfterByte limits bytes text (Ok false) r = HasPrinted limits bytes text r
-AfterByte limits bytes text (Ok true) r = PrintsWhole limits bytes text
-AfterByte limits bytes text (Err (stop.Fault f)) r =
+abbrev pub AfterPrintedByte : Limits → List ℕ → List ℕ → Result Bool Stop → Reading → Type 0
+AfterPrintedByte limits bytes text (Ok false) r = HasPrinted limits bytes text r
+AfterPrintedByte limits bytes text (Ok true) r = PrintsWhole limits bytes text
+AfterPrintedByte limits bytes text (Err (stop.Fault f)) r =
     ShowsFirst limits (HoldsWhole limits) bytes f.fault × (f.at ≡ length bytes) × PrintsBefore limits bytes f.fault text
-AfterByte limits bytes text (Err stop.NoMemory) r = PrintsPart limits bytes text
+AfterPrintedByte limits bytes text (Err stop.NoMemory) r = PrintsPart limits bytes text
 
 -- with a piece more, whatever follows it, by the reader that is left
-abbrev pub AfterPiece : Limits → List ℕ → List ℕ → List ℕ → Result Fed Stop → Reading → Type 0
-AfterPiece limits bytes piece text (Ok fed.More) r = HasPrinted limits (bytes ++ piece) text r × (length (bytes ++ piece) < limits.input)
-AfterPiece limits bytes piece text (Ok (fed.Done used)) r = PrintsWhole limits (bytes ++ take used piece) text × (1 ≤ used) × (used ≤ length piece)
-AfterPiece limits bytes piece text (Err (stop.Fault f)) r =
+abbrev pub AfterPrintedPiece : Limits → List ℕ → List ℕ → List ℕ → Result Fed Stop → Reading → Type 0
+AfterPrintedPiece limits bytes piece text (Ok fed.More) r = HasPrinted limits (bytes ++ piece) text r × (length (bytes ++ piece) < limits.input)
+AfterPrintedPiece limits bytes piece text (Ok (fed.Done used)) r = PrintsWhole limits (bytes ++ take used piece) text × (1 ≤ used) × (used ≤ length piece)
+AfterPrintedPiece limits bytes piece text (Err (stop.Fault f)) r =
     ((rest : List ℕ) → IsReadFault limits (bytes ++ piece ++ rest) f.fault f.at) × PrintsBefore limits (take f.at (bytes ++ piece)) f.fault text
-AfterPiece limits bytes piece text (Err stop.NoMemory) r = PrintsPart limits (bytes ++ piece) text
+AfterPrintedPiece limits bytes piece text (Err stop.NoMemory) r = PrintsPart limits (bytes ++ piece) text
 
 -- FOR ALL BYTES that a reader was given, and the text that was appended for them
 
 abbrev pub PrintsByte : Reading → ℕ → List ℕ → Result Bool Stop → List ℕ → Reading → Type 0
 PrintsByte old byte had answer out new =
-    (bytes text : List ℕ) → HasPrinted old.limits bytes text old → Appends (λ all. AfterByte old.limits (bytes ++ byte ∷ []) all answer new) text had out
+    (bytes text : List ℕ) → HasPrinted old.limits bytes text old → Appends (λ all. AfterPrintedByte old.limits (bytes ++ byte ∷ []) all answer new) text had out
 
 abbrev pub PrintsPiece : Reading → List ℕ → List ℕ → Result Fed Stop → List ℕ → Reading → Type 0
 PrintsPiece old piece had answer out new =
-    (bytes text : List ℕ) → HasPrinted old.limits bytes text old → Appends (λ all. AfterPiece old.limits bytes piece all answer new) text had out
+    (bytes text : List ℕ) → HasPrinted old.limits bytes text old → Appends (λ all. AfterPrintedPiece old.limits bytes piece all answer new) text had out
 
 -- A SEGMENT
 

@@ -1,4 +1,4 @@
--- The comments of a file that is fed piece by piece (T.81 B.2.4.5, the manual of rdjpgcom in release 6b).
+-- The comments of a file that is fed piece by piece (T.81, B.2.4.5, the manual of rdjpgcom in release 6b).
 use Rattle.std.specs.Prelude.{◌≡◌, ℕ, ◌<◌, ◌≤◌, Bool, true, false, List, ◌++◌, length, take, Option, Result, Ok, Err, None}
 use Rattle.jpg_spec.specs.CommentText.{IsReadFault}
 use Rattle.jpg_spec.specs.declared.frame.Limits.{Limits}

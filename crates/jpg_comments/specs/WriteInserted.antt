@@ -1,7 +1,7 @@
--- A file that is fed piece by piece and written with one comment more (T.81 B.2.4.5, the manual of wrjpgcom in release 6b).
-use Rattle.std.specs.Prelude.{◌≡◌, ℕ, ◌<◌, ◌≤◌, Bool, List, [], ◌++◌, length, Option, Some, None, Result, Ok, Err}
+-- A file that is fed piece by piece and written with one comment more (T.81, B.2.4.5, the manual of wrjpgcom in release 6b).
+use Rattle.std.specs.Prelude.{◌≡◌, ℕ, ◌<◌, ◌≤◌, Bool, List, [], ◌++◌, length, Option, Some, None, Result, Ok, Err, ◌+◌}
 use Rattle.std.specs.Option.{unwrap_or}
-use Rattle.jpg_spec.specs.CommentText.{IsHeadFault, IsInserted, comment_segment}
+use Rattle.jpg_spec.specs.CommentText.{IsHeadFault, IsInserted, comment_segment, longest_comment}
 use Rattle.jpg_spec.specs.declared.fault.Fault.TheVariants.{CommentTooLong}
 use Rattle.jpg_spec.specs.declared.frame.Limits.{Limits}
 use Rattle.jpg_base.specs.declared.stop.Fed.{Fed}
@@ -42,9 +42,9 @@ HasInserted comment bytes text c =
 
 -- A comment has at most 65,000 bytes.
 abbrev pub IsNewInsert : Limits → List ℕ → Bool → Result Insert Stop → Type 0
-IsNewInsert limits comment replace (Ok c) = (length comment ≤ 65000) × HasInserted comment [] [] c × (c.limits ≡ limits) × (c.replace ≡ replace)
-IsNewInsert limits comment replace (Err (stop.Fault f)) = (f.fault ≡ CommentTooLong) × (f.at ≡ 65001) × (65000 < length comment)
-IsNewInsert limits comment replace (Err stop.NoMemory) = length comment ≤ 65000
+IsNewInsert limits comment replace (Ok c) = (length comment ≤ longest_comment) × HasInserted comment [] [] c × (c.limits ≡ limits) × (c.replace ≡ replace)
+IsNewInsert limits comment replace (Err (stop.Fault f)) = (f.fault ≡ CommentTooLong) × (f.at ≡ longest_comment + 1) × (longest_comment < length comment)
+IsNewInsert limits comment replace (Err stop.NoMemory) = length comment ≤ longest_comment
 
 -- THE ANSWERS, by all bytes so far and by the whole text that was written for them
 
@@ -66,13 +66,13 @@ EndsInsert limits comment replace bytes text (Err stop.NoMemory) = ⊥
 
 -- FOR ALL BYTES that were fed before, with any comment, and the text that was written for them
 
-abbrev pub Takes : Insert → List ℕ → List ℕ → Result (Unit {0}) Stop → List ℕ → Insert → Type 0
-Takes old piece had answer out new =
+abbrev pub TakesBytes : Insert → List ℕ → List ℕ → Result (Unit {0}) Stop → List ℕ → Insert → Type 0
+TakesBytes old piece had answer out new =
     (comment bytes text : List ℕ) → HasInserted comment bytes text old → Appends (λ all. AfterTake comment bytes piece all answer new) text had out
 
 abbrev pub Inserts : Insert → List ℕ → List ℕ → Result Fed Stop → List ℕ → Insert → Type 0
 Inserts old piece had answer out new =
     (comment bytes text : List ℕ) → HasInserted comment bytes text old → Appends (λ all. AfterInsert comment bytes piece all answer new) text had out
 
-abbrev pub Ends : Insert → Result (Unit {0}) Stop → Type 0
-Ends old answer = (comment bytes text : List ℕ) → HasInserted comment bytes text old → EndsInsert old.limits comment old.replace bytes text answer
+abbrev pub EndsText : Insert → Result (Unit {0}) Stop → Type 0
+EndsText old answer = (comment bytes text : List ℕ) → HasInserted comment bytes text old → EndsInsert old.limits comment old.replace bytes text answer

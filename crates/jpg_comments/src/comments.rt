@@ -1,4 +1,4 @@
-// The comments of a file, read piece by piece (T.81 B.2.4.5).
+// The comments of a file, read piece by piece (T.81, B.2.4.5).
 ghost use Rattle.std.specs.Prelude.{◌≡◌, ◌<◌, ◌+◌, ◌-◌, length, [], ℕ, List, Some, None, true, false, Ok, Err};
 ghost use Rattle.jpg_spec.specs.FrameHeader.{AreLimits};
 ghost use Rattle.jpg_base.specs.declared.stop.Stop.{Stop as Stopped};

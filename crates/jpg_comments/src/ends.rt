@@ -6,7 +6,7 @@ ghost use Rattle.jpg_base.specs.declared.stop.Stop.TheVariants as stop;
 use jpg_base::Stop;
 use jpg_spec::{Fault, FaultAt};
 
-// It has as many bytes as may be taken.
+/// It has as many bytes as may be taken.
 pub fn too_long(most: u64) -> Stop
     ensures { result ≡ stop.Fault (record { fault = InputTooLong; at = most }) }
 {
@@ -16,7 +16,7 @@ pub fn too_long(most: u64) -> Stop
     })
 }
 
-// It ends after as many bytes as were taken.
+/// It ends after as many bytes as were taken.
 pub fn truncated(taken: u64) -> Stop
     ensures { result ≡ stop.Fault (record { fault = Truncated; at = taken }) }
 {

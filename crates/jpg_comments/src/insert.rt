@@ -1,11 +1,11 @@
-// A file with one comment more, written piece by piece (T.81 B.2.4.5).
+// A file with one comment more, written piece by piece (T.81, B.2.4.5).
 ghost use Rattle.std.specs.Prelude.{◌≡◌, ◌≤◌, ◌<◌, ◌+◌, ◌-◌, ◌++◌, ◌∷◌, [], ℕ, List, Some, None, Ok, Err, IfOk, IfSome, length};
 ghost use Rattle.jpg_spec.specs.FrameHeader.{AreLimits};
 ghost use Rattle.jpg_base.specs.declared.stop.Stop.{Stop as Stopped};
 ghost use Rattle.jpg_base.specs.declared.stop.Fed.TheVariants as fed;
 ghost use Rattle.jpg_markers.specs.Reading.{reading_of};
 ghost use Rattle.jpg_comments.specs.Appending.{AppendsText};
-ghost use Rattle.jpg_comments.specs.Inserting.{Copies, KeepsByte, KeepsPiece, KeepsSegment};
+ghost use Rattle.jpg_comments.specs.Inserting.{CopiesRest, KeepsByte, KeepsPiece, KeepsSegment};
 
 use crate::append_segment;
 use crate::ends::{too_long, truncated};
@@ -14,8 +14,8 @@ use jpg_markers::{SegStep, SegmentReader};
 use jpg_spec::{Fault, FaultAt, Limits};
 use std::alloc::Global;
 
-// The most bytes of a comment that is inserted.
-const LONGEST_COMMENT: usize = 65_000;
+/// The most bytes of a comment that is inserted.
+pub const LONGEST_COMMENT: usize = 65_000;
 
 // The most bytes of a segment's contents.
 const LONGEST: usize = 65_533;
@@ -37,7 +37,7 @@ pub struct Insert {
 }
 
 impl Insert {
-    ghost use Rattle.jpg_comments.specs.WriteInserted.{insert_limits, insert_stop, insert_taken, is_replacing, Ends, HasInserted, Inserts, IsNewInsert, Takes};
+    ghost use Rattle.jpg_comments.specs.WriteInserted.{insert_limits, insert_stop, insert_taken, is_replacing, EndsText, HasInserted, Inserts, IsNewInsert, TakesBytes};
 
     /// A writer that was given no bytes. With `replace` it drops the comments that stand before the
     /// frame header. An empty comment inserts nothing. It answers CommentTooLong at 65,001 where the
@@ -49,7 +49,7 @@ impl Insert {
         if comment.len() > LONGEST_COMMENT {
             return Err(Stop::Fault(FaultAt {
                 fault: Fault::CommentTooLong,
-                at: 65_001,
+                at: LONGEST_COMMENT as u64 + 1,
             }));
         }
         let mut head = Bytes::new(alloc);
@@ -112,7 +112,7 @@ impl Insert {
     /// The file ends here. It answers the earlier stop, and else Ok where the marker of the frame
     /// header was reached, and Truncated at the number of bytes taken where it wasn't.
     pub fn end(&mut self) -> Result<(), Stop>
-        ensures answered { Ends self.old result }
+        ensures answered { EndsText self.old result }
         ensures stopped { (stop : Stopped) → result ≡ Err stop → insert_stop self.new ≡ Some stop }
         ensures again { (stop : Stopped) → insert_stop self.old ≡ Some stop → (result ≡ Err stop) × (self.new ≡ self.old) }
         ensures limits { insert_limits self.new ≡ insert_limits self.old }
@@ -131,7 +131,7 @@ impl Insert {
 
     // A piece, where nothing stopped.
     fn take(&mut self, piece: &[u8], out: &mut Bytes) -> Result<(), Stop>
-        ensures answered { Takes self.old piece.now out.old result out.new self.new }
+        ensures answered { TakesBytes self.old piece.now out.old result out.new self.new }
         ensures limits { insert_limits self.new ≡ insert_limits self.old }
         ensures replace { is_replacing self.new ≡ is_replacing self.old }
     {
@@ -148,7 +148,7 @@ impl Insert {
     // A piece, where the frame header's marker isn't there yet.
     fn begin(&mut self, piece: &[u8], out: &mut Bytes) -> Result<(), Stop>
         requires { self.old.taken ≡ None }
-        ensures answered { Takes self.old piece.now out.old result out.new self.new }
+        ensures answered { TakesBytes self.old piece.now out.old result out.new self.new }
         ensures limits { insert_limits self.new ≡ insert_limits self.old }
         ensures replace { is_replacing self.new ≡ is_replacing self.old }
     {
@@ -246,7 +246,7 @@ fn write_head(head: &[u8], segment: &[u8], code: u8, out: &mut Bytes) -> Result<
 
 // Copies the bytes behind that, but none past the most that may be taken, and tells how many were taken.
 fn copy(taken: u64, most: u64, rest: &[u8], out: &mut Bytes) -> Result<u64, Stop>
-    ensures { Copies taken most rest.now result out.old out.new }
+    ensures { CopiesRest taken most rest.now result out.old out.new }
 {
     let room = most.saturating_sub(taken);
     let length = rest.len() as u64;

@@ -1,12 +1,12 @@
 //! Laws over the answers of rdjpgcom and wrjpgcom: a file that is whole has one text and no fault, and
-//! one that has a fault has one (T.81 B.1.1.2 to B.1.1.4).
+//! one that has a fault has one (T.81, B.1.1.2 to B.1.1.4).
 ghost use Rattle.std.specs.Prelude.{◌≡◌, ℕ, Bool, List};
 ghost use Rattle.jpg_spec.specs.Markers.{Segment};
 ghost use Rattle.jpg_spec.specs.CommentText.{IsReadFault, IsHeadFault, IsInsertFault, IsInserted};
-ghost use Rattle.jpg_spec.specs.declared.answers.FaultAt.{FaultAt};
 ghost use Rattle.jpg_spec.specs.declared.fault.Fault.{Fault};
 ghost use Rattle.jpg_spec.specs.declared.frame.Limits.{Limits};
-ghost use Rattle.jpg_comments.specs.Answers.{AtMostOne, BeginsWhole, IsHeadFront, IsWholeFront};
+ghost use Rattle.jpg_spec.specs.Laws.{AtMostOneFault};
+ghost use Rattle.jpg_comments.specs.Answers.{AtMostOne, AtMostOneFront, BeginsWhole, IsHeadFront, IsWholeFront};
 
 /// Bytes that begin with a whole file, as rdjpgcom reads it, have no fault.
 pub fn whole_files_have_no_fault()
@@ -20,17 +20,17 @@ pub fn heads_have_no_fault()
 
 /// Bytes have one fault at one place for rdjpgcom, or none.
 pub fn read_faults_are_one()
-    ensures { (l : Limits) (bytes : List ℕ) (f g : FaultAt) → IsReadFault l bytes f.fault f.at → IsReadFault l bytes g.fault g.at → (f.fault ≡ g.fault) × (f.at ≡ g.at) }
+    ensures { (limits : Limits) (bytes : List ℕ) → AtMostOneFault (IsReadFault limits bytes) }
 {}
 
 /// Bytes have one fault at one place for wrjpgcom, or none.
 pub fn insert_faults_are_one()
-    ensures { (l : Limits) (bytes : List ℕ) (f g : FaultAt) → IsInsertFault l bytes f.fault f.at → IsInsertFault l bytes g.fault g.at → (f.fault ≡ g.fault) × (f.at ≡ g.at) }
+    ensures { (limits : Limits) (bytes : List ℕ) → AtMostOneFault (IsInsertFault limits bytes) }
 {}
 
 /// Bytes begin with one whole file at most, as rdjpgcom reads it.
 pub fn whole_files_are_one()
-    ensures { (l : Limits) (bytes : List ℕ) (n m : ℕ) (before more : List Segment) → BeginsWhole l bytes n before → BeginsWhole l bytes m more → (n ≡ m) × (before ≡ more) }
+    ensures { (limits : Limits) (bytes : List ℕ) → AtMostOneFront (BeginsWhole limits bytes) }
 {}
 
 /// A file with a comment inserted, as wrjpgcom writes it, is one.

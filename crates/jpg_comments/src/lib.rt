@@ -1,5 +1,5 @@
 //! Comments of a JPEG file: the text that rdjpgcom prints, and the segment that wrjpgcom writes
-//! (T.81 B.2.4.5, the manuals of both commands in release 6b).
+//! (T.81, B.2.4.5, the manuals of both commands in release 6b).
 #![tactic(auto)]
 
 mod comments;
@@ -10,7 +10,7 @@ mod printed;
 mod segment;
 
 pub use comments::Comments;
-pub use insert::Insert;
+pub use insert::{Insert, LONGEST_COMMENT};
 pub use printed::append_printed;
 pub use segment::append_segment;
 

@@ -28,8 +28,8 @@ pub fn append_printed(comment: &[u8], out: &mut Bytes) -> Result<(), NoMemory>
     out.push_all(b"\n")
 }
 
-/// The printed form of the line end or backslash that the bytes begin with, and the bytes behind it.
-/// CR and LF are one line end.
+// The printed form of the line end or backslash that the bytes begin with, and the bytes behind it.
+// CR and LF are one line end.
 fn first_escaped(bytes: &[u8]) -> (&'static [u8], &[u8])
     requires some { 1 ≤ length bytes.now }
     requires escaped { is_byte3 13 10 92 (slice_index bytes.now 0) ≡ true }
@@ -43,8 +43,8 @@ fn first_escaped(bytes: &[u8]) -> (&'static [u8], &[u8])
     }
 }
 
-/// Appends bytes without line ends and backslashes: each run of printable ASCII as it is, and other
-/// bytes in octal digits.
+// Appends bytes without line ends and backslashes: each run of printable ASCII as it is, and other
+// bytes in octal digits.
 fn append_plain(bytes: &[u8], out: &mut Bytes) -> Result<(), NoMemory>
     ensures { AppendsText (plain_text bytes.now) result out.old out.new }
 {
@@ -58,7 +58,7 @@ fn append_plain(bytes: &[u8], out: &mut Bytes) -> Result<(), NoMemory>
     out.push_all(rest)
 }
 
-/// The place of the first byte that isn't printable ASCII.
+// The place of the first byte that isn't printable ASCII.
 fn first_unprintable(bytes: &[u8]) -> Option<usize>
     ensures first { result ≡ position (λ byte. not (is_within 32 126 byte)) bytes.now }
     ensures within { IfSome result (λ place. place < length bytes.now) }
@@ -66,7 +66,7 @@ fn first_unprintable(bytes: &[u8]) -> Option<usize>
     bytes.iter().position(|byte| !(32..=126).contains(byte))
 }
 
-/// A backslash and the three octal digits of the byte.
+// A backslash and the three octal digits of the byte.
 fn octal(byte: u8) -> [u8; 4]
     ensures { result ≡ 92 ∷ octal byte }
 {

@@ -3,7 +3,7 @@ use Rattle.std.proofs.Common.{◌≡◌, ℕ, ◌+◌, ◌*◌, ◌<◌, List, [
 use Rattle.std.proofs.lemmas.List.{take_more_set, take_more, take_all, map-append, append_assoc, append-nil}
 use Rattle.std.proofs.lemmas.Grind.{flat_map-append}
 use Rattle.jpg_spec.specs.Lists.{below}
-use Rattle.jpg_spec.specs.Dct.{column, columns, sample_row, inverse}
+use Rattle.jpg_spec.specs.Dct.{column, columns, sample_row, inverse_dct}
 use Rattle.jpg_dct.specs.Told.{told}
 
 pub one_more : (start samples row : List ℕ) (at k r : ℕ) → at + k < length samples → k < length row → take (at + k) samples ≡ start ++ map told (take k row) → r ≡ told (get_or row k 0)
@@ -33,8 +33,8 @@ joined_is f [] = refl
 joined_is f (x ∷ xs) = ap (λ ys. f x ++ ys) (joined_is f xs)
 
 pub told_block : (values : List ℤ) (done : List (List ℤ)) (lows : List (List ℕ)) (samples : List ℕ) (u v : ℕ) → u ≡ 8 → v ≡ 8 → length done ≡ 8 → take u done ≡ map (column values) (below u)
-    → length lows ≡ 8 → map (map told) (take v lows) ≡ map (sample_row done) (below v) → samples ≡ flat_map (map told) lows → samples ≡ inverse values
-unfolding inverse
+    → length lows ≡ 8 → map (map told) (take v lows) ≡ map (sample_row done) (below v) → samples ≡ flat_map (map told) lows → samples ≡ inverse_dct values
+unfolding inverse_dct
 told_block values done lows samples u v eu ev ld du ll dv e =
     let d : done ≡ columns values = sym (take_all u done (omega (arith, eu, ld))) ∙ du ∙ ap (λ n. map (column values) (below n)) eu in
     let rows : map (map told) lows ≡ map (sample_row done) (below 8) = ap (map (map told)) (sym (take_all v lows (omega (arith, ev, ll)))) ∙ dv ∙ ap (λ n. map (sample_row done) (below n)) ev in

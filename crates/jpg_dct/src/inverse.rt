@@ -1,6 +1,6 @@
 // The samples of a block (T.81, A.3.3).
 ghost use Rattle.std.specs.Prelude.{◌≡◌, ◌≤◌, ◌*ℤ◌, pos, All, nat_abs, max};
-ghost use Rattle.jpg_spec.specs.Dct.{inverse};
+ghost use Rattle.jpg_spec.specs.Dct.{inverse_dct};
 
 use crate::{narrow, wide};
 
@@ -32,7 +32,7 @@ fn greatest(values: &[i32; 64]) -> u32
 /// The 64 samples of a block of dequantised coefficients, both in natural order.
 pub fn idct(values: &[i32; 64]) -> [u8; 64]
     requires { All (λ x. nat_abs x ≤ 67108864) values.now }
-    ensures { result ≡ inverse values.now }
+    ensures { result ≡ inverse_dct values.now }
 {
     if greatest(values) <= 8191 {
         narrow::block(values)

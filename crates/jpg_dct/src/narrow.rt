@@ -2,7 +2,7 @@
 ghost use Rattle.std.specs.Prelude.{◌≡◌, ◌+ℤ◌, ◌-ℤ◌, ◌*ℤ◌, pos, ◌+◌, ◌≤◌, ◌<◌, ◌/◌, ◌%◌, ◌^◌, map, All, ◌*◌, ◌++◌, take, max, min, flat_map, nat_abs, length};
 ghost use Rattle.std.specs.Int.{int_wrap, int_shr, cast_unsigned, w32};
 ghost use Rattle.jpg_dct.specs.Told.{told};
-ghost use Rattle.jpg_spec.specs.Dct.{even_sums, odd_sums, line_sums, column, columns, ranged, sample_row, inverse};
+ghost use Rattle.jpg_spec.specs.Dct.{even_sums, odd_sums, line_sums, column, columns, ranged, sample_row, inverse_dct};
 
 #[inline(always)]
 fn plus(a: i32, b: i32) -> i32
@@ -201,10 +201,10 @@ fn told_all(lows: &[[u32; 8]; 8]) -> [u8; 64]
     samples
 }
 
-// The columns of a block, and then its rows.
+/// The columns of a block, and then its rows.
 pub fn block(values: &[i32; 64]) -> [u8; 64]
     requires { All (λ x. nat_abs x ≤ 8191) values.now }
-    ensures { result ≡ inverse values.now }
+    ensures { result ≡ inverse_dct values.now }
 {
     let mut done = [[0; 8]; 8];
     for u in 0..8 {

@@ -1,7 +1,7 @@
 // The same line in 64 bits, for large coefficients.
 ghost use Rattle.std.specs.Prelude.{◌≡◌, ◌+ℤ◌, ◌-ℤ◌, ◌*ℤ◌, pos, ◌+◌, ◌≤◌, ◌<◌, ◌/◌, ◌%◌, ◌^◌, map, All, nat_abs, length, slice_index_or};
 ghost use Rattle.std.specs.Int.{int_wrap, int_shr, cast_unsigned, w64};
-ghost use Rattle.jpg_spec.specs.Dct.{even_sums, odd_sums, line_sums, column, columns, ranged, sample_row, inverse};
+ghost use Rattle.jpg_spec.specs.Dct.{even_sums, odd_sums, line_sums, column, columns, ranged, sample_row, inverse_dct};
 
 #[inline(always)]
 fn plus(a: i64, b: i64) -> i64
@@ -171,10 +171,10 @@ fn row(done: &[[i64; 8]; 8], v: usize) -> [u8; 8]
     [s0, s1, s2, s3, s4, s5, s6, s7]
 }
 
-// The columns of a block, and then its rows.
+/// The columns of a block, and then its rows.
 pub fn block(values: &[i32; 64]) -> [u8; 64]
     requires { All (λ x. nat_abs x ≤ 67108864) values.now }
-    ensures { result ≡ inverse values.now }
+    ensures { result ≡ inverse_dct values.now }
 {
     let mut done = [[0; 8]; 8];
     for u in 0..8 {

@@ -2,7 +2,6 @@
 use Rattle.std.proofs.Common.{◌≡◌, ℕ, zero, suc, ◌-◌, ◌*◌, ◌≤◌, min, false, cond, ◌==◌, List, [], ◌∷◌, ◌++◌, length, take, drop, refl, sym, ap, ◌∙◌, subst, arith}
 use Rattle.std.specs.Prelude.{map}
 use Rattle.std.proofs.lemmas.List.{append-nil, length-append, length-take, length-drop, take-append-drop}
-use Rattle.std.proofs.lemmas.Bool.Decides.{nat_tests}
 use Rattle.jpg_spec.specs.Lists.{chunks, chunks_of, is_distinct, joined}
 use Rattle.jpg_spec.specs.Geometry.{Frame, units, mcu_units, is_progressive}
 use Rattle.jpg_spec.specs.Segments.{ScanHead, head_components}
@@ -20,6 +19,7 @@ use Rattle.jpg_spec.proofs.PlacesSome.{head_units_some}
 use Rattle.jpg_spec.proofs.IntervalUnits.{sequential_units}
 use Rattle.jpg_spec.proofs.ScanSteps.{first_place}
 use Rattle.jpg_spec.proofs.ItemSteps.{scan_begun}
+use Rattle.jpg_spec.proofs.Common.{not_zero}
 use Rattle.jpg_coefs.specs.Picture.{Picture, map_of}
 use Rattle.jpg_coefs.specs.Machine.{Interval}
 use Rattle.jpg_huff.specs.declared.set.TableSet.{TableSet}
@@ -45,9 +45,6 @@ others_are (suc most) n (x ∷ xs) le =
     let b = length-drop (suc n) (x ∷ xs) in
     let c = ap length r.1 in
     ((omega (arith, a), omega (arith, a, b, c), r.0), ap (λ z. next ++ z) r.1 ∙ take-append-drop (suc n) (x ∷ xs))
-
-not_zero : (n : ℕ) → (suc n == 0) ≡ false
-not_zero n = grind (arith, nat_tests)
 
 pub record Cut (n : ℕ) (xs : List Place) : Type 0 where
   pub first : List Place

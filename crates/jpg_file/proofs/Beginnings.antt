@@ -1,35 +1,30 @@
 -- Which components were in a scan, item by item.
-use Rattle.std.proofs.Common.{◌≡◌, ℕ, Bool, true, false, cond, ◌==◌, List, [], ◌∷◌, refl, sym, ap, ◌∙◌, subst, arith, None}
-use Rattle.std.specs.Prelude.{◌||◌}
-use Rattle.std.proofs.lemmas.Bool.Decides.{nat_tests}
+use Rattle.std.proofs.Common.{◌≡◌, ℕ, Bool, true, false, cond, ◌==◌, List, [], ◌∷◌, refl, sym, ap, ◌∙◌, subst, Option, Some, None}
+use Rattle.std.specs.Prelude.{◌||◌, is_none, map}
 use Rattle.jpg_spec.specs.Lists.{is_among}
-use Rattle.jpg_spec.specs.Geometry.{Frame}
-use Rattle.jpg_spec.specs.Segments.{ScanHead, head_components}
+use Rattle.jpg_spec.specs.Geometry.{Frame, component_at}
+use Rattle.jpg_spec.specs.QuantContents.{Slots, quant_in}
+use Rattle.jpg_spec.specs.Segments.{QuantTable, ScanHead, head_components}
 use Rattle.jpg_spec.specs.Scan.{Blocks}
 use Rattle.jpg_spec.specs.Markers.{Segment, is_frame_code, has_frame, has_scan, code_fault}
-use Rattle.jpg_spec.specs.InForce.{frame_of, head_in, heads_of}
-use Rattle.jpg_spec.specs.History.{names, has_begun}
+use Rattle.jpg_spec.specs.InForce.{first_some, frame_of, head_in, heads_of, quant_in_force}
+use Rattle.jpg_spec.specs.History.{names, has_begun, quant_of}
 use Rattle.jpg_spec.specs.Items.{Item, segment, scan, segments_of}
 use Rattle.jpg_spec.specs.FileMeaning.{Leads}
 use Rattle.jpg_spec.specs.declared.frame.Limits.{Limits}
-use Rattle.jpg_spec.proofs.SingleFrame.{neither}
+use Rattle.jpg_spec.specs.declared.frame.ScanPart.{ScanPart}
 use Rattle.jpg_spec.proofs.FrameFound.{framed}
-use Rattle.jpg_spec.proofs.SingleFrame.{no_heads}
+use Rattle.jpg_spec.proofs.SingleFrame.{no_heads, no_quant}
 use Rattle.jpg_spec.proofs.Untouched.{frame_stays}
+use Rattle.jpg_spec.proofs.Common.{neither, not_same, clash, same_of}
 use Rattle.jpg_file.specs.declared.begun.Begun.{Begun}
-use Rattle.jpg_file.specs.Begun.{begun_at, HasBegun}
+use Rattle.jpg_file.specs.Held.{HeldTold, lacks_any}
+use Rattle.jpg_file.specs.Begun.{begun_at, quant_named, HasBegun}
 
 -- BEHIND A SEGMENT
 
-not_this : (code n : ℕ) → (code ≡ n → ⊥) → (code == n) ≡ false
-not_this code n h = grind (arith, nat_tests)
-
--- before a frame there is no scan
-clash : (b : Bool) → b ≡ true → b ≡ false → ⊥
-clash b x y = cc
-
 no_sos : (before : List Segment) (code : ℕ) → code_fault before code ≡ None → has_frame before ≡ false → (code == 0xda) ≡ false
-no_sos before code allowed none = not_this code 0xda (λ k. clash (has_frame before) (framed before (subst (λ c. code_fault before c ≡ None) k allowed)) none)
+no_sos before code allowed none = not_same code 0xda (λ k. clash (has_frame before) (framed before (subst (λ c. code_fault before c ≡ None) k allowed)) none)
 
 both_false : (a b : Bool) → a ≡ false → b ≡ false → (a || b) ≡ false
 both_false a b e f = ap (λ t. t || b) e ∙ f
@@ -42,12 +37,33 @@ unscanned limits (segment code contents ∷ items) blocks l none =
 unscanned limits (scan contents intervals ∷ items) blocks l none =
     absurd (clash (has_frame (segments_of items)) (framed (segments_of items) l.1) (neither (is_frame_code 0xda) (has_frame (segments_of items)) none).1)
 
-no_scan : (limits : Limits) (items : List Item) (blocks : Blocks) → Leads limits items blocks → has_frame (segments_of items) ≡ false → (f : Frame) → heads_of f (segments_of items) ≡ []
-no_scan limits items blocks l none f = no_heads f (segments_of items) (unscanned limits items blocks l none)
+-- a frame in force stays, and with none nothing was in a scan
+behind_other : {X : Type 0} (limits : Limits) (items : List Item) (blocks : Blocks) (code : ℕ) (contents : List ℕ) (seen : Frame → X) (none : X) → Leads limits items blocks → code_fault (segments_of items) code ≡ None
+    → (has_scan (segments_of items) ≡ false → (f : Frame) → seen f ≡ none) → seen (frame_of limits (segments_of items)) ≡ seen (frame_of limits ((code, contents) ∷ segments_of items))
+behind_other {X} limits items blocks code contents seen none leads allowed blank = by (has_frame before) refl
+  where
+    before : List Segment
+    before = segments_of items
+
+    by : (t : Bool) → has_frame before ≡ t → seen (frame_of limits before) ≡ seen (frame_of limits ((code, contents) ∷ before))
+    by true e = ap seen (sym (frame_stays limits before code contents e allowed))
+    by false e =
+        let n = unscanned limits items blocks leads e in
+        blank n (frame_of limits before) ∙ sym (blank n (frame_of limits ((code, contents) ∷ before)))
 
 pub begun_goes_on : (limits : Limits) (b : Begun) (items : List Item) (blocks : Blocks) (code : ℕ) (contents : List ℕ) → Leads limits items blocks → code_fault (segments_of items) code ≡ None → (code ≡ 0xda → ⊥) → HasBegun limits b (segments_of items)
     → HasBegun limits b ((code, contents) ∷ segments_of items)
-begun_goes_on limits b items blocks code contents leads allowed other k = record { four = λ i low. k.four i low ∙ ap (λ heads. has_begun heads i) (by (has_frame before) refl ∙ sym behind) }
+begun_goes_on limits b items blocks code contents leads allowed other k = record {
+  four = λ i low.
+      k.four i low
+      ∙ behind_other limits items blocks code contents (λ f. has_begun (heads_of f before) i) false leads allowed (λ n f. ap (λ heads. has_begun heads i) (no_heads f before n))
+      ∙ ap (λ heads. has_begun heads i) (sym heads_same);
+  quants = λ i low.
+      k.quants i low
+      ∙ behind_other limits items blocks code contents (λ f. quant_of f before i) None leads allowed (λ n f. no_quant f before i n)
+      ∙ sym (quants_same i);
+  there = k.there;
+}
   where
     before : List Segment
     before = segments_of items
@@ -55,12 +71,12 @@ begun_goes_on limits b items blocks code contents leads allowed other k = record
     new : Frame
     new = frame_of limits ((code, contents) ∷ before)
 
-    behind : heads_of new ((code, contents) ∷ before) ≡ heads_of new before
-    behind = ap (λ t. cond t (head_in new contents ∷ heads_of new before) (heads_of new before)) (not_this code 0xda other)
+    heads_same : heads_of new ((code, contents) ∷ before) ≡ heads_of new before
+    heads_same = ap (λ t. cond t (head_in new contents ∷ heads_of new before) (heads_of new before)) (not_same code 0xda other)
 
-    by : (t : Bool) → has_frame before ≡ t → heads_of (frame_of limits before) before ≡ heads_of new before
-    by true e = ap (λ f. heads_of f before) (sym (frame_stays limits before code contents e allowed))
-    by false e = no_scan limits items blocks leads e (frame_of limits before) ∙ sym (no_scan limits items blocks leads e new)
+    quants_same : (i : ℕ) → quant_of new ((code, contents) ∷ before) i ≡ quant_of new before i
+    quants_same i =
+        ap (λ t. cond t (first_some (quant_of new before i) (cond (names (head_in new contents) i) (quant_in_force before (component_at new i).quant) None)) (quant_of new before i)) (not_same code 0xda other)
 
 -- BEHIND A SCAN HEADER
 or_swap : (a b : Bool) → (a || b) ≡ (b || a)
@@ -69,12 +85,62 @@ or_swap true false = refl
 or_swap false true = refl
 or_swap false false = refl
 
-pub begun_more : (limits : Limits) (b new : Begun) (before : List Segment) (contents : List ℕ) (head : ScanHead) → head_in (frame_of limits before) contents ≡ head → ((i : ℕ) → begun_at new i ≡ (begun_at b i || is_among i (head_components head))) → HasBegun limits b before
-    → HasBegun limits new ((0xda, contents) ∷ before)
-begun_more limits b new before contents head e is k = record {
-  four = λ i low. is i ∙ ap (λ t. t || is_among i (head_components head)) (k.four i low) ∙ or_swap (has_begun (heads_of (frame_of limits before) before) i) (is_among i (head_components head))
+-- what these parts add
+pub record AddsParts (f : Frame) (slots : Slots) (b new : Begun) (head : ScanHead) : Type 0 where
+  pub seen : (i : ℕ) → begun_at new i ≡ (begun_at b i || is_among i (head_components head))
+  pub quants : (i : ℕ) → quant_in new.quants i ≡ first_some (quant_in b.quants i) (quant_named f slots head.parts i)
+  pub tables : (i : ℕ) → is_among i (head_components head) ≡ true → is_none (quant_in slots (component_at f i).quant) ≡ false
+
+some_first : {A : Type 0} (o q : Option A) → is_none o ≡ false → is_none (first_some o q) ≡ false
+some_first None q e = cc
+some_first (Some x) q e = refl
+
+some_last : {A : Type 0} (o q : Option A) → is_none q ≡ false → is_none (first_some o q) ≡ false
+some_last None q e = e
+some_last (Some x) q e = refl
+
+still_there : (a m : Bool) (o q : Option QuantTable) → (a || m) ≡ true → (a ≡ true → is_none o ≡ false) → (m ≡ true → is_none q ≡ false) → is_none (first_some o (cond m q None)) ≡ false
+still_there true m o q e old new = some_first o (cond m q None) (old refl)
+still_there false true o q e old new = some_last o q (new refl)
+still_there false false o q e old new = cc
+
+-- none of the tables that the parts need is lacking
+pub table_there : (h : HeldTold) (f : Frame) (parts : List ScanPart) (i : ℕ) → lacks_any h f parts ≡ false → is_among i (map (λ p. p.component) parts) ≡ true → is_none (quant_in h.quants (component_at f i).quant) ≡ false
+table_there h f [] i none among = cc
+table_there h f (p ∷ parts) i none among = by (p.component == i) refl among (λ m. table_there h f parts i (neither _ _ none).1 m)
+  where
+    by : (t : Bool) → (p.component == i) ≡ t → (t || is_among i (map (λ p. p.component) parts)) ≡ true → (is_among i (map (λ p. p.component) parts) ≡ true → is_none (quant_in h.quants (component_at f i).quant) ≡ false)
+        → is_none (quant_in h.quants (component_at f i).quant) ≡ false
+    by true e m older = ap (λ k. is_none (quant_in h.quants (component_at f k).quant)) (sym (same_of p.component i e)) ∙ (neither _ _ (neither _ _ none).0).0
+    by false e m older = older m
+
+pub begun_more : (limits : Limits) (b new : Begun) (before : List Segment) (contents : List ℕ) (head : ScanHead) (slots : Slots) → head_in (frame_of limits before) contents ≡ head
+    → ((slot : ℕ) → quant_in slots slot ≡ quant_in_force before slot) → AddsParts (frame_of limits before) slots b new head → HasBegun limits b before → HasBegun limits new ((0xda, contents) ∷ before)
+begun_more limits b new before contents head slots e held adds k = record {
+  four = λ i low. (adds.seen) i ∙ ap (λ t. t || is_among i (head_components head)) (k.four i low) ∙ or_swap (has_begun (heads_of (frame_of limits before) before) i) (is_among i (head_components head))
       ∙ ap (λ (h : ScanHead). names h i || has_begun (heads_of (frame_of limits before) before) i) (sym e);
+  quants = λ i low.
+      (let f = frame_of limits before in
+      let slot = (component_at f i).quant in
+      adds.quants i ∙ ap (λ o. first_some o (quant_named f slots head.parts i)) (k.quants i low)
+      ∙ ap (λ o. first_some (quant_of f before i) (cond (is_among i (head_components head)) o None)) (held slot)
+      ∙ ap (λ (h : ScanHead). first_some (quant_of f before i) (cond (names h i) (quant_in_force before slot) None)) (sym e));
+  there = λ i begun.
+      (let f = frame_of limits before in
+      ap is_none (adds.quants i)
+      ∙ still_there (begun_at b i) (is_among i (head_components head)) (quant_in b.quants i) (quant_in slots (component_at f i).quant) (sym (adds.seen i) ∙ begun) (k.there i) (adds.tables i));
 }
 
-pub none_begun : (limits : Limits) (b : Begun) → ((i : ℕ) → begun_at b i ≡ false) → HasBegun limits b []
-none_begun limits b none = record { four = λ i low. none i }
+pub none_begun : (limits : Limits) (b : Begun) → ((i : ℕ) → begun_at b i ≡ false) → ((i : ℕ) → quant_in b.quants i ≡ None) → HasBegun limits b []
+none_begun limits b none blank = record { four = λ i low. none i; quants = λ i low. blank i; there = λ i begun. clash_there i begun }
+  where
+    clash_there : (i : ℕ) → begun_at b i ≡ true → is_none (quant_in b.quants i) ≡ false
+    clash_there i e = absurd (clash (begun_at b i) e (none i))
+
+-- THE TABLES that parts keep, one after another
+pub some_twice : {A : Type 0} (o q : Option A) (a b : Bool) → first_some (first_some o (cond a q None)) (cond b q None) ≡ first_some o (cond (a || b) q None)
+some_twice (Some x) q a b = refl
+some_twice None q false b = refl
+some_twice None None true true = refl
+some_twice None None true false = refl
+some_twice None (Some x) true b = refl

@@ -1,5 +1,7 @@
 -- EOI, and scan headers of sequential frames, by the components that were in a scan.
-use Rattle.std.proofs.Common.{◌≡◌, ℕ, zero, suc, ◌<◌, ◌≤◌, Bool, true, false, cond, not, ◌==◌, ◌&&◌, List, [], ◌∷◌, ◌++◌, length, refl, sym, ap, ◌∙◌, arith, None, Ok}
+use Rattle.std.proofs.Common.{◌≡◌, ℕ, zero, suc, ◌<◌, ◌≤◌, Bool, true, false, cond, not, ◌==◌, ◌&&◌, List, [], ◌∷◌, ◌++◌, length, refl, sym, ap, ◌∙◌, subst, arith, None, Ok}
+use Rattle.std.specs.Prelude.{replicate}
+use Rattle.std.proofs.lemmas.List.{append-nil}
 use Rattle.jpg_spec.specs.Lists.{any_of, all_of, below}
 use Rattle.jpg_spec.specs.Faults.{Told, refuse}
 use Rattle.jpg_spec.specs.Geometry.{Frame, component_at, is_progressive}
@@ -9,12 +11,13 @@ use Rattle.jpg_spec.specs.Markers.{Segment, kept_rule}
 use Rattle.jpg_spec.specs.InForce.{frame_of, first_some, head_in, heads_of, quant_in_force}
 use Rattle.jpg_spec.specs.History.{names, has_begun, quant_of, lacks_table, is_same_table, is_next, admitted, is_complete}
 use Rattle.jpg_spec.specs.Items.{Item, segments_of}
-use Rattle.jpg_spec.specs.FileMeaning.{Means, meaning_of}
+use Rattle.jpg_spec.specs.FileMeaning.{meaning_of}
+use Rattle.jpg_spec.specs.FileStands.{IsWholeFile}
 use Rattle.jpg_spec.specs.FirstFault.{Shows}
 use Rattle.jpg_spec.specs.declared.fault.Fault.TheVariants.{MissingComponent, RepeatedScan, Progression, MissingTable, QuantChanged}
 use Rattle.jpg_spec.specs.declared.frame.Limits.{Limits}
-use Rattle.jpg_spec.proofs.SingleFrame.{neither}
-use Rattle.jpg_spec.proofs.ItemSteps.{file_whole, missing_shown}
+use Rattle.jpg_spec.proofs.ItemSteps.{fill_marker, missing_shown}
+use Rattle.jpg_spec.proofs.Common.{neither}
 use Rattle.jpg_file.specs.declared.begun.Begun.{Begun}
 use Rattle.jpg_file.specs.declared.items.Items.{Items}
 use Rattle.jpg_file.specs.Begun.{begun_at, HasBegun}
@@ -40,8 +43,27 @@ pub complete_is : (limits : Limits) (b : Begun) (before : List Segment) → HasB
 complete_is limits b before k few = all_same _ (begun_at b) (length (frame_of limits before).components) (λ i low. sym (k.four i (omega (arith, low, few))))
 
 pub file_ends : (limits : Limits) (bytes : List ℕ) (items : List Item) (blocks : Blocks) (w : Items) → BehindEnd limits bytes items blocks w → is_complete (frame_of limits (segments_of items)) (segments_of items) ≡ true → length bytes ≤ limits.input
-    → Means limits bytes (meaning_of (frame_of limits (segments_of items)) (segments_of items) blocks)
-file_ends limits bytes items blocks w k whole long = file_whole limits (kept_rule limits) k.sent bytes items blocks k.tail (k.at).beside (k.at).leads k.ended k.allowed whole long
+    → IsWholeFile limits bytes (meaning_of (frame_of limits (segments_of items)) (segments_of items) blocks)
+file_ends limits bytes items blocks w k whole long =
+    let b = (k.at).beside in
+    let front = (b.behind).front in (
+      record {
+        items = items;
+        blocks = blocks;
+        front = front;
+        marker = replicate b.fill 255 ++ k.tail;
+        rest = [];
+        cut = (b.behind).cut ∙ sym (append-nil (front ++ (replicate b.fill 255 ++ k.tail)));
+        spelled = (b.behind).spelled;
+        ended = fill_marker b.fill 0xd9 k.tail k.ended;
+        long = subst (λ l. length l ≤ limits.input) (b.behind).cut long;
+        leads = (k.at).leads;
+        framed = k.allowed;
+        complete = whole;
+        meaning = refl;
+      },
+      refl,
+    )
 
 pub file_lacks : (limits : Limits) (bytes : List ℕ) (items : List Item) (blocks : Blocks) (w : Items) → BehindEnd limits bytes items blocks w → is_complete (frame_of limits (segments_of items)) (segments_of items) ≡ false → Shows limits MissingComponent bytes
 file_lacks limits bytes items blocks w k missing = missing_shown limits (kept_rule limits) k.sent bytes items k.tail (k.at).beside k.ended k.allowed missing

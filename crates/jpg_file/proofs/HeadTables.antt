@@ -1,14 +1,11 @@
 -- The tables that are held, for the scan that follows.
-use Rattle.std.proofs.Common.{◌≡◌, ℕ, zero, suc, ◌≤◌, Bool, true, false, List, [], ◌∷◌, refl, sym, ap, ◌∙◌, arith, Option, Some, None}
-use Rattle.std.specs.Prelude.{◌||◌, is_none}
+use Rattle.std.proofs.Common.{◌≡◌, ℕ, zero, suc, ◌≤◌, false, List, [], ◌∷◌, sym, ap, ◌∙◌, arith}
+use Rattle.std.specs.Prelude.{is_none}
 use Rattle.std.specs.List.{All}
-use Rattle.std.proofs.Math.Path.{fun_ext}
-use Rattle.jpg_spec.specs.Codes.{Code}
 use Rattle.jpg_spec.specs.Geometry.{Frame, component_at}
 use Rattle.jpg_spec.specs.Segments.{ScanHead}
-use Rattle.jpg_spec.specs.HuffContents.{HuffmanSlots}
-use Rattle.jpg_spec.specs.Elements.{Coding}
-use Rattle.jpg_spec.specs.Scan.{TablesInForce, codes_of, part_of, scan_coding}
+use Rattle.jpg_spec.specs.HuffContents.{HuffmanSlots, huffman_in}
+use Rattle.jpg_spec.specs.Scan.{scan_coding}
 use Rattle.jpg_spec.specs.Markers.{Segment}
 use Rattle.jpg_spec.specs.InForce.{huffman_in_force}
 use Rattle.jpg_spec.specs.declared.frame.Limits.{Limits}
@@ -18,8 +15,11 @@ use Rattle.jpg_huff.specs.Sets.{dc_tables, ac_tables, in_slot, slots_of}
 use Rattle.jpg_huff.specs.Tables.{table_of}
 use Rattle.jpg_seq.specs.Plain.{in_force}
 use Rattle.jpg_seq.specs.NewReader.{HasTables}
-use Rattle.jpg_file.specs.Held.{HeldTold, Holds, huffman_in, lacks_part, lacks_any}
-use Rattle.jpg_file.proofs.Lacking.{slot_seen, none_same}
+use Rattle.jpg_file.specs.Held.{HeldTold, Holds, lacks_part, lacks_any}
+use Rattle.jpg_file.proofs.Lacking.{none_same}
+use Rattle.jpg_spec.proofs.Common.{some_of, neither}
+use Rattle.jpg_spec.proofs.InForce.{same_coding}
+use Rattle.jpg_huff.proofs.Sets.{slot_seen}
 
 -- THE CODING by the tables that are held
 pub tables_held : (limits : Limits) (h : HeldTold) (before : List Segment) (set : TableSet) → Holds limits h before → h.tables ≡ slots_of set → (class slot : ℕ) → class ≤ 1 → in_force set class slot ≡ huffman_in_force before class slot
@@ -29,25 +29,9 @@ tables_held limits h before set holds same (suc zero) slot few =
     slot_seen (ac_tables set) slot ∙ ap (λ (s : HuffmanSlots). huffman_in s.ac slot) (sym same) ∙ holds.ac slot
 tables_held limits h before set holds same (suc (suc class)) slot few = absurd (omega (arith, few))
 
-same_coding : (f : Frame) (head : ScanHead) (a b : TablesInForce) → ((class slot : ℕ) → class ≤ 1 → a class slot ≡ b class slot) → scan_coding f a head ≡ scan_coding f b head
-same_coding f head a b same =
-    let of : (ℕ → List Code) → (ℕ → List Code) → Coding = λ dc ac. record (scan_coding f a head) { dc = dc; ac = ac } in
-    let dc : (i : ℕ) → codes_of (a 0 (part_of head i).dc) ≡ codes_of (b 0 (part_of head i).dc) = λ i. ap codes_of (same 0 (part_of head i).dc (omega arith)) in
-    let ac : (i : ℕ) → codes_of (a 1 (part_of head i).ac) ≡ codes_of (b 1 (part_of head i).ac) = λ i. ap codes_of (same 1 (part_of head i).ac (omega arith)) in
-    ap (λ x. of x (λ i. codes_of (a 1 (part_of head i).ac))) (fun_ext dc) ∙ ap (of (λ i. codes_of (b 0 (part_of head i).dc))) (fun_ext ac)
-
 pub codings_same : (limits : Limits) (h : HeldTold) (before : List Segment) (set : TableSet) → Holds limits h before → h.tables ≡ slots_of set
     → (f : Frame) (head : ScanHead) → scan_coding f (in_force set) head ≡ scan_coding f (huffman_in_force before) head
 codings_same limits h before set holds same f head = same_coding f head (in_force set) (huffman_in_force before) (tables_held limits h before set holds same)
-
--- WHERE NONE IS LACKING the tables are there
-some_of : {A : Type 0} (o : Option A) → is_none o ≡ false → (x : A) × (o ≡ Some x)
-some_of None e = cc
-some_of (Some x) e = (x, refl)
-
-neither : (a b : Bool) → (a || b) ≡ false → (a ≡ false) × (b ≡ false)
-neither false b e = (refl, e)
-neither true b e = cc
 
 part_there : (h : HeldTold) (set : TableSet) (quant : ℕ) (p : ScanPart) → h.tables ≡ slots_of set → lacks_part h quant p ≡ false → HasTables set p
 part_there h set quant p same e =

@@ -22,9 +22,7 @@ use Rattle.jpg_file.specs.declared.begun.Begun.{Begun}
 use Rattle.jpg_file.specs.declared.reading.Reading.{Reading}
 use Rattle.jpg_file.proofs.ItemBytes.{segment_fault}
 use Rattle.jpg_file.proofs.HeadReady.{begins_of}
-
-same_some : {A : Type 0} (a b : A) → Some a ≡ Some b → a ≡ b
-same_some a b e = cc
+use Rattle.jpg_spec.proofs.Common.{some_once}
 
 abbrev pub Judges : Reading → Begun → Frame → List ℕ → Result ScanHead Fault → Type 0
 Judges r b f k answer = (limits : Limits) (before : List Segment) → frame_of limits before ≡ f → Holds limits (told_by r.items.held) before → HasBegun limits b before → Judged limits before k f (told_by r.items.held) answer
@@ -37,7 +35,7 @@ pub record Found (limits : Limits) (bytes : List ℕ) (items : List Item) (block
 
 pub found : (limits : Limits) (bytes : List ℕ) (items : List Item) (blocks : Blocks) (r : Reading) (b : Begun) (f held : Frame) (q : Picture) → HeadWhole limits bytes items blocks r b → r.items.held.frame ≡ Some held → f ≡ held → r.coefs ≡ Some q
     → Found limits bytes items blocks r b f q
-found limits bytes items blocks r b f held q w e same p = record { whole = w; framed = same_some w.frame held (sym w.framed ∙ e) ∙ sym same; pictured = same_some w.coefs q (sym w.has ∙ p) }
+found limits bytes items blocks r b f held q w e same p = record { whole = w; framed = some_once w.frame held (sym w.framed ∙ e) ∙ sym same; pictured = some_once w.coefs q (sym w.has ∙ p) }
 
 pub judged : (limits : Limits) (bytes : List ℕ) (items : List Item) (blocks : Blocks) (r : Reading) (b : Begun) (f : Frame) (q : Picture) (k : List ℕ) (answer : Result ScanHead Fault) → (w : Found limits bytes items blocks r b f q) → k ≡ (reading_of (r.items).segments).contents → Judges r b f k answer
     → Judged limits (segments_of items) (reading_of (r.items).segments).contents f (told_by r.items.held) answer

@@ -1,22 +1,23 @@
 -- What a byte between items makes of the bytes so far.
-use Rattle.std.proofs.Common.{◌≡◌, ℕ, suc, ◌+◌, ◌≤◌, List, [], ◌∷◌, ◌++◌, length, refl, sym, ap, ◌∙◌, subst, arith, Some, None, Ok, Err, inl, inr, ◌⊎◌}
+use Rattle.std.proofs.Common.{◌≡◌, ℕ, suc, ◌+◌, ◌≤◌, false, List, [], ◌∷◌, ◌++◌, length, refl, sym, ap, ◌∙◌, subst, arith, Some, None, Ok, Err, inl, inr, ◌⊎◌}
 use Rattle.std.specs.Prelude.{replicate}
 use Rattle.std.specs.Int.{to_be_bytes, w16}
 use Rattle.std.proofs.lemmas.List.{append_assoc, append-nil, length-append, length-replicate}
 use Rattle.jpg_spec.specs.Scan.{Blocks}
 use Rattle.jpg_spec.specs.Markers.{Segment, Rule, soi, SpellsMarker, SpellsSegment, SpellsSegments, BeginsSegment, PartOfSegment, NoMarkerBytes, TailShows, ShowsNoStart, code_fault, kept_rule}
 use Rattle.jpg_spec.specs.Markers as markers
-use Rattle.jpg_spec.specs.Items.{Item, segment, segments_of, contents_rule}
+use Rattle.jpg_spec.specs.Items.{Item, segment, segments_of, SpellsFront, ends_in_scan, contents_rule}
 use Rattle.jpg_spec.specs.FileMeaning.{no_blocks}
 use Rattle.jpg_spec.specs.FirstFault.{Shows}
 use Rattle.jpg_spec.specs.FileStands.{FileStands}
-use Rattle.jpg_spec.specs.ScanReading.{Beside}
+use Rattle.jpg_spec.specs.ScanReading.{Beside, LeadingMarker}
 use Rattle.jpg_spec.specs.declared.fault.Fault.{Fault}
 use Rattle.jpg_spec.specs.declared.fault.Fault.TheVariants.{NoMarker}
 use Rattle.jpg_spec.specs.declared.frame.Limits.{Limits}
 use Rattle.jpg_spec.specs.declared.answers.FaultAt.{FaultAt}
-use Rattle.jpg_spec.proofs.MarkersOnce.{heads, no_head}
+use Rattle.jpg_spec.proofs.MarkersOnce.{no_head}
 use Rattle.jpg_spec.proofs.ItemSteps.{same_tail, beside_more, segment_shown, contents_shown, part_stands, segment_passed}
+use Rattle.jpg_spec.proofs.Common.{heads}
 use Rattle.jpg_base.specs.declared.stop.Stop.TheVariants as stop
 use Rattle.jpg_markers.specs.declared.segments.SegStep.TheVariants as step
 use Rattle.jpg_markers.specs.declared.segments.Phase.{Phase}
@@ -24,7 +25,7 @@ use Rattle.jpg_markers.specs.declared.segments.Phase.TheVariants as phase
 use Rattle.jpg_markers.specs.Reading.{Reading, StandsFor, AtPhase, IsBetween, PartRead, ShowsBehind, EndsBehind, Comes, reading_of}
 use Rattle.jpg_file.specs.Held.{Holds, told_by}
 use Rattle.jpg_file.specs.declared.items.Items.{Items}
-use Rattle.jpg_file.specs.Items.{IsBeside, AtPlace, Between, BehindSegment, BehindEnd, GoesOn}
+use Rattle.jpg_file.specs.Items.{IsBeside, AtPlace, BetweenItems, BehindSegment, BehindEnd, AddsNoScan, EndsProgressive}
 
 -- THE START
 
@@ -81,8 +82,8 @@ place_more limits bytes sent b items blocks r e stands (inl s) =
     let R : Blocks → Type 0 = λ z. AtPlace limits (sent ++ b ∷ []) (sent ++ b ∷ []) [] z in
     subst P (sym s.same) (subst Q (sym s.no_items) (subst R (sym s.blank) (start_more limits sent b r r.phase e k.1)))
 
-pub goes_on : (limits : Limits) (bytes : List ℕ) (b : ℕ) (items : List Item) (blocks : Blocks) (w new : Items) → (k : Between limits bytes items blocks w) → StandsFor (k.sent ++ b ∷ []) (segments_of items) (reading_of new.segments)
-    → (reading_of new.segments).limits ≡ (reading_of w.segments).limits → new.limits ≡ w.limits → told_by new.held ≡ told_by w.held → (more : List Item) × GoesOn items more × Between limits (bytes ++ b ∷ []) more blocks new
+pub goes_on : (limits : Limits) (bytes : List ℕ) (b : ℕ) (items : List Item) (blocks : Blocks) (w new : Items) → (k : BetweenItems limits bytes items blocks w) → StandsFor (k.sent ++ b ∷ []) (segments_of items) (reading_of new.segments)
+    → (reading_of new.segments).limits ≡ (reading_of w.segments).limits → new.limits ≡ w.limits → told_by new.held ≡ told_by w.held → (more : List Item) × AddsNoScan items more × BetweenItems limits (bytes ++ b ∷ []) more blocks new
 goes_on limits bytes b items blocks w new k stands e f same = (
   items,
   inl refl,
@@ -107,7 +108,7 @@ start_fault : (limits : Limits) (bytes : List ℕ) (fault : Fault) → ShowsBehi
 start_fault limits bytes fault (inl (which, first, shown)) = inl (which, shown)
 start_fault limits bytes fault (inr (tail, between, shown)) = beside_fault limits bytes bytes [] no_blocks tail fault (first_beside limits bytes tail between) (inr (tail, between, shown))
 
-pub byte_fault : (limits : Limits) (bytes : List ℕ) (b : ℕ) (items : List Item) (blocks : Blocks) (w new : Items) (f : FaultAt) → (k : Between limits bytes items blocks w) → (reading_of new.segments).limits ≡ (reading_of w.segments).limits
+pub byte_fault : (limits : Limits) (bytes : List ℕ) (b : ℕ) (items : List Item) (blocks : Blocks) (w new : Items) (f : FaultAt) → (k : BetweenItems limits bytes items blocks w) → (reading_of new.segments).limits ≡ (reading_of w.segments).limits
     → Comes (k.sent ++ b ∷ []) (segments_of items) (Err (stop.Fault f)) (reading_of new.segments) → Shows limits f.fault (bytes ++ b ∷ []) × (f.at ≡ (reading_of new.segments).taken)
 byte_fault limits bytes b items blocks w new f k e c =
     let shown = subst (λ (l : Limits). ShowsBehind (kept_rule l) (segments_of items) f.fault (k.sent ++ b ∷ [])) (e ∙ k.bounded.0) c.1 in
@@ -170,7 +171,7 @@ start_no_segment limits sent b code contents short s =
     few (inl e) = omega (arith, ap length e)
     few (inr e) = omega (arith, ap length e)
 
-pub behind_segment : (limits : Limits) (bytes : List ℕ) (b : ℕ) (items : List Item) (blocks : Blocks) (w new : Items) → (k : Between limits bytes items blocks w) → Comes (k.sent ++ b ∷ []) (segments_of items) (Ok step.Whole) (reading_of new.segments)
+pub behind_segment : (limits : Limits) (bytes : List ℕ) (b : ℕ) (items : List Item) (blocks : Blocks) (w new : Items) → (k : BetweenItems limits bytes items blocks w) → Comes (k.sent ++ b ∷ []) (segments_of items) (Ok step.Whole) (reading_of new.segments)
     → (reading_of new.segments).phase ≡ phase.Between → (reading_of new.segments).limits ≡ (reading_of w.segments).limits → new.limits ≡ w.limits → told_by new.held ≡ told_by w.held → BehindSegment limits (bytes ++ b ∷ []) items blocks new
 behind_segment limits bytes b items blocks w new k c p e f same = by k.at
   where
@@ -202,15 +203,15 @@ behind_segment limits bytes b items blocks w new k c p e f same = by k.at
         }
 
 -- and breaks no rule, or shows a fault
-pub segment_taken : (limits : Limits) (bytes : List ℕ) (items : List Item) (blocks : Blocks) (w new : Items) → (k : BehindSegment limits bytes items blocks w) → ((reading_of w.segments).code ≡ 0xda → ⊥)
+pub segment_taken : (limits : Limits) (bytes : List ℕ) (items : List Item) (blocks : Blocks) (w new : Items) → (k : BehindSegment limits bytes items blocks w) → ((reading_of w.segments).code ≡ 0xda → ⊥) → ((reading_of w.segments).code ≡ 0xc2 → ⊥)
     → contents_rule limits (segments_of items) (reading_of w.segments).code (reading_of w.segments).contents ≡ None → reading_of new.segments ≡ reading_of w.segments → new.limits ≡ w.limits
-    → Holds limits (told_by new.held) (((reading_of w.segments).code, (reading_of w.segments).contents) ∷ segments_of items) → (more : List Item) × GoesOn items more × Between limits bytes more blocks new
-segment_taken limits bytes items blocks w new k other rule same f holds =
+    → Holds limits (told_by new.held) (((reading_of w.segments).code, (reading_of w.segments).contents) ∷ segments_of items) → (more : List Item) × AddsNoScan items more × BetweenItems limits bytes more blocks new
+segment_taken limits bytes items blocks w new k other plain rule same f holds =
     let r = reading_of w.segments in
     let more : List Item = segment r.code r.contents ∷ items in
     let S : Reading → Type 0 = λ q. StandsFor k.sent ((r.code, r.contents) ∷ segments_of items) q in (
       more,
-      inr (r.code, r.contents, refl, other),
+      inr (r.code, r.contents, refl, other, plain),
       record {
         sent = k.sent;
         stands = subst S (sym same) k.stands;
@@ -226,6 +227,47 @@ segment_taken limits bytes items blocks w new k other rule same f holds =
       },
     )
 
+-- a whole marker isn't empty
+no_marker : LeadingMarker [] → ⊥
+no_marker m =
+    let a = ap length m.cut in
+    let b = length-append m.marker m.rest in
+    let d = ap length (m.spelled).1 in
+    let e = length-append (replicate (suc (m.spelled).0) 255) (m.code ∷ []) in
+    omega (arith, a, b, d, e)
+
+-- where nothing stands behind the items, they are the bytes
+all_spelled : (limits : Limits) (rule : Rule) (sent bytes : List ℕ) (items : List Item) → Beside limits rule sent bytes items [] → SpellsFront items bytes
+all_spelled limits rule sent bytes items w =
+    let front = (w.behind).front in
+    let none : w.fill ≡ 0 = by w.plain in
+    let is : bytes ≡ front = (w.behind).cut ∙ ap (λ n. front ++ (replicate n 255 ++ [])) none ∙ append-nil front in
+    subst (λ l. SpellsFront items l) (sym is) (w.behind).spelled
+  where
+    by : ((w.fill ≡ 0) × (ends_in_scan items ≡ false)) ⊎ LeadingMarker [] → w.fill ≡ 0
+    by (inl e) = e.0
+    by (inr m) = absurd (no_marker m)
+
+-- the header of a progressive frame
+pub progressive_taken : (limits : Limits) (bytes : List ℕ) (items : List Item) (blocks : Blocks) (w : Items) → (k : BehindSegment limits bytes items blocks w) → (reading_of w.segments).code ≡ 0xc2
+    → contents_rule limits (segments_of items) (reading_of w.segments).code (reading_of w.segments).contents ≡ None → EndsProgressive limits bytes
+progressive_taken limits bytes items blocks w k code rule =
+    let r = reading_of w.segments in
+    let other : 0xc2 ≡ 0xda → ⊥ = λ (e : 0xc2 ≡ 0xda). omega (arith, e) in
+    let end : 0xc2 ≡ 0xd9 → ⊥ = λ (e : 0xc2 ≡ 0xd9). omega (arith, e) in
+    let spelled = subst (λ n. SpellsSegment n r.contents k.tail) code k.spelled in
+    let allowed = subst (λ n. code_fault (segments_of items) n ≡ None) code k.allowed in
+    let kept = subst (λ n. kept_rule limits (segments_of items) n r.contents ≡ None) code k.kept in
+    let passed = subst (λ n. contents_rule limits (segments_of items) n r.contents ≡ None) code rule in
+    let beside = segment_passed limits (kept_rule limits) k.sent bytes items 0xc2 r.contents k.tail (k.at).beside spelled allowed end other kept passed in
+    record {
+      items = items;
+      blocks = blocks;
+      contents = r.contents;
+      spelled = all_spelled limits (kept_rule limits) k.sent bytes (segment 0xc2 r.contents ∷ items) beside;
+      leads = (allowed, passed, (k.at).leads);
+    }
+
 pub segment_fault : (limits : Limits) (bytes : List ℕ) (items : List Item) (blocks : Blocks) (w : Items) (fault : Fault) → (k : BehindSegment limits bytes items blocks w)
     → contents_rule limits (segments_of items) (reading_of w.segments).code (reading_of w.segments).contents ≡ Some fault → Shows limits fault bytes
 segment_fault limits bytes items blocks w fault k broken =
@@ -235,7 +277,7 @@ segment_fault limits bytes items blocks w fault k broken =
 no_first_end : code_fault [] 0xd9 ≡ None → ⊥
 no_first_end e = cc
 
-pub behind_end : (limits : Limits) (bytes : List ℕ) (b : ℕ) (items : List Item) (blocks : Blocks) (w new : Items) → (k : Between limits bytes items blocks w) → Comes (k.sent ++ b ∷ []) (segments_of items) (Ok step.Eoi) (reading_of new.segments)
+pub behind_end : (limits : Limits) (bytes : List ℕ) (b : ℕ) (items : List Item) (blocks : Blocks) (w new : Items) → (k : BetweenItems limits bytes items blocks w) → Comes (k.sent ++ b ∷ []) (segments_of items) (Ok step.Eoi) (reading_of new.segments)
     → (reading_of new.segments).limits ≡ (reading_of w.segments).limits → told_by new.held ≡ told_by w.held → BehindEnd limits (bytes ++ b ∷ []) items blocks new
 behind_end limits bytes b items blocks w new k c e same = by k.at
   where
@@ -267,35 +309,39 @@ part_read r phase.HalfLength before tail (marker, begins, e, fits) = inr (inr (r
 part_read r phase.Contents before tail (marker, high, low, begins, e, h, l, long, some) = inr (inr (r.code, marker, begins, inr (inr (high, low, r.contents, e, h, l, omega (arith, long, some)))))
 part_read r phase.Ended before tail e = absurd e
 
-pub between_stands : (limits : Limits) (bytes : List ℕ) (items : List Item) (blocks : Blocks) (w : Items) → Between limits bytes items blocks w → FileStands limits bytes
+-- the bytes behind the whole items are a marker that may begin a segment, or a part of one
+pub part_behind : (limits : Limits) (bytes sent : List ℕ) (items : List Item) (blocks : Blocks) (r : Reading) (tail : List ℕ) (p : Phase) → r.limits ≡ limits → IsBeside limits bytes sent items blocks tail → AtPhase r p sent (segments_of items)
+    → ((code : ℕ) × BeginsSegment (segments_of items) code tail) ⊎ PartOfSegment (segments_of items) tail
+part_behind limits bytes sent items blocks r tail p same at a = by p a
+  where
+    go : (q : Phase) → IsBetween r q sent (segments_of items) → ((code : ℕ) × BeginsSegment (segments_of items) code tail) ⊎ PartOfSegment (segments_of items) tail
+    go q (other, between, seen, part) =
+        let b = subst (λ (l : Limits). markers.Between (kept_rule l) sent (segments_of items) other) same between in
+        let t = same_tail (kept_rule limits) sent (segments_of items) tail other (at.beside).between b in
+        part_read r q (segments_of items) tail (subst (λ z. PartRead r q (segments_of items) z) (sym t) part)
+
+    by : (q : Phase) → AtPhase r q sent (segments_of items) → ((code : ℕ) × BeginsSegment (segments_of items) code tail) ⊎ PartOfSegment (segments_of items) tail
+    by phase.Empty k =
+        let y = beside_soi limits (kept_rule limits) sent bytes items tail at.beside in
+        let z : [] ≡ soi ++ y.0 = sym k.0 ∙ y.1 in absurd (no_head 255 (0xd8 ∷ y.0) z)
+    by phase.HalfStart k =
+        let y = beside_soi limits (kept_rule limits) sent bytes items tail at.beside in
+        let z : 255 ∷ [] ≡ soi ++ y.0 = sym k.0 ∙ y.1 in absurd (no_head 0xd8 y.0 (heads 255 255 [] (0xd8 ∷ y.0) z).1)
+    by phase.Between k = go phase.Between k
+    by phase.Fill k = go phase.Fill k
+    by phase.Coded k = go phase.Coded k
+    by phase.HalfLength k = go phase.HalfLength k
+    by phase.Contents k = go phase.Contents k
+    by phase.Ended k = absurd k
+
+pub between_stands : (limits : Limits) (bytes : List ℕ) (items : List Item) (blocks : Blocks) (w : Items) → BetweenItems limits bytes items blocks w → FileStands limits bytes
 between_stands limits bytes items blocks w k = by k.at
   where
-    r : Reading
-    r = reading_of w.segments
-
     start : (sent : List ℕ) → (sent ≡ []) ⊎ (sent ≡ 255 ∷ []) → FileStands limits sent
     start sent s = inl s
 
-    go : (tail : List ℕ) → IsBeside limits bytes k.sent items blocks tail → (p : Phase) → IsBetween r p k.sent (segments_of items) → FileStands limits bytes
-    go tail at p (other, between, seen, part) =
-        let b = subst (λ (l : Limits). markers.Between (kept_rule l) k.sent (segments_of items) other) k.bounded.0 between in
-        let t = same_tail (kept_rule limits) k.sent (segments_of items) tail other (at.beside).between b in
-        part_stands limits (kept_rule limits) k.sent bytes items tail at.beside (part_read r p (segments_of items) tail (subst (λ z. PartRead r p (segments_of items) z) (sym t) part))
-
-    beside : (tail : List ℕ) → IsBeside limits bytes k.sent items blocks tail → (p : Phase) → AtPhase r p k.sent (segments_of items) → FileStands limits bytes
-    beside tail at phase.Empty a =
-        let y = beside_soi limits (kept_rule limits) k.sent bytes items tail at.beside in
-        let z : [] ≡ soi ++ y.0 = sym a.0 ∙ y.1 in absurd (no_head 255 (0xd8 ∷ y.0) z)
-    beside tail at phase.HalfStart a =
-        let y = beside_soi limits (kept_rule limits) k.sent bytes items tail at.beside in
-        let z : 255 ∷ [] ≡ soi ++ y.0 = sym a.0 ∙ y.1 in absurd (no_head 0xd8 y.0 (heads 255 255 [] (0xd8 ∷ y.0) z).1)
-    beside tail at phase.Between a = go tail at phase.Between a
-    beside tail at phase.Fill a = go tail at phase.Fill a
-    beside tail at phase.Coded a = go tail at phase.Coded a
-    beside tail at phase.HalfLength a = go tail at phase.HalfLength a
-    beside tail at phase.Contents a = go tail at phase.Contents a
-    beside tail at phase.Ended a = absurd a
-
     by : AtPlace limits bytes k.sent items blocks → FileStands limits bytes
     by (inl s) = subst (λ z. FileStands limits z) (sym s.same) (start k.sent s.short)
-    by (inr (tail, at)) = beside tail at r.phase (k.stands).1
+    by (inr (tail, at)) =
+        part_stands limits (kept_rule limits) k.sent bytes items tail at.beside
+        (part_behind limits bytes k.sent items blocks (reading_of w.segments) tail (reading_of w.segments).phase k.bounded.0 at (k.stands).1)

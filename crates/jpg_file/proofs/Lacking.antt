@@ -1,8 +1,7 @@
 -- The tables that a sequential scan needs are there where they are in force.
-use Rattle.std.proofs.Common.{◌≡◌, ℕ, true, false, not, ◌==◌, ◌&&◌, List, [], ◌∷◌, map, refl, sym, ap, ◌∙◌, Option, Some, None}
-use Rattle.std.specs.Prelude.{◌||◌, nat_lt, is_none, option_map, slice_get}
-use Rattle.std.proofs.lemmas.Option.{slice_get-map}
-use Rattle.jpg_spec.specs.Lists.{any_of, slot_value}
+use Rattle.std.proofs.Common.{◌≡◌, true, false, not, ◌==◌, ◌&&◌, List, [], ◌∷◌, refl, sym, ap, ◌∙◌, Option, Some, None}
+use Rattle.std.specs.Prelude.{◌||◌, nat_lt, is_none, option_map}
+use Rattle.jpg_spec.specs.Lists.{any_of}
 use Rattle.jpg_spec.specs.Geometry.{Frame, component_at, is_progressive}
 use Rattle.jpg_spec.specs.Segments.{ScanHead}
 use Rattle.jpg_spec.specs.Markers.{Segment}
@@ -10,19 +9,8 @@ use Rattle.jpg_spec.specs.InForce.{huffman_in_force, quant_in_force}
 use Rattle.jpg_spec.specs.History.{needs_dc_table, needs_ac_table, lacks_table}
 use Rattle.jpg_spec.specs.declared.frame.Limits.{Limits}
 use Rattle.jpg_spec.specs.declared.frame.ScanPart.{ScanPart}
-use Rattle.jpg_huff.specs.declared.table.Table.{Table}
-use Rattle.jpg_huff.specs.Sets.{in_slot}
-use Rattle.jpg_huff.specs.Tables.{table_of}
-use Rattle.jpg_file.specs.Held.{HeldTold, Holds, huffman_in, lacks_any, lacks_part}
-
--- a slot of a set, as counts and symbols
-pub slot_seen : (tables : List (Option Table)) (slot : ℕ) → option_map table_of (in_slot tables slot) ≡ huffman_in (map (option_map table_of) tables) slot
-slot_seen tables slot = by (slice_get tables slot) ∙ ap slot_value (sym (slice_get-map (option_map table_of) tables slot))
-  where
-    by : (o : Option (Option Table)) → option_map table_of (slot_value o) ≡ slot_value (option_map (option_map table_of) o)
-    by None = refl
-    by (Some None) = refl
-    by (Some (Some table)) = refl
+use Rattle.jpg_spec.specs.HuffContents.{huffman_in}
+use Rattle.jpg_file.specs.Held.{HeldTold, Holds, lacks_any, lacks_part}
 
 pub none_same : {A B : Type 0} (f : A → B) (o : Option A) → is_none (option_map f o) ≡ is_none o
 none_same f None = refl

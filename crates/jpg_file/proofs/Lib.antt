@@ -12,3 +12,16 @@ pub mod HeadTables
 pub mod Heads
 pub mod HeadReady
 pub mod HeadTaken
+pub mod FileSteps
+pub mod PieceSteps
+pub mod PictureSteps
+pub mod FirstHeads
+pub mod Runs
+pub mod ScanRuns
+pub mod GivenTables
+pub mod TypicalSet
+pub mod SeqHead
+pub mod SeqData
+pub mod SameUnits
+pub mod WrittenText
+pub mod AllWritten

@@ -7,8 +7,8 @@ use Rattle.jpg_spec.specs.Segments.{head_components}
 use Rattle.jpg_spec.specs.Elements.{Coding, UnitLeft, SpellsUnits}
 use Rattle.jpg_spec.specs.Scan.{Scan, ScanMeans, unit_at, band, block_at}
 use Rattle.jpg_spec.specs.ScanFaults.{DataShows}
-use Rattle.jpg_spec.specs.InForce.{head_in}
-use Rattle.jpg_spec.specs.Items.{Item}
+use Rattle.jpg_spec.specs.InForce.{frame_of, head_in}
+use Rattle.jpg_spec.specs.Items.{Item, segments_of}
 use Rattle.jpg_spec.specs.FirstFault.{Shows}
 use Rattle.jpg_spec.specs.FileStands.{FileStands}
 use Rattle.jpg_spec.specs.ScanReading.{ScanPlace, scan_at, with_byte, with_interval, ScanAt}
@@ -282,6 +282,9 @@ data_byte limits items contents bytes p gate w now (Marker code) of at g k = abs
 data_byte limits items contents bytes p gate w now (Stopped f) of at g k = k
 
 -- behind FF bytes
+pub last_framed : (limits : Limits) (p : ScanPlace) (w : ScanWork) (now : Picture) → w.whole ≡ true → AtWork limits p w now → now.frame ≡ frame_at limits p
+last_framed limits p w now e k = (read_at limits p w now e k).framed
+
 pub marker_at : (limits : Limits) (items : List Item) (contents bytes : List ℕ) (code : ℕ) (s : InScan) (now : Picture) → (d : InData limits items contents bytes s now) → s.gate ≡ true → (code ≡ 0 → ⊥) → (code ≡ 255 → ⊥)
     → MarkerAt limits (bytes ++ code ∷ []) d.place code s.work now
 marker_at limits items contents bytes code s now d g z f =
@@ -298,8 +301,16 @@ pub marker_byte : (limits : Limits) (items : List Item) (contents bytes : List �
     → ScanAt limits bytes p (replicate (suc n) 255 ++ code ∷ []) → gate ≡ false → AfterMarker limits bytes p code answer w now → AfterByte limits items contents bytes answer (record { gate = gate; work = w }) now
 marker_byte limits items contents bytes p n code gate w now More of z f at g (next, others, begun, k) =
     record { place = with_interval p next others; of = of; fill = 0; at = begun; waits = subst (λ b. Waits b 0) (sym g) refl; work = k }
-marker_byte limits items contents bytes p n code gate w now (Marker c) of z f at g (is, means) =
-    subst (λ k. Ended limits items contents bytes k now) (sym is) (record { place = p; of = of; fill = n; at = at; marker = marker_code 0 code z f; means = means })
+marker_byte limits items contents bytes p n code gate w now (Marker c) of z f at g (is, framed, means) =
+    subst (λ k. Ended limits items contents bytes k now) (sym is) (record {
+      place = p;
+      of = of;
+      fill = n;
+      at = at;
+      marker = marker_code 0 code z f;
+      framed = framed ∙ ap (λ (i : List Item). frame_of limits (segments_of i)) of.0;
+      means = means;
+    })
 marker_byte limits items contents bytes p n code gate w now (Stopped f) of z g at h k = k
 
 -- INSIDE DATA a file stands

@@ -20,7 +20,7 @@ use Rattle.jpg_markers.specs.Reading.{Reading, StandsFor, AtPhase, IsBetween, Sh
 use Rattle.jpg_file.specs.InData.{Ended}
 use Rattle.jpg_file.specs.Held.{HeldTold, Holds, told_by}
 use Rattle.jpg_file.specs.declared.items.Items.{Items}
-use Rattle.jpg_file.specs.Items.{IsBeside, Between, BehindSegment, BehindEnd, BehindHead, GoesOn}
+use Rattle.jpg_file.specs.Items.{IsBeside, BetweenItems, BehindSegment, BehindEnd, BehindHead, AddsNoScan}
 use Rattle.jpg_file.proofs.ItemBytes.{beside_fault}
 
 -- A scan header changes nothing that is held, but that a scan began.
@@ -65,7 +65,7 @@ left_at limits items contents bytes code now w k e =
 -- THE ANSWERS
 pub left_more : (limits : Limits) (items : List Item) (contents bytes : List ℕ) (code : ℕ) (now : Picture) (w new : Items) → (k : BehindHead limits items contents w) → (l : Left limits items contents bytes code now w k)
     → StandsFor (sent_with k.sent code) (segments_of (scan contents l.intervals ∷ items)) (reading_of new.segments) → (reading_of new.segments).limits ≡ (reading_of w.segments).limits → new.limits ≡ w.limits → told_by new.held ≡ told_by w.held
-    → (more : List Item) × GoesOn (scan contents l.intervals ∷ items) more × Between limits bytes more (map_of now) new
+    → (more : List Item) × AddsNoScan (scan contents l.intervals ∷ items) more × BetweenItems limits bytes more (map_of now) new
 left_more limits items contents bytes code now w new k l stands e f same = (
   scan contents l.intervals ∷ items,
   inl refl,

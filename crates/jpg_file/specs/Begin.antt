@@ -1,4 +1,4 @@
--- A scan header that breaks no rule, where its scan begins (T.81 B.2.3).
+-- A scan header that breaks no rule, where its scan begins (T.81, B.2.3).
 use Rattle.std.specs.Prelude.{◌≡◌, ℕ, List, None}
 use Rattle.jpg_spec.specs.Geometry.{Frame}
 use Rattle.jpg_spec.specs.Segments.{ScanHead}
@@ -39,11 +39,11 @@ pub record Begins (limits : Limits) (items : List Item) (blocks : Blocks) (conte
   pub header : HeadHeld limits items blocks contents f head set interval now
 
 -- there is such a header
-abbrev pub IsReady : Frame → ScanHead → TableSet → ℕ → Picture → Type 0
-IsReady f head set interval now =
+abbrev pub CanBegin : Frame → ScanHead → TableSet → ℕ → Picture → Type 0
+CanBegin f head set interval now =
     (limits : Limits) × (items : List Item) × (blocks : Blocks) × (contents : List ℕ) × (bytes : List ℕ) × Begins limits items blocks contents bytes f head set interval now
 
 -- behind each such header the scan stands at its first byte
-abbrev pub BeginsScan : Frame → ScanHead → TableSet → ℕ → Picture → InScan → Type 0
-BeginsScan f head set interval now s =
+abbrev pub StandsAtFirst : Frame → ScanHead → TableSet → ℕ → Picture → InScan → Type 0
+StandsAtFirst f head set interval now s =
     (limits : Limits) (items : List Item) (blocks : Blocks) (contents bytes : List ℕ) → Begins limits items blocks contents bytes f head set interval now → InData limits items contents bytes s now

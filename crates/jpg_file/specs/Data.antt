@@ -1,14 +1,15 @@
--- What the bits of an interval come to, given to its machine (T.81 F.2.2, G.2).
-use Rattle.std.specs.Prelude.{◌≡◌, ◌≤◌, Bool, List, ◌++◌, length}
+-- What the bits of an interval come to, given to its machine (T.81, F.2.2, G.2).
+use Rattle.std.specs.Prelude.{◌≡◌, ℕ, ◌+◌, ◌<◌, ◌≤◌, Bool, List, ◌++◌, length, take, slice_index}
+use Rattle.jpg_spec.specs.Bits.{bits_of, bits_of_bytes}
 use Rattle.jpg_spec.specs.ScanFaults.{DataShows}
 use Rattle.jpg_coefs.specs.Picture.{Picture}
-use Rattle.jpg_coefs.specs.Machine.{Interval, Kind, IsWhole, Follows, units_of, fault_of}
+use Rattle.jpg_coefs.specs.Machine.{Chain, Interval, Kind, IsWholeInterval, Follows, units_of, fault_of}
 use Rattle.jpg_file.specs.declared.data.DataStep.{DataStep}
 use Rattle.jpg_file.specs.declared.data.DataStep.TheVariants.{More, Whole, Fault}
 
 -- the interval is whole with these bits, and the machine may begin what follows
 pub record EndsWhole (M : Type 0) (k : Kind M) (i : Interval) (bits : List Bool) (m : M) (now : Picture) : Type 0 where
-  pub whole : IsWhole i bits now
+  pub whole : IsWholeInterval i bits now
   pub ready : (j : Interval) → Follows i now j → k.fits j → k.ready m j
 
 -- the machine stood for the bits so far, and was given these
@@ -20,3 +21,13 @@ AfterBits k i so_far bits (Fault f) m now = (front : List Bool) × (rest : List 
 -- whatever interval and bits it stood for
 abbrev pub GivesBits : {M : Type 0} → Kind M → M → Picture → List Bool → DataStep → M → Picture → Type 0
 GivesBits k m now bits answer new after = (i : Interval) (so_far : List Bool) → k.stands m i so_far now → AfterBits k i so_far bits answer new after
+
+-- Bytes were given to it: so many, the last of them by itself, behind a chain of the bits of those before it.
+pub record GivesRun (M : Type 0) (k : Kind M) (m : M) (now : Picture) (bytes : List ℕ) (n : ℕ) (answer : DataStep) (new : M) (after : Picture) : Type 0 where
+  pub mid : M
+  pub between : Picture
+  pub early : ℕ
+  pub count : n ≡ early + 1
+  pub within : early < length bytes
+  pub chain : Chain k m now (bits_of_bytes (take early bytes)) mid between
+  pub last : GivesBits k mid between (bits_of 8 (slice_index bytes early)) answer new after

@@ -1,16 +1,15 @@
 -- What a reader of a file keeps of the segments so far.
-use Rattle.std.specs.Prelude.{◌≡◌, ℕ, Bool, false, List, [], ◌∷◌, length, reverse, slice_get, Option, Some, None, find, is_none, ◌||◌}
-use Rattle.jpg_spec.specs.Lists.{slot_value}
+use Rattle.std.specs.Prelude.{◌≡◌, ℕ, Bool, false, List, [], ◌∷◌, length, reverse, Option, Some, None, find, is_none, ◌||◌}
 use Rattle.jpg_spec.specs.Geometry.{Frame, component_at}
-use Rattle.jpg_spec.specs.Segments.{HuffmanTable}
-use Rattle.jpg_spec.specs.Jfif.{Jfif, is_jfif, jfif_told}
-use Rattle.jpg_spec.specs.HuffContents.{HuffmanSlots}
+use Rattle.jpg_spec.specs.Jfif.{is_jfif, jfif_told}
+use Rattle.jpg_spec.specs.HuffContents.{HuffmanSlots, huffman_in}
 use Rattle.jpg_spec.specs.QuantContents.{Slots, quant_in}
 use Rattle.jpg_spec.specs.Markers.{Segment, has_scan, kept_after, kept_rule}
 use Rattle.jpg_spec.specs.InForce.{frame_after, huffman_in_force, quant_in_force, restart_in_force}
 use Rattle.jpg_spec.specs.Items.{contents_rule}
 use Rattle.jpg_spec.specs.declared.frame.Limits.{Limits}
 use Rattle.jpg_spec.specs.declared.frame.ScanPart.{ScanPart}
+use Rattle.jpg_spec.specs.declared.jfif.Jfif.{Jfif}
 use Rattle.jpg_huff.specs.Sets.{slots_of}
 use Rattle.jpg_file.specs.declared.held.Held.{Held}
 use Rattle.jpg_file.specs.declared.held.Took.{Took}
@@ -28,9 +27,6 @@ pub record HeldTold : Type 0 where
 
 abbrev pub told_by : Held → HeldTold
 told_by h = record { frame = h.frame; tables = slots_of h.tables; quants = h.quants; interval = h.interval; scanned = h.scanned; kept = h.kept; jfif = h.jfif }
-
-abbrev pub huffman_in : List (Option HuffmanTable) → ℕ → Option HuffmanTable
-huffman_in slots slot = slot_value (slice_get slots slot)
 
 -- It is what is in force behind these segments.
 pub record Holds (limits : Limits) (h : HeldTold) (before : List Segment) : Type 0 where
@@ -64,13 +60,3 @@ Takes limits before code contents took.NoMemory h = Unit {0}
 abbrev pub HoldsSegment : HeldTold → Limits → ℕ → List ℕ → Took → HeldTold → Type 0
 HoldsSegment old limits code contents answer new =
     (before : List Segment) → Holds limits old before → kept_rule limits before code contents ≡ None → Takes limits before code contents answer new
-
--- a code that defines nothing and begins no scan
-pub record IsOther (code : ℕ) : Type 0 where
-  pub huffmans : code ≡ 0xc4 → ⊥
-  pub quants : code ≡ 0xdb → ⊥
-  pub interval : code ≡ 0xdd → ⊥
-  pub scan : code ≡ 0xda → ⊥
-  pub baseline : code ≡ 0xc0 → ⊥
-  pub extended : code ≡ 0xc1 → ⊥
-  pub progressive : code ≡ 0xc2 → ⊥

@@ -1,5 +1,5 @@
--- Inside the data of a scan: what its machine stands for, and what a further byte comes to (T.81 B.1.1.5, E.1.4).
-use Rattle.std.specs.Prelude.{◌≡◌, ℕ, suc, ◌+◌, ◌%◌, ◌≤◌, min, Bool, true, false, List, [], ◌∷◌, ◌++◌, length, replicate}
+-- Inside the data of a scan: what its machine stands for, and what a further byte comes to (T.81, B.1.1.5, E.1.4).
+use Rattle.std.specs.Prelude.{◌≡◌, ℕ, suc, ◌+◌, ◌%◌, ◌≤◌, min, Bool, true, false, List, [], ◌∷◌, ◌++◌, ◌<◌, length, replicate, slice_index, take}
 use Rattle.jpg_spec.specs.Bits.{bits_of_bytes}
 use Rattle.jpg_spec.specs.Lists.{is_distinct, joined}
 use Rattle.jpg_spec.specs.Geometry.{Frame, is_progressive}
@@ -116,7 +116,7 @@ pub record NextBegins (limits : Limits) (bytes : List ℕ) (p : ScanPlace) (w : 
 
 abbrev pub AfterMarker : Limits → List ℕ → ScanPlace → ℕ → ScanStep → ScanWork → Picture → Type 0
 AfterMarker limits bytes p code More w now = (next : List Place) × (others : List (List Place)) × ScanAt limits bytes (with_interval p next others) [] × AtWork limits (with_interval p next others) w now
-AfterMarker limits bytes p code (Marker c) w now = (c ≡ code) × ScanMeans (scan_at limits p) (p.done ++ p.coded ∷ []) p.blocks (map_of now)
+AfterMarker limits bytes p code (Marker c) w now = (c ≡ code) × (now.frame ≡ frame_at limits p) × ScanMeans (scan_at limits p) (p.done ++ p.coded ∷ []) p.blocks (map_of now)
 AfterMarker limits bytes p code (Fault fault) w now = Shows limits fault bytes
 
 -- A BYTE
@@ -128,6 +128,7 @@ pub record Ended (limits : Limits) (items : List Item) (contents bytes : List �
   pub fill : ℕ
   pub at : ScanAt limits bytes place (replicate (suc fill) 255 ++ code ∷ [])
   pub marker : SpellsMarker code (255 ∷ code ∷ [])
+  pub framed : now.frame ≡ frame_of limits (segments_of items)
   pub means : ScanMeans (scan_at limits place) (place.done ++ place.coded ∷ []) place.blocks (map_of now)
 
 abbrev pub AfterByte : Limits → List Item → List ℕ → List ℕ → ScanStep → InScan → Picture → Type 0
@@ -148,6 +149,27 @@ abbrev pub TakesScanByte : InScan → Picture → ℕ → ScanStep → InScan �
 TakesScanByte old now byte answer new after =
     (limits : Limits) (items : List Item) (contents bytes : List ℕ) → InData limits items contents bytes old now → AfterByte limits items contents (bytes ++ byte ∷ []) answer new after
 
+-- Some bytes behind one another: a state before the last of those that were taken, and what that one came to.
+pub record TakesRun (old : InScan) (now : Picture) (run : List ℕ) (n : ℕ) (answer : ScanStep) (new : InScan) (after : Picture) : Type 0 where
+  pub mid : InScan
+  pub between : Picture
+  pub early : ℕ
+  pub count : n ≡ early + 1
+  pub within : early < length run
+  pub «open» : mid.gate ≡ false
+  pub before : (limits : Limits) (items : List Item) (contents bytes : List ℕ) → InData limits items contents bytes old now → InData limits items contents (bytes ++ take early run) mid between
+  pub last : TakesScanByte mid between (slice_index run early) answer new after
+
+-- no byte of the list is FF
+abbrev pub ArePlain : List ℕ → Type 0
+ArePlain bytes = (k : ℕ) → k < length bytes → slice_index bytes k ≡ 255 → ⊥
+
 -- somewhere inside data
 abbrev pub IsInside : InScan → Picture → Type 0
 IsInside s now = (limits : Limits) × (items : List Item) × (contents : List ℕ) × (bytes : List ℕ) × InData limits items contents bytes s now
+
+-- an answer that ends no scan
+abbrev pub GoesInside : ScanStep → Type 0
+GoesInside More = Unit {0}
+GoesInside (Marker code) = ⊥
+GoesInside (Fault fault) = Unit {0}

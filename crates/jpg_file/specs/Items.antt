@@ -1,8 +1,8 @@
--- Between the items of a file: what a reader stands for there, and what a further byte comes to (T.81 B.1.1, B.2.1).
+-- Between the items of a file: what a reader stands for there, and what a further byte comes to (T.81, B.1.1, B.2.1).
 use Rattle.std.specs.Prelude.{◌≡◌, ◌⊎◌, ℕ, List, [], ◌∷◌, ◌++◌, None}
 use Rattle.jpg_spec.specs.Scan.{Blocks}
 use Rattle.jpg_spec.specs.Markers.{SpellsMarker, SpellsSegment, code_fault, kept_rule}
-use Rattle.jpg_spec.specs.Items.{Item, segment, scan, segments_of}
+use Rattle.jpg_spec.specs.Items.{Item, segment, scan, segments_of, SpellsFront}
 use Rattle.jpg_spec.specs.FileMeaning.{Leads, no_blocks}
 use Rattle.jpg_spec.specs.FirstFault.{Shows}
 use Rattle.jpg_spec.specs.ScanReading.{Beside}
@@ -14,7 +14,7 @@ use Rattle.jpg_file.specs.Held.{Holds, told_by}
 use Rattle.jpg_file.specs.InData.{Ended}
 use Rattle.jpg_file.specs.declared.items.Items.{Items}
 use Rattle.jpg_file.specs.declared.items.ItemStep.{ItemStep}
-use Rattle.jpg_file.specs.declared.items.ItemStep.TheVariants.{More, Head, Eoi, Fault, NoMemory}
+use Rattle.jpg_file.specs.declared.items.ItemStep.TheVariants.{More, Head, Eoi, Progressive, Fault, NoMemory}
 
 -- before SOI is whole
 pub record IsStart (bytes sent : List ℕ) (items : List Item) (blocks : Blocks) : Type 0 where
@@ -32,7 +32,7 @@ abbrev pub AtPlace : Limits → List ℕ → List ℕ → List Item → Blocks �
 AtPlace limits bytes sent items blocks = IsStart bytes sent items blocks ⊎ ((tail : List ℕ) × IsBeside limits bytes sent items blocks tail)
 
 -- The bytes are these items and a part of one more; the reader of segments was sent the same but for the data of scans.
-pub record Between (limits : Limits) (bytes : List ℕ) (items : List Item) (blocks : Blocks) (w : Items) : Type 0 where
+pub record BetweenItems (limits : Limits) (bytes : List ℕ) (items : List Item) (blocks : Blocks) (w : Items) : Type 0 where
   pub sent : List ℕ
   pub stands : StandsFor sent (segments_of items) (reading_of w.segments)
   pub at : AtPlace limits bytes sent items blocks
@@ -62,21 +62,30 @@ pub record BehindEnd (limits : Limits) (bytes : List ℕ) (items : List Item) (b
   pub allowed : code_fault (segments_of items) 0xd9 ≡ None
   pub holds : Holds limits (told_by w.held) (segments_of items)
 
--- no item more, or one that is no scan
-abbrev pub GoesOn : List Item → List Item → Type 0
-GoesOn items new = (new ≡ items) ⊎ ((code : ℕ) × (contents : List ℕ) × (new ≡ segment code contents ∷ items) × (code ≡ 0xda → ⊥))
+-- The bytes end with the header of a progressive frame, behind items that break no rule; nor does it.
+pub record EndsProgressive (limits : Limits) (bytes : List ℕ) : Type 0 where
+  pub items : List Item
+  pub blocks : Blocks
+  pub contents : List ℕ
+  pub spelled : SpellsFront (segment 0xc2 contents ∷ items) bytes
+  pub leads : Leads limits (segment 0xc2 contents ∷ items) blocks
+
+-- no item more, or one that is neither a scan nor the header of a progressive frame
+abbrev pub AddsNoScan : List Item → List Item → Type 0
+AddsNoScan items new = (new ≡ items) ⊎ ((code : ℕ) × (contents : List ℕ) × (new ≡ segment code contents ∷ items) × (code ≡ 0xda → ⊥) × (code ≡ 0xc2 → ⊥))
 
 abbrev pub AfterItem : Limits → List ℕ → List Item → Blocks → ItemStep → Items → Type 0
-AfterItem limits bytes items blocks More w = (new : List Item) × GoesOn items new × Between limits bytes new blocks w
+AfterItem limits bytes items blocks More w = (new : List Item) × AddsNoScan items new × BetweenItems limits bytes new blocks w
 AfterItem limits bytes items blocks Head w = BehindSegment limits bytes items blocks w × ((reading_of w.segments).code ≡ 0xda)
 AfterItem limits bytes items blocks Eoi w = BehindEnd limits bytes items blocks w
+AfterItem limits bytes items blocks Progressive w = EndsProgressive limits bytes
 AfterItem limits bytes items blocks (Fault f) w = Shows limits f.fault bytes × (f.at ≡ (reading_of w.segments).taken)
 AfterItem limits bytes items blocks NoMemory w = Unit {0}
 
 -- A BYTE outside scan data, and a segment that is judged: whatever stood before, this stands behind.
 abbrev pub TakesItemByte : Items → ℕ → ItemStep → Items → Type 0
 TakesItemByte old byte answer new =
-    (bytes : List ℕ) (items : List Item) (blocks : Blocks) → Between old.limits bytes items blocks old → AfterItem old.limits (bytes ++ byte ∷ []) items blocks answer new
+    (bytes : List ℕ) (items : List Item) (blocks : Blocks) → BetweenItems old.limits bytes items blocks old → AfterItem old.limits (bytes ++ byte ∷ []) items blocks answer new
 
 abbrev pub JudgesSegment : Items → ItemStep → Items → Type 0
 JudgesSegment old answer new =

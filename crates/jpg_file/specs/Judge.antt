@@ -1,4 +1,4 @@
--- A whole segment of a scan header, judged (T.81 B.2.3, G.1.1.1).
+-- A whole segment of a scan header, judged (T.81, B.2.3, G.1.1.1).
 use Rattle.std.specs.Prelude.{◌≡◌, ℕ, false, List, Some, None, Result, Ok, Err}
 use Rattle.jpg_spec.specs.Geometry.{Frame}
 use Rattle.jpg_spec.specs.Segments.{ScanHead}

@@ -6,3 +6,10 @@ pub mod Begin
 pub mod Reading
 pub mod Begun
 pub mod Judge
+pub mod File
+pub mod ReadFile
+pub mod PictureRead
+pub mod FirstHead
+pub mod WriteTables
+pub mod WriteScan
+pub mod WriteFile

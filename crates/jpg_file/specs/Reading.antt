@@ -1,6 +1,7 @@
--- A file in work: what its reader stands for (T.81 B.2.1).
-use Rattle.std.specs.Prelude.{◌≡◌, ◌⊎◌, ℕ, ◌+◌, ◌≤◌, Bool, true, false, List, [], ◌∷◌, ◌++◌, length, Some, None}
+-- A file in work: what its reader stands for (T.81, B.2.1).
+use Rattle.std.specs.Prelude.{◌≡◌, ◌⊎◌, ℕ, ◌+◌, ◌<◌, ◌≤◌, take, slice_index, is_some, Bool, true, false, List, [], ◌∷◌, ◌++◌, length, Some, None}
 use Rattle.jpg_spec.specs.Items.{Item, segments_of}
+use Rattle.jpg_spec.specs.InForce.{frame_of}
 use Rattle.jpg_spec.specs.Geometry.{Frame, is_progressive}
 use Rattle.jpg_spec.specs.FrameHeader.{IsFrame}
 use Rattle.jpg_spec.specs.Scan.{Blocks}
@@ -12,15 +13,15 @@ use Rattle.jpg_file.specs.InData.{InData}
 use Rattle.jpg_file.specs.Begun.{HasBegun}
 use Rattle.jpg_file.specs.declared.begun.Begun.{Begun}
 use Rattle.jpg_file.specs.declared.items.Items.{Items}
-use Rattle.jpg_file.specs.Items.{Between, BehindSegment, BehindHead, AfterItem, AfterScan}
+use Rattle.jpg_file.specs.Items.{BetweenItems, BehindSegment, BehindHead, AfterItem, AfterScan}
 use Rattle.jpg_file.specs.declared.scan.InScan.{InScan}
 use Rattle.jpg_file.specs.declared.items.ItemStep.{ItemStep}
-use Rattle.jpg_file.specs.declared.items.ItemStep.TheVariants.{More, Head, Eoi, Fault, NoMemory}
+use Rattle.jpg_file.specs.declared.items.ItemStep.TheVariants.{More, Head, Eoi, Progressive, Fault, NoMemory}
 use Rattle.jpg_file.specs.declared.reading.Reading.{Reading}
 
 -- between items, which lead to these blocks
 pub record Itemising (limits : Limits) (bytes : List ℕ) (items : List Item) (blocks : Blocks) (r : Reading) : Type 0 where
-  pub at : Between limits bytes items blocks r.items
+  pub at : BetweenItems limits bytes items blocks r.items
   pub none : r.scan ≡ None
   pub count : r.taken ≡ length bytes
   pub same : (reading_of (r.items).segments).taken ≡ r.taken
@@ -37,10 +38,8 @@ abbrev pub waiting : Bool → ℕ
 waiting false = 0
 waiting true = 1
 
--- inside the data of a scan
-pub record Scanning (limits : Limits) (bytes : List ℕ) (r : Reading) : Type 0 where
-  pub items : List Item
-  pub contents : List ℕ
+-- inside the data of the scan of this header behind these items
+pub record Scanning (limits : Limits) (items : List Item) (contents bytes : List ℕ) (r : Reading) : Type 0 where
   pub coefs : Picture
   pub has : r.coefs ≡ Some coefs
   pub scan : InScan
@@ -51,12 +50,11 @@ pub record Scanning (limits : Limits) (bytes : List ℕ) (r : Reading) : Type 0 
   pub behind : (reading_of (r.items).segments).taken + waiting scan.gate ≤ r.taken
 
 -- Behind the data the items go on, with the scan as the last of them and the picture that is held.
-pub record ScanDone (limits : Limits) (bytes : List ℕ) (answer : ItemStep) (r : Reading) : Type 0 where
-  pub items : List Item
-  pub contents : List ℕ
+pub record ScanDone (limits : Limits) (items : List Item) (contents bytes : List ℕ) (answer : ItemStep) (r : Reading) : Type 0 where
   pub coefs : Picture
   pub has : r.coefs ≡ Some coefs
   pub none : r.scan ≡ None
+  pub framed : coefs.frame ≡ frame_of limits (segments_of items)
   pub after : AfterScan limits items contents bytes (map_of coefs) answer r.items
   pub count : r.taken ≡ length bytes
   pub same : (reading_of (r.items).segments).taken ≡ r.taken
@@ -66,11 +64,12 @@ abbrev pub IsShown : Limits → List ℕ → ItemStep → Type 0
 IsShown limits bytes More = ⊥
 IsShown limits bytes Head = ⊥
 IsShown limits bytes Eoi = ⊥
+IsShown limits bytes Progressive = ⊥
 IsShown limits bytes (Fault f) = Shows limits f.fault bytes × (f.at ≡ length bytes)
 IsShown limits bytes NoMemory = ⊥
 
-abbrev pub AfterScanByte : Limits → List ℕ → ItemStep → Reading → Type 0
-AfterScanByte limits bytes answer r = ((answer ≡ More) × Scanning limits bytes r) ⊎ (ScanDone limits bytes answer r ⊎ IsShown limits bytes answer)
+abbrev pub AfterScanByte : Limits → List Item → List ℕ → List ℕ → ItemStep → Reading → Type 0
+AfterScanByte limits items contents bytes answer r = ((answer ≡ More) × Scanning limits items contents bytes r) ⊎ (ScanDone limits items contents bytes answer r ⊎ IsShown limits bytes answer)
 
 -- a scan header is whole, in a sequential frame, and there is a picture
 pub record HeadWhole (limits : Limits) (bytes : List ℕ) (items : List Item) (blocks : Blocks) (r : Reading) (b : Begun) : Type 0 where
@@ -89,9 +88,10 @@ pub record HeadWhole (limits : Limits) (bytes : List ℕ) (items : List Item) (b
   pub same : (reading_of (r.items).segments).taken ≡ r.taken
 
 abbrev pub AfterHead : Limits → List ℕ → List Item → Items → ItemStep → Reading → Begun → Type 0
-AfterHead limits bytes items old More r b = Scanning limits bytes r × HasBegun limits b ((0xda, (reading_of old.segments).contents) ∷ segments_of items)
+AfterHead limits bytes items old More r b = Scanning limits items (reading_of old.segments).contents bytes r × HasBegun limits b ((0xda, (reading_of old.segments).contents) ∷ segments_of items)
 AfterHead limits bytes items old Head r b = ⊥
 AfterHead limits bytes items old Eoi r b = ⊥
+AfterHead limits bytes items old Progressive r b = ⊥
 AfterHead limits bytes items old (Fault f) r b = Shows limits f.fault bytes × (f.at ≡ length bytes)
 AfterHead limits bytes items old NoMemory r b = ⊥
 
@@ -105,4 +105,24 @@ TakesByteOfItems old byte answer new =
     (bytes : List ℕ) (items : List Item) (blocks : Blocks) → Itemising old.items.limits bytes items blocks old → AfterItemByte old.items.limits (bytes ++ byte ∷ []) items blocks answer new
 
 abbrev pub TakesByteOfScan : Reading → ℕ → ItemStep → Reading → Type 0
-TakesByteOfScan old byte answer new = (bytes : List ℕ) → Scanning old.items.limits bytes old → AfterScanByte old.items.limits (bytes ++ byte ∷ []) answer new
+TakesByteOfScan old byte answer new =
+    (items : List Item) (contents bytes : List ℕ) → Scanning old.items.limits items contents bytes old → AfterScanByte old.items.limits items contents (bytes ++ byte ∷ []) answer new
+
+-- a scan is in work, no FF waits, and units are due
+pub record IsOpenScan (r : Reading) : Type 0 where
+  pub scan : InScan
+  pub inside : r.scan ≡ Some scan
+  pub gate : scan.gate ≡ false
+  pub due : scan.work.whole ≡ false
+
+-- Some plain bytes of a scan: a state before the last of those that were taken, and what that one came to.
+pub record TakesRunOfScan (old : Reading) (run : List ℕ) (n : ℕ) (answer : ItemStep) (new : Reading) : Type 0 where
+  pub mid : Reading
+  pub early : ℕ
+  pub count : n ≡ early + 1
+  pub within : early < length run
+  pub inside : is_some mid.scan ≡ true
+  pub items : mid.items ≡ old.items
+  pub taken : mid.taken ≡ old.taken + early
+  pub before : (limits : Limits) (items : List Item) (contents bytes : List ℕ) → Scanning limits items contents bytes old → Scanning limits items contents (bytes ++ take early run) mid
+  pub last : (limits : Limits) (items : List Item) (contents bytes : List ℕ) → Scanning limits items contents bytes mid → AfterScanByte limits items contents (bytes ++ slice_index run early ∷ []) answer new

@@ -1,9 +1,9 @@
-// A scan begins (T.81 A.2, E.1.4).
+// A scan begins (T.81, A.2, E.1.4).
 ghost use Rattle.std.specs.Prelude.{◌≡◌, ◌≤◌, ◌==◌, if◌then◌else◌, min, false, ℕ, List};
 ghost use Rattle.jpg_spec.specs.Items.{Item};
 ghost use Rattle.jpg_spec.specs.Scan.{Blocks};
 ghost use Rattle.jpg_spec.specs.declared.frame.Limits.{Limits};
-ghost use Rattle.jpg_file.specs.Begin.{BeginsScan, IsReady};
+ghost use Rattle.jpg_file.specs.Begin.{StandsAtFirst, CanBegin};
 
 use crate::scan::{InScan, ScanWork};
 use jpg_base::{Frame, ScanHead};
@@ -20,9 +20,9 @@ pub fn begin_scan(
     interval: u16,
     coefs: &Coefs,
 ) -> InScan
-    requires { IsReady frame.now head.now tables.now interval coefs.now }
+    requires { CanBegin frame.now head.now tables.now interval coefs.now }
     ensures gate { result.gate ≡ false }
-    ensures begun { BeginsScan frame.now head.now tables.now interval coefs.now result }
+    ensures begun { StandsAtFirst frame.now head.now tables.now interval coefs.now result }
 {
     coefs.checked();
     let all = frame.scan_units(head);

@@ -1,11 +1,12 @@
-// What the segments of a file told so far (T.81 B.2).
+// What the segments of a file told so far (T.81, B.2).
 ghost use Rattle.std.specs.Prelude.{◌≡◌, ◌≤◌, ◌==◌, ◌&&◌, ◌||◌, ◌<◌, All, not, List, [], ◌∷◌, length, Some, None};
 ghost use Rattle.jpg_spec.specs.FrameHeader.{AreLimits};
 ghost use Rattle.jpg_spec.specs.Jfif.{begins_jfif, begins_adobe};
 ghost use Rattle.jpg_spec.specs.Markers.{Segment, is_kept_if, is_within, kept_rule, process_of_code};
 ghost use Rattle.jpg_spec.specs.declared.frame.Limits.{Limits as Bounded};
 ghost use Rattle.jpg_spec.specs.Geometry.{component_at};
-ghost use Rattle.jpg_file.specs.Held.{Holds, HoldsSegment, IsOther, Takes, lacks_any, lacks_part, told_by};
+ghost use Rattle.jpg_file.specs.Held.{Holds, HoldsSegment, Takes, lacks_any, lacks_part, told_by};
+ghost use Rattle.jpg_markers.specs.Seen.{IsOther};
 
 use jpg_base::{Frame, Limits, NoMemory};
 use jpg_huff::TableSet;

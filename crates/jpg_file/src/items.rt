@@ -1,4 +1,4 @@
-// The items of a file, byte by byte, scan data left out (T.81 B.1.1, B.2.1).
+// The items of a file, byte by byte, scan data left out (T.81, B.1.1, B.2.1).
 ghost use Rattle.std.specs.Prelude.{◌≡◌, ◌<◌, ◌+◌, ◌++◌, ◌≤◌, ℕ, List, [], ◌∷◌, length, None};
 ghost use Rattle.jpg_spec.specs.FrameHeader.{AreLimits};
 ghost use Rattle.jpg_spec.specs.Scan.{Blocks};
@@ -6,7 +6,7 @@ ghost use Rattle.jpg_spec.specs.Items.{Item};
 ghost use Rattle.jpg_spec.specs.FileMeaning.{no_blocks};
 ghost use Rattle.jpg_spec.specs.declared.frame.Limits.{Limits as Bounded};
 ghost use Rattle.jpg_markers.specs.Reading.{reading_of};
-ghost use Rattle.jpg_file.specs.Items.{Between, BehindHead, BehindSegment, JudgesSegment, PassesHead, TakesItemByte, TakesMarker};
+ghost use Rattle.jpg_file.specs.Items.{BetweenItems, BehindHead, BehindSegment, JudgesSegment, PassesHead, TakesItemByte, TakesMarker};
 
 use crate::held::{Held, Took};
 use jpg_base::{Limits, Stop};
@@ -31,6 +31,8 @@ pub enum ItemStep {
     Head,
     /// EOI is there.
     Eoi,
+    /// The segment of a progressive frame header is whole. What follows it isn't read yet.
+    Progressive,
     /// The byte shows this fault, at the number of bytes taken.
     Fault(FaultAt),
     /// Memory is wanting.
@@ -41,7 +43,7 @@ impl Items {
     /// Before any byte.
     pub fn new(alloc: Global, limits: Limits) -> Items
         requires { AreLimits limits }
-        ensures between { Between limits [] [] no_blocks result }
+        ensures between { BetweenItems limits [] [] no_blocks result }
         ensures taken { (reading_of result.segments).taken ≡ 0 }
     {
         Items {
@@ -53,7 +55,7 @@ impl Items {
 
     /// Takes a byte outside scan data.
     pub fn byte(&mut self, byte: u8) -> ItemStep
-        requires stands { (bytes : List ℕ) × (items : List Item) × (blocks : Blocks) × Between self.old.limits bytes items blocks self.old }
+        requires stands { (bytes : List ℕ) × (items : List Item) × (blocks : Blocks) × BetweenItems self.old.limits bytes items blocks self.old }
         requires limits { AreLimits self.old.limits }
         requires room { (reading_of self.old.segments).taken < self.old.limits.input }
         ensures after { TakesItemByte self.old byte result self.new }
@@ -112,7 +114,12 @@ impl Items {
             return ItemStep::Head;
         }
         match self.held.take(self.limits, code, self.segments.contents()) {
-            Took::Done => ItemStep::More,
+            Took::Done => {
+                if code == 0xc2 {
+                    return ItemStep::Progressive;
+                }
+                ItemStep::More
+            }
             Took::Fault(fault) => ItemStep::Fault(FaultAt {
                 fault,
                 at: self.segments.taken(),

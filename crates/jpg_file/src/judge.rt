@@ -1,4 +1,4 @@
-// A scan header, judged by the tables and the scans before it (T.81 B.2.3, G.1.1.1).
+// A scan header, judged by the tables and the scans before it (T.81, B.2.3, G.1.1.1).
 ghost use Rattle.std.specs.Prelude.{◌≡◌, false};
 ghost use Rattle.jpg_spec.specs.Geometry.{is_progressive};
 ghost use Rattle.jpg_file.specs.Held.{told_by};

@@ -1,20 +1,33 @@
-//! Whole files, read piece by piece (T.81 B.2.1).
+//! Whole files, read piece by piece, and sequential ones written (T.81, B.2.1).
 #![tactic(auto)]
 
 mod begin;
 mod begun;
 mod data;
+mod ends;
+mod file;
+mod head;
 mod held;
 mod items;
 mod judge;
+mod picture;
+mod reader;
 mod reading;
 mod scan;
+mod write;
+mod write_scan;
+mod write_tables;
 
 pub use begin::begin_scan;
 pub use begun::Begun;
 pub use data::{DataStep, take_data};
+pub use file::FileWork;
+pub use head::{Head, colours, head_of};
 pub use held::{Held, Took, lacks_table};
 pub use items::{ItemStep, Items};
 pub use judge::judge_head;
+pub use picture::{Picture, picture_of};
+pub use reader::Reader;
 pub use reading::Reading;
 pub use scan::{InScan, ScanStep, ScanWork};
+pub use write::{Plan, write_file};

@@ -1,10 +1,11 @@
-// A file in work: between items, or inside the data of a scan (T.81 B.2.1).
-ghost use Rattle.std.specs.Prelude.{◌≡◌, ◌<◌, ◌+◌, ◌++◌, ℕ, List, [], ◌∷◌};
+// A file in work: between items, or inside the data of a scan (T.81, B.2.1).
+ghost use Rattle.std.specs.Prelude.{◌≡◌, ◌<◌, ◌≤◌, ◌+◌, ◌++◌, ℕ, List, [], ◌∷◌, length, true};
 ghost use Rattle.jpg_spec.specs.FrameHeader.{AreLimits};
 ghost use Rattle.jpg_spec.specs.Scan.{Blocks};
 ghost use Rattle.jpg_spec.specs.Items.{Item};
 ghost use Rattle.jpg_spec.specs.declared.frame.Limits.{Limits as Bounded};
-ghost use Rattle.jpg_file.specs.Reading.{HeadWhole, Itemising, Scanning, TakesByteOfItems, TakesByteOfScan, TakesHead};
+ghost use Rattle.jpg_file.specs.Reading.{HeadWhole, IsOpenScan, Itemising, Scanning, TakesByteOfItems, TakesByteOfScan, TakesHead, TakesRunOfScan};
+ghost use Rattle.jpg_file.specs.InData.{ArePlain};
 
 use crate::begin::begin_scan;
 use crate::begun::Begun;
@@ -24,8 +25,8 @@ pub struct Reading {
 }
 
 impl Reading {
-    // Takes a scan header that is whole: its scan begins, or it shows a fault.
-    fn take_head(&mut self, begun: &mut Begun) -> ItemStep
+    /// Takes a scan header that is whole: its scan begins, or it shows a fault.
+    pub fn take_head(&mut self, begun: &mut Begun) -> ItemStep
         requires stands { (bytes : List ℕ) × (items : List Item) × (blocks : Blocks) × HeadWhole self.old.items.limits bytes items blocks self.old begun.old }
         ensures { TakesHead self.old begun.old result self.new begun.new }
     {
@@ -53,7 +54,9 @@ impl Reading {
                     self.items.held.interval,
                     coefs,
                 );
-                begun.note(head.parts.as_slice());
+                let parts = head.parts.as_slice();
+                begun.note_quants(parts, &frame, &self.items.held.quants);
+                begun.note(parts);
                 self.scan = Some(scan);
                 self.items.head_done();
                 ItemStep::More
@@ -61,20 +64,21 @@ impl Reading {
         }
     }
 
-    // Takes a byte between items.
-    fn item_byte(&mut self, byte: u8) -> ItemStep
+    /// Takes a byte between items.
+    pub fn item_byte(&mut self, byte: u8) -> ItemStep
         requires stands { (bytes : List ℕ) × (items : List Item) × (blocks : Blocks) × Itemising self.old.items.limits bytes items blocks self.old }
         requires limits { AreLimits self.old.items.limits }
         requires room { self.old.taken < self.old.items.limits.input }
-        ensures { TakesByteOfItems self.old byte result self.new }
+        ensures after { TakesByteOfItems self.old byte result self.new }
+        ensures coefs { self.new.coefs ≡ self.old.coefs }
     {
         self.taken += 1;
         self.items.byte(byte)
     }
 
-    // Takes a byte inside the data of a scan.
-    fn scan_byte(&mut self, byte: u8) -> ItemStep
-        requires stands { (bytes : List ℕ) × Scanning self.old.items.limits bytes self.old }
+    /// Takes a byte inside the data of a scan.
+    pub fn scan_byte(&mut self, byte: u8) -> ItemStep
+        requires stands { (items : List Item) × (contents : List ℕ) × (bytes : List ℕ) × Scanning self.old.items.limits items contents bytes self.old }
         requires limits { AreLimits self.old.items.limits }
         requires room { self.old.taken < self.old.items.limits.input }
         ensures { TakesByteOfScan self.old byte result self.new }
@@ -94,6 +98,44 @@ impl Reading {
                 self.scan = None;
                 self.items.marker(code, at)
             }
+        }
+    }
+
+    /// Whether plain bytes of a scan may be taken behind one another.
+    pub fn is_open(&self) -> bool
+        ensures { result ≡ true → IsOpenScan self.now }
+    {
+        match &self.scan {
+            Some(scan) => scan.is_open(),
+            None => false,
+        }
+    }
+
+    /// Takes up to eight plain bytes inside the data of a scan, and tells how many were taken: up to the one
+    /// that ends an interval or shows a fault.
+    pub fn scan_run(&mut self, run: &[u8]) -> (usize, ItemStep)
+        requires stands { (items : List Item) × (contents : List ℕ) × (bytes : List ℕ) × Scanning self.old.items.limits items contents bytes self.old }
+        requires room { self.old.taken + length run.now ≤ self.old.items.limits.input }
+        requires limits { AreLimits self.old.items.limits }
+        requires opened { IsOpenScan self.old }
+        requires some { 1 ≤ length run.now }
+        requires few { length run.now ≤ 8 }
+        requires plain { ArePlain run.now }
+        ensures { TakesRunOfScan self.old run.now result.0 result.1 self.new }
+    {
+        let Some(coefs) = &mut self.coefs else {
+            unreachable!();
+        };
+        let Some(scan) = &mut self.scan else {
+            unreachable!();
+        };
+        let (n, step) = scan.run(coefs, run);
+        let at = self.taken + n as u64;
+        self.taken = at;
+        match step {
+            ScanStep::More => (n, ItemStep::More),
+            ScanStep::Fault(fault) => (n, ItemStep::Fault(FaultAt { fault, at })),
+            ScanStep::Marker(_) => unreachable!(),
         }
     }
 }

@@ -1,13 +1,13 @@
-// The data of a scan, read byte by byte (T.81 B.1.1.5, E.1.4).
-ghost use Rattle.std.specs.Prelude.{◌≡◌, false, true, ℕ, List, [], ◌∷◌, ◌++◌};
+// The data of a scan, read byte by byte (T.81, B.1.1.5, E.1.4).
+ghost use Rattle.std.specs.Prelude.{◌≡◌, ◌≤◌, false, true, ℕ, List, [], ◌∷◌, ◌++◌, length};
 ghost use Rattle.jpg_spec.specs.Items.{Item};
 ghost use Rattle.jpg_spec.specs.ScanReading.{ScanPlace, ScanAt, with_byte};
 ghost use Rattle.jpg_spec.specs.declared.frame.Limits.{Limits};
 ghost use Rattle.jpg_coefs.specs.Machine.{fault_of};
 ghost use Rattle.jpg_file.specs.declared.scan.ScanStep.TheVariants as answer;
-ghost use Rattle.jpg_file.specs.InData.{AtWork, IsInside, MarkerAt, NextBegins, TakesCode, TakesData, TakesScanByte};
+ghost use Rattle.jpg_file.specs.InData.{ArePlain, AtWork, GoesInside, IsInside, MarkerAt, NextBegins, TakesCode, TakesData, TakesRun, TakesScanByte};
 
-use crate::data::{DataStep, take_data};
+use crate::data::{DataStep, take_data, take_run};
 use jpg_coefs::{Coefs, ScanMachine, UnitFault};
 use jpg_huff::{Gate, Passed};
 use jpg_seq::SeqReader;
@@ -66,6 +66,39 @@ impl InScan {
             Passed::More => ScanStep::More,
             Passed::Data(data) => self.work.data(coefs, data),
             Passed::Marker(code) => self.work.marker(coefs, code),
+        }
+    }
+}
+
+impl InScan {
+    /// Whether plain bytes may be taken behind one another: no FF waits, and units are due.
+    pub fn is_open(&self) -> bool
+        ensures gate { result ≡ true → self.now.gate ≡ false }
+        ensures due { result ≡ true → self.now.work.whole ≡ false }
+    {
+        !self.gate.is_waiting() && !self.work.whole
+    }
+
+    /// Takes up to eight plain bytes, and tells how many were taken: up to the one that ends the interval or
+    /// shows a fault.
+    pub fn run(&mut self, coefs: &mut Coefs, run: &[u8]) -> (usize, ScanStep)
+        requires inside { IsInside self.old coefs.old }
+        requires gate { self.old.gate ≡ false }
+        requires due { self.old.work.whole ≡ false }
+        requires some { 1 ≤ length run.now }
+        requires few { length run.now ≤ 8 }
+        requires plain { ArePlain run.now }
+        ensures after { TakesRun self.old coefs.old run.now result.0 result.1 self.new coefs.new }
+        ensures goes { GoesInside result.1 }
+    {
+        let (n, step) = take_run(&mut self.work.machine, coefs, run);
+        match step {
+            DataStep::More => (n, ScanStep::More),
+            DataStep::Whole => {
+                self.work.whole = true;
+                (n, ScanStep::More)
+            }
+            DataStep::Fault(fault) => (n, ScanStep::Fault(named(fault))),
         }
     }
 }

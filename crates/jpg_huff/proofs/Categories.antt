@@ -1,5 +1,6 @@
 -- Numbers of a category: how many digits they have, and their extra bits.
-use Rattle.std.proofs.Common.{◌≡◌, ℕ, zero, suc, ◌+◌, ◌-◌, ◌*◌, ◌%◌, ◌^◌, ◌<◌, ◌≤◌, Bool, refl, sym, ap, ◌∙◌, subst, arith, pos, neg_ℤ, add-one}
+use Rattle.std.proofs.Common.{◌≡◌, ℕ, zero, suc, ◌+◌, ◌-◌, ◌*◌, ◌%◌, ◌^◌, ◌<◌, ◌≤◌, Bool, refl, sym, ap, ◌∙◌, subst, arith, pos, neg_ℤ, ◌-ℤ◌, add-one}
+use Rattle.std.proofs.lemmas.Int.{ints}
 use lib.Count.{count_leading_zeros}
 use Rattle.std.proofs.lemmas.Nat.{leading_top, one_shl, pow_pos}
 use Rattle.std.proofs.Math.Nat.{pow-succ'}
@@ -7,7 +8,7 @@ use Rattle.jpg_spec.specs.Bits.{bits_of}
 use Rattle.jpg_spec.specs.Numbers.{digits, category, extra_bits}
 use Rattle.jpg_spec.proofs.Facts.{below_digits}
 use Rattle.jpg_spec.proofs.Strings.{bit_value}
-use Rattle.jpg_spec.proofs.ExtraBits.{digits_high}
+use Rattle.jpg_spec.proofs.ExtraBits.{digits_high, double}
 use Rattle.jpg_huff.proofs.Levels.{bit_small}
 
 -- the digits of a number of 32 bits
@@ -26,9 +27,6 @@ shifted_fits m d n e f l =
     let s : 1 * 2 ^ d % 18446744073709551616 ≡ 2 ^ d = one_shl d 64 (omega arith) in
     let b : m < 2 ^ d = subst (λ k. m < 2 ^ k) (sym f) (below_digits m) in
     omega (arith, s, b, e)
-
-double : (s : ℕ) → 1 ≤ s → 2 ^ s ≡ 2 * 2 ^ (s - 1)
-double s some = let e : s ≡ suc (s - 1) = omega arith in ap (λ k. 2 ^ k) e ∙ pow-succ' 2 (s - 1)
 
 -- the lower half of the extra bits tells negative numbers
 pub digits_low : (s n : ℕ) → 1 ≤ s → n < 2 ^ (s - 1) → digits (2 ^ s - 1 - n) ≡ s
@@ -57,3 +55,10 @@ fits_more n have b h =
     let p : 2 ^ (have + 1) ≡ 2 * 2 ^ have = ap (λ m. 2 ^ m) (add-one have) ∙ pow-succ' 2 have in
     let q : bit_value b ≤ 1 = bit_small b in
     omega arith
+
+-- numbers less others
+pub lowered_by_none : (n : ℕ) → pos n -ℤ pos 0 ≡ pos n
+lowered_by_none n = omega (arith, ints)
+
+pub lowered_below : (n m : ℕ) → n ≤ m → pos n -ℤ pos m ≡ neg_ℤ (pos (m - n))
+lowered_below n m h = omega (arith, ints, h)

@@ -6,14 +6,11 @@ use Rattle.std.specs.List.{sum}
 use Rattle.std.proofs.lemmas.Bool.Decides.{nat_tests}
 use Rattle.jpg_spec.specs.Codes.{Code, first_code}
 use Rattle.jpg_huff.specs.Index.{IsIndexed, limit_from, IsEncoder, entry_code}
+use Rattle.jpg_spec.proofs.Common.{both}
 
 abbrev pub all_below : ℕ → (ℕ → Bool) → Bool
 all_below zero p = true
 all_below (suc n) p = p n && all_below n p
-
-both_true : (a b : Bool) → (a && b) ≡ true → (a ≡ true) × (b ≡ true)
-both_true true b e = (refl, e)
-both_true false b e = cc
 
 last_or_before : (i n : ℕ) → i < suc n → (i ≡ n) ⊎ (i < n)
 last_or_before i n h = grind arith
@@ -22,8 +19,8 @@ pub all_below-at : (n : ℕ) (p : ℕ → Bool) → all_below n p ≡ true → (
 all_below-at zero p e i h = absurd (omega arith)
 all_below-at (suc n) p e i h =
     ⊎_elim
-    (λ (s : i ≡ n). ap p s ∙ (both_true (p n) (all_below n p) e).0)
-    (λ (l : i < n). all_below-at n p (both_true (p n) (all_below n p) e).1 i l)
+    (λ (s : i ≡ n). ap p s ∙ (both (p n) (all_below n p) e).0)
+    (λ (l : i < n). all_below-at n p (both (p n) (all_below n p) e).1 i l)
     (last_or_before i n h)
 
 abbrev pub is_indexed : List ℕ → ℕ → List ℕ → List ℕ → List ℕ → Bool
@@ -50,14 +47,14 @@ leb_is a b e = grind (arith, nat_tests)
 -- the test shows the fact
 pub IsIndexed-from_test : (counts : List ℕ) (symbols : ℕ) (firsts starts limits : List ℕ) → is_indexed counts symbols firsts starts limits ≡ true → IsIndexed counts symbols firsts starts limits
 IsIndexed-from_test counts symbols firsts starts limits e =
-    let h9 = both_true _ (all_below 16 (λ i. leb (get_or starts i 0 + sum (drop i counts)) symbols)) e in
-    let h8 = both_true _ (all_below 16 (λ i. ltb (get_or firsts i 0 + get_or counts i 0) (2 ^ (i + 1)))) h9.0 in
-    let h7 = both_true _ (all_below 16 (λ i. eqb (get_or limits i 0) (limit_from (get_or firsts i 0) (drop i counts)))) h8.0 in
-    let h6 = both_true _ (all_below 15 (λ i. eqb (get_or starts (i + 1) 0) (get_or starts i 0 + get_or counts i 0))) h7.0 in
-    let h5 = both_true _ (eqb (get_or starts 0 0) 0) h6.0 in
-    let h4 = both_true _ (all_below 15 (λ i. eqb (get_or firsts (i + 1) 0) (2 * (get_or firsts i 0 + get_or counts i 0)))) h5.0 in
-    let h3 = both_true _ (eqb (get_or firsts 0 0) 0) h4.0 in
-    let h2 = both_true (eqb (length counts) 16) (leb symbols 256) h3.0 in
+    let h9 = both _ (all_below 16 (λ i. leb (get_or starts i 0 + sum (drop i counts)) symbols)) e in
+    let h8 = both _ (all_below 16 (λ i. ltb (get_or firsts i 0 + get_or counts i 0) (2 ^ (i + 1)))) h9.0 in
+    let h7 = both _ (all_below 16 (λ i. eqb (get_or limits i 0) (limit_from (get_or firsts i 0) (drop i counts)))) h8.0 in
+    let h6 = both _ (all_below 15 (λ i. eqb (get_or starts (i + 1) 0) (get_or starts i 0 + get_or counts i 0))) h7.0 in
+    let h5 = both _ (eqb (get_or starts 0 0) 0) h6.0 in
+    let h4 = both _ (all_below 15 (λ i. eqb (get_or firsts (i + 1) 0) (2 * (get_or firsts i 0 + get_or counts i 0)))) h5.0 in
+    let h3 = both _ (eqb (get_or firsts 0 0) 0) h4.0 in
+    let h2 = both (eqb (length counts) 16) (leb symbols 256) h3.0 in
     record {
       sixteen = eqb_is _ _ h2.0;
       size = leb_is _ _ h2.1;
@@ -99,9 +96,9 @@ same_bits_is [] [] e = refl
 same_bits_is [] (y ∷ b) e = cc
 same_bits_is (x ∷ a) [] e = cc
 same_bits_is (x ∷ a) (y ∷ b) e =
-    let both = both_true (same_bit x y) (same_bits a b) e in
-    let first = same_bit_is x y both.0 in
-    let later = same_bits_is a b both.1 in
+    let parts = both (same_bit x y) (same_bits a b) e in
+    let first = same_bit_is x y parts.0 in
+    let later = same_bits_is a b parts.1 in
     cc
 
 same_code_is : (a b : Option (List Bool)) → same_code a b ≡ true → a ≡ b
@@ -118,8 +115,8 @@ is_encoder table entries =
 
 pub IsEncoder-from_test : (table : List Code) (entries : List ℕ) → is_encoder table entries ≡ true → IsEncoder table entries
 IsEncoder-from_test table entries e =
-    let h2 = both_true _ (all_below 256 (λ s. ltb (get_or entries s 0 % 65536) (2 ^ (get_or entries s 0 / 65536)))) e in
-    let h1 = both_true (all_below 256 (λ s. same_code (entry_code (get_or entries s 0)) (first_code table s))) (all_below 256 (λ s. leb (get_or entries s 0 / 65536) 16)) h2.0 in
+    let h2 = both _ (all_below 256 (λ s. ltb (get_or entries s 0 % 65536) (2 ^ (get_or entries s 0 / 65536)))) e in
+    let h1 = both (all_below 256 (λ s. same_code (entry_code (get_or entries s 0)) (first_code table s))) (all_below 256 (λ s. leb (get_or entries s 0 / 65536) 16)) h2.0 in
     record {
       first = λ s h. same_code_is _ _ (all_below-at 256 (λ s. same_code (entry_code (get_or entries s 0)) (first_code table s)) h1.0 s h);
       short = λ s h. leb_is _ _ (all_below-at 256 (λ s. leb (get_or entries s 0 / 65536) 16) h1.1 s h);

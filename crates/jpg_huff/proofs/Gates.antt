@@ -5,7 +5,7 @@ use Rattle.jpg_spec.specs.Bits.{SpellsByte}
 use Rattle.jpg_huff.specs.declared.gate.Passed.{Passed}
 use Rattle.jpg_huff.specs.declared.gate.Passed.TheVariants.{More, Data, Marker}
 use Rattle.jpg_huff.specs.Gate.{Passes}
-use Rattle.jpg_huff.specs.Laws.{Feeds, AtLast}
+use Rattle.jpg_huff.specs.Laws.{PassesAll, AtLast}
 
 as_more : (answer : Passed) (answers : List Passed) (fill : ℕ) (last : Passed) → answer ≡ More → answers ≡ replicate fill More ++ last ∷ [] → answer ∷ answers ≡ replicate (suc fill) More ++ last ∷ []
 as_more answer answers fill last e f = ap (λ (a : Passed). (let l : List Passed = a ∷ answers in l)) e ∙ ap (λ (l : List Passed). (let m : List Passed = More ∷ l in m)) f
@@ -34,13 +34,13 @@ at_code byte More mid m n p = absurd (n p.0)
 at_code byte (Data passed) mid m n p = absurd (m p.0.0)
 at_code byte (Marker code) mid m n p = (ap (λ (b : ℕ). (let a : Passed = Marker b in a)) p.3, p.4)
 
-fed_none : (old : Bool) (answers : List Passed) (new : Bool) → Feeds old [] answers new → answers ≡ []
+fed_none : (old : Bool) (answers : List Passed) (new : Bool) → PassesAll old [] answers new → answers ≡ []
 fed_none old answers new f = f.0
 
-fed_same : (old : Bool) (answers : List Passed) (new : Bool) → Feeds old [] answers new → new ≡ old
+fed_same : (old : Bool) (answers : List Passed) (new : Bool) → PassesAll old [] answers new → new ≡ old
 fed_same old answers new f = f.1
 
-fed_plain : (byte : ℕ) (answers : List Passed) (new : Bool) → (byte ≡ 255 → ⊥) → Feeds false (byte ∷ []) answers new → AtLast (Data byte) (byte ∷ []) answers × (new ≡ false)
+fed_plain : (byte : ℕ) (answers : List Passed) (new : Bool) → (byte ≡ 255 → ⊥) → PassesAll false (byte ∷ []) answers new → AtLast (Data byte) (byte ∷ []) answers × (new ≡ false)
 fed_plain byte [] new n f = absurd f
 fed_plain byte (answer ∷ answers) new n f =
     let one = at_plain byte answer f.0 n f.1 in
@@ -49,7 +49,7 @@ fed_plain byte (answer ∷ answers) new n f =
 
 -- FF again and again, and then a last byte
 fed_fill : (fill byte : ℕ) (last : Passed) (answers : List Passed) (new : Bool) → ((answer : Passed) (mid : Bool) → Passes true byte answer mid → (answer ≡ last) × (mid ≡ false))
-    → Feeds true (replicate fill 255 ++ byte ∷ []) answers new → (answers ≡ replicate fill More ++ last ∷ []) × (new ≡ false)
+    → PassesAll true (replicate fill 255 ++ byte ∷ []) answers new → (answers ≡ replicate fill More ++ last ∷ []) × (new ≡ false)
 fed_fill zero byte last [] new at f = absurd f
 fed_fill zero byte last (answer ∷ answers) new at f =
     let one = at answer f.0 f.1 in
@@ -58,17 +58,17 @@ fed_fill zero byte last (answer ∷ answers) new at f =
 fed_fill (suc fill) byte last [] new at f = absurd f
 fed_fill (suc fill) byte last (answer ∷ answers) new at f =
     let one = at_fill true answer f.0 f.1 in
-    let P : Bool → Type 0 = λ mid. Feeds mid (replicate fill 255 ++ byte ∷ []) answers new in
+    let P : Bool → Type 0 = λ mid. PassesAll mid (replicate fill 255 ++ byte ∷ []) answers new in
     let later = fed_fill fill byte last answers new at (subst P one.1 f.2) in
     (as_more answer answers fill last one.0 later.0, later.1)
 
 -- from a gate at which nothing waits
 fed_marker : (fill byte : ℕ) (last : Passed) (answers : List Passed) (new : Bool) → ((answer : Passed) (mid : Bool) → Passes true byte answer mid → (answer ≡ last) × (mid ≡ false))
-    → Feeds false (replicate (suc fill) 255 ++ byte ∷ []) answers new → (answers ≡ replicate (suc fill) More ++ last ∷ []) × (new ≡ false)
+    → PassesAll false (replicate (suc fill) 255 ++ byte ∷ []) answers new → (answers ≡ replicate (suc fill) More ++ last ∷ []) × (new ≡ false)
 fed_marker fill byte last [] new at f = absurd f
 fed_marker fill byte last (answer ∷ answers) new at f =
     let one = at_fill false answer f.0 f.1 in
-    let P : Bool → Type 0 = λ mid. Feeds mid (replicate fill 255 ++ byte ∷ []) answers new in
+    let P : Bool → Type 0 = λ mid. PassesAll mid (replicate fill 255 ++ byte ∷ []) answers new in
     let later = fed_fill fill byte last answers new at (subst P one.1 f.2) in
     (as_more answer answers fill last one.0 later.0, later.1)
 
@@ -76,12 +76,12 @@ long : (fill byte : ℕ) → length (replicate (suc fill) 255 ++ byte ∷ []) - 
 long fill byte = let a = length-append (replicate (suc fill) 255) (byte ∷ []) in let b = length-replicate {A = ℕ} (suc fill) 255 in omega (arith, a, b)
 
 -- a data byte as it stands in a file
-pub feeds_data : (byte : ℕ) (bytes : List ℕ) (answers : List Passed) (new : Bool) → SpellsByte byte bytes → Feeds false bytes answers new → AtLast (Data byte) bytes answers × (new ≡ false)
+pub feeds_data : (byte : ℕ) (bytes : List ℕ) (answers : List Passed) (new : Bool) → SpellsByte byte bytes → PassesAll false bytes answers new → AtLast (Data byte) bytes answers × (new ≡ false)
 feeds_data byte bytes answers new (inl s) f =
-    let P : List ℕ → Type 0 = λ l. Feeds false l answers new → AtLast (Data byte) l answers × (new ≡ false) in
+    let P : List ℕ → Type 0 = λ l. PassesAll false l answers new → AtLast (Data byte) l answers × (new ≡ false) in
     subst P (sym s.1) (fed_plain byte answers new s.0) f
 feeds_data byte bytes answers new (inr s) f =
-    let P : List ℕ → Type 0 = λ l. Feeds false l answers new → AtLast (Data byte) l answers × (new ≡ false) in
+    let P : List ℕ → Type 0 = λ l. PassesAll false l answers new → AtLast (Data byte) l answers × (new ≡ false) in
     let R : ℕ → Type 0 = λ b. AtLast (Data b) (replicate (suc s.1.0) 255 ++ 0 ∷ []) answers × (new ≡ false) in
     let Q : ℕ → Type 0 = λ n. answers ≡ replicate n More ++ Data 255 ∷ [] in
     subst P (sym s.1.1)
@@ -89,7 +89,7 @@ feeds_data byte bytes answers new (inr s) f =
     subst R (sym s.0) (subst Q (sym (long s.1.0 0)) fed.0, fed.1)) f
 
 -- a marker behind one or more FF
-pub feeds_marker : (fill code : ℕ) (answers : List Passed) (new : Bool) → code ≢ 0 → code ≢ 255 → Feeds false (replicate (suc fill) 255 ++ code ∷ []) answers new
+pub feeds_marker : (fill code : ℕ) (answers : List Passed) (new : Bool) → code ≢ 0 → code ≢ 255 → PassesAll false (replicate (suc fill) 255 ++ code ∷ []) answers new
     → AtLast (Marker code) (replicate (suc fill) 255 ++ code ∷ []) answers × (new ≡ false)
 feeds_marker fill code answers new m n f =
     let fed = fed_marker fill code (Marker code) answers new (λ answer mid p. at_code code answer mid m n p) f in

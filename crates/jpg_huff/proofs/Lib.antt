@@ -4,6 +4,7 @@ pub mod Computed
 pub mod Emitted
 pub mod Fronts
 pub mod Gates
+pub mod InParts
 pub mod Levels
 pub mod Looked
 pub mod Made

@@ -9,12 +9,12 @@ use Rattle.std.proofs.lemmas.Nat.{pow_pos}
 use Rattle.jpg_base.proofs.BitsAt.{bits_of-mod, bits_of-cut}
 use Rattle.std.proofs.lemmas.List.{length-append, length-take-le, take_more, take_all, take-append-le, take-take}
 use Rattle.std.proofs.lemmas.List.Elements.{Contains-append_cases}
-use Rattle.std.proofs.Math.Seq.{take-append_seam}
 use Rattle.jpg_spec.specs.Bits.{bits_of}
-use Rattle.jpg_spec.specs.Codes.{Code, codes, codes_at}
+use Rattle.jpg_spec.specs.Codes.{Code, codes}
 use Rattle.jpg_spec.proofs.Strings.{length-bits_of, bits_of_inj}
 use Rattle.jpg_spec.proofs.DataLength.{codes_short}
 use Rattle.jpg_spec.proofs.Levels.{from_level, front_not_below}
+use Rattle.jpg_spec.proofs.Common.{take_front}
 use Rattle.jpg_spec.specs.Parts.{BeginsCode, IsFront}
 use Rattle.jpg_huff.specs.Index.{IsIndexed}
 use Rattle.jpg_huff.specs.Walk.{BeginsNoCode}
@@ -26,9 +26,6 @@ use Rattle.jpg_huff.specs.Look.{LooksUp, found_of, Spots}
 use Rattle.jpg_base.proofs.BitsAt.{bits_of-add, bits_of-beside}
 use Rattle.jpg_huff.proofs.Steps.{level_split, in_longer, are_codes, is_code}
 use Rattle.jpg_huff.proofs.Tables.{codes_kept, is_table}
-
-take_front : (n : ℕ) (xs ys : List Bool) → length xs ≡ n → take n (xs ++ ys) ≡ xs
-take_front n xs ys l = ap (λ k. take k (xs ++ ys)) (sym l) ∙ take-append_seam xs ys
 
 -- the first bits of eight
 pub first_of_eight : (at byte : ℕ) → at < 8 → take (at + 1) (bits_of 8 byte) ≡ bits_of (at + 1) (byte / 2 ^ (7 - at))
@@ -191,3 +188,22 @@ look_few codes bits v n have f l h e is found short =
     let t : take f.length (bits_of 8 n) ≡ take f.length bits =
     ap (λ k. take f.length (bits_of 8 k)) is ∙ ap (take f.length) (padded_bits have v h ∙ ap (λ x. x ++ bits_of (8 - have) 0) (e ∙ all)) ∙ take-append-le f.length bits (bits_of (8 - have) 0) (omega arith) in
     (found.0, omega (arith, found.1), omega arith, subst P t found.2)
+
+-- a code of more than eight bits by its number
+pub first_of_sixteen : (at n : ℕ) → at < 16 → take (at + 1) (bits_of 16 n) ≡ bits_of (at + 1) (n / 2 ^ (15 - at))
+first_of_sixteen at n h =
+    let e : 16 ≡ (at + 1) + (15 - at) = omega arith in
+    ap (λ m. take (at + 1) (bits_of m n)) e ∙ ap (take (at + 1)) (bits_of-add (at + 1) (15 - at) n)
+    ∙ take_front (at + 1) (bits_of (at + 1) (n / 2 ^ (15 - at))) (bits_of (15 - at) n) (length-bits_of (at + 1) (n / 2 ^ (15 - at)))
+
+pub long_code : (t : Table) (bits : List Bool) (at n number symbol : ℕ) → at < 16 → 16 ≤ length bits → bits_of 16 n ≡ take 16 bits → number ≡ n / 2 ^ (15 - at) → get_or t.firsts at 0 ≤ number → number - get_or t.firsts at 0 < get_or t.counts at 0
+    → symbol ≡ get_or t.symbols (get_or t.starts at 0 + (number - get_or t.firsts at 0)) 0 → Spots (symbol_codes t) bits (spotted.Symbol (at + 1) symbol)
+long_code t bits at n number symbol h long e is low high found =
+    let s = get_or t.symbols (get_or t.starts at 0 + (number - get_or t.firsts at 0)) 0 in
+    let c = is_code t.counts t.symbols t.firsts t.starts t.limits at number t.indexed (omega arith) low (omega arith) in
+    let P : List Code → Type 0 = λ l. Contains l (bits_of (at + 1) number, s) in
+    let Q : List Bool → Type 0 = λ b. Contains (symbol_codes t) (b, s) in
+    let R : ℕ → Type 0 = λ k. Contains (symbol_codes t) (take (at + 1) bits, k) in
+    let front : take (at + 1) bits ≡ bits_of (at + 1) number =
+    sym (take-take (at + 1) 16 bits (omega arith)) ∙ ap (take (at + 1)) (sym e) ∙ first_of_sixteen at n h ∙ ap (bits_of (at + 1)) (sym is) in
+    (omega arith, omega arith, omega arith, subst R (sym found) (subst Q (sym front) (subst P (codes_kept t) c)))

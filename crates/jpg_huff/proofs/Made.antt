@@ -1,15 +1,15 @@
 -- The arrays of a table that is made from counts and symbols.
 use Rattle.std.proofs.Common.{◌≡◌, ℕ, zero, suc, ◌+◌, ◌-◌, ◌*◌, ◌/◌, ◌%◌, ◌^◌, ◌<◌, ◌≤◌, Bool, true, false, List, [], ◌∷◌, ◌++◌, length, take, drop, get_or, set, replicate, refl, sym, ap, ◌∙◌, subst, arith, add-one, ⊎_elim, ◌&&◌, ◌==◌, cond}
-use Rattle.std.specs.Prelude.{◌⊎◌, Option, None, Some, nat_lt}
+use Rattle.std.specs.Prelude.{◌⊎◌, Option, None, Some}
 use Rattle.std.specs.List.{sum}
-use Rattle.std.proofs.lemmas.Bool.Decides.{nat_tests}
 use Rattle.std.proofs.lemmas.List.{drop_more, drop_all, drop-drop, length-take, length-drop, get_or-set_other, get_or-set_same}
 use Rattle.std.proofs.lemmas.List.Sums.{sum_by_more, sum_by-take-drop}
 use Rattle.jpg_spec.specs.Bits.{bits_of}
 use Rattle.jpg_spec.specs.Codes.{Code, codes_at, codes_from, codes, are_codes, first_code}
 use Rattle.jpg_huff.proofs.Tables.{level_take}
 use Rattle.jpg_huff.specs.Index.{IsIndexed, limit_from, entry_code}
-use Rattle.jpg_huff.specs.New.{first_number, AreFirsts, AreStarts, AreLimits, AreEntries, or_else}
+use Rattle.jpg_huff.specs.New.{first_number, AreFirsts, AreStarts, AreCodeLimits, AreEntries, or_else}
+use Rattle.jpg_spec.proofs.Common.{and_false, lt_no, lt_yes}
 
 pub first_more : (counts : List ℕ) (i : ℕ) → first_number counts (i + 1) ≡ 2 * (first_number counts i + get_or counts i 0)
 unfolding first_number
@@ -19,29 +19,19 @@ pub first_none : (counts : List ℕ) → first_number counts 0 ≡ 0
 unfolding first_number
 first_none counts = refl
 
-lt_true : (a b : ℕ) → a < b → nat_lt a b ≡ true
-lt_true a b h = grind (arith, nat_tests)
-
-lt_false : (a b : ℕ) → b ≤ a → nat_lt a b ≡ false
-lt_false a b h = grind (arith, nat_tests)
-
 and_true : (a b : Bool) → a ≡ true → (a && b) ≡ b
 and_true true b e = refl
 and_true false b e = cc
-
-and_false : (a b : Bool) → a ≡ false → (a && b) ≡ false
-and_false true b e = cc
-and_false false b e = refl
 
 -- one length of the test
 pub are_more : (counts : List ℕ) (i f : ℕ) → i < length counts → f + get_or counts i 0 < 2 ^ (i + 1)
     → are_codes (i + 1) f (drop i counts) ≡ are_codes (i + 1 + 1) (2 * (f + get_or counts i 0)) (drop (i + 1) counts)
 unfolding are_codes
-are_more counts i f h fits = ap (λ ks. are_codes (i + 1) f ks) (drop_more counts i 0 h) ∙ and_true _ _ (lt_true _ _ fits)
+are_more counts i f h fits = ap (λ ks. are_codes (i + 1) f ks) (drop_more counts i 0 h) ∙ and_true _ _ (lt_yes _ _ fits)
 
 pub are_not : (counts : List ℕ) (i f : ℕ) → i < length counts → 2 ^ (i + 1) ≤ f + get_or counts i 0 → are_codes (i + 1) f (drop i counts) ≡ false
 unfolding are_codes
-are_not counts i f h over = ap (λ ks. are_codes (i + 1) f ks) (drop_more counts i 0 h) ∙ and_false _ _ (lt_false _ _ over)
+are_not counts i f h over = ap (λ ks. are_codes (i + 1) f ks) (drop_more counts i 0 h) ∙ and_false _ _ (lt_no _ _ over)
 
 pub are_all : (counts : List ℕ) (i f : ℕ) → length counts ≤ i → are_codes (i + 1) f (drop i counts) ≡ true
 unfolding are_codes
@@ -94,7 +84,7 @@ pub limit_last : (counts : List ℕ) (i c : ℕ) → length counts ≤ i → lim
 limit_last counts i c h = ap (limit_from c) (drop_all i counts h)
 
 -- what a table keeps for its walks
-pub made_indexed : (counts firsts starts limits : List ℕ) → length counts ≡ 16 → sum counts ≤ 256 → AreFirsts counts firsts → AreStarts counts starts → AreLimits counts firsts limits
+pub made_indexed : (counts firsts starts limits : List ℕ) → length counts ≡ 16 → sum counts ≤ 256 → AreFirsts counts firsts → AreStarts counts starts → AreCodeLimits counts firsts limits
     → IsIndexed counts 256 firsts starts limits
 made_indexed counts firsts starts limits size most f s l =
     record {

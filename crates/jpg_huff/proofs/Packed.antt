@@ -1,15 +1,12 @@
 -- Bits of numbers, cut into bytes.
 use Rattle.std.proofs.Common.{◌≡◌, ℕ, zero, suc, ◌+◌, ◌*◌, ◌/◌, ◌%◌, ◌^◌, ◌<◌, Bool, cond, List, [], ◌∷◌, ◌++◌, length, refl, ap, ◌∙◌, arith, add-one, ◌==◌}
 use Rattle.std.proofs.lemmas.Nat.{mod-pow-add}
-use Rattle.std.proofs.lemmas.Bool.Decides.{nat_tests}
 use Rattle.jpg_spec.specs.Bits.{bits_of, number_from, whole_bytes}
+use Rattle.jpg_spec.proofs.Common.{last_bit}
 
 number_from-push : (a : ℕ) (bits : List Bool) (b : Bool) → number_from a (bits ++ b ∷ []) ≡ 2 * number_from a bits + cond b 1 0
 number_from-push a [] b = refl
 number_from-push a (x ∷ bits) b = number_from-push (2 * a + cond x 1 0) bits b
-
-last_bit : (n : ℕ) → cond (n % 2 == 1) 1 0 ≡ n % 2
-last_bit n = grind (arith, nat_tests)
 
 number_from-bits_of : (l n : ℕ) → number_from 0 (bits_of l n) ≡ n % 2 ^ l
 unfolding bits_of

@@ -6,11 +6,11 @@ use Rattle.std.proofs.Math.Nat.{pow-succ'}
 use Rattle.jpg_base.specs.Desk.{DeskState}
 use Rattle.jpg_spec.specs.Bits.{bits_of, whole_bytes, padded, stuffed, stuffed_byte}
 use Rattle.jpg_base.specs.declared.stop.WriteFault.{WriteFault}
-use Rattle.jpg_huff.specs.Out.{Emits}
+use Rattle.jpg_huff.specs.Out.{Emits, OnlyWrites}
 use Rattle.jpg_huff.specs.Waiting.{Waiting}
 use Rattle.jpg_huff.specs.BitOut.{Puts, Pads}
 use Rattle.jpg_spec.proofs.Strings.{length-bits_of}
-use Rattle.jpg_huff.proofs.Emitted.{emits_nothing}
+use Rattle.jpg_huff.proofs.Emitted.{emits_nothing, OnlyWrites-same}
 use Rattle.jpg_base.proofs.BitsAt.{bits_of-add, bits_of-beside, bits_of-low}
 use Rattle.jpg_huff.proofs.Packed.{whole_bytes-front}
 
@@ -63,6 +63,7 @@ unfolding whole_bytes
 puts_held s old held a c k b n view h e =
     let Q : Waiting → Type 0 = λ w. Puts s w (bits_of k b) (Ok tt) (record { bytes = held; bits = bits_of (c + k) n }) s in
     subst Q view (record {
+      kept = OnlyWrites-same s;
       front = [];
       rest = bits_of (c + k) n;
       all = sym (all_bits a c k b n h e);
@@ -71,12 +72,13 @@ puts_held s old held a c k b n view h e =
       behind = refl;
     })
 
-pub puts_out : (s0 s1 : DeskState) (old : Waiting) (held new : List ℕ) (a c k b n : ℕ) → record { bytes = held; bits = bits_of c a } ≡ old → b < 2 ^ k → n ≡ a * 2 ^ k + b → 32 ≤ c + k → c + k < 64
+pub puts_out : (s0 s1 : DeskState) (old : Waiting) (held new : List ℕ) (a c k b n : ℕ) → record { bytes = held; bits = bits_of c a } ≡ old → b < 2 ^ k → n ≡ a * 2 ^ k + b → 32 ≤ c + k → c + k < 64 → OnlyWrites s0 s1
     → Emits s0 held (stuffed (whole_bytes (bits_of 32 (n / 2 ^ (c + k - 32))))) (Ok tt) new s1
     → Puts s0 old (bits_of k b) (Ok tt) (record { bytes = new; bits = bits_of (c + k - 32) (n % ((1 * 2 ^ (c + k - 32)) % 2 ^ 64)) }) s1
-puts_out s0 s1 old held new a c k b n view h e l m emits =
+puts_out s0 s1 old held new a c k b n view h e l m kept emits =
     let Q : Waiting → Type 0 = λ w. Puts s0 w (bits_of k b) (Ok tt) (record { bytes = new; bits = bits_of (c + k - 32) (n % ((1 * 2 ^ (c + k - 32)) % 2 ^ 64)) }) s1 in
     subst Q view (record {
+      kept = kept;
       front = bits_of 32 (n / 2 ^ (c + k - 32));
       rest = bits_of (c + k - 32) n;
       all = cut_bits a c k b n h e l;
@@ -85,13 +87,14 @@ puts_out s0 s1 old held new a c k b n view h e l m emits =
       behind = low_bits (c + k - 32) n (omega arith);
     })
 
-pub puts_fault : (s0 s1 : DeskState) (old : Waiting) (held new : List ℕ) (a c k b n : ℕ) (fault : WriteFault) → record { bytes = held; bits = bits_of c a } ≡ old → b < 2 ^ k → n ≡ a * 2 ^ k + b → 32 ≤ c + k
+pub puts_fault : (s0 s1 : DeskState) (old : Waiting) (held new : List ℕ) (a c k b n : ℕ) (fault : WriteFault) → record { bytes = held; bits = bits_of c a } ≡ old → b < 2 ^ k → n ≡ a * 2 ^ k + b → 32 ≤ c + k → OnlyWrites s0 s1
     → Emits s0 held (stuffed (whole_bytes (bits_of 32 (n / 2 ^ (c + k - 32))))) (Err fault) new s1
     → Puts s0 old (bits_of k b) (Err fault) (record { bytes = new; bits = bits_of 0 0 }) s1
 unfolding bits_of
-puts_fault s0 s1 old held new a c k b n fault view h e l emits =
+puts_fault s0 s1 old held new a c k b n fault view h e l kept emits =
     let Q : Waiting → Type 0 = λ w. Puts s0 w (bits_of k b) (Err fault) (record { bytes = new; bits = [] }) s1 in
     subst Q view (record {
+      kept = kept;
       front = bits_of 32 (n / 2 ^ (c + k - 32));
       rest = bits_of (c + k - 32) n;
       all = cut_bits a c k b n h e l;
@@ -118,11 +121,11 @@ ones (suc f) =
 pub pad_number : (a c f : ℕ) → a < 2 ^ c → c < 32 → f < 8 → (a * 2 ^ f) % 2 ^ 64 + ((1 * 2 ^ f) % 2 ^ 64 - 1) ≡ a * 2 ^ f + (2 ^ f - 1)
 pad_number a c f h1 h2 h3 = number_is a c f (2 ^ f - 1) ((1 * 2 ^ f) % 2 ^ 64 - 1) h1 h2 (omega arith) (ap (λ m. m - 1) (one_shl f 64 (omega arith)))
 
-pub pads : (s0 s1 : DeskState) (old : Waiting) (held new : List ℕ) (r : Result (Unit {0}) WriteFault) (a c n : ℕ) → record { bytes = held; bits = bits_of c a } ≡ old → n ≡ a * 2 ^ ((8 - c % 8) % 8) + (2 ^ ((8 - c % 8) % 8) - 1)
+pub pads : (s0 s1 : DeskState) (old : Waiting) (held new : List ℕ) (r : Result (Unit {0}) WriteFault) (a c n : ℕ) → record { bytes = held; bits = bits_of c a } ≡ old → n ≡ a * 2 ^ ((8 - c % 8) % 8) + (2 ^ ((8 - c % 8) % 8) - 1) → OnlyWrites s0 s1
     → Emits s0 held (stuffed (whole_bytes (bits_of (c + (8 - c % 8) % 8) n))) r new s1
     → Pads s0 old r (record { bytes = new; bits = bits_of 0 0 }) s1
 unfolding bits_of
-pads s0 s1 old held new r a c n view e emits =
+pads s0 s1 old held new r a c n view e kept emits =
     let f = (8 - c % 8) % 8 in
     let q : 0 < 2 ^ f = pow_pos f in
     let Q : Waiting → Type 0 = λ w. Pads s0 w r (record { bytes = new; bits = [] }) s1 in
@@ -130,4 +133,4 @@ pads s0 s1 old held new r a c n view e emits =
     let l : length (bits_of c a) ≡ c = length-bits_of c a in
     let all : bits_of (c + f) n ≡ padded (bits_of c a) =
     all_bits a c f (2 ^ f - 1) n (omega arith) e ∙ ap (λ x. bits_of c a ++ x) (ones f ∙ ap (λ m. replicate ((8 - m % 8) % 8) true) (sym l)) in
-    subst Q view (record { bytes = subst P all emits; none = refl })
+    subst Q view (record { kept = kept; bytes = subst P all emits; none = refl })

@@ -1,4 +1,4 @@
--- The typical tables as counts and symbols (T.81 Annex K.3).
+-- The typical tables as counts and symbols (T.81, Annex K.3).
 use Rattle.jpg_spec.specs.Segments.{HuffmanTable}
 use Rattle.jpg_spec.specs.Typical.{dc_luma_counts, dc_luma_values, dc_chroma_counts, dc_chroma_values, ac_luma_counts, ac_luma_values, ac_chroma_counts, ac_chroma_values}
 

@@ -1,17 +1,22 @@
--- Bits that go out.
-use Rattle.std.specs.Prelude.{◌≡◌, ℕ, ◌*◌, Bool, List, [], ◌++◌, length, Result, Ok, Err}
+-- Bits that go out. Each call changes nothing of the desk but the outputs and the counts.
+use Rattle.std.specs.Prelude.{◌≡◌, ℕ, ◌*◌, Bool, true, List, [], ◌++◌, length, Result, Ok, Err}
 use Rattle.jpg_base.specs.Desk.{DeskState}
 use Rattle.jpg_spec.specs.Bits.{stuffed, whole_bytes, data_of}
 use Rattle.jpg_base.specs.declared.stop.WriteFault.{WriteFault}
-use Rattle.jpg_huff.specs.Out.{Emits}
+use Rattle.jpg_huff.specs.Out.{Emits, OnlyWrites}
 use Rattle.jpg_huff.specs.Waiting.{Waiting}
 
 abbrev pub nothing_waits : Waiting
 nothing_waits = record { bytes = []; bits = [] }
 
+-- an output is created, and no bits wait
+pub record CanSend (s : DeskState) (out : Waiting) : Type 0 where
+  pub created : s.output_created ≡ true
+  pub none : out.bits ≡ []
+
 -- bits fill whole bytes
-abbrev pub AreWhole : List Bool → Type 0
-AreWhole bits = (n : ℕ) × (length bits ≡ 8 * n)
+abbrev pub FillBytes : List Bool → Type 0
+FillBytes bits = (n : ℕ) × (length bits ≡ 8 * n)
 
 -- the bits that wait behind those that went out, none after a fault
 abbrev pub StayBehind : List Bool → Result (Unit {0}) WriteFault → List Bool → Type 0
@@ -20,19 +25,22 @@ StayBehind rest (Err fault) new = new ≡ []
 
 -- The bits join those that wait. Bytes of the first of them go out stuffed, and the others wait.
 pub record Puts (s0 : DeskState) (old : Waiting) (bits : List Bool) (result : Result (Unit {0}) WriteFault) (new : Waiting) (s1 : DeskState) : Type 0 where
+  pub kept : OnlyWrites s0 s1
   pub front : List Bool
   pub rest : List Bool
   pub all : old.bits ++ bits ≡ front ++ rest
-  pub whole : AreWhole front
+  pub whole : FillBytes front
   pub bytes : Emits s0 old.bytes (stuffed (whole_bytes front)) result new.bytes s1
   pub behind : StayBehind rest result new.bits
 
 -- The bits that wait go out, with ones up to a whole byte.
 pub record Pads (s0 : DeskState) (old : Waiting) (result : Result (Unit {0}) WriteFault) (new : Waiting) (s1 : DeskState) : Type 0 where
+  pub kept : OnlyWrites s0 s1
   pub bytes : Emits s0 old.bytes (data_of old.bits) result new.bytes s1
   pub none : new.bits ≡ []
 
 -- Bytes go out as they are, where no bits wait.
 pub record Sends (s0 : DeskState) (old : Waiting) (piece : List ℕ) (result : Result (Unit {0}) WriteFault) (new : Waiting) (s1 : DeskState) : Type 0 where
+  pub kept : OnlyWrites s0 s1
   pub bytes : Emits s0 old.bytes piece result new.bytes s1
   pub none : new.bits ≡ []

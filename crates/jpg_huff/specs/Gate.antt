@@ -1,4 +1,4 @@
--- What a gate lets through (T.81 B.1.1.5): whether FF waits, a byte, what passes, and whether FF waits then.
+-- What a gate lets through (T.81, B.1.1.5): whether FF waits, a byte, what passes, and whether FF waits then.
 use Rattle.std.specs.Prelude.{◌≡◌, ◌≢◌, ℕ, Bool, true, false}
 use Rattle.jpg_huff.specs.declared.gate.Passed.{Passed}
 use Rattle.jpg_huff.specs.declared.gate.Passed.TheVariants.{More, Data, Marker}

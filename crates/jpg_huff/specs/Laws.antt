@@ -9,8 +9,7 @@ use Rattle.jpg_base.specs.Desk.{DeskState}
 use Rattle.jpg_base.specs.declared.stop.WriteFault.{WriteFault}
 use Rattle.jpg_spec.specs.Bits.{data_of}
 use Rattle.jpg_huff.specs.declared.walk.WalkStep.{WalkStep}
-use Rattle.jpg_huff.specs.BitOut.{Puts, Pads}
-use Rattle.jpg_huff.specs.Out.{Emits}
+use Rattle.jpg_huff.specs.BitOut.{Puts, Pads, Sends}
 use Rattle.jpg_huff.specs.Waiting.{Waiting}
 use Rattle.jpg_huff.specs.Walk.{Answers}
 
@@ -31,10 +30,10 @@ abbrev pub AreApart : List Code → Type 0
 AreApart table = (a b : Code) (x y : List Bool) → Contains table a → Contains table b → a.0 ++ x ≡ b.0 ++ y → a ≡ b
 
 -- bytes that are fed one by one, and the answers
-abbrev pub Feeds : Bool → List ℕ → List Passed → Bool → Type 0
-Feeds old [] answers new = (answers ≡ []) × (new ≡ old)
-Feeds old (byte ∷ bytes) [] new = ⊥
-Feeds old (byte ∷ bytes) (answer ∷ answers) new = (mid : Bool) × Passes old byte answer mid × Feeds mid bytes answers new
+abbrev pub PassesAll : Bool → List ℕ → List Passed → Bool → Type 0
+PassesAll old [] answers new = (answers ≡ []) × (new ≡ old)
+PassesAll old (byte ∷ bytes) [] new = ⊥
+PassesAll old (byte ∷ bytes) (answer ∷ answers) new = (mid : Bool) × Passes old byte answer mid × PassesAll mid bytes answers new
 
 -- nothing passes before the last of the bytes
 abbrev pub AtLast : Passed → List ℕ → List Passed → Type 0
@@ -46,12 +45,16 @@ HasOneAnswer table = (bits new other : List Bool) (a b : WalkStep) → Answers t
 
 -- the bytes that are fed pass as this, at the last of them
 abbrev pub PassAs : Passed → List ℕ → Type 0
-PassAs last bytes = (answers : List Passed) (new : Bool) → Feeds false bytes answers new → AtLast last bytes answers × (new ≡ false)
+PassAs last bytes = (answers : List Passed) (new : Bool) → PassesAll false bytes answers new → AtLast last bytes answers × (new ≡ false)
 
 -- what is put behind these bits is as put at once
 abbrev pub PutsGoOn : DeskState → Waiting → List Bool → Waiting → DeskState → Type 0
 PutsGoOn s0 old xs mid s1 = (s2 : DeskState) (new : Waiting) (ys : List Bool) (r : Result (Unit {0}) WriteFault) → Puts s1 mid ys r new s2 → Puts s0 old (xs ++ ys) r new s2
 
--- a pad behind these bits makes their data of them
-abbrev pub PadGivesData : DeskState → Waiting → List Bool → Waiting → DeskState → Type 0
-PadGivesData s0 old xs mid s1 = (s2 : DeskState) (new : Waiting) (r : Result (Unit {0}) WriteFault) → Pads s1 mid r new s2 → Emits s0 old.bytes (data_of xs) r new.bytes s2
+-- a pad behind these bits sends their data
+abbrev pub PadSendsData : DeskState → Waiting → List Bool → Waiting → DeskState → Type 0
+PadSendsData s0 old xs mid s1 = (s2 : DeskState) (new : Waiting) (r : Result (Unit {0}) WriteFault) → Pads s1 mid r new s2 → Sends s0 old (data_of xs) r new s2
+
+-- what is sent behind these bytes is as sent at once
+abbrev pub SendsGoOn : DeskState → Waiting → List ℕ → Waiting → DeskState → Type 0
+SendsGoOn s0 old xs mid s1 = (s2 : DeskState) (new : Waiting) (ys : List ℕ) (r : Result (Unit {0}) WriteFault) → Sends s1 mid ys r new s2 → Sends s0 old (xs ++ ys) r new s2

@@ -13,7 +13,7 @@ abbrev pub table_from : List ℕ → List ℕ → HuffmanTable
 table_from bits values = record { counts = bits; symbols = take (sum bits) values }
 
 -- a table of them, where they are right
-pub record IsMade (bits values : List ℕ) (t : Table) : Type 0 where
+pub record IsTableOf (bits values : List ℕ) (t : Table) : Type 0 where
   pub table : table_of t ≡ table_from bits values
   pub most : sum bits ≤ 256
   pub many : sum bits ≤ length values
@@ -25,9 +25,9 @@ IsFault bits values TooManyCodes = 256 < sum bits
 IsFault bits values ShortValues = (sum bits ≤ 256) × (length values < sum bits)
 IsFault bits values OverfullCodes = (sum bits ≤ 256) × (sum bits ≤ length values) × (are_codes 1 0 bits ≡ false)
 
-abbrev pub IsNew : List ℕ → List ℕ → Result Table TableFault → Type 0
-IsNew bits values (Ok t) = IsMade bits values t
-IsNew bits values (Err fault) = IsFault bits values fault
+abbrev pub IsNewTable : List ℕ → List ℕ → Result Table TableFault → Type 0
+IsNewTable bits values (Ok t) = IsTableOf bits values t
+IsNewTable bits values (Err fault) = IsFault bits values fault
 
 -- the first number of a length, which is one more than this
 unfoldable pub first_number : List ℕ → ℕ → ℕ
@@ -41,8 +41,8 @@ pub record AreFirsts (counts firsts : List ℕ) : Type 0 where
 abbrev pub AreStarts : List ℕ → List ℕ → Type 0
 AreStarts counts starts = (i : ℕ) → i < 16 → slice_index starts i ≡ sum (take i counts)
 
-abbrev pub AreLimits : List ℕ → List ℕ → List ℕ → Type 0
-AreLimits counts firsts limits = (i : ℕ) → i < 16 → slice_index limits i ≡ limit_from (slice_index firsts i) (drop i counts)
+abbrev pub AreCodeLimits : List ℕ → List ℕ → List ℕ → Type 0
+AreCodeLimits counts firsts limits = (i : ℕ) → i < 16 → slice_index limits i ≡ limit_from (slice_index firsts i) (drop i counts)
 
 -- each entry is 0 or has a length and a number that fits it
 pub record AreEntries (entries : List ℕ) : Type 0 where
@@ -55,5 +55,5 @@ or_else None later = later
 or_else (Some bits) later = Some bits
 
 -- entries with codes behind them have the same first codes as others with theirs
-abbrev pub Leads : List ℕ → List Code → List ℕ → List Code → Type 0
-Leads old codes new more = (symbol : ℕ) → symbol < 256 → or_else (entry_code (slice_index new symbol)) (first_code more symbol) ≡ or_else (entry_code (slice_index old symbol)) (first_code codes symbol)
+abbrev pub HaveFirstCodes : List ℕ → List Code → List ℕ → List Code → Type 0
+HaveFirstCodes old codes new more = (symbol : ℕ) → symbol < 256 → or_else (entry_code (slice_index new symbol)) (first_code more symbol) ≡ or_else (entry_code (slice_index old symbol)) (first_code codes symbol)

@@ -1,4 +1,4 @@
--- Which typical table is which (T.81 Annex K.3).
+-- Which typical table is which (T.81, Annex K.3).
 use Rattle.std.specs.Prelude.{List}
 use Rattle.jpg_spec.specs.Codes.{Code}
 use Rattle.jpg_spec.specs.Segments.{HuffmanTable}
@@ -7,11 +7,11 @@ use Rattle.jpg_huff.specs.Annex.{dc_luma_table, dc_chroma_table, ac_luma_table, 
 use Rattle.jpg_huff.specs.declared.kind.Typical.{Typical}
 use Rattle.jpg_huff.specs.declared.kind.Typical.TheVariants.{DcLuma, DcChroma, AcLuma, AcChroma}
 
-abbrev pub typical_table : Typical → HuffmanTable
-typical_table DcLuma = dc_luma_table
-typical_table DcChroma = dc_chroma_table
-typical_table AcLuma = ac_luma_table
-typical_table AcChroma = ac_chroma_table
+abbrev pub annex_table : Typical → HuffmanTable
+annex_table DcLuma = dc_luma_table
+annex_table DcChroma = dc_chroma_table
+annex_table AcLuma = ac_luma_table
+annex_table AcChroma = ac_chroma_table
 
 -- its codes
 abbrev pub typical_codes : Typical → List Code

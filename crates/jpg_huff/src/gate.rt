@@ -1,10 +1,10 @@
-// Data bytes and markers, as they stand in a file (T.81 B.1.1.5).
+// Data bytes and markers, as they stand in a file (T.81, B.1.1.5).
 ghost use Rattle.std.specs.Prelude.{◌≡◌, false};
 ghost use Rattle.jpg_huff.specs.Gate.{Passes};
 
 use std::marker::Model;
 
-/// What passes at a byte: nothing yet, a byte of data, or a marker's code, 1 to 254 (T.81 B.1.1.2).
+/// What passes at a byte: nothing yet, a byte of data, or a marker's code, 1 to 254 (T.81, B.1.1.2).
 #[derive(Clone, Copy, Debug, PartialEq, Eq)]
 pub enum Passed {
     More,
@@ -12,7 +12,7 @@ pub enum Passed {
     Marker(u8),
 }
 
-/// Whether one or more FF wait for the byte after them (T.81 B.1.1.2, B.1.1.5).
+/// Whether one or more FF wait for the byte after them (T.81, B.1.1.2, B.1.1.5).
 #[derive(Drop)]
 pub struct Gate {
     waits: bool,
@@ -32,6 +32,14 @@ impl Gate {
         ensures { result ≡ false }
     {
         Gate { waits: false }
+    }
+
+    /// Whether FF waits.
+    #[inline(always)]
+    pub fn is_waiting(&self) -> bool
+        ensures { result ≡ self.now }
+    {
+        self.waits
     }
 
     /// Takes a byte. A byte other than FF passes as data; after one or more FF, 00 passes as one

@@ -1,14 +1,14 @@
-// The typical tables of T.81 Annex K.3.
+// The typical tables of T.81, Annex K.3.
 ghost use Rattle.std.specs.Prelude.{◌≡◌};
 ghost use Rattle.jpg_huff.specs.Tables.{table_of, symbol_codes};
-ghost use Rattle.jpg_huff.specs.Typical.{typical_table, typical_codes};
+ghost use Rattle.jpg_huff.specs.Typical.{annex_table, typical_codes};
 ghost use Rattle.jpg_huff.specs.Annex.{dc_luma_table, dc_chroma_table, ac_luma_table, ac_chroma_table};
 
 use crate::{Table, Typical};
 
 /// Tables K.3, K.4, K.5 and K.6 of T.81: 12 symbols for DC, 162 for AC coefficients.
 pub fn typical(which: Typical) -> Table
-    ensures table { table_of result ≡ typical_table which }
+    ensures table { table_of result ≡ annex_table which }
     ensures codes { symbol_codes result ≡ typical_codes which }
 {
     match which {

@@ -7,17 +7,16 @@ ghost use Rattle.jpg_huff.specs.declared.set.TableSet.{TableSet};
 ghost use Rattle.jpg_huff.specs.declared.gate.Passed.TheVariants.{Data, Marker};
 ghost use Rattle.jpg_huff.specs.Tables.{table_of, symbol_codes};
 ghost use Rattle.jpg_huff.specs.Sets.{slots_of};
-ghost use Rattle.jpg_huff.specs.Laws.{AreApart, HasOneAnswer, HaveTables, IsTable, PadGivesData, PassAs, PutsGoOn};
-ghost use Rattle.jpg_huff.specs.Out.{OnlyWrites};
+ghost use Rattle.jpg_huff.specs.Laws.{AreApart, HasOneAnswer, HaveTables, IsTable, PadSendsData, PassAs, PutsGoOn, SendsGoOn};
 ghost use Rattle.jpg_huff.specs.Waiting.{Waiting};
-ghost use Rattle.jpg_huff.specs.BitOut.{Puts};
+ghost use Rattle.jpg_huff.specs.BitOut.{Puts, Sends};
 
-/// Every table has sixteen counts, as many symbols as they say, and codes that fit (T.81 Annex C).
+/// Every table has sixteen counts, as many symbols as they say, and codes that fit (T.81, Annex C).
 pub fn tables_fit()
     ensures { (t : Table) → IsTable (table_of t) }
 {}
 
-/// Every table in the slots of a set, too, has codes that fit (T.81 B.2.4.2 and Annex C).
+/// Every table in the slots of a set, too, has codes that fit (T.81, B.2.4.2 and Annex C).
 pub fn sets_fit()
     ensures dc { (set : TableSet) → HaveTables (slots_of set).dc }
     ensures ac { (set : TableSet) → HaveTables (slots_of set).ac }
@@ -35,22 +34,27 @@ pub fn one_answer()
 {}
 
 /// The bytes that spell a data byte give that byte at their last one, and nothing before
-/// (T.81 B.1.1.5).
+/// (T.81, B.1.1.5).
 pub fn gates_pass_data()
     ensures { (byte : ℕ) (bytes : List ℕ) → SpellsByte byte bytes → PassAs (Data byte) bytes }
 {}
 
-/// One or more FF and the code of a marker give that code, and nothing before (T.81 B.1.1.2).
+/// One or more FF and the code of a marker give that code, and nothing before (T.81, B.1.1.2).
 pub fn gates_pass_markers()
     ensures { (fill code : ℕ) → code ≢ 0 → code ≢ 255 → PassAs (Marker code) (replicate (suc fill) 255 ++ code ∷ []) }
 {}
 
 /// Bits that are put, and then more, are as both put at once.
 pub fn puts_follow()
-    ensures { (s0 s1 : DeskState) (old mid : Waiting) (xs : List Bool) → OnlyWrites s0 s1 → Puts s0 old xs (Ok tt) mid s1 → PutsGoOn s0 old xs mid s1 }
+    ensures { (s0 s1 : DeskState) (old mid : Waiting) (xs : List Bool) → Puts s0 old xs (Ok tt) mid s1 → PutsGoOn s0 old xs mid s1 }
 {}
 
-/// Bits that are put from where none wait, and a pad, give the data of these bits (T.81 F.1.2.3).
+/// Bits that are put from where none wait, and a pad, send the data of these bits (T.81, F.1.2.3).
 pub fn puts_give_data()
-    ensures { (s0 s1 : DeskState) (old mid : Waiting) (xs : List Bool) → OnlyWrites s0 s1 → old.bits ≡ [] → Puts s0 old xs (Ok tt) mid s1 → PadGivesData s0 old xs mid s1 }
+    ensures { (s0 s1 : DeskState) (old mid : Waiting) (xs : List Bool) → old.bits ≡ [] → Puts s0 old xs (Ok tt) mid s1 → PadSendsData s0 old xs mid s1 }
+{}
+
+/// Bytes that are sent, and then more, are as both sent at once.
+pub fn sends_follow()
+    ensures { (s0 s1 : DeskState) (old mid : Waiting) (xs : List ℕ) → Sends s0 old xs (Ok tt) mid s1 → SendsGoOn s0 old xs mid s1 }
 {}

@@ -1,4 +1,4 @@
-// Codes of up to eight bits in one look, and the code that stands first in bits (T.81 F.2.2.3).
+// Codes of up to eight bits in one look, and the code that stands first in bits (T.81, F.2.2.3).
 ghost use Rattle.std.specs.Prelude.{◌≡◌, ◌<◌, ◌≤◌, List, length, Contains, true};
 ghost use Rattle.jpg_spec.specs.Parts.{BeginsCode};
 ghost use Rattle.jpg_spec.specs.Codes.{Code};
@@ -133,6 +133,29 @@ impl Decoder {
         Spotted::Part
     }
 
+    // The same of at least sixteen bits, by the numbers of codes of more than eight.
+    #[cold]
+    #[inline(never)]
+    fn long(&self, bits: &BitStore) -> Spotted
+        ensures { Spots self.now bits.now result }
+    {
+        if bits.len() >= 16 {
+            let sixteen = bits.peek(16);
+            for at in 8..16u8 {
+                let number = sixteen >> (15 - at);
+                let first = self.table.firsts[at as usize];
+                if number >= first && number - first < u32::from(self.table.counts[at as usize]) {
+                    return Spotted::Symbol {
+                        length: at + 1,
+                        symbol: self.table.symbols[self.table.starts[at as usize] as usize
+                            + (number - first) as usize],
+                    };
+                }
+            }
+        }
+        self.walked(bits)
+    }
+
     /// Tells that no code begins another, and none is empty. It does nothing.
     pub fn apart(&self)
         ensures one { AreApart self.now }
@@ -153,7 +176,7 @@ impl Decoder {
                     length: found.length,
                     symbol: found.symbol,
                 },
-                None => self.walked(&bits.copy()),
+                None => self.long(&bits.copy()),
             }
         } else {
             self.few(&bits.copy())

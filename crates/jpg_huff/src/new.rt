@@ -3,11 +3,11 @@ ghost use Rattle.std.specs.Prelude.{◌≡◌, ◌<◌, ◌≤◌, ◌+◌, ◌^
 ghost use Rattle.jpg_spec.specs.Bits.{bits_of};
 ghost use Rattle.jpg_spec.specs.Codes.{are_codes, codes, codes_at};
 ghost use Rattle.jpg_huff.specs.Index.{IsEncoder};
-ghost use Rattle.jpg_huff.specs.New.{IsNew, AreFirsts, AreStarts, AreLimits, AreEntries, Leads};
+ghost use Rattle.jpg_huff.specs.New.{IsNewTable, AreFirsts, AreStarts, AreCodeLimits, AreEntries, HaveFirstCodes};
 
 use crate::Table;
 
-/// Why there is no table (T.81 B.2.4.2 and Annex C).
+/// Why there is no table (T.81, B.2.4.2 and Annex C).
 #[derive(Clone, Copy, Debug, PartialEq, Eq)]
 pub enum TableFault {
     /// The counts add up to more than 256.
@@ -20,10 +20,10 @@ pub enum TableFault {
 
 impl Table {
     /// The table of so many codes of each length from 1 to 16, for the first of the values in their
-    /// order (T.81 B.2.4.2 and Annex C). Later values aren't looked at. A symbol may stand twice, and
+    /// order (T.81, B.2.4.2 and Annex C). Later values aren't looked at. A symbol may stand twice, and
     /// a table may have no codes. Of several faults the first in the order of the variants is answered.
     pub fn new(bits: &[u8; 16], values: &[u8]) -> Result<Table, TableFault>
-        ensures { IsNew bits.now values.now result }
+        ensures { IsNewTable bits.now values.now result }
     {
         let total = count_all(bits);
         if total > 256 {
@@ -97,7 +97,7 @@ fn count_shorter(bits: &[u8; 16]) -> [u16; 16]
 // By length, where the strings end that begin a code; the longest first.
 fn find_limits(bits: &[u8; 16], firsts: &[u32; 16]) -> [u32; 16]
     requires { AreFirsts bits.now firsts.now }
-    ensures { AreLimits bits.now firsts.now result }
+    ensures { AreCodeLimits bits.now firsts.now result }
 {
     let mut limits = [0; 16];
     let mut limit = 2 * (firsts[15] + bits[15] as u32);
@@ -153,7 +153,7 @@ fn add_level(encoder: &mut [u32; 256], symbols: &[u8], size: u32, first: u32)
     requires length { (1 ≤ size) × (size ≤ 16) }
     requires fits { first + length symbols.now < 2 ^ size }
     requires entries { AreEntries encoder.old }
-    ensures adds { Leads encoder.old (codes_at (length symbols.now) size first symbols.now) encoder.new [] }
+    ensures adds { HaveFirstCodes encoder.old (codes_at (length symbols.now) size first symbols.now) encoder.new [] }
     ensures entries { AreEntries encoder.new }
 {
     let mut number = first;
@@ -168,7 +168,7 @@ fn add(encoder: &mut [u32; 256], symbol: u8, size: u32, number: u32)
     requires length { (1 ≤ size) × (size ≤ 16) }
     requires fits { number < 2 ^ size }
     requires entries { AreEntries encoder.old }
-    ensures adds { Leads encoder.old ((bits_of size number, symbol) ∷ []) encoder.new [] }
+    ensures adds { HaveFirstCodes encoder.old ((bits_of size number, symbol) ∷ []) encoder.new [] }
     ensures entries { AreEntries encoder.new }
 {
     if encoder[symbol as usize] == 0 {

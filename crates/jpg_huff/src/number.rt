@@ -1,6 +1,6 @@
 //! A number's category and its extra bits (T.81, F.1.2.1, F.1.2.2), and the number that they tell
 //! (F.2.2.1, Figure F.12).
-ghost use Rattle.std.specs.Prelude.{◌≡◌, ◌≤◌, ◌<◌, ◌^◌, nat_abs, pos, neg_ℤ};
+ghost use Rattle.std.specs.Prelude.{◌≡◌, ◌≤◌, ◌<◌, ◌^◌, nat_abs, pos, ◌-ℤ◌};
 ghost use Rattle.jpg_spec.specs.Bits.{bits_of};
 ghost use Rattle.jpg_spec.specs.Numbers.{digits, category as category_of, extra_bits as extra_of};
 
@@ -33,18 +33,14 @@ pub fn extra_bits(value: i32) -> u32
     }
 }
 
-fn positive(magnitude: u32) -> i16
-    requires { magnitude < 2 ^ 15 }
-    ensures { result ≡ pos magnitude }
+// The number that is so much less.
+#[inline(always)]
+fn lowered(number: u32, less: u32) -> i16
+    requires number { number < 2 ^ 15 }
+    requires less { less < 2 ^ 15 }
+    ensures { result ≡ pos number -ℤ pos less }
 {
-    magnitude as i16
-}
-
-fn negative(magnitude: u32) -> i16
-    requires { magnitude < 2 ^ 15 }
-    ensures { result ≡ neg_ℤ (pos magnitude) }
-{
-    -(magnitude as i16)
+    number as i16 - less as i16
 }
 
 /// The number of this category, 0 to 15, that has these extra bits, given as a number of as many bits.
@@ -54,11 +50,12 @@ pub fn extend(size: u8, bits: u32) -> i16
     ensures category { category_of result ≡ size }
     ensures extra { extra_of result ≡ bits_of size bits }
 {
+    let ones = (1 << size) - 1;
     if size == 0 {
         0
     } else if bits >= 1 << (size - 1) {
-        positive(bits)
+        lowered(bits, 0)
     } else {
-        negative((1 << size) - 1 - bits)
+        lowered(bits, ones)
     }
 }

@@ -1,8 +1,7 @@
 // Bits that go out as stuffed bytes.
 ghost use Rattle.std.specs.Prelude.{◌≡◌, ◌≤◌, ◌<◌, ◌^◌, [], true};
 ghost use Rattle.jpg_spec.specs.Bits.{bits_of};
-ghost use Rattle.jpg_huff.specs.Out.{OnlyWrites};
-ghost use Rattle.jpg_huff.specs.BitOut.{Puts, Pads, Sends, nothing_waits};
+ghost use Rattle.jpg_huff.specs.BitOut.{CanSend, Puts, Pads, Sends, nothing_waits};
 
 use crate::buffer::Buffer;
 use jpg_base::{Desk, WriteFault};
@@ -41,15 +40,14 @@ impl BitOut {
     }
 
     /// Adds a number below `2^count` as `count` bits, 0 to 32, the most significant first.
-    /// After each byte FF that goes out stands 00 (T.81 B.1.1.5). After WriteFault a first
+    /// After each byte FF that goes out stands 00 (T.81, B.1.1.5). After WriteFault a first
     /// part of the bytes that were due is written, and nothing waits.
     #[inline(always)]
     pub fn put<D: Desk>(&mut self, bits: u32, count: u8, desk: &mut D) -> Result<(), WriteFault>
         requires created { (D.state desk.old).output_created ≡ true }
         requires count { count ≤ 32 }
         requires bits { bits < 2 ^ count }
-        ensures kept { OnlyWrites (D.state desk.old) (D.state desk.new) }
-        ensures puts { Puts (D.state desk.old) self.old (bits_of count bits) result self.new (D.state desk.new) }
+        ensures { Puts (D.state desk.old) self.old (bits_of count bits) result self.new (D.state desk.new) }
     {
         let total = self.count + count;
         let all = (self.word << count) + u64::from(bits);
@@ -74,11 +72,10 @@ impl BitOut {
         }
     }
 
-    /// Fills the last byte with ones (T.81 F.1.2.3), so that no bits wait. WriteFault is as in `put`.
+    /// Fills the last byte with ones (T.81, F.1.2.3), so that no bits wait. WriteFault is as in `put`.
     pub fn pad<D: Desk>(&mut self, desk: &mut D) -> Result<(), WriteFault>
         requires { (D.state desk.old).output_created ≡ true }
-        ensures kept { OnlyWrites (D.state desk.old) (D.state desk.new) }
-        ensures pads { Pads (D.state desk.old) self.old result self.new (D.state desk.new) }
+        ensures { Pads (D.state desk.old) self.old result self.new (D.state desk.new) }
     {
         let fill = (8 - self.count % 8) % 8;
         let all = (self.word << fill) + ((1 << fill) - 1);
@@ -90,19 +87,15 @@ impl BitOut {
 
     /// Adds bytes as they are, where no bits wait. WriteFault is as in `put`.
     pub fn raw<D: Desk>(&mut self, piece: &[u8], desk: &mut D) -> Result<(), WriteFault>
-        requires created { (D.state desk.old).output_created ≡ true }
-        requires none { self.old.bits ≡ [] }
-        ensures kept { OnlyWrites (D.state desk.old) (D.state desk.new) }
-        ensures sends { Sends (D.state desk.old) self.old piece.now result self.new (D.state desk.new) }
+        requires { CanSend (D.state desk.old) self.old }
+        ensures { Sends (D.state desk.old) self.old piece.now result self.new (D.state desk.new) }
     {
         self.buffer.push_piece(piece, desk)
     }
 
     /// Writes all that waits, where no bits wait. Afterwards nothing waits. WriteFault is as in `put`.
     pub fn flush<D: Desk>(&mut self, desk: &mut D) -> Result<(), WriteFault>
-        requires created { (D.state desk.old).output_created ≡ true }
-        requires none { self.old.bits ≡ [] }
-        ensures kept { OnlyWrites (D.state desk.old) (D.state desk.new) }
+        requires { CanSend (D.state desk.old) self.old }
         ensures sends { Sends (D.state desk.old) self.old [] result self.new (D.state desk.new) }
         ensures nothing { self.new ≡ nothing_waits }
     {

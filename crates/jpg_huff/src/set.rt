@@ -1,11 +1,11 @@
-// The tables in force: four slots for DC and four for AC tables (T.81 B.2.4.2).
+// The tables in force: four slots for DC and four for AC tables (T.81, B.2.4.2).
 ghost use Rattle.std.specs.Prelude.{◌≡◌, ◌<◌, Some, slice_set};
 ghost use Rattle.std.specs.Option.{option_map};
 ghost use Rattle.jpg_huff.specs.Sets.{dc_tables, ac_tables, in_slot, no_tables};
 
 use crate::Table;
 
-/// Four optional DC tables and four optional AC tables, by slots 0 to 3 (T.81 B.2.4.2).
+/// Four optional DC tables and four optional AC tables, by slots 0 to 3 (T.81, B.2.4.2).
 #[derive(Drop)]
 pub struct TableSet {
     dc: [Option<Table>; 4],

@@ -5,7 +5,7 @@ ghost use Rattle.jpg_spec.specs.Codes.{codes};
 ghost use Rattle.jpg_huff.specs.Index.{IsIndexed, IsEncoder};
 
 /// A Huffman table: at most 256 symbols with codes of 1 to 16 bits, of which none is all ones
-/// (T.81 Annex C).
+/// (T.81, Annex C).
 #[derive(Drop)]
 pub struct Table {
     pub(crate) counts: [u8; 16],

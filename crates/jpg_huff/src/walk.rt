@@ -14,7 +14,7 @@ pub enum WalkStep {
     NoCode,
 }
 
-/// The bits of a code so far, at most 15 (T.81 F.2.2.3).
+/// The bits of a code so far, at most 15 (T.81, F.2.2.3).
 #[derive(Drop)]
 pub struct Walk {
     length: u8,

@@ -6,6 +6,7 @@ use Rattle.std.proofs.lemmas.List.{append_assoc, append-nil, reverse-append}
 use Rattle.jpg_spec.specs.Lists.{any_of, are_equal}
 use Rattle.jpg_spec.specs.FileText.{distinct_after}
 use Rattle.jpg_spec.specs.Segments.{QuantTable}
+use Rattle.jpg_spec.proofs.Common.{any_append}
 
 -- those that are left: one, and the others
 pub left_at : {X : Type 0} (xs : List X) (i : ℕ) (x : X) → i < length xs → x ≡ get_or xs i x → drop i xs ≡ x ∷ drop (i + 1) xs
@@ -21,14 +22,10 @@ or_ends : (a b c : Bool) → (a || (b || c)) ≡ ((a || b) || c)
 or_ends true b c = refl
 or_ends false b c = refl
 
-any_of-append : {X : Type 0} (f : X → Bool) (xs ys : List X) → any_of f (xs ++ ys) ≡ (any_of f xs || any_of f ys)
-any_of-append f [] ys = refl
-any_of-append f (x ∷ xs) ys = ap (λ b. f x || b) (any_of-append f xs ys) ∙ or_ends (f x) (any_of f xs) (any_of f ys)
-
 any_of-reverse : {X : Type 0} (f : X → Bool) (xs : List X) → any_of f (reverse xs) ≡ any_of f xs
 any_of-reverse f [] = refl
 any_of-reverse f (x ∷ xs) =
-    ap (any_of f) (reverse-append (x ∷ []) xs) ∙ any_of-append f (reverse xs) (x ∷ []) ∙ or_last (any_of f (reverse xs)) (f x) ∙ ap (λ b. f x || b) (any_of-reverse f xs)
+    ap (any_of f) (reverse-append (x ∷ []) xs) ∙ any_append f (reverse xs) (x ∷ []) ∙ or_last (any_of f (reverse xs)) (f x) ∙ ap (λ b. f x || b) (any_of-reverse f xs)
 
 -- a further table, which is among those seen or isn't
 step_by : (seen : Bool) (distinct rest news all : List QuantTable) (t : QuantTable) → any_of (are_equal t) distinct ≡ seen → news ≡ distinct ++ (if seen then [] else t ∷ [])

@@ -8,7 +8,6 @@ use Rattle.std.proofs.lemmas.List.Elements.{filter-append}
 use Rattle.std.proofs.lemmas.List.Folds.{flat_map-map}
 use Rattle.std.proofs.lemmas.Option.{get_or_from_slice_get, slice_get_within}
 use Rattle.std.proofs.lemmas.Slice.Zip.{get_or-zip, length-zip}
-use Rattle.jpg_spec.specs.Jfif.{Jfif}
 use Rattle.jpg_spec.specs.FileText.{kept_text, segment_text, quant_text, slot_in, distinct_after, distinct_quants, component_bytes, front_text, sof_code}
 use Rattle.jpg_spec.specs.Geometry.{Frame, component_at, no_component}
 use Rattle.jpg_spec.specs.Meaning.{Meaning, PictureComponent}
@@ -19,6 +18,7 @@ use Rattle.jpg_spec.specs.declared.frame.Copying.{Copying}
 use Rattle.jpg_spec.specs.declared.frame.Copying.TheVariants as copying
 use Rattle.jpg_spec.specs.declared.frame.Colour.{Colour}
 use Rattle.jpg_spec.specs.declared.frame.Colour.TheVariants.{Gray, YCbCr, Rgb, Cmyk, Ycck, Unknown}
+use Rattle.jpg_spec.specs.declared.jfif.Jfif.{Jfif}
 use Rattle.jpg_markers.specs.OutHead.{component_text, component_texts, frame_contents, front_contents, head_meaning, with_tables}
 use Rattle.jpg_markers.specs.Passed.{is_passed, is_replaced, own_header}
 use Rattle.jpg_markers.specs.declared.writing.head.OutHead.{OutHead}

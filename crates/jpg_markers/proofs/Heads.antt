@@ -4,18 +4,14 @@ use Rattle.std.specs.Prelude.{◌||◌, ◌&&◌, ◌==◌, nat_lt, if◌then◌
 use Rattle.std.proofs.lemmas.Bool.{eqb-true, eqb-false, eq-eqb, ne_eqb, ltb-false, lt-ltb, and_parts}
 use Rattle.std.proofs.lemmas.List.{length-take}
 use Rattle.jpg_spec.specs.Lists.{is_among, is_distinct, index_of}
-use Rattle.jpg_spec.specs.Faults.{Told, refuse}
 use Rattle.jpg_spec.specs.Geometry.{Frame, factor_sum, is_progressive}
 use Rattle.jpg_spec.specs.FrameHeader.{identifiers}
 use Rattle.jpg_spec.specs.Segments.{ScanHead, head_components}
 use Rattle.jpg_spec.specs.ScanContents.{IsHead, are_among, are_parameters, checked_head, head_told, ids_told, parts_told, scan_header}
-use Rattle.jpg_spec.specs.declared.fault.Fault.{Fault}
 use Rattle.jpg_spec.specs.declared.fault.Fault.TheVariants.{BadLength, ScanComponent, McuTooLarge, ScanParameters}
 use Rattle.jpg_markers.proofs.Scans.{parts_below}
-
-passed : {X : Type 0} (fault : Fault) (bad : Bool) (rest : Told X) (x : X) → refuse fault bad rest ≡ Ok x → (bad ≡ false) × (rest ≡ Ok x)
-passed fault true rest x e = absurd cc
-passed fault false rest x e = (refl, e)
+use Rattle.jpg_spec.proofs.Common.{refused, neither}
+use Rattle.jpg_spec.proofs.TablesInForce.{affirmed}
 
 -- PLACES ARE AS DISTINCT AS IDENTIFIERS
 
@@ -65,14 +61,6 @@ parts_length f count (id ∷ []) even = absurd (omega (arith, even))
 parts_length f zero (id ∷ slots ∷ bytes) even = absurd (omega (arith, even))
 parts_length f (suc count) (id ∷ slots ∷ bytes) even = ap suc (parts_length f count bytes (omega (arith, even)))
 
-nots : (b : Bool) → not b ≡ false → b ≡ true
-nots true e = refl
-nots false e = absurd cc
-
-neither : (a b : Bool) → (a || b) ≡ false → (a ≡ false) × (b ≡ false)
-neither true b e = absurd cc
-neither false b e = (refl, e)
-
 second_too : (a b : Bool) → (a && b) ≡ false → a ≡ true → b ≡ false
 second_too true b e first = e
 second_too false b e first = absurd cc
@@ -84,14 +72,14 @@ head_is : (f : Frame) (count : ℕ) (bytes band : List ℕ) (head : ScanHead) �
 unfolding checked_head
 head_is f count bytes band head even told =
     let made = head_told f bytes band in
-    let e1 = passed ScanComponent (count == 0 || nat_lt 4 count) _ head told in
-    let e2 = passed ScanComponent (not (are_among f (ids_told bytes))) _ head e1.1 in
-    let e3 = passed ScanComponent (not (is_distinct (ids_told bytes))) _ head e2.1 in
-    let e4 = passed McuTooLarge (nat_lt 1 count && nat_lt 10 (factor_sum f (head_components made))) _ head e3.1 in
-    let e5 = passed ScanParameters (is_progressive f.process && not (are_parameters f count made)) _ head e4.1 in
+    let e1 = refused ScanComponent (count == 0 || nat_lt 4 count) _ head told in
+    let e2 = refused ScanComponent (not (are_among f (ids_told bytes))) _ head e1.1 in
+    let e3 = refused ScanComponent (not (is_distinct (ids_told bytes))) _ head e2.1 in
+    let e4 = refused McuTooLarge (nat_lt 1 count && nat_lt 10 (factor_sum f (head_components made))) _ head e3.1 in
+    let e5 = refused ScanParameters (is_progressive f.process && not (are_parameters f count made)) _ head e4.1 in
     let same : made ≡ head = cc in
     let counted = neither (count == 0) (nat_lt 4 count) e1.0 in
-    let all = nots (are_among f (ids_told bytes)) e2.0 in
+    let all = affirmed (are_among f (ids_told bytes)) e2.0 in
     let long = parts_length f count bytes even in
     let high : count ≤ 4 = ltb-false 4 count counted.1 in
     let low : count ≡ 0 → ⊥ = eqb-false count 0 counted.0 in
@@ -99,13 +87,13 @@ head_is f count bytes band head even told =
       some = omega (arith, long, low);
       few = omega (arith, long, high);
       known = parts_below f bytes all;
-      distinct = distinct_places f bytes all ∙ nots (is_distinct (ids_told bytes)) e3.0;
+      distinct = distinct_places f bytes all ∙ affirmed (is_distinct (ids_told bytes)) e3.0;
       small = λ several. few_blocks count (factor_sum f (head_components made)) e4.0 (omega (arith, long, several));
     })
 
 pub accepted : (f : Frame) (contents : List ℕ) (head : ScanHead) → scan_header f contents ≡ Ok head → IsHead f head
 accepted f [] head told = absurd cc
 accepted f (count ∷ bytes) head told =
-    let e = passed BadLength (not (length bytes == 2 * count + 3)) (checked_head f count (ids_told (take (2 * count) bytes)) (head_told f (take (2 * count) bytes) (drop (2 * count) bytes))) head told in
-    let long : length bytes ≡ 2 * count + 3 = eqb-true (length bytes) (2 * count + 3) (nots (length bytes == 2 * count + 3) e.0) in
+    let e = refused BadLength (not (length bytes == 2 * count + 3)) (checked_head f count (ids_told (take (2 * count) bytes)) (head_told f (take (2 * count) bytes) (drop (2 * count) bytes))) head told in
+    let long : length bytes ≡ 2 * count + 3 = eqb-true (length bytes) (2 * count + 3) (affirmed (length bytes == 2 * count + 3) e.0) in
     head_is f count (take (2 * count) bytes) (drop (2 * count) bytes) head (omega (arith, long, length-take (2 * count) bytes)) e.1

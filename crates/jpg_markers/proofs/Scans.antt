@@ -1,6 +1,6 @@
 -- The components of a scan that are in the frame.
-use Rattle.std.proofs.Common.{◌≡◌, ℕ, suc, ◌+◌, ◌<◌, Bool, true, false, List, [], ◌∷◌, length, All, refl, arith}
-use Rattle.std.specs.Prelude.{◌||◌, ◌&&◌, ◌==◌, if◌then◌else◌}
+use Rattle.std.proofs.Common.{◌≡◌, ℕ, suc, ◌+◌, ◌<◌, Bool, true, false, List, [], ◌∷◌, length, All, arith}
+use Rattle.std.specs.Prelude.{◌||◌, ◌==◌, if◌then◌else◌}
 use Rattle.std.specs.List.{AllByRecursion}
 use Rattle.std.proofs.lemmas.List.Elements.{All-from_recursion}
 use Rattle.jpg_spec.specs.Lists.{is_among, index_of}
@@ -9,10 +9,7 @@ use Rattle.jpg_spec.specs.FrameHeader.{identifiers}
 use Rattle.jpg_spec.specs.ScanContents.{are_among, ids_told, parts_told}
 use Rattle.jpg_spec.specs.declared.frame.Component.{Component}
 use Rattle.jpg_spec.specs.declared.frame.ScanPart.{ScanPart}
-
-both : (a b : Bool) → (a && b) ≡ true → (a ≡ true) × (b ≡ true)
-both true b e = (refl, e)
-both false b e = absurd cc
+use Rattle.jpg_spec.proofs.Common.{both}
 
 one_more : (is_first more : Bool) (n count : ℕ) → (is_first || more) ≡ true → (more ≡ true → n < count) → (if is_first then 0 else 1 + n) < suc count
 one_more true more n count e others = omega arith

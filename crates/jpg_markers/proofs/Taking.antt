@@ -11,7 +11,7 @@ use Rattle.jpg_markers.specs.declared.segments.Phase.{Phase}
 use Rattle.jpg_markers.specs.declared.segments.Phase.TheVariants as phase
 use Rattle.jpg_markers.specs.declared.segments.SegStep.TheVariants as step
 use Rattle.jpg_markers.specs.Seen.{HasSeen}
-use Rattle.jpg_markers.specs.Reading.{Reading, AtPhase, StandsFor, IsWhole, ShowsBehind, EndsBehind, Comes}
+use Rattle.jpg_markers.specs.Reading.{Reading, AtPhase, StandsFor, HasWholeSegment, ShowsBehind, EndsBehind, Comes}
 
 -- BETWEEN segments
 
@@ -190,7 +190,7 @@ spelled code high low marker contents m h l e =
     (marker, m, omega (arith, h, l, e), sym (append_assoc marker (high ∷ low ∷ []) contents) ∙ ap (λ (bytes : List ℕ). (marker ++ bytes) ++ contents) (sym (length_is high low (length contents + 2) h l e)))
 
 pub low_whole : (r : Reading) (bytes : List ℕ) (before : List Segment) (byte : ℕ) → r.phase ≡ phase.HalfLength → StandsFor bytes before r → byte < 256 → two_bytes r.high byte ≡ 2
-    → IsWhole (bytes ++ byte ∷ []) before (record r { left = 0; contents = [] })
+    → HasWholeSegment (bytes ++ byte ∷ []) before (record r { left = 0; contents = [] })
 low_whole r bytes before byte e s small two =
     let (tail, between, seen, (marker, begins, is, fits)) = at_is r phase.HalfLength bytes before e s in
     let next = further (kept_rule r.limits) bytes before tail (byte ∷ []) between in
@@ -216,7 +216,7 @@ content_more r bytes before byte left e s one some =
     )
 
 pub content_whole : (r : Reading) (bytes : List ℕ) (before : List Segment) (byte : ℕ) → r.phase ≡ phase.Contents → StandsFor bytes before r → r.left ≤ 1
-    → IsWhole (bytes ++ byte ∷ []) before (record r { contents = r.contents ++ byte ∷ [] })
+    → HasWholeSegment (bytes ++ byte ∷ []) before (record r { contents = r.contents ++ byte ∷ [] })
 content_whole r bytes before byte e s last =
     let (tail, between, seen, (marker, high, low, begins, is, h, l, long, least)) = at_is r phase.Contents bytes before e s in
     let next = further (kept_rule r.limits) bytes before tail (byte ∷ []) between in
@@ -231,7 +231,7 @@ contents_short r bytes before e s =
 
 -- A WHOLE SEGMENT
 
-pub whole_passes : (r : Reading) (bytes : List ℕ) (before : List Segment) (next : Seen) → r.stop ≡ None → IsWhole bytes before r
+pub whole_passes : (r : Reading) (bytes : List ℕ) (before : List Segment) (next : Seen) → r.stop ≡ None → HasWholeSegment bytes before r
     → ((before : List Segment) → HasSeen r.limits r.seen before → (kept_rule r.limits before r.code r.contents ≡ None) × HasSeen r.limits next ((r.code, r.contents) ∷ before))
     → Comes bytes before (Ok step.Whole) (record r { seen = next; phase = phase.Between })
 whole_passes r bytes before next going (tail, between, seen, segment, good, end) passes =
@@ -240,7 +240,7 @@ whole_passes r bytes before next going (tail, between, seen, segment, good, end)
     let pass : Pass (kept_rule r.limits) ((r.code, r.contents) ∷ before) = (good, p.0, between.passed) in
     ((before, all, pass), (going, ([], record { front = bytes; cut = sym (append-nil bytes); spelled = all; passed = pass }, p.1, refl)))
 
-pub whole_fault : (r : Reading) (bytes : List ℕ) (before : List Segment) → IsWhole bytes before r
+pub whole_fault : (r : Reading) (bytes : List ℕ) (before : List Segment) → HasWholeSegment bytes before r
     → ((before : List Segment) → HasSeen r.limits r.seen before → kept_rule r.limits before r.code r.contents ≡ Some MarkersTooLarge) → SegmentsShow (kept_rule r.limits) MarkersTooLarge bytes × ShowsBehind (kept_rule r.limits) before MarkersTooLarge bytes
 whole_fault r bytes before (tail, between, seen, segment, good, end) wrong =
     shown (kept_rule r.limits) before MarkersTooLarge bytes (inr (tail, between, inr (inr (inr (r.code, r.contents, segment, good, end, wrong before seen)))))

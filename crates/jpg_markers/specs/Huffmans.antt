@@ -1,4 +1,4 @@
--- What the contents of a segment of Huffman tables tell, of tables as they are kept (T.81 B.2.4.2).
+-- What the contents of a segment of Huffman tables tell, of tables as they are kept (T.81, B.2.4.2).
 use Rattle.std.specs.Prelude.{ℕ, ◌+◌, ◌/◌, ◌%◌, List, length, Result, Ok, Err}
 use Rattle.jpg_spec.specs.Faults.{Told}
 use Rattle.jpg_spec.specs.QuantContents.{◌>>=◌}

@@ -5,4 +5,3 @@ pub mod OutHead
 pub mod Passed
 pub mod Reading
 pub mod Seen
-pub mod Sent

@@ -1,4 +1,4 @@
--- What the head of a file that is written tells (T.81 B.2.1, B.2.2).
+-- What the head of a file that is written tells (T.81, B.2.1, B.2.2).
 use Rattle.std.specs.Prelude.{ℕ, ◌+◌, ◌*◌, List, [], ◌∷◌, ◌++◌, length, map, zip, flat_map}
 use Rattle.std.specs.Int.{to_be_bytes, w16}
 use Rattle.jpg_spec.specs.Elements.{zeros}

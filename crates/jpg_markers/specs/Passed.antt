@@ -1,11 +1,12 @@
 -- The own header of a file, and the kept markers that are passed on behind it (JFIF 1.02, Adobe's APP14, the manual of jpegtran).
 use Rattle.std.specs.Prelude.{ℕ, Bool, true, false, not, ◌&&◌, ◌==◌, List, [], ◌∷◌}
-use Rattle.jpg_spec.specs.Jfif.{Jfif, begins_jfif, begins_adobe}
+use Rattle.jpg_spec.specs.Jfif.{begins_jfif, begins_adobe}
 use Rattle.jpg_spec.specs.Moves.{jfif_contents, adobe_contents}
 use Rattle.jpg_spec.specs.declared.frame.Copying.{Copying}
 use Rattle.jpg_spec.specs.declared.frame.Copying.TheVariants as copying
 use Rattle.jpg_spec.specs.declared.frame.Colour.{Colour}
 use Rattle.jpg_spec.specs.declared.frame.Colour.TheVariants.{Gray, YCbCr, Rgb, Cmyk, Ycck, Unknown}
+use Rattle.jpg_spec.specs.declared.jfif.Jfif.{Jfif}
 
 abbrev pub own_header : Colour → Jfif → List (ℕ × List ℕ)
 own_header Gray j = (0xe0, jfif_contents j) ∷ []

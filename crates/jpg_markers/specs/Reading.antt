@@ -82,8 +82,8 @@ StandsFor bytes before r = (r.stop ≡ None) × AtPhase r r.phase bytes before
 -- WHAT THE BYTES COME TO, behind these whole segments
 
 -- the last segment is whole, and what it leaves behind isn't seen yet
-abbrev pub IsWhole : List ℕ → List Segment → Reading → Type 0
-IsWhole bytes before r =
+abbrev pub HasWholeSegment : List ℕ → List Segment → Reading → Type 0
+HasWholeSegment bytes before r =
     (tail : List ℕ) × Between (kept_rule r.limits) bytes before tail × HasSeen r.limits r.seen before
     × SpellsSegment r.code r.contents tail × (code_fault before r.code ≡ None) × (r.code ≡ 0xd9 → ⊥)
 
@@ -122,7 +122,7 @@ GoesWith old more answer new = (bytes : List ℕ) (before : List Segment) → St
 
 -- Where a segment is whole, the answer is what the bytes come to.
 abbrev pub GoesWhole : Reading → Result SegStep Halt → Reading → Type 0
-GoesWhole old answer new = (bytes : List ℕ) (before : List Segment) → old.stop ≡ None → IsWhole bytes before old → Goes bytes before answer new
+GoesWhole old answer new = (bytes : List ℕ) (before : List Segment) → old.stop ≡ None → HasWholeSegment bytes before old → Goes bytes before answer new
 
 -- the last answer was Whole for an SOS segment
 abbrev pub IsBehindScan : Reading → Type 0

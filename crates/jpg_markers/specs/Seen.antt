@@ -22,3 +22,13 @@ Leaves s code contents next =
 -- Behind these segments one more exceeds it.
 abbrev pub Exceeds : Seen → ℕ → List ℕ → Type 0
 Exceeds s code contents = (limits : Limits) (before : List Segment) → HasSeen limits s before → kept_rule limits before code contents ≡ Some MarkersTooLarge
+
+-- a code that defines nothing and begins no scan
+pub record IsOther (code : ℕ) : Type 0 where
+  pub huffmans : code ≡ 0xc4 → ⊥
+  pub quants : code ≡ 0xdb → ⊥
+  pub interval : code ≡ 0xdd → ⊥
+  pub scan : code ≡ 0xda → ⊥
+  pub baseline : code ≡ 0xc0 → ⊥
+  pub extended : code ≡ 0xc1 → ⊥
+  pub progressive : code ≡ 0xc2 → ⊥

@@ -5,29 +5,7 @@ ghost use Rattle.jpg_spec.specs.Jfif.{is_jfif, is_adobe, jfif_told};
 ghost use Rattle.jpg_markers.specs.Apps.{IsApp};
 
 use byteorder::{BigEndian, ByteOrder};
-use std::marker::Model;
-
-/// What a JFIF header tells: whether one was seen, its version, and the unit and the numbers of its
-/// density (JFIF 1.02). Without one it stands for version 1.01 and density 1 by 1.
-#[derive(Clone, Copy, Debug, PartialEq, Eq)]
-pub struct Jfif {
-    pub seen: bool,
-    pub major: u8,
-    pub minor: u8,
-    pub unit: u8,
-    pub x: u16,
-    pub y: u16,
-}
-
-impl Model for Jfif {
-    ghost use Rattle.jpg_spec.specs.Jfif.{Jfif as Told};
-
-    ghost Value = { Told };
-
-    ghost view = { λ j. record { seen = j.seen; major = j.major; minor = j.minor; unit = j.unit; x = j.x; y = j.y } };
-
-    ghost inverse = { λ j. record { seen = j.seen; major = j.major; minor = j.minor; unit = j.unit; x = j.x; y = j.y } };
-}
+use jpg_spec::Jfif;
 
 /// What an application segment tells.
 #[derive(Clone, Copy, Debug, PartialEq, Eq)]
@@ -52,7 +30,7 @@ pub fn read_app(code: u8, contents: &[u8]) -> App
     App::Other
 }
 
-/// The JFIF header of these contents.
+// The JFIF header of these contents.
 fn header_of(contents: &[u8]) -> Jfif
     requires { 14 ≤ length contents.now }
     ensures { (code : ℕ) → result ≡ jfif_told (Some (code, contents.now)) }

@@ -4,9 +4,8 @@ ghost use Rattle.jpg_spec.specs.FrameHeader.{identifiers};
 ghost use Rattle.jpg_spec.specs.Lists.{are_equal};
 ghost use Rattle.jpg_spec.specs.Colours.{colours_of, three_colours, four_colours};
 
-use crate::app::Jfif;
 use jpg_base::Frame;
-use jpg_spec::Colour;
+use jpg_spec::{Colour, Jfif};
 
 /// The colours of a frame whose file has this JFIF header and this Adobe transform, if any: one
 /// component is gray; of three JFIF says YCbCr, transform 0 RGB and another YCbCr, and without both
@@ -53,7 +52,7 @@ fn of_four(adobe: Option<u8>) -> Colour
     }
 }
 
-/// Whether the identifiers are R, G and B.
+// Whether the identifiers are R, G and B.
 fn has_letters(frame: &Frame) -> bool
     requires { length frame.now.components ≡ 3 }
     ensures { result ≡ are_equal (identifiers frame.now.components) (82 ∷ 71 ∷ 66 ∷ []) }

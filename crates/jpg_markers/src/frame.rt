@@ -1,4 +1,4 @@
-// The frame header (T.81 B.2.2).
+// The frame header (T.81, B.2.2).
 ghost use Rattle.std.specs.Prelude.{◌≡◌, ◌≤◌, length};
 ghost use Rattle.jpg_spec.specs.FrameHeader.{AreLimits};
 ghost use Rattle.jpg_spec.specs.FrameContents.{components_told, frame_header};
@@ -10,7 +10,7 @@ use jpg_spec::{Component, Fault, Limits, Process};
 
 /// The frame of a frame header's contents, or the first fault that they show: BadLength (not six
 /// bytes and three for each component that they count), then those of `Frame::new` in its order
-/// (T.81 B.2.2). It takes no memory.
+/// (T.81, B.2.2). It takes no memory.
 pub fn read_sof(process: Process, contents: &[u8], limits: &Limits) -> Result<Frame, Fault>
     requires { AreLimits limits.now }
     ensures { result ≡ frame_header limits.now process contents.now }
@@ -36,7 +36,7 @@ pub fn read_sof(process: Process, contents: &[u8], limits: &Limits) -> Result<Fr
     }
 }
 
-/// The components, of three bytes each.
+// The components, of three bytes each.
 fn components_of(parts: &[u8]) -> ArrayVec<Component, 255>
     requires { length parts.now ≤ 765 }
     ensures { result.items ≡ components_told parts.now }

@@ -1,6 +1,6 @@
-// The markers of a file that are kept (T.81 B.2.4.5, B.2.4.6).
+// The markers of a file that are kept (T.81, B.2.4.5, B.2.4.6).
 ghost use Rattle.std.specs.Prelude.{◌≡◌, ◌<◌, [], ◌∷◌, ◌++◌, length, slice_get, Some, OnOk, OnErr};
-ghost use Rattle.jpg_markers.specs.Kept.{IsKept, pair_of};
+ghost use Rattle.jpg_markers.specs.Kept.{IsKeptSegment, kept_pair};
 
 use jpg_base::{Bytes, NoMemory};
 use std::alloc::Global;
@@ -23,13 +23,13 @@ pub struct KeptList {
 
 impl Model for KeptList {
     ghost use Rattle.std.specs.Prelude.{List, ℕ, All, map};
-    ghost use Rattle.jpg_markers.specs.Kept.{IsKept, pair_of};
+    ghost use Rattle.jpg_markers.specs.Kept.{IsKeptSegment, kept_pair};
 
     ghost Value = { List (ℕ × List ℕ) };
 
-    ghost view = { λ l. map pair_of l.members.items };
+    ghost view = { λ l. map kept_pair l.members.items };
 
-    ghost invariant = { λ l. All (λ k. IsKept k.code k.contents) l.members.items };
+    ghost invariant = { λ l. All (λ k. IsKeptSegment k.code k.contents) l.members.items };
 }
 
 impl KeptList {
@@ -46,7 +46,7 @@ impl KeptList {
     /// Adds a marker, APPn (E0 to EF) or COM (FE), with at most 65,533 bytes. At `NoMemory` nothing
     /// has changed.
     pub fn push(&mut self, code: u8, contents: &[u8]) -> Result<(), NoMemory>
-        requires { IsKept code contents.now }
+        requires { IsKeptSegment code contents.now }
         ensures pushed { OnOk result (self.new ≡ self.old ++ (code, contents.now) ∷ []) }
         ensures same { OnErr result (self.new ≡ self.old) }
     {
@@ -72,8 +72,8 @@ impl KeptList {
     /// The marker at place `i`, from 0.
     pub fn get(&self, i: usize) -> &Kept
         requires { i < length self.now }
-        ensures value { slice_get self.now i ≡ Some (pair_of result.now) }
-        ensures kept { IsKept result.now.code result.now.contents }
+        ensures value { slice_get self.now i ≡ Some (kept_pair result.now) }
+        ensures kept { IsKeptSegment result.now.code result.now.contents }
     {
         &self.members[i]
     }

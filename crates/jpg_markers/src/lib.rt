@@ -1,4 +1,4 @@
-//! Marker segments: what their contents tell, and how they are written (T.81 B.2, JFIF 1.02).
+//! Marker segments: what their contents tell, and how they are written (T.81, B.2, JFIF 1.02).
 #![tactic(auto)]
 
 mod app;
@@ -13,12 +13,12 @@ mod seen;
 mod segments;
 mod writing;
 
-pub use app::{App, Jfif, read_app};
+pub use app::{App, read_app};
 pub use colour::guess;
 pub use frame::read_sof;
 pub use huffmans::read_dht;
 pub use interval::read_dri;
-pub use jpg_spec::Copying;
+pub use jpg_spec::{Copying, Jfif};
 pub use kept::{Kept, KeptList};
 pub use quants::{QuantSet, read_dqt};
 pub use scan::{accepted_heads_are_of_their_frames, read_sos};

@@ -1,4 +1,4 @@
-// Quantisation tables (T.81 B.2.4.1).
+// Quantisation tables (T.81, B.2.4.1).
 ghost use Rattle.std.specs.Prelude.{◌≡◌, ◌<◌, ◌≤◌, Some, Ok, Err, length, slice_set, drop, IfOk, IfErr};
 ghost use Rattle.std.specs.Option.{option_map};
 ghost use Rattle.jpg_spec.specs.Lists.{any_of};
@@ -9,7 +9,7 @@ use jpg_base::QuantTable;
 use jpg_spec::Fault;
 use std::marker::Model;
 
-/// Four optional quantisation tables, by slots 0 to 3 (T.81 B.2.4.1).
+/// Four optional quantisation tables, by slots 0 to 3 (T.81, B.2.4.1).
 #[derive(Clone, Copy, Debug, PartialEq, Eq)]
 pub struct QuantSet {
     tables: [Option<QuantTable>; 4],
@@ -58,7 +58,7 @@ impl QuantSet {
 /// Puts the tables of a segment's contents into their slots, a later one of a slot in the place of
 /// an earlier one, or answers the first fault that they show, and then changes no table. Each table
 /// is judged in this order: BadQuant (its precision above 1 or its slot above 3), BadLength (the
-/// segment ends inside it), BadQuant (a quantiser 0) (T.81 B.2.4.1). It takes no memory.
+/// segment ends inside it), BadQuant (a quantiser 0) (T.81, B.2.4.1). It takes no memory.
 pub fn read_dqt(contents: &[u8], quants: &mut QuantSet) -> Result<(), Fault>
     ensures accepted { IfOk result (λ _. quants_told quants.old contents.now ≡ Ok quants.new) }
     ensures refused { IfErr result (λ fault. quants_told quants.old contents.now ≡ Err fault) }
@@ -73,7 +73,7 @@ pub fn read_dqt(contents: &[u8], quants: &mut QuantSet) -> Result<(), Fault>
     }
 }
 
-/// The slots after all tables of these contents.
+// The slots after all tables of these contents.
 fn all_tables(contents: &[u8], quants: &QuantSet) -> Result<QuantSet, Fault>
     ensures { result ≡ quants_told quants.now contents.now }
 {
@@ -89,7 +89,7 @@ fn all_tables(contents: &[u8], quants: &QuantSet) -> Result<QuantSet, Fault>
     Ok(set)
 }
 
-/// The slots after the table that begins with these bytes.
+// The slots after the table that begins with these bytes.
 fn with_table(quants: &QuantSet, head: u8, bytes: &[u8]) -> Result<QuantSet, Fault>
     ensures value { result ≡ quant_told quants.now head bytes.now }
     ensures long { IfOk result (λ _. table_size head ≤ length bytes.now) }
@@ -104,14 +104,14 @@ fn with_table(quants: &QuantSet, head: u8, bytes: &[u8]) -> Result<QuantSet, Fau
     }
 }
 
-/// The bytes of a table behind the byte of its precision and slot.
+// The bytes of a table behind the byte of its precision and slot.
 fn size_of(head: u8) -> usize
     ensures { result ≡ table_size head }
 {
     if head / 16 == 1 { 128 } else { 64 }
 }
 
-/// The bytes behind a table.
+// The bytes behind a table.
 fn behind(head: u8, bytes: &[u8]) -> &[u8]
     requires { table_size head ≤ length bytes.now }
     ensures { result.now ≡ drop (table_size head) bytes.now }
@@ -119,7 +119,7 @@ fn behind(head: u8, bytes: &[u8]) -> &[u8]
     &bytes[size_of(head)..]
 }
 
-/// The slot and the table that begin with these bytes.
+// The slot and the table that begin with these bytes.
 #[tactic(auto, unfolding(jpg_spec::specs::QuantContents::quant_table_of))]
 fn table_of(head: u8, bytes: &[u8]) -> Result<(u8, QuantTable), Fault>
     ensures value { result ≡ quant_table_of head bytes.now }
@@ -139,7 +139,7 @@ fn table_of(head: u8, bytes: &[u8]) -> Result<(u8, QuantTable), Fault>
     Ok((head % 16, table))
 }
 
-/// The quantisers, of one byte or of two each.
+// The quantisers, of one byte or of two each.
 fn entries_of(head: u8, bytes: &[u8]) -> QuantTable
     requires { table_size head ≤ length bytes.now }
     ensures { result ≡ table_entries head bytes.now }
@@ -151,7 +151,7 @@ fn entries_of(head: u8, bytes: &[u8]) -> QuantTable
     }
 }
 
-/// Quantisers of one byte each.
+// Quantisers of one byte each.
 fn from_bytes(bytes: &[u8]) -> QuantTable
     requires { length bytes.now ≡ 64 }
     ensures { result ≡ bytes.now }
@@ -163,7 +163,7 @@ fn from_bytes(bytes: &[u8]) -> QuantTable
     table
 }
 
-/// Quantisers of two bytes each.
+// Quantisers of two bytes each.
 fn from_pairs(bytes: &[u8]) -> QuantTable
     requires { length bytes.now ≡ 128 }
     ensures { result ≡ pairs_told bytes.now }
@@ -175,7 +175,7 @@ fn from_pairs(bytes: &[u8]) -> QuantTable
     table
 }
 
-/// Whether a quantiser is 0.
+// Whether a quantiser is 0.
 fn has_zero(table: &QuantTable) -> bool
     ensures { result ≡ any_of is_zero_quant table.now }
 {

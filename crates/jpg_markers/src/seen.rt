@@ -1,4 +1,4 @@
-// What segments leave behind for those after them (T.81 B.1.1, Table B.1).
+// What segments leave behind for those after them (T.81, B.1.1, Table B.1).
 ghost use Rattle.std.specs.Prelude.{◌≡◌, ◌||◌, ◌==◌, [], Some, None, IfSome, IfNone};
 ghost use Rattle.jpg_spec.specs.Jfif.{begins_jfif, begins_adobe};
 ghost use Rattle.jpg_spec.specs.Markers.{code_fault_if, is_frame_code, is_kept_if, is_plain_adobe, is_plain_jfif, is_unexpected, is_unsupported, counted_size};
@@ -72,7 +72,7 @@ fn either(a: bool, b: bool) -> bool
     a || b
 }
 
-/// Why a code may not stand here, where a frame header was seen or none (T.81 Table B.1).
+/// Why a code may not stand here, where a frame header was seen or none (T.81, Table B.1).
 pub fn code_fault(framed: bool, code: u8) -> Option<Fault>
     ensures { result ≡ code_fault_if framed code }
 {

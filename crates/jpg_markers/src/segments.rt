@@ -1,4 +1,4 @@
-// The segments of a file, read byte by byte (T.81 B.1.1).
+// The segments of a file, read byte by byte (T.81, B.1.1).
 ghost use Rattle.std.specs.Prelude.{◌≡◌, ◌≤◌, ◌<◌, ◌+◌, ℕ, List, [], ◌∷◌, None, Some, Err, IfOk, IfErr};
 ghost use Rattle.jpg_spec.specs.FrameHeader.{AreLimits};
 ghost use Rattle.jpg_spec.specs.Markers.{Segment};
@@ -48,7 +48,7 @@ enum Halt {
 // The most bytes of contents.
 const LONGEST: usize = 65533;
 
-/// Reads a file's segments byte by byte (T.81 B.1.1). It judges markers, lengths, and the size of the
+/// Reads a file's segments byte by byte (T.81, B.1.1). It judges markers, lengths, and the size of the
 /// markers that are kept; what contents tell is for others to judge. Scan data aren't given to it.
 #[derive(Drop)]
 pub struct SegmentReader {

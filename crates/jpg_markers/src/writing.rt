@@ -1,9 +1,8 @@
-// What is written of a file before its scans (T.81 B.2.1).
+// What is written of a file before its scans (T.81, B.2.1).
 ghost use Rattle.std.specs.Prelude.{◌≡◌, [], length, true};
 ghost use Rattle.arrayvec.specs.ArrayVec.{array_vec_len};
+ghost use Rattle.jpg_huff.specs.BitOut.{CanSend, Sends};
 ghost use Rattle.jpg_spec.specs.FileText.{front_text};
-ghost use Rattle.jpg_huff.specs.Out.{OnlyWrites};
-ghost use Rattle.jpg_huff.specs.BitOut.{Sends};
 ghost use Rattle.jpg_markers.specs.OutHead.{head_meaning};
 
 mod frame;
@@ -27,7 +26,7 @@ pub use segment::write_segment;
 /// but for those in whose place the own header stands; a DQT segment for each distinct quantisation
 /// table; and the frame header of the frame's process. Equal tables share a slot, and slots count
 /// from 0 by first use. The JFIF header has version 1.01, or that of the input where its major
-/// number is 1, and the density of the input, or 1 by 1 without a unit (T.81 B.2.1 to B.2.4,
+/// number is 1, and the density of the input, or 1 by 1 without a unit (T.81, B.2.1 to B.2.4,
 /// JFIF 1.02). An output has to be created, no bits wait, and there is one table per component of
 /// the frame. It takes no memory. After WriteFault a first part of the bytes is written, and
 /// nothing waits.
@@ -37,11 +36,9 @@ pub fn file_head<D: Desk>(
     out: &mut BitOut,
     desk: &mut D,
 ) -> Result<(), WriteFault>
-    requires created { (D.state desk.old).output_created ≡ true }
-    requires none { out.old.bits ≡ [] }
+    requires can { CanSend (D.state desk.old) out.old }
     requires tables { array_vec_len head.now.quants ≡ length head.now.frame.components }
-    ensures kept { OnlyWrites (D.state desk.old) (D.state desk.new) }
-    ensures sends { Sends (D.state desk.old) out.old (front_text (head_meaning head.now kept.now)) result out.new (D.state desk.new) }
+    ensures { Sends (D.state desk.old) out.old (front_text (head_meaning head.now kept.now)) result out.new (D.state desk.new) }
 {
     let tables = distinct_tables(head.quants.as_slice());
     out.raw(&[0xff, 0xd8], desk)?;

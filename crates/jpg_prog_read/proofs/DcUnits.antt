@@ -1,23 +1,19 @@
 -- The units of a DC scan.
-use Rattle.std.proofs.Common.{◌≡◌, ℕ, zero, suc, ◌*◌, ◌^◌, ◌<◌, ◌≤◌, Bool, true, false, cond, List, [], ◌∷◌, ◌++◌, refl, sym, ap, ◌∙◌, subst, arith, ℤ, pos, negsuc, neg_ℤ, ◌+ℤ◌, ◌*ℤ◌, ◌≤ℤ◌, inl, inr, ◌&&◌, ◌==◌}
+use Rattle.std.proofs.Common.{◌≡◌, ℕ, suc, ◌*◌, ◌^◌, ◌<◌, ◌≤◌, Bool, true, false, cond, List, [], ◌∷◌, ◌++◌, refl, sym, ap, ◌∙◌, subst, arith, ℤ, pos, negsuc, ◌+ℤ◌, ◌*ℤ◌, ◌≤ℤ◌, inl, inr, ◌&&◌, ◌==◌}
 use Rattle.std.specs.Prelude.{nat_abs, int_le, nat_le}
 use Rattle.std.specs.List.{Contains}
-use lib.Dec.{T}
-use lib.Signed.{le_z_yes}
 use Rattle.std.proofs.lemmas.Int.{ints}
 use Rattle.std.proofs.lemmas.Nat.{mul-le}
 use Rattle.std.proofs.lemmas.Bool.Decides.{nat_tests}
 use Rattle.std.proofs.Math.IntN.{pos-*ℤ-pos, negsuc-*ℤ-pos}
 use Rattle.std.proofs.lemmas.List.{append-nil}
 use Rattle.jpg_spec.specs.Codes.{Code}
-use Rattle.jpg_spec.specs.Numbers.{digits, category, extra_bits}
-use Rattle.jpg_spec.specs.Bits.{bits_of}
+use Rattle.jpg_spec.specs.Numbers.{category, extra_bits}
 use Rattle.jpg_spec.specs.Elements.{Element, difference, dc_bit, Coding, UnitLeft, Standing, Tells, SpellsElement, codes_due, predictions_after, predicted, at_start, scaled, are_in_bounds}
 use Rattle.jpg_spec.specs.ScanFaults.{BitsShow, DataShows}
 use Rattle.jpg_spec.specs.declared.fault.Fault.{Fault}
 use Rattle.jpg_spec.specs.declared.fault.Fault.TheVariants as fault
 use Rattle.jpg_spec.proofs.Bands.{covers_then}
-use Rattle.jpg_spec.proofs.Writing.{and_intro}
 use Rattle.jpg_huff.specs.Walk.{BeginsNoCode}
 use Rattle.jpg_spec.specs.Parts.{BeginsCode, IsFront, InDifference}
 use Rattle.jpg_prog_read.specs.declared.scan.DcScan.{DcScan}
@@ -27,17 +23,14 @@ use Rattle.jpg_prog_read.specs.Stands.{UnitPlace}
 use Rattle.jpg_prog_read.specs.DcWork.{DcWork, InDcRange, IsDcValue, fresh}
 use Rattle.jpg_prog_read.specs.DcStands.{BeginsDc, IsDcCodingOf, IsDcRefinementOf, dc_unit, IsDcPart, DcBetween, DcStands, DcAnswered}
 use Rattle.jpg_huff.proofs.Fronts.{due_apart, walk_shows}
-use Rattle.jpg_spec.proofs.Once.{clash}
-use Rattle.jpg_prog_read.proofs.Steps.{split_more}
+use Rattle.jpg_spec.proofs.Common.{and_intro, clash, part_more, in_order, from_test, both_false}
+use Rattle.jpg_spec.proofs.Small.{zero_bits, zero_category}
+use Rattle.jpg_prog_read.proofs.Multiples.{neg_abs, one_scaled}
 
 -- NUMBERS
 
 grows : (n s : ℕ) → 1 ≤ s → n ≤ n * s
 grows n s h = let m = mul-le n 1 n s (omega arith) h in omega (arith, m)
-
-neg_abs : (n : ℕ) → nat_abs (neg_ℤ (pos n)) ≡ n
-neg_abs zero = refl
-neg_abs (suc n) = omega arith
 
 pub wide : (w : ℤ) (s : ℕ) → 1 ≤ s → nat_abs w ≤ nat_abs (w *ℤ pos s)
 wide (pos n) s h = subst (λ (x : ℤ). n ≤ nat_abs x) (sym (pos-*ℤ-pos n s)) (grows n s h)
@@ -47,21 +40,6 @@ pub in_word : (x low high : ℤ) → negsuc 32766 ≤ℤ low → high ≤ℤ pos
 in_word x low high a b c d = omega (arith, ints, a, b, c, d)
 
 -- BOUNDS
-
-is_true : (b : Bool) → T b → b ≡ true
-is_true true t = refl
-is_true false t = absurd t
-
-in_order : (a b : ℤ) → a ≤ℤ b → int_le a b ≡ true
-in_order a b h = is_true (int_le a b) h.le
-
-from_test : (a b : ℤ) → int_le a b ≡ true → a ≤ℤ b
-from_test a b e = le_z_yes (subst T (sym e) tt)
-
-both_false : (a b : Bool) → ((a ≡ true) × (b ≡ true) → ⊥) → ((a && b) && true) ≡ false
-both_false true true h = absurd (h (refl, refl))
-both_false true false h = refl
-both_false false b h = refl
 
 dc_within : (c : Coding) (low high v : ℤ) → c.bounds.dc_low ≡ low → c.bounds.dc_high ≡ high → low ≤ℤ v → v ≤ℤ high → are_in_bounds c true (v ∷ []) ≡ true
 dc_within c low high v a b l h =
@@ -144,9 +122,6 @@ bit_read at p o v bits next low high r a b l h e f =
     one_more at p o v bits (next ∷ []) (dc_bit next) f refl
     (o, [], refl, r, refl, ap (λ (x : ℤ). x ∷ []) e, refl) (dc_within at.coding low high v a b l h) p f.predicts
 
-one_scaled : (n : ℕ) → pos 1 *ℤ pos n ≡ pos n
-one_scaled n = pos-*ℤ-pos 1 n ∙ ap pos (omega arith)
-
 bit_scaled : (al step : ℕ) (next : Bool) → step ≡ 2 ^ al → cond next (pos step) (pos 0) ≡ scaled al (cond next (pos 1) (pos 0))
 bit_scaled al step true e = ap pos e ∙ sym (one_scaled (2 ^ al))
 bit_scaled al step false e = sym (pos-*ℤ-pos 0 (2 ^ al) ∙ ap pos (omega arith))
@@ -190,7 +165,7 @@ dc_more b dc at p o bits s mid next k z f same begins w =
       front = f.front;
       part = s.walked ++ next ∷ [];
       whole = f.whole;
-      split = split_more bits f.front f.part next f.split ∙ ap (λ x. f.front ++ (x ++ next ∷ [])) h.0;
+      split = part_more bits f.front f.part next f.split ∙ ap (λ x. f.front ++ (x ++ next ∷ [])) h.0;
       is_part = inl (
         z',
         w,
@@ -216,7 +191,7 @@ dc_shows b dc at p o bits s next shown k z f h =
       standing = f.whole.mid;
       unit = dc_unit at.component o;
       others = at.others;
-      cut = split_more bits f.front f.part next f.split ∙ ap (λ x. f.front ++ (x ++ next ∷ [])) j.0 ∙ sym (append-nil (f.front ++ (s.walked ++ next ∷ [])));
+      cut = part_more bits f.front f.part next f.split ∙ ap (λ x. f.front ++ (x ++ next ∷ [])) j.0 ∙ sym (append-nil (f.front ++ (s.walked ++ next ∷ [])));
       covers = f.whole.covers;
       left = f.whole.left;
       codes = λ t. (let q : true ≡ false = sym t.1 ∙ k.first in cc);
@@ -246,7 +221,7 @@ dc_begun b dc at p o bits s mid new next size k z f same w known some most begun
       front = f.front;
       part = s.walked ++ next ∷ [];
       whole = f.whole;
-      split = split_more bits f.front f.part next f.split ∙ ap (λ x. f.front ++ (x ++ next ∷ [])) j.0;
+      split = part_more bits f.front f.part next f.split ∙ ap (λ x. f.front ++ (x ++ next ∷ [])) j.0;
       is_part = inr (
         some,
         w,
@@ -273,7 +248,7 @@ dc_wanting at p o bits s new next z f e =
       front = f.front;
       part = f.part ++ next ∷ [];
       whole = f.whole;
-      split = split_more bits f.front f.part next f.split;
+      split = part_more bits f.front f.part next f.split;
       is_part = inr (
         z,
         j.0,
@@ -285,19 +260,11 @@ dc_wanting at p o bits s new next z f e =
           first = h.first;
           some = h.some;
           coded = h.coded;
-          split = split_more f.part h.code s.extra next h.split;
+          split = part_more f.part h.code s.extra next h.split;
           most = h.most;
         },
       );
     })
-
-zero_category : category (pos 0) ≡ 0
-unfolding digits
-zero_category = refl
-
-zero_bits : extra_bits (pos 0) ≡ []
-unfolding digits bits_of
-zero_bits = refl
 
 -- the part that a whole difference is
 zero_part : (c : Coding) (b : DcScan) (dc : List Code) (i : ℕ) (s : DcWork) (next : Bool) (size : ℕ) → IsDcCodingOf b dc c i → Contains dc (s.walked ++ next ∷ [], size) → size ≡ 0 → SpellsElement (c.dc i) (difference (pos 0)) (s.walked ++ next ∷ [])
@@ -307,7 +274,7 @@ zero_part c b dc i s next size k h z =
 
 number_part : (c : Coding) (i : ℕ) (s : DcWork) (code part : List Bool) (next : Bool) (d : ℤ) → Contains (c.dc i) (code, s.size) → part ≡ code ++ s.extra → category d ≡ s.size → extra_bits d ≡ s.extra ++ next ∷ [] → SpellsElement (c.dc i) (difference d) (part ++ next ∷ [])
 number_part c i s code part next d h e size extra =
-    (code, subst (λ (y : ℕ). Contains (c.dc i) (code, y)) (sym size) h, split_more part code s.extra next e ∙ ap (λ x. code ++ x) (sym extra))
+    (code, subst (λ (y : ℕ). Contains (c.dc i) (code, y)) (sym size) h, part_more part code s.extra next e ∙ ap (λ x. code ++ x) (sym extra))
 
 -- after a whole difference
 answered : (b : DcScan) (dc : List Code) (at : UnitPlace) (p : ℕ → ℤ) (o : ℤ) (bits front part : List Bool) (d prediction w v : ℤ) (s : DcWork) → IsDcCodingOf b dc at.coding at.component → p at.component ≡ prediction
@@ -320,26 +287,26 @@ pub zero_done : (b : DcScan) (dc : List Code) (at : UnitPlace) (p : ℕ → ℤ)
     → DcStands at p o bits s → Contains dc (s.walked ++ next ∷ [], size) → size ≡ 0 → IsDcValue b (prediction +ℤ pos 0) (Within w v) → DcAnswered at p o (bits ++ next ∷ []) (Done w v) new
 zero_done b dc at p o bits s new next size prediction w v k q z f known is h =
     let j = in_code at f.whole.mid o f.part s z f.is_part in
-    answered b dc at p o (bits ++ next ∷ []) f.front (s.walked ++ next ∷ []) (pos 0) prediction w v new k q f.whole (split_more bits f.front f.part next f.split ∙ ap (λ x. f.front ++ (x ++ next ∷ [])) j.0)
+    answered b dc at p o (bits ++ next ∷ []) f.front (s.walked ++ next ∷ []) (pos 0) prediction w v new k q f.whole (part_more bits f.front f.part next f.split ∙ ap (λ x. f.front ++ (x ++ next ∷ [])) j.0)
     (zero_part at.coding b dc at.component s next size k known is) (omega (arith, zero_category)) h
 
 pub zero_beyond : (b : DcScan) (dc : List Code) (at : UnitPlace) (p : ℕ → ℤ) (o : ℤ) (bits : List Bool) (s : DcWork) (next : Bool) (size : ℕ) (prediction : ℤ) → IsDcCodingOf b dc at.coding at.component → p at.component ≡ prediction → s.size ≡ 0
     → DcStands at p o bits s → Contains dc (s.walked ++ next ∷ [], size) → size ≡ 0 → IsDcValue b (prediction +ℤ pos 0) Beyond → DataShows at.coding at.units fault.CoefRange (bits ++ next ∷ [])
 zero_beyond b dc at p o bits s next size prediction k q z f known is h =
     let j = in_code at f.whole.mid o f.part s z f.is_part in
-    difference_beyond b dc at p o (bits ++ next ∷ []) f.front (s.walked ++ next ∷ []) (pos 0) prediction k q f.whole (split_more bits f.front f.part next f.split ∙ ap (λ x. f.front ++ (x ++ next ∷ [])) j.0)
+    difference_beyond b dc at p o (bits ++ next ∷ []) f.front (s.walked ++ next ∷ []) (pos 0) prediction k q f.whole (part_more bits f.front f.part next f.split ∙ ap (λ x. f.front ++ (x ++ next ∷ [])) j.0)
     (zero_part at.coding b dc at.component s next size k known is) (omega (arith, zero_category)) h
 
 pub number_done : (b : DcScan) (dc : List Code) (at : UnitPlace) (p : ℕ → ℤ) (o : ℤ) (bits : List Bool) (s new : DcWork) (next : Bool) (d prediction w v : ℤ) → IsDcCodingOf b dc at.coding at.component → p at.component ≡ prediction → 1 ≤ s.size
     → DcStands at p o bits s → category d ≡ s.size → extra_bits d ≡ s.extra ++ next ∷ [] → IsDcValue b (prediction +ℤ d) (Within w v) → DcAnswered at p o (bits ++ next ∷ []) (Done w v) new
 number_done b dc at p o bits s new next d prediction w v k q z f size extra h =
     let j = in_number at f.whole.mid o f.part s z f.is_part in
-    answered b dc at p o (bits ++ next ∷ []) f.front (f.part ++ next ∷ []) d prediction w v new k q f.whole (split_more bits f.front f.part next f.split)
+    answered b dc at p o (bits ++ next ∷ []) f.front (f.part ++ next ∷ []) d prediction w v new k q f.whole (part_more bits f.front f.part next f.split)
     (number_part at.coding at.component s j.1.code f.part next d j.1.coded j.1.split size extra) (omega (arith, size, j.1.most)) h
 
 pub number_beyond : (b : DcScan) (dc : List Code) (at : UnitPlace) (p : ℕ → ℤ) (o : ℤ) (bits : List Bool) (s : DcWork) (next : Bool) (d prediction : ℤ) → IsDcCodingOf b dc at.coding at.component → p at.component ≡ prediction → 1 ≤ s.size
     → DcStands at p o bits s → category d ≡ s.size → extra_bits d ≡ s.extra ++ next ∷ [] → IsDcValue b (prediction +ℤ d) Beyond → DataShows at.coding at.units fault.CoefRange (bits ++ next ∷ [])
 number_beyond b dc at p o bits s next d prediction k q z f size extra h =
     let j = in_number at f.whole.mid o f.part s z f.is_part in
-    difference_beyond b dc at p o (bits ++ next ∷ []) f.front (f.part ++ next ∷ []) d prediction k q f.whole (split_more bits f.front f.part next f.split)
+    difference_beyond b dc at p o (bits ++ next ∷ []) f.front (f.part ++ next ∷ []) d prediction k q f.whole (part_more bits f.front f.part next f.split)
     (number_part at.coding at.component s j.1.code f.part next d j.1.coded j.1.split size extra) (omega (arith, size, j.1.most)) h

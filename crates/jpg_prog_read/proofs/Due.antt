@@ -14,7 +14,7 @@ use Rattle.jpg_prog_read.specs.DcWork.{DcWork, IsDcOpen}
 use Rattle.jpg_prog_read.specs.Machine.{Machine}
 use Rattle.jpg_prog_read.specs.Stands.{UnitPlace, unit_left, IsPart, IsRest}
 use Rattle.jpg_prog_read.specs.DcStands.{IsDcPart, dc_unit}
-use Rattle.jpg_prog_read.specs.Interval.{unit_of, units_of, place_of, MayTake, StandsFor}
+use Rattle.jpg_prog_read.specs.Interval.{unit_of, units_of_blocks, place_of, MayTake, StandsForBits}
 use Rattle.jpg_prog_read.specs.Due.{BandIsDue, NextIsDue, DcIsDue, NextDcIsDue, IntervalIsDue, CountsLeft, told_so_far, left_so_far}
 use Rattle.jpg_prog_read.proofs.Units.{others_left}
 
@@ -122,17 +122,17 @@ dc_next_due c units told p next others bits f = record {
 pub interval_due : (now : List (List ℤ)) (m : Machine) → MayTake m.fresh now m → IntervalIsDue now m
 interval_due now m ready c i before bits f = by m.fresh ready f
   where
-    begun : (blocks : List (List ℤ)) → 1 ≤ length blocks → StandsInUnits c (units_of m.scan i blocks) [] (units_of m.scan i blocks) []
+    begun : (blocks : List (List ℤ)) → 1 ≤ length blocks → StandsInUnits c (units_of_blocks m.scan i blocks) [] (units_of_blocks m.scan i blocks) []
     begun [] some = absurd (omega (arith, some))
-    begun (block ∷ blocks) some = starts_due c (unit_of m.scan i block) (units_of m.scan i blocks)
+    begun (block ∷ blocks) some = starts_due c (unit_of m.scan i block) (units_of_blocks m.scan i blocks)
 
-    by : (fresh : Bool) → MayTake fresh now m → StandsFor fresh c i before bits now m → StandsInUnits c (units_of m.scan i before) (told_so_far fresh now m) (left_so_far fresh i now m) bits
+    by : (fresh : Bool) → MayTake fresh now m → StandsForBits fresh c i before bits now m → StandsInUnits c (units_of_blocks m.scan i before) (told_so_far fresh now m) (left_so_far fresh i now m) bits
     by true r s =
         let at = r.first in
         let sum = r.resting.left in
         let some = r.some in
-        subst (λ x. StandsInUnits c (units_of m.scan i x) [] (units_of m.scan i now) bits) (sym s.0)
-        (subst (λ x. StandsInUnits c (units_of m.scan i now) [] (units_of m.scan i now) x) (sym s.1) (begun now (omega (arith, at, sum, some))))
+        subst (λ x. StandsInUnits c (units_of_blocks m.scan i x) [] (units_of_blocks m.scan i now) bits) (sym s.0)
+        (subst (λ x. StandsInUnits c (units_of_blocks m.scan i now) [] (units_of_blocks m.scan i now) x) (sym s.1) (begun now (omega (arith, at, sum, some))))
     by false r s = band_due m.scan m.unit r.goes_on (place_of c i before now m) bits s.stands
 
 pub counts_left : (now : List (List ℤ)) (m : Machine) → MayTake m.fresh now m → CountsLeft now m

@@ -37,7 +37,7 @@ corrected_multiples al (o ∷ old) (b ∷ bits) h = by (is_zero o) (corrected_mu
     by true k l = (multiple_down al o h.0, k)
     by false k l = (grown_multiple al b o h.0, l)
 
-neg_abs : (n : ℕ) → nat_abs (neg_ℤ (pos n)) ≡ n
+pub neg_abs : (n : ℕ) → nat_abs (neg_ℤ (pos n)) ≡ n
 neg_abs zero = refl
 neg_abs (suc n) = omega arith
 
@@ -45,7 +45,7 @@ pub scaled_multiple : (al : ℕ) (v : ℤ) → IsMultiple al (scaled al v)
 scaled_multiple al (pos n) = (n, ap nat_abs (pos-*ℤ-pos n (2 ^ al)))
 scaled_multiple al (negsuc n) = (suc n, ap nat_abs (negsuc-*ℤ-pos n (2 ^ al)) ∙ neg_abs (suc n * 2 ^ al))
 
-one_scaled : (n : ℕ) → pos 1 *ℤ pos n ≡ pos n
+pub one_scaled : (n : ℕ) → pos 1 *ℤ pos n ≡ pos n
 one_scaled n = pos-*ℤ-pos 1 n ∙ ap pos (omega arith)
 
 zero_scaled : (n : ℕ) → pos 0 *ℤ pos n ≡ pos 0

@@ -3,8 +3,6 @@ use Rattle.std.proofs.Common.{◌≡◌, ℕ, zero, suc, ◌+◌, ◌-◌, ◌<�
 use Rattle.std.proofs.lemmas.List.Elements.{All-tail}
 use Rattle.std.specs.Prelude.{int_le, nat_abs, slice_index_or, ◌*◌}
 use Rattle.std.specs.List.{Contains}
-use lib.Dec.{T}
-use lib.Signed.{le_z_yes}
 use Rattle.std.proofs.lemmas.Int.{ints}
 use Rattle.std.proofs.lemmas.Grind.{flat_map-append}
 use Rattle.std.proofs.lemmas.List.{append_assoc, append-nil, length-append}
@@ -17,6 +15,7 @@ use Rattle.jpg_spec.specs.declared.fault.Fault.TheVariants as fault
 use Rattle.jpg_spec.proofs.Bands.{covers_then}
 use Rattle.jpg_spec.proofs.Parts.{ac_due, ends_are, ends_fit}
 use Rattle.jpg_spec.proofs.Writing.{corrected_push, corrected_zero, going_same}
+use Rattle.jpg_spec.proofs.Common.{bounds_join, part_more, in_order, from_test}
 use Rattle.jpg_prog_read.specs.declared.stage.Stage.{Stage}
 use Rattle.jpg_prog_read.specs.declared.stage.Stage.TheVariants as stage
 use Rattle.jpg_prog_read.specs.declared.scan.BandScan.{BandScan}
@@ -25,7 +24,7 @@ use Rattle.jpg_prog_read.specs.declared.band.BandStep.TheVariants.{More, Done, F
 use Rattle.jpg_prog_read.specs.InWork.{InWork, IsPassing, IsOpen, IsEnd, DoesWait, AreRefinable, IsRefinable}
 use Rattle.jpg_prog_read.specs.Step.{AfterValue, StaysOpen, HasSkipped}
 use Rattle.jpg_prog_read.specs.Stands.{UnitPlace, unit_left, Stands, IsRest, Answered}
-use Rattle.jpg_prog_read.proofs.Steps.{split_more, same_more, join_more, bounds_join, zeros_zero, nonzeros_zero, zeros_old, nonzeros_old, zeros_skip, length_push, part_at, stands}
+use Rattle.jpg_prog_read.proofs.Steps.{same_more, join_more, zeros_zero, nonzeros_zero, zeros_old, nonzeros_old, zeros_skip, length_push, part_at, stands}
 
 -- a unit of which this is left, with its first value moved to those that are passed
 left_more : (mid : List UnitLeft) (i : ℕ) (others : List UnitLeft) (passed rest more : List ℤ) (o : ℤ) → rest ≡ o ∷ more → mid ≡ band_unit i (passed ++ rest) ∷ others → mid ≡ band_unit i ((passed ++ o ∷ []) ++ more) ∷ others
@@ -140,7 +139,7 @@ value_old c mid i others here bits rest more run v o b r z h =
       left = left_more mid.left i others h.passed rest more o r h.left;
       no_dc = h.no_dc;
       coded = h.coded;
-      split = split_more bits h.code (extra_bits v ++ h.corrections) b h.split ∙ ap (λ x. h.code ++ x) (append_assoc (extra_bits v) h.corrections (b ∷ []));
+      split = part_more bits h.code (extra_bits v ++ h.corrections) b h.split ∙ ap (λ x. h.code ++ x) (append_assoc (extra_bits v) h.corrections (b ∷ []));
       some = h.some;
       most = h.most;
       short = h.short;
@@ -160,7 +159,7 @@ long_old c mid i others here bits rest more run o b r z h =
       left = left_more mid.left i others h.passed rest more o r h.left;
       no_dc = h.no_dc;
       coded = h.coded;
-      split = split_more bits h.code h.corrections b h.split;
+      split = part_more bits h.code h.corrections b h.split;
       sum = omega (arith, zeros_old h.passed o z, h.sum);
       each = nonzeros_old h.passed o z ∙ ap (λ n. n + 1) h.each ∙ sym (length_push h.corrections b);
       told = ap (λ l. l ++ grown c.al b o ∷ []) h.told ∙ sym (corrected_push c.al h.passed h.corrections o b z h.each);
@@ -184,7 +183,7 @@ ends_old c mid i others here bits rest more bands o b r z h =
       left = left_behind mid.left h.whole i others h.first rest more o r h.left;
       no_dc = h.no_dc;
       coded = h.coded;
-      split = split_more bits h.code (n ++ h.corrections) b h.split ∙ ap (λ x. h.code ++ x) (append_assoc n h.corrections (b ∷ []));
+      split = part_more bits h.code (n ++ h.corrections) b h.split ∙ ap (λ x. h.code ++ x) (append_assoc n h.corrections (b ∷ []));
       sum = h.sum;
       some = h.some;
       most = h.most;
@@ -200,17 +199,17 @@ old_corrected at bits s stage.Number o b e r z ok f g = absurd g
 old_corrected at bits s stage.Count o b e r z ok f g = absurd g
 old_corrected at bits s stage.Value o b e r z ok f g =
     let p = part_at at f.mid f.here f.part s stage.Value e f.is_part in
-    stands at (bits ++ b ∷ []) (with_value s (grown at.coding.al b o)) stage.Value e f.elements f.before f.front f.mid (f.here ++ grown at.coding.al b o ∷ []) (f.part ++ b ∷ []) f.covers (split_more bits f.front f.part b f.split)
+    stands at (bits ++ b ∷ []) (with_value s (grown at.coding.al b o)) stage.Value e f.elements f.before f.front f.mid (f.here ++ grown at.coding.al b o ∷ []) (f.part ++ b ∷ []) f.covers (part_more bits f.front f.part b f.split)
     (same_more f.before f.here at.told s.done (grown at.coding.al b o) f.same) (bounds_join at.coding f.here (grown at.coding.al b o ∷ []) f.in_bounds ok)
     (p.0, value_old at.coding f.mid at.component at.others f.here f.part s.rest (drop 1 s.rest) s.run s.due o b r z p.1)
 old_corrected at bits s stage.Long o b e r z ok f g =
     let p = part_at at f.mid f.here f.part s stage.Long e f.is_part in
-    stands at (bits ++ b ∷ []) (with_value s (grown at.coding.al b o)) stage.Long e f.elements f.before f.front f.mid (f.here ++ grown at.coding.al b o ∷ []) (f.part ++ b ∷ []) f.covers (split_more bits f.front f.part b f.split)
+    stands at (bits ++ b ∷ []) (with_value s (grown at.coding.al b o)) stage.Long e f.elements f.before f.front f.mid (f.here ++ grown at.coding.al b o ∷ []) (f.part ++ b ∷ []) f.covers (part_more bits f.front f.part b f.split)
     (same_more f.before f.here at.told s.done (grown at.coding.al b o) f.same) (bounds_join at.coding f.here (grown at.coding.al b o ∷ []) f.in_bounds ok)
     (p.0, long_old at.coding f.mid at.component at.others f.here f.part s.rest (drop 1 s.rest) s.run o b r z p.1)
 old_corrected at bits s stage.Ends o b e r z ok f g =
     let p = part_at at f.mid f.here f.part s stage.Ends e f.is_part in
-    stands at (bits ++ b ∷ []) (with_value s (grown at.coding.al b o)) stage.Ends e f.elements f.before f.front f.mid (f.here ++ grown at.coding.al b o ∷ []) (f.part ++ b ∷ []) f.covers (split_more bits f.front f.part b f.split)
+    stands at (bits ++ b ∷ []) (with_value s (grown at.coding.al b o)) stage.Ends e f.elements f.before f.front f.mid (f.here ++ grown at.coding.al b o ∷ []) (f.part ++ b ∷ []) f.covers (part_more bits f.front f.part b f.split)
     (same_more f.before f.here at.told s.done (grown at.coding.al b o) f.same) (bounds_join at.coding f.here (grown at.coding.al b o ∷ []) f.in_bounds ok)
     (p.0, ends_old at.coding f.mid at.component at.others f.here f.part s.rest (drop 1 s.rest) s.bands o b r z p.1, omega (arith, p.2, ap zeros_in r, zeros_skip o (drop 1 s.rest) z))
 
@@ -453,16 +452,6 @@ ends_go_on at bits s e r some f =
     by (next ∷ more) h = (next, more, refl, next_begun at.coding f.mid at.component next more f.here f.part s.rest s.bands r some h)
 
 -- BOUNDS
-
-is_true : (b : Bool) → T b → b ≡ true
-is_true true t = refl
-is_true false t = absurd t
-
-in_order : (a b : ℤ) → a ≤ℤ b → int_le a b ≡ true
-in_order a b h = is_true (int_le a b) h.le
-
-from_test : (a b : ℤ) → int_le a b ≡ true → a ≤ℤ b
-from_test a b e = le_z_yes (subst T (sym e) tt)
 
 pub in_limit : (c : Coding) (limit : ℕ) (x : ℤ) → c.bounds.ac ≡ pos limit → nat_abs x ≤ limit → are_in_bounds c false (x ∷ []) ≡ true
 in_limit c limit x e h =

@@ -1,5 +1,5 @@
 -- From a unit of a band in work to the answer at the next bit.
-use Rattle.std.proofs.Common.{◌≡◌, ℕ, ◌+◌, ◌-◌, ◌*◌, ◌/◌, ◌%◌, ◌^◌, ◌<◌, ◌≤◌, Bool, true, false, cond, List, [], ◌∷◌, ◌++◌, length, refl, sym, ap, ◌∙◌, subst, arith, ℤ, pos, inl, inr, ◌&&◌}
+use Rattle.std.proofs.Common.{◌≡◌, ℕ, ◌+◌, ◌-◌, ◌*◌, ◌/◌, ◌%◌, ◌^◌, ◌<◌, ◌≤◌, Bool, true, false, cond, List, [], ◌∷◌, ◌++◌, length, refl, sym, ap, ◌∙◌, subst, arith, ℤ, pos, inl, inr}
 use Rattle.std.specs.Prelude.{nat_le}
 use Rattle.std.specs.List.{Contains}
 use Rattle.std.proofs.lemmas.Bool.Decides.{nat_tests}
@@ -13,6 +13,8 @@ use Rattle.jpg_spec.specs.ScanFaults.{BitsShow, DataShows}
 use Rattle.jpg_spec.specs.declared.fault.Fault.{Fault}
 use Rattle.jpg_spec.specs.declared.fault.Fault.TheVariants as fault
 use Rattle.jpg_spec.proofs.Writing.{zeros_push, nonzeros_push}
+use Rattle.jpg_spec.proofs.Common.{part_more, and_false}
+use Rattle.jpg_spec.proofs.Small.{one_digit}
 use Rattle.jpg_huff.specs.Walk.{BeginsNoCode}
 use Rattle.jpg_huff.proofs.Fronts.{due_apart, walk_shows}
 use Rattle.jpg_prog_read.specs.declared.stage.Stage.{Stage}
@@ -23,38 +25,11 @@ use Rattle.jpg_prog_read.specs.Stands.{IsCodingOf, UnitPlace, unit_left, IsPart,
 
 -- LISTS
 
-pub split_more : (bits front part : List Bool) (next : Bool) → bits ≡ front ++ part → bits ++ next ∷ [] ≡ front ++ (part ++ next ∷ [])
-split_more bits front part next e = ap (λ x. x ++ next ∷ []) e ∙ append_assoc front part (next ∷ [])
-
 pub same_more : (before here told done : List ℤ) (x : ℤ) → before ++ here ≡ told ++ done → before ++ (here ++ x ∷ []) ≡ told ++ (done ++ x ∷ [])
 same_more before here told done x e = sym (append_assoc before here (x ∷ [])) ∙ ap (λ l. l ++ x ∷ []) e ∙ append_assoc told done (x ∷ [])
 
 pub join_more : (passed : List ℤ) (o : ℤ) (rest : List ℤ) → passed ++ o ∷ rest ≡ (passed ++ o ∷ []) ++ rest
 join_more passed o rest = sym (append_assoc passed (o ∷ []) rest)
-
-pub bounds_join : (c : Coding) (xs ys : List ℤ) → are_in_bounds c false xs ≡ true → are_in_bounds c false ys ≡ true → are_in_bounds c false (xs ++ ys) ≡ true
-bounds_join c [] ys h k = k
-bounds_join c (v ∷ xs) ys h k =
-    let s = split_and (are_in_bounds c false (v ∷ [])) (are_in_bounds c false xs) (reorder c v xs h) in
-    rejoin c v (xs ++ ys) s.0 (bounds_join c xs ys s.1 k)
-  where
-    split_and : (a b : Bool) → (a && b) ≡ true → (a ≡ true) × (b ≡ true)
-    split_and true b e = (refl, e)
-    split_and false b e = cc
-
-    reorder : (c : Coding) (v : ℤ) (xs : List ℤ) → are_in_bounds c false (v ∷ xs) ≡ true → (are_in_bounds c false (v ∷ []) && are_in_bounds c false xs) ≡ true
-    reorder c v xs e = e2 _ (are_in_bounds c false xs) e
-      where
-        e2 : (a b : Bool) → (a && b) ≡ true → ((a && true) && b) ≡ true
-        e2 true b e = e
-        e2 false b e = e
-
-    rejoin : (c : Coding) (v : ℤ) (zs : List ℤ) → are_in_bounds c false (v ∷ []) ≡ true → are_in_bounds c false zs ≡ true → are_in_bounds c false (v ∷ zs) ≡ true
-    rejoin c v zs e f = e2 _ (are_in_bounds c false zs) e f
-      where
-        e2 : (a b : Bool) → (a && true) ≡ true → b ≡ true → (a && b) ≡ true
-        e2 true b e f = f
-        e2 false b e f = e
 
 -- a further zero, and a further correction
 pub zeros_zero : (passed : List ℤ) → zeros_in (passed ++ pos 0 ∷ []) ≡ zeros_in passed + 1
@@ -100,7 +75,7 @@ pub code_more : (at : UnitPlace) (bits : List Bool) (s : InWork) (next : Bool) �
 code_more at bits s next e f h =
     let p = code_at at f.mid f.here f.part s e f.is_part in
     stands at (bits ++ next ∷ []) (record s { walked = s.walked ++ next ∷ [] }) stage.Code e f.elements f.before f.front f.mid f.here (s.walked ++ next ∷ [])
-    f.covers (split_more bits f.front f.part next f.split ∙ ap (λ x. f.front ++ (x ++ next ∷ [])) p.2) f.same f.in_bounds
+    f.covers (part_more bits f.front f.part next f.split ∙ ap (λ x. f.front ++ (x ++ next ∷ [])) p.2) f.same f.in_bounds
     (refl, record { left = p.0; none = p.1; front = inr h; no_code = λ d k. (let z : false ≡ true = d in cc) })
 
 -- what the bits of a code show
@@ -117,7 +92,7 @@ code_shows at bits s next shown e f h =
       standing = f.mid;
       unit = band_unit at.component s.rest;
       others = at.others;
-      cut = split_more bits f.front f.part next f.split ∙ ap (λ x. f.front ++ (x ++ next ∷ [])) p.2 ∙ sym (append-nil (f.front ++ (s.walked ++ next ∷ [])));
+      cut = part_more bits f.front f.part next f.split ∙ ap (λ x. f.front ++ (x ++ next ∷ [])) p.2 ∙ sym (append-nil (f.front ++ (s.walked ++ next ∷ [])));
       covers = f.covers;
       left = p.0;
       codes = λ k. (let z : false ≡ true = k.0 in cc);
@@ -130,10 +105,6 @@ code_none b ac at bits s next k e f h =
     let p = code_at at f.mid f.here f.part s e f.is_part in
     let n : BeginsNoCode (at.coding.ac at.component) (s.walked ++ next ∷ []) = subst (λ t. BeginsNoCode t (s.walked ++ next ∷ [])) (sym k.ac_codes) h in
     code_shows at bits s next fault.NoCode e f (λ q. inl (refl, walk_shows (at.coding.ac at.component) s.walked next (due_apart at.coding (band_unit at.component s.rest) k.sound) p.3 n))
-
-and_false : (a b : Bool) → a ≡ false → (a && b) ≡ false
-and_false true b e = cc
-and_false false b e = refl
 
 pub code_bad : (b : BandScan) (ac : List Code) (at : UnitPlace) (bits : List Bool) (s : InWork) (next : Bool) (symbol : ℕ) → IsCodingOf b ac at.coding at.component → s.stage ≡ stage.Code → Stands at bits s
     → Contains ac (s.walked ++ next ∷ [], symbol) → b.most_category < symbol % 16 → DataShows at.coding at.units fault.BadSymbol (bits ++ next ∷ [])
@@ -158,7 +129,7 @@ number_begun b ac at bits s next run size k e f h some most short room =
     let p = code_at at f.mid f.here f.part s e f.is_part in
     let n : Contains (at.coding.ac at.component) (s.walked ++ next ∷ [], 16 * run + size) = subst (λ t. Contains t (s.walked ++ next ∷ [], 16 * run + size)) (sym k.ac_codes) h in
     stands at (bits ++ next ∷ []) (record s { walked = []; stage = stage.Number; run = run; size = size; extra = [] }) stage.Number refl f.elements f.before f.front f.mid f.here (s.walked ++ next ∷ [])
-    f.covers (split_more bits f.front f.part next f.split ∙ ap (λ x. f.front ++ (x ++ next ∷ [])) p.2) f.same f.in_bounds
+    f.covers (part_more bits f.front f.part next f.split ∙ ap (λ x. f.front ++ (x ++ next ∷ [])) p.2) f.same f.in_bounds
     (refl, record { code = s.walked ++ next ∷ []; left = p.0; none = p.1; no_dc = refl; coded = n; split = sym (append-nil (s.walked ++ next ∷ [])); some = some; most = omega (arith, most, k.categories); short = short; room = room })
 
 pub count_begun : (b : BandScan) (ac : List Code) (at : UnitPlace) (bits : List Bool) (s : InWork) (next : Bool) (size run : ℕ) → IsCodingOf b ac at.coding at.component → s.stage ≡ stage.Code → Stands at bits s
@@ -168,7 +139,7 @@ count_begun b ac at bits s next size run k e f h most =
     let p = code_at at f.mid f.here f.part s e f.is_part in
     let n : Contains (at.coding.ac at.component) (s.walked ++ next ∷ [], 16 * size) = subst (λ t. Contains t (s.walked ++ next ∷ [], 16 * size)) (sym k.ac_codes) h in
     stands at (bits ++ next ∷ []) (record s { walked = []; stage = stage.Count; run = run; size = size; extra = [] }) stage.Count refl f.elements f.before f.front f.mid f.here (s.walked ++ next ∷ [])
-    f.covers (split_more bits f.front f.part next f.split ∙ ap (λ x. f.front ++ (x ++ next ∷ [])) p.2) f.same f.in_bounds
+    f.covers (part_more bits f.front f.part next f.split ∙ ap (λ x. f.front ++ (x ++ next ∷ [])) p.2) f.same f.in_bounds
     (refl, record { code = s.walked ++ next ∷ []; left = p.0; none = p.1; no_dc = refl; coded = n; split = sym (append-nil (s.walked ++ next ∷ [])); most = omega (arith, most, k.runs) })
 
 -- one more extra bit
@@ -178,8 +149,8 @@ number_more at bits s next e f =
     let p = part_at at f.mid f.here f.part s stage.Number e f.is_part in
     let q = p.1 in
     stands at (bits ++ next ∷ []) (record s { extra = s.extra ++ next ∷ [] }) stage.Number e f.elements f.before f.front f.mid f.here (f.part ++ next ∷ [])
-    f.covers (split_more bits f.front f.part next f.split) f.same f.in_bounds
-    (p.0, record { code = q.code; left = q.left; none = q.none; no_dc = q.no_dc; coded = q.coded; split = split_more f.part q.code s.extra next q.split; some = q.some; most = q.most; short = q.short; room = q.room })
+    f.covers (part_more bits f.front f.part next f.split) f.same f.in_bounds
+    (p.0, record { code = q.code; left = q.left; none = q.none; no_dc = q.no_dc; coded = q.coded; split = part_more f.part q.code s.extra next q.split; some = q.some; most = q.most; short = q.short; room = q.room })
 
 pub count_more : (at : UnitPlace) (bits : List Bool) (s : InWork) (next : Bool) → s.stage ≡ stage.Count → Stands at bits s
     → Stands at (bits ++ next ∷ []) (record s { extra = s.extra ++ next ∷ [] })
@@ -187,8 +158,8 @@ count_more at bits s next e f =
     let p = part_at at f.mid f.here f.part s stage.Count e f.is_part in
     let q = p.1 in
     stands at (bits ++ next ∷ []) (record s { extra = s.extra ++ next ∷ [] }) stage.Count e f.elements f.before f.front f.mid f.here (f.part ++ next ∷ [])
-    f.covers (split_more bits f.front f.part next f.split) f.same f.in_bounds
-    (p.0, record { code = q.code; left = q.left; none = q.none; no_dc = q.no_dc; coded = q.coded; split = split_more f.part q.code s.extra next q.split; most = q.most })
+    f.covers (part_more bits f.front f.part next f.split) f.same f.in_bounds
+    (p.0, record { code = q.code; left = q.left; none = q.none; no_dc = q.no_dc; coded = q.coded; split = part_more f.part q.code s.extra next q.split; most = q.most })
 
 -- the number of a value is whole
 pub value_begun : (at : UnitPlace) (bits : List Bool) (s : InWork) (v : ℤ) → s.stage ≡ stage.Number → Stands at bits s
@@ -224,7 +195,7 @@ long_begun b ac at bits s next k e f h =
     let p = code_at at f.mid f.here f.part s e f.is_part in
     let n : Contains (at.coding.ac at.component) (s.walked ++ next ∷ [], 0xf0) = subst (λ t. Contains t (s.walked ++ next ∷ [], 0xf0)) (sym k.ac_codes) h in
     stands at (bits ++ next ∷ []) (record s { walked = []; stage = stage.Long; run = 15 }) stage.Long refl f.elements f.before f.front f.mid f.here (s.walked ++ next ∷ [])
-    f.covers (split_more bits f.front f.part next f.split ∙ ap (λ x. f.front ++ (x ++ next ∷ [])) p.2) f.same f.in_bounds
+    f.covers (part_more bits f.front f.part next f.split ∙ ap (λ x. f.front ++ (x ++ next ∷ [])) p.2) f.same f.in_bounds
     (refl, record { passed = []; code = s.walked ++ next ∷ []; corrections = []; left = p.0; no_dc = refl; coded = n; split = sym (append-nil (s.walked ++ next ∷ [])); sum = refl; each = refl; told = p.1 })
 
 -- ends of bands are due
@@ -253,10 +224,6 @@ ends_part c mid i others here rest part code total left none coded split some mo
       told = none;
     }
 
-one_digit : digits 1 ≡ 1
-unfolding digits
-one_digit = refl
-
 no_bits : bits_of (digits 1 - 1) 1 ≡ []
 unfolding digits bits_of
 no_bits = refl
@@ -268,7 +235,7 @@ end_begun b ac at bits s next k e f h small =
     let n : Contains (at.coding.ac at.component) (s.walked ++ next ∷ [], 0) = subst (λ t. Contains t (s.walked ++ next ∷ [], 0)) (sym k.ac_codes) h in
     let z : 16 * (digits 1 - 1) ≡ 0 = omega (arith, one_digit) in
     stands at (bits ++ next ∷ []) (record s { walked = []; stage = stage.Ends; run = 255; bands = 1 }) stage.Ends refl f.elements f.before f.front f.mid f.here (s.walked ++ next ∷ [])
-    f.covers (split_more bits f.front f.part next f.split ∙ ap (λ x. f.front ++ (x ++ next ∷ [])) p.2) f.same f.in_bounds (
+    f.covers (part_more bits f.front f.part next f.split ∙ ap (λ x. f.front ++ (x ++ next ∷ [])) p.2) f.same f.in_bounds (
       refl,
       ends_part at.coding f.mid at.component at.others f.here s.rest (s.walked ++ next ∷ []) (s.walked ++ next ∷ []) 1 p.0 p.1 (subst (λ (y : ℕ). Contains (at.coding.ac at.component) (s.walked ++ next ∷ [], y)) (sym z) n)
           (sym (ap (λ x. (s.walked ++ next ∷ []) ++ x) no_bits ∙ append-nil (s.walked ++ next ∷ []))) (omega arith) (omega (arith, one_digit)) (omega arith),

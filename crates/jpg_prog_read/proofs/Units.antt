@@ -10,16 +10,16 @@ use Rattle.jpg_prog_read.specs.declared.stage.Stage.TheVariants as stage
 use Rattle.jpg_prog_read.specs.declared.scan.BandScan.{BandScan}
 use Rattle.jpg_prog_read.specs.declared.band.BandStep.{BandStep}
 use Rattle.jpg_prog_read.specs.declared.band.BandStep.TheVariants.{More, Done, Fault}
-use Rattle.jpg_prog_read.specs.InWork.{InWork, IsFresh, band_of}
+use Rattle.jpg_prog_read.specs.InWork.{InWork, IsFresh, band_values}
 use Rattle.jpg_prog_read.specs.Machine.{Machine}
 use Rattle.jpg_prog_read.specs.Step.{AreSane}
-use Rattle.jpg_prog_read.specs.Stands.{IsCodingOf, Between, IsRest, Answered}
-use Rattle.jpg_prog_read.specs.Interval.{place_of, unit_of, units_of, bands, BandChanged, BandsChanged, IsSet, Reads, Finishes, Rests, UnitRead, KeepsPlan}
+use Rattle.jpg_prog_read.specs.Stands.{IsCodingOf, BetweenUnits, IsRest, Answered}
+use Rattle.jpg_prog_read.specs.Interval.{place_of, unit_of, units_of_blocks, bands, BandChanged, BandsChanged, IsSet, ReadsBits, Finishes, Rests, UnitRead, KeepsPlan}
 use Rattle.jpg_prog_read.proofs.Leaf.{drop_after}
 
 -- ANSWERS
 
-pub unit_read : (c : Coding) (i : ℕ) (before : List (List ℤ)) (bits : List Bool) (next : Bool) (now : List (List ℤ)) (m : Machine) (n : InWork) (step : BandStep) → Reads c i before bits now m
+pub unit_read : (c : Coding) (i : ℕ) (before : List (List ℤ)) (bits : List Bool) (next : Bool) (now : List (List ℤ)) (m : Machine) (n : InWork) (step : BandStep) → ReadsBits c i before bits now m
     → Answered (place_of c i before now m) (bits ++ next ∷ []) step n → UnitRead c i before (bits ++ next ∷ []) now step (record m { unit = n })
 unit_read c i before bits next now m n More r a = record { changed = r.changed; same = r.same; stands = a }
 unit_read c i before bits next now m n Done r a = record { changed = r.changed; same = r.same; between = a }
@@ -32,13 +32,13 @@ unit_loaded c i before bits now m n Done r a = record { changed = r.changed; sam
 unit_loaded c i before bits now m n (Fault f) r a = a
 
 -- how many units are behind the one in work
-pub others_left : (b : BandScan) (i at left : ℕ) (now : List (List ℤ)) → at < length now → left + at ≡ length now → left ≡ 1 + length (units_of b i (drop (at + 1) now))
+pub others_left : (b : BandScan) (i at left : ℕ) (now : List (List ℤ)) → at < length now → left + at ≡ length now → left ≡ 1 + length (units_of_blocks b i (drop (at + 1) now))
 others_left b i at left now h e = omega (arith, length-map (drop (at + 1) now) (unit_of b i), length-drop (at + 1) now, h, e)
 
 -- the unit at a place, and those behind it
-pub units_next : (b : BandScan) (i at : ℕ) (now : List (List ℤ)) (block : List ℤ) → at < length now → block ≡ get_or now at [] → units_of b i (drop at now) ≡ band_unit i (band_of b block) ∷ units_of b i (drop (at + 1) now)
+pub units_next : (b : BandScan) (i at : ℕ) (now : List (List ℤ)) (block : List ℤ) → at < length now → block ≡ get_or now at [] → units_of_blocks b i (drop at now) ≡ band_unit i (band_values b block) ∷ units_of_blocks b i (drop (at + 1) now)
 units_next b i at now block h e =
-    ap (units_of b i) (drop_more now at [] h) ∙ ap (λ x. unit_of b i x ∷ units_of b i (drop (at + 1) now)) (sym e)
+    ap (units_of_blocks b i) (drop_more now at [] h) ∙ ap (λ x. unit_of b i x ∷ units_of_blocks b i (drop (at + 1) now)) (sym e)
 
 -- A UNIT GOES INTO ITS PLACE
 
@@ -58,7 +58,7 @@ head_same : (at : ℕ) (before now : List (List ℤ)) → at < length now → dr
 head_same at before now h e = head_is (get_or now at []) (get_or before at []) (drop (at + 1) now) (drop (at + 1) before) (sym (drop_more now at [] h) ∙ e ∙ drop_more before at [] (drop_some at before now h e))
 
 -- a block of which the band is new
-placed : (b : BandScan) (x front done behind r : List ℤ) → AreSane b → length x ≡ 64 → front ≡ take b.start x → behind ≡ drop b.end x → r ≡ front ++ (done ++ behind) → length r ≡ 64 → BandChanged b x r × (band_of b r ≡ done)
+placed : (b : BandScan) (x front done behind r : List ℤ) → AreSane b → length x ≡ 64 → front ≡ take b.start x → behind ≡ drop b.end x → r ≡ front ++ (done ++ behind) → length r ≡ 64 → BandChanged b x r × (band_values b r ≡ done)
 placed b x front done behind r sane l f h e k =
     let lf : length front ≡ b.start = ap length f ∙ length-take-le b.start x (omega (arith, sane.begun, sane.inside, l)) in
     let lb : length behind ≡ 64 - b.end = ap length h ∙ length-drop b.end x ∙ ap (λ n. n - b.end) l in
@@ -84,17 +84,17 @@ stored c i before bits now m r is e k f =
     let tb : take (m.at + 1) before ≡ take m.at before ++ x ∷ [] = take_more before m.at [] some ∙ ap (λ y. take m.at before ++ y ∷ []) (sym (head_same m.at before now is.inside f.same)) in
     let dn : drop (m.at + 1) (set now m.at r) ≡ drop (m.at + 1) now = drop_after now m.at r is.inside in
     let told : bands b (take (m.at + 1) (set now m.at r)) ≡ bands b (take m.at now) ++ m.unit.done =
-    ap (bands b) tn ∙ flat_map-append (band_of b) (take m.at now) (r ∷ []) ∙ ap (λ l. bands b (take m.at now) ++ l) (append-nil (band_of b r) ∙ p.1) in
+    ap (bands b) tn ∙ flat_map-append (band_values b) (take m.at now) (r ∷ []) ∙ ap (λ l. bands b (take m.at now) ++ l) (append-nil (band_values b r) ∙ p.1) in
     record {
       changed = subst (λ l. BandsChanged b l (take (m.at + 1) (set now m.at r))) (sym tb) (subst (λ l. BandsChanged b (take m.at before ++ x ∷ []) l) (sym tn) (changed_push b (take m.at before) (take m.at now) x r f.changed p.0));
       same = dn ∙ sym (drop-drop 1 m.at now) ∙ ap (drop 1) f.same ∙ drop-drop 1 m.at before;
-      between = subst (λ l. Between c (units_of b i before) l (units_of b i (drop (m.at + 1) (set now m.at r))) bits m.unit) (sym told)
-          (subst (λ l. Between c (units_of b i before) (bands b (take m.at now) ++ m.unit.done) (units_of b i l) bits m.unit) (sym dn) f.between);
+      between = subst (λ l. BetweenUnits c (units_of_blocks b i before) l (units_of_blocks b i (drop (m.at + 1) (set now m.at r))) bits m.unit) (sym told)
+          (subst (λ l. BetweenUnits c (units_of_blocks b i before) (bands b (take m.at now) ++ m.unit.done) (units_of_blocks b i l) bits m.unit) (sym dn) f.between);
     }
 
 -- THE END OF THE INTERVAL
 
-between_done : (c : Coding) (units : List UnitLeft) (told : List ℤ) (bits : List Bool) (s : InWork) (g : Stage) → s.stage ≡ g → Between c units told [] bits s → SpellsUnits c units told bits
+between_done : (c : Coding) (units : List UnitLeft) (told : List ℤ) (bits : List Bool) (s : InWork) (g : Stage) → s.stage ≡ g → BetweenUnits c units told [] bits s → SpellsUnits c units told bits
 between_done c units told bits s stage.Code e f =
     let p = subst (λ g. IsRest c f.mid [] f.here f.part s g) e f.is_rest in
     let t : told ≡ f.before = sym (ap (λ l. f.before ++ l) (sym p.1) ∙ f.same) ∙ append-nil f.before in
@@ -115,15 +115,15 @@ none_left at now h = empty (drop at now) (omega (arith, length-drop at now, h))
     empty (x ∷ xs) e = absurd (omega (arith, e))
 
 pub interval_done : (c : Coding) (i : ℕ) (before : List (List ℤ)) (bits : List Bool) (now : List (List ℤ)) (m : Machine) → m.left + m.at ≡ length now → m.left ≡ 0 → Rests c i before bits now m
-    → SpellsUnits c (units_of m.scan i before) (bands m.scan now) bits × BandsChanged m.scan before now
+    → SpellsUnits c (units_of_blocks m.scan i before) (bands m.scan now) bits × BandsChanged m.scan before now
 interval_done c i before bits now m sum none f =
     let d : drop m.at now ≡ [] = none_left m.at now (omega (arith, sum, none)) in
     let n : take m.at now ≡ now = take_all m.at now (omega (arith, sum, none)) in
     let lb : length before ≤ m.at = omega (arith, length-drop m.at before, ap length (sym f.same ∙ d)) in
     let b : take m.at before ≡ before = take_all m.at before lb in
-    let k : Between c (units_of m.scan i before) (bands m.scan now) [] bits m.unit =
-    subst (λ l. Between c (units_of m.scan i before) (bands m.scan l) [] bits m.unit) n (subst (λ l. Between c (units_of m.scan i before) (bands m.scan (take m.at now)) (units_of m.scan i l) bits m.unit) d f.between) in (
-      between_done c (units_of m.scan i before) (bands m.scan now) bits m.unit m.unit.stage refl k,
+    let k : BetweenUnits c (units_of_blocks m.scan i before) (bands m.scan now) [] bits m.unit =
+    subst (λ l. BetweenUnits c (units_of_blocks m.scan i before) (bands m.scan l) [] bits m.unit) n (subst (λ l. BetweenUnits c (units_of_blocks m.scan i before) (bands m.scan (take m.at now)) (units_of_blocks m.scan i l) bits m.unit) d f.between) in (
+      between_done c (units_of_blocks m.scan i before) (bands m.scan now) bits m.unit m.unit.stage refl k,
       subst (λ l. BandsChanged m.scan l now) b (subst (λ l. BandsChanged m.scan (take m.at before) l) n f.changed),
     )
 
@@ -135,7 +135,7 @@ plan_then m n o p q = (q.0 ∙ p.0, q.1 ∙ p.1)
 
 -- THE BEGINNING OF THE INTERVAL
 
-pub fresh_between : (c : Coding) (units : List UnitLeft) (s : InWork) → IsFresh s → Between c units [] units [] s
+pub fresh_between : (c : Coding) (units : List UnitLeft) (s : InWork) → IsFresh s → BetweenUnits c units [] units [] s
 fresh_between c units s f =
     record { elements = []; before = []; front = []; mid = at_start units; here = []; part = []; covers = (refl, refl, refl); split = refl; same = refl; in_bounds = refl; quiet = f.quiet; is_rest = subst (λ g. IsRest c (at_start units) units [] [] s g) (sym f.code) (refl, refl, refl) }
 
@@ -144,8 +144,8 @@ start_rests c i now m z f =
     record {
       changed = subst (λ n. BandsChanged m.scan (take n now) (take n now)) (sym z) tt;
       same = refl;
-      between = subst (λ n. Between c (units_of m.scan i now) (bands m.scan (take n now)) (units_of m.scan i (drop n now)) [] m.unit) (sym z) (fresh_between c (units_of m.scan i now) m.unit f);
+      between = subst (λ n. BetweenUnits c (units_of_blocks m.scan i now) (bands m.scan (take n now)) (units_of_blocks m.scan i (drop n now)) [] m.unit) (sym z) (fresh_between c (units_of_blocks m.scan i now) m.unit f);
     }
 
-pub more_read : (c : Coding) (i : ℕ) (before : List (List ℤ)) (bits : List Bool) (now : List (List ℤ)) (step : BandStep) (m : Machine) → step ≡ More → UnitRead c i before bits now step m → Reads c i before bits now m
+pub more_read : (c : Coding) (i : ℕ) (before : List (List ℤ)) (bits : List Bool) (now : List (List ℤ)) (step : BandStep) (m : Machine) → step ≡ More → UnitRead c i before bits now step m → ReadsBits c i before bits now m
 more_read c i before bits now step m e r = subst (λ s. UnitRead c i before bits now s m) e r

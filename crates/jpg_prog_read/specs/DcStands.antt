@@ -1,4 +1,4 @@
--- What bits of an interval of a DC scan stand for, and what the reader of its units answers (T.81 G.1.2.1).
+-- What bits of an interval of a DC scan stand for, and what the reader of its units answers (T.81, G.1.2.1).
 use Rattle.std.specs.Prelude.{◌≡◌, ◌⊎◌, ℕ, ◌^◌, ◌≤◌, true, false, Bool, List, [], ◌∷◌, ◌++◌, ℤ}
 use Rattle.jpg_spec.specs.Codes.{Code}
 use Rattle.jpg_spec.specs.Elements.{Element, Coding, UnitLeft, Standing, Covers, at_start, predicted}

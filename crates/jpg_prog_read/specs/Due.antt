@@ -1,4 +1,4 @@
--- UNITS THAT ARE DUE: a machine that waits for a bit stands for whole elements and a part of one more (T.81 G.1.2).
+-- UNITS THAT ARE DUE: a machine that waits for a bit stands for whole elements and a part of one more (T.81, G.1.2).
 use Rattle.std.specs.Prelude.{◌≡◌, ℕ, ◌+◌, Bool, true, false, List, [], ◌∷◌, ◌++◌, length, take, drop, ℤ}
 use Rattle.jpg_spec.specs.Elements.{Coding, UnitLeft}
 use Rattle.jpg_spec.specs.Parts.{band_unit, WantsCorrection, StandsInUnits}
@@ -6,9 +6,9 @@ use Rattle.jpg_prog_read.specs.declared.stage.Stage.TheVariants.{Ends}
 use Rattle.jpg_prog_read.specs.InWork.{InWork}
 use Rattle.jpg_prog_read.specs.DcWork.{DcWork}
 use Rattle.jpg_prog_read.specs.Machine.{Machine}
-use Rattle.jpg_prog_read.specs.Stands.{UnitPlace, unit_left, Stands, Between}
+use Rattle.jpg_prog_read.specs.Stands.{UnitPlace, unit_left, Stands, BetweenUnits}
 use Rattle.jpg_prog_read.specs.DcStands.{DcStands, DcBetween, dc_unit}
-use Rattle.jpg_prog_read.specs.Interval.{units_of, bands, StandsFor}
+use Rattle.jpg_prog_read.specs.Interval.{units_of_blocks, bands, StandsForBits}
 
 -- in a unit of a band: it told what is done of it, and the rest of it is left
 abbrev pub BandIsDue : InWork → Type 0
@@ -20,7 +20,7 @@ BandIsDue s =
 abbrev pub NextIsDue : InWork → Type 0
 NextIsDue s =
     (c : Coding) (units : List UnitLeft) (told : List ℤ) (next : UnitLeft) (others : List UnitLeft) (bits : List Bool)
-    → (s.stage ≡ Ends → WantsCorrection next) → Between c units told (next ∷ others) bits s → StandsInUnits c units told (next ∷ others) bits
+    → (s.stage ≡ Ends → WantsCorrection next) → BetweenUnits c units told (next ∷ others) bits s → StandsInUnits c units told (next ∷ others) bits
 
 -- in a unit of a DC scan, all of which is left
 abbrev pub DcIsDue : DcWork → Type 0
@@ -40,13 +40,13 @@ told_so_far true now m = []
 told_so_far false now m = bands m.scan (take m.at now) ++ m.unit.done
 
 abbrev pub left_so_far : Bool → ℕ → List (List ℤ) → Machine → List UnitLeft
-left_so_far true i now m = units_of m.scan i now
-left_so_far false i now m = band_unit i m.unit.rest ∷ units_of m.scan i (drop (m.at + 1) now)
+left_so_far true i now m = units_of_blocks m.scan i now
+left_so_far false i now m = band_unit i m.unit.rest ∷ units_of_blocks m.scan i (drop (m.at + 1) now)
 
 abbrev pub IntervalIsDue : List (List ℤ) → Machine → Type 0
 IntervalIsDue now m =
     (c : Coding) (i : ℕ) (before : List (List ℤ)) (bits : List Bool)
-    → StandsFor m.fresh c i before bits now m → StandsInUnits c (units_of m.scan i before) (told_so_far m.fresh now m) (left_so_far m.fresh i now m) bits
+    → StandsForBits m.fresh c i before bits now m → StandsInUnits c (units_of_blocks m.scan i before) (told_so_far m.fresh now m) (left_so_far m.fresh i now m) bits
 
 -- as many as the machine says
 abbrev pub CountsLeft : List (List ℤ) → Machine → Type 0

@@ -75,13 +75,13 @@ IsEnd Long s = ⊥
 IsEnd Ends s = 1 ≤ s.bands
 
 -- the unit is whole
-pub record IsBetween (s : InWork) : Type 0 where
+pub record IsWholeUnit (s : InWork) : Type 0 where
   pub whole : s.rest ≡ []
   pub ended : IsEnd s.stage s
 
 -- the band of a block
-abbrev pub band_of : BandScan → List ℤ → List ℤ
-band_of b block = take (b.end - b.start) (drop b.start block)
+abbrev pub band_values : BandScan → List ℤ → List ℤ
+band_values b block = take (b.end - b.start) (drop b.start block)
 
 -- before the first unit
 pub record IsFresh (s : InWork) : Type 0 where
@@ -90,5 +90,5 @@ pub record IsFresh (s : InWork) : Type 0 where
   pub quiet : s.walked ≡ []
 
 -- with the block of the next unit
-abbrev pub with_block : InWork → List ℤ → List ℤ → List ℤ → InWork
-with_block s front band behind = record s { front = front; done = []; rest = band; behind = behind; run = 255 }
+abbrev pub with_band : InWork → List ℤ → List ℤ → List ℤ → InWork
+with_band s front band behind = record s { front = front; done = []; rest = band; behind = behind; run = 255 }

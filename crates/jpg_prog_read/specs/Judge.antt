@@ -1,4 +1,4 @@
--- What a symbol of an AC table says in a progressive scan (T.81 G.1.2.2, G.1.2.3).
+-- What a symbol of an AC table says in a progressive scan (T.81, G.1.2.2, G.1.2.3).
 use Rattle.std.specs.Prelude.{◌≡◌, ℕ, ◌+◌, ◌*◌, ◌/◌, ◌%◌, ◌<◌, ◌≤◌}
 use Rattle.jpg_prog_read.specs.declared.symbols.Judged.{Judged}
 use Rattle.jpg_prog_read.specs.declared.symbols.Judged.TheVariants.{Value, Long, End, Count, BadSymbol, BadRun}

@@ -1,4 +1,4 @@
--- VALUES THAT ARE KNOWN DOWN TO A BIT (T.81 G.1.1.1.2).
+-- VALUES THAT ARE KNOWN DOWN TO A BIT (T.81, G.1.1.1.2).
 use Rattle.std.specs.Prelude.{◌≡◌, ℕ, ◌+◌, ◌-◌, ◌*◌, ◌^◌, ◌≤◌, Bool, List, [], ◌∷◌, ℤ, nat_abs}
 use Rattle.jpg_spec.specs.Elements.{Coding, UnitLeft, SpellsUnits, old_values}
 

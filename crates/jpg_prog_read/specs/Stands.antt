@@ -1,4 +1,4 @@
--- What bits of an interval stand for, and what the reader of its bands answers (T.81 G.1.2.2, G.1.2.3).
+-- What bits of an interval stand for, and what the reader of its bands answers (T.81, G.1.2.2, G.1.2.3).
 use Rattle.std.specs.Prelude.{◌≡◌, ℕ, ◌+◌, ◌^◌, ◌<◌, ◌≤◌, true, false, Bool, List, [], ◌∷◌, ◌++◌, length, ℤ, pos}
 use Rattle.jpg_spec.specs.Codes.{Code}
 use Rattle.jpg_spec.specs.Elements.{Element, Coding, UnitLeft, Standing, Covers, at_start, are_in_bounds, zeros_in}
@@ -69,7 +69,7 @@ IsRest c mid left here bits s stage.Long = ⊥
 IsRest c mid left here bits s stage.Ends = (next : UnitLeft) × (others : List UnitLeft) × (left ≡ next ∷ others) × InEnds c mid next others here bits s.bands
 
 -- The bits are whole elements, and perhaps ends of bands of which some were met. These values were told of whole units, and these units are left.
-pub record Between (c : Coding) (units : List UnitLeft) (told : List ℤ) (left : List UnitLeft) (bits : List Bool) (s : InWork) : Type 0 where
+pub record BetweenUnits (c : Coding) (units : List UnitLeft) (told : List ℤ) (left : List UnitLeft) (bits : List Bool) (s : InWork) : Type 0 where
   pub elements : List Element
   pub before : List ℤ
   pub front : List Bool
@@ -86,7 +86,7 @@ pub record Between (c : Coding) (units : List UnitLeft) (told : List ℤ) (left 
 -- the answer at these bits of an interval
 abbrev pub Answered : UnitPlace → List Bool → BandStep → InWork → Type 0
 Answered at bits More new = Stands at bits new
-Answered at bits Done new = Between at.coding at.units (at.told ++ new.done) at.others bits new
+Answered at bits Done new = BetweenUnits at.coding at.units (at.told ++ new.done) at.others bits new
 Answered at bits (Shown f) new = DataShows at.coding at.units (fault_of f) bits
 
 -- WHAT CALLS COME TO, whatever bits the unit in work stands for
@@ -105,4 +105,4 @@ AnswersBit b ac left old bit step new =
 abbrev pub AnswersBand : BandScan → List ℤ → InWork → BandStep → InWork → Type 0
 AnswersBand b band old step new =
     (ac : List Code) (at : UnitPlace) (bits : List Bool) → IsCodingOf b ac at.coding at.component
-    → Between at.coding at.units at.told (band_unit at.component band ∷ at.others) bits old → Answered at bits step new
+    → BetweenUnits at.coding at.units at.told (band_unit at.component band ∷ at.others) bits old → Answered at bits step new

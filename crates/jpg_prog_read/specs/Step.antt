@@ -11,7 +11,7 @@ use Rattle.jpg_prog_read.specs.declared.band.Skipped.{Skipped}
 use Rattle.jpg_prog_read.specs.declared.band.Skipped.TheVariants.{AtEnd, AtOld, AtZero}
 use Rattle.jpg_prog_read.specs.declared.band.BandStep.{BandStep}
 use Rattle.jpg_prog_read.specs.declared.band.BandStep.TheVariants.{More, Done, Fault}
-use Rattle.jpg_prog_read.specs.InWork.{InWork, IsOpen, IsBetween, AreRefinable}
+use Rattle.jpg_prog_read.specs.InWork.{InWork, IsOpen, IsWholeUnit, AreRefinable}
 use Rattle.jpg_prog_read.specs.Stands.{UnitPlace, Stands}
 
 -- numbers that the reader can hold
@@ -34,9 +34,9 @@ IsSkipped AtOld s = (1 ≤ length s.rest) × ((v : ℤ) × (s.rest ≡ v ∷ dro
 IsSkipped AtZero s = (s.rest ≡ pos 0 ∷ drop 1 s.rest) × (s.run ≡ 0)
 
 -- after the end of a band: whether all ends were met
-abbrev pub AfterEnd : InWork → Ended → InWork → Type 0
-AfterEnd old All new = (old.bands ≡ 1) × (new ≡ record old { bands = 0; stage = Code })
-AfterEnd old Some new = (2 ≤ old.bands) × (new ≡ record old { bands = old.bands - 1 })
+abbrev pub AfterBandEnd : InWork → Ended → InWork → Type 0
+AfterBandEnd old All new = (old.bands ≡ 1) × (new ≡ record old { bands = 0; stage = Code })
+AfterBandEnd old Some new = (2 ≤ old.bands) × (new ≡ record old { bands = old.bands - 1 })
 
 -- whether values are left
 abbrev pub AfterValue : BandStep → InWork → Type 0
@@ -47,12 +47,12 @@ AfterValue (Fault f) s = ⊥
 -- whether the unit goes on
 abbrev pub StaysOpen : BandScan → BandStep → InWork → Type 0
 StaysOpen b More s = IsOpen b s
-StaysOpen b Done s = IsBetween s
+StaysOpen b Done s = IsWholeUnit s
 StaysOpen b (Fault f) s = Unit {0}
 
 -- the values outside the band stay
-abbrev pub KeepsOutside : InWork → InWork → Type 0
-KeepsOutside old new = (new.front ≡ old.front) × (new.behind ≡ old.behind)
+abbrev pub KeepsOtherValues : InWork → InWork → Type 0
+KeepsOtherValues old new = (new.front ≡ old.front) × (new.behind ≡ old.behind)
 
 -- a value of the band lies in the bounds, and zero does
 abbrev pub IsWithin : Coding → ℤ → Type 0
@@ -70,5 +70,5 @@ pub record HasSkipped (old new : InWork) : Type 0 where
   pub fits : (b : BandScan) → AreRefinable b old.rest → AreRefinable b new.rest
 
 -- zeros were passed, and the unit stands for the same bits
-abbrev pub StandsOn : InWork → InWork → Type 0
-StandsOn old new = (at : UnitPlace) (bits : List Bool) → HasZero at.coding → Stands at bits old → Stands at bits new
+abbrev pub PassesZeros : InWork → InWork → Type 0
+PassesZeros old new = (at : UnitPlace) (bits : List Bool) → HasZero at.coding → Stands at bits old → Stands at bits new

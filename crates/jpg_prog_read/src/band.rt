@@ -6,8 +6,8 @@ ghost use Rattle.jpg_spec.specs.Numbers.{category, extra_bits, digits};
 ghost use Rattle.jpg_spec.specs.Elements.{zeros_in, is_zero};
 ghost use Rattle.jpg_huff.specs.Walk.{Answers};
 ghost use Rattle.jpg_huff.specs.Tables.{symbol_codes};
-ghost use Rattle.jpg_prog_read.specs.InWork.{IsOpen, IsMoving, IsPassing, IsBetween, IsFresh, AreRefinable, band_of, with_block};
-ghost use Rattle.jpg_prog_read.specs.Step.{AreSane, IsNext, IsSkipped, AfterEnd, AfterValue, StaysOpen, KeepsOutside, HasSkipped, StandsOn};
+ghost use Rattle.jpg_prog_read.specs.InWork.{IsOpen, IsMoving, IsPassing, IsWholeUnit, IsFresh, AreRefinable, band_values, with_band};
+ghost use Rattle.jpg_prog_read.specs.Step.{AreSane, IsNext, IsSkipped, AfterBandEnd, AfterValue, StaysOpen, KeepsOtherValues, HasSkipped, PassesZeros};
 ghost use Rattle.jpg_prog_read.specs.ExtraWork.{IsWanting};
 ghost use Rattle.jpg_prog_read.specs.declared.scan.BandScan.{BandScan};
 ghost use Rattle.jpg_prog_read.specs.Stands.{UnitPlace, Stands, Answered, AnswersStep, AnswersBit, AnswersBand};
@@ -226,7 +226,7 @@ impl BandReader {
     // one end of a band was met
     fn end_band(&mut self) -> Ended
         requires { 1 ≤ self.old.bands }
-        ensures { AfterEnd self.old result self.new }
+        ensures { AfterBandEnd self.old result self.new }
     {
         self.bands -= 1;
         if self.bands == 0 {
@@ -261,7 +261,7 @@ impl BandReader {
         requires passing { IsPassing self.old.stage self.old }
         ensures at { IsSkipped result self.new }
         ensures same { HasSkipped self.old self.new }
-        ensures stands { StandsOn self.old self.new }
+        ensures stands { PassesZeros self.old self.new }
     {
         loop {
             match self.next() {
@@ -288,7 +288,7 @@ impl BandReader {
         requires stage { (self.old.stage ≡ Stage.Value) × (self.old.run ≡ 0) }
         requires fits { AreRefinable scan.now self.old.rest }
         ensures open { StaysOpen scan.now result self.new }
-        ensures outside { KeepsOutside self.old self.new }
+        ensures outside { KeepsOtherValues self.old self.new }
         ensures answered { AnswersStep scan.now self.old result self.new }
     {
         match scaled_within(self.due(), scan.scale, scan.most_magnitude) {
@@ -306,7 +306,7 @@ impl BandReader {
         requires zero { self.old.rest ≡ pos 0 ∷ drop 1 self.old.rest }
         requires stage { (self.old.stage ≡ Stage.Long) × (self.old.run ≡ 0) }
         ensures open { (b : BandScan) → AreRefinable b self.old.rest → StaysOpen b result self.new }
-        ensures outside { KeepsOutside self.old self.new }
+        ensures outside { KeepsOtherValues self.old self.new }
         ensures answered { (b : BandScan) → AnswersStep b self.old result self.new }
     {
         self.put(0);
@@ -319,7 +319,7 @@ impl BandReader {
         requires end { self.old.rest ≡ [] }
         requires stage { (self.old.stage ≡ Stage.Ends) × (1 ≤ self.old.bands) }
         ensures open { (b : BandScan) → StaysOpen b result self.new }
-        ensures outside { KeepsOutside self.old self.new }
+        ensures outside { KeepsOtherValues self.old self.new }
         ensures answered { (at : UnitPlace) (bits : List Bool) → Stands at bits self.old → Answered at bits result self.new }
     {
         match self.end_band() {
@@ -333,7 +333,7 @@ impl BandReader {
         requires sane { AreSane scan.now }
         requires moving { IsMoving scan.now self.old }
         ensures open { StaysOpen scan.now result self.new }
-        ensures outside { KeepsOutside self.old self.new }
+        ensures outside { KeepsOtherValues self.old self.new }
         ensures answered { AnswersStep scan.now self.old result self.new }
     {
         match self.skip() {
@@ -376,7 +376,7 @@ impl BandReader {
         requires open { IsOpen scan.now self.old }
         requires stage { self.old.stage ≡ Stage.Code }
         ensures open { StaysOpen scan.now result self.new }
-        ensures outside { KeepsOutside self.old self.new }
+        ensures outside { KeepsOtherValues self.old self.new }
         ensures answered { (left : ℕ) → AnswersBit scan.now (symbol_codes table.now) left self.old bit result self.new }
     {
         match self.walk_bit(table, bit) {
@@ -415,7 +415,7 @@ impl BandReader {
         requires stage { self.old.stage ≡ Stage.Number }
         requires wants { length self.old.extra < self.old.size }
         ensures open { StaysOpen scan.now result self.new }
-        ensures outside { KeepsOutside self.old self.new }
+        ensures outside { KeepsOtherValues self.old self.new }
         ensures answered { (ac : List Code) (left : ℕ) → AnswersBit scan.now ac left self.old bit result self.new }
     {
         match self.extra_bit(bit) {
@@ -436,7 +436,7 @@ impl BandReader {
         requires wants { length self.old.extra < self.old.size }
         requires size { self.old.size ≤ 14 }
         ensures open { StaysOpen scan.now result self.new }
-        ensures outside { KeepsOutside self.old self.new }
+        ensures outside { KeepsOtherValues self.old self.new }
         ensures answered { (ac : List Code) → AnswersBit scan.now ac left self.old bit result self.new }
     {
         match self.extra_bit(bit) {
@@ -460,7 +460,7 @@ impl BandReader {
         requires passing { IsPassing self.old.stage self.old }
         requires old { is_zero (slice_index_or self.old.rest 0 (pos 0)) ≡ false }
         ensures open { StaysOpen scan.now result self.new }
-        ensures outside { KeepsOutside self.old self.new }
+        ensures outside { KeepsOtherValues self.old self.new }
         ensures answered { (ac : List Code) (left : ℕ) → AnswersBit scan.now ac left self.old bit result self.new }
     {
         let old = self.first();
@@ -473,7 +473,7 @@ impl BandReader {
         requires sane { AreSane scan.now }
         requires open { IsOpen scan.now self.old }
         ensures open { StaysOpen scan.now result self.new }
-        ensures outside { KeepsOutside self.old self.new }
+        ensures outside { KeepsOtherValues self.old self.new }
         ensures answered { AnswersBit scan.now (symbol_codes table.now) left self.old bit result self.new }
     {
         match self.stage() {
@@ -489,8 +489,8 @@ impl BandReader {
     // the block of the next unit
     fn load(&mut self, scan: &BandScan, block: &Block)
         requires sane { AreSane scan.now }
-        ensures new { self.new ≡ with_block self.old (take scan.now.start block.now) (band_of scan.now block.now) (drop scan.now.end block.now) }
-        ensures small { zeros_in (band_of scan.now block.now) < 255 }
+        ensures new { self.new ≡ with_band self.old (take scan.now.start block.now) (band_values scan.now block.now) (drop scan.now.end block.now) }
+        ensures small { zeros_in (band_values scan.now block.now) < 255 }
         ensures long { length block.now ≡ 64 }
     {
         block.long();
@@ -505,13 +505,13 @@ impl BandReader {
     pub fn start(&mut self, scan: &BandScan, block: &Block) -> BandStep
         requires sane { AreSane scan.now }
         requires some { scan.now.start < scan.now.end }
-        requires between { IsBetween self.old }
-        requires fits { AreRefinable scan.now (band_of scan.now block.now) }
+        requires between { IsWholeUnit self.old }
+        requires fits { AreRefinable scan.now (band_values scan.now block.now) }
         ensures long { length block.now ≡ 64 }
         ensures first { self.old.stage ≡ Stage.Code → result ≡ BandStep.More }
         ensures open { StaysOpen scan.now result self.new }
         ensures outside { (self.new.front ≡ take scan.now.start block.now) × (self.new.behind ≡ drop scan.now.end block.now) }
-        ensures answered { AnswersBand scan.now (band_of scan.now block.now) self.old result self.new }
+        ensures answered { AnswersBand scan.now (band_values scan.now block.now) self.old result self.new }
     {
         self.load(scan, block);
         match self.stage() {

@@ -1,7 +1,7 @@
 //! The units of an interval of a band, one after another.
 ghost use Rattle.std.specs.Prelude.{◌≡◌, ◌<◌, ◌≤◌, ◌+◌, ◌-◌, true, false, [], ◌∷◌, ◌++◌, length, ℕ, ℤ, Bool, List, Result};
 ghost use Rattle.jpg_huff.specs.Tables.{symbol_codes};
-ghost use Rattle.jpg_prog_read.specs.Interval.{IsReady, IsWhole, IsResting, StaysSet, KeepsPlan, StaysReady, MayTake, IsAtStart, MayBegin};
+ghost use Rattle.jpg_prog_read.specs.Interval.{IsReady, HasWholeUnit, IsResting, StaysSet, KeepsPlan, StaysReady, MayTake, IsAtStart, MayBegin};
 ghost use Rattle.jpg_prog_read.specs.Interval.{ReadsBit, StoresBlock, TakesBlock, GoesOn, StepsOn, BeginsReading, Settles, AnswersIntervalBit};
 ghost use Rattle.jpg_prog_read.specs.InWork.{IsFresh};
 ghost use Rattle.jpg_prog_read.specs.declared.stage.Stage.TheVariants as stages;
@@ -47,7 +47,7 @@ impl BandMachine {
 
     // the unit in work goes into its place
     fn store(&mut self, blocks: &mut UnitList)
-        requires { IsWhole blocks.old self.old }
+        requires { HasWholeUnit blocks.old self.old }
         ensures fresh { self.new.fresh ≡ self.old.fresh }
         ensures plan { KeepsPlan self.old self.new }
         ensures count { self.new.left + 1 ≡ self.old.left }
@@ -83,7 +83,7 @@ impl BandMachine {
 
     // whole units go into their places
     fn go_on(&mut self, blocks: &mut UnitList) -> Result<UnitStep, UnitFault>
-        requires whole { IsWhole blocks.old self.old }
+        requires whole { HasWholeUnit blocks.old self.old }
         requires begun { self.old.fresh ≡ false }
         ensures plan { KeepsPlan self.old self.new }
         ensures ready { StaysReady blocks.new result self.new }

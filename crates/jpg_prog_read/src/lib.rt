@@ -1,4 +1,4 @@
-//! Progressive scans, read (T.81 G.1.2, G.2).
+//! Progressive scans, read (T.81, G.1.2, G.2).
 #![tactic(auto)]
 
 mod band;

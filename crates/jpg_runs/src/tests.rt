@@ -1,4 +1,4 @@
-// Runs of the command over a desk in memory. The files are spelled here by themselves (T.81 B.2,
+// Runs of the command over a desk in memory. The files are spelled here by themselves (T.81, B.2,
 // Annex K, JFIF 1.02).
 use jpg_base::{Bytes, Counts, Desk, MemoryDesk, Name, NoMemory};
 use jpg_cli::{Ended, run};
@@ -169,7 +169,7 @@ fn other_words_open_nothing(rt: HostRuntime) -> Result<(), Fail> {
     Ok(())
 }
 
-// The calls are an open, a read, a read at the end, a create and a write, and none says anything.
+// The calls are an open, two reads, a create and a write, and none says anything.
 #[test]
 fn failing_calls_end_the_run(rt: HostRuntime) -> Result<(), Fail> {
     let flip = strings(rt.alloc(), &FLIP)?;
@@ -206,7 +206,7 @@ fn failing_calls_end_the_run(rt: HostRuntime) -> Result<(), Fail> {
         (6, 0, Why::Done, 1, ""),
     ];
     for (call, code, why, outputs, message) in rows {
-        let mut desk = desk_with(rt.alloc(), &SMALLEST, 400)?;
+        let mut desk = desk_with(rt.alloc(), &SMALLEST, 200)?;
         desk.fail(call)?;
         let ended = run(rt.alloc(), flip.as_slice(), &mut desk);
         assert_eq!(rt; ended, Ended { code, why }, "at call {call}");

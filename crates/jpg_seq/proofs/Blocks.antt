@@ -2,25 +2,25 @@
 use Rattle.std.proofs.Common.{◌≡◌, ℕ, zero, suc, ◌+◌, ◌/◌, ◌%◌, ◌<◌, ◌≤◌, Bool, true, false, List, [], ◌∷◌, ◌++◌, length, drop, Some, refl, sym, ap, ◌∙◌, subst, arith, add-one, ℤ, pos, cond, ◌&&◌, lit≤}
 use Rattle.std.specs.Prelude.{map, flat_map, replicate, slice_get, slice_index_or, All, int_le, nat_abs, ◌-ℤ◌}
 use Rattle.std.proofs.Math.Seq.{drop-cons}
-use Rattle.std.proofs.lemmas.List.{append_assoc, drop_all}
+use Rattle.std.proofs.lemmas.List.{append_assoc, drop_all, get_or-replicate}
 use Rattle.std.proofs.lemmas.List.Elements.{All-get_or, All-from_get_or}
 use Rattle.std.proofs.lemmas.Option.{get_or_from_slice_get, slice_get_within}
 use Rattle.jpg_spec.specs.Codes.{Code}
 use Rattle.jpg_spec.specs.Numbers.{category, extra_bits}
 use Rattle.jpg_spec.specs.Geometry.{Frame}
 use Rattle.jpg_spec.specs.Segments.{HuffmanTable, table_codes}
-use Rattle.jpg_spec.specs.Elements.{Coding, Element, difference, value, long_run, is_zero, are_in_bounds, predicted}
+use Rattle.jpg_spec.specs.Elements.{Coding, Element, difference, value, long_run, is_zero, are_in_bounds, predicted, zeros}
 use Rattle.jpg_spec.specs.Sending.{sent, shifted, band_elements}
 use Rattle.jpg_spec.specs.Scan.{scan_coding}
-use Rattle.jpg_spec.specs.ScanText.{UnitDue, Owned, unit_elements, element_bits, typical_table, code_of}
-use Rattle.jpg_spec.specs.GrayFile.{gray_head, typical_tables}
+use Rattle.jpg_spec.specs.ScanText.{UnitDue, Owned, unit_elements, element_bits, typical_table, code_of, gray_head, typical_tables}
+use Rattle.jpg_spec.specs.ScanText.{gray_coding}
+use Rattle.jpg_spec.specs.WrittenFile.{IsBaselineBlock}
 use Rattle.jpg_spec.specs.Written.{IsWritable}
 use Rattle.jpg_huff.specs.Annex.{dc_luma_table, ac_luma_table}
-use Rattle.jpg_spec.proofs.Telling.{both}
 use Rattle.jpg_spec.proofs.Small.{shifted_none, ac_category}
+use Rattle.jpg_spec.proofs.Common.{both}
 use Rattle.jpg_spec.specs.Written.{plain_bits}
-use Rattle.jpg_seq.specs.PlainText.{spelled, band_bits, block_bits, blocks_bits}
-use Rattle.jpg_seq.specs.Put.{IsShort}
+use Rattle.jpg_seq.specs.PlainText.{spelled, band_bits, block_bits, blocks_bits, IsShort}
 use Rattle.jpg_seq.proofs.Bands.{left_bits, plain_elements, band_plain}
 
 -- the value at a place, and those behind it
@@ -60,6 +60,16 @@ is_short c b [] ok zero h l = absurd (omega arith)
 is_short c b [] ok (suc k) h l = lit≤ tt
 is_short c b (v ∷ values) ok zero h l = absurd (omega arith)
 is_short c b (v ∷ values) ok (suc k) h l = few_at c b values k (both (int_le c.bounds.dc_low v && int_le v c.bounds.dc_high) (are_in_bounds c false values) ok).1
+
+pub baseline_short : (block : List ℤ) → IsBaselineBlock block → IsShort block
+baseline_short block is = is_short gray_coding refl block is.1
+
+pub zeros_short : (last : ℤ) → IsShort (last ∷ zeros 63)
+unfolding Rattle.jpg_spec.specs.Numbers.digits
+zeros_short last zero h l = absurd (omega (arith, h))
+zeros_short last (suc k) h l =
+    let z : slice_index_or (zeros 63) k (pos 0) ≡ pos 0 = get_or-replicate 63 k (pos 0) (pos 0) (omega (arith, l)) in
+    subst (λ v. category v ≤ 15) (sym z) (lit≤ tt)
 
 pub all_short : (f : Frame) (blocks : List (List ℤ)) → All (λ block. IsWritable (scan_coding f typical_tables gray_head) (0, block)) blocks → All IsShort blocks
 all_short f blocks all =

@@ -10,13 +10,13 @@ use Rattle.jpg_coefs.specs.Machine.{Interval, units_of, IsUnfinished, KeepsUnits
 use Rattle.jpg_seq.specs.declared.reader.SeqReader.{SeqReader}
 use Rattle.jpg_seq.specs.Stands.{standing_at, unit_in_work}
 use Rattle.jpg_seq.specs.Coder.{env_in}
-use Rattle.jpg_seq.specs.Reader.{SeqStands, IsReadable, new_at, new_units_at, prediction_at, sequential}
+use Rattle.jpg_seq.specs.Reader.{SeqStands, IsPlaceReadable, new_at, new_units_at, prediction_at, sequential}
 use Rattle.jpg_seq.proofs.Parts.{work_part}
 
 stands_is : (m : SeqReader) (i : Interval) (bits : List Bool) (now : Picture) → (o : SeqStands m i bits now)
     → StandsInUnits i.scan.coding (units_of i) (o.whole ++ m.unit.values) (unit_in_work o.next.component m.unit.values ∷ new_units_at o.more) bits
 stands_is m i bits now o =
-    let r = All-head (IsReadable m i.before.frame) o.next (o.more ++ i.later) o.spots in
+    let r = All-head (IsPlaceReadable m i.before.frame) o.next (o.more ++ i.later) o.spots in
     let k = o.next.component in
     let others = new_units_at o.more in
     let st : List ℤ → Standing = λ v. standing_at o.predictions k others v in

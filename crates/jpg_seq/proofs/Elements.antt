@@ -4,15 +4,16 @@ use Rattle.std.proofs.lemmas.List.{append-nil, length-append, length-replicate, 
 use Rattle.std.proofs.lemmas.Int.{ints}
 use Rattle.std.proofs.lemmas.Bool.{cases_lt}
 use Rattle.jpg_spec.specs.Codes.{Code}
-use Rattle.jpg_spec.specs.Numbers.{digits, category}
-use Rattle.jpg_spec.specs.Elements.{Element, difference, value, long_run, ends, Coding, UnitLeft, Standing, Covers, Tells, SpellsElement, codes_due, going_on, predicted, predictions_after, zeros, zeros_in, nonzeros_in, corrected, scaled, are_in_bounds}
-use Rattle.jpg_spec.specs.GrayFile.{new_unit}
+use Rattle.jpg_spec.specs.Numbers.{category}
+use Rattle.jpg_spec.specs.Elements.{Element, difference, value, long_run, ends, Coding, UnitLeft, Standing, Covers, Tells, SpellsElement, codes_due, going_on, predicted, predictions_after, zeros, zeros_in, nonzeros_in, corrected, scaled, are_in_bounds, new_unit}
 use Rattle.jpg_spec.specs.declared.frame.Bounds.{Bounds}
 use Rattle.jpg_spec.proofs.Bands.{covers_then}
 use Rattle.jpg_spec.proofs.Writing.{going_same}
+use Rattle.jpg_spec.proofs.Common.{bounds_join}
+use Rattle.jpg_spec.proofs.Small.{one_digit}
 use Rattle.jpg_seq.specs.Step.{AreSane, InRange}
 use Rattle.jpg_seq.specs.Stands.{IsCodingOf, open_unit, unit_in_work, standing_at, codes_next}
-use Rattle.jpg_seq.proofs.Tests.{first_in_bounds, zeros_in_bounds, value_in_bounds, bounds_join}
+use Rattle.jpg_seq.proofs.Tests.{first_in_bounds, zeros_in_bounds, value_in_bounds}
 
 -- ZEROS
 
@@ -118,10 +119,6 @@ run_tells c b dc ac i n k sane = (tells, zeros_in_bounds c b (min 16 n) k.bounds
 
     tells : (q : ℤ) (others : List UnitLeft) → Tells c q (long_run []) (open_unit i (zeros n)) others (zeros (min 16 n)) (going_on (open_unit i []) (zeros (n - length (zeros (min 16 n)))) others)
     tells q others = ⊎_elim (λ (h : 15 < n). enough others q h) (λ (h : n ≤ 15). few others q h) (cases_lt 15 n)
-
-one_digit : digits 1 ≡ 1
-unfolding digits
-one_digit = refl
 
 pub end_tells : (c : Coding) (b : Bounds) (dc ac : List Code) (i n : ℕ) → IsCodingOf b dc ac c i → AreSane b → TellsHere c i n (ends 1 []) (zeros n)
 end_tells c b dc ac i n k sane =

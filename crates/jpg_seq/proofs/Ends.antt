@@ -2,16 +2,17 @@
 use Rattle.std.proofs.Common.{◌≡◌, ◌≢◌, ℕ, zero, suc, ◌-◌, ◌<◌, ◌≤◌, Bool, true, false, List, [], ◌∷◌, ◌++◌, length, refl, sym, ap, ◌∙◌, subst, arith, ℤ}
 use Rattle.std.specs.Prelude.{map, Result, Ok, Err, IfOk}
 use Rattle.std.proofs.lemmas.List.{append_assoc, append-nil, length-append}
-use Rattle.std.proofs.lemmas.Grind.{flat_map-append}
 use Rattle.jpg_spec.specs.Codes.{Code}
 use Rattle.jpg_spec.specs.Bits.{bits_of, bits_of_bytes, SpellsData}
-use Rattle.jpg_spec.specs.Elements.{Element, Coding, UnitLeft, Covers, SpellsUnits, at_start}
-use Rattle.jpg_spec.specs.GrayFile.{new_unit, SpellsBlocks}
+use Rattle.jpg_spec.specs.Elements.{Element, Coding, UnitLeft, Covers, SpellsUnits, at_start, new_unit}
+use Rattle.jpg_spec.specs.GrayFile.{SpellsBlocks}
 use Rattle.jpg_spec.specs.Sound.{IsSound}
 use Rattle.jpg_spec.specs.declared.frame.Bounds.{Bounds}
 use Rattle.jpg_spec.proofs.Bands.{covers_then}
 use Rattle.jpg_spec.proofs.PartStands.{part_not_held}
 use Rattle.jpg_spec.proofs.Sound.{spelled_once}
+use Rattle.jpg_spec.proofs.PictureInWork.{byte_bits}
+use Rattle.jpg_spec.proofs.DataFacts.{bits_join}
 use Rattle.jpg_huff.specs.Gate.{IsData}
 use Rattle.jpg_seq.specs.declared.plain.Reading.{Reading}
 use Rattle.jpg_seq.specs.declared.plain.Took.{Took}
@@ -79,12 +80,6 @@ end_long c count bits s sound le many f = λ blocks front pad spelled n few e.
 
 -- WHERE THE TEXT ENDS
 
-pub bits_join : (xs ys : List ℕ) → bits_of_bytes (xs ++ ys) ≡ bits_of_bytes xs ++ bits_of_bytes ys
-bits_join xs ys = flat_map-append (bits_of 8) xs ys
-
-pub bits_more : (coded : List ℕ) (byte : ℕ) → bits_of_bytes (coded ++ byte ∷ []) ≡ bits_of_bytes coded ++ bits_of 8 byte
-bits_more coded byte = bits_join coded (byte ∷ []) ∙ ap (λ x. bits_of_bytes coded ++ x) (append-nil (bits_of 8 byte))
-
 -- no blocks from here on
 pub text_bad : (c : Coding) (count : ℕ) (coded front rest text : List ℕ) (bits : List Bool) → SpellsData coded front → text ≡ front ++ rest → bits ≡ bits_of_bytes coded → NoneSpelled c count bits → IsPlainRead c count text NotPlain
 text_bad c count coded front rest text bits h e same none = λ blocks cits cod d packed spelled n.
@@ -112,9 +107,9 @@ pub text_data : (c : Coding) (count : ℕ) (waits now : Bool) (text : List ℕ) 
     → (r : ReadsText c count waits text s) → AfterBits c count (bits_of_bytes r.0 ++ bits_of 8 passed) took new → AfterText c count (text ++ byte ∷ []) took now new
 text_data c count waits now text byte passed s new More d n r f =
     let P : Bool → Type 0 = λ w. HoldsSoFar (r.0 ++ passed ∷ []) w (text ++ byte ∷ []) in
-    (r.0 ++ passed ∷ [], subst P (sym n) (data_passes r.0 waits text byte passed r.1 d), subst (λ b. Reads c count b new) (sym (bits_more r.0 passed)) f)
+    (r.0 ++ passed ∷ [], subst P (sym n) (data_passes r.0 waits text byte passed r.1 d), subst (λ b. Reads c count b new) (sym (byte_bits r.0 passed)) f)
 text_data c count waits now text byte passed s new Bad d n r none = λ rest.
-    text_bad c count (r.0 ++ passed ∷ []) (text ++ byte ∷ []) rest ((text ++ byte ∷ []) ++ rest) (bits_of_bytes r.0 ++ bits_of 8 passed) (data_passes r.0 waits text byte passed r.1 d) refl (sym (bits_more r.0 passed)) none
+    text_bad c count (r.0 ++ passed ∷ []) (text ++ byte ∷ []) rest ((text ++ byte ∷ []) ++ rest) (bits_of_bytes r.0 ++ bits_of 8 passed) (data_passes r.0 waits text byte passed r.1 d) refl (sym (byte_bits r.0 passed)) none
 
 no_data : (c : Coding) (count : ℕ) (whole : List ℕ) → ((cod : List ℕ) → SpellsData cod whole → ⊥) → IsPlainRead c count whole NotPlain
 no_data c count whole none = λ blocks bits cod d packed spelled n. none cod d

@@ -12,7 +12,7 @@ use Rattle.jpg_spec.specs.Sound.{AreTables}
 use Rattle.jpg_spec.specs.declared.frame.Bounds.{Bounds}
 use Rattle.jpg_spec.specs.declared.frame.ScanPart.{ScanPart}
 use Rattle.jpg_spec.proofs.Sound.{sound}
-use Rattle.jpg_spec.proofs.Writing.{and_intro}
+use Rattle.jpg_spec.proofs.Common.{and_intro, some_once}
 use Rattle.jpg_huff.specs.declared.table.Table.{Table}
 use Rattle.jpg_huff.specs.declared.set.TableSet.{TableSet}
 use Rattle.jpg_huff.specs.Sets.{dc_tables, ac_tables, in_slot}
@@ -36,15 +36,12 @@ table_valid t =
     let P : ℕ → Type 0 = λ c. AreCodes 1 c t.counts in
     tested 1 0 t.counts (subst P x.first (steps.are_codes t.counts t.symbols t.firsts t.starts t.limits 15 0 x refl))
 
-some_inj : (a b : HuffmanTable) → Some a ≡ Some b → a ≡ b
-some_inj a b e = cc
-
 none_some : (b : HuffmanTable) → None ≡ Some b → ⊥
 none_some b e = cc
 
 found_valid : (o : Option Table) (table : HuffmanTable) → option_map table_of o ≡ Some table → are_codes 1 0 table.counts ≡ true
 found_valid None table e = absurd (none_some table e)
-found_valid (Some t) table e = subst (λ (h : HuffmanTable). are_codes 1 0 h.counts ≡ true) (some_inj (table_of t) table e) (table_valid t)
+found_valid (Some t) table e = subst (λ (h : HuffmanTable). are_codes 1 0 h.counts ≡ true) (some_once (table_of t) table e) (table_valid t)
 
 pub valid : (set : TableSet) → AreTables (in_force set)
 valid set class slot table e = found_valid (in_slot (cond (class == 0) (dc_tables set) (ac_tables set)) slot) table e

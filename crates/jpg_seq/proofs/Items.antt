@@ -7,8 +7,7 @@ use Rattle.std.proofs.lemmas.Bool.{cases_lt}
 use Rattle.jpg_spec.specs.Bits.{bits_of}
 use Rattle.jpg_spec.specs.Codes.{Code}
 use Rattle.jpg_spec.specs.Numbers.{category, extra_bits, digits}
-use Rattle.jpg_spec.specs.Elements.{Element, difference, value, long_run, ends, Coding, Standing, Covers, SpellsElement, going_on, predicted, predictions_after, zeros, symbol_of, bits_behind}
-use Rattle.jpg_spec.specs.GrayFile.{new_unit}
+use Rattle.jpg_spec.specs.Elements.{Element, difference, value, long_run, ends, Coding, Standing, Covers, SpellsElement, going_on, predicted, predictions_after, zeros, symbol_of, bits_behind, new_unit}
 use Rattle.jpg_spec.specs.declared.frame.Bounds.{Bounds}
 use Rattle.jpg_huff.specs.Walk.{BeginsNoCode}
 use Rattle.jpg_spec.specs.Parts.{IsFront}
@@ -20,7 +19,7 @@ use Rattle.jpg_seq.specs.declared.work.Next.TheVariants.{Part, Value, Zeros, Bad
 use Rattle.jpg_seq.specs.Step.{AreSane, InRange}
 use Rattle.jpg_seq.specs.Judge.{IsBadSymbol, IsBadRun}
 use Rattle.jpg_seq.specs.Stands.{IsCodingOf, MayStand, standing_at, unit_in_work, open_unit, codes_next}
-use Rattle.jpg_seq.specs.Work.{Env, next_codes, IsPartOf, Reads, Adds, FrontsAre, NoPartBegins, IsElement, IsShown, IsNext, IsFirstValue}
+use Rattle.jpg_seq.specs.Work.{Env, next_codes, IsPartOf, ReadsComponent, Adds, FrontsAre, NoPartBegins, IsElement, IsShownFault, StandsFirst, IsFirstValue}
 use Rattle.jpg_huff.proofs.Fronts.{due_apart, walk_shows}
 use Rattle.jpg_seq.proofs.Tests.{first_out, not_first_symbol, first_in_bounds}
 use Rattle.jpg_seq.proofs.Elements.{TellsHere, value_tells, run_tells, end_tells, first_tells, one_element, some_left}
@@ -109,7 +108,7 @@ none_ends e values bits some none held part z (inr (inr t)) s =
 
 -- ELEMENTS
 
-pub codes_same : (e : Env) (c : Coding) (i : ℕ) (p : ℕ → ℤ) (values : List ℤ) → Reads e c i p → next_codes e values ≡ codes_next c i values
+pub codes_same : (e : Env) (c : Coding) (i : ℕ) (p : ℕ → ℤ) (values : List ℤ) → ReadsComponent e c i p → next_codes e values ≡ codes_next c i values
 codes_same e c i p [] r = sym r.0.dc_codes
 codes_same e c i p (v ∷ values) r = sym r.0.ac_codes
 
@@ -157,21 +156,13 @@ from_later : (b : Bounds) (values : List ℤ) (run size : ℕ) → 1 ≤ length 
 from_later b [] run size some m = absurd (omega arith)
 from_later b (v ∷ values) run size some m = (m.0, omega (arith, m.1), m.2)
 
-end_symbol : symbol_of (ends 1 []) ≡ 0
+pub end_symbol : symbol_of (ends 1 []) ≡ 0
 unfolding digits
 end_symbol = refl
 
-end_bits : bits_behind (ends 1 []) ≡ []
+pub end_bits : bits_behind (ends 1 []) ≡ []
 unfolding digits bits_of
 end_bits = refl
-
-pub zero_category : category (pos 0) ≡ 0
-unfolding digits
-zero_category = refl
-
-pub zero_bits : extra_bits (pos 0) ≡ []
-unfolding digits bits_of
-zero_bits = refl
 
 -- a code of at least one bit
 pub bare_ends : (e : Env) (values : List ℤ) (code : List Bool) (symbol : ℕ) → huff_laws.AreApart (next_codes e values) → Contains (next_codes e values) (code, symbol) → 1 ≤ length code
@@ -247,7 +238,7 @@ first_element e code ext size d v apart c long few cat x l range is =
 -- FAULTS
 
 pub none_shown : (e : Env) (values : List ℤ) (bits : List Bool) (next : Bool) → huff_laws.AreApart (next_codes e values) → ((code : Code) → Contains (next_codes e values) code → 1 ≤ length code.0) → IsFront (next_codes e values) bits → BeginsNoCode (next_codes e values) (bits ++ next ∷ [])
-    → IsShown e values (bits ++ next ∷ []) NoCode
+    → IsShownFault e values (bits ++ next ∷ []) NoCode
 none_shown e values bits next apart some f none =
     let both = walk_shows (next_codes e values) bits next (record { one = apart; some = some }) f none in
     record {
@@ -257,7 +248,7 @@ none_shown e values bits next apart some f none =
       ends = none_ends e values (bits ++ next ∷ []) (omega (arith, length-append bits (next ∷ []))) none both.2;
     }
 
-pub first_bad : (e : Env) (code : List Bool) (symbol : ℕ) → huff_laws.AreApart e.dc → Contains e.dc (code, symbol) → 1 ≤ length code → e.bounds.dc_cat < symbol → IsShown e [] code BadSymbol
+pub first_bad : (e : Env) (code : List Bool) (symbol : ℕ) → huff_laws.AreApart e.dc → Contains e.dc (code, symbol) → 1 ≤ length code → e.bounds.dc_cat < symbol → IsShownFault e [] code BadSymbol
 first_bad e code symbol apart c long bad =
     record {
       shows = λ d i p others r. (let P : List Code → Type 0 = λ t. Contains t (code, symbol) in inr (inl (refl, (symbol, subst P (sym r.0.dc_codes) c, not_first_symbol d e.bounds symbol r.0.bounds bad))));
@@ -265,7 +256,7 @@ first_bad e code symbol apart c long bad =
       ends = bare_ends e [] code symbol apart c long (λ r n same m. omega (arith, same, m.0, m.1, bad));
     }
 
-pub later_bad : (e : Env) (values : List ℤ) (code : List Bool) (symbol : ℕ) → AreSane e.bounds → huff_laws.AreApart e.ac → 1 ≤ length values → Contains e.ac (code, symbol) → 1 ≤ length code → IsBadSymbol e.bounds.ac_cat symbol → IsShown e values code BadSymbol
+pub later_bad : (e : Env) (values : List ℤ) (code : List Bool) (symbol : ℕ) → AreSane e.bounds → huff_laws.AreApart e.ac → 1 ≤ length values → Contains e.ac (code, symbol) → 1 ≤ length code → IsBadSymbol e.bounds.ac_cat symbol → IsShownFault e values code BadSymbol
 later_bad e values code symbol sane apart some c long bad =
     let next = ac_codes e values some in
     let P : List Code → Type 0 = λ t. Contains t (code, symbol) in
@@ -281,7 +272,7 @@ later_bad e values code symbol sane apart some c long bad =
     by (inl h) r n same few = absurd (omega (arith, h, same, few, sane.ac_cat))
     by (inr h) r n same few = omega (arith, h.0, same, few, sane.ac_cat)
 
-pub later_bad_run : (e : Env) (values : List ℤ) (code : List Bool) (symbol : ℕ) → AreSane e.bounds → huff_laws.AreApart e.ac → 1 ≤ length values → length values < 64 → Contains e.ac (code, symbol) → 1 ≤ length code → IsBadRun e.bounds.ac_cat (64 - length values) symbol → IsShown e values code BadRun
+pub later_bad_run : (e : Env) (values : List ℤ) (code : List Bool) (symbol : ℕ) → AreSane e.bounds → huff_laws.AreApart e.ac → 1 ≤ length values → length values < 64 → Contains e.ac (code, symbol) → 1 ≤ length code → IsBadRun e.bounds.ac_cat (64 - length values) symbol → IsShownFault e values code BadRun
 later_bad_run e values code symbol sane apart some less c long bad =
     let next = ac_codes e values some in
     let P : List Code → Type 0 = λ t. Contains t (code, symbol) in
@@ -295,7 +286,7 @@ later_bad_run e values code symbol sane apart some less c long bad =
 
 -- a first value out of the bounds
 pub first_out_shown : (e : Env) (code ext : List Bool) (size : ℕ) (d : ℤ) → huff_laws.AreApart e.dc → Contains e.dc (code, size) → 1 ≤ length code → size ≤ e.bounds.dc_cat → category d ≡ size → extra_bits d ≡ ext → length ext ≡ size
-    → (InRange e.bounds (e.prediction +ℤ d) → ⊥) → IsShown e [] (code ++ ext) CoefRange
+    → (InRange e.bounds (e.prediction +ℤ d) → ⊥) → IsShownFault e [] (code ++ ext) CoefRange
 first_out_shown e code ext size d apart c long few cat x l out =
     let P : ℕ → Type 0 = λ n. Contains e.dc (code, n) in
     let z : size ≡ 16 * 0 + size = omega arith in
@@ -325,12 +316,12 @@ take_join m n xs h =
     sym (ap (λ z. take (m + n) z) (take-append-drop m xs)) ∙ ap (λ k. take (k + n) (take m xs ++ drop m xs)) (sym l) ∙ take-append-add (take m xs) (drop m xs) n
 
 pub none_taken : (e : Env) (values : List ℤ) (bits : List Bool) (n : ℕ) → huff_laws.AreApart (next_codes e values) → ((code : Code) → Contains (next_codes e values) code → 1 ≤ length code.0) → 1 ≤ n → n ≤ length bits
-    → IsFront (next_codes e values) (take (n - 1) bits) → BeginsNoCode (next_codes e values) (take n bits) → IsShown e values (take n bits) NoCode
+    → IsFront (next_codes e values) (take (n - 1) bits) → BeginsNoCode (next_codes e values) (take n bits) → IsShownFault e values (take n bits) NoCode
 none_taken e values bits n apart some low high f none =
     let m : n - 1 + 1 ≡ n = omega arith in
     let t : take n bits ≡ take (n - 1) bits ++ get_or bits (n - 1) false ∷ [] = ap (λ k. take k bits) (sym m) ∙ take_more bits (n - 1) false (omega arith) in
     let N : List Bool → Type 0 = λ b. BeginsNoCode (next_codes e values) b in
-    let G : List Bool → Type 0 = λ b. IsShown e values b NoCode in
+    let G : List Bool → Type 0 = λ b. IsShownFault e values b NoCode in
     subst G (sym t) (none_shown e values (take (n - 1) bits) (get_or bits (n - 1) false) apart some f (subst N t none))
 
 -- a code whose bits behind it aren't all there
@@ -341,7 +332,7 @@ waits e values bits n run size few there c may small short =
 
 -- what the first value comes to
 pub first_comes : (e : Env) (bits : List Bool) (n size number : ℕ) (d : ℤ) (next : Next) → huff_laws.AreApart e.dc → 1 ≤ n → n + size ≤ length bits → Contains e.dc (take n bits, size) → size ≤ e.bounds.dc_cat → category d ≡ size → extra_bits d ≡ take size (drop n bits)
-    → number ≡ n + size → IsFirstValue e.bounds e.prediction d number next → IsNext e [] bits next
+    → number ≡ n + size → IsFirstValue e.bounds e.prediction d number next → StandsFirst e [] bits next
 first_comes e bits n size number d Part apart low there c few cat x m first = absurd first
 first_comes e bits n size number d (Zeros count k) apart low there c few cat x m first = absurd first
 first_comes e bits n size number d (Value run v k) apart low there c few cat x m first =
@@ -357,8 +348,8 @@ first_comes e bits n size number d (Value run v k) apart low there c few cat x m
 first_comes e bits n size number d (Bad shown k) apart low there c few cat x m first =
     let kk : k ≡ n + size = first.1 ∙ m in
     let l : length (take size (drop n bits)) ≡ size = length-take-le size (drop n bits) (omega (arith, length-drop n bits)) in
-    let G : List Bool → Type 0 = λ b. IsShown e [] b CoefRange in
-    let F : UnitFault → Type 0 = λ f. IsShown e [] (take k bits) f in (
+    let G : List Bool → Type 0 = λ b. IsShownFault e [] b CoefRange in
+    let F : UnitFault → Type 0 = λ f. IsShownFault e [] (take k bits) f in (
       omega arith,
       omega arith,
       subst F (sym first.0) (subst G (sym (ap (λ z. take z bits) kk ∙ take_join n size bits (omega arith)))

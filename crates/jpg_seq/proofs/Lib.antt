@@ -4,7 +4,6 @@ pub mod Due
 pub mod Elements
 pub mod Ends
 pub mod Forced
-pub mod HasPut
 pub mod Items
 pub mod Leaf
 pub mod Machines
@@ -13,6 +12,9 @@ pub mod Parts
 pub mod ReadBlocks
 pub mod Reading
 pub mod Readings
+pub mod ScanIntervals
+pub mod ScanUnits
+pub mod Sources
 pub mod Steps
 pub mod Takings
 pub mod Tests

@@ -10,12 +10,12 @@ use Rattle.jpg_spec.specs.Elements.{Element, UnitLeft, Standing, Covers, going_o
 use Rattle.jpg_spec.specs.Geometry.{Frame, padded_blocks}
 use Rattle.jpg_spec.specs.declared.frame.Place.{Place}
 use Rattle.jpg_spec.proofs.Bands.{covers_then}
-use Rattle.jpg_spec.proofs.Once.{clash}
 use Rattle.jpg_spec.specs.Lists.{any_of, slot_value}
 use Rattle.jpg_spec.specs.Scan.{Scan, band, block_at, coefficient}
 use Rattle.jpg_spec.specs.PictureInWork.{is_at, is_in_band, AreDistinct, UnitsRead}
 use Rattle.jpg_spec.proofs.PictureInWork.{apart_of, apart_swap, distinct_behind}
 use Rattle.jpg_spec.proofs.UnitsRead.{units_next, units_last}
+use Rattle.jpg_spec.proofs.Common.{clash, part_more, some_once, not_same, same_itself}
 use Rattle.jpg_base.specs.Cursor.{IsPadded}
 use Rattle.jpg_coefs.specs.Picture.{Picture, map_of, with_block, HasPlace, put_at}
 use Rattle.jpg_coefs.specs.Machine.{Interval, units_of, Step, Chain}
@@ -25,29 +25,23 @@ use Rattle.jpg_seq.specs.declared.reader.SeqReader.{SeqReader}
 use Rattle.jpg_seq.specs.declared.work.Coder.{Coder}
 use Rattle.jpg_coefs.specs.declared.machine.UnitFault.{UnitFault}
 use Rattle.jpg_seq.specs.Stands.{standing_at, unit_in_work, open_unit}
-use Rattle.jpg_seq.specs.Work.{Work, Env, IsPartOf, Reads, Adds, StepsTo, Leads, IsLast, IsWrong, IsAtWork, no_work}
+use Rattle.jpg_seq.specs.Work.{Work, Env, IsPartOf, ReadsComponent, Adds, StepsTo, StepsThrough, IsLast, IsWrong, IsAtWork, no_work}
 use Rattle.jpg_seq.specs.Coder.{env_in}
-use Rattle.jpg_seq.specs.Reader.{coder_at, prediction_at, behind, new_units_at, IsReadable, ReadsBy, SeqStands, sequential}
+use Rattle.jpg_seq.specs.Reader.{coder_at, prediction_at, behind, new_units_at, IsPlaceReadable, ReadsBy, SeqStands, sequential}
 use Rattle.jpg_seq.proofs.Elements.{left_at}
 
 abbrev pub env_at : SeqReader → Coder → ℕ → Env
 env_at m coder k = env_in m.bounds coder (prediction_at m k)
 
-some_same : {A : Type 0} (a b : A) → Some a ≡ Some b → a ≡ b
-some_same a b e = cc
-
 -- the unit in work is of the cursor's place
 pub next_is : (m : SeqReader) (i : Interval) (bits : List Bool) (now : Picture) (p : Place) → slice_get m.cursor 0 ≡ Some p → (o : SeqStands m i bits now) → o.next ≡ p
-next_is m i bits now p e o = some_same o.next p (sym (ap (λ (l : List Place). slice_get l 0) o.cursor) ∙ e)
+next_is m i bits now p e o = some_once o.next p (sym (ap (λ (l : List Place). slice_get l 0) o.cursor) ∙ e)
 
 pub reads_of : (m : SeqReader) (i : Interval) (bits : List Bool) (now : Picture) (coder : Coder) → (o : SeqStands m i bits now) → coder_at m o.next.component ≡ Some coder
-    → Reads (env_at m coder o.next.component) i.scan.coding o.next.component o.predictions
+    → ReadsComponent (env_at m coder o.next.component) i.scan.coding o.next.component o.predictions
 reads_of m i bits now coder o there =
-    let r = All-head (IsReadable m i.before.frame) o.next (o.more ++ i.later) o.spots in
+    let r = All-head (IsPlaceReadable m i.before.frame) o.next (o.more ++ i.later) o.spots in
     (o.reads.codes o.next.component coder there, sym (o.predicts o.next.component r.small))
-
-join_part : (bits front part : List Bool) (next : Bool) → bits ≡ front ++ part → bits ++ next ∷ [] ≡ front ++ (part ++ next ∷ [])
-join_part bits front part next e = ap (λ z. z ++ next ∷ []) e ∙ append_assoc front part (next ∷ [])
 
 -- with the unit's further bits
 with_unit : (m : SeqReader) (i : Interval) (bits : List Bool) (now : Picture) (b : Bool) (t : Work) (elements : List Element) (front : List Bool) → (o : SeqStands m i bits now)
@@ -65,14 +59,14 @@ with_unit m i bits now b t elements front o covers split work =
       all = o.all;
       cursor = o.cursor;
       left = o.left;
-      spots = All-weaker (IsReadable m i.before.frame) (IsReadable (record m { unit = t }) i.before.frame) (λ p r. record { small = r.small; padded = r.padded; coder = r.coder; there = r.there }) (o.next ∷ (o.more ++ i.later)) o.spots;
+      spots = All-weaker (IsPlaceReadable m i.before.frame) (IsPlaceReadable (record m { unit = t }) i.before.frame) (λ p r. record { small = r.small; padded = r.padded; coder = r.coder; there = r.there }) (o.next ∷ (o.more ++ i.later)) o.spots;
       whole = o.whole;
       predictions = o.predictions;
       elements = o.elements;
       front = o.front;
       part = o.part ++ b ∷ [];
       covers = o.covers;
-      split = join_part bits o.front o.part b o.split;
+      split = part_more bits o.front o.part b o.split;
       four = o.four;
       predicts = o.predicts;
       unit_elements = elements;
@@ -86,7 +80,7 @@ with_unit m i bits now b t elements front o covers split work =
 
 -- the same coder
 one_coder : (m : SeqReader) (k : ℕ) (a b : Coder) → coder_at m k ≡ Some a → coder_at m k ≡ Some b → a ≡ b
-one_coder m k a b e f = some_same a b (sym e ∙ f)
+one_coder m k a b e f = some_once a b (sym e ∙ f)
 
 pub step_within : (m : SeqReader) (p : Place) (coder : Coder) (now : Picture) (b : Bool) (t : Work) → slice_get m.cursor 0 ≡ Some p → coder_at m p.component ≡ Some coder
     → StepsTo (env_at m coder p.component) m.unit b t → Step sequential m now b (Ok More) (record m { unit = t }) now
@@ -95,7 +89,7 @@ step_within m p coder now b t first there (inl h) i bits o =
     let C : List ℤ → Type 0 = λ v. Covers i.scan.coding (standing_at o.predictions o.next.component (new_units_at o.more) []) o.unit_elements v o.unit_front (standing_at o.predictions o.next.component (new_units_at o.more) v) in
     let values = ap (λ (w : Work). w.values) h.0 in let part = ap (λ (w : Work). w.part) h.0 in
     with_unit m i bits now b t o.unit_elements o.unit_front o (subst C (sym values) o.unit_covers)
-    (join_part o.part o.unit_front m.unit.part b o.unit_split ∙ ap (λ z. o.unit_front ++ z) (sym part))
+    (part_more o.part o.unit_front m.unit.part b o.unit_split ∙ ap (λ z. o.unit_front ++ z) (sym part))
     (λ d e. let W : Work → Type 0 = λ w. IsAtWork (env_at m d o.next.component) w in
     let K : ℕ → Type 0 = λ k. (c : Coder) → coder_at m k ≡ Some c → IsPartOf (env_at m c k) m.unit.values (m.unit.part ++ b ∷ []) in
     let D : Coder → Type 0 = λ c. IsPartOf (env_at m c p.component) m.unit.values (m.unit.part ++ b ∷ []) in
@@ -116,13 +110,13 @@ step_within m p coder now b t first there (inr h) i bits o =
     let values = ap (λ (w : Work). w.values) h.1 in let part = ap (λ (w : Work). w.part) h.1 in
     with_unit m i bits now b t (o.unit_elements ++ adds.0) (o.unit_front ++ (s.part ++ b ∷ [])) o
     (subst C (sym values) (covers_then i.scan.coding (st []) (st s.values) (st (s.values ++ here)) o.unit_elements adds.0 s.values here o.unit_front (s.part ++ b ∷ []) o.unit_covers adds.1))
-    (join_part o.part o.unit_front s.part b o.unit_split ∙ sym (append-nil (o.unit_front ++ (s.part ++ b ∷ []))) ∙ ap (λ z. (o.unit_front ++ (s.part ++ b ∷ [])) ++ z) (sym part))
+    (part_more o.part o.unit_front s.part b o.unit_split ∙ sym (append-nil (o.unit_front ++ (s.part ++ b ∷ []))) ∙ ap (λ z. (o.unit_front ++ (s.part ++ b ∷ [])) ++ z) (sym part))
     (λ d e. let W : Work → Type 0 = λ w. IsAtWork (env_at m d o.next.component) w in
     subst W (sym h.1) (record { left = h.3; part = inl refl }))
 
 -- bits within a unit
 pub chain_within : (m : SeqReader) (p : Place) (coder : Coder) (now : Picture) (bits : List Bool) (s t : Work) → slice_get m.cursor 0 ≡ Some p → coder_at m p.component ≡ Some coder
-    → Leads (env_at m coder p.component) s bits t → Chain sequential (record m { unit = s }) now bits (record m { unit = t }) now
+    → StepsThrough (env_at m coder p.component) s bits t → Chain sequential (record m { unit = s }) now bits (record m { unit = t }) now
 chain_within m p coder now [] s t first there h = (ap (λ (w : Work). (let r : SeqReader = record m { unit = w } in r)) h, refl)
 chain_within m p coder now (b ∷ bits) s t first there h =
     (record m { unit = h.0 }, now, step_within (record m { unit = s }) p coder now b h.0 first there h.1, chain_within m p coder now bits h.0 t first there h.2)
@@ -140,12 +134,6 @@ whole_standing p k others [] e = absurd (omega arith)
 whole_standing p k others (v ∷ values) e =
     let z : 63 - length values ≡ 0 = omega arith in
     ap (λ (n : ℕ). (let r : Standing = record { predictions = predicted p k v; left = going_on (open_unit k []) (zeros n) others } in r)) z
-
-not_same : (i k : ℕ) → (i ≡ k → ⊥) → (i == k) ≡ false
-not_same i k n = grind (arith, nat_tests)
-
-same_itself : (k : ℕ) → (k == k) ≡ true
-same_itself k = grind (arith, nat_tests)
 
 predicts_more : (predictions : List ℤ) (q : ℕ → ℤ) (c k : ℕ) (block : List ℤ) → length block ≡ 64 → length predictions ≡ 4 → c < 4 → slice_index_or predictions k (pos 0) ≡ q k
     → slice_index_or (slice_set predictions c (slice_index_or block 0 (pos 0))) k (pos 0) ≡ behind_block q c block k
@@ -205,9 +193,9 @@ unit_read m i bits now p coder block b o n there count h =
     let whole = subst D is (subst C (sym h.2) unit) in
     let all = covers_then i.scan.coding (at_start (units_of i)) (st []) last o.elements (o.unit_elements ++ adds.0) o.whole block o.front (o.unit_front ++ (s.part ++ b ∷ [])) o.covers whole in
     let text : o.front ++ (o.unit_front ++ (s.part ++ b ∷ [])) ≡ bits ++ b ∷ [] =
-    ap (λ z. o.front ++ z) (sym (join_part o.part o.unit_front s.part b o.unit_split)) ∙ sym (join_part bits o.front o.part b o.split) in
+    ap (λ z. o.front ++ z) (sym (part_more o.part o.unit_front s.part b o.unit_split)) ∙ sym (part_more bits o.front o.part b o.split) in
     let E : List Bool → Type 0 = λ z. Covers i.scan.coding (at_start (units_of i)) (o.elements ++ (o.unit_elements ++ adds.0)) (o.whole ++ block) z last in
-    let r = All-head (IsReadable m i.before.frame) o.next (o.more ++ i.later) o.spots in
+    let r = All-head (IsPlaceReadable m i.before.frame) o.next (o.more ++ i.later) o.spots in
     let pad : IsPadded now.frame p.component p.x p.y = subst (λ (q : Place). IsPadded now.frame q.component q.x q.y) n (subst (λ (g : Frame). IsPadded g o.next.component o.next.x o.next.y) (sym o.frame) r.padded) in
     let places : i.places ++ i.later ≡ o.done ++ o.next ∷ (o.more ++ i.later) = ap (λ (l : List Place). l ++ i.later) o.all ∙ append_assoc o.done (o.next ∷ o.more) i.later in
     let apart : any_of (is_at p.component p.x p.y) o.done ≡ false =
@@ -247,12 +235,12 @@ step_unit m p coder now b whole first there count h many i bits o =
     let block = whole.values in
     let u = unit_read m i bits now p coder block b o n there count h in
     let l = some_places o.more (omega (arith, o.left, many)) in
-    let small = (All-head (IsReadable m i.before.frame) o.next (o.more ++ i.later) o.spots).small in
+    let small = (All-head (IsPlaceReadable m i.before.frame) o.next (o.more ++ i.later) o.spots).small in
     let more : o.more ++ i.later ≡ l.0 ∷ (l.1 ++ i.later) = ap (λ (z : List Place). z ++ i.later) l.2 in
     let ps : ℕ → ℤ = behind_block o.predictions k block in
     let S : List Place → Type 0 = λ z. Covers i.scan.coding (at_start (units_of i)) u.elements (o.whole ++ block) (bits ++ b ∷ []) (record { predictions = ps; left = new_units_at z }) in
-    let T : List Place → Type 0 = λ z. All (IsReadable new i.before.frame) z in
-    let later = All-weaker (IsReadable m i.before.frame) (IsReadable new i.before.frame) (λ q r. record { small = r.small; padded = r.padded; coder = r.coder; there = r.there }) (o.more ++ i.later) (All-tail (IsReadable m i.before.frame) o.next (o.more ++ i.later) o.spots) in
+    let T : List Place → Type 0 = λ z. All (IsPlaceReadable new i.before.frame) z in
+    let later = All-weaker (IsPlaceReadable m i.before.frame) (IsPlaceReadable new i.before.frame) (λ q r. record { small = r.small; padded = r.padded; coder = r.coder; there = r.there }) (o.more ++ i.later) (All-tail (IsPlaceReadable m i.before.frame) o.next (o.more ++ i.later) o.spots) in
     record {
       reads = record { sane = o.reads.sane; codes = o.reads.codes };
       kind = o.kind;
@@ -294,8 +282,8 @@ step_last m p coder now b whole first there count h one i bits o =
     let all : i.places ≡ o.done ++ p ∷ [] = o.all ∙ ap (λ (z : Place). o.done ++ z ∷ o.more) n ∙ ap (λ (z : List Place). o.done ++ p ∷ z) none in
     let after = with_block now p.component p.x p.y block in
     let cursor : drop 1 m.cursor ≡ i.later = rest_of m.cursor o.next (o.more ++ i.later) o.cursor ∙ ap (λ (z : List Place). z ++ i.later) none in
-    let later = All-weaker (IsReadable m i.before.frame) (IsReadable new i.before.frame) (λ q r. record { small = r.small; padded = r.padded; coder = r.coder; there = r.there }) (o.more ++ i.later) (All-tail (IsReadable m i.before.frame) o.next (o.more ++ i.later) o.spots) in
-    let T : List Place → Type 0 = λ z. All (IsReadable new i.before.frame) (z ++ i.later) in
+    let later = All-weaker (IsPlaceReadable m i.before.frame) (IsPlaceReadable new i.before.frame) (λ q r. record { small = r.small; padded = r.padded; coder = r.coder; there = r.there }) (o.more ++ i.later) (All-tail (IsPlaceReadable m i.before.frame) o.next (o.more ++ i.later) o.spots) in
+    let T : List Place → Type 0 = λ z. All (IsPlaceReadable new i.before.frame) (z ++ i.later) in
     let f : i.before.frame ≡ after.frame = sym o.frame in
     let read : UnitsRead i.scan i.places (map_of i.before) (map_of after) (o.whole ++ block) = subst (λ (l : List Place). UnitsRead i.scan l (map_of i.before) (map_of after) (o.whole ++ block)) (sym all) u.read in (
       record {
@@ -303,9 +291,9 @@ step_last m p coder now b whole first there count h one i bits o =
         read = units_last i.scan i.places (map_of i.before) (map_of after) (o.whole ++ block) (bits ++ b ∷ []) read
             (u.elements, record { predictions = behind_block o.predictions k block; left = new_units_at o.more }, u.covers, ap new_units_at none);
       },
-      λ j follows fits. (let R : Picture → Type 0 = λ q. All (IsReadable new q.frame) i.later in
-          let F : Frame → Type 0 = λ q. All (IsReadable new q) i.later in
-          let P : List Place → Type 0 = λ z. All (IsReadable new j.before.frame) z in
+      λ j follows fits. (let R : Picture → Type 0 = λ q. All (IsPlaceReadable new q.frame) i.later in
+          let F : Frame → Type 0 = λ q. All (IsPlaceReadable new q) i.later in
+          let P : List Place → Type 0 = λ z. All (IsPlaceReadable new j.before.frame) z in
           let G : Scan → Type 0 = λ c. ReadsBy new c.coding in
           record {
             reads = subst G (sym follows.scan) (record { sane = o.reads.sane; codes = o.reads.codes });
@@ -343,7 +331,7 @@ step_fault m new p coder now after b fault first there h i bits o =
       standing = st s.values;
       unit = unit_in_work o.next.component s.values;
       others = new_units_at o.more;
-      cut = join_part bits o.front o.part b o.split ∙ ap (λ z. o.front ++ z) (join_part o.part o.unit_front s.part b o.unit_split)
+      cut = part_more bits o.front o.part b o.split ∙ ap (λ z. o.front ++ z) (part_more o.part o.unit_front s.part b o.unit_split)
           ∙ sym (append_assoc o.front o.unit_front (s.part ++ b ∷ [])) ∙ sym (append-nil ((o.front ++ o.unit_front) ++ (s.part ++ b ∷ [])));
       covers = covers_then i.scan.coding (at_start (units_of i)) (st []) (st s.values) o.elements o.unit_elements o.whole s.values o.front o.unit_front o.covers o.unit_covers;
       left = left_at o.predictions o.next.component (new_units_at o.more) s.values less;
@@ -355,5 +343,5 @@ step_fault m new p coder now after b fault first there h i bits o =
 
 pub coder_same : (coders : List (Option Coder)) (k : ℕ) (d : Option Coder) (x y : Coder) → slot_value (slice_get coders k) ≡ Some y → get_or coders k d ≡ Some x → x ≡ y
 coder_same [] k d x y e f = absurd cc
-coder_same (o ∷ coders) zero d x y e f = some_same x y (sym f ∙ e)
+coder_same (o ∷ coders) zero d x y e f = some_once x y (sym f ∙ e)
 coder_same (o ∷ coders) (suc k) d x y e f = coder_same coders k d x y e f

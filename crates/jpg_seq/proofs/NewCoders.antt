@@ -7,7 +7,6 @@ use Rattle.std.proofs.lemmas.Int.{ints}
 use Rattle.std.proofs.lemmas.List.{length-set, length-map, get_or-map}
 use Rattle.std.proofs.lemmas.List.Elements.{All-weaker}
 use Rattle.std.proofs.lemmas.Bool.{cases_eq, cases_lt}
-use Rattle.std.proofs.lemmas.Bool.Decides.{nat_tests}
 use Rattle.jpg_spec.specs.Lists.{is_among, is_distinct, index_of, slot_value}
 use Rattle.jpg_spec.specs.Elements.{Coding}
 use Rattle.jpg_spec.specs.Geometry.{Frame, bounds, is_progressive, units}
@@ -20,6 +19,7 @@ use Rattle.jpg_spec.specs.declared.frame.ScanPart.{ScanPart}
 use Rattle.jpg_spec.specs.PictureInWork.{AreDistinct}
 use Rattle.jpg_spec.proofs.PlacesDistinct.{units_distinct}
 use Rattle.jpg_spec.proofs.Sound.{sound}
+use Rattle.jpg_spec.proofs.Common.{not_same, same_itself}
 use Rattle.jpg_base.proofs.ScanPlaces.{IsOneOf, units_in}
 use Rattle.jpg_huff.specs.declared.set.TableSet.{TableSet}
 use Rattle.jpg_huff.specs.Sets.{dc_tables, ac_tables, in_slot}
@@ -30,7 +30,7 @@ use Rattle.jpg_seq.specs.declared.work.Coder.{Coder}
 use Rattle.jpg_seq.specs.Step.{AreSane}
 use Rattle.jpg_seq.specs.Stands.{IsCodingOf}
 use Rattle.jpg_seq.specs.Plain.{in_force}
-use Rattle.jpg_seq.specs.Reader.{IsReadable, ReadsBy, SeqReady}
+use Rattle.jpg_seq.specs.Reader.{IsPlaceReadable, ReadsBy, SeqReady}
 use Rattle.jpg_seq.specs.NewReader.{IsSeqScan, IsOfScan, IsCoderOf, AreFilled, part_at}
 use Rattle.jpg_seq.proofs.Forced.{valid, codes_found}
 
@@ -85,12 +85,6 @@ filled_more tables parts n coders o coder f small is of =
     }
 
 -- THE PART OF A COMPONENT
-
-same_itself : (k : ℕ) → (k == k) ≡ true
-same_itself k = grind (arith, nat_tests)
-
-not_same : (i k : ℕ) → (i ≡ k → ⊥) → (i == k) ≡ false
-not_same i k n = grind (arith, nat_tests)
 
 among : (ids : List ℕ) (j m : ℕ) → j < length ids → get_or ids j 0 ≡ m → is_among m ids ≡ true
 among [] j m h e = absurd (omega arith)
@@ -156,8 +150,8 @@ pub new_ready : (f : Frame) (head : ScanHead) (set : TableSet) (m : SeqReader) �
 new_ready f head set m frame is b filled cursor four left i of =
     let ids = head_components head in
     let n : length ids ≡ length head.parts = length-map head.parts (λ (p : ScanPart). p.component) in
-    let all : All (IsReadable m f) (units f ids) =
-    All-weaker (IsOneOf f ids) (IsReadable m f)
+    let all : All (IsPlaceReadable m f) (units f ids) =
+    All-weaker (IsOneOf f ids) (IsPlaceReadable m f)
     (λ p o. (let t = filled.there o.index (omega (arith, o.there, n)) in
     let e : (part_at head.parts o.index).component ≡ p.component = sym (component_at_part head.parts o.index (omega (arith, o.there, n))) ∙ o.same in
     record {
@@ -168,8 +162,8 @@ new_ready f head set m frame is b filled cursor four left i of =
     }))
     (units f ids) (units_in f ids frame is.components) in
     let G : Coding → Type 0 = λ c. ReadsBy m c in
-    let P : List Place → Type 0 = λ l. All (IsReadable m f) l in
-    let F : Frame → Type 0 = λ g. All (IsReadable m g) (i.places ++ i.later) in
+    let P : List Place → Type 0 = λ l. All (IsPlaceReadable m f) l in
+    let F : Frame → Type 0 = λ g. All (IsPlaceReadable m g) (i.places ++ i.later) in
     record {
       reads = subst G (sym of.coding) (record {
         sane = subst (λ (x : Bounds). AreSane x) (sym b) (bounds_sane f);

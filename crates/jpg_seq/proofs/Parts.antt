@@ -7,7 +7,7 @@ use Rattle.jpg_spec.specs.Parts.{PartOfElement, in_code, in_difference, in_numbe
 use Rattle.jpg_spec.specs.declared.frame.Bounds.{Bounds}
 use Rattle.jpg_seq.specs.InWork.{InWork}
 use Rattle.jpg_seq.specs.Stands.{IsCodingOf, MayStand, IsPart, standing_at, unit_in_work, codes_next}
-use Rattle.jpg_seq.specs.Work.{Env, next_codes, Reads, IsPartOf}
+use Rattle.jpg_seq.specs.Work.{Env, next_codes, ReadsComponent, IsPartOf}
 use Rattle.jpg_seq.proofs.Elements.{left_at, zeros_in_zeros}
 use Rattle.jpg_seq.proofs.Items.{codes_same}
 
@@ -38,7 +38,7 @@ number_part c b dc ac i p others (v ∷ values) part code rest run size k less t
     }) short
 
 -- where elements are taken at once
-pub work_part : (c : Coding) (e : Env) (i : ℕ) (p : ℕ → ℤ) (others : List UnitLeft) (values : List ℤ) (part : List Bool) → Reads e c i p → length values < 64
+pub work_part : (c : Coding) (e : Env) (i : ℕ) (p : ℕ → ℤ) (others : List UnitLeft) (values : List ℤ) (part : List Bool) → ReadsComponent e c i p → length values < 64
     → IsPartOf e values part → PartOfElement c (standing_at p i others values) (unit_in_work i values) others [] part
 work_part c e i p others values part r less h = by h
   where

@@ -5,14 +5,13 @@ use Rattle.std.specs.List.{flat_map}
 use Rattle.std.proofs.lemmas.List.{append_assoc, append-nil, length-append}
 use Rattle.std.proofs.lemmas.List.Elements.{All-push, All-nil}
 use Rattle.std.proofs.lemmas.Grind.{flat_map-append}
-use Rattle.jpg_spec.specs.Elements.{Element, Coding, UnitLeft, Standing, Covers, going_on, predicted, zeros, at_start}
-use Rattle.jpg_spec.specs.GrayFile.{new_unit}
+use Rattle.jpg_spec.specs.Elements.{Element, Coding, UnitLeft, Standing, Covers, going_on, predicted, zeros, at_start, new_unit}
 use Rattle.jpg_spec.specs.ScanFaults.{DataShows}
 use Rattle.jpg_spec.specs.Sound.{IsSound}
 use Rattle.jpg_spec.specs.declared.fault.Fault.{Fault}
-use Rattle.jpg_spec.proofs.Once.{clash}
 use Rattle.jpg_spec.proofs.Bands.{covers_then}
 use Rattle.jpg_spec.proofs.Sound.{fault_excludes}
+use Rattle.jpg_spec.proofs.Common.{clash, part_more, last_split}
 use Rattle.jpg_seq.specs.declared.plain.Reading.{Reading}
 use Rattle.jpg_seq.specs.InWork.{InWork, IsOpen, fresh}
 use Rattle.jpg_seq.specs.Stands.{open_unit, unit_in_work, standing_at, Stands, UnitShows}
@@ -52,9 +51,6 @@ start c count s f =
       pads = λ h. f.pad;
     }
 
-join_part : (bits front part : List Bool) (next : Bool) → bits ≡ front ++ part → bits ++ next ∷ [] ≡ front ++ (part ++ next ∷ [])
-join_part bits front part next e = ap (λ z. z ++ next ∷ []) e ∙ append_assoc front part (next ∷ [])
-
 pub step_more : (c : Coding) (count : ℕ) (bits : List Bool) (next : Bool) (s : Reading) (unit : InWork) → length s.blocks < count → (f : Reads c count bits s)
     → Stands c f.predictions 0 (new_units (count - length s.blocks - 1)) (f.part ++ next ∷ []) unit → Reads c count (bits ++ next ∷ []) (record s { unit = unit })
 step_more c count bits next s unit lt f h =
@@ -66,7 +62,7 @@ step_more c count bits next s unit lt f h =
       most = f.most;
       sizes = f.sizes;
       covers = f.covers;
-      split = join_part bits f.front f.part next f.split;
+      split = part_more bits f.front f.part next f.split;
       predicts = f.predicts;
       in_work = λ k. h;
       quiet = f.quiet;
@@ -104,7 +100,7 @@ pub step_fault : (c : Coding) (count : ℕ) (bits : List Bool) (next : Bool) (s 
 step_fault c count bits next s shown sound plain lt f h = λ told cits x y spelled e.
     fault_excludes c (new_units count) shown told (bits ++ next ∷ []) cits x y sound
     (unit_shows c (new_units count) (new_units (count - length s.blocks - 1)) f.predictions f.elements (flat s.blocks) f.front (f.part ++ next ∷ []) (bits ++ next ∷ []) shown plain
-    (next_covers c count bits s lt f) h (join_part bits f.front f.part next f.split)) spelled e
+    (next_covers c count bits s lt f) h (part_more bits f.front f.part next f.split)) spelled e
 
 -- predictions behind a block
 behind : (ℕ → ℤ) → List ℤ → ℕ → ℤ
@@ -149,7 +145,7 @@ step_done c count bits next s new block lt f whole h is =
       sizes = All-push (λ b. length b ≡ 64) s.blocks block f.sizes whole;
       covers = subst Q t (subst R (sym (flat_more s.blocks block))
           (covers_then c (at_start (new_units count)) (standing_at p 0 others []) (standing_at p 0 others block) f.elements h.0 (flat s.blocks) block f.front (f.part ++ next ∷ []) (next_covers c count bits s lt f) h.1));
-      split = join_part bits f.front f.part next f.split ∙ sym (append-nil (f.front ++ (f.part ++ next ∷ [])));
+      split = part_more bits f.front f.part next f.split ∙ sym (append-nil (f.front ++ (f.part ++ next ∷ [])));
       predicts = behind_is p block whole;
       in_work = λ k. stands_fresh c (behind p block) 0 (new_units (count - length (s.blocks ++ block ∷ []) - 1));
       quiet = λ k. f.quiet lt;
@@ -166,7 +162,7 @@ step_pad c count bits next s pad le f is =
       most = f.most;
       sizes = f.sizes;
       covers = f.covers;
-      split = join_part bits f.front f.part next f.split;
+      split = part_more bits f.front f.part next f.split;
       predicts = f.predicts;
       in_work = λ k. absurd (omega arith);
       quiet = λ k. absurd (omega arith);
@@ -187,15 +183,12 @@ none_more c count bits front more none e = λ told cits x y spelled same. none t
 pub list_start : (c : Coding) (count : ℕ) (so_far : List Bool) (s : Reading) → Reads c count so_far s → Reads c count (so_far ++ []) s
 list_start c count so_far s f = subst (λ b. Reads c count b s) (sym (append-nil so_far)) f
 
-grown : (so_far front longer : List Bool) (bit : Bool) → longer ≡ front ++ bit ∷ [] → (so_far ++ front) ++ bit ∷ [] ≡ so_far ++ longer
-grown so_far front longer bit e = append_assoc so_far front (bit ∷ []) ∙ ap (λ z. so_far ++ z) (sym e)
-
 pub list_more : (c : Coding) (count : ℕ) (so_far front longer : List Bool) (bit : Bool) (s : Reading) → longer ≡ front ++ bit ∷ [] → Reads c count ((so_far ++ front) ++ bit ∷ []) s → Reads c count (so_far ++ longer) s
-list_more c count so_far front longer bit s e f = subst (λ b. Reads c count b s) (grown so_far front longer bit e) f
+list_more c count so_far front longer bit s e f = subst (λ b. Reads c count b s) (last_split so_far front longer bit e) f
 
 pub list_bad : (c : Coding) (count : ℕ) (so_far front longer bits more : List Bool) (bit : Bool) → longer ≡ front ++ bit ∷ [] → longer ++ more ≡ bits → NoneSpelled c count ((so_far ++ front) ++ bit ∷ []) → NoneSpelled c count (so_far ++ bits)
 list_bad c count so_far front longer bits more bit e r none =
-    none_more c count (so_far ++ bits) ((so_far ++ front) ++ bit ∷ []) more none (ap (λ z. so_far ++ z) (sym r) ∙ sym (append_assoc so_far longer more) ∙ ap (λ z. z ++ more) (sym (grown so_far front longer bit e)))
+    none_more c count (so_far ++ bits) ((so_far ++ front) ++ bit ∷ []) more none (ap (λ z. so_far ++ z) (sym r) ∙ sym (append_assoc so_far longer more) ∙ ap (λ z. z ++ more) (sym (last_split so_far front longer bit e)))
 
 pub list_end : (c : Coding) (count : ℕ) (so_far front bits : List Bool) (s : Reading) → front ≡ bits → Reads c count (so_far ++ front) s → Reads c count (so_far ++ bits) s
 list_end c count so_far front bits s e f = subst (λ b. Reads c count (so_far ++ b) s) e f

@@ -2,10 +2,9 @@
 use Rattle.std.proofs.Common.{◌≡◌, ℕ, ◌+◌, ◌-◌, ◌*◌, ◌<◌, ◌≤◌, Bool, List, [], ◌∷◌, ◌++◌, length, refl, sym, ap, ◌∙◌, subst, arith, ℤ, pos, min}
 use Rattle.std.specs.List.{Contains}
 use Rattle.std.proofs.lemmas.List.{append_assoc, append-nil}
-use Rattle.jpg_spec.specs.Bits.{bits_of}
 use Rattle.jpg_spec.specs.Codes.{Code}
-use Rattle.jpg_spec.specs.Numbers.{digits, category, extra_bits}
-use Rattle.jpg_spec.specs.Elements.{Element, value, long_run, ends, Coding, UnitLeft, Covers, SpellsElement, zeros, symbol_of, bits_behind}
+use Rattle.jpg_spec.specs.Numbers.{category, extra_bits}
+use Rattle.jpg_spec.specs.Elements.{Element, value, long_run, ends, Coding, UnitLeft, Covers, SpellsElement, zeros, symbol_of}
 use Rattle.jpg_spec.specs.declared.frame.Bounds.{Bounds}
 use Rattle.jpg_spec.specs.declared.fault.Fault.TheVariants as fault
 use Rattle.jpg_huff.specs.Walk.{BeginsNoCode}
@@ -17,23 +16,8 @@ use Rattle.jpg_seq.specs.Step.{AreSane, AfterFirst, AfterCover}
 use Rattle.jpg_seq.specs.Stands.{IsCodingOf, standing_at, codes_next, MayStand, Stands, UnitShows, Answered}
 use Rattle.jpg_seq.proofs.Elements.{TellsHere, value_tells, run_tells, end_tells}
 use Rattle.jpg_seq.proofs.Steps.{in_code, in_number, split_more, code_more, code_none, code_bad_first, code_bad, code_bad_run, code_number, extra_more, after_element, after_first}
-
--- the symbols and bits of an EOB and of a difference of 0
-end_symbol : symbol_of (ends 1 []) ≡ 0
-unfolding digits
-end_symbol = refl
-
-end_bits : bits_behind (ends 1 []) ≡ []
-unfolding digits bits_of
-end_bits = refl
-
-zero_category : category (pos 0) ≡ 0
-unfolding digits
-zero_category = refl
-
-zero_bits : extra_bits (pos 0) ≡ []
-unfolding digits bits_of
-zero_bits = refl
+use Rattle.jpg_seq.proofs.Items.{end_bits, end_symbol}
+use Rattle.jpg_spec.proofs.Small.{zero_bits, zero_category}
 
 -- the codes of the first value, and of the others
 pub dc_next : (c : Coding) (b : Bounds) (dc ac : List Code) (i : ℕ) (values : List ℤ) → IsCodingOf b dc ac c i → values ≡ [] → dc ≡ codes_next c i values

@@ -19,8 +19,8 @@ use Rattle.jpg_seq.specs.declared.reader.SeqReader.{SeqReader}
 use Rattle.jpg_seq.specs.declared.work.Coder.{Coder}
 use Rattle.jpg_seq.specs.declared.work.Took.TheVariants as took
 use Rattle.jpg_coefs.specs.declared.machine.UnitFault.{UnitFault}
-use Rattle.jpg_seq.specs.Work.{Work, Leads, no_work}
-use Rattle.jpg_seq.specs.Reader.{coder_at, behind, with_work, new_units_at, IsReadable, CanRead, ReadsOn, SeqStands, SeqReady, sequential}
+use Rattle.jpg_seq.specs.Work.{Work, StepsThrough, no_work}
+use Rattle.jpg_seq.specs.Reader.{coder_at, behind, with_work, new_units_at, IsPlaceReadable, CanRead, ReadsOn, SeqStands, SeqReady, sequential}
 use Rattle.jpg_seq.specs.SoFar.{SoFar}
 use Rattle.jpg_seq.proofs.Machines.{env_at, next_is, after_unit, chain_within, step_unit, step_last, step_fault, some_places, fresh_work}
 
@@ -33,13 +33,13 @@ has_place m i bits now o = omega (arith, ap length o.cursor)
 pub can_read : (m : SeqReader) (i : Interval) (bits : List Bool) (now : Picture) (p : Place) → slice_get m.cursor 0 ≡ Some p → SeqStands m i bits now → CanRead m p.component
 can_read m i bits now p first o =
     let n = next_is m i bits now p first o in
-    let r = All-head (IsReadable m i.before.frame) o.next (o.more ++ i.later) o.spots in
+    let r = All-head (IsPlaceReadable m i.before.frame) o.next (o.more ++ i.later) o.spots in
     subst (λ (q : Place). CanRead m q.component) n (record { small = r.small; sane = o.reads.sane; coder = r.coder; there = r.there; at_work = o.at_work r.coder r.there })
 
 pub can_put : (m : SeqReader) (i : Interval) (bits : List Bool) (now : Picture) (p : Place) → slice_get m.cursor 0 ≡ Some p → SeqStands m i bits now → IsPadded now.frame p.component p.x p.y
 can_put m i bits now p first o =
     let n = next_is m i bits now p first o in
-    let r = All-head (IsReadable m i.before.frame) o.next (o.more ++ i.later) o.spots in
+    let r = All-head (IsPlaceReadable m i.before.frame) o.next (o.more ++ i.later) o.spots in
     let f : i.before.frame ≡ now.frame = sym o.frame in
     subst (λ (g : Frame). IsPadded g p.component p.x p.y) f (subst (λ (q : Place). IsPadded i.before.frame q.component q.x q.y) n r.padded)
 
@@ -63,7 +63,7 @@ pub record UpTo (most : ℕ) (m0 : SeqReader) (now0 : Picture) (store0 : List Bo
 
 up_to : (most : ℕ) (m0 : SeqReader) (now0 : Picture) (store0 : List Bool) (m : SeqReader) (now : Picture) (store : List Bool) (done : ℕ) (p : Place) (coder : Coder) (bits front : List Bool) (bit : Bool) (mid : Work) (rest : List Bool)
     (answer : Result UnitStep UnitFault) (new : SeqReader) (after : Picture) → slice_get m.cursor 0 ≡ Some p → coder_at m p.component ≡ Some coder → SoFar most m0 now0 store0 m now store done → store ≡ bits ++ rest → bits ≡ front ++ bit ∷ []
-    → Leads (env_at m coder p.component) m.unit front mid → Step sequential (with_work m mid) now bit answer new after → UpTo most m0 now0 store0 rest answer new after
+    → StepsThrough (env_at m coder p.component) m.unit front mid → Step sequential (with_work m mid) now bit answer new after → UpTo most m0 now0 store0 rest answer new after
 up_to most m0 now0 store0 m now store done p coder bits front bit mid rest answer new after first there s split cut leads one =
     let c = chain_within m p coder now front m.unit mid first there leads in
     record {
@@ -160,9 +160,9 @@ begins m new i units r count some is =
     let target : SeqReader = record m { unit = no_work; predictions = pos 0 ∷ pos 0 ∷ pos 0 ∷ pos 0 ∷ []; left = units } in
     let places : i.places ++ i.later ≡ l.0 ∷ (l.1 ++ i.later) = ap (λ (z : List Place). z ++ i.later) l.2 in
     let P : SeqReader → Type 0 = λ q. SeqStands q i [] i.before in
-    let T : List Place → Type 0 = λ z. All (IsReadable target i.before.frame) z in
+    let T : List Place → Type 0 = λ z. All (IsPlaceReadable target i.before.frame) z in
     let S : List Place → Type 0 = λ z. Covers i.scan.coding (at_start (units_of i)) [] [] [] (record { predictions = λ k. pos 0; left = new_units_at z }) in
-    let all = All-weaker (IsReadable m i.before.frame) (IsReadable target i.before.frame) (λ q s. record { small = s.small; padded = s.padded; coder = s.coder; there = s.there }) (i.places ++ i.later) r.spots in
+    let all = All-weaker (IsPlaceReadable m i.before.frame) (IsPlaceReadable target i.before.frame) (λ q s. record { small = s.small; padded = s.padded; coder = s.coder; there = s.there }) (i.places ++ i.later) r.spots in
     subst P (sym is) (record {
       reads = record { sane = r.reads.sane; codes = r.reads.codes };
       kind = r.kind;

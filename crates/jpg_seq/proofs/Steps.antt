@@ -4,8 +4,7 @@ use Rattle.std.specs.List.{Contains}
 use Rattle.std.proofs.lemmas.List.{append_assoc, append-nil}
 use Rattle.jpg_spec.specs.Codes.{Code}
 use Rattle.jpg_spec.specs.Numbers.{category}
-use Rattle.jpg_spec.specs.Elements.{Element, difference, Coding, UnitLeft, Covers, SpellsElement, zeros, going_on}
-use Rattle.jpg_spec.specs.GrayFile.{new_unit}
+use Rattle.jpg_spec.specs.Elements.{Element, difference, Coding, UnitLeft, Covers, SpellsElement, zeros, going_on, new_unit}
 use Rattle.jpg_spec.specs.ScanFaults.{BitsShow}
 use Rattle.jpg_spec.specs.declared.frame.Bounds.{Bounds}
 use Rattle.jpg_spec.specs.declared.fault.Fault.{Fault}

@@ -7,17 +7,18 @@ use Rattle.std.proofs.lemmas.Bool.{cases_lt}
 use Rattle.jpg_coefs.specs.declared.machine.UnitFault.{UnitFault}
 use Rattle.jpg_seq.specs.declared.work.Took.{Took}
 use Rattle.jpg_seq.specs.declared.work.Took.TheVariants.{More, Empty, Done, Fault}
-use Rattle.jpg_seq.specs.Work.{Work, Env, IsPartOf, Adds, ShowsBehind, FrontsAre, NoPartBegins, IsElement, IsShown, StepsTo, Leads, ComesTo, IsAtWork, StaysAtWork, IsCovered, GrowsOn, Takes}
+use Rattle.jpg_seq.specs.Work.{Work, Env, IsPartOf, Adds, BitsShowBehind, FrontsAre, NoPartBegins, IsElement, IsShownFault, StepsTo, StepsThrough, ComesTo, IsAtWork, StaysAtWork, IsUnitCovered, GrowsOn, TakesFromStore}
 use Rattle.jpg_seq.proofs.Items.{cut, some_of}
+use Rattle.jpg_spec.proofs.Common.{last_split}
 
 abbrev at : List ℤ → List Bool → Work
 at values part = record { values = values; part = part }
 
-pub leads_then : (e : Env) (s mid t : Work) (xs ys : List Bool) → Leads e s xs mid → Leads e mid ys t → Leads e s (xs ++ ys) t
-leads_then e s mid t [] ys h k = subst (λ m. Leads e m ys t) h k
+pub leads_then : (e : Env) (s mid t : Work) (xs ys : List Bool) → StepsThrough e s xs mid → StepsThrough e mid ys t → StepsThrough e s (xs ++ ys) t
+leads_then e s mid t [] ys h k = subst (λ m. StepsThrough e m ys t) h k
 leads_then e s mid t (b ∷ xs) ys h k = (h.0, h.1, leads_then e h.0 mid t xs ys h.2 k)
 
-pub comes_then : (e : Env) (s mid t : Work) (xs ys : List Bool) (answer : Took) → Leads e s xs mid → ComesTo e mid ys answer t → ComesTo e s (xs ++ ys) answer t
+pub comes_then : (e : Env) (s mid t : Work) (xs ys : List Bool) (answer : Took) → StepsThrough e s xs mid → ComesTo e mid ys answer t → ComesTo e s (xs ++ ys) answer t
 comes_then e s mid t xs ys More h k = leads_then e s mid t xs ys h k
 comes_then e s mid t xs ys Empty h k = leads_then e s mid t xs ys h k
 comes_then e s mid t xs ys Done h k =
@@ -30,7 +31,7 @@ pub record ToLast (e : Env) (values : List ℤ) (p y : List Bool) : Type 0 where
   pub front : List Bool
   pub bit : Bool
   pub split : y ≡ front ++ bit ∷ []
-  pub leads : Leads e (at values p) front (at values (p ++ front))
+  pub leads : StepsThrough e (at values p) front (at values (p ++ front))
 
 pub to_last : (e : Env) (values : List ℤ) (w p y : List Bool) → w ≡ p ++ y → 1 ≤ length y → FrontsAre e values w → ToLast e values p y
 to_last e values w p [] s h fronts = absurd (omega arith)
@@ -42,21 +43,18 @@ to_last e values w p (b ∷ d ∷ y) s h fronts =
       front = b ∷ r.front;
       bit = r.bit;
       split = ap (λ z. b ∷ z) r.split;
-      leads = (at values (p ++ b ∷ []), inl (refl, fronts (p ++ b ∷ []) (d ∷ y) q (omega arith)), subst (λ m. Leads e (at values (p ++ b ∷ [])) r.front m) (ap (at values) (append_assoc p (b ∷ []) r.front)) r.leads);
+      leads = (at values (p ++ b ∷ []), inl (refl, fronts (p ++ b ∷ []) (d ∷ y) q (omega arith)), subst (λ m. StepsThrough e (at values (p ++ b ∷ [])) r.front m) (ap (at values) (append_assoc p (b ∷ []) r.front)) r.leads);
     }
 
-last_split : (p front y : List Bool) (bit : Bool) → y ≡ front ++ bit ∷ [] → (p ++ front) ++ bit ∷ [] ≡ p ++ y
-last_split p front y bit s = append_assoc p front (bit ∷ []) ∙ ap (λ z. p ++ z) (sym s)
-
 -- an element whose first bits waited
-pub element_comes : (e : Env) (values : List ℤ) (w p y : List Bool) (here : List ℤ) (answer : Took) (t : Work) → w ≡ p ++ y → 1 ≤ length y → IsElement e values w here → t ≡ at (values ++ here) [] → IsCovered t answer
+pub element_comes : (e : Env) (values : List ℤ) (w p y : List Bool) (here : List ℤ) (answer : Took) (t : Work) → w ≡ p ++ y → 1 ≤ length y → IsElement e values w here → t ≡ at (values ++ here) [] → IsUnitCovered t answer
     → ComesTo e (at values p) y answer t
 element_comes e values w p y here More t s h el is cov =
     let r = to_last e values w p y s h el.fronts in
     let A : List Bool → Type 0 = λ b. Adds e values b here in
     let less : length (values ++ here) < 64 = omega (arith, cov, ap (λ (x : Work). length x.values) is) in
     let step : StepsTo e (at values (p ++ r.front)) r.bit t = inr (here, is, subst A (s ∙ sym (last_split p r.front y r.bit r.split)) el.adds, less) in
-    subst (λ z. Leads e (at values p) z t) (sym r.split) (leads_then e (at values p) (at values (p ++ r.front)) t r.front (r.bit ∷ []) r.leads (t, step, refl))
+    subst (λ z. StepsThrough e (at values p) z t) (sym r.split) (leads_then e (at values p) (at values (p ++ r.front)) t r.front (r.bit ∷ []) r.leads (t, step, refl))
 element_comes e values w p y here Done t s h el is cov =
     let r = to_last e values w p y s h el.fronts in
     let A : List Bool → Type 0 = λ b. Adds e values b here in
@@ -65,14 +63,14 @@ element_comes e values w p y here Done t s h el is cov =
 element_comes e values w p y here Empty t s h el is cov = absurd cov
 element_comes e values w p y here (Fault fault) t s h el is cov = absurd cov
 
-pub shown_comes : (e : Env) (values : List ℤ) (w p y : List Bool) (fault : UnitFault) (t : Work) → w ≡ p ++ y → 1 ≤ length y → IsShown e values w fault → ComesTo e (at values p) y (Fault fault) t
+pub shown_comes : (e : Env) (values : List ℤ) (w p y : List Bool) (fault : UnitFault) (t : Work) → w ≡ p ++ y → 1 ≤ length y → IsShownFault e values w fault → ComesTo e (at values p) y (Fault fault) t
 shown_comes e values w p y fault t s h sh =
     let r = to_last e values w p y s h sh.fronts in
-    let A : List Bool → Type 0 = λ b. ShowsBehind e values fault b in
+    let A : List Bool → Type 0 = λ b. BitsShowBehind e values fault b in
     (r.front, r.bit, at values (p ++ r.front), r.split, r.leads, subst A (s ∙ sym (last_split p r.front y r.bit r.split)) sh.shows)
 
 -- all bits are a part of an element
-pub part_leads : (e : Env) (values : List ℤ) (p y : List Bool) → IsPartOf e values (p ++ y) → Leads e (at values p) y (at values (p ++ y))
+pub part_leads : (e : Env) (values : List ℤ) (p y : List Bool) → IsPartOf e values (p ++ y) → StepsThrough e (at values p) y (at values (p ++ y))
 part_leads e values p y part = more p y (fronts_of e values p y part)
   where
     -- each front of a part is one
@@ -96,13 +94,13 @@ part_leads e values p y part = more p y (fronts_of e values p y part)
     fronts_of : (e : Env) (values : List ℤ) (p y : List Bool) → IsPartOf e values (p ++ y) → (x z : List Bool) → p ++ y ≡ x ++ z → IsPartOf e values x
     fronts_of e values p y part x z s = part_front e values x z (subst (λ q. IsPartOf e values q) s part)
 
-    more : (p y : List Bool) → ((x z : List Bool) → p ++ y ≡ x ++ z → IsPartOf e values x) → Leads e (at values p) y (at values (p ++ y))
+    more : (p y : List Bool) → ((x z : List Bool) → p ++ y ≡ x ++ z → IsPartOf e values x) → StepsThrough e (at values p) y (at values (p ++ y))
     more p [] each = ap (at values) (append-nil p)
     more p (b ∷ y) each =
         let q : p ++ b ∷ y ≡ (p ++ b ∷ []) ++ y = sym (append_assoc p (b ∷ []) y) in (
           at values (p ++ b ∷ []),
           inl (refl, each (p ++ b ∷ []) y q),
-          subst (λ m. Leads e (at values (p ++ b ∷ [])) y m) (ap (at values) (sym q)) (more (p ++ b ∷ []) y (λ x z s. each x z (q ∙ s))),
+          subst (λ m. StepsThrough e (at values (p ++ b ∷ [])) y m) (ap (at values) (sym q)) (more (p ++ b ∷ []) y (λ x z s. each x z (q ∙ s))),
         )
 
 -- FROM A STORE
@@ -123,13 +121,13 @@ part_shorter e values p more n part le ends =
     (λ (b : n ≤ length p). absurd (ends p (drop n p) part (sym (take-append-drop n p) ∙ ap (λ z. z ++ drop n p) (sym (take-append-le n p more b)))))
     (cases_lt (length p) n)
 
-covered_stays : (e : Env) (t : Work) (answer : Took) → IsCovered t answer → t.part ≡ [] → StaysAtWork e answer t
+covered_stays : (e : Env) (t : Work) (answer : Took) → IsUnitCovered t answer → t.part ≡ [] → StaysAtWork e answer t
 covered_stays e t More cov none = (cov, none)
 covered_stays e t Done cov none = (cov, none)
 covered_stays e t Empty cov none = absurd cov
 covered_stays e t (Fault fault) cov none = absurd cov
 
-not_empty : (t : Work) (rest : List Bool) (answer : Took) → IsCovered t answer → answer ≡ Empty → rest ≡ []
+not_empty : (t : Work) (rest : List Bool) (answer : Took) → IsUnitCovered t answer → answer ≡ Empty → rest ≡ []
 not_empty t rest More cov h = absurd cc
 not_empty t rest Done cov h = absurd cc
 not_empty t rest Empty cov h = absurd cov
@@ -137,7 +135,7 @@ not_empty t rest (Fault fault) cov h = absurd cov
 
 -- what waits, and bits of the store behind it
 pub element_takes : (e : Env) (s t : Work) (store rest : List Bool) (n : ℕ) (here : List ℤ) (answer : Took) → IsAtWork e s → n ≤ length (s.part ++ take 32 store) → IsElement e s.values (take n (s.part ++ take 32 store)) here
-    → rest ≡ drop (n - length s.part) store → t ≡ at (s.values ++ here) [] → IsCovered t answer → Takes e s store answer t rest
+    → rest ≡ drop (n - length s.part) store → t ≡ at (s.values ++ here) [] → IsUnitCovered t answer → TakesFromStore e s store answer t rest
 element_takes e s t store rest n here answer w le el is to cov =
     let lt = part_shorter e s.values s.part (take 32 store) n w.part le el.ends in
     let y = take (n - length s.part) store in
@@ -150,8 +148,8 @@ element_takes e s t store rest n here answer w le el is to cov =
       not_empty t rest answer cov,
     )
 
-pub shown_takes : (e : Env) (s t : Work) (store rest : List Bool) (n : ℕ) (fault : UnitFault) → IsAtWork e s → n ≤ length (s.part ++ take 32 store) → IsShown e s.values (take n (s.part ++ take 32 store)) fault
-    → rest ≡ drop (n - length s.part) store → Takes e s store (Fault fault) t rest
+pub shown_takes : (e : Env) (s t : Work) (store rest : List Bool) (n : ℕ) (fault : UnitFault) → IsAtWork e s → n ≤ length (s.part ++ take 32 store) → IsShownFault e s.values (take n (s.part ++ take 32 store)) fault
+    → rest ≡ drop (n - length s.part) store → TakesFromStore e s store (Fault fault) t rest
 shown_takes e s t store rest n fault w le sh is =
     let lt = part_shorter e s.values s.part (take 32 store) n w.part le sh.ends in
     let y = take (n - length s.part) store in
@@ -163,20 +161,20 @@ shown_takes e s t store rest n fault w le sh is =
 pub all_there : (p store : List Bool) → length (p ++ take 32 store) < 32 → p ++ take 32 store ≡ p ++ store
 all_there p store h = ap (λ z. p ++ z) (take_all 32 store (omega (arith, length-append p (take 32 store), length-take 32 store)))
 
-pub part_takes : (e : Env) (s t : Work) (store rest : List Bool) → IsAtWork e s → IsPartOf e s.values (s.part ++ store) → t ≡ at s.values (s.part ++ store) → rest ≡ [] → Takes e s store Empty t rest
+pub part_takes : (e : Env) (s t : Work) (store rest : List Bool) → IsAtWork e s → IsPartOf e s.values (s.part ++ store) → t ≡ at s.values (s.part ++ store) → rest ≡ [] → TakesFromStore e s store Empty t rest
 part_takes e s t store rest w part to none =
     let P : List Bool → Type 0 = λ z. store ≡ store ++ z in
     let W : Work → Type 0 = λ x. IsAtWork e x in
-    (store, subst P (sym none) (sym (append-nil store)), subst (λ m. Leads e s store m) (sym to) (part_leads e s.values s.part store part), subst W (sym to) (record { left = w.left; part = part }), λ h. none)
+    (store, subst P (sym none) (sym (append-nil store)), subst (λ m. StepsThrough e s store m) (sym to) (part_leads e s.values s.part store part), subst W (sym to) (record { left = w.left; part = part }), λ h. none)
 
 -- further bits
-pub takes_then : (e : Env) (s mid t : Work) (store between rest : List Bool) (answer : Took) → Takes e s store More mid between → Takes e mid between answer t rest → Takes e s store answer t rest
+pub takes_then : (e : Env) (s mid t : Work) (store between rest : List Bool) (answer : Took) → TakesFromStore e s store More mid between → TakesFromStore e mid between answer t rest → TakesFromStore e s store answer t rest
 takes_then e s mid t store between rest answer h k =
     (h.0 ++ k.0, h.1 ∙ ap (λ z. h.0 ++ z) k.1 ∙ sym (append_assoc h.0 k.0 rest), comes_then e s mid t h.0 k.0 answer h.2 k.2, k.3, k.4)
 
 -- the same where nothing waited
 pub direct_element : (e : Env) (s t : Work) (store rest : List Bool) (n : ℕ) (here : List ℤ) (answer : Took) → s.part ≡ [] → 1 ≤ n → n ≤ length store → IsElement e s.values (take n store) here
-    → rest ≡ drop n store → t ≡ at (s.values ++ here) [] → IsCovered t answer → Takes e s store answer t rest
+    → rest ≡ drop n store → t ≡ at (s.values ++ here) [] → IsUnitCovered t answer → TakesFromStore e s store answer t rest
 direct_element e s t store rest n here answer none some le el is to cov =
     let C : List Bool → Type 0 = λ p. ComesTo e (at s.values p) (take n store) answer t in (
       take n store,
@@ -186,8 +184,8 @@ direct_element e s t store rest n here answer none some le el is to cov =
       not_empty t rest answer cov,
     )
 
-pub direct_shown : (e : Env) (s t : Work) (store rest : List Bool) (n : ℕ) (fault : UnitFault) → s.part ≡ [] → 1 ≤ n → n ≤ length store → IsShown e s.values (take n store) fault
-    → rest ≡ drop n store → Takes e s store (Fault fault) t rest
+pub direct_shown : (e : Env) (s t : Work) (store rest : List Bool) (n : ℕ) (fault : UnitFault) → s.part ≡ [] → 1 ≤ n → n ≤ length store → IsShownFault e s.values (take n store) fault
+    → rest ≡ drop n store → TakesFromStore e s store (Fault fault) t rest
 direct_shown e s t store rest n fault none some le sh is =
     let C : List Bool → Type 0 = λ p. ComesTo e (at s.values p) (take n store) (Fault fault) t in (
       take n store,
@@ -197,13 +195,13 @@ direct_shown e s t store rest n fault none some le sh is =
       λ h. absurd cc,
     )
 
-pub direct_part : (e : Env) (s t : Work) (store rest : List Bool) → length s.values < 64 → s.part ≡ [] → IsPartOf e s.values store → t ≡ at s.values (s.part ++ store) → rest ≡ [] → Takes e s store Empty t rest
+pub direct_part : (e : Env) (s t : Work) (store rest : List Bool) → length s.values < 64 → s.part ≡ [] → IsPartOf e s.values store → t ≡ at s.values (s.part ++ store) → rest ≡ [] → TakesFromStore e s store Empty t rest
 direct_part e s t store rest less none part to empty =
     let P : List Bool → Type 0 = λ p. IsPartOf e s.values p in
     let joined : store ≡ s.part ++ store = ap (λ p. p ++ store) (sym none) in
     part_takes e s t store rest (record { left = less; part = inl none }) (subst P joined part) to empty
 
-pub more_grows : (s t : Work) (here : List ℤ) (answer : Took) → 1 ≤ length here → t ≡ record s { values = s.values ++ here } → IsCovered t answer → GrowsOn answer s t
+pub more_grows : (s t : Work) (here : List ℤ) (answer : Took) → 1 ≤ length here → t ≡ record s { values = s.values ++ here } → IsUnitCovered t answer → GrowsOn answer s t
 more_grows s t here More some is cov = omega (arith, ap (λ (x : Work). length x.values) is, length-append s.values here)
 more_grows s t here Done some is cov = tt
 more_grows s t here Empty some is cov = tt

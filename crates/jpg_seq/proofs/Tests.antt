@@ -1,8 +1,6 @@
 -- Values within bounds, as tests.
-use Rattle.std.proofs.Common.{◌≡◌, ℕ, zero, suc, ◌-◌, ◌^◌, ◌<◌, ◌≤◌, Bool, true, false, List, [], ◌∷◌, ◌++◌, refl, sym, ap, ◌∙◌, subst, arith, ℤ, pos, ◌≤ℤ◌, ◌&&◌, inl, inr}
+use Rattle.std.proofs.Common.{◌≡◌, ℕ, zero, suc, ◌-◌, ◌^◌, ◌<◌, ◌≤◌, Bool, true, false, [], ◌∷◌, refl, ap, ◌∙◌, arith, ℤ, pos, ◌≤ℤ◌, ◌&&◌, inl, inr}
 use Rattle.std.specs.Prelude.{int_le, nat_abs, nat_lt, nat_le, ◌||◌, ◌==◌, ◌%◌, ◌/◌}
-use lib.Dec.{T}
-use lib.Signed.{le_z_yes}
 use Rattle.std.proofs.lemmas.Int.{ints}
 use Rattle.std.proofs.lemmas.Bool.Decides.{nat_tests}
 use Rattle.std.proofs.Math.Nat.{pow-le-pow_right}
@@ -12,24 +10,9 @@ use Rattle.jpg_spec.specs.Elements.{Coding, are_in_bounds, zeros}
 use Rattle.jpg_spec.specs.ScanFaults.{is_symbol}
 use Rattle.jpg_spec.specs.declared.frame.Bounds.{Bounds}
 use Rattle.jpg_spec.proofs.Facts.{below_digits}
-use Rattle.jpg_spec.proofs.Writing.{and_intro}
+use Rattle.jpg_spec.proofs.Common.{and_intro, both_false, in_order, from_test, and_false}
 use Rattle.jpg_seq.specs.Step.{AreSane, InRange}
 use Rattle.jpg_seq.specs.Judge.{IsBadSymbol}
-
-is_true : (b : Bool) → T b → b ≡ true
-is_true true t = refl
-is_true false t = absurd t
-
-pub in_order : (a b : ℤ) → a ≤ℤ b → int_le a b ≡ true
-in_order a b h = is_true (int_le a b) h.le
-
-both_false : (a b : Bool) → ((a ≡ true) × (b ≡ true) → ⊥) → ((a && b) && true) ≡ false
-both_false true true h = absurd (h (refl, refl))
-both_false true false h = refl
-both_false false b h = refl
-
-from_test : (a b : ℤ) → int_le a b ≡ true → a ≤ℤ b
-from_test a b e = le_z_yes (subst T (sym e) tt)
 
 pub first_in_bounds : (c : Coding) (b : Bounds) (v : ℤ) → c.bounds ≡ b → InRange b v → are_in_bounds c true (v ∷ []) ≡ true
 first_in_bounds c b v e h =
@@ -50,16 +33,6 @@ zeros_in_bounds c b zero e sane = refl
 zeros_in_bounds c b (suc n) e sane =
     and_intro (int_le (pos 0) c.bounds.ac) (are_in_bounds c false (zeros n)) (ap (λ (x : Bounds). int_le (pos 0) x.ac) e ∙ in_order (pos 0) b.ac (most_positive b sane)) (zeros_in_bounds c b n e sane)
 
-pub bounds_join : (c : Coding) (xs ys : List ℤ) → are_in_bounds c false xs ≡ true → are_in_bounds c false ys ≡ true → are_in_bounds c false (xs ++ ys) ≡ true
-bounds_join c [] ys h k = k
-bounds_join c (v ∷ xs) ys h k =
-    let s = split_and (int_le (pos (nat_abs v)) c.bounds.ac) (are_in_bounds c false xs) h in
-    and_intro (int_le (pos (nat_abs v)) c.bounds.ac) (are_in_bounds c false (xs ++ ys)) s.0 (bounds_join c xs ys s.1 k)
-  where
-    split_and : (a b : Bool) → (a && b) ≡ true → (a ≡ true) × (b ≡ true)
-    split_and true b e = (refl, e)
-    split_and false b e = cc
-
 -- a value of an allowed category lies in the bounds
 pub value_in_bounds : (c : Coding) (b : Bounds) (v : ℤ) → c.bounds ≡ b → AreSane b → category v ≤ b.ac_cat → are_in_bounds c false (v ∷ []) ≡ true
 value_in_bounds c b v e sane few =
@@ -72,10 +45,6 @@ value_in_bounds c b v e sane few =
 -- symbols that may not stand there
 pub not_first_symbol : (c : Coding) (b : Bounds) (symbol : ℕ) → c.bounds ≡ b → b.dc_cat < symbol → is_symbol c true symbol ≡ false
 not_first_symbol c b symbol e h = ap (λ (x : Bounds). nat_le symbol x.dc_cat) e ∙ grind (arith, nat_tests)
-
-and_false : (a b : Bool) → a ≡ false → (a && b) ≡ false
-and_false true b e = cc
-and_false false b e = refl
 
 pub not_symbol : (c : Coding) (most symbol : ℕ) → c.most_category ≡ most → c.most_run ≡ 0 → IsBadSymbol most symbol → is_symbol c false symbol ≡ false
 not_symbol c most symbol e z (inl h) =

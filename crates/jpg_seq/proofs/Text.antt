@@ -4,6 +4,7 @@ use Rattle.std.proofs.lemmas.List.{append_assoc, append-nil}
 use Rattle.jpg_spec.specs.Bits.{SpellsByte, SpellsData}
 use Rattle.jpg_huff.specs.Gate.{IsData}
 use Rattle.jpg_seq.specs.Plain.{HoldsSoFar, last_or}
+use Rattle.jpg_spec.proofs.Common.{heads}
 
 -- DATA that grow by a byte
 
@@ -38,9 +39,6 @@ runs_once zero zero x y e = cc
 runs_once zero (suc m) x y e = absurd cc
 runs_once (suc n) zero x y e = absurd cc
 runs_once (suc n) (suc m) x y e = let t : replicate n 255 ++ 0 ∷ x ≡ replicate m 255 ++ 0 ∷ y = cc in runs_once n m x y t
-
-heads : (a b : ℕ) (x y : List ℕ) → a ∷ x ≡ b ∷ y → (a ≡ b) × (x ≡ y)
-heads a b x y e = (cc, cc)
 
 joined : (f front x rest : List ℕ) → f ≡ front ++ rest → f ++ x ≡ front ++ (rest ++ x)
 joined f front x rest e = ap (λ z. z ++ x) e ∙ append_assoc front rest x

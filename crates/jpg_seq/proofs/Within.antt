@@ -1,24 +1,16 @@
 -- Values that are put into a block within the bounds.
-use Rattle.std.proofs.Common.{◌≡◌, ℕ, zero, suc, ◌≤◌, Bool, true, false, List, [], ◌∷◌, refl, sym, ◌∙◌, subst, ℤ, pos, negsuc, ◌&&◌, arith}
+use Rattle.std.proofs.Common.{◌≡◌, ℕ, zero, suc, ◌≤◌, true, false, List, [], ◌∷◌, refl, sym, ◌∙◌, subst, ℤ, pos, negsuc, ◌&&◌, arith}
 use Rattle.std.specs.Prelude.{slice_set, int_le, nat_abs, neg_ℤ, ◌≤ℤ◌}
 use Rattle.std.proofs.lemmas.Int.{ints}
 use Rattle.std.proofs.lemmas.List.{length-set}
 use lib.Signed.{le_z_yes}
 use lib.Dec.{T}
 use Rattle.jpg_spec.specs.Geometry.{Frame}
-use Rattle.jpg_spec.specs.GrayFile.{gray_head, typical_tables}
 use Rattle.jpg_spec.specs.Scan.{scan_coding}
 use Rattle.jpg_seq.specs.PlainText.{IsWithin}
 use Rattle.jpg_spec.specs.Elements.{Coding, are_in_bounds}
-use Rattle.jpg_spec.proofs.Telling.{both}
-use Rattle.jpg_spec.proofs.Writing.{and_intro}
-
-true_of : (b : Bool) → T b → b ≡ true
-true_of true t = refl
-true_of false t = absurd t
-
-is_least : (a b : ℤ) → a ≤ℤ b → int_le a b ≡ true
-is_least a b h = true_of (int_le a b) h.le
+use Rattle.jpg_spec.specs.ScanText.{gray_head, typical_tables}
+use Rattle.jpg_spec.proofs.Common.{both, and_intro, in_order}
 
 pub set_ac : (c : Coding) (values : List ℤ) (k : ℕ) (v : ℤ) → int_le (pos (nat_abs v)) c.bounds.ac ≡ true → are_in_bounds c false values ≡ true → are_in_bounds c false (slice_set values k v) ≡ true
 set_ac c [] k v small ok = refl
@@ -46,7 +38,7 @@ pub small_of : (v : ℤ) → int_le (neg_ℤ (pos 1023)) v ≡ true → int_le v
 small_of (pos n) low high = high
 small_of (negsuc n) low high =
     let h : neg_ℤ (pos 1023) ≤ℤ negsuc n = le_z_yes (subst T (sym low) tt) in
-    is_least (pos (suc n)) (pos 1023) (omega (arith, ints))
+    in_order (pos (suc n)) (pos 1023) (omega (arith, ints))
 
 pub within_set : (f : Frame) (block : List ℤ) (k : ℕ) (v : ℤ) (new : List ℤ) → new ≡ slice_set block k v → IsWithin f block → are_in_bounds (scan_coding f typical_tables gray_head) true (slice_set block k v) ≡ true → IsWithin f new
 within_set f block k v new e h ok = subst (λ b. IsWithin f b) (sym e) (length-set block k v ∙ h.0, ok)

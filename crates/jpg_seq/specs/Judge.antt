@@ -1,4 +1,4 @@
--- What a symbol of an AC table says in a sequential scan (T.81 F.1.2.2).
+-- What a symbol of an AC table says in a sequential scan (T.81, F.1.2.2).
 use Rattle.std.specs.Prelude.{◌≡◌, ◌≢◌, ◌⊎◌, ℕ, ◌+◌, ◌*◌, ◌/◌, ◌%◌, ◌<◌, ◌≤◌}
 use Rattle.jpg_seq.specs.declared.symbols.Judged.{Judged}
 use Rattle.jpg_seq.specs.declared.symbols.Judged.TheVariants.{Value, LongRun, End, BadSymbol, BadRun}

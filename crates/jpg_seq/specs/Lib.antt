@@ -1,13 +1,16 @@
+pub mod BytesTaken
 pub mod Coded
 pub mod Coder
 pub mod InWork
 pub mod Judge
 pub mod Plain
 pub mod PlainText
-pub mod Put
+pub mod Source
+pub mod SourceTaken
 pub mod Stands
 pub mod Step
 pub mod Work
 pub mod Reader
+pub mod ScanWritten
 pub mod SoFar
 pub mod NewReader

@@ -6,8 +6,8 @@ use Rattle.jpg_spec.specs.declared.frame.ScanPart.{ScanPart}
 use Rattle.jpg_spec.specs.Bits.{Packs, SpellsData, bits_of_bytes}
 use Rattle.jpg_spec.specs.Geometry.{Frame, is_progressive, component_at, blocks_across, blocks_down}
 use Rattle.jpg_spec.specs.Segments.{ScanHead}
-use Rattle.jpg_spec.specs.Elements.{Element, Coding, UnitLeft, Covers, SpellsUnits, at_start}
-use Rattle.jpg_spec.specs.GrayFile.{new_unit, SpellsBlocks}
+use Rattle.jpg_spec.specs.Elements.{Element, Coding, UnitLeft, Covers, SpellsUnits, at_start, new_unit}
+use Rattle.jpg_spec.specs.GrayFile.{SpellsBlocks}
 use Rattle.jpg_spec.specs.Scan.{TablesInForce}
 use Rattle.jpg_huff.specs.declared.table.Table.{Table}
 use Rattle.jpg_huff.specs.declared.set.TableSet.{TableSet}

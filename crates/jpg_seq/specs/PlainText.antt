@@ -1,13 +1,12 @@
--- WHAT A PLAIN SCAN IS WRITTEN AS: its bits by the typical tables, and its data (T.81 F.1.2; the choices are the writer's own).
-use Rattle.std.specs.Prelude.{ℕ, ◌++◌, Bool, false, List, [], ◌∷◌, map, flat_map, drop, slice_index_or, ℤ, pos, ◌-ℤ◌, ◌/◌, ◌%◌, replicate}
+-- WHAT A PLAIN SCAN IS WRITTEN AS: its bits by the typical tables, and its data (T.81, F.1.2; the choices are the writer's own).
+use Rattle.std.specs.Prelude.{ℕ, ◌++◌, Bool, false, List, [], ◌∷◌, map, flat_map, drop, slice_index_or, ℤ, pos, ◌-ℤ◌, ◌/◌, ◌%◌, replicate, ◌≤◌, ◌<◌}
 use Rattle.jpg_spec.specs.Bits.{data_of}
 use Rattle.jpg_spec.specs.Codes.{Code}
 use Rattle.jpg_spec.specs.Numbers.{category, extra_bits}
 use Rattle.jpg_spec.specs.Elements.{Element, value, long_run, symbol_of, bits_behind}
 use Rattle.jpg_spec.specs.Sending.{sent, band_elements}
-use Rattle.jpg_spec.specs.ScanText.{code_of}
+use Rattle.jpg_spec.specs.ScanText.{code_of, gray_head, typical_tables}
 use Rattle.jpg_spec.specs.Geometry.{Frame}
-use Rattle.jpg_spec.specs.GrayFile.{gray_head, typical_tables}
 use Rattle.jpg_spec.specs.Scan.{scan_coding}
 use Rattle.jpg_spec.specs.Written.{IsWritable, plain_bits}
 
@@ -18,6 +17,10 @@ plain_data blocks = data_of (plain_bits blocks)
 -- 64 values within the bounds of the frame
 abbrev pub IsWithin : Frame → List ℤ → Type 0
 IsWithin f block = IsWritable (scan_coding f typical_tables gray_head) (0, block)
+
+-- the symbols of all values behind the first one are bytes
+abbrev pub IsShort : List ℤ → Type 0
+IsShort block = (k : ℕ) → 1 ≤ k → k < 64 → category (slice_index_or block k (pos 0)) ≤ 15
 
 -- IN PARTS, by any tables
 

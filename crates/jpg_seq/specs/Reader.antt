@@ -1,9 +1,8 @@
--- What the machine of a sequential scan stands for (T.81 F.2.2).
+-- What the machine of a sequential scan stands for (T.81, F.2.2).
 use Rattle.std.specs.Prelude.{◌≡◌, ℕ, ◌+◌, ◌-◌, ◌<◌, Bool, List, [], ◌∷◌, ◌++◌, length, map, drop, slice_get, slice_set, slice_index_or, Option, Some, ℤ, pos, All}
 use Rattle.jpg_spec.specs.Lists.{slot_value}
-use Rattle.jpg_spec.specs.Elements.{Element, Coding, UnitLeft, Covers, at_start}
+use Rattle.jpg_spec.specs.Elements.{Element, Coding, UnitLeft, Covers, at_start, new_unit}
 use Rattle.jpg_spec.specs.Geometry.{Frame}
-use Rattle.jpg_spec.specs.GrayFile.{new_unit}
 use Rattle.jpg_spec.specs.declared.frame.Place.{Place}
 use Rattle.jpg_spec.specs.PictureInWork.{AreDistinct, UnitsRead}
 use Rattle.jpg_base.specs.Cursor.{IsPadded}
@@ -14,7 +13,7 @@ use Rattle.jpg_seq.specs.declared.work.Coder.{Coder}
 use Rattle.jpg_seq.specs.declared.work.Took.{Took}
 use Rattle.jpg_seq.specs.Step.{AreSane}
 use Rattle.jpg_seq.specs.Stands.{IsCodingOf, standing_at}
-use Rattle.jpg_seq.specs.Work.{Work, IsAtWork, Takes, no_work}
+use Rattle.jpg_seq.specs.Work.{Work, IsAtWork, TakesFromStore, no_work}
 use Rattle.jpg_seq.specs.Coder.{env_in}
 
 -- the tables of a component
@@ -43,7 +42,7 @@ pub record CanRead (m : SeqReader) (k : ℕ) : Type 0 where
 
 abbrev pub ReadsOn : SeqReader → ℕ → List Bool → Took → Work → List Bool → Type 0
 ReadsOn m k store answer new rest =
-    (coder : Coder) × (coder_at m k ≡ Some coder) × Takes (env_in m.bounds coder (prediction_at m k)) m.unit store answer new rest
+    (coder : Coder) × (coder_at m k ≡ Some coder) × TakesFromStore (env_in m.bounds coder (prediction_at m k)) m.unit store answer new rest
 
 -- with this unit in work
 abbrev pub with_work : SeqReader → Work → SeqReader
@@ -58,7 +57,7 @@ abbrev pub new_units_at : List Place → List UnitLeft
 new_units_at places = map new_at places
 
 -- a place of the picture, of a component whose tables are there
-pub record IsReadable (m : SeqReader) (f : Frame) (p : Place) : Type 0 where
+pub record IsPlaceReadable (m : SeqReader) (f : Frame) (p : Place) : Type 0 where
   pub small : p.component < 4
   pub padded : IsPadded f p.component p.x p.y
   pub coder : Coder
@@ -86,7 +85,7 @@ pub record SeqStands (m : SeqReader) (i : Interval) (bits : List Bool) (now : Pi
   pub all : i.places ≡ done ++ next ∷ more
   pub cursor : m.cursor ≡ next ∷ (more ++ i.later)
   pub left : m.left ≡ 1 + length more
-  pub spots : All (IsReadable m i.before.frame) (next ∷ (more ++ i.later))
+  pub spots : All (IsPlaceReadable m i.before.frame) (next ∷ (more ++ i.later))
   pub whole : List ℤ
   pub predictions : ℕ → ℤ
   pub elements : List Element
@@ -112,7 +111,7 @@ pub record SeqReady (m : SeqReader) (i : Interval) : Type 0 where
   pub sized : (k x y : ℕ) → length (map_of i.before k x y) ≡ 64
   pub cursor : m.cursor ≡ i.places ++ i.later
   pub left : m.left ≡ 0
-  pub spots : All (IsReadable m i.before.frame) (i.places ++ i.later)
+  pub spots : All (IsPlaceReadable m i.before.frame) (i.places ++ i.later)
   pub four : length m.predictions ≡ 4
 
 abbrev pub sequential : Kind SeqReader

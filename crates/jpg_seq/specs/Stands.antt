@@ -1,8 +1,7 @@
--- What bits of a sequential unit stand for, and what its reader answers (T.81 F.2.2).
+-- What bits of a sequential unit stand for, and what its reader answers (T.81, F.2.2).
 use Rattle.std.specs.Prelude.{◌≡◌, ◌⊎◌, ℕ, ◌+◌, ◌-◌, ◌*◌, ◌<◌, ◌≤◌, false, Bool, List, [], ◌∷◌, ◌++◌, length, ℤ, Contains}
 use Rattle.jpg_spec.specs.Codes.{Code}
-use Rattle.jpg_spec.specs.Elements.{Element, Coding, UnitLeft, Standing, Covers, codes_due, going_on, predicted, zeros}
-use Rattle.jpg_spec.specs.GrayFile.{new_unit}
+use Rattle.jpg_spec.specs.Elements.{Element, Coding, UnitLeft, Standing, Covers, codes_due, going_on, predicted, zeros, new_unit}
 use Rattle.jpg_spec.specs.ScanFaults.{BitsShow}
 use Rattle.jpg_spec.specs.Sound.{IsSound}
 use Rattle.jpg_spec.specs.declared.frame.Bounds.{Bounds}

@@ -1,4 +1,4 @@
--- A sequential unit in work: whole elements, and the bits of the next that came (T.81 F.2.2).
+-- A sequential unit in work: whole elements, and the bits of the next that came (T.81, F.2.2).
 use Rattle.std.specs.Prelude.{◌≡◌, ◌⊎◌, ℕ, ◌+◌, ◌-◌, ◌*◌, ◌<◌, ◌≤◌, Bool, List, [], ◌∷◌, ◌++◌, length, take, drop, ℤ, ◌+ℤ◌, Contains}
 use Rattle.jpg_spec.specs.Codes.{Code}
 use Rattle.jpg_spec.specs.Elements.{Element, Coding, UnitLeft, Covers, zeros}
@@ -39,18 +39,18 @@ IsPartOf e values part =
     ⊎ ((code : List Bool) × (rest : List Bool) × (run : ℕ) × (size : ℕ) × Contains (next_codes e values) (code, 16 * run + size) × (part ≡ code ++ rest) × (length rest < size) × MayStand e.bounds values run size))
 
 -- the coding of a scan reads this component so
-abbrev pub Reads : Env → Coding → ℕ → (ℕ → ℤ) → Type 0
-Reads e c i p = IsCodingOf e.bounds e.dc e.ac c i × (p i ≡ e.prediction)
+abbrev pub ReadsComponent : Env → Coding → ℕ → (ℕ → ℤ) → Type 0
+ReadsComponent e c i p = IsCodingOf e.bounds e.dc e.ac c i × (p i ≡ e.prediction)
 
 -- behind these values the bits are elements that tell these
 abbrev pub Adds : Env → List ℤ → List Bool → List ℤ → Type 0
 Adds e values bits here =
-    (c : Coding) (i : ℕ) (p : ℕ → ℤ) (others : List UnitLeft) → Reads e c i p → (elements : List Element) × Covers c (standing_at p i others values) elements here bits (standing_at p i others (values ++ here))
+    (c : Coding) (i : ℕ) (p : ℕ → ℤ) (others : List UnitLeft) → ReadsComponent e c i p → (elements : List Element) × Covers c (standing_at p i others values) elements here bits (standing_at p i others (values ++ here))
 
 -- behind these values the bits show a fault
-abbrev pub ShowsBehind : Env → List ℤ → UnitFault → List Bool → Type 0
-ShowsBehind e values fault bits =
-    (c : Coding) (i : ℕ) (p : ℕ → ℤ) (others : List UnitLeft) → Reads e c i p → BitsShow c (standing_at p i others values) (unit_in_work i values) others (fault_of fault) bits
+abbrev pub BitsShowBehind : Env → List ℤ → UnitFault → List Bool → Type 0
+BitsShowBehind e values fault bits =
+    (c : Coding) (i : ℕ) (p : ℕ → ℤ) (others : List UnitLeft) → ReadsComponent e c i p → BitsShow c (standing_at p i others values) (unit_in_work i values) others (fault_of fault) bits
 
 -- each proper front of the bits is a part of an element
 abbrev pub FrontsAre : Env → List ℤ → List Bool → Type 0
@@ -68,22 +68,22 @@ pub record IsElement (e : Env) (values : List ℤ) (bits : List Bool) (here : Li
   pub fronts : FrontsAre e values bits
   pub ends : NoPartBegins e values bits
 
-pub record IsShown (e : Env) (values : List ℤ) (bits : List Bool) (fault : UnitFault) : Type 0 where
-  pub shows : ShowsBehind e values fault bits
+pub record IsShownFault (e : Env) (values : List ℤ) (bits : List Bool) (fault : UnitFault) : Type 0 where
+  pub shows : BitsShowBehind e values fault bits
   pub fronts : FrontsAre e values bits
   pub ends : NoPartBegins e values bits
 
 -- what stands first in bits
-abbrev pub IsNext : Env → List ℤ → List Bool → Next → Type 0
-IsNext e values bits Part = IsPartOf e values bits × (length bits < 32)
-IsNext e values bits (Value run v n) = (1 ≤ n) × (n ≤ length bits) × IsElement e values (take n bits) (zeros run ++ v ∷ [])
-IsNext e values bits (Zeros count n) = (1 ≤ n) × (n ≤ length bits) × IsElement e values (take n bits) (zeros count)
-IsNext e values bits (Bad fault n) = (1 ≤ n) × (n ≤ length bits) × IsShown e values (take n bits) fault
+abbrev pub StandsFirst : Env → List ℤ → List Bool → Next → Type 0
+StandsFirst e values bits Part = IsPartOf e values bits × (length bits < 32)
+StandsFirst e values bits (Value run v n) = (1 ≤ n) × (n ≤ length bits) × IsElement e values (take n bits) (zeros run ++ v ∷ [])
+StandsFirst e values bits (Zeros count n) = (1 ≤ n) × (n ≤ length bits) × IsElement e values (take n bits) (zeros count)
+StandsFirst e values bits (Bad fault n) = (1 ≤ n) × (n ≤ length bits) × IsShownFault e values (take n bits) fault
 
 -- what stands first behind the first value, where so many values are left
 abbrev pub IsLaterNext : Bounds → List Code → ℕ → List Bool → Next → Type 0
 IsLaterNext b ac left bits next =
-    (dc : List Code) (prediction : ℤ) (values : List ℤ) → length values + left ≡ 64 → IsNext (record { bounds = b; dc = dc; ac = ac; prediction = prediction }) values bits next
+    (dc : List Code) (prediction : ℤ) (values : List ℤ) → length values + left ≡ 64 → StandsFirst (record { bounds = b; dc = dc; ac = ac; prediction = prediction }) values bits next
 
 -- ONE BIT of a unit that goes on: a part of an element, or the last bit of one
 abbrev pub StepsTo : Env → Work → Bool → Work → Type 0
@@ -92,23 +92,23 @@ StepsTo e s bit t =
     ⊎ ((here : List ℤ) × (t ≡ record { values = s.values ++ here; part = [] }) × Adds e s.values (s.part ++ bit ∷ []) here × (length (s.values ++ here) < 64))
 
 -- such bits, one after another
-abbrev pub Leads : Env → Work → List Bool → Work → Type 0
-Leads e s [] t = t ≡ s
-Leads e s (bit ∷ bits) t = (mid : Work) × StepsTo e s bit mid × Leads e mid bits t
+abbrev pub StepsThrough : Env → Work → List Bool → Work → Type 0
+StepsThrough e s [] t = t ≡ s
+StepsThrough e s (bit ∷ bits) t = (mid : Work) × StepsTo e s bit mid × StepsThrough e mid bits t
 
 -- the last bit of a unit, and one that shows a fault
 abbrev pub IsLast : Env → Work → Bool → List ℤ → Type 0
 IsLast e s bit block = (here : List ℤ) × Adds e s.values (s.part ++ bit ∷ []) here × (block ≡ s.values ++ here) × (length block ≡ 64)
 
 abbrev pub IsWrong : Env → Work → Bool → UnitFault → Type 0
-IsWrong e s bit fault = ShowsBehind e s.values fault (s.part ++ bit ∷ [])
+IsWrong e s bit fault = BitsShowBehind e s.values fault (s.part ++ bit ∷ [])
 
 -- what bits of a unit come to
 abbrev pub ComesTo : Env → Work → List Bool → Took → Work → Type 0
-ComesTo e s bits More t = Leads e s bits t
-ComesTo e s bits Empty t = Leads e s bits t
-ComesTo e s bits Done t = (front : List Bool) × (bit : Bool) × (mid : Work) × (bits ≡ front ++ bit ∷ []) × Leads e s front mid × IsLast e mid bit t.values
-ComesTo e s bits (Fault fault) t = (front : List Bool) × (bit : Bool) × (mid : Work) × (bits ≡ front ++ bit ∷ []) × Leads e s front mid × IsWrong e mid bit fault
+ComesTo e s bits More t = StepsThrough e s bits t
+ComesTo e s bits Empty t = StepsThrough e s bits t
+ComesTo e s bits Done t = (front : List Bool) × (bit : Bool) × (mid : Work) × (bits ≡ front ++ bit ∷ []) × StepsThrough e s front mid × IsLast e mid bit t.values
+ComesTo e s bits (Fault fault) t = (front : List Bool) × (bit : Bool) × (mid : Work) × (bits ≡ front ++ bit ∷ []) × StepsThrough e s front mid × IsWrong e mid bit fault
 
 -- values are left, and the bits behind them are a part of an element
 pub record IsAtWork (e : Env) (s : Work) : Type 0 where
@@ -123,8 +123,8 @@ StaysAtWork e Done t = (length t.values ≡ 64) × (t.part ≡ [])
 StaysAtWork e (Fault fault) t = Unit {0}
 
 -- Bits are taken from the front of a store, all of them where the answer is Empty.
-abbrev pub Takes : Env → Work → List Bool → Took → Work → List Bool → Type 0
-Takes e s store answer t rest = (taken : List Bool) × (store ≡ taken ++ rest) × ComesTo e s taken answer t × StaysAtWork e answer t × (answer ≡ Empty → rest ≡ [])
+abbrev pub TakesFromStore : Env → Work → List Bool → Took → Work → List Bool → Type 0
+TakesFromStore e s store answer t rest = (taken : List Bool) × (store ≡ taken ++ rest) × ComesTo e s taken answer t × StaysAtWork e answer t × (answer ≡ Empty → rest ≡ [])
 
 -- the unit or the store has ended, or a fault is shown
 abbrev pub EndsUnit : Took → Type 0
@@ -154,11 +154,11 @@ abbrev pub env_of : Bounds → List Code → List Code → ℤ → Env
 env_of b dc ac prediction = record { bounds = b; dc = dc; ac = ac; prediction = prediction }
 
 -- whether the unit is whole
-abbrev pub IsCovered : Work → Took → Type 0
-IsCovered s More = length s.values < 64
-IsCovered s Done = length s.values ≡ 64
-IsCovered s Empty = ⊥
-IsCovered s (Fault fault) = ⊥
+abbrev pub IsUnitCovered : Work → Took → Type 0
+IsUnitCovered s More = length s.values < 64
+IsUnitCovered s Done = length s.values ≡ 64
+IsUnitCovered s Empty = ⊥
+IsUnitCovered s (Fault fault) = ⊥
 
 -- the first value where it lies in the bounds
 abbrev pub IsFirstValue : Bounds → ℤ → ℤ → ℕ → Next → Type 0

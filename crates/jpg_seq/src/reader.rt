@@ -7,8 +7,11 @@ ghost use Rattle.jpg_coefs.specs.Machine.{Interval, TakesBits};
 ghost use Rattle.jpg_base.specs.Cursor.{IsPadded};
 ghost use Rattle.jpg_coefs.specs.Picture.{with_block};
 ghost use Rattle.jpg_seq.specs.Work.{EndsUnit};
+ghost use Rattle.jpg_seq.specs.Source.{bits_in};
+ghost use Rattle.jpg_seq.specs.BytesTaken.{TakesBytes};
 ghost use Rattle.jpg_seq.specs.Reader.{CanRead, ReadsOn, SeqStands, behind, with_work, sequential};
 
+use crate::source::Source;
 use crate::work::{Coder, Took, UnitWork};
 use jpg_base::{BitStore, Bounds, Cursor, Frame, Place, ScanHead, ScanPart};
 use jpg_coefs::{Coefs, ScanMachine, Taken, UnitFault, UnitStep};
@@ -73,9 +76,9 @@ impl SeqReader {
 
     // Takes bits of the unit in work.
     #[inline(always)]
-    fn unit_bits(&self, component: u8, unit: &mut UnitWork, store: &mut BitStore) -> Took
+    fn unit_bits(&self, component: u8, unit: &mut UnitWork, source: &mut Source<'_>) -> Took
         requires { CanRead (with_work self.now unit.old) component }
-        ensures reads { ReadsOn (with_work self.now unit.old) component store.old result unit.new store.new }
+        ensures reads { ReadsOn (with_work self.now unit.old) component (bits_in source.old) result unit.new (bits_in source.new) }
         ensures ends { EndsUnit result }
     {
         match &self.coders[component as usize] {
@@ -83,7 +86,7 @@ impl SeqReader {
                 &self.bounds,
                 coder,
                 self.predictions[component as usize],
-                store,
+                source,
             ),
             None => Took::Empty,
         }
@@ -110,23 +113,23 @@ impl SeqReader {
         self.left -= 1;
     }
 
-    // Bits of the store, as `bits` takes them.
+    // Bits of the source, as `bits` takes them.
     #[inline(always)]
     fn read(
         &mut self,
         unit: &mut UnitWork,
-        store: &mut BitStore,
+        source: &mut Source<'_>,
         coefs: &mut Coefs,
         most: u64,
     ) -> Taken
         requires open { (i : Interval) × (bits : List Bool) × SeqStands (with_work self.old unit.old) i bits coefs.old }
         requires some { 1 ≤ most }
-        ensures { TakesBits sequential most (with_work self.old unit.old) coefs.old store.old result (with_work self.new unit.new) coefs.new store.new }
+        ensures { TakesBits sequential most (with_work self.old unit.old) coefs.old (bits_in source.old) result (with_work self.new unit.new) coefs.new (bits_in source.new) }
     {
         let mut done = 0;
         loop {
             let place = self.cursor.place();
-            match self.unit_bits(place.component, unit, store) {
+            match self.unit_bits(place.component, unit, source) {
                 Took::More => return Taken::More,
                 Took::Empty => return Taken::More,
                 Took::Fault(fault) => return Taken::Fault(fault),
@@ -145,15 +148,50 @@ impl SeqReader {
     }
 }
 
+/// What bytes came to, and how many of their bits were taken.
+#[derive(Clone, Copy, Debug, PartialEq, Eq)]
+pub struct BytesTaken {
+    pub taken: Taken,
+    pub bits: u64,
+}
+
+impl SeqReader {
+    /// Takes the bits of data bytes, without stuffing, as `bits` takes those of a store.
+    pub fn bytes(&mut self, bytes: &[u8], coefs: &mut Coefs, most: u64) -> BytesTaken
+        requires open { (i : Interval) × (bits : List Bool) × SeqStands self.old i bits coefs.old }
+        requires some { 1 ≤ most }
+        requires few { length bytes.now < 4294967296 }
+        ensures { TakesBytes most self.old coefs.old bytes.now result self.new coefs.new }
+    {
+        let mut unit = self.unit.copy();
+        let mut source = Source {
+            store: BitStore::new(),
+            bytes,
+        };
+        let all = source.len();
+        let taken = self.read(&mut unit, &mut source, coefs, most);
+        self.unit = unit;
+        BytesTaken {
+            taken,
+            bits: all - source.len(),
+        }
+    }
+}
+
 impl ScanMachine for SeqReader {
     ghost kind = { sequential };
 
     fn bits(&mut self, store: &mut BitStore, coefs: &mut Coefs, most: u64) -> Taken {
         let mut unit = self.unit.copy();
-        let mut bits = store.copy();
-        let taken = self.read(&mut unit, &mut bits, coefs, most);
+        let _ = store.len();
+        let mut source = Source {
+            store: store.copy(),
+            bytes: &[],
+        };
+        let taken = self.read(&mut unit, &mut source, coefs, most);
+        source.take_all();
         self.unit = unit;
-        *store = bits;
+        *store = source.store;
         taken
     }
 

@@ -2,10 +2,13 @@
 ghost use Rattle.std.specs.Prelude.{◌≡◌, ◌<◌, ◌≤◌, ◌+◌, [], ◌∷◌, ◌++◌, length, take, List, ℤ};
 ghost use Rattle.jpg_spec.specs.Elements.{zeros};
 ghost use Rattle.jpg_seq.specs.Step.{AreSane};
-ghost use Rattle.jpg_seq.specs.Work.{IsLaterNext, IsNext, Takes, IsAtWork, IsCovered, IsFirstValue, GrowsOn, EndsUnit, env_of, no_work};
+ghost use Rattle.jpg_seq.specs.Work.{IsLaterNext, StandsFirst, TakesFromStore, IsAtWork, IsUnitCovered, IsFirstValue, GrowsOn, EndsUnit, env_of, no_work};
 ghost use Rattle.jpg_seq.specs.Coder.{env_in};
+ghost use Rattle.jpg_seq.specs.SourceTaken.{TakesFrom};
+ghost use Rattle.jpg_seq.specs.declared.work.Took.TheVariants.{Empty};
 ghost use Rattle.jpg_spec.specs.Codes.{Code};
 
+use crate::source::Source;
 use crate::symbols::{Judged, judge};
 use crate::unit::{narrow, sum};
 use jpg_base::{BitStore, Block, Bounds};
@@ -69,7 +72,7 @@ fn first_value(bounds: &Bounds, prediction: i16, difference: i16, length: u8) ->
 #[inline(always)]
 fn first_next(bounds: &Bounds, dc: &Decoder, prediction: i16, bits: &BitStore) -> Next
     requires sane { AreSane bounds.now }
-    ensures { (ac : List Code) → IsNext (env_of bounds.now dc.now ac prediction) [] bits.now result }
+    ensures { (ac : List Code) → StandsFirst (env_of bounds.now dc.now ac prediction) [] bits.now result }
 {
     dc.apart();
     match dc.spot(bits) {
@@ -190,8 +193,9 @@ impl UnitWork {
         requires { length self.old.values + run < 64 }
         ensures { self.new ≡ record (self.old) { values = self.old.values ++ (zeros run ++ value ∷ []) } }
     {
-        self.values.set(self.at + run, value);
-        self.at += run + 1;
+        let at = self.at + run;
+        self.values.set(at, value);
+        self.at = at + 1;
     }
 
     // how many values there are
@@ -206,7 +210,7 @@ impl UnitWork {
     // whether values are left
     #[inline(always)]
     fn covered(&self) -> Took
-        ensures { IsCovered self.now result }
+        ensures { IsUnitCovered self.now result }
     {
         if self.at == 64 {
             Took::Done
@@ -254,7 +258,7 @@ impl UnitWork {
     fn next(&self, bounds: &Bounds, coder: &Coder, prediction: i16, bits: &BitStore) -> Next
         requires sane { AreSane bounds.now }
         requires left { length self.now.values < 64 }
-        ensures { IsNext (env_in bounds.now coder.now prediction) self.now.values bits.now result }
+        ensures { StandsFirst (env_in bounds.now coder.now prediction) self.now.values bits.now result }
     {
         let at = self.count();
         if at == 0 {
@@ -276,8 +280,9 @@ impl UnitWork {
         requires sane { AreSane bounds.now }
         requires left { length self.old.values < 64 }
         requires none { self.old.part ≡ [] }
-        ensures takes { Takes (env_in bounds.now coder.now prediction) self.old store.old result self.new store.new }
+        ensures takes { TakesFromStore (env_in bounds.now coder.now prediction) self.old store.old result self.new store.new }
         ensures grows { GrowsOn result self.old self.new }
+        ensures few { result ≡ Empty → length store.old < 32 }
     {
         match self.next(bounds, coder, prediction, store) {
             Next::Part => {
@@ -312,7 +317,8 @@ impl UnitWork {
     ) -> Took
         requires sane { AreSane bounds.now }
         requires work { IsAtWork (env_in bounds.now coder.now prediction) self.old }
-        ensures { Takes (env_in bounds.now coder.now prediction) self.old store.old result self.new store.new }
+        ensures takes { TakesFromStore (env_in bounds.now coder.now prediction) self.old store.old result self.new store.new }
+        ensures few { result ≡ Empty → length store.old < 32 }
     {
         let bits = self.joined(store);
         let have = self.waiting();
@@ -340,54 +346,65 @@ impl UnitWork {
         }
     }
 
-    // Elements where no part waits, up to the end of the unit or of the store.
+    // Elements where no part waits, up to the end of the unit or of the source.
     #[inline(always)]
     fn elements(
         &mut self,
         bounds: &Bounds,
         coder: &Coder,
         prediction: i16,
-        store: &mut BitStore,
+        source: &mut Source<'_>,
     ) -> Took
         requires sane { AreSane bounds.now }
         requires left { length self.old.values < 64 }
         requires none { self.old.part ≡ [] }
-        ensures takes { Takes (env_in bounds.now coder.now prediction) self.old store.old result self.new store.new }
+        ensures takes { TakesFrom (env_in bounds.now coder.now prediction) self.old source.old result self.new source.new }
         ensures ends { EndsUnit result }
     {
+        let mut here = source.copy();
         loop {
-            match self.element(bounds, coder, prediction, store) {
+            here.fill();
+            match self.element(bounds, coder, prediction, &mut here.store) {
                 Took::More => {}
-                Took::Empty => return Took::Empty,
-                Took::Done => return Took::Done,
-                Took::Fault(fault) => return Took::Fault(fault),
+                Took::Empty => {
+                    *source = here;
+                    return Took::Empty;
+                }
+                Took::Done => {
+                    *source = here;
+                    return Took::Done;
+                }
+                Took::Fault(fault) => {
+                    *source = here;
+                    return Took::Fault(fault);
+                }
             }
         }
     }
 
-    /// Takes bits up to the end of the unit or of the store, or up to one that shows a fault.
+    /// Takes bits up to the end of the unit or of the source, or up to one that shows a fault.
     #[inline(always)]
     pub fn take(
         &mut self,
         bounds: &Bounds,
         coder: &Coder,
         prediction: i16,
-        store: &mut BitStore,
+        source: &mut Source<'_>,
     ) -> Took
         requires sane { AreSane bounds.now }
         requires work { IsAtWork (env_in bounds.now coder.now prediction) self.old }
-        ensures takes { Takes (env_in bounds.now coder.now prediction) self.old store.old result self.new store.new }
+        ensures takes { TakesFrom (env_in bounds.now coder.now prediction) self.old source.old result self.new source.new }
         ensures ends { EndsUnit result }
     {
         if self.waiting() == 0 {
-            self.elements(bounds, coder, prediction, store)
-        } else {
-            match self.waited_element(bounds, coder, prediction, store) {
-                Took::More => self.elements(bounds, coder, prediction, store),
-                Took::Empty => Took::Empty,
-                Took::Done => Took::Done,
-                Took::Fault(fault) => Took::Fault(fault),
-            }
+            return self.elements(bounds, coder, prediction, source);
+        }
+        source.fill();
+        match self.waited_element(bounds, coder, prediction, &mut source.store) {
+            Took::More => self.elements(bounds, coder, prediction, source),
+            Took::Empty => Took::Empty,
+            Took::Done => Took::Done,
+            Took::Fault(fault) => Took::Fault(fault),
         }
     }
 

@@ -1,11 +1,10 @@
 //! The data of a plain scan, written (T.81, F.1.2).
-ghost use Rattle.std.specs.Prelude.{◌≡◌, ◌≤◌, ◌++◌, [], drop, true, All, pos, ◌-ℤ◌};
+ghost use Rattle.std.specs.Prelude.{◌≡◌, ◌≤◌, ◌++◌, drop, true, All, pos, ◌-ℤ◌};
 ghost use Rattle.jpg_spec.specs.Numbers.{category as category_of, extra_bits as extra_of};
 ghost use Rattle.jpg_spec.specs.ScanText.{code_of};
 ghost use Rattle.jpg_huff.specs.Tables.{symbol_codes};
-ghost use Rattle.jpg_huff.specs.Out.{Emits, OnlyWrites};
-ghost use Rattle.jpg_seq.specs.PlainText.{IsWithin, plain_data, run_bits, band_bits, block_bits, blocks_bits};
-ghost use Rattle.jpg_seq.specs.Put.{HasPut, IsShort};
+ghost use Rattle.jpg_huff.specs.BitOut.{CanSend, Puts, Sends};
+ghost use Rattle.jpg_seq.specs.PlainText.{IsShort, IsWithin, plain_data, run_bits, band_bits, block_bits, blocks_bits};
 
 #[cfg(test)]
 mod tests;
@@ -22,7 +21,7 @@ fn put_code<D: Desk>(
     desk: &mut D,
 ) -> Result<(), WriteFault>
     requires { (D.state desk.old).output_created ≡ true }
-    ensures { HasPut (D.state desk.old) out.old (code_of (symbol_codes table.now) symbol) result out.new (D.state desk.new) }
+    ensures { Puts (D.state desk.old) out.old (code_of (symbol_codes table.now) symbol) result out.new (D.state desk.new) }
 {
     match table.code(symbol) {
         Some(code) => out.put(u32::from(code.bits), code.length, desk),
@@ -39,7 +38,7 @@ fn put_value<D: Desk>(
     desk: &mut D,
 ) -> Result<(), WriteFault>
     requires { (D.state desk.old).output_created ≡ true }
-    ensures { HasPut (D.state desk.old) out.old (code_of (symbol_codes table.now) symbol ++ extra_of value) result out.new (D.state desk.new) }
+    ensures { Puts (D.state desk.old) out.old (code_of (symbol_codes table.now) symbol ++ extra_of value) result out.new (D.state desk.new) }
 {
     put_code(table, symbol, out, desk)?;
     out.put(extra_bits(value), category(value), desk)
@@ -55,7 +54,7 @@ fn put_run<D: Desk>(
 ) -> Result<(), WriteFault>
     requires created { (D.state desk.old).output_created ≡ true }
     requires short { category_of value ≤ 15 }
-    ensures { HasPut (D.state desk.old) out.old (run_bits (symbol_codes ac.now) run value) result out.new (D.state desk.new) }
+    ensures { Puts (D.state desk.old) out.old (run_bits (symbol_codes ac.now) run value) result out.new (D.state desk.new) }
 {
     let mut left = run;
     while left >= 16 {
@@ -75,7 +74,7 @@ fn put_band<D: Desk>(
 ) -> Result<(), WriteFault>
     requires created { (D.state desk.old).output_created ≡ true }
     requires short { IsShort block.now }
-    ensures { HasPut (D.state desk.old) out.old (band_bits (symbol_codes ac.now) (drop 1 block.now)) result out.new (D.state desk.new) }
+    ensures { Puts (D.state desk.old) out.old (band_bits (symbol_codes ac.now) (drop 1 block.now)) result out.new (D.state desk.new) }
 {
     block.long();
     let mut run = 0;
@@ -101,7 +100,7 @@ fn difference(value: i16, prediction: i16) -> i32
     i32::from(value) - i32::from(prediction)
 }
 
-fn put_block<D: Desk>(
+pub(crate) fn put_block<D: Desk>(
     dc: &Table,
     ac: &Table,
     prediction: i16,
@@ -111,7 +110,7 @@ fn put_block<D: Desk>(
 ) -> Result<(), WriteFault>
     requires created { (D.state desk.old).output_created ≡ true }
     requires short { IsShort block.now }
-    ensures { HasPut (D.state desk.old) out.old (block_bits (symbol_codes dc.now) (symbol_codes ac.now) prediction block.now) result out.new (D.state desk.new) }
+    ensures { Puts (D.state desk.old) out.old (block_bits (symbol_codes dc.now) (symbol_codes ac.now) prediction block.now) result out.new (D.state desk.new) }
 {
     let value = difference(block.get(0), prediction);
     put_value(dc, category(value), value, out, desk)?;
@@ -127,7 +126,7 @@ fn put_blocks<D: Desk>(
 ) -> Result<(), WriteFault>
     requires created { (D.state desk.old).output_created ≡ true }
     requires short { All IsShort blocks.now }
-    ensures { HasPut (D.state desk.old) out.old (blocks_bits (symbol_codes dc.now) (symbol_codes ac.now) (pos 0) blocks.now) result out.new (D.state desk.new) }
+    ensures { Puts (D.state desk.old) out.old (blocks_bits (symbol_codes dc.now) (symbol_codes ac.now) (pos 0) blocks.now) result out.new (D.state desk.new) }
 {
     let mut prediction = 0;
     for i in 0..blocks.len() {
@@ -147,12 +146,9 @@ pub fn write_plain<D: Desk>(
     out: &mut BitOut,
     desk: &mut D,
 ) -> Result<(), WriteFault>
-    requires created { (D.state desk.old).output_created ≡ true }
-    requires none { out.old.bits ≡ [] }
+    requires can { CanSend (D.state desk.old) out.old }
     requires writable { All (IsWithin frame.now) blocks.now }
-    ensures kept { OnlyWrites (D.state desk.old) (D.state desk.new) }
-    ensures emits { Emits (D.state desk.old) out.old.bytes (plain_data blocks.now) result out.new.bytes (D.state desk.new) }
-    ensures whole { out.new.bits ≡ [] }
+    ensures { Sends (D.state desk.old) out.old (plain_data blocks.now) result out.new (D.state desk.new) }
 {
     let dc = typical(Typical::DcLuma);
     let ac = typical(Typical::AcLuma);

@@ -8,9 +8,8 @@ use Rattle.std.proofs.lemmas.List.Elements.{Contains-append_right}
 use Rattle.jpg_spec.specs.Codes.{Code, first_code}
 use Rattle.jpg_spec.specs.Elements.{Coding, UnitLeft, Standing, Element, difference, dc_bit, value, long_run, ends, Covers, Tells, SpellsElement, codes_due, going_on, old_values, nonzeros_in, corrected, predictions_after, symbol_of, bits_behind}
 use Rattle.jpg_spec.specs.ScanText.{is_dc, code_of}
-use Rattle.jpg_spec.proofs.Once.{clash}
 use Rattle.jpg_spec.proofs.Levels.{contains_none, contains_cons}
-use Rattle.jpg_spec.proofs.Telling.{same_of}
+use Rattle.jpg_spec.proofs.Common.{same_of, clash}
 
 -- FURTHER UNITS BEHIND
 

@@ -11,11 +11,11 @@ use Rattle.jpg_spec.specs.Items.{Item, segment, scan, segments_of}
 use Rattle.jpg_spec.specs.FileMeaning.{scan_after, Leads}
 use Rattle.jpg_spec.specs.declared.frame.Place.{Place}
 use Rattle.jpg_spec.specs.declared.frame.Limits.{Limits}
-use Rattle.jpg_spec.proofs.Telling.{both, same_of, le_of}
 use Rattle.jpg_spec.proofs.Rows.{append_apart}
 use Rattle.jpg_spec.proofs.Sound.{packed_once}
 use Rattle.jpg_spec.specs.PictureInWork.{is_at}
 use Rattle.jpg_spec.proofs.TablesInForce.{scan_sound}
+use Rattle.jpg_spec.proofs.Common.{both, le_of, same_of}
 
 -- CHUNKS joined are the list
 joined_chunks_of : {A : Type 0} (most n : ℕ) (xs : List A) → length xs ≤ most → joined (chunks_of most (suc n) xs) ≡ xs

@@ -8,7 +8,7 @@ use Rattle.jpg_spec.specs.Elements.{Coding, UnitLeft}
 use Rattle.jpg_spec.specs.Scan.{Blocks, Scan, unit_at}
 use Rattle.jpg_spec.specs.ScanFaults.{DataShows}
 use Rattle.jpg_spec.specs.Sound.{IsSound}
-use Rattle.jpg_spec.specs.FirstFault.{Holds}
+use Rattle.jpg_spec.specs.FirstFault.{HoldsUnits}
 use Rattle.jpg_spec.specs.declared.fault.Fault.{Fault}
 use Rattle.jpg_spec.specs.declared.frame.Place.{Place}
 use Rattle.jpg_spec.proofs.Strings.{length-bits_of}
@@ -39,11 +39,11 @@ shows_more c units fault bits more d = record {
   shows = d.shows;
 }
 
-pub holds_more : (s : Scan) (before : Blocks) (places : List Place) (coded more : List ℕ) → Holds s before places coded → Holds s before places (coded ++ more)
+pub holds_more : (s : Scan) (before : Blocks) (places : List Place) (coded more : List ℕ) → HoldsUnits s before places coded → HoldsUnits s before places (coded ++ more)
 holds_more s before places coded more h =
     (h.0, (h.1.0, h.1.1 ++ bits_of_bytes more, bits_join coded more ∙ ap (λ l. l ++ bits_of_bytes more) h.1.2 ∙ append_assoc h.1.0 h.1.1 (bits_of_bytes more), h.1.3))
 
-pub completes_holds : (s : Scan) (before : Blocks) (places : List Place) (coded : List ℕ) → Completes s before places coded → Holds s before places coded
+pub completes_holds : (s : Scan) (before : Blocks) (places : List Place) (coded : List ℕ) → Completes s before places coded → HoldsUnits s before places coded
 completes_holds s before places coded c = (c.0, (c.1.0, c.1.1.0, c.1.1.2, c.1.2))
 
 -- data that show a fault are no whole interval, whatever follows the ones or the others
@@ -55,14 +55,14 @@ shown_not_complete s before places fault a b x y sound d c e =
 
 -- nor do they hold all units
 pub shown_not_held : (s : Scan) (before : Blocks) (places : List Place) (fault : Fault) (a b x y : List ℕ) → IsSound s.coding
-    → DataShows s.coding (map (unit_at s before) places) fault (bits_of_bytes a) → Holds s before places b → a ++ x ≡ b ++ y → ⊥
+    → DataShows s.coding (map (unit_at s before) places) fault (bits_of_bytes a) → HoldsUnits s before places b → a ++ x ≡ b ++ y → ⊥
 shown_not_held s before places fault a b x y sound d h e =
     fault_excludes s.coding (map (unit_at s before) places) fault h.0 (bits_of_bytes a) h.1.0 (bits_of_bytes x) (h.1.1 ++ bits_of_bytes y) sound d h.1.3
     (bits_alike a b x y e ∙ ap (λ l. l ++ bits_of_bytes y) h.1.2 ∙ append_assoc h.1.0 h.1.1 (bits_of_bytes y))
 
 -- behind data that hold all units no further byte belongs to the interval
 pub too_long : (s : Scan) (before : Blocks) (places : List Place) (byte : ℕ) (coded more : List ℕ) → IsSound s.coding
-    → Holds s before places coded → Completes s before places (coded ++ byte ∷ more) → ⊥
+    → HoldsUnits s before places coded → Completes s before places (coded ++ byte ∷ more) → ⊥
 too_long s before places byte coded more sound h c =
     let further : List Bool = bits_of_bytes (byte ∷ more) in
     let all : h.1.0 ++ (h.1.1 ++ further) ≡ c.1.0 ++ c.1.1.0 = sym (append_assoc h.1.0 h.1.1 further) ∙ ap (λ l. l ++ further) (sym h.1.2) ∙ sym (bits_join coded (byte ∷ more)) ∙ c.1.1.2 in

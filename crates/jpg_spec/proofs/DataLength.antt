@@ -31,9 +31,6 @@ pub table_short : (counts symbols : List ℕ) → length counts ≤ 16 → AreSh
 unfolding codes
 table_short counts symbols few = λ code h. omega (arith, codes_short counts 1 0 symbols code h, few)
 
-pub none_short : AreShort []
-none_short = λ code h. absurd (contains_none code h)
-
 -- WHAT ELEMENTS TELL
 
 pub record IsBrief (c : Coding) : Type 0 where

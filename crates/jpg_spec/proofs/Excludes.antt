@@ -11,7 +11,8 @@ use Rattle.jpg_spec.specs.declared.fault.Fault.{Fault}
 use Rattle.jpg_spec.specs.Elements.{Covers, SpellsUnits, at_start, Coding, UnitLeft, Standing, Element, difference, dc_bit, value, long_run, ends, Tells, SpellsElement, codes_due, zeros_in, symbol_of, bits_behind, are_in_bounds}
 use Rattle.jpg_spec.specs.ScanFaults.{BitsShow, DataShows, BeginsNone, is_symbol}
 use Rattle.jpg_spec.proofs.Told.{values_told}
-use Rattle.jpg_spec.proofs.Once.{NumberFacts, IsCoding, OneWay, append_inj, clash, told_is, symbol_once, element_once, GoesOn, fronts_once, no_units, head_inj, pair_0, pair_1, zeros-append}
+use Rattle.jpg_spec.proofs.Once.{NumberFacts, IsCoding, OneWay, told_is, symbol_once, element_once, GoesOn, fronts_once, no_units, head_inj, pair_0, pair_1, zeros-append}
+use Rattle.jpg_spec.proofs.Common.{append_inj, clash}
 
 -- one of two fronts of a list is a front of the other
 pub fronts : (a b x y : List Bool) → a ++ x ≡ b ++ y → ((more : List Bool) × (b ≡ a ++ more)) ⊎ ((more : List Bool) × (a ≡ b ++ more))

@@ -46,7 +46,7 @@ powers_order a b h =
     (λ (k : b ≤ a). (let p : 2 ^ b ≤ 2 ^ a = pow-le-pow_right {n = 2} (omega arith) {i = b} {j = a} (omega arith) in absurd (omega arith)))
     (cases_lt a b)
 
-double : (s : ℕ) → 1 ≤ s → 2 ^ s ≡ 2 * 2 ^ (s - 1)
+pub double : (s : ℕ) → 1 ≤ s → 2 ^ s ≡ 2 * 2 ^ (s - 1)
 double s some = let e : s ≡ suc (s - 1) = omega arith in ap (λ k. 2 ^ k) e ∙ pow-succ' 2 (s - 1)
 
 pub digits_high : (s n : ℕ) → 1 ≤ s → 2 ^ (s - 1) ≤ n → n < 2 ^ s → digits n ≡ s

@@ -10,9 +10,10 @@ use Rattle.jpg_spec.specs.ScanFaults.{BeginsNone, BitsShow, DataShows, is_symbol
 use Rattle.jpg_spec.specs.Sound.{IsSound}
 use Rattle.jpg_spec.specs.declared.fault.Fault.{Fault}
 use Rattle.jpg_spec.proofs.Facts.{facts}
-use Rattle.jpg_spec.proofs.Once.{IsCoding, OneWay, GoesOn, fronts_once, head_inj, symbol_once, clash}
+use Rattle.jpg_spec.proofs.Once.{IsCoding, OneWay, GoesOn, fronts_once, head_inj, symbol_once}
 use Rattle.jpg_spec.proofs.Excludes.{codes_are_due, no_code, right_symbol, bad_run, past_end, shows_excludes}
 use Rattle.jpg_spec.proofs.PartStands.{coding_is, codes_one, eob_symbol}
+use Rattle.jpg_spec.proofs.Common.{clash}
 
 -- the symbol of a value behind a run may stand in a band
 run_symbol : (c : Coding) (run size : ℕ) → IsCoding c → 1 ≤ size → size ≤ c.most_category → is_symbol c false (16 * run + size) ≡ true

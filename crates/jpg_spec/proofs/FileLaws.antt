@@ -15,12 +15,13 @@ use Rattle.jpg_spec.specs.FirstFault.{BehindItems, ItemShows, InsideScan, Shows,
 use Rattle.jpg_spec.specs.declared.fault.Fault.{Fault}
 use Rattle.jpg_spec.specs.declared.fault.Fault.TheVariants.{Truncated, InputTooLong}
 use Rattle.jpg_spec.specs.declared.frame.Limits.{Limits}
-use Rattle.jpg_spec.proofs.MarkersOnce.{heads, no_head}
+use Rattle.jpg_spec.proofs.MarkersOnce.{no_head}
 use Rattle.jpg_spec.proofs.HeadersOnce.{behind_front}
 use Rattle.jpg_spec.specs.FileStands.{FileStands, IsWholeFile}
 use Rattle.jpg_spec.proofs.BlocksOnce.{blocks_once}
 use Rattle.jpg_spec.proofs.TailsOnce.{Ends, item_shows_once, shown_not_ended}
 use Rattle.jpg_spec.proofs.FilesOnce.{ends_apart, ends_not_inside_standing, ends_not_inside_closed, inside_closed_not_going, inside_closed_not_standing, inside_closed_once, items_end_once}
+use Rattle.jpg_spec.proofs.Common.{heads}
 
 -- THE START
 

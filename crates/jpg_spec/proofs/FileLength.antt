@@ -12,8 +12,7 @@ use Rattle.jpg_spec.specs.Geometry.{Frame, is_progressive, units, mcu_units}
 use Rattle.jpg_spec.specs.FrameHeader.{AreLimits}
 use Rattle.jpg_spec.specs.Segments.{HuffmanTable, ScanHead, head_components}
 use Rattle.jpg_spec.specs.Scan.{Blocks, scan_coding}
-use Rattle.jpg_spec.specs.ScanText.{units_due, last_dc, intervals_text, typical_table}
-use Rattle.jpg_spec.specs.GrayFile.{gray_coding, typical_tables}
+use Rattle.jpg_spec.specs.ScanText.{units_due, last_dc, intervals_text, typical_table, typical_tables, gray_coding}
 use Rattle.jpg_spec.specs.Markers.{eoi}
 use Rattle.jpg_spec.specs.Meaning.{Meaning, PictureComponent, colour_of}
 use Rattle.jpg_spec.specs.Script.{Entry}
@@ -23,14 +22,12 @@ use Rattle.jpg_spec.specs.WrittenFile.{HasQuants, IsHeaded, is_sequential_entry,
 use Rattle.jpg_spec.specs.declared.frame.Place.{Place}
 use Rattle.jpg_spec.specs.declared.frame.ScanPart.{ScanPart}
 use Rattle.jpg_spec.specs.declared.frame.Limits.{Limits}
-use Rattle.jpg_spec.proofs.Telling.{both}
-use Rattle.jpg_spec.proofs.SingleFrame.{neither, same_itself}
 use Rattle.jpg_spec.proofs.SingleAgain.{same_within}
 use Rattle.jpg_spec.proofs.BlocksOnce.{joined_chunks}
 use Rattle.jpg_spec.proofs.Rows.{map_map}
 use Rattle.jpg_spec.proofs.PlacesFound.{each_units}
 use Rattle.jpg_spec.proofs.PlacedBlocks.{Each, each_all, each_map, block_due, placed_writable, due_writable, IsRealSendable}
-use Rattle.jpg_spec.proofs.WrittenFront.{frame_is}
+use Rattle.jpg_spec.proofs.WrittenFront.{standard_are_limits, frame_is}
 use Rattle.jpg_spec.proofs.WrittenScan.{sequential_coded, each_rows}
 use Rattle.jpg_spec.proofs.WrittenScript.{IsFit, among_join}
 use Rattle.jpg_spec.proofs.WrittenSequential.{plain_part, plain_head, plain_components, IsEntry, entry_is, among_below, plain_needed, plain_data, rows_of, scans_are}
@@ -38,6 +35,13 @@ use Rattle.jpg_spec.proofs.WrittenMeans.{count_is}
 use Rattle.jpg_spec.proofs.FrontLength.{HasLength, length_segment, front_few}
 use Rattle.jpg_spec.proofs.ScanLength.{due_few}
 use Rattle.jpg_spec.proofs.UnitsCount.{intervals_few, scan_few}
+use Rattle.jpg_spec.specs.Segments.{standard_limits}
+use Rattle.jpg_spec.specs.Script.{sequential_script}
+use Rattle.jpg_spec.specs.FileMeaning.{Means}
+use Rattle.jpg_spec.specs.Laws.{IsOwnText}
+use Rattle.jpg_spec.proofs.WrittenScripts.{sequential_passes}
+use Rattle.jpg_spec.proofs.WrittenMeans.{sequential_means}
+use Rattle.jpg_spec.proofs.Common.{both, neither, same_itself}
 
 -- THE DATA of a scan
 
@@ -247,3 +251,13 @@ sequential_short limits H script restart limited headed sequential passes =
     let a = length-append (front_text H) (scans_text H restart nothing_written script) in
     let b = length-append (front_text H ++ scans_text H restart nothing_written script) eoi in
     omega (arith, front, headed.count, limited.kept, scans, left, is.count_high, a, b)
+
+-- THE OWN FILE within the standard limits means its picture
+pub own_means : (H : Meaning) (bytes : List ℕ) → IsOwnText standard_limits H bytes → Means standard_limits bytes H
+own_means H bytes w =
+    let f = frame_of_meaning H in
+    let script = sequential_script f in
+    let passes = sequential_passes f (frame_is standard_limits f f standard_are_limits w.headed.frame) in
+    let short = sequential_short standard_limits H script w.restart standard_are_limits w.headed w.sequential passes in
+    subst (λ (l : List ℕ). Means standard_limits l H) (sym w.text)
+    (sequential_means standard_limits H script w.restart standard_are_limits w.headed w.sequential passes w.small (omega (arith, short)))

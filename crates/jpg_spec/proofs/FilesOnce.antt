@@ -1,5 +1,5 @@
 -- Bytes of a file come to one thing at most: behind items, or inside a scan's data.
-use Rattle.std.proofs.Common.{◌≡◌, ℕ, ◌+◌, ◌<◌, Bool, true, false, List, [], ◌∷◌, ◌++◌, length, refl, sym, ap, ◌∙◌, subst, arith, inl, inr}
+use Rattle.std.proofs.Common.{◌≡◌, ℕ, ◌+◌, ◌<◌, true, false, List, [], ◌∷◌, ◌++◌, length, refl, sym, ap, ◌∙◌, subst, arith, inl, inr}
 use Rattle.std.specs.Prelude.{◌⊎◌, replicate}
 use Rattle.std.specs.Int.{to_be_bytes, w16}
 use Rattle.std.proofs.lemmas.List.{append_assoc, append-nil, append_cancel_left}
@@ -23,6 +23,7 @@ use Rattle.jpg_spec.proofs.TablesInForce.{scan_sound}
 use Rattle.jpg_spec.proofs.BlocksOnce.{blocks_once}
 use Rattle.jpg_spec.proofs.ItemsOnce.{ends_at, end_place, oldest_item, HasNext, Meets, meet}
 use Rattle.jpg_spec.proofs.TailsOnce.{Ends, Goes, HasHead, ends_not_head, goes_not_head, ends_not_goes, ends_once}
+use Rattle.jpg_spec.proofs.Common.{clash}
 
 -- HEADS: the marker segments that items begin with
 
@@ -88,9 +89,6 @@ items_marker : (x : Item) (xs : List Item) (text v : List ℕ) → SpellsItems (
 items_marker x xs text v s =
     let o = oldest_item x xs text s in
     subst (λ l. LeadingMarker l) (sym (ap (λ l. l ++ v) o.cut ∙ append_assoc o.here o.rest v)) (item_marker o.first o.here (o.rest ++ v) o.spelled)
-
-clash : (b : Bool) → b ≡ true → b ≡ false → ⊥
-clash b e f = cc
 
 ends_marker : (limits : Limits) (items : List Item) (tail : List ℕ) → Ends limits items tail → ends_in_scan items ≡ true → LeadingMarker tail
 ends_marker limits items tail (inl (fault, inl k)) e = absurd (clash (ends_in_scan items) e k.1)

@@ -8,11 +8,10 @@ use Rattle.jpg_spec.specs.Lists.{any_of, all_of, is_among, below}
 use Rattle.jpg_spec.specs.Faults.{Told, refuse}
 use Rattle.jpg_spec.specs.Geometry.{Frame, is_progressive, component_at}
 use Rattle.jpg_spec.specs.Segments.{ScanHead, head_components}
-use Rattle.jpg_spec.specs.Elements.{UnitLeft, zeros}
+use Rattle.jpg_spec.specs.Elements.{UnitLeft, zeros, new_unit}
 use Rattle.jpg_spec.specs.Scan.{Blocks, band, block_at, unit_at}
 use Rattle.jpg_spec.specs.ScanContents.{scan_header}
 use Rattle.jpg_spec.specs.QuantContents.{◌>>=◌}
-use Rattle.jpg_spec.specs.GrayFile.{new_unit}
 use Rattle.jpg_spec.specs.Markers.{Segment}
 use Rattle.jpg_spec.specs.InForce.{told_or, no_head, frame_of, head_in, heads_of, quant_in_force}
 use Rattle.jpg_spec.specs.History.{names, has_begun, has_coefficient, known_to, is_known_to, is_next, lacks_table, is_same_table, quant_of, admitted}
@@ -21,10 +20,9 @@ use Rattle.jpg_spec.specs.FileMeaning.{scan_after, Leads}
 use Rattle.jpg_spec.specs.declared.fault.Fault.TheVariants.{RepeatedScan, Progression, MissingTable, QuantChanged}
 use Rattle.jpg_spec.specs.declared.frame.Limits.{Limits}
 use Rattle.jpg_spec.specs.declared.frame.Place.{Place}
-use Rattle.jpg_spec.proofs.Telling.{both, same_of}
-use Rattle.jpg_spec.proofs.SingleFrame.{neither, refused}
 use Rattle.jpg_spec.proofs.PictureInWork.{leads_sizes}
 use Rattle.jpg_spec.proofs.Untouched.{is_coded, untouched}
+use Rattle.jpg_spec.proofs.Common.{both, same_of, neither, refused}
 
 -- A SCAN HEADER that breaks no rule is one that the scans before it admit
 

@@ -16,11 +16,9 @@ use Rattle.jpg_spec.specs.QuantContents.{◌>>=◌}
 use Rattle.jpg_spec.specs.HuffContents.{HuffmanDefinition, symbols_size, definition_size, definition_told, huffman_table_of, huffman_tables_of}
 use Rattle.jpg_spec.specs.ScanText.{flat_length_from, flat_table}
 use Rattle.jpg_spec.specs.declared.fault.Fault.TheVariants.{BadLength, BadHuffman}
-use Rattle.jpg_spec.proofs.Telling.{lt_of, same_of}
-use Rattle.jpg_spec.proofs.Turned.{lt_yes, lt_no}
-use Rattle.jpg_spec.proofs.SingleFrame.{not_refused}
 use Rattle.jpg_spec.proofs.Full.{Has}
 use Rattle.jpg_spec.proofs.WrittenState.{IsTellable}
+use Rattle.jpg_spec.proofs.Common.{lt_of, same_of, not_refused, lt_yes, lt_no}
 
 -- A VALID TABLE is told by its segment
 

@@ -8,9 +8,9 @@ use Rattle.jpg_spec.specs.Items.{Item, segment, scan, segments_of, fault_in, con
 use Rattle.jpg_spec.specs.FileMeaning.{Leads}
 use Rattle.jpg_spec.specs.Header.{header_rule}
 use Rattle.jpg_spec.specs.declared.frame.Limits.{Limits}
-use Rattle.jpg_spec.proofs.Telling.{same_of}
 use Rattle.jpg_spec.proofs.FrameFound.{Found, frame_found}
 use Rattle.jpg_spec.proofs.HeaderFirst.{scan_passed}
+use Rattle.jpg_spec.proofs.Common.{same_of}
 
 header_too : (limits : Limits) (before : List Segment) (code : ℕ) (contents : List ℕ) → contents_rule limits before code contents ≡ None → header_rule limits before code contents ≡ None
 header_too limits before code contents e = by (code == 0xda) refl

@@ -17,8 +17,7 @@ use Rattle.jpg_spec.specs.declared.fault.Fault.TheVariants.{EmptyImage, TooLarge
 use Rattle.jpg_spec.specs.declared.frame.Process.{Process}
 use Rattle.jpg_spec.specs.declared.frame.Process.TheVariants.{Baseline, Extended, Progressive}
 use Rattle.jpg_spec.specs.declared.frame.Limits.{Limits}
-use Rattle.jpg_spec.proofs.Telling.{same_of}
-use Rattle.jpg_spec.proofs.SingleFrame.{refused}
+use Rattle.jpg_spec.proofs.Common.{same_of, refused}
 
 -- WHAT THE CHECKS SAY
 
@@ -28,6 +27,7 @@ pub record IsChecked (limits : Limits) (f : Frame) : Type 0 where
   pub precision : f.precision ≡ 8
   pub count : (length f.components == 0 || nat_lt 4 (length f.components)) ≡ false
   pub blocks : nat_lt limits.blocks (padded_blocks f) ≡ false
+  pub passes : checked_frame limits f ≡ Ok f
 
 pub checks : (limits : Limits) (f g : Frame) → checked_frame limits f ≡ Ok g → IsChecked limits f × (f ≡ g)
 unfolding checked_frame
@@ -47,7 +47,7 @@ checks limits f g e =
     let o = refused DuplicateComponent (not (is_distinct (identifiers f.components))) slots g n.1 in
     let p = refused QuantSlot (any_of has_bad_slot f.components) many g o.1 in
     let q = refused TooManyBlocks (nat_lt limits.blocks (padded_blocks f)) (Ok f) g p.1 in
-    (record { some = a.0; sides = b.0; precision = same_of f.precision 8 (affirmed (f.precision == 8) k.0); count = m.0; blocks = q.0 }, same_frame f g q.1)
+    (record { some = a.0; sides = b.0; precision = same_of f.precision 8 (affirmed (f.precision == 8) k.0); count = m.0; blocks = q.0; passes = e ∙ sym (ap Ok (same_frame f g q.1)) }, same_frame f g q.1)
   where
     same_frame : (f g : Frame) → (let a : Told Frame = Ok f in a) ≡ Ok g → f ≡ g
     same_frame f g e = cc

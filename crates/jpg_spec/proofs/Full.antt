@@ -11,9 +11,9 @@ use Rattle.jpg_spec.specs.Sending.{Sent, correction, newly, value_elements, band
 use Rattle.jpg_spec.specs.Segments.{table_codes}
 use Rattle.jpg_spec.specs.Typical.{dc_luma_counts, dc_luma_values, ac_luma_counts, ac_luma_values, dc_chroma_counts, dc_chroma_values, ac_chroma_counts, ac_chroma_values}
 use Rattle.jpg_spec.specs.ScanText.{typical_table}
-use Rattle.jpg_spec.proofs.Telling.{both, same_of}
 use Rattle.jpg_spec.proofs.Writing.{AllSent, AllHave}
 use Rattle.jpg_spec.proofs.Bands.{body, split}
+use Rattle.jpg_spec.proofs.Common.{both, same_of}
 
 -- TESTS on all numbers below one
 

@@ -4,10 +4,11 @@ use Rattle.std.specs.Prelude.{◌⊎◌, replicate}
 use Rattle.std.proofs.lemmas.List.{append_assoc, append-nil}
 use Rattle.jpg_spec.specs.Bits.{SpellsByte, SpellsData}
 use Rattle.jpg_spec.specs.Markers.{SpellsMarker}
-use Rattle.jpg_spec.proofs.MarkersOnce.{heads, no_head, fills_once, stuffed_no_marker, byte_no_marker}
+use Rattle.jpg_spec.proofs.MarkersOnce.{no_head, fills_once, stuffed_no_marker, byte_no_marker}
+use Rattle.jpg_spec.proofs.Common.{heads}
 
 -- one byte
-byte_once : (x y : ℕ) (f g u v : List ℕ) → SpellsByte x f → SpellsByte y g → f ++ u ≡ g ++ v → (x ≡ y) × (f ≡ g) × (u ≡ v)
+pub byte_once : (x y : ℕ) (f g u v : List ℕ) → SpellsByte x f → SpellsByte y g → f ++ u ≡ g ++ v → (x ≡ y) × (f ≡ g) × (u ≡ v)
 byte_once x y f g u v (inl s) (inl t) e =
     let h = heads x y u v (ap (λ l. l ++ u) (sym s.1) ∙ e ∙ ap (λ l. l ++ v) t.1) in
     (h.0, s.1 ∙ ap (λ n. n ∷ []) h.0 ∙ sym t.1, h.1)

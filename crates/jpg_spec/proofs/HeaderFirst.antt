@@ -3,7 +3,6 @@ use Rattle.std.proofs.Common.{◌≡◌, ℕ, ◌+◌, ◌-◌, ◌<◌, ◌≤�
 use Rattle.std.specs.Prelude.{◌⊎◌, Ok, Err}
 use Rattle.std.proofs.lemmas.List.{append_assoc, append-nil, take-append-drop, length-take-le}
 use Rattle.std.proofs.Math.Seq.{take-append-add}
-use Rattle.std.proofs.lemmas.Bool.Decides.{nat_tests}
 use Rattle.jpg_spec.specs.Faults.{Told, number_of}
 use Rattle.jpg_spec.specs.Segments.{ScanHead}
 use Rattle.jpg_spec.specs.Markers.{Segment, SpellsSegment, SpellsSegments, code_fault, has_scan, Pass, ShowsSegment}
@@ -20,9 +19,9 @@ use Rattle.jpg_spec.specs.Header.{header_rule, InHeader, HeaderShows, HeaderStan
 use Rattle.jpg_spec.specs.declared.fault.Fault.{Fault}
 use Rattle.jpg_spec.specs.declared.fault.Fault.TheVariants.{Truncated, MissingComponent, InputTooLong}
 use Rattle.jpg_spec.specs.declared.frame.Limits.{Limits}
-use Rattle.jpg_spec.proofs.Telling.{same_of}
 use Rattle.jpg_spec.proofs.OneHeader.{shown_not_standing, whole_not_standing, shown_not_whole, shown_once}
 use Rattle.jpg_spec.proofs.HeaderShown.{shown_in_file}
+use Rattle.jpg_spec.proofs.Common.{same_of, not_same}
 
 -- ITEMS begin with a whole header, or are segments of one
 
@@ -52,9 +51,6 @@ scan_passed limits before contents e = by (scan_header (frame_of limits before) 
     by (Ok head) h k = ap fault_in h
     by (Err other) h k = let z : Some other ≡ None = sym (ap (λ r. fault_in (r >>= admitted (frame_of limits before) before)) h) ∙ k in cc
 
-test_no : (a b : ℕ) → (a ≡ b → ⊥) → (a == b) ≡ false
-test_no a b h = grind (arith, nat_tests)
-
 items_header : (limits : Limits) (items : List Item) (blocks : Blocks) (front : List ℕ) → SpellsFront items front → Leads limits items blocks → BeginsWhole limits front ⊎ AreOfHeader limits (segments_of items) front
 items_header limits [] blocks front s l = inr (s, tt, refl)
 items_header limits (segment code contents ∷ items) blocks front s l = by (items_header limits items blocks s.0 s.3 l.2)
@@ -65,7 +61,7 @@ items_header limits (segment code contents ∷ items) blocks front s l = by (ite
     by : BeginsWhole limits s.0 ⊎ AreOfHeader limits before s.0 → BeginsWhole limits front ⊎ AreOfHeader limits ((code, contents) ∷ before) front
     by (inl h) = inl (whole_before limits front s.0 s.1 s.2 h)
     by (inr h) =
-        let no = test_no code 0xda s.4.2 in
+        let no = not_same code 0xda s.4.2 in
         let rule : header_rule limits before code contents ≡ None = ap (λ b. cond b (fault_in (scan_header (frame_of limits before) contents)) (contents_rule limits before code contents)) no ∙ l.1 in
         inr ((s.0, s.1, s.2, h.0, s.4.0, s.4.1), (l.0, rule, h.1), ap (λ b. b || has_scan before) no ∙ h.2)
 items_header limits (scan contents intervals ∷ items) blocks front s l = by (items_header limits items l.0 s.0 s.3 l.3)

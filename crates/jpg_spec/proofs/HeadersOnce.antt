@@ -1,11 +1,11 @@
 -- Segments before the first scan, and the items of a file that begin the same bytes: the one goes on from the other.
-use Rattle.std.proofs.Common.{◌≡◌, ℕ, Bool, true, false, ◌||◌, ◌==◌, List, [], ◌∷◌, ◌++◌, map, refl, sym, ap, ◌∙◌, arith, inl, inr, ⊎_elim}
+use Rattle.std.proofs.Common.{◌≡◌, ℕ, Bool, true, false, ◌||◌, ◌==◌, List, [], ◌∷◌, ◌++◌, map, refl, sym, ap, ◌∙◌, arith, inl, inr}
 use Rattle.std.specs.Prelude.{◌⊎◌}
 use Rattle.std.proofs.lemmas.List.{append_assoc, append-nil, append_cancel_left}
 use Rattle.std.proofs.lemmas.Bool.Decides.{nat_tests}
 use Rattle.jpg_spec.specs.Markers.{Segment, soi, SpellsSegment, SpellsSegments, has_scan}
 use Rattle.jpg_spec.specs.Items.{Item, segment, scan, segments_of, SpellsItem, SpellsFront}
-use Rattle.jpg_spec.proofs.MarkersOnce.{SpellsMore, GoesOn, behind_start, oldest, segment_once, same_segment}
+use Rattle.jpg_spec.proofs.MarkersOnce.{SpellsMore, GoesOn, oldest, segment_once, same_segment}
 
 -- LISTS OF ITEMS, the newest first
 
@@ -103,15 +103,3 @@ items_behind xs (item ∷ items) a b u v s none t e =
     by : OneGoesOn xs a items t.0 → OneGoesOn xs a (item ∷ items) b
     by (inl g) = further g.1.0 g.1.1 g.0 g.1.2 g.1.3 g.1.4
     by (inr g) = inr (item ∷ g.0, g.1 ++ t.1, ap (λ l. item ∷ l) g.2, t.2 ∙ ap (λ l. l ++ t.1) g.3 ∙ append_assoc a g.1 t.1, (g.1, t.1, refl, g.4, t.4))
-
--- with SOI before them
-pub headers_once : (xs : List Segment) (items : List Item) (a b u v : List ℕ) → SpellsSegments xs a → has_scan xs ≡ false → SpellsFront items b → a ++ u ≡ b ++ v → OneGoesOn xs a items b
-headers_once xs items a b u v s none t e =
-    let h = behind_start xs a s in
-    let k = behind_front items b t in
-    let from : h.0 ++ u ≡ k.0 ++ v = append_cancel_left soi (h.0 ++ u) (k.0 ++ v)
-    (sym (append_assoc soi h.0 u) ∙ ap (λ l. l ++ u) (sym h.1) ∙ e ∙ ap (λ l. l ++ v) k.1 ∙ append_assoc soi k.0 v) in
-    ⊎_elim
-    (λ g. inl (g.0, (g.1.0, g.1.1, g.1.2, h.1 ∙ ap (λ l. soi ++ l) g.1.3 ∙ sym (append_assoc soi k.0 g.1.1) ∙ ap (λ l. l ++ g.1.1) (sym k.1), g.1.4)))
-    (λ g. inr (g.0, g.1, g.2, k.1 ∙ ap (λ l. soi ++ l) g.3 ∙ sym (append_assoc soi h.0 g.1) ∙ ap (λ l. l ++ g.1) (sym h.1), g.4))
-    (items_behind xs items h.0 k.0 u v h.2 none k.2 from)

@@ -5,9 +5,8 @@ use Rattle.std.proofs.lemmas.Bool.Decides.{nat_tests}
 use Rattle.jpg_spec.specs.Lists.{is_among, below, chunks, joined}
 use Rattle.jpg_spec.specs.Geometry.{Frame, is_progressive, component_at, blocks_across, blocks_down, mcus_across, mcus_down, place, mcu_part, units}
 use Rattle.jpg_spec.specs.Segments.{ScanHead, head_components}
-use Rattle.jpg_spec.specs.Elements.{UnitLeft, zeros}
+use Rattle.jpg_spec.specs.Elements.{UnitLeft, zeros, new_unit}
 use Rattle.jpg_spec.specs.Scan.{Blocks, Scan, unit_at}
-use Rattle.jpg_spec.specs.GrayFile.{new_unit}
 use Rattle.jpg_spec.specs.InForce.{frame_of, head_in}
 use Rattle.jpg_spec.specs.Items.{segments_of}
 use Rattle.jpg_spec.specs.FirstFault.{HoldsAll}

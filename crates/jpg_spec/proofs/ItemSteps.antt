@@ -17,18 +17,18 @@ use Rattle.jpg_spec.specs.declared.fault.Fault.{Fault}
 use Rattle.jpg_spec.specs.declared.fault.Fault.TheVariants.{NoMarker, MissingComponent}
 use Rattle.jpg_spec.specs.declared.frame.Limits.{Limits}
 use Rattle.jpg_spec.specs.declared.frame.Place.{Place}
-use Rattle.jpg_spec.proofs.Telling.{same_of}
 use Rattle.jpg_spec.proofs.MarkersOnce.{segment_once, byte_no_marker, stuffed_no_marker}
 use Rattle.jpg_spec.specs.FileStands.{FileStands}
 use Rattle.jpg_spec.specs.ScanReading.{LeadingMarker, Beside, ScanPlace, scan_at, scan_item, ScanAt}
 use Rattle.jpg_spec.proofs.ScanSteps.{scan_ends, first_place}
+use Rattle.jpg_spec.proofs.Common.{same_of}
 
 -- FILL BYTES before a marker
 
 filled : (fill n : ℕ) (more : List ℕ) → replicate fill 255 ++ (replicate n 255 ++ more) ≡ replicate (fill + n) 255 ++ more
 filled fill n more = sym (append_assoc (replicate fill 255) (replicate n 255) more) ∙ ap (λ l. l ++ more) (replicate-append-replicate fill n 255)
 
-fill_marker : (fill code : ℕ) (marker : List ℕ) → SpellsMarker code marker → SpellsMarker code (replicate fill 255 ++ marker)
+pub fill_marker : (fill code : ℕ) (marker : List ℕ) → SpellsMarker code marker → SpellsMarker code (replicate fill 255 ++ marker)
 fill_marker fill code marker s =
     let z : fill + suc s.0 ≡ suc (fill + s.0) = omega arith in
     (fill + s.0, ap (λ l. replicate fill 255 ++ l) s.1 ∙ filled fill (suc s.0) (code ∷ []) ∙ ap (λ n. replicate n 255 ++ code ∷ []) z, s.2)
@@ -36,10 +36,10 @@ fill_marker fill code marker s =
 behind_fill : (fill : ℕ) (tail marker more : List ℕ) → tail ≡ marker ++ more → replicate fill 255 ++ tail ≡ (replicate fill 255 ++ marker) ++ more
 behind_fill fill tail marker more e = ap (λ l. replicate fill 255 ++ l) e ∙ sym (append_assoc (replicate fill 255) marker more)
 
-fill_begin : (fill : ℕ) (before : List Segment) (code : ℕ) (marker : List ℕ) → BeginsSegment before code marker → BeginsSegment before code (replicate fill 255 ++ marker)
+pub fill_begin : (fill : ℕ) (before : List Segment) (code : ℕ) (marker : List ℕ) → BeginsSegment before code marker → BeginsSegment before code (replicate fill 255 ++ marker)
 fill_begin fill before code marker s = (fill_marker fill code marker s.0, s.1, s.2)
 
-fill_segment : (fill code : ℕ) (contents bytes : List ℕ) → SpellsSegment code contents bytes → SpellsSegment code contents (replicate fill 255 ++ bytes)
+pub fill_segment : (fill code : ℕ) (contents bytes : List ℕ) → SpellsSegment code contents bytes → SpellsSegment code contents (replicate fill 255 ++ bytes)
 fill_segment fill code contents bytes s = (
   replicate fill 255 ++ s.0,
   fill_marker fill code s.0 s.1,
@@ -55,7 +55,7 @@ fill_shows fill rule before fault tail (inr (inl s)) =
     inr (inl (s.0, (k.0, replicate fill 255 ++ k.1, k.2, k.3, fill_begin fill before k.0 k.1 k.4, behind_fill fill tail k.1 (k.2 ∷ k.3 ∷ []) k.5, k.6)))
 fill_shows fill rule before fault tail (inr (inr s)) = inr (inr (s.0, s.1, fill_segment fill s.0 s.1 tail s.2, s.3, s.4, s.5))
 
-fill_part : (fill : ℕ) (before : List Segment) (tail : List ℕ) → PartOfSegment before tail → PartOfSegment before (replicate fill 255 ++ tail)
+pub fill_part : (fill : ℕ) (before : List Segment) (tail : List ℕ) → PartOfSegment before tail → PartOfSegment before (replicate fill 255 ++ tail)
 fill_part fill before tail (inl s) = inl (fill + s.0, ap (λ l. replicate fill 255 ++ l) s.1 ∙ replicate-append-replicate fill s.0 255)
 fill_part fill before tail (inr s) = inr (s.0, replicate fill 255 ++ s.1, fill_begin fill before s.0 s.1 s.2, by s.3)
   where
@@ -69,7 +69,7 @@ fill_part fill before tail (inr s) = inr (s.0, replicate fill 255 ++ s.1, fill_b
 
 -- THE RULE for kept markers, which the reader of segments judges by, is one for contents
 
-not_this : (code n : ℕ) → (code == 0xfe || is_within 0xe0 0xef code) ≡ true → nat_lt n 0xe0 ≡ true → (code == n) ≡ false
+pub not_this : (code n : ℕ) → (code == 0xfe || is_within 0xe0 0xef code) ≡ true → nat_lt n 0xe0 ≡ true → (code == n) ≡ false
 not_this code n kept low = by (code == n) refl
   where
     high : (k : ℕ) → nat_lt k 0xe0 ≡ true → (k == 0xfe || is_within 0xe0 0xef k) ≡ true → ⊥

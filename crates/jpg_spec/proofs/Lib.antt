@@ -1,6 +1,7 @@
 pub mod Bands
 pub mod Behind
 pub mod BlocksOnce
+pub mod Common
 pub mod DataFacts
 pub mod DataLength
 pub mod BlockLaws
@@ -21,6 +22,7 @@ pub mod Gate
 pub mod HeaderFirst
 pub mod HeaderShown
 pub mod HeadersOnce
+pub mod InForce
 pub mod IntervalUnits
 pub mod ItemSteps
 pub mod ItemsOnce
@@ -30,6 +32,7 @@ pub mod MovedBack
 pub mod MovedBounds
 pub mod MovedFrames
 pub mod MovedGrids
+pub mod MovedWritten
 pub mod Once
 pub mod OneCode
 pub mod OneFile
@@ -61,8 +64,10 @@ pub mod ProgressiveShares
 pub mod ProgressiveSpelled
 pub mod ProgressiveText
 pub mod ReadBytes
+pub mod ReadPicture
 pub mod RenewedScan
 pub mod Rows
+pub mod SameNumbers
 pub mod ScanAnswers
 pub mod ScanLength
 pub mod ScanSteps

@@ -7,11 +7,9 @@ use Rattle.std.proofs.lemmas.List.{append_assoc, append-nil, append_cancel_left}
 use Rattle.jpg_spec.specs.Segments.{two_bytes}
 use Rattle.jpg_spec.specs.Markers.{Segment, soi, SpellsMarker, SpellsSegment, SpellsSegments}
 use Rattle.jpg_spec.proofs.Rows.{append_apart}
+use Rattle.jpg_spec.proofs.Common.{heads}
 
 -- MARKERS
-
-pub heads : {X : Type 0} (a b : X) (xs ys : List X) → a ∷ xs ≡ b ∷ ys → (a ≡ b) × (xs ≡ ys)
-heads a b xs ys e = (cc, cc)
 
 pub no_head : {X : Type 0} (a : X) (xs : List X) → [] ≡ a ∷ xs → ⊥
 no_head a xs e = cc
@@ -109,10 +107,6 @@ oldest x [] text s = ([], x, s.1, [], refl, s.2 ∙ ap (λ l. l ++ s.1) s.3 ∙ 
 oldest x (y ∷ xs) text s =
     let h = oldest y xs s.0 s.3 in
     (x ∷ h.0, h.1, h.2, h.3 ++ s.1, ap (λ l. x ∷ l) h.4, s.2 ∙ ap (λ l. l ++ s.1) h.5 ∙ append_assoc h.2 h.3 s.1, h.6, h.7, (h.3, s.1, refl, h.8, s.4, s.5))
-
--- no further segments
-goes_same : (xs : List Segment) (a : List ℕ) → GoesOn xs a xs a
-goes_same xs a = ([], [], refl, sym (append-nil a), refl)
 
 -- one segment more
 goes_more : (xs ys : List Segment) (a b front rest : List ℕ) (y : Segment) → b ≡ front ++ rest → SpellsSegment y.0 y.1 rest → (y.0 ≡ 0xd9 → ⊥) → GoesOn xs a ys front → GoesOn xs a (y ∷ ys) b

@@ -41,7 +41,7 @@ all_small c (v ∷ xs) h =
 abbrev places : List ℕ
 places = map exchanged zigzag
 
-transposed_at : (xs : List ℤ) (k : ℕ) → k < 64 → get_or (transposed (pos 0) xs) k (pos 0) ≡ get_or xs (get_or places k 0) (pos 0)
+pub transposed_at : (xs : List ℤ) (k : ℕ) → k < 64 → get_or (transposed (pos 0) xs) k (pos 0) ≡ get_or xs (get_or places k 0) (pos 0)
 unfolding transposed
 transposed_at xs k lt =
     get_or-map (λ n. get_or xs (exchanged n) (pos 0)) zigzag k 0 (pos 0) lt ∙ sym (ap (λ (n : ℕ). get_or xs n (pos 0)) (get_or-map exchanged zigzag k 0 0 lt))

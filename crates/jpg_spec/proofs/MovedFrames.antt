@@ -15,16 +15,16 @@ use Rattle.jpg_spec.specs.Moved.{Choice, moved_frame, transformed_frame, trimmed
 use Rattle.jpg_spec.specs.declared.frame.Component.{Component}
 use Rattle.jpg_spec.specs.declared.transform.Transform.{Transform}
 use Rattle.jpg_spec.proofs.Rows.{map_map}
-use Rattle.jpg_spec.proofs.Turned.{not_zero}
 use Rattle.jpg_spec.proofs.PlacesFound.{covers, least}
+use Rattle.jpg_spec.proofs.Common.{not_zero}
 
 -- GREATEST FACTORS
 
-across_low : (cs : List Component) → All HasFactors cs → 1 ≤ length cs → 1 ≤ greatest (map (λ c. c.h) cs)
+pub across_low : (cs : List Component) → All HasFactors cs → 1 ≤ length cs → 1 ≤ greatest (map (λ c. c.h) cs)
 across_low [] all some = absurd (omega (arith, some))
 across_low (c ∷ cs) all some = (let h = (All-head HasFactors c cs all).h_low in omega (arith, h))
 
-down_low : (cs : List Component) → All HasFactors cs → 1 ≤ length cs → 1 ≤ greatest (map (λ c. c.v) cs)
+pub down_low : (cs : List Component) → All HasFactors cs → 1 ≤ length cs → 1 ≤ greatest (map (λ c. c.v) cs)
 down_low [] all some = absurd (omega (arith, some))
 down_low (c ∷ cs) all some = (let h = (All-head HasFactors c cs all).v_low in omega (arith, h))
 

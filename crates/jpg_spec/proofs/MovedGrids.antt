@@ -9,13 +9,13 @@ use Rattle.jpg_spec.specs.Geometry.{Frame, div_up, greatest, h_max, v_max, compo
 use Rattle.jpg_spec.specs.Meaning.{Meaning, PictureComponent, picture_frame}
 use Rattle.jpg_spec.specs.Moves.{component_of}
 use Rattle.jpg_spec.specs.Transforms.{transformed, transposes, mirrors_across, mirrors_down, opposite, changed_columns, changed_rows, transpose, exchanged_axes}
-use Rattle.jpg_spec.specs.Moved.{Grids, frame_grids, picture_grids, trimmed, whole_side, trimmed_frame, transformed_frame, exchanged_factors, columns_in, rows_in}
+use Rattle.jpg_spec.specs.Moved.{Grids, frame_grids, picture_grids, trimmed, whole_side, transformed_frame, exchanged_factors, columns_in, rows_in}
 use Rattle.jpg_spec.specs.declared.frame.Component.{Component}
 use Rattle.jpg_spec.specs.declared.transform.Transform.{Transform}
 use Rattle.jpg_spec.specs.declared.transform.Transform.TheVariants.{Keep, FlipH, FlipV, Transpose, Transverse, Rotate90, Rotate180, Rotate270}
 use Rattle.jpg_spec.proofs.Rows.{map_map}
-use Rattle.jpg_spec.proofs.Turned.{lt_yes, lt_no}
 use Rattle.jpg_spec.proofs.MovedFrames.{up_mono}
+use Rattle.jpg_spec.proofs.Common.{lt_yes, lt_no}
 
 -- ALONG ONE SIDE
 
@@ -92,9 +92,6 @@ turned_frame t f = by (transposes t)
     by : (b : Bool) → frame_grids (cond b (record f { width = f.height; height = f.width; components = map exchanged_factors f.components }) f) ≡ over_grids b (frame_grids f)
     by true = exchanged_grids f
     by false = refl
-
-pub cut_frame : (trim : Bool) (t : Transform) (f : Frame) → frame_grids (trimmed_frame trim t f) ≡ trim_grids trim t (frame_grids f)
-cut_frame trim t f = refl
 
 -- of meanings
 

@@ -9,6 +9,7 @@ use Rattle.jpg_spec.specs.Codes.{Code}
 use Rattle.jpg_spec.specs.Numbers.{category, digits, extra_bits}
 use Rattle.jpg_spec.specs.Elements.{Coding, UnitLeft, Standing, Covers, predictions_after, Element, difference, dc_bit, value, long_run, ends, Tells, SpellsElement, codes_due, zeros_in, nonzeros_in, is_zero, scaled, corrected, going_on, old_values, bits_behind}
 use Rattle.jpg_spec.proofs.Told.{before_zero, behind_zero, long_passed, long_left, values_told, units_after}
+use Rattle.jpg_spec.proofs.Common.{append_inj, clash}
 
 -- WHAT IS PASSED is told by the run
 
@@ -108,17 +109,6 @@ pub record NumberFacts : Type 0 where
   pub run : (b x : ℕ) → 1 ≤ b → x < 2 ^ (digits b - 1) → bits_of (digits b - 1) x ≡ bits_of (digits b - 1) b → b ≡ 2 ^ (digits b - 1) + x
   pub bands : (m n : ℕ) → 1 ≤ m → 1 ≤ n → digits m ≡ digits n → bits_of (digits m - 1) m ≡ bits_of (digits n - 1) n → m ≡ n
 
-pub append_inj : (a b x y : List Bool) → length a ≡ length b → a ++ x ≡ b ++ y → (a ≡ b) × (x ≡ y)
-append_inj [] [] x y l e = (refl, e)
-append_inj [] (b ∷ bs) x y l e = let f : ⊥ = omega arith in absurd f
-append_inj (a ∷ as') [] x y l e = let f : ⊥ = omega arith in absurd f
-append_inj (a ∷ as') (b ∷ bs) x y l e =
-    let t : as' ++ x ≡ bs ++ y = cc in
-    let h : a ≡ b = cc in
-    let r = append_inj as' bs x y (omega arith) t in
-    let r0 = r.0 in
-    (cc, r.1)
-
 pub pair_0 : (a b : List Bool) (s t : ℕ) → (let q : Code = (a, s) in q) ≡ (let q : Code = (b, t) in q) → a ≡ b
 pair_0 a b s t e = ap (λ (q : Code). q.0) e
 
@@ -134,9 +124,6 @@ symbol_once codes one code code' s s' b b' x x' front front' h k e e' same =
     let q = one (code, s) (code', s') (b ++ x) (b' ++ x') h k all in
     let c0 : code ≡ code' = pair_0 code code' s s' q in
     (pair_1 code code' s s' q, append_cancel_left code (b ++ x) (b' ++ x') (all ∙ ap (λ f. f ++ (b' ++ x')) (sym c0)))
-
-pub clash : (b : Bool) → b ≡ true → b ≡ false → ⊥
-clash b e f = cc
 
 same_value : (run run' : ℕ) (v v' : ℤ) (bits bits' : List Bool) → run ≡ run' → v ≡ v' → bits ≡ bits' → value run v bits ≡ value run' v' bits'
 same_value run run' v v' bits bits' a b e = cc

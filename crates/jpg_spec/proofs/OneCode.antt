@@ -6,8 +6,9 @@ use Rattle.std.proofs.lemmas.List.Elements.{Contains-append_cases}
 use Rattle.std.proofs.Math.Nat.{pow-succ'}
 use Rattle.jpg_spec.specs.Bits.{bits_of}
 use Rattle.jpg_spec.specs.Codes.{Code, codes_at, codes_from, AreCodes}
-use Rattle.jpg_spec.proofs.Strings.{length-bits_of, bits_of-split, bits_of_inj, append_inj}
+use Rattle.jpg_spec.proofs.Strings.{length-bits_of, bits_of-split, bits_of_inj}
 use Rattle.jpg_spec.proofs.Levels.{contains_none, contains_cons, front_not_below}
+use Rattle.jpg_spec.proofs.Common.{append_inj}
 
 -- a code of a length, whole
 level_code : (count len c : ℕ) (symbols : List ℕ) (code : Code) → Contains (codes_at count len c symbols) code → (i : ℕ) × (i < count) × (code ≡ (bits_of len (c + i), get_or symbols i 0))

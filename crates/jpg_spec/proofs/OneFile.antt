@@ -7,18 +7,18 @@ use Rattle.std.proofs.lemmas.Nat.{from_be_bytes-to_be_bytes_2}
 use Rattle.std.proofs.lemmas.List.{append_assoc, append_cancel_left, length-append}
 use Rattle.std.proofs.lemmas.List.Elements.{All-head, All-tail}
 use Rattle.jpg_spec.specs.Bits.{Packs, SpellsByte, SpellsData, IsMarkerCode}
-use Rattle.jpg_spec.specs.Elements.{SpellsUnits}
+use Rattle.jpg_spec.specs.Elements.{SpellsUnits, new_unit}
 use Rattle.jpg_spec.specs.FileText.{segment_text}
-use Rattle.jpg_spec.specs.GrayFile.{Gray, IsGray, IsWholeSide, SpellsGray, plain_jfif, plain_frame, gray_front, gray_frame, gray_head, gray_coding, typical_tables, new_unit}
+use Rattle.jpg_spec.specs.GrayFile.{Gray, IsGray, IsWholeSide, SpellsGray, plain_jfif, plain_frame, gray_front}
 use Rattle.jpg_spec.specs.Markers.{soi, eoi}
+use Rattle.jpg_spec.specs.ScanText.{gray_frame, gray_head, typical_tables, gray_coding}
 use Rattle.jpg_spec.proofs.Sound.{sound, typical_valid, packed_once}
 use Rattle.jpg_spec.proofs.Rows.{append_apart}
 use Rattle.jpg_spec.proofs.PlainText.{dc_segment, ac_segment, scan_segment}
+use Rattle.jpg_spec.proofs.Common.{heads}
+use Rattle.jpg_spec.proofs.Gate.{byte_once}
 
 -- DATA BYTES are cut in one way, up to a marker
-
-heads : (a b : ℕ) (xs ys : List ℕ) → a ∷ xs ≡ b ∷ ys → (a ≡ b) × (xs ≡ ys)
-heads a b xs ys e = (cc, cc)
 
 -- fill bytes up to the stuffed one
 runs : (m n : ℕ) (x y : List ℕ) → (replicate m 255 ++ 0 ∷ []) ++ x ≡ (replicate n 255 ++ 0 ∷ []) ++ y → (m ≡ n) × (x ≡ y)
@@ -28,20 +28,6 @@ runs (suc m) zero x y e = let h = heads 255 0 ((replicate m 255 ++ 0 ∷ []) ++ 
 runs (suc m) (suc n) x y e =
     let r = runs m n x y (heads 255 255 ((replicate m 255 ++ 0 ∷ []) ++ x) ((replicate n 255 ++ 0 ∷ []) ++ y) e).1 in
     (ap suc r.0, r.1)
-
-one_byte : (a b : ℕ) (f g x y : List ℕ) → SpellsByte a f → SpellsByte b g → f ++ x ≡ g ++ y → (a ≡ b) × (f ≡ g) × (x ≡ y)
-one_byte a b f g x y (inl s) (inl t) e =
-    let h = heads a b x y (ap (λ l. l ++ x) (sym s.1) ∙ e ∙ ap (λ l. l ++ y) t.1) in
-    (h.0, s.1 ∙ ap (λ n. n ∷ []) h.0 ∙ sym t.1, h.1)
-one_byte a b f g x y (inl s) (inr t) e =
-    let h = heads a 255 x ((replicate t.1.0 255 ++ 0 ∷ []) ++ y) (ap (λ l. l ++ x) (sym s.1) ∙ e ∙ ap (λ l. l ++ y) t.1.1) in
-    absurd (s.0 h.0)
-one_byte a b f g x y (inr s) (inl t) e =
-    let h = heads 255 b ((replicate s.1.0 255 ++ 0 ∷ []) ++ x) y (ap (λ l. l ++ x) (sym s.1.1) ∙ e ∙ ap (λ l. l ++ y) t.1) in
-    absurd (t.0 (sym h.0))
-one_byte a b f g x y (inr s) (inr t) e =
-    let h = runs (suc s.1.0) (suc t.1.0) x y (ap (λ l. l ++ x) (sym s.1.1) ∙ e ∙ ap (λ l. l ++ y) t.1.1) in
-    (s.0 ∙ sym t.0, s.1.1 ∙ ap (λ n. replicate n 255 ++ 0 ∷ []) h.0 ∙ sym t.1.1, h.1)
 
 -- a marker begins no data byte
 no_byte : (byte code : ℕ) (front x r : List ℕ) → IsMarkerCode code → SpellsByte byte front → 255 ∷ code ∷ r ≡ front ++ x → ⊥
@@ -67,14 +53,11 @@ data_apart (a ∷ coded) [] text more code mark rest last m n s t e =
 data_apart (a ∷ coded) (b ∷ other) text more code mark rest last m n s t e =
     let all : s.0 ++ (s.1 ++ 255 ∷ code ∷ rest) ≡ t.0 ++ (t.1 ++ 255 ∷ mark ∷ last) =
     sym (append_assoc s.0 s.1 (255 ∷ code ∷ rest)) ∙ ap (λ l. l ++ 255 ∷ code ∷ rest) (sym s.2) ∙ e ∙ ap (λ l. l ++ 255 ∷ mark ∷ last) t.2 ∙ append_assoc t.0 t.1 (255 ∷ mark ∷ last) in
-    let h = one_byte a b s.0 t.0 (s.1 ++ 255 ∷ code ∷ rest) (t.1 ++ 255 ∷ mark ∷ last) s.3 t.3 all in
+    let h = byte_once a b s.0 t.0 (s.1 ++ 255 ∷ code ∷ rest) (t.1 ++ 255 ∷ mark ∷ last) s.3 t.3 all in
     let r = data_apart coded other s.1 t.1 code mark rest last m n s.4 t.4 h.2 in
     (ap (λ k. k ∷ coded) h.0 ∙ ap (λ l. b ∷ l) r.0, s.2 ∙ ap (λ l. l ++ s.1) h.1 ∙ ap (λ l. t.0 ++ l) r.1 ∙ sym t.2, r.2, r.3)
 
 -- SEGMENTS of one length
-
-two_bytes_long : (n : ℕ) → length (to_be_bytes w16 n) ≡ 2
-two_bytes_long n = refl
 
 segment_apart : (code : ℕ) (xs ys a b : List ℕ) → length xs ≡ length ys → segment_text code xs ++ a ≡ segment_text code ys ++ b → (xs ≡ ys) × (a ≡ b)
 segment_apart code xs ys a b l e =

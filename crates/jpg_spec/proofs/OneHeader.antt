@@ -6,9 +6,8 @@ use Rattle.jpg_spec.specs.Header.{header_rule, InHeader, HeaderShows, HeaderStan
 use Rattle.jpg_spec.specs.declared.fault.Fault.{Fault}
 use Rattle.jpg_spec.specs.declared.fault.Fault.TheVariants.{NotBuilt, NoMarker, MissingComponent}
 use Rattle.jpg_spec.specs.declared.frame.Limits.{Limits}
-use Rattle.jpg_spec.proofs.MarkersOnce.{heads}
 use Rattle.jpg_spec.proofs.ReadBytes.{State, starts, starting, whole, filling, marked, half, inside, stopped, ended, behind, next, read, called, read_both, read_behind, read_begin, read_segments, read_between, read_fault, read_eoi, reads}
-use Rattle.jpg_spec.proofs.SingleFrame.{neither}
+use Rattle.jpg_spec.proofs.Common.{neither, heads}
 
 -- HOW FAR bytes have come: more may follow, or the last byte said what they are, or bytes are behind such a one
 pub data Phase : Type 0 where

@@ -12,9 +12,9 @@ use Rattle.jpg_spec.specs.Transforms.{transformed, transposes, opposite, changed
 use Rattle.jpg_spec.specs.Moved.{Grids, picture_grids, real_alone}
 use Rattle.jpg_spec.specs.WholeBlocks.{HasWholeBlocks}
 use Rattle.jpg_spec.specs.declared.transform.Transform.{Transform}
-use Rattle.jpg_spec.proofs.Turned.{lt_yes, lt_no}
 use Rattle.jpg_spec.proofs.Transforming.{by_formula}
 use Rattle.jpg_spec.proofs.MovedGrids.{over_grids, columns_by, rows_by, turned_picture, framed_picture, columns_picture, rows_picture, IsIn, to_grids, from_grids, opposite_in}
+use Rattle.jpg_spec.proofs.Common.{lt_yes, lt_no}
 
 -- zero blocks stay
 
@@ -131,5 +131,5 @@ twice_real : (b : Bool) (block : List ℤ) → cond b block (zeros 64) ≡ cond 
 twice_real true block = refl
 twice_real false block = refl
 
-alone : (M : Meaning) → HasRealBlocks (real_alone M)
+pub alone : (M : Meaning) → HasRealBlocks (real_alone M)
 alone M i x y = twice_real (test (picture_frame M) i x y) (M.blocks i x y)

@@ -60,6 +60,3 @@ packs bits =
     let r : length (replicate n true) ≡ n = length-replicate n true in
     let l : length (padded bits) ≡ length bits + n = length-append bits (replicate n true) ∙ ap (λ k. length bits + k) r in
     (replicate n true, omega (arith, r), whole_bits (padded bits) (omega (arith, l)))
-
-pub data_hold : (bits : List Bool) → Packs bits (whole_bytes (padded bits)) × SpellsData (whole_bytes (padded bits)) (stuffed (whole_bytes (padded bits)))
-data_hold bits = (packs bits, data_spelled (whole_bytes (padded bits)))

@@ -17,13 +17,14 @@ use Rattle.jpg_spec.proofs.Facts.{facts}
 use Rattle.jpg_spec.proofs.Strings.{length-bits_of}
 use Rattle.jpg_spec.proofs.Levels.{contains_none, front_not_below}
 use Rattle.jpg_spec.proofs.MarkersOnce.{no_head}
-use Rattle.jpg_spec.proofs.Once.{IsCoding, OneWay, GoesOn, fronts_once, head_inj, no_units, element_once, front_once, symbol_once, clash}
+use Rattle.jpg_spec.proofs.Once.{IsCoding, OneWay, GoesOn, fronts_once, head_inj, no_units, element_once, front_once, symbol_once}
 use Rattle.jpg_spec.proofs.Excludes.{codes_are_due, no_code, right_symbol, first_code_once, bad_run, past_end, shows_excludes}
 use Rattle.jpg_spec.proofs.Sound.{one_due}
 use Rattle.jpg_spec.proofs.DataFacts.{shows_more}
 use Rattle.jpg_spec.specs.FileStands.{AreDue}
 use Rattle.jpg_spec.specs.Parts.{StandsInUnits, HoldsNoInterval, ShowsNoFault}
 use Rattle.jpg_spec.proofs.Parts.{IsProperFront, FrontAt, part_front}
+use Rattle.jpg_spec.proofs.Common.{clash}
 
 -- NO CODE IS EMPTY
 abbrev pub AreSome : List Code → Type 0

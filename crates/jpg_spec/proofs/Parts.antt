@@ -14,9 +14,9 @@ use Rattle.jpg_spec.specs.Parts.{BeginsCode, IsFront, InCode, InDifference, InNu
 use Rattle.jpg_spec.proofs.Facts.{facts}
 use Rattle.jpg_spec.proofs.ExtraBits.{number_of_bits, value_of_bits}
 use Rattle.jpg_spec.proofs.MarkersOnce.{no_head}
-use Rattle.jpg_spec.proofs.Once.{clash}
-use Rattle.jpg_spec.proofs.Telling.{at_zero, lt_of, not_lt_of}
+use Rattle.jpg_spec.proofs.Telling.{at_zero}
 use Rattle.jpg_spec.proofs.Bands.{nonzeros-append}
+use Rattle.jpg_spec.proofs.Common.{lt_of, not_lt_of, clash}
 
 -- Nothing; some of the bits of a code; some of those of an element that may stand there; or a code of EOBn and fewer than n bits behind it.
 abbrev pub IsProperFront : Coding → Standing → UnitLeft → List UnitLeft → List Bool → Type 0

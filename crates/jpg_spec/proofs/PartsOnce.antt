@@ -11,9 +11,10 @@ use Rattle.jpg_spec.specs.Parts.{IsFront, WantsCorrection, PartOfElement, in_cod
 use Rattle.jpg_spec.specs.Sound.{IsSound}
 use Rattle.jpg_spec.proofs.Facts.{facts}
 use Rattle.jpg_spec.proofs.Bands.{nonzeros-append}
-use Rattle.jpg_spec.proofs.Once.{GoesOn, append_inj, symbol_once, fronts_once, clash, head_inj}
+use Rattle.jpg_spec.proofs.Once.{GoesOn, symbol_once, fronts_once, head_inj}
 use Rattle.jpg_spec.proofs.Parts.{in_ac, some_old, same_head, part_front}
 use Rattle.jpg_spec.proofs.PartStands.{coding_is, codes_one, codes_not_empty, no_further, part_no_code, empty_front}
+use Rattle.jpg_spec.proofs.Common.{append_inj, clash}
 
 -- WHAT WAS PASSED is told by how many corrections it took
 
@@ -92,9 +93,6 @@ wanted_value run size some most =
     let m : (16 * run + size) % 16 ≡ size = omega (arith, some, most) in
     let z : ((16 * run + size) % 16 == 0) ≡ false = grind (arith, nat_tests) in
     ap (λ b. cond b (cond (16 * run + size == 0xf0) 0 ((16 * run + size) / 16)) ((16 * run + size) % 16)) z ∙ m
-
-wanted_long : wanted 0xf0 ≡ 0
-wanted_long = refl
 
 wanted_ends : (n : ℕ) → n ≤ 14 → wanted (16 * n) ≡ n
 wanted_ends n most =

@@ -15,11 +15,11 @@ use Rattle.jpg_spec.specs.declared.fault.Fault.{Fault}
 use Rattle.jpg_spec.specs.declared.frame.Place.{Place}
 use Rattle.jpg_spec.specs.declared.frame.Limits.{Limits}
 use Rattle.jpg_spec.proofs.Strings.{length-bits_of}
-use Rattle.jpg_spec.proofs.SingleFrame.{neither}
 use Rattle.jpg_spec.specs.Parts.{StandsInUnits, in_code}
 use Rattle.jpg_spec.specs.PictureInWork.{is_at, AreDistinct, IntervalRead, ScanSoFar}
 use Rattle.jpg_spec.proofs.BlocksOnce.{joined_chunks}
 use Rattle.jpg_spec.proofs.DataFacts.{bits_join, shows_more}
+use Rattle.jpg_spec.proofs.Common.{neither}
 
 -- the pictures of items have blocks of 64 values
 pub leads_sizes : (limits : Limits) (items : List Item) (blocks : Blocks) → Leads limits items blocks → (i x y : ℕ) → length (blocks i x y) ≡ 64
@@ -150,11 +150,6 @@ pub so_far_units : (s : Scan) (before work : Blocks) (done : List (List ℕ)) (p
     → map (unit_at s work) places ≡ map (unit_at s before) places
 so_far_units s before work done places later distinct w =
     same_units s before work (joined w.front) (w.changes).elsewhere places (apart_swap (joined w.front) places (due_apart s before work done places later distinct w))
-
--- the places of the next interval are distinct
-pub so_far_distinct : (s : Scan) (before work : Blocks) (done : List (List ℕ)) (places : List Place) (later : List (List Place)) → AreDistinct s.places → ScanSoFar s before work done (places ∷ later) → AreDistinct places
-so_far_distinct s before work done places later distinct w =
-    distinct_front places (joined later) (distinct_behind (joined w.front) (places ++ joined later) (subst (λ l. AreDistinct l) (all_places s before work done places later w) distinct))
 
 -- THE STEP: one more interval was read
 pub so_far_next : (s : Scan) (before work new : Blocks) (done : List (List ℕ)) (coded : List ℕ) (bits : List Bool) (places : List Place) (later : List (List Place)) → AreDistinct s.places

@@ -10,10 +10,8 @@ use Rattle.jpg_spec.specs.ScanText.{units_due, last_dc}
 use Rattle.jpg_spec.specs.Written.{IsWritable}
 use Rattle.jpg_spec.specs.PictureInWork.{is_at, AreDistinct}
 use Rattle.jpg_spec.specs.declared.frame.Place.{Place}
-use Rattle.jpg_spec.proofs.Telling.{both}
-use Rattle.jpg_spec.proofs.SingleFrame.{neither}
-use Rattle.jpg_spec.proofs.Writing.{and_intro}
 use Rattle.jpg_spec.proofs.PictureInWork.{is_at_same, is_at_swap}
+use Rattle.jpg_spec.proofs.Common.{both, and_intro, neither}
 
 -- what holds of each
 abbrev pub Each : {A : Type 0} → (A → Type 0) → List A → Type 0

@@ -9,9 +9,8 @@ use Rattle.jpg_spec.specs.Lists.{any_of, below, is_among, is_distinct}
 use Rattle.jpg_spec.specs.Geometry.{Frame, component_at, blocks_across, blocks_down, mcus_across, mcus_down, place, mcu_part, single_units, interleaved_units, units}
 use Rattle.jpg_spec.specs.PictureInWork.{is_at, AreDistinct}
 use Rattle.jpg_spec.specs.declared.frame.Place.{Place}
-use Rattle.jpg_spec.proofs.Telling.{both, same_of}
-use Rattle.jpg_spec.proofs.SingleFrame.{neither}
 use Rattle.jpg_spec.proofs.PictureInWork.{AreApart, any_join, apart_swap}
+use Rattle.jpg_spec.proofs.Common.{both, same_of, neither}
 
 -- A KEY is a number that the place of a block has.
 abbrev pub Key : Type 0

@@ -10,13 +10,11 @@ use Rattle.jpg_spec.specs.Geometry.{Frame, div_up, h_max, v_max, component_at, b
 use Rattle.jpg_spec.specs.FrameHeader.{IsFrame}
 use Rattle.jpg_spec.specs.PictureInWork.{is_at}
 use Rattle.jpg_spec.specs.declared.frame.Place.{Place}
-use Rattle.jpg_spec.proofs.Telling.{both, same_of, lt_of}
-use Rattle.jpg_spec.proofs.SingleFrame.{same_itself}
-use Rattle.jpg_spec.proofs.Writing.{and_intro}
 use Rattle.jpg_spec.proofs.PictureInWork.{any_join}
 use Rattle.jpg_spec.proofs.PlacesSome.{h_max_some, v_max_some, factors_at}
 use Rattle.jpg_spec.proofs.PlacedBlocks.{Each, each_join}
 use Rattle.jpg_spec.proofs.PlacesDistinct.{map_is_flat}
+use Rattle.jpg_spec.proofs.Common.{both, lt_of, same_of, and_intro, same_itself}
 
 -- EACH PLACE
 

@@ -13,19 +13,20 @@ use Rattle.jpg_spec.specs.Lists.{are_equal, below, joined}
 use Rattle.jpg_spec.specs.Geometry.{Frame, units, div_up, place}
 use Rattle.jpg_spec.specs.Elements.{zeros}
 use Rattle.jpg_spec.specs.Scan.{Blocks, block_at}
-use Rattle.jpg_spec.specs.ScanText.{UnitDue, units_due, last_dc, interval_elements, element_bits, scan_data, typical_table}
+use Rattle.jpg_spec.specs.ScanText.{UnitDue, units_due, last_dc, interval_elements, element_bits, scan_data, typical_table, gray_frame, gray_head}
 use Rattle.jpg_spec.specs.Meaning.{Meaning}
 use Rattle.jpg_spec.specs.Moves.{is_wide, headed}
 use Rattle.jpg_spec.specs.Script.{sequential_script}
-use Rattle.jpg_spec.specs.FileText.{segment_text, slot_in, quant_text, quants_text, frame_text, frame_of_meaning, scans_text, file_text, off, nothing_written, kept_text}
-use Rattle.jpg_spec.specs.GrayFile.{Gray, IsGray, across, down, gray_meaning, gray_frame, gray_head, gray_front, plain_frame, plain_jfif, sequential_text, flipped_gray, turned_text}
+use Rattle.jpg_spec.specs.FileText.{segment_text, slot_in, quant_text, quants_text, frame_text, frame_of_meaning, scans_text, file_text, off, nothing_written, kept_text, sequential_text}
+use Rattle.jpg_spec.specs.GrayFile.{Gray, IsGray, across, down, gray_meaning, gray_front, plain_frame, plain_jfif, flipped_gray, turned_text}
 use Rattle.jpg_spec.specs.Markers.{eoi}
 use Rattle.jpg_spec.specs.Written.{sequential_bits, plain_bits}
 use Rattle.jpg_spec.specs.Typical.{dc_luma_counts, dc_luma_values, ac_luma_counts, ac_luma_values}
 use Rattle.jpg_spec.specs.declared.frame.Place.{Place}
 use Rattle.jpg_spec.specs.declared.frame.Process.TheVariants.{Baseline, Extended}
 use Rattle.jpg_spec.proofs.Rows.{map_map, flat_map_map, by_items, at_row, row_is}
-use Rattle.jpg_spec.proofs.Turned.{lt_yes, grid, grid_at, rows_of, rows_cut, flipped_is, flipped_meaning_is}
+use Rattle.jpg_spec.proofs.Turned.{grid, grid_at, rows_of, rows_cut, flipped_is, flipped_meaning_is}
+use Rattle.jpg_spec.proofs.Common.{lt_yes}
 
 -- THE UNITS
 

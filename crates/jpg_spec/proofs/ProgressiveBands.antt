@@ -10,17 +10,13 @@ use Rattle.jpg_spec.specs.Segments.{ScanHead, head_components}
 use Rattle.jpg_spec.specs.Elements.{are_in_bounds, scaled, zeros}
 use Rattle.jpg_spec.specs.Sending.{divided}
 use Rattle.jpg_spec.specs.Scan.{Blocks, Scan, band, block_at, coefficient}
-use Rattle.jpg_spec.specs.GrayFile.{gray_coding}
 use Rattle.jpg_spec.specs.Meaning.{Meaning}
-use Rattle.jpg_spec.specs.ScanText.{last_dc}
+use Rattle.jpg_spec.specs.ScanText.{last_dc, gray_coding}
 use Rattle.jpg_spec.specs.History.{names, has_coefficient}
 use Rattle.jpg_spec.specs.FileText.{frame_of_meaning}
 use Rattle.jpg_spec.specs.PictureInWork.{is_at, AreDistinct}
 use Rattle.jpg_spec.specs.WrittenFile.{IsBaselineBlock}
 use Rattle.jpg_spec.specs.declared.frame.Place.{Place}
-use Rattle.jpg_spec.proofs.Telling.{both, le_of}
-use Rattle.jpg_spec.proofs.Turned.{lt_yes}
-use Rattle.jpg_spec.proofs.Writing.{and_intro}
 use Rattle.jpg_spec.proofs.PlacesDistinct.{units_distinct, map_is_flat}
 use Rattle.jpg_spec.proofs.PlacedBlocks.{Each, each_map, each_join, Placed, block_due, placed_due, all_placed}
 use Rattle.jpg_spec.proofs.PlacesFound.{flat_below, each_units, real_found}
@@ -29,6 +25,7 @@ use Rattle.jpg_spec.proofs.RenewedScan.{renew_block, renewed_band, rows_of, afte
 use Rattle.jpg_spec.proofs.ProgressiveRows.{IsBandDue}
 use Rattle.jpg_spec.proofs.ProgressiveKnown.{ac_known, IsRenewed, was_known}
 use Rattle.jpg_spec.proofs.ProgressiveScan.{IsProgressiveScan, each_both, each_place, rows_each}
+use Rattle.jpg_spec.proofs.Common.{both, le_of, and_intro, lt_yes}
 
 -- BANDS
 

@@ -7,9 +7,10 @@ use Rattle.jpg_spec.specs.Lists.{is_empty, is_among, below}
 use Rattle.jpg_spec.specs.Segments.{ScanHead, table_codes}
 use Rattle.jpg_spec.specs.Elements.{Coding, Element, long_run, is_dc_bit, symbol_of, predicted}
 use Rattle.jpg_spec.specs.Sending.{Sent, correction, newly, shifted, up_to_last, behind_last, corrections_of, value_elements, ended, band_elements}
-use Rattle.jpg_spec.specs.ScanText.{UnitDue, Owned, unit_elements, is_dc, table_of, symbols_used, flat_table}
-use Rattle.jpg_spec.proofs.Telling.{same_of}
-use Rattle.jpg_spec.proofs.Rows.{at_below, length_below}
+use Rattle.jpg_spec.specs.ScanText.{UnitDue, Owned, unit_elements, is_dc, table_place, symbols_used, flat_table}
+use Rattle.jpg_spec.proofs.Common.{same_of}
+use Rattle.jpg_spec.proofs.Rows.{at_below}
+use Rattle.jpg_spec.proofs.Common.{length_below}
 use Rattle.jpg_spec.proofs.Small.{few_digits, IsDc, dc_category}
 use Rattle.jpg_spec.proofs.Writing.{AllSent}
 use Rattle.jpg_spec.proofs.Bands.{AllBands, split}
@@ -24,7 +25,7 @@ use Rattle.jpg_spec.proofs.PlacesFound.{or_second}
 -- SYMBOLS THAT ARE USED
 
 abbrev pub is_own : ScanHead → ℕ → ℕ → Owned → Bool
-is_own head class slot e = not (is_dc_bit e.1) && (table_of head e).0 == class && (table_of head e).1 == slot
+is_own head class slot e = not (is_dc_bit e.1) && (table_place head e).0 == class && (table_place head e).1 == slot
 
 abbrev pub symbols_of : (Owned → Bool) → List Owned → List ℕ
 symbols_of own all = map (λ (e : Owned). symbol_of e.1) (filter own all)

@@ -14,8 +14,6 @@ use Rattle.jpg_spec.specs.FileMeaning.{no_blocks, Means}
 use Rattle.jpg_spec.specs.FileText.{Written, nothing_written, Restart, front_text, frame_of_meaning, scans_text, file_text}
 use Rattle.jpg_spec.specs.WrittenFile.{IsHeaded, is_progressive_behind, IsRestart}
 use Rattle.jpg_spec.specs.declared.frame.Limits.{Limits}
-use Rattle.jpg_spec.proofs.Telling.{both}
-use Rattle.jpg_spec.proofs.Writing.{and_intro}
 use Rattle.jpg_spec.proofs.PictureInWork.{leads_sizes}
 use Rattle.jpg_spec.proofs.WrittenFront.{frame_is}
 use Rattle.jpg_spec.proofs.WrittenStart.{starts}
@@ -24,6 +22,7 @@ use Rattle.jpg_spec.proofs.WrittenMeans.{count_is, ends}
 use Rattle.jpg_spec.proofs.ProgressiveKnown.{IsKnown, known_whole}
 use Rattle.jpg_spec.proofs.ProgressiveScript.{IsFit, script_step}
 use Rattle.jpg_spec.proofs.FirstPasses.{all_below}
+use Rattle.jpg_spec.proofs.Common.{both, and_intro}
 
 -- AT THE START nothing is known
 pub none_known : (H : Meaning) → IsKnown H [] no_blocks

@@ -13,11 +13,11 @@ use Rattle.jpg_spec.specs.ScanContents.{is_band, are_bits, are_parameters}
 use Rattle.jpg_spec.specs.History.{has_coefficient, known_to, is_known_to, is_next}
 use Rattle.jpg_spec.specs.FileText.{frame_of_meaning}
 use Rattle.jpg_spec.specs.WrittenFile.{is_progressive_entry}
-use Rattle.jpg_spec.proofs.Telling.{both, negated, same_of, le_of}
 use Rattle.jpg_spec.proofs.Small.{IsDc, shifted_none, divided_none, scaled_none}
 use Rattle.jpg_spec.proofs.PlacedBlocks.{Each}
 use Rattle.jpg_spec.proofs.WrittenSequential.{each_below}
 use Rattle.jpg_spec.proofs.FirstPasses.{all_below}
+use Rattle.jpg_spec.proofs.Common.{both, negated, le_of, same_of}
 
 -- WHAT IS KNOWN of a value down to a bit, or where it is unsent
 

@@ -21,7 +21,6 @@ use Rattle.jpg_spec.specs.WrittenFile.{IsHeaded, IsRestart, is_progressive_entry
 use Rattle.jpg_spec.specs.declared.frame.Place.{Place}
 use Rattle.jpg_spec.specs.declared.frame.ScanPart.{ScanPart}
 use Rattle.jpg_spec.specs.declared.frame.Limits.{Limits}
-use Rattle.jpg_spec.proofs.Telling.{both, same_of}
 use Rattle.jpg_spec.proofs.PictureInWork.{leads_sizes}
 use Rattle.jpg_spec.proofs.BlocksOnce.{joined_chunks}
 use Rattle.jpg_spec.proofs.PlacedBlocks.{Each}
@@ -47,6 +46,7 @@ use Rattle.jpg_spec.proofs.ProgressiveScript.{IsFit, scan_leads, first_component
 use Rattle.jpg_spec.proofs.ProgressiveFile.{none_known}
 use Rattle.jpg_spec.proofs.ProgressiveShares.{left_of_all, sent_of, Descends, all_start, all_fewer, dc_sent, band_is_sent}
 use Rattle.jpg_spec.proofs.FirstPasses.{all_among}
+use Rattle.jpg_spec.proofs.Common.{both, same_of}
 
 -- AN INTERVAL that spells its units, of so many values each
 

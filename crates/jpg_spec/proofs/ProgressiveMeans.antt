@@ -12,7 +12,6 @@ use Rattle.jpg_spec.specs.ScanText.{UnitDue, Owned, units_due, last_dc, unit_ele
 use Rattle.jpg_spec.specs.Meaning.{Meaning}
 use Rattle.jpg_spec.specs.FileText.{frame_of_meaning}
 use Rattle.jpg_spec.specs.declared.frame.Place.{Place}
-use Rattle.jpg_spec.proofs.SingleFrame.{same_itself}
 use Rattle.jpg_spec.proofs.Small.{IsDc}
 use Rattle.jpg_spec.proofs.Writing.{Sends, AllHave}
 use Rattle.jpg_spec.proofs.Behind.{IsChosen}
@@ -30,6 +29,7 @@ use Rattle.jpg_spec.proofs.ProgressiveKnown.{ac_known, was_known}
 use Rattle.jpg_spec.proofs.ProgressiveScan.{each_both, rows_each, IsDcScan, dc_renews, dc_due}
 use Rattle.jpg_spec.proofs.ProgressiveBands.{IsBandScan, band_renews, band_due}
 use Rattle.jpg_spec.proofs.ProgressiveText.{progressive_elements, progressive_tables}
+use Rattle.jpg_spec.proofs.Common.{same_itself}
 
 -- EACH ELEMENT has its code
 

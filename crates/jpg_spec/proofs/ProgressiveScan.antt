@@ -10,17 +10,15 @@ use Rattle.jpg_spec.specs.Segments.{ScanHead, head_components}
 use Rattle.jpg_spec.specs.Elements.{scaled}
 use Rattle.jpg_spec.specs.Sending.{shifted}
 use Rattle.jpg_spec.specs.Scan.{Blocks, Scan, TablesInForce, scan_of, block_at, coefficient}
-use Rattle.jpg_spec.specs.ScanText.{last_dc}
-use Rattle.jpg_spec.specs.GrayFile.{gray_coding}
+use Rattle.jpg_spec.specs.ScanText.{last_dc, gray_coding}
 use Rattle.jpg_spec.specs.Meaning.{Meaning}
 use Rattle.jpg_spec.specs.History.{names, has_coefficient}
 use Rattle.jpg_spec.specs.FileText.{frame_of_meaning}
 use Rattle.jpg_spec.specs.PictureInWork.{is_at, AreDistinct}
 use Rattle.jpg_spec.specs.WrittenFile.{IsBaselineBlock}
 use Rattle.jpg_spec.specs.declared.frame.Place.{Place}
-use Rattle.jpg_spec.proofs.Telling.{both, le_of}
 use Rattle.jpg_spec.proofs.Small.{IsDc, dc_small}
-use Rattle.jpg_spec.proofs.Writing.{and_intro, zero_scaled}
+use Rattle.jpg_spec.proofs.Writing.{zero_scaled}
 use Rattle.jpg_spec.proofs.PlacesDistinct.{units_distinct}
 use Rattle.jpg_spec.proofs.PlacedBlocks.{Each, each_map, each_join, Placed, block_due, placed_due, all_placed, IsRealSendable, IsPlacedWritable, placed_writable, first_last}
 use Rattle.jpg_spec.proofs.PlacesFound.{each_units, real_found}
@@ -30,6 +28,7 @@ use Rattle.jpg_spec.proofs.Shifts.{dc_known, dc_padded}
 use Rattle.jpg_spec.proofs.ProgressiveSpelled.{dc_new}
 use Rattle.jpg_spec.proofs.ProgressiveRows.{IsDcDue}
 use Rattle.jpg_spec.proofs.ProgressiveKnown.{IsPad, IsRenewed}
+use Rattle.jpg_spec.proofs.Common.{both, le_of, and_intro}
 
 -- THE SCAN of a progressive frame
 

@@ -25,8 +25,6 @@ use Rattle.jpg_spec.specs.declared.frame.Place.{Place}
 use Rattle.jpg_spec.specs.declared.frame.ScanPart.{ScanPart}
 use Rattle.jpg_spec.specs.declared.frame.Bounds.{Bounds}
 use Rattle.jpg_spec.specs.declared.frame.Limits.{Limits}
-use Rattle.jpg_spec.proofs.SingleFrame.{same_itself}
-use Rattle.jpg_spec.proofs.Telling.{both, same_of, le_of}
 use Rattle.jpg_spec.proofs.Writing.{Sends}
 use Rattle.jpg_spec.proofs.Small.{IsDc}
 use Rattle.jpg_spec.proofs.PictureInWork.{leads_sizes}
@@ -47,6 +45,7 @@ use Rattle.jpg_spec.proofs.ProgressiveBands.{IsBandScan, band_renewed}
 use Rattle.jpg_spec.proofs.ProgressiveText.{HasSlots, head_slots, entry_spoken, dc_due, ac_due, needed_of, needed_tell, IsGivenBy, needed_given, flat_tell, progressive_admitted, progressive_elements, progressive_tables, progressive_data, progressive_scans}
 use Rattle.jpg_spec.proofs.ProgressiveMeans.{with_class, IsInForce, dc_first_means, dc_refined_means, band_means}
 use Rattle.jpg_spec.proofs.FirstPasses.{all_among}
+use Rattle.jpg_spec.proofs.Common.{both, le_of, same_of, same_itself}
 
 -- a meaning that may be written in progressive scans
 pub record IsFit (H : Meaning) : Type 0 where

@@ -6,8 +6,8 @@ use Rattle.std.proofs.lemmas.Bool.Decides.{nat_tests}
 use Rattle.jpg_spec.specs.Lists.{is_among}
 use Rattle.jpg_spec.specs.Segments.{ScanHead, head_components}
 use Rattle.jpg_spec.specs.History.{has_coefficient, known_to, is_next}
-use Rattle.jpg_spec.proofs.Telling.{same_of}
 use Rattle.jpg_spec.proofs.ProgressiveKnown.{was_known, band_next, known_new, known_old}
+use Rattle.jpg_spec.proofs.Common.{same_of}
 
 -- WHAT IS LEFT of a coefficient: the bits that aren't sent. An interleaved scan of DC has up to ten units for a block of each padded grid.
 
@@ -68,10 +68,6 @@ new_below heads head i k d h e among =
     let was = ap unsent (band_next heads head i k (d.next i among) e h) in
     let now = ap unsent (known_new heads head i k e) in
     omega (arith, was, now, was_above head d.al d.bits)
-
-share_more : (k a b n : ℕ) → a ≤ b → share k a ≤ share k b
-share_more zero a b n h = omega (arith, h)
-share_more (suc k) a b n h = h
 
 share_one : (k a b : ℕ) → a + 1 ≤ b → share k a + share k 1 ≤ share k b
 share_one zero a b h = omega (arith, h)

@@ -1,25 +1,23 @@
 -- What a progressive scan writes of an interval is in the grammar: DC first and refined, and the bands of AC with their EOB runs.
 use Rattle.std.proofs.Common.{◌≡◌, ℕ, zero, suc, ◌+◌, ◌*◌, ◌/◌, ◌%◌, ◌^◌, ◌≤◌, Bool, true, false, cond, List, [], ◌∷◌, ◌++◌, length, refl, sym, ap, ◌∙◌, subst, arith, lit<, ℤ, pos, ◌==◌, ◌&&◌}
 use Rattle.std.specs.Prelude.{map, flat_map, int_le, nat_abs, nat_lt, neg_ℤ, ◌+ℤ◌, ◌-ℤ◌, slice_index_or}
-use Rattle.std.proofs.lemmas.Bool.Decides.{nat_tests}
 use Rattle.jpg_spec.proofs.PlacesSome.{product_some}
 use Rattle.std.proofs.lemmas.List.{length-map}
-use lib.Dec.{T}
 use Rattle.jpg_spec.specs.Numbers.{category, digits, extra_bits}
 use Rattle.jpg_spec.specs.Geometry.{bounds_of}
 use Rattle.jpg_spec.specs.Elements.{Coding, UnitLeft, Standing, Element, difference, dc_bit, Covers, SpellsElement, SpellsUnits, is_zero, scaled, grown, are_in_bounds, predicted, symbol_of}
 use Rattle.jpg_spec.specs.Sending.{correction, newly, sent, shifted, divided, band_elements}
 use Rattle.jpg_spec.specs.ScanText.{UnitDue, Owned, unit_elements, code_of}
 use Rattle.jpg_spec.specs.declared.frame.Bounds.{Bounds}
-use Rattle.jpg_spec.proofs.Telling.{lt_of, not_lt_of}
 use Rattle.jpg_spec.proofs.Small.{few_digits, some_category, IsDc, dc_category, back}
-use Rattle.jpg_spec.proofs.Writing.{Sends, AllSent, AllHave, and_intro}
+use Rattle.jpg_spec.proofs.Writing.{Sends, AllSent, AllHave}
 use Rattle.jpg_spec.proofs.Bands.{AllBands, at, flat, units_of, bands_cover}
 use Rattle.jpg_spec.proofs.Behind.{first_found, IsChosen, AllBehindDc, covers_chosen}
 use Rattle.jpg_spec.proofs.Full.{Has}
 use Rattle.jpg_spec.proofs.PlacedBlocks.{Each}
 use Rattle.jpg_spec.proofs.Shifts.{signed, is_below, divided_is, scaled_signed, abs_signed, shifts_less, shifts_bit, shifts_next, power_some, dc_shifted}
 use Rattle.jpg_spec.proofs.Sequential.{dc_predicted}
+use Rattle.jpg_spec.proofs.Common.{lt_of, not_lt_of, and_intro, is_true, last_bit}
 
 -- WHAT A VALUE OF AC SENDS
 
@@ -52,16 +50,6 @@ signed_grown al false true (suc k) h = let e : suc k + 2 ^ al ≡ suc k + 1 * 2 
 signed_grown al true true (suc k) h = let e : suc (k + 2 ^ al) ≡ suc k + 1 * 2 ^ al = omega arith in ap (λ n. neg_ℤ (pos n)) e
 signed_grown al s false (suc k) h = let e : suc k ≡ suc k + 0 * 2 ^ al = omega arith in ap (signed s) e
 
-odd_is : (m : ℕ) → cond (m % 2 == 1) 1 0 ≡ m % 2
-odd_is m = by (m % 2 == 1) refl
-  where
-    by : (b : Bool) → (m % 2 == 1) ≡ b → cond b 1 0 ≡ m % 2
-    by true e = let s : m % 2 ≡ 1 = grind (arith, nat_tests, e) in sym s
-    by false e = let z : m % 2 ≡ 1 → ⊥ = (λ k. other k e) in omega (arith, z)
-      where
-        other : m % 2 ≡ 1 → (m % 2 == 1) ≡ false → ⊥
-        other k e = grind (arith, nat_tests)
-
 pub refined_sends : (c : Coding) (v : ℤ) → c.al + 1 ≤ 10 → c.most_category ≡ 1 → nat_abs v ≤ 1023 → Sends c (sent true c.al v) (scaled (c.al + 1) (divided (c.al + 1) v)) (scaled c.al (divided c.al v))
 refined_sends c v l most h = by (nat_lt 1 (nat_abs v / 2 ^ c.al)) refl
   where
@@ -88,7 +76,7 @@ refined_sends c v l most h = by (nat_lt 1 (nat_abs v / 2 ^ c.al)) refl
         let k = a / 2 ^ (al + 1) * 2 ^ (al + 1) in
         let power = power_some (al + 1) l in
         let ok : 1 ≤ k = product_some (a / 2 ^ (al + 1)) (2 ^ (al + 1)) some power in
-        let bit : m * 2 ^ al ≡ k + cond (m % 2 == 1) 1 0 * 2 ^ al = shifts_bit al less a ∙ ap (λ n. k + n * 2 ^ al) (sym (odd_is m)) in (
+        let bit : m * 2 ^ al ≡ k + cond (m % 2 == 1) 1 0 * 2 ^ al = shifts_bit al less a ∙ ap (λ n. k + n * 2 ^ al) (sym (last_bit m)) in (
           ap is_zero old ∙ signed_some (is_below v) k ok,
           known_is al v less ∙ ap (signed (is_below v)) bit ∙ sym (signed_grown al (is_below v) (m % 2 == 1) k ok) ∙ ap (grown al (m % 2 == 1)) (sym old),
         )
@@ -165,14 +153,10 @@ DcUnits c r (u ∷ units) (d ∷ due) told =
     (o : ℤ) × (more : List ℤ) × (u.component ≡ d.0) × (u.has_dc ≡ true) × (u.old ≡ o ∷ []) × IsDc (slice_index_or d.1 0 (pos 0)) × IsDc (dc_new r c.al o (slice_index_or d.1 0 (pos 0)))
     × (told ≡ dc_new r c.al o (slice_index_or d.1 0 (pos 0)) ∷ more) × DcUnits c r units due more
 
-t_true : (b : Bool) → T b → b ≡ true
-t_true true t = refl
-t_true false t = absurd t
-
 dc_inside : (c : Coding) (v : ℤ) → c.bounds ≡ bounds_of 8 → IsDc v → (b : Bool) → b ≡ true → are_in_bounds c b (v ∷ []) ≡ true
 dc_inside c v e d b h =
-    let low : int_le (neg_ℤ (pos 1024)) v ≡ true = t_true (int_le (neg_ℤ (pos 1024)) v) (d.low).le in
-    let high : int_le v (pos 1023) ≡ true = t_true (int_le v (pos 1023)) (d.high).le in
+    let low : int_le (neg_ℤ (pos 1024)) v ≡ true = is_true (int_le (neg_ℤ (pos 1024)) v) (d.low).le in
+    let high : int_le v (pos 1023) ≡ true = is_true (int_le v (pos 1023)) (d.high).le in
     ap (λ x. are_in_bounds c x (v ∷ [])) h
     ∙ and_intro (int_le c.bounds.dc_low v && int_le v c.bounds.dc_high) true
     (subst (λ (k : Bounds). (int_le k.dc_low v && int_le v k.dc_high) ≡ true) (sym e) (and_intro (int_le (neg_ℤ (pos 1024)) v) (int_le v (pos 1023)) low high)) refl

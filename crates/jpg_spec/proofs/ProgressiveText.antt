@@ -19,7 +19,6 @@ use Rattle.jpg_spec.specs.declared.frame.Place.{Place}
 use Rattle.jpg_spec.specs.declared.frame.ScanPart.{ScanPart}
 use Rattle.jpg_spec.proofs.Rows.{map_map}
 use Rattle.jpg_spec.proofs.PlainText.{equal_itself}
-use Rattle.jpg_spec.proofs.SingleFrame.{not_refused}
 use Rattle.jpg_spec.proofs.PlacedBlocks.{Each}
 use Rattle.jpg_spec.proofs.WrittenHead.{IsPartOf, IsSpoken}
 use Rattle.jpg_spec.proofs.WrittenScan.{scan_rows}
@@ -29,6 +28,7 @@ use Rattle.jpg_spec.proofs.FlatTables.{flat_valid, valid_tellable}
 use Rattle.jpg_spec.proofs.ProgressiveRows.{progressive_coded}
 use Rattle.jpg_spec.proofs.ProgressiveCodes.{symbols_few}
 use Rattle.jpg_spec.proofs.ProgressiveKnown.{IsProgressiveEntry}
+use Rattle.jpg_spec.proofs.Common.{not_refused}
 
 -- THE HEAD
 

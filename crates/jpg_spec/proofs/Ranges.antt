@@ -12,7 +12,6 @@ use Rattle.jpg_spec.specs.Scan.{Blocks, Scan, band, block_at, unit_at, coefficie
 use Rattle.jpg_spec.specs.Faults.{Told, refuse}
 use Rattle.jpg_spec.specs.ScanContents.{scan_header, is_band, are_bits, are_parameters, are_among, ids_told, head_told, checked_head}
 use Rattle.jpg_spec.specs.declared.fault.Fault.TheVariants.{BadLength, ScanComponent, McuTooLarge, ScanParameters}
-use Rattle.jpg_spec.proofs.SingleFrame.{refused}
 use Rattle.jpg_spec.proofs.FirstPasses.{IsHeadAt, head_at}
 use Rattle.jpg_spec.specs.InForce.{frame_of, head_in}
 use Rattle.jpg_spec.specs.Items.{Item, segment, scan, segments_of, contents_rule}
@@ -23,13 +22,12 @@ use Rattle.jpg_spec.specs.Meaning.{Meaning, real_blocks, picture_frame}
 use Rattle.jpg_spec.specs.FileMeaning.{Means}
 use Rattle.jpg_spec.specs.declared.frame.Limits.{Limits}
 use Rattle.jpg_spec.specs.declared.frame.Place.{Place}
-use Rattle.jpg_spec.proofs.Telling.{both, same_of, le_of}
 use Rattle.jpg_spec.proofs.Rows.{append_apart}
-use Rattle.jpg_spec.proofs.Once.{clash}
 use Rattle.jpg_spec.proofs.Within.{AreWithin, ends_one, step, length_corrected}
 use Rattle.jpg_spec.proofs.BlocksOnce.{joined_chunks, length_band, in_band}
 use Rattle.jpg_spec.proofs.PictureInWork.{leads_sizes}
 use Rattle.jpg_spec.proofs.Writing.{bounds_split}
+use Rattle.jpg_spec.proofs.Common.{both, le_of, same_of, refused, clash}
 
 -- UNITS of a scan: EOBs end one band each; or no DC is due; or a DC value alone is due of each unit
 

@@ -5,9 +5,7 @@ use Rattle.jpg_spec.specs.Faults.{number_of}
 use Rattle.jpg_spec.specs.Markers.{Rule, SegmentsShow, Reached, at_eoi, at_fault, Reaches, IsLeast}
 use Rattle.jpg_spec.specs.declared.fault.Fault.{Fault}
 use Rattle.jpg_spec.proofs.ReadBytes.{State, starts, stopped, ended, behind, next, read, called, read_both, read_behind, read_fault, read_eoi, reads}
-
-some_once : {X : Type 0} (x y : X) → Some x ≡ Some y → x ≡ y
-some_once x y e = cc
+use Rattle.jpg_spec.proofs.Common.{some_once}
 
 no_some : {X : Type 0} (x : X) → None ≡ Some x → ⊥
 no_some x e = cc

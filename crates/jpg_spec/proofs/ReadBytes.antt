@@ -8,6 +8,7 @@ use Rattle.jpg_spec.specs.Markers.{Segment, SpellsMarker, SpellsSegment, SpellsS
 use Rattle.jpg_spec.specs.declared.fault.Fault.{Fault}
 use Rattle.jpg_spec.specs.declared.fault.Fault.TheVariants.{NotJpeg, NoMarker, BadLength}
 use Rattle.jpg_spec.proofs.MarkersOnce.{length_bytes}
+use Rattle.jpg_spec.proofs.Common.{not_same}
 
 -- STATES between bytes
 
@@ -87,25 +88,22 @@ pub read_fills : (rule : Rule) (before : List Segment) (fill : ℕ) → read rul
 read_fills rule before zero = refl
 read_fills rule before (suc fill) = read_fills rule before fill
 
-test_no : (a b : ℕ) → (a ≡ b → ⊥) → (a == b) ≡ false
-test_no a b h = grind (arith, nat_tests)
-
 -- FF bytes and another byte
 pub read_filled : (rule : Rule) (before : List Segment) (fill b : ℕ) → (b ≡ 255 → ⊥)
     → read rule (whole before) (replicate (suc fill) 255 ++ b ∷ []) ≡ cond (b == 0) (stopped NoMarker) (allowed before b (code_fault before b))
 read_filled rule before fill b n =
     read_both rule (filling before) (replicate fill 255) (b ∷ []) ∙ ap (λ s. next rule s b) (read_fills rule before fill)
-    ∙ ap (λ t. cond t (filling before) (cond (b == 0) (stopped NoMarker) (allowed before b (code_fault before b)))) (test_no b 255 n)
+    ∙ ap (λ t. cond t (filling before) (cond (b == 0) (stopped NoMarker) (allowed before b (code_fault before b)))) (not_same b 255 n)
 
 pub read_marker : (rule : Rule) (before : List Segment) (code : ℕ) (bytes : List ℕ) → SpellsMarker code bytes → read rule (whole before) bytes ≡ allowed before code (code_fault before code)
 read_marker rule before code bytes s =
     ap (λ l. read rule (whole before) l) s.1 ∙ read_filled rule before s.0 code s.2.1
-    ∙ ap (λ t. cond t (stopped NoMarker) (allowed before code (code_fault before code))) (test_no code 0 s.2.0)
+    ∙ ap (λ t. cond t (stopped NoMarker) (allowed before code (code_fault before code))) (not_same code 0 s.2.0)
 
 -- a marker that begins a segment
 pub read_begin : (rule : Rule) (before : List Segment) (code : ℕ) (marker : List ℕ) → BeginsSegment before code marker → read rule (whole before) marker ≡ marked before code
 read_begin rule before code marker s =
-    read_marker rule before code marker s.0 ∙ ap (λ f. allowed before code f) s.1 ∙ ap (λ t. cond t ended (marked before code)) (test_no code 0xd9 s.2)
+    read_marker rule before code marker s.0 ∙ ap (λ f. allowed before code f) s.1 ∙ ap (λ t. cond t ended (marked before code)) (not_same code 0xd9 s.2)
 
 -- a marker and a length
 pub read_length : (rule : Rule) (before : List Segment) (code high low : ℕ) (marker : List ℕ) → BeginsSegment before code marker
@@ -158,11 +156,11 @@ read_between rule bytes before tail w =
 -- WHAT SHOWS A FAULT is read as this fault
 
 pub read_no_start : (rule : Rule) (bytes : List ℕ) → ShowsNoStart bytes → read rule starts bytes ≡ stopped NotJpeg
-read_no_start rule bytes (inl s) = ap (λ l. read rule starts l) s.1 ∙ ap (λ t. cond t starting (stopped NotJpeg)) (test_no s.0 255 s.2)
-read_no_start rule bytes (inr s) = ap (λ l. read rule starts l) s.1 ∙ ap (λ t. cond t (whole []) (stopped NotJpeg)) (test_no s.0 0xd8 s.2)
+read_no_start rule bytes (inl s) = ap (λ l. read rule starts l) s.1 ∙ ap (λ t. cond t starting (stopped NotJpeg)) (not_same s.0 255 s.2)
+read_no_start rule bytes (inr s) = ap (λ l. read rule starts l) s.1 ∙ ap (λ t. cond t (whole []) (stopped NotJpeg)) (not_same s.0 0xd8 s.2)
 
 pub read_no_marker : (rule : Rule) (before : List Segment) (tail : List ℕ) → NoMarkerBytes tail → read rule (whole before) tail ≡ stopped NoMarker
-read_no_marker rule before tail (inl s) = ap (λ l. read rule (whole before) l) s.1 ∙ ap (λ t. cond t (filling before) (stopped NoMarker)) (test_no s.0 255 s.2)
+read_no_marker rule before tail (inl s) = ap (λ l. read rule (whole before) l) s.1 ∙ ap (λ t. cond t (filling before) (stopped NoMarker)) (not_same s.0 255 s.2)
 read_no_marker rule before tail (inr s) = ap (λ l. read rule (whole before) l) s.1 ∙ read_filled rule before s.0 0 (λ h. omega (arith, h))
 
 pub read_code : (rule : Rule) (before : List Segment) (fault : Fault) (tail : List ℕ) → ShowsCode before fault tail → read rule (whole before) tail ≡ stopped fault

@@ -8,11 +8,10 @@ use Rattle.jpg_spec.specs.Lists.{any_of, chunks, below}
 use Rattle.jpg_spec.specs.Scan.{Blocks, Scan, band, block_at, SpellsIntervals, coefficient, is_named, ScanMeans}
 use Rattle.jpg_spec.specs.PictureInWork.{is_at, AreDistinct}
 use Rattle.jpg_spec.specs.declared.frame.Place.{Place}
-use Rattle.jpg_spec.proofs.Telling.{both, same_of}
-use Rattle.jpg_spec.proofs.Writing.{and_intro}
-use Rattle.jpg_spec.proofs.Rows.{at_below, length_below}
+use Rattle.jpg_spec.proofs.Rows.{at_below}
 use Rattle.jpg_spec.proofs.BlocksOnce.{joined_chunks}
 use Rattle.jpg_spec.proofs.PlacedBlocks.{Each, Placed, all_placed, all_places, blocks_after, found_at, found_none, IsFound, found_each}
+use Rattle.jpg_spec.proofs.Common.{both, same_of, and_intro, length_below}
 
 -- A BLOCK RENEWED in a band: what a coefficient was and what is due give what it is
 

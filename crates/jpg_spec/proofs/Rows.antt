@@ -8,6 +8,7 @@ use Rattle.std.proofs.Math.Nat.{suc-mul}
 use Rattle.std.proofs.lemmas.List.{length-append, length-map, get_or-map, get_or-append-add, get_or_append_left, ext_get_or, take-append-drop, length-take-le, length-drop, reverse-append, map-append, get_or-append_right}
 use Rattle.std.proofs.lemmas.List.Elements.{All-head, All-tail, All-nil, All-append}
 use Rattle.jpg_spec.specs.Lists.{below, chunks_of, chunks, joined}
+use Rattle.jpg_spec.proofs.Common.{length_below}
 
 -- fronts of one length are equal, and so is the rest
 pub append_apart : {A : Type 0} (xs ys a b : List A) → length xs ≡ length ys → xs ++ a ≡ ys ++ b → (xs ≡ ys) × (a ≡ b)
@@ -42,10 +43,6 @@ flat_map_map f g [] = refl
 flat_map_map f g (x ∷ xs) = map-append g (f x) (flat_map f xs) ∙ ap (λ t. map g (f x) ++ t) (flat_map_map f g xs)
 
 -- THE NUMBERS BELOW ONE
-
-pub length_below : (n : ℕ) → length (below n) ≡ n
-length_below zero = refl
-length_below (suc n) = omega (arith, length-append (below n) (n ∷ []), length_below n)
 
 pub at_below : (n i : ℕ) → i < n → get_or (below n) i 0 ≡ i
 at_below zero i h = absurd (omega arith)

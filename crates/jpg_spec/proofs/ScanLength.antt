@@ -7,14 +7,13 @@ use Rattle.std.proofs.lemmas.List.Elements.{All-head, All-tail, All-map}
 use Rattle.jpg_spec.specs.Bits.{data_of}
 use Rattle.jpg_spec.specs.Geometry.{Frame, is_progressive}
 use Rattle.jpg_spec.specs.Segments.{ScanHead, table_codes}
-use Rattle.jpg_spec.specs.Elements.{Coding, UnitLeft, SpellsUnits, at_start}
+use Rattle.jpg_spec.specs.Elements.{Coding, UnitLeft, SpellsUnits, at_start, new_unit}
 use Rattle.jpg_spec.specs.Scan.{part_of, scan_coding}
-use Rattle.jpg_spec.specs.ScanText.{UnitDue, typical_table}
+use Rattle.jpg_spec.specs.ScanText.{UnitDue, typical_table, gray_frame, gray_head, typical_tables, gray_coding}
 use Rattle.jpg_spec.specs.Meaning.{Meaning, PictureComponent}
 use Rattle.jpg_spec.specs.Markers.{kept_count, eoi}
 use Rattle.jpg_spec.specs.FileText.{front_text}
 use Rattle.jpg_spec.specs.SingleScan.{luma_tables_text, single_head_text, single_text}
-use Rattle.jpg_spec.specs.GrayFile.{gray_frame, gray_head, gray_coding, typical_tables, new_unit}
 use Rattle.jpg_spec.specs.Written.{IsWritable, sequential_bits, plain_bits}
 use Rattle.jpg_spec.proofs.Sequential.{written_spells}
 use Rattle.jpg_spec.proofs.FrontLength.{HasLength, front_few}

@@ -7,7 +7,7 @@ use Rattle.jpg_spec.specs.Scan.{Blocks, Scan, unit_at}
 use Rattle.jpg_spec.specs.ScanFaults.{DataShows}
 use Rattle.jpg_spec.specs.Sound.{IsSound}
 use Rattle.jpg_spec.specs.Markers.{SpellsMarker}
-use Rattle.jpg_spec.specs.FirstFault.{Holds}
+use Rattle.jpg_spec.specs.FirstFault.{HoldsUnits}
 use Rattle.jpg_spec.specs.declared.fault.Fault.{Fault}
 use Rattle.jpg_spec.specs.declared.fault.Fault.TheVariants.{EntropyShort, ExtraData, RestartWrong}
 use Rattle.jpg_spec.specs.declared.frame.Place.{Place}
@@ -23,9 +23,9 @@ use Rattle.jpg_spec.proofs.DataFacts.{bits_join, shows_more, holds_more, complet
 abbrev pub Closes : Scan → Blocks → List (List ℕ) → List ℕ → List Place → List (List Place) → Fault → List ℕ → Type 0
 Closes s before done coded places later fault tail =
     ((tail ≡ []) × DataShows s.coding (map (unit_at s before) places) fault (bits_of_bytes coded))
-    ⊎ (((fault ≡ EntropyShort) × ((code : ℕ) × SpellsMarker code tail) × (Holds s before places coded → ⊥))
-    ⊎ (((fault ≡ ExtraData) × (tail ≡ []) × ((first : List ℕ) × (byte : ℕ) × (coded ≡ first ++ byte ∷ []) × Holds s before places first))
-    ⊎ ((fault ≡ RestartWrong) × Holds s before places coded × ((next : List Place) × (others : List (List Place)) × (later ≡ next ∷ others))
+    ⊎ (((fault ≡ EntropyShort) × ((code : ℕ) × SpellsMarker code tail) × (HoldsUnits s before places coded → ⊥))
+    ⊎ (((fault ≡ ExtraData) × (tail ≡ []) × ((first : List ℕ) × (byte : ℕ) × (coded ≡ first ++ byte ∷ []) × HoldsUnits s before places first))
+    ⊎ ((fault ≡ RestartWrong) × HoldsUnits s before places coded × ((next : List Place) × (others : List (List Place)) × (later ≡ next ∷ others))
     × ((code : ℕ) × SpellsMarker code tail × (code ≡ 0xd0 + length done % 8 → ⊥)))))
 
 -- FF bytes behind data that stand, or a marker behind the last interval's
@@ -63,7 +63,7 @@ closed_same s before done c places later fault tail x v m t sound d e (inr (inl 
     fill_no_marker calm.0.0 k.1.0 tail x k.1.1 (sym calm.0.1 ∙ sym (e ∙ ap (λ l. l ++ v) none.1))
 closed_same s before done c places later fault tail x v m t sound d e (inr (inl k)) (inr calm) =
     let none = data_no_marker k.1.0 m t tail v x d k.1.1 (sym e) in
-    k.2 (subst (λ l. Holds s before places l) (ap (λ l. c ++ l) none.0 ∙ append-nil c) (completes_holds s before places (c ++ m) calm.0))
+    k.2 (subst (λ l. HoldsUnits s before places l) (ap (λ l. c ++ l) none.0 ∙ append-nil c) (completes_holds s before places (c ++ m) calm.0))
 closed_same s before done c places later fault tail x v m t sound d e (inr (inr (inl k))) calm =
     by calm
   where
@@ -74,7 +74,7 @@ closed_same s before done c places later fault tail x v m t sound d e (inr (inr 
     whole z = too_long s before places k.2.1 k.2.0 m sound k.2.3 (subst (λ l. Completes s before places l) cut z)
 
     by : IsCalm s before places later (c ++ m) v → ⊥
-    by (inl (f, inl z)) = z.0 (subst (λ l. Holds s before places l) (sym cut) (holds_more s before places k.2.0 (k.2.1 ∷ m) k.2.3))
+    by (inl (f, inl z)) = z.0 (subst (λ l. HoldsUnits s before places l) (sym cut) (holds_more s before places k.2.0 (k.2.1 ∷ m) k.2.3))
     by (inl (f, inr z)) = whole z
     by (inr z) = whole z.0
 closed_same s before done c places later fault tail x v m t sound d e (inr (inr (inr k))) (inl calm) =
@@ -88,7 +88,7 @@ closed_later s before done c places later fault tail x sound g (inl k) =
     shown_not_complete s before places fault c (c ++ g.more) g.more [] sound k.1 g.completes (sym (append-nil (c ++ g.more)))
 closed_later s before done c places later fault tail x sound g (inr (inl k)) =
     let none = data_no_marker k.1.0 g.more g.text tail (g.marker ++ g.rest) x g.spelled k.1.1 (sym g.behind) in
-    k.2 (subst (λ l. Holds s before places l) (ap (λ l. c ++ l) none.0 ∙ append-nil c) (completes_holds s before places (c ++ g.more) g.completes))
+    k.2 (subst (λ l. HoldsUnits s before places l) (ap (λ l. c ++ l) none.0 ∙ append-nil c) (completes_holds s before places (c ++ g.more) g.completes))
 closed_later s before done c places later fault tail x sound g (inr (inr (inl k))) =
     too_long s before places k.2.1 k.2.0 g.more sound k.2.3
     (subst (λ l. Completes s before places l) (ap (λ l. l ++ g.more) k.2.2 ∙ append_assoc k.2.0 (k.2.1 ∷ []) g.more) g.completes)
@@ -163,7 +163,7 @@ same_closed s before done c places later f g tail tail' m t sound d e (inr (inl 
     by (inl h) = absurd (some h.0)
     by (inr (inl h)) = k.0 ∙ sym h.0
     by (inr (inr (inl h))) = absurd (some h.1)
-    by (inr (inr (inr h))) = absurd (k.2 (subst (λ z. Holds s before places z) (ap (λ z. c ++ z) none.0 ∙ append-nil c) h.1))
+    by (inr (inr (inr h))) = absurd (k.2 (subst (λ z. HoldsUnits s before places z) (ap (λ z. c ++ z) none.0 ∙ append-nil c) h.1))
 same_closed s before done c places later f g tail tail' m t sound d e (inr (inr (inl k))) l = by l
   where
     none : (t ≡ []) × (tail' ≡ [])
@@ -186,7 +186,7 @@ same_closed s before done c places later f g tail tail' m t sound d e (inr (inr 
 
     by : Closes s before done (c ++ m) places later g tail' → f ≡ g
     by (inl h) = absurd (some h.0)
-    by (inr (inl h)) = absurd (h.2 (subst (λ z. Holds s before places z) (sym (ap (λ z. c ++ z) none.0 ∙ append-nil c)) k.1))
+    by (inr (inl h)) = absurd (h.2 (subst (λ z. HoldsUnits s before places z) (sym (ap (λ z. c ++ z) none.0 ∙ append-nil c)) k.1))
     by (inr (inr (inl h))) = absurd (some h.1)
     by (inr (inr (inr h))) = k.0 ∙ sym h.0
 

@@ -7,19 +7,18 @@ use Rattle.std.proofs.lemmas.List.Elements.{All-head, All-tail}
 use Rattle.jpg_spec.specs.Numbers.{category, digits, extra_bits}
 use Rattle.jpg_spec.specs.Geometry.{Frame, bounds_of, is_progressive}
 use Rattle.jpg_spec.specs.Segments.{ScanHead}
-use Rattle.jpg_spec.specs.Elements.{Coding, UnitLeft, Standing, Element, difference, dc_bit, value, long_run, ends, Covers, SpellsElement, is_zero, zeros, scaled, are_in_bounds, predicted, symbol_of, bits_behind}
+use Rattle.jpg_spec.specs.Elements.{Coding, UnitLeft, Standing, Element, difference, dc_bit, value, long_run, ends, Covers, SpellsElement, is_zero, zeros, scaled, are_in_bounds, predicted, symbol_of, bits_behind, new_unit}
 use Rattle.jpg_spec.specs.Sending.{sent, shifted, divided, band_elements}
 use Rattle.jpg_spec.specs.Scan.{scan_coding, part_of}
-use Rattle.jpg_spec.specs.ScanText.{UnitDue, Owned, unit_elements, element_bits, typical_table, is_dc, code_of}
-use Rattle.jpg_spec.specs.GrayFile.{typical_tables, new_unit}
+use Rattle.jpg_spec.specs.ScanText.{UnitDue, Owned, unit_elements, element_bits, typical_table, is_dc, code_of, typical_tables}
 use Rattle.jpg_spec.specs.Written.{IsWritable, sequential_bits, SpellsDue}
 use Rattle.jpg_spec.specs.declared.frame.Bounds.{Bounds}
-use Rattle.jpg_spec.proofs.Telling.{both}
-use Rattle.jpg_spec.proofs.Small.{shifted_none, divided_none, scaled_none, ac_category, some_category, IsDc, dc_small, dc_category, back}
-use Rattle.jpg_spec.proofs.Writing.{AllSent, and_intro}
+use Rattle.jpg_spec.proofs.Small.{shifted_none, divided_none, scaled_none, ac_category, some_category, IsDc, dc_small, dc_category, back, one_digit}
+use Rattle.jpg_spec.proofs.Writing.{AllSent}
 use Rattle.jpg_spec.proofs.Bands.{AllBands, at, covers_then, bands_cover}
 use Rattle.jpg_spec.proofs.Behind.{first_found, IsChosen, covers_chosen, covers_behind}
 use Rattle.jpg_spec.proofs.Full.{Has, IsFull, ac_full, dc_full, band_have}
+use Rattle.jpg_spec.proofs.Common.{both, and_intro}
 
 -- a sequential coding of precision 8 with codes for all that may be sent
 pub record IsSequential (c : Coding) : Type 0 where
@@ -53,10 +52,6 @@ all_sent c s (v ∷ vs) ok =
       (refl, sym (ap (scaled c.al) (divided_none v) ∙ ap (λ a. scaled a v) s.al ∙ scaled_none v), sends_category c s v b.0),
       all_sent c s vs b.1,
     )
-
-one_digit : digits 1 ≡ 1
-unfolding digits
-one_digit = refl
 
 some_sent : (vs : List ℤ) → length (map (sent false 0) vs) ≡ length vs
 some_sent [] = refl

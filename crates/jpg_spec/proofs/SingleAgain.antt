@@ -10,33 +10,34 @@ use Rattle.jpg_spec.specs.Bits.{whole_bytes, padded, data_of}
 use Rattle.jpg_spec.specs.Lists.{any_of, chunks}
 use Rattle.jpg_spec.specs.Geometry.{Frame, component_at, is_progressive}
 use Rattle.jpg_spec.specs.Segments.{QuantTable, ScanHead, head_components}
-use Rattle.jpg_spec.specs.Elements.{Coding, SpellsUnits, are_in_bounds}
+use Rattle.jpg_spec.specs.Elements.{Coding, SpellsUnits, are_in_bounds, new_unit}
 use Rattle.jpg_spec.specs.Scan.{scan_coding}
-use Rattle.jpg_spec.specs.ScanText.{UnitDue}
+use Rattle.jpg_spec.specs.ScanText.{UnitDue, gray_head, typical_tables, gray_coding}
 use Rattle.jpg_spec.specs.Markers.{Segment, eoi}
 use Rattle.jpg_spec.specs.InForce.{frame_of, head_in, quant_in_force, huffman_in_force}
 use Rattle.jpg_spec.specs.History.{needs_dc_table, needs_ac_table, lacks_table}
 use Rattle.jpg_spec.specs.FileMeaning.{Means}
-use Rattle.jpg_spec.specs.GrayFile.{gray_head, gray_coding, typical_tables, new_unit, turned_rows, sequential_text}
+use Rattle.jpg_spec.specs.GrayFile.{turned_rows}
 use Rattle.jpg_spec.specs.Written.{IsWritable, plain_bits}
 use Rattle.jpg_spec.specs.SingleScan.{is_single_scan, blocks_across, blocks_down, SpellsScan, single_coding}
 use Rattle.jpg_spec.specs.declared.frame.Process.{Process}
 use Rattle.jpg_spec.specs.declared.frame.ScanPart.{ScanPart}
 use Rattle.jpg_spec.specs.declared.frame.Bounds.{Bounds}
 use Rattle.jpg_spec.specs.declared.frame.Limits.{Limits}
-use Rattle.jpg_spec.proofs.MarkersOnce.{heads}
+use Rattle.jpg_spec.specs.FileText.{sequential_text}
 use Rattle.jpg_spec.proofs.Packing.{packs, data_spelled}
 use Rattle.jpg_spec.proofs.Sequential.{written_spells}
 use Rattle.jpg_spec.proofs.Rows.{map_map, cut_into}
 use Rattle.jpg_spec.proofs.Turned.{turned_row, turned_all}
 use Rattle.jpg_spec.proofs.Within.{covers_within, blocks_within, mirrored_writable}
-use Rattle.jpg_spec.proofs.SingleFrame.{neither, single_scan}
+use Rattle.jpg_spec.proofs.SingleFrame.{single_scan}
 use Rattle.jpg_spec.proofs.SingleMeans.{file_means}
 use Rattle.jpg_spec.proofs.SingleTurned.{picture}
 use Rattle.jpg_spec.proofs.SingleText.{picture_text}
 use Rattle.jpg_spec.proofs.SingleTables.{AreTwoBytes}
 use Rattle.jpg_spec.proofs.SingleOutput.{written_before, written_head, written_frame, IsWritten, header_text}
 use Rattle.jpg_spec.proofs.SingleForce.{frame_of_is, written_header, written_single, written_coding, written_meaning}
+use Rattle.jpg_spec.proofs.Common.{neither, heads}
 
 -- THE BLOCKS can be written
 

@@ -16,14 +16,15 @@ use Rattle.jpg_spec.specs.InForce.{first_some, no_head, frame_of, head_in, quant
 use Rattle.jpg_spec.specs.History.{names, quant_of}
 use Rattle.jpg_spec.specs.ScanContents.{scan_header}
 use Rattle.jpg_spec.specs.FileMeaning.{Means}
-use Rattle.jpg_spec.specs.GrayFile.{gray_coding, turned_rows, sequential_text}
+use Rattle.jpg_spec.specs.GrayFile.{turned_rows}
 use Rattle.jpg_spec.specs.Written.{IsWritable}
 use Rattle.jpg_spec.specs.Header.{IsHeader}
 use Rattle.jpg_spec.specs.SingleScan.{is_single_scan, blocks_across, blocks_down, single_meaning, single_text, IsSingleFile, turned_single}
 use Rattle.jpg_spec.specs.declared.frame.Limits.{Limits}
-use Rattle.jpg_spec.proofs.Telling.{not_lt_of}
+use Rattle.jpg_spec.specs.ScanText.{gray_coding}
+use Rattle.jpg_spec.specs.FileText.{sequential_text}
 use Rattle.jpg_spec.proofs.Rows.{all_front}
-use Rattle.jpg_spec.proofs.SingleFrame.{neither, told_ok, one_named, no_quant, single_scan}
+use Rattle.jpg_spec.proofs.SingleFrame.{told_ok, one_named, no_quant, single_scan}
 use Rattle.jpg_spec.proofs.SingleTurned.{turned_many, picture}
 use Rattle.jpg_spec.proofs.SingleText.{headed_process, headed_markers, headed_sequential, headed_single, picture_text}
 use Rattle.jpg_spec.proofs.FrameFound.{header_checked}
@@ -33,6 +34,7 @@ use Rattle.jpg_spec.proofs.SingleTables.{in_force_quants, in_force_entries, IsBy
 use Rattle.jpg_spec.proofs.SingleOutput.{IsWritten, same_padded}
 use Rattle.jpg_spec.proofs.ScanLength.{single_few}
 use Rattle.jpg_spec.proofs.SingleAgain.{single_writable, turned_writable, picture_again, table_found, two_bytes_each}
+use Rattle.jpg_spec.proofs.Common.{not_lt_of, neither}
 
 -- THE TABLE of the scan's component
 

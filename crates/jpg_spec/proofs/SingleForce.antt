@@ -13,9 +13,8 @@ use Rattle.jpg_spec.specs.HuffContents.{HuffmanDefinition, huffman_tables}
 use Rattle.jpg_spec.specs.ScanContents.{restart_interval, checked_head, scan_header, are_parameters}
 use Rattle.jpg_spec.specs.Elements.{Coding}
 use Rattle.jpg_spec.specs.Scan.{TablesInForce, codes_of, part_of, scan_coding}
-use Rattle.jpg_spec.specs.ScanText.{typical_table}
+use Rattle.jpg_spec.specs.ScanText.{typical_table, gray_head, typical_tables}
 use Rattle.jpg_spec.specs.FileText.{sof_code}
-use Rattle.jpg_spec.specs.GrayFile.{gray_head, typical_tables}
 use Rattle.jpg_spec.specs.Markers.{Segment, Pass, code_fault, code_fault_if, has_frame, has_scan, kept_after}
 use Rattle.jpg_spec.specs.InForce.{told_some, told_or, told_list, first_some, no_frame, no_head, frame_after, frame_of, head_in, huffmans_defined, huffman_in_force, quants_defined, quant_in_force, restart_in_force}
 use Rattle.jpg_spec.specs.Items.{fault_in}
@@ -26,12 +25,12 @@ use Rattle.jpg_spec.specs.SingleScan.{is_whole_frame, is_single_scan, blocks_acr
 use Rattle.jpg_spec.specs.declared.fault.Fault.TheVariants.{ScanComponent, ScanParameters}
 use Rattle.jpg_spec.specs.declared.frame.Process.{Process}
 use Rattle.jpg_spec.specs.declared.frame.Limits.{Limits}
-use Rattle.jpg_spec.proofs.Writing.{and_intro}
-use Rattle.jpg_spec.proofs.SingleFrame.{same_itself, not_refused, IsWhole, no_quant}
+use Rattle.jpg_spec.proofs.SingleFrame.{IsWhole, no_quant}
 use Rattle.jpg_spec.proofs.SingleTurned.{picture, picture_is}
 use Rattle.jpg_spec.proofs.SingleKept.{no_frame_in, no_scan_in, no_restart_in, all_kept}
 use Rattle.jpg_spec.proofs.SingleTables.{dc_contents, ac_definition, dc_told, ac_told, quant_contents, written_quants}
 use Rattle.jpg_spec.proofs.SingleOutput.{frame_contents, written_before, written_head, written_frame, IsWritten, code_is, frame_code, frame_told_is, header_text, header_spelled}
+use Rattle.jpg_spec.proofs.Common.{and_intro, same_itself, not_refused}
 
 -- THE FRAME in force
 

@@ -15,26 +15,18 @@ use Rattle.jpg_spec.specs.Markers.{Segment, has_scan}
 use Rattle.jpg_spec.specs.InForce.{first_some, told_or, head_in, heads_of, restart_in_force, quant_in_force}
 use Rattle.jpg_spec.specs.History.{names, is_next, is_complete, has_begun, lacks_table, quant_of, is_same_table, admitted}
 use Rattle.jpg_spec.specs.SingleScan.{is_whole_frame, is_single_scan}
-use Rattle.jpg_spec.specs.declared.fault.Fault.{Fault}
 use Rattle.jpg_spec.specs.declared.fault.Fault.TheVariants.{RepeatedScan, Progression, MissingTable, QuantChanged, McuTooLarge, ScanParameters}
 use Rattle.jpg_spec.specs.declared.frame.Component.{Component}
 use Rattle.jpg_spec.specs.declared.frame.ScanPart.{ScanPart}
-use Rattle.jpg_spec.proofs.Telling.{both, negated, same_of}
 use Rattle.jpg_spec.proofs.PlainText.{side_is}
+use Rattle.jpg_spec.proofs.Common.{both, negated, same_of, neither, same_itself, refused, not_refused, same_told}
 
 -- TESTS
-
-pub neither : (a b : Bool) → (a || b) ≡ false → (a ≡ false) × (b ≡ false)
-neither true b e = cc
-neither false b e = (refl, e)
 
 pub one_of : {A : Type 0} (xs : List A) (d : A) → length xs ≡ 1 → xs ≡ get_or xs 0 d ∷ []
 one_of [] d l = let f : ⊥ = omega (arith, l) in absurd f
 one_of (x ∷ []) d l = refl
 one_of (x ∷ y ∷ xs) d l = let f : ⊥ = omega (arith, l) in absurd f
-
-pub same_itself : (n : ℕ) → (n == n) ≡ true
-same_itself n = grind (arith, nat_tests)
 
 -- THE FRAME
 
@@ -80,16 +72,6 @@ down_is f w = ap (λ n. div_up (div_up (f.height * n) (v_max f)) 8) w.v ∙ ap (
 pub told_ok : {X : Type 0} (t : Told X) (d : X) → fault_in t ≡ None → t ≡ Ok (told_or d t)
 told_ok (Ok x) d e = refl
 told_ok (Err f) d e = cc
-
-pub refused : {X : Type 0} (fault : Fault) (bad : Bool) (rest : Told X) (x : X) → refuse fault bad rest ≡ Ok x → (bad ≡ false) × (rest ≡ Ok x)
-refused fault true rest x e = cc
-refused fault false rest x e = (refl, e)
-
-pub not_refused : {X : Type 0} (fault : Fault) (bad : Bool) (rest : Told X) → bad ≡ false → refuse fault bad rest ≡ rest
-not_refused fault bad rest e = ap (λ b. cond b (Err fault) rest) e
-
-same_told : {X : Type 0} (x y : X) → (let a : Told X = Ok x in a) ≡ Ok y → x ≡ y
-same_told x y e = cc
 
 alone : (b : Bool) → (b || false) ≡ true → b ≡ true
 alone true e = refl

@@ -6,7 +6,7 @@ use Rattle.std.proofs.lemmas.List.Elements.{filter-append}
 use Rattle.std.proofs.lemmas.Grind.{flat_map-append}
 use Rattle.jpg_spec.specs.Lists.{any_of}
 use Rattle.jpg_spec.specs.Bits.{IsMarkerCode}
-use Rattle.jpg_spec.specs.Jfif.{Jfif, begins_jfif, begins_adobe}
+use Rattle.jpg_spec.specs.Jfif.{begins_jfif, begins_adobe}
 use Rattle.jpg_spec.specs.Moves.{jfif_contents}
 use Rattle.jpg_spec.specs.FileText.{segment_text, kept_text}
 use Rattle.jpg_spec.specs.Markers.{Segment, soi, SpellsSegment, SpellsSegments, Pass, code_fault_if, is_frame_code, is_within, has_frame, has_scan, is_kept, is_kept_if, kept_after, is_plain_jfif, is_plain_adobe, kept_count, kept_rule, counted_size}
@@ -15,8 +15,8 @@ use Rattle.jpg_spec.specs.ScanContents.{restart_interval}
 use Rattle.jpg_spec.specs.Header.{header_rule}
 use Rattle.jpg_spec.specs.declared.fault.Fault.TheVariants.{MarkersTooLarge}
 use Rattle.jpg_spec.specs.declared.frame.Limits.{Limits}
-use Rattle.jpg_spec.proofs.Telling.{both, not_lt_of, same_of}
-use Rattle.jpg_spec.proofs.Turned.{lt_no}
+use Rattle.jpg_spec.specs.declared.jfif.Jfif.{Jfif}
+use Rattle.jpg_spec.proofs.Common.{both, not_lt_of, same_of, lt_no}
 
 -- A SEGMENT that is written spells itself
 pub text_spells : (code : ℕ) (contents : List ℕ) → IsMarkerCode code → length contents + 2 < 65536 → SpellsSegment code contents (segment_text code contents)

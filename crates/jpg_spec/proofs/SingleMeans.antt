@@ -11,7 +11,7 @@ use Rattle.std.proofs.lemmas.List.Folds.{flat_map-map}
 use Rattle.jpg_spec.specs.Lists.{any_of, chunks}
 use Rattle.jpg_spec.specs.Geometry.{Frame, units, mcu_units}
 use Rattle.jpg_spec.specs.Segments.{ScanHead, head_components}
-use Rattle.jpg_spec.specs.Elements.{UnitLeft, SpellsUnits, zeros}
+use Rattle.jpg_spec.specs.Elements.{UnitLeft, SpellsUnits, zeros, new_unit}
 use Rattle.jpg_spec.specs.Scan.{Scan, TablesInForce, block_at, band, unit_at, coefficient, is_named, scan_of, SpellsIntervals, ScanMeans}
 use Rattle.jpg_spec.specs.Markers.{Segment, SpellsSegments, Pass, code_fault, code_fault_if, has_frame, has_scan, eoi}
 use Rattle.jpg_spec.specs.InForce.{frame_of, head_in, no_head, huffman_in_force, restart_in_force}
@@ -20,17 +20,16 @@ use Rattle.jpg_spec.specs.Items.{scan, segments_of, SpellsFront, fault_in, conte
 use Rattle.jpg_spec.specs.ScanContents.{scan_header}
 use Rattle.jpg_spec.specs.QuantContents.{◌>>=◌}
 use Rattle.jpg_spec.specs.FileMeaning.{no_blocks, Leads, scan_after, Means, meaning_of}
-use Rattle.jpg_spec.specs.GrayFile.{new_unit}
 use Rattle.jpg_spec.specs.Header.{header_rule, IsHeader}
 use Rattle.jpg_spec.specs.SingleScan.{is_single_scan, blocks_across, blocks_down, SpellsScan, single_coding, mapped, single_meaning}
 use Rattle.jpg_spec.specs.declared.frame.Limits.{Limits}
 use Rattle.jpg_spec.specs.declared.frame.Place.{Place}
-use Rattle.jpg_spec.proofs.Writing.{and_intro}
 use Rattle.jpg_spec.proofs.OneFile.{end_is_marker}
 use Rattle.jpg_spec.proofs.PlainText.{places_in}
 use Rattle.jpg_spec.proofs.HeadersOnce.{items_of, segments_of_items}
-use Rattle.jpg_spec.proofs.SingleFrame.{neither, same_itself, told_ok, IsWhole, one_named, first_admitted, whole_complete, single_scan}
+use Rattle.jpg_spec.proofs.SingleFrame.{told_ok, IsWhole, one_named, first_admitted, whole_complete, single_scan}
 use Rattle.jpg_spec.proofs.SingleUnits.{places_are, all_places, place_named, spot_in, spot_beside, spot_under, spot_other, spot_size, told_at}
+use Rattle.jpg_spec.proofs.Common.{and_intro, neither, same_itself}
 
 -- THE SCAN
 

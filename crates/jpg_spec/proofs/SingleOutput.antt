@@ -21,10 +21,11 @@ use Rattle.jpg_spec.specs.declared.frame.Process.TheVariants.{Baseline, Extended
 use Rattle.jpg_spec.specs.declared.frame.Component.{Component}
 use Rattle.jpg_spec.specs.declared.frame.Limits.{Limits}
 use Rattle.jpg_spec.proofs.PlainText.{slot_is}
-use Rattle.jpg_spec.proofs.SingleFrame.{not_refused, IsWhole, h_max_is, v_max_is}
+use Rattle.jpg_spec.proofs.SingleFrame.{IsWhole, h_max_is, v_max_is}
 use Rattle.jpg_spec.proofs.SingleTurned.{picture}
 use Rattle.jpg_spec.proofs.SingleKept.{text_behind, ArePassedOn, kept_spelled}
 use Rattle.jpg_spec.proofs.SingleTables.{dc_contents, ac_contents, IsQuants, AreTwoBytes, quant_contents, quants_short}
+use Rattle.jpg_spec.proofs.Common.{not_refused}
 
 -- THE SEGMENTS, the newest first
 

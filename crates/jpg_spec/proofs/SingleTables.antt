@@ -19,10 +19,9 @@ use Rattle.jpg_spec.specs.Markers.{Segment, SpellsSegments}
 use Rattle.jpg_spec.specs.InForce.{told_list, quants_defined, quant_in_force}
 use Rattle.jpg_spec.specs.Typical.{dc_luma_counts, dc_luma_values, ac_luma_counts, ac_luma_values}
 use Rattle.jpg_spec.specs.declared.fault.Fault.TheVariants.{BadLength, BadQuant}
-use Rattle.jpg_spec.proofs.Telling.{not_lt_of}
 use Rattle.jpg_spec.proofs.Rows.{all_front, all_back}
-use Rattle.jpg_spec.proofs.Turned.{lt_no, all_reverse}
-use Rattle.jpg_spec.proofs.SingleFrame.{refused, not_refused}
+use Rattle.jpg_spec.proofs.Turned.{all_reverse}
+use Rattle.jpg_spec.proofs.Common.{not_lt_of, refused, not_refused, lt_no}
 
 -- HUFFMAN TABLES K.3 and K.5
 

@@ -11,12 +11,12 @@ use Rattle.jpg_spec.specs.Geometry.{Frame, component_at, place, is_progressive, 
 use Rattle.jpg_spec.specs.Segments.{QuantTable}
 use Rattle.jpg_spec.specs.Elements.{zeros}
 use Rattle.jpg_spec.specs.Scan.{Blocks}
-use Rattle.jpg_spec.specs.ScanText.{units_due, interval_elements, element_bits, scan_data, typical_table}
+use Rattle.jpg_spec.specs.ScanText.{units_due, interval_elements, element_bits, scan_data, typical_table, gray_head}
 use Rattle.jpg_spec.specs.Meaning.{Meaning}
 use Rattle.jpg_spec.specs.Moves.{is_wide, jfif_contents, flip_h, headed}
 use Rattle.jpg_spec.specs.Script.{sequential_script}
-use Rattle.jpg_spec.specs.FileText.{front_text, frame_of_meaning, scans_text, file_text, off, nothing_written}
-use Rattle.jpg_spec.specs.GrayFile.{gray_head, turned_rows, sequential_text}
+use Rattle.jpg_spec.specs.FileText.{front_text, frame_of_meaning, scans_text, file_text, off, nothing_written, sequential_text}
+use Rattle.jpg_spec.specs.GrayFile.{turned_rows}
 use Rattle.jpg_spec.specs.Written.{sequential_bits, plain_bits}
 use Rattle.jpg_spec.specs.Markers.{Segment, kept_after, eoi}
 use Rattle.jpg_spec.specs.InForce.{frame_of, head_in}
@@ -27,12 +27,12 @@ use Rattle.jpg_spec.specs.declared.frame.Process.{Process}
 use Rattle.jpg_spec.specs.declared.frame.Process.TheVariants.{Baseline, Extended, Progressive}
 use Rattle.jpg_spec.specs.declared.frame.Place.{Place}
 use Rattle.jpg_spec.specs.declared.frame.Limits.{Limits}
-use Rattle.jpg_spec.proofs.Turned.{lt_yes}
 use Rattle.jpg_spec.proofs.PlainText.{AreReal, due_of, real_due, pair, places_in, dc_segment, ac_segment}
 use Rattle.jpg_spec.proofs.SingleFrame.{IsWhole, across_is, down_is, single_scan}
 use Rattle.jpg_spec.proofs.SingleUnits.{places_are, all_places, spot_in, told_at}
 use Rattle.jpg_spec.proofs.SingleTurned.{turned_many, picture, picture_is, flip_is}
 use Rattle.jpg_spec.proofs.FrameFound.{header_checked}
+use Rattle.jpg_spec.proofs.Common.{lt_yes}
 
 -- THE UNITS that are due
 

@@ -22,9 +22,10 @@ use Rattle.jpg_spec.specs.SingleScan.{mapped}
 use Rattle.jpg_spec.specs.declared.frame.Process.{Process}
 use Rattle.jpg_spec.specs.declared.frame.Component.{Component}
 use Rattle.jpg_spec.proofs.Rows.{AreRows, IsCut, cut_into, at_row, row_is, rows_map, length_joined}
-use Rattle.jpg_spec.proofs.Turned.{lt_yes, lt_no, mirrored_zeros, turned_row, length_turned}
+use Rattle.jpg_spec.proofs.Turned.{mirrored_zeros, turned_row, length_turned}
 use Rattle.jpg_spec.proofs.SingleFrame.{IsWhole, across_is, down_is}
 use Rattle.jpg_spec.proofs.SingleUnits.{spot_in, spot_beside, spot_under, spot_other}
+use Rattle.jpg_spec.proofs.Common.{lt_yes, lt_no}
 
 -- BLOCKS IN ROWS, mirrored
 

@@ -15,10 +15,10 @@ use Rattle.jpg_spec.specs.Elements.{zeros}
 use Rattle.jpg_spec.specs.SingleScan.{mapped}
 use Rattle.jpg_spec.specs.declared.frame.Place.{Place}
 use Rattle.jpg_spec.proofs.Rows.{map_map, flat_map_map, cut_into, by_items, at_row, row_is}
-use Rattle.jpg_spec.proofs.Turned.{lt_yes, lt_no, not_zero}
 use Rattle.jpg_spec.proofs.PlainText.{places_in}
-use Rattle.jpg_spec.proofs.SingleFrame.{same_itself, IsWhole, across_is, down_is}
+use Rattle.jpg_spec.proofs.SingleFrame.{IsWhole, across_is, down_is}
 use Rattle.jpg_spec.proofs.PlacesFound.{or_second}
+use Rattle.jpg_spec.proofs.Common.{same_itself, lt_yes, lt_no, not_zero, any_append}
 
 -- THE PLACES of the scan, row by row
 
@@ -47,15 +47,6 @@ all_places P f w h each = rows h (omega arith)
         let g : ℕ → List Place = λ y. map (λ x. place f 0 x y) (below w) in
         let last : All P (g n ++ []) = subst (λ ps. All P ps) (sym (append-nil (g n))) (row n w (omega (arith, l)) (omega arith)) in
         subst (λ ps. All P ps) (sym (flat_map-append g (below n) (n ∷ []))) (All-append P (flat_map g (below n)) (g n ++ []) (rows n (omega (arith, l))) last)
-
--- a place among them
-pub any_append : {A : Type 0} (t : A → Bool) (xs ys : List A) → any_of t (xs ++ ys) ≡ (any_of t xs || any_of t ys)
-any_append t [] ys = refl
-any_append t (x ∷ xs) ys = by (t x) (any_append t xs ys)
-  where
-    by : (b : Bool) → any_of t (xs ++ ys) ≡ (any_of t xs || any_of t ys) → (b || any_of t (xs ++ ys)) ≡ ((b || any_of t xs) || any_of t ys)
-    by true e = refl
-    by false e = e
 
 any_below : {A : Type 0} (t : A → Bool) (g : ℕ → List A) (n x : ℕ) → x < n → any_of t (g x) ≡ true → any_of t (flat_map g (below n)) ≡ true
 any_below t g zero x h e = absurd (omega (arith, h))

@@ -1,5 +1,5 @@
 -- Numbers within bounds have few binary digits, and bit 0 up is all of a number.
-use Rattle.std.proofs.Common.{◌≡◌, ℕ, zero, suc, ◌+◌, ◌*◌, ◌/◌, ◌^◌, ◌<◌, ◌≤◌, true, false, sym, ap, subst, arith, ℤ, pos, negsuc, ⊎_elim, lit<}
+use Rattle.std.proofs.Common.{◌≡◌, ℕ, zero, suc, ◌+◌, ◌*◌, ◌/◌, ◌^◌, ◌<◌, ◌≤◌, true, false, sym, ap, subst, arith, ℤ, pos, negsuc, ⊎_elim, lit<, [], refl}
 use Rattle.std.specs.Prelude.{nat_abs, neg_ℤ, ◌+ℤ◌, ◌-ℤ◌, ◌≤ℤ◌, int_le}
 use Rattle.std.proofs.lemmas.Bool.{cases_lt}
 use Rattle.std.proofs.lemmas.Bool.Decides.{nat_tests}
@@ -9,9 +9,10 @@ use lib.Signed.{le_z_yes}
 use lib.Dec.{T}
 use Rattle.std.proofs.Math.Nat.{pow-le-pow_right}
 use Rattle.std.proofs.Math.IntN.{*ℤ-one}
-use Rattle.jpg_spec.specs.Numbers.{digits, category}
+use Rattle.jpg_spec.specs.Numbers.{digits, category, extra_bits}
 use Rattle.jpg_spec.specs.Elements.{is_zero, scaled}
 use Rattle.jpg_spec.specs.Sending.{shifted, divided}
+use Rattle.jpg_spec.specs.Bits.{bits_of}
 use Rattle.jpg_spec.proofs.Facts.{above_digits, some_digits}
 
 pub few_digits : (k n : ℕ) → n < 2 ^ k → digits n ≤ k
@@ -27,6 +28,20 @@ few_digits k (suc n) h =
     absurd f)
     (λ (l : digits (suc n) ≤ k). l)
     (cases_lt k (digits (suc n)))
+
+-- THE LEAST NUMBERS
+
+pub one_digit : digits 1 ≡ 1
+unfolding digits
+one_digit = refl
+
+pub zero_category : category (pos 0) ≡ 0
+unfolding digits
+zero_category = refl
+
+pub zero_bits : extra_bits (pos 0) ≡ []
+unfolding digits bits_of
+zero_bits = refl
 
 -- BIT 0 AND UP
 

@@ -8,17 +8,16 @@ use Rattle.jpg_spec.specs.Segments.{HuffmanTable, ScanHead}
 use Rattle.jpg_spec.specs.Elements.{Coding, UnitLeft, SpellsUnits, at_start}
 use Rattle.jpg_spec.specs.Scan.{TablesInForce, codes_of, scan_coding, part_of}
 use Rattle.jpg_spec.specs.ScanFaults.{DataShows}
-use Rattle.jpg_spec.specs.ScanText.{typical_table}
-use Rattle.jpg_spec.specs.GrayFile.{typical_tables}
+use Rattle.jpg_spec.specs.ScanText.{typical_table, typical_tables}
 use Rattle.jpg_spec.specs.Typical.{dc_luma_counts, dc_luma_values, ac_luma_counts, ac_luma_values, dc_chroma_counts, dc_chroma_values, ac_chroma_counts, ac_chroma_values}
 use Rattle.jpg_spec.specs.Sound.{AreTableCodes, IsSound, AreTables}
 use Rattle.jpg_spec.specs.declared.fault.Fault.{Fault}
-use Rattle.jpg_spec.proofs.Telling.{both, lt_of}
 use Rattle.jpg_spec.proofs.Levels.{contains_none}
 use Rattle.jpg_spec.proofs.OneCode.{one_code}
 use Rattle.jpg_spec.proofs.Once.{OneWay, units_once}
 use Rattle.jpg_spec.proofs.Excludes.{data_excludes}
 use Rattle.jpg_spec.proofs.Facts.{facts}
+use Rattle.jpg_spec.proofs.Common.{both, lt_of, some_once}
 
 -- what passes the test are codes
 pub tested_codes : (length c : ℕ) (counts : List ℕ) → are_codes length c counts ≡ true → AreCodes length c counts
@@ -93,9 +92,6 @@ typical_by true false = refl
 typical_by false true = refl
 typical_by false false = refl
 
-table_inj : (a b : HuffmanTable) → Some a ≡ Some b → a ≡ b
-table_inj a b e = cc
-
 pub typical_valid : AreTables typical_tables
 typical_valid class slot table e =
-    subst (λ (t : HuffmanTable). are_codes 1 0 t.counts ≡ true) (table_inj (typical_table class slot) table e) (typical_by (class == 0) (slot == 0))
+    subst (λ (t : HuffmanTable). are_codes 1 0 t.counts ≡ true) (some_once (typical_table class slot) table e) (typical_by (class == 0) (slot == 0))

@@ -6,10 +6,11 @@ use Rattle.std.proofs.lemmas.List.Elements.{All-replicate, All-nil, All-cons}
 use Rattle.jpg_spec.specs.Bits.{bits_of, bits_of_bytes, SpellsData}
 use Rattle.jpg_spec.specs.Codes.{codes}
 use Rattle.jpg_spec.specs.Numbers.{digits}
-use Rattle.jpg_spec.specs.Elements.{Element, difference, value, ends, zeros, predicted, Covers, at_start}
+use Rattle.jpg_spec.specs.Elements.{Element, difference, value, ends, zeros, predicted, Covers, at_start, new_unit}
 use Rattle.jpg_spec.proofs.Told.{told_by, ToldBy}
-use Rattle.jpg_spec.specs.GrayFile.{Gray, IsGray, SpellsGray, gray_coding, new_unit}
+use Rattle.jpg_spec.specs.GrayFile.{Gray, IsGray, SpellsGray}
 use Rattle.jpg_spec.specs.Examples.{ones, flat_block, smallest, two_values, extremes, plain_file}
+use Rattle.jpg_spec.specs.ScanText.{gray_coding}
 use Rattle.jpg_spec.proofs.Packing.{data_spelled}
 use Rattle.jpg_spec.proofs.Telling.{covers_by}
 

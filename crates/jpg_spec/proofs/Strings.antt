@@ -73,16 +73,3 @@ bits_of_inj (suc l) m n hm hn e =
 pub bits_of-split : (l n : ℕ) → bits_of (l + 1) n ≡ bits_of l (n / 2) ++ (n % 2 == 1) ∷ []
 unfolding bits_of
 bits_of-split l n = ap (λ m. bits_of m n) (add-one l)
-
--- fronts of one length are equal, and so is the rest
-pub append_inj : (xs ys a b : List Bool) → length xs ≡ length ys → xs ++ a ≡ ys ++ b → (xs ≡ ys) × (a ≡ b)
-append_inj [] [] a b l e = (refl, e)
-append_inj [] (y ∷ ys) a b l e = absurd (omega arith)
-append_inj (x ∷ xs) [] a b l e = absurd (omega arith)
-append_inj (x ∷ xs) (y ∷ ys) a b l e =
-    let t : xs ++ a ≡ ys ++ b = cc in
-    let l' : length xs ≡ length ys = omega arith in
-    let h = append_inj xs ys a b l' t in
-    let e1 = h.0 in
-    let e2 = h.1 in
-    (cc, e2)

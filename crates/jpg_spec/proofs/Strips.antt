@@ -4,17 +4,17 @@ use Rattle.std.proofs.lemmas.Bool.Decides.{nat_tests}
 use Rattle.std.proofs.lemmas.List.{get_or-map}
 use Rattle.std.proofs.Math.Nat.{le-div_iff_mul-le, div-lt_iff_lt-mul}
 use Rattle.std.proofs.lemmas.Bool.{cases_lt, eqb-true, false≢true}
-use Rattle.jpg_spec.proofs.SingleUnits.{any_append}
 use Rattle.jpg_spec.specs.Lists.{below, any_of}
-use Rattle.jpg_spec.proofs.Rows.{length_below, at_below}
+use Rattle.jpg_spec.proofs.Rows.{at_below}
 use Rattle.jpg_spec.specs.Scan.{Blocks}
 use Rattle.jpg_spec.specs.Meaning.{Meaning}
 use Rattle.jpg_spec.specs.Moves.{component_of}
-use Rattle.jpg_spec.specs.Dct.{dequantised, inverse}
+use Rattle.jpg_spec.specs.Dct.{dequantised, inverse_dct}
 use Rattle.jpg_spec.specs.Upsampling.{Stretch, is_smoothed, has_far_rows, near_row, far_row, upsampled_row, up_row, up_rows2, repeat_row}
 use Rattle.jpg_spec.specs.Pixels.{plane, plane_row, stretch_of, upsampled, samples_across}
-use Rattle.jpg_spec.specs.Strips.{ready_of, IsReady, Agree, rows_from, kept_row, lines, block_rows, known_rows, needed, ready, IsCovered}
+use Rattle.jpg_spec.specs.Strips.{ready_of, IsRowReady, Agree, rows_from, kept_row, lines, block_rows, known_rows, needed, ready, IsCovered}
 use Rattle.jpg_spec.proofs.PlacesFound.{or_second}
+use Rattle.jpg_spec.proofs.Common.{any_append, length_below}
 
 -- TWO ROWS
 
@@ -71,7 +71,7 @@ chosen true c across near far other_near other_far en ef = ap (λ x. up_rows2 x 
 chosen false true across near far other_near other_far en ef = ap up_row en
 chosen false false across near far other_near other_far en ef = ap (repeat_row across) en
 
-pub window : (s : Stretch) (rows others : ℕ → List ℕ) (j k y : ℕ) → 1 ≤ s.down → k ≤ s.high → Agree (j - 1) k rows others → ready_of s j ≤ y → IsReady s k y
+pub window : (s : Stretch) (rows others : ℕ → List ℕ) (j k y : ℕ) → 1 ≤ s.down → k ≤ s.high → Agree (j - 1) k rows others → ready_of s j ≤ y → IsRowReady s k y
     → upsampled_row s rows y ≡ upsampled_row s others y
 window s rows others j k y down le agree low h =
     chosen (has_far_rows s) (is_smoothed s && s.down == 1) s.across (rows (near_row s y)) (rows (far_row s y)) (others (near_row s y)) (others (far_row s y))
@@ -102,7 +102,7 @@ kept_is rows first count r low high =
     ∙ ap (λ k. rows (first + k)) (at_below count (r - first) m)
     ∙ ap rows n
 
-pub kept_window : (s : Stretch) (rows : ℕ → List ℕ) (j k y : ℕ) → 1 ≤ s.down → k ≤ s.high → ready_of s j ≤ y → IsReady s k y
+pub kept_window : (s : Stretch) (rows : ℕ → List ℕ) (j k y : ℕ) → 1 ≤ s.down → k ≤ s.high → ready_of s j ≤ y → IsRowReady s k y
     → upsampled_row s (kept_row (j - 1) (rows_from rows (j - 1) (k - (j - 1)))) y ≡ upsampled_row s rows y
 kept_window s rows j k y down le low h =
     window s (kept_row (j - 1) (rows_from rows (j - 1) (k - (j - 1)))) rows j k y down le
@@ -116,11 +116,11 @@ map_same f g e (x ∷ xs) = ap (λ y. y ∷ map f xs) (e x) ∙ ap (λ ys. g x �
 
 pub same_samples : (M : Meaning) (others : Blocks) (i y : ℕ) → ((x : ℕ) → M.blocks i x (y / 8) ≡ others i x (y / 8)) → plane_row M i y ≡ plane_row (record M { blocks = others }) i y
 same_samples M others i y e =
-    map_same (λ x. plane M i x y) (λ x. slice_index (inverse (dequantised (component_of M i).quants (others i (x / 8) (y / 8)))) (8 * (y % 8) + x % 8))
-    (λ (x : ℕ). ap (λ b. slice_index (inverse (dequantised (component_of M i).quants b)) (8 * (y % 8) + x % 8)) (e (x / 8))) (below (samples_across M i))
+    map_same (λ x. plane M i x y) (λ x. slice_index (inverse_dct (dequantised (component_of M i).quants (others i (x / 8) (y / 8)))) (8 * (y % 8) + x % 8))
+    (λ (x : ℕ). ap (λ b. slice_index (inverse_dct (dequantised (component_of M i).quants b)) (8 * (y % 8) + x % 8)) (e (x / 8))) (below (samples_across M i))
 
 pub same_rows : (M : Meaning) (others : Blocks) (smooth : Bool) (i n k y : ℕ) → ((x z : ℕ) → z < n → M.blocks i x z ≡ others i x z)
-    → 1 ≤ (stretch_of M smooth i).down → k ≤ (stretch_of M smooth i).high → k ≤ 8 * n → IsReady (stretch_of M smooth i) k y
+    → 1 ≤ (stretch_of M smooth i).down → k ≤ (stretch_of M smooth i).high → k ≤ 8 * n → IsRowReady (stretch_of M smooth i) k y
     → upsampled M smooth i y ≡ upsampled (record M { blocks = others }) smooth i y
 same_rows M others smooth i n k y e down high le h =
     let rows : ℕ → List ℕ = plane_row M i in
@@ -170,10 +170,10 @@ any_in t (suc n) x h e =
     (cases_lt x n)
 
 pub ready_told : (M : Meaning) (gray smooth : Bool) (all m i y : ℕ) → IsCovered M smooth all i → i < needed M gray → m ≤ all → y < ready M gray smooth all m
-    → IsReady (stretch_of M smooth i) (known_rows M i m) y
+    → IsRowReady (stretch_of M smooth i) (known_rows M i m) y
 ready_told M gray smooth all m i y covered has le lt = by_all (m == all) refl
   where
-    by_all : (b : Bool) → (m == all) ≡ b → IsReady (stretch_of M smooth i) (known_rows M i m) y
+    by_all : (b : Bool) → (m == all) ≡ b → IsRowReady (stretch_of M smooth i) (known_rows M i m) y
     by_all true e =
         let is : m ≡ all = eqb-true m all e in
         let low : y < M.height = subst (λ b. y < (if b then M.height else if any_of (λ j. has_far_rows (stretch_of M smooth j)) (below (needed M gray)) then lines M * m - 1 else lines M * m)) e lt in

@@ -15,8 +15,8 @@ use Rattle.jpg_spec.specs.FileMeaning.{scan_after}
 use Rattle.jpg_spec.specs.declared.fault.Fault.TheVariants.{BadLength, BadHuffman}
 use Rattle.jpg_spec.specs.declared.frame.Limits.{Limits}
 use Rattle.jpg_spec.proofs.Turned.{all_reverse}
-use Rattle.jpg_spec.proofs.SingleFrame.{refused}
 use Rattle.jpg_spec.proofs.Sound.{sound}
+use Rattle.jpg_spec.proofs.Common.{refused}
 
 abbrev pub IsValid : HuffmanDefinition → Type 0
 IsValid d = are_codes 1 0 d.table.counts ≡ true

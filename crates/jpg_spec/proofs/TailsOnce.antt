@@ -84,9 +84,6 @@ head_state : (limits : Limits) (before : List Segment) (u : List ℕ) → (h : H
 head_state limits before u h =
     read_segment (contents_rule limits) before h.code h.contents h.head h.spelled h.allowed h.other ∙ ap (λ f. judged before h.code h.contents f) h.rule
 
-not_whole : (s : State) (before : List Segment) → s ≡ whole before → phase s ≡ going
-not_whole s before e = ap phase e
-
 going_not_closed : (s : State) → phase s ≡ going → phase s ≡ closed → ⊥
 going_not_closed s e f = let z : going ≡ closed = sym e ∙ f in cc
 

@@ -1,5 +1,5 @@
 -- Where told_by answers, the relation Covers holds.
-use Rattle.std.proofs.Common.{◌≡◌, ℕ, zero, suc, ◌+◌, ◌<◌, ◌≤◌, Bool, true, false, cond, not, List, [], ◌∷◌, ◌++◌, length, take, drop, Some, None, Option, refl, sym, ap, ◌∙◌, subst, arith, ℤ, pos, negsuc, ⊎_elim, inl, inr, ◌==◌, ◌≢◌, ◌&&◌}
+use Rattle.std.proofs.Common.{◌≡◌, ℕ, zero, suc, ◌+◌, ◌<◌, Bool, true, false, cond, not, List, [], ◌∷◌, ◌++◌, length, take, drop, Some, None, Option, refl, sym, ap, ◌∙◌, subst, arith, ℤ, pos, negsuc, ⊎_elim, inl, inr, ◌==◌, ◌≢◌, ◌&&◌}
 use Rattle.std.specs.Prelude.{◌⊎◌, nat_lt, nat_le, slice_index_or}
 use Rattle.std.specs.List.{Contains}
 use Rattle.std.proofs.lemmas.Bool.{cases_eq}
@@ -10,26 +10,7 @@ use Rattle.jpg_spec.specs.Numbers.{category, digits}
 use Rattle.jpg_spec.specs.Elements.{Coding, UnitLeft, Element, difference, dc_bit, value, long_run, ends, Covers, Tells, SpellsElement, codes_due, zeros_in, nonzeros_in, old_values, predictions_after, are_in_bounds}
 use Rattle.jpg_spec.proofs.Told.{before_zero, behind_zero, long_passed, long_left, may_stand, values_told, units_after, with_code, spelling, ToldBy, before_told, told_by}
 use Rattle.jpg_spec.proofs.Levels.{contains_here}
-
-pub both : (a b : Bool) → (a && b) ≡ true → (a ≡ true) × (b ≡ true)
-both true b e = (refl, e)
-both false b e = cc
-
-pub negated : (a : Bool) → not a ≡ true → a ≡ false
-negated true e = cc
-negated false e = refl
-
-pub le_of : (a b : ℕ) → nat_le a b ≡ true → a ≤ b
-le_of a b e = grind (arith, nat_tests)
-
-pub lt_of : (a b : ℕ) → nat_lt a b ≡ true → a < b
-lt_of a b e = grind (arith, nat_tests)
-
-pub not_lt_of : (a b : ℕ) → nat_lt a b ≡ false → b ≤ a
-not_lt_of a b e = grind (arith, nat_tests)
-
-pub same_of : (a b : ℕ) → (a == b) ≡ true → a ≡ b
-same_of a b e = grind (arith, nat_tests)
+use Rattle.jpg_spec.proofs.Common.{both, negated, le_of, lt_of, not_lt_of, same_of}
 
 behind_step : (o : ℤ) (n : ℕ) (old : List ℤ) → drop (suc n + 1) (o ∷ old) ≡ drop (n + 1) old
 behind_step o n old = let e : suc n + 1 ≡ suc (n + 1) = omega arith in ap (λ k. drop k (o ∷ old)) e

@@ -5,7 +5,6 @@ use Rattle.std.specs.List.{All}
 use Rattle.std.proofs.Math.Path.{fun_ext}
 use Rattle.std.proofs.lemmas.Bool.{cases_lt}
 use Rattle.std.proofs.lemmas.List.Elements.{All-map, All-from_get_or}
-use Rattle.jpg_spec.specs.Scan.{Blocks}
 use Rattle.jpg_spec.specs.Geometry.{greatest}
 use Rattle.jpg_spec.specs.Meaning.{Meaning, PictureComponent}
 use Rattle.jpg_spec.specs.Moves.{mirrored, mirrored_down, most_across, most_down, whole_columns, whole_rows, component_of, flip_h, flip_v}
@@ -16,8 +15,9 @@ use Rattle.jpg_spec.specs.Laws.{with_blocks}
 use Rattle.jpg_spec.specs.declared.transform.Transform.{Transform}
 use Rattle.jpg_spec.specs.declared.transform.Transform.TheVariants.{Keep, FlipH, FlipV, Transpose, Transverse, Rotate90, Rotate180, Rotate270}
 use Rattle.jpg_spec.proofs.Rows.{map_map, map_alike}
-use Rattle.jpg_spec.proofs.Turned.{IsBlock, mirrored_block, mirrored_twice, lt_yes, lt_no}
+use Rattle.jpg_spec.proofs.Turned.{IsBlock, mirrored_block, mirrored_twice}
 use Rattle.jpg_spec.proofs.BlockLaws.{length_transposed, transposed_twice, mirrored_transposed, mirrored_down_transposed, mirrored_both, mirrored_down_block, mirrored_down_twice}
+use Rattle.jpg_spec.proofs.Common.{lt_yes, lt_no}
 
 -- BLOCKS IN A LINE of which some change places
 

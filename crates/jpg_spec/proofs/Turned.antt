@@ -6,7 +6,6 @@ use Rattle.std.proofs.Math.Path.{fun_ext}
 use Rattle.std.proofs.Math.IntN.{neg_ℤ-neg_ℤ}
 use Rattle.std.proofs.Math.Nat.{mul_comm}
 use Rattle.std.proofs.lemmas.Bool.{cases_lt}
-use Rattle.std.proofs.lemmas.Bool.Decides.{nat_tests}
 use Rattle.std.proofs.lemmas.List.{length-map, length-reverse, reverse-reverse, get_or-reverse, get_or-map}
 use Rattle.std.proofs.lemmas.List.Elements.{All-get_or, All-from_get_or, All-map, All-append, All-nil}
 use Rattle.std.proofs.lemmas.List.Folds.{flat_map-map}
@@ -16,6 +15,7 @@ use Rattle.jpg_spec.specs.Meaning.{Meaning}
 use Rattle.jpg_spec.specs.Moves.{zigzag, mirrored, flip_h, most_across, component_of}
 use Rattle.jpg_spec.specs.GrayFile.{Gray, IsGray, across, down, gray_meaning, flipped_gray}
 use Rattle.jpg_spec.proofs.Rows.{map_map, map_reverse, map_alike, AreRows, length_joined, at_row, row_is, rows_map, rows_again, IsCut, cut_into, all_front, all_back}
+use Rattle.jpg_spec.proofs.Common.{lt_yes, lt_no, not_zero}
 
 -- BLOCKS
 
@@ -135,12 +135,6 @@ flipped_twice g is =
 
 -- THE MEANING of the mirrored picture is its meaning mirrored
 
-pub lt_yes : (a b : ℕ) → a < b → nat_lt a b ≡ true
-lt_yes a b h = grind (arith, nat_tests)
-
-pub lt_no : (a b : ℕ) → b ≤ a → nat_lt a b ≡ false
-lt_no a b h = grind (arith, nat_tests)
-
 -- the block at a place, or zeros outside
 abbrev pub grid : Gray → ℕ → ℕ → List ℤ
 grid g x y = cond (nat_lt x (across g) && nat_lt y (down g)) (get_or g.blocks (y * across g + x) (zeros 64)) (zeros 64)
@@ -202,9 +196,6 @@ whole_columns g = omega arith
 
 flip_first : (g : Gray) (x y : ℕ) → (flip_h (gray_meaning g)).blocks 0 x y ≡ cond (nat_lt x (across g)) (mirrored (grid g (across g - 1 - x) y)) (grid g x y)
 flip_first g x y = ap (λ k. cond (nat_lt x k) (mirrored (grid g (k - 1 - x) y)) (grid g x y)) (whole_columns g)
-
-pub not_zero : (i : ℕ) → (suc i == 0) ≡ false
-not_zero i = grind (arith, nat_tests)
 
 others : (g : Gray) (i x y : ℕ) → (gray_meaning g).blocks (suc i) x y ≡ zeros 64
 others g i x y = ap (λ b. cond (b && nat_lt x (across g) && nat_lt y (down g)) (get_or g.blocks (y * across g + x) (zeros 64)) (zeros 64)) (not_zero i)

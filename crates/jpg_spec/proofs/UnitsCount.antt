@@ -12,10 +12,10 @@ use Rattle.jpg_spec.specs.Geometry.{Frame, h_max, v_max, component_at, no_compon
 use Rattle.jpg_spec.specs.FrameHeader.{IsFrame}
 use Rattle.jpg_spec.specs.declared.frame.Component.{Component}
 use Rattle.jpg_spec.specs.declared.frame.Place.{Place}
-use Rattle.jpg_spec.proofs.Rows.{length_below}
 use Rattle.jpg_spec.proofs.PlacesSome.{factors_at, h_max_some, v_max_some}
 use Rattle.jpg_spec.proofs.PlacedBlocks.{Each}
 use Rattle.jpg_spec.proofs.PlacesFound.{real_in_padded}
+use Rattle.jpg_spec.proofs.Common.{length_below}
 
 -- INTERVALS: no more than units, and one
 

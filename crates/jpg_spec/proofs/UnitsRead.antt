@@ -8,9 +8,8 @@ use Rattle.jpg_spec.specs.Elements.{SpellsUnits}
 use Rattle.jpg_spec.specs.Scan.{Blocks, Scan, band, block_at, unit_at, coefficient}
 use Rattle.jpg_spec.specs.PictureInWork.{is_at, IntervalRead}
 use Rattle.jpg_spec.specs.declared.frame.Place.{Place}
-use Rattle.jpg_spec.proofs.Telling.{both, same_of}
-use Rattle.jpg_spec.proofs.SingleFrame.{neither}
 use Rattle.jpg_spec.proofs.PictureInWork.{AreApart, any_join, apart_swap, same_at}
+use Rattle.jpg_spec.proofs.Common.{both, same_of, neither}
 use Rattle.jpg_spec.specs.PictureInWork.{UnitsRead, OneChanges}
 
 pub units_first : (s : Scan) (old : Blocks) → ((i x y : ℕ) → length (old i x y) ≡ 64) → UnitsRead s [] old old []

@@ -18,9 +18,9 @@ use Rattle.jpg_spec.specs.PictureInWork.{is_at}
 use Rattle.jpg_spec.specs.declared.fault.Fault.TheVariants.{UnexpectedMarker, UnsupportedProcess, SecondFrame, SosBeforeSof}
 use Rattle.jpg_spec.specs.declared.frame.Limits.{Limits}
 use Rattle.jpg_spec.specs.declared.frame.Place.{Place}
-use Rattle.jpg_spec.proofs.SingleFrame.{neither}
 use Rattle.jpg_spec.proofs.PictureInWork.{any_join}
 use Rattle.jpg_spec.proofs.FrameFound.{no_process, framed}
+use Rattle.jpg_spec.proofs.Common.{neither}
 
 -- THE FRAME stays the same behind its header
 
@@ -94,10 +94,6 @@ none_in_units f i x y (j ∷ k ∷ parts) e = none_interleaved f i x y (j ∷ k 
 -- coefficient k of component i: all of them in a sequential scan, and those of the band in a progressive one
 abbrev pub is_coded : Frame → ScanHead → ℕ → ℕ → Bool
 is_coded f head i k = names head i && (not (is_progressive f.process) || nat_le head.ss k && nat_le k head.se)
-
-and_false : (a : Bool) → (a && false) ≡ false
-and_false true = refl
-and_false false = refl
 
 not_named : (limits : Limits) (before : List Segment) (contents : List ℕ) (i x y k : ℕ) → is_coded (frame_of limits before) (head_in (frame_of limits before) contents) i k ≡ false → is_named (scan_after limits before contents) i x y k ≡ false
 not_named limits before contents i x y k e = by (names head i) refl (is_progressive f.process) refl e

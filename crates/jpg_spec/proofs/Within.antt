@@ -8,27 +8,21 @@ use Rattle.std.proofs.lemmas.List.Elements.{All-head, All-tail, All-nil, All-con
 use Rattle.std.proofs.lemmas.List.Folds.{flat_map-map}
 use Rattle.jpg_spec.specs.Bits.{whole_bytes, padded, data_of}
 use Rattle.jpg_spec.specs.Numbers.{digits}
-use Rattle.jpg_spec.specs.Elements.{Coding, UnitLeft, Standing, Element, difference, dc_bit, value, long_run, ends, Covers, Tells, SpellsUnits, going_on, old_values, corrected, is_zero, grown, scaled, zeros_in, predictions_after, are_in_bounds}
+use Rattle.jpg_spec.specs.Elements.{Coding, UnitLeft, Standing, Element, difference, dc_bit, value, long_run, ends, Covers, Tells, SpellsUnits, going_on, old_values, corrected, is_zero, grown, scaled, zeros_in, predictions_after, are_in_bounds, new_unit}
 use Rattle.jpg_spec.specs.Moves.{zigzag, mirrored, headed}
-use Rattle.jpg_spec.specs.ScanText.{UnitDue}
-use Rattle.jpg_spec.specs.GrayFile.{Gray, IsGray, SpellsGray, gray_frame, gray_head, gray_coding, new_unit, gray_meaning, flipped_gray, sequential_text, turned_text}
+use Rattle.jpg_spec.specs.ScanText.{UnitDue, gray_frame, gray_head, gray_coding}
+use Rattle.jpg_spec.specs.GrayFile.{Gray, IsGray, SpellsGray, gray_meaning, flipped_gray, turned_text}
 use Rattle.jpg_spec.specs.Written.{IsWritable, plain_bits}
+use Rattle.jpg_spec.specs.FileText.{sequential_text}
 use Rattle.jpg_spec.proofs.Facts.{below_digits}
-use Rattle.jpg_spec.proofs.Telling.{both}
-use Rattle.jpg_spec.proofs.Writing.{and_intro}
 use Rattle.jpg_spec.proofs.Packing.{packs, data_spelled}
 use Rattle.jpg_spec.proofs.Sequential.{written_spells}
 use Rattle.jpg_spec.proofs.Rows.{append_apart, map_map}
 use Rattle.jpg_spec.proofs.Turned.{mirror_at, mirrored_is, mirrored_block, flipped_is, flipped_all, flipped_twice, flipped_meaning_is}
 use Rattle.jpg_spec.proofs.PlainText.{plain_text}
+use Rattle.jpg_spec.proofs.Common.{both, and_intro, bounds_join}
 
 -- JOINED VALUES
-
-join_rest : (c : Coding) (here more : List ℤ) → are_in_bounds c false here ≡ true → are_in_bounds c false more ≡ true → are_in_bounds c false (here ++ more) ≡ true
-join_rest c [] more h k = k
-join_rest c (v ∷ here) more h k =
-    let b = both (int_le (pos (nat_abs v)) c.bounds.ac) (are_in_bounds c false here) h in
-    and_intro (int_le (pos (nat_abs v)) c.bounds.ac) (are_in_bounds c false (here ++ more)) b.0 (join_rest c here more b.1 k)
 
 join_dc : (c : Coding) (v : ℤ) (more : List ℤ) → are_in_bounds c true (v ∷ []) ≡ true → are_in_bounds c false more ≡ true → are_in_bounds c true (v ∷ more) ≡ true
 join_dc c v more h k =
@@ -42,7 +36,7 @@ Joins c has_dc here = (more : List ℤ) → are_in_bounds c false more ≡ true 
 joins_rest : (c : Coding) (has_dc : Bool) (here : List ℤ) → has_dc ≡ false → are_in_bounds c has_dc here ≡ true → Joins c has_dc here
 unfolding Joins
 joins_rest c has_dc here e h = λ more k. (let f : are_in_bounds c false here ≡ true = subst (λ b. are_in_bounds c b here ≡ true) e h in
-    subst (λ b. are_in_bounds c b (here ++ more) ≡ true) (sym e) (join_rest c here more f k))
+    subst (λ b. are_in_bounds c b (here ++ more) ≡ true) (sym e) (bounds_join c here more f k))
 
 joins_dc : (c : Coding) (has_dc : Bool) (here : List ℤ) (v : ℤ) → has_dc ≡ true → here ≡ v ∷ [] → are_in_bounds c has_dc here ≡ true → Joins c has_dc here
 unfolding Joins

@@ -1,8 +1,7 @@
 -- What the writer writes of a band up to its last newly sent value is in the grammar (the heart of "what is written means the picture").
-use Rattle.std.proofs.Common.{◌≡◌, ℕ, zero, suc, ◌+◌, ◌*◌, ◌≤◌, Bool, true, false, cond, List, [], ◌∷◌, ◌++◌, length, refl, sym, ap, ◌∙◌, subst, arith, ℤ, pos, negsuc, ⊎_elim, inl, ◌==◌, ◌≢◌, ◌&&◌}
+use Rattle.std.proofs.Common.{◌≡◌, ℕ, zero, suc, ◌+◌, ◌*◌, ◌≤◌, Bool, true, false, cond, List, [], ◌∷◌, ◌++◌, length, refl, sym, ap, ◌∙◌, subst, arith, ℤ, pos, negsuc, ⊎_elim, inl, ◌==◌, ◌≢◌}
 use Rattle.std.specs.Prelude.{◌||◌, int_le, nat_abs, ◌^◌}
 use lib.IntN.{zero-*ℤ}
-use Rattle.jpg_spec.proofs.Telling.{both}
 use Rattle.std.specs.List.{Contains}
 use Rattle.std.proofs.lemmas.List.{append_assoc, length_push}
 use Rattle.std.proofs.lemmas.Bool.{cases_eq}
@@ -12,6 +11,7 @@ use Rattle.jpg_spec.specs.Numbers.{category, extra_bits}
 use Rattle.jpg_spec.specs.Elements.{Coding, UnitLeft, Standing, Element, value, long_run, Covers, zeros_in, nonzeros_in, is_zero, scaled, grown, corrected, going_on, symbol_of, are_in_bounds}
 use Rattle.jpg_spec.specs.Sending.{Sent, correction, newly, is_new, value_elements}
 use Rattle.jpg_spec.specs.Lists.{any_of}
+use Rattle.jpg_spec.proofs.Common.{both, and_intro}
 
 -- what a sent value makes of an old one; a newly sent one has a category that may stand
 abbrev pub Sends : Coding → Sent → ℤ → ℤ → Type 0
@@ -55,9 +55,6 @@ corrected_zero al (pos (suc m) ∷ pre) [] n = let f : ⊥ = omega arith in absu
 corrected_zero al (pos (suc m) ∷ pre) (x ∷ cs) n = ap (λ t. grown al x (pos (suc m)) ∷ t) (corrected_zero al pre cs (omega arith))
 corrected_zero al (negsuc m ∷ pre) [] n = let f : ⊥ = omega arith in absurd f
 corrected_zero al (negsuc m ∷ pre) (x ∷ cs) n = ap (λ t. grown al x (negsuc m) ∷ t) (corrected_zero al pre cs (omega arith))
-
-pub and_intro : (a b : Bool) → a ≡ true → b ≡ true → (a && b) ≡ true
-and_intro a b e f = ap (λ t. t && b) e ∙ f
 
 pub bounds_split : (c : Coding) (a b : List ℤ) → are_in_bounds c false (a ++ b) ≡ true → (are_in_bounds c false a ≡ true) × (are_in_bounds c false b ≡ true)
 bounds_split c [] b h = (refl, h)

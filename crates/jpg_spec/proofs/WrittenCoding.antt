@@ -5,10 +5,9 @@ use Rattle.jpg_spec.specs.Codes.{Code}
 use Rattle.jpg_spec.specs.Lists.{is_among}
 use Rattle.jpg_spec.specs.Geometry.{Frame, is_progressive}
 use Rattle.jpg_spec.specs.Segments.{ScanHead, head_components}
-use Rattle.jpg_spec.specs.Elements.{Coding, UnitLeft, Standing, Element, difference, dc_bit, value, long_run, ends, Covers, Tells, SpellsElement, codes_due, going_on, predictions_after, at_start}
+use Rattle.jpg_spec.specs.Elements.{Coding, UnitLeft, Standing, Element, difference, dc_bit, value, long_run, ends, Covers, Tells, SpellsElement, codes_due, going_on, predictions_after, at_start, new_unit}
 use Rattle.jpg_spec.specs.Scan.{TablesInForce, codes_of, part_of, scan_coding}
-use Rattle.jpg_spec.specs.ScanText.{UnitDue, typical_table}
-use Rattle.jpg_spec.specs.GrayFile.{typical_tables, new_unit}
+use Rattle.jpg_spec.specs.ScanText.{UnitDue, typical_table, typical_tables}
 use Rattle.jpg_spec.specs.Written.{IsWritable, sequential_bits, SpellsDue}
 use Rattle.jpg_spec.proofs.Sequential.{written_spells}
 use Rattle.jpg_spec.proofs.SingleAgain.{same_within}

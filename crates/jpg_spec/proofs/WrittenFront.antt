@@ -22,15 +22,14 @@ use Rattle.jpg_spec.specs.WrittenFile.{IsKeptMarker}
 use Rattle.jpg_spec.specs.declared.fault.Fault.TheVariants.{EmptyImage, TooLarge, Precision, ComponentCount, Sampling, DuplicateComponent, QuantSlot, TooManyBlocks, BadLength}
 use Rattle.jpg_spec.specs.declared.frame.Component.{Component}
 use Rattle.jpg_spec.specs.declared.frame.Limits.{Limits}
-use Rattle.jpg_spec.proofs.Telling.{both, negated, same_of, le_of, not_lt_of}
 use Rattle.jpg_spec.proofs.Full.{passed}
-use Rattle.jpg_spec.proofs.SingleFrame.{neither, refused, not_refused, same_itself}
 use Rattle.jpg_spec.proofs.SingleKept.{IsPassedOn, ArePassedOn, passes_more, kept_alone, may_keep}
 use Rattle.jpg_spec.proofs.TablesInForce.{affirmed}
+use Rattle.jpg_spec.proofs.Common.{both, negated, le_of, not_lt_of, same_of, neither, same_itself, refused, not_refused}
 
 -- THE FRAME passes its checks
 
-factors_ok : (c : Component) → has_bad_factor c ≡ false → HasFactors c
+pub factors_ok : (c : Component) → has_bad_factor c ≡ false → HasFactors c
 factors_ok c e =
     let a = neither (c.h == 0) (nat_lt 4 c.h || (c.v == 0 || nat_lt 4 c.v)) e in
     let b = neither (nat_lt 4 c.h) (c.v == 0 || nat_lt 4 c.v) a.1 in
@@ -41,7 +40,7 @@ factors_ok c e =
     some zero e = cc
     some (suc n) e = omega arith
 
-all_factors : (cs : List Component) → any_of has_bad_factor cs ≡ false → All HasFactors cs
+pub all_factors : (cs : List Component) → any_of has_bad_factor cs ≡ false → All HasFactors cs
 all_factors [] e = All-nil HasFactors
 all_factors (c ∷ cs) e = let n = neither (has_bad_factor c) (any_of has_bad_factor cs) e in All-cons HasFactors c cs (factors_ok c n.0) (all_factors cs n.1)
 

@@ -12,13 +12,10 @@ use Rattle.jpg_spec.specs.Segments.{ScanHead, head_components}
 use Rattle.jpg_spec.specs.ScanContents.{ids_told, part_told, parts_told, head_told, checked_head, scan_header, are_among, are_parameters}
 use Rattle.jpg_spec.specs.declared.fault.Fault.TheVariants.{BadLength, ScanComponent, McuTooLarge, ScanParameters}
 use Rattle.jpg_spec.specs.declared.frame.ScanPart.{ScanPart}
-use Rattle.jpg_spec.proofs.Telling.{both, negated, same_of}
-use Rattle.jpg_spec.proofs.Turned.{lt_no}
 use Rattle.jpg_spec.proofs.Rows.{map_map}
-use Rattle.jpg_spec.proofs.SingleFrame.{neither, same_itself, not_refused}
-use Rattle.jpg_spec.proofs.Writing.{and_intro}
 use Rattle.jpg_spec.proofs.PlacedBlocks.{Each}
 use Rattle.jpg_spec.proofs.WrittenState.{eq_swap}
+use Rattle.jpg_spec.proofs.Common.{both, negated, same_of, and_intro, neither, same_itself, not_refused, lt_no}
 
 -- DISTINCT NUMBERS and their places
 

@@ -8,7 +8,7 @@ use Rattle.jpg_spec.specs.Lists.{any_of, is_distinct}
 use Rattle.jpg_spec.specs.Faults.{Told, refuse}
 use Rattle.jpg_spec.specs.Geometry.{Frame, padded_blocks}
 use Rattle.jpg_spec.specs.FrameHeader.{has_bad_factor, has_bad_slot, identifiers, checked_frame}
-use Rattle.jpg_spec.specs.Jfif.{Jfif, jfif_of, begins_jfif, begins_adobe}
+use Rattle.jpg_spec.specs.Jfif.{jfif_of, begins_jfif, begins_adobe}
 use Rattle.jpg_spec.specs.Meaning.{Meaning, colour_of}
 use Rattle.jpg_spec.specs.Moves.{jfif_contents, adobe_contents, headed_kept, copied, sequential_process, headed_by}
 use Rattle.jpg_spec.specs.Markers.{Segment, is_plain_jfif, is_plain_adobe, counts_nothing, kept_count}
@@ -21,15 +21,15 @@ use Rattle.jpg_spec.specs.declared.frame.Copying.TheVariants as copying
 use Rattle.jpg_spec.specs.declared.frame.Colour.{Colour}
 use Rattle.jpg_spec.specs.declared.frame.Colour.TheVariants.{Gray, YCbCr, Rgb, Cmyk, Ycck, Unknown}
 use Rattle.jpg_spec.specs.declared.frame.Limits.{Limits}
-use Rattle.jpg_spec.proofs.Telling.{both, negated}
-use Rattle.jpg_spec.proofs.SingleFrame.{neither, refused, not_refused}
+use Rattle.jpg_spec.specs.declared.jfif.Jfif.{Jfif}
+use Rattle.jpg_spec.proofs.Common.{both, negated, neither, refused, not_refused, and_none}
 
 -- THE PROCESS of a frame isn't checked
 
 abbrev pub with_process : Process → Frame → Frame
 with_process p f = record f { process = p }
 
-other_process : (limits : Limits) (f g : Frame) (p : Process) → checked_frame limits f ≡ Ok g → checked_frame limits (with_process p f) ≡ Ok (with_process p f)
+pub other_process : (limits : Limits) (f g : Frame) (p : Process) → checked_frame limits f ≡ Ok g → checked_frame limits (with_process p f) ≡ Ok (with_process p f)
 unfolding checked_frame
 other_process limits f g p e =
     let many : Told Frame = refuse TooManyBlocks (nat_lt limits.blocks (padded_blocks f)) (Ok f) in
@@ -163,10 +163,6 @@ not_jfif s own e = ap (λ b. ((b && nat_le 14 (length s.1)) && length s.1 == 14)
 
 not_adobe : (s : Segment) (own : Bool) → not (begins_adobe s.0 s.1) ≡ true → (is_plain_adobe s && own) ≡ false
 not_adobe s own e = ap (λ b. ((b && nat_le 12 (length s.1)) && length s.1 == 12) && own) (negated (begins_adobe s.0 s.1) e)
-
-and_none : (b : Bool) → (b && false) ≡ false
-and_none true = refl
-and_none false = refl
 
 jfif_fit : (limits : Limits) (j : Jfif) (kept : List Segment) → AreFit limits kept → AreFit limits ((0xe0, jfif_contents j) ∷ filter (λ s. not (begins_jfif s.0 s.1)) kept)
 jfif_fit limits j kept fit =

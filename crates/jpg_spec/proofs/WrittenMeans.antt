@@ -20,7 +20,6 @@ use Rattle.jpg_spec.specs.FileText.{Written, nothing_written, Restart, front_tex
 use Rattle.jpg_spec.specs.WrittenFile.{IsHeaded, is_script_behind, IsRestart}
 use Rattle.jpg_spec.specs.declared.frame.Component.{Component}
 use Rattle.jpg_spec.specs.declared.frame.Limits.{Limits}
-use Rattle.jpg_spec.proofs.Telling.{both, lt_of}
 use Rattle.jpg_spec.proofs.Rows.{by_items}
 use Rattle.jpg_spec.proofs.OneFile.{end_is_marker}
 use Rattle.jpg_spec.proofs.WrittenFront.{frame_is, frame_component}
@@ -28,6 +27,7 @@ use Rattle.jpg_spec.proofs.WrittenStart.{component_at_is, starts}
 use Rattle.jpg_spec.proofs.WrittenState.{Sends, quants_due}
 use Rattle.jpg_spec.proofs.WrittenScript.{IsFit, IsShown, script_step}
 use Rattle.jpg_spec.proofs.FirstPasses.{all_below}
+use Rattle.jpg_spec.proofs.Common.{both, lt_of}
 
 -- WHAT IS MEANT at the end: every component has its table, and every real block is that of the picture
 

@@ -8,13 +8,12 @@ use Rattle.jpg_spec.specs.Segments.{QuantTable}
 use Rattle.jpg_spec.specs.QuantContents.{pairs_told, quant_tables}
 use Rattle.jpg_spec.specs.Moves.{is_wide}
 use Rattle.jpg_spec.specs.FileText.{distinct_after, slot_in}
-use Rattle.jpg_spec.proofs.Telling.{same_of}
-use Rattle.jpg_spec.proofs.SingleFrame.{same_itself}
 use Rattle.jpg_spec.proofs.PlainText.{equal_itself}
 use Rattle.jpg_spec.proofs.SingleTables.{IsQuants, AreTwoBytes, pairs_again, length_pairs_written, one_table}
 use Rattle.jpg_spec.proofs.PlacedBlocks.{Each}
 use Rattle.jpg_spec.proofs.WrittenState.{equal_lists}
 use Rattle.jpg_spec.proofs.PlacesFound.{or_first, or_second}
+use Rattle.jpg_spec.proofs.Common.{same_of, same_itself}
 
 -- THE SEGMENT of a table in a slot
 
@@ -62,7 +61,7 @@ slot_short slot table is = by (is_wide table)
 abbrev pub is_in : QuantTable → List QuantTable → Bool
 is_in q tables = any_of (are_equal q) tables
 
-equal_swap : (a b : List ℕ) → are_equal a b ≡ true → are_equal b a ≡ true
+pub equal_swap : (a b : List ℕ) → are_equal a b ≡ true → are_equal b a ≡ true
 equal_swap a b e = subst (λ x. are_equal x a ≡ true) (equal_lists a b e) (equal_itself a)
 
 -- tables that aren't the same have different slots

@@ -10,22 +10,20 @@ use Rattle.jpg_spec.specs.Lists.{any_of, chunks, is_among, is_distinct}
 use Rattle.jpg_spec.specs.Geometry.{Frame, units, is_progressive, is_real, mcu_units}
 use Rattle.jpg_spec.specs.FrameHeader.{IsFrame}
 use Rattle.jpg_spec.specs.Segments.{ScanHead, head_components}
-use Rattle.jpg_spec.specs.Elements.{SpellsUnits, zeros}
+use Rattle.jpg_spec.specs.Elements.{SpellsUnits, zeros, new_unit}
 use Rattle.jpg_spec.specs.Scan.{Blocks, Scan, TablesInForce, scan_coding, scan_of, band, block_at, unit_at, SpellsInterval, SpellsIntervals, coefficient, is_named, ScanMeans}
-use Rattle.jpg_spec.specs.ScanText.{UnitDue, units_due, last_dc}
-use Rattle.jpg_spec.specs.GrayFile.{typical_tables, new_unit}
+use Rattle.jpg_spec.specs.ScanText.{UnitDue, units_due, last_dc, typical_tables}
 use Rattle.jpg_spec.specs.Written.{sequential_bits}
 use Rattle.jpg_spec.specs.PictureInWork.{is_at, AreDistinct}
 use Rattle.jpg_spec.specs.Laws.{IsNewUnit}
 use Rattle.jpg_spec.specs.declared.frame.Place.{Place}
-use Rattle.jpg_spec.proofs.Telling.{both, same_of}
-use Rattle.jpg_spec.proofs.Writing.{and_intro}
 use Rattle.jpg_spec.proofs.Packing.{packs}
 use Rattle.jpg_spec.proofs.BlocksOnce.{joined_chunks}
 use Rattle.jpg_spec.proofs.PlacesDistinct.{units_distinct}
 use Rattle.jpg_spec.proofs.PlacesFound.{each_units, real_found}
 use Rattle.jpg_spec.proofs.PlacedBlocks.{Each, each_map, each_split, Placed, block_due, placed_due, all_placed, all_places, blocks_after, found_none, IsFound, found_each, found_size, IsRealSendable, IsPlacedWritable, placed_writable, due_writable, placed_sizes, found_real}
 use Rattle.jpg_spec.proofs.WrittenCoding.{GivesTypical, scan_spells}
+use Rattle.jpg_spec.proofs.Common.{both, same_of, and_intro}
 
 -- LISTS OF LISTS
 

@@ -9,8 +9,7 @@ use Rattle.jpg_spec.specs.Geometry.{Frame, component_at, is_progressive, is_real
 use Rattle.jpg_spec.specs.FrameHeader.{IsFrame}
 use Rattle.jpg_spec.specs.Segments.{QuantTable, ScanHead, head_components}
 use Rattle.jpg_spec.specs.Scan.{Blocks, Scan, scan_coding, scan_of, unit_at, ScanMeans}
-use Rattle.jpg_spec.specs.ScanText.{intervals_text, typical_table}
-use Rattle.jpg_spec.specs.GrayFile.{typical_tables, gray_coding, new_unit}
+use Rattle.jpg_spec.specs.ScanText.{intervals_text, typical_table, typical_tables, gray_coding}
 use Rattle.jpg_spec.specs.Meaning.{Meaning, colour_of}
 use Rattle.jpg_spec.specs.Script.{Entry}
 use Rattle.jpg_spec.specs.InForce.{frame_of, huffman_in_force, quant_in_force}
@@ -24,8 +23,7 @@ use Rattle.jpg_spec.specs.declared.frame.Colour.{Colour}
 use Rattle.jpg_spec.specs.declared.frame.Place.{Place}
 use Rattle.jpg_spec.specs.declared.frame.ScanPart.{ScanPart}
 use Rattle.jpg_spec.specs.declared.frame.Limits.{Limits}
-use Rattle.jpg_spec.proofs.Telling.{both}
-use Rattle.jpg_spec.proofs.SingleFrame.{neither}
+use Rattle.jpg_spec.specs.Elements.{new_unit}
 use Rattle.jpg_spec.proofs.SingleAgain.{same_within}
 use Rattle.jpg_spec.proofs.PictureInWork.{leads_sizes}
 use Rattle.jpg_spec.proofs.FirstPasses.{sequential_unit}
@@ -37,6 +35,7 @@ use Rattle.jpg_spec.proofs.WrittenHead.{IsSpoken, head_contents}
 use Rattle.jpg_spec.proofs.WrittenState.{IsSent, Sends, quants_due, tables_step, interval_step}
 use Rattle.jpg_spec.proofs.WrittenStep.{ids_of, intervals_text_spelled, rule_is, head_in_is, scan_is, scan_step}
 use Rattle.jpg_spec.proofs.WrittenSequential.{plain_part, plain_head, plain_components, IsEntry, entry_is, among_below, plain_spoken, plain_needed, needed_tellable, IsGiven, all_given, typical_given, sequential_admitted, plain_data, scans_are}
+use Rattle.jpg_spec.proofs.Common.{both, neither}
 
 -- a meaning that may be written in sequential scans
 pub record IsFit (H : Meaning) : Type 0 where

@@ -24,14 +24,13 @@ use Rattle.jpg_spec.specs.declared.fault.Fault.TheVariants.{RepeatedScan, Progre
 use Rattle.jpg_spec.specs.declared.frame.Colour.{Colour}
 use Rattle.jpg_spec.specs.declared.frame.Place.{Place}
 use Rattle.jpg_spec.specs.declared.frame.ScanPart.{ScanPart}
-use Rattle.jpg_spec.proofs.Telling.{both, negated, same_of, lt_of, le_of}
 use Rattle.jpg_spec.proofs.Rows.{map_map}
-use Rattle.jpg_spec.proofs.SingleFrame.{same_itself, not_refused}
 use Rattle.jpg_spec.proofs.PlacedBlocks.{Each}
 use Rattle.jpg_spec.proofs.WrittenCoding.{GivesTypical}
 use Rattle.jpg_spec.proofs.WrittenScan.{sequential_coded, scan_rows}
 use Rattle.jpg_spec.proofs.WrittenHead.{IsPartOf, IsSpoken}
 use Rattle.jpg_spec.proofs.WrittenState.{IsTellable}
+use Rattle.jpg_spec.proofs.Common.{both, negated, le_of, lt_of, same_of, same_itself, not_refused}
 
 -- THE HEAD
 

@@ -22,9 +22,9 @@ use Rattle.jpg_spec.specs.Items.{Item, segment, segments_of, SpellsFront, fault_
 use Rattle.jpg_spec.specs.FileMeaning.{Leads}
 use Rattle.jpg_spec.specs.FileText.{Written, segment_text, frame_of_meaning, holds_table, with_table, tables_text, tables_given}
 use Rattle.jpg_spec.specs.declared.frame.Limits.{Limits}
-use Rattle.jpg_spec.proofs.Telling.{both, same_of}
 use Rattle.jpg_spec.proofs.SingleKept.{text_spells}
 use Rattle.jpg_spec.proofs.PlacedBlocks.{Each}
+use Rattle.jpg_spec.proofs.Common.{both, same_of}
 
 -- THE STATE: the items so far, their text, and what they come to: their heads, the newest first, and what holds of the blocks.
 

@@ -35,6 +35,10 @@ abbrev pub comments_text : List Segment → List ℕ
 comments_text [] = []
 comments_text (s ∷ before) = comments_text before ++ (if s.0 == 0xfe then printed s.1 else [])
 
+-- the bytes that a comment which is inserted has at most
+abbrev pub longest_comment : ℕ
+longest_comment = 65000
+
 -- WHERE A FILE IS WHOLE, for each of the two
 
 -- for rdjpgcom: at the end of the first SOS segment, or at EOI before any; with the segments before it

@@ -1,9 +1,11 @@
 -- WHAT THE WORDS of rdjpgcom and wrjpgcom ask for, behind the command's own; the first fault of the words from left to right.
 use Rattle.std.specs.Prelude.{ℕ, ◌+◌, Bool, true, false, if◌then◌else◌, List, [], ◌∷◌, Option, Some, None}
-use Rattle.jpg_spec.specs.Switches.{is_switch, Purpose, left_out, replacing, comment_given, comment_in_file, purpose_of, rdjpgcom_switches, wrjpgcom_switches}
+use Rattle.jpg_spec.specs.Switches.{is_switch, purpose_of, rdjpgcom_switches, wrjpgcom_switches}
 use Rattle.jpg_spec.specs.declared.answers.UsageFault.{UsageFault}
 use Rattle.jpg_spec.specs.declared.answers.UsageFault.TheVariants.{UnknownSwitch, LeftOutSwitch, MissingValue, TooManyFiles, TwoComments, NeedsInput}
 use Rattle.jpg_spec.specs.declared.answers.Usage.{Usage}
+use Rattle.jpg_spec.specs.declared.switch.Purpose.TheVariants.{LeftOut, Replacing, CommentGiven, CommentInFile}
+use Rattle.jpg_spec.specs.declared.switch.Purpose.{Purpose}
 
 -- a file: standard input, standard output, or one with a name
 pub data FileName : Type 0 where
@@ -41,10 +43,10 @@ ends_words index (word ∷ words) x = usage_at TooManyFiles index
 -- rdjpgcom, from the word of this index on
 
 abbrev pub wrong_switch : {X : Type 0} → ℕ → Option Purpose → WordsTold X
-wrong_switch index (Some left_out) = usage_at LeftOutSwitch index
-wrong_switch index (Some replacing) = usage_at UnknownSwitch index
-wrong_switch index (Some comment_given) = usage_at UnknownSwitch index
-wrong_switch index (Some comment_in_file) = usage_at UnknownSwitch index
+wrong_switch index (Some LeftOut) = usage_at LeftOutSwitch index
+wrong_switch index (Some Replacing) = usage_at UnknownSwitch index
+wrong_switch index (Some CommentGiven) = usage_at UnknownSwitch index
+wrong_switch index (Some CommentInFile) = usage_at UnknownSwitch index
 wrong_switch index None = usage_at UnknownSwitch index
 
 abbrev pub read_asked : ℕ → List (List ℕ) → WordsTold FilesAsked
@@ -77,10 +79,10 @@ without_file index replace (from_file name) = words_right (record { files = from
 
 -- by what a switch is for: what the words ask for where it replaces, where it gives a comment, and where it names a file of one
 abbrev pub by_purpose : {X : Type 0} → ℕ → WordsTold X → WordsTold X → WordsTold X → Option Purpose → WordsTold X
-by_purpose index replaced given in_file (Some replacing) = replaced
-by_purpose index replaced given in_file (Some comment_given) = given
-by_purpose index replaced given in_file (Some comment_in_file) = in_file
-by_purpose index replaced given in_file (Some left_out) = usage_at LeftOutSwitch index
+by_purpose index replaced given in_file (Some Replacing) = replaced
+by_purpose index replaced given in_file (Some CommentGiven) = given
+by_purpose index replaced given in_file (Some CommentInFile) = in_file
+by_purpose index replaced given in_file (Some LeftOut) = usage_at LeftOutSwitch index
 by_purpose index replaced given in_file None = usage_at UnknownSwitch index
 
 -- From the word of this index on, after words that said whether to replace and where the comment comes from.

@@ -74,5 +74,5 @@ sample_row done v =
     (column_at done v 4) (column_at done v 5) (column_at done v 6) (column_at done v 7))
 
 -- the 64 samples, row by row
-unfoldable pub inverse : List ℤ → List ℕ
-inverse block = let done = columns block in flat_map (sample_row done) (below 8)
+unfoldable pub inverse_dct : List ℤ → List ℕ
+inverse_dct block = let done = columns block in flat_map (sample_row done) (below 8)

@@ -42,6 +42,10 @@ is_zero (negsuc n) = false
 abbrev pub zeros : ℕ → List ℤ
 zeros n = replicate n (pos 0)
 
+-- a block of a component that had no scan so far
+abbrev pub new_unit : ℕ → UnitLeft
+new_unit component = record { component = component; has_dc = true; old = zeros 64 }
+
 -- how many of these are zero, and how many are not
 abbrev pub zeros_in : List ℤ → ℕ
 zeros_in [] = 0

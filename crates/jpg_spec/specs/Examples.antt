@@ -4,7 +4,7 @@ use Rattle.jpg_spec.specs.Geometry.{Frame}
 use Rattle.jpg_spec.specs.Elements.{zeros}
 use Rattle.jpg_spec.specs.Scan.{Blocks}
 use Rattle.jpg_spec.specs.Meaning.{Meaning, picture_frame}
-use Rattle.jpg_spec.specs.GrayFile.{Gray, gray_front, gray_meaning, sequential_text}
+use Rattle.jpg_spec.specs.GrayFile.{Gray, gray_front, gray_meaning}
 use Rattle.jpg_spec.specs.Markers.{eoi}
 use Rattle.jpg_spec.specs.Moves.{headed}
 use Rattle.jpg_spec.specs.Transforms.{transformed}
@@ -13,6 +13,7 @@ use Rattle.jpg_spec.specs.declared.frame.Process.TheVariants.{Baseline}
 use Rattle.jpg_spec.specs.declared.frame.Place.{Place}
 use Rattle.jpg_spec.specs.declared.image.ImageKind.TheVariants as image
 use Rattle.jpg_spec.specs.declared.image.ImageInfo.{ImageInfo}
+use Rattle.jpg_spec.specs.FileText.{sequential_text}
 
 -- all quantisers 1
 abbrev pub ones : List ℕ

@@ -8,7 +8,7 @@ use Rattle.jpg_spec.specs.Meaning.{Meaning}
 use Rattle.jpg_spec.specs.Markers.{BeginsSegment, PartOfSegment}
 use Rattle.jpg_spec.specs.Items.{Item, segments_of}
 use Rattle.jpg_spec.specs.FileMeaning.{scan_after, Means}
-use Rattle.jpg_spec.specs.FirstFault.{BehindItems, Holds, InsideScan}
+use Rattle.jpg_spec.specs.FirstFault.{BehindItems, HoldsUnits, InsideScan}
 use Rattle.jpg_spec.specs.declared.fault.Fault.{Fault}
 use Rattle.jpg_spec.specs.declared.frame.Limits.{Limits}
 use Rattle.jpg_spec.specs.declared.frame.Place.{Place}
@@ -23,7 +23,7 @@ Completes s before places coded =
 -- units are due: the data bytes don't hold them all, and show no fault
 abbrev pub AreDue : Scan → Blocks → List Place → List ℕ → Type 0
 AreDue s before places coded =
-    (Holds s before places coded → ⊥) × ((fault : Fault) → DataShows s.coding (map (unit_at s before) places) fault (bits_of_bytes coded) → ⊥)
+    (HoldsUnits s before places coded → ⊥) × ((fault : Fault) → DataShows s.coding (map (unit_at s before) places) fault (bits_of_bytes coded) → ⊥)
 
 -- Units are due, or the interval is complete and a marker is awaited. Behind the data bytes stand FF bytes alone.
 abbrev pub StandsInside : (limits : Limits) → (bytes : List ℕ) → (tail : List ℕ) → InsideScan limits bytes tail → Type 0

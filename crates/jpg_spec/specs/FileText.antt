@@ -7,7 +7,7 @@ use Rattle.jpg_spec.specs.Segments.{HuffmanTable, QuantTable, ScanHead, head_com
 use Rattle.jpg_spec.specs.Markers.{soi, eoi}
 use Rattle.jpg_spec.specs.Meaning.{Meaning, PictureComponent, colour_of, picture_frame}
 use Rattle.jpg_spec.specs.Moves.{is_wide}
-use Rattle.jpg_spec.specs.Script.{Entry}
+use Rattle.jpg_spec.specs.Script.{Entry, sequential_script}
 use Rattle.jpg_spec.specs.ScanText.{scan_elements, scan_tables, scan_data, is_same}
 use Rattle.jpg_spec.specs.declared.frame.Process.{Process}
 use Rattle.jpg_spec.specs.declared.frame.Process.TheVariants.{Baseline, Extended, Progressive}
@@ -156,3 +156,7 @@ nothing_written = record { tables = λ class slot. None; interval = 0 }
 unfoldable pub file_text : Meaning → List Entry → Restart → List ℕ
 file_text H script restart =
     front_text H ++ scans_text H restart nothing_written script ++ eoi
+
+-- the text of a headed meaning in one sequential scan without restarts
+abbrev pub sequential_text : Meaning → List ℕ
+sequential_text H = file_text H (sequential_script (frame_of_meaning H)) off

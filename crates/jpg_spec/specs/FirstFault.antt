@@ -37,8 +37,8 @@ ItemShows limits items fault tail =
 
 -- INSIDE SCAN DATA: whole intervals, the data bytes of the one in work, and then bytes that are no data byte yet
 
-abbrev pub Holds : Scan → Blocks → List Place → List ℕ → Type 0
-Holds s before places coded =
+abbrev pub HoldsUnits : Scan → Blocks → List Place → List ℕ → Type 0
+HoldsUnits s before places coded =
     (told : List ℤ) × ((bits : List Bool) × (rest : List Bool) × (bits_of_bytes coded ≡ bits ++ rest) × SpellsUnits s.coding (map (unit_at s before) places) told bits)
 
 -- Whole intervals hold their units, with fewer than eight bits behind them. These intervals are due then.
@@ -71,9 +71,9 @@ abbrev pub ScanShows : (limits : Limits) → (bytes : List ℕ) → Fault → (t
 ScanShows limits bytes fault tail w =
     let s = scan_after limits (segments_of w.items) w.contents in
     ((tail ≡ []) × DataShows s.coding (map (unit_at s w.blocks) w.places) fault (bits_of_bytes w.coded))
-    ⊎ (((fault ≡ EntropyShort) × ((code : ℕ) × SpellsMarker code tail) × (Holds s w.blocks w.places w.coded → ⊥))
-    ⊎ (((fault ≡ ExtraData) × (tail ≡ []) × ((coded : List ℕ) × (byte : ℕ) × (w.coded ≡ coded ++ byte ∷ []) × Holds s w.blocks w.places coded))
-    ⊎ ((fault ≡ RestartWrong) × Holds s w.blocks w.places w.coded × ((next : List Place) × (others : List (List Place)) × (w.later ≡ next ∷ others))
+    ⊎ (((fault ≡ EntropyShort) × ((code : ℕ) × SpellsMarker code tail) × (HoldsUnits s w.blocks w.places w.coded → ⊥))
+    ⊎ (((fault ≡ ExtraData) × (tail ≡ []) × ((coded : List ℕ) × (byte : ℕ) × (w.coded ≡ coded ++ byte ∷ []) × HoldsUnits s w.blocks w.places coded))
+    ⊎ ((fault ≡ RestartWrong) × HoldsUnits s w.blocks w.places w.coded × ((next : List Place) × (others : List (List Place)) × (w.later ≡ next ∷ others))
     × ((code : ℕ) × SpellsMarker code tail × (code ≡ 0xd0 + length w.done % 8 → ⊥)))))
 
 -- THE FIRST FAULT

@@ -1,20 +1,16 @@
 -- THE PLAIN GRAY FILE: a baseline file of one component, with the typical tables K.3 and K.5, sides of whole blocks, and one scan
 -- (T.81, B.2, F.1.2, JFIF 1.02).
-use Rattle.std.specs.Prelude.{◌≡◌, ℕ, ◌+◌, ◌*◌, ◌/◌, ◌%◌, ◌≤◌, Bool, nat_lt, ◌&&◌, ◌==◌, if◌then◌else◌, true, List, [], ◌∷◌, ◌++◌, length, map, flat_map, reverse, slice_index_or, codes, Some, ℤ, All}
+use Rattle.std.specs.Prelude.{◌≡◌, ℕ, ◌+◌, ◌*◌, ◌/◌, ◌%◌, ◌≤◌, Bool, nat_lt, ◌&&◌, ◌==◌, if◌then◌else◌, List, [], ◌∷◌, ◌++◌, length, map, flat_map, reverse, slice_index_or, codes, ℤ, All}
 use Rattle.std.specs.Int.{to_be_bytes, w16}
 use Rattle.jpg_spec.specs.Bits.{Packs, SpellsData}
 use Rattle.jpg_spec.specs.Lists.{chunks}
 use Rattle.jpg_spec.specs.Typical.{dc_luma_counts, dc_luma_values, ac_luma_counts, ac_luma_values}
-use Rattle.jpg_spec.specs.Geometry.{Frame}
-use Rattle.jpg_spec.specs.Segments.{ScanHead}
-use Rattle.jpg_spec.specs.Elements.{Coding, UnitLeft, SpellsUnits, zeros}
-use Rattle.jpg_spec.specs.Scan.{TablesInForce, scan_coding}
-use Rattle.jpg_spec.specs.ScanText.{typical_table}
+use Rattle.jpg_spec.specs.Elements.{Coding, SpellsUnits, zeros, new_unit}
+use Rattle.jpg_spec.specs.ScanText.{gray_coding}
 use Rattle.jpg_spec.specs.Markers.{soi, eoi}
 use Rattle.jpg_spec.specs.Meaning.{Meaning}
 use Rattle.jpg_spec.specs.Moves.{mirrored, flip_h, headed}
-use Rattle.jpg_spec.specs.Script.{sequential_script}
-use Rattle.jpg_spec.specs.FileText.{segment_text, file_text, frame_of_meaning, off}
+use Rattle.jpg_spec.specs.FileText.{segment_text, sequential_text}
 use Rattle.jpg_spec.specs.declared.frame.Process.TheVariants.{Baseline}
 
 -- a gray picture: its sides, its quantisers in zigzag order, and its blocks row by row
@@ -59,24 +55,6 @@ gray_front width height quants =
 
 -- ITS DATA
 
-abbrev pub gray_frame : ℕ → ℕ → Frame
-gray_frame width height =
-    record { process = Baseline; precision = 8; width = width; height = height; components = record { id = 1; h = 1; v = 1; quant = 0 } ∷ [] }
-
-abbrev pub gray_head : ScanHead
-gray_head = record { parts = record { component = 0; dc = 0; ac = 0 } ∷ []; ss = 0; se = 63; ah = 0; al = 0 }
-
--- K.3 to K.6 in slots 0 and 1
-abbrev pub typical_tables : TablesInForce
-typical_tables class slot = Some (typical_table class slot)
-
-abbrev pub gray_coding : Coding
-gray_coding = scan_coding (gray_frame 8 8) typical_tables gray_head
-
--- a block of a component that had no scan so far
-abbrev pub new_unit : ℕ → UnitLeft
-new_unit component = record { component = component; has_dc = true; old = zeros 64 }
-
 -- The bits are these blocks of one component, one after another, with prediction from 0.
 abbrev pub SpellsBlocks : Coding → ℕ → List (List ℤ) → List Bool → Type 0
 SpellsBlocks c component blocks bits = SpellsUnits c (map (λ block. new_unit component) blocks) (flat_map (λ block. block) blocks) bits
@@ -111,10 +89,6 @@ turned_rows size blocks = flat_map (λ row. map mirrored (reverse row)) (chunks 
 
 abbrev pub flipped_gray : Gray → Gray
 flipped_gray g = record g { blocks = turned_rows (across g) g.blocks }
-
--- the text of a headed meaning in one sequential scan without restarts
-abbrev pub sequential_text : Meaning → List ℕ
-sequential_text H = file_text H (sequential_script (frame_of_meaning H)) off
 
 abbrev pub turned_text : Gray → List ℕ
 turned_text g = sequential_text (headed (flip_h (gray_meaning g)))

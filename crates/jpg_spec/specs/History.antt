@@ -6,6 +6,7 @@ use Rattle.jpg_spec.specs.Geometry.{Frame, component_at, is_progressive}
 use Rattle.jpg_spec.specs.Segments.{QuantTable, ScanHead, head_components, needs_dc, needs_ac}
 use Rattle.jpg_spec.specs.Markers.{Segment}
 use Rattle.jpg_spec.specs.InForce.{first_some, head_in, heads_of, huffman_in_force, quant_in_force}
+use Rattle.jpg_spec.specs.declared.fault.Fault.{Fault}
 use Rattle.jpg_spec.specs.declared.fault.Fault.TheVariants.{RepeatedScan, Progression, MissingTable, QuantChanged}
 
 abbrev pub names : ScanHead → ℕ → Bool
@@ -58,11 +59,24 @@ is_same_table None now = true
 is_same_table (Some table) None = false
 is_same_table (Some table) (Some now) = are_equal table now
 
+-- a scan of a sequential frame that has a component of an earlier one
+abbrev pub is_repeated : Frame → List ScanHead → ScanHead → Bool
+is_repeated f heads head = not (is_progressive f.process) && any_of (has_begun heads) (head_components head)
+
+-- a scan of a progressive frame that isn't the next of each of its components
+abbrev pub is_out_of_order : Frame → List ScanHead → ScanHead → Bool
+is_out_of_order f heads head = is_progressive f.process && not (all_of (is_next heads head) (head_components head))
+
+-- the fault of a scan behind those of these heads, whatever its tables
+abbrev pub order_fault : Frame → List ScanHead → ScanHead → Option Fault
+order_fault f heads head =
+    if is_repeated f heads head then Some RepeatedScan else if is_out_of_order f heads head then Some Progression else None
+
 -- a head that is admitted after these segments
 abbrev pub admitted : Frame → List Segment → ScanHead → Told ScanHead
 admitted f before head =
-    refuse RepeatedScan (not (is_progressive f.process) && any_of (has_begun (heads_of f before)) (head_components head))
-    (refuse Progression (is_progressive f.process && not (all_of (is_next (heads_of f before) head) (head_components head)))
+    refuse RepeatedScan (is_repeated f (heads_of f before) head)
+    (refuse Progression (is_out_of_order f (heads_of f before) head)
     (refuse MissingTable (lacks_table f before head)
     (refuse QuantChanged (not (all_of (λ i. is_same_table (quant_of f before i) (quant_in_force before (component_at f i).quant)) (head_components head)))
     (Ok head))))

@@ -1,5 +1,6 @@
 -- What the contents of a segment of Huffman tables tell, table by table, or the first fault that they show (T.81, B.2.4.2).
-use Rattle.std.specs.Prelude.{ℕ, zero, suc, ◌+◌, ◌/◌, ◌%◌, nat_lt, not, ◌||◌, ◌==◌, if◌then◌else◌, List, [], ◌∷◌, length, sum, take, drop, slice_set, Option, Some, Ok, Err}
+use Rattle.std.specs.Prelude.{ℕ, zero, suc, ◌+◌, ◌/◌, ◌%◌, nat_lt, not, ◌||◌, ◌==◌, if◌then◌else◌, List, [], ◌∷◌, length, sum, take, drop, slice_get, slice_set, Option, Some, Ok, Err}
+use Rattle.jpg_spec.specs.Lists.{slot_value}
 use Rattle.jpg_spec.specs.Codes.{are_codes}
 use Rattle.jpg_spec.specs.Faults.{Told, refuse}
 use Rattle.jpg_spec.specs.Segments.{HuffmanTable}
@@ -53,6 +54,10 @@ huffman_tables contents = huffman_tables_of (length contents) contents
 pub record HuffmanSlots : Type 0 where
   pub dc : List (Option HuffmanTable)
   pub ac : List (Option HuffmanTable)
+
+-- the table in a slot, if any
+abbrev pub huffman_in : List (Option HuffmanTable) → ℕ → Option HuffmanTable
+huffman_in slots slot = slot_value (slice_get slots slot)
 
 -- after one table
 abbrev pub put_definition : HuffmanSlots → HuffmanDefinition → HuffmanSlots

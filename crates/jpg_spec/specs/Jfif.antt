@@ -2,6 +2,7 @@
 use Rattle.std.specs.Prelude.{ℕ, Bool, true, false, nat_le, ◌&&◌, ◌==◌, List, [], ◌∷◌, ◌++◌, length, reverse, slice_index, Option, Some, None, find, codes}
 use Rattle.jpg_spec.specs.Lists.{begins_with}
 use Rattle.jpg_spec.specs.Segments.{two_bytes}
+use Rattle.jpg_spec.specs.declared.jfif.Jfif.{Jfif}
 
 -- Segments are pairs of a marker code and contents.
 abbrev pub begins_jfif : ℕ → List ℕ → Bool
@@ -15,14 +16,6 @@ is_jfif s = begins_jfif s.0 s.1 && nat_le 14 (length s.1)
 
 abbrev pub is_adobe : ℕ × List ℕ → Bool
 is_adobe s = begins_adobe s.0 s.1 && nat_le 12 (length s.1)
-
-pub record Jfif : Type 0 where
-  pub seen : Bool
-  pub major : ℕ
-  pub minor : ℕ
-  pub unit : ℕ
-  pub x : ℕ
-  pub y : ℕ
 
 -- that of the last JFIF segment
 abbrev pub jfif_told : Option (ℕ × List ℕ) → Jfif

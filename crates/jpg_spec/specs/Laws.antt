@@ -1,23 +1,22 @@
 -- WORDS OF THE LAWS: what stands together in their premises, and what they conclude. No definition rests on them.
-use Rattle.std.specs.Prelude.{◌≡◌, ℕ, ◌+◌, ◌-◌, ◌*◌, ◌<◌, ◌≤◌, Bool, false, List, [], ◌∷◌, ◌++◌, length, map, take, ℤ, Contains, All}
+use Rattle.std.specs.Prelude.{◌≡◌, ℕ, ◌+◌, ◌-◌, ◌*◌, ◌<◌, ◌≤◌, Bool, false, List, [], ◌∷◌, ◌++◌, length, map, take, None, ℤ, Contains, All}
 use Rattle.jpg_spec.specs.Bits.{Packs}
 use Rattle.jpg_spec.specs.Codes.{Code}
 use Rattle.jpg_spec.specs.Lists.{any_of}
 use Rattle.jpg_spec.specs.Geometry.{Frame, bounds, component_at, h_max, v_max, is_progressive}
 use Rattle.jpg_spec.specs.Segments.{ScanHead}
 use Rattle.jpg_spec.specs.FrameHeader.{AreLimits}
-use Rattle.jpg_spec.specs.Elements.{Coding, UnitLeft, SpellsUnits, zeros}
+use Rattle.jpg_spec.specs.Elements.{Coding, UnitLeft, SpellsUnits, zeros, new_unit}
 use Rattle.jpg_spec.specs.Scan.{Blocks, Scan, scan_coding, band, block_at, unit_at}
 use Rattle.jpg_spec.specs.ScanFaults.{DataShows}
-use Rattle.jpg_spec.specs.ScanText.{UnitDue}
-use Rattle.jpg_spec.specs.GrayFile.{new_unit, typical_tables}
+use Rattle.jpg_spec.specs.ScanText.{UnitDue, typical_tables}
 use Rattle.jpg_spec.specs.Written.{IsWritable}
 use Rattle.jpg_spec.specs.Markers.{Segment, SpellsSegment, Rule, SegmentsShow}
 use Rattle.jpg_spec.specs.InForce.{frame_of}
 use Rattle.jpg_spec.specs.Header.{HeaderShows, IsHeader}
 use Rattle.jpg_spec.specs.Items.{Item, segments_of}
 use Rattle.jpg_spec.specs.Meaning.{Meaning, picture_frame, real_blocks}
-use Rattle.jpg_spec.specs.FileMeaning.{scan_after}
+use Rattle.jpg_spec.specs.FileMeaning.{scan_after, Means}
 use Rattle.jpg_spec.specs.FirstFault.{Shows, IsFirstFault}
 use Rattle.jpg_spec.specs.FileStands.{FileStands}
 use Rattle.jpg_spec.specs.PictureInWork.{is_at, BeginsScan, AreDistinct, IntervalRead, UnitsRead, OneChanges, ScanSoFar}
@@ -25,12 +24,12 @@ use Rattle.jpg_spec.specs.Script.{Entry, sequential_script}
 use Rattle.jpg_spec.specs.FileText.{Restart, frame_of_meaning, file_text}
 use Rattle.jpg_spec.specs.WrittenFile.{IsHeaded, IsRestart, IsSequentialFile, IsProgressiveFile}
 use Rattle.jpg_spec.specs.Moves.{most_across, most_down}
-use Rattle.jpg_spec.specs.Moved.{Choice, IsSamePicture}
+use Rattle.jpg_spec.specs.Moved.{Choice, IsSamePicture, gray_fault, asks_progressive, moved}
 use Rattle.jpg_spec.specs.Transforms.{transformed, inverse, transposes, changed_columns, changed_rows, placed}
 use Rattle.jpg_spec.specs.WholeBlocks.{HasWholeBlocks}
 use Rattle.jpg_spec.specs.Upsampling.{Stretch, upsampled_row}
 use Rattle.jpg_spec.specs.Pixels.{stretch_of, upsampled}
-use Rattle.jpg_spec.specs.Strips.{IsReady, needed, ready, IsCovered}
+use Rattle.jpg_spec.specs.Strips.{IsRowReady, needed, ready, IsCovered}
 use Rattle.jpg_spec.specs.declared.fault.Fault.{Fault}
 use Rattle.jpg_spec.specs.declared.fault.Fault.TheVariants.{Truncated, InputTooLong}
 use Rattle.jpg_spec.specs.declared.frame.Bounds.{Bounds}
@@ -235,6 +234,22 @@ pub record Fits (limits : Limits) (bytes : List ℕ) : Type 0 where
 
 -- PICTURES THAT ARE MOVED (the manual of jpegtran)
 
+-- A picture that some bytes mean, which has no fault as a gray one where it shall be gray.
+pub record IsMovable (choice : Choice) (M : Meaning) : Type 0 where
+  pub limits : Limits
+  pub bytes : List ℕ
+  pub limited : AreLimits limits
+  pub are_bytes : All (λ b. b < 256) bytes
+  pub means : Means limits bytes M
+  pub admitted : gray_fault choice.gray M ≡ None
+
+-- the sequential file of a picture that is moved
+pub record IsMovedText (choice : Choice) (M : Meaning) (bytes : List ℕ) : Type 0 where
+  pub movable : IsMovable choice M
+  pub sequential : asks_progressive choice.scans ≡ false
+  pub small : IsRestart choice.restart
+  pub text : bytes ≡ file_text (moved choice M) (sequential_script (frame_of_meaning (moved choice M))) choice.restart
+
 -- The picture N is what a transform makes of M, whose blocks and tables are whole.
 pub record IsTransformOf (t : Transform) (M N : Meaning) : Type 0 where
   pub whole : HasWholeBlocks M
@@ -283,7 +298,7 @@ pub record AgreeWhereMade (M : Meaning) (others : Blocks) (smooth : Bool) (i y :
   pub down : 1 ≤ (stretch_of M smooth i).down
   pub high : rows ≤ (stretch_of M smooth i).high
   pub held : rows ≤ 8 * rows_of_blocks
-  pub ready : IsReady (stretch_of M smooth i) rows y
+  pub ready : IsRowReady (stretch_of M smooth i) rows y
 
 -- the same row of the image, with these blocks and with the others
 abbrev pub KeepsRow : Meaning → Blocks → Bool → ℕ → ℕ → Type 0

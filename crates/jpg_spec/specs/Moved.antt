@@ -1,10 +1,10 @@
 -- A PICTURE MOVED as a choice asks for it (the manual of jpegtran): grayed, transformed, trimmed, and headed for writing.
-use Rattle.std.specs.Prelude.{◌≡◌, ℕ, ◌*◌, ◌/◌, Bool, true, false, not, ◌&&◌, ◌||◌, ◌==◌, if◌then◌else◌, List, [], ◌∷◌, map, Option, Some, None}
+use Rattle.std.specs.Prelude.{◌≡◌, ℕ, ◌*◌, ◌/◌, Bool, true, false, not, ◌&&◌, ◌==◌, if◌then◌else◌, List, [], ◌∷◌, map, Option, Some, None}
 use Rattle.jpg_spec.specs.Geometry.{Frame, component_at, h_max, v_max}
 use Rattle.jpg_spec.specs.Meaning.{Meaning, colour_of, picture_frame, real_blocks}
 use Rattle.jpg_spec.specs.Moves.{most_across, most_down, component_of, sequential_process, headed_by}
 use Rattle.jpg_spec.specs.Transforms.{transformed, transposes, mirrors_across, mirrors_down}
-use Rattle.jpg_spec.specs.Script.{Entry}
+use Rattle.jpg_spec.specs.Script.{Entry, is_progressive_script}
 use Rattle.jpg_spec.specs.FileText.{Restart}
 use Rattle.jpg_spec.specs.declared.frame.Component.{Component}
 use Rattle.jpg_spec.specs.declared.frame.Process.{Process}
@@ -54,10 +54,6 @@ trimmed true t M = real_alone (record M {
 })
 
 -- HEADED: SOF2 for a progressive script, else SOF1 or SOF0; the own header segment, and the kept segments that are passed on
-
-abbrev pub is_progressive_script : List Entry → Bool
-is_progressive_script [] = false
-is_progressive_script (e ∷ entries) = not (e.ss == 0) || not (e.se == 63)
 
 abbrev pub asks_progressive : Scans → Bool
 asks_progressive sequential = false

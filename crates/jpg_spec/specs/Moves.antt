@@ -3,7 +3,7 @@ use Rattle.std.specs.Prelude.{ℕ, Bool, ◌-◌, ◌*◌, ◌/◌, ◌%◌, not
 use Rattle.std.specs.Int.{to_be_bytes, w16}
 use Rattle.jpg_spec.specs.Lists.{any_of}
 use Rattle.jpg_spec.specs.Geometry.{greatest}
-use Rattle.jpg_spec.specs.Jfif.{begins_jfif, begins_adobe, Jfif, jfif_of}
+use Rattle.jpg_spec.specs.Jfif.{begins_jfif, begins_adobe, jfif_of}
 use Rattle.jpg_spec.specs.Meaning.{Meaning, PictureComponent, colour_of}
 use Rattle.jpg_spec.specs.declared.frame.Process.{Process}
 use Rattle.jpg_spec.specs.declared.frame.Process.TheVariants.{Baseline, Extended}
@@ -11,6 +11,7 @@ use Rattle.jpg_spec.specs.declared.frame.Copying.{Copying}
 use Rattle.jpg_spec.specs.declared.frame.Copying.TheVariants as copying
 use Rattle.jpg_spec.specs.declared.frame.Colour.{Colour}
 use Rattle.jpg_spec.specs.declared.frame.Colour.TheVariants.{Gray, YCbCr, Rgb, Cmyk, Ycck, Unknown}
+use Rattle.jpg_spec.specs.declared.jfif.Jfif.{Jfif}
 
 -- The natural index 8 * v + u of each place in zigzag order: u is the horizontal frequency, v the vertical one.
 abbrev pub zigzag : List ℕ

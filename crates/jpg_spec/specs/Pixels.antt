@@ -2,10 +2,10 @@
 use Rattle.std.specs.Prelude.{ℕ, ◌+◌, ◌*◌, ◌/◌, ◌%◌, Bool, true, false, not, ◌||◌, ◌==◌, if◌then◌else◌, List, [], map, take, slice_index, Option, Some, None}
 use Rattle.jpg_spec.specs.Lists.{below, any_of}
 use Rattle.jpg_spec.specs.Geometry.{div_up, greatest}
-use Rattle.jpg_spec.specs.Jfif.{Jfif, jfif_of}
+use Rattle.jpg_spec.specs.Jfif.{jfif_of}
 use Rattle.jpg_spec.specs.Meaning.{Meaning, colour_of}
 use Rattle.jpg_spec.specs.Moves.{component_of, most_across, most_down}
-use Rattle.jpg_spec.specs.Dct.{dequantised, inverse}
+use Rattle.jpg_spec.specs.Dct.{dequantised, inverse_dct}
 use Rattle.jpg_spec.specs.Upsampling.{Stretch, upsampled_row}
 use Rattle.jpg_spec.specs.RedGreenBlue.{rgb_row, interleaved_row}
 use Rattle.jpg_spec.specs.declared.frame.Colour.{Colour}
@@ -14,6 +14,7 @@ use Rattle.jpg_spec.specs.declared.fault.Fault.{Fault}
 use Rattle.jpg_spec.specs.declared.fault.Fault.TheVariants.{ColourOut, FractionalSampling}
 use Rattle.jpg_spec.specs.declared.image.ImageKind.TheVariants as kind
 use Rattle.jpg_spec.specs.declared.image.ImageInfo.{ImageInfo}
+use Rattle.jpg_spec.specs.declared.jfif.Jfif.{Jfif}
 
 -- PLANES
 
@@ -26,7 +27,7 @@ samples_down M i = div_up (M.height * (component_of M i).v) (most_down M)
 
 -- the 64 samples of a block, row by row
 abbrev pub block_samples : Meaning → ℕ → ℕ → ℕ → List ℕ
-block_samples M i x y = inverse (dequantised (component_of M i).quants (M.blocks i x y))
+block_samples M i x y = inverse_dct (dequantised (component_of M i).quants (M.blocks i x y))
 
 -- component i at column x and row y
 abbrev pub plane : Meaning → ℕ → ℕ → ℕ → ℕ

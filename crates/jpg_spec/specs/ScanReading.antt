@@ -7,7 +7,7 @@ use Rattle.jpg_spec.specs.ScanFaults.{DataShows}
 use Rattle.jpg_spec.specs.Markers.{SpellsMarker, SpellsSegment, code_fault, Rule, Between}
 use Rattle.jpg_spec.specs.Items.{Item, scan, segments_of, SpellsFront, SpellsIntervalsText, ends_in_scan, contents_rule}
 use Rattle.jpg_spec.specs.FileMeaning.{Leads, scan_after}
-use Rattle.jpg_spec.specs.FirstFault.{BehindItems, Holds, HoldsAll}
+use Rattle.jpg_spec.specs.FirstFault.{BehindItems, HoldsUnits, HoldsAll}
 use Rattle.jpg_spec.specs.declared.fault.Fault.{Fault}
 use Rattle.jpg_spec.specs.declared.frame.Limits.{Limits}
 use Rattle.jpg_spec.specs.declared.frame.Place.{Place}
@@ -69,7 +69,7 @@ pub record ScanAt (limits : Limits) (bytes : List ℕ) (p : ScanPlace) (tail : L
 
 -- what the data bytes of the interval in work are
 abbrev pub HoldsAt : Limits → ScanPlace → Type 0
-HoldsAt limits p = Holds (scan_at limits p) p.blocks p.places p.coded
+HoldsAt limits p = HoldsUnits (scan_at limits p) p.blocks p.places p.coded
 
 abbrev pub CompletesAt : Limits → ScanPlace → Type 0
 CompletesAt limits p = Completes (scan_at limits p) p.blocks p.places p.coded

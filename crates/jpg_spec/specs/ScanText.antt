@@ -1,15 +1,16 @@
 -- THE SCANS THAT ARE WRITTEN: their elements, the tables of their codes, and their data (T.81, F.1.2, E.1.4; the choices are the writer's own).
-use Rattle.std.specs.Prelude.{ℕ, zero, suc, ◌+◌, ◌-◌, ◌*◌, ◌%◌, ◌^◌, Bool, true, false, not, nat_lt, ◌&&◌, ◌==◌, if◌then◌else◌, List, [], ◌∷◌, ◌++◌, length, take, drop, map, flat_map, filter, replicate, slice_index_or, unwrap_or, ℤ, pos, nat_abs, ◌-ℤ◌}
+use Rattle.std.specs.Prelude.{ℕ, zero, suc, ◌+◌, ◌-◌, ◌*◌, ◌%◌, ◌^◌, Bool, true, false, not, nat_lt, ◌&&◌, ◌==◌, if◌then◌else◌, List, [], ◌∷◌, ◌++◌, length, take, drop, map, flat_map, filter, replicate, slice_index_or, unwrap_or, Some, ℤ, pos, nat_abs, ◌-ℤ◌}
 use Rattle.jpg_spec.specs.Bits.{data_of}
 use Rattle.jpg_spec.specs.Codes.{Code, first_code}
 use Rattle.jpg_spec.specs.Lists.{below, chunks, are_equal, is_among}
 use Rattle.jpg_spec.specs.Typical.{dc_luma_counts, dc_luma_values, ac_luma_counts, ac_luma_values, dc_chroma_counts, dc_chroma_values, ac_chroma_counts, ac_chroma_values}
 use Rattle.jpg_spec.specs.Geometry.{Frame, units, is_progressive, mcu_units}
 use Rattle.jpg_spec.specs.Segments.{HuffmanTable, table_codes, ScanHead, head_components}
-use Rattle.jpg_spec.specs.Elements.{Element, difference, dc_bit, value, long_run, ends, is_dc_bit, symbol_of, bits_behind, predicted, zeros}
+use Rattle.jpg_spec.specs.Elements.{Coding, Element, difference, dc_bit, value, long_run, ends, is_dc_bit, symbol_of, bits_behind, predicted, zeros}
 use Rattle.jpg_spec.specs.Sending.{Sent, sent, shifted, band_elements}
-use Rattle.jpg_spec.specs.Scan.{Blocks, block_at, part_of}
+use Rattle.jpg_spec.specs.Scan.{Blocks, TablesInForce, block_at, part_of, scan_coding}
 use Rattle.jpg_spec.specs.declared.frame.Place.{Place}
+use Rattle.jpg_spec.specs.declared.frame.Process.TheVariants.{Baseline}
 
 -- A SCAN's elements, each with its component
 
@@ -70,12 +71,12 @@ is_dc (long_run bits) = false
 is_dc (ends bands bits) = false
 
 -- the class and slot whose table an element's code is of
-abbrev pub table_of : ScanHead → Owned → ℕ × ℕ
-table_of head e = if is_dc e.1 then (0, (part_of head e.0).dc) else (1, (part_of head e.0).ac)
+abbrev pub table_place : ScanHead → Owned → ℕ × ℕ
+table_place head e = if is_dc e.1 then (0, (part_of head e.0).dc) else (1, (part_of head e.0).ac)
 
 unfoldable pub element_bits : (ℕ → ℕ → HuffmanTable) → ScanHead → Owned → List Bool
 element_bits tables head e =
-    (if is_dc_bit e.1 then [] else code_of (table_codes (tables (table_of head e).0 (table_of head e).1)) (symbol_of e.1)) ++ bits_behind e.1
+    (if is_dc_bit e.1 then [] else code_of (table_codes (tables (table_place head e).0 (table_place head e).1)) (symbol_of e.1)) ++ bits_behind e.1
 
 abbrev pub intervals_text : ℕ → List (List ℕ) → List ℕ
 intervals_text turn [] = []
@@ -90,7 +91,7 @@ scan_data tables head intervals = intervals_text 0 (map (λ elements. data_of (f
 -- the symbols that the scan writes by the table of a class and slot, ascending
 unfoldable pub symbols_used : ScanHead → List (List Owned) → ℕ → ℕ → List ℕ
 symbols_used head intervals class slot =
-    let own = λ (e : Owned). not (is_dc_bit e.1) && (table_of head e).0 == class && (table_of head e).1 == slot in
+    let own = λ (e : Owned). not (is_dc_bit e.1) && (table_place head e).0 == class && (table_place head e).1 == slot in
     let written = map (λ (e : Owned). symbol_of e.1) (filter own (flat_map (λ elements. elements) intervals)) in
     filter (λ symbol. is_among symbol written) (below 256)
 
@@ -110,6 +111,21 @@ typical_table class slot =
     if class == 0
     then (if slot == 0 then record { counts = dc_luma_counts; symbols = dc_luma_values } else record { counts = dc_chroma_counts; symbols = dc_chroma_values })
     else (if slot == 0 then record { counts = ac_luma_counts; symbols = ac_luma_values } else record { counts = ac_chroma_counts; symbols = ac_chroma_values })
+
+-- the frame of a gray picture of 8 bits with these sides, the header of its one scan, and the coding of that by K.3 to K.6
+abbrev pub gray_frame : ℕ → ℕ → Frame
+gray_frame width height =
+    record { process = Baseline; precision = 8; width = width; height = height; components = record { id = 1; h = 1; v = 1; quant = 0 } ∷ [] }
+
+abbrev pub gray_head : ScanHead
+gray_head = record { parts = record { component = 0; dc = 0; ac = 0 } ∷ []; ss = 0; se = 63; ah = 0; al = 0 }
+
+-- K.3 to K.6 in slots 0 and 1
+abbrev pub typical_tables : TablesInForce
+typical_tables class slot = Some (typical_table class slot)
+
+abbrev pub gray_coding : Coding
+gray_coding = scan_coding (gray_frame 8 8) typical_tables gray_head
 
 -- typical tables in sequential scans of precision 8, else the flat table of what the scan writes
 abbrev pub scan_tables : Frame → ScanHead → List (List Owned) → ℕ → ℕ → HuffmanTable

@@ -1,5 +1,5 @@
 -- SCAN SCRIPTS: the scans that a file is written in.
-use Rattle.std.specs.Prelude.{ℕ, nat_lt, ◌&&◌, if◌then◌else◌, List, [], ◌∷◌, length, map}
+use Rattle.std.specs.Prelude.{ℕ, Bool, false, not, nat_lt, ◌&&◌, ◌==◌, if◌then◌else◌, List, [], ◌∷◌, length, map}
 use Rattle.jpg_spec.specs.Lists.{below}
 use Rattle.jpg_spec.specs.Geometry.{Frame, factor_sum}
 
@@ -22,3 +22,8 @@ of_all f ss se ah al =
 
 abbrev pub sequential_script : Frame → List Entry
 sequential_script f = of_all f 0 63 0 0
+
+-- a script whose first scan is one of all coefficients is sequential
+abbrev pub is_progressive_script : List Entry → Bool
+is_progressive_script [] = false
+is_progressive_script (e ∷ script) = not (e.ss == 0 && e.se == 63)

@@ -13,15 +13,15 @@ abbrev pub ready_of : Stretch → ℕ → ℕ
 ready_of s k = if has_far_rows s then 2 * k - 1 else k * s.down
 
 -- row y of the image is made from the first k rows of the plane
-abbrev pub IsReady : Stretch → ℕ → ℕ → Type 0
-IsReady s k y = (y < ready_of s k) ⊎ ((k ≡ s.high) × (y < s.high * s.down))
+abbrev pub IsRowReady : Stretch → ℕ → ℕ → Type 0
+IsRowReady s k y = (y < ready_of s k) ⊎ ((k ≡ s.high) × (y < s.high * s.down))
 
 -- Row y of the image is made from the first k rows of a plane, and not from the first j alone.
 pub record IsMade (s : Stretch) (j k y : ℕ) : Type 0 where
   pub down : 1 ≤ s.down
   pub high : k ≤ s.high
   pub late : ready_of s j ≤ y
-  pub ready : IsReady s k y
+  pub ready : IsRowReady s k y
 
 -- the same rows, from one place up to another
 abbrev pub Agree : ℕ → ℕ → (ℕ → List ℕ) → (ℕ → List ℕ) → Type 0

@@ -2,6 +2,8 @@
 use Rattle.std.specs.Prelude.{ℕ, ◌+◌, Bool, false, nat_le, ◌&&◌, ◌==◌, if◌then◌else◌, List, [], ◌∷◌, length, map, drop, Option, find, option_map, codes}
 use Rattle.jpg_spec.specs.Lists.{begins_with}
 use Rattle.jpg_spec.specs.Markers.{is_within}
+use Rattle.jpg_spec.specs.declared.switch.Purpose.{Purpose}
+use Rattle.jpg_spec.specs.declared.switch.Purpose.TheVariants.{LeftOut, Replacing, CommentGiven, CommentInFile}
 
 -- a word that begins with a hyphen
 abbrev pub is_switch : List ℕ → Bool
@@ -11,14 +13,6 @@ is_switch (b ∷ bytes) = b == 45
 -- ASCII letters in lower case
 abbrev pub lower : ℕ → ℕ
 lower b = if is_within 65 90 b then b + 32 else b
-
--- what a switch is for
-pub data Purpose : Type 0 where
-  -- left out of the suite, though release 6b has it
-  left_out : Purpose
-  replacing : Purpose
-  comment_given : Purpose
-  comment_in_file : Purpose
 
 -- a name, and how many letters of it a word has at least
 pub record Switch : Type 0 where
@@ -35,10 +29,10 @@ abbrev pub purpose_of : List Switch → List ℕ → Option Purpose
 purpose_of switches word = option_map (λ s. s.purpose) (find (is_match (drop 1 word)) switches)
 
 abbrev pub rdjpgcom_switches : List Switch
-rdjpgcom_switches = record { name = codes "verbose"; shortest = 1; purpose = left_out } ∷ []
+rdjpgcom_switches = record { name = codes "verbose"; shortest = 1; purpose = LeftOut } ∷ []
 
 abbrev pub wrjpgcom_switches : List Switch
 wrjpgcom_switches =
-    record { name = codes "replace"; shortest = 1; purpose = replacing }
-    ∷ record { name = codes "comment"; shortest = 1; purpose = comment_given }
-    ∷ record { name = codes "cfile"; shortest = 2; purpose = comment_in_file } ∷ []
+    record { name = codes "replace"; shortest = 1; purpose = Replacing }
+    ∷ record { name = codes "comment"; shortest = 1; purpose = CommentGiven }
+    ∷ record { name = codes "cfile"; shortest = 2; purpose = CommentInFile } ∷ []

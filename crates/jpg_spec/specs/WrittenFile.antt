@@ -4,7 +4,6 @@ use Rattle.jpg_spec.specs.Lists.{any_of, all_of, is_among, is_distinct, below}
 use Rattle.jpg_spec.specs.Geometry.{Frame, factor_sum, is_progressive, is_real}
 use Rattle.jpg_spec.specs.FrameHeader.{checked_frame}
 use Rattle.jpg_spec.specs.Elements.{zeros, are_in_bounds}
-use Rattle.jpg_spec.specs.GrayFile.{gray_coding}
 use Rattle.jpg_spec.specs.Markers.{Segment, is_within, kept_count}
 use Rattle.jpg_spec.specs.Meaning.{Meaning, PictureComponent}
 use Rattle.jpg_spec.specs.Script.{Entry}
@@ -13,6 +12,7 @@ use Rattle.jpg_spec.specs.ScanContents.{are_parameters}
 use Rattle.jpg_spec.specs.History.{known_to, is_known_to, is_next}
 use Rattle.jpg_spec.specs.FileText.{Restart, off, rows, mcus, frame_of_meaning, written_head}
 use Rattle.jpg_spec.specs.declared.frame.Limits.{Limits}
+use Rattle.jpg_spec.specs.ScanText.{gray_coding}
 
 -- 64 quantisers of two bytes, none of them 0
 abbrev pub IsQuantiser : ℕ → Type 0

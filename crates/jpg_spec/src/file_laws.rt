@@ -2,7 +2,7 @@
 ghost use Rattle.std.specs.Prelude.{◌≡◌, ◌<◌, ◌≤◌, ◌*◌, ◌^◌, ◌++◌, ℕ, ℤ, true, List, [], length, unwrap_or, All};
 ghost use Rattle.jpg_spec.specs.Geometry.{component_at};
 ghost use Rattle.jpg_spec.specs.Moves.{flip_h};
-ghost use Rattle.jpg_spec.specs.GrayFile.{gray_coding, turned_rows, sequential_text};
+ghost use Rattle.jpg_spec.specs.GrayFile.{turned_rows};
 ghost use Rattle.jpg_spec.specs.Markers.{Segment, eoi};
 ghost use Rattle.jpg_spec.specs.InForce.{frame_of, head_in, quant_in_force};
 ghost use Rattle.jpg_spec.specs.FileMeaning.{Means};
@@ -11,6 +11,8 @@ ghost use Rattle.jpg_spec.specs.Written.{IsWritable};
 ghost use Rattle.jpg_spec.specs.SingleScan.{is_single_scan, blocks_across, SpellsScan, single_coding, single_meaning, single_text, IsSingleHeader, IsSingleFile, single_count, turned_single};
 ghost use Rattle.jpg_spec.specs.Segments.{standard_limits};
 ghost use Rattle.jpg_spec.specs.declared.frame.Limits.{Limits};
+ghost use Rattle.jpg_spec.specs.ScanText.{gray_coding};
+ghost use Rattle.jpg_spec.specs.FileText.{sequential_text};
 
 /// A whole header, the data of one gray scan, EOI and any bytes behind it mean the numbers and tables of the header,
 /// and the blocks of the scan row by row (T.81, B.2.1).

@@ -1,11 +1,12 @@
 //! Laws over the plain gray file: how its picture is turned left to right, and what is written of it.
 ghost use Rattle.std.specs.Prelude.{◌≡◌, ◌-◌, ◌<◌, ◌∷◌, ◌++◌, ℕ, ℤ, pos, true, false, List, map, flat_map, All};
 ghost use Rattle.jpg_spec.specs.Bits.{data_of, SpellsData, IsMarkerCode};
-ghost use Rattle.jpg_spec.specs.ScanText.{element_bits, unit_elements, typical_table};
+ghost use Rattle.jpg_spec.specs.ScanText.{element_bits, unit_elements, typical_table, gray_head, gray_coding};
 ghost use Rattle.jpg_spec.specs.Moves.{mirrored, flip_h, headed};
-ghost use Rattle.jpg_spec.specs.GrayFile.{Gray, IsGray, across, down, gray_head, gray_coding, gray_front, SpellsGray, gray_meaning, flipped_gray, sequential_text, turned_text};
+ghost use Rattle.jpg_spec.specs.GrayFile.{Gray, IsGray, across, down, gray_front, SpellsGray, gray_meaning, flipped_gray, turned_text};
 ghost use Rattle.jpg_spec.specs.Markers.{eoi};
 ghost use Rattle.jpg_spec.specs.Written.{IsWritable, plain_bits};
+ghost use Rattle.jpg_spec.specs.FileText.{sequential_text};
 
 /// The mirrored picture is a gray picture again, and mirrored twice a picture is what it was, and means the same.
 pub fn turning_twice_restores()

@@ -10,7 +10,7 @@ ghost use Rattle.jpg_spec.specs.declared.fault.Fault.TheVariants.{ColourOut, Fra
 ghost use Rattle.jpg_spec.specs.ImageText.{end_text};
 ghost use Rattle.jpg_spec.specs.declared.image.EndKind.TheVariants.{Pnm, Bmp};
 ghost use Rattle.jpg_spec.specs.Elements.{zeros};
-ghost use Rattle.jpg_spec.specs.Dct.{inverse, dequantised};
+ghost use Rattle.jpg_spec.specs.Dct.{inverse_dct, dequantised};
 ghost use Rattle.jpg_spec.specs.Upsampling.{up_row, up_rows2, repeat_row};
 ghost use Rattle.jpg_spec.specs.RedGreenBlue.{to_rgb};
 
@@ -36,12 +36,12 @@ pub fn colours_are_converted()
 
 /// DC 0 is the middle gray.
 pub fn zeros_are_gray()
-    ensures { inverse (dequantised (replicate 64 1) (zeros 64)) ≡ replicate 64 128 }
+    ensures { inverse_dct (dequantised (replicate 64 1) (zeros 64)) ≡ replicate 64 128 }
 {}
 
 /// DC 1023 with a quantiser of 255 gives 32608, whose low ten bits are 864: black.
 pub fn large_values_wrap()
-    ensures { inverse (dequantised (replicate 64 255) (pos 1023 ∷ zeros 63)) ≡ replicate 64 0 }
+    ensures { inverse_dct (dequantised (replicate 64 255) (pos 1023 ∷ zeros 63)) ≡ replicate 64 0 }
 {}
 
 /// A gray image of 8 by 8 pixels has a PNM of 75 bytes and a BMP of 1142.

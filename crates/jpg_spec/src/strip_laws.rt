@@ -4,7 +4,7 @@ ghost use Rattle.jpg_spec.specs.Scan.{Blocks};
 ghost use Rattle.jpg_spec.specs.Meaning.{Meaning};
 ghost use Rattle.jpg_spec.specs.Upsampling.{Stretch};
 ghost use Rattle.jpg_spec.specs.Pixels.{plane_row, stretch_of};
-ghost use Rattle.jpg_spec.specs.Strips.{IsReady, IsMade, Agree, rows_from, kept_row, known_rows};
+ghost use Rattle.jpg_spec.specs.Strips.{IsRowReady, IsMade, Agree, rows_from, kept_row, known_rows};
 ghost use Rattle.jpg_spec.specs.Laws.{MakeSameRow, with_blocks, AgreeInRow, AgreeWhereMade, KeepsRow, MakesReady};
 
 /// Of the rows that k rows of a plane make, those that j rows didn't make yet are made from row j - 1 on.
@@ -29,5 +29,5 @@ pub fn first_rows_need_the_first_blocks()
 
 /// Rows of the image that m MCU rows make ready are made from the rows of samples that these tell.
 pub fn ready_rows_are_told()
-    ensures { (M : Meaning) (gray smooth : Bool) (all m i y : ℕ) → MakesReady M gray smooth all m i y → IsReady (stretch_of M smooth i) (known_rows M i m) y }
+    ensures { (M : Meaning) (gray smooth : Bool) (all m i y : ℕ) → MakesReady M gray smooth all m i y → IsRowReady (stretch_of M smooth i) (known_rows M i m) y }
 {}

@@ -5,8 +5,9 @@ ghost use Rattle.jpg_spec.specs.Segments.{standard_limits};
 ghost use Rattle.jpg_spec.specs.Meaning.{Meaning};
 ghost use Rattle.jpg_spec.specs.FileMeaning.{Means};
 ghost use Rattle.jpg_spec.specs.Moves.{headed_by};
+ghost use Rattle.jpg_spec.specs.Moved.{Choice, moved};
 ghost use Rattle.jpg_spec.specs.WrittenFile.{IsHeaded};
-ghost use Rattle.jpg_spec.specs.Laws.{HasSequentialScript, IsSequentialText, IsOwnText, IsProgressiveText, Fits};
+ghost use Rattle.jpg_spec.specs.Laws.{HasSequentialScript, IsSequentialText, IsOwnText, IsProgressiveText, Fits, IsMovable, IsMovedText};
 ghost use Rattle.jpg_spec.specs.declared.frame.Copying.{Copying};
 ghost use Rattle.jpg_spec.specs.declared.frame.Limits.{Limits};
 
@@ -41,4 +42,11 @@ pub fn progressive_files_are_short()
 /// A headed meaning may be written where the meaning that is headed may (the manual of jpegtran).
 pub fn headed_meanings_may_be_written()
     ensures { (limits : Limits) (copying : Copying) (M : Meaning) → IsHeaded limits M → IsHeaded limits (headed_by copying M) }
+{}
+
+/// What a file means may be written, moved as any choice asks for it that the picture admits: its frame passes the checks, and its tables,
+/// kept markers and blocks are those that a file can have. So the sequential file of the picture moved means it (T.81, B.2; the manual of jpegtran).
+pub fn moved_pictures_may_be_written()
+    ensures headed { (choice : Choice) (M : Meaning) → IsMovable choice M → IsHeaded standard_limits (moved choice M) }
+    ensures means { (choice : Choice) (M : Meaning) (bytes : List ℕ) → IsMovedText choice M bytes → Means standard_limits bytes (moved choice M) }
 {}

@@ -1,2 +1,3 @@
 pub mod OneBlock
 pub mod Showing
+pub mod Viewed

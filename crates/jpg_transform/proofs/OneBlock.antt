@@ -15,6 +15,7 @@ use Rattle.jpg_spec.specs.Transforms.{signed}
 use Rattle.jpg_transform.specs.Changed.{is_changed, AreMasks}
 use Rattle.jpg_spec.proofs.Turned.{IsBlock, mirrored_block}
 use Rattle.jpg_spec.proofs.BlockLaws.{mirrored_down_block, length_transposed}
+use Rattle.jpg_spec.proofs.MovedBounds.{transposed_at}
 
 -- ONE PLACE MORE of a block that is written in order
 
@@ -120,11 +121,6 @@ places = map exchanged zigzag
 
 pub place_low : (k : ℕ) → k < 64 → get_or places k 0 < 64
 place_low k lt = ltb-true (get_or places k 0) 64 (All-get_or (λ x. nat_lt x 64 ≡ true) places k 0 lt (AllPass-from_list_all (λ x. nat_lt x 64) places refl))
-
-pub transposed_at : (xs : List ℤ) (k : ℕ) → k < 64 → get_or (transposed (pos 0) xs) k (pos 0) ≡ get_or xs (get_or places k 0) (pos 0)
-unfolding transposed
-transposed_at xs k lt =
-    get_or-map (λ n. get_or xs (exchanged n) (pos 0)) zigzag k 0 (pos 0) lt ∙ sym (ap (λ (n : ℕ). get_or xs n (pos 0)) (get_or-map exchanged zigzag k 0 0 lt))
 
 pub all_transposed : (P : ℤ → Type 0) (xs : List ℤ) → IsBlock xs → All P xs → All P (transposed (pos 0) xs)
 all_transposed P xs h ps =

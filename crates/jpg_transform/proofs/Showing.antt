@@ -14,12 +14,13 @@ use Rattle.jpg_spec.specs.Transforms.{transformed, transposes, mirrors_across, m
 use Rattle.jpg_spec.specs.Moved.{Grids, frame_grids, picture_grids, trimmed, whole_side, trimmed_frame, transformed_frame, grayed, grayed_frame, Choice, moved, headed_as, columns_in, rows_in}
 use Rattle.jpg_spec.specs.WholeBlocks.{HasWholeBlocks}
 use Rattle.jpg_spec.specs.declared.transform.Transform.{Transform}
-use Rattle.jpg_spec.proofs.Turned.{lt_yes}
 use Rattle.jpg_spec.proofs.Transforming.{by_formula}
 use Rattle.jpg_base.proofs.Grids.{across_low, down_low}
 use Rattle.jpg_spec.specs.Scan.{Blocks}
-use Rattle.jpg_transform.specs.Places.{IsOutput, Shows, ComesFrom}
+use Rattle.jpg_transform.specs.Places.{IsOutput, IsSeenAs, ComesFrom}
 use Rattle.jpg_spec.proofs.MovedGrids.{real_side, over_grids, trim_grids, columns_by, rows_by, turned_frame, turned_picture, cut_picture, framed_picture, columns_picture, rows_picture, columns_frame, rows_frame, columns_cut, rows_cut, IsIn, to_grids, from_grids, untrimmed, opposite_in}
+use Rattle.jpg_spec.proofs.Common.{lt_yes, clash}
+use Rattle.jpg_spec.proofs.WholeFiles.{shown_whole}
 
 -- WHAT `new` IS GIVEN: the frame of the output, and the columns and rows that change places
 
@@ -43,16 +44,12 @@ made trim t f g m = m ∙ ap (trim_grids trim t) (turned_frame t f)
 
 -- REAL PLACES
 
-not_both : (b : Bool) → b ≡ true → b ≡ false → ⊥
-not_both true e f = absurd (cc)
-not_both false e f = absurd (cc)
-
 comes : (over : Bool) (f : Frame) (i x y : ℕ) → IsIn (over_grids over (frame_grids f)) i x y → ComesFrom over f i x y
 comes true f i x y r =
     let n : i < length (map (λ c. c.h) f.components) =
     (let l = length-map f.components (λ c. c.h) in let m = length-map f.components (λ c. c.v) in omega (arith, l, m, r.component)) in
-    record { turned = λ e. from_grids f i y x (record { component = n; across = r.down; down = r.across }); plain = λ e. absurd (not_both true refl e) }
-comes false f i x y r = record { turned = λ e. absurd (not_both false e refl); plain = λ e. from_grids f i x y r }
+    record { turned = λ e. from_grids f i y x (record { component = n; across = r.down; down = r.across }); plain = λ e. absurd (clash true refl e) }
+comes false f i x y r = record { turned = λ e. absurd (clash false e refl); plain = λ e. from_grids f i x y r }
 
 place_before : (f g : Frame) (t : Transform) (trim : Bool) (i x y : ℕ) → IsFrame g → IsMade trim t f g → IsReal g i x y → ComesFrom (transposes t) f i (opposite (columns_in t g i) x) (opposite (rows_in t g i) y)
 place_before f g t trim i x y is m r =
@@ -76,7 +73,7 @@ reached f g t over columns rows trim i x y given m r =
 
 -- BLOCKS
 
-real_true : (f : Frame) (blocks : Blocks) (i x y : ℕ) → IsReal f i x y → real_blocks f blocks i x y ≡ blocks i x y
+pub real_true : (f : Frame) (blocks : Blocks) (i x y : ℕ) → IsReal f i x y → real_blocks f blocks i x y ≡ blocks i x y
 real_true f blocks i x y r =
     ap (λ b. cond (b && is_real f i x y) (blocks i x y) (zeros 64)) (lt_yes i (length f.components) r.component)
     ∙ ap (λ b. cond (b && nat_lt y (blocks_down f (component_at f i))) (blocks i x y) (zeros 64)) (lt_yes x (blocks_across f (component_at f i)) r.across)
@@ -96,8 +93,8 @@ placed_same : (over : Bool) (c r : ℕ) (A B : ℕ → ℕ → List ℤ) (x y : 
 placed_same true c r A B x y e f = ap (λ b. signed (nat_lt x c) (nat_lt y r) (turned_over true b)) (e refl)
 placed_same false c r A B x y e f = ap (λ b. signed (nat_lt x c) (nat_lt y r) b) (f refl)
 
-pub shown : (f g : Frame) (t : Transform) (over : Bool) (columns rows : ℕ → ℕ) (blocks : Blocks) (M : Meaning) (trim : Bool) → Given g t over columns rows → HasWholeBlocks M → Shows M f blocks → IsMade trim t f g
-    → Shows (trimmed trim t (transformed t M)) g (λ i x y. placed over (columns i) (rows i) (blocks i) x y)
+pub shown : (f g : Frame) (t : Transform) (over : Bool) (columns rows : ℕ → ℕ) (blocks : Blocks) (M : Meaning) (trim : Bool) → Given g t over columns rows → HasWholeBlocks M → IsSeenAs M f blocks → IsMade trim t f g
+    → IsSeenAs (trimmed trim t (transformed t M)) g (λ i x y. placed over (columns i) (rows i) (blocks i) x y)
 shown f g t over columns rows blocks M trim given w s m = record { grids = grids; same = same }
   where
     turned : picture_grids (transformed t M) ≡ over_grids (transposes t) (frame_grids f)
@@ -164,7 +161,7 @@ gray_comes gray over f i x y is may c = record {
   plain = λ e. gray_real gray f i x y is may (c.plain e);
 }
 
-gray_shown : (gray : Bool) (f : Frame) (M : Meaning) (blocks : Blocks) → IsFrame f → MayGray gray f → Shows M f blocks → Shows (grayed gray M) (grayed_frame gray f) blocks
+gray_shown : (gray : Bool) (f : Frame) (M : Meaning) (blocks : Blocks) → IsFrame f → MayGray gray f → IsSeenAs M f blocks → IsSeenAs (grayed gray M) (grayed_frame gray f) blocks
 gray_shown false f M blocks is may s = s
 gray_shown true f M blocks is may s = record {
   grids = ap (λ (K : Grids). (let G : Grids = record { width = K.width; height = K.height; across = 1 ∷ []; down = 1 ∷ [] } in G)) s.grids;
@@ -174,10 +171,6 @@ gray_shown true f M blocks is may s = record {
       ∙ s.same i x y (gray_real true f i x y is may r));
 }
 
-length_cond : (b : Bool) (block : List ℤ) → length block ≡ 64 → length (cond b block (zeros 64)) ≡ 64
-length_cond true block l = l
-length_cond false block l = refl
-
 first_quants : (cs : List PictureComponent) → All (λ c. length c.quants ≡ 64) cs → 0 < length cs → length (get_or cs 0 (record { id = 0; h = 1; v = 1; quants = [] })).quants ≡ 64
 first_quants [] all some = absurd (omega (arith, some))
 first_quants (c ∷ cs) all some = All-head (λ c. length c.quants ≡ 64) c cs all
@@ -185,7 +178,7 @@ first_quants (c ∷ cs) all some = All-head (λ c. length c.quants ≡ 64) c cs 
 gray_whole : (gray : Bool) (M : Meaning) → 0 < length M.components → HasWholeBlocks M → HasWholeBlocks (grayed gray M)
 gray_whole false M some w = w
 gray_whole true M some w = record {
-  blocks = λ i x y. length_cond _ (M.blocks i x y) (w.blocks i x y);
+  blocks = λ i x y. shown_whole _ (M.blocks i x y) (w.blocks i x y);
   quants = All-cons (λ c. length c.quants ≡ 64) _ [] (first_quants M.components w.quants some) (All-nil (λ c. length c.quants ≡ 64));
 }
 
@@ -203,16 +196,16 @@ reached_by choice f g t over columns rows i x y is given o r =
     gray_comes choice.gray over f i (opposite (columns i) x) (opposite (rows i) y) is (may_gray choice t f g o)
     (reached (grayed_frame choice.gray f) g t over columns rows choice.trim i x y given (made_by choice t f g o) r)
 
-pub shown_by : (choice : Choice) (f g : Frame) (t : Transform) (over : Bool) (columns rows : ℕ → ℕ) (blocks : Blocks) (M : Meaning) → IsFrame f → Given g t over columns rows → HasWholeBlocks M → Shows M f blocks → IsOutput choice t f g
-    → Shows (moved choice M) g (λ i x y. placed over (columns i) (rows i) (blocks i) x y)
+pub shown_by : (choice : Choice) (f g : Frame) (t : Transform) (over : Bool) (columns rows : ℕ → ℕ) (blocks : Blocks) (M : Meaning) → IsFrame f → Given g t over columns rows → HasWholeBlocks M → IsSeenAs M f blocks → IsOutput choice t f g
+    → IsSeenAs (moved choice M) g (λ i x y. placed over (columns i) (rows i) (blocks i) x y)
 shown_by choice f g t over columns rows blocks M is given w s o =
     let may = may_gray choice t f g o in
     let some : 0 < length M.components =
     (let e : length (map (λ c. c.h) M.components) ≡ length (map (λ c. c.h) f.components) = ap (λ (K : Grids). length K.across) s.grids in
     let l = length-map M.components (λ c. c.h) in let k = length-map f.components (λ c. c.h) in omega (arith, e, l, k, is.count_low)) in
-    subst (λ (u : Transform). Shows (headed_as choice (trimmed choice.trim u (transformed u (grayed choice.gray M)))) g (λ i x y. placed over (columns i) (rows i) (blocks i) x y)) (sym o.transform_is)
+    subst (λ (u : Transform). IsSeenAs (headed_as choice (trimmed choice.trim u (transformed u (grayed choice.gray M)))) g (λ i x y. placed over (columns i) (rows i) (blocks i) x y)) (sym o.transform_is)
     (headed (trimmed choice.trim t (transformed t (grayed choice.gray M)))
     (shown (grayed_frame choice.gray f) g t over columns rows blocks (grayed choice.gray M) choice.trim given (gray_whole choice.gray M some w) (gray_shown choice.gray f M blocks is may s) (made_by choice t f g o)))
   where
-    headed : (N : Meaning) → Shows N g (λ i x y. placed over (columns i) (rows i) (blocks i) x y) → Shows (headed_as choice N) g (λ i x y. placed over (columns i) (rows i) (blocks i) x y)
+    headed : (N : Meaning) → IsSeenAs N g (λ i x y. placed over (columns i) (rows i) (blocks i) x y) → IsSeenAs (headed_as choice N) g (λ i x y. placed over (columns i) (rows i) (blocks i) x y)
     headed N h = record { grids = h.grids; same = h.same }

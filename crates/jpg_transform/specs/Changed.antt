@@ -1,4 +1,4 @@
--- Which signs are changed (T.81 A.3.3).
+-- Which signs are changed (T.81, A.3.3).
 use Rattle.std.specs.Prelude.{◌≡◌, ℕ, ◌/◌, ◌%◌, Bool, true, false, not, ◌==◌, if◌then◌else◌, List, map, ℤ, pos, int_lt}
 use Rattle.jpg_spec.specs.Moves.{zigzag}
 

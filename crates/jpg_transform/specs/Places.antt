@@ -1,4 +1,4 @@
--- Places of the real grids, and a picture as it is seen block by block (T.81 A.2).
+-- Places of the real grids, and a picture as it is seen block by block (T.81, A.2).
 use Rattle.std.specs.Prelude.{◌≡◌, ℕ, ◌≤◌, Bool, true, false, List, length, slice_index, ◌≤ℤ◌, negsuc, All}
 use Rattle.jpg_spec.specs.Geometry.{Frame, IsReal, component_at, h_max, v_max}
 use Rattle.jpg_spec.specs.Meaning.{Meaning}
@@ -9,7 +9,7 @@ use Rattle.jpg_spec.specs.Transforms.{opposite}
 use Rattle.jpg_spec.specs.declared.transform.Transform.{Transform}
 
 -- A meaning is seen so: it has these sides and factors, and at the real places these blocks.
-pub record Shows (M : Meaning) (f : Frame) (blocks : Blocks) : Type 0 where
+pub record IsSeenAs (M : Meaning) (f : Frame) (blocks : Blocks) : Type 0 where
   pub grids : picture_grids M ≡ frame_grids f
   pub same : (i x y : ℕ) → IsReal f i x y → M.blocks i x y ≡ blocks i x y
 
@@ -24,7 +24,7 @@ pub record IsOutput (choice : Choice) (transform : Transform) (source out : Fram
 -- What a view shows whose source has this frame and these blocks: of each meaning that the source shows, the meaning moved.
 abbrev pub ShowsMoved : Transform → Frame → Blocks → Frame → Blocks → Type 0
 ShowsMoved transform source blocks out seen =
-    (M : Meaning) (choice : Choice) → HasWholeBlocks M → Shows M source blocks → IsOutput choice transform source out → Shows (moved choice M) out seen
+    (M : Meaning) (choice : Choice) → HasWholeBlocks M → IsSeenAs M source blocks → IsOutput choice transform source out → IsSeenAs (moved choice M) out seen
 
 -- A place of a picture, transposed where `over`, is a real one.
 pub record ComesFrom (over : Bool) (f : Frame) (i x y : ℕ) : Type 0 where
@@ -32,7 +32,7 @@ pub record ComesFrom (over : Bool) (f : Frame) (i x y : ℕ) : Type 0 where
   pub plain : over ≡ false → IsReal f i x y
 
 -- Each real place of the output has its block from a real place of the source.
-pub record Reaches (source : Frame) (over : Bool) (columns rows : List ℕ) (out : Frame) : Type 0 where
+pub record HasSources (source : Frame) (over : Bool) (columns rows : List ℕ) (out : Frame) : Type 0 where
   pub few : length out.components ≤ 4
   pub places : (i x y : ℕ) → IsReal out i x y → ComesFrom over source i (opposite (slice_index columns i) x) (opposite (slice_index rows i) y)
 

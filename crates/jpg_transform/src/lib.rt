@@ -3,10 +3,13 @@
 
 mod moved;
 mod moving;
+mod picture;
 mod signs;
 mod table;
 mod view;
+mod viewing;
 
 pub use jpg_spec::Transform;
 pub use moved::Moved;
+pub use picture::PictureView;
 pub use view::Source;

@@ -1,5 +1,5 @@
 // A picture moved, as a view of another (the manual of jpegtran).
-ghost use Rattle.jpg_transform.specs.Places.{Reaches};
+ghost use Rattle.jpg_transform.specs.Places.{HasSources};
 
 use crate::Source;
 use jpg_base::Frame;
@@ -12,5 +12,5 @@ pub struct Moved<'a, S: Source> {
     pub(crate) over: bool,
     pub(crate) columns: [u32; 4],
     pub(crate) rows: [u32; 4],
-    ghost reaches: { Reaches (S.numbers source.now) over columns rows frame.now },
+    ghost reaches: { HasSources (S.numbers source.now) over columns rows frame.now },
 }

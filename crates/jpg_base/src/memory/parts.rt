@@ -1,17 +1,19 @@
 // The steps of the desk in memory, each over the parts that it changes.
-ghost use Rattle.std.specs.Prelude.{◌≡◌, ◌≤◌, ◌<◌, ℕ, length, map, take, min, true, IfSome, Some, None};
+ghost use Rattle.std.specs.Prelude.{◌≡◌, ◌≤◌, ◌<◌, length, map, true, IfSome, Some, None};
 ghost use Rattle.std.specs.Option.{option_copied};
-ghost use Rattle.jpg_base.specs.Desk.{raised, Rose, NotesName, Gives, AfterAddOutput, AfterAppendLast, AfterAppend};
+ghost use Rattle.jpg_base.specs.Desk.{raised, Rose, NotesName, AfterAddOutput, AfterAppendLast, AfterAppend};
 ghost use Rattle.jpg_base.specs.Name.{file_of};
-ghost use Rattle.jpg_base.specs.Memory.{named, rest_of, told_names, is_next, given};
+ghost use Rattle.jpg_base.specs.Memory.{named, told_names, is_failing_next};
+ghost use Rattle.jpg_base.specs.Input.{input_rest};
 
-use super::{Asked, Input, Stored};
-use crate::{Got, Name, Put};
+use super::{Asked, Stored};
+use crate::input::Input;
+use crate::{Name, Put};
 use std::alloc::Global;
 
-// Counts a call, and says whether it is one that fails. Calls after the last number are not.
+/// Counts a call, and says whether it is one that fails. Calls after the last number are not.
 pub fn is_failing(calls: &mut u64, failing: &[u64]) -> bool
-    ensures fails { result ≡ is_next calls.old failing.now }
+    ensures fails { result ≡ is_failing_next calls.old failing.now }
     ensures counted { calls.new ≡ raised calls.old }
 {
     let Some(call) = calls.checked_add(1) else {
@@ -40,9 +42,9 @@ fn find<'a>(files: &'a [Stored], name: &Name) -> Option<&'a [u8]>
     None
 }
 
-// The input that the name gives, unless the call fails or there is no memory.
+/// The input that the name gives, unless the call fails or there is no memory.
 pub fn input_of(alloc: Global, fails: bool, files: &[Stored], name: &Name) -> Option<Input>
-    ensures found { IfSome result (λ input. file_of (map named files.now) name.now ≡ Some (rest_of input)) }
+    ensures found { IfSome result (λ input. file_of (map named files.now) name.now ≡ Some (input_rest input)) }
     ensures fails { fails ≡ true → result ≡ None }
 {
     if fails {
@@ -67,24 +69,6 @@ pub fn with_name(
     Some(list)
 }
 
-// The next bytes of the input.
-#[tactic(auto, using(crate::proofs::Pieces::given_some, crate::proofs::Pieces::given_end))]
-pub fn give(input: &mut Input, piece: u32, buf: &mut [u8]) -> Got
-    requires piece { 1 ≤ piece }
-    requires room { 0 < length buf.old }
-    ensures gives { Gives (rest_of input.old) result buf.new (rest_of input.new) }
-    ensures exact { result ≡ given (min piece (length buf.old)) (rest_of input.old) }
-{
-    let rest = &input.bytes[input.at..];
-    let most = rest.len().min(buf.len()).min(piece as usize);
-    if most == 0 {
-        return Got::End;
-    }
-    buf[..most].copy_from_slice(&rest[..most]);
-    input.at += most;
-    Got::Bytes(most as u32)
-}
-
 pub fn add_output(alloc: Global, fails: bool, outputs: &mut Vec<Stored>, name: &Name) -> Put
     ensures after { AfterAddOutput (map named outputs.old.items) name.now result (map named outputs.new.items) }
     ensures fails { fails ≡ true → result ≡ Put.Failed }
@@ -102,7 +86,7 @@ pub fn add_output(alloc: Global, fails: bool, outputs: &mut Vec<Stored>, name: &
     }
 }
 
-// Appends the bytes, or a first part of them where the call fails.
+/// Appends the bytes, or a first part of them where the call fails.
 pub fn append(fails: bool, bytes: &mut Vec<u8>, piece: &[u8]) -> Put
     ensures after { AfterAppend bytes.old.items piece.now result bytes.new.items }
     ensures fails { fails ≡ true → result ≡ Put.Failed }

@@ -1,4 +1,4 @@
-// Huffman tables (T.81 B.2.4.2): Table K.3, and counts made by hand.
+// Huffman tables (T.81, B.2.4.2): Table K.3, and counts made by hand.
 use crate::{QuantSet, read_dht, read_dqt};
 use jpg_huff::{Code, TableSet};
 use jpg_spec::Fault;

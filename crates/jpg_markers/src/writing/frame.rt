@@ -1,11 +1,11 @@
-// Frame headers as they are written (T.81 B.2.2).
+// Frame headers as they are written (T.81, B.2.2).
 ghost use Rattle.std.specs.Prelude.{◌≡◌, ◌≤◌, ◌+◌, [], ◌++◌, length, true};
 ghost use Rattle.std.specs.Int.{to_be_bytes};
 ghost use Rattle.arrayvec.specs.ArrayVec.{array_vec_len};
+ghost use Rattle.jpg_huff.specs.BitOut.{CanSend, Sends};
 ghost use Rattle.jpg_spec.specs.FileText.{sof_code};
 ghost use Rattle.jpg_spec.specs.FrameHeader.{HasFactors};
 ghost use Rattle.jpg_markers.specs.OutHead.{component_text, frame_contents, frame_segment, front_contents};
-ghost use Rattle.jpg_markers.specs.Sent.{HasSent};
 
 use super::head::OutHead;
 use super::quants::slot_of;
@@ -15,7 +15,7 @@ use jpg_base::{Desk, Frame, QuantTable, WriteFault};
 use jpg_huff::BitOut;
 use jpg_spec::{Component, Process};
 
-/// The contents of a frame header: 6 bytes, and 3 for each of its components.
+// The contents of a frame header: 6 bytes, and 3 for each of its components.
 type Contents = ArrayVec<u8, 18>;
 
 /// A frame header, whose components have the places of their tables among the distinct ones as
@@ -26,11 +26,10 @@ pub fn write_frame<D: Desk>(
     out: &mut BitOut,
     desk: &mut D,
 ) -> Result<(), WriteFault>
-    requires created { (D.state desk.old).output_created ≡ true }
-    requires none { out.old.bits ≡ [] }
+    requires can { CanSend (D.state desk.old) out.old }
     requires few { length distinct.now ≤ 4 }
     requires tables { array_vec_len head.now.quants ≡ length head.now.frame.components }
-    ensures { HasSent (D.state desk.old) out.old (frame_segment distinct.now head.now) result out.new (D.state desk.new) }
+    ensures { Sends (D.state desk.old) out.old (frame_segment distinct.now head.now) result out.new (D.state desk.new) }
 {
     let contents = contents_of(&head.frame, head.quants.as_slice(), distinct);
     write_segment(
@@ -64,7 +63,7 @@ fn contents_of(frame: &Frame, tables: &[QuantTable], distinct: &[QuantTable]) ->
     contents
 }
 
-/// What stands before the components.
+// What stands before the components.
 fn sides_of(frame: &Frame) -> Contents
     ensures value { result.items ≡ front_contents frame.now }
     ensures long { array_vec_len result ≡ 6 }

@@ -1,8 +1,7 @@
 // What the head of a file is written from.
-use crate::app::Jfif;
 use arrayvec::ArrayVec;
 use jpg_base::{Frame, QuantTable};
-use jpg_spec::{Colour, Copying};
+use jpg_spec::{Colour, Copying, Jfif};
 
 /// What the head of a file is written from: its frame, its colours, the quantisation table of each
 /// component in the frame's order, what the JFIF header of the input told, and which of the kept

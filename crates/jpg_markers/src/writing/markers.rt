@@ -1,19 +1,19 @@
 // The own header of a file, and the kept markers that are passed on (JFIF 1.02, Adobe's APP14).
 ghost use Rattle.std.specs.Prelude.{◌≡◌, [], ◌∷◌, ◌==◌, if◌then◌else◌, filter, true};
+ghost use Rattle.jpg_huff.specs.BitOut.{CanSend, Sends};
 ghost use Rattle.jpg_spec.specs.FileText.{kept_text};
 ghost use Rattle.jpg_spec.specs.Moves.{adobe_contents, jfif_contents};
-ghost use Rattle.jpg_markers.specs.Kept.{IsKept, pair_of};
+ghost use Rattle.jpg_markers.specs.Kept.{IsKeptSegment, kept_pair};
 ghost use Rattle.jpg_markers.specs.OutHead.{markers_text};
 ghost use Rattle.jpg_markers.specs.Passed.{is_copied, is_passed, is_replaced, own_header};
-ghost use Rattle.jpg_markers.specs.Sent.{HasSent};
 
 use super::head::OutHead;
 use super::segment::write_segment;
-use crate::app::{Jfif, begins_with};
+use crate::app::begins_with;
 use crate::kept::{Kept, KeptList};
 use jpg_base::{Desk, WriteFault};
 use jpg_huff::BitOut;
-use jpg_spec::{Colour, Copying};
+use jpg_spec::{Colour, Copying, Jfif};
 
 /// Writes the own header, and then the kept markers that are passed on.
 pub fn write_markers<D: Desk>(
@@ -22,24 +22,22 @@ pub fn write_markers<D: Desk>(
     out: &mut BitOut,
     desk: &mut D,
 ) -> Result<(), WriteFault>
-    requires created { (D.state desk.old).output_created ≡ true }
-    requires none { out.old.bits ≡ [] }
-    ensures { HasSent (D.state desk.old) out.old (markers_text head.now kept.now) result out.new (D.state desk.new) }
+    requires { CanSend (D.state desk.old) out.old }
+    ensures { Sends (D.state desk.old) out.old (markers_text head.now kept.now) result out.new (D.state desk.new) }
 {
     write_own(head.colour, &head.jfif, out, desk)?;
     write_passed(head.copying, head.colour, kept, out, desk)
 }
 
-/// The own header of a file of these colours.
+// The own header of a file of these colours.
 fn write_own<D: Desk>(
     colour: Colour,
     jfif: &Jfif,
     out: &mut BitOut,
     desk: &mut D,
 ) -> Result<(), WriteFault>
-    requires created { (D.state desk.old).output_created ≡ true }
-    requires none { out.old.bits ≡ [] }
-    ensures { HasSent (D.state desk.old) out.old (kept_text (own_header colour jfif.now)) result out.new (D.state desk.new) }
+    requires { CanSend (D.state desk.old) out.old }
+    ensures { Sends (D.state desk.old) out.old (kept_text (own_header colour jfif.now)) result out.new (D.state desk.new) }
 {
     match colour {
         Colour::Gray | Colour::YCbCr => write_segment(0xe0, &jfif_contents(jfif), out, desk),
@@ -49,8 +47,8 @@ fn write_own<D: Desk>(
     }
 }
 
-/// Version 1.01, or that of the input where its major number is 1; the density of the input; and
-/// no thumbnail (JFIF 1.02).
+// Version 1.01, or that of the input where its major number is 1; the density of the input; and
+// no thumbnail (JFIF 1.02).
 fn jfif_contents(jfif: &Jfif) -> [u8; 14]
     ensures { result ≡ jfif_contents jfif.now }
 {
@@ -80,14 +78,14 @@ fn minor_of(jfif: &Jfif) -> u8
     if jfif.major == 1 { jfif.minor } else { 1 }
 }
 
-/// Version 100, no flags, and this transform (Adobe's APP14).
+// Version 100, no flags, and this transform (Adobe's APP14).
 fn adobe_contents(transform: u8) -> [u8; 12]
     ensures { result ≡ adobe_contents transform }
 {
     [b'A', b'd', b'o', b'b', b'e', 0, 100, 0, 0, 0, 0, transform]
 }
 
-/// The kept markers that are passed on.
+// The kept markers that are passed on.
 fn write_passed<D: Desk>(
     copying: Copying,
     colour: Colour,
@@ -95,9 +93,8 @@ fn write_passed<D: Desk>(
     out: &mut BitOut,
     desk: &mut D,
 ) -> Result<(), WriteFault>
-    requires created { (D.state desk.old).output_created ≡ true }
-    requires none { out.old.bits ≡ [] }
-    ensures { HasSent (D.state desk.old) out.old (kept_text (filter (is_passed copying colour) kept.now)) result out.new (D.state desk.new) }
+    requires { CanSend (D.state desk.old) out.old }
+    ensures { Sends (D.state desk.old) out.old (kept_text (filter (is_passed copying colour) kept.now)) result out.new (D.state desk.new) }
 {
     for i in 0..kept.len() {
         write_member(copying, colour, kept.get(i), out, desk)?;
@@ -105,7 +102,7 @@ fn write_passed<D: Desk>(
     Ok(())
 }
 
-/// One kept marker, where it is passed on.
+// One kept marker, where it is passed on.
 fn write_member<D: Desk>(
     copying: Copying,
     colour: Colour,
@@ -113,10 +110,9 @@ fn write_member<D: Desk>(
     out: &mut BitOut,
     desk: &mut D,
 ) -> Result<(), WriteFault>
-    requires created { (D.state desk.old).output_created ≡ true }
-    requires none { out.old.bits ≡ [] }
-    requires member { IsKept member.now.code member.now.contents }
-    ensures { HasSent (D.state desk.old) out.old (kept_text (filter (is_passed copying colour) (pair_of member.now ∷ []))) result out.new (D.state desk.new) }
+    requires can { CanSend (D.state desk.old) out.old }
+    requires member { IsKeptSegment member.now.code member.now.contents }
+    ensures { Sends (D.state desk.old) out.old (kept_text (filter (is_passed copying colour) (kept_pair member.now ∷ []))) result out.new (D.state desk.new) }
 {
     if is_passed(copying, colour, member) {
         write_segment(member.code, member.contents.as_slice(), out, desk)
@@ -125,14 +121,14 @@ fn write_member<D: Desk>(
     }
 }
 
-/// Whether a kept marker is passed on.
+// Whether a kept marker is passed on.
 fn is_passed(copying: Copying, colour: Colour, member: &Kept) -> bool
-    ensures { result ≡ is_passed copying colour (pair_of member.now) }
+    ensures { result ≡ is_passed copying colour (kept_pair member.now) }
 {
     is_copied(copying, member.code) && !is_replaced(colour, member.code, member.contents.as_slice())
 }
 
-/// Whether markers of this code are copied.
+// Whether markers of this code are copied.
 fn is_copied(copying: Copying, code: u8) -> bool
     ensures { result ≡ is_copied copying code }
 {
@@ -143,7 +139,7 @@ fn is_copied(copying: Copying, code: u8) -> bool
     }
 }
 
-/// Whether the own header of a file of these colours stands in the place of this marker.
+// Whether the own header of a file of these colours stands in the place of this marker.
 fn is_replaced(colour: Colour, code: u8, contents: &[u8]) -> bool
     ensures { result ≡ is_replaced colour code contents.now }
 {

@@ -1,18 +1,18 @@
-// Quantisation tables as they are written (T.81 B.2.4.1).
+// Quantisation tables as they are written (T.81, B.2.4.1).
 ghost use Rattle.std.specs.Prelude.{◌≡◌, ◌≤◌, ◌<◌, ◌+◌, [], ◌∷◌, ◌++◌, length, flat_map, if◌then◌else◌, false, true};
 ghost use Rattle.std.specs.Int.{to_be_bytes, w16};
 ghost use Rattle.arrayvec.specs.ArrayVec.{array_vec_len};
+ghost use Rattle.jpg_huff.specs.BitOut.{CanSend, Sends};
 ghost use Rattle.jpg_spec.specs.Lists.{any_of, are_equal};
 ghost use Rattle.jpg_spec.specs.FileText.{distinct_after, quant_text, slot_in};
 ghost use Rattle.jpg_spec.specs.Moves.{is_wide};
-ghost use Rattle.jpg_markers.specs.Sent.{HasSent};
 
 use super::segment::write_segment;
 use arrayvec::ArrayVec;
 use jpg_base::{Desk, QuantTable, WriteFault};
 use jpg_huff::BitOut;
 
-/// Distinct tables, at most one per component.
+// Distinct tables, at most one per component.
 type Tables = ArrayVec<QuantTable, 4>;
 
 /// The distinct ones of these tables, in the order of their first use.
@@ -27,7 +27,7 @@ pub fn distinct_tables(tables: &[QuantTable]) -> Tables
     distinct
 }
 
-/// Adds a table that isn't among them yet.
+// Adds a table that isn't among them yet.
 fn add_new(distinct: &mut Tables, table: &QuantTable)
     requires { array_vec_len distinct.old < 4 }
     ensures value { distinct.new.items ≡ distinct.old.items ++ (if any_of (are_equal table.now) distinct.old.items then [] else table.now ∷ []) }
@@ -69,10 +69,9 @@ pub fn write_tables<D: Desk>(
     out: &mut BitOut,
     desk: &mut D,
 ) -> Result<(), WriteFault>
-    requires created { (D.state desk.old).output_created ≡ true }
-    requires none { out.old.bits ≡ [] }
+    requires can { CanSend (D.state desk.old) out.old }
     requires few { length tables.now ≤ 4 }
-    ensures { HasSent (D.state desk.old) out.old (flat_map (λ table. quant_text (slot_in tables.now table) table) tables.now) result out.new (D.state desk.new) }
+    ensures { Sends (D.state desk.old) out.old (flat_map (λ table. quant_text (slot_in tables.now table) table) tables.now) result out.new (D.state desk.new) }
 {
     for table in tables {
         write_table(slot_of(tables, table), table, out, desk)?;
@@ -80,17 +79,16 @@ pub fn write_tables<D: Desk>(
     Ok(())
 }
 
-/// A DQT segment, with entries of two bytes where one exceeds 255 (Pq 1), else of one.
+// A DQT segment, with entries of two bytes where one exceeds 255 (Pq 1), else of one.
 fn write_table<D: Desk>(
     slot: u8,
     table: &QuantTable,
     out: &mut BitOut,
     desk: &mut D,
 ) -> Result<(), WriteFault>
-    requires created { (D.state desk.old).output_created ≡ true }
-    requires none { out.old.bits ≡ [] }
+    requires can { CanSend (D.state desk.old) out.old }
     requires slot { slot ≤ 4 }
-    ensures { HasSent (D.state desk.old) out.old (quant_text slot table.now) result out.new (D.state desk.new) }
+    ensures { Sends (D.state desk.old) out.old (quant_text slot table.now) result out.new (D.state desk.new) }
 {
     if is_wide(table) {
         write_segment(0xdb, wide_contents(slot, table).as_slice(), out, desk)
@@ -113,7 +111,7 @@ pub fn is_wide(table: &QuantTable) -> bool
     false
 }
 
-/// The slot, and entries of one byte each.
+// The slot, and entries of one byte each.
 fn narrow_contents(slot: u8, table: &QuantTable) -> [u8; 65]
     requires { is_wide table.now ≡ false }
     ensures { result ≡ slot ∷ table.now }
@@ -126,7 +124,7 @@ fn narrow_contents(slot: u8, table: &QuantTable) -> [u8; 65]
     contents
 }
 
-/// Precision 1 and the slot, and entries of two bytes each.
+// Precision 1 and the slot, and entries of two bytes each.
 fn wide_contents(slot: u8, table: &QuantTable) -> ArrayVec<u8, 129>
     requires { slot ≤ 4 }
     ensures value { result.items ≡ (16 + slot) ∷ flat_map (to_be_bytes w16) table.now }

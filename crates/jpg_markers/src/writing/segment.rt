@@ -1,14 +1,13 @@
-// Marker segments as they are written (T.81 B.1.1.4).
+// Marker segments as they are written (T.81, B.1.1.4).
 ghost use Rattle.std.specs.Prelude.{◌≡◌, ◌≤◌, [], length, true};
+ghost use Rattle.jpg_huff.specs.BitOut.{CanSend, Sends};
 ghost use Rattle.jpg_spec.specs.FileText.{segment_text};
-ghost use Rattle.jpg_huff.specs.Out.{OnlyWrites};
-ghost use Rattle.jpg_huff.specs.BitOut.{Sends};
 
 use jpg_base::{Desk, WriteFault};
 use jpg_huff::BitOut;
 
 /// Writes a segment: FF and its code, its length, which counts itself, and its contents, at most
-/// 65,533 bytes (T.81 B.1.1.4). An output has to be created, and no bits wait. After WriteFault a
+/// 65,533 bytes (T.81, B.1.1.4). An output has to be created, and no bits wait. After WriteFault a
 /// first part of it is written, and nothing waits.
 pub fn write_segment<D: Desk>(
     code: u8,
@@ -16,11 +15,9 @@ pub fn write_segment<D: Desk>(
     out: &mut BitOut,
     desk: &mut D,
 ) -> Result<(), WriteFault>
-    requires created { (D.state desk.old).output_created ≡ true }
-    requires none { out.old.bits ≡ [] }
+    requires can { CanSend (D.state desk.old) out.old }
     requires fits { length contents.now ≤ 65533 }
-    ensures kept { OnlyWrites (D.state desk.old) (D.state desk.new) }
-    ensures sends { Sends (D.state desk.old) out.old (segment_text code contents.now) result out.new (D.state desk.new) }
+    ensures { Sends (D.state desk.old) out.old (segment_text code contents.now) result out.new (D.state desk.new) }
 {
     let [high, low] = ((contents.len() + 2) as u16).to_be_bytes();
     out.raw(&[0xff, code, high, low], desk)?;

@@ -1,13 +1,12 @@
-// Heads of files. The bytes that are wanted were made by another program, from T.81 B.2 and JFIF 1.02.
+// Heads of files. The bytes that are wanted were made by another program, from T.81, B.2 and JFIF 1.02.
 use super::{OutHead, file_head, write_segment};
-use crate::app::Jfif;
 use crate::kept::KeptList;
 use arrayvec::ArrayVec;
 use jpg_base::{
     Bytes, Desk, Frame, Limits, MemoryDesk, Name, NoMemory, Put, QuantTable, WriteFault,
 };
 use jpg_huff::BitOut;
-use jpg_spec::{Colour, Component, Copying, Process};
+use jpg_spec::{Colour, Component, Copying, Jfif, Process};
 use std::alloc::Global;
 use std::test::Fail;
 

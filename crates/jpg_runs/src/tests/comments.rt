@@ -1,4 +1,4 @@
-// Runs of rdjpgcom over a desk in memory (T.81 B.2.4.5, its manual in release 6b).
+// Runs of rdjpgcom over a desk in memory (T.81, B.2.4.5, its manual in release 6b).
 use super::{refused_at, strings};
 use jpg_base::{MemoryDesk, Name, NoMemory, Text};
 use jpg_cli::{Ended, run};

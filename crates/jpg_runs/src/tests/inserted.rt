@@ -1,4 +1,4 @@
-// Runs of wrjpgcom over a desk in memory (T.81 B.2.4.5, its manual in release 6b).
+// Runs of wrjpgcom over a desk in memory (T.81, B.2.4.5, its manual in release 6b).
 use super::{Change, changed, refused_at, strings, usage_at};
 use jpg_base::{Bytes, MemoryDesk, Name, NoMemory, Text};
 use jpg_cli::{Ended, run};

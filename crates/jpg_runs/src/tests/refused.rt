@@ -1,4 +1,4 @@
-// Files that are refused, each with the first fault that its header shows, or as not built yet.
+// Files that are refused, each with its first fault, or as not built yet.
 use super::{Change, FLIP, SMALLEST, changed, desk_with, strings};
 use jpg_base::Desk;
 use jpg_cli::{Ended, run};
@@ -103,11 +103,11 @@ static HEADERS: [(&[Change], Fault, u64); 36] = [
         Fault::McuTooLarge,
         338,
     ),
-    (&[(90, 91, &[0xc2])], Fault::ScanParameters, 328),
+    (&[(90, 91, &[0xc2])], Fault::NotBuilt, 102),
     (
         &[(90, 91, &[0xc2]), (135, 318, &[]), (326, 328, &[0, 11])],
-        Fault::ScanParameters,
-        145,
+        Fault::NotBuilt,
+        102,
     ),
     (&[(318, 329, &[])], Fault::MissingComponent, 320),
     (
@@ -117,50 +117,53 @@ static HEADERS: [(&[Change], Fault, u64); 36] = [
     ),
 ];
 
-// Whole headers of other scans, which are judged where the header ends, and data that spell no
-// picture with their EOI, at the number of bytes.
-static UNBUILT: [(&[Change], u64); 23] = [
-    // a progressive frame, tables that are wanting, and a restart interval
-    (&[(90, 91, &[0xc2]), (135, 318, &[]), (326, 327, &[0])], 145),
-    (&[(20, 89, &[])], 259),
-    (&[(102, 135, &[])], 295),
-    (&[(135, 318, &[])], 145),
-    (&[(318, 318, &[0xff, 0xdd, 0, 4, 0, 1])], 334),
-    // two components in one scan and alone, factors of 2 by 1, and sides of parts of blocks
+// The header of a progressive frame, tables that are wanting, data that spell no picture, and no EOI.
+static SCANS: [(&[Change], Fault, u64); 20] = [
+    (
+        &[(90, 91, &[0xc2]), (135, 318, &[]), (326, 327, &[0])],
+        Fault::NotBuilt,
+        102,
+    ),
+    (&[(20, 89, &[])], Fault::MissingTable, 259),
+    (&[(102, 135, &[])], Fault::MissingTable, 295),
+    (&[(135, 318, &[])], Fault::MissingTable, 145),
     (
         &[
-            (92, 93, &[14]),
+            (92, 93, &[0x0e]),
             (98, 99, &[2]),
             (102, 102, &[2, 0x11, 0]),
-            (320, 324, &[0, 10, 2, 1, 0, 2]),
+            (320, 324, &[0, 0x0a, 2, 1, 0, 2]),
         ],
-        333,
+        Fault::EntropyShort,
+        336,
     ),
     (
-        &[(92, 93, &[14]), (98, 99, &[2]), (102, 102, &[2, 0x11, 0])],
+        &[(92, 93, &[0x0e]), (98, 99, &[2]), (102, 102, &[2, 0x11, 0])],
+        Fault::MissingComponent,
+        334,
+    ),
+    (&[(97, 98, &[0x0c])], Fault::EntropyShort, 331),
+    (&[(95, 96, &[0x0c])], Fault::EntropyShort, 331),
+    (&[(328, 331, &[])], Fault::Truncated, 328),
+    (&[(329, 331, &[])], Fault::Truncated, 329),
+    (&[(330, 331, &[])], Fault::Truncated, 330),
+    (&[(330, 331, &[0xda])], Fault::Truncated, 331),
+    (
+        &[(330, 331, &[0xd0, 0xff, 0xd9])],
+        Fault::UnexpectedMarker,
         331,
     ),
-    (&[(100, 101, &[0x21])], 328),
-    (&[(97, 98, &[12])], 328),
-    (&[(95, 96, &[12])], 328),
-    // no EOI, and other markers before it
-    (&[(328, 331, &[])], 328),
-    (&[(329, 331, &[])], 329),
-    (&[(330, 331, &[])], 330),
-    (&[(330, 330, &[0xff])], 332),
-    (&[(330, 331, &[0xda])], 331),
-    (&[(330, 331, &[0xd0, 0xff, 0xd9])], 333),
-    // too few and too many blocks, a wrong code, value, run and category
-    (&[(328, 329, &[])], 330),
-    (&[(329, 329, &[0])], 332),
-    (&[(97, 98, &[16])], 331),
-    (&[(328, 329, &[0xff, 0, 0xff, 0])], 334),
-    (&[(328, 329, &[0xff, 0, 0x40, 0x0a])], 334),
+    (&[(328, 329, &[])], Fault::EntropyShort, 330),
+    (&[(329, 329, &[0])], Fault::ExtraData, 330),
+    (&[(97, 98, &[0x10])], Fault::EntropyShort, 331),
+    (&[(328, 329, &[0xff, 0, 0xff, 0])], Fault::NoCode, 332),
+    (&[(328, 329, &[0xff, 0, 0x40, 0x0a])], Fault::CoefRange, 332),
     (
-        &[(328, 329, &[0x3f, 0xcf, 0xf9, 0xff, 0x00, 0x3f, 0xfe, 0xbf])],
-        338,
+        &[(328, 329, &[0x3f, 0xcf, 0xf9, 0xff, 0, 0x3f, 0xfe, 0xbf])],
+        Fault::BadRun,
+        336,
     ),
-    (&[(123, 124, &[12])], 331),
+    (&[(123, 124, &[0x0c])], Fault::BadSymbol, 329),
 ];
 
 // A run over the file with these changes writes nothing, and ends with the fault.
@@ -189,11 +192,8 @@ fn other_files_are_refused(rt: HostRuntime) -> Result<(), Fail> {
         let due = FaultAt { fault, at };
         assert!(rt; is_refused(rt, changes, due)?, "{changes:?}");
     }
-    for (changes, at) in UNBUILT {
-        let due = FaultAt {
-            fault: Fault::NotBuilt,
-            at,
-        };
+    for (changes, fault, at) in SCANS {
+        let due = FaultAt { fault, at };
         assert!(rt; is_refused(rt, changes, due)?, "{changes:?}");
     }
     Ok(())
@@ -205,7 +205,7 @@ fn messages_name_the_fault(rt: HostRuntime) -> Result<(), Fail> {
     let rows: [(usize, &[u8]); 3] = [
         (0, b"jpegtran: refused: Truncated at byte 0\n"),
         (327, b"jpegtran: refused: Truncated at byte 327\n"),
-        (330, b"jpegtran: refused: NotBuilt at byte 330\n"),
+        (330, b"jpegtran: refused: Truncated at byte 330\n"),
     ];
     for (length, message) in rows {
         let input = SMALLEST.get(..length).ok_or("a shorter length")?;

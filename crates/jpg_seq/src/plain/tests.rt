@@ -1,6 +1,6 @@
 // What data spell, as another program says.
 ghost use Rattle.std.specs.Prelude.{◌≡◌, IfSome, Some};
-ghost use Rattle.jpg_spec.specs.GrayFile.{gray_frame, gray_head};
+ghost use Rattle.jpg_spec.specs.ScanText.{gray_frame, gray_head};
 ghost use Rattle.jpg_huff.specs.declared.table.Table.{Table};
 ghost use Rattle.jpg_huff.specs.Sets.{dc_tables, ac_tables, in_slot};
 

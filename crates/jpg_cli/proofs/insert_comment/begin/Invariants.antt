@@ -4,7 +4,7 @@ use Rattle.jpg_spec.specs.Segments.{standard_limits}
 use Rattle.jpg_markers.specs.Reading.{reading_of}
 use Rattle.jpg_comments.specs.WriteInserted.{HasInserted}
 use Rattle.jpg_cli.specs.CommentInserted.{IsReading, Task}
-use Rattle.jpg_cli.specs.Reading.{OnlyReads}
+use Rattle.jpg_cli.specs.Stays.{OnlyReads}
 use Rattle.jpg_cli.proofs.insert_comment.begin.Given as goal
 
 abbrev pub invariant-loop-due : goal.invariant-loop-due

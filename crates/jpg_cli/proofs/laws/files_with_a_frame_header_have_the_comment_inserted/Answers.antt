@@ -2,4 +2,4 @@ use Rattle.jpg_cli.proofs.Certain.{inserted_certain}
 use Rattle.jpg_cli.proofs.laws.files_with_a_frame_header_have_the_comment_inserted.Goals as goal
 
 pub returns : goal.returns
-returns c = λ old new task why has none inserted. inserted_certain old new task why has none inserted
+returns c = λ old task has new why none inserted. inserted_certain old new task why has none inserted

@@ -2,7 +2,8 @@ use Rattle.std.specs.Prelude.{◌≡◌, ◌-◌, ◌^◌, List, ℕ, [], true, 
 use Rattle.jpg_spec.specs.Segments.{standard_limits}
 use Rattle.jpg_markers.specs.Reading.{reading_of}
 use Rattle.jpg_comments.specs.ReadComments.{HasRead}
-use Rattle.jpg_cli.specs.ReadComments.{HasCopied, OnlyCopies}
+use Rattle.jpg_cli.specs.ReadComments.{HasCopied}
+use Rattle.jpg_cli.specs.Stays.{OnlyCopies}
 use Rattle.jpg_cli.proofs.read_comments.copy_comments.Given as goal
 
 abbrev pub invariant-loop-why : goal.invariant-loop-why

@@ -4,7 +4,7 @@ use Rattle.jpg_spec.specs.Markers.{at_soi, at_frame, at_part}
 use Rattle.jpg_base.specs.declared.stop.Stop.{Stop}
 use Rattle.jpg_markers.specs.declared.segments.SegStep.{SegStep}
 use Rattle.jpg_markers.specs.Reading.{reading_of, Comes, BehindWhole}
-use Rattle.jpg_comments.specs.Printing.{HasPrinted, AfterByte}
+use Rattle.jpg_comments.specs.Printing.{HasPrinted, AfterPrintedByte}
 use Rattle.jpg_comments.proofs.Taken.{appends_none}
 use Rattle.jpg_comments.proofs.ByByte.{printed_on, printed_stop, printed_whole}
 use Rattle.jpg_comments.proofs.comments.read_byte.Goals as goal
@@ -16,8 +16,8 @@ returns-in_err-byte-clause-answered c = λ bytes text h.
     let all = bytes ++ c.args.byte ∷ [] in
     let back = err_from_is_err_and c.from_residual.result c.from_residual.ensures.1 in
     let stops = printed_stop r.limits r next bytes text c.args.byte c.in_err-byte.field-0.0 h c.requires c.in_err-byte.ensures.limits (c.in_err-byte.ensures.taken h.1.stands.0) (c.in_err-byte.ensures.answered bytes h.0 h.1.stands) in
-    appends_none (λ t. AfterByte r.limits all t c.from_residual.result next) text c.args.out.now
-    (subst (λ (e : Result Bool Stop). AfterByte r.limits all text e next) (sym back.1) (subst (λ (e : Stop). AfterByte r.limits all text (Err e) next) (sym back.2) stops))
+    appends_none (λ t. AfterPrintedByte r.limits all t c.from_residual.result next) text c.args.out.now
+    (subst (λ (e : Result Bool Stop). AfterPrintedByte r.limits all text e next) (sym back.1) (subst (λ (e : Stop). AfterPrintedByte r.limits all text (Err e) next) (sym back.2) stops))
 
 pub returns-in-Whole-clause-answered : goal.returns-in-Whole-clause-answered
 returns-in-Whole-clause-answered c = λ bytes text h.

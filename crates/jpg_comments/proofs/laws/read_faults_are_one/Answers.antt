@@ -3,4 +3,4 @@ use Rattle.jpg_comments.proofs.OneAnswer.{one_fault}
 use Rattle.jpg_comments.proofs.laws.read_faults_are_one.Goals as goal
 
 pub returns : goal.returns
-returns c = λ limits bytes f g a b. one_fault limits (HoldsWhole limits) bytes f.fault g.fault f.at g.at a b
+returns c = λ limits bytes f g m n a b. one_fault limits (HoldsWhole limits) bytes f g m n a b

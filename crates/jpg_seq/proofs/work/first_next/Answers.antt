@@ -5,8 +5,9 @@ use mir.Val.{SFits}
 use Rattle.std.proofs.lemmas.Int.{to_z-of_z}
 use Rattle.std.proofs.lemmas.List.{length-take-le}
 use Rattle.jpg_seq.specs.Work.{Env, env_of}
-use Rattle.jpg_seq.proofs.Items.{none_taken, first_bad, first_comes, waits, zero_category, zero_bits}
+use Rattle.jpg_seq.proofs.Items.{none_taken, first_bad, first_comes, waits}
 use Rattle.jpg_seq.proofs.work.first_next.Goals as goal
+use Rattle.jpg_spec.proofs.Small.{zero_bits, zero_category}
 
 pub returns-in-NoCode : goal.returns-in-NoCode
 returns-in-NoCode c = λ ac.

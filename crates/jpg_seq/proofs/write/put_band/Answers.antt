@@ -10,7 +10,9 @@ use Rattle.jpg_huff.specs.Tables.{symbol_codes}
 use Rattle.jpg_seq.specs.PlainText.{run_bits, band_bits}
 use Rattle.jpg_seq.proofs.Bands.{left_bits, left_all, left_zero, left_value, left_none, left_zeros}
 use Rattle.jpg_seq.proofs.Blocks.{left_at, left_end}
-use Rattle.jpg_seq.proofs.HasPut.{part_start, part_same, part_then, part_last, part_end, part_fault}
+use Rattle.jpg_huff.specs.BitOut.{Puts}
+use Rattle.jpg_huff.proofs.InParts.{of_bits, part_start, part_same, part_then, part_last, part_end, part_fault}
+use Rattle.jpg_huff.proofs.Together.{puts_nothing}
 use Rattle.jpg_seq.proofs.write.put_band.Goals as goal
 use Rattle.jpg_seq.proofs.write.put_band.Goals.{then-value-eq0, else-value-eq0+in_ok-put_run}
 
@@ -20,7 +22,7 @@ loop-k-init g c =
     let band = drop 1 c.args.block.now in
     record {
       created = c.requires.created;
-      part = part_start (g.D.Desk.state c.args.desk.now) c.args.out.now (band_bits codes band) (left_bits codes band 0) (left_all codes band);
+      part = part_start Puts (g.D.Desk.state c.args.desk.now) c.args.out.now (band_bits codes band) (left_bits codes band 0) (puts_nothing (g.D.Desk.state c.args.desk.now) c.args.out.now) (left_all codes band);
       few = omega arith;
     }
 
@@ -45,7 +47,7 @@ returns-in_err-put_run g c =
     let l : k < length block = omega (arith, c.loop-k-test.true, c.long.ensures) in
     let s = left_at codes block k run l ∙ left_value codes x (drop (k + 1) block) run n ∙ ap (λ w. run_bits codes run w ++ left_bits codes (drop (k + 1) block) 0) (sym e) in
     let back = err_from_is_err_and c.from_residual.result c.from_residual.ensures.1 in
-    rw (back.1, back.2) (part_fault (state c.args.desk.now) (state c.loop-k.desk) (state c.put_run.new.desk) c.args.out.now c.loop-k.out c.put_run.new.out (band_bits codes (drop 1 block)) (left_bits codes (drop k block) run)
+    rw (back.1, back.2) (part_fault Puts of_bits (state c.args.desk.now) (state c.loop-k.desk) (state c.put_run.new.desk) c.args.out.now c.loop-k.out c.put_run.new.out (band_bits codes (drop 1 block)) (left_bits codes (drop k block) run)
     (run_bits codes run v) (left_bits codes (drop (k + 1) block) 0) c.in_err-put_run.field-0.0 s c.loop-k.invariant.part c.in_err-put_run.ensures)
 
 pub loop-k-preserved : goal.loop-k-preserved
@@ -70,7 +72,7 @@ loop-k-preserved g c =
           rw (w.out-is, w.desk-is, w.run-is)
           (record {
             created = c.loop-k.invariant.created;
-            part = part_same (state c.args.desk.now) (state c.loop-k.desk) c.args.out.now c.loop-k.out all rest (left_bits codes (drop (k + 1) block) (run + 1)) s c.loop-k.invariant.part;
+            part = part_same Puts (state c.args.desk.now) (state c.loop-k.desk) c.args.out.now c.loop-k.out all rest (left_bits codes (drop (k + 1) block) (run + 1)) s c.loop-k.invariant.part;
             few = omega (arith, c.loop-k.invariant.few);
           }))
       | else-value-eq0+in_ok-put_run w ↦
@@ -79,7 +81,7 @@ loop-k-preserved g c =
           rw (w.out-is, w.desk-is, w.run-is)
           (record {
             created = w.in_ok-put_run.ensures.kept.output_created ∙ c.loop-k.invariant.created;
-            part = part_then (state c.args.desk.now) (state c.loop-k.desk) (state w.put_run.new.desk) c.args.out.now c.loop-k.out w.put_run.new.out all rest (run_bits codes run v)
+            part = part_then Puts of_bits (state c.args.desk.now) (state c.loop-k.desk) (state w.put_run.new.desk) c.args.out.now c.loop-k.out w.put_run.new.out all rest (run_bits codes run v)
                 (left_bits codes (drop (k + 1) block) 0) s c.loop-k.invariant.part w.in_ok-put_run.ensures;
             few = omega arith;
           }))
@@ -91,7 +93,7 @@ returns-then-run-gt0 g c =
     let codes = symbol_codes c.args.ac.now in
     let block = c.args.block.now in
     let s = left_end codes block c.loop-k.k c.loop-k.run (omega (arith, c.loop-k-test.false, c.long.ensures)) ∙ left_zeros codes c.loop-k.run (omega (arith, c.if-run-gt0.true)) in
-    part_last (state c.args.desk.now) (state c.loop-k.desk) (state c.put_code.new.desk) c.args.out.now c.loop-k.out c.put_code.new.out (band_bits codes (drop 1 block)) (left_bits codes (drop c.loop-k.k block) c.loop-k.run)
+    part_last Puts of_bits (state c.args.desk.now) (state c.loop-k.desk) (state c.put_code.new.desk) c.args.out.now c.loop-k.out c.put_code.new.out (band_bits codes (drop 1 block)) (left_bits codes (drop c.loop-k.k block) c.loop-k.run)
     (code_of codes 0) c.put_code.result s c.loop-k.invariant.part c.put_code.ensures
 
 pub returns-else-run-gt0 : goal.returns-else-run-gt0
@@ -100,4 +102,4 @@ returns-else-run-gt0 g c =
     let codes = symbol_codes c.args.ac.now in
     let block = c.args.block.now in
     let s = left_end codes block c.loop-k.k c.loop-k.run (omega (arith, c.loop-k-test.false, c.long.ensures)) ∙ left_none codes c.loop-k.run (omega (arith, c.if-run-gt0.false)) in
-    part_end (state c.args.desk.now) (state c.loop-k.desk) c.args.out.now c.loop-k.out (band_bits codes (drop 1 block)) (left_bits codes (drop c.loop-k.k block) c.loop-k.run) s c.loop-k.invariant.part
+    part_end Puts (state c.args.desk.now) (state c.loop-k.desk) c.args.out.now c.loop-k.out (band_bits codes (drop 1 block)) (left_bits codes (drop c.loop-k.k block) c.loop-k.run) s c.loop-k.invariant.part

@@ -8,7 +8,7 @@ use Rattle.jpg_spec.specs.Numbers.{category, extra_bits}
 use Rattle.jpg_spec.specs.ScanText.{code_of}
 use Rattle.jpg_huff.specs.Tables.{symbol_codes}
 use Rattle.jpg_seq.specs.PlainText.{band_bits, block_bits}
-use Rattle.jpg_seq.proofs.HasPut.{put_same, put_then, put_fault}
+use Rattle.jpg_huff.proofs.Together.{puts_same, puts_then, puts_fault}
 use Rattle.jpg_seq.proofs.write.put_block.Goals as goal
 
 pub returns : goal.returns
@@ -24,8 +24,8 @@ returns g c =
     let e : w ≡ d = to_z-of_z w32 c.difference-value.result f ∙ c.difference-value.ensures
     ∙ ap (λ x. x -ℤ to_z w16 (of_z w16 c.args.prediction)) (to_z-of_z w16 c.get.result fv ∙ c.get.ensures.value) ∙ ap (λ x. slice_index_or c.args.block.now 0 (pos 0) -ℤ x) (to_z-of_z w16 c.args.prediction fp) in
     let q = ap (λ n. code_of dc n ++ extra_bits w) c.category.ensures.category ∙ ap (λ x. code_of dc (category x) ++ extra_bits x) e in
-    put_then (state c.args.desk.now) (state c.put_value.new.desk) (state c.put_band.new.desk) c.args.out.now c.put_value.new.out c.put_band.new.out (code_of dc (category d) ++ extra_bits d)
-    (band_bits (symbol_codes c.args.ac.now) (drop 1 c.args.block.now)) c.put_band.result (put_same _ _ _ _ _ _ _ q c.in_ok-put_value.ensures) c.put_band.ensures
+    puts_then (state c.args.desk.now) (state c.put_value.new.desk) (state c.put_band.new.desk) c.args.out.now c.put_value.new.out c.put_band.new.out (code_of dc (category d) ++ extra_bits d)
+    (band_bits (symbol_codes c.args.ac.now) (drop 1 c.args.block.now)) c.put_band.result (puts_same _ _ _ _ _ _ _ q c.in_ok-put_value.ensures) c.put_band.ensures
 
 pub returns-in_err-put_value : goal.returns-in_err-put_value
 unfolding block_bits
@@ -41,5 +41,5 @@ returns-in_err-put_value g c =
     ∙ ap (λ x. x -ℤ to_z w16 (of_z w16 c.args.prediction)) (to_z-of_z w16 c.get.result fv ∙ c.get.ensures.value) ∙ ap (λ x. slice_index_or c.args.block.now 0 (pos 0) -ℤ x) (to_z-of_z w16 c.args.prediction fp) in
     let q = ap (λ n. code_of dc n ++ extra_bits w) c.category.ensures.category ∙ ap (λ x. code_of dc (category x) ++ extra_bits x) e in
     let back = err_from_is_err_and c.from_residual.result c.from_residual.ensures.1 in
-    rw (back.1, back.2) (put_fault (state c.args.desk.now) (state c.put_value.new.desk) c.args.out.now c.put_value.new.out (code_of dc (category d) ++ extra_bits d) (band_bits (symbol_codes c.args.ac.now) (drop 1 c.args.block.now)) c.in_err-put_value.field-0.0
-    (put_same _ _ _ _ _ _ _ q c.in_err-put_value.ensures))
+    rw (back.1, back.2) (puts_fault (state c.args.desk.now) (state c.put_value.new.desk) c.args.out.now c.put_value.new.out (code_of dc (category d) ++ extra_bits d) (band_bits (symbol_codes c.args.ac.now) (drop 1 c.args.block.now)) c.in_err-put_value.field-0.0
+    (puts_same _ _ _ _ _ _ _ q c.in_err-put_value.ensures))

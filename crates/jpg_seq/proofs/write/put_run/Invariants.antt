@@ -1,7 +1,8 @@
 use Rattle.std.specs.Prelude.{◌≡◌, true}
 use Rattle.jpg_huff.specs.Tables.{symbol_codes}
 use Rattle.jpg_seq.specs.PlainText.{run_bits}
-use Rattle.jpg_seq.proofs.HasPut.{IsPart}
+use Rattle.jpg_huff.specs.BitOut.{Puts}
+use Rattle.jpg_huff.proofs.InParts.{DoneButFor}
 use Rattle.jpg_seq.proofs.write.put_run.Given as goal
 
 abbrev pub invariant-loop-left : goal.invariant-loop-left
@@ -9,7 +10,7 @@ invariant-loop-left g l =
     let state = g.D.Desk.state in
     record {
       created : (state l.desk).output_created ≡ true;
-      part : IsPart (state l.fn.desk) l.fn.out (run_bits (symbol_codes l.ac) l.fn.run l.fn.value) (run_bits (symbol_codes l.ac) l.left l.fn.value) l.out (state l.desk);
+      part : DoneButFor Puts (state l.fn.desk) l.fn.out (run_bits (symbol_codes l.ac) l.fn.run l.fn.value) (run_bits (symbol_codes l.ac) l.left l.fn.value) l.out (state l.desk);
     }
 
 abbrev pub decreases-loop-left : goal.decreases-loop-left

@@ -1,12 +1,9 @@
 use Rattle.std.proofs.Common.{arith, List, ℕ, ◌<◌, ◌^◌, length, sym, subst}
 use Rattle.jpg_spec.specs.Segments.{standard_limits}
-use Rattle.jpg_spec.specs.Script.{sequential_script}
 use Rattle.jpg_spec.specs.FileMeaning.{Means}
-use Rattle.jpg_spec.specs.FileText.{frame_of_meaning}
-use Rattle.jpg_spec.proofs.WrittenFront.{standard_are_limits, frame_is}
-use Rattle.jpg_spec.proofs.WrittenScripts.{sequential_passes}
+use Rattle.jpg_spec.proofs.WrittenFront.{standard_are_limits}
 use Rattle.jpg_spec.proofs.WrittenMeans.{sequential_means}
-use Rattle.jpg_spec.proofs.FileLength.{sequential_short}
+use Rattle.jpg_spec.proofs.FileLength.{sequential_short, own_means}
 use Rattle.jpg_spec.proofs.written_laws.sequential_files_are_short.Goals as goal
 
 pub returns-clause-short : goal.returns-clause-short
@@ -21,10 +18,4 @@ returns-clause-means c = λ H bytes is.
     (sequential_means standard_limits H w.script w.restart standard_are_limits w.file.headed w.file.sequential w.file.passes is.small (omega (arith, short)))
 
 pub returns-clause-own : goal.returns-clause-own
-returns-clause-own c = λ H bytes w.
-    let f = frame_of_meaning H in
-    let script = sequential_script f in
-    let passes = sequential_passes f (frame_is standard_limits f f standard_are_limits w.headed.frame) in
-    let short = sequential_short standard_limits H script w.restart standard_are_limits w.headed w.sequential passes in
-    subst (λ (l : List ℕ). Means standard_limits l H) (sym w.text)
-    (sequential_means standard_limits H script w.restart standard_are_limits w.headed w.sequential passes w.small (omega (arith, short)))
+returns-clause-own c = own_means

@@ -8,7 +8,7 @@ use Rattle.jpg_spec.specs.declared.frame.ScanPart.{ScanPart}
 use Rattle.jpg_spec.specs.declared.frame.Place.{Place}
 use Rattle.jpg_spec.specs.declared.frame.Grid.{Grid}
 use Rattle.jpg_base.specs.declared.cursor.CursorPart.{CursorPart}
-use Rattle.jpg_base.specs.Cursor.{part_of, lone_part, spot_of}
+use Rattle.jpg_base.specs.Cursor.{cursor_part_of, lone_part, spot_of}
 use Rattle.std.proofs.Math.Nat.{mod-lt}
 use Rattle.jpg_base.proofs.UnitCounts.{some_factors, several_below, several_unit, mcu_from}
 use Rattle.jpg_base.proofs.InMcu.{ids_there}

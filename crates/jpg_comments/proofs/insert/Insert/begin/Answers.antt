@@ -3,7 +3,7 @@ use Rattle.std.proofs.lemmas.List.{take_rest}
 use Rattle.std.proofs.lemmas.Result.{err_from_is_err_and}
 use Rattle.jpg_markers.specs.Reading.{reading_of}
 use Rattle.jpg_comments.specs.Appending.{AppendsText}
-use Rattle.jpg_comments.specs.Inserting.{AfterHeadPiece, Copies, InsertsUpTo}
+use Rattle.jpg_comments.specs.Inserting.{AfterHeadPiece, CopiesRest, InsertsUpTo}
 use Rattle.jpg_comments.proofs.Taken.{appends_none, appends_as}
 use Rattle.jpg_comments.proofs.HeadByPieces.{AfterCopy, whole_head}
 use Rattle.jpg_comments.proofs.InsertedPieces.{StandsWith, kept_of, by_limits, stops_before, goes_on_before, head_at, stops_at_head, copies_rest, goes_on_behind}
@@ -61,7 +61,7 @@ returns-in_err-taken-clause-answered c = λ comment bytes text h.
     ap (λ l. whole_head l c.as_slice-2.result.now c.code.result) c.as_slice.ensures ∙ ap (λ l. whole_head head l c.code.result) c.as_slice-2.ensures ∙ ap (λ n. whole_head head self.segment n) c.code.ensures in
     let wrote = c.in_ok-write_head.ensures ∙ ap (λ l. c.args.out.now ++ l) is in
     rw (back.1, back.2) (copies_rest self.limits comment self.replace bytes piece text head self.segment c.args.out.now c.write_head.new.out c.copy.new.out used c.taken.result self.limits.input next (Err c.in_err-taken.field-0.0) refl k.1 h.2 after wrote c.taken.ensures
-    (subst (λ l. Copies c.taken.result self.limits.input l (Err c.in_err-taken.field-0.0) c.write_head.new.out c.copy.new.out) (take_rest piece used) c.in_err-taken.ensures))
+    (subst (λ l. CopiesRest c.taken.result self.limits.input l (Err c.in_err-taken.field-0.0) c.write_head.new.out c.copy.new.out) (take_rest piece used) c.in_err-taken.ensures))
 
 pub returns-clause-answered : goal.returns-clause-answered
 returns-clause-answered c = λ comment bytes text h.
@@ -77,5 +77,5 @@ returns-clause-answered c = λ comment bytes text h.
     let wrote = c.in_ok-write_head.ensures ∙ ap (λ l. c.args.out.now ++ l) is in
     appends_as (λ all. AfterCopy self.limits comment self.replace (bytes ++ piece) all (Ok c.in_ok-taken.taken)) (λ all. StandsWith self.limits comment self.replace self.stop self.segment (bytes ++ piece) all (Some c.in_ok-taken.taken) head next) text c.args.out.now c.copy.new.out
     (copies_rest self.limits comment self.replace bytes piece text head self.segment c.args.out.now c.write_head.new.out c.copy.new.out used c.taken.result self.limits.input next (Ok c.in_ok-taken.taken) refl k.1 h.2 after wrote c.taken.ensures
-    (subst (λ l. Copies c.taken.result self.limits.input l (Ok c.in_ok-taken.taken) c.write_head.new.out c.copy.new.out) (take_rest piece used) c.in_ok-taken.ensures))
+    (subst (λ l. CopiesRest c.taken.result self.limits.input l (Ok c.in_ok-taken.taken) c.write_head.new.out c.copy.new.out) (take_rest piece used) c.in_ok-taken.ensures))
     (λ all done. goes_on_behind comment bytes piece all head c.in_ok-taken.taken self next h.0 h.2 done)

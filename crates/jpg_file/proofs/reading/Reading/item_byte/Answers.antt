@@ -2,8 +2,8 @@ use Rattle.std.proofs.Common.{◌∙◌, ◌+◌, ◌∷◌, [], ℕ, ap, arith}
 use Rattle.std.proofs.lemmas.List.{length-append}
 use Rattle.jpg_file.proofs.reading.Reading.item_byte.Goals as goal
 
-pub returns : goal.returns
-returns c = λ bytes items blocks k. record {
+pub returns-clause-after : goal.returns-clause-after
+returns-clause-after c = λ bytes items blocks k. record {
   after = c.byte.ensures.after bytes items blocks k.at;
   none = k.none;
   count = omega (arith, k.count, length-append bytes (c.args.byte ∷ []));

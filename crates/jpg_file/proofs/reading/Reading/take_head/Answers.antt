@@ -1,15 +1,17 @@
-use Rattle.std.proofs.Common.{◌∙◌, List, Ok, Err, map, refl, ap, arith}
-use Rattle.std.specs.Prelude.{◌||◌}
+use Rattle.std.proofs.Common.{◌≡◌, ◌∙◌, Bool, List, Ok, Err, true, false, subst, sym, map, refl, ap, arith}
+use Rattle.std.specs.Prelude.{◌||◌, is_none, slice_index_or}
 use Rattle.jpg_spec.specs.Lists.{is_among}
-use Rattle.jpg_spec.specs.Geometry.{Frame}
-use Rattle.jpg_spec.specs.InForce.{head_in}
+use Rattle.jpg_spec.specs.Geometry.{Frame, component_at}
+use Rattle.jpg_spec.specs.InForce.{first_some, head_in}
+use Rattle.jpg_spec.specs.QuantContents.{Slots, quant_in}
 use Rattle.jpg_spec.specs.Items.{segments_of}
 use Rattle.jpg_spec.specs.declared.frame.ScanPart.{ScanPart}
-use Rattle.jpg_file.specs.Begun.{begun_at}
-use Rattle.jpg_spec.specs.Segments.{ScanHead}
+use Rattle.jpg_file.specs.Begun.{begun_at, quant_named}
+use Rattle.jpg_file.specs.Held.{told_by}
+use Rattle.jpg_spec.specs.Segments.{ScanHead, head_components}
 use Rattle.jpg_markers.specs.Reading.{reading_of}
 use Rattle.jpg_file.specs.Reading.{waiting}
-use Rattle.jpg_file.proofs.Beginnings.{begun_more}
+use Rattle.jpg_file.proofs.Beginnings.{begun_more, table_there}
 use Rattle.jpg_file.proofs.HeadTaken.{found, judged, head_begins, head_shows}
 use Rattle.jpg_file.proofs.reading.Reading.take_head.Goals as goal
 
@@ -44,10 +46,9 @@ returns-in-Ok c = λ bytes items blocks k.
     let w = found r.items.limits bytes items blocks r b f c.in-Some.held q k c.in-Some.is c.copy-frame.ensures c.in-Some-coefs.is in
     let j = judged r.items.limits bytes items blocks r b f q c.contents.result.now (Ok head) w c.contents.ensures c.in-Ok.ensures in
     let begins = head_begins r.items.limits bytes items blocks r b f q head w j in
-    let same = c.as_slice.ensures.value ∙ ap (λ (h : ScanHead). h.parts) c.head.view_is in (
+    let slots : Slots = (told_by r.items.held).quants in
+    let same = c.as_slice-parts.ensures.value ∙ ap (λ (h : ScanHead). h.parts) c.head.view_is in (
       record {
-        items = items;
-        contents = contents;
         coefs = q;
         has = c.in-Some-coefs.is;
         scan = c.begin_scan-scan.result;
@@ -57,6 +58,15 @@ returns-in-Ok c = λ bytes items blocks k.
         count = k.count;
         behind = omega (arith, k.same, c.head_done.ensures.same, ap waiting c.begin_scan-scan.ensures.gate);
       },
-      begun_more r.items.limits b c.note.new.self (segments_of items) contents head (ap (λ (g : Frame). head_in g contents) (begins.header).framed ∙ (begins.header).header)
-          (λ i. c.note.ensures i ∙ ap (λ (l : List ScanPart). begun_at b i || is_among i (map (λ (p : ScanPart). p.component) l)) same) k.begun,
+      begun_more r.items.limits b c.note.new.self (segments_of items) contents head slots (ap (λ (g : Frame). head_in g contents) (begins.header).framed ∙ (begins.header).header)
+          ((k.segment).holds).quants
+          (record {
+            seen = λ i. c.note.ensures.seen i ∙ ap (λ (s : List Bool). slice_index_or s i false || is_among i (map (λ (p : ScanPart). p.component) c.as_slice-parts.result.now)) c.note_quants.ensures.seen
+                ∙ ap (λ (l : List ScanPart). begun_at b i || is_among i (map (λ (p : ScanPart). p.component) l)) same;
+            quants = λ i. ap (λ (s : Slots). quant_in s i) c.note.ensures.quants ∙ c.note_quants.ensures.quants i
+                ∙ ap (λ (l : List ScanPart). first_some (quant_in b.quants i) (quant_named f slots l i)) same
+                ∙ ap (λ (g : Frame). first_some (quant_in b.quants i) (quant_named g slots head.parts i)) (sym (begins.header).framed);
+            tables = λ i. subst (λ (g : Frame). is_among i (head_components head) ≡ true → is_none (quant_in slots (component_at g i).quant) ≡ false) (sym (begins.header).framed) (table_there (told_by r.items.held) f head.parts i j.3);
+          })
+          k.begun,
     )

@@ -1,6 +1,6 @@
 use Rattle.std.proofs.Common.{refl}
 use Rattle.jpg_spec.specs.ScanReading.{with_interval}
-use Rattle.jpg_file.proofs.ScanBytes.{short_marker, last_marker, wrong_marker, right_marker}
+use Rattle.jpg_file.proofs.ScanBytes.{short_marker, last_marker, last_framed, wrong_marker, right_marker}
 use Rattle.jpg_file.proofs.scan.ScanWork.marker.Goals as goal
 
 pub next_interval-requires : goal.next_interval-requires
@@ -14,7 +14,7 @@ pub returns-then-not-self : goal.returns-then-not-self
 returns-then-not-self c = λ limits p bytes m. short_marker limits bytes p m.fill c.args.code c.args.self.now c.args.coefs.now m.no_zero m.no_fill m.at c.if-not-self.true m.work
 
 pub returns-then-self-eq0 : goal.returns-then-self-eq0
-returns-then-self-eq0 c = λ limits p bytes m. (refl, last_marker limits p c.args.self.now c.args.coefs.now c.if-not-self.false c.if-self-eq0.true m.work)
+returns-then-self-eq0 c = λ limits p bytes m. (refl, last_framed limits p c.args.self.now c.args.coefs.now c.if-not-self.false m.work, last_marker limits p c.args.self.now c.args.coefs.now c.if-not-self.false c.if-self-eq0.true m.work)
 
 pub returns-then-code-self : goal.returns-then-code-self
 returns-then-code-self c = λ limits p bytes m.

@@ -12,7 +12,7 @@ returns-in-Some c =
     (look_eight (symbol_codes c.self.inside.table) c.args.bits.now c.peek.result c.in-Some.found (omega arith) c.peek.ensures.value (c.in-Some.ensures (symbol_codes c.self.inside.table) c.self.invariant))
 
 pub returns-in-None : goal.returns-in-None
-returns-in-None c = subst (λ (b : List Bool). Spots c.args.self.now b c.walked.result) c.copy.ensures c.walked.ensures
+returns-in-None c = subst (λ (b : List Bool). Spots c.args.self.now b c.long.result) c.copy.ensures c.long.ensures
 
 pub returns-else-have-ge8 : goal.returns-else-have-ge8
 returns-else-have-ge8 c = subst (λ (b : List Bool). Spots c.args.self.now b c.few.result) c.copy-else-have-ge8.ensures c.few.ensures

@@ -2,9 +2,9 @@ use Rattle.std.proofs.Common.{◌%◌, ◌-◌, arith}
 use Rattle.jpg_huff.proofs.Putting.{pad_number, pads}
 use Rattle.jpg_huff.proofs.out.BitOut.pad.Goals as goal
 
-pub returns-clause-pads : goal.returns-clause-pads
-returns-clause-pads g c =
+pub returns : goal.returns
+returns g c =
     let state = g.D.Desk.state in
     let w = c.self.inside in
     let e = pad_number w.word w.count ((8 - w.count % 8) % 8) c.self.invariant.1 c.self.invariant.0 (omega arith) in
-    pads (state c.args.desk.now) (state c.push_bits.new.desk) c.args.self.now w.buffer c.push_bits.new.self c.push_bits.result w.word w.count _ c.self.view_is e c.push_bits.ensures.emits
+    pads (state c.args.desk.now) (state c.push_bits.new.desk) c.args.self.now w.buffer c.push_bits.new.self c.push_bits.result w.word w.count _ c.self.view_is e c.push_bits.ensures.kept c.push_bits.ensures.emits

@@ -1,6 +1,6 @@
 use Rattle.std.proofs.Common.{◌-◌, ◌++◌, ◌∷◌, [], List, ℕ, Ok, arith, sym, subst}
 use Rattle.jpg_markers.specs.declared.segments.SegStep.TheVariants as step
-use Rattle.jpg_markers.specs.Reading.{Comes, reading_of, IsWhole}
+use Rattle.jpg_markers.specs.Reading.{Comes, reading_of, HasWholeSegment}
 use Rattle.jpg_markers.proofs.Taking.{content_more, content_whole}
 use Rattle.jpg_markers.proofs.segments.SegmentReader.content_byte.Goals as goal
 
@@ -13,5 +13,5 @@ returns-then-self-gt1-clause-goes c = λ bytes before s.
 pub returns-else-self-gt1-clause-goes : goal.returns-else-self-gt1-clause-goes
 returns-else-self-gt1-clause-goes c = λ bytes before s.
     let r = reading_of c.args.self.now in
-    let P : List ℕ → Type 0 = λ xs. IsWhole (bytes ++ c.args.byte ∷ []) before (record r { contents = xs }) in
+    let P : List ℕ → Type 0 = λ xs. HasWholeSegment (bytes ++ c.args.byte ∷ []) before (record r { contents = xs }) in
     c.whole.ensures.goes (bytes ++ c.args.byte ∷ []) before s.0 (subst P (sym c.in-Ok.ensures.items) (content_whole r bytes before c.args.byte c.requires s (omega (arith, c.if-self-gt1.false))))

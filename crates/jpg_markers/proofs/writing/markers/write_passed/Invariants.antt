@@ -1,14 +1,14 @@
-use Rattle.std.specs.Prelude.{◌≡◌, [], true, drop, filter}
+use Rattle.std.specs.Prelude.{drop, filter}
 use Rattle.jpg_spec.specs.FileText.{kept_text}
 use Rattle.jpg_markers.specs.Passed.{is_passed}
-use Rattle.jpg_markers.proofs.Sent.{IsPart}
+use Rattle.jpg_huff.specs.BitOut.{CanSend, Sends}
+use Rattle.jpg_huff.proofs.InParts.{DoneButFor}
 use Rattle.jpg_markers.proofs.writing.markers.write_passed.Given as goal
 
 abbrev pub invariant-loop-i : goal.invariant-loop-i
 invariant-loop-i g l =
     let state = g.D.Desk.state in
     record {
-      created : (state l.desk).output_created ≡ true;
-      none : l.out.bits ≡ [];
-      part : IsPart (state l.fn.desk) l.fn.out (kept_text (filter (is_passed l.copying l.colour) l.kept)) (kept_text (filter (is_passed l.copying l.colour) (drop l.i l.kept))) l.out (state l.desk);
+      can : CanSend (state l.desk) l.out;
+      part : DoneButFor Sends (state l.fn.desk) l.fn.out (kept_text (filter (is_passed l.copying l.colour) l.kept)) (kept_text (filter (is_passed l.copying l.colour) (drop l.i l.kept))) l.out (state l.desk);
     }

@@ -1,6 +1,6 @@
 use Rattle.std.proofs.Common.{sym, subst, ◌++◌}
 use Rattle.jpg_prog_read.specs.InWork.{InWork}
-use Rattle.jpg_prog_read.specs.Stands.{Between}
+use Rattle.jpg_prog_read.specs.Stands.{BetweenUnits}
 use Rattle.jpg_prog_read.proofs.Passing.{old_opened, zero_in, ends_run, long_ended, value_not_ended}
 use Rattle.jpg_prog_read.proofs.band.BandReader.advance.Goals as goal
 
@@ -21,7 +21,7 @@ returns-in-Ends-clause-answered c = λ ac at bits k f.
 
 pub returns-in-Long-stage-clause-answered : goal.returns-in-Long-stage-clause-answered
 returns-in-Long-stage-clause-answered c = λ ac at bits k f.
-    subst (λ (n : InWork). Between at.coding at.units (at.told ++ n.done) at.others bits n) (sym c.end_element.ensures)
+    subst (λ (n : InWork). BetweenUnits at.coding at.units (at.told ++ n.done) at.others bits n) (sym c.end_element.ensures)
     (long_ended at bits c.skip.new.self (sym c.in-Long-stage.ensures) c.in-AtEnd.ensures.at (c.in-AtEnd.ensures.stands at bits (zero_in at.coding c.args.scan.now.most_magnitude k.bounds) f))
 
 pub returns-in-Value-stage-clause-answered : goal.returns-in-Value-stage-clause-answered

@@ -1,8 +1,8 @@
 use Rattle.std.proofs.Common.{sym, subst, take, ◌≤◌, arith}
 use Rattle.jpg_huff.specs.Tables.{symbol_codes}
 use Rattle.jpg_prog_read.specs.Machine.{Machine}
-use Rattle.jpg_prog_read.specs.Stands.{IsCodingOf, Between}
-use Rattle.jpg_prog_read.specs.Interval.{place_of, units_of, bands, Rests, IsResting}
+use Rattle.jpg_prog_read.specs.Stands.{IsCodingOf, BetweenUnits}
+use Rattle.jpg_prog_read.specs.Interval.{place_of, units_of_blocks, bands, Rests, IsResting}
 use Rattle.jpg_prog_read.proofs.Units.{unit_loaded, units_next}
 use Rattle.jpg_prog_read.proofs.interval.BandMachine.load.Goals as goal
 
@@ -18,4 +18,4 @@ returns-clause-read c = λ d i before bits k r.
     let n = units_next v.scan i v.at now c.get-block.result (omega (arith, s.left, some)) c.get-block.ensures in
     unit_loaded d i before bits now m c.start.new.self c.start.result r'
     (c.start.ensures.answered (symbol_codes v.table) (place_of d i before now m) bits k'
-    (subst (λ us. Between d (units_of v.scan i before) (bands v.scan (take v.at now)) us bits v.unit) n r'.between))
+    (subst (λ us. BetweenUnits d (units_of_blocks v.scan i before) (bands v.scan (take v.at now)) us bits v.unit) n r'.between))

@@ -71,8 +71,8 @@ skip-requires-in-Zeros c =
     let lt = part_shorter e s.values s.part (take 32 store) c.in-Zeros.length c.requires.work.part h.1 h.2.ends in
     omega (arith, a, lt, h.1, length-append s.part (take 32 store), length-take 32 store)
 
-pub returns-in-Part : goal.returns-in-Part
-returns-in-Part c =
+pub returns-in-Part-clause-takes : goal.returns-in-Part-clause-takes
+returns-in-Part-clause-takes c =
     let e : Env = env_in c.args.bounds.now c.args.coder.now c.args.prediction in let s = c.args.self.now in let store = c.args.store.now in
     let x = to_z-of_z w16 c.args.prediction (search rules) in
     let j = c.joined-bits.ensures in let a : c.waiting-have.result ≡ length s.part = c.waiting-have.ensures in
@@ -80,8 +80,8 @@ returns-in-Part c =
     let P : List Bool → Type 0 = λ b. IsPartOf e s.values b in
     part_takes e s c.keep.new.self store c.keep.new.store c.requires.work (subst P (all_there s.part store h.1) h.0) c.keep.ensures.work c.keep.ensures.empty
 
-pub returns-in-Bad : goal.returns-in-Bad
-returns-in-Bad c =
+pub returns-in-Bad-clause-takes : goal.returns-in-Bad-clause-takes
+returns-in-Bad-clause-takes c =
     let e : Env = env_in c.args.bounds.now c.args.coder.now c.args.prediction in let s = c.args.self.now in let store = c.args.store.now in
     let x = to_z-of_z w16 c.args.prediction (search rules) in
     let j = c.joined-bits.ensures in let a : c.waiting-have.result ≡ length s.part = c.waiting-have.ensures in
@@ -89,8 +89,8 @@ returns-in-Bad c =
     let lt = part_shorter e s.values s.part (take 32 store) c.in-Bad.length c.requires.work.part h.1 h.2.ends in
     shown_takes e s s store c.skip.new.self c.in-Bad.length c.in-Bad.fault c.requires.work h.1 h.2 (c.skip.ensures ∙ ap (λ (n : ℕ). drop (c.in-Bad.length - n) store) a)
 
-pub returns-in-Value : goal.returns-in-Value
-returns-in-Value c =
+pub returns-in-Value-clause-takes : goal.returns-in-Value-clause-takes
+returns-in-Value-clause-takes c =
     let e : Env = env_in c.args.bounds.now c.args.coder.now c.args.prediction in let s = c.args.self.now in let store = c.args.store.now in
     let x = to_z-of_z w16 c.args.prediction (search rules) in
     let j = c.joined-bits.ensures in let a : c.waiting-have.result ≡ length s.part = c.waiting-have.ensures in
@@ -101,8 +101,8 @@ returns-in-Value c =
     (c.skip-in-Value.ensures ∙ ap (λ (n : ℕ). drop (c.in-Value.length - n) store) a)
     (rw (to_z-of_z w16 c.in-Value.value f) at c.place.ensures ∙ ap (λ (w : Work). (let n : Work = record w { values = w.values ++ (zeros c.in-Value.run' ++ c.in-Value.value ∷ []) } in n)) c.clear.ensures) c.covered.ensures
 
-pub returns-in-Zeros : goal.returns-in-Zeros
-returns-in-Zeros c =
+pub returns-in-Zeros-clause-takes : goal.returns-in-Zeros-clause-takes
+returns-in-Zeros-clause-takes c =
     let e : Env = env_in c.args.bounds.now c.args.coder.now c.args.prediction in let s = c.args.self.now in let store = c.args.store.now in
     let x = to_z-of_z w16 c.args.prediction (search rules) in
     let j = c.joined-bits.ensures in let a : c.waiting-have.result ≡ length s.part = c.waiting-have.ensures in
@@ -111,3 +111,11 @@ returns-in-Zeros c =
     element_takes e s c.cover.new.self store c.skip-in-Zeros.new.self c.in-Zeros.length (zeros c.in-Zeros.count) c.covered-in-Zeros.result c.requires.work h.1 h.2
     (c.skip-in-Zeros.ensures ∙ ap (λ (n : ℕ). drop (c.in-Zeros.length - n) store) a)
     (c.cover.ensures ∙ ap (λ (w : Work). (let n : Work = record w { values = w.values ++ zeros c.in-Zeros.count } in n)) c.clear-in-Zeros.ensures) c.covered-in-Zeros.ensures
+
+pub returns-in-Part-clause-few : goal.returns-in-Part-clause-few
+returns-in-Part-clause-few c = λ is.
+    (let s = c.args.self.now in let store = c.args.store.now in
+    let x = to_z-of_z w16 c.args.prediction (search rules) in
+    let j = c.joined-bits.ensures in
+    let h = rw (x, j) at c.in-Part.ensures in
+    omega (arith, h.1, length-append s.part (take 32 store), length-take 32 store))

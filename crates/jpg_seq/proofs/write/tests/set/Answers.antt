@@ -1,7 +1,7 @@
 use mir.Syntax.{w16}
 use mir.Val.{to_z, of_z}
-use Rattle.jpg_spec.specs.GrayFile.{gray_head, typical_tables}
 use Rattle.jpg_spec.specs.Scan.{scan_coding}
+use Rattle.jpg_spec.specs.ScanText.{gray_head, typical_tables}
 use Rattle.std.proofs.Common.{arith}
 use Rattle.jpg_seq.proofs.Within.{small_of, set_first, set_later, within_set}
 use Rattle.jpg_seq.proofs.write.tests.set.Goals as goal

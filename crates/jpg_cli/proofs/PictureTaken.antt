@@ -1,0 +1,118 @@
+-- What reading pieces of a picture's file comes to, over the states that a desk tells.
+use Rattle.std.proofs.Common.{◌≡◌, ℕ, ◌<◌, List, [], ◌∷◌, ◌++◌, length, take, Option, Result, Ok, Err, refl, sym, ap, ◌∙◌, subst, arith}
+use Rattle.std.specs.Io.KnownBytes.{Consumes, IsAtEnd}
+use Rattle.jpg_base.specs.declared.names.Name.{Name}
+use Rattle.jpg_base.specs.declared.names.Put.TheVariants as put
+use Rattle.jpg_base.specs.declared.names.Got.TheVariants as got
+use Rattle.jpg_base.specs.Desk.{DeskState, Opens, Reads, Rose}
+use Rattle.jpg_base.specs.Laws.{Consumes-then}
+use Rattle.jpg_spec.specs.Segments.{standard_limits}
+use Rattle.jpg_spec.specs.FileStands.{IsWholeFile}
+use Rattle.jpg_spec.specs.Meaning.{Meaning}
+use Rattle.jpg_spec.specs.declared.answers.Why.{Why}
+use Rattle.jpg_spec.specs.declared.answers.Why.TheVariants as why
+use Rattle.jpg_spec.specs.declared.answers.Which.TheVariants as which
+use Rattle.jpg_spec.specs.declared.frame.Limits.{Limits}
+use Rattle.jpg_file.specs.PictureRead.{TakesPicture, picture_meaning}
+use Rattle.jpg_file.specs.ReadFile.{ReaderState}
+use Rattle.jpg_file.specs.declared.picture.Picture.{Picture}
+use Rattle.jpg_cli.specs.Endings.{Stopped}
+use Rattle.jpg_cli.specs.Reading.{IsFile, rest_of}
+use Rattle.jpg_cli.specs.ReadPicture.{AfterFileEnd, AfterNextPiece, AfterTakingPiece, EndsEarly, EndsReading, HasFed, HoldsFile, IsOpenRead, IsRefusedRead, IsShortRead, IsWholeRead, PictureRead, ReadsFrom, Takes}
+use Rattle.jpg_cli.specs.Stays.{OnlyReads}
+use Rattle.jpg_cli.specs.declared.read_picture.PictureStep.{PictureStep}
+use Rattle.jpg_cli.specs.declared.read_picture.PictureStep.TheVariants as step
+use Rattle.jpg_cli.proofs.CommentsCopied.{copies_none, copies_then, left_still, some_taken}
+use Rattle.jpg_cli.proofs.Input.{file_read, none_left, noted}
+use Rattle.jpg_cli.proofs.PictureBytes.{open_so_far}
+
+-- FRAMES
+
+pub reads_then : (a b c : DeskState) → OnlyReads a b → OnlyReads b c → OnlyReads a c
+reads_then a b c h k = record { copies = copies_then a b c h.copies k.copies; outputs = k.outputs ∙ h.outputs }
+
+pub reads_none : (s : DeskState) → OnlyReads s s
+reads_none s = record { copies = copies_none s; outputs = refl }
+
+-- A PIECE
+
+after_piece : (start s1 : DeskState) (bytes piece : List ℕ) (answer : PictureStep) (r : ReaderState) → 0 < length piece → Consumes start.left s1.left (bytes ++ piece) → AfterTakingPiece (bytes ++ piece) answer r → AfterNextPiece start bytes answer r s1
+after_piece start s1 bytes piece step.More r some read h = (piece, some, h, read)
+after_piece start s1 bytes piece step.Whole r some read h = (bytes ++ piece, read, h)
+after_piece start s1 bytes piece (step.Ended why.Done) r some read h = absurd h
+after_piece start s1 bytes piece (step.Ended (why.Usage u)) r some read h = absurd h
+after_piece start s1 bytes piece (step.Ended (why.Refused f)) r some read h = (bytes ++ piece, read, h (rest_of s1.left))
+after_piece start s1 bytes piece (step.Ended (why.OpenFault w)) r some read h = absurd h
+after_piece start s1 bytes piece (step.Ended (why.ReadFault w)) r some read h = absurd h
+after_piece start s1 bytes piece (step.Ended why.WriteFault) r some read h = absurd h
+after_piece start s1 bytes piece (step.Ended why.NoMemory) r some read h = (bytes ++ piece, read, h)
+
+pub piece_taken : (start s0 s1 : DeskState) (n : ℕ) (buf bytes : List ℕ) (answer : PictureStep) (r : ReaderState) → Reads s0 (got.Bytes n) buf s1 → Consumes start.left s0.left bytes → AfterTakingPiece (bytes ++ take n buf) answer r
+    → AfterNextPiece start bytes answer r s1
+piece_taken start s0 s1 n buf bytes answer r read had h =
+    after_piece start s1 bytes (take n buf) answer r (some_taken n buf read.after.0 read.after.1) (Consumes-then start.left s0.left s1.left bytes (take n buf) had read.after.2) h
+
+-- AT THE END
+
+pub piece_end : (start s0 s1 : DeskState) (bytes : List ℕ) (w : Why) → IsAtEnd s0.left → s1.left ≡ s0.left → Consumes start.left s0.left bytes → AfterFileEnd bytes w → EndsEarly start w s1
+piece_end start s0 s1 bytes why.Done end left had h = absurd h
+piece_end start s0 s1 bytes (why.Usage u) end left had h = absurd h
+piece_end start s0 s1 bytes (why.Refused f) end left had h =
+    let none : rest_of s1.left ≡ [] = ap rest_of left ∙ none_left s0.left end in
+    (bytes, left_still s0 s1 bytes start left had, subst (λ (rest : List ℕ). IsRefusedRead f rest bytes) (sym none) h)
+piece_end start s0 s1 bytes (why.OpenFault w) end left had h = absurd h
+piece_end start s0 s1 bytes (why.ReadFault w) end left had h = absurd h
+piece_end start s0 s1 bytes why.WriteFault end left had h = absurd h
+piece_end start s0 s1 bytes why.NoMemory end left had h = absurd h
+
+-- A READ that failed
+pub piece_unread : (start s0 s1 : DeskState) (bytes : List ℕ) (r : ReaderState) → r.limits ≡ standard_limits → HasFed r bytes → OnlyReads start s0 → Consumes start.left s0.left bytes → Rose s0.counts.reads s1.counts.reads → s1.left ≡ s0.left
+    → EndsEarly start (why.ReadFault which.Input) s1
+piece_unread start s0 s1 bytes r e h still had rose left = (
+  (bytes, left_still s0 s1 bytes start left had, open_so_far bytes r e h.read),
+  (let f = still.copies.works.stays.counts.reads in omega (arith, rose, f)),
+)
+
+-- THE PICTURE of the reader's file
+
+pub picture_taken : (s0 s1 : DeskState) (r : ReaderState) (p : Picture) → r.limits ≡ standard_limits → TakesPicture r p → Takes (HoldsFile r) s0 s1 → EndsReading s0 (Ok p) s1
+picture_taken s0 s1 r p e takes (bytes, read, h) =
+    let means : (picture_meaning p) ≡ h.done.meaning = takes (take h.count bytes) h.done in
+    let whole = subst (λ (l : Limits). IsWholeFile l (take h.count bytes) h.done.meaning) e h.done.whole in
+    (bytes, read, record { count = h.count; within = h.within; last = h.last; small = h.small; whole = subst (λ (M : Meaning). IsWholeFile standard_limits (take h.count bytes) M) (sym means) whole })
+
+-- FROM THE NAME
+
+reads_from : (s0 s1 s2 : DeskState) (file : Name) (Is : List ℕ → Type 0) → Opens s0 file put.Done s1 → Takes Is s1 s2 → ReadsFrom file Is s0 s2
+reads_from s0 s1 s2 file Is h (bytes, read, is) = record { bytes = bytes; read = file_read s0.files file s1.left s2.left bytes h.after.2 read; is = is }
+
+stopped_there : (s0 s1 s2 : DeskState) (file : Name) → Opens s0 file put.Done s1 → OnlyReads s1 s2 → Stopped (file ∷ []) put.Done s0 s2
+stopped_there s0 s1 s2 file h k = record { asked = noted s0 s1 s2 file h k; outputs = k.outputs ∙ h.outputs }
+
+ends_early : (s0 s1 s2 : DeskState) (file : Name) (w : Why) → Opens s0 file put.Done s1 → OnlyReads s1 s2 → EndsEarly s1 w s2 → PictureRead file s0 (Err w) s2
+ends_early s0 s1 s2 file why.Done h k e = absurd e
+ends_early s0 s1 s2 file (why.Usage u) h k e = absurd e
+ends_early s0 s1 s2 file (why.Refused f) h k e = (stopped_there s0 s1 s2 file h k, reads_from s0 s1 s2 file (IsRefusedRead f (rest_of s2.left)) h e)
+ends_early s0 s1 s2 file (why.OpenFault w) h k e = absurd e
+ends_early s0 s1 s2 file (why.ReadFault which.Input) h k e = (
+  record { stopped = stopped_there s0 s1 s2 file h k; reads = (let r = e.1 in let f = h.counts.reads in omega arith) },
+  reads_from s0 s1 s2 file IsOpenRead h e.0,
+)
+ends_early s0 s1 s2 file (why.ReadFault which.Script) h k e = absurd e
+ends_early s0 s1 s2 file (why.ReadFault which.Tables) h k e = absurd e
+ends_early s0 s1 s2 file (why.ReadFault which.Comment) h k e = absurd e
+ends_early s0 s1 s2 file (why.ReadFault which.Output) h k e = absurd e
+ends_early s0 s1 s2 file why.WriteFault h k e = absurd e
+ends_early s0 s1 s2 file why.NoMemory h k e = (stopped_there s0 s1 s2 file h k, reads_from s0 s1 s2 file IsShortRead h e)
+
+pub picture_read : (s0 s1 s2 : DeskState) (file : Name) (answer : Result Picture Why) → Opens s0 file put.Done s1 → OnlyReads s1 s2 → EndsReading s1 answer s2 → PictureRead file s0 answer s2
+picture_read s0 s1 s2 file (Ok p) h k e = (noted s0 s1 s2 file h k, reads_from s0 s1 s2 file (IsWholeRead (picture_meaning p)) h e)
+picture_read s0 s1 s2 file (Err w) h k e = ends_early s0 s1 s2 file w h k e
+
+-- what was read of a file stays so where no more of it is read
+pub from_still : (s0 s1 s2 : DeskState) (file : Name) (Is : List ℕ → Type 0) → s2.left ≡ s1.left → ReadsFrom file Is s0 s1 → ReadsFrom file Is s0 s2
+from_still s0 s1 s2 file Is e h = record {
+  bytes = h.bytes;
+  read = (let P : Option (List ℕ) → Type 0 = λ l. IsFile s0.files file (h.bytes ++ rest_of l) in subst P (sym e) h.read);
+  is = h.is;
+}

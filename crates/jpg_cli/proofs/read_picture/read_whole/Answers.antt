@@ -1,0 +1,31 @@
+use Rattle.std.proofs.Common.{rules, [], ◌++◌, ◌<◌, refl}
+use Rattle.std.proofs.lemmas.List.Elements.{All-nil}
+use Rattle.jpg_cli.proofs.CommentsCopied.{none_read}
+use Rattle.jpg_cli.proofs.PictureBytes.{has_fed}
+use Rattle.jpg_cli.proofs.PictureTaken.{reads_none, reads_then}
+use Rattle.jpg_cli.proofs.read_picture.read_whole.Goals as goal
+
+pub loop-why-init : goal.loop-why-init
+loop-why-init g c =
+    let s = g.D.Desk.state c.args.desk.now in
+    record {
+      kept = reads_none s;
+      read = ([], has_fed [] c.args.reader.now c.requires.limits (All-nil (λ b. b < 256)) c.requires.none, none_read s.left);
+      opened = c.requires.open;
+      limits = c.requires.limits;
+      room = refl;
+    }
+
+pub loop-why-preserved : goal.loop-why-preserved
+loop-why-preserved g c =
+    let state = g.D.Desk.state in
+    let start = state c.args.desk.now in
+    let so = c.loop-why.invariant in
+    let after = c.in-More.ensures.after start so.read.0 so.read.1 so.kept so.read.2 in
+    record {
+      kept = reads_then start (state c.loop-why.desk) (state c.next_piece.new.desk) so.kept c.in-More.ensures.kept;
+      read = (so.read.0 ++ after.0, after.2, after.3);
+      opened = c.in-More.ensures.goes_on.0;
+      limits = c.in-More.ensures.limits;
+      room = search rules;
+    }

@@ -1,0 +1,20 @@
+use Rattle.std.specs.Prelude.{◌≡◌, ◌-◌, ◌^◌, List, ℕ, true, length}
+use Rattle.std.specs.Io.KnownBytes.{Consumes}
+use Rattle.jpg_spec.specs.Segments.{standard_limits}
+use Rattle.jpg_cli.specs.ReadPicture.{HasFed}
+use Rattle.jpg_cli.specs.Stays.{OnlyReads}
+use Rattle.jpg_cli.proofs.read_picture.read_whole.Given as goal
+
+abbrev pub invariant-loop-why : goal.invariant-loop-why
+invariant-loop-why g l =
+    let state = g.D.Desk.state in
+    record {
+      kept : OnlyReads (state l.initial.desk) (state l.desk);
+      read : (bytes : List ℕ) × HasFed l.reader bytes × Consumes (state l.initial.desk).left (state l.desk).left bytes;
+      opened : (state l.desk).input_open ≡ true;
+      limits : l.reader.limits ≡ standard_limits;
+      room : length l.buffer ≡ 65536;
+    }
+
+abbrev pub decreases-loop-why : goal.decreases-loop-why
+decreases-loop-why g l = 2 ^ 40 - l.reader.file.reading.taken

@@ -1,0 +1,419 @@
+-- What a byte makes of a file in work.
+use Rattle.std.proofs.Common.{take, ◌<◌, ◌+◌, ◌≡◌, ℕ, ◌≤◌, Bool, true, false, cond, ◌==◌, List, [], ◌∷◌, ◌++◌, length, refl, sym, ap, ◌∙◌, subst, arith, Option, Some, None, Ok, Err, inl, inr}
+use Rattle.std.proofs.lemmas.Bool.Decides.{nat_tests}
+use Rattle.std.proofs.lemmas.List.{length-append, length-take-le}
+use Rattle.std.specs.Prelude.{◌||◌, nat_lt, unwrap_or, option_and_then, slice_index, is_some, is_err, Result}
+use Rattle.jpg_spec.specs.Lists.{all_of, below}
+use Rattle.jpg_spec.specs.Faults.{Told}
+use Rattle.jpg_spec.specs.Geometry.{Frame, is_progressive}
+use Rattle.jpg_spec.specs.FrameHeader.{checked_frame}
+use Rattle.jpg_spec.specs.FrameContents.{frame_header, frame_told}
+use Rattle.jpg_spec.specs.Segments.{two_bytes}
+use Rattle.jpg_spec.specs.Scan.{Blocks}
+use Rattle.jpg_spec.specs.Markers.{Segment, process_of_code, is_frame_code, has_frame, has_scan, code_fault, code_fault_if}
+use Rattle.jpg_spec.specs.InForce.{first_some, frame_after, frame_of, heads_of, no_frame, told_some}
+use Rattle.jpg_spec.specs.History.{has_begun, is_complete}
+use Rattle.jpg_spec.specs.Items.{Item, segment, scan, segments_of, contents_rule}
+use Rattle.jpg_spec.specs.FileMeaning.{Leads}
+use Rattle.jpg_spec.specs.Laws.{frame_of_items}
+use Rattle.jpg_spec.specs.declared.frame.Limits.{Limits}
+use Rattle.jpg_spec.specs.declared.frame.Process.{Process}
+use Rattle.jpg_spec.specs.declared.frame.Process.TheVariants.{Baseline, Extended, Progressive}
+use Rattle.jpg_spec.specs.declared.fault.Fault.TheVariants.{BadLength}
+use Rattle.jpg_spec.proofs.FrameFound.{checks, framed}
+use Rattle.jpg_spec.proofs.FrameBehind as behind
+use Rattle.jpg_spec.proofs.FirstPasses.{all_below}
+use Rattle.jpg_spec.proofs.Common.{clash, not_same, neither, refused, same_of}
+use Rattle.jpg_spec.proofs.SingleFrame.{no_heads}
+use Rattle.jpg_spec.proofs.Untouched.{frame_stays}
+use Rattle.jpg_coefs.specs.Picture.{Picture, map_of}
+use Rattle.jpg_markers.specs.Reading.{reading_of}
+use Rattle.jpg_base.specs.declared.names.NoMemory.{NoMemory as Wanting}
+use Rattle.jpg_spec.specs.declared.answers.FaultAt.{FaultAt}
+use Rattle.jpg_base.specs.declared.stop.Stop.TheVariants as stop
+use Rattle.jpg_file.specs.Begun.{begun_at, HasBegun}
+use Rattle.jpg_file.specs.FirstHead.{HasHead, HasNoHead, IsHeadOf}
+use Rattle.jpg_file.specs.declared.head.Head.{Head}
+use Rattle.jpg_file.specs.Held.{told_by}
+use Rattle.jpg_file.specs.Items.{AddsNoScan, AfterItem, AtPlace, BehindSegment, BetweenItems}
+use Rattle.jpg_file.specs.Reading.{AfterHead, AfterItemByte, AfterScanByte, HeadWhole, Itemising, Scanning, TakesHead, TakesRunOfScan}
+use Rattle.jpg_file.specs.File.{AfterFileByte, AfterFileStep, BesideItems, TakesSome, EndsFile, EndStands, HasRoom, NotesHead, RoomMade, limits_of, HeadStands, PictureMade, PictureSoFar, Stands, StandsBetween, StandsInside}
+use Rattle.jpg_file.specs.declared.begun.Begun.{Begun}
+use Rattle.jpg_file.specs.declared.reading.Reading.{Reading}
+use Rattle.jpg_file.specs.declared.items.ItemStep.{ItemStep}
+use Rattle.jpg_file.specs.declared.items.ItemStep.TheVariants as step
+use Rattle.jpg_file.specs.declared.file.FileWork.{FileWork}
+use Rattle.jpg_file.proofs.Beginnings.{begun_goes_on}
+use Rattle.jpg_file.proofs.Ending.{complete_is}
+use Rattle.jpg_file.proofs.FirstHeads.{between_header, has_longer, has_more, no_head, noted}
+use Rattle.jpg_spec.proofs.Common.{not_same}
+
+-- A FRAME that is no progressive one stays so, with any segment but the header of one
+
+told_process : (limits : Limits) (process : Process) (contents : List ℕ) (f : Frame) → frame_header limits process contents ≡ Ok f → f.process ≡ process
+told_process limits process [] f e = cc
+told_process limits process (p ∷ []) f e = cc
+told_process limits process (p ∷ y1 ∷ []) f e = cc
+told_process limits process (p ∷ y1 ∷ y0 ∷ []) f e = cc
+told_process limits process (p ∷ y1 ∷ y0 ∷ x1 ∷ []) f e = cc
+told_process limits process (p ∷ y1 ∷ y0 ∷ x1 ∷ x0 ∷ []) f e = cc
+told_process limits process (p ∷ y1 ∷ y0 ∷ x1 ∷ x0 ∷ count ∷ parts) f e =
+    let g = frame_told process p (two_bytes y1 y0) (two_bytes x1 x0) parts in
+    let r = refused BadLength _ (checked_frame limits g) f e in
+    sym (ap (λ (h : Frame). h.process) (checks limits g f r.1).1)
+
+plain_code : (code : ℕ) (p : Process) → (code ≡ 0xc2 → ⊥) → process_of_code code ≡ Some p → is_progressive p ≡ false
+plain_code code p other e = by (code == 0xc0) (code == 0xc1) (code == 0xc2) refl e
+  where
+    by : (a b c : Bool) → (code == 0xc2) ≡ c → cond a (Some Baseline) (cond b (Some Extended) (cond c (Some Progressive) None)) ≡ Some p → is_progressive p ≡ false
+    by true b c h k = ap (λ (o : Option Process). is_progressive (unwrap_or o Baseline)) (sym k)
+    by false true c h k = ap (λ (o : Option Process). is_progressive (unwrap_or o Baseline)) (sym k)
+    by false false true h k = absurd (other (same_of code 0xc2 h))
+    by false false false h k = cc
+
+plain_more : (limits : Limits) (before : List Segment) (code : ℕ) (contents : List ℕ) → (code ≡ 0xc2 → ⊥) → is_progressive (frame_of limits before).process ≡ false → is_progressive (frame_of limits ((code, contents) ∷ before)).process ≡ false
+plain_more limits before code contents other old = at (process_of_code code) (λ p e. plain_code code p other e)
+  where
+    by : (p : Process) (t : Told Frame) → frame_header limits p contents ≡ t → is_progressive p ≡ false → is_progressive (unwrap_or (first_some (told_some t) (frame_after limits before)) no_frame).process ≡ false
+    by p (Err fault) h plain = old
+    by p (Ok f) h plain = ap is_progressive (told_process limits p contents f h) ∙ plain
+
+    at : (o : Option Process) → ((p : Process) → o ≡ Some p → is_progressive p ≡ false)
+        → is_progressive (unwrap_or (first_some (option_and_then (λ process. told_some (frame_header limits process contents)) o) (frame_after limits before)) no_frame).process ≡ false
+    at None plain = old
+    at (Some p) plain = by p (frame_header limits p contents) refl (plain p refl)
+
+-- WHAT IS KEPT BESIDE THE ITEMS goes along with one more
+
+or_right : (a b : Bool) → b ≡ true → (a || b) ≡ true
+or_right true b e = refl
+or_right false b e = e
+
+picture_more : (limits : Limits) (items : List Item) (blocks : Blocks) (code : ℕ) (contents : List ℕ) (q : Option Picture) → (code ≡ 0xda → ⊥) → code_fault (segments_of items) code ≡ None → PictureSoFar limits items blocks q → PictureSoFar limits (segment code contents ∷ items) blocks q
+picture_more limits items blocks code contents None other allowed (unscanned, zero) = (ap (λ b. b || has_scan (segments_of items)) (not_same code 0xda other) ∙ unscanned, zero)
+picture_more limits items blocks code contents (Some q) other allowed (found, is, as_map) =
+    (or_right (is_frame_code code) (has_frame (segments_of items)) found, is ∙ sym (frame_stays limits (segments_of items) code contents found allowed), as_map)
+
+beside_more : (limits : Limits) (bytes : List ℕ) (items : List Item) (blocks : Blocks) (w : FileWork) (code : ℕ) (contents : List ℕ) → (code ≡ 0xda → ⊥) → (code ≡ 0xc2 → ⊥) → Leads limits (segment code contents ∷ items) blocks
+    → BesideItems limits bytes items blocks w → BesideItems limits bytes (segment code contents ∷ items) blocks w
+beside_more limits bytes items blocks w code contents other plain leads k = record {
+  picture = picture_more limits items blocks code contents w.reading.coefs other leads.0 k.picture;
+  begun = begun_goes_on limits w.begun items blocks code contents leads.2 leads.0 other k.begun;
+  plain = plain_more limits (segments_of items) code contents plain k.plain;
+  none = k.none;
+  count = k.count;
+  same = k.same;
+  within = k.within;
+  head = has_more limits bytes (segments_of items) code contents w.head other k.head;
+}
+
+some_item : (item : Item) (items : List Item) → item ∷ items ≡ [] → ⊥
+some_item item items e = cc
+
+leads_at : (limits : Limits) (bytes sent : List ℕ) (items : List Item) (blocks : Blocks) (item : Item) → AtPlace limits bytes sent (item ∷ items) blocks → Leads limits (item ∷ items) blocks
+leads_at limits bytes sent items blocks item (inl s) = absurd (some_item item items s.no_items)
+leads_at limits bytes sent items blocks item (inr (tail, k)) = k.leads
+
+goes_along : (limits : Limits) (bytes : List ℕ) (items more : List Item) (blocks : Blocks) (w : FileWork) → AddsNoScan items more → BetweenItems limits bytes more blocks w.reading.items → BesideItems limits bytes items blocks w → BesideItems limits bytes more blocks w
+goes_along limits bytes items more blocks w (inl e) at k = subst (λ (l : List Item). BesideItems limits bytes l blocks w) (sym e) k
+goes_along limits bytes items more blocks w (inr (code, contents, e, other, plain)) at k =
+    let place = subst (λ (l : List Item). AtPlace limits bytes at.sent l blocks) e at.at in
+    subst (λ (l : List Item). BesideItems limits bytes l blocks w) (sym e)
+    (beside_more limits bytes items blocks w code contents other plain (leads_at limits bytes at.sent items blocks (segment code contents) place) k)
+
+-- A BYTE BETWEEN ITEMS, or the marker behind a scan's data
+pub after_item : (limits : Limits) (bytes : List ℕ) (items : List Item) (blocks : Blocks) (answer : ItemStep) (w : FileWork) → BesideItems limits bytes items blocks w → AfterItem limits bytes items blocks answer w.reading.items → AfterFileStep limits bytes answer w
+after_item limits bytes items blocks step.More w k (more, adds, at) = inl (record { items = more; blocks = blocks; at = at; beside = goes_along limits bytes items more blocks w adds at k })
+after_item limits bytes items blocks step.Head w k (at, code) = record { items = items; blocks = blocks; at = at; code = code; beside = k }
+after_item limits bytes items blocks step.Eoi w k at = record { items = items; blocks = blocks; at = at; beside = k }
+after_item limits bytes items blocks step.Progressive w k ends = (ends, k.count)
+after_item limits bytes items blocks (step.Fault f) w k (shown, at) = (shown, at ∙ k.same ∙ k.count)
+after_item limits bytes items blocks step.NoMemory w k none = tt
+
+pub itemising : (limits : Limits) (bytes : List ℕ) (w : FileWork) → (s : StandsBetween limits bytes w) → Itemising limits bytes s.items s.blocks w.reading
+itemising limits bytes w s = record { at = s.at; none = (s.beside).none; count = (s.beside).count; same = (s.beside).same }
+
+pub after_between : (limits : Limits) (bytes more : List ℕ) (answer : ItemStep) (w new : FileWork) → (s : StandsBetween limits bytes w) → AfterItemByte limits (bytes ++ more) s.items s.blocks answer new.reading → new.reading.coefs ≡ w.reading.coefs
+    → new.begun ≡ w.begun → new.head ≡ w.head → length (bytes ++ more) ≤ limits.input → AfterFileStep limits (bytes ++ more) answer new
+after_between limits bytes more answer w new s a coefs begun head within =
+    let k = s.beside in
+    after_item limits (bytes ++ more) s.items s.blocks answer new
+    (record {
+      picture = subst (λ (q : Option Picture). PictureSoFar limits s.items s.blocks q) (sym coefs) k.picture;
+      begun = subst (λ b. HasBegun limits b (segments_of s.items)) (sym begun) k.begun;
+      plain = k.plain;
+      none = a.none;
+      count = a.count;
+      same = a.same;
+      within = within;
+      head = subst (λ h. HasHead limits (bytes ++ more) (segments_of s.items) h) (sym head) (has_longer limits bytes more (bytes ++ more) (segments_of s.items) w.head refl k.head);
+    })
+    a.after
+
+-- A BYTE INSIDE SCAN DATA
+pub after_inside : (limits : Limits) (bytes more : List ℕ) (answer : ItemStep) (w new : FileWork) → (s : StandsInside limits bytes w) → AfterScanByte limits s.items s.contents (bytes ++ more) answer new.reading → new.begun ≡ w.begun → new.head ≡ w.head
+    → length (bytes ++ more) ≤ limits.input → AfterFileStep limits (bytes ++ more) answer new
+after_inside limits bytes more answer w new s (inl (e, at)) begun head within =
+    let before : List Segment = (0xda, s.contents) ∷ segments_of s.items in
+    subst (λ a. AfterFileStep limits (bytes ++ more) a new) (sym e)
+    (inr (record {
+      items = s.items;
+      contents = s.contents;
+      at = at;
+      begun = subst (λ b. HasBegun limits b before) (sym begun) s.begun;
+      plain = s.plain;
+      within = within;
+      head = subst (λ h. HasHead limits (bytes ++ more) before h) (sym head) (has_longer limits bytes more (bytes ++ more) before w.head refl s.head);
+    }))
+after_inside limits bytes more answer w new s (inr (inl d)) begun head within =
+    let all : List Item = scan s.contents d.after.0 ∷ s.items in
+    let place = (s.at).at in
+    let allowed : code_fault (segments_of s.items) 0xda ≡ None = subst (λ (l : List Item). code_fault (segments_of l) 0xda ≡ None) (place.of).0 ((place.at).allowed).0 in
+    after_item limits (bytes ++ more) all (map_of d.coefs) answer new
+    (record {
+      picture = subst (λ (q : Option Picture). PictureSoFar limits all (map_of d.coefs) q) (sym d.has) (framed (segments_of s.items) allowed, d.framed, refl);
+      begun = subst (λ b. HasBegun limits b (segments_of all)) (sym begun) s.begun;
+      plain = s.plain;
+      none = d.none;
+      count = d.count;
+      same = d.same;
+      within = within;
+      head = subst (λ h. HasHead limits (bytes ++ more) (segments_of all) h) (sym head) (has_longer limits bytes more (bytes ++ more) (segments_of all) w.head refl s.head);
+    })
+    d.after.1
+after_inside limits bytes more step.More w new s (inr (inr shown)) begun head within = absurd shown
+after_inside limits bytes more step.Head w new s (inr (inr shown)) begun head within = absurd shown
+after_inside limits bytes more step.Eoi w new s (inr (inr shown)) begun head within = absurd shown
+after_inside limits bytes more step.Progressive w new s (inr (inr shown)) begun head within = absurd shown
+after_inside limits bytes more (step.Fault f) w new s (inr (inr shown)) begun head within = shown
+after_inside limits bytes more step.NoMemory w new s (inr (inr shown)) begun head within = absurd shown
+
+-- A SCAN HEADER, with room for the picture
+
+-- the frame in force is held, and has components
+pub record FrameHeld (limits : Limits) (items : List Item) (held : Option Frame) : Type 0 where
+  pub frame : Frame
+  pub has : held ≡ Some frame
+  pub is : frame_of_items limits items ≡ frame
+  pub some : 1 ≤ length frame.components
+
+not_zero : (n : ℕ) → (n == 0) ≡ false → 1 ≤ n
+not_zero n e = grind (arith, nat_tests)
+
+pub frame_held : (limits : Limits) (bytes : List ℕ) (items : List Item) (blocks : Blocks) (held : Option Frame) → Leads limits items blocks → held ≡ frame_after limits (segments_of items) → has_frame (segments_of items) ≡ true → FrameHeld limits items held
+frame_held limits bytes items blocks held leads same found =
+    let f = behind.frame_behind limits items blocks leads found in
+    record {
+      frame = f.0;
+      has = same ∙ f.1;
+      is = ap (λ (o : Option Frame). unwrap_or o no_frame) f.1;
+      some = not_zero (length (f.0).components) (neither (length (f.0).components == 0) (nat_lt 4 (length (f.0).components)) (f.2).count).0;
+    }
+
+-- the picture there is, of this frame
+record PictureThere (limits : Limits) (items : List Item) (blocks : Blocks) (f : Frame) (q : Option Picture) : Type 0 where
+  pub coefs : Picture
+  pub has : q ≡ Some coefs
+  pub pictured : coefs.frame ≡ f
+  pub as_map : blocks ≡ map_of coefs
+
+picture_there : (limits : Limits) (items : List Item) (blocks : Blocks) (f : Frame) (old new : Option Picture) → frame_of_items limits items ≡ f → PictureSoFar limits items blocks old → PictureMade f old new → PictureThere limits items blocks f new
+picture_there limits items blocks f None new is k made = record { coefs = made.picture; has = made.has; pictured = made.framed; as_map = k.1 ∙ sym made.zero }
+picture_there limits items blocks f (Some q) new is (found, framed, as_map) made = record { coefs = q; has = made; pictured = framed ∙ is; as_map = as_map }
+
+pub head_whole : (limits : Limits) (bytes : List ℕ) (old new : FileWork) → (h : HeadStands limits bytes old) → HasRoom old new → HeadWhole limits bytes h.items h.blocks new.reading new.begun
+head_whole limits bytes old new h room =
+    let k = h.beside in
+    let items = room.items in
+    let allowed = subst (λ n. code_fault (segments_of h.items) n ≡ None) h.code (h.at).allowed in
+    let f = frame_held limits bytes h.items h.blocks old.reading.items.held.frame ((h.at).at).leads ((h.at).holds).frame (framed (segments_of h.items) allowed) in
+    let made = room.picture f.frame f.has in
+    let p = picture_there limits h.items h.blocks f.frame old.reading.coefs new.reading.coefs f.is k.picture made.1 in
+    record {
+      segment = subst (λ i. BehindSegment limits bytes h.items h.blocks i) (sym items) h.at;
+      code = ap (λ i. (reading_of i.segments).code) items ∙ h.code;
+      frame = f.frame;
+      framed = ap (λ i. i.held.frame) items ∙ f.has;
+      is_frame = made.0;
+      plain = subst (λ (g : Frame). is_progressive g.process ≡ false) f.is k.plain;
+      begun = subst (λ b. HasBegun limits b (segments_of h.items)) (sym room.begun) k.begun;
+      coefs = p.coefs;
+      has = p.has;
+      pictured = p.pictured;
+      as_map = p.as_map;
+      count = room.taken ∙ k.count;
+      same = ap (λ i. (reading_of i.segments).taken) items ∙ k.same ∙ sym room.taken;
+    }
+
+-- the header is taken with the room that was made
+pub head_after : (limits : Limits) (bytes : List ℕ) (old room : FileWork) (answer : ItemStep) (r : Reading) (b : Begun) → (h : HeadStands limits bytes old) → HasRoom old room → TakesHead room.reading room.begun answer r b
+    → AfterHead limits bytes h.items room.reading.items answer r b
+head_after limits bytes old room answer r b h made takes =
+    let same : limits_of room ≡ limits = ap (λ i. i.limits) made.items ∙ (h.at).bounded.1 in
+    subst (λ l. AfterHead l bytes h.items room.reading.items answer r b) same
+    (takes bytes h.items h.blocks (subst (λ l. HeadWhole l bytes h.items h.blocks room.reading room.begun) (sym same) (head_whole limits bytes old room h made)))
+
+-- the contents of its segment break no rule
+unbroken : (limits : Limits) (items : List Item) (contents bytes : List ℕ) (r : Reading) → (s : Scanning limits items contents bytes r) → contents_rule limits (segments_of items) 0xda contents ≡ None
+unbroken limits items contents bytes r s =
+    let place = (s.at).place in
+    let of = (s.at).of in
+    let rule = (((s.at).at).allowed).1 in
+    subst (λ c. contents_rule limits (segments_of items) 0xda c ≡ None) of.1 (subst (λ (l : List Item). contents_rule limits (segments_of l) 0xda place.contents ≡ None) of.0 rule)
+
+pub head_goes : (limits : Limits) (bytes : List ℕ) (old room taken new : FileWork) → (h : HeadStands limits bytes old) → HasRoom old room → room.head ≡ old.head → TakesHead room.reading room.begun step.More taken.reading taken.begun → taken.head ≡ room.head → NotesHead taken new
+    → Stands limits bytes new
+head_goes limits bytes old room taken new h made unchanged takes kept notes =
+    let a = head_after limits bytes old room step.More taken.reading taken.begun h made takes in
+    let contents = (reading_of room.reading.items.segments).contents in
+    let same : (reading_of old.reading.items.segments).contents ≡ contents = ap (λ i. (reading_of i.segments).contents) (sym made.items) in
+    let before : List Segment = (0xda, contents) ∷ segments_of h.items in
+    let holds = ((a.0).head).holds in
+    let allowed = subst (λ n. code_fault (segments_of h.items) n ≡ None) h.code (h.at).allowed in
+    let f = frame_held limits bytes h.items h.blocks taken.reading.items.held.frame ((h.at).at).leads holds.frame (framed (segments_of h.items) allowed) in
+    let had = subst (λ o. HasHead limits bytes (segments_of h.items) o) (sym (kept ∙ unchanged)) (h.beside).head in
+    let now = noted limits bytes h.items h.blocks old.reading.items contents (told_by taken.reading.items.held) f.frame taken.reading.taken taken.head h.at h.code same (unbroken limits h.items contents bytes taken.reading a.0) holds f.has (a.0).count had in
+    inr (record {
+      items = h.items;
+      contents = contents;
+      at = subst (λ (r : Reading). Scanning limits h.items contents bytes r) (sym notes.reading) a.0;
+      begun = subst (λ b. HasBegun limits b before) (sym notes.begun) a.1;
+      plain = (h.beside).plain;
+      within = (h.beside).within;
+      head = subst (λ o. HasHead limits bytes before o) (sym notes.head) now;
+    })
+
+pub room_made : (old new : FileWork) (answer : Result (Unit {0}) Wanting) → RoomMade old answer new → is_err answer ≡ false → HasRoom old new
+room_made old new (Ok done) made e = made
+room_made old new (Err w) made e = cc
+
+-- where a scan is in work, and where none is
+pub inside_of : (limits : Limits) (bytes : List ℕ) (w : FileWork) → Stands limits bytes w → is_some w.reading.scan ≡ true → StandsInside limits bytes w
+inside_of limits bytes w (inr s) e = s
+inside_of limits bytes w (inl s) e = absurd (clash (is_some w.reading.scan) e (ap is_some (s.beside).none))
+
+pub between_of : (limits : Limits) (bytes : List ℕ) (w : FileWork) → Stands limits bytes w → is_some w.reading.scan ≡ false → StandsBetween limits bytes w
+between_of limits bytes w (inl s) e = s
+between_of limits bytes w (inr s) e = absurd (clash (is_some w.reading.scan) (ap is_some (s.at).inside) e)
+
+-- EOI
+pub end_complete : (limits : Limits) (bytes : List ℕ) (w : FileWork) (f : Frame) (n : ℕ) (all : Bool) → (k : EndStands limits bytes w) → w.reading.items.held.frame ≡ Some f → n ≡ length f.components → n ≤ 4 → all ≡ all_of (begun_at w.begun) (below n)
+    → is_complete (frame_of_items limits k.items) (segments_of k.items) ≡ all
+end_complete limits bytes w f n all k held count few is =
+    let same : frame_of_items limits k.items ≡ f = ap (λ (o : Option Frame). unwrap_or o no_frame) (sym ((k.at).holds).frame ∙ held) in
+    let long : length (frame_of_items limits k.items).components ≡ n = ap (λ (g : Frame). length g.components) same ∙ sym count in
+    complete_is limits w.begun (segments_of k.items) (k.beside).begun (omega (arith, long, few)) ∙ ap (λ m. all_of (begun_at w.begun) (below m)) long ∙ sym is
+
+framed_end : (before : List Segment) → code_fault before 0xd9 ≡ None → has_frame before ≡ true
+framed_end before e = by (has_frame before) e
+  where
+    by : (b : Bool) → code_fault_if b 0xd9 ≡ None → b ≡ true
+    by true e = refl
+    by false e = cc
+
+pub frame_left : (limits : Limits) (bytes : List ℕ) (w : FileWork) → (e : EndsFile limits bytes w) → FrameHeld limits (e.ends).items w.reading.items.held.frame
+frame_left limits bytes w e =
+    let k = (e.ends).at in
+    frame_held limits bytes (e.ends).items (e.ends).blocks w.reading.items.held.frame (k.at).leads (k.holds).frame (framed_end (segments_of (e.ends).items) k.allowed)
+
+-- component 0 was in a scan
+pub one_begun : (limits : Limits) (bytes : List ℕ) (w : FileWork) → (e : EndsFile limits bytes w) → has_scan (segments_of (e.ends).items) ≡ false → ⊥
+one_begun limits bytes w e none =
+    let f = frame_of_items limits (e.ends).items in
+    let before = segments_of (e.ends).items in
+    let left = frame_left limits bytes w e in
+    let some : 1 ≤ length f.components = subst (λ (g : Frame). 1 ≤ length g.components) (sym left.is) left.some in
+    clash (has_begun (heads_of f before) 0) (all_below (has_begun (heads_of f before)) (length f.components) 0 e.complete (omega (arith, some))) (ap (λ heads. has_begun heads 0) (no_heads f before none))
+
+-- THE FIRST SCAN HEADER, by the state
+head_by : (limits : Limits) (bytes : List ℕ) (before : List Segment) (o : Option Head) → (has_scan before ≡ false → HasNoHead limits bytes) → HasHead limits bytes before o → IsHeadOf limits bytes o
+head_by limits bytes before None none k = none k
+head_by limits bytes before (Some h) none k = k
+
+pub head_is : (limits : Limits) (bytes : List ℕ) (w : FileWork) → Stands limits bytes w → IsHeadOf limits bytes w.head
+head_is limits bytes w (inl s) =
+    head_by limits bytes (segments_of s.items) w.head (λ none. no_head limits bytes (between_header limits bytes s.items s.blocks w.reading.items s.at none)) (s.beside).head
+head_is limits bytes w (inr s) = head_by limits bytes ((0xda, s.contents) ∷ segments_of s.items) w.head (λ none. absurd (clash true refl none)) s.head
+
+pub head_left : (limits : Limits) (bytes : List ℕ) (w : FileWork) → EndsFile limits bytes w → IsHeadOf limits bytes w.head
+head_left limits bytes w e = head_by limits bytes (segments_of (e.ends).items) w.head (λ none. absurd (one_begun limits bytes w e none)) ((e.ends).beside).head
+
+-- SOME BYTES of a scan behind one another
+
+abbrev pub file_mid : FileWork → Reading → FileWork
+file_mid w r = record w { reading = r }
+
+run_before : (limits : Limits) (front : List ℕ) (w : FileWork) (run : List ℕ) (n : ℕ) (answer : ItemStep) (r : Reading) → (t : TakesRunOfScan w.reading run n answer r) → is_some w.reading.scan ≡ true → w.reading.taken + length run ≤ limits.input
+    → Stands limits front w → Stands limits (front ++ take t.early run) (file_mid w t.mid)
+run_before limits front w run n answer r t some room k =
+    let s = inside_of limits front w k some in
+    let before : List Segment = (0xda, s.contents) ∷ segments_of s.items in
+    let low = t.within in
+    let size = length-take-le t.early run (omega (arith, low)) in
+    let count = (s.at).count in
+    inr (record {
+      items = s.items;
+      contents = s.contents;
+      at = t.before limits s.items s.contents front s.at;
+      begun = s.begun;
+      plain = s.plain;
+      within = omega (arith, room, count, size, low, length-append front (take t.early run));
+      head = has_longer limits front (take t.early run) (front ++ take t.early run) before w.head refl s.head;
+    })
+
+run_last : (limits : Limits) (front : List ℕ) (w : FileWork) (run : List ℕ) (n : ℕ) (answer : ItemStep) (r : Reading) → (t : TakesRunOfScan w.reading run n answer r) → w.reading.taken + length run ≤ limits.input
+    → Stands limits front (file_mid w t.mid) → AfterFileStep limits (front ++ slice_index run t.early ∷ []) answer (file_mid w r)
+run_last limits front w run n answer r t room k =
+    let s = inside_of limits front (file_mid w t.mid) k t.inside in
+    let low = t.within in
+    let taken = t.taken in
+    let count = (s.at).count in
+    after_inside limits front (slice_index run t.early ∷ []) answer (file_mid w t.mid) (file_mid w r) s (t.last limits s.items s.contents front s.at) refl refl
+    (omega (arith, room, low, taken, count, length-append front (slice_index run t.early ∷ [])))
+
+room_by : (limits : Limits) (w : FileWork) (run : List ℕ) → limits_of w ≡ limits → w.reading.taken + length run ≤ (limits_of w).input → w.reading.taken + length run ≤ limits.input
+room_by limits w run same room = subst (λ (l : Limits). w.reading.taken + length run ≤ l.input) same room
+
+room_left : (limits : Limits) (w : FileWork) (run : List ℕ) (n : ℕ) (answer : ItemStep) (r : Reading) → (t : TakesRunOfScan w.reading run n answer r) → w.reading.taken + length run ≤ limits.input → (t.mid).taken < limits.input
+room_left limits w run n answer r t room = let low = t.within in let taken = t.taken in omega (arith, room, low, taken)
+
+byte_of : (limits : Limits) (bytes : List ℕ) (w : FileWork) (f : FaultAt) → AfterFileStep limits bytes (step.Fault f) w → AfterFileByte limits bytes (Err (stop.Fault f)) w
+byte_of limits bytes w f (shown, at) = (at, inl shown)
+
+pub run_more : (w : FileWork) (run : List ℕ) (n : ℕ) (r : Reading) → is_some w.reading.scan ≡ true → w.reading.taken + length run ≤ (limits_of w).input → TakesRunOfScan w.reading run n step.More r → TakesSome w run n (Ok false) (file_mid w r)
+run_more w run n r some room t = record {
+  mid = file_mid w t.mid;
+  early = t.early;
+  count = t.count;
+  within = t.within;
+  head = tt;
+  room = λ limits front k same. room_left limits w run n step.More r t (room_by limits w run same room);
+  before = λ limits front k same. run_before limits front w run n step.More r t some (room_by limits w run same room) k;
+  last = λ limits front k same. run_last limits front w run n step.More r t (room_by limits w run same room) k;
+}
+
+pub run_fault : (w : FileWork) (run : List ℕ) (n : ℕ) (r : Reading) (f : FaultAt) → is_some w.reading.scan ≡ true → w.reading.taken + length run ≤ (limits_of w).input → TakesRunOfScan w.reading run n (step.Fault f) r
+    → TakesSome w run n (Err (stop.Fault f)) (file_mid w r)
+run_fault w run n r f some room t = record {
+  mid = file_mid w t.mid;
+  early = t.early;
+  count = t.count;
+  within = t.within;
+  head = refl;
+  room = λ limits front k same. room_left limits w run n (step.Fault f) r t (room_by limits w run same room);
+  before = λ limits front k same. run_before limits front w run n (step.Fault f) r t some (room_by limits w run same room) k;
+  last = λ limits front k same. byte_of limits (front ++ slice_index run t.early ∷ []) (file_mid w r) f (run_last limits front w run n (step.Fault f) r t (room_by limits w run same room) k);
+}
+
+pub run_else : (w : FileWork) (run : List ℕ) (n : ℕ) (r : Reading) (answer : ItemStep) → is_some w.reading.scan ≡ true → w.reading.taken + length run ≤ (limits_of w).input → TakesRunOfScan w.reading run n answer r
+    → TakesSome w run n (Err stop.NoMemory) (file_mid w r)
+run_else w run n r answer some room t = record {
+  mid = file_mid w t.mid;
+  early = t.early;
+  count = t.count;
+  within = t.within;
+  head = refl;
+  room = λ limits front k same. room_left limits w run n answer r t (room_by limits w run same room);
+  before = λ limits front k same. run_before limits front w run n answer r t some (room_by limits w run same room) k;
+  last = λ limits front k same. tt;
+}

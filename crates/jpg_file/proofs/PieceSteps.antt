@@ -1,0 +1,272 @@
+-- A file in work, piece by piece.
+use Rattle.std.proofs.Common.{◌-◌, Bool, ◌≡◌, ℕ, ◌+◌, ◌<◌, ◌≤◌, true, List, [], ◌∷◌, ◌++◌, length, take, drop, get_or, refl, false, Some, None, Ok, Err, Result, sym, ap, ◌∙◌, subst, arith, inl, inr}
+use Rattle.std.proofs.lemmas.List.{take-take, append-nil, get_or-take, get_or-drop, length-drop, length-take-le, append_assoc, length-append, take_all, take_more, take-append-drop, take-append-le}
+use Rattle.std.proofs.Math.Seq.{take-append-add}
+use Rattle.std.specs.Prelude.{IfErr}
+use Rattle.jpg_spec.specs.Items.{segments_of}
+use Rattle.jpg_spec.specs.FileMeaning.{meaning_of}
+use Rattle.jpg_spec.specs.FirstFault.{IsFirstFault}
+use Rattle.jpg_spec.specs.FileStands.{FileStands, IsWholeFile}
+use Rattle.jpg_spec.specs.Laws.{frame_of_items}
+use Rattle.jpg_spec.specs.declared.answers.FaultAt.{FaultAt}
+use Rattle.jpg_spec.specs.declared.frame.Limits.{Limits}
+use Rattle.jpg_spec.specs.declared.fault.Fault.TheVariants.{InputTooLong}
+use Rattle.jpg_spec.proofs.Common.{clash}
+use Rattle.jpg_spec.proofs.FileLaws.{next_shown, stands_too_long}
+use Rattle.jpg_base.specs.declared.stop.Fed.{Fed}
+use Rattle.jpg_base.specs.declared.stop.Fed.TheVariants as fed
+use Rattle.jpg_base.specs.declared.stop.Stop.{Stop}
+use Rattle.jpg_base.specs.declared.stop.Stop.TheVariants as stop
+use Rattle.jpg_file.specs.File.{AfterFileByte, TakesFileByte, TakesSome, EndsFile, IsStop, Stands, limits_of}
+use Rattle.jpg_file.specs.Items.{EndsProgressive}
+use Rattle.jpg_file.specs.FirstHead.{IsHeadOf}
+use Rattle.jpg_file.specs.ReadFile.{AfterFeed, AfterFilePiece, HasRead, IsReading, IsStopOf, KeepsHead, ReaderState, ReadsPiece}
+use Rattle.jpg_file.specs.declared.file.FileWork.{FileWork}
+use Rattle.jpg_file.proofs.Ending.{file_ends}
+use Rattle.jpg_file.proofs.FileSteps.{head_is, head_left}
+use Rattle.jpg_file.proofs.ItemBytes.{between_stands}
+use Rattle.jpg_file.proofs.ScanBytes.{data_stands}
+
+-- WHAT A STATE TELLS
+
+pub stands_file : (limits : Limits) (bytes : List ℕ) (w : FileWork) → Stands limits bytes w → FileStands limits bytes
+stands_file limits bytes w (inl s) = between_stands limits bytes s.items s.blocks w.reading.items s.at
+stands_file limits bytes w (inr s) = data_stands limits s.items s.contents bytes (s.at).scan (s.at).coefs (s.at).at
+
+pub limits_are : (limits : Limits) (bytes : List ℕ) (w : FileWork) → Stands limits bytes w → limits_of w ≡ limits
+limits_are limits bytes w (inl s) = (s.at).bounded.1
+limits_are limits bytes w (inr s) = ((s.at).head).bounded.1
+
+pub counted : (limits : Limits) (bytes : List ℕ) (w : FileWork) → Stands limits bytes w → w.reading.taken ≡ length bytes
+counted limits bytes w (inl s) = (s.beside).count
+counted limits bytes w (inr s) = (s.at).count
+
+pub within : (limits : Limits) (bytes : List ℕ) (w : FileWork) → Stands limits bytes w → length bytes ≤ limits.input
+within limits bytes w (inl s) = (s.beside).within
+within limits bytes w (inr s) = s.within
+
+-- A PIECE, and a front of it
+
+joined : (bytes piece : List ℕ) (i : ℕ) → bytes ++ piece ≡ (bytes ++ take i piece) ++ drop i piece
+joined bytes piece i = ap (λ l. bytes ++ l) (sym (take-append-drop i piece)) ∙ sym (append_assoc bytes (take i piece) (drop i piece))
+
+pub one_more : (bytes piece : List ℕ) (i : ℕ) → i < length piece → bytes ++ take (i + 1) piece ≡ (bytes ++ take i piece) ++ get_or piece i 0 ∷ []
+one_more bytes piece i h = ap (λ l. bytes ++ l) (take_more piece i 0 h) ∙ sym (append_assoc bytes (take i piece) (get_or piece i 0 ∷ []))
+
+whole_front : (front rest : List ℕ) → take (length front) (front ++ rest) ≡ front
+whole_front front rest = take-append-le (length front) front rest (omega arith) ∙ take_all (length front) front (omega arith)
+
+-- THE ANSWERS
+
+stop_longer : (limits : Limits) (front rest all : List ℕ) (b : ℕ) (f : FaultAt) → all ≡ (front ++ b ∷ []) ++ rest → FileStands limits front → length front < limits.input → IsStop limits (front ++ b ∷ []) f → IsStopOf limits all f
+stop_longer limits front rest all b f cut stands short (at, inl shown) =
+    inl (λ more.
+    subst (λ n. IsFirstFault limits (all ++ more) f.fault n) (sym at)
+    (subst (λ l. IsFirstFault limits l f.fault (length (front ++ b ∷ []))) (sym (ap (λ l. l ++ more) cut ∙ append_assoc (front ++ b ∷ []) rest more))
+    (next_shown limits front (rest ++ more) b f.fault stands shown short)))
+stop_longer limits front rest all b f cut stands short (at, inr (which, ends)) =
+    let whole : List ℕ = front ++ b ∷ [] in
+    let is : take f.at all ≡ whole = ap (λ n. take n all) at ∙ ap (take (length whole)) cut ∙ whole_front whole rest in
+    inr (which, omega (arith, at, ap length cut, length-append whole rest), subst (λ l. EndsProgressive limits l) (sym is) ends)
+
+-- the first scan header of a front stays
+head_kept : (limits : Limits) (bytes piece : List ℕ) (i : ℕ) (old next : FileWork) → Stands limits (bytes ++ take i piece) old → next.head ≡ old.head → IsHeadOf limits (take (length (bytes ++ take i piece)) (bytes ++ piece)) next.head
+head_kept limits bytes piece i old next stands same =
+    let front = bytes ++ take i piece in
+    let is : take (length front) (bytes ++ piece) ≡ front = ap (take (length front)) (joined bytes piece i) ∙ whole_front front (drop i piece) in
+    subst (λ o. IsHeadOf limits (take (length front) (bytes ++ piece)) o) (sym same) (subst (λ l. IsHeadOf limits l old.head) (sym is) (head_is limits front old stands))
+
+pub piece_stopped : (limits : Limits) (bytes piece : List ℕ) (i : ℕ) (e : Stop) (old w next : FileWork) → i < length piece → Stands limits (bytes ++ take i piece) old → old.reading.taken < limits.input
+    → next.head ≡ old.head → AfterFileByte limits ((bytes ++ take i piece) ++ get_or piece i 0 ∷ []) (Err e) w → AfterFilePiece limits bytes piece (Err e) next
+piece_stopped limits bytes piece i (stop.Fault f) old w next less stands short same h =
+    let front = bytes ++ take i piece in
+    let cut = joined bytes piece (i + 1) ∙ ap (λ l. l ++ drop (i + 1) piece) (one_more bytes piece i less) in
+    let few = counted limits front old stands in
+    let at = h.0 in
+    let one = length-append front (get_or piece i 0 ∷ []) in (
+      stop_longer limits front (drop (i + 1) piece) (bytes ++ piece) (get_or piece i 0) f cut (stands_file limits front old stands) (omega (arith, few, short)) h,
+      λ less. omega (arith, at, one, length-append bytes (take i piece)),
+      (length front, omega (arith, at, one), omega (arith, at, one), head_kept limits bytes piece i old next stands same),
+    )
+piece_stopped limits bytes piece i stop.NoMemory old w next less stands short same h =
+    (length (bytes ++ take i piece), (length (bytes ++ take i piece), omega arith, omega arith, head_kept limits bytes piece i old next stands same))
+
+-- as many bytes as may be taken
+pub piece_long : (limits : Limits) (bytes piece : List ℕ) (i : ℕ) (w : FileWork) → limits.input ≤ w.reading.taken → Stands limits (bytes ++ take i piece) w
+    → AfterFilePiece limits bytes piece (Err (stop.Fault (record { fault = InputTooLong; at = limits.input }))) w
+piece_long limits bytes piece i w many h =
+    let front = bytes ++ take i piece in
+    let rest = drop i piece in
+    let few = counted limits front w h in
+    let most = within limits front w h in
+    let long : length front ≡ limits.input = omega (arith, few, most, many) in
+    let keeps : KeepsHead limits (bytes ++ piece) limits.input w.head = (length front, omega (arith, most), omega (arith, long), head_kept limits bytes piece i w w h refl) in (
+      inl (λ more.
+          (let all = (bytes ++ piece) ++ more in
+          let cut : all ≡ front ++ (rest ++ more) = ap (λ l. l ++ more) (joined bytes piece i) ∙ append_assoc front rest more in
+          let is : take limits.input all ≡ front = ap (λ n. take n all) (sym long) ∙ ap (take (length front)) cut ∙ whole_front front (rest ++ more) in
+          let size : limits.input ≤ length all = omega (arith, long, ap length cut, length-append front (rest ++ more)) in
+          stands_too_long limits all (subst (λ l. FileStands limits l) (sym is) (stands_file limits front w h)) size)),
+      λ less. less,
+      keeps,
+    )
+
+-- a whole file
+pub piece_whole : (limits : Limits) (bytes piece : List ℕ) (i used : ℕ) (w : FileWork) → i < length piece → used ≡ i + 1
+    → AfterFileByte limits ((bytes ++ take i piece) ++ get_or piece i 0 ∷ []) (Ok true) w → AfterFilePiece limits bytes piece (Ok (fed.Done used)) w
+piece_whole limits bytes piece i used w less same h =
+    let is : bytes ++ take used piece ≡ (bytes ++ take i piece) ++ get_or piece i 0 ∷ [] = ap (λ n. bytes ++ take n piece) same ∙ one_more bytes piece i less in
+    (subst (λ l. EndsFile limits l w) (sym is) h, omega (arith, same), omega (arith, same, less))
+
+-- more is wanted
+pub piece_more : (limits : Limits) (bytes piece : List ℕ) (i : ℕ) (w : FileWork) → length piece ≤ i → w.reading.taken < limits.input → Stands limits (bytes ++ take i piece) w → AfterFilePiece limits bytes piece (Ok fed.More) w
+piece_more limits bytes piece i w end short h =
+    let is : bytes ++ take i piece ≡ bytes ++ piece = ap (λ l. bytes ++ l) (take_all i piece end) in
+    let k = subst (λ l. Stands limits l w) is h in
+    let few = counted limits (bytes ++ piece) w k in
+    (k, omega (arith, few, short))
+
+-- THE WHOLE FILE means something
+pub file_means : (limits : Limits) (bytes : List ℕ) (w : FileWork) → (e : EndsFile limits bytes w) → IsWholeFile limits bytes (meaning_of (frame_of_items limits (e.ends).items) (segments_of (e.ends).items) (e.ends).blocks)
+file_means limits bytes w e =
+    let k = e.ends in
+    file_ends limits bytes k.items k.blocks w.reading.items k.at e.complete (k.beside).within
+
+-- BY THE WHOLE STATE
+
+pub fed_more : (r : ReaderState) (w : FileWork) (bytes piece : List ℕ) (result : Result Fed Stop) → result ≡ Ok fed.More → HasRead bytes r → ReadsPiece r.limits r.file piece result w → AfterFeed bytes piece result (record r { file = w })
+fed_more r w bytes piece result e h reads =
+    let k = subst (λ x. AfterFilePiece r.limits bytes piece x w) e (reads bytes h.open) in
+    subst (λ x. AfterFeed bytes piece x (record r { file = w })) (sym e)
+    (record { going = h.going; undone = h.undone; short = k.1; stands = stands_file r.limits (bytes ++ piece) w k.0; «open» = k.0; head = head_is r.limits (bytes ++ piece) w k.0 })
+
+pub fed_done : (r : ReaderState) (w : FileWork) (bytes piece : List ℕ) (result : Result Fed Stop) (used : ℕ) → result ≡ Ok (fed.Done used) → HasRead bytes r → ReadsPiece r.limits r.file piece result w
+    → AfterFeed bytes piece result (record r { file = w; done = true })
+fed_done r w bytes piece result used e h reads =
+    let k = subst (λ x. AfterFilePiece r.limits bytes piece x w) e (reads bytes h.open) in
+    subst (λ x. AfterFeed bytes piece x (record r { file = w; done = true })) (sym e)
+    (record { done = refl; meaning = _; whole = file_means r.limits (bytes ++ take used piece) w k.0; ended = k.0; head = head_left r.limits (bytes ++ take used piece) w k.0 }, k.1, k.2)
+
+pub fed_stop : (r : ReaderState) (w : FileWork) (bytes piece : List ℕ) (result : Result Fed Stop) (s : Stop) → result ≡ Err s → HasRead bytes r → ReadsPiece r.limits r.file piece result w
+    → AfterFeed bytes piece result (record r { file = w; stop = Some s })
+fed_stop r w bytes piece result s e h reads =
+    let k = subst (λ x. AfterFilePiece r.limits bytes piece x w) e (reads bytes h.open) in
+    subst (λ x. AfterFeed bytes piece x (record r { file = w; stop = Some s })) (sym e) (by s k)
+  where
+    by : (t : Stop) → AfterFilePiece r.limits bytes piece (Err t) w → AfterFeed bytes piece (Err t) (record r { file = w; stop = Some s })
+    by (stop.Fault f) a = (a.0, a.1 h.short, a.2)
+    by stop.NoMemory a = a
+
+-- what it keeps
+pub keeps_more : (r : ReaderState) (w : FileWork) (piece : List ℕ) (result : Result Fed Stop) → result ≡ Ok fed.More → r.done ≡ false → IsReading r → ReadsPiece r.limits r.file piece result w → IsReading (record r { file = w })
+keeps_more r w piece result e undone k reads = record {
+  limited = k.limited;
+  «open» = λ none false_is.
+      (let o = k.open none false_is in
+      let a = subst (λ x. AfterFilePiece r.limits o.0 piece x w) e (reads o.0 o.1) in
+      (o.0 ++ piece, a.0));
+  ended = λ done. absurd (clash r.done done undone);
+}
+
+pub keeps_done : (r : ReaderState) (w : FileWork) (piece : List ℕ) (result : Result Fed Stop) (used : ℕ) → result ≡ Ok (fed.Done used) → r.done ≡ false → r.stop ≡ None → IsReading r → ReadsPiece r.limits r.file piece result w
+    → IsReading (record r { file = w; done = true })
+keeps_done r w piece result used e undone none k reads =
+    let o = k.open none undone in
+    let a = subst (λ x. AfterFilePiece r.limits o.0 piece x w) e (reads o.0 o.1) in
+    record {
+      limited = k.limited;
+      «open» = λ stop undone_now. absurd (clash true refl undone_now);
+      ended = λ done. (o.0 ++ take used piece, a.0);
+    }
+
+-- what a reader with room requires of its file
+pub room_of : (limits : Limits) (bytes : List ℕ) (w : FileWork) → Stands limits bytes w → w.reading.taken < limits.input → w.reading.taken < (limits_of w).input
+room_of limits bytes w s room = subst (λ (l : Limits). w.reading.taken < l.input) (sym (limits_are limits bytes w s)) room
+
+-- SOME BYTES of the rest of a piece
+
+rest_front : (piece : List ℕ) (done early : ℕ) → done ≤ length piece → take (done + early) piece ≡ take done piece ++ take early (drop done piece)
+rest_front piece done early few =
+    let size = length-take-le done piece few in
+    ap (take (done + early)) (sym (take-append-drop done piece)) ∙ ap (λ n. take (n + early) (take done piece ++ drop done piece)) (sym size) ∙ take-append-add (take done piece) (drop done piece) early
+
+front_is : (bytes piece : List ℕ) (done early : ℕ) → done ≤ length piece → (bytes ++ take done piece) ++ take early (drop done piece) ≡ bytes ++ take (done + early) piece
+front_is bytes piece done early few = append_assoc bytes (take done piece) (take early (drop done piece)) ∙ ap (λ l. bytes ++ l) (sym (rest_front piece done early few))
+
+rest_less : (piece : List ℕ) (done early : ℕ) → done ≤ length piece → early < length (drop done piece) → done + early < length piece
+rest_less piece done early few low = let size = length-drop done piece in omega (arith, few, low, size)
+
+-- the state before the last of them, and what that one came to
+pub record LastOf (limits : Limits) (bytes piece : List ℕ) (done n : ℕ) (answer : Result Bool Stop) (new : FileWork) : Type 0 where
+  pub i : ℕ
+  pub count : done + n ≡ i + 1
+  pub less : i < length piece
+  pub mid : FileWork
+  pub stands : Stands limits (bytes ++ take i piece) mid
+  pub room : mid.reading.taken < limits.input
+  pub head : IfErr answer (λ stop. new.head ≡ mid.head)
+  pub after : AfterFileByte limits ((bytes ++ take i piece) ++ get_or piece i 0 ∷ []) answer new
+
+pub last_of : (limits : Limits) (bytes piece : List ℕ) (done n : ℕ) (answer : Result Bool Stop) (w new : FileWork) → done ≤ length piece → Stands limits (bytes ++ take done piece) w
+    → TakesSome w (take (length piece - done) (drop done piece)) n answer new → LastOf limits bytes piece done n answer new
+last_of limits bytes piece done n answer w new few k taken =
+    let size = length-drop done piece in
+    let t = subst (λ l. TakesSome w l n answer new) (take_all (length piece - done) (drop done piece) (omega (arith, size))) taken in
+    let front = bytes ++ take done piece in
+    let same = limits_are limits front w k in
+    let i = done + t.early in
+    let is = front_is bytes piece done t.early few in
+    let stands = subst (λ l. Stands limits l t.mid) is (t.before limits front k same) in
+    let count = t.count in
+    record {
+      i = i;
+      count = omega (arith, count);
+      less = rest_less piece done t.early few t.within;
+      mid = t.mid;
+      stands = stands;
+      room = t.room limits front k same;
+      head = t.head;
+      after = subst (λ b. AfterFileByte limits ((bytes ++ take i piece) ++ b ∷ []) answer new) (get_or-drop done piece t.early 0) (t.last limits (bytes ++ take i piece) stands same);
+    }
+
+pub some_stopped : (limits : Limits) (bytes piece : List ℕ) (done n : ℕ) (e : Stop) (new : FileWork) → LastOf limits bytes piece done n (Err e) new → AfterFilePiece limits bytes piece (Err e) new
+some_stopped limits bytes piece done n e new l = piece_stopped limits bytes piece l.i e l.mid new new l.less l.stands l.room l.head l.after
+
+pub some_whole : (limits : Limits) (bytes piece : List ℕ) (done n used : ℕ) (new : FileWork) → used ≡ done + n → LastOf limits bytes piece done n (Ok true) new → AfterFilePiece limits bytes piece (Ok (fed.Done used)) new
+some_whole limits bytes piece done n used new is l = piece_whole limits bytes piece l.i used new l.less (is ∙ l.count) l.after
+
+pub some_more : (limits : Limits) (bytes piece : List ℕ) (done n : ℕ) (new : FileWork) → LastOf limits bytes piece done n (Ok false) new → Stands limits (bytes ++ take (done + n) piece) new
+some_more limits bytes piece done n new l = subst (λ m. Stands limits (bytes ++ take m piece) new) (sym l.count) (subst (λ x. Stands limits x new) (sym (one_more bytes piece l.i l.less)) l.after)
+
+pub some_within : (limits : Limits) (bytes piece : List ℕ) (done n : ℕ) (answer : Result Bool Stop) (new : FileWork) → LastOf limits bytes piece done n answer new → done + n ≤ length piece
+some_within limits bytes piece done n answer new l = let count = l.count in let less = l.less in omega (arith, count, less)
+
+-- ONE BYTE, or a front of them
+pub one_taken : (w : FileWork) (bytes : List ℕ) (answer : Result Bool Stop) (new : FileWork) → 1 ≤ length bytes → w.reading.taken < (limits_of w).input → TakesFileByte w (get_or bytes 0 0) answer new → IfErr answer (λ stop. new.head ≡ w.head)
+    → TakesSome w bytes 1 answer new
+one_taken w bytes answer new some room took head = record {
+  mid = w;
+  early = 0;
+  count = refl;
+  within = some;
+  head = head;
+  room = λ limits front k same. subst (λ (l : Limits). w.reading.taken < l.input) same room;
+  before = λ limits front k same. subst (λ l. Stands limits l w) (sym (append-nil front)) k;
+  last = λ limits front k same. subst (λ l. AfterFileByte l (front ++ get_or bytes 0 0 ∷ []) answer new) same (took front (subst (λ l. Stands l front w) (sym same) k));
+}
+
+pub front_taken : (w : FileWork) (bytes : List ℕ) (size n : ℕ) (answer : Result Bool Stop) (new : FileWork) → size ≤ length bytes → TakesSome w (take size bytes) n answer new → TakesSome w bytes n answer new
+front_taken w bytes size n answer new few t =
+    let low = t.within in
+    let long = length-take-le size bytes few in
+    let same : take t.early (take size bytes) ≡ take t.early bytes = take-take t.early size bytes (omega (arith, low, long)) in
+    record {
+      mid = t.mid;
+      early = t.early;
+      count = t.count;
+      within = omega (arith, low, long, few);
+      head = t.head;
+      room = t.room;
+      before = λ limits front k e. subst (λ l. Stands limits (front ++ l) t.mid) same (t.before limits front k e);
+      last = λ limits front k e. subst (λ b. AfterFileByte limits (front ++ b ∷ []) answer new) (get_or-take size bytes t.early 0 (omega (arith, low, long))) (t.last limits front k e);
+    }

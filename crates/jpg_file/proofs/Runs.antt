@@ -1,0 +1,195 @@
+-- Some data bytes given to a machine at once: the last of them is given by itself, behind the bits of those before it.
+use Rattle.std.proofs.Common.{◌≡◌, ℕ, ◌+◌, ◌-◌, ◌*◌, ◌/◌, ◌<◌, ◌≤◌, Bool, List, [], ◌∷◌, ◌++◌, length, take, drop, get_or, refl, sym, ap, ◌∙◌, subst, arith, Ok, Err}
+use Rattle.std.specs.Prelude.{Result}
+use Rattle.std.proofs.Math.Seq.{take-append-add, take-append_seam}
+use Rattle.std.proofs.lemmas.List.{append_assoc, append-nil, append_cancel_left, length-append, length-take-le, take_all, take_more, take-append-drop, take-append-le}
+use Rattle.jpg_spec.specs.Bits.{bits_of, bits_of_bytes}
+use Rattle.jpg_spec.proofs.DataFacts.{bits_join}
+use Rattle.jpg_spec.proofs.Strings.{length-bits_of}
+use Rattle.jpg_coefs.specs.Picture.{Picture}
+use Rattle.jpg_coefs.specs.Machine.{Kind, Chain, ChainTo, TakesBits}
+use Rattle.jpg_coefs.specs.declared.machine.UnitStep.{UnitStep}
+use Rattle.jpg_coefs.specs.declared.machine.UnitStep.TheVariants as step
+use Rattle.jpg_coefs.specs.declared.machine.UnitFault.{UnitFault}
+use Rattle.jpg_coefs.specs.declared.machine.Taken.TheVariants as taken
+use Rattle.jpg_coefs.proofs.Chains.{chain_stands, answer_to}
+use Rattle.jpg_file.specs.Data.{GivesRun}
+use Rattle.jpg_file.specs.declared.data.DataStep.TheVariants as came
+
+-- A CHAIN of bits, cut in two
+
+record ChainCut (M : Type 0) (k : Kind M) (m : M) (now : Picture) (xs ys : List Bool) (new : M) (after : Picture) : Type 0 where
+  pub mid : M
+  pub between : Picture
+  pub first : Chain k m now xs mid between
+  pub second : Chain k mid between ys new after
+
+chain_cut : {M : Type 0} (k : Kind M) (m new : M) (now after : Picture) (xs ys : List Bool) → Chain k m now (xs ++ ys) new after → ChainCut M k m now xs ys new after
+chain_cut k m new now after [] ys h = record { mid = m; between = now; first = (refl, refl); second = h }
+chain_cut k m new now after (b ∷ xs) ys h =
+    let c = chain_cut k h.0 new h.1 after xs ys h.3 in
+    record { mid = c.mid; between = c.between; first = (h.0, h.1, h.2, c.first); second = c.second }
+
+-- THE BITS of bytes
+
+bytes_long : (bytes : List ℕ) → length (bits_of_bytes bytes) ≡ 8 * length bytes
+bytes_long [] = refl
+bytes_long (b ∷ bytes) =
+    let eight = length-bits_of 8 b in
+    let l = length-append (bits_of 8 b) (bits_of_bytes bytes) in
+    omega (arith, l, eight, bytes_long bytes)
+
+pub store_room : (bytes : List ℕ) (i : ℕ) (store : List Bool) → store ≡ bits_of_bytes (take i bytes) → i < length bytes → length bytes ≤ 8 → length store ≤ 56
+store_room bytes i store e low few =
+    let long = bytes_long (take i bytes) in
+    let size = length-take-le i bytes (omega (arith, low)) in
+    omega (arith, ap length e, long, size, low, few)
+
+-- the byte with the last of some first bits
+record LastByte (bytes : List ℕ) (bits : List Bool) (early : ℕ) : Type 0 where
+  pub within : early < length bytes
+  pub front : List Bool
+  pub rest : List Bool
+  pub cut : bits ≡ bits_of_bytes (take early bytes) ++ front
+  pub byte : bits_of 8 (get_or bytes early 0) ≡ front ++ rest
+  pub some : 1 ≤ length front
+
+bytes_cut : (bytes : List ℕ) (n : ℕ) → n < length bytes → bits_of_bytes bytes ≡ bits_of_bytes (take n bytes) ++ (bits_of 8 (get_or bytes n 0) ++ bits_of_bytes (drop (n + 1) bytes))
+bytes_cut bytes n low =
+    ap bits_of_bytes (sym (take-append-drop (n + 1) bytes)) ∙ bits_join (take (n + 1) bytes) (drop (n + 1) bytes)
+    ∙ ap (λ l. bits_of_bytes l ++ bits_of_bytes (drop (n + 1) bytes)) (take_more bytes n 0 low)
+    ∙ ap (λ l. l ++ bits_of_bytes (drop (n + 1) bytes)) (bits_join (take n bytes) (get_or bytes n 0 ∷ []) ∙ ap (λ l. bits_of_bytes (take n bytes) ++ l) (append-nil (bits_of 8 (get_or bytes n 0))))
+    ∙ append_assoc (bits_of_bytes (take n bytes)) (bits_of 8 (get_or bytes n 0)) (bits_of_bytes (drop (n + 1) bytes))
+
+last_byte : (bytes : List ℕ) (bits rest : List Bool) (early : ℕ) → bits_of_bytes bytes ≡ bits ++ rest → 1 ≤ length bits → early + 1 + length rest / 8 ≡ length bytes → LastByte bytes bits early
+last_byte bytes bits rest early e some count =
+    let low : early < length bytes = omega (arith, count) in
+    let x = bits_of_bytes (take early bytes) in
+    let y = bits_of 8 (get_or bytes early 0) in
+    let z = bits_of_bytes (drop (early + 1) bytes) in
+    let all : bits ++ rest ≡ x ++ (y ++ z) = sym e ∙ bytes_cut bytes early low in
+    let eight = length-bits_of 8 (get_or bytes early 0) in
+    let long = bytes_long bytes in
+    let x_long = bytes_long (take early bytes) in
+    let x_count = length-take-le early bytes (omega (arith, low)) in
+    let sum : length bits + length rest ≡ length (bits_of_bytes bytes) = omega (arith, ap length e, length-append bits rest) in
+    let t = length bits - length x in
+    let behind : length x + 1 ≤ length bits = omega (arith, sum, long, x_long, x_count, count, some) in
+    let few : length bits ≤ length x + 8 = omega (arith, sum, long, x_long, x_count, count) in
+    let same : length bits ≡ length x + t = omega (arith, behind) in
+    let cut : bits ≡ x ++ take t y =
+    sym (take-append_seam bits rest) ∙ ap (take (length bits)) all ∙ ap (λ n. take n (x ++ (y ++ z))) same ∙ take-append-add x (y ++ z) t ∙ ap (λ l. x ++ l) (take-append-le t y z (omega (arith, few, eight, behind))) in
+    record {
+      within = low;
+      front = take t y;
+      rest = drop t y;
+      cut = cut;
+      byte = sym (take-append-drop t y);
+      some = (let size = length-take-le t y (omega (arith, few, eight, behind)) in omega (arith, size, behind));
+    }
+
+-- A CHAIN TO AN ANSWER, cut before its last byte
+
+record AnswerCut (M : Type 0) (k : Kind M) (m : M) (now : Picture) (xs front : List Bool) (answer : Result UnitStep UnitFault) (new : M) (after : Picture) : Type 0 where
+  pub mid : M
+  pub between : Picture
+  pub most : ℕ
+  pub first : Chain k m now xs mid between
+  pub second : ChainTo k most mid between front answer new after
+
+answer_cut : {M : Type 0} (k : Kind M) (most : ℕ) (m new : M) (now after : Picture) (bits xs front : List Bool) (answer : Result UnitStep UnitFault) → bits ≡ xs ++ front → 1 ≤ length front → ChainTo k most m now bits answer new after
+    → AnswerCut M k m now xs front answer new after
+answer_cut {M} k most m new now after bits xs front answer cut some (before, bit, last, there, is, chain, few, ends) =
+    let long = ap length is in
+    let l1 = length-append before (bit ∷ []) in
+    let l2 = ap length cut in
+    let l3 = length-append xs front in
+    let within : length xs ≤ length before = omega (arith, long, l1, l2, l3, some) in
+    let g = drop (length xs) before in
+    let begins : take (length xs) before ≡ xs =
+    sym (take-append-le (length xs) before (bit ∷ []) within) ∙ ap (take (length xs)) (sym is ∙ cut) ∙ take-append_seam xs front in
+    let parts : before ≡ xs ++ g = sym (take-append-drop (length xs) before) ∙ ap (λ l. l ++ g) begins in
+    let front_is : front ≡ g ++ bit ∷ [] = append_cancel_left xs front (g ++ bit ∷ []) (sym cut ∙ is ∙ ap (λ l. l ++ bit ∷ []) parts ∙ append_assoc xs g (bit ∷ [])) in
+    let C : List Bool → Type 0 = λ l. Chain k m now l last there in
+    let c = chain_cut k m last now there xs g (subst C parts chain) in
+    record {
+      mid = c.mid;
+      between = c.between;
+      most = k.left c.mid + 1;
+      first = c.first;
+      second = (g, bit, last, there, front_is, c.second, omega arith, ends);
+    }
+
+-- WHAT THE BITS OF ALL THE BYTES come to
+
+pub run_more : {M : Type 0} (k : Kind M) (most : ℕ) (m new : M) (now after : Picture) (bytes : List ℕ) (store rest : List Bool) (n : ℕ) → store ≡ bits_of_bytes bytes → 1 ≤ length bytes → n ≡ length bytes - length rest / 8
+    → TakesBits k most m now store taken.More new after rest → GivesRun M k m now bytes n came.More new after
+run_more {M} k most m new now after bytes store rest n e some count (bits, cut, (chain, few, none)) =
+    let early = length bytes - 1 in
+    let no_rest : length rest ≡ 0 = ap length none in
+    let all : early + 1 ≡ length bytes = omega (arith, some) in
+    let last = get_or bytes early 0 in
+    let over : drop (early + 1) bytes ≡ [] = dropped bytes (early + 1) (omega (arith, all)) in
+    let bits_are : bits ≡ bits_of_bytes (take early bytes) ++ bits_of 8 last =
+    sym (append-nil bits) ∙ ap (λ l. bits ++ l) (sym none) ∙ sym cut ∙ e ∙ bytes_cut bytes early (omega (arith, some)) ∙ ap (λ l. bits_of_bytes (take early bytes) ++ (bits_of 8 last ++ bits_of_bytes l)) over
+    ∙ ap (λ l. bits_of_bytes (take early bytes) ++ l) (append-nil (bits_of 8 last)) in
+    let C : List Bool → Type 0 = λ l. Chain k m now l new after in
+    let c = chain_cut k m new now after (bits_of_bytes (take early bytes)) (bits_of 8 last) (subst C bits_are chain) in
+    record {
+      mid = c.mid;
+      between = c.between;
+      early = early;
+      count = omega (arith, count, no_rest, some);
+      within = omega (arith, some);
+      chain = c.first;
+      last = λ i so_far s. chain_stands k c.mid new c.between after i so_far (bits_of 8 last) c.second s;
+    }
+  where
+    dropped : (xs : List ℕ) (i : ℕ) → length xs ≤ i → drop i xs ≡ []
+    dropped xs i h = append_cancel_left xs (drop i xs) [] (ap (λ l. l ++ drop i xs) (sym (take_all i xs h)) ∙ take-append-drop i xs ∙ sym (append-nil xs))
+
+-- the cut of the bytes where bits were left
+record RunCut (bytes : List ℕ) (bits : List Bool) (n : ℕ) : Type 0 where
+  pub early : ℕ
+  pub count : n ≡ early + 1
+  pub last : LastByte bytes bits early
+
+run_cut : (bytes : List ℕ) (bits rest : List Bool) (n : ℕ) → bits_of_bytes bytes ≡ bits ++ rest → 1 ≤ length bits → n ≡ length bytes - length rest / 8 → RunCut bytes bits n
+run_cut bytes bits rest n e some count =
+    let long = bytes_long bytes in
+    let sum : length bits + length rest ≡ length (bits_of_bytes bytes) = omega (arith, ap length e, length-append bits rest) in
+    let low : length rest / 8 < length bytes = omega (arith, sum, long, some) in
+    record { early = n - 1; count = omega (arith, count, low); last = last_byte bytes bits rest (n - 1) e some (omega (arith, count, low)) }
+
+pub run_whole : {M : Type 0} (k : Kind M) (most : ℕ) (m new : M) (now after : Picture) (bytes : List ℕ) (store rest : List Bool) (n : ℕ) → store ≡ bits_of_bytes bytes → n ≡ length bytes - length rest / 8
+    → TakesBits k most m now store taken.IntervalDone new after rest → GivesRun M k m now bytes n came.Whole new after
+run_whole {M} k most m new now after bytes store rest n e count (bits, cut, chain) =
+    let c = run_cut bytes bits rest n (sym e ∙ cut) (omega (arith, ap length chain.4, length-append chain.0 (chain.1 ∷ []))) count in
+    let l = c.last in
+    let a = answer_cut k most m new now after bits (bits_of_bytes (take c.early bytes)) l.front (Ok step.IntervalDone) l.cut l.some chain in
+    record {
+      mid = a.mid;
+      between = a.between;
+      early = c.early;
+      count = c.count;
+      within = l.within;
+      chain = a.first;
+      last = λ i so_far s. (let z = answer_to k a.most a.mid new a.between after i so_far l.front (Ok step.IntervalDone) a.second s in
+          (l.front, l.rest, l.byte, l.some, record { whole = z.0; ready = z.1 }));
+    }
+
+pub run_fault : {M : Type 0} (k : Kind M) (most : ℕ) (m new : M) (now after : Picture) (bytes : List ℕ) (store rest : List Bool) (n : ℕ) (f : UnitFault) → store ≡ bits_of_bytes bytes → n ≡ length bytes - length rest / 8
+    → TakesBits k most m now store (taken.Fault f) new after rest → GivesRun M k m now bytes n (came.Fault f) new after
+run_fault {M} k most m new now after bytes store rest n f e count (bits, cut, chain) =
+    let c = run_cut bytes bits rest n (sym e ∙ cut) (omega (arith, ap length chain.4, length-append chain.0 (chain.1 ∷ []))) count in
+    let l = c.last in
+    let a = answer_cut k most m new now after bits (bits_of_bytes (take c.early bytes)) l.front (Err f) l.cut l.some chain in
+    record {
+      mid = a.mid;
+      between = a.between;
+      early = c.early;
+      count = c.count;
+      within = l.within;
+      chain = a.first;
+      last = λ i so_far s. (l.front, l.rest, l.byte, answer_to k a.most a.mid new a.between after i so_far l.front (Err f) a.second s);
+    }

@@ -1,0 +1,51 @@
+-- Frames with the same grids have the same units.
+use Rattle.std.proofs.Common.{◌≡◌, ℕ, ◌+◌, ◌*◌, Bool, List, [], ◌∷◌, length, get_or, refl, sym, ap, ◌∙◌, ◌&&◌}
+use Rattle.std.specs.Prelude.{map, flat_map, nat_lt}
+use Rattle.std.proofs.Math.Path.{fun_ext}
+use Rattle.std.proofs.lemmas.List.{length-map}
+use Rattle.jpg_spec.specs.Geometry.{Frame, component_at, div_up, greatest, h_max, v_max, units}
+use Rattle.jpg_spec.specs.Lists.{below}
+use Rattle.jpg_spec.specs.Moved.{Grids, frame_grids}
+use Rattle.jpg_spec.specs.declared.frame.Place.{Place}
+use Rattle.jpg_spec.proofs.MovedGrids.{real_side, factor_across, factor_down}
+
+-- the sides, the greatest factors, and those of each component
+record Sides : Type 0 where
+  pub width : ℕ
+  pub height : ℕ
+  pub most_across : ℕ
+  pub most_down : ℕ
+
+abbrev place_by : Sides → (ℕ → ℕ) → (ℕ → ℕ) → ℕ → ℕ → ℕ → Place
+place_by s hs vs i x y = record { component = i; x = x; y = y; real = nat_lt x (real_side s.width (hs i) s.most_across) && nat_lt y (real_side s.height (vs i) s.most_down) }
+
+abbrev units_by : Sides → (ℕ → ℕ) → (ℕ → ℕ) → List ℕ → List Place
+units_by s hs vs [] = []
+units_by s hs vs (i ∷ []) = flat_map (λ y. map (λ x. place_by s hs vs i x y) (below (real_side s.width (hs i) s.most_across))) (below (real_side s.height (vs i) s.most_down))
+units_by s hs vs (i ∷ j ∷ parts) =
+    flat_map (λ my. flat_map (λ mx. flat_map (λ i. flat_map (λ v. map (λ h. place_by s hs vs i (mx * hs i + h) (my * vs i + v)) (below (hs i))) (below (vs i))) (i ∷ j ∷ parts)) (below (div_up s.width (8 * s.most_across))))
+    (below (div_up s.height (8 * s.most_down)))
+
+abbrev sides_of : Frame → Sides
+sides_of f = record { width = f.width; height = f.height; most_across = h_max f; most_down = v_max f }
+
+units_are : (f : Frame) (parts : List ℕ) → units f parts ≡ units_by (sides_of f) (λ i. (component_at f i).h) (λ i. (component_at f i).v) parts
+unfolding units
+units_are f [] = refl
+units_are f (i ∷ []) = refl
+units_are f (i ∷ j ∷ parts) = refl
+
+abbrev grid_units : Grids → List ℕ → List Place
+grid_units G parts = units_by (record { width = G.width; height = G.height; most_across = greatest G.across; most_down = greatest G.down }) (λ i. get_or G.across i 1) (λ i. get_or G.down i 1) parts
+
+by_grids : (f : Frame) (parts : List ℕ) → units f parts ≡ grid_units (frame_grids f) parts
+by_grids f parts =
+    let across : (λ i. (component_at f i).h) ≡ (λ i. get_or (map (λ c. c.h) f.components) i 1) = fun_ext (factor_across f) in
+    let down : (λ i. (component_at f i).v) ≡ (λ i. get_or (map (λ c. c.v) f.components) i 1) = fun_ext (factor_down f) in
+    units_are f parts ∙ ap (λ hs. units_by (sides_of f) hs (λ i. (component_at f i).v) parts) across ∙ ap (λ vs. units_by (sides_of f) (λ i. get_or (map (λ c. c.h) f.components) i 1) vs parts) down
+
+pub same_units : (f g : Frame) (parts : List ℕ) → frame_grids f ≡ frame_grids g → units f parts ≡ units g parts
+same_units f g parts e = by_grids f parts ∙ ap (λ G. grid_units G parts) e ∙ sym (by_grids g parts)
+
+pub same_count : (f g : Frame) → frame_grids f ≡ frame_grids g → length f.components ≡ length g.components
+same_count f g e = sym (length-map f.components (λ c. c.h)) ∙ ap (λ (G : Grids). length G.across) e ∙ length-map g.components (λ c. c.h)

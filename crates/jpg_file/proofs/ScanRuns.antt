@@ -1,0 +1,128 @@
+-- Plain bytes behind one another, inside the data of a scan.
+use Rattle.std.proofs.Common.{◌≡◌, ℕ, zero, suc, ◌<◌, ◌≤◌, Bool, true, false, List, [], ◌∷◌, ◌++◌, length, take, get_or, refl, sym, ◌∙◌, subst, arith}
+use Rattle.std.specs.Prelude.{replicate}
+use Rattle.std.proofs.lemmas.List.{append_assoc, append-nil, length-take-le, get_or-take}
+use Rattle.jpg_spec.specs.Bits.{bits_of, bits_of_bytes}
+use Rattle.jpg_spec.specs.Items.{Item}
+use Rattle.jpg_spec.specs.ScanReading.{ScanPlace, ScanAt, with_byte}
+use Rattle.jpg_spec.specs.declared.frame.Limits.{Limits}
+use Rattle.jpg_spec.proofs.DataFacts.{bits_join}
+use Rattle.jpg_spec.proofs.ScanSteps.{plain_data}
+use Rattle.jpg_coefs.specs.Picture.{Picture}
+use Rattle.jpg_coefs.specs.Machine.{Chain, fault_of}
+use Rattle.jpg_coefs.specs.declared.machine.UnitFault.{UnitFault}
+use Rattle.jpg_coefs.proofs.Chains.{chain_stands}
+use Rattle.jpg_seq.specs.declared.reader.SeqReader.{SeqReader}
+use Rattle.jpg_seq.specs.Reader.{SeqStands, sequential}
+use Rattle.jpg_file.specs.Data.{GivesBits, GivesRun}
+use Rattle.jpg_file.specs.declared.data.DataStep.{DataStep}
+use Rattle.jpg_file.specs.declared.data.DataStep.TheVariants as came
+use Rattle.jpg_file.specs.declared.scan.InScan.{InScan}
+use Rattle.jpg_file.specs.declared.scan.ScanWork.{ScanWork}
+use Rattle.jpg_file.specs.declared.scan.ScanStep.{ScanStep}
+use Rattle.jpg_file.specs.declared.scan.ScanStep.TheVariants as step
+use Rattle.jpg_file.specs.InData.{ArePlain, AtInterval, AtWork, InData, TakesRun, TakesScanByte, Waits}
+use Rattle.jpg_file.proofs.ScanBytes.{Due, data_byte, due_at, due_fault, due_more, due_whole}
+
+abbrev pub with_bytes : ScanPlace → List ℕ → ScanPlace
+with_bytes p more = record p { coded = p.coded ++ more }
+
+-- THE PLACE behind plain bytes
+plain_at : (limits : Limits) (bytes : List ℕ) (p : ScanPlace) (run : List ℕ) → ArePlain run → ScanAt limits bytes p [] → ScanAt limits (bytes ++ run) (with_bytes p run) []
+plain_at limits bytes p [] plain w =
+    subst (λ l. ScanAt limits l (with_bytes p []) []) (sym (append-nil bytes)) (subst (λ l. ScanAt limits bytes (record p { coded = l }) []) (sym (append-nil p.coded)) (same p w))
+  where
+    same : (q : ScanPlace) → ScanAt limits bytes q [] → ScanAt limits bytes (record q { coded = q.coded }) []
+    same q s = s
+plain_at limits bytes p (b ∷ run) plain w =
+    let first = plain_data limits bytes p b w (λ e. plain zero (omega arith) e) in
+    let others = plain_at limits (bytes ++ b ∷ []) (with_byte p b) run (λ k low e. plain (suc k) (omega (arith, low)) e) first in
+    subst (λ l. ScanAt limits l (with_bytes p (b ∷ run)) []) (append_assoc bytes (b ∷ []) run)
+    (subst (λ l. ScanAt limits ((bytes ++ b ∷ []) ++ run) (record p { coded = l }) []) (append_assoc p.coded (b ∷ []) run) others)
+
+-- THE MACHINE behind a chain of their bits
+due_chain : (limits : Limits) (p : ScanPlace) (run : List ℕ) (w : ScanWork) (m : SeqReader) (now after : Picture) → w.whole ≡ false → AtWork limits p w now → Chain sequential w.machine now (bits_of_bytes run) m after
+    → AtWork limits (with_bytes p run) (record w { machine = m }) after
+due_chain limits p run w m now after e k chain =
+    let d = due_at limits p w now e k in
+    let due : Due limits (with_bytes p run) m after = record {
+      interval = d.interval;
+      is = record { scan = (d.is).scan; places = (d.is).places; later = (d.is).later };
+      framed = d.framed;
+      stands = subst (λ l. SeqStands m d.interval l after) (sym (bits_join p.coded run)) (chain_stands sequential w.machine m now after d.interval (bits_of_bytes p.coded) (bits_of_bytes run) chain d.stands);
+      so_far = d.so_far;
+    } in
+    record {
+      readable = record { plain = (k.readable).plain; distinct = (k.readable).distinct };
+      at = subst (λ b. AtInterval limits (with_bytes p run) b m after) (sym e) due;
+      turn = k.turn;
+      due = k.due;
+      later = k.later;
+    }
+
+-- a front of plain bytes is plain
+front_plain : (run : List ℕ) (n : ℕ) → n ≤ length run → ArePlain run → ArePlain (take n run)
+front_plain run n few plain k low e =
+    let size = length-take-le n run few in
+    plain k (omega (arith, low, size, few)) (sym (get_or-take n run k 0 (omega (arith, low, size))) ∙ e)
+
+pub plain_front : (bytes : List ℕ) (n : ℕ) → n ≤ length bytes → ((k : ℕ) → k < n → get_or bytes k 0 ≡ 255 → ⊥) → ArePlain (take n bytes)
+plain_front bytes n few plain k low e =
+    let size = length-take-le n bytes few in
+    plain k (omega (arith, low, size)) (sym (get_or-take n bytes k 0 (omega (arith, low, size))) ∙ e)
+
+-- no FF waits
+none_waits : (gate : Bool) (fill : ℕ) → gate ≡ false → Waits gate fill → fill ≡ 0
+none_waits false fill e w = w
+none_waits true fill e w = cc
+
+open_at : (limits : Limits) (items : List Item) (contents bytes : List ℕ) (s : InScan) (now : Picture) → (d : InData limits items contents bytes s now) → s.gate ≡ false → ScanAt limits bytes d.place []
+open_at limits items contents bytes s now d e = subst (λ n. ScanAt limits bytes d.place (replicate n 255)) (none_waits s.gate d.fill e d.waits) d.at
+
+-- THE STATE before the last of the bytes
+abbrev pub mid_of : InScan → SeqReader → InScan
+mid_of s m = record s { work = record (s.work) { machine = m } }
+
+before_last : (s : InScan) (m : SeqReader) (now between : Picture) (run : List ℕ) (early : ℕ) → s.gate ≡ false → s.work.whole ≡ false → early ≤ length run → ArePlain run → Chain sequential s.work.machine now (bits_of_bytes (take early run)) m between
+    → (limits : Limits) (items : List Item) (contents bytes : List ℕ) → InData limits items contents bytes s now → InData limits items contents (bytes ++ take early run) (mid_of s m) between
+before_last s m now between run early gate whole few plain chain limits items contents bytes d =
+    record {
+      place = with_bytes d.place (take early run);
+      of = d.of;
+      fill = 0;
+      at = plain_at limits bytes d.place (take early run) (front_plain run early few plain) (open_at limits items contents bytes s now d gate);
+      waits = subst (λ b. Waits b 0) (sym gate) refl;
+      work = due_chain limits d.place (take early run) s.work m now between whole d.work chain;
+    }
+
+-- THE LAST of them
+pub last_more : (s : InScan) (m : SeqReader) (now after : Picture) (byte : ℕ) → s.gate ≡ false → s.work.whole ≡ false → (byte ≡ 255 → ⊥) → GivesBits sequential s.work.machine now (bits_of 8 byte) came.More m after
+    → TakesScanByte s now byte step.More (mid_of s m) after
+last_more s m now after byte gate whole plain took limits items contents bytes d =
+    data_byte limits items contents (bytes ++ byte ∷ []) (with_byte d.place byte) s.gate (record (s.work) { machine = m }) after step.More d.of (plain_data limits bytes d.place byte (open_at limits items contents bytes s now d gate) plain) gate
+    (due_more limits d.place byte s.work m now after whole d.work took)
+
+pub last_whole : (s : InScan) (m : SeqReader) (now after : Picture) (byte : ℕ) → s.gate ≡ false → s.work.whole ≡ false → (byte ≡ 255 → ⊥) → GivesBits sequential s.work.machine now (bits_of 8 byte) came.Whole m after
+    → TakesScanByte s now byte step.More (record s { work = record (s.work) { machine = m; whole = true } }) after
+last_whole s m now after byte gate whole plain took limits items contents bytes d =
+    data_byte limits items contents (bytes ++ byte ∷ []) (with_byte d.place byte) s.gate (record (s.work) { machine = m; whole = true }) after step.More d.of (plain_data limits bytes d.place byte (open_at limits items contents bytes s now d gate) plain) gate
+    (due_whole limits d.place byte s.work m now after whole d.work took)
+
+pub last_fault : (s new : InScan) (m : SeqReader) (now after : Picture) (byte : ℕ) (f : UnitFault) → s.gate ≡ false → s.work.whole ≡ false → (byte ≡ 255 → ⊥) → GivesBits sequential s.work.machine now (bits_of 8 byte) (came.Fault f) m after
+    → TakesScanByte s now byte (step.Fault (fault_of f)) new after
+last_fault s new m now after byte f gate whole plain took limits items contents bytes d =
+    due_fault limits (bytes ++ byte ∷ []) d.place byte s.work m now after f (plain_data limits bytes d.place byte (open_at limits items contents bytes s now d gate) plain) whole d.work took
+
+-- THE WHOLE RUN
+pub run_takes : (s new : InScan) (m : SeqReader) (now after : Picture) (run : List ℕ) (n : ℕ) (came_to : DataStep) (answer : ScanStep) → s.gate ≡ false → s.work.whole ≡ false → ArePlain run
+    → (g : GivesRun SeqReader sequential s.work.machine now run n came_to m after) → TakesScanByte (mid_of s g.mid) g.between (get_or run g.early 0) answer new after → TakesRun s now run n answer new after
+run_takes s new m now after run n came_to answer gate whole plain g last = record {
+  mid = mid_of s g.mid;
+  between = g.between;
+  early = g.early;
+  count = g.count;
+  within = g.within;
+  «open» = gate;
+  before = (let low = g.within in before_last s g.mid now g.between run g.early gate whole (omega (arith, low)) plain g.chain);
+  last = last;
+}

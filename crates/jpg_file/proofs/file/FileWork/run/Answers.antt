@@ -1,0 +1,23 @@
+use Rattle.std.proofs.Common.{ap, subst}
+use Rattle.std.specs.Prelude.{is_some}
+use Rattle.jpg_file.specs.File.{limits_of}
+use Rattle.jpg_file.specs.Reading.{TakesRunOfScan}
+use Rattle.jpg_file.specs.declared.items.ItemStep.{ItemStep}
+use Rattle.jpg_file.proofs.FileSteps.{inside_of, run_else, run_fault, run_more}
+use Rattle.jpg_file.proofs.file.FileWork.run.Goals as goal
+
+pub scan_run-n-requires-clause-stands : goal.scan_run-n-requires-clause-stands
+scan_run-n-requires-clause-stands c =
+    let w = c.args.self.now in
+    let o = c.requires.stands in
+    let s = inside_of (limits_of w) o.0 w o.1 (ap is_some (c.requires.opened).inside) in
+    (s.items, s.contents, o.0, s.at)
+
+pub returns-in-More : goal.returns-in-More
+returns-in-More c = run_more c.args.self.now c.args.run.now c.scan_run-n.result.0 c.scan_run-n.new.self (ap is_some (c.requires.opened).inside) c.requires.room (subst (λ (a : ItemStep). TakesRunOfScan c.args.self.now.reading c.args.run.now c.scan_run-n.result.0 a c.scan_run-n.new.self) c.in-More.is c.scan_run-n.ensures)
+
+pub returns-in-Fault : goal.returns-in-Fault
+returns-in-Fault c = run_fault c.args.self.now c.args.run.now c.scan_run-n.result.0 c.scan_run-n.new.self c.in-Fault.fault (ap is_some (c.requires.opened).inside) c.requires.room (subst (λ (a : ItemStep). TakesRunOfScan c.args.self.now.reading c.args.run.now c.scan_run-n.result.0 a c.scan_run-n.new.self) c.in-Fault.is c.scan_run-n.ensures)
+
+pub returns-in_default : goal.returns-in_default
+returns-in_default c = run_else c.args.self.now c.args.run.now c.scan_run-n.result.0 c.scan_run-n.new.self c.scan_run-n.result.1 (ap is_some (c.requires.opened).inside) c.requires.room c.scan_run-n.ensures

@@ -1,0 +1,32 @@
+use Rattle.std.proofs.Common.{◌∙◌, refl, sym, ap, subst, inl}
+use Rattle.jpg_file.specs.File.{limits_of}
+use Rattle.jpg_file.specs.Reading.{HeadWhole}
+use Rattle.jpg_file.specs.declared.file.FileWork.{FileWork}
+use Rattle.jpg_file.specs.declared.items.ItemStep.TheVariants as step
+use Rattle.jpg_file.proofs.FileSteps.{head_after, head_goes, head_whole, room_made}
+use Rattle.jpg_file.proofs.file.FileWork.take_head.Goals as goal
+
+pub take_head-requires : goal.take_head-requires
+take_head-requires c =
+    let old = c.args.self.now in
+    let new = c.make_room.new.self in
+    let o = c.requires.stands in
+    let h = o.1 in
+    let made = room_made old new c.make_room.result c.make_room.ensures.made (sym c.is_err.ensures.value ∙ c.if-is_err.false) in
+    let same = ap (λ i. i.limits) made.items in
+    record { stands = (o.0, h.items, h.blocks, subst (λ l. HeadWhole l o.0 h.items h.blocks new.reading new.begun) (sym same) (head_whole (limits_of old) o.0 old new h made)) }
+
+pub returns-in-More-clause-after : goal.returns-in-More-clause-after
+returns-in-More-clause-after c = λ bytes h.
+    let old = c.args.self.now in
+    let room = c.make_room.new.self in
+    let taken : FileWork = record { alloc = room.alloc; reading = c.take_head.new.self; begun = c.take_head.new.begun; head = room.head } in
+    head_goes (limits_of old) bytes old room taken _ h (room_made old room c.make_room.result c.make_room.ensures.made (sym c.is_err.ensures.value ∙ c.if-is_err.false)) c.make_room.ensures.head c.in-More.ensures refl c.note_head.ensures
+
+pub returns-in-Fault-clause-after : goal.returns-in-Fault-clause-after
+returns-in-Fault-clause-after c = λ bytes h.
+    let old = c.args.self.now in
+    let room = c.make_room.new.self in
+    let made = room_made old room c.make_room.result c.make_room.ensures.made (sym c.is_err.ensures.value ∙ c.if-is_err.false) in
+    let a = head_after (limits_of old) bytes old room (step.Fault c.in-Fault.fault) c.take_head.new.self c.take_head.new.begun h made c.in-Fault.ensures in
+    (a.1, inl a.0)

@@ -1,0 +1,10 @@
+use Rattle.std.proofs.Common.{sym, subst}
+use Rattle.jpg_spec.specs.FileStands.{IsWholeFile}
+use Rattle.jpg_file.specs.File.{EndsFile}
+use Rattle.jpg_file.specs.ReadFile.{ReaderState}
+use Rattle.jpg_file.proofs.reader.Reader.take.Goals as goal
+
+pub returns-clause-meaning : goal.returns-clause-meaning
+returns-clause-meaning c = λ bytes d.
+    c.picture_of.ensures.file c.self.inside.limits bytes d.meaning (subst (λ (r : ReaderState). EndsFile r.limits bytes r.file) (sym c.self.view_is) d.ended)
+    (subst (λ (r : ReaderState). IsWholeFile r.limits bytes d.meaning) (sym c.self.view_is) d.whole)

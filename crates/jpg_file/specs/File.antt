@@ -1,0 +1,163 @@
+-- A whole file in work: what it stands for, and what a further byte comes to (T.81, B.2.1).
+use Rattle.std.specs.Prelude.{◌≡◌, ◌⊎◌, ℕ, ◌≤◌, true, false, List, [], ◌∷◌, ◌++◌, length, take, slice_index, IfErr, ◌+◌, ◌<◌, Option, Some, None, Result, Ok, Err, Bool}
+use Rattle.jpg_spec.specs.Geometry.{Frame, is_progressive}
+use Rattle.jpg_spec.specs.FrameHeader.{IsFrame}
+use Rattle.jpg_spec.specs.Scan.{Blocks}
+use Rattle.jpg_spec.specs.Markers.{has_frame, has_scan}
+use Rattle.jpg_spec.specs.History.{is_complete}
+use Rattle.jpg_spec.specs.Items.{Item, segments_of}
+use Rattle.jpg_spec.specs.FileMeaning.{no_blocks}
+use Rattle.jpg_spec.specs.FirstFault.{Shows}
+use Rattle.jpg_spec.specs.Laws.{frame_of_items}
+use Rattle.jpg_spec.specs.declared.answers.FaultAt.{FaultAt}
+use Rattle.jpg_spec.specs.declared.fault.Fault.TheVariants.{NotBuilt}
+use Rattle.jpg_spec.specs.declared.frame.Limits.{Limits}
+use Rattle.jpg_base.specs.declared.names.NoMemory.{NoMemory}
+use Rattle.jpg_base.specs.declared.stop.Stop.{Stop}
+use Rattle.jpg_base.specs.declared.stop.Stop.TheVariants as stop
+use Rattle.jpg_coefs.specs.Picture.{Picture, map_of}
+use Rattle.jpg_markers.specs.Reading.{reading_of}
+use Rattle.jpg_file.specs.Begun.{HasBegun}
+use Rattle.jpg_file.specs.FirstHead.{HasHead, head_told}
+use Rattle.jpg_file.specs.Held.{told_by}
+use Rattle.jpg_file.specs.declared.head.Head.{Head}
+use Rattle.jpg_file.specs.Items.{BetweenItems, BehindSegment, BehindEnd, EndsProgressive}
+use Rattle.jpg_file.specs.Reading.{Scanning}
+use Rattle.jpg_file.specs.declared.items.ItemStep.{ItemStep}
+use Rattle.jpg_file.specs.declared.items.ItemStep.TheVariants as step
+use Rattle.jpg_file.specs.declared.file.FileWork.{FileWork}
+
+abbrev pub limits_of : FileWork → Limits
+limits_of w = w.reading.items.limits
+
+-- The blocks that the items lead to are those of the picture. There is none before the first scan, and then they are zeros.
+abbrev pub PictureSoFar : Limits → List Item → Blocks → Option Picture → Type 0
+PictureSoFar limits items blocks None = (has_scan (segments_of items) ≡ false) × (blocks ≡ no_blocks)
+PictureSoFar limits items blocks (Some q) = (has_frame (segments_of items) ≡ true) × (q.frame ≡ frame_of_items limits items) × (blocks ≡ map_of q)
+
+-- what is kept beside the items, when some bytes were taken, and no scan is in work
+pub record BesideItems (limits : Limits) (bytes : List ℕ) (items : List Item) (blocks : Blocks) (w : FileWork) : Type 0 where
+  pub picture : PictureSoFar limits items blocks w.reading.coefs
+  pub begun : HasBegun limits w.begun (segments_of items)
+  pub plain : is_progressive (frame_of_items limits items).process ≡ false
+  pub none : w.reading.scan ≡ None
+  pub count : w.reading.taken ≡ length bytes
+  pub same : (reading_of (w.reading.items).segments).taken ≡ w.reading.taken
+  pub within : length bytes ≤ limits.input
+  pub head : HasHead limits bytes (segments_of items) w.head
+
+-- WHAT IT STANDS FOR: between items, or inside the data of a scan
+
+pub record StandsBetween (limits : Limits) (bytes : List ℕ) (w : FileWork) : Type 0 where
+  pub items : List Item
+  pub blocks : Blocks
+  pub at : BetweenItems limits bytes items blocks w.reading.items
+  pub beside : BesideItems limits bytes items blocks w
+
+pub record StandsInside (limits : Limits) (bytes : List ℕ) (w : FileWork) : Type 0 where
+  pub items : List Item
+  pub contents : List ℕ
+  pub at : Scanning limits items contents bytes w.reading
+  pub begun : HasBegun limits w.begun ((0xda, contents) ∷ segments_of items)
+  pub plain : is_progressive (frame_of_items limits items).process ≡ false
+  pub within : length bytes ≤ limits.input
+  pub head : HasHead limits bytes ((0xda, contents) ∷ segments_of items) w.head
+
+abbrev pub Stands : Limits → List ℕ → FileWork → Type 0
+Stands limits bytes w = StandsBetween limits bytes w ⊎ StandsInside limits bytes w
+
+-- a scan header is whole that isn't judged yet
+pub record HeadStands (limits : Limits) (bytes : List ℕ) (w : FileWork) : Type 0 where
+  pub items : List Item
+  pub blocks : Blocks
+  pub at : BehindSegment limits bytes items blocks w.reading.items
+  pub code : (reading_of (w.reading.items).segments).code ≡ 0xda
+  pub beside : BesideItems limits bytes items blocks w
+
+-- EOI is there
+pub record EndStands (limits : Limits) (bytes : List ℕ) (w : FileWork) : Type 0 where
+  pub items : List Item
+  pub blocks : Blocks
+  pub at : BehindEnd limits bytes items blocks w.reading.items
+  pub beside : BesideItems limits bytes items blocks w
+
+-- and each component was in a scan
+pub record EndsFile (limits : Limits) (bytes : List ℕ) (w : FileWork) : Type 0 where
+  pub ends : EndStands limits bytes w
+  pub complete : is_complete (frame_of_items limits ends.items) (segments_of ends.items) ≡ true
+
+-- WHAT A BYTE COMES TO
+
+abbrev pub AfterFileStep : Limits → List ℕ → ItemStep → FileWork → Type 0
+AfterFileStep limits bytes step.More w = Stands limits bytes w
+AfterFileStep limits bytes step.Head w = HeadStands limits bytes w
+AfterFileStep limits bytes step.Eoi w = EndStands limits bytes w
+AfterFileStep limits bytes step.Progressive w = EndsProgressive limits bytes × (w.reading.taken ≡ length bytes)
+AfterFileStep limits bytes (step.Fault f) w = Shows limits f.fault bytes × (f.at ≡ length bytes)
+AfterFileStep limits bytes step.NoMemory w = Unit {0}
+
+-- the bytes show a fault with their last one, or end the header of a progressive frame, which isn't read yet
+abbrev pub IsStop : Limits → List ℕ → FaultAt → Type 0
+IsStop limits bytes f = (f.at ≡ length bytes) × (Shows limits f.fault bytes ⊎ ((f.fault ≡ NotBuilt) × EndsProgressive limits bytes))
+
+abbrev pub AfterFileByte : Limits → List ℕ → Result Bool Stop → FileWork → Type 0
+AfterFileByte limits bytes (Ok false) w = Stands limits bytes w
+AfterFileByte limits bytes (Ok true) w = EndsFile limits bytes w
+AfterFileByte limits bytes (Err (stop.Fault f)) w = IsStop limits bytes f
+AfterFileByte limits bytes (Err stop.NoMemory) w = Unit {0}
+
+-- WHATEVER it stood for, this stands behind.
+abbrev pub TakesFileByte : FileWork → ℕ → Result Bool Stop → FileWork → Type 0
+TakesFileByte old byte answer new = (bytes : List ℕ) → Stands (limits_of old) bytes old → AfterFileByte (limits_of old) (bytes ++ byte ∷ []) answer new
+
+abbrev pub TakesFileStep : FileWork → ℕ → ItemStep → FileWork → Type 0
+TakesFileStep old byte answer new = (bytes : List ℕ) → Stands (limits_of old) bytes old → AfterFileStep (limits_of old) (bytes ++ byte ∷ []) answer new
+
+abbrev pub TakesFileHead : FileWork → Result Bool Stop → FileWork → Type 0
+TakesFileHead old answer new = (bytes : List ℕ) → HeadStands (limits_of old) bytes old → AfterFileByte (limits_of old) bytes answer new
+
+abbrev pub TakesFileEnd : FileWork → Result Bool Stop → Type 0
+TakesFileEnd w answer = (limits : Limits) (bytes : List ℕ) → EndStands limits bytes w → AfterFileByte limits bytes answer w
+
+-- THE FIRST SCAN HEADER is what is held where none was
+abbrev pub head_or : Option Head → Option Head → Option Head
+head_or (Some h) new = Some h
+head_or None new = new
+
+pub record NotesHead (old new : FileWork) : Type 0 where
+  pub head : new.head ≡ head_or old.head (head_told (told_by old.reading.items.held) old.reading.taken)
+  pub reading : new.reading ≡ old.reading
+  pub begun : new.begun ≡ old.begun
+
+-- THE PICTURE, where there is a frame: what it was, or zeros
+pub record ZerosMade (f : Frame) (new : Option Picture) : Type 0 where
+  pub picture : Picture
+  pub has : new ≡ Some picture
+  pub framed : picture.frame ≡ f
+  pub zero : map_of picture ≡ no_blocks
+
+abbrev pub PictureMade : Frame → Option Picture → Option Picture → Type 0
+PictureMade f (Some q) new = new ≡ Some q
+PictureMade f None new = ZerosMade f new
+
+pub record HasRoom (old new : FileWork) : Type 0 where
+  pub begun : new.begun ≡ old.begun
+  pub items : new.reading.items ≡ old.reading.items
+  pub scan : new.reading.scan ≡ old.reading.scan
+  pub taken : new.reading.taken ≡ old.reading.taken
+  pub picture : (f : Frame) → old.reading.items.held.frame ≡ Some f → IsFrame f × PictureMade f old.reading.coefs new.reading.coefs
+
+abbrev pub RoomMade : FileWork → Result (Unit {0}) NoMemory → FileWork → Type 0
+RoomMade old (Ok done) new = HasRoom old new
+RoomMade old (Err e) new = Unit {0}
+
+-- SOME BYTES behind one another: a state before the last of those that were taken, and what that one came to.
+pub record TakesSome (old : FileWork) (bytes : List ℕ) (n : ℕ) (answer : Result Bool Stop) (new : FileWork) : Type 0 where
+  pub mid : FileWork
+  pub early : ℕ
+  pub count : n ≡ early + 1
+  pub within : early < length bytes
+  pub head : IfErr answer (λ stop. new.head ≡ mid.head)
+  pub room : (limits : Limits) (front : List ℕ) → Stands limits front old → limits_of old ≡ limits → mid.reading.taken < limits.input
+  pub before : (limits : Limits) (front : List ℕ) → Stands limits front old → limits_of old ≡ limits → Stands limits (front ++ take early bytes) mid
+  pub last : (limits : Limits) (front : List ℕ) → Stands limits front mid → limits_of old ≡ limits → AfterFileByte limits (front ++ slice_index bytes early ∷ []) answer new

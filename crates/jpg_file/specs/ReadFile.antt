@@ -1,0 +1,97 @@
+-- A whole file that is fed piece by piece (T.81, B.2.1).
+use Rattle.std.specs.Prelude.{◌≡◌, ◌⊎◌, ℕ, ◌<◌, ◌≤◌, Bool, true, false, List, ◌++◌, length, take, ◌+◌, option_map, Option, None, Result, Ok, Err}
+use Rattle.jpg_spec.specs.Geometry.{Frame}
+use Rattle.jpg_spec.specs.FrameHeader.{AreLimits}
+use Rattle.jpg_spec.specs.Meaning.{Meaning}
+use Rattle.jpg_spec.specs.FirstFault.{IsFirstFault}
+use Rattle.jpg_spec.specs.FileStands.{FileStands, IsWholeFile}
+use Rattle.jpg_spec.specs.declared.answers.FaultAt.{FaultAt}
+use Rattle.jpg_spec.specs.declared.fault.Fault.TheVariants.{NotBuilt}
+use Rattle.jpg_spec.specs.declared.frame.Colour.{Colour}
+use Rattle.jpg_spec.specs.declared.frame.Limits.{Limits}
+use Rattle.jpg_base.specs.declared.stop.Fed.{Fed}
+use Rattle.jpg_base.specs.declared.stop.Fed.TheVariants as fed
+use Rattle.jpg_base.specs.declared.stop.Stop.{Stop}
+use Rattle.jpg_base.specs.declared.stop.Stop.TheVariants as stop
+use Rattle.jpg_file.specs.FirstHead.{IsHeadOf}
+use Rattle.jpg_file.specs.File.{EndsFile, Stands}
+use Rattle.jpg_file.specs.declared.head.Head.{Head}
+use Rattle.jpg_file.specs.Items.{EndsProgressive}
+use Rattle.jpg_file.specs.declared.file.FileWork.{FileWork}
+
+-- what is seen of a reader: the file in work, whether it is whole (then neither `feed` nor `end` may be called any more), and why it stopped, if it did
+pub record ReaderState : Type 0 where
+  pub limits : Limits
+  pub file : FileWork
+  pub done : Bool
+  pub stop : Option Stop
+
+-- what every reader keeps: it stands for some bytes, or for a whole file
+pub record IsReading (r : ReaderState) : Type 0 where
+  pub limited : AreLimits r.limits
+  pub «open» : r.stop ≡ None → r.done ≡ false → (bytes : List ℕ) × Stands r.limits bytes r.file
+  pub ended : r.done ≡ true → (bytes : List ℕ) × EndsFile r.limits bytes r.file
+
+-- The bytes were fed. They show no fault and hold no whole file, and more may come.
+pub record HasRead (bytes : List ℕ) (r : ReaderState) : Type 0 where
+  pub going : r.stop ≡ None
+  pub undone : r.done ≡ false
+  pub short : length bytes < r.limits.input
+  pub stands : FileStands r.limits bytes
+  pub «open» : Stands r.limits bytes r.file
+  pub head : IsHeadOf r.limits bytes r.file.head
+
+-- They are a whole file.
+pub record IsDone (bytes : List ℕ) (r : ReaderState) : Type 0 where
+  pub done : r.done ≡ true
+  pub meaning : Meaning
+  pub whole : IsWholeFile r.limits bytes meaning
+  pub ended : EndsFile r.limits bytes r.file
+  pub head : IsHeadOf r.limits bytes r.file.head
+
+-- It is their first fault, whatever follows; or with byte number `f.at` the header of a progressive frame is whole, which isn't read yet.
+abbrev pub IsStopOf : Limits → List ℕ → FaultAt → Type 0
+IsStopOf limits bytes f =
+    ((rest : List ℕ) → IsFirstFault limits (bytes ++ rest) f.fault f.at)
+    ⊎ ((f.fault ≡ NotBuilt) × (f.at ≤ length bytes) × EndsProgressive limits (take f.at bytes))
+
+-- the first scan header of the bytes up to byte n, or up to the one before it
+abbrev pub KeepsHead : Limits → List ℕ → ℕ → Option Head → Type 0
+KeepsHead limits bytes n head = (m : ℕ) × (m ≤ n) × (n ≤ m + 1) × IsHeadOf limits (take m bytes) head
+
+-- what is seen of the first scan header: the frame, the colours, and the place of its end
+abbrev pub head_seen : ReaderState → Option (Frame × Colour × ℕ)
+head_seen r = option_map (λ h. (h.frame, h.colour, h.at)) r.file.head
+
+-- THE ANSWER to a piece that is fed, by all bytes so far. A fault stands behind the bytes before the piece.
+abbrev pub AfterFeed : List ℕ → List ℕ → Result Fed Stop → ReaderState → Type 0
+AfterFeed bytes piece (Ok fed.More) r = HasRead (bytes ++ piece) r
+AfterFeed bytes piece (Ok (fed.Done used)) r = IsDone (bytes ++ take used piece) r × (1 ≤ used) × (used ≤ length piece)
+AfterFeed bytes piece (Err (stop.Fault f)) r = IsStopOf r.limits (bytes ++ piece) f × (length bytes < f.at) × KeepsHead r.limits (bytes ++ piece) f.at r.file.head
+AfterFeed bytes piece (Err stop.NoMemory) r = (n : ℕ) × KeepsHead r.limits (bytes ++ piece) n r.file.head
+
+-- for all bytes that were fed before
+abbrev pub FeedsFile : ReaderState → List ℕ → Result Fed Stop → ReaderState → Type 0
+FeedsFile old piece answer new = (bytes : List ℕ) → HasRead bytes old → AfterFeed bytes piece answer new
+
+-- a fault of bytes that end
+abbrev pub StopsAt : Limits → List ℕ → Stop → Type 0
+StopsAt limits bytes (stop.Fault f) = IsFirstFault limits bytes f.fault f.at
+StopsAt limits bytes stop.NoMemory = ⊥
+
+-- the word that keeps `done`
+abbrev pub EndsDone : Result Fed Stop → ReaderState → Type 0
+EndsDone (Ok fed.More) r = r.done ≡ false
+EndsDone (Ok (fed.Done used)) r = r.done ≡ true
+EndsDone (Err e) r = r.done ≡ false
+
+-- THE SAME of the file in work
+abbrev pub AfterFilePiece : Limits → List ℕ → List ℕ → Result Fed Stop → FileWork → Type 0
+AfterFilePiece limits bytes piece (Ok fed.More) w = Stands limits (bytes ++ piece) w × (length (bytes ++ piece) < limits.input)
+AfterFilePiece limits bytes piece (Ok (fed.Done used)) w = EndsFile limits (bytes ++ take used piece) w × (1 ≤ used) × (used ≤ length piece)
+AfterFilePiece limits bytes piece (Err (stop.Fault f)) w =
+    IsStopOf limits (bytes ++ piece) f × (length bytes < limits.input → length bytes < f.at) × KeepsHead limits (bytes ++ piece) f.at w.head
+AfterFilePiece limits bytes piece (Err stop.NoMemory) w = (n : ℕ) × KeepsHead limits (bytes ++ piece) n w.head
+
+abbrev pub ReadsPiece : Limits → FileWork → List ℕ → Result Fed Stop → FileWork → Type 0
+ReadsPiece limits old piece answer new = (bytes : List ℕ) → Stands limits bytes old → AfterFilePiece limits bytes piece answer new

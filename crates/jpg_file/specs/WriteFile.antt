@@ -1,0 +1,52 @@
+-- A SEQUENTIAL FILE THAT IS WRITTEN (T.81, B.2): what it means, when it may be written, and what writing does.
+use Rattle.std.specs.Prelude.{◌≡◌, ℕ, true, false, List, [], length, replicate, Result, Ok, Err}
+use Rattle.jpg_spec.specs.FileText.{file_text, frame_of_meaning, off}
+use Rattle.jpg_spec.specs.FrameHeader.{identifiers}
+use Rattle.jpg_spec.specs.Geometry.{Frame, is_progressive}
+use Rattle.jpg_spec.specs.Meaning.{Meaning, colour_of, real_blocks}
+use Rattle.jpg_spec.specs.Moved.{frame_grids}
+use Rattle.jpg_spec.specs.Scan.{Blocks}
+use Rattle.jpg_spec.specs.WrittenFile.{is_script_behind}
+use Rattle.jpg_base.specs.Desk.{DeskState, Rose, AppendsLast}
+use Rattle.jpg_base.specs.Laws.{AppendsPart}
+use Rattle.jpg_base.specs.declared.stop.WriteFault.{WriteFault}
+use Rattle.jpg_huff.specs.Out.{OnlyWrites}
+use Rattle.jpg_markers.specs.OutHead.{head_meaning}
+use Rattle.jpg_seq.specs.ScanWritten.{HasBaselineBlocks}
+use Rattle.jpg_file.specs.WriteTables.{given_in}
+use Rattle.jpg_file.specs.WriteScan.{scans_bytes}
+use Rattle.jpg_file.specs.declared.write.Plan.{Plan}
+
+-- what the file means: its head, and the real blocks of those that are seen
+abbrev pub file_meaning : Plan → List (ℕ × List ℕ) → Blocks → Meaning
+file_meaning plan kept blocks = record (head_meaning plan.out kept) { blocks = real_blocks plan.out.frame blocks }
+
+-- its text, without restarts
+abbrev pub file_bytes : Plan → List (ℕ × List ℕ) → Blocks → List ℕ
+file_bytes plan kept blocks = file_text (file_meaning plan kept blocks) plan.script off
+
+-- its scans
+abbrev pub scans_due : Plan → Frame → Blocks → List ℕ
+scans_due plan f blocks = scans_bytes (identifiers plan.out.frame.components) plan.out.colour f blocks (given_in (replicate 4 false)) plan.script
+
+-- A sequential plan of precision 8, with a table for each component and the colours that the file tells, whose script passes;
+-- and blocks that are seen in a sequential frame of the same grids and can be written.
+pub record CanWriteFile (plan : Plan) (kept : List (ℕ × List ℕ)) (f : Frame) (blocks : Blocks) : Type 0 where
+  pub sequential : is_progressive plan.out.frame.process ≡ false
+  pub precision : plan.out.frame.precision ≡ 8
+  pub tables : length plan.out.quants.items ≡ length plan.out.frame.components
+  pub colour : plan.out.colour ≡ colour_of (file_meaning plan kept blocks)
+  pub passes : is_script_behind (frame_of_meaning (file_meaning plan kept blocks)) [] plan.script ≡ true
+  pub seen : is_progressive f.process ≡ false
+  pub grids : frame_grids f ≡ frame_grids plan.out.frame
+  pub writable : HasBaselineBlocks f blocks
+
+-- all that is due was written, or after a fault a first part of it
+abbrev pub AreAppended : DeskState → List ℕ → Result (Unit {0}) WriteFault → DeskState → Type 0
+AreAppended old due (Ok u) new = AppendsLast old.outputs due new.outputs
+AreAppended old due (Err fault) new = AppendsPart old.outputs due new.outputs × Rose old.counts.writes new.counts.writes
+
+-- and nothing else changed
+pub record Writes (old : DeskState) (due : List ℕ) (result : Result (Unit {0}) WriteFault) (new : DeskState) : Type 0 where
+  pub only : OnlyWrites old new
+  pub bytes : AreAppended old due result new

@@ -1,0 +1,27 @@
+// The faults of an input that holds no whole file.
+ghost use Rattle.std.specs.Prelude.{◌≡◌};
+ghost use Rattle.jpg_spec.specs.declared.fault.Fault.TheVariants.{Truncated, InputTooLong};
+ghost use Rattle.jpg_base.specs.declared.stop.Stop.TheVariants as stop;
+
+use jpg_base::Stop;
+use jpg_spec::{Fault, FaultAt};
+
+/// It has as many bytes as may be taken.
+pub fn too_long(most: u64) -> Stop
+    ensures { result ≡ stop.Fault (record { fault = InputTooLong; at = most }) }
+{
+    Stop::Fault(FaultAt {
+        fault: Fault::InputTooLong,
+        at: most,
+    })
+}
+
+/// It ends after as many bytes as were taken.
+pub fn truncated(taken: u64) -> Stop
+    ensures { result ≡ stop.Fault (record { fault = Truncated; at = taken }) }
+{
+    Stop::Fault(FaultAt {
+        fault: Fault::Truncated,
+        at: taken,
+    })
+}

@@ -1,0 +1,194 @@
+// A whole file in work, byte by byte (T.81, B.2.1).
+ghost use Rattle.std.specs.Prelude.{◌≡◌, ◌<◌, ◌+◌, ◌++◌, ℕ, List, [], ◌∷◌, ◌≤◌, length, slice_index, IfErr};
+ghost use Rattle.jpg_spec.specs.FrameHeader.{AreLimits};
+ghost use Rattle.jpg_file.specs.File.{HeadStands, NotesHead, RoomMade, Stands, TakesFileByte, TakesFileEnd, TakesFileHead, TakesFileStep, TakesSome, limits_of};
+ghost use Rattle.jpg_file.specs.InData.{ArePlain};
+ghost use Rattle.jpg_file.specs.Reading.{IsOpenScan};
+
+use crate::begun::Begun;
+use crate::head::{Head, head_of};
+use crate::items::{ItemStep, Items};
+use crate::reading::Reading;
+use jpg_base::{Limits, NoMemory, Stop};
+use jpg_coefs::Coefs;
+use jpg_spec::{Fault, FaultAt};
+use std::alloc::Global;
+
+/// A file in work: its items and the scan in work, and what the scans so far told.
+#[derive(Drop)]
+pub struct FileWork {
+    pub alloc: Global,
+    pub reading: Reading,
+    pub begun: Begun,
+    pub head: Option<Head>,
+}
+
+impl FileWork {
+    /// Before any byte. It takes no memory yet.
+    pub fn new(alloc: Global, limits: Limits) -> FileWork
+        requires { AreLimits limits }
+        ensures { Stands limits [] result }
+    {
+        FileWork {
+            alloc,
+            reading: Reading {
+                items: Items::new(alloc, limits),
+                coefs: None,
+                scan: None,
+                taken: 0,
+            },
+            begun: Begun::new(),
+            head: None,
+        }
+    }
+
+    /// Takes a further byte, and tells whether the file is whole with it. It answers the fault that the
+    /// byte shows, and NotBuilt where it ends the header of a progressive frame.
+    pub fn byte(&mut self, byte: u8) -> Result<bool, Stop>
+        requires stands { (bytes : List ℕ) × Stands (limits_of self.old) bytes self.old }
+        requires limits { AreLimits (limits_of self.old) }
+        requires room { self.old.reading.taken < (limits_of self.old).input }
+        ensures after { TakesFileByte self.old byte result self.new }
+        ensures head { IfErr result (λ stop. self.new.head ≡ self.old.head) }
+    {
+        match self.step(byte) {
+            ItemStep::More => Ok(false),
+            ItemStep::Head => self.take_head(),
+            ItemStep::Eoi => self.take_end(),
+            ItemStep::Progressive => Err(Stop::Fault(FaultAt {
+                fault: Fault::NotBuilt,
+                at: self.reading.taken,
+            })),
+            ItemStep::Fault(fault) => Err(Stop::Fault(fault)),
+            ItemStep::NoMemory => Err(Stop::NoMemory),
+        }
+    }
+
+    /// Takes some of these bytes, which are not all taken at once, and tells how many these were and what the
+    /// last of them came to.
+    pub fn some(&mut self, bytes: &[u8]) -> (usize, Result<bool, Stop>)
+        requires stands { (bytes : List ℕ) × Stands (limits_of self.old) bytes self.old }
+        requires limits { AreLimits (limits_of self.old) }
+        requires room { self.old.reading.taken < (limits_of self.old).input }
+        requires some { 1 ≤ length bytes.now }
+        ensures { TakesSome self.old bytes.now result.0 result.1 self.new }
+    {
+        let most = self.reading.items.limits.input - self.reading.taken;
+        let n = plain_length(bytes, most);
+        if n > 1 && self.reading.is_open() {
+            return self.run(&bytes[..n]);
+        }
+        (1, self.byte(bytes[0]))
+    }
+
+    // Takes up to eight plain bytes inside the data of a scan.
+    fn run(&mut self, run: &[u8]) -> (usize, Result<bool, Stop>)
+        requires stands { (bytes : List ℕ) × Stands (limits_of self.old) bytes self.old }
+        requires limits { AreLimits (limits_of self.old) }
+        requires opened { IsOpenScan self.old.reading }
+        requires room { self.old.reading.taken + length run.now ≤ (limits_of self.old).input }
+        requires some { 1 ≤ length run.now }
+        requires few { length run.now ≤ 8 }
+        requires plain { ArePlain run.now }
+        ensures { TakesSome self.old run.now result.0 result.1 self.new }
+    {
+        let (n, step) = self.reading.scan_run(run);
+        match step {
+            ItemStep::More => (n, Ok(false)),
+            ItemStep::Fault(fault) => (n, Err(Stop::Fault(fault))),
+            _ => (n, Err(Stop::NoMemory)),
+        }
+    }
+
+    // Takes a byte, inside the data of a scan or between items.
+    fn step(&mut self, byte: u8) -> ItemStep
+        requires stands { (bytes : List ℕ) × Stands (limits_of self.old) bytes self.old }
+        requires limits { AreLimits (limits_of self.old) }
+        requires room { self.old.reading.taken < (limits_of self.old).input }
+        ensures after { TakesFileStep self.old byte result self.new }
+        ensures head { self.new.head ≡ self.old.head }
+    {
+        if self.reading.scan.is_some() {
+            self.reading.scan_byte(byte)
+        } else {
+            self.reading.item_byte(byte)
+        }
+    }
+
+    // Takes a scan header that is whole.
+    fn take_head(&mut self) -> Result<bool, Stop>
+        requires stands { (bytes : List ℕ) × HeadStands (limits_of self.old) bytes self.old }
+        ensures after { TakesFileHead self.old result self.new }
+        ensures head { IfErr result (λ stop. self.new.head ≡ self.old.head) }
+    {
+        if self.make_room().is_err() {
+            return Err(Stop::NoMemory);
+        }
+        match self.reading.take_head(&mut self.begun) {
+            ItemStep::More => {
+                self.note_head();
+                Ok(false)
+            }
+            ItemStep::Fault(fault) => Err(Stop::Fault(fault)),
+            _ => Err(Stop::NoMemory),
+        }
+    }
+
+    // Keeps the first scan header.
+    fn note_head(&mut self)
+        ensures { NotesHead self.old self.new }
+    {
+        if self.head.is_none() {
+            self.head = head_of(&self.reading.items.held, self.reading.taken);
+        }
+    }
+
+    // Makes the picture before the first scan.
+    fn make_room(&mut self) -> Result<(), NoMemory>
+        ensures made { RoomMade self.old result self.new }
+        ensures head { self.new.head ≡ self.old.head }
+    {
+        let Some(frame) = &self.reading.items.held.frame else {
+            return Ok(());
+        };
+        frame.checked();
+        if self.reading.coefs.is_some() {
+            return Ok(());
+        }
+        let coefs = Coefs::new(self.alloc, frame)?;
+        self.reading.coefs = Some(coefs);
+        Ok(())
+    }
+
+    // Takes EOI: the file is whole where each component was in a scan.
+    fn take_end(&self) -> Result<bool, Stop>
+        ensures { TakesFileEnd self.now result }
+    {
+        let Some(frame) = &self.reading.items.held.frame else {
+            return Err(Stop::NoMemory);
+        };
+        if self.begun.all(frame.count()) {
+            return Ok(true);
+        }
+        Err(Stop::Fault(FaultAt {
+            fault: Fault::MissingComponent,
+            at: self.reading.taken,
+        }))
+    }
+}
+
+// How many bytes there are before the first FF, at most eight and at most so many.
+fn plain_length(bytes: &[u8], most: u64) -> usize
+    ensures within { result ≤ length bytes.now }
+    ensures few { result ≤ 8 }
+    ensures room { result ≤ most }
+    ensures plain { (k : ℕ) → k < result → slice_index bytes.now k ≡ 255 → ⊥ }
+{
+    let most = most.min(8).min(bytes.len() as u64) as usize;
+    for i in 0..most {
+        if bytes[i] == 0xff {
+            return i;
+        }
+    }
+    most
+}

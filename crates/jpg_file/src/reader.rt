@@ -1,0 +1,143 @@
+// A whole file, fed in pieces of any length (T.81, B.2.1).
+ghost use Rattle.std.specs.Prelude.{◌≡◌, ◌<◌, length, [], ℕ, List, Some, None, true, false, Ok, Err};
+ghost use Rattle.jpg_spec.specs.FrameHeader.{AreLimits};
+ghost use Rattle.jpg_base.specs.declared.stop.Stop.{Stop as Stopped};
+ghost use Rattle.jpg_file.specs.File.{Stands};
+ghost use Rattle.jpg_file.specs.PictureRead.{IsPicture, TakesPicture};
+ghost use Rattle.jpg_file.specs.ReadFile.{EndsDone, FeedsFile, HasRead, ReadsPiece, StopsAt, head_seen};
+
+use crate::ends::{too_long, truncated};
+use crate::file::FileWork;
+use crate::picture::{Picture, picture_of};
+use jpg_base::{Fed, Frame, Limits, Stop};
+use jpg_spec::Colour;
+use std::alloc::Global;
+use std::marker::Model;
+
+/// Reads a sequential file into a picture.
+#[derive(Drop)]
+pub struct Reader {
+    limits: Limits,
+    file: FileWork,
+    done: bool,
+    stop: Option<Stop>,
+}
+
+impl Model for Reader {
+    ghost use Rattle.jpg_file.specs.ReadFile.{IsReading, ReaderState};
+
+    ghost Value = { ReaderState };
+
+    ghost view = { λ r. record { limits = r.limits; file = r.file; done = r.done; stop = r.stop } };
+
+    ghost invariant = { λ r. IsReading (record { limits = r.limits; file = r.file; done = r.done; stop = r.stop }) };
+}
+
+impl Reader {
+    /// A reader that was given no bytes. It takes no memory yet.
+    pub fn new(alloc: Global, limits: Limits) -> Reader
+        requires { AreLimits limits }
+        ensures read { HasRead [] result }
+        ensures limits { result.limits ≡ limits }
+    {
+        Reader {
+            limits,
+            file: FileWork::new(alloc, limits),
+            done: false,
+            stop: None,
+        }
+    }
+
+    /// Takes a further piece of the file, of any length. It answers Done where a whole file stands, and tells
+    /// how many bytes of the piece were used, its EOI among them. Else it answers the first fault of the bytes
+    /// so far, at its place, and InputTooLong where as many bytes were taken as may be; NotBuilt, at the end
+    /// of the header of a progressive frame (SOF2) that shows no fault; or NoMemory. Else it answers More.
+    /// After a stop it answers the same stop. It may not be called once the file is whole (`is_done`).
+    pub fn feed(&mut self, piece: &[u8]) -> Result<Fed, Stop>
+        requires { self.old.done ≡ false }
+        ensures answered { FeedsFile self.old piece.now result self.new }
+        ensures done { EndsDone result self.new }
+        ensures stopped { (stop : Stopped) → result ≡ Err stop → self.new.stop ≡ Some stop }
+        ensures again { (stop : Stopped) → self.old.stop ≡ Some stop → (result ≡ Err stop) × (self.new ≡ self.old) }
+        ensures limits { self.new.limits ≡ self.old.limits }
+    {
+        if let Some(stop) = self.stop {
+            return Err(stop);
+        }
+        let answer = read_piece(&mut self.file, self.limits, piece);
+        match answer {
+            Ok(Fed::More) => {}
+            Ok(Fed::Done { .. }) => self.done = true,
+            Err(stop) => self.stop = Some(stop),
+        }
+        answer
+    }
+
+    /// Whether the file is whole, so that neither `feed` nor `end` may be called any more.
+    pub fn is_done(&self) -> bool
+        ensures { result ≡ self.now.done }
+    {
+        self.done
+    }
+
+    /// The file ends here. It answers Truncated at the number of bytes taken, or the earlier stop. It
+    /// may not be called once the file is whole (`is_done`).
+    pub fn end(&mut self) -> Stop
+        requires { self.old.done ≡ false }
+        ensures answered { (bytes : List ℕ) → HasRead bytes self.old → StopsAt self.old.limits bytes result }
+        ensures done { self.new.done ≡ false }
+        ensures stopped { self.new.stop ≡ Some result }
+        ensures again { (stop : Stopped) → self.old.stop ≡ Some stop → (result ≡ stop) × (self.new ≡ self.old) }
+        ensures limits { self.new.limits ≡ self.old.limits }
+    {
+        if let Some(stop) = self.stop {
+            return stop;
+        }
+        let stop = truncated(self.file.reading.taken);
+        self.stop = Some(stop);
+        stop
+    }
+
+    /// The frame, the colours, and the place of the end of the first scan header, once it is whole and breaks
+    /// no rule; also after a later stop.
+    pub fn head(&self) -> Option<(Frame, Colour, u64)>
+        ensures { result ≡ head_seen self.now }
+    {
+        match &self.file.head {
+            Some(head) => Some((head.frame.copy(), head.colour, head.at)),
+            None => None,
+        }
+    }
+
+    /// The picture of the whole file. It may be called where `feed` answered Done alone (`is_done`).
+    pub fn take(self) -> Picture
+        requires { self.done ≡ true }
+        ensures meaning { TakesPicture self result }
+        ensures picture { IsPicture result }
+    {
+        picture_of(self.file)
+    }
+}
+
+// Reads the bytes of a piece up to the one that makes the file whole.
+fn read_piece(file: &mut FileWork, limits: Limits, piece: &[u8]) -> Result<Fed, Stop>
+    requires limits { AreLimits limits }
+    requires stands { (bytes : List ℕ) × Stands limits bytes file.old }
+    ensures { ReadsPiece limits file.old piece.now result file.new }
+{
+    let mut done = 0usize;
+    while done < piece.len() {
+        if file.reading.taken >= limits.input {
+            return Err(too_long(limits.input));
+        }
+        let (n, answer) = file.some(&piece[done..]);
+        done += n;
+        if answer? {
+            return Ok(Fed::Done { used: done as u64 });
+        }
+    }
+    if file.reading.taken >= limits.input {
+        return Err(too_long(limits.input));
+    }
+    Ok(Fed::More)
+}

@@ -1,0 +1,36 @@
+-- The history of scans, and what it stands for (T.81 B.2.3, G.1.1.1).
+use Rattle.std.specs.Prelude.{◌≡◌, ℕ, ◌<◌, Bool, None, Some, List, ◌∷◌, length, slice_index_or, Option, Result, Ok, Err}
+use Rattle.jpg_spec.specs.Geometry.{Frame, is_progressive}
+use Rattle.jpg_spec.specs.History.{has_begun, known_to, order_fault}
+use Rattle.jpg_spec.specs.Segments.{ScanHead}
+use Rattle.jpg_spec.specs.declared.fault.Fault.{Fault}
+use Rattle.jpg_scans.specs.declared.progress.Progress.{Progress}
+use Rattle.jpg_scans.specs.declared.sent.Sent.{Sent}
+use Rattle.jpg_scans.specs.Sent.{known_in, nothing_sent}
+
+abbrev pub sent_of : Progress → ℕ → Sent
+sent_of p i = slice_index_or p.components i nothing_sent
+
+-- whether a component was in a scan
+abbrev pub begun_at : Progress → ℕ → Bool
+begun_at p i = (sent_of p i).is_begun
+
+-- the bit down to which a coefficient of a component is known
+abbrev pub known_at : Progress → ℕ → ℕ → Option ℕ
+known_at p i k = known_in (sent_of p i) k
+
+-- the scans of a frame so far had these heads, the newest first
+pub record StandsForScans (p : Progress) (f : Frame) (heads : List ScanHead) : Type 0 where
+  pub process : p.is_progressive ≡ is_progressive f.process
+  pub count : p.count ≡ length f.components
+  pub begun : (i : ℕ) → i < 4 → begun_at p i ≡ has_begun heads i
+  pub known : (i k : ℕ) → i < 4 → k < 64 → known_at p i k ≡ known_to heads i k
+
+-- what an answer says of a head, and what stands afterwards
+abbrev pub IsJudged : Frame → List ScanHead → ScanHead → Result (Unit {0}) Fault → Progress → Type 0
+IsJudged f heads head (Ok done) new = (order_fault f heads head ≡ None) × StandsForScans new f (head ∷ heads)
+IsJudged f heads head (Err fault) new = order_fault f heads head ≡ Some fault
+
+-- whatever scans of whatever frame there were
+abbrev pub Admits : Progress → ScanHead → Result (Unit {0}) Fault → Progress → Type 0
+Admits old head answer new = (f : Frame) (heads : List ScanHead) → StandsForScans old f heads → IsJudged f heads head answer new

@@ -1,0 +1,54 @@
+// A scan of a script (T.81, B.2.3).
+ghost use Rattle.std.specs.Prelude.{◌≡◌, []};
+
+use arrayvec::ArrayVec;
+use std::marker::Model;
+
+/// A scan of a script: its components by their index in the frame, the band `ss` to `se` in zigzag
+/// places, and the bits `ah` and `al` of successive approximation (T.81, B.2.3).
+#[derive(Drop)]
+pub struct Entry {
+    pub components: ArrayVec<u8, 4>,
+    pub ss: u8,
+    pub se: u8,
+    pub ah: u8,
+    pub al: u8,
+}
+
+impl Model for Entry {
+    ghost use Rattle.jpg_spec.specs.Script.{Entry as Scan};
+
+    ghost Value = { Scan };
+
+    ghost view = { λ e. record { components = e.components.items; ss = e.ss; se = e.se; ah = e.ah; al = e.al } };
+}
+
+impl Entry {
+    /// The same entry again.
+    pub fn copy(&self) -> Entry
+        ensures { result ≡ self.now }
+    {
+        let mut components = ArrayVec::new();
+        let _ = components.try_extend_from_slice(self.components.as_slice());
+        Entry {
+            components,
+            ss: self.ss,
+            se: self.se,
+            ah: self.ah,
+            al: self.al,
+        }
+    }
+}
+
+// No scan at all.
+impl Default for Entry {
+    fn default() -> Entry {
+        Entry {
+            components: ArrayVec::new(),
+            ss: 0,
+            se: 0,
+            ah: 0,
+            al: 0,
+        }
+    }
+}

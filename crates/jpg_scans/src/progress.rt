@@ -1,0 +1,128 @@
+// The scans of a file so far, and which may follow (T.81 B.2.3, G.1.1.1).
+ghost use Rattle.std.specs.Prelude.{◌≡◌, ◌<◌, ◌≤◌, ℕ, [], ◌∷◌, All, OnErr, List, length};
+ghost use Rattle.jpg_spec.specs.Geometry.{Frame as Numbers, is_progressive};
+ghost use Rattle.jpg_spec.specs.History.{has_begun, order_fault};
+ghost use Rattle.jpg_spec.specs.Lists.{all_of, any_of, below};
+ghost use Rattle.jpg_spec.specs.Segments.{ScanHead as Head, head_components};
+
+use crate::sent::Sent;
+use jpg_base::{Fault, Frame, Process, ScanHead};
+
+/// The history of the scans of a file: of each component whether it was in a scan, and of each of its
+/// coefficients the bit down to which it is known.
+#[derive(Drop)]
+pub struct Progress {
+    is_progressive: bool,
+    count: u8,
+    components: [Sent; 4],
+    ghost few: { count ≤ 4 },
+}
+
+impl Progress {
+    ghost use Rattle.jpg_scans.specs.Progress.{begun_at, sent_of, Admits, StandsForScans};
+    ghost use Rattle.jpg_scans.specs.Sent.{is_next_in};
+
+    /// The history of a file of this frame before its first scan.
+    pub fn new(frame: &Frame) -> Progress
+        ensures { StandsForScans result frame.now [] }
+    {
+        frame.checked();
+        Progress {
+            is_progressive: is_progressive(frame.process()),
+            count: frame.count(),
+            components: [Sent::new(); 4],
+        }
+    }
+
+    /// Takes the next scan, or answers the fault that it shows: RepeatedScan in a sequential frame, where
+    /// one of its components was in a scan, or Progression in a progressive one, where it isn't the next
+    /// of each of its components. Then nothing has changed.
+    pub fn admit(&mut self, head: &ScanHead) -> Result<(), Fault>
+        requires { All (λ p. p.component < 4) head.now.parts }
+        ensures exact { Admits self.old head.now result self.new }
+        ensures kept { OnErr result (self.new ≡ self.old) }
+    {
+        match self.fault(head) {
+            Some(fault) => Err(fault),
+            None => {
+                self.note(head);
+                Ok(())
+            }
+        }
+    }
+
+    /// The fault that a scan shows behind those so far, as `admit` answers it.
+    pub fn fault(&self, head: &ScanHead) -> Option<Fault>
+        requires { All (λ p. p.component < 4) head.now.parts }
+        ensures { (f : Numbers) (heads : List Head) → StandsForScans self.now f heads → result ≡ order_fault f heads head.now }
+    {
+        if self.is_progressive {
+            if self.are_next(head) {
+                None
+            } else {
+                Some(Fault::Progression)
+            }
+        } else if self.has_any(head) {
+            Some(Fault::RepeatedScan)
+        } else {
+            None
+        }
+    }
+
+    /// Takes a scan that shows no fault.
+    pub fn note(&mut self, head: &ScanHead)
+        requires { All (λ p. p.component < 4) head.now.parts }
+        ensures { (f : Numbers) (heads : List Head) → StandsForScans self.old f heads → StandsForScans self.new f (head.now ∷ heads) }
+    {
+        for part in head.parts.as_slice() {
+            self.components[part.component as usize].note(head);
+        }
+    }
+
+    /// Whether each component of the frame was in a scan.
+    pub fn is_complete(&self) -> bool
+        ensures { (f : Numbers) (heads : List Head) → StandsForScans self.now f heads → result ≡ all_of (has_begun heads) (below (length f.components)) }
+    {
+        let mut all = true;
+        for i in 0..self.count {
+            all = all && self.components[i as usize].is_begun;
+        }
+        all
+    }
+
+    // Whether one of a scan's components was in a scan.
+    fn has_any(&self, head: &ScanHead) -> bool
+        requires { All (λ p. p.component < 4) head.now.parts }
+        ensures { result ≡ any_of (begun_at self.now) (head_components head.now) }
+    {
+        for part in head.parts.as_slice() {
+            if self.components[part.component as usize].is_begun {
+                return true;
+            }
+        }
+        false
+    }
+
+    // Whether a scan is the next of each of its components.
+    fn are_next(&self, head: &ScanHead) -> bool
+        requires { All (λ p. p.component < 4) head.now.parts }
+        ensures { result ≡ all_of (λ i. is_next_in (sent_of self.now i) head.now) (head_components head.now) }
+    {
+        for part in head.parts.as_slice() {
+            if !self.components[part.component as usize].is_next(head) {
+                return false;
+            }
+        }
+        true
+    }
+}
+
+fn is_progressive(process: Process) -> bool
+    ensures { result ≡ is_progressive process }
+{
+    match process {
+        Process::Baseline => false,
+        Process::Extended => false,
+        Process::Progressive => true,
+    }
+}

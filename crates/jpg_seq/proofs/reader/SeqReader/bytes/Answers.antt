@@ -1,0 +1,25 @@
+use Rattle.std.proofs.Common.{rules, ◌≡◌, ◌++◌, ◌-◌, List, Bool, length, ap, sym, ◌∙◌, subst, arith}
+use Rattle.std.proofs.lemmas.List.{length-append}
+use Rattle.jpg_spec.specs.Bits.{bits_of_bytes}
+use Rattle.jpg_coefs.specs.Machine.{TakesBits}
+use Rattle.jpg_seq.specs.Source.{bits_in}
+use Rattle.jpg_seq.specs.Reader.{with_work, sequential}
+use Rattle.jpg_seq.specs.Work.{Work}
+use Rattle.jpg_seq.proofs.Sources.{bytes_long, source_long, new_source, taken_count}
+use Rattle.jpg_seq.proofs.reader.SeqReader.bytes.Goals as goal
+
+pub len-requires : goal.len-requires
+len-requires c =
+    let t = c.read-taken.ensures in let rest = c.read-taken.new.source in
+    let all = new_source c.new.result c.args.bytes.now c.new.ensures in
+    omega (arith, ap length (sym all ∙ t.1), length-append t.0 (bits_in rest), source_long rest, bytes_long c.args.bytes.now, c.requires.few)
+
+pub returns : goal.returns
+returns c =
+    let t = c.read-taken.ensures in let rest = c.read-taken.new.source in
+    let all = new_source c.new.result c.args.bytes.now c.new.ensures in
+    let count = taken_count c.args.bytes.now t.0 (bits_in rest) (c.len-all.result - c.len.result) c.len.result (sym all ∙ t.1) (omega (arith, c.len-all.ensures, ap length all)) c.len.ensures in
+    let T : List Bool → Type 0 = λ x. TakesBits sequential c.args.most c.args.self.now c.args.coefs.now (bits_of_bytes c.args.bytes.now) c.read-taken.result (with_work c.read-taken.new.self c.read-taken.new.unit) c.read-taken.new.coefs x in
+    let S : List Bool → Type 0 = λ x. TakesBits sequential c.args.most c.args.self.now c.args.coefs.now x c.read-taken.result (with_work c.read-taken.new.self c.read-taken.new.unit) c.read-taken.new.coefs (bits_in rest) in
+    let U : Work → Type 0 = λ w. TakesBits sequential c.args.most (with_work c.args.self.now w) c.args.coefs.now (bits_in (record { store = c.new.result; bytes = c.args.bytes })) c.read-taken.result (with_work c.read-taken.new.self c.read-taken.new.unit) c.read-taken.new.coefs (bits_in rest) in
+    subst T count (subst S all (subst U c.copy-unit.ensures t))

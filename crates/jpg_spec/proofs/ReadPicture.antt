@@ -1,0 +1,294 @@
+-- What a file means may be written.
+use Rattle.std.proofs.Common.{◌≡◌, ℕ, suc, ◌+◌, ◌<◌, ◌≤◌, Bool, true, false, cond, ◌&&◌, ◌==◌, List, [], ◌∷◌, ◌++◌, length, get_or, map, refl, sym, ap, ◌∙◌, subst, arith, ℤ, pos, Option, Some, None}
+use Rattle.std.specs.Prelude.{◌||◌, nat_lt, int_le, nat_abs, unwrap_or, is_none}
+use Rattle.std.specs.Int.{to_be_bytes, w16}
+use Rattle.std.specs.List.{All}
+use Rattle.std.proofs.lemmas.Bool.Decides.{nat_tests}
+use Rattle.std.proofs.lemmas.List.{get_or-map, length-map, reverse-reverse}
+use Rattle.std.proofs.lemmas.List.Elements.{All-head, All-tail, All-nil, All-cons, All-from_get_or}
+use Rattle.jpg_spec.specs.Lists.{any_of, is_among, below}
+use Rattle.jpg_spec.specs.Segments.{QuantTable, ScanHead, standard_limits}
+use Rattle.jpg_spec.specs.declared.frame.ScanPart.{ScanPart}
+use Rattle.jpg_spec.specs.Geometry.{Frame, bounds_of, component_at, no_component, is_real}
+use Rattle.jpg_spec.specs.FrameHeader.{IsFrame, AreLimits}
+use Rattle.jpg_spec.specs.Elements.{zeros, are_in_bounds}
+use Rattle.jpg_spec.specs.ScanText.{gray_coding}
+use Rattle.jpg_spec.specs.QuantContents.{is_zero_quant}
+use Rattle.jpg_spec.specs.Markers.{Segment, Pass, SpellsSegment, code_fault, code_fault_if, has_frame, has_scan, is_kept, kept_after, kept_count}
+use Rattle.jpg_spec.specs.InForce.{no_frame, frame_of, first_some, quant_in_force, head_in, heads_of}
+use Rattle.jpg_spec.specs.History.{names, has_begun, quant_of, lacks_table, is_complete, needs_dc_table, needs_ac_table}
+use Rattle.jpg_spec.specs.InForce.{huffman_in_force}
+use Rattle.jpg_spec.specs.Items.{Item, segment, scan, segments_of, SpellsFront, contents_rule}
+use Rattle.jpg_spec.specs.Scan.{Blocks}
+use Rattle.jpg_spec.specs.Meaning.{Meaning, PictureComponent, picture_frame, real_blocks}
+use Rattle.jpg_spec.specs.FileMeaning.{Leads, Means, picture_component, meaning_of}
+use Rattle.jpg_spec.specs.Ranges.{is_coefficient}
+use Rattle.jpg_spec.specs.WrittenFile.{IsQuantiser, HasQuants, IsBaselineBlock, IsKeptMarker, IsHeaded}
+use Rattle.jpg_spec.specs.Moved.{Choice, moved, gray_fault}
+use Rattle.jpg_spec.specs.declared.frame.Component.{Component}
+use Rattle.jpg_spec.specs.declared.frame.Limits.{Limits}
+use Rattle.jpg_spec.proofs.Common.{same_of}
+use Rattle.jpg_spec.proofs.Common.{both}
+use Rattle.jpg_spec.proofs.Rows.{map_map, by_items, all_front, all_back, at_below}
+use Rattle.jpg_spec.proofs.Common.{length_below}
+use Rattle.jpg_spec.proofs.Turned.{all_reverse}
+use Rattle.jpg_spec.proofs.Common.{not_zero}
+use Rattle.jpg_spec.proofs.FrameFound.{framed}
+use Rattle.jpg_spec.proofs.FrameBehind.{leads_pass, frame_behind}
+use Rattle.jpg_spec.proofs.FirstPasses.{head_at, all_below}
+use Rattle.jpg_spec.proofs.Untouched.{frame_stays}
+use Rattle.jpg_spec.proofs.SingleFrame.{no_heads}
+use Rattle.jpg_spec.proofs.Common.{neither}
+use Rattle.jpg_spec.proofs.SingleKept.{may_keep, input_count}
+use Rattle.jpg_spec.proofs.SingleTables.{AllContents, IsByte, AreEntries, IsQuants, in_force_quants, in_force_entries}
+use Rattle.jpg_spec.proofs.WrittenFront.{frame_is}
+use Rattle.jpg_spec.proofs.Ranges.{leads_in_range}
+use Rattle.jpg_spec.proofs.SameNumbers.{numbers_of, SameNumbers, same_frame, is_place, same_places}
+use Rattle.jpg_spec.proofs.MovedWritten.{IsPicture, moved_headed}
+
+-- THE SEGMENTS of a file of bytes: of bytes, and none too long
+
+abbrev pub AreShort : List Segment → Type 0
+AreShort [] = Unit {0}
+AreShort (s ∷ before) = (length s.1 + 2 < 65536) × AreShort before
+
+abbrev pub AreOfBytes : List Segment → Type 0
+AreOfBytes before = AreShort before × AllContents IsByte before
+
+one_more : (code : ℕ) (contents bytes : List ℕ) (before : List Segment) → SpellsSegment code contents bytes → All IsByte bytes → AreOfBytes before → AreOfBytes ((code, contents) ∷ before)
+one_more code contents bytes before s all older =
+    let (marker, spelled, short, whole) = s in
+    let here = subst (λ bs. All IsByte bs) whole all in
+    ((short, older.0), (all_back IsByte (marker ++ to_be_bytes w16 (length contents + 2)) contents here, older.1))
+
+segments_bytes : (items : List Item) (front : List ℕ) → SpellsFront items front → All IsByte front → AreOfBytes (segments_of items)
+segments_bytes [] front s all = (tt, tt)
+segments_bytes (segment code contents ∷ items) front s all =
+    let (start, rest, cut, older, spelled) = s in
+    let split = subst (λ bs. All IsByte bs) cut all in
+    one_more code contents rest (segments_of items) spelled.0 (all_back IsByte start rest split) (segments_bytes items start older (all_front IsByte start rest split))
+segments_bytes (scan contents intervals ∷ items) front s all =
+    let (start, rest, cut, older, (head, coded, cut_here, spelled, intervals_spelled)) = s in
+    let split = subst (λ bs. All IsByte bs) cut all in
+    let here = subst (λ bs. All IsByte bs) cut_here (all_back IsByte start rest split) in
+    one_more 0xda contents head (segments_of items) spelled (all_front IsByte head coded here) (segments_bytes items start older (all_front IsByte start rest split))
+
+-- KEPT MARKERS
+
+kept_markers : (before : List Segment) → AreShort before → All IsKeptMarker (kept_after before)
+kept_markers [] short = All-nil IsKeptMarker
+kept_markers (s ∷ before) short = by (is_kept before s.0 s.1) refl (kept_markers before short.1)
+  where
+    by : (b : Bool) → is_kept before s.0 s.1 ≡ b → All IsKeptMarker (kept_after before) → All IsKeptMarker (cond b (s ∷ kept_after before) (kept_after before))
+    by true e older = All-cons IsKeptMarker s (kept_after before) ((both (may_keep s.0) _ e).0, short.0) older
+    by false e older = older
+
+-- THE RULES of a file's segments
+
+leads_rules : (limits : Limits) (items : List Item) (blocks : Blocks) → Leads limits items blocks → Pass (contents_rule limits) (segments_of items)
+leads_rules limits [] blocks l = tt
+leads_rules limits (segment code contents ∷ items) blocks l = (l.0, l.1, leads_rules limits items blocks l.2)
+leads_rules limits (scan contents intervals ∷ items) blocks l = (l.1, l.2, leads_rules limits items l.0 l.3)
+
+-- EACH COMPONENT HAS ITS TABLE: one of a scan that breaks no rule
+
+abbrev HasTable : Option QuantTable → Type 0
+HasTable o = (table : QuantTable) × (o ≡ Some table)
+
+lacks_none : (o : Option QuantTable) → is_none o ≡ false → HasTable o
+lacks_none None e = cc
+lacks_none (Some table) e = (table, refl)
+
+named_has : (f : Frame) (before : List Segment) (head : ScanHead) (parts : List ScanPart) (i : ℕ)
+    → any_of (λ p. is_none (quant_in_force before (component_at f p.component).quant) || (needs_dc_table f head && is_none (huffman_in_force before 0 p.dc) || needs_ac_table f head && is_none (huffman_in_force before 1 p.ac))) parts ≡ false
+    → is_among i (map (λ p. p.component) parts) ≡ true → HasTable (quant_in_force before (component_at f i).quant)
+named_has f before head [] i e h = cc
+named_has f before head (p ∷ parts) i e h =
+    let n = neither _ _ e in
+    by (p.component == i) refl h (neither (is_none (quant_in_force before (component_at f p.component).quant)) _ n.0).0 (λ k. named_has f before head parts i n.1 k)
+  where
+    by : (b : Bool) → (p.component == i) ≡ b → (b || is_among i (map (λ p. p.component) parts)) ≡ true → is_none (quant_in_force before (component_at f p.component).quant) ≡ false
+        → (is_among i (map (λ p. p.component) parts) ≡ true → HasTable (quant_in_force before (component_at f i).quant)) → HasTable (quant_in_force before (component_at f i).quant)
+    by true s k none later = subst (λ j. HasTable (quant_in_force before (component_at f j).quant)) (same_of p.component i s) (lacks_none _ none)
+    by false s k none later = later k
+
+no_scans : (limits : Limits) (before : List Segment) → Pass (contents_rule limits) before → has_frame before ≡ false → has_scan before ≡ false
+no_scans limits [] p e = refl
+no_scans limits (s ∷ before) p e = by (s.0 == 0xda) refl (λ k. no_scans limits before p.2 k)
+  where
+    by : (b : Bool) → (s.0 == 0xda) ≡ b → (has_frame before ≡ false → has_scan before ≡ false) → (b || has_scan before) ≡ false
+    by true h later =
+        let e1 = neither _ (has_frame before) e in
+        let here = framed before (subst (λ n. code_fault before n ≡ None) (same_of s.0 0xda h) p.0) in
+        let z : true ≡ false = sym here ∙ e1.1 in cc
+    by false h later = later (neither _ (has_frame before) e).1
+
+abbrev HasTables : Limits → Frame → List Segment → ℕ → Type 0
+HasTables limits f before i = frame_of limits before ≡ f → has_begun (heads_of f before) i ≡ true → HasTable (quant_of f before i)
+
+-- the table of a component that was in a scan
+has_table : (limits : Limits) (f : Frame) (before : List Segment) (i : ℕ) → Pass (contents_rule limits) before → frame_of limits before ≡ f → has_begun (heads_of f before) i ≡ true → HasTable (quant_of f before i)
+has_table limits f [] i p e h = cc
+has_table limits f (s ∷ before) i p e h = by_frame (has_frame before) refl (λ g k. has_table limits f before i p.2 g k)
+  where
+    first_has : (a b : Option QuantTable) → HasTable a → HasTable (first_some a b)
+    first_has None b (t, k) = cc
+    first_has (Some x) b (t, k) = (x, refl)
+
+    second_has : (a b : Option QuantTable) → HasTable b → HasTable (first_some a b)
+    second_has None b k = k
+    second_has (Some x) b k = (x, refl)
+
+    clash : {A : Type 0} → false ≡ true → A
+    clash z = cc
+
+    at_scan : HasTables limits f before i → frame_of limits before ≡ f → s.0 ≡ 0xda → (b : Bool) → names (head_in f s.1) i ≡ b → (b || has_begun (heads_of f before) i) ≡ true
+        → HasTable (first_some (quant_of f before i) (cond b (quant_in_force before (component_at f i).quant) None))
+    at_scan older g c true n k =
+        let at = head_at limits before s.1 (subst (λ n. contents_rule limits before n s.1 ≡ None) c p.1) in
+        let head_is : head_in f s.1 ≡ at.head = ap (λ g. head_in g s.1) (sym g) ∙ at.is_head in
+        let named : names at.head i ≡ true = ap (λ (head : ScanHead). names head i) (sym head_is) ∙ n in
+        let tables : lacks_table f before at.head ≡ false = ap (λ g. lacks_table g before at.head) (sym g) ∙ (at.is_admitted).tables in
+        second_has (quant_of f before i) (quant_in_force before (component_at f i).quant) (named_has f before at.head (at.head).parts i tables named)
+    at_scan older g c false n k = first_has (quant_of f before i) None (older g k)
+
+    behind : HasTables limits f before i → (b : Bool) → (s.0 == 0xda) ≡ b → frame_of limits before ≡ f → has_begun (cond b (head_in f s.1 ∷ heads_of f before) (heads_of f before)) i ≡ true
+        → HasTable (cond b (first_some (quant_of f before i) (cond (names (head_in f s.1) i) (quant_in_force before (component_at f i).quant) None)) (quant_of f before i))
+    behind older true c g k = at_scan older g (same_of s.0 0xda c) (names (head_in f s.1) i) refl k
+    behind older false c g k = older g k
+
+    by_frame : (b : Bool) → has_frame before ≡ b → HasTables limits f before i → HasTable (quant_of f (s ∷ before) i)
+    by_frame true b older = behind older (s.0 == 0xda) refl (sym (frame_stays limits before s.0 s.1 b p.0) ∙ e) h
+    by_frame false b older = no (s.0 == 0xda) refl
+      where
+        no : (c : Bool) → (s.0 == 0xda) ≡ c → HasTable (quant_of f (s ∷ before) i)
+        no true c = let z : true ≡ false = sym (framed before (subst (λ n. code_fault before n ≡ None) (same_of s.0 0xda c) p.0)) ∙ b in cc
+        no false c =
+            let none = no_heads f before (no_scans limits before p.2 b) in
+            let z : false ≡ true = sym (ap (λ t. has_begun (cond t (head_in f s.1 ∷ heads_of f before) (heads_of f before)) i) c ∙ ap (λ hs. has_begun hs i) none) ∙ h in clash z
+
+quantisers_of : (table : QuantTable) → IsQuants table → AreEntries table → (length table ≡ 64) × All IsQuantiser table
+quantisers_of table is entries = (is.long, each table is.some entries)
+  where
+    each : (qs : List ℕ) → any_of is_zero_quant qs ≡ false → All (λ q. q < 65536) qs → All IsQuantiser qs
+    each [] e all = All-nil IsQuantiser
+    each (q ∷ qs) e all =
+        let n = neither (q == 0) (any_of is_zero_quant qs) e in
+        All-cons IsQuantiser q qs (some q n.0, All-head (λ q. q < 65536) q qs all) (each qs n.1 (All-tail (λ q. q < 65536) q qs all))
+      where
+        some : (q : ℕ) → (q == 0) ≡ false → 1 ≤ q
+        some q e = grind (arith, nat_tests, e)
+
+abbrev IsTable : QuantTable → Type 0
+IsTable table = (length table ≡ 64) × All IsQuantiser table
+
+in_force_is : (before : List Segment) (slot : ℕ) (table : QuantTable) → AllContents IsByte before → quant_in_force before slot ≡ Some table → IsTable table
+in_force_is before slot table of e = quantisers_of table (in_force_quants before slot table e) (in_force_entries before slot table of e)
+
+table_is : (f : Frame) (before : List Segment) (i : ℕ) (table : QuantTable) → AllContents IsByte before → quant_of f before i ≡ Some table → IsTable table
+table_is f [] i table of e = cc
+table_is f (s ∷ before) i table of e = by (s.0 == 0xda) e (λ k. table_is f before i table of.1 k)
+  where
+    pick : (quant_of f before i ≡ Some table → IsTable table) → (a : Option QuantTable) (b : Bool) → quant_of f before i ≡ a → first_some a (cond b (quant_in_force before (component_at f i).quant) None) ≡ Some table → IsTable table
+    pick older (Some x) b h k = older (h ∙ k)
+    pick older None true h k = in_force_is before (component_at f i).quant table of.1 k
+    pick older None false h k = cc
+
+    by : (b : Bool) → cond b (first_some (quant_of f before i) (cond (names (head_in f s.1) i) (quant_in_force before (component_at f i).quant) None)) (quant_of f before i) ≡ Some table → (quant_of f before i ≡ Some table → IsTable table) → IsTable table
+    by true k older = pick older (quant_of f before i) (names (head_in f s.1) i) refl k
+    by false k older = older k
+
+-- BLOCKS in their range
+
+ac_in : (block : List ℤ) → ((k : ℕ) → is_coefficient (bounds_of 8) (suc k) (get_or block k (pos 0)) ≡ true) → are_in_bounds gray_coding false block ≡ true
+ac_in [] h = refl
+ac_in (v ∷ block) h =
+    let one : int_le (pos (nat_abs v)) (pos 1023) ≡ true =
+    sym (ap (λ b. cond b (int_le (bounds_of 8).dc_low v && int_le v (bounds_of 8).dc_high) (int_le (pos (nat_abs v)) (bounds_of 8).ac)) (not_zero 0)) ∙ h 0 in
+    ap (λ b. b && are_in_bounds gray_coding false block) one ∙ ac_in block (λ k. later k (get_or block k (pos 0)) (h (suc k)))
+  where
+    later : (k : ℕ) (w : ℤ) → is_coefficient (bounds_of 8) (suc (suc k)) w ≡ true → is_coefficient (bounds_of 8) (suc k) w ≡ true
+    later k w e =
+        ap (λ b. cond b (int_le (bounds_of 8).dc_low w && int_le w (bounds_of 8).dc_high) (int_le (pos (nat_abs w)) (bounds_of 8).ac)) (not_zero k ∙ sym (not_zero (suc k))) ∙ e
+
+block_in : (block : List ℤ) → length block ≡ 64 → ((k : ℕ) → is_coefficient (bounds_of 8) k (get_or block k (pos 0)) ≡ true) → IsBaselineBlock block
+block_in [] l h = absurd (omega (arith, l))
+block_in (v ∷ block) l h =
+    (l, ap (λ b. b && are_in_bounds gray_coding false block) (h 0) ∙ ac_in block (λ k. h (suc k)))
+
+-- THE PICTURE of a file
+
+file_numbers : (f : Frame) (before : List Segment) (blocks : Blocks) → SameNumbers f (picture_frame (meaning_of f before blocks))
+file_numbers f before blocks = record {
+  width = refl;
+  height = refl;
+  precision = refl;
+  components =
+      sym (by_items (length f.components) (λ i. numbers_of (component_at f i)) (map numbers_of f.components) (0, 1, 1) (length-map f.components numbers_of)
+      (λ i h. sym (get_or-map numbers_of f.components i no_component (0, 1, 1) h)))
+      ∙ sym (map_map numbers_of _ (map (picture_component f before) (below (length f.components))) ∙ map_map _ (picture_component f before) (below (length f.components)));
+}
+
+zero_slots : (cs : List PictureComponent) → All (λ c. c.quant ≤ 3) (map (λ c. (let k : Component = record { id = c.id; h = c.h; v = c.v; quant = 0 } in k)) cs)
+zero_slots [] = All-nil (λ c. c.quant ≤ 3)
+zero_slots (c ∷ cs) = All-cons (λ c. c.quant ≤ 3) _ _ (omega arith) (zero_slots cs)
+
+framed_end : (before : List Segment) → code_fault before 0xd9 ≡ None → has_frame before ≡ true
+framed_end before e = by (has_frame before) e
+  where
+    by : (b : Bool) → code_fault_if b 0xd9 ≡ None → b ≡ true
+    by true e = refl
+    by false e = cc
+
+file_frame : (limits : Limits) (items : List Item) (blocks : Blocks) → AreLimits limits → Leads limits items blocks → code_fault (segments_of items) 0xd9 ≡ None → IsFrame (frame_of limits (segments_of items))
+file_frame limits items blocks limited leads e =
+    let found = frame_behind limits items blocks leads (framed_end (segments_of items) e) in
+    let f = found.0 in
+    subst (λ g. IsFrame g) (sym (ap (λ o. unwrap_or o no_frame) found.1)) (frame_is limits f f limited (found.2).passes)
+
+file_tables : (limits : Limits) (f : Frame) (before : List Segment) → AllContents IsByte before → Pass (contents_rule limits) before → frame_of limits before ≡ f → is_complete f before ≡ true
+    → All HasQuants (map (picture_component f before) (below (length f.components)))
+file_tables limits f before of pass e complete =
+    All-from_get_or HasQuants (map (picture_component f before) (below (length f.components))) (picture_component f before 0)
+    (λ i h. (let l = length-map (below (length f.components)) (picture_component f before) in
+    let j : i < length (below (length f.components)) = omega (arith, h, l) in
+    let k : i < length f.components = (let n = length_below (length f.components) in omega (arith, j, n)) in
+    subst HasQuants (sym (get_or-map (picture_component f before) (below (length f.components)) i 0 (picture_component f before 0) j ∙ ap (picture_component f before) (at_below (length f.components) i k)))
+    (table i (has_table limits f before i pass e (all_below (has_begun (heads_of f before)) (length f.components) i complete k)))))
+  where
+    table : (i : ℕ) → HasTable (quant_of f before i) → HasQuants (picture_component f before i)
+    table i (t, k) = subst (λ (o : Option QuantTable). IsTable (unwrap_or o [])) (sym k) (table_is f before i t of k)
+
+-- THE LAW
+pub read_picture : (limits : Limits) (bytes : List ℕ) (M : Meaning) → AreLimits limits → All IsByte bytes → Means limits bytes M → IsPicture M
+read_picture limits bytes M limited all m =
+    let segments = segments_of m.items in
+    let f = frame_of limits segments in
+    let of = segments_bytes m.items m.front m.spelled (all_front IsByte m.front m.marker (all_front IsByte (m.front ++ m.marker) m.rest (subst (λ bs. All IsByte bs) m.cut all))) in
+    let range = leads_in_range limits m.items m.blocks m.leads in
+    let pass = leads_pass limits m.items m.blocks m.leads in
+    let same = file_numbers f segments m.blocks in
+    let here : IsPicture (meaning_of f segments m.blocks) = record {
+      frame = same_frame f (picture_frame (meaning_of f segments m.blocks)) same (zero_slots (map (picture_component f segments) (below (length f.components)))) (file_frame limits m.items m.blocks limited m.leads m.framed);
+      quants = file_tables limits f segments of.1 (leads_rules limits m.items m.blocks m.leads) refl m.complete;
+      markers = all_reverse IsKeptMarker (kept_after segments) (0, []) (kept_markers segments of.0);
+      count = subst (λ xs. kept_count xs ≤ 268435456) (sym (reverse-reverse (kept_after segments))) (let a = input_count limits segments pass in let b = limited.kept in omega (arith, a, b));
+      blocks = λ i x y. shown (nat_lt i (length f.components) && is_real f i x y) (m.blocks i x y) (block_in (m.blocks i x y) (range.sizes i x y) (λ k. range.values i x y k));
+      others = λ i x y. ap (λ b. cond b (m.blocks i x y) (zeros 64)) (twice (is_place f i x y)) ∙ outer (is_place f i x y) (m.blocks i x y) ∙ ap (λ b. cond b (real_blocks f m.blocks i x y) (zeros 64)) (same_places f (picture_frame (meaning_of f segments m.blocks)) i x y same);
+    } in
+    subst (λ N. IsPicture N) (sym m.meaning) here
+  where
+    shown : (b : Bool) (block : List ℤ) → IsBaselineBlock block → IsBaselineBlock (cond b block (zeros 64))
+    shown true block is = is
+    shown false block is = (refl, refl)
+
+    twice : (b : Bool) → b ≡ b
+    twice b = refl
+
+    outer : (b : Bool) (block : List ℤ) → cond b block (zeros 64) ≡ cond b (cond b block (zeros 64)) (zeros 64)
+    outer true block = refl
+    outer false block = refl
+
+-- what a file means may be written, moved as a choice asks for it
+pub read_moved : (limits : Limits) (bytes : List ℕ) (M : Meaning) (choice : Choice) → AreLimits limits → All IsByte bytes → Means limits bytes M → gray_fault choice.gray M ≡ None → IsHeaded standard_limits (moved choice M)
+read_moved limits bytes M choice limited all m none = moved_headed choice M none (read_picture limits bytes M limited all m)
