@@ -1,8 +1,11 @@
 // A block of 64 coefficients (T.81, A.3.6).
-ghost use Rattle.std.specs.Prelude.{◌≡◌, ◌<◌, ◌≤ℤ◌, ℕ, pos, negsuc, replicate, slice_index_or, slice_set, length};
+ghost use Rattle.std.specs.Prelude.{◌≡◌, ◌<◌, ◌≤ℤ◌, ℕ, pos, negsuc, if◌then◌else◌, replicate, slice_index_or, slice_set, length};
+ghost use Rattle.std.specs.Int.{bit_at};
+ghost use Rattle.jpg_spec.specs.Elements.{is_zero};
 ghost use Rattle.jpg_spec.specs.Transposed.{transposed};
 
 use std::marker::Model;
+use std::simd::cmp::SimdPartialEq;
 use std::simd::i16x64;
 
 // The place in zigzag order of the frequencies exchanged, for each place.
@@ -71,6 +74,25 @@ impl Block {
             values: exchanged(&self.values),
         }
     }
+
+    /// Which numbers aren't 0: bit `k`, from the lowest on, is 1 where the number at place `k` isn't 0.
+    #[inline(always)]
+    pub fn nonzero(&self) -> u64
+        ensures { (k : ℕ) → k < 64 → bit_at result k ≡ (if is_zero (slice_index_or self.now k (pos 0)) then 0 else 1) }
+    {
+        nonzero_lanes(&self.values)
+    }
+}
+
+// The bits of the numbers that aren't 0.
+#[inline(always)]
+fn nonzero_lanes(values: &[i16; 64]) -> u64
+    ensures { (k : ℕ) → k < 64 → bit_at result k ≡ (if is_zero (slice_index_or values.now k (pos 0)) then 0 else 1) }
+{
+    all_fit(values);
+    i16x64::from_array(*values)
+        .simd_ne(i16x64::splat(0))
+        .to_bitmask()
 }
 
 // Tells that the number fits its type. It does nothing.

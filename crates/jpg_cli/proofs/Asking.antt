@@ -39,7 +39,7 @@ pub replaced_at : (ws : List (List ℕ)) (i : ℕ) (r : Bool) (s : CommentSource
     → write_asked_from i r s (drop i ws) ≡ write_asked_from (i + 1) true s (drop (i + 1) ws)
 replaced_at ws i r s less switch p = ap (write_asked_from i r s) (drop_more ws i [] less) ∙ replaced i r s (word_at ws i) (drop (i + 1) ws) switch p
 
-two_more : (ws : List (List ℕ)) (i : ℕ) (next : List ℕ) → i + 1 < length ws → next ≡ word_at ws (i + 1) → drop i ws ≡ word_at ws i ∷ next ∷ drop (i + 2) ws
+pub two_more : (ws : List (List ℕ)) (i : ℕ) (next : List ℕ) → i + 1 < length ws → next ≡ word_at ws (i + 1) → drop i ws ≡ word_at ws i ∷ next ∷ drop (i + 2) ws
 two_more ws i next less is =
     let back : i + 1 + 1 ≡ i + 2 = omega arith in
     drop_more ws i [] (omega arith) ∙ ap (λ l. word_at ws i ∷ l) (drop_more ws (i + 1) [] less ∙ ap (λ w. w ∷ drop (i + 1 + 1) ws) (sym is) ∙ ap (λ n. next ∷ drop n ws) back)

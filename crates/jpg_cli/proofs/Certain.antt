@@ -17,12 +17,18 @@ use Rattle.jpg_cli.specs.Certain.{HasFrameHeader, HasPicture, HasWholeFile, IsDo
 use Rattle.jpg_cli.specs.CommentInserted.{HasInputFault, HasLongComment, Inserted, IsComment, IsInsertDue, Task}
 use Rattle.jpg_cli.specs.ReadComments.{IsPrintDue, Printed}
 use Rattle.jpg_cli.specs.Reading.{IsFile}
-use Rattle.jpg_cli.specs.Run.{IsAnswerDue, NoneRose, Turned}
+use Rattle.jpg_cli.specs.Laws.{MeanSame, WasTurnedBack, text_back}
+use Rattle.jpg_cli.specs.Run.{IsAnswerDue, NoneRose}
+use Rattle.jpg_cli.specs.Turned.{Turned, Turning}
 use Rattle.jpg_cli.specs.ReadPicture.{IsRefused}
 use Rattle.jpg_spec.specs.FirstFault.{IsFirstFault}
-use Rattle.jpg_spec.specs.Moved.{Choice}
+use Rattle.jpg_spec.specs.Meaning.{Meaning}
+use Rattle.jpg_spec.specs.Moved.{gray_fault, moved}
+use Rattle.jpg_spec.specs.declared.transform.PictureFault.{PictureFault}
+use Rattle.jpg_spec.specs.declared.transform.Transform.{Transform}
+use Rattle.jpg_spec.proofs.MovedBack.{moved_back}
 use Rattle.jpg_spec.specs.declared.fault.Fault.TheVariants.{NotBuilt}
-use Rattle.jpg_spec.proofs.FileLaws.{means_no_fault}
+use Rattle.jpg_spec.proofs.FileLaws.{means_no_fault, means_once}
 use Rattle.jpg_cli.proofs.Ending.{due_answer}
 use Rattle.jpg_cli.proofs.CommentsPrinted.{print_due}
 use Rattle.jpg_cli.proofs.Input.{some_inj}
@@ -46,6 +52,7 @@ printed_certain old new input output w (bytes, n, told, front) none printed = by
     by : (w : Why) → IsPrintDue input old w → IsDoneOrWanting w
     by why.Done due = tt
     by (why.Usage u) due = absurd due
+    by (why.Picture p) due = absurd due
     by (why.Refused f) (other, is, fault) =
         let shown = subst (λ (b : List ℕ). IsReadFault standard_limits b f.fault f.at) (one_file old.files input bytes other told is) fault in
         absurd (whole_no_fault standard_limits (HoldsWhole standard_limits) (reading_sound standard_limits) bytes n f.at f.fault front.0 front.1 front.2 shown)
@@ -80,6 +87,7 @@ inserted_certain old new task w has none done = by w (insert_due old new task w 
     by : (w : Why) → IsInsertDue task old w → IsDoneOrWanting w
     by why.Done due = tt
     by (why.Usage u) due = absurd due
+    by (why.Picture p) due = absurd due
     by (why.Refused f) due = absurd (refused f due)
     by (why.OpenFault u) due = absurd due
     by (why.ReadFault u) due = absurd due
@@ -88,18 +96,32 @@ inserted_certain old new task w has none done = by w (insert_due old new task w 
 
 -- TURNED
 
-pub turned_certain : (choice : Choice) (old new : DeskState) (w : Why) → HasPicture old → NoneRose old.counts new.counts → Turned choice old w new → IsDoneOrUnbuilt w
-turned_certain choice old new w (input, M, told, means) none turned = by w (due_answer choice old new w none turned)
+no_fault : (fault : PictureFault) → None ≡ Some fault → ⊥
+no_fault fault e = cc
+
+pub turned_certain : (t : Turning) (old new : DeskState) (w : Why) → HasPicture t old → NoneRose old.counts new.counts → Turned t old w new → IsDoneOrUnbuilt w
+turned_certain t old new w has none turned = by w (due_answer t old new w none turned)
   where
-    refused : (f : FaultAt) (other : List ℕ) → other ≡ input → IsRefused other f → f.fault ≡ NotBuilt
-    refused f other same (inl fault) = absurd (means_no_fault standard_limits input M f.fault f.at means (subst (λ (b : List ℕ). IsFirstFault standard_limits b f.fault f.at) same fault))
+    refused : (f : FaultAt) (other : List ℕ) → other ≡ has.bytes → IsRefused other f → f.fault ≡ NotBuilt
+    refused f other same (inl fault) =
+        absurd (means_no_fault standard_limits has.bytes has.meaning f.fault f.at has.means (subst (λ (b : List ℕ). IsFirstFault standard_limits b f.fault f.at) same fault.0))
     refused f other same (inr unbuilt) = unbuilt.0
 
-    by : (w : Why) → IsAnswerDue old w → IsDoneOrUnbuilt w
+    by : (w : Why) → IsAnswerDue t old w → IsDoneOrUnbuilt w
     by why.Done due = tt
     by (why.Usage u) due = absurd due
-    by (why.Refused f) due = refused f due.input (one_file old.files name.In input due.input told due.file) due.refused
+    by (why.Picture p) due =
+        let k = due.picture in
+        let same = (means_once standard_limits has.bytes k.bytes has.meaning k.meaning has.means k.means (sym (one_file old.files t.input has.bytes k.bytes has.told k.file))).0 in
+        absurd (no_fault p (sym has.admitted ∙ ap (λ (M : Meaning). gray_fault t.choice.gray M) same ∙ due.is))
+    by (why.Refused f) due = refused f due.bytes (one_file old.files t.input has.bytes due.bytes has.told due.file) due.refused
     by (why.OpenFault u) due = absurd due
     by (why.ReadFault u) due = absurd due
     by why.WriteFault due = absurd due
     by why.NoMemory due = tt
+
+-- AND TURNED BACK
+
+pub turned_back : (t : Transform) (M : Meaning) (w : WasTurnedBack t M) → MeanSame (text_back w) M
+turned_back t M w =
+    (moved w.turning.choice w.turned.0, w.turned.3, moved_back w.turned.0 M t w.turning.choice w.made.whole w.back.transform w.back.untrimmed w.back.ungrayed w.made.same)

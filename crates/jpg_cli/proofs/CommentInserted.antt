@@ -109,6 +109,7 @@ due_first : (task : Task) (comment bytes text : List ℕ) (old now : DeskState) 
 due_first task comment bytes text old now None c some h w = (bytes, text, some, h, w)
 due_first task comment bytes text old now (Some why.Done) c some h w = absurd h
 due_first task comment bytes text old now (Some (why.Usage u)) c some h w = absurd h
+due_first task comment bytes text old now (Some (why.Picture p)) c some h w = absurd h
 due_first task comment bytes text old now (Some (why.Refused f)) c some (of, inl (none, faults)) w = absurd (not_none text none some)
 due_first task comment bytes text old now (Some (why.Refused f)) c some (of, inr (long, is)) w =
     inr (inr (writes task comment bytes text old now (λ with. IsLongFile with task.replace f (rest_of now.left)) w (long_file comment bytes text (rest_of now.left) task.replace f of long is)))
@@ -168,6 +169,7 @@ ends task comment bytes text old s0 s1 w ended k h = by ended h
     by : (ended : Why) → EndsInserting comment task.replace (begun task comment bytes text old s0 w) ended s1 → Inserted task old ended s1
     by why.Done h = (copies (λ with. IsInsertedWhole with task.replace) h.0, h.1)
     by (why.Usage u) h = absurd h
+    by (why.Picture p) h = absurd h
     by (why.Refused f) h = inr (inr (copies (λ with. IsLongFile with task.replace f (rest_of s1.left)) h))
     by (why.OpenFault which) h = absurd h
     by (why.ReadFault which.Input) h = (inr (copies (λ with. IsInsertedWhole with task.replace) h.0), (let r = h.1 in let f = w.counts.reads in omega (arith, r, f)))
@@ -212,6 +214,7 @@ out_of_memory task comment bytes old now r =
 pub ended_before : (task : Task) (comment bytes : List ℕ) (old s0 s1 : DeskState) (w : Why) → IsReading task comment bytes old s0 → OnlyReads s0 s1 → EndsBefore bytes s0 w s1 → Inserted task old w s1
 ended_before task comment bytes old s0 s1 why.Done r k h = absurd h
 ended_before task comment bytes old s0 s1 (why.Usage u) r k h = absurd h
+ended_before task comment bytes old s0 s1 (why.Picture p) r k h = absurd h
 ended_before task comment bytes old s0 s1 (why.Refused f) r k (piece, more, most, is) =
     inr (inl (reads_alone task comment (bytes ++ piece) old s1 (IsFaultBefore f (rest_of s1.left)) (reading_more task comment bytes piece old s0 s1 most r k more) is))
 ended_before task comment bytes old s0 s1 (why.OpenFault w) r k h = absurd h
@@ -331,6 +334,7 @@ comment_only task old now bytes k h =
 pub not_begun : (task : Task) (old now : DeskState) (bytes : List ℕ) (w : Why) → Keeps old now → AfterComment old task.comment (Ok bytes) now → IsBegunWith bytes task.replace (Err w) → Inserted task old w now
 not_begun task old now bytes why.Done k h b = absurd b
 not_begun task old now bytes (why.Usage u) k h b = absurd b
+not_begun task old now bytes (why.Picture p) k h b = absurd b
 not_begun task old now bytes (why.Refused f) k h b = comment_long task old now bytes f k h b.0 b.1 b.2
 not_begun task old now bytes (why.OpenFault w) k h b = absurd b
 not_begun task old now bytes (why.ReadFault w) k h b = absurd b
@@ -343,6 +347,7 @@ file_untaken : (task : Task) (old now : DeskState) (file : Name) (w : Why) → i
     → (ReadsPart 65001 file old now → ReadsComment task.comment old now) → Keeps old now → AfterFile file 65001 which.Comment old (Err w) now → Inserted task old w now
 file_untaken task old now file why.Done from same is part k h = absurd h
 file_untaken task old now file (why.Usage u) from same is part k h = absurd h
+file_untaken task old now file (why.Picture p) from same is part k h = absurd h
 file_untaken task old now file (why.Refused f) from same is part k h = absurd h
 file_untaken task old now file (why.OpenFault which.Comment) from same is part k h = (subst (λ (names : List Name). Unopened names old now) (sym same) h.1, from)
 file_untaken task old now file (why.OpenFault which.Input) from same is part k h = absurd (let z : which.Input ≡ which.Comment = h.0 in cc)
@@ -370,6 +375,7 @@ nothing_asked task old now k same = inl (record { count = 0; stopped = record { 
 words_untaken : (task : Task) (old now : DeskState) (text : List ℕ) (w : Why) → Keeps old now → AfterWords old text (Err w) now → Inserted task old w now
 words_untaken task old now text why.Done k h = absurd h
 words_untaken task old now text (why.Usage u) k h = absurd h
+words_untaken task old now text (why.Picture p) k h = absurd h
 words_untaken task old now text (why.Refused f) k h = absurd h
 words_untaken task old now text (why.OpenFault w) k h = absurd h
 words_untaken task old now text (why.ReadFault w) k h = absurd h

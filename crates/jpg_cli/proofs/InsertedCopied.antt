@@ -52,6 +52,7 @@ fed_part comment bytes text replace None c e same h =
     subst (λ (b : Bool). InsertsPart standard_limits comment b bytes text) same (stands_part comment bytes text c.head c.replace c.taken (reading_of c.reader) (stands comment bytes text c e h))
 fed_part comment bytes text replace (Some why.Done) c e same h = absurd h
 fed_part comment bytes text replace (Some (why.Usage u)) c e same h = absurd h
+fed_part comment bytes text replace (Some (why.Picture p)) c e same h = absurd h
 fed_part comment bytes text replace (Some (why.Refused f)) c e same (of, inl (none, faults)) = inl none
 fed_part comment bytes text replace (Some (why.Refused f)) c e same (of, inr (long, is)) = inr (length text, f.at, text, is, sym (take_all (length text) text (omega arith)))
 fed_part comment bytes text replace (Some (why.OpenFault w)) c e same h = absurd h
@@ -91,6 +92,7 @@ rest_due : (start s2 : DeskState) (comment bytes piece all : List ℕ) (replace 
 rest_due start s2 comment bytes piece all replace None c more some h k = (piece, all, more, some, h, k)
 rest_due start s2 comment bytes piece all replace (Some why.Done) c more some h k = absurd h
 rest_due start s2 comment bytes piece all replace (Some (why.Usage u)) c more some h k = absurd h
+rest_due start s2 comment bytes piece all replace (Some (why.Picture p)) c more some h k = absurd h
 rest_due start s2 comment bytes piece all replace (Some (why.Refused f)) c more some (of, inl (none, faults)) k = absurd (not_none all none some)
 rest_due start s2 comment bytes piece all replace (Some (why.Refused f)) c more some (of, inr (long, is)) k =
     (bytes ++ piece, all, k, long_file comment (bytes ++ piece) all (rest_of s2.left) replace f of long is)
@@ -130,6 +132,7 @@ pub rest_ends : (start s0 s1 : DeskState) (comment bytes text : List ℕ) (repla
 rest_ends start s0 s1 comment bytes text replace why.Done some had end left outputs h =
     ((bytes, text, copied_still start s0 s1 bytes text had left outputs, h), (let P : Option (List ℕ) → Type 0 = λ l. IsAtEnd l in subst P (sym left) end))
 rest_ends start s0 s1 comment bytes text replace (why.Usage u) some had end left outputs h = absurd h
+rest_ends start s0 s1 comment bytes text replace (why.Picture p) some had end left outputs h = absurd h
 rest_ends start s0 s1 comment bytes text replace (why.Refused f) some had end left outputs h = absurd (not_none text h.1 some)
 rest_ends start s0 s1 comment bytes text replace (why.OpenFault w) some had end left outputs h = absurd h
 rest_ends start s0 s1 comment bytes text replace (why.ReadFault w) some had end left outputs h = absurd h

@@ -79,6 +79,7 @@ pub inserted_then : (s0 s1 s2 : DeskState) (task : Task) (w : Why) → OnlySays 
 inserted_then s0 s1 s2 task why.Done k h =
     (writes_then s0 s1 s2 task (λ comment. IsInsertedWhole comment task.replace) k h.0, (let P : Option (List ℕ) → Type 0 = λ l. IsAtEnd l in subst P (sym k.same.left) h.1))
 inserted_then s0 s1 s2 task (why.Usage u) k h = absurd h
+inserted_then s0 s1 s2 task (why.Picture p) k h = absurd h
 inserted_then s0 s1 s2 task (why.Refused f) k h = refused_then s0 s1 s2 task f k h
 inserted_then s0 s1 s2 task (why.OpenFault which.Input) k h = (unopened_then s0 s1 s2 (names_to_input task) k h.0, h.1)
 inserted_then s0 s1 s2 task (why.OpenFault which.Script) k h = absurd h
@@ -118,6 +119,7 @@ pub insert_due : (s0 s1 : DeskState) (task : Task) (w : Why) → NoneRose s0.cou
 insert_due s0 s1 task why.Done n (h, end) =
     (let copied = h.copied in (h.comment, copied.bytes, copied.text, h.source, whole_input s0 s1 task.input copied.bytes copied.read.1 end, copied.is))
 insert_due s0 s1 task (why.Usage u) n h = absurd h
+insert_due s0 s1 task (why.Picture p) n h = absurd h
 insert_due s0 s1 task (why.Refused f) n (inl h) = inl (h.comment, h.source, h.long, h.fault)
 insert_due s0 s1 task (why.Refused f) n (inr (inl (stopped, h))) = inr (h.comment, h.bytes ++ rest_of s1.left, h.source, h.read.1, inl h.is.0)
 insert_due s0 s1 task (why.Refused f) n (inr (inr h)) = let copied = h.copied in inr (h.comment, copied.bytes ++ rest_of s1.left, h.source, copied.read.1, copied.is.0)
@@ -136,7 +138,7 @@ insert_due s0 s1 task why.NoMemory n h = tt
 
 -- WHAT THE WORDS ASK FOR
 
-same_name : (n : Name) → name_of (file_told n) ≡ n
+pub same_name : (n : Name) → name_of (file_told n) ≡ n
 same_name name.In = refl
 same_name name.Out = refl
 same_name (name.File text) = refl

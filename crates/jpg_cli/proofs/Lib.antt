@@ -4,7 +4,6 @@ pub mod CommentInserted
 pub mod CommentsCopied
 pub mod CommentsPrinted
 pub mod CommentsRead
-pub mod Counted
 pub mod Decimal
 pub mod Ending
 pub mod Endings
@@ -15,8 +14,9 @@ pub mod InsertedThen
 pub mod Matching
 pub mod MovedFile
 pub mod Names
+pub mod OneRefusal
 pub mod Output
-pub mod OutputColour
 pub mod PictureBytes
 pub mod PictureTaken
 pub mod Running
+pub mod Saying

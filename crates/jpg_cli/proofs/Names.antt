@@ -1,13 +1,15 @@
 -- The names that messages hold are short.
 use Rattle.std.proofs.Common.{◌≤◌, length, lit≤}
 use Rattle.jpg_spec.specs.Faults.{fault_name}
-use Rattle.jpg_spec.specs.Messages.{usage_name, which_name}
+use Rattle.jpg_spec.specs.Messages.{picture_name, usage_name, which_name}
 use Rattle.jpg_spec.specs.declared.fault.Fault.{Fault}
 use Rattle.jpg_spec.specs.declared.fault.Fault.TheVariants as fault
 use Rattle.jpg_spec.specs.declared.answers.UsageFault.{UsageFault}
 use Rattle.jpg_spec.specs.declared.answers.UsageFault.TheVariants as usage
 use Rattle.jpg_spec.specs.declared.answers.Which.{Which}
 use Rattle.jpg_spec.specs.declared.answers.Which.TheVariants as which
+use Rattle.jpg_spec.specs.declared.transform.PictureFault.{PictureFault}
+use Rattle.jpg_spec.specs.declared.transform.PictureFault.TheVariants as picture
 
 pub fault_short : (f : Fault) → length (fault_name f) ≤ 20
 fault_short fault.NotBuilt = lit≤ tt
@@ -77,3 +79,13 @@ which_short which.Script = lit≤ tt
 which_short which.Tables = lit≤ tt
 which_short which.Comment = lit≤ tt
 which_short which.Output = lit≤ tt
+
+pub picture_short : (f : PictureFault) → length (picture_name f) ≤ 20
+picture_short picture.GrayColour = lit≤ tt
+picture_short picture.GrayFactors = lit≤ tt
+picture_short (picture.FractionalFactors component) = lit≤ tt
+picture_short picture.TooManyBlocks = lit≤ tt
+picture_short (picture.ScriptComponent entry) = lit≤ tt
+picture_short (picture.ScriptMcu entry) = lit≤ tt
+picture_short (picture.ScriptBand entry) = lit≤ tt
+picture_short (picture.ScriptIncomplete component coefficient bit) = lit≤ tt

@@ -2,7 +2,7 @@
 use Rattle.std.proofs.Common.{◌≡◌, ℕ, ◌+◌, ◌<◌, ◌≤◌, List, [], ◌∷◌, ◌++◌, length, take, sym, subst, arith, inl, inr, zero, suc, get_or}
 use Rattle.std.specs.List.{All}
 use Rattle.std.proofs.lemmas.List.Elements.{All-append}
-use Rattle.std.proofs.lemmas.List.{append-nil, length-append, take-append-le}
+use Rattle.std.proofs.lemmas.List.{append-nil, length-append}
 use Rattle.std.proofs.Math.Seq.{take-append-add}
 use Rattle.jpg_spec.specs.Segments.{standard_limits}
 use Rattle.jpg_spec.specs.FirstFault.{IsFirstFault}
@@ -14,8 +14,7 @@ use Rattle.jpg_spec.specs.declared.answers.Why.TheVariants as why
 use Rattle.jpg_spec.specs.declared.frame.Limits.{Limits}
 use Rattle.jpg_spec.proofs.FileLaws.{first_fault_once, stands_truncated}
 use Rattle.jpg_base.specs.declared.stop.Stop.TheVariants as stop
-use Rattle.jpg_file.specs.Items.{EndsProgressive}
-use Rattle.jpg_file.specs.ReadFile.{HasRead, IsDone, IsStopOf, ReaderState, StopsAt}
+use Rattle.jpg_file.specs.ReadFile.{HasRead, IsDone, FaultComesFirst, IsStopOf, ReaderState, StopsAt}
 use Rattle.jpg_file.proofs.PieceSteps.{counted}
 use Rattle.jpg_cli.specs.ReadPicture.{AfterFileEnd, HasFed, HoldsFile, IsOpenRead, IsRefused, IsRefusedRead, IsShortRead}
 
@@ -64,27 +63,22 @@ pub refused_piece : (bytes piece : List ℕ) (f : FaultAt) (limits : Limits) →
 refused_piece bytes piece f limits e short (h, behind) rest =
     let all = bytes ++ piece in
     let k = subst (λ (l : Limits). IsStopOf l all f) e h in
-    let within = inside k in
-    record { refused = refused k; within = within; last = omega (arith, behind, short, length-append bytes piece) }
+    let within = inside (k []) in
+    record { refused = k rest; within = omega (arith, within, length-append all []); last = omega (arith, behind, short, length-append bytes piece) }
   where
-    inside : IsStopOf standard_limits (bytes ++ piece) f → f.at ≤ length (bytes ++ piece)
-    inside (inl s) = (let w = fault_within standard_limits ((bytes ++ piece) ++ []) f.fault f.at (s []) in omega (arith, w, length-append (bytes ++ piece) []))
-    inside (inr s) = s.1
-
-    refused : IsStopOf standard_limits (bytes ++ piece) f → IsRefused ((bytes ++ piece) ++ rest) f
-    refused (inl s) = inl (s rest)
-    refused (inr s) =
-        (let w = s.1 in inr (s.0, omega (arith, w, length-append (bytes ++ piece) rest), subst (λ (l : List ℕ). EndsProgressive standard_limits l) (sym (take-append-le f.at (bytes ++ piece) rest w)) s.2))
+    inside : IsRefused ((bytes ++ piece) ++ []) f → f.at ≤ length ((bytes ++ piece) ++ [])
+    inside (inl s) = fault_within standard_limits ((bytes ++ piece) ++ []) f.fault f.at s.0
+    inside (inr s) = s.1.within
 
 -- THE END
 
 pub refused_end : (bytes : List ℕ) (r : ReaderState) (f : FaultAt) → r.limits ≡ standard_limits → HasRead bytes r → StopsAt r.limits bytes (stop.Fault f) → AfterFileEnd bytes (why.Refused f)
 refused_end bytes r f e h s =
     let so = open_so_far bytes r e h in
-    let fault = subst (λ (l : Limits). IsFirstFault l bytes f.fault f.at) e s in
-    let at = (first_fault_once standard_limits bytes f.fault Truncated f.at (length bytes) fault (stands_truncated standard_limits bytes so.stands so.short)).1 in
+    let first = subst (λ (l : Limits). FaultComesFirst l bytes f) e s in
+    let at = (first_fault_once standard_limits bytes f.fault Truncated f.at (length bytes) first.0 (stands_truncated standard_limits bytes so.stands so.short)).1 in
     record {
-      refused = inl (subst (λ (l : List ℕ). IsFirstFault standard_limits l f.fault f.at) (sym (append-nil bytes)) fault);
+      refused = inl (subst (λ (l : List ℕ). FaultComesFirst standard_limits l f) (sym (append-nil bytes)) first);
       within = omega (arith, at);
       last = omega (arith, at);
     }

@@ -41,6 +41,7 @@ after_piece start s1 bytes piece step.More r some read h = (piece, some, h, read
 after_piece start s1 bytes piece step.Whole r some read h = (bytes ++ piece, read, h)
 after_piece start s1 bytes piece (step.Ended why.Done) r some read h = absurd h
 after_piece start s1 bytes piece (step.Ended (why.Usage u)) r some read h = absurd h
+after_piece start s1 bytes piece (step.Ended (why.Picture p)) r some read h = absurd h
 after_piece start s1 bytes piece (step.Ended (why.Refused f)) r some read h = (bytes ++ piece, read, h (rest_of s1.left))
 after_piece start s1 bytes piece (step.Ended (why.OpenFault w)) r some read h = absurd h
 after_piece start s1 bytes piece (step.Ended (why.ReadFault w)) r some read h = absurd h
@@ -57,6 +58,7 @@ piece_taken start s0 s1 n buf bytes answer r read had h =
 pub piece_end : (start s0 s1 : DeskState) (bytes : List ℕ) (w : Why) → IsAtEnd s0.left → s1.left ≡ s0.left → Consumes start.left s0.left bytes → AfterFileEnd bytes w → EndsEarly start w s1
 piece_end start s0 s1 bytes why.Done end left had h = absurd h
 piece_end start s0 s1 bytes (why.Usage u) end left had h = absurd h
+piece_end start s0 s1 bytes (why.Picture p) end left had h = absurd h
 piece_end start s0 s1 bytes (why.Refused f) end left had h =
     let none : rest_of s1.left ≡ [] = ap rest_of left ∙ none_left s0.left end in
     (bytes, left_still s0 s1 bytes start left had, subst (λ (rest : List ℕ). IsRefusedRead f rest bytes) (sym none) h)
@@ -92,6 +94,7 @@ stopped_there s0 s1 s2 file h k = record { asked = noted s0 s1 s2 file h k; outp
 ends_early : (s0 s1 s2 : DeskState) (file : Name) (w : Why) → Opens s0 file put.Done s1 → OnlyReads s1 s2 → EndsEarly s1 w s2 → PictureRead file s0 (Err w) s2
 ends_early s0 s1 s2 file why.Done h k e = absurd e
 ends_early s0 s1 s2 file (why.Usage u) h k e = absurd e
+ends_early s0 s1 s2 file (why.Picture p) h k e = absurd e
 ends_early s0 s1 s2 file (why.Refused f) h k e = (stopped_there s0 s1 s2 file h k, reads_from s0 s1 s2 file (IsRefusedRead f (rest_of s2.left)) h e)
 ends_early s0 s1 s2 file (why.OpenFault w) h k e = absurd e
 ends_early s0 s1 s2 file (why.ReadFault which.Input) h k e = (

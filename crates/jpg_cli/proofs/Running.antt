@@ -1,8 +1,7 @@
--- What the steps of turning a picture come to, over the states that a desk tells.
-use Rattle.std.proofs.Common.{◌≡◌, ℕ, ◌<◌, Bool, true, false, cond, List, [], ◌∷◌, take, Option, Err, refl, ◌∙◌, subst, arith, zero, suc}
+-- Turning a picture: reading it, and then writing it.
+use Rattle.std.proofs.Common.{◌≡◌, ℕ, ◌<◌, Bool, true, false, cond, List, [], ◌∷◌, take, Option, Err, None, Some, refl, sym, ◌∙◌, subst, arith, zero, suc, inl}
 use Rattle.std.specs.List.{All}
 use Rattle.jpg_base.specs.declared.names.Name.{Name}
-use Rattle.jpg_base.specs.declared.names.Name.TheVariants as name
 use Rattle.jpg_base.specs.declared.names.Put.TheVariants as put
 use Rattle.jpg_base.specs.Desk.{DeskState, NotesName}
 use Rattle.jpg_base.specs.Laws.{Grows}
@@ -10,25 +9,34 @@ use Rattle.jpg_spec.specs.FileMeaning.{Means}
 use Rattle.jpg_spec.specs.Geometry.{is_progressive}
 use Rattle.jpg_spec.specs.Laws.{IsMovable}
 use Rattle.jpg_spec.specs.Meaning.{Meaning}
-use Rattle.jpg_spec.specs.Moved.{moved}
+use Rattle.jpg_spec.specs.Moved.{gray_fault, moved}
 use Rattle.jpg_spec.specs.Segments.{standard_limits}
 use Rattle.jpg_spec.specs.declared.answers.Why.{Why}
 use Rattle.jpg_spec.specs.declared.answers.Why.TheVariants as why
 use Rattle.jpg_spec.specs.declared.answers.Which.TheVariants as which
 use Rattle.jpg_spec.specs.declared.frame.Process.TheVariants.{Baseline, Extended}
+use Rattle.jpg_spec.specs.declared.transform.PictureFault.{PictureFault}
 use Rattle.jpg_spec.proofs.FileLength.{own_means}
 use Rattle.jpg_spec.proofs.ReadPicture.{read_moved}
 use Rattle.jpg_spec.proofs.WrittenFront.{standard_are_limits}
-use Rattle.jpg_cli.specs.Endings.{Asks}
-use Rattle.jpg_cli.specs.Flipped.{flip_choice, moved_text}
-use Rattle.jpg_cli.specs.ReadPicture.{IsWholeRead, PictureRead}
-use Rattle.jpg_cli.specs.Run.{ReadsPicture, Turned, WroteMoved}
-use Rattle.jpg_cli.specs.Stays.{Keeps}
-use Rattle.jpg_cli.specs.Writing.{AfterOutput}
-use Rattle.jpg_cli.proofs.Endings.{asks_next}
+use Rattle.jpg_transform.specs.Planned.{choice_told, moved_text}
+use Rattle.jpg_transform.specs.declared.choice.Choice.{Choice as Asked}
+use Rattle.jpg_cli.specs.Endings.{Asks, Wrote}
+use Rattle.jpg_cli.specs.ReadPicture.{IsWholeRead, PictureRead, ReadsFrom}
+use Rattle.jpg_cli.specs.Stays.{Keeps, Untouched}
+use Rattle.jpg_cli.specs.Commands.{name_of}
+use Rattle.jpg_cli.specs.CommentWords.{file_told}
+use Rattle.jpg_cli.specs.Run.{RanTransform}
+use Rattle.jpg_cli.specs.TransformWords.{transform_told}
+use Rattle.jpg_cli.specs.Turned.{MeansMoved, Turned, Turning, turning_told}
+use Rattle.jpg_cli.specs.declared.transform_words.TransformWords.{TransformWords}
+use Rattle.jpg_cli.specs.Writing.{AfterMoved, IsMeant}
+use Rattle.jpg_cli.specs.declared.writing.Wrote.TheVariants as wrote
+use Rattle.jpg_cli.proofs.Endings.{asks_next, asks_still}
+use Rattle.jpg_cli.proofs.InsertedThen.{same_name}
 use Rattle.jpg_cli.proofs.PictureTaken.{from_still}
 
--- WHAT IS READ may be moved
+-- WHAT IS READ is meant
 
 front_small : (xs : List ℕ) (n : ℕ) → All (λ b. b < 256) xs → All (λ b. b < 256) (take n xs)
 front_small [] zero h k d l = let f : ⊥ = omega arith in absurd f
@@ -37,26 +45,23 @@ front_small (x ∷ xs) zero h k d l = let f : ⊥ = omega arith in absurd f
 front_small (x ∷ xs) (suc n) h zero d l = h 0 d (omega arith)
 front_small (x ∷ xs) (suc n) h (suc k) d l = front_small xs n (λ i e m. h (suc i) e (omega arith)) k d (omega arith)
 
-pub movable : (M : Meaning) (bytes : List ℕ) → IsWholeRead M bytes → IsMovable flip_choice M
-movable M bytes h = record {
-  limits = standard_limits;
-  bytes = take h.count bytes;
-  limited = standard_are_limits;
-  are_bytes = front_small bytes h.count h.small;
-  means = h.whole.0;
-  admitted = refl;
-}
+pub meant : (M : Meaning) (bytes : List ℕ) → IsWholeRead M bytes → IsMeant M
+meant M bytes h = (take h.count bytes, front_small bytes h.count h.small, h.whole.0)
+
+pub movable : (M : Meaning) (c : Asked) → IsMeant M → gray_fault c.gray M ≡ None → IsMovable (choice_told c) M
+movable M c (bytes, small, means) none = record { limits = standard_limits; bytes = bytes; limited = standard_are_limits; are_bytes = small; means = means; admitted = none }
 
 -- the file of the picture moved means it
 either_sequential : (b : Bool) → is_progressive (cond b Extended Baseline) ≡ false
 either_sequential true = refl
 either_sequential false = refl
 
-moved_means : (M : Meaning) → IsMovable flip_choice M → Means standard_limits (moved_text flip_choice M) (moved flip_choice M)
-moved_means M is =
-    own_means (moved flip_choice M) (moved_text flip_choice M) (record {
-      restart = flip_choice.restart;
-      headed = read_moved is.limits is.bytes M flip_choice is.limited is.are_bytes is.means is.admitted;
+means_moved : (M : Meaning) (c : Asked) → IsMeant M → gray_fault c.gray M ≡ None → MeansMoved (choice_told c) M
+means_moved M c h none =
+    let is = movable M c h none in
+    own_means (moved (choice_told c) M) (moved_text (choice_told c) M) (record {
+      restart = (choice_told c).restart;
+      headed = read_moved is.limits is.bytes M (choice_told c) is.limited is.are_bytes is.means is.admitted;
       sequential = either_sequential _;
       small = tt;
       text = refl;
@@ -64,50 +69,76 @@ moved_means M is =
 
 -- NO PICTURE
 
-pub turned_unread : (s0 s1 : DeskState) (w : Why) → PictureRead name.In s0 (Err w) s1 → Turned flip_choice s0 w s1
-turned_unread s0 s1 why.Done h = absurd h
-turned_unread s0 s1 (why.Usage u) h = absurd h
-turned_unread s0 s1 (why.Refused f) h = h
-turned_unread s0 s1 (why.OpenFault which.Input) h = h
-turned_unread s0 s1 (why.OpenFault which.Script) h = absurd h
-turned_unread s0 s1 (why.OpenFault which.Tables) h = absurd h
-turned_unread s0 s1 (why.OpenFault which.Comment) h = absurd h
-turned_unread s0 s1 (why.OpenFault which.Output) h = absurd h
-turned_unread s0 s1 (why.ReadFault which.Input) h = h
-turned_unread s0 s1 (why.ReadFault which.Script) h = absurd h
-turned_unread s0 s1 (why.ReadFault which.Tables) h = absurd h
-turned_unread s0 s1 (why.ReadFault which.Comment) h = absurd h
-turned_unread s0 s1 (why.ReadFault which.Output) h = absurd h
-turned_unread s0 s1 why.WriteFault h = absurd h
-turned_unread s0 s1 why.NoMemory h = h
+pub turned_unread : (t : Turning) (s0 s1 : DeskState) (w : Why) → PictureRead t.input s0 (Err w) s1 → Turned t s0 w s1
+turned_unread t s0 s1 why.Done h = absurd h
+turned_unread t s0 s1 (why.Usage u) h = absurd h
+turned_unread t s0 s1 (why.Refused f) h = h
+turned_unread t s0 s1 (why.Picture p) h = absurd h
+turned_unread t s0 s1 (why.OpenFault which.Input) h = h
+turned_unread t s0 s1 (why.OpenFault which.Script) h = absurd h
+turned_unread t s0 s1 (why.OpenFault which.Tables) h = absurd h
+turned_unread t s0 s1 (why.OpenFault which.Comment) h = absurd h
+turned_unread t s0 s1 (why.OpenFault which.Output) h = absurd h
+turned_unread t s0 s1 (why.ReadFault which.Input) h = h
+turned_unread t s0 s1 (why.ReadFault which.Script) h = absurd h
+turned_unread t s0 s1 (why.ReadFault which.Tables) h = absurd h
+turned_unread t s0 s1 (why.ReadFault which.Comment) h = absurd h
+turned_unread t s0 s1 (why.ReadFault which.Output) h = absurd h
+turned_unread t s0 s1 why.WriteFault h = absurd h
+turned_unread t s0 s1 why.NoMemory h = h
 
 -- A PICTURE, written
 
-wrote_moved : (s0 s1 s2 : DeskState) (text : List ℕ) → Keeps s0 s1 → Asks (name.In ∷ []) put.Done s0 s1 → NotesName s1.asked (name.Out, put.Done) s2.asked → Grows s1.outputs (name.Out, text) s2.outputs → WroteMoved text s0 s2
-wrote_moved s0 s1 s2 text k h o grows = record {
-  asked = asks_next s0 s1 s2 (name.In ∷ []) name.Out put.Done h o;
-  outputs = (let P : Option (List (Name × List ℕ)) → Type 0 = λ a. Grows a (name.Out, text) s2.outputs in subst P k.outputs grows);
+-- a picture was read from the input, and its desk goes on
+pub record HasPictureRead (t : Turning) (M : Meaning) (s0 s1 s2 : DeskState) : Type 0 where
+  pub kept : Keeps s0 s1
+  pub asked : Asks (t.input ∷ []) put.Done s0 s1
+  pub read : ReadsFrom t.input (IsWholeRead M) s0 s1
+  pub left : s2.left ≡ s1.left
+
+abbrev turning_by : Name → Name → Asked → Turning
+turning_by input output c = record { input = input; output = output; choice = choice_told c }
+
+read_on : (t : Turning) (M : Meaning) (s0 s1 s2 : DeskState) → HasPictureRead t M s0 s1 s2 → ReadsFrom t.input (IsWholeRead M) s0 s2
+read_on t M s0 s1 s2 h = from_still s0 s1 s2 t.input (IsWholeRead M) h.left h.read
+
+wrote_text : (t : Turning) (M : Meaning) (s0 s1 s2 : DeskState) (text : List ℕ) → HasPictureRead t M s0 s1 s2 → NotesName s1.asked (t.output, put.Done) s2.asked → Grows s1.outputs (t.output, text) s2.outputs → Wrote (t.input ∷ []) t.output text s0 s2
+wrote_text t M s0 s1 s2 text h o grows = record {
+  asked = asks_next s0 s1 s2 (t.input ∷ []) t.output put.Done h.asked o;
+  outputs = (let P : Option (List (Name × List ℕ)) → Type 0 = λ a. Grows a (t.output, text) s2.outputs in subst P h.kept.outputs grows);
 }
 
-pub turned_output : (s0 s1 s2 : DeskState) (M : Meaning) (w : Why) → Keeps s0 s1 → Asks (name.In ∷ []) put.Done s0 s1 → ReadsPicture M s0 s1 → s2.left ≡ s1.left → AfterOutput s1 (moved_text flip_choice M) w s2 → Turned flip_choice s0 w s2
-turned_output s0 s1 s2 M why.Done k h r left o =
-    (M, from_still s0 s1 s2 name.In (IsWholeRead M) left r, wrote_moved s0 s1 s2 (moved_text flip_choice M) k h o.0 o.1, moved_means M (movable M r.bytes r.is))
-turned_output s0 s1 s2 M (why.Usage u) k h r left o = absurd o
-turned_output s0 s1 s2 M (why.Refused f) k h r left o = absurd o
-turned_output s0 s1 s2 M (why.OpenFault which.Input) k h r left o = absurd o
-turned_output s0 s1 s2 M (why.OpenFault which.Script) k h r left o = absurd o
-turned_output s0 s1 s2 M (why.OpenFault which.Tables) k h r left o = absurd o
-turned_output s0 s1 s2 M (why.OpenFault which.Comment) k h r left o = absurd o
-turned_output s0 s1 s2 M (why.OpenFault which.Output) k h r left o = (
-  record {
-    stopped = record { asked = asks_next s0 s1 s2 (name.In ∷ []) name.Out put.Failed h o.0; outputs = o.2 ∙ k.outputs };
-    opens = (let e = o.1 in let f = k.works.stays.counts.opens in omega arith);
-  },
-  (M, from_still s0 s1 s2 name.In (IsWholeRead M) left r),
-)
-turned_output s0 s1 s2 M (why.ReadFault u) k h r left o = absurd o
-turned_output s0 s1 s2 M why.WriteFault k h r left o = (
-  (let e = o.1 in let f = k.works.stays.counts.writes in omega arith),
-  (M, o.2.0, from_still s0 s1 s2 name.In (IsWholeRead M) left r, wrote_moved s0 s1 s2 (take o.2.0 (moved_text flip_choice M)) k h o.0 o.2.1),
-)
-turned_output s0 s1 s2 M why.NoMemory k h r left o = absurd o
+pub turned_done : (input output : Name) (c : Asked) (M : Meaning) (s0 s1 s2 : DeskState) → HasPictureRead (turning_by input output c) M s0 s1 s2 → AfterMoved (choice_told c) M output s1 wrote.Done s2 → Turned (turning_by input output c) s0 why.Done s2
+turned_done input output c M s0 s1 s2 h (none, (asked, grows)) =
+    let t = turning_by input output c in
+    (M, record { read = read_on t M s0 s1 s2 h; admitted = none }, wrote_text t M s0 s1 s2 (moved_text (choice_told c) M) h asked grows, means_moved M c (meant M h.read.bytes h.read.is) none)
+
+pub turned_fault : (input output : Name) (c : Asked) (M : Meaning) (fault : PictureFault) (s0 s1 s2 : DeskState) → HasPictureRead (turning_by input output c) M s0 s1 s2 → AfterMoved (choice_told c) M output s1 (wrote.Picture fault) s2 → Turned (turning_by input output c) s0 (why.Picture fault) s2
+turned_fault input output c M fault s0 s1 s2 h (is, same) =
+    let t = turning_by input output c in
+    (record { asked = asks_still s0 s1 s2 (input ∷ []) put.Done same.asked h.asked; outputs = same.outputs ∙ h.kept.outputs }, (M, read_on t M s0 s1 s2 h, is))
+
+pub turned_unopened : (input output : Name) (c : Asked) (M : Meaning) (s0 s1 s2 : DeskState) → HasPictureRead (turning_by input output c) M s0 s1 s2 → AfterMoved (choice_told c) M output s1 wrote.OpenFault s2 → Turned (turning_by input output c) s0 (why.OpenFault which.Output) s2
+turned_unopened input output c M s0 s1 s2 h (none, (asked, rose, same)) =
+    let t = turning_by input output c in (
+      record {
+        stopped = record { asked = asks_next s0 s1 s2 (input ∷ []) output put.Failed h.asked asked; outputs = same ∙ h.kept.outputs };
+        opens = (let f = h.kept.works.stays.counts.opens in omega (arith, rose, f));
+      },
+      (M, record { read = read_on t M s0 s1 s2 h; admitted = none }),
+    )
+
+pub turned_unwritten : (input output : Name) (c : Asked) (M : Meaning) (s0 s1 s2 : DeskState) → HasPictureRead (turning_by input output c) M s0 s1 s2 → AfterMoved (choice_told c) M output s1 wrote.WriteFault s2 → Turned (turning_by input output c) s0 why.WriteFault s2
+turned_unwritten input output c M s0 s1 s2 h (none, (asked, rose, (n, grows))) =
+    let t = turning_by input output c in (
+      (let f = h.kept.works.stays.counts.writes in omega (arith, rose, f)),
+      (M, n, record { read = read_on t M s0 s1 s2 h; admitted = none }, wrote_text t M s0 s1 s2 (take n (moved_text (choice_told c) M)) h asked grows),
+    )
+
+-- AS THE WORDS SAY IT
+
+pub asked_turned : (w : TransformWords) (s0 s1 : DeskState) (ended : Why) → Turned (turning_told w) s0 ended s1 → RanTransform (transform_told w) s0 ended s1
+asked_turned w s0 s1 ended h =
+    let of : Name → Name → Turning = λ i o. record { input = i; output = o; choice = choice_told w.choice } in
+    inl (subst (λ i. Turned (of i (name_of (file_told w.files.output))) s0 ended s1) (sym (same_name w.files.input))
+    (subst (λ o. Turned (of w.files.input o) s0 ended s1) (sym (same_name w.files.output)) h))

@@ -3,19 +3,21 @@ use Rattle.std.specs.Prelude.{◌≡◌, ◌⊎◌, ℕ, if◌then◌else◌, Li
 use Rattle.std.specs.Str.{bytes_eq}
 use Rattle.jpg_base.specs.declared.names.Name.{Name}
 use Rattle.jpg_base.specs.declared.names.Name.TheVariants as name
-use Rattle.jpg_spec.specs.Words.{are_words, flip_words, is_tool}
+use Rattle.jpg_spec.specs.Words.{is_tool}
+use Rattle.jpg_spec.specs.TransformWords.{TransformAsked, transform_asked}
 use Rattle.jpg_spec.specs.CommentWords.{FileName, standard_input, standard_output, named, FilesAsked, WordsTold, WriteAsked, words_right, words_wrong, usage_at, read_asked, write_asked}
 use Rattle.jpg_spec.specs.declared.answers.UsageFault.TheVariants.{NoTool, UnknownTool}
 use Rattle.jpg_cli.specs.CommentWords.{files_told, write_told}
+use Rattle.jpg_cli.specs.TransformWords.{transform_told}
 use Rattle.jpg_cli.specs.declared.words.Asked.{Asked}
 use Rattle.jpg_cli.specs.declared.words.Asked.TheVariants as asked
 use Rattle.jpg_cli.specs.declared.comment_words.WordsStop.{WordsStop}
 use Rattle.jpg_cli.specs.declared.comment_words.WordsStop.TheVariants as stop
 
--- what isn't built yet; jpegtran -flip horizontal, from standard input to standard output; rdjpgcom; wrjpgcom
+-- what isn't built yet; jpegtran; rdjpgcom; wrjpgcom
 pub data Command : Type 0 where
   not_built : Command
-  flip_horizontal : Command
+  transform_picture : TransformAsked → Command
   print_comments : FilesAsked → Command
   insert_comment : WriteAsked → Command
 
@@ -29,15 +31,20 @@ abbrev pub write_command : WordsTold WriteAsked → WordsTold Command
 write_command (words_wrong usage) = words_wrong usage
 write_command (words_right asked) = words_right (insert_comment asked)
 
--- of all other commands but one call isn't built yet
-abbrev pub other_command : List (List ℕ) → Command
-other_command words = if are_words words flip_words then flip_horizontal else not_built
+-- and for jpegtran, but for what isn't built yet
+abbrev pub built_transform : TransformAsked → Command
+built_transform a = if a.unbuilt then not_built else transform_picture a
+
+abbrev pub transform_command : WordsTold TransformAsked → WordsTold Command
+transform_command (words_wrong usage) = words_wrong usage
+transform_command (words_right a) = words_right (built_transform a)
 
 abbrev pub known_command : List ℕ → List (List ℕ) → WordsTold Command
 known_command tool words =
-    if bytes_eq tool (codes "rdjpgcom") then read_command (read_asked 1 words)
+    if bytes_eq tool (codes "jpegtran") then transform_command (transform_asked words)
+    else if bytes_eq tool (codes "rdjpgcom") then read_command (read_asked 1 words)
     else if bytes_eq tool (codes "wrjpgcom") then write_command (write_asked 1 words)
-    else words_right (other_command (tool ∷ words))
+    else words_right not_built
 
 abbrev pub command_asked : List (List ℕ) → WordsTold Command
 command_asked [] = usage_at NoTool 0
@@ -53,7 +60,7 @@ name_of (named text) = name.File text
 
 abbrev pub command_told : Asked → Command
 command_told asked.NotBuilt = not_built
-command_told asked.FlipHorizontal = flip_horizontal
+command_told (asked.Jpegtran words) = transform_picture (transform_told words)
 command_told (asked.Rdjpgcom files) = print_comments (files_told files)
 command_told (asked.Wrjpgcom words) = insert_comment (write_told words)
 
@@ -62,4 +69,5 @@ abbrev pub IsCommand : WordsTold Command → Result Asked WordsStop → Type 0
 IsCommand told (Ok a) = told ≡ words_right (command_told a)
 IsCommand told (Err (stop.Usage usage)) = told ≡ words_wrong usage
 IsCommand told (Err stop.NoMemory) =
-    ((files : FilesAsked) × (told ≡ words_right (print_comments files))) ⊎ ((asked : WriteAsked) × (told ≡ words_right (insert_comment asked)))
+    ((a : TransformAsked) × (told ≡ words_right (transform_picture a)))
+    ⊎ ((files : FilesAsked) × (told ≡ words_right (print_comments files))) ⊎ ((asked : WriteAsked) × (told ≡ words_right (insert_comment asked)))

@@ -7,7 +7,7 @@ use Rattle.jpg_spec.specs.CommentWords.{FileName, standard_input, standard_outpu
 use Rattle.jpg_spec.specs.declared.answers.Usage.{Usage}
 use Rattle.jpg_spec.specs.declared.answers.UsageFault.{UsageFault}
 use Rattle.jpg_spec.specs.declared.answers.UsageFault.TheVariants.{LeftOutSwitch, MissingValue, UnknownSwitch}
-use Rattle.jpg_spec.specs.declared.switch.Purpose.TheVariants.{LeftOut, Replacing, CommentGiven, CommentInFile}
+use Rattle.jpg_spec.specs.declared.switch.Purpose.TheVariants.{LeftOut}
 use Rattle.jpg_spec.specs.declared.switch.Purpose.{Purpose}
 use Rattle.jpg_cli.specs.declared.comment_words.Files.{Files}
 use Rattle.jpg_cli.specs.declared.comment_words.CommentFrom.{CommentFrom}
@@ -85,9 +85,7 @@ usage_told fault index = record { fault = fault; word = index }
 -- what is wrong with a switch that the command has for nothing
 abbrev pub fault_of_switch : Option Purpose → UsageFault
 fault_of_switch (Some LeftOut) = LeftOutSwitch
-fault_of_switch (Some Replacing) = UnknownSwitch
-fault_of_switch (Some CommentGiven) = UnknownSwitch
-fault_of_switch (Some CommentInFile) = UnknownSwitch
+fault_of_switch (Some other) = UnknownSwitch
 fault_of_switch None = UnknownSwitch
 
 -- The value of the switch of this index is the word behind it, where there is one.

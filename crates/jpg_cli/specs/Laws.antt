@@ -1,8 +1,49 @@
 -- What the laws over runs say.
+use Rattle.std.specs.Prelude.{ℕ, List}
 use Rattle.jpg_base.specs.Desk.{DeskState}
+use Rattle.jpg_spec.specs.FileMeaning.{Means}
+use Rattle.jpg_spec.specs.Laws.{IsTransformOf, UndoesTransform}
+use Rattle.jpg_spec.specs.Meaning.{Meaning}
+use Rattle.jpg_spec.specs.Moved.{IsSamePicture}
+use Rattle.jpg_spec.specs.Segments.{standard_limits}
+use Rattle.jpg_spec.specs.declared.transform.Transform.{Transform}
+use Rattle.jpg_transform.specs.Planned.{moved_text}
+use Rattle.jpg_spec.specs.declared.answers.FaultAt.{FaultAt}
 use Rattle.jpg_spec.specs.declared.answers.Why.{Why}
+use Rattle.jpg_spec.specs.declared.answers.Why.TheVariants as why
+use Rattle.jpg_cli.specs.Certain.{IsTold}
 use Rattle.jpg_cli.specs.Run.{NoneRose}
+use Rattle.jpg_cli.specs.Turned.{Turned, Turning}
 
 -- Where no count of open, read or write rose, a run that ends like this has such an answer.
 abbrev pub WhereNoneRose : (DeskState → Why → DeskState → Type 0) → DeskState → (Why → Type 0) → Type 0
 WhereNoneRose Ends old Is = (new : DeskState) (why : Why) → NoneRose old.counts new.counts → Ends old why new → Is why
+
+-- Whichever counts rose, it has such an answer.
+abbrev pub WhateverRose : (DeskState → Why → DeskState → Type 0) → DeskState → (Why → Type 0) → Type 0
+WhateverRose Ends old Is = (new : DeskState) (why : Why) → Ends old why new → Is why
+
+-- A run that turns a picture refused this input with this fault, however the desk cut it into pieces.
+pub record WasRefused (bytes : List ℕ) (f : FaultAt) : Type 0 where
+  pub turning : Turning
+  pub old : DeskState
+  pub new : DeskState
+  pub told : IsTold old.files turning.input bytes
+  pub turned : Turned turning old (why.Refused f) new
+
+-- A run was done that turned what a transform makes of this picture by its inverse, without trimming and graying.
+pub record WasTurnedBack (t : Transform) (M : Meaning) : Type 0 where
+  pub turning : Turning
+  pub old : DeskState
+  pub new : DeskState
+  pub turned : Turned turning old why.Done new
+  pub made : IsTransformOf t M turned.0
+  pub back : UndoesTransform t turning.choice
+
+-- the text that it wrote
+abbrev pub text_back : {t : Transform} {M : Meaning} → WasTurnedBack t M → List ℕ
+text_back w = moved_text w.turning.choice w.turned.0
+
+-- The bytes mean a picture that is the same in sides, identifiers, factors, quantisers and blocks.
+abbrev pub MeanSame : List ℕ → Meaning → Type 0
+MeanSame bytes M = (N : Meaning) × Means standard_limits bytes N × IsSamePicture N M

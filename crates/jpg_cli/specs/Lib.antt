@@ -1,5 +1,6 @@
 pub mod Endings
-pub mod Flipped
+pub mod Turned
+pub mod TransformWords
 pub mod Certain
 pub mod Commands
 pub mod CommentInserted

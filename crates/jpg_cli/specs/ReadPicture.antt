@@ -1,21 +1,18 @@
 -- WHAT READING A PICTURE does to a desk (T.81, B.2.1), by what came of it.
-use Rattle.std.specs.Prelude.{◌≡◌, ◌⊎◌, ℕ, ◌+◌, ◌<◌, ◌≤◌, true, false, List, [], ◌∷◌, ◌++◌, length, take, All, Result, Ok, Err}
+use Rattle.std.specs.Prelude.{◌≡◌, ℕ, ◌+◌, ◌<◌, ◌≤◌, true, false, List, [], ◌∷◌, ◌++◌, length, take, All, Result, Ok, Err}
 use Rattle.std.specs.Io.KnownBytes.{Consumes}
 use Rattle.jpg_base.specs.declared.names.Name.{Name}
 use Rattle.jpg_base.specs.declared.names.Put.TheVariants as put
 use Rattle.jpg_base.specs.Desk.{DeskState, Rose}
 use Rattle.jpg_spec.specs.Segments.{standard_limits}
 use Rattle.jpg_spec.specs.Meaning.{Meaning}
-use Rattle.jpg_spec.specs.FirstFault.{IsFirstFault}
 use Rattle.jpg_spec.specs.FileStands.{FileStands, IsWholeFile}
-use Rattle.jpg_spec.specs.declared.fault.Fault.TheVariants.{NotBuilt}
 use Rattle.jpg_spec.specs.declared.answers.FaultAt.{FaultAt}
 use Rattle.jpg_spec.specs.declared.answers.Why.{Why}
 use Rattle.jpg_spec.specs.declared.answers.Why.TheVariants as why
 use Rattle.jpg_spec.specs.declared.answers.Which.TheVariants as which
-use Rattle.jpg_file.specs.Items.{EndsProgressive}
 use Rattle.jpg_file.specs.PictureRead.{picture_meaning}
-use Rattle.jpg_file.specs.ReadFile.{HasRead, IsDone, ReaderState}
+use Rattle.jpg_file.specs.ReadFile.{HasRead, IsDone, IsRefusal, ReaderState}
 use Rattle.jpg_file.specs.declared.picture.Picture.{Picture}
 use Rattle.jpg_cli.specs.Endings.{Asks, Stopped, Unopened, Unread}
 use Rattle.jpg_cli.specs.Reading.{IsFile, rest_of}
@@ -33,11 +30,10 @@ pub record IsWholeRead (M : Meaning) (bytes : List ℕ) : Type 0 where
   pub whole : IsWholeFile standard_limits (take count bytes) M
   pub small : All (λ b. b < 256) bytes
 
--- what a file is refused with: its first fault, or at its end the header of a progressive frame (SOF2), which isn't read yet
+-- What a file is refused with: its first fault, or NotBuilt at the end of the first header of a progressive frame (SOF2), which isn't read yet;
+-- whichever comes first.
 abbrev pub IsRefused : List ℕ → FaultAt → Type 0
-IsRefused input f =
-    IsFirstFault standard_limits input f.fault f.at
-    ⊎ ((f.fault ≡ NotBuilt) × (f.at ≤ length input) × EndsProgressive standard_limits (take f.at input))
+IsRefused input f = IsRefusal standard_limits input f
 
 -- The file, which has this rest behind the bytes, is refused so. That shows in the bytes, fewer than 65,536 of which are behind it.
 pub record IsRefusedRead (f : FaultAt) (rest bytes : List ℕ) : Type 0 where

@@ -1,27 +1,44 @@
--- What creating and writing an output does to a desk.
-use Rattle.std.specs.Prelude.{◌≡◌, ℕ, List, take, Result, Ok, Err}
-use Rattle.jpg_base.specs.declared.names.Name.TheVariants as name
+-- WHAT WRITING A PICTURE MOVED does to a desk, by what came of it (the manual of jpegtran).
+use Rattle.std.specs.Prelude.{◌≡◌, ℕ, ◌<◌, List, All, take, None, Some, Result, Ok, Err}
+use Rattle.jpg_base.specs.declared.names.Name.{Name}
 use Rattle.jpg_base.specs.declared.names.Put.TheVariants as put
 use Rattle.jpg_base.specs.declared.stop.WriteFault.{WriteFault}
 use Rattle.jpg_base.specs.Desk.{DeskState, Rose, NotesName, AppendsLast}
 use Rattle.jpg_base.specs.Laws.{Grows, AppendsPart}
-use Rattle.jpg_spec.specs.declared.answers.Why.{Why}
-use Rattle.jpg_spec.specs.declared.answers.Why.TheVariants as why
-use Rattle.jpg_spec.specs.declared.answers.Which.TheVariants as which
+use Rattle.jpg_spec.specs.FileMeaning.{Means}
+use Rattle.jpg_spec.specs.Meaning.{Meaning}
+use Rattle.jpg_spec.specs.Moved.{Choice, gray_fault}
+use Rattle.jpg_spec.specs.Segments.{standard_limits}
+use Rattle.jpg_cli.specs.Stays.{Untouched}
+use Rattle.jpg_cli.specs.declared.writing.Wrote.{Wrote}
+use Rattle.jpg_cli.specs.declared.writing.Wrote.TheVariants as wrote
+use Rattle.jpg_transform.specs.Planned.{moved_text}
+
+-- some bytes mean this picture
+abbrev pub IsMeant : Meaning → Type 0
+IsMeant M = (bytes : List ℕ) × All (λ b. b < 256) bytes × Means standard_limits bytes M
 
 -- All that is due was written. After a fault a first part of it was.
 abbrev pub WritesAll : DeskState → List ℕ → Result (Unit {0}) WriteFault → DeskState → Type 0
 WritesAll old due (Ok u) new = AppendsLast old.outputs due new.outputs
 WritesAll old due (Err fault) new = AppendsPart old.outputs due new.outputs × Rose old.counts.writes new.counts.writes
 
--- outputs grew by standard output, which holds a first part of the bytes
-abbrev pub GrowsInPart : DeskState → List ℕ → DeskState → Type 0
-GrowsInPart old due new = (n : ℕ) × Grows old.outputs (name.Out, take n due) new.outputs
+-- Outputs grew by one of this name, which holds a first part of the bytes.
+abbrev pub GrowsInPart : Name → DeskState → List ℕ → DeskState → Type 0
+GrowsInPart output old due new = (n : ℕ) × Grows old.outputs (output, take n due) new.outputs
 
--- standard output was created and holds what is due, or why not
-abbrev pub AfterOutput : DeskState → List ℕ → Why → DeskState → Type 0
-AfterOutput old due why.Done new = NotesName old.asked (name.Out, put.Done) new.asked × Grows old.outputs (name.Out, due) new.outputs
-AfterOutput old due (why.OpenFault which.Output) new =
-    NotesName old.asked (name.Out, put.Failed) new.asked × Rose old.counts.opens new.counts.opens × (new.outputs ≡ old.outputs)
-AfterOutput old due why.WriteFault new = NotesName old.asked (name.Out, put.Done) new.asked × Rose old.counts.writes new.counts.writes × GrowsInPart old due new
-AfterOutput old due other new = ⊥
+-- An output of this name was created and holds what is due, or a first part of it; or it wasn't created.
+abbrev pub AfterOutput : Name → DeskState → List ℕ → Wrote → DeskState → Type 0
+AfterOutput output old due wrote.Done new = NotesName old.asked (output, put.Done) new.asked × Grows old.outputs (output, due) new.outputs
+AfterOutput output old due (wrote.Picture fault) new = ⊥
+AfterOutput output old due wrote.OpenFault new =
+    NotesName old.asked (output, put.Failed) new.asked × Rose old.counts.opens new.counts.opens × (new.outputs ≡ old.outputs)
+AfterOutput output old due wrote.WriteFault new =
+    NotesName old.asked (output, put.Done) new.asked × Rose old.counts.writes new.counts.writes × GrowsInPart output old due new
+
+-- THE ANSWERS: the picture has a fault for this choice, and nothing was asked for; or it has none, and its text is due
+abbrev pub AfterMoved : Choice → Meaning → Name → DeskState → Wrote → DeskState → Type 0
+AfterMoved choice M output old (wrote.Picture fault) new = (gray_fault choice.gray M ≡ Some fault) × Untouched old new
+AfterMoved choice M output old wrote.Done new = (gray_fault choice.gray M ≡ None) × AfterOutput output old (moved_text choice M) wrote.Done new
+AfterMoved choice M output old wrote.OpenFault new = (gray_fault choice.gray M ≡ None) × AfterOutput output old (moved_text choice M) wrote.OpenFault new
+AfterMoved choice M output old wrote.WriteFault new = (gray_fault choice.gray M ≡ None) × AfterOutput output old (moved_text choice M) wrote.WriteFault new

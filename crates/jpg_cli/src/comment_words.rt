@@ -238,7 +238,7 @@ impl<'a> Insertion<'a> {
 }
 
 // The value of the switch of this index: the word behind it.
-fn value_of(words: &[String], index: usize) -> Result<&str, Usage>
+pub(crate) fn value_of(words: &[String], index: usize) -> Result<&str, Usage>
     requires { index < length words.now }
     ensures { IsValue (map string_bytes words.now) index result }
 {
@@ -248,7 +248,7 @@ fn value_of(words: &[String], index: usize) -> Result<&str, Usage>
     }
 }
 
-fn word_at(words: &[String], index: usize) -> &str
+pub(crate) fn word_at(words: &[String], index: usize) -> &str
     requires { index < length words.now }
     ensures { result.now ≡ word_at (map string_bytes words.now) index }
 {
@@ -265,7 +265,7 @@ fn switch_fault(purpose: Option<Purpose>) -> UsageFault
     }
 }
 
-fn usage(fault: UsageFault, index: usize) -> Usage
+pub(crate) fn usage(fault: UsageFault, index: usize) -> Usage
     ensures { result ≡ usage_told fault index }
 {
     Usage {

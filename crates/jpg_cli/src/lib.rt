@@ -3,7 +3,6 @@
 
 mod comment_taken;
 mod comment_words;
-mod flip;
 mod insert_comment;
 mod laws;
 mod message;
@@ -13,14 +12,19 @@ mod read_picture;
 mod reading;
 mod switches;
 mod top;
+mod transform;
+mod transform_words;
 mod words;
+mod writing;
 
 pub use comment_words::{CommentFrom, Files, WordsStop, WriteWords};
 pub use laws::{
     answers_are_due, files_with_a_frame_header_have_the_comment_inserted,
-    inserted_comments_are_due, pictures_are_turned, printed_comments_are_due,
-    whole_files_have_their_comments_printed,
+    inserted_comments_are_due, pictures_are_turned, pictures_are_turned_back,
+    printed_comments_are_due, whole_files_have_their_comments_printed,
 };
 pub use program::run_program;
 pub use top::{Ended, run};
+pub use transform_words::TransformWords;
 pub use words::{Asked, read_words};
+pub use writing::{Wrote, write_moved};

@@ -2,13 +2,13 @@
 ghost use Rattle.std.specs.Prelude.{◌≡◌, ◌≤◌, ◌<◌, ◌+◌, ◌++◌, length, drop};
 ghost use Rattle.std.specs.Fmt.{decimal};
 ghost use Rattle.arrayvec.specs.ArrayVec.{array_vec_len};
-ghost use Rattle.jpg_spec.specs.Messages.{message, text_of};
+ghost use Rattle.jpg_spec.specs.Messages.{message, picture_numbers, text_of, then_bit, then_number};
 ghost use Rattle.jpg_spec.specs.declared.answers.Why.TheVariants as why;
 
 use arrayvec::ArrayVec;
-use jpg_spec::{FaultAt, Usage, Why};
+use jpg_spec::{FaultAt, PictureFault, Usage, Why};
 
-/// A message in work. The longest has 69 bytes.
+/// A message in work: each has fewer than 128 bytes.
 pub type Message = ArrayVec<u8, 128>;
 
 // Appends a text.
@@ -84,16 +84,74 @@ fn add_refusal(message: &mut Message, fault: FaultAt)
     add_number(message, fault.at);
 }
 
+// Appends a number behind a space.
+fn then_number(message: &mut Message, number: u8)
+    requires room { array_vec_len message.old + 24 ≤ 128 }
+    ensures text { message.new.items ≡ message.old.items ++ then_number number }
+    ensures most { array_vec_len message.new ≤ array_vec_len message.old + 24 }
+{
+    add(message, " ");
+    add_number(message, u64::from(number));
+}
+
+// Appends the bit down to which a coefficient is known.
+fn then_bit(message: &mut Message, bit: Option<u8>)
+    requires room { array_vec_len message.old + 24 ≤ 128 }
+    ensures text { message.new.items ≡ message.old.items ++ then_bit bit }
+    ensures most { array_vec_len message.new ≤ array_vec_len message.old + 24 }
+{
+    match bit {
+        Some(bit) => then_number(message, bit),
+        None => add(message, " never"),
+    }
+}
+
+// Appends the numbers of a fault of a picture.
+fn add_numbers(message: &mut Message, fault: PictureFault)
+    requires room { array_vec_len message.old ≤ 50 }
+    ensures text { message.new.items ≡ message.old.items ++ picture_numbers fault }
+    ensures room { array_vec_len message.new ≤ 122 }
+{
+    match fault {
+        PictureFault::GrayColour | PictureFault::GrayFactors | PictureFault::TooManyBlocks => {}
+        PictureFault::FractionalFactors { component } => then_number(message, component),
+        PictureFault::ScriptComponent { entry }
+        | PictureFault::ScriptMcu { entry }
+        | PictureFault::ScriptBand { entry } => then_number(message, entry),
+        PictureFault::ScriptIncomplete {
+            component,
+            coefficient,
+            bit,
+        } => {
+            then_number(message, component);
+            then_number(message, coefficient);
+            then_bit(message, bit);
+        }
+    }
+}
+
+#[tactic(auto, using(crate::proofs::Names::picture_short))]
+fn add_picture(message: &mut Message, fault: PictureFault)
+    requires room { array_vec_len message.old ≤ 10 }
+    ensures text { message.new.items ≡ message.old.items ++ text_of (why.Picture fault) }
+    ensures room { array_vec_len message.new ≤ 122 }
+{
+    add(message, "picture: ");
+    add(message, fault.name());
+    add_numbers(message, fault);
+}
+
 #[tactic(auto, using(crate::proofs::Names::which_short))]
 fn add_text(message: &mut Message, why: Why)
     requires room { array_vec_len message.old ≤ 10 }
     ensures text { message.new.items ≡ message.old.items ++ text_of why }
-    ensures room { array_vec_len message.new ≤ 100 }
+    ensures room { array_vec_len message.new ≤ 122 }
 {
     match why {
         Why::Done => {}
         Why::Usage(usage) => add_usage(message, usage),
         Why::Refused(fault) => add_refusal(message, fault),
+        Why::Picture(fault) => add_picture(message, fault),
         Why::OpenFault(which) => {
             add(message, "can't open ");
             add(message, which.name());

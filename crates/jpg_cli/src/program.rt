@@ -7,10 +7,11 @@ use std::io::ErrorKind;
 use std::process::ExitCode;
 use std::rt::Runtime;
 
-const VERSION: &str = "jpgsuite 0.3.0\n";
+const VERSION: &str = "jpgsuite 0.4.0\n";
 
 const HELP: &str = "\
-jpegtran -flip horizontal < INPUT > OUTPUT
+jpegtran [-flip horizontal | -flip vertical | -rotate 90 | -rotate 180 | -rotate 270 | -transpose | -transverse]
+    [-trim] [-grayscale] [-copy none | -copy comments | -copy all] [-outfile NAME] [FILE] > OUTPUT
 rdjpgcom [FILE] > OUTPUT
 wrjpgcom [-replace] [-comment TEXT | -cfile FILE] [FILE] > OUTPUT
 ";

@@ -2,7 +2,7 @@
 //! that has its shortest form stands for it).
 ghost use Rattle.std.specs.Prelude.{◌≡◌, map};
 ghost use Rattle.jpg_spec.specs.Lists.{begins_with};
-ghost use Rattle.jpg_spec.specs.Switches.{is_match, is_switch, lower, purpose_of};
+ghost use Rattle.jpg_spec.specs.Switches.{is_match, is_switch, lower, purpose_of, stands_for};
 ghost use Rattle.jpg_cli.specs.Switches.{told_switch};
 
 use jpg_spec::Purpose;
@@ -41,6 +41,100 @@ pub static WRJPGCOM_SWITCHES: [Switch; 3] = [
     },
 ];
 
+/// The switches of jpegtran.
+pub static JPEGTRAN_SWITCHES: [Switch; 18] = [
+    Switch {
+        name: "copy",
+        shortest: 1,
+        purpose: Purpose::CopyingGiven,
+    },
+    Switch {
+        name: "flip",
+        shortest: 1,
+        purpose: Purpose::FlipGiven,
+    },
+    Switch {
+        name: "grayscale",
+        shortest: 1,
+        purpose: Purpose::Graying,
+    },
+    Switch {
+        name: "greyscale",
+        shortest: 1,
+        purpose: Purpose::Graying,
+    },
+    Switch {
+        name: "outfile",
+        shortest: 4,
+        purpose: Purpose::OutputNamed,
+    },
+    Switch {
+        name: "progressive",
+        shortest: 1,
+        purpose: Purpose::ProgressiveAsked,
+    },
+    Switch {
+        name: "restart",
+        shortest: 1,
+        purpose: Purpose::RestartGiven,
+    },
+    Switch {
+        name: "rotate",
+        shortest: 2,
+        purpose: Purpose::RotationGiven,
+    },
+    Switch {
+        name: "scans",
+        shortest: 1,
+        purpose: Purpose::ScriptInFile,
+    },
+    Switch {
+        name: "transpose",
+        shortest: 1,
+        purpose: Purpose::Transposing,
+    },
+    Switch {
+        name: "transverse",
+        shortest: 6,
+        purpose: Purpose::TransposingAcross,
+    },
+    Switch {
+        name: "trim",
+        shortest: 3,
+        purpose: Purpose::Trimming,
+    },
+    Switch {
+        name: "optimize",
+        shortest: 1,
+        purpose: Purpose::LeftOut,
+    },
+    Switch {
+        name: "optimise",
+        shortest: 1,
+        purpose: Purpose::LeftOut,
+    },
+    Switch {
+        name: "arithmetic",
+        shortest: 1,
+        purpose: Purpose::LeftOut,
+    },
+    Switch {
+        name: "verbose",
+        shortest: 1,
+        purpose: Purpose::LeftOut,
+    },
+    Switch {
+        name: "debug",
+        shortest: 1,
+        purpose: Purpose::LeftOut,
+    },
+    Switch {
+        name: "maxmemory",
+        shortest: 3,
+        purpose: Purpose::LeftOut,
+    },
+];
+
 /// Whether a word begins with a hyphen.
 pub fn is_switch(word: &str) -> bool
     ensures { result ≡ is_switch word.now }
@@ -69,7 +163,14 @@ pub fn purpose_of(switches: &[Switch], word: &str) -> Option<Purpose>
 fn is_match(letters: &[u8], switch: &Switch) -> bool
     ensures { result ≡ is_match letters.now (told_switch switch.now) }
 {
-    switch.shortest <= letters.len() && begins(letters, switch.name.as_bytes())
+    stands_for(switch.shortest, switch.name.as_bytes(), letters)
+}
+
+/// Whether the letters are the beginning of a name, in any case, and no fewer than its shortest form has.
+pub fn stands_for(shortest: usize, name: &[u8], letters: &[u8]) -> bool
+    ensures { result ≡ stands_for shortest name.now letters.now }
+{
+    shortest <= letters.len() && begins(letters, name)
 }
 
 // Whether the letters, in lower case, are the beginning of the name.
@@ -89,8 +190,8 @@ fn begins(letters: &[u8], name: &[u8]) -> bool
     true
 }
 
-// An ASCII letter in lower case, any other byte as it is.
-fn lower(byte: u8) -> u8
+/// An ASCII letter in lower case, any other byte as it is.
+pub fn lower(byte: u8) -> u8
     ensures { result ≡ lower byte }
 {
     byte.to_ascii_lowercase()

@@ -5,10 +5,10 @@ ghost use Rattle.jpg_cli.specs.Stays.{OnlySays};
 ghost use Rattle.jpg_cli.specs.Run.{Ran, Works, SaysText};
 
 use crate::comment_words::WordsStop;
-use crate::flip::flip;
 use crate::insert_comment::insert_comment;
 use crate::message::message_of;
 use crate::read_comments::print_comments;
+use crate::transform::transform;
 use crate::words::{Asked, read_words, tool_name};
 use jpg_base::{Desk, Put};
 use jpg_spec::{Fault, FaultAt, Why};
@@ -48,15 +48,15 @@ fn work<D: Desk>(alloc: Global, words: &[String], desk: &mut D) -> Why
             fault: Fault::NotBuilt,
             at: 0,
         }),
-        Ok(Asked::FlipHorizontal) => flip(alloc, desk),
+        Ok(Asked::Jpegtran(words)) => transform(alloc, &words, desk),
         Ok(Asked::Rdjpgcom(files)) => print_comments(alloc, &files, desk),
         Ok(Asked::Wrjpgcom(words)) => insert_comment(alloc, &words, desk),
     }
 }
 
-/// Runs the command that the words ask for over a desk: `jpegtran -flip horizontal` turns the sequential
-/// file on standard input left to right onto standard output. A file is refused with its first fault, or
-/// as not built yet at the end of the header of a progressive frame, and nothing is written then.
+/// Runs the command that the words ask for over a desk: `jpegtran` writes a sequential file, or standard input, moved as its
+/// switches say, to a file or onto standard output. A file is refused with its first fault, or as not built yet at the end
+/// of the header of a progressive frame, and nothing is written then.
 /// `rdjpgcom [FILE]` prints the comments of a file, or of standard input, onto standard output. `wrjpgcom`
 /// writes a file, or standard input, with a comment inserted before its frame header onto standard output.
 /// What is wrong or refused is named in a message.

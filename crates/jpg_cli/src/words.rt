@@ -1,10 +1,13 @@
 //! The words of a call.
-ghost use Rattle.std.specs.Prelude.{◌≡◌, ◌≤◌, IfSome, IfNone, length, map, true, false, string_bytes};
-ghost use Rattle.jpg_spec.specs.Words.{are_words, flip_words, is_tool, tool_of};
+ghost use Rattle.std.specs.Prelude.{◌≡◌, ◌≤◌, IfSome, IfNone, drop, length, map, true, false, string_bytes};
+ghost use Rattle.jpg_spec.specs.CommentWords.{read_asked, write_asked};
+ghost use Rattle.jpg_spec.specs.TransformWords.{transform_asked};
+ghost use Rattle.jpg_spec.specs.Words.{is_tool, tool_of};
 ghost use Rattle.jpg_cli.specs.declared.comment_words.WordsStop.TheVariants.{Usage as wrong};
-ghost use Rattle.jpg_cli.specs.Commands.{IsCommand, command_asked, command_told, other_command};
+ghost use Rattle.jpg_cli.specs.Commands.{IsCommand, command_asked, known_command, read_command, transform_command, write_command};
 
 use crate::comment_words::{Files, WordsStop, WriteWords, rdjpgcom_words, wrjpgcom_words};
+use crate::transform_words::{TransformWords, jpegtran_words};
 use jpg_spec::{Usage, UsageFault};
 use std::alloc::Global;
 
@@ -13,8 +16,8 @@ use std::alloc::Global;
 pub enum Asked {
     /// What isn't built yet.
     NotBuilt,
-    /// `jpegtran -flip horizontal`, from standard input to standard output.
-    FlipHorizontal,
+    /// `jpegtran`, with its files and what is asked of the picture.
+    Jpegtran(TransformWords),
     /// `rdjpgcom`, with its files.
     Rdjpgcom(Files),
     /// `wrjpgcom`, with its files, the comment's source and whether it replaces others.
@@ -51,19 +54,6 @@ pub fn tool_name(words: &[String]) -> &'static str
     }
 }
 
-fn is_flip(words: &[String]) -> bool
-    ensures { result ≡ are_words (map string_bytes words.now) flip_words }
-{
-    match words {
-        [tool, switch, value] => {
-            tool.as_str() == "jpegtran"
-                && switch.as_str() == "-flip"
-                && value.as_str() == "horizontal"
-        }
-        _ => false,
-    }
-}
-
 /// What the words ask for. Words that are wrong give their first fault: `NoTool`, `UnknownTool` at the
 /// command, or those of the command's own words; they take no memory.
 pub fn read_words(alloc: Global, words: &[String]) -> Result<Asked, WordsStop>
@@ -73,27 +63,51 @@ pub fn read_words(alloc: Global, words: &[String]) -> Result<Asked, WordsStop>
         [] => Err(first_word(UsageFault::NoTool)),
         [tool, ..] => match known_tool(tool.as_str()) {
             None => Err(first_word(UsageFault::UnknownTool)),
-            Some(_) if tool.as_str() == "rdjpgcom" => match rdjpgcom_words(alloc, words) {
-                Ok(files) => Ok(Asked::Rdjpgcom(files)),
-                Err(stop) => Err(stop),
-            },
-            Some(_) if tool.as_str() == "wrjpgcom" => match wrjpgcom_words(alloc, words) {
-                Ok(asked) => Ok(Asked::Wrjpgcom(asked)),
-                Err(stop) => Err(stop),
-            },
-            Some(_) => Ok(other_words(words)),
+            Some(_) => known_words(alloc, tool.as_str(), words),
         },
     }
 }
 
-// What the words of another command ask for.
-fn other_words(words: &[String]) -> Asked
-    ensures { command_told result ≡ other_command (map string_bytes words.now) }
+// What the words of this command ask for.
+fn known_words(alloc: Global, tool: &str, words: &[String]) -> Result<Asked, WordsStop>
+    ensures { IsCommand (known_command tool.now (drop 1 (map string_bytes words.now))) result }
 {
-    if is_flip(words) {
-        Asked::FlipHorizontal
+    if tool == "jpegtran" {
+        transform_command(alloc, words)
+    } else if tool == "rdjpgcom" {
+        read_command(alloc, words)
+    } else if tool == "wrjpgcom" {
+        write_command(alloc, words)
     } else {
-        Asked::NotBuilt
+        Ok(Asked::NotBuilt)
+    }
+}
+
+fn transform_command(alloc: Global, words: &[String]) -> Result<Asked, WordsStop>
+    ensures { IsCommand (transform_command (transform_asked (drop 1 (map string_bytes words.now)))) result }
+{
+    match jpegtran_words(alloc, words) {
+        Ok(Some(asked)) => Ok(Asked::Jpegtran(asked)),
+        Ok(None) => Ok(Asked::NotBuilt),
+        Err(stop) => Err(stop),
+    }
+}
+
+fn read_command(alloc: Global, words: &[String]) -> Result<Asked, WordsStop>
+    ensures { IsCommand (read_command (read_asked 1 (drop 1 (map string_bytes words.now)))) result }
+{
+    match rdjpgcom_words(alloc, words) {
+        Ok(files) => Ok(Asked::Rdjpgcom(files)),
+        Err(stop) => Err(stop),
+    }
+}
+
+fn write_command(alloc: Global, words: &[String]) -> Result<Asked, WordsStop>
+    ensures { IsCommand (write_command (write_asked 1 (drop 1 (map string_bytes words.now)))) result }
+{
+    match wrjpgcom_words(alloc, words) {
+        Ok(asked) => Ok(Asked::Wrjpgcom(asked)),
+        Err(stop) => Err(stop),
     }
 }
 

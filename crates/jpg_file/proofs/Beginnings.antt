@@ -14,7 +14,7 @@ use Rattle.jpg_spec.specs.FileMeaning.{Leads}
 use Rattle.jpg_spec.specs.declared.frame.Limits.{Limits}
 use Rattle.jpg_spec.specs.declared.frame.ScanPart.{ScanPart}
 use Rattle.jpg_spec.proofs.FrameFound.{framed}
-use Rattle.jpg_spec.proofs.SingleFrame.{no_heads, no_quant}
+use Rattle.jpg_spec.proofs.BeforeScans.{no_heads, no_quant}
 use Rattle.jpg_spec.proofs.Untouched.{frame_stays}
 use Rattle.jpg_spec.proofs.Common.{neither, not_same, clash, same_of}
 use Rattle.jpg_file.specs.declared.begun.Begun.{Begun}

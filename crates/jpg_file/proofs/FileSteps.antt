@@ -6,9 +6,7 @@ use Rattle.std.specs.Prelude.{◌||◌, nat_lt, unwrap_or, option_and_then, slic
 use Rattle.jpg_spec.specs.Lists.{all_of, below}
 use Rattle.jpg_spec.specs.Faults.{Told}
 use Rattle.jpg_spec.specs.Geometry.{Frame, is_progressive}
-use Rattle.jpg_spec.specs.FrameHeader.{checked_frame}
-use Rattle.jpg_spec.specs.FrameContents.{frame_header, frame_told}
-use Rattle.jpg_spec.specs.Segments.{two_bytes}
+use Rattle.jpg_spec.specs.FrameContents.{frame_header}
 use Rattle.jpg_spec.specs.Scan.{Blocks}
 use Rattle.jpg_spec.specs.Markers.{Segment, process_of_code, is_frame_code, has_frame, has_scan, code_fault, code_fault_if}
 use Rattle.jpg_spec.specs.InForce.{first_some, frame_after, frame_of, heads_of, no_frame, told_some}
@@ -19,12 +17,11 @@ use Rattle.jpg_spec.specs.Laws.{frame_of_items}
 use Rattle.jpg_spec.specs.declared.frame.Limits.{Limits}
 use Rattle.jpg_spec.specs.declared.frame.Process.{Process}
 use Rattle.jpg_spec.specs.declared.frame.Process.TheVariants.{Baseline, Extended, Progressive}
-use Rattle.jpg_spec.specs.declared.fault.Fault.TheVariants.{BadLength}
-use Rattle.jpg_spec.proofs.FrameFound.{checks, framed}
+use Rattle.jpg_spec.proofs.FrameFound.{framed, told_process}
 use Rattle.jpg_spec.proofs.FrameBehind as behind
 use Rattle.jpg_spec.proofs.FirstPasses.{all_below}
-use Rattle.jpg_spec.proofs.Common.{clash, not_same, neither, refused, same_of}
-use Rattle.jpg_spec.proofs.SingleFrame.{no_heads}
+use Rattle.jpg_spec.proofs.Common.{clash, neither, not_same, or_right, same_of}
+use Rattle.jpg_spec.proofs.BeforeScans.{no_heads}
 use Rattle.jpg_spec.proofs.Untouched.{frame_stays}
 use Rattle.jpg_coefs.specs.Picture.{Picture, map_of}
 use Rattle.jpg_markers.specs.Reading.{reading_of}
@@ -50,18 +47,6 @@ use Rattle.jpg_spec.proofs.Common.{not_same}
 
 -- A FRAME that is no progressive one stays so, with any segment but the header of one
 
-told_process : (limits : Limits) (process : Process) (contents : List ℕ) (f : Frame) → frame_header limits process contents ≡ Ok f → f.process ≡ process
-told_process limits process [] f e = cc
-told_process limits process (p ∷ []) f e = cc
-told_process limits process (p ∷ y1 ∷ []) f e = cc
-told_process limits process (p ∷ y1 ∷ y0 ∷ []) f e = cc
-told_process limits process (p ∷ y1 ∷ y0 ∷ x1 ∷ []) f e = cc
-told_process limits process (p ∷ y1 ∷ y0 ∷ x1 ∷ x0 ∷ []) f e = cc
-told_process limits process (p ∷ y1 ∷ y0 ∷ x1 ∷ x0 ∷ count ∷ parts) f e =
-    let g = frame_told process p (two_bytes y1 y0) (two_bytes x1 x0) parts in
-    let r = refused BadLength _ (checked_frame limits g) f e in
-    sym (ap (λ (h : Frame). h.process) (checks limits g f r.1).1)
-
 plain_code : (code : ℕ) (p : Process) → (code ≡ 0xc2 → ⊥) → process_of_code code ≡ Some p → is_progressive p ≡ false
 plain_code code p other e = by (code == 0xc0) (code == 0xc1) (code == 0xc2) refl e
   where
@@ -84,10 +69,6 @@ plain_more limits before code contents other old = at (process_of_code code) (λ
     at (Some p) plain = by p (frame_header limits p contents) refl (plain p refl)
 
 -- WHAT IS KEPT BESIDE THE ITEMS goes along with one more
-
-or_right : (a b : Bool) → b ≡ true → (a || b) ≡ true
-or_right true b e = refl
-or_right false b e = e
 
 picture_more : (limits : Limits) (items : List Item) (blocks : Blocks) (code : ℕ) (contents : List ℕ) (q : Option Picture) → (code ≡ 0xda → ⊥) → code_fault (segments_of items) code ≡ None → PictureSoFar limits items blocks q → PictureSoFar limits (segment code contents ∷ items) blocks q
 picture_more limits items blocks code contents None other allowed (unscanned, zero) = (ap (λ b. b || has_scan (segments_of items)) (not_same code 0xda other) ∙ unscanned, zero)

@@ -13,8 +13,7 @@ use Rattle.jpg_spec.specs.declared.frame.ScanPart.{ScanPart}
 use Rattle.jpg_huff.specs.declared.set.TableSet.{TableSet}
 use Rattle.jpg_huff.specs.Sets.{dc_tables, ac_tables, in_slot, slots_of}
 use Rattle.jpg_huff.specs.Tables.{table_of}
-use Rattle.jpg_seq.specs.Plain.{in_force}
-use Rattle.jpg_seq.specs.NewReader.{HasTables}
+use Rattle.jpg_seq.specs.NewReader.{HasTables, in_force}
 use Rattle.jpg_file.specs.Held.{HeldTold, Holds, lacks_part, lacks_any}
 use Rattle.jpg_file.proofs.Lacking.{none_same}
 use Rattle.jpg_spec.proofs.Common.{some_of, neither}

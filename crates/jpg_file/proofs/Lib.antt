@@ -13,6 +13,7 @@ pub mod Heads
 pub mod HeadReady
 pub mod HeadTaken
 pub mod FileSteps
+pub mod NoProgressive
 pub mod PieceSteps
 pub mod PictureSteps
 pub mod FirstHeads

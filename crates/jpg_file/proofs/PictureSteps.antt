@@ -3,7 +3,7 @@ use Rattle.std.proofs.Common.{◌≡◌, ℕ, zero, suc, ◌+◌, ◌<◌, ◌�
 use Rattle.std.specs.Prelude.{is_none, find, unwrap_or, slice_get, slice_index, slice_index_or}
 use Rattle.std.proofs.lemmas.List.{length-map, map-append, reverse-append, reverse-reverse, take_all, take_more}
 use Rattle.std.proofs.lemmas.Option.{get_or_from_slice_get, slice_get_within}
-use Rattle.jpg_spec.proofs.SingleTables.{IsQuants, in_force_quants}
+use Rattle.jpg_spec.proofs.QuantsInForce.{IsQuants, in_force_quants}
 use Rattle.jpg_spec.specs.Lists.{below}
 use Rattle.jpg_spec.specs.Geometry.{Frame, bounds, component_at, no_component}
 use Rattle.jpg_spec.specs.FrameHeader.{identifiers}

@@ -1,8 +1,8 @@
 -- Some data bytes given to a machine at once: the last of them is given by itself, behind the bits of those before it.
-use Rattle.std.proofs.Common.{◌≡◌, ℕ, ◌+◌, ◌-◌, ◌*◌, ◌/◌, ◌<◌, ◌≤◌, Bool, List, [], ◌∷◌, ◌++◌, length, take, drop, get_or, refl, sym, ap, ◌∙◌, subst, arith, Ok, Err}
+use Rattle.std.proofs.Common.{◌≡◌, ℕ, ◌+◌, ◌-◌, ◌*◌, ◌/◌, ◌%◌, min, ◌<◌, ◌≤◌, Bool, List, [], ◌∷◌, ◌++◌, length, take, drop, get_or, refl, sym, ap, ◌∙◌, subst, arith, Ok, Err}
 use Rattle.std.specs.Prelude.{Result}
 use Rattle.std.proofs.Math.Seq.{take-append-add, take-append_seam}
-use Rattle.std.proofs.lemmas.List.{append_assoc, append-nil, append_cancel_left, length-append, length-take-le, take_all, take_more, take-append-drop, take-append-le}
+use Rattle.std.proofs.lemmas.List.{append_assoc, append-nil, append_cancel_left, length-append, length-drop, length-take-le, take_all, take_more, take-append-drop, take-append-le}
 use Rattle.jpg_spec.specs.Bits.{bits_of, bits_of_bytes}
 use Rattle.jpg_spec.proofs.DataFacts.{bits_join}
 use Rattle.jpg_spec.proofs.Strings.{length-bits_of}
@@ -39,11 +39,9 @@ bytes_long (b ∷ bytes) =
     let l = length-append (bits_of 8 b) (bits_of_bytes bytes) in
     omega (arith, l, eight, bytes_long bytes)
 
-pub store_room : (bytes : List ℕ) (i : ℕ) (store : List Bool) → store ≡ bits_of_bytes (take i bytes) → i < length bytes → length bytes ≤ 8 → length store ≤ 56
-store_room bytes i store e low few =
-    let long = bytes_long (take i bytes) in
-    let size = length-take-le i bytes (omega (arith, low)) in
-    omega (arith, ap length e, long, size, low, few)
+-- how many bytes have these first bits
+pub given_bytes : (bytes : List ℕ) (bits n : ℕ) → bits ≤ 8 * length bytes → n ≡ bits / 8 + min 1 (bits % 8) → n ≡ length bytes - length (drop bits (bits_of_bytes bytes)) / 8
+given_bytes bytes bits n within is = omega (arith, within, is, length-drop bits (bits_of_bytes bytes), bytes_long bytes)
 
 -- the byte with the last of some first bits
 record LastByte (bytes : List ℕ) (bits : List Bool) (early : ℕ) : Type 0 where
@@ -122,16 +120,16 @@ answer_cut {M} k most m new now after bits xs front answer cut some (before, bit
 
 -- WHAT THE BITS OF ALL THE BYTES come to
 
-pub run_more : {M : Type 0} (k : Kind M) (most : ℕ) (m new : M) (now after : Picture) (bytes : List ℕ) (store rest : List Bool) (n : ℕ) → store ≡ bits_of_bytes bytes → 1 ≤ length bytes → n ≡ length bytes - length rest / 8
-    → TakesBits k most m now store taken.More new after rest → GivesRun M k m now bytes n came.More new after
-run_more {M} k most m new now after bytes store rest n e some count (bits, cut, (chain, few, none)) =
+pub run_more : {M : Type 0} (k : Kind M) (most : ℕ) (m new : M) (now after : Picture) (bytes : List ℕ) (rest : List Bool) (n : ℕ) → 1 ≤ length bytes → n ≡ length bytes - length rest / 8
+    → TakesBits k most m now (bits_of_bytes bytes) taken.More new after rest → GivesRun M k m now bytes n came.More new after
+run_more {M} k most m new now after bytes rest n some count (bits, cut, (chain, few, none)) =
     let early = length bytes - 1 in
     let no_rest : length rest ≡ 0 = ap length none in
     let all : early + 1 ≡ length bytes = omega (arith, some) in
     let last = get_or bytes early 0 in
     let over : drop (early + 1) bytes ≡ [] = dropped bytes (early + 1) (omega (arith, all)) in
     let bits_are : bits ≡ bits_of_bytes (take early bytes) ++ bits_of 8 last =
-    sym (append-nil bits) ∙ ap (λ l. bits ++ l) (sym none) ∙ sym cut ∙ e ∙ bytes_cut bytes early (omega (arith, some)) ∙ ap (λ l. bits_of_bytes (take early bytes) ++ (bits_of 8 last ++ bits_of_bytes l)) over
+    sym (append-nil bits) ∙ ap (λ l. bits ++ l) (sym none) ∙ sym cut ∙ bytes_cut bytes early (omega (arith, some)) ∙ ap (λ l. bits_of_bytes (take early bytes) ++ (bits_of 8 last ++ bits_of_bytes l)) over
     ∙ ap (λ l. bits_of_bytes (take early bytes) ++ l) (append-nil (bits_of 8 last)) in
     let C : List Bool → Type 0 = λ l. Chain k m now l new after in
     let c = chain_cut k m new now after (bits_of_bytes (take early bytes)) (bits_of 8 last) (subst C bits_are chain) in
@@ -161,10 +159,10 @@ run_cut bytes bits rest n e some count =
     let low : length rest / 8 < length bytes = omega (arith, sum, long, some) in
     record { early = n - 1; count = omega (arith, count, low); last = last_byte bytes bits rest (n - 1) e some (omega (arith, count, low)) }
 
-pub run_whole : {M : Type 0} (k : Kind M) (most : ℕ) (m new : M) (now after : Picture) (bytes : List ℕ) (store rest : List Bool) (n : ℕ) → store ≡ bits_of_bytes bytes → n ≡ length bytes - length rest / 8
-    → TakesBits k most m now store taken.IntervalDone new after rest → GivesRun M k m now bytes n came.Whole new after
-run_whole {M} k most m new now after bytes store rest n e count (bits, cut, chain) =
-    let c = run_cut bytes bits rest n (sym e ∙ cut) (omega (arith, ap length chain.4, length-append chain.0 (chain.1 ∷ []))) count in
+pub run_whole : {M : Type 0} (k : Kind M) (most : ℕ) (m new : M) (now after : Picture) (bytes : List ℕ) (rest : List Bool) (n : ℕ) → n ≡ length bytes - length rest / 8
+    → TakesBits k most m now (bits_of_bytes bytes) taken.IntervalDone new after rest → GivesRun M k m now bytes n came.Whole new after
+run_whole {M} k most m new now after bytes rest n count (bits, cut, chain) =
+    let c = run_cut bytes bits rest n cut (omega (arith, ap length chain.4, length-append chain.0 (chain.1 ∷ []))) count in
     let l = c.last in
     let a = answer_cut k most m new now after bits (bits_of_bytes (take c.early bytes)) l.front (Ok step.IntervalDone) l.cut l.some chain in
     record {
@@ -178,10 +176,10 @@ run_whole {M} k most m new now after bytes store rest n e count (bits, cut, chai
           (l.front, l.rest, l.byte, l.some, record { whole = z.0; ready = z.1 }));
     }
 
-pub run_fault : {M : Type 0} (k : Kind M) (most : ℕ) (m new : M) (now after : Picture) (bytes : List ℕ) (store rest : List Bool) (n : ℕ) (f : UnitFault) → store ≡ bits_of_bytes bytes → n ≡ length bytes - length rest / 8
-    → TakesBits k most m now store (taken.Fault f) new after rest → GivesRun M k m now bytes n (came.Fault f) new after
-run_fault {M} k most m new now after bytes store rest n f e count (bits, cut, chain) =
-    let c = run_cut bytes bits rest n (sym e ∙ cut) (omega (arith, ap length chain.4, length-append chain.0 (chain.1 ∷ []))) count in
+pub run_fault : {M : Type 0} (k : Kind M) (most : ℕ) (m new : M) (now after : Picture) (bytes : List ℕ) (rest : List Bool) (n : ℕ) (f : UnitFault) → n ≡ length bytes - length rest / 8
+    → TakesBits k most m now (bits_of_bytes bytes) (taken.Fault f) new after rest → GivesRun M k m now bytes n (came.Fault f) new after
+run_fault {M} k most m new now after bytes rest n f count (bits, cut, chain) =
+    let c = run_cut bytes bits rest n cut (omega (arith, ap length chain.4, length-append chain.0 (chain.1 ∷ []))) count in
     let l = c.last in
     let a = answer_cut k most m new now after bits (bits_of_bytes (take c.early bytes)) l.front (Err f) l.cut l.some chain in
     record {

@@ -11,8 +11,7 @@ use Rattle.jpg_spec.specs.Items.{Item, segments_of, contents_rule}
 use Rattle.jpg_spec.specs.declared.frame.Limits.{Limits}
 use Rattle.jpg_coefs.specs.Picture.{Picture, map_of}
 use Rattle.jpg_huff.specs.declared.set.TableSet.{TableSet}
-use Rattle.jpg_seq.specs.Plain.{in_force}
-use Rattle.jpg_seq.specs.NewReader.{IsSeqScan}
+use Rattle.jpg_seq.specs.NewReader.{IsSeqScan, in_force}
 use Rattle.jpg_file.specs.InData.{InData}
 use Rattle.jpg_file.specs.Items.{IsBeside}
 use Rattle.jpg_file.specs.declared.scan.InScan.{InScan}

@@ -1,5 +1,5 @@
 -- Between the items of a file: what a reader stands for there, and what a further byte comes to (T.81, B.1.1, B.2.1).
-use Rattle.std.specs.Prelude.{◌≡◌, ◌⊎◌, ℕ, List, [], ◌∷◌, ◌++◌, None}
+use Rattle.std.specs.Prelude.{◌≡◌, ◌⊎◌, ℕ, List, [], ◌∷◌, ◌++◌, take, None}
 use Rattle.jpg_spec.specs.Scan.{Blocks}
 use Rattle.jpg_spec.specs.Markers.{SpellsMarker, SpellsSegment, code_fault, kept_rule}
 use Rattle.jpg_spec.specs.Items.{Item, segment, scan, segments_of, SpellsFront}
@@ -69,6 +69,10 @@ pub record EndsProgressive (limits : Limits) (bytes : List ℕ) : Type 0 where
   pub contents : List ℕ
   pub spelled : SpellsFront (segment 0xc2 contents ∷ items) bytes
   pub leads : Leads limits (segment 0xc2 contents ∷ items) blocks
+
+-- No first bytes of these do.
+abbrev pub NoneProgressive : Limits → List ℕ → Type 0
+NoneProgressive limits bytes = (n : ℕ) → EndsProgressive limits (take n bytes) → ⊥
 
 -- no item more, or one that is neither a scan nor the header of a progressive frame
 abbrev pub AddsNoScan : List Item → List Item → Type 0

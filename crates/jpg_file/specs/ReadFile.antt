@@ -3,7 +3,7 @@ use Rattle.std.specs.Prelude.{◌≡◌, ◌⊎◌, ℕ, ◌<◌, ◌≤◌, Boo
 use Rattle.jpg_spec.specs.Geometry.{Frame}
 use Rattle.jpg_spec.specs.FrameHeader.{AreLimits}
 use Rattle.jpg_spec.specs.Meaning.{Meaning}
-use Rattle.jpg_spec.specs.FirstFault.{IsFirstFault}
+use Rattle.jpg_spec.specs.FirstFault.{IsFirstFault, ShowsNone}
 use Rattle.jpg_spec.specs.FileStands.{FileStands, IsWholeFile}
 use Rattle.jpg_spec.specs.declared.answers.FaultAt.{FaultAt}
 use Rattle.jpg_spec.specs.declared.fault.Fault.TheVariants.{NotBuilt}
@@ -16,7 +16,7 @@ use Rattle.jpg_base.specs.declared.stop.Stop.TheVariants as stop
 use Rattle.jpg_file.specs.FirstHead.{IsHeadOf}
 use Rattle.jpg_file.specs.File.{EndsFile, Stands}
 use Rattle.jpg_file.specs.declared.head.Head.{Head}
-use Rattle.jpg_file.specs.Items.{EndsProgressive}
+use Rattle.jpg_file.specs.Items.{EndsProgressive, NoneProgressive}
 use Rattle.jpg_file.specs.declared.file.FileWork.{FileWork}
 
 -- what is seen of a reader: the file in work, whether it is whole (then neither `feed` nor `end` may be called any more), and why it stopped, if it did
@@ -49,11 +49,26 @@ pub record IsDone (bytes : List ℕ) (r : ReaderState) : Type 0 where
   pub ended : EndsFile r.limits bytes r.file
   pub head : IsHeadOf r.limits bytes r.file.head
 
--- It is their first fault, whatever follows; or with byte number `f.at` the header of a progressive frame is whole, which isn't read yet.
+-- WHAT A FILE IS REFUSED WITH: a fault, or the header of a progressive frame, which isn't read yet; whichever comes first
+
+-- It is the first fault of the bytes, and no header of a progressive frame ended before it.
+abbrev pub FaultComesFirst : Limits → List ℕ → FaultAt → Type 0
+FaultComesFirst limits bytes f = IsFirstFault limits bytes f.fault f.at × NoneProgressive limits (take f.at bytes)
+
+-- With byte number n a header of a progressive frame is whole; none was before, and so far the bytes show no fault.
+pub record HeaderComesFirst (limits : Limits) (bytes : List ℕ) (n : ℕ) : Type 0 where
+  pub within : n ≤ length bytes
+  pub room : n ≤ limits.input
+  pub ends : EndsProgressive limits (take n bytes)
+  pub none : (m : ℕ) → m < n → EndsProgressive limits (take m bytes) → ⊥
+  pub faultless : ShowsNone limits (take n bytes)
+
+abbrev pub IsRefusal : Limits → List ℕ → FaultAt → Type 0
+IsRefusal limits bytes f = FaultComesFirst limits bytes f ⊎ ((f.fault ≡ NotBuilt) × HeaderComesFirst limits bytes f.at)
+
+-- whatever follows
 abbrev pub IsStopOf : Limits → List ℕ → FaultAt → Type 0
-IsStopOf limits bytes f =
-    ((rest : List ℕ) → IsFirstFault limits (bytes ++ rest) f.fault f.at)
-    ⊎ ((f.fault ≡ NotBuilt) × (f.at ≤ length bytes) × EndsProgressive limits (take f.at bytes))
+IsStopOf limits bytes f = (rest : List ℕ) → IsRefusal limits (bytes ++ rest) f
 
 -- the first scan header of the bytes up to byte n, or up to the one before it
 abbrev pub KeepsHead : Limits → List ℕ → ℕ → Option Head → Type 0
@@ -76,7 +91,7 @@ FeedsFile old piece answer new = (bytes : List ℕ) → HasRead bytes old → Af
 
 -- a fault of bytes that end
 abbrev pub StopsAt : Limits → List ℕ → Stop → Type 0
-StopsAt limits bytes (stop.Fault f) = IsFirstFault limits bytes f.fault f.at
+StopsAt limits bytes (stop.Fault f) = FaultComesFirst limits bytes f
 StopsAt limits bytes stop.NoMemory = ⊥
 
 -- the word that keeps `done`

@@ -12,6 +12,7 @@ use crate::reading::Reading;
 use jpg_base::{Limits, NoMemory, Stop};
 use jpg_coefs::Coefs;
 use jpg_spec::{Fault, FaultAt};
+use memchr::memchr;
 use std::alloc::Global;
 
 /// A file in work: its items and the scan in work, and what the scans so far told.
@@ -73,22 +74,24 @@ impl FileWork {
         requires some { 1 ≤ length bytes.now }
         ensures { TakesSome self.old bytes.now result.0 result.1 self.new }
     {
-        let most = self.reading.items.limits.input - self.reading.taken;
-        let n = plain_length(bytes, most);
-        if n > 1 && self.reading.is_open() {
-            return self.run(&bytes[..n]);
+        if self.reading.is_open() {
+            let most = self.reading.items.limits.input - self.reading.taken;
+            let n = plain_length(bytes, most);
+            if n > 0 {
+                return self.run(&bytes[..n]);
+            }
         }
         (1, self.byte(bytes[0]))
     }
 
-    // Takes up to eight plain bytes inside the data of a scan.
+    // Takes plain bytes inside the data of a scan.
     fn run(&mut self, run: &[u8]) -> (usize, Result<bool, Stop>)
         requires stands { (bytes : List ℕ) × Stands (limits_of self.old) bytes self.old }
         requires limits { AreLimits (limits_of self.old) }
         requires opened { IsOpenScan self.old.reading }
         requires room { self.old.reading.taken + length run.now ≤ (limits_of self.old).input }
         requires some { 1 ≤ length run.now }
-        requires few { length run.now ≤ 8 }
+        requires few { length run.now < 4294967296 }
         requires plain { ArePlain run.now }
         ensures { TakesSome self.old run.now result.0 result.1 self.new }
     {
@@ -177,18 +180,16 @@ impl FileWork {
     }
 }
 
-// How many bytes there are before the first FF, at most eight and at most so many.
+// How many bytes there are before the first FF, at most so many.
 fn plain_length(bytes: &[u8], most: u64) -> usize
     ensures within { result ≤ length bytes.now }
-    ensures few { result ≤ 8 }
+    ensures few { result < 4294967296 }
     ensures room { result ≤ most }
     ensures plain { (k : ℕ) → k < result → slice_index bytes.now k ≡ 255 → ⊥ }
 {
-    let most = most.min(8).min(bytes.len() as u64) as usize;
-    for i in 0..most {
-        if bytes[i] == 0xff {
-            return i;
-        }
+    let most = most.min(0xffff_ffff).min(bytes.len() as u64) as usize;
+    match memchr(0xff, &bytes[..most]) {
+        Some(n) => n,
+        None => most,
     }
-    most
 }

@@ -111,7 +111,7 @@ impl Reading {
         }
     }
 
-    /// Takes up to eight plain bytes inside the data of a scan, and tells how many were taken: up to the one
+    /// Takes a stretch of plain bytes inside the data of a scan, and tells how many were taken: up to the one
     /// that ends an interval or shows a fault.
     pub fn scan_run(&mut self, run: &[u8]) -> (usize, ItemStep)
         requires stands { (items : List Item) × (contents : List ℕ) × (bytes : List ℕ) × Scanning self.old.items.limits items contents bytes self.old }
@@ -119,7 +119,7 @@ impl Reading {
         requires limits { AreLimits self.old.items.limits }
         requires opened { IsOpenScan self.old }
         requires some { 1 ≤ length run.now }
-        requires few { length run.now ≤ 8 }
+        requires few { length run.now < 4294967296 }
         requires plain { ArePlain run.now }
         ensures { TakesRunOfScan self.old run.now result.0 result.1 self.new }
     {

@@ -1,5 +1,5 @@
 // The data of a scan, read byte by byte (T.81, B.1.1.5, E.1.4).
-ghost use Rattle.std.specs.Prelude.{◌≡◌, ◌≤◌, false, true, ℕ, List, [], ◌∷◌, ◌++◌, length};
+ghost use Rattle.std.specs.Prelude.{◌≡◌, ◌<◌, ◌≤◌, false, true, ℕ, List, [], ◌∷◌, ◌++◌, length};
 ghost use Rattle.jpg_spec.specs.Items.{Item};
 ghost use Rattle.jpg_spec.specs.ScanReading.{ScanPlace, ScanAt, with_byte};
 ghost use Rattle.jpg_spec.specs.declared.frame.Limits.{Limits};
@@ -79,14 +79,14 @@ impl InScan {
         !self.gate.is_waiting() && !self.work.whole
     }
 
-    /// Takes up to eight plain bytes, and tells how many were taken: up to the one that ends the interval or
+    /// Takes a stretch of plain bytes, and tells how many were taken: up to the one that ends the interval or
     /// shows a fault.
     pub fn run(&mut self, coefs: &mut Coefs, run: &[u8]) -> (usize, ScanStep)
         requires inside { IsInside self.old coefs.old }
         requires gate { self.old.gate ≡ false }
         requires due { self.old.work.whole ≡ false }
         requires some { 1 ≤ length run.now }
-        requires few { length run.now ≤ 8 }
+        requires few { length run.now < 4294967296 }
         requires plain { ArePlain run.now }
         ensures after { TakesRun self.old coefs.old run.now result.0 result.1 self.new coefs.new }
         ensures goes { GoesInside result.1 }

@@ -2,6 +2,7 @@ pub mod Buffers
 pub mod Categories
 pub mod Computed
 pub mod Emitted
+pub mod Encoded
 pub mod Fronts
 pub mod Gates
 pub mod InParts

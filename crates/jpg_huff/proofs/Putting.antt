@@ -11,7 +11,7 @@ use Rattle.jpg_huff.specs.Waiting.{Waiting}
 use Rattle.jpg_huff.specs.BitOut.{Puts, Pads}
 use Rattle.jpg_spec.proofs.Strings.{length-bits_of}
 use Rattle.jpg_huff.proofs.Emitted.{emits_nothing, OnlyWrites-same}
-use Rattle.jpg_base.proofs.BitsAt.{bits_of-add, bits_of-beside, bits_of-low}
+use Rattle.jpg_base.proofs.BitsAt.{bits_of-add, bits_of-beside, bits_of-low, bits_of-mod}
 use Rattle.jpg_huff.proofs.Packed.{whole_bytes-front}
 
 -- a byte of the low `left` bits, and those behind it
@@ -30,9 +30,16 @@ word_bytes n =
     let d : whole_bytes (bits_of 8 n) ≡ n % 256 ∷ [] = ap whole_bytes (sym (append-nil (bits_of 8 n))) ∙ whole_bytes-front n [] in
     a ∙ ap (λ l. n / 2 ^ 24 % 256 ∷ l) (b ∙ ap (λ l. n / 2 ^ 16 % 256 ∷ l) (c ∙ ap (λ l. n / 2 ^ 8 % 256 ∷ l) d))
 
+pub low_bytes : (n : ℕ) → whole_bytes (bits_of 32 n) ≡ n % 2 ^ 32 / 2 ^ 24 % 256 ∷ n % 2 ^ 32 / 2 ^ 16 % 256 ∷ n % 2 ^ 32 / 2 ^ 8 % 256 ∷ n % 2 ^ 32 % 256 ∷ []
+low_bytes n = ap whole_bytes (sym (bits_of-mod 32 n)) ∙ word_bytes (n % 2 ^ 32)
+
 -- the number of all bits
 pub number_is : (a c k b v : ℕ) → a < 2 ^ c → c < 32 → k ≤ 32 → v ≡ b → (a * 2 ^ k) % 2 ^ 64 + v ≡ a * 2 ^ k + b
 number_is a c k b v h1 h2 h3 e = ap (λ x. x + v) (shl_whole a c k 64 h1 (omega arith)) ∙ ap (λ x. a * 2 ^ k + x) e
+
+-- that of a code and the bits behind it
+pub code_number : (a c k b v : ℕ) → c ≤ 16 → a < 2 ^ c → k ≤ 16 → v ≡ a → (v * 2 ^ k) % 2 ^ 32 + b ≡ a * 2 ^ k + b
+code_number a c k b v h1 h2 h3 e = ap (λ x. (x * 2 ^ k) % 2 ^ 32 + b) e ∙ ap (λ x. x + b) (shl_whole a c k 32 h2 (omega arith))
 
 pub number_fits : (a c k b n : ℕ) → a < 2 ^ c → b < 2 ^ k → n ≡ a * 2 ^ k + b → n < 2 ^ (c + k)
 number_fits a c k b n h1 h4 e =
@@ -42,7 +49,7 @@ number_fits a c k b n h1 h4 e =
     let r : 2 ^ (c + k) ≡ 2 ^ (k + c) = ap (λ m. 2 ^ m) q in
     omega arith
 
-all_bits : (a c k b n : ℕ) → b < 2 ^ k → n ≡ a * 2 ^ k + b → bits_of (c + k) n ≡ bits_of c a ++ bits_of k b
+pub all_bits : (a c k b n : ℕ) → b < 2 ^ k → n ≡ a * 2 ^ k + b → bits_of (c + k) n ≡ bits_of c a ++ bits_of k b
 all_bits a c k b n h e = ap (bits_of (c + k)) e ∙ bits_of-beside c k a b h
 
 -- those that stay
@@ -89,7 +96,7 @@ puts_out s0 s1 old held new a c k b n view h e l m kept emits =
 
 pub puts_fault : (s0 s1 : DeskState) (old : Waiting) (held new : List ℕ) (a c k b n : ℕ) (fault : WriteFault) → record { bytes = held; bits = bits_of c a } ≡ old → b < 2 ^ k → n ≡ a * 2 ^ k + b → 32 ≤ c + k → OnlyWrites s0 s1
     → Emits s0 held (stuffed (whole_bytes (bits_of 32 (n / 2 ^ (c + k - 32))))) (Err fault) new s1
-    → Puts s0 old (bits_of k b) (Err fault) (record { bytes = new; bits = bits_of 0 0 }) s1
+    → Puts s0 old (bits_of k b) (Err fault) (record { bytes = new; bits = [] }) s1
 unfolding bits_of
 puts_fault s0 s1 old held new a c k b n fault view h e l kept emits =
     let Q : Waiting → Type 0 = λ w. Puts s0 w (bits_of k b) (Err fault) (record { bytes = new; bits = [] }) s1 in
@@ -123,7 +130,7 @@ pad_number a c f h1 h2 h3 = number_is a c f (2 ^ f - 1) ((1 * 2 ^ f) % 2 ^ 64 - 
 
 pub pads : (s0 s1 : DeskState) (old : Waiting) (held new : List ℕ) (r : Result (Unit {0}) WriteFault) (a c n : ℕ) → record { bytes = held; bits = bits_of c a } ≡ old → n ≡ a * 2 ^ ((8 - c % 8) % 8) + (2 ^ ((8 - c % 8) % 8) - 1) → OnlyWrites s0 s1
     → Emits s0 held (stuffed (whole_bytes (bits_of (c + (8 - c % 8) % 8) n))) r new s1
-    → Pads s0 old r (record { bytes = new; bits = bits_of 0 0 }) s1
+    → Pads s0 old r (record { bytes = new; bits = [] }) s1
 unfolding bits_of
 pads s0 s1 old held new r a c n view e kept emits =
     let f = (8 - c % 8) % 8 in

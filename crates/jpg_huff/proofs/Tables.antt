@@ -1,16 +1,18 @@
 -- The codes of a table, and of its symbols with others behind them.
-use Rattle.std.proofs.Common.{◌≡◌, ℕ, zero, suc, ◌+◌, ◌*◌, ◌^◌, ◌≤◌, true, List, [], ◌∷◌, ◌++◌, ◌&&◌, take, drop, refl, sym, ap, ◌∙◌, subst, arith}
-use Rattle.std.specs.Prelude.{nat_lt}
+use Rattle.std.proofs.Common.{◌≡◌, ℕ, zero, suc, ◌+◌, ◌*◌, ◌/◌, ◌%◌, ◌^◌, ◌≤◌, ◌==◌, true, false, cond, Some, None, List, [], ◌∷◌, ◌++◌, ◌&&◌, take, drop, refl, sym, ap, ◌∙◌, subst, arith}
+use Rattle.std.specs.Prelude.{nat_lt, unwrap_or}
 use Rattle.std.specs.List.{sum}
 use Rattle.std.proofs.lemmas.Bool.Decides.{nat_tests}
 use Rattle.std.proofs.lemmas.List.Sums.{sum_by-cons}
 use Rattle.jpg_spec.specs.Bits.{bits_of}
-use Rattle.jpg_spec.specs.Codes.{Code, codes, codes_at, codes_from}
+use Rattle.jpg_spec.specs.Codes.{Code, codes, codes_at, codes_from, first_code}
+use Rattle.jpg_spec.specs.ScanText.{code_of}
 use Rattle.std.proofs.lemmas.List.{length-take, drop-take}
 use Rattle.jpg_spec.specs.Codes.{AreCodes}
 use Rattle.jpg_spec.specs.Codes as test
 use Rattle.jpg_spec.proofs.OneCode.{one_code}
 use Rattle.jpg_huff.specs.Tables.{symbol_codes, table_of}
+use Rattle.jpg_huff.specs.Index.{entry_code}
 use Rattle.jpg_huff.specs.Laws.{IsTable, AreApart}
 use Rattle.jpg_huff.proofs.Steps.{are_codes}
 use Rattle.jpg_huff.specs.declared.table.Table.{Table}
@@ -67,3 +69,14 @@ is_table t =
 pub apart : (t : Table) → AreApart (symbol_codes t)
 unfolding codes
 apart t a b x y h k e = one_code t.counts 1 0 (take t.total t.symbols) a b x y (is_table t).fit h k e
+
+-- what an entry for writing has, as bits
+entry_bits : (entry : ℕ) → bits_of (entry / 65536) (entry % 65536) ≡ unwrap_or (entry_code entry) []
+unfolding bits_of
+entry_bits zero = refl
+entry_bits (suc n) =
+    let t : (suc n == 0) ≡ false = grind (arith, nat_tests) in
+    ap (λ b. unwrap_or (cond b None (Some (bits_of (suc n / 65536) (suc n % 65536)))) []) (sym t)
+
+pub entry_written : (codes : List Code) (entry symbol : ℕ) → entry_code entry ≡ first_code codes symbol → bits_of (entry / 65536) (entry % 65536) ≡ code_of codes symbol
+entry_written codes entry symbol e = entry_bits entry ∙ ap (λ o. unwrap_or o []) e

@@ -9,6 +9,13 @@ use Rattle.jpg_huff.specs.Waiting.{Waiting}
 abbrev pub nothing_waits : Waiting
 nothing_waits = record { bytes = []; bits = [] }
 
+abbrev pub waiting : List ℕ → List Bool → Waiting
+waiting bytes bits = record { bytes = bytes; bits = bits }
+
+-- the bytes that wait, with bits behind them that are in other hands
+abbrev pub holding : Waiting → List Bool → Waiting
+holding out bits = waiting out.bytes bits
+
 -- an output is created, and no bits wait
 pub record CanSend (s : DeskState) (out : Waiting) : Type 0 where
   pub created : s.output_created ≡ true
@@ -32,6 +39,15 @@ pub record Puts (s0 : DeskState) (old : Waiting) (bits : List Bool) (result : Re
   pub whole : FillBytes front
   pub bytes : Emits s0 old.bytes (stuffed (whole_bytes front)) result new.bytes s1
   pub behind : StayBehind rest result new.bits
+
+-- The bits join those that are held, behind bytes that wait, and what waits then of them is held.
+abbrev pub PutsInto : DeskState → List ℕ → List Bool → List Bool → Result (List Bool) WriteFault → List ℕ → DeskState → Type 0
+PutsInto s0 old held bits (Ok left) new s1 = Puts s0 (waiting old held) bits (Ok tt) (waiting new left) s1
+PutsInto s0 old held bits (Err fault) new s1 = Puts s0 (waiting old held) bits (Err fault) (waiting new []) s1
+
+-- The same, where the bytes wait in what else has no bits.
+abbrev pub PutsBehind : DeskState → Waiting → List Bool → List Bool → Result (List Bool) WriteFault → Waiting → DeskState → Type 0
+PutsBehind s0 old held bits result new s1 = PutsInto s0 old.bytes held bits result new.bytes s1
 
 -- The bits that wait go out, with ones up to a whole byte.
 pub record Pads (s0 : DeskState) (old : Waiting) (result : Result (Unit {0}) WriteFault) (new : Waiting) (s1 : DeskState) : Type 0 where

@@ -135,10 +135,11 @@ impl Buffer {
         ensures emits { Emits (D.state desk.old) self.old (stuffed (whole_bytes (bits_of 32 word))) result self.new (D.state desk.new) }
     {
         self.make_room(8, desk)?;
-        let a = ((word >> 24) % 256) as u8;
-        let b = ((word >> 16) % 256) as u8;
-        let c = ((word >> 8) % 256) as u8;
-        let d = (word % 256) as u8;
+        let low = (word % (1 << 32)) as u32;
+        let a = ((low >> 24) % 256) as u8;
+        let b = ((low >> 16) % 256) as u8;
+        let c = ((low >> 8) % 256) as u8;
+        let d = (low % 256) as u8;
         self.add_word(a, b, c, d);
         Ok(())
     }

@@ -26,11 +26,8 @@ pub fn extra_bits(value: i32) -> u32
     ensures fits { result < 2 ^ category_of value }
 {
     let magnitude = value.unsigned_abs();
-    if value >= 0 {
-        magnitude
-    } else {
-        ((1u64 << binary_digits(magnitude)) - 1 - u64::from(magnitude)) as u32
-    }
+    let below = ((1u64 << binary_digits(magnitude)) - 1 - u64::from(magnitude)) as u32;
+    if value >= 0 { magnitude } else { below }
 }
 
 // The number that is so much less.

@@ -23,7 +23,7 @@ pub struct Table {
     pub ghost encoded: { IsEncoder (codes counts (take total symbols)) encoder },
 }
 
-/// A code: its length, 1 to 16, and its bits as a number.
+/// A code: its length, 1 to 16, and its bits as a number. A length of 0 stands for no code.
 #[derive(Clone, Copy, Debug, PartialEq, Eq)]
 pub struct Code {
     pub length: u8,
@@ -35,6 +35,7 @@ impl Table {
     ghost use Rattle.std.specs.Option.{option_map};
     ghost use Rattle.jpg_spec.specs.Bits.{bits_of};
     ghost use Rattle.jpg_spec.specs.Codes.{first_code};
+    ghost use Rattle.jpg_spec.specs.ScanText.{code_of};
     ghost use Rattle.jpg_huff.specs.Tables.{table_of, symbol_codes};
 
     /// How many codes of a length, 1 to 16, there are.
@@ -66,6 +67,20 @@ impl Table {
                 length: (entry >> 16) as u8,
                 bits: (entry % 65536) as u16,
             })
+        }
+    }
+
+    /// What is written for a symbol: its first code, or no bits where the table has none.
+    #[inline(always)]
+    pub fn written(&self, symbol: u8) -> Code
+        ensures first { bits_of result.length result.bits ≡ code_of (symbol_codes self.now) symbol }
+        ensures short { result.length ≤ 16 }
+        ensures fits { result.bits < 2 ^ result.length }
+    {
+        let entry = self.encoder[symbol as usize];
+        Code {
+            length: (entry >> 16) as u8,
+            bits: (entry % 65536) as u16,
         }
     }
 

@@ -9,6 +9,7 @@ use std::test::Fail;
 mod comments;
 mod inserted;
 mod refused;
+mod transformed;
 mod turned;
 mod words;
 
@@ -142,14 +143,14 @@ fn other_words_open_nothing(rt: HostRuntime) -> Result<(), Fail> {
             "djpeg: refused: NotBuilt at byte 0\n",
         ),
         (
-            &["jpegtran", "-flip", "vertical"],
+            &["jpegtran", "-progressive"],
             not_built(0),
             "jpegtran: refused: NotBuilt at byte 0\n",
         ),
         (
-            &["jpegtran", "-flip", "horizontal", "x"],
-            not_built(0),
-            "jpegtran: refused: NotBuilt at byte 0\n",
+            &["jpegtran", "-optimize"],
+            usage_at(UsageFault::LeftOutSwitch, 1),
+            "jpegtran: usage: LeftOutSwitch at word 1\n",
         ),
         (
             &["cjpeg", "-flip", "horizontal"],

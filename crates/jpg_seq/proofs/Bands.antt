@@ -13,7 +13,7 @@ use Rattle.jpg_spec.specs.Elements.{Element, value, long_run, ends, is_zero}
 use Rattle.jpg_spec.specs.Sending.{Sent, newly, sent, is_new, up_to_last, behind_last, corrections_of, value_elements, band_elements}
 use Rattle.jpg_spec.specs.ScanText.{code_of}
 use Rattle.jpg_spec.proofs.Small.{divided_none}
-use Rattle.jpg_seq.specs.PlainText.{spelled, run_bits, band_bits}
+use Rattle.jpg_seq.specs.BlockBits.{spelled, run_bits, band_bits}
 
 -- zeros are left
 abbrev pub end_elements : ℕ → List Element

@@ -5,15 +5,14 @@ use Rattle.std.proofs.lemmas.Int.{ints}
 use Rattle.std.proofs.lemmas.Bool.{cases_lt}
 use Rattle.jpg_spec.specs.Codes.{Code}
 use Rattle.jpg_spec.specs.Numbers.{category}
-use Rattle.jpg_spec.specs.Elements.{Element, difference, value, long_run, ends, Coding, UnitLeft, Standing, Covers, Tells, SpellsElement, codes_due, going_on, predicted, predictions_after, zeros, zeros_in, nonzeros_in, corrected, scaled, are_in_bounds, new_unit}
+use Rattle.jpg_spec.specs.Elements.{Element, difference, value, long_run, ends, Coding, UnitLeft, Standing, Covers, Tells, SpellsElement, codes_due, going_on, predictions_after, zeros, zeros_in, nonzeros_in, corrected, scaled, are_in_bounds, new_unit}
 use Rattle.jpg_spec.specs.declared.frame.Bounds.{Bounds}
-use Rattle.jpg_spec.proofs.Bands.{covers_then}
 use Rattle.jpg_spec.proofs.Writing.{going_same}
 use Rattle.jpg_spec.proofs.Common.{bounds_join}
 use Rattle.jpg_spec.proofs.Small.{one_digit}
-use Rattle.jpg_seq.specs.Step.{AreSane, InRange}
-use Rattle.jpg_seq.specs.Stands.{IsCodingOf, open_unit, unit_in_work, standing_at, codes_next}
-use Rattle.jpg_seq.proofs.Tests.{first_in_bounds, zeros_in_bounds, value_in_bounds}
+use Rattle.jpg_seq.specs.Range.{AreSane}
+use Rattle.jpg_seq.specs.Stands.{IsCodingOf, open_unit, unit_in_work, standing_at}
+use Rattle.jpg_seq.proofs.Tests.{zeros_in_bounds, value_in_bounds}
 
 -- ZEROS
 
@@ -136,23 +135,6 @@ end_tells c b dc ac i n k sane =
       λ p. refl,
     )
 
--- behind the first value
-pub element_more : (c : Coding) (p : ℕ → ℤ) (i : ℕ) (others : List UnitLeft) (values here : List ℤ) (elements : List Element) (e : Element) (front part : List Bool) → 1 ≤ length values → length values < 64
-    → Covers c (standing_at p i others []) elements values front (standing_at p i others values) → SpellsElement (codes_next c i values) e part → TellsHere c i (64 - length values) e here
-    → Covers c (standing_at p i others []) (elements ++ e ∷ []) (values ++ here) (front ++ part) (standing_at p i others (values ++ here))
-element_more c p i others [] here elements e front part some less k sp t = absurd (omega arith)
-element_more c p i others (v ∷ vs) here elements e front part some less k sp t =
-    let n = 63 - length vs in
-    let m : 64 - length (v ∷ vs) ≡ n = omega arith in
-    let w : TellsHere c i n e here = subst (λ x. TellsHere c i x e here) m t in
-    let l : n - length here ≡ 63 - length (vs ++ here) = omega (arith, length-append vs here) in
-    let is : record { predictions = predictions_after (predicted p i v) i e; left = going_on (open_unit i []) (zeros (n - length here)) others } ≡ standing_at p i others (v ∷ vs ++ here) =
-    ap (λ (q : ℕ → ℤ). (let r : Standing = record { predictions = q; left = going_on (open_unit i []) (zeros (n - length here)) others } in r)) (w.2 (predicted p i v))
-    ∙ ap (λ (x : ℕ). (let r : Standing = record { predictions = predicted p i v; left = going_on (open_unit i []) (zeros x) others } in r)) l in
-    covers_then c (standing_at p i others []) (standing_at p i others (v ∷ vs)) (standing_at p i others (v ∷ vs ++ here)) elements (e ∷ []) (v ∷ vs) here front part k
-    (one_element c (standing_at p i others (v ∷ vs)) (standing_at p i others (v ∷ vs ++ here)) (open_unit i (zeros n)) others (going_on (open_unit i []) (zeros (n - length here)) others) e here part
-    (some_left i n others (omega arith)) sp (w.0 (predicted p i v i) others) w.1 is)
-
 -- the first value
 pub first_tells : (c : Coding) (b : Bounds) (dc ac : List Code) (i : ℕ) (others : List UnitLeft) (q d : ℤ) → IsCodingOf b dc ac c i → category d ≤ b.dc_cat
     → Tells c q (difference d) (new_unit i) others ((q +ℤ d) ∷ []) (going_on (new_unit i) (zeros 63) others)
@@ -166,11 +148,3 @@ first_tells c b dc ac i others q d k few = (
   ap (λ w. w ∷ []) (sym (unscaled c.al (q +ℤ d) k.plain)),
   refl,
 )
-
-pub first_more : (c : Coding) (b : Bounds) (dc ac : List Code) (p : ℕ → ℤ) (i : ℕ) (others : List UnitLeft) (elements : List Element) (d : ℤ) (front part : List Bool) → IsCodingOf b dc ac c i
-    → category d ≤ b.dc_cat → InRange b (p i +ℤ d) → Covers c (standing_at p i others []) elements [] front (standing_at p i others []) → SpellsElement (codes_next c i []) (difference d) part
-    → Covers c (standing_at p i others []) (elements ++ difference d ∷ []) ((p i +ℤ d) ∷ []) (front ++ part) (standing_at p i others ((p i +ℤ d) ∷ []))
-first_more c b dc ac p i others elements d front part k few range covers sp =
-    covers_then c (standing_at p i others []) (standing_at p i others []) (standing_at p i others ((p i +ℤ d) ∷ [])) elements (difference d ∷ []) [] ((p i +ℤ d) ∷ []) front part covers
-    (one_element c (standing_at p i others []) (standing_at p i others ((p i +ℤ d) ∷ [])) (new_unit i) others (going_on (new_unit i) (zeros 63) others) (difference d) ((p i +ℤ d) ∷ []) part
-    refl sp (first_tells c b dc ac i others (p i) d k few) (first_in_bounds c b (p i +ℤ d) k.bounds range) refl)

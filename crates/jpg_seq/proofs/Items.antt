@@ -16,7 +16,7 @@ use Rattle.jpg_coefs.specs.declared.machine.UnitFault.{UnitFault}
 use Rattle.jpg_coefs.specs.declared.machine.UnitFault.TheVariants.{NoCode, BadSymbol, BadRun, CoefRange}
 use Rattle.jpg_seq.specs.declared.work.Next.{Next}
 use Rattle.jpg_seq.specs.declared.work.Next.TheVariants.{Part, Value, Zeros, Bad}
-use Rattle.jpg_seq.specs.Step.{AreSane, InRange}
+use Rattle.jpg_seq.specs.Range.{AreSane, InRange}
 use Rattle.jpg_seq.specs.Judge.{IsBadSymbol, IsBadRun}
 use Rattle.jpg_seq.specs.Stands.{IsCodingOf, MayStand, standing_at, unit_in_work, open_unit, codes_next}
 use Rattle.jpg_seq.specs.Work.{Env, next_codes, IsPartOf, ReadsComponent, Adds, FrontsAre, NoPartBegins, IsElement, IsShownFault, StandsFirst, IsFirstValue}

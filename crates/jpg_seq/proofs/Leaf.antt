@@ -4,7 +4,6 @@ use Rattle.std.proofs.lemmas.List.{length-set, length-take-le, drop-drop, take-a
 use Rattle.std.proofs.Math.Seq.{take-append-add}
 use Rattle.std.proofs.lemmas.Grind.{take-set_at, drop-set_at}
 use Rattle.jpg_spec.specs.Elements.{zeros}
-use Rattle.jpg_seq.specs.InWork.{IsKept}
 use Rattle.jpg_seq.specs.Work.{IsBlockSoFar}
 
 take-replicate : (m n : ℕ) (y : ℤ) → m ≤ n → take m (zeros n) ≡ zeros m
@@ -41,18 +40,6 @@ place_rest values at run v len h e =
     ∙ ap (drop 1) (drop-set_at values (at + run) (at + run) v refl (omega arith))
     ∙ ap (λ k. drop k values) (sym n)
     ∙ cover_rest values at (run + 1) (omega arith) e
-
--- what is kept where a value is placed
-pub placed_kept : (values new : List ℤ) (at run : ℕ) (v : ℤ) (n have number : ℕ) → IsKept values at n have number → at + run < 64 → new ≡ set values (at + run) v → IsKept new (at + (run + 1)) n have number
-placed_kept values new at run v n have number k h e =
-    record {
-      whole = ap length e ∙ length-set values (at + run) v ∙ k.whole;
-      at_most = omega arith;
-      rest = ap (drop (at + (run + 1))) e ∙ place_rest values at run v k.whole h k.rest;
-      size = k.size;
-      fewer = k.fewer;
-      fits = k.fits;
-    }
 
 -- the same, where bits wait
 pub covered_so_far : (values : List ℤ) (at n : ℕ) (part : List Bool) → IsBlockSoFar values at part → at + n ≤ 64 → IsBlockSoFar values (at + n) part

@@ -2,15 +2,13 @@ pub mod Bands
 pub mod Blocks
 pub mod Due
 pub mod Elements
-pub mod Ends
 pub mod Forced
 pub mod Items
 pub mod Leaf
 pub mod Machines
+pub mod Marked
 pub mod NewCoders
 pub mod Parts
-pub mod ReadBlocks
-pub mod Reading
 pub mod Readings
 pub mod ScanIntervals
 pub mod ScanUnits
@@ -18,6 +16,5 @@ pub mod Sources
 pub mod Steps
 pub mod Takings
 pub mod Tests
-pub mod Text
-pub mod Typical
-pub mod Within
+pub mod Told
+pub mod ToldTaken

@@ -27,11 +27,10 @@ use Rattle.jpg_huff.specs.Tables.{table_of}
 use Rattle.jpg_coefs.specs.Machine.{Interval}
 use Rattle.jpg_seq.specs.declared.reader.SeqReader.{SeqReader}
 use Rattle.jpg_seq.specs.declared.work.Coder.{Coder}
-use Rattle.jpg_seq.specs.Step.{AreSane}
+use Rattle.jpg_seq.specs.Range.{AreSane}
 use Rattle.jpg_seq.specs.Stands.{IsCodingOf}
-use Rattle.jpg_seq.specs.Plain.{in_force}
 use Rattle.jpg_seq.specs.Reader.{IsPlaceReadable, ReadsBy, SeqReady}
-use Rattle.jpg_seq.specs.NewReader.{IsSeqScan, IsOfScan, IsCoderOf, AreFilled, part_at}
+use Rattle.jpg_seq.specs.NewReader.{IsSeqScan, IsOfScan, IsCoderOf, AreFilled, part_at, in_force}
 use Rattle.jpg_seq.proofs.Forced.{valid, codes_found}
 
 at_set : (coders : List (Option Coder)) (c : ℕ) (o : Option Coder) → c < length coders → slot_value (slice_get (set coders c o) c) ≡ o
@@ -143,7 +142,7 @@ coding_at f head set b j k coder is same lt comp of =
     }
 
 bounds_sane : (f : Frame) → AreSane (bounds f)
-bounds_sane f = record { low = omega (arith, ints); high = omega (arith, ints); ac = omega (arith, ints); dc_cat = omega arith; ac_cat = omega arith }
+bounds_sane f = record { low = omega (arith, ints); high = omega (arith, ints); ac = omega (arith, ints); dc_cat = omega arith; ac_cat = omega arith; nine = omega arith }
 
 pub new_ready : (f : Frame) (head : ScanHead) (set : TableSet) (m : SeqReader) → IsFrame f → IsSeqScan f head set → m.bounds ≡ bounds f → AreFilled set head.parts (length head.parts) m.coders → m.cursor ≡ units f (head_components head) → length m.predictions ≡ 4 → m.left ≡ 0
     → (i : Interval) → IsOfScan f head set i → SeqReady m i

@@ -5,8 +5,7 @@ use Rattle.jpg_spec.specs.Codes.{Code}
 use Rattle.jpg_spec.specs.Elements.{Coding, UnitLeft}
 use Rattle.jpg_spec.specs.Parts.{PartOfElement, in_code, in_difference, in_number, IsFront}
 use Rattle.jpg_spec.specs.declared.frame.Bounds.{Bounds}
-use Rattle.jpg_seq.specs.InWork.{InWork}
-use Rattle.jpg_seq.specs.Stands.{IsCodingOf, MayStand, IsPart, standing_at, unit_in_work, codes_next}
+use Rattle.jpg_seq.specs.Stands.{IsCodingOf, MayStand, standing_at, unit_in_work, codes_next}
 use Rattle.jpg_seq.specs.Work.{Env, next_codes, ReadsComponent, IsPartOf}
 use Rattle.jpg_seq.proofs.Elements.{left_at, zeros_in_zeros}
 use Rattle.jpg_seq.proofs.Items.{codes_same}
@@ -51,9 +50,3 @@ work_part c e i p others values part r less h = by h
     by (inr (inr (code, rest, run, size, there, is, short, may))) =
         number_part c e.bounds e.dc e.ac i p others values part code rest run size r.0 less (codes (λ t. Contains t (code, 16 * run + size)) there) is short
         (subst (λ (b : Bounds). MayStand b values run size) (sym r.0.bounds) may)
-
--- where they are taken bit by bit
-pub open_part : (c : Coding) (b : Bounds) (dc ac : List Code) (i : ℕ) (p : ℕ → ℤ) (others : List UnitLeft) (s : InWork) (part : List Bool) → IsCodingOf b dc ac c i → length s.values < 64
-    → IsPart c i s part → PartOfElement c (standing_at p i others s.values) (unit_in_work i s.values) others [] part
-open_part c b dc ac i p others s part k less (inl (none, is, h)) = code_part c b dc ac i p others s.values part k less (subst (λ (l : List Bool). IsFront (codes_next c i s.values) l) (sym is) h)
-open_part c b dc ac i p others s part k less (inr (some, (code, there, is, short, walked, may))) = number_part c b dc ac i p others s.values part code s.extra s.run s.size k less there is short may

@@ -1,5 +1,5 @@
 -- The bits of a scan's units, one unit after another.
-use Rattle.std.proofs.Common.{◌≡◌, ℕ, zero, suc, ◌+◌, ◌/◌, ◌%◌, ◌<◌, Bool, true, false, List, [], ◌∷◌, ◌++◌, length, take, drop, Some, ◌-◌, ◌≤◌, refl, sym, ap, ◌∙◌, subst, arith, ℤ, pos, cond, ⊎_elim, ◌==◌}
+use Rattle.std.proofs.Common.{◌≡◌, ℕ, zero, suc, ◌+◌, ◌/◌, ◌%◌, ◌<◌, Bool, true, false, List, [], ◌∷◌, ◌++◌, length, take, drop, Option, None, Some, ◌-◌, ◌≤◌, refl, sym, ap, ◌∙◌, subst, arith, ℤ, pos, cond, ⊎_elim, ◌==◌}
 use Rattle.std.specs.Prelude.{map, flat_map, replicate, slice_get, slice_index_or, slice_set, nat_lt, ◌||◌, ◌-ℤ◌, unwrap_or}
 use Rattle.std.specs.List.{All}
 use Rattle.std.specs.Option.{option_map}
@@ -24,11 +24,11 @@ use Rattle.jpg_huff.specs.declared.set.TableSet.{TableSet}
 use Rattle.jpg_huff.specs.Sets.{dc_tables, ac_tables, in_slot}
 use Rattle.jpg_huff.specs.Tables.{table_of, symbol_codes}
 use Rattle.jpg_spec.proofs.Common.{lt_of}
-use Rattle.jpg_spec.proofs.Common.{both}
+use Rattle.jpg_spec.proofs.Common.{both, some_once}
 use Rattle.jpg_spec.proofs.Small.{shifted_none}
 use Rattle.jpg_seq.specs.NewReader.{HasTables}
-use Rattle.jpg_seq.specs.PlainText.{spelled, band_bits, block_bits, IsShort}
-use Rattle.jpg_seq.specs.ScanWritten.{tables_in, IsScanPlace, block_due, unit_bits, places_bits, HasBaselineBlocks}
+use Rattle.jpg_seq.specs.BlockBits.{spelled, band_bits, block_bits, IsShort}
+use Rattle.jpg_seq.specs.ScanWritten.{tables_in, no_codes, IsScanPlace, block_due, unit_bits, places_bits, HasBaselineBlocks}
 use Rattle.jpg_seq.proofs.Bands.{plain_elements, band_plain}
 use Rattle.jpg_seq.proofs.Blocks.{baseline_short, zeros_short}
 
@@ -165,12 +165,10 @@ named_part P (p ∷ parts) i all e =
 pub has_tables : (set : TableSet) (head : ScanHead) (i : ℕ) → All (HasTables set) head.parts → is_among i (head_components head) ≡ true → HasTables set (part_of head i)
 has_tables set head i all e = named_part (HasTables set) head.parts i all e
 
--- its tables, as they are in force
-pub dc_is : (set : TableSet) (p : ScanPart) (dc : Table) → in_slot (dc_tables set) p.dc ≡ Some dc → tables_in set 0 p.dc ≡ table_of dc
-dc_is set p dc e = ap (λ o. unwrap_or (option_map table_of o) (record { counts = []; symbols = [] })) e
-
-pub ac_is : (set : TableSet) (p : ScanPart) (ac : Table) → in_slot (ac_tables set) p.ac ≡ Some ac → tables_in set 1 p.ac ≡ table_of ac
-ac_is set p ac e = ap (λ o. unwrap_or (option_map table_of o) (record { counts = []; symbols = [] })) e
+-- the codes of a slot, as they are in force
+codes_are : (o : Option Table) (codes : List Code) → option_map symbol_codes o ≡ Some codes → table_codes (unwrap_or (option_map table_of o) no_codes) ≡ codes
+codes_are None codes e = absurd cc
+codes_are (Some t) codes e = some_once (symbol_codes t) codes e
 
 -- A REAL PLACE
 pub is_real_place : (f : Frame) (head : ScanHead) (p : Place) → IsScanPlace f head p → p.real ≡ true → IsReal f p.component p.x p.y
@@ -222,11 +220,13 @@ due_short f head blocks last p all is = by p.real refl
     by true e = baseline_short (block_at blocks p) (all p.component p.x p.y (is_real_place f head p is e))
     by false e = zeros_short last
 
--- THE TABLES of a part, as they were got from the set
-pub unit_by : (set : TableSet) (head : ScanHead) (i : ℕ) (last : ℤ) (block : List ℤ) (p : ScanPart) (dc ac : Table) → p ≡ part_of head i → in_slot (dc_tables set) p.dc ≡ Some dc → in_slot (ac_tables set) p.ac ≡ Some ac
-    → block_bits (symbol_codes dc) (symbol_codes ac) last block ≡ unit_bits set head i last block
+-- THE CODES of a part, as they were got for the set
+pub unit_by : (set : TableSet) (head : ScanHead) (i : ℕ) (last : ℤ) (block : List ℤ) (p : ScanPart) (dc ac : List Code) → p ≡ part_of head i
+    → option_map symbol_codes (in_slot (dc_tables set) p.dc) ≡ Some dc → option_map symbol_codes (in_slot (ac_tables set) p.ac) ≡ Some ac
+    → block_bits dc ac last block ≡ unit_bits set head i last block
 unit_by set head i last block p dc ac is e h =
-    ap (λ t. block_bits (table_codes t) (symbol_codes ac) last block) (sym (dc_is set p dc e)) ∙ ap (λ t. block_bits (table_codes (tables_in set 0 p.dc)) (table_codes t) last block) (sym (ac_is set p ac h))
+    ap (λ codes. block_bits codes ac last block) (sym (codes_are (in_slot (dc_tables set) p.dc) dc e))
+    ∙ ap (λ codes. block_bits (table_codes (tables_in set 0 p.dc)) codes last block) (sym (codes_are (in_slot (ac_tables set) p.ac) ac h))
     ∙ ap (λ (q : ScanPart). block_bits (table_codes (tables_in set 0 q.dc)) (table_codes (tables_in set 1 q.ac)) last block) is
 
 -- what is left of so many places, the first of which has this block

@@ -1,6 +1,6 @@
 -- Bits of a source, taken from its store.
 use Rattle.std.proofs.Common.{◌≡◌, ℕ, ◌+◌, ◌-◌, ◌*◌, ◌<◌, ◌≤◌, Bool, List, [], ◌∷◌, ◌++◌, length, take, drop, get_or, refl, sym, ap, ◌∙◌, subst, arith}
-use Rattle.std.proofs.lemmas.List.{append_assoc, append-nil, length-append, length-drop, drop_more}
+use Rattle.std.proofs.lemmas.List.{append_assoc, append-nil, length-append, length-drop, drop_more, take_all}
 use Rattle.std.proofs.Math.Seq.{drop-append_seam}
 use Rattle.jpg_spec.specs.Bits.{bits_of, bits_of_bytes}
 use Rattle.jpg_spec.proofs.Strings.{length-bits_of}
@@ -55,3 +55,15 @@ pub taken_then : (e : Env) (s mid t : Work) (source old filled new : Source) (an
     → TakesFromStore e mid filled.store answer t new.store → new.bytes.now ≡ filled.bytes.now → (answer ≡ Empty → length filled.store < 32) → TakesFrom e s source answer t new
 taken_then e s mid t source old filled new answer before same full k bytes few =
     takes_then e s mid t (bits_in source) (bits_in old) (bits_in new) answer before (taken_at_hand e mid t old filled new answer same full k bytes few)
+
+-- four bytes more at hand
+pub four_long : (A B C D four : List Bool) → length A ≡ 8 → length B ≡ 8 → length C ≡ 8 → length D ≡ 8 → four ≡ ((A ++ B) ++ C) ++ D → length four ≡ 32
+four_long A B C D four a b c d is = omega (arith, a, b, c, d, ap length is, length-append ((A ++ B) ++ C) D, length-append (A ++ B) C, length-append A B)
+
+pub four_taken : (store A B C D four new : List Bool) → length four ≡ 32 → four ≡ ((A ++ B) ++ C) ++ D → new ≡ store ++ take 32 four → (new ≡ (((store ++ A) ++ B) ++ C) ++ D) × (length new ≡ length store + 32)
+four_taken store A B C D four new long is took =
+    let all : take 32 four ≡ four = take_all 32 four (omega (arith, long)) in
+    let bits : new ≡ (((store ++ A) ++ B) ++ C) ++ D =
+    took ∙ ap (λ l. store ++ l) (all ∙ is) ∙ sym (append_assoc store ((A ++ B) ++ C) D) ∙ ap (λ l. l ++ D) (sym (append_assoc store (A ++ B) C))
+    ∙ ap (λ l. (l ++ C) ++ D) (sym (append_assoc store A B)) in
+    (bits, omega (arith, ap length took, length-append store (take 32 four), ap length all, long))

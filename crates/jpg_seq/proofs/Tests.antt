@@ -11,7 +11,7 @@ use Rattle.jpg_spec.specs.ScanFaults.{is_symbol}
 use Rattle.jpg_spec.specs.declared.frame.Bounds.{Bounds}
 use Rattle.jpg_spec.proofs.Facts.{below_digits}
 use Rattle.jpg_spec.proofs.Common.{and_intro, both_false, in_order, from_test, and_false}
-use Rattle.jpg_seq.specs.Step.{AreSane, InRange}
+use Rattle.jpg_seq.specs.Range.{AreSane, InRange}
 use Rattle.jpg_seq.specs.Judge.{IsBadSymbol}
 
 pub first_in_bounds : (c : Coding) (b : Bounds) (v : ℤ) → c.bounds ≡ b → InRange b v → are_in_bounds c true (v ∷ []) ≡ true

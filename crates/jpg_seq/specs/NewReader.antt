@@ -1,20 +1,24 @@
 -- The machine of a sequential scan before its first unit.
-use Rattle.std.specs.Prelude.{◌≡◌, ℕ, ◌<◌, true, false, List, ◌++◌, length, slice_get, slice_index_or, Option, Some, All}
+use Rattle.std.specs.Prelude.{◌≡◌, ℕ, ◌<◌, ◌==◌, if◌then◌else◌, true, false, List, ◌++◌, length, slice_get, slice_index_or, Option, Some, All}
+use Rattle.std.specs.Option.{option_map}
 use Rattle.jpg_spec.specs.Lists.{is_distinct, slot_value}
 use Rattle.jpg_spec.specs.Geometry.{Frame, is_progressive, units}
 use Rattle.jpg_spec.specs.Segments.{ScanHead, head_components}
-use Rattle.jpg_spec.specs.Scan.{scan_coding}
+use Rattle.jpg_spec.specs.Scan.{TablesInForce, scan_coding}
 use Rattle.jpg_spec.specs.declared.frame.ScanPart.{ScanPart}
 use Rattle.jpg_base.specs.Cursor.{AreIn}
 use Rattle.jpg_huff.specs.declared.table.Table.{Table}
 use Rattle.jpg_huff.specs.declared.set.TableSet.{TableSet}
 use Rattle.jpg_huff.specs.Sets.{dc_tables, ac_tables, in_slot}
-use Rattle.jpg_huff.specs.Tables.{symbol_codes}
+use Rattle.jpg_huff.specs.Tables.{table_of, symbol_codes}
 use Rattle.jpg_coefs.specs.Picture.{map_of}
 use Rattle.jpg_coefs.specs.Machine.{Interval}
 use Rattle.jpg_seq.specs.declared.work.Coder.{Coder}
-use Rattle.jpg_seq.specs.Plain.{in_force}
 use Rattle.jpg_seq.specs.Reader.{IsSequential}
+
+-- the tables of a set, by class (0 is DC, 1 is AC) and slot
+abbrev pub in_force : TableSet → TablesInForce
+in_force set class slot = option_map table_of (in_slot (if class == 0 then dc_tables set else ac_tables set) slot)
 
 -- the tables of a part are there
 pub record HasTables (set : TableSet) (p : ScanPart) : Type 0 where

@@ -11,7 +11,7 @@ use Rattle.jpg_coefs.specs.Machine.{Interval, Kind, units_of}
 use Rattle.jpg_seq.specs.declared.reader.SeqReader.{SeqReader}
 use Rattle.jpg_seq.specs.declared.work.Coder.{Coder}
 use Rattle.jpg_seq.specs.declared.work.Took.{Took}
-use Rattle.jpg_seq.specs.Step.{AreSane}
+use Rattle.jpg_seq.specs.Range.{AreSane}
 use Rattle.jpg_seq.specs.Stands.{IsCodingOf, standing_at}
 use Rattle.jpg_seq.specs.Work.{Work, IsAtWork, TakesFromStore, no_work}
 use Rattle.jpg_seq.specs.Coder.{env_in}

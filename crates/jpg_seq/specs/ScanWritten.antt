@@ -10,8 +10,8 @@ use Rattle.jpg_spec.specs.ScanText.{units_due, interval_elements, element_bits, 
 use Rattle.jpg_spec.specs.WrittenFile.{IsBaselineBlock}
 use Rattle.jpg_spec.specs.declared.frame.Place.{Place}
 use Rattle.jpg_huff.specs.declared.set.TableSet.{TableSet}
-use Rattle.jpg_seq.specs.Plain.{in_force}
-use Rattle.jpg_seq.specs.PlainText.{block_bits}
+use Rattle.jpg_seq.specs.NewReader.{in_force}
+use Rattle.jpg_seq.specs.BlockBits.{block_bits}
 
 -- the tables of a set, by class and slot, and one without codes where there is none
 abbrev pub no_codes : HuffmanTable

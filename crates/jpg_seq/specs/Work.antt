@@ -8,7 +8,7 @@ use Rattle.jpg_spec.specs.Parts.{BeginsCode}
 use Rattle.jpg_coefs.specs.declared.machine.UnitFault.{UnitFault}
 use Rattle.jpg_coefs.specs.declared.machine.UnitFault.TheVariants.{CoefRange}
 use Rattle.jpg_coefs.specs.Machine.{fault_of}
-use Rattle.jpg_seq.specs.Step.{InRange}
+use Rattle.jpg_seq.specs.Range.{InRange}
 use Rattle.jpg_seq.specs.declared.work.Next.{Next}
 use Rattle.jpg_seq.specs.declared.work.Next.TheVariants.{Part, Value, Zeros, Bad}
 use Rattle.jpg_seq.specs.declared.work.Took.{Took}

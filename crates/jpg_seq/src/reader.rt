@@ -1,5 +1,5 @@
 //! The machine that reads a sequential scan (T.81, F.2.2).
-ghost use Rattle.std.specs.Prelude.{◌≡◌, ◌≤◌, ◌<◌, length, Bool, List, Some, All};
+ghost use Rattle.std.specs.Prelude.{◌≡◌, ◌≤◌, ◌<◌, ◌*◌, length, Bool, List, Some, All};
 ghost use Rattle.jpg_seq.specs.declared.work.Coder.{Coder as Coded};
 ghost use Rattle.jpg_seq.specs.NewReader.{HasTables, IsCoderOf, AreFilled, IsSeqScan, IsOfScan};
 ghost use Rattle.jpg_spec.specs.Geometry.{padded_blocks};
@@ -12,6 +12,7 @@ ghost use Rattle.jpg_seq.specs.BytesTaken.{TakesBytes};
 ghost use Rattle.jpg_seq.specs.Reader.{CanRead, ReadsOn, SeqStands, behind, with_work, sequential};
 
 use crate::source::Source;
+use crate::values::ValueDecoder;
 use crate::work::{Coder, Took, UnitWork};
 use jpg_base::{BitStore, Bounds, Cursor, Frame, Place, ScanHead, ScanPart};
 use jpg_coefs::{Coefs, ScanMachine, Taken, UnitFault, UnitStep};
@@ -39,7 +40,7 @@ fn coder_of(part: &ScanPart, tables: &TableSet) -> Option<Coder>
     };
     Some(Coder {
         dc: Decoder::new(dc),
-        ac: Decoder::new(ac),
+        ac: ValueDecoder::new(ac),
     })
 }
 
@@ -161,7 +162,8 @@ impl SeqReader {
         requires open { (i : Interval) × (bits : List Bool) × SeqStands self.old i bits coefs.old }
         requires some { 1 ≤ most }
         requires few { length bytes.now < 4294967296 }
-        ensures { TakesBytes most self.old coefs.old bytes.now result self.new coefs.new }
+        ensures takes { TakesBytes most self.old coefs.old bytes.now result self.new coefs.new }
+        ensures within { result.bits ≤ 8 * length bytes.now }
     {
         let mut unit = self.unit.copy();
         let mut source = Source {

@@ -4,13 +4,13 @@ ghost use Rattle.jpg_spec.specs.Geometry.{IsReal};
 ghost use Rattle.jpg_spec.specs.Scan.{part_of};
 ghost use Rattle.jpg_huff.specs.BitOut.{CanSend, Puts, Sends};
 ghost use Rattle.jpg_seq.specs.NewReader.{HasTables, IsSeqScan};
-ghost use Rattle.jpg_seq.specs.PlainText.{IsShort};
+ghost use Rattle.jpg_seq.specs.BlockBits.{IsShort};
 ghost use Rattle.jpg_seq.specs.ScanWritten.{HasBaselineBlocks, IsScanPlace, block_due, unit_bits, places_bits, places_data, written_data};
 
 use crate::write::put_block;
 use jpg_base::{Block, Cursor, Desk, Place, ScanHead, ScanPart, WriteFault};
 use jpg_coefs::BlockView;
-use jpg_huff::{BitOut, TableSet};
+use jpg_huff::{BitOut, EncoderSet, TableSet};
 
 // The part of a scan's header for a component, by its index in the frame.
 fn part_of(head: &ScanHead, component: u8) -> ScanPart
@@ -45,7 +45,7 @@ fn due<V: BlockView>(view: &V, place: Place, last: i16) -> Block
 // A block of a component, by its tables, behind this DC value.
 fn put_unit<D: Desk>(
     head: &ScanHead,
-    tables: &TableSet,
+    encoders: &EncoderSet<'_>,
     component: u8,
     last: i16,
     block: &Block,
@@ -53,12 +53,12 @@ fn put_unit<D: Desk>(
     desk: &mut D,
 ) -> Result<(), WriteFault>
     requires created { (D.state desk.old).output_created ≡ true }
-    requires tables { HasTables tables.now (part_of head.now component) }
+    requires tables { HasTables encoders.now (part_of head.now component) }
     requires short { IsShort block.now }
-    ensures { Puts (D.state desk.old) out.old (unit_bits tables.now head.now component last block.now) result out.new (D.state desk.new) }
+    ensures { Puts (D.state desk.old) out.old (unit_bits encoders.now head.now component last block.now) result out.new (D.state desk.new) }
 {
     let part = part_of(head, component);
-    let (Some(dc), Some(ac)) = (tables.dc(part.dc), tables.ac(part.ac)) else {
+    let (Some(dc), Some(ac)) = (encoders.dc(part.dc), encoders.ac(part.ac)) else {
         return Ok(());
     };
     put_block(dc, ac, last, block, out, desk)
@@ -68,19 +68,19 @@ fn put_unit<D: Desk>(
 fn put_units<V: BlockView, D: Desk>(
     view: &V,
     head: &ScanHead,
-    tables: &TableSet,
+    encoders: &EncoderSet<'_>,
     cursor: &mut Cursor,
     count: u64,
     out: &mut BitOut,
     desk: &mut D,
 ) -> Result<(), WriteFault>
     requires created { (D.state desk.old).output_created ≡ true }
-    requires scan { IsSeqScan (V.numbers view.now) head.now tables.now }
+    requires scan { IsSeqScan (V.numbers view.now) head.now encoders.now }
     requires blocks { HasBaselineBlocks (V.numbers view.now) (V.blocks view.now) }
     requires four { length (V.numbers view.now).components ≤ 4 }
     requires places { All (IsScanPlace (V.numbers view.now) head.now) cursor.old }
     requires enough { count ≤ length cursor.old }
-    ensures puts { Puts (D.state desk.old) out.old (places_bits tables.now head.now (V.blocks view.now) (take count cursor.old)) result out.new (D.state desk.new) }
+    ensures puts { Puts (D.state desk.old) out.old (places_bits encoders.now head.now (V.blocks view.now) (take count cursor.old)) result out.new (D.state desk.new) }
     ensures left { (u : Unit {0}) → result ≡ Ok u → cursor.new ≡ drop count cursor.old }
 {
     let mut last = [0i16; 4];
@@ -88,7 +88,15 @@ fn put_units<V: BlockView, D: Desk>(
         let place = cursor.place();
         let prediction = last[place.component as usize];
         let block = due(view, place, prediction);
-        put_unit(head, tables, place.component, prediction, &block, out, desk)?;
+        put_unit(
+            head,
+            encoders,
+            place.component,
+            prediction,
+            &block,
+            out,
+            desk,
+        )?;
         last[place.component as usize] = block.get(0);
         cursor.step();
     }
@@ -99,22 +107,22 @@ fn put_units<V: BlockView, D: Desk>(
 fn write_interval<V: BlockView, D: Desk>(
     view: &V,
     head: &ScanHead,
-    tables: &TableSet,
+    encoders: &EncoderSet<'_>,
     cursor: &mut Cursor,
     count: u64,
     out: &mut BitOut,
     desk: &mut D,
 ) -> Result<(), WriteFault>
     requires can { CanSend (D.state desk.old) out.old }
-    requires scan { IsSeqScan (V.numbers view.now) head.now tables.now }
+    requires scan { IsSeqScan (V.numbers view.now) head.now encoders.now }
     requires blocks { HasBaselineBlocks (V.numbers view.now) (V.blocks view.now) }
     requires four { length (V.numbers view.now).components ≤ 4 }
     requires places { All (IsScanPlace (V.numbers view.now) head.now) cursor.old }
     requires enough { count ≤ length cursor.old }
-    ensures sends { Sends (D.state desk.old) out.old (places_data tables.now head.now (V.blocks view.now) (take count cursor.old)) result out.new (D.state desk.new) }
+    ensures sends { Sends (D.state desk.old) out.old (places_data encoders.now head.now (V.blocks view.now) (take count cursor.old)) result out.new (D.state desk.new) }
     ensures left { (u : Unit {0}) → result ≡ Ok u → cursor.new ≡ drop count cursor.old }
 {
-    put_units(view, head, tables, cursor, count, out, desk)?;
+    put_units(view, head, encoders, cursor, count, out, desk)?;
     out.pad(desk)
 }
 
@@ -138,13 +146,14 @@ pub fn write_seq_scan<V: BlockView, D: Desk>(
 {
     let frame = view.frame();
     frame.checked();
+    let encoders = EncoderSet::new(tables);
     let mut cursor = Cursor::new(frame, head);
     let mut left = frame.scan_units(head);
     let each = each_interval(u64::from(interval) * u64::from(frame.mcu_units(head)), left);
     let mut turn = 0;
     loop {
         let count = each.min(left);
-        write_interval(view, head, tables, &mut cursor, count, out, desk)?;
+        write_interval(view, head, &encoders, &mut cursor, count, out, desk)?;
         left -= count;
         if left == 0 {
             return Ok(());

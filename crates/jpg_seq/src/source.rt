@@ -1,5 +1,6 @@
 // The bits of a store, and those of whole bytes behind them.
-ghost use Rattle.std.specs.Prelude.{◌≡◌, ◌<◌, ◌≤◌, ◌*◌, ◌+◌, [], length};
+ghost use Rattle.std.specs.Prelude.{◌≡◌, ◌<◌, ◌≤◌, ◌*◌, ◌+◌, [], ◌++◌, length, true, false};
+ghost use Rattle.jpg_spec.specs.Bits.{bits_of};
 ghost use Rattle.jpg_seq.specs.Source.{bits_in};
 
 use jpg_base::BitStore;
@@ -9,6 +10,30 @@ use jpg_base::BitStore;
 pub struct Source<'a> {
     pub store: BitStore,
     pub bytes: &'a [u8],
+}
+
+// The bits of four bytes.
+#[inline(always)]
+fn word_of(a: u8, b: u8, c: u8, d: u8) -> BitStore
+    ensures { result ≡ ((bits_of 8 a ++ bits_of 8 b) ++ bits_of 8 c) ++ bits_of 8 d }
+{
+    let mut four = BitStore::new();
+    four.push(a);
+    four.push(b);
+    four.push(c);
+    four.push(d);
+    four
+}
+
+// Appends the bits of four bytes.
+#[inline(always)]
+fn push_four(store: &mut BitStore, a: u8, b: u8, c: u8, d: u8)
+    requires { length store.old < 32 }
+    ensures bits { store.new ≡ (((store.old ++ bits_of 8 a) ++ bits_of 8 b) ++ bits_of 8 c) ++ bits_of 8 d }
+    ensures long { 32 ≤ length store.new }
+{
+    let mut four = word_of(a, b, c, d);
+    store.take_from(&mut four);
 }
 
 impl<'a> Source<'a> {
@@ -34,6 +59,16 @@ impl<'a> Source<'a> {
         }
     }
 
+    /// Takes four bytes up to 32 bits at hand, where there are four.
+    #[inline(always)]
+    pub fn more(&mut self)
+        ensures { bits_in self.new ≡ bits_in self.old }
+    {
+        if self.store.len() < 32 {
+            let _ = self.take_four();
+        }
+    }
+
     // Takes four bytes, or all that there are.
     #[inline(always)]
     fn refill(&mut self)
@@ -41,14 +76,25 @@ impl<'a> Source<'a> {
         ensures same { bits_in self.new ≡ bits_in self.old }
         ensures full { length self.new.store < 32 → self.new.bytes.now ≡ [] }
     {
-        if let [a, b, c, d, behind @ ..] = self.bytes {
-            self.store.push(*a);
-            self.store.push(*b);
-            self.store.push(*c);
-            self.store.push(*d);
-            self.bytes = behind;
-        } else {
+        if !self.take_four() {
             self.take_all();
+        }
+    }
+
+    // Takes four bytes, where there are four.
+    #[inline(always)]
+    fn take_four(&mut self) -> bool
+        requires room { length self.old.store < 32 }
+        ensures same { bits_in self.new ≡ bits_in self.old }
+        ensures four { result ≡ true → 32 ≤ length self.new.store }
+        ensures few { result ≡ false → (self.new ≡ self.old) × (length self.old.bytes.now < 4) }
+    {
+        if let [a, b, c, d, behind @ ..] = self.bytes {
+            push_four(&mut self.store, *a, *b, *c, *d);
+            self.bytes = behind;
+            true
+        } else {
+            false
         }
     }
 

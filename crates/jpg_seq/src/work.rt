@@ -1,16 +1,17 @@
 //! A unit of a sequential scan, read from a store of bits, elements at once (T.81, F.2.2).
-ghost use Rattle.std.specs.Prelude.{◌≡◌, ◌<◌, ◌≤◌, ◌+◌, [], ◌∷◌, ◌++◌, length, take, List, ℤ};
+ghost use Rattle.std.specs.Prelude.{◌≡◌, ◌<◌, ◌≤◌, ◌≤ℤ◌, ◌+◌, ◌+ℤ◌, negsuc, pos, [], ◌∷◌, ◌++◌, length, take, List, ℤ};
 ghost use Rattle.jpg_spec.specs.Elements.{zeros};
-ghost use Rattle.jpg_seq.specs.Step.{AreSane};
+ghost use Rattle.jpg_seq.specs.Range.{AreSane};
 ghost use Rattle.jpg_seq.specs.Work.{IsLaterNext, StandsFirst, TakesFromStore, IsAtWork, IsUnitCovered, IsFirstValue, GrowsOn, EndsUnit, env_of, no_work};
 ghost use Rattle.jpg_seq.specs.Coder.{env_in};
 ghost use Rattle.jpg_seq.specs.SourceTaken.{TakesFrom};
+ghost use Rattle.jpg_seq.specs.ToldTaken.{GoesTold, KeepsOn, TakesTold, TakesToldFrom};
 ghost use Rattle.jpg_seq.specs.declared.work.Took.TheVariants.{Empty};
 ghost use Rattle.jpg_spec.specs.Codes.{Code};
 
 use crate::source::Source;
 use crate::symbols::{Judged, judge};
-use crate::unit::{narrow, sum};
+use crate::values::ValueDecoder;
 use jpg_base::{BitStore, Block, Bounds};
 use jpg_coefs::UnitFault;
 use jpg_huff::{Decoder, Spotted, extend};
@@ -39,7 +40,21 @@ pub enum Took {
 #[derive(Drop)]
 pub struct Coder {
     pub dc: Decoder,
-    pub ac: Decoder,
+    pub ac: ValueDecoder,
+}
+
+fn sum(a: i16, b: i16) -> i32
+    ensures { result ≡ a +ℤ b }
+{
+    i32::from(a) + i32::from(b)
+}
+
+fn narrow(x: i32) -> i16
+    requires low { negsuc 32767 ≤ℤ x }
+    requires high { x ≤ℤ pos 32767 }
+    ensures { result ≡ x }
+{
+    x as i16
 }
 
 // The first value by its difference.
@@ -101,7 +116,7 @@ fn first_next(bounds: &Bounds, dc: &Decoder, prediction: i16, bits: &BitStore) -
 
 // What stands first in bits behind the first value, where `left` values are left.
 #[inline(always)]
-fn later_next(bounds: &Bounds, ac: &Decoder, left: u8, bits: &BitStore) -> Next
+fn later_next(bounds: &Bounds, ac: &ValueDecoder, left: u8, bits: &BitStore) -> Next
     requires sane { AreSane bounds.now }
     requires left { (1 ≤ left) × (left ≤ 63) }
     ensures { IsLaterNext bounds.now ac.now left bits.now result }
@@ -346,6 +361,81 @@ impl UnitWork {
         }
     }
 
+    // A value that ten bits tell: Empty where they tell none that has a place.
+    #[inline(always)]
+    fn told_value(&mut self, ac: &ValueDecoder, store: &mut BitStore) -> Took
+        requires left { (1 ≤ length self.old.values) × (length self.old.values < 64) }
+        requires none { self.old.part ≡ [] }
+        ensures takes { TakesTold ac.now self.old store.old result self.new store.new }
+        ensures goes { GoesTold result self.old self.new }
+    {
+        ac.apart();
+        let at = self.count();
+        match ac.told(store) {
+            Some(told) => {
+                if at + told.run < 64 {
+                    store.skip(told.length);
+                    self.place(told.run, told.value);
+                    self.covered()
+                } else {
+                    Took::Empty
+                }
+            }
+            None => Took::Empty,
+        }
+    }
+
+    // Values that ten bits tell, one after another, up to the end of the unit, or as far as bits are at hand
+    // and tell one.
+    #[inline(always)]
+    fn told_values(&mut self, ac: &ValueDecoder, source: &mut Source<'_>) -> Took
+        requires left { (1 ≤ length self.old.values) × (length self.old.values < 64) }
+        requires none { self.old.part ≡ [] }
+        ensures takes { TakesToldFrom ac.now self.old source.old result self.new source.new }
+        ensures grows { KeepsOn result self.old self.new }
+    {
+        let mut here = source.copy();
+        loop {
+            here.more();
+            match self.told_value(ac, &mut here.store) {
+                Took::More => {}
+                Took::Done => {
+                    *source = here;
+                    return Took::Done;
+                }
+                Took::Empty => {
+                    *source = here;
+                    return Took::More;
+                }
+                Took::Fault(_) => unreachable!(),
+            }
+        }
+    }
+
+    // An element where no part waits, and values behind it that ten bits tell.
+    #[inline(always)]
+    fn some_elements(
+        &mut self,
+        bounds: &Bounds,
+        coder: &Coder,
+        prediction: i16,
+        source: &mut Source<'_>,
+    ) -> Took
+        requires sane { AreSane bounds.now }
+        requires left { length self.old.values < 64 }
+        requires none { self.old.part ≡ [] }
+        ensures takes { TakesFrom (env_in bounds.now coder.now prediction) self.old source.old result self.new source.new }
+        ensures grows { GrowsOn result self.old self.new }
+    {
+        source.fill();
+        match self.element(bounds, coder, prediction, &mut source.store) {
+            Took::More => self.told_values(&coder.ac, source),
+            Took::Empty => Took::Empty,
+            Took::Done => Took::Done,
+            Took::Fault(fault) => Took::Fault(fault),
+        }
+    }
+
     // Elements where no part waits, up to the end of the unit or of the source.
     #[inline(always)]
     fn elements(
@@ -361,23 +451,12 @@ impl UnitWork {
         ensures takes { TakesFrom (env_in bounds.now coder.now prediction) self.old source.old result self.new source.new }
         ensures ends { EndsUnit result }
     {
-        let mut here = source.copy();
         loop {
-            here.fill();
-            match self.element(bounds, coder, prediction, &mut here.store) {
+            match self.some_elements(bounds, coder, prediction, source) {
                 Took::More => {}
-                Took::Empty => {
-                    *source = here;
-                    return Took::Empty;
-                }
-                Took::Done => {
-                    *source = here;
-                    return Took::Done;
-                }
-                Took::Fault(fault) => {
-                    *source = here;
-                    return Took::Fault(fault);
-                }
+                Took::Empty => return Took::Empty,
+                Took::Done => return Took::Done,
+                Took::Fault(fault) => return Took::Fault(fault),
             }
         }
     }

@@ -5,7 +5,7 @@ use Rattle.std.proofs.lemmas.List.{length-map}
 use Rattle.std.proofs.lemmas.Simd.{pick_l_whole}
 use Rattle.jpg_spec.specs.Moves.{zigzag, mirrored, mirrored_down}
 use Rattle.jpg_spec.specs.Transposed.{exchanged, transposed}
-use Rattle.jpg_spec.proofs.Turned.{IsBlock, mirrored_block, mirrored_twice}
+use Rattle.jpg_spec.proofs.MirroredBlocks.{IsBlock, mirrored_block, mirrored_twice}
 
 -- 64 numbers, told by a function of their place
 abbrev pub numbers : {X : Type 0} → (ℕ → X) → List X

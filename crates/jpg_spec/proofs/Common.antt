@@ -6,10 +6,11 @@ use Rattle.std.proofs.lemmas.List.{append_assoc, length-append}
 use Rattle.std.proofs.Math.Seq.{take-append_seam}
 use lib.Signed.{le_z_yes}
 use lib.Dec.{T}
-use Rattle.jpg_spec.specs.Lists.{below, any_of}
+use Rattle.jpg_spec.specs.Lists.{below, any_of, are_equal}
 use Rattle.jpg_spec.specs.Faults.{Told, refuse}
 use Rattle.jpg_spec.specs.Elements.{Coding, are_in_bounds}
 use Rattle.jpg_spec.specs.declared.fault.Fault.{Fault}
+use Rattle.jpg_spec.specs.declared.frame.Bounds.{Bounds}
 
 -- TESTS
 
@@ -24,6 +25,10 @@ and_intro false b e f = cc
 pub neither : (a b : Bool) → (a || b) ≡ false → (a ≡ false) × (b ≡ false)
 neither true b e = cc
 neither false b e = (refl, e)
+
+pub or_right : (a b : Bool) → b ≡ true → (a || b) ≡ true
+or_right true b e = refl
+or_right false b e = e
 
 pub both_false : (a b : Bool) → ((a ≡ true) × (b ≡ true) → ⊥) → ((a && b) && true) ≡ false
 both_false true true h = absurd (h (refl, refl))
@@ -144,6 +149,10 @@ pub length_below : (n : ℕ) → length (below n) ≡ n
 length_below zero = refl
 length_below (suc n) = omega (arith, length-append (below n) (n ∷ []), length_below n)
 
+pub equal_itself : (xs : List ℕ) → are_equal xs xs ≡ true
+equal_itself [] = refl
+equal_itself (x ∷ xs) = ap (λ b. b && are_equal xs xs) (same_itself x) ∙ equal_itself xs
+
 pub any_append : {A : Type 0} (t : A → Bool) (xs ys : List A) → any_of t (xs ++ ys) ≡ (any_of t xs || any_of t ys)
 any_append t [] ys = refl
 any_append t (x ∷ xs) ys = by (t x) (any_append t xs ys)
@@ -158,3 +167,12 @@ bounds_join c [] ys h k = k
 bounds_join c (v ∷ xs) ys h k =
     let s = both (int_le (pos (nat_abs v)) c.bounds.ac) (are_in_bounds c false xs) h in
     and_intro (int_le (pos (nat_abs v)) c.bounds.ac) (are_in_bounds c false (xs ++ ys)) s.0 (bounds_join c xs ys s.1 k)
+
+-- the same bounds, the same values within them
+pub same_within : (c d : Coding) → c.bounds ≡ d.bounds → (has_dc : Bool) (told : List ℤ) → are_in_bounds c has_dc told ≡ are_in_bounds d has_dc told
+same_within c d e has_dc [] = refl
+same_within c d e true (v ∷ told) =
+    ap (λ (b : Bounds). int_le b.dc_low v && int_le v b.dc_high && are_in_bounds c false told) e
+    ∙ ap (λ t. int_le d.bounds.dc_low v && int_le v d.bounds.dc_high && t) (same_within c d e false told)
+same_within c d e false (v ∷ told) =
+    ap (λ (b : Bounds). int_le (pos (nat_abs v)) b.ac && are_in_bounds c false told) e ∙ ap (λ t. int_le (pos (nat_abs v)) d.bounds.ac && t) (same_within c d e false told)

@@ -22,7 +22,6 @@ use Rattle.jpg_spec.specs.WrittenFile.{HasQuants, IsHeaded, is_sequential_entry,
 use Rattle.jpg_spec.specs.declared.frame.Place.{Place}
 use Rattle.jpg_spec.specs.declared.frame.ScanPart.{ScanPart}
 use Rattle.jpg_spec.specs.declared.frame.Limits.{Limits}
-use Rattle.jpg_spec.proofs.SingleAgain.{same_within}
 use Rattle.jpg_spec.proofs.BlocksOnce.{joined_chunks}
 use Rattle.jpg_spec.proofs.Rows.{map_map}
 use Rattle.jpg_spec.proofs.PlacesFound.{each_units}
@@ -41,7 +40,7 @@ use Rattle.jpg_spec.specs.FileMeaning.{Means}
 use Rattle.jpg_spec.specs.Laws.{IsOwnText}
 use Rattle.jpg_spec.proofs.WrittenScripts.{sequential_passes}
 use Rattle.jpg_spec.proofs.WrittenMeans.{sequential_means}
-use Rattle.jpg_spec.proofs.Common.{both, neither, same_itself}
+use Rattle.jpg_spec.proofs.Common.{both, neither, same_itself, same_within}
 
 -- THE DATA of a scan
 

@@ -46,7 +46,7 @@ head_at : (limits : Limits) (items : List Item) (u v : List ℕ) → u ≡ v →
 head_at limits items u v e h =
     record { code = h.code; contents = h.contents; head = h.head; rest = h.rest; cut = e ∙ h.cut; spelled = h.spelled; allowed = h.allowed; rule = h.rule; other = h.other }
 
-next_head : (limits : Limits) (items items' : List Item) (u v : List ℕ) → HasNext limits items u items' v → HasHead limits (segments_of items) u
+pub next_head : (limits : Limits) (items items' : List Item) (u v : List ℕ) → HasNext limits items u items' v → HasHead limits (segments_of items) u
 next_head limits items items' u v g = head_at limits items u (g.here ++ (g.text ++ v)) g.behind (item_head limits items g.first g.here (g.text ++ v) g.blocks g.spelled g.leads)
 
 inside_head : (limits : Limits) (bytes tail rest : List ℕ) (i : InsideScan limits bytes tail) → HasHead limits (segments_of i.items) (i.head ++ rest)

@@ -1,6 +1,6 @@
 -- Behind a header that breaks no rule the frame is one that passed its checks.
 use Rattle.std.proofs.Common.{◌≡◌, ℕ, ◌*◌, Bool, true, false, cond, not, List, [], ◌∷◌, length, refl, sym, ap, ◌∙◌, subst, arith, inl, inr, Option, Some, None, ◌==◌, ◌≢◌, ⊎_elim}
-use Rattle.std.specs.Prelude.{◌⊎◌, ◌||◌, nat_lt, Ok, Err, unwrap_or, option_and_then}
+use Rattle.std.specs.Prelude.{◌⊎◌, ◌||◌, nat_lt, Ok, Err, option_and_then}
 use Rattle.std.proofs.lemmas.Bool.{cases_eq}
 use Rattle.std.proofs.lemmas.Bool.Decides.{nat_tests}
 use Rattle.jpg_spec.specs.Lists.{any_of, is_distinct}
@@ -10,9 +10,9 @@ use Rattle.jpg_spec.specs.Geometry.{Frame, padded_blocks}
 use Rattle.jpg_spec.specs.FrameHeader.{has_bad_factor, has_bad_slot, identifiers, checked_frame}
 use Rattle.jpg_spec.specs.FrameContents.{frame_header, frame_told}
 use Rattle.jpg_spec.specs.Markers.{Segment, Pass, process_of_code, is_frame_code, has_frame, code_fault, code_fault_if}
-use Rattle.jpg_spec.specs.InForce.{told_some, first_some, no_frame, frame_in, frame_after, frame_of}
+use Rattle.jpg_spec.specs.InForce.{told_some, first_some, frame_in, frame_after}
 use Rattle.jpg_spec.specs.Items.{fault_in}
-use Rattle.jpg_spec.specs.Header.{header_rule, IsHeader}
+use Rattle.jpg_spec.specs.Header.{header_rule}
 use Rattle.jpg_spec.specs.declared.fault.Fault.TheVariants.{EmptyImage, TooLarge, Precision, ComponentCount, Sampling, DuplicateComponent, QuantSlot, TooManyBlocks, BadLength}
 use Rattle.jpg_spec.specs.declared.frame.Process.{Process}
 use Rattle.jpg_spec.specs.declared.frame.Process.TheVariants.{Baseline, Extended, Progressive}
@@ -70,6 +70,19 @@ told_checked limits process (p ∷ y1 ∷ y0 ∷ x1 ∷ x0 ∷ count ∷ parts) 
     let r = refused BadLength (not (length parts == 3 * count)) (checked_frame limits told) f e in
     let h = checks limits told f r.1 in
     subst (λ g. IsChecked limits g) h.1 h.0
+
+-- and it is of that process
+pub told_process : (limits : Limits) (process : Process) (contents : List ℕ) (f : Frame) → frame_header limits process contents ≡ Ok f → f.process ≡ process
+told_process limits process [] f e = cc
+told_process limits process (p ∷ []) f e = cc
+told_process limits process (p ∷ y1 ∷ []) f e = cc
+told_process limits process (p ∷ y1 ∷ y0 ∷ []) f e = cc
+told_process limits process (p ∷ y1 ∷ y0 ∷ x1 ∷ []) f e = cc
+told_process limits process (p ∷ y1 ∷ y0 ∷ x1 ∷ x0 ∷ []) f e = cc
+told_process limits process (p ∷ y1 ∷ y0 ∷ x1 ∷ x0 ∷ count ∷ parts) f e =
+    let g = frame_told process p (two_bytes y1 y0) (two_bytes x1 x0) parts in
+    let r = refused BadLength _ (checked_frame limits g) f e in
+    sym (ap (λ (h : Frame). h.process) (checks limits g f r.1).1)
 
 abbrev pub Found : Limits → Option Frame → Type 0
 Found limits o = (f : Frame) × (o ≡ Some f) × IsChecked limits f
@@ -140,9 +153,3 @@ framed before e = by (has_frame before) e
     by : (b : Bool) → code_fault_if b 0xda ≡ None → b ≡ true
     by true e = refl
     by false e = cc
-
--- THE LAW
-pub header_checked : (limits : Limits) (front : List ℕ) (before : List Segment) (contents : List ℕ) → IsHeader limits front before contents → IsChecked limits (frame_of limits before)
-header_checked limits front before contents is =
-    let r = frame_found limits before is.passed.2 (framed before is.passed.0) in
-    subst (λ f. IsChecked limits f) (sym (ap (λ o. unwrap_or o no_frame) r.1)) r.2

@@ -18,8 +18,7 @@ use Rattle.jpg_spec.specs.declared.fault.Fault.{Fault}
 use Rattle.jpg_spec.specs.declared.fault.Fault.TheVariants.{NoMarker, MissingComponent}
 use Rattle.jpg_spec.specs.declared.frame.Limits.{Limits}
 use Rattle.jpg_spec.proofs.HeadersOnce.{items_of, segments_of_items}
-use Rattle.jpg_spec.proofs.SingleFrame.{no_heads}
-use Rattle.jpg_spec.proofs.SingleMeans.{front_items, header_leads}
+use Rattle.jpg_spec.proofs.BeforeScans.{no_heads, front_items, header_leads}
 use Rattle.jpg_spec.proofs.FrameFound.{frame_found}
 use Rattle.jpg_spec.proofs.Common.{same_of, neither}
 

@@ -10,7 +10,7 @@ use Rattle.jpg_spec.specs.Moves.{zigzag, mirrored, mirrored_down}
 use Rattle.jpg_spec.specs.Transposed.{exchanged, transposed}
 use Rattle.jpg_spec.specs.Transforms.{signed, turned_over}
 use Rattle.jpg_spec.specs.Written.{IsWritable}
-use Rattle.jpg_spec.proofs.Turned.{IsBlock}
+use Rattle.jpg_spec.proofs.MirroredBlocks.{IsBlock}
 use Rattle.jpg_spec.proofs.Within.{mirrored_writable}
 use Rattle.jpg_spec.proofs.BlockLaws.{length_transposed, down_is}
 

@@ -26,13 +26,12 @@ use Rattle.jpg_spec.specs.declared.frame.Component.{Component}
 use Rattle.jpg_spec.specs.declared.transform.PictureFault.TheVariants.{GrayColour, GrayFactors}
 use Rattle.jpg_spec.specs.declared.transform.Transform.{Transform}
 use Rattle.jpg_spec.specs.declared.transform.Transform.TheVariants.{Keep, FlipH, FlipV, Transpose, Transverse, Rotate90, Rotate180, Rotate270}
-use Rattle.jpg_spec.proofs.Common.{same_of}
+use Rattle.jpg_spec.proofs.Common.{same_of, equal_itself}
 use Rattle.jpg_spec.proofs.Rows.{map_map}
 use Rattle.jpg_spec.proofs.BlockLaws.{length_transposed}
 use Rattle.jpg_spec.proofs.PlacesFound.{or_first, or_second}
 use Rattle.jpg_spec.proofs.Within.{mirrored_writable}
 use Rattle.jpg_spec.proofs.WrittenQuants.{is_in, equal_swap, distinct_has}
-use Rattle.jpg_spec.proofs.PlainText.{equal_itself}
 use Rattle.jpg_spec.proofs.WrittenFront.{frame_component}
 use Rattle.jpg_spec.proofs.WrittenHeading.{heading, other_process}
 use Rattle.jpg_spec.proofs.MovedBounds.{transposed_writable, mirrored_down_writable}

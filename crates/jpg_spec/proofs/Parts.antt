@@ -9,12 +9,11 @@ use Rattle.jpg_spec.specs.Bits.{bits_of}
 use Rattle.jpg_spec.specs.Codes.{Code}
 use Rattle.jpg_spec.specs.Numbers.{category, extra_bits, digits}
 use Rattle.jpg_spec.specs.Elements.{Coding, UnitLeft, Standing, Element, difference, value, long_run, ends, Tells, SpellsElement, codes_due, is_zero, zeros_in, nonzeros_in, old_values, scaled, corrected, going_on}
-use Rattle.jpg_spec.proofs.Told.{before_zero, behind_zero}
+use Rattle.jpg_spec.proofs.Told.{before_zero, behind_zero, at_zero}
 use Rattle.jpg_spec.specs.Parts.{BeginsCode, IsFront, InCode, InDifference, InNumber, InCount, InValue, InLong, InEnds, WantsCorrection, PartOfElement, in_code, in_difference, in_number, in_count, in_value, in_long, in_ends}
 use Rattle.jpg_spec.proofs.Facts.{facts}
 use Rattle.jpg_spec.proofs.ExtraBits.{number_of_bits, value_of_bits}
 use Rattle.jpg_spec.proofs.MarkersOnce.{no_head}
-use Rattle.jpg_spec.proofs.Telling.{at_zero}
 use Rattle.jpg_spec.proofs.Bands.{nonzeros-append}
 use Rattle.jpg_spec.proofs.Common.{lt_of, not_lt_of, clash}
 

@@ -18,7 +18,6 @@ use Rattle.jpg_spec.specs.declared.fault.Fault.TheVariants.{RepeatedScan, Progre
 use Rattle.jpg_spec.specs.declared.frame.Place.{Place}
 use Rattle.jpg_spec.specs.declared.frame.ScanPart.{ScanPart}
 use Rattle.jpg_spec.proofs.Rows.{map_map}
-use Rattle.jpg_spec.proofs.PlainText.{equal_itself}
 use Rattle.jpg_spec.proofs.PlacedBlocks.{Each}
 use Rattle.jpg_spec.proofs.WrittenHead.{IsPartOf, IsSpoken}
 use Rattle.jpg_spec.proofs.WrittenScan.{scan_rows}
@@ -28,7 +27,7 @@ use Rattle.jpg_spec.proofs.FlatTables.{flat_valid, valid_tellable}
 use Rattle.jpg_spec.proofs.ProgressiveRows.{progressive_coded}
 use Rattle.jpg_spec.proofs.ProgressiveCodes.{symbols_few}
 use Rattle.jpg_spec.proofs.ProgressiveKnown.{IsProgressiveEntry}
-use Rattle.jpg_spec.proofs.Common.{not_refused}
+use Rattle.jpg_spec.proofs.Common.{not_refused, equal_itself}
 
 -- THE HEAD
 

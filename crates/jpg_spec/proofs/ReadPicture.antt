@@ -29,18 +29,17 @@ use Rattle.jpg_spec.specs.declared.frame.Component.{Component}
 use Rattle.jpg_spec.specs.declared.frame.Limits.{Limits}
 use Rattle.jpg_spec.proofs.Common.{same_of}
 use Rattle.jpg_spec.proofs.Common.{both}
-use Rattle.jpg_spec.proofs.Rows.{map_map, by_items, all_front, all_back, at_below}
+use Rattle.jpg_spec.proofs.Rows.{map_map, by_items, all_front, all_back, at_below, all_reverse}
 use Rattle.jpg_spec.proofs.Common.{length_below}
-use Rattle.jpg_spec.proofs.Turned.{all_reverse}
 use Rattle.jpg_spec.proofs.Common.{not_zero}
 use Rattle.jpg_spec.proofs.FrameFound.{framed}
 use Rattle.jpg_spec.proofs.FrameBehind.{leads_pass, frame_behind}
 use Rattle.jpg_spec.proofs.FirstPasses.{head_at, all_below}
 use Rattle.jpg_spec.proofs.Untouched.{frame_stays}
-use Rattle.jpg_spec.proofs.SingleFrame.{no_heads}
+use Rattle.jpg_spec.proofs.BeforeScans.{no_heads}
 use Rattle.jpg_spec.proofs.Common.{neither}
-use Rattle.jpg_spec.proofs.SingleKept.{may_keep, input_count}
-use Rattle.jpg_spec.proofs.SingleTables.{AllContents, IsByte, AreEntries, IsQuants, in_force_quants, in_force_entries}
+use Rattle.jpg_spec.proofs.KeptMarkers.{may_keep, input_count}
+use Rattle.jpg_spec.proofs.QuantsInForce.{AllContents, IsByte, AreEntries, IsQuants, in_force_quants, in_force_entries}
 use Rattle.jpg_spec.proofs.WrittenFront.{frame_is}
 use Rattle.jpg_spec.proofs.Ranges.{leads_in_range}
 use Rattle.jpg_spec.proofs.SameNumbers.{numbers_of, SameNumbers, same_frame, is_place, same_places}

@@ -14,7 +14,7 @@ use Rattle.jpg_spec.specs.Sound.{IsSound, AreTables}
 use Rattle.jpg_spec.specs.FileMeaning.{scan_after}
 use Rattle.jpg_spec.specs.declared.fault.Fault.TheVariants.{BadLength, BadHuffman}
 use Rattle.jpg_spec.specs.declared.frame.Limits.{Limits}
-use Rattle.jpg_spec.proofs.Turned.{all_reverse}
+use Rattle.jpg_spec.proofs.Rows.{all_reverse}
 use Rattle.jpg_spec.proofs.Sound.{sound}
 use Rattle.jpg_spec.proofs.Common.{refused}
 

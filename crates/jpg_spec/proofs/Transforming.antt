@@ -15,7 +15,7 @@ use Rattle.jpg_spec.specs.Laws.{with_blocks}
 use Rattle.jpg_spec.specs.declared.transform.Transform.{Transform}
 use Rattle.jpg_spec.specs.declared.transform.Transform.TheVariants.{Keep, FlipH, FlipV, Transpose, Transverse, Rotate90, Rotate180, Rotate270}
 use Rattle.jpg_spec.proofs.Rows.{map_map, map_alike}
-use Rattle.jpg_spec.proofs.Turned.{IsBlock, mirrored_block, mirrored_twice}
+use Rattle.jpg_spec.proofs.MirroredBlocks.{IsBlock, mirrored_block, mirrored_twice}
 use Rattle.jpg_spec.proofs.BlockLaws.{length_transposed, transposed_twice, mirrored_transposed, mirrored_down_transposed, mirrored_both, mirrored_down_block, mirrored_down_twice}
 use Rattle.jpg_spec.proofs.Common.{lt_yes, lt_no}
 

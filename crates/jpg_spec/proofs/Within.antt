@@ -1,25 +1,14 @@
--- What a sequential scan tells of each unit lies in the bounds, and so does what is written of the mirrored blocks.
+-- An element tells as many values of a unit as it takes from it, all in the bounds; and so are blocks that are mirrored.
 use Rattle.std.proofs.Common.{◌≡◌, ℕ, zero, suc, ◌+◌, ◌%◌, ◌^◌, ◌<◌, ◌≤◌, Bool, true, false, cond, List, [], ◌∷◌, ◌++◌, length, take, drop, refl, sym, ap, ◌∙◌, subst, arith, inl, inr, lit<, ℤ, pos, negsuc, ◌==◌, ◌&&◌}
-use Rattle.std.specs.Prelude.{◌⊎◌, map, flat_map, int_le, nat_abs, neg_ℤ}
-use Rattle.std.specs.List.{All}
+use Rattle.std.specs.Prelude.{◌⊎◌, int_le, nat_abs, neg_ℤ}
 use Rattle.std.proofs.Math.Nat.{pow-le-pow_right}
 use Rattle.std.proofs.lemmas.List.{append_assoc, append-nil, length-append}
-use Rattle.std.proofs.lemmas.List.Elements.{All-head, All-tail, All-nil, All-cons, All-map}
-use Rattle.std.proofs.lemmas.List.Folds.{flat_map-map}
-use Rattle.jpg_spec.specs.Bits.{whole_bytes, padded, data_of}
 use Rattle.jpg_spec.specs.Numbers.{digits}
-use Rattle.jpg_spec.specs.Elements.{Coding, UnitLeft, Standing, Element, difference, dc_bit, value, long_run, ends, Covers, Tells, SpellsUnits, going_on, old_values, corrected, is_zero, grown, scaled, zeros_in, predictions_after, are_in_bounds, new_unit}
-use Rattle.jpg_spec.specs.Moves.{zigzag, mirrored, headed}
-use Rattle.jpg_spec.specs.ScanText.{UnitDue, gray_frame, gray_head, gray_coding}
-use Rattle.jpg_spec.specs.GrayFile.{Gray, IsGray, SpellsGray, gray_meaning, flipped_gray, turned_text}
-use Rattle.jpg_spec.specs.Written.{IsWritable, plain_bits}
-use Rattle.jpg_spec.specs.FileText.{sequential_text}
+use Rattle.jpg_spec.specs.Elements.{Coding, UnitLeft, Element, difference, dc_bit, value, long_run, ends, Tells, going_on, old_values, corrected, is_zero, grown, scaled, zeros_in, are_in_bounds}
+use Rattle.jpg_spec.specs.Moves.{zigzag, mirrored}
+use Rattle.jpg_spec.specs.Written.{IsWritable}
 use Rattle.jpg_spec.proofs.Facts.{below_digits}
-use Rattle.jpg_spec.proofs.Packing.{packs, data_spelled}
-use Rattle.jpg_spec.proofs.Sequential.{written_spells}
-use Rattle.jpg_spec.proofs.Rows.{append_apart, map_map}
-use Rattle.jpg_spec.proofs.Turned.{mirror_at, mirrored_is, mirrored_block, flipped_is, flipped_all, flipped_twice, flipped_meaning_is}
-use Rattle.jpg_spec.proofs.PlainText.{plain_text}
+use Rattle.jpg_spec.proofs.MirroredBlocks.{mirror_at, mirrored_is, mirrored_block}
 use Rattle.jpg_spec.proofs.Common.{both, and_intro, bounds_join}
 
 -- JOINED VALUES
@@ -115,33 +104,6 @@ ends_one c p (value run' v bits) u units here left run t = tt
 ends_one c p (long_run bits) u units here left run t = tt
 ends_one c p (ends bands bits) u units here left run t = one_band bands t.1 (omega (arith, t.2, run))
 
-pub covers_within : (c : Coding) (s t : Standing) (es : List Element) (told : List ℤ) (bits : List Bool) → c.most_run ≡ 0 → Covers c s es told bits t → t.left ≡ [] → AreWithin c s.left told
-covers_within c s t [] told bits run k none = subst (λ l. AreWithin c l told) (sym (ap (λ (q : Standing). q.left) (sym k.2) ∙ none)) k.0
-covers_within c s t (e ∷ es) told bits run k none =
-    let ih = covers_within c (record { predictions = predictions_after s.predictions (k.0).component e; left = k.3 }) t es k.4 k.6 run k.13 none in
-    let here : AreWithin c (k.0 ∷ k.1) (k.2 ++ k.4) = step c (s.predictions (k.0).component) e k.0 k.1 k.2 k.3 k.4 (ends_one c (s.predictions (k.0).component) e k.0 k.1 k.2 k.3 run k.11) k.11 k.12 ih in
-    subst (λ l. AreWithin c l told) (sym k.7) (subst (λ x. AreWithin c (k.0 ∷ k.1) x) (sym k.8) here)
-
--- BLOCKS
-
-abbrev pub IsWithin : Coding → List ℤ → Type 0
-IsWithin c block = are_in_bounds c true block ≡ true
-
-pub blocks_within : (c : Coding) (blocks : List (List ℤ)) → All (λ block. length block ≡ 64) blocks → AreWithin c (map (λ block. new_unit 0) blocks) (flat_map (λ block. block) blocks)
-    → All (λ block. IsWritable c (0, block)) blocks
-blocks_within c [] all w = All-nil (λ block. IsWritable c (0, block))
-blocks_within c (block ∷ blocks) all w =
-    let l = All-head (λ block. length block ≡ 64) block blocks all in
-    let apart = append_apart block w.0 (flat_map (λ block. block) blocks) w.1 (omega (arith, l, w.3)) w.2 in
-    let b : are_in_bounds c true block ≡ true = subst (λ x. are_in_bounds c true x ≡ true) (sym apart.0) w.4 in
-    All-cons (λ block. IsWritable c (0, block)) block blocks (l, b)
-    (blocks_within c blocks (All-tail (λ block. length block ≡ 64) block blocks all) (subst (λ x. AreWithin c (map (λ block. new_unit 0) blocks) x) (sym apart.1) w.5))
-
-pub gray_within : (bytes : List ℕ) (g : Gray) → SpellsGray bytes g → All (λ block. IsWritable gray_coding (0, block)) g.blocks
-gray_within bytes g s =
-    let k = s.spelled in
-    blocks_within gray_coding g.blocks s.is_gray.blocks.1 (covers_within gray_coding _ k.1 k.0 (flat_map (λ block. block) g.blocks) s.bits refl k.2 k.3)
-
 -- MIRRORED BLOCKS
 
 same_magnitude : (b : Bool) (v : ℤ) → nat_abs (cond b (neg_ℤ v) v) ≡ nat_abs v
@@ -166,36 +128,3 @@ mirror_within c places (v ∷ block) ok =
 
 pub mirrored_writable : (c : Coding) (block : List ℤ) → IsWritable c (0, block) → IsWritable c (0, mirrored block)
 mirrored_writable c block h = (mirrored_block block h.0, subst (λ x. are_in_bounds c true x ≡ true) (sym (mirrored_is block)) (mirror_within c (drop 1 zigzag) block h.1))
-
-pub flipped_within : (bytes : List ℕ) (g : Gray) → SpellsGray bytes g → All (λ block. IsWritable gray_coding (0, block)) (flipped_gray g).blocks
-flipped_within bytes g s =
-    flipped_all g (λ block. IsWritable gray_coding (0, block)) (λ block. IsWritable gray_coding (0, block)) s.is_gray (mirrored_writable gray_coding) (gray_within bytes g s)
-
--- THE LAW: what is written of a picture is a plain file of it
-
-pub written_spelled : (g : Gray) → IsGray g → All (λ block. IsWritable gray_coding (0, block)) g.blocks → SpellsGray (sequential_text (headed (gray_meaning g))) g
-unfolding plain_bits
-written_spelled g is within =
-    let pair : List ℤ → UnitDue = λ block. (0, block) in
-    let bits = plain_bits g.blocks in
-    let ok : All (λ u. IsWritable gray_coding u) (map pair g.blocks) = All-map (λ u. IsWritable gray_coding u) pair g.blocks within in
-    let spelled = written_spells (gray_frame 8 8) gray_head (map pair g.blocks) refl refl ok in
-    let units : map (λ (u : UnitDue). new_unit u.0) (map pair g.blocks) ≡ map (λ block. new_unit 0) g.blocks = map_map (λ (u : UnitDue). new_unit u.0) pair g.blocks in
-    let values : flat_map (λ (u : UnitDue). u.1) (map pair g.blocks) ≡ flat_map (λ block. block) g.blocks = flat_map-map (λ (u : UnitDue). u.1) pair g.blocks in
-    record {
-      is_gray = is;
-      bits = bits;
-      coded = whole_bytes (padded bits);
-      text = data_of bits;
-      spelled = subst (λ us. SpellsUnits gray_coding us (flat_map (λ block. block) g.blocks) bits) units (subst (λ vs. SpellsUnits gray_coding (map (λ (u : UnitDue). new_unit u.0) (map pair g.blocks)) vs bits) values spelled);
-      packed = packs bits;
-      stuffed = data_spelled (whole_bytes (padded bits));
-      cut = plain_text g is;
-    }
-
-pub turned_spelled : (bytes : List ℕ) (g : Gray) → SpellsGray bytes g → SpellsGray (turned_text g) (flipped_gray g)
-turned_spelled bytes g s =
-    subst (λ M. SpellsGray (sequential_text (headed M)) (flipped_gray g)) (flipped_meaning_is g s.is_gray) (written_spelled (flipped_gray g) (flipped_is g s.is_gray) (flipped_within bytes g s))
-
-pub turned_again : (bytes : List ℕ) (g : Gray) → SpellsGray bytes g → SpellsGray (turned_text (flipped_gray g)) g
-turned_again bytes g s = subst (λ h. SpellsGray (turned_text (flipped_gray g)) h) (flipped_twice g s.is_gray) (turned_spelled (turned_text g) (flipped_gray g) (turned_spelled bytes g s))

@@ -10,7 +10,7 @@ use Rattle.jpg_spec.specs.Scan.{TablesInForce, codes_of, part_of, scan_coding}
 use Rattle.jpg_spec.specs.ScanText.{UnitDue, typical_table, typical_tables}
 use Rattle.jpg_spec.specs.Written.{IsWritable, sequential_bits, SpellsDue}
 use Rattle.jpg_spec.proofs.Sequential.{written_spells}
-use Rattle.jpg_spec.proofs.SingleAgain.{same_within}
+use Rattle.jpg_spec.proofs.Common.{same_within}
 use Rattle.jpg_spec.proofs.PlacedBlocks.{Each, each_all}
 
 -- THE CODES of the components of the units matter alone

@@ -23,7 +23,7 @@ use Rattle.jpg_spec.specs.declared.fault.Fault.TheVariants.{EmptyImage, TooLarge
 use Rattle.jpg_spec.specs.declared.frame.Component.{Component}
 use Rattle.jpg_spec.specs.declared.frame.Limits.{Limits}
 use Rattle.jpg_spec.proofs.Full.{passed}
-use Rattle.jpg_spec.proofs.SingleKept.{IsPassedOn, ArePassedOn, passes_more, kept_alone, may_keep}
+use Rattle.jpg_spec.proofs.KeptMarkers.{IsPassedOn, ArePassedOn, passes_more, kept_alone, may_keep}
 use Rattle.jpg_spec.proofs.TablesInForce.{affirmed}
 use Rattle.jpg_spec.proofs.Common.{both, negated, le_of, not_lt_of, same_of, neither, same_itself, refused, not_refused}
 

@@ -1,8 +1,9 @@
 -- The file that is written in a sequential script means its picture.
-use Rattle.std.proofs.Common.{◌≡◌, ℕ, ◌<◌, ◌≤◌, Bool, true, false, cond, List, [], ◌∷◌, ◌++◌, length, refl, sym, ap, ◌∙◌, Some, None, ◌&&◌}
+use Rattle.std.proofs.Common.{◌≡◌, ℕ, ◌<◌, ◌≤◌, Bool, true, false, cond, List, [], ◌∷◌, ◌++◌, length, refl, sym, ap, ◌∙◌, arith, Some, None, ◌&&◌}
 use Rattle.std.specs.Prelude.{map, reverse, nat_lt, unwrap_or}
 use Rattle.std.proofs.Math.Path.{fun_ext}
 use Rattle.std.proofs.lemmas.List.{append-nil, reverse-reverse, length-map}
+use Rattle.jpg_spec.specs.Bits.{IsMarkerCode}
 use Rattle.jpg_spec.specs.Lists.{all_of, is_among, below}
 use Rattle.jpg_spec.specs.Geometry.{is_progressive, is_real}
 use Rattle.jpg_spec.specs.FrameHeader.{AreLimits}
@@ -21,7 +22,6 @@ use Rattle.jpg_spec.specs.WrittenFile.{IsHeaded, is_script_behind, IsRestart}
 use Rattle.jpg_spec.specs.declared.frame.Component.{Component}
 use Rattle.jpg_spec.specs.declared.frame.Limits.{Limits}
 use Rattle.jpg_spec.proofs.Rows.{by_items}
-use Rattle.jpg_spec.proofs.OneFile.{end_is_marker}
 use Rattle.jpg_spec.proofs.WrittenFront.{frame_is, frame_component}
 use Rattle.jpg_spec.proofs.WrittenStart.{component_at_is, starts}
 use Rattle.jpg_spec.proofs.WrittenState.{Sends, quants_due}
@@ -78,6 +78,9 @@ meaning_again limits H segments blocks headed is =
     ∙ ap (λ bs. of H.components bs (reverse (kept_after segments))) (blocks_again limits H segments blocks headed is) ∙ ap (of H.components H.blocks) kept)
 
 -- THE END: items that come to a whole picture, and EOI
+
+end_is_marker : IsMarkerCode 0xd9
+end_is_marker = (λ e. omega (arith, e), λ e. omega (arith, e))
 
 same_tests : (a b : ℕ → Bool) (xs : List ℕ) → ((i : ℕ) → a i ≡ b i) → all_of a xs ≡ all_of b xs
 same_tests a b [] h = refl

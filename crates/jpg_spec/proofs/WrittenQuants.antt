@@ -8,12 +8,11 @@ use Rattle.jpg_spec.specs.Segments.{QuantTable}
 use Rattle.jpg_spec.specs.QuantContents.{pairs_told, quant_tables}
 use Rattle.jpg_spec.specs.Moves.{is_wide}
 use Rattle.jpg_spec.specs.FileText.{distinct_after, slot_in}
-use Rattle.jpg_spec.proofs.PlainText.{equal_itself}
-use Rattle.jpg_spec.proofs.SingleTables.{IsQuants, AreTwoBytes, pairs_again, length_pairs_written, one_table}
+use Rattle.jpg_spec.proofs.QuantsInForce.{IsQuants, AreTwoBytes, pairs_again, length_pairs_written, one_table}
 use Rattle.jpg_spec.proofs.PlacedBlocks.{Each}
 use Rattle.jpg_spec.proofs.WrittenState.{equal_lists}
 use Rattle.jpg_spec.proofs.PlacesFound.{or_first, or_second}
-use Rattle.jpg_spec.proofs.Common.{same_of, same_itself}
+use Rattle.jpg_spec.proofs.Common.{same_of, same_itself, equal_itself}
 
 -- THE SEGMENT of a table in a slot
 

@@ -24,7 +24,6 @@ use Rattle.jpg_spec.specs.declared.frame.Place.{Place}
 use Rattle.jpg_spec.specs.declared.frame.ScanPart.{ScanPart}
 use Rattle.jpg_spec.specs.declared.frame.Limits.{Limits}
 use Rattle.jpg_spec.specs.Elements.{new_unit}
-use Rattle.jpg_spec.proofs.SingleAgain.{same_within}
 use Rattle.jpg_spec.proofs.PictureInWork.{leads_sizes}
 use Rattle.jpg_spec.proofs.FirstPasses.{sequential_unit}
 use Rattle.jpg_spec.proofs.PlacesSome.{units_some, chunks_some}
@@ -35,7 +34,7 @@ use Rattle.jpg_spec.proofs.WrittenHead.{IsSpoken, head_contents}
 use Rattle.jpg_spec.proofs.WrittenState.{IsSent, Sends, quants_due, tables_step, interval_step}
 use Rattle.jpg_spec.proofs.WrittenStep.{ids_of, intervals_text_spelled, rule_is, head_in_is, scan_is, scan_step}
 use Rattle.jpg_spec.proofs.WrittenSequential.{plain_part, plain_head, plain_components, IsEntry, entry_is, among_below, plain_spoken, plain_needed, needed_tellable, IsGiven, all_given, typical_given, sequential_admitted, plain_data, scans_are}
-use Rattle.jpg_spec.proofs.Common.{both, neither}
+use Rattle.jpg_spec.proofs.Common.{both, neither, same_within}
 
 -- a meaning that may be written in sequential scans
 pub record IsFit (H : Meaning) : Type 0 where

@@ -28,15 +28,13 @@ use Rattle.jpg_spec.specs.declared.frame.Process.{Process}
 use Rattle.jpg_spec.specs.declared.frame.Process.TheVariants.{Baseline, Extended, Progressive}
 use Rattle.jpg_spec.specs.declared.frame.Component.{Component}
 use Rattle.jpg_spec.specs.declared.frame.Limits.{Limits}
-use Rattle.jpg_spec.proofs.Turned.{all_reverse}
-use Rattle.jpg_spec.proofs.PlainText.{equal_itself}
+use Rattle.jpg_spec.proofs.Rows.{all_reverse}
+use Rattle.jpg_spec.proofs.Common.{equal_itself}
 use Rattle.jpg_spec.proofs.HeadersOnce.{items_of, segments_of_items}
-use Rattle.jpg_spec.proofs.SingleFrame.{no_quant, no_heads}
-use Rattle.jpg_spec.proofs.SingleAgain.{two_bytes_each}
-use Rattle.jpg_spec.proofs.SingleMeans.{front_items, header_leads}
-use Rattle.jpg_spec.proofs.SingleKept.{text_behind, kept_spelled, no_frame_in, no_scan_in, no_restart_in, all_kept}
-use Rattle.jpg_spec.proofs.SingleTables.{IsQuants, AreTwoBytes}
-use Rattle.jpg_spec.proofs.SingleOutput.{code_is, frame_code}
+use Rattle.jpg_spec.proofs.BeforeScans.{no_quant, no_heads, front_items, header_leads}
+use Rattle.jpg_spec.proofs.KeptMarkers.{text_behind, kept_spelled, no_frame_in, no_scan_in, no_restart_in, all_kept}
+use Rattle.jpg_spec.proofs.QuantsInForce.{IsQuants, AreTwoBytes, two_bytes_each}
+use Rattle.jpg_spec.proofs.FrameCodes.{code_is, frame_code}
 use Rattle.jpg_spec.proofs.PlacedBlocks.{Each}
 use Rattle.jpg_spec.proofs.WrittenQuants.{slot_contents, slot_told, slot_short, is_in, distinct_has, distinct_each, each_in, SlotTable, IsSlotOf, has_table, slot_found}
 use Rattle.jpg_spec.proofs.WrittenFront.{frame_is, frame_component, frame_contents, frame_told_is, frame_short, markers_passed, markers_pass, no_tables}

@@ -22,7 +22,7 @@ use Rattle.jpg_spec.specs.Items.{Item, segment, segments_of, SpellsFront, fault_
 use Rattle.jpg_spec.specs.FileMeaning.{Leads}
 use Rattle.jpg_spec.specs.FileText.{Written, segment_text, frame_of_meaning, holds_table, with_table, tables_text, tables_given}
 use Rattle.jpg_spec.specs.declared.frame.Limits.{Limits}
-use Rattle.jpg_spec.proofs.SingleKept.{text_spells}
+use Rattle.jpg_spec.proofs.KeptMarkers.{text_spells}
 use Rattle.jpg_spec.proofs.PlacedBlocks.{Each}
 use Rattle.jpg_spec.proofs.Common.{both, same_of}
 

@@ -21,7 +21,7 @@ use Rattle.jpg_spec.specs.FileText.{Written, segment_text, frame_of_meaning, hea
 use Rattle.jpg_spec.specs.declared.frame.Limits.{Limits}
 use Rattle.jpg_spec.proofs.Rows.{map_map}
 use Rattle.jpg_spec.proofs.Packing.{data_spelled}
-use Rattle.jpg_spec.proofs.SingleKept.{text_spells}
+use Rattle.jpg_spec.proofs.KeptMarkers.{text_spells}
 use Rattle.jpg_spec.proofs.WrittenHead.{IsSpoken, head_contents, head_spoken, head_short}
 use Rattle.jpg_spec.proofs.WrittenState.{IsSent, quants_due}
 

@@ -44,9 +44,7 @@ ends_words index (word ∷ words) x = usage_at TooManyFiles index
 
 abbrev pub wrong_switch : {X : Type 0} → ℕ → Option Purpose → WordsTold X
 wrong_switch index (Some LeftOut) = usage_at LeftOutSwitch index
-wrong_switch index (Some Replacing) = usage_at UnknownSwitch index
-wrong_switch index (Some CommentGiven) = usage_at UnknownSwitch index
-wrong_switch index (Some CommentInFile) = usage_at UnknownSwitch index
+wrong_switch index (Some other) = usage_at UnknownSwitch index
 wrong_switch index None = usage_at UnknownSwitch index
 
 abbrev pub read_asked : ℕ → List (List ℕ) → WordsTold FilesAsked
@@ -83,6 +81,7 @@ by_purpose index replaced given in_file (Some Replacing) = replaced
 by_purpose index replaced given in_file (Some CommentGiven) = given
 by_purpose index replaced given in_file (Some CommentInFile) = in_file
 by_purpose index replaced given in_file (Some LeftOut) = usage_at LeftOutSwitch index
+by_purpose index replaced given in_file (Some other) = usage_at UnknownSwitch index
 by_purpose index replaced given in_file None = usage_at UnknownSwitch index
 
 -- From the word of this index on, after words that said whether to replace and where the comment comes from.

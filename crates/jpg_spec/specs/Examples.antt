@@ -4,7 +4,7 @@ use Rattle.jpg_spec.specs.Geometry.{Frame}
 use Rattle.jpg_spec.specs.Elements.{zeros}
 use Rattle.jpg_spec.specs.Scan.{Blocks}
 use Rattle.jpg_spec.specs.Meaning.{Meaning, picture_frame}
-use Rattle.jpg_spec.specs.GrayFile.{Gray, gray_front, gray_meaning}
+use Rattle.jpg_spec.specs.ExampleFiles.{Gray, gray_front, gray_meaning}
 use Rattle.jpg_spec.specs.Markers.{eoi}
 use Rattle.jpg_spec.specs.Moves.{headed}
 use Rattle.jpg_spec.specs.Transforms.{transformed}

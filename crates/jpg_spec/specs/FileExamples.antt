@@ -8,7 +8,7 @@ use Rattle.jpg_spec.specs.Meaning.{Meaning}
 use Rattle.jpg_spec.specs.Moves.{headed}
 use Rattle.jpg_spec.specs.Script.{Entry}
 use Rattle.jpg_spec.specs.FileText.{segment_text, sof_code}
-use Rattle.jpg_spec.specs.GrayFile.{plain_jfif, plain_frame, gray_meaning}
+use Rattle.jpg_spec.specs.ExampleFiles.{plain_jfif, plain_frame, gray_meaning}
 use Rattle.jpg_spec.specs.Markers.{soi, eoi}
 use Rattle.jpg_spec.specs.Examples.{ones, gray_of, three_components}
 use Rattle.jpg_spec.specs.declared.frame.Process.{Process}

@@ -2,7 +2,7 @@
 use Rattle.std.specs.Prelude.{ℕ, List, [], ◌∷◌, ◌++◌}
 use Rattle.jpg_spec.specs.Typical.{dc_luma_counts, dc_luma_values, ac_luma_counts, ac_luma_values}
 use Rattle.jpg_spec.specs.Markers.{Segment}
-use Rattle.jpg_spec.specs.GrayFile.{plain_frame}
+use Rattle.jpg_spec.specs.ExampleFiles.{plain_frame}
 use Rattle.jpg_spec.specs.Examples.{ones}
 
 -- SEGMENTS

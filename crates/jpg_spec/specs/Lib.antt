@@ -15,7 +15,7 @@ pub mod FirstFault
 pub mod FrameContents
 pub mod FrameHeader
 pub mod Geometry
-pub mod GrayFile
+pub mod ExampleFiles
 pub mod Header
 pub mod History
 pub mod HistoryExamples
@@ -46,10 +46,10 @@ pub mod ScanText
 pub mod Script
 pub mod Segments
 pub mod Sending
-pub mod SingleScan
 pub mod Sound
 pub mod Strips
 pub mod Switches
+pub mod TransformWords
 pub mod Transforms
 pub mod Transposed
 pub mod Typical

@@ -3,7 +3,7 @@ use Rattle.std.specs.Prelude.{ℕ, ◌+◌, Bool, false, nat_le, ◌&&◌, ◌==
 use Rattle.jpg_spec.specs.Lists.{begins_with}
 use Rattle.jpg_spec.specs.Markers.{is_within}
 use Rattle.jpg_spec.specs.declared.switch.Purpose.{Purpose}
-use Rattle.jpg_spec.specs.declared.switch.Purpose.TheVariants.{LeftOut, Replacing, CommentGiven, CommentInFile}
+use Rattle.jpg_spec.specs.declared.switch.Purpose.TheVariants.{LeftOut, Replacing, CommentGiven, CommentInFile, CopyingGiven, FlipGiven, RotationGiven, Transposing, TransposingAcross, Trimming, Graying, OutputNamed, ProgressiveAsked, ScriptInFile, RestartGiven}
 
 -- a word that begins with a hyphen
 abbrev pub is_switch : List ℕ → Bool
@@ -20,9 +20,12 @@ pub record Switch : Type 0 where
   pub shortest : ℕ
   pub purpose : Purpose
 
--- The letters are the beginning of the name, in any case, and no fewer than its shortest form.
+-- Letters stand for a name whose beginning they are, in any case, where there are no fewer than its shortest form has.
+abbrev pub stands_for : ℕ → List ℕ → List ℕ → Bool
+stands_for shortest name letters = nat_le shortest (length letters) && begins_with (map lower letters) name
+
 abbrev pub is_match : List ℕ → Switch → Bool
-is_match letters s = nat_le s.shortest (length letters) && begins_with (map lower letters) s.name
+is_match letters s = stands_for s.shortest s.name letters
 
 -- the purpose of a word that begins with a hyphen, in a command with these switches
 abbrev pub purpose_of : List Switch → List ℕ → Option Purpose
@@ -36,3 +39,24 @@ wrjpgcom_switches =
     record { name = codes "replace"; shortest = 1; purpose = Replacing }
     ∷ record { name = codes "comment"; shortest = 1; purpose = CommentGiven }
     ∷ record { name = codes "cfile"; shortest = 2; purpose = CommentInFile } ∷ []
+
+abbrev pub jpegtran_switches : List Switch
+jpegtran_switches =
+    record { name = codes "copy"; shortest = 1; purpose = CopyingGiven }
+    ∷ record { name = codes "flip"; shortest = 1; purpose = FlipGiven }
+    ∷ record { name = codes "grayscale"; shortest = 1; purpose = Graying }
+    ∷ record { name = codes "greyscale"; shortest = 1; purpose = Graying }
+    ∷ record { name = codes "outfile"; shortest = 4; purpose = OutputNamed }
+    ∷ record { name = codes "progressive"; shortest = 1; purpose = ProgressiveAsked }
+    ∷ record { name = codes "restart"; shortest = 1; purpose = RestartGiven }
+    ∷ record { name = codes "rotate"; shortest = 2; purpose = RotationGiven }
+    ∷ record { name = codes "scans"; shortest = 1; purpose = ScriptInFile }
+    ∷ record { name = codes "transpose"; shortest = 1; purpose = Transposing }
+    ∷ record { name = codes "transverse"; shortest = 6; purpose = TransposingAcross }
+    ∷ record { name = codes "trim"; shortest = 3; purpose = Trimming }
+    ∷ record { name = codes "optimize"; shortest = 1; purpose = LeftOut }
+    ∷ record { name = codes "optimise"; shortest = 1; purpose = LeftOut }
+    ∷ record { name = codes "arithmetic"; shortest = 1; purpose = LeftOut }
+    ∷ record { name = codes "verbose"; shortest = 1; purpose = LeftOut }
+    ∷ record { name = codes "debug"; shortest = 1; purpose = LeftOut }
+    ∷ record { name = codes "maxmemory"; shortest = 3; purpose = LeftOut } ∷ []

@@ -1,8 +1,8 @@
 -- WHAT A SEQUENTIAL SCAN of precision 8 can write, and the units that it writes (T.81, F.1.2).
-use Rattle.std.specs.Prelude.{◌≡◌, Bool, true, false, List, length, map, flat_map, ℤ}
+use Rattle.std.specs.Prelude.{◌≡◌, Bool, true, false, List, length, map, flat_map}
 use Rattle.jpg_spec.specs.Segments.{ScanHead}
 use Rattle.jpg_spec.specs.Elements.{Coding, are_in_bounds, SpellsUnits, new_unit}
-use Rattle.jpg_spec.specs.ScanText.{UnitDue, element_bits, interval_elements, typical_table, gray_head}
+use Rattle.jpg_spec.specs.ScanText.{UnitDue, element_bits, interval_elements, typical_table}
 
 -- 64 values in the bounds
 abbrev pub IsWritable : Coding → UnitDue → Type 0
@@ -15,7 +15,3 @@ sequential_bits head due = flat_map (element_bits typical_table head) (interval_
 -- The bits are an interval of these units, which had no scan so far, and tell their values.
 abbrev pub SpellsDue : Coding → List UnitDue → List Bool → Type 0
 SpellsDue c due bits = SpellsUnits c (map (λ u. new_unit u.0) due) (flat_map (λ u. u.1) due) bits
-
--- the same of the blocks of component 0 in a plain file
-unfoldable pub plain_bits : List (List ℤ) → List Bool
-plain_bits blocks = sequential_bits gray_head (map (λ block. (0, block)) blocks)

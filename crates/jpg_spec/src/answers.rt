@@ -2,7 +2,7 @@
 ghost use Rattle.std.specs.Prelude.{◌≡◌};
 ghost use Rattle.jpg_spec.specs.Messages.{usage_name, which_name, status_of};
 
-use crate::Fault;
+use crate::{Fault, PictureFault};
 
 /// A fault, and how many input bytes show it.
 #[derive(Clone, Copy, Debug, PartialEq, Eq)]
@@ -92,6 +92,8 @@ pub enum Why {
     Usage(Usage),
     /// The input has this fault at this place.
     Refused(FaultAt),
+    /// The picture can't be written as it is asked for.
+    Picture(PictureFault),
     /// The desk didn't open or create this file.
     OpenFault(Which),
     /// The desk didn't read this file.

@@ -4,7 +4,7 @@ ghost use Rattle.jpg_spec.specs.Elements.{zeros};
 ghost use Rattle.jpg_spec.specs.Scan.{Blocks};
 ghost use Rattle.jpg_spec.specs.Geometry.{mcus_across, mcus_down, blocks_across, blocks_down, component_at, units};
 ghost use Rattle.jpg_spec.specs.Moves.{mirrored, flip_h};
-ghost use Rattle.jpg_spec.specs.GrayFile.{turned_text, SpellsGray};
+ghost use Rattle.jpg_spec.specs.ExampleFiles.{turned_text};
 ghost use Rattle.jpg_spec.specs.Examples.{smallest, two_values, extremes, plain_file, smallest_file, three_components, three_frame, three_units, real_at};
 
 /// The smallest gray file, 331 bytes, is turned left to right into itself.
@@ -61,19 +61,4 @@ pub fn components_have_real_and_padded_blocks()
 pub fn units_stand_in_order()
     ensures several { units three_frame (0 ∷ 1 ∷ 2 ∷ []) ≡ three_units }
     ensures single { units three_frame (1 ∷ []) ≡ real_at 1 0 0 ∷ real_at 1 1 0 ∷ [] }
-{}
-
-/// The data 2B are the smallest picture: 00 is DC 0, 1010 the end of the block, and two pad bits follow.
-pub fn smallest_file_is_spelled()
-    ensures { SpellsGray smallest_file smallest }
-{}
-
-/// The data 25 6A are the values 5 and 2: 00, 100 and 101, 01 and 10, 1010.
-pub fn two_values_are_spelled()
-    ensures { SpellsGray (plain_file two_values (0x25 ∷ 0x6a ∷ [])) two_values }
-{}
-
-/// Differences of -1024 and 2047, each of category 11, give bytes FF, which 00 follows on file.
-pub fn extremes_are_spelled()
-    ensures { SpellsGray (plain_file extremes (0xff ∷ 0x00 ∷ 0x3f ∷ 0xfa ∷ 0xff ∷ 0x00 ∷ 0x7f ∷ 0xfa ∷ [])) extremes }
 {}

@@ -6,10 +6,8 @@ mod answers;
 pub mod examples;
 mod fault;
 pub mod file_examples;
-pub mod file_laws;
 pub mod file_meaning_laws;
 mod frame;
-pub mod gray_laws;
 pub mod header_laws;
 pub mod history_examples;
 mod image;
@@ -23,6 +21,7 @@ mod switch;
 mod transform;
 pub mod transform_examples;
 pub mod transform_laws;
+pub mod word_examples;
 pub mod written_laws;
 
 pub use answers::{FaultAt, Usage, UsageFault, Which, Why};

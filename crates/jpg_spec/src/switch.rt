@@ -11,4 +11,26 @@ pub enum Purpose {
     CommentGiven,
     /// `-cfile`: the next word names the file that holds the comment.
     CommentInFile,
+    /// `-copy`: the next word says which kept markers are passed on.
+    CopyingGiven,
+    /// `-flip`: the next word says in which direction.
+    FlipGiven,
+    /// `-rotate`: the next word says by how many degrees.
+    RotationGiven,
+    /// `-transpose`
+    Transposing,
+    /// `-transverse`
+    TransposingAcross,
+    /// `-trim`: partial iMCUs that would stay where they are go.
+    Trimming,
+    /// `-grayscale`: the first component alone.
+    Graying,
+    /// `-outfile`: the next word names the output.
+    OutputNamed,
+    /// `-progressive`
+    ProgressiveAsked,
+    /// `-scans`: the next word names the file that holds the script.
+    ScriptInFile,
+    /// `-restart`: the next word says how many MCUs or rows of them an interval has.
+    RestartGiven,
 }

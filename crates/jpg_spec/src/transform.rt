@@ -1,4 +1,6 @@
 // The transforms of a picture (the manual of jpegtran).
+ghost use Rattle.std.specs.Prelude.{◌≡◌};
+ghost use Rattle.jpg_spec.specs.Messages.{picture_name};
 
 /// A lossless transform of a picture. Rotations are clockwise.
 #[derive(Clone, Copy, Debug, PartialEq, Eq)]
@@ -48,4 +50,22 @@ pub enum PictureFault {
         coefficient: u8,
         bit: Option<u8>,
     },
+}
+
+impl PictureFault {
+    /// Its name, as messages give it.
+    pub fn name(self) -> &'static str
+        ensures { result.now ≡ picture_name self }
+    {
+        match self {
+            PictureFault::GrayColour => "GrayColour",
+            PictureFault::GrayFactors => "GrayFactors",
+            PictureFault::FractionalFactors { .. } => "FractionalFactors",
+            PictureFault::TooManyBlocks => "TooManyBlocks",
+            PictureFault::ScriptComponent { .. } => "ScriptComponent",
+            PictureFault::ScriptMcu { .. } => "ScriptMcu",
+            PictureFault::ScriptBand { .. } => "ScriptBand",
+            PictureFault::ScriptIncomplete { .. } => "ScriptIncomplete",
+        }
+    }
 }

@@ -1,2 +1,3 @@
+pub mod BaselineSet
 pub mod Begun
 pub mod SeqScans

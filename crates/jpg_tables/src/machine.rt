@@ -1,5 +1,5 @@
 // What the machine of a sequential scan makes of the bits of its only interval.
-ghost use Rattle.std.specs.Prelude.{◌≡◌, ◌≤◌, length, IfSome};
+ghost use Rattle.std.specs.Prelude.{◌≡◌, ◌≤◌, ◌*◌, ◌/◌, length, IfSome};
 ghost use Rattle.jpg_spec.specs.Geometry.{is_progressive};
 ghost use Rattle.jpg_seq.specs.NewReader.{IsSeqScan};
 ghost use Rattle.jpg_tables.specs.Open.{IsOpen, GoesOn, IsBlank};
@@ -8,6 +8,7 @@ ghost use Rattle.jpg_tables.specs.Open.{IsOpen, GoesOn, IsBlank};
 mod tests;
 
 use crate::heads::{all_components, tables_of};
+use arrayvec::ArrayVec;
 use jpg_base::{BitStore, Block, Frame, NoMemory, Process, ScanHead};
 use jpg_coefs::{BlockView, Coefs, ScanMachine, Taken, UnitStep};
 use jpg_huff::{Table, TableSet};
@@ -103,6 +104,78 @@ fn cut_at(machine: &mut SeqReader, coefs: &mut Coefs, bits: &[bool], at: usize) 
     }
 }
 
+// The byte of eight bits.
+fn byte_of(bits: &[bool]) -> u8 {
+    let mut byte = 0u8;
+    for bit in bits {
+        byte = byte << 1 | u8::from(*bit);
+    }
+    byte
+}
+
+// The whole bytes of bits.
+fn bytes_of(bits: &[bool]) -> ArrayVec<u8, 8>
+    requires { length bits.now ≤ 64 }
+    ensures { length result.items ≡ length bits.now / 8 }
+{
+    let mut bytes = ArrayVec::new();
+    for k in 0..bits.len() / 8 {
+        bytes.push(byte_of(&bits[8 * k..8 * k + 8]));
+    }
+    bytes
+}
+
+// Bytes in one stretch.
+fn one_stretch(machine: &mut SeqReader, coefs: &mut Coefs, bytes: &[u8]) -> Read
+    requires open { IsOpen machine.old coefs.old }
+    requires few { length bytes.now ≤ 8 }
+    ensures goes_on { GoesOn result.taken machine.new coefs.new }
+    ensures few { result.bits ≤ 8 * length bytes.now }
+{
+    let got = machine.bytes(bytes, coefs, u64::MAX);
+    Read {
+        taken: got.taken,
+        bits: got.bits as usize,
+    }
+}
+
+// Two stretches, the first of which has this many bytes.
+fn stretches(machine: &mut SeqReader, coefs: &mut Coefs, bytes: &[u8], at: usize) -> Read
+    requires open { IsOpen machine.old coefs.old }
+    requires few { length bytes.now ≤ 8 }
+    ensures goes_on { GoesOn result.taken machine.new coefs.new }
+    ensures few { result.bits ≤ 64 }
+{
+    let at = at.min(bytes.len());
+    let first = one_stretch(machine, coefs, &bytes[..at]);
+    if first.taken != Taken::More {
+        return first;
+    }
+    let second = one_stretch(machine, coefs, &bytes[at..]);
+    Read {
+        taken: second.taken,
+        bits: 8 * at + second.bits,
+    }
+}
+
+// At most 64 bits, their whole bytes in two stretches, the first of which has this many bytes, and what stands
+// behind them in a store.
+fn by_bytes(machine: &mut SeqReader, coefs: &mut Coefs, bits: &[bool], at: usize) -> Read
+    requires open { IsOpen machine.old coefs.old }
+    requires few { length bits.now ≤ 64 }
+{
+    let bytes = bytes_of(bits);
+    let first = stretches(machine, coefs, bytes.as_slice(), at);
+    if first.taken != Taken::More {
+        return first;
+    }
+    let second = one_store(machine, coefs, &bits[8 * bytes.len()..]);
+    Read {
+        taken: second.taken,
+        bits: first.bits + second.bits,
+    }
+}
+
 /// The tables of the first component of a scan, and those of the others.
 #[derive(Drop)]
 pub struct Coding {
@@ -112,11 +185,13 @@ pub struct Coding {
     pub other_ac: Table,
 }
 
-/// How bits are handed on: one by one, or in two stores, the first of which has so many.
+/// How bits are handed on: one by one; in two stores, the first of which has so many; or in two stretches of
+/// whole bytes, the first of which has so many.
 #[derive(Clone, Copy, Debug, PartialEq, Eq)]
 pub enum Cut {
     EachBit,
     At(usize),
+    Bytes(usize),
 }
 
 /// What bits came to, and the blocks that they put.
@@ -126,7 +201,8 @@ pub struct Reading {
     pub coefs: Coefs,
 }
 
-fn is_progressive(process: Process) -> bool
+/// Whether a frame of this process is progressive.
+pub fn is_progressive(process: Process) -> bool
     ensures { result ≡ is_progressive process }
 {
     match process {
@@ -158,6 +234,7 @@ pub fn read_scan(
     let read = match cut {
         Cut::EachBit => bit_by_bit(&mut machine, &mut coefs, bits),
         Cut::At(at) => cut_at(&mut machine, &mut coefs, bits, at),
+        Cut::Bytes(at) => by_bytes(&mut machine, &mut coefs, bits, at),
     };
     Ok(Some(Reading { read, coefs }))
 }

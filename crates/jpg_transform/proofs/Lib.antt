@@ -1,3 +1,10 @@
+pub mod Applied
+pub mod GrayFaults
+pub mod HeadColour
+pub mod MovedFrame
+pub mod MovedHead
 pub mod OneBlock
+pub mod Planned
+pub mod SeenPicture
 pub mod Showing
 pub mod Viewed

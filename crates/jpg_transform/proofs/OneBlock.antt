@@ -13,7 +13,7 @@ use Rattle.jpg_spec.specs.Moves.{zigzag, mirrored, mirrored_down}
 use Rattle.jpg_spec.specs.Transposed.{exchanged, transposed}
 use Rattle.jpg_spec.specs.Transforms.{signed}
 use Rattle.jpg_transform.specs.Changed.{is_changed, AreMasks}
-use Rattle.jpg_spec.proofs.Turned.{IsBlock, mirrored_block}
+use Rattle.jpg_spec.proofs.MirroredBlocks.{IsBlock, mirrored_block}
 use Rattle.jpg_spec.proofs.BlockLaws.{mirrored_down_block, length_transposed}
 use Rattle.jpg_spec.proofs.MovedBounds.{transposed_at}
 

@@ -3,8 +3,7 @@ use Rattle.std.specs.Prelude.{◌≡◌, ℕ, ◌≤◌, Bool, true, false, List
 use Rattle.jpg_spec.specs.Geometry.{Frame, IsReal, component_at, h_max, v_max}
 use Rattle.jpg_spec.specs.Meaning.{Meaning}
 use Rattle.jpg_spec.specs.Scan.{Blocks}
-use Rattle.jpg_spec.specs.Moved.{Choice, moved, frame_grids, picture_grids, moved_frame}
-use Rattle.jpg_spec.specs.WholeBlocks.{HasWholeBlocks}
+use Rattle.jpg_spec.specs.Moved.{Choice, frame_grids, picture_grids, moved_frame}
 use Rattle.jpg_spec.specs.Transforms.{opposite}
 use Rattle.jpg_spec.specs.declared.transform.Transform.{Transform}
 
@@ -20,11 +19,6 @@ pub record IsOutput (choice : Choice) (transform : Transform) (source out : Fram
   pub gray_across : choice.gray ≡ true → (component_at source 0).h ≡ h_max source
   pub gray_down : choice.gray ≡ true → (component_at source 0).v ≡ v_max source
   pub grids : frame_grids out ≡ frame_grids (moved_frame choice source)
-
--- What a view shows whose source has this frame and these blocks: of each meaning that the source shows, the meaning moved.
-abbrev pub ShowsMoved : Transform → Frame → Blocks → Frame → Blocks → Type 0
-ShowsMoved transform source blocks out seen =
-    (M : Meaning) (choice : Choice) → HasWholeBlocks M → IsSeenAs M source blocks → IsOutput choice transform source out → IsSeenAs (moved choice M) out seen
 
 -- A place of a picture, transposed where `over`, is a real one.
 pub record ComesFrom (over : Bool) (f : Frame) (i x y : ℕ) : Type 0 where

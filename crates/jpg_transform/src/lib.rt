@@ -1,15 +1,17 @@
 //! Pictures moved without loss: mirrored, transposed, rotated (the manual of jpegtran).
 #![tactic(auto)]
 
+mod applying;
+mod choice;
+mod frames;
 mod moved;
 mod moving;
-mod picture;
+mod planning;
 mod signs;
 mod table;
-mod view;
-mod viewing;
 
-pub use jpg_spec::Transform;
+pub use applying::apply;
+pub use choice::{Choice, Job};
+pub use jpg_spec::{Copying, PictureFault, Transform};
 pub use moved::Moved;
-pub use picture::PictureView;
-pub use view::Source;
+pub use planning::plan;

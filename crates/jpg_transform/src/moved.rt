@@ -1,16 +1,18 @@
-// A picture moved, as a view of another (the manual of jpegtran).
+// A picture moved, as a view of the picture that was read (the manual of jpegtran).
+ghost use Rattle.jpg_file.specs.PictureRead.{IsPicture};
 ghost use Rattle.jpg_transform.specs.Places.{HasSources};
 
-use crate::Source;
 use jpg_base::Frame;
+use jpg_file::Picture;
 
-/// A picture moved: a view of another, that takes no memory.
+/// A picture moved: a view of the picture that was read, over the output's frame. It takes no memory.
 #[derive(Drop)]
-pub struct Moved<'a, S: Source> {
-    pub(crate) source: &'a S,
+pub struct Moved<'a> {
+    pub(crate) picture: &'a Picture,
     pub(crate) frame: &'a Frame,
     pub(crate) over: bool,
     pub(crate) columns: [u32; 4],
     pub(crate) rows: [u32; 4],
-    ghost reaches: { HasSources (S.numbers source.now) over columns rows frame.now },
+    ghost keeps: { IsPicture picture.now },
+    ghost reaches: { HasSources picture.now.frame over columns rows frame.now },
 }

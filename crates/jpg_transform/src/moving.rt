@@ -1,15 +1,20 @@
 // The blocks of a picture moved, each found and turned as it is asked for (the manual of jpegtran).
 ghost use Rattle.std.specs.Prelude.{◌≡◌, ◌<◌, ℕ, length, slice_index};
+ghost use Rattle.jpg_spec.specs.Geometry.{IsReal};
 ghost use Rattle.jpg_spec.specs.Moved.{Choice, columns_in, rows_in};
 ghost use Rattle.jpg_spec.specs.Transforms.{opposite};
-ghost use Rattle.jpg_transform.specs.Places.{IsOutput, ShowsMoved};
-ghost use Rattle.jpg_transform.specs.MovedBlocks.{moved_blocks, moved_numbers};
+ghost use Rattle.jpg_coefs.specs.Picture.{map_of};
+ghost use Rattle.jpg_file.specs.PictureRead.{IsPicture};
+ghost use Rattle.jpg_transform.specs.Places.{HasOpposites};
+ghost use Rattle.jpg_transform.specs.Planned.{IsJobFor};
+ghost use Rattle.jpg_transform.specs.MovedBlocks.{ShowsJob, moved_blocks, moved_numbers};
 
 use crate::signs::{signed, signed_over};
 use crate::table::{mirrors_across, mirrors_down, transposes};
-use crate::{Moved, Source};
+use crate::{Job, Moved};
 use jpg_base::{Block, Frame};
 use jpg_coefs::BlockView;
+use jpg_file::Picture;
 use jpg_spec::Transform;
 
 // How many columns of a component of the output change places.
@@ -68,27 +73,44 @@ fn opposite(changed: u32, x: u32) -> u32
     if x < changed { changed - 1 - x } else { x }
 }
 
-impl<'a, S: Source> Moved<'a, S> {
-    /// The source grayed, moved by this transform and trimmed, as the output's frame says: its sides and factors are
-    /// those of the source's frame moved so, for some choice of graying and trimming. It takes no memory.
-    pub fn new(source: &'a S, frame: &'a Frame, transform: Transform) -> Moved<'a, S>
-        requires { (choice : Choice) × IsOutput choice transform (S.numbers source.now) frame.now }
-        ensures frame { moved_numbers result ≡ frame.now }
-        ensures shows { ShowsMoved transform (S.numbers source.now) (S.blocks source.now) frame.now (moved_blocks result) }
+impl<'a> Moved<'a> {
+    /// The picture grayed, transformed and trimmed, as the job that `plan` gave for it says. It takes no memory.
+    pub fn new(picture: &'a Picture, job: &'a Job) -> Moved<'a>
+        requires picture { IsPicture picture.now }
+        requires job { (choice : Choice) × IsJobFor picture.now choice job.now }
+        ensures frame { moved_numbers result ≡ job.now.plan.out.frame }
+        ensures shows { ShowsJob picture.now job.now (moved_blocks result) }
     {
-        source.frame().checked();
+        let frame = &job.plan.out.frame;
         frame.checked();
         Moved {
-            source,
+            picture,
             frame,
-            over: transposes(transform),
-            columns: all_columns(transform, frame),
-            rows: all_rows(transform, frame),
+            over: transposes(job.transform),
+            columns: all_columns(job.transform, frame),
+            rows: all_rows(job.transform, frame),
         }
+    }
+
+    // Tells that each value of the picture can change its sign, and does nothing.
+    #[inline(always)]
+    fn checked(&self)
+        ensures { HasOpposites self.now.picture.now.frame (map_of self.now.picture.now.coefs) }
+    {
+        let _ = &self.picture;
+    }
+
+    // A block of the picture.
+    #[inline(always)]
+    fn source(&self, component: u8, x: u32, y: u32) -> Block
+        requires { IsReal self.now.picture.now.frame component x y }
+        ensures { result ≡ map_of self.now.picture.now.coefs component x y }
+    {
+        self.picture.coefs.block(component, x, y)
     }
 }
 
-impl<'a, S: Source> BlockView for Moved<'a, S> {
+impl<'a> BlockView for Moved<'a> {
     ghost numbers = { λ m. moved_numbers m };
 
     ghost blocks = { λ m. moved_blocks m };
@@ -98,23 +120,15 @@ impl<'a, S: Source> BlockView for Moved<'a, S> {
     }
 
     fn block(&self, component: u8, x: u32, y: u32) -> Block {
-        self.source.checked();
+        self.checked();
         let columns = self.columns[component as usize];
         let rows = self.rows[component as usize];
         let column = opposite(columns, x);
         let row = opposite(rows, y);
         if self.over {
-            signed_over(
-                x < columns,
-                y < rows,
-                &self.source.block(component, row, column),
-            )
+            signed_over(x < columns, y < rows, &self.source(component, row, column))
         } else {
-            signed(
-                x < columns,
-                y < rows,
-                &self.source.block(component, column, row),
-            )
+            signed(x < columns, y < rows, &self.source(component, column, row))
         }
     }
 }

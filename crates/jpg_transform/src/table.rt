@@ -1,6 +1,22 @@
 // What each transform does to the blocks (the manual of jpegtran).
+//
+// With C columns and R rows of a component of the output that change places, the block at column x and row y comes from
+// column a and row b of the source, and these of its signs are changed:
+//
+//     transform   rows become columns   C        R        source (a, b)      signs of odd frequencies, where
+//     Keep        no                    0        0        (x, y)             none
+//     FlipH       no                    whole    0        (x', y)            horizontal, x < C
+//     FlipV       no                    0        whole    (x, y')            vertical, y < R
+//     Rotate180   no                    whole    whole    (x', y')           both of these
+//     Transpose   yes                   0        0        (y, x)             none
+//     Rotate90    yes                   whole    0        (y, x')            horizontal, x < C
+//     Rotate270   yes                   0        whole    (y', x)            vertical, y < R
+//     Transverse  yes                   whole    whole    (y', x')           both of these
+//
+// whole: the columns, or rows, of whole iMCUs of the output; x' is C - 1 - x where x < C, else x, and y' is R - 1 - y where
+// y < R, else y. Where rows become columns, the frequencies are exchanged first, and so are the axes of the tables.
 ghost use Rattle.std.specs.Prelude.{◌≡◌};
-ghost use Rattle.jpg_spec.specs.Transforms.{transposes, mirrors_across, mirrors_down, inverse};
+ghost use Rattle.jpg_spec.specs.Transforms.{transposes, mirrors_across, mirrors_down};
 
 use jpg_spec::Transform;
 
@@ -36,21 +52,5 @@ pub fn mirrors_down(transform: Transform) -> bool
             true
         }
         Transform::Keep | Transform::FlipH | Transform::Transpose | Transform::Rotate90 => false,
-    }
-}
-
-/// The transform that undoes this one.
-pub fn inverse(transform: Transform) -> Transform
-    ensures { result ≡ inverse transform }
-{
-    match transform {
-        Transform::Rotate90 => Transform::Rotate270,
-        Transform::Rotate270 => Transform::Rotate90,
-        Transform::Keep => Transform::Keep,
-        Transform::FlipH => Transform::FlipH,
-        Transform::FlipV => Transform::FlipV,
-        Transform::Transpose => Transform::Transpose,
-        Transform::Rotate180 => Transform::Rotate180,
-        Transform::Transverse => Transform::Transverse,
     }
 }

@@ -118,7 +118,7 @@ static HEADERS: [(&[Change], Fault, u64); 36] = [
 ];
 
 // The header of a progressive frame, tables that are wanting, data that spell no picture, and no EOI.
-static SCANS: [(&[Change], Fault, u64); 20] = [
+static SCANS: [(&[Change], Fault, u64); 21] = [
     (
         &[(90, 91, &[0xc2]), (135, 318, &[]), (326, 327, &[0])],
         Fault::NotBuilt,
@@ -158,6 +158,7 @@ static SCANS: [(&[Change], Fault, u64); 20] = [
     (&[(97, 98, &[0x10])], Fault::EntropyShort, 331),
     (&[(328, 329, &[0xff, 0, 0xff, 0])], Fault::NoCode, 332),
     (&[(328, 329, &[0xff, 0, 0x40, 0x0a])], Fault::CoefRange, 332),
+    (&[(328, 329, &[0xff, 0, 0x3f, 0xea])], Fault::CoefRange, 332),
     (
         &[(328, 329, &[0x3f, 0xcf, 0xf9, 0xff, 0, 0x3f, 0xfe, 0xbf])],
         Fault::BadRun,

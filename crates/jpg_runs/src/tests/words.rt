@@ -1,13 +1,45 @@
-// The words of rdjpgcom and wrjpgcom: what is wrong with which of them, and what they ask for.
+// The words of jpegtran, rdjpgcom and wrjpgcom: what is wrong with which of them, and what they ask for.
 use super::strings;
 use jpg_base::Name;
 use jpg_cli::{Asked, CommentFrom, WordsStop, read_words};
-use jpg_spec::{Usage, UsageFault};
+use jpg_spec::{Copying, Transform, Usage, UsageFault};
+use jpg_transform::Choice;
 use std::test::Fail;
 
 #[test]
 fn words_are_refused(rt: HostRuntime) -> Result<(), Fail> {
-    let rows: [(&[&str], UsageFault, u64); 31] = [
+    let rows: [(&[&str], UsageFault, u64); 46] = [
+        (
+            &["jpegtran", "-flip", "horizontal", "-rotate", "90"],
+            UsageFault::TwoTransforms,
+            3,
+        ),
+        (
+            &["jpegtran", "-flip", "h", "-transpose"],
+            UsageFault::TwoTransforms,
+            3,
+        ),
+        (
+            &["jpegtran", "-flip", "h", "-rotate", "77"],
+            UsageFault::BadValue,
+            4,
+        ),
+        (
+            &["jpegtran", "-flip", "h", "-rotate"],
+            UsageFault::MissingValue,
+            3,
+        ),
+        (&["jpegtran", "-optimise"], UsageFault::LeftOutSwitch, 1),
+        (&["jpegtran", "-MAX", "1"], UsageFault::LeftOutSwitch, 1),
+        (&["jpegtran", "-ma"], UsageFault::UnknownSwitch, 1),
+        (&["jpegtran", "-out", "x"], UsageFault::UnknownSwitch, 1),
+        (&["jpegtran", "-copy", ""], UsageFault::BadValue, 2),
+        (&["jpegtran", "-copy", "allx"], UsageFault::BadValue, 2),
+        (&["jpegtran", "-restart", "65536"], UsageFault::BadValue, 2),
+        (&["jpegtran", "-restart", "1BB"], UsageFault::BadValue, 2),
+        (&["jpegtran", "-rotate", "000090"], UsageFault::BadValue, 2),
+        (&["jpegtran", "a", "-trim"], UsageFault::TooManyFiles, 2),
+        (&["jpegtran", "-scans"], UsageFault::MissingValue, 1),
         (&["rdjpgcom", "-verbose"], UsageFault::LeftOutSwitch, 1),
         (&["rdjpgcom", "-v"], UsageFault::LeftOutSwitch, 1),
         (&["rdjpgcom", "-VErb"], UsageFault::LeftOutSwitch, 1),
@@ -186,6 +218,101 @@ fn right_words_of_wrjpgcom(rt: HostRuntime) -> Result<(), Fail> {
         assert!(rt; name_text(&asked.files.output) == "<output>", "{words:?}");
         assert!(rt; comment_text(&asked.comment) == (from, text), "{words:?}");
         assert!(rt; asked.replace == replace, "{words:?}");
+    }
+    Ok(())
+}
+
+// What jpegtran's words ask for: transform, trimming, graying, copying, input and output.
+#[test]
+fn right_words_of_jpegtran(rt: HostRuntime) -> Result<(), Fail> {
+    let rows: [(&[&str], Transform, bool, bool, Copying, &str, &str); 8] = [
+        (
+            &["jpegtran"],
+            Transform::Keep,
+            false,
+            false,
+            Copying::Comments,
+            "<input>",
+            "<output>",
+        ),
+        (
+            &["jpegtran", "-f", "V"],
+            Transform::FlipV,
+            false,
+            false,
+            Copying::Comments,
+            "<input>",
+            "<output>",
+        ),
+        (
+            &["jpegtran", "-RO", "00180", "-tri"],
+            Transform::Rotate180,
+            true,
+            false,
+            Copying::Comments,
+            "<input>",
+            "<output>",
+        ),
+        (
+            &["jpegtran", "-tr", "-c", "N", "a"],
+            Transform::Transpose,
+            false,
+            false,
+            Copying::None,
+            "a",
+            "<output>",
+        ),
+        (
+            &["jpegtran", "-transv", "-grey", "-outf", "-t", "a"],
+            Transform::Transverse,
+            false,
+            true,
+            Copying::Comments,
+            "a",
+            "-t",
+        ),
+        (
+            &["jpegtran", "-rot", "270", "-rot", "270", ""],
+            Transform::Rotate270,
+            false,
+            false,
+            Copying::Comments,
+            "",
+            "<output>",
+        ),
+        (
+            &["jpegtran", "-copy", "all", "-copy", "c"],
+            Transform::Keep,
+            false,
+            false,
+            Copying::Comments,
+            "<input>",
+            "<output>",
+        ),
+        (
+            &["jpegtran", "-g", "-rotate", "90", "-copy", "al"],
+            Transform::Rotate90,
+            false,
+            true,
+            Copying::All,
+            "<input>",
+            "<output>",
+        ),
+    ];
+    for (words, transform, trim, gray, copying, input, output) in rows {
+        let list = strings(rt.alloc(), words)?;
+        let Ok(Asked::Jpegtran(asked)) = read_words(rt.alloc(), list.as_slice()) else {
+            panic!(rt; "right words {words:?}");
+        };
+        let choice = Choice {
+            transform,
+            trim,
+            gray,
+            copying,
+        };
+        assert!(rt; asked.choice == choice, "{words:?}");
+        assert!(rt; name_text(&asked.files.input) == input, "{words:?}");
+        assert!(rt; name_text(&asked.files.output) == output, "{words:?}");
     }
     Ok(())
 }

@@ -1,4 +1,4 @@
-// Intervals read bit by bit, and by stores that are cut everywhere, against answers and blocks made outside of the suite.
+// Intervals read bit by bit, and by stores and stretches of bytes that are cut everywhere, against answers and blocks made outside of the suite.
 use super::{Coding, Cut, Reading, read_scan};
 use crate::{Read, block_is, frame_of};
 use arrayvec::ArrayVec;
@@ -319,6 +319,11 @@ fn first_wrong(
                 return Ok(Some((i, Cut::At(at))));
             }
         }
+        for at in 0..=case.bits.len() / 8 {
+            if !is_right(alloc, &frame, coding, case, Cut::Bytes(at))? {
+                return Ok(Some((i, Cut::Bytes(at))));
+            }
+        }
     }
     Ok(None)
 }
@@ -378,6 +383,8 @@ fn is_shown(
         Cut::At(0),
         Cut::At(count.max(2) - 2),
         Cut::At(count),
+        Cut::Bytes(0),
+        Cut::Bytes(1),
     ] {
         let reading = read_scan(alloc, frame, coding, bits, cut)?;
         is_shown = is_shown && reading.is_some_and(|reading| reading.read == want);

@@ -5,7 +5,20 @@ use Rattle.jpg_cli.specs.Commands.{Command, IsCommand, command_asked}
 use Rattle.jpg_cli.specs.Run.{Worked}
 use Rattle.jpg_cli.specs.declared.words.Asked.{Asked}
 use Rattle.jpg_cli.proofs.InsertedThen.{asked_inserted}
+use Rattle.jpg_cli.proofs.Running.{asked_turned}
 use Rattle.jpg_cli.proofs.top.work.Goals as goal
+
+pub returns-in-Ok-Jpegtran : goal.returns-in-Ok-Jpegtran
+returns-in-Ok-Jpegtran g c =
+    let state = g.D.Desk.state in
+    let asked = command_asked (map string_bytes c.args.words.now) in
+    let told = subst (λ (a : Asked). IsCommand asked (Ok a)) c.in-Ok-Jpegtran.field-0-is c.in-Ok-Jpegtran.ensures in
+    record {
+      worked =
+          (let P : WordsTold Command → Type 0 = λ a. Worked a (state c.args.desk.now) c.transform.result (state c.transform.new.desk) in
+          subst P (sym told) (asked_turned c.in-Ok-Jpegtran.words (state c.args.desk.now) (state c.transform.new.desk) c.transform.result c.transform.ensures.turned));
+      kept = c.transform.ensures.kept;
+    }
 
 pub returns-in-Ok-Wrjpgcom : goal.returns-in-Ok-Wrjpgcom
 returns-in-Ok-Wrjpgcom g c =

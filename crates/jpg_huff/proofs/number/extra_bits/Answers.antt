@@ -8,8 +8,8 @@ use Rattle.jpg_spec.proofs.Facts.{below_digits}
 use Rattle.jpg_huff.proofs.Categories.{shifted_fits}
 use Rattle.jpg_huff.proofs.number.extra_bits.Goals as goal
 
-pub overflow_sub-result-else-value-ge0 : goal.overflow_sub-result-else-value-ge0
-overflow_sub-result-else-value-ge0 c = shifted_fits c.unsigned_abs-magnitude.result c.binary_digits.result c.from.result c.from.ensures c.binary_digits.ensures.digits c.binary_digits.ensures.fits
+pub overflow_sub-below-2 : goal.overflow_sub-below-2
+overflow_sub-below-2 c = shifted_fits c.unsigned_abs-magnitude.result c.binary_digits.result c.from.result c.from.ensures c.binary_digits.ensures.digits c.binary_digits.ensures.fits
 
 pub returns-then-value-ge0-clause-fits : goal.returns-then-value-ge0-clause-fits
 returns-then-value-ge0-clause-fits c =

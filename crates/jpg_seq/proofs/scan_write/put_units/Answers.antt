@@ -17,13 +17,13 @@ use Rattle.jpg_seq.proofs.scan_write.put_units.Goals as goal
 pub loop-init : goal.loop-init
 loop-init g c =
     let blocks = g.V.BlockView.blocks c.args.view.now in
-    let all = places_bits c.args.tables.now c.args.head.now blocks (take c.args.count c.args.cursor.now) in
+    let all = places_bits c.args.encoders.now c.args.head.now blocks (take c.args.count c.args.cursor.now) in
     let s = g.D.Desk.state c.args.desk.now in
     let whole : c.args.count - 0 ≡ c.args.count = omega arith in
     record {
       created = c.requires.created;
-      part = part_start Puts s c.args.out.now all _ (puts_nothing s c.args.out.now) (first_units c.args.tables.now c.args.head.now blocks (take (c.args.count - 0) c.args.cursor.now)
-          ∙ ap (λ n. places_bits c.args.tables.now c.args.head.now blocks (take n c.args.cursor.now)) whole);
+      part = part_start Puts s c.args.out.now all _ (puts_nothing s c.args.out.now) (first_units c.args.encoders.now c.args.head.now blocks (take (c.args.count - 0) c.args.cursor.now)
+          ∙ ap (λ n. places_bits c.args.encoders.now c.args.head.now blocks (take n c.args.cursor.now)) whole);
       left = refl;
       places = c.requires.places;
       four = refl;
@@ -44,7 +44,7 @@ pub put_unit-requires-clause-tables : goal.put_unit-requires-clause-tables
 put_unit-requires-clause-tables g c =
     let f = g.V.BlockView.numbers c.args.view.now in
     let is = first_is (IsScanPlace f c.args.head.now) c.loop.cursor c.place-place.result c.loop.invariant.places c.place-place.ensures in
-    has_tables c.args.tables.now c.args.head.now c.place-place.result.component c.requires.scan.tables is.named
+    has_tables c.args.encoders.now c.args.head.now c.place-place.result.component c.requires.scan.tables is.named
 
 pub put_unit-requires-clause-short : goal.put_unit-requires-clause-short
 put_unit-requires-clause-short g c =
@@ -62,7 +62,7 @@ returns-in_err-put_unit-clause-puts g c =
     let small : p.component < length last = omega (arith, is.there, c.requires.four, c.loop.invariant.four) in
     let q = to_z w16 (of_z w16 (slice_index_or last p.component (pos 0))) in
     let e : q ≡ slice_index_or last p.component (pos 0) = to_z-of_z w16 _ (search rules) in
-    let s = left_next c.args.tables.now c.args.head.now blocks last p c.loop.cursor (c.args.count - c.loop.counter) q c.due-block.result small c.place-place.ensures (omega (arith, c.loop-test.true)) e c.due-block.ensures in
+    let s = left_next c.args.encoders.now c.args.head.now blocks last p c.loop.cursor (c.args.count - c.loop.counter) q c.due-block.result small c.place-place.ensures (omega (arith, c.loop-test.true)) e c.due-block.ensures in
     let back = err_from_is_err_and c.from_residual.result c.from_residual.ensures.1 in
     rw (back.1, back.2) (part_fault Puts of_bits (state c.args.desk.now) (state c.loop.desk) (state c.put_unit.new.desk) c.args.out.now c.loop.out c.put_unit.new.out _ _ _ _ c.in_err-put_unit.field-0.0 s c.loop.invariant.part c.in_err-put_unit.ensures)
 
@@ -83,11 +83,11 @@ loop-preserved g c =
     let small : p.component < length last = omega (arith, is.there, c.requires.four, c.loop.invariant.four) in
     let q = to_z w16 (of_z w16 (slice_index_or last p.component (pos 0))) in
     let e : q ≡ slice_index_or last p.component (pos 0) = to_z-of_z w16 _ (search rules) in
-    let s = left_next c.args.tables.now c.args.head.now blocks last p c.loop.cursor (c.args.count - c.loop.counter) q c.due-block.result small c.place-place.ensures (omega (arith, c.loop-test.true)) e c.due-block.ensures in
+    let s = left_next c.args.encoders.now c.args.head.now blocks last p c.loop.cursor (c.args.count - c.loop.counter) q c.due-block.result small c.place-place.ensures (omega (arith, c.loop-test.true)) e c.due-block.ensures in
     let fv : SFits w16 c.get.result = search rules in
     let v : to_z w16 (of_z w16 c.get.result) ≡ slice_index_or c.due-block.result 0 (pos 0) = to_z-of_z w16 c.get.result fv ∙ c.get.ensures.value in
     let fewer : c.args.count - c.loop.counter - 1 ≡ c.args.count - (c.loop.counter + 1) = omega arith in
-    let of : ℤ → ℕ → List Place → List Bool = λ w n rest. left_bits (tables_in c.args.tables.now) c.args.head.now blocks (slice_set last p.component w) (take n rest) in
+    let of : ℤ → ℕ → List Place → List Bool = λ w n rest. left_bits (tables_in c.args.encoders.now) c.args.head.now blocks (slice_set last p.component w) (take n rest) in
     let later = ap (λ w. of w (c.args.count - c.loop.counter - 1) (drop 1 c.loop.cursor)) (sym v) ∙ ap (λ n. of (to_z w16 (of_z w16 c.get.result)) n (drop 1 c.loop.cursor)) fewer
     ∙ ap (of (to_z w16 (of_z w16 c.get.result)) (c.args.count - (c.loop.counter + 1))) (sym c.step.ensures) in
     let dropped : drop 1 (drop c.loop.counter c.args.cursor.now) ≡ drop (c.loop.counter + 1) c.args.cursor.now = drop-drop 1 c.loop.counter c.args.cursor.now in

@@ -11,7 +11,7 @@ invariant-loop g l =
     let blocks = g.V.BlockView.blocks l.view in
     record {
       created : (state l.desk).output_created ≡ true;
-      part : DoneButFor Puts (state l.fn.desk) l.fn.out (places_bits l.tables l.head blocks (take l.count l.fn.cursor)) (left_bits (tables_in l.tables) l.head blocks l.last (take (l.count - l.counter) l.cursor)) l.out (state l.desk);
+      part : DoneButFor Puts (state l.fn.desk) l.fn.out (places_bits l.encoders l.head blocks (take l.count l.fn.cursor)) (left_bits (tables_in l.encoders) l.head blocks l.last (take (l.count - l.counter) l.cursor)) l.out (state l.desk);
       left : l.cursor ≡ drop l.counter l.fn.cursor;
       places : All (IsScanPlace (g.V.BlockView.numbers l.view) l.head) l.cursor;
       four : length l.last ≡ 4;

@@ -9,7 +9,7 @@ pub returns-clause-sends : goal.returns-clause-sends
 returns-clause-sends g c =
     let state = g.D.Desk.state in
     puts_pad (state c.args.desk.now) (state c.put_units.new.desk) (state c.pad.new.desk) c.args.out.now c.put_units.new.out c.pad.new.self
-    (places_bits c.args.tables.now c.args.head.now (g.V.BlockView.blocks c.args.view.now) (take c.args.count c.args.cursor.now)) c.pad.result c.requires.can.none c.in_ok-put_units.ensures.puts c.pad.ensures
+    (places_bits c.args.encoders.now c.args.head.now (g.V.BlockView.blocks c.args.view.now) (take c.args.count c.args.cursor.now)) c.pad.result c.requires.can.none c.in_ok-put_units.ensures.puts c.pad.ensures
 
 pub returns-in_err-put_units-clause-sends : goal.returns-in_err-put_units-clause-sends
 returns-in_err-put_units-clause-sends g c =
@@ -17,6 +17,6 @@ returns-in_err-put_units-clause-sends g c =
     let places = take c.args.count c.args.cursor.now in
     let blocks = g.V.BlockView.blocks c.args.view.now in
     let back = err_from_is_err_and c.from_residual.result c.from_residual.ensures.1 in
-    subst (λ r. Sends (state c.args.desk.now) c.args.out.now (places_data c.args.tables.now c.args.head.now blocks places) r c.put_units.new.out (state c.put_units.new.desk)) (sym (back.1 ∙ ap Err back.2))
-    (puts_unpadded (state c.args.desk.now) (state c.put_units.new.desk) c.args.out.now c.put_units.new.out (places_bits c.args.tables.now c.args.head.now blocks places) c.in_err-put_units.field-0.0 c.requires.can.none
+    subst (λ r. Sends (state c.args.desk.now) c.args.out.now (places_data c.args.encoders.now c.args.head.now blocks places) r c.put_units.new.out (state c.put_units.new.desk)) (sym (back.1 ∙ ap Err back.2))
+    (puts_unpadded (state c.args.desk.now) (state c.put_units.new.desk) c.args.out.now c.put_units.new.out (places_bits c.args.encoders.now c.args.head.now blocks places) c.in_err-put_units.field-0.0 c.requires.can.none
     c.in_err-put_units.ensures.puts)

@@ -38,8 +38,9 @@ loop-left-init g c =
       can = c.requires.can;
       work = (
         written_data f head c.args.tables.now c.args.interval blocks,
-        subst (λ ps. IsLeft c.args.tables.now head blocks c.each_interval-each.result 0 ps (written_data f head c.args.tables.now c.args.interval blocks)) (sym places)
-            (first_left c.args.tables.now f head c.args.interval c.each_interval-each.result blocks c.requires.scan.sequential (some_places f head is c.requires.scan.components) c.each_interval-each.ensures.0 each),
+        subst (λ t. IsLeft t head blocks c.each_interval-each.result 0 c.new-cursor.result (written_data f head c.args.tables.now c.args.interval blocks)) (sym c.new-encoders.ensures)
+            (subst (λ ps. IsLeft c.args.tables.now head blocks c.each_interval-each.result 0 ps (written_data f head c.args.tables.now c.args.interval blocks)) (sym places)
+            (first_left c.args.tables.now f head c.args.interval c.each_interval-each.result blocks c.requires.scan.sequential (some_places f head is c.requires.scan.components) c.each_interval-each.ensures.0 each)),
         part_start Sends s c.args.out.now _ _ (sends_nothing s c.args.out.now c.requires.can.none) refl,
       );
       left = count ∙ ap length (sym places);
@@ -52,7 +53,7 @@ returns-in_err-write_interval g c =
     let state = g.D.Desk.state in
     let blocks = g.V.BlockView.blocks c.args.view.now in
     let w = c.loop-left.invariant.work in
-    let n = some_left c.args.tables.now c.args.head.now blocks c.each_interval-each.result c.loop-left.turn c.min-count.result c.loop-left.cursor w.0 w.1 (c.min-count.ensures ∙ ap (min c.each_interval-each.result) c.loop-left.invariant.left) in
+    let n = some_left c.new-encoders.result c.args.head.now blocks c.each_interval-each.result c.loop-left.turn c.min-count.result c.loop-left.cursor w.0 w.1 (c.min-count.ensures ∙ ap (min c.each_interval-each.result) c.loop-left.invariant.left) in
     let back = err_from_is_err_and c.from_residual.result c.from_residual.ensures.1 in
     rw (back.1, back.2) (part_fault Sends of_bytes (state c.args.desk.now) (state c.loop-left.desk) (state c.write_interval.new.desk) c.args.out.now c.loop-left.out c.write_interval.new.out _ w.0 _ n.0 c.in_err-write_interval.field-0.0 n.1 w.2
     c.in_err-write_interval.ensures.sends)
@@ -63,7 +64,7 @@ returns-then-left-eq0 g c =
     let blocks = g.V.BlockView.blocks c.args.view.now in
     let w = c.loop-left.invariant.work in
     let small : length c.loop-left.cursor ≤ c.min-count.result = omega (arith, c.loop-left.invariant.left, c.if-left-eq0.true) in
-    let e = all_left c.args.tables.now c.args.head.now blocks c.each_interval-each.result c.loop-left.turn c.min-count.result c.loop-left.cursor w.0 w.1 (c.min-count.ensures ∙ ap (min c.each_interval-each.result) c.loop-left.invariant.left) small in
+    let e = all_left c.new-encoders.result c.args.head.now blocks c.each_interval-each.result c.loop-left.turn c.min-count.result c.loop-left.cursor w.0 w.1 (c.min-count.ensures ∙ ap (min c.each_interval-each.result) c.loop-left.invariant.left) small in
     part_last Sends of_bytes (state c.args.desk.now) (state c.loop-left.desk) (state c.write_interval.new.desk) c.args.out.now c.loop-left.out c.write_interval.new.out _ w.0 _ _ e w.2 c.in_ok-write_interval.ensures.sends
 
 pub returns-in_err-raw : goal.returns-in_err-raw
@@ -72,7 +73,7 @@ returns-in_err-raw g c =
     let blocks = g.V.BlockView.blocks c.args.view.now in
     let w = c.loop-left.invariant.work in
     let some : c.min-count.result < length c.loop-left.cursor = omega (arith, c.loop-left.invariant.left, c.if-left-eq0.false) in
-    let n = more_left c.args.tables.now c.args.head.now blocks c.each_interval-each.result c.loop-left.turn c.min-count.result c.loop-left.cursor w.0 w.1 (c.min-count.ensures ∙ ap (min c.each_interval-each.result) c.loop-left.invariant.left) some in
+    let n = more_left c.new-encoders.result c.args.head.now blocks c.each_interval-each.result c.loop-left.turn c.min-count.result c.loop-left.cursor w.0 w.1 (c.min-count.ensures ∙ ap (min c.each_interval-each.result) c.loop-left.invariant.left) some in
     let behind = part_then Sends of_bytes (state c.args.desk.now) (state c.loop-left.desk) (state c.write_interval.new.desk) c.args.out.now c.loop-left.out c.write_interval.new.out _ w.0 _ _ n.1 w.2 c.in_ok-write_interval.ensures.sends in
     let back = err_from_is_err_and c.from_residual-in_err-raw.result c.from_residual-in_err-raw.ensures.1 in
     rw (back.1, back.2) (part_fault Sends of_bytes (state c.args.desk.now) (state c.write_interval.new.desk) (state c.raw.new.desk) c.args.out.now c.write_interval.new.out c.raw.new.self _ _ _ n.0 c.in_err-raw.field-0.0 refl behind c.in_err-raw.ensures)
@@ -84,7 +85,7 @@ loop-left-preserved g c =
     let blocks = g.V.BlockView.blocks c.args.view.now in
     let w = c.loop-left.invariant.work in
     let some : c.min-count.result < length c.loop-left.cursor = omega (arith, c.loop-left.invariant.left, c.if-left-eq0.false) in
-    let n = more_left c.args.tables.now c.args.head.now blocks c.each_interval-each.result c.loop-left.turn c.min-count.result c.loop-left.cursor w.0 w.1 (c.min-count.ensures ∙ ap (min c.each_interval-each.result) c.loop-left.invariant.left) some in
+    let n = more_left c.new-encoders.result c.args.head.now blocks c.each_interval-each.result c.loop-left.turn c.min-count.result c.loop-left.cursor w.0 w.1 (c.min-count.ensures ∙ ap (min c.each_interval-each.result) c.loop-left.invariant.left) some in
     let behind = part_then Sends of_bytes (state c.args.desk.now) (state c.loop-left.desk) (state c.write_interval.new.desk) c.args.out.now c.loop-left.out c.write_interval.new.out _ w.0 _ _ n.1 w.2 c.in_ok-write_interval.ensures.sends in
     let can = can_after (state c.loop-left.desk) (state c.write_interval.new.desk) c.loop-left.out c.write_interval.new.out _ c.loop-left.invariant.can c.in_ok-write_interval.ensures.sends in
     let left : c.write_interval.new.cursor ≡ drop c.min-count.result c.loop-left.cursor = c.in_ok-write_interval.ensures.left _ refl in
@@ -92,7 +93,7 @@ loop-left-preserved g c =
       can = can_after (state c.write_interval.new.desk) (state c.raw.new.desk) c.write_interval.new.out c.raw.new.self _ can c.in_ok-raw.ensures;
       work = (
         n.0,
-        subst (λ ps. IsLeft c.args.tables.now c.args.head.now blocks c.each_interval-each.result ((c.loop-left.turn + 1) % 8) ps n.0) (sym left) n.2,
+        subst (λ ps. IsLeft c.new-encoders.result c.args.head.now blocks c.each_interval-each.result ((c.loop-left.turn + 1) % 8) ps n.0) (sym left) n.2,
         part_then Sends of_bytes (state c.args.desk.now) (state c.write_interval.new.desk) (state c.raw.new.desk) c.args.out.now c.write_interval.new.out c.raw.new.self _ _ _ n.0 refl behind c.in_ok-raw.ensures,
       );
       left = (let a = ap length left in let b = length-drop c.min-count.result c.loop-left.cursor in omega (arith, a, b, c.loop-left.invariant.left));

@@ -12,7 +12,7 @@ invariant-loop-left g l =
     let blocks = g.V.BlockView.blocks l.view in
     record {
       can : CanSend (state l.desk) l.out;
-      work : (rest : List ℕ) × IsLeft l.tables l.head blocks l.each l.turn l.cursor rest × DoneButFor Sends (state l.fn.desk) l.fn.out (written_data f l.head l.tables l.interval blocks) rest l.out (state l.desk);
+      work : (rest : List ℕ) × IsLeft l.encoders l.head blocks l.each l.turn l.cursor rest × DoneButFor Sends (state l.fn.desk) l.fn.out (written_data f l.head l.tables l.interval blocks) rest l.out (state l.desk);
       left : l.left ≡ length l.cursor;
       places : All (IsScanPlace f l.head) l.cursor;
       turn : l.turn < 8;

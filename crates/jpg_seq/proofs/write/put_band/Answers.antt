@@ -1,105 +1,117 @@
-use Rattle.std.proofs.Common.{◌≡◌, ◌≢◌, ◌+◌, ◌<◌, ◌≤◌, ◌++◌, ◌∷◌, pos, drop, length, sym, ap, ◌∙◌, subst, arith, rules}
-use mir.Syntax.{w16}
+use Rattle.std.proofs.Common.{◌≡◌, ◌+◌, ◌-◌, ◌/◌, ◌<◌, ◌≤◌, ◌^◌, ◌++◌, [], Err, pos, drop, refl, sym, ap, ◌∙◌, subst, arith, rules}
+use mir.Syntax.{w16, w64}
 use mir.Val.{SFits, to_z, of_z}
 use Rattle.std.specs.Prelude.{slice_index_or}
+use Rattle.std.specs.Int.{trailing_zeros}
 use Rattle.std.proofs.lemmas.Int.{to_z-of_z}
 use Rattle.std.proofs.lemmas.Result.{err_from_is_err_and}
 use Rattle.jpg_spec.specs.Numbers.{category}
 use Rattle.jpg_spec.specs.ScanText.{code_of}
-use Rattle.jpg_huff.specs.Tables.{symbol_codes}
-use Rattle.jpg_seq.specs.PlainText.{run_bits, band_bits}
-use Rattle.jpg_seq.proofs.Bands.{left_bits, left_all, left_zero, left_value, left_none, left_zeros}
-use Rattle.jpg_seq.proofs.Blocks.{left_at, left_end}
-use Rattle.jpg_huff.specs.BitOut.{Puts}
-use Rattle.jpg_huff.proofs.InParts.{of_bits, part_start, part_same, part_then, part_last, part_end, part_fault}
+use Rattle.jpg_seq.specs.BlockBits.{run_bits, band_bits}
+use Rattle.jpg_seq.proofs.Bands.{left_bits, left_all, left_none, left_zeros}
+use Rattle.jpg_seq.proofs.Marked.{marks_are, marks_behind, next_value, no_value}
+use Rattle.jpg_huff.specs.BitOut.{Puts, holding}
+use Rattle.jpg_huff.proofs.InParts.{DoneButFor, of_bits, part_start, part_then, part_last, part_end, part_fault}
 use Rattle.jpg_huff.proofs.Together.{puts_nothing}
 use Rattle.jpg_seq.proofs.write.put_band.Goals as goal
-use Rattle.jpg_seq.proofs.write.put_band.Goals.{then-value-eq0, else-value-eq0+in_ok-put_run}
 
-pub loop-k-init : goal.loop-k-init
-loop-k-init g c =
-    let codes = symbol_codes c.args.ac.now in
-    let band = drop 1 c.args.block.now in
+pub loop-rest-init : goal.loop-rest-init
+loop-rest-init g c =
+    let codes = c.args.ac.now in
+    let block = c.args.block.now in
+    let s = g.D.Desk.state c.args.desk.now in
+    let small : c.nonzero-rest.result < 2 ^ 64 = search rules in
+    let all = band_bits codes (drop 1 block) in
+    let rest = left_bits codes (drop 1 block) 0 in
+    let same : holding c.take-held.new.self c.take-held.result ≡ c.args.out.now = ap (λ w. holding w c.take-held.result) c.take-held.ensures.left ∙ ap (holding c.args.out.now) c.take-held.ensures.held in
     record {
       created = c.requires.created;
-      part = part_start Puts (g.D.Desk.state c.args.desk.now) c.args.out.now (band_bits codes band) (left_bits codes band 0) (puts_nothing (g.D.Desk.state c.args.desk.now) c.args.out.now) (left_all codes band);
+      part = subst (λ w. DoneButFor Puts s c.args.out.now all rest w s) (sym same) (part_start Puts s c.args.out.now all rest (puts_nothing s c.args.out.now) (left_all codes (drop 1 block)));
+      none = ap (λ w. w.bits) c.take-held.ensures.left;
+      marked = ap (λ n. n / 2 ^ 1) (marks_are block c.nonzero-rest.result c.long.ensures small c.nonzero-rest.ensures) ∙ marks_behind block 1;
+      some = omega arith;
       few = omega arith;
     }
 
+pub get-requires : goal.get-requires
+get-requires g c =
+    let rest = c.loop-rest.rest in
+    (next_value c.args.ac.now c.args.block.now c.loop-rest.next (trailing_zeros w64 rest) rest c.long.ensures c.loop-rest.invariant.few c.loop-rest.invariant.marked (omega (arith, c.loop-rest-test.true)) refl).0
+
 pub put_run-requires-clause-short : goal.put_run-requires-clause-short
 put_run-requires-clause-short g c =
-    let f : SFits w16 c.get-value.result = search rules in
-    let e : to_z w16 (of_z w16 c.get-value.result) ≡ slice_index_or c.args.block.now c.loop-k.k (pos 0) = to_z-of_z w16 c.get-value.result f ∙ c.get-value.ensures.value in
-    subst (λ v. category v ≤ 15) (sym e) (c.requires.short c.loop-k.k (omega (arith, c.loop-k.invariant.few)) (omega (arith, c.loop-k-test.true)))
+    let rest = c.loop-rest.rest in
+    let k = c.loop-rest.next + trailing_zeros w64 rest in
+    let n = next_value c.args.ac.now c.args.block.now c.loop-rest.next (trailing_zeros w64 rest) rest c.long.ensures c.loop-rest.invariant.few c.loop-rest.invariant.marked (omega (arith, c.loop-rest-test.true)) refl in
+    let f : SFits w16 c.get.result = search rules in
+    let e : to_z w16 (of_z w16 c.get.result) ≡ slice_index_or c.args.block.now k (pos 0) = to_z-of_z w16 c.get.result f ∙ c.get.ensures.value in
+    subst (λ v. category v ≤ 15) (sym e) (c.requires.short k (omega (arith, c.loop-rest.invariant.some)) n.0)
 
-pub returns-in_err-put_run : goal.returns-in_err-put_run
-returns-in_err-put_run g c =
+pub returns-in_err-held : goal.returns-in_err-held
+returns-in_err-held g c =
     let state = g.D.Desk.state in
-    let codes = symbol_codes c.args.ac.now in
+    let codes = c.args.ac.now in
     let block = c.args.block.now in
-    let k = c.loop-k.k in
-    let run = c.loop-k.run in
-    let x = slice_index_or block k (pos 0) in
-    let v = to_z w16 (of_z w16 c.get-value.result) in
-    let f : SFits w16 c.get-value.result = search rules in
-    let e : v ≡ x = to_z-of_z w16 c.get-value.result f ∙ c.get-value.ensures.value in
-    let n : x ≢ pos 0 = λ z. c.if-value-eq0.false (ap (of_z w16) (c.get-value.ensures.value ∙ z)) in
-    let l : k < length block = omega (arith, c.loop-k-test.true, c.long.ensures) in
-    let s = left_at codes block k run l ∙ left_value codes x (drop (k + 1) block) run n ∙ ap (λ w. run_bits codes run w ++ left_bits codes (drop (k + 1) block) 0) (sym e) in
+    let rest = c.loop-rest.rest in
+    let z = trailing_zeros w64 rest in
+    let next = c.loop-rest.next in
+    let n = next_value codes block next z rest c.long.ensures c.loop-rest.invariant.few c.loop-rest.invariant.marked (omega (arith, c.loop-rest-test.true)) refl in
+    let v = to_z w16 (of_z w16 c.get.result) in
+    let f : SFits w16 c.get.result = search rules in
+    let e : v ≡ slice_index_or block (next + z) (pos 0) = to_z-of_z w16 c.get.result f ∙ c.get.ensures.value in
+    let later = left_bits codes (drop (next + z + 1) block) 0 in
     let back = err_from_is_err_and c.from_residual.result c.from_residual.ensures.1 in
-    rw (back.1, back.2) (part_fault Puts of_bits (state c.args.desk.now) (state c.loop-k.desk) (state c.put_run.new.desk) c.args.out.now c.loop-k.out c.put_run.new.out (band_bits codes (drop 1 block)) (left_bits codes (drop k block) run)
-    (run_bits codes run v) (left_bits codes (drop (k + 1) block) 0) c.in_err-put_run.field-0.0 s c.loop-k.invariant.part c.in_err-put_run.ensures)
-
-pub loop-k-preserved : goal.loop-k-preserved
-loop-k-preserved g c =
-    let state = g.D.Desk.state in
-    let codes = symbol_codes c.args.ac.now in
-    let block = c.args.block.now in
-    let k = c.loop-k.k in
-    let run = c.loop-k.run in
-    let x = slice_index_or block k (pos 0) in
-    let v = to_z w16 (of_z w16 c.get-value.result) in
-    let f : SFits w16 c.get-value.result = search rules in
-    let e : v ≡ x = to_z-of_z w16 c.get-value.result f ∙ c.get-value.ensures.value in
-    let l : k < length block = omega (arith, c.loop-k-test.true, c.long.ensures) in
+    let fault = c.in_err-held.field-0.0 in
+    let new = c.put_run.new.out in
     let all = band_bits codes (drop 1 block) in
-    let rest = left_bits codes (drop k block) run in
-    let a = left_at codes block k run l in
-    elim c.if-value-eq0.branch [
-      | then-value-eq0 w ↦
-          (let z : x ≡ pos 0 = sym e ∙ ap (to_z w16) w.if-value-eq0.true in
-          let s : rest ≡ left_bits codes (drop (k + 1) block) (run + 1) = a ∙ ap (λ y. left_bits codes (y ∷ drop (k + 1) block) run) z ∙ left_zero codes (drop (k + 1) block) run in
-          rw (w.out-is, w.desk-is, w.run-is)
-          (record {
-            created = c.loop-k.invariant.created;
-            part = part_same Puts (state c.args.desk.now) (state c.loop-k.desk) c.args.out.now c.loop-k.out all rest (left_bits codes (drop (k + 1) block) (run + 1)) s c.loop-k.invariant.part;
-            few = omega (arith, c.loop-k.invariant.few);
-          }))
-      | else-value-eq0+in_ok-put_run w ↦
-          (let n : x ≢ pos 0 = λ z. w.if-value-eq0.false (ap (of_z w16) (c.get-value.ensures.value ∙ z)) in
-          let s : rest ≡ run_bits codes run v ++ left_bits codes (drop (k + 1) block) 0 = a ∙ left_value codes x (drop (k + 1) block) run n ∙ ap (λ y. run_bits codes run y ++ left_bits codes (drop (k + 1) block) 0) (sym e) in
-          rw (w.out-is, w.desk-is, w.run-is)
-          (record {
-            created = w.in_ok-put_run.ensures.kept.output_created ∙ c.loop-k.invariant.created;
-            part = part_then Puts of_bits (state c.args.desk.now) (state c.loop-k.desk) (state w.put_run.new.desk) c.args.out.now c.loop-k.out w.put_run.new.out all rest (run_bits codes run v)
-                (left_bits codes (drop (k + 1) block) 0) s c.loop-k.invariant.part w.in_ok-put_run.ensures;
-            few = omega arith;
-          }))
-    ]
+    let h = part_fault Puts of_bits (state c.args.desk.now) (state c.loop-rest.desk) (state c.put_run.new.desk) c.args.out.now (holding c.loop-rest.out c.loop-rest.held) (holding new []) all (left_bits codes (drop next block) 0)
+    (run_bits codes z v) later fault (n.2 ∙ ap (λ w. run_bits codes z w ++ later) (sym e)) c.loop-rest.invariant.part c.in_err-held.ensures.puts in
+    rw (back.1, back.2) (subst (λ bits. Puts (state c.args.desk.now) c.args.out.now all (Err fault) (holding new bits) (state c.put_run.new.desk)) (sym c.in_err-held.ensures.none) h)
 
-pub returns-then-run-gt0 : goal.returns-then-run-gt0
-returns-then-run-gt0 g c =
+pub loop-rest-preserved : goal.loop-rest-preserved
+loop-rest-preserved g c =
     let state = g.D.Desk.state in
-    let codes = symbol_codes c.args.ac.now in
+    let codes = c.args.ac.now in
     let block = c.args.block.now in
-    let s = left_end codes block c.loop-k.k c.loop-k.run (omega (arith, c.loop-k-test.false, c.long.ensures)) ∙ left_zeros codes c.loop-k.run (omega (arith, c.if-run-gt0.true)) in
-    part_last Puts of_bits (state c.args.desk.now) (state c.loop-k.desk) (state c.put_code.new.desk) c.args.out.now c.loop-k.out c.put_code.new.out (band_bits codes (drop 1 block)) (left_bits codes (drop c.loop-k.k block) c.loop-k.run)
-    (code_of codes 0) c.put_code.result s c.loop-k.invariant.part c.put_code.ensures
+    let rest = c.loop-rest.rest in
+    let z = trailing_zeros w64 rest in
+    let next = c.loop-rest.next in
+    let n = next_value codes block next z rest c.long.ensures c.loop-rest.invariant.few c.loop-rest.invariant.marked (omega (arith, c.loop-rest-test.true)) refl in
+    let v = to_z w16 (of_z w16 c.get.result) in
+    let f : SFits w16 c.get.result = search rules in
+    let e : v ≡ slice_index_or block (next + z) (pos 0) = to_z-of_z w16 c.get.result f ∙ c.get.ensures.value in
+    let later = left_bits codes (drop (next + z + 1) block) 0 in
+    record {
+      created = c.in_ok-held.ensures.puts.kept.output_created ∙ c.loop-rest.invariant.created;
+      part = part_then Puts of_bits (state c.args.desk.now) (state c.loop-rest.desk) (state c.put_run.new.desk) c.args.out.now (holding c.loop-rest.out c.loop-rest.held) (holding c.put_run.new.out c.in_ok-held.held) (band_bits codes (drop 1 block)) (left_bits codes (drop next block) 0)
+          (run_bits codes z v) later (n.2 ∙ ap (λ w. run_bits codes z w ++ later) (sym e)) c.loop-rest.invariant.part c.in_ok-held.ensures.puts;
+      none = c.in_ok-held.ensures.none;
+      marked = n.3;
+      some = omega arith;
+      few = omega (arith, n.0);
+    }
 
-pub returns-else-run-gt0 : goal.returns-else-run-gt0
-returns-else-run-gt0 g c =
+pub returns-then-next-lt64 : goal.returns-then-next-lt64
+returns-then-next-lt64 g c =
     let state = g.D.Desk.state in
-    let codes = symbol_codes c.args.ac.now in
+    let codes = c.args.ac.now in
     let block = c.args.block.now in
-    let s = left_end codes block c.loop-k.k c.loop-k.run (omega (arith, c.loop-k-test.false, c.long.ensures)) ∙ left_none codes c.loop-k.run (omega (arith, c.if-run-gt0.false)) in
-    part_end Puts (state c.args.desk.now) (state c.loop-k.desk) c.args.out.now c.loop-k.out (band_bits codes (drop 1 block)) (left_bits codes (drop c.loop-k.k block) c.loop-k.run) s c.loop-k.invariant.part
+    let next = c.loop-rest.next in
+    let all = band_bits codes (drop 1 block) in
+    let rest = left_bits codes (drop next block) 0 in
+    let none = no_value codes block next c.loop-rest.rest c.long.ensures c.loop-rest.invariant.marked (omega (arith, c.loop-rest-test.false)) in
+    let given = subst (λ w. DoneButFor Puts (state c.args.desk.now) c.args.out.now all rest w (state c.loop-rest.desk)) (sym c.give.ensures) c.loop-rest.invariant.part in
+    part_last Puts of_bits (state c.args.desk.now) (state c.loop-rest.desk) (state c.put_code.new.desk) c.args.out.now c.give.new.self c.put_code.new.out all rest
+    (code_of codes 0) c.put_code.result (none ∙ left_zeros codes (64 - next) (omega (arith, c.if-next-lt64.true))) given c.put_code.ensures
+
+pub returns-else-next-lt64 : goal.returns-else-next-lt64
+returns-else-next-lt64 g c =
+    let state = g.D.Desk.state in
+    let codes = c.args.ac.now in
+    let block = c.args.block.now in
+    let next = c.loop-rest.next in
+    let all = band_bits codes (drop 1 block) in
+    let rest = left_bits codes (drop next block) 0 in
+    let none = no_value codes block next c.loop-rest.rest c.long.ensures c.loop-rest.invariant.marked (omega (arith, c.loop-rest-test.false)) in
+    let given = subst (λ w. DoneButFor Puts (state c.args.desk.now) c.args.out.now all rest w (state c.loop-rest.desk)) (sym c.give.ensures) c.loop-rest.invariant.part in
+    part_end Puts (state c.args.desk.now) (state c.loop-rest.desk) c.args.out.now c.give.new.self all rest (none ∙ left_none codes (64 - next) (omega (arith, c.if-next-lt64.false))) given

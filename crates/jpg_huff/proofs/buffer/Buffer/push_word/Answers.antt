@@ -3,7 +3,7 @@ use Rattle.std.proofs.lemmas.Result.{err_from_is_err_and}
 use Rattle.jpg_spec.specs.Bits.{bits_of, stuffed, whole_bytes}
 use Rattle.jpg_huff.specs.Out.{Emits}
 use Rattle.jpg_huff.proofs.Emitted.{emits_fault, emits_more}
-use Rattle.jpg_huff.proofs.Putting.{word_bytes}
+use Rattle.jpg_huff.proofs.Putting.{low_bytes}
 use Rattle.jpg_huff.proofs.buffer.Buffer.push_word.Goals as goal
 
 pub returns-in_err-make_room-clause-emits : goal.returns-in_err-make_room-clause-emits
@@ -17,5 +17,5 @@ pub returns-clause-emits : goal.returns-clause-emits
 returns-clause-emits g c =
     let state = g.D.Desk.state in
     let e : c.add_word.new.self ≡ c.make_room.new.self ++ stuffed (whole_bytes (bits_of 32 c.args.word)) =
-    c.add_word.ensures ∙ ap (λ l. c.make_room.new.self ++ stuffed l) (sym (word_bytes c.args.word)) in
+    c.add_word.ensures ∙ ap (λ l. c.make_room.new.self ++ stuffed l) (sym (low_bytes c.args.word)) in
     emits_more (state c.args.desk.now) (state c.make_room.new.desk) c.args.self.now c.make_room.new.self (stuffed (whole_bytes (bits_of 32 c.args.word))) c.add_word.new.self c.in_ok-make_room.ensures.emits e

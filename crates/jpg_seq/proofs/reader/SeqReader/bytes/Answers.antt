@@ -14,8 +14,8 @@ len-requires c =
     let all = new_source c.new.result c.args.bytes.now c.new.ensures in
     omega (arith, ap length (sym all ∙ t.1), length-append t.0 (bits_in rest), source_long rest, bytes_long c.args.bytes.now, c.requires.few)
 
-pub returns : goal.returns
-returns c =
+pub returns-clause-takes : goal.returns-clause-takes
+returns-clause-takes c =
     let t = c.read-taken.ensures in let rest = c.read-taken.new.source in
     let all = new_source c.new.result c.args.bytes.now c.new.ensures in
     let count = taken_count c.args.bytes.now t.0 (bits_in rest) (c.len-all.result - c.len.result) c.len.result (sym all ∙ t.1) (omega (arith, c.len-all.ensures, ap length all)) c.len.ensures in
@@ -23,3 +23,6 @@ returns c =
     let S : List Bool → Type 0 = λ x. TakesBits sequential c.args.most c.args.self.now c.args.coefs.now x c.read-taken.result (with_work c.read-taken.new.self c.read-taken.new.unit) c.read-taken.new.coefs (bits_in rest) in
     let U : Work → Type 0 = λ w. TakesBits sequential c.args.most (with_work c.args.self.now w) c.args.coefs.now (bits_in (record { store = c.new.result; bytes = c.args.bytes })) c.read-taken.result (with_work c.read-taken.new.self c.read-taken.new.unit) c.read-taken.new.coefs (bits_in rest) in
     subst T count (subst S all (subst U c.copy-unit.ensures t))
+
+pub returns-clause-within : goal.returns-clause-within
+returns-clause-within c = omega (arith, c.len-all.ensures, source_long (record { store = c.new.result; bytes = c.args.bytes }), ap length c.new.ensures)

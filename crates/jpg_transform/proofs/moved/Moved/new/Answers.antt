@@ -1,24 +1,33 @@
-use Rattle.std.proofs.Common.{subst}
-use Rattle.std.specs.Prelude.{slice_index}
-use Rattle.jpg_spec.specs.Geometry.{Frame}
-use Rattle.jpg_spec.specs.FrameHeader.{IsFrame}
+use Rattle.std.specs.Prelude.{ℕ, slice_index}
+use Rattle.jpg_coefs.specs.Picture.{map_of}
+use Rattle.jpg_file.specs.PictureRead.{picture_meaning}
+use Rattle.jpg_transform.proofs.Planned.{is_output, whole_picture}
+use Rattle.jpg_transform.proofs.SeenPicture.{seen_meaning}
 use Rattle.jpg_transform.proofs.Showing.{Given, reached_by, shown_by}
 use Rattle.jpg_transform.proofs.moved.Moved.new.Goals as goal
 
 pub invariant_of-result : goal.invariant_of-result
-invariant_of-result g c =
-    let given : Given c.args.frame.now c.args.transform c.transposes.result (λ i. slice_index c.all_columns.result i) (λ i. slice_index c.all_rows.result i) =
-    record { frame = c.checked-2.ensures; over_is = c.transposes.ensures; columns_are = c.all_columns.ensures; rows_are = c.all_rows.ensures } in
+invariant_of-result c =
+    let p = c.args.picture.now in
+    let job = c.args.job.now in
+    let out = job.plan.out.frame in
+    let columns : ℕ → ℕ = λ i. slice_index c.all_columns.result i in
+    let rows : ℕ → ℕ = λ i. slice_index c.all_rows.result i in
+    let given : Given out job.transform c.transposes.result columns rows = record { frame = c.checked.ensures; over_is = c.transposes.ensures; columns_are = c.all_columns.ensures; rows_are = c.all_rows.ensures } in
     record {
+      keeps = c.requires.picture;
       reaches = record {
-        few = c.checked-2.ensures.count_high;
-        places = λ i x y r. reached_by c.requires.0 (g.S.BlockView.numbers c.args.source.now) c.args.frame.now c.args.transform c.transposes.result (λ i. slice_index c.all_columns.result i) (λ i. slice_index c.all_rows.result i) i x y (subst (λ (f : Frame). IsFrame f) c.frame.ensures c.checked.ensures) given c.requires.1 r;
+        few = c.checked.ensures.count_high;
+        places = λ i x y r. reached_by c.requires.job.0 p.frame out job.transform c.transposes.result columns rows i x y c.requires.picture.frame given (is_output p c.requires.job.0 job c.requires.picture c.requires.job.1) r;
       };
     }
 
 pub returns-clause-shows : goal.returns-clause-shows
-returns-clause-shows g c = λ M choice w s o.
-    (let given : Given c.args.frame.now c.args.transform c.transposes.result (λ i. slice_index c.all_columns.result i) (λ i. slice_index c.all_rows.result i) =
-    record { frame = c.checked-2.ensures; over_is = c.transposes.ensures; columns_are = c.all_columns.ensures; rows_are = c.all_rows.ensures } in
-    shown_by choice (g.S.BlockView.numbers c.args.source.now) c.args.frame.now c.args.transform c.transposes.result (λ i. slice_index c.all_columns.result i) (λ i. slice_index c.all_rows.result i)
-    (g.S.BlockView.blocks c.args.source.now) M (subst (λ (f : Frame). IsFrame f) c.frame.ensures c.checked.ensures) given w s o)
+returns-clause-shows c = λ choice h.
+    (let p = c.args.picture.now in
+    let job = c.args.job.now in
+    let out = job.plan.out.frame in
+    let columns : ℕ → ℕ = λ i. slice_index c.all_columns.result i in
+    let rows : ℕ → ℕ = λ i. slice_index c.all_rows.result i in
+    let given : Given out job.transform c.transposes.result columns rows = record { frame = c.checked.ensures; over_is = c.transposes.ensures; columns_are = c.all_columns.ensures; rows_are = c.all_rows.ensures } in
+    shown_by choice p.frame out job.transform c.transposes.result columns rows (map_of p.coefs) (picture_meaning p) c.requires.picture.frame given (whole_picture p c.requires.picture) (seen_meaning p) (is_output p choice job c.requires.picture h))

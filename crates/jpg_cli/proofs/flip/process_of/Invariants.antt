@@ -1,6 +1,0 @@
-use Rattle.std.proofs.Common.{◌≡◌, drop}
-use Rattle.jpg_cli.specs.Flipped.{process_of}
-use Rattle.jpg_cli.proofs.flip.process_of.Given as goal
-
-abbrev pub invariant-loop-table : goal.invariant-loop-table
-invariant-loop-table l = process_of (drop l.table-index l.tables) ≡ process_of l.fn.tables

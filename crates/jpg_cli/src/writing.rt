@@ -1,0 +1,70 @@
+//! A picture that was read, moved and written (the manual of jpegtran).
+ghost use Rattle.std.specs.Prelude.{◌≡◌};
+ghost use Rattle.jpg_file.specs.PictureRead.{IsPicture, picture_meaning};
+ghost use Rattle.jpg_transform.specs.Planned.{choice_told};
+ghost use Rattle.jpg_cli.specs.Stays.{OnlyWorks};
+ghost use Rattle.jpg_cli.specs.Writing.{AfterMoved, AfterOutput, IsMeant};
+ghost use Rattle.jpg_transform.specs.Planned.{IsJobFor, moved_text};
+
+use jpg_base::{Desk, Name, Put};
+use jpg_file::{Picture, write_file};
+use jpg_spec::PictureFault;
+use jpg_transform::{Choice, Job, Moved, plan};
+
+/// What came of writing a picture moved.
+#[derive(Clone, Copy, Debug, PartialEq, Eq)]
+pub enum Wrote {
+    /// The output holds the whole file.
+    Done,
+    /// The picture has this fault, and no output was asked for.
+    Picture(PictureFault),
+    /// The output wasn't created.
+    OpenFault,
+    /// The output holds a first part of the file.
+    WriteFault,
+}
+
+/// Writes a picture that was read to an output of this name, moved as the choice asks for it: the text of its sequential
+/// file. The output is created when it is known that the picture has no fault. It takes no memory.
+pub fn write_moved<D: Desk>(
+    picture: &Picture,
+    choice: &Choice,
+    output: &Name,
+    desk: &mut D,
+) -> Wrote
+    requires picture { IsPicture picture.now }
+    requires meant { IsMeant (picture_meaning picture.now) }
+    ensures kept { OnlyWorks (D.state desk.old) (D.state desk.new) }
+    ensures left { (D.state desk.new).left ≡ (D.state desk.old).left }
+    ensures wrote { AfterMoved (choice_told choice.now) (picture_meaning picture.now) output.now (D.state desk.old) result (D.state desk.new) }
+{
+    match plan(picture, choice) {
+        Err(fault) => Wrote::Picture(fault),
+        Ok(job) => write_job(picture, choice, &job, output, desk),
+    }
+}
+
+// Creates the output, and writes the picture to it as the job says.
+fn write_job<D: Desk>(
+    picture: &Picture,
+    choice: &Choice,
+    job: &Job,
+    output: &Name,
+    desk: &mut D,
+) -> Wrote
+    requires picture { IsPicture picture.now }
+    requires meant { IsMeant (picture_meaning picture.now) }
+    requires job { IsJobFor picture.now (choice_told choice.now) job.now }
+    ensures kept { OnlyWorks (D.state desk.old) (D.state desk.new) }
+    ensures left { (D.state desk.new).left ≡ (D.state desk.old).left }
+    ensures output { AfterOutput output.now (D.state desk.old) (moved_text (choice_told choice.now) (picture_meaning picture.now)) result (D.state desk.new) }
+{
+    let moved = Moved::new(picture, job);
+    match desk.create(output) {
+        Put::Failed => Wrote::OpenFault,
+        Put::Done => match write_file(&job.plan, &picture.kept, &moved, desk) {
+            Ok(()) => Wrote::Done,
+            Err(_) => Wrote::WriteFault,
+        },
+    }
+}

@@ -1,0 +1,23 @@
+use Rattle.std.proofs.Common.{◌/◌, ◌%◌, pos, arith, rules, subst, ◌∙◌}
+use mir.Syntax.{w32}
+use mir.Val.{SFits}
+use Rattle.std.proofs.lemmas.Int.{to_z-of_z}
+use Rattle.std.specs.Prelude.{◌-ℤ◌}
+use Rattle.jpg_huff.specs.Tables.{symbol_codes}
+use Rattle.jpg_huff.specs.Encoder.{IsValueEntry}
+use Rattle.jpg_huff.proofs.Encoded.{each_more}
+use Rattle.jpg_huff.proofs.encoder.value_entries.Goals as goal
+
+pub returns : goal.returns
+returns c = λ n h. c.loop-i.invariant.1 n (omega (arith, h, c.loop-i-test.false))
+
+pub loop-i-preserved : goal.loop-i-preserved
+loop-i-preserved c =
+    let codes = symbol_codes c.args.table.now in
+    let i = c.loop-i.i in
+    let e = c.value_entry.result in
+    let f : SFits w32 c.lowered.result = search rules in (
+      search rules,
+      each_more (λ n e. IsValueEntry codes (n / 16) (pos (n % 16) -ℤ pos 8) e) c.loop-i.values i e (omega (arith, c.loop-i.invariant.0, c.loop-i-test.true)) c.loop-i.invariant.1
+          (subst (λ v. IsValueEntry codes (i / 16) v e) (to_z-of_z w32 c.lowered.result f ∙ c.lowered.ensures.value) c.value_entry.ensures),
+    )

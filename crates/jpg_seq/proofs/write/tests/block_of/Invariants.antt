@@ -1,5 +1,0 @@
-use Rattle.jpg_seq.specs.PlainText.{IsWithin}
-use Rattle.jpg_seq.proofs.write.tests.block_of.Given as goal
-
-abbrev pub invariant-loop-k : goal.invariant-loop-k
-invariant-loop-k l = IsWithin l.frame l.block

@@ -1,0 +1,129 @@
+//! AC codes, and values that ten bits tell at once (T.81, F.2.2.2).
+ghost use Rattle.std.specs.Prelude.{◌≡◌, ◌<◌, ◌≤◌, List, length, Contains, IfSome};
+ghost use Rattle.jpg_spec.specs.Bits.{bits_of};
+ghost use Rattle.jpg_spec.specs.Codes.{Code};
+ghost use Rattle.jpg_huff.specs.Laws.{AreApart};
+ghost use Rattle.jpg_huff.specs.Look.{Spots};
+ghost use Rattle.jpg_huff.specs.Tables.{symbol_codes};
+ghost use Rattle.jpg_seq.specs.Values.{AreTold, StandsToldFirst, TellsOrNone};
+
+use jpg_base::BitStore;
+use jpg_huff::{Decoder, Spotted, Table, extend};
+use std::marker::Model;
+
+/// A value that stands first in bits: how many zeros stand before it, and how many bits tell it, 0 where
+/// none does.
+#[derive(Clone, Copy)]
+pub struct Told {
+    pub value: i16,
+    pub run: u8,
+    pub length: u8,
+}
+
+/// The codes of an AC table, and what the ten bits that are next tell.
+#[derive(Drop)]
+pub struct ValueDecoder {
+    decoder: Decoder,
+    told: [Told; 1024],
+}
+
+impl Model for ValueDecoder {
+    ghost use Rattle.std.specs.Prelude.{List};
+    ghost use Rattle.jpg_spec.specs.Codes.{Code};
+    ghost use Rattle.jpg_seq.specs.Values.{AreTold};
+
+    ghost Value = { List Code };
+
+    ghost view = { λ d. d.decoder };
+
+    ghost invariant = { λ d. AreTold d.decoder d.told };
+}
+
+// The bits of a number below 1024.
+fn ten_bits(ten: u16) -> BitStore
+    requires { ten < 1024 }
+    ensures { result ≡ bits_of 10 ten }
+{
+    let mut bits = BitStore::new();
+    bits.push((ten / 4) as u8);
+    bits.push_bit(ten / 2 % 2 == 1);
+    bits.push_bit(ten % 2 == 1);
+    bits
+}
+
+// No value.
+fn nothing() -> Told
+    ensures { result.length ≡ 0 }
+{
+    Told {
+        value: 0,
+        run: 0,
+        length: 0,
+    }
+}
+
+// What is kept for these ten bits.
+fn told_by(codes: &Decoder, ten: u16) -> Told
+    requires { ten < 1024 }
+    ensures { TellsOrNone codes.now (bits_of 10 ten) result }
+{
+    let bits = ten_bits(ten);
+    match codes.spot(&bits) {
+        Spotted::Symbol { length, symbol } => {
+            let size = symbol % 16;
+            if size > 0 && length + size <= 10 {
+                Told {
+                    value: extend(size, bits.peek_behind(length, size)),
+                    run: symbol / 16,
+                    length: length + size,
+                }
+            } else {
+                nothing()
+            }
+        }
+        Spotted::Part => nothing(),
+        Spotted::NoCode { .. } => nothing(),
+    }
+}
+
+impl ValueDecoder {
+    /// For the codes of this table.
+    pub fn new(table: &Table) -> ValueDecoder
+        ensures { result ≡ symbol_codes table.now }
+    {
+        let decoder = Decoder::new(table);
+        let mut told = [nothing(); 1024];
+        for ten in 0..1024usize {
+            told[ten] = told_by(&decoder, ten as u16);
+        }
+        ValueDecoder { decoder, told }
+    }
+
+    /// Tells that no code begins another, and none is empty. It does nothing.
+    pub fn apart(&self)
+        ensures one { AreApart self.now }
+        ensures some { (code : Code) → Contains self.now code → 1 ≤ length code.0 }
+    {
+        self.decoder.apart();
+    }
+
+    /// What code stands first in these bits.
+    #[inline(always)]
+    pub fn spot(&self, bits: &BitStore) -> Spotted
+        ensures { Spots self.now bits.now result }
+    {
+        self.decoder.spot(bits)
+    }
+
+    /// A value that the first ten of these bits tell.
+    #[inline(always)]
+    pub fn told(&self, bits: &BitStore) -> Option<Told>
+        ensures { IfSome result (λ told. StandsToldFirst self.now bits.now told) }
+    {
+        if bits.len() < 10 {
+            return None;
+        }
+        let told = self.told[bits.peek(10) as usize];
+        if told.length == 0 { None } else { Some(told) }
+    }
+}

@@ -1,0 +1,50 @@
+-- The fault of a picture that shall be gray, by its frame.
+use Rattle.std.proofs.Common.{◌≡◌, ◌≤◌, Bool, true, false, cond, not, ◌&&◌, ◌==◌, [], length, refl, sym, ap, ◌∙◌, arith, Option, None, Some}
+use Rattle.jpg_spec.specs.Geometry.{component_at, greatest, h_max, v_max}
+use Rattle.jpg_spec.specs.Laws.{FirstIsGreatest}
+use Rattle.jpg_spec.specs.Lists.{below}
+use Rattle.jpg_spec.specs.Meaning.{PictureComponent}
+use Rattle.jpg_spec.specs.Moved.{Grids, gray_fault, is_gray_or_ycbcr}
+use Rattle.jpg_spec.specs.Moves.{component_of, most_across, most_down}
+use Rattle.jpg_spec.specs.declared.transform.PictureFault.{PictureFault}
+use Rattle.jpg_spec.specs.declared.transform.PictureFault.TheVariants.{GrayColour, GrayFactors}
+use Rattle.std.proofs.lemmas.List.{get_or-map}
+use Rattle.jpg_spec.proofs.Common.{length_below, same_of}
+use Rattle.jpg_spec.proofs.Rows.{at_below}
+use Rattle.jpg_file.specs.PictureRead.{IsPicture, component_told, picture_meaning}
+use Rattle.jpg_file.specs.declared.picture.Picture.{Picture}
+use Rattle.jpg_transform.specs.Planned.{is_first_greatest}
+use Rattle.jpg_transform.proofs.SeenPicture.{seen_grids}
+
+-- by the colours and the test of the frame
+abbrev pub fault_by : Bool → Bool → Bool → Option PictureFault
+fault_by gray colours first = cond (gray && not colours) (Some GrayColour) (cond (gray && not first) (Some GrayFactors) None)
+
+first_told : (p : Picture) → 1 ≤ length p.frame.components → component_of (picture_meaning p) 0 ≡ component_told p.frame p.quants.items 0
+first_told p some =
+    let n = length p.frame.components in
+    get_or-map (component_told p.frame p.quants.items) (below n) 0 0 (record { id = 0; h = 1; v = 1; quants = [] }) (omega (arith, some, length_below n))
+    ∙ ap (component_told p.frame p.quants.items) (at_below n 0 (omega (arith, some)))
+
+pub gray_by_frame : (gray : Bool) (p : Picture) → IsPicture p → gray_fault gray (picture_meaning p) ≡ fault_by gray (is_gray_or_ycbcr p.colour) (is_first_greatest p.frame)
+gray_by_frame gray p is =
+    let M = picture_meaning p in
+    let f = p.frame in
+    let first = first_told p is.frame.count_low in
+    let across : most_across M ≡ h_max f = ap (λ (g : Grids). greatest g.across) (seen_grids p) in
+    let down : most_down M ≡ v_max f = ap (λ (g : Grids). greatest g.down) (seen_grids p) in
+    ap (λ c. fault_by gray (is_gray_or_ycbcr c) ((component_of M 0).h == most_across M && (component_of M 0).v == most_down M)) (sym is.colour)
+    ∙ ap (λ (c : PictureComponent). fault_by gray (is_gray_or_ycbcr p.colour) (c.h == most_across M && c.v == most_down M)) first
+    ∙ ap (λ n. fault_by gray (is_gray_or_ycbcr p.colour) ((component_at f 0).h == n && (component_at f 0).v == most_down M)) across
+    ∙ ap (λ n. fault_by gray (is_gray_or_ycbcr p.colour) ((component_at f 0).h == h_max f && (component_at f 0).v == n)) down
+
+-- where there is none, the first component is whole
+pub first_greatest : (gray : Bool) (p : Picture) → IsPicture p → gray_fault gray (picture_meaning p) ≡ None → gray ≡ true → FirstIsGreatest p.frame
+first_greatest gray p is none e = by (is_gray_or_ycbcr p.colour) ((component_at p.frame 0).h == h_max p.frame) ((component_at p.frame 0).v == v_max p.frame) refl refl
+    (ap (λ b. fault_by b (is_gray_or_ycbcr p.colour) (is_first_greatest p.frame)) (sym e) ∙ sym (gray_by_frame gray p is) ∙ none)
+  where
+    by : (a b d : Bool) → ((component_at p.frame 0).h == h_max p.frame) ≡ b → ((component_at p.frame 0).v == v_max p.frame) ≡ d → fault_by true a (b && d) ≡ None → FirstIsGreatest p.frame
+    by true true true h v n = record { across = same_of _ _ h; down = same_of _ _ v }
+    by true true false h v n = cc
+    by true false d h v n = cc
+    by false b d h v n = cc

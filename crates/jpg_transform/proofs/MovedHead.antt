@@ -1,0 +1,203 @@
+-- The head of the output: its components, tables, sides, kept markers and colours are those of the picture moved.
+use Rattle.std.proofs.Common.{◌≡◌, ℕ, ◌≤◌, Bool, true, false, cond, List, [], ◌∷◌, length, get_or, map, refl, sym, ap, ◌∙◌, arith}
+use Rattle.std.proofs.lemmas.List.{length-map}
+use Rattle.jpg_spec.specs.Colours.{colours_of}
+use Rattle.jpg_spec.specs.FileText.{frame_of_meaning}
+use Rattle.jpg_spec.specs.Geometry.{Frame, component_at, no_component}
+use Rattle.jpg_spec.specs.Jfif.{adobe_transform, jfif_of}
+use Rattle.jpg_spec.specs.Meaning.{Meaning, PictureComponent, colour_of}
+use Rattle.jpg_spec.specs.Moved.{Choice, exchanged_factors, grayed, grayed_frame, moved, moved_frame, trimmed}
+use Rattle.jpg_spec.specs.Moves.{component_of}
+use Rattle.jpg_spec.specs.Segments.{QuantTable}
+use Rattle.jpg_spec.specs.Transforms.{exchanged_axes, transformed, transposes}
+use Rattle.jpg_spec.specs.Transposed.{transposed}
+use Rattle.jpg_spec.specs.declared.frame.Colour.{Colour}
+use Rattle.jpg_spec.specs.declared.frame.Component.{Component}
+use Rattle.jpg_spec.specs.declared.transform.Transform.{Transform}
+use Rattle.jpg_spec.specs.declared.transform.Transform.TheVariants.{Keep, FlipH, FlipV, Transpose, Transverse, Rotate90, Rotate180, Rotate270}
+use Rattle.jpg_spec.proofs.Rows.{map_map}
+use Rattle.jpg_spec.proofs.SameNumbers.{numbers_of}
+use Rattle.jpg_markers.specs.OutHead.{with_tables}
+use Rattle.jpg_transform.specs.Planned.{grayed_tables, moved_colour, moved_tables, turned_tables}
+
+-- THE PICTURE before it is headed
+abbrev pub unheaded : Choice → Meaning → Meaning
+unheaded choice M = trimmed choice.trim choice.transform (transformed choice.transform (grayed choice.gray M))
+
+-- COMPONENTS with their tables
+
+abbrev first_gray : Meaning → List PictureComponent
+first_gray M = record (component_of M 0) { h = 1; v = 1 } ∷ []
+
+grayed_components : (gray : Bool) (M : Meaning) → (grayed gray M).components ≡ cond gray (first_gray M) M.components
+grayed_components true M = refl
+grayed_components false M = refl
+
+transformed_components : (t : Transform) (M : Meaning) → (transformed t M).components ≡ cond (transposes t) (map exchanged_axes M.components) M.components
+transformed_components Keep M = refl
+transformed_components FlipH M = refl
+transformed_components FlipV M = refl
+transformed_components Transpose M = refl
+transformed_components Transverse M = refl
+transformed_components Rotate90 M = refl
+transformed_components Rotate180 M = refl
+transformed_components Rotate270 M = refl
+
+trimmed_components : (trim : Bool) (t : Transform) (M : Meaning) → (trimmed trim t M).components ≡ M.components
+trimmed_components true t M = refl
+trimmed_components false t M = refl
+
+-- of the frame
+frame_components : (b : Bool) (f : Frame) → (cond b (record f { width = f.height; height = f.width; components = map exchanged_factors f.components }) f).components ≡ cond b (map exchanged_factors f.components) f.components
+frame_components true f = refl
+frame_components false f = refl
+
+gray_components : (gray : Bool) (f : Frame) → (grayed_frame gray f).components ≡ cond gray (record (component_at f 0) { h = 1; v = 1 } ∷ []) f.components
+gray_components true f = refl
+gray_components false f = refl
+
+over_tables : (cs : List Component) (q : List QuantTable) → with_tables (map exchanged_factors cs) (map (transposed 0) q) ≡ map exchanged_axes (with_tables cs q)
+over_tables [] q = refl
+over_tables (c ∷ cs) [] = refl
+over_tables (c ∷ cs) (t ∷ q) = ap (λ l. record { id = c.id; h = c.v; v = c.h; quants = transposed 0 t } ∷ l) (over_tables cs q)
+
+turned_with : (b : Bool) (cs : List Component) (q : List QuantTable) → with_tables (cond b (map exchanged_factors cs) cs) (turned_tables b q) ≡ cond b (map exchanged_axes (with_tables cs q)) (with_tables cs q)
+turned_with true cs q = over_tables cs q
+turned_with false cs q = refl
+
+gray_with : (gray : Bool) (cs : List Component) (q : List QuantTable) (of : List PictureComponent) → of ≡ with_tables cs q → length q ≡ length cs → 1 ≤ length cs
+    → with_tables (cond gray (record (get_or cs 0 no_component) { h = 1; v = 1 } ∷ []) cs) (grayed_tables gray q)
+    ≡ cond gray (record (get_or of 0 (record { id = 0; h = 1; v = 1; quants = [] })) { h = 1; v = 1 } ∷ []) of
+gray_with false cs q of e l some = sym e
+gray_with true [] q of e l some = absurd (omega (arith, some))
+gray_with true (c ∷ cs) [] of e l some = absurd (omega (arith, l))
+gray_with true (c ∷ cs) (t ∷ q) of e l some = ap (λ (of : List PictureComponent). record (get_or of 0 (record { id = 0; h = 1; v = 1; quants = [] })) { h = 1; v = 1 } ∷ []) (sym e)
+
+-- the components of the picture moved
+pub moved_components : (choice : Choice) (f : Frame) (q : List QuantTable) (M : Meaning) → M.components ≡ with_tables f.components q → length q ≡ length f.components → 1 ≤ length f.components
+    → with_tables (moved_frame choice f).components (moved_tables choice q) ≡ (moved choice M).components
+moved_components choice f q M e l some =
+    let t = choice.transform in
+    let g = grayed_frame choice.gray f in
+    let grays : with_tables g.components (grayed_tables choice.gray q) ≡ (grayed choice.gray M).components =
+    ap (λ (cs : List Component). with_tables cs (grayed_tables choice.gray q)) (gray_components choice.gray f) ∙ gray_with choice.gray f.components q M.components e l some ∙ sym (grayed_components choice.gray M) in
+    ap (λ (cs : List Component). with_tables cs (moved_tables choice q)) (frame_components (transposes t) g)
+    ∙ turned_with (transposes t) g.components (grayed_tables choice.gray q)
+    ∙ ap (λ (cs : List PictureComponent). cond (transposes t) (map exchanged_axes cs) cs) grays
+    ∙ sym (transformed_components t (grayed choice.gray M)) ∙ sym (trimmed_components choice.trim t (transformed t (grayed choice.gray M)))
+
+-- how many tables there are
+counts : (b gray : Bool) (cs : List Component) (q : List QuantTable) → length q ≡ length cs → 1 ≤ length cs
+    → length (turned_tables b (grayed_tables gray q)) ≡ length (cond b (map exchanged_factors (cond gray (record (get_or cs 0 no_component) { h = 1; v = 1 } ∷ []) cs)) (cond gray (record (get_or cs 0 no_component) { h = 1; v = 1 } ∷ []) cs))
+counts true false cs q l some = length-map q (transposed 0) ∙ l ∙ sym (length-map cs exchanged_factors)
+counts false false cs q l some = l
+counts b true [] q l some = absurd (omega (arith, some))
+counts b true (c ∷ cs) [] l some = absurd (omega (arith, l))
+counts true true (c ∷ cs) (t ∷ q) l some = refl
+counts false true (c ∷ cs) (t ∷ q) l some = refl
+
+pub moved_count : (choice : Choice) (f : Frame) (q : List QuantTable) → length q ≡ length f.components → 1 ≤ length f.components → length (moved_tables choice q) ≡ length (moved_frame choice f).components
+moved_count choice f q l some =
+    counts (transposes choice.transform) choice.gray f.components q l some
+    ∙ ap (λ (cs : List Component). length (cond (transposes choice.transform) (map exchanged_factors cs) cs)) (sym (gray_components choice.gray f))
+    ∙ ap length (sym (frame_components (transposes choice.transform) (grayed_frame choice.gray f)))
+
+-- NUMBERS
+
+numbers_with : (cs : List Component) (q : List QuantTable) → length q ≡ length cs → map (λ (c : PictureComponent). (c.id, c.h, c.v)) (with_tables cs q) ≡ map numbers_of cs
+numbers_with [] q l = refl
+numbers_with (c ∷ cs) [] l = absurd (omega (arith, l))
+numbers_with (c ∷ cs) (t ∷ q) l = ap (λ ns. (c.id, c.h, c.v) ∷ ns) (numbers_with cs q (omega (arith, l)))
+
+pub meaning_numbers : (cs : List Component) (q : List QuantTable) (N : Meaning) → with_tables cs q ≡ N.components → length q ≡ length cs → map numbers_of cs ≡ map numbers_of (frame_of_meaning N).components
+meaning_numbers cs q N e l = sym (numbers_with cs q l) ∙ ap (map (λ (c : PictureComponent). (c.id, c.h, c.v))) e ∙ sym (map_map numbers_of _ N.components)
+
+-- WHAT STAYS
+
+gray_precision : (gray : Bool) (M : Meaning) → (grayed gray M).precision ≡ M.precision
+gray_precision true M = refl
+gray_precision false M = refl
+
+turned_precision : (t : Transform) (M : Meaning) → (transformed t M).precision ≡ M.precision
+turned_precision Keep M = refl
+turned_precision FlipH M = refl
+turned_precision FlipV M = refl
+turned_precision Transpose M = refl
+turned_precision Transverse M = refl
+turned_precision Rotate90 M = refl
+turned_precision Rotate180 M = refl
+turned_precision Rotate270 M = refl
+
+trimmed_precision : (trim : Bool) (t : Transform) (M : Meaning) → (trimmed trim t M).precision ≡ M.precision
+trimmed_precision true t M = refl
+trimmed_precision false t M = refl
+
+pub precision_stays : (choice : Choice) (M : Meaning) → (unheaded choice M).precision ≡ M.precision
+precision_stays choice M =
+    trimmed_precision choice.trim choice.transform (transformed choice.transform (grayed choice.gray M)) ∙ turned_precision choice.transform (grayed choice.gray M) ∙ gray_precision choice.gray M
+
+frame_precision : (b : Bool) (f : Frame) → (cond b (record f { width = f.height; height = f.width; components = map exchanged_factors f.components }) f).precision ≡ f.precision
+frame_precision true f = refl
+frame_precision false f = refl
+
+gray_frame_precision : (gray : Bool) (f : Frame) → (grayed_frame gray f).precision ≡ f.precision
+gray_frame_precision true f = refl
+gray_frame_precision false f = refl
+
+pub frame_precision_stays : (choice : Choice) (f : Frame) → (moved_frame choice f).precision ≡ f.precision
+frame_precision_stays choice f = frame_precision (transposes choice.transform) (grayed_frame choice.gray f) ∙ gray_frame_precision choice.gray f
+
+gray_kept : (gray : Bool) (M : Meaning) → (grayed gray M).kept ≡ M.kept
+gray_kept true M = refl
+gray_kept false M = refl
+
+turned_kept : (t : Transform) (M : Meaning) → (transformed t M).kept ≡ M.kept
+turned_kept Keep M = refl
+turned_kept FlipH M = refl
+turned_kept FlipV M = refl
+turned_kept Transpose M = refl
+turned_kept Transverse M = refl
+turned_kept Rotate90 M = refl
+turned_kept Rotate180 M = refl
+turned_kept Rotate270 M = refl
+
+trimmed_kept : (trim : Bool) (t : Transform) (M : Meaning) → (trimmed trim t M).kept ≡ M.kept
+trimmed_kept true t M = refl
+trimmed_kept false t M = refl
+
+pub kept_stays : (choice : Choice) (M : Meaning) → (unheaded choice M).kept ≡ M.kept
+kept_stays choice M = trimmed_kept choice.trim choice.transform (transformed choice.transform (grayed choice.gray M)) ∙ turned_kept choice.transform (grayed choice.gray M) ∙ gray_kept choice.gray M
+
+-- COLOURS
+
+ids_of : List PictureComponent → List ℕ
+ids_of cs = map (λ c. c.id) cs
+
+turned_ids : (t : Transform) (M : Meaning) → map (λ c. c.id) (transformed t M).components ≡ map (λ c. c.id) M.components
+turned_ids t M = ap (map (λ (c : PictureComponent). c.id)) (transformed_components t M) ∙ by (transposes t)
+  where
+    by : (b : Bool) → map (λ (c : PictureComponent). c.id) (cond b (map exchanged_axes M.components) M.components) ≡ map (λ c. c.id) M.components
+    by true = map_map (λ (c : PictureComponent). c.id) exchanged_axes M.components
+    by false = refl
+
+colour_with : (count : ℕ) (ids : List ℕ) (kept : List (ℕ × List ℕ)) → Colour
+colour_with count ids kept = colours_of count ids (jfif_of kept).seen (adobe_transform kept)
+
+same_colour : (M N : Meaning) → map (λ c. c.id) M.components ≡ map (λ c. c.id) N.components → M.kept ≡ N.kept → colour_of M ≡ colour_of N
+same_colour M N ids kept =
+    let count : length M.components ≡ length N.components = sym (length-map M.components (λ c. c.id)) ∙ ap length ids ∙ length-map N.components (λ c. c.id) in
+    ap (λ n. colours_of n (map (λ c. c.id) M.components) (jfif_of M.kept).seen (adobe_transform M.kept)) count
+    ∙ ap (λ is. colours_of (length N.components) is (jfif_of M.kept).seen (adobe_transform M.kept)) ids
+    ∙ ap (λ k. colours_of (length N.components) (map (λ c. c.id) N.components) (jfif_of k).seen (adobe_transform k)) kept
+
+gray_colour : (gray : Bool) (M : Meaning) → colour_of (grayed gray M) ≡ moved_colour gray (colour_of M)
+gray_colour true M = refl
+gray_colour false M = refl
+
+pub colour_moves : (choice : Choice) (M : Meaning) → colour_of (unheaded choice M) ≡ moved_colour choice.gray (colour_of M)
+colour_moves choice M =
+    let G = grayed choice.gray M in
+    let T = transformed choice.transform G in
+    same_colour (trimmed choice.trim choice.transform T) G (ap (map (λ (c : PictureComponent). c.id)) (trimmed_components choice.trim choice.transform T) ∙ turned_ids choice.transform G)
+    (trimmed_kept choice.trim choice.transform T ∙ turned_kept choice.transform G)
+    ∙ gray_colour choice.gray M

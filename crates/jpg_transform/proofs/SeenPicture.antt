@@ -1,0 +1,27 @@
+-- What a picture that was read shows of its meaning.
+use Rattle.std.proofs.Common.{◌≡◌, ℕ, List, length, map, ap, ◌∙◌}
+use Rattle.std.proofs.lemmas.List.{length-map}
+use Rattle.jpg_spec.specs.Geometry.{component_at}
+use Rattle.jpg_spec.specs.Lists.{below}
+use Rattle.jpg_spec.specs.Moved.{Grids, frame_grids, picture_grids}
+use Rattle.jpg_spec.proofs.MovedGrids.{factor_across, factor_down}
+use Rattle.jpg_spec.proofs.Rows.{by_items, map_map}
+use Rattle.jpg_coefs.specs.Picture.{map_of}
+use Rattle.jpg_file.specs.PictureRead.{component_told, picture_meaning}
+use Rattle.jpg_file.specs.declared.picture.Picture.{Picture}
+use Rattle.jpg_transform.specs.Places.{IsSeenAs}
+use Rattle.jpg_transform.proofs.Showing.{real_true}
+
+pub seen_grids : (p : Picture) → picture_grids (picture_meaning p) ≡ frame_grids p.frame
+seen_grids p =
+    let f = p.frame in
+    let n = length f.components in
+    let M = picture_meaning p in
+    let of : List ℕ → List ℕ → Grids = λ a d. record { width = f.width; height = f.height; across = a; down = d } in
+    ap (λ a. of a (map (λ c. c.v) M.components))
+    (map_map (λ c. c.h) (component_told f p.quants.items) (below n) ∙ by_items n (λ i. (component_at f i).h) (map (λ c. c.h) f.components) 1 (length-map f.components (λ c. c.h)) (λ i h. factor_across f i))
+    ∙ ap (λ d. of (map (λ c. c.h) f.components) d)
+    (map_map (λ c. c.v) (component_told f p.quants.items) (below n) ∙ by_items n (λ i. (component_at f i).v) (map (λ c. c.v) f.components) 1 (length-map f.components (λ c. c.v)) (λ i h. factor_down f i))
+
+pub seen_meaning : (p : Picture) → IsSeenAs (picture_meaning p) p.frame (map_of p.coefs)
+seen_meaning p = record { grids = seen_grids p; same = λ i x y r. real_true p.frame (map_of p.coefs) i x y r }

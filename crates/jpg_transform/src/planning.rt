@@ -1,0 +1,137 @@
+// How a picture is written as it was asked for (the manual of jpegtran).
+ghost use Rattle.std.specs.Prelude.{◌≡◌, ◌≤◌, length, map, None};
+ghost use Rattle.jpg_spec.specs.Transposed.{transposed};
+ghost use Rattle.jpg_spec.specs.Moved.{gray_fault, is_gray_or_ycbcr};
+ghost use Rattle.jpg_file.specs.PictureRead.{IsPicture, picture_meaning};
+ghost use Rattle.jpg_transform.specs.Planned.{IsOutHeadOf, IsPlan, choice_told, is_first_greatest, moved_tables, process_of};
+
+use crate::frames::moved_frame;
+use crate::table::transposes;
+use crate::{Choice, Job};
+use arrayvec::ArrayVec;
+use jpg_base::{Frame, QuantTable};
+use jpg_file::{Picture, Plan};
+use jpg_markers::{OutHead, is_wide};
+use jpg_scans::Script;
+use jpg_spec::{Colour, PictureFault, Process};
+
+/// How a picture is written as it is asked for, or its first fault: GrayColour where other colours than gray and YCbCr
+/// shall be gray, GrayFactors where the first component of such a picture hasn't the greatest factors. The sequential
+/// script has no faults. It takes no memory.
+pub fn plan(picture: &Picture, choice: &Choice) -> Result<Job, PictureFault>
+    requires { IsPicture picture.now }
+    ensures { IsPlan picture.now (choice_told choice.now) result }
+{
+    if let Some(fault) = gray_fault(picture, choice.gray) {
+        return Err(fault);
+    }
+    let out = head_of(picture, choice);
+    let script = Script::sequential(&out.frame);
+    Ok(Job {
+        plan: Plan { out, script },
+        transform: choice.transform,
+        gray: choice.gray,
+    })
+}
+
+// Whether a picture of these colours can be gray.
+fn is_gray_or_ycbcr(colour: Colour) -> bool
+    ensures { result ≡ is_gray_or_ycbcr colour }
+{
+    matches!(colour, Colour::Gray | Colour::YCbCr)
+}
+
+// The fault of a picture that shall be gray.
+fn gray_fault(picture: &Picture, gray: bool) -> Option<PictureFault>
+    requires { IsPicture picture.now }
+    ensures { result ≡ gray_fault gray (picture_meaning picture.now) }
+{
+    if gray && !is_gray_or_ycbcr(picture.colour) {
+        return Some(PictureFault::GrayColour);
+    }
+    if gray && !is_first_greatest(&picture.frame) {
+        return Some(PictureFault::GrayFactors);
+    }
+    None
+}
+
+// Whether the first component has the greatest factors.
+fn is_first_greatest(frame: &Frame) -> bool
+    ensures { result ≡ is_first_greatest frame.now }
+{
+    frame.checked();
+    let first = frame.component(0);
+    first.h == frame.h_max() && first.v == frame.v_max()
+}
+
+// What the head of the output is written from.
+fn head_of(picture: &Picture, choice: &Choice) -> OutHead
+    requires picture { IsPicture picture.now }
+    requires admitted { gray_fault choice.now.gray (picture_meaning picture.now) ≡ None }
+    ensures { IsOutHeadOf (choice_told choice.now) picture.now result }
+{
+    let quants = moved_tables(picture.quants.as_slice(), choice);
+    let process = process_of(quants.as_slice());
+    OutHead {
+        frame: moved_frame(&picture.frame, choice).with_process(process),
+        colour: if choice.gray {
+            Colour::Gray
+        } else {
+            picture.colour
+        },
+        quants,
+        jfif: picture.jfif,
+        copying: choice.copying,
+    }
+}
+
+// The tables of the output.
+fn moved_tables(tables: &[QuantTable], choice: &Choice) -> ArrayVec<QuantTable, 4>
+    requires { length tables.now ≤ 4 }
+    ensures { result.items ≡ moved_tables (choice_told choice.now) tables.now }
+{
+    let kept = if choice.gray && !tables.is_empty() {
+        &tables[..1]
+    } else {
+        tables
+    };
+    if transposes(choice.transform) {
+        turned(kept)
+    } else {
+        copied(kept)
+    }
+}
+
+// The tables again.
+fn copied(tables: &[QuantTable]) -> ArrayVec<QuantTable, 4>
+    requires { length tables.now ≤ 4 }
+    ensures { result.items ≡ tables.now }
+{
+    let mut list = ArrayVec::new();
+    let _ = list.try_extend_from_slice(tables);
+    list
+}
+
+// The tables with their axes exchanged.
+fn turned(tables: &[QuantTable]) -> ArrayVec<QuantTable, 4>
+    requires { length tables.now ≤ 4 }
+    ensures { result.items ≡ map (transposed 0) tables.now }
+{
+    let mut list = ArrayVec::new();
+    for table in tables {
+        list.push(table.transposed());
+    }
+    list
+}
+
+// The process of a sequential file with these tables.
+fn process_of(tables: &[QuantTable]) -> Process
+    ensures { result ≡ process_of tables.now }
+{
+    for table in tables {
+        if is_wide(table) {
+            return Process::Extended;
+        }
+    }
+    Process::Baseline
+}
