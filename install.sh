@@ -1,24 +1,245 @@
 #!/usr/bin/env bash
-# Builds the proved program and installs it: PREFIX/bin/jpgsuite, and a small command for each tool
-# that is built. PREFIX is ~/.local where none is given.
+# Proves jpgsuite, builds it and installs it: the program, a small command for each tool, manual pages and completions.
 set -euo pipefail
-prefix=${1:-$HOME/.local}
-case "$prefix" in /*) ;; *) prefix=$PWD/$prefix ;; esac
-cd "$(dirname "$0")/crates/jpg_suite"
+unset CDPATH
 
-# rt run proves the program and all that it stands on, builds it, and runs it once: here on the
-# smallest file.
-log=$(mktemp)
-trap 'rm -f "$log"' EXIT
-if ! rt run -- jpegtran -flip horizontal < stdin 2> "$log" > /dev/null; then
-    cat "$log" >&2
+kit="rattle-kit-13f logic dac8208d650f15bf"
+tools=(jpegtran rdjpgcom wrjpgcom)
+
+usage() {
+    cat <<'END'
+./install.sh [PREFIX]               proves jpgsuite, builds it and installs it into PREFIX (~/.local where none is given)
+./install.sh --uninstall [PREFIX]   takes away what was installed there
+./install.sh --help                 prints this
+
+PREFIX/bin gets jpgsuite, jpegtran, rdjpgcom and wrjpgcom, PREFIX/share their manual pages and completions for bash
+and zsh. A file that is there already and isn't of jpgsuite is never replaced: nothing is installed then.
+
+It needs rt, the command of the Rattle kit (rattle-kit-13f, logic dac8208d650f15bf), on PATH.
+
+Environment:
+  DESTDIR            stands in front of each path that is written, for who makes a package
+  JPGSUITE_PROGRAM   a program that was built before: it is installed as it is, nothing is proved, and rt isn't needed
+END
+}
+
+fail() {
+    echo "install.sh: $*" >&2
     exit 1
-fi
+}
 
-mkdir -p "$prefix/bin"
-install -m 755 out/jpg_suite "$prefix/bin/jpgsuite"
-for tool in jpegtran rdjpgcom wrjpgcom; do
-    printf '#!/bin/sh\nexec jpgsuite %s "$@"\n' "$tool" > "$prefix/bin/$tool"
-    chmod 755 "$prefix/bin/$tool"
+# Whether there is nothing of this name, or a file of jpgsuite: each of them names it.
+is_ours() {
+    [ ! -L "$1" ] && [ ! -e "$1" ] || { [ -f "$1" ] && grep -aqs jpgsuite "$1"; }
+}
+
+# Whether a file or a folder of this name can be made.
+can_be_made() {
+    local above
+    above=$(dirname -- "$1")
+    while [ ! -e "$above" ]; do above=$(dirname -- "$above"); done
+    [ -d "$above" ] && [ -w "$above" ]
+}
+
+# The command of a tool: it calls the program beside it, wherever both stand, and through links to it too.
+small_command() {
+    cat <<END
+#!/bin/sh
+# $1, a command of jpgsuite: the program beside this file has it.
+here=\$0
+if [ -L "\$here" ]; then here=\$(readlink -f -- "\$here"); fi
+case \$here in */*) ;; *) here=./\$here ;; esac
+exec "\${here%/*}/jpgsuite" $1 "\$@"
+END
+}
+
+# Puts together, in a folder of its own, what is installed, but for the program.
+stage() {
+    local tool to=$1
+    mkdir -p "$to/bin" "$to/share/man/man1" "$to/share/bash-completion/completions" "$to/share/zsh/site-functions"
+    for tool in "${tools[@]}"; do
+        small_command "$tool" > "$to/bin/$tool"
+        cp "man/$tool.1" "$to/share/man/man1/"
+    done
+    cp man/jpgsuite.1 "$to/share/man/man1/"
+    for tool in jpgsuite "${tools[@]}"; do
+        cp completions/jpgsuite.bash "$to/share/bash-completion/completions/$tool"
+    done
+    cp completions/_jpgsuite "$to/share/zsh/site-functions/"
+    chmod -R u=rwX,go=rX "$to"
+    chmod 755 "$to"/bin/*
+}
+
+# Of what rt run says, a line a crate; all of it goes into a log.
+tell_crates() {
+    local line count crate="" since=0
+    while IFS= read -r line; do
+        printf '%s\n' "$line" >> "$1"
+        case $line in
+        "rt: chose --jobs "*" for "*)
+            crate=${line##* for }
+            since=$SECONDS
+            printf '  %s:' "$crate"
+            ;;
+        "logic=proved functions="*)
+            count=${line#logic=proved functions=}
+            [ -z "$crate" ] || printf ' %s functions proved, %s s\n' "${count%% *}" "$((SECONDS - since))"
+            crate=""
+            ;;
+        "rt: waiting for "* | "rt: "*": another copy of the repository "*) printf '  %s\n' "${line#rt: }" ;;
+        "rt: nothing has changed since "*) echo "  nothing has changed since it was proved and built" ;;
+        esac
+    done
+    [ -z "$crate" ] || echo " not proved"
+}
+
+# Proves and builds the program, and runs it once, on the input that is stored beside it.
+build() {
+    local found log=$work/log
+    command -v rt > /dev/null ||
+        fail "rt isn't on PATH: it is the command of the Rattle kit (${kit/ logic/, logic}), which proves and builds jpgsuite"
+    found=$(rt version 2>&1) || true
+    [ "$found" = "$kit" ] || fail "rt version says '$found', but jpgsuite is proved with $kit"
+    echo "proving jpgsuite with $kit, crate by crate (what was proved on this machine before, and hasn't changed, is kept)"
+    if ! (cd crates/jpg_suite && rt run -- "${words[@]}" < stdin 2>&1 > "$work/answer") | tell_crates "$log"; then
+        grep -v ': proved$' "$log" >&2 || true
+        fail "jpgsuite wasn't built: what rt said stands above"
+    fi
+}
+
+install_all() {
+    local dir name line names=() folders=() made=() above=0
+    stage "$work/stage"
+    mapfile -t names < <(cd "$work/stage" && find . -type f | sed 's,^\./,,' | LC_ALL=C sort)
+    names=(bin/jpgsuite "${names[@]}" "$list")
+    for name in "${names[@]}"; do
+        is_ours "$root/$name" || fail "$root/$name is there already and isn't of jpgsuite: nothing was installed"
+        can_be_made "$root/$name" || fail "can't write $root/$name: nothing was installed"
+    done
+
+    mapfile -t words < crates/jpg_suite/args
+    if [ -n "${JPGSUITE_PROGRAM:-}" ]; then
+        program=$JPGSUITE_PROGRAM
+        [ -f "$program" ] && [ -x "$program" ] || fail "JPGSUITE_PROGRAM is no program: $program"
+        echo "nothing is proved here: $program is installed as it is"
+        "$program" "${words[@]}" < crates/jpg_suite/stdin > "$work/answer" || fail "$program failed on crates/jpg_suite/stdin"
+    else
+        program=crates/jpg_suite/out/jpg_suite
+        build
+    fi
+    cmp -s "$work/answer" crates/jpg_suite/stdout ||
+        fail "the program wrote something else than crates/jpg_suite/stdout: nothing was installed"
+    echo "its one run wrote what crates/jpg_suite/stdout has; that took $SECONDS s in all"
+    cp "$program" "$work/stage/bin/jpgsuite"
+
+    # Which folders are made: the root and those above it are counted, those below it have names.
+    dir=$root
+    while [ ! -d "$dir" ]; do
+        above=$((above + 1))
+        dir=$(dirname -- "$dir")
+    done
+    mapfile -t folders < <(for name in "${names[@]}"; do
+        while name=$(dirname "$name") && [ "$name" != . ]; do echo "$name"; done
+    done | LC_ALL=C sort -u)
+    for name in "${folders[@]}"; do
+        [ -d "$root/$name" ] || made=("$name" "${made[@]}")
+    done
+    # An earlier install made others.
+    if [ -f "$root/$list" ]; then
+        while read -r line name; do
+            case $line in
+            file) [[ " ${names[*]} " == *" $name "* ]] || ! is_ours "$root/$name" || rm -f -- "$root/$name" ;;
+            folder) [[ " ${made[*]} " == *" $name "* ]] || made=("$name" "${made[@]}") ;;
+            above) [ "$above" -gt "$name" ] || above=$name ;;
+            esac
+        done < "$root/$list"
+    fi
+
+    # What is installed is noted first, so that it can be taken away however this ends.
+    mkdir -p "$work/stage/$(dirname "$list")"
+    {
+        printf 'file %s\n' "${names[@]}"
+        [ ${#made[@]} = 0 ] || printf 'folder %s\n' "${made[@]}" | LC_ALL=C sort -r
+        echo "above $above"
+    } > "$work/stage/$list"
+    (umask 022 && mkdir -p -- "$root" && cd -- "$root" && mkdir -p -- "${folders[@]}")
+    install -m 644 "$work/stage/$list" "$root/$list"
+    for name in "${names[@]}"; do
+        case $name in
+        bin/*) install -m 755 "$work/stage/$name" "$root/$name" ;;
+        "$list") ;;
+        *) install -m 644 "$work/stage/$name" "$root/$name" ;;
+        esac
+    done
+
+    cat <<END
+$("$program" --version) is installed in $root:
+  bin: jpgsuite, and its commands ${tools[*]}
+  share/man/man1: a manual page of each
+  share/bash-completion/completions, share/zsh/site-functions: completions (zsh wants the latter on its fpath)
+jpegtran was given its own name by choice, though -progressive, -scans and -restart, and progressive files, aren't
+built yet and are refused. Where PREFIX/bin comes first on PATH it hides another jpegtran.
+./install.sh --uninstall takes all of it away.
+END
+    case ":$PATH:" in
+    *":$prefix/bin:"*) ;;
+    *) [ -n "${DESTDIR:-}" ] || echo "$prefix/bin isn't on PATH." ;;
+    esac
+}
+
+uninstall() {
+    local line name i dir lines=() left=0
+    [ -f "$root/$list" ] || fail "nothing of jpgsuite is installed in $root (there is no $root/$list)"
+    mapfile -t lines < "$root/$list"
+    for line in "${lines[@]}"; do
+        name=${line#* }
+        case $line in
+        "file "*)
+            if is_ours "$root/$name"; then
+                rm -f -- "$root/$name"
+            else
+                echo "install.sh: $root/$name isn't of jpgsuite any more, and stays" >&2
+                left=1
+            fi
+            ;;
+        "folder "*) [ ! -d "$root/$name" ] || rmdir --ignore-fail-on-non-empty -- "$root/$name" ;;
+        "above "*)
+            dir=$root
+            for ((i = 0; i < name; i++)); do
+                [ ! -d "$dir" ] || rmdir --ignore-fail-on-non-empty -- "$dir"
+                dir=$(dirname -- "$dir")
+            done
+            ;;
+        esac
+    done
+    [ "$left" = 0 ] || exit 1
+    echo "jpgsuite was taken away from $root"
+}
+
+action=install_all
+prefix=""
+for word in "$@"; do
+    case $word in
+    --help) usage && exit 0 ;;
+    --uninstall) action=uninstall ;;
+    -*) fail "unknown option $word (./install.sh --help lists them)" ;;
+    "") fail "PREFIX is empty" ;;
+    *)
+        [ -z "$prefix" ] || fail "two prefixes: $prefix and $word"
+        prefix=$word
+        ;;
+    esac
 done
-echo "installed in $prefix/bin: jpgsuite, jpegtran, rdjpgcom, wrjpgcom"
+[ -n "$prefix" ] || prefix=${HOME:?is not set: give a PREFIX}/.local
+[ "$prefix" = / ] || prefix=${prefix%/}
+case $prefix in /*) ;; *) prefix=$PWD/$prefix ;; esac
+root=${DESTDIR:-}$prefix
+case $root in /*) ;; *) root=$PWD/$root ;; esac
+case ${JPGSUITE_PROGRAM:-/} in /*) ;; *) JPGSUITE_PROGRAM=$PWD/$JPGSUITE_PROGRAM ;; esac
+# What was installed, and which folders were made for it.
+list=share/jpgsuite/installed
+
+cd "$(dirname "$0")"
+work=$(mktemp -d)
+trap 'rm -rf "$work"' EXIT
+"$action"

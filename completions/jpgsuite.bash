@@ -1,0 +1,69 @@
+# Completions of jpgsuite and its commands: completions/make wrote this from completions/table.
+_jpgsuite_commands='jpegtran rdjpgcom wrjpgcom'
+_jpgsuite_rows=(
+    'jpegtran -copy 1 none,comments,all'
+    'jpegtran -flip 1 horizontal,vertical'
+    'jpegtran -rotate 2 90,180,270'
+    'jpegtran -transpose 1 -'
+    'jpegtran -transverse 6 -'
+    'jpegtran -trim 3 -'
+    'jpegtran -grayscale 1 -'
+    'jpegtran -greyscale 1 -'
+    'jpegtran -outfile 4 FILE'
+    'wrjpgcom -replace 1 -'
+    'wrjpgcom -comment 1 TEXT'
+    'wrjpgcom -cfile 2 FILE'
+)
+
+# What the value of a switch is: names, FILE, TEXT, or - where it stands alone. A word stands for a switch as in the commands: a
+# beginning of its name that has its shortest form, in either case.
+_jpgsuite_value() {
+    local tool=$1 word=${2,,} row name shortest value
+    for row in "${_jpgsuite_rows[@]}"; do
+        read -r row name shortest value <<< "$row"
+        if [[ $row == "$tool" && ${#word} -gt $shortest && $name == "$word"* ]]; then
+            echo "$value"
+            return
+        fi
+    done
+}
+
+_jpgsuite() {
+    local tool=${1##*/} from=1 word=$2 value=- taken=0 at row name
+    COMPREPLY=()
+    if [[ $tool == jpgsuite ]]; then
+        if ((COMP_CWORD == 1)); then
+            COMPREPLY=($(compgen -W "$_jpgsuite_commands --help --version" -- "$word"))
+            compopt +o default
+            return
+        fi
+        tool=${COMP_WORDS[1]}
+        from=2
+    fi
+    # Which value is due at the word, if any, and whether a file was named before it.
+    for ((at = from; at < COMP_CWORD; at++)); do
+        if [[ $value != - ]]; then
+            value=-
+        elif [[ ${COMP_WORDS[at]} == -* ]]; then
+            value=$(_jpgsuite_value "$tool" "${COMP_WORDS[at]}")
+            value=${value:--}
+        else
+            taken=1
+        fi
+    done
+    # Where nothing is answered here, bash offers files.
+    if [[ $taken == 1 || $value == TEXT ]]; then
+        compopt +o default
+    elif [[ $value == - && $word == -* ]]; then
+        for row in "${_jpgsuite_rows[@]}"; do
+            read -r row name value <<< "$row"
+            [[ $row != "$tool" ]] || COMPREPLY+=($(compgen -W "$name" -- "$word"))
+        done
+        compopt +o default
+    elif [[ $value != - && $value != FILE ]]; then
+        COMPREPLY=($(compgen -W "${value//,/ }" -- "$word"))
+        compopt +o default
+    fi
+}
+
+complete -o default -F _jpgsuite jpgsuite $_jpgsuite_commands
