@@ -6,7 +6,7 @@ use Rattle.jpg_base.specs.declared.names.Put.TheVariants as put
 use Rattle.jpg_base.specs.Desk.{DeskState, NotesName}
 use Rattle.jpg_base.specs.Laws.{Grows, NotesNames, NotesNames-then}
 use Rattle.jpg_spec.specs.Segments.{standard_limits}
-use Rattle.jpg_cli.specs.Endings.{asked_for, Asks, Copied, Stopped, Unopened, Unread, Wrote}
+use Rattle.jpg_cli.specs.Endings.{Added, asked_for, Asks, Copied, Stopped, Unopened, Unread}
 use Rattle.jpg_cli.specs.Reading.{IsFile, ReadsBytes, rest_of}
 use Rattle.jpg_cli.specs.Stays.{OnlySays}
 
@@ -37,7 +37,7 @@ unopened_then s0 s1 s2 names k h = record { stopped = stopped_then s0 s1 s2 name
 pub unread_then : (s0 s1 s2 : DeskState) (names : List Name) → OnlySays s1 s2 → Unread names s0 s1 → Unread names s0 s2
 unread_then s0 s1 s2 names k h = record { stopped = stopped_then s0 s1 s2 names put.Done k h.stopped; reads = (let r = h.reads in let f = k.stays.counts.reads in omega arith) }
 
-pub wrote_then : (s0 s1 s2 : DeskState) (names : List Name) (output : Name) (text : List ℕ) → OnlySays s1 s2 → Wrote names output text s0 s1 → Wrote names output text s0 s2
+pub wrote_then : (s0 s1 s2 : DeskState) (names : List Name) (output : Name) (text : List ℕ) → OnlySays s1 s2 → Added names output text s0 s1 → Added names output text s0 s2
 wrote_then s0 s1 s2 names output text k h = record {
   asked = asks_still s0 s1 s2 (names ++ output ∷ []) put.Done k.same.asked h.asked;
   outputs = (let G : Option (List (Name × List ℕ)) → Type 0 = λ a. Grows s0.outputs (output, text) a in subst G (sym k.same.outputs) h.outputs);

@@ -7,16 +7,17 @@ use Rattle.jpg_base.specs.declared.stop.WriteFault.{WriteFault}
 use Rattle.jpg_base.specs.Desk.{DeskState, NotesName, Creates}
 use Rattle.jpg_base.specs.Laws.{Grows-from}
 use Rattle.jpg_huff.specs.Out.{OnlyWrites}
-use Rattle.jpg_cli.specs.Writing.{WritesAll, AfterOutput}
+use Rattle.jpg_file.specs.WriteFile.{AreAppended}
+use Rattle.jpg_cli.specs.Writing.{AfterOutput}
 use Rattle.jpg_cli.specs.declared.writing.Wrote.TheVariants as wrote
 
-pub output_done : (s0 s1 s2 : DeskState) (output : Name) (due : List ℕ) → Creates s0 output put.Done s1 → OnlyWrites s1 s2 → WritesAll s1 due (Ok tt) s2 → AfterOutput output s0 due wrote.Done s2
+pub output_done : (s0 s1 s2 : DeskState) (output : Name) (due : List ℕ) → Creates s0 output put.Done s1 → OnlyWrites s1 s2 → AreAppended s1 due (Ok tt) s2 → AfterOutput output s0 due wrote.Done s2
 output_done s0 s1 s2 output due h k w = (
   (let P : Option (List (Name × Put)) → Type 0 = λ a. NotesName s0.asked (output, put.Done) a in subst P (sym k.asked) h.asked),
   Grows-from s0.outputs s1.outputs s2.outputs output due h.after.1 w,
 )
 
-pub output_failed : (s0 s1 s2 : DeskState) (output : Name) (due : List ℕ) (fault : WriteFault) → Creates s0 output put.Done s1 → OnlyWrites s1 s2 → WritesAll s1 due (Err fault) s2 → AfterOutput output s0 due wrote.WriteFault s2
+pub output_failed : (s0 s1 s2 : DeskState) (output : Name) (due : List ℕ) (fault : WriteFault) → Creates s0 output put.Done s1 → OnlyWrites s1 s2 → AreAppended s1 due (Err fault) s2 → AfterOutput output s0 due wrote.WriteFault s2
 output_failed s0 s1 s2 output due fault h k w = (
   (let P : Option (List (Name × Put)) → Type 0 = λ a. NotesName s0.asked (output, put.Done) a in subst P (sym k.asked) h.asked),
   (let r = w.1 in let f = h.counts.writes in omega arith),

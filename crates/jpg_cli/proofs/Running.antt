@@ -21,7 +21,7 @@ use Rattle.jpg_spec.proofs.ReadPicture.{read_moved}
 use Rattle.jpg_spec.proofs.WrittenFront.{standard_are_limits}
 use Rattle.jpg_transform.specs.Planned.{choice_told, moved_text}
 use Rattle.jpg_transform.specs.declared.choice.Choice.{Choice as Asked}
-use Rattle.jpg_cli.specs.Endings.{Asks, Wrote}
+use Rattle.jpg_cli.specs.Endings.{Added, Asks}
 use Rattle.jpg_cli.specs.ReadPicture.{IsWholeRead, PictureRead, ReadsFrom}
 use Rattle.jpg_cli.specs.Stays.{Keeps, Untouched}
 use Rattle.jpg_cli.specs.Commands.{name_of}
@@ -102,7 +102,7 @@ turning_by input output c = record { input = input; output = output; choice = ch
 read_on : (t : Turning) (M : Meaning) (s0 s1 s2 : DeskState) → HasPictureRead t M s0 s1 s2 → ReadsFrom t.input (IsWholeRead M) s0 s2
 read_on t M s0 s1 s2 h = from_still s0 s1 s2 t.input (IsWholeRead M) h.left h.read
 
-wrote_text : (t : Turning) (M : Meaning) (s0 s1 s2 : DeskState) (text : List ℕ) → HasPictureRead t M s0 s1 s2 → NotesName s1.asked (t.output, put.Done) s2.asked → Grows s1.outputs (t.output, text) s2.outputs → Wrote (t.input ∷ []) t.output text s0 s2
+wrote_text : (t : Turning) (M : Meaning) (s0 s1 s2 : DeskState) (text : List ℕ) → HasPictureRead t M s0 s1 s2 → NotesName s1.asked (t.output, put.Done) s2.asked → Grows s1.outputs (t.output, text) s2.outputs → Added (t.input ∷ []) t.output text s0 s2
 wrote_text t M s0 s1 s2 text h o grows = record {
   asked = asks_next s0 s1 s2 (t.input ∷ []) t.output put.Done h.asked o;
   outputs = (let P : Option (List (Name × List ℕ)) → Type 0 = λ a. Grows a (t.output, text) s2.outputs in subst P h.kept.outputs grows);

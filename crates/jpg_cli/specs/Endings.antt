@@ -34,7 +34,7 @@ pub record Unread (names : List Name) (old new : DeskState) : Type 0 where
   pub reads : Rose old.counts.reads new.counts.reads
 
 -- These names were asked for, and then one more, under which an output was added. It holds this text.
-pub record Wrote (names : List Name) (output : Name) (text : List ℕ) (old new : DeskState) : Type 0 where
+pub record Added (names : List Name) (output : Name) (text : List ℕ) (old new : DeskState) : Type 0 where
   pub asked : Asks (names ++ output ∷ []) put.Done old new
   pub outputs : Grows old.outputs (output, text) new.outputs
 
@@ -43,5 +43,5 @@ pub record Copied (before : List Name) (input output : Name) (Is : List ℕ → 
   pub bytes : List ℕ
   pub text : List ℕ
   pub read : ReadsBytes standard_limits.input input bytes old new
-  pub wrote : Wrote (before ++ input ∷ []) output text old new
+  pub wrote : Added (before ++ input ∷ []) output text old new
   pub is : Is bytes text

@@ -12,7 +12,7 @@ use Rattle.jpg_spec.specs.declared.answers.Why.TheVariants as why
 use Rattle.jpg_spec.specs.declared.answers.Which.TheVariants as which
 use Rattle.jpg_transform.specs.Planned.{choice_told, moved_text}
 use Rattle.jpg_cli.specs.declared.transform_words.TransformWords.{TransformWords}
-use Rattle.jpg_cli.specs.Endings.{Stopped, Unopened, Unread, Wrote}
+use Rattle.jpg_cli.specs.Endings.{Added, Stopped, Unopened, Unread}
 use Rattle.jpg_cli.specs.Reading.{rest_of}
 use Rattle.jpg_cli.specs.ReadPicture.{IsOpenRead, IsRefusedRead, IsShortRead, IsWholeRead, ReadsFrom}
 
@@ -32,7 +32,7 @@ pub record ReadsPicture (t : Turning) (M : Meaning) (old new : DeskState) : Type
 
 -- This text was written to the output.
 abbrev pub WroteText : Turning → List ℕ → DeskState → DeskState → Type 0
-WroteText t text old new = Wrote (t.input ∷ []) t.output text old new
+WroteText t text old new = Added (t.input ∷ []) t.output text old new
 
 -- The text of the picture moved means it.
 abbrev pub MeansMoved : Choice → Meaning → Type 0

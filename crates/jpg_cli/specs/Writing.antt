@@ -1,10 +1,9 @@
 -- WHAT WRITING A PICTURE MOVED does to a desk, by what came of it (the manual of jpegtran).
-use Rattle.std.specs.Prelude.{◌≡◌, ℕ, ◌<◌, List, All, take, None, Some, Result, Ok, Err}
+use Rattle.std.specs.Prelude.{◌≡◌, ℕ, ◌<◌, List, All, take, None, Some}
 use Rattle.jpg_base.specs.declared.names.Name.{Name}
 use Rattle.jpg_base.specs.declared.names.Put.TheVariants as put
-use Rattle.jpg_base.specs.declared.stop.WriteFault.{WriteFault}
-use Rattle.jpg_base.specs.Desk.{DeskState, Rose, NotesName, AppendsLast}
-use Rattle.jpg_base.specs.Laws.{Grows, AppendsPart}
+use Rattle.jpg_base.specs.Desk.{DeskState, Rose, NotesName}
+use Rattle.jpg_base.specs.Laws.{Grows}
 use Rattle.jpg_spec.specs.FileMeaning.{Means}
 use Rattle.jpg_spec.specs.Meaning.{Meaning}
 use Rattle.jpg_spec.specs.Moved.{Choice, gray_fault}
@@ -17,11 +16,6 @@ use Rattle.jpg_transform.specs.Planned.{moved_text}
 -- some bytes mean this picture
 abbrev pub IsMeant : Meaning → Type 0
 IsMeant M = (bytes : List ℕ) × All (λ b. b < 256) bytes × Means standard_limits bytes M
-
--- All that is due was written. After a fault a first part of it was.
-abbrev pub WritesAll : DeskState → List ℕ → Result (Unit {0}) WriteFault → DeskState → Type 0
-WritesAll old due (Ok u) new = AppendsLast old.outputs due new.outputs
-WritesAll old due (Err fault) new = AppendsPart old.outputs due new.outputs × Rose old.counts.writes new.counts.writes
 
 -- Outputs grew by one of this name, which holds a first part of the bytes.
 abbrev pub GrowsInPart : Name → DeskState → List ℕ → DeskState → Type 0

@@ -11,6 +11,7 @@ mod segment;
 
 pub use comments::Comments;
 pub use insert::{Insert, LONGEST_COMMENT};
+pub use jpg_base::{Bytes, Fault, FaultAt, Fed, Limits, NoMemory, Stop};
 pub use printed::append_printed;
 pub use segment::append_segment;
 

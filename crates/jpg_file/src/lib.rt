@@ -25,6 +25,12 @@ pub use file::FileWork;
 pub use head::{Head, colours, head_of};
 pub use held::{Held, Took, lacks_table};
 pub use items::{ItemStep, Items};
+pub use jpg_base::{
+    Colour, Desk, Fault, FaultAt, Fed, Frame, Limits, QuantTable, ScanHead, Stop, WriteFault,
+};
+pub use jpg_coefs::{BlockView, Coefs};
+pub use jpg_markers::{Jfif, Kept, KeptList, OutHead};
+pub use jpg_scans::Script;
 pub use judge::judge_head;
 pub use picture::{Picture, picture_of};
 pub use reader::Reader;

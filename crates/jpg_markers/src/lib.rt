@@ -18,6 +18,11 @@ pub use colour::guess;
 pub use frame::read_sof;
 pub use huffmans::read_dht;
 pub use interval::read_dri;
+pub use jpg_base::{
+    Bytes, Colour, Desk, Fault, FaultAt, Frame, Limits, NoMemory, Process, QuantTable, ScanHead,
+    Stop, WriteFault,
+};
+pub use jpg_huff::{BitOut, TableSet};
 pub use jpg_spec::{Copying, Jfif};
 pub use kept::{Kept, KeptList};
 pub use quants::{QuantSet, read_dqt};

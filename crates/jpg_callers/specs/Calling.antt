@@ -1,0 +1,58 @@
+-- WHAT THE CALLERS PROMISE of a file that they have whole.
+use Rattle.std.specs.Prelude.{◌≡◌, ℕ, List, [], ◌∷◌, take, Result, Ok, Err, None, Some}
+use Rattle.jpg_spec.specs.CommentText.{IsReadFault}
+use Rattle.jpg_spec.specs.FileStands.{IsWholeFile}
+use Rattle.jpg_spec.specs.Meaning.{Meaning}
+use Rattle.jpg_spec.specs.Moved.{Choice, gray_fault, moved}
+use Rattle.jpg_spec.specs.Segments.{standard_limits}
+use Rattle.jpg_base.specs.Memory.{memory_outputs}
+use Rattle.jpg_base.specs.declared.memory.MemoryDesk.{MemoryDesk}
+use Rattle.jpg_base.specs.declared.names.Name.TheVariants.{Out}
+use Rattle.jpg_base.specs.declared.stop.Stop.{Stop}
+use Rattle.jpg_base.specs.declared.stop.Stop.TheVariants as stop
+use Rattle.jpg_comments.specs.Printing.{PrintsWhole}
+use Rattle.jpg_coefs.specs.Picture.{Picture as Coefs, map_of}
+use Rattle.jpg_file.specs.PictureRead.{picture_meaning}
+use Rattle.jpg_file.specs.ReadFile.{IsRefusal}
+use Rattle.jpg_file.specs.declared.picture.Picture.{Picture}
+use Rattle.jpg_transform.specs.Places.{IsSeenAs}
+use Rattle.jpg_transform.specs.Planned.{moved_text}
+use Rattle.jpg_callers.specs.declared.pictures.NotTurned.{NotTurned}
+use Rattle.jpg_callers.specs.declared.pictures.NotTurned.TheVariants as unturned
+
+-- the text of the comments of a front that is whole, or the file's fault
+abbrev pub IsCommentsOf : List ℕ → Result (List ℕ) Stop → Type 0
+IsCommentsOf file (Ok text) = (n : ℕ) × PrintsWhole standard_limits (take n file) text
+IsCommentsOf file (Err (stop.Fault f)) = IsReadFault standard_limits file f.fault f.at
+IsCommentsOf file (Err stop.NoMemory) = Unit {0}
+
+-- A front of the file is whole and means this picture.
+abbrev pub BeginsWith : List ℕ → Meaning → Type 0
+BeginsWith file M = (n : ℕ) × IsWholeFile standard_limits (take n file) M
+
+-- the picture that a front means, or what the file is refused with
+abbrev pub IsPictureOf : List ℕ → Result Picture Stop → Type 0
+IsPictureOf file (Ok p) = BeginsWith file (picture_meaning p)
+IsPictureOf file (Err (stop.Fault f)) = IsRefusal standard_limits file f
+IsPictureOf file (Err stop.NoMemory) = Unit {0}
+
+-- the desk has one output, which holds the text of the picture moved
+abbrev pub HoldsTurned : Choice → Meaning → Result MemoryDesk NotTurned → Type 0
+HoldsTurned choice M (Ok desk) = memory_outputs desk ≡ (Out, moved_text choice M) ∷ []
+HoldsTurned choice M (Err (unturned.Picture fault)) = ⊥
+HoldsTurned choice M (Err (unturned.Stop (stop.Fault f))) = ⊥
+HoldsTurned choice M (Err (unturned.Stop stop.NoMemory)) = Unit {0}
+
+-- why there is nothing: the file is refused, or it means a picture with a fault
+abbrev pub IsNotTurned : List ℕ → Choice → NotTurned → Type 0
+IsNotTurned file choice (unturned.Picture fault) = (M : Meaning) × BeginsWith file M × (gray_fault choice.gray M ≡ Some fault)
+IsNotTurned file choice (unturned.Stop (stop.Fault f)) = IsRefusal standard_limits file f
+IsNotTurned file choice (unturned.Stop stop.NoMemory) = Unit {0}
+
+abbrev pub IsTurned : List ℕ → Choice → Result MemoryDesk NotTurned → Type 0
+IsTurned file choice (Ok desk) = (M : Meaning) × BeginsWith file M × (memory_outputs desk ≡ (Out, moved_text choice M) ∷ [])
+IsTurned file choice (Err why) = IsNotTurned file choice why
+
+abbrev pub IsTurnedCoefs : List ℕ → Choice → Result Coefs NotTurned → Type 0
+IsTurnedCoefs file choice (Ok coefs) = (M : Meaning) × BeginsWith file M × IsSeenAs (moved choice M) coefs.frame (map_of coefs)
+IsTurnedCoefs file choice (Err why) = IsNotTurned file choice why

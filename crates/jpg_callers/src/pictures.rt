@@ -1,0 +1,91 @@
+//! A picture read, and moved without loss, by `jpg_file` and `jpg_transform` (T.81, B.2; the manual of jpegtran).
+ghost use Rattle.std.specs.Prelude.{IfOk};
+ghost use Rattle.jpg_spec.specs.Laws.{IsMovable};
+ghost use Rattle.jpg_file.specs.PictureRead.{IsPicture, picture_meaning};
+ghost use Rattle.jpg_transform.specs.Planned.{IsJobFor, choice_told};
+ghost use Rattle.jpg_callers.specs.Calling.{IsPictureOf, IsTurned, IsTurnedCoefs, HoldsTurned};
+
+use jpg_base::{Desk, MemoryDesk, Name, Put};
+use jpg_file::{Fed, Limits, Picture, Reader, Stop, write_file};
+use jpg_transform::{Choice, Coefs, Job, Moved, PictureFault, apply, plan};
+use std::alloc::Global;
+
+/// Why a file isn't turned.
+#[derive(Clone, Copy, Debug, PartialEq, Eq)]
+pub enum NotTurned {
+    /// The file is refused, or memory is wanting.
+    Stop(Stop),
+    /// The picture can't be gray.
+    Picture(PictureFault),
+}
+
+/// The picture of a file. It answers the file's first fault, at the number of bytes that show it, Truncated
+/// at the file's length and InputTooLong at 2^40 among them, or NotBuilt at the end of the header of a
+/// progressive frame; and NoMemory. Bytes behind EOI are left out of account.
+pub fn read_picture(alloc: Global, file: &[u8]) -> Result<Picture, Stop>
+    ensures picture { IfOk result (λ picture. IsPicture picture) }
+    ensures read { IsPictureOf file.now result }
+{
+    let mut reader = Reader::new(alloc, Limits::standard());
+    match reader.feed(file) {
+        Ok(Fed::Done { .. }) => Ok(reader.take()),
+        Ok(Fed::More) => Err(reader.end()),
+        Err(stop) => Err(stop),
+    }
+}
+
+/// A desk whose one output, named `Name::Out`, holds the file of the picture moved. It answers what
+/// `read_picture` stops at, the picture's fault where it can't be gray, or want of memory.
+pub fn turn(alloc: Global, file: &[u8], choice: &Choice) -> Result<MemoryDesk, NotTurned>
+    ensures { IsTurned file.now (choice_told choice.now) result }
+{
+    let picture = match read_picture(alloc, file) {
+        Ok(picture) => picture,
+        Err(stop) => return Err(NotTurned::Stop(stop)),
+    };
+    match plan(&picture, choice) {
+        Ok(job) => write_turned(alloc, &picture, choice, &job),
+        Err(fault) => Err(NotTurned::Picture(fault)),
+    }
+}
+
+// The file of the picture moved, as the job says.
+fn write_turned(
+    alloc: Global,
+    picture: &Picture,
+    choice: &Choice,
+    job: &Job,
+) -> Result<MemoryDesk, NotTurned>
+    requires picture { IsPicture picture.now }
+    requires movable { IsMovable (choice_told choice.now) (picture_meaning picture.now) }
+    requires job { IsJobFor picture.now (choice_told choice.now) job.now }
+    ensures { HoldsTurned (choice_told choice.now) (picture_meaning picture.now) result }
+{
+    let moved = Moved::new(picture, job);
+    let mut desk = MemoryDesk::new(alloc, 1);
+    match desk.create(&Name::Out) {
+        Put::Failed => Err(NotTurned::Stop(Stop::NoMemory)),
+        Put::Done => match write_file(&job.plan, &picture.kept, &moved, &mut desk) {
+            Ok(()) => Ok(desk),
+            Err(_) => Err(NotTurned::Stop(Stop::NoMemory)),
+        },
+    }
+}
+
+/// The coefficients of the picture moved, without a file. It answers the same stops and faults.
+pub fn turn_coefs(alloc: Global, file: &[u8], choice: &Choice) -> Result<Coefs, NotTurned>
+    ensures { IsTurnedCoefs file.now (choice_told choice.now) result }
+{
+    let picture = match read_picture(alloc, file) {
+        Ok(picture) => picture,
+        Err(stop) => return Err(NotTurned::Stop(stop)),
+    };
+    let job = match plan(&picture, choice) {
+        Ok(job) => job,
+        Err(fault) => return Err(NotTurned::Picture(fault)),
+    };
+    match apply(alloc, &picture, &job) {
+        Ok(coefs) => Ok(coefs),
+        Err(_) => Err(NotTurned::Stop(Stop::NoMemory)),
+    }
+}
