@@ -1,6 +1,6 @@
 // The header of a frame, and the grids that it bounds (T.81, A.1, A.2, B.2.2).
 ghost use Rattle.std.specs.Prelude.{◌≡◌, ◌*◌, ◌<◌, ◌≤◌, length, IfOk};
-ghost use Rattle.jpg_spec.specs.Geometry.{h_max, v_max, bounds, component_at, padded_blocks};
+ghost use Rattle.jpg_spec.specs.Geometry.{h_max, v_max, bounds, component_at, padded_blocks, mcu_row_frame};
 ghost use Rattle.jpg_spec.specs.FrameHeader.{AreLimits, HasFactors, IsFrame, checked_frame, mcu_grid, real_grid, padded_grid, padded_across, padded_down};
 ghost use Rattle.jpg_base.specs.Frame.{numbers_of};
 
@@ -118,6 +118,34 @@ impl Frame {
             components: kept(self.components.as_slice()),
             h_max: self.h_max,
             v_max: self.v_max,
+        }
+    }
+
+    /// One row of the MCUs of a scan of all components, as a frame: it has 8 lines where there is one
+    /// component, else 8 times the greatest factor down (T.81, A.2.3).
+    pub fn row(&self) -> Frame
+        ensures { result ≡ mcu_row_frame self.now }
+    {
+        self.checked();
+        Frame {
+            process: self.process,
+            precision: self.precision,
+            width: self.width,
+            height: self.mcu_lines(),
+            components: kept(self.components.as_slice()),
+            h_max: self.h_max,
+            v_max: self.v_max,
+        }
+    }
+
+    // The lines of an MCU of a scan of all components.
+    fn mcu_lines(&self) -> u32
+        ensures { result ≡ (mcu_row_frame self.now).height }
+    {
+        if self.components.len() == 1 {
+            8
+        } else {
+            8 * u32::from(self.v_max)
         }
     }
 

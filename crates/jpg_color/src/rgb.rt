@@ -1,7 +1,7 @@
 // Red, green and blue of luminance and the two colour differences (JFIF 1.02).
 ghost use Rattle.std.specs.Prelude.{◌≡◌, ◌+◌, ◌*◌, ◌<◌, ◌++◌, ◌+ℤ◌, ◌-ℤ◌, ◌*ℤ◌, ◌≤ℤ◌, neg_ℤ, pos, length, take};
 ghost use Rattle.std.specs.Int.{int_shr};
-ghost use Rattle.jpg_spec.specs.RedGreenBlue.{clamped, about_middle, to_rgb, rgb_row};
+ghost use Rattle.jpg_spec.specs.RedGreenBlue.{clamped, about_middle, to_rgb, rgb_row, interleaved_row};
 
 // How far a colour difference lies from its middle.
 #[inline(always)]
@@ -97,5 +97,17 @@ pub fn rgb_row(ys: &[u8], cbs: &[u8], crs: &[u8], out: &mut [u8])
 {
     for i in 0..ys.len() {
         put(out, i, &to_rgb(ys[i], cbs[i], crs[i]));
+    }
+}
+
+/// Three rows, red, green and blue, as a row of colours.
+pub fn interleaved_row(rs: &[u8], gs: &[u8], bs: &[u8], out: &mut [u8])
+    requires green { length gs.now ≡ length rs.now }
+    requires blue { length bs.now ≡ length rs.now }
+    requires room { length out.old ≡ 3 * length rs.now }
+    ensures { out.new ≡ interleaved_row rs.now gs.now bs.now }
+{
+    for i in 0..rs.len() {
+        put(out, i, &[rs[i], gs[i], bs[i]]);
     }
 }

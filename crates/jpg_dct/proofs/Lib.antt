@@ -4,3 +4,4 @@ pub mod Lows
 pub mod Numbers
 pub mod Samples
 pub mod Wrapped
+pub mod OneCoefficient

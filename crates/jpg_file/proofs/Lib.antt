@@ -26,3 +26,4 @@ pub mod SeqData
 pub mod SameUnits
 pub mod WrittenText
 pub mod AllWritten
+pub mod StripHeads

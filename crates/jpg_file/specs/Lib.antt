@@ -9,6 +9,7 @@ pub mod Judge
 pub mod File
 pub mod ReadFile
 pub mod PictureRead
+pub mod StripHead
 pub mod FirstHead
 pub mod WriteTables
 pub mod WriteScan

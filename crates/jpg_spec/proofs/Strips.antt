@@ -12,7 +12,7 @@ use Rattle.jpg_spec.specs.Moves.{component_of}
 use Rattle.jpg_spec.specs.Dct.{dequantised, inverse_dct}
 use Rattle.jpg_spec.specs.Upsampling.{Stretch, is_smoothed, has_far_rows, near_row, far_row, upsampled_row, up_row, up_rows2, repeat_row}
 use Rattle.jpg_spec.specs.Pixels.{plane, plane_row, stretch_of, upsampled, samples_across}
-use Rattle.jpg_spec.specs.Strips.{ready_of, IsRowReady, Agree, rows_from, kept_row, lines, block_rows, known_rows, needed, ready, IsCovered}
+use Rattle.jpg_spec.specs.Strips.{ready_of, IsRowReady, Agree, rows_from, kept_row, lines, block_rows, known_rows, ready, IsCovered}
 use Rattle.jpg_spec.proofs.PlacesFound.{or_second}
 use Rattle.jpg_spec.proofs.Common.{any_append, length_below}
 
@@ -169,25 +169,25 @@ any_in t (suc n) x h e =
     or_second (any_of t (below n)) (any_of t (n ∷ [])) (ap (λ m. any_of t (m ∷ [])) (sym s) ∙ ap (λ b. b || false) e)))
     (cases_lt x n)
 
-pub ready_told : (M : Meaning) (gray smooth : Bool) (all m i y : ℕ) → IsCovered M smooth all i → i < needed M gray → m ≤ all → y < ready M gray smooth all m
+pub ready_told : (M : Meaning) (count : ℕ) (smooth : Bool) (all m i y : ℕ) → IsCovered M smooth all i → i < count → m ≤ all → y < ready M count smooth all m
     → IsRowReady (stretch_of M smooth i) (known_rows M i m) y
-ready_told M gray smooth all m i y covered has le lt = by_all (m == all) refl
+ready_told M count smooth all m i y covered has le lt = by_all (m == all) refl
   where
     by_all : (b : Bool) → (m == all) ≡ b → IsRowReady (stretch_of M smooth i) (known_rows M i m) y
     by_all true e =
         let is : m ≡ all = eqb-true m all e in
-        let low : y < M.height = subst (λ b. y < (if b then M.height else if any_of (λ j. has_far_rows (stretch_of M smooth j)) (below (needed M gray)) then lines M * m - 1 else lines M * m)) e lt in
+        let low : y < M.height = subst (λ b. y < (if b then M.height else if any_of (λ j. has_far_rows (stretch_of M smooth j)) (below count) then lines M * m - 1 else lines M * m)) e lt in
         inr (all_known (8 * block_rows M i * m) (stretch_of M smooth i).high (stretch_of M smooth i).down M.height y
         (subst (λ n. (stretch_of M smooth i).high ≤ 8 * block_rows M i * n) (sym is) covered.enough) covered.tall low)
     by_all false e =
         let some : m < all = grind (arith, nat_tests, le) in
-        let low : y < (if any_of (λ j. has_far_rows (stretch_of M smooth j)) (below (needed M gray)) then lines M * m - 1 else lines M * m) =
-        subst (λ b. y < (if b then M.height else if any_of (λ j. has_far_rows (stretch_of M smooth j)) (below (needed M gray)) then lines M * m - 1 else lines M * m)) e lt
+        let low : y < (if any_of (λ j. has_far_rows (stretch_of M smooth j)) (below count) then lines M * m - 1 else lines M * m) =
+        subst (λ b. y < (if b then M.height else if any_of (λ j. has_far_rows (stretch_of M smooth j)) (below count) then lines M * m - 1 else lines M * m)) e lt
         in
         let d = (stretch_of M smooth i).down in
         let product : 8 * block_rows M i * d * m ≡ 8 * block_rows M i * m * d = grind arith in
-        not_all (has_far_rows (stretch_of M smooth i)) (any_of (λ j. has_far_rows (stretch_of M smooth j)) (below (needed M gray))) (8 * block_rows M i * m) d (stretch_of M smooth i).high M.height (lines M * m) y
+        not_all (has_far_rows (stretch_of M smooth i)) (any_of (λ j. has_far_rows (stretch_of M smooth j)) (below count)) (8 * block_rows M i * m) d (stretch_of M smooth i).high M.height (lines M * m) y
         (ap (λ n. n * m) covered.whole ∙ product) covered.tall (covered.no_more m some)
-        (λ (t : has_far_rows (stretch_of M smooth i) ≡ true). any_in (λ j. has_far_rows (stretch_of M smooth j)) (needed M gray) i has t)
+        (λ (t : has_far_rows (stretch_of M smooth i) ≡ true). any_in (λ j. has_far_rows (stretch_of M smooth j)) count i has t)
         (λ (t : has_far_rows (stretch_of M smooth i) ≡ true). down_is_two (stretch_of M smooth i) t)
         low (cases_lt (8 * block_rows M i * m) (stretch_of M smooth i).high)

@@ -1,5 +1,5 @@
 -- A frame's header, what its numbers bound, and where the blocks of a scan stand (T.81, A.1, A.2, B.2.2).
-use Rattle.std.specs.Prelude.{◌<◌, length, ℕ, ◌+◌, ◌-◌, ◌*◌, ◌/◌, Bool, true, false, nat_lt, ◌&&◌, List, [], ◌∷◌, slice_index_or, map, sum_by, max, flat_map, pos, neg_ℤ}
+use Rattle.std.specs.Prelude.{◌<◌, length, ℕ, ◌+◌, ◌-◌, ◌*◌, ◌/◌, Bool, true, false, nat_lt, ◌&&◌, ◌==◌, if◌then◌else◌, List, [], ◌∷◌, slice_index_or, map, sum_by, max, flat_map, pos, neg_ℤ}
 use Rattle.jpg_spec.specs.Lists.{below}
 use Rattle.jpg_spec.specs.declared.frame.Process.{Process}
 use Rattle.jpg_spec.specs.declared.frame.Process.TheVariants.{Baseline, Extended, Progressive}
@@ -46,6 +46,10 @@ mcus_across f = div_up f.width (8 * h_max f)
 
 abbrev pub mcus_down : Frame → ℕ
 mcus_down f = div_up f.height (8 * v_max f)
+
+-- one row of the MCUs of a scan of all components
+abbrev pub mcu_row_frame : Frame → Frame
+mcu_row_frame f = record f { height = if length f.components == 1 then 8 else 8 * v_max f }
 
 -- the real blocks of a component
 abbrev pub blocks_across : Frame → Component → ℕ

@@ -29,7 +29,7 @@ use Rattle.jpg_spec.specs.Transforms.{transformed, inverse, transposes, changed_
 use Rattle.jpg_spec.specs.WholeBlocks.{HasWholeBlocks}
 use Rattle.jpg_spec.specs.Upsampling.{Stretch, upsampled_row}
 use Rattle.jpg_spec.specs.Pixels.{stretch_of, upsampled}
-use Rattle.jpg_spec.specs.Strips.{IsRowReady, needed, ready, IsCovered}
+use Rattle.jpg_spec.specs.Strips.{IsRowReady, ready, IsCovered}
 use Rattle.jpg_spec.specs.declared.fault.Fault.{Fault}
 use Rattle.jpg_spec.specs.declared.fault.Fault.TheVariants.{Truncated, InputTooLong}
 use Rattle.jpg_spec.specs.declared.frame.Bounds.{Bounds}
@@ -304,9 +304,9 @@ pub record AgreeWhereMade (M : Meaning) (others : Blocks) (smooth : Bool) (i y :
 abbrev pub KeepsRow : Meaning → Blocks → Bool → ℕ → ℕ → Type 0
 KeepsRow M others smooth i y = upsampled M smooth i y ≡ upsampled (with_blocks M others) smooth i y
 
--- m MCU rows of `all` make row y of the image ready, and component i is one of those that are shown.
-pub record MakesReady (M : Meaning) (gray smooth : Bool) (all m i y : ℕ) : Type 0 where
+-- m MCU rows of `all` make row y of the image ready, and component i is one of the `count` that are shown.
+pub record MakesReady (M : Meaning) (count : ℕ) (smooth : Bool) (all m i y : ℕ) : Type 0 where
   pub covered : IsCovered M smooth all i
-  pub shown : i < needed M gray
+  pub shown : i < count
   pub some : m ≤ all
-  pub early : y < ready M gray smooth all m
+  pub early : y < ready M count smooth all m

@@ -71,10 +71,14 @@ colour_row Cmyk a b c = []
 colour_row Ycck a b c = []
 colour_row Unknown a b c = []
 
+-- row y of the image, where its colours are these
+abbrev pub shown_row : Colour → Meaning → Bool → Bool → ℕ → List ℕ
+shown_row colour M gray smooth y =
+    if shows_gray colour gray then upsampled M smooth 0 y
+    else colour_row colour (upsampled M smooth 0 y) (upsampled M smooth 1 y) (upsampled M smooth 2 y)
+
 abbrev pub pixel_row : Meaning → Bool → Bool → ℕ → List ℕ
-pixel_row M gray smooth y =
-    if shows_gray (colour_of M) gray then upsampled M smooth 0 y
-    else colour_row (colour_of M) (upsampled M smooth 0 y) (upsampled M smooth 1 y) (upsampled M smooth 2 y)
+pixel_row M gray smooth y = shown_row (colour_of M) M gray smooth y
 
 abbrev pub pixels : Meaning → Bool → Bool → List (List ℕ)
 pixels M gray smooth = map (pixel_row M gray smooth) (below M.height)

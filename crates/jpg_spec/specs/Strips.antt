@@ -1,10 +1,12 @@
 -- AN IMAGE ROW BY ROW, while its file is read: which rows of samples are known after some MCU rows, which of them are kept, and which rows of the image they make.
 use Rattle.std.specs.Prelude.{ℕ, ◌≡◌, ◌⊎◌, ◌+◌, ◌-◌, ◌*◌, ◌<◌, ◌≤◌, min, Bool, ◌==◌, if◌then◌else◌, List, [], length, map, slice_index_or}
 use Rattle.jpg_spec.specs.Lists.{below, any_of}
-use Rattle.jpg_spec.specs.Meaning.{Meaning, colour_of}
+use Rattle.jpg_spec.specs.Geometry.{div_up}
+use Rattle.jpg_spec.specs.Meaning.{Meaning}
 use Rattle.jpg_spec.specs.Moves.{component_of, most_down}
 use Rattle.jpg_spec.specs.Upsampling.{Stretch, has_far_rows}
 use Rattle.jpg_spec.specs.Pixels.{samples_down, plane_row, stretch_of, shows_gray}
+use Rattle.jpg_spec.specs.declared.frame.Colour.{Colour}
 
 -- ONE PLANE
 
@@ -44,31 +46,35 @@ block_rows M i = if length M.components == 1 then 1 else (component_of M i).v
 abbrev pub lines : Meaning → ℕ
 lines M = if length M.components == 1 then 8 else 8 * most_down M
 
+-- the MCU rows of the scan
+abbrev pub mcu_rows : Meaning → ℕ
+mcu_rows M = div_up M.height (lines M)
+
 -- the rows of samples that m MCU rows tell
 abbrev pub known_rows : Meaning → ℕ → ℕ → ℕ
 known_rows M i m = min (8 * block_rows M i * m) (samples_down M i)
 
 -- how many components are shown
-abbrev pub needed : Meaning → Bool → ℕ
-needed M gray = if shows_gray (colour_of M) gray then 1 else 3
+abbrev pub needed : Colour → Bool → ℕ
+needed colour gray = if shows_gray colour gray then 1 else 3
 
--- the rows of the image that m MCU rows of `all` make
-abbrev pub ready : Meaning → Bool → Bool → ℕ → ℕ → ℕ
-ready M gray smooth all m =
+-- the rows of the image that m MCU rows of `all` make, where the first `shown` components are shown
+abbrev pub ready : Meaning → ℕ → Bool → ℕ → ℕ → ℕ
+ready M shown smooth all m =
     if m == all then M.height
-    else if any_of (λ i. has_far_rows (stretch_of M smooth i)) (below (needed M gray)) then lines M * m - 1
+    else if any_of (λ i. has_far_rows (stretch_of M smooth i)) (below shown) then lines M * m - 1
     else lines M * m
 
 -- What is held after m MCU rows of the picture M (zeros where blocks are missing), `given` of whose rows went out: per component
--- the rows of samples of the last MCU row and the one above them, and the rows that are given are ready.
+-- that is shown the rows of samples of the last MCU row and the one above them, and the rows that are given are ready.
 abbrev pub first_kept : Meaning → ℕ → ℕ → ℕ
 first_kept M i m = 8 * block_rows M i * (m - 1) - 1
 
-pub record IsHeld (M : Meaning) (gray smooth : Bool) (all m given : ℕ) (held : ℕ → List (List ℕ)) : Type 0 where
+pub record IsHeld (M : Meaning) (shown : ℕ) (smooth : Bool) (all m given : ℕ) (held : ℕ → List (List ℕ)) : Type 0 where
   pub some : m ≤ all
-  pub early : given ≤ ready M gray smooth all m
-  pub late : ready M gray smooth all (m - 1) ≤ given
-  pub rows : (i : ℕ) → held i ≡ rows_from (plane_row M i) (first_kept M i m) (known_rows M i m - first_kept M i m)
+  pub early : given ≤ ready M shown smooth all m
+  pub late : ready M shown smooth all (m - 1) ≤ given
+  pub rows : (i : ℕ) → i < shown → held i ≡ rows_from (plane_row M i) (first_kept M i m) (known_rows M i m - first_kept M i m)
 
 -- What the frame's numbers say of component i, where the greatest factor down is a multiple of its own and there are `all` MCU rows.
 pub record IsCovered (M : Meaning) (smooth : Bool) (all i : ℕ) : Type 0 where

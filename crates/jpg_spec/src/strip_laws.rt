@@ -29,5 +29,5 @@ pub fn first_rows_need_the_first_blocks()
 
 /// Rows of the image that m MCU rows make ready are made from the rows of samples that these tell.
 pub fn ready_rows_are_told()
-    ensures { (M : Meaning) (gray smooth : Bool) (all m i y : ℕ) → MakesReady M gray smooth all m i y → IsRowReady (stretch_of M smooth i) (known_rows M i m) y }
+    ensures { (M : Meaning) (count : ℕ) (smooth : Bool) (all m i y : ℕ) → MakesReady M count smooth all m i y → IsRowReady (stretch_of M smooth i) (known_rows M i m) y }
 {}

@@ -1,0 +1,62 @@
+-- Which factors of components are refused, one component after another, and what is told of them all.
+use Rattle.std.proofs.Common.{◌≡◌, ℕ, zero, suc, ◌+◌, ◌<◌, ◌≤◌, map, Bool, ◌||◌, List, [], ◌∷◌, length, get_or, take, drop, add-one, subst, refl, sym, ap, ◌∙◌, arith, Option, Some, None, Ok, Result}
+use Rattle.std.proofs.lemmas.List.{get_or-take, length-take-le, length-map}
+use Rattle.jpg_spec.specs.Lists.{any_of}
+use Rattle.jpg_spec.specs.Geometry.{Frame, greatest, component_at, h_max, v_max}
+use Rattle.jpg_spec.specs.Pixels.{is_colour_out, is_fractional, out_fault_of, shows_gray}
+use Rattle.jpg_spec.specs.declared.fault.Fault.{Fault}
+use Rattle.jpg_spec.specs.declared.frame.Colour.{Colour}
+use Rattle.jpg_spec.specs.declared.image.ImageKind.{ImageKind}
+use Rattle.jpg_color.specs.Admits.{admitted, first_fault, kind_of, kind_or, needed_factors}
+use Rattle.jpg_color.specs.Shown.{factors_of}
+use Rattle.jpg_color.proofs.Coverage.{factor_at, most_first, most_second}
+
+any_next : (t : ℕ × ℕ → Bool) (xs : List (ℕ × ℕ)) (i : ℕ) (default : ℕ × ℕ) → i < length xs → any_of t (drop i xs) ≡ (t (get_or xs i default) || any_of t (drop (suc i) xs))
+any_next t [] i default h = absurd (omega (arith, h))
+any_next t (x ∷ xs) zero default h = refl
+any_next t (x ∷ xs) (suc i) default h = any_next t xs i default (omega (arith, h))
+
+pub next_factors : (f : Frame) (i count : ℕ) (bad : Bool) → i < count → count ≤ length f.components
+    → bad ≡ is_fractional (h_max f) (v_max f) ((component_at f i).h, (component_at f i).v)
+    → any_of (is_fractional (h_max f) (v_max f)) (drop i (take count (factors_of f))) ≡ (bad || any_of (is_fractional (h_max f) (v_max f)) (drop (i + 1) (take count (factors_of f))))
+next_factors f i count bad h le e =
+    let t : ℕ × ℕ → Bool = is_fractional (h_max f) (v_max f) in
+    let all : length (factors_of f) ≡ length f.components = length-map f.components (λ c. (c.h, c.v)) in
+    let long : length (take count (factors_of f)) ≡ count = length-take-le count (factors_of f) (subst (λ n. count ≤ n) (sym all) le) in
+    let at : get_or (take count (factors_of f)) i (1, 1) ≡ ((component_at f i).h, (component_at f i).v) =
+    get_or-take count (factors_of f) i (1, 1) h ∙ factor_at f i (omega (arith, h, le)) in
+    any_next t (take count (factors_of f)) i (1, 1) (subst (λ n. i < n) (sym long) h)
+    ∙ ap (λ b. b || any_of t (drop (suc i) (take count (factors_of f)))) (ap t at ∙ sym e)
+    ∙ ap (λ n. bad || any_of t (drop n (take count (factors_of f)))) (sym (add-one i))
+
+admitted_is : (colour : Colour) (gray : Bool) (f : Frame) (out bad : Bool) → out ≡ is_colour_out colour gray
+    → bad ≡ any_of (is_fractional (h_max f) (v_max f)) (needed_factors (shows_gray colour gray) (factors_of f))
+    → kind_or (first_fault out bad) (kind_of colour gray) ≡ admitted colour gray (factors_of f)
+admitted_is colour gray f out bad o b =
+    let shown = kind_of colour gray in
+    let needed = needed_factors (shows_gray colour gray) (factors_of f) in
+    ap (λ (x : Bool). kind_or (first_fault x bad) shown) o
+    ∙ ap (λ (x : Bool). kind_or (first_fault (is_colour_out colour gray) x) shown) b
+    ∙ ap (λ (n : ℕ). kind_or (first_fault (is_colour_out colour gray) (any_of (is_fractional n (v_max f)) needed)) shown) (sym (most_first f.components))
+    ∙ ap (λ (n : ℕ). kind_or (first_fault (is_colour_out colour gray) (any_of (is_fractional (greatest (map (λ (p : ℕ × ℕ). p.0) (factors_of f))) n) needed)) shown)
+    (sym (most_second f.components))
+
+-- the same from the fault and the colours as a caller has them
+pub told_admitted : (colour : Colour) (gray alone : Bool) (f : Frame) (out bad : Bool) (o : Option Fault) → alone ≡ shows_gray colour gray → out ≡ is_colour_out colour gray
+    → bad ≡ any_of (is_fractional (h_max f) (v_max f)) (needed_factors alone (factors_of f)) → o ≡ first_fault out bad
+    → kind_or o (kind_of colour gray) ≡ admitted colour gray (factors_of f)
+told_admitted colour gray alone f out bad o a e b is =
+    ap (λ (x : Option Fault). kind_or x (kind_of colour gray)) is
+    ∙ admitted_is colour gray f out bad e (b ∙ ap (λ (x : Bool). any_of (is_fractional (h_max f) (v_max f)) (needed_factors x (factors_of f))) a)
+
+-- what was told where there is no fault
+pub no_fault_told : (o : Option Fault) (shown other : ImageKind) → kind_or o shown ≡ Ok other → (o ≡ None) × (other ≡ shown)
+no_fault_told None shown other e = (refl, ok_once shown other e)
+  where
+    ok_once : (x y : ImageKind) → (let r : Result ImageKind Fault = Ok x in r) ≡ Ok y → y ≡ x
+    ok_once x y e = cc
+no_fault_told (Some fault) shown other e = cc
+
+pub admitted_showable : (colour : Colour) (gray : Bool) (factors : List (ℕ × ℕ)) (shown : ImageKind) → admitted colour gray factors ≡ Ok shown
+    → (out_fault_of colour gray factors ≡ None) × (shown ≡ kind_of colour gray)
+admitted_showable colour gray factors shown e = no_fault_told (out_fault_of colour gray factors) (kind_of colour gray) shown e

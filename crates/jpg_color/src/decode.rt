@@ -1,0 +1,205 @@
+// A picture shown as an image file (release 6b's djpeg).
+ghost use Rattle.std.specs.Prelude.{◌≡◌, ◌*◌, ◌==◌, if◌then◌else◌, true, None, [], IfOk};
+ghost use Rattle.jpg_spec.specs.ImageText.{end_text};
+ghost use Rattle.jpg_spec.specs.Pixels.{info, out_fault};
+ghost use Rattle.jpg_file.specs.PictureRead.{IsPicture, picture_meaning};
+ghost use Rattle.jpg_pnm_bmp.specs.EndState.{CanFinish, CanTakeRow, IsImageInfo, Starts, new_end};
+ghost use Rattle.jpg_color.specs.DecodeRows.{AreRowsOf, Decodes, IsEndFor, Sends, SendsPart, SendsRow, SendsRows, end_parts, picture_text, rows_in_all};
+
+use crate::kinds::shown_kind;
+use crate::picture_rows::PictureRows;
+use jpg_base::{Bytes, Desk, NoMemory, Put};
+use jpg_file::Picture;
+use jpg_pnm_bmp::{Finish, ImageEnd, ImageInfo};
+use std::alloc::Global;
+
+/// Why the rows of a picture weren't all written.
+#[derive(Clone, Copy, Debug, PartialEq, Eq)]
+pub enum DecodeStop {
+    NoMemory,
+    WriteFault,
+}
+
+// So many bytes are written at once.
+const MANY: usize = 32768;
+
+/// Writes the image that a picture shows to the output that was created last, in the format of `end`: the text of the image's rows as
+/// release 6b's djpeg makes them, gray where that is asked for, with rows of samples smoothed or repeated. After NoMemory and
+/// WriteFault a first part of the text is written, and nothing is said of `end`.
+pub fn decode_rows<D: Desk>(
+    alloc: Global,
+    picture: &Picture,
+    gray: bool,
+    smooth: bool,
+    end: &mut Box<dyn ImageEnd>,
+    desk: &mut D,
+) -> Result<(), DecodeStop>
+    requires picture { IsPicture picture.now }
+    requires admitted { out_fault gray (picture_meaning picture.now) ≡ None }
+    requires end { progress end.old ≡ new_end (progress end.old).kind }
+    requires created { (D.state desk.old).output_created ≡ true }
+    ensures { Decodes (D.state desk.old) (picture_text (progress end.old).kind picture.now gray smooth) result (D.state desk.new) }
+{
+    let Ok(mut rows) = PictureRows::new(alloc, picture, gray, smooth) else {
+        return Err(DecodeStop::NoMemory);
+    };
+    let info = info_of(picture, gray);
+    write_image(&info, &mut rows, end, &mut Bytes::new(alloc), desk)
+}
+
+// Writes an image of these rows.
+fn write_image<D: Desk>(
+    info: &ImageInfo,
+    rows: &mut PictureRows,
+    end: &mut Box<dyn ImageEnd>,
+    out: &mut Bytes,
+    desk: &mut D,
+) -> Result<(), DecodeStop>
+    requires info { IsImageInfo info.now }
+    requires rows { AreRowsOf info.now rows.old }
+    requires end { progress end.old ≡ new_end (progress end.old).kind }
+    requires out { out.old ≡ [] }
+    requires created { (D.state desk.old).output_created ≡ true }
+    ensures { Decodes (D.state desk.old) (end_text (progress end.old).kind info.now (rows_in_all rows.old)) result (D.state desk.new) }
+{
+    let Ok(()) = start_image(info, end, out) else {
+        return Err(DecodeStop::NoMemory);
+    };
+    send_rows(rows, end, out, desk)?;
+    send_end(end, out, desk)?;
+    send(out, desk)
+}
+
+// Begins it.
+fn start_image(
+    info: &ImageInfo,
+    end: &mut Box<dyn ImageEnd>,
+    out: &mut Bytes,
+) -> Result<(), NoMemory>
+    requires end { (progress end.old).info ≡ None }
+    requires info { IsImageInfo info.now }
+    ensures { Starts (progress end.old) out.old info.now result (progress end.new) out.new }
+{
+    end.start(info, out)
+}
+
+// What is told of the image.
+fn info_of(picture: &Picture, gray: bool) -> ImageInfo
+    requires { IsPicture picture.now }
+    ensures { result ≡ info (picture_meaning picture.now) gray }
+{
+    ImageInfo {
+        width: picture.frame.width(),
+        height: picture.frame.height(),
+        kind: shown_kind(picture.colour, gray),
+        x_metre: metre(picture.jfif.unit, picture.jfif.x),
+        y_metre: metre(picture.jfif.unit, picture.jfif.y),
+    }
+}
+
+// Pixels per metre, where the unit is pixels per centimetre.
+fn metre(unit: u8, density: u16) -> u32
+    ensures { result ≡ (if unit == 2 then 100 * density else 0) }
+{
+    if unit == 2 {
+        100 * u32::from(density)
+    } else {
+        0
+    }
+}
+
+// All rows.
+fn send_rows<D: Desk>(
+    rows: &mut PictureRows,
+    end: &mut Box<dyn ImageEnd>,
+    out: &mut Bytes,
+    desk: &mut D,
+) -> Result<(), DecodeStop>
+    requires end { IsEndFor (progress end.old) rows.old }
+    requires created { (D.state desk.old).output_created ≡ true }
+    ensures { SendsRows (D.state desk.old) (progress end.old) out.old (rows_in_all rows.old) result (progress end.new) out.new (D.state desk.new) }
+{
+    while rows.advance() {
+        send_row(rows.row(), end, out, desk)?;
+    }
+    Ok(())
+}
+
+// A row.
+fn send_row<D: Desk>(
+    row: &[u8],
+    end: &mut Box<dyn ImageEnd>,
+    out: &mut Bytes,
+    desk: &mut D,
+) -> Result<(), DecodeStop>
+    requires end { CanTakeRow (progress end.old) row.now }
+    requires created { (D.state desk.old).output_created ≡ true }
+    ensures { SendsRow (D.state desk.old) (progress end.old) out.old row.now result (progress end.new) out.new (D.state desk.new) }
+{
+    match end.row(row, out) {
+        Ok(()) => send_much(out, desk),
+        Err(NoMemory) => Err(DecodeStop::NoMemory),
+    }
+}
+
+// What stands behind the rows.
+fn send_end<D: Desk>(
+    end: &mut Box<dyn ImageEnd>,
+    out: &mut Bytes,
+    desk: &mut D,
+) -> Result<(), DecodeStop>
+    requires end { CanFinish (progress end.old) }
+    requires whole { (progress end.old).parts ≡ 0 }
+    requires created { (D.state desk.old).output_created ≡ true }
+    ensures { Sends (D.state desk.old) out.old (end_parts (progress end.old)) result out.new (D.state desk.new) }
+{
+    loop {
+        match send_part(end, out, desk)? {
+            Finish::More => {}
+            Finish::Done => return Ok(()),
+        }
+    }
+}
+
+// A part of it.
+fn send_part<D: Desk>(
+    end: &mut Box<dyn ImageEnd>,
+    out: &mut Bytes,
+    desk: &mut D,
+) -> Result<Finish, DecodeStop>
+    requires end { CanFinish (progress end.old) }
+    requires created { (D.state desk.old).output_created ≡ true }
+    ensures { SendsPart (D.state desk.old) (progress end.old) out.old result (progress end.new) out.new (D.state desk.new) }
+{
+    match end.finish(out) {
+        Ok(answer) => match send_much(out, desk) {
+            Ok(()) => Ok(answer),
+            Err(stop) => Err(stop),
+        },
+        Err(NoMemory) => Err(DecodeStop::NoMemory),
+    }
+}
+
+// Writes what waits, once it is much.
+fn send_much<D: Desk>(out: &mut Bytes, desk: &mut D) -> Result<(), DecodeStop>
+    requires { (D.state desk.old).output_created ≡ true }
+    ensures { Sends (D.state desk.old) out.old [] result out.new (D.state desk.new) }
+{
+    if out.as_slice().len() < MANY {
+        return Ok(());
+    }
+    send(out, desk)
+}
+
+// Writes all that waits.
+fn send<D: Desk>(out: &mut Bytes, desk: &mut D) -> Result<(), DecodeStop>
+    requires { (D.state desk.old).output_created ≡ true }
+    ensures sent { Sends (D.state desk.old) out.old [] result out.new (D.state desk.new) }
+    ensures all { IfOk result (λ u. out.new ≡ []) }
+{
+    if let Put::Failed = desk.write(out.as_slice()) {
+        return Err(DecodeStop::WriteFault);
+    }
+    out.clear();
+    Ok(())
+}

@@ -1,0 +1,71 @@
+// All rows of a whole picture.
+ghost use Rattle.std.specs.Prelude.{◌≡◌, ◌<◌, IfOk, None};
+ghost use Rattle.jpg_spec.specs.Pixels.{out_fault};
+ghost use Rattle.jpg_file.specs.PictureRead.{IsPicture, picture_meaning};
+ghost use Rattle.jpg_color.specs.PictureRows.{AdvancesRow, IsFirstRow};
+
+use crate::strips::Strips;
+use jpg_base::NoMemory;
+use jpg_coefs::Coefs;
+use jpg_file::{Picture, StripHead};
+use std::alloc::Global;
+use std::marker::Model;
+
+/// The rows of a whole picture, one after another, out of its strips.
+#[derive(Drop)]
+pub(crate) struct PictureRows<'a> {
+    strips: Strips,
+    coefs: &'a Coefs,
+}
+
+impl<'a> Model for PictureRows<'a> {
+    ghost use Rattle.jpg_color.specs.PictureRows.{RowsLeft, AreRows};
+
+    ghost Value = { RowsLeft };
+
+    ghost view = { λ r. record { strips = r.strips; coefs = r.coefs.now } };
+
+    ghost invariant = { λ r. AreRows r.strips r.coefs.now };
+}
+
+impl<'a> PictureRows<'a> {
+    /// Stands before the first row. It answers NoMemory where memory is wanting, and takes none later.
+    pub(crate) fn new(
+        alloc: Global,
+        picture: &'a Picture,
+        gray: bool,
+        smooth: bool,
+    ) -> Result<PictureRows<'a>, NoMemory>
+        requires picture { IsPicture picture.now }
+        requires admitted { out_fault gray (picture_meaning picture.now) ≡ None }
+        ensures { IfOk result (λ r. IsFirstRow picture.now gray smooth r) }
+    {
+        let head = StripHead::of(picture);
+        let strips = Strips::new(alloc, &head, gray, smooth)?;
+        Ok(PictureRows {
+            strips,
+            coefs: &picture.coefs,
+        })
+    }
+
+    /// Goes to the next row, if there is one.
+    pub(crate) fn advance(&mut self) -> bool
+        ensures { AdvancesRow self.old result self.new }
+    {
+        self.strips.checked();
+        while !self.strips.advance() {
+            if self.strips.is_whole() {
+                return false;
+            }
+            self.strips.push_from(self.coefs);
+        }
+        true
+    }
+
+    /// The row that it stands at.
+    pub(crate) fn row(&self) -> &[u8]
+        ensures { result.now ≡ self.now.strips.last }
+    {
+        self.strips.row()
+    }
+}

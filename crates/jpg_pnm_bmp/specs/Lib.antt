@@ -1,0 +1,4 @@
+pub mod Bmp
+pub mod EndState
+pub mod Ends
+pub mod Written

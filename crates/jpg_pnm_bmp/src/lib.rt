@@ -1,0 +1,17 @@
+//! The formats that images are written in (release 6b's image files).
+#![tactic(auto)]
+
+mod bmp;
+mod bmp_header;
+mod bmp_row;
+mod end;
+mod laws;
+mod pnm;
+mod short;
+
+pub use bmp::BmpEnd;
+pub use end::{Finish, ImageEnd};
+pub use jpg_base::{Bytes, NoMemory};
+pub use jpg_spec::{EndKind, ImageInfo, ImageKind};
+pub use laws::images_are_written_whole;
+pub use pnm::PnmEnd;
