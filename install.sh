@@ -4,7 +4,7 @@ set -euo pipefail
 unset CDPATH
 
 kit="rattle-kit-13f logic dac8208d650f15bf"
-tools=(jpegtran rdjpgcom wrjpgcom)
+tools=(jpegtran djpeg rdjpgcom wrjpgcom)
 
 usage() {
     cat <<'END'
@@ -12,8 +12,8 @@ usage() {
 ./install.sh --uninstall [PREFIX]   takes away what was installed there
 ./install.sh --help                 prints this
 
-PREFIX/bin gets jpgsuite, jpegtran, rdjpgcom and wrjpgcom, PREFIX/share their manual pages and completions for bash
-and zsh. A file that is there already and isn't of jpgsuite is never replaced: nothing is installed then.
+PREFIX/bin gets jpgsuite, jpegtran, djpeg, rdjpgcom and wrjpgcom, PREFIX/share their manual pages and completions for
+bash and zsh. A file that is there already and isn't of jpgsuite is never replaced: nothing is installed then.
 
 It needs rt, the command of the Rattle kit (rattle-kit-13f, logic dac8208d650f15bf), on PATH.
 
@@ -177,8 +177,8 @@ $("$program" --version) is installed in $root:
   bin: jpgsuite, and its commands ${tools[*]}
   share/man/man1: a manual page of each
   share/bash-completion/completions, share/zsh/site-functions: completions (zsh wants the latter on its fpath)
-jpegtran was given its own name by choice, though -progressive, -scans and -restart, and progressive files, aren't
-built yet and are refused. Where PREFIX/bin comes first on PATH it hides another jpegtran.
+jpegtran and djpeg were given their own names by choice, though -progressive, -scans and -restart of jpegtran
+aren't built yet and are refused. Where PREFIX/bin comes first on PATH it hides others of these names.
 ./install.sh --uninstall takes all of it away.
 END
     case ":$PATH:" in

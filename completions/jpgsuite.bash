@@ -1,5 +1,5 @@
 # Completions of jpgsuite and its commands: completions/make wrote this from completions/table.
-_jpgsuite_commands='jpegtran rdjpgcom wrjpgcom'
+_jpgsuite_commands='jpegtran djpeg rdjpgcom wrjpgcom'
 _jpgsuite_rows=(
     'jpegtran -copy 1 none,comments,all'
     'jpegtran -flip 1 horizontal,vertical'
@@ -10,6 +10,15 @@ _jpgsuite_rows=(
     'jpegtran -grayscale 1 -'
     'jpegtran -greyscale 1 -'
     'jpegtran -outfile 4 FILE'
+    'djpeg -pnm 1 -'
+    'djpeg -ppm 1 -'
+    'djpeg -bmp 1 -'
+    'djpeg -grayscale 2 -'
+    'djpeg -greyscale 2 -'
+    'djpeg -nosmooth 3 -'
+    'djpeg -dct 2 int'
+    'djpeg -scale 1 1/1'
+    'djpeg -outfile 4 FILE'
     'wrjpgcom -replace 1 -'
     'wrjpgcom -comment 1 TEXT'
     'wrjpgcom -cfile 2 FILE'

@@ -24,7 +24,7 @@ use Rattle.jpg_comments.specs.Printing.{PrintsWhole}
 use Rattle.jpg_comments.specs.ReadComments.{AfterFeed as AfterComments, StopsAt as CommentsStopAt}
 use Rattle.jpg_comments.specs.declared.comments.Comments.{Comments}
 use Rattle.jpg_file.specs.PictureRead.{TakesPicture, picture_meaning}
-use Rattle.jpg_file.specs.ReadFile.{AfterFeed, FaultComesFirst, IsRefusal, ReaderState, StopsAt}
+use Rattle.jpg_file.specs.ReadFile.{AfterFeed, IsRefusal, ReaderState, StopsAt}
 use Rattle.jpg_file.specs.declared.picture.Picture.{Picture}
 use Rattle.jpg_cli.proofs.PictureBytes.{more_small}
 use Rattle.jpg_callers.specs.Calling.{BeginsWith, HoldsTurned, IsCommentsOf, IsNotTurned, IsPictureOf, IsTurned}
@@ -60,7 +60,7 @@ picture_stopped file (stop.Fault f) r e h =
 picture_stopped file stop.NoMemory r e h = tt
 
 pub picture_ended : (file : List ℕ) (s : Stop) (limits : Limits) → limits ≡ standard_limits → StopsAt limits file s → IsPictureOf file (Err s)
-picture_ended file (stop.Fault f) limits e h = inl (subst (λ (l : Limits). FaultComesFirst l file f) e h)
+picture_ended file (stop.Fault f) limits e h = subst (λ (l : Limits). IsRefusal l file f) e h
 picture_ended file stop.NoMemory limits e h = tt
 
 -- MOVED

@@ -20,8 +20,8 @@ pub enum NotTurned {
 }
 
 /// The picture of a file. It answers the file's first fault, at the number of bytes that show it, Truncated
-/// at the file's length and InputTooLong at 2^40 among them, or NotBuilt at the end of the header of a
-/// progressive frame; and NoMemory. Bytes behind EOI are left out of account.
+/// at the file's length and InputTooLong at 2^40 among them, and NoMemory. Bytes behind EOI are left out of
+/// account.
 pub fn read_picture(alloc: Global, file: &[u8]) -> Result<Picture, Stop>
     ensures picture { IfOk result (λ picture. IsPicture picture) }
     ensures read { IsPictureOf file.now result }

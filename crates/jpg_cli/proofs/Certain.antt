@@ -13,23 +13,26 @@ use Rattle.jpg_spec.specs.declared.answers.Why.TheVariants as why
 use Rattle.jpg_comments.specs.Inserting.{HoldsHead}
 use Rattle.jpg_comments.specs.Printing.{HoldsWhole}
 use Rattle.jpg_comments.proofs.OneAnswer.{heads_sound, reading_sound, whole_no_fault}
-use Rattle.jpg_cli.specs.Certain.{HasFrameHeader, HasPicture, HasWholeFile, IsDoneOrUnbuilt, IsDoneOrWanting, IsTold, IsToldComment}
+use Rattle.jpg_cli.specs.Certain.{HasFrameHeader, HasImage, HasPicture, HasWholeFile, IsDoneOrWanting, IsTold, IsToldComment}
 use Rattle.jpg_cli.specs.CommentInserted.{HasInputFault, HasLongComment, Inserted, IsComment, IsInsertDue, Task}
 use Rattle.jpg_cli.specs.ReadComments.{IsPrintDue, Printed}
 use Rattle.jpg_cli.specs.Reading.{IsFile}
 use Rattle.jpg_cli.specs.Laws.{MeanSame, WasTurnedBack, text_back}
-use Rattle.jpg_cli.specs.Run.{IsAnswerDue, NoneRose}
+use Rattle.jpg_cli.specs.Run.{IsAnswerDue, IsShowDue, NoneRose}
+use Rattle.jpg_cli.specs.Showing.{Showing, Shown}
 use Rattle.jpg_cli.specs.Turned.{Turned, Turning}
-use Rattle.jpg_cli.specs.ReadPicture.{IsRefused}
+use Rattle.jpg_cli.specs.ReadPicture.{IsRefused, IsRefusedFor}
+use Rattle.jpg_cli.specs.declared.read_picture.Wanted.TheVariants.{Coefficients, Image}
 use Rattle.jpg_spec.specs.FirstFault.{IsFirstFault}
 use Rattle.jpg_spec.specs.Meaning.{Meaning}
+use Rattle.jpg_spec.specs.NotShown.{IsNotShown}
 use Rattle.jpg_spec.specs.Moved.{gray_fault, moved}
 use Rattle.jpg_spec.specs.declared.transform.PictureFault.{PictureFault}
 use Rattle.jpg_spec.specs.declared.transform.Transform.{Transform}
 use Rattle.jpg_spec.proofs.MovedBack.{moved_back}
-use Rattle.jpg_spec.specs.declared.fault.Fault.TheVariants.{NotBuilt}
+use Rattle.jpg_spec.proofs.ShownAlike.{shown_alike}
 use Rattle.jpg_spec.proofs.FileLaws.{means_no_fault, means_once}
-use Rattle.jpg_cli.proofs.Ending.{due_answer}
+use Rattle.jpg_cli.proofs.Ending.{due_answer, show_due}
 use Rattle.jpg_cli.proofs.CommentsPrinted.{print_due}
 use Rattle.jpg_cli.proofs.Input.{some_inj}
 use Rattle.jpg_cli.proofs.InsertedThen.{insert_due}
@@ -96,25 +99,54 @@ inserted_certain old new task w has none done = by w (insert_due old new task w 
 
 -- TURNED
 
+-- where coefficients are wanted, nothing is unwanted
+pub refused_alone : (input : List ℕ) (f : FaultAt) → IsRefusedFor Coefficients input f → IsRefused input f
+refused_alone input f (inl a) = a.0
+refused_alone input f (inr a) = absurd a.0
+
 no_fault : (fault : PictureFault) → None ≡ Some fault → ⊥
 no_fault fault e = cc
 
-pub turned_certain : (t : Turning) (old new : DeskState) (w : Why) → HasPicture t old → NoneRose old.counts new.counts → Turned t old w new → IsDoneOrUnbuilt w
+pub turned_certain : (t : Turning) (old new : DeskState) (w : Why) → HasPicture t old → NoneRose old.counts new.counts → Turned t old w new → IsDoneOrWanting w
 turned_certain t old new w has none turned = by w (due_answer t old new w none turned)
   where
-    refused : (f : FaultAt) (other : List ℕ) → other ≡ has.bytes → IsRefused other f → f.fault ≡ NotBuilt
-    refused f other same (inl fault) =
-        absurd (means_no_fault standard_limits has.bytes has.meaning f.fault f.at has.means (subst (λ (b : List ℕ). IsFirstFault standard_limits b f.fault f.at) same fault.0))
-    refused f other same (inr unbuilt) = unbuilt.0
+    refused : (f : FaultAt) (other : List ℕ) → other ≡ has.bytes → IsRefused other f → ⊥
+    refused f other same fault =
+        means_no_fault standard_limits has.bytes has.meaning f.fault f.at has.means (subst (λ (b : List ℕ). IsFirstFault standard_limits b f.fault f.at) same fault)
 
-    by : (w : Why) → IsAnswerDue t old w → IsDoneOrUnbuilt w
+    by : (w : Why) → IsAnswerDue t old w → IsDoneOrWanting w
     by why.Done due = tt
     by (why.Usage u) due = absurd due
     by (why.Picture p) due =
         let k = due.picture in
         let same = (means_once standard_limits has.bytes k.bytes has.meaning k.meaning has.means k.means (sym (one_file old.files t.input has.bytes k.bytes has.told k.file))).0 in
         absurd (no_fault p (sym has.admitted ∙ ap (λ (M : Meaning). gray_fault t.choice.gray M) same ∙ due.is))
-    by (why.Refused f) due = refused f due.bytes (one_file old.files t.input has.bytes due.bytes has.told due.file) due.refused
+    by (why.Refused f) due = absurd (refused f due.bytes (one_file old.files t.input has.bytes due.bytes has.told due.file) (refused_alone due.bytes f due.refused))
+    by (why.OpenFault u) due = absurd due
+    by (why.ReadFault u) due = absurd due
+    by why.WriteFault due = absurd due
+    by why.NoMemory due = tt
+
+-- SHOWN
+
+none_out : (f : FaultAt) → None ≡ Some f.fault → ⊥
+none_out f e = cc
+
+pub shown_certain : (s : Showing) (old new : DeskState) (w : Why) → HasImage s old → NoneRose old.counts new.counts → Shown s old w new → IsDoneOrWanting w
+shown_certain s old new w has none shown = by w (show_due s old new w none shown)
+  where
+    refused : (f : FaultAt) (other : List ℕ) → other ≡ has.bytes → IsRefusedFor (Image s.gray) other f → ⊥
+    refused f other same (inl (fault, later)) =
+        means_no_fault standard_limits has.bytes has.meaning f.fault f.at has.means (subst (λ (b : List ℕ). IsFirstFault standard_limits b f.fault f.at) same fault)
+    refused f other same (inr (out, later)) =
+        let alike = shown_alike standard_limits s.gray has.bytes has.meaning has.means in
+        (none_out f (sym has.shown ∙ alike.same f (subst (λ (b : List ℕ). IsNotShown standard_limits s.gray b f) same out)))
+
+    by : (w : Why) → IsShowDue s old w → IsDoneOrWanting w
+    by why.Done due = tt
+    by (why.Usage u) due = absurd due
+    by (why.Picture p) due = absurd due
+    by (why.Refused f) due = absurd (refused f due.bytes (one_file old.files s.input has.bytes due.bytes has.told due.file) due.refused)
     by (why.OpenFault u) due = absurd due
     by (why.ReadFault u) due = absurd due
     by why.WriteFault due = absurd due

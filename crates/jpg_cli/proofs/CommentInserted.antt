@@ -269,7 +269,7 @@ fewer comment bytes piece text all was c e f some more longer h k =
 
 -- THE COMMENT
 
-none_noted : (a b : Option (List (Name × Put))) → b ≡ a → NotesNames a [] b
+pub none_noted : (a b : Option (List (Name × Put))) → b ≡ a → NotesNames a [] b
 none_noted a None e = tt
 none_noted None (Some b) e = absurd (let z : Some b ≡ None = e in cc)
 none_noted (Some a) (Some b) e = (let z : b ≡ a = (let y : Some b ≡ Some a = e in cc) in z ∙ sym (append-nil a))

@@ -1,5 +1,5 @@
 -- A run is its work, and then its message.
-use Rattle.std.proofs.Common.{◌≡◌, ℕ, List, [], ◌∷◌, ◌++◌, take, drop, Option, ap, sym, ◌∙◌, subst, arith, inl, inr}
+use Rattle.std.proofs.Common.{◌≡◌, ℕ, Bool, true, false, List, [], ◌∷◌, ◌++◌, take, drop, Option, ap, sym, ◌∙◌, subst, arith, inl, inr}
 use Rattle.std.proofs.lemmas.List.{append_assoc, take-append-drop}
 use Rattle.std.specs.Io.KnownBytes.{Appends}
 use Rattle.jpg_base.specs.declared.names.Name.{Name}
@@ -9,9 +9,11 @@ use Rattle.jpg_base.specs.Laws.{NoneFell-then}
 use Rattle.jpg_spec.specs.declared.answers.Why.{Why}
 use Rattle.jpg_spec.specs.declared.answers.Why.TheVariants as why
 use Rattle.jpg_spec.specs.declared.answers.Which.TheVariants as which
+use Rattle.jpg_spec.specs.ShowWords.{ShowAsked}
+use Rattle.jpg_spec.specs.declared.image.EndKind.{EndKind}
 use Rattle.jpg_spec.specs.Words.{tool_of}
 use Rattle.jpg_spec.specs.CommentWords.{WordsTold, words_right, words_wrong}
-use Rattle.jpg_cli.specs.Commands.{Command, not_built, transform_picture, print_comments, insert_comment, command_asked, name_of}
+use Rattle.jpg_cli.specs.Commands.{Command, not_built, transform_picture, show_picture, print_comments, insert_comment, command_asked, name_of}
 use Rattle.jpg_cli.proofs.CommentsPrinted.{printed_then}
 use Rattle.jpg_cli.proofs.InsertedThen.{inserted_then}
 use Rattle.jpg_cli.proofs.PictureTaken.{from_still}
@@ -25,26 +27,31 @@ use Rattle.jpg_spec.specs.Segments.{standard_limits}
 use Rattle.jpg_spec.proofs.FileLaws.{means_more}
 use Rattle.jpg_spec.specs.Messages.{message, status_of}
 use Rattle.jpg_cli.proofs.Endings.{stopped_then, unopened_then, unread_then, wrote_then}
-use Rattle.jpg_cli.specs.Run.{PictureInput, SaysText, task_of, turning_of, Worked, Works, Ran, IsAnswerDue, NoneRose}
+use Rattle.jpg_cli.specs.Run.{PictureInput, SaysText, task_of, turning_of, showing_of, RanShow, Worked, Works, Ran, IsAnswerDue, IsShowDue, NoneRose}
+use Rattle.jpg_cli.specs.Ends.{has_format}
+use Rattle.jpg_cli.specs.Showing.{Showing, Shown}
+use Rattle.jpg_cli.specs.declared.read_picture.Wanted.{Wanted}
+use Rattle.jpg_cli.specs.declared.read_picture.Wanted.TheVariants.{Coefficients, Image}
+use Rattle.jpg_cli.proofs.ImageShown.{shown_then}
 use Rattle.jpg_cli.specs.Stays.{OnlySays, Untouched}
 
 -- a message changes nothing of what was done
 picture_then : (t : Turning) (s0 s1 s2 : DeskState) (M : Meaning) → OnlySays s1 s2 → ReadsPicture t M s0 s1 → ReadsPicture t M s0 s2
-picture_then t s0 s1 s2 M k h = record { read = from_still s0 s1 s2 t.input (IsWholeRead M) k.same.left h.read; admitted = h.admitted }
+picture_then t s0 s1 s2 M k h = record { read = from_still s0 s1 s2 t.input (IsWholeRead Coefficients M) k.same.left h.read; admitted = h.admitted }
 
 turned_then : (t : Turning) (s0 s1 s2 : DeskState) (w : Why) → OnlySays s1 s2 → Turned t s0 w s1 → Turned t s0 w s2
 turned_then t s0 s1 s2 why.Done k (M, read, wrote, means) = (M, picture_then t s0 s1 s2 M k read, wrote_then s0 s1 s2 (t.input ∷ []) t.output (moved_text t.choice M) k wrote, means)
 turned_then t s0 s1 s2 (why.Usage u) k h = absurd h
 turned_then t s0 s1 s2 (why.Refused f) k h =
-    let P : Option (List ℕ) → Type 0 = λ l. ReadsFrom t.input (IsRefusedRead f (rest_of l)) s0 s2 in
-    (stopped_then s0 s1 s2 (t.input ∷ []) put.Done k h.0, subst P (sym k.same.left) (from_still s0 s1 s2 t.input (IsRefusedRead f (rest_of s1.left)) k.same.left h.1))
-turned_then t s0 s1 s2 (why.Picture p) k h = (stopped_then s0 s1 s2 (t.input ∷ []) put.Done k h.0, (h.1.0, from_still s0 s1 s2 t.input (IsWholeRead h.1.0) k.same.left h.1.1, h.1.2))
+    let P : Option (List ℕ) → Type 0 = λ l. ReadsFrom t.input (IsRefusedRead Coefficients f (rest_of l)) s0 s2 in
+    (stopped_then s0 s1 s2 (t.input ∷ []) put.Done k h.0, subst P (sym k.same.left) (from_still s0 s1 s2 t.input (IsRefusedRead Coefficients f (rest_of s1.left)) k.same.left h.1))
+turned_then t s0 s1 s2 (why.Picture p) k h = (stopped_then s0 s1 s2 (t.input ∷ []) put.Done k h.0, (h.1.0, from_still s0 s1 s2 t.input (IsWholeRead Coefficients h.1.0) k.same.left h.1.1, h.1.2))
 turned_then t s0 s1 s2 (why.OpenFault which.Input) k h = unopened_then s0 s1 s2 (t.input ∷ []) k h
 turned_then t s0 s1 s2 (why.OpenFault which.Script) k h = absurd h
 turned_then t s0 s1 s2 (why.OpenFault which.Tables) k h = absurd h
 turned_then t s0 s1 s2 (why.OpenFault which.Comment) k h = absurd h
 turned_then t s0 s1 s2 (why.OpenFault which.Output) k h = (unopened_then s0 s1 s2 (t.input ∷ t.output ∷ []) k h.0, (h.1.0, picture_then t s0 s1 s2 h.1.0 k h.1.1))
-turned_then t s0 s1 s2 (why.ReadFault which.Input) k h = (unread_then s0 s1 s2 (t.input ∷ []) k h.0, from_still s0 s1 s2 t.input IsOpenRead k.same.left h.1)
+turned_then t s0 s1 s2 (why.ReadFault which.Input) k h = (unread_then s0 s1 s2 (t.input ∷ []) k h.0, from_still s0 s1 s2 t.input (IsOpenRead Coefficients) k.same.left h.1)
 turned_then t s0 s1 s2 (why.ReadFault which.Script) k h = absurd h
 turned_then t s0 s1 s2 (why.ReadFault which.Tables) k h = absurd h
 turned_then t s0 s1 s2 (why.ReadFault which.Comment) k h = absurd h
@@ -58,14 +65,20 @@ turned_then t s0 s1 s2 why.NoMemory k h = (stopped_then s0 s1 s2 (t.input ∷ []
 untouched_then : (s0 s1 s2 : DeskState) → OnlySays s1 s2 → Untouched s0 s1 → Untouched s0 s2
 untouched_then s0 s1 s2 k t = record { asked = k.same.asked ∙ t.asked; outputs = k.same.outputs ∙ t.outputs; left = k.same.left ∙ t.left }
 
-worked_then : (a : WordsTold Command) (s0 s1 s2 : DeskState) (w : Why) → OnlySays s1 s2 → Worked a s0 w s1 → Worked a s0 w s2
-worked_then (words_wrong u) s0 s1 s2 w k t = (t.0, untouched_then s0 s1 s2 k t.1)
-worked_then (words_right not_built) s0 s1 s2 w k t = (t.0, untouched_then s0 s1 s2 k t.1)
-worked_then (words_right (transform_picture asked)) s0 s1 s2 w k (inl t) = inl (turned_then (turning_of asked) s0 s1 s2 w k t)
-worked_then (words_right (transform_picture asked)) s0 s1 s2 w k (inr t) = inr (t.0, untouched_then s0 s1 s2 k t.1)
-worked_then (words_right (print_comments files)) s0 s1 s2 w k (inl t) = inl (printed_then s0 s1 s2 (name_of files.input) (name_of files.output) w k t)
-worked_then (words_right (print_comments files)) s0 s1 s2 w k (inr t) = inr (t.0, untouched_then s0 s1 s2 k t.1)
-worked_then (words_right (insert_comment asked)) s0 s1 s2 w k t = inserted_then s0 s1 s2 (task_of asked) w k t
+show_then : (b : Bool) (a : ShowAsked) (s0 s1 s2 : DeskState) (w : Why) → OnlySays s1 s2 → RanShow b a s0 w s1 → RanShow b a s0 w s2
+show_then true a s0 s1 s2 w k (inl t) = inl (shown_then (showing_of a) s0 s1 s2 w k t)
+show_then true a s0 s1 s2 w k (inr t) = inr (t.0, untouched_then s0 s1 s2 k t.1)
+show_then false a s0 s1 s2 w k t = (t.0, untouched_then s0 s1 s2 k t.1)
+
+worked_then : (formats : List EndKind) (a : WordsTold Command) (s0 s1 s2 : DeskState) (w : Why) → OnlySays s1 s2 → Worked formats a s0 w s1 → Worked formats a s0 w s2
+worked_then formats (words_wrong u) s0 s1 s2 w k t = (t.0, untouched_then s0 s1 s2 k t.1)
+worked_then formats (words_right not_built) s0 s1 s2 w k t = (t.0, untouched_then s0 s1 s2 k t.1)
+worked_then formats (words_right (transform_picture asked)) s0 s1 s2 w k (inl t) = inl (turned_then (turning_of asked) s0 s1 s2 w k t)
+worked_then formats (words_right (transform_picture asked)) s0 s1 s2 w k (inr t) = inr (t.0, untouched_then s0 s1 s2 k t.1)
+worked_then formats (words_right (show_picture asked)) s0 s1 s2 w k t = show_then (has_format asked.kind formats) asked s0 s1 s2 w k t
+worked_then formats (words_right (print_comments files)) s0 s1 s2 w k (inl t) = inl (printed_then s0 s1 s2 (name_of files.input) (name_of files.output) w k t)
+worked_then formats (words_right (print_comments files)) s0 s1 s2 w k (inr t) = inr (t.0, untouched_then s0 s1 s2 k t.1)
+worked_then formats (words_right (insert_comment asked)) s0 s1 s2 w k t = inserted_then s0 s1 s2 (task_of asked) w k t
 
 said_still : (a : Option (List ℕ)) (b c : Option (List ℕ)) (t : List ℕ) → b ≡ a → Appends b c t → Appends a c t
 said_still a b c t e h = let P : Option (List ℕ) → Type 0 = λ m. Appends m c t in subst P e h
@@ -75,10 +88,10 @@ says_still s0 s1 s2 text e f (inl h) = inl (said_still s0.said s1.said s2.said t
 says_still s0 s1 s2 text e f (inr h) = inr ((let r = h.0 in let g = f.says in omega arith), (h.1.0, said_still s0.said s1.said s2.said (take h.1.0 text) e h.1.1))
 
 -- the work and then the message
-pub ran : (words : List (List ℕ)) (s0 s1 s2 : DeskState) (code : ℕ) (w : Why) → Works words s0 w s1 → OnlySays s1 s2 → SaysText s1 (message (tool_of words) w) s2 → code ≡ status_of w
-    → Ran words s0 (record { code = code; why = w }) s2
-ran words s0 s1 s2 code w h k m e = record {
-  worked = worked_then (command_asked words) s0 s1 s2 w k h.worked;
+pub ran : (formats : List EndKind) (words : List (List ℕ)) (s0 s1 s2 : DeskState) (code : ℕ) (w : Why) → Works formats words s0 w s1 → OnlySays s1 s2 → SaysText s1 (message (tool_of words) w) s2 → code ≡ status_of w
+    → Ran formats words s0 (record { code = code; why = w }) s2
+ran formats words s0 s1 s2 code w h k m e = record {
+  worked = worked_then formats (command_asked words) s0 s1 s2 w k h.worked;
   said = says_still s0 s1 s2 (message (tool_of words) w) h.kept.said h.kept.stays.counts m;
   code = e;
   stays = record { counts = NoneFell-then s0.counts s1.counts s2.counts h.kept.stays.counts k.stays.counts; files = k.stays.files ∙ h.kept.stays.files };
@@ -86,8 +99,8 @@ ran words s0 s1 s2 code w h k m e = record {
 
 -- where nothing failed, the answer is the due one
 
-picture_due : (input : Name) (s0 s1 : DeskState) (M : Meaning) → ReadsFrom input (IsWholeRead M) s0 s1 → PictureInput input s0
-picture_due input s0 s1 M h =
+picture_due : (wanted : Wanted) (input : Name) (s0 s1 : DeskState) (M : Meaning) → ReadsFrom input (IsWholeRead wanted M) s0 s1 → PictureInput input s0
+picture_due wanted input s0 s1 M h =
     let rest = rest_of s1.left in
     let cut : take h.is.count h.bytes ++ (drop h.is.count h.bytes ++ rest) ≡ h.bytes ++ rest =
     sym (append_assoc (take h.is.count h.bytes) (drop h.is.count h.bytes) rest) ∙ ap (λ (b : List ℕ). b ++ rest) (take-append-drop h.is.count h.bytes) in
@@ -100,10 +113,10 @@ picture_due input s0 s1 M h =
 
 pub due_answer : (t : Turning) (s0 s1 : DeskState) (w : Why) → NoneRose s0.counts s1.counts → Turned t s0 w s1 → IsAnswerDue t s0 w
 unfolding picture_due
-due_answer t s0 s1 why.Done n (M, read, wrote, means) = record { picture = picture_due t.input s0 s1 M read.read; is = read.admitted }
+due_answer t s0 s1 why.Done n (M, read, wrote, means) = record { picture = picture_due Coefficients t.input s0 s1 M read.read; is = read.admitted }
 due_answer t s0 s1 (why.Usage u) n h = absurd h
 due_answer t s0 s1 (why.Refused f) n h = record { bytes = h.1.bytes ++ rest_of s1.left; file = h.1.read; refused = h.1.is.refused }
-due_answer t s0 s1 (why.Picture p) n h = record { picture = picture_due t.input s0 s1 h.1.0 h.1.1; is = h.1.2 }
+due_answer t s0 s1 (why.Picture p) n h = record { picture = picture_due Coefficients t.input s0 s1 h.1.0 h.1.1; is = h.1.2 }
 due_answer t s0 s1 (why.OpenFault which.Input) n h = absurd (n.0 h.opens)
 due_answer t s0 s1 (why.OpenFault which.Script) n h = absurd h
 due_answer t s0 s1 (why.OpenFault which.Tables) n h = absurd h
@@ -116,3 +129,22 @@ due_answer t s0 s1 (why.ReadFault which.Comment) n h = absurd h
 due_answer t s0 s1 (why.ReadFault which.Output) n h = absurd h
 due_answer t s0 s1 why.WriteFault n h = absurd (n.2 h.0)
 due_answer t s0 s1 why.NoMemory n h = tt
+
+pub show_due : (s : Showing) (s0 s1 : DeskState) (w : Why) → NoneRose s0.counts s1.counts → Shown s s0 w s1 → IsShowDue s s0 w
+unfolding picture_due
+show_due s s0 s1 why.Done n (M, read, wrote) = record { picture = picture_due (Image s.gray) s.input s0 s1 M read; shown = read.is.wanted }
+show_due s s0 s1 (why.Usage u) n h = absurd h
+show_due s s0 s1 (why.Refused f) n h = record { bytes = h.1.bytes ++ rest_of s1.left; file = h.1.read; refused = h.1.is.refused }
+show_due s s0 s1 (why.Picture p) n h = absurd h
+show_due s s0 s1 (why.OpenFault which.Input) n h = absurd (n.0 h.opens)
+show_due s s0 s1 (why.OpenFault which.Script) n h = absurd h
+show_due s s0 s1 (why.OpenFault which.Tables) n h = absurd h
+show_due s s0 s1 (why.OpenFault which.Comment) n h = absurd h
+show_due s s0 s1 (why.OpenFault which.Output) n h = absurd (n.0 h.0.opens)
+show_due s s0 s1 (why.ReadFault which.Input) n h = absurd (n.1 h.0.reads)
+show_due s s0 s1 (why.ReadFault which.Script) n h = absurd h
+show_due s s0 s1 (why.ReadFault which.Tables) n h = absurd h
+show_due s s0 s1 (why.ReadFault which.Comment) n h = absurd h
+show_due s s0 s1 (why.ReadFault which.Output) n h = absurd h
+show_due s s0 s1 why.WriteFault n h = absurd (n.2 h.0)
+show_due s s0 s1 why.NoMemory n h = tt

@@ -2,7 +2,7 @@
 use Rattle.std.proofs.Common.{◌≡◌, ℕ, ◌*◌, Bool, true, false, cond, not, ◌&&◌, ◌==◌, List, [], ◌∷◌, length, get_or, map, refl, sym, ap, ◌∙◌, subst, arith}
 use Rattle.std.proofs.Math.Path.{fun_ext}
 use Rattle.std.proofs.Math.ListN as listn
-use Rattle.std.specs.Prelude.{◌||◌, nat_lt, slice_index_or, sum_by, zip}
+use Rattle.std.specs.Prelude.{◌||◌, nat_lt, sum_by, zip}
 use Rattle.std.proofs.lemmas.List.{length-map}
 use Rattle.std.proofs.lemmas.Slice.Zip.{get_or-zip, length-zip}
 use Rattle.jpg_spec.specs.Lists.{any_of, below}
@@ -12,7 +12,7 @@ use Rattle.jpg_spec.specs.FileText.{file_text, frame_of_meaning, off}
 use Rattle.jpg_spec.specs.Jfif.{jfif_of}
 use Rattle.jpg_spec.specs.Laws.{IsMovable}
 use Rattle.jpg_spec.specs.Meaning.{Meaning, PictureComponent, colour_of, real_blocks}
-use Rattle.jpg_spec.specs.Moved.{Choice, Grids, frame_grids, headed_as, moved, moved_frame}
+use Rattle.jpg_spec.specs.Moved.{Grids, moved, moved_frame}
 use Rattle.jpg_spec.specs.Moves.{copied, headed_kept, is_wide, sequential_process}
 use Rattle.jpg_spec.specs.Scan.{Blocks}
 use Rattle.jpg_spec.specs.Script.{Entry, sequential_script}
@@ -26,7 +26,7 @@ use Rattle.jpg_spec.specs.declared.frame.Process.TheVariants.{Baseline, Extended
 use Rattle.jpg_spec.specs.declared.jfif.Jfif.{Jfif}
 use Rattle.jpg_spec.proofs.Common.{both, lt_of, lt_yes}
 use Rattle.jpg_spec.proofs.ReadPicture.{read_moved}
-use Rattle.jpg_spec.proofs.Rows.{by_items, map_map}
+use Rattle.jpg_spec.proofs.Rows.{by_items}
 use Rattle.jpg_spec.proofs.SameNumbers.{SameNumbers, is_place, numbers_of, same_places}
 use Rattle.jpg_spec.proofs.WrittenFront.{frame_is, standard_are_limits}
 use Rattle.jpg_spec.proofs.WrittenScripts.{sequential_passes}
@@ -36,7 +36,7 @@ use Rattle.jpg_seq.specs.ScanWritten.{HasBaselineBlocks}
 use Rattle.jpg_file.specs.PictureRead.{IsPicture, component_told, picture_meaning}
 use Rattle.jpg_file.specs.declared.picture.Picture.{Picture}
 use Rattle.jpg_transform.specs.Places.{IsSeenAs}
-use Rattle.jpg_transform.specs.Planned.{IsJobFor, IsOutHeadOf, choice_told, moved_colour, moved_tables, moved_text, process_of}
+use Rattle.jpg_transform.specs.Planned.{IsJobFor, IsOutHeadOf, choice_told, moved_colour, moved_text, process_of}
 use Rattle.jpg_transform.specs.declared.choice.Choice.{Choice as Asked}
 use Rattle.jpg_transform.specs.declared.choice.Job.{Job}
 use Rattle.jpg_transform.proofs.HeadColour.{headed_colour}

@@ -18,9 +18,10 @@ use Rattle.jpg_file.specs.ReadFile.{ReaderState}
 use Rattle.jpg_file.specs.declared.picture.Picture.{Picture}
 use Rattle.jpg_cli.specs.Endings.{Stopped}
 use Rattle.jpg_cli.specs.Reading.{IsFile, rest_of}
-use Rattle.jpg_cli.specs.ReadPicture.{AfterFileEnd, AfterNextPiece, AfterTakingPiece, EndsEarly, EndsReading, HasFed, HoldsFile, IsOpenRead, IsRefusedRead, IsShortRead, IsWholeRead, PictureRead, ReadsFrom, Takes}
+use Rattle.jpg_cli.specs.ReadPicture.{AfterFileEnd, AfterNextPiece, AfterTakingPiece, EndsEarly, EndsReading, HasFed, HoldsFile, IsOpenRead, IsRefusedRead, IsShortRead, IsWholeRead, PictureRead, ReadsFrom, Takes, unwanted_for}
 use Rattle.jpg_cli.specs.Stays.{OnlyReads}
 use Rattle.jpg_cli.specs.declared.read_picture.PictureStep.{PictureStep}
+use Rattle.jpg_cli.specs.declared.read_picture.Wanted.{Wanted}
 use Rattle.jpg_cli.specs.declared.read_picture.PictureStep.TheVariants as step
 use Rattle.jpg_cli.proofs.CommentsCopied.{copies_none, copies_then, left_still, some_taken}
 use Rattle.jpg_cli.proofs.Input.{file_read, none_left, noted}
@@ -36,52 +37,52 @@ reads_none s = record { copies = copies_none s; outputs = refl }
 
 -- A PIECE
 
-after_piece : (start s1 : DeskState) (bytes piece : List ℕ) (answer : PictureStep) (r : ReaderState) → 0 < length piece → Consumes start.left s1.left (bytes ++ piece) → AfterTakingPiece (bytes ++ piece) answer r → AfterNextPiece start bytes answer r s1
-after_piece start s1 bytes piece step.More r some read h = (piece, some, h, read)
-after_piece start s1 bytes piece step.Whole r some read h = (bytes ++ piece, read, h)
-after_piece start s1 bytes piece (step.Ended why.Done) r some read h = absurd h
-after_piece start s1 bytes piece (step.Ended (why.Usage u)) r some read h = absurd h
-after_piece start s1 bytes piece (step.Ended (why.Picture p)) r some read h = absurd h
-after_piece start s1 bytes piece (step.Ended (why.Refused f)) r some read h = (bytes ++ piece, read, h (rest_of s1.left))
-after_piece start s1 bytes piece (step.Ended (why.OpenFault w)) r some read h = absurd h
-after_piece start s1 bytes piece (step.Ended (why.ReadFault w)) r some read h = absurd h
-after_piece start s1 bytes piece (step.Ended why.WriteFault) r some read h = absurd h
-after_piece start s1 bytes piece (step.Ended why.NoMemory) r some read h = (bytes ++ piece, read, h)
+after_piece : (w : Wanted) (start s1 : DeskState) (bytes piece : List ℕ) (answer : PictureStep) (r : ReaderState) → 0 < length piece → Consumes start.left s1.left (bytes ++ piece) → AfterTakingPiece w (bytes ++ piece) answer r → AfterNextPiece w start bytes answer r s1
+after_piece w start s1 bytes piece step.More r some read h = (piece, some, h, read)
+after_piece w start s1 bytes piece step.Whole r some read h = (bytes ++ piece, read, h)
+after_piece w start s1 bytes piece (step.Ended why.Done) r some read h = absurd h
+after_piece w start s1 bytes piece (step.Ended (why.Usage u)) r some read h = absurd h
+after_piece w start s1 bytes piece (step.Ended (why.Picture p)) r some read h = absurd h
+after_piece w start s1 bytes piece (step.Ended (why.Refused f)) r some read h = (bytes ++ piece, read, h (rest_of s1.left))
+after_piece w start s1 bytes piece (step.Ended (why.OpenFault file)) r some read h = absurd h
+after_piece w start s1 bytes piece (step.Ended (why.ReadFault file)) r some read h = absurd h
+after_piece w start s1 bytes piece (step.Ended why.WriteFault) r some read h = absurd h
+after_piece w start s1 bytes piece (step.Ended why.NoMemory) r some read h = (bytes ++ piece, read, h)
 
-pub piece_taken : (start s0 s1 : DeskState) (n : ℕ) (buf bytes : List ℕ) (answer : PictureStep) (r : ReaderState) → Reads s0 (got.Bytes n) buf s1 → Consumes start.left s0.left bytes → AfterTakingPiece (bytes ++ take n buf) answer r
-    → AfterNextPiece start bytes answer r s1
-piece_taken start s0 s1 n buf bytes answer r read had h =
-    after_piece start s1 bytes (take n buf) answer r (some_taken n buf read.after.0 read.after.1) (Consumes-then start.left s0.left s1.left bytes (take n buf) had read.after.2) h
+pub piece_taken : (w : Wanted) (start s0 s1 : DeskState) (n : ℕ) (buf bytes : List ℕ) (answer : PictureStep) (r : ReaderState) → Reads s0 (got.Bytes n) buf s1 → Consumes start.left s0.left bytes → AfterTakingPiece w (bytes ++ take n buf) answer r
+    → AfterNextPiece w start bytes answer r s1
+piece_taken w start s0 s1 n buf bytes answer r read had h =
+    after_piece w start s1 bytes (take n buf) answer r (some_taken n buf read.after.0 read.after.1) (Consumes-then start.left s0.left s1.left bytes (take n buf) had read.after.2) h
 
 -- AT THE END
 
-pub piece_end : (start s0 s1 : DeskState) (bytes : List ℕ) (w : Why) → IsAtEnd s0.left → s1.left ≡ s0.left → Consumes start.left s0.left bytes → AfterFileEnd bytes w → EndsEarly start w s1
-piece_end start s0 s1 bytes why.Done end left had h = absurd h
-piece_end start s0 s1 bytes (why.Usage u) end left had h = absurd h
-piece_end start s0 s1 bytes (why.Picture p) end left had h = absurd h
-piece_end start s0 s1 bytes (why.Refused f) end left had h =
+pub piece_end : (w : Wanted) (start s0 s1 : DeskState) (bytes : List ℕ) (ended : Why) → IsAtEnd s0.left → s1.left ≡ s0.left → Consumes start.left s0.left bytes → AfterFileEnd w bytes ended → EndsEarly w start ended s1
+piece_end w start s0 s1 bytes why.Done end left had h = absurd h
+piece_end w start s0 s1 bytes (why.Usage u) end left had h = absurd h
+piece_end w start s0 s1 bytes (why.Picture p) end left had h = absurd h
+piece_end w start s0 s1 bytes (why.Refused f) end left had h =
     let none : rest_of s1.left ≡ [] = ap rest_of left ∙ none_left s0.left end in
-    (bytes, left_still s0 s1 bytes start left had, subst (λ (rest : List ℕ). IsRefusedRead f rest bytes) (sym none) h)
-piece_end start s0 s1 bytes (why.OpenFault w) end left had h = absurd h
-piece_end start s0 s1 bytes (why.ReadFault w) end left had h = absurd h
-piece_end start s0 s1 bytes why.WriteFault end left had h = absurd h
-piece_end start s0 s1 bytes why.NoMemory end left had h = absurd h
+    (bytes, left_still s0 s1 bytes start left had, subst (λ (rest : List ℕ). IsRefusedRead w f rest bytes) (sym none) h)
+piece_end w start s0 s1 bytes (why.OpenFault file) end left had h = absurd h
+piece_end w start s0 s1 bytes (why.ReadFault file) end left had h = absurd h
+piece_end w start s0 s1 bytes why.WriteFault end left had h = absurd h
+piece_end w start s0 s1 bytes why.NoMemory end left had h = absurd h
 
 -- A READ that failed
-pub piece_unread : (start s0 s1 : DeskState) (bytes : List ℕ) (r : ReaderState) → r.limits ≡ standard_limits → HasFed r bytes → OnlyReads start s0 → Consumes start.left s0.left bytes → Rose s0.counts.reads s1.counts.reads → s1.left ≡ s0.left
-    → EndsEarly start (why.ReadFault which.Input) s1
-piece_unread start s0 s1 bytes r e h still had rose left = (
-  (bytes, left_still s0 s1 bytes start left had, open_so_far bytes r e h.read),
+pub piece_unread : (w : Wanted) (start s0 s1 : DeskState) (bytes : List ℕ) (r : ReaderState) → r.limits ≡ standard_limits → HasFed w r bytes → OnlyReads start s0 → Consumes start.left s0.left bytes → Rose s0.counts.reads s1.counts.reads → s1.left ≡ s0.left
+    → EndsEarly w start (why.ReadFault which.Input) s1
+piece_unread w start s0 s1 bytes r e h still had rose left = (
+  (bytes, left_still s0 s1 bytes start left had, open_so_far w bytes r e h),
   (let f = still.copies.works.stays.counts.reads in omega (arith, rose, f)),
 )
 
 -- THE PICTURE of the reader's file
 
-pub picture_taken : (s0 s1 : DeskState) (r : ReaderState) (p : Picture) → r.limits ≡ standard_limits → TakesPicture r p → Takes (HoldsFile r) s0 s1 → EndsReading s0 (Ok p) s1
-picture_taken s0 s1 r p e takes (bytes, read, h) =
+pub picture_taken : (w : Wanted) (s0 s1 : DeskState) (r : ReaderState) (p : Picture) → r.limits ≡ standard_limits → TakesPicture r p → Takes (HoldsFile w r) s0 s1 → EndsReading w s0 (Ok p) s1
+picture_taken w s0 s1 r p e takes (bytes, read, h) =
     let means : (picture_meaning p) ≡ h.done.meaning = takes (take h.count bytes) h.done in
     let whole = subst (λ (l : Limits). IsWholeFile l (take h.count bytes) h.done.meaning) e h.done.whole in
-    (bytes, read, record { count = h.count; within = h.within; last = h.last; small = h.small; whole = subst (λ (M : Meaning). IsWholeFile standard_limits (take h.count bytes) M) (sym means) whole })
+    (bytes, read, record { count = h.count; within = h.within; last = h.last; small = h.small; whole = subst (λ (M : Meaning). IsWholeFile standard_limits (take h.count bytes) M) (sym means) whole; wanted = ap (unwanted_for w) means ∙ h.wanted })
 
 -- FROM THE NAME
 
@@ -91,26 +92,26 @@ reads_from s0 s1 s2 file Is h (bytes, read, is) = record { bytes = bytes; read =
 stopped_there : (s0 s1 s2 : DeskState) (file : Name) → Opens s0 file put.Done s1 → OnlyReads s1 s2 → Stopped (file ∷ []) put.Done s0 s2
 stopped_there s0 s1 s2 file h k = record { asked = noted s0 s1 s2 file h k; outputs = k.outputs ∙ h.outputs }
 
-ends_early : (s0 s1 s2 : DeskState) (file : Name) (w : Why) → Opens s0 file put.Done s1 → OnlyReads s1 s2 → EndsEarly s1 w s2 → PictureRead file s0 (Err w) s2
-ends_early s0 s1 s2 file why.Done h k e = absurd e
-ends_early s0 s1 s2 file (why.Usage u) h k e = absurd e
-ends_early s0 s1 s2 file (why.Picture p) h k e = absurd e
-ends_early s0 s1 s2 file (why.Refused f) h k e = (stopped_there s0 s1 s2 file h k, reads_from s0 s1 s2 file (IsRefusedRead f (rest_of s2.left)) h e)
-ends_early s0 s1 s2 file (why.OpenFault w) h k e = absurd e
-ends_early s0 s1 s2 file (why.ReadFault which.Input) h k e = (
+ends_early : (w : Wanted) (s0 s1 s2 : DeskState) (file : Name) (ended : Why) → Opens s0 file put.Done s1 → OnlyReads s1 s2 → EndsEarly w s1 ended s2 → PictureRead w file s0 (Err ended) s2
+ends_early w s0 s1 s2 file why.Done h k e = absurd e
+ends_early w s0 s1 s2 file (why.Usage u) h k e = absurd e
+ends_early w s0 s1 s2 file (why.Picture p) h k e = absurd e
+ends_early w s0 s1 s2 file (why.Refused f) h k e = (stopped_there s0 s1 s2 file h k, reads_from s0 s1 s2 file (IsRefusedRead w f (rest_of s2.left)) h e)
+ends_early w s0 s1 s2 file (why.OpenFault other) h k e = absurd e
+ends_early w s0 s1 s2 file (why.ReadFault which.Input) h k e = (
   record { stopped = stopped_there s0 s1 s2 file h k; reads = (let r = e.1 in let f = h.counts.reads in omega arith) },
-  reads_from s0 s1 s2 file IsOpenRead h e.0,
+  reads_from s0 s1 s2 file (IsOpenRead w) h e.0,
 )
-ends_early s0 s1 s2 file (why.ReadFault which.Script) h k e = absurd e
-ends_early s0 s1 s2 file (why.ReadFault which.Tables) h k e = absurd e
-ends_early s0 s1 s2 file (why.ReadFault which.Comment) h k e = absurd e
-ends_early s0 s1 s2 file (why.ReadFault which.Output) h k e = absurd e
-ends_early s0 s1 s2 file why.WriteFault h k e = absurd e
-ends_early s0 s1 s2 file why.NoMemory h k e = (stopped_there s0 s1 s2 file h k, reads_from s0 s1 s2 file IsShortRead h e)
+ends_early w s0 s1 s2 file (why.ReadFault which.Script) h k e = absurd e
+ends_early w s0 s1 s2 file (why.ReadFault which.Tables) h k e = absurd e
+ends_early w s0 s1 s2 file (why.ReadFault which.Comment) h k e = absurd e
+ends_early w s0 s1 s2 file (why.ReadFault which.Output) h k e = absurd e
+ends_early w s0 s1 s2 file why.WriteFault h k e = absurd e
+ends_early w s0 s1 s2 file why.NoMemory h k e = (stopped_there s0 s1 s2 file h k, reads_from s0 s1 s2 file IsShortRead h e)
 
-pub picture_read : (s0 s1 s2 : DeskState) (file : Name) (answer : Result Picture Why) → Opens s0 file put.Done s1 → OnlyReads s1 s2 → EndsReading s1 answer s2 → PictureRead file s0 answer s2
-picture_read s0 s1 s2 file (Ok p) h k e = (noted s0 s1 s2 file h k, reads_from s0 s1 s2 file (IsWholeRead (picture_meaning p)) h e)
-picture_read s0 s1 s2 file (Err w) h k e = ends_early s0 s1 s2 file w h k e
+pub picture_read : (w : Wanted) (s0 s1 s2 : DeskState) (file : Name) (answer : Result Picture Why) → Opens s0 file put.Done s1 → OnlyReads s1 s2 → EndsReading w s1 answer s2 → PictureRead w file s0 answer s2
+picture_read w s0 s1 s2 file (Ok p) h k e = (noted s0 s1 s2 file h k, reads_from s0 s1 s2 file (IsWholeRead w (picture_meaning p)) h e)
+picture_read w s0 s1 s2 file (Err ended) h k e = ends_early w s0 s1 s2 file ended h k e
 
 -- what was read of a file stays so where no more of it is read
 pub from_still : (s0 s1 s2 : DeskState) (file : Name) (Is : List ℕ → Type 0) → s2.left ≡ s1.left → ReadsFrom file Is s0 s1 → ReadsFrom file Is s0 s2

@@ -1,11 +1,10 @@
 -- Turning a picture: reading it, and then writing it.
-use Rattle.std.proofs.Common.{◌≡◌, ℕ, ◌<◌, Bool, true, false, cond, List, [], ◌∷◌, take, Option, Err, None, Some, refl, sym, ◌∙◌, subst, arith, zero, suc, inl}
+use Rattle.std.proofs.Common.{◌≡◌, ℕ, ◌<◌, Bool, true, false, cond, List, [], ◌∷◌, take, Option, Err, None, refl, sym, ◌∙◌, subst, arith, zero, suc, inl, inr}
 use Rattle.std.specs.List.{All}
 use Rattle.jpg_base.specs.declared.names.Name.{Name}
 use Rattle.jpg_base.specs.declared.names.Put.TheVariants as put
 use Rattle.jpg_base.specs.Desk.{DeskState, NotesName}
 use Rattle.jpg_base.specs.Laws.{Grows}
-use Rattle.jpg_spec.specs.FileMeaning.{Means}
 use Rattle.jpg_spec.specs.Geometry.{is_progressive}
 use Rattle.jpg_spec.specs.Laws.{IsMovable}
 use Rattle.jpg_spec.specs.Meaning.{Meaning}
@@ -22,16 +21,23 @@ use Rattle.jpg_spec.proofs.WrittenFront.{standard_are_limits}
 use Rattle.jpg_transform.specs.Planned.{choice_told, moved_text}
 use Rattle.jpg_transform.specs.declared.choice.Choice.{Choice as Asked}
 use Rattle.jpg_cli.specs.Endings.{Added, Asks}
+use Rattle.jpg_cli.specs.declared.read_picture.Wanted.TheVariants.{Coefficients}
 use Rattle.jpg_cli.specs.ReadPicture.{IsWholeRead, PictureRead, ReadsFrom}
 use Rattle.jpg_cli.specs.Stays.{Keeps, Untouched}
-use Rattle.jpg_cli.specs.Commands.{name_of}
+use Rattle.jpg_cli.specs.Commands.{Command, IsCommand, name_of}
 use Rattle.jpg_cli.specs.CommentWords.{file_told}
-use Rattle.jpg_cli.specs.Run.{RanTransform}
+use Rattle.jpg_cli.specs.Run.{RanShow, RanTransform, Worked}
+use Rattle.jpg_cli.specs.Ends.{has_format}
+use Rattle.jpg_spec.specs.CommentWords.{WordsTold}
+use Rattle.jpg_spec.specs.ShowWords.{ShowAsked}
+use Rattle.jpg_spec.specs.declared.image.EndKind.{EndKind}
+use Rattle.jpg_cli.specs.declared.comment_words.WordsStop.TheVariants as words
 use Rattle.jpg_cli.specs.TransformWords.{transform_told}
 use Rattle.jpg_cli.specs.Turned.{MeansMoved, Turned, Turning, turning_told}
 use Rattle.jpg_cli.specs.declared.transform_words.TransformWords.{TransformWords}
 use Rattle.jpg_cli.specs.Writing.{AfterMoved, IsMeant}
 use Rattle.jpg_cli.specs.declared.writing.Wrote.TheVariants as wrote
+use Rattle.jpg_cli.proofs.CommentInserted.{none_noted}
 use Rattle.jpg_cli.proofs.Endings.{asks_next, asks_still}
 use Rattle.jpg_cli.proofs.InsertedThen.{same_name}
 use Rattle.jpg_cli.proofs.PictureTaken.{from_still}
@@ -45,7 +51,7 @@ front_small (x ∷ xs) zero h k d l = let f : ⊥ = omega arith in absurd f
 front_small (x ∷ xs) (suc n) h zero d l = h 0 d (omega arith)
 front_small (x ∷ xs) (suc n) h (suc k) d l = front_small xs n (λ i e m. h (suc i) e (omega arith)) k d (omega arith)
 
-pub meant : (M : Meaning) (bytes : List ℕ) → IsWholeRead M bytes → IsMeant M
+pub meant : (M : Meaning) (bytes : List ℕ) → IsWholeRead Coefficients M bytes → IsMeant M
 meant M bytes h = (take h.count bytes, front_small bytes h.count h.small, h.whole.0)
 
 pub movable : (M : Meaning) (c : Asked) → IsMeant M → gray_fault c.gray M ≡ None → IsMovable (choice_told c) M
@@ -69,7 +75,7 @@ means_moved M c h none =
 
 -- NO PICTURE
 
-pub turned_unread : (t : Turning) (s0 s1 : DeskState) (w : Why) → PictureRead t.input s0 (Err w) s1 → Turned t s0 w s1
+pub turned_unread : (t : Turning) (s0 s1 : DeskState) (w : Why) → PictureRead Coefficients t.input s0 (Err w) s1 → Turned t s0 w s1
 turned_unread t s0 s1 why.Done h = absurd h
 turned_unread t s0 s1 (why.Usage u) h = absurd h
 turned_unread t s0 s1 (why.Refused f) h = h
@@ -93,14 +99,14 @@ turned_unread t s0 s1 why.NoMemory h = h
 pub record HasPictureRead (t : Turning) (M : Meaning) (s0 s1 s2 : DeskState) : Type 0 where
   pub kept : Keeps s0 s1
   pub asked : Asks (t.input ∷ []) put.Done s0 s1
-  pub read : ReadsFrom t.input (IsWholeRead M) s0 s1
+  pub read : ReadsFrom t.input (IsWholeRead Coefficients M) s0 s1
   pub left : s2.left ≡ s1.left
 
 abbrev turning_by : Name → Name → Asked → Turning
 turning_by input output c = record { input = input; output = output; choice = choice_told c }
 
-read_on : (t : Turning) (M : Meaning) (s0 s1 s2 : DeskState) → HasPictureRead t M s0 s1 s2 → ReadsFrom t.input (IsWholeRead M) s0 s2
-read_on t M s0 s1 s2 h = from_still s0 s1 s2 t.input (IsWholeRead M) h.left h.read
+read_on : (t : Turning) (M : Meaning) (s0 s1 s2 : DeskState) → HasPictureRead t M s0 s1 s2 → ReadsFrom t.input (IsWholeRead Coefficients M) s0 s2
+read_on t M s0 s1 s2 h = from_still s0 s1 s2 t.input (IsWholeRead Coefficients M) h.left h.read
 
 wrote_text : (t : Turning) (M : Meaning) (s0 s1 s2 : DeskState) (text : List ℕ) → HasPictureRead t M s0 s1 s2 → NotesName s1.asked (t.output, put.Done) s2.asked → Grows s1.outputs (t.output, text) s2.outputs → Added (t.input ∷ []) t.output text s0 s2
 wrote_text t M s0 s1 s2 text h o grows = record {
@@ -142,3 +148,24 @@ asked_turned w s0 s1 ended h =
     let of : Name → Name → Turning = λ i o. record { input = i; output = o; choice = choice_told w.choice } in
     inl (subst (λ i. Turned (of i (name_of (file_told w.files.output))) s0 ended s1) (sym (same_name w.files.input))
     (subst (λ o. Turned (of w.files.input o) s0 ended s1) (sym (same_name w.files.output)) h))
+
+-- where memory is wanting for the names of its files
+
+untouched : (s : DeskState) → Untouched s s
+untouched s = record { asked = refl; outputs = refl; left = refl }
+
+show_wanting : (b : Bool) (a : ShowAsked) (s : DeskState) → RanShow b a s why.NoMemory s
+show_wanting true a s = inr (refl, untouched s)
+show_wanting false a s = (inr refl, untouched s)
+
+pub names_wanting : (formats : List EndKind) (told : WordsTold Command) (s : DeskState) → IsCommand told (Err words.NoMemory) → Worked formats told s why.NoMemory s
+names_wanting formats told s k = by k
+  where
+    P : WordsTold Command → Type 0
+    P t = Worked formats t s why.NoMemory s
+
+    by : IsCommand told (Err words.NoMemory) → Worked formats told s why.NoMemory s
+    by (inl (a, e)) = subst P (sym e) (inr (refl, untouched s))
+    by (inr (inl (a, e))) = subst P (sym e) (show_wanting (has_format a.kind formats) a s)
+    by (inr (inr (inl (files, e)))) = subst P (sym e) (inr (refl, untouched s))
+    by (inr (inr (inr (asked, e)))) = subst P (sym e) (inl (record { count = 0; stopped = record { asked = none_noted s.asked s.asked refl; outputs = refl }; read = inl refl }))

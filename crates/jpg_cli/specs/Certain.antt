@@ -1,17 +1,18 @@
 -- WHERE AN ANSWER IS CERTAIN: over a desk that tells its files, where all calls are done and memory is there.
-use Rattle.std.specs.Prelude.{◌≡◌, ℕ, ◌<◌, ◌≤◌, false, List, length, Option, None, Some}
+use Rattle.std.specs.Prelude.{◌≡◌, ℕ, ◌<◌, ◌≤◌, List, length, Option, None, Some}
 use Rattle.jpg_base.specs.declared.names.Name.{Name}
 use Rattle.jpg_base.specs.declared.names.Name.TheVariants as name
 use Rattle.jpg_base.specs.Desk.{DeskState}
 use Rattle.jpg_spec.specs.FileMeaning.{Means}
-use Rattle.jpg_spec.specs.Geometry.{is_progressive}
+use Rattle.jpg_spec.specs.FirstFault.{HasMeaning}
 use Rattle.jpg_spec.specs.Meaning.{Meaning}
 use Rattle.jpg_spec.specs.Segments.{standard_limits}
-use Rattle.jpg_spec.specs.declared.fault.Fault.TheVariants.{NotBuilt}
 use Rattle.jpg_spec.specs.CommentText.{IsInserted, longest_comment}
 use Rattle.jpg_comments.specs.Answers.{IsWholeFront}
 use Rattle.jpg_spec.specs.Moved.{gray_fault}
+use Rattle.jpg_spec.specs.Pixels.{out_fault}
 use Rattle.jpg_cli.specs.CommentInserted.{Task}
+use Rattle.jpg_cli.specs.Showing.{Showing}
 use Rattle.jpg_cli.specs.Turned.{Turning}
 use Rattle.jpg_spec.specs.CommentWords.{CommentSource, from_input, from_words, from_file}
 use Rattle.jpg_spec.specs.declared.answers.Why.{Why}
@@ -59,22 +60,19 @@ pub record HasPicture (t : Turning) (old : DeskState) : Type 0 where
   pub means : Means standard_limits bytes meaning
   pub admitted : gray_fault t.choice.gray meaning ≡ None
 
--- All was done, or memory was wanting, or the file isn't read yet.
-abbrev pub IsDoneOrUnbuilt : Why → Type 0
-IsDoneOrUnbuilt why.Done = Unit {0}
-IsDoneOrUnbuilt why.NoMemory = Unit {0}
-IsDoneOrUnbuilt (why.Refused f) = f.fault ≡ NotBuilt
-IsDoneOrUnbuilt other = ⊥
+-- The input is told, and means a picture that is shown.
+pub record HasImage (s : Showing) (old : DeskState) : Type 0 where
+  pub bytes : List ℕ
+  pub meaning : Meaning
+  pub told : IsTold old.files s.input bytes
+  pub means : Means standard_limits bytes meaning
+  pub shown : out_fault s.gray meaning ≡ None
 
--- A sequential file: the bytes mean a picture whose frame isn't progressive.
-abbrev pub IsSequentialFile : List ℕ → Type 0
-IsSequentialFile input = (M : Meaning) × Means standard_limits input M × (is_progressive M.process ≡ false)
-
--- The input is told, and is one.
-pub record HasSequentialPicture (t : Turning) (old : DeskState) : Type 0 where
+-- The input is told, and means a picture.
+pub record HasFile (t : Turning) (old : DeskState) : Type 0 where
   pub bytes : List ℕ
   pub told : IsTold old.files t.input bytes
-  pub is : IsSequentialFile bytes
+  pub means : HasMeaning standard_limits bytes
 
 -- The input wasn't refused: all was done, or its picture can't be written as it is asked for, or a device failed, or memory was wanting.
 abbrev pub IsNotRefused : Why → Type 0

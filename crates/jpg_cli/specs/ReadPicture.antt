@@ -1,9 +1,12 @@
 -- WHAT READING A PICTURE does to a desk (T.81, B.2.1), by what came of it.
-use Rattle.std.specs.Prelude.{◌≡◌, ℕ, ◌+◌, ◌<◌, ◌≤◌, true, false, List, [], ◌∷◌, ◌++◌, length, take, All, Result, Ok, Err}
+use Rattle.std.specs.Prelude.{◌≡◌, ◌⊎◌, ℕ, ◌+◌, ◌<◌, ◌≤◌, true, false, List, [], ◌∷◌, ◌++◌, length, take, All, Option, Some, None, Result, Ok, Err}
 use Rattle.std.specs.Io.KnownBytes.{Consumes}
 use Rattle.jpg_base.specs.declared.names.Name.{Name}
 use Rattle.jpg_base.specs.declared.names.Put.TheVariants as put
 use Rattle.jpg_base.specs.Desk.{DeskState, Rose}
+use Rattle.jpg_spec.specs.Geometry.{Frame}
+use Rattle.jpg_spec.specs.NotShown.{IsNotShown}
+use Rattle.jpg_spec.specs.Pixels.{out_fault}
 use Rattle.jpg_spec.specs.Segments.{standard_limits}
 use Rattle.jpg_spec.specs.Meaning.{Meaning}
 use Rattle.jpg_spec.specs.FileStands.{FileStands, IsWholeFile}
@@ -11,6 +14,11 @@ use Rattle.jpg_spec.specs.declared.answers.FaultAt.{FaultAt}
 use Rattle.jpg_spec.specs.declared.answers.Why.{Why}
 use Rattle.jpg_spec.specs.declared.answers.Why.TheVariants as why
 use Rattle.jpg_spec.specs.declared.answers.Which.TheVariants as which
+use Rattle.jpg_spec.specs.declared.fault.Fault.{Fault}
+use Rattle.jpg_spec.specs.declared.frame.Colour.{Colour}
+use Rattle.jpg_spec.specs.declared.image.ImageKind.{ImageKind}
+use Rattle.jpg_color.specs.Admits.{admitted}
+use Rattle.jpg_color.specs.Shown.{factors_of}
 use Rattle.jpg_file.specs.PictureRead.{picture_meaning}
 use Rattle.jpg_file.specs.ReadFile.{HasRead, IsDone, IsRefusal, ReaderState}
 use Rattle.jpg_file.specs.declared.picture.Picture.{Picture}
@@ -19,32 +27,50 @@ use Rattle.jpg_cli.specs.Reading.{IsFile, rest_of}
 use Rattle.jpg_cli.specs.Stays.{OnlyReads}
 use Rattle.jpg_cli.specs.declared.read_picture.PictureStep.{PictureStep}
 use Rattle.jpg_cli.specs.declared.read_picture.PictureStep.TheVariants as step
+use Rattle.jpg_cli.specs.declared.read_picture.Wanted.{Wanted}
+use Rattle.jpg_cli.specs.declared.read_picture.Wanted.TheVariants.{Coefficients, Image}
+
+-- WHAT ISN'T WANTED: where the image of a picture is, one that isn't shown
+
+abbrev pub IsUnwanted : Wanted → List ℕ → FaultAt → Type 0
+IsUnwanted Coefficients input f = ⊥
+IsUnwanted (Image gray) input f = IsNotShown standard_limits gray input f
+
+abbrev pub unwanted_for : Wanted → Meaning → Option Fault
+unwanted_for Coefficients M = None
+unwanted_for (Image gray) M = out_fault gray M
+
+-- WHAT A FILE IS REFUSED WITH, whatever is wanted of it: its first fault.
+abbrev pub IsRefused : List ℕ → FaultAt → Type 0
+IsRefused input f = IsRefusal standard_limits input f
+
+-- And where this is wanted: that, or what isn't wanted, whichever comes first.
+abbrev pub IsRefusedFor : Wanted → List ℕ → FaultAt → Type 0
+IsRefusedFor w input f =
+    (IsRefused input f × ((g : FaultAt) → IsUnwanted w input g → f.at < g.at)) ⊎ (IsUnwanted w input f × ((g : FaultAt) → IsRefused input g → f.at ≤ g.at))
 
 -- THE BYTES that were read
 
--- They are bytes. A front of them is a whole file that means this, and fewer than 65,536 were read behind it.
-pub record IsWholeRead (M : Meaning) (bytes : List ℕ) : Type 0 where
+-- They are bytes. A front of them is a whole file that means this, which is wanted, and fewer than 65,536 were read behind it.
+pub record IsWholeRead (w : Wanted) (M : Meaning) (bytes : List ℕ) : Type 0 where
   pub count : ℕ
   pub within : count ≤ length bytes
   pub last : length bytes < count + 65536
   pub whole : IsWholeFile standard_limits (take count bytes) M
   pub small : All (λ b. b < 256) bytes
-
--- What a file is refused with: its first fault, or NotBuilt at the end of the first header of a progressive frame (SOF2), which isn't read yet;
--- whichever comes first.
-abbrev pub IsRefused : List ℕ → FaultAt → Type 0
-IsRefused input f = IsRefusal standard_limits input f
+  pub wanted : unwanted_for w M ≡ None
 
 -- The file, which has this rest behind the bytes, is refused so. That shows in the bytes, fewer than 65,536 of which are behind it.
-pub record IsRefusedRead (f : FaultAt) (rest bytes : List ℕ) : Type 0 where
-  pub refused : IsRefused (bytes ++ rest) f
+pub record IsRefusedRead (w : Wanted) (f : FaultAt) (rest bytes : List ℕ) : Type 0 where
+  pub refused : IsRefusedFor w (bytes ++ rest) f
   pub within : f.at ≤ length bytes
   pub last : length bytes < f.at + 65536
 
--- The bytes are fewer than may be taken, show no fault and hold no whole file.
-pub record IsOpenRead (bytes : List ℕ) : Type 0 where
+-- The bytes are fewer than may be taken, show no fault and nothing that isn't wanted, and hold no whole file.
+pub record IsOpenRead (w : Wanted) (bytes : List ℕ) : Type 0 where
   pub short : length bytes < standard_limits.input
   pub stands : FileStands standard_limits bytes
+  pub wanted : (f : FaultAt) → IsUnwanted w bytes f → ⊥
 
 -- They are fewer than may be taken, but for the last piece.
 abbrev pub IsShortRead : List ℕ → Type 0
@@ -59,66 +85,68 @@ pub record ReadsFrom (file : Name) (Is : List ℕ → Type 0) (old new : DeskSta
   pub is : Is bytes
 
 -- THE ANSWERS: the picture means what the file means, or why there is none
-abbrev pub PictureRead : Name → DeskState → Result Picture Why → DeskState → Type 0
-PictureRead file old (Ok p) new = Asks (file ∷ []) put.Done old new × ReadsFrom file (IsWholeRead (picture_meaning p)) old new
-PictureRead file old (Err (why.Refused f)) new = Stopped (file ∷ []) put.Done old new × ReadsFrom file (IsRefusedRead f (rest_of new.left)) old new
-PictureRead file old (Err (why.OpenFault which.Input)) new = Unopened (file ∷ []) old new
-PictureRead file old (Err (why.ReadFault which.Input)) new = Unread (file ∷ []) old new × ReadsFrom file IsOpenRead old new
-PictureRead file old (Err why.NoMemory) new = Stopped (file ∷ []) put.Done old new × ReadsFrom file IsShortRead old new
-PictureRead file old (Err other) new = ⊥
+abbrev pub PictureRead : Wanted → Name → DeskState → Result Picture Why → DeskState → Type 0
+PictureRead w file old (Ok p) new = Asks (file ∷ []) put.Done old new × ReadsFrom file (IsWholeRead w (picture_meaning p)) old new
+PictureRead w file old (Err (why.Refused f)) new = Stopped (file ∷ []) put.Done old new × ReadsFrom file (IsRefusedRead w f (rest_of new.left)) old new
+PictureRead w file old (Err (why.OpenFault which.Input)) new = Unopened (file ∷ []) old new
+PictureRead w file old (Err (why.ReadFault which.Input)) new = Unread (file ∷ []) old new × ReadsFrom file (IsOpenRead w) old new
+PictureRead w file old (Err why.NoMemory) new = Stopped (file ∷ []) put.Done old new × ReadsFrom file IsShortRead old new
+PictureRead w file old (Err other) new = ⊥
 
 -- STEP BY STEP, from a desk whose input is open
 
 abbrev pub Takes : (List ℕ → Type 0) → DeskState → DeskState → Type 0
 Takes Is old new = (bytes : List ℕ) × Consumes old.left new.left bytes × Is bytes
 
-abbrev pub EndsEarly : DeskState → Why → DeskState → Type 0
-EndsEarly old (why.Refused f) new = Takes (IsRefusedRead f (rest_of new.left)) old new
-EndsEarly old (why.ReadFault which.Input) new = Takes IsOpenRead old new × Rose old.counts.reads new.counts.reads
-EndsEarly old why.NoMemory new = Takes IsShortRead old new
-EndsEarly old other new = ⊥
+abbrev pub EndsEarly : Wanted → DeskState → Why → DeskState → Type 0
+EndsEarly w old (why.Refused f) new = Takes (IsRefusedRead w f (rest_of new.left)) old new
+EndsEarly w old (why.ReadFault which.Input) new = Takes (IsOpenRead w) old new × Rose old.counts.reads new.counts.reads
+EndsEarly w old why.NoMemory new = Takes IsShortRead old new
+EndsEarly w old other new = ⊥
 
-abbrev pub EndsReading : DeskState → Result Picture Why → DeskState → Type 0
-EndsReading old (Ok p) new = Takes (IsWholeRead (picture_meaning p)) old new
-EndsReading old (Err ended) new = EndsEarly old ended new
+abbrev pub EndsReading : Wanted → DeskState → Result Picture Why → DeskState → Type 0
+EndsReading w old (Ok p) new = Takes (IsWholeRead w (picture_meaning p)) old new
+EndsReading w old (Err ended) new = EndsEarly w old ended new
 
--- The reader was fed these bytes, fewer than may be taken, and goes on.
-pub record HasFed (r : ReaderState) (bytes : List ℕ) : Type 0 where
+-- The reader was fed these bytes, fewer than may be taken, in which nothing is unwanted, and goes on.
+pub record HasFed (w : Wanted) (r : ReaderState) (bytes : List ℕ) : Type 0 where
   pub read : HasRead bytes r
   pub taken : r.file.reading.taken ≡ length bytes
   pub short : length bytes < standard_limits.input
   pub small : All (λ b. b < 256) bytes
+  pub wanted : (f : FaultAt) → IsUnwanted w bytes f → ⊥
 
--- A front of the bytes is the whole file that the reader holds.
-pub record HoldsFile (r : ReaderState) (bytes : List ℕ) : Type 0 where
+-- A front of the bytes is the whole file that the reader holds, and is wanted.
+pub record HoldsFile (w : Wanted) (r : ReaderState) (bytes : List ℕ) : Type 0 where
   pub count : ℕ
   pub within : count ≤ length bytes
   pub last : length bytes < count + 65536
   pub done : IsDone (take count bytes) r
   pub small : All (λ b. b < 256) bytes
+  pub wanted : unwanted_for w done.meaning ≡ None
 
-abbrev pub EndsWhole : DeskState → Result (Unit {0}) Why → ReaderState → DeskState → Type 0
-EndsWhole old (Ok done) r new = (r.done ≡ true) × Takes (HoldsFile r) old new
-EndsWhole old (Err ended) r new = EndsEarly old ended new
+abbrev pub EndsWhole : Wanted → DeskState → Result (Unit {0}) Why → ReaderState → DeskState → Type 0
+EndsWhole w old (Ok done) r new = (r.done ≡ true) × Takes (HoldsFile w r) old new
+EndsWhole w old (Err ended) r new = EndsEarly w old ended new
 
 -- What a piece comes to.
-abbrev pub AfterTakingPiece : List ℕ → PictureStep → ReaderState → Type 0
-AfterTakingPiece bytes step.More r = HasFed r bytes
-AfterTakingPiece bytes step.Whole r = HoldsFile r bytes
-AfterTakingPiece bytes (step.Ended (why.Refused f)) r = (rest : List ℕ) → IsRefusedRead f rest bytes
-AfterTakingPiece bytes (step.Ended why.NoMemory) r = IsShortRead bytes
-AfterTakingPiece bytes (step.Ended other) r = ⊥
+abbrev pub AfterTakingPiece : Wanted → List ℕ → PictureStep → ReaderState → Type 0
+AfterTakingPiece w bytes step.More r = HasFed w r bytes
+AfterTakingPiece w bytes step.Whole r = HoldsFile w r bytes
+AfterTakingPiece w bytes (step.Ended (why.Refused f)) r = (rest : List ℕ) → IsRefusedRead w f rest bytes
+AfterTakingPiece w bytes (step.Ended why.NoMemory) r = IsShortRead bytes
+AfterTakingPiece w bytes (step.Ended other) r = ⊥
 
 -- what bytes that end come to
-abbrev pub AfterFileEnd : List ℕ → Why → Type 0
-AfterFileEnd bytes (why.Refused f) = IsRefusedRead f [] bytes
-AfterFileEnd bytes other = ⊥
+abbrev pub AfterFileEnd : Wanted → List ℕ → Why → Type 0
+AfterFileEnd w bytes (why.Refused f) = IsRefusedRead w f [] bytes
+AfterFileEnd w bytes other = ⊥
 
 -- From these bytes on: one more piece was read, or why the reading ends.
-abbrev pub AfterNextPiece : DeskState → List ℕ → PictureStep → ReaderState → DeskState → Type 0
-AfterNextPiece old bytes step.More r new = (piece : List ℕ) × (0 < length piece) × HasFed r (bytes ++ piece) × Consumes old.left new.left (bytes ++ piece)
-AfterNextPiece old bytes step.Whole r new = Takes (HoldsFile r) old new
-AfterNextPiece old bytes (step.Ended ended) r new = EndsEarly old ended new
+abbrev pub AfterNextPiece : Wanted → DeskState → List ℕ → PictureStep → ReaderState → DeskState → Type 0
+AfterNextPiece w old bytes step.More r new = (piece : List ℕ) × (0 < length piece) × HasFed w r (bytes ++ piece) × Consumes old.left new.left (bytes ++ piece)
+AfterNextPiece w old bytes step.Whole r new = Takes (HoldsFile w r) old new
+AfterNextPiece w old bytes (step.Ended ended) r new = EndsEarly w old ended new
 
 -- Where more of the input may be read, it is open, and the reader goes on.
 abbrev pub GoesOn : PictureStep → ReaderState → DeskState → Type 0
@@ -128,15 +156,31 @@ GoesOn (step.Ended ended) r now = Unit {0}
 
 -- FOR ALL BYTES that were read before
 
-abbrev pub ReadsNext : ReaderState → DeskState → PictureStep → ReaderState → DeskState → Type 0
-ReadsNext had old answer r new =
-    (start : DeskState) (bytes : List ℕ) → HasFed had bytes → OnlyReads start old → Consumes start.left old.left bytes → AfterNextPiece start bytes answer r new
+abbrev pub ReadsNext : Wanted → ReaderState → DeskState → PictureStep → ReaderState → DeskState → Type 0
+ReadsNext w had old answer r new =
+    (s : DeskState) (bytes : List ℕ) → HasFed w had bytes → OnlyReads s old → Consumes s.left old.left bytes → AfterNextPiece w s bytes answer r new
 
-abbrev pub ReadsPictureBytes : ReaderState → List ℕ → PictureStep → ReaderState → Type 0
-ReadsPictureBytes had piece answer r = (bytes : List ℕ) → HasFed had bytes → AfterTakingPiece (bytes ++ piece) answer r
+abbrev pub ReadsPictureBytes : Wanted → ReaderState → List ℕ → PictureStep → ReaderState → Type 0
+ReadsPictureBytes w had piece answer r = (bytes : List ℕ) → HasFed w had bytes → AfterTakingPiece w (bytes ++ piece) answer r
 
 -- whether the reader is whole then
 abbrev pub StepDone : PictureStep → ReaderState → Type 0
 StepDone step.More r = r.done ≡ false
 StepDone step.Whole r = r.done ≡ true
 StepDone (step.Ended ended) r = Unit {0}
+
+-- WHAT THE FIRST SCAN HEADER TELLS: a fault at its end, where the picture isn't shown
+
+abbrev pub fault_told : Result ImageKind Fault → ℕ → Option FaultAt
+fault_told (Ok kind) at = None
+fault_told (Err fault) at = Some (record { fault = fault; at = at })
+
+abbrev pub unwanted_in : Wanted → Option (Frame × Colour × ℕ) → Option FaultAt
+unwanted_in Coefficients head = None
+unwanted_in (Image gray) None = None
+unwanted_in (Image gray) (Some h) = fault_told (admitted h.1 gray (factors_of h.0)) h.2
+
+-- a step, where nothing is unwanted
+abbrev pub step_unless : Option FaultAt → PictureStep → PictureStep
+step_unless (Some f) s = step.Ended (why.Refused f)
+step_unless None s = s

@@ -1,5 +1,5 @@
 -- WHAT A RUN DOES to a desk, by why it ended.
-use Rattle.std.specs.Prelude.{◌≡◌, ◌⊎◌, ℕ, List, [], ◌∷◌, take, Option, None, Some}
+use Rattle.std.specs.Prelude.{◌≡◌, ◌⊎◌, ℕ, Bool, true, false, List, take, Option, None, Some}
 use Rattle.std.specs.Io.KnownBytes.{Appends}
 use Rattle.jpg_base.specs.declared.names.Counts.{Counts}
 use Rattle.jpg_base.specs.declared.names.Name.{Name}
@@ -14,14 +14,22 @@ use Rattle.jpg_spec.specs.FileMeaning.{Means}
 use Rattle.jpg_spec.specs.Meaning.{Meaning}
 use Rattle.jpg_spec.specs.Messages.{message, status_of}
 use Rattle.jpg_spec.specs.Moved.{gray_fault}
+use Rattle.jpg_spec.specs.Pixels.{out_fault}
 use Rattle.jpg_spec.specs.Segments.{standard_limits}
+use Rattle.jpg_spec.specs.ShowWords.{ShowAsked}
+use Rattle.jpg_spec.specs.declared.answers.UsageFault.TheVariants.{NoEnd}
+use Rattle.jpg_spec.specs.declared.image.EndKind.{EndKind}
 use Rattle.jpg_spec.specs.TransformWords.{TransformAsked, choice_asked}
 use Rattle.jpg_spec.specs.Words.{tool_of}
-use Rattle.jpg_cli.specs.Commands.{Command, not_built as unbuilt, transform_picture, print_comments, insert_comment, command_asked, name_of}
+use Rattle.jpg_cli.specs.Commands.{Command, not_built as unbuilt, transform_picture, show_picture, print_comments, insert_comment, command_asked, name_of}
 use Rattle.jpg_cli.specs.CommentInserted.{Inserted, Task}
 use Rattle.jpg_cli.specs.ReadComments.{Printed}
-use Rattle.jpg_cli.specs.ReadPicture.{IsRefused}
+use Rattle.jpg_cli.specs.ReadPicture.{IsRefusedFor}
+use Rattle.jpg_cli.specs.declared.read_picture.Wanted.{Wanted}
+use Rattle.jpg_cli.specs.declared.read_picture.Wanted.TheVariants.{Coefficients, Image}
+use Rattle.jpg_cli.specs.Ends.{has_format}
 use Rattle.jpg_cli.specs.Reading.{IsFile}
+use Rattle.jpg_cli.specs.Showing.{Showing, Shown}
 use Rattle.jpg_cli.specs.Stays.{FilesStay, OnlyWorks, Untouched}
 use Rattle.jpg_cli.specs.Turned.{Turned, Turning}
 use Rattle.jpg_cli.specs.declared.top.Ended.{Ended}
@@ -43,19 +51,30 @@ pub record PictureDue (t : Turning) (fault : Option PictureFault) (old : DeskSta
   pub picture : PictureInput t.input old
   pub is : gray_fault t.choice.gray picture.meaning ≡ fault
 
--- It is refused with this fault.
-pub record RefusedInput (input : Name) (f : FaultAt) (old : DeskState) : Type 0 where
+-- It is shown.
+pub record ShownInput (s : Showing) (old : DeskState) : Type 0 where
+  pub picture : PictureInput s.input old
+  pub shown : out_fault s.gray picture.meaning ≡ None
+
+-- The input is refused with this fault, where this is wanted of it.
+pub record RefusedInput (w : Wanted) (input : Name) (f : FaultAt) (old : DeskState) : Type 0 where
   pub bytes : List ℕ
   pub file : IsFile old.files input bytes
-  pub refused : IsRefused bytes f
+  pub refused : IsRefusedFor w bytes f
 
 -- Where no count of open, read or write rose, the answer is the one that the input has, or want of memory.
 abbrev pub IsAnswerDue : Turning → DeskState → Why → Type 0
 IsAnswerDue t old why.Done = PictureDue t None old
-IsAnswerDue t old (why.Refused f) = RefusedInput t.input f old
+IsAnswerDue t old (why.Refused f) = RefusedInput Coefficients t.input f old
 IsAnswerDue t old (why.Picture fault) = PictureDue t (Some fault) old
 IsAnswerDue t old why.NoMemory = Unit {0}
 IsAnswerDue t old other = ⊥
+
+abbrev pub IsShowDue : Showing → DeskState → Why → Type 0
+IsShowDue s old why.Done = ShownInput s old
+IsShowDue s old (why.Refused f) = RefusedInput (Image s.gray) s.input f old
+IsShowDue s old why.NoMemory = Unit {0}
+IsShowDue s old other = ⊥
 
 abbrev pub NoneRose : Counts → Counts → Type 0
 NoneRose old new = (Rose old.opens new.opens → ⊥) × (Rose old.reads new.reads → ⊥) × (Rose old.writes new.writes → ⊥)
@@ -67,6 +86,14 @@ turning_of a = record { input = name_of a.files.input; output = name_of a.files.
 abbrev pub RanTransform : TransformAsked → DeskState → Why → DeskState → Type 0
 RanTransform a old ended new = Turned (turning_of a) old ended new ⊎ ((ended ≡ why.NoMemory) × Untouched old new)
 
+-- A picture is shown, where one of the ends of images has the format, or memory was wanting for the names of its files.
+abbrev pub showing_of : ShowAsked → Showing
+showing_of a = record { input = name_of a.files.input; output = name_of a.files.output; kind = a.kind; gray = a.gray; smooth = a.smooth }
+
+abbrev pub RanShow : Bool → ShowAsked → DeskState → Why → DeskState → Type 0
+RanShow true a old ended new = Shown (showing_of a) old ended new ⊎ ((ended ≡ why.NoMemory) × Untouched old new)
+RanShow false a old ended new = ((ended ≡ why.Usage (record { fault = NoEnd; word = a.kind_word })) ⊎ (ended ≡ why.NoMemory)) × Untouched old new
+
 -- The comments of the input are printed, or memory was wanting for its name.
 abbrev pub RanRead : FilesAsked → DeskState → Why → DeskState → Type 0
 RanRead files old ended new = Printed (name_of files.input) (name_of files.output) old ended new ⊎ ((ended ≡ why.NoMemory) × Untouched old new)
@@ -75,22 +102,23 @@ RanRead files old ended new = Printed (name_of files.input) (name_of files.outpu
 abbrev pub task_of : WriteAsked → Task
 task_of asked = record { comment = asked.comment; input = name_of asked.files.input; output = name_of asked.files.output; replace = asked.replace }
 
--- by what the words ask for
-abbrev pub Worked : WordsTold Command → DeskState → Why → DeskState → Type 0
-Worked (words_wrong usage) old ended new = (ended ≡ why.Usage usage) × Untouched old new
-Worked (words_right unbuilt) old ended new = (ended ≡ why.Refused (record { fault = NotBuilt; at = 0 })) × Untouched old new
-Worked (words_right (transform_picture asked)) old ended new = RanTransform asked old ended new
-Worked (words_right (print_comments files)) old ended new = RanRead files old ended new
-Worked (words_right (insert_comment asked)) old ended new = Inserted (task_of asked) old ended new
+-- by the formats of the ends of images, and what the words ask for
+abbrev pub Worked : List EndKind → WordsTold Command → DeskState → Why → DeskState → Type 0
+Worked formats (words_wrong usage) old ended new = (ended ≡ why.Usage usage) × Untouched old new
+Worked formats (words_right unbuilt) old ended new = (ended ≡ why.Refused (record { fault = NotBuilt; at = 0 })) × Untouched old new
+Worked formats (words_right (transform_picture asked)) old ended new = RanTransform asked old ended new
+Worked formats (words_right (show_picture asked)) old ended new = RanShow (has_format asked.kind formats) asked old ended new
+Worked formats (words_right (print_comments files)) old ended new = RanRead files old ended new
+Worked formats (words_right (insert_comment asked)) old ended new = Inserted (task_of asked) old ended new
 
 -- the work of a run, before its message
-pub record Works (words : List (List ℕ)) (old : DeskState) (ended : Why) (new : DeskState) : Type 0 where
-  pub worked : Worked (command_asked words) old ended new
+pub record Works (formats : List EndKind) (words : List (List ℕ)) (old : DeskState) (ended : Why) (new : DeskState) : Type 0 where
+  pub worked : Worked formats (command_asked words) old ended new
   pub kept : OnlyWorks old new
 
 -- THE THEOREM: what a run does
-pub record Ran (words : List (List ℕ)) (old : DeskState) (ended : Ended) (new : DeskState) : Type 0 where
-  pub worked : Worked (command_asked words) old ended.why new
+pub record Ran (formats : List EndKind) (words : List (List ℕ)) (old : DeskState) (ended : Ended) (new : DeskState) : Type 0 where
+  pub worked : Worked formats (command_asked words) old ended.why new
   pub said : SaysText old (message (tool_of words) ended.why) new
   pub code : ended.code ≡ status_of ended.why
   pub stays : FilesStay old new

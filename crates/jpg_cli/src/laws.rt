@@ -2,32 +2,36 @@
 ghost use Rattle.std.specs.Prelude.{◌≡◌, ℕ, List};
 ghost use Rattle.jpg_base.specs.Desk.{DeskState};
 ghost use Rattle.jpg_base.specs.declared.names.Name.{Name};
+ghost use Rattle.jpg_spec.specs.FirstFault.{HasMeaning};
 ghost use Rattle.jpg_spec.specs.Meaning.{Meaning};
+ghost use Rattle.jpg_spec.specs.Segments.{standard_limits};
 ghost use Rattle.jpg_spec.specs.declared.transform.Transform.{Transform};
 ghost use Rattle.jpg_spec.specs.declared.answers.FaultAt.{FaultAt};
-ghost use Rattle.jpg_cli.specs.Run.{IsAnswerDue};
+ghost use Rattle.jpg_cli.specs.Run.{IsAnswerDue, IsShowDue};
 ghost use Rattle.jpg_cli.specs.Turned.{Turned, Turning};
 ghost use Rattle.jpg_cli.specs.ReadComments.{IsPrintDue, Printed};
 ghost use Rattle.jpg_cli.specs.CommentInserted.{Inserted, IsInsertDue, Task};
-ghost use Rattle.jpg_cli.specs.ReadPicture.{IsRefused};
+ghost use Rattle.jpg_cli.specs.ReadPicture.{IsRefusedFor};
+ghost use Rattle.jpg_cli.specs.Showing.{Showing, Shown};
+ghost use Rattle.jpg_cli.specs.declared.read_picture.Wanted.{Wanted};
+ghost use Rattle.jpg_cli.specs.declared.read_picture.Wanted.TheVariants.{Coefficients};
 ghost use Rattle.jpg_cli.specs.Laws.{MeanSame, WasRefused, WasTurnedBack, WhateverRose, WhereNoneRose, text_back};
-ghost use Rattle.jpg_cli.specs.Certain.{HasFrameHeader, HasPicture, HasSequentialPicture, HasWholeFile};
-ghost use Rattle.jpg_cli.specs.Certain.{IsDoneOrUnbuilt, IsNotRefused, IsDoneOrWanting, IsSequentialFile};
+ghost use Rattle.jpg_cli.specs.Certain.{HasFile, HasFrameHeader, HasImage, HasPicture, HasWholeFile};
+ghost use Rattle.jpg_cli.specs.Certain.{IsNotRefused, IsDoneOrWanting};
 
 /// Where no count of open, read or write rose, a run that turns a picture ends as its input says: Done
-/// where it means a picture that has no fault for what is asked, Picture where it has one, Refused with its first fault or as
-/// not built yet, or NoMemory.
+/// where it means a picture that has no fault for what is asked, Picture where it has one, Refused with its first fault, or
+/// NoMemory.
 pub fn answers_are_due()
     ensures { (turning : Turning) (old : DeskState) → WhereNoneRose (Turned turning) old (IsAnswerDue turning old) }
 {}
 
 /// A file that means a picture is turned: where the desk tells it, the picture has no fault for what is asked, and no count
-/// of open, read or write rose, the run ends with Done, or for want of memory, or with NotBuilt where it is progressive. A
-/// sequential file is never refused: whichever counts rose, the run ends with Done or Picture, or as a device failed, or for
-/// want of memory.
+/// of open, read or write rose, the run ends with Done, or for want of memory. It is never refused: whichever counts rose, the
+/// run ends with Done or Picture, or as a device failed, or for want of memory.
 pub fn pictures_are_turned()
-    ensures any { (turning : Turning) (old : DeskState) → HasPicture turning old → WhereNoneRose (Turned turning) old IsDoneOrUnbuilt }
-    ensures sequential { (turning : Turning) (old : DeskState) → HasSequentialPicture turning old → WhateverRose (Turned turning) old IsNotRefused }
+    ensures certain { (turning : Turning) (old : DeskState) → HasPicture turning old → WhereNoneRose (Turned turning) old IsDoneOrWanting }
+    ensures read { (turning : Turning) (old : DeskState) → HasFile turning old → WhateverRose (Turned turning) old IsNotRefused }
 {}
 
 /// A transform and then its inverse, without trimming and graying, restore a picture: where the input's picture is what a
@@ -37,12 +41,24 @@ pub fn pictures_are_turned_back()
     ensures { (t : Transform) (M : Meaning) (run : WasTurnedBack t M) → MeanSame (text_back run) M }
 {}
 
-/// An input is refused with one fault at one place, or with NotBuilt at one: so are all runs that refuse it,
-/// however it is cut into pieces. A sequential file is refused with none.
+/// Where no count of open, read or write rose, a run that shows a picture ends as its input says: Done where it means a picture
+/// that is shown, Refused with its first fault or as not shown, whichever comes first, or NoMemory.
+pub fn shown_answers_are_due()
+    ensures { (showing : Showing) (old : DeskState) → WhereNoneRose (Shown showing) old (IsShowDue showing old) }
+{}
+
+/// A file that means a picture that is shown has its image written: where the desk tells it, and no count of open, read or write
+/// rose, the run ends with Done, or for want of memory.
+pub fn pictures_are_shown()
+    ensures { (showing : Showing) (old : DeskState) → HasImage showing old → WhereNoneRose (Shown showing) old IsDoneOrWanting }
+{}
+
+/// An input is refused with one fault at one place, whatever is wanted of it: so are all runs that refuse it, however it is cut into
+/// pieces. A file that means a picture is refused with none, where its coefficients are wanted.
 pub fn refusals_are_one()
-    ensures one { (input : List ℕ) (f g : FaultAt) → IsRefused input f → IsRefused input g → f ≡ g }
+    ensures one { (wanted : Wanted) (input : List ℕ) (f g : FaultAt) → IsRefusedFor wanted input f → IsRefusedFor wanted input g → f ≡ g }
     ensures runs { (input : List ℕ) (f g : FaultAt) → WasRefused input f → WasRefused input g → f ≡ g }
-    ensures none { (input : List ℕ) (f : FaultAt) → IsRefused input f → IsSequentialFile input → ⊥ }
+    ensures none { (input : List ℕ) (f : FaultAt) → IsRefusedFor Coefficients input f → HasMeaning standard_limits input → ⊥ }
 {}
 
 /// Where no count of open, read or write rose, a run that prints comments ends as its input says: Done

@@ -10,6 +10,10 @@ mod program;
 mod read_comments;
 mod read_picture;
 mod reading;
+mod requests;
+mod show;
+mod show_by;
+mod show_words;
 mod switches;
 mod top;
 mod transform;
@@ -20,10 +24,12 @@ mod writing;
 pub use comment_words::{CommentFrom, Files, WordsStop, WriteWords};
 pub use laws::{
     answers_are_due, files_with_a_frame_header_have_the_comment_inserted,
-    inserted_comments_are_due, pictures_are_turned, pictures_are_turned_back,
-    printed_comments_are_due, whole_files_have_their_comments_printed,
+    inserted_comments_are_due, pictures_are_shown, pictures_are_turned, pictures_are_turned_back,
+    printed_comments_are_due, shown_answers_are_due, whole_files_have_their_comments_printed,
 };
 pub use program::run_program;
+pub use read_picture::Wanted;
+pub use show_words::ShowWords;
 pub use top::{Ended, run};
 pub use transform_words::TransformWords;
 pub use words::{Asked, read_words};

@@ -1,6 +1,7 @@
 //! The program: its words, real files and the standard streams, and its exit status.
 use crate::top::run;
 use jpg_base::StdDesk;
+use jpg_pnm_bmp::{BmpEnd, ImageEnd, PnmEnd};
 use std::alloc::Global;
 use std::env;
 use std::io::ErrorKind;
@@ -12,6 +13,7 @@ const VERSION: &str = "jpgsuite 0.4.0\n";
 const HELP: &str = "\
 jpegtran [-flip horizontal | -flip vertical | -rotate 90 | -rotate 180 | -rotate 270 | -transpose | -transverse]
     [-trim] [-grayscale] [-copy none | -copy comments | -copy all] [-outfile NAME] [FILE] > OUTPUT
+djpeg [-pnm | -ppm | -bmp] [-grayscale] [-nosmooth] [-dct int] [-scale 1/1] [-outfile NAME] [FILE] > OUTPUT
 rdjpgcom [FILE] > OUTPUT
 wrjpgcom [-replace] [-comment TEXT | -cfile FILE] [FILE] > OUTPUT
 ";
@@ -59,7 +61,17 @@ pub fn run_program<R: Runtime<A = Global>>(rt: R) -> ExitCode {
             Err(_) => ExitCode::from(1),
         };
     }
+    let mut ends: Vec<Box<dyn ImageEnd>> = Vec::new(alloc);
+    let Ok(pnm) = Box::new(alloc, PnmEnd::new()) else {
+        return ExitCode::from(3);
+    };
+    let Ok(bmp) = Box::new(alloc, BmpEnd::new(alloc)) else {
+        return ExitCode::from(3);
+    };
+    if ends.push(pnm).is_err() || ends.push(bmp).is_err() {
+        return ExitCode::from(3);
+    }
     let mut desk = StdDesk::new(rt);
-    let ended = run(alloc, words.as_slice(), &mut desk);
+    let ended = run(alloc, words.as_slice(), &mut desk, ends);
     ExitCode::from(ended.code)
 }

@@ -2,16 +2,25 @@
 ghost use Rattle.std.specs.Prelude.{◌≡◌, ◌≤◌, [], List, ℕ, IfOk, length, true, false};
 ghost use Rattle.jpg_spec.specs.Segments.{standard_limits};
 ghost use Rattle.jpg_file.specs.PictureRead.{IsPicture};
-ghost use Rattle.jpg_file.specs.ReadFile.{HasRead};
+ghost use Rattle.jpg_file.specs.ReadFile.{HasRead, head_seen};
 ghost use Rattle.jpg_cli.specs.Stays.{Keeps, OnlyReads};
-ghost use Rattle.jpg_cli.specs.ReadPicture.{AfterFileEnd, EndsReading, EndsWhole, GoesOn, PictureRead, ReadsNext, ReadsPictureBytes, StepDone};
+ghost use Rattle.jpg_cli.specs.ReadPicture.{AfterFileEnd, EndsReading, EndsWhole, GoesOn, HasFed, PictureRead, ReadsNext, ReadsPictureBytes, StepDone, step_unless, unwanted_in};
 
 use jpg_base::{Desk, Fed, Got, Name, Put, Stop};
+use jpg_color::admits;
 use jpg_file::{Picture, Reader};
-use jpg_spec::{Limits, Which, Why};
+use jpg_spec::{FaultAt, Limits, Which, Why};
 use std::alloc::Global;
 
+/// What is wanted of a picture: its coefficients, or an image, gray where that is asked for.
+#[derive(Clone, Copy, Debug, PartialEq, Eq)]
+pub enum Wanted {
+    Coefficients,
+    Image { gray: bool },
+}
+
 // What a piece comes to.
+#[derive(Clone, Copy, Debug, PartialEq, Eq)]
 enum PictureStep {
     More,
     Whole,
@@ -19,44 +28,49 @@ enum PictureStep {
 }
 
 /// The picture of the file of this name. The file is read in pieces of at most 65,536 bytes, up to the
-/// one in which it is whole or shows a fault.
-pub fn read_picture<D: Desk>(alloc: Global, name: &Name, desk: &mut D) -> Result<Picture, Why>
+/// one in which it is whole, shows a fault, or tells at the end of its first scan header that the picture isn't wanted.
+pub fn read_picture<D: Desk>(
+    alloc: Global,
+    name: &Name,
+    wanted: Wanted,
+    desk: &mut D,
+) -> Result<Picture, Why>
     ensures kept { Keeps (D.state desk.old) (D.state desk.new) }
-    ensures read { PictureRead name.now (D.state desk.old) result (D.state desk.new) }
+    ensures read { PictureRead wanted name.now (D.state desk.old) result (D.state desk.new) }
     ensures picture { IfOk result (λ picture. IsPicture picture) }
 {
     match desk.open(name) {
         Put::Failed => Err(Why::OpenFault(Which::Input)),
-        Put::Done => take_picture(alloc, desk),
+        Put::Done => take_picture(alloc, wanted, desk),
     }
 }
 
 // The picture of the open input.
-fn take_picture<D: Desk>(alloc: Global, desk: &mut D) -> Result<Picture, Why>
+fn take_picture<D: Desk>(alloc: Global, wanted: Wanted, desk: &mut D) -> Result<Picture, Why>
     requires open { (D.state desk.old).input_open ≡ true }
     ensures kept { OnlyReads (D.state desk.old) (D.state desk.new) }
-    ensures read { EndsReading (D.state desk.old) result (D.state desk.new) }
+    ensures read { EndsReading wanted (D.state desk.old) result (D.state desk.new) }
     ensures picture { IfOk result (λ picture. IsPicture picture) }
 {
     let mut reader = Reader::new(alloc, Limits::standard());
-    match read_whole(&mut reader, desk) {
+    match read_whole(&mut reader, wanted, desk) {
         Ok(()) => Ok(reader.take()),
         Err(why) => Err(why),
     }
 }
 
 // Reads the open input until the file is whole, or tells why the reading ends.
-fn read_whole<D: Desk>(reader: &mut Reader, desk: &mut D) -> Result<(), Why>
+fn read_whole<D: Desk>(reader: &mut Reader, wanted: Wanted, desk: &mut D) -> Result<(), Why>
     requires open { (D.state desk.old).input_open ≡ true }
     requires none { HasRead [] reader.old }
     requires limits { reader.old.limits ≡ standard_limits }
     ensures kept { OnlyReads (D.state desk.old) (D.state desk.new) }
-    ensures ended { EndsWhole (D.state desk.old) result reader.new (D.state desk.new) }
+    ensures ended { EndsWhole wanted (D.state desk.old) result reader.new (D.state desk.new) }
     ensures limits { reader.new.limits ≡ standard_limits }
 {
     let mut buffer = [0u8; 65536];
     loop {
-        match next_piece(reader, &mut buffer, desk) {
+        match next_piece(reader, wanted, &mut buffer, desk) {
             PictureStep::More => {}
             PictureStep::Whole => return Ok(()),
             PictureStep::Ended(why) => return Err(why),
@@ -65,44 +79,78 @@ fn read_whole<D: Desk>(reader: &mut Reader, desk: &mut D) -> Result<(), Why>
 }
 
 // Reads a piece.
-fn next_piece<D: Desk>(reader: &mut Reader, buffer: &mut [u8; 65536], desk: &mut D) -> PictureStep
+fn next_piece<D: Desk>(
+    reader: &mut Reader,
+    wanted: Wanted,
+    buffer: &mut [u8; 65536],
+    desk: &mut D,
+) -> PictureStep
     requires open { (D.state desk.old).input_open ≡ true }
     requires more { reader.old.done ≡ false }
     requires limits { reader.old.limits ≡ standard_limits }
     ensures kept { OnlyReads (D.state desk.old) (D.state desk.new) }
     ensures goes_on { GoesOn result reader.new (D.state desk.new) }
-    ensures after { ReadsNext reader.old (D.state desk.old) result reader.new (D.state desk.new) }
+    ensures after { ReadsNext wanted reader.old (D.state desk.old) result reader.new (D.state desk.new) }
     ensures limits { reader.new.limits ≡ standard_limits }
 {
     match desk.read(buffer) {
         Got::Failed => PictureStep::Ended(Why::ReadFault(Which::Input)),
-        Got::End => PictureStep::Ended(at_end(reader)),
-        Got::Bytes(count) => take_piece(reader, &buffer[..count as usize]),
+        Got::End => PictureStep::Ended(at_end(reader, wanted)),
+        Got::Bytes(count) => take_piece(reader, wanted, &buffer[..count as usize]),
     }
 }
 
-// Takes a piece.
-fn take_piece(reader: &mut Reader, piece: &[u8]) -> PictureStep
+// Why the picture isn't wanted, once the first scan header told it.
+fn unwanted(reader: &Reader, wanted: Wanted) -> Option<FaultAt>
+    ensures { result ≡ unwanted_in wanted (head_seen reader.now) }
+{
+    match wanted {
+        Wanted::Coefficients => None,
+        Wanted::Image { gray } => match reader.head() {
+            None => None,
+            Some((frame, colour, at)) => match admits(&frame, colour, gray) {
+                Ok(_) => None,
+                Err(fault) => Some(FaultAt { fault, at }),
+            },
+        },
+    }
+}
+
+// A step, where nothing is unwanted.
+fn step_unless(fault: Option<FaultAt>, step: PictureStep) -> PictureStep
+    ensures { result ≡ step_unless fault step }
+{
+    match fault {
+        Some(fault) => PictureStep::Ended(Why::Refused(fault)),
+        None => step,
+    }
+}
+
+// Takes a piece. What isn't wanted comes before a fault of the same piece, which is never earlier.
+fn take_piece(reader: &mut Reader, wanted: Wanted, piece: &[u8]) -> PictureStep
     requires more { reader.old.done ≡ false }
     requires limits { reader.old.limits ≡ standard_limits }
     requires short { length piece.now ≤ 65536 }
-    ensures taken { ReadsPictureBytes reader.old piece.now result reader.new }
+    ensures taken { ReadsPictureBytes wanted reader.old piece.now result reader.new }
     ensures done { StepDone result reader.new }
     ensures limits { reader.new.limits ≡ standard_limits }
 {
     match reader.feed(piece) {
-        Ok(Fed::More) => PictureStep::More,
-        Ok(Fed::Done { .. }) => PictureStep::Whole,
-        Err(Stop::Fault(fault)) => PictureStep::Ended(Why::Refused(fault)),
+        Ok(Fed::More) => step_unless(unwanted(reader, wanted), PictureStep::More),
+        Ok(Fed::Done { .. }) => step_unless(unwanted(reader, wanted), PictureStep::Whole),
+        Err(Stop::Fault(fault)) => step_unless(
+            unwanted(reader, wanted),
+            PictureStep::Ended(Why::Refused(fault)),
+        ),
         Err(Stop::NoMemory) => PictureStep::Ended(Why::NoMemory),
     }
 }
 
-// The answer for an input that ends here.
-fn at_end(reader: &mut Reader) -> Why
+// The answer for an input that ends here, in which nothing was unwanted.
+fn at_end(reader: &mut Reader, wanted: Wanted) -> Why
     requires more { reader.old.done ≡ false }
     requires limits { reader.old.limits ≡ standard_limits }
-    ensures ended { (bytes : List ℕ) → HasRead bytes reader.old → AfterFileEnd bytes result }
+    ensures ended { (bytes : List ℕ) → HasFed wanted reader.old bytes → AfterFileEnd wanted bytes result }
     ensures limits { reader.new.limits ≡ standard_limits }
 {
     match reader.end() {

@@ -135,6 +135,125 @@ pub static JPEGTRAN_SWITCHES: [Switch; 18] = [
     },
 ];
 
+/// The switches of djpeg.
+pub static DJPEG_SWITCHES: [Switch; 23] = [
+    Switch {
+        name: "pnm",
+        shortest: 1,
+        purpose: Purpose::PnmAsked,
+    },
+    Switch {
+        name: "ppm",
+        shortest: 1,
+        purpose: Purpose::PnmAsked,
+    },
+    Switch {
+        name: "bmp",
+        shortest: 1,
+        purpose: Purpose::BmpAsked,
+    },
+    Switch {
+        name: "grayscale",
+        shortest: 2,
+        purpose: Purpose::Graying,
+    },
+    Switch {
+        name: "greyscale",
+        shortest: 2,
+        purpose: Purpose::Graying,
+    },
+    Switch {
+        name: "nosmooth",
+        shortest: 3,
+        purpose: Purpose::NotSmoothed,
+    },
+    Switch {
+        name: "dct",
+        shortest: 2,
+        purpose: Purpose::DctGiven,
+    },
+    Switch {
+        name: "scale",
+        shortest: 1,
+        purpose: Purpose::ScaleGiven,
+    },
+    Switch {
+        name: "outfile",
+        shortest: 4,
+        purpose: Purpose::OutputNamed,
+    },
+    Switch {
+        name: "colors",
+        shortest: 1,
+        purpose: Purpose::LeftOut,
+    },
+    Switch {
+        name: "colours",
+        shortest: 1,
+        purpose: Purpose::LeftOut,
+    },
+    Switch {
+        name: "quantize",
+        shortest: 1,
+        purpose: Purpose::LeftOut,
+    },
+    Switch {
+        name: "dither",
+        shortest: 2,
+        purpose: Purpose::LeftOut,
+    },
+    Switch {
+        name: "fast",
+        shortest: 1,
+        purpose: Purpose::LeftOut,
+    },
+    Switch {
+        name: "gif",
+        shortest: 1,
+        purpose: Purpose::LeftOut,
+    },
+    Switch {
+        name: "map",
+        shortest: 3,
+        purpose: Purpose::LeftOut,
+    },
+    Switch {
+        name: "maxmemory",
+        shortest: 3,
+        purpose: Purpose::LeftOut,
+    },
+    Switch {
+        name: "onepass",
+        shortest: 3,
+        purpose: Purpose::LeftOut,
+    },
+    Switch {
+        name: "os2",
+        shortest: 3,
+        purpose: Purpose::LeftOut,
+    },
+    Switch {
+        name: "rle",
+        shortest: 1,
+        purpose: Purpose::LeftOut,
+    },
+    Switch {
+        name: "verbose",
+        shortest: 1,
+        purpose: Purpose::LeftOut,
+    },
+    Switch {
+        name: "debug",
+        shortest: 1,
+        purpose: Purpose::LeftOut,
+    },
+    Switch {
+        name: "targa",
+        shortest: 1,
+        purpose: Purpose::LeftOut,
+    },
+];
+
 /// Whether a word begins with a hyphen.
 pub fn is_switch(word: &str) -> bool
     ensures { result ≡ is_switch word.now }

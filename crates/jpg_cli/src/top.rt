@@ -1,6 +1,7 @@
 //! The top call.
 ghost use Rattle.std.specs.Prelude.{◌≤◌, length, map, string_bytes};
 ghost use Rattle.jpg_spec.specs.Messages.{message};
+ghost use Rattle.jpg_cli.specs.Ends.{AreNewEnds, formats_of};
 ghost use Rattle.jpg_cli.specs.Stays.{OnlySays};
 ghost use Rattle.jpg_cli.specs.Run.{Ran, Works, SaysText};
 
@@ -8,9 +9,11 @@ use crate::comment_words::WordsStop;
 use crate::insert_comment::insert_comment;
 use crate::message::message_of;
 use crate::read_comments::print_comments;
+use crate::show_by::show_by;
 use crate::transform::transform;
 use crate::words::{Asked, read_words, tool_name};
 use jpg_base::{Desk, Put};
+use jpg_pnm_bmp::ImageEnd;
 use jpg_spec::{Fault, FaultAt, Why};
 use std::alloc::Global;
 
@@ -38,8 +41,9 @@ fn tell<D: Desk>(tool: &str, why: Why, desk: &mut D)
 }
 
 // The work, without its message.
-fn work<D: Desk>(alloc: Global, words: &[String], desk: &mut D) -> Why
-    ensures { Works (map string_bytes words.now) (D.state desk.old) result (D.state desk.new) }
+fn work<D: Desk>(alloc: Global, words: &[String], desk: &mut D, ends: Vec<Box<dyn ImageEnd>>) -> Why
+    requires { AreNewEnds (map (λ e. progress e) ends.items) }
+    ensures { Works (formats_of (map (λ e. progress e) ends.items)) (map string_bytes words.now) (D.state desk.old) result (D.state desk.new) }
 {
     match read_words(alloc, words) {
         Err(WordsStop::Usage(usage)) => Why::Usage(usage),
@@ -49,21 +53,29 @@ fn work<D: Desk>(alloc: Global, words: &[String], desk: &mut D) -> Why
             at: 0,
         }),
         Ok(Asked::Jpegtran(words)) => transform(alloc, &words, desk),
+        Ok(Asked::Djpeg(words)) => show_by(alloc, &words, desk, ends),
         Ok(Asked::Rdjpgcom(files)) => print_comments(alloc, &files, desk),
         Ok(Asked::Wrjpgcom(words)) => insert_comment(alloc, &words, desk),
     }
 }
 
-/// Runs the command that the words ask for over a desk: `jpegtran` writes a sequential file, or standard input, moved as its
-/// switches say, to a file or onto standard output. A file is refused with its first fault, or as not built yet at the end
-/// of the header of a progressive frame, and nothing is written then.
+/// Runs the command that the words ask for over a desk: `jpegtran` writes a file, or standard input, moved as its switches
+/// say, as a sequential file, to a file or onto standard output. An input is refused with its first fault, and nothing is written then.
+/// `djpeg` writes the image that such a file shows, as PNM or BMP, by the first of the ends of images that has the format; where none has
+/// it, the words are wrong at the one that asks for it.
 /// `rdjpgcom [FILE]` prints the comments of a file, or of standard input, onto standard output. `wrjpgcom`
 /// writes a file, or standard input, with a comment inserted before its frame header onto standard output.
 /// What is wrong or refused is named in a message.
-pub fn run<D: Desk>(alloc: Global, words: &[String], desk: &mut D) -> Ended
-    ensures { Ran (map string_bytes words.now) (D.state desk.old) result (D.state desk.new) }
+pub fn run<D: Desk>(
+    alloc: Global,
+    words: &[String],
+    desk: &mut D,
+    ends: Vec<Box<dyn ImageEnd>>,
+) -> Ended
+    requires { AreNewEnds (map (λ e. progress e) ends.items) }
+    ensures { Ran (formats_of (map (λ e. progress e) ends.items)) (map string_bytes words.now) (D.state desk.old) result (D.state desk.new) }
 {
-    let why = work(alloc, words, desk);
+    let why = work(alloc, words, desk, ends);
     tell(tool_name(words), why, desk);
     Ended {
         code: why.code(),

@@ -2,7 +2,7 @@
 ghost use Rattle.jpg_cli.specs.Stays.{OnlyWorks};
 ghost use Rattle.jpg_cli.specs.Turned.{Turned, turning_told};
 
-use crate::read_picture::read_picture;
+use crate::read_picture::{Wanted, read_picture};
 use crate::transform_words::TransformWords;
 use crate::writing::{Wrote, write_moved};
 use jpg_base::Desk;
@@ -16,7 +16,7 @@ pub fn transform<D: Desk>(alloc: Global, words: &TransformWords, desk: &mut D) -
     ensures kept { OnlyWorks (D.state desk.old) (D.state desk.new) }
     ensures turned { Turned (turning_told words.now) (D.state desk.old) result (D.state desk.new) }
 {
-    match read_picture(alloc, &words.files.input, desk) {
+    match read_picture(alloc, &words.files.input, Wanted::Coefficients, desk) {
         Err(why) => why,
         Ok(picture) => match write_moved(&picture, &words.choice, &words.files.output, desk) {
             Wrote::Done => Why::Done,

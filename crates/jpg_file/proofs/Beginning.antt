@@ -1,13 +1,12 @@
 -- A scan begins: its intervals, its machine, its place.
 use Rattle.std.proofs.Common.{◌≡◌, ℕ, zero, suc, ◌-◌, ◌*◌, ◌≤◌, min, false, cond, ◌==◌, List, [], ◌∷◌, ◌++◌, length, take, drop, refl, sym, ap, ◌∙◌, subst, arith}
-use Rattle.std.specs.Prelude.{map}
 use Rattle.std.proofs.lemmas.List.{append-nil, length-append, length-take, length-drop, take-append-drop}
 use Rattle.jpg_spec.specs.Lists.{chunks, chunks_of, is_distinct, joined}
-use Rattle.jpg_spec.specs.Geometry.{Frame, units, mcu_units, is_progressive}
+use Rattle.jpg_spec.specs.Geometry.{Frame, units, mcu_units}
 use Rattle.jpg_spec.specs.Segments.{ScanHead, head_components}
-use Rattle.jpg_spec.specs.Scan.{Scan, Blocks, unit_at, scan_of}
+use Rattle.jpg_spec.specs.Scan.{Scan, Blocks, scan_of}
 use Rattle.jpg_spec.specs.Markers.{kept_rule}
-use Rattle.jpg_spec.specs.InForce.{frame_of, head_in, huffman_in_force, restart_in_force}
+use Rattle.jpg_spec.specs.InForce.{head_in, huffman_in_force, restart_in_force}
 use Rattle.jpg_spec.specs.Items.{Item, segments_of}
 use Rattle.jpg_spec.specs.FileMeaning.{scan_after}
 use Rattle.jpg_spec.specs.ScanReading.{ScanAt}
@@ -16,19 +15,19 @@ use Rattle.jpg_spec.specs.declared.frame.Limits.{Limits}
 use Rattle.jpg_spec.specs.declared.frame.Place.{Place}
 use Rattle.jpg_spec.proofs.PictureInWork.{so_far_first}
 use Rattle.jpg_spec.proofs.PlacesSome.{head_units_some}
-use Rattle.jpg_spec.proofs.IntervalUnits.{sequential_units}
 use Rattle.jpg_spec.proofs.ScanSteps.{first_place}
 use Rattle.jpg_spec.proofs.ItemSteps.{scan_begun}
 use Rattle.jpg_spec.proofs.Common.{not_zero}
 use Rattle.jpg_coefs.specs.Picture.{Picture, map_of}
 use Rattle.jpg_coefs.specs.Machine.{Interval}
 use Rattle.jpg_huff.specs.declared.set.TableSet.{TableSet}
-use Rattle.jpg_seq.specs.declared.reader.SeqReader.{SeqReader}
-use Rattle.jpg_seq.specs.NewReader.{IsOfScan}
-use Rattle.jpg_seq.specs.Reader.{SeqStands, sequential}
-use Rattle.jpg_file.specs.InData.{IsDue, AtInterval, AreIntervals, InData, Waits}
+use Rattle.jpg_file.specs.declared.machine.ScanReader.{ScanReader}
+use Rattle.jpg_file.specs.NewScan.{IsOfHeader}
+use Rattle.jpg_file.specs.Machine.{any_scan}
+use Rattle.jpg_file.specs.InData.{IsDue, IsInterval, IsReadable, AtInterval, AreIntervals, InData, Waits}
 use Rattle.jpg_file.specs.declared.scan.InScan.{InScan}
 use Rattle.jpg_file.specs.Begin.{Begins}
+use Rattle.jpg_file.proofs.IntervalFits.{interval_fits}
 
 -- INTERVALS
 others_are : (most n : ℕ) (xs : List Place) → length xs ≤ most → AreIntervals (suc n) (chunks_of most (suc n) xs) × (joined (chunks_of most (suc n) xs) ≡ xs)
@@ -102,44 +101,57 @@ first_interval limits items blocks contents places later now = record {
   before = now;
 }
 
+-- the places of the scan, and the picture, at its first interval
+pub record AtFirst (limits : Limits) (items : List Item) (blocks : Blocks) (contents : List ℕ) (first : List Place) (later : List (List Place)) (now : Picture) : Type 0 where
+  pub readable : IsReadable limits (first_place items blocks contents first later)
+  pub interval : IsInterval limits (first_place items blocks contents first later) (first_interval limits items blocks contents first later now)
+  pub so_far : ScanSoFar (scan_after limits (segments_of items) contents) blocks (map_of now) [] (first ∷ later)
+
+at_first : (limits : Limits) (items : List Item) (blocks : Blocks) (contents bytes : List ℕ) (f : Frame) (head : ScanHead) (set : TableSet) (interval : ℕ) (now : Picture) → (b : Begins limits items blocks contents bytes f head set interval now)
+    → (s : Start limits items blocks contents bytes f head set interval now) → ((i x y : ℕ) → length (map_of now i x y) ≡ 64) → AtFirst limits items blocks contents (s.cut).first (s.cut).later now
+at_first limits items blocks contents bytes f head set interval now b s sized =
+    let h = b.header in
+    let sc = scan_after limits (segments_of items) contents in
+    let due_interval : chunks sc.interval sc.places ≡ (s.cut).first ∷ (s.cut).later = ap (λ (q : Scan). chunks q.interval q.places) s.scan ∙ (s.cut).cut in
+    let sizes : (i x y : ℕ) → length (blocks i x y) ≡ 64 = λ i x y. ap (λ (g : Blocks). length (g i x y)) h.as_map ∙ sized i x y in
+    let so0 = so_far_first sc blocks sizes in
+    let so1 = subst (λ (l : List (List Place)). ScanSoFar sc blocks blocks [] l) due_interval so0 in
+    record {
+      readable = record {
+        distinct = ap (λ (g : Frame). is_distinct (head_components (head_in g contents))) h.framed ∙ ap (λ (k : ScanHead). is_distinct (head_components k)) h.header ∙ (h.scan_header).distinct;
+      };
+      interval = record { scan = refl; places = refl; later = refl };
+      so_far = subst (λ (g : Blocks). ScanSoFar sc blocks g [] ((s.cut).first ∷ (s.cut).later)) h.as_map so1;
+    }
+
 pub first_of_scan : (limits : Limits) (items : List Item) (blocks : Blocks) (contents bytes : List ℕ) (f : Frame) (head : ScanHead) (set : TableSet) (interval : ℕ) (now : Picture) → (b : Begins limits items blocks contents bytes f head set interval now)
-    → (s : Start limits items blocks contents bytes f head set interval now) → ((i x y : ℕ) → length (map_of now i x y) ≡ 64) → IsOfScan f head set (first_interval limits items blocks contents (s.cut).first (s.cut).later now)
+    → (s : Start limits items blocks contents bytes f head set interval now) → ((i x y : ℕ) → length (map_of now i x y) ≡ 64) → IsOfHeader f head set (first_interval limits items blocks contents (s.cut).first (s.cut).later now)
 first_of_scan limits items blocks contents bytes f head set interval now b s sizes =
     let h = b.header in
-    let plain : is_progressive (frame_of limits (segments_of items)).process ≡ false = ap (λ (g : Frame). is_progressive g.process) h.framed ∙ (h.sequential).sequential in
+    let at = at_first limits items blocks contents bytes f head set interval now b s sizes in
     record {
       coding = ap (λ (q : Scan). q.coding) s.scan ∙ sym h.codings;
-      kind = record {
-        units = ap (λ (g : Blocks). map (unit_at (scan_after limits (segments_of items) contents) g) (s.cut).first) (sym h.as_map)
-            ∙ sequential_units limits bytes (first_place items blocks contents (s.cut).first (s.cut).later) [] s.at plain;
-        ss = ap (λ t. cond t (head_in (frame_of limits (segments_of items)) contents).ss 0) plain;
-        se = ap (λ t. cond t (head_in (frame_of limits (segments_of items)) contents).se 63) plain;
-      };
+      ss = ap (λ (q : Scan). q.ss) s.scan;
+      se = ap (λ (q : Scan). q.se) s.scan;
+      kind = interval_fits limits bytes (first_place items blocks contents (s.cut).first (s.cut).later) (first_interval limits items blocks contents (s.cut).first (s.cut).later now) s.at at.readable at.interval at.so_far;
       sized = sizes;
       places = sym (s.cut).all;
       frame = h.pictured;
     }
 
 pub in_data : (limits : Limits) (items : List Item) (blocks : Blocks) (contents bytes : List ℕ) (f : Frame) (head : ScanHead) (set : TableSet) (interval : ℕ) (now : Picture) (w : InScan) → (b : Begins limits items blocks contents bytes f head set interval now)
-    → (s : Start limits items blocks contents bytes f head set interval now) → ((i x y : ℕ) → length (map_of now i x y) ≡ 64) → SeqStands w.work.machine (first_interval limits items blocks contents (s.cut).first (s.cut).later now) [] now
+    → (s : Start limits items blocks contents bytes f head set interval now) → ((i x y : ℕ) → length (map_of now i x y) ≡ 64) → any_scan.stands w.work.machine (first_interval limits items blocks contents (s.cut).first (s.cut).later now) [] now
     → w.gate ≡ false → w.work.whole ≡ false → w.work.turn ≡ 0 → w.work.interval ≡ interval * mcu_units f (head_components head) → w.work.due ≡ length (joined (s.cut).later) → InData limits items contents bytes w now
 in_data limits items blocks contents bytes f head set interval now w b s sized stands gate whole turn n due =
     let h = b.header in
     let p = first_place items blocks contents (s.cut).first (s.cut).later in
-    let sc = scan_after limits (segments_of items) contents in
-    let i = first_interval limits items blocks contents (s.cut).first (s.cut).later now in
-    let frame = h.framed in
-    let due_interval : chunks sc.interval sc.places ≡ (s.cut).first ∷ (s.cut).later = ap (λ (q : Scan). chunks q.interval q.places) s.scan ∙ (s.cut).cut in
-    let sizes : (i x y : ℕ) → length (blocks i x y) ≡ 64 = λ i x y. ap (λ (g : Blocks). length (g i x y)) h.as_map ∙ sized i x y in
-    let so0 = so_far_first sc blocks sizes in
-    let so1 = subst (λ (l : List (List Place)). ScanSoFar sc blocks blocks [] l) due_interval so0 in
-    let so2 = subst (λ (g : Blocks). ScanSoFar sc blocks g [] ((s.cut).first ∷ (s.cut).later)) h.as_map so1 in
-    let d : IsDue SeqReader sequential limits p w.work.machine now = record {
-      interval = i;
-      is = record { scan = refl; places = refl; later = refl };
-      framed = h.pictured ∙ sym frame;
+    let at = at_first limits items blocks contents bytes f head set interval now b s sized in
+    let d : IsDue ScanReader any_scan limits p w.work.machine now = record {
+      interval = first_interval limits items blocks contents (s.cut).first (s.cut).later now;
+      is = at.interval;
+      framed = h.pictured ∙ sym h.framed;
       stands = stands;
-      so_far = so2;
+      so_far = at.so_far;
     } in
     record {
       place = p;
@@ -148,10 +160,7 @@ in_data limits items blocks contents bytes f head set interval now w b s sized s
       at = s.at;
       waits = subst (λ g. Waits g 0) (sym gate) refl;
       work = record {
-        readable = record {
-          plain = ap (λ (g : Frame). is_progressive g.process) frame ∙ (h.sequential).sequential;
-          distinct = ap (λ (g : Frame). is_distinct (head_components (head_in g contents))) frame ∙ ap (λ (k : ScanHead). is_distinct (head_components k)) h.header ∙ (h.sequential).distinct;
-        };
+        readable = at.readable;
         at = subst (λ c. AtInterval limits p c w.work.machine now) (sym whole) d;
         turn = omega (arith, turn);
         due = due;

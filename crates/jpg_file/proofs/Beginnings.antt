@@ -1,7 +1,7 @@
--- Which components were in a scan, item by item.
+-- Which scans there were, item by item.
 use Rattle.std.proofs.Common.{◌≡◌, ℕ, Bool, true, false, cond, ◌==◌, List, [], ◌∷◌, refl, sym, ap, ◌∙◌, subst, Option, Some, None}
 use Rattle.std.specs.Prelude.{◌||◌, is_none, map}
-use Rattle.jpg_spec.specs.Lists.{is_among}
+use Rattle.jpg_spec.specs.Lists.{any_of, is_among}
 use Rattle.jpg_spec.specs.Geometry.{Frame, component_at}
 use Rattle.jpg_spec.specs.QuantContents.{Slots, quant_in}
 use Rattle.jpg_spec.specs.Segments.{QuantTable, ScanHead, head_components}
@@ -16,10 +16,11 @@ use Rattle.jpg_spec.specs.declared.frame.ScanPart.{ScanPart}
 use Rattle.jpg_spec.proofs.FrameFound.{framed}
 use Rattle.jpg_spec.proofs.BeforeScans.{no_heads, no_quant}
 use Rattle.jpg_spec.proofs.Untouched.{frame_stays}
-use Rattle.jpg_spec.proofs.Common.{neither, not_same, clash, same_of}
+use Rattle.jpg_spec.proofs.Common.{neither, not_same, clash, or_right, same_of}
 use Rattle.jpg_file.specs.declared.begun.Begun.{Begun}
-use Rattle.jpg_file.specs.Held.{HeldTold, lacks_any}
-use Rattle.jpg_file.specs.Begun.{begun_at, quant_named, HasBegun}
+use Rattle.jpg_scans.specs.declared.progress.Progress.{Progress}
+use Rattle.jpg_file.specs.Held.{HeldTold, lacks_any, lacks_part}
+use Rattle.jpg_file.specs.Begun.{quant_named, HasBegun, StandsForHeads}
 
 -- BEHIND A SEGMENT
 
@@ -54,15 +55,16 @@ behind_other {X} limits items blocks code contents seen none leads allowed blank
 pub begun_goes_on : (limits : Limits) (b : Begun) (items : List Item) (blocks : Blocks) (code : ℕ) (contents : List ℕ) → Leads limits items blocks → code_fault (segments_of items) code ≡ None → (code ≡ 0xda → ⊥) → HasBegun limits b (segments_of items)
     → HasBegun limits b ((code, contents) ∷ segments_of items)
 begun_goes_on limits b items blocks code contents leads allowed other k = record {
-  four = λ i low.
-      k.four i low
-      ∙ behind_other limits items blocks code contents (λ f. has_begun (heads_of f before) i) false leads allowed (λ n f. ap (λ heads. has_begun heads i) (no_heads f before n))
-      ∙ ap (λ heads. has_begun heads i) (sym heads_same);
+  scans = subst (λ heads. StandsForHeads b.progress new heads) (sym heads_same) (scans_by (has_frame before) refl);
+  framed = λ e. or_right (is_frame_code code) (has_frame before) (k.framed e);
   quants = λ i low.
       k.quants i low
       ∙ behind_other limits items blocks code contents (λ f. quant_of f before i) None leads allowed (λ n f. no_quant f before i n)
       ∙ sym (quants_same i);
-  there = k.there;
+  there = λ i low begun.
+      k.there i low
+      (behind_other limits items blocks code contents (λ f. has_begun (heads_of f before) i) false leads allowed (λ n f. ap (λ heads. has_begun heads i) (no_heads f before n))
+      ∙ ap (λ heads. has_begun heads i) (sym heads_same) ∙ begun);
 }
   where
     before : List Segment
@@ -78,18 +80,22 @@ begun_goes_on limits b items blocks code contents leads allowed other k = record
     quants_same i =
         ap (λ t. cond t (first_some (quant_of new before i) (cond (names (head_in new contents) i) (quant_in_force before (component_at new i).quant) None)) (quant_of new before i)) (not_same code 0xda other)
 
--- BEHIND A SCAN HEADER
-or_swap : (a b : Bool) → (a || b) ≡ (b || a)
-or_swap true true = refl
-or_swap true false = refl
-or_swap false true = refl
-or_swap false false = refl
+    -- there is no history before the frame's header, and so before the first scan
+    unbegun : (o : Option Progress) → (is_none o ≡ false → has_frame before ≡ true) → has_frame before ≡ false → StandsForHeads o new (heads_of new before)
+    unbegun None framed e = no_heads new before (unscanned limits items blocks leads e)
+    unbegun (Some p) framed e = absurd (clash (has_frame before) (framed refl) e)
 
--- what these parts add
-pub record AddsParts (f : Frame) (slots : Slots) (b new : Begun) (head : ScanHead) : Type 0 where
-  pub seen : (i : ℕ) → begun_at new i ≡ (begun_at b i || is_among i (head_components head))
+    scans_by : (t : Bool) → has_frame before ≡ t → StandsForHeads b.progress new (heads_of new before)
+    scans_by true e = subst (λ f. StandsForHeads b.progress f (heads_of f before)) (sym (frame_stays limits before code contents e allowed)) k.scans
+    scans_by false e = unbegun b.progress k.framed e
+
+-- BEHIND A SCAN HEADER
+
+-- what this scan adds
+pub record AddsScan (f : Frame) (slots : Slots) (b new : Begun) (head : ScanHead) : Type 0 where
+  pub scans : (heads : List ScanHead) → StandsForHeads b.progress f heads → StandsForHeads new.progress f (head ∷ heads)
   pub quants : (i : ℕ) → quant_in new.quants i ≡ first_some (quant_in b.quants i) (quant_named f slots head.parts i)
-  pub tables : (i : ℕ) → is_among i (head_components head) ≡ true → is_none (quant_in slots (component_at f i).quant) ≡ false
+  pub tables : (i : ℕ) → names head i ≡ true → is_none (quant_in slots (component_at f i).quant) ≡ false
 
 some_first : {A : Type 0} (o q : Option A) → is_none o ≡ false → is_none (first_some o q) ≡ false
 some_first None q e = cc
@@ -99,48 +105,41 @@ some_last : {A : Type 0} (o q : Option A) → is_none q ≡ false → is_none (f
 some_last None q e = e
 some_last (Some x) q e = refl
 
-still_there : (a m : Bool) (o q : Option QuantTable) → (a || m) ≡ true → (a ≡ true → is_none o ≡ false) → (m ≡ true → is_none q ≡ false) → is_none (first_some o (cond m q None)) ≡ false
-still_there true m o q e old new = some_first o (cond m q None) (old refl)
-still_there false true o q e old new = some_last o q (new refl)
+still_there : (m a : Bool) (o q : Option QuantTable) → (m || a) ≡ true → (a ≡ true → is_none o ≡ false) → (m ≡ true → is_none q ≡ false) → is_none (first_some o (cond m q None)) ≡ false
+still_there true a o q e old new = some_last o q (new refl)
+still_there false true o q e old new = some_first o None (old refl)
 still_there false false o q e old new = cc
 
 -- none of the tables that the parts need is lacking
-pub table_there : (h : HeldTold) (f : Frame) (parts : List ScanPart) (i : ℕ) → lacks_any h f parts ≡ false → is_among i (map (λ p. p.component) parts) ≡ true → is_none (quant_in h.quants (component_at f i).quant) ≡ false
-table_there h f [] i none among = cc
-table_there h f (p ∷ parts) i none among = by (p.component == i) refl among (λ m. table_there h f parts i (neither _ _ none).1 m)
+pub table_there : (h : HeldTold) (f : Frame) (head : ScanHead) (i : ℕ) → lacks_any h f head ≡ false → names head i ≡ true → is_none (quant_in h.quants (component_at f i).quant) ≡ false
+table_there h f head i none named = at head.parts none named
   where
-    by : (t : Bool) → (p.component == i) ≡ t → (t || is_among i (map (λ p. p.component) parts)) ≡ true → (is_among i (map (λ p. p.component) parts) ≡ true → is_none (quant_in h.quants (component_at f i).quant) ≡ false)
+    by : (p : ScanPart) (t : Bool) (rest : Bool) → (p.component == i) ≡ t → (t || rest) ≡ true → lacks_part h f head p ≡ false → (rest ≡ true → is_none (quant_in h.quants (component_at f i).quant) ≡ false)
         → is_none (quant_in h.quants (component_at f i).quant) ≡ false
-    by true e m older = ap (λ k. is_none (quant_in h.quants (component_at f k).quant)) (sym (same_of p.component i e)) ∙ (neither _ _ (neither _ _ none).0).0
-    by false e m older = older m
+    by p true rest e m there older = ap (λ k. is_none (quant_in h.quants (component_at f k).quant)) (sym (same_of p.component i e)) ∙ (neither _ _ there).0
+    by p false rest e m there older = older m
 
-pub begun_more : (limits : Limits) (b new : Begun) (before : List Segment) (contents : List ℕ) (head : ScanHead) (slots : Slots) → head_in (frame_of limits before) contents ≡ head
-    → ((slot : ℕ) → quant_in slots slot ≡ quant_in_force before slot) → AddsParts (frame_of limits before) slots b new head → HasBegun limits b before → HasBegun limits new ((0xda, contents) ∷ before)
-begun_more limits b new before contents head slots e held adds k = record {
-  four = λ i low. (adds.seen) i ∙ ap (λ t. t || is_among i (head_components head)) (k.four i low) ∙ or_swap (has_begun (heads_of (frame_of limits before) before) i) (is_among i (head_components head))
-      ∙ ap (λ (h : ScanHead). names h i || has_begun (heads_of (frame_of limits before) before) i) (sym e);
+    at : (parts : List ScanPart) → any_of (lacks_part h f head) parts ≡ false → is_among i (map (λ p. p.component) parts) ≡ true → is_none (quant_in h.quants (component_at f i).quant) ≡ false
+    at [] lacks among = cc
+    at (p ∷ parts) lacks among =
+        let n = neither (lacks_part h f head p) (any_of (lacks_part h f head) parts) lacks in
+        by p (p.component == i) (is_among i (map (λ (p : ScanPart). p.component) parts)) refl among n.0 (at parts n.1)
+
+pub begun_more : (limits : Limits) (b new : Begun) (before : List Segment) (contents : List ℕ) (head : ScanHead) (slots : Slots) → head_in (frame_of limits before) contents ≡ head → has_frame before ≡ true
+    → ((slot : ℕ) → quant_in slots slot ≡ quant_in_force before slot) → AddsScan (frame_of limits before) slots b new head → HasBegun limits b before → HasBegun limits new ((0xda, contents) ∷ before)
+begun_more limits b new before contents head slots e framed held adds k = record {
+  scans = subst (λ h. StandsForHeads new.progress f (h ∷ heads_of f before)) (sym e) (adds.scans (heads_of f before) k.scans);
+  framed = λ some. framed;
   quants = λ i low.
-      (let f = frame_of limits before in
-      let slot = (component_at f i).quant in
+      (let slot = (component_at f i).quant in
       adds.quants i ∙ ap (λ o. first_some o (quant_named f slots head.parts i)) (k.quants i low)
       ∙ ap (λ o. first_some (quant_of f before i) (cond (is_among i (head_components head)) o None)) (held slot)
       ∙ ap (λ (h : ScanHead). first_some (quant_of f before i) (cond (names h i) (quant_in_force before slot) None)) (sym e));
-  there = λ i begun.
-      (let f = frame_of limits before in
+  there = λ i low begun.
       ap is_none (adds.quants i)
-      ∙ still_there (begun_at b i) (is_among i (head_components head)) (quant_in b.quants i) (quant_in slots (component_at f i).quant) (sym (adds.seen i) ∙ begun) (k.there i) (adds.tables i));
+      ∙ still_there (names head i) (has_begun (heads_of f before) i) (quant_in b.quants i) (quant_in slots (component_at f i).quant)
+      (sym (ap (λ (h : ScanHead). names h i || has_begun (heads_of f before) i) e) ∙ begun) (k.there i low) (adds.tables i);
 }
-
-pub none_begun : (limits : Limits) (b : Begun) → ((i : ℕ) → begun_at b i ≡ false) → ((i : ℕ) → quant_in b.quants i ≡ None) → HasBegun limits b []
-none_begun limits b none blank = record { four = λ i low. none i; quants = λ i low. blank i; there = λ i begun. clash_there i begun }
   where
-    clash_there : (i : ℕ) → begun_at b i ≡ true → is_none (quant_in b.quants i) ≡ false
-    clash_there i e = absurd (clash (begun_at b i) e (none i))
-
--- THE TABLES that parts keep, one after another
-pub some_twice : {A : Type 0} (o q : Option A) (a b : Bool) → first_some (first_some o (cond a q None)) (cond b q None) ≡ first_some o (cond (a || b) q None)
-some_twice (Some x) q a b = refl
-some_twice None q false b = refl
-some_twice None None true true = refl
-some_twice None None true false = refl
-some_twice None (Some x) true b = refl
+    f : Frame
+    f = frame_of limits before

@@ -3,7 +3,6 @@ use Rattle.std.proofs.Common.{take, ◌<◌, ◌+◌, ◌≡◌, ℕ, ◌≤◌,
 use Rattle.std.proofs.lemmas.Bool.Decides.{nat_tests}
 use Rattle.std.proofs.lemmas.List.{length-append, length-take-le}
 use Rattle.std.specs.Prelude.{◌||◌, nat_lt, unwrap_or, option_and_then, slice_index, is_some, is_err, Result}
-use Rattle.jpg_spec.specs.Lists.{all_of, below}
 use Rattle.jpg_spec.specs.Faults.{Told}
 use Rattle.jpg_spec.specs.Geometry.{Frame, is_progressive}
 use Rattle.jpg_spec.specs.FrameContents.{frame_header}
@@ -28,7 +27,7 @@ use Rattle.jpg_markers.specs.Reading.{reading_of}
 use Rattle.jpg_base.specs.declared.names.NoMemory.{NoMemory as Wanting}
 use Rattle.jpg_spec.specs.declared.answers.FaultAt.{FaultAt}
 use Rattle.jpg_base.specs.declared.stop.Stop.TheVariants as stop
-use Rattle.jpg_file.specs.Begun.{begun_at, HasBegun}
+use Rattle.jpg_file.specs.Begun.{HasBegun, IsComplete}
 use Rattle.jpg_file.specs.FirstHead.{HasHead, HasNoHead, IsHeadOf}
 use Rattle.jpg_file.specs.declared.head.Head.{Head}
 use Rattle.jpg_file.specs.Held.{told_by}
@@ -41,32 +40,8 @@ use Rattle.jpg_file.specs.declared.items.ItemStep.{ItemStep}
 use Rattle.jpg_file.specs.declared.items.ItemStep.TheVariants as step
 use Rattle.jpg_file.specs.declared.file.FileWork.{FileWork}
 use Rattle.jpg_file.proofs.Beginnings.{begun_goes_on}
-use Rattle.jpg_file.proofs.Ending.{complete_is}
 use Rattle.jpg_file.proofs.FirstHeads.{between_header, has_longer, has_more, no_head, noted}
 use Rattle.jpg_spec.proofs.Common.{not_same}
-
--- A FRAME that is no progressive one stays so, with any segment but the header of one
-
-plain_code : (code : ℕ) (p : Process) → (code ≡ 0xc2 → ⊥) → process_of_code code ≡ Some p → is_progressive p ≡ false
-plain_code code p other e = by (code == 0xc0) (code == 0xc1) (code == 0xc2) refl e
-  where
-    by : (a b c : Bool) → (code == 0xc2) ≡ c → cond a (Some Baseline) (cond b (Some Extended) (cond c (Some Progressive) None)) ≡ Some p → is_progressive p ≡ false
-    by true b c h k = ap (λ (o : Option Process). is_progressive (unwrap_or o Baseline)) (sym k)
-    by false true c h k = ap (λ (o : Option Process). is_progressive (unwrap_or o Baseline)) (sym k)
-    by false false true h k = absurd (other (same_of code 0xc2 h))
-    by false false false h k = cc
-
-plain_more : (limits : Limits) (before : List Segment) (code : ℕ) (contents : List ℕ) → (code ≡ 0xc2 → ⊥) → is_progressive (frame_of limits before).process ≡ false → is_progressive (frame_of limits ((code, contents) ∷ before)).process ≡ false
-plain_more limits before code contents other old = at (process_of_code code) (λ p e. plain_code code p other e)
-  where
-    by : (p : Process) (t : Told Frame) → frame_header limits p contents ≡ t → is_progressive p ≡ false → is_progressive (unwrap_or (first_some (told_some t) (frame_after limits before)) no_frame).process ≡ false
-    by p (Err fault) h plain = old
-    by p (Ok f) h plain = ap is_progressive (told_process limits p contents f h) ∙ plain
-
-    at : (o : Option Process) → ((p : Process) → o ≡ Some p → is_progressive p ≡ false)
-        → is_progressive (unwrap_or (first_some (option_and_then (λ process. told_some (frame_header limits process contents)) o) (frame_after limits before)) no_frame).process ≡ false
-    at None plain = old
-    at (Some p) plain = by p (frame_header limits p contents) refl (plain p refl)
 
 -- WHAT IS KEPT BESIDE THE ITEMS goes along with one more
 
@@ -75,12 +50,11 @@ picture_more limits items blocks code contents None other allowed (unscanned, ze
 picture_more limits items blocks code contents (Some q) other allowed (found, is, as_map) =
     (or_right (is_frame_code code) (has_frame (segments_of items)) found, is ∙ sym (frame_stays limits (segments_of items) code contents found allowed), as_map)
 
-beside_more : (limits : Limits) (bytes : List ℕ) (items : List Item) (blocks : Blocks) (w : FileWork) (code : ℕ) (contents : List ℕ) → (code ≡ 0xda → ⊥) → (code ≡ 0xc2 → ⊥) → Leads limits (segment code contents ∷ items) blocks
+beside_more : (limits : Limits) (bytes : List ℕ) (items : List Item) (blocks : Blocks) (w : FileWork) (code : ℕ) (contents : List ℕ) → (code ≡ 0xda → ⊥) → Leads limits (segment code contents ∷ items) blocks
     → BesideItems limits bytes items blocks w → BesideItems limits bytes (segment code contents ∷ items) blocks w
-beside_more limits bytes items blocks w code contents other plain leads k = record {
+beside_more limits bytes items blocks w code contents other leads k = record {
   picture = picture_more limits items blocks code contents w.reading.coefs other leads.0 k.picture;
   begun = begun_goes_on limits w.begun items blocks code contents leads.2 leads.0 other k.begun;
-  plain = plain_more limits (segments_of items) code contents plain k.plain;
   none = k.none;
   count = k.count;
   same = k.same;
@@ -97,17 +71,16 @@ leads_at limits bytes sent items blocks item (inr (tail, k)) = k.leads
 
 goes_along : (limits : Limits) (bytes : List ℕ) (items more : List Item) (blocks : Blocks) (w : FileWork) → AddsNoScan items more → BetweenItems limits bytes more blocks w.reading.items → BesideItems limits bytes items blocks w → BesideItems limits bytes more blocks w
 goes_along limits bytes items more blocks w (inl e) at k = subst (λ (l : List Item). BesideItems limits bytes l blocks w) (sym e) k
-goes_along limits bytes items more blocks w (inr (code, contents, e, other, plain)) at k =
+goes_along limits bytes items more blocks w (inr (code, contents, e, other)) at k =
     let place = subst (λ (l : List Item). AtPlace limits bytes at.sent l blocks) e at.at in
     subst (λ (l : List Item). BesideItems limits bytes l blocks w) (sym e)
-    (beside_more limits bytes items blocks w code contents other plain (leads_at limits bytes at.sent items blocks (segment code contents) place) k)
+    (beside_more limits bytes items blocks w code contents other (leads_at limits bytes at.sent items blocks (segment code contents) place) k)
 
 -- A BYTE BETWEEN ITEMS, or the marker behind a scan's data
 pub after_item : (limits : Limits) (bytes : List ℕ) (items : List Item) (blocks : Blocks) (answer : ItemStep) (w : FileWork) → BesideItems limits bytes items blocks w → AfterItem limits bytes items blocks answer w.reading.items → AfterFileStep limits bytes answer w
 after_item limits bytes items blocks step.More w k (more, adds, at) = inl (record { items = more; blocks = blocks; at = at; beside = goes_along limits bytes items more blocks w adds at k })
 after_item limits bytes items blocks step.Head w k (at, code) = record { items = items; blocks = blocks; at = at; code = code; beside = k }
 after_item limits bytes items blocks step.Eoi w k at = record { items = items; blocks = blocks; at = at; beside = k }
-after_item limits bytes items blocks step.Progressive w k ends = (ends, k.count)
 after_item limits bytes items blocks (step.Fault f) w k (shown, at) = (shown, at ∙ k.same ∙ k.count)
 after_item limits bytes items blocks step.NoMemory w k none = tt
 
@@ -122,7 +95,6 @@ after_between limits bytes more answer w new s a coefs begun head within =
     (record {
       picture = subst (λ (q : Option Picture). PictureSoFar limits s.items s.blocks q) (sym coefs) k.picture;
       begun = subst (λ b. HasBegun limits b (segments_of s.items)) (sym begun) k.begun;
-      plain = k.plain;
       none = a.none;
       count = a.count;
       same = a.same;
@@ -142,7 +114,6 @@ after_inside limits bytes more answer w new s (inl (e, at)) begun head within =
       contents = s.contents;
       at = at;
       begun = subst (λ b. HasBegun limits b before) (sym begun) s.begun;
-      plain = s.plain;
       within = within;
       head = subst (λ h. HasHead limits (bytes ++ more) before h) (sym head) (has_longer limits bytes more (bytes ++ more) before w.head refl s.head);
     }))
@@ -154,7 +125,6 @@ after_inside limits bytes more answer w new s (inr (inl d)) begun head within =
     (record {
       picture = subst (λ (q : Option Picture). PictureSoFar limits all (map_of d.coefs) q) (sym d.has) (framed (segments_of s.items) allowed, d.framed, refl);
       begun = subst (λ b. HasBegun limits b (segments_of all)) (sym begun) s.begun;
-      plain = s.plain;
       none = d.none;
       count = d.count;
       same = d.same;
@@ -165,7 +135,6 @@ after_inside limits bytes more answer w new s (inr (inl d)) begun head within =
 after_inside limits bytes more step.More w new s (inr (inr shown)) begun head within = absurd shown
 after_inside limits bytes more step.Head w new s (inr (inr shown)) begun head within = absurd shown
 after_inside limits bytes more step.Eoi w new s (inr (inr shown)) begun head within = absurd shown
-after_inside limits bytes more step.Progressive w new s (inr (inr shown)) begun head within = absurd shown
 after_inside limits bytes more (step.Fault f) w new s (inr (inr shown)) begun head within = shown
 after_inside limits bytes more step.NoMemory w new s (inr (inr shown)) begun head within = absurd shown
 
@@ -216,7 +185,6 @@ head_whole limits bytes old new h room =
       frame = f.frame;
       framed = ap (λ i. i.held.frame) items ∙ f.has;
       is_frame = made.0;
-      plain = subst (λ (g : Frame). is_progressive g.process ≡ false) f.is k.plain;
       begun = subst (λ b. HasBegun limits b (segments_of h.items)) (sym room.begun) k.begun;
       coefs = p.coefs;
       has = p.has;
@@ -259,7 +227,6 @@ head_goes limits bytes old room taken new h made unchanged takes kept notes =
       contents = contents;
       at = subst (λ (r : Reading). Scanning limits h.items contents bytes r) (sym notes.reading) a.0;
       begun = subst (λ b. HasBegun limits b before) (sym notes.begun) a.1;
-      plain = (h.beside).plain;
       within = (h.beside).within;
       head = subst (λ o. HasHead limits bytes before o) (sym notes.head) now;
     })
@@ -278,13 +245,6 @@ between_of limits bytes w (inl s) e = s
 between_of limits bytes w (inr s) e = absurd (clash (is_some w.reading.scan) (ap is_some (s.at).inside) e)
 
 -- EOI
-pub end_complete : (limits : Limits) (bytes : List ℕ) (w : FileWork) (f : Frame) (n : ℕ) (all : Bool) → (k : EndStands limits bytes w) → w.reading.items.held.frame ≡ Some f → n ≡ length f.components → n ≤ 4 → all ≡ all_of (begun_at w.begun) (below n)
-    → is_complete (frame_of_items limits k.items) (segments_of k.items) ≡ all
-end_complete limits bytes w f n all k held count few is =
-    let same : frame_of_items limits k.items ≡ f = ap (λ (o : Option Frame). unwrap_or o no_frame) (sym ((k.at).holds).frame ∙ held) in
-    let long : length (frame_of_items limits k.items).components ≡ n = ap (λ (g : Frame). length g.components) same ∙ sym count in
-    complete_is limits w.begun (segments_of k.items) (k.beside).begun (omega (arith, long, few)) ∙ ap (λ m. all_of (begun_at w.begun) (below m)) long ∙ sym is
-
 framed_end : (before : List Segment) → code_fault before 0xd9 ≡ None → has_frame before ≡ true
 framed_end before e = by (has_frame before) e
   where
@@ -292,10 +252,19 @@ framed_end before e = by (has_frame before) e
     by true e = refl
     by false e = cc
 
+frame_there : (limits : Limits) (bytes : List ℕ) (w : FileWork) → (k : EndStands limits bytes w) → FrameHeld limits k.items w.reading.items.held.frame
+frame_there limits bytes w k = frame_held limits bytes k.items k.blocks w.reading.items.held.frame ((k.at).at).leads ((k.at).holds).frame (framed_end (segments_of k.items) (k.at).allowed)
+
+-- whether each component was in a scan, by the history
+pub end_complete : (limits : Limits) (bytes : List ℕ) (w : FileWork) (all : Bool) → (k : EndStands limits bytes w)
+    → IsComplete w.begun.progress all → is_complete (frame_of_items limits k.items) (segments_of k.items) ≡ all
+end_complete limits bytes w all k told =
+    let f = frame_of_items limits k.items in
+    let there = frame_there limits bytes w k in
+    sym (told f (heads_of f (segments_of k.items)) (subst (λ (g : Frame). 1 ≤ length g.components) (sym there.is) there.some) ((k.beside).begun).scans)
+
 pub frame_left : (limits : Limits) (bytes : List ℕ) (w : FileWork) → (e : EndsFile limits bytes w) → FrameHeld limits (e.ends).items w.reading.items.held.frame
-frame_left limits bytes w e =
-    let k = (e.ends).at in
-    frame_held limits bytes (e.ends).items (e.ends).blocks w.reading.items.held.frame (k.at).leads (k.holds).frame (framed_end (segments_of (e.ends).items) k.allowed)
+frame_left limits bytes w e = frame_there limits bytes w e.ends
 
 -- component 0 was in a scan
 pub one_begun : (limits : Limits) (bytes : List ℕ) (w : FileWork) → (e : EndsFile limits bytes w) → has_scan (segments_of (e.ends).items) ≡ false → ⊥
@@ -337,7 +306,6 @@ run_before limits front w run n answer r t some room k =
       contents = s.contents;
       at = t.before limits s.items s.contents front s.at;
       begun = s.begun;
-      plain = s.plain;
       within = omega (arith, room, count, size, low, length-append front (take t.early run));
       head = has_longer limits front (take t.early run) (front ++ take t.early run) before w.head refl s.head;
     })
@@ -359,7 +327,7 @@ room_left : (limits : Limits) (w : FileWork) (run : List ℕ) (n : ℕ) (answer 
 room_left limits w run n answer r t room = let low = t.within in let taken = t.taken in omega (arith, room, low, taken)
 
 byte_of : (limits : Limits) (bytes : List ℕ) (w : FileWork) (f : FaultAt) → AfterFileStep limits bytes (step.Fault f) w → AfterFileByte limits bytes (Err (stop.Fault f)) w
-byte_of limits bytes w f (shown, at) = (at, inl shown)
+byte_of limits bytes w f (shown, at) = (at, shown)
 
 pub run_more : (w : FileWork) (run : List ℕ) (n : ℕ) (r : Reading) → is_some w.reading.scan ≡ true → w.reading.taken + length run ≤ (limits_of w).input → TakesRunOfScan w.reading run n step.More r → TakesSome w run n (Ok false) (file_mid w r)
 run_more w run n r some room t = record {

@@ -5,7 +5,7 @@ use Rattle.std.specs.List.{All}
 use Rattle.std.proofs.lemmas.List.{length-map}
 use Rattle.std.proofs.lemmas.List.Elements.{All-head, All-tail}
 use Rattle.jpg_spec.specs.Faults.{Told}
-use Rattle.jpg_spec.specs.Geometry.{Frame, is_progressive}
+use Rattle.jpg_spec.specs.Geometry.{Frame}
 use Rattle.jpg_spec.specs.FrameHeader.{IsFrame}
 use Rattle.jpg_spec.specs.Segments.{ScanHead, head_components}
 use Rattle.jpg_spec.specs.ScanContents.{IsHead, scan_header}
@@ -23,6 +23,7 @@ use Rattle.jpg_file.specs.Begin.{Begins}
 use Rattle.jpg_file.specs.Items.{BehindSegment}
 use Rattle.jpg_file.specs.declared.items.Items.{Items}
 use Rattle.jpg_file.proofs.HeadTables.{codings_same, tables_there}
+use Rattle.jpg_file.proofs.Parameters.{head_parameters}
 
 there : (f : Frame) (parts : List ScanPart) → All (λ p. p.component < length f.components) parts → All (λ i. i < length f.components) (map (λ p. p.component) parts)
 there f [] all k d low = absurd (omega arith)
@@ -35,9 +36,9 @@ are_in f head h =
     record { some = omega (arith, n, h.some); few = omega (arith, n, h.few); there = there f head.parts h.known }
 
 pub begins_of : (limits : Limits) (bytes : List ℕ) (items : List Item) (blocks : Blocks) (w : Items) (f : Frame) (head : ScanHead) (q : Picture) → BehindSegment limits bytes items blocks w → (reading_of w.segments).code ≡ 0xda
-    → w.held.frame ≡ Some f → IsFrame f → is_progressive f.process ≡ false → contents_rule limits (segments_of items) 0xda (reading_of w.segments).contents ≡ None → scan_header f (reading_of w.segments).contents ≡ Ok head → IsHead f head
-    → lacks_any (told_by w.held) f head.parts ≡ false → q.frame ≡ f → blocks ≡ map_of q → Begins limits items blocks (reading_of w.segments).contents bytes f head w.held.tables w.held.interval q
-begins_of limits bytes items blocks w f head q k code framed is_frame plain rule told is_head lacks pictured as_map =
+    → w.held.frame ≡ Some f → IsFrame f → contents_rule limits (segments_of items) 0xda (reading_of w.segments).contents ≡ None → scan_header f (reading_of w.segments).contents ≡ Ok head → IsHead f head
+    → lacks_any (told_by w.held) f head ≡ false → q.frame ≡ f → blocks ≡ map_of q → Begins limits items blocks (reading_of w.segments).contents bytes f head w.held.tables w.held.interval q
+begins_of limits bytes items blocks w f head q k code framed is_frame rule told is_head lacks pictured as_map =
     let r = reading_of w.segments in
     let h = told_by w.held in
     record {
@@ -52,7 +53,12 @@ begins_of limits bytes items blocks w f head q k code framed is_frame plain rule
         header = ap (λ (t : Told ScanHead). told_or no_head t) told;
         is_frame = is_frame;
         is_head = is_head;
-        sequential = record { sequential = plain; components = are_in f head is_head; distinct = is_head.distinct; tables = tables_there h f w.held.tables head.parts refl lacks };
+        scan_header = record {
+          components = are_in f head is_head;
+          distinct = is_head.distinct;
+          parameters = head_parameters f r.contents head told;
+          tables = tables_there h f head w.held.tables refl lacks;
+        };
         codings = codings_same limits h (segments_of items) w.held.tables k.holds refl f head;
         restart = (k.holds).interval;
         pictured = pictured;

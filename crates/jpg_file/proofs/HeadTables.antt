@@ -1,20 +1,25 @@
 -- The tables that are held, for the scan that follows.
-use Rattle.std.proofs.Common.{◌≡◌, ℕ, zero, suc, ◌≤◌, false, List, [], ◌∷◌, sym, ap, ◌∙◌, arith}
+use Rattle.std.proofs.Common.{◌≡◌, ℕ, zero, suc, ◌≤◌, Bool, true, false, ◌&&◌, List, [], ◌∷◌, Some, sym, ap, ◌∙◌, arith}
 use Rattle.std.specs.Prelude.{is_none}
 use Rattle.std.specs.List.{All}
-use Rattle.jpg_spec.specs.Geometry.{Frame, component_at}
+use Rattle.std.proofs.lemmas.List.Elements.{All-nil, All-cons}
+use Rattle.jpg_spec.specs.Lists.{any_of}
+use Rattle.jpg_spec.specs.Geometry.{Frame}
 use Rattle.jpg_spec.specs.Segments.{ScanHead}
 use Rattle.jpg_spec.specs.HuffContents.{HuffmanSlots, huffman_in}
 use Rattle.jpg_spec.specs.Scan.{scan_coding}
 use Rattle.jpg_spec.specs.Markers.{Segment}
 use Rattle.jpg_spec.specs.InForce.{huffman_in_force}
+use Rattle.jpg_spec.specs.History.{needs_ac_table, needs_dc_table}
 use Rattle.jpg_spec.specs.declared.frame.Limits.{Limits}
 use Rattle.jpg_spec.specs.declared.frame.ScanPart.{ScanPart}
 use Rattle.jpg_huff.specs.declared.set.TableSet.{TableSet}
+use Rattle.jpg_huff.specs.declared.table.Table.{Table}
 use Rattle.jpg_huff.specs.Sets.{dc_tables, ac_tables, in_slot, slots_of}
 use Rattle.jpg_huff.specs.Tables.{table_of}
-use Rattle.jpg_seq.specs.NewReader.{HasTables, in_force}
+use Rattle.jpg_seq.specs.NewReader.{in_force}
 use Rattle.jpg_file.specs.Held.{HeldTold, Holds, lacks_part, lacks_any}
+use Rattle.jpg_file.specs.NewScan.{HasNeeded}
 use Rattle.jpg_file.proofs.Lacking.{none_same}
 use Rattle.jpg_spec.proofs.Common.{some_of, neither}
 use Rattle.jpg_spec.proofs.InForce.{same_coding}
@@ -32,17 +37,36 @@ pub codings_same : (limits : Limits) (h : HeldTold) (before : List Segment) (set
     → (f : Frame) (head : ScanHead) → scan_coding f (in_force set) head ≡ scan_coding f (huffman_in_force before) head
 codings_same limits h before set holds same f head = same_coding f head (in_force set) (huffman_in_force before) (tables_held limits h before set holds same)
 
-part_there : (h : HeldTold) (set : TableSet) (quant : ℕ) (p : ScanPart) → h.tables ≡ slots_of set → lacks_part h quant p ≡ false → HasTables set p
-part_there h set quant p same e =
-    let n = neither _ _ e in
-    let m = neither _ _ n.1 in
-    let dc : is_none (in_slot (dc_tables set) p.dc) ≡ false = sym (none_same table_of (in_slot (dc_tables set) p.dc)) ∙ ap is_none (slot_seen (dc_tables set) p.dc) ∙ ap (λ (s : HuffmanSlots). is_none (huffman_in s.dc p.dc)) (sym same) ∙ m.0 in
-    let ac : is_none (in_slot (ac_tables set) p.ac) ≡ false = sym (none_same table_of (in_slot (ac_tables set) p.ac)) ∙ ap is_none (slot_seen (ac_tables set) p.ac) ∙ ap (λ (s : HuffmanSlots). is_none (huffman_in s.ac p.ac)) (sym same) ∙ m.1 in
-    let a = some_of (in_slot (dc_tables set) p.dc) dc in
-    let b = some_of (in_slot (ac_tables set) p.ac) ac in
-    record { dc = a.0; in_dc = a.1; ac = b.0; in_ac = b.1 }
+-- THE TABLES that a scan needs
 
-pub tables_there : (h : HeldTold) (f : Frame) (set : TableSet) (parts : List ScanPart) → h.tables ≡ slots_of set → lacks_any h f parts ≡ false → All (HasTables set) parts
-tables_there h f set [] same e k d low = absurd (omega arith)
-tables_there h f set (p ∷ parts) same e zero d low = part_there h set (component_at f p.component).quant p same (neither _ _ e).0
-tables_there h f set (p ∷ parts) same e (suc k) d low = tables_there h f set parts same (neither _ _ e).1 k d (omega arith)
+needed : (a b : Bool) → a ≡ true → (a && b) ≡ false → b ≡ false
+needed true b e f = f
+needed false b e f = cc
+
+pub dc_there : (h : HeldTold) (f : Frame) (head : ScanHead) (set : TableSet) (p : ScanPart) → h.tables ≡ slots_of set → needs_dc_table f head ≡ true → lacks_part h f head p ≡ false → (t : Table) × (in_slot (dc_tables set) p.dc ≡ Some t)
+dc_there h f head set p same needs e =
+    let n = neither _ _ (neither _ _ e).1 in
+    let there = needed (needs_dc_table f head) (is_none (huffman_in h.tables.dc p.dc)) needs n.0 in
+    some_of (in_slot (dc_tables set) p.dc) (sym (none_same table_of (in_slot (dc_tables set) p.dc)) ∙ ap is_none (slot_seen (dc_tables set) p.dc) ∙ ap (λ (s : HuffmanSlots). is_none (huffman_in s.dc p.dc)) (sym same) ∙ there)
+
+pub ac_there : (h : HeldTold) (f : Frame) (head : ScanHead) (set : TableSet) (p : ScanPart) → h.tables ≡ slots_of set → needs_ac_table f head ≡ true → lacks_part h f head p ≡ false → (t : Table) × (in_slot (ac_tables set) p.ac ≡ Some t)
+ac_there h f head set p same needs e =
+    let n = neither _ _ (neither _ _ e).1 in
+    let there = needed (needs_ac_table f head) (is_none (huffman_in h.tables.ac p.ac)) needs n.1 in
+    some_of (in_slot (ac_tables set) p.ac) (sym (none_same table_of (in_slot (ac_tables set) p.ac)) ∙ ap is_none (slot_seen (ac_tables set) p.ac) ∙ ap (λ (s : HuffmanSlots). is_none (huffman_in s.ac p.ac)) (sym same) ∙ there)
+
+-- those that the scan needs of each part
+pub tables_there : (h : HeldTold) (f : Frame) (head : ScanHead) (set : TableSet) → h.tables ≡ slots_of set → lacks_any h f head ≡ false → All (HasNeeded f head set) head.parts
+tables_there h f head set same none = at head.parts none
+  where
+    one : (p : ScanPart) → lacks_part h f head p ≡ false → HasNeeded f head set p
+    one p e = record {
+      dc = λ needs. (let t = dc_there h f head set p same needs e in record { table = t.0; there = t.1 });
+      ac = λ needs. (let t = ac_there h f head set p same needs e in record { ac = t.0; in_ac = t.1 });
+    }
+
+    at : (parts : List ScanPart) → any_of (lacks_part h f head) parts ≡ false → All (HasNeeded f head set) parts
+    at [] e = All-nil (HasNeeded f head set)
+    at (p ∷ parts) e =
+        let n = neither (lacks_part h f head p) (any_of (lacks_part h f head) parts) e in
+        All-cons (HasNeeded f head set) p parts (one p n.0) (at parts n.1)

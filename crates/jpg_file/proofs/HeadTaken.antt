@@ -1,7 +1,7 @@
 -- A scan header taken by the reader of a file.
-use Rattle.std.proofs.Common.{◌≡◌, ℕ, false, List, length, sym, ap, ◌∙◌, subst, Option, Some, Ok, Err}
+use Rattle.std.proofs.Common.{◌≡◌, ℕ, List, length, sym, ap, ◌∙◌, subst, Option, Some, Ok, Err}
 use Rattle.std.specs.Prelude.{unwrap_or, Result}
-use Rattle.jpg_spec.specs.Geometry.{Frame, is_progressive}
+use Rattle.jpg_spec.specs.Geometry.{Frame}
 use Rattle.jpg_spec.specs.FrameHeader.{IsFrame}
 use Rattle.jpg_spec.specs.Segments.{ScanHead}
 use Rattle.jpg_spec.specs.Scan.{Blocks}
@@ -48,7 +48,7 @@ pub head_begins : (limits : Limits) (bytes : List ℕ) (items : List Item) (bloc
     → Judged limits (segments_of items) (reading_of (r.items).segments).contents f (told_by r.items.held) (Ok head) → Begins limits items blocks (reading_of (r.items).segments).contents bytes f head r.items.held.tables r.items.held.interval q
 head_begins limits bytes items blocks r b f q head w j =
     let h = w.whole in
-    begins_of limits bytes items blocks r.items f head q h.segment h.code (h.framed ∙ ap (λ (g : Frame). Some g) w.framed) (subst (λ g. IsFrame g) w.framed h.is_frame) (subst (λ (g : Frame). is_progressive g.process ≡ false) w.framed h.plain)
+    begins_of limits bytes items blocks r.items f head q h.segment h.code (h.framed ∙ ap (λ (g : Frame). Some g) w.framed) (subst (λ g. IsFrame g) w.framed h.is_frame)
     j.0 j.1 j.2 j.3 (sym (ap (λ (c : Picture). c.frame) w.pictured) ∙ h.pictured ∙ w.framed) (h.as_map ∙ ap (λ c. map_of c) w.pictured)
 
 pub head_shows : (limits : Limits) (bytes : List ℕ) (items : List Item) (blocks : Blocks) (r : Reading) (b : Begun) (f : Frame) (q : Picture) (fault : Fault) → (w : Found limits bytes items blocks r b f q)

@@ -25,7 +25,7 @@ use Rattle.jpg_markers.specs.declared.segments.Phase.TheVariants as phase
 use Rattle.jpg_markers.specs.Reading.{Reading, StandsFor, AtPhase, IsBetween, PartRead, ShowsBehind, EndsBehind, Comes, reading_of}
 use Rattle.jpg_file.specs.Held.{Holds, told_by}
 use Rattle.jpg_file.specs.declared.items.Items.{Items}
-use Rattle.jpg_file.specs.Items.{IsBeside, AtPlace, BetweenItems, BehindSegment, BehindEnd, AddsNoScan, EndsProgressive}
+use Rattle.jpg_file.specs.Items.{IsBeside, AtPlace, BetweenItems, BehindSegment, BehindEnd, AddsNoScan}
 
 -- THE START
 
@@ -203,15 +203,15 @@ behind_segment limits bytes b items blocks w new k c p e f same = by k.at
         }
 
 -- and breaks no rule, or shows a fault
-pub segment_taken : (limits : Limits) (bytes : List ℕ) (items : List Item) (blocks : Blocks) (w new : Items) → (k : BehindSegment limits bytes items blocks w) → ((reading_of w.segments).code ≡ 0xda → ⊥) → ((reading_of w.segments).code ≡ 0xc2 → ⊥)
+pub segment_taken : (limits : Limits) (bytes : List ℕ) (items : List Item) (blocks : Blocks) (w new : Items) → (k : BehindSegment limits bytes items blocks w) → ((reading_of w.segments).code ≡ 0xda → ⊥)
     → contents_rule limits (segments_of items) (reading_of w.segments).code (reading_of w.segments).contents ≡ None → reading_of new.segments ≡ reading_of w.segments → new.limits ≡ w.limits
     → Holds limits (told_by new.held) (((reading_of w.segments).code, (reading_of w.segments).contents) ∷ segments_of items) → (more : List Item) × AddsNoScan items more × BetweenItems limits bytes more blocks new
-segment_taken limits bytes items blocks w new k other plain rule same f holds =
+segment_taken limits bytes items blocks w new k other rule same f holds =
     let r = reading_of w.segments in
     let more : List Item = segment r.code r.contents ∷ items in
     let S : Reading → Type 0 = λ q. StandsFor k.sent ((r.code, r.contents) ∷ segments_of items) q in (
       more,
-      inr (r.code, r.contents, refl, other, plain),
+      inr (r.code, r.contents, refl, other),
       record {
         sent = k.sent;
         stands = subst S (sym same) k.stands;
@@ -226,47 +226,6 @@ segment_taken limits bytes items blocks w new k other plain rule same f holds =
         holds = holds;
       },
     )
-
--- a whole marker isn't empty
-no_marker : LeadingMarker [] → ⊥
-no_marker m =
-    let a = ap length m.cut in
-    let b = length-append m.marker m.rest in
-    let d = ap length (m.spelled).1 in
-    let e = length-append (replicate (suc (m.spelled).0) 255) (m.code ∷ []) in
-    omega (arith, a, b, d, e)
-
--- where nothing stands behind the items, they are the bytes
-all_spelled : (limits : Limits) (rule : Rule) (sent bytes : List ℕ) (items : List Item) → Beside limits rule sent bytes items [] → SpellsFront items bytes
-all_spelled limits rule sent bytes items w =
-    let front = (w.behind).front in
-    let none : w.fill ≡ 0 = by w.plain in
-    let is : bytes ≡ front = (w.behind).cut ∙ ap (λ n. front ++ (replicate n 255 ++ [])) none ∙ append-nil front in
-    subst (λ l. SpellsFront items l) (sym is) (w.behind).spelled
-  where
-    by : ((w.fill ≡ 0) × (ends_in_scan items ≡ false)) ⊎ LeadingMarker [] → w.fill ≡ 0
-    by (inl e) = e.0
-    by (inr m) = absurd (no_marker m)
-
--- the header of a progressive frame
-pub progressive_taken : (limits : Limits) (bytes : List ℕ) (items : List Item) (blocks : Blocks) (w : Items) → (k : BehindSegment limits bytes items blocks w) → (reading_of w.segments).code ≡ 0xc2
-    → contents_rule limits (segments_of items) (reading_of w.segments).code (reading_of w.segments).contents ≡ None → EndsProgressive limits bytes
-progressive_taken limits bytes items blocks w k code rule =
-    let r = reading_of w.segments in
-    let other : 0xc2 ≡ 0xda → ⊥ = λ (e : 0xc2 ≡ 0xda). omega (arith, e) in
-    let end : 0xc2 ≡ 0xd9 → ⊥ = λ (e : 0xc2 ≡ 0xd9). omega (arith, e) in
-    let spelled = subst (λ n. SpellsSegment n r.contents k.tail) code k.spelled in
-    let allowed = subst (λ n. code_fault (segments_of items) n ≡ None) code k.allowed in
-    let kept = subst (λ n. kept_rule limits (segments_of items) n r.contents ≡ None) code k.kept in
-    let passed = subst (λ n. contents_rule limits (segments_of items) n r.contents ≡ None) code rule in
-    let beside = segment_passed limits (kept_rule limits) k.sent bytes items 0xc2 r.contents k.tail (k.at).beside spelled allowed end other kept passed in
-    record {
-      items = items;
-      blocks = blocks;
-      contents = r.contents;
-      spelled = all_spelled limits (kept_rule limits) k.sent bytes (segment 0xc2 r.contents ∷ items) beside;
-      leads = (allowed, passed, (k.at).leads);
-    }
 
 pub segment_fault : (limits : Limits) (bytes : List ℕ) (items : List Item) (blocks : Blocks) (w : Items) (fault : Fault) → (k : BehindSegment limits bytes items blocks w)
     → contents_rule limits (segments_of items) (reading_of w.segments).code (reading_of w.segments).contents ≡ Some fault → Shows limits fault bytes

@@ -1,4 +1,10 @@
 pub mod Chains
+pub mod Machines
+pub mod NewScans
+pub mod Parameters
+pub mod HeadSays
+pub mod ProgressiveRoom
+pub mod IntervalFits
 pub mod ScanBytes
 pub mod InForce
 pub mod ItemBytes
@@ -13,7 +19,6 @@ pub mod Heads
 pub mod HeadReady
 pub mod HeadTaken
 pub mod FileSteps
-pub mod NoProgressive
 pub mod PieceSteps
 pub mod PictureSteps
 pub mod FirstHeads

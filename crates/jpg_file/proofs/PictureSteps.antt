@@ -112,7 +112,7 @@ table_left limits bytes w i e few low =
     let f = frame_of_items limits (e.ends).items in
     let before = segments_of (e.ends).items in
     let k = ((e.ends).beside).begun in
-    k.there i (k.four i (omega (arith, low, few)) ∙ all_below (has_begun (heads_of f before)) (length f.components) i e.complete low)
+    k.there i (omega (arith, low, few)) (all_below (has_begun (heads_of f before)) (length f.components) i e.complete low)
 
 -- what the parts of the picture are
 pub record IsLeft (w : FileWork) (p : Picture) : Type 0 where

@@ -5,27 +5,25 @@ use Rattle.std.proofs.Math.Seq.{take-append-add}
 use Rattle.std.specs.Prelude.{IfErr}
 use Rattle.jpg_spec.specs.Items.{segments_of}
 use Rattle.jpg_spec.specs.FileMeaning.{meaning_of}
-use Rattle.jpg_spec.specs.FirstFault.{Shows}
+use Rattle.jpg_spec.specs.FirstFault.{IsFirstFault, Shows}
 use Rattle.jpg_spec.specs.FileStands.{FileStands, IsWholeFile}
 use Rattle.jpg_spec.specs.Laws.{frame_of_items}
 use Rattle.jpg_spec.specs.declared.answers.FaultAt.{FaultAt}
 use Rattle.jpg_spec.specs.declared.frame.Limits.{Limits}
-use Rattle.jpg_spec.specs.declared.fault.Fault.TheVariants.{InputTooLong, NotBuilt}
+use Rattle.jpg_spec.specs.declared.fault.Fault.TheVariants.{InputTooLong}
 use Rattle.jpg_spec.proofs.Common.{clash}
-use Rattle.jpg_spec.proofs.FileLaws.{stands_too_long}
+use Rattle.jpg_spec.proofs.FileLaws.{next_shown, stands_too_long}
 use Rattle.jpg_base.specs.declared.stop.Fed.{Fed}
 use Rattle.jpg_base.specs.declared.stop.Fed.TheVariants as fed
 use Rattle.jpg_base.specs.declared.stop.Stop.{Stop}
 use Rattle.jpg_base.specs.declared.stop.Stop.TheVariants as stop
 use Rattle.jpg_file.specs.File.{AfterFileByte, TakesFileByte, TakesSome, EndsFile, IsStop, Stands, limits_of}
-use Rattle.jpg_file.specs.Items.{EndsProgressive, NoneProgressive}
 use Rattle.jpg_file.specs.FirstHead.{IsHeadOf}
-use Rattle.jpg_file.specs.ReadFile.{AfterFeed, AfterFilePiece, HasRead, IsReading, IsRefusal, IsStopOf, KeepsHead, ReaderState, ReadsPiece}
+use Rattle.jpg_file.specs.ReadFile.{AfterFeed, AfterFilePiece, HasRead, IsReading, IsRefusal, IsStopOf, ReaderState, ReadsPiece}
 use Rattle.jpg_file.specs.declared.file.FileWork.{FileWork}
 use Rattle.jpg_file.proofs.Ending.{file_ends}
 use Rattle.jpg_file.proofs.FileSteps.{head_is, head_left}
 use Rattle.jpg_file.proofs.ItemBytes.{between_stands}
-use Rattle.jpg_file.proofs.NoProgressive.{fault_first, none_progressive, progressive_first}
 use Rattle.jpg_file.proofs.ScanBytes.{data_stands}
 
 -- WHAT A STATE TELLS
@@ -59,13 +57,11 @@ whole_front front rest = take-append-le (length front) front rest (omega arith) 
 
 -- THE ANSWERS
 
-stop_longer : (limits : Limits) (front rest all : List ℕ) (b : ℕ) (f : FaultAt) → all ≡ (front ++ b ∷ []) ++ rest → FileStands limits front → NoneProgressive limits front → length front < limits.input → IsStop limits (front ++ b ∷ []) f
-    → IsStopOf limits all f
-stop_longer limits front rest all b f cut stands none short (at, stop) more = subst (λ l. IsRefusal limits l f) (sym (ap (λ l. l ++ more) cut ∙ append_assoc (front ++ b ∷ []) rest more)) (by stop)
-  where
-    by : Shows limits f.fault (front ++ b ∷ []) ⊎ ((f.fault ≡ NotBuilt) × EndsProgressive limits (front ++ b ∷ [])) → IsRefusal limits ((front ++ b ∷ []) ++ (rest ++ more)) f
-    by (inl shown) = inl (fault_first limits front (rest ++ more) b f stands none short at shown)
-    by (inr (which, ends)) = inr (which, progressive_first limits front (rest ++ more) b f.at none short at ends)
+stop_longer : (limits : Limits) (front rest all : List ℕ) (b : ℕ) (f : FaultAt) → all ≡ (front ++ b ∷ []) ++ rest → FileStands limits front → length front < limits.input → IsStop limits (front ++ b ∷ []) f → IsStopOf limits all f
+stop_longer limits front rest all b f cut stands short (at, shown) more =
+    let whole = front ++ b ∷ [] in
+    subst (λ l. IsRefusal limits l f) (sym (ap (λ l. l ++ more) cut ∙ append_assoc whole rest more))
+    (subst (λ n. IsFirstFault limits (whole ++ (rest ++ more)) f.fault n) (sym at) (next_shown limits front (rest ++ more) b f.fault stands shown short))
 
 -- the first scan header of a front stays
 head_kept : (limits : Limits) (bytes piece : List ℕ) (i : ℕ) (old next : FileWork) → Stands limits (bytes ++ take i piece) old → next.head ≡ old.head → IsHeadOf limits (take (length (bytes ++ take i piece)) (bytes ++ piece)) next.head
@@ -73,6 +69,9 @@ head_kept limits bytes piece i old next stands same =
     let front = bytes ++ take i piece in
     let is : take (length front) (bytes ++ piece) ≡ front = ap (take (length front)) (joined bytes piece i) ∙ whole_front front (drop i piece) in
     subst (λ o. IsHeadOf limits (take (length front) (bytes ++ piece)) o) (sym same) (subst (λ l. IsHeadOf limits l old.head) (sym is) (head_is limits front old stands))
+
+front_of : (front rest all : List ℕ) (n : ℕ) → n ≡ length front → all ≡ front ++ rest → take n all ≡ front
+front_of front rest all n long cut = ap (λ m. take m all) long ∙ ap (take (length front)) cut ∙ whole_front front rest
 
 pub piece_stopped : (limits : Limits) (bytes piece : List ℕ) (i : ℕ) (e : Stop) (old w next : FileWork) → i < length piece → Stands limits (bytes ++ take i piece) old → old.reading.taken < limits.input
     → next.head ≡ old.head → AfterFileByte limits ((bytes ++ take i piece) ++ get_or piece i 0 ∷ []) (Err e) w → AfterFilePiece limits bytes piece (Err e) next
@@ -82,9 +81,9 @@ piece_stopped limits bytes piece i (stop.Fault f) old w next less stands short s
     let few = counted limits front old stands in
     let at = h.0 in
     let one = length-append front (get_or piece i 0 ∷ []) in (
-      stop_longer limits front (drop (i + 1) piece) (bytes ++ piece) (get_or piece i 0) f cut (stands_file limits front old stands) (none_progressive limits front old stands) (omega (arith, few, short)) h,
+      stop_longer limits front (drop (i + 1) piece) (bytes ++ piece) (get_or piece i 0) f cut (stands_file limits front old stands) (omega (arith, few, short)) h,
       λ less. omega (arith, at, one, length-append bytes (take i piece)),
-      (length front, omega (arith, at, one), omega (arith, at, one), head_kept limits bytes piece i old next stands same),
+      inr (length front, omega (arith, at, one), head_kept limits bytes piece i old next stands same, subst (λ l. IsStop limits l f) (sym (front_of (front ++ get_or piece i 0 ∷ []) (drop (i + 1) piece) (bytes ++ piece) f.at at cut)) h),
     )
 piece_stopped limits bytes piece i stop.NoMemory old w next less stands short same h =
     (length (bytes ++ take i piece), (length (bytes ++ take i piece), omega arith, omega arith, head_kept limits bytes piece i old next stands same))
@@ -97,19 +96,15 @@ piece_long limits bytes piece i w many h =
     let rest = drop i piece in
     let few = counted limits front w h in
     let most = within limits front w h in
-    let long : length front ≡ limits.input = omega (arith, few, most, many) in
-    let keeps : KeepsHead limits (bytes ++ piece) limits.input w.head = (length front, omega (arith, most), omega (arith, long), head_kept limits bytes piece i w w h refl) in (
+    let long : length front ≡ limits.input = omega (arith, few, most, many) in (
       λ more.
           (let all = (bytes ++ piece) ++ more in
           let cut : all ≡ front ++ (rest ++ more) = ap (λ l. l ++ more) (joined bytes piece i) ∙ append_assoc front rest more in
           let is : take limits.input all ≡ front = ap (λ n. take n all) (sym long) ∙ ap (take (length front)) cut ∙ whole_front front (rest ++ more) in
           let size : limits.input ≤ length all = omega (arith, long, ap length cut, length-append front (rest ++ more)) in
-          inl (
-            stands_too_long limits all (subst (λ l. FileStands limits l) (sym is) (stands_file limits front w h)) size,
-            subst (λ l. NoneProgressive limits l) (sym is) (none_progressive limits front w h),
-          )),
+          stands_too_long limits all (subst (λ l. FileStands limits l) (sym is) (stands_file limits front w h)) size),
       λ less. less,
-      keeps,
+      inl (subst (λ n. IsHeadOf limits (take n (bytes ++ piece)) w.head) long (head_kept limits bytes piece i w w h refl)),
     )
 
 -- a whole file

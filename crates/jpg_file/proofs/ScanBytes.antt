@@ -1,33 +1,30 @@
 -- Inside the data of a scan: what the machine's answers make of the place.
 use Rattle.std.proofs.Common.{◌≡◌, ℕ, suc, ◌+◌, ◌-◌, ◌%◌, ◌≤◌, min, Bool, true, false, List, [], ◌∷◌, ◌++◌, length, refl, sym, ap, ◌∙◌, subst, arith, ℤ}
-use Rattle.std.specs.Prelude.{map, flat_map, replicate}
+use Rattle.std.specs.Prelude.{flat_map, replicate}
 use Rattle.std.proofs.lemmas.List.{length-append}
 use Rattle.jpg_spec.specs.Bits.{bits_of, bits_of_bytes}
-use Rattle.jpg_spec.specs.Segments.{head_components}
 use Rattle.jpg_spec.specs.Elements.{Coding, UnitLeft, SpellsUnits}
-use Rattle.jpg_spec.specs.Scan.{Scan, ScanMeans, unit_at, band, block_at}
+use Rattle.jpg_spec.specs.Scan.{Scan, ScanMeans, band, block_at}
 use Rattle.jpg_spec.specs.ScanFaults.{DataShows}
-use Rattle.jpg_spec.specs.InForce.{frame_of, head_in}
+use Rattle.jpg_spec.specs.InForce.{frame_of}
 use Rattle.jpg_spec.specs.Items.{Item, segments_of}
 use Rattle.jpg_spec.specs.FirstFault.{Shows}
 use Rattle.jpg_spec.specs.FileStands.{FileStands}
 use Rattle.jpg_spec.specs.ScanReading.{ScanPlace, scan_at, with_byte, with_interval, ScanAt}
 use Rattle.jpg_spec.specs.Parts.{StandsInUnits}
-use Rattle.jpg_spec.specs.PictureInWork.{AreDistinct, IntervalRead, ScanSoFar}
+use Rattle.jpg_spec.specs.PictureInWork.{IntervalRead, ScanSoFar}
 use Rattle.jpg_spec.specs.Lists.{joined}
 use Rattle.jpg_spec.specs.declared.fault.Fault.TheVariants as fault
 use Rattle.jpg_spec.specs.declared.frame.Limits.{Limits}
 use Rattle.jpg_spec.specs.declared.frame.Place.{Place}
-use Rattle.jpg_spec.proofs.PlacesDistinct.{units_distinct}
-use Rattle.jpg_spec.proofs.PictureInWork.{byte_bits, byte_packs, so_far_units, so_far_next, so_far_last}
-use Rattle.jpg_spec.proofs.IntervalUnits.{sequential_units}
+use Rattle.jpg_spec.proofs.PictureInWork.{byte_bits, byte_packs, so_far_next, so_far_last}
 use Rattle.jpg_spec.proofs.ScanSteps.{plain_data, stuffed_data, filled_data, marker_data, marker_code, complete_stands}
 use Rattle.jpg_spec.proofs.ScanAnswers.{units_at, bits_shown, bits_complete, interval_extra, units_due, units_short, interval_wrong, interval_begun}
 use Rattle.jpg_coefs.specs.Picture.{Picture, map_of}
 use Rattle.jpg_coefs.specs.Machine.{Interval, Follows, units_of, fault_of}
 use Rattle.jpg_coefs.specs.declared.machine.UnitFault.{UnitFault}
-use Rattle.jpg_seq.specs.declared.reader.SeqReader.{SeqReader}
-use Rattle.jpg_seq.specs.Reader.{SeqStands, SeqReady, IsSequential, sequential}
+use Rattle.jpg_file.specs.declared.machine.ScanReader.{ScanReader}
+use Rattle.jpg_file.specs.Machine.{any_scan}
 use Rattle.jpg_file.specs.Data.{EndsWhole, AfterBits}
 use Rattle.jpg_file.specs.declared.data.DataStep.TheVariants as came
 use Rattle.jpg_file.specs.declared.scan.ScanWork.{ScanWork}
@@ -36,30 +33,20 @@ use Rattle.jpg_file.specs.declared.scan.InScan.{InScan}
 use Rattle.jpg_file.specs.declared.scan.ScanStep.{ScanStep}
 use Rattle.jpg_file.specs.declared.scan.ScanStep.TheVariants.{More, Marker, Fault as Stopped}
 use Rattle.jpg_file.specs.InData.{frame_at, IsReadable, IsInterval, IsDue, IsRead, AtInterval, AreIntervals, AtWork, MarkerAt, NextBegins, Waits, InData, AfterData, AfterMarker, AfterByte, Ended}
-use Rattle.jpg_seq.proofs.Due.{keeps_units}
+use Rattle.jpg_file.proofs.IntervalFits.{distinct_places, interval_fits, same_units}
+use Rattle.jpg_file.proofs.Machines.{scans_keep_units}
 
-abbrev pub Due : Limits → ScanPlace → SeqReader → Picture → Type 0
-Due limits p m now = IsDue SeqReader sequential limits p m now
+abbrev pub Due : Limits → ScanPlace → ScanReader → Picture → Type 0
+Due limits p m now = IsDue ScanReader any_scan limits p m now
 
-abbrev pub Read : Limits → ScanPlace → SeqReader → Picture → Type 0
-Read limits p m now = IsRead SeqReader sequential limits p m now
+abbrev pub Read : Limits → ScanPlace → ScanReader → Picture → Type 0
+Read limits p m now = IsRead ScanReader any_scan limits p m now
 
 pub due_at : (limits : Limits) (p : ScanPlace) (w : ScanWork) (now : Picture) → w.whole ≡ false → AtWork limits p w now → Due limits p w.machine now
 due_at limits p w now e k = subst (λ b. AtInterval limits p b w.machine now) e k.at
 
 pub read_at : (limits : Limits) (p : ScanPlace) (w : ScanWork) (now : Picture) → w.whole ≡ true → AtWork limits p w now → Read limits p w.machine now
 read_at limits p w now e k = subst (λ b. AtInterval limits p b w.machine now) e k.at
-
-distinct_places : (limits : Limits) (p : ScanPlace) → IsReadable limits p → AreDistinct (scan_at limits p).places
-distinct_places limits p r = units_distinct (frame_at limits p) (head_components (head_in (frame_at limits p) p.contents)) r.distinct
-
--- the units of the interval in work stand in the picture as before the scan
-same_units : (limits : Limits) (p : ScanPlace) (i : Interval) → IsReadable limits p → IsInterval limits p i → ScanSoFar (scan_at limits p) p.blocks (map_of i.before) p.done (p.places ∷ p.later) → units_of i ≡ units_at limits p
-same_units limits p i r is w =
-    let s = scan_at limits p in
-    ap (λ (q : Scan). map (unit_at q (map_of i.before)) i.places) is.scan
-    ∙ ap (map (unit_at s (map_of i.before))) is.places
-    ∙ so_far_units s p.blocks (map_of i.before) p.done p.places p.later (distinct_places limits p r) w
 
 -- what is said of them
 of_place : (limits : Limits) (p : ScanPlace) (i : Interval) (P : Coding → List UnitLeft → Type 0) → IsReadable limits p → IsInterval limits p i → ScanSoFar (scan_at limits p) p.blocks (map_of i.before) p.done (p.places ∷ p.later)
@@ -73,9 +60,9 @@ pub record AreDueUnits (limits : Limits) (p : ScanPlace) : Type 0 where
   pub left : List UnitLeft
   pub stands : StandsInUnits (scan_at limits p).coding (units_at limits p) told left (bits_of_bytes p.coded)
 
-due_units : (limits : Limits) (p : ScanPlace) (m : SeqReader) (now : Picture) → IsReadable limits p → Due limits p m now → AreDueUnits limits p
+due_units : (limits : Limits) (p : ScanPlace) (m : ScanReader) (now : Picture) → IsReadable limits p → Due limits p m now → AreDueUnits limits p
 due_units limits p m now r d =
-    let u = keeps_units.unfinished m d.interval (bits_of_bytes p.coded) now d.stands in
+    let u = scans_keep_units.unfinished m d.interval (bits_of_bytes p.coded) now d.stands in
     record {
       told = u.whole ++ u.part;
       left = u.left;
@@ -84,27 +71,27 @@ due_units limits p m now r d =
 
 -- A DATA BYTE whose bits the machine took
 
-pub due_more : (limits : Limits) (p : ScanPlace) (byte : ℕ) (w : ScanWork) (m : SeqReader) (now after : Picture) → w.whole ≡ false → AtWork limits p w now
-    → ((i : Interval) (bits : List Bool) → SeqStands w.machine i bits now → AfterBits sequential i bits (bits_of 8 byte) came.More m after) → AtWork limits (with_byte p byte) (record w { machine = m }) after
+pub due_more : (limits : Limits) (p : ScanPlace) (byte : ℕ) (w : ScanWork) (m : ScanReader) (now after : Picture) → w.whole ≡ false → AtWork limits p w now
+    → ((i : Interval) (bits : List Bool) → any_scan.stands w.machine i bits now → AfterBits any_scan i bits (bits_of 8 byte) came.More m after) → AtWork limits (with_byte p byte) (record w { machine = m }) after
 due_more limits p byte w m now after e k took =
     let d = due_at limits p w now e k in
     let due : Due limits (with_byte p byte) m after = record {
       interval = d.interval;
       is = record { scan = (d.is).scan; places = (d.is).places; later = (d.is).later };
       framed = d.framed;
-      stands = subst (λ l. SeqStands m d.interval l after) (sym (byte_bits p.coded byte)) (took d.interval (bits_of_bytes p.coded) d.stands);
+      stands = subst (λ l. any_scan.stands m d.interval l after) (sym (byte_bits p.coded byte)) (took d.interval (bits_of_bytes p.coded) d.stands);
       so_far = d.so_far;
     } in
     record {
-      readable = record { plain = (k.readable).plain; distinct = (k.readable).distinct };
+      readable = record { distinct = (k.readable).distinct };
       at = subst (λ b. AtInterval limits (with_byte p byte) b m after) (sym e) due;
       turn = k.turn;
       due = k.due;
       later = k.later;
     }
 
-pub due_fault : (limits : Limits) (bytes : List ℕ) (p : ScanPlace) (byte : ℕ) (w : ScanWork) (m : SeqReader) (now after : Picture) (f : UnitFault) → ScanAt limits bytes (with_byte p byte) [] → w.whole ≡ false → AtWork limits p w now
-    → ((i : Interval) (bits : List Bool) → SeqStands w.machine i bits now → AfterBits sequential i bits (bits_of 8 byte) (came.Fault f) m after) → Shows limits (fault_of f) bytes
+pub due_fault : (limits : Limits) (bytes : List ℕ) (p : ScanPlace) (byte : ℕ) (w : ScanWork) (m : ScanReader) (now after : Picture) (f : UnitFault) → ScanAt limits bytes (with_byte p byte) [] → w.whole ≡ false → AtWork limits p w now
+    → ((i : Interval) (bits : List Bool) → any_scan.stands w.machine i bits now → AfterBits any_scan i bits (bits_of 8 byte) (came.Fault f) m after) → Shows limits (fault_of f) bytes
 due_fault limits bytes p byte w m now after f at e k took =
     let d = due_at limits p w now e k in
     let i = d.interval in
@@ -112,8 +99,8 @@ due_fault limits bytes p byte w m now after f at e k took =
     bits_shown limits bytes p byte (fault_of f) t.0 t.1 at t.2
     (of_place limits p i (λ c us. DataShows c us (fault_of f) (bits_of_bytes p.coded ++ t.0)) k.readable d.is d.so_far t.3)
 
-pub due_whole : (limits : Limits) (p : ScanPlace) (byte : ℕ) (w : ScanWork) (m : SeqReader) (now after : Picture) → w.whole ≡ false → AtWork limits p w now
-    → ((i : Interval) (bits : List Bool) → SeqStands w.machine i bits now → AfterBits sequential i bits (bits_of 8 byte) came.Whole m after) → AtWork limits (with_byte p byte) (record w { machine = m; whole = true }) after
+pub due_whole : (limits : Limits) (p : ScanPlace) (byte : ℕ) (w : ScanWork) (m : ScanReader) (now after : Picture) → w.whole ≡ false → AtWork limits p w now
+    → ((i : Interval) (bits : List Bool) → any_scan.stands w.machine i bits now → AfterBits any_scan i bits (bits_of 8 byte) came.Whole m after) → AtWork limits (with_byte p byte) (record w { machine = m; whole = true }) after
 due_whole limits p byte w m now after e k took =
     let d = due_at limits p w now e k in
     let i = d.interval in
@@ -121,7 +108,7 @@ due_whole limits p byte w m now after e k took =
     let t = took i (bits_of_bytes p.coded) d.stands in
     let front : List Bool = t.0 in
     let bits = bits_of_bytes p.coded ++ front in
-    let ends : EndsWhole SeqReader sequential i bits m after = t.4 in
+    let ends : EndsWhole ScanReader any_scan i bits m after = t.4 in
     let whole = ends.whole in
     let distinct = distinct_places limits p k.readable in
     let told : List ℤ = flat_map (λ q. band i.scan (block_at (map_of after) q)) i.places in
@@ -132,14 +119,14 @@ due_whole limits p byte w m now after e k took =
     let is_read : Read limits (with_byte p byte) m after = record {
       interval = i;
       is = record { scan = (d.is).scan; places = (d.is).places; later = (d.is).later };
-      fits = keeps_units.fits w.machine i (bits_of_bytes p.coded) now d.stands;
+      fits = scans_keep_units.fits w.machine i (bits_of_bytes p.coded) now d.stands;
       framed = whole.frame ∙ d.framed;
       completes = bits_complete limits p byte front t.1 told t.2 t.3 spelled;
       so_far = so_far_next s p.blocks (map_of i.before) (map_of after) p.done (p.coded ++ byte ∷ []) bits p.places p.later distinct d.so_far packs read;
       ready = ends.ready;
     } in
     record {
-      readable = record { plain = (k.readable).plain; distinct = (k.readable).distinct };
+      readable = record { distinct = (k.readable).distinct };
       at = is_read;
       turn = k.turn;
       due = k.due;
@@ -197,7 +184,7 @@ next_one limits p next others i now =
     record { scan = i.scan; places = next; later = joined others; before = now }
 
 pub next_ready : (limits : Limits) (bytes : List ℕ) (p : ScanPlace) (w : ScanWork) (now : Picture) → (b : NextBegins limits bytes p w now)
-    → SeqReady w.machine (next_one limits b.old b.next b.others (read_at limits b.old w now b.whole b.work).interval now)
+    → any_scan.ready w.machine (next_one limits b.old b.next b.others (read_at limits b.old w now b.whole b.work).interval now)
 next_ready limits bytes p w now b =
     let old = b.old in
     let r = read_at limits old w now b.whole b.work in
@@ -207,13 +194,9 @@ next_ready limits bytes p w now b =
     let follows : Follows i now j = record { scan = refl; before = refl; places = sym ((r.is).later ∙ ap joined b.due) } in
     let new = with_interval old b.next b.others in
     let so_far = subst (λ l. ScanSoFar (scan_at limits old) old.blocks (map_of now) (old.done ++ old.coded ∷ []) l) b.due r.so_far in
-    let readable : IsReadable limits new = record { plain = ((b.work).readable).plain; distinct = ((b.work).readable).distinct } in
+    let readable : IsReadable limits new = record { distinct = ((b.work).readable).distinct } in
     let is : IsInterval limits new j = record { scan = (r.is).scan; places = refl; later = refl } in
-    let fits : IsSequential j = record {
-      units = same_units limits new j readable is so_far ∙ sequential_units limits bytes new [] at ((b.work).readable).plain;
-      ss = (r.fits).ss;
-      se = (r.fits).se;
-    } in
+    let fits = interval_fits limits bytes new j at readable is so_far in
     r.ready j follows fits
 
 pub next_count : (limits : Limits) (bytes : List ℕ) (p : ScanPlace) (w : ScanWork) (now : Picture) → (b : NextBegins limits bytes p w now) → (length b.next ≡ min w.interval w.due) × (1 ≤ length b.next)
@@ -222,8 +205,8 @@ next_count limits bytes p w now b =
     let all : w.due ≡ length b.next + length (joined b.others) = (b.work).due ∙ ap (λ l. length (joined l)) b.due ∙ length-append b.next (joined b.others) in
     (k.1 ∙ ap (min w.interval) (sym all), k.0)
 
-pub next_work : (limits : Limits) (bytes : List ℕ) (p : ScanPlace) (w : ScanWork) (m : SeqReader) (now : Picture) → (b : NextBegins limits bytes p w now)
-    → ((i : Interval) → SeqReady w.machine i → length i.places ≡ min w.interval w.due → SeqStands m i [] i.before)
+pub next_work : (limits : Limits) (bytes : List ℕ) (p : ScanPlace) (w : ScanWork) (m : ScanReader) (now : Picture) → (b : NextBegins limits bytes p w now)
+    → ((i : Interval) → any_scan.ready w.machine i → length i.places ≡ min w.interval w.due → any_scan.stands m i [] i.before)
     → AtWork limits p (record w { machine = m; whole = false; due = w.due - min w.interval w.due; turn = (w.turn + 1) % 8 }) now
 next_work limits bytes p w m now b begun =
     let old = b.old in
@@ -243,7 +226,7 @@ next_work limits bytes p w m now b begun =
       so_far = subst (λ l. ScanSoFar s old.blocks (map_of now) (old.done ++ old.coded ∷ []) l) b.due r.so_far;
     } in
     let work : AtWork limits new new_w now = record {
-      readable = record { plain = ((b.work).readable).plain; distinct = ((b.work).readable).distinct };
+      readable = record { distinct = ((b.work).readable).distinct };
       at = due;
       turn = omega (arith, (b.work).turn, length-append old.done (old.coded ∷ []));
       due = omega (arith, all, c.0);

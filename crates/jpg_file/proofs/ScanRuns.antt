@@ -13,8 +13,8 @@ use Rattle.jpg_coefs.specs.Picture.{Picture}
 use Rattle.jpg_coefs.specs.Machine.{Chain, fault_of}
 use Rattle.jpg_coefs.specs.declared.machine.UnitFault.{UnitFault}
 use Rattle.jpg_coefs.proofs.Chains.{chain_stands}
-use Rattle.jpg_seq.specs.declared.reader.SeqReader.{SeqReader}
-use Rattle.jpg_seq.specs.Reader.{SeqStands, sequential}
+use Rattle.jpg_file.specs.declared.machine.ScanReader.{ScanReader}
+use Rattle.jpg_file.specs.Machine.{any_scan}
 use Rattle.jpg_file.specs.Data.{GivesBits, GivesRun}
 use Rattle.jpg_file.specs.declared.data.DataStep.{DataStep}
 use Rattle.jpg_file.specs.declared.data.DataStep.TheVariants as came
@@ -42,7 +42,7 @@ plain_at limits bytes p (b ∷ run) plain w =
     (subst (λ l. ScanAt limits ((bytes ++ b ∷ []) ++ run) (record p { coded = l }) []) (append_assoc p.coded (b ∷ []) run) others)
 
 -- THE MACHINE behind a chain of their bits
-due_chain : (limits : Limits) (p : ScanPlace) (run : List ℕ) (w : ScanWork) (m : SeqReader) (now after : Picture) → w.whole ≡ false → AtWork limits p w now → Chain sequential w.machine now (bits_of_bytes run) m after
+due_chain : (limits : Limits) (p : ScanPlace) (run : List ℕ) (w : ScanWork) (m : ScanReader) (now after : Picture) → w.whole ≡ false → AtWork limits p w now → Chain any_scan w.machine now (bits_of_bytes run) m after
     → AtWork limits (with_bytes p run) (record w { machine = m }) after
 due_chain limits p run w m now after e k chain =
     let d = due_at limits p w now e k in
@@ -50,11 +50,11 @@ due_chain limits p run w m now after e k chain =
       interval = d.interval;
       is = record { scan = (d.is).scan; places = (d.is).places; later = (d.is).later };
       framed = d.framed;
-      stands = subst (λ l. SeqStands m d.interval l after) (sym (bits_join p.coded run)) (chain_stands sequential w.machine m now after d.interval (bits_of_bytes p.coded) (bits_of_bytes run) chain d.stands);
+      stands = subst (λ l. any_scan.stands m d.interval l after) (sym (bits_join p.coded run)) (chain_stands any_scan w.machine m now after d.interval (bits_of_bytes p.coded) (bits_of_bytes run) chain d.stands);
       so_far = d.so_far;
     } in
     record {
-      readable = record { plain = (k.readable).plain; distinct = (k.readable).distinct };
+      readable = record { distinct = (k.readable).distinct };
       at = subst (λ b. AtInterval limits (with_bytes p run) b m after) (sym e) due;
       turn = k.turn;
       due = k.due;
@@ -100,10 +100,10 @@ open_at : (limits : Limits) (items : List Item) (contents bytes : List ℕ) (s :
 open_at limits items contents bytes s now d e = subst (λ n. ScanAt limits bytes d.place (replicate n 255)) (none_waits s.gate d.fill e d.waits) d.at
 
 -- THE STATE before the last of the bytes
-abbrev pub mid_of : InScan → SeqReader → InScan
+abbrev pub mid_of : InScan → ScanReader → InScan
 mid_of s m = record s { work = record (s.work) { machine = m } }
 
-before_last : (s : InScan) (m : SeqReader) (now between : Picture) (run : List ℕ) (early : ℕ) → s.gate ≡ false → s.work.whole ≡ false → early ≤ length run → ArePlain run → Chain sequential s.work.machine now (bits_of_bytes (take early run)) m between
+before_last : (s : InScan) (m : ScanReader) (now between : Picture) (run : List ℕ) (early : ℕ) → s.gate ≡ false → s.work.whole ≡ false → early ≤ length run → ArePlain run → Chain any_scan s.work.machine now (bits_of_bytes (take early run)) m between
     → (limits : Limits) (items : List Item) (contents bytes : List ℕ) → InData limits items contents bytes s now → InData limits items contents (bytes ++ take early run) (mid_of s m) between
 before_last s m now between run early gate whole few plain chain limits items contents bytes d =
     record {
@@ -116,26 +116,26 @@ before_last s m now between run early gate whole few plain chain limits items co
     }
 
 -- THE LAST of them
-pub last_more : (s : InScan) (m : SeqReader) (now after : Picture) (byte : ℕ) → s.gate ≡ false → s.work.whole ≡ false → (byte ≡ 255 → ⊥) → GivesBits sequential s.work.machine now (bits_of 8 byte) came.More m after
+pub last_more : (s : InScan) (m : ScanReader) (now after : Picture) (byte : ℕ) → s.gate ≡ false → s.work.whole ≡ false → (byte ≡ 255 → ⊥) → GivesBits any_scan s.work.machine now (bits_of 8 byte) came.More m after
     → TakesScanByte s now byte step.More (mid_of s m) after
 last_more s m now after byte gate whole plain took limits items contents bytes d =
     data_byte limits items contents (bytes ++ byte ∷ []) (with_byte d.place byte) s.gate (record (s.work) { machine = m }) after step.More d.of (plain_data limits bytes d.place byte (open_at limits items contents bytes s now d gate) plain) gate
     (due_more limits d.place byte s.work m now after whole d.work took)
 
-pub last_whole : (s : InScan) (m : SeqReader) (now after : Picture) (byte : ℕ) → s.gate ≡ false → s.work.whole ≡ false → (byte ≡ 255 → ⊥) → GivesBits sequential s.work.machine now (bits_of 8 byte) came.Whole m after
+pub last_whole : (s : InScan) (m : ScanReader) (now after : Picture) (byte : ℕ) → s.gate ≡ false → s.work.whole ≡ false → (byte ≡ 255 → ⊥) → GivesBits any_scan s.work.machine now (bits_of 8 byte) came.Whole m after
     → TakesScanByte s now byte step.More (record s { work = record (s.work) { machine = m; whole = true } }) after
 last_whole s m now after byte gate whole plain took limits items contents bytes d =
     data_byte limits items contents (bytes ++ byte ∷ []) (with_byte d.place byte) s.gate (record (s.work) { machine = m; whole = true }) after step.More d.of (plain_data limits bytes d.place byte (open_at limits items contents bytes s now d gate) plain) gate
     (due_whole limits d.place byte s.work m now after whole d.work took)
 
-pub last_fault : (s new : InScan) (m : SeqReader) (now after : Picture) (byte : ℕ) (f : UnitFault) → s.gate ≡ false → s.work.whole ≡ false → (byte ≡ 255 → ⊥) → GivesBits sequential s.work.machine now (bits_of 8 byte) (came.Fault f) m after
+pub last_fault : (s new : InScan) (m : ScanReader) (now after : Picture) (byte : ℕ) (f : UnitFault) → s.gate ≡ false → s.work.whole ≡ false → (byte ≡ 255 → ⊥) → GivesBits any_scan s.work.machine now (bits_of 8 byte) (came.Fault f) m after
     → TakesScanByte s now byte (step.Fault (fault_of f)) new after
 last_fault s new m now after byte f gate whole plain took limits items contents bytes d =
     due_fault limits (bytes ++ byte ∷ []) d.place byte s.work m now after f (plain_data limits bytes d.place byte (open_at limits items contents bytes s now d gate) plain) whole d.work took
 
 -- THE WHOLE RUN
-pub run_takes : (s new : InScan) (m : SeqReader) (now after : Picture) (run : List ℕ) (n : ℕ) (came_to : DataStep) (answer : ScanStep) → s.gate ≡ false → s.work.whole ≡ false → ArePlain run
-    → (g : GivesRun SeqReader sequential s.work.machine now run n came_to m after) → TakesScanByte (mid_of s g.mid) g.between (get_or run g.early 0) answer new after → TakesRun s now run n answer new after
+pub run_takes : (s new : InScan) (m : ScanReader) (now after : Picture) (run : List ℕ) (n : ℕ) (came_to : DataStep) (answer : ScanStep) → s.gate ≡ false → s.work.whole ≡ false → ArePlain run
+    → (g : GivesRun ScanReader any_scan s.work.machine now run n came_to m after) → TakesScanByte (mid_of s g.mid) g.between (get_or run g.early 0) answer new after → TakesRun s now run n answer new after
 run_takes s new m now after run n came_to answer gate whole plain g last = record {
   mid = mid_of s g.mid;
   between = g.between;

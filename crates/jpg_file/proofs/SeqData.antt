@@ -1,11 +1,11 @@
 -- The data of a sequential scan, by the typical tables and by a set that has them.
-use Rattle.std.proofs.Common.{◌≡◌, ℕ, zero, suc, ◌<◌, Bool, true, false, cond, List, [], ◌∷◌, length, refl, sym, ap, ◌∙◌, arith, pos, ℤ, ◌*◌, ◌++◌, ◌&&◌}
-use Rattle.std.specs.Prelude.{map, flat_map, nat_lt}
+use Rattle.std.proofs.Common.{◌≡◌, ℕ, ◌<◌, Bool, true, false, cond, List, [], ◌∷◌, length, refl, sym, ap, ◌∙◌, arith, pos, ℤ, ◌*◌, ◌++◌, ◌&&◌}
+use Rattle.std.specs.Prelude.{map, flat_map}
 use Rattle.std.proofs.Math.Path.{fun_ext}
 use Rattle.jpg_spec.specs.Bits.{data_of, stuffed}
 use Rattle.jpg_spec.specs.Elements.{zeros}
 use Rattle.jpg_spec.specs.Geometry.{Frame, is_progressive, is_real, mcu_units, units}
-use Rattle.jpg_spec.specs.Lists.{chunks, is_among}
+use Rattle.jpg_spec.specs.Lists.{chunks}
 use Rattle.jpg_spec.specs.FileText.{frame_of_meaning}
 use Rattle.jpg_spec.specs.Meaning.{Meaning, real_blocks}
 use Rattle.jpg_spec.specs.Segments.{HuffmanTable, ScanHead, head_components}

@@ -1,11 +1,11 @@
 -- The header of a sequential scan.
-use Rattle.std.proofs.Common.{◌≡◌, ℕ, zero, suc, ◌<◌, ◌≤◌, Bool, true, false, cond, List, [], ◌∷◌, length, get_or, Some, refl, sym, ap, ◌∙◌, subst, arith, lit<, lit≤, ◌==◌, ◌&&◌}
+use Rattle.std.proofs.Common.{◌≡◌, ℕ, zero, suc, ◌<◌, Bool, true, false, cond, List, [], ◌∷◌, length, get_or, refl, sym, ap, ◌∙◌, subst, arith, lit<, lit≤, ◌==◌, ◌&&◌}
 use Rattle.std.specs.Prelude.{map, ◌||◌, slice_index_or}
 use Rattle.std.specs.List.{All}
 use Rattle.std.proofs.lemmas.List.{length-map}
 use Rattle.std.proofs.lemmas.List.Elements.{All-nil, All-cons, All-head, All-tail}
 use Rattle.jpg_spec.specs.Lists.{is_distinct}
-use Rattle.jpg_spec.specs.FileText.{has_chroma, slot_for}
+use Rattle.jpg_spec.specs.FileText.{has_chroma}
 use Rattle.jpg_spec.specs.Geometry.{Frame, no_component, component_at}
 use Rattle.jpg_spec.specs.FrameHeader.{identifiers}
 use Rattle.jpg_spec.specs.Segments.{head_components}

@@ -1,15 +1,13 @@
 -- The colours of a picture are some that its components may have.
-use Rattle.std.proofs.Common.{◌≡◌, [], ◌∷◌, ℕ, zero, suc, ◌≤◌, ◌<◌, Bool, true, false, ◌==◌, if◌then◌else◌, List, length, map, Option, None, Some, subst, sym, refl, ap, ◌∙◌, arith, slice_index_or}
-use Rattle.std.proofs.lemmas.Bool.Decides.{nat_tests}
-use Rattle.std.proofs.lemmas.Bool.{eqb-true}
+use Rattle.std.proofs.Common.{◌≡◌, [], ◌∷◌, ℕ, zero, suc, ◌≤◌, ◌<◌, Bool, true, false, if◌then◌else◌, List, length, map, Option, subst, sym, refl, ap, ◌∙◌, arith, slice_index_or}
 use Rattle.std.proofs.lemmas.List.{length-map}
 use Rattle.jpg_spec.specs.Lists.{below, are_equal}
 use Rattle.jpg_spec.proofs.Common.{length_below}
-use Rattle.jpg_spec.specs.Colours.{is_some_zero, is_some_number, three_colours, four_colours, colours_of}
+use Rattle.jpg_spec.specs.Colours.{is_some_zero, is_some_number, colours_of}
 use Rattle.jpg_spec.specs.FrameHeader.{IsFrame}
 use Rattle.jpg_spec.specs.Jfif.{jfif_of, adobe_transform}
 use Rattle.jpg_spec.specs.Meaning.{colour_of}
-use Rattle.jpg_spec.specs.declared.frame.Colour.TheVariants.{YCbCr, Rgb, Cmyk, Ycck, Unknown}
+use Rattle.jpg_spec.specs.declared.frame.Colour.TheVariants.{YCbCr, Rgb, Cmyk, Ycck}
 use Rattle.jpg_file.specs.PictureRead.{IsPicture, IsQuantTable, picture_meaning, component_told}
 use Rattle.jpg_file.specs.StripHead.{IsStripHead, may_have}
 use Rattle.jpg_file.specs.declared.strip_head.StripHead.{StripHead}

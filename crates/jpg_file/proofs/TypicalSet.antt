@@ -1,5 +1,5 @@
 -- The set of the four typical tables.
-use Rattle.std.proofs.Common.{◌≡◌, ℕ, zero, suc, ◌<◌, ◌≤◌, Bool, true, false, cond, List, length, Option, Some, refl, sym, ap, ◌∙◌, arith, lit≤, ◌==◌}
+use Rattle.std.proofs.Common.{◌≡◌, ℕ, zero, suc, ◌<◌, ◌≤◌, Bool, true, false, cond, List, length, Option, Some, refl, ap, ◌∙◌, arith, lit≤, ◌==◌}
 use Rattle.std.specs.Prelude.{slice_set}
 use Rattle.std.specs.Option.{option_map}
 use Rattle.jpg_spec.specs.Segments.{HuffmanTable}

@@ -1,15 +1,15 @@
 -- The text of a sequential file, scan by scan.
-use Rattle.std.proofs.Common.{◌≡◌, ℕ, ◌+◌, ◌<◌, Bool, true, false, List, [], ◌∷◌, ◌++◌, length, drop, None, Some, refl, sym, ap, ◌∙◌, subst, arith, pos, ◌&&◌}
-use Rattle.std.specs.Prelude.{map, zip, replicate, slice_get}
+use Rattle.std.proofs.Common.{◌≡◌, ℕ, ◌+◌, ◌<◌, true, false, List, [], ◌∷◌, ◌++◌, length, drop, None, Some, refl, sym, ap, ◌∙◌, subst, arith, pos}
+use Rattle.std.specs.Prelude.{map, replicate, slice_get}
 use Rattle.std.specs.List.{All}
 use Rattle.std.proofs.lemmas.List.{append_assoc, append-nil}
 use Rattle.std.proofs.lemmas.List.Elements.{All-nil, All-cons, All-get_or}
 use Rattle.std.proofs.lemmas.Option.{get_or_from_slice_get, slice_get_within}
-use Rattle.jpg_spec.specs.FileText.{file_text, frame_of_meaning, front_text, head_text, nothing_written, off, scans_text, segment_text, tables_given, tables_text, distinct_quants, slot_in}
+use Rattle.jpg_spec.specs.FileText.{file_text, frame_of_meaning, front_text, nothing_written, off, scans_text, segment_text, tables_given, tables_text, distinct_quants, slot_in}
 use Rattle.jpg_spec.specs.FrameHeader.{identifiers}
 use Rattle.jpg_spec.specs.Geometry.{Frame, is_progressive, units}
 use Rattle.jpg_spec.specs.Markers.{eoi}
-use Rattle.jpg_spec.specs.Meaning.{Meaning, PictureComponent, colour_of, real_blocks}
+use Rattle.jpg_spec.specs.Meaning.{Meaning, PictureComponent, colour_of}
 use Rattle.jpg_spec.specs.Moved.{Grids, frame_grids}
 use Rattle.jpg_spec.specs.Scan.{Blocks, TablesInForce}
 use Rattle.jpg_spec.specs.ScanText.{scan_data, scan_elements, typical_table, units_due}
@@ -19,9 +19,8 @@ use Rattle.jpg_spec.specs.WrittenFile.{is_script_behind, is_sequential_entry}
 use Rattle.jpg_spec.specs.declared.frame.Colour.{Colour}
 use Rattle.jpg_spec.specs.declared.frame.Component.{Component}
 use Rattle.jpg_spec.proofs.PlacedBlocks.{Each, each_all}
-use Rattle.jpg_spec.proofs.WrittenSequential.{IsEntry, entry_is, plain_components, plain_data, scans_are}
+use Rattle.jpg_spec.proofs.WrittenSequential.{entry_is, plain_components, plain_data, scans_are}
 use Rattle.jpg_spec.proofs.Common.{both}
-use Rattle.jpg_base.specs.Cursor.{AreIn}
 use Rattle.jpg_markers.specs.OutHead.{head_meaning, with_tables}
 use Rattle.jpg_markers.proofs.Distinct.{left_at}
 use Rattle.jpg_file.specs.WriteTables.{given_in, tables_due}

@@ -11,9 +11,10 @@ use Rattle.jpg_spec.specs.Items.{Item, segments_of, contents_rule}
 use Rattle.jpg_spec.specs.declared.frame.Limits.{Limits}
 use Rattle.jpg_coefs.specs.Picture.{Picture, map_of}
 use Rattle.jpg_huff.specs.declared.set.TableSet.{TableSet}
-use Rattle.jpg_seq.specs.NewReader.{IsSeqScan, in_force}
+use Rattle.jpg_seq.specs.NewReader.{in_force}
 use Rattle.jpg_file.specs.InData.{InData}
 use Rattle.jpg_file.specs.Items.{IsBeside}
+use Rattle.jpg_file.specs.NewScan.{IsScanHeader}
 use Rattle.jpg_file.specs.declared.scan.InScan.{InScan}
 
 -- the header as it is held: the frame, the header, the tables and the restart interval in force, the picture so far
@@ -22,7 +23,7 @@ pub record HeadHeld (limits : Limits) (items : List Item) (blocks : Blocks) (con
   pub header : head_in f contents ≡ head
   pub is_frame : IsFrame f
   pub is_head : IsHead f head
-  pub sequential : IsSeqScan f head set
+  pub scan_header : IsScanHeader f head set
   pub codings : scan_coding f (in_force set) head ≡ scan_coding f (huffman_in_force (segments_of items)) head
   pub restart : interval ≡ restart_in_force (segments_of items)
   pub pictured : now.frame ≡ f

@@ -1,14 +1,16 @@
--- Which components were in a scan, and the quantisation table of each at its first one (T.81, B.2.3, B.2.4.1, G.1.1.1).
-use Rattle.std.specs.Prelude.{◌≡◌, ℕ, ◌<◌, Bool, true, false, is_none, if◌then◌else◌, List, map, slice_index_or, Option, None}
-use Rattle.jpg_spec.specs.Lists.{is_among}
+-- Which scans there were, and the quantisation table of each component at its first one (T.81, B.2.3, B.2.4.1, G.1.1.1).
+use Rattle.std.specs.Prelude.{◌≡◌, ℕ, ◌<◌, ◌≤◌, Bool, true, false, is_none, if◌then◌else◌, List, [], length, map, Option, Some, None}
+use Rattle.jpg_spec.specs.Lists.{all_of, below, is_among}
 use Rattle.jpg_spec.specs.Geometry.{Frame, component_at}
-use Rattle.jpg_spec.specs.Segments.{QuantTable}
+use Rattle.jpg_spec.specs.Segments.{QuantTable, ScanHead}
 use Rattle.jpg_spec.specs.QuantContents.{Slots, quant_in}
-use Rattle.jpg_spec.specs.Markers.{Segment}
+use Rattle.jpg_spec.specs.Markers.{Segment, has_frame}
 use Rattle.jpg_spec.specs.InForce.{frame_of, heads_of}
-use Rattle.jpg_spec.specs.History.{has_begun, quant_of}
+use Rattle.jpg_spec.specs.History.{has_begun, is_same_table, quant_of}
 use Rattle.jpg_spec.specs.declared.frame.Limits.{Limits}
 use Rattle.jpg_spec.specs.declared.frame.ScanPart.{ScanPart}
+use Rattle.jpg_scans.specs.Progress.{StandsForScans}
+use Rattle.jpg_scans.specs.declared.progress.Progress.{Progress}
 use Rattle.jpg_file.specs.declared.begun.Begun.{Begun}
 
 -- the table in force for a component, where it is named
@@ -19,10 +21,21 @@ quant_if f slots named i = if named then quant_in slots (component_at f i).quant
 abbrev pub quant_named : Frame → Slots → List ScanPart → ℕ → Option QuantTable
 quant_named f slots parts i = quant_if f slots (is_among i (map (λ p. p.component) parts)) i
 
-abbrev pub begun_at : Begun → ℕ → Bool
-begun_at b i = slice_index_or b.seen i false
+-- the table in force for a component is the one that is kept for it, where one is kept
+abbrev pub is_same_kept : Slots → Frame → Slots → ℕ → Bool
+is_same_kept kept f slots i = is_same_table (quant_in kept i) (quant_in slots (component_at f i).quant)
+
+-- The scans of a frame so far had these heads, the newest first. There is no history before the first one.
+abbrev pub StandsForHeads : Option Progress → Frame → List ScanHead → Type 0
+StandsForHeads None f heads = heads ≡ []
+StandsForHeads (Some p) f heads = StandsForScans p f heads
+
+-- whether each component of a frame was in a scan, whatever scans of whatever frame there were
+abbrev pub IsComplete : Option Progress → Bool → Type 0
+IsComplete o all = (f : Frame) (heads : List ScanHead) → 1 ≤ length f.components → StandsForHeads o f heads → all ≡ all_of (has_begun heads) (below (length f.components))
 
 pub record HasBegun (limits : Limits) (b : Begun) (before : List Segment) : Type 0 where
-  pub four : (i : ℕ) → i < 4 → begun_at b i ≡ has_begun (heads_of (frame_of limits before) before) i
+  pub scans : StandsForHeads b.progress (frame_of limits before) (heads_of (frame_of limits before) before)
+  pub framed : is_none b.progress ≡ false → has_frame before ≡ true
   pub quants : (i : ℕ) → i < 4 → quant_in b.quants i ≡ quant_of (frame_of limits before) before i
-  pub there : (i : ℕ) → begun_at b i ≡ true → is_none (quant_in b.quants i) ≡ false
+  pub there : (i : ℕ) → i < 4 → has_begun (heads_of (frame_of limits before) before) i ≡ true → is_none (quant_in b.quants i) ≡ false

@@ -1,6 +1,6 @@
 -- A whole file in work: what it stands for, and what a further byte comes to (T.81, B.2.1).
 use Rattle.std.specs.Prelude.{◌≡◌, ◌⊎◌, ℕ, ◌≤◌, true, false, List, [], ◌∷◌, ◌++◌, length, take, slice_index, IfErr, ◌+◌, ◌<◌, Option, Some, None, Result, Ok, Err, Bool}
-use Rattle.jpg_spec.specs.Geometry.{Frame, is_progressive}
+use Rattle.jpg_spec.specs.Geometry.{Frame}
 use Rattle.jpg_spec.specs.FrameHeader.{IsFrame}
 use Rattle.jpg_spec.specs.Scan.{Blocks}
 use Rattle.jpg_spec.specs.Markers.{has_frame, has_scan}
@@ -10,7 +10,6 @@ use Rattle.jpg_spec.specs.FileMeaning.{no_blocks}
 use Rattle.jpg_spec.specs.FirstFault.{Shows}
 use Rattle.jpg_spec.specs.Laws.{frame_of_items}
 use Rattle.jpg_spec.specs.declared.answers.FaultAt.{FaultAt}
-use Rattle.jpg_spec.specs.declared.fault.Fault.TheVariants.{NotBuilt}
 use Rattle.jpg_spec.specs.declared.frame.Limits.{Limits}
 use Rattle.jpg_base.specs.declared.names.NoMemory.{NoMemory}
 use Rattle.jpg_base.specs.declared.stop.Stop.{Stop}
@@ -21,7 +20,7 @@ use Rattle.jpg_file.specs.Begun.{HasBegun}
 use Rattle.jpg_file.specs.FirstHead.{HasHead, head_told}
 use Rattle.jpg_file.specs.Held.{told_by}
 use Rattle.jpg_file.specs.declared.head.Head.{Head}
-use Rattle.jpg_file.specs.Items.{BetweenItems, BehindSegment, BehindEnd, EndsProgressive}
+use Rattle.jpg_file.specs.Items.{BetweenItems, BehindSegment, BehindEnd}
 use Rattle.jpg_file.specs.Reading.{Scanning}
 use Rattle.jpg_file.specs.declared.items.ItemStep.{ItemStep}
 use Rattle.jpg_file.specs.declared.items.ItemStep.TheVariants as step
@@ -39,7 +38,6 @@ PictureSoFar limits items blocks (Some q) = (has_frame (segments_of items) ≡ t
 pub record BesideItems (limits : Limits) (bytes : List ℕ) (items : List Item) (blocks : Blocks) (w : FileWork) : Type 0 where
   pub picture : PictureSoFar limits items blocks w.reading.coefs
   pub begun : HasBegun limits w.begun (segments_of items)
-  pub plain : is_progressive (frame_of_items limits items).process ≡ false
   pub none : w.reading.scan ≡ None
   pub count : w.reading.taken ≡ length bytes
   pub same : (reading_of (w.reading.items).segments).taken ≡ w.reading.taken
@@ -59,7 +57,6 @@ pub record StandsInside (limits : Limits) (bytes : List ℕ) (w : FileWork) : Ty
   pub contents : List ℕ
   pub at : Scanning limits items contents bytes w.reading
   pub begun : HasBegun limits w.begun ((0xda, contents) ∷ segments_of items)
-  pub plain : is_progressive (frame_of_items limits items).process ≡ false
   pub within : length bytes ≤ limits.input
   pub head : HasHead limits bytes ((0xda, contents) ∷ segments_of items) w.head
 
@@ -92,13 +89,12 @@ abbrev pub AfterFileStep : Limits → List ℕ → ItemStep → FileWork → Typ
 AfterFileStep limits bytes step.More w = Stands limits bytes w
 AfterFileStep limits bytes step.Head w = HeadStands limits bytes w
 AfterFileStep limits bytes step.Eoi w = EndStands limits bytes w
-AfterFileStep limits bytes step.Progressive w = EndsProgressive limits bytes × (w.reading.taken ≡ length bytes)
 AfterFileStep limits bytes (step.Fault f) w = Shows limits f.fault bytes × (f.at ≡ length bytes)
 AfterFileStep limits bytes step.NoMemory w = Unit {0}
 
--- the bytes show a fault with their last one, or end the header of a progressive frame, which isn't read yet
+-- the bytes show a fault with their last one
 abbrev pub IsStop : Limits → List ℕ → FaultAt → Type 0
-IsStop limits bytes f = (f.at ≡ length bytes) × (Shows limits f.fault bytes ⊎ ((f.fault ≡ NotBuilt) × EndsProgressive limits bytes))
+IsStop limits bytes f = (f.at ≡ length bytes) × Shows limits f.fault bytes
 
 abbrev pub AfterFileByte : Limits → List ℕ → Result Bool Stop → FileWork → Type 0
 AfterFileByte limits bytes (Ok false) w = Stands limits bytes w

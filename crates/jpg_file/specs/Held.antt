@@ -1,11 +1,14 @@
 -- What a reader of a file keeps of the segments so far.
-use Rattle.std.specs.Prelude.{◌≡◌, ℕ, Bool, false, List, [], ◌∷◌, length, reverse, Option, Some, None, find, is_none, ◌||◌}
+use Rattle.std.specs.Prelude.{◌≡◌, ℕ, Bool, List, ◌∷◌, length, reverse, Option, Some, None, find, is_none, ◌&&◌, ◌||◌}
+use Rattle.jpg_spec.specs.Lists.{any_of}
 use Rattle.jpg_spec.specs.Geometry.{Frame, component_at}
+use Rattle.jpg_spec.specs.Segments.{ScanHead}
 use Rattle.jpg_spec.specs.Jfif.{is_jfif, jfif_told}
 use Rattle.jpg_spec.specs.HuffContents.{HuffmanSlots, huffman_in}
 use Rattle.jpg_spec.specs.QuantContents.{Slots, quant_in}
 use Rattle.jpg_spec.specs.Markers.{Segment, has_scan, kept_after, kept_rule}
 use Rattle.jpg_spec.specs.InForce.{frame_after, huffman_in_force, quant_in_force, restart_in_force}
+use Rattle.jpg_spec.specs.History.{needs_ac_table, needs_dc_table}
 use Rattle.jpg_spec.specs.Items.{contents_rule}
 use Rattle.jpg_spec.specs.declared.frame.Limits.{Limits}
 use Rattle.jpg_spec.specs.declared.frame.ScanPart.{ScanPart}
@@ -42,13 +45,15 @@ pub record Holds (limits : Limits) (h : HeldTold) (before : List Segment) : Type
   pub kept : h.kept ≡ reverse (kept_after before)
   pub jfif : h.jfif ≡ jfif_told (find is_jfif (kept_after before))
 
--- a part of a sequential scan whose tables aren't all there, the quantisation table in this slot
-abbrev pub lacks_part : HeldTold → ℕ → ScanPart → Bool
-lacks_part h quant p = is_none (quant_in h.quants quant) || (is_none (huffman_in h.tables.dc p.dc) || is_none (huffman_in h.tables.ac p.ac))
+-- a part of a scan whose tables aren't all there
+abbrev pub lacks_part : HeldTold → Frame → ScanHead → ScanPart → Bool
+lacks_part h f head p =
+    is_none (quant_in h.quants (component_at f p.component).quant)
+    || (needs_dc_table f head && is_none (huffman_in h.tables.dc p.dc) || needs_ac_table f head && is_none (huffman_in h.tables.ac p.ac))
 
-abbrev pub lacks_any : HeldTold → Frame → List ScanPart → Bool
-lacks_any h f [] = false
-lacks_any h f (p ∷ parts) = lacks_part h (component_at f p.component).quant p || lacks_any h f parts
+-- a scan that needs a table which isn't there
+abbrev pub lacks_any : HeldTold → Frame → ScanHead → Bool
+lacks_any h f head = any_of (lacks_part h f head) head.parts
 
 -- a further segment, and what it made of the header
 abbrev pub Takes : Limits → List Segment → ℕ → List ℕ → Took → HeldTold → Type 0

@@ -2,7 +2,7 @@
 use Rattle.std.specs.Prelude.{◌≡◌, ℕ, suc, ◌+◌, ◌%◌, ◌≤◌, min, Bool, true, false, List, [], ◌∷◌, ◌++◌, ◌<◌, length, replicate, slice_index, take}
 use Rattle.jpg_spec.specs.Bits.{bits_of_bytes}
 use Rattle.jpg_spec.specs.Lists.{is_distinct, joined}
-use Rattle.jpg_spec.specs.Geometry.{Frame, is_progressive}
+use Rattle.jpg_spec.specs.Geometry.{Frame}
 use Rattle.jpg_spec.specs.Segments.{head_components}
 use Rattle.jpg_spec.specs.Scan.{ScanMeans}
 use Rattle.jpg_spec.specs.Markers.{SpellsMarker}
@@ -15,8 +15,8 @@ use Rattle.jpg_spec.specs.declared.frame.Limits.{Limits}
 use Rattle.jpg_spec.specs.declared.frame.Place.{Place}
 use Rattle.jpg_coefs.specs.Picture.{Picture, map_of}
 use Rattle.jpg_coefs.specs.Machine.{Interval, Kind, Follows}
-use Rattle.jpg_seq.specs.declared.reader.SeqReader.{SeqReader}
-use Rattle.jpg_seq.specs.Reader.{sequential}
+use Rattle.jpg_file.specs.Machine.{any_scan}
+use Rattle.jpg_file.specs.declared.machine.ScanReader.{ScanReader}
 use Rattle.jpg_file.specs.declared.scan.ScanWork.{ScanWork}
 use Rattle.jpg_file.specs.declared.scan.InScan.{InScan}
 use Rattle.jpg_file.specs.declared.scan.ScanStep.{ScanStep}
@@ -26,9 +26,8 @@ use Rattle.jpg_file.specs.declared.scan.ScanStep.TheVariants.{More, Marker, Faul
 abbrev pub frame_at : Limits → ScanPlace → Frame
 frame_at limits p = frame_of limits (segments_of p.items)
 
--- What holds of a scan from its header on: a sequential scan of components that are distinct.
+-- What holds of a scan from its header on: its components are distinct.
 pub record IsReadable (limits : Limits) (p : ScanPlace) : Type 0 where
-  pub plain : is_progressive (frame_at limits p).process ≡ false
   pub distinct : is_distinct (head_components (head_in (frame_at limits p) p.contents)) ≡ true
 
 -- the interval in work as its machine reads it
@@ -55,9 +54,9 @@ pub record IsRead (M : Type 0) (k : Kind M) (limits : Limits) (p : ScanPlace) (m
   pub so_far : ScanSoFar (scan_at limits p) p.blocks (map_of now) (p.done ++ p.coded ∷ []) p.later
   pub ready : (j : Interval) → Follows interval now j → k.fits j → k.ready m j
 
-abbrev pub AtInterval : Limits → ScanPlace → Bool → SeqReader → Picture → Type 0
-AtInterval limits p false m now = IsDue SeqReader sequential limits p m now
-AtInterval limits p true m now = IsRead SeqReader sequential limits p m now
+abbrev pub AtInterval : Limits → ScanPlace → Bool → ScanReader → Picture → Type 0
+AtInterval limits p false m now = IsDue ScanReader any_scan limits p m now
+AtInterval limits p true m now = IsRead ScanReader any_scan limits p m now
 
 -- the intervals behind: each has n units, and the last one what is left
 abbrev pub AreIntervals : ℕ → List (List Place) → Type 0

@@ -14,7 +14,7 @@ use Rattle.jpg_file.specs.Held.{Holds, told_by}
 use Rattle.jpg_file.specs.InData.{Ended}
 use Rattle.jpg_file.specs.declared.items.Items.{Items}
 use Rattle.jpg_file.specs.declared.items.ItemStep.{ItemStep}
-use Rattle.jpg_file.specs.declared.items.ItemStep.TheVariants.{More, Head, Eoi, Progressive, Fault, NoMemory}
+use Rattle.jpg_file.specs.declared.items.ItemStep.TheVariants.{More, Head, Eoi, Fault, NoMemory}
 
 -- before SOI is whole
 pub record IsStart (bytes sent : List ℕ) (items : List Item) (blocks : Blocks) : Type 0 where
@@ -62,27 +62,14 @@ pub record BehindEnd (limits : Limits) (bytes : List ℕ) (items : List Item) (b
   pub allowed : code_fault (segments_of items) 0xd9 ≡ None
   pub holds : Holds limits (told_by w.held) (segments_of items)
 
--- The bytes end with the header of a progressive frame, behind items that break no rule; nor does it.
-pub record EndsProgressive (limits : Limits) (bytes : List ℕ) : Type 0 where
-  pub items : List Item
-  pub blocks : Blocks
-  pub contents : List ℕ
-  pub spelled : SpellsFront (segment 0xc2 contents ∷ items) bytes
-  pub leads : Leads limits (segment 0xc2 contents ∷ items) blocks
-
--- No first bytes of these do.
-abbrev pub NoneProgressive : Limits → List ℕ → Type 0
-NoneProgressive limits bytes = (n : ℕ) → EndsProgressive limits (take n bytes) → ⊥
-
--- no item more, or one that is neither a scan nor the header of a progressive frame
+-- no item more, or one that is no scan
 abbrev pub AddsNoScan : List Item → List Item → Type 0
-AddsNoScan items new = (new ≡ items) ⊎ ((code : ℕ) × (contents : List ℕ) × (new ≡ segment code contents ∷ items) × (code ≡ 0xda → ⊥) × (code ≡ 0xc2 → ⊥))
+AddsNoScan items new = (new ≡ items) ⊎ ((code : ℕ) × (contents : List ℕ) × (new ≡ segment code contents ∷ items) × (code ≡ 0xda → ⊥))
 
 abbrev pub AfterItem : Limits → List ℕ → List Item → Blocks → ItemStep → Items → Type 0
 AfterItem limits bytes items blocks More w = (new : List Item) × AddsNoScan items new × BetweenItems limits bytes new blocks w
 AfterItem limits bytes items blocks Head w = BehindSegment limits bytes items blocks w × ((reading_of w.segments).code ≡ 0xda)
 AfterItem limits bytes items blocks Eoi w = BehindEnd limits bytes items blocks w
-AfterItem limits bytes items blocks Progressive w = EndsProgressive limits bytes
 AfterItem limits bytes items blocks (Fault f) w = Shows limits f.fault bytes × (f.at ≡ (reading_of w.segments).taken)
 AfterItem limits bytes items blocks NoMemory w = Unit {0}
 

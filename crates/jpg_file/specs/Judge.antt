@@ -12,11 +12,12 @@ use Rattle.jpg_file.specs.Begun.{HasBegun}
 use Rattle.jpg_file.specs.Held.{HeldTold, Holds, lacks_any}
 use Rattle.jpg_file.specs.declared.begun.Begun.{Begun}
 
+-- a head that breaks no rule, and none of the tables that its scan needs is lacking, or the first fault
 abbrev pub Judged : Limits → List Segment → List ℕ → Frame → HeldTold → Result ScanHead Fault → Type 0
-Judged limits before contents f h (Ok head) = (contents_rule limits before 0xda contents ≡ None) × (scan_header f contents ≡ Ok head) × IsHead f head × (lacks_any h f head.parts ≡ false)
+Judged limits before contents f h (Ok head) = (contents_rule limits before 0xda contents ≡ None) × (scan_header f contents ≡ Ok head) × IsHead f head × (lacks_any h f head ≡ false)
 Judged limits before contents f h (Err fault) = contents_rule limits before 0xda contents ≡ Some fault
 
--- whatever segments told what is held, and which components were in a scan
+-- whatever segments told what is held, and which scans there were
 abbrev pub JudgesHead : List ℕ → Frame → HeldTold → Begun → Result ScanHead Fault → Type 0
 JudgesHead contents f h b answer =
     (limits : Limits) (before : List Segment) → frame_of limits before ≡ f → Holds limits h before → HasBegun limits b before → Judged limits before contents f h answer

@@ -1,4 +1,6 @@
 pub mod Data
+pub mod Machine
+pub mod NewScan
 pub mod InData
 pub mod Held
 pub mod Items

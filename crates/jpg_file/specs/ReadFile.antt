@@ -3,10 +3,9 @@ use Rattle.std.specs.Prelude.{◌≡◌, ◌⊎◌, ℕ, ◌<◌, ◌≤◌, Boo
 use Rattle.jpg_spec.specs.Geometry.{Frame}
 use Rattle.jpg_spec.specs.FrameHeader.{AreLimits}
 use Rattle.jpg_spec.specs.Meaning.{Meaning}
-use Rattle.jpg_spec.specs.FirstFault.{IsFirstFault, ShowsNone}
+use Rattle.jpg_spec.specs.FirstFault.{IsFirstFault}
 use Rattle.jpg_spec.specs.FileStands.{FileStands, IsWholeFile}
 use Rattle.jpg_spec.specs.declared.answers.FaultAt.{FaultAt}
-use Rattle.jpg_spec.specs.declared.fault.Fault.TheVariants.{NotBuilt}
 use Rattle.jpg_spec.specs.declared.frame.Colour.{Colour}
 use Rattle.jpg_spec.specs.declared.frame.Limits.{Limits}
 use Rattle.jpg_base.specs.declared.stop.Fed.{Fed}
@@ -14,9 +13,8 @@ use Rattle.jpg_base.specs.declared.stop.Fed.TheVariants as fed
 use Rattle.jpg_base.specs.declared.stop.Stop.{Stop}
 use Rattle.jpg_base.specs.declared.stop.Stop.TheVariants as stop
 use Rattle.jpg_file.specs.FirstHead.{IsHeadOf}
-use Rattle.jpg_file.specs.File.{EndsFile, Stands}
+use Rattle.jpg_file.specs.File.{EndsFile, IsStop, Stands}
 use Rattle.jpg_file.specs.declared.head.Head.{Head}
-use Rattle.jpg_file.specs.Items.{EndsProgressive, NoneProgressive}
 use Rattle.jpg_file.specs.declared.file.FileWork.{FileWork}
 
 -- what is seen of a reader: the file in work, whether it is whole (then neither `feed` nor `end` may be called any more), and why it stopped, if it did
@@ -49,22 +47,9 @@ pub record IsDone (bytes : List ℕ) (r : ReaderState) : Type 0 where
   pub ended : EndsFile r.limits bytes r.file
   pub head : IsHeadOf r.limits bytes r.file.head
 
--- WHAT A FILE IS REFUSED WITH: a fault, or the header of a progressive frame, which isn't read yet; whichever comes first
-
--- It is the first fault of the bytes, and no header of a progressive frame ended before it.
-abbrev pub FaultComesFirst : Limits → List ℕ → FaultAt → Type 0
-FaultComesFirst limits bytes f = IsFirstFault limits bytes f.fault f.at × NoneProgressive limits (take f.at bytes)
-
--- With byte number n a header of a progressive frame is whole; none was before, and so far the bytes show no fault.
-pub record HeaderComesFirst (limits : Limits) (bytes : List ℕ) (n : ℕ) : Type 0 where
-  pub within : n ≤ length bytes
-  pub room : n ≤ limits.input
-  pub ends : EndsProgressive limits (take n bytes)
-  pub none : (m : ℕ) → m < n → EndsProgressive limits (take m bytes) → ⊥
-  pub faultless : ShowsNone limits (take n bytes)
-
+-- WHAT A FILE IS REFUSED WITH: its first fault
 abbrev pub IsRefusal : Limits → List ℕ → FaultAt → Type 0
-IsRefusal limits bytes f = FaultComesFirst limits bytes f ⊎ ((f.fault ≡ NotBuilt) × HeaderComesFirst limits bytes f.at)
+IsRefusal limits bytes f = IsFirstFault limits bytes f.fault f.at
 
 -- whatever follows
 abbrev pub IsStopOf : Limits → List ℕ → FaultAt → Type 0
@@ -74,6 +59,11 @@ IsStopOf limits bytes f = (rest : List ℕ) → IsRefusal limits (bytes ++ rest)
 abbrev pub KeepsHead : Limits → List ℕ → ℕ → Option Head → Type 0
 KeepsHead limits bytes n head = (m : ℕ) × (m ≤ n) × (n ≤ m + 1) × IsHeadOf limits (take m bytes) head
 
+-- That of the bytes up to a fault; or up to the byte before it, where the byte at its place shows it.
+abbrev pub KeepsHeadAt : Limits → List ℕ → FaultAt → Option Head → Type 0
+KeepsHeadAt limits bytes f head =
+    IsHeadOf limits (take f.at bytes) head ⊎ ((m : ℕ) × (f.at ≡ m + 1) × IsHeadOf limits (take m bytes) head × IsStop limits (take f.at bytes) f)
+
 -- what is seen of the first scan header: the frame, the colours, and the place of its end
 abbrev pub head_seen : ReaderState → Option (Frame × Colour × ℕ)
 head_seen r = option_map (λ h. (h.frame, h.colour, h.at)) r.file.head
@@ -82,7 +72,7 @@ head_seen r = option_map (λ h. (h.frame, h.colour, h.at)) r.file.head
 abbrev pub AfterFeed : List ℕ → List ℕ → Result Fed Stop → ReaderState → Type 0
 AfterFeed bytes piece (Ok fed.More) r = HasRead (bytes ++ piece) r
 AfterFeed bytes piece (Ok (fed.Done used)) r = IsDone (bytes ++ take used piece) r × (1 ≤ used) × (used ≤ length piece)
-AfterFeed bytes piece (Err (stop.Fault f)) r = IsStopOf r.limits (bytes ++ piece) f × (length bytes < f.at) × KeepsHead r.limits (bytes ++ piece) f.at r.file.head
+AfterFeed bytes piece (Err (stop.Fault f)) r = IsStopOf r.limits (bytes ++ piece) f × (length bytes < f.at) × KeepsHeadAt r.limits (bytes ++ piece) f r.file.head
 AfterFeed bytes piece (Err stop.NoMemory) r = (n : ℕ) × KeepsHead r.limits (bytes ++ piece) n r.file.head
 
 -- for all bytes that were fed before
@@ -91,7 +81,7 @@ FeedsFile old piece answer new = (bytes : List ℕ) → HasRead bytes old → Af
 
 -- a fault of bytes that end
 abbrev pub StopsAt : Limits → List ℕ → Stop → Type 0
-StopsAt limits bytes (stop.Fault f) = FaultComesFirst limits bytes f
+StopsAt limits bytes (stop.Fault f) = IsRefusal limits bytes f
 StopsAt limits bytes stop.NoMemory = ⊥
 
 -- the word that keeps `done`
@@ -105,7 +95,7 @@ abbrev pub AfterFilePiece : Limits → List ℕ → List ℕ → Result Fed Stop
 AfterFilePiece limits bytes piece (Ok fed.More) w = Stands limits (bytes ++ piece) w × (length (bytes ++ piece) < limits.input)
 AfterFilePiece limits bytes piece (Ok (fed.Done used)) w = EndsFile limits (bytes ++ take used piece) w × (1 ≤ used) × (used ≤ length piece)
 AfterFilePiece limits bytes piece (Err (stop.Fault f)) w =
-    IsStopOf limits (bytes ++ piece) f × (length bytes < limits.input → length bytes < f.at) × KeepsHead limits (bytes ++ piece) f.at w.head
+    IsStopOf limits (bytes ++ piece) f × (length bytes < limits.input → length bytes < f.at) × KeepsHeadAt limits (bytes ++ piece) f w.head
 AfterFilePiece limits bytes piece (Err stop.NoMemory) w = (n : ℕ) × KeepsHead limits (bytes ++ piece) n w.head
 
 abbrev pub ReadsPiece : Limits → FileWork → List ℕ → Result Fed Stop → FileWork → Type 0

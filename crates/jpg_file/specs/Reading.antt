@@ -2,7 +2,7 @@
 use Rattle.std.specs.Prelude.{◌≡◌, ◌⊎◌, ℕ, ◌+◌, ◌<◌, ◌≤◌, take, slice_index, is_some, Bool, true, false, List, [], ◌∷◌, ◌++◌, length, Some, None}
 use Rattle.jpg_spec.specs.Items.{Item, segments_of}
 use Rattle.jpg_spec.specs.InForce.{frame_of}
-use Rattle.jpg_spec.specs.Geometry.{Frame, is_progressive}
+use Rattle.jpg_spec.specs.Geometry.{Frame}
 use Rattle.jpg_spec.specs.FrameHeader.{IsFrame}
 use Rattle.jpg_spec.specs.Scan.{Blocks}
 use Rattle.jpg_spec.specs.FirstFault.{Shows}
@@ -16,7 +16,7 @@ use Rattle.jpg_file.specs.declared.items.Items.{Items}
 use Rattle.jpg_file.specs.Items.{BetweenItems, BehindSegment, BehindHead, AfterItem, AfterScan}
 use Rattle.jpg_file.specs.declared.scan.InScan.{InScan}
 use Rattle.jpg_file.specs.declared.items.ItemStep.{ItemStep}
-use Rattle.jpg_file.specs.declared.items.ItemStep.TheVariants.{More, Head, Eoi, Progressive, Fault, NoMemory}
+use Rattle.jpg_file.specs.declared.items.ItemStep.TheVariants.{More, Head, Eoi, Fault, NoMemory}
 use Rattle.jpg_file.specs.declared.reading.Reading.{Reading}
 
 -- between items, which lead to these blocks
@@ -64,21 +64,19 @@ abbrev pub IsShown : Limits → List ℕ → ItemStep → Type 0
 IsShown limits bytes More = ⊥
 IsShown limits bytes Head = ⊥
 IsShown limits bytes Eoi = ⊥
-IsShown limits bytes Progressive = ⊥
 IsShown limits bytes (Fault f) = Shows limits f.fault bytes × (f.at ≡ length bytes)
 IsShown limits bytes NoMemory = ⊥
 
 abbrev pub AfterScanByte : Limits → List Item → List ℕ → List ℕ → ItemStep → Reading → Type 0
 AfterScanByte limits items contents bytes answer r = ((answer ≡ More) × Scanning limits items contents bytes r) ⊎ (ScanDone limits items contents bytes answer r ⊎ IsShown limits bytes answer)
 
--- a scan header is whole, in a sequential frame, and there is a picture
+-- a scan header is whole, and there is a picture
 pub record HeadWhole (limits : Limits) (bytes : List ℕ) (items : List Item) (blocks : Blocks) (r : Reading) (b : Begun) : Type 0 where
   pub segment : BehindSegment limits bytes items blocks r.items
   pub code : (reading_of (r.items).segments).code ≡ 0xda
   pub frame : Frame
   pub framed : r.items.held.frame ≡ Some frame
   pub is_frame : IsFrame frame
-  pub plain : is_progressive frame.process ≡ false
   pub begun : HasBegun limits b (segments_of items)
   pub coefs : Picture
   pub has : r.coefs ≡ Some coefs
@@ -91,7 +89,6 @@ abbrev pub AfterHead : Limits → List ℕ → List Item → Items → ItemStep 
 AfterHead limits bytes items old More r b = Scanning limits items (reading_of old.segments).contents bytes r × HasBegun limits b ((0xda, (reading_of old.segments).contents) ∷ segments_of items)
 AfterHead limits bytes items old Head r b = ⊥
 AfterHead limits bytes items old Eoi r b = ⊥
-AfterHead limits bytes items old Progressive r b = ⊥
 AfterHead limits bytes items old (Fault f) r b = Shows limits f.fault bytes × (f.at ≡ length bytes)
 AfterHead limits bytes items old NoMemory r b = ⊥
 

@@ -5,11 +5,11 @@ ghost use Rattle.jpg_spec.specs.Scan.{Blocks};
 ghost use Rattle.jpg_spec.specs.declared.frame.Limits.{Limits};
 ghost use Rattle.jpg_file.specs.Begin.{StandsAtFirst, CanBegin};
 
+use crate::machine::ScanReader;
 use crate::scan::{InScan, ScanWork};
 use jpg_base::{Frame, ScanHead};
 use jpg_coefs::{Coefs, ScanMachine};
 use jpg_huff::{Gate, TableSet};
-use jpg_seq::SeqReader;
 
 /// The scan of a header that breaks no rule, before its first data byte, with the tables and the restart
 /// interval in force (in MCUs, 0 for none) and the picture so far.
@@ -28,7 +28,7 @@ pub fn begin_scan(
     let all = frame.scan_units(head);
     let units = u64::from(interval) * u64::from(frame.mcu_units(head));
     let first = first_units(units, all);
-    let mut machine = SeqReader::new(frame, head, tables);
+    let mut machine = ScanReader::of(frame, head, tables);
     machine.restart(first);
     InScan {
         gate: Gate::new(),

@@ -1,66 +1,99 @@
-// Which components were in a scan, and with which quantisation tables (T.81, B.2.4.1, G.1.1.1).
-ghost use Rattle.std.specs.Prelude.{◌≡◌, ◌≤◌, ◌<◌, ◌||◌, ◌==◌, false, All, length, map, ℕ, None};
+// Which scans there were, and with which quantisation tables their components began (T.81, B.2.4.1, G.1.1.1).
+ghost use Rattle.std.specs.Prelude.{◌≡◌, ◌<◌, ◌==◌, ◌∷◌, All, List, length, map, ℕ, None};
+ghost use Rattle.jpg_spec.specs.History.{order_fault};
 ghost use Rattle.jpg_spec.specs.InForce.{first_some};
-ghost use Rattle.jpg_spec.specs.Lists.{all_of, any_of, below, is_among};
+ghost use Rattle.jpg_spec.specs.Lists.{all_of};
 ghost use Rattle.jpg_spec.specs.QuantContents.{quant_in};
-ghost use Rattle.jpg_file.specs.Begun.{begun_at, quant_if, quant_named};
+ghost use Rattle.jpg_spec.specs.Segments.{ScanHead as Header};
+ghost use Rattle.jpg_file.specs.Begun.{IsComplete, StandsForHeads, is_same_kept, quant_if, quant_named};
 
-use jpg_base::{Frame, QuantTable};
+use jpg_base::{Frame, QuantTable, ScanHead};
 use jpg_markers::QuantSet;
-use jpg_spec::ScanPart;
+use jpg_scans::Progress;
+use jpg_spec::{Fault, ScanPart};
 
-/// The components that were in a scan, by their index in the frame, and the quantisation table that was in
-/// force for each at its first one.
+/// The history of the scans so far, from the first one on, and of each component by its index in the frame
+/// the quantisation table that was in force at its first scan.
 #[derive(Drop)]
 pub struct Begun {
-    pub seen: [bool; 4],
+    pub progress: Option<Progress>,
     pub quants: [Option<QuantTable>; 4],
 }
 
 impl Begun {
-    /// None.
+    /// Before any scan.
     pub fn new() -> Begun
-        ensures seen { (i : ℕ) → begun_at result i ≡ false }
+        ensures progress { result.progress ≡ None }
         ensures quants { (i : ℕ) → quant_in result.quants i ≡ None }
     {
         Begun {
-            seen: [false; 4],
+            progress: None,
             quants: [None, None, None, None],
         }
     }
 
-    /// Whether one of these was in a scan.
-    pub fn has_any(&self, parts: &[ScanPart]) -> bool
-        requires { All (λ p. p.component < 4) parts.now }
-        ensures { result ≡ any_of (begun_at self.now) (map (λ p. p.component) parts.now) }
+    /// The fault of the order of scans that this one of a frame shows behind those so far: RepeatedScan or
+    /// Progression.
+    pub fn fault(&self, frame: &Frame, head: &ScanHead) -> Option<Fault>
+        requires { All (λ p. p.component < 4) head.now.parts }
+        ensures { (heads : List Header) → StandsForHeads self.now.progress frame.now heads → result ≡ order_fault frame.now heads head.now }
+    {
+        match &self.progress {
+            Some(progress) => progress.fault(head),
+            None => Progress::new(frame).fault(head),
+        }
+    }
+
+    /// Takes a scan of a frame that shows no such fault.
+    pub fn note(&mut self, frame: &Frame, head: &ScanHead)
+        requires { All (λ p. p.component < 4) head.now.parts }
+        ensures scans { (heads : List Header) → StandsForHeads self.old.progress frame.now heads → StandsForHeads self.new.progress frame.now (head.now ∷ heads) }
+        ensures quants { self.new.quants ≡ self.old.quants }
+    {
+        match &mut self.progress {
+            Some(progress) => progress.note(head),
+            None => {
+                let mut progress = Progress::new(frame);
+                progress.note(head);
+                self.progress = Some(progress);
+            }
+        }
+    }
+
+    /// Whether the table in force for each of these is the one that is kept for it, where one is kept.
+    pub fn are_same(&self, parts: &[ScanPart], frame: &Frame, quants: &QuantSet) -> bool
+        requires { All (λ p. p.component < length frame.now.components) parts.now }
+        ensures { result ≡ all_of (is_same_kept self.now.quants frame.now quants.now) (map (λ p. p.component) parts.now) }
     {
         let mut rest = parts;
         while let [part, tail @ ..] = rest {
-            if self.seen[part.component as usize] {
-                return true;
+            if !self.is_same(part.component, frame, quants) {
+                return false;
             }
             rest = tail;
         }
-        false
+        true
     }
 
-    /// These were in a scan too.
-    pub fn note(&mut self, parts: &[ScanPart])
-        requires { All (λ p. p.component < 4) parts.now }
-        ensures seen { (i : ℕ) → begun_at self.new i ≡ (begun_at self.old i || is_among i (map (λ p. p.component) parts.now)) }
-        ensures quants { self.new.quants ≡ self.old.quants }
+    // Whether the table in force for this one is the one that is kept for it, where one is kept.
+    fn is_same(&self, component: u8, frame: &Frame, quants: &QuantSet) -> bool
+        requires { component < length frame.now.components }
+        ensures { result ≡ is_same_kept self.now.quants frame.now quants.now component }
     {
-        let mut rest = parts;
-        while let [part, tail @ ..] = rest {
-            self.seen[part.component as usize] = true;
-            rest = tail;
+        frame.checked();
+        let Some(kept) = &self.quants[component as usize] else {
+            return true;
+        };
+        match quants.get(frame.component(component).quant) {
+            Some(table) => kept.is_same(table),
+            None => false,
         }
     }
 
     /// Keeps the tables in force for these, where none is kept yet.
     pub fn note_quants(&mut self, parts: &[ScanPart], frame: &Frame, quants: &QuantSet)
         requires { All (λ p. p.component < length frame.now.components) parts.now }
-        ensures seen { self.new.seen ≡ self.old.seen }
+        ensures progress { self.new.progress ≡ self.old.progress }
         ensures quants { (i : ℕ) → quant_in self.new.quants i ≡ first_some (quant_in self.old.quants i) (quant_named frame.now quants.now parts.now i) }
     {
         let mut rest = parts;
@@ -73,7 +106,7 @@ impl Begun {
     // Keeps the table in force for this one, where none is kept yet.
     fn note_quant(&mut self, component: u8, frame: &Frame, quants: &QuantSet)
         requires { component < length frame.now.components }
-        ensures seen { self.new.seen ≡ self.old.seen }
+        ensures progress { self.new.progress ≡ self.old.progress }
         ensures quants { (i : ℕ) → quant_in self.new.quants i ≡ first_some (quant_in self.old.quants i) (quant_if frame.now quants.now (component == i) i) }
     {
         frame.checked();
@@ -85,15 +118,13 @@ impl Begun {
         }
     }
 
-    /// Whether each of the first `count` was in a scan. There are four at most.
-    pub fn all(&self, count: u8) -> bool
-        requires { count ≤ 4 }
-        ensures { result ≡ all_of (begun_at self.now) (below count) }
+    /// Whether each component of the frame was in a scan.
+    pub fn is_complete(&self) -> bool
+        ensures { IsComplete self.now.progress result }
     {
-        let mut all = true;
-        for i in 0..count {
-            all = all && self.seen[i as usize];
+        match &self.progress {
+            Some(progress) => progress.is_complete(),
+            None => false,
         }
-        all
     }
 }

@@ -40,7 +40,7 @@ pub fn take_data<M: ScanMachine>(machine: &mut M, coefs: &mut Coefs, byte: u8) -
 
 /// Gives the machine the bits of a stretch of data bytes, and tells how many bytes were given: up to the one
 /// whose bits end the interval or show a fault. What stands behind the interval's last bit is dropped.
-pub fn take_run(machine: &mut SeqReader, coefs: &mut Coefs, bytes: &[u8]) -> (usize, DataStep)
+pub fn take_bytes(machine: &mut SeqReader, coefs: &mut Coefs, bytes: &[u8]) -> (usize, DataStep)
     requires open { (i : Interval) × (bits : List Bool) × SeqStands machine.old i bits coefs.old }
     requires left { 1 ≤ machine.old.left }
     requires some { 1 ≤ length bytes.now }
@@ -56,4 +56,18 @@ pub fn take_run(machine: &mut SeqReader, coefs: &mut Coefs, bytes: &[u8]) -> (us
         Taken::IntervalDone => (given, DataStep::Whole),
         Taken::Fault(fault) => (given, DataStep::Fault(fault)),
     }
+}
+
+/// Gives the machine the bits of the first of these data bytes, and tells that it was one.
+pub fn take_first<M: ScanMachine>(
+    machine: &mut M,
+    coefs: &mut Coefs,
+    bytes: &[u8],
+) -> (usize, DataStep)
+    requires open { (i : Interval) × (bits : List Bool) × M.kind.stands machine.old i bits coefs.old }
+    requires left { 1 ≤ M.kind.left machine.old }
+    requires some { 1 ≤ length bytes.now }
+    ensures { GivesRun _ M.kind machine.old coefs.old bytes.now result.0 result.1 machine.new coefs.new }
+{
+    (1, take_data(machine, coefs, bytes[0]))
 }

@@ -44,7 +44,7 @@ impl FileWork {
     }
 
     /// Takes a further byte, and tells whether the file is whole with it. It answers the fault that the
-    /// byte shows, and NotBuilt where it ends the header of a progressive frame.
+    /// byte shows.
     pub fn byte(&mut self, byte: u8) -> Result<bool, Stop>
         requires stands { (bytes : List ℕ) × Stands (limits_of self.old) bytes self.old }
         requires limits { AreLimits (limits_of self.old) }
@@ -56,10 +56,6 @@ impl FileWork {
             ItemStep::More => Ok(false),
             ItemStep::Head => self.take_head(),
             ItemStep::Eoi => self.take_end(),
-            ItemStep::Progressive => Err(Stop::Fault(FaultAt {
-                fault: Fault::NotBuilt,
-                at: self.reading.taken,
-            })),
             ItemStep::Fault(fault) => Err(Stop::Fault(fault)),
             ItemStep::NoMemory => Err(Stop::NoMemory),
         }
@@ -167,10 +163,7 @@ impl FileWork {
     fn take_end(&self) -> Result<bool, Stop>
         ensures { TakesFileEnd self.now result }
     {
-        let Some(frame) = &self.reading.items.held.frame else {
-            return Err(Stop::NoMemory);
-        };
-        if self.begun.all(frame.count()) {
+        if self.begun.is_complete() {
             return Ok(true);
         }
         Err(Stop::Fault(FaultAt {

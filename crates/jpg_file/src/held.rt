@@ -1,14 +1,16 @@
 // What the segments of a file told so far (T.81, B.2).
-ghost use Rattle.std.specs.Prelude.{◌≡◌, ◌≤◌, ◌==◌, ◌&&◌, ◌||◌, ◌<◌, All, not, List, [], ◌∷◌, length, Some, None};
+ghost use Rattle.std.specs.Prelude.{◌≡◌, ◌≤◌, ◌==◌, ◌&&◌, ◌||◌, ◌<◌, All, is_none, not, List, [], ◌∷◌, length, Some, None};
 ghost use Rattle.jpg_spec.specs.FrameHeader.{AreLimits};
+ghost use Rattle.jpg_spec.specs.Geometry.{is_progressive};
+ghost use Rattle.jpg_spec.specs.HuffContents.{huffman_in};
+ghost use Rattle.jpg_spec.specs.History.{needs_ac_table, needs_dc_table};
 ghost use Rattle.jpg_spec.specs.Jfif.{begins_jfif, begins_adobe};
 ghost use Rattle.jpg_spec.specs.Markers.{Segment, is_kept_if, is_within, kept_rule, process_of_code};
 ghost use Rattle.jpg_spec.specs.declared.frame.Limits.{Limits as Bounded};
-ghost use Rattle.jpg_spec.specs.Geometry.{component_at};
 ghost use Rattle.jpg_file.specs.Held.{Holds, HoldsSegment, Takes, lacks_any, lacks_part, told_by};
 ghost use Rattle.jpg_markers.specs.Seen.{IsOther};
 
-use jpg_base::{Frame, Limits, NoMemory};
+use jpg_base::{Frame, Limits, NoMemory, ScanHead};
 use jpg_huff::TableSet;
 use jpg_markers::{
     App, Jfif, KeptList, QuantSet, read_app, read_dht, read_dqt, read_dri, read_sof,
@@ -146,25 +148,47 @@ impl Held {
     }
 }
 
-// Whether a table that this part of a sequential scan needs isn't there.
-fn lacks_one(frame: &Frame, held: &Held, part: ScanPart) -> bool
+// Whether the scan with this header needs a DC table that isn't there, in this slot.
+fn lacks_dc(frame: &Frame, head: &ScanHead, held: &Held, slot: u8) -> bool
+    ensures { result ≡ (needs_dc_table frame.now head.now && is_none (huffman_in (told_by held.now).tables.dc slot)) }
+{
+    let first = head.ss == 0 && head.ah == 0;
+    (!is_progressive(frame) || first) && held.tables.dc(slot).is_none()
+}
+
+// Whether it needs an AC table that isn't there.
+fn lacks_ac(frame: &Frame, head: &ScanHead, held: &Held, slot: u8) -> bool
+    ensures { result ≡ (needs_ac_table frame.now head.now && is_none (huffman_in (told_by held.now).tables.ac slot)) }
+{
+    (!is_progressive(frame) || 0 < head.ss) && held.tables.ac(slot).is_none()
+}
+
+/// Whether the frame's process is progressive.
+pub fn is_progressive(frame: &Frame) -> bool
+    ensures { result ≡ is_progressive frame.now.process }
+{
+    matches!(frame.process(), Process::Progressive)
+}
+
+// Whether a table that this part of a scan needs isn't there.
+fn lacks_one(frame: &Frame, head: &ScanHead, held: &Held, part: ScanPart) -> bool
     requires { part.component < length frame.now.components }
-    ensures { result ≡ lacks_part (told_by held.now) (component_at frame.now part.component).quant part }
+    ensures { result ≡ lacks_part (told_by held.now) frame.now head.now part }
 {
     let quant = frame.component(part.component).quant;
     held.quants.get(quant).is_none()
-        || held.tables.dc(part.dc).is_none()
-        || held.tables.ac(part.ac).is_none()
+        || lacks_dc(frame, head, held, part.dc)
+        || lacks_ac(frame, head, held, part.ac)
 }
 
-/// Whether a table that a sequential scan of these parts needs isn't there.
-pub fn lacks_table(frame: &Frame, parts: &[ScanPart], held: &Held) -> bool
-    requires { All (λ p. p.component < length frame.now.components) parts.now }
-    ensures { result ≡ lacks_any (told_by held.now) frame.now parts.now }
+/// Whether a table that a scan with this header needs isn't there.
+pub fn lacks_table(frame: &Frame, head: &ScanHead, held: &Held) -> bool
+    requires { All (λ p. p.component < length frame.now.components) head.now.parts }
+    ensures { result ≡ lacks_any (told_by held.now) frame.now head.now }
 {
-    let mut rest = parts;
+    let mut rest = head.parts.as_slice();
     while let [part, tail @ ..] = rest {
-        if lacks_one(frame, held, *part) {
+        if lacks_one(frame, head, held, *part) {
             return true;
         }
         rest = tail;

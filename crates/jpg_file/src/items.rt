@@ -31,8 +31,6 @@ pub enum ItemStep {
     Head,
     /// EOI is there.
     Eoi,
-    /// The segment of a progressive frame header is whole. What follows it isn't read yet.
-    Progressive,
     /// The byte shows this fault, at the number of bytes taken.
     Fault(FaultAt),
     /// Memory is wanting.
@@ -114,12 +112,7 @@ impl Items {
             return ItemStep::Head;
         }
         match self.held.take(self.limits, code, self.segments.contents()) {
-            Took::Done => {
-                if code == 0xc2 {
-                    return ItemStep::Progressive;
-                }
-                ItemStep::More
-            }
+            Took::Done => ItemStep::More,
             Took::Fault(fault) => ItemStep::Fault(FaultAt {
                 fault,
                 at: self.segments.taken(),

@@ -1,6 +1,4 @@
 // A scan header, judged by the tables and the scans before it (T.81, B.2.3, G.1.1.1).
-ghost use Rattle.std.specs.Prelude.{◌≡◌, false};
-ghost use Rattle.jpg_spec.specs.Geometry.{is_progressive};
 ghost use Rattle.jpg_file.specs.Held.{told_by};
 ghost use Rattle.jpg_file.specs.Judge.{JudgesHead};
 
@@ -10,16 +8,16 @@ use jpg_base::{Frame, ScanHead};
 use jpg_markers::{accepted_heads_are_of_their_frames, read_sos};
 use jpg_spec::Fault;
 
-/// The scan header of these contents in a sequential frame, or the first fault of the whole segment:
-/// those of `read_sos`, RepeatedScan (a component was in a scan), or MissingTable (a table that it needs
-/// isn't there).
+/// The scan header of these contents, or the first fault of the whole segment: those of `read_sos`,
+/// RepeatedScan (in a sequential frame: a component was in a scan) or Progression (in a progressive one: it
+/// isn't the next scan of each component), MissingTable (a table that it needs isn't there), QuantChanged
+/// (the quantisation table of a component isn't the one of its first scan).
 pub fn judge_head(
     contents: &[u8],
     frame: &Frame,
     held: &Held,
     begun: &Begun,
 ) -> Result<ScanHead, Fault>
-    requires { is_progressive frame.now.process ≡ false }
     ensures { JudgesHead contents.now frame.now (told_by held.now) begun.now result }
 {
     accepted_heads_are_of_their_frames();
@@ -28,11 +26,14 @@ pub fn judge_head(
         Ok(head) => head,
         Err(fault) => return Err(fault),
     };
-    if begun.has_any(head.parts.as_slice()) {
-        return Err(Fault::RepeatedScan);
+    if let Some(fault) = begun.fault(frame, &head) {
+        return Err(fault);
     }
-    if lacks_table(frame, head.parts.as_slice(), held) {
+    if lacks_table(frame, &head, held) {
         return Err(Fault::MissingTable);
+    }
+    if !begun.are_same(head.parts.as_slice(), frame, &held.quants) {
+        return Err(Fault::QuantChanged);
     }
     Ok(head)
 }

@@ -14,7 +14,7 @@ use jpg_spec::Colour;
 use std::alloc::Global;
 use std::marker::Model;
 
-/// Reads a sequential file into a picture.
+/// Reads a file into a picture.
 #[derive(Drop)]
 pub struct Reader {
     limits: Limits,
@@ -50,8 +50,8 @@ impl Reader {
 
     /// Takes a further piece of the file, of any length. It answers Done where a whole file stands, and tells
     /// how many bytes of the piece were used, its EOI among them. Else it answers the first fault of the bytes
-    /// so far, at its place, and InputTooLong where as many bytes were taken as may be, or NotBuilt, at the end
-    /// of the header of a progressive frame (SOF2), whichever comes first; or NoMemory. Else it answers More.
+    /// so far, at its place, and InputTooLong where as many bytes were taken as may be, or NoMemory. Else it
+    /// answers More.
     /// After a stop it answers the same stop. It may not be called once the file is whole (`is_done`).
     pub fn feed(&mut self, piece: &[u8]) -> Result<Fed, Stop>
         requires { self.old.done ≡ false }

@@ -56,7 +56,7 @@ impl Reading {
                 );
                 let parts = head.parts.as_slice();
                 begun.note_quants(parts, &frame, &self.items.held.quants);
-                begun.note(parts);
+                begun.note(&frame, &head);
                 self.scan = Some(scan);
                 self.items.head_done();
                 ItemStep::More

@@ -7,17 +7,17 @@ ghost use Rattle.jpg_coefs.specs.Machine.{fault_of};
 ghost use Rattle.jpg_file.specs.declared.scan.ScanStep.TheVariants as answer;
 ghost use Rattle.jpg_file.specs.InData.{ArePlain, AtWork, GoesInside, IsInside, MarkerAt, NextBegins, TakesCode, TakesData, TakesRun, TakesScanByte};
 
-use crate::data::{DataStep, take_data, take_run};
+use crate::data::{DataStep, take_data};
+use crate::machine::ScanReader;
 use jpg_coefs::{Coefs, ScanMachine, UnitFault};
 use jpg_huff::{Gate, Passed};
-use jpg_seq::SeqReader;
 use jpg_spec::Fault;
 
 /// The scan in work: its machine, whether the interval is whole, how many units an interval has (0:
 /// all of them), how many units are due behind the one in work, and which RST is due.
 #[derive(Drop)]
 pub struct ScanWork {
-    pub machine: SeqReader,
+    pub machine: ScanReader,
     pub whole: bool,
     pub interval: u64,
     pub due: u64,
@@ -79,8 +79,8 @@ impl InScan {
         !self.gate.is_waiting() && !self.work.whole
     }
 
-    /// Takes a stretch of plain bytes, and tells how many were taken: up to the one that ends the interval or
-    /// shows a fault.
+    /// Takes plain bytes from the front of a stretch, and tells how many were taken: at most up to the one that
+    /// ends the interval or shows a fault.
     pub fn run(&mut self, coefs: &mut Coefs, run: &[u8]) -> (usize, ScanStep)
         requires inside { IsInside self.old coefs.old }
         requires gate { self.old.gate ≡ false }
@@ -91,7 +91,7 @@ impl InScan {
         ensures after { TakesRun self.old coefs.old run.now result.0 result.1 self.new coefs.new }
         ensures goes { GoesInside result.1 }
     {
-        let (n, step) = take_run(&mut self.work.machine, coefs, run);
+        let (n, step) = self.work.machine.run(coefs, run);
         match step {
             DataStep::More => (n, ScanStep::More),
             DataStep::Whole => {

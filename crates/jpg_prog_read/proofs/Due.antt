@@ -1,22 +1,18 @@
 -- Where a machine waits for a bit, it stands for whole elements and a part of one more.
-use Rattle.std.proofs.Common.{◌≡◌, ℕ, ◌≤◌, Bool, true, false, List, [], ◌∷◌, length, refl, sym, subst, arith, ℤ, pos, inl, inr}
+use Rattle.std.proofs.Common.{◌≡◌, ℕ, ◌≤◌, Bool, false, List, [], ◌∷◌, length, refl, sym, subst, arith, ℤ, pos, inl, inr}
 use Rattle.std.specs.Prelude.{slice_index_or}
-use Rattle.std.proofs.lemmas.List.{append-nil, length-map}
+use Rattle.std.proofs.lemmas.List.{append-nil}
 use Rattle.jpg_spec.specs.Elements.{Coding, UnitLeft, Standing, is_zero}
 use Rattle.jpg_spec.proofs.Once.{head_inj}
-use Rattle.jpg_spec.specs.Parts.{InEnds, band_unit, WantsCorrection, PartOfElement, in_code, in_difference, in_number, in_count, in_value, in_long, in_ends, StandsInUnits}
-use Rattle.jpg_spec.proofs.PictureInWork.{starts_due}
+use Rattle.jpg_spec.specs.Parts.{InEnds, band_unit, WantsCorrection, PartOfElement, in_code, in_difference, in_number, in_count, in_value, in_long, in_ends}
 use Rattle.jpg_prog_read.specs.declared.stage.Stage.{Stage}
 use Rattle.jpg_prog_read.specs.declared.stage.Stage.TheVariants as stage
 use Rattle.jpg_prog_read.specs.declared.scan.BandScan.{BandScan}
 use Rattle.jpg_prog_read.specs.InWork.{InWork, IsOpen, DoesWait}
 use Rattle.jpg_prog_read.specs.DcWork.{DcWork, IsDcOpen}
-use Rattle.jpg_prog_read.specs.Machine.{Machine}
 use Rattle.jpg_prog_read.specs.Stands.{UnitPlace, unit_left, IsPart, IsRest}
 use Rattle.jpg_prog_read.specs.DcStands.{IsDcPart, dc_unit}
-use Rattle.jpg_prog_read.specs.Interval.{unit_of, units_of_blocks, place_of, MayTake, StandsForBits}
-use Rattle.jpg_prog_read.specs.Due.{BandIsDue, NextIsDue, DcIsDue, NextDcIsDue, IntervalIsDue, CountsLeft, told_so_far, left_so_far}
-use Rattle.jpg_prog_read.proofs.Units.{others_left}
+use Rattle.jpg_prog_read.specs.Due.{BandIsDue, NextIsDue, DcIsDue, NextDcIsDue}
 
 wants : (i : ℕ) (rest : List ℤ) → 1 ≤ length rest → is_zero (slice_index_or rest 0 (pos 0)) ≡ false → WantsCorrection (band_unit i rest)
 wants i [] some z = absurd (omega (arith, some))
@@ -118,26 +114,3 @@ dc_next_due c units told p next others bits f = record {
   is_part = in_code (record { left = f.left; none = refl; front = inl refl; no_code = λ d k. refl });
   in_bounds = refl;
 }
-
-pub interval_due : (now : List (List ℤ)) (m : Machine) → MayTake m.fresh now m → IntervalIsDue now m
-interval_due now m ready c i before bits f = by m.fresh ready f
-  where
-    begun : (blocks : List (List ℤ)) → 1 ≤ length blocks → StandsInUnits c (units_of_blocks m.scan i blocks) [] (units_of_blocks m.scan i blocks) []
-    begun [] some = absurd (omega (arith, some))
-    begun (block ∷ blocks) some = starts_due c (unit_of m.scan i block) (units_of_blocks m.scan i blocks)
-
-    by : (fresh : Bool) → MayTake fresh now m → StandsForBits fresh c i before bits now m → StandsInUnits c (units_of_blocks m.scan i before) (told_so_far fresh now m) (left_so_far fresh i now m) bits
-    by true r s =
-        let at = r.first in
-        let sum = r.resting.left in
-        let some = r.some in
-        subst (λ x. StandsInUnits c (units_of_blocks m.scan i x) [] (units_of_blocks m.scan i now) bits) (sym s.0)
-        (subst (λ x. StandsInUnits c (units_of_blocks m.scan i now) [] (units_of_blocks m.scan i now) x) (sym s.1) (begun now (omega (arith, at, sum, some))))
-    by false r s = band_due m.scan m.unit r.goes_on (place_of c i before now m) bits s.stands
-
-pub counts_left : (now : List (List ℤ)) (m : Machine) → MayTake m.fresh now m → CountsLeft now m
-counts_left now m ready i = by m.fresh ready
-  where
-    by : (fresh : Bool) → MayTake fresh now m → length (left_so_far fresh i now m) ≡ m.left
-    by true r = omega (arith, length-map now (unit_of m.scan i), r.first, r.resting.left)
-    by false r = omega (arith, others_left m.scan i m.at m.left now r.is_set.inside r.is_set.left)

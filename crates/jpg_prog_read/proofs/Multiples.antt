@@ -10,7 +10,7 @@ use Rattle.jpg_prog_read.specs.Known.{IsMultiple, AreMultiples}
 double : (al : ℕ) → 2 ^ (al + 1) ≡ 2 * 2 ^ al
 double al = ap (λ k. 2 ^ k) (add-one al) ∙ pow-succ' 2 al
 
-multiple_down : (al : ℕ) (v : ℤ) → IsMultiple (al + 1) v → IsMultiple al v
+pub multiple_down : (al : ℕ) (v : ℤ) → IsMultiple (al + 1) v → IsMultiple al v
 multiple_down al v (m, e) = (2 * m, e ∙ ap (λ p. m * p) (double al) ∙ omega arith)
 
 pub multiples_down : (al : ℕ) (vs : List ℤ) → AreMultiples (al + 1) vs → AreMultiples al vs

@@ -1,14 +1,12 @@
 -- UNITS THAT ARE DUE: a machine that waits for a bit stands for whole elements and a part of one more (T.81, G.1.2).
-use Rattle.std.specs.Prelude.{◌≡◌, ℕ, ◌+◌, Bool, true, false, List, [], ◌∷◌, ◌++◌, length, take, drop, ℤ}
+use Rattle.std.specs.Prelude.{◌≡◌, ℕ, Bool, List, ◌∷◌, ◌++◌, ℤ}
 use Rattle.jpg_spec.specs.Elements.{Coding, UnitLeft}
-use Rattle.jpg_spec.specs.Parts.{band_unit, WantsCorrection, StandsInUnits}
+use Rattle.jpg_spec.specs.Parts.{WantsCorrection, StandsInUnits}
 use Rattle.jpg_prog_read.specs.declared.stage.Stage.TheVariants.{Ends}
 use Rattle.jpg_prog_read.specs.InWork.{InWork}
 use Rattle.jpg_prog_read.specs.DcWork.{DcWork}
-use Rattle.jpg_prog_read.specs.Machine.{Machine}
 use Rattle.jpg_prog_read.specs.Stands.{UnitPlace, unit_left, Stands, BetweenUnits}
 use Rattle.jpg_prog_read.specs.DcStands.{DcStands, DcBetween, dc_unit}
-use Rattle.jpg_prog_read.specs.Interval.{units_of_blocks, bands, StandsForBits}
 
 -- in a unit of a band: it told what is done of it, and the rest of it is left
 abbrev pub BandIsDue : InWork → Type 0
@@ -33,21 +31,3 @@ abbrev pub NextDcIsDue : Type 0
 NextDcIsDue =
     (c : Coding) (units : List UnitLeft) (told : List ℤ) (p : ℕ → ℤ) (next : UnitLeft) (others : List UnitLeft) (bits : List Bool)
     → DcBetween c units told p (next ∷ others) bits → StandsInUnits c units told (next ∷ others) bits
-
--- what the interval in work told so far, and its units that are left, the first perhaps in part
-abbrev pub told_so_far : Bool → List (List ℤ) → Machine → List ℤ
-told_so_far true now m = []
-told_so_far false now m = bands m.scan (take m.at now) ++ m.unit.done
-
-abbrev pub left_so_far : Bool → ℕ → List (List ℤ) → Machine → List UnitLeft
-left_so_far true i now m = units_of_blocks m.scan i now
-left_so_far false i now m = band_unit i m.unit.rest ∷ units_of_blocks m.scan i (drop (m.at + 1) now)
-
-abbrev pub IntervalIsDue : List (List ℤ) → Machine → Type 0
-IntervalIsDue now m =
-    (c : Coding) (i : ℕ) (before : List (List ℤ)) (bits : List Bool)
-    → StandsForBits m.fresh c i before bits now m → StandsInUnits c (units_of_blocks m.scan i before) (told_so_far m.fresh now m) (left_so_far m.fresh i now m) bits
-
--- as many as the machine says
-abbrev pub CountsLeft : List (List ℤ) → Machine → Type 0
-CountsLeft now m = (i : ℕ) → length (left_so_far m.fresh i now m) ≡ m.left

@@ -1,5 +1,5 @@
 -- What bits of an interval stand for, and what the reader of its bands answers (T.81, G.1.2.2, G.1.2.3).
-use Rattle.std.specs.Prelude.{◌≡◌, ℕ, ◌+◌, ◌^◌, ◌<◌, ◌≤◌, true, false, Bool, List, [], ◌∷◌, ◌++◌, length, ℤ, pos}
+use Rattle.std.specs.Prelude.{◌≡◌, ℕ, ◌+◌, ◌^◌, ◌<◌, true, false, Bool, List, [], ◌∷◌, ◌++◌, length, ℤ, pos}
 use Rattle.jpg_spec.specs.Codes.{Code}
 use Rattle.jpg_spec.specs.Elements.{Element, Coding, UnitLeft, Standing, Covers, at_start, are_in_bounds, zeros_in}
 use Rattle.jpg_spec.specs.Parts.{band_unit, InCode, InNumber, InCount, InValue, InLong, InEnds}

@@ -429,7 +429,7 @@ impl BandReader {
     }
 
     // a bit of the number of bands, of which `left` are left
-    fn count_bit(&mut self, scan: &BandScan, left: u32, bit: bool) -> BandStep
+    fn count_bit(&mut self, scan: &BandScan, left: u64, bit: bool) -> BandStep
         requires sane { AreSane scan.now }
         requires open { IsOpen scan.now self.old }
         requires stage { self.old.stage ≡ Stage.Count }
@@ -443,7 +443,7 @@ impl BandReader {
             Extra::Wanting => BandStep::More,
             Extra::Enough => {
                 let bands = self.whole_count();
-                if bands > left {
+                if u64::from(bands) > left {
                     BandStep::Fault(UnitFault::RunPastEnd)
                 } else {
                     self.begin_ends(bands);
@@ -469,7 +469,7 @@ impl BandReader {
     }
 
     /// Takes one more bit. `left` is the number of units that are left, this one included.
-    pub fn bit(&mut self, scan: &BandScan, table: &Table, left: u32, bit: bool) -> BandStep
+    pub fn bit(&mut self, scan: &BandScan, table: &Table, left: u64, bit: bool) -> BandStep
         requires sane { AreSane scan.now }
         requires open { IsOpen scan.now self.old }
         ensures open { StaysOpen scan.now result self.new }

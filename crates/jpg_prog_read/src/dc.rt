@@ -43,12 +43,12 @@ enum DcExtra {
 
 /// A unit of a first pass in work.
 #[derive(Drop)]
-pub struct DcFirst {
+pub struct DcUnit {
     walk: Walk,
     extra: ExtraBits,
 }
 
-impl Model for DcFirst {
+impl Model for DcUnit {
     ghost use Rattle.jpg_prog_read.specs.DcWork.{DcWork};
 
     ghost Value = { DcWork };
@@ -140,7 +140,7 @@ pub fn refine(scan: &DcScan, value: i16, bit: bool) -> i16
     with_bit(value, scan.scale, bit)
 }
 
-impl DcFirst {
+impl DcUnit {
     // a bit of a code
     fn walk_bit(&mut self, table: &Table, bit: bool) -> WalkStep
         ensures answers { Answers (symbol_codes table.now) (self.old.walked ++ bit ∷ []) result self.new.walked }
@@ -168,12 +168,12 @@ impl DcFirst {
     }
 
     /// Before the first bit of a unit.
-    pub fn new() -> DcFirst
+    pub fn new() -> DcUnit
         ensures fresh { result ≡ fresh }
         ensures open { IsDcOpen result }
         ensures begins { BeginsDc result }
     {
-        DcFirst {
+        DcUnit {
             walk: Walk::new(),
             extra: ExtraBits::new(0),
         }

@@ -32,7 +32,7 @@ fn main(rt: HostRuntime) -> ExitCode {
         let Some(words) = owned(alloc, words) else {
             return ExitCode::from(3);
         };
-        let ended = run(alloc, words.as_slice(), &mut desk);
+        let ended = run(alloc, words.as_slice(), &mut desk, Vec::new(alloc));
         code = ended.code.max(code);
     }
     ExitCode::from(code)

@@ -8,7 +8,9 @@ use std::test::Fail;
 
 mod comments;
 mod inserted;
+mod progressive;
 mod refused;
+mod shown;
 mod transformed;
 mod turned;
 mod words;
@@ -98,6 +100,11 @@ fn written(desk: &MemoryDesk) -> Option<&[u8]> {
     }
 }
 
+// A run without ends of images.
+fn ran(alloc: Global, words: &[String], desk: &mut MemoryDesk) -> Ended {
+    run(alloc, words, desk, Vec::new(alloc))
+}
+
 fn refused_at(fault: Fault, at: u64) -> Why {
     Why::Refused(FaultAt { fault, at })
 }
@@ -139,8 +146,8 @@ fn other_words_open_nothing(rt: HostRuntime) -> Result<(), Fail> {
         ),
         (
             &["djpeg"],
-            not_built(0),
-            "djpeg: refused: NotBuilt at byte 0\n",
+            usage_at(UsageFault::NoEnd, 1),
+            "djpeg: usage: NoEnd at word 1\n",
         ),
         (
             &["jpegtran", "-progressive"],
@@ -161,7 +168,7 @@ fn other_words_open_nothing(rt: HostRuntime) -> Result<(), Fail> {
     for (i, (words, why, message)) in rows.iter().enumerate() {
         let words = strings(rt.alloc(), words)?;
         let mut desk = MemoryDesk::new(rt.alloc(), 1);
-        let ended = run(rt.alloc(), words.as_slice(), &mut desk);
+        let ended = ran(rt.alloc(), words.as_slice(), &mut desk);
         assert_eq!(rt; ended, Ended { code: 1, why: *why }, "words {i}");
         assert_eq!(rt; desk.outputs(), 0, "words {i}");
         assert_eq!(rt; desk.counts(), no_failures(), "words {i}");
@@ -209,7 +216,7 @@ fn failing_calls_end_the_run(rt: HostRuntime) -> Result<(), Fail> {
     for (call, code, why, outputs, message) in rows {
         let mut desk = desk_with(rt.alloc(), &SMALLEST, 200)?;
         desk.fail(call)?;
-        let ended = run(rt.alloc(), flip.as_slice(), &mut desk);
+        let ended = ran(rt.alloc(), flip.as_slice(), &mut desk);
         assert_eq!(rt; ended, Ended { code, why }, "at call {call}");
         assert_eq!(rt; desk.outputs(), outputs, "at call {call}");
         assert_eq!(rt; desk.said(), message.as_bytes(), "at call {call}");
@@ -228,7 +235,7 @@ fn a_failing_message_changes_nothing(rt: HostRuntime) -> Result<(), Fail> {
     let frob = strings(rt.alloc(), &["frob"])?;
     let mut desk = MemoryDesk::new(rt.alloc(), 1);
     desk.fail(1)?;
-    let ended = run(rt.alloc(), frob.as_slice(), &mut desk);
+    let ended = ran(rt.alloc(), frob.as_slice(), &mut desk);
     let why = usage(UsageFault::UnknownTool);
     assert_eq!(rt; ended, Ended { code: 1, why });
     assert!(rt; b"jpgsuite: usage: UnknownTool at word 0\n".starts_with(desk.said()));
@@ -384,14 +391,14 @@ fn turned_twice_is_the_same(rt: HostRuntime) -> Result<(), Fail> {
         (112377, 1025178869)
     );
     let mut desk = desk_with(rt.alloc(), input.as_slice(), 65536)?;
-    let ended = run(rt.alloc(), flip.as_slice(), &mut desk);
+    let ended = ran(rt.alloc(), flip.as_slice(), &mut desk);
     assert_eq!(rt; ended.why, Why::Done);
     let Some(turned) = written(&desk) else {
         panic!(rt; "one output");
     };
     assert_eq!(rt; (turned.len(), sum(turned)), (112422, 2037273014));
     let mut desk = desk_with(rt.alloc(), turned, 65536)?;
-    let ended = run(rt.alloc(), flip.as_slice(), &mut desk);
+    let ended = ran(rt.alloc(), flip.as_slice(), &mut desk);
     assert_eq!(rt; ended.why, Why::Done);
     assert!(rt; written(&desk) == Some(input.as_slice()));
     Ok(())

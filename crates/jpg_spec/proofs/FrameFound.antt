@@ -26,6 +26,7 @@ pub record IsChecked (limits : Limits) (f : Frame) : Type 0 where
   pub sides : (nat_lt limits.side f.width || nat_lt limits.side f.height) ≡ false
   pub precision : f.precision ≡ 8
   pub count : (length f.components == 0 || nat_lt 4 (length f.components)) ≡ false
+  pub factors : any_of has_bad_factor f.components ≡ false
   pub blocks : nat_lt limits.blocks (padded_blocks f) ≡ false
   pub passes : checked_frame limits f ≡ Ok f
 
@@ -47,7 +48,7 @@ checks limits f g e =
     let o = refused DuplicateComponent (not (is_distinct (identifiers f.components))) slots g n.1 in
     let p = refused QuantSlot (any_of has_bad_slot f.components) many g o.1 in
     let q = refused TooManyBlocks (nat_lt limits.blocks (padded_blocks f)) (Ok f) g p.1 in
-    (record { some = a.0; sides = b.0; precision = same_of f.precision 8 (affirmed (f.precision == 8) k.0); count = m.0; blocks = q.0; passes = e ∙ sym (ap Ok (same_frame f g q.1)) }, same_frame f g q.1)
+    (record { some = a.0; sides = b.0; precision = same_of f.precision 8 (affirmed (f.precision == 8) k.0); count = m.0; factors = n.0; blocks = q.0; passes = e ∙ sym (ap Ok (same_frame f g q.1)) }, same_frame f g q.1)
   where
     same_frame : (f g : Frame) → (let a : Told Frame = Ok f in a) ≡ Ok g → f ≡ g
     same_frame f g e = cc

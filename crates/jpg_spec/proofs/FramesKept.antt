@@ -26,7 +26,7 @@ pub record FrameKept (limits : Limits) (items all : List Item) : Type 0 where
   pub found : has_frame (segments_of all) ≡ true
   pub same : frame_of_items limits all ≡ frame_of_items limits items
 
-frame_keeps : (limits : Limits) (more items : List Item) (blocks : Blocks) → Leads limits (more ++ items) blocks → has_frame (segments_of items) ≡ true → FrameKept limits items (more ++ items)
+pub frame_keeps : (limits : Limits) (more items : List Item) (blocks : Blocks) → Leads limits (more ++ items) blocks → has_frame (segments_of items) ≡ true → FrameKept limits items (more ++ items)
 frame_keeps limits [] items blocks l found = record { found = found; same = refl }
 frame_keeps limits (segment code contents ∷ more) items blocks l found =
     let before = segments_of (more ++ items) in

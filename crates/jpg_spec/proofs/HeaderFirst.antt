@@ -38,7 +38,7 @@ abbrev pub AreOfHeader : Limits → List Segment → List ℕ → Type 0
 AreOfHeader limits before front = SpellsSegments before front × Pass (header_rule limits) before × (has_scan before ≡ false)
 
 -- with a scan header behind them
-with_scan : (limits : Limits) (before : List Segment) (front head contents : List ℕ) → AreOfHeader limits before front → SpellsSegment 0xda contents head → code_fault before 0xda ≡ None
+pub with_scan : (limits : Limits) (before : List Segment) (front head contents : List ℕ) → AreOfHeader limits before front → SpellsSegment 0xda contents head → code_fault before 0xda ≡ None
     → fault_in (scan_header (frame_of limits before) contents) ≡ None → IsHeader limits (front ++ head) before contents
 with_scan limits before front head contents h s allowed told =
     record { spelled = (front, head, refl, h.0, s, λ e. (let z : ⊥ = omega (arith, e) in z)); passed = (allowed, told, h.1); first = h.2 }

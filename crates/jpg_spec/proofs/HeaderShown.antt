@@ -39,7 +39,7 @@ framed before e = by (has_frame before) e
     by true e = refl
     by false e = cc
 
-not_complete : (limits : Limits) (before : List Segment) → Pass (header_rule limits) before → has_scan before ≡ false → code_fault before 0xd9 ≡ None → is_complete (frame_of limits before) before ≡ false
+pub not_complete : (limits : Limits) (before : List Segment) → Pass (header_rule limits) before → has_scan before ≡ false → code_fault before 0xd9 ≡ None → is_complete (frame_of limits before) before ≡ false
 not_complete limits before p none e =
     let found = frame_found limits before p (framed before e) in
     let f : frame_of limits before ≡ found.0 = ap (λ o. unwrap_or o no_frame) found.1 in
@@ -71,7 +71,7 @@ tail_shown limits before fault tail (inr (inl s)) = inr (inl s)
 tail_shown limits before fault tail (inr (inr s)) = inr (inr (segment_shown limits before fault tail s))
 
 -- THE HEADER as items
-behind_header : (limits : Limits) (bytes : List ℕ) (before : List Segment) (tail : List ℕ) → InHeader limits bytes before tail → BehindItems limits bytes (items_of before) tail
+pub behind_header : (limits : Limits) (bytes : List ℕ) (before : List Segment) (tail : List ℕ) → InHeader limits bytes before tail → BehindItems limits bytes (items_of before) tail
 behind_header limits bytes before tail w = record {
   front = w.0.front;
   blocks = no_blocks;

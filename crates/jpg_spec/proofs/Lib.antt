@@ -1,6 +1,7 @@
 pub mod Bands
 pub mod Behind
 pub mod BlocksOnce
+pub mod ColoursKept
 pub mod Common
 pub mod DataFacts
 pub mod DataLength
@@ -11,9 +12,11 @@ pub mod Facts
 pub mod FaultsOnce
 pub mod FileLaws
 pub mod FileLength
+pub mod FileHeader
 pub mod FilesOnce
 pub mod FramesKept
 pub mod FirstPasses
+pub mod FirstScan
 pub mod FrameBehind
 pub mod FlatTables
 pub mod FrameFound
@@ -37,6 +40,8 @@ pub mod MovedWritten
 pub mod Once
 pub mod OneCode
 pub mod OneHeader
+pub mod OneReason
+pub mod ShownAlike
 pub mod OutsideZeros
 pub mod Packing
 pub mod PartStands

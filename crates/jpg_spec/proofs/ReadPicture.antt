@@ -217,7 +217,7 @@ block_in (v ∷ block) l h =
 
 -- THE PICTURE of a file
 
-file_numbers : (f : Frame) (before : List Segment) (blocks : Blocks) → SameNumbers f (picture_frame (meaning_of f before blocks))
+pub file_numbers : (f : Frame) (before : List Segment) (blocks : Blocks) → SameNumbers f (picture_frame (meaning_of f before blocks))
 file_numbers f before blocks = record {
   width = refl;
   height = refl;

@@ -31,10 +31,10 @@ pub record SameNumbers (f g : Frame) : Type 0 where
 
 -- WHAT THE NUMBERS TELL
 
-by_numbers : {A : Type 0} (f : ℕ × ℕ × ℕ → A) (a b : List Component) → map numbers_of a ≡ map numbers_of b → map (λ c. f (numbers_of c)) a ≡ map (λ c. f (numbers_of c)) b
+pub by_numbers : {A : Type 0} (f : ℕ × ℕ × ℕ → A) (a b : List Component) → map numbers_of a ≡ map numbers_of b → map (λ c. f (numbers_of c)) a ≡ map (λ c. f (numbers_of c)) b
 by_numbers f a b e = sym (map_map f numbers_of a) ∙ ap (map f) e ∙ map_map f numbers_of b
 
-same_count : (a b : List Component) → map numbers_of a ≡ map numbers_of b → length a ≡ length b
+pub same_count : (a b : List Component) → map numbers_of a ≡ map numbers_of b → length a ≡ length b
 same_count a b e = sym (length-map a numbers_of) ∙ ap length e ∙ length-map b numbers_of
 
 abbrev FactorsOf : ℕ × ℕ × ℕ → Type 0

@@ -1,5 +1,5 @@
 -- WORDS OF THE LAWS: what stands together in their premises, and what they conclude. No definition rests on them.
-use Rattle.std.specs.Prelude.{◌≡◌, ℕ, ◌+◌, ◌-◌, ◌*◌, ◌<◌, ◌≤◌, Bool, false, List, [], ◌∷◌, ◌++◌, length, map, take, None, ℤ, Contains, All}
+use Rattle.std.specs.Prelude.{◌≡◌, ℕ, ◌+◌, ◌-◌, ◌*◌, ◌<◌, ◌≤◌, Bool, false, List, [], ◌∷◌, ◌++◌, length, map, take, Some, None, ℤ, Contains, All}
 use Rattle.jpg_spec.specs.Bits.{Packs}
 use Rattle.jpg_spec.specs.Codes.{Code}
 use Rattle.jpg_spec.specs.Lists.{any_of}
@@ -28,8 +28,10 @@ use Rattle.jpg_spec.specs.Moved.{Choice, IsSamePicture, gray_fault, asks_progres
 use Rattle.jpg_spec.specs.Transforms.{transformed, inverse, transposes, changed_columns, changed_rows, placed}
 use Rattle.jpg_spec.specs.WholeBlocks.{HasWholeBlocks}
 use Rattle.jpg_spec.specs.Upsampling.{Stretch, upsampled_row}
-use Rattle.jpg_spec.specs.Pixels.{stretch_of, upsampled}
+use Rattle.jpg_spec.specs.NotShown.{IsNotShown}
+use Rattle.jpg_spec.specs.Pixels.{out_fault, stretch_of, upsampled}
 use Rattle.jpg_spec.specs.Strips.{IsRowReady, ready, IsCovered}
+use Rattle.jpg_spec.specs.declared.answers.FaultAt.{FaultAt}
 use Rattle.jpg_spec.specs.declared.fault.Fault.{Fault}
 use Rattle.jpg_spec.specs.declared.fault.Fault.TheVariants.{Truncated, InputTooLong}
 use Rattle.jpg_spec.specs.declared.frame.Bounds.{Bounds}
@@ -310,3 +312,8 @@ pub record MakesReady (M : Meaning) (count : ℕ) (smooth : Bool) (all m i y : �
   pub shown : i < count
   pub some : m ≤ all
   pub early : y < ready M count smooth all m
+
+-- What isn't shown of a file is what isn't shown of a picture.
+pub record AreNotShownAlike (limits : Limits) (gray : Bool) (bytes : List ℕ) (M : Meaning) : Type 0 where
+  pub same : (f : FaultAt) → IsNotShown limits gray bytes f → out_fault gray M ≡ Some f.fault
+  pub told : (fault : Fault) → out_fault gray M ≡ Some fault → (f : FaultAt) × IsNotShown limits gray bytes f × (f.fault ≡ fault)

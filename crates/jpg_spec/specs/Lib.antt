@@ -31,11 +31,13 @@ pub mod Meaning
 pub mod Messages
 pub mod Moved
 pub mod Moves
+pub mod NotShown
 pub mod Numbers
 pub mod PictureInWork
 pub mod Parts
 pub mod QuantContents
 pub mod Ranges
+pub mod Requests
 pub mod Pixels
 pub mod RedGreenBlue
 pub mod Scan
@@ -46,6 +48,7 @@ pub mod ScanText
 pub mod Script
 pub mod Segments
 pub mod Sending
+pub mod ShowWords
 pub mod Sound
 pub mod Strips
 pub mod Switches

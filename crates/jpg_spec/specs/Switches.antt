@@ -3,7 +3,7 @@ use Rattle.std.specs.Prelude.{ℕ, ◌+◌, Bool, false, nat_le, ◌&&◌, ◌==
 use Rattle.jpg_spec.specs.Lists.{begins_with}
 use Rattle.jpg_spec.specs.Markers.{is_within}
 use Rattle.jpg_spec.specs.declared.switch.Purpose.{Purpose}
-use Rattle.jpg_spec.specs.declared.switch.Purpose.TheVariants.{LeftOut, Replacing, CommentGiven, CommentInFile, CopyingGiven, FlipGiven, RotationGiven, Transposing, TransposingAcross, Trimming, Graying, OutputNamed, ProgressiveAsked, ScriptInFile, RestartGiven}
+use Rattle.jpg_spec.specs.declared.switch.Purpose.TheVariants.{LeftOut, Replacing, CommentGiven, CommentInFile, CopyingGiven, FlipGiven, RotationGiven, Transposing, TransposingAcross, Trimming, Graying, OutputNamed, ProgressiveAsked, ScriptInFile, RestartGiven, PnmAsked, BmpAsked, NotSmoothed, DctGiven, ScaleGiven}
 
 -- a word that begins with a hyphen
 abbrev pub is_switch : List ℕ → Bool
@@ -60,3 +60,29 @@ jpegtran_switches =
     ∷ record { name = codes "verbose"; shortest = 1; purpose = LeftOut }
     ∷ record { name = codes "debug"; shortest = 1; purpose = LeftOut }
     ∷ record { name = codes "maxmemory"; shortest = 3; purpose = LeftOut } ∷ []
+
+abbrev pub djpeg_switches : List Switch
+djpeg_switches =
+    record { name = codes "pnm"; shortest = 1; purpose = PnmAsked }
+    ∷ record { name = codes "ppm"; shortest = 1; purpose = PnmAsked }
+    ∷ record { name = codes "bmp"; shortest = 1; purpose = BmpAsked }
+    ∷ record { name = codes "grayscale"; shortest = 2; purpose = Graying }
+    ∷ record { name = codes "greyscale"; shortest = 2; purpose = Graying }
+    ∷ record { name = codes "nosmooth"; shortest = 3; purpose = NotSmoothed }
+    ∷ record { name = codes "dct"; shortest = 2; purpose = DctGiven }
+    ∷ record { name = codes "scale"; shortest = 1; purpose = ScaleGiven }
+    ∷ record { name = codes "outfile"; shortest = 4; purpose = OutputNamed }
+    ∷ record { name = codes "colors"; shortest = 1; purpose = LeftOut }
+    ∷ record { name = codes "colours"; shortest = 1; purpose = LeftOut }
+    ∷ record { name = codes "quantize"; shortest = 1; purpose = LeftOut }
+    ∷ record { name = codes "dither"; shortest = 2; purpose = LeftOut }
+    ∷ record { name = codes "fast"; shortest = 1; purpose = LeftOut }
+    ∷ record { name = codes "gif"; shortest = 1; purpose = LeftOut }
+    ∷ record { name = codes "map"; shortest = 3; purpose = LeftOut }
+    ∷ record { name = codes "maxmemory"; shortest = 3; purpose = LeftOut }
+    ∷ record { name = codes "onepass"; shortest = 3; purpose = LeftOut }
+    ∷ record { name = codes "os2"; shortest = 3; purpose = LeftOut }
+    ∷ record { name = codes "rle"; shortest = 1; purpose = LeftOut }
+    ∷ record { name = codes "verbose"; shortest = 1; purpose = LeftOut }
+    ∷ record { name = codes "debug"; shortest = 1; purpose = LeftOut }
+    ∷ record { name = codes "targa"; shortest = 1; purpose = LeftOut } ∷ []

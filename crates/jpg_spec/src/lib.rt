@@ -16,6 +16,7 @@ pub mod laws;
 pub mod marker_examples;
 pub mod marker_laws;
 pub mod pixel_examples;
+pub mod shown_laws;
 pub mod strip_laws;
 mod switch;
 mod transform;

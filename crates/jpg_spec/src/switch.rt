@@ -33,4 +33,14 @@ pub enum Purpose {
     ScriptInFile,
     /// `-restart`: the next word says how many MCUs or rows of them an interval has.
     RestartGiven,
+    /// `-pnm`, `-ppm`: the image is written as PNM.
+    PnmAsked,
+    /// `-bmp`: the image is written as BMP.
+    BmpAsked,
+    /// `-nosmooth`: rows of samples that are made wider are repeated.
+    NotSmoothed,
+    /// `-dct`: the next word names the arithmetic, `int` alone.
+    DctGiven,
+    /// `-scale`: the next word is the size, `1/1` alone.
+    ScaleGiven,
 }

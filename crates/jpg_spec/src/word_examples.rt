@@ -1,31 +1,34 @@
-//! Worked examples of words: what the words of jpegtran ask for, by computation.
-ghost use Rattle.std.specs.Prelude.{◌≡◌, [], ◌∷◌, true, codes};
+//! Worked examples of words: what the words of jpegtran and djpeg ask for, by computation.
+ghost use Rattle.std.specs.Prelude.{◌≡◌, [], ◌∷◌, true, false, codes};
 ghost use Rattle.jpg_spec.specs.CommentWords.{usage_at, words_right};
-ghost use Rattle.jpg_spec.specs.TransformWords.{nothing_said, transform_asked, with_input, with_output};
+ghost use Rattle.jpg_spec.specs.Requests.{nothing_said, with_input, with_output};
+ghost use Rattle.jpg_spec.specs.ShowWords.{show_asked, show_of};
+ghost use Rattle.jpg_spec.specs.TransformWords.{transform_asked, transform_of};
 ghost use Rattle.jpg_spec.specs.declared.answers.UsageFault.TheVariants.{BadValue, LeftOutSwitch, MissingValue, TooManyFiles, TwoTransforms, UnknownSwitch};
 ghost use Rattle.jpg_spec.specs.declared.frame.Copying.TheVariants as copying;
+ghost use Rattle.jpg_spec.specs.declared.image.EndKind.TheVariants.{Pnm, Bmp};
 ghost use Rattle.jpg_spec.specs.declared.transform.Transform.TheVariants.{FlipH, Rotate90, Transpose, Transverse};
 
 /// Beginnings of names are enough, in any case, and a number may have zeros before it.
 pub fn beginnings_are_enough()
-    ensures none { transform_asked [] ≡ words_right nothing_said }
-    ensures flip { transform_asked (codes "-f" ∷ codes "H" ∷ []) ≡ words_right (record nothing_said { transform = FlipH }) }
-    ensures rotate { transform_asked (codes "-RO" ∷ codes "090" ∷ []) ≡ words_right (record nothing_said { transform = Rotate90 }) }
-    ensures transpose { transform_asked (codes "-tr" ∷ []) ≡ words_right (record nothing_said { transform = Transpose }) }
-    ensures transverse { transform_asked (codes "-transv" ∷ []) ≡ words_right (record nothing_said { transform = Transverse }) }
-    ensures trim { transform_asked (codes "-tri" ∷ []) ≡ words_right (record nothing_said { trim = true }) }
-    ensures gray { transform_asked (codes "-grey" ∷ []) ≡ words_right (record nothing_said { gray = true }) }
-    ensures copy { transform_asked (codes "-c" ∷ codes "al" ∷ []) ≡ words_right (record nothing_said { copying = copying.All }) }
-    ensures restart { transform_asked (codes "-r" ∷ codes "7b" ∷ []) ≡ words_right (record nothing_said { unbuilt = true }) }
+    ensures none { transform_asked [] ≡ words_right (transform_of nothing_said) }
+    ensures flip { transform_asked (codes "-f" ∷ codes "H" ∷ []) ≡ words_right (record (transform_of nothing_said) { transform = FlipH }) }
+    ensures rotate { transform_asked (codes "-RO" ∷ codes "090" ∷ []) ≡ words_right (record (transform_of nothing_said) { transform = Rotate90 }) }
+    ensures transpose { transform_asked (codes "-tr" ∷ []) ≡ words_right (record (transform_of nothing_said) { transform = Transpose }) }
+    ensures transverse { transform_asked (codes "-transv" ∷ []) ≡ words_right (record (transform_of nothing_said) { transform = Transverse }) }
+    ensures trim { transform_asked (codes "-tri" ∷ []) ≡ words_right (record (transform_of nothing_said) { trim = true }) }
+    ensures gray { transform_asked (codes "-grey" ∷ []) ≡ words_right (record (transform_of nothing_said) { gray = true }) }
+    ensures copy { transform_asked (codes "-c" ∷ codes "al" ∷ []) ≡ words_right (record (transform_of nothing_said) { copying = copying.All }) }
+    ensures restart { transform_asked (codes "-r" ∷ codes "7b" ∷ []) ≡ words_right (record (transform_of nothing_said) { unbuilt = true }) }
 {}
 
 /// A switch that is said again takes its last value, the word behind `-outfile` is a name whatever it is, and the last word
 /// may name the input.
 pub fn last_values_count()
-    ensures again { transform_asked (codes "-copy" ∷ codes "all" ∷ codes "-copy" ∷ codes "none" ∷ []) ≡ words_right (record nothing_said { copying = copying.None }) }
-    ensures output { transform_asked (codes "-outf" ∷ codes "-trim" ∷ []) ≡ words_right (with_output (codes "-trim") nothing_said) }
-    ensures input { transform_asked (codes "-trim" ∷ codes "a.jpg" ∷ []) ≡ words_right (with_input (codes "a.jpg") (record nothing_said { trim = true })) }
-    ensures same { transform_asked (codes "-flip" ∷ codes "h" ∷ codes "-flip" ∷ codes "h" ∷ []) ≡ words_right (record nothing_said { transform = FlipH }) }
+    ensures again { transform_asked (codes "-copy" ∷ codes "all" ∷ codes "-copy" ∷ codes "none" ∷ []) ≡ words_right (record (transform_of nothing_said) { copying = copying.None }) }
+    ensures output { transform_asked (codes "-outf" ∷ codes "-trim" ∷ []) ≡ words_right (transform_of (with_output (codes "-trim") nothing_said)) }
+    ensures input { transform_asked (codes "-trim" ∷ codes "a" ∷ []) ≡ words_right (transform_of (with_input (codes "a") (record nothing_said { trim = true }))) }
+    ensures same { transform_asked (codes "-flip" ∷ codes "h" ∷ codes "-flip" ∷ codes "h" ∷ []) ≡ words_right (record (transform_of nothing_said) { transform = FlipH }) }
 {}
 
 /// The first word that is wrong is told.
@@ -40,4 +43,27 @@ pub fn wrong_words_have_their_places()
     ensures large { transform_asked (codes "-restart" ∷ codes "65536" ∷ []) ≡ usage_at BadValue 2 }
     ensures long { transform_asked (codes "-rotate" ∷ codes "000090" ∷ []) ≡ usage_at BadValue 2 }
     ensures files { transform_asked (codes "a" ∷ codes "-trim" ∷ []) ≡ usage_at TooManyFiles 2 }
+{}
+
+/// A picture is shown as PNM where no word asks for a format, else in the last one; a fault of it stands at that word, or behind all words.
+pub fn the_last_format_counts()
+    ensures none { show_asked [] ≡ words_right (show_of 1 nothing_said) }
+    ensures pnm { (show_of 1 nothing_said).kind ≡ Pnm }
+    ensures place { (show_of 1 nothing_said).kind_word ≡ 1 }
+    ensures bmp { show_asked (codes "-B" ∷ []) ≡ words_right (record (show_of 2 nothing_said) { kind = Bmp; kind_word = 1 }) }
+    ensures last { show_asked (codes "-bmp" ∷ codes "-ppm" ∷ []) ≡ words_right (record (show_of 3 nothing_said) { kind_word = 2 }) }
+    ensures gray { show_asked (codes "-gr" ∷ []) ≡ words_right (record (show_of 2 nothing_said) { gray = true }) }
+    ensures smooth { show_asked (codes "-nos" ∷ []) ≡ words_right (record (show_of 2 nothing_said) { smooth = false }) }
+    ensures int { show_asked (codes "-dct" ∷ codes "INT" ∷ []) ≡ words_right (show_of 3 nothing_said) }
+    ensures scale { show_asked (codes "-s" ∷ codes "1/1" ∷ []) ≡ words_right (show_of 3 nothing_said) }
+{}
+
+/// The first word of djpeg that is wrong is told.
+pub fn wrong_words_of_djpeg_have_their_places()
+    ensures fast { show_asked (codes "-dct" ∷ codes "fast" ∷ []) ≡ usage_at BadValue 2 }
+    ensures half { show_asked (codes "-bmp" ∷ codes "-scale" ∷ codes "1/2" ∷ []) ≡ usage_at BadValue 3 }
+    ensures debug { show_asked (codes "-d" ∷ []) ≡ usage_at LeftOutSwitch 1 }
+    ensures targa { show_asked (codes "-t" ∷ []) ≡ usage_at LeftOutSwitch 1 }
+    ensures flip { show_asked (codes "-flip" ∷ codes "h" ∷ []) ≡ usage_at UnknownSwitch 1 }
+    ensures files { show_asked (codes "a" ∷ codes "b" ∷ []) ≡ usage_at TooManyFiles 2 }
 {}

@@ -168,7 +168,7 @@ fn files_come_to_one_answer(rt: HostRuntime) -> Result<(), Fail> {
             ],
             fault(Fault::RepeatedScan, 342),
         ),
-        (&[(90, 91, b"\xc2")], fault(Fault::NotBuilt, 102)),
+        (&[(90, 91, b"\xc2")], fault(Fault::ScanParameters, 328)),
         (
             &[(90, 91, b"\xc2"), (94, 96, b"\x00\x00")],
             fault(Fault::EmptyImage, 102),

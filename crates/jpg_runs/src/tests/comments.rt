@@ -1,7 +1,7 @@
 // Runs of rdjpgcom over a desk in memory (T.81, B.2.4.5, its manual in release 6b).
-use super::{refused_at, strings};
+use super::{ran, refused_at, strings};
 use jpg_base::{MemoryDesk, Name, NoMemory, Text};
-use jpg_cli::{Ended, run};
+use jpg_cli::Ended;
 use jpg_spec::{Fault, Which, Why};
 use std::alloc::Global;
 use std::test::Fail;
@@ -70,7 +70,7 @@ fn comments_are_printed(rt: HostRuntime) -> Result<(), Fail> {
             for piece in [1, 9, 65_536] {
                 let words = strings(rt.alloc(), words)?;
                 let mut desk = desk_with(rt.alloc(), bytes, piece)?;
-                let ended = run(rt.alloc(), words.as_slice(), &mut desk);
+                let ended = ran(rt.alloc(), words.as_slice(), &mut desk);
                 assert_eq!(rt;
                     ended,
                     Ended {
@@ -108,7 +108,7 @@ fn failing_calls_end_the_printing(rt: HostRuntime) -> Result<(), Fail> {
     for (call, code, why, outputs, most) in rows {
         let mut desk = desk_with(rt.alloc(), FILE, 9)?;
         desk.fail(call)?;
-        let ended = run(rt.alloc(), rdjpgcom.as_slice(), &mut desk);
+        let ended = ran(rt.alloc(), rdjpgcom.as_slice(), &mut desk);
         assert_eq!(rt; ended, Ended { code, why }, "at call {call}");
         assert_eq!(rt; desk.outputs(), outputs, "at call {call}");
         if desk.outputs() == 1 {

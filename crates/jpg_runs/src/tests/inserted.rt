@@ -1,7 +1,7 @@
 // Runs of wrjpgcom over a desk in memory (T.81, B.2.4.5, its manual in release 6b).
-use super::{Change, changed, refused_at, strings, usage_at};
+use super::{Change, changed, ran, refused_at, strings, usage_at};
 use jpg_base::{Bytes, MemoryDesk, Name, NoMemory, Text};
-use jpg_cli::{Ended, run};
+use jpg_cli::Ended;
 use jpg_spec::{Fault, UsageFault, Which, Why};
 use std::alloc::Global;
 use std::test::Fail;
@@ -47,7 +47,7 @@ fn comments_are_inserted(rt: HostRuntime) -> Result<(), Fail> {
         for piece in [1, 9, 65_536] {
             let words = strings(rt.alloc(), words)?;
             let mut desk = desk_with(rt.alloc(), input, piece)?;
-            let ended = run(rt.alloc(), words.as_slice(), &mut desk);
+            let ended = ran(rt.alloc(), words.as_slice(), &mut desk);
             assert_eq!(rt;
                 ended,
                 Ended {
@@ -78,7 +78,7 @@ fn the_smallest_file_gains_a_comment(rt: HostRuntime) -> Result<(), Fail> {
         let text = changed(rt.alloc(), text)?;
         for piece in [1, 65_536] {
             let mut desk = desk_with(rt.alloc(), input.as_slice(), piece)?;
-            let ended = run(rt.alloc(), words.as_slice(), &mut desk);
+            let ended = ran(rt.alloc(), words.as_slice(), &mut desk);
             assert_eq!(rt; ended.why, Why::Done, "{comment}");
             assert_eq!(rt; desk.outputs(), 1, "{comment}");
             if desk.outputs() == 1 {
@@ -133,7 +133,7 @@ fn refused_inputs_create_nothing(rt: HostRuntime) -> Result<(), Fail> {
         for piece in [1, 65_536] {
             let words = strings(rt.alloc(), words)?;
             let mut desk = desk_with(rt.alloc(), input, piece)?;
-            let ended = run(rt.alloc(), words.as_slice(), &mut desk);
+            let ended = ran(rt.alloc(), words.as_slice(), &mut desk);
             assert_eq!(rt; ended, Ended { code: 1, why: *why }, "words {i}");
             assert_eq!(rt; desk.outputs(), 0, "words {i}");
             assert_eq!(rt; desk.said(), message.as_bytes(), "words {i}");
@@ -159,7 +159,7 @@ fn long_comments_are_judged_before_the_input(rt: HostRuntime) -> Result<(), Fail
         let mut desk = desk_with(rt.alloc(), FILE, 65_536)?;
         let long = Name::File(Text::new(rt.alloc(), "long")?);
         desk.add_file(&long, comment.as_slice())?;
-        let ended = run(rt.alloc(), words.as_slice(), &mut desk);
+        let ended = ran(rt.alloc(), words.as_slice(), &mut desk);
         assert_eq!(rt; ended, Ended { code: 1, why }, "{length}");
         assert_eq!(rt; desk.outputs(), 0, "{length}");
     }
@@ -189,7 +189,7 @@ fn failing_calls_end_the_insertion(rt: HostRuntime) -> Result<(), Fail> {
     for (call, code, why, outputs, most) in rows {
         let mut desk = desk_with(rt.alloc(), b"", 9)?;
         desk.fail(call)?;
-        let ended = run(rt.alloc(), words.as_slice(), &mut desk);
+        let ended = ran(rt.alloc(), words.as_slice(), &mut desk);
         assert_eq!(rt; ended, Ended { code, why }, "at call {call}");
         assert_eq!(rt; desk.outputs(), outputs, "at call {call}");
         if desk.outputs() == 1 {

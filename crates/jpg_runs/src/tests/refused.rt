@@ -1,7 +1,7 @@
 // Files that are refused, each with its first fault, or as not built yet.
-use super::{Change, FLIP, SMALLEST, changed, desk_with, strings};
+use super::{Change, FLIP, SMALLEST, changed, desk_with, ran, strings};
 use jpg_base::Desk;
-use jpg_cli::{Ended, run};
+use jpg_cli::Ended;
 use jpg_spec::{Fault, FaultAt, Why};
 use std::test::Fail;
 
@@ -103,11 +103,11 @@ static HEADERS: [(&[Change], Fault, u64); 36] = [
         Fault::McuTooLarge,
         338,
     ),
-    (&[(90, 91, &[0xc2])], Fault::NotBuilt, 102),
+    (&[(90, 91, &[0xc2])], Fault::ScanParameters, 328),
     (
         &[(90, 91, &[0xc2]), (135, 318, &[]), (326, 328, &[0, 11])],
-        Fault::NotBuilt,
-        102,
+        Fault::ScanParameters,
+        145,
     ),
     (&[(318, 329, &[])], Fault::MissingComponent, 320),
     (
@@ -117,13 +117,8 @@ static HEADERS: [(&[Change], Fault, u64); 36] = [
     ),
 ];
 
-// The header of a progressive frame, tables that are wanting, data that spell no picture, and no EOI.
-static SCANS: [(&[Change], Fault, u64); 21] = [
-    (
-        &[(90, 91, &[0xc2]), (135, 318, &[]), (326, 327, &[0])],
-        Fault::NotBuilt,
-        102,
-    ),
+// Tables that are wanting, data that spell no picture, and no EOI.
+static SCANS: [(&[Change], Fault, u64); 20] = [
     (&[(20, 89, &[])], Fault::MissingTable, 259),
     (&[(102, 135, &[])], Fault::MissingTable, 295),
     (&[(135, 318, &[])], Fault::MissingTable, 145),
@@ -177,7 +172,7 @@ fn is_refused(rt: HostRuntime, changes: &[Change], fault: FaultAt) -> Result<boo
     };
     for piece in [1, 65536] {
         let mut desk = desk_with(rt.alloc(), input.as_slice(), piece)?;
-        if run(rt.alloc(), flip.as_slice(), &mut desk) != refused
+        if ran(rt.alloc(), flip.as_slice(), &mut desk) != refused
             || desk.outputs() != 0
             || !desk.said().starts_with(b"jpegtran: refused: ")
         {
@@ -211,7 +206,7 @@ fn messages_name_the_fault(rt: HostRuntime) -> Result<(), Fail> {
     for (length, message) in rows {
         let input = SMALLEST.get(..length).ok_or("a shorter length")?;
         let mut desk = desk_with(rt.alloc(), input, 100)?;
-        let ended = run(rt.alloc(), flip.as_slice(), &mut desk);
+        let ended = ran(rt.alloc(), flip.as_slice(), &mut desk);
         assert_eq!(rt; ended.code, 1, "of {length}");
         assert_eq!(rt; desk.said(), message, "of {length}");
     }

@@ -1,8 +1,8 @@
 // Pictures moved in all ways, with what the files that are due have: their lengths, and sums that tell them apart. Another
 // program gave these.
-use super::{Change, changed, desk_with, strings, sum, written};
+use super::{Change, changed, desk_with, ran, strings, sum, written};
 use jpg_base::{Bytes, Desk, MemoryDesk, Name, NoMemory, Text};
-use jpg_cli::{Ended, run};
+use jpg_cli::Ended;
 use jpg_spec::{PictureFault, Which, Why};
 use std::alloc::Global;
 use std::test::Fail;
@@ -188,7 +188,7 @@ fn pictures_are_moved(rt: HostRuntime) -> Result<(), Fail> {
         let input = changed(rt.alloc(), file_of(file))?;
         let list = strings(rt.alloc(), words)?;
         let mut desk = desk_with(rt.alloc(), input.as_slice(), 100)?;
-        let ended = run(rt.alloc(), list.as_slice(), &mut desk);
+        let ended = ran(rt.alloc(), list.as_slice(), &mut desk);
         assert_eq!(rt; ended.why, Why::Done, "{words:?}");
         let Some(output) = written(&desk) else {
             panic!(rt; "one output");
@@ -217,7 +217,7 @@ fn other_pictures_are_not_grayed(rt: HostRuntime) -> Result<(), Fail> {
     for (file, fault, message) in rows {
         let input = changed(rt.alloc(), file)?;
         let mut desk = desk_with(rt.alloc(), input.as_slice(), 65536)?;
-        let ended = run(rt.alloc(), words.as_slice(), &mut desk);
+        let ended = ran(rt.alloc(), words.as_slice(), &mut desk);
         let why = Why::Picture(fault);
         assert_eq!(rt; ended, Ended { code: 1, why });
         assert_eq!(rt; desk.outputs(), 0);
@@ -243,7 +243,7 @@ fn pictures_are_turned_back(rt: HostRuntime) -> Result<(), Fail> {
     let b = Name::File(Text::new(rt.alloc(), "b.jpg")?);
     desk.add_file(&a, input.as_slice())?;
     assert_eq!(rt;
-        run(rt.alloc(), quarter.as_slice(), &mut desk).why,
+        ran(rt.alloc(), quarter.as_slice(), &mut desk).why,
         Why::Done
     );
     let Some(turned) = written(&desk) else {
@@ -253,7 +253,7 @@ fn pictures_are_turned_back(rt: HostRuntime) -> Result<(), Fail> {
     let mut desk_back = MemoryDesk::new(rt.alloc(), 65536);
     desk_back.add_file(&b, turned)?;
     assert_eq!(rt;
-        run(rt.alloc(), back.as_slice(), &mut desk_back).why,
+        ran(rt.alloc(), back.as_slice(), &mut desk_back).why,
         Why::Done
     );
     assert!(rt; written(&desk_back) == Some(input.as_slice()));
@@ -315,7 +315,7 @@ fn pictures_of_a_camera_are_moved(rt: HostRuntime) -> Result<(), Fail> {
         let list = strings(rt.alloc(), words)?;
         let mut desk = desk_with(rt.alloc(), input.as_slice(), 65536)?;
         assert_eq!(rt;
-            run(rt.alloc(), list.as_slice(), &mut desk).why,
+            ran(rt.alloc(), list.as_slice(), &mut desk).why,
             Why::Done,
             "{words:?}"
         );
@@ -325,7 +325,7 @@ fn pictures_of_a_camera_are_moved(rt: HostRuntime) -> Result<(), Fail> {
         assert_eq!(rt; (output.len(), sum(output)), (length, due), "{words:?}");
         let mut failing = desk_with(rt.alloc(), input.as_slice(), 65536)?;
         failing.fail(3)?;
-        let ended = run(rt.alloc(), list.as_slice(), &mut failing);
+        let ended = ran(rt.alloc(), list.as_slice(), &mut failing);
         assert_eq!(rt; ended.why, Why::OpenFault(Which::Output), "{words:?}");
     }
     Ok(())

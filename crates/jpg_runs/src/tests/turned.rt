@@ -1,7 +1,7 @@
 // Files that are turned, with the files that are due.
-use super::{Change, FLIP, changed, desk_with, strings, written};
+use super::{Change, FLIP, changed, desk_with, ran, strings, written};
 use jpg_base::{Bytes, Desk, NoMemory};
-use jpg_cli::{Ended, run};
+use jpg_cli::Ended;
 use jpg_spec::Why;
 use std::alloc::Global;
 use std::test::Fail;
@@ -343,7 +343,7 @@ fn is_turned(rt: HostRuntime, input: &[u8], output: &[u8], piece: u32) -> Result
         why: Why::Done,
     };
     let mut desk = desk_with(rt.alloc(), input, piece)?;
-    let ended = run(rt.alloc(), flip.as_slice(), &mut desk);
+    let ended = ran(rt.alloc(), flip.as_slice(), &mut desk);
     Ok(ended == done && written(&desk) == Some(output) && desk.said().is_empty())
 }
 

@@ -5,15 +5,15 @@ pub returns-in-Failed-clause-after : goal.returns-in-Failed-clause-after
 returns-in-Failed-clause-after g c = λ start bytes h still had.
     let state = g.D.Desk.state in
     let read = c.in-Failed.ensures in
-    piece_unread start (state c.args.desk.now) (state c.read.new.self) bytes c.args.reader.now c.requires.limits h still had read.after.0 read.after.1
+    piece_unread c.args.wanted start (state c.args.desk.now) (state c.read.new.self) bytes c.args.reader.now c.requires.limits h still had read.after.0 read.after.1
 
 pub returns-in-End-clause-after : goal.returns-in-End-clause-after
 returns-in-End-clause-after g c = λ start bytes h still had.
     let state = g.D.Desk.state in
     let read = c.in-End.ensures in
-    piece_end start (state c.args.desk.now) (state c.read.new.self) bytes c.at_end.result read.after.0 read.after.1 had (c.at_end.ensures.ended bytes h.read)
+    piece_end c.args.wanted start (state c.args.desk.now) (state c.read.new.self) bytes c.at_end.result read.after.0 read.after.1 had (c.at_end.ensures.ended bytes h)
 
 pub returns-in-Bytes-clause-after : goal.returns-in-Bytes-clause-after
 returns-in-Bytes-clause-after g c = λ start bytes h still had.
     let state = g.D.Desk.state in
-    piece_taken start (state c.args.desk.now) (state c.read.new.self) c.in-Bytes.count c.read.new.buf bytes c.take_piece.result c.take_piece.new.reader c.in-Bytes.ensures had (c.take_piece.ensures.taken bytes h)
+    piece_taken c.args.wanted start (state c.args.desk.now) (state c.read.new.self) c.in-Bytes.count c.read.new.buf bytes c.take_piece.result c.take_piece.new.reader c.in-Bytes.ensures had (c.take_piece.ensures.taken bytes h)

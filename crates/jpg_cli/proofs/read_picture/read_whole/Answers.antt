@@ -1,7 +1,6 @@
-use Rattle.std.proofs.Common.{rules, [], ◌++◌, ◌<◌, refl}
-use Rattle.std.proofs.lemmas.List.Elements.{All-nil}
+use Rattle.std.proofs.Common.{rules, [], ◌++◌, refl}
 use Rattle.jpg_cli.proofs.CommentsCopied.{none_read}
-use Rattle.jpg_cli.proofs.PictureBytes.{has_fed}
+use Rattle.jpg_cli.proofs.PictureBytes.{fed_none}
 use Rattle.jpg_cli.proofs.PictureTaken.{reads_none, reads_then}
 use Rattle.jpg_cli.proofs.read_picture.read_whole.Goals as goal
 
@@ -10,7 +9,7 @@ loop-why-init g c =
     let s = g.D.Desk.state c.args.desk.now in
     record {
       kept = reads_none s;
-      read = ([], has_fed [] c.args.reader.now c.requires.limits (All-nil (λ b. b < 256)) c.requires.none, none_read s.left);
+      read = ([], fed_none c.args.wanted c.args.reader.now c.requires.limits c.requires.none, none_read s.left);
       opened = c.requires.open;
       limits = c.requires.limits;
       room = refl;

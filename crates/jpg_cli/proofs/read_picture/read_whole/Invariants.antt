@@ -10,7 +10,7 @@ invariant-loop-why g l =
     let state = g.D.Desk.state in
     record {
       kept : OnlyReads (state l.initial.desk) (state l.desk);
-      read : (bytes : List ℕ) × HasFed l.reader bytes × Consumes (state l.initial.desk).left (state l.desk).left bytes;
+      read : (bytes : List ℕ) × HasFed l.wanted l.reader bytes × Consumes (state l.initial.desk).left (state l.desk).left bytes;
       opened : (state l.desk).input_open ≡ true;
       limits : l.reader.limits ≡ standard_limits;
       room : length l.buffer ≡ 65536;

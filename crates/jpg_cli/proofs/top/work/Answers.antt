@@ -1,11 +1,15 @@
-use Rattle.std.proofs.Common.{map, subst, sym, Ok}
+use Rattle.std.proofs.Common.{map, subst, sym, Ok, Err}
 use Rattle.std.specs.Prelude.{string_bytes}
 use Rattle.jpg_spec.specs.CommentWords.{WordsTold}
 use Rattle.jpg_cli.specs.Commands.{Command, IsCommand, command_asked}
+use Rattle.jpg_cli.specs.Ends.{formats_of}
 use Rattle.jpg_cli.specs.Run.{Worked}
+use Rattle.jpg_cli.specs.declared.comment_words.WordsStop.{WordsStop}
 use Rattle.jpg_cli.specs.declared.words.Asked.{Asked}
 use Rattle.jpg_cli.proofs.InsertedThen.{asked_inserted}
-use Rattle.jpg_cli.proofs.Running.{asked_turned}
+use Rattle.jpg_cli.proofs.ImageShown.{asked_shown}
+use Rattle.jpg_cli.proofs.PictureTaken.{reads_none}
+use Rattle.jpg_cli.proofs.Running.{asked_turned, names_wanting}
 use Rattle.jpg_cli.proofs.top.work.Goals as goal
 
 pub returns-in-Ok-Jpegtran : goal.returns-in-Ok-Jpegtran
@@ -15,20 +19,39 @@ returns-in-Ok-Jpegtran g c =
     let told = subst (λ (a : Asked). IsCommand asked (Ok a)) c.in-Ok-Jpegtran.field-0-is c.in-Ok-Jpegtran.ensures in
     record {
       worked =
-          (let P : WordsTold Command → Type 0 = λ a. Worked a (state c.args.desk.now) c.transform.result (state c.transform.new.desk) in
+          (let P : WordsTold Command → Type 0 = λ a. Worked (formats_of (map (λ e. (goal.ImageEnd-dyn g (e.vtable, e.value)).progress e.value) c.args.ends.items)) a (state c.args.desk.now) c.transform.result (state c.transform.new.desk) in
           subst P (sym told) (asked_turned c.in-Ok-Jpegtran.words (state c.args.desk.now) (state c.transform.new.desk) c.transform.result c.transform.ensures.turned));
       kept = c.transform.ensures.kept;
     }
 
-pub returns-in-Ok-Wrjpgcom : goal.returns-in-Ok-Wrjpgcom
-returns-in-Ok-Wrjpgcom g c =
+pub returns : goal.returns
+returns g c =
     let state = g.D.Desk.state in
     let asked = command_asked (map string_bytes c.args.words.now) in
     let told = subst (λ (a : Asked). IsCommand asked (Ok a)) c.in-Ok-Wrjpgcom.field-0-is c.in-Ok-Wrjpgcom.ensures in
     let done = c.insert_comment.ensures in
     record {
       worked =
-          (let P : WordsTold Command → Type 0 = λ a. Worked a (state c.args.desk.now) c.insert_comment.result (state c.insert_comment.new.desk) in
+          (let P : WordsTold Command → Type 0 = λ a. Worked (formats_of (map (λ e. (goal.ImageEnd-dyn g (e.vtable, e.value)).progress e.value) c.args.ends.items)) a (state c.args.desk.now) c.insert_comment.result (state c.insert_comment.new.desk) in
           subst P (sym told) (asked_inserted c.in-Ok-Wrjpgcom.words (state c.args.desk.now) (state c.insert_comment.new.desk) c.insert_comment.result done.inserted));
       kept = done.kept;
     }
+
+pub returns-in-Ok-Djpeg : goal.returns-in-Ok-Djpeg
+returns-in-Ok-Djpeg g c =
+    let state = g.D.Desk.state in
+    let asked = command_asked (map string_bytes c.args.words.now) in
+    let told = subst (λ (a : Asked). IsCommand asked (Ok a)) c.in-Ok-Djpeg.field-0-is c.in-Ok-Djpeg.ensures in
+    record {
+      worked =
+          (let P : WordsTold Command → Type 0 = λ a. Worked (formats_of (map (λ e. (goal.ImageEnd-dyn g (e.vtable, e.value)).progress e.value) c.args.ends.items)) a (state c.args.desk.now) c.show_by.result (state c.show_by.new.desk) in
+          subst P (sym told) (asked_shown _ c.in-Ok-Djpeg.words (state c.args.desk.now) (state c.show_by.new.desk) c.show_by.result c.show_by.ensures.shown));
+      kept = c.show_by.ensures.kept;
+    }
+
+pub returns-in-Err-NoMemory : goal.returns-in-Err-NoMemory
+returns-in-Err-NoMemory g c =
+    let state = g.D.Desk.state in
+    let s = state c.args.desk.now in
+    let told = subst (λ (x : WordsStop). IsCommand (command_asked (map string_bytes c.args.words.now)) (Err x)) c.in-Err-NoMemory.field-0-is c.in-Err-NoMemory.ensures in
+    record { worked = names_wanting (formats_of (map (λ e. (goal.ImageEnd-dyn g (e.vtable, e.value)).progress e.value) c.args.ends.items)) _ s told; kept = (reads_none s).copies.works }

@@ -1,5 +1,5 @@
 use Rattle.jpg_file.specs.PictureRead.{picture_meaning}
-use Rattle.jpg_cli.proofs.Running.{HasPictureRead, meant, turned_done, turned_unopened, turned_unwritten}
+use Rattle.jpg_cli.proofs.Running.{meant, turned_done, turned_unopened, turned_unwritten}
 use Rattle.jpg_cli.proofs.transform.transform.Goals as goal
 
 pub write_moved-requires-clause-meant : goal.write_moved-requires-clause-meant

@@ -1,4 +1,4 @@
-use Rattle.std.proofs.Common.{◌≡◌, ◌++◌, List, ℕ, [], ap, Err, Result}
+use Rattle.std.proofs.Common.{[], Err}
 use Rattle.std.proofs.lemmas.Result.{err_from_is_err_and}
 use Rattle.jpg_spec.specs.Markers.{eoi}
 use Rattle.jpg_huff.proofs.Together.{sends_then, sends_fault, sends_same}

@@ -1,4 +1,4 @@
-use Rattle.std.proofs.Common.{◌≡◌, ◌+◌, drop, refl, sym, ap, ◌∙◌, false}
+use Rattle.std.proofs.Common.{◌+◌, drop, refl, sym, ap, false}
 use Rattle.std.specs.Prelude.{replicate}
 use Rattle.std.proofs.lemmas.Result.{err_from_is_err_and}
 use Rattle.jpg_spec.specs.FrameHeader.{identifiers}

@@ -1,9 +1,9 @@
-use Rattle.std.proofs.Common.{◌≡◌, ◌++◌, List, ℕ, refl, sym, ap, ◌∙◌, subst}
+use Rattle.std.proofs.Common.{◌≡◌, List, ℕ, refl, sym, ap, ◌∙◌, subst}
 use Rattle.std.specs.List.{All}
 use Rattle.std.proofs.lemmas.Result.{err_from_is_err_and}
 use Rattle.jpg_spec.specs.FileText.{segment_text, tables_given, tables_text}
 use Rattle.jpg_spec.specs.FrameHeader.{identifiers}
-use Rattle.jpg_spec.specs.ScanText.{scan_data, scan_elements, typical_table}
+use Rattle.jpg_spec.specs.ScanText.{typical_table}
 use Rattle.jpg_spec.specs.Script.{Entry}
 use Rattle.jpg_spec.specs.Segments.{ScanHead}
 use Rattle.jpg_spec.specs.declared.frame.ScanPart.{ScanPart}

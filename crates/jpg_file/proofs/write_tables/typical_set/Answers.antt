@@ -1,4 +1,4 @@
-use Rattle.std.proofs.Common.{◌∙◌, ap, sym}
+use Rattle.std.proofs.Common.{◌∙◌}
 use Rattle.jpg_spec.specs.ScanText.{typical_table}
 use Rattle.jpg_huff.specs.Sets.{dc_tables, ac_tables}
 use Rattle.jpg_file.proofs.TypicalSet.{first_slot, second_slot}

@@ -1,4 +1,4 @@
-use Rattle.std.proofs.Common.{◌+◌, ◌*◌, ◌∙◌, Err, ap, sym, true}
+use Rattle.std.proofs.Common.{◌+◌, ◌*◌, ap, true}
 use Rattle.std.specs.Prelude.{slice_set}
 use Rattle.std.proofs.lemmas.Result.{err_from_is_err_and}
 use Rattle.jpg_huff.proofs.Together.{sends_then, sends_fault, sends_same}

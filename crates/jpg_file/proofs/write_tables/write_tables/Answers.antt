@@ -1,11 +1,11 @@
-use Rattle.std.proofs.Common.{◌≡◌, ◌+◌, ◌<◌, List, length, drop, rules, refl, sym, ap, ◌∙◌, subst}
+use Rattle.std.proofs.Common.{◌+◌, length, drop, rules, refl, sym, ap, ◌∙◌}
 use Rattle.std.proofs.lemmas.Result.{err_from_is_err_and}
 use Rattle.jpg_spec.specs.FileText.{tables_given, tables_text}
 use Rattle.jpg_spec.specs.ScanText.{typical_table}
 use Rattle.jpg_huff.specs.BitOut.{Sends}
 use Rattle.jpg_huff.proofs.InParts.{of_bytes, part_start, part_same, part_then, part_fault}
 use Rattle.jpg_huff.proofs.Together.{can_after, sends_nothing}
-use Rattle.jpg_file.specs.WriteTables.{given_in, part_due, tables_due}
+use Rattle.jpg_file.specs.WriteTables.{given_in, tables_due}
 use Rattle.jpg_file.proofs.GivenTables.{left_text, left_more, part_length}
 use Rattle.jpg_file.proofs.write_tables.write_tables.Goals as goal
 

@@ -6,7 +6,7 @@ use Rattle.jpg_file.proofs.begun.Begun.note_quants.Given as goal
 
 abbrev pub invariant-loop-rest : goal.invariant-loop-rest
 invariant-loop-rest l =
-    (l.self.seen ≡ l.fn.self.seen)
+    (l.self.progress ≡ l.fn.self.progress)
     × ((i : ℕ) → first_some (quant_in l.self.quants i) (quant_named l.frame l.quants l.rest i) ≡ first_some (quant_in l.fn.self.quants i) (quant_named l.frame l.quants l.parts i))
     × All (λ p. p.component < length l.frame.components) l.rest
 

@@ -19,8 +19,5 @@ returns-in-Head-clause-after c = λ bytes k.
 pub returns-in-Eoi-clause-after : goal.returns-in-Eoi-clause-after
 returns-in-Eoi-clause-after c = λ bytes k. c.take_end.ensures (limits_of c.args.self.now) (bytes ++ c.args.byte ∷ []) (c.in-Eoi.ensures.after bytes k)
 
-pub returns-in-Progressive-clause-after : goal.returns-in-Progressive-clause-after
-returns-in-Progressive-clause-after c = λ bytes k. let e = c.in-Progressive.ensures.after bytes k in (e.1, inr (refl, e.0))
-
 pub returns-in-Fault-clause-after : goal.returns-in-Fault-clause-after
-returns-in-Fault-clause-after c = λ bytes k. let e = c.in-Fault.ensures.after bytes k in (e.1, inl e.0)
+returns-in-Fault-clause-after c = λ bytes k. let e = c.in-Fault.ensures.after bytes k in (e.1, e.0)

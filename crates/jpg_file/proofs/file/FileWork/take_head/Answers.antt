@@ -29,4 +29,4 @@ returns-in-Fault-clause-after c = λ bytes h.
     let room = c.make_room.new.self in
     let made = room_made old room c.make_room.result c.make_room.ensures.made (sym c.is_err.ensures.value ∙ c.if-is_err.false) in
     let a = head_after (limits_of old) bytes old room (step.Fault c.in-Fault.fault) c.take_head.new.self c.take_head.new.begun h made c.in-Fault.ensures in
-    (a.1, inl a.0)
+    (a.1, a.0)

@@ -5,11 +5,11 @@ use Rattle.jpg_file.specs.Held.{Takes, told_by}
 use Rattle.jpg_file.specs.declared.held.Took.TheVariants as took
 use Rattle.jpg_file.specs.declared.items.Items.{Items}
 use Rattle.jpg_markers.specs.Reading.{reading_of}
-use Rattle.jpg_file.proofs.ItemBytes.{segment_taken, segment_fault, progressive_taken}
+use Rattle.jpg_file.proofs.ItemBytes.{segment_taken, segment_fault}
 use Rattle.jpg_file.proofs.items.Items.segment.Goals as goal
 
-pub returns-else-code-2-clause-after : goal.returns-else-code-2-clause-after
-returns-else-code-2-clause-after c = λ bytes items blocks k.
+pub returns-in-Done-clause-after : goal.returns-in-Done-clause-after
+returns-in-Done-clause-after c = λ bytes items blocks k.
     let w = c.args.self.now in
     let r = reading_of w.segments in
     let before = segments_of items in
@@ -20,21 +20,7 @@ returns-else-code-2-clause-after c = λ bytes items blocks k.
     let t = c.in-Done.ensures before k.holds kept in
     let t1 = subst (λ (n : ℕ). Takes w.limits before n c.contents.result.now took.Done (told_by new.held)) (sym e) t in
     let t2 = subst (λ (xs : List ℕ). Takes w.limits before r.code xs took.Done (told_by new.held)) (sym f) t1 in
-    segment_taken w.limits bytes items blocks w new k (λ h. c.if-code.false (sym e ∙ h)) (λ h. c.if-code-2.false (sym e ∙ h)) t2.0 refl refl t2.1
-
-pub returns-then-code-2-clause-after : goal.returns-then-code-2-clause-after
-returns-then-code-2-clause-after c = λ bytes items blocks k.
-    let w = c.args.self.now in
-    let r = reading_of w.segments in
-    let before = segments_of items in
-    let new : Items = record w { held = c.take.new.self } in
-    let e = sym c.code-code.ensures in
-    let f = sym c.contents.ensures in
-    let kept = subst (λ (xs : List ℕ). kept_rule w.limits before c.code-code.result xs ≡ None) f (subst (λ (n : ℕ). kept_rule w.limits before n r.contents ≡ None) e k.kept) in
-    let t = c.in-Done.ensures before k.holds kept in
-    let t1 = subst (λ (n : ℕ). Takes w.limits before n c.contents.result.now took.Done (told_by new.held)) (sym e) t in
-    let t2 = subst (λ (xs : List ℕ). Takes w.limits before r.code xs took.Done (told_by new.held)) (sym f) t1 in
-    progressive_taken w.limits bytes items blocks w k (e ∙ c.if-code-2.true) t2.0
+    segment_taken w.limits bytes items blocks w new k (λ h. c.if-code.false (sym e ∙ h)) t2.0 refl refl t2.1
 
 pub returns-in-Fault-clause-after : goal.returns-in-Fault-clause-after
 returns-in-Fault-clause-after c = λ bytes items blocks k.

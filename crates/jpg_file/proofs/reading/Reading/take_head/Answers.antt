@@ -1,14 +1,15 @@
-use Rattle.std.proofs.Common.{◌≡◌, ◌∙◌, Bool, List, Ok, Err, true, false, subst, sym, map, refl, ap, arith}
-use Rattle.std.specs.Prelude.{◌||◌, is_none, slice_index_or}
-use Rattle.jpg_spec.specs.Lists.{is_among}
+use Rattle.std.proofs.Common.{◌≡◌, ◌∙◌, List, ◌∷◌, Ok, Err, true, false, subst, sym, refl, ap, arith}
+use Rattle.std.specs.Prelude.{is_none}
 use Rattle.jpg_spec.specs.Geometry.{Frame, component_at}
 use Rattle.jpg_spec.specs.InForce.{first_some, head_in}
 use Rattle.jpg_spec.specs.QuantContents.{Slots, quant_in}
+use Rattle.jpg_spec.specs.History.{names}
 use Rattle.jpg_spec.specs.Items.{segments_of}
 use Rattle.jpg_spec.specs.declared.frame.ScanPart.{ScanPart}
-use Rattle.jpg_file.specs.Begun.{begun_at, quant_named}
+use Rattle.jpg_spec.proofs.FrameFound.{framed}
+use Rattle.jpg_file.specs.Begun.{StandsForHeads, quant_named}
 use Rattle.jpg_file.specs.Held.{told_by}
-use Rattle.jpg_spec.specs.Segments.{ScanHead, head_components}
+use Rattle.jpg_spec.specs.Segments.{ScanHead}
 use Rattle.jpg_markers.specs.Reading.{reading_of}
 use Rattle.jpg_file.specs.Reading.{waiting}
 use Rattle.jpg_file.proofs.Beginnings.{begun_more, table_there}
@@ -59,14 +60,15 @@ returns-in-Ok c = λ bytes items blocks k.
         behind = omega (arith, k.same, c.head_done.ensures.same, ap waiting c.begin_scan-scan.ensures.gate);
       },
       begun_more r.items.limits b c.note.new.self (segments_of items) contents head slots (ap (λ (g : Frame). head_in g contents) (begins.header).framed ∙ (begins.header).header)
+          (framed (segments_of items) begins.allowed)
           ((k.segment).holds).quants
           (record {
-            seen = λ i. c.note.ensures.seen i ∙ ap (λ (s : List Bool). slice_index_or s i false || is_among i (map (λ (p : ScanPart). p.component) c.as_slice-parts.result.now)) c.note_quants.ensures.seen
-                ∙ ap (λ (l : List ScanPart). begun_at b i || is_among i (map (λ (p : ScanPart). p.component) l)) same;
+            scans = subst (λ (g : Frame). (heads : List ScanHead) → StandsForHeads b.progress g heads → StandsForHeads c.note.new.self.progress g (head ∷ heads)) (sym (begins.header).framed)
+                (λ heads stands. c.note.ensures.scans heads (subst (λ o. StandsForHeads o f heads) (sym c.note_quants.ensures.progress) stands));
             quants = λ i. ap (λ (s : Slots). quant_in s i) c.note.ensures.quants ∙ c.note_quants.ensures.quants i
                 ∙ ap (λ (l : List ScanPart). first_some (quant_in b.quants i) (quant_named f slots l i)) same
                 ∙ ap (λ (g : Frame). first_some (quant_in b.quants i) (quant_named g slots head.parts i)) (sym (begins.header).framed);
-            tables = λ i. subst (λ (g : Frame). is_among i (head_components head) ≡ true → is_none (quant_in slots (component_at g i).quant) ≡ false) (sym (begins.header).framed) (table_there (told_by r.items.held) f head.parts i j.3);
+            tables = λ i. subst (λ (g : Frame). names head i ≡ true → is_none (quant_in slots (component_at g i).quant) ≡ false) (sym (begins.header).framed) (table_there (told_by r.items.held) f head i j.3);
           })
           k.begun,
     )

@@ -1,8 +1,8 @@
 use Rattle.std.proofs.Common.{get_or, sym, subst}
 use Rattle.jpg_spec.specs.declared.fault.Fault.{Fault}
 use Rattle.jpg_file.specs.declared.scan.ScanStep.TheVariants as step
-use Rattle.jpg_seq.specs.declared.reader.SeqReader.{SeqReader}
-use Rattle.jpg_seq.specs.Reader.{sequential}
+use Rattle.jpg_file.specs.declared.machine.ScanReader.{ScanReader}
+use Rattle.jpg_file.specs.Machine.{any_scan}
 use Rattle.jpg_file.specs.Data.{GivesRun}
 use Rattle.jpg_file.specs.declared.data.DataStep.{DataStep}
 use Rattle.jpg_file.specs.InData.{TakesScanByte}
@@ -12,24 +12,24 @@ use Rattle.jpg_file.proofs.scan.InScan.run.Goals as goal
 pub returns-in-More-clause-after : goal.returns-in-More-clause-after
 returns-in-More-clause-after c =
     let s = c.args.self.now in
-    let g = subst (λ (a : DataStep). GivesRun SeqReader sequential s.work.machine c.args.coefs.now c.args.run.now c.take_run-n.result.0 a c.take_run-n.new.machine c.take_run-n.new.coefs) c.in-More.is c.take_run-n.ensures in
-    run_takes s _ c.take_run-n.new.machine c.args.coefs.now c.take_run-n.new.coefs c.args.run.now c.take_run-n.result.0 _ _ c.requires.gate c.requires.due c.requires.plain g
-    (last_more (mid_of s g.mid) c.take_run-n.new.machine g.between c.take_run-n.new.coefs _ c.requires.gate c.requires.due (c.requires.plain g.early g.within) g.last)
+    let g = subst (λ (a : DataStep). GivesRun ScanReader any_scan s.work.machine c.args.coefs.now c.args.run.now c.run-n.result.0 a c.run-n.new.self c.run-n.new.coefs) c.in-More.is c.run-n.ensures in
+    run_takes s _ c.run-n.new.self c.args.coefs.now c.run-n.new.coefs c.args.run.now c.run-n.result.0 _ _ c.requires.gate c.requires.due c.requires.plain g
+    (last_more (mid_of s g.mid) c.run-n.new.self g.between c.run-n.new.coefs _ c.requires.gate c.requires.due (c.requires.plain g.early g.within) g.last)
 
 pub returns-in-Whole-clause-after : goal.returns-in-Whole-clause-after
 returns-in-Whole-clause-after c =
     let s = c.args.self.now in
-    let g = subst (λ (a : DataStep). GivesRun SeqReader sequential s.work.machine c.args.coefs.now c.args.run.now c.take_run-n.result.0 a c.take_run-n.new.machine c.take_run-n.new.coefs) c.in-Whole.is c.take_run-n.ensures in
-    run_takes s _ c.take_run-n.new.machine c.args.coefs.now c.take_run-n.new.coefs c.args.run.now c.take_run-n.result.0 _ _ c.requires.gate c.requires.due c.requires.plain g
-    (last_whole (mid_of s g.mid) c.take_run-n.new.machine g.between c.take_run-n.new.coefs _ c.requires.gate c.requires.due (c.requires.plain g.early g.within) g.last)
+    let g = subst (λ (a : DataStep). GivesRun ScanReader any_scan s.work.machine c.args.coefs.now c.args.run.now c.run-n.result.0 a c.run-n.new.self c.run-n.new.coefs) c.in-Whole.is c.run-n.ensures in
+    run_takes s _ c.run-n.new.self c.args.coefs.now c.run-n.new.coefs c.args.run.now c.run-n.result.0 _ _ c.requires.gate c.requires.due c.requires.plain g
+    (last_whole (mid_of s g.mid) c.run-n.new.self g.between c.run-n.new.coefs _ c.requires.gate c.requires.due (c.requires.plain g.early g.within) g.last)
 
 pub returns-in-Fault-clause-after : goal.returns-in-Fault-clause-after
 returns-in-Fault-clause-after c =
     let s = c.args.self.now in
-    let g = subst (λ (a : DataStep). GivesRun SeqReader sequential s.work.machine c.args.coefs.now c.args.run.now c.take_run-n.result.0 a c.take_run-n.new.machine c.take_run-n.new.coefs) c.in-Fault.is c.take_run-n.ensures in
-    let m = c.take_run-n.new.machine in
-    let after = c.take_run-n.new.coefs in
+    let g = subst (λ (a : DataStep). GivesRun ScanReader any_scan s.work.machine c.args.coefs.now c.args.run.now c.run-n.result.0 a c.run-n.new.self c.run-n.new.coefs) c.in-Fault.is c.run-n.ensures in
+    let m = c.run-n.new.self in
+    let after = c.run-n.new.coefs in
     let byte = get_or c.args.run.now g.early 0 in
-    run_takes s (mid_of s m) m c.args.coefs.now after c.args.run.now c.take_run-n.result.0 _ _ c.requires.gate c.requires.due c.requires.plain g
+    run_takes s (mid_of s m) m c.args.coefs.now after c.args.run.now c.run-n.result.0 _ _ c.requires.gate c.requires.due c.requires.plain g
     (subst (λ (f : Fault). TakesScanByte (mid_of s g.mid) g.between byte (step.Fault f) (mid_of s m) after) (sym c.named.ensures)
     (last_fault (mid_of s g.mid) (mid_of s m) m g.between after byte c.in-Fault.fault c.requires.gate c.requires.due (c.requires.plain g.early g.within) g.last))

@@ -9,13 +9,13 @@ pub returns-in-Wanting-clause-answered : goal.returns-in-Wanting-clause-answered
 returns-in-Wanting-clause-answered c = λ ac at bits k l f.
     subst (λ (n : InWork). Stands at (bits ++ c.args.bit ∷ []) n) (sym c.in-Wanting.ensures.new) (count_more at bits c.args.self.now c.args.bit c.requires.stage f)
 
-pub returns-then-bands-left-clause-answered : goal.returns-then-bands-left-clause-answered
-returns-then-bands-left-clause-answered c = λ ac at bits k l f.
+pub returns-then-from-left-clause-answered : goal.returns-then-from-left-clause-answered
+returns-then-from-left-clause-answered c = λ ac at bits k l f.
     past_read c.args.scan.now ac at bits c.args.self.now c.extra_bit.new.self c.args.bit c.whole_count-bands.result k c.requires.stage f c.in-Enough.ensures.new
-    c.whole_count-bands.ensures.some c.whole_count-bands.ensures.digits c.whole_count-bands.ensures.extra (omega (arith, l, c.if-bands-left.true))
+    c.whole_count-bands.ensures.some c.whole_count-bands.ensures.digits c.whole_count-bands.ensures.extra (omega (arith, l, c.if-from-left.true))
 
-pub returns-else-bands-left-clause-answered : goal.returns-else-bands-left-clause-answered
-returns-else-bands-left-clause-answered c = λ ac at bits k l f.
+pub returns-else-from-left-clause-answered : goal.returns-else-from-left-clause-answered
+returns-else-from-left-clause-answered c = λ ac at bits k l f.
     c.advance.ensures.answered ac at (bits ++ c.args.bit ∷ []) k
     (ends_read c.args.scan.now ac at bits c.args.self.now c.extra_bit.new.self c.begin_ends.new.self c.args.bit c.whole_count-bands.result k c.requires.stage f c.in-Enough.ensures.new
-    c.whole_count-bands.ensures.some c.whole_count-bands.ensures.digits c.whole_count-bands.ensures.extra (omega (arith, l, c.if-bands-left.false)) c.begin_ends.ensures.small c.begin_ends.ensures.new)
+    c.whole_count-bands.ensures.some c.whole_count-bands.ensures.digits c.whole_count-bands.ensures.extra (omega (arith, l, c.if-from-left.false)) c.begin_ends.ensures.small c.begin_ends.ensures.new)

@@ -1,0 +1,165 @@
+-- Showing a picture: reading it, and then writing its image.
+use Rattle.std.proofs.Common.{◌≡◌, ℕ, Bool, true, false, List, [], ◌∷◌, take, Option, Ok, Err, sym, ap, ◌∙◌, subst, arith, inl, inr}
+use Rattle.jpg_base.specs.declared.names.Name.{Name}
+use Rattle.jpg_base.specs.declared.names.Put.{Put}
+use Rattle.jpg_base.specs.declared.names.Put.TheVariants as put
+use Rattle.jpg_base.specs.Desk.{DeskState, Creates, NotesName}
+use Rattle.jpg_base.specs.Laws.{Grows, Grows-from}
+use Rattle.jpg_spec.specs.Meaning.{Meaning}
+use Rattle.jpg_spec.specs.declared.answers.Why.{Why}
+use Rattle.jpg_spec.specs.declared.answers.Why.TheVariants as why
+use Rattle.jpg_spec.specs.declared.answers.Which.TheVariants as which
+use Rattle.jpg_spec.specs.declared.image.EndKind.{EndKind}
+use Rattle.jpg_color.specs.DecodeRows.{Decodes}
+use Rattle.jpg_color.specs.declared.decode.DecodeStop.{DecodeStop}
+use Rattle.jpg_color.specs.declared.decode.DecodeStop.TheVariants as stop
+use Rattle.jpg_pnm_bmp.specs.EndState.{EndState, new_end}
+use Rattle.jpg_huff.specs.Out.{OnlyWrites}
+use Rattle.jpg_cli.specs.CommentWords.{file_told}
+use Rattle.jpg_cli.specs.Commands.{name_of}
+use Rattle.jpg_cli.specs.Endings.{Added, Asks}
+use Rattle.jpg_cli.specs.ReadPicture.{IsRefusedRead, IsShortRead, IsOpenRead, IsWholeRead, PictureRead, ReadsFrom}
+use Rattle.jpg_cli.specs.Reading.{rest_of}
+use Rattle.jpg_cli.specs.Run.{RanShow}
+use Rattle.jpg_cli.specs.ShowWords.{show_told}
+use Rattle.jpg_cli.specs.Showing.{AfterImage, ReadsShown, Shown, ShownBy, ShownInPart, Showing, shown_text}
+use Rattle.jpg_cli.specs.Stays.{Keeps, OnlySays}
+use Rattle.jpg_cli.specs.declared.read_picture.Wanted.TheVariants.{Image}
+use Rattle.jpg_cli.specs.declared.show_words.ShowWords.{ShowWords}
+use Rattle.jpg_cli.proofs.Endings.{asks_next, stopped_then, unopened_then, unread_then, wrote_then}
+use Rattle.jpg_cli.proofs.InsertedThen.{same_name}
+use Rattle.jpg_cli.proofs.PictureTaken.{from_still}
+
+-- CREATED AND WRITTEN
+
+noted_then : (s0 s1 s2 : DeskState) (output : Name) → Creates s0 output put.Done s1 → OnlyWrites s1 s2 → NotesName s0.asked (output, put.Done) s2.asked
+noted_then s0 s1 s2 output h k = (let P : Option (List (Name × Put)) → Type 0 = λ a. NotesName s0.asked (output, put.Done) a in subst P (sym k.asked) h.asked)
+
+-- the text in the format that the end has, which is the one asked for
+same_text : (text : EndKind → List ℕ) (e : EndState) (kind : EndKind) → e ≡ new_end kind → text e.kind ≡ text kind
+same_text text e kind new = ap (λ (x : EndState). text x.kind) new
+
+pub image_done : (s0 s1 s2 : DeskState) (output : Name) (text : EndKind → List ℕ) (e : EndState) (kind : EndKind) → e ≡ new_end kind → Creates s0 output put.Done s1 → Decodes s1 (text e.kind) (Ok tt) s2 → AfterImage output s0 (text kind) why.Done s2
+image_done s0 s1 s2 output text e kind new h decoded =
+    let d = subst (λ due. Decodes s1 due (Ok tt) s2) (same_text text e kind new) decoded in
+    (noted_then s0 s1 s2 output h d.only, Grows-from s0.outputs s1.outputs s2.outputs output (text kind) h.after.1 d.bytes)
+
+pub image_wanting : (s0 s1 s2 : DeskState) (output : Name) (text : EndKind → List ℕ) (e : EndState) (kind : EndKind) (ended : DecodeStop) → e ≡ new_end kind → ended ≡ stop.NoMemory → Creates s0 output put.Done s1 → Decodes s1 (text e.kind) (Err ended) s2
+    → AfterImage output s0 (text kind) why.NoMemory s2
+image_wanting s0 s1 s2 output text e kind ended new is h decoded =
+    let same = subst (λ due. Decodes s1 due (Err ended) s2) (same_text text e kind new) decoded in
+    let d = subst (λ (x : DecodeStop). Decodes s1 (text kind) (Err x) s2) is same in
+    (noted_then s0 s1 s2 output h d.only, (d.bytes.0, Grows-from s0.outputs s1.outputs s2.outputs output (take d.bytes.0 (text kind)) h.after.1 d.bytes.1))
+
+pub image_failed : (s0 s1 s2 : DeskState) (output : Name) (text : EndKind → List ℕ) (e : EndState) (kind : EndKind) (ended : DecodeStop) → e ≡ new_end kind → ended ≡ stop.WriteFault → Creates s0 output put.Done s1 → Decodes s1 (text e.kind) (Err ended) s2
+    → AfterImage output s0 (text kind) why.WriteFault s2
+image_failed s0 s1 s2 output text e kind ended new is h decoded =
+    let same = subst (λ due. Decodes s1 due (Err ended) s2) (same_text text e kind new) decoded in
+    let d = subst (λ (x : DecodeStop). Decodes s1 (text kind) (Err x) s2) is same in (
+      noted_then s0 s1 s2 output h d.only,
+      (let r = d.bytes.1 in let f = h.counts.writes in omega arith),
+      (d.bytes.0.0, Grows-from s0.outputs s1.outputs s2.outputs output (take d.bytes.0.0 (text kind)) h.after.1 d.bytes.0.1),
+    )
+
+-- NO PICTURE
+
+pub shown_unread : (s : Showing) (s0 s1 : DeskState) (w : Why) → PictureRead (Image s.gray) s.input s0 (Err w) s1 → Shown s s0 w s1
+shown_unread s s0 s1 why.Done h = absurd h
+shown_unread s s0 s1 (why.Usage u) h = absurd h
+shown_unread s s0 s1 (why.Refused f) h = h
+shown_unread s s0 s1 (why.Picture p) h = absurd h
+shown_unread s s0 s1 (why.OpenFault which.Input) h = h
+shown_unread s s0 s1 (why.OpenFault which.Script) h = absurd h
+shown_unread s s0 s1 (why.OpenFault which.Tables) h = absurd h
+shown_unread s s0 s1 (why.OpenFault which.Comment) h = absurd h
+shown_unread s s0 s1 (why.OpenFault which.Output) h = absurd h
+shown_unread s s0 s1 (why.ReadFault which.Input) h = h
+shown_unread s s0 s1 (why.ReadFault which.Script) h = absurd h
+shown_unread s s0 s1 (why.ReadFault which.Tables) h = absurd h
+shown_unread s s0 s1 (why.ReadFault which.Comment) h = absurd h
+shown_unread s s0 s1 (why.ReadFault which.Output) h = absurd h
+shown_unread s s0 s1 why.WriteFault h = absurd h
+shown_unread s s0 s1 why.NoMemory h = inl h
+
+-- A PICTURE, and its image written
+
+pub record HasImageRead (s : Showing) (M : Meaning) (s0 s1 s2 : DeskState) : Type 0 where
+  pub kept : Keeps s0 s1
+  pub asked : Asks (s.input ∷ []) put.Done s0 s1
+  pub read : ReadsShown s M s0 s1
+  pub left : s2.left ≡ s1.left
+
+image_on : (s : Showing) (M : Meaning) (s0 s1 s2 : DeskState) → HasImageRead s M s0 s1 s2 → ReadsShown s M s0 s2
+image_on s M s0 s1 s2 h = from_still s0 s1 s2 s.input (IsWholeRead (Image s.gray) M) h.left h.read
+
+wrote_image : (s : Showing) (M : Meaning) (s0 s1 s2 : DeskState) (text : List ℕ) → HasImageRead s M s0 s1 s2 → NotesName s1.asked (s.output, put.Done) s2.asked → Grows s1.outputs (s.output, text) s2.outputs → Added (s.input ∷ []) s.output text s0 s2
+wrote_image s M s0 s1 s2 text h o grows = record {
+  asked = asks_next s0 s1 s2 (s.input ∷ []) s.output put.Done h.asked o;
+  outputs = (let P : Option (List (Name × List ℕ)) → Type 0 = λ a. Grows a (s.output, text) s2.outputs in subst P h.kept.outputs grows);
+}
+
+in_part : (s : Showing) (M : Meaning) (s0 s1 s2 : DeskState) (n : ℕ) → HasImageRead s M s0 s1 s2 → NotesName s1.asked (s.output, put.Done) s2.asked → Grows s1.outputs (s.output, take n (shown_text s M)) s2.outputs → ShownInPart s s0 s2
+in_part s M s0 s1 s2 n h o grows = record { meaning = M; count = n; read = image_on s M s0 s1 s2 h; wrote = wrote_image s M s0 s1 s2 (take n (shown_text s M)) h o grows }
+
+pub shown_written : (s : Showing) (M : Meaning) (s0 s1 s2 : DeskState) (w : Why) → HasImageRead s M s0 s1 s2 → AfterImage s.output s1 (shown_text s M) w s2 → Shown s s0 w s2
+shown_written s M s0 s1 s2 why.Done h (asked, grows) = (M, image_on s M s0 s1 s2 h, wrote_image s M s0 s1 s2 (shown_text s M) h asked grows)
+shown_written s M s0 s1 s2 (why.Usage u) h k = absurd k
+shown_written s M s0 s1 s2 (why.Refused f) h k = absurd k
+shown_written s M s0 s1 s2 (why.Picture p) h k = absurd k
+shown_written s M s0 s1 s2 (why.OpenFault which.Input) h k = absurd k
+shown_written s M s0 s1 s2 (why.OpenFault which.Script) h k = absurd k
+shown_written s M s0 s1 s2 (why.OpenFault which.Tables) h k = absurd k
+shown_written s M s0 s1 s2 (why.OpenFault which.Comment) h k = absurd k
+shown_written s M s0 s1 s2 (why.OpenFault which.Output) h (asked, rose, same) = (
+  record {
+    stopped = record { asked = asks_next s0 s1 s2 (s.input ∷ []) s.output put.Failed h.asked asked; outputs = same ∙ h.kept.outputs };
+    opens = (let f = h.kept.works.stays.counts.opens in omega (arith, rose, f));
+  },
+  (M, image_on s M s0 s1 s2 h),
+)
+shown_written s M s0 s1 s2 (why.ReadFault file) h k = absurd k
+shown_written s M s0 s1 s2 why.WriteFault h (asked, rose, (n, grows)) =
+    ((let f = h.kept.works.stays.counts.writes in omega (arith, rose, f)), in_part s M s0 s1 s2 n h asked grows)
+shown_written s M s0 s1 s2 why.NoMemory h (asked, (n, grows)) = inr (in_part s M s0 s1 s2 n h asked grows)
+
+-- A MESSAGE THEN
+
+part_then : (s : Showing) (s0 s1 s2 : DeskState) → OnlySays s1 s2 → ShownInPart s s0 s1 → ShownInPart s s0 s2
+part_then s s0 s1 s2 k h = record {
+  meaning = h.meaning;
+  count = h.count;
+  read = from_still s0 s1 s2 s.input (IsWholeRead (Image s.gray) h.meaning) k.same.left h.read;
+  wrote = wrote_then s0 s1 s2 (s.input ∷ []) s.output (take h.count (shown_text s h.meaning)) k h.wrote;
+}
+
+pub shown_then : (s : Showing) (s0 s1 s2 : DeskState) (w : Why) → OnlySays s1 s2 → Shown s s0 w s1 → Shown s s0 w s2
+shown_then s s0 s1 s2 why.Done k (M, read, wrote) =
+    (M, from_still s0 s1 s2 s.input (IsWholeRead (Image s.gray) M) k.same.left read, wrote_then s0 s1 s2 (s.input ∷ []) s.output (shown_text s M) k wrote)
+shown_then s s0 s1 s2 (why.Usage u) k h = absurd h
+shown_then s s0 s1 s2 (why.Refused f) k h =
+    let P : Option (List ℕ) → Type 0 = λ l. ReadsFrom s.input (IsRefusedRead (Image s.gray) f (rest_of l)) s0 s2 in
+    (stopped_then s0 s1 s2 (s.input ∷ []) put.Done k h.0, subst P (sym k.same.left) (from_still s0 s1 s2 s.input (IsRefusedRead (Image s.gray) f (rest_of s1.left)) k.same.left h.1))
+shown_then s s0 s1 s2 (why.Picture p) k h = absurd h
+shown_then s s0 s1 s2 (why.OpenFault which.Input) k h = unopened_then s0 s1 s2 (s.input ∷ []) k h
+shown_then s s0 s1 s2 (why.OpenFault which.Script) k h = absurd h
+shown_then s s0 s1 s2 (why.OpenFault which.Tables) k h = absurd h
+shown_then s s0 s1 s2 (why.OpenFault which.Comment) k h = absurd h
+shown_then s s0 s1 s2 (why.OpenFault which.Output) k h =
+    (unopened_then s0 s1 s2 (s.input ∷ s.output ∷ []) k h.0, (h.1.0, from_still s0 s1 s2 s.input (IsWholeRead (Image s.gray) h.1.0) k.same.left h.1.1))
+shown_then s s0 s1 s2 (why.ReadFault which.Input) k h = (unread_then s0 s1 s2 (s.input ∷ []) k h.0, from_still s0 s1 s2 s.input (IsOpenRead (Image s.gray)) k.same.left h.1)
+shown_then s s0 s1 s2 (why.ReadFault which.Script) k h = absurd h
+shown_then s s0 s1 s2 (why.ReadFault which.Tables) k h = absurd h
+shown_then s s0 s1 s2 (why.ReadFault which.Comment) k h = absurd h
+shown_then s s0 s1 s2 (why.ReadFault which.Output) k h = absurd h
+shown_then s s0 s1 s2 why.WriteFault k h = ((let rose = h.0 in let f = k.stays.counts.writes in omega (arith, rose, f)), part_then s s0 s1 s2 k h.1)
+shown_then s s0 s1 s2 why.NoMemory k (inl h) = inl (stopped_then s0 s1 s2 (s.input ∷ []) put.Done k h.0, from_still s0 s1 s2 s.input IsShortRead k.same.left h.1)
+shown_then s s0 s1 s2 why.NoMemory k (inr h) = inr (part_then s s0 s1 s2 k h)
+
+-- AS THE WORDS SAY IT
+
+pub asked_shown : (b : Bool) (w : ShowWords) (s0 s1 : DeskState) (ended : Why) → ShownBy b w s0 ended s1 → RanShow b (show_told w) s0 ended s1
+asked_shown true w s0 s1 ended h =
+    let of : Name → Name → Showing = λ i o. record { input = i; output = o; kind = w.kind; gray = w.gray; smooth = w.smooth } in
+    inl (subst (λ i. Shown (of i (name_of (file_told w.files.output))) s0 ended s1) (sym (same_name w.files.input))
+    (subst (λ o. Shown (of w.files.input o) s0 ended s1) (sym (same_name w.files.output)) h))
+asked_shown false w s0 s1 ended h = (inl h.0, h.1)

@@ -1,0 +1,23 @@
+use Rattle.std.proofs.Common.{◌∙◌, ap, map, drop, string_bytes, subst, sym, Option, Result, Err}
+use Rattle.std.proofs.lemmas.Result.{err_from_is_err_and}
+use Rattle.jpg_spec.specs.CommentWords.{words_right}
+use Rattle.jpg_spec.specs.Requests.{then_asks}
+use Rattle.jpg_spec.specs.TransformWords.{transform_asked, transform_of}
+use Rattle.jpg_cli.specs.Requests.{with_input_told}
+use Rattle.jpg_cli.specs.TransformWords.{IsTransform}
+use Rattle.jpg_cli.specs.declared.comment_words.WordsStop.{WordsStop}
+use Rattle.jpg_cli.specs.declared.transform_words.TransformWords.{TransformWords}
+use Rattle.jpg_cli.proofs.transform_words.jpegtran_words.Goals as goal
+
+pub returns-then-said : goal.returns-then-said
+returns-then-said c =
+    let request = with_input_told (c.in_ok-said.said, c.in_ok-said.input) in
+    (transform_of request, ap (λ told. then_asks told (λ r. words_right (transform_of r))) c.in_ok-said.ensures, c.if-said.true)
+
+pub returns-in_err-files : goal.returns-in_err-files
+returns-in_err-files c =
+    let request = with_input_told (c.in_ok-said.said, c.in_ok-said.input) in
+    let back = err_from_is_err_and c.from_residual-in_err-files.result c.from_residual-in_err-files.ensures.1 in
+    let P : Result (Option TransformWords) WordsStop → Type 0 = IsTransform (transform_asked (drop 1 (map string_bytes c.args.words.now))) in
+    subst P (sym (back.1 ∙ ap (λ stop. Err stop) back.2))
+    (transform_of request, ap (λ told. then_asks told (λ r. words_right (transform_of r))) c.in_ok-said.ensures, c.if-said.false)

@@ -1,0 +1,69 @@
+-- What switches and files ask for, as the calls answer it.
+use Rattle.std.specs.Prelude.{◌≡◌, ℕ, Bool, true, false, List, drop, Option, Some, None, Result, Ok, Err}
+use Rattle.std.specs.Borrow.{Bor}
+use Rattle.jpg_spec.specs.CommentWords.{FileName, FilesAsked, named, standard_output, WordsTold, words_wrong}
+use Rattle.jpg_spec.specs.Requests.{Request, SwitchAsked, alone, request_from, valued, wrong}
+use Rattle.jpg_spec.specs.Switches.{Switch, is_switch, purpose_of}
+use Rattle.jpg_spec.specs.declared.switch.Purpose.{Purpose}
+use Rattle.jpg_spec.specs.declared.answers.Usage.{Usage}
+use Rattle.jpg_cli.specs.CommentWords.{AnswersWords, input_told, usage_told, word_at}
+use Rattle.jpg_cli.specs.declared.requests.Said.{Said}
+
+-- an output's name, if there is one
+abbrev pub output_told : Option (Bor (List ℕ)) → FileName
+output_told None = standard_output
+output_told (Some word) = named word.now
+
+-- the files of these names, if there are any
+abbrev pub files_said : Option (Bor (List ℕ)) → Option (Bor (List ℕ)) → FilesAsked
+files_said output input = record { input = input_told input; output = output_told output }
+
+-- what the switches said so far, with the name of the input, if there is one
+abbrev pub with_input_told : Said × Option (Bor (List ℕ)) → Request
+with_input_told p = record {
+  files = files_said p.0.output p.1;
+  transform = p.0.choice.transform;
+  trim = p.0.choice.trim;
+  gray = p.0.choice.gray;
+  copying = p.0.choice.copying;
+  unbuilt = p.0.unbuilt;
+  format = p.0.format;
+  smooth = p.0.smooth;
+}
+
+-- and with no input's name yet
+abbrev pub said_told : Said → Request
+said_told s = with_input_told (s, None)
+
+-- what the words ask for by a command's switches, after the switches before this index
+abbrev pub said_from : List Switch → List (List ℕ) → ℕ → Said → WordsTold Request
+said_from switches words index s = request_from switches index (said_told s) (drop index words)
+
+-- The word of this index is a switch with this purpose.
+pub record HasSwitch (switches : List Switch) (words : List (List ℕ)) (index : ℕ) (purpose : Purpose) : Type 0 where
+  pub switch : is_switch (word_at words index) ≡ true
+  pub is : purpose_of switches (word_at words index) ≡ Some purpose
+
+-- After a switch the words ask for the same, or the switch is wrong.
+abbrev pub IsSaid : List Switch → List (List ℕ) → ℕ → Said → Result (Said × ℕ) Usage → Type 0
+IsSaid switches words index s (Ok p) = said_from switches words index s ≡ said_from switches words p.1 p.0
+IsSaid switches words index s (Err usage) = said_from switches words index s ≡ words_wrong usage
+
+-- So it is after one of this purpose, whatever command has it.
+abbrev pub IsSaidOf : List (List ℕ) → ℕ → Purpose → Said → Result (Said × ℕ) Usage → Type 0
+IsSaidOf words index purpose s result = (switches : List Switch) → HasSwitch switches words index purpose → IsSaid switches words index s result
+
+-- With an input of this index the words end, whatever the command: they ask for this, or are wrong.
+abbrev pub IsSaidAtEnd : List (List ℕ) → ℕ → Said → Result (Said × Option (Bor (List ℕ))) Usage → Type 0
+IsSaidAtEnd words index s result = (switches : List Switch) → AnswersWords with_input_told (said_from switches words index s) result
+
+-- A switch of this index says this, with the value behind it if it takes one.
+abbrev pub SaysAt : ℕ → SwitchAsked → List ℕ → Said → Result Said Usage → Type 0
+SaysAt index (alone asks) value s result = AnswersWords said_told (asks (said_told s)) result
+SaysAt index (valued asks) value s result = AnswersWords said_told (asks value (said_told s)) result
+SaysAt index (wrong fault) value s result = result ≡ Err (usage_told fault index)
+
+abbrev pub is_valued : SwitchAsked → Bool
+is_valued (alone asks) = false
+is_valued (valued asks) = true
+is_valued (wrong fault) = false

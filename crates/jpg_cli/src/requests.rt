@@ -1,0 +1,432 @@
+//! What switches and files ask for, in any command (the manuals of jpegtran and djpeg in release 6b; shortest forms are the
+//! suite's own).
+ghost use Rattle.std.specs.Prelude.{◌≡◌, ◌<◌, ◌≤◌, ℕ, IfOk, Some, length, map, drop, true, false, string_bytes};
+ghost use Rattle.jpg_spec.specs.CommentWords.{words_right};
+ghost use Rattle.jpg_spec.specs.Requests.{copying_named, flip_named, is_int, is_restart, is_whole_scale, number_of, request, rotation_named, switch_asked, transform_number, where_good, with_output, with_transform, with_value, without_b};
+ghost use Rattle.jpg_spec.specs.Switches.{is_switch};
+ghost use Rattle.jpg_cli.specs.CommentWords.{AnswersWords, files_told, word_at};
+ghost use Rattle.jpg_cli.specs.Requests.{IsSaid, IsSaidAtEnd, IsSaidOf, SaysAt, files_said, is_valued, said_told, with_input_told};
+ghost use Rattle.jpg_cli.specs.Switches.{told_switch};
+
+use crate::comment_words::{Files, usage, value_of, word_at};
+use crate::switches::{Switch, is_switch, lower, purpose_of, stands_for};
+use jpg_base::{Name, NoMemory, Text};
+use jpg_spec::{Copying, EndKind, Purpose, Transform, Usage, UsageFault};
+use jpg_transform::Choice;
+use std::alloc::Global;
+
+/// What the switches said so far.
+#[derive(Clone, Copy)]
+pub struct Said<'a> {
+    pub choice: Choice,
+    pub output: Option<&'a str>,
+    /// Whether they asked for what isn't built yet.
+    pub unbuilt: bool,
+    /// The format of the image, with the index of the word that asks for it, if one does.
+    pub format: Option<(EndKind, u64)>,
+    pub smooth: bool,
+}
+
+/// What the switches say, and the name of the input, if the words give one; the word at place 0 is the command. Words that
+/// are wrong give their first fault and take no memory: `UnknownSwitch`, `LeftOutSwitch`, `MissingValue` and
+/// `TwoTransforms` at the switch, `BadValue` at the value, or `TooManyFiles` at the word behind the file.
+pub fn read_said<'a>(
+    switches: &[Switch],
+    words: &'a [String],
+) -> Result<(Said<'a>, Option<&'a str>), Usage>
+    ensures { AnswersWords with_input_told (request (map told_switch switches.now) (drop 1 (map string_bytes words.now))) result }
+{
+    let mut said = Said {
+        choice: Choice {
+            transform: Transform::Keep,
+            trim: false,
+            gray: false,
+            copying: Copying::Comments,
+        },
+        output: None,
+        unbuilt: false,
+        format: None,
+        smooth: true,
+    };
+    let mut index = 1;
+    while index < words.len() {
+        if !is_switch(word_at(words, index)) {
+            return said.with_input(words, index);
+        }
+        let (next, behind) = said.after_switch(switches, words, index)?;
+        said = next;
+        index = behind;
+    }
+    Ok((said, None))
+}
+
+impl<'a> Said<'a> {
+    /// The input of this name, or standard input, and the output that was said.
+    pub fn files(&self, alloc: Global, input: Option<&str>) -> Result<Files, NoMemory>
+        ensures { IfOk result (λ files. files_told files ≡ files_said self.now.output input.entry) }
+    {
+        let input = match input {
+            Some(name) => Name::File(Text::new(alloc, name)?),
+            None => Name::In,
+        };
+        let output = match self.output {
+            Some(name) => Name::File(Text::new(alloc, name)?),
+            None => Name::Out,
+        };
+        Ok(Files { input, output })
+    }
+
+    // What is said after the switch of this index, and the index behind it and its value.
+    fn after_switch(
+        self,
+        switches: &[Switch],
+        words: &'a [String],
+        index: usize,
+    ) -> Result<(Said<'a>, usize), Usage>
+        requires within { index < length words.now }
+        requires switch { is_switch (word_at (map string_bytes words.now) index) ≡ true }
+        ensures told { IsSaid (map told_switch switches.now) (map string_bytes words.now) index self.entry result }
+        ensures behind { IfOk result (λ p. (index < p.1) × (p.1 ≤ length words.now)) }
+    {
+        match purpose_of(switches, word_at(words, index)) {
+            None => Err(usage(UsageFault::UnknownSwitch, index)),
+            Some(purpose) if takes_value(purpose) => self.after_valued(words, purpose, index),
+            Some(purpose) => self.after_alone(words, purpose, index),
+        }
+    }
+
+    // The same of a switch that takes the word behind it.
+    fn after_valued(
+        self,
+        words: &'a [String],
+        purpose: Purpose,
+        index: usize,
+    ) -> Result<(Said<'a>, usize), Usage>
+        requires within { index < length words.now }
+        requires valued { is_valued (switch_asked index (Some purpose)) ≡ true }
+        ensures told { IsSaidOf (map string_bytes words.now) index purpose self.entry result }
+        ensures behind { IfOk result (λ p. (index < p.1) × (p.1 ≤ length words.now)) }
+    {
+        match value_of(words, index) {
+            Err(usage) => Err(usage),
+            Ok(value) => match self.says(purpose, value, index) {
+                Ok(said) => Ok((said, index + 2)),
+                Err(usage) => Err(usage),
+            },
+        }
+    }
+
+    // The same of a switch that stands alone, or that is wrong.
+    fn after_alone(
+        self,
+        words: &'a [String],
+        purpose: Purpose,
+        index: usize,
+    ) -> Result<(Said<'a>, usize), Usage>
+        requires within { index < length words.now }
+        requires alone { is_valued (switch_asked index (Some purpose)) ≡ false }
+        ensures told { IsSaidOf (map string_bytes words.now) index purpose self.entry result }
+        ensures behind { IfOk result (λ p. (index < p.1) × (p.1 ≤ length words.now)) }
+    {
+        match self.says(purpose, "", index) {
+            Ok(said) => Ok((said, index + 1)),
+            Err(usage) => Err(usage),
+        }
+    }
+
+    // What is said with the input of this index, which nothing may follow.
+    fn with_input(
+        self,
+        words: &'a [String],
+        index: usize,
+    ) -> Result<(Said<'a>, Option<&'a str>), Usage>
+        requires within { index < length words.now }
+        requires file { is_switch (word_at (map string_bytes words.now) index) ≡ false }
+        ensures { IsSaidAtEnd (map string_bytes words.now) index self.entry result }
+    {
+        if index + 1 < words.len() {
+            return Err(usage(UsageFault::TooManyFiles, index + 1));
+        }
+        Ok((self, Some(word_at(words, index))))
+    }
+
+    // What is said with a switch of this purpose, and its value if it takes one.
+    fn says(self, purpose: Purpose, value: &'a str, index: usize) -> Result<Said<'a>, Usage>
+        requires { index < 18446744073709551615 }
+        ensures { SaysAt index (switch_asked index (Some purpose)) value.now self.entry result }
+    {
+        match purpose {
+            Purpose::FlipGiven => self.turned_by(flip_named(value), index),
+            Purpose::RotationGiven => self.turned_by(rotation_named(value.as_bytes()), index),
+            Purpose::Transposing => self.turned(Transform::Transpose, index),
+            Purpose::TransposingAcross => self.turned(Transform::Transverse, index),
+            Purpose::CopyingGiven => self.copied_by(copying_named(value), index),
+            Purpose::Trimming => Ok(self.trimmed()),
+            Purpose::Graying => Ok(self.grayed()),
+            Purpose::OutputNamed => Ok(self.written_to(value)),
+            Purpose::ProgressiveAsked | Purpose::ScriptInFile => Ok(self.not_built()),
+            Purpose::RestartGiven => self
+                .not_built()
+                .where_good(is_restart(value.as_bytes()), index),
+            Purpose::PnmAsked => Ok(self.shown_as(EndKind::Pnm, index)),
+            Purpose::BmpAsked => Ok(self.shown_as(EndKind::Bmp, index)),
+            Purpose::NotSmoothed => Ok(self.not_smoothed()),
+            Purpose::DctGiven => self.where_good(is_int(value), index),
+            Purpose::ScaleGiven => self.where_good(is_whole_scale(value), index),
+            Purpose::LeftOut => Err(usage(UsageFault::LeftOutSwitch, index)),
+            Purpose::Replacing | Purpose::CommentGiven | Purpose::CommentInFile => {
+                Err(usage(UsageFault::UnknownSwitch, index))
+            }
+        }
+    }
+
+    // The same with this choice.
+    fn chosen(self, choice: Choice) -> Said<'a>
+        ensures { result ≡ record (self.entry) { choice = choice } }
+    {
+        Said { choice, ..self }
+    }
+
+    fn trimmed(self) -> Said<'a>
+        ensures { said_told result ≡ record (said_told self.entry) { trim = true } }
+    {
+        self.chosen(Choice {
+            trim: true,
+            ..self.choice
+        })
+    }
+
+    fn grayed(self) -> Said<'a>
+        ensures { said_told result ≡ record (said_told self.entry) { gray = true } }
+    {
+        self.chosen(Choice {
+            gray: true,
+            ..self.choice
+        })
+    }
+
+    // The same with this output.
+    fn written_to(self, name: &'a str) -> Said<'a>
+        ensures { said_told result ≡ with_output name.now (said_told self.entry) }
+    {
+        Said {
+            output: Some(name),
+            ..self
+        }
+    }
+
+    // The same where what isn't built yet is asked for.
+    fn not_built(self) -> Said<'a>
+        ensures { said_told result ≡ record (said_told self.entry) { unbuilt = true } }
+    {
+        Said {
+            unbuilt: true,
+            ..self
+        }
+    }
+
+    // The same in this format, for which the word of this index asks.
+    fn shown_as(self, kind: EndKind, index: usize) -> Said<'a>
+        ensures { said_told result ≡ record (said_told self.entry) { format = Some (kind, index) } }
+    {
+        Said {
+            format: Some((kind, index as u64)),
+            ..self
+        }
+    }
+
+    fn not_smoothed(self) -> Said<'a>
+        ensures { said_told result ≡ record (said_told self.entry) { smooth = false } }
+    {
+        Said {
+            smooth: false,
+            ..self
+        }
+    }
+
+    // The same where the value behind the switch may be given.
+    fn where_good(self, good: bool, index: usize) -> Result<Said<'a>, Usage>
+        requires { index < 18446744073709551615 }
+        ensures { AnswersWords said_told (where_good index good (said_told self.entry)) result }
+    {
+        if good {
+            Ok(self)
+        } else {
+            Err(usage(UsageFault::BadValue, index + 1))
+        }
+    }
+
+    // The same with the kept markers that the value behind the switch names, if it names some.
+    fn copied_by(self, copying: Option<Copying>, index: usize) -> Result<Said<'a>, Usage>
+        requires { index < 18446744073709551615 }
+        ensures { AnswersWords said_told (with_value index copying (λ c. words_right (record (said_told self.entry) { copying = c }))) result }
+    {
+        match copying {
+            Some(copying) => Ok(self.chosen(Choice {
+                copying,
+                ..self.choice
+            })),
+            None => Err(usage(UsageFault::BadValue, index + 1)),
+        }
+    }
+
+    // What is said with this transform too. Two that differ may not be asked for.
+    fn turned(self, transform: Transform, index: usize) -> Result<Said<'a>, Usage>
+        ensures { AnswersWords said_told (with_transform index transform (said_told self.entry)) result }
+    {
+        let before = transform_number(self.choice.transform);
+        if before == 0 || before == transform_number(transform) {
+            Ok(self.chosen(Choice {
+                transform,
+                ..self.choice
+            }))
+        } else {
+            Err(usage(UsageFault::TwoTransforms, index))
+        }
+    }
+
+    // The same with the transform that the value behind the switch names, if it names one.
+    fn turned_by(self, transform: Option<Transform>, index: usize) -> Result<Said<'a>, Usage>
+        requires { index < 18446744073709551615 }
+        ensures { AnswersWords said_told (with_value index transform (λ t. with_transform index t (said_told self.entry))) result }
+    {
+        match transform {
+            Some(transform) => self.turned(transform, index),
+            None => Err(usage(UsageFault::BadValue, index + 1)),
+        }
+    }
+}
+
+// Which of the eight transforms this is.
+fn transform_number(transform: Transform) -> u8
+    ensures { result ≡ transform_number transform }
+{
+    match transform {
+        Transform::Keep => 0,
+        Transform::FlipH => 1,
+        Transform::FlipV => 2,
+        Transform::Transpose => 3,
+        Transform::Transverse => 4,
+        Transform::Rotate90 => 5,
+        Transform::Rotate180 => 6,
+        Transform::Rotate270 => 7,
+    }
+}
+
+// Whether the word behind a switch of this purpose is its value.
+fn takes_value(purpose: Purpose) -> bool
+    ensures { (index : ℕ) → result ≡ is_valued (switch_asked index (Some purpose)) }
+{
+    match purpose {
+        Purpose::CopyingGiven
+        | Purpose::FlipGiven
+        | Purpose::RotationGiven
+        | Purpose::OutputNamed
+        | Purpose::ScriptInFile
+        | Purpose::RestartGiven
+        | Purpose::DctGiven
+        | Purpose::ScaleGiven => true,
+        Purpose::Transposing
+        | Purpose::TransposingAcross
+        | Purpose::Trimming
+        | Purpose::Graying
+        | Purpose::ProgressiveAsked
+        | Purpose::PnmAsked
+        | Purpose::BmpAsked
+        | Purpose::NotSmoothed
+        | Purpose::LeftOut
+        | Purpose::Replacing
+        | Purpose::CommentGiven
+        | Purpose::CommentInFile => false,
+    }
+}
+
+fn copying_named(value: &str) -> Option<Copying>
+    ensures { result ≡ copying_named value.now }
+{
+    let letters = value.as_bytes();
+    if stands_for(1, b"none", letters) {
+        Some(Copying::None)
+    } else if stands_for(1, b"comments", letters) {
+        Some(Copying::Comments)
+    } else if stands_for(1, b"all", letters) {
+        Some(Copying::All)
+    } else {
+        None
+    }
+}
+
+fn flip_named(value: &str) -> Option<Transform>
+    ensures { result ≡ flip_named value.now }
+{
+    let letters = value.as_bytes();
+    if stands_for(1, b"horizontal", letters) {
+        Some(Transform::FlipH)
+    } else if stands_for(1, b"vertical", letters) {
+        Some(Transform::FlipV)
+    } else {
+        None
+    }
+}
+
+fn rotation_named(value: &[u8]) -> Option<Transform>
+    ensures { result ≡ rotation_named value.now }
+{
+    match number_of(value) {
+        Some(90) => Some(Transform::Rotate90),
+        Some(180) => Some(Transform::Rotate180),
+        Some(270) => Some(Transform::Rotate270),
+        _ => None,
+    }
+}
+
+// Whether the value of -restart is right: a number of at most 65535, perhaps with a B behind it.
+fn is_restart(value: &[u8]) -> bool
+    ensures { result ≡ is_restart value.now }
+{
+    match number_of(without_b(value)) {
+        Some(n) => n <= 65535,
+        None => false,
+    }
+}
+
+// Whether the value of -dct is right: release 6b's `int` alone.
+fn is_int(value: &str) -> bool
+    ensures { result ≡ is_int value.now }
+{
+    stands_for(1, b"int", value.as_bytes())
+}
+
+// Whether the value of -scale is right: no scale but one.
+fn is_whole_scale(value: &str) -> bool
+    ensures { result ≡ is_whole_scale value.now }
+{
+    value == "1/1"
+}
+
+// The text without a B at its end.
+fn without_b(text: &[u8]) -> &[u8]
+    ensures { result.now ≡ without_b text.now }
+{
+    let Some((letter, before)) = text.split_last() else {
+        return text;
+    };
+    if lower(*letter) == b'b' { before } else { text }
+}
+
+// The number that one to five decimal digits spell.
+fn number_of(text: &[u8]) -> Option<u32>
+    ensures { result ≡ number_of text.now }
+{
+    if text.is_empty() || text.len() > 5 {
+        return None;
+    }
+    let mut number: u32 = 0;
+    for digit in text {
+        if !digit.is_ascii_digit() {
+            return None;
+        }
+        number = 10 * number + u32::from(*digit - 48);
+    }
+    Some(number)
+}

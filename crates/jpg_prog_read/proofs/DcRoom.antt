@@ -1,0 +1,35 @@
+-- DC values that are known down to a bit have room for the next.
+use Rattle.std.proofs.Common.{◌≡◌, ℕ, zero, suc, ◌+◌, ◌*◌, ◌^◌, ◌≤◌, ap, ◌∙◌, subst, sym, arith, add-one, ℤ, pos, negsuc, ◌+ℤ◌, ◌≤ℤ◌}
+use Rattle.std.proofs.lemmas.Int.{ints}
+use Rattle.std.proofs.lemmas.Nat.{mul-le}
+use Rattle.std.proofs.Math.Nat.{pow-succ'}
+use Rattle.jpg_spec.specs.Elements.{Coding}
+use Rattle.jpg_spec.specs.Geometry.{Frame, bounds}
+use Rattle.jpg_spec.specs.declared.frame.Bounds.{Bounds}
+use Rattle.jpg_prog_read.specs.Known.{IsMultiple}
+use Rattle.jpg_prog_read.specs.DcRefinement.{HasRoom, IsKnownDc}
+use Rattle.jpg_prog_read.proofs.Known.{known_refinable}
+
+-- the next bit of a negative value leaves it below 1
+below_one : (n m al : ℕ) → suc n ≡ m * 2 ^ (al + 1) → 2 ^ al ≤ suc n
+below_one n zero al e = absurd (omega (arith, e))
+below_one n (suc m) al e =
+    let p : 2 ^ (al + 1) ≡ 2 * 2 ^ al = ap (λ k. 2 ^ k) (add-one al) ∙ pow-succ' 2 al in
+    let g : 1 * 2 ^ (al + 1) ≤ suc m * 2 ^ (al + 1) = mul-le 1 (2 ^ (al + 1)) (suc m) (2 ^ (al + 1)) (omega arith) (omega arith) in
+    omega (arith, e, p, g)
+
+room_below : (al : ℕ) (o : ℤ) → al + 1 ≤ 10 → IsMultiple (al + 1) o → o ≤ℤ pos 1023 → (o +ℤ pos (2 ^ al)) ≤ℤ pos 1023
+room_below al (pos n) le k high =
+    let h = known_refinable k.0 al 10 n le k.1 (omega (arith, ints, high)) in
+    omega (arith, ints, h)
+room_below al (negsuc n) le k high =
+    let h = below_one n k.0 al k.1 in
+    omega (arith, ints, h)
+
+pub room_known : (f : Frame) (c : Coding) (o : ℤ) → c.bounds ≡ bounds f → c.al + 1 ≤ 10 → IsKnownDc c o → HasRoom c o
+room_known f c o e le k =
+    let top : c.bounds.dc_high ≡ pos 1023 = ap (λ (b : Bounds). b.dc_high) e in
+    record {
+      low = k.low;
+      high = subst (λ (x : ℤ). (o +ℤ pos (2 ^ c.al)) ≤ℤ x) (sym top) (room_below c.al o le k.known (subst (λ (x : ℤ). o ≤ℤ x) top k.high));
+    }

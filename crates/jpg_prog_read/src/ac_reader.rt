@@ -1,0 +1,182 @@
+//! The machine that reads a progressive AC scan, first pass or refinement (T.81, G.1.2.2, G.1.2.3).
+ghost use Rattle.std.specs.Prelude.{◌≡◌, ◌≤◌, ◌+◌, Bool, List, Some};
+ghost use Rattle.jpg_huff.specs.declared.table.Table.{Table as Codes};
+ghost use Rattle.jpg_huff.specs.Sets.{ac_tables, in_slot};
+ghost use Rattle.jpg_huff.specs.Tables.{symbol_codes};
+ghost use Rattle.jpg_prog_read.specs.NewAcReader.{HasAcTable, IsAcScan, IsOfAcScan, IsBandOf};
+ghost use Rattle.jpg_coefs.specs.Machine.{Interval};
+ghost use Rattle.jpg_coefs.specs.Picture.{Picture};
+ghost use Rattle.jpg_prog_read.specs.AcStands.{IsInUnit, HasWhole, IsBetween, AcStands, ReadsBit, PutsUnit, TakesUnit, Settles, GoesOn, progressive_ac};
+ghost use Rattle.jpg_prog_read.specs.declared.stage.Stage.TheVariants as stages;
+
+use crate::band::{BandReader, BandStep};
+use crate::scan::BandScan;
+use crate::table_copy::copy_of;
+use jpg_base::{BitStore, Cursor, Frame, ScanHead, ScanPart};
+use jpg_coefs::{Coefs, ScanMachine, Taken, UnitFault, UnitStep};
+use jpg_huff::{Table, TableSet};
+
+/// A machine that reads a progressive AC scan: what it reads by, the places that are left, the unit in
+/// work, how many units of the interval are left, and whether the first of them wasn't taken yet.
+#[derive(Drop)]
+pub struct AcReader {
+    scan: BandScan,
+    table: Table,
+    cursor: Cursor,
+    unit: BandReader,
+    left: u64,
+    fresh: bool,
+}
+
+// What the header says of the band.
+fn band_of(frame: &Frame, head: &ScanHead) -> BandScan
+    requires end { head.now.se ≤ 63 }
+    requires scale { head.now.al ≤ 10 }
+    ensures { IsBandOf frame.now head.now result }
+{
+    let bounds = frame.bounds();
+    BandScan {
+        start: head.ss,
+        end: head.se + 1,
+        scale: 1 << head.al,
+        most_category: if head.ah > 0 { 1 } else { bounds.ac_cat },
+        most_magnitude: bounds.ac as u16,
+    }
+}
+
+// The table of the header's component.
+fn table_in(tables: &TableSet, part: &ScanPart) -> Table
+    requires { HasAcTable tables.now part.now }
+    ensures { (table : Codes) × (in_slot (ac_tables tables.now) part.now.ac ≡ Some table) × (symbol_codes result ≡ symbol_codes table) }
+{
+    let Some(table) = tables.ac(part.ac) else {
+        unreachable!();
+    };
+    copy_of(table)
+}
+
+impl AcReader {
+    /// Before the first unit of a scan, between intervals. The frame is progressive, the head names a
+    /// band of AC of one component of it, and that component's table is there.
+    pub fn new(frame: &Frame, head: &ScanHead, tables: &TableSet) -> AcReader
+        requires { IsAcScan frame.now head.now tables.now }
+        ensures { (i : Interval) → IsOfAcScan frame.now head.now tables.now i → progressive_ac.ready result i }
+    {
+        frame.checked();
+        AcReader {
+            scan: band_of(frame, head),
+            table: table_in(tables, &head.parts[0]),
+            cursor: Cursor::new(frame, head),
+            unit: BandReader::new(),
+            left: 0,
+            fresh: true,
+        }
+    }
+
+    // A bit of the unit in work.
+    fn unit_bit(&mut self, bit: bool) -> BandStep
+        requires { (i : Interval) × (bits : List Bool) × (now : Picture) × IsInUnit self.old i bits now }
+        ensures { ReadsBit self.old bit result self.new }
+    {
+        self.unit.bit(&self.scan, &self.table, self.left, bit)
+    }
+
+    // The block of a unit that is whole is put at its place.
+    fn put(&mut self, coefs: &mut Coefs)
+        requires { (i : Interval) × (bits : List Bool) × HasWhole self.old i bits coefs.old }
+        ensures count { self.new.left + 1 ≡ self.old.left }
+        ensures puts { PutsUnit self.old coefs.old self.new coefs.new }
+    {
+        coefs.checked();
+        let place = self.cursor.place();
+        let block = self.unit.block();
+        coefs.set_block(place.component, place.x, place.y, &block);
+        self.cursor.step();
+        self.left -= 1;
+    }
+
+    // The next unit is taken.
+    fn take(&mut self, coefs: &Coefs) -> BandStep
+        requires between { (i : Interval) × (bits : List Bool) × IsBetween self.old i bits coefs.now }
+        requires some { 1 ≤ self.old.left }
+        ensures first { self.old.unit.stage ≡ stages.Code → result ≡ BandStep.More }
+        ensures count { self.new.left ≡ self.old.left }
+        ensures takes { TakesUnit self.old coefs.now result self.new }
+    {
+        self.fresh = false;
+        let place = self.cursor.place();
+        let block = coefs.block(place.component, place.x, place.y);
+        self.unit.start(&self.scan, &block)
+    }
+
+    // Behind a whole unit: the ends of bands may make further ones whole.
+    fn go_on(&mut self, coefs: &mut Coefs) -> Result<UnitStep, UnitFault>
+        requires { (i : Interval) × (bits : List Bool) × HasWhole self.old i bits coefs.old }
+        ensures { GoesOn self.old coefs.old result self.new coefs.new }
+    {
+        loop {
+            self.put(coefs);
+            if self.left == 0 {
+                return Ok(UnitStep::IntervalDone);
+            }
+            match self.take(coefs) {
+                BandStep::More => return Ok(UnitStep::More),
+                BandStep::Fault(fault) => return Err(fault),
+                BandStep::Done => {}
+            }
+        }
+    }
+
+    // The first unit is taken where it wasn't yet.
+    fn settle(&mut self, coefs: &Coefs)
+        requires { (i : Interval) × (bits : List Bool) × AcStands self.old i bits coefs.now }
+        ensures { Settles self.old coefs.now self.new }
+    {
+        if self.fresh {
+            let _ = self.take(coefs);
+        }
+    }
+}
+
+impl ScanMachine for AcReader {
+    ghost kind = { progressive_ac };
+
+    fn bit(&mut self, bit: bool, coefs: &mut Coefs) -> Result<UnitStep, UnitFault> {
+        self.settle(coefs);
+        match self.unit_bit(bit) {
+            BandStep::More => Ok(UnitStep::More),
+            BandStep::Fault(fault) => Err(fault),
+            BandStep::Done => self.go_on(coefs),
+        }
+    }
+
+    fn bits(&mut self, store: &mut BitStore, coefs: &mut Coefs, most: u64) -> Taken {
+        let all = self.left;
+        while store.len() > 0 {
+            let bit = store.bit(0);
+            store.skip(1);
+            match self.bit(bit, coefs) {
+                Err(fault) => return Taken::Fault(fault),
+                Ok(step) => match step {
+                    UnitStep::IntervalDone => return Taken::IntervalDone,
+                    UnitStep::More => {
+                        if all.saturating_sub(self.left) >= most {
+                            return Taken::Units;
+                        }
+                    }
+                },
+            }
+        }
+        Taken::More
+    }
+
+    fn restart(&mut self, units: u64) {
+        self.unit = BandReader::new();
+        self.left = units;
+        self.fresh = true;
+    }
+
+    fn units_left(&self) -> u64 {
+        self.left
+    }
+}

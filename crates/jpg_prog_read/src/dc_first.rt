@@ -1,0 +1,155 @@
+//! The machine that reads a first DC pass (T.81, G.1.2.1).
+ghost use Rattle.std.specs.Prelude.{◌≡◌, ◌≤◌, ◌<◌, length, slice_set, All};
+ghost use Rattle.jpg_spec.specs.Geometry.{padded_blocks};
+ghost use Rattle.jpg_base.specs.Cursor.{IsPadded};
+ghost use Rattle.jpg_huff.specs.Sets.{dc_tables};
+ghost use Rattle.jpg_coefs.specs.Machine.{Interval};
+ghost use Rattle.jpg_prog_read.specs.DcFirstPass.{CanRead, ReadsBit, first_pass, table_in, with_unit, behind_unit};
+ghost use Rattle.jpg_prog_read.specs.DcNew.{AreFilled, HasPartTable, IsFirstHead, IsOfFirst};
+ghost use Rattle.jpg_prog_read.specs.DcPlaces.{with_dc};
+ghost use Rattle.jpg_prog_read.specs.DcWork.{DcStaysOpen};
+
+use crate::dc::{DcStep, DcUnit};
+use crate::dc_bits::{BitMachine, take_bits};
+use crate::dc_units::{dc_scan, put_dc};
+use crate::scan::DcScan;
+use jpg_base::{BitStore, Cursor, Frame, Place, ScanHead, ScanPart};
+use jpg_coefs::{Coefs, ScanMachine, Taken, UnitFault, UnitStep};
+use jpg_huff::TableSet;
+
+/// A machine that reads a first DC pass: what it goes by, the DC tables in the slots of their components, the places that
+/// are left, the predictions by component, the unit in work, and how many units of the interval are left.
+#[derive(Drop)]
+pub struct DcFirst {
+    scan: DcScan,
+    tables: TableSet,
+    cursor: Cursor,
+    predictions: [i16; 4],
+    unit: DcUnit,
+    left: u64,
+}
+
+// The table of a part goes into the slot of its component.
+fn add_table(own: &mut TableSet, part: &ScanPart, tables: &TableSet)
+    requires small { part.now.component < 4 }
+    requires there { HasPartTable tables.now part.now }
+    ensures { dc_tables own.new ≡ slice_set (dc_tables own.old) part.now.component (table_in tables.now part.now.dc) }
+{
+    match tables.dc(part.dc) {
+        Some(table) => own.set_dc(part.component, table),
+        None => (),
+    }
+}
+
+// The tables of the parts, in the slots of their components.
+fn tables_of(parts: &[ScanPart], tables: &TableSet) -> TableSet
+    requires there { All (HasPartTable tables.now) parts.now }
+    requires small { All (λ p. p.component < 4) parts.now }
+    ensures { AreFilled tables.now parts.now (length parts.now) result }
+{
+    let mut own = TableSet::new();
+    for part in parts {
+        add_table(&mut own, part, tables);
+    }
+    own
+}
+
+impl DcFirst {
+    /// Before the first unit of a scan, between intervals. The frame is progressive, the head's components are distinct
+    /// ones of it, and the DC tables that it names are there.
+    pub fn new(frame: &Frame, head: &ScanHead, tables: &TableSet) -> DcFirst
+        requires { IsFirstHead frame.now head.now tables.now }
+        ensures { (i : Interval) → IsOfFirst frame.now head.now tables.now i → first_pass.ready result i }
+    {
+        frame.checked();
+        DcFirst {
+            scan: dc_scan(frame, head.al),
+            tables: tables_of(head.parts.as_slice(), tables),
+            cursor: Cursor::new(frame, head),
+            predictions: [0; 4],
+            unit: DcUnit::new(),
+            left: 0,
+        }
+    }
+
+    // A bit of the unit in work.
+    fn unit_bit(&mut self, component: u8, bit: bool) -> DcStep
+        requires { CanRead self.old component }
+        ensures same { self.new ≡ with_unit self.old self.new.unit }
+        ensures open { DcStaysOpen result self.new.unit }
+        ensures reads { ReadsBit self.old component bit result self.new.unit }
+    {
+        match self.tables.dc(component) {
+            Some(table) => self.unit.bit(
+                &self.scan,
+                table,
+                self.predictions[component as usize],
+                bit,
+            ),
+            None => DcStep::Fault(UnitFault::NoCode),
+        }
+    }
+
+    // A unit that is whole: its value is put, and the next unit begins.
+    fn put(&mut self, coefs: &mut Coefs, place: Place, prediction: i16, value: i16)
+        requires small { place.component < 4 }
+        requires padded { IsPadded coefs.old.frame place.component place.x place.y }
+        requires left { 1 ≤ self.old.left }
+        requires place { 1 ≤ length self.old.cursor }
+        ensures machine { self.new ≡ behind_unit self.old place.component prediction }
+        ensures count { length coefs.old.blocks ≡ padded_blocks coefs.old.frame }
+        ensures block { coefs.new ≡ with_dc coefs.old place value }
+    {
+        put_dc(coefs, place, value);
+        self.predictions[place.component as usize] = prediction;
+        self.unit = DcUnit::new();
+        self.cursor.step();
+        self.left -= 1;
+    }
+}
+
+impl BitMachine for DcFirst {
+    ghost kind = { first_pass };
+
+    fn one_bit(&mut self, bit: bool, coefs: &mut Coefs) -> Result<UnitStep, UnitFault> {
+        let place = self.cursor.place();
+        match self.unit_bit(place.component, bit) {
+            DcStep::More => Ok(UnitStep::More),
+            DcStep::Fault(fault) => Err(fault),
+            DcStep::Done { prediction, value } => {
+                self.put(coefs, place, prediction, value);
+                if self.left == 0 {
+                    Ok(UnitStep::IntervalDone)
+                } else {
+                    Ok(UnitStep::More)
+                }
+            }
+        }
+    }
+
+    fn count_left(&self) -> u64 {
+        self.left
+    }
+}
+
+impl ScanMachine for DcFirst {
+    ghost kind = { first_pass };
+
+    fn bit(&mut self, bit: bool, coefs: &mut Coefs) -> Result<UnitStep, UnitFault> {
+        self.one_bit(bit, coefs)
+    }
+
+    fn bits(&mut self, store: &mut BitStore, coefs: &mut Coefs, most: u64) -> Taken {
+        take_bits(self, store, coefs, most)
+    }
+
+    fn restart(&mut self, units: u64) {
+        self.predictions = [0; 4];
+        self.unit = DcUnit::new();
+        self.left = units;
+    }
+
+    fn units_left(&self) -> u64 {
+        self.left
+    }
+}

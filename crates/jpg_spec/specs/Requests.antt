@@ -1,0 +1,197 @@
+-- WHAT SWITCHES AND FILES ASK FOR, behind a command's own word; the first fault of the words from left to right (the manuals of jpegtran and djpeg
+-- in release 6b; shortest forms and faults are the suite's own).
+use Rattle.std.specs.Prelude.{ℕ, ◌+◌, ◌-◌, ◌*◌, Bool, true, false, nat_le, ◌&&◌, ◌||◌, ◌==◌, if◌then◌else◌, List, [], ◌∷◌, length, Option, Some, None, option_and_then, codes}
+use Rattle.std.specs.Str.{bytes_eq}
+use Rattle.jpg_spec.specs.Lists.{all_of}
+use Rattle.jpg_spec.specs.Markers.{is_within}
+use Rattle.jpg_spec.specs.Switches.{Switch, is_switch, lower, purpose_of, stands_for}
+use Rattle.jpg_spec.specs.CommentWords.{FilesAsked, WordsTold, from_to, named, standard_input, usage_at, words_right, words_wrong}
+use Rattle.jpg_spec.specs.declared.answers.UsageFault.{UsageFault}
+use Rattle.jpg_spec.specs.declared.answers.UsageFault.TheVariants.{UnknownSwitch, LeftOutSwitch, MissingValue, BadValue, TwoTransforms, TooManyFiles}
+use Rattle.jpg_spec.specs.declared.frame.Copying.{Copying}
+use Rattle.jpg_spec.specs.declared.frame.Copying.TheVariants as copying
+use Rattle.jpg_spec.specs.declared.switch.Purpose.{Purpose}
+use Rattle.jpg_spec.specs.declared.image.EndKind.{EndKind}
+use Rattle.jpg_spec.specs.declared.image.EndKind.TheVariants.{Pnm, Bmp}
+use Rattle.jpg_spec.specs.declared.switch.Purpose.TheVariants.{LeftOut, CopyingGiven, FlipGiven, RotationGiven, Transposing, TransposingAcross, Trimming, Graying, OutputNamed, ProgressiveAsked, ScriptInFile, RestartGiven, PnmAsked, BmpAsked, NotSmoothed, DctGiven, ScaleGiven}
+use Rattle.jpg_spec.specs.declared.transform.Transform.{Transform}
+use Rattle.jpg_spec.specs.declared.transform.Transform.TheVariants.{Keep, FlipH, FlipV, Transpose, Transverse, Rotate90, Rotate180, Rotate270}
+
+-- WHAT IS ASKED FOR: files; a transform, trimming, graying, which kept markers are passed on, and whether there is something that isn't built yet
+-- (-progressive, -scans, -restart); a format of images with the index of the word that asks for it, and whether samples are smoothed
+pub record Request : Type 0 where
+  pub files : FilesAsked
+  pub transform : Transform
+  pub trim : Bool
+  pub gray : Bool
+  pub copying : Copying
+  pub unbuilt : Bool
+  pub format : Option (EndKind × ℕ)
+  pub smooth : Bool
+
+-- where nothing is said
+abbrev pub nothing_said : Request
+nothing_said = record {
+  files = from_to standard_input;
+  transform = Keep;
+  trim = false;
+  gray = false;
+  copying = copying.Comments;
+  unbuilt = false;
+  format = None;
+  smooth = true;
+}
+
+abbrev pub with_input : List ℕ → Request → Request
+with_input name a = record a { files = record { input = named name; output = a.files.output } }
+
+abbrev pub with_output : List ℕ → Request → Request
+with_output name a = record a { files = record { input = a.files.input; output = named name } }
+
+-- VALUES
+
+-- names, of which a beginning is enough
+abbrev pub copying_named : List ℕ → Option Copying
+copying_named value =
+    if stands_for 1 (codes "none") value then Some copying.None
+    else if stands_for 1 (codes "comments") value then Some copying.Comments
+    else if stands_for 1 (codes "all") value then Some copying.All
+    else None
+
+abbrev pub flip_named : List ℕ → Option Transform
+flip_named value =
+    if stands_for 1 (codes "horizontal") value then Some FlipH
+    else if stands_for 1 (codes "vertical") value then Some FlipV
+    else None
+
+-- numbers of one to five decimal digits
+abbrev pub is_digit : ℕ → Bool
+is_digit b = is_within 48 57 b
+
+abbrev pub digits_from : ℕ → List ℕ → ℕ
+digits_from n [] = n
+digits_from n (d ∷ digits) = digits_from (10 * n + (d - 48)) digits
+
+abbrev pub is_number : List ℕ → Bool
+is_number text = nat_le 1 (length text) && nat_le (length text) 5 && all_of is_digit text
+
+abbrev pub rotation_of : ℕ → Option Transform
+rotation_of degrees = if degrees == 90 then Some Rotate90 else if degrees == 180 then Some Rotate180 else if degrees == 270 then Some Rotate270 else None
+
+abbrev pub number_of : List ℕ → Option ℕ
+number_of text = if is_number text then Some (digits_from 0 text) else None
+
+abbrev pub rotation_named : List ℕ → Option Transform
+rotation_named value = option_and_then rotation_of (number_of value)
+
+-- a number of rows of MCUs, or with a B behind it of MCUs, of at most 65535
+abbrev pub without_b : List ℕ → List ℕ
+without_b [] = []
+without_b (b ∷ []) = if lower b == 98 then [] else b ∷ []
+without_b (b ∷ next ∷ text) = b ∷ without_b (next ∷ text)
+
+abbrev pub is_word : Option ℕ → Bool
+is_word None = false
+is_word (Some n) = nat_le n 65535
+
+abbrev pub is_restart : List ℕ → Bool
+is_restart value = is_word (number_of (without_b value))
+
+-- release 6b's `int` alone, and no scale but one
+abbrev pub is_int : List ℕ → Bool
+is_int value = stands_for 1 (codes "int") value
+
+abbrev pub is_whole_scale : List ℕ → Bool
+is_whole_scale value = bytes_eq value (codes "1/1")
+
+-- SWITCHES
+
+-- which of the eight transforms this is
+abbrev pub transform_number : Transform → ℕ
+transform_number Keep = 0
+transform_number FlipH = 1
+transform_number FlipV = 2
+transform_number Transpose = 3
+transform_number Transverse = 4
+transform_number Rotate90 = 5
+transform_number Rotate180 = 6
+transform_number Rotate270 = 7
+
+-- a transform may be asked for again, and no other one
+abbrev pub with_transform : ℕ → Transform → Request → WordsTold Request
+with_transform index t a =
+    if transform_number a.transform == 0 || transform_number a.transform == transform_number t then words_right (record a { transform = t })
+    else usage_at TwoTransforms index
+
+-- with the value that stands behind the switch of this index
+abbrev pub with_value : {X : Type 0} → ℕ → Option X → (X → WordsTold Request) → WordsTold Request
+with_value index (Some x) asks = asks x
+with_value index None asks = usage_at BadValue (index + 1)
+
+-- where the value that stands behind it may be given
+abbrev pub where_good : ℕ → Bool → Request → WordsTold Request
+where_good index true a = words_right a
+where_good index false a = usage_at BadValue (index + 1)
+
+-- A switch stands alone, or takes the next word as its value; or the command hasn't got it.
+pub data SwitchAsked : Type 0 where
+  alone : (Request → WordsTold Request) → SwitchAsked
+  valued : (List ℕ → Request → WordsTold Request) → SwitchAsked
+  wrong : UsageFault → SwitchAsked
+
+-- what the switch of this index asks for
+abbrev pub switch_asked : ℕ → Option Purpose → SwitchAsked
+switch_asked index (Some CopyingGiven) = valued (λ value a. with_value index (copying_named value) (λ c. words_right (record a { copying = c })))
+switch_asked index (Some FlipGiven) = valued (λ value a. with_value index (flip_named value) (λ t. with_transform index t a))
+switch_asked index (Some RotationGiven) = valued (λ value a. with_value index (rotation_named value) (λ t. with_transform index t a))
+switch_asked index (Some Transposing) = alone (with_transform index Transpose)
+switch_asked index (Some TransposingAcross) = alone (with_transform index Transverse)
+switch_asked index (Some Trimming) = alone (λ a. words_right (record a { trim = true }))
+switch_asked index (Some Graying) = alone (λ a. words_right (record a { gray = true }))
+switch_asked index (Some OutputNamed) = valued (λ value a. words_right (with_output value a))
+switch_asked index (Some ProgressiveAsked) = alone (λ a. words_right (record a { unbuilt = true }))
+switch_asked index (Some ScriptInFile) = valued (λ value a. words_right (record a { unbuilt = true }))
+switch_asked index (Some RestartGiven) = valued (λ value a. where_good index (is_restart value) (record a { unbuilt = true }))
+switch_asked index (Some PnmAsked) = alone (λ a. words_right (record a { format = Some (Pnm, index) }))
+switch_asked index (Some BmpAsked) = alone (λ a. words_right (record a { format = Some (Bmp, index) }))
+switch_asked index (Some NotSmoothed) = alone (λ a. words_right (record a { smooth = false }))
+switch_asked index (Some DctGiven) = valued (λ value a. where_good index (is_int value) a)
+switch_asked index (Some ScaleGiven) = valued (λ value a. where_good index (is_whole_scale value) a)
+switch_asked index (Some LeftOut) = wrong LeftOutSwitch
+switch_asked index (Some other) = wrong UnknownSwitch
+switch_asked index None = wrong UnknownSwitch
+
+-- WORDS
+
+-- words that are right ask for what is told of them
+abbrev pub then_asks : {X Y : Type 0} → WordsTold X → (X → WordsTold Y) → WordsTold Y
+then_asks (words_wrong usage) asks = words_wrong usage
+then_asks (words_right x) asks = asks x
+
+-- by the last word
+abbrev pub last_switch : ℕ → SwitchAsked → Request → WordsTold Request
+last_switch index (alone asks) a = asks a
+last_switch index (valued asks) a = usage_at MissingValue index
+last_switch index (wrong fault) a = usage_at fault index
+
+-- by a switch and the word behind it, and then by the words from that one on, or by those behind it
+abbrev pub next_switch : ℕ → SwitchAsked → List ℕ → Request → (Request → WordsTold Request) → (Request → WordsTold Request) → WordsTold Request
+next_switch index (alone asks) next a from behind = then_asks (asks a) from
+next_switch index (valued asks) next a from behind = then_asks (asks next a) behind
+next_switch index (wrong fault) next a from behind = usage_at fault index
+
+-- From the word of this index on, after what was said before, by a command's switches. A file's name is the last word.
+abbrev pub request_from : List Switch → ℕ → Request → List (List ℕ) → WordsTold Request
+request_from switches index a [] = words_right a
+request_from switches index a (word ∷ []) =
+    if is_switch word then last_switch index (switch_asked index (purpose_of switches word)) a else words_right (with_input word a)
+request_from switches index a (word ∷ next ∷ words) =
+    if is_switch word
+    then next_switch index (switch_asked index (purpose_of switches word)) next a
+    (λ told. request_from switches (index + 1) told (next ∷ words))
+    (λ told. request_from switches (index + 2) told words)
+    else usage_at TooManyFiles (index + 1)
+
+-- from the word behind the command on
+abbrev pub request : List Switch → List (List ℕ) → WordsTold Request
+request switches words = request_from switches 1 nothing_said words
