@@ -17,7 +17,7 @@ use Rattle.jpg_spec.specs.Moves.{copied, headed_kept, is_wide, sequential_proces
 use Rattle.jpg_spec.specs.Scan.{Blocks}
 use Rattle.jpg_spec.specs.Script.{Entry, sequential_script}
 use Rattle.jpg_spec.specs.Segments.{QuantTable, standard_limits}
-use Rattle.jpg_spec.specs.WrittenFile.{IsBaselineBlock, IsHeaded, is_script_behind}
+use Rattle.jpg_spec.specs.WrittenFile.{IsBaselineBlock, IsHeaded, is_progressive_behind, is_script_behind}
 use Rattle.jpg_spec.specs.declared.frame.Colour.{Colour}
 use Rattle.jpg_spec.specs.declared.frame.Copying.{Copying}
 use Rattle.jpg_spec.specs.declared.frame.Component.{Component}
@@ -41,6 +41,7 @@ use Rattle.jpg_transform.specs.declared.choice.Choice.{Choice as Asked}
 use Rattle.jpg_transform.specs.declared.choice.Job.{Job}
 use Rattle.jpg_transform.proofs.HeadColour.{headed_colour}
 use Rattle.jpg_transform.proofs.MovedHead.{unheaded, moved_components, moved_count, meaning_numbers, precision_stays, frame_precision_stays, kept_stays, colour_moves}
+use Rattle.jpg_file.specs.Restarts.{restart_of}
 use Rattle.jpg_file.specs.WriteFile.{CanWriteFile, file_bytes, file_meaning}
 use Rattle.jpg_file.specs.declared.write.Plan.{Plan}
 
@@ -201,17 +202,17 @@ can_write : (p : Picture) (c : Asked) (plan : Plan) (blocks : Blocks) → IsWrit
 can_write p c plan blocks w e =
     let is = w.picture in let h = w.head in
     let g = frame_of_meaning (out_meaning p c) in
+    let H = file_meaning plan p.kept blocks in
     let m = meaning_is p c plan blocks w in
     let plain = ap (λ (f : Frame). is_progressive f.process) h.frame ∙ sequential_of plan.out.quants.items in
     record {
-      sequential = plain;
       precision = out_precision p c plan.out h ∙ precision_stays (choice_told c) (picture_meaning p) ∙ is.frame.precision;
       tables = out_count p c plan.out is h;
       colour = colour_is p c plan.out is h ∙ sym (headed_colour (choice_told c) (unheaded (choice_told c) (picture_meaning p))) ∙ sym (ap colour_of m);
       passes =
-          ap (λ (H : Meaning). is_script_behind (frame_of_meaning H) [] plan.script) m ∙ ap (is_script_behind g []) (script_is p c plan blocks w e)
+          ap (λ b. cond b (is_progressive_behind H [] plan.script) (is_script_behind (frame_of_meaning H) [] plan.script)) plain ∙ ap (λ (H : Meaning). is_script_behind (frame_of_meaning H) [] plan.script) m ∙ ap (is_script_behind g []) (script_is p c plan blocks w e)
           ∙ sequential_passes g (frame_is standard_limits g g standard_are_limits w.headed.frame);
-      seen = plain;
+      seen = refl;
       grids = refl;
       writable = baseline p c plan.out blocks w;
     }
@@ -220,9 +221,10 @@ can_write p c plan blocks w e =
 pub can_write_on : (p : Picture) (c : Asked) (plan : Plan) (f : Frame) (blocks : Blocks) → f ≡ plan.out.frame → IsWritten p c plan.out blocks → plan.script ≡ sequential_script plan.out.frame → CanWriteFile plan p.kept f blocks
 can_write_on p c plan f blocks same w e = subst (λ (g : Frame). CanWriteFile plan p.kept g blocks) (sym same) (can_write p c plan blocks w e)
 
-pub text_is : (p : Picture) (c : Asked) (plan : Plan) (blocks : Blocks) → IsWritten p c plan.out blocks → plan.script ≡ sequential_script plan.out.frame → file_bytes plan p.kept blocks ≡ moved_text (choice_told c) (picture_meaning p)
-text_is p c plan blocks w e =
-    ap (λ (H : Meaning). file_text H plan.script off) (meaning_is p c plan blocks w) ∙ ap (λ (s : List Entry). file_text (out_meaning p c) s off) (script_is p c plan blocks w e)
+pub text_is : (p : Picture) (c : Asked) (plan : Plan) (blocks : Blocks) → IsWritten p c plan.out blocks → plan.script ≡ sequential_script plan.out.frame → restart_of plan.restart ≡ off → file_bytes plan p.kept blocks ≡ moved_text (choice_told c) (picture_meaning p)
+text_is p c plan blocks w e r =
+    ap (file_text (file_meaning plan p.kept blocks) plan.script) r
+    ∙ ap (λ (H : Meaning). file_text H plan.script off) (meaning_is p c plan blocks w) ∙ ap (λ (s : List Entry). file_text (out_meaning p c) s off) (script_is p c plan blocks w e)
 
 -- THE VIEW of a picture moved
 pub is_written : (p : Picture) (c : Asked) (job : Job) (blocks : Blocks) → IsPicture p → IsMovable (choice_told c) (picture_meaning p) → IsJobFor p (choice_told c) job → IsSeenAs (out_meaning p c) job.plan.out.frame blocks → IsWritten p c job.plan.out blocks

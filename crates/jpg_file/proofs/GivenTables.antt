@@ -152,7 +152,7 @@ part_more flags p parts h l =
 
 -- A PART THAT IS LEFT, and the others
 
-left_from : (parts : List ScanPart) (i : ℕ) (d : ScanPart) → i < length parts → drop i parts ≡ get_or parts i d ∷ drop (i + 1) parts
+pub left_from : (parts : List ScanPart) (i : ℕ) (d : ScanPart) → i < length parts → drop i parts ≡ get_or parts i d ∷ drop (i + 1) parts
 left_from parts i d h = let e : suc i ≡ i + 1 = omega arith in drop-cons parts i d h ∙ ap (λ n. get_or parts i d ∷ drop n parts) e
 
 pub left_text : (flags : List Bool) (parts : List ScanPart) (i : ℕ) (d : ScanPart) → i < length parts → All HasSlots parts → length flags ≡ 4

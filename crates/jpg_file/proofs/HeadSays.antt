@@ -27,7 +27,7 @@ pub record Says (head : ScanHead) : Type 0 where
   pub later : (head.ah == 0) ≡ false → head.ah ≡ head.al + 1
   pub al : head.al ≤ 10
 
-says_of : (f : Frame) (count : ℕ) (head : ScanHead) → are_parameters f count head ≡ true → Says head
+pub says_of : (f : Frame) (count : ℕ) (head : ScanHead) → are_parameters f count head ≡ true → Says head
 says_of f count head e =
     let p = both (is_band count head) (are_bits f head) e in
     let b = both (head.ah == 0 || head.ah == head.al + 1) (nat_le head.al (bounds f).al) p.1 in

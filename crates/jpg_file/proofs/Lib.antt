@@ -25,10 +25,14 @@ pub mod FirstHeads
 pub mod Runs
 pub mod ScanRuns
 pub mod GivenTables
+pub mod DueTables
 pub mod TypicalSet
 pub mod SeqHead
-pub mod SeqData
+pub mod ProgHead
 pub mod SameUnits
+pub mod SeqData
 pub mod WrittenText
+pub mod ProgText
+pub mod WholeText
 pub mod AllWritten
 pub mod StripHeads

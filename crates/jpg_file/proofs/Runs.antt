@@ -2,18 +2,19 @@
 use Rattle.std.proofs.Common.{◌≡◌, ℕ, ◌+◌, ◌-◌, ◌*◌, ◌/◌, ◌%◌, min, ◌<◌, ◌≤◌, Bool, List, [], ◌∷◌, ◌++◌, length, take, drop, get_or, refl, sym, ap, ◌∙◌, subst, arith, Ok, Err}
 use Rattle.std.specs.Prelude.{Result}
 use Rattle.std.proofs.Math.Seq.{take-append-add, take-append_seam}
-use Rattle.std.proofs.lemmas.List.{append_assoc, append-nil, append_cancel_left, length-append, length-drop, length-take-le, take_all, take_more, take-append-drop, take-append-le}
+use Rattle.std.proofs.lemmas.List.{append_assoc, append-nil, append_cancel_left, length-append, length-drop, length-take-le, take_all, take_more, take-append-drop, take-append-le, take-take, get_or-take, get_or-append-add, length-take}
 use Rattle.jpg_spec.specs.Bits.{bits_of, bits_of_bytes}
 use Rattle.jpg_spec.proofs.DataFacts.{bits_join}
 use Rattle.jpg_spec.proofs.Strings.{length-bits_of}
 use Rattle.jpg_coefs.specs.Picture.{Picture}
-use Rattle.jpg_coefs.specs.Machine.{Kind, Chain, ChainTo, TakesBits}
+use Rattle.jpg_coefs.specs.Machine.{Interval, Kind, Chain, ChainTo, TakesBits}
 use Rattle.jpg_coefs.specs.declared.machine.UnitStep.{UnitStep}
 use Rattle.jpg_coefs.specs.declared.machine.UnitStep.TheVariants as step
 use Rattle.jpg_coefs.specs.declared.machine.UnitFault.{UnitFault}
 use Rattle.jpg_coefs.specs.declared.machine.Taken.TheVariants as taken
-use Rattle.jpg_coefs.proofs.Chains.{chain_stands, answer_to}
-use Rattle.jpg_file.specs.Data.{GivesRun}
+use Rattle.jpg_coefs.proofs.Chains.{chain_then, chain_stands, answer_to}
+use Rattle.jpg_file.specs.Data.{GivesBits, GivesRun}
+use Rattle.jpg_file.specs.declared.data.DataStep.{DataStep}
 use Rattle.jpg_file.specs.declared.data.DataStep.TheVariants as came
 
 -- A CHAIN of bits, cut in two
@@ -191,3 +192,74 @@ run_fault {M} k most m new now after bytes rest n f count (bits, cut, chain) =
       chain = a.first;
       last = λ i so_far s. (l.front, l.rest, l.byte, answer_to k a.most a.mid new a.between after i so_far l.front (Err f) a.second s);
     }
+
+-- BEHIND BYTES that were given before
+
+-- bytes were given, and more are there
+pub record HasRun (M : Type 0) (k : Kind M) (m : M) (now : Picture) (bytes : List ℕ) (new : M) (after : Picture) (rest : List ℕ) : Type 0 where
+  pub done : List ℕ
+  pub cut : bytes ≡ done ++ rest
+  pub chain : Chain k m now (bits_of_bytes done) new after
+  pub some : 1 ≤ length rest
+  pub left : 1 ≤ k.left new
+  pub interval : Interval
+  pub bits : List Bool
+  pub standing : k.stands new interval bits after
+
+pub run_begun : {M : Type 0} (k : Kind M) (m : M) (now : Picture) (bytes : List ℕ) → 1 ≤ length bytes → 1 ≤ k.left m → (i : Interval) × (bits : List Bool) × k.stands m i bits now → HasRun M k m now bytes m now bytes
+run_begun k m now bytes some left s = record { done = []; cut = refl; chain = (refl, refl); some = some; left = left; interval = s.0; bits = s.1; standing = s.2 }
+
+taken_first : (n e : ℕ) (rest : List ℕ) → e < length (take n rest) → (take e (take n rest) ≡ take e rest) × (get_or (take n rest) e 0 ≡ get_or rest e 0)
+taken_first n e rest low =
+    let l = length-take n rest in
+    (take-take e n rest (omega (arith, low, l)), get_or-take n rest e 0 (omega (arith, low, l)))
+
+pub run_behind : {M : Type 0} (k : Kind M) (m mid new : M) (now between after : Picture) (bytes rest : List ℕ) (n most given : ℕ) (answer : DataStep) → HasRun M k m now bytes mid between rest → GivesRun M k mid between (take most rest) n answer new after
+    → given ≡ length bytes - length rest + n → GivesRun M k m now bytes given answer new after
+run_behind {M} k m mid new now between after bytes rest n most given answer h g count =
+    let d = length h.done in
+    let t = taken_first most g.early rest g.within in
+    let all = ap length h.cut in
+    let long = length-append h.done rest in
+    let low : g.early < length rest = omega (arith, g.within, length-take most rest) in
+    let e : take (d + g.early) bytes ≡ h.done ++ take g.early rest = ap (take (d + g.early)) h.cut ∙ take-append-add h.done rest g.early in
+    let b : bits_of_bytes (take (d + g.early) bytes) ≡ bits_of_bytes h.done ++ bits_of_bytes (take g.early (take most rest)) = ap bits_of_bytes e ∙ bits_join h.done (take g.early rest) ∙ ap (λ l. bits_of_bytes h.done ++ bits_of_bytes l) (sym t.0) in
+    let at : get_or (take most rest) g.early 0 ≡ get_or bytes (d + g.early) 0 = t.1 ∙ sym (get_or-append-add h.done rest g.early 0) ∙ ap (λ l. get_or l (d + g.early) 0) (sym h.cut) in
+    let C : List Bool → Type 0 = λ l. Chain k m now l g.mid g.between in
+    record {
+      mid = g.mid;
+      between = g.between;
+      early = d + g.early;
+      count = omega (arith, count, g.count, all, long);
+      within = omega (arith, low, all, long);
+      chain = subst C (sym b) (chain_then k m mid g.mid now between g.between (bits_of_bytes h.done) (bits_of_bytes (take g.early (take most rest))) h.chain g.chain);
+      last = subst (λ (x : ℕ). GivesBits k g.mid g.between (bits_of 8 x) answer new after) at g.last;
+    }
+
+pub run_on : {M : Type 0} (k : Kind M) (m mid new : M) (now between after : Picture) (bytes rest : List ℕ) (left : List Bool) → HasRun M k m now bytes mid between rest → 8 < length rest
+    → TakesBits k (k.left mid) mid between (bits_of_bytes (take 8 rest)) taken.More new after left → HasRun M k m now bytes new after (drop 8 rest)
+run_on {M} k m mid new now between after bytes rest left h more (bits, cut, (chain, few, none)) =
+    let all : bits ≡ bits_of_bytes (take 8 rest) = sym (append-nil bits) ∙ ap (λ l. bits ++ l) (sym none) ∙ sym cut in
+    let C : List Bool → Type 0 = λ l. Chain k mid between l new after in
+    let D : List Bool → Type 0 = λ l. Chain k m now l new after in
+    let c = subst C all chain in
+    record {
+      done = h.done ++ take 8 rest;
+      cut = h.cut ∙ ap (λ l. h.done ++ l) (sym (take-append-drop 8 rest)) ∙ sym (append_assoc h.done (take 8 rest) (drop 8 rest));
+      chain = subst D (sym (bits_join h.done (take 8 rest))) (chain_then k m mid new now between after (bits_of_bytes h.done) (bits_of_bytes (take 8 rest)) h.chain c);
+      some = omega (arith, more, length-drop 8 rest);
+      left = omega (arith, few);
+      interval = h.interval;
+      bits = h.bits ++ bits_of_bytes (take 8 rest);
+      standing = chain_stands k mid new between after h.interval h.bits (bits_of_bytes (take 8 rest)) c h.standing;
+    }
+
+pub eight_long : (bytes : List ℕ) → length (bits_of_bytes (take 8 bytes)) ≤ 64
+eight_long bytes = omega (arith, bytes_long (take 8 bytes), length-take 8 bytes)
+
+-- no more bits are left than there were
+pub left_of : (rest : List ℕ) (bits left : List Bool) → bits_of_bytes (take 8 rest) ≡ bits ++ left → length left / 8 ≤ length (take 8 rest)
+left_of rest bits left e = omega (arith, bytes_long (take 8 rest), ap length e, length-append bits left)
+
+pub some_first : (rest : List ℕ) → 1 ≤ length rest → 1 ≤ length (take 8 rest)
+some_first rest some = omega (arith, length-take 8 rest, some)

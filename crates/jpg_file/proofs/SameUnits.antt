@@ -1,9 +1,9 @@
 -- Frames with the same grids have the same units.
 use Rattle.std.proofs.Common.{◌≡◌, ℕ, ◌+◌, ◌*◌, List, [], ◌∷◌, length, get_or, refl, sym, ap, ◌∙◌, ◌&&◌}
-use Rattle.std.specs.Prelude.{map, flat_map, nat_lt}
+use Rattle.std.specs.Prelude.{map, flat_map, nat_lt, sum_by}
 use Rattle.std.proofs.Math.Path.{fun_ext}
 use Rattle.std.proofs.lemmas.List.{length-map}
-use Rattle.jpg_spec.specs.Geometry.{Frame, component_at, div_up, greatest, h_max, v_max, units}
+use Rattle.jpg_spec.specs.Geometry.{Frame, component_at, div_up, greatest, h_max, v_max, mcu_units, scan_mcus_across, units}
 use Rattle.jpg_spec.specs.Lists.{below}
 use Rattle.jpg_spec.specs.Moved.{Grids, frame_grids}
 use Rattle.jpg_spec.specs.declared.frame.Place.{Place}
@@ -49,3 +49,48 @@ same_units f g parts e = by_grids f parts ∙ ap (λ G. grid_units G parts) e �
 
 pub same_count : (f g : Frame) → frame_grids f ≡ frame_grids g → length f.components ≡ length g.components
 same_count f g e = sym (length-map f.components (λ c. c.h)) ∙ ap (λ (G : Grids). length G.across) e ∙ length-map g.components (λ c. c.h)
+
+-- HOW MANY MCUs a row has, and units an MCU
+
+abbrev mcus_by : Sides → (ℕ → ℕ) → List ℕ → ℕ
+mcus_by s hs [] = 0
+mcus_by s hs (i ∷ []) = real_side s.width (hs i) s.most_across
+mcus_by s hs (i ∷ j ∷ parts) = div_up s.width (8 * s.most_across)
+
+mcus_are : (f : Frame) (parts : List ℕ) → scan_mcus_across f parts ≡ mcus_by (sides_of f) (λ i. (component_at f i).h) parts
+mcus_are f [] = refl
+mcus_are f (i ∷ []) = refl
+mcus_are f (i ∷ j ∷ parts) = refl
+
+abbrev grid_mcus : Grids → List ℕ → ℕ
+grid_mcus G parts = mcus_by (record { width = G.width; height = G.height; most_across = greatest G.across; most_down = greatest G.down }) (λ i. get_or G.across i 1) parts
+
+mcus_by_grids : (f : Frame) (parts : List ℕ) → scan_mcus_across f parts ≡ grid_mcus (frame_grids f) parts
+mcus_by_grids f parts =
+    let across : (λ i. (component_at f i).h) ≡ (λ i. get_or (map (λ c. c.h) f.components) i 1) = fun_ext (factor_across f) in
+    mcus_are f parts ∙ ap (λ hs. mcus_by (sides_of f) hs parts) across
+
+pub same_mcus : (f g : Frame) (parts : List ℕ) → frame_grids f ≡ frame_grids g → scan_mcus_across f parts ≡ scan_mcus_across g parts
+same_mcus f g parts e = mcus_by_grids f parts ∙ ap (λ G. grid_mcus G parts) e ∙ sym (mcus_by_grids g parts)
+
+abbrev sizes_by : (ℕ → ℕ) → (ℕ → ℕ) → List ℕ → ℕ
+sizes_by hs vs [] = 0
+sizes_by hs vs (i ∷ []) = 1
+sizes_by hs vs (i ∷ j ∷ parts) = sum_by (λ i. hs i * vs i) (i ∷ j ∷ parts)
+
+sizes_are : (f : Frame) (parts : List ℕ) → mcu_units f parts ≡ sizes_by (λ i. (component_at f i).h) (λ i. (component_at f i).v) parts
+sizes_are f [] = refl
+sizes_are f (i ∷ []) = refl
+sizes_are f (i ∷ j ∷ parts) = refl
+
+abbrev grid_sizes : Grids → List ℕ → ℕ
+grid_sizes G parts = sizes_by (λ i. get_or G.across i 1) (λ i. get_or G.down i 1) parts
+
+sizes_by_grids : (f : Frame) (parts : List ℕ) → mcu_units f parts ≡ grid_sizes (frame_grids f) parts
+sizes_by_grids f parts =
+    let across : (λ i. (component_at f i).h) ≡ (λ i. get_or (map (λ c. c.h) f.components) i 1) = fun_ext (factor_across f) in
+    let down : (λ i. (component_at f i).v) ≡ (λ i. get_or (map (λ c. c.v) f.components) i 1) = fun_ext (factor_down f) in
+    sizes_are f parts ∙ ap (λ hs. sizes_by hs (λ i. (component_at f i).v) parts) across ∙ ap (λ vs. sizes_by (λ i. get_or (map (λ c. c.h) f.components) i 1) vs parts) down
+
+pub same_sizes : (f g : Frame) (parts : List ℕ) → frame_grids f ≡ frame_grids g → mcu_units f parts ≡ mcu_units g parts
+same_sizes f g parts e = sizes_by_grids f parts ∙ ap (λ G. grid_sizes G parts) e ∙ sym (sizes_by_grids g parts)

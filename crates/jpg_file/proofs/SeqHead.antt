@@ -1,21 +1,24 @@
 -- The header of a sequential scan.
 use Rattle.std.proofs.Common.{◌≡◌, ℕ, zero, suc, ◌<◌, Bool, true, false, cond, List, [], ◌∷◌, length, get_or, refl, sym, ap, ◌∙◌, subst, arith, lit<, lit≤, ◌==◌, ◌&&◌}
 use Rattle.std.specs.Prelude.{map, ◌||◌, slice_index_or}
+use Rattle.std.specs.Int.{to_be_bytes, w16}
 use Rattle.std.specs.List.{All}
 use Rattle.std.proofs.lemmas.List.{length-map}
 use Rattle.std.proofs.lemmas.List.Elements.{All-nil, All-cons, All-head, All-tail}
 use Rattle.jpg_spec.specs.Lists.{is_distinct}
-use Rattle.jpg_spec.specs.FileText.{has_chroma}
+use Rattle.jpg_spec.specs.FileText.{has_chroma, segment_text}
 use Rattle.jpg_spec.specs.Geometry.{Frame, no_component, component_at}
 use Rattle.jpg_spec.specs.FrameHeader.{identifiers}
 use Rattle.jpg_spec.specs.Segments.{head_components}
 use Rattle.jpg_spec.specs.Scan.{Blocks, part_of}
 use Rattle.jpg_spec.specs.declared.frame.Colour.{Colour}
 use Rattle.jpg_spec.specs.declared.frame.ScanPart.{ScanPart}
+use Rattle.jpg_spec.proofs.Common.{same_itself}
 use Rattle.jpg_spec.proofs.WrittenSequential.{plain_components}
 use Rattle.jpg_huff.specs.declared.set.TableSet.{TableSet}
 use Rattle.jpg_base.specs.Cursor.{AreIn}
 use Rattle.jpg_seq.specs.NewReader.{HasTables, IsSeqScan}
+use Rattle.jpg_file.specs.Restarts.{interval_text}
 use Rattle.jpg_file.specs.WriteTables.{HasSlots, IsTypicalSet}
 use Rattle.jpg_file.specs.WriteScan.{CanWriteScan, IsHeadOf, seq_head, seq_part}
 
@@ -51,6 +54,9 @@ head_is_of file f blocks colour components can =
       low = lit≤ tt;
     }
 
+pub file_has : (file f : Frame) (blocks : Blocks) (colour : Colour) (components : List ℕ) → CanWriteScan file f blocks components → AreIn file (head_components (seq_head colour components))
+file_has file f blocks colour components can = subst (AreIn file) (sym (plain_components colour components)) (record { some = can.seen.some; few = can.seen.few; there = can.there })
+
 -- the slots of a component's part, or of none
 part_slots : (colour : Colour) (components : List ℕ) (n : ℕ) (d : ScanPart) → HasSlots d → HasSlots (get_or (map (seq_part colour) components) n d)
 part_slots colour [] n d h = h
@@ -84,3 +90,7 @@ id_at f i = at f.components i
     at [] i = refl
     at (c ∷ cs) zero = refl
     at (c ∷ cs) (suc i) = at cs i
+
+-- the interval is the one before
+pub no_interval : (last n : ℕ) → n ≡ last → [] ≡ interval_text last n
+no_interval last n e = sym (ap (λ b. cond b [] (segment_text 0xdd (to_be_bytes w16 n))) (ap (λ m. m == last) e ∙ same_itself last))

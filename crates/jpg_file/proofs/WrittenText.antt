@@ -1,35 +1,34 @@
 -- The text of a sequential file, scan by scan.
-use Rattle.std.proofs.Common.{◌≡◌, ℕ, ◌+◌, ◌<◌, true, false, List, [], ◌∷◌, ◌++◌, length, drop, None, Some, refl, sym, ap, ◌∙◌, subst, arith, pos}
-use Rattle.std.specs.Prelude.{map, replicate, slice_get}
+use Rattle.std.proofs.Common.{◌≡◌, ℕ, ◌+◌, ◌*◌, ◌<◌, true, false, List, [], ◌∷◌, ◌++◌, length, drop, Some, refl, sym, ap, ◌∙◌, subst, arith}
+use Rattle.std.specs.Prelude.{map, min, slice_get}
 use Rattle.std.specs.List.{All}
-use Rattle.std.proofs.lemmas.List.{append_assoc, append-nil}
+use Rattle.std.proofs.lemmas.List.{append_assoc}
 use Rattle.std.proofs.lemmas.List.Elements.{All-nil, All-cons, All-get_or}
 use Rattle.std.proofs.lemmas.Option.{get_or_from_slice_get, slice_get_within}
-use Rattle.jpg_spec.specs.FileText.{file_text, frame_of_meaning, front_text, nothing_written, off, scans_text, segment_text, tables_given, tables_text, distinct_quants, slot_in}
+use Rattle.jpg_spec.specs.FileText.{Restart, off, rows, mcus, Written, frame_of_meaning, interval_of, scans_text, segment_text, tables_given, tables_text, distinct_quants, slot_in}
 use Rattle.jpg_spec.specs.FrameHeader.{identifiers}
-use Rattle.jpg_spec.specs.Geometry.{Frame, is_progressive, units}
-use Rattle.jpg_spec.specs.Markers.{eoi}
-use Rattle.jpg_spec.specs.Meaning.{Meaning, PictureComponent, colour_of}
+use Rattle.jpg_spec.specs.Geometry.{Frame, is_progressive}
+use Rattle.jpg_spec.specs.Meaning.{PictureComponent, colour_of}
 use Rattle.jpg_spec.specs.Moved.{Grids, frame_grids}
-use Rattle.jpg_spec.specs.Scan.{Blocks, TablesInForce}
-use Rattle.jpg_spec.specs.ScanText.{scan_data, scan_elements, typical_table, units_due}
+use Rattle.jpg_spec.specs.Scan.{Blocks}
+use Rattle.jpg_spec.specs.ScanText.{scan_data, scan_elements, typical_table}
 use Rattle.jpg_spec.specs.Script.{Entry}
-use Rattle.jpg_spec.specs.Segments.{QuantTable, head_components}
+use Rattle.jpg_spec.specs.Segments.{QuantTable, ScanHead, head_components}
 use Rattle.jpg_spec.specs.WrittenFile.{is_script_behind, is_sequential_entry}
 use Rattle.jpg_spec.specs.declared.frame.Colour.{Colour}
 use Rattle.jpg_spec.specs.declared.frame.Component.{Component}
 use Rattle.jpg_spec.proofs.PlacedBlocks.{Each, each_all}
 use Rattle.jpg_spec.proofs.WrittenSequential.{entry_is, plain_components, plain_data, scans_are}
 use Rattle.jpg_spec.proofs.Common.{both}
-use Rattle.jpg_markers.specs.OutHead.{head_meaning, with_tables}
+use Rattle.jpg_markers.specs.OutHead.{with_tables}
 use Rattle.jpg_markers.proofs.Distinct.{left_at}
-use Rattle.jpg_file.specs.WriteTables.{given_in, tables_due}
-use Rattle.jpg_file.specs.WriteScan.{CanWriteScan, head_bytes, scan_bytes, scans_bytes, seq_head}
-use Rattle.jpg_file.specs.WriteFile.{CanWriteFile, file_bytes, file_meaning}
+use Rattle.jpg_file.specs.Restarts.{interval_text}
+use Rattle.jpg_file.specs.WriteTables.{tables_due}
+use Rattle.jpg_file.specs.WriteScan.{CanWriteScan, head_bytes, scan_bytes, scans_bytes, seq_head, written_behind}
+use Rattle.jpg_file.specs.WriteFile.{CanWriteFile, file_meaning}
 use Rattle.jpg_file.specs.declared.write.Plan.{Plan}
-use Rattle.jpg_file.proofs.GivenTables.{none_given}
-use Rattle.jpg_file.proofs.SameUnits.{same_units, same_count}
-use Rattle.jpg_file.proofs.SeqData.{data_same, units_shown}
+use Rattle.jpg_file.proofs.SameUnits.{same_count, same_mcus}
+use Rattle.jpg_file.proofs.SeqData.{data_is, elements_same}
 
 -- THE FRAME of the meaning
 
@@ -60,10 +59,10 @@ meaning_grids plan kept blocks l =
 
 -- THE SCRIPT
 
-pub entries_can : (plan : Plan) (kept : List (ℕ × List ℕ)) (f : Frame) (blocks : Blocks) (done : List ℕ) (script : List Entry) → CanWriteFile plan kept f blocks
+pub entries_can : (plan : Plan) (kept : List (ℕ × List ℕ)) (f : Frame) (blocks : Blocks) (done : List ℕ) (script : List Entry) → CanWriteFile plan kept f blocks → is_progressive plan.out.frame.process ≡ false
     → is_script_behind (frame_of_meaning (file_meaning plan kept blocks)) done script ≡ true → All (λ (e : Entry). CanWriteScan plan.out.frame f blocks e.components) script
-entries_can plan kept f blocks done [] can h = All-nil (λ (e : Entry). CanWriteScan plan.out.frame f blocks e.components)
-entries_can plan kept f blocks done (e ∷ script) can h =
+entries_can plan kept f blocks done [] can s h = All-nil (λ (e : Entry). CanWriteScan plan.out.frame f blocks e.components)
+entries_can plan kept f blocks done (e ∷ script) can s h =
     let F = frame_of_meaning (file_meaning plan kept blocks) in
     let k = both (is_sequential_entry F done e) (is_script_behind F (e.components ++ done) script) h in
     let is = entry_is F done e k.0 in
@@ -72,82 +71,68 @@ entries_can plan kept f blocks done (e ∷ script) can h =
     let in_file : All (λ i. i < length plan.out.frame.components) e.components = subst (λ n. All (λ i. i < n) e.components) (same_count F plan.out.frame grids) there in
     let in_seen : All (λ i. i < length f.components) e.components = subst (λ n. All (λ i. i < n) e.components) (sym (same_count f plan.out.frame can.grids)) in_file in
     All-cons (λ (e : Entry). CanWriteScan plan.out.frame f blocks e.components) e script
-    (record { seen = record { some = is.some; few = is.few; there = in_seen }; there = in_file; distinct = is.distinct; sequential = can.seen; writable = can.writable })
-    (entries_can plan kept f blocks (e.components ++ done) script can k.1)
+    (record { seen = record { some = is.some; few = is.few; there = in_seen }; there = in_file; distinct = is.distinct; sequential = can.seen ∙ s; writable = can.writable })
+    (entries_can plan kept f blocks (e.components ++ done) script can s k.1)
 
-data_of_entry : (plan : Plan) (kept : List (ℕ × List ℕ)) (f : Frame) (blocks : Blocks) (colour : Colour) (components : List ℕ) → CanWriteFile plan kept f blocks
+-- the interval of a scan, by the file's frame and by that of its meaning
+pub same_interval : (f g : Frame) (head : ScanHead) (restart : Restart) → frame_grids f ≡ frame_grids g → interval_of f head restart ≡ interval_of g head restart
+same_interval f g head off e = refl
+same_interval f g head (rows n) e = ap (λ wide. min (n * wide) 65535) (same_mcus f g (head_components head) e)
+same_interval f g head (mcus n) e = refl
+
+data_of_entry : (plan : Plan) (kept : List (ℕ × List ℕ)) (f : Frame) (blocks : Blocks) (colour : Colour) (components : List ℕ) (n : ℕ) → CanWriteFile plan kept f blocks → is_progressive plan.out.frame.process ≡ false
     → Each (λ i. i < length (frame_of_meaning (file_meaning plan kept blocks)).components) components
-    → scan_data typical_table (seq_head colour components) (scan_elements f (seq_head colour components) 0 blocks) ≡ plain_data (file_meaning plan kept blocks) (seq_head colour components) 0
-data_of_entry plan kept f blocks colour components can there =
+    → (let head = seq_head colour components in scan_data typical_table head (scan_elements f head n blocks) ≡ plain_data (file_meaning plan kept blocks) head n)
+data_of_entry plan kept f blocks colour components n can s there =
     let H = file_meaning plan kept blocks in
     let F = frame_of_meaning H in
     let g = plan.out.frame in
     let head = seq_head colour components in
-    let named = head_components head in
     let grids = meaning_grids plan kept blocks can.tables in
     let known : Each (λ i. i < length g.components) components = subst (λ n. Each (λ i. i < n) components) (same_count F g grids) there in
-    let known_named : Each (λ i. i < length g.components) named = subst (λ c. Each (λ i. i < length g.components) c) (sym (plain_components colour components)) known in
-    let due : units_due blocks (λ i. pos 0) (units f named) ≡ units_due H.blocks (λ i. pos 0) (units F named) =
-    ap (λ u. units_due blocks (λ i. pos 0) u) (same_units f g named can.grids) ∙ units_shown g blocks named (λ i. pos 0) known_named ∙ ap (λ u. units_due H.blocks (λ i. pos 0) u) (sym (same_units F g named grids)) in
-    data_same H f head blocks can.seen due
+    let named : Each (λ i. i < length g.components) (head_components head) = subst (λ c. Each (λ i. i < length g.components) c) (sym (plain_components colour components)) known in
+    ap (scan_data typical_table head) (elements_same g f F head n blocks can.seen can.grids grids named) ∙ data_is H head n s
 
-scan_step : (H : Meaning) (given : TablesInForce) (e : Entry) (script : List Entry) → is_progressive H.process ≡ false → H.precision ≡ 8
-    → (let head = seq_head (colour_of H) e.components in
-    scans_text H off (record { tables = given; interval = 0 }) (e ∷ script)
-    ≡ tables_text given typical_table (tables_due head.parts)
-    ++ (segment_text 0xda (head_bytes (map (λ c. c.id) H.components) head) ++ (plain_data H head 0 ++ scans_text H off (record { tables = tables_given given typical_table (tables_due head.parts); interval = 0 }) script)))
-scan_step H given e script s p =
-    let head = seq_head (colour_of H) e.components in
-    let T = tables_text given typical_table (tables_due head.parts) in
-    let S = segment_text 0xda (head_bytes (map (λ c. c.id) H.components) head) in
-    let D = plain_data H head 0 in
-    let R = scans_text H off (record { tables = tables_given given typical_table (tables_due head.parts); interval = 0 }) script in
-    scans_are H off (record { tables = given; interval = 0 }) e script s p ∙ ap (λ t. ((t ++ S) ++ D) ++ R) (append-nil T) ∙ append_assoc (T ++ S) D R ∙ append_assoc T S (D ++ R)
+-- parts of a scan one behind another
+pub in_order : (T I S D R : List ℕ) → (T ++ ((I ++ S) ++ D)) ++ R ≡ T ++ I ++ S ++ D ++ R
+in_order T I S D R = ap (λ x. x ++ R) (sym (append_assoc T (I ++ S) D) ∙ ap (λ x. x ++ D) (sym (append_assoc T I S)))
 
-scans_are_text : (plan : Plan) (kept : List (ℕ × List ℕ)) (f : Frame) (blocks : Blocks) (done : List ℕ) (given : TablesInForce) (script : List Entry) → CanWriteFile plan kept f blocks
+pub scans_are_text : (plan : Plan) (kept : List (ℕ × List ℕ)) (f : Frame) (blocks : Blocks) (done : List ℕ) (restart : Restart) (w : Written) (script : List Entry) → CanWriteFile plan kept f blocks → is_progressive plan.out.frame.process ≡ false
     → is_script_behind (frame_of_meaning (file_meaning plan kept blocks)) done script ≡ true
-    → scans_bytes (identifiers plan.out.frame.components) plan.out.colour f blocks given script ≡ scans_text (file_meaning plan kept blocks) off (record { tables = given; interval = 0 }) script
+    → scans_bytes plan.out.frame plan.out.colour restart f blocks w script ≡ scans_text (file_meaning plan kept blocks) restart w script
 unfolding scans_text
-scans_are_text plan kept f blocks done given [] can h = refl
-scans_are_text plan kept f blocks done given (e ∷ script) can h =
+scans_are_text plan kept f blocks done restart w [] can s h = refl
+scans_are_text plan kept f blocks done restart w (e ∷ script) can s h =
     let H = file_meaning plan kept blocks in
     let F = frame_of_meaning H in
+    let g = plan.out.frame in
     let k = both (is_sequential_entry F done e) (is_script_behind F (e.components ++ done) script) h in
     let is = entry_is F done e k.0 in
-    let ids = identifiers plan.out.frame.components in
-    let of : Colour → List ℕ → List ℕ → List ℕ → List ℕ = λ colour ids coded rest.
-    tables_text given typical_table (tables_due (seq_head colour e.components).parts) ++ (segment_text 0xda (head_bytes ids (seq_head colour e.components)) ++ (coded ++ rest)) in
-    let later : Colour → TablesInForce = λ colour. tables_given given typical_table (tables_due (seq_head colour e.components).parts) in
-    let sent : Colour → List ℕ = λ colour. scan_data typical_table (seq_head colour e.components) (scan_elements f (seq_head colour e.components) 0 blocks) in
-    let rest : TablesInForce → List ℕ = λ given. scans_bytes ids plan.out.colour f blocks given script in
-    let colour = plan.out.colour in
-    let T = tables_text given typical_table (tables_due (seq_head colour e.components).parts) in
-    let S = segment_text 0xda (head_bytes ids (seq_head colour e.components)) in
-    append_assoc T (S ++ sent colour) (rest (later colour)) ∙ ap (λ t. T ++ t) (append_assoc S (sent colour) (rest (later colour)))
-    ∙ ap (λ c. of c ids (sent c) (rest (later c))) can.colour
-    ∙ ap (λ i. of (colour_of H) i (sent (colour_of H)) (rest (later (colour_of H)))) (sym (meaning_ids plan kept blocks can.tables))
-    ∙ ap (λ d. of (colour_of H) (map (λ c. c.id) H.components) d (rest (later (colour_of H)))) (data_of_entry plan kept f blocks (colour_of H) e.components can is.known)
-    ∙ ap (λ r. of (colour_of H) (map (λ c. c.id) H.components) (plain_data H (seq_head (colour_of H) e.components) 0) r) (scans_are_text plan kept f blocks (e.components ++ done) (later (colour_of H)) script can k.1)
-    ∙ sym (scan_step H given e script can.sequential can.precision)
-
--- ALL OF IT
-
-pub file_is : (plan : Plan) (kept : List (ℕ × List ℕ)) (f : Frame) (blocks : Blocks) → CanWriteFile plan kept f blocks
-    → front_text (head_meaning plan.out kept) ++ (scans_bytes (identifiers plan.out.frame.components) plan.out.colour f blocks (given_in (replicate 4 false)) plan.script ++ eoi) ≡ file_bytes plan kept blocks
-unfolding file_text
-file_is plan kept f blocks can =
-    let front = front_text (head_meaning plan.out kept) in
-    ap (λ g. front ++ (scans_bytes (identifiers plan.out.frame.components) plan.out.colour f blocks g plan.script ++ eoi)) none_given
-    ∙ ap (λ t. front ++ (t ++ eoi)) (scans_are_text plan kept f blocks [] (λ class slot. None) plan.script can can.passes)
-    ∙ sym (append_assoc front (scans_text (file_meaning plan kept blocks) off nothing_written plan.script) eoi)
+    let colour = colour_of H in
+    let head = seq_head colour e.components in
+    let N = interval_of F head restart in
+    let T = tables_text w.tables typical_table (tables_due head.parts) in
+    let after : ℕ → Written = λ n. record { tables = tables_given w.tables typical_table (tables_due head.parts); interval = n } in
+    let elements : ℕ → List ℕ = λ n. scan_data typical_table head (scan_elements f head n blocks) in
+    let rest : Colour → Written → List ℕ = λ c w. scans_bytes g c restart f blocks w script in
+    let whole : ℕ → List ℕ → List ℕ → List ℕ → List ℕ = λ n ids coded rest. (T ++ ((interval_text w.interval n ++ segment_text 0xda (head_bytes ids head)) ++ coded)) ++ rest in
+    let same = same_interval g F head restart (sym (meaning_grids plan kept blocks can.tables)) in
+    let ids = map (λ c. c.id) H.components in
+    ap (λ c. scan_bytes g c restart f blocks w e.components ++ rest plan.out.colour (written_behind g c restart w e.components)) can.colour
+    ∙ ap (λ n. whole n (identifiers g.components) (elements n) (rest plan.out.colour (after n))) same
+    ∙ ap (λ i. whole N i (elements N) (rest plan.out.colour (after N))) (sym (meaning_ids plan kept blocks can.tables))
+    ∙ ap (λ d. whole N ids d (rest plan.out.colour (after N))) (data_of_entry plan kept f blocks colour e.components N can s is.known)
+    ∙ ap (whole N ids (plain_data H head N)) (scans_are_text plan kept f blocks (e.components ++ done) restart (after N) script can s k.1)
+    ∙ in_order T (interval_text w.interval N) (segment_text 0xda (head_bytes ids head)) (plain_data H head N) (scans_text H restart (after N) script)
+    ∙ sym (scans_are H restart w e script s can.precision)
 
 -- A SCAN THAT IS LEFT, and the others
 
-pub scan_left : (ids : List ℕ) (colour : Colour) (f : Frame) (blocks : Blocks) (given : TablesInForce) (script : List Entry) (i : ℕ) (e : Entry) → slice_get script i ≡ Some e
-    → scans_bytes ids colour f blocks given (drop i script)
-    ≡ scan_bytes ids colour f blocks given e.components ++ scans_bytes ids colour f blocks (tables_given given typical_table (tables_due (seq_head colour e.components).parts)) (drop (i + 1) script)
-scan_left ids colour f blocks given script i e at =
-    ap (scans_bytes ids colour f blocks given) (left_at script i e (slice_get_within script i e at) (sym (get_or_from_slice_get script i e e at)))
+pub scan_left : (file : Frame) (colour : Colour) (restart : Restart) (f : Frame) (blocks : Blocks) (w : Written) (script : List Entry) (i : ℕ) (e : Entry) → slice_get script i ≡ Some e
+    → scans_bytes file colour restart f blocks w (drop i script)
+    ≡ scan_bytes file colour restart f blocks w e.components ++ scans_bytes file colour restart f blocks (written_behind file colour restart w e.components) (drop (i + 1) script)
+scan_left file colour restart f blocks w script i e at =
+    ap (scans_bytes file colour restart f blocks w) (left_at script i e (slice_get_within script i e at) (sym (get_or_from_slice_get script i e e at)))
 
 pub entry_can : (P : Entry → Type 0) (script : List Entry) (i : ℕ) (e : Entry) → slice_get script i ≡ Some e → All P script → P e
 entry_can P script i e at all = subst P (get_or_from_slice_get script i e e at) (All-get_or P script i e (slice_get_within script i e at) all)

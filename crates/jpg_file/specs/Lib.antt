@@ -13,6 +13,9 @@ pub mod ReadFile
 pub mod PictureRead
 pub mod StripHead
 pub mod FirstHead
+pub mod Restarts
 pub mod WriteTables
+pub mod WriteDue
 pub mod WriteScan
+pub mod WriteProgScan
 pub mod WriteFile

@@ -1,6 +1,6 @@
 // Data bytes of a scan, given to its machine (T.81, F.2.2, G.2).
-ghost use Rattle.std.specs.Prelude.{◌≡◌, ◌<◌, ◌≤◌, Bool, List, length};
-ghost use Rattle.jpg_spec.specs.Bits.{bits_of};
+ghost use Rattle.std.specs.Prelude.{◌≡◌, ◌<◌, ◌≤◌, Bool, List, length, take};
+ghost use Rattle.jpg_spec.specs.Bits.{bits_of, bits_of_bytes};
 ghost use Rattle.jpg_coefs.specs.Machine.{Interval};
 ghost use Rattle.jpg_seq.specs.Reader.{SeqStands, sequential};
 ghost use Rattle.jpg_file.specs.Data.{GivesBits, GivesRun};
@@ -58,8 +58,26 @@ pub fn take_bytes(machine: &mut SeqReader, coefs: &mut Coefs, bytes: &[u8]) -> (
     }
 }
 
-/// Gives the machine the bits of the first of these data bytes, and tells that it was one.
-pub fn take_first<M: ScanMachine>(
+// How many of these bytes are given at once.
+fn few_of(bytes: &[u8]) -> usize
+    ensures { result ≡ length (take 8 bytes.now) }
+{
+    if bytes.len() < 8 { bytes.len() } else { 8 }
+}
+
+// The bits of the first eight of these bytes, or of all of them.
+fn front_of(bytes: &[u8]) -> BitStore
+    ensures { result ≡ bits_of_bytes (take 8 bytes.now) }
+{
+    let mut store = BitStore::new();
+    for byte in &bytes[..few_of(bytes)] {
+        store.push(*byte);
+    }
+    store
+}
+
+/// The same for any machine, eight bytes at a time.
+pub fn take_run<M: ScanMachine>(
     machine: &mut M,
     coefs: &mut Coefs,
     bytes: &[u8],
@@ -69,5 +87,22 @@ pub fn take_first<M: ScanMachine>(
     requires some { 1 ≤ length bytes.now }
     ensures { GivesRun _ M.kind machine.old coefs.old bytes.now result.0 result.1 machine.new coefs.new }
 {
-    (1, take_data(machine, coefs, bytes[0]))
+    let mut rest = bytes;
+    loop {
+        let mut store = front_of(rest);
+        let most = machine.units_left();
+        let taken = machine.bits(&mut store, coefs, most);
+        let given = bytes.len() - rest.len() + (few_of(rest) - store.len() as usize / 8);
+        match taken {
+            Taken::More => {
+                if rest.len() <= 8 {
+                    return (given, DataStep::More);
+                }
+                rest = &rest[8..];
+            }
+            Taken::Units => return (given, DataStep::More),
+            Taken::IntervalDone => return (given, DataStep::Whole),
+            Taken::Fault(fault) => return (given, DataStep::Fault(fault)),
+        }
+    }
 }

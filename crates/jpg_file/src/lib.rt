@@ -1,4 +1,4 @@
-//! Whole files, read piece by piece, and sequential ones written (T.81, B.2.1).
+//! Whole files, read piece by piece and written (T.81, B.2.1).
 #![tactic(auto)]
 
 mod begin;
@@ -14,9 +14,12 @@ mod machine;
 mod picture;
 mod reader;
 mod reading;
+mod restart;
 mod scan;
 mod strip_head;
 mod write;
+mod write_due;
+mod write_prog_scan;
 mod write_scan;
 mod write_tables;
 
@@ -38,6 +41,7 @@ pub use machine::ScanReader;
 pub use picture::{Picture, picture_of};
 pub use reader::Reader;
 pub use reading::Reading;
+pub use restart::Restart;
 pub use scan::{InScan, ScanStep, ScanWork};
 pub use strip_head::StripHead;
 pub use write::{Plan, write_file};

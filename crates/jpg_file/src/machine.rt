@@ -5,7 +5,7 @@ ghost use Rattle.jpg_file.specs.Data.{GivesRun};
 ghost use Rattle.jpg_file.specs.Machine.{any_scan};
 ghost use Rattle.jpg_file.specs.NewScan.{IsOfHeader, IsScanHeader};
 
-use crate::data::{DataStep, take_bytes, take_first};
+use crate::data::{DataStep, take_bytes, take_run};
 use crate::held::is_progressive;
 use jpg_base::{BitStore, Frame, ScanHead};
 use jpg_coefs::{Coefs, ScanMachine, Taken, UnitFault, UnitStep};
@@ -43,9 +43,8 @@ impl ScanReader {
         }
     }
 
-    /// Takes the bits of data bytes from the front of a stretch, and tells how many bytes were taken: of a
-    /// sequential scan up to the one whose bits end the interval or show a fault, of others the first alone.
-    /// What stands behind the interval's last bit is dropped.
+    /// Takes the bits of a stretch of data bytes, and tells how many bytes were taken: up to the one whose bits
+    /// end the interval or show a fault. What stands behind the interval's last bit is dropped.
     #[inline]
     pub fn run(&mut self, coefs: &mut Coefs, bytes: &[u8]) -> (usize, DataStep)
         requires open { (i : Interval) × (bits : List Bool) × any_scan.stands self.old i bits coefs.old }
@@ -56,9 +55,9 @@ impl ScanReader {
     {
         match self {
             ScanReader::Sequential(machine) => take_bytes(machine, coefs, bytes),
-            ScanReader::DcFirst(machine) => take_first(machine, coefs, bytes),
-            ScanReader::DcRefine(machine) => take_first(machine, coefs, bytes),
-            ScanReader::Ac(machine) => take_first(machine, coefs, bytes),
+            ScanReader::DcFirst(machine) => take_run(machine, coefs, bytes),
+            ScanReader::DcRefine(machine) => take_run(machine, coefs, bytes),
+            ScanReader::Ac(machine) => take_run(machine, coefs, bytes),
         }
     }
 }

@@ -1,30 +1,38 @@
-//! Whole sequential files, written (T.81, B.2.1).
-ghost use Rattle.std.specs.Prelude.{◌≡◌, [], true, All};
+//! Whole files, written (T.81, B.2.1).
+ghost use Rattle.std.specs.Prelude.{◌≡◌, [], true, false};
+ghost use Rattle.jpg_spec.specs.Geometry.{is_progressive};
 ghost use Rattle.jpg_spec.specs.Markers.{eoi};
 ghost use Rattle.jpg_huff.specs.BitOut.{CanSend, Sends};
-ghost use Rattle.jpg_file.specs.WriteScan.{CanWriteScan};
-ghost use Rattle.jpg_file.specs.WriteFile.{CanWriteFile, Writes, file_bytes, scans_due};
+ghost use Rattle.jpg_file.specs.WriteScan.{CanWriteSeqScans};
+ghost use Rattle.jpg_file.specs.WriteProgScan.{CanWriteProgScans};
+ghost use Rattle.jpg_file.specs.WriteFile.{CanWriteFile, Writes, file_bytes, prog_scans_due, scans_due, seq_scans_due};
 
+use crate::held::is_progressive;
+use crate::restart::Restart;
+use crate::write_prog_scan::write_prog_scan;
 use crate::write_scan::write_scan;
 use crate::write_tables::{Given, typical_set};
 use jpg_base::{Desk, WriteFault};
 use jpg_coefs::BlockView;
-use jpg_huff::BitOut;
+use jpg_huff::{BitOut, TableSet};
 use jpg_markers::{KeptList, OutHead, file_head};
 use jpg_scans::Script;
 
-/// What a file is written by: what its head is written from, and the scans that it is written in.
+/// What a file is written by: what its head is written from, the scans that it is written in, and where restart markers
+/// stand in them.
 #[derive(Drop)]
 pub struct Plan {
     pub out: OutHead,
     pub script: Script,
+    pub restart: Restart,
 }
 
-/// Writes a whole sequential file to the output that was created last: all up to the frame header as `file_head` does;
-/// for each entry of the script a DHT segment for each typical table that it needs and that wasn't written so far, the
-/// scan header, and the data of its scan; and EOI (T.81, B.2.1). Tables K.3 and K.5 stand in slot 0, K.4 and K.6 in
-/// slot 1, which components 2 and 3 of YCbCr and YCCK use. There are no restart markers. The blocks are those that are
-/// seen, in a frame of the same grids. It takes no memory. After WriteFault a first part of the file is written.
+/// Writes a whole file to the output that was created last: all up to the frame header as `file_head` does; for each entry
+/// of the script a DHT segment for each table that it needs and that isn't the last one of its class and slot, a DRI segment
+/// where its restart interval isn't the one before, the scan header, and the data of its scan; and EOI (T.81, B.2.1). Of a
+/// sequential file K.3 and K.5 stand in slot 0, K.4 and K.6 in slot 1, which components 2 and 3 of YCbCr and YCCK use; of a
+/// progressive one tables of codes of one length for what the scan writes. The blocks are those that are seen, in a frame of
+/// the same grids. It takes no memory. After WriteFault a first part of the file is written.
 pub fn write_file<V: BlockView, D: Desk>(
     plan: &Plan,
     kept: &KeptList,
@@ -49,14 +57,63 @@ fn write_scans<V: BlockView, D: Desk>(
     desk: &mut D,
 ) -> Result<(), WriteFault>
     requires can { CanSend (D.state desk.old) out.old }
-    requires scans { All (λ e. CanWriteScan plan.now.out.frame (V.numbers view.now) (V.blocks view.now) e.components) plan.now.script }
+    requires seq { is_progressive plan.now.out.frame.process ≡ false → CanWriteSeqScans plan.now (V.numbers view.now) (V.blocks view.now) }
+    requires prog { is_progressive plan.now.out.frame.process ≡ true → CanWriteProgScans plan.now (V.numbers view.now) (V.blocks view.now) }
     ensures { Sends (D.state desk.old) out.old (scans_due plan.now (V.numbers view.now) (V.blocks view.now)) result out.new (D.state desk.new) }
+{
+    if is_progressive(&plan.out.frame) {
+        write_prog_scans(plan, view, out, desk)
+    } else {
+        write_seq_scans(plan, view, out, desk)
+    }
+}
+
+// All scans of a progressive script.
+fn write_prog_scans<V: BlockView, D: Desk>(
+    plan: &Plan,
+    view: &V,
+    out: &mut BitOut,
+    desk: &mut D,
+) -> Result<(), WriteFault>
+    requires can { CanSend (D.state desk.old) out.old }
+    requires scans { CanWriteProgScans plan.now (V.numbers view.now) (V.blocks view.now) }
+    ensures { Sends (D.state desk.old) out.old (prog_scans_due plan.now (V.numbers view.now) (V.blocks view.now)) result out.new (D.state desk.new) }
+{
+    let mut given = TableSet::new();
+    let mut interval = 0;
+    for i in 0..plan.script.len() {
+        let entry = plan.script.entry(i);
+        write_prog_scan(plan, &entry, &mut given, &mut interval, view, out, desk)?;
+    }
+    Ok(())
+}
+
+// All scans of a sequential script.
+fn write_seq_scans<V: BlockView, D: Desk>(
+    plan: &Plan,
+    view: &V,
+    out: &mut BitOut,
+    desk: &mut D,
+) -> Result<(), WriteFault>
+    requires can { CanSend (D.state desk.old) out.old }
+    requires scans { CanWriteSeqScans plan.now (V.numbers view.now) (V.blocks view.now) }
+    ensures { Sends (D.state desk.old) out.old (seq_scans_due plan.now (V.numbers view.now) (V.blocks view.now)) result out.new (D.state desk.new) }
 {
     let tables = typical_set();
     let mut given = Given::new();
+    let mut interval = 0;
     for i in 0..plan.script.len() {
         let entry = plan.script.entry(i);
-        write_scan(&plan.out, &entry, &tables, &mut given, view, out, desk)?;
+        write_scan(
+            plan,
+            &entry,
+            &tables,
+            &mut given,
+            &mut interval,
+            view,
+            out,
+            desk,
+        )?;
     }
     Ok(())
 }

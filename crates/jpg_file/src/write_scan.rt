@@ -4,39 +4,80 @@ ghost use Rattle.jpg_spec.specs.FileText.{has_chroma, slot_for};
 ghost use Rattle.jpg_spec.specs.FrameHeader.{identifiers};
 ghost use Rattle.jpg_huff.specs.BitOut.{CanSend, Sends};
 ghost use Rattle.jpg_file.specs.WriteTables.{IsTypicalSet, given_in};
-ghost use Rattle.jpg_file.specs.WriteScan.{CanWriteScan, IsHeadOf, given_behind, head_bytes, scan_due, seq_head};
+ghost use Rattle.jpg_file.specs.Restarts.{interval_text};
+ghost use Rattle.jpg_file.specs.WriteScan.{CanWriteScan, IsHeadOf, given_behind, head_bytes, head_due, interval_for, scan_due, seq_head};
 
+use crate::restart::interval_of;
+use crate::write::Plan;
 use crate::write_tables::{Given, write_tables};
 use arrayvec::ArrayVec;
 use jpg_base::{Desk, Frame, ScanHead, WriteFault};
 use jpg_coefs::BlockView;
 use jpg_huff::{BitOut, TableSet};
-use jpg_markers::{OutHead, write_segment};
+use jpg_markers::write_segment;
 use jpg_scans::Entry;
 use jpg_seq::write_seq_scan;
 use jpg_spec::{Colour, ScanPart};
 
-/// Writes a sequential scan of a picture: a DHT segment for each of its tables that wasn't written so far, its
-/// header, and its data.
+/// Writes a sequential scan of a picture: a DHT segment for each of its tables that wasn't written so far, a DRI segment
+/// where its restart interval isn't the one before, its header, and its data.
 pub fn write_scan<V: BlockView, D: Desk>(
-    file: &OutHead,
+    plan: &Plan,
     entry: &Entry,
     tables: &TableSet,
     given: &mut Given,
+    interval: &mut u16,
     view: &V,
     out: &mut BitOut,
     desk: &mut D,
 ) -> Result<(), WriteFault>
     requires can { CanSend (D.state desk.old) out.old }
     requires tables { IsTypicalSet tables.now }
-    requires scan { CanWriteScan file.now.frame (V.numbers view.now) (V.blocks view.now) entry.now.components }
-    ensures sends { Sends (D.state desk.old) out.old (scan_due file.now (V.numbers view.now) (V.blocks view.now) given.old entry.now) result out.new (D.state desk.new) }
-    ensures given { (u : Unit {0}) → result ≡ Ok u → given_in given.new.flags ≡ given_behind file.now given.old entry.now }
+    requires scan { CanWriteScan plan.now.out.frame (V.numbers view.now) (V.blocks view.now) entry.now.components }
+    ensures sends { Sends (D.state desk.old) out.old (scan_due plan.now (V.numbers view.now) (V.blocks view.now) given.old interval.old entry.now) result out.new (D.state desk.new) }
+    ensures given { (u : Unit {0}) → result ≡ Ok u → given_in given.new.flags ≡ given_behind plan.now given.old entry.now }
+    ensures interval { interval.new ≡ interval_for plan.now entry.now }
 {
-    let head = head_of(file.colour, entry.components.as_slice());
+    let head = head_of(plan.out.colour, entry.components.as_slice());
+    let last = *interval;
+    let now = interval_of(&plan.out.frame, &head, plan.restart);
+    *interval = now;
     write_tables(head.parts.as_slice(), given, out, desk)?;
-    write_segment(0xda, contents_of(&file.frame, &head).as_slice(), out, desk)?;
-    write_seq_scan(view, &head, tables, 0, out, desk)
+    write_head(&plan.out.frame, &head, last, now, out, desk)?;
+    write_seq_scan(view, &head, tables, now, out, desk)
+}
+
+// A DRI segment, where the interval isn't the one before.
+fn write_interval<D: Desk>(
+    last: u16,
+    now: u16,
+    out: &mut BitOut,
+    desk: &mut D,
+) -> Result<(), WriteFault>
+    requires can { CanSend (D.state desk.old) out.old }
+    ensures { Sends (D.state desk.old) out.old (interval_text last now) result out.new (D.state desk.new) }
+{
+    if now == last {
+        return Ok(());
+    }
+    write_segment(0xdd, &now.to_be_bytes(), out, desk)
+}
+
+/// A DRI segment, where the interval isn't the one before, and the header of a scan.
+pub fn write_head<D: Desk>(
+    frame: &Frame,
+    head: &ScanHead,
+    last: u16,
+    now: u16,
+    out: &mut BitOut,
+    desk: &mut D,
+) -> Result<(), WriteFault>
+    requires can { CanSend (D.state desk.old) out.old }
+    requires head { IsHeadOf frame.now head.now }
+    ensures { Sends (D.state desk.old) out.old (head_due (identifiers frame.now.components) head.now last now) result out.new (D.state desk.new) }
+{
+    write_interval(last, now, out, desk)?;
+    write_segment(0xda, contents_of(frame, head).as_slice(), out, desk)
 }
 
 // The header of a sequential scan of these components.
@@ -63,7 +104,7 @@ fn head_of(colour: Colour, components: &[u8]) -> ScanHead
 }
 
 // The slot of a component's tables.
-fn slot_for(colour: Colour, component: u8) -> u8
+pub(crate) fn slot_for(colour: Colour, component: u8) -> u8
     ensures { result ≡ slot_for colour component }
 {
     if has_chroma(colour) && (component == 1 || component == 2) {

@@ -63,9 +63,9 @@ pub fn typical_set() -> TableSet
 }
 
 // The contents of a DHT segment: one byte for class and slot, 16 counts, at most 256 symbols.
-type Contents = ArrayVec<u8, 273>;
+pub(crate) type Contents = ArrayVec<u8, 273>;
 
-fn contents_of(place: u8, table: &Table) -> Contents
+pub(crate) fn contents_of(place: u8, table: &Table) -> Contents
     requires counts { length (table_of table.now).counts ≡ 16 }
     requires symbols { length (table_of table.now).symbols ≤ 256 }
     ensures { result.items ≡ place ∷ (table_of table.now).counts ++ (table_of table.now).symbols }
@@ -78,7 +78,7 @@ fn contents_of(place: u8, table: &Table) -> Contents
 }
 
 // What stands before the symbols.
-fn counted(place: u8, table: &Table) -> Contents
+pub(crate) fn counted(place: u8, table: &Table) -> Contents
     requires { length (table_of table.now).counts ≡ 16 }
     ensures value { result.items ≡ place ∷ (table_of table.now).counts }
     ensures long { length result.items ≡ 17 }

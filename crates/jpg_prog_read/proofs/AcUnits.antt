@@ -19,7 +19,6 @@ use Rattle.jpg_spec.proofs.PictureInWork.{apart_of, apart_swap, distinct_behind}
 use Rattle.jpg_spec.proofs.Rows.{all_back}
 use Rattle.jpg_spec.proofs.UnitsRead.{units_first, units_next, units_last}
 use Rattle.jpg_base.specs.Cursor.{IsPadded}
-use Rattle.jpg_huff.specs.Tables.{symbol_codes}
 use Rattle.jpg_coefs.specs.Picture.{Picture, map_of, block_in, with_block, put_at, HasPlace, KeepsOutside}
 use Rattle.jpg_coefs.specs.Machine.{Interval, units_of, Follows, IsWholeInterval}
 use Rattle.jpg_coefs.proofs.Maps.{map_at, put_here, put_changes}
@@ -62,10 +61,10 @@ block_same m i now done p more whole d = ((d.read).changes).elsewhere p.componen
 
 pub padded_at : (m : AcReader) (i : Interval) (now : Picture) (done : List Place) (p : Place) (more : List Place) (whole : List ℤ) → HasDue m i now done (p ∷ more) whole → IsPadded now.frame p.component p.x p.y
 padded_at m i now done p more whole d =
-    subst (λ (g : Frame). IsPadded g p.component p.x p.y) (sym d.frame) (All-head (IsReadable m.scan (symbol_codes m.table) i.before.frame i.scan.coding) p (more ++ i.later) d.spots).padded
+    subst (λ (g : Frame). IsPadded g p.component p.x p.y) (sym d.frame) (All-head (IsReadable m.scan m.codes i.before.frame i.scan.coding) p (more ++ i.later) d.spots).padded
 
-coding_at : (m : AcReader) (i : Interval) (now : Picture) (done : List Place) (p : Place) (more : List Place) (whole : List ℤ) → HasDue m i now done (p ∷ more) whole → IsCodingOf m.scan (symbol_codes m.table) i.scan.coding p.component
-coding_at m i now done p more whole d = (All-head (IsReadable m.scan (symbol_codes m.table) i.before.frame i.scan.coding) p (more ++ i.later) d.spots).coding
+coding_at : (m : AcReader) (i : Interval) (now : Picture) (done : List Place) (p : Place) (more : List Place) (whole : List ℤ) → HasDue m i now done (p ∷ more) whole → IsCodingOf m.scan m.codes i.scan.coding p.component
+coding_at m i now done p more whole d = (All-head (IsReadable m.scan m.codes i.before.frame i.scan.coding) p (more ++ i.later) d.spots).coding
 
 pub has_place : (m : AcReader) (i : Interval) (now : Picture) (done due : List Place) (whole : List ℤ) → HasDue m i now done due whole → 1 ≤ length due → 1 ≤ length m.cursor
 has_place m i now done due whole d some = omega (arith, ap length d.cursor, length-append due i.later, some)
@@ -77,7 +76,7 @@ due_with m n f i now done due whole d = record { reads = d.reads; kind = d.kind;
 -- A BIT OF THE UNIT IN WORK
 
 pub unit_read : (m : AcReader) (n : InWork) (i : Interval) (bits : List Bool) (bit : Bool) (now : Picture) (step : BandStep) → IsInUnit m i bits now → StaysOpen m.scan step n → KeepsOtherValues m.unit n
-    → AnswersBit m.scan (symbol_codes m.table) m.left m.unit bit step n → UnitAnswered (record m { unit = n }) i (bits ++ bit ∷ []) now step
+    → AnswersBit m.scan m.codes m.left m.unit bit step n → UnitAnswered (record m { unit = n }) i (bits ++ bit ∷ []) now step
 unit_read m n i bits bit now step u open_ outside answers = by step open_ (answers (place_of i u.next u.more u.whole) bits (coding_at m i now u.done u.next u.more u.whole u.has_due) count u.stands)
   where
     count : m.left ≡ 1 + length (units_at i u.more)
@@ -154,12 +153,12 @@ takes_bits m i bits now p block t e =
     let all : All P (p ∷ (t.more ++ i.later)) = all_back P t.done (p ∷ (t.more ++ i.later)) (subst (λ (l : List Place). All P l) places (d.kind).room) in
     let room : All (HasRoom i.scan.coding) (band i.scan (block_at (map_of i.before) p)) = All-head P p (t.more ++ i.later) all in
     subst (λ (l : List ℤ). All (IsRefinable m.scan) l) (sym (old_band m i bits now p block t e))
-    (All-weaker (HasRoom i.scan.coding) (IsRefinable m.scan) (λ o h. refinable_one m.scan (symbol_codes m.table) i.scan.coding p.component o (coding_at m i now t.done p t.more t.whole d) h) (band i.scan (block_at (map_of i.before) p)) room)
+    (All-weaker (HasRoom i.scan.coding) (IsRefinable m.scan) (λ o h. refinable_one m.scan m.codes i.scan.coding p.component o (coding_at m i now t.done p t.more t.whole d) h) (band i.scan (block_at (map_of i.before) p)) room)
 
 pub unit_taken : (m : AcReader) (n : InWork) (i : Interval) (bits : List Bool) (now : Picture) (p : Place) (block : List ℤ) (step : BandStep) → IsBetweenAt m i bits now p → block ≡ block_in now p.component p.x p.y
     → StaysOpen m.scan step n → (n.front ≡ take m.scan.start block) × (n.behind ≡ drop m.scan.end block) → AnswersBand m.scan (band_values m.scan block) m.unit step n
     → UnitAnswered (record m { unit = n; fresh = false }) i bits now step
-unit_taken m n i bits now p block step t e open_ outside answers = by step open_ (answers (symbol_codes m.table) at bits (coding_at m i now t.done p t.more t.whole t.has_due) rest)
+unit_taken m n i bits now p block step t e open_ outside answers = by step open_ (answers m.codes at bits (coding_at m i now t.done p t.more t.whole t.has_due) rest)
   where
     at : UnitPlace
     at = place_of i p t.more t.whole
@@ -264,7 +263,7 @@ unit_put m i bits now p r w first count e size =
         all = d.all ∙ sym (append_assoc w.done (p ∷ []) w.more);
         cursor = ap (drop 1) d.cursor;
         left = omega (arith, d.left);
-        spots = All-tail (IsReadable m.scan (symbol_codes m.table) i.before.frame i.scan.coding) p (w.more ++ i.later) d.spots;
+        spots = All-tail (IsReadable m.scan m.codes i.before.frame i.scan.coding) p (w.more ++ i.later) d.spots;
         frame = d.frame;
         read = subst (λ (l : List ℤ). UnitsRead i.scan (w.done ++ p ∷ []) (map_of i.before) (map_of after) (w.whole ++ l)) told read;
       };
@@ -294,9 +293,9 @@ interval_done m i bits now none w =
     let rest : BetweenUnits i.scan.coding (units_of i) w.whole [] bits m.unit = subst (λ (l : List Place). BetweenUnits i.scan.coding (units_of i) w.whole (units_at i l) bits m.unit) nil w.between in
     let read : UnitsRead i.scan i.places (map_of i.before) (map_of now) w.whole = subst (λ (l : List Place). UnitsRead i.scan l (map_of i.before) (map_of now) w.whole) (sym (d.all ∙ append-nil w.done)) d.read in (
       record { frame = d.frame; read = units_last i.scan i.places (map_of i.before) (map_of now) w.whole bits read (between_done i.scan.coding (units_of i) w.whole bits m.unit m.unit.stage refl rest) },
-      λ j follows kind. (let F : Frame → Type 0 = λ g. All (IsReadable m.scan (symbol_codes m.table) g i.scan.coding) i.later in
-          let C : Scan → Type 0 = λ s. All (IsReadable m.scan (symbol_codes m.table) j.before.frame s.coding) (j.places ++ j.later) in
-          let L : List Place → Type 0 = λ l. All (IsReadable m.scan (symbol_codes m.table) j.before.frame i.scan.coding) l in
+      λ j follows kind. (let F : Frame → Type 0 = λ g. All (IsReadable m.scan m.codes g i.scan.coding) i.later in
+          let C : Scan → Type 0 = λ s. All (IsReadable m.scan m.codes j.before.frame s.coding) (j.places ++ j.later) in
+          let L : List Place → Type 0 = λ l. All (IsReadable m.scan m.codes j.before.frame i.scan.coding) l in
           let frame : i.before.frame ≡ j.before.frame = sym (ap (λ (q : Picture). q.frame) follows.before ∙ d.frame) in
           record {
             reads = subst (λ (s : Scan). ReadsBy m.scan s) (sym follows.scan) d.reads;

@@ -12,7 +12,7 @@ use Rattle.jpg_spec.specs.Scan.{Scan, unit_at}
 use Rattle.jpg_spec.specs.declared.frame.Place.{Place}
 use Rattle.jpg_spec.proofs.Common.{not_same, same_itself}
 use Rattle.jpg_coefs.specs.Picture.{Picture, block_in, map_of}
-use Rattle.jpg_coefs.specs.Machine.{Interval, Answered, Step, IsUnfinished, KeepsUnits, units_of}
+use Rattle.jpg_coefs.specs.Machine.{Interval, Answered, Chain, Step, IsUnfinished, KeepsUnits, units_of}
 use Rattle.jpg_coefs.specs.declared.machine.UnitFault.{UnitFault}
 use Rattle.jpg_coefs.specs.declared.machine.UnitStep.TheVariants as step
 use Rattle.jpg_prog_read.specs.declared.dc.DcStep.{DcStep}
@@ -22,7 +22,11 @@ use Rattle.jpg_prog_read.specs.declared.dc_refine.DcRefine.{DcRefine}
 use Rattle.jpg_prog_read.specs.DcWork.{DcWork, IsDcOpen, fresh}
 use Rattle.jpg_prog_read.specs.DcStands.{DcAnswered, AnswersDcRefinement, DcBetween, IsDcRefinementOf, dc_unit}
 use Rattle.jpg_prog_read.specs.DcPlaces.{IsSpot, with_dc, InInterval, next_of, old_dc, IsWithin}
-use Rattle.jpg_prog_read.specs.DcFirstPass.{HasTable, ReadsBy, ReadsBit, CanRead, FirstStands, FirstReady, first_pass, with_unit, behind_unit}
+use Rattle.jpg_huff.specs.Tables.{symbol_codes}
+use Rattle.jpg_huff.specs.declared.table.Table.{Table}
+use Rattle.jpg_prog_read.specs.BitsTaken.{HurriesOn}
+use Rattle.jpg_prog_read.specs.DcLooked.{DcThrough}
+use Rattle.jpg_prog_read.specs.DcFirstPass.{table_in, prediction_at, HurriesUnit, HasTable, ReadsBy, ReadsBit, CanRead, FirstStands, FirstReady, first_pass, with_unit, behind_unit}
 use Rattle.jpg_prog_read.specs.DcRefinement.{HasRoom, HasRoomAt, RefineStands, RefineReady, refinement, behind_bit}
 use Rattle.jpg_prog_read.proofs.DcPlaces.{next_is, next_spot, old_still, on_to, within_next, whole_next, interval_read, next_ready, first_place, at_first, within_first, whole_first}
 use Rattle.jpg_prog_read.proofs.DcUnits.{dc_begins}
@@ -55,6 +59,7 @@ answered m p now b answer new first r i bits o =
 pub step_within : (m : DcFirst) (p : Place) (now : Picture) (b : Bool) (new : DcWork) → slice_get m.cursor 0 ≡ Some p → IsDcOpen new → ReadsBit m p.component b More new → Step first_pass m now b (Ok step.More) (with_unit m new) now
 step_within m p now b new first open_ r i bits o = record {
   reads = o.reads;
+  looks = o.looks;
   tables = o.tables;
   four = o.four;
   at_work = open_;
@@ -80,6 +85,7 @@ step_unit m p now b unit w v first count r many i bits o =
     let T : Place → Type 0 = λ s. FirstStands (behind_unit m s.component w) i (bits ++ b ∷ []) (with_dc now s v) in
     subst T n (record {
       reads = o.reads;
+      looks = o.looks;
       tables = All-drop (HasTable m.tables) 1 m.cursor o.tables;
       four = length-set m.predictions k w ∙ o.four;
       at_work = λ some. absurd (omega (arith, some));
@@ -106,6 +112,7 @@ step_last m p now b unit w v first count r one i bits o =
       interval_read m.cursor m.left i now o.within v (predicted o.predictions k w) (bits ++ b ∷ []) count o.places none a,
       λ j follows fits. record {
         reads = subst (λ (s : Scan). ReadsBy m.scan m.tables s.coding) (sym follows.scan) o.reads;
+        looks = o.looks;
         tables = All-drop (HasTable m.tables) 1 m.cursor o.tables;
         four = length-set m.predictions k w ∙ o.four;
         places = next_ready m.cursor m.left i j now o.within v count o.places none follows fits;
@@ -193,6 +200,7 @@ first_begins m new i units r count some is =
     let at = at_first l.0 l.1 in
     subst (λ (q : DcFirst). FirstStands q i [] i.before) (sym is) (record {
       reads = r.reads;
+      looks = r.looks;
       tables = r.tables;
       four = refl;
       at_work = λ some. absurd (omega (arith, some));
@@ -255,10 +263,20 @@ can_read m p now i bits first o =
     let n = next_is m.cursor m.left i now o.within p first o.places in
     let all = subst (λ (l : List Place). All (HasTable m.tables) l) (o.places).left o.tables in
     let t = all 0 o.within.next (omega arith) in
-    subst (λ (q : Place). CanRead m q.component) n (record { small = first_small m i bits now o; sane = (o.reads).sane; table = t.table; there = t.there; at_work = o.at_work })
+    subst (λ (q : Place). CanRead m q.component) n (record { small = first_small m i bits now o; sane = (o.reads).sane; table = t.table; there = t.there; looks = o.looks; at_work = o.at_work })
 
 pub first_spot : (m : DcFirst) (p : Place) (now : Picture) (i : Interval) (bits : List Bool) → slice_get m.cursor 0 ≡ Some p → FirstStands m i bits now → IsSpot now.frame p
 first_spot m p now i bits first o = subst (λ (q : Place). IsSpot now.frame q) (next_is m.cursor m.left i now o.within p first o.places) (next_spot m.cursor m.left i now o.within o.places)
 
 pub refine_spot : (m : DcRefine) (p : Place) (now : Picture) (i : Interval) (bits : List Bool) → slice_get m.cursor 0 ≡ Some p → RefineStands m i bits now → IsSpot now.frame p
 refine_spot m p now i bits first o = subst (λ (q : Place). IsSpot now.frame q) (next_is m.cursor m.left i now o.within p first o.places) (next_spot m.cursor m.left i now o.within o.places)
+
+-- BITS OF A UNIT AT ONCE
+
+chain_on : (m : DcFirst) (p : Place) (now : Picture) (table : Table) (bits : List Bool) (t : DcWork) → slice_get m.cursor 0 ≡ Some p → table_in m.tables p.component ≡ Some table → DcThrough m.scan (symbol_codes table) m.unit bits t → Chain first_pass m now bits (with_unit m t) now
+chain_on m p now table [] t first there x = (ap (λ (u : DcWork). with_unit m u) x, refl)
+chain_on m p now table (bit ∷ bits) t first there x =
+    (with_unit m x.0, now, step_within m p now bit x.0 first (x.1).goes_on (table, there, (x.1).answered (prediction_at m p.component)), chain_on (with_unit m x.0) p now table bits t first there x.2)
+
+pub hurried : (m : DcFirst) (p : Place) (now : Picture) (store : List Bool) (t : DcWork) (rest : List Bool) → slice_get m.cursor 0 ≡ Some p → HurriesUnit m p.component store t rest → HurriesOn first_pass m now store (with_unit m t) rest
+hurried m p now store t rest first h = record { taken = (h.2).bits; split = (h.2).split; chain = chain_on m p now h.0 (h.2).bits t first h.1 (h.2).through; left = refl }

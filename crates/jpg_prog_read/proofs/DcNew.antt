@@ -1,6 +1,6 @@
 -- The machines of DC scans before their first unit: their numbers, and the tables of their components.
 use Rattle.std.proofs.Common.{◌≡◌, ℕ, zero, suc, ◌+◌, ◌^◌, ◌<◌, ◌≤◌, Bool, true, false, cond, List, [], ◌∷◌, length, map, set, get_or, refl, sym, ap, ◌∙◌, subst, arith, ⊎_elim, ◌&&◌}
-use Rattle.std.specs.Prelude.{slice_get, slice_index_or, nat_lt, Option, None, Some}
+use Rattle.std.specs.Prelude.{slice_index_or, nat_lt, Option, Some}
 use Rattle.std.specs.Option.{option_map}
 use Rattle.std.specs.List.{All}
 use Rattle.std.proofs.lemmas.Bool.{cases_eq, cases_lt}
@@ -35,22 +35,11 @@ use Rattle.jpg_prog_read.specs.DcStands.{IsDcCodingOf, IsDcRefinementOf}
 use Rattle.jpg_prog_read.specs.DcPlaces.{IsDcBand, IsSpot, IsNext}
 use Rattle.jpg_prog_read.specs.DcFirstPass.{table_in, HasTable, ReadsBy, FirstReady}
 use Rattle.jpg_prog_read.specs.DcRefinement.{TakesOneBit, RefineReady}
+use Rattle.jpg_prog_read.proofs.Slots.{at_set, other_set}
+use Rattle.jpg_prog_read.specs.DcLooked.{AreLooked}
 use Rattle.jpg_prog_read.specs.DcNew.{IsDcHead, HasPartTable, IsFirstHead, IsRefineHead, AreInSet, IsOfScan, dc_scan_of, part_at, AreFilled}
 
 -- TABLES IN THE SLOTS OF THEIR COMPONENTS
-
-at_set : (tables : List (Option Table)) (c : ℕ) (o : Option Table) → c < length tables → slot_value (slice_get (set tables c o) c) ≡ o
-at_set [] c o h = absurd (omega (arith, h))
-at_set (q ∷ tables) zero None h = refl
-at_set (q ∷ tables) zero (Some x) h = refl
-at_set (q ∷ tables) (suc c) o h = at_set tables c o (omega (arith, h))
-
-other_set : (tables : List (Option Table)) (c k : ℕ) (o : Option Table) → (k ≡ c → ⊥) → slice_get (set tables c o) k ≡ slice_get tables k
-other_set [] c k o n = refl
-other_set (q ∷ tables) zero zero o n = absurd (n refl)
-other_set (q ∷ tables) zero (suc k) o n = refl
-other_set (q ∷ tables) (suc c) zero o n = refl
-other_set (q ∷ tables) (suc c) (suc k) o n = other_set tables c k o (λ e. n (ap suc e))
 
 pub none_filled : (own given : TableSet) (parts : List ScanPart) → dc_tables own ≡ no_tables → AreFilled given parts 0 own
 none_filled own given parts e = record { four = ap length e; found = λ k table f. absurd (none k table (ap (λ (l : List (Option Table)). in_slot l k) (sym e) ∙ f)); there = λ j h. absurd (omega (arith, h)) }
@@ -174,15 +163,16 @@ tables_there f head given own frame is filled =
 
 -- THE NEW MACHINES
 
-pub first_ready : (f : Frame) (head : ScanHead) (given : TableSet) (m : DcFirst) → IsFrame f → IsFirstHead f head given → m.scan ≡ dc_scan_of f head.al → AreFilled given head.parts (length head.parts) m.tables → m.cursor ≡ units f (head_components head)
+pub first_ready : (f : Frame) (head : ScanHead) (given : TableSet) (m : DcFirst) → IsFrame f → IsFirstHead f head given → m.scan ≡ dc_scan_of f head.al → AreFilled given head.parts (length head.parts) m.tables → AreLooked m.tables m.looks → m.cursor ≡ units f (head_components head)
     → length m.predictions ≡ 4 → m.left ≡ 0 → (i : Interval) (all : TablesInForce) → AreInSet given all → IsOfScan f all head i → IsDcBand i.scan → FirstReady m i
-first_ready f head given m frame is scan filled cursor four left i all set of band =
+first_ready f head given m frame is scan filled looks cursor four left i all set of band =
     let reads : ReadsBy (dc_scan_of f head.al) m.tables (scan_coding f all head) = record {
       sane = scan_sane f head.al;
       codes = λ k table e. (let r = filled.found k table e in first_coding f head given all r.0 k table is set r.1 r.2 r.3);
     } in
     record {
       reads = subst (λ (b : DcScan). ReadsBy b m.tables i.scan.coding) (sym scan) (subst (λ (c : Coding). ReadsBy (dc_scan_of f head.al) m.tables c) (sym of.coding) reads);
+      looks = looks;
       tables = subst (λ (l : List Place). All (HasTable m.tables) l) (sym cursor) (tables_there f head given m.tables frame is.is_head filled);
       four = four;
       places = subst (λ (n : ℕ). IsNext m.cursor n i) (sym left) (places_next f head all m.cursor i frame is.is_head cursor of band);

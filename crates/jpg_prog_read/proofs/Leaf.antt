@@ -1,7 +1,7 @@
 -- The values of a block that are done and left, one after another.
 use Rattle.std.proofs.Common.{◌≡◌, ℕ, zero, suc, ◌+◌, ◌-◌, ◌<◌, ◌≤◌, true, false, cond, List, [], ◌∷◌, ◌++◌, length, take, drop, set, get_or, refl, sym, ap, ◌∙◌, arith, ℤ, pos, negsuc, ⊎_elim}
 use Rattle.std.proofs.lemmas.Bool.{cases_lt}
-use Rattle.std.proofs.lemmas.List.{length-take-le, drop-drop, take-append-drop, drop_more, drop-take}
+use Rattle.std.proofs.lemmas.List.{length-take-le, take-take, drop-drop, take-append-drop, drop_more, drop-take}
 use Rattle.std.proofs.lemmas.Grind.{take-set_at}
 use Rattle.jpg_spec.specs.Elements.{is_zero, zeros_in}
 
@@ -94,3 +94,28 @@ whole_values values start at most h k l z =
   where
     some : at < most → ⊥
     some q = (let r = rest_more values at most l q in omega (arith, ap length r, z))
+
+-- zeros that are passed
+pub passed_rest : (values : List ℤ) (at most n : ℕ) → at + n ≤ most → take (most - (at + n)) (drop (at + n) values) ≡ drop n (take (most - at) (drop at values))
+passed_rest values at most n h =
+    let e : most - at ≡ n + (most - (at + n)) = omega (arith, h) in
+    ap (take (most - (at + n))) (sym (drop-drop n at values)) ∙ sym (drop-take n (most - (at + n)) (drop at values)) ∙ ap (λ m. drop n (take m (drop at values))) (sym e)
+
+take_sum : (a b : ℕ) (xs : List ℤ) → take (a + b) xs ≡ take a xs ++ take b (drop a xs)
+take_sum a b xs =
+    sym (take-append-drop a (take (a + b) xs)) ∙ ap (λ (l : List ℤ). l ++ drop a (take (a + b) xs)) (take-take a (a + b) xs (omega arith)) ∙ ap (λ (l : List ℤ). take a xs ++ l) (drop-take a b xs)
+
+pub passed_done : (values : List ℤ) (start at n : ℕ) (zeros : List ℤ) → start ≤ at → take n (drop at values) ≡ zeros → take (at + n - start) (drop start values) ≡ take (at - start) (drop start values) ++ zeros
+passed_done values start at n zeros h e =
+    let s : at + n - start ≡ (at - start) + n = omega (arith, h) in
+    let d : start + (at - start) ≡ at = omega (arith, h) in
+    ap (λ m. take m (drop start values)) s ∙ take_sum (at - start) n (drop start values)
+    ∙ ap (λ (l : List ℤ). take (at - start) (drop start values) ++ l) (ap (take n) (drop-drop (at - start) start values ∙ ap (λ m. drop m values) d) ∙ e)
+
+pub rest_long : (values : List ℤ) (at most n : ℕ) → n ≤ length (take (most - at) (drop at values)) → n ≤ most - at
+rest_long values at most n h = omega (arith, h, length-take-most (most - at) (drop at values))
+  where
+    length-take-most : (m : ℕ) (xs : List ℤ) → length (take m xs) ≤ m
+    length-take-most zero xs = omega arith
+    length-take-most (suc m) [] = omega arith
+    length-take-most (suc m) (x ∷ xs) = omega (arith, length-take-most m xs)

@@ -1,8 +1,10 @@
+pub mod AcBits
 pub mod AcDue
 pub mod AcFollows
 pub mod AcUnits
-pub mod BitByBit
-pub mod DcBits
+pub mod BandBits
+pub mod Takings
+pub mod DcLooked
 pub mod DcMachines
 pub mod DcNew
 pub mod DcPlaces
@@ -12,9 +14,12 @@ pub mod Due
 pub mod Known
 pub mod KnownBits
 pub mod Leaf
+pub mod Marked
 pub mod Multiples
 pub mod NewAcReaders
 pub mod Passing
 pub mod Reading
+pub mod Slots
 pub mod Steps
 pub mod TableCopies
+pub mod ZerosPassed

@@ -5,6 +5,7 @@ use Rattle.std.specs.Option.{option_map}
 use Rattle.std.specs.List.{All}
 use Rattle.std.proofs.lemmas.List.Elements.{All-weaker}
 use Rattle.jpg_spec.specs.Lists.{is_distinct, index_of}
+use Rattle.jpg_spec.specs.Codes.{Code}
 use Rattle.jpg_spec.specs.Elements.{Coding}
 use Rattle.jpg_spec.specs.Geometry.{Frame, bounds, is_progressive, units}
 use Rattle.jpg_spec.specs.FrameHeader.{IsFrame}
@@ -57,8 +58,9 @@ few : (b : Bool) → cond b 1 10 ≤ 15
 few true = omega arith
 few false = omega arith
 
-band_sane : (f : Frame) (head : ScanHead) (b : BandScan) → IsAcBand head → IsBandOf f head b → AreSane b
-band_sane f head b is of = record {
+band_sane : (f : Frame) (head : ScanHead) (b : BandScan) → 1 ≤ head.ss → IsAcBand head → IsBandOf f head b → AreSane b
+band_sane f head b some is of = record {
+  some = omega (arith, of.start, some);
   begun = omega (arith, of.start, of.end, is.rise);
   inside = omega (arith, of.end, is.most);
   most = subst (λ n. n ≤ 15) (sym of.categories) (few (nat_lt 0 head.ah));
@@ -72,9 +74,9 @@ part_found head p e =
     ∙ ap (λ (b : Bool). slice_index_or (p ∷ []) (cond b 0 (1 + index_of p.component [])) d) (same_itself p.component)
 
 -- the coding of the scan, for its component
-coding_is : (f : Frame) (head : ScanHead) (set : TableSet) (tables : TablesInForce) (b : BandScan) (t u : Table) (p : ScanPart) → IsAcScan f head set → AreAcTables set tables → IsBandOf f head b → head.parts ≡ p ∷ []
-    → in_slot (ac_tables set) p.ac ≡ Some t → symbol_codes u ≡ symbol_codes t → IsCodingOf b (symbol_codes u) (scan_coding f tables head) p.component
-coding_is f head set tables b t u p is force of e there same =
+coding_is : (f : Frame) (head : ScanHead) (set : TableSet) (tables : TablesInForce) (b : BandScan) (t : Table) (codes : List Code) (p : ScanPart) → IsAcScan f head set → AreAcTables set tables → IsBandOf f head b → head.parts ≡ p ∷ []
+    → in_slot (ac_tables set) p.ac ≡ Some t → codes ≡ symbol_codes t → IsCodingOf b codes (scan_coding f tables head) p.component
+coding_is f head set tables b t codes p is force of e there same =
     let g : is_progressive f.process ≡ true = is.progressive in
     record {
       sound = sound f tables head force.valid;
@@ -92,13 +94,13 @@ one_index : (ids : List ℕ) (k j : ℕ) → ids ≡ k ∷ [] → j < length ids
 one_index ids k j e h = let z : j ≡ 0 = omega (arith, h, ap length e) in ap (λ (l : List ℕ). get_or l j 0) e ∙ ap (λ n. get_or (k ∷ []) n 0) z
 
 pub new_ready : (f : Frame) (head : ScanHead) (set : TableSet) (m : AcReader) (t : Table) (p : ScanPart) → IsFrame f → IsAcScan f head set → IsBandOf f head m.scan → head.parts ≡ p ∷ [] → in_slot (ac_tables set) p.ac ≡ Some t
-    → symbol_codes m.table ≡ symbol_codes t → m.cursor ≡ units f (head_components head) → (i : Interval) → IsOfAcScan f head set i → AcReady m i
+    → m.codes ≡ symbol_codes t → m.cursor ≡ units f (head_components head) → (i : Interval) → IsOfAcScan f head set i → AcReady m i
 new_ready f head set m t p frame is band e there same cursor i of =
     let ids = head_components head in
     let b = m.scan in
-    let codes = symbol_codes m.table in
+    let codes = m.codes in
     let one : ids ≡ p.component ∷ [] = ap (map (λ (q : ScanPart). q.component)) e in
-    let coding = coding_is f head set of.tables b t m.table p is of.in_force band e there same in
+    let coding = coding_is f head set of.tables b t m.codes p is of.in_force band e there same in
     let all : All (IsReadable b codes f (scan_coding f of.tables head)) (units f ids) =
     All-weaker (IsOneOf f ids) (IsReadable b codes f (scan_coding f of.tables head))
     (λ q o. record { padded = o.place; coding = subst (λ k. IsCodingOf b codes (scan_coding f of.tables head) k) (sym (one_index ids p.component o.index one o.there) ∙ o.same) coding })
@@ -107,7 +109,7 @@ new_ready f head set m t p frame is band e there same cursor i of =
     let F : Frame → Type 0 = λ g. All (IsReadable b codes g (scan_coding f of.tables head)) (i.places ++ i.later) in
     let P : List Place → Type 0 = λ l. All (IsReadable b codes f (scan_coding f of.tables head)) l in
     record {
-      reads = record { sane = band_sane f head b (ac_band f head set is) band; start = band.start ∙ sym of.ss; end = band.end ∙ ap (λ n. n + 1) (sym of.se) };
+      reads = record { sane = band_sane f head b is.some (ac_band f head set is) band; start = band.start ∙ sym of.ss; end = band.end ∙ ap (λ n. n + 1) (sym of.se) };
       kind = of.kind;
       distinct = subst (λ (l : List Place). AreDistinct l) (sym of.places) (units_distinct f ids (one_distinct ids p.component one));
       sized = of.sized;

@@ -5,7 +5,7 @@ use Rattle.std.proofs.lemmas.List.Elements.{All-head}
 use Rattle.std.specs.Prelude.{slice_index_or, nat_abs}
 use Rattle.jpg_spec.specs.Bits.{bits_of}
 use Rattle.jpg_spec.specs.Codes.{Code}
-use Rattle.jpg_spec.specs.Numbers.{category, extra_bits, digits}
+use Rattle.jpg_spec.specs.Numbers.{digits}
 use Rattle.jpg_spec.specs.Elements.{Coding, is_zero, zeros_in, grown}
 use Rattle.jpg_spec.specs.ScanFaults.{DataShows}
 use Rattle.jpg_spec.specs.declared.fault.Fault.TheVariants as fault
@@ -18,7 +18,7 @@ use Rattle.jpg_prog_read.specs.declared.scan.BandScan.{BandScan}
 use Rattle.jpg_prog_read.specs.InWork.{InWork, IsOpen, IsMoving, IsPassing, AreRefinable, IsRefinable}
 use Rattle.jpg_prog_read.specs.Step.{IsWithin}
 use Rattle.jpg_prog_read.specs.Stands.{IsCodingOf, UnitPlace, Stands}
-use Rattle.jpg_prog_read.proofs.Steps.{code_more, number_begun, count_begun, number_more, count_more, value_begun, long_begun, end_begun, ends_begun, run_past}
+use Rattle.jpg_prog_read.proofs.Steps.{code_more, number_begun, count_begun, count_more, long_begun, end_begun, ends_begun, run_past}
 use Rattle.jpg_prog_read.proofs.Passing.{with_value, old_corrected, fits_more, passing_same, in_limit}
 
 pub zeros_take : (n : ℕ) (xs : List ℤ) → zeros_in (take n xs) ≤ n
@@ -29,7 +29,7 @@ zeros_take (suc n) (pos (suc m) ∷ xs) = omega (arith, zeros_take n xs)
 zeros_take (suc n) (negsuc m ∷ xs) = omega (arith, zeros_take n xs)
 
 -- a state with other bits of a code
-walked_is : (s mid : InWork) (w : List Bool) → mid ≡ record s { walked = mid.walked } → mid.walked ≡ w → mid ≡ record s { walked = w }
+pub walked_is : (s mid : InWork) (w : List Bool) → mid ≡ record s { walked = mid.walked } → mid.walked ≡ w → mid ≡ record s { walked = w }
 walked_is s mid w e h = e ∙ ap (λ (x : List Bool). (let n : InWork = record s { walked = x } in n)) h
 
 pub more_read : (b : BandScan) (ac : List Code) (at : UnitPlace) (bits : List Bool) (s mid : InWork) (next : Bool) → IsCodingOf b ac at.coding at.component → s.stage ≡ stage.Code → Stands at bits s
@@ -81,13 +81,6 @@ end_read b ac at bits s mid new next symbol k e f same w known is small begun =
     (end_begun b ac at bits s next k e f (subst (λ (y : ℕ). Contains ac (s.walked ++ next ∷ [], y)) is known) r)
 
 -- behind an extra bit
-pub value_read : (at : UnitPlace) (bits : List Bool) (s mid new : InWork) (next : Bool) (v : ℤ) → s.stage ≡ stage.Number → Stands at bits s
-    → mid ≡ record s { extra = s.extra ++ next ∷ [] } → category v ≡ mid.size → extra_bits v ≡ mid.extra → new ≡ record mid { stage = stage.Value; due = v } → Stands at (bits ++ next ∷ []) new
-value_read at bits s mid new next v e f same size extra begun =
-    let f' : Stands at (bits ++ next ∷ []) mid = subst (λ (n : InWork). Stands at (bits ++ next ∷ []) n) (sym same) (number_more at bits s next e f) in
-    let e' : mid.stage ≡ stage.Number = ap (λ (n : InWork). n.stage) same ∙ e in
-    subst (λ (n : InWork). Stands at (bits ++ next ∷ []) n) (sym begun) (value_begun at (bits ++ next ∷ []) mid v e' f' size extra)
-
 count_mid : (at : UnitPlace) (bits : List Bool) (s mid : InWork) (next : Bool) → s.stage ≡ stage.Count → Stands at bits s
     → mid ≡ record s { extra = s.extra ++ next ∷ [] } → Stands at (bits ++ next ∷ []) mid × (mid.stage ≡ stage.Count)
 count_mid at bits s mid next e f same =

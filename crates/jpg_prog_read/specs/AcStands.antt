@@ -8,7 +8,6 @@ use Rattle.jpg_spec.specs.Scan.{Blocks, Scan, band, block_at, unit_at}
 use Rattle.jpg_spec.specs.ScanFaults.{DataShows}
 use Rattle.jpg_spec.specs.declared.frame.Place.{Place}
 use Rattle.jpg_base.specs.Cursor.{IsPadded}
-use Rattle.jpg_huff.specs.Tables.{symbol_codes}
 use Rattle.jpg_coefs.specs.Picture.{Picture, map_of}
 use Rattle.jpg_coefs.specs.Machine.{Interval, Kind, Answered, Follows, IsWholeInterval, fault_of, units_of}
 use Rattle.jpg_coefs.specs.declared.machine.UnitFault.{UnitFault}
@@ -18,7 +17,7 @@ use Rattle.jpg_prog_read.specs.declared.band.BandStep.{BandStep}
 use Rattle.jpg_prog_read.specs.declared.band.BandStep.TheVariants.{More, Done, Fault}
 use Rattle.jpg_prog_read.specs.declared.scan.BandScan.{BandScan}
 use Rattle.jpg_prog_read.specs.declared.stage.Stage.TheVariants as stage
-use Rattle.jpg_prog_read.specs.InWork.{IsOpen, IsWholeUnit}
+use Rattle.jpg_prog_read.specs.InWork.{InWork, IsOpen, IsWholeUnit}
 use Rattle.jpg_prog_read.specs.Stands.{IsCodingOf, UnitPlace, Stands, BetweenUnits}
 use Rattle.jpg_prog_read.specs.Step.{AreSane}
 
@@ -58,7 +57,7 @@ pub record IsReadable (b : BandScan) (codes : List Code) (f : Frame) (c : Coding
 
 -- all of these are
 abbrev pub AreReadable : AcReader → Interval → List Place → Type 0
-AreReadable m i places = All (IsReadable m.scan (symbol_codes m.table) i.before.frame i.scan.coding) places
+AreReadable m i places = All (IsReadable m.scan m.codes i.before.frame i.scan.coding) places
 
 -- the units at these places as they stood before the interval
 abbrev pub units_at : Interval → List Place → List UnitLeft
@@ -138,6 +137,10 @@ pub record AcReady (m : AcReader) (i : Interval) : Type 0 where
 
 abbrev pub progressive_ac : Kind AcReader
 progressive_ac = record { stands = AcStands; ready = AcReady; left = λ m. m.left; fits = IsAcInterval }
+
+-- with this unit in work
+abbrev pub with_band : AcReader → InWork → AcReader
+with_band m unit = record m { unit = unit }
 
 -- WHAT CALLS COME TO, whatever interval and bits the machine stands for
 

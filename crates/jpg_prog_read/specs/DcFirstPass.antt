@@ -13,6 +13,7 @@ use Rattle.jpg_prog_read.specs.declared.dc.DcStep.{DcStep}
 use Rattle.jpg_prog_read.specs.declared.dc_first.DcFirst.{DcFirst}
 use Rattle.jpg_prog_read.specs.DcWork.{DcWork, AreDcSane, IsDcOpen, fresh}
 use Rattle.jpg_prog_read.specs.DcStands.{IsDcCodingOf, DcStands, AnswersDcBit}
+use Rattle.jpg_prog_read.specs.DcLooked.{AreLooked, Hurries}
 use Rattle.jpg_prog_read.specs.DcPlaces.{IsDcBand, InInterval, next_of, old_dc, IsWithin, IsNext}
 
 -- the table of a component, which stands in the slot of its number
@@ -35,6 +36,7 @@ pub record ReadsBy (b : DcScan) (tables : TableSet) (c : Coding) : Type 0 where
 -- Whole units, and a part of the next.
 pub record FirstStands (m : DcFirst) (i : Interval) (bits : List Bool) (now : Picture) : Type 0 where
   pub reads : ReadsBy m.scan m.tables i.scan.coding
+  pub looks : AreLooked m.tables m.looks
   pub tables : All (HasTable m.tables) m.cursor
   pub four : length m.predictions ≡ 4
   pub at_work : IsDcOpen m.unit
@@ -47,6 +49,7 @@ pub record FirstStands (m : DcFirst) (i : Interval) (bits : List Bool) (now : Pi
 -- an interval that it may begin
 pub record FirstReady (m : DcFirst) (i : Interval) : Type 0 where
   pub reads : ReadsBy m.scan m.tables i.scan.coding
+  pub looks : AreLooked m.tables m.looks
   pub tables : All (HasTable m.tables) m.cursor
   pub four : length m.predictions ≡ 4
   pub places : IsNext m.cursor m.left i
@@ -62,11 +65,16 @@ pub record CanRead (m : DcFirst) (k : ℕ) : Type 0 where
   pub sane : AreDcSane m.scan
   pub table : Table
   pub there : table_in m.tables k ≡ Some table
+  pub looks : AreLooked m.tables m.looks
   pub at_work : IsDcOpen m.unit
 
 abbrev pub ReadsBit : DcFirst → ℕ → Bool → DcStep → DcWork → Type 0
 ReadsBit m k bit answer new =
     (table : Table) × (table_in m.tables k ≡ Some table) × AnswersDcBit m.scan (symbol_codes table) (prediction_at m k) m.unit bit answer new
+
+-- bits are taken from a store, behind which the unit goes on
+abbrev pub HurriesUnit : DcFirst → ℕ → List Bool → DcWork → List Bool → Type 0
+HurriesUnit m k store new rest = (table : Table) × (table_in m.tables k ≡ Some table) × Hurries m.scan (symbol_codes table) m.unit store new rest
 
 -- with this unit in work; and behind a whole unit of a component, with its next prediction
 abbrev pub with_unit : DcFirst → DcWork → DcFirst

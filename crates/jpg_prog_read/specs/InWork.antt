@@ -1,6 +1,7 @@
 -- A unit of a band in work.
 use Rattle.std.specs.Prelude.{◌≡◌, ◌⊎◌, ℕ, ◌+◌, ◌-◌, ◌<◌, ◌≤◌, Bool, true, false, List, [], ℤ, pos, nat_abs, length, take, drop, slice_index_or, All}
 use Rattle.jpg_spec.specs.Elements.{is_zero}
+use Rattle.jpg_base.specs.Marks.{marks}
 use Rattle.jpg_prog_read.specs.declared.stage.Stage.{Stage}
 use Rattle.jpg_prog_read.specs.declared.stage.Stage.TheVariants.{Code, Number, Count, Value, Long, Ends}
 use Rattle.jpg_prog_read.specs.declared.scan.BandScan.{BandScan}
@@ -22,11 +23,14 @@ pub record InWork : Type 0 where
   pub bands : ℕ
 
 -- what the reader keeps
-pub record IsKept (values : List ℤ) (start at end : ℕ) : Type 0 where
+pub record IsKept (values : List ℤ) (start at end olds : ℕ) (begun : Bool) (walked : List Bool) : Type 0 where
   pub whole : length values ≡ 64
-  pub begun : start ≤ at
+  pub begins : start ≤ at
   pub inside : at ≤ end
   pub fits : end ≤ 64
+  pub few : end ≤ at + 63
+  pub marked : olds ≡ marks (drop at values)
+  pub quiet : begun ≡ false → walked ≡ []
 
 -- an old value that a correction leaves within the limit
 abbrev pub IsRefinable : BandScan → ℤ → Type 0

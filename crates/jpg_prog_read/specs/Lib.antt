@@ -1,6 +1,8 @@
 pub mod AcStands
-pub mod DcBits
+pub mod BandBits
+pub mod BitsTaken
 pub mod DcFirstPass
+pub mod DcLooked
 pub mod DcNew
 pub mod DcPlaces
 pub mod DcRefinement
@@ -15,3 +17,4 @@ pub mod NewAcReader
 pub mod Scaled
 pub mod Stands
 pub mod Step
+pub mod ZerosPassed

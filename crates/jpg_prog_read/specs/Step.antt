@@ -1,10 +1,8 @@
 -- What the parts of a band's reader answer.
-use Rattle.std.specs.Prelude.{◌≡◌, ◌-◌, ◌≤◌, Bool, true, false, List, [], ◌∷◌, length, drop, ℤ, pos}
+use Rattle.std.specs.Prelude.{◌≡◌, ◌-◌, ◌<◌, ◌≤◌, Bool, true, false, List, [], ◌∷◌, length, drop, ℤ, pos}
 use Rattle.jpg_spec.specs.Elements.{Coding, is_zero, are_in_bounds}
 use Rattle.jpg_prog_read.specs.declared.stage.Stage.TheVariants.{Code}
 use Rattle.jpg_prog_read.specs.declared.scan.BandScan.{BandScan}
-use Rattle.jpg_prog_read.specs.declared.band.Next.{Next}
-use Rattle.jpg_prog_read.specs.declared.band.Next.TheVariants.{None, Zero, Old}
 use Rattle.jpg_prog_read.specs.declared.band.Ended.{Ended}
 use Rattle.jpg_prog_read.specs.declared.band.Ended.TheVariants.{All, Some}
 use Rattle.jpg_prog_read.specs.declared.band.Skipped.{Skipped}
@@ -16,16 +14,11 @@ use Rattle.jpg_prog_read.specs.Stands.{UnitPlace, Stands}
 
 -- numbers that the reader can hold
 pub record AreSane (b : BandScan) : Type 0 where
-  pub begun : b.start ≤ b.end
+  pub some : 1 ≤ b.start
+  pub begun : b.start < b.end
   pub inside : b.end ≤ 64
   pub most : b.most_category ≤ 15
   pub magnitude : b.most_magnitude ≤ 32767
-
--- what the next old value is
-abbrev pub IsNext : Next → InWork → Type 0
-IsNext None s = s.rest ≡ []
-IsNext Zero s = s.rest ≡ pos 0 ∷ drop 1 s.rest
-IsNext (Old v) s = (s.rest ≡ v ∷ drop 1 s.rest) × (is_zero v ≡ false)
 
 -- where passing zeros ends
 abbrev pub IsSkipped : Skipped → InWork → Type 0

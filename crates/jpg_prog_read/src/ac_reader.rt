@@ -1,27 +1,28 @@
 //! The machine that reads a progressive AC scan, first pass or refinement (T.81, G.1.2.2, G.1.2.3).
-ghost use Rattle.std.specs.Prelude.{◌≡◌, ◌≤◌, ◌+◌, Bool, List, Some};
-ghost use Rattle.jpg_huff.specs.declared.table.Table.{Table as Codes};
+ghost use Rattle.std.specs.Prelude.{◌≡◌, ◌≤◌, ◌+◌, false, [], Bool, List, Some, Ok, length};
+ghost use Rattle.jpg_huff.specs.declared.table.Table.{Table};
 ghost use Rattle.jpg_huff.specs.Sets.{ac_tables, in_slot};
 ghost use Rattle.jpg_huff.specs.Tables.{symbol_codes};
 ghost use Rattle.jpg_prog_read.specs.NewAcReader.{HasAcTable, IsAcScan, IsOfAcScan, IsBandOf};
-ghost use Rattle.jpg_coefs.specs.Machine.{Interval};
+ghost use Rattle.jpg_coefs.specs.Machine.{Interval, TakesBits};
 ghost use Rattle.jpg_coefs.specs.Picture.{Picture};
-ghost use Rattle.jpg_prog_read.specs.AcStands.{IsInUnit, HasWhole, IsBetween, AcStands, ReadsBit, PutsUnit, TakesUnit, Settles, GoesOn, progressive_ac};
+ghost use Rattle.jpg_prog_read.specs.AcStands.{IsInUnit, HasWhole, IsBetween, AcStands, ReadsBit, PutsUnit, TakesUnit, Settles, GoesOn, progressive_ac, with_band};
+ghost use Rattle.jpg_prog_read.specs.BandBits.{TakesBand};
 ghost use Rattle.jpg_prog_read.specs.declared.stage.Stage.TheVariants as stages;
 
 use crate::band::{BandReader, BandStep};
+use crate::codes::Codes;
 use crate::scan::BandScan;
-use crate::table_copy::copy_of;
 use jpg_base::{BitStore, Cursor, Frame, ScanHead, ScanPart};
 use jpg_coefs::{Coefs, ScanMachine, Taken, UnitFault, UnitStep};
-use jpg_huff::{Table, TableSet};
+use jpg_huff::TableSet;
 
 /// A machine that reads a progressive AC scan: what it reads by, the places that are left, the unit in
 /// work, how many units of the interval are left, and whether the first of them wasn't taken yet.
 #[derive(Drop)]
 pub struct AcReader {
     scan: BandScan,
-    table: Table,
+    codes: Codes,
     cursor: Cursor,
     unit: BandReader,
     left: u64,
@@ -44,15 +45,15 @@ fn band_of(frame: &Frame, head: &ScanHead) -> BandScan
     }
 }
 
-// The table of the header's component.
-fn table_in(tables: &TableSet, part: &ScanPart) -> Table
+// The codes of the header's component.
+fn codes_in(tables: &TableSet, part: &ScanPart) -> Codes
     requires { HasAcTable tables.now part.now }
-    ensures { (table : Codes) × (in_slot (ac_tables tables.now) part.now.ac ≡ Some table) × (symbol_codes result ≡ symbol_codes table) }
+    ensures { (table : Table) × (in_slot (ac_tables tables.now) part.now.ac ≡ Some table) × (result ≡ symbol_codes table) }
 {
     let Some(table) = tables.ac(part.ac) else {
         unreachable!();
     };
-    copy_of(table)
+    Codes::new(table)
 }
 
 impl AcReader {
@@ -65,7 +66,7 @@ impl AcReader {
         frame.checked();
         AcReader {
             scan: band_of(frame, head),
-            table: table_in(tables, &head.parts[0]),
+            codes: codes_in(tables, &head.parts[0]),
             cursor: Cursor::new(frame, head),
             unit: BandReader::new(),
             left: 0,
@@ -78,7 +79,7 @@ impl AcReader {
         requires { (i : Interval) × (bits : List Bool) × (now : Picture) × IsInUnit self.old i bits now }
         ensures { ReadsBit self.old bit result self.new }
     {
-        self.unit.bit(&self.scan, &self.table, self.left, bit)
+        self.unit.bit(&self.scan, &self.codes, self.left, bit)
     }
 
     // The block of a unit that is whole is put at its place.
@@ -101,6 +102,7 @@ impl AcReader {
         requires some { 1 ≤ self.old.left }
         ensures first { self.old.unit.stage ≡ stages.Code → result ≡ BandStep.More }
         ensures count { self.new.left ≡ self.old.left }
+        ensures begun { self.new.fresh ≡ false }
         ensures takes { TakesUnit self.old coefs.now result self.new }
     {
         self.fresh = false;
@@ -112,7 +114,8 @@ impl AcReader {
     // Behind a whole unit: the ends of bands may make further ones whole.
     fn go_on(&mut self, coefs: &mut Coefs) -> Result<UnitStep, UnitFault>
         requires { (i : Interval) × (bits : List Bool) × HasWhole self.old i bits coefs.old }
-        ensures { GoesOn self.old coefs.old result self.new coefs.new }
+        ensures begun { result ≡ Ok UnitStep.More → self.new.fresh ≡ false }
+        ensures goes { GoesOn self.old coefs.old result self.new coefs.new }
     {
         loop {
             self.put(coefs);
@@ -130,11 +133,57 @@ impl AcReader {
     // The first unit is taken where it wasn't yet.
     fn settle(&mut self, coefs: &Coefs)
         requires { (i : Interval) × (bits : List Bool) × AcStands self.old i bits coefs.now }
-        ensures { Settles self.old coefs.now self.new }
+        ensures begun { self.new.fresh ≡ false }
+        ensures count { self.new.left ≡ self.old.left }
+        ensures settles { Settles self.old coefs.now self.new }
     {
         if self.fresh {
             let _ = self.take(coefs);
         }
+    }
+}
+
+impl AcReader {
+    // Bits of the unit in work, from the front of a store.
+    fn unit_bits(&mut self, store: &mut BitStore) -> BandStep
+        requires unit { (i : Interval) × (bits : List Bool) × (now : Picture) × IsInUnit self.old i bits now }
+        requires some { 1 ≤ length store.old }
+        ensures same { self.new ≡ with_band self.old self.new.unit }
+        ensures takes { TakesBand self.old.scan self.old.codes self.old.left self.old.unit store.old result self.new.unit store.new }
+        ensures all { result ≡ BandStep.More → store.new ≡ [] }
+    {
+        let mut here = store.copy();
+        let step = self
+            .unit
+            .take(&self.scan, &self.codes, self.left, &mut here);
+        *store = here;
+        step
+    }
+
+    // Bits of a store, as `bits` takes them, where the first unit was taken.
+    fn read(&mut self, store: &mut BitStore, coefs: &mut Coefs, most: u64) -> Taken
+        requires begun { self.old.fresh ≡ false }
+        requires open { (i : Interval) × (bits : List Bool) × AcStands self.old i bits coefs.old }
+        requires some { 1 ≤ most }
+        ensures { TakesBits progressive_ac most self.old coefs.old store.old result self.new coefs.new store.new }
+    {
+        let all = self.left;
+        while store.len() > 0 {
+            match self.unit_bits(store) {
+                BandStep::More => return Taken::More,
+                BandStep::Fault(fault) => return Taken::Fault(fault),
+                BandStep::Done => match self.go_on(coefs) {
+                    Err(fault) => return Taken::Fault(fault),
+                    Ok(UnitStep::IntervalDone) => return Taken::IntervalDone,
+                    Ok(UnitStep::More) => {
+                        if all.saturating_sub(self.left) >= most {
+                            return Taken::Units;
+                        }
+                    }
+                },
+            }
+        }
+        Taken::More
     }
 }
 
@@ -151,23 +200,11 @@ impl ScanMachine for AcReader {
     }
 
     fn bits(&mut self, store: &mut BitStore, coefs: &mut Coefs, most: u64) -> Taken {
-        let all = self.left;
-        while store.len() > 0 {
-            let bit = store.bit(0);
-            store.skip(1);
-            match self.bit(bit, coefs) {
-                Err(fault) => return Taken::Fault(fault),
-                Ok(step) => match step {
-                    UnitStep::IntervalDone => return Taken::IntervalDone,
-                    UnitStep::More => {
-                        if all.saturating_sub(self.left) >= most {
-                            return Taken::Units;
-                        }
-                    }
-                },
-            }
+        if store.len() == 0 {
+            return Taken::More;
         }
-        Taken::More
+        self.settle(coefs);
+        self.read(store, coefs, most)
     }
 
     fn restart(&mut self, units: u64) {

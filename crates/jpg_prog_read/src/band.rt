@@ -1,25 +1,27 @@
 //! The units of a band, read bit by bit: first passes and refinements (T.81, G.1.2.2, G.1.2.3).
-ghost use Rattle.std.specs.Prelude.{◌≡◌, ◌<◌, ◌≤◌, ◌+◌, ◌-◌, pos, false, [], ◌∷◌, ◌++◌, length, take, drop, slice_index_or, ℕ, Bool, List};
+ghost use Rattle.std.specs.Prelude.{◌≡◌, ◌<◌, ◌≤◌, ◌+◌, ◌-◌, pos, true, false, [], ◌∷◌, ◌++◌, length, take, drop, slice_index_or, ℕ, Bool, List};
 ghost use Rattle.jpg_spec.specs.Bits.{bits_of};
 ghost use Rattle.jpg_spec.specs.Codes.{Code};
 ghost use Rattle.jpg_spec.specs.Numbers.{category, extra_bits, digits};
-ghost use Rattle.jpg_spec.specs.Elements.{zeros_in, is_zero};
+ghost use Rattle.jpg_spec.specs.Elements.{zeros, zeros_in, is_zero};
 ghost use Rattle.jpg_huff.specs.Walk.{Answers};
-ghost use Rattle.jpg_huff.specs.Tables.{symbol_codes};
 ghost use Rattle.jpg_prog_read.specs.InWork.{IsOpen, IsMoving, IsPassing, IsWholeUnit, IsFresh, AreRefinable, band_values, with_band};
-ghost use Rattle.jpg_prog_read.specs.Step.{AreSane, IsNext, IsSkipped, AfterBandEnd, AfterValue, StaysOpen, KeepsOtherValues, HasSkipped, PassesZeros};
+ghost use Rattle.jpg_prog_read.specs.Step.{AreSane, IsSkipped, AfterBandEnd, AfterValue, StaysOpen, KeepsOtherValues, HasSkipped, PassesZeros};
 ghost use Rattle.jpg_prog_read.specs.ExtraWork.{IsWanting};
 ghost use Rattle.jpg_prog_read.specs.declared.scan.BandScan.{BandScan};
 ghost use Rattle.jpg_prog_read.specs.Stands.{UnitPlace, Stands, Answered, AnswersStep, AnswersBit, AnswersBand};
+ghost use Rattle.jpg_prog_read.specs.BandBits.{AnswersSymbol, TakesBand};
+ghost use Rattle.jpg_prog_read.specs.ZerosPassed.{ZerosComeNext, behind_zeros};
 
+use crate::codes::Codes;
 use crate::extra::{Extra, ExtraBits};
-use crate::numbers::{Scaled, corrected, one_where_zero, scaled_within};
+use crate::numbers::{Scaled, corrected, scaled_within};
 use crate::scan::BandScan;
 use crate::stage::Stage;
 use crate::symbols::{Judged, judge};
-use jpg_base::Block;
+use jpg_base::{BitStore, Block};
 use jpg_coefs::UnitFault;
-use jpg_huff::{Table, Walk, WalkStep};
+use jpg_huff::{Spotted, Walk, WalkStep};
 use std::marker::Model;
 
 /// What a bit of a unit of a band comes to.
@@ -30,14 +32,6 @@ pub enum BandStep {
     /// It is whole.
     Done,
     Fault(UnitFault),
-}
-
-// The next old value.
-#[derive(Drop)]
-enum Next {
-    None,
-    Zero,
-    Old(i16),
 }
 
 // Where passing zeros ends.
@@ -60,8 +54,12 @@ pub struct BandReader {
     start: u8,
     at: u8,
     end: u8,
+    // bit 0 is 1 where the value at place `at` isn't 0, and so on
+    olds: u64,
     stage: Stage,
     walk: Walk,
+    // whether bits of a code came
+    begun: bool,
     run: u8,
     extra: ExtraBits,
     due: i16,
@@ -89,16 +87,22 @@ impl Model for BandReader {
           bands = r.bands;
         } };
 
-    ghost invariant = { λ r. IsKept r.values r.start r.at r.end };
+    ghost invariant = { λ r. IsKept r.values r.start r.at r.end r.olds r.begun r.walk };
 }
 
 impl BandReader {
     // a bit of a code
-    fn walk_bit(&mut self, table: &Table, bit: bool) -> WalkStep
-        ensures answers { Answers (symbol_codes table.now) (self.old.walked ++ bit ∷ []) result self.new.walked }
+    fn walk_bit(&mut self, codes: &Codes, bit: bool) -> WalkStep
+        ensures answers { Answers codes.now (self.old.walked ++ bit ∷ []) result self.new.walked }
         ensures same { self.new ≡ record (self.old) { walked = self.new.walked } }
     {
-        self.walk.bit(table, bit)
+        let step = codes.walk(&mut self.walk, bit);
+        self.begun = match step {
+            WalkStep::More => true,
+            WalkStep::Symbol(_) => false,
+            WalkStep::NoCode => false,
+        };
+        step
     }
 
     // the next value of the band
@@ -108,32 +112,47 @@ impl BandReader {
     {
         self.values.set(self.at, value);
         self.at += 1;
-    }
-
-    fn next(&self) -> Next
-        ensures { IsNext result self.now }
-    {
-        if self.at == self.end {
-            Next::None
-        } else {
-            let value = self.values.get(self.at);
-            if value == 0 {
-                Next::Zero
-            } else {
-                Next::Old(value)
-            }
-        }
+        self.olds = self.olds >> 1;
     }
 
     // how many zeros are left
     fn zeros_left(&self) -> u8
         ensures { result ≡ zeros_in self.now.rest }
     {
-        let mut count = 0;
-        for k in self.at..self.end {
-            count += one_where_zero(self.values.get(k));
-        }
-        count
+        let left = self.end - self.at;
+        let olds = self.olds % (1 << left);
+        left - olds.count_ones() as u8
+    }
+
+    // how many zeros come next
+    fn zeros_next(&self) -> u8
+        ensures next { ZerosComeNext result self.now.rest }
+        ensures short { result ≤ 63 }
+    {
+        let left = self.end - self.at;
+        let zeros = self.olds.trailing_zeros() as u8;
+        if zeros < left { zeros } else { left }
+    }
+
+    // past zeros
+    fn pass_zeros(&mut self, count: u8)
+        requires some { count ≤ length self.old.rest }
+        requires next { take count self.old.rest ≡ zeros count }
+        requires short { count ≤ 63 }
+        requires run { count ≤ self.old.run }
+        ensures { self.new ≡ behind_zeros self.old count }
+    {
+        self.at += count;
+        self.olds = self.olds >> count;
+        self.run -= count;
+    }
+
+    // whether values are left
+    fn is_left(&self) -> bool
+        ensures left { result ≡ true → 1 ≤ length self.now.rest }
+        ensures none { result ≡ false → self.now.rest ≡ [] }
+    {
+        self.at < self.end
     }
 
     fn stage(&self) -> Stage
@@ -241,43 +260,31 @@ impl BandReader {
     fn covered(&self) -> BandStep
         ensures { AfterValue result self.now }
     {
-        match self.next() {
-            Next::None => BandStep::Done,
-            _ => BandStep::More,
+        if self.is_left() {
+            BandStep::More
+        } else {
+            BandStep::Done
         }
     }
 
-    fn pass_zero(&mut self)
-        requires some { 1 ≤ length self.old.rest }
-        requires run { 1 ≤ self.old.run }
-        ensures { self.new ≡ record (self.old) { done = self.old.done ++ pos 0 ∷ []; rest = drop 1 self.old.rest; run = self.old.run - 1 } }
-    {
-        self.put(0);
-        self.run -= 1;
-    }
-
-    // past zeros
+    // past the zeros that come next, as many as the run has
     fn skip(&mut self) -> Skipped
         requires passing { IsPassing self.old.stage self.old }
         ensures at { IsSkipped result self.new }
         ensures same { HasSkipped self.old self.new }
         ensures stands { PassesZeros self.old self.new }
     {
-        loop {
-            match self.next() {
-                Next::None => {
-                    return Skipped::AtEnd;
-                }
-                Next::Old(_) => {
-                    return Skipped::AtOld;
-                }
-                Next::Zero => {
-                    if self.run_left() == 0 {
-                        return Skipped::AtZero;
-                    }
-                    self.pass_zero();
-                }
-            }
+        let next = self.zeros_next();
+        let run = self.run_left();
+        if run < next {
+            self.pass_zeros(run);
+            return Skipped::AtZero;
+        }
+        self.pass_zeros(next);
+        if self.is_left() {
+            Skipped::AtOld
+        } else {
+            Skipped::AtEnd
         }
     }
 
@@ -370,42 +377,68 @@ impl BandReader {
         self.values.get(self.at)
     }
 
+    // behind a code
+    fn symbol(&mut self, scan: &BandScan, symbol: u8) -> BandStep
+        requires sane { AreSane scan.now }
+        requires open { IsOpen scan.now self.old }
+        requires stage { self.old.stage ≡ Stage.Code }
+        requires walked { self.old.walked ≡ [] }
+        ensures open { StaysOpen scan.now result self.new }
+        ensures outside { KeepsOtherValues self.old self.new }
+        ensures answered { AnswersSymbol scan.now self.old symbol result self.new }
+    {
+        let zeros = self.zeros_left();
+        match judge(scan.most_category, zeros, symbol) {
+            Judged::BadSymbol => BandStep::Fault(UnitFault::BadSymbol),
+            Judged::BadRun => BandStep::Fault(UnitFault::BadRun),
+            Judged::Value { run, size } => {
+                self.begin(Stage::Number, run, size);
+                BandStep::More
+            }
+            Judged::Count { size } => {
+                self.begin(Stage::Count, 0, size);
+                BandStep::More
+            }
+            Judged::Long => {
+                self.begin_long();
+                self.advance(scan)
+            }
+            Judged::End => {
+                self.begin_ends(1);
+                self.advance(scan)
+            }
+        }
+    }
+
     // a bit of a code
-    fn code_bit(&mut self, scan: &BandScan, table: &Table, bit: bool) -> BandStep
+    fn code_bit(&mut self, scan: &BandScan, codes: &Codes, bit: bool) -> BandStep
         requires sane { AreSane scan.now }
         requires open { IsOpen scan.now self.old }
         requires stage { self.old.stage ≡ Stage.Code }
         ensures open { StaysOpen scan.now result self.new }
         ensures outside { KeepsOtherValues self.old self.new }
-        ensures answered { (left : ℕ) → AnswersBit scan.now (symbol_codes table.now) left self.old bit result self.new }
+        ensures answered { (left : ℕ) → AnswersBit scan.now codes.now left self.old bit result self.new }
     {
-        match self.walk_bit(table, bit) {
+        match self.walk_bit(codes, bit) {
             WalkStep::More => BandStep::More,
             WalkStep::NoCode => BandStep::Fault(UnitFault::NoCode),
-            WalkStep::Symbol(symbol) => {
-                let zeros = self.zeros_left();
-                match judge(scan.most_category, zeros, symbol) {
-                    Judged::BadSymbol => BandStep::Fault(UnitFault::BadSymbol),
-                    Judged::BadRun => BandStep::Fault(UnitFault::BadRun),
-                    Judged::Value { run, size } => {
-                        self.begin(Stage::Number, run, size);
-                        BandStep::More
-                    }
-                    Judged::Count { size } => {
-                        self.begin(Stage::Count, 0, size);
-                        BandStep::More
-                    }
-                    Judged::Long => {
-                        self.begin_long();
-                        self.advance(scan)
-                    }
-                    Judged::End => {
-                        self.begin_ends(1);
-                        self.advance(scan)
-                    }
-                }
-            }
+            WalkStep::Symbol(symbol) => self.symbol(scan, symbol),
         }
+    }
+
+    // behind the bits of a value's number
+    fn number(&mut self, scan: &BandScan) -> BandStep
+        requires sane { AreSane scan.now }
+        requires open { (1 ≤ length self.old.rest) × AreRefinable scan.now self.old.rest }
+        requires stage { self.old.stage ≡ Stage.Number }
+        requires whole { length self.old.extra ≡ self.old.size }
+        ensures open { StaysOpen scan.now result self.new }
+        ensures outside { KeepsOtherValues self.old self.new }
+        ensures answered { AnswersStep scan.now self.old result self.new }
+    {
+        let value = self.whole_number();
+        self.begin_value(value);
+        self.advance(scan)
     }
 
     // a bit of a value's number
@@ -420,11 +453,7 @@ impl BandReader {
     {
         match self.extra_bit(bit) {
             Extra::Wanting => BandStep::More,
-            Extra::Enough => {
-                let value = self.whole_number();
-                self.begin_value(value);
-                self.advance(scan)
-            }
+            Extra::Enough => self.number(scan),
         }
     }
 
@@ -469,20 +498,139 @@ impl BandReader {
     }
 
     /// Takes one more bit. `left` is the number of units that are left, this one included.
-    pub fn bit(&mut self, scan: &BandScan, table: &Table, left: u64, bit: bool) -> BandStep
+    pub fn bit(&mut self, scan: &BandScan, codes: &Codes, left: u64, bit: bool) -> BandStep
         requires sane { AreSane scan.now }
         requires open { IsOpen scan.now self.old }
         ensures open { StaysOpen scan.now result self.new }
         ensures outside { KeepsOtherValues self.old self.new }
-        ensures answered { AnswersBit scan.now (symbol_codes table.now) left self.old bit result self.new }
+        ensures answered { AnswersBit scan.now codes.now left self.old bit result self.new }
     {
         match self.stage() {
-            Stage::Code => self.code_bit(scan, table, bit),
+            Stage::Code => self.code_bit(scan, codes, bit),
             Stage::Number => self.number_bit(scan, bit),
             Stage::Count => self.count_bit(scan, left, bit),
             Stage::Value => self.correction_bit(scan, bit),
             Stage::Long => self.correction_bit(scan, bit),
             Stage::Ends => self.correction_bit(scan, bit),
+        }
+    }
+
+    // One more bit, from the front of a store.
+    fn take_bit(
+        &mut self,
+        scan: &BandScan,
+        codes: &Codes,
+        left: u64,
+        store: &mut BitStore,
+    ) -> BandStep
+        requires sane { AreSane scan.now }
+        requires open { IsOpen scan.now self.old }
+        requires some { 1 ≤ length store.old }
+        ensures { TakesBand scan.now codes.now left self.old store.old result self.new store.new }
+    {
+        let bit = store.bit(0);
+        store.skip(1);
+        self.bit(scan, codes, left, bit)
+    }
+
+    // A whole code where one stands first and none is begun, or one bit.
+    fn take_code(
+        &mut self,
+        scan: &BandScan,
+        codes: &Codes,
+        left: u64,
+        store: &mut BitStore,
+    ) -> BandStep
+        requires sane { AreSane scan.now }
+        requires open { IsOpen scan.now self.old }
+        requires stage { self.old.stage ≡ Stage.Code }
+        requires some { 1 ≤ length store.old }
+        ensures { TakesBand scan.now codes.now left self.old store.old result self.new store.new }
+    {
+        if self.begun {
+            return self.take_bit(scan, codes, left, store);
+        }
+        match codes.spot(store) {
+            Spotted::Symbol { length, symbol } => {
+                store.skip(length);
+                self.symbol(scan, symbol)
+            }
+            Spotted::Part => self.take_bit(scan, codes, left, store),
+            Spotted::NoCode { .. } => self.take_bit(scan, codes, left, store),
+        }
+    }
+
+    // All bits of a number where they are there and none is taken, or one bit.
+    fn take_number(
+        &mut self,
+        scan: &BandScan,
+        codes: &Codes,
+        left: u64,
+        store: &mut BitStore,
+    ) -> BandStep
+        requires sane { AreSane scan.now }
+        requires open { IsOpen scan.now self.old }
+        requires stage { self.old.stage ≡ Stage.Number }
+        requires some { 1 ≤ length store.old }
+        ensures { TakesBand scan.now codes.now left self.old store.old result self.new store.new }
+    {
+        let size = self.extra.size();
+        if self.extra.is_new() && size <= store.len() {
+            self.extra.fill(size, store.peek(size));
+            store.skip(size);
+            return self.number(scan);
+        }
+        self.take_bit(scan, codes, left, store)
+    }
+
+    // Some bits from the front of a store.
+    fn take_some(
+        &mut self,
+        scan: &BandScan,
+        codes: &Codes,
+        left: u64,
+        store: &mut BitStore,
+    ) -> BandStep
+        requires sane { AreSane scan.now }
+        requires open { IsOpen scan.now self.old }
+        requires some { 1 ≤ length store.old }
+        ensures { TakesBand scan.now codes.now left self.old store.old result self.new store.new }
+    {
+        match self.stage() {
+            Stage::Code => self.take_code(scan, codes, left, store),
+            Stage::Number => self.take_number(scan, codes, left, store),
+            Stage::Count => self.take_bit(scan, codes, left, store),
+            Stage::Value => self.take_bit(scan, codes, left, store),
+            Stage::Long => self.take_bit(scan, codes, left, store),
+            Stage::Ends => self.take_bit(scan, codes, left, store),
+        }
+    }
+
+    /// Takes bits from the front of a store, up to the one that makes the unit whole or shows a fault, or all of them.
+    /// `left` is the number of units that are left, this one included.
+    pub fn take(
+        &mut self,
+        scan: &BandScan,
+        codes: &Codes,
+        left: u64,
+        store: &mut BitStore,
+    ) -> BandStep
+        requires sane { AreSane scan.now }
+        requires open { IsOpen scan.now self.old }
+        requires some { 1 ≤ length store.old }
+        ensures takes { TakesBand scan.now codes.now left self.old store.old result self.new store.new }
+        ensures all { result ≡ BandStep.More → store.new ≡ [] }
+    {
+        loop {
+            match self.take_some(scan, codes, left, store) {
+                BandStep::More => {
+                    if store.len() == 0 {
+                        return BandStep::More;
+                    }
+                }
+                BandStep::Done => return BandStep::Done,
+                BandStep::Fault(fault) => return BandStep::Fault(fault),
+            }
         }
     }
 
@@ -498,6 +646,7 @@ impl BandReader {
         self.start = scan.start;
         self.at = scan.start;
         self.end = scan.end;
+        self.olds = block.nonzero() >> scan.start;
         self.run = 255;
     }
 
@@ -530,7 +679,9 @@ impl BandReader {
             at: 0,
             end: 0,
             stage: Stage::Code,
+            olds: 0,
             walk: Walk::new(),
+            begun: false,
             run: 0,
             extra: ExtraBits::new(0),
             due: 0,

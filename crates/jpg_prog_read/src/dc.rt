@@ -6,11 +6,15 @@ ghost use Rattle.jpg_huff.specs.Walk.{Answers};
 ghost use Rattle.jpg_huff.specs.Tables.{symbol_codes};
 ghost use Rattle.jpg_prog_read.specs.DcWork.{DcWork, IsDcOpen, AreDcSane, IsDcValue, IsDcSide, DcStaysOpen, AfterDcExtra, IsDcStage, fresh};
 ghost use Rattle.jpg_prog_read.specs.DcStands.{AnswersDcBit, AnswersDcRefinement, BeginsDc};
+ghost use Rattle.jpg_prog_read.specs.DcLooked.{Hurries};
+ghost use Rattle.jpg_prog_read.specs.declared.scan.DcScan.{DcScan};
 
+use crate::codes::Codes;
 use crate::extra::{Extra, ExtraBits};
 use crate::scan::DcScan;
+use jpg_base::BitStore;
 use jpg_coefs::UnitFault;
-use jpg_huff::{Table, Walk, WalkStep};
+use jpg_huff::{Spotted, Table, Walk, WalkStep};
 use std::marker::Model;
 
 // A value by its difference: the next prediction and the value, or one out of the bounds.
@@ -45,13 +49,18 @@ enum DcExtra {
 #[derive(Drop)]
 pub struct DcUnit {
     walk: Walk,
+    // whether bits of a code came
+    begun: bool,
     extra: ExtraBits,
 }
 
 impl Model for DcUnit {
+    ghost use Rattle.std.specs.Prelude.{◌≡◌, [], false};
     ghost use Rattle.jpg_prog_read.specs.DcWork.{DcWork};
 
     ghost Value = { DcWork };
+
+    ghost invariant = { λ r. r.begun ≡ false → r.walk ≡ [] };
 
     ghost view = { λ r. record { walked = r.walk; size = r.extra.size; extra = r.extra.bits } };
 }
@@ -146,7 +155,13 @@ impl DcUnit {
         ensures answers { Answers (symbol_codes table.now) (self.old.walked ++ bit ∷ []) result self.new.walked }
         ensures same { self.new ≡ record (self.old) { walked = self.new.walked } }
     {
-        self.walk.bit(table, bit)
+        let step = self.walk.bit(table, bit);
+        self.begun = match step {
+            WalkStep::More => true,
+            WalkStep::Symbol(_) => false,
+            WalkStep::NoCode => false,
+        };
+        step
     }
 
     // a number of this category begins, or none
@@ -175,8 +190,53 @@ impl DcUnit {
     {
         DcUnit {
             walk: Walk::new(),
+            begun: false,
             extra: ExtraBits::new(0),
         }
+    }
+
+    // A whole code of a difference that isn't 0, where one stands first in the store and none is begun.
+    fn hurry_code(&mut self, scan: &DcScan, codes: &Codes, store: &mut BitStore)
+        requires sane { AreDcSane scan.now }
+        requires open { IsDcOpen self.old }
+        ensures { Hurries scan.now codes.now self.old store.old self.new store.new }
+    {
+        if self.begun || self.extra.size() > 0 {
+            return;
+        }
+        match codes.spot(store) {
+            Spotted::Symbol { length, symbol } => {
+                if symbol > 0 && symbol <= scan.most_category {
+                    store.skip(length);
+                    self.begin(symbol);
+                }
+            }
+            Spotted::Part => {}
+            Spotted::NoCode { .. } => {}
+        }
+    }
+
+    // All bits of a number but the last, where they are there and none is taken.
+    fn hurry_number(&mut self, store: &mut BitStore)
+        requires open { IsDcOpen self.old }
+        ensures { (b : DcScan) (dc : List Code) → Hurries b dc self.old store.old self.new store.new }
+    {
+        let size = self.extra.size();
+        if size > 0 && self.extra.is_new() && size <= store.len() {
+            let count = size - 1;
+            self.extra.fill(count, store.peek(count));
+            store.skip(count);
+        }
+    }
+
+    /// Takes bits from the front of a store behind which the unit goes on, more than one at once, or none.
+    pub fn hurry(&mut self, scan: &DcScan, codes: &Codes, store: &mut BitStore)
+        requires sane { AreDcSane scan.now }
+        requires open { IsDcOpen self.old }
+        ensures { Hurries scan.now codes.now self.old store.old self.new store.new }
+    {
+        self.hurry_code(scan, codes, store);
+        self.hurry_number(store);
     }
 
     // an extra bit, and the number where it is the last

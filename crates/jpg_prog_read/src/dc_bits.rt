@@ -1,7 +1,7 @@
 //! Bits of a store, taken one by one.
 ghost use Rattle.std.specs.Prelude.{◌≡◌, ◌≤◌, Bool, List};
 ghost use Rattle.jpg_coefs.specs.Machine.{Interval, Kind, Step, TakesBits};
-ghost use Rattle.jpg_prog_read.specs.DcBits.{KeepsSome};
+ghost use Rattle.jpg_prog_read.specs.BitsTaken.{HurriesOn, KeepsSome};
 
 use jpg_base::BitStore;
 use jpg_coefs::{Coefs, Taken, UnitFault, UnitStep};
@@ -16,6 +16,11 @@ pub trait BitMachine {
         requires open { (i : Interval) × (bits : List Bool) × kind.stands self.old i bits coefs.old }
         ensures step { Step kind self.old coefs.old bit result self.new coefs.new }
         ensures some { KeepsSome result (kind.left self.new) };
+
+    /// Takes bits from the front of a store that complete no unit and show no fault, more than one at once, or none.
+    fn hurry(&mut self, store: &mut BitStore, coefs: &Coefs)
+        requires open { (i : Interval) × (bits : List Bool) × kind.stands self.old i bits coefs.now }
+        ensures { HurriesOn kind self.old coefs.now store.old self.new store.new };
 
     /// How many units of the interval are left.
     fn count_left(&self) -> u64
@@ -36,6 +41,10 @@ pub fn take_bits<M: BitMachine>(
 {
     let before = machine.count_left();
     while store.len() > 0 {
+        machine.hurry(store, coefs);
+        if store.len() == 0 {
+            return Taken::More;
+        }
         let bit = store.bit(0);
         store.skip(1);
         match machine.one_bit(bit, coefs) {

@@ -4,25 +4,27 @@ ghost use Rattle.jpg_spec.specs.Geometry.{padded_blocks};
 ghost use Rattle.jpg_base.specs.Cursor.{IsPadded};
 ghost use Rattle.jpg_huff.specs.Sets.{dc_tables};
 ghost use Rattle.jpg_coefs.specs.Machine.{Interval};
-ghost use Rattle.jpg_prog_read.specs.DcFirstPass.{CanRead, ReadsBit, first_pass, table_in, with_unit, behind_unit};
+ghost use Rattle.jpg_prog_read.specs.DcFirstPass.{CanRead, HurriesUnit, ReadsBit, first_pass, table_in, with_unit, behind_unit};
 ghost use Rattle.jpg_prog_read.specs.DcNew.{AreFilled, HasPartTable, IsFirstHead, IsOfFirst};
 ghost use Rattle.jpg_prog_read.specs.DcPlaces.{with_dc};
 ghost use Rattle.jpg_prog_read.specs.DcWork.{DcStaysOpen};
 
 use crate::dc::{DcStep, DcUnit};
 use crate::dc_bits::{BitMachine, take_bits};
+use crate::dc_looks::DcLooks;
 use crate::dc_units::{dc_scan, put_dc};
 use crate::scan::DcScan;
 use jpg_base::{BitStore, Cursor, Frame, Place, ScanHead, ScanPart};
 use jpg_coefs::{Coefs, ScanMachine, Taken, UnitFault, UnitStep};
 use jpg_huff::TableSet;
 
-/// A machine that reads a first DC pass: what it goes by, the DC tables in the slots of their components, the places that
-/// are left, the predictions by component, the unit in work, and how many units of the interval are left.
+/// A machine that reads a first DC pass: what it goes by, the DC tables in the slots of their components and what looks up their
+/// codes, the places that are left, the predictions by component, the unit in work, and how many units of the interval are left.
 #[derive(Drop)]
 pub struct DcFirst {
     scan: DcScan,
     tables: TableSet,
+    looks: DcLooks,
     cursor: Cursor,
     predictions: [i16; 4],
     unit: DcUnit,
@@ -62,9 +64,12 @@ impl DcFirst {
         ensures { (i : Interval) → IsOfFirst frame.now head.now tables.now i → first_pass.ready result i }
     {
         frame.checked();
+        let own = tables_of(head.parts.as_slice(), tables);
+        let looks = DcLooks::of(&own);
         DcFirst {
             scan: dc_scan(frame, head.al),
-            tables: tables_of(head.parts.as_slice(), tables),
+            tables: own,
+            looks,
             cursor: Cursor::new(frame, head),
             predictions: [0; 4],
             unit: DcUnit::new(),
@@ -87,6 +92,18 @@ impl DcFirst {
                 bit,
             ),
             None => DcStep::Fault(UnitFault::NoCode),
+        }
+    }
+
+    // Bits of the unit in work, behind which it goes on.
+    fn hurry_unit(&mut self, component: u8, store: &mut BitStore)
+        requires { CanRead self.old component }
+        ensures same { self.new ≡ with_unit self.old self.new.unit }
+        ensures hurries { HurriesUnit self.old component store.old self.new.unit store.new }
+    {
+        match self.looks.at(component) {
+            Some(codes) => self.unit.hurry(&self.scan, codes, store),
+            None => {}
         }
     }
 
@@ -125,6 +142,11 @@ impl BitMachine for DcFirst {
                 }
             }
         }
+    }
+
+    fn hurry(&mut self, store: &mut BitStore, _coefs: &Coefs) {
+        let place = self.cursor.place();
+        self.hurry_unit(place.component, store);
     }
 
     fn count_left(&self) -> u64 {

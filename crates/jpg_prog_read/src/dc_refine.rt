@@ -67,6 +67,8 @@ impl BitMachine for DcRefine {
         }
     }
 
+    fn hurry(&mut self, _store: &mut BitStore, _coefs: &Coefs) {}
+
     fn count_left(&self) -> u64 {
         self.left
     }

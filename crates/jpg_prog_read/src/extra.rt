@@ -1,5 +1,5 @@
 //! Extra bits while they come in (T.81, F.2.2.1, G.1.2.2).
-ghost use Rattle.std.specs.Prelude.{◌≡◌, ◌<◌, ◌≤◌, ◌+◌, [], ◌∷◌, ◌++◌, length};
+ghost use Rattle.std.specs.Prelude.{◌≡◌, ◌<◌, ◌≤◌, ◌+◌, ◌^◌, true, [], ◌∷◌, ◌++◌, length};
 ghost use Rattle.jpg_spec.specs.Bits.{bits_of};
 ghost use Rattle.jpg_spec.specs.Numbers.{category, extra_bits, digits};
 ghost use Rattle.jpg_prog_read.specs.ExtraWork.{IsWanting};
@@ -47,9 +47,27 @@ impl ExtraBits {
 
     /// The category.
     pub fn size(&self) -> u8
-        ensures { result ≡ self.now.size }
+        ensures value { result ≡ self.now.size }
+        ensures small { result ≤ 15 }
     {
         self.size
+    }
+
+    /// Whether none of its bits is there.
+    pub fn is_new(&self) -> bool
+        ensures { result ≡ true → self.now.bits ≡ [] }
+    {
+        self.have == 0
+    }
+
+    /// Its first bits at once, `count` of them, as a number.
+    pub fn fill(&mut self, count: u8, number: u32)
+        requires few { count ≤ self.old.size }
+        requires fits { number < 2 ^ count }
+        ensures { self.new ≡ record (self.old) { bits = bits_of count number } }
+    {
+        self.have = count;
+        self.number = number;
     }
 
     // one more bit

@@ -3,10 +3,12 @@
 
 mod ac_reader;
 mod band;
+mod codes;
 mod dc;
 mod dc_bits;
 mod dc_first;
 mod dc_laws;
+mod dc_looks;
 mod dc_refine;
 mod dc_units;
 mod extra;

@@ -1,6 +1,6 @@
 //! Values of a progressive scan by their numbers (T.81, G.1.2).
-ghost use Rattle.std.specs.Prelude.{◌≡◌, ◌≤◌, ◌+◌, ◌^◌, ℕ, pos, nat_abs, ◌*ℤ◌, if◌then◌else◌};
-ghost use Rattle.jpg_spec.specs.Elements.{grown, is_zero};
+ghost use Rattle.std.specs.Prelude.{◌≡◌, ◌≤◌, ◌+◌, ◌^◌, ℕ, pos, nat_abs, ◌*ℤ◌};
+ghost use Rattle.jpg_spec.specs.Elements.{grown};
 ghost use Rattle.jpg_prog_read.specs.Scaled.{IsScaled};
 
 // The number times the scale.
@@ -50,11 +50,4 @@ pub fn corrected(value: i16, scale: u16, bit: bool) -> i16
     } else {
         value - scale as i16
     }
-}
-
-/// 1 for zero, 0 for other numbers.
-pub fn one_where_zero(value: i16) -> u8
-    ensures { result ≡ (if is_zero value then 1 else 0) }
-{
-    if value == 0 { 1 } else { 0 }
 }

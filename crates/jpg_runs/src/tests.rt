@@ -1,48 +1,22 @@
 // Runs of the command over a desk in memory. The files are spelled here by themselves (T.81, B.2,
 // Annex K, JFIF 1.02).
-use jpg_base::{Bytes, Counts, Desk, MemoryDesk, Name, NoMemory};
-use jpg_cli::{Ended, run};
-use jpg_spec::{Fault, FaultAt, Usage, UsageFault, Which, Why};
+use jpg_base::{Bytes, Desk, MemoryDesk, NoMemory};
+use jpg_cli::Ended;
+use jpg_run_parts::{
+    changed, desk_with, no_failures, ran, refused_at, smallest, strings, usage_at, written,
+};
+use jpg_spec::{Fault, UsageFault, Which, Why};
 use std::alloc::Global;
 use std::test::Fail;
 
 mod comments;
 mod inserted;
-mod progressive;
 mod refused;
-mod shown;
 mod transformed;
 mod turned;
 mod words;
 
 static FLIP: [&str; 3] = ["jpegtran", "-flip", "horizontal"];
-
-// The smallest gray file, of 8 by 8. Its segments begin at 2 (JFIF), 20 (DQT, with its quantisers
-// from 25), 89 (SOF0, with its height from 94 and its width from 96), 102 (DHT of K.3), 135 (DHT of
-// K.5) and 318 (SOS); its data are byte 328.
-static SMALLEST: [u8; 331] = [
-    0xff, 0xd8, 0xff, 0xe0, 0x00, 0x10, 0x4a, 0x46, 0x49, 0x46, 0x00, 0x01, 0x01, 0x00, 0x00, 0x01,
-    0x00, 0x01, 0x00, 0x00, 0xff, 0xdb, 0x00, 0x43, 0x00, 0x01, 0x01, 0x01, 0x01, 0x01, 0x01, 0x01,
-    0x01, 0x01, 0x01, 0x01, 0x01, 0x01, 0x01, 0x01, 0x01, 0x01, 0x01, 0x01, 0x01, 0x01, 0x01, 0x01,
-    0x01, 0x01, 0x01, 0x01, 0x01, 0x01, 0x01, 0x01, 0x01, 0x01, 0x01, 0x01, 0x01, 0x01, 0x01, 0x01,
-    0x01, 0x01, 0x01, 0x01, 0x01, 0x01, 0x01, 0x01, 0x01, 0x01, 0x01, 0x01, 0x01, 0x01, 0x01, 0x01,
-    0x01, 0x01, 0x01, 0x01, 0x01, 0x01, 0x01, 0x01, 0x01, 0xff, 0xc0, 0x00, 0x0b, 0x08, 0x00, 0x08,
-    0x00, 0x08, 0x01, 0x01, 0x11, 0x00, 0xff, 0xc4, 0x00, 0x1f, 0x00, 0x00, 0x01, 0x05, 0x01, 0x01,
-    0x01, 0x01, 0x01, 0x01, 0x00, 0x00, 0x00, 0x00, 0x00, 0x00, 0x00, 0x00, 0x01, 0x02, 0x03, 0x04,
-    0x05, 0x06, 0x07, 0x08, 0x09, 0x0a, 0x0b, 0xff, 0xc4, 0x00, 0xb5, 0x10, 0x00, 0x02, 0x01, 0x03,
-    0x03, 0x02, 0x04, 0x03, 0x05, 0x05, 0x04, 0x04, 0x00, 0x00, 0x01, 0x7d, 0x01, 0x02, 0x03, 0x00,
-    0x04, 0x11, 0x05, 0x12, 0x21, 0x31, 0x41, 0x06, 0x13, 0x51, 0x61, 0x07, 0x22, 0x71, 0x14, 0x32,
-    0x81, 0x91, 0xa1, 0x08, 0x23, 0x42, 0xb1, 0xc1, 0x15, 0x52, 0xd1, 0xf0, 0x24, 0x33, 0x62, 0x72,
-    0x82, 0x09, 0x0a, 0x16, 0x17, 0x18, 0x19, 0x1a, 0x25, 0x26, 0x27, 0x28, 0x29, 0x2a, 0x34, 0x35,
-    0x36, 0x37, 0x38, 0x39, 0x3a, 0x43, 0x44, 0x45, 0x46, 0x47, 0x48, 0x49, 0x4a, 0x53, 0x54, 0x55,
-    0x56, 0x57, 0x58, 0x59, 0x5a, 0x63, 0x64, 0x65, 0x66, 0x67, 0x68, 0x69, 0x6a, 0x73, 0x74, 0x75,
-    0x76, 0x77, 0x78, 0x79, 0x7a, 0x83, 0x84, 0x85, 0x86, 0x87, 0x88, 0x89, 0x8a, 0x92, 0x93, 0x94,
-    0x95, 0x96, 0x97, 0x98, 0x99, 0x9a, 0xa2, 0xa3, 0xa4, 0xa5, 0xa6, 0xa7, 0xa8, 0xa9, 0xaa, 0xb2,
-    0xb3, 0xb4, 0xb5, 0xb6, 0xb7, 0xb8, 0xb9, 0xba, 0xc2, 0xc3, 0xc4, 0xc5, 0xc6, 0xc7, 0xc8, 0xc9,
-    0xca, 0xd2, 0xd3, 0xd4, 0xd5, 0xd6, 0xd7, 0xd8, 0xd9, 0xda, 0xe1, 0xe2, 0xe3, 0xe4, 0xe5, 0xe6,
-    0xe7, 0xe8, 0xe9, 0xea, 0xf1, 0xf2, 0xf3, 0xf4, 0xf5, 0xf6, 0xf7, 0xf8, 0xf9, 0xfa, 0xff, 0xda,
-    0x00, 0x08, 0x01, 0x01, 0x00, 0x00, 0x3f, 0x00, 0x2b, 0xff, 0xd9,
-];
 
 // Quantisers of which each is another.
 static OTHERS: [u8; 64] = [
@@ -51,83 +25,8 @@ static OTHERS: [u8; 64] = [
     51, 52, 53, 54, 55, 56, 57, 58, 59, 60, 61, 62, 63, 255,
 ];
 
-// What stands in place of a part of a file: from which byte, up to which byte, and its bytes.
-type Change = (usize, usize, &'static [u8]);
-
-// The smallest file with these changes, which come in order.
-fn changed(alloc: Global, changes: &[Change]) -> Result<Bytes, NoMemory> {
-    let mut file = Bytes::new(alloc);
-    let mut done = 0;
-    for (from, to, bytes) in changes {
-        if let Some(kept) = SMALLEST.get(done..*from) {
-            file.push_all(kept)?;
-        }
-        file.push_all(bytes)?;
-        done = *to;
-    }
-    if let Some(kept) = SMALLEST.get(done..) {
-        file.push_all(kept)?;
-    }
-    Ok(file)
-}
-
-fn strings(alloc: Global, words: &[&str]) -> Result<Vec<String>, NoMemory> {
-    let mut list = Vec::new(alloc);
-    for word in words {
-        let Ok(text) = String::from_str(alloc, word) else {
-            return Err(NoMemory);
-        };
-        let Ok(()) = list.push(text) else {
-            return Err(NoMemory);
-        };
-    }
-    Ok(list)
-}
-
-// A desk with this input, which gives at most `piece` bytes a read, and 1 where that is 0.
-fn desk_with(alloc: Global, input: &[u8], piece: u32) -> Result<MemoryDesk, NoMemory> {
-    let mut desk = MemoryDesk::new(alloc, piece.max(1));
-    desk.add_file(&Name::In, input)?;
-    Ok(desk)
-}
-
-// The bytes of the only output.
-fn written(desk: &MemoryDesk) -> Option<&[u8]> {
-    if desk.outputs() == 1 {
-        Some(desk.output(0))
-    } else {
-        None
-    }
-}
-
-// A run without ends of images.
-fn ran(alloc: Global, words: &[String], desk: &mut MemoryDesk) -> Ended {
-    run(alloc, words, desk, Vec::new(alloc))
-}
-
-fn refused_at(fault: Fault, at: u64) -> Why {
-    Why::Refused(FaultAt { fault, at })
-}
-
 fn not_built(at: u64) -> Why {
     refused_at(Fault::NotBuilt, at)
-}
-
-fn no_failures() -> Counts {
-    Counts {
-        opens: 0,
-        reads: 0,
-        writes: 0,
-        says: 0,
-    }
-}
-
-fn usage(fault: UsageFault) -> Why {
-    usage_at(fault, 0)
-}
-
-fn usage_at(fault: UsageFault, word: u64) -> Why {
-    Why::Usage(Usage { fault, word })
 }
 
 // There is no input, so that an open would fail and raise its count.
@@ -136,12 +35,12 @@ fn other_words_open_nothing(rt: HostRuntime) -> Result<(), Fail> {
     let rows: [(&[&str], Why, &str); 6] = [
         (
             &[],
-            usage(UsageFault::NoTool),
+            usage_at(UsageFault::NoTool, 0),
             "jpgsuite: usage: NoTool at word 0\n",
         ),
         (
             &["frob"],
-            usage(UsageFault::UnknownTool),
+            usage_at(UsageFault::UnknownTool, 0),
             "jpgsuite: usage: UnknownTool at word 0\n",
         ),
         (
@@ -213,8 +112,8 @@ fn failing_calls_end_the_run(rt: HostRuntime) -> Result<(), Fail> {
         (5, 1, Why::WriteFault, 1, "jpegtran: can't write output\n"),
         (6, 0, Why::Done, 1, ""),
     ];
-    for (call, code, why, outputs, message) in rows {
-        let mut desk = desk_with(rt.alloc(), &SMALLEST, 200)?;
+    for &(call, code, why, outputs, message) in rows.iter() {
+        let mut desk = desk_with(rt.alloc(), smallest(), 200)?;
         desk.fail(call)?;
         let ended = ran(rt.alloc(), flip.as_slice(), &mut desk);
         assert_eq!(rt; ended, Ended { code, why }, "at call {call}");
@@ -222,7 +121,7 @@ fn failing_calls_end_the_run(rt: HostRuntime) -> Result<(), Fail> {
         assert_eq!(rt; desk.said(), message.as_bytes(), "at call {call}");
         // the file turned is the same
         if let Some(bytes) = written(&desk) {
-            assert!(rt; SMALLEST.starts_with(bytes), "at call {call}");
+            assert!(rt; smallest().starts_with(bytes), "at call {call}");
             assert_eq!(rt; bytes.len() < 331, call == 5, "at call {call}");
         }
     }
@@ -236,7 +135,7 @@ fn a_failing_message_changes_nothing(rt: HostRuntime) -> Result<(), Fail> {
     let mut desk = MemoryDesk::new(rt.alloc(), 1);
     desk.fail(1)?;
     let ended = ran(rt.alloc(), frob.as_slice(), &mut desk);
-    let why = usage(UsageFault::UnknownTool);
+    let why = usage_at(UsageFault::UnknownTool, 0);
     assert_eq!(rt; ended, Ended { code: 1, why });
     assert!(rt; b"jpgsuite: usage: UnknownTool at word 0\n".starts_with(desk.said()));
     assert_eq!(rt; desk.counts().says, 1);

@@ -1,1 +1,10 @@
+pub mod Checks
 pub mod Histories
+pub mod OneScript
+pub mod ReadTexts
+pub mod ScriptFronts
+pub mod ScriptRest
+pub mod ScriptRuns
+pub mod TextFronts
+pub mod TextRuns
+pub mod Unknown

@@ -1,9 +1,12 @@
 -- The history of scans, and what it stands for (T.81 B.2.3, G.1.1.1).
-use Rattle.std.specs.Prelude.{◌≡◌, ℕ, ◌<◌, Bool, None, Some, List, ◌∷◌, length, slice_index_or, Option, Result, Ok, Err}
+use Rattle.std.specs.Prelude.{◌≡◌, ℕ, ◌<◌, Bool, not, find, flat_map, map, drop, option_map, None, Some, List, ◌∷◌, length, slice_index_or, Option, Result, Ok, Err}
 use Rattle.jpg_spec.specs.Geometry.{Frame, is_progressive}
-use Rattle.jpg_spec.specs.History.{has_begun, known_to, order_fault}
+use Rattle.jpg_spec.specs.History.{has_begun, known_to, is_known_to, order_fault}
+use Rattle.jpg_spec.specs.Lists.{below}
 use Rattle.jpg_spec.specs.Segments.{ScanHead}
 use Rattle.jpg_spec.specs.declared.fault.Fault.{Fault}
+use Rattle.jpg_spec.specs.declared.transform.PictureFault.{PictureFault}
+use Rattle.jpg_spec.specs.declared.transform.PictureFault.TheVariants.{ScriptIncomplete}
 use Rattle.jpg_scans.specs.declared.progress.Progress.{Progress}
 use Rattle.jpg_scans.specs.declared.sent.Sent.{Sent}
 use Rattle.jpg_scans.specs.Sent.{known_in, nothing_sent}
@@ -34,3 +37,9 @@ IsJudged f heads head (Err fault) new = order_fault f heads head ≡ Some fault
 -- whatever scans of whatever frame there were
 abbrev pub Admits : Progress → ScanHead → Result (Unit {0}) Fault → Progress → Type 0
 Admits old head answer new = (f : Frame) (heads : List ScanHead) → StandsForScans old f heads → IsJudged f heads head answer new
+
+-- the first coefficient that isn't known down to bit 0, of n components from component i on
+unfoldable pub unknown_from : Progress → ℕ → ℕ → Option PictureFault
+unknown_from p n i =
+    option_map (λ (c : ℕ × ℕ). ScriptIncomplete c.0 c.1 (known_at p c.0 c.1))
+    (find (λ (c : ℕ × ℕ). not (is_known_to (known_at p c.0 c.1) 0)) (flat_map (λ i. map (λ k. (i, k)) (below 64)) (drop i (below n))))

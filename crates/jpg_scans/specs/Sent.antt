@@ -1,5 +1,5 @@
 -- What was sent of a component (T.81 G.1.1.1).
-use Rattle.std.specs.Prelude.{◌≡◌, ℕ, ◌<◌, Bool, true, false, replicate, nat_le, not, ◌&&◌, ◌||◌, ◌==◌, if◌then◌else◌, Option, None, Some, is_some, is_none, slice_index_or}
+use Rattle.std.specs.Prelude.{◌≡◌, ℕ, ◌<◌, Bool, true, false, replicate, find, drop, nat_le, not, ◌&&◌, ◌||◌, ◌==◌, if◌then◌else◌, Option, None, Some, is_some, is_none, slice_index_or}
 use Rattle.jpg_spec.specs.History.{is_known_to}
 use Rattle.jpg_spec.specs.Lists.{all_of, below}
 use Rattle.jpg_spec.specs.Segments.{ScanHead}
@@ -12,6 +12,14 @@ nothing_sent = record { is_begun = false; known = replicate 64 None }
 -- the bit down to which a coefficient is known
 abbrev pub known_in : Sent → ℕ → Option ℕ
 known_in s k = slice_index_or s.known k None
+
+-- a coefficient that isn't known down to bit 0
+abbrev pub is_unknown : Sent → ℕ → Bool
+is_unknown s k = not (is_known_to (known_in s k) 0)
+
+-- the first of those from coefficient k on
+unfoldable pub first_unknown : Sent → ℕ → Option ℕ
+first_unknown s k = find (is_unknown s) (drop k (below 64))
 
 -- whether the band of a scan has a coefficient
 abbrev pub has_in_band : ScanHead → ℕ → Bool

@@ -1,12 +1,15 @@
 // The scans of a file so far, and which may follow (T.81 B.2.3, G.1.1.1).
-ghost use Rattle.std.specs.Prelude.{◌≡◌, ◌<◌, ◌≤◌, ℕ, [], ◌∷◌, All, OnErr, List, length};
+ghost use Rattle.std.specs.Prelude.{◌≡◌, ◌<◌, ◌≤◌, ℕ, [], ◌∷◌, All, OnErr, List, length, option_map};
 ghost use Rattle.jpg_spec.specs.Geometry.{Frame as Numbers, is_progressive};
 ghost use Rattle.jpg_spec.specs.History.{has_begun, order_fault};
 ghost use Rattle.jpg_spec.specs.Lists.{all_of, any_of, below};
+ghost use Rattle.jpg_spec.specs.ScriptFaults.{incomplete};
+ghost use Rattle.jpg_spec.specs.declared.transform.PictureFault.TheVariants.{ScriptIncomplete};
 ghost use Rattle.jpg_spec.specs.Segments.{ScanHead as Head, head_components};
 
 use crate::sent::Sent;
 use jpg_base::{Fault, Frame, Process, ScanHead};
+use jpg_spec::PictureFault;
 
 /// The history of the scans of a file: of each component whether it was in a scan, and of each of its
 /// coefficients the bit down to which it is known.
@@ -19,8 +22,8 @@ pub struct Progress {
 }
 
 impl Progress {
-    ghost use Rattle.jpg_scans.specs.Progress.{begun_at, sent_of, Admits, StandsForScans};
-    ghost use Rattle.jpg_scans.specs.Sent.{is_next_in};
+    ghost use Rattle.jpg_scans.specs.Progress.{begun_at, known_at, sent_of, Admits, StandsForScans};
+    ghost use Rattle.jpg_scans.specs.Sent.{first_unknown, is_next_in};
 
     /// The history of a file of this frame before its first scan.
     pub fn new(frame: &Frame) -> Progress
@@ -88,6 +91,37 @@ impl Progress {
             all = all && self.components[i as usize].is_begun;
         }
         all
+    }
+
+    /// The first coefficient that isn't known down to bit 0, component by component in zigzag order, as a script's
+    /// check shows it.
+    #[tactic(auto, using(crate::proofs::Unknown::next_component, crate::proofs::Unknown::no_component, crate::proofs::Unknown::incomplete_is))]
+    pub fn first_unknown(&self) -> Option<PictureFault>
+        ensures { (f : Numbers) (heads : List Head) → StandsForScans self.now f heads → result ≡ incomplete f heads }
+    {
+        for i in 0..self.count {
+            let fault = self.unknown_of(i);
+            if fault.is_some() {
+                return fault;
+            }
+        }
+        None
+    }
+
+    // The first of component `i`.
+    fn unknown_of(&self, i: u8) -> Option<PictureFault>
+        requires { i < 4 }
+        ensures { result ≡ option_map (λ k. ScriptIncomplete i k (known_at self.now i k)) (first_unknown (sent_of self.now i) 0) }
+    {
+        let sent = &self.components[i as usize];
+        match sent.first_unknown() {
+            None => None,
+            Some(coefficient) => Some(PictureFault::ScriptIncomplete {
+                component: i,
+                coefficient,
+                bit: sent.known[coefficient as usize],
+            }),
+        }
     }
 
     // Whether one of a scan's components was in a scan.

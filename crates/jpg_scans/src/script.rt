@@ -1,12 +1,17 @@
 // Scan scripts.
-ghost use Rattle.std.specs.Prelude.{◌≡◌, ◌<◌, ◌≤◌, [], ◌∷◌, length, map, slice_get, Some};
-ghost use Rattle.jpg_spec.specs.Geometry.{factor_sum};
-ghost use Rattle.jpg_spec.specs.Lists.{below};
-ghost use Rattle.jpg_spec.specs.Script.{sequential_script, is_progressive_script, all_components};
+ghost use Rattle.std.specs.Prelude.{◌≡◌, ◌<◌, ◌≤◌, length, slice_get, Some};
+ghost use Rattle.jpg_spec.specs.Script.{sequential_script, is_progressive_script};
+ghost use Rattle.jpg_spec.specs.ScriptGrammar.{TellsScript};
+ghost use Rattle.jpg_scans.specs.Judged.{judged};
+ghost use Rattle.jpg_spec.specs.ScriptFaults.{script_fault, standard_script, three_colours_script, any_colours_script};
 
 use crate::Entry;
+use crate::check::fault_of;
+use crate::own::{Band, push_all, push_each, push_one};
+use crate::text_reader::{read, wrong_at};
 use arrayvec::ArrayVec;
-use jpg_base::Frame;
+use jpg_base::{Colour, FaultAt, Frame};
+use jpg_spec::PictureFault;
 use std::marker::Model;
 
 /// The scans that a file is written in: 1 to 100 entries.
@@ -27,19 +32,55 @@ impl Model for Script {
 }
 
 impl Script {
+    /// The script that a text tells, as files of scripts have it (the manual's wizard.txt): 1 to 100 entries of one to four
+    /// components, and perhaps a colon and Ss, Se, Ah and Al, with semicolons between. Or ScriptText at the first byte that no
+    /// such text has there, at the text's end where it ends too early, or at 65537 where it is longer than 65536 bytes.
+    pub fn parse(text: &[u8]) -> Result<Script, FaultAt>
+        ensures { TellsScript text.now result }
+    {
+        match read(text) {
+            Err(fault) => Err(fault),
+            Ok(reader) => match reader.end() {
+                None => Err(wrong_at(text.len() as u64)),
+                Some(entries) => Ok(Script { entries }),
+            },
+        }
+    }
+
     /// One scan of all components, or one of each where they are several and an MCU of all would have
     /// more than ten blocks (T.81, B.2.3).
     pub fn sequential(frame: &Frame) -> Script
         ensures { result ≡ sequential_script frame.now }
     {
-        frame.checked();
-        let count = frame.count();
-        let entries = if count > 1 && factor_sum_of_all(frame) > 10 {
-            one_of_each(count)
-        } else {
-            one_of_all(count)
+        let mut entries = ArrayVec::new();
+        push_all(&mut entries, frame, Band::new(0, 63, 0, 0));
+        Script { entries }
+    }
+
+    /// The scans of `-progressive`: DC down to bit 1 and then the low and the high AC down to bit 2, each known
+    /// whole in the end. Of YCbCr these are the ten scans of release 6b, which send all AC of the colours at once.
+    pub fn standard(frame: &Frame, colour: Colour) -> Script
+        ensures { result ≡ standard_script frame.now colour }
+    {
+        let entries = match colour {
+            Colour::YCbCr => three_colours(frame),
+            _ => any_colours(frame),
         };
         Script { entries }
+    }
+
+    /// Whether files of this frame may be written in it, or else its first fault, entry by entry: ScriptComponent (a component
+    /// that isn't in the frame, or they don't ascend), ScriptMcu (several of more than ten blocks an MCU), ScriptBand (the band,
+    /// Ah or Al may not stand there, or a sequential scan isn't one of all coefficients or repeats a component); and at the end
+    /// ScriptIncomplete with the first coefficient that isn't known down to bit 0. Its first entry tells whether it is progressive.
+    #[tactic(auto, unfolding(jpg_spec::specs::ScriptFaults::script_fault))]
+    pub fn check(&self, frame: &Frame) -> Result<(), PictureFault>
+        ensures { result ≡ judged (script_fault frame.now self.now) }
+    {
+        match fault_of(self.entries.as_slice(), self.progressive(), frame) {
+            None => Ok(()),
+            Some(fault) => Err(fault),
+        }
     }
 
     /// How many entries it has.
@@ -70,55 +111,35 @@ impl Script {
     }
 }
 
-// The blocks of an MCU of all components.
-fn factor_sum_of_all(frame: &Frame) -> u32
-    requires { length frame.now.components ≤ 4 }
-    ensures { result ≡ factor_sum frame.now (all_components frame.now) }
+// Of the colours all AC at once.
+fn three_colours(frame: &Frame) -> ArrayVec<Entry, 100>
+    ensures items { result.items ≡ three_colours_script frame.now }
+    ensures some { 1 ≤ length result.items }
 {
-    frame.checked();
-    let mut sum = 0;
-    for i in 0..frame.count() {
-        let component = frame.component(i);
-        sum += u32::from(component.h) * u32::from(component.v);
-    }
-    sum
-}
-
-// A sequential scan of these components.
-fn sequential_entry(components: ArrayVec<u8, 4>) -> Entry
-    ensures { result ≡ record { components = components.items; ss = 0; se = 63; ah = 0; al = 0 } }
-{
-    Entry {
-        components,
-        ss: 0,
-        se: 63,
-        ah: 0,
-        al: 0,
-    }
-}
-
-fn one_of_all(count: u8) -> ArrayVec<Entry, 100>
-    requires { count ≤ 4 }
-    ensures { result.items ≡ record { components = below count; ss = 0; se = 63; ah = 0; al = 0 } ∷ [] }
-{
-    let mut components = ArrayVec::new();
-    for i in 0..count {
-        components.push(i);
-    }
     let mut entries = ArrayVec::new();
-    entries.push(sequential_entry(components));
+    push_all(&mut entries, frame, Band::new(0, 0, 0, 1));
+    push_one(&mut entries, 0, Band::new(1, 5, 0, 2));
+    push_one(&mut entries, 2, Band::new(1, 63, 0, 1));
+    push_one(&mut entries, 1, Band::new(1, 63, 0, 1));
+    push_one(&mut entries, 0, Band::new(6, 63, 0, 2));
+    push_one(&mut entries, 0, Band::new(1, 63, 2, 1));
+    push_all(&mut entries, frame, Band::new(0, 0, 1, 0));
+    push_one(&mut entries, 2, Band::new(1, 63, 1, 0));
+    push_one(&mut entries, 1, Band::new(1, 63, 1, 0));
+    push_one(&mut entries, 0, Band::new(1, 63, 1, 0));
     entries
 }
 
-fn one_of_each(count: u8) -> ArrayVec<Entry, 100>
-    requires { count ≤ 4 }
-    ensures { result.items ≡ map (λ i. record { components = i ∷ []; ss = 0; se = 63; ah = 0; al = 0 }) (below count) }
+fn any_colours(frame: &Frame) -> ArrayVec<Entry, 100>
+    ensures items { result.items ≡ any_colours_script frame.now }
+    ensures some { 1 ≤ length result.items }
 {
     let mut entries = ArrayVec::new();
-    for i in 0..count {
-        let mut components = ArrayVec::new();
-        components.push(i);
-        entries.push(sequential_entry(components));
-    }
+    push_all(&mut entries, frame, Band::new(0, 0, 0, 1));
+    push_each(&mut entries, frame, Band::new(1, 5, 0, 2));
+    push_each(&mut entries, frame, Band::new(6, 63, 0, 2));
+    push_each(&mut entries, frame, Band::new(1, 63, 2, 1));
+    push_all(&mut entries, frame, Band::new(0, 0, 1, 0));
+    push_each(&mut entries, frame, Band::new(1, 63, 1, 0));
     entries
 }

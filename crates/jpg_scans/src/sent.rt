@@ -1,6 +1,7 @@
 // What was sent of a component (T.81 G.1.1.1).
-ghost use Rattle.std.specs.Prelude.{◌≡◌};
-ghost use Rattle.jpg_scans.specs.Sent.{is_due, are_due, is_next_in, nothing_sent, IsNoted};
+ghost use Rattle.std.specs.Prelude.{◌≡◌, ◌<◌, IfSome};
+ghost use Rattle.jpg_spec.specs.History.{is_known_to};
+ghost use Rattle.jpg_scans.specs.Sent.{first_unknown, is_due, are_due, is_next_in, nothing_sent, IsNoted};
 
 use jpg_base::ScanHead;
 
@@ -42,6 +43,20 @@ impl Sent {
         all
     }
 
+    // The first coefficient that isn't known down to bit 0.
+    #[tactic(auto, using(crate::proofs::Unknown::next_unknown, crate::proofs::Unknown::end_unknown))]
+    pub fn first_unknown(&self) -> Option<u8>
+        ensures value { result ≡ first_unknown self.now 0 }
+        ensures low { IfSome result (λ k. k < 64) }
+    {
+        for k in 0..64u8 {
+            if !is_whole(self.known[k as usize]) {
+                return Some(k);
+            }
+        }
+        None
+    }
+
     // One more scan of it.
     pub fn note(&mut self, head: &ScanHead)
         ensures { IsNoted self.old head.now self.new }
@@ -62,5 +77,15 @@ fn is_due(ah: u8, known: Option<u8>) -> bool
     match known {
         None => ah == 0,
         Some(bit) => ah != 0 && bit == ah,
+    }
+}
+
+// Known down to bit 0.
+fn is_whole(known: Option<u8>) -> bool
+    ensures { result ≡ is_known_to known 0 }
+{
+    match known {
+        None => false,
+        Some(bit) => bit == 0,
     }
 }

@@ -9,6 +9,7 @@ pub mod BlockLaws
 pub mod Excludes
 pub mod ExtraBits
 pub mod Facts
+pub mod FaultlessScripts
 pub mod FaultsOnce
 pub mod FileLaws
 pub mod FileLength
@@ -77,6 +78,7 @@ pub mod ScanLength
 pub mod ScanSteps
 pub mod ScansExclude
 pub mod ScansOnce
+pub mod ScriptGrids
 pub mod Sequential
 pub mod Shifts
 pub mod BeforeScans
@@ -88,6 +90,7 @@ pub mod Sound
 pub mod Strings
 pub mod TablesInForce
 pub mod TailsOnce
+pub mod StandardScripts
 pub mod Strips
 pub mod Told
 pub mod Transforming

@@ -46,6 +46,10 @@ pub mod ScanFaults
 pub mod ScanReading
 pub mod ScanText
 pub mod Script
+pub mod ScriptExamples
+pub mod ScriptFaults
+pub mod ScriptGrammar
+pub mod ScriptLaws
 pub mod Segments
 pub mod Sending
 pub mod ShowWords

@@ -16,6 +16,8 @@ pub mod laws;
 pub mod marker_examples;
 pub mod marker_laws;
 pub mod pixel_examples;
+pub mod script_examples;
+pub mod script_laws;
 pub mod shown_laws;
 pub mod strip_laws;
 mod switch;

@@ -17,6 +17,7 @@ use Rattle.jpg_spec.specs.declared.frame.Process.TheVariants.{Baseline, Extended
 use Rattle.jpg_spec.specs.declared.transform.PictureFault.{PictureFault}
 use Rattle.jpg_markers.specs.declared.writing.head.OutHead.{OutHead}
 use Rattle.jpg_file.specs.PictureRead.{picture_meaning}
+use Rattle.jpg_file.specs.Restarts.{restart_of}
 use Rattle.jpg_file.specs.declared.picture.Picture.{Picture}
 use Rattle.jpg_transform.specs.declared.choice.Choice.{Choice as Asked}
 use Rattle.jpg_transform.specs.declared.choice.Job.{Job}
@@ -66,6 +67,7 @@ pub record IsJobFor (p : Picture) (choice : Choice) (job : Job) : Type 0 where
   pub admitted : gray_fault choice.gray (picture_meaning p) ≡ None
   pub head : IsOutHeadOf choice p job.plan.out
   pub script : job.plan.script ≡ sequential_script job.plan.out.frame
+  pub restart : restart_of job.plan.restart ≡ choice.restart
   pub transform : job.transform ≡ choice.transform
   pub gray : job.gray ≡ choice.gray
 

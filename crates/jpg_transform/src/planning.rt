@@ -10,7 +10,7 @@ use crate::table::transposes;
 use crate::{Choice, Job};
 use arrayvec::ArrayVec;
 use jpg_base::{Frame, QuantTable};
-use jpg_file::{Picture, Plan};
+use jpg_file::{Picture, Plan, Restart};
 use jpg_markers::{OutHead, is_wide};
 use jpg_scans::Script;
 use jpg_spec::{Colour, PictureFault, Process};
@@ -28,7 +28,11 @@ pub fn plan(picture: &Picture, choice: &Choice) -> Result<Job, PictureFault>
     let out = head_of(picture, choice);
     let script = Script::sequential(&out.frame);
     Ok(Job {
-        plan: Plan { out, script },
+        plan: Plan {
+            out,
+            script,
+            restart: Restart::Off,
+        },
         transform: choice.transform,
         gray: choice.gray,
     })

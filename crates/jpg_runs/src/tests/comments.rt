@@ -1,7 +1,7 @@
 // Runs of rdjpgcom over a desk in memory (T.81, B.2.4.5, its manual in release 6b).
-use super::{ran, refused_at, strings};
 use jpg_base::{MemoryDesk, Name, NoMemory, Text};
 use jpg_cli::Ended;
+use jpg_run_parts::{ran, refused_at, strings};
 use jpg_spec::{Fault, Which, Why};
 use std::alloc::Global;
 use std::test::Fail;
@@ -105,7 +105,7 @@ fn failing_calls_end_the_printing(rt: HostRuntime) -> Result<(), Fail> {
         (7, 1, Why::ReadFault(Which::Input), 1, 8),
         (8, 0, Why::Done, 1, 8),
     ];
-    for (call, code, why, outputs, most) in rows {
+    for &(call, code, why, outputs, most) in rows.iter() {
         let mut desk = desk_with(rt.alloc(), FILE, 9)?;
         desk.fail(call)?;
         let ended = ran(rt.alloc(), rdjpgcom.as_slice(), &mut desk);

@@ -1,7 +1,7 @@
 // Runs of wrjpgcom over a desk in memory (T.81, B.2.4.5, its manual in release 6b).
-use super::{Change, changed, ran, refused_at, strings, usage_at};
 use jpg_base::{Bytes, MemoryDesk, Name, NoMemory, Text};
 use jpg_cli::Ended;
+use jpg_run_parts::{Change, changed, ran, refused_at, strings, usage_at};
 use jpg_spec::{Fault, UsageFault, Which, Why};
 use std::alloc::Global;
 use std::test::Fail;
@@ -72,7 +72,7 @@ fn the_smallest_file_gains_a_comment(rt: HostRuntime) -> Result<(), Fail> {
         ("hi", &[], &[(89, 89, b"\xff\xfe\x00\x04hi")]),
         ("", &[(2, 2, b"\xff")], &[]),
     ];
-    for (comment, input, text) in rows {
+    for &(comment, input, text) in rows.iter() {
         let words = strings(rt.alloc(), &["wrjpgcom", "-comment", comment])?;
         let input = changed(rt.alloc(), input)?;
         let text = changed(rt.alloc(), text)?;
@@ -151,7 +151,7 @@ fn long_comments_are_judged_before_the_input(rt: HostRuntime) -> Result<(), Fail
         (65_001, refused_at(Fault::CommentTooLong, 65_001)),
         (65_002, refused_at(Fault::CommentTooLong, 65_001)),
     ];
-    for (length, why) in rows {
+    for &(length, why) in rows.iter() {
         let mut comment = Bytes::new(rt.alloc());
         for _ in 0..length {
             comment.push_all(b"c")?;
@@ -186,7 +186,7 @@ fn failing_calls_end_the_insertion(rt: HostRuntime) -> Result<(), Fail> {
         (12, 1, Why::ReadFault(Which::Input), 1, 35),
         (13, 0, Why::Done, 1, 35),
     ];
-    for (call, code, why, outputs, most) in rows {
+    for &(call, code, why, outputs, most) in rows.iter() {
         let mut desk = desk_with(rt.alloc(), b"", 9)?;
         desk.fail(call)?;
         let ended = ran(rt.alloc(), words.as_slice(), &mut desk);

@@ -1,7 +1,8 @@
 // Files that are refused, each with its first fault, or as not built yet.
-use super::{Change, FLIP, SMALLEST, changed, desk_with, ran, strings};
+use super::FLIP;
 use jpg_base::Desk;
 use jpg_cli::Ended;
+use jpg_run_parts::{Change, changed, desk_with, ran, smallest, strings};
 use jpg_spec::{Fault, FaultAt, Why};
 use std::test::Fail;
 
@@ -184,11 +185,11 @@ fn is_refused(rt: HostRuntime, changes: &[Change], fault: FaultAt) -> Result<boo
 
 #[test]
 fn other_files_are_refused(rt: HostRuntime) -> Result<(), Fail> {
-    for (changes, fault, at) in HEADERS {
+    for &(changes, fault, at) in HEADERS.iter() {
         let due = FaultAt { fault, at };
         assert!(rt; is_refused(rt, changes, due)?, "{changes:?}");
     }
-    for (changes, fault, at) in SCANS {
+    for &(changes, fault, at) in SCANS.iter() {
         let due = FaultAt { fault, at };
         assert!(rt; is_refused(rt, changes, due)?, "{changes:?}");
     }
@@ -203,8 +204,8 @@ fn messages_name_the_fault(rt: HostRuntime) -> Result<(), Fail> {
         (327, b"jpegtran: refused: Truncated at byte 327\n"),
         (330, b"jpegtran: refused: Truncated at byte 330\n"),
     ];
-    for (length, message) in rows {
-        let input = SMALLEST.get(..length).ok_or("a shorter length")?;
+    for &(length, message) in rows.iter() {
+        let input = smallest().get(..length).ok_or("a shorter length")?;
         let mut desk = desk_with(rt.alloc(), input, 100)?;
         let ended = ran(rt.alloc(), flip.as_slice(), &mut desk);
         assert_eq!(rt; ended.code, 1, "of {length}");

@@ -1,8 +1,9 @@
 // Pictures moved in all ways, with what the files that are due have: their lengths, and sums that tell them apart. Another
 // program gave these.
-use super::{Change, changed, desk_with, ran, strings, sum, written};
+use super::sum;
 use jpg_base::{Bytes, Desk, MemoryDesk, Name, NoMemory, Text};
 use jpg_cli::Ended;
+use jpg_run_parts::{Change, changed, desk_with, ran, strings, written};
 use jpg_spec::{PictureFault, Which, Why};
 use std::alloc::Global;
 use std::test::Fail;
@@ -184,7 +185,7 @@ static ROWS: [(&str, &[&str], usize, u32); 25] = [
 
 #[test]
 fn pictures_are_moved(rt: HostRuntime) -> Result<(), Fail> {
-    for (file, words, length, due) in ROWS {
+    for &(file, words, length, due) in ROWS.iter() {
         let input = changed(rt.alloc(), file_of(file))?;
         let list = strings(rt.alloc(), words)?;
         let mut desk = desk_with(rt.alloc(), input.as_slice(), 100)?;
@@ -214,7 +215,7 @@ fn other_pictures_are_not_grayed(rt: HostRuntime) -> Result<(), Fail> {
         ),
     ];
     let words = strings(rt.alloc(), &["jpegtran", "-flip", "h", "-gray"])?;
-    for (file, fault, message) in rows {
+    for &(file, fault, message) in rows.iter() {
         let input = changed(rt.alloc(), file)?;
         let mut desk = desk_with(rt.alloc(), input.as_slice(), 65536)?;
         let ended = ran(rt.alloc(), words.as_slice(), &mut desk);
@@ -311,7 +312,7 @@ fn pictures_of_a_camera_are_moved(rt: HostRuntime) -> Result<(), Fail> {
         ),
     ];
     let input = of_a_camera(rt.alloc())?;
-    for (words, length, due) in rows {
+    for &(words, length, due) in rows.iter() {
         let list = strings(rt.alloc(), words)?;
         let mut desk = desk_with(rt.alloc(), input.as_slice(), 65536)?;
         assert_eq!(rt;

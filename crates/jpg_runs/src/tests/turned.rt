@@ -1,7 +1,8 @@
 // Files that are turned, with the files that are due.
-use super::{Change, FLIP, changed, desk_with, ran, strings, written};
+use super::FLIP;
 use jpg_base::{Bytes, Desk, NoMemory};
 use jpg_cli::Ended;
+use jpg_run_parts::{Change, changed, desk_with, ran, strings, written};
 use jpg_spec::Why;
 use std::alloc::Global;
 use std::test::Fail;
@@ -349,7 +350,7 @@ fn is_turned(rt: HostRuntime, input: &[u8], output: &[u8], piece: u32) -> Result
 
 #[test]
 fn files_are_turned(rt: HostRuntime) -> Result<(), Fail> {
-    for (input, output) in ROWS {
+    for &(input, output) in ROWS.iter() {
         let file = changed(rt.alloc(), input)?;
         let due = changed(rt.alloc(), output)?;
         for piece in [1, 3, 65536] {
@@ -439,7 +440,7 @@ static DATA: [Row; 16] = [
 
 #[test]
 fn data_are_turned(rt: HostRuntime) -> Result<(), Fail> {
-    for (width, data, due) in DATA {
+    for &(width, data, due) in DATA.iter() {
         let input = changed(rt.alloc(), &[(97, 98, width), (328, 329, data)])?;
         let output = changed(rt.alloc(), &[(97, 98, width), (328, 329, due)])?;
         for piece in [1, 65536] {

@@ -1,7 +1,7 @@
 // The words of jpegtran, rdjpgcom and wrjpgcom: what is wrong with which of them, and what they ask for.
-use super::strings;
 use jpg_base::Name;
 use jpg_cli::{Asked, CommentFrom, WordsStop, read_words};
+use jpg_run_parts::strings;
 use jpg_spec::{Copying, Transform, Usage, UsageFault};
 use jpg_transform::Choice;
 use std::test::Fail;
@@ -108,7 +108,7 @@ fn words_are_refused(rt: HostRuntime) -> Result<(), Fail> {
             4,
         ),
     ];
-    for (words, fault, word) in rows {
+    for &(words, fault, word) in rows.iter() {
         let list = strings(rt.alloc(), words)?;
         let usage = match read_words(rt.alloc(), list.as_slice()) {
             Err(WordsStop::Usage(usage)) => Some(usage),
@@ -145,7 +145,7 @@ fn files_of_rdjpgcom(rt: HostRuntime) -> Result<(), Fail> {
         (&["rdjpgcom", ""], ""),
         (&["rdjpgcom", "a-v"], "a-v"),
     ];
-    for (words, input) in rows {
+    for &(words, input) in rows.iter() {
         let list = strings(rt.alloc(), words)?;
         let Ok(Asked::Rdjpgcom(files)) = read_words(rt.alloc(), list.as_slice()) else {
             panic!(rt; "right words {words:?}");
@@ -209,7 +209,7 @@ fn right_words_of_wrjpgcom(rt: HostRuntime) -> Result<(), Fail> {
         ),
         (&["wrjpgcom", ""], "", "input", "", false),
     ];
-    for (words, input, from, text, replace) in rows {
+    for &(words, input, from, text, replace) in rows.iter() {
         let list = strings(rt.alloc(), words)?;
         let Ok(Asked::Wrjpgcom(asked)) = read_words(rt.alloc(), list.as_slice()) else {
             panic!(rt; "right words {words:?}");
@@ -299,7 +299,7 @@ fn right_words_of_jpegtran(rt: HostRuntime) -> Result<(), Fail> {
             "<output>",
         ),
     ];
-    for (words, transform, trim, gray, copying, input, output) in rows {
+    for &(words, transform, trim, gray, copying, input, output) in rows.iter() {
         let list = strings(rt.alloc(), words)?;
         let Ok(Asked::Jpegtran(asked)) = read_words(rt.alloc(), list.as_slice()) else {
             panic!(rt; "right words {words:?}");

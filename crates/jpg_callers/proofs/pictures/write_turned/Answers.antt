@@ -25,5 +25,5 @@ returns-in-Ok c =
     let job = c.args.job.now in
     let w = is_written p a job _ c.requires.picture c.requires.movable c.requires.job (c.new-moved.ensures.shows (choice_told a) c.requires.job) in
     let outputs = memory_outputs c.write_file.new.desk in
-    subst (λ (due : List ℕ). outputs ≡ (let o : List (Name × List ℕ) = (Out, due) ∷ [] in o)) (text_is p a job.plan _ w c.requires.job.script)
+    subst (λ (due : List ℕ). outputs ≡ (let o : List (Name × List ℕ) = (Out, due) ∷ [] in o)) (text_is p a job.plan _ w c.requires.job.script c.requires.job.restart)
     (only_output (memory_state c.new-desk.result) (memory_state c.create.new.self) (memory_state c.write_file.new.desk) _ outputs c.new-desk.ensures.nothing.outputs c.in-Done.ensures.desk c.in-Ok.ensures.bytes refl)

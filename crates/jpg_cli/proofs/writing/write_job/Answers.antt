@@ -26,7 +26,7 @@ returns-in-Ok-clause-output g c =
     let a = c.args.choice.now in
     let job = c.args.job.now in
     let w = is_written p a job _ c.requires.picture (movable (picture_meaning p) a c.requires.meant c.requires.job.admitted) c.requires.job (c.new-moved.ensures.shows (choice_told a) c.requires.job) in
-    subst (λ (due : List ℕ). AfterOutput c.args.output.now (state c.args.desk.now) due wrote.Done (state c.write_file.new.desk)) (text_is p a job.plan _ w c.requires.job.script)
+    subst (λ (due : List ℕ). AfterOutput c.args.output.now (state c.args.desk.now) due wrote.Done (state c.write_file.new.desk)) (text_is p a job.plan _ w c.requires.job.script c.requires.job.restart)
     (output_done (state c.args.desk.now) (state c.create.new.self) (state c.write_file.new.desk) c.args.output.now _ c.in-Done.ensures c.in-Ok.ensures.only c.in-Ok.ensures.bytes)
 
 pub returns-in-Err-clause-output : goal.returns-in-Err-clause-output
@@ -36,5 +36,5 @@ returns-in-Err-clause-output g c =
     let a = c.args.choice.now in
     let job = c.args.job.now in
     let w = is_written p a job _ c.requires.picture (movable (picture_meaning p) a c.requires.meant c.requires.job.admitted) c.requires.job (c.new-moved.ensures.shows (choice_told a) c.requires.job) in
-    subst (λ (due : List ℕ). AfterOutput c.args.output.now (state c.args.desk.now) due wrote.WriteFault (state c.write_file.new.desk)) (text_is p a job.plan _ w c.requires.job.script)
+    subst (λ (due : List ℕ). AfterOutput c.args.output.now (state c.args.desk.now) due wrote.WriteFault (state c.write_file.new.desk)) (text_is p a job.plan _ w c.requires.job.script c.requires.job.restart)
     (output_failed (state c.args.desk.now) (state c.create.new.self) (state c.write_file.new.desk) c.args.output.now _ _ c.in-Done.ensures c.in-Err.ensures.only c.in-Err.ensures.bytes)

@@ -9,7 +9,8 @@ use Rattle.jpg_spec.specs.Numbers.{category}
 use Rattle.jpg_spec.specs.ScanText.{code_of}
 use Rattle.jpg_seq.specs.BlockBits.{run_bits, band_bits}
 use Rattle.jpg_seq.proofs.Bands.{left_bits, left_all, left_none, left_zeros}
-use Rattle.jpg_seq.proofs.Marked.{marks_are, marks_behind, next_value, no_value}
+use Rattle.jpg_base.proofs.Marked.{marks_are, marks_behind}
+use Rattle.jpg_seq.proofs.Marked.{next_value, no_value}
 use Rattle.jpg_huff.specs.BitOut.{Puts, holding}
 use Rattle.jpg_huff.proofs.InParts.{DoneButFor, of_bits, part_start, part_then, part_last, part_end, part_fault}
 use Rattle.jpg_huff.proofs.Together.{puts_nothing}

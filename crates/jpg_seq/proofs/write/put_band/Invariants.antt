@@ -3,7 +3,7 @@ use Rattle.jpg_seq.specs.BlockBits.{band_bits}
 use Rattle.jpg_huff.specs.BitOut.{Puts, holding}
 use Rattle.jpg_huff.proofs.InParts.{DoneButFor}
 use Rattle.jpg_seq.proofs.Bands.{left_bits}
-use Rattle.jpg_seq.proofs.Marked.{marks}
+use Rattle.jpg_base.specs.Marks.{marks}
 use Rattle.jpg_seq.proofs.write.put_band.Given as goal
 
 abbrev pub invariant-loop-rest : goal.invariant-loop-rest

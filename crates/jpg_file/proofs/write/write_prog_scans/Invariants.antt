@@ -1,0 +1,18 @@
+use Rattle.std.specs.Prelude.{drop}
+use Rattle.jpg_spec.specs.FileText.{nothing_written}
+use Rattle.jpg_huff.specs.BitOut.{CanSend, Sends}
+use Rattle.jpg_huff.proofs.InParts.{DoneButFor}
+use Rattle.jpg_file.specs.Restarts.{restart_of}
+use Rattle.jpg_file.specs.WriteDue.{HasFour}
+use Rattle.jpg_file.specs.WriteProgScan.{prog_scans_bytes, prog_written_in}
+use Rattle.jpg_file.proofs.write.write_prog_scans.Given as goal
+
+abbrev pub invariant-loop-i : goal.invariant-loop-i
+invariant-loop-i g l =
+    let state = g.D.Desk.state in
+    let text = prog_scans_bytes l.plan.out.frame l.plan.out.colour (restart_of l.plan.restart) (g.V.BlockView.numbers l.view) (g.V.BlockView.blocks l.view) in
+    record {
+      can : CanSend (state l.desk) l.out;
+      four : HasFour l.given;
+      part : DoneButFor Sends (state l.fn.desk) l.fn.out (text nothing_written l.plan.script) (text (prog_written_in l.given l.interval) (drop l.i l.plan.script)) l.out (state l.desk);
+    }

@@ -1,5 +1,0 @@
-use Rattle.std.proofs.Common.{sym}
-use Rattle.jpg_prog_read.proofs.ac_reader.table_in.Goals as goal
-
-pub returns : goal.returns
-returns c = (c.in-Some.table.now, sym c.in-Some.ensures, c.copy_of.ensures)

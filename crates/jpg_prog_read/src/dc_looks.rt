@@ -1,0 +1,47 @@
+// The codes of the components of a first DC pass, looked up many bits at once.
+ghost use Rattle.std.specs.Prelude.{◌≡◌};
+ghost use Rattle.std.specs.Option.{option_map};
+ghost use Rattle.jpg_prog_read.specs.DcLooked.{AreLooked, IsOfSlot, codes_at};
+
+use crate::codes::Codes;
+use jpg_huff::TableSet;
+
+/// The codes of DC tables, by slots 0 to 3.
+#[derive(Drop)]
+pub struct DcLooks {
+    each: [Option<Codes>; 4],
+}
+
+// Those of the DC table in a slot, if any.
+fn codes_of(tables: &TableSet, slot: u8) -> Option<Codes>
+    ensures { IsOfSlot tables.now slot result }
+{
+    match tables.dc(slot) {
+        Some(table) => Some(Codes::new(table)),
+        None => None,
+    }
+}
+
+impl DcLooks {
+    /// Those of the DC tables of a set.
+    pub fn of(tables: &TableSet) -> DcLooks
+        ensures { AreLooked tables.now result }
+    {
+        let mut each = [None, None, None, None];
+        for slot in 0..4u8 {
+            each[slot as usize] = codes_of(tables, slot);
+        }
+        DcLooks { each }
+    }
+
+    /// Those of a slot, None where there is none, and for slots from 4 on.
+    pub fn at(&self, slot: u8) -> Option<&Codes>
+        ensures { option_map (λ c. c.now) result ≡ codes_at self.now slot }
+    {
+        match self.each.get(slot as usize) {
+            Some(Some(codes)) => Some(codes),
+            Some(None) => None,
+            None => None,
+        }
+    }
+}

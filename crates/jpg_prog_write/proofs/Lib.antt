@@ -1,0 +1,12 @@
+pub mod BandUnits
+pub mod DcUnits
+pub mod ElementsDue
+pub mod EndsItems
+pub mod Fronts
+pub mod Intervals
+pub mod Marks
+pub mod Places
+pub mod SymbolsUsed
+pub mod Texts
+pub mod Values
+pub mod Zeros

@@ -1,0 +1,92 @@
+-- Marks of elements, one after another.
+use Rattle.std.proofs.Common.{◌≡◌, ℕ, ◌≤◌, ◌||◌, Bool, true, false, List, [], ◌∷◌, ◌++◌, refl, sym, ap, ◌∙◌, subst}
+use Rattle.std.specs.List.{All}
+use Rattle.std.proofs.lemmas.List.{append_assoc, append-nil}
+use Rattle.jpg_spec.specs.Lists.{any_of}
+use Rattle.jpg_spec.specs.Geometry.{Frame}
+use Rattle.jpg_spec.specs.Segments.{ScanHead}
+use Rattle.jpg_spec.specs.Elements.{Element, difference, dc_bit, value, long_run, ends, symbol_of}
+use Rattle.jpg_spec.specs.Sending.{band_elements}
+use Rattle.jpg_spec.specs.Scan.{Blocks, part_of}
+use Rattle.jpg_spec.specs.declared.frame.Place.{Place}
+use Rattle.jpg_spec.proofs.Common.{any_append}
+use Rattle.jpg_prog_write.specs.Steps.{IsFirst}
+use Rattle.jpg_prog_write.specs.Counted.{Rows, Mark, is_mark, is_marked, AreRows, Notes, NotesBut, marks_of, owned_marks, places_marks}
+use Rattle.jpg_prog_write.specs.Bands.{IsBandOf}
+use Rattle.jpg_prog_write.specs.Written.{IsScanPlace, first_slot}
+use Rattle.jpg_prog_write.specs.declared.band.Band.{Band}
+use Rattle.jpg_prog_write.proofs.BandUnits.{IsAcHead, IsOfBand, bands_at, band_all, one_part}
+use Rattle.jpg_prog_write.proofs.DcUnits.{no_last, left_all, first_all}
+use Rattle.jpg_prog_write.specs.declared.item.Item.{Item}
+
+or_none : (b : Bool) → b ≡ (b || false)
+or_none true = refl
+or_none false = refl
+
+or_assoc : (a b c : Bool) → ((a || b) || c) ≡ (a || (b || c))
+or_assoc true b c = refl
+or_assoc false b c = refl
+
+pub notes_nothing : (rows : Rows) → AreRows rows → Notes rows [] rows
+notes_nothing rows are = record { rows = are; marked = λ slot symbol s few. or_none (is_marked rows slot symbol) }
+
+pub notes_then : (old mid new : Rows) (xs ys : List Mark) → Notes old xs mid → Notes mid ys new → Notes old (xs ++ ys) new
+notes_then old mid new xs ys h k = record {
+  rows = k.rows;
+  marked = λ slot symbol s few.
+      let t = is_mark slot symbol in
+      k.marked slot symbol s few ∙ ap (λ b. b || any_of t ys) (h.marked slot symbol s few) ∙ or_assoc (is_marked old slot symbol) (any_of t xs) (any_of t ys)
+      ∙ ap (λ b. is_marked old slot symbol || b) (sym (any_append t xs ys));
+}
+
+pub notes_same : (old new : Rows) (xs ys : List Mark) → xs ≡ ys → Notes old xs new → Notes old ys new
+notes_same old new xs ys e h = subst (λ x. Notes old x new) e h
+
+pub but_start : (rows : Rows) (all rest : List Mark) → AreRows rows → rest ≡ all → NotesBut rows all rest rows
+but_start rows all rest are e = record { front = []; joined = e; done = notes_nothing rows are }
+
+pub but_then : (old mid new : Rows) (all rest piece left : List Mark) → rest ≡ piece ++ left → NotesBut old all rest mid → Notes mid piece new → NotesBut old all left new
+but_then old mid new all rest piece left e h k = record {
+  front = h.front ++ piece;
+  joined = append_assoc h.front piece left ∙ ap (λ x. h.front ++ x) (sym e) ∙ h.joined;
+  done = notes_then old mid new h.front piece h.done k;
+}
+
+pub but_same : (old new : Rows) (all rest left : List Mark) → rest ≡ left → NotesBut old all rest new → NotesBut old all left new
+but_same old new all rest left e h = subst (λ x. NotesBut old all x new) e h
+
+pub but_last : (old mid new : Rows) (all rest piece : List Mark) → rest ≡ piece → NotesBut old all rest mid → Notes mid piece new → Notes old all new
+but_last old mid new all rest piece e h k = notes_same old new (h.front ++ piece) all (ap (λ x. h.front ++ x) (sym e) ∙ h.joined) (notes_then old mid new h.front piece h.done k)
+
+pub but_end : (old new : Rows) (all rest : List Mark) → rest ≡ [] → NotesBut old all rest new → Notes old all new
+but_end old new all rest e h = notes_same old new h.front all (sym (append-nil h.front) ∙ ap (λ x. h.front ++ x) (sym e) ∙ h.joined) h.done
+
+-- ELEMENTS
+
+pub marks_first : (slot : ℕ) (all : List Element) (item : Item) (bits : List Bool) (others : List Element) → IsFirst all item bits others → marks_of slot all ≡ ((slot, item.symbol) ∷ []) ++ marks_of slot others
+unfolding marks_of
+marks_first slot all item bits others f = ap (marks_of slot) f.first ∙ ap (λ n. (slot, n) ∷ marks_of slot others) (sym f.is.symbol)
+
+pub marks_none : (slot : ℕ) → marks_of slot [] ≡ []
+unfolding marks_of
+marks_none slot = refl
+
+-- THE MARKS OF A SCAN's bands
+
+one_mark : (head : ScanHead) (i : ℕ) (e : Element) → IsOfBand e → owned_marks head (i, e) ≡ ((part_of head i).ac, symbol_of e) ∷ []
+one_mark head i (difference d) h = cc
+one_mark head i (dc_bit b) h = cc
+one_mark head i (value run v bits) h = refl
+one_mark head i (long_run bits) h = refl
+one_mark head i (ends bands bits) h = refl
+
+pub band_marks : (f : Frame) (head : ScanHead) (band : Band) (blocks : Blocks) (places : List Place) → IsAcHead head → 1 ≤ head.ss → IsBandOf head band → All (IsScanPlace f head) places
+    → marks_of (first_slot head) (band_elements 32767 0 [] (bands_at band blocks places)) ≡ places_marks head blocks places
+unfolding places_marks marks_of
+band_marks f head band blocks places is some b all =
+    band_all (owned_marks head) (λ e. (first_slot head, symbol_of e) ∷ []) f head band blocks places some b all
+    (λ p at e of. one_mark head p.component e of ∙ ap (λ n. (n, symbol_of e) ∷ []) (one_part f head p is.one at))
+
+pub first_marks : (head : ScanHead) (blocks : Blocks) (places : List Place) → head.ss ≡ 0 → left_all (owned_marks head) head blocks no_last places ≡ places_marks head blocks places
+unfolding places_marks
+first_marks head blocks places dc = first_all (owned_marks head) head blocks places dc

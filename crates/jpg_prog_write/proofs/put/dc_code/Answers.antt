@@ -1,0 +1,6 @@
+use Rattle.jpg_huff.specs.Sets.{dc_tables, in_slot}
+use Rattle.jpg_prog_write.proofs.Texts.{none_code}
+use Rattle.jpg_prog_write.proofs.put.dc_code.Goals as goal
+
+pub returns-in-None-clause-first : goal.returns-in-None-clause-first
+returns-in-None-clause-first c = none_code (in_slot (dc_tables c.args.tables.now) c.args.slot) c.args.symbol c.in-None.ensures

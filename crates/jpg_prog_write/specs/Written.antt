@@ -1,0 +1,74 @@
+-- WHAT A PROGRESSIVE SCAN IS WRITTEN AS by given tables, and what can be written so (T.81, G.1.2, E.1.4).
+use Rattle.std.specs.Prelude.{◌≡◌, ℕ, ◌<◌, nat_lt, ◌==◌, Bool, true, if◌then◌else◌, List, [], ◌∷◌, length, flat_map, slice_index_or, unwrap_or, ℤ, pos}
+use Rattle.std.specs.Option.{option_map}
+use Rattle.jpg_spec.specs.Bits.{data_of}
+use Rattle.jpg_spec.specs.Codes.{Code}
+use Rattle.jpg_spec.specs.Lists.{is_among}
+use Rattle.jpg_spec.specs.Geometry.{Frame, IsReal, is_real, is_progressive}
+use Rattle.jpg_spec.specs.Segments.{HuffmanTable, ScanHead, head_components, table_codes}
+use Rattle.jpg_spec.specs.ScanContents.{are_parameters}
+use Rattle.jpg_spec.specs.Elements.{zeros}
+use Rattle.jpg_spec.specs.Sending.{shifted}
+use Rattle.jpg_spec.specs.Scan.{Blocks, block_at}
+use Rattle.jpg_spec.specs.ScanText.{Owned, dc_element, units_due, interval_elements, element_bits, scan_elements, scan_data}
+use Rattle.jpg_spec.specs.WrittenFile.{IsBaselineBlock}
+use Rattle.jpg_spec.specs.declared.frame.Place.{Place}
+use Rattle.jpg_spec.specs.declared.frame.ScanPart.{ScanPart}
+use Rattle.jpg_base.specs.Cursor.{AreIn}
+use Rattle.jpg_huff.specs.declared.set.TableSet.{TableSet}
+use Rattle.jpg_huff.specs.Sets.{dc_tables, ac_tables, in_slot}
+use Rattle.jpg_huff.specs.Tables.{table_of}
+
+-- the tables of a set, by class (0 is DC, 1 is AC) and slot, and one without codes where there is none
+abbrev pub no_codes : HuffmanTable
+no_codes = record { counts = []; symbols = [] }
+
+abbrev pub tables_in : TableSet → ℕ → ℕ → HuffmanTable
+tables_in set class slot = unwrap_or (option_map table_of (in_slot (if class == 0 then dc_tables set else ac_tables set) slot)) no_codes
+
+abbrev pub codes_in : TableSet → ℕ → ℕ → List Code
+codes_in set class slot = table_codes (tables_in set class slot)
+
+-- the data of the scan, with restart markers each so many MCUs (0: none)
+abbrev pub written_data : Frame → ScanHead → TableSet → ℕ → Blocks → List ℕ
+written_data f head set interval blocks = scan_data (tables_in set) head (scan_elements f head interval blocks)
+
+-- a header of a progressive frame: one to four of its components, DC or a band of one of them, and its bits
+pub record IsProgScan (f : Frame) (head : ScanHead) : Type 0 where
+  pub progressive : is_progressive f.process ≡ true
+  pub components : AreIn f (head_components head)
+  pub parameters : are_parameters f (length head.parts) head ≡ true
+
+-- 64 values in the bounds of precision 8 at each real place
+abbrev pub HasBaselineBlocks : Frame → Blocks → Type 0
+HasBaselineBlocks f blocks = (i x y : ℕ) → IsReal f i x y → IsBaselineBlock (blocks i x y)
+
+-- UNITS
+
+-- a place of a scan of this head
+pub record IsScanPlace (f : Frame) (head : ScanHead) (p : Place) : Type 0 where
+  pub named : is_among p.component (head_components head) ≡ true
+  pub there : p.component < length f.components
+  pub real : p.real ≡ is_real f p.component p.x p.y
+
+-- the block that is written there: the picture's, or for a padding block the last DC value alone
+abbrev pub block_due : Blocks → ℤ → Place → List ℤ
+block_due blocks last p = if p.real then block_at blocks p else last ∷ zeros 63
+
+-- the element of a unit of DC behind another of its component
+abbrev pub dc_unit : ScanHead → ℕ → ℤ → ℤ → Owned
+dc_unit head i last v = (i, dc_element (nat_lt 0 head.ah) head.al (shifted head.al last) v)
+
+-- the bits and the data of the units at some places
+unfoldable pub places_bits : TableSet → ScanHead → Blocks → List Place → List Bool
+places_bits set head blocks places = flat_map (element_bits (tables_in set) head) (interval_elements true head (units_due blocks (λ i. pos 0) places))
+
+unfoldable pub places_data : TableSet → ScanHead → Blocks → List Place → List ℕ
+places_data set head blocks places = data_of (places_bits set head blocks places)
+
+-- the slot of a scan of one component
+abbrev pub no_part : ScanPart
+no_part = record { component = 0; dc = 0; ac = 0 }
+
+abbrev pub first_slot : ScanHead → ℕ
+first_slot head = (slice_index_or head.parts 0 no_part).ac

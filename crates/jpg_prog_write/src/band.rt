@@ -1,0 +1,80 @@
+// A band of a progressive scan, and what is sent of its values (T.81, G.1.2.2, G.1.2.3).
+ghost use Rattle.std.specs.Prelude.{◌≡◌, ◌<◌, ◌≤◌, ℕ, true, false, length, slice_index_or, pos};
+ghost use Rattle.jpg_spec.specs.Elements.{is_zero};
+ghost use Rattle.jpg_spec.specs.Lists.{any_of};
+ghost use Rattle.jpg_spec.specs.Sending.{sent as sent_of, is_new};
+ghost use Rattle.jpg_prog_write.specs.Items.{sent_by};
+ghost use Rattle.jpg_prog_write.specs.Bands.{IsBand, sents, ends_new};
+
+use crate::numbers::divided;
+use jpg_base::Block;
+
+/// The places from `start` up to `end`, the bit `al` down to which their values are sent, and whether those that aren't
+/// 0 so far are refined.
+#[derive(Clone, Copy, Debug, PartialEq, Eq)]
+pub(crate) struct Band {
+    pub(crate) start: u8,
+    pub(crate) end: u8,
+    pub(crate) al: u8,
+    pub(crate) refines: bool,
+}
+
+/// A correction of a value that isn't 0 so far, or a value that is newly sent, or stays 0.
+#[derive(Clone, Copy, Debug, PartialEq, Eq)]
+pub(crate) enum Sending {
+    Correction(bool),
+    Newly(i32),
+}
+
+impl Band {
+    #[inline(always)]
+    pub(crate) fn sent(self, value: i16) -> Sending
+        requires { self.al ≤ 10 }
+        ensures { sent_by result ≡ sent_of self.refines self.al value }
+    {
+        let sent = divided(value, self.al);
+        if self.refines && sent.unsigned_abs() > 1 {
+            Sending::Correction(sent.unsigned_abs() % 2 == 1)
+        } else {
+            Sending::Newly(sent)
+        }
+    }
+
+    #[inline(always)]
+    pub(crate) fn sends_new(self, value: i16) -> bool
+        requires { self.al ≤ 10 }
+        ensures { result ≡ is_new (sent_of self.refines self.al value) }
+    {
+        match self.sent(value) {
+            Sending::Correction(_) => false,
+            Sending::Newly(value) => value != 0,
+        }
+    }
+
+    // A place up to the end behind which the band has zeros alone.
+    #[inline(always)]
+    pub(crate) fn zeros_from(self, block: &Block) -> u8
+        requires band { IsBand self }
+        ensures within { (self.start ≤ result) × (result ≤ self.end) }
+        ensures zeros { (k : ℕ) → result ≤ k → k < self.end → is_zero (slice_index_or block.now k (pos 0)) ≡ true }
+    {
+        let rest = block.nonzero() >> self.start;
+        let top = self.start + (64 - rest.leading_zeros()) as u8;
+        top.min(self.end)
+    }
+
+    // The end of the part that ends by the last value that is newly sent, the start where none is.
+    pub(crate) fn front_end(self, block: &Block) -> u8
+        requires band { IsBand self }
+        requires long { length block.now ≡ 64 }
+        ensures within { (self.start ≤ result) × (result ≤ self.end) }
+        ensures new { ends_new (sents self self.start result block.now) ≡ true }
+        ensures none { any_of is_new (sents self result self.end block.now) ≡ false }
+    {
+        let mut end = self.zeros_from(block);
+        while end > self.start && !self.sends_new(block.get(end - 1)) {
+            end -= 1;
+        }
+        end
+    }
+}

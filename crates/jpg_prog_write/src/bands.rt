@@ -1,0 +1,306 @@
+// Bands that are written one after another, element by element (T.81, G.1.2.2, G.1.2.3).
+ghost use Rattle.std.specs.Prelude.{◌≡◌, Bool, ℕ, pos, slice_index_or, ◌+◌, ◌-◌, ◌<◌, ◌≤◌, true, [], ◌++◌, ◌∷◌, List, length, nat_lt, ◌==◌, ◌||◌, IfSome, IfNone};
+ghost use Rattle.jpg_spec.specs.Numbers.{category as category_of};
+ghost use Rattle.jpg_spec.specs.Elements.{ends, is_zero};
+ghost use Rattle.jpg_spec.specs.Sending.{Sent, newly as newly_sent, corrections_of, ended};
+ghost use Rattle.jpg_prog_write.specs.Items.{IsItem, sent_by};
+ghost use Rattle.jpg_prog_write.specs.Bands.{IsBand, IsShort, AreMarks, IsReady, sents, ends_new, elements_left, elements_waiting, band_sents, cleared};
+ghost use Rattle.jpg_prog_write.specs.Steps.{IsShortSending, IsStep, IsWhole, IsFirst, Gives, Leaves};
+
+use crate::band::{Band, Sending};
+use crate::item::{Item, ends_item, long_item, value_item};
+use arrayvec::ArrayVec;
+use jpg_base::Block;
+
+/// Bits that wait for the code of an element.
+pub(crate) type Waiting = ArrayVec<bool, 1000>;
+
+/// Bands in work: the values of a block from `at` up to `last`, the place behind its last newly sent one, are due, and an
+/// EOB of so many bands waits with its corrections.
+#[derive(Drop)]
+pub(crate) struct Bands {
+    pub(crate) band: Band,
+    pub(crate) block: Block,
+    // which values of the block aren't 0
+    pub(crate) marks: u64,
+    pub(crate) at: u8,
+    pub(crate) last: u8,
+    pub(crate) bands: u16,
+    pub(crate) waiting: Waiting,
+}
+
+// Behind a value, a longer run of zeros or a whole element.
+#[derive(Clone, Copy, Debug, PartialEq, Eq)]
+pub(crate) enum Step {
+    Goes(u8),
+    Gives(Item),
+}
+
+// An element, and the place behind it.
+#[derive(Clone, Copy, Debug, PartialEq, Eq)]
+pub(crate) struct Whole {
+    pub(crate) item: Item,
+    pub(crate) at: u8,
+}
+
+// A value that is newly sent, or stays 0, behind a run of zeros.
+#[inline(always)]
+fn newly(run: u8, value: i32) -> Step
+    requires run { run ≤ 15 }
+    requires short { category_of value ≤ 14 }
+    ensures { (bits : List Bool) (later : List Sent) → IsStep run bits (newly_sent value ∷ later) result bits later }
+{
+    if value != 0 {
+        Step::Gives(value_item(run, value))
+    } else if run == 15 {
+        Step::Gives(long_item())
+    } else {
+        Step::Goes(run + 1)
+    }
+}
+
+// A value behind a run of zeros and corrections.
+#[inline(always)]
+fn pass_value(run: u8, sent: Sending, waiting: &mut Waiting) -> Step
+    requires run { run ≤ 15 }
+    requires short { IsShortSending sent }
+    requires room { length waiting.old.items < 1000 }
+    ensures step { (later : List Sent) → IsStep run waiting.old.items (sent_by sent ∷ later) result waiting.new.items later }
+    ensures waits { length waiting.new.items ≤ length waiting.old.items + 1 }
+{
+    match sent {
+        Sending::Correction(bit) => {
+            waiting.push(bit);
+            Step::Goes(run)
+        }
+        Sending::Newly(value) => newly(run, value),
+    }
+}
+
+// How many zeros from a place on are passed at once: none at the last place, and up to a run of 15.
+#[inline(always)]
+fn zeros_ahead(block: &Block, marks: u64, at: u8, last: u8, run: u8) -> u8
+    requires marks { AreMarks marks block.now }
+    requires places { (at < last) × (last ≤ 64) }
+    requires run { run ≤ 15 }
+    ensures within { (at + result < last) × (run + result ≤ 15) }
+    ensures zeros { (k : ℕ) → at ≤ k → k < at + result → is_zero (slice_index_or block.now k (pos 0)) ≡ true }
+{
+    let _ = block;
+    let zeros = (marks >> at).trailing_zeros() as u8;
+    zeros.min(15 - run).min(last - 1 - at)
+}
+
+// The next element of the values from one place up to another.
+#[inline(always)]
+fn value_from(
+    band: Band,
+    block: &Block,
+    marks: u64,
+    from: u8,
+    last: u8,
+    waiting: &mut Waiting,
+) -> Option<Whole>
+    requires band { IsBand band }
+    requires short { IsShort block.now }
+    requires marks { AreMarks marks block.now }
+    requires places { (1 ≤ from) × (from < last) × (last ≤ band.end) }
+    requires front { ends_new (sents band from last block.now) ≡ true }
+    requires none { waiting.old.items ≡ [] }
+    ensures some { IfSome result (λ w. IsWhole band from last block.now w waiting.new.items) }
+    ensures none { IfNone result ⊥ }
+{
+    let mut run = 0;
+    let mut at = from;
+    while at < last {
+        let zeros = zeros_ahead(block, marks, at, last, run);
+        run += zeros;
+        at += zeros;
+        let sent = band.sent(block.get(at));
+        at += 1;
+        match pass_value(run, sent, waiting) {
+            Step::Goes(more) => run = more,
+            Step::Gives(item) => return Some(Whole { item, at }),
+        }
+    }
+    None
+}
+
+// A correction waits.
+#[inline(always)]
+fn wait(sent: Sending, waiting: &mut Waiting)
+    requires { length waiting.old.items < 1000 }
+    ensures waits { waiting.new.items ≡ waiting.old.items ++ corrections_of (sent_by sent ∷ []) }
+    ensures one { length waiting.new.items ≤ length waiting.old.items + 1 }
+{
+    match sent {
+        Sending::Correction(bit) => waiting.push(bit),
+        Sending::Newly(_) => {}
+    }
+}
+
+// The corrections from a place up to the end of the band wait.
+fn wait_all(band: Band, block: &Block, from: u8, waiting: &mut Waiting)
+    requires band { IsBand band }
+    requires short { IsShort block.now }
+    requires places { (1 ≤ from) × (from ≤ band.end) }
+    requires few { length waiting.old.items ≤ 937 }
+    ensures waits { waiting.new.items ≡ waiting.old.items ++ corrections_of (sents band from band.end block.now) }
+{
+    let end = band.zeros_from(block);
+    let mut k = from;
+    while k < end {
+        wait(band.sent(block.get(k)), waiting);
+        k += 1;
+    }
+}
+
+// The same, of which there are none where nothing is refined.
+#[inline(always)]
+fn wait_rest(band: Band, block: &Block, from: u8, waiting: &mut Waiting)
+    requires band { IsBand band }
+    requires short { IsShort block.now }
+    requires places { (1 ≤ from) × (from ≤ band.end) }
+    requires few { length waiting.old.items ≤ 937 }
+    ensures { waiting.new.items ≡ waiting.old.items ++ corrections_of (sents band from band.end block.now) }
+{
+    if band.refines {
+        wait_all(band, block, from, waiting);
+    }
+}
+
+// Whether an EOB of so many bands with so many corrections goes out at once.
+#[inline(always)]
+fn is_full(bands: u16, waiting: usize) -> bool
+    ensures { result ≡ (bands == 32767 || nat_lt 937 waiting) }
+{
+    bands == 32767 || waiting > 937
+}
+
+impl Bands {
+    /// No band, and no EOB that waits.
+    pub(crate) fn new(band: Band) -> Bands
+        requires { IsBand band }
+        ensures ready { IsReady result }
+        ensures band { result.band ≡ band }
+        ensures none { result.bands ≡ 0 }
+    {
+        Bands {
+            band,
+            block: Block::zero(),
+            marks: 0,
+            at: band.end,
+            last: band.end,
+            bands: 0,
+            waiting: ArrayVec::new(),
+        }
+    }
+
+    /// Begins the band of a block.
+    pub(crate) fn begin(&mut self, block: &Block)
+        requires ready { IsReady self.old }
+        requires short { IsShort block.now }
+        ensures ready { IsReady self.new }
+        ensures band { self.new.band ≡ self.old.band }
+        ensures left { (later : List (List Sent)) → elements_waiting self.old (band_sents self.old.band block.now ∷ later) ≡ elements_left self.new later }
+    {
+        self.block = *block;
+        self.marks = block.nonzero();
+        self.at = self.band.start;
+        self.last = self.band.front_end(block);
+    }
+
+    // The EOB that waits.
+    fn end_bands(&mut self) -> Item
+        requires some { 1 ≤ self.old.bands }
+        requires few { self.old.bands ≤ 32767 }
+        ensures item { IsItem (ends self.old.bands self.old.waiting.items) result self.old.waiting.items }
+        ensures new { self.new ≡ record self.old { bands = 0 } }
+    {
+        let item = ends_item(self.bands);
+        self.bands = 0;
+        item
+    }
+
+    // The next element of the part up to the last newly sent value, where no EOB waits.
+    fn next_value(&mut self) -> Option<Item>
+        requires ready { IsReady self.old }
+        requires some { self.old.at < self.old.last }
+        requires none { self.old.bands ≡ 0 }
+        ensures some { IfSome result (λ item. Gives self.old item self.new) }
+        ensures none { IfNone result ⊥ }
+    {
+        match value_from(
+            self.band,
+            &self.block,
+            self.marks,
+            self.at,
+            self.last,
+            &mut self.waiting,
+        ) {
+            Some(whole) => {
+                self.at = whole.at;
+                Some(whole.item)
+            }
+            None => None,
+        }
+    }
+
+    // The rest of the band joins the EOB that waits, which may be due then.
+    fn join_rest(&mut self) -> Option<Item>
+        requires ready { IsReady self.old }
+        requires front { self.old.last ≤ self.old.at }
+        requires rest { self.old.last < self.old.band.end }
+        ensures some { IfSome result (λ item. Gives self.old item self.new) }
+        ensures none { IfNone result (Leaves self.old self.new) }
+    {
+        wait_rest(self.band, &self.block, self.last, &mut self.waiting);
+        self.at = self.band.end;
+        self.last = self.band.end;
+        self.bands += 1;
+        if is_full(self.bands, self.waiting.len()) {
+            Some(self.end_bands())
+        } else {
+            None
+        }
+    }
+
+    /// The next element of the band and the EOB before it, whose corrections are those that wait now, None where nothing more is due of them.
+    pub(crate) fn next(&mut self) -> Option<Item>
+        requires { IsReady self.old }
+        ensures some { IfSome result (λ item. Gives self.old item self.new) }
+        ensures none { IfNone result (Leaves self.old self.new) }
+    {
+        if self.at < self.last {
+            if self.bands > 0 {
+                Some(self.end_bands())
+            } else {
+                self.next_value()
+            }
+        } else if self.last < self.band.end {
+            self.join_rest()
+        } else {
+            None
+        }
+    }
+
+    /// The EOB that waits behind the last band.
+    pub(crate) fn end(&mut self) -> Option<Item>
+        requires { IsReady self.old }
+        ensures some { IfSome result (λ item. IsFirst (ended self.old.bands self.old.waiting.items) item self.new.waiting.items []) }
+        ensures none { IfNone result (ended self.old.bands self.old.waiting.items ≡ []) }
+    {
+        if self.bands > 0 {
+            Some(self.end_bands())
+        } else {
+            None
+        }
+    }
+
+    /// No corrections wait.
+    pub(crate) fn clear(&mut self)
+        ensures { self.new ≡ cleared self.old }
+    {
+        self.waiting.clear();
+    }
+}

@@ -1,0 +1,15 @@
+//! Progressive scans, counted and written (T.81, G.1.2).
+#![tactic(auto)]
+
+mod ac;
+mod band;
+mod bands;
+mod count;
+mod dc;
+mod item;
+mod numbers;
+mod put;
+mod write;
+
+pub use count::{Used, count_scan};
+pub use write::write_scan;

@@ -1,0 +1,30 @@
+// What is sent of a value down to a bit (T.81, G.1.2.1, G.1.2.2).
+ghost use Rattle.std.specs.Prelude.{◌≡◌, ◌≤◌, ◌%◌, ◌==◌, nat_abs};
+ghost use Rattle.jpg_spec.specs.Sending.{shifted, divided};
+
+// A DC value without its low bits.
+#[inline(always)]
+pub(crate) fn shifted(value: i16, al: u8) -> i16
+    requires { al ≤ 10 }
+    ensures { result ≡ shifted al value }
+{
+    value >> al
+}
+
+// An AC value whose magnitude is without its low bits.
+#[inline(always)]
+pub(crate) fn divided(value: i16, al: u8) -> i32
+    requires { al ≤ 10 }
+    ensures { result ≡ divided al value }
+{
+    let magnitude = i32::from(value.unsigned_abs() >> al);
+    if value < 0 { -magnitude } else { magnitude }
+}
+
+// The lowest bit of a number.
+#[inline(always)]
+pub(crate) fn is_odd(value: i16) -> bool
+    ensures { result ≡ (nat_abs value % 2 == 1) }
+{
+    value.unsigned_abs() % 2 == 1
+}

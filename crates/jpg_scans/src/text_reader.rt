@@ -1,0 +1,142 @@
+// A script's text, byte by byte (the manual's wizard.txt).
+ghost use Rattle.std.specs.Prelude.{◌≡◌, option_map};
+ghost use Rattle.jpg_spec.specs.ScriptGrammar.{in_comment};
+ghost use Rattle.jpg_spec.specs.declared.fault.Fault.TheVariants.{ScriptText};
+ghost use Rattle.jpg_scans.specs.ReadText.{IsRead};
+ghost use Rattle.jpg_scans.specs.TextState.{new_reader, reader_step, script_told, taken, text_step};
+
+use crate::Entry;
+use crate::entry_text::EntryText;
+use crate::numbers::is_digit;
+use arrayvec::ArrayVec;
+use jpg_base::{Fault, FaultAt};
+use std::marker::Model;
+
+// The entries that have ended, the one in work, and whether the last byte was in a comment.
+#[derive(Drop)]
+pub struct TextReader {
+    entries: ArrayVec<Entry, 100>,
+    entry: EntryText,
+    in_comment: bool,
+}
+
+impl Model for TextReader {
+    ghost use Rattle.jpg_spec.specs.declared.fault.Fault.TheVariants.{ScriptText};
+    ghost use Rattle.jpg_scans.specs.ReadText.{IsRead};
+    ghost use Rattle.jpg_scans.specs.TextState.{ReaderState as State};
+
+    ghost Value = { State };
+
+    ghost view = { λ r. record { behind = r.in_comment; text = record { entries = r.entries.items; entry = r.entry } } };
+}
+
+// The bytes of a script's text at most.
+const LONGEST: u64 = 65536;
+
+// All bytes of a text, or the first that may not stand there.
+pub fn read(text: &[u8]) -> Result<TextReader, FaultAt>
+    ensures { IsRead text.now result }
+{
+    let mut reader = TextReader::new();
+    let mut before = 0;
+    for byte in text {
+        if before == LONGEST {
+            return Err(wrong_at(before + 1));
+        }
+        if !reader.byte(*byte) {
+            return Err(wrong_at(before + 1));
+        }
+        before += 1;
+    }
+    Ok(reader)
+}
+
+// A script's text is wrong at this place.
+pub fn wrong_at(at: u64) -> FaultAt
+    ensures { result ≡ record { fault = ScriptText; at = at } }
+{
+    FaultAt {
+        fault: Fault::ScriptText,
+        at,
+    }
+}
+
+impl TextReader {
+    pub fn new() -> TextReader
+        ensures { result ≡ new_reader }
+    {
+        TextReader {
+            entries: ArrayVec::new(),
+            entry: EntryText::new(),
+            in_comment: false,
+        }
+    }
+
+    // Takes a byte, where it may stand there.
+    pub fn byte(&mut self, byte: u8) -> bool
+        ensures { taken result self.new ≡ reader_step self.old byte }
+    {
+        self.in_comment = in_comment(self.in_comment, byte);
+        if self.in_comment {
+            self.plain_byte(32)
+        } else {
+            self.plain_byte(byte)
+        }
+    }
+
+    // A byte of no comment, or a space in its place.
+    fn plain_byte(&mut self, byte: u8) -> bool
+        ensures text { taken result self.new.text ≡ text_step self.old.text byte }
+        ensures behind { self.new.behind ≡ self.old.behind }
+    {
+        if byte == 59 {
+            return self.semicolon();
+        }
+        if is_digit(byte) && (self.entry.is_new() && self.entries.len() >= 100) {
+            return false;
+        }
+        self.entry.byte(byte)
+    }
+
+    fn semicolon(&mut self) -> bool
+        ensures text { taken result self.new.text ≡ text_step self.old.text 59 }
+        ensures behind { self.new.behind ≡ self.old.behind }
+    {
+        if self.entries.len() >= 100 {
+            return false;
+        }
+        match self.entry.whole() {
+            None => false,
+            Some(entry) => {
+                self.entries.push(entry);
+                self.entry = EntryText::new();
+                true
+            }
+        }
+    }
+
+    // The script, where the text ends here.
+    pub fn end(mut self) -> Option<ArrayVec<Entry, 100>>
+        ensures { option_map (λ v. v.items) result ≡ script_told self.text }
+    {
+        if self.entry.is_new() {
+            if self.entries.is_empty() {
+                return None;
+            }
+            return Some(self.entries);
+        }
+        if self.entries.len() >= 100 {
+            return None;
+        }
+        let entry = self.entry.whole()?;
+        self.entries.push(entry);
+        Some(self.entries)
+    }
+}
+
+// A byte of a comment: it begins with # and goes on up to LF.
+fn in_comment(behind: bool, byte: u8) -> bool
+    ensures { result ≡ in_comment behind byte }
+{
+    if behind { byte != 10 } else { byte == 35 }
+}
