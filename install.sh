@@ -177,8 +177,7 @@ $("$program" --version) is installed in $root:
   bin: jpgsuite, and its commands ${tools[*]}
   share/man/man1: a manual page of each
   share/bash-completion/completions, share/zsh/site-functions: completions (zsh wants the latter on its fpath)
-jpegtran and djpeg were given their own names by choice, though -progressive, -scans and -restart of jpegtran
-aren't built yet and are refused. Where PREFIX/bin comes first on PATH it hides others of these names.
+Where PREFIX/bin comes first on PATH it hides others of these names.
 ./install.sh --uninstall takes all of it away.
 END
     case ":$PATH:" in

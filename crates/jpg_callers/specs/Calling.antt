@@ -1,9 +1,9 @@
 -- WHAT THE CALLERS PROMISE of a file that they have whole.
-use Rattle.std.specs.Prelude.{◌≡◌, ℕ, List, [], ◌∷◌, take, Result, Ok, Err, None, Some}
+use Rattle.std.specs.Prelude.{◌≡◌, ℕ, List, [], ◌∷◌, take, Result, Ok, Err, Some}
 use Rattle.jpg_spec.specs.CommentText.{IsReadFault}
 use Rattle.jpg_spec.specs.FileStands.{IsWholeFile}
 use Rattle.jpg_spec.specs.Meaning.{Meaning}
-use Rattle.jpg_spec.specs.Moved.{Choice, gray_fault, moved}
+use Rattle.jpg_spec.specs.Moved.{Choice, moved, moved_text, picture_fault}
 use Rattle.jpg_spec.specs.Segments.{standard_limits}
 use Rattle.jpg_base.specs.Memory.{memory_outputs}
 use Rattle.jpg_base.specs.declared.memory.MemoryDesk.{MemoryDesk}
@@ -16,7 +16,6 @@ use Rattle.jpg_file.specs.PictureRead.{picture_meaning}
 use Rattle.jpg_file.specs.ReadFile.{IsRefusal}
 use Rattle.jpg_file.specs.declared.picture.Picture.{Picture}
 use Rattle.jpg_transform.specs.Places.{IsSeenAs}
-use Rattle.jpg_transform.specs.Planned.{moved_text}
 use Rattle.jpg_callers.specs.declared.pictures.NotTurned.{NotTurned}
 use Rattle.jpg_callers.specs.declared.pictures.NotTurned.TheVariants as unturned
 
@@ -45,7 +44,7 @@ HoldsTurned choice M (Err (unturned.Stop stop.NoMemory)) = Unit {0}
 
 -- why there is nothing: the file is refused, or it means a picture with a fault
 abbrev pub IsNotTurned : List ℕ → Choice → NotTurned → Type 0
-IsNotTurned file choice (unturned.Picture fault) = (M : Meaning) × BeginsWith file M × (gray_fault choice.gray M ≡ Some fault)
+IsNotTurned file choice (unturned.Picture fault) = (M : Meaning) × BeginsWith file M × (picture_fault choice M ≡ Some fault)
 IsNotTurned file choice (unturned.Stop (stop.Fault f)) = IsRefusal standard_limits file f
 IsNotTurned file choice (unturned.Stop stop.NoMemory) = Unit {0}
 

@@ -2,7 +2,7 @@
 // coefficients; segments and faults are as they are defined (T.81, B.1.1).
 use crate::{Listed, NotTurned, comments_of, comments_of_pieces, list_segments, turn, turn_coefs};
 use jpg_base::{Fault, FaultAt, Stop};
-use jpg_transform::{BlockView, Choice, Coefs, Copying, Transform};
+use jpg_transform::{BlockView, Choice, Coefs, Copying, Restart, Scans, Transform};
 use std::test::Fail;
 
 // A gray file of 16 by 8. Its segments begin at 2 (a comment), 16 (DQT), 85 (SOF0), 98 and 121 (DHT) and 144
@@ -109,6 +109,8 @@ fn choice(transform: Transform) -> Choice {
         trim: false,
         gray: false,
         copying: Copying::Comments,
+        scans: Scans::Sequential,
+        restart: Restart::Off,
     }
 }
 

@@ -1,5 +1,5 @@
 -- Where all calls are done, a file that has what a command of comments wants gets it.
-use Rattle.std.proofs.Common.{◌⊎◌, ◌≡◌, ℕ, ◌<◌, ◌≤◌, List, length, take, Option, None, Some, sym, ap, ◌∙◌, subst, arith, inl, inr}
+use Rattle.std.proofs.Common.{◌⊎◌, ◌≡◌, ℕ, ◌<◌, ◌≤◌, List, length, take, Option, None, Some, Result, Ok, Err, sym, ap, ◌∙◌, subst, arith, inl, inr}
 use Rattle.std.proofs.lemmas.List.{length-append, take_all, take-append-le}
 use Rattle.jpg_base.specs.declared.names.Name.{Name}
 use Rattle.jpg_base.specs.declared.names.Name.TheVariants as name
@@ -12,21 +12,27 @@ use Rattle.jpg_spec.specs.declared.answers.Why.{Why}
 use Rattle.jpg_spec.specs.declared.answers.Why.TheVariants as why
 use Rattle.jpg_comments.specs.Inserting.{HoldsHead}
 use Rattle.jpg_comments.specs.Printing.{HoldsWhole}
+use Rattle.jpg_scans.proofs.OneScript.{one_answer}
 use Rattle.jpg_comments.proofs.OneAnswer.{heads_sound, reading_sound, whole_no_fault}
-use Rattle.jpg_cli.specs.Certain.{HasFrameHeader, HasImage, HasPicture, HasWholeFile, IsDoneOrWanting, IsTold, IsToldComment}
+use Rattle.jpg_cli.specs.Certain.{AreToldScans, HasFrameHeader, HasImage, HasPicture, HasWholeFile, IsDoneOrWanting, IsTold, IsToldComment, IsToldScript}
 use Rattle.jpg_cli.specs.CommentInserted.{HasInputFault, HasLongComment, Inserted, IsComment, IsInsertDue, Task}
 use Rattle.jpg_cli.specs.ReadComments.{IsPrintDue, Printed}
 use Rattle.jpg_cli.specs.Reading.{IsFile}
 use Rattle.jpg_cli.specs.Laws.{MeanSame, WasTurnedBack, text_back}
-use Rattle.jpg_cli.specs.Run.{IsAnswerDue, IsShowDue, NoneRose}
+use Rattle.jpg_cli.specs.Run.{IsAnswerDue, IsRefusalDue, IsShowDue, NoneRose}
+use Rattle.jpg_cli.specs.Commands.{name_of}
+use Rattle.jpg_cli.specs.ScriptTaken.{HasScans, HasScansFault, TellsIn}
 use Rattle.jpg_cli.specs.Showing.{Showing, Shown}
-use Rattle.jpg_cli.specs.Turned.{Turned, Turning}
+use Rattle.jpg_cli.specs.Turned.{Transformed}
 use Rattle.jpg_cli.specs.ReadPicture.{IsRefused, IsRefusedFor}
 use Rattle.jpg_cli.specs.declared.read_picture.Wanted.TheVariants.{Coefficients, Image}
 use Rattle.jpg_spec.specs.FirstFault.{IsFirstFault}
 use Rattle.jpg_spec.specs.Meaning.{Meaning}
 use Rattle.jpg_spec.specs.NotShown.{IsNotShown}
-use Rattle.jpg_spec.specs.Moved.{gray_fault, moved}
+use Rattle.jpg_spec.specs.Moved.{Scans, given, moved, picture_fault}
+use Rattle.jpg_spec.specs.Script.{Entry}
+use Rattle.jpg_spec.specs.ScriptGrammar.{TellsScript}
+use Rattle.jpg_spec.specs.TransformWords.{ScansSource, own_sequential, own_progressive, in_file, TransformAsked, choice_asked}
 use Rattle.jpg_spec.specs.declared.transform.PictureFault.{PictureFault}
 use Rattle.jpg_spec.specs.declared.transform.Transform.{Transform}
 use Rattle.jpg_spec.proofs.MovedBack.{moved_back}
@@ -107,21 +113,66 @@ refused_alone input f (inr a) = absurd a.0
 no_fault : (fault : PictureFault) → None ≡ Some fault → ⊥
 no_fault fault e = cc
 
-pub turned_certain : (t : Turning) (old new : DeskState) (w : Why) → HasPicture t old → NoneRose old.counts new.counts → Turned t old w new → IsDoneOrWanting w
-turned_certain t old new w has none turned = by w (due_answer t old new w none turned)
+-- the scans of a file that is told are one, and no fault
+
+abbrev Told : Type 0
+Told = Result (List Entry) FaultAt
+
+ok_same : (a b : List Entry) → (let x : Told = Ok a in x) ≡ Ok b → a ≡ b
+ok_same a b e = cc
+
+ok_or_fault : (a : List Entry) (f : FaultAt) → (let x : Told = Ok a in x) ≡ Err f → ⊥
+ok_or_fault a f e = cc
+
+script_once : (text : List ℕ) (a b : List Entry) → TellsScript text (Ok a) → TellsScript text (Ok b) → a ≡ b
+script_once text a b h k = ok_same a b (one_answer text (Ok a) (Ok b) h k)
+
+script_or_fault : (text : List ℕ) (a : List Entry) (f : FaultAt) → TellsScript text (Ok a) → TellsScript text (Err f) → ⊥
+script_or_fault text a f h k = ok_or_fault a f (one_answer text (Ok a) (Err f) h k)
+
+one_script : (old : DeskState) (file : List ℕ) (script other : List Entry) → IsToldScript old file script → TellsIn (name.File file) (Ok other) old → other ≡ script
+one_script old file script other told is =
+    let same = one_file old.files (name.File file) told.text is.text told.told is.is in
+    script_once told.text other script (subst (λ (t : List ℕ). TellsScript t (Ok other)) same is.tells) told.tells
+
+no_script_fault : (old : DeskState) (file : List ℕ) (script : List Entry) (f : FaultAt) → IsToldScript old file script → TellsIn (name.File file) (Err f) old → ⊥
+no_script_fault old file script f told is =
+    let same = one_file old.files (name.File file) told.text is.text told.told is.is in
+    script_or_fault told.text script f told.tells (subst (λ (t : List ℕ). TellsScript t (Err f)) same is.tells)
+
+pub same_scans : (old : DeskState) (source : ScansSource) (scans other : Scans) → AreToldScans old source scans → HasScans source old other → other ≡ scans
+same_scans old own_sequential scans other told has = has ∙ sym told
+same_scans old own_progressive scans other told has = has ∙ sym told
+same_scans old (in_file file) scans other (script, told, e) (found, is, h) = h ∙ ap (λ (s : List Entry). given s) (one_script old file script found told is) ∙ sym e
+
+pub no_scans_fault : (old : DeskState) (source : ScansSource) (scans : Scans) (f : FaultAt) → AreToldScans old source scans → HasScansFault source old f → ⊥
+no_scans_fault old own_sequential scans f told has = absurd has
+no_scans_fault old own_progressive scans f told has = absurd has
+no_scans_fault old (in_file file) scans f (script, told, e) has = no_script_fault old file script f told has
+
+pub turned_certain : (a : TransformAsked) (old new : DeskState) (w : Why) → HasPicture a old → NoneRose old.counts new.counts → Transformed a old w new → IsDoneOrWanting w
+turned_certain a old new w has none turned = by w (due_answer a old new w none turned)
   where
+    input : Name
+    input = name_of a.files.input
+
     refused : (f : FaultAt) (other : List ℕ) → other ≡ has.bytes → IsRefused other f → ⊥
     refused f other same fault =
         means_no_fault standard_limits has.bytes has.meaning f.fault f.at has.means (subst (λ (b : List ℕ). IsFirstFault standard_limits b f.fault f.at) same fault)
 
-    by : (w : Why) → IsAnswerDue t old w → IsDoneOrWanting w
+    due_refused : (f : FaultAt) → IsRefusalDue a f old → ⊥
+    due_refused f (inl fault) = no_scans_fault old a.scans has.scans f has.asked fault
+    due_refused f (inr (scans, is, due)) = refused f due.bytes (one_file old.files input has.bytes due.bytes has.told due.file) (refused_alone due.bytes f due.refused)
+
+    by : (w : Why) → IsAnswerDue a old w → IsDoneOrWanting w
     by why.Done due = tt
     by (why.Usage u) due = absurd due
     by (why.Picture p) due =
         let k = due.picture in
-        let same = (means_once standard_limits has.bytes k.bytes has.meaning k.meaning has.means k.means (sym (one_file old.files t.input has.bytes k.bytes has.told k.file))).0 in
-        absurd (no_fault p (sym has.admitted ∙ ap (λ (M : Meaning). gray_fault t.choice.gray M) same ∙ due.is))
-    by (why.Refused f) due = absurd (refused f due.bytes (one_file old.files t.input has.bytes due.bytes has.told due.file) (refused_alone due.bytes f due.refused))
+        let scans = same_scans old a.scans has.scans due.scans has.asked due.asked in
+        let same = (means_once standard_limits has.bytes k.bytes has.meaning k.meaning has.means k.means (sym (one_file old.files input has.bytes k.bytes has.told k.file))).0 in
+        absurd (no_fault p (sym has.admitted ∙ ap (λ (s : Scans). picture_fault (choice_asked a s) has.meaning) (sym scans) ∙ ap (λ (M : Meaning). picture_fault (choice_asked a due.scans) M) same ∙ due.is))
+    by (why.Refused f) due = absurd (due_refused f due)
     by (why.OpenFault u) due = absurd due
     by (why.ReadFault u) due = absurd due
     by why.WriteFault due = absurd due

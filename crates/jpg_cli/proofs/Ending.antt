@@ -1,5 +1,5 @@
 -- A run is its work, and then its message.
-use Rattle.std.proofs.Common.{◌≡◌, ℕ, Bool, true, false, List, [], ◌∷◌, ◌++◌, take, drop, Option, ap, sym, ◌∙◌, subst, arith, inl, inr}
+use Rattle.std.proofs.Common.{◌≡◌, ℕ, Bool, true, false, List, [], ◌∷◌, ◌++◌, take, drop, Option, refl, ap, sym, ◌∙◌, subst, arith, inl, inr}
 use Rattle.std.proofs.lemmas.List.{append_assoc, take-append-drop}
 use Rattle.std.specs.Io.KnownBytes.{Appends}
 use Rattle.jpg_base.specs.declared.names.Name.{Name}
@@ -17,8 +17,11 @@ use Rattle.jpg_cli.specs.Commands.{Command, not_built, transform_picture, show_p
 use Rattle.jpg_cli.proofs.CommentsPrinted.{printed_then}
 use Rattle.jpg_cli.proofs.InsertedThen.{inserted_then}
 use Rattle.jpg_cli.proofs.PictureTaken.{from_still}
-use Rattle.jpg_transform.specs.Planned.{moved_text}
-use Rattle.jpg_cli.specs.Turned.{ReadsPicture, Turned, Turning}
+use Rattle.jpg_spec.specs.Moved.{Scans, moved_text}
+use Rattle.jpg_spec.specs.TransformWords.{ScansSource, own_sequential, own_progressive, in_file, TransformAsked}
+use Rattle.jpg_cli.specs.ScriptTaken.{HasScans, HasScansFault, StopsAtScans}
+use Rattle.jpg_cli.specs.Turned.{ReadsPicture, Transformed, Turned, Turning, to_input, turning_of}
+use Rattle.jpg_cli.proofs.ScriptTaken.{stopped_scans_then}
 use Rattle.jpg_cli.specs.Reading.{rest_of}
 use Rattle.jpg_cli.specs.ReadPicture.{IsOpenRead, IsRefusedRead, IsShortRead, IsWholeRead, ReadsFrom}
 use Rattle.jpg_spec.specs.FileMeaning.{Means}
@@ -27,7 +30,7 @@ use Rattle.jpg_spec.specs.Segments.{standard_limits}
 use Rattle.jpg_spec.proofs.FileLaws.{means_more}
 use Rattle.jpg_spec.specs.Messages.{message, status_of}
 use Rattle.jpg_cli.proofs.Endings.{stopped_then, unopened_then, unread_then, wrote_then}
-use Rattle.jpg_cli.specs.Run.{PictureInput, SaysText, task_of, turning_of, showing_of, RanShow, Worked, Works, Ran, IsAnswerDue, IsShowDue, NoneRose}
+use Rattle.jpg_cli.specs.Run.{PictureInput, SaysText, task_of, showing_of, RanShow, Worked, Works, Ran, IsAnswerDue, IsShowDue, NoneRose}
 use Rattle.jpg_cli.specs.Ends.{has_format}
 use Rattle.jpg_cli.specs.Showing.{Showing, Shown}
 use Rattle.jpg_cli.specs.declared.read_picture.Wanted.{Wanted}
@@ -40,30 +43,35 @@ picture_then : (t : Turning) (s0 s1 s2 : DeskState) (M : Meaning) → OnlySays s
 picture_then t s0 s1 s2 M k h = record { read = from_still s0 s1 s2 t.input (IsWholeRead Coefficients M) k.same.left h.read; admitted = h.admitted }
 
 turned_then : (t : Turning) (s0 s1 s2 : DeskState) (w : Why) → OnlySays s1 s2 → Turned t s0 w s1 → Turned t s0 w s2
-turned_then t s0 s1 s2 why.Done k (M, read, wrote, means) = (M, picture_then t s0 s1 s2 M k read, wrote_then s0 s1 s2 (t.input ∷ []) t.output (moved_text t.choice M) k wrote, means)
+turned_then t s0 s1 s2 why.Done k (M, read, wrote, means) = (M, picture_then t s0 s1 s2 M k read, wrote_then s0 s1 s2 (to_input t) t.output (moved_text t.choice M) k wrote, means)
 turned_then t s0 s1 s2 (why.Usage u) k h = absurd h
 turned_then t s0 s1 s2 (why.Refused f) k h =
     let P : Option (List ℕ) → Type 0 = λ l. ReadsFrom t.input (IsRefusedRead Coefficients f (rest_of l)) s0 s2 in
-    (stopped_then s0 s1 s2 (t.input ∷ []) put.Done k h.0, subst P (sym k.same.left) (from_still s0 s1 s2 t.input (IsRefusedRead Coefficients f (rest_of s1.left)) k.same.left h.1))
-turned_then t s0 s1 s2 (why.Picture p) k h = (stopped_then s0 s1 s2 (t.input ∷ []) put.Done k h.0, (h.1.0, from_still s0 s1 s2 t.input (IsWholeRead Coefficients h.1.0) k.same.left h.1.1, h.1.2))
-turned_then t s0 s1 s2 (why.OpenFault which.Input) k h = unopened_then s0 s1 s2 (t.input ∷ []) k h
+    (stopped_then s0 s1 s2 (to_input t) put.Done k h.0, subst P (sym k.same.left) (from_still s0 s1 s2 t.input (IsRefusedRead Coefficients f (rest_of s1.left)) k.same.left h.1))
+turned_then t s0 s1 s2 (why.Picture p) k h = (stopped_then s0 s1 s2 (to_input t) put.Done k h.0, (h.1.0, from_still s0 s1 s2 t.input (IsWholeRead Coefficients h.1.0) k.same.left h.1.1, h.1.2))
+turned_then t s0 s1 s2 (why.OpenFault which.Input) k h = unopened_then s0 s1 s2 (to_input t) k h
 turned_then t s0 s1 s2 (why.OpenFault which.Script) k h = absurd h
 turned_then t s0 s1 s2 (why.OpenFault which.Tables) k h = absurd h
 turned_then t s0 s1 s2 (why.OpenFault which.Comment) k h = absurd h
-turned_then t s0 s1 s2 (why.OpenFault which.Output) k h = (unopened_then s0 s1 s2 (t.input ∷ t.output ∷ []) k h.0, (h.1.0, picture_then t s0 s1 s2 h.1.0 k h.1.1))
-turned_then t s0 s1 s2 (why.ReadFault which.Input) k h = (unread_then s0 s1 s2 (t.input ∷ []) k h.0, from_still s0 s1 s2 t.input (IsOpenRead Coefficients) k.same.left h.1)
+turned_then t s0 s1 s2 (why.OpenFault which.Output) k h = (unopened_then s0 s1 s2 (to_input t ++ t.output ∷ []) k h.0, (h.1.0, picture_then t s0 s1 s2 h.1.0 k h.1.1))
+turned_then t s0 s1 s2 (why.ReadFault which.Input) k h = (unread_then s0 s1 s2 (to_input t) k h.0, from_still s0 s1 s2 t.input (IsOpenRead Coefficients) k.same.left h.1)
 turned_then t s0 s1 s2 (why.ReadFault which.Script) k h = absurd h
 turned_then t s0 s1 s2 (why.ReadFault which.Tables) k h = absurd h
 turned_then t s0 s1 s2 (why.ReadFault which.Comment) k h = absurd h
 turned_then t s0 s1 s2 (why.ReadFault which.Output) k h = absurd h
 turned_then t s0 s1 s2 why.WriteFault k h = (
   (let rose = h.0 in let f = k.stays.counts.writes in omega (arith, rose, f)),
-  (h.1.0, h.1.1, picture_then t s0 s1 s2 h.1.0 k h.1.2, wrote_then s0 s1 s2 (t.input ∷ []) t.output (take h.1.1 (moved_text t.choice h.1.0)) k h.1.3),
+  (h.1.0, h.1.1, picture_then t s0 s1 s2 h.1.0 k h.1.2, wrote_then s0 s1 s2 (to_input t) t.output (take h.1.1 (moved_text t.choice h.1.0)) k h.1.3),
 )
-turned_then t s0 s1 s2 why.NoMemory k h = (stopped_then s0 s1 s2 (t.input ∷ []) put.Done k h.0, from_still s0 s1 s2 t.input IsShortRead k.same.left h.1)
+turned_then t s0 s1 s2 why.NoMemory k h = (stopped_then s0 s1 s2 (to_input t) put.Done k h.0, from_still s0 s1 s2 t.input IsShortRead k.same.left h.1)
 
 untouched_then : (s0 s1 s2 : DeskState) → OnlySays s1 s2 → Untouched s0 s1 → Untouched s0 s2
 untouched_then s0 s1 s2 k t = record { asked = k.same.asked ∙ t.asked; outputs = k.same.outputs ∙ t.outputs; left = k.same.left ∙ t.left }
+
+transformed_then : (a : TransformAsked) (s0 s1 s2 : DeskState) (w : Why) → OnlySays s1 s2 → Transformed a s0 w s1 → Transformed a s0 w s2
+transformed_then a s0 s1 s2 w k (inl h) = inl (stopped_scans_then a.scans s0 s1 s2 w k h)
+transformed_then a s0 s1 s2 w k (inr (inl (scans, has, turned))) = inr (inl (scans, has, turned_then (turning_of a scans) s0 s1 s2 w k turned))
+transformed_then a s0 s1 s2 w k (inr (inr t)) = inr (inr (t.0, untouched_then s0 s1 s2 k t.1))
 
 show_then : (b : Bool) (a : ShowAsked) (s0 s1 s2 : DeskState) (w : Why) → OnlySays s1 s2 → RanShow b a s0 w s1 → RanShow b a s0 w s2
 show_then true a s0 s1 s2 w k (inl t) = inl (shown_then (showing_of a) s0 s1 s2 w k t)
@@ -73,8 +81,7 @@ show_then false a s0 s1 s2 w k t = (t.0, untouched_then s0 s1 s2 k t.1)
 worked_then : (formats : List EndKind) (a : WordsTold Command) (s0 s1 s2 : DeskState) (w : Why) → OnlySays s1 s2 → Worked formats a s0 w s1 → Worked formats a s0 w s2
 worked_then formats (words_wrong u) s0 s1 s2 w k t = (t.0, untouched_then s0 s1 s2 k t.1)
 worked_then formats (words_right not_built) s0 s1 s2 w k t = (t.0, untouched_then s0 s1 s2 k t.1)
-worked_then formats (words_right (transform_picture asked)) s0 s1 s2 w k (inl t) = inl (turned_then (turning_of asked) s0 s1 s2 w k t)
-worked_then formats (words_right (transform_picture asked)) s0 s1 s2 w k (inr t) = inr (t.0, untouched_then s0 s1 s2 k t.1)
+worked_then formats (words_right (transform_picture asked)) s0 s1 s2 w k t = transformed_then asked s0 s1 s2 w k t
 worked_then formats (words_right (show_picture asked)) s0 s1 s2 w k t = show_then (has_format asked.kind formats) asked s0 s1 s2 w k t
 worked_then formats (words_right (print_comments files)) s0 s1 s2 w k (inl t) = inl (printed_then s0 s1 s2 (name_of files.input) (name_of files.output) w k t)
 worked_then formats (words_right (print_comments files)) s0 s1 s2 w k (inr t) = inr (t.0, untouched_then s0 s1 s2 k t.1)
@@ -111,24 +118,51 @@ picture_due wanted input s0 s1 M h =
       means = subst (λ (b : List ℕ). Means standard_limits b M) cut (means_more standard_limits (take h.is.count h.bytes) (drop h.is.count h.bytes ++ rest) M h.is.whole.0);
     }
 
-pub due_answer : (t : Turning) (s0 s1 : DeskState) (w : Why) → NoneRose s0.counts s1.counts → Turned t s0 w s1 → IsAnswerDue t s0 w
+-- in these scans
+turned_due : (a : TransformAsked) (scans : Scans) (s0 s1 : DeskState) (w : Why) → HasScans a.scans s0 scans → NoneRose s0.counts s1.counts → Turned (turning_of a scans) s0 w s1 → IsAnswerDue a s0 w
 unfolding picture_due
-due_answer t s0 s1 why.Done n (M, read, wrote, means) = record { picture = picture_due Coefficients t.input s0 s1 M read.read; is = read.admitted }
-due_answer t s0 s1 (why.Usage u) n h = absurd h
-due_answer t s0 s1 (why.Refused f) n h = record { bytes = h.1.bytes ++ rest_of s1.left; file = h.1.read; refused = h.1.is.refused }
-due_answer t s0 s1 (why.Picture p) n h = record { picture = picture_due Coefficients t.input s0 s1 h.1.0 h.1.1; is = h.1.2 }
-due_answer t s0 s1 (why.OpenFault which.Input) n h = absurd (n.0 h.opens)
-due_answer t s0 s1 (why.OpenFault which.Script) n h = absurd h
-due_answer t s0 s1 (why.OpenFault which.Tables) n h = absurd h
-due_answer t s0 s1 (why.OpenFault which.Comment) n h = absurd h
-due_answer t s0 s1 (why.OpenFault which.Output) n h = absurd (n.0 h.0.opens)
-due_answer t s0 s1 (why.ReadFault which.Input) n h = absurd (n.1 h.0.reads)
-due_answer t s0 s1 (why.ReadFault which.Script) n h = absurd h
-due_answer t s0 s1 (why.ReadFault which.Tables) n h = absurd h
-due_answer t s0 s1 (why.ReadFault which.Comment) n h = absurd h
-due_answer t s0 s1 (why.ReadFault which.Output) n h = absurd h
-due_answer t s0 s1 why.WriteFault n h = absurd (n.2 h.0)
-due_answer t s0 s1 why.NoMemory n h = tt
+turned_due a scans s0 s1 why.Done has n (M, read, wrote, means) = record { scans = scans; asked = has; picture = picture_due Coefficients (name_of a.files.input) s0 s1 M read.read; is = read.admitted }
+turned_due a scans s0 s1 (why.Usage u) has n h = absurd h
+turned_due a scans s0 s1 (why.Refused f) has n h = inr (scans, has, record { bytes = h.1.bytes ++ rest_of s1.left; file = h.1.read; refused = h.1.is.refused })
+turned_due a scans s0 s1 (why.Picture p) has n h = record { scans = scans; asked = has; picture = picture_due Coefficients (name_of a.files.input) s0 s1 h.1.0 h.1.1; is = h.1.2 }
+turned_due a scans s0 s1 (why.OpenFault which.Input) has n h = absurd (n.0 h.opens)
+turned_due a scans s0 s1 (why.OpenFault which.Script) has n h = absurd h
+turned_due a scans s0 s1 (why.OpenFault which.Tables) has n h = absurd h
+turned_due a scans s0 s1 (why.OpenFault which.Comment) has n h = absurd h
+turned_due a scans s0 s1 (why.OpenFault which.Output) has n h = absurd (n.0 h.0.opens)
+turned_due a scans s0 s1 (why.ReadFault which.Input) has n h = absurd (n.1 h.0.reads)
+turned_due a scans s0 s1 (why.ReadFault which.Script) has n h = absurd h
+turned_due a scans s0 s1 (why.ReadFault which.Tables) has n h = absurd h
+turned_due a scans s0 s1 (why.ReadFault which.Comment) has n h = absurd h
+turned_due a scans s0 s1 (why.ReadFault which.Output) has n h = absurd h
+turned_due a scans s0 s1 why.WriteFault has n h = absurd (n.2 h.0)
+turned_due a scans s0 s1 why.NoMemory has n h = tt
+
+-- or without any
+stopped_due : (a : TransformAsked) (source : ScansSource) (s0 s1 : DeskState) (w : Why) → source ≡ a.scans → NoneRose s0.counts s1.counts → StopsAtScans source s0 w s1 → IsAnswerDue a s0 w
+stopped_due a own_sequential s0 s1 w e n h = absurd h
+stopped_due a own_progressive s0 s1 w e n h = absurd h
+stopped_due a (in_file file) s0 s1 why.Done e n h = absurd h
+stopped_due a (in_file file) s0 s1 (why.Usage u) e n h = absurd h
+stopped_due a (in_file file) s0 s1 (why.Refused f) e n h = inl (subst (λ (source : ScansSource). HasScansFault source s0 f) e h.fault)
+stopped_due a (in_file file) s0 s1 (why.Picture p) e n h = absurd h
+stopped_due a (in_file file) s0 s1 (why.OpenFault which.Input) e n h = absurd h
+stopped_due a (in_file file) s0 s1 (why.OpenFault which.Script) e n h = absurd (n.0 h.opens)
+stopped_due a (in_file file) s0 s1 (why.OpenFault which.Tables) e n h = absurd h
+stopped_due a (in_file file) s0 s1 (why.OpenFault which.Comment) e n h = absurd h
+stopped_due a (in_file file) s0 s1 (why.OpenFault which.Output) e n h = absurd h
+stopped_due a (in_file file) s0 s1 (why.ReadFault which.Input) e n h = absurd h
+stopped_due a (in_file file) s0 s1 (why.ReadFault which.Script) e n h = absurd (n.1 h.0.reads)
+stopped_due a (in_file file) s0 s1 (why.ReadFault which.Tables) e n h = absurd h
+stopped_due a (in_file file) s0 s1 (why.ReadFault which.Comment) e n h = absurd h
+stopped_due a (in_file file) s0 s1 (why.ReadFault which.Output) e n h = absurd h
+stopped_due a (in_file file) s0 s1 why.WriteFault e n h = absurd h
+stopped_due a (in_file file) s0 s1 why.NoMemory e n h = tt
+
+pub due_answer : (a : TransformAsked) (s0 s1 : DeskState) (w : Why) → NoneRose s0.counts s1.counts → Transformed a s0 w s1 → IsAnswerDue a s0 w
+due_answer a s0 s1 w n (inl h) = stopped_due a a.scans s0 s1 w refl n h
+due_answer a s0 s1 w n (inr (inl (scans, has, turned))) = turned_due a scans s0 s1 w has n turned
+due_answer a s0 s1 w n (inr (inr (wanting, same))) = subst (λ (v : Why). IsAnswerDue a s0 v) (sym wanting) tt
 
 pub show_due : (s : Showing) (s0 s1 : DeskState) (w : Why) → NoneRose s0.counts s1.counts → Shown s s0 w s1 → IsShowDue s s0 w
 unfolding picture_due

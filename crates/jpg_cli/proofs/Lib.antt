@@ -14,7 +14,6 @@ pub mod Input
 pub mod InsertedCopied
 pub mod InsertedThen
 pub mod Matching
-pub mod MovedFile
 pub mod Names
 pub mod Naming
 pub mod OneRefusal
@@ -24,5 +23,6 @@ pub mod PictureTaken
 pub mod RefusedOnce
 pub mod Running
 pub mod Saying
+pub mod ScriptTaken
 pub mod Shown
 pub mod Unwanted

@@ -1,5 +1,5 @@
 -- Where something is wanted of an input, it is refused with one fault at one place; and a file that means a picture with none.
-use Rattle.std.proofs.Common.{◌≡◌, ℕ, List, ◌++◌, subst, arith, inl, inr}
+use Rattle.std.proofs.Common.{◌≡◌, ℕ, List, ◌++◌, refl, sym, subst, arith, inl, inr}
 use Rattle.jpg_base.specs.Desk.{DeskState}
 use Rattle.jpg_spec.specs.FirstFault.{HasMeaning}
 use Rattle.jpg_spec.specs.Segments.{standard_limits}
@@ -14,9 +14,12 @@ use Rattle.jpg_cli.specs.ReadPicture.{IsRefused, IsRefusedFor, IsUnwanted}
 use Rattle.jpg_cli.specs.declared.read_picture.Wanted.{Wanted}
 use Rattle.jpg_cli.specs.declared.read_picture.Wanted.TheVariants.{Coefficients, Image}
 use Rattle.jpg_cli.specs.Reading.{rest_of}
-use Rattle.jpg_cli.specs.Turned.{Turned, Turning}
+use Rattle.jpg_spec.specs.Moved.{Scans}
+use Rattle.jpg_spec.specs.TransformWords.{ScansSource, own_sequential, own_progressive, in_file, TransformAsked}
+use Rattle.jpg_cli.specs.ScriptTaken.{HasScansFault, StopsAtScans}
+use Rattle.jpg_cli.specs.Turned.{Transformed, Turned, Turning, turning_of}
 use Rattle.jpg_cli.proofs.RefusedOnce.{one_refusal}
-use Rattle.jpg_cli.proofs.Certain.{one_file, refused_alone}
+use Rattle.jpg_cli.proofs.Certain.{no_scans_fault, one_file, refused_alone}
 
 -- WHATEVER IS WANTED
 
@@ -44,12 +47,30 @@ runs_refuse_once input f g a b = one_refusal input f g (run_refused a.turning a.
 pub none_refused : (input : List ℕ) (f : FaultAt) → IsRefused input f → HasMeaning standard_limits input → ⊥
 none_refused input f a (M, means) = means_no_fault standard_limits input M f.fault f.at means a
 
-pub turned_file : (t : Turning) (old new : DeskState) (w : Why) → HasFile t old → Turned t old w new → IsNotRefused w
-turned_file t old new why.Done has h = tt
-turned_file t old new (why.Usage u) has h = absurd h
-turned_file t old new (why.Picture p) has h = tt
-turned_file t old new (why.Refused f) has h = absurd (none_refused has.bytes f (run_refused t old new has.bytes f has.told h) has.means)
-turned_file t old new (why.OpenFault file) has h = tt
-turned_file t old new (why.ReadFault file) has h = tt
-turned_file t old new why.WriteFault has h = tt
-turned_file t old new why.NoMemory has h = tt
+turned_file : (a : TransformAsked) (scans : Scans) (old new : DeskState) (w : Why) → HasFile a old → Turned (turning_of a scans) old w new → IsNotRefused w
+turned_file a scans old new why.Done has h = tt
+turned_file a scans old new (why.Usage u) has h = absurd h
+turned_file a scans old new (why.Picture p) has h = tt
+turned_file a scans old new (why.Refused f) has h = absurd (none_refused has.bytes f (run_refused (turning_of a scans) old new has.bytes f has.told h) has.means)
+turned_file a scans old new (why.OpenFault file) has h = tt
+turned_file a scans old new (why.ReadFault file) has h = tt
+turned_file a scans old new why.WriteFault has h = tt
+turned_file a scans old new why.NoMemory has h = tt
+
+told_script : (a : TransformAsked) (source : ScansSource) (old new : DeskState) (w : Why) → source ≡ a.scans → HasFile a old → StopsAtScans source old w new → IsNotRefused w
+told_script a own_sequential old new w e has h = absurd h
+told_script a own_progressive old new w e has h = absurd h
+told_script a (in_file file) old new why.Done e has h = tt
+told_script a (in_file file) old new (why.Usage u) e has h = absurd h
+told_script a (in_file file) old new (why.Picture p) e has h = tt
+told_script a (in_file file) old new (why.Refused f) e has h =
+    absurd (no_scans_fault old a.scans has.scans f has.asked (subst (λ (source : ScansSource). HasScansFault source old f) e h.fault))
+told_script a (in_file file) old new (why.OpenFault which) e has h = tt
+told_script a (in_file file) old new (why.ReadFault which) e has h = tt
+told_script a (in_file file) old new why.WriteFault e has h = tt
+told_script a (in_file file) old new why.NoMemory e has h = tt
+
+pub transformed_file : (a : TransformAsked) (old new : DeskState) (w : Why) → HasFile a old → Transformed a old w new → IsNotRefused w
+transformed_file a old new w has (inl h) = told_script a a.scans old new w refl has h
+transformed_file a old new w has (inr (inl (scans, is, turned))) = turned_file a scans old new w has turned
+transformed_file a old new w has (inr (inr (wanting, same))) = subst IsNotRefused (sym wanting) tt

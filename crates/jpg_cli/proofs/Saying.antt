@@ -3,7 +3,7 @@ use Rattle.std.proofs.Common.{◌≡◌, ◌==◌, ◌++◌, ℕ, ◌+◌, ◌<�
 use Rattle.std.proofs.lemmas.List.{drop_all, drop_more}
 use Rattle.jpg_spec.specs.CommentWords.{WordsTold, usage_at, words_right, words_wrong}
 use Rattle.jpg_spec.specs.Switches.{Switch, is_switch, lower, purpose_of}
-use Rattle.jpg_spec.specs.Requests.{Request, SwitchAsked, alone, request_from, switch_asked, then_asks, valued, without_b, wrong}
+use Rattle.jpg_spec.specs.Requests.{Request, SwitchAsked, alone, ends_with_b, request_from, switch_asked, then_asks, valued, without_b, wrong}
 use Rattle.jpg_spec.specs.declared.answers.Usage.{Usage}
 use Rattle.jpg_spec.specs.declared.answers.UsageFault.{UsageFault}
 use Rattle.jpg_spec.specs.declared.answers.UsageFault.TheVariants.{MissingValue, UnknownSwitch}
@@ -115,7 +115,16 @@ pub unknown_said : (sw : List Switch) (ws : List (List ℕ)) (i : ℕ) (s : Said
 unknown_said sw ws i s usage less u switch none =
     ap (request_from sw i (said_told s)) (one_more ws i less) ∙ wrong_asks sw i (said_told s) (word_at ws i) (drop (i + 1) ws) UnknownSwitch switch (ap (switch_asked i) none) ∙ ap (λ v. words_wrong v) (sym u)
 
--- a text without a B at its end
+-- a B at the end of a text
+ends_behind : (b c : ℕ) (rest : List ℕ) → ends_with_b (b ∷ rest ++ c ∷ []) ≡ ends_with_b (rest ++ c ∷ [])
+ends_behind b c [] = refl
+ends_behind b c (d ∷ rest) = refl
+
+pub ends_at : (before : List ℕ) (c : ℕ) → ends_with_b (before ++ c ∷ []) ≡ (lower c == 98)
+ends_at [] c = refl
+ends_at (b ∷ before) c = ends_behind b c before ∙ ends_at before c
+
+-- a text without it
 one_behind : (b c : ℕ) (rest : List ℕ) → without_b (b ∷ rest ++ c ∷ []) ≡ b ∷ without_b (rest ++ c ∷ [])
 one_behind b c [] = refl
 one_behind b c (d ∷ rest) = refl

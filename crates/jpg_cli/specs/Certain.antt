@@ -1,5 +1,5 @@
 -- WHERE AN ANSWER IS CERTAIN: over a desk that tells its files, where all calls are done and memory is there.
-use Rattle.std.specs.Prelude.{◌≡◌, ℕ, ◌<◌, ◌≤◌, List, length, Option, None, Some}
+use Rattle.std.specs.Prelude.{◌≡◌, ℕ, ◌<◌, ◌≤◌, List, length, Option, None, Some, Ok}
 use Rattle.jpg_base.specs.declared.names.Name.{Name}
 use Rattle.jpg_base.specs.declared.names.Name.TheVariants as name
 use Rattle.jpg_base.specs.Desk.{DeskState}
@@ -9,11 +9,14 @@ use Rattle.jpg_spec.specs.Meaning.{Meaning}
 use Rattle.jpg_spec.specs.Segments.{standard_limits}
 use Rattle.jpg_spec.specs.CommentText.{IsInserted, longest_comment}
 use Rattle.jpg_comments.specs.Answers.{IsWholeFront}
-use Rattle.jpg_spec.specs.Moved.{gray_fault}
+use Rattle.jpg_spec.specs.Moved.{Scans, sequential, standard, given, picture_fault}
+use Rattle.jpg_spec.specs.Script.{Entry}
+use Rattle.jpg_spec.specs.ScriptGrammar.{TellsScript}
+use Rattle.jpg_spec.specs.TransformWords.{ScansSource, own_sequential, own_progressive, in_file, TransformAsked, choice_asked}
 use Rattle.jpg_spec.specs.Pixels.{out_fault}
 use Rattle.jpg_cli.specs.CommentInserted.{Task}
 use Rattle.jpg_cli.specs.Showing.{Showing}
-use Rattle.jpg_cli.specs.Turned.{Turning}
+use Rattle.jpg_cli.specs.Commands.{name_of}
 use Rattle.jpg_spec.specs.CommentWords.{CommentSource, from_input, from_words, from_file}
 use Rattle.jpg_spec.specs.declared.answers.Why.{Why}
 use Rattle.jpg_spec.specs.declared.answers.Why.TheVariants as why
@@ -52,13 +55,27 @@ pub record HasFrameHeader (old : DeskState) (task : Task) : Type 0 where
   pub inserted : IsInserted standard_limits bytes comment task.replace text
   pub short : length bytes < standard_limits.input
 
--- The input is told, and means a picture, which has no fault for this choice.
-pub record HasPicture (t : Turning) (old : DeskState) : Type 0 where
+-- The file of this name is told, and tells this script.
+pub record IsToldScript (old : DeskState) (file : List ℕ) (script : List Entry) : Type 0 where
+  pub text : List ℕ
+  pub told : IsTold old.files (name.File file) text
+  pub tells : TellsScript text (Ok script)
+
+-- scans that are asked for: the own ones, or those of a file that is told
+abbrev pub AreToldScans : DeskState → ScansSource → Scans → Type 0
+AreToldScans old own_sequential scans = scans ≡ sequential
+AreToldScans old own_progressive scans = scans ≡ standard
+AreToldScans old (in_file file) scans = (script : List Entry) × IsToldScript old file script × (scans ≡ given script)
+
+-- The scans and the input are told, and the input means a picture, which has no fault for this choice.
+pub record HasPicture (a : TransformAsked) (old : DeskState) : Type 0 where
+  pub scans : Scans
   pub bytes : List ℕ
   pub meaning : Meaning
-  pub told : IsTold old.files t.input bytes
+  pub asked : AreToldScans old a.scans scans
+  pub told : IsTold old.files (name_of a.files.input) bytes
   pub means : Means standard_limits bytes meaning
-  pub admitted : gray_fault t.choice.gray meaning ≡ None
+  pub admitted : picture_fault (choice_asked a scans) meaning ≡ None
 
 -- The input is told, and means a picture that is shown.
 pub record HasImage (s : Showing) (old : DeskState) : Type 0 where
@@ -68,10 +85,12 @@ pub record HasImage (s : Showing) (old : DeskState) : Type 0 where
   pub means : Means standard_limits bytes meaning
   pub shown : out_fault s.gray meaning ≡ None
 
--- The input is told, and means a picture.
-pub record HasFile (t : Turning) (old : DeskState) : Type 0 where
+-- The scans and the input are told, and the input means a picture.
+pub record HasFile (a : TransformAsked) (old : DeskState) : Type 0 where
+  pub scans : Scans
   pub bytes : List ℕ
-  pub told : IsTold old.files t.input bytes
+  pub asked : AreToldScans old a.scans scans
+  pub told : IsTold old.files (name_of a.files.input) bytes
   pub means : HasMeaning standard_limits bytes
 
 -- The input wasn't refused: all was done, or its picture can't be written as it is asked for, or a device failed, or memory was wanting.

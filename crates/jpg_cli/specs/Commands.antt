@@ -39,13 +39,10 @@ abbrev pub show_command : WordsTold ShowAsked → WordsTold Command
 show_command (words_wrong usage) = words_wrong usage
 show_command (words_right asked) = words_right (show_picture asked)
 
--- and for jpegtran, but for what isn't built yet
-abbrev pub built_transform : TransformAsked → Command
-built_transform a = if a.unbuilt then not_built else transform_picture a
-
+-- and for jpegtran
 abbrev pub transform_command : WordsTold TransformAsked → WordsTold Command
 transform_command (words_wrong usage) = words_wrong usage
-transform_command (words_right a) = words_right (built_transform a)
+transform_command (words_right asked) = words_right (transform_picture asked)
 
 abbrev pub known_command : List ℕ → List (List ℕ) → WordsTold Command
 known_command tool words =

@@ -52,6 +52,11 @@ IsAnswer {Y} told asked (Err stop.NoMemory) = (y : Y) × (asked ≡ words_right 
 
 -- WORDS THAT ARE READ
 
+-- a word's text, if there is one
+abbrev pub text_told : Option (Bor (List ℕ)) → Option (List ℕ)
+text_told None = None
+text_told (Some word) = Some word.now
+
 -- an input's name, if there is one
 abbrev pub input_told : Option (Bor (List ℕ)) → FileName
 input_told None = standard_input

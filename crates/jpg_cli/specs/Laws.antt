@@ -4,10 +4,9 @@ use Rattle.jpg_base.specs.Desk.{DeskState}
 use Rattle.jpg_spec.specs.FileMeaning.{Means}
 use Rattle.jpg_spec.specs.Laws.{IsTransformOf, UndoesTransform}
 use Rattle.jpg_spec.specs.Meaning.{Meaning}
-use Rattle.jpg_spec.specs.Moved.{IsSamePicture}
+use Rattle.jpg_spec.specs.Moved.{IsSamePicture, moved_text}
 use Rattle.jpg_spec.specs.Segments.{standard_limits}
 use Rattle.jpg_spec.specs.declared.transform.Transform.{Transform}
-use Rattle.jpg_transform.specs.Planned.{moved_text}
 use Rattle.jpg_spec.specs.declared.answers.FaultAt.{FaultAt}
 use Rattle.jpg_spec.specs.declared.answers.Why.{Why}
 use Rattle.jpg_spec.specs.declared.answers.Why.TheVariants as why

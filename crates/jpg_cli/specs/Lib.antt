@@ -13,6 +13,7 @@ pub mod ReadPicture
 pub mod Reading
 pub mod Requests
 pub mod Run
+pub mod ScriptTaken
 pub mod ShowWords
 pub mod Showing
 pub mod Stays

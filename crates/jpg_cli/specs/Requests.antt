@@ -6,7 +6,8 @@ use Rattle.jpg_spec.specs.Requests.{Request, SwitchAsked, alone, request_from, v
 use Rattle.jpg_spec.specs.Switches.{Switch, is_switch, purpose_of}
 use Rattle.jpg_spec.specs.declared.switch.Purpose.{Purpose}
 use Rattle.jpg_spec.specs.declared.answers.Usage.{Usage}
-use Rattle.jpg_cli.specs.CommentWords.{AnswersWords, input_told, usage_told, word_at}
+use Rattle.jpg_file.specs.Restarts.{restart_of}
+use Rattle.jpg_cli.specs.CommentWords.{AnswersWords, input_told, text_told, usage_told, word_at}
 use Rattle.jpg_cli.specs.declared.requests.Said.{Said}
 
 -- an output's name, if there is one
@@ -22,11 +23,13 @@ files_said output input = record { input = input_told input; output = output_tol
 abbrev pub with_input_told : Said × Option (Bor (List ℕ)) → Request
 with_input_told p = record {
   files = files_said p.0.output p.1;
-  transform = p.0.choice.transform;
-  trim = p.0.choice.trim;
-  gray = p.0.choice.gray;
-  copying = p.0.choice.copying;
-  unbuilt = p.0.unbuilt;
+  transform = p.0.transform;
+  trim = p.0.trim;
+  gray = p.0.gray;
+  copying = p.0.copying;
+  progressive = p.0.progressive;
+  script = text_told p.0.script;
+  restart = restart_of p.0.restart;
   format = p.0.format;
   smooth = p.0.smooth;
 }

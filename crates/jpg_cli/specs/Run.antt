@@ -13,7 +13,7 @@ use Rattle.jpg_spec.specs.CommentWords.{FilesAsked, WordsTold, WriteAsked, words
 use Rattle.jpg_spec.specs.FileMeaning.{Means}
 use Rattle.jpg_spec.specs.Meaning.{Meaning}
 use Rattle.jpg_spec.specs.Messages.{message, status_of}
-use Rattle.jpg_spec.specs.Moved.{gray_fault}
+use Rattle.jpg_spec.specs.Moved.{Scans, picture_fault}
 use Rattle.jpg_spec.specs.Pixels.{out_fault}
 use Rattle.jpg_spec.specs.Segments.{standard_limits}
 use Rattle.jpg_spec.specs.ShowWords.{ShowAsked}
@@ -31,7 +31,8 @@ use Rattle.jpg_cli.specs.Ends.{has_format}
 use Rattle.jpg_cli.specs.Reading.{IsFile}
 use Rattle.jpg_cli.specs.Showing.{Showing, Shown}
 use Rattle.jpg_cli.specs.Stays.{FilesStay, OnlyWorks, Untouched}
-use Rattle.jpg_cli.specs.Turned.{Turned, Turning}
+use Rattle.jpg_cli.specs.ScriptTaken.{HasScans, HasScansFault}
+use Rattle.jpg_cli.specs.Turned.{Transformed}
 use Rattle.jpg_cli.specs.declared.top.Ended.{Ended}
 
 -- The text was said. Where the count of failed messages rose, a first part of it may have been said alone.
@@ -46,10 +47,12 @@ pub record PictureInput (input : Name) (old : DeskState) : Type 0 where
   pub file : IsFile old.files input bytes
   pub means : Means standard_limits bytes meaning
 
--- The picture has this fault as a gray one, or none.
-pub record PictureDue (t : Turning) (fault : Option PictureFault) (old : DeskState) : Type 0 where
-  pub picture : PictureInput t.input old
-  pub is : gray_fault t.choice.gray picture.meaning ≡ fault
+-- The picture has this fault in the scans that are asked for, or none.
+pub record PictureDue (a : TransformAsked) (fault : Option PictureFault) (old : DeskState) : Type 0 where
+  pub scans : Scans
+  pub asked : HasScans a.scans old scans
+  pub picture : PictureInput (name_of a.files.input) old
+  pub is : picture_fault (choice_asked a scans) picture.meaning ≡ fault
 
 -- It is shown.
 pub record ShownInput (s : Showing) (old : DeskState) : Type 0 where
@@ -62,13 +65,18 @@ pub record RefusedInput (w : Wanted) (input : Name) (f : FaultAt) (old : DeskSta
   pub file : IsFile old.files input bytes
   pub refused : IsRefusedFor w bytes f
 
--- Where no count of open, read or write rose, the answer is the one that the input has, or want of memory.
-abbrev pub IsAnswerDue : Turning → DeskState → Why → Type 0
-IsAnswerDue t old why.Done = PictureDue t None old
-IsAnswerDue t old (why.Refused f) = RefusedInput Coefficients t.input f old
-IsAnswerDue t old (why.Picture fault) = PictureDue t (Some fault) old
-IsAnswerDue t old why.NoMemory = Unit {0}
-IsAnswerDue t old other = ⊥
+-- The file that shall tell the scans has this fault; or it tells them, and the input is refused with this fault.
+abbrev pub IsRefusalDue : TransformAsked → FaultAt → DeskState → Type 0
+IsRefusalDue a f old =
+    HasScansFault a.scans old f ⊎ ((scans : Scans) × HasScans a.scans old scans × RefusedInput Coefficients (name_of a.files.input) f old)
+
+-- Where no count of open, read or write rose, the answer is the one that the scans and the input have, or want of memory.
+abbrev pub IsAnswerDue : TransformAsked → DeskState → Why → Type 0
+IsAnswerDue a old why.Done = PictureDue a None old
+IsAnswerDue a old (why.Refused f) = IsRefusalDue a f old
+IsAnswerDue a old (why.Picture fault) = PictureDue a (Some fault) old
+IsAnswerDue a old why.NoMemory = Unit {0}
+IsAnswerDue a old other = ⊥
 
 abbrev pub IsShowDue : Showing → DeskState → Why → Type 0
 IsShowDue s old why.Done = ShownInput s old
@@ -78,13 +86,6 @@ IsShowDue s old other = ⊥
 
 abbrev pub NoneRose : Counts → Counts → Type 0
 NoneRose old new = (Rose old.opens new.opens → ⊥) × (Rose old.reads new.reads → ⊥) × (Rose old.writes new.writes → ⊥)
-
--- A picture is turned, or memory was wanting for the names of its files.
-abbrev pub turning_of : TransformAsked → Turning
-turning_of a = record { input = name_of a.files.input; output = name_of a.files.output; choice = choice_asked a }
-
-abbrev pub RanTransform : TransformAsked → DeskState → Why → DeskState → Type 0
-RanTransform a old ended new = Turned (turning_of a) old ended new ⊎ ((ended ≡ why.NoMemory) × Untouched old new)
 
 -- A picture is shown, where one of the ends of images has the format, or memory was wanting for the names of its files.
 abbrev pub showing_of : ShowAsked → Showing
@@ -106,7 +107,7 @@ task_of asked = record { comment = asked.comment; input = name_of asked.files.in
 abbrev pub Worked : List EndKind → WordsTold Command → DeskState → Why → DeskState → Type 0
 Worked formats (words_wrong usage) old ended new = (ended ≡ why.Usage usage) × Untouched old new
 Worked formats (words_right unbuilt) old ended new = (ended ≡ why.Refused (record { fault = NotBuilt; at = 0 })) × Untouched old new
-Worked formats (words_right (transform_picture asked)) old ended new = RanTransform asked old ended new
+Worked formats (words_right (transform_picture asked)) old ended new = Transformed asked old ended new
 Worked formats (words_right (show_picture asked)) old ended new = RanShow (has_format asked.kind formats) asked old ended new
 Worked formats (words_right (print_comments files)) old ended new = RanRead files old ended new
 Worked formats (words_right (insert_comment asked)) old ended new = Inserted (task_of asked) old ended new

@@ -6,16 +6,19 @@ use Rattle.jpg_base.specs.Desk.{DeskState, Rose, NotesName}
 use Rattle.jpg_base.specs.Laws.{Grows}
 use Rattle.jpg_spec.specs.FileMeaning.{Means}
 use Rattle.jpg_spec.specs.Meaning.{Meaning}
-use Rattle.jpg_spec.specs.Moved.{Choice, gray_fault}
+use Rattle.jpg_spec.specs.Moved.{Choice, moved, moved_text, picture_fault}
 use Rattle.jpg_spec.specs.Segments.{standard_limits}
 use Rattle.jpg_cli.specs.Stays.{Untouched}
 use Rattle.jpg_cli.specs.declared.writing.Wrote.{Wrote}
 use Rattle.jpg_cli.specs.declared.writing.Wrote.TheVariants as wrote
-use Rattle.jpg_transform.specs.Planned.{moved_text}
 
 -- some bytes mean this picture
 abbrev pub IsMeant : Meaning → Type 0
 IsMeant M = (bytes : List ℕ) × All (λ b. b < 256) bytes × Means standard_limits bytes M
+
+-- The text of the picture moved means it.
+abbrev pub MeansMoved : Choice → Meaning → Type 0
+MeansMoved choice M = Means standard_limits (moved_text choice M) (moved choice M)
 
 -- Outputs grew by one of this name, which holds a first part of the bytes.
 abbrev pub GrowsInPart : Name → DeskState → List ℕ → DeskState → Type 0
@@ -30,9 +33,10 @@ AfterOutput output old due wrote.OpenFault new =
 AfterOutput output old due wrote.WriteFault new =
     NotesName old.asked (output, put.Done) new.asked × Rose old.counts.writes new.counts.writes × GrowsInPart output old due new
 
--- THE ANSWERS: the picture has a fault for this choice, and nothing was asked for; or it has none, and its text is due
+-- THE ANSWERS: the picture has a fault for this choice, and nothing was asked for; or it has none, and its text is due, which means the picture moved
 abbrev pub AfterMoved : Choice → Meaning → Name → DeskState → Wrote → DeskState → Type 0
-AfterMoved choice M output old (wrote.Picture fault) new = (gray_fault choice.gray M ≡ Some fault) × Untouched old new
-AfterMoved choice M output old wrote.Done new = (gray_fault choice.gray M ≡ None) × AfterOutput output old (moved_text choice M) wrote.Done new
-AfterMoved choice M output old wrote.OpenFault new = (gray_fault choice.gray M ≡ None) × AfterOutput output old (moved_text choice M) wrote.OpenFault new
-AfterMoved choice M output old wrote.WriteFault new = (gray_fault choice.gray M ≡ None) × AfterOutput output old (moved_text choice M) wrote.WriteFault new
+AfterMoved choice M output old (wrote.Picture fault) new = (picture_fault choice M ≡ Some fault) × Untouched old new
+AfterMoved choice M output old wrote.Done new =
+    (picture_fault choice M ≡ None) × AfterOutput output old (moved_text choice M) wrote.Done new × MeansMoved choice M
+AfterMoved choice M output old wrote.OpenFault new = (picture_fault choice M ≡ None) × AfterOutput output old (moved_text choice M) wrote.OpenFault new
+AfterMoved choice M output old wrote.WriteFault new = (picture_fault choice M ≡ None) × AfterOutput output old (moved_text choice M) wrote.WriteFault new

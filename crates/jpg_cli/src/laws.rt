@@ -8,7 +8,8 @@ ghost use Rattle.jpg_spec.specs.Segments.{standard_limits};
 ghost use Rattle.jpg_spec.specs.declared.transform.Transform.{Transform};
 ghost use Rattle.jpg_spec.specs.declared.answers.FaultAt.{FaultAt};
 ghost use Rattle.jpg_cli.specs.Run.{IsAnswerDue, IsShowDue};
-ghost use Rattle.jpg_cli.specs.Turned.{Turned, Turning};
+ghost use Rattle.jpg_cli.specs.Turned.{Transformed};
+ghost use Rattle.jpg_spec.specs.TransformWords.{TransformAsked};
 ghost use Rattle.jpg_cli.specs.ReadComments.{IsPrintDue, Printed};
 ghost use Rattle.jpg_cli.specs.CommentInserted.{Inserted, IsInsertDue, Task};
 ghost use Rattle.jpg_cli.specs.ReadPicture.{IsRefusedFor};
@@ -19,24 +20,24 @@ ghost use Rattle.jpg_cli.specs.Laws.{MeanSame, WasRefused, WasTurnedBack, Whatev
 ghost use Rattle.jpg_cli.specs.Certain.{HasFile, HasFrameHeader, HasImage, HasPicture, HasWholeFile};
 ghost use Rattle.jpg_cli.specs.Certain.{IsNotRefused, IsDoneOrWanting};
 
-/// Where no count of open, read or write rose, a run that turns a picture ends as its input says: Done
-/// where it means a picture that has no fault for what is asked, Picture where it has one, Refused with its first fault, or
-/// NoMemory.
+/// Where no count of open, read or write rose, a run that turns a picture ends as its scans and its input say: Refused where the
+/// file that shall tell the scans has a fault; else Done where the input means a picture that has no fault for what is asked,
+/// Picture where it has one, Refused with its first fault; or NoMemory.
 pub fn answers_are_due()
-    ensures { (turning : Turning) (old : DeskState) → WhereNoneRose (Turned turning) old (IsAnswerDue turning old) }
+    ensures { (asked : TransformAsked) (old : DeskState) → WhereNoneRose (Transformed asked) old (IsAnswerDue asked old) }
 {}
 
-/// A file that means a picture is turned: where the desk tells it, the picture has no fault for what is asked, and no count
-/// of open, read or write rose, the run ends with Done, or for want of memory. It is never refused: whichever counts rose, the
-/// run ends with Done or Picture, or as a device failed, or for want of memory.
+/// A file that means a picture is turned: where the desk tells it, and the file of the scans if they come from one, the picture
+/// has no fault for what is asked, and no count of open, read or write rose, the run ends with Done, or for want of memory. It is
+/// never refused: whichever counts rose, the run ends with Done or Picture, or as a device failed, or for want of memory.
 pub fn pictures_are_turned()
-    ensures certain { (turning : Turning) (old : DeskState) → HasPicture turning old → WhereNoneRose (Turned turning) old IsDoneOrWanting }
-    ensures read { (turning : Turning) (old : DeskState) → HasFile turning old → WhateverRose (Turned turning) old IsNotRefused }
+    ensures certain { (asked : TransformAsked) (old : DeskState) → HasPicture asked old → WhereNoneRose (Transformed asked) old IsDoneOrWanting }
+    ensures read { (asked : TransformAsked) (old : DeskState) → HasFile asked old → WhateverRose (Transformed asked) old IsNotRefused }
 {}
 
 /// A transform and then its inverse, without trimming and graying, restore a picture: where the input's picture is what a
 /// transform makes of another one, and a run that asks for the inverse ends with Done, the output means a picture with the
-/// other's sides, identifiers, factors, quantisation tables and blocks, whatever is passed on.
+/// other's sides, identifiers, factors, quantisation tables and blocks, in whatever scans both are written and whatever is passed on.
 pub fn pictures_are_turned_back()
     ensures { (t : Transform) (M : Meaning) (run : WasTurnedBack t M) → MeanSame (text_back run) M }
 {}

@@ -1,8 +1,9 @@
 //! What switches and files ask for, in any command (the manuals of jpegtran and djpeg in release 6b; shortest forms are the
 //! suite's own).
-ghost use Rattle.std.specs.Prelude.{◌≡◌, ◌<◌, ◌≤◌, ℕ, IfOk, Some, length, map, drop, true, false, string_bytes};
+ghost use Rattle.std.specs.Prelude.{◌≡◌, ◌<◌, ◌≤◌, ℕ, IfOk, Some, length, map, drop, true, false, option_map, string_bytes};
 ghost use Rattle.jpg_spec.specs.CommentWords.{words_right};
-ghost use Rattle.jpg_spec.specs.Requests.{copying_named, flip_named, is_int, is_restart, is_whole_scale, number_of, request, rotation_named, switch_asked, transform_number, where_good, with_output, with_transform, with_value, without_b};
+ghost use Rattle.jpg_spec.specs.Requests.{copying_named, ends_with_b, flip_named, is_int, is_whole_scale, number_of, request, restart_by, restart_named, rotation_named, switch_asked, transform_number, where_good, with_output, with_transform, with_value, without_b};
+ghost use Rattle.jpg_file.specs.Restarts.{restart_of};
 ghost use Rattle.jpg_spec.specs.Switches.{is_switch};
 ghost use Rattle.jpg_cli.specs.CommentWords.{AnswersWords, files_told, word_at};
 ghost use Rattle.jpg_cli.specs.Requests.{IsSaid, IsSaidAtEnd, IsSaidOf, SaysAt, files_said, is_valued, said_told, with_input_told};
@@ -12,16 +13,21 @@ use crate::comment_words::{Files, usage, value_of, word_at};
 use crate::switches::{Switch, is_switch, lower, purpose_of, stands_for};
 use jpg_base::{Name, NoMemory, Text};
 use jpg_spec::{Copying, EndKind, Purpose, Transform, Usage, UsageFault};
-use jpg_transform::Choice;
+use jpg_transform::Restart;
 use std::alloc::Global;
 
 /// What the switches said so far.
 #[derive(Clone, Copy)]
 pub struct Said<'a> {
-    pub choice: Choice,
     pub output: Option<&'a str>,
-    /// Whether they asked for what isn't built yet.
-    pub unbuilt: bool,
+    pub transform: Transform,
+    pub trim: bool,
+    pub gray: bool,
+    pub copying: Copying,
+    pub progressive: bool,
+    /// The name of a file that tells the scans of the output, if there is one.
+    pub script: Option<&'a str>,
+    pub restart: Restart,
     /// The format of the image, with the index of the word that asks for it, if one does.
     pub format: Option<(EndKind, u64)>,
     pub smooth: bool,
@@ -37,14 +43,14 @@ pub fn read_said<'a>(
     ensures { AnswersWords with_input_told (request (map told_switch switches.now) (drop 1 (map string_bytes words.now))) result }
 {
     let mut said = Said {
-        choice: Choice {
-            transform: Transform::Keep,
-            trim: false,
-            gray: false,
-            copying: Copying::Comments,
-        },
         output: None,
-        unbuilt: false,
+        transform: Transform::Keep,
+        trim: false,
+        gray: false,
+        copying: Copying::Comments,
+        progressive: false,
+        script: None,
+        restart: Restart::Off,
         format: None,
         smooth: true,
     };
@@ -164,10 +170,9 @@ impl<'a> Said<'a> {
             Purpose::Trimming => Ok(self.trimmed()),
             Purpose::Graying => Ok(self.grayed()),
             Purpose::OutputNamed => Ok(self.written_to(value)),
-            Purpose::ProgressiveAsked | Purpose::ScriptInFile => Ok(self.not_built()),
-            Purpose::RestartGiven => self
-                .not_built()
-                .where_good(is_restart(value.as_bytes()), index),
+            Purpose::ProgressiveAsked => Ok(self.progressive()),
+            Purpose::ScriptInFile => Ok(self.scanned_by(value)),
+            Purpose::RestartGiven => self.restarted_by(restart_named(value.as_bytes()), index),
             Purpose::PnmAsked => Ok(self.shown_as(EndKind::Pnm, index)),
             Purpose::BmpAsked => Ok(self.shown_as(EndKind::Bmp, index)),
             Purpose::NotSmoothed => Ok(self.not_smoothed()),
@@ -180,29 +185,16 @@ impl<'a> Said<'a> {
         }
     }
 
-    // The same with this choice.
-    fn chosen(self, choice: Choice) -> Said<'a>
-        ensures { result ≡ record (self.entry) { choice = choice } }
-    {
-        Said { choice, ..self }
-    }
-
     fn trimmed(self) -> Said<'a>
         ensures { said_told result ≡ record (said_told self.entry) { trim = true } }
     {
-        self.chosen(Choice {
-            trim: true,
-            ..self.choice
-        })
+        Said { trim: true, ..self }
     }
 
     fn grayed(self) -> Said<'a>
         ensures { said_told result ≡ record (said_told self.entry) { gray = true } }
     {
-        self.chosen(Choice {
-            gray: true,
-            ..self.choice
-        })
+        Said { gray: true, ..self }
     }
 
     // The same with this output.
@@ -215,12 +207,22 @@ impl<'a> Said<'a> {
         }
     }
 
-    // The same where what isn't built yet is asked for.
-    fn not_built(self) -> Said<'a>
-        ensures { said_told result ≡ record (said_told self.entry) { unbuilt = true } }
+    // The same in the own progressive scans.
+    fn progressive(self) -> Said<'a>
+        ensures { said_told result ≡ record (said_told self.entry) { progressive = true } }
     {
         Said {
-            unbuilt: true,
+            progressive: true,
+            ..self
+        }
+    }
+
+    // The same in the scans that the file of this name tells.
+    fn scanned_by(self, name: &'a str) -> Said<'a>
+        ensures { said_told result ≡ record (said_told self.entry) { script = Some name.now } }
+    {
+        Said {
+            script: Some(name),
             ..self
         }
     }
@@ -262,10 +264,18 @@ impl<'a> Said<'a> {
         ensures { AnswersWords said_told (with_value index copying (λ c. words_right (record (said_told self.entry) { copying = c }))) result }
     {
         match copying {
-            Some(copying) => Ok(self.chosen(Choice {
-                copying,
-                ..self.choice
-            })),
+            Some(copying) => Ok(Said { copying, ..self }),
+            None => Err(usage(UsageFault::BadValue, index + 1)),
+        }
+    }
+
+    // The same with the restart intervals that the value behind the switch names, if it names some.
+    fn restarted_by(self, restart: Option<Restart>, index: usize) -> Result<Said<'a>, Usage>
+        requires { index < 18446744073709551615 }
+        ensures { AnswersWords said_told (with_value index (option_map restart_of restart) (λ r. words_right (record (said_told self.entry) { restart = r }))) result }
+    {
+        match restart {
+            Some(restart) => Ok(Said { restart, ..self }),
             None => Err(usage(UsageFault::BadValue, index + 1)),
         }
     }
@@ -274,12 +284,9 @@ impl<'a> Said<'a> {
     fn turned(self, transform: Transform, index: usize) -> Result<Said<'a>, Usage>
         ensures { AnswersWords said_told (with_transform index transform (said_told self.entry)) result }
     {
-        let before = transform_number(self.choice.transform);
+        let before = transform_number(self.transform);
         if before == 0 || before == transform_number(transform) {
-            Ok(self.chosen(Choice {
-                transform,
-                ..self.choice
-            }))
+            Ok(Said { transform, ..self })
         } else {
             Err(usage(UsageFault::TwoTransforms, index))
         }
@@ -380,13 +387,28 @@ fn rotation_named(value: &[u8]) -> Option<Transform>
     }
 }
 
-// Whether the value of -restart is right: a number of at most 65535, perhaps with a B behind it.
-fn is_restart(value: &[u8]) -> bool
-    ensures { result ≡ is_restart value.now }
+// The restart intervals of so many rows of MCUs, or with a B behind the number of so many MCUs, of at most 65535. Of 0 there
+// are none.
+fn restart_named(value: &[u8]) -> Option<Restart>
+    ensures { option_map restart_of result ≡ restart_named value.now }
 {
     match number_of(without_b(value)) {
-        Some(n) => n <= 65535,
-        None => false,
+        Some(n) => restart_by(ends_with_b(value), n),
+        None => None,
+    }
+}
+
+fn restart_by(in_mcus: bool, n: u32) -> Option<Restart>
+    ensures { option_map restart_of result ≡ restart_by in_mcus n }
+{
+    if n > 65535 {
+        None
+    } else if n == 0 {
+        Some(Restart::Off)
+    } else if in_mcus {
+        Some(Restart::Mcus(n as u16))
+    } else {
+        Some(Restart::Rows(n as u16))
     }
 }
 
@@ -402,6 +424,16 @@ fn is_whole_scale(value: &str) -> bool
     ensures { result ≡ is_whole_scale value.now }
 {
     value == "1/1"
+}
+
+// Whether the text has a B at its end.
+fn ends_with_b(text: &[u8]) -> bool
+    ensures { result ≡ ends_with_b text.now }
+{
+    match text.split_last() {
+        Some((letter, _)) => lower(*letter) == b'b',
+        None => false,
+    }
 }
 
 // The text without a B at its end.

@@ -34,7 +34,7 @@ pub fn djpeg_words(alloc: Global, words: &[String]) -> Result<ShowWords, WordsSt
         files: said.files(alloc, input)?,
         kind,
         kind_word,
-        gray: said.choice.gray,
+        gray: said.gray,
         smooth: said.smooth,
     })
 }

@@ -1,24 +1,57 @@
 //! A picture read, moved and written (the manual of jpegtran).
+ghost use Rattle.std.specs.Prelude.{◌≡◌};
+ghost use Rattle.jpg_transform.specs.Planned.{choice_told, scans_told};
 ghost use Rattle.jpg_cli.specs.Stays.{OnlyWorks};
-ghost use Rattle.jpg_cli.specs.Turned.{Turned, turning_told};
+ghost use Rattle.jpg_cli.specs.TransformWords.{transform_told};
+ghost use Rattle.jpg_cli.specs.Turned.{Transformed, Turned, turning_told};
+ghost use Rattle.jpg_spec.specs.TransformWords.{choice_asked};
 
+use crate::comment_words::Files;
 use crate::read_picture::{Wanted, read_picture};
+use crate::script_taken::take_scans;
 use crate::transform_words::TransformWords;
 use crate::writing::{Wrote, write_moved};
 use jpg_base::Desk;
 use jpg_spec::{Which, Why};
+use jpg_transform::{Choice, Scans};
 use std::alloc::Global;
 
-/// Reads the picture of the input, and writes it to the output, moved as the choice asks for it. The input is read in
-/// pieces of at most 65,536 bytes, up to the one in which it is whole or shows a fault; then no memory is asked for. The
-/// output is created when the picture is there and has no fault, so it may have the input's name.
+/// Takes the scans of the output, reads the picture of the input, and writes it to the output, moved as the words ask for
+/// it. A script's file is read and judged before the input is opened. The input is read in pieces of at most 65,536 bytes,
+/// up to the one in which it is whole or shows a fault; then no memory is asked for. The output is created when the picture
+/// is there and has no fault, so it may have the input's name.
 pub fn transform<D: Desk>(alloc: Global, words: &TransformWords, desk: &mut D) -> Why
     ensures kept { OnlyWorks (D.state desk.old) (D.state desk.new) }
-    ensures turned { Turned (turning_told words.now) (D.state desk.old) result (D.state desk.new) }
+    ensures transformed { Transformed (transform_told words.now) (D.state desk.old) result (D.state desk.new) }
 {
-    match read_picture(alloc, &words.files.input, Wanted::Coefficients, desk) {
+    match take_scans(alloc, &words.script, desk) {
         Err(why) => why,
-        Ok(picture) => match write_moved(&picture, &words.choice, &words.files.output, desk) {
+        Ok(scans) => turn(alloc, &words.files, &choice_of(words, scans), desk),
+    }
+}
+
+// What the words ask for, in these scans.
+fn choice_of(words: &TransformWords, scans: Scans) -> Choice
+    ensures { choice_told result ≡ choice_asked (transform_told words.now) (scans_told scans) }
+{
+    Choice {
+        transform: words.transform,
+        trim: words.trim,
+        gray: words.gray,
+        copying: words.copying,
+        scans,
+        restart: words.restart,
+    }
+}
+
+// Reads the picture of the input, and writes it to the output, moved as the choice asks for it.
+fn turn<D: Desk>(alloc: Global, files: &Files, choice: &Choice, desk: &mut D) -> Why
+    ensures kept { OnlyWorks (D.state desk.old) (D.state desk.new) }
+    ensures turned { Turned (turning_told files.now choice.now) (D.state desk.old) result (D.state desk.new) }
+{
+    match read_picture(alloc, &files.input, Wanted::Coefficients, desk) {
+        Err(why) => why,
+        Ok(picture) => match write_moved(&picture, choice, &files.output, desk) {
             Wrote::Done => Why::Done,
             Wrote::Picture(fault) => Why::Picture(fault),
             Wrote::OpenFault => Why::OpenFault(Which::Output),

@@ -93,8 +93,7 @@ fn transform_command(alloc: Global, words: &[String]) -> Result<Asked, WordsStop
     ensures { IsCommand (transform_command (transform_asked (drop 1 (map string_bytes words.now)))) result }
 {
     match jpegtran_words(alloc, words) {
-        Ok(Some(asked)) => Ok(Asked::Jpegtran(asked)),
-        Ok(None) => Ok(Asked::NotBuilt),
+        Ok(asked) => Ok(Asked::Jpegtran(asked)),
         Err(stop) => Err(stop),
     }
 }

@@ -3,8 +3,9 @@ ghost use Rattle.std.specs.Prelude.{◌≡◌};
 ghost use Rattle.jpg_file.specs.PictureRead.{IsPicture, picture_meaning};
 ghost use Rattle.jpg_transform.specs.Planned.{choice_told};
 ghost use Rattle.jpg_cli.specs.Stays.{OnlyWorks};
-ghost use Rattle.jpg_cli.specs.Writing.{AfterMoved, AfterOutput, IsMeant};
-ghost use Rattle.jpg_transform.specs.Planned.{IsJobFor, moved_text};
+ghost use Rattle.jpg_cli.specs.Writing.{AfterMoved, AfterOutput, IsMeant, MeansMoved};
+ghost use Rattle.jpg_spec.specs.Moved.{moved_text};
+ghost use Rattle.jpg_transform.specs.Planned.{IsJobFor};
 
 use jpg_base::{Desk, Name, Put};
 use jpg_file::{Picture, write_file};
@@ -24,8 +25,9 @@ pub enum Wrote {
     WriteFault,
 }
 
-/// Writes a picture that was read to an output of this name, moved as the choice asks for it: the text of its sequential
-/// file. The output is created when it is known that the picture has no fault. It takes no memory.
+/// Writes a picture that was read to an output of this name, moved as the choice asks for it: the text of its file, in the
+/// scans of the choice, which means the picture moved. The output is created when it is known that the picture has no fault.
+/// It takes no memory.
 pub fn write_moved<D: Desk>(
     picture: &Picture,
     choice: &Choice,
@@ -57,6 +59,7 @@ fn write_job<D: Desk>(
     requires job { IsJobFor picture.now (choice_told choice.now) job.now }
     ensures kept { OnlyWorks (D.state desk.old) (D.state desk.new) }
     ensures left { (D.state desk.new).left ≡ (D.state desk.old).left }
+    ensures means { MeansMoved (choice_told choice.now) (picture_meaning picture.now) }
     ensures output { AfterOutput output.now (D.state desk.old) (moved_text (choice_told choice.now) (picture_meaning picture.now)) result (D.state desk.new) }
 {
     let moved = Moved::new(picture, job);

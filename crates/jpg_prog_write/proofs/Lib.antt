@@ -4,6 +4,7 @@ pub mod ElementsDue
 pub mod EndsItems
 pub mod Fronts
 pub mod Intervals
+pub mod KeptValues
 pub mod Marks
 pub mod Places
 pub mod SymbolsUsed

@@ -1,6 +1,6 @@
 -- BANDS that are written one after another: what is due of them while one is in work and an EOB waits
 -- (T.81, G.1.2.2, G.1.2.3; the choices are the writer's own).
-use Rattle.std.specs.Prelude.{◌≡◌, ℕ, ◌+◌, ◌-◌, ◌*◌, min, ◌^◌, ◌<◌, ◌≤◌, Bool, true, nat_lt, ◌==◌, ◌||◌, if◌then◌else◌, List, [], ◌∷◌, ◌++◌, length, take, drop, map, slice_index_or, ℤ, pos, nat_abs}
+use Rattle.std.specs.Prelude.{◌≡◌, ℕ, ◌+◌, ◌-◌, ◌*◌, ◌/◌, min, ◌^◌, ◌<◌, ◌≤◌, Bool, true, nat_lt, ◌==◌, ◌||◌, if◌then◌else◌, List, [], ◌∷◌, ◌++◌, length, take, drop, map, slice_index_or, ℤ, pos, nat_abs}
 use Rattle.std.specs.Int.{bit_at}
 use Rattle.jpg_spec.specs.Lists.{is_empty}
 use Rattle.jpg_spec.specs.Segments.{ScanHead}
@@ -24,6 +24,10 @@ unfoldable pub elements_due : ℕ → List Bool → List Sent → List Sent → 
 elements_due bands bits front rest later =
     if is_empty front then elements_behind bands bits rest later
     else ended bands bits ++ (value_elements 0 [] front ++ elements_behind 0 [] rest later)
+
+-- the value, or 0 where nothing of it is sent
+abbrev pub kept_of : ℕ → ℤ → ℤ
+kept_of al v = if nat_abs v / 2 ^ al == 0 then pos 0 else v
 
 -- the last of them, if any, is newly sent
 abbrev pub ends_new : List Sent → Bool

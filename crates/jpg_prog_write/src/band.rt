@@ -4,9 +4,9 @@ ghost use Rattle.jpg_spec.specs.Elements.{is_zero};
 ghost use Rattle.jpg_spec.specs.Lists.{any_of};
 ghost use Rattle.jpg_spec.specs.Sending.{sent as sent_of, is_new};
 ghost use Rattle.jpg_prog_write.specs.Items.{sent_by};
-ghost use Rattle.jpg_prog_write.specs.Bands.{IsBand, sents, ends_new};
+ghost use Rattle.jpg_prog_write.specs.Bands.{IsBand, IsShort, band_sents, sents, ends_new};
 
-use crate::numbers::divided;
+use crate::numbers::{divided, kept_value};
 use jpg_base::Block;
 
 /// The places from `start` up to `end`, the bit `al` down to which their values are sent, and whether those that aren't
@@ -49,6 +49,21 @@ impl Band {
             Sending::Correction(_) => false,
             Sending::Newly(value) => value != 0,
         }
+    }
+
+    // The block without the values of which nothing is sent: the same is sent of it.
+    #[inline(always)]
+    pub(crate) fn kept(self, block: &Block) -> Block
+        requires { self.al ≤ 10 }
+        ensures short { IsShort block.now → IsShort result }
+        ensures sent { band_sents self result ≡ band_sents self block.now }
+    {
+        block.long();
+        let mut kept = *block;
+        for k in 0..64 {
+            kept.set(k, kept_value(block.get(k), self.al));
+        }
+        kept
     }
 
     // A place up to the end behind which the band has zeros alone.

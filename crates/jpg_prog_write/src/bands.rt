@@ -204,13 +204,15 @@ impl Bands {
         ensures band { self.new.band ≡ self.old.band }
         ensures left { (later : List (List Sent)) → elements_waiting self.old (band_sents self.old.band block.now ∷ later) ≡ elements_left self.new later }
     {
-        self.block = *block;
-        self.marks = block.nonzero();
+        let kept = self.band.kept(block);
+        self.block = kept;
+        self.marks = kept.nonzero();
         self.at = self.band.start;
-        self.last = self.band.front_end(block);
+        self.last = self.band.front_end(&kept);
     }
 
     // The EOB that waits.
+    #[inline(always)]
     fn end_bands(&mut self) -> Item
         requires some { 1 ≤ self.old.bands }
         requires few { self.old.bands ≤ 32767 }
@@ -223,6 +225,7 @@ impl Bands {
     }
 
     // The next element of the part up to the last newly sent value, where no EOB waits.
+    #[inline(always)]
     fn next_value(&mut self) -> Option<Item>
         requires ready { IsReady self.old }
         requires some { self.old.at < self.old.last }
@@ -247,6 +250,7 @@ impl Bands {
     }
 
     // The rest of the band joins the EOB that waits, which may be due then.
+    #[inline(always)]
     fn join_rest(&mut self) -> Option<Item>
         requires ready { IsReady self.old }
         requires front { self.old.last ≤ self.old.at }
@@ -266,6 +270,7 @@ impl Bands {
     }
 
     /// The next element of the band and the EOB before it, whose corrections are those that wait now, None where nothing more is due of them.
+    #[inline(always)]
     pub(crate) fn next(&mut self) -> Option<Item>
         requires { IsReady self.old }
         ensures some { IfSome result (λ item. Gives self.old item self.new) }

@@ -1,6 +1,7 @@
 // What is sent of a value down to a bit (T.81, G.1.2.1, G.1.2.2).
 ghost use Rattle.std.specs.Prelude.{◌≡◌, ◌≤◌, ◌%◌, ◌==◌, nat_abs};
 ghost use Rattle.jpg_spec.specs.Sending.{shifted, divided};
+ghost use Rattle.jpg_prog_write.specs.Bands.{kept_of};
 
 // A DC value without its low bits.
 #[inline(always)]
@@ -19,6 +20,19 @@ pub(crate) fn divided(value: i16, al: u8) -> i32
 {
     let magnitude = i32::from(value.unsigned_abs() >> al);
     if value < 0 { -magnitude } else { magnitude }
+}
+
+// The value, or 0 where its magnitude is 0 without its low bits.
+#[inline(always)]
+pub(crate) fn kept_value(value: i16, al: u8) -> i16
+    requires { al ≤ 10 }
+    ensures { result ≡ kept_of al value }
+{
+    if value.unsigned_abs() >> al == 0 {
+        0
+    } else {
+        value
+    }
 }
 
 // The lowest bit of a number.

@@ -8,8 +8,11 @@ use std::alloc::Global;
 use std::test::Fail;
 
 mod cuts;
+mod inputs;
 mod progressive;
+mod scripts;
 mod shown;
+mod written;
 
 const DONE: Ended = Ended {
     code: 0,

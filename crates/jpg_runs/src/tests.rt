@@ -49,9 +49,9 @@ fn other_words_open_nothing(rt: HostRuntime) -> Result<(), Fail> {
             "djpeg: usage: NoEnd at word 1\n",
         ),
         (
-            &["jpegtran", "-progressive"],
+            &["jpgwork", "1"],
             not_built(0),
-            "jpegtran: refused: NotBuilt at byte 0\n",
+            "jpgwork: refused: NotBuilt at byte 0\n",
         ),
         (
             &["jpegtran", "-optimize"],

@@ -92,6 +92,17 @@ impl Script {
         self.entries.len() as u8
     }
 
+    /// The same script again.
+    pub fn copy(&self) -> Script
+        ensures { result ≡ self.now }
+    {
+        let mut entries = ArrayVec::new();
+        for entry in self.entries.as_slice() {
+            entries.push(entry.copy());
+        }
+        Script { entries }
+    }
+
     /// The entry of a number from 0.
     pub fn entry(&self, i: u8) -> Entry
         requires { i < length self.now }

@@ -37,6 +37,7 @@ pub mod MovedBack
 pub mod MovedBounds
 pub mod MovedFrames
 pub mod MovedGrids
+pub mod MovedText
 pub mod MovedWritten
 pub mod Once
 pub mod OneCode

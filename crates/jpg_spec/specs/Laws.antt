@@ -24,7 +24,7 @@ use Rattle.jpg_spec.specs.Script.{Entry, sequential_script}
 use Rattle.jpg_spec.specs.FileText.{Restart, frame_of_meaning, file_text}
 use Rattle.jpg_spec.specs.WrittenFile.{IsHeaded, IsRestart, IsSequentialFile, IsProgressiveFile}
 use Rattle.jpg_spec.specs.Moves.{most_across, most_down}
-use Rattle.jpg_spec.specs.Moved.{Choice, IsSamePicture, gray_fault, asks_progressive, moved}
+use Rattle.jpg_spec.specs.Moved.{Choice, Scans, sequential, standard, given, IsSamePicture, gray_fault, moved_script_fault, moved_text}
 use Rattle.jpg_spec.specs.Transforms.{transformed, inverse, transposes, changed_columns, changed_rows, placed}
 use Rattle.jpg_spec.specs.WholeBlocks.{HasWholeBlocks}
 use Rattle.jpg_spec.specs.Upsampling.{Stretch, upsampled_row}
@@ -245,12 +245,18 @@ pub record IsMovable (choice : Choice) (M : Meaning) : Type 0 where
   pub means : Means limits bytes M
   pub admitted : gray_fault choice.gray M ≡ None
 
--- the sequential file of a picture that is moved
+-- the file of a picture that is moved, in scans that have no fault
 pub record IsMovedText (choice : Choice) (M : Meaning) (bytes : List ℕ) : Type 0 where
   pub movable : IsMovable choice M
-  pub sequential : asks_progressive choice.scans ≡ false
+  pub faultless : moved_script_fault choice M ≡ None
   pub small : IsRestart choice.restart
-  pub text : bytes ≡ file_text (moved choice M) (sequential_script (frame_of_meaning (moved choice M))) choice.restart
+  pub text : bytes ≡ moved_text choice M
+
+-- the own scans, sequential or progressive
+abbrev pub AreOwn : Scans → Type 0
+AreOwn sequential = Unit {0}
+AreOwn standard = Unit {0}
+AreOwn (given script) = ⊥
 
 -- The picture N is what a transform makes of M, whose blocks and tables are whole.
 pub record IsTransformOf (t : Transform) (M N : Meaning) : Type 0 where

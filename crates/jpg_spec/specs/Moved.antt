@@ -4,8 +4,10 @@ use Rattle.jpg_spec.specs.Geometry.{Frame, component_at, h_max, v_max}
 use Rattle.jpg_spec.specs.Meaning.{Meaning, colour_of, picture_frame, real_blocks}
 use Rattle.jpg_spec.specs.Moves.{most_across, most_down, component_of, sequential_process, headed_by}
 use Rattle.jpg_spec.specs.Transforms.{transformed, transposes, mirrors_across, mirrors_down}
-use Rattle.jpg_spec.specs.Script.{Entry, is_progressive_script}
-use Rattle.jpg_spec.specs.FileText.{Restart}
+use Rattle.jpg_spec.specs.InForce.{first_some}
+use Rattle.jpg_spec.specs.Script.{Entry, is_progressive_script, sequential_script}
+use Rattle.jpg_spec.specs.ScriptFaults.{script_fault, standard_script}
+use Rattle.jpg_spec.specs.FileText.{Restart, file_text, frame_of_meaning}
 use Rattle.jpg_spec.specs.declared.frame.Component.{Component}
 use Rattle.jpg_spec.specs.declared.frame.Process.{Process}
 use Rattle.jpg_spec.specs.declared.frame.Process.TheVariants.{Progressive}
@@ -93,6 +95,28 @@ gray_fault gray M =
     if gray && not (is_gray_or_ycbcr (colour_of M)) then Some GrayColour
     else if gray && not ((component_of M 0).h == most_across M && (component_of M 0).v == most_down M) then Some GrayFactors
     else None
+
+-- IN WHICH SCANS it is written: the own ones of the output's frame and colours, or those that were given
+
+abbrev pub script_due : Scans → Frame → Colour → List Entry
+script_due sequential f colour = sequential_script f
+script_due standard f colour = standard_script f colour
+script_due (given script) f colour = script
+
+abbrev pub moved_script : Choice → Meaning → List Entry
+moved_script choice M = script_due choice.scans (frame_of_meaning (moved choice M)) (colour_of (moved choice M))
+
+-- the fault of the script on the output's frame
+abbrev pub moved_script_fault : Choice → Meaning → Option PictureFault
+moved_script_fault choice M = script_fault (frame_of_meaning (moved choice M)) (moved_script choice M)
+
+-- THE FIRST FAULT of a picture for a choice: as a gray one, and then of the script
+abbrev pub picture_fault : Choice → Meaning → Option PictureFault
+picture_fault choice M = first_some (gray_fault choice.gray M) (moved_script_fault choice M)
+
+-- THE TEXT of the file of a picture moved
+abbrev pub moved_text : Choice → Meaning → List ℕ
+moved_text choice M = file_text (moved choice M) (moved_script choice M) choice.restart
 
 -- THE FRAME of the picture moved, from the numbers of its frame
 

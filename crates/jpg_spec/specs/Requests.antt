@@ -1,10 +1,11 @@
 -- WHAT SWITCHES AND FILES ASK FOR, behind a command's own word; the first fault of the words from left to right (the manuals of jpegtran and djpeg
 -- in release 6b; shortest forms and faults are the suite's own).
-use Rattle.std.specs.Prelude.{ℕ, ◌+◌, ◌-◌, ◌*◌, Bool, true, false, nat_le, ◌&&◌, ◌||◌, ◌==◌, if◌then◌else◌, List, [], ◌∷◌, length, Option, Some, None, option_and_then, codes}
+use Rattle.std.specs.Prelude.{ℕ, ◌+◌, ◌-◌, ◌*◌, Bool, true, false, not, nat_le, ◌&&◌, ◌||◌, ◌==◌, if◌then◌else◌, List, [], ◌∷◌, length, Option, Some, None, option_and_then, codes}
 use Rattle.std.specs.Str.{bytes_eq}
 use Rattle.jpg_spec.specs.Lists.{all_of}
 use Rattle.jpg_spec.specs.Markers.{is_within}
 use Rattle.jpg_spec.specs.Switches.{Switch, is_switch, lower, purpose_of, stands_for}
+use Rattle.jpg_spec.specs.FileText.{Restart, off, rows, mcus}
 use Rattle.jpg_spec.specs.CommentWords.{FilesAsked, WordsTold, from_to, named, standard_input, usage_at, words_right, words_wrong}
 use Rattle.jpg_spec.specs.declared.answers.UsageFault.{UsageFault}
 use Rattle.jpg_spec.specs.declared.answers.UsageFault.TheVariants.{UnknownSwitch, LeftOutSwitch, MissingValue, BadValue, TwoTransforms, TooManyFiles}
@@ -17,15 +18,18 @@ use Rattle.jpg_spec.specs.declared.switch.Purpose.TheVariants.{LeftOut, CopyingG
 use Rattle.jpg_spec.specs.declared.transform.Transform.{Transform}
 use Rattle.jpg_spec.specs.declared.transform.Transform.TheVariants.{Keep, FlipH, FlipV, Transpose, Transverse, Rotate90, Rotate180, Rotate270}
 
--- WHAT IS ASKED FOR: files; a transform, trimming, graying, which kept markers are passed on, and whether there is something that isn't built yet
--- (-progressive, -scans, -restart); a format of images with the index of the word that asks for it, and whether samples are smoothed
+-- WHAT IS ASKED FOR: files; a transform, trimming, graying, which kept markers are passed on; whether the scans are those of a progressive file, the
+-- name of a file that tells them, and where restart markers stand; a format of images with the index of the word that asks for it, and whether samples
+-- are smoothed
 pub record Request : Type 0 where
   pub files : FilesAsked
   pub transform : Transform
   pub trim : Bool
   pub gray : Bool
   pub copying : Copying
-  pub unbuilt : Bool
+  pub progressive : Bool
+  pub script : Option (List ℕ)
+  pub restart : Restart
   pub format : Option (EndKind × ℕ)
   pub smooth : Bool
 
@@ -37,7 +41,9 @@ nothing_said = record {
   trim = false;
   gray = false;
   copying = copying.Comments;
-  unbuilt = false;
+  progressive = false;
+  script = None;
+  restart = off;
   format = None;
   smooth = true;
 }
@@ -84,18 +90,23 @@ number_of text = if is_number text then Some (digits_from 0 text) else None
 abbrev pub rotation_named : List ℕ → Option Transform
 rotation_named value = option_and_then rotation_of (number_of value)
 
--- a number of rows of MCUs, or with a B behind it of MCUs, of at most 65535
+-- intervals of so many rows of MCUs, or with a B behind the number of so many MCUs, of at most 65535; of 0 there are none
 abbrev pub without_b : List ℕ → List ℕ
 without_b [] = []
 without_b (b ∷ []) = if lower b == 98 then [] else b ∷ []
 without_b (b ∷ next ∷ text) = b ∷ without_b (next ∷ text)
 
-abbrev pub is_word : Option ℕ → Bool
-is_word None = false
-is_word (Some n) = nat_le n 65535
+abbrev pub ends_with_b : List ℕ → Bool
+ends_with_b [] = false
+ends_with_b (b ∷ []) = lower b == 98
+ends_with_b (b ∷ next ∷ text) = ends_with_b (next ∷ text)
 
-abbrev pub is_restart : List ℕ → Bool
-is_restart value = is_word (number_of (without_b value))
+abbrev pub restart_by : Bool → ℕ → Option Restart
+restart_by in_mcus n =
+    if not (nat_le n 65535) then None else if n == 0 then Some off else if in_mcus then Some (mcus n) else Some (rows n)
+
+abbrev pub restart_named : List ℕ → Option Restart
+restart_named value = option_and_then (restart_by (ends_with_b value)) (number_of (without_b value))
 
 -- release 6b's `int` alone, and no scale but one
 abbrev pub is_int : List ℕ → Bool
@@ -149,9 +160,9 @@ switch_asked index (Some TransposingAcross) = alone (with_transform index Transv
 switch_asked index (Some Trimming) = alone (λ a. words_right (record a { trim = true }))
 switch_asked index (Some Graying) = alone (λ a. words_right (record a { gray = true }))
 switch_asked index (Some OutputNamed) = valued (λ value a. words_right (with_output value a))
-switch_asked index (Some ProgressiveAsked) = alone (λ a. words_right (record a { unbuilt = true }))
-switch_asked index (Some ScriptInFile) = valued (λ value a. words_right (record a { unbuilt = true }))
-switch_asked index (Some RestartGiven) = valued (λ value a. where_good index (is_restart value) (record a { unbuilt = true }))
+switch_asked index (Some ProgressiveAsked) = alone (λ a. words_right (record a { progressive = true }))
+switch_asked index (Some ScriptInFile) = valued (λ value a. words_right (record a { script = Some value }))
+switch_asked index (Some RestartGiven) = valued (λ value a. with_value index (restart_named value) (λ r. words_right (record a { restart = r })))
 switch_asked index (Some PnmAsked) = alone (λ a. words_right (record a { format = Some (Pnm, index) }))
 switch_asked index (Some BmpAsked) = alone (λ a. words_right (record a { format = Some (Bmp, index) }))
 switch_asked index (Some NotSmoothed) = alone (λ a. words_right (record a { smooth = false }))

@@ -1,28 +1,49 @@
 -- WHAT THE WORDS of jpegtran ask for, behind the command's own (its manual in release 6b).
-use Rattle.std.specs.Prelude.{ℕ, Bool, List}
+use Rattle.std.specs.Prelude.{ℕ, Bool, true, false, List, Option, None, Some}
 use Rattle.jpg_spec.specs.CommentWords.{FilesAsked, WordsTold, words_right}
-use Rattle.jpg_spec.specs.FileText.{off}
-use Rattle.jpg_spec.specs.Moved.{Choice, sequential}
+use Rattle.jpg_spec.specs.FileText.{Restart}
+use Rattle.jpg_spec.specs.Moved.{Choice, Scans}
 use Rattle.jpg_spec.specs.Requests.{Request, request, then_asks}
 use Rattle.jpg_spec.specs.Switches.{jpegtran_switches}
 use Rattle.jpg_spec.specs.declared.frame.Copying.{Copying}
 use Rattle.jpg_spec.specs.declared.transform.Transform.{Transform}
 
--- files, a transform, trimming, graying, which kept markers are passed on; and whether there is something that isn't built yet (-progressive, -scans,
--- -restart)
+-- where the scans of the output come from: they are the own sequential ones, the own progressive ones, or those that the file of a script tells
+pub data ScansSource : Type 0 where
+  own_sequential : ScansSource
+  own_progressive : ScansSource
+  in_file : List ℕ → ScansSource
+
+-- -scans goes before -progressive
+abbrev pub scans_source : Bool → Option (List ℕ) → ScansSource
+scans_source progressive (Some name) = in_file name
+scans_source true None = own_progressive
+scans_source false None = own_sequential
+
+-- files, a transform, trimming, graying, which kept markers are passed on, and in which scans and with which restart intervals it is written
 pub record TransformAsked : Type 0 where
   pub files : FilesAsked
   pub transform : Transform
   pub trim : Bool
   pub gray : Bool
   pub copying : Copying
-  pub unbuilt : Bool
+  pub scans : ScansSource
+  pub restart : Restart
 
-abbrev pub choice_asked : TransformAsked → Choice
-choice_asked a = record { transform = a.transform; trim = a.trim; gray = a.gray; copying = a.copying; scans = sequential; restart = off }
+-- the choice, in these scans
+abbrev pub choice_asked : TransformAsked → Scans → Choice
+choice_asked a scans = record { transform = a.transform; trim = a.trim; gray = a.gray; copying = a.copying; scans = scans; restart = a.restart }
 
 abbrev pub transform_of : Request → TransformAsked
-transform_of r = record { files = r.files; transform = r.transform; trim = r.trim; gray = r.gray; copying = r.copying; unbuilt = r.unbuilt }
+transform_of r = record {
+  files = r.files;
+  transform = r.transform;
+  trim = r.trim;
+  gray = r.gray;
+  copying = r.copying;
+  scans = scans_source r.progressive r.script;
+  restart = r.restart;
+}
 
 abbrev pub transform_asked : List (List ℕ) → WordsTold TransformAsked
 transform_asked words = then_asks (request jpegtran_switches words) (λ r. words_right (transform_of r))

@@ -3,7 +3,8 @@ ghost use Rattle.std.specs.Prelude.{◌≡◌, [], ◌∷◌, true, false, codes
 ghost use Rattle.jpg_spec.specs.CommentWords.{usage_at, words_right};
 ghost use Rattle.jpg_spec.specs.Requests.{nothing_said, with_input, with_output};
 ghost use Rattle.jpg_spec.specs.ShowWords.{show_asked, show_of};
-ghost use Rattle.jpg_spec.specs.TransformWords.{transform_asked, transform_of};
+ghost use Rattle.jpg_spec.specs.FileText.{rows, mcus};
+ghost use Rattle.jpg_spec.specs.TransformWords.{transform_asked, transform_of, own_progressive, in_file};
 ghost use Rattle.jpg_spec.specs.declared.answers.UsageFault.TheVariants.{BadValue, LeftOutSwitch, MissingValue, TooManyFiles, TwoTransforms, UnknownSwitch};
 ghost use Rattle.jpg_spec.specs.declared.frame.Copying.TheVariants as copying;
 ghost use Rattle.jpg_spec.specs.declared.image.EndKind.TheVariants.{Pnm, Bmp};
@@ -19,7 +20,11 @@ pub fn beginnings_are_enough()
     ensures trim { transform_asked (codes "-tri" ∷ []) ≡ words_right (record (transform_of nothing_said) { trim = true }) }
     ensures gray { transform_asked (codes "-grey" ∷ []) ≡ words_right (record (transform_of nothing_said) { gray = true }) }
     ensures copy { transform_asked (codes "-c" ∷ codes "al" ∷ []) ≡ words_right (record (transform_of nothing_said) { copying = copying.All }) }
-    ensures restart { transform_asked (codes "-r" ∷ codes "7b" ∷ []) ≡ words_right (record (transform_of nothing_said) { unbuilt = true }) }
+    ensures progressive { transform_asked (codes "-P" ∷ []) ≡ words_right (record (transform_of nothing_said) { scans = own_progressive }) }
+    ensures script { transform_asked (codes "-s" ∷ codes "a" ∷ []) ≡ words_right (record (transform_of nothing_said) { scans = in_file (codes "a") }) }
+    ensures rows { transform_asked (codes "-r" ∷ codes "65535" ∷ []) ≡ words_right (record (transform_of nothing_said) { restart = rows 65535 }) }
+    ensures mcus { transform_asked (codes "-r" ∷ codes "7b" ∷ []) ≡ words_right (record (transform_of nothing_said) { restart = mcus 7 }) }
+    ensures off { transform_asked (codes "-restart" ∷ codes "0B" ∷ []) ≡ words_right (transform_of nothing_said) }
 {}
 
 /// A switch that is said again takes its last value, the word behind `-outfile` is a name whatever it is, and the last word
@@ -28,6 +33,8 @@ pub fn last_values_count()
     ensures again { transform_asked (codes "-copy" ∷ codes "all" ∷ codes "-copy" ∷ codes "none" ∷ []) ≡ words_right (record (transform_of nothing_said) { copying = copying.None }) }
     ensures output { transform_asked (codes "-outf" ∷ codes "-trim" ∷ []) ≡ words_right (transform_of (with_output (codes "-trim") nothing_said)) }
     ensures input { transform_asked (codes "-trim" ∷ codes "a" ∷ []) ≡ words_right (transform_of (with_input (codes "a") (record nothing_said { trim = true }))) }
+    ensures script { transform_asked (codes "-s" ∷ codes "a" ∷ codes "-p" ∷ []) ≡ words_right (record (transform_of nothing_said) { scans = in_file (codes "a") }) }
+    ensures none { transform_asked (codes "-restart" ∷ codes "3" ∷ codes "-restart" ∷ codes "0" ∷ []) ≡ words_right (transform_of nothing_said) }
     ensures same { transform_asked (codes "-flip" ∷ codes "h" ∷ codes "-flip" ∷ codes "h" ∷ []) ≡ words_right (record (transform_of nothing_said) { transform = FlipH }) }
 {}
 
@@ -41,6 +48,7 @@ pub fn wrong_words_have_their_places()
     ensures bad { transform_asked (codes "-flip" ∷ codes "h" ∷ codes "-rotate" ∷ codes "77" ∷ []) ≡ usage_at BadValue 4 }
     ensures empty { transform_asked (codes "-copy" ∷ codes "" ∷ []) ≡ usage_at BadValue 2 }
     ensures large { transform_asked (codes "-restart" ∷ codes "65536" ∷ []) ≡ usage_at BadValue 2 }
+    ensures letter { transform_asked (codes "-restart" ∷ codes "B" ∷ []) ≡ usage_at BadValue 2 }
     ensures long { transform_asked (codes "-rotate" ∷ codes "000090" ∷ []) ≡ usage_at BadValue 2 }
     ensures files { transform_asked (codes "a" ∷ codes "-trim" ∷ []) ≡ usage_at TooManyFiles 2 }
 {}

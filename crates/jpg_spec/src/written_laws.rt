@@ -1,13 +1,13 @@
 //! Laws over files that are written: they mean their picture (T.81, B.2.1, F.1.2).
-ghost use Rattle.std.specs.Prelude.{ℕ, ◌^◌, ◌<◌, List, length};
+ghost use Rattle.std.specs.Prelude.{◌≡◌, ℕ, ◌^◌, ◌<◌, List, length, None};
 ghost use Rattle.jpg_spec.specs.FrameHeader.{AreLimits};
 ghost use Rattle.jpg_spec.specs.Segments.{standard_limits};
 ghost use Rattle.jpg_spec.specs.Meaning.{Meaning};
 ghost use Rattle.jpg_spec.specs.FileMeaning.{Means};
 ghost use Rattle.jpg_spec.specs.Moves.{headed_by};
-ghost use Rattle.jpg_spec.specs.Moved.{Choice, moved};
+ghost use Rattle.jpg_spec.specs.Moved.{Choice, moved, moved_script_fault};
 ghost use Rattle.jpg_spec.specs.WrittenFile.{IsHeaded};
-ghost use Rattle.jpg_spec.specs.Laws.{HasSequentialScript, IsSequentialText, IsOwnText, IsProgressiveText, Fits, IsMovable, IsMovedText};
+ghost use Rattle.jpg_spec.specs.Laws.{HasSequentialScript, IsSequentialText, IsOwnText, IsProgressiveText, Fits, IsMovable, IsMovedText, AreOwn};
 ghost use Rattle.jpg_spec.specs.declared.frame.Copying.{Copying};
 ghost use Rattle.jpg_spec.specs.declared.frame.Limits.{Limits};
 
@@ -45,8 +45,14 @@ pub fn headed_meanings_may_be_written()
 {}
 
 /// What a file means may be written, moved as any choice asks for it that the picture admits: its frame passes the checks, and its tables,
-/// kept markers and blocks are those that a file can have. So the sequential file of the picture moved means it (T.81, B.2; the manual of jpegtran).
+/// kept markers and blocks are those that a file can have. So the file of the picture moved means it, sequential or progressive, in own scans or
+/// those that were given, with any restarts, where its script has no fault (T.81, B.2; the manual of jpegtran).
 pub fn moved_pictures_may_be_written()
     ensures headed { (choice : Choice) (M : Meaning) → IsMovable choice M → IsHeaded standard_limits (moved choice M) }
     ensures means { (choice : Choice) (M : Meaning) (bytes : List ℕ) → IsMovedText choice M bytes → Means standard_limits bytes (moved choice M) }
+{}
+
+/// The own scans of a picture moved have no fault, whatever picture it is.
+pub fn own_scans_of_pictures_have_no_fault()
+    ensures { (choice : Choice) (M : Meaning) → IsMovable choice M → AreOwn choice.scans → moved_script_fault choice M ≡ None }
 {}

@@ -2,7 +2,9 @@ pub mod Applied
 pub mod GrayFaults
 pub mod HeadColour
 pub mod MovedFrame
+pub mod MovedFile
 pub mod MovedHead
+pub mod MovedScript
 pub mod OneBlock
 pub mod Planned
 pub mod SeenPicture

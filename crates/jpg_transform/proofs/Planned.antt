@@ -16,13 +16,14 @@ use Rattle.jpg_transform.specs.Places.{IsOutput}
 use Rattle.jpg_transform.specs.Planned.{IsJobFor}
 use Rattle.jpg_transform.specs.declared.choice.Job.{Job}
 use Rattle.jpg_transform.proofs.GrayFaults.{first_greatest}
+use Rattle.jpg_transform.proofs.MovedScript.{gray_none}
 
 -- the output's frame is due
 pub is_output : (p : Picture) (choice : Choice) (job : Job) → IsPicture p → IsJobFor p choice job → IsOutput choice job.transform p.frame job.plan.out.frame
 is_output p choice job is h = record {
   transform_is = sym h.transform;
-  gray_across = λ e. (first_greatest choice.gray p is h.admitted e).across;
-  gray_down = λ e. (first_greatest choice.gray p is h.admitted e).down;
+  gray_across = λ e. (first_greatest choice.gray p is (gray_none choice (picture_meaning p) h.admitted) e).across;
+  gray_down = λ e. (first_greatest choice.gray p is (gray_none choice (picture_meaning p) h.admitted) e).down;
   grids = ap frame_grids h.head.frame;
 }
 

@@ -1,11 +1,15 @@
--- The blocks and the frame that a view of a picture moved has.
-use Rattle.std.specs.Prelude.{slice_index}
+-- The blocks and the frame that a view of a picture moved has, and the file that is written of it.
+use Rattle.std.specs.Prelude.{◌≡◌, slice_index}
+use Rattle.jpg_spec.specs.FileMeaning.{Means}
 use Rattle.jpg_spec.specs.Geometry.{Frame}
-use Rattle.jpg_spec.specs.Moved.{Choice, moved}
+use Rattle.jpg_spec.specs.Laws.{IsMovable}
+use Rattle.jpg_spec.specs.Moved.{Choice, moved, moved_text}
 use Rattle.jpg_spec.specs.Transforms.{placed}
 use Rattle.jpg_spec.specs.Scan.{Blocks}
+use Rattle.jpg_spec.specs.Segments.{standard_limits}
 use Rattle.jpg_coefs.specs.Picture.{map_of}
 use Rattle.jpg_file.specs.PictureRead.{picture_meaning}
+use Rattle.jpg_file.specs.WriteFile.{CanWriteFile, file_bytes}
 use Rattle.jpg_file.specs.declared.picture.Picture.{Picture}
 use Rattle.jpg_transform.specs.Places.{IsSeenAs}
 use Rattle.jpg_transform.specs.Planned.{IsJobFor}
@@ -22,3 +26,13 @@ moved_numbers m = m.frame.now
 -- In the output's frame these blocks show the picture moved, for whatever choice this is the job.
 abbrev pub ShowsJob : Picture → Job → Blocks → Type 0
 ShowsJob p job seen = (choice : Choice) → IsJobFor p choice job → IsSeenAs (moved choice (picture_meaning p)) job.plan.out.frame seen
+
+-- The file of the job may be written in these blocks, and its text is that of the picture moved, which means that picture.
+pub record IsWrittenAs (p : Picture) (choice : Choice) (job : Job) (f : Frame) (seen : Blocks) : Type 0 where
+  pub can : CanWriteFile job.plan p.kept f seen
+  pub text : file_bytes job.plan p.kept seen ≡ moved_text choice (picture_meaning p)
+  pub means : Means standard_limits (moved_text choice (picture_meaning p)) (moved choice (picture_meaning p))
+
+-- So it is where some bytes mean the picture, for whatever choice this is the job.
+abbrev pub WritesJob : Picture → Job → Frame → Blocks → Type 0
+WritesJob p job f seen = (choice : Choice) → IsJobFor p choice job → IsMovable choice (picture_meaning p) → IsWrittenAs p choice job f seen

@@ -1,19 +1,17 @@
--- HOW A PICTURE IS WRITTEN MOVED (the manual of jpegtran): what is asked for, what the head of the output is written from, and its text.
-use Rattle.std.specs.Prelude.{◌≡◌, ◌==◌, ◌&&◌, Bool, ℕ, if◌then◌else◌, List, map, take, Result, Ok, Err, None, Some}
-use Rattle.jpg_spec.specs.FileText.{file_text, frame_of_meaning, off}
+-- HOW A PICTURE IS WRITTEN MOVED (the manual of jpegtran): what is asked for, what the head of the output is written from, and its scans.
+use Rattle.std.specs.Prelude.{◌≡◌, ◌==◌, ◌&&◌, Bool, if◌then◌else◌, List, map, take, Result, Ok, Err, None, Some}
 use Rattle.jpg_spec.specs.Geometry.{Frame, component_at, h_max, v_max}
 use Rattle.jpg_spec.specs.Lists.{any_of}
-use Rattle.jpg_spec.specs.Meaning.{Meaning}
-use Rattle.jpg_spec.specs.Moved.{Choice, gray_fault, moved, moved_frame, sequential}
+use Rattle.jpg_spec.specs.Moved.{Choice, Scans, sequential, standard, given, asks_progressive, moved_frame, picture_fault, script_due}
 use Rattle.jpg_spec.specs.Moves.{is_wide}
-use Rattle.jpg_spec.specs.Script.{sequential_script}
 use Rattle.jpg_spec.specs.Segments.{QuantTable}
 use Rattle.jpg_spec.specs.Transforms.{transposes}
+use Rattle.jpg_spec.specs.WrittenFile.{IsRestart}
 use Rattle.jpg_spec.specs.Transposed.{transposed}
 use Rattle.jpg_spec.specs.declared.frame.Colour.{Colour}
 use Rattle.jpg_spec.specs.declared.frame.Colour.TheVariants.{Gray}
 use Rattle.jpg_spec.specs.declared.frame.Process.{Process}
-use Rattle.jpg_spec.specs.declared.frame.Process.TheVariants.{Baseline, Extended}
+use Rattle.jpg_spec.specs.declared.frame.Process.TheVariants.{Baseline, Extended, Progressive}
 use Rattle.jpg_spec.specs.declared.transform.PictureFault.{PictureFault}
 use Rattle.jpg_markers.specs.declared.writing.head.OutHead.{OutHead}
 use Rattle.jpg_file.specs.PictureRead.{picture_meaning}
@@ -21,14 +19,24 @@ use Rattle.jpg_file.specs.Restarts.{restart_of}
 use Rattle.jpg_file.specs.declared.picture.Picture.{Picture}
 use Rattle.jpg_transform.specs.declared.choice.Choice.{Choice as Asked}
 use Rattle.jpg_transform.specs.declared.choice.Job.{Job}
+use Rattle.jpg_transform.specs.declared.choice.Scans.{Scans as AskedScans}
+use Rattle.jpg_transform.specs.declared.choice.Scans.TheVariants.{Sequential, Standard, Given}
 
--- what is asked for, in sequential scans without restarts
+-- what is asked for
+abbrev pub scans_told : AskedScans → Scans
+scans_told Sequential = sequential
+scans_told Standard = standard
+scans_told (Given script) = given script
+
 abbrev pub choice_told : Asked → Choice
-choice_told c = record { transform = c.transform; trim = c.trim; gray = c.gray; copying = c.copying; scans = sequential; restart = off }
-
--- the text of the file of a picture moved
-abbrev pub moved_text : Choice → Meaning → List ℕ
-moved_text choice M = file_text (moved choice M) (sequential_script (frame_of_meaning (moved choice M))) choice.restart
+choice_told c = record {
+  transform = c.transform;
+  trim = c.trim;
+  gray = c.gray;
+  copying = c.copying;
+  scans = scans_told c.scans;
+  restart = restart_of c.restart;
+}
 
 -- Whether the first component has the greatest factors.
 abbrev pub is_first_greatest : Frame → Bool
@@ -39,6 +47,10 @@ is_first_greatest f = (component_at f 0).h == h_max f && (component_at f 0).v ==
 -- SOF1 where a quantiser exceeds 255, else SOF0
 abbrev pub process_of : List QuantTable → Process
 process_of tables = if any_of is_wide tables then Extended else Baseline
+
+-- SOF2 where the scans are those of a progressive file
+abbrev pub process_in : Scans → List QuantTable → Process
+process_in scans tables = if asks_progressive scans then Progressive else process_of tables
 
 -- the table of the first component alone, where a picture is grayed
 abbrev pub grayed_tables : Bool → List QuantTable → List QuantTable
@@ -56,22 +68,23 @@ moved_colour gray colour = if gray then Gray else colour
 
 -- What the head of the output is written from: the picture's frame, tables and colours moved, its JFIF header, and the markers that are passed on.
 pub record IsOutHeadOf (choice : Choice) (p : Picture) (out : OutHead) : Type 0 where
-  pub frame : out.frame ≡ record (moved_frame choice p.frame) { process = process_of out.quants.items }
+  pub frame : out.frame ≡ record (moved_frame choice p.frame) { process = process_in choice.scans out.quants.items }
   pub tables : out.quants.items ≡ moved_tables choice p.quants.items
   pub colour : out.colour ≡ moved_colour choice.gray p.colour
   pub jfif : out.jfif ≡ p.jfif
   pub copying : out.copying ≡ choice.copying
 
--- THE JOB: the picture has no fault as a gray one, where it shall be gray, and is written so.
+-- THE JOB: the picture has no fault for the choice, and is written so, with intervals that are counted in two bytes.
 pub record IsJobFor (p : Picture) (choice : Choice) (job : Job) : Type 0 where
-  pub admitted : gray_fault choice.gray (picture_meaning p) ≡ None
+  pub admitted : picture_fault choice (picture_meaning p) ≡ None
   pub head : IsOutHeadOf choice p job.plan.out
-  pub script : job.plan.script ≡ sequential_script job.plan.out.frame
+  pub script : job.plan.script ≡ script_due choice.scans job.plan.out.frame job.plan.out.colour
   pub restart : restart_of job.plan.restart ≡ choice.restart
+  pub counted : IsRestart choice.restart
   pub transform : job.transform ≡ choice.transform
   pub gray : job.gray ≡ choice.gray
 
 -- the job for a picture, or its fault
 abbrev pub IsPlan : Picture → Choice → Result Job PictureFault → Type 0
 IsPlan p choice (Ok job) = IsJobFor p choice job
-IsPlan p choice (Err fault) = gray_fault choice.gray (picture_meaning p) ≡ Some fault
+IsPlan p choice (Err fault) = picture_fault choice (picture_meaning p) ≡ Some fault

@@ -1,10 +1,21 @@
 // What is asked of a picture (the manual of jpegtran), and how it is written then.
-use jpg_file::Plan;
+use jpg_file::{Plan, Restart};
+use jpg_scans::Script;
 use jpg_spec::{Copying, Transform};
 
-/// What is asked of a picture: to be grayed, transformed and trimmed, in this order; and which of its kept markers are
-/// passed on. It is written in sequential scans without restarts.
-#[derive(Clone, Copy, Debug, PartialEq, Eq)]
+/// In which scans a picture is written.
+#[derive(Drop)]
+pub enum Scans {
+    /// One scan, or one of each component (`Script::sequential`).
+    Sequential,
+    /// The progressive ones of release 6b (`Script::standard`).
+    Standard,
+    Given(Script),
+}
+
+/// What is asked of a picture: to be grayed, transformed and trimmed, in this order; which of its kept markers are passed
+/// on; in which scans it is written, and where restart markers stand in them.
+#[derive(Drop)]
 pub struct Choice {
     pub transform: Transform,
     /// Partial iMCUs that would stay where they are, at the right and at the bottom, are left out.
@@ -12,6 +23,8 @@ pub struct Choice {
     /// The first component alone is kept, with factors 1 by 1.
     pub gray: bool,
     pub copying: Copying,
+    pub scans: Scans,
+    pub restart: Restart,
 }
 
 /// How a picture is written as it was asked for.

@@ -11,10 +11,11 @@ mod signs;
 mod table;
 
 pub use applying::apply;
-pub use choice::{Choice, Job};
+pub use choice::{Choice, Job, Scans};
 pub use jpg_base::{Block, Frame, NoMemory};
 pub use jpg_coefs::{BlockView, Coefs};
-pub use jpg_file::Picture;
+pub use jpg_file::{Picture, Restart};
+pub use jpg_scans::Script;
 pub use jpg_spec::{Copying, PictureFault, Transform};
 pub use moved::Moved;
 pub use planning::plan;

@@ -7,7 +7,7 @@ ghost use Rattle.jpg_coefs.specs.Picture.{map_of};
 ghost use Rattle.jpg_file.specs.PictureRead.{IsPicture};
 ghost use Rattle.jpg_transform.specs.Places.{HasOpposites};
 ghost use Rattle.jpg_transform.specs.Planned.{IsJobFor};
-ghost use Rattle.jpg_transform.specs.MovedBlocks.{ShowsJob, moved_blocks, moved_numbers};
+ghost use Rattle.jpg_transform.specs.MovedBlocks.{ShowsJob, WritesJob, moved_blocks, moved_numbers};
 
 use crate::signs::{signed, signed_over};
 use crate::table::{mirrors_across, mirrors_down, transposes};
@@ -74,12 +74,14 @@ fn opposite(changed: u32, x: u32) -> u32
 }
 
 impl<'a> Moved<'a> {
-    /// The picture grayed, transformed and trimmed, as the job that `plan` gave for it says. It takes no memory.
+    /// The picture grayed, transformed and trimmed, as the job that `plan` gave for it says. Where it was read from a file,
+    /// `write_file` may write it by the job's plan, and the text is that of the picture moved. It takes no memory.
     pub fn new(picture: &'a Picture, job: &'a Job) -> Moved<'a>
         requires picture { IsPicture picture.now }
         requires job { (choice : Choice) × IsJobFor picture.now choice job.now }
         ensures frame { moved_numbers result ≡ job.now.plan.out.frame }
         ensures shows { ShowsJob picture.now job.now (moved_blocks result) }
+        ensures writes { WritesJob picture.now job.now (moved_numbers result) (moved_blocks result) }
     {
         let frame = &job.plan.out.frame;
         frame.checked();

@@ -1,13 +1,15 @@
 // How a picture is written as it was asked for (the manual of jpegtran).
 ghost use Rattle.std.specs.Prelude.{◌≡◌, ◌≤◌, length, map, None};
 ghost use Rattle.jpg_spec.specs.Transposed.{transposed};
-ghost use Rattle.jpg_spec.specs.Moved.{gray_fault, is_gray_or_ycbcr};
+ghost use Rattle.jpg_spec.specs.Moved.{asks_progressive, gray_fault, is_gray_or_ycbcr, script_due};
+ghost use Rattle.jpg_spec.specs.WrittenFile.{IsRestart};
 ghost use Rattle.jpg_file.specs.PictureRead.{IsPicture, picture_meaning};
-ghost use Rattle.jpg_transform.specs.Planned.{IsOutHeadOf, IsPlan, choice_told, is_first_greatest, moved_tables, process_of};
+ghost use Rattle.jpg_file.specs.Restarts.{restart_of};
+ghost use Rattle.jpg_transform.specs.Planned.{IsOutHeadOf, IsPlan, choice_told, is_first_greatest, moved_tables, process_in, process_of, scans_told};
 
 use crate::frames::moved_frame;
 use crate::table::transposes;
-use crate::{Choice, Job};
+use crate::{Choice, Job, Scans};
 use arrayvec::ArrayVec;
 use jpg_base::{Frame, QuantTable};
 use jpg_file::{Picture, Plan, Restart};
@@ -16,8 +18,8 @@ use jpg_scans::Script;
 use jpg_spec::{Colour, PictureFault, Process};
 
 /// How a picture is written as it is asked for, or its first fault: GrayColour where other colours than gray and YCbCr
-/// shall be gray, GrayFactors where the first component of such a picture hasn't the greatest factors. The sequential
-/// script has no faults. It takes no memory.
+/// shall be gray, GrayFactors where the first component of such a picture hasn't the greatest factors, and then those of
+/// the script on the output's frame (`Script::check`), of which the own scripts have none. It takes no memory.
 pub fn plan(picture: &Picture, choice: &Choice) -> Result<Job, PictureFault>
     requires { IsPicture picture.now }
     ensures { IsPlan picture.now (choice_told choice.now) result }
@@ -25,17 +27,50 @@ pub fn plan(picture: &Picture, choice: &Choice) -> Result<Job, PictureFault>
     if let Some(fault) = gray_fault(picture, choice.gray) {
         return Err(fault);
     }
+    counted(choice.restart);
     let out = head_of(picture, choice);
-    let script = Script::sequential(&out.frame);
-    Ok(Job {
-        plan: Plan {
-            out,
-            script,
-            restart: Restart::Off,
-        },
-        transform: choice.transform,
-        gray: choice.gray,
-    })
+    let script = script_due(&choice.scans, &out.frame, out.colour);
+    match script.check(&out.frame) {
+        Err(fault) => Err(fault),
+        Ok(()) => Ok(Job {
+            plan: Plan {
+                out,
+                script,
+                restart: choice.restart,
+            },
+            transform: choice.transform,
+            gray: choice.gray,
+        }),
+    }
+}
+
+// Tells that an interval is counted in two bytes, and does nothing.
+fn counted(restart: Restart)
+    ensures { IsRestart (restart_of restart) }
+{
+    let _ = restart;
+}
+
+// The scans of the output's frame and colours.
+fn script_due(scans: &Scans, frame: &Frame, colour: Colour) -> Script
+    ensures { result ≡ script_due (scans_told scans.now) frame.now colour }
+{
+    match scans {
+        Scans::Sequential => Script::sequential(frame),
+        Scans::Standard => Script::standard(frame, colour),
+        Scans::Given(script) => script.copy(),
+    }
+}
+
+// Whether they are those of a progressive file.
+fn asks_progressive(scans: &Scans) -> bool
+    ensures { result ≡ asks_progressive (scans_told scans.now) }
+{
+    match scans {
+        Scans::Sequential => false,
+        Scans::Standard => true,
+        Scans::Given(script) => script.progressive(),
+    }
 }
 
 // Whether a picture of these colours can be gray.
@@ -75,7 +110,7 @@ fn head_of(picture: &Picture, choice: &Choice) -> OutHead
     ensures { IsOutHeadOf (choice_told choice.now) picture.now result }
 {
     let quants = moved_tables(picture.quants.as_slice(), choice);
-    let process = process_of(quants.as_slice());
+    let process = process_in(&choice.scans, quants.as_slice());
     OutHead {
         frame: moved_frame(&picture.frame, choice).with_process(process),
         colour: if choice.gray {
@@ -126,6 +161,17 @@ fn turned(tables: &[QuantTable]) -> ArrayVec<QuantTable, 4>
         list.push(table.transposed());
     }
     list
+}
+
+// The process of a file in these scans with these tables.
+fn process_in(scans: &Scans, tables: &[QuantTable]) -> Process
+    ensures { result ≡ process_in (scans_told scans.now) tables.now }
+{
+    if asks_progressive(scans) {
+        Process::Progressive
+    } else {
+        process_of(tables)
+    }
 }
 
 // The process of a sequential file with these tables.

@@ -1,14 +1,14 @@
 // The words of jpegtran, rdjpgcom and wrjpgcom: what is wrong with which of them, and what they ask for.
 use jpg_base::Name;
-use jpg_cli::{Asked, CommentFrom, WordsStop, read_words};
+use jpg_cli::{Asked, CommentFrom, ScriptFrom, WordsStop, read_words};
 use jpg_run_parts::strings;
 use jpg_spec::{Copying, Transform, Usage, UsageFault};
-use jpg_transform::Choice;
+use jpg_transform::Restart;
 use std::test::Fail;
 
 #[test]
 fn words_are_refused(rt: HostRuntime) -> Result<(), Fail> {
-    let rows: [(&[&str], UsageFault, u64); 46] = [
+    let rows: [(&[&str], UsageFault, u64); 47] = [
         (
             &["jpegtran", "-flip", "horizontal", "-rotate", "90"],
             UsageFault::TwoTransforms,
@@ -37,6 +37,7 @@ fn words_are_refused(rt: HostRuntime) -> Result<(), Fail> {
         (&["jpegtran", "-copy", "allx"], UsageFault::BadValue, 2),
         (&["jpegtran", "-restart", "65536"], UsageFault::BadValue, 2),
         (&["jpegtran", "-restart", "1BB"], UsageFault::BadValue, 2),
+        (&["jpegtran", "-restart", "b"], UsageFault::BadValue, 2),
         (&["jpegtran", "-rotate", "000090"], UsageFault::BadValue, 2),
         (&["jpegtran", "a", "-trim"], UsageFault::TooManyFiles, 2),
         (&["jpegtran", "-scans"], UsageFault::MissingValue, 1),
@@ -304,15 +305,55 @@ fn right_words_of_jpegtran(rt: HostRuntime) -> Result<(), Fail> {
         let Ok(Asked::Jpegtran(asked)) = read_words(rt.alloc(), list.as_slice()) else {
             panic!(rt; "right words {words:?}");
         };
-        let choice = Choice {
-            transform,
-            trim,
-            gray,
-            copying,
-        };
-        assert!(rt; asked.choice == choice, "{words:?}");
+        assert!(rt; asked.transform == transform, "{words:?}");
+        assert!(rt; (asked.trim, asked.gray) == (trim, gray), "{words:?}");
+        assert!(rt; asked.copying == copying, "{words:?}");
         assert!(rt; name_text(&asked.files.input) == input, "{words:?}");
         assert!(rt; name_text(&asked.files.output) == output, "{words:?}");
+    }
+    Ok(())
+}
+
+// Where the scans come from, and the name of their file.
+fn script_text(script: &ScriptFrom) -> (&str, &str) {
+    match script {
+        ScriptFrom::Sequential => ("sequential", ""),
+        ScriptFrom::Standard => ("standard", ""),
+        ScriptFrom::File(name) => ("file", name.as_str()),
+    }
+}
+
+// In which scans jpegtran's words have the picture written, and with which restarts.
+#[test]
+fn scans_and_restarts_of_words(rt: HostRuntime) -> Result<(), Fail> {
+    let rows: [(&[&str], (&str, &str), Restart); 7] = [
+        (&["jpegtran"], ("sequential", ""), Restart::Off),
+        (&["jpegtran", "-P"], ("standard", ""), Restart::Off),
+        (&["jpegtran", "-s", "a", "-p"], ("file", "a"), Restart::Off),
+        (&["jpegtran", "-scans", "-p"], ("file", "-p"), Restart::Off),
+        (
+            &["jpegtran", "-r", "65535"],
+            ("sequential", ""),
+            Restart::Rows(65535),
+        ),
+        (
+            &["jpegtran", "-r", "1", "-r", "07b"],
+            ("sequential", ""),
+            Restart::Mcus(7),
+        ),
+        (
+            &["jpegtran", "-r", "1", "-r", "0B"],
+            ("sequential", ""),
+            Restart::Off,
+        ),
+    ];
+    for &(words, script, restart) in rows.iter() {
+        let list = strings(rt.alloc(), words)?;
+        let Ok(Asked::Jpegtran(asked)) = read_words(rt.alloc(), list.as_slice()) else {
+            panic!(rt; "right words {words:?}");
+        };
+        assert!(rt; script_text(&asked.script) == script, "{words:?}");
+        assert!(rt; asked.restart == restart, "{words:?}");
     }
     Ok(())
 }

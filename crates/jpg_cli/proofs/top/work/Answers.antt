@@ -9,7 +9,7 @@ use Rattle.jpg_cli.specs.declared.words.Asked.{Asked}
 use Rattle.jpg_cli.proofs.InsertedThen.{asked_inserted}
 use Rattle.jpg_cli.proofs.ImageShown.{asked_shown}
 use Rattle.jpg_cli.proofs.PictureTaken.{reads_none}
-use Rattle.jpg_cli.proofs.Running.{asked_turned, names_wanting}
+use Rattle.jpg_cli.proofs.Running.{names_wanting}
 use Rattle.jpg_cli.proofs.top.work.Goals as goal
 
 pub returns-in-Ok-Jpegtran : goal.returns-in-Ok-Jpegtran
@@ -20,7 +20,7 @@ returns-in-Ok-Jpegtran g c =
     record {
       worked =
           (let P : WordsTold Command → Type 0 = λ a. Worked (formats_of (map (λ e. (goal.ImageEnd-dyn g (e.vtable, e.value)).progress e.value) c.args.ends.items)) a (state c.args.desk.now) c.transform.result (state c.transform.new.desk) in
-          subst P (sym told) (asked_turned c.in-Ok-Jpegtran.words (state c.args.desk.now) (state c.transform.new.desk) c.transform.result c.transform.ensures.turned));
+          subst P (sym told) c.transform.ensures.transformed);
       kept = c.transform.ensures.kept;
     }
 

@@ -1,24 +1,15 @@
-use Rattle.jpg_file.specs.PictureRead.{picture_meaning}
-use Rattle.jpg_cli.proofs.Running.{meant, turned_done, turned_unopened, turned_unwritten}
+use Rattle.jpg_transform.specs.Planned.{choice_told, scans_told}
+use Rattle.jpg_cli.specs.TransformWords.{transform_told}
+use Rattle.jpg_cli.proofs.Running.{transformed_in, transformed_stopped}
 use Rattle.jpg_cli.proofs.transform.transform.Goals as goal
 
-pub write_moved-requires-clause-meant : goal.write_moved-requires-clause-meant
-write_moved-requires-clause-meant g c = (let read = c.in-Ok.ensures.read.1 in meant (picture_meaning c.in-Ok.picture) read.bytes read.is)
-
-pub returns-in-Done-clause-turned : goal.returns-in-Done-clause-turned
-returns-in-Done-clause-turned g c =
+pub returns-in-Ok-clause-transformed : goal.returns-in-Ok-clause-transformed
+returns-in-Ok-clause-transformed g c =
     let state = g.D.Desk.state in
-    turned_done c.args.words.now.files.input c.args.words.now.files.output c.args.words.now.choice (picture_meaning c.in-Ok.picture) (state c.args.desk.now) (state c.read_picture.new.desk) (state c.write_moved.new.desk)
-    (record { kept = c.in-Ok.ensures.kept; asked = c.in-Ok.ensures.read.0; read = c.in-Ok.ensures.read.1; left = c.write_moved.ensures.left }) c.in-Done.ensures.wrote
+    transformed_in c.args.words.now (scans_told c.in-Ok.scans) (choice_told c.choice_of.result) (state c.args.desk.now) (state c.take_scans.new.desk) (state c.turn.new.desk) c.turn.result c.choice_of.ensures
+    (record { asked = c.in-Ok.ensures.after.0; kept = c.in-Ok.ensures.kept }) c.in-Ok.ensures.after.1 c.turn.ensures.turned
 
-pub returns-in-OpenFault-clause-turned : goal.returns-in-OpenFault-clause-turned
-returns-in-OpenFault-clause-turned g c =
+pub returns-in-Err-clause-transformed : goal.returns-in-Err-clause-transformed
+returns-in-Err-clause-transformed g c =
     let state = g.D.Desk.state in
-    turned_unopened c.args.words.now.files.input c.args.words.now.files.output c.args.words.now.choice (picture_meaning c.in-Ok.picture) (state c.args.desk.now) (state c.read_picture.new.desk) (state c.write_moved.new.desk)
-    (record { kept = c.in-Ok.ensures.kept; asked = c.in-Ok.ensures.read.0; read = c.in-Ok.ensures.read.1; left = c.write_moved.ensures.left }) c.in-OpenFault.ensures.wrote
-
-pub returns-clause-turned : goal.returns-clause-turned
-returns-clause-turned g c =
-    let state = g.D.Desk.state in
-    turned_unwritten c.args.words.now.files.input c.args.words.now.files.output c.args.words.now.choice (picture_meaning c.in-Ok.picture) (state c.args.desk.now) (state c.read_picture.new.desk) (state c.write_moved.new.desk)
-    (record { kept = c.in-Ok.ensures.kept; asked = c.in-Ok.ensures.read.0; read = c.in-Ok.ensures.read.1; left = c.write_moved.ensures.left }) c.in-WriteFault.ensures.wrote
+    transformed_stopped (transform_told c.args.words.now) (state c.args.desk.now) (state c.take_scans.new.desk) c.in-Err.why c.in-Err.ensures.after

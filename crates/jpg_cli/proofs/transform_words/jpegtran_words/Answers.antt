@@ -1,4 +1,4 @@
-use Rattle.std.proofs.Common.{◌∙◌, ap, map, drop, string_bytes, subst, sym, Option, Result, Err}
+use Rattle.std.proofs.Common.{◌∙◌, ap, map, drop, string_bytes, subst, sym, Result, Err}
 use Rattle.std.proofs.lemmas.Result.{err_from_is_err_and}
 use Rattle.jpg_spec.specs.CommentWords.{words_right}
 use Rattle.jpg_spec.specs.Requests.{then_asks}
@@ -9,15 +9,16 @@ use Rattle.jpg_cli.specs.declared.comment_words.WordsStop.{WordsStop}
 use Rattle.jpg_cli.specs.declared.transform_words.TransformWords.{TransformWords}
 use Rattle.jpg_cli.proofs.transform_words.jpegtran_words.Goals as goal
 
-pub returns-then-said : goal.returns-then-said
-returns-then-said c =
+pub returns-in_err-script : goal.returns-in_err-script
+returns-in_err-script c =
     let request = with_input_told (c.in_ok-said.said, c.in_ok-said.input) in
-    (transform_of request, ap (λ told. then_asks told (λ r. words_right (transform_of r))) c.in_ok-said.ensures, c.if-said.true)
+    let back = err_from_is_err_and c.from_residual-in_err-script.result c.from_residual-in_err-script.ensures.1 in
+    let P : Result TransformWords WordsStop → Type 0 = IsTransform (transform_asked (drop 1 (map string_bytes c.args.words.now))) in
+    subst P (sym (back.1 ∙ ap (λ stop. Err stop) back.2)) (transform_of request, ap (λ told. then_asks told (λ r. words_right (transform_of r))) c.in_ok-said.ensures)
 
 pub returns-in_err-files : goal.returns-in_err-files
 returns-in_err-files c =
     let request = with_input_told (c.in_ok-said.said, c.in_ok-said.input) in
     let back = err_from_is_err_and c.from_residual-in_err-files.result c.from_residual-in_err-files.ensures.1 in
-    let P : Result (Option TransformWords) WordsStop → Type 0 = IsTransform (transform_asked (drop 1 (map string_bytes c.args.words.now))) in
-    subst P (sym (back.1 ∙ ap (λ stop. Err stop) back.2))
-    (transform_of request, ap (λ told. then_asks told (λ r. words_right (transform_of r))) c.in_ok-said.ensures, c.if-said.false)
+    let P : Result TransformWords WordsStop → Type 0 = IsTransform (transform_asked (drop 1 (map string_bytes c.args.words.now))) in
+    subst P (sym (back.1 ∙ ap (λ stop. Err stop) back.2)) (transform_of request, ap (λ told. then_asks told (λ r. words_right (transform_of r))) c.in_ok-said.ensures)

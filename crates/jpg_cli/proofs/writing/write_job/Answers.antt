@@ -1,7 +1,6 @@
 use Rattle.std.proofs.Common.{List, ℕ, subst}
 use Rattle.jpg_cli.specs.Writing.{AfterOutput}
 use Rattle.jpg_cli.specs.declared.writing.Wrote.TheVariants as wrote
-use Rattle.jpg_cli.proofs.MovedFile.{can_write_on, is_written, text_is}
 use Rattle.jpg_cli.proofs.Output.{output_done, output_failed}
 use Rattle.jpg_cli.proofs.Running.{movable}
 use Rattle.jpg_file.specs.PictureRead.{picture_meaning}
@@ -13,28 +12,36 @@ new-moved-requires-clause-job g c = (choice_told c.args.choice.now, c.requires.j
 
 pub write_file-requires-clause-plan : goal.write_file-requires-clause-plan
 write_file-requires-clause-plan g c =
-    let p = c.args.picture.now in
-    let a = c.args.choice.now in
-    let job = c.args.job.now in
-    can_write_on p a job.plan c.new-moved.result.frame.now _ c.new-moved.ensures.frame
-    (is_written p a job _ c.requires.picture (movable (picture_meaning p) a c.requires.meant c.requires.job.admitted) c.requires.job (c.new-moved.ensures.shows (choice_told a) c.requires.job)) c.requires.job.script
+    let a = choice_told c.args.choice.now in
+    (c.new-moved.ensures.writes a c.requires.job (movable (picture_meaning c.args.picture.now) a c.requires.meant c.requires.job.admitted)).can
 
 pub returns-in-Ok-clause-output : goal.returns-in-Ok-clause-output
 returns-in-Ok-clause-output g c =
     let state = g.D.Desk.state in
-    let p = c.args.picture.now in
-    let a = c.args.choice.now in
-    let job = c.args.job.now in
-    let w = is_written p a job _ c.requires.picture (movable (picture_meaning p) a c.requires.meant c.requires.job.admitted) c.requires.job (c.new-moved.ensures.shows (choice_told a) c.requires.job) in
-    subst (λ (due : List ℕ). AfterOutput c.args.output.now (state c.args.desk.now) due wrote.Done (state c.write_file.new.desk)) (text_is p a job.plan _ w c.requires.job.script c.requires.job.restart)
+    let a = choice_told c.args.choice.now in
+    let writes = c.new-moved.ensures.writes a c.requires.job (movable (picture_meaning c.args.picture.now) a c.requires.meant c.requires.job.admitted) in
+    subst (λ (due : List ℕ). AfterOutput c.args.output.now (state c.args.desk.now) due wrote.Done (state c.write_file.new.desk)) writes.text
     (output_done (state c.args.desk.now) (state c.create.new.self) (state c.write_file.new.desk) c.args.output.now _ c.in-Done.ensures c.in-Ok.ensures.only c.in-Ok.ensures.bytes)
 
 pub returns-in-Err-clause-output : goal.returns-in-Err-clause-output
 returns-in-Err-clause-output g c =
     let state = g.D.Desk.state in
-    let p = c.args.picture.now in
-    let a = c.args.choice.now in
-    let job = c.args.job.now in
-    let w = is_written p a job _ c.requires.picture (movable (picture_meaning p) a c.requires.meant c.requires.job.admitted) c.requires.job (c.new-moved.ensures.shows (choice_told a) c.requires.job) in
-    subst (λ (due : List ℕ). AfterOutput c.args.output.now (state c.args.desk.now) due wrote.WriteFault (state c.write_file.new.desk)) (text_is p a job.plan _ w c.requires.job.script c.requires.job.restart)
+    let a = choice_told c.args.choice.now in
+    let writes = c.new-moved.ensures.writes a c.requires.job (movable (picture_meaning c.args.picture.now) a c.requires.meant c.requires.job.admitted) in
+    subst (λ (due : List ℕ). AfterOutput c.args.output.now (state c.args.desk.now) due wrote.WriteFault (state c.write_file.new.desk)) writes.text
     (output_failed (state c.args.desk.now) (state c.create.new.self) (state c.write_file.new.desk) c.args.output.now _ _ c.in-Done.ensures c.in-Err.ensures.only c.in-Err.ensures.bytes)
+
+pub returns-in-Failed-clause-means : goal.returns-in-Failed-clause-means
+returns-in-Failed-clause-means g c =
+    let a = choice_told c.args.choice.now in
+    (c.new-moved.ensures.writes a c.requires.job (movable (picture_meaning c.args.picture.now) a c.requires.meant c.requires.job.admitted)).means
+
+pub returns-in-Ok-clause-means : goal.returns-in-Ok-clause-means
+returns-in-Ok-clause-means g c =
+    let a = choice_told c.args.choice.now in
+    (c.new-moved.ensures.writes a c.requires.job (movable (picture_meaning c.args.picture.now) a c.requires.meant c.requires.job.admitted)).means
+
+pub returns-in-Err-clause-means : goal.returns-in-Err-clause-means
+returns-in-Err-clause-means g c =
+    let a = choice_told c.args.choice.now in
+    (c.new-moved.ensures.writes a c.requires.job (movable (picture_meaning c.args.picture.now) a c.requires.meant c.requires.job.admitted)).means

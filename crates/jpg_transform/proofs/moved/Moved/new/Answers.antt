@@ -1,6 +1,8 @@
+use Rattle.std.proofs.Common.{refl}
 use Rattle.std.specs.Prelude.{ℕ, slice_index}
 use Rattle.jpg_coefs.specs.Picture.{map_of}
 use Rattle.jpg_file.specs.PictureRead.{picture_meaning}
+use Rattle.jpg_transform.proofs.MovedFile.{writes_job}
 use Rattle.jpg_transform.proofs.Planned.{is_output, whole_picture}
 use Rattle.jpg_transform.proofs.SeenPicture.{seen_meaning}
 use Rattle.jpg_transform.proofs.Showing.{Given, reached_by, shown_by}
@@ -22,6 +24,7 @@ invariant_of-result c =
       };
     }
 
+-- what is shown, for whatever choice
 pub returns-clause-shows : goal.returns-clause-shows
 returns-clause-shows c = λ choice h.
     (let p = c.args.picture.now in
@@ -31,3 +34,6 @@ returns-clause-shows c = λ choice h.
     let rows : ℕ → ℕ = λ i. slice_index c.all_rows.result i in
     let given : Given out job.transform c.transposes.result columns rows = record { frame = c.checked.ensures; over_is = c.transposes.ensures; columns_are = c.all_columns.ensures; rows_are = c.all_rows.ensures } in
     shown_by choice p.frame out job.transform c.transposes.result columns rows (map_of p.coefs) (picture_meaning p) c.requires.picture.frame given (whole_picture p c.requires.picture) (seen_meaning p) (is_output p choice job c.requires.picture h))
+
+pub returns-clause-writes : goal.returns-clause-writes
+returns-clause-writes c = λ choice h movable. writes_job c.args.picture.now choice c.args.job.now _ _ refl c.requires.picture h movable (returns-clause-shows c choice h)

@@ -1,0 +1,25 @@
+use Rattle.jpg_file.specs.PictureRead.{picture_meaning}
+use Rattle.jpg_transform.specs.Planned.{choice_told}
+use Rattle.jpg_cli.proofs.Running.{meant, turned_done, turned_unopened, turned_unwritten}
+use Rattle.jpg_cli.proofs.transform.turn.Goals as goal
+
+pub write_moved-requires-clause-meant : goal.write_moved-requires-clause-meant
+write_moved-requires-clause-meant g c = (let read = c.in-Ok.ensures.read.1 in meant (picture_meaning c.in-Ok.picture) read.bytes read.is)
+
+pub returns-in-Done-clause-turned : goal.returns-in-Done-clause-turned
+returns-in-Done-clause-turned g c =
+    let state = g.D.Desk.state in
+    turned_done c.args.files.now.input c.args.files.now.output (choice_told c.args.choice.now) (picture_meaning c.in-Ok.picture) (state c.args.desk.now) (state c.read_picture.new.desk) (state c.write_moved.new.desk)
+    (record { kept = c.in-Ok.ensures.kept; asked = c.in-Ok.ensures.read.0; read = c.in-Ok.ensures.read.1; left = c.write_moved.ensures.left }) c.in-Done.ensures.wrote
+
+pub returns-in-OpenFault-clause-turned : goal.returns-in-OpenFault-clause-turned
+returns-in-OpenFault-clause-turned g c =
+    let state = g.D.Desk.state in
+    turned_unopened c.args.files.now.input c.args.files.now.output (choice_told c.args.choice.now) (picture_meaning c.in-Ok.picture) (state c.args.desk.now) (state c.read_picture.new.desk) (state c.write_moved.new.desk)
+    (record { kept = c.in-Ok.ensures.kept; asked = c.in-Ok.ensures.read.0; read = c.in-Ok.ensures.read.1; left = c.write_moved.ensures.left }) c.in-OpenFault.ensures.wrote
+
+pub returns-clause-turned : goal.returns-clause-turned
+returns-clause-turned g c =
+    let state = g.D.Desk.state in
+    turned_unwritten c.args.files.now.input c.args.files.now.output (choice_told c.args.choice.now) (picture_meaning c.in-Ok.picture) (state c.args.desk.now) (state c.read_picture.new.desk) (state c.write_moved.new.desk)
+    (record { kept = c.in-Ok.ensures.kept; asked = c.in-Ok.ensures.read.0; read = c.in-Ok.ensures.read.1; left = c.write_moved.ensures.left }) c.in-WriteFault.ensures.wrote

@@ -1,0 +1,228 @@
+-- The file of a picture moved: what is written of it means the picture moved.
+use Rattle.std.proofs.Common.{◌≡◌, ℕ, Bool, true, false, cond, not, ◌&&◌, ◌==◌, List, [], ◌∷◌, length, get_or, map, refl, sym, ap, ◌∙◌, subst, arith, None}
+use Rattle.std.proofs.Math.Path.{fun_ext}
+use Rattle.std.proofs.Math.ListN as listn
+use Rattle.std.specs.Prelude.{◌||◌, nat_lt, zip}
+use Rattle.std.proofs.lemmas.List.{length-map}
+use Rattle.std.proofs.lemmas.Slice.Zip.{get_or-zip, length-zip}
+use Rattle.jpg_spec.specs.Lists.{any_of, below}
+use Rattle.jpg_spec.specs.Geometry.{Frame, IsReal, blocks_across, blocks_down, component_at, is_real, no_component}
+use Rattle.jpg_spec.specs.Elements.{zeros}
+use Rattle.jpg_spec.specs.FileText.{file_text, frame_of_meaning}
+use Rattle.jpg_spec.specs.Jfif.{jfif_of}
+use Rattle.jpg_spec.specs.Laws.{IsMovable}
+use Rattle.jpg_spec.specs.Meaning.{Meaning, PictureComponent, colour_of, real_blocks}
+use Rattle.jpg_spec.specs.Moved.{Choice, Grids, asks_progressive, moved, moved_frame, moved_script, moved_script_fault, moved_text, process_due, script_due}
+use Rattle.jpg_spec.specs.Moves.{copied, headed_kept, is_wide, sequential_process}
+use Rattle.jpg_spec.specs.Scan.{Blocks}
+use Rattle.jpg_spec.specs.Script.{Entry}
+use Rattle.jpg_spec.specs.Segments.{QuantTable, standard_limits}
+use Rattle.jpg_spec.specs.WrittenFile.{IsBaselineBlock, IsHeaded}
+use Rattle.jpg_spec.specs.declared.frame.Colour.{Colour}
+use Rattle.jpg_spec.specs.declared.frame.Copying.{Copying}
+use Rattle.jpg_spec.specs.declared.frame.Component.{Component}
+use Rattle.jpg_spec.specs.declared.frame.Process.{Process}
+use Rattle.jpg_spec.specs.declared.frame.Process.TheVariants.{Baseline, Extended, Progressive}
+use Rattle.jpg_spec.specs.declared.jfif.Jfif.{Jfif}
+use Rattle.jpg_spec.proofs.Common.{both, lt_of, lt_yes}
+use Rattle.jpg_spec.proofs.ReadPicture.{read_moved}
+use Rattle.jpg_spec.proofs.Rows.{by_items}
+use Rattle.jpg_spec.proofs.SameNumbers.{SameNumbers, is_place, numbers_of, same_places}
+use Rattle.jpg_spec.proofs.MovedText.{moved_means, moved_passes}
+use Rattle.jpg_markers.specs.OutHead.{with_tables}
+use Rattle.jpg_markers.specs.declared.writing.head.OutHead.{OutHead}
+use Rattle.jpg_seq.specs.ScanWritten.{HasBaselineBlocks}
+use Rattle.jpg_file.specs.PictureRead.{IsPicture, component_told, picture_meaning}
+use Rattle.jpg_file.specs.declared.picture.Picture.{Picture}
+use Rattle.jpg_transform.specs.MovedBlocks.{IsWrittenAs}
+use Rattle.jpg_transform.specs.Places.{IsSeenAs}
+use Rattle.jpg_transform.specs.Planned.{IsJobFor, IsOutHeadOf, process_in, process_of}
+use Rattle.jpg_transform.specs.declared.choice.Job.{Job}
+use Rattle.jpg_transform.proofs.MovedHead.{unheaded, moved_components, moved_count, meaning_numbers, precision_stays, frame_precision_stays, kept_stays}
+use Rattle.jpg_transform.proofs.MovedScript.{moved_colour_is, out_colour, script_none, script_same}
+use Rattle.jpg_file.specs.Restarts.{restart_of}
+use Rattle.jpg_file.specs.WriteFile.{CanWriteFile, does_pass, file_bytes, file_meaning}
+use Rattle.jpg_file.specs.declared.write.Plan.{Plan}
+
+-- COMPONENTS
+
+-- the numbers of a component of a frame
+numbers_at : (f : Frame) (i : ℕ) → numbers_of (component_at f i) ≡ get_or (map numbers_of f.components) i (numbers_of no_component)
+numbers_at f i = sym (listn.get_or-map numbers_of f.components i no_component)
+
+any_map : {A B : Type 0} (t : B → Bool) (f : A → B) (xs : List A) → any_of (λ x. t (f x)) xs ≡ any_of t (map f xs)
+any_map t f [] = refl
+any_map t f (x ∷ xs) = ap (λ b. t (f x) || b) (any_map t f xs)
+
+abbrev with_table : Component × QuantTable → PictureComponent
+with_table c = record { id = c.0.id; h = c.0.h; v = c.0.v; quants = c.1 }
+
+tables_are : (f : Frame) (q : List QuantTable) → length q ≡ length f.components → with_tables f.components q ≡ map (component_told f q) (below (length f.components))
+tables_are f q l =
+    let both_long : length (zip f.components q) ≡ length f.components = (let z = length-zip f.components q in omega (arith, z, l)) in
+    sym (by_items (length f.components) (component_told f q) (with_tables f.components q) (with_table (no_component, [])) (length-map (zip f.components q) with_table ∙ both_long)
+    (λ i h. sym (listn.get_or-map with_table (zip f.components q) i (no_component, []) ∙ ap with_table (get_or-zip f.components q i (no_component, []) h (omega (arith, h, l))))))
+
+-- the tables of components that have them
+tables_of : (cs : List Component) (q : List QuantTable) → length q ≡ length cs → map (λ c. c.quants) (with_tables cs q) ≡ q
+tables_of [] [] l = refl
+tables_of [] (t ∷ q) l = absurd (omega (arith, l))
+tables_of (c ∷ cs) [] l = absurd (omega (arith, l))
+tables_of (c ∷ cs) (t ∷ q) l = ap (λ ts. t ∷ ts) (tables_of cs q (omega (arith, l)))
+
+-- THE PICTURE MOVED
+
+abbrev out_meaning : Picture → Choice → Meaning
+out_meaning p c = moved c (picture_meaning p)
+
+-- what is written of it
+pub record IsWritten (p : Picture) (c : Choice) (out : OutHead) (blocks : Blocks) : Type 0 where
+  pub picture : IsPicture p
+  pub head : IsOutHeadOf c p out
+  pub headed : IsHeaded standard_limits (out_meaning p c)
+  pub seen : IsSeenAs (out_meaning p c) out.frame blocks
+
+out_components : (p : Picture) (c : Choice) (out : OutHead) → IsPicture p → IsOutHeadOf c p out → with_tables out.frame.components out.quants.items ≡ (out_meaning p c).components
+out_components p c out is h =
+    ap (λ (g : Frame). with_tables g.components out.quants.items) h.frame
+    ∙ ap (λ (q : List QuantTable). with_tables (moved_frame c p.frame).components q) h.tables
+    ∙ moved_components c p.frame p.quants.items (picture_meaning p) (sym (tables_are p.frame p.quants.items is.tables)) is.tables is.frame.count_low
+
+out_count : (p : Picture) (c : Choice) (out : OutHead) → IsPicture p → IsOutHeadOf c p out → length out.quants.items ≡ length out.frame.components
+out_count p c out is h =
+    ap length h.tables ∙ moved_count c p.frame p.quants.items is.tables is.frame.count_low ∙ sym (ap (λ (g : Frame). length g.components) h.frame)
+
+out_precision : (p : Picture) (c : Choice) (out : OutHead) → IsOutHeadOf c p out → out.frame.precision ≡ (out_meaning p c).precision
+out_precision p c out h =
+    ap (λ (g : Frame). g.precision) h.frame ∙ frame_precision_stays c p.frame ∙ sym (precision_stays c (picture_meaning p))
+
+same_numbers : (p : Picture) (c : Choice) (out : OutHead) (blocks : Blocks) → IsWritten p c out blocks → SameNumbers out.frame (frame_of_meaning (out_meaning p c))
+same_numbers p c out blocks w = record {
+  width = sym (ap (λ (g : Grids). g.width) w.seen.grids);
+  height = sym (ap (λ (g : Grids). g.height) w.seen.grids);
+  precision = out_precision p c out w.head;
+  components = meaning_numbers out.frame.components out.quants.items (out_meaning p c) (out_components p c out w.picture w.head) (out_count p c out w.picture w.head);
+}
+
+kind_is : (b : Bool) (tables : List QuantTable) (N : Meaning) → process_of tables ≡ sequential_process N → cond b Progressive (process_of tables) ≡ process_due b N
+kind_is true tables N e = refl
+kind_is false tables N e = e
+
+process_is : (p : Picture) (c : Choice) (out : OutHead) → IsPicture p → IsOutHeadOf c p out → process_in c.scans out.quants.items ≡ process_due (asks_progressive c.scans) (unheaded c (picture_meaning p))
+process_is p c out is h =
+    let N = unheaded c (picture_meaning p) in
+    let tables : map (λ (d : PictureComponent). d.quants) N.components ≡ out.quants.items = ap (map (λ (d : PictureComponent). d.quants)) (sym (out_components p c out is h)) ∙ tables_of out.frame.components out.quants.items (out_count p c out is h) in
+    let eight : N.precision ≡ 8 = precision_stays c (picture_meaning p) ∙ is.frame.precision in
+    kind_is (asks_progressive c.scans) out.quants.items N
+    (ap process_of (sym tables) ∙ ap (λ b. cond b Extended Baseline) (sym (any_map is_wide (λ (d : PictureComponent). d.quants) N.components))
+    ∙ ap (λ n. cond (not (n == 8) || any_of (λ (d : PictureComponent). is_wide d.quants) N.components) Extended Baseline) (sym eight))
+
+place_real : (f : Frame) (i x y : ℕ) → is_place f i x y ≡ true → IsReal f i x y
+place_real f i x y e =
+    let a = both (nat_lt i (length f.components)) (is_real f i x y) e in
+    let b = both (nat_lt x (blocks_across f (component_at f i))) (nat_lt y (blocks_down f (component_at f i))) a.1 in
+    record { component = lt_of i (length f.components) a.0; across = lt_of x (blocks_across f (component_at f i)) b.0; down = lt_of y (blocks_down f (component_at f i)) b.1 }
+
+real_place : (f : Frame) (i x y : ℕ) → IsReal f i x y → is_place f i x y ≡ true
+real_place f i x y r =
+    ap (λ b. b && is_real f i x y) (lt_yes i (length f.components) r.component)
+    ∙ ap (λ b. b && nat_lt y (blocks_down f (component_at f i))) (lt_yes x (blocks_across f (component_at f i)) r.across)
+    ∙ lt_yes y (blocks_down f (component_at f i)) r.down
+
+-- the test of a place, by the meaning
+place_of : (p : Picture) (c : Choice) (out : OutHead) (blocks : Blocks) (i x y : ℕ) → IsWritten p c out blocks → (nat_lt i (length (out_meaning p c).components) && is_real (frame_of_meaning (out_meaning p c)) i x y) ≡ is_place out.frame i x y
+place_of p c out blocks i x y w =
+    let g = frame_of_meaning (out_meaning p c) in
+    ap (λ n. nat_lt i n && is_real g i x y) (sym (length-map (out_meaning p c).components _)) ∙ sym (same_places out.frame g i x y (same_numbers p c out blocks w))
+
+blocks_are : (p : Picture) (c : Choice) (out : OutHead) (blocks : Blocks) → IsWritten p c out blocks → real_blocks out.frame blocks ≡ (out_meaning p c).blocks
+blocks_are p c out blocks w = fun_ext (λ i. fun_ext (λ x. fun_ext (λ y. by i x y (is_place out.frame i x y) refl)))
+  where
+    by : (i x y : ℕ) (b : Bool) → is_place out.frame i x y ≡ b → cond b (blocks i x y) (zeros 64) ≡ (out_meaning p c).blocks i x y
+    by i x y true e = sym (w.seen.same i x y (place_real out.frame i x y e))
+    by i x y false e = sym (w.headed.others i x y (place_of p c out blocks i x y w ∙ e))
+
+baseline : (p : Picture) (c : Choice) (out : OutHead) (blocks : Blocks) → IsWritten p c out blocks → HasBaselineBlocks out.frame blocks
+baseline p c out blocks w i x y r =
+    let N = out_meaning p c in
+    let e = place_of p c out blocks i x y w ∙ real_place out.frame i x y r in
+    let a = both (nat_lt i (length N.components)) (is_real (frame_of_meaning N) i x y) e in
+    subst IsBaselineBlock (w.seen.same i x y r) (w.headed.blocks i x y (lt_of i (length N.components) a.0) a.1)
+
+kept_are : (p : Picture) (c : Choice) (out : OutHead) → IsPicture p → IsOutHeadOf c p out → headed_kept out.colour out.jfif (copied out.copying p.kept) ≡ (out_meaning p c).kept
+kept_are p c out is h =
+    let N = unheaded c (picture_meaning p) in
+    let k = kept_stays c (picture_meaning p) in
+    ap (λ (d : Copying). headed_kept out.colour out.jfif (copied d p.kept)) h.copying
+    ∙ ap (λ (d : Colour). headed_kept d out.jfif (copied c.copying p.kept)) (out_colour p c out is h)
+    ∙ ap (λ (j : Jfif). headed_kept (colour_of N) j (copied c.copying p.kept)) (h.jfif ∙ is.jfif)
+    ∙ ap (λ kept. headed_kept (colour_of N) (jfif_of kept) (copied c.copying kept)) (sym k)
+
+pub meaning_is : (p : Picture) (c : Choice) (plan : Plan) (blocks : Blocks) → IsWritten p c plan.out blocks → file_meaning plan p.kept blocks ≡ out_meaning p c
+meaning_is p c plan blocks w =
+    let H = file_meaning plan p.kept blocks in
+    let N = out_meaning p c in
+    let h = w.head in
+    ap (λ (v : Process). let m : Meaning = record H { process = v } in m) (ap (λ (g : Frame). g.process) h.frame ∙ process_is p c plan.out w.picture h)
+    ∙ ap (λ v. let m : Meaning = record H { process = N.process; precision = v } in m) (out_precision p c plan.out h)
+    ∙ ap (λ v. let m : Meaning = record H { process = N.process; precision = N.precision; width = v } in m) (sym (ap (λ (g : Grids). g.width) w.seen.grids))
+    ∙ ap (λ v. let m : Meaning = record H { process = N.process; precision = N.precision; width = N.width; height = v } in m) (sym (ap (λ (g : Grids). g.height) w.seen.grids))
+    ∙ ap (λ v. let m : Meaning = record N { components = v; blocks = H.blocks; kept = H.kept } in m) (out_components p c plan.out w.picture h)
+    ∙ ap (λ v. let m : Meaning = record N { blocks = v; kept = H.kept } in m) (blocks_are p c plan.out blocks w)
+    ∙ ap (λ v. let m : Meaning = record N { kept = v } in m) (kept_are p c plan.out w.picture h)
+
+-- THE PLAN can be written, and this is its text
+
+-- what the plan is
+record IsPlanned (p : Picture) (c : Choice) (plan : Plan) (blocks : Blocks) : Type 0 where
+  pub written : IsWritten p c plan.out blocks
+  pub script : plan.script ≡ script_due c.scans plan.out.frame plan.out.colour
+  pub faultless : moved_script_fault c (picture_meaning p) ≡ None
+  pub restart : restart_of plan.restart ≡ c.restart
+
+script_is : (p : Picture) (c : Choice) (plan : Plan) (blocks : Blocks) → IsPlanned p c plan blocks → plan.script ≡ moved_script c (picture_meaning p)
+script_is p c plan blocks k = (let w = k.written in k.script ∙ script_same p c plan.out w.picture w.head)
+
+can_write : (p : Picture) (c : Choice) (plan : Plan) (blocks : Blocks) → IsPlanned p c plan blocks → CanWriteFile plan p.kept plan.out.frame blocks
+can_write p c plan blocks k =
+    let w = k.written in
+    let is = w.picture in let h = w.head in
+    let m = meaning_is p c plan blocks w in
+    record {
+      precision = out_precision p c plan.out h ∙ precision_stays c (picture_meaning p) ∙ is.frame.precision;
+      tables = out_count p c plan.out is h;
+      colour = moved_colour_is p c plan.out is h ∙ sym (ap colour_of m);
+      passes =
+          ap (λ (H : Meaning). does_pass H plan.script) m ∙ ap (does_pass (out_meaning p c)) (script_is p c plan blocks k)
+          ∙ moved_passes c (picture_meaning p) w.headed k.faultless;
+      seen = refl;
+      grids = refl;
+      writable = baseline p c plan.out blocks w;
+    }
+
+text_is : (p : Picture) (c : Choice) (plan : Plan) (blocks : Blocks) → IsPlanned p c plan blocks → file_bytes plan p.kept blocks ≡ moved_text c (picture_meaning p)
+text_is p c plan blocks k =
+    ap (file_text (file_meaning plan p.kept blocks) plan.script) k.restart
+    ∙ ap (λ (H : Meaning). file_text H plan.script c.restart) (meaning_is p c plan blocks k.written)
+    ∙ ap (λ (s : List Entry). file_text (out_meaning p c) s c.restart) (script_is p c plan blocks k)
+
+-- on a frame that is the output's
+pub writes_job : (p : Picture) (c : Choice) (job : Job) (f : Frame) (blocks : Blocks) → f ≡ job.plan.out.frame → IsPicture p → IsJobFor p c job → IsMovable c (picture_meaning p) → IsSeenAs (out_meaning p c) job.plan.out.frame blocks
+    → IsWrittenAs p c job f blocks
+writes_job p c job f blocks same is h movable shows =
+    let k : IsPlanned p c job.plan blocks = record {
+      written = record {
+        picture = is;
+        head = h.head;
+        headed = read_moved movable.limits movable.bytes (picture_meaning p) c movable.limited movable.are_bytes movable.means movable.admitted;
+        seen = shows;
+      };
+      script = h.script;
+      faultless = script_none c (picture_meaning p) h.admitted;
+      restart = h.restart;
+    } in
+    record {
+      can = subst (λ (g : Frame). CanWriteFile job.plan p.kept g blocks) (sym same) (can_write p c job.plan blocks k);
+      text = text_is p c job.plan blocks k;
+      means = moved_means c (picture_meaning p) k.written.headed k.faultless h.counted;
+    }
