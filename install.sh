@@ -3,11 +3,11 @@
 set -euo pipefail
 unset CDPATH
 
-kit="rattle-kit-13f logic dac8208d650f15bf"
+kits="rattle-kit-13b or rattle-kit-13f, logic dac8208d650f15bf"
 tools=(jpegtran djpeg rdjpgcom wrjpgcom)
 
 usage() {
-    cat <<'END'
+    cat <<END
 ./install.sh [PREFIX]               proves jpgsuite, builds it and installs it into PREFIX (~/.local where none is given)
 ./install.sh --uninstall [PREFIX]   takes away what was installed there
 ./install.sh --help                 prints this
@@ -15,7 +15,7 @@ usage() {
 PREFIX/bin gets jpgsuite, jpegtran, djpeg, rdjpgcom and wrjpgcom, PREFIX/share their manual pages and completions for
 bash and zsh. A file that is there already and isn't of jpgsuite is never replaced: nothing is installed then.
 
-It needs rt, the command of the Rattle kit (rattle-kit-13f, logic dac8208d650f15bf), on PATH.
+It needs rt, the command of the Rattle kit ($kits), on PATH.
 
 Environment:
   DESTDIR            stands in front of each path that is written, for who makes a package
@@ -97,10 +97,13 @@ tell_crates() {
 build() {
     local found log=$work/log
     command -v rt > /dev/null ||
-        fail "rt isn't on PATH: it is the command of the Rattle kit (${kit/ logic/, logic}), which proves and builds jpgsuite"
+        fail "rt isn't on PATH: it is the command of the Rattle kit ($kits), which proves and builds jpgsuite"
     found=$(rt version 2>&1) || true
-    [ "$found" = "$kit" ] || fail "rt version says '$found', but jpgsuite is proved with $kit"
-    echo "proving jpgsuite with $kit, crate by crate (what was proved on this machine before, and hasn't changed, is kept)"
+    case $found in
+    "rattle-kit-13b logic dac8208d650f15bf" | "rattle-kit-13f logic dac8208d650f15bf") ;;
+    *) fail "rt version says '$found', but jpgsuite is proved with $kits" ;;
+    esac
+    echo "proving jpgsuite with $found, crate by crate (what the kit kept of an earlier run, and hasn't changed, isn't proved again)"
     if ! (cd crates/jpg_suite && rt run -- "${words[@]}" < stdin 2>&1 > "$work/answer") | tell_crates "$log"; then
         grep -v ': proved$' "$log" >&2 || true
         fail "jpgsuite wasn't built: what rt said stands above"
