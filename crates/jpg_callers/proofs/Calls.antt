@@ -1,15 +1,12 @@
 -- What calls with a whole file come to.
-use Rattle.std.proofs.Common.{◌≡◌, ℕ, ◌<◌, List, [], ◌∷◌, ◌++◌, take, Option, None, Some, Result, Ok, Err, sym, ap, ◌∙◌, subst, get_or}
-use Rattle.std.proofs.lemmas.List.Elements.{All-nil, All-take}
+use Rattle.std.proofs.Common.{◌≡◌, ℕ, ◌<◌, List, [], ◌∷◌, ◌++◌, take, Option, None, Some, Result, Ok, Err, sym, ap, ◌∙◌, subst}
 use Rattle.std.proofs.lemmas.List.{append-nil}
 use Rattle.jpg_spec.specs.CommentText.{IsReadFault}
 use Rattle.jpg_spec.specs.FileStands.{IsWholeFile}
-use Rattle.jpg_spec.specs.Laws.{IsMovable}
 use Rattle.jpg_spec.specs.Meaning.{Meaning}
-use Rattle.jpg_spec.specs.Moved.{Choice, picture_fault}
+use Rattle.jpg_spec.specs.Moved.{Choice}
 use Rattle.jpg_spec.specs.Segments.{standard_limits}
 use Rattle.jpg_spec.specs.declared.frame.Limits.{Limits}
-use Rattle.jpg_spec.proofs.WrittenFront.{standard_are_limits}
 use Rattle.jpg_base.specs.declared.names.Name.{Name}
 use Rattle.jpg_base.specs.declared.names.Name.TheVariants.{Out}
 use Rattle.jpg_base.specs.declared.names.Put.TheVariants as put
@@ -26,8 +23,6 @@ use Rattle.jpg_comments.specs.declared.comments.Comments.{Comments}
 use Rattle.jpg_file.specs.PictureRead.{TakesPicture}
 use Rattle.jpg_file.specs.ReadFile.{AfterFeed, IsRefusal, ReaderState, StopsAt}
 use Rattle.jpg_file.specs.declared.picture.Picture.{Picture}
-use Rattle.jpg_transform.proofs.MovedScript.{gray_none}
-use Rattle.jpg_cli.proofs.PictureBytes.{more_small}
 use Rattle.jpg_callers.specs.Calling.{BeginsWith, HoldsTurned, IsCommentsOf, IsNotTurned, IsPictureOf, IsTurned}
 use Rattle.jpg_callers.specs.declared.pictures.NotTurned.{NotTurned}
 use Rattle.jpg_callers.specs.declared.pictures.NotTurned.TheVariants as unturned
@@ -82,14 +77,3 @@ turned_by file M choice (Err (unturned.Stop stop.NoMemory)) begins h = tt
 pub unread : (file : List ℕ) (choice : Choice) (s : Stop) → IsPictureOf file (Err s) → IsNotTurned file choice (unturned.Stop s)
 unread file choice (stop.Fault f) h = h
 unread file choice stop.NoMemory h = tt
-
--- a front of the file means what may be moved
-pub movable : (file : List ℕ) (M : Meaning) (choice : Choice) → ((i : ℕ) → get_or file i 0 < 256) → BeginsWith file M → picture_fault choice M ≡ None → IsMovable choice M
-movable file M choice small (n, whole) none = record {
-  limits = standard_limits;
-  bytes = take n file;
-  limited = standard_are_limits;
-  are_bytes = All-take (λ b. b < 256) n file (more_small [] file (All-nil (λ b. b < 256)) small);
-  means = whole.0;
-  admitted = gray_none choice M none;
-}

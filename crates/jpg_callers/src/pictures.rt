@@ -1,7 +1,5 @@
 //! A picture read, and moved without loss, by `jpg_file` and `jpg_transform` (T.81, B.2; the manual of jpegtran).
-ghost use Rattle.std.specs.Prelude.{IfOk};
-ghost use Rattle.jpg_spec.specs.Laws.{IsMovable};
-ghost use Rattle.jpg_file.specs.PictureRead.{IsPicture, picture_meaning};
+ghost use Rattle.jpg_file.specs.PictureRead.{picture_meaning};
 ghost use Rattle.jpg_transform.specs.Planned.{IsJobFor, choice_told};
 ghost use Rattle.jpg_callers.specs.Calling.{IsPictureOf, IsTurned, IsTurnedCoefs, HoldsTurned};
 
@@ -23,8 +21,7 @@ pub enum NotTurned {
 /// at the file's length and InputTooLong at 2^40 among them, and NoMemory. Bytes behind EOI are left out of
 /// account.
 pub fn read_picture(alloc: Global, file: &[u8]) -> Result<Picture, Stop>
-    ensures picture { IfOk result (λ picture. IsPicture picture) }
-    ensures read { IsPictureOf file.now result }
+    ensures { IsPictureOf file.now result }
 {
     let mut reader = Reader::new(alloc, Limits::standard());
     match reader.feed(file) {
@@ -56,9 +53,7 @@ fn write_turned(
     choice: &Choice,
     job: &Job,
 ) -> Result<MemoryDesk, NotTurned>
-    requires picture { IsPicture picture.now }
-    requires movable { IsMovable (choice_told choice.now) (picture_meaning picture.now) }
-    requires job { IsJobFor picture.now (choice_told choice.now) job.now }
+    requires { IsJobFor picture.now (choice_told choice.now) job.now }
     ensures { HoldsTurned (choice_told choice.now) (picture_meaning picture.now) result }
 {
     let moved = Moved::new(picture, job);

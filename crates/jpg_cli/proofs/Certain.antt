@@ -1,5 +1,5 @@
 -- Where all calls are done, a file that has what a command of comments wants gets it.
-use Rattle.std.proofs.Common.{◌⊎◌, ◌≡◌, ℕ, ◌<◌, ◌≤◌, List, length, take, Option, None, Some, Result, Ok, Err, sym, ap, ◌∙◌, subst, arith, inl, inr}
+use Rattle.std.proofs.Common.{◌⊎◌, ◌≡◌, ℕ, ◌<◌, ◌≤◌, Bool, List, length, take, Option, None, Some, Result, Ok, Err, sym, ap, ◌∙◌, subst, arith, inl, inr}
 use Rattle.std.proofs.lemmas.List.{length-append, take_all, take-append-le}
 use Rattle.jpg_base.specs.declared.names.Name.{Name}
 use Rattle.jpg_base.specs.declared.names.Name.TheVariants as name
@@ -26,9 +26,10 @@ use Rattle.jpg_cli.specs.Showing.{Showing, Shown}
 use Rattle.jpg_cli.specs.Turned.{Transformed}
 use Rattle.jpg_cli.specs.ReadPicture.{IsRefused, IsRefusedFor}
 use Rattle.jpg_cli.specs.declared.read_picture.Wanted.TheVariants.{Coefficients, Image}
+use Rattle.jpg_spec.specs.FileMeaning.{Means}
 use Rattle.jpg_spec.specs.FirstFault.{IsFirstFault}
 use Rattle.jpg_spec.specs.Meaning.{Meaning}
-use Rattle.jpg_spec.specs.NotShown.{IsNotShown}
+use Rattle.jpg_spec.specs.Pixels.{out_fault}
 use Rattle.jpg_spec.specs.Moved.{Scans, given, moved, picture_fault}
 use Rattle.jpg_spec.specs.Script.{Entry}
 use Rattle.jpg_spec.specs.ScriptGrammar.{TellsScript}
@@ -183,15 +184,17 @@ turned_certain a old new w has none turned = by w (due_answer a old new w none t
 none_out : (f : FaultAt) → None ≡ Some f.fault → ⊥
 none_out f e = cc
 
+-- a file whose picture is shown is refused with nothing
+pub none_unshown : (gray : Bool) (bytes : List ℕ) (M : Meaning) (f : FaultAt) → Means standard_limits bytes M → out_fault gray M ≡ None → IsRefusedFor (Image gray) bytes f → ⊥
+none_unshown gray bytes M f means shown (inl (fault, later)) = means_no_fault standard_limits bytes M f.fault f.at means fault
+none_unshown gray bytes M f means shown (inr (out, later)) = none_out f (sym shown ∙ (shown_alike standard_limits gray bytes M means).same f out)
+
 pub shown_certain : (s : Showing) (old new : DeskState) (w : Why) → HasImage s old → NoneRose old.counts new.counts → Shown s old w new → IsDoneOrWanting w
 shown_certain s old new w has none shown = by w (show_due s old new w none shown)
   where
     refused : (f : FaultAt) (other : List ℕ) → other ≡ has.bytes → IsRefusedFor (Image s.gray) other f → ⊥
-    refused f other same (inl (fault, later)) =
-        means_no_fault standard_limits has.bytes has.meaning f.fault f.at has.means (subst (λ (b : List ℕ). IsFirstFault standard_limits b f.fault f.at) same fault)
-    refused f other same (inr (out, later)) =
-        let alike = shown_alike standard_limits s.gray has.bytes has.meaning has.means in
-        (none_out f (sym has.shown ∙ alike.same f (subst (λ (b : List ℕ). IsNotShown standard_limits s.gray b f) same out)))
+    refused f other same fault =
+        none_unshown s.gray has.bytes has.meaning f has.means has.shown (subst (λ (b : List ℕ). IsRefusedFor (Image s.gray) b f) same fault)
 
     by : (w : Why) → IsShowDue s old w → IsDoneOrWanting w
     by why.Done due = tt

@@ -63,7 +63,7 @@ turned_then t s0 s1 s2 why.WriteFault k h = (
   (let rose = h.0 in let f = k.stays.counts.writes in omega (arith, rose, f)),
   (h.1.0, h.1.1, picture_then t s0 s1 s2 h.1.0 k h.1.2, wrote_then s0 s1 s2 (to_input t) t.output (take h.1.1 (moved_text t.choice h.1.0)) k h.1.3),
 )
-turned_then t s0 s1 s2 why.NoMemory k h = (stopped_then s0 s1 s2 (to_input t) put.Done k h.0, from_still s0 s1 s2 t.input IsShortRead k.same.left h.1)
+turned_then t s0 s1 s2 why.NoMemory k h = (stopped_then s0 s1 s2 (to_input t) put.Done k h.0, from_still s0 s1 s2 t.input (IsShortRead Coefficients) k.same.left h.1)
 
 untouched_then : (s0 s1 s2 : DeskState) → OnlySays s1 s2 → Untouched s0 s1 → Untouched s0 s2
 untouched_then s0 s1 s2 k t = record { asked = k.same.asked ∙ t.asked; outputs = k.same.outputs ∙ t.outputs; left = k.same.left ∙ t.left }

@@ -152,7 +152,7 @@ shown_then s s0 s1 s2 (why.ReadFault which.Tables) k h = absurd h
 shown_then s s0 s1 s2 (why.ReadFault which.Comment) k h = absurd h
 shown_then s s0 s1 s2 (why.ReadFault which.Output) k h = absurd h
 shown_then s s0 s1 s2 why.WriteFault k h = ((let rose = h.0 in let f = k.stays.counts.writes in omega (arith, rose, f)), part_then s s0 s1 s2 k h.1)
-shown_then s s0 s1 s2 why.NoMemory k (inl h) = inl (stopped_then s0 s1 s2 (s.input ∷ []) put.Done k h.0, from_still s0 s1 s2 s.input IsShortRead k.same.left h.1)
+shown_then s s0 s1 s2 why.NoMemory k (inl h) = inl (stopped_then s0 s1 s2 (s.input ∷ []) put.Done k h.0, from_still s0 s1 s2 s.input (IsShortRead (Image s.gray)) k.same.left h.1)
 shown_then s s0 s1 s2 why.NoMemory k (inr h) = inr (part_then s s0 s1 s2 k h)
 
 -- AS THE WORDS SAY IT

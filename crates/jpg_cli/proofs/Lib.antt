@@ -7,6 +7,7 @@ pub mod CommentsRead
 pub mod Decimal
 pub mod Ending
 pub mod Endings
+pub mod Faulty
 pub mod FoundEnds
 pub mod HeadTaken
 pub mod ImageShown

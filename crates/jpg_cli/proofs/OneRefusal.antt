@@ -1,5 +1,5 @@
 -- Where something is wanted of an input, it is refused with one fault at one place; and a file that means a picture with none.
-use Rattle.std.proofs.Common.{◌≡◌, ℕ, List, ◌++◌, refl, sym, subst, arith, inl, inr}
+use Rattle.std.proofs.Common.{◌≡◌, ℕ, Bool, List, ◌++◌, refl, sym, subst, arith, inl, inr}
 use Rattle.jpg_base.specs.Desk.{DeskState}
 use Rattle.jpg_spec.specs.FirstFault.{HasMeaning}
 use Rattle.jpg_spec.specs.Segments.{standard_limits}
@@ -9,17 +9,18 @@ use Rattle.jpg_spec.specs.declared.answers.Why.TheVariants as why
 use Rattle.jpg_spec.proofs.FileLaws.{means_no_fault}
 use Rattle.jpg_spec.proofs.OneReason.{one_reason}
 use Rattle.jpg_cli.specs.Certain.{HasFile, IsNotRefused, IsTold}
-use Rattle.jpg_cli.specs.Laws.{WasRefused}
+use Rattle.jpg_cli.specs.Laws.{MeanShown, WasRefused, WasRefusedShown}
 use Rattle.jpg_cli.specs.ReadPicture.{IsRefused, IsRefusedFor, IsUnwanted}
 use Rattle.jpg_cli.specs.declared.read_picture.Wanted.{Wanted}
 use Rattle.jpg_cli.specs.declared.read_picture.Wanted.TheVariants.{Coefficients, Image}
 use Rattle.jpg_cli.specs.Reading.{rest_of}
+use Rattle.jpg_cli.specs.Showing.{Showing, Shown}
 use Rattle.jpg_spec.specs.Moved.{Scans}
 use Rattle.jpg_spec.specs.TransformWords.{ScansSource, own_sequential, own_progressive, in_file, TransformAsked}
 use Rattle.jpg_cli.specs.ScriptTaken.{HasScansFault, StopsAtScans}
 use Rattle.jpg_cli.specs.Turned.{Transformed, Turned, Turning, turning_of}
 use Rattle.jpg_cli.proofs.RefusedOnce.{one_refusal}
-use Rattle.jpg_cli.proofs.Certain.{no_scans_fault, one_file, refused_alone}
+use Rattle.jpg_cli.proofs.Certain.{no_scans_fault, none_unshown, one_file, refused_alone}
 
 -- WHATEVER IS WANTED
 
@@ -42,7 +43,20 @@ run_refused t old new bytes f told h =
 pub runs_refuse_once : (input : List ℕ) (f g : FaultAt) → WasRefused input f → WasRefused input g → f ≡ g
 runs_refuse_once input f g a b = one_refusal input f g (run_refused a.turning a.old a.new input f a.told a.turned) (run_refused b.turning b.old b.new input g b.told b.turned)
 
+run_not_shown : (s : Showing) (old new : DeskState) (bytes : List ℕ) (f : FaultAt) → IsTold old.files s.input bytes → Shown s old (why.Refused f) new → IsRefusedFor (Image s.gray) bytes f
+run_not_shown s old new bytes f told h =
+    subst (λ (b : List ℕ). IsRefusedFor (Image s.gray) b f) (one_file old.files s.input bytes (h.1.bytes ++ rest_of new.left) told h.1.read) h.1.is.refused
+
+shown_refusal : (gray : Bool) (input : List ℕ) (f : FaultAt) → WasRefusedShown gray input f → IsRefusedFor (Image gray) input f
+shown_refusal gray input f a = subst (λ (g : Bool). IsRefusedFor (Image g) input f) a.grayed (run_not_shown a.showing a.old a.new input f a.told a.shown)
+
+pub runs_show_once : (gray : Bool) (input : List ℕ) (f g : FaultAt) → WasRefusedShown gray input f → WasRefusedShown gray input g → f ≡ g
+runs_show_once gray input f g a b = refused_for_one (Image gray) input f g (shown_refusal gray input f a) (shown_refusal gray input g b)
+
 -- A FILE THAT MEANS A PICTURE
+
+pub none_refused_shown : (gray : Bool) (input : List ℕ) (f : FaultAt) → IsRefusedFor (Image gray) input f → MeanShown gray input → ⊥
+none_refused_shown gray input f refused (M, means, shown) = none_unshown gray input M f means shown refused
 
 pub none_refused : (input : List ℕ) (f : FaultAt) → IsRefused input f → HasMeaning standard_limits input → ⊥
 none_refused input f a (M, means) = means_no_fault standard_limits input M f.fault f.at means a

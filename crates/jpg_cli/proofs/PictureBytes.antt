@@ -74,8 +74,8 @@ holds_file w bytes piece used r e short small none h =
     let d = subst (λ (l : List ℕ). IsDone l r) (sym (take-append-add bytes piece used)) h.0 in
     holds_done w bytes piece used r short small h.1 h.2 d (done_wanted w (take (length bytes + used) (bytes ++ piece)) r e d none)
 
-pub short_piece : (w : Wanted) (bytes piece : List ℕ) (r : ReaderState) → HasFed w r bytes → length piece ≤ 65536 → IsShortRead (bytes ++ piece)
-short_piece w bytes piece r h short = (let less = h.short in omega (arith, less, short, length-append bytes piece))
+pub short_piece : (w : Wanted) (bytes piece : List ℕ) (r : ReaderState) → r.limits ≡ standard_limits → HasFed w r bytes → length piece ≤ 65536 → IsShortRead w (bytes ++ piece)
+short_piece w bytes piece r e h short = record { front = bytes; piece = piece; cut = refl; few = short; before = open_so_far w bytes r e h }
 
 -- A REFUSAL of a piece, in which it stands
 

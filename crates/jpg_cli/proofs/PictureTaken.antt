@@ -1,5 +1,5 @@
 -- What reading pieces of a picture's file comes to, over the states that a desk tells.
-use Rattle.std.proofs.Common.{◌≡◌, ℕ, ◌<◌, List, [], ◌∷◌, ◌++◌, length, take, Option, Result, Ok, Err, refl, sym, ap, ◌∙◌, subst, arith}
+use Rattle.std.proofs.Common.{◌≡◌, ℕ, ◌<◌, ◌≤◌, List, [], ◌∷◌, ◌++◌, length, take, Option, Result, Ok, Err, refl, sym, ap, ◌∙◌, subst, arith}
 use Rattle.std.specs.Io.KnownBytes.{Consumes, IsAtEnd}
 use Rattle.jpg_base.specs.declared.names.Name.{Name}
 use Rattle.jpg_base.specs.declared.names.Put.TheVariants as put
@@ -37,57 +37,57 @@ reads_none s = record { copies = copies_none s; outputs = refl }
 
 -- A PIECE
 
-after_piece : (w : Wanted) (start s1 : DeskState) (bytes piece : List ℕ) (answer : PictureStep) (r : ReaderState) → 0 < length piece → Consumes start.left s1.left (bytes ++ piece) → AfterTakingPiece w (bytes ++ piece) answer r → AfterNextPiece w start bytes answer r s1
-after_piece w start s1 bytes piece step.More r some read h = (piece, some, h, read)
-after_piece w start s1 bytes piece step.Whole r some read h = (bytes ++ piece, read, h)
-after_piece w start s1 bytes piece (step.Ended why.Done) r some read h = absurd h
-after_piece w start s1 bytes piece (step.Ended (why.Usage u)) r some read h = absurd h
-after_piece w start s1 bytes piece (step.Ended (why.Picture p)) r some read h = absurd h
-after_piece w start s1 bytes piece (step.Ended (why.Refused f)) r some read h = (bytes ++ piece, read, h (rest_of s1.left))
-after_piece w start s1 bytes piece (step.Ended (why.OpenFault file)) r some read h = absurd h
-after_piece w start s1 bytes piece (step.Ended (why.ReadFault file)) r some read h = absurd h
-after_piece w start s1 bytes piece (step.Ended why.WriteFault) r some read h = absurd h
-after_piece w start s1 bytes piece (step.Ended why.NoMemory) r some read h = (bytes ++ piece, read, h)
+after_piece : (w : Wanted) (start s1 : DeskState) (bytes piece : List ℕ) (answer : PictureStep) (r : ReaderState) → 0 < length piece → length (bytes ++ piece) ≤ standard_limits.input → Consumes start.left s1.left (bytes ++ piece) → AfterTakingPiece w (bytes ++ piece) answer r → AfterNextPiece w start bytes answer r s1
+after_piece w start s1 bytes piece step.More r some most read h = (piece, some, h, read)
+after_piece w start s1 bytes piece step.Whole r some most read h = (bytes ++ piece, read, most, h)
+after_piece w start s1 bytes piece (step.Ended why.Done) r some most read h = absurd h
+after_piece w start s1 bytes piece (step.Ended (why.Usage u)) r some most read h = absurd h
+after_piece w start s1 bytes piece (step.Ended (why.Picture p)) r some most read h = absurd h
+after_piece w start s1 bytes piece (step.Ended (why.Refused f)) r some most read h = (bytes ++ piece, read, most, h (rest_of s1.left))
+after_piece w start s1 bytes piece (step.Ended (why.OpenFault file)) r some most read h = absurd h
+after_piece w start s1 bytes piece (step.Ended (why.ReadFault file)) r some most read h = absurd h
+after_piece w start s1 bytes piece (step.Ended why.WriteFault) r some most read h = absurd h
+after_piece w start s1 bytes piece (step.Ended why.NoMemory) r some most read h = (bytes ++ piece, read, most, h)
 
-pub piece_taken : (w : Wanted) (start s0 s1 : DeskState) (n : ℕ) (buf bytes : List ℕ) (answer : PictureStep) (r : ReaderState) → Reads s0 (got.Bytes n) buf s1 → Consumes start.left s0.left bytes → AfterTakingPiece w (bytes ++ take n buf) answer r
+pub piece_taken : (w : Wanted) (start s0 s1 : DeskState) (n : ℕ) (buf bytes : List ℕ) (answer : PictureStep) (r : ReaderState) → length (bytes ++ take n buf) ≤ standard_limits.input → Reads s0 (got.Bytes n) buf s1 → Consumes start.left s0.left bytes → AfterTakingPiece w (bytes ++ take n buf) answer r
     → AfterNextPiece w start bytes answer r s1
-piece_taken w start s0 s1 n buf bytes answer r read had h =
-    after_piece w start s1 bytes (take n buf) answer r (some_taken n buf read.after.0 read.after.1) (Consumes-then start.left s0.left s1.left bytes (take n buf) had read.after.2) h
+piece_taken w start s0 s1 n buf bytes answer r most read had h =
+    after_piece w start s1 bytes (take n buf) answer r (some_taken n buf read.after.0 read.after.1) most (Consumes-then start.left s0.left s1.left bytes (take n buf) had read.after.2) h
 
 -- AT THE END
 
-pub piece_end : (w : Wanted) (start s0 s1 : DeskState) (bytes : List ℕ) (ended : Why) → IsAtEnd s0.left → s1.left ≡ s0.left → Consumes start.left s0.left bytes → AfterFileEnd w bytes ended → EndsEarly w start ended s1
-piece_end w start s0 s1 bytes why.Done end left had h = absurd h
-piece_end w start s0 s1 bytes (why.Usage u) end left had h = absurd h
-piece_end w start s0 s1 bytes (why.Picture p) end left had h = absurd h
-piece_end w start s0 s1 bytes (why.Refused f) end left had h =
+pub piece_end : (w : Wanted) (start s0 s1 : DeskState) (bytes : List ℕ) (ended : Why) → length bytes < standard_limits.input → IsAtEnd s0.left → s1.left ≡ s0.left → Consumes start.left s0.left bytes → AfterFileEnd w bytes ended → EndsEarly w start ended s1
+piece_end w start s0 s1 bytes why.Done short end left had h = absurd h
+piece_end w start s0 s1 bytes (why.Usage u) short end left had h = absurd h
+piece_end w start s0 s1 bytes (why.Picture p) short end left had h = absurd h
+piece_end w start s0 s1 bytes (why.Refused f) short end left had h =
     let none : rest_of s1.left ≡ [] = ap rest_of left ∙ none_left s0.left end in
-    (bytes, left_still s0 s1 bytes start left had, subst (λ (rest : List ℕ). IsRefusedRead w f rest bytes) (sym none) h)
-piece_end w start s0 s1 bytes (why.OpenFault file) end left had h = absurd h
-piece_end w start s0 s1 bytes (why.ReadFault file) end left had h = absurd h
-piece_end w start s0 s1 bytes why.WriteFault end left had h = absurd h
-piece_end w start s0 s1 bytes why.NoMemory end left had h = absurd h
+    (bytes, left_still s0 s1 bytes start left had, omega (arith, short), subst (λ (rest : List ℕ). IsRefusedRead w f rest bytes) (sym none) h)
+piece_end w start s0 s1 bytes (why.OpenFault file) short end left had h = absurd h
+piece_end w start s0 s1 bytes (why.ReadFault file) short end left had h = absurd h
+piece_end w start s0 s1 bytes why.WriteFault short end left had h = absurd h
+piece_end w start s0 s1 bytes why.NoMemory short end left had h = absurd h
 
 -- A READ that failed
 pub piece_unread : (w : Wanted) (start s0 s1 : DeskState) (bytes : List ℕ) (r : ReaderState) → r.limits ≡ standard_limits → HasFed w r bytes → OnlyReads start s0 → Consumes start.left s0.left bytes → Rose s0.counts.reads s1.counts.reads → s1.left ≡ s0.left
     → EndsEarly w start (why.ReadFault which.Input) s1
 piece_unread w start s0 s1 bytes r e h still had rose left = (
-  (bytes, left_still s0 s1 bytes start left had, open_so_far w bytes r e h),
+  (bytes, left_still s0 s1 bytes start left had, (let short = h.short in omega (arith, short)), open_so_far w bytes r e h),
   (let f = still.copies.works.stays.counts.reads in omega (arith, rose, f)),
 )
 
 -- THE PICTURE of the reader's file
 
 pub picture_taken : (w : Wanted) (s0 s1 : DeskState) (r : ReaderState) (p : Picture) → r.limits ≡ standard_limits → TakesPicture r p → Takes (HoldsFile w r) s0 s1 → EndsReading w s0 (Ok p) s1
-picture_taken w s0 s1 r p e takes (bytes, read, h) =
+picture_taken w s0 s1 r p e takes (bytes, read, most, h) =
     let means : (picture_meaning p) ≡ h.done.meaning = takes (take h.count bytes) h.done in
     let whole = subst (λ (l : Limits). IsWholeFile l (take h.count bytes) h.done.meaning) e h.done.whole in
-    (bytes, read, record { count = h.count; within = h.within; last = h.last; small = h.small; whole = subst (λ (M : Meaning). IsWholeFile standard_limits (take h.count bytes) M) (sym means) whole; wanted = ap (unwanted_for w) means ∙ h.wanted })
+    (bytes, read, most, record { count = h.count; within = h.within; last = h.last; small = h.small; whole = subst (λ (M : Meaning). IsWholeFile standard_limits (take h.count bytes) M) (sym means) whole; wanted = ap (unwanted_for w) means ∙ h.wanted })
 
 -- FROM THE NAME
 
 reads_from : (s0 s1 s2 : DeskState) (file : Name) (Is : List ℕ → Type 0) → Opens s0 file put.Done s1 → Takes Is s1 s2 → ReadsFrom file Is s0 s2
-reads_from s0 s1 s2 file Is h (bytes, read, is) = record { bytes = bytes; read = file_read s0.files file s1.left s2.left bytes h.after.2 read; is = is }
+reads_from s0 s1 s2 file Is h (bytes, read, most, is) = record { bytes = bytes; read = file_read s0.files file s1.left s2.left bytes h.after.2 read; most = most; is = is }
 
 stopped_there : (s0 s1 s2 : DeskState) (file : Name) → Opens s0 file put.Done s1 → OnlyReads s1 s2 → Stopped (file ∷ []) put.Done s0 s2
 stopped_there s0 s1 s2 file h k = record { asked = noted s0 s1 s2 file h k; outputs = k.outputs ∙ h.outputs }
@@ -107,7 +107,7 @@ ends_early w s0 s1 s2 file (why.ReadFault which.Tables) h k e = absurd e
 ends_early w s0 s1 s2 file (why.ReadFault which.Comment) h k e = absurd e
 ends_early w s0 s1 s2 file (why.ReadFault which.Output) h k e = absurd e
 ends_early w s0 s1 s2 file why.WriteFault h k e = absurd e
-ends_early w s0 s1 s2 file why.NoMemory h k e = (stopped_there s0 s1 s2 file h k, reads_from s0 s1 s2 file IsShortRead h e)
+ends_early w s0 s1 s2 file why.NoMemory h k e = (stopped_there s0 s1 s2 file h k, reads_from s0 s1 s2 file (IsShortRead w) h e)
 
 pub picture_read : (w : Wanted) (s0 s1 s2 : DeskState) (file : Name) (answer : Result Picture Why) → Opens s0 file put.Done s1 → OnlyReads s1 s2 → EndsReading w s1 answer s2 → PictureRead w file s0 answer s2
 picture_read w s0 s1 s2 file (Ok p) h k e = (noted s0 s1 s2 file h k, reads_from s0 s1 s2 file (IsWholeRead w (picture_meaning p)) h e)
@@ -118,5 +118,6 @@ pub from_still : (s0 s1 s2 : DeskState) (file : Name) (Is : List ℕ → Type 0)
 from_still s0 s1 s2 file Is e h = record {
   bytes = h.bytes;
   read = (let P : Option (List ℕ) → Type 0 = λ l. IsFile s0.files file (h.bytes ++ rest_of l) in subst P (sym e) h.read);
+  most = h.most;
   is = h.is;
 }

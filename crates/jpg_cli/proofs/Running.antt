@@ -49,7 +49,7 @@ front_small (x ∷ xs) zero h k d l = let f : ⊥ = omega arith in absurd f
 front_small (x ∷ xs) (suc n) h zero d l = h 0 d (omega arith)
 front_small (x ∷ xs) (suc n) h (suc k) d l = front_small xs n (λ i e m. h (suc i) e (omega arith)) k d (omega arith)
 
-pub meant : (M : Meaning) (bytes : List ℕ) → IsWholeRead Coefficients M bytes → IsMeant M
+meant : (M : Meaning) (bytes : List ℕ) → IsWholeRead Coefficients M bytes → IsMeant M
 meant M bytes h = (take h.count bytes, front_small bytes h.count h.small, h.whole.0)
 
 pub movable : (M : Meaning) (c : Choice) → IsMeant M → picture_fault c M ≡ None → IsMovable c M
@@ -99,7 +99,7 @@ wrote_text t M s0 s1 s2 text h o grows = record {
 pub turned_done : (input output : Name) (c : Choice) (M : Meaning) (s0 s1 s2 : DeskState) → HasPictureRead (turning_by input output c) M s0 s1 s2 → AfterMoved c M output s1 wrote.Done s2 → Turned (turning_by input output c) s0 why.Done s2
 turned_done input output c M s0 s1 s2 h (none, (asked, grows), means) =
     let t = turning_by input output c in
-    (M, record { read = read_on t M s0 s1 s2 h; admitted = none }, wrote_text t M s0 s1 s2 (moved_text c M) h asked grows, means)
+    (M, record { read = read_on t M s0 s1 s2 h; admitted = none }, wrote_text t M s0 s1 s2 (moved_text c M) h asked grows, means (meant M h.read.bytes h.read.is))
 
 pub turned_fault : (input output : Name) (c : Choice) (M : Meaning) (fault : PictureFault) (s0 s1 s2 : DeskState) → HasPictureRead (turning_by input output c) M s0 s1 s2 → AfterMoved c M output s1 (wrote.Picture fault) s2 → Turned (turning_by input output c) s0 (why.Picture fault) s2
 turned_fault input output c M fault s0 s1 s2 h (is, same) =

@@ -191,6 +191,7 @@ from_before : (xs : List Name) (file : Name) (Is : List ℕ → Type 0) (s0 s1 s
 from_before xs file Is s0 s1 s2 b h = record {
   bytes = h.bytes;
   read = subst (λ (files : Option (Name → Option (List ℕ))). IsFile files file (h.bytes ++ rest_of s2.left)) b.kept.works.stays.files h.read;
+  most = h.most;
   is = h.is;
 }
 

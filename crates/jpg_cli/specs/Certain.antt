@@ -1,5 +1,5 @@
 -- WHERE AN ANSWER IS CERTAIN: over a desk that tells its files, where all calls are done and memory is there.
-use Rattle.std.specs.Prelude.{◌≡◌, ℕ, ◌<◌, ◌≤◌, List, length, Option, None, Some, Ok}
+use Rattle.std.specs.Prelude.{◌≡◌, ℕ, ◌⊎◌, ◌<◌, ◌≤◌, List, length, Option, None, Some, Ok, Err}
 use Rattle.jpg_base.specs.declared.names.Name.{Name}
 use Rattle.jpg_base.specs.declared.names.Name.TheVariants as name
 use Rattle.jpg_base.specs.Desk.{DeskState}
@@ -15,11 +15,15 @@ use Rattle.jpg_spec.specs.ScriptGrammar.{TellsScript}
 use Rattle.jpg_spec.specs.TransformWords.{ScansSource, own_sequential, own_progressive, in_file, TransformAsked, choice_asked}
 use Rattle.jpg_spec.specs.Pixels.{out_fault}
 use Rattle.jpg_cli.specs.CommentInserted.{Task}
+use Rattle.jpg_cli.specs.ReadPicture.{IsRefusedFor}
 use Rattle.jpg_cli.specs.Showing.{Showing}
+use Rattle.jpg_cli.specs.declared.read_picture.Wanted.TheVariants.{Coefficients, Image}
 use Rattle.jpg_cli.specs.Commands.{name_of}
 use Rattle.jpg_spec.specs.CommentWords.{CommentSource, from_input, from_words, from_file}
+use Rattle.jpg_spec.specs.declared.answers.FaultAt.{FaultAt}
 use Rattle.jpg_spec.specs.declared.answers.Why.{Why}
 use Rattle.jpg_spec.specs.declared.answers.Why.TheVariants as why
+use Rattle.jpg_spec.specs.declared.transform.PictureFault.{PictureFault}
 
 -- The files are told, and the one of this name has these bytes.
 abbrev pub IsTold : Option (Name → Option (List ℕ)) → Name → List ℕ → Type 0
@@ -37,6 +41,10 @@ abbrev pub IsDoneOrWanting : Why → Type 0
 IsDoneOrWanting why.Done = Unit {0}
 IsDoneOrWanting why.NoMemory = Unit {0}
 IsDoneOrWanting other = ⊥
+
+-- This is the answer, or there was no memory.
+abbrev pub IsOrNoMemory : Why → Why → Type 0
+IsOrNoMemory due ended = (ended ≡ due) ⊎ (ended ≡ why.NoMemory)
 
 -- WHAT A FILE HAS that a command wants
 
@@ -102,3 +110,35 @@ IsNotRefused (why.ReadFault which) = Unit {0}
 IsNotRefused why.WriteFault = Unit {0}
 IsNotRefused why.NoMemory = Unit {0}
 IsNotRefused other = ⊥
+
+-- WHAT IS WRONG with the files that are known
+
+-- The file of the scans has this fault.
+abbrev pub HasFaultyScript : ScansSource → FaultAt → DeskState → Type 0
+HasFaultyScript own_sequential f old = ⊥
+HasFaultyScript own_progressive f old = ⊥
+HasFaultyScript (in_file file) f old = (text : List ℕ) × IsTold old.files (name.File file) text × TellsScript text (Err f)
+
+-- The scans have none, and the input is refused with this fault.
+pub record HasFaultyInput (a : TransformAsked) (f : FaultAt) (old : DeskState) : Type 0 where
+  pub scans : Scans
+  pub bytes : List ℕ
+  pub asked : AreToldScans old a.scans scans
+  pub told : IsTold old.files (name_of a.files.input) bytes
+  pub refused : IsRefusedFor Coefficients bytes f
+
+-- The input means a picture, which has this fault for the choice.
+pub record HasFaultyPicture (a : TransformAsked) (fault : PictureFault) (old : DeskState) : Type 0 where
+  pub scans : Scans
+  pub bytes : List ℕ
+  pub meaning : Meaning
+  pub asked : AreToldScans old a.scans scans
+  pub told : IsTold old.files (name_of a.files.input) bytes
+  pub means : Means standard_limits bytes meaning
+  pub faulty : picture_fault (choice_asked a scans) meaning ≡ Some fault
+
+-- The input is refused with this fault, where its image is wanted.
+pub record HasFaultyImage (s : Showing) (f : FaultAt) (old : DeskState) : Type 0 where
+  pub bytes : List ℕ
+  pub told : IsTold old.files s.input bytes
+  pub refused : IsRefusedFor (Image s.gray) bytes f

@@ -1,22 +1,28 @@
 -- What the laws over runs say.
-use Rattle.std.specs.Prelude.{ℕ, List}
+use Rattle.std.specs.Prelude.{◌≡◌, ℕ, Bool, List, None}
 use Rattle.jpg_base.specs.Desk.{DeskState}
 use Rattle.jpg_spec.specs.FileMeaning.{Means}
 use Rattle.jpg_spec.specs.Laws.{IsTransformOf, UndoesTransform}
 use Rattle.jpg_spec.specs.Meaning.{Meaning}
 use Rattle.jpg_spec.specs.Moved.{IsSamePicture, moved_text}
+use Rattle.jpg_spec.specs.Pixels.{out_fault}
 use Rattle.jpg_spec.specs.Segments.{standard_limits}
 use Rattle.jpg_spec.specs.declared.transform.Transform.{Transform}
 use Rattle.jpg_spec.specs.declared.answers.FaultAt.{FaultAt}
 use Rattle.jpg_spec.specs.declared.answers.Why.{Why}
 use Rattle.jpg_spec.specs.declared.answers.Why.TheVariants as why
-use Rattle.jpg_cli.specs.Certain.{IsTold}
+use Rattle.jpg_cli.specs.Certain.{IsOrNoMemory, IsTold}
 use Rattle.jpg_cli.specs.Run.{NoneRose}
+use Rattle.jpg_cli.specs.Showing.{Showing, Shown}
 use Rattle.jpg_cli.specs.Turned.{Turned, Turning}
 
 -- Where no count of open, read or write rose, a run that ends like this has such an answer.
 abbrev pub WhereNoneRose : (DeskState → Why → DeskState → Type 0) → DeskState → (Why → Type 0) → Type 0
 WhereNoneRose Ends old Is = (new : DeskState) (why : Why) → NoneRose old.counts new.counts → Ends old why new → Is why
+
+-- It has this answer, or there was no memory.
+abbrev pub Answers : (DeskState → Why → DeskState → Type 0) → DeskState → Why → Type 0
+Answers Ends old due = WhereNoneRose Ends old (IsOrNoMemory due)
 
 -- Whichever counts rose, it has such an answer.
 abbrev pub WhateverRose : (DeskState → Why → DeskState → Type 0) → DeskState → (Why → Type 0) → Type 0
@@ -30,6 +36,15 @@ pub record WasRefused (bytes : List ℕ) (f : FaultAt) : Type 0 where
   pub told : IsTold old.files turning.input bytes
   pub turned : Turned turning old (why.Refused f) new
 
+-- A run that shows a picture did, gray where that is asked for.
+pub record WasRefusedShown (gray : Bool) (bytes : List ℕ) (f : FaultAt) : Type 0 where
+  pub showing : Showing
+  pub old : DeskState
+  pub new : DeskState
+  pub grayed : showing.gray ≡ gray
+  pub told : IsTold old.files showing.input bytes
+  pub shown : Shown showing old (why.Refused f) new
+
 -- A run was done that turned what a transform makes of this picture by its inverse, without trimming and graying.
 pub record WasTurnedBack (t : Transform) (M : Meaning) : Type 0 where
   pub turning : Turning
@@ -42,6 +57,10 @@ pub record WasTurnedBack (t : Transform) (M : Meaning) : Type 0 where
 -- the text that it wrote
 abbrev pub text_back : {t : Transform} {M : Meaning} → WasTurnedBack t M → List ℕ
 text_back w = moved_text w.turning.choice w.turned.0
+
+-- The bytes mean a picture that is shown, gray where that is asked for.
+abbrev pub MeanShown : Bool → List ℕ → Type 0
+MeanShown gray bytes = (M : Meaning) × Means standard_limits bytes M × (out_fault gray M ≡ None)
 
 -- The bytes mean a picture that is the same in sides, identifiers, factors, quantisers and blocks.
 abbrev pub MeanSame : List ℕ → Meaning → Type 0

@@ -72,16 +72,22 @@ pub record IsOpenRead (w : Wanted) (bytes : List ℕ) : Type 0 where
   pub stands : FileStands standard_limits bytes
   pub wanted : (f : FaultAt) → IsUnwanted w bytes f → ⊥
 
--- They are fewer than may be taken, but for the last piece.
-abbrev pub IsShortRead : List ℕ → Type 0
-IsShortRead bytes = length bytes < standard_limits.input + 65536
+-- Up to the last piece of them, of at most 65,536, they are such bytes: so fewer than 65,536 were read behind the end of a whole file or what it is
+-- refused for.
+pub record IsShortRead (w : Wanted) (bytes : List ℕ) : Type 0 where
+  pub front : List ℕ
+  pub piece : List ℕ
+  pub cut : bytes ≡ front ++ piece
+  pub few : length piece ≤ 65536
+  pub before : IsOpenRead w front
 
 -- BY WHAT CAME OF IT
 
--- Bytes of the file of this name were read, of which this is so, and the others are left.
+-- Bytes of the file of this name were read, no more than may be, of which this is so, and the others are left.
 pub record ReadsFrom (file : Name) (Is : List ℕ → Type 0) (old new : DeskState) : Type 0 where
   pub bytes : List ℕ
   pub read : IsFile old.files file (bytes ++ rest_of new.left)
+  pub most : length bytes ≤ standard_limits.input
   pub is : Is bytes
 
 -- THE ANSWERS: the picture means what the file means, or why there is none
@@ -90,18 +96,18 @@ PictureRead w file old (Ok p) new = Asks (file ∷ []) put.Done old new × Reads
 PictureRead w file old (Err (why.Refused f)) new = Stopped (file ∷ []) put.Done old new × ReadsFrom file (IsRefusedRead w f (rest_of new.left)) old new
 PictureRead w file old (Err (why.OpenFault which.Input)) new = Unopened (file ∷ []) old new
 PictureRead w file old (Err (why.ReadFault which.Input)) new = Unread (file ∷ []) old new × ReadsFrom file (IsOpenRead w) old new
-PictureRead w file old (Err why.NoMemory) new = Stopped (file ∷ []) put.Done old new × ReadsFrom file IsShortRead old new
+PictureRead w file old (Err why.NoMemory) new = Stopped (file ∷ []) put.Done old new × ReadsFrom file (IsShortRead w) old new
 PictureRead w file old (Err other) new = ⊥
 
 -- STEP BY STEP, from a desk whose input is open
 
 abbrev pub Takes : (List ℕ → Type 0) → DeskState → DeskState → Type 0
-Takes Is old new = (bytes : List ℕ) × Consumes old.left new.left bytes × Is bytes
+Takes Is old new = (bytes : List ℕ) × Consumes old.left new.left bytes × (length bytes ≤ standard_limits.input) × Is bytes
 
 abbrev pub EndsEarly : Wanted → DeskState → Why → DeskState → Type 0
 EndsEarly w old (why.Refused f) new = Takes (IsRefusedRead w f (rest_of new.left)) old new
 EndsEarly w old (why.ReadFault which.Input) new = Takes (IsOpenRead w) old new × Rose old.counts.reads new.counts.reads
-EndsEarly w old why.NoMemory new = Takes IsShortRead old new
+EndsEarly w old why.NoMemory new = Takes (IsShortRead w) old new
 EndsEarly w old other new = ⊥
 
 abbrev pub EndsReading : Wanted → DeskState → Result Picture Why → DeskState → Type 0
@@ -134,7 +140,7 @@ abbrev pub AfterTakingPiece : Wanted → List ℕ → PictureStep → ReaderStat
 AfterTakingPiece w bytes step.More r = HasFed w r bytes
 AfterTakingPiece w bytes step.Whole r = HoldsFile w r bytes
 AfterTakingPiece w bytes (step.Ended (why.Refused f)) r = (rest : List ℕ) → IsRefusedRead w f rest bytes
-AfterTakingPiece w bytes (step.Ended why.NoMemory) r = IsShortRead bytes
+AfterTakingPiece w bytes (step.Ended why.NoMemory) r = IsShortRead w bytes
 AfterTakingPiece w bytes (step.Ended other) r = ⊥
 
 -- what bytes that end come to

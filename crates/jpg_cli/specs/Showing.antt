@@ -57,7 +57,7 @@ Shown s old (why.OpenFault which.Input) new = Unopened (s.input ∷ []) old new
 Shown s old (why.OpenFault which.Output) new = Unopened (s.input ∷ s.output ∷ []) old new × ((M : Meaning) × ReadsShown s M old new)
 Shown s old (why.ReadFault which.Input) new = Unread (s.input ∷ []) old new × ReadsFrom s.input (IsOpenRead (Image s.gray)) old new
 Shown s old why.WriteFault new = Rose old.counts.writes new.counts.writes × ShownInPart s old new
-Shown s old why.NoMemory new = (Stopped (s.input ∷ []) put.Done old new × ReadsFrom s.input IsShortRead old new) ⊎ ShownInPart s old new
+Shown s old why.NoMemory new = (Stopped (s.input ∷ []) put.Done old new × ReadsFrom s.input (IsShortRead (Image s.gray)) old new) ⊎ ShownInPart s old new
 Shown s old other new = ⊥
 
 -- with an end of images of this format, or none, which the words ask for

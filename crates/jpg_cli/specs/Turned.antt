@@ -57,7 +57,7 @@ Turned t old (why.ReadFault which.Input) new = Unread (to_input t) old new × Re
 Turned t old why.WriteFault new =
     Rose old.counts.writes new.counts.writes
     × ((M : Meaning) × (count : ℕ) × ReadsPicture t M old new × WroteText t (take count (moved_text t.choice M)) old new)
-Turned t old why.NoMemory new = Stopped (to_input t) put.Done old new × ReadsFrom t.input IsShortRead old new
+Turned t old why.NoMemory new = Stopped (to_input t) put.Done old new × ReadsFrom t.input (IsShortRead Coefficients) old new
 Turned t old other new = ⊥
 
 -- what is turned as the words ask for it, in these scans

@@ -33,10 +33,11 @@ AfterOutput output old due wrote.OpenFault new =
 AfterOutput output old due wrote.WriteFault new =
     NotesName old.asked (output, put.Done) new.asked × Rose old.counts.writes new.counts.writes × GrowsInPart output old due new
 
--- THE ANSWERS: the picture has a fault for this choice, and nothing was asked for; or it has none, and its text is due, which means the picture moved
+-- THE ANSWERS: the picture has a fault for this choice, and nothing was asked for; or it has none, and its text is due, which means the picture
+-- moved where some bytes mean the picture
 abbrev pub AfterMoved : Choice → Meaning → Name → DeskState → Wrote → DeskState → Type 0
 AfterMoved choice M output old (wrote.Picture fault) new = (picture_fault choice M ≡ Some fault) × Untouched old new
 AfterMoved choice M output old wrote.Done new =
-    (picture_fault choice M ≡ None) × AfterOutput output old (moved_text choice M) wrote.Done new × MeansMoved choice M
+    (picture_fault choice M ≡ None) × AfterOutput output old (moved_text choice M) wrote.Done new × (IsMeant M → MeansMoved choice M)
 AfterMoved choice M output old wrote.OpenFault new = (picture_fault choice M ≡ None) × AfterOutput output old (moved_text choice M) wrote.OpenFault new
 AfterMoved choice M output old wrote.WriteFault new = (picture_fault choice M ≡ None) × AfterOutput output old (moved_text choice M) wrote.WriteFault new

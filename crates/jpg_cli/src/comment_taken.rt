@@ -17,6 +17,7 @@ const LIMIT: usize = LONGEST_COMMENT + 1;
 
 /// The comment from the words, or from a file or standard input, which is read to its end or up to
 /// 65,001 bytes: one more than a comment may have.
+#[inline(never)]
 pub fn take_comment<D: Desk>(alloc: Global, from: &CommentFrom, desk: &mut D) -> Result<Bytes, Why>
     ensures kept { Keeps (D.state desk.old) (D.state desk.new) }
     ensures after { AfterComment (D.state desk.old) (comment_told from.now) result (D.state desk.new) }

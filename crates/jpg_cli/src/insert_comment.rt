@@ -61,6 +61,7 @@ fn with_comment(alloc: Global, comment: &[u8], replace: bool) -> Result<Insert, 
 }
 
 // Writes the open input to the output.
+#[inline(never)]
 fn insert_into<D: Desk>(alloc: Global, insert: &mut Insert, output: &Name, desk: &mut D) -> Why
     requires open { (D.state desk.old).input_open ≡ true }
     requires limits { insert_limits insert.old ≡ standard_limits }

@@ -1,5 +1,5 @@
 //! Laws over what a run does, each on a function that does nothing.
-ghost use Rattle.std.specs.Prelude.{◌≡◌, ℕ, List};
+ghost use Rattle.std.specs.Prelude.{◌≡◌, ℕ, Bool, List};
 ghost use Rattle.jpg_base.specs.Desk.{DeskState};
 ghost use Rattle.jpg_base.specs.declared.names.Name.{Name};
 ghost use Rattle.jpg_spec.specs.FirstFault.{HasMeaning};
@@ -7,6 +7,8 @@ ghost use Rattle.jpg_spec.specs.Meaning.{Meaning};
 ghost use Rattle.jpg_spec.specs.Segments.{standard_limits};
 ghost use Rattle.jpg_spec.specs.declared.transform.Transform.{Transform};
 ghost use Rattle.jpg_spec.specs.declared.answers.FaultAt.{FaultAt};
+ghost use Rattle.jpg_spec.specs.declared.answers.Why.TheVariants as why;
+ghost use Rattle.jpg_spec.specs.declared.transform.PictureFault.{PictureFault};
 ghost use Rattle.jpg_cli.specs.Run.{IsAnswerDue, IsShowDue};
 ghost use Rattle.jpg_cli.specs.Turned.{Transformed};
 ghost use Rattle.jpg_spec.specs.TransformWords.{TransformAsked};
@@ -15,10 +17,10 @@ ghost use Rattle.jpg_cli.specs.CommentInserted.{Inserted, IsInsertDue, Task};
 ghost use Rattle.jpg_cli.specs.ReadPicture.{IsRefusedFor};
 ghost use Rattle.jpg_cli.specs.Showing.{Showing, Shown};
 ghost use Rattle.jpg_cli.specs.declared.read_picture.Wanted.{Wanted};
-ghost use Rattle.jpg_cli.specs.declared.read_picture.Wanted.TheVariants.{Coefficients};
-ghost use Rattle.jpg_cli.specs.Laws.{MeanSame, WasRefused, WasTurnedBack, WhateverRose, WhereNoneRose, text_back};
-ghost use Rattle.jpg_cli.specs.Certain.{HasFile, HasFrameHeader, HasImage, HasPicture, HasWholeFile};
-ghost use Rattle.jpg_cli.specs.Certain.{IsNotRefused, IsDoneOrWanting};
+ghost use Rattle.jpg_cli.specs.declared.read_picture.Wanted.TheVariants.{Coefficients, Image};
+ghost use Rattle.jpg_cli.specs.Laws.{Answers, MeanSame, MeanShown, WasRefused, WasRefusedShown, WasTurnedBack, WhateverRose, WhereNoneRose, text_back};
+ghost use Rattle.jpg_cli.specs.Certain.{HasFaultyImage, HasFaultyInput, HasFaultyPicture, HasFaultyScript};
+ghost use Rattle.jpg_cli.specs.Certain.{HasFile, HasFrameHeader, HasImage, HasPicture, HasWholeFile, IsNotRefused, IsDoneOrWanting};
 
 /// Where no count of open, read or write rose, a run that turns a picture ends as its scans and its input say: Refused where the
 /// file that shall tell the scans has a fault; else Done where the input means a picture that has no fault for what is asked,
@@ -55,11 +57,24 @@ pub fn pictures_are_shown()
 {}
 
 /// An input is refused with one fault at one place, whatever is wanted of it: so are all runs that refuse it, however it is cut into
-/// pieces. A file that means a picture is refused with none, where its coefficients are wanted.
+/// pieces. A file that means a picture is refused with none, where its coefficients are wanted; and one whose picture is shown,
+/// where its image is.
 pub fn refusals_are_one()
     ensures one { (wanted : Wanted) (input : List ℕ) (f g : FaultAt) → IsRefusedFor wanted input f → IsRefusedFor wanted input g → f ≡ g }
     ensures runs { (input : List ℕ) (f g : FaultAt) → WasRefused input f → WasRefused input g → f ≡ g }
+    ensures shows { (gray : Bool) (input : List ℕ) (f g : FaultAt) → WasRefusedShown gray input f → WasRefusedShown gray input g → f ≡ g }
     ensures none { (input : List ℕ) (f : FaultAt) → IsRefusedFor Coefficients input f → HasMeaning standard_limits input → ⊥ }
+    ensures shown { (gray : Bool) (input : List ℕ) (f : FaultAt) → IsRefusedFor (Image gray) input f → MeanShown gray input → ⊥ }
+{}
+
+/// What is wrong is what is answered: where the desk tells the files, and no count of open, read or write rose, a run that turns a
+/// picture ends with the fault of the script's file, the first fault of the input, or the fault of the picture for what is asked,
+/// and a run that shows one with what its input is refused with; or there was no memory.
+pub fn faults_are_answered()
+    ensures script { (a : TransformAsked) (f : FaultAt) (old : DeskState) → HasFaultyScript a.scans f old → Answers (Transformed a) old (why.Refused f) }
+    ensures input { (a : TransformAsked) (f : FaultAt) (old : DeskState) → HasFaultyInput a f old → Answers (Transformed a) old (why.Refused f) }
+    ensures picture { (a : TransformAsked) (f : PictureFault) (old : DeskState) → HasFaultyPicture a f old → Answers (Transformed a) old (why.Picture f) }
+    ensures shown { (s : Showing) (f : FaultAt) (old : DeskState) → HasFaultyImage s f old → Answers (Shown s) old (why.Refused f) }
 {}
 
 /// Where no count of open, read or write rose, a run that prints comments ends as its input says: Done

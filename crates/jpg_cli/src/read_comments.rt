@@ -18,6 +18,7 @@ use std::alloc::Global;
 /// Opens the input, creates the output and prints the comments of the input to it, each as it is
 /// whole. The input is read in pieces of at most 65,536 bytes, and fewer bytes than that are read
 /// behind the end of its first scan header, or an EOI before any, or the byte that shows a fault.
+#[inline(never)]
 pub fn print_comments<D: Desk>(alloc: Global, files: &Files, desk: &mut D) -> Why
     ensures kept { OnlyWorks (D.state desk.old) (D.state desk.new) }
     ensures printed { Printed files.now.input files.now.output (D.state desk.old) result (D.state desk.new) }

@@ -1,11 +1,11 @@
 //! The picture of an input, read piece by piece (T.81, B.2.1).
-ghost use Rattle.std.specs.Prelude.{◌≡◌, ◌≤◌, [], List, ℕ, IfOk, length, true, false};
+ghost use Rattle.std.specs.Prelude.{◌≡◌, ◌≤◌, [], List, ℕ, length, true, false};
 ghost use Rattle.jpg_spec.specs.Segments.{standard_limits};
-ghost use Rattle.jpg_file.specs.PictureRead.{IsPicture};
 ghost use Rattle.jpg_file.specs.ReadFile.{HasRead, head_seen};
 ghost use Rattle.jpg_cli.specs.Stays.{Keeps, OnlyReads};
 ghost use Rattle.jpg_cli.specs.ReadPicture.{AfterFileEnd, EndsReading, EndsWhole, GoesOn, HasFed, PictureRead, ReadsNext, ReadsPictureBytes, StepDone, step_unless, unwanted_in};
 
+use crate::reading::read_within;
 use jpg_base::{Desk, Fed, Got, Name, Put, Stop};
 use jpg_color::admits;
 use jpg_file::{Picture, Reader};
@@ -27,8 +27,9 @@ enum PictureStep {
     Ended(Why),
 }
 
-/// The picture of the file of this name. The file is read in pieces of at most 65,536 bytes, up to the
+/// The picture of the file of this name. The file is read in pieces of at most 16,384 bytes, up to the
 /// one in which it is whole, shows a fault, or tells at the end of its first scan header that the picture isn't wanted.
+#[inline(never)]
 pub fn read_picture<D: Desk>(
     alloc: Global,
     name: &Name,
@@ -37,7 +38,6 @@ pub fn read_picture<D: Desk>(
 ) -> Result<Picture, Why>
     ensures kept { Keeps (D.state desk.old) (D.state desk.new) }
     ensures read { PictureRead wanted name.now (D.state desk.old) result (D.state desk.new) }
-    ensures picture { IfOk result (λ picture. IsPicture picture) }
 {
     match desk.open(name) {
         Put::Failed => Err(Why::OpenFault(Which::Input)),
@@ -50,7 +50,6 @@ fn take_picture<D: Desk>(alloc: Global, wanted: Wanted, desk: &mut D) -> Result<
     requires open { (D.state desk.old).input_open ≡ true }
     ensures kept { OnlyReads (D.state desk.old) (D.state desk.new) }
     ensures read { EndsReading wanted (D.state desk.old) result (D.state desk.new) }
-    ensures picture { IfOk result (λ picture. IsPicture picture) }
 {
     let mut reader = Reader::new(alloc, Limits::standard());
     match read_whole(&mut reader, wanted, desk) {
@@ -68,7 +67,7 @@ fn read_whole<D: Desk>(reader: &mut Reader, wanted: Wanted, desk: &mut D) -> Res
     ensures ended { EndsWhole wanted (D.state desk.old) result reader.new (D.state desk.new) }
     ensures limits { reader.new.limits ≡ standard_limits }
 {
-    let mut buffer = [0u8; 65536];
+    let mut buffer = [0u8; 16384];
     loop {
         match next_piece(reader, wanted, &mut buffer, desk) {
             PictureStep::More => {}
@@ -82,7 +81,7 @@ fn read_whole<D: Desk>(reader: &mut Reader, wanted: Wanted, desk: &mut D) -> Res
 fn next_piece<D: Desk>(
     reader: &mut Reader,
     wanted: Wanted,
-    buffer: &mut [u8; 65536],
+    buffer: &mut [u8; 16384],
     desk: &mut D,
 ) -> PictureStep
     requires open { (D.state desk.old).input_open ≡ true }
@@ -93,7 +92,7 @@ fn next_piece<D: Desk>(
     ensures after { ReadsNext wanted reader.old (D.state desk.old) result reader.new (D.state desk.new) }
     ensures limits { reader.new.limits ≡ standard_limits }
 {
-    match desk.read(buffer) {
+    match read_within(desk, reader.room(), buffer) {
         Got::Failed => PictureStep::Ended(Why::ReadFault(Which::Input)),
         Got::End => PictureStep::Ended(at_end(reader, wanted)),
         Got::Bytes(count) => take_piece(reader, wanted, &buffer[..count as usize]),

@@ -1,5 +1,5 @@
 //! Files read to their end or up to a limit, in the pieces that a desk gives.
-ghost use Rattle.std.specs.Prelude.{◌≡◌, ◌<◌, [], true};
+ghost use Rattle.std.specs.Prelude.{◌≡◌, ◌<◌, ◌≤◌, [], length, true};
 ghost use Rattle.jpg_base.specs.Desk.{Reads};
 ghost use Rattle.jpg_cli.specs.Reading.{AfterPiece, AfterReading, FitsRoom};
 ghost use Rattle.jpg_cli.specs.Stays.{Keeps, OnlyReads};
@@ -66,12 +66,13 @@ pub fn read_up_to<D: Desk>(desk: &mut D, limit: usize, bytes: &mut Bytes) -> Tak
 }
 
 /// Reads into the buffer, but no more bytes than there is room for; at least one, where there is none.
-pub fn read_within<D: Desk>(desk: &mut D, room: u64, buffer: &mut [u8; 65536]) -> Got
-    requires { (D.state desk.old).input_open ≡ true }
+pub fn read_within<D: Desk>(desk: &mut D, room: u64, buffer: &mut [u8]) -> Got
+    requires open { (D.state desk.old).input_open ≡ true }
+    requires some { 1 ≤ length buffer.old }
     ensures read { Reads (D.state desk.old) result buffer.new (D.state desk.new) }
     ensures within { FitsRoom room result }
 {
-    let most = room.clamp(1, 65_536) as usize;
+    let most = room.clamp(1, buffer.len() as u64) as usize;
     desk.read(&mut buffer[..most])
 }
 

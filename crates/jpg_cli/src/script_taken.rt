@@ -14,6 +14,7 @@ use std::alloc::Global;
 const LIMIT: usize = 65_537;
 
 /// The own scans, or those that a file tells, which is read to its end or up to 65,537 bytes: one more than its text may have.
+#[inline(never)]
 pub fn take_scans<D: Desk>(alloc: Global, from: &ScriptFrom, desk: &mut D) -> Result<Scans, Why>
     ensures kept { Keeps (D.state desk.old) (D.state desk.new) }
     ensures after { AfterScans (script_told from.now) (D.state desk.old) result (D.state desk.new) }

@@ -1,7 +1,7 @@
 //! A picture read, and shown as an image (the manual of djpeg).
 ghost use Rattle.std.specs.Prelude.{◌≡◌, None};
 ghost use Rattle.jpg_spec.specs.Pixels.{out_fault};
-ghost use Rattle.jpg_file.specs.PictureRead.{IsPicture, picture_meaning};
+ghost use Rattle.jpg_file.specs.PictureRead.{picture_meaning};
 ghost use Rattle.jpg_pnm_bmp.specs.EndState.{new_end};
 ghost use Rattle.jpg_cli.specs.Showing.{AfterPicture, Shown, showing_told};
 ghost use Rattle.jpg_cli.specs.Stays.{OnlyWorks};
@@ -16,7 +16,7 @@ use jpg_spec::{Which, Why};
 use std::alloc::Global;
 
 /// Reads the picture of the input, and writes the image that it shows to the output, in the format of `end`. The input is read in
-/// pieces of at most 65,536 bytes, up to the one in which it is whole, shows a fault or tells that it isn't shown. The output is
+/// pieces of at most 16,384 bytes, up to the one in which it is whole, shows a fault or tells that it isn't shown. The output is
 /// created when the picture is there, so it may have the input's name.
 pub fn show_picture<D: Desk>(
     alloc: Global,
@@ -43,7 +43,6 @@ fn write_image<D: Desk>(
     end: &mut Box<dyn ImageEnd>,
     desk: &mut D,
 ) -> Why
-    requires picture { IsPicture picture.now }
     requires admitted { out_fault words.now.gray (picture_meaning picture.now) ≡ None }
     requires end { progress end.old ≡ new_end words.now.kind }
     ensures kept { OnlyWorks (D.state desk.old) (D.state desk.new) }

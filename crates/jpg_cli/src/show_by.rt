@@ -34,6 +34,7 @@ fn is_of(end: &Box<dyn ImageEnd>, kind: EndKind) -> bool
 
 /// Shows the picture by the first of the ends that has the format that is asked for. Where none has it, the words are wrong, and
 /// nothing is asked for.
+#[inline(never)]
 pub fn show_by<D: Desk>(
     alloc: Global,
     words: &ShowWords,

@@ -17,9 +17,10 @@ use jpg_transform::{Choice, Scans};
 use std::alloc::Global;
 
 /// Takes the scans of the output, reads the picture of the input, and writes it to the output, moved as the words ask for
-/// it. A script's file is read and judged before the input is opened. The input is read in pieces of at most 65,536 bytes,
+/// it. A script's file is read and judged before the input is opened. The input is read in pieces of at most 16,384 bytes,
 /// up to the one in which it is whole or shows a fault; then no memory is asked for. The output is created when the picture
 /// is there and has no fault, so it may have the input's name.
+#[inline(never)]
 pub fn transform<D: Desk>(alloc: Global, words: &TransformWords, desk: &mut D) -> Why
     ensures kept { OnlyWorks (D.state desk.old) (D.state desk.new) }
     ensures transformed { Transformed (transform_told words.now) (D.state desk.old) result (D.state desk.new) }

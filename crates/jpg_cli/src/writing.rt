@@ -1,6 +1,6 @@
 //! A picture that was read, moved and written (the manual of jpegtran).
 ghost use Rattle.std.specs.Prelude.{◌≡◌};
-ghost use Rattle.jpg_file.specs.PictureRead.{IsPicture, picture_meaning};
+ghost use Rattle.jpg_file.specs.PictureRead.{picture_meaning};
 ghost use Rattle.jpg_transform.specs.Planned.{choice_told};
 ghost use Rattle.jpg_cli.specs.Stays.{OnlyWorks};
 ghost use Rattle.jpg_cli.specs.Writing.{AfterMoved, AfterOutput, IsMeant, MeansMoved};
@@ -25,17 +25,16 @@ pub enum Wrote {
     WriteFault,
 }
 
-/// Writes a picture that was read to an output of this name, moved as the choice asks for it: the text of its file, in the
-/// scans of the choice, which means the picture moved. The output is created when it is known that the picture has no fault.
-/// It takes no memory.
+/// Writes a picture to an output of this name, moved as the choice asks for it: the text of its file, in the scans of the
+/// choice. Where some bytes mean the picture, as where it was read, the text means the picture moved. The output is created
+/// when it is known that the picture has no fault. It takes no memory.
+#[inline(never)]
 pub fn write_moved<D: Desk>(
     picture: &Picture,
     choice: &Choice,
     output: &Name,
     desk: &mut D,
 ) -> Wrote
-    requires picture { IsPicture picture.now }
-    requires meant { IsMeant (picture_meaning picture.now) }
     ensures kept { OnlyWorks (D.state desk.old) (D.state desk.new) }
     ensures left { (D.state desk.new).left ≡ (D.state desk.old).left }
     ensures wrote { AfterMoved (choice_told choice.now) (picture_meaning picture.now) output.now (D.state desk.old) result (D.state desk.new) }
@@ -54,12 +53,10 @@ fn write_job<D: Desk>(
     output: &Name,
     desk: &mut D,
 ) -> Wrote
-    requires picture { IsPicture picture.now }
-    requires meant { IsMeant (picture_meaning picture.now) }
-    requires job { IsJobFor picture.now (choice_told choice.now) job.now }
+    requires { IsJobFor picture.now (choice_told choice.now) job.now }
     ensures kept { OnlyWorks (D.state desk.old) (D.state desk.new) }
     ensures left { (D.state desk.new).left ≡ (D.state desk.old).left }
-    ensures means { MeansMoved (choice_told choice.now) (picture_meaning picture.now) }
+    ensures means { IsMeant (picture_meaning picture.now) → MeansMoved (choice_told choice.now) (picture_meaning picture.now) }
     ensures output { AfterOutput output.now (D.state desk.old) (moved_text (choice_told choice.now) (picture_meaning picture.now)) result (D.state desk.new) }
 {
     let moved = Moved::new(picture, job);

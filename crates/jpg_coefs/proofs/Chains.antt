@@ -3,7 +3,7 @@ use Rattle.std.proofs.Common.{◌≡◌, ℕ, ◌≤◌, Bool, List, [], ◌∷�
 use Rattle.std.specs.Prelude.{Result, Ok, Err}
 use Rattle.std.proofs.lemmas.List.{append_assoc, append-nil, length-append}
 use Rattle.jpg_coefs.specs.Picture.{Picture}
-use Rattle.jpg_coefs.specs.Machine.{Interval, Kind, Answered, Step, Chain, ChainTo, TakesBits}
+use Rattle.jpg_coefs.specs.Machine.{Interval, IsUnfinished, Kind, KeepsUnits, Answered, Step, Chain, ChainTo, StillAtFaults, TakesBits}
 use Rattle.jpg_coefs.specs.declared.machine.UnitStep.{UnitStep}
 use Rattle.jpg_coefs.specs.declared.machine.UnitStep.TheVariants as step
 use Rattle.jpg_coefs.specs.declared.machine.UnitFault.{UnitFault}
@@ -27,11 +27,21 @@ chain_stands {M} k m new now after i so_far (b ∷ bits) h s =
     subst R (append_assoc so_far (b ∷ []) bits) (chain_stands k h.0 new h.1 after i (so_far ++ b ∷ []) bits h.3 (h.2 i so_far s))
 
 -- what the last bit of such a chain comes to
-pub answer_to : {M : Type 0} (k : Kind M) (most : ℕ) (m new : M) (now after : Picture) (i : Interval) (so_far bits : List Bool) (answer : Result UnitStep UnitFault) → ChainTo k most m now bits answer new after → k.stands m i so_far now
-    → Answered k i (so_far ++ bits) answer new after
+pub answer_to : {M : Type 0} (k : Kind M) (most : ℕ) (m new : M) (now after : Picture) (i : Interval) (so_far bits : List Bool) (answer : Result UnitStep UnitFault) → (c : ChainTo k most m now bits answer new after) → k.stands m i so_far now
+    → Answered k i (so_far ++ bits) answer c.3 new after
 answer_to {M} k most m new now after i so_far bits answer (front, bit, mid, between, cut, chain, few, last) s =
-    let R : List Bool → Type 0 = λ z. Answered k i z answer new after in
+    let R : List Bool → Type 0 = λ z. Answered k i z answer between new after in
     subst R (append_assoc so_far front (bit ∷ []) ∙ ap (λ z. so_far ++ z) (sym cut)) (last i (so_far ++ front) (chain_stands k m mid now between i so_far front chain s))
+
+pub still_at_faults : {M : Type 0} (k : Kind M) → KeepsUnits M k → StillAtFaults k
+still_at_faults {M} k keeps most m new now after bits f (front, bit, mid, between, cut, chain, few, last) i so_far s =
+    let there = chain_stands k m mid now between i so_far front chain s in (
+      so_far ++ front,
+      bit,
+      k.left mid,
+      ap (λ z. so_far ++ z) cut ∙ sym (append_assoc so_far front (bit ∷ [])),
+      subst (λ (q : Picture). IsUnfinished i (so_far ++ front) q (k.left mid)) (sym (last i (so_far ++ front) there).1) (keeps.unfinished mid i (so_far ++ front) between there),
+    )
 
 pub some_taken : {M : Type 0} (k : Kind M) (most : ℕ) (m new : M) (now after : Picture) (bits : List Bool) (answer : Result UnitStep UnitFault) → ChainTo k most m now bits answer new after → 1 ≤ length bits
 some_taken k most m new now after bits answer (front, bit, mid, between, cut, chain, few, last) = omega (arith, ap length cut, length-append front (bit ∷ []))

@@ -75,15 +75,15 @@ pub record KeepsUnits (M : Type 0) (k : Kind M) : Type 0 where
   pub unfinished : (m : M) (i : Interval) (bits : List Bool) (now : Picture) → k.stands m i bits now → IsUnfinished i bits now (k.left m)
   pub fits : (m : M) (i : Interval) (bits : List Bool) (now : Picture) → k.stands m i bits now → k.fits i
 
--- what the answer at these bits says
-abbrev pub Answered : {M : Type 0} → Kind M → Interval → List Bool → Result UnitStep UnitFault → M → Picture → Type 0
-Answered k i bits (Ok More) m now = k.stands m i bits now
-Answered k i bits (Ok IntervalDone) m now = IsWholeInterval i bits now × ((j : Interval) → Follows i now j → k.fits j → k.ready m j)
-Answered k i bits (Err f) m now = DataShows i.scan.coding (units_of i) (fault_of f) bits
+-- What the answer at these bits says, and of the picture, which was `then` before the last of them. The bit that shows a fault changes no block.
+abbrev pub Answered : {M : Type 0} → Kind M → Interval → List Bool → Result UnitStep UnitFault → Picture → M → Picture → Type 0
+Answered k i bits (Ok More) then m now = k.stands m i bits now
+Answered k i bits (Ok IntervalDone) then m now = IsWholeInterval i bits now × ((j : Interval) → Follows i now j → k.fits j → k.ready m j)
+Answered k i bits (Err f) then m now = DataShows i.scan.coding (units_of i) (fault_of f) bits × (now ≡ then)
 
 -- ONE BIT: whatever interval and bits the machine stood for, it is answered at these bits and this one.
 abbrev pub Step : {M : Type 0} → Kind M → M → Picture → Bool → Result UnitStep UnitFault → M → Picture → Type 0
-Step k m now bit answer new after = (i : Interval) (bits : List Bool) → k.stands m i bits now → Answered k i (bits ++ bit ∷ []) answer new after
+Step k m now bit answer new after = (i : Interval) (bits : List Bool) → k.stands m i bits now → Answered k i (bits ++ bit ∷ []) answer now new after
 
 -- bits one after another, of which none ends the interval or shows a fault
 abbrev pub Chain : {M : Type 0} → Kind M → M → Picture → List Bool → M → Picture → Type 0
@@ -99,6 +99,16 @@ abbrev pub ChainTo : {M : Type 0} → Kind M → ℕ → M → Picture → List 
 ChainTo {M} k most m now bits answer new after =
     (front : List Bool) × (bit : Bool) × (mid : M) × (between : Picture) × (bits ≡ front ++ bit ∷ []) × Chain k m now front mid between
     × (k.left m < k.left mid + most) × Step k mid between bit answer new after
+
+-- whole units of the bits before the last one stand in the picture, and all else is as before the interval
+abbrev pub IsStill : Interval → List Bool → Picture → Type 0
+IsStill i bits now = (front : List Bool) × (last : Bool) × (units : ℕ) × (bits ≡ front ++ last ∷ []) × IsUnfinished i front now units
+
+-- so it is behind bits that show a fault
+abbrev pub StillAtFaults : {M : Type 0} → Kind M → Type 0
+StillAtFaults {M} k =
+    (most : ℕ) (m new : M) (now after : Picture) (bits : List Bool) (f : UnitFault) → ChainTo k most m now bits (Err f) new after
+    → (i : Interval) (so_far : List Bool) → k.stands m i so_far now → IsStill i (so_far ++ bits) after
 
 -- what bits come to, of which fewer than `most` units are to be completed before the last one
 abbrev pub Ends : {M : Type 0} → Kind M → ℕ → M → Picture → List Bool → Taken → M → Picture → List Bool → Type 0

@@ -5,7 +5,7 @@ ghost use Rattle.jpg_spec.specs.FileMeaning.{no_blocks};
 ghost use Rattle.jpg_spec.specs.PictureInWork.{is_at, OneChanges};
 ghost use Rattle.jpg_spec.specs.Scan.{Scan, block_at};
 ghost use Rattle.jpg_spec.specs.declared.frame.Place.{Place};
-ghost use Rattle.jpg_coefs.specs.Machine.{Chain, StandsOn};
+ghost use Rattle.jpg_coefs.specs.Machine.{Chain, KeepsUnits, StandsOn, StillAtFaults};
 ghost use Rattle.jpg_coefs.specs.Picture.{Picture, HasPlace, KeepsOutside, map_of, put_at};
 
 use crate::ScanMachine;
@@ -25,4 +25,10 @@ pub fn zero_blocks_are_none()
 /// A machine that stood for bits stands for these and the further ones that it took.
 pub fn bits_are_taken_in_order<M: ScanMachine>()
     ensures { (m new : M) (now after : Picture) (bits : List Bool) → Chain M.kind m now bits new after → StandsOn M.kind m now bits new after }
+{}
+
+/// Behind bits that show a fault a machine left the picture as it was before the last of them: blocks of whole units stand in it, and all else is
+/// as before the interval.
+pub fn faults_change_no_block<M: ScanMachine>()
+    ensures { KeepsUnits M M.kind → StillAtFaults M.kind }
 {}

@@ -7,6 +7,8 @@ mod machine;
 mod view;
 
 pub use coefs::Coefs;
-pub use laws::{bits_are_taken_in_order, one_block_changes, zero_blocks_are_none};
+pub use laws::{
+    bits_are_taken_in_order, faults_change_no_block, one_block_changes, zero_blocks_are_none,
+};
 pub use machine::{ScanMachine, Taken, UnitFault, UnitStep};
 pub use view::BlockView;

@@ -50,7 +50,8 @@ pub trait ScanMachine {
     ghost kind: { Kind Self };
 
     /// Takes one more bit of the interval. Units are left, no fault was answered, and the picture is that
-    /// of the bits so far. Blocks change when a unit is whole, each in its band.
+    /// of the bits so far. Blocks change when a unit is whole, each in its band; the bit that shows a fault
+    /// changes none.
     fn bit(&mut self, bit: bool, coefs: &mut Coefs) -> Result<UnitStep, UnitFault>
         requires open { (i : Interval) × (bits : List Bool) × kind.stands self.old i bits coefs.old }
         ensures { Step kind self.old coefs.old bit result self.new coefs.new };

@@ -19,7 +19,7 @@ use Rattle.jpg_spec.specs.declared.frame.Component.{Component}
 use Rattle.jpg_spec.proofs.Common.{length_below, neither, clash, same_of}
 use Rattle.jpg_spec.proofs.Rows.{at_below, map_map, by_items}
 use Rattle.jpg_base.proofs.Grids.{across_low, across_high, down_low, down_high}
-use Rattle.jpg_file.specs.PictureRead.{component_told}
+use Rattle.jpg_file.specs.PictureKept.{component_told}
 use Rattle.jpg_file.specs.StripHead.{may_have}
 use Rattle.jpg_color.specs.Shown.{Display, IsShowable, picture_of, parts, all_rows, rows_in, factors_of, display_fault}
 use Rattle.jpg_spec.specs.FileMeaning.{no_blocks}

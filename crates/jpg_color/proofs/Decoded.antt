@@ -14,13 +14,14 @@ use Rattle.jpg_spec.specs.declared.image.ImageInfo.{ImageInfo}
 use Rattle.jpg_spec.specs.declared.image.ImageKind.TheVariants as kind
 use Rattle.jpg_spec.proofs.Common.{length_below}
 use Rattle.jpg_coefs.specs.Picture.{Picture as Coefs}
-use Rattle.jpg_file.specs.PictureRead.{IsPicture, picture_meaning, component_told}
+use Rattle.jpg_file.specs.PictureKept.{component_told}
+use Rattle.jpg_file.specs.PictureRead.{picture_meaning}
 use Rattle.jpg_file.specs.declared.picture.Picture.{Picture}
 use Rattle.jpg_file.proofs.StripHeads.{picture_colours}
 use Rattle.jpg_pnm_bmp.specs.EndState.{EndState, CanFinish, IsImageInfo, held_of, info_of, new_end, started}
 use Rattle.jpg_color.specs.Shown.{Display, IsShowable, display_fault, factors_of, row_length, row_of}
 use Rattle.jpg_color.specs.PictureRows.{RowsLeft, IsFirstRow, display_in, shown_blocks}
-use Rattle.jpg_color.specs.DecodeRows.{AreRowsOf, Decodes, IsEndFor, Sends, SendsRows, end_at, end_parts, picture_text, row_pieces, rows_in_all}
+use Rattle.jpg_color.specs.DecodeRows.{AreRowsOf, Decodes, IsEndFor, Sends, SendsRows, end_at, end_parts, finished, finished_end, picture_end, picture_text, row_pieces, rows_in_all}
 use Rattle.jpg_color.specs.declared.decode.DecodeStop.{DecodeStop}
 use Rattle.jpg_color.specs.declared.decode.DecodeStop.TheVariants as stop
 use Rattle.jpg_spec.proofs.Rows.{map_map}
@@ -34,21 +35,22 @@ pub factors_same : (p : Picture) → map (λ c. (c.h, c.v)) (picture_meaning p).
 factors_same p =
     map_map (λ (c : PictureComponent). (c.h, c.v)) (component_told p.frame p.quants.items) (below (length p.frame.components)) ∙ numbers_told p.frame (λ (c : Component). (c.h, c.v))
 
-pub admits_display : (p : Picture) (gray smooth : Bool) → IsPicture p → out_fault gray (picture_meaning p) ≡ None → display_fault (display_in p gray smooth) ≡ None
-admits_display p gray smooth is none =
-    ap (λ f. out_fault_of p.colour gray f) (sym (factors_same p)) ∙ ap (λ c. out_fault_of c gray (map (λ c. (c.h, c.v)) (picture_meaning p).components)) is.colour ∙ none
+pub admits_display : (p : Picture) (gray smooth : Bool) → out_fault gray (picture_meaning p) ≡ None → display_fault (display_in p gray smooth) ≡ None
+admits_display p gray smooth none =
+    ap (λ f. out_fault_of p.colour gray f) (sym (factors_same p)) ∙ ap (λ c. out_fault_of c gray (map (λ c. (c.h, c.v)) (picture_meaning p).components)) p.keeps.colour ∙ none
 
-pub is_showable : (p : Picture) (gray smooth : Bool) → IsPicture p → out_fault gray (picture_meaning p) ≡ None → IsShowable (display_in p gray smooth)
-is_showable p gray smooth is none = record { frame = is.frame; tables = is.tables; colour = picture_colours p is; admitted = admits_display p gray smooth is none }
+pub is_showable : (p : Picture) (gray smooth : Bool) → out_fault gray (picture_meaning p) ≡ None → IsShowable (display_in p gray smooth)
+is_showable p gray smooth none = record { frame = p.keeps.frame; tables = p.keeps.tables; colour = picture_colours p; admitted = admits_display p gray smooth none }
 
-pub image_info : (p : Picture) (gray : Bool) → IsPicture p → out_fault gray (picture_meaning p) ≡ None → IsImageInfo (info (picture_meaning p) gray)
-image_info p gray is none =
+pub image_info : (p : Picture) (gray : Bool) → out_fault gray (picture_meaning p) ≡ None → IsImageInfo (info (picture_meaning p) gray)
+image_info p gray none =
+    let is = p.keeps in
     record {
       width_low = is.frame.width_low;
       width_high = is.frame.width_high;
       height_low = is.frame.height_low;
       height_high = is.frame.height_high;
-      pixels = pixels_few (display_in p gray true) (is_showable p gray true is none);
+      pixels = pixels_few (display_in p gray true) (is_showable p gray true none);
     }
 
 -- AN END THAT WAS STARTED
@@ -66,14 +68,14 @@ long_by : (b : Bool) (width : ℕ) (i : ImageInfo) → i.width ≡ width → i.k
 long_by true width i w k = ap (λ n. row_bytes (record i { kind = n })) k ∙ w
 long_by false width i w k = ap (λ n. row_bytes (record i { kind = n })) k ∙ ap (λ n. 3 * n) w
 
-pub rows_of_picture : (p : Picture) (gray smooth : Bool) (r : RowsLeft) → IsPicture p → IsFirstRow p gray smooth r → AreRowsOf (info (picture_meaning p) gray) r
-rows_of_picture p gray smooth r is first =
+pub rows_of_picture : (p : Picture) (gray smooth : Bool) (r : RowsLeft) → IsFirstRow p gray smooth r → AreRowsOf (info (picture_meaning p) gray) r
+rows_of_picture p gray smooth r first =
     let i : ImageInfo = info (picture_meaning p) gray in
     record {
       first = first.given;
       high = sym (ap (λ (d : Display). d.frame.height) first.display);
       long = long_by (shows_gray (colour_of (picture_meaning p)) gray) p.frame.width i refl refl
-          ∙ ap (λ c. if shows_gray c gray then p.frame.width else 3 * p.frame.width) (sym is.colour) ∙ sym (ap row_length first.display);
+          ∙ ap (λ c. if shows_gray c gray then p.frame.width else 3 * p.frame.width) (sym p.keeps.colour) ∙ sym (ap row_length first.display);
     }
 
 pub end_fits : (i : ImageInfo) (e e1 : EndState) (r : RowsLeft) → AreRowsOf i r → e ≡ new_end e.kind → e1 ≡ started e i → IsEndFor e1 r
@@ -88,19 +90,19 @@ end_fits i e e1 r rows new now =
 
 -- THE TEXT
 
-same_row : (p : Picture) (gray smooth : Bool) (y : ℕ) → IsPicture p → row_of (display_in p gray smooth) (shown_blocks (display_in p gray smooth) p.coefs) y ≡ pixel_row (picture_meaning p) gray smooth y
-same_row p gray smooth y is = ap (λ c. shown_row c (picture_meaning p) gray smooth y) is.colour
+same_row : (p : Picture) (gray smooth : Bool) (y : ℕ) → row_of (display_in p gray smooth) (shown_blocks (display_in p gray smooth) p.coefs) y ≡ pixel_row (picture_meaning p) gray smooth y
+same_row p gray smooth y = ap (λ c. shown_row c (picture_meaning p) gray smooth y) p.keeps.colour
 
 map_all : {X Y : Type 0} (f g : X → Y) → ((x : X) → f x ≡ g x) → (xs : List X) → map f xs ≡ map g xs
 map_all f g e [] = refl
 map_all f g e (x ∷ xs) = ap (λ y. y ∷ map f xs) (e x) ∙ ap (λ ys. g x ∷ ys) (map_all f g e xs)
 
-pub all_pixels : (p : Picture) (gray smooth : Bool) (r : RowsLeft) → IsPicture p → IsFirstRow p gray smooth r → rows_in_all r ≡ pixels (picture_meaning p) gray smooth
-all_pixels p gray smooth r is first =
+pub all_pixels : (p : Picture) (gray smooth : Bool) (r : RowsLeft) → IsFirstRow p gray smooth r → rows_in_all r ≡ pixels (picture_meaning p) gray smooth
+all_pixels p gray smooth r first =
     let d = display_in p gray smooth in
     let all : (x : Display) (q : Coefs) → List (List ℕ) = λ (x : Display) (q : Coefs). map (row_of x (shown_blocks x q)) (below x.frame.height) in
     ap (λ (x : Display). all x r.coefs) first.display ∙ ap (λ (q : Coefs). all d q) first.coefs
-    ∙ map_all (row_of d (shown_blocks d p.coefs)) (pixel_row (picture_meaning p) gray smooth) (λ (y : ℕ). same_row p gray smooth y is) (below p.frame.height)
+    ∙ map_all (row_of d (shown_blocks d p.coefs)) (pixel_row (picture_meaning p) gray smooth) (λ (y : ℕ). same_row p gray smooth y) (below p.frame.height)
 
 rest_held : (kind : EndKind) (i : ImageInfo) (rows : List (List ℕ)) → rest kind i (held_of kind rows) ≡ rest kind i rows
 rest_held Pnm i rows = refl
@@ -176,10 +178,34 @@ image_sent s0 s1 s2 s3 i e e1 e2 out mid last new rows r now begun h k l none =
     (sends_same s0 s3 [] new (text ++ []) text r (append-nil text) (sends_then s0 s2 s3 [] text last [] new r (text_so_far s0 s1 s2 i e e1 e2 out mid last rows (Ok tt) now begun h k) l)) none
 
 -- It is the text of the picture's image.
-pub decoded_text : (s s1 : DeskState) (kind : EndKind) (p : Picture) (gray smooth : Bool) (i : ImageInfo) (r : RowsLeft) (result : Result (Unit {0}) DecodeStop) → i ≡ info (picture_meaning p) gray → IsPicture p → IsFirstRow p gray smooth r
+pub decoded_text : (s s1 : DeskState) (kind : EndKind) (p : Picture) (gray smooth : Bool) (i : ImageInfo) (r : RowsLeft) (result : Result (Unit {0}) DecodeStop) → i ≡ info (picture_meaning p) gray → IsFirstRow p gray smooth r
     → Decodes s (end_text kind i (rows_in_all r)) result s1 → Decodes s (picture_text kind p gray smooth) result s1
-decoded_text s s1 kind p gray smooth i r result said is first h =
+decoded_text s s1 kind p gray smooth i r result said first h =
     let all : end_text kind i (rows_in_all r) ≡ picture_text kind p gray smooth =
-    ap (λ (j : ImageInfo). end_text kind j (rows_in_all r)) said ∙ ap (λ (rows : List (List ℕ)). end_text kind (info (picture_meaning p) gray) rows) (all_pixels p gray smooth r is first)
+    ap (λ (j : ImageInfo). end_text kind j (rows_in_all r)) said ∙ ap (λ (rows : List (List ℕ)). end_text kind (info (picture_meaning p) gray) rows) (all_pixels p gray smooth r first)
     in
     subst (λ text. Decodes s text result s1) all h
+
+-- THE END, where all was written
+
+if_ok : {E : Type 0} (r : Result (Unit {0}) E) (P : Type 0) → P → IfOk r (λ u. P)
+if_ok (Ok u) P h = h
+if_ok (Err e) P h = tt
+
+if_ok_then : {E : Type 0} (r : Result (Unit {0}) E) (P Q : Type 0) → (P → Q) → IfOk r (λ u. P) → IfOk r (λ u. Q)
+if_ok_then (Ok u) P Q f h = f h
+if_ok_then (Err e) P Q f h = tt
+
+pub image_finished : (i : ImageInfo) (e e1 e2 e3 : EndState) (rows : List (List ℕ)) (r : Result (Unit {0}) DecodeStop) → e1 ≡ started e i → e2 ≡ end_at e1.kind (info_of e1) rows → e3 ≡ finished e2
+    → IfOk r (λ u. e3 ≡ finished_end e.kind i rows)
+image_finished i e e1 e2 e3 rows r now taken done =
+    if_ok r (e3 ≡ finished_end e.kind i rows) (done ∙ ap finished (taken ∙ ap (λ (x : EndState). end_at x.kind (info_of x) rows) now))
+
+-- It is that of the picture's image.
+pub decoded_end : (e : EndState) (kind : EndKind) (p : Picture) (gray smooth : Bool) (i : ImageInfo) (r : RowsLeft) (result : Result (Unit {0}) DecodeStop) → i ≡ info (picture_meaning p) gray → IsFirstRow p gray smooth r
+    → IfOk result (λ u. e ≡ finished_end kind i (rows_in_all r)) → IfOk result (λ u. e ≡ picture_end kind p gray smooth)
+decoded_end e kind p gray smooth i r result said first h =
+    let all : finished_end kind i (rows_in_all r) ≡ picture_end kind p gray smooth =
+    ap (λ (j : ImageInfo). finished_end kind j (rows_in_all r)) said ∙ ap (λ (rows : List (List ℕ)). finished_end kind (info (picture_meaning p) gray) rows) (all_pixels p gray smooth r first)
+    in
+    if_ok_then result (e ≡ finished_end kind i (rows_in_all r)) (e ≡ picture_end kind p gray smooth) (λ x. x ∙ all) h

@@ -7,7 +7,7 @@ use Rattle.jpg_base.specs.Desk.{DeskState}
 use Rattle.jpg_pnm_bmp.specs.EndState.{EndState, CanFinish, info_of, next_part, parts_due, is_last, with_part}
 use Rattle.jpg_pnm_bmp.specs.declared.end.Finish.{Finish}
 use Rattle.jpg_pnm_bmp.specs.declared.end.Finish.TheVariants.{More, Done}
-use Rattle.jpg_color.specs.DecodeRows.{Sends, SendsPart, end_parts}
+use Rattle.jpg_color.specs.DecodeRows.{Sends, SendsPart, end_parts, finished}
 use Rattle.jpg_color.specs.declared.decode.DecodeStop.{DecodeStop}
 use Rattle.jpg_color.proofs.Sent.{sends_nothing, sends_then, sends_stop, sends_same}
 
@@ -105,6 +105,19 @@ part_last s0 s1 s2 e0 e e2 out0 mid new h k =
     sends_same s0 s2 out0 new (joined (take e.parts due) ++ part) (joined due) (Ok tt)
     (sym (parts_split due e.parts h.some ∙ ap (λ m. joined (take e.parts due) ++ (part ++ m)) none ∙ ap (λ m. joined (take e.parts due) ++ m) (append-nil part)))
     (sends_then s0 s1 s2 out0 (joined (take e.parts due)) mid part new (Ok tt) h.sent (sends_same s1 s2 mid new (next_part e) part (Ok tt) is k.sent))
+
+-- and the end is finished with it
+pub part_finished : (s1 s2 : DeskState) (e0 e e2 : EndState) (mid new : List ℕ) → e ≡ record e0 { parts = e.parts } → SendsPart s1 e mid (Ok Done) e2 new s2 → e2 ≡ finished e0
+part_finished s1 s2 e0 e e2 mid new h k =
+    let last : is_last e ≡ true = answered_done (is_last e) k.answer in
+    let le : length (parts_due e) ≤ e.parts + 1 = grind (arith, nat_tests, last) in
+    let all : min (e.parts + 1) (length (parts_due e)) ≡ length (parts_due e) = omega (arith, le) in
+    let few : min (e.parts + 1) (length (parts_due e)) ≡ length (parts_due e0) = all ∙ ap length (parts_same e0 e h) in
+    let now : e2 ≡ with_part e = k.end in
+    now
+    ∙ ap (λ (n : ℕ). (let x : EndState = record e { parts = n; done = is_last e } in x)) few
+    ∙ ap (λ (b : Bool). (let x : EndState = record e { parts = length (parts_due e0); done = b } in x)) last
+    ∙ ap (λ (x : EndState). (let y : EndState = record x { parts = length (parts_due e0); done = true } in y)) h
 
 -- one part more
 next_taken : (due : List (List ℕ)) (k : ℕ) → k < length due → joined (take k due) ++ slice_index_or due k [] ≡ joined (take (k + 1) due)

@@ -1,7 +1,11 @@
+pub mod ColourRows
+pub mod CutBlocks
+pub mod PlaneRows
 pub mod Coverage
 pub mod Decoded
 pub mod Ending
 pub mod Extended
+mod Halves
 pub mod HeldRows
 pub mod Looking
 pub mod OnlyFirst
@@ -19,5 +23,6 @@ pub mod StripParts
 pub mod StripsFresh
 pub mod StripsKept
 pub mod StripsNext
+mod Swizzled
 pub mod Three
 pub mod Windows

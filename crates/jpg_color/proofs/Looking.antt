@@ -6,7 +6,6 @@ use Rattle.jpg_spec.specs.Elements.{zeros}
 use Rattle.jpg_spec.specs.Geometry.{bounds, blocks_across, blocks_down, component_at, is_real}
 use Rattle.jpg_spec.specs.Ranges.{AreInRange}
 use Rattle.jpg_coefs.specs.Picture.{Picture as Coefs, map_of}
-use Rattle.jpg_file.specs.PictureRead.{IsPicture}
 use Rattle.jpg_file.specs.declared.picture.Picture.{Picture}
 use Rattle.jpg_file.specs.declared.strip_head.StripHead.{StripHead}
 use Rattle.jpg_color.specs.Shown.{Shown, Display, IsFresh, StandsFor, IsDue, IsGiven, IsPushed, IsShowable, Advances, all_rows, at_due, parts, ready_rows, rows_in, row_length, row_of}
@@ -108,8 +107,9 @@ is_behind s0 s s1 q0 q h a whole =
     }
 
 -- before the first MCU row of a picture that was read
-pub first_rows : (p : Picture) (h : StripHead) (gray smooth : Bool) (s : Shown) → IsPicture p → h.frame ≡ p.frame → IsFresh h gray smooth s → AreRows s p.coefs
-first_rows p h gray smooth s is same fresh =
+pub first_rows : (p : Picture) (h : StripHead) (gray smooth : Bool) (s : Shown) → h.frame ≡ p.frame → IsFresh h gray smooth s → AreRows s p.coefs
+first_rows p h gray smooth s same fresh =
+    let is = p.keeps in
     let f : s.display.frame ≡ p.frame = ap (λ (d : Display). d.frame) fresh.display ∙ same in
     record {
       frame = is.grids ∙ sym f;

@@ -1,5 +1,5 @@
 -- A PICTURE AS AN IMAGE FILE: all its rows, and what writing them does (release 6b's djpeg).
-use Rattle.std.specs.Prelude.{◌≡◌, ℕ, Bool, List, [], ◌++◌, length, map, flat_map, false, if◌then◌else◌, Some, IfOk, Result, Ok, Err}
+use Rattle.std.specs.Prelude.{◌≡◌, ℕ, Bool, List, [], ◌++◌, length, map, flat_map, true, false, if◌then◌else◌, Some, IfOk, Result, Ok, Err}
 use Rattle.jpg_spec.specs.Lists.{below}
 use Rattle.jpg_spec.specs.ImageText.{row_bytes, row_piece, end_text}
 use Rattle.jpg_spec.specs.Pixels.{info, pixels}
@@ -52,6 +52,17 @@ rows_in_all r = rows_until r r.strips.display.frame.height
 
 abbrev pub end_at : EndKind → ImageInfo → List (List ℕ) → EndState
 end_at kind info rows = record { kind = kind; info = Some info; taken = length rows; held = held_of kind rows; parts = 0; done = false }
+
+-- an end that appended all that stands behind the rows; and one that was told an image, took all its rows and did so
+abbrev pub finished : EndState → EndState
+finished e = record e { parts = length (parts_due e); done = true }
+
+abbrev pub finished_end : EndKind → ImageInfo → List (List ℕ) → EndState
+finished_end kind info rows = finished (end_at kind info rows)
+
+-- the end of the image that a picture shows
+abbrev pub picture_end : EndKind → Picture → Bool → Bool → EndState
+picture_end kind p gray smooth = finished_end kind (info (picture_meaning p) gray) (pixels (picture_meaning p) gray smooth)
 
 -- Rows of an image that is told so, of which none was given.
 pub record AreRowsOf (i : ImageInfo) (r : RowsLeft) : Type 0 where

@@ -1,3 +1,5 @@
+pub mod ColourRows
+pub mod PlaneRows
 pub mod Admits
 pub mod DecodeRows
 pub mod KeptRows

@@ -2,9 +2,9 @@
 ghost use Rattle.std.specs.Prelude.{◌≡◌, ◌*◌, ◌==◌, if◌then◌else◌, true, None, [], IfOk};
 ghost use Rattle.jpg_spec.specs.ImageText.{end_text};
 ghost use Rattle.jpg_spec.specs.Pixels.{info, out_fault};
-ghost use Rattle.jpg_file.specs.PictureRead.{IsPicture, picture_meaning};
+ghost use Rattle.jpg_file.specs.PictureRead.{picture_meaning};
 ghost use Rattle.jpg_pnm_bmp.specs.EndState.{CanFinish, CanTakeRow, IsImageInfo, Starts, new_end};
-ghost use Rattle.jpg_color.specs.DecodeRows.{AreRowsOf, Decodes, IsEndFor, Sends, SendsPart, SendsRow, SendsRows, end_parts, picture_text, rows_in_all};
+ghost use Rattle.jpg_color.specs.DecodeRows.{AreRowsOf, Decodes, IsEndFor, Sends, SendsPart, SendsRow, SendsRows, end_parts, finished, finished_end, picture_end, picture_text, rows_in_all};
 
 use crate::kinds::shown_kind;
 use crate::picture_rows::PictureRows;
@@ -24,8 +24,8 @@ pub enum DecodeStop {
 const MANY: usize = 32768;
 
 /// Writes the image that a picture shows to the output that was created last, in the format of `end`: the text of the image's rows as
-/// release 6b's djpeg makes them, gray where that is asked for, with rows of samples smoothed or repeated. After NoMemory and
-/// WriteFault a first part of the text is written, and nothing is said of `end`.
+/// release 6b's djpeg makes them, gray where that is asked for, with rows of samples smoothed or repeated. `end` took all rows then and
+/// was finished. After NoMemory and WriteFault a first part of the text is written, and nothing is said of `end`.
 pub fn decode_rows<D: Desk>(
     alloc: Global,
     picture: &Picture,
@@ -34,11 +34,11 @@ pub fn decode_rows<D: Desk>(
     end: &mut Box<dyn ImageEnd>,
     desk: &mut D,
 ) -> Result<(), DecodeStop>
-    requires picture { IsPicture picture.now }
     requires admitted { out_fault gray (picture_meaning picture.now) ≡ None }
     requires end { progress end.old ≡ new_end (progress end.old).kind }
     requires created { (D.state desk.old).output_created ≡ true }
-    ensures { Decodes (D.state desk.old) (picture_text (progress end.old).kind picture.now gray smooth) result (D.state desk.new) }
+    ensures written { Decodes (D.state desk.old) (picture_text (progress end.old).kind picture.now gray smooth) result (D.state desk.new) }
+    ensures end { IfOk result (λ u. progress end.new ≡ picture_end (progress end.old).kind picture.now gray smooth) }
 {
     let Ok(mut rows) = PictureRows::new(alloc, picture, gray, smooth) else {
         return Err(DecodeStop::NoMemory);
@@ -60,7 +60,8 @@ fn write_image<D: Desk>(
     requires end { progress end.old ≡ new_end (progress end.old).kind }
     requires out { out.old ≡ [] }
     requires created { (D.state desk.old).output_created ≡ true }
-    ensures { Decodes (D.state desk.old) (end_text (progress end.old).kind info.now (rows_in_all rows.old)) result (D.state desk.new) }
+    ensures written { Decodes (D.state desk.old) (end_text (progress end.old).kind info.now (rows_in_all rows.old)) result (D.state desk.new) }
+    ensures end { IfOk result (λ u. progress end.new ≡ finished_end (progress end.old).kind info.now (rows_in_all rows.old)) }
 {
     let Ok(()) = start_image(info, end, out) else {
         return Err(DecodeStop::NoMemory);
@@ -85,7 +86,6 @@ fn start_image(
 
 // What is told of the image.
 fn info_of(picture: &Picture, gray: bool) -> ImageInfo
-    requires { IsPicture picture.now }
     ensures { result ≡ info (picture_meaning picture.now) gray }
 {
     ImageInfo {
@@ -151,7 +151,8 @@ fn send_end<D: Desk>(
     requires end { CanFinish (progress end.old) }
     requires whole { (progress end.old).parts ≡ 0 }
     requires created { (D.state desk.old).output_created ≡ true }
-    ensures { Sends (D.state desk.old) out.old (end_parts (progress end.old)) result out.new (D.state desk.new) }
+    ensures sent { Sends (D.state desk.old) out.old (end_parts (progress end.old)) result out.new (D.state desk.new) }
+    ensures end { IfOk result (λ u. progress end.new ≡ finished (progress end.old)) }
 {
     loop {
         match send_part(end, out, desk)? {

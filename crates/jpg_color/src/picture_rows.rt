@@ -1,7 +1,7 @@
 // All rows of a whole picture.
 ghost use Rattle.std.specs.Prelude.{◌≡◌, ◌<◌, IfOk, None};
 ghost use Rattle.jpg_spec.specs.Pixels.{out_fault};
-ghost use Rattle.jpg_file.specs.PictureRead.{IsPicture, picture_meaning};
+ghost use Rattle.jpg_file.specs.PictureRead.{picture_meaning};
 ghost use Rattle.jpg_color.specs.PictureRows.{AdvancesRow, IsFirstRow};
 
 use crate::strips::Strips;
@@ -36,8 +36,7 @@ impl<'a> PictureRows<'a> {
         gray: bool,
         smooth: bool,
     ) -> Result<PictureRows<'a>, NoMemory>
-        requires picture { IsPicture picture.now }
-        requires admitted { out_fault gray (picture_meaning picture.now) ≡ None }
+        requires { out_fault gray (picture_meaning picture.now) ≡ None }
         ensures { IfOk result (λ r. IsFirstRow picture.now gray smooth r) }
     {
         let head = StripHead::of(picture);

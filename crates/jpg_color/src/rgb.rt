@@ -5,60 +5,169 @@ ghost use Rattle.jpg_spec.specs.RedGreenBlue.{clamped, about_middle, to_rgb, rgb
 
 // How far a colour difference lies from its middle.
 #[inline(always)]
-fn about(n: u8) -> i32
+fn about(n: u8) -> i16
     ensures value { result ≡ about_middle n }
     ensures low { neg_ℤ (pos 128) ≤ℤ result }
     ensures high { result ≤ℤ pos 127 }
 {
-    i32::from(n) - 128
+    i16::from(n) - 128
 }
 
 #[inline(always)]
-fn clamped(x: i32) -> u8
+fn clamped(x: i16) -> u8
     ensures { result ≡ clamped x }
 {
     x.clamp(0, 255) as u8
 }
 
 #[inline(always)]
-fn red_part(d: i32) -> i32
+fn double(d: i16) -> i16
     requires { (neg_ℤ (pos 128) ≤ℤ d) × (d ≤ℤ pos 127) }
-    ensures value { result ≡ (d *ℤ pos 91881) +ℤ pos 32768 }
-    ensures low { neg_ℤ (pos 15000000) ≤ℤ result }
-    ensures high { result ≤ℤ pos 15000000 }
+    ensures value { result ≡ d *ℤ pos 2 }
+    ensures low { neg_ℤ (pos 256) ≤ℤ result }
+    ensures high { result ≤ℤ pos 254 }
 {
-    d * 91881 + 32768
+    d * 2
+}
+
+// The half of a number, rounded up.
+#[inline(always)]
+fn half(u: i16) -> i16
+    requires { (neg_ℤ (pos 256) ≤ℤ u) × (u ≤ℤ pos 256) }
+    ensures value { result ≡ int_shr (u +ℤ pos 1) 1 }
+    ensures low { neg_ℤ (pos 129) ≤ℤ result }
+    ensures high { result ≤ℤ pos 129 }
+{
+    (u + 1) >> 1
+}
+
+// The sum of two parts.
+#[inline(always)]
+fn sum(a: i16, b: i16) -> i16
+    requires first { (neg_ℤ (pos 300) ≤ℤ a) × (a ≤ℤ pos 300) }
+    requires second { (neg_ℤ (pos 300) ≤ℤ b) × (b ≤ℤ pos 300) }
+    ensures value { result ≡ a +ℤ b }
+    ensures low { neg_ℤ (pos 600) ≤ℤ result }
+    ensures high { result ≤ℤ pos 600 }
+{
+    a + b
+}
+
+// Their difference.
+#[inline(always)]
+fn less(a: i16, b: i16) -> i16
+    requires first { (neg_ℤ (pos 300) ≤ℤ a) × (a ≤ℤ pos 300) }
+    requires second { (neg_ℤ (pos 300) ≤ℤ b) × (b ≤ℤ pos 300) }
+    ensures value { result ≡ a -ℤ b }
+    ensures low { neg_ℤ (pos 600) ≤ℤ result }
+    ensures high { result ≤ℤ pos 600 }
+{
+    a - b
+}
+
+// The upper half of what is more than the difference itself: 26345 is 91881 - 65536.
+#[inline(always)]
+fn red_upper(t: i16) -> i16
+    requires { (neg_ℤ (pos 256) ≤ℤ t) × (t ≤ℤ pos 254) }
+    ensures value { result ≡ int_shr (t *ℤ pos 26345) 16 }
+    ensures low { neg_ℤ (pos 256) ≤ℤ result }
+    ensures high { result ≤ℤ pos 256 }
+{
+    ((i32::from(t) * 26345) >> 16) as i16
+}
+
+// The upper half of what is less than the difference twice: 14942 is 131072 - 116130.
+#[inline(always)]
+fn blue_upper(t: i16) -> i16
+    requires { (neg_ℤ (pos 256) ≤ℤ t) × (t ≤ℤ pos 254) }
+    ensures value { result ≡ int_shr (pos 0 -ℤ (t *ℤ pos 14942)) 16 }
+    ensures low { neg_ℤ (pos 256) ≤ℤ result }
+    ensures high { result ≤ℤ pos 256 }
+{
+    ((0 - i32::from(t) * 14942) >> 16) as i16
 }
 
 #[inline(always)]
-fn blue_part(d: i32) -> i32
+fn wide(d: i16) -> i32
     requires { (neg_ℤ (pos 128) ≤ℤ d) × (d ≤ℤ pos 127) }
-    ensures value { result ≡ (d *ℤ pos 116130) +ℤ pos 32768 }
-    ensures low { neg_ℤ (pos 15000000) ≤ℤ result }
-    ensures high { result ≤ℤ pos 15000000 }
+    ensures value { result ≡ d }
+    ensures low { neg_ℤ (pos 128) ≤ℤ result }
+    ensures high { result ≤ℤ pos 127 }
 {
-    d * 116130 + 32768
+    i32::from(d)
+}
+
+// What both colour differences take from green, but for the red difference itself: 18734 is 65536 - 46802.
+#[inline(always)]
+fn green_sum(b: i32, r: i32) -> i32
+    requires blue { (neg_ℤ (pos 128) ≤ℤ b) × (b ≤ℤ pos 127) }
+    requires red { (neg_ℤ (pos 128) ≤ℤ r) × (r ≤ℤ pos 127) }
+    ensures value { result ≡ (pos 32768 -ℤ (b *ℤ pos 22554)) +ℤ (r *ℤ pos 18734) }
+    ensures low { neg_ℤ (pos 6000000) ≤ℤ result }
+    ensures high { result ≤ℤ pos 6000000 }
+{
+    32768 - b * 22554 + r * 18734
+}
+
+#[inline(always)]
+fn upper_half(z: i32) -> i16
+    requires { (neg_ℤ (pos 6000000) ≤ℤ z) × (z ≤ℤ pos 6000000) }
+    ensures value { result ≡ int_shr z 16 }
+    ensures low { neg_ℤ (pos 128) ≤ℤ result }
+    ensures high { result ≤ℤ pos 128 }
+{
+    (z >> 16) as i16
+}
+
+#[inline(always)]
+fn red_part(d: i16) -> i16
+    requires { (neg_ℤ (pos 128) ≤ℤ d) × (d ≤ℤ pos 127) }
+    ensures value { result ≡ int_shr ((d *ℤ pos 91881) +ℤ pos 32768) 16 }
+    ensures low { neg_ℤ (pos 600) ≤ℤ result }
+    ensures high { result ≤ℤ pos 600 }
+{
+    let twice = double(d);
+    let upper = red_upper(twice);
+    let more = half(upper);
+    sum(d, more)
+}
+
+#[inline(always)]
+fn blue_part(d: i16) -> i16
+    requires { (neg_ℤ (pos 128) ≤ℤ d) × (d ≤ℤ pos 127) }
+    ensures value { result ≡ int_shr ((d *ℤ pos 116130) +ℤ pos 32768) 16 }
+    ensures low { neg_ℤ (pos 600) ≤ℤ result }
+    ensures high { result ≤ℤ pos 600 }
+{
+    let twice = double(d);
+    let upper = blue_upper(twice);
+    let more = half(upper);
+    sum(twice, more)
 }
 
 // What both colour differences take from green.
 #[inline(always)]
-fn green_part(b: i32, r: i32) -> i32
+fn green_part(b: i16, r: i16) -> i16
     requires blue { (neg_ℤ (pos 128) ≤ℤ b) × (b ≤ℤ pos 127) }
     requires red { (neg_ℤ (pos 128) ≤ℤ r) × (r ≤ℤ pos 127) }
-    ensures value { result ≡ (pos 32768 -ℤ (b *ℤ pos 22554)) -ℤ (r *ℤ pos 46802) }
-    ensures low { neg_ℤ (pos 15000000) ≤ℤ result }
-    ensures high { result ≤ℤ pos 15000000 }
+    ensures value { result ≡ int_shr ((pos 32768 -ℤ (b *ℤ pos 22554)) -ℤ (r *ℤ pos 46802)) 16 }
+    ensures low { neg_ℤ (pos 600) ≤ℤ result }
+    ensures high { result ≤ℤ pos 600 }
 {
-    32768 - b * 22554 - r * 46802
+    let wide_b = wide(b);
+    let wide_r = wide(r);
+    let all = green_sum(wide_b, wide_r);
+    let upper = upper_half(all);
+    less(upper, r)
 }
 
-// Luminance with a part in 65536ths.
+// Luminance with its part.
 #[inline(always)]
-fn shown(y: u8, part: i32) -> u8
-    requires { (neg_ℤ (pos 15000000) ≤ℤ part) × (part ≤ℤ pos 15000000) }
-    ensures { result ≡ clamped (pos y +ℤ int_shr part 16) }
+fn shown(y: u8, part: i16) -> u8
+    requires { (neg_ℤ (pos 600) ≤ℤ part) × (part ≤ℤ pos 600) }
+    ensures { result ≡ clamped (pos y +ℤ part) }
 {
-    clamped(i32::from(y) + (part >> 16))
+    clamped(i16::from(y) + part)
 }
 
 /// The colours of a pixel: red, green and blue.

@@ -1,7 +1,11 @@
 pub mod Bounds
+pub mod Division
+pub mod Lines
 pub mod Loops
 pub mod Lows
+pub mod Natural
 pub mod Numbers
 pub mod Samples
 pub mod Wrapped
 pub mod OneCoefficient
+pub mod Zigzag

@@ -68,3 +68,7 @@ same8 f {a} {b} {c} {d} {e} {g} {h} {i} {a'} {b'} {c'} {d'} {e'} {g'} {h'} {i'} 
 -- a number that is another one and fits
 pub as_seen : (w : Width) (r x : ℤ) → r ≡ x → SFits w x → to_z w (of_z w r) ≡ x
 as_seen w r x e f = ap (λ y. to_z w (of_z w y)) e ∙ to_z-of_z w x f
+
+pub same4 : (f : ℤ → ℤ → ℤ → ℤ → List ℤ) {a b c d a' b' c' d' : ℤ} → a ≡ a' → b ≡ b' → c ≡ c' → d ≡ d' → f a b c d ≡ f a' b' c' d'
+same4 f {a} {b} {c} {d} {a'} {b'} {c'} {d'} ea eb ec ed =
+    ap (λ x. f x b c d) ea ∙ ap (λ x. f a' x c d) eb ∙ ap (λ x. f a' b' x d) ec ∙ ap (f a' b' c') ed

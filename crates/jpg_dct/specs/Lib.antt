@@ -1,1 +1,4 @@
+pub mod Division
+pub mod Lines
+pub mod Natural
 pub mod Told

@@ -24,4 +24,4 @@ whole_taken k most m new now after store rest i so_far (bits, cut, chain) s =
 
 pub fault_taken : {M : Type 0} (k : Kind M) (most : ℕ) (m new : M) (now after : Picture) (store rest : List Bool) (i : Interval) (so_far : List Bool) (f : UnitFault) → TakesBits k most m now store (taken.Fault f) new after rest
     → k.stands m i so_far now → AfterBits k i so_far store (came.Fault f) new after
-fault_taken k most m new now after store rest i so_far f (bits, cut, chain) s = (bits, rest, cut, answer_to k most m new now after i so_far bits (Err f) chain s)
+fault_taken k most m new now after store rest i so_far f (bits, cut, chain) s = (bits, rest, cut, (answer_to k most m new now after i so_far bits (Err f) chain s).0)

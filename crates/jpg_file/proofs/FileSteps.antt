@@ -26,14 +26,16 @@ use Rattle.jpg_coefs.specs.Picture.{Picture, map_of}
 use Rattle.jpg_markers.specs.Reading.{reading_of}
 use Rattle.jpg_base.specs.declared.names.NoMemory.{NoMemory as Wanting}
 use Rattle.jpg_spec.specs.declared.answers.FaultAt.{FaultAt}
+use Rattle.jpg_base.specs.declared.stop.Stop.{Stop}
 use Rattle.jpg_base.specs.declared.stop.Stop.TheVariants as stop
 use Rattle.jpg_file.specs.Begun.{HasBegun, IsComplete}
 use Rattle.jpg_file.specs.FirstHead.{HasHead, HasNoHead, IsHeadOf}
 use Rattle.jpg_file.specs.declared.head.Head.{Head}
 use Rattle.jpg_file.specs.Held.{told_by}
-use Rattle.jpg_file.specs.Items.{AddsNoScan, AfterItem, AtPlace, BehindSegment, BetweenItems}
+use Rattle.jpg_file.specs.Items.{AddsNoScan, AfterItem, AtPlace, BehindSegment, BetweenItems, IsOfMarker}
 use Rattle.jpg_file.specs.Reading.{AfterHead, AfterItemByte, AfterScanByte, HeadWhole, Itemising, Scanning, TakesHead, TakesRunOfScan}
-use Rattle.jpg_file.specs.File.{AfterFileByte, AfterFileStep, BesideItems, TakesSome, EndsFile, EndStands, HasRoom, NotesHead, RoomMade, limits_of, HeadStands, PictureMade, PictureSoFar, Stands, StandsBetween, StandsInside}
+use Rattle.jpg_file.specs.declared.scan.InScan.{InScan}
+use Rattle.jpg_file.specs.File.{AfterFileByte, AfterFileStep, BesideItems, KeepsBytes, MakesPicture, TakesSome, EndsFile, EndStands, HasRoom, NotesHead, RoomMade, limits_of, HeadStands, PictureMade, PictureSoFar, Stands, StandsBetween, StandsInside}
 use Rattle.jpg_file.specs.declared.begun.Begun.{Begun}
 use Rattle.jpg_file.specs.declared.reading.Reading.{Reading}
 use Rattle.jpg_file.specs.declared.items.ItemStep.{ItemStep}
@@ -77,21 +79,22 @@ goes_along limits bytes items more blocks w (inr (code, contents, e, other)) at 
     (beside_more limits bytes items blocks w code contents other (leads_at limits bytes at.sent items blocks (segment code contents) place) k)
 
 -- A BYTE BETWEEN ITEMS, or the marker behind a scan's data
-pub after_item : (limits : Limits) (bytes : List ℕ) (items : List Item) (blocks : Blocks) (answer : ItemStep) (w : FileWork) → BesideItems limits bytes items blocks w → AfterItem limits bytes items blocks answer w.reading.items → AfterFileStep limits bytes answer w
+pub after_item : (limits : Limits) (bytes : List ℕ) (items : List Item) (blocks : Blocks) (answer : ItemStep) (w : FileWork) → BesideItems limits bytes items blocks w → AfterItem limits bytes items blocks answer w.reading.items → AfterFileStep None limits bytes answer w
 after_item limits bytes items blocks step.More w k (more, adds, at) = inl (record { items = more; blocks = blocks; at = at; beside = goes_along limits bytes items more blocks w adds at k })
-after_item limits bytes items blocks step.Head w k (at, code) = record { items = items; blocks = blocks; at = at; code = code; beside = k }
+after_item limits bytes items blocks step.Head w k (at, code) = (record { items = items; blocks = blocks; at = at; code = code; beside = k }, refl)
 after_item limits bytes items blocks step.Eoi w k at = record { items = items; blocks = blocks; at = at; beside = k }
 after_item limits bytes items blocks (step.Fault f) w k (shown, at) = (shown, at ∙ k.same ∙ k.count)
-after_item limits bytes items blocks step.NoMemory w k none = tt
+after_item limits bytes items blocks step.NoMemory w k none = refl
 
 pub itemising : (limits : Limits) (bytes : List ℕ) (w : FileWork) → (s : StandsBetween limits bytes w) → Itemising limits bytes s.items s.blocks w.reading
 itemising limits bytes w s = record { at = s.at; none = (s.beside).none; count = (s.beside).count; same = (s.beside).same }
 
 pub after_between : (limits : Limits) (bytes more : List ℕ) (answer : ItemStep) (w new : FileWork) → (s : StandsBetween limits bytes w) → AfterItemByte limits (bytes ++ more) s.items s.blocks answer new.reading → new.reading.coefs ≡ w.reading.coefs
-    → new.begun ≡ w.begun → new.head ≡ w.head → length (bytes ++ more) ≤ limits.input → AfterFileStep limits (bytes ++ more) answer new
+    → new.begun ≡ w.begun → new.head ≡ w.head → length (bytes ++ more) ≤ limits.input → AfterFileStep w.reading.scan limits (bytes ++ more) answer new
 after_between limits bytes more answer w new s a coefs begun head within =
     let k = s.beside in
-    after_item limits (bytes ++ more) s.items s.blocks answer new
+    subst (λ (o : Option InScan). AfterFileStep o limits (bytes ++ more) answer new) (sym k.none)
+    (after_item limits (bytes ++ more) s.items s.blocks answer new
     (record {
       picture = subst (λ (q : Option Picture). PictureSoFar limits s.items s.blocks q) (sym coefs) k.picture;
       begun = subst (λ b. HasBegun limits b (segments_of s.items)) (sym begun) k.begun;
@@ -101,14 +104,22 @@ after_between limits bytes more answer w new s a coefs begun head within =
       within = within;
       head = subst (λ h. HasHead limits (bytes ++ more) (segments_of s.items) h) (sym head) (has_longer limits bytes more (bytes ++ more) (segments_of s.items) w.head refl k.head);
     })
-    a.after
+    a.after)
+
+-- the marker after a scan's data
+after_scan : (before : Option InScan) (limits : Limits) (bytes : List ℕ) (answer : ItemStep) (w : FileWork) → AfterFileStep None limits bytes answer w → IsOfMarker answer → AfterFileStep before limits bytes answer w
+after_scan before limits bytes step.More w a m = a
+after_scan before limits bytes step.Head w a m = absurd m
+after_scan before limits bytes step.Eoi w a m = a
+after_scan before limits bytes (step.Fault f) w a m = a
+after_scan before limits bytes step.NoMemory w a m = absurd m
 
 -- A BYTE INSIDE SCAN DATA
 pub after_inside : (limits : Limits) (bytes more : List ℕ) (answer : ItemStep) (w new : FileWork) → (s : StandsInside limits bytes w) → AfterScanByte limits s.items s.contents (bytes ++ more) answer new.reading → new.begun ≡ w.begun → new.head ≡ w.head
-    → length (bytes ++ more) ≤ limits.input → AfterFileStep limits (bytes ++ more) answer new
+    → length (bytes ++ more) ≤ limits.input → AfterFileStep w.reading.scan limits (bytes ++ more) answer new
 after_inside limits bytes more answer w new s (inl (e, at)) begun head within =
     let before : List Segment = (0xda, s.contents) ∷ segments_of s.items in
-    subst (λ a. AfterFileStep limits (bytes ++ more) a new) (sym e)
+    subst (λ a. AfterFileStep w.reading.scan limits (bytes ++ more) a new) (sym e)
     (inr (record {
       items = s.items;
       contents = s.contents;
@@ -121,7 +132,8 @@ after_inside limits bytes more answer w new s (inr (inl d)) begun head within =
     let all : List Item = scan s.contents d.after.0 ∷ s.items in
     let place = (s.at).at in
     let allowed : code_fault (segments_of s.items) 0xda ≡ None = subst (λ (l : List Item). code_fault (segments_of l) 0xda ≡ None) (place.of).0 ((place.at).allowed).0 in
-    after_item limits (bytes ++ more) all (map_of d.coefs) answer new
+    after_scan w.reading.scan limits (bytes ++ more) answer new
+    (after_item limits (bytes ++ more) all (map_of d.coefs) answer new
     (record {
       picture = subst (λ (q : Option Picture). PictureSoFar limits all (map_of d.coefs) q) (sym d.has) (framed (segments_of s.items) allowed, d.framed, refl);
       begun = subst (λ b. HasBegun limits b (segments_of all)) (sym begun) s.begun;
@@ -131,7 +143,8 @@ after_inside limits bytes more answer w new s (inr (inl d)) begun head within =
       within = within;
       head = subst (λ h. HasHead limits (bytes ++ more) (segments_of all) h) (sym head) (has_longer limits bytes more (bytes ++ more) (segments_of all) w.head refl s.head);
     })
-    d.after.1
+    d.after.1)
+    d.after.2
 after_inside limits bytes more step.More w new s (inr (inr shown)) begun head within = absurd shown
 after_inside limits bytes more step.Head w new s (inr (inr shown)) begun head within = absurd shown
 after_inside limits bytes more step.Eoi w new s (inr (inr shown)) begun head within = absurd shown
@@ -235,6 +248,18 @@ pub room_made : (old new : FileWork) (answer : Result (Unit {0}) Wanting) → Ro
 room_made old new (Ok done) made e = made
 room_made old new (Err w) made e = cc
 
+-- where there was no room
+pub no_room : (old new : FileWork) (answer : Result (Unit {0}) Wanting) → RoomMade old answer new → is_err answer ≡ true → MakesPicture old
+no_room old new (Ok done) made e = cc
+no_room old new (Err w) made e = made
+
+-- where more is known of what asks for memory
+pub asked : (a b : Type 0) → (a → b) → (limits : Limits) (bytes : List ℕ) (answer : Result Bool Stop) (w : FileWork) → AfterFileByte a limits bytes answer w → AfterFileByte b limits bytes answer w
+asked a b f limits bytes (Ok false) w k = k
+asked a b f limits bytes (Ok true) w k = k
+asked a b f limits bytes (Err (stop.Fault e)) w k = k
+asked a b f limits bytes (Err stop.NoMemory) w k = f k
+
 -- where a scan is in work, and where none is
 pub inside_of : (limits : Limits) (bytes : List ℕ) (w : FileWork) → Stands limits bytes w → is_some w.reading.scan ≡ true → StandsInside limits bytes w
 inside_of limits bytes w (inr s) e = s
@@ -243,6 +268,10 @@ inside_of limits bytes w (inl s) e = absurd (clash (is_some w.reading.scan) e (a
 pub between_of : (limits : Limits) (bytes : List ℕ) (w : FileWork) → Stands limits bytes w → is_some w.reading.scan ≡ false → StandsBetween limits bytes w
 between_of limits bytes w (inl s) e = s
 between_of limits bytes w (inr s) e = absurd (clash (is_some w.reading.scan) (ap is_some (s.at).inside) e)
+
+pub none_is : {A : Type 0} (o : Option A) → is_some o ≡ false → o ≡ None
+none_is None e = refl
+none_is (Some a) e = cc
 
 -- EOI
 framed_end : (before : List Segment) → code_fault before 0xd9 ≡ None → has_frame before ≡ true
@@ -311,7 +340,7 @@ run_before limits front w run n answer r t some room k =
     })
 
 run_last : (limits : Limits) (front : List ℕ) (w : FileWork) (run : List ℕ) (n : ℕ) (answer : ItemStep) (r : Reading) → (t : TakesRunOfScan w.reading run n answer r) → w.reading.taken + length run ≤ limits.input
-    → Stands limits front (file_mid w t.mid) → AfterFileStep limits (front ++ slice_index run t.early ∷ []) answer (file_mid w r)
+    → Stands limits front (file_mid w t.mid) → AfterFileStep (t.mid).scan limits (front ++ slice_index run t.early ∷ []) answer (file_mid w r)
 run_last limits front w run n answer r t room k =
     let s = inside_of limits front (file_mid w t.mid) k t.inside in
     let low = t.within in
@@ -326,8 +355,8 @@ room_by limits w run same room = subst (λ (l : Limits). w.reading.taken + lengt
 room_left : (limits : Limits) (w : FileWork) (run : List ℕ) (n : ℕ) (answer : ItemStep) (r : Reading) → (t : TakesRunOfScan w.reading run n answer r) → w.reading.taken + length run ≤ limits.input → (t.mid).taken < limits.input
 room_left limits w run n answer r t room = let low = t.within in let taken = t.taken in omega (arith, room, low, taken)
 
-byte_of : (limits : Limits) (bytes : List ℕ) (w : FileWork) (f : FaultAt) → AfterFileStep limits bytes (step.Fault f) w → AfterFileByte limits bytes (Err (stop.Fault f)) w
-byte_of limits bytes w f (shown, at) = (at, shown)
+byte_of : (before : Option InScan) (asks : Type 0) (limits : Limits) (bytes : List ℕ) (w : FileWork) (f : FaultAt) → AfterFileStep before limits bytes (step.Fault f) w → AfterFileByte asks limits bytes (Err (stop.Fault f)) w
+byte_of before asks limits bytes w f (shown, at) = (at, shown)
 
 pub run_more : (w : FileWork) (run : List ℕ) (n : ℕ) (r : Reading) → is_some w.reading.scan ≡ true → w.reading.taken + length run ≤ (limits_of w).input → TakesRunOfScan w.reading run n step.More r → TakesSome w run n (Ok false) (file_mid w r)
 run_more w run n r some room t = record {
@@ -351,18 +380,5 @@ run_fault w run n r f some room t = record {
   head = refl;
   room = λ limits front k same. room_left limits w run n (step.Fault f) r t (room_by limits w run same room);
   before = λ limits front k same. run_before limits front w run n (step.Fault f) r t some (room_by limits w run same room) k;
-  last = λ limits front k same. byte_of limits (front ++ slice_index run t.early ∷ []) (file_mid w r) f (run_last limits front w run n (step.Fault f) r t (room_by limits w run same room) k);
-}
-
-pub run_else : (w : FileWork) (run : List ℕ) (n : ℕ) (r : Reading) (answer : ItemStep) → is_some w.reading.scan ≡ true → w.reading.taken + length run ≤ (limits_of w).input → TakesRunOfScan w.reading run n answer r
-    → TakesSome w run n (Err stop.NoMemory) (file_mid w r)
-run_else w run n r answer some room t = record {
-  mid = file_mid w t.mid;
-  early = t.early;
-  count = t.count;
-  within = t.within;
-  head = refl;
-  room = λ limits front k same. room_left limits w run n answer r t (room_by limits w run same room);
-  before = λ limits front k same. run_before limits front w run n answer r t some (room_by limits w run same room) k;
-  last = λ limits front k same. tt;
+  last = λ limits front k same. byte_of (t.mid).scan (KeepsBytes w) limits (front ++ slice_index run t.early ∷ []) (file_mid w r) f (run_last limits front w run n (step.Fault f) r t (room_by limits w run same room) k);
 }

@@ -1,8 +1,8 @@
 -- What a byte between items makes of the bytes so far.
-use Rattle.std.proofs.Common.{◌≡◌, ℕ, suc, ◌+◌, ◌≤◌, false, List, [], ◌∷◌, ◌++◌, length, refl, sym, ap, ◌∙◌, subst, arith, Some, None, Ok, Err, inl, inr, ◌⊎◌}
+use Rattle.std.proofs.Common.{◌≡◌, ℕ, suc, ◌+◌, ◌≤◌, false, List, [], ◌∷◌, ◌++◌, length, take, refl, sym, ap, ◌∙◌, subst, arith, Some, None, Ok, Err, inl, inr, ◌⊎◌}
 use Rattle.std.specs.Prelude.{replicate}
 use Rattle.std.specs.Int.{to_be_bytes, w16}
-use Rattle.std.proofs.lemmas.List.{append_assoc, append-nil, length-append, length-replicate}
+use Rattle.std.proofs.lemmas.List.{append_assoc, append-nil, length-append, length-replicate, length-take-le}
 use Rattle.jpg_spec.specs.Scan.{Blocks}
 use Rattle.jpg_spec.specs.Markers.{Segment, Rule, soi, SpellsMarker, SpellsSegment, SpellsSegments, BeginsSegment, PartOfSegment, NoMarkerBytes, TailShows, ShowsNoStart, code_fault, kept_rule}
 use Rattle.jpg_spec.specs.Markers as markers
@@ -20,12 +20,13 @@ use Rattle.jpg_spec.proofs.ItemSteps.{same_tail, beside_more, segment_shown, con
 use Rattle.jpg_spec.proofs.Common.{heads}
 use Rattle.jpg_base.specs.declared.stop.Stop.TheVariants as stop
 use Rattle.jpg_markers.specs.declared.segments.SegStep.TheVariants as step
+use Rattle.jpg_markers.specs.declared.segments.SegmentReader.{SegmentReader}
 use Rattle.jpg_markers.specs.declared.segments.Phase.{Phase}
 use Rattle.jpg_markers.specs.declared.segments.Phase.TheVariants as phase
-use Rattle.jpg_markers.specs.Reading.{Reading, StandsFor, AtPhase, IsBetween, PartRead, ShowsBehind, EndsBehind, Comes, reading_of}
+use Rattle.jpg_markers.specs.Reading.{Reading, StandsFor, AtPhase, IsBetween, PartRead, ShowsBehind, EndsBehind, Comes, AddsContents, PassesContents, reading_of}
 use Rattle.jpg_file.specs.Held.{Holds, told_by}
 use Rattle.jpg_file.specs.declared.items.Items.{Items}
-use Rattle.jpg_file.specs.Items.{IsBeside, AtPlace, BetweenItems, BehindSegment, BehindEnd, AddsNoScan}
+use Rattle.jpg_file.specs.Items.{IsBeside, AtPlace, BetweenItems, BehindSegment, BehindEnd, AddsNoScan, PassesItems}
 
 -- THE START
 
@@ -54,14 +55,14 @@ first_beside limits bytes tail b = record {
   leads = refl;
 }
 
-start_more : (limits : Limits) (bytes : List ℕ) (b : ℕ) (r : Reading) → (p : Phase) → r.limits ≡ limits → AtPhase r p (bytes ++ b ∷ []) [] → AtPlace limits (bytes ++ b ∷ []) (bytes ++ b ∷ []) [] no_blocks
-start_more limits bytes b r p e a = by p a
+start_more : (limits : Limits) (bytes : List ℕ) (r : Reading) → (p : Phase) → r.limits ≡ limits → AtPhase r p bytes [] → AtPlace limits bytes bytes [] no_blocks
+start_more limits bytes r p e a = by p a
   where
-    between : (q : Phase) → IsBetween r q (bytes ++ b ∷ []) [] → AtPlace limits (bytes ++ b ∷ []) (bytes ++ b ∷ []) [] no_blocks
-    between q (tail, w, seen, part) = inr (tail, first_beside limits (bytes ++ b ∷ []) tail (subst (λ (l : Limits). markers.Between (kept_rule l) (bytes ++ b ∷ []) [] tail) e w))
+    between : (q : Phase) → IsBetween r q bytes [] → AtPlace limits bytes bytes [] no_blocks
+    between q (tail, w, seen, part) = inr (tail, first_beside limits bytes tail (subst (λ (l : Limits). markers.Between (kept_rule l) bytes [] tail) e w))
 
-    by : (q : Phase) → AtPhase r q (bytes ++ b ∷ []) [] → AtPlace limits (bytes ++ b ∷ []) (bytes ++ b ∷ []) [] no_blocks
-    by phase.Empty k = absurd (omega (arith, ap length k.0, length-append bytes (b ∷ [])))
+    by : (q : Phase) → AtPhase r q bytes [] → AtPlace limits bytes bytes [] no_blocks
+    by phase.Empty k = inl (record { same = refl; short = inl k.0; no_items = refl; blank = refl })
     by phase.HalfStart k = inl (record { same = refl; short = inr k.0; no_items = refl; blank = refl })
     by phase.Between k = between phase.Between k
     by phase.Fill k = between phase.Fill k
@@ -70,31 +71,52 @@ start_more limits bytes b r p e a = by p a
     by phase.Contents k = between phase.Contents k
     by phase.Ended k = absurd k
 
--- A BYTE that goes on
-place_more : (limits : Limits) (bytes sent : List ℕ) (b : ℕ) (items : List Item) (blocks : Blocks) (r : Reading) → r.limits ≡ limits → StandsFor (sent ++ b ∷ []) (segments_of items) r → AtPlace limits bytes sent items blocks
-    → AtPlace limits (bytes ++ b ∷ []) (sent ++ b ∷ []) items blocks
-place_more limits bytes sent b items blocks r e stands (inr (tail, w)) = inr (tail ++ b ∷ [], record { beside = beside_more limits (kept_rule limits) sent bytes items tail (b ∷ []) w.beside; leads = w.leads })
-place_more limits bytes sent b items blocks r e stands (inl s) =
-    let S : List Item → Type 0 = λ z. StandsFor (sent ++ b ∷ []) (segments_of z) r in
+-- BYTES that go on
+place_more : (limits : Limits) (bytes sent more : List ℕ) (items : List Item) (blocks : Blocks) (r : Reading) → r.limits ≡ limits → StandsFor (sent ++ more) (segments_of items) r → AtPlace limits bytes sent items blocks
+    → AtPlace limits (bytes ++ more) (sent ++ more) items blocks
+place_more limits bytes sent more items blocks r e stands (inr (tail, w)) = inr (tail ++ more, record { beside = beside_more limits (kept_rule limits) sent bytes items tail more w.beside; leads = w.leads })
+place_more limits bytes sent more items blocks r e stands (inl s) =
+    let S : List Item → Type 0 = λ z. StandsFor (sent ++ more) (segments_of z) r in
     let k = subst S s.no_items stands in
-    let P : List ℕ → Type 0 = λ z. AtPlace limits (z ++ b ∷ []) (sent ++ b ∷ []) items blocks in
-    let Q : List Item → Type 0 = λ z. AtPlace limits (sent ++ b ∷ []) (sent ++ b ∷ []) z blocks in
-    let R : Blocks → Type 0 = λ z. AtPlace limits (sent ++ b ∷ []) (sent ++ b ∷ []) [] z in
-    subst P (sym s.same) (subst Q (sym s.no_items) (subst R (sym s.blank) (start_more limits sent b r r.phase e k.1)))
+    let P : List ℕ → Type 0 = λ z. AtPlace limits (z ++ more) (sent ++ more) items blocks in
+    let Q : List Item → Type 0 = λ z. AtPlace limits (sent ++ more) (sent ++ more) z blocks in
+    let R : Blocks → Type 0 = λ z. AtPlace limits (sent ++ more) (sent ++ more) [] z in
+    subst P (sym s.same) (subst Q (sym s.no_items) (subst R (sym s.blank) (start_more limits (sent ++ more) r r.phase e k.1)))
+
+pub passes_on : (limits : Limits) (bytes more : List ℕ) (items : List Item) (blocks : Blocks) (w new : Items) → (k : BetweenItems limits bytes items blocks w) → StandsFor (k.sent ++ more) (segments_of items) (reading_of new.segments)
+    → (reading_of new.segments).limits ≡ (reading_of w.segments).limits → new.limits ≡ w.limits → told_by new.held ≡ told_by w.held → BetweenItems limits (bytes ++ more) items blocks new
+passes_on limits bytes more items blocks w new k stands e f same = record {
+  sent = k.sent ++ more;
+  stands = stands;
+  at = place_more limits bytes k.sent more items blocks (reading_of new.segments) (e ∙ k.bounded.0) stands k.at;
+  bounded = (e ∙ k.bounded.0, f ∙ k.bounded.1);
+  holds = subst (λ h. Holds limits h (segments_of items)) (sym same) k.holds;
+}
 
 pub goes_on : (limits : Limits) (bytes : List ℕ) (b : ℕ) (items : List Item) (blocks : Blocks) (w new : Items) → (k : BetweenItems limits bytes items blocks w) → StandsFor (k.sent ++ b ∷ []) (segments_of items) (reading_of new.segments)
     → (reading_of new.segments).limits ≡ (reading_of w.segments).limits → new.limits ≡ w.limits → told_by new.held ≡ told_by w.held → (more : List Item) × AddsNoScan items more × BetweenItems limits (bytes ++ b ∷ []) more blocks new
-goes_on limits bytes b items blocks w new k stands e f same = (
-  items,
-  inl refl,
-  record {
-    sent = k.sent ++ b ∷ [];
-    stands = stands;
-    at = place_more limits bytes k.sent b items blocks (reading_of new.segments) (e ∙ k.bounded.0) stands k.at;
-    bounded = (e ∙ k.bounded.0, f ∙ k.bounded.1);
-    holds = subst (λ h. Holds limits h (segments_of items)) (sym same) k.holds;
-  },
-)
+goes_on limits bytes b items blocks w new k stands e f same = (items, inl refl, passes_on limits bytes (b ∷ []) items blocks w new k stands e f same)
+
+-- CONTENTS of a segment
+pub stretch_passes : (w : Items) (r : SegmentReader) (bytes : List ℕ) (n : ℕ) → AddsContents (reading_of w.segments) bytes (Ok n) (reading_of r) → PassesContents (reading_of w.segments) bytes (Ok n) (reading_of r) → PassesItems w bytes n (record w { segments = r })
+stretch_passes w r bytes n (is, added) stands =
+    let few : n ≤ length bytes = omega (arith, is) in
+    let size = length-take-le n bytes few in
+    record {
+      within = few;
+      limits = refl;
+      taken = ap (λ (q : Reading). q.taken) added ∙ ap (λ (m : ℕ). (reading_of w.segments).taken + m) size;
+      stands = λ limits front items blocks k. passes_on limits front (take n bytes) items blocks w (record w { segments = r }) k (stands k.sent (segments_of items) k.stands) (ap (λ (q : Reading). q.limits) added) refl refl;
+    }
+
+pub stretch_stops : (w : Items) (r : SegmentReader) (bytes : List ℕ) → reading_of r ≡ reading_of w.segments → PassesItems w bytes 0 (record w { segments = r })
+stretch_stops w r bytes same = record {
+  within = omega arith;
+  limits = refl;
+  taken = omega (arith, ap (λ (q : Reading). q.taken) same);
+  stands = λ limits front items blocks k.
+      passes_on limits front [] items blocks w (record w { segments = r }) k (subst (λ b. StandsFor b (segments_of items) (reading_of r)) (sym (append-nil k.sent)) (subst (λ (q : Reading). StandsFor k.sent (segments_of items) q) (sym same) k.stands)) (ap (λ (q : Reading). q.limits) same) refl refl;
+}
 
 -- A FAULT of markers and lengths
 pub beside_fault : (limits : Limits) (bytes sent : List ℕ) (items : List Item) (blocks : Blocks) (tail : List ℕ) (fault : Fault) → IsBeside limits bytes sent items blocks tail → ShowsBehind (kept_rule limits) (segments_of items) fault sent → Shows limits fault bytes

@@ -22,6 +22,11 @@ pub mod FileSteps
 pub mod PieceSteps
 pub mod PictureSteps
 pub mod FirstHeads
+pub mod RowBits
+pub mod RowMachines
+pub mod RowPlaces
+pub mod RowScans
+pub mod RowWorks
 pub mod Runs
 pub mod ScanRuns
 pub mod GivenTables

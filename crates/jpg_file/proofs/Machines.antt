@@ -41,7 +41,7 @@ pub record IsOneOf (M N : Type 0) (e : M → N) (k : Kind M) (all : Kind N) : Ty
 -- ONE BIT
 
 answered : {M N : Type 0} (e : M → N) (k : Kind M) (all : Kind N) (o : IsOneOf M N e k all) (m new : M) (i : Interval) (bits more : List Bool) (now after : Picture) (answer : Result UnitStep UnitFault) → all.stands (e m) i bits now
-    → Answered k i more answer new after → Answered all i more answer (e new) after
+    → Answered k i more answer now new after → Answered all i more answer now (e new) after
 answered e k all o m new i bits more now after (Ok More) s a = o.stands m new i bits more now after s a
 answered e k all o m new i bits more now after (Ok IntervalDone) s a = (a.0, λ j follows fits. o.ready m new i j bits now s (follows.scan) (a.1 j follows (o.fits m i j bits now s (follows.scan) fits)))
 answered e k all o m new i bits more now after (Err f) s a = a

@@ -29,9 +29,8 @@ use Rattle.jpg_spec.proofs.Ranges.{leads_in_range}
 use Rattle.jpg_coefs.specs.Picture.{Picture as Made, map_of}
 use Rattle.jpg_file.specs.File.{EndsFile, PictureSoFar}
 use Rattle.jpg_file.specs.Held.{told_by}
-use Rattle.jpg_file.specs.PictureRead.{component_told, picture_meaning, IsQuantTable}
+use Rattle.jpg_file.specs.PictureKept.{PictureParts, component_told, parts_meaning, IsQuantTable}
 use Rattle.jpg_file.specs.declared.file.FileWork.{FileWork}
-use Rattle.jpg_file.specs.declared.picture.Picture.{Picture}
 use Rattle.jpg_file.proofs.FileSteps.{frame_left, one_begun}
 use Rattle.jpg_file.proofs.PieceSteps.{file_means}
 
@@ -81,13 +80,13 @@ names_same f quants =
     map_map (component_told f quants) (λ c. c.id) (below (length f.components))
     ∙ map_at (λ c. c.id) f.components (length f.components) (omega arith) ∙ ap (λ l. map (λ c. c.id) l) (take_all (length f.components) f.components (omega arith))
 
-pub colour_is : (p : Picture) → jfif_of p.kept ≡ p.jfif → colours_of (length p.frame.components) (identifiers p.frame.components) p.jfif.seen (adobe_transform p.kept) ≡ colour_of (picture_meaning p)
+pub colour_is : (p : PictureParts) → jfif_of p.kept ≡ p.jfif → colours_of (length p.frame.components) (identifiers p.frame.components) p.jfif.seen (adobe_transform p.kept) ≡ colour_of (parts_meaning p)
 colour_is p e =
     let f = p.frame in
-    let told = map (component_told f p.quants.items) (below (length f.components)) in
-    let count : length told ≡ length f.components = length-map (below (length f.components)) (component_told f p.quants.items) ∙ length_below (length f.components) in
+    let told = map (component_told f p.quants) (below (length f.components)) in
+    let count : length told ≡ length f.components = length-map (below (length f.components)) (component_told f p.quants) ∙ length_below (length f.components) in
     ap (λ n. colours_of n (identifiers f.components) p.jfif.seen (adobe_transform p.kept)) (sym count)
-    ∙ ap (λ l. colours_of (length told) l p.jfif.seen (adobe_transform p.kept)) (sym (names_same f p.quants.items))
+    ∙ ap (λ l. colours_of (length told) l p.jfif.seen (adobe_transform p.kept)) (sym (names_same f p.quants))
     ∙ ap (λ j. colours_of (length told) (map (λ c. c.id) told) j.seen (adobe_transform p.kept)) (sym e)
 
 -- WHAT A WHOLE FILE LEAVES
@@ -115,54 +114,54 @@ table_left limits bytes w i e few low =
     k.there i (omega (arith, low, few)) (all_below (has_begun (heads_of f before)) (length f.components) i e.complete low)
 
 -- what the parts of the picture are
-pub record IsLeft (w : FileWork) (p : Picture) : Type 0 where
+pub record IsLeft (w : FileWork) (p : PictureParts) : Type 0 where
   pub frame : w.reading.items.held.frame ≡ Some p.frame
   pub coefs : w.reading.coefs ≡ Some p.coefs
   pub kept : p.kept ≡ (told_by w.reading.items.held).kept
   pub few : length p.frame.components ≤ 4
-  pub tables : (i : ℕ) → i < length p.frame.components → slice_index_or p.quants.items i [] ≡ unwrap_or (quant_in w.begun.quants i) []
+  pub tables : (i : ℕ) → i < length p.frame.components → slice_index_or p.quants i [] ≡ unwrap_or (quant_in w.begun.quants i) []
 
 pub left_framed : (limits : Limits) (bytes : List ℕ) (w : FileWork) (f : Frame) → (e : EndsFile limits bytes w) → w.reading.items.held.frame ≡ Some f → frame_of_items limits (e.ends).items ≡ f
 left_framed limits bytes w f e held = let k = frame_left limits bytes w e in k.is ∙ some_once k.frame f (sym k.has ∙ held)
 
 -- the frame and the blocks
-record LeftPicture (limits : Limits) (bytes : List ℕ) (w : FileWork) (p : Picture) (e : EndsFile limits bytes w) : Type 0 where
+record LeftPicture (limits : Limits) (bytes : List ℕ) (w : FileWork) (p : PictureParts) (e : EndsFile limits bytes w) : Type 0 where
   pub frame : frame_of_items limits (e.ends).items ≡ p.frame
   pub grids : p.coefs.frame ≡ p.frame
   pub blocks : (e.ends).blocks ≡ map_of p.coefs
 
-left_picture : (limits : Limits) (bytes : List ℕ) (w : FileWork) (p : Picture) → (e : EndsFile limits bytes w) → IsLeft w p → LeftPicture limits bytes w p e
+left_picture : (limits : Limits) (bytes : List ℕ) (w : FileWork) (p : PictureParts) → (e : EndsFile limits bytes w) → IsLeft w p → LeftPicture limits bytes w p e
 left_picture limits bytes w p e l =
     let same = left_framed limits bytes w p.frame e l.frame in
     let q = picture_left limits bytes w e in
     let is = some_once q.coefs p.coefs (sym q.has ∙ l.coefs) in
     record { frame = same; grids = ap (λ (c : Made). c.frame) (sym is) ∙ q.framed ∙ same; blocks = q.as_map ∙ ap map_of is }
 
-pub left_means : (limits : Limits) (bytes : List ℕ) (w : FileWork) (p : Picture) (M : Meaning) → (e : EndsFile limits bytes w) → IsLeft w p → IsWholeFile limits bytes M → picture_meaning p ≡ M
+pub left_means : (limits : Limits) (bytes : List ℕ) (w : FileWork) (p : PictureParts) (M : Meaning) → (e : EndsFile limits bytes w) → IsLeft w p → IsWholeFile limits bytes M → parts_meaning p ≡ M
 left_means limits bytes w p M e l whole =
     let k = e.ends in
     let before = segments_of k.items in
     let q = left_picture limits bytes w p e l in
     let f = p.frame in
-    let table : (i : ℕ) → i < length f.components → slice_index_or p.quants.items i [] ≡ unwrap_or (quant_of f before i) [] =
+    let table : (i : ℕ) → i < length f.components → slice_index_or p.quants i [] ≡ unwrap_or (quant_of f before i) [] =
     λ i low. l.tables i low ∙ ap (λ (o : Option QuantTable). unwrap_or o []) ((k.beside).begun.quants i (omega (arith, low, l.few)) ∙ ap (λ (g : Frame). quant_of g before i) q.frame) in
-    let components = map_below (component_told f p.quants.items) (picture_component f before) (length f.components)
+    let components = map_below (component_told f p.quants) (picture_component f before) (length f.components)
     (λ i low. ap (λ (t : QuantTable). let c : PictureComponent = record { id = (component_at f i).id; h = (component_at f i).h; v = (component_at f i).v; quants = t } in c) (table i low)) in
     let blocks = ap (real_blocks f) (sym q.blocks) in
     let kept = l.kept ∙ ((k.at).holds).kept in
     let N = meaning_of f before k.blocks in
-    ap (λ (cs : List PictureComponent). let n : Meaning = record (picture_meaning p) { components = cs } in n) components
+    ap (λ (cs : List PictureComponent). let n : Meaning = record (parts_meaning p) { components = cs } in n) components
     ∙ ap (λ bs. let n : Meaning = record N { blocks = bs; kept = p.kept } in n) blocks
     ∙ ap (λ (ks : List Segment). let n : Meaning = record N { kept = ks } in n) kept
     ∙ ap (λ (g : Frame). meaning_of g before k.blocks) (sym q.frame)
     ∙ (means_once limits bytes bytes (meaning_of (frame_of_items limits k.items) before k.blocks) M (file_means limits bytes w e).0 whole.0 refl).0
 
-pub left_range : (limits : Limits) (bytes : List ℕ) (w : FileWork) (p : Picture) → (e : EndsFile limits bytes w) → IsLeft w p → AreInRange (bounds p.frame) (map_of p.coefs)
+pub left_range : (limits : Limits) (bytes : List ℕ) (w : FileWork) (p : PictureParts) → (e : EndsFile limits bytes w) → IsLeft w p → AreInRange (bounds p.frame) (map_of p.coefs)
 left_range limits bytes w p e l =
     let q = left_picture limits bytes w p e l in
     subst (λ (g : Frame). AreInRange (bounds g) (map_of p.coefs)) q.frame (subst (λ bs. AreInRange (bounds (frame_of_items limits (e.ends).items)) bs) q.blocks (leads_in_range limits (e.ends).items (e.ends).blocks (((e.ends).at).at).leads))
 
-pub left_grids : (limits : Limits) (bytes : List ℕ) (w : FileWork) (p : Picture) → (e : EndsFile limits bytes w) → IsLeft w p → p.coefs.frame ≡ p.frame
+pub left_grids : (limits : Limits) (bytes : List ℕ) (w : FileWork) (p : PictureParts) → (e : EndsFile limits bytes w) → IsLeft w p → p.coefs.frame ≡ p.frame
 left_grids limits bytes w p e l = (left_picture limits bytes w p e l).grids
 
 pub left_jfif : (limits : Limits) (bytes : List ℕ) (w : FileWork) → (e : EndsFile limits bytes w) → (told_by w.reading.items.held).jfif ≡ jfif_of (told_by w.reading.items.held).kept
@@ -186,7 +185,7 @@ quant_sound f (s ∷ before) i t e = by (s.0 == 0xda) e (λ u h. quant_sound f b
     by false h older = older t h
     by true h older = first (quant_of f before i) (names (head_in f s.1) i) h older
 
-pub left_quants : (limits : Limits) (bytes : List ℕ) (w : FileWork) (p : Picture) (i : ℕ) → (e : EndsFile limits bytes w) → IsLeft w p → i < length p.frame.components → IsQuantTable (slice_index_or p.quants.items i [])
+pub left_quants : (limits : Limits) (bytes : List ℕ) (w : FileWork) (p : PictureParts) (i : ℕ) → (e : EndsFile limits bytes w) → IsLeft w p → i < length p.frame.components → IsQuantTable (slice_index_or p.quants i [])
 left_quants limits bytes w p i e l low =
     let f = frame_of_items limits (e.ends).items in
     let before = segments_of (e.ends).items in
@@ -195,5 +194,5 @@ left_quants limits bytes w p i e l low =
     let none = table_left limits bytes w i e (subst (λ (g : Frame). length g.components ≤ 4) (sym same) l.few) (subst (λ (g : Frame). i < length g.components) (sym same) low) in
     let x = some_of (quant_in w.begun.quants i) none in
     let sound = quant_sound f before i x.0 (sym (((e.ends).beside).begun.quants i (omega (arith, low, few))) ∙ x.1) in
-    let is : slice_index_or p.quants.items i [] ≡ x.0 = l.tables i low ∙ ap (λ (o : Option QuantTable). unwrap_or o []) x.1 in
+    let is : slice_index_or p.quants i [] ≡ x.0 = l.tables i low ∙ ap (λ (o : Option QuantTable). unwrap_or o []) x.1 in
     subst IsQuantTable (sym is) (record { long = sound.long; some = sound.some })

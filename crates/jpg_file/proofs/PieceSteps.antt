@@ -2,7 +2,7 @@
 use Rattle.std.proofs.Common.{◌-◌, Bool, ◌≡◌, ℕ, ◌+◌, ◌<◌, ◌≤◌, true, List, [], ◌∷◌, ◌++◌, length, take, drop, get_or, refl, false, Some, None, Ok, Err, Result, sym, ap, ◌∙◌, subst, arith, inl, inr, ◌⊎◌}
 use Rattle.std.proofs.lemmas.List.{take-take, append-nil, get_or-take, get_or-drop, length-drop, length-take-le, append_assoc, length-append, take_all, take_more, take-append-drop, take-append-le}
 use Rattle.std.proofs.Math.Seq.{take-append-add}
-use Rattle.std.specs.Prelude.{IfErr}
+use Rattle.std.specs.Prelude.{IfErr, Option, is_some}
 use Rattle.jpg_spec.specs.Items.{segments_of}
 use Rattle.jpg_spec.specs.FileMeaning.{meaning_of}
 use Rattle.jpg_spec.specs.FirstFault.{IsFirstFault, Shows}
@@ -17,12 +17,17 @@ use Rattle.jpg_base.specs.declared.stop.Fed.{Fed}
 use Rattle.jpg_base.specs.declared.stop.Fed.TheVariants as fed
 use Rattle.jpg_base.specs.declared.stop.Stop.{Stop}
 use Rattle.jpg_base.specs.declared.stop.Stop.TheVariants as stop
-use Rattle.jpg_file.specs.File.{AfterFileByte, TakesFileByte, TakesSome, EndsFile, IsStop, Stands, limits_of}
+use Rattle.jpg_file.specs.File.{AfterFileByte, KeepsBytes, PassesFront, PictureSoFar, TakesFileByte, TakesSome, EndsFile, IsStop, Stands, limits_of}
 use Rattle.jpg_file.specs.FirstHead.{IsHeadOf}
 use Rattle.jpg_file.specs.ReadFile.{AfterFeed, AfterFilePiece, HasRead, IsReading, IsRefusal, IsStopOf, ReaderState, ReadsPiece}
+use Rattle.jpg_coefs.specs.Picture.{Picture}
+use Rattle.jpg_file.specs.Items.{BetweenItems}
+use Rattle.jpg_file.specs.Reading.{PassesReading}
+use Rattle.jpg_file.specs.declared.reading.Reading.{Reading}
 use Rattle.jpg_file.specs.declared.file.FileWork.{FileWork}
 use Rattle.jpg_file.proofs.Ending.{file_ends}
-use Rattle.jpg_file.proofs.FileSteps.{head_is, head_left}
+use Rattle.jpg_file.proofs.FileSteps.{asked, between_of, head_is, head_left}
+use Rattle.jpg_file.proofs.FirstHeads.{has_longer}
 use Rattle.jpg_file.proofs.ItemBytes.{between_stands}
 use Rattle.jpg_file.proofs.ScanBytes.{data_stands}
 
@@ -74,7 +79,7 @@ front_of : (front rest all : List ℕ) (n : ℕ) → n ≡ length front → all 
 front_of front rest all n long cut = ap (λ m. take m all) long ∙ ap (take (length front)) cut ∙ whole_front front rest
 
 pub piece_stopped : (limits : Limits) (bytes piece : List ℕ) (i : ℕ) (e : Stop) (old w next : FileWork) → i < length piece → Stands limits (bytes ++ take i piece) old → old.reading.taken < limits.input
-    → next.head ≡ old.head → AfterFileByte limits ((bytes ++ take i piece) ++ get_or piece i 0 ∷ []) (Err e) w → AfterFilePiece limits bytes piece (Err e) next
+    → next.head ≡ old.head → AfterFileByte (Unit {0}) limits ((bytes ++ take i piece) ++ get_or piece i 0 ∷ []) (Err e) w → AfterFilePiece limits bytes piece (Err e) next
 piece_stopped limits bytes piece i (stop.Fault f) old w next less stands short same h =
     let front = bytes ++ take i piece in
     let cut = joined bytes piece (i + 1) ∙ ap (λ l. l ++ drop (i + 1) piece) (one_more bytes piece i less) in
@@ -86,7 +91,7 @@ piece_stopped limits bytes piece i (stop.Fault f) old w next less stands short s
       inr (length front, omega (arith, at, one), head_kept limits bytes piece i old next stands same, subst (λ l. IsStop limits l f) (sym (front_of (front ++ get_or piece i 0 ∷ []) (drop (i + 1) piece) (bytes ++ piece) f.at at cut)) h),
     )
 piece_stopped limits bytes piece i stop.NoMemory old w next less stands short same h =
-    (length (bytes ++ take i piece), (length (bytes ++ take i piece), omega arith, omega arith, head_kept limits bytes piece i old next stands same))
+    (length (bytes ++ take i piece), omega (arith, length-append bytes (take i piece)), head_kept limits bytes piece i old next stands same)
 
 -- as many bytes as may be taken
 pub piece_long : (limits : Limits) (bytes piece : List ℕ) (i : ℕ) (w : FileWork) → limits.input ≤ w.reading.taken → Stands limits (bytes ++ take i piece) w
@@ -109,7 +114,7 @@ piece_long limits bytes piece i w many h =
 
 -- a whole file
 pub piece_whole : (limits : Limits) (bytes piece : List ℕ) (i used : ℕ) (w : FileWork) → i < length piece → used ≡ i + 1
-    → AfterFileByte limits ((bytes ++ take i piece) ++ get_or piece i 0 ∷ []) (Ok true) w → AfterFilePiece limits bytes piece (Ok (fed.Done used)) w
+    → AfterFileByte (Unit {0}) limits ((bytes ++ take i piece) ++ get_or piece i 0 ∷ []) (Ok true) w → AfterFilePiece limits bytes piece (Ok (fed.Done used)) w
 piece_whole limits bytes piece i used w less same h =
     let is : bytes ++ take used piece ≡ (bytes ++ take i piece) ++ get_or piece i 0 ∷ [] = ap (λ n. bytes ++ take n piece) same ∙ one_more bytes piece i less in
     (subst (λ l. EndsFile limits l w) (sym is) h, omega (arith, same), omega (arith, same, less))
@@ -201,7 +206,7 @@ pub record LastOf (limits : Limits) (bytes piece : List ℕ) (done n : ℕ) (ans
   pub stands : Stands limits (bytes ++ take i piece) mid
   pub room : mid.reading.taken < limits.input
   pub head : IfErr answer (λ stop. new.head ≡ mid.head)
-  pub after : AfterFileByte limits ((bytes ++ take i piece) ++ get_or piece i 0 ∷ []) answer new
+  pub after : AfterFileByte (Unit {0}) limits ((bytes ++ take i piece) ++ get_or piece i 0 ∷ []) answer new
 
 pub last_of : (limits : Limits) (bytes piece : List ℕ) (done n : ℕ) (answer : Result Bool Stop) (w new : FileWork) → done ≤ length piece → Stands limits (bytes ++ take done piece) w
     → TakesSome w (take (length piece - done) (drop done piece)) n answer new → LastOf limits bytes piece done n answer new
@@ -222,7 +227,8 @@ last_of limits bytes piece done n answer w new few k taken =
       stands = stands;
       room = t.room limits front k same;
       head = t.head;
-      after = subst (λ b. AfterFileByte limits ((bytes ++ take i piece) ++ b ∷ []) answer new) (get_or-drop done piece t.early 0) (t.last limits (bytes ++ take i piece) stands same);
+      after = asked (KeepsBytes w) (Unit {0}) (λ k. tt) limits ((bytes ++ take i piece) ++ get_or piece i 0 ∷ []) answer new
+          (subst (λ b. AfterFileByte (KeepsBytes w) limits ((bytes ++ take i piece) ++ b ∷ []) answer new) (get_or-drop done piece t.early 0) (t.last limits (bytes ++ take i piece) stands same));
     }
 
 pub some_stopped : (limits : Limits) (bytes piece : List ℕ) (done n : ℕ) (e : Stop) (new : FileWork) → LastOf limits bytes piece done n (Err e) new → AfterFilePiece limits bytes piece (Err e) new
@@ -237,18 +243,67 @@ some_more limits bytes piece done n new l = subst (λ m. Stands limits (bytes ++
 pub some_within : (limits : Limits) (bytes piece : List ℕ) (done n : ℕ) (answer : Result Bool Stop) (new : FileWork) → LastOf limits bytes piece done n answer new → done + n ≤ length piece
 some_within limits bytes piece done n answer new l = let count = l.count in let less = l.less in omega (arith, count, less)
 
--- ONE BYTE, or a front of them
-pub one_taken : (w : FileWork) (bytes : List ℕ) (answer : Result Bool Stop) (new : FileWork) → 1 ≤ length bytes → w.reading.taken < (limits_of w).input → TakesFileByte w (get_or bytes 0 0) answer new → IfErr answer (λ stop. new.head ≡ w.head)
-    → TakesSome w bytes 1 answer new
-one_taken w bytes answer new some room took head = record {
-  mid = w;
-  early = 0;
-  count = refl;
+-- THE FRONT of some bytes, and one after it
+
+-- with contents of a segment
+pub front_passes : (w : FileWork) (r : Reading) (bytes : List ℕ) (most n : ℕ) → w.reading.scan ≡ None → most < length bytes → w.reading.taken + most < (limits_of w).input → PassesReading w.reading (take most bytes) n r
+    → PassesFront w bytes n (record w { reading = r })
+front_passes w r bytes most n none less room p =
+    let size = length-take-le most bytes (omega (arith, less)) in
+    let few = p.within in
+    let taken = p.taken in
+    record {
+      within = omega (arith, less, size, few);
+      limits = (p.items).limits;
+      room = omega (arith, room, size, few, taken);
+      scan = p.scan;
+      stands = λ limits front k.
+          (let s = between_of limits front w k (ap is_some none) in
+          let same : take n (take most bytes) ≡ take n bytes = take-take n most bytes (omega (arith, size, few)) in
+          let long = length-take-le n bytes (omega (arith, less, size, few)) in
+          let all = length-append front (take n bytes) in
+          let count = (s.beside).count in
+          let input : (limits_of w).input ≡ limits.input = ap (λ (l : Limits). l.input) (limits_are limits front w k) in
+          inl (record {
+            items = s.items;
+            blocks = s.blocks;
+            at = subst (λ l. BetweenItems limits (front ++ l) s.items s.blocks r.items) same ((p.items).stands limits front s.items s.blocks s.at);
+            beside = record {
+              picture = subst (λ (q : Option Picture). PictureSoFar limits s.items s.blocks q) (sym p.coefs) (s.beside).picture;
+              begun = (s.beside).begun;
+              none = p.scan ∙ none;
+              count = omega (arith, taken, count, long, all);
+              same = (p.items).taken ∙ ap (λ (m : ℕ). m + n) (s.beside).same ∙ sym p.taken;
+              within = omega (arith, room, size, few, taken, count, long, all, input);
+              head = has_longer limits front (take n bytes) (front ++ take n bytes) (segments_of s.items) w.head refl (s.beside).head;
+            };
+          }));
+    }
+
+-- with none
+pub front_none : (w : FileWork) (bytes : List ℕ) → 1 ≤ length bytes → w.reading.taken < (limits_of w).input → PassesFront w bytes 0 w
+front_none w bytes some room = record {
   within = some;
+  limits = refl;
+  room = room;
+  scan = refl;
+  stands = λ limits front k. subst (λ l. Stands limits l w) (sym (append-nil front)) k;
+}
+
+pub one_taken : (w mid : FileWork) (bytes : List ℕ) (n : ℕ) (answer : Result Bool Stop) (new : FileWork) → PassesFront w bytes n mid → TakesFileByte mid (get_or bytes n 0) answer new → IfErr answer (λ stop. new.head ≡ mid.head)
+    → TakesSome w bytes (n + 1) answer new
+one_taken w mid bytes n answer new front took head = record {
+  mid = mid;
+  early = n;
+  count = refl;
+  within = front.within;
   head = head;
-  room = λ limits front k same. subst (λ (l : Limits). w.reading.taken < l.input) same room;
-  before = λ limits front k same. subst (λ l. Stands limits l w) (sym (append-nil front)) k;
-  last = λ limits front k same. subst (λ l. AfterFileByte l (front ++ get_or bytes 0 0 ∷ []) answer new) same (took front (subst (λ l. Stands l front w) (sym same) k));
+  room = λ limits before k same. subst (λ (l : Limits). mid.reading.taken < l.input) same front.room;
+  before = λ limits before k same. front.stands limits before k;
+  last = λ limits before k same.
+      (let is = front.limits ∙ same in
+      asked (KeepsBytes mid) (KeepsBytes w) (λ none. sym front.scan ∙ none) limits (before ++ get_or bytes n 0 ∷ []) answer new
+      (subst (λ l. AfterFileByte (KeepsBytes mid) l (before ++ get_or bytes n 0 ∷ []) answer new) is (took before (subst (λ l. Stands l before mid) (sym is) k))));
 }
 
 pub front_taken : (w : FileWork) (bytes : List ℕ) (size n : ℕ) (answer : Result Bool Stop) (new : FileWork) → size ≤ length bytes → TakesSome w (take size bytes) n answer new → TakesSome w bytes n answer new
@@ -264,5 +319,5 @@ front_taken w bytes size n answer new few t =
       head = t.head;
       room = t.room;
       before = λ limits front k e. subst (λ l. Stands limits (front ++ l) t.mid) same (t.before limits front k e);
-      last = λ limits front k e. subst (λ b. AfterFileByte limits (front ++ b ∷ []) answer new) (get_or-take size bytes t.early 0 (omega (arith, low, long))) (t.last limits front k e);
+      last = λ limits front k e. subst (λ b. AfterFileByte (KeepsBytes w) limits (front ++ b ∷ []) answer new) (get_or-take size bytes t.early 0 (omega (arith, low, long))) (t.last limits front k e);
     }

@@ -19,13 +19,13 @@ use Rattle.jpg_file.specs.declared.data.DataStep.TheVariants as came
 
 -- A CHAIN of bits, cut in two
 
-record ChainCut (M : Type 0) (k : Kind M) (m : M) (now : Picture) (xs ys : List Bool) (new : M) (after : Picture) : Type 0 where
+pub record ChainCut (M : Type 0) (k : Kind M) (m : M) (now : Picture) (xs ys : List Bool) (new : M) (after : Picture) : Type 0 where
   pub mid : M
   pub between : Picture
   pub first : Chain k m now xs mid between
   pub second : Chain k mid between ys new after
 
-chain_cut : {M : Type 0} (k : Kind M) (m new : M) (now after : Picture) (xs ys : List Bool) → Chain k m now (xs ++ ys) new after → ChainCut M k m now xs ys new after
+pub chain_cut : {M : Type 0} (k : Kind M) (m new : M) (now after : Picture) (xs ys : List Bool) → Chain k m now (xs ++ ys) new after → ChainCut M k m now xs ys new after
 chain_cut k m new now after [] ys h = record { mid = m; between = now; first = (refl, refl); second = h }
 chain_cut k m new now after (b ∷ xs) ys h =
     let c = chain_cut k h.0 new h.1 after xs ys h.3 in
@@ -33,7 +33,7 @@ chain_cut k m new now after (b ∷ xs) ys h =
 
 -- THE BITS of bytes
 
-bytes_long : (bytes : List ℕ) → length (bits_of_bytes bytes) ≡ 8 * length bytes
+pub bytes_long : (bytes : List ℕ) → length (bits_of_bytes bytes) ≡ 8 * length bytes
 bytes_long [] = refl
 bytes_long (b ∷ bytes) =
     let eight = length-bits_of 8 b in
@@ -45,7 +45,7 @@ pub given_bytes : (bytes : List ℕ) (bits n : ℕ) → bits ≤ 8 * length byte
 given_bytes bytes bits n within is = omega (arith, within, is, length-drop bits (bits_of_bytes bytes), bytes_long bytes)
 
 -- the byte with the last of some first bits
-record LastByte (bytes : List ℕ) (bits : List Bool) (early : ℕ) : Type 0 where
+pub record LastByte (bytes : List ℕ) (bits : List Bool) (early : ℕ) : Type 0 where
   pub within : early < length bytes
   pub front : List Bool
   pub rest : List Bool
@@ -148,12 +148,12 @@ run_more {M} k most m new now after bytes rest n some count (bits, cut, (chain, 
     dropped xs i h = append_cancel_left xs (drop i xs) [] (ap (λ l. l ++ drop i xs) (sym (take_all i xs h)) ∙ take-append-drop i xs ∙ sym (append-nil xs))
 
 -- the cut of the bytes where bits were left
-record RunCut (bytes : List ℕ) (bits : List Bool) (n : ℕ) : Type 0 where
+pub record RunCut (bytes : List ℕ) (bits : List Bool) (n : ℕ) : Type 0 where
   pub early : ℕ
   pub count : n ≡ early + 1
   pub last : LastByte bytes bits early
 
-run_cut : (bytes : List ℕ) (bits rest : List Bool) (n : ℕ) → bits_of_bytes bytes ≡ bits ++ rest → 1 ≤ length bits → n ≡ length bytes - length rest / 8 → RunCut bytes bits n
+pub run_cut : (bytes : List ℕ) (bits rest : List Bool) (n : ℕ) → bits_of_bytes bytes ≡ bits ++ rest → 1 ≤ length bits → n ≡ length bytes - length rest / 8 → RunCut bytes bits n
 run_cut bytes bits rest n e some count =
     let long = bytes_long bytes in
     let sum : length bits + length rest ≡ length (bits_of_bytes bytes) = omega (arith, ap length e, length-append bits rest) in
@@ -190,7 +190,7 @@ run_fault {M} k most m new now after bytes rest n f count (bits, cut, chain) =
       count = c.count;
       within = l.within;
       chain = a.first;
-      last = λ i so_far s. (l.front, l.rest, l.byte, answer_to k a.most a.mid new a.between after i so_far l.front (Err f) a.second s);
+      last = λ i so_far s. (l.front, l.rest, l.byte, (answer_to k a.most a.mid new a.between after i so_far l.front (Err f) a.second s).0);
     }
 
 -- BEHIND BYTES that were given before

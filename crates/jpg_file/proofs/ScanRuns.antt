@@ -96,14 +96,14 @@ none_waits : (gate : Bool) (fill : ℕ) → gate ≡ false → Waits gate fill �
 none_waits false fill e w = w
 none_waits true fill e w = cc
 
-open_at : (limits : Limits) (items : List Item) (contents bytes : List ℕ) (s : InScan) (now : Picture) → (d : InData limits items contents bytes s now) → s.gate ≡ false → ScanAt limits bytes d.place []
+pub open_at : (limits : Limits) (items : List Item) (contents bytes : List ℕ) (s : InScan) (now : Picture) → (d : InData limits items contents bytes s now) → s.gate ≡ false → ScanAt limits bytes d.place []
 open_at limits items contents bytes s now d e = subst (λ n. ScanAt limits bytes d.place (replicate n 255)) (none_waits s.gate d.fill e d.waits) d.at
 
 -- THE STATE before the last of the bytes
 abbrev pub mid_of : InScan → ScanReader → InScan
 mid_of s m = record s { work = record (s.work) { machine = m } }
 
-before_last : (s : InScan) (m : ScanReader) (now between : Picture) (run : List ℕ) (early : ℕ) → s.gate ≡ false → s.work.whole ≡ false → early ≤ length run → ArePlain run → Chain any_scan s.work.machine now (bits_of_bytes (take early run)) m between
+pub before_last : (s : InScan) (m : ScanReader) (now between : Picture) (run : List ℕ) (early : ℕ) → s.gate ≡ false → s.work.whole ≡ false → early ≤ length run → ArePlain run → Chain any_scan s.work.machine now (bits_of_bytes (take early run)) m between
     → (limits : Limits) (items : List Item) (contents bytes : List ℕ) → InData limits items contents bytes s now → InData limits items contents (bytes ++ take early run) (mid_of s m) between
 before_last s m now between run early gate whole few plain chain limits items contents bytes d =
     record {

@@ -8,7 +8,8 @@ use Rattle.jpg_spec.specs.FrameHeader.{IsFrame}
 use Rattle.jpg_spec.specs.Jfif.{jfif_of, adobe_transform}
 use Rattle.jpg_spec.specs.Meaning.{colour_of}
 use Rattle.jpg_spec.specs.declared.frame.Colour.TheVariants.{YCbCr, Rgb, Cmyk, Ycck}
-use Rattle.jpg_file.specs.PictureRead.{IsPicture, IsQuantTable, picture_meaning, component_told}
+use Rattle.jpg_file.specs.PictureKept.{IsQuantTable, component_told}
+use Rattle.jpg_file.specs.PictureRead.{picture_meaning}
 use Rattle.jpg_file.specs.StripHead.{IsStripHead, may_have}
 use Rattle.jpg_file.specs.declared.strip_head.StripHead.{StripHead}
 use Rattle.jpg_file.specs.declared.picture.Picture.{Picture}
@@ -33,8 +34,9 @@ colours_fit (suc (suc (suc zero))) ids seen adobe low high = three_by seen (is_s
 colours_fit (suc (suc (suc (suc zero)))) ids seen adobe low high = four_by (is_some_zero adobe) (is_some_number adobe)
 colours_fit (suc (suc (suc (suc (suc n))))) ids seen adobe low high = absurd (omega (arith, high))
 
-pub picture_colours : (p : Picture) → IsPicture p → may_have (length p.frame.components) p.colour ≡ true
-picture_colours p is =
+pub picture_colours : (p : Picture) → may_have (length p.frame.components) p.colour ≡ true
+picture_colours p =
+    let is = p.keeps in
     let n = length p.frame.components in
     let M = picture_meaning p in
     let count : length M.components ≡ n = length-map (below n) (component_told p.frame p.quants.items) ∙ length_below n in
@@ -43,12 +45,13 @@ picture_colours p is =
     in
     subst (λ c. may_have n c ≡ true) (sym is.colour) (subst (λ k. may_have k (colour_of M) ≡ true) count fits)
 
-pub head_fits : (p : Picture) (h : StripHead) → IsPicture p → h.frame ≡ p.frame → h.colour ≡ p.colour → h.quants.items ≡ p.quants.items → IsStripHead h
-head_fits p h is f c q =
+pub head_fits : (p : Picture) (h : StripHead) → h.frame ≡ p.frame → h.colour ≡ p.colour → h.quants.items ≡ p.quants.items → IsStripHead h
+head_fits p h f c q =
+    let is = p.keeps in
     record {
       frame = subst IsFrame (sym f) is.frame;
       tables = ap (λ xs. length xs) q ∙ is.tables ∙ sym (ap (λ g. length g.components) f);
       quants = λ (i : ℕ) (less : i < length h.frame.components).
           subst (λ xs. IsQuantTable (slice_index_or xs i [])) (sym q) (is.quants i (subst (λ g. i < length g.components) f less));
-      colour = subst (λ g. may_have (length g.components) h.colour ≡ true) (sym f) (subst (λ k. may_have (length p.frame.components) k ≡ true) (sym c) (picture_colours p is));
+      colour = subst (λ g. may_have (length g.components) h.colour ≡ true) (sym f) (subst (λ k. may_have (length p.frame.components) k ≡ true) (sym c) (picture_colours p));
     }

@@ -1,5 +1,5 @@
 -- A scan header that breaks no rule, where its scan begins (T.81, B.2.3).
-use Rattle.std.specs.Prelude.{◌≡◌, ℕ, List, None}
+use Rattle.std.specs.Prelude.{◌≡◌, ℕ, false, List, length, Option, None, Some}
 use Rattle.jpg_spec.specs.Geometry.{Frame}
 use Rattle.jpg_spec.specs.Segments.{ScanHead}
 use Rattle.jpg_spec.specs.ScanContents.{IsHead}
@@ -14,7 +14,8 @@ use Rattle.jpg_huff.specs.declared.set.TableSet.{TableSet}
 use Rattle.jpg_seq.specs.NewReader.{in_force}
 use Rattle.jpg_file.specs.InData.{InData}
 use Rattle.jpg_file.specs.Items.{IsBeside}
-use Rattle.jpg_file.specs.NewScan.{IsScanHeader}
+use Rattle.jpg_file.specs.NewScan.{IsBareScan, IsScanHeader}
+use Rattle.jpg_file.specs.declared.machine.ScanReader.{ScanReader}
 use Rattle.jpg_file.specs.declared.scan.InScan.{InScan}
 
 -- the header as it is held: the frame, the header, the tables and the restart interval in force, the picture so far
@@ -38,6 +39,10 @@ pub record Begins (limits : Limits) (items : List Item) (blocks : Blocks) (conte
   pub rule : contents_rule limits (segments_of items) 0xda contents ≡ None
   pub header : HeadHeld limits items blocks contents f head set interval now
 
+-- each block has 64 values
+abbrev pub HasSizes : Picture → Type 0
+HasSizes now = (i x y : ℕ) → length (map_of now i x y) ≡ 64
+
 -- there is such a header
 abbrev pub CanBegin : Frame → ScanHead → TableSet → ℕ → Picture → Type 0
 CanBegin f head set interval now =
@@ -47,3 +52,15 @@ CanBegin f head set interval now =
 abbrev pub StandsAtFirst : Frame → ScanHead → TableSet → ℕ → Picture → InScan → Type 0
 StandsAtFirst f head set interval now s =
     (limits : Limits) (items : List Item) (blocks : Blocks) (contents bytes : List ℕ) → Begins limits items blocks contents bytes f head set interval now → InData limits items contents bytes s now
+
+-- it does so in a place, whatever picture there is
+abbrev pub IsBegun : Frame → ScanHead → TableSet → ℕ → Option InScan → Type 0
+IsBegun f head set interval place =
+    (s : InScan) × (place ≡ Some s) × (s.gate ≡ false) × ((now : Picture) → HasSizes now → StandsAtFirst f head set interval now s)
+
+-- the scan of this machine before any data, and such a scan in a place, without its tables
+abbrev pub before_data : ScanReader → ℕ → ℕ → InScan
+before_data machine interval due = record { gate = false; work = record { machine = machine; whole = false; interval = interval; due = due; turn = 0 } }
+
+abbrev pub IsBareIn : Frame → ScanHead → TableSet → ℕ → ℕ → Option InScan → Type 0
+IsBareIn f head set interval due place = (m : ScanReader) × (place ≡ Some (before_data m interval due)) × IsBareScan f head set m

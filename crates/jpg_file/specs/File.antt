@@ -22,6 +22,7 @@ use Rattle.jpg_file.specs.Held.{told_by}
 use Rattle.jpg_file.specs.declared.head.Head.{Head}
 use Rattle.jpg_file.specs.Items.{BetweenItems, BehindSegment, BehindEnd}
 use Rattle.jpg_file.specs.Reading.{Scanning}
+use Rattle.jpg_file.specs.declared.scan.InScan.{InScan}
 use Rattle.jpg_file.specs.declared.items.ItemStep.{ItemStep}
 use Rattle.jpg_file.specs.declared.items.ItemStep.TheVariants as step
 use Rattle.jpg_file.specs.declared.file.FileWork.{FileWork}
@@ -83,37 +84,46 @@ pub record EndsFile (limits : Limits) (bytes : List ℕ) (w : FileWork) : Type 0
   pub ends : EndStands limits bytes w
   pub complete : is_complete (frame_of_items limits ends.items) (segments_of ends.items) ≡ true
 
--- WHAT A BYTE COMES TO
+-- WHAT A BYTE COMES TO, with the scan that was in work before it: only where there was none is a scan header whole, or the answer NoMemory.
 
-abbrev pub AfterFileStep : Limits → List ℕ → ItemStep → FileWork → Type 0
-AfterFileStep limits bytes step.More w = Stands limits bytes w
-AfterFileStep limits bytes step.Head w = HeadStands limits bytes w
-AfterFileStep limits bytes step.Eoi w = EndStands limits bytes w
-AfterFileStep limits bytes (step.Fault f) w = Shows limits f.fault bytes × (f.at ≡ length bytes)
-AfterFileStep limits bytes step.NoMemory w = Unit {0}
+abbrev pub AfterFileStep : Option InScan → Limits → List ℕ → ItemStep → FileWork → Type 0
+AfterFileStep before limits bytes step.More w = Stands limits bytes w
+AfterFileStep before limits bytes step.Head w = HeadStands limits bytes w × (before ≡ None)
+AfterFileStep before limits bytes step.Eoi w = EndStands limits bytes w
+AfterFileStep before limits bytes (step.Fault f) w = Shows limits f.fault bytes × (f.at ≡ length bytes)
+AfterFileStep before limits bytes step.NoMemory w = before ≡ None
 
 -- the bytes show a fault with their last one
 abbrev pub IsStop : Limits → List ℕ → FaultAt → Type 0
 IsStop limits bytes f = (f.at ≡ length bytes) × Shows limits f.fault bytes
 
-abbrev pub AfterFileByte : Limits → List ℕ → Result Bool Stop → FileWork → Type 0
-AfterFileByte limits bytes (Ok false) w = Stands limits bytes w
-AfterFileByte limits bytes (Ok true) w = EndsFile limits bytes w
-AfterFileByte limits bytes (Err (stop.Fault f)) w = IsStop limits bytes f
-AfterFileByte limits bytes (Err stop.NoMemory) w = Unit {0}
+-- the same of a whole file, with what holds where memory is asked for
+abbrev pub AfterFileByte : Type 0 → Limits → List ℕ → Result Bool Stop → FileWork → Type 0
+AfterFileByte asks limits bytes (Ok false) w = Stands limits bytes w
+AfterFileByte asks limits bytes (Ok true) w = EndsFile limits bytes w
+AfterFileByte asks limits bytes (Err (stop.Fault f)) w = IsStop limits bytes f
+AfterFileByte asks limits bytes (Err stop.NoMemory) w = asks
+
+-- a segment's bytes are kept, and what it tells: no scan is in work
+abbrev pub KeepsBytes : FileWork → Type 0
+KeepsBytes w = w.reading.scan ≡ None
+
+-- the picture is made: there is none yet
+abbrev pub MakesPicture : FileWork → Type 0
+MakesPicture w = w.reading.coefs ≡ None
 
 -- WHATEVER it stood for, this stands behind.
 abbrev pub TakesFileByte : FileWork → ℕ → Result Bool Stop → FileWork → Type 0
-TakesFileByte old byte answer new = (bytes : List ℕ) → Stands (limits_of old) bytes old → AfterFileByte (limits_of old) (bytes ++ byte ∷ []) answer new
+TakesFileByte old byte answer new = (bytes : List ℕ) → Stands (limits_of old) bytes old → AfterFileByte (KeepsBytes old) (limits_of old) (bytes ++ byte ∷ []) answer new
 
 abbrev pub TakesFileStep : FileWork → ℕ → ItemStep → FileWork → Type 0
-TakesFileStep old byte answer new = (bytes : List ℕ) → Stands (limits_of old) bytes old → AfterFileStep (limits_of old) (bytes ++ byte ∷ []) answer new
+TakesFileStep old byte answer new = (bytes : List ℕ) → Stands (limits_of old) bytes old → AfterFileStep old.reading.scan (limits_of old) (bytes ++ byte ∷ []) answer new
 
 abbrev pub TakesFileHead : FileWork → Result Bool Stop → FileWork → Type 0
-TakesFileHead old answer new = (bytes : List ℕ) → HeadStands (limits_of old) bytes old → AfterFileByte (limits_of old) bytes answer new
+TakesFileHead old answer new = (bytes : List ℕ) → HeadStands (limits_of old) bytes old → AfterFileByte (MakesPicture old) (limits_of old) bytes answer new
 
 abbrev pub TakesFileEnd : FileWork → Result Bool Stop → Type 0
-TakesFileEnd w answer = (limits : Limits) (bytes : List ℕ) → EndStands limits bytes w → AfterFileByte limits bytes answer w
+TakesFileEnd w answer = (limits : Limits) (bytes : List ℕ) → EndStands limits bytes w → AfterFileByte ⊥ limits bytes answer w
 
 -- THE FIRST SCAN HEADER is what is held where none was
 abbrev pub head_or : Option Head → Option Head → Option Head
@@ -145,7 +155,7 @@ pub record HasRoom (old new : FileWork) : Type 0 where
 
 abbrev pub RoomMade : FileWork → Result (Unit {0}) NoMemory → FileWork → Type 0
 RoomMade old (Ok done) new = HasRoom old new
-RoomMade old (Err e) new = Unit {0}
+RoomMade old (Err e) new = MakesPicture old
 
 -- SOME BYTES behind one another: a state before the last of those that were taken, and what that one came to.
 pub record TakesSome (old : FileWork) (bytes : List ℕ) (n : ℕ) (answer : Result Bool Stop) (new : FileWork) : Type 0 where
@@ -156,4 +166,12 @@ pub record TakesSome (old : FileWork) (bytes : List ℕ) (n : ℕ) (answer : Res
   pub head : IfErr answer (λ stop. new.head ≡ mid.head)
   pub room : (limits : Limits) (front : List ℕ) → Stands limits front old → limits_of old ≡ limits → mid.reading.taken < limits.input
   pub before : (limits : Limits) (front : List ℕ) → Stands limits front old → limits_of old ≡ limits → Stands limits (front ++ take early bytes) mid
-  pub last : (limits : Limits) (front : List ℕ) → Stands limits front mid → limits_of old ≡ limits → AfterFileByte limits (front ++ slice_index bytes early ∷ []) answer new
+  pub last : (limits : Limits) (front : List ℕ) → Stands limits front mid → limits_of old ≡ limits → AfterFileByte (KeepsBytes old) limits (front ++ slice_index bytes early ∷ []) answer new
+
+-- CONTENTS of a segment before the last of some bytes: the file stands for the first n of them too.
+pub record PassesFront (old : FileWork) (bytes : List ℕ) (n : ℕ) (mid : FileWork) : Type 0 where
+  pub within : n < length bytes
+  pub limits : limits_of mid ≡ limits_of old
+  pub room : mid.reading.taken < (limits_of old).input
+  pub scan : mid.reading.scan ≡ old.reading.scan
+  pub stands : (limits : Limits) (front : List ℕ) → Stands limits front old → Stands limits (front ++ take n bytes) mid

@@ -1,5 +1,5 @@
 -- Between the items of a file: what a reader stands for there, and what a further byte comes to (T.81, B.1.1, B.2.1).
-use Rattle.std.specs.Prelude.{◌≡◌, ◌⊎◌, ℕ, List, [], ◌∷◌, ◌++◌, take, None}
+use Rattle.std.specs.Prelude.{◌≡◌, ◌⊎◌, ℕ, ◌+◌, ◌≤◌, List, [], ◌∷◌, ◌++◌, length, take, None}
 use Rattle.jpg_spec.specs.Scan.{Blocks}
 use Rattle.jpg_spec.specs.Markers.{SpellsMarker, SpellsSegment, code_fault, kept_rule}
 use Rattle.jpg_spec.specs.Items.{Item, segment, scan, segments_of, SpellsFront}
@@ -78,6 +78,13 @@ abbrev pub TakesItemByte : Items → ℕ → ItemStep → Items → Type 0
 TakesItemByte old byte answer new =
     (bytes : List ℕ) (items : List Item) (blocks : Blocks) → BetweenItems old.limits bytes items blocks old → AfterItem old.limits (bytes ++ byte ∷ []) items blocks answer new
 
+-- Contents of a segment one after another, the last one left out: the first n of these bytes.
+pub record PassesItems (old : Items) (bytes : List ℕ) (n : ℕ) (new : Items) : Type 0 where
+  pub within : n ≤ length bytes
+  pub limits : new.limits ≡ old.limits
+  pub taken : (reading_of new.segments).taken ≡ (reading_of old.segments).taken + n
+  pub stands : (limits : Limits) (front : List ℕ) (items : List Item) (blocks : Blocks) → BetweenItems limits front items blocks old → BetweenItems limits (front ++ take n bytes) items blocks new
+
 abbrev pub JudgesSegment : Items → ItemStep → Items → Type 0
 JudgesSegment old answer new =
     (bytes : List ℕ) (items : List Item) (blocks : Blocks) → BehindSegment old.limits bytes items blocks old → AfterItem old.limits bytes items blocks answer new
@@ -90,9 +97,17 @@ pub record BehindHead (limits : Limits) (items : List Item) (contents : List ℕ
   pub bounded : ((reading_of w.segments).limits ≡ limits) × (w.limits ≡ limits)
   pub holds : Holds limits (told_by w.held) ((0xda, contents) ∷ segments_of items)
 
+-- what a marker alone comes to: no segment is whole with it, and it asks for no memory
+abbrev pub IsOfMarker : ItemStep → Type 0
+IsOfMarker More = Unit {0}
+IsOfMarker Head = ⊥
+IsOfMarker Eoi = Unit {0}
+IsOfMarker (Fault f) = Unit {0}
+IsOfMarker NoMemory = ⊥
+
 -- behind the marker that ended its data: the scan is an item, with these intervals
 abbrev pub AfterScan : Limits → List Item → List ℕ → List ℕ → Blocks → ItemStep → Items → Type 0
-AfterScan limits items contents bytes blocks answer w = (intervals : List (List ℕ)) × AfterItem limits bytes (scan contents intervals ∷ items) blocks answer w
+AfterScan limits items contents bytes blocks answer w = (intervals : List (List ℕ)) × AfterItem limits bytes (scan contents intervals ∷ items) blocks answer w × IsOfMarker answer
 
 -- a scan header that was judged is behind
 abbrev pub PassesHead : Items → Items → Type 0

@@ -10,10 +10,15 @@ pub mod Begun
 pub mod Judge
 pub mod File
 pub mod ReadFile
+pub mod PictureKept
 pub mod PictureRead
 pub mod StripHead
 pub mod FirstHead
 pub mod Restarts
+pub mod RowMachine
+pub mod RowCounts
+pub mod RowPlaces
+pub mod RowData
 pub mod WriteTables
 pub mod WriteDue
 pub mod WriteScan

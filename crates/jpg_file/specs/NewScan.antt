@@ -1,5 +1,5 @@
 -- A scan before its first unit, whichever kind it is of (T.81, B.2.3, G.1.1.1).
-use Rattle.std.specs.Prelude.{◌≡◌, ℕ, true, if◌then◌else◌, ◌++◌, length, All}
+use Rattle.std.specs.Prelude.{◌≡◌, ℕ, true, false, if◌then◌else◌, ◌++◌, length, All}
 use Rattle.jpg_spec.specs.Lists.{is_distinct}
 use Rattle.jpg_spec.specs.Geometry.{Frame, is_progressive, units}
 use Rattle.jpg_spec.specs.History.{needs_ac_table, needs_dc_table}
@@ -12,9 +12,12 @@ use Rattle.jpg_coefs.specs.Picture.{map_of}
 use Rattle.jpg_coefs.specs.Machine.{Interval}
 use Rattle.jpg_huff.specs.declared.set.TableSet.{TableSet}
 use Rattle.jpg_prog_read.specs.DcNew.{HasPartTable}
+use Rattle.jpg_prog_read.specs.DcNew.{IsBare as IsBareFirst}
 use Rattle.jpg_prog_read.specs.NewAcReader.{HasAcTable}
-use Rattle.jpg_seq.specs.NewReader.{in_force}
+use Rattle.jpg_seq.specs.NewReader.{IsBare, in_force}
 use Rattle.jpg_file.specs.Machine.{any_scan}
+use Rattle.jpg_file.specs.declared.machine.ScanReader.{ScanReader}
+use Rattle.jpg_file.specs.declared.machine.ScanReader.TheVariants.{Sequential, DcFirst, DcRefine, Ac}
 
 -- the tables of a part that its scan needs are there
 pub record HasNeeded (f : Frame) (head : ScanHead) (set : TableSet) (p : ScanPart) : Type 0 where
@@ -37,3 +40,10 @@ pub record IsOfHeader (f : Frame) (head : ScanHead) (set : TableSet) (i : Interv
   pub sized : (k x y : ℕ) → length (map_of i.before k x y) ≡ 64
   pub places : i.places ++ i.later ≡ units f (head_components head)
   pub frame : i.before.frame ≡ f
+
+-- The machine of the scan, whose tables aren't put in yet where it has several, and which is ready else.
+abbrev pub IsBareScan : Frame → ScanHead → TableSet → ScanReader → Type 0
+IsBareScan f head set (Sequential m) = (is_progressive f.process ≡ false) × IsBare f head m
+IsBareScan f head set (DcFirst m) = (is_progressive f.process ≡ true) × (head.ss ≡ 0) × (head.ah ≡ 0) × IsBareFirst f head m
+IsBareScan f head set (DcRefine m) = (i : Interval) → IsOfHeader f head set i → any_scan.ready (DcRefine m) i
+IsBareScan f head set (Ac m) = (i : Interval) → IsOfHeader f head set i → any_scan.ready (Ac m) i

@@ -55,9 +55,9 @@ IsRefusal limits bytes f = IsFirstFault limits bytes f.fault f.at
 abbrev pub IsStopOf : Limits → List ℕ → FaultAt → Type 0
 IsStopOf limits bytes f = (rest : List ℕ) → IsRefusal limits (bytes ++ rest) f
 
--- the first scan header of the bytes up to byte n, or up to the one before it
-abbrev pub KeepsHead : Limits → List ℕ → ℕ → Option Head → Type 0
-KeepsHead limits bytes n head = (m : ℕ) × (m ≤ n) × (n ≤ m + 1) × IsHeadOf limits (take m bytes) head
+-- the first scan header of some first bytes, no fewer than these
+abbrev pub KeepsHead : Limits → ℕ → List ℕ → Option Head → Type 0
+KeepsHead limits fewest bytes head = (n : ℕ) × (fewest ≤ n) × IsHeadOf limits (take n bytes) head
 
 -- That of the bytes up to a fault; or up to the byte before it, where the byte at its place shows it.
 abbrev pub KeepsHeadAt : Limits → List ℕ → FaultAt → Option Head → Type 0
@@ -73,7 +73,7 @@ abbrev pub AfterFeed : List ℕ → List ℕ → Result Fed Stop → ReaderState
 AfterFeed bytes piece (Ok fed.More) r = HasRead (bytes ++ piece) r
 AfterFeed bytes piece (Ok (fed.Done used)) r = IsDone (bytes ++ take used piece) r × (1 ≤ used) × (used ≤ length piece)
 AfterFeed bytes piece (Err (stop.Fault f)) r = IsStopOf r.limits (bytes ++ piece) f × (length bytes < f.at) × KeepsHeadAt r.limits (bytes ++ piece) f r.file.head
-AfterFeed bytes piece (Err stop.NoMemory) r = (n : ℕ) × KeepsHead r.limits (bytes ++ piece) n r.file.head
+AfterFeed bytes piece (Err stop.NoMemory) r = KeepsHead r.limits (length bytes) (bytes ++ piece) r.file.head
 
 -- for all bytes that were fed before
 abbrev pub FeedsFile : ReaderState → List ℕ → Result Fed Stop → ReaderState → Type 0
@@ -96,7 +96,7 @@ AfterFilePiece limits bytes piece (Ok fed.More) w = Stands limits (bytes ++ piec
 AfterFilePiece limits bytes piece (Ok (fed.Done used)) w = EndsFile limits (bytes ++ take used piece) w × (1 ≤ used) × (used ≤ length piece)
 AfterFilePiece limits bytes piece (Err (stop.Fault f)) w =
     IsStopOf limits (bytes ++ piece) f × (length bytes < limits.input → length bytes < f.at) × KeepsHeadAt limits (bytes ++ piece) f w.head
-AfterFilePiece limits bytes piece (Err stop.NoMemory) w = (n : ℕ) × KeepsHead limits (bytes ++ piece) n w.head
+AfterFilePiece limits bytes piece (Err stop.NoMemory) w = KeepsHead limits (length bytes) (bytes ++ piece) w.head
 
 abbrev pub ReadsPiece : Limits → FileWork → List ℕ → Result Fed Stop → FileWork → Type 0
 ReadsPiece limits old piece answer new = (bytes : List ℕ) → Stands limits bytes old → AfterFilePiece limits bytes piece answer new

@@ -1,5 +1,5 @@
 -- A file in work: what its reader stands for (T.81, B.2.1).
-use Rattle.std.specs.Prelude.{◌≡◌, ◌⊎◌, ℕ, ◌+◌, ◌<◌, ◌≤◌, take, slice_index, is_some, Bool, true, false, List, [], ◌∷◌, ◌++◌, length, Some, None}
+use Rattle.std.specs.Prelude.{◌≡◌, ◌⊎◌, ℕ, ◌+◌, ◌<◌, ◌≤◌, take, slice_index, is_some, not, ◌&&◌, Bool, true, false, List, [], ◌∷◌, ◌++◌, length, Option, Some, None}
 use Rattle.jpg_spec.specs.Items.{Item, segments_of}
 use Rattle.jpg_spec.specs.InForce.{frame_of}
 use Rattle.jpg_spec.specs.Geometry.{Frame}
@@ -13,7 +13,7 @@ use Rattle.jpg_file.specs.InData.{InData}
 use Rattle.jpg_file.specs.Begun.{HasBegun}
 use Rattle.jpg_file.specs.declared.begun.Begun.{Begun}
 use Rattle.jpg_file.specs.declared.items.Items.{Items}
-use Rattle.jpg_file.specs.Items.{BetweenItems, BehindSegment, BehindHead, AfterItem, AfterScan}
+use Rattle.jpg_file.specs.Items.{BetweenItems, BehindSegment, BehindHead, AfterItem, AfterScan, PassesItems}
 use Rattle.jpg_file.specs.declared.scan.InScan.{InScan}
 use Rattle.jpg_file.specs.declared.items.ItemStep.{ItemStep}
 use Rattle.jpg_file.specs.declared.items.ItemStep.TheVariants.{More, Head, Eoi, Fault, NoMemory}
@@ -105,12 +105,24 @@ abbrev pub TakesByteOfScan : Reading → ℕ → ItemStep → Reading → Type 0
 TakesByteOfScan old byte answer new =
     (items : List Item) (contents bytes : List ℕ) → Scanning old.items.limits items contents bytes old → AfterScanByte old.items.limits items contents (bytes ++ byte ∷ []) answer new
 
--- a scan is in work, no FF waits, and units are due
+-- whether a scan is in work, no FF waits, and units are due
+abbrev pub has_open : Option InScan → Bool
+has_open None = false
+has_open (Some scan) = not scan.gate && not scan.work.whole
+
 pub record IsOpenScan (r : Reading) : Type 0 where
   pub scan : InScan
   pub inside : r.scan ≡ Some scan
   pub gate : scan.gate ≡ false
   pub due : scan.work.whole ≡ false
+
+-- an answer that ends no data and asks for no memory
+abbrev pub GoesOn : ItemStep → Type 0
+GoesOn More = Unit {0}
+GoesOn Head = ⊥
+GoesOn Eoi = ⊥
+GoesOn (Fault f) = Unit {0}
+GoesOn NoMemory = ⊥
 
 -- Some plain bytes of a scan: a state before the last of those that were taken, and what that one came to.
 pub record TakesRunOfScan (old : Reading) (run : List ℕ) (n : ℕ) (answer : ItemStep) (new : Reading) : Type 0 where
@@ -123,3 +135,11 @@ pub record TakesRunOfScan (old : Reading) (run : List ℕ) (n : ℕ) (answer : I
   pub taken : mid.taken ≡ old.taken + early
   pub before : (limits : Limits) (items : List Item) (contents bytes : List ℕ) → Scanning limits items contents bytes old → Scanning limits items contents (bytes ++ take early run) mid
   pub last : (limits : Limits) (items : List Item) (contents bytes : List ℕ) → Scanning limits items contents bytes mid → AfterScanByte limits items contents (bytes ++ slice_index run early ∷ []) answer new
+
+-- Contents of a segment one after another, the last one left out: the first n of these bytes.
+pub record PassesReading (old : Reading) (bytes : List ℕ) (n : ℕ) (new : Reading) : Type 0 where
+  pub within : n ≤ length bytes
+  pub coefs : new.coefs ≡ old.coefs
+  pub scan : new.scan ≡ old.scan
+  pub taken : new.taken ≡ old.taken + n
+  pub items : PassesItems old.items bytes n new.items

@@ -8,7 +8,7 @@ use Rattle.jpg_spec.specs.Scan.{Blocks}
 use Rattle.jpg_spec.specs.Meaning.{Meaning}
 use Rattle.jpg_spec.specs.declared.frame.Colour.{Colour}
 use Rattle.jpg_spec.specs.declared.frame.Colour.TheVariants.{Gray, YCbCr, Rgb, Cmyk, Ycck, Unknown}
-use Rattle.jpg_file.specs.PictureRead.{IsQuantTable, component_told}
+use Rattle.jpg_file.specs.PictureKept.{IsQuantTable, component_told}
 use Rattle.jpg_file.specs.declared.strip_head.StripHead.{StripHead}
 
 -- a picture of these blocks, without markers that are kept

@@ -6,13 +6,12 @@ use Rattle.jpg_spec.specs.Meaning.{Meaning, colour_of, real_blocks}
 use Rattle.jpg_spec.specs.Script.{Entry}
 use Rattle.jpg_spec.specs.Moved.{frame_grids}
 use Rattle.jpg_spec.specs.Scan.{Blocks}
-use Rattle.jpg_spec.specs.WrittenFile.{is_progressive_behind, is_script_behind}
+use Rattle.jpg_spec.specs.WrittenFile.{HasBlocksIn, is_progressive_behind, is_script_behind}
 use Rattle.jpg_base.specs.Desk.{DeskState, Rose, AppendsLast}
 use Rattle.jpg_base.specs.Laws.{AppendsPart}
 use Rattle.jpg_base.specs.declared.stop.WriteFault.{WriteFault}
 use Rattle.jpg_huff.specs.Out.{OnlyWrites}
 use Rattle.jpg_markers.specs.OutHead.{head_meaning}
-use Rattle.jpg_seq.specs.ScanWritten.{HasBaselineBlocks}
 use Rattle.jpg_file.specs.Restarts.{restart_of}
 use Rattle.jpg_file.specs.WriteTables.{given_in}
 use Rattle.jpg_file.specs.WriteScan.{scans_bytes}
@@ -54,7 +53,7 @@ pub record CanWriteFile (plan : Plan) (kept : List (ℕ × List ℕ)) (f : Frame
   pub passes : does_pass (file_meaning plan kept blocks) plan.script ≡ true
   pub seen : is_progressive f.process ≡ is_progressive plan.out.frame.process
   pub grids : frame_grids f ≡ frame_grids plan.out.frame
-  pub writable : HasBaselineBlocks f blocks
+  pub writable : HasBlocksIn f blocks
 
 -- all that is due was written, or after a fault a first part of it
 abbrev pub AreAppended : DeskState → List ℕ → Result (Unit {0}) WriteFault → DeskState → Type 0

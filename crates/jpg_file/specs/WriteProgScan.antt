@@ -8,12 +8,12 @@ use Rattle.jpg_spec.specs.ScanContents.{are_parameters}
 use Rattle.jpg_spec.specs.ScanText.{flat_table, scan_data, scan_elements, symbols_used}
 use Rattle.jpg_spec.specs.Script.{Entry}
 use Rattle.jpg_spec.specs.Segments.{HuffmanTable, ScanHead}
+use Rattle.jpg_spec.specs.WrittenFile.{HasBlocksIn}
 use Rattle.jpg_spec.specs.declared.frame.Colour.{Colour}
 use Rattle.jpg_spec.specs.declared.frame.ScanPart.{ScanPart}
 use Rattle.jpg_base.specs.Cursor.{AreIn}
 use Rattle.jpg_huff.specs.declared.set.TableSet.{TableSet}
 use Rattle.jpg_huff.specs.Sets.{dc_tables, ac_tables}
-use Rattle.jpg_prog_write.specs.Written.{HasBaselineBlocks}
 use Rattle.jpg_file.specs.Restarts.{restart_of}
 use Rattle.jpg_file.specs.WriteTables.{IsInSlot}
 use Rattle.jpg_file.specs.WriteScan.{head_due}
@@ -85,7 +85,7 @@ pub record CanWriteProgScan (plan : Plan) (f : Frame) (blocks : Blocks) (e : Ent
   pub there : All (λ i. i < length plan.out.frame.components) e.components
   pub parameters : are_parameters f (length e.components) (prog_head plan.out.colour e) ≡ true
   pub progressive : is_progressive f.process ≡ true
-  pub writable : HasBaselineBlocks f blocks
+  pub writable : HasBlocksIn f blocks
 
 abbrev pub CanWriteProgScans : Plan → Frame → Blocks → Type 0
 CanWriteProgScans plan f blocks = All (CanWriteProgScan plan f blocks) plan.script

@@ -8,10 +8,10 @@ use Rattle.jpg_spec.specs.Scan.{Blocks, TablesInForce}
 use Rattle.jpg_spec.specs.ScanText.{scan_data, scan_elements, typical_table}
 use Rattle.jpg_spec.specs.Script.{Entry}
 use Rattle.jpg_spec.specs.Segments.{ScanHead}
+use Rattle.jpg_spec.specs.WrittenFile.{HasBlocksIn}
 use Rattle.jpg_spec.specs.declared.frame.Colour.{Colour}
 use Rattle.jpg_spec.specs.declared.frame.ScanPart.{ScanPart}
 use Rattle.jpg_base.specs.Cursor.{AreIn}
-use Rattle.jpg_seq.specs.ScanWritten.{HasBaselineBlocks}
 use Rattle.jpg_file.specs.WriteTables.{HasSlots, given_in, parts_given, tables_due}
 use Rattle.jpg_file.specs.declared.write_tables.Given.{Given}
 use Rattle.jpg_file.specs.Restarts.{interval_text, restart_of}
@@ -89,7 +89,7 @@ pub record CanWriteScan (file f : Frame) (blocks : Blocks) (components : List �
   pub there : All (λ i. i < length file.components) components
   pub distinct : is_distinct components ≡ true
   pub sequential : is_progressive f.process ≡ false
-  pub writable : HasBaselineBlocks f blocks
+  pub writable : HasBlocksIn f blocks
 
 abbrev pub CanWriteSeqScans : Plan → Frame → Blocks → Type 0
 CanWriteSeqScans plan f blocks = All (λ e. CanWriteScan plan.out.frame f blocks e.components) plan.script

@@ -1,7 +1,7 @@
 // A whole file in work, byte by byte (T.81, B.2.1).
 ghost use Rattle.std.specs.Prelude.{◌≡◌, ◌<◌, ◌+◌, ◌++◌, ℕ, List, [], ◌∷◌, ◌≤◌, length, slice_index, IfErr};
 ghost use Rattle.jpg_spec.specs.FrameHeader.{AreLimits};
-ghost use Rattle.jpg_file.specs.File.{HeadStands, NotesHead, RoomMade, Stands, TakesFileByte, TakesFileEnd, TakesFileHead, TakesFileStep, TakesSome, limits_of};
+ghost use Rattle.jpg_file.specs.File.{HeadStands, NotesHead, PassesFront, RoomMade, Stands, TakesFileByte, TakesFileEnd, TakesFileHead, TakesFileStep, TakesSome, limits_of};
 ghost use Rattle.jpg_file.specs.InData.{ArePlain};
 ghost use Rattle.jpg_file.specs.Reading.{IsOpenScan};
 
@@ -77,7 +77,25 @@ impl FileWork {
                 return self.run(&bytes[..n]);
             }
         }
-        (1, self.byte(bytes[0]))
+        let n = self.front(bytes);
+        (n + 1, self.byte(bytes[n]))
+    }
+
+    // Takes contents of a segment in work from the front of these bytes, the last of them and that of the segment
+    // left out, and reports how many they were.
+    fn front(&mut self, bytes: &[u8]) -> usize
+        requires stands { (bytes : List ℕ) × Stands (limits_of self.old) bytes self.old }
+        requires limits { AreLimits (limits_of self.old) }
+        requires room { self.old.reading.taken < (limits_of self.old).input }
+        requires some { 1 ≤ length bytes.now }
+        ensures { PassesFront self.old bytes.now result self.new }
+    {
+        if self.reading.scan.is_some() {
+            return 0;
+        }
+        let room = self.reading.items.limits.input - self.reading.taken;
+        let most = (bytes.len() as u64).min(room) as usize;
+        self.reading.contents(&bytes[..most - 1])
     }
 
     // Takes plain bytes inside the data of a scan.
@@ -95,7 +113,9 @@ impl FileWork {
         match step {
             ItemStep::More => (n, Ok(false)),
             ItemStep::Fault(fault) => (n, Err(Stop::Fault(fault))),
-            _ => (n, Err(Stop::NoMemory)),
+            ItemStep::Head => unreachable!(),
+            ItemStep::Eoi => unreachable!(),
+            ItemStep::NoMemory => unreachable!(),
         }
     }
 
@@ -115,6 +135,8 @@ impl FileWork {
     }
 
     // Takes a scan header that is whole.
+    #[cold]
+    #[inline(never)]
     fn take_head(&mut self) -> Result<bool, Stop>
         requires stands { (bytes : List ℕ) × HeadStands (limits_of self.old) bytes self.old }
         ensures after { TakesFileHead self.old result self.new }
@@ -129,7 +151,9 @@ impl FileWork {
                 Ok(false)
             }
             ItemStep::Fault(fault) => Err(Stop::Fault(fault)),
-            _ => Err(Stop::NoMemory),
+            ItemStep::Head => unreachable!(),
+            ItemStep::Eoi => unreachable!(),
+            ItemStep::NoMemory => unreachable!(),
         }
     }
 
@@ -179,6 +203,7 @@ fn plain_length(bytes: &[u8], most: u64) -> usize
     ensures few { result < 4294967296 }
     ensures room { result ≤ most }
     ensures plain { (k : ℕ) → k < result → slice_index bytes.now k ≡ 255 → ⊥ }
+    ensures stops { result < length bytes.now → result < most → result < 4294967295 → slice_index bytes.now result ≡ 255 }
 {
     let most = most.min(0xffff_ffff).min(bytes.len() as u64) as usize;
     match memchr(0xff, &bytes[..most]) {

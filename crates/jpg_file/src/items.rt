@@ -6,10 +6,10 @@ ghost use Rattle.jpg_spec.specs.Items.{Item};
 ghost use Rattle.jpg_spec.specs.FileMeaning.{no_blocks};
 ghost use Rattle.jpg_spec.specs.declared.frame.Limits.{Limits as Bounded};
 ghost use Rattle.jpg_markers.specs.Reading.{reading_of};
-ghost use Rattle.jpg_file.specs.Items.{BetweenItems, BehindHead, BehindSegment, JudgesSegment, PassesHead, TakesItemByte, TakesMarker};
+ghost use Rattle.jpg_file.specs.Items.{BetweenItems, BehindHead, BehindSegment, JudgesSegment, PassesHead, PassesItems, TakesItemByte, TakesMarker};
 
 use crate::held::{Held, Took};
-use jpg_base::{Limits, Stop};
+use jpg_base::{Limits, NoMemory, Stop};
 use jpg_markers::{SegStep, SegmentReader};
 use jpg_spec::FaultAt;
 use std::alloc::Global;
@@ -70,6 +70,20 @@ impl Items {
         }
     }
 
+    /// Takes contents of the segment in work from the front of these bytes, all that are due before its last
+    /// byte, and reports how many they were: none where no contents are due, or where they find no memory.
+    pub fn contents(&mut self, bytes: &[u8]) -> usize
+        requires same { (reading_of self.old.segments).limits ≡ self.old.limits }
+        requires room { (reading_of self.old.segments).taken + length bytes.now ≤ self.old.limits.input }
+        ensures few { result ≤ length bytes.now }
+        ensures after { PassesItems self.old bytes.now result self.new }
+    {
+        match self.segments.stretch(bytes) {
+            Ok(n) => n,
+            Err(NoMemory) => 0,
+        }
+    }
+
     /// Takes the marker that ended a scan's data, whose code is byte number `at` of the file.
     pub fn marker(&mut self, code: u8, at: u64) -> ItemStep
         requires stands { (items : List Item) × (contents : List ℕ) × BehindHead self.old.limits items contents self.old }
@@ -101,6 +115,8 @@ impl Items {
     }
 
     // Judges a segment that is whole.
+    #[cold]
+    #[inline(never)]
     fn segment(&mut self) -> ItemStep
         requires limits { AreLimits self.old.limits }
         requires short { length (reading_of self.old.segments).contents ≤ 65533 }

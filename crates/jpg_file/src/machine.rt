@@ -1,17 +1,18 @@
 //! The machine that reads a scan, whichever kind it is of (T.81, F.2.2, G.2).
-ghost use Rattle.std.specs.Prelude.{◌≡◌, ◌<◌, ◌≤◌, Bool, List, length};
+ghost use Rattle.std.specs.Prelude.{◌≡◌, ◌<◌, ◌≤◌, ◌*◌, Bool, List, length, drop};
+ghost use Rattle.jpg_spec.specs.Bits.{bits_of_bytes};
 ghost use Rattle.jpg_coefs.specs.Machine.{Interval};
 ghost use Rattle.jpg_file.specs.Data.{GivesRun};
 ghost use Rattle.jpg_file.specs.Machine.{any_scan};
-ghost use Rattle.jpg_file.specs.NewScan.{IsOfHeader, IsScanHeader};
+ghost use Rattle.jpg_file.specs.NewScan.{IsBareScan, IsOfHeader, IsScanHeader};
+ghost use Rattle.jpg_file.specs.RowMachine.{CanRead, IsInside, PassesRow, TakesRowBits};
 
 use crate::data::{DataStep, take_bytes, take_run};
-use crate::held::is_progressive;
 use jpg_base::{BitStore, Frame, ScanHead};
 use jpg_coefs::{Coefs, ScanMachine, Taken, UnitFault, UnitStep};
 use jpg_huff::TableSet;
 use jpg_prog_read::{AcReader, DcFirst, DcRefine};
-use jpg_seq::SeqReader;
+use jpg_seq::{BytesTaken, SeqReader};
 
 /// A machine that reads a scan, by its kind.
 #[derive(Drop)]
@@ -27,19 +28,19 @@ pub enum ScanReader {
 }
 
 impl ScanReader {
-    /// Before the first unit of the scan with this header, between intervals.
-    pub fn of(frame: &Frame, head: &ScanHead, tables: &TableSet) -> ScanReader
-        requires { IsScanHeader frame.now head.now tables.now }
-        ensures { (i : Interval) → IsOfHeader frame.now head.now tables.now i → any_scan.ready result i }
+    /// Puts in the tables that the header names, where they weren't yet.
+    #[cold]
+    #[inline(never)]
+    pub fn put_tables(&mut self, frame: &Frame, head: &ScanHead, tables: &TableSet)
+        requires header { IsScanHeader frame.now head.now tables.now }
+        requires bare { IsBareScan frame.now head.now tables.now self.old }
+        ensures { (i : Interval) → IsOfHeader frame.now head.now tables.now i → any_scan.ready self.new i }
     {
-        if !is_progressive(frame) {
-            ScanReader::Sequential(SeqReader::new(frame, head, tables))
-        } else if head.ss > 0 {
-            ScanReader::Ac(AcReader::new(frame, head, tables))
-        } else if head.ah > 0 {
-            ScanReader::DcRefine(DcRefine::new(frame, head))
-        } else {
-            ScanReader::DcFirst(DcFirst::new(frame, head, tables))
+        match self {
+            ScanReader::Sequential(machine) => machine.put_tables(frame, head, tables),
+            ScanReader::DcFirst(machine) => machine.put_tables(frame, head, tables),
+            ScanReader::DcRefine(_) => {}
+            ScanReader::Ac(_) => {}
         }
     }
 
@@ -58,6 +59,57 @@ impl ScanReader {
             ScanReader::DcFirst(machine) => take_run(machine, coefs, bytes),
             ScanReader::DcRefine(machine) => take_run(machine, coefs, bytes),
             ScanReader::Ac(machine) => take_run(machine, coefs, bytes),
+        }
+    }
+}
+
+impl ScanReader {
+    /// Takes bits from the front of the store, while an MCU row of a sequential scan is read: its blocks begin at these rows of the
+    /// components' grids, and the next `most` units lie in it.
+    #[inline]
+    pub fn bits_in_row(
+        &mut self,
+        store: &mut BitStore,
+        row: &mut Coefs,
+        tops: &[u32; 4],
+        most: u64,
+    ) -> Taken
+        requires open { CanRead tops.now self.old row.old }
+        requires inside { IsInside tops.now row.old most self.old }
+        requires some { 1 ≤ most }
+        ensures takes { TakesRowBits most tops.now self.old row.old store.old result self.new row.new store.new }
+        ensures passes { PassesRow most self.old result self.new }
+    {
+        match self {
+            ScanReader::Sequential(machine) => machine.bits_in_row(store, row, tops, most),
+            ScanReader::DcFirst(_) => unreachable!(),
+            ScanReader::DcRefine(_) => unreachable!(),
+            ScanReader::Ac(_) => unreachable!(),
+        }
+    }
+
+    /// Takes the bits of plain bytes likewise, and tells how many bits were taken.
+    #[inline]
+    pub fn bytes_in_row(
+        &mut self,
+        bytes: &[u8],
+        row: &mut Coefs,
+        tops: &[u32; 4],
+        most: u64,
+    ) -> BytesTaken
+        requires open { CanRead tops.now self.old row.old }
+        requires inside { IsInside tops.now row.old most self.old }
+        requires some { 1 ≤ most }
+        requires few { length bytes.now < 4294967296 }
+        ensures takes { TakesRowBits most tops.now self.old row.old (bits_of_bytes bytes.now) result.taken self.new row.new (drop result.bits (bits_of_bytes bytes.now)) }
+        ensures within { result.bits ≤ 8 * length bytes.now }
+        ensures passes { PassesRow most self.old result.taken self.new }
+    {
+        match self {
+            ScanReader::Sequential(machine) => machine.bytes_in_row(bytes, row, tops, most),
+            ScanReader::DcFirst(_) => unreachable!(),
+            ScanReader::DcRefine(_) => unreachable!(),
+            ScanReader::Ac(_) => unreachable!(),
         }
     }
 }

@@ -1,15 +1,6 @@
-// The picture of a whole file (T.81, B.2.1).
-ghost use Rattle.std.specs.Prelude.{◌≡◌, ◌<◌, ℕ, List, [], false, is_none, length, slice_index_or, unwrap_or};
-ghost use Rattle.jpg_spec.specs.QuantContents.{quant_in};
-ghost use Rattle.jpg_spec.specs.declared.frame.Limits.{Limits};
-ghost use Rattle.jpg_file.specs.File.{EndsFile};
-ghost use Rattle.jpg_file.specs.PictureRead.{IsPicture, ShowsFile};
+// A picture, and what its type keeps (T.81, B.2.1).
+ghost use Rattle.jpg_file.specs.PictureKept.{ArePictureParts};
 
-use crate::begun::Begun;
-use crate::file::FileWork;
-use crate::head::colours;
-use crate::held::Held;
-use crate::reading::Reading;
 use arrayvec::ArrayVec;
 use jpg_base::{Frame, QuantTable};
 use jpg_coefs::Coefs;
@@ -17,7 +8,9 @@ use jpg_markers::{Jfif, KeptList};
 use jpg_spec::Colour;
 
 /// What a whole file tells: its frame and colours, the quantisation table of each component at its first
-/// scan, all coefficients, the markers that are kept, and the last JFIF header.
+/// scan, all coefficients, the markers that are kept, and the last JFIF header. Each picture keeps that it has one
+/// table for each component, without zeros, that its coefficients lie in the frame's grids and bounds, and that its
+/// colours and its JFIF header are those that its components and kept markers tell.
 #[derive(Drop)]
 pub struct Picture {
     pub frame: Frame,
@@ -26,53 +19,5 @@ pub struct Picture {
     pub coefs: Coefs,
     pub kept: KeptList,
     pub jfif: Jfif,
-}
-
-/// The picture of a file that is whole.
-pub fn picture_of(file: FileWork) -> Picture
-    requires { (limits : Limits) × (bytes : List ℕ) × EndsFile limits bytes file }
-    ensures file { ShowsFile file result }
-    ensures picture { IsPicture result }
-{
-    let FileWork { reading, begun, .. } = file;
-    let Reading { items, coefs, .. } = reading;
-    let Held {
-        frame,
-        kept,
-        jfif,
-        ..
-    } = items.held;
-    let Some(frame) = frame else {
-        unreachable!();
-    };
-    frame.checked();
-    let Some(coefs) = coefs else {
-        unreachable!();
-    };
-    let colour = colours(&frame, &jfif, &kept);
-    let quants = tables_of(&frame, &begun);
-    Picture {
-        frame,
-        colour,
-        quants,
-        coefs,
-        kept,
-        jfif,
-    }
-}
-
-// The table of each component.
-fn tables_of(frame: &Frame, begun: &Begun) -> ArrayVec<QuantTable, 4>
-    requires { (i : ℕ) → i < length frame.now.components → is_none (quant_in begun.now.quants i) ≡ false }
-    ensures count { length result.items ≡ length frame.now.components }
-    ensures tables { (i : ℕ) → i < length frame.now.components → slice_index_or result.items i [] ≡ unwrap_or (quant_in begun.now.quants i) [] }
-{
-    let mut tables = ArrayVec::new();
-    for i in 0..frame.count() {
-        let Some(table) = begun.quants[i as usize] else {
-            unreachable!();
-        };
-        tables.push(table);
-    }
-    tables
+    pub ghost keeps: { ArePictureParts (record { frame = frame; colour = colour; quants = quants.items; coefs = coefs; kept = kept; jfif = jfif }) },
 }

@@ -1,14 +1,15 @@
 // A whole file, fed in pieces of any length (T.81, B.2.1).
-ghost use Rattle.std.specs.Prelude.{◌≡◌, ◌<◌, length, [], ℕ, List, Some, None, true, false, Ok, Err};
+ghost use Rattle.std.specs.Prelude.{◌≡◌, ◌<◌, ◌+◌, ◌-◌, length, [], ℕ, List, Some, None, true, false, Ok, Err};
 ghost use Rattle.jpg_spec.specs.FrameHeader.{AreLimits};
 ghost use Rattle.jpg_base.specs.declared.stop.Stop.{Stop as Stopped};
 ghost use Rattle.jpg_file.specs.File.{Stands};
-ghost use Rattle.jpg_file.specs.PictureRead.{IsPicture, TakesPicture};
+ghost use Rattle.jpg_file.specs.PictureRead.{TakesPicture};
 ghost use Rattle.jpg_file.specs.ReadFile.{EndsDone, FeedsFile, HasRead, ReadsPiece, StopsAt, head_seen};
 
 use crate::ends::{too_long, truncated};
 use crate::file::FileWork;
-use crate::picture::{Picture, picture_of};
+use crate::picture::Picture;
+use crate::picture_taken::picture_of;
 use jpg_base::{Fed, Frame, Limits, Stop};
 use jpg_spec::Colour;
 use std::alloc::Global;
@@ -73,6 +74,14 @@ impl Reader {
         answer
     }
 
+    /// How many bytes more may be taken: the most of the limits without those that were taken.
+    pub fn room(&self) -> u64
+        ensures is { result ≡ self.now.limits.input - self.now.file.reading.taken }
+        ensures left { (bytes : List ℕ) → HasRead bytes self.now → result + length bytes ≡ self.now.limits.input }
+    {
+        self.limits.input.saturating_sub(self.file.reading.taken)
+    }
+
     /// Whether the file is whole, so that neither `feed` nor `end` may be called any more.
     pub fn is_done(&self) -> bool
         ensures { result ≡ self.now.done }
@@ -86,6 +95,7 @@ impl Reader {
         requires { self.old.done ≡ false }
         ensures answered { (bytes : List ℕ) → HasRead bytes self.old → StopsAt self.old.limits bytes result }
         ensures done { self.new.done ≡ false }
+        ensures file { self.new.file ≡ self.old.file }
         ensures stopped { self.new.stop ≡ Some result }
         ensures again { (stop : Stopped) → self.old.stop ≡ Some stop → (result ≡ stop) × (self.new ≡ self.old) }
         ensures limits { self.new.limits ≡ self.old.limits }
@@ -112,8 +122,7 @@ impl Reader {
     /// The picture of the whole file. It may be called where `feed` answered Done alone (`is_done`).
     pub fn take(self) -> Picture
         requires { self.done ≡ true }
-        ensures meaning { TakesPicture self result }
-        ensures picture { IsPicture result }
+        ensures { TakesPicture self result }
     {
         picture_of(self.file)
     }

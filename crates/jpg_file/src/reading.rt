@@ -4,10 +4,11 @@ ghost use Rattle.jpg_spec.specs.FrameHeader.{AreLimits};
 ghost use Rattle.jpg_spec.specs.Scan.{Blocks};
 ghost use Rattle.jpg_spec.specs.Items.{Item};
 ghost use Rattle.jpg_spec.specs.declared.frame.Limits.{Limits as Bounded};
-ghost use Rattle.jpg_file.specs.Reading.{HeadWhole, IsOpenScan, Itemising, Scanning, TakesByteOfItems, TakesByteOfScan, TakesHead, TakesRunOfScan};
+ghost use Rattle.jpg_markers.specs.Reading.{reading_of};
+ghost use Rattle.jpg_file.specs.Reading.{GoesOn, HeadWhole, IsOpenScan, Itemising, PassesReading, Scanning, TakesByteOfItems, TakesByteOfScan, TakesHead, TakesRunOfScan, has_open};
 ghost use Rattle.jpg_file.specs.InData.{ArePlain};
 
-use crate::begin::begin_scan;
+use crate::begin::begin_data;
 use crate::begun::Begun;
 use crate::items::{ItemStep, Items};
 use crate::judge::judge_head;
@@ -47,17 +48,17 @@ impl Reading {
             Err(fault) => ItemStep::Fault(FaultAt { fault, at }),
             Ok(head) => {
                 frame.checked();
-                let scan = begin_scan(
+                coefs.checked();
+                begin_data(
+                    &mut self.scan,
                     &frame,
                     &head,
                     &self.items.held.tables,
                     self.items.held.interval,
-                    coefs,
                 );
                 let parts = head.parts.as_slice();
                 begun.note_quants(parts, &frame, &self.items.held.quants);
                 begun.note(&frame, &head);
-                self.scan = Some(scan);
                 self.items.head_done();
                 ItemStep::More
             }
@@ -74,6 +75,20 @@ impl Reading {
     {
         self.taken += 1;
         self.items.byte(byte)
+    }
+
+    /// Takes contents of a segment in work from the front of these bytes, all that are due before its last byte,
+    /// and reports how many they were.
+    pub fn contents(&mut self, bytes: &[u8]) -> usize
+        requires same { (reading_of self.old.items.segments).limits ≡ self.old.items.limits }
+        requires count { (reading_of self.old.items.segments).taken ≡ self.old.taken }
+        requires room { self.old.taken + length bytes.now ≤ self.old.items.limits.input }
+        requires limits { AreLimits self.old.items.limits }
+        ensures { PassesReading self.old bytes.now result self.new }
+    {
+        let n = self.items.contents(bytes);
+        self.taken += n as u64;
+        n
     }
 
     /// Takes a byte inside the data of a scan.
@@ -103,7 +118,8 @@ impl Reading {
 
     /// Whether plain bytes of a scan may be taken behind one another.
     pub fn is_open(&self) -> bool
-        ensures { result ≡ true → IsOpenScan self.now }
+        ensures is { result ≡ has_open self.now.scan }
+        ensures opened { result ≡ true → IsOpenScan self.now }
     {
         match &self.scan {
             Some(scan) => scan.is_open(),
@@ -121,7 +137,8 @@ impl Reading {
         requires some { 1 ≤ length run.now }
         requires few { length run.now < 4294967296 }
         requires plain { ArePlain run.now }
-        ensures { TakesRunOfScan self.old run.now result.0 result.1 self.new }
+        ensures after { TakesRunOfScan self.old run.now result.0 result.1 self.new }
+        ensures goes { GoesOn result.1 }
     {
         let Some(coefs) = &mut self.coefs else {
             unreachable!();

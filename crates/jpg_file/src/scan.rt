@@ -1,9 +1,10 @@
 // The data of a scan, read byte by byte (T.81, B.1.1.5, E.1.4).
-ghost use Rattle.std.specs.Prelude.{◌≡◌, ◌<◌, ◌≤◌, false, true, ℕ, List, [], ◌∷◌, ◌++◌, length};
+ghost use Rattle.std.specs.Prelude.{◌≡◌, ◌<◌, ◌≤◌, ◌&&◌, not, false, true, ℕ, List, [], ◌∷◌, ◌++◌, length};
 ghost use Rattle.jpg_spec.specs.Items.{Item};
 ghost use Rattle.jpg_spec.specs.ScanReading.{ScanPlace, ScanAt, with_byte};
 ghost use Rattle.jpg_spec.specs.declared.frame.Limits.{Limits};
 ghost use Rattle.jpg_coefs.specs.Machine.{fault_of};
+ghost use Rattle.jpg_coefs.specs.Picture.{Picture};
 ghost use Rattle.jpg_file.specs.declared.scan.ScanStep.TheVariants as answer;
 ghost use Rattle.jpg_file.specs.InData.{ArePlain, AtWork, GoesInside, IsInside, MarkerAt, NextBegins, TakesCode, TakesData, TakesRun, TakesScanByte};
 
@@ -42,8 +43,8 @@ pub enum ScanStep {
     Fault(Fault),
 }
 
-// The fault of a unit among those of files.
-fn named(fault: UnitFault) -> Fault
+/// The fault of a unit among those of files.
+pub fn named(fault: UnitFault) -> Fault
     ensures { result ≡ fault_of fault }
 {
     match fault {
@@ -65,7 +66,7 @@ impl InScan {
         match self.gate.byte(byte) {
             Passed::More => ScanStep::More,
             Passed::Data(data) => self.work.data(coefs, data),
-            Passed::Marker(code) => self.work.marker(coefs, code),
+            Passed::Marker(code) => self.work.marker(code),
         }
     }
 }
@@ -73,6 +74,7 @@ impl InScan {
 impl InScan {
     /// Whether plain bytes may be taken behind one another: no FF waits, and units are due.
     pub fn is_open(&self) -> bool
+        ensures is { result ≡ (not self.now.gate && not self.now.work.whole) }
         ensures gate { result ≡ true → self.now.gate ≡ false }
         ensures due { result ≡ true → self.now.work.whole ≡ false }
     {
@@ -132,10 +134,10 @@ impl ScanWork {
         }
     }
 
-    // Takes a marker's code.
-    fn marker(&mut self, coefs: &Coefs, code: u8) -> ScanStep
-        requires { (limits : Limits) × (p : ScanPlace) × (bytes : List ℕ) × MarkerAt limits bytes p code self.old coefs.now }
-        ensures { TakesCode self.old coefs.now code result self.new }
+    /// Takes a marker's code, whatever picture there is.
+    pub fn marker(&mut self, code: u8) -> ScanStep
+        requires { (limits : Limits) × (p : ScanPlace) × (bytes : List ℕ) × (now : Picture) × MarkerAt limits bytes p code self.old now }
+        ensures { (now : Picture) → TakesCode self.old now code result self.new }
     {
         if !self.whole {
             ScanStep::Fault(Fault::EntropyShort)
@@ -144,15 +146,15 @@ impl ScanWork {
         } else if code != 0xd0 + self.turn {
             ScanStep::Fault(Fault::RestartWrong)
         } else {
-            self.next_interval(coefs);
+            self.next_interval();
             ScanStep::More
         }
     }
 
     // Begins the next interval.
-    fn next_interval(&mut self, coefs: &Coefs)
-        requires open { (limits : Limits) × (p : ScanPlace) × (bytes : List ℕ) × NextBegins limits bytes p self.old coefs.now }
-        ensures { (limits : Limits) (p : ScanPlace) (bytes : List ℕ) → NextBegins limits bytes p self.old coefs.now → AtWork limits p self.new coefs.now }
+    fn next_interval(&mut self)
+        requires open { (limits : Limits) × (p : ScanPlace) × (bytes : List ℕ) × (now : Picture) × NextBegins limits bytes p self.old now }
+        ensures { (limits : Limits) (p : ScanPlace) (bytes : List ℕ) (now : Picture) → NextBegins limits bytes p self.old now → AtWork limits p self.new now }
     {
         let units = self.interval.min(self.due);
         self.machine.restart(units);

@@ -1,6 +1,5 @@
 // What the rows of a picture are made from, beside blocks (T.81, B.2.2, B.2.4.1; JFIF 1.02).
 ghost use Rattle.std.specs.Prelude.{◌≡◌, ◌≤◌, length};
-ghost use Rattle.jpg_file.specs.PictureRead.{IsPicture};
 ghost use Rattle.jpg_file.specs.StripHead.{IsStripHead};
 
 use crate::picture::Picture;
@@ -22,7 +21,6 @@ pub struct StripHead {
 impl StripHead {
     /// That of a whole picture.
     pub fn of(picture: &Picture) -> StripHead
-        requires { IsPicture picture.now }
         ensures head { IsStripHead result }
         ensures frame { result.frame ≡ picture.now.frame }
         ensures colour { result.colour ≡ picture.now.colour }

@@ -1,9 +1,10 @@
 // A progressive scan of a file that is written (T.81, B.2.3, G.1.2).
 ghost use Rattle.std.specs.Prelude.{◌≡◌, ◌≤◌, ◌<◌, All, length, map, Ok};
 ghost use Rattle.jpg_spec.specs.FileText.{slot_for};
+ghost use Rattle.jpg_spec.specs.WrittenFile.{HasBlocksIn};
 ghost use Rattle.jpg_huff.specs.BitOut.{CanSend, Sends};
 ghost use Rattle.jpg_prog_write.specs.Counted.{HasSlots};
-ghost use Rattle.jpg_prog_write.specs.Written.{HasBaselineBlocks, IsProgScan};
+ghost use Rattle.jpg_prog_write.specs.Written.{IsProgScan};
 ghost use Rattle.jpg_file.specs.WriteProgScan.{CanWriteProgScan, IsFlatSet, prog_head, prog_interval_for, prog_part, prog_due, prog_tables_behind};
 ghost use Rattle.jpg_file.specs.WriteDue.{HasFour, given_by};
 
@@ -92,7 +93,7 @@ fn part_of(colour: Colour, has_dc: bool, has_ac: bool, component: u8) -> ScanPar
 fn flat_set<V: BlockView>(view: &V, head: &ScanHead, interval: u16) -> TableSet
     requires scan { IsProgScan (V.numbers view.now) head.now }
     requires slots { All HasSlots head.now.parts }
-    requires blocks { HasBaselineBlocks (V.numbers view.now) (V.blocks view.now) }
+    requires blocks { HasBlocksIn (V.numbers view.now) (V.blocks view.now) }
     ensures { IsFlatSet (V.numbers view.now) head.now interval (V.blocks view.now) result }
 {
     let used = count_scan(view, head, interval);

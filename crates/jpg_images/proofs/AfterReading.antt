@@ -11,7 +11,7 @@ use Rattle.jpg_spec.specs.Segments.{standard_limits}
 use Rattle.jpg_spec.specs.declared.fault.Fault.{Fault}
 use Rattle.jpg_spec.specs.declared.image.EndKind.{EndKind}
 use Rattle.jpg_spec.specs.declared.image.ImageKind.{ImageKind}
-use Rattle.jpg_file.specs.PictureRead.{IsPicture, picture_meaning}
+use Rattle.jpg_file.specs.PictureRead.{picture_meaning}
 use Rattle.jpg_file.specs.declared.picture.Picture.{Picture}
 use Rattle.jpg_color.specs.Admits.{admitted, kind_of, kind_or}
 use Rattle.jpg_color.specs.DecodeRows.{Decodes, picture_text}
@@ -26,9 +26,9 @@ use Rattle.jpg_images.specs.declared.shown.NotShown.{NotShown}
 use Rattle.jpg_images.specs.declared.shown.NotShown.TheVariants.{Refused, Out, Unwritten}
 use Rattle.jpg_images.specs.declared.shown.Way.{Way}
 
-same_fault : (p : Picture) (gray : Bool) → IsPicture p → out_fault gray (picture_meaning p) ≡ out_fault_of p.colour gray (factors_of p.frame)
-same_fault p gray is =
-    ap (λ f. out_fault_of (colour_of (picture_meaning p)) gray f) (factors_same p) ∙ ap (λ c. out_fault_of c gray (factors_of p.frame)) (sym is.colour)
+same_fault : (p : Picture) (gray : Bool) → out_fault gray (picture_meaning p) ≡ out_fault_of p.colour gray (factors_of p.frame)
+same_fault p gray =
+    ap (λ f. out_fault_of (colour_of (picture_meaning p)) gray f) (factors_same p) ∙ ap (λ c. out_fault_of c gray (factors_of p.frame)) (sym p.keeps.colour)
 
 fault_told : (o : Option Fault) (kind : ImageKind) (fault : Fault) → kind_or o kind ≡ Err fault → o ≡ Some fault
 fault_told None kind fault e = cc
@@ -37,16 +37,16 @@ fault_told (Some told) kind fault e = ap Some (once told fault e)
     once : (x y : Fault) → (let r : Result ImageKind Fault = Err x in r) ≡ Err y → x ≡ y
     once x y same = cc
 
-pub admitted_picture : (p : Picture) (gray : Bool) (kind : ImageKind) → IsPicture p → Ok kind ≡ admitted p.colour gray (factors_of p.frame) → out_fault gray (picture_meaning p) ≡ None
-admitted_picture p gray kind is e = same_fault p gray is ∙ (no_fault_told (out_fault_of p.colour gray (factors_of p.frame)) (kind_of p.colour gray) kind (sym e)).0
+pub admitted_picture : (p : Picture) (gray : Bool) (kind : ImageKind) → Ok kind ≡ admitted p.colour gray (factors_of p.frame) → out_fault gray (picture_meaning p) ≡ None
+admitted_picture p gray kind e = same_fault p gray ∙ (no_fault_told (out_fault_of p.colour gray (factors_of p.frame)) (kind_of p.colour gray) kind (sym e)).0
 
 pub refused_file : (file : List ℕ) (kind : EndKind) (way : Way) (s : DeskState) (f : Stop) → IsPictureOf file (Err f) → Shows file kind way s (Err (Refused f)) s
 refused_file file kind way s (stop.Fault f) h = record { only = OnlyWrites-same s; after = (h, refl) }
 refused_file file kind way s stop.NoMemory h = record { only = OnlyWrites-same s; after = refl }
 
-pub refused_picture : (file : List ℕ) (kind : EndKind) (way : Way) (s : DeskState) (p : Picture) (fault : Fault) → IsPicture p → IsPictureOf file (Ok p)
+pub refused_picture : (file : List ℕ) (kind : EndKind) (way : Way) (s : DeskState) (p : Picture) (fault : Fault) → IsPictureOf file (Ok p)
     → Err fault ≡ admitted p.colour way.gray (factors_of p.frame) → Shows file kind way s (Err (Out fault)) s
-refused_picture file kind way s p fault is begins e =
+refused_picture file kind way s p fault begins e =
     record {
       only = OnlyWrites-same s;
       after = (
@@ -54,7 +54,7 @@ refused_picture file kind way s p fault is begins e =
           end = begins.0;
           meaning = picture_meaning p;
           whole = begins.1;
-          refused = same_fault p way.gray is ∙ fault_told (out_fault_of p.colour way.gray (factors_of p.frame)) (kind_of p.colour way.gray) fault (sym e);
+          refused = same_fault p way.gray ∙ fault_told (out_fault_of p.colour way.gray (factors_of p.frame)) (kind_of p.colour way.gray) fault (sym e);
         },
         refl,
       );

@@ -1,6 +1,7 @@
 -- What each further byte makes of the bytes that a reader of segments stands for.
-use Rattle.std.proofs.Common.{◌≡◌, ℕ, zero, suc, ◌+◌, ◌/◌, ◌%◌, ◌<◌, ◌≤◌, Bool, true, false, List, [], ◌∷◌, ◌++◌, length, replicate, Option, Some, None, Ok, refl, sym, ap, ◌∙◌, subst, arith, inl, inr}
-use Rattle.std.proofs.lemmas.List.{append_assoc, append-nil, length-append}
+use Rattle.std.proofs.Common.{◌≡◌, ℕ, zero, suc, ◌+◌, ◌-◌, ◌/◌, ◌%◌, ◌<◌, ◌≤◌, Bool, true, false, List, [], ◌∷◌, ◌++◌, length, take, replicate, Option, Some, None, Ok, refl, sym, ap, ◌∙◌, subst, arith, inl, inr}
+use Rattle.std.proofs.lemmas.List.{append_assoc, append-nil, length-append, length-take-le}
+use Rattle.std.specs.Prelude.{min}
 use Rattle.std.specs.Int.{to_be_bytes, w16}
 use Rattle.jpg_spec.specs.Segments.{two_bytes}
 use Rattle.jpg_spec.specs.Markers.{Segment, Rule, soi, SpellsMarker, SpellsSegment, SpellsSegments, code_fault, code_fault_if, is_frame_code, kept_rule, Pass, Between, BeginsSegment, SegmentsShow, Reaches, at_eoi}
@@ -11,7 +12,7 @@ use Rattle.jpg_markers.specs.declared.segments.Phase.{Phase}
 use Rattle.jpg_markers.specs.declared.segments.Phase.TheVariants as phase
 use Rattle.jpg_markers.specs.declared.segments.SegStep.TheVariants as step
 use Rattle.jpg_markers.specs.Seen.{HasSeen}
-use Rattle.jpg_markers.specs.Reading.{Reading, AtPhase, StandsFor, HasWholeSegment, ShowsBehind, EndsBehind, Comes}
+use Rattle.jpg_markers.specs.Reading.{Reading, AtPhase, StandsFor, HasWholeSegment, ShowsBehind, EndsBehind, Comes, due_before_last, with_contents}
 
 -- BETWEEN segments
 
@@ -200,8 +201,57 @@ low_whole r bytes before byte e s small two =
 
 -- THE CONTENTS
 
+grown_by : (high low : ℕ) (marker contents tail more : List ℕ) → tail ≡ marker ++ high ∷ low ∷ contents → tail ++ more ≡ marker ++ high ∷ low ∷ (contents ++ more)
+grown_by high low marker contents tail more e = ap (λ (t : List ℕ). t ++ more) e ∙ append_assoc marker (high ∷ low ∷ contents) more
+
 grown : (high low byte : ℕ) (marker contents tail : List ℕ) → tail ≡ marker ++ high ∷ low ∷ contents → tail ++ byte ∷ [] ≡ marker ++ high ∷ low ∷ (contents ++ byte ∷ [])
-grown high low byte marker contents tail e = ap (λ (t : List ℕ). t ++ byte ∷ []) e ∙ append_assoc marker (high ∷ low ∷ contents) (byte ∷ [])
+grown high low byte marker contents tail e = grown_by high low marker contents tail (byte ∷ []) e
+
+-- some of them at once, the last one left out
+contents_more : (r : Reading) (bytes : List ℕ) (before : List Segment) (more : List ℕ) → r.phase ≡ phase.Contents → StandsFor bytes before r → length more + 1 ≤ r.left → StandsFor (bytes ++ more) before (with_contents r more)
+contents_more r bytes before more e s few =
+    let (tail, between, seen, (marker, high, low, begins, is, h, l, long, least)) = at_is r phase.Contents bytes before e s in
+    let next = further (kept_rule r.limits) bytes before tail more between in
+    let cut = grown_by high low marker r.contents tail more is in
+    let sum = length-append r.contents more in
+    let all : length (r.contents ++ more) + (r.left - length more) + 2 ≡ two_bytes high low = omega (arith, long, few, sum) in
+    let some : 1 ≤ r.left - length more = omega (arith, few) in
+    let P : Phase → Type 0 = λ p. AtPhase (with_contents r more) p (bytes ++ more) before in
+    (s.0, subst P (sym e) (tail ++ more, next, seen, (marker, high, low, begins, cut, h, l, all, some)))
+
+-- none of them
+none_more : (r : Reading) (bytes : List ℕ) (before : List Segment) → StandsFor bytes before r → StandsFor (bytes ++ []) before (with_contents r [])
+none_more r bytes before s =
+    let taken : r.taken ≡ r.taken + 0 = omega arith in
+    let left : r.left ≡ r.left - 0 = omega arith in
+    subst (λ (b : List ℕ). StandsFor b before (with_contents r [])) (sym (append-nil bytes))
+    (subst (λ (n : ℕ). StandsFor bytes before (record r { taken = n; left = r.left - 0; contents = r.contents ++ [] })) taken
+    (subst (λ (n : ℕ). StandsFor bytes before (record r { left = n; contents = r.contents ++ [] })) left
+    (subst (λ (xs : List ℕ). StandsFor bytes before (record r { contents = xs })) (sym (append-nil r.contents)) s)))
+
+-- as many as are due, at most all
+stretch_stands : (r : Reading) (bytes : List ℕ) (before : List Segment) (piece : List ℕ) (n : ℕ) → n ≡ min (due_before_last r.phase r.left) (length piece) → StandsFor bytes before r → StandsFor (bytes ++ take n piece) before (with_contents r (take n piece))
+stretch_stands r bytes before piece n is s = by r.phase refl
+  where
+    idle : (p : Phase) → r.phase ≡ p → due_before_last p r.left ≡ 0 → StandsFor (bytes ++ take n piece) before (with_contents r (take n piece))
+    idle p e none =
+        let m : n ≡ min 0 (length piece) = is ∙ ap (λ q. min (due_before_last q r.left) (length piece)) e ∙ ap (λ (m : ℕ). min m (length piece)) none in
+        let z : n ≡ 0 = omega (arith, m) in
+        subst (λ (m : ℕ). StandsFor (bytes ++ take m piece) before (with_contents r (take m piece))) (sym z) (none_more r bytes before s)
+
+    by : (p : Phase) → r.phase ≡ p → StandsFor (bytes ++ take n piece) before (with_contents r (take n piece))
+    by phase.Empty e = idle phase.Empty e refl
+    by phase.HalfStart e = idle phase.HalfStart e refl
+    by phase.Between e = idle phase.Between e refl
+    by phase.Fill e = idle phase.Fill e refl
+    by phase.Coded e = idle phase.Coded e refl
+    by phase.HalfLength e = idle phase.HalfLength e refl
+    by phase.Ended e = idle phase.Ended e refl
+    by phase.Contents e =
+        let (tail, between, seen, (marker, high, low, begins, cut, h, l, long, least)) = at_is r phase.Contents bytes before e s in
+        let m : n ≡ min (r.left - 1) (length piece) = is ∙ ap (λ q. min (due_before_last q r.left) (length piece)) e in
+        let size = length-take-le n piece (omega (arith, m)) in
+        contents_more r bytes before (take n piece) e s (omega (arith, m, size, least))
 
 pub content_more : (r : Reading) (bytes : List ℕ) (before : List Segment) (byte left : ℕ) → r.phase ≡ phase.Contents → StandsFor bytes before r → left + 1 ≡ r.left → 1 ≤ left
     → Comes (bytes ++ byte ∷ []) before (Ok step.More) (record r { left = left; contents = r.contents ++ byte ∷ [] })
@@ -228,6 +278,13 @@ content_whole r bytes before byte e s last =
 pub contents_short : (r : Reading) (bytes : List ℕ) (before : List Segment) → r.phase ≡ phase.Contents → StandsFor bytes before r → length r.contents < 65533
 contents_short r bytes before e s =
     let (tail, between, seen, (marker, high, low, begins, is, h, l, long, least)) = at_is r phase.Contents bytes before e s in omega (arith, h, l, long, least)
+
+pub stretch_taken : (r : Reading) (bytes : List ℕ) (before : List Segment) (piece : List ℕ) (n : ℕ) (contents : List ℕ) → n ≡ min (due_before_last r.phase r.left) (length piece) → contents ≡ r.contents ++ take n piece → StandsFor bytes before r
+    → StandsFor (bytes ++ take n piece) before (record r { taken = r.taken + n; left = r.left - n; contents = contents })
+stretch_taken r bytes before piece n contents is grows s =
+    let size : length (take n piece) ≡ n = length-take-le n piece (omega (arith, is)) in
+    subst (λ (xs : List ℕ). StandsFor (bytes ++ take n piece) before (record r { taken = r.taken + n; left = r.left - n; contents = xs })) (sym grows)
+    (subst (λ (m : ℕ). StandsFor (bytes ++ take n piece) before (record r { taken = r.taken + m; left = r.left - m; contents = r.contents ++ take n piece })) size (stretch_stands r bytes before piece n is s))
 
 -- A WHOLE SEGMENT
 

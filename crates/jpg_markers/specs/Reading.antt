@@ -1,10 +1,11 @@
 -- What a reader of segments keeps of the bytes that it was given, and what they come to.
-use Rattle.std.specs.Prelude.{◌≡◌, ◌⊎◌, ℕ, suc, ◌+◌, ◌<◌, ◌≤◌, List, [], ◌∷◌, ◌++◌, length, replicate, Option, None, Result, Ok, Err, vec_capacity}
+use Rattle.std.specs.Prelude.{◌≡◌, ◌⊎◌, ℕ, suc, ◌+◌, ◌-◌, ◌<◌, ◌≤◌, min, take, List, [], ◌∷◌, ◌++◌, length, replicate, Option, None, Result, Ok, Err, vec_capacity}
 use Rattle.jpg_spec.specs.Segments.{two_bytes}
 use Rattle.jpg_spec.specs.Markers.{Segment, Rule, SpellsMarker, SpellsSegment, code_fault, kept_rule, Between, ShowsNoStart, NoMarkerBytes, TailShows, BeginsSegment, at_soi, at_frame, at_eoi, at_segment, at_fault, at_part, Reaches}
 use Rattle.jpg_spec.specs.declared.frame.Limits.{Limits}
 use Rattle.jpg_spec.specs.declared.fault.Fault.{Fault}
 use Rattle.jpg_spec.specs.declared.fault.Fault.TheVariants.{NotJpeg, NoMarker}
+use Rattle.jpg_base.specs.declared.names.NoMemory.{NoMemory}
 use Rattle.jpg_base.specs.declared.stop.Stop.{Stop}
 use Rattle.jpg_base.specs.declared.stop.Stop.TheVariants as stop
 use Rattle.jpg_markers.specs.declared.seen.Seen.{Seen}
@@ -154,3 +155,32 @@ pub record Stays (old new : SegmentReader) : Type 0 where
   pub taken : new.taken ≡ old.taken
   pub stop : new.stop ≡ old.stop
   pub room : HasRoom old → HasRoom new
+
+-- SOME BYTES of contents at once: how many are due before a segment's last one
+abbrev pub due_before_last : Phase → ℕ → ℕ
+due_before_last phase.Empty left = 0
+due_before_last phase.HalfStart left = 0
+due_before_last phase.Between left = 0
+due_before_last phase.Fill left = 0
+due_before_last phase.Coded left = 0
+due_before_last phase.HalfLength left = 0
+due_before_last phase.Contents left = left - 1
+due_before_last phase.Ended left = 0
+
+-- the reader with these bytes of contents more
+abbrev pub with_contents : Reading → List ℕ → Reading
+with_contents r more = record r { taken = r.taken + length more; left = r.left - length more; contents = r.contents ++ more }
+
+-- all that are due and given, or none where they find no memory
+abbrev pub AddsContents : Reading → List ℕ → Result ℕ NoMemory → Reading → Type 0
+AddsContents old bytes (Ok n) new =
+    (n ≡ min (due_before_last old.phase old.left) (length bytes)) × (new ≡ with_contents old (take n bytes))
+AddsContents old bytes (Err e) new = new ≡ old
+
+-- For all bytes that it stood for it stands for these and those that were taken, as if `byte` had answered More to each.
+abbrev pub PassesBytes : Reading → List ℕ → Reading → Type 0
+PassesBytes old more new = (bytes : List ℕ) (before : List Segment) → StandsFor bytes before old → StandsFor (bytes ++ more) before new
+
+abbrev pub PassesContents : Reading → List ℕ → Result ℕ NoMemory → Reading → Type 0
+PassesContents old bytes (Ok n) new = PassesBytes old (take n bytes) new
+PassesContents old bytes (Err e) new = Unit {0}

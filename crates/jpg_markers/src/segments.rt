@@ -1,11 +1,11 @@
 // The segments of a file, read byte by byte (T.81, B.1.1).
-ghost use Rattle.std.specs.Prelude.{◌≡◌, ◌≤◌, ◌<◌, ◌+◌, ℕ, List, [], ◌∷◌, None, Some, Err, IfOk, IfErr};
+ghost use Rattle.std.specs.Prelude.{◌≡◌, ◌≤◌, ◌<◌, ◌+◌, ℕ, List, [], ◌∷◌, length, None, Some, Err, IfOk, IfErr};
 ghost use Rattle.jpg_spec.specs.FrameHeader.{AreLimits};
 ghost use Rattle.jpg_spec.specs.Markers.{Segment};
 ghost use Rattle.jpg_base.specs.declared.stop.Stop.{Stop as Stopped};
 ghost use Rattle.jpg_base.specs.declared.stop.Stop.TheVariants as stop;
 ghost use Rattle.jpg_markers.specs.declared.segments.Phase.TheVariants as phase;
-ghost use Rattle.jpg_markers.specs.Reading.{reading_of, BehindWhole, StandsFor, Comes, Goes, HasRoom, IsBehindScan, HaltsNot, NotWanting, Stays, ComesWith, GoesWith, GoesWhole};
+ghost use Rattle.jpg_markers.specs.Reading.{reading_of, BehindWhole, StandsFor, AddsContents, Comes, PassesContents, due_before_last, Goes, HasRoom, IsBehindScan, HaltsNot, NotWanting, Stays, ComesWith, GoesWith, GoesWhole};
 
 use crate::seen::{Seen, code_fault, is_frame_code};
 use byteorder::{BigEndian, ByteOrder};
@@ -131,6 +131,43 @@ impl SegmentReader {
         self.taken = at;
         let next = self.code_byte(code);
         self.answer(next)
+    }
+
+    /// Takes contents of the segment in work from the front of these bytes, all that are due before its last
+    /// byte, and reports how many they were: none where no contents are due. It is as if `byte` were given them
+    /// one by one, which would answer More to each. Out of memory it changes nothing.
+    pub fn stretch(&mut self, bytes: &[u8]) -> Result<usize, NoMemory>
+        requires { (reading_of self.old).taken + length bytes.now ≤ (reading_of self.old).limits.input }
+        ensures added { AddsContents (reading_of self.old) bytes.now result (reading_of self.new) }
+        ensures stands { PassesContents (reading_of self.old) bytes.now result (reading_of self.new) }
+        ensures room { HasRoom self.old → HasRoom self.new }
+    {
+        let n = self.due().min(bytes.len());
+        match self.contents.extend_from_slice(&bytes[..n]) {
+            Ok(()) => {
+                self.left -= n as u16;
+                self.taken += n as u64;
+                Ok(n)
+            }
+            Err(_) => Err(NoMemory),
+        }
+    }
+
+    // How many bytes of contents are due before the last one.
+    fn due(&self) -> usize
+        ensures is { result ≡ due_before_last self.now.phase self.now.left }
+        ensures few { result ≤ self.now.left }
+    {
+        match self.phase {
+            Phase::Contents => self.left.saturating_sub(1) as usize,
+            Phase::Empty => 0,
+            Phase::HalfStart => 0,
+            Phase::Between => 0,
+            Phase::Fill => 0,
+            Phase::Coded => 0,
+            Phase::HalfLength => 0,
+            Phase::Ended => 0,
+        }
     }
 
     /// Makes room for the contents of one segment of any length. It changes nothing else, and after

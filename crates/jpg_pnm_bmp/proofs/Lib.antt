@@ -4,3 +4,9 @@ pub mod FileSize
 pub mod HeldRows
 pub mod TurnedRound
 pub mod Written
+pub mod Advance
+pub mod DueNumbers
+pub mod EndRead
+pub mod NumberEnded
+pub mod PiecesRead
+pub mod Stretch

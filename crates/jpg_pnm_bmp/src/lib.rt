@@ -3,15 +3,22 @@
 
 mod bmp;
 mod bmp_header;
+mod bmp_read;
 mod bmp_row;
+mod body;
 mod end;
 mod laws;
+mod numbers;
+mod piece;
 mod pnm;
 mod short;
+mod work;
 
 pub use bmp::BmpEnd;
 pub use end::{Finish, ImageEnd};
 pub use jpg_base::{Bytes, NoMemory};
 pub use jpg_spec::{EndKind, ImageInfo, ImageKind};
 pub use laws::images_are_written_whole;
+pub use piece::{Fed2, end_here, read_piece};
 pub use pnm::PnmEnd;
+pub use work::Work;

@@ -36,7 +36,7 @@ in_unit_behind m bits t now i so_far e x s = in_unit_of (with_band m t) i (so_fa
 
 -- the last one of them
 fault_step : (m : AcReader) (bits : List Bool) (f : UnitFault) (new : InWork) (now : Picture) → m.fresh ≡ false → (x : EndsAt m.scan m.codes m.left m.unit bits (Fault f) new) → Step progressive_ac (with_band m x.mid) now x.bit (Err f) (with_band m new) now
-fault_step m bits f new now e x = λ i so_far s. unit_read (with_band m x.mid) new i so_far x.bit now (Fault f) (in_unit_of (with_band m x.mid) i so_far now e s) tt x.outside x.answered
+fault_step m bits f new now e x = λ i so_far s. (unit_read (with_band m x.mid) new i so_far x.bit now (Fault f) (in_unit_of (with_band m x.mid) i so_far now e s) tt x.outside x.answered, refl)
 
 done_step : (m : AcReader) (bits : List Bool) (new : InWork) (now : Picture) (answer : Result UnitStep UnitFault) (next : AcReader) (after : Picture) → m.fresh ≡ false → StaysOpen m.scan Done new → (x : EndsAt m.scan m.codes m.left m.unit bits Done new) → GoesOn (with_band m new) now answer next after
     → Step progressive_ac (with_band m x.mid) now x.bit answer next after

@@ -31,7 +31,7 @@ use Rattle.jpg_prog_read.specs.declared.band.BandStep.{BandStep}
 use Rattle.jpg_prog_read.specs.declared.band.BandStep.TheVariants.{More, Done, Fault}
 use Rattle.jpg_prog_read.specs.InWork.{InWork, IsFresh, IsWholeUnit, IsEnd, IsRefinable, AreRefinable, band_values}
 use Rattle.jpg_prog_read.specs.Step.{AreSane, StaysOpen, KeepsOtherValues}
-use Rattle.jpg_prog_read.specs.Stands.{IsCodingOf, UnitPlace, BetweenUnits, IsRest, Answered, AnswersBit, AnswersBand}
+use Rattle.jpg_prog_read.specs.Stands.{IsCodingOf, UnitPlace, BetweenUnits, IsRest, Answered, AnswersBit, AnswersBand, BeginsQuietly, ShowsNone}
 use Rattle.jpg_prog_read.specs.AcStands.{HasRoom, BandHasRoom, IsAcInterval, ReadsBy, IsReadable, units_at, HasDue, place_of, IsOfBlock, IsInUnit, HasWhole, IsBetween, IsBefore, AcStands, AcReady, UnitAnswered}
 
 -- THE UNIT AT A PLACE
@@ -195,6 +195,19 @@ unit_taken m n i bits now p block step t e open_ outside answers = by step open_
       between = a;
     }
     by (Fault f) o a = a
+
+pub taken_quietly : (m : AcReader) (i : Interval) (bits : List Bool) (now : Picture) (p : Place) (block : List ℤ) (step : BandStep) → IsBetweenAt m i bits now p → block ≡ block_in now p.component p.x p.y
+    → BeginsQuietly m.scan (band_values m.scan block) m.unit step → ShowsNone step
+taken_quietly m i bits now p block step t e quiet = quiet m.codes at bits (coding_at m i now t.done p t.more t.whole t.has_due) rest
+  where
+    at : UnitPlace
+    at = place_of i p t.more t.whole
+
+    unit : unit_at i.scan (map_of i.before) p ≡ band_unit p.component (band_values m.scan block)
+    unit = unit_is i.scan (map_of i.before) p ((t.has_due).kind).some ∙ ap (band_unit p.component) (sym (old_band m i bits now p block t e))
+
+    rest : BetweenUnits i.scan.coding (units_of i) t.whole (band_unit p.component (band_values m.scan block) ∷ units_at i t.more) bits m.unit
+    rest = subst (λ (u : UnitLeft). BetweenUnits i.scan.coding (units_of i) t.whole (u ∷ units_at i t.more) bits m.unit) unit t.between
 
 -- A UNIT IS PUT AT ITS PLACE
 

@@ -70,8 +70,8 @@ step_within m p now b new first open_ r i bits o = record {
   stands = answered m p now b More new first r i bits o;
 }
 
-pub step_fault : (m new : DcFirst) (p : Place) (now after : Picture) (b : Bool) (unit : DcWork) (f : UnitFault) → slice_get m.cursor 0 ≡ Some p → ReadsBit m p.component b (Fault f) unit → Step first_pass m now b (Err f) new after
-step_fault m new p now after b unit f first r i bits o = answered m p now b (Fault f) unit first r i bits o
+pub step_fault : (m new : DcFirst) (p : Place) (now : Picture) (b : Bool) (unit : DcWork) (f : UnitFault) → slice_get m.cursor 0 ≡ Some p → ReadsBit m p.component b (Fault f) unit → Step first_pass m now b (Err f) new now
+step_fault m new p now b unit f first r i bits o = (answered m p now b (Fault f) unit first r i bits o, refl)
 
 pub step_unit : (m : DcFirst) (p : Place) (now : Picture) (b : Bool) (unit : DcWork) (w v : ℤ) → slice_get m.cursor 0 ≡ Some p → length now.blocks ≡ padded_blocks now.frame → ReadsBit m p.component b (Done w v) unit → 2 ≤ m.left
     → Step first_pass m now b (Ok step.More) (behind_unit m p.component w) (with_dc now p v)
@@ -107,7 +107,7 @@ step_last m p now b unit w v first count r one i bits o =
     let a = answered m p now b (Done w v) unit first r i bits o in
     let k = o.within.next.component in
     let none = none_more o.within.more (omega (arith, (o.places).count, one)) in
-    let T : Place → Type 0 = λ s. Answered first_pass i (bits ++ b ∷ []) (Ok step.IntervalDone) (behind_unit m s.component w) (with_dc now s v) in
+    let T : Place → Type 0 = λ s. Answered first_pass i (bits ++ b ∷ []) (Ok step.IntervalDone) now (behind_unit m s.component w) (with_dc now s v) in
     subst T n (
       interval_read m.cursor m.left i now o.within v (predicted o.predictions k w) (bits ++ b ∷ []) count o.places none a,
       λ j follows fits. record {
@@ -170,7 +170,7 @@ step_last_bit m p now b x v first count old r one i bits o =
     let n = next_is m.cursor m.left i now o.within p first o.places in
     let a = refined m p now b x v first old r i bits o in
     let none = none_more o.within.more (omega (arith, (o.places).count, one)) in
-    let T : Place → Type 0 = λ s. Answered refinement i (bits ++ b ∷ []) (Ok step.IntervalDone) (behind_bit m) (with_dc now s v) in
+    let T : Place → Type 0 = λ s. Answered refinement i (bits ++ b ∷ []) (Ok step.IntervalDone) now (behind_bit m) (with_dc now s v) in
     subst T n (
       interval_read m.cursor m.left i now o.within v o.predictions (bits ++ b ∷ []) count o.places none a,
       λ j follows fits. record {

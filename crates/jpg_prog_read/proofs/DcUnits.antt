@@ -41,13 +41,13 @@ in_word x low high a b c d = omega (arith, ints, a, b, c, d)
 
 -- BOUNDS
 
-dc_within : (c : Coding) (low high v : ℤ) → c.bounds.dc_low ≡ low → c.bounds.dc_high ≡ high → low ≤ℤ v → v ≤ℤ high → are_in_bounds c true (v ∷ []) ≡ true
+dc_within : (c : Coding) (low high v : ℤ) → c.bounds.dc_low ≡ low → c.bounds.dc_high ≡ high → low ≤ℤ v → v ≤ℤ high → are_in_bounds c.bounds true (v ∷ []) ≡ true
 dc_within c low high v a b l h =
     let k : int_le c.bounds.dc_low v ≡ true = ap (λ (x : ℤ). int_le x v) a ∙ in_order low v l in
     let m : int_le v c.bounds.dc_high ≡ true = ap (λ (x : ℤ). int_le v x) b ∙ in_order v high h in
     and_intro (int_le c.bounds.dc_low v && int_le v c.bounds.dc_high) true (and_intro (int_le c.bounds.dc_low v) (int_le v c.bounds.dc_high) k m) refl
 
-dc_beyond : (c : Coding) (low high v : ℤ) → c.bounds.dc_low ≡ low → c.bounds.dc_high ≡ high → ((low ≤ℤ v) × (v ≤ℤ high) → ⊥) → are_in_bounds c true (v ∷ []) ≡ false
+dc_beyond : (c : Coding) (low high v : ℤ) → c.bounds.dc_low ≡ low → c.bounds.dc_high ≡ high → ((low ≤ℤ v) × (v ≤ℤ high) → ⊥) → are_in_bounds c.bounds true (v ∷ []) ≡ false
 dc_beyond c low high v a b h =
     both_false (int_le c.bounds.dc_low v) (int_le v c.bounds.dc_high)
     (λ t. h (from_test low v (ap (λ (x : ℤ). int_le x v) (sym a) ∙ t.0), from_test v high (ap (λ (x : ℤ). int_le v x) (sym b) ∙ t.1)))
@@ -56,7 +56,7 @@ dc_beyond c low high v a b h =
 
 -- a unit more
 one_more : (at : UnitPlace) (p : ℕ → ℤ) (o v : ℤ) (front part : List Bool) (e : Element)
-    → (b : DcBetween at.coding at.units at.told p (dc_unit at.component o ∷ at.others) front) → SpellsElement (codes_due at.coding (dc_unit at.component o)) e part → Tells at.coding (b.mid.predictions at.component) e (dc_unit at.component o) at.others (v ∷ []) at.others → are_in_bounds at.coding true (v ∷ []) ≡ true
+    → (b : DcBetween at.coding at.units at.told p (dc_unit at.component o ∷ at.others) front) → SpellsElement (codes_due at.coding (dc_unit at.component o)) e part → Tells at.coding (b.mid.predictions at.component) e (dc_unit at.component o) at.others (v ∷ []) at.others → are_in_bounds at.coding.bounds true (v ∷ []) ≡ true
     → (q : ℕ → ℤ) → ((j : ℕ) → predictions_after b.mid.predictions at.component e j ≡ q j) → DcBetween at.coding at.units (at.told ++ v ∷ []) q at.others (front ++ part)
 one_more at p o v front part e b sp tells ok q after =
     let t : Standing = record { predictions = predictions_after b.mid.predictions at.component e; left = at.others } in
@@ -97,7 +97,7 @@ pub difference_beyond : (b : DcScan) (dc : List Code) (at : UnitPlace) (p : ℕ 
 difference_beyond b dc at p o bits front part d prediction k q f split sp few beyond =
     let x : f.mid.predictions at.component ≡ prediction = f.predicts at.component ∙ q in
     let y : scaled at.coding.al (f.mid.predictions at.component +ℤ d) ≡ (prediction +ℤ d) *ℤ pos b.scale = ap (λ (z : ℤ). scaled at.coding.al (z +ℤ d)) x ∙ ap (λ n. (prediction +ℤ d) *ℤ pos n) (sym k.scale) in
-    let out : are_in_bounds at.coding true (scaled at.coding.al (f.mid.predictions at.component +ℤ d) ∷ []) ≡ false = ap (λ (z : ℤ). are_in_bounds at.coding true (z ∷ [])) y ∙ dc_beyond at.coding b.low b.high ((prediction +ℤ d) *ℤ pos b.scale) k.low k.high beyond in
+    let out : are_in_bounds at.coding.bounds true (scaled at.coding.al (f.mid.predictions at.component +ℤ d) ∷ []) ≡ false = ap (λ (z : ℤ). are_in_bounds at.coding.bounds true (z ∷ [])) y ∙ dc_beyond at.coding b.low b.high ((prediction +ℤ d) *ℤ pos b.scale) k.low k.high beyond in
     record {
       elements = f.elements;
       told = at.told;

@@ -1,9 +1,11 @@
 -- The values of a block that are done and left, one after another.
-use Rattle.std.proofs.Common.{◌≡◌, ℕ, zero, suc, ◌+◌, ◌-◌, ◌<◌, ◌≤◌, true, false, cond, List, [], ◌∷◌, ◌++◌, length, take, drop, set, get_or, refl, sym, ap, ◌∙◌, arith, ℤ, pos, negsuc, ⊎_elim}
+use Rattle.std.proofs.Common.{◌≡◌, ℕ, zero, suc, ◌+◌, ◌-◌, ◌<◌, ◌≤◌, ◌==◌, true, false, cond, List, [], ◌∷◌, ◌++◌, length, take, drop, set, get_or, refl, sym, ap, ◌∙◌, arith, ℤ, pos, negsuc, ⊎_elim}
 use Rattle.std.proofs.lemmas.Bool.{cases_lt}
 use Rattle.std.proofs.lemmas.List.{length-take-le, take-take, drop-drop, take-append-drop, drop_more, drop-take}
 use Rattle.std.proofs.lemmas.Grind.{take-set_at}
+use Rattle.jpg_spec.specs.Lists.{is_empty}
 use Rattle.jpg_spec.specs.Elements.{is_zero, zeros_in}
+use Rattle.jpg_spec.proofs.Common.{not_same}
 
 -- what is left begins with the value at its place
 pub rest_more : (values : List ℤ) (at most : ℕ) → most ≤ length values → at < most → take (most - at) (drop at values) ≡ get_or values at (pos 0) ∷ take (most - (at + 1)) (drop (at + 1) values)
@@ -119,3 +121,12 @@ rest_long values at most n h = omega (arith, h, length-take-most (most - at) (dr
     length-take-most zero xs = omega arith
     length-take-most (suc m) [] = omega arith
     length-take-most (suc m) (x ∷ xs) = omega (arith, length-take-most m xs)
+
+-- an empty list
+pub empty_is : {X : Type 0} (xs : List X) → is_empty xs ≡ true → xs ≡ []
+empty_is [] e = refl
+empty_is (x ∷ xs) e = cc
+
+pub empty_by_length : {X : Type 0} (xs : List X) (n : ℕ) → length xs ≡ n → (n == 0) ≡ is_empty xs
+empty_by_length [] n e = ap (λ (m : ℕ). m == 0) (sym e)
+empty_by_length (x ∷ xs) n e = not_same n 0 (λ z. omega (arith, e, z))

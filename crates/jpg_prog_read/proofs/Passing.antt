@@ -108,7 +108,7 @@ abbrev pub with_zero : InWork → InWork
 with_zero s = record s { done = s.done ++ pos 0 ∷ []; rest = drop 1 s.rest; run = s.run - 1 }
 
 pub zero_passed : (at : UnitPlace) (bits : List Bool) (s : InWork) (g : Stage) → s.stage ≡ g → s.rest ≡ pos 0 ∷ drop 1 s.rest → 1 ≤ s.run
-    → are_in_bounds at.coding false (pos 0 ∷ []) ≡ true → Stands at bits s → IsPassing g s → Stands at bits (with_zero s)
+    → are_in_bounds at.coding.bounds false (pos 0 ∷ []) ≡ true → Stands at bits s → IsPassing g s → Stands at bits (with_zero s)
 zero_passed at bits s stage.Code e r some ok f g = absurd g
 zero_passed at bits s stage.Number e r some ok f g = absurd g
 zero_passed at bits s stage.Count e r some ok f g = absurd g
@@ -193,7 +193,7 @@ ends_old c mid i others here bits rest more bands o b r z h =
     }
 
 pub old_corrected : (at : UnitPlace) (bits : List Bool) (s : InWork) (g : Stage) (o : ℤ) (b : Bool) → s.stage ≡ g → s.rest ≡ o ∷ drop 1 s.rest → is_zero o ≡ false
-    → are_in_bounds at.coding false (grown at.coding.al b o ∷ []) ≡ true → Stands at bits s → IsPassing g s → Stands at (bits ++ b ∷ []) (with_value s (grown at.coding.al b o))
+    → are_in_bounds at.coding.bounds false (grown at.coding.al b o ∷ []) ≡ true → Stands at bits s → IsPassing g s → Stands at (bits ++ b ∷ []) (with_value s (grown at.coding.al b o))
 old_corrected at bits s stage.Code o b e r z ok f g = absurd g
 old_corrected at bits s stage.Number o b e r z ok f g = absurd g
 old_corrected at bits s stage.Count o b e r z ok f g = absurd g
@@ -220,12 +220,12 @@ some_going i [] others h = absurd (omega arith)
 some_going i (o ∷ rest) others h = refl
 
 one_element : (c : Coding) (s : Standing) (u : UnitLeft) (units left : List UnitLeft) (e : Element) (here : List ℤ) (bits : List Bool) → s.left ≡ u ∷ units → SpellsElement (codes_due c u) e bits
-    → Tells c (s.predictions u.component) e u units here left → are_in_bounds c u.has_dc here ≡ true → Covers c s (e ∷ []) here bits (record { predictions = predictions_after s.predictions u.component e; left = left })
+    → Tells c (s.predictions u.component) e u units here left → are_in_bounds c.bounds u.has_dc here ≡ true → Covers c s (e ∷ []) here bits (record { predictions = predictions_after s.predictions u.component e; left = left })
 one_element c s u units left e here bits l sp told ok = (u, units, here, left, [], bits, [], l, sym (append-nil here), sym (append-nil bits), sp, told, ok, (refl, refl, refl))
 
 pub after_whole : (at : UnitPlace) (bits : List Bool) (step : BandStep) (s : InWork)
     → (elements : List Element) (before : List ℤ) (front : List Bool) (mid : Standing) (u : UnitLeft) (us left : List UnitLeft) (e : Element) (here : List ℤ) (part : List Bool)
-    → Covers at.coding (at_start at.units) elements before front mid → mid.left ≡ u ∷ us → SpellsElement (codes_due at.coding u) e part → Tells at.coding (mid.predictions u.component) e u us here left → are_in_bounds at.coding u.has_dc here ≡ true
+    → Covers at.coding (at_start at.units) elements before front mid → mid.left ≡ u ∷ us → SpellsElement (codes_due at.coding u) e part → Tells at.coding (mid.predictions u.component) e u us here left → are_in_bounds at.coding.bounds u.has_dc here ≡ true
     → bits ≡ front ++ part → before ++ here ≡ at.told ++ s.done → s.stage ≡ stage.Code → s.walked ≡ [] → left ≡ going_on (band_unit at.component []) s.rest at.others → AfterValue step s → Answered at bits step s
 after_whole at bits More s elements before front mid u us left e here part covers l sp tells ok split same code quiet goes after =
     let t : Standing = record { predictions = predictions_after mid.predictions u.component e; left = left } in
@@ -271,7 +271,7 @@ value_tells c mid i others here bits rest run v q r z h = (
 )
 
 pub value_whole : (at : UnitPlace) (bits : List Bool) (step : BandStep) (s : InWork) → s.stage ≡ stage.Value → s.rest ≡ pos 0 ∷ drop 1 s.rest → s.run ≡ 0
-    → are_in_bounds at.coding false (scaled at.coding.al s.due ∷ []) ≡ true → Stands at bits s → AfterValue step (behind_value s (scaled at.coding.al s.due)) → Answered at bits step (behind_value s (scaled at.coding.al s.due))
+    → are_in_bounds at.coding.bounds false (scaled at.coding.al s.due ∷ []) ≡ true → Stands at bits s → AfterValue step (behind_value s (scaled at.coding.al s.due)) → Answered at bits step (behind_value s (scaled at.coding.al s.due))
 value_whole at bits step s e r z ok f after =
     let p = part_at at f.mid f.here f.part s stage.Value e f.is_part in
     let h = p.1 in
@@ -280,16 +280,16 @@ value_whole at bits step s e r z ok f after =
     f.covers h.left (h.code, h.coded, h.split) (value_tells at.coding f.mid at.component at.others f.here f.part s.rest s.run s.due (f.mid.predictions at.component) r z h) (bounds_join at.coding f.here (scaled at.coding.al s.due ∷ []) f.in_bounds ok)
     f.split (same_more f.before f.here at.told s.done (scaled at.coding.al s.due) f.same) refl p.0 refl after
 
-bounds_out : (c : Coding) (xs : List ℤ) (v : ℤ) → are_in_bounds c false (v ∷ []) ≡ false → are_in_bounds c false (xs ++ v ∷ []) ≡ false
+bounds_out : (c : Coding) (xs : List ℤ) (v : ℤ) → are_in_bounds c.bounds false (v ∷ []) ≡ false → are_in_bounds c.bounds false (xs ++ v ∷ []) ≡ false
 bounds_out c [] v h = h
-bounds_out c (x ∷ xs) v h = last (int_le (pos (nat_abs x)) c.bounds.ac) (are_in_bounds c false (xs ++ v ∷ [])) (bounds_out c xs v h)
+bounds_out c (x ∷ xs) v h = last (int_le (pos (nat_abs x)) c.bounds.ac) (are_in_bounds c.bounds false (xs ++ v ∷ [])) (bounds_out c xs v h)
   where
     last : (a b : Bool) → b ≡ false → (a && b) ≡ false
     last true b e = e
     last false b e = refl
 
 pub value_out : (at : UnitPlace) (bits : List Bool) (s : InWork) → s.stage ≡ stage.Value → s.rest ≡ pos 0 ∷ drop 1 s.rest → s.run ≡ 0
-    → are_in_bounds at.coding false (scaled at.coding.al s.due ∷ []) ≡ false → Stands at bits s → DataShows at.coding at.units fault.CoefRange bits
+    → are_in_bounds at.coding.bounds false (scaled at.coding.al s.due ∷ []) ≡ false → Stands at bits s → DataShows at.coding at.units fault.CoefRange bits
 value_out at bits s e r z out f =
     let p = part_at at f.mid f.here f.part s stage.Value e f.is_part in
     let h = p.1 in
@@ -321,7 +321,7 @@ value_out at bits s e r z out f =
 
 -- the sixteenth zero
 pub long_whole : (at : UnitPlace) (bits : List Bool) (step : BandStep) (s : InWork) → s.stage ≡ stage.Long → s.rest ≡ pos 0 ∷ drop 1 s.rest → s.run ≡ 0
-    → are_in_bounds at.coding false (pos 0 ∷ []) ≡ true → Stands at bits s → AfterValue step (behind_value s (pos 0)) → Answered at bits step (behind_value s (pos 0))
+    → are_in_bounds at.coding.bounds false (pos 0 ∷ []) ≡ true → Stands at bits s → AfterValue step (behind_value s (pos 0)) → Answered at bits step (behind_value s (pos 0))
 long_whole at bits step s e r z ok f after =
     let p = part_at at f.mid f.here f.part s stage.Long e f.is_part in
     let h = p.1 in
@@ -379,7 +379,7 @@ ends_ended at bits s e r one f =
     let are = ends_are at.coding f.mid (unit_left at s) at.others f.here f.part s.bands h in
     let all : old_values (take h.total (h.unit ∷ h.units)) ≡ old_values h.whole ++ h.first = ap old_values are.0 ∙ all_passed at.component s.bands at.others h.whole h.first s.rest one r in
     let left : at.others ≡ drop h.total (h.unit ∷ h.units) = sym (are.1 ∙ ap (λ n. drop n (band_unit at.component (h.first ++ s.rest) ∷ at.others)) one) in
-    let ok : are_in_bounds at.coding h.unit.has_dc f.here ≡ true = ap (λ b. are_in_bounds at.coding b f.here) h.no_dc ∙ f.in_bounds in
+    let ok : are_in_bounds at.coding.bounds h.unit.has_dc f.here ≡ true = ap (λ b. are_in_bounds at.coding.bounds b f.here) h.no_dc ∙ f.in_bounds in
     let coded = subst (λ t. Contains t (h.code, 16 * (digits h.total - 1))) (sym (ac_due at.coding h.unit h.no_dc)) h.coded in
     after_whole at bits Done (record s { bands = 0; stage = stage.Code }) f.elements f.before f.front f.mid h.unit h.units at.others (ends h.total h.corrections) f.here f.part
     f.covers h.begun (h.code, coded, h.split) (
@@ -453,12 +453,12 @@ ends_go_on at bits s e r some f =
 
 -- BOUNDS
 
-pub in_limit : (c : Coding) (limit : ℕ) (x : ℤ) → c.bounds.ac ≡ pos limit → nat_abs x ≤ limit → are_in_bounds c false (x ∷ []) ≡ true
+pub in_limit : (c : Coding) (limit : ℕ) (x : ℤ) → c.bounds.ac ≡ pos limit → nat_abs x ≤ limit → are_in_bounds c.bounds false (x ∷ []) ≡ true
 in_limit c limit x e h =
     let o : pos (nat_abs x) ≤ℤ pos limit = omega (arith, ints) in
     ap (λ (m : ℤ). int_le (pos (nat_abs x)) m && true) e ∙ ap (λ b. b && true) (in_order (pos (nat_abs x)) (pos limit) o)
 
-pub out_limit : (c : Coding) (limit : ℕ) (x : ℤ) → c.bounds.ac ≡ pos limit → limit < nat_abs x → are_in_bounds c false (x ∷ []) ≡ false
+pub out_limit : (c : Coding) (limit : ℕ) (x : ℤ) → c.bounds.ac ≡ pos limit → limit < nat_abs x → are_in_bounds c.bounds false (x ∷ []) ≡ false
 out_limit c limit x e h = ap (λ (m : ℤ). int_le (pos (nat_abs x)) m && true) e ∙ not_true (int_le (pos (nat_abs x)) (pos limit)) (λ t. no (from_test (pos (nat_abs x)) (pos limit) t))
   where
     not_true : (b : Bool) → (b ≡ true → ⊥) → (b && true) ≡ false
@@ -468,7 +468,7 @@ out_limit c limit x e h = ap (λ (m : ℤ). int_le (pos (nat_abs x)) m && true) 
     no : pos (nat_abs x) ≤ℤ pos limit → ⊥
     no k = omega (arith, ints, k, h)
 
-pub zero_in : (c : Coding) (limit : ℕ) → c.bounds.ac ≡ pos limit → are_in_bounds c false (pos 0 ∷ []) ≡ true
+pub zero_in : (c : Coding) (limit : ℕ) → c.bounds.ac ≡ pos limit → are_in_bounds c.bounds false (pos 0 ∷ []) ≡ true
 zero_in c limit e = in_limit c limit (pos 0) e (omega arith)
 
 -- WHETHER THE UNIT GOES ON

@@ -14,14 +14,15 @@ use Rattle.jpg_spec.specs.declared.fault.Fault.{Fault}
 use Rattle.jpg_spec.specs.declared.fault.Fault.TheVariants as fault
 use Rattle.jpg_spec.proofs.Writing.{zeros_push, nonzeros_push}
 use Rattle.jpg_spec.proofs.Common.{part_more, and_false}
+use Rattle.jpg_spec.proofs.Once.{head_inj}
 use Rattle.jpg_spec.proofs.Small.{one_digit}
 use Rattle.jpg_huff.specs.Walk.{BeginsNoCode}
 use Rattle.jpg_huff.proofs.Fronts.{due_apart, walk_shows}
 use Rattle.jpg_prog_read.specs.declared.stage.Stage.{Stage}
 use Rattle.jpg_prog_read.specs.declared.stage.Stage.TheVariants as stage
 use Rattle.jpg_prog_read.specs.declared.scan.BandScan.{BandScan}
-use Rattle.jpg_prog_read.specs.InWork.{InWork}
-use Rattle.jpg_prog_read.specs.Stands.{IsCodingOf, UnitPlace, unit_left, IsPart, Stands}
+use Rattle.jpg_prog_read.specs.InWork.{InWork, with_band}
+use Rattle.jpg_prog_read.specs.Stands.{IsCodingOf, UnitPlace, unit_left, IsPart, IsRest, Stands, BetweenUnits}
 
 -- LISTS
 
@@ -64,7 +65,7 @@ code_at at mid here bits s e h =
 
 pub stands : (at : UnitPlace) (bits : List Bool) (n : InWork) (g : Stage) → n.stage ≡ g
     → (elements : List Element) (before : List ℤ) (front : List Bool) (mid : Standing) (here : List ℤ) (part : List Bool)
-    → Covers at.coding (at_start at.units) elements before front mid → bits ≡ front ++ part → before ++ here ≡ at.told ++ n.done → are_in_bounds at.coding false here ≡ true → IsPart at mid here part n g
+    → Covers at.coding (at_start at.units) elements before front mid → bits ≡ front ++ part → before ++ here ≡ at.told ++ n.done → are_in_bounds at.coding.bounds false here ≡ true → IsPart at mid here part n g
     → Stands at bits n
 stands at bits n g e elements before front mid here part covers split same ok p =
     record { elements = elements; before = before; front = front; mid = mid; here = here; part = part; covers = covers; split = split; same = same; in_bounds = ok; is_part = subst (λ x. IsPart at mid here part n x) (sym e) p }
@@ -275,4 +276,40 @@ run_past b ac at bits s total x k e f sum small extra past =
       left = q.left;
       codes = λ k. (let z : false ≡ true = k.0 in cc);
       shows = inr (inr (inr (inr (refl, (s.size, x, q.code, q.coded, refl, omega (arith, q.most, k.runs), q.split ∙ ap (λ y. q.code ++ y) (sym extra), small, omega (arith, sum, past))))));
+    }
+
+-- ends of bands that go on, at the next unit
+pub ends_next : (at : UnitPlace) (bits : List Bool) (s n : InWork) (front band behind : List ℤ) → n ≡ with_band s front band behind → stage.Ends ≡ n.stage → zeros_in band < 255
+    → BetweenUnits at.coding at.units at.told (band_unit at.component band ∷ at.others) bits s → Stands at bits n × (s.stage ≡ stage.Ends)
+ends_next at bits s n front band behind is ends small f = (subst (λ (m : InWork). Stands at bits m) (sym is) there, code)
+  where
+    new : InWork
+    new = with_band s front band behind
+
+    code : s.stage ≡ stage.Ends
+    code = sym (ends ∙ ap (λ (m : InWork). m.stage) is)
+
+    next : UnitLeft
+    next = band_unit at.component band
+
+    met : InEnds at.coding f.mid next at.others f.here f.part s.bands
+    met =
+        let r : IsRest at.coding f.mid (next ∷ at.others) f.here f.part s stage.Ends = subst (λ (g : Stage). IsRest at.coding f.mid (next ∷ at.others) f.here f.part s g) code f.is_rest in
+        let h = head_inj next r.0 at.others r.1 r.2 in
+        let e : InEnds at.coding f.mid r.0 at.others f.here f.part s.bands = subst (λ us. InEnds at.coding f.mid r.0 us f.here f.part s.bands) (sym h.1) r.3 in
+        subst (λ v. InEnds at.coding f.mid v at.others f.here f.part s.bands) (sym h.0) e
+
+    there : Stands at bits new
+    there = record {
+      elements = f.elements;
+      before = f.before;
+      front = f.front;
+      mid = f.mid;
+      here = f.here;
+      part = f.part;
+      covers = f.covers;
+      split = f.split;
+      same = f.same ∙ sym (append-nil at.told);
+      in_bounds = f.in_bounds;
+      is_part = subst (λ (g : Stage). IsPart at f.mid f.here f.part new g) (sym code) (f.quiet, met, small);
     }

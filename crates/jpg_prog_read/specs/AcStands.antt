@@ -18,7 +18,7 @@ use Rattle.jpg_prog_read.specs.declared.band.BandStep.TheVariants.{More, Done, F
 use Rattle.jpg_prog_read.specs.declared.scan.BandScan.{BandScan}
 use Rattle.jpg_prog_read.specs.declared.stage.Stage.TheVariants as stage
 use Rattle.jpg_prog_read.specs.InWork.{InWork, IsOpen, IsWholeUnit}
-use Rattle.jpg_prog_read.specs.Stands.{IsCodingOf, UnitPlace, Stands, BetweenUnits}
+use Rattle.jpg_prog_read.specs.Stands.{IsCodingOf, UnitPlace, Stands, BetweenUnits, ShowsNone}
 use Rattle.jpg_prog_read.specs.Step.{AreSane}
 
 -- INTERVALS OF THIS KIND
@@ -161,6 +161,10 @@ PutsUnit old then new now = (i : Interval) (bits : List Bool) → HasWhole old i
 abbrev pub TakesUnit : AcReader → Picture → BandStep → AcReader → Type 0
 TakesUnit old now step new = (i : Interval) (bits : List Bool) → IsBetween old i bits now → UnitAnswered new i bits now step
 
+-- no bit comes, and no fault is shown
+abbrev pub TakesQuietly : AcReader → Picture → BandStep → Type 0
+TakesQuietly old now step = (i : Interval) (bits : List Bool) → IsBetween old i bits now → ShowsNone step
+
 -- the first unit is taken where it wasn't yet
 abbrev pub Settles : AcReader → Picture → AcReader → Type 0
 Settles old now new = (i : Interval) (bits : List Bool) → AcStands old i bits now → IsInUnit new i bits now
@@ -168,4 +172,4 @@ Settles old now new = (i : Interval) (bits : List Bool) → AcStands old i bits 
 -- behind a whole unit
 abbrev pub GoesOn : AcReader → Picture → Result UnitStep UnitFault → AcReader → Picture → Type 0
 GoesOn old then answer new now =
-    (i : Interval) (bits : List Bool) → HasWhole old i bits then → Answered progressive_ac i bits answer new now
+    (i : Interval) (bits : List Bool) → HasWhole old i bits then → Answered progressive_ac i bits answer then new now

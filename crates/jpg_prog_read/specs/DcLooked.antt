@@ -1,5 +1,5 @@
 -- The codes of a first DC pass, and bits of a unit that are taken at once.
-use Rattle.std.specs.Prelude.{◌≡◌, ℕ, Bool, List, [], ◌∷◌, ◌++◌, Option, Some, slice_get, ℤ}
+use Rattle.std.specs.Prelude.{◌≡◌, ℕ, Bool, List, [], ◌∷◌, ◌++◌, Option, None, Some, slice_get, ℤ}
 use Rattle.jpg_spec.specs.Codes.{Code}
 use Rattle.jpg_spec.specs.Lists.{slot_value}
 use Rattle.jpg_huff.specs.declared.set.TableSet.{TableSet}
@@ -15,6 +15,10 @@ use Rattle.jpg_prog_read.specs.DcStands.{AnswersDcBit}
 -- the codes in a slot, if any
 abbrev pub codes_at : DcLooks → ℕ → Option (List Code)
 codes_at looks slot = slot_value (slice_get looks.each slot)
+
+-- no codes
+abbrev pub no_looks : DcLooks
+no_looks = record { each = None ∷ None ∷ None ∷ None ∷ [] }
 
 -- codes that are those of the table in a slot, or none
 abbrev pub IsOfSlot : TableSet → ℕ → Option (List Code) → Type 0

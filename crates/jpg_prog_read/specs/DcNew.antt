@@ -10,13 +10,15 @@ use Rattle.jpg_spec.specs.declared.frame.ScanPart.{ScanPart}
 use Rattle.jpg_base.specs.Cursor.{AreIn}
 use Rattle.jpg_huff.specs.declared.table.Table.{Table}
 use Rattle.jpg_huff.specs.declared.set.TableSet.{TableSet}
-use Rattle.jpg_huff.specs.Sets.{dc_tables, in_slot}
+use Rattle.jpg_huff.specs.Sets.{dc_tables, in_slot, no_tables}
 use Rattle.jpg_huff.specs.Tables.{table_of}
 use Rattle.jpg_coefs.specs.Picture.{map_of}
 use Rattle.jpg_coefs.specs.Machine.{Interval}
 use Rattle.jpg_prog_read.specs.declared.scan.DcScan.{DcScan}
+use Rattle.jpg_prog_read.specs.declared.dc_first.DcFirst.{DcFirst}
 use Rattle.jpg_prog_read.specs.DcPlaces.{IsDcBand}
 use Rattle.jpg_prog_read.specs.DcFirstPass.{table_in}
+use Rattle.jpg_prog_read.specs.DcLooked.{no_looks}
 use Rattle.jpg_prog_read.specs.DcRefinement.{TakesOneBit}
 
 -- A scan header of a progressive frame.
@@ -77,3 +79,12 @@ pub record AreFilled (set : TableSet) (parts : List ScanPart) (n : ℕ) (own : T
   pub four : length (dc_tables own) ≡ 4
   pub found : (k : ℕ) (table : Table) → table_in own k ≡ Some table → (j : ℕ) × (j < n) × ((part_at parts j).component ≡ k) × (table_in set (part_at parts j).dc ≡ Some table)
   pub there : (j : ℕ) → j < n → (table : Table) × (table_in own (part_at parts j).component ≡ Some table)
+
+-- the machine of a first pass before its tables are put in
+pub record IsBare (f : Frame) (head : ScanHead) (m : DcFirst) : Type 0 where
+  pub scan : m.scan ≡ dc_scan_of f head.al
+  pub tables : dc_tables m.tables ≡ no_tables
+  pub looks : m.looks ≡ no_looks
+  pub cursor : m.cursor ≡ units f (head_components head)
+  pub four : length m.predictions ≡ 4
+  pub left : m.left ≡ 0

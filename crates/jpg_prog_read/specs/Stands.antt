@@ -56,7 +56,7 @@ pub record Stands (at : UnitPlace) (bits : List Bool) (s : InWork) : Type 0 wher
   pub covers : Covers at.coding (at_start at.units) elements before front mid
   pub split : bits ≡ front ++ part
   pub same : before ++ here ≡ at.told ++ s.done
-  pub in_bounds : are_in_bounds at.coding false here ≡ true
+  pub in_bounds : are_in_bounds at.coding.bounds false here ≡ true
   pub is_part : IsPart at mid here part s s.stage
 
 -- between two units: no part of an element, or ends of bands that go on
@@ -79,7 +79,7 @@ pub record BetweenUnits (c : Coding) (units : List UnitLeft) (told : List ℤ) (
   pub covers : Covers c (at_start units) elements before front mid
   pub split : bits ≡ front ++ part
   pub same : before ++ here ≡ told
-  pub in_bounds : are_in_bounds c false here ≡ true
+  pub in_bounds : are_in_bounds c.bounds false here ≡ true
   pub quiet : s.walked ≡ []
   pub is_rest : IsRest c mid left here part s s.stage
 
@@ -106,3 +106,19 @@ abbrev pub AnswersBand : BandScan → List ℤ → InWork → BandStep → InWor
 AnswersBand b band old step new =
     (ac : List Code) (at : UnitPlace) (bits : List Bool) → IsCodingOf b ac at.coding at.component
     → BetweenUnits at.coding at.units at.told (band_unit at.component band ∷ at.others) bits old → Answered at bits step new
+
+-- no fault
+abbrev pub ShowsNone : BandStep → Type 0
+ShowsNone More = Unit {0}
+ShowsNone Done = Unit {0}
+ShowsNone (Shown f) = ⊥
+
+-- ends of bands show none as they go on, in the unit in work and in the next
+abbrev pub PassesEnds : BandScan → InWork → BandStep → Type 0
+PassesEnds b old step =
+    (ac : List Code) (at : UnitPlace) (bits : List Bool) → IsCodingOf b ac at.coding at.component → Stands at bits old → old.stage ≡ stage.Ends → ShowsNone step
+
+abbrev pub BeginsQuietly : BandScan → List ℤ → InWork → BandStep → Type 0
+BeginsQuietly b band old step =
+    (ac : List Code) (at : UnitPlace) (bits : List Bool) → IsCodingOf b ac at.coding at.component
+    → BetweenUnits at.coding at.units at.told (band_unit at.component band ∷ at.others) bits old → ShowsNone step

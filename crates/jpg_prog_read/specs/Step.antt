@@ -49,7 +49,7 @@ KeepsOtherValues old new = (new.front ≡ old.front) × (new.behind ≡ old.behi
 
 -- a value of the band lies in the bounds, and zero does
 abbrev pub IsWithin : Coding → ℤ → Type 0
-IsWithin c v = are_in_bounds c false (v ∷ []) ≡ true
+IsWithin c v = are_in_bounds c.bounds false (v ∷ []) ≡ true
 
 abbrev pub HasZero : Coding → Type 0
 HasZero c = IsWithin c (pos 0)

@@ -6,7 +6,7 @@ ghost use Rattle.jpg_huff.specs.Tables.{symbol_codes};
 ghost use Rattle.jpg_prog_read.specs.NewAcReader.{HasAcTable, IsAcScan, IsOfAcScan, IsBandOf};
 ghost use Rattle.jpg_coefs.specs.Machine.{Interval, TakesBits};
 ghost use Rattle.jpg_coefs.specs.Picture.{Picture};
-ghost use Rattle.jpg_prog_read.specs.AcStands.{IsInUnit, HasWhole, IsBetween, AcStands, ReadsBit, PutsUnit, TakesUnit, Settles, GoesOn, progressive_ac, with_band};
+ghost use Rattle.jpg_prog_read.specs.AcStands.{IsInUnit, HasWhole, IsBetween, AcStands, ReadsBit, PutsUnit, TakesQuietly, TakesUnit, Settles, GoesOn, progressive_ac, with_band};
 ghost use Rattle.jpg_prog_read.specs.BandBits.{TakesBand};
 ghost use Rattle.jpg_prog_read.specs.declared.stage.Stage.TheVariants as stages;
 
@@ -104,6 +104,7 @@ impl AcReader {
         ensures count { self.new.left ≡ self.old.left }
         ensures begun { self.new.fresh ≡ false }
         ensures takes { TakesUnit self.old coefs.now result self.new }
+        ensures quiet { TakesQuietly self.old coefs.now result }
     {
         self.fresh = false;
         let place = self.cursor.place();

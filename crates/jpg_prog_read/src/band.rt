@@ -9,7 +9,7 @@ ghost use Rattle.jpg_prog_read.specs.InWork.{IsOpen, IsMoving, IsPassing, IsWhol
 ghost use Rattle.jpg_prog_read.specs.Step.{AreSane, IsSkipped, AfterBandEnd, AfterValue, StaysOpen, KeepsOtherValues, HasSkipped, PassesZeros};
 ghost use Rattle.jpg_prog_read.specs.ExtraWork.{IsWanting};
 ghost use Rattle.jpg_prog_read.specs.declared.scan.BandScan.{BandScan};
-ghost use Rattle.jpg_prog_read.specs.Stands.{UnitPlace, Stands, Answered, AnswersStep, AnswersBit, AnswersBand};
+ghost use Rattle.jpg_prog_read.specs.Stands.{UnitPlace, Stands, Answered, AnswersStep, AnswersBit, AnswersBand, PassesEnds, BeginsQuietly, ShowsNone};
 ghost use Rattle.jpg_prog_read.specs.BandBits.{AnswersSymbol, TakesBand};
 ghost use Rattle.jpg_prog_read.specs.ZerosPassed.{ZerosComeNext, behind_zeros};
 
@@ -328,6 +328,7 @@ impl BandReader {
         ensures open { (b : BandScan) → StaysOpen b result self.new }
         ensures outside { KeepsOtherValues self.old self.new }
         ensures answered { (at : UnitPlace) (bits : List Bool) → Stands at bits self.old → Answered at bits result self.new }
+        ensures quiet { ShowsNone result }
     {
         match self.end_band() {
             Ended::All => BandStep::Done,
@@ -342,6 +343,7 @@ impl BandReader {
         ensures open { StaysOpen scan.now result self.new }
         ensures outside { KeepsOtherValues self.old self.new }
         ensures answered { AnswersStep scan.now self.old result self.new }
+        ensures ends { PassesEnds scan.now self.old result }
     {
         match self.skip() {
             Skipped::AtOld => BandStep::More,
@@ -661,6 +663,7 @@ impl BandReader {
         ensures open { StaysOpen scan.now result self.new }
         ensures outside { (self.new.front ≡ take scan.now.start block.now) × (self.new.behind ≡ drop scan.now.end block.now) }
         ensures answered { AnswersBand scan.now (band_values scan.now block.now) self.old result self.new }
+        ensures quiet { BeginsQuietly scan.now (band_values scan.now block.now) self.old result }
     {
         self.load(scan, block);
         match self.stage() {

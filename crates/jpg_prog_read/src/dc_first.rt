@@ -2,10 +2,10 @@
 ghost use Rattle.std.specs.Prelude.{◌≡◌, ◌≤◌, ◌<◌, length, slice_set, All};
 ghost use Rattle.jpg_spec.specs.Geometry.{padded_blocks};
 ghost use Rattle.jpg_base.specs.Cursor.{IsPadded};
-ghost use Rattle.jpg_huff.specs.Sets.{dc_tables};
+ghost use Rattle.jpg_huff.specs.Sets.{dc_tables, no_tables};
 ghost use Rattle.jpg_coefs.specs.Machine.{Interval};
 ghost use Rattle.jpg_prog_read.specs.DcFirstPass.{CanRead, HurriesUnit, ReadsBit, first_pass, table_in, with_unit, behind_unit};
-ghost use Rattle.jpg_prog_read.specs.DcNew.{AreFilled, HasPartTable, IsFirstHead, IsOfFirst};
+ghost use Rattle.jpg_prog_read.specs.DcNew.{AreFilled, HasPartTable, IsBare, IsDcHead, IsFirstHead, IsOfFirst};
 ghost use Rattle.jpg_prog_read.specs.DcPlaces.{with_dc};
 ghost use Rattle.jpg_prog_read.specs.DcWork.{DcStaysOpen};
 
@@ -43,17 +43,18 @@ fn add_table(own: &mut TableSet, part: &ScanPart, tables: &TableSet)
     }
 }
 
-// The tables of the parts, in the slots of their components.
-fn tables_of(parts: &[ScanPart], tables: &TableSet) -> TableSet
+// The tables of the parts are put in, in the slots of their components.
+#[cold]
+#[inline(never)]
+fn add_tables(own: &mut TableSet, parts: &[ScanPart], tables: &TableSet)
+    requires none { dc_tables own.old ≡ no_tables }
     requires there { All (HasPartTable tables.now) parts.now }
     requires small { All (λ p. p.component < 4) parts.now }
-    ensures { AreFilled tables.now parts.now (length parts.now) result }
+    ensures { AreFilled tables.now parts.now (length parts.now) own.new }
 {
-    let mut own = TableSet::new();
     for part in parts {
-        add_table(&mut own, part, tables);
+        add_table(own, part, tables);
     }
-    own
 }
 
 impl DcFirst {
@@ -63,18 +64,38 @@ impl DcFirst {
         requires { IsFirstHead frame.now head.now tables.now }
         ensures { (i : Interval) → IsOfFirst frame.now head.now tables.now i → first_pass.ready result i }
     {
+        let mut reader = DcFirst::bare(frame, head);
+        reader.put_tables(frame, head, tables);
+        reader
+    }
+
+    /// The same without the tables. They take tens of kilobytes, so `put_tables` puts them in where the machine stays.
+    #[inline(always)]
+    pub fn bare(frame: &Frame, head: &ScanHead) -> DcFirst
+        requires { IsDcHead frame.now head.now }
+        ensures { IsBare frame.now head.now result }
+    {
         frame.checked();
-        let own = tables_of(head.parts.as_slice(), tables);
-        let looks = DcLooks::of(&own);
         DcFirst {
             scan: dc_scan(frame, head.al),
-            tables: own,
-            looks,
+            tables: TableSet::new(),
+            looks: DcLooks::none(),
             cursor: Cursor::new(frame, head),
             predictions: [0; 4],
             unit: DcUnit::new(),
             left: 0,
         }
+    }
+
+    /// Puts in the tables that the head names.
+    pub fn put_tables(&mut self, frame: &Frame, head: &ScanHead, tables: &TableSet)
+        requires scan { IsFirstHead frame.now head.now tables.now }
+        requires bare { IsBare frame.now head.now self.old }
+        ensures { (i : Interval) → IsOfFirst frame.now head.now tables.now i → first_pass.ready self.new i }
+    {
+        frame.checked();
+        add_tables(&mut self.tables, head.parts.as_slice(), tables);
+        self.looks.look_up(&self.tables);
     }
 
     // A bit of the unit in work.

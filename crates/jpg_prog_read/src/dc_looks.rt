@@ -1,7 +1,7 @@
 // The codes of the components of a first DC pass, looked up many bits at once.
 ghost use Rattle.std.specs.Prelude.{◌≡◌};
 ghost use Rattle.std.specs.Option.{option_map};
-ghost use Rattle.jpg_prog_read.specs.DcLooked.{AreLooked, IsOfSlot, codes_at};
+ghost use Rattle.jpg_prog_read.specs.DcLooked.{AreLooked, IsOfSlot, codes_at, no_looks};
 
 use crate::codes::Codes;
 use jpg_huff::TableSet;
@@ -13,6 +13,8 @@ pub struct DcLooks {
 }
 
 // Those of the DC table in a slot, if any.
+#[cold]
+#[inline(never)]
 fn codes_of(tables: &TableSet, slot: u8) -> Option<Codes>
     ensures { IsOfSlot tables.now slot result }
 {
@@ -23,15 +25,24 @@ fn codes_of(tables: &TableSet, slot: u8) -> Option<Codes>
 }
 
 impl DcLooks {
-    /// Those of the DC tables of a set.
-    pub fn of(tables: &TableSet) -> DcLooks
-        ensures { AreLooked tables.now result }
+    /// Those of no table.
+    #[inline(always)]
+    pub fn none() -> DcLooks
+        ensures { result ≡ no_looks }
     {
-        let mut each = [None, None, None, None];
-        for slot in 0..4u8 {
-            each[slot as usize] = codes_of(tables, slot);
+        DcLooks {
+            each: [None, None, None, None],
         }
-        DcLooks { each }
+    }
+
+    /// Becomes those of the DC tables of a set.
+    pub fn look_up(&mut self, tables: &TableSet)
+        requires { self.old ≡ no_looks }
+        ensures { AreLooked tables.now self.new }
+    {
+        for slot in 0..4u8 {
+            self.each[slot as usize] = codes_of(tables, slot);
+        }
     }
 
     /// Those of a slot, None where there is none, and for slots from 4 on.

@@ -1,6 +1,7 @@
 //! Extra bits while they come in (T.81, F.2.2.1, G.1.2.2).
 ghost use Rattle.std.specs.Prelude.{◌≡◌, ◌<◌, ◌≤◌, ◌+◌, ◌^◌, true, [], ◌∷◌, ◌++◌, length};
 ghost use Rattle.jpg_spec.specs.Bits.{bits_of};
+ghost use Rattle.jpg_spec.specs.Lists.{is_empty};
 ghost use Rattle.jpg_spec.specs.Numbers.{category, extra_bits, digits};
 ghost use Rattle.jpg_prog_read.specs.ExtraWork.{IsWanting};
 
@@ -55,7 +56,7 @@ impl ExtraBits {
 
     /// Whether none of its bits is there.
     pub fn is_new(&self) -> bool
-        ensures { result ≡ true → self.now.bits ≡ [] }
+        ensures { result ≡ is_empty self.now.bits }
     {
         self.have == 0
     }

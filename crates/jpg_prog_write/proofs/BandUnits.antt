@@ -5,22 +5,23 @@ use Rattle.std.specs.List.{All}
 use Rattle.std.proofs.lemmas.Int.{ints}
 use Rattle.std.proofs.lemmas.List.{get_or-replicate}
 use Rattle.jpg_spec.specs.Lists.{is_empty, is_among}
-use Rattle.jpg_spec.specs.Geometry.{Frame}
+use Rattle.jpg_spec.specs.Geometry.{Frame, bounds}
 use Rattle.jpg_spec.specs.Segments.{HuffmanTable, ScanHead, table_codes}
 use Rattle.jpg_spec.specs.ScanContents.{is_band, are_bits}
-use Rattle.jpg_spec.specs.Elements.{Element, difference, dc_bit, value, long_run, ends, Coding, are_in_bounds, is_zero, zeros}
+use Rattle.jpg_spec.specs.Elements.{Element, difference, dc_bit, value, long_run, ends, are_in_bounds, IsBlockIn, is_zero, zeros}
 use Rattle.jpg_spec.specs.Sending.{Sent, correction, newly, sent, up_to_last, behind_last, corrections_of, value_elements, ended, band_elements}
 use Rattle.jpg_spec.specs.Scan.{Blocks, block_at, part_of}
-use Rattle.jpg_spec.specs.ScanText.{UnitDue, Owned, units_due, last_dc, band_of, is_dc, interval_elements, unit_elements, element_bits, gray_coding}
-use Rattle.jpg_spec.specs.WrittenFile.{IsBaselineBlock}
+use Rattle.jpg_spec.specs.ScanText.{UnitDue, Owned, units_due, last_dc, band_of, is_dc, interval_elements, unit_elements, element_bits}
+use Rattle.jpg_spec.specs.WrittenFile.{HasBlocksIn}
 use Rattle.jpg_spec.specs.declared.frame.Place.{Place}
+use Rattle.jpg_spec.specs.declared.frame.Bounds.{Bounds}
 use Rattle.jpg_spec.specs.declared.frame.ScanPart.{ScanPart}
 use Rattle.jpg_spec.proofs.Common.{both, le_of, same_of, lt_yes, not_same, from_test}
 use Rattle.jpg_spec.proofs.PlacedBlocks.{Each, each_join}
 use Rattle.jpg_huff.specs.declared.set.TableSet.{TableSet}
 use Rattle.jpg_prog_write.specs.Items.{spelled, texts}
 use Rattle.jpg_prog_write.specs.Bands.{IsBand, IsBandOf, IsShort, sents}
-use Rattle.jpg_prog_write.specs.Written.{HasBaselineBlocks, IsProgScan, IsScanPlace, block_due, tables_in, codes_in, places_bits, no_part, first_slot}
+use Rattle.jpg_prog_write.specs.Written.{IsProgScan, IsScanPlace, block_due, tables_in, codes_in, places_bits, no_part, first_slot}
 use Rattle.jpg_prog_write.specs.declared.band.Band.{Band}
 use Rattle.jpg_prog_write.proofs.Places.{found_part, part_here, is_real_place, taken}
 
@@ -192,23 +193,23 @@ band_texts set f head band blocks places is some b all =
 
 -- BLOCKS
 
-small_at : (c : Coding) → c.bounds.ac ≡ pos 1023 → (values : List ℤ) (k : ℕ) → are_in_bounds c false values ≡ true → nat_abs (slice_index_or values k (pos 0)) < 2 ^ 14
-small_at c b [] k ok = lit< tt
-small_at c b (v ∷ values) k ok =
-    let h = both (int_le (pos (nat_abs v)) c.bounds.ac) (are_in_bounds c false values) ok in
-    by k (from_test (pos (nat_abs v)) (pos 1023) (subst (λ w. int_le (pos (nat_abs v)) w ≡ true) b h.0)) (λ n. small_at c b values n h.1)
+small_at : (r : Bounds) → r.ac ≡ pos 1023 → (values : List ℤ) (k : ℕ) → are_in_bounds r false values ≡ true → nat_abs (slice_index_or values k (pos 0)) < 2 ^ 14
+small_at r b [] k ok = lit< tt
+small_at r b (v ∷ values) k ok =
+    let h = both (int_le (pos (nat_abs v)) r.ac) (are_in_bounds r false values) ok in
+    by k (from_test (pos (nat_abs v)) (pos 1023) (subst (λ w. int_le (pos (nat_abs v)) w ≡ true) b h.0)) (λ n. small_at r b values n h.1)
   where
     by : (k : ℕ) → pos (nat_abs v) ≤ℤ pos 1023 → ((n : ℕ) → nat_abs (slice_index_or values n (pos 0)) < 2 ^ 14) → nat_abs (slice_index_or (v ∷ values) k (pos 0)) < 2 ^ 14
     by zero few ih = omega (arith, ints, few)
     by (suc n) few ih = ih n
 
-block_small : (c : Coding) → c.bounds.ac ≡ pos 1023 → (block : List ℤ) → are_in_bounds c true block ≡ true → (k : ℕ) → 1 ≤ k → nat_abs (slice_index_or block k (pos 0)) < 2 ^ 14
-block_small c b [] ok k h = lit< tt
-block_small c b (v ∷ values) ok zero h = absurd (omega (arith, h))
-block_small c b (v ∷ values) ok (suc k) h = small_at c b values k (both (int_le c.bounds.dc_low v && int_le v c.bounds.dc_high) (are_in_bounds c false values) ok).1
+block_small : (r : Bounds) → r.ac ≡ pos 1023 → (block : List ℤ) → are_in_bounds r true block ≡ true → (k : ℕ) → 1 ≤ k → nat_abs (slice_index_or block k (pos 0)) < 2 ^ 14
+block_small r b [] ok k h = lit< tt
+block_small r b (v ∷ values) ok zero h = absurd (omega (arith, h))
+block_small r b (v ∷ values) ok (suc k) h = small_at r b values k (both (int_le r.dc_low v && int_le v r.dc_high) (are_in_bounds r false values) ok).1
 
-baseline_short : (block : List ℤ) → IsBaselineBlock block → IsShort block
-baseline_short block is = record { long = is.0; short = λ k one few. block_small gray_coding refl block is.1 k one }
+block_short : (f : Frame) (block : List ℤ) → IsBlockIn (bounds f) block → IsShort block
+block_short f block is = record { long = is.0; short = λ k one few. block_small (bounds f) refl block is.1 k one }
 
 padded_short : (last : ℤ) → IsShort (last ∷ zeros 63)
 padded_short last = record { long = refl; short = at }
@@ -217,11 +218,11 @@ padded_short last = record { long = refl; short = at }
     at zero one few = absurd (omega (arith, one))
     at (suc k) one few = (let e = get_or-replicate 63 k (pos 0) (pos 0) (omega (arith, few)) in subst (λ v. nat_abs v < 2 ^ 14) (sym e) (lit< tt))
 
-pub due_short : (f : Frame) (head : ScanHead) (blocks : Blocks) (last : ℤ) (p : Place) → HasBaselineBlocks f blocks → IsScanPlace f head p → IsShort (block_due blocks last p)
+pub due_short : (f : Frame) (head : ScanHead) (blocks : Blocks) (last : ℤ) (p : Place) → HasBlocksIn f blocks → IsScanPlace f head p → IsShort (block_due blocks last p)
 due_short f head blocks last p all is = by p.real refl
   where
     by : (b : Bool) → p.real ≡ b → IsShort (cond b (block_at blocks p) (last ∷ zeros 63))
-    by true e = baseline_short (block_at blocks p) (all p.component p.x p.y (is_real_place f head p is e))
+    by true e = block_short f (block_at blocks p) (all p.component p.x p.y (is_real_place f head p is e))
     by false e = padded_short last
 
 -- the first band of those that are left

@@ -4,14 +4,13 @@ use Rattle.std.specs.Option.{option_map}
 use Rattle.jpg_spec.specs.Bits.{data_of}
 use Rattle.jpg_spec.specs.Codes.{Code}
 use Rattle.jpg_spec.specs.Lists.{is_among}
-use Rattle.jpg_spec.specs.Geometry.{Frame, IsReal, is_real, is_progressive}
+use Rattle.jpg_spec.specs.Geometry.{Frame, is_real, is_progressive}
 use Rattle.jpg_spec.specs.Segments.{HuffmanTable, ScanHead, head_components, table_codes}
 use Rattle.jpg_spec.specs.ScanContents.{are_parameters}
 use Rattle.jpg_spec.specs.Elements.{zeros}
 use Rattle.jpg_spec.specs.Sending.{shifted}
 use Rattle.jpg_spec.specs.Scan.{Blocks, block_at}
 use Rattle.jpg_spec.specs.ScanText.{Owned, dc_element, units_due, interval_elements, element_bits, scan_elements, scan_data}
-use Rattle.jpg_spec.specs.WrittenFile.{IsBaselineBlock}
 use Rattle.jpg_spec.specs.declared.frame.Place.{Place}
 use Rattle.jpg_spec.specs.declared.frame.ScanPart.{ScanPart}
 use Rattle.jpg_base.specs.Cursor.{AreIn}
@@ -38,10 +37,6 @@ pub record IsProgScan (f : Frame) (head : ScanHead) : Type 0 where
   pub progressive : is_progressive f.process ≡ true
   pub components : AreIn f (head_components head)
   pub parameters : are_parameters f (length head.parts) head ≡ true
-
--- 64 values in the bounds of precision 8 at each real place
-abbrev pub HasBaselineBlocks : Frame → Blocks → Type 0
-HasBaselineBlocks f blocks = (i x y : ℕ) → IsReal f i x y → IsBaselineBlock (blocks i x y)
 
 -- UNITS
 

@@ -1,8 +1,9 @@
 // The bands of a progressive AC scan, put block by block (T.81, G.1.2.2, G.1.2.3).
 ghost use Rattle.std.specs.Prelude.{◌≡◌, ◌≤◌, true, length, take, drop, Ok, All};
+ghost use Rattle.jpg_spec.specs.WrittenFile.{HasBlocksIn};
 ghost use Rattle.jpg_huff.specs.BitOut.{Puts};
 ghost use Rattle.jpg_prog_write.specs.Bands.{IsBand, IsBandOf};
-ghost use Rattle.jpg_prog_write.specs.Written.{HasBaselineBlocks, IsScanPlace, IsProgScan, places_bits, first_slot as slot_of};
+ghost use Rattle.jpg_prog_write.specs.Written.{IsScanPlace, IsProgScan, places_bits, first_slot as slot_of};
 
 use crate::band::Band;
 use crate::bands::Bands;
@@ -46,7 +47,7 @@ pub(crate) fn put_bands<V: BlockView, D: Desk>(
     requires created { (D.state desk.old).output_created ≡ true }
     requires scan { IsProgScan (V.numbers view.now) head.now }
     requires ac { 1 ≤ head.now.ss }
-    requires blocks { HasBaselineBlocks (V.numbers view.now) (V.blocks view.now) }
+    requires blocks { HasBlocksIn (V.numbers view.now) (V.blocks view.now) }
     requires places { All (IsScanPlace (V.numbers view.now) head.now) cursor.old }
     requires enough { count ≤ length cursor.old }
     ensures puts { Puts (D.state desk.old) out.old (places_bits tables.now head.now (V.blocks view.now) (take count cursor.old)) result out.new (D.state desk.new) }

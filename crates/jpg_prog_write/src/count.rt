@@ -2,8 +2,9 @@
 ghost use Rattle.std.specs.Prelude.{◌≡◌, ◌<◌, ◌≤◌, [], ◌∷◌, true, length, take, drop, List, All};
 ghost use Rattle.jpg_spec.specs.Scan.{part_of as part_in};
 ghost use Rattle.jpg_spec.specs.Sending.{Sent, ended};
+ghost use Rattle.jpg_spec.specs.WrittenFile.{HasBlocksIn};
 ghost use Rattle.jpg_prog_write.specs.Bands.{IsReady, elements_left, elements_waiting};
-ghost use Rattle.jpg_prog_write.specs.Written.{HasBaselineBlocks, IsProgScan, IsScanPlace, dc_unit};
+ghost use Rattle.jpg_prog_write.specs.Written.{IsProgScan, IsScanPlace, dc_unit};
 ghost use Rattle.jpg_prog_write.specs.Counted.{HasSlots, CountsClass, AreRows, Notes, NotesBut, marks_of, owned_marks, places_marks, no_rows, scan_marks};
 
 use crate::ac::{band_of, first_slot};
@@ -80,7 +81,7 @@ fn count_bands<V: BlockView>(
     requires scan { IsProgScan (V.numbers view.now) head.now }
     requires ac { 1 ≤ head.now.ss }
     requires slots { All HasSlots head.now.parts }
-    requires blocks { HasBaselineBlocks (V.numbers view.now) (V.blocks view.now) }
+    requires blocks { HasBlocksIn (V.numbers view.now) (V.blocks view.now) }
     requires places { All (IsScanPlace (V.numbers view.now) head.now) cursor.old }
     requires enough { count ≤ length cursor.old }
     requires rows { AreRows rows.old }
@@ -154,7 +155,7 @@ fn count_places<V: BlockView>(
     requires scan { IsProgScan (V.numbers view.now) head.now }
     requires first { head.now.ss ≡ 0 → head.now.ah ≡ 0 }
     requires slots { All HasSlots head.now.parts }
-    requires blocks { HasBaselineBlocks (V.numbers view.now) (V.blocks view.now) }
+    requires blocks { HasBlocksIn (V.numbers view.now) (V.blocks view.now) }
     requires four { length (V.numbers view.now).components ≤ 4 }
     requires places { All (IsScanPlace (V.numbers view.now) head.now) cursor.old }
     requires enough { count ≤ length cursor.old }
@@ -174,7 +175,7 @@ fn count_rows<V: BlockView>(view: &V, head: &ScanHead, interval: u16) -> Rows
     requires scan { IsProgScan (V.numbers view.now) head.now }
     requires first { head.now.ss ≡ 0 → head.now.ah ≡ 0 }
     requires slots { All HasSlots head.now.parts }
-    requires blocks { HasBaselineBlocks (V.numbers view.now) (V.blocks view.now) }
+    requires blocks { HasBlocksIn (V.numbers view.now) (V.blocks view.now) }
     ensures { Notes no_rows (scan_marks (V.numbers view.now) head.now interval (V.blocks view.now)) result }
 {
     let frame = view.frame();
@@ -197,7 +198,7 @@ fn count_rows<V: BlockView>(view: &V, head: &ScanHead, interval: u16) -> Rows
 pub fn count_scan<V: BlockView>(view: &V, head: &ScanHead, interval: u16) -> Used
     requires scan { IsProgScan (V.numbers view.now) head.now }
     requires slots { All HasSlots head.now.parts }
-    requires blocks { HasBaselineBlocks (V.numbers view.now) (V.blocks view.now) }
+    requires blocks { HasBlocksIn (V.numbers view.now) (V.blocks view.now) }
     ensures dc { CountsClass (V.numbers view.now) head.now interval (V.blocks view.now) 0 result.dc }
     ensures ac { CountsClass (V.numbers view.now) head.now interval (V.blocks view.now) 1 result.ac }
 {

@@ -1,7 +1,8 @@
 // The data of a progressive scan, written (T.81, G.1.2, E.1.4).
 ghost use Rattle.std.specs.Prelude.{◌≡◌, ◌≤◌, ◌==◌, if◌then◌else◌, Ok, true, All, length, take, drop};
+ghost use Rattle.jpg_spec.specs.WrittenFile.{HasBlocksIn};
 ghost use Rattle.jpg_huff.specs.BitOut.{CanSend, Puts, Sends};
-ghost use Rattle.jpg_prog_write.specs.Written.{HasBaselineBlocks, IsProgScan, IsScanPlace, places_bits, places_data, written_data};
+ghost use Rattle.jpg_prog_write.specs.Written.{IsProgScan, IsScanPlace, places_bits, places_data, written_data};
 
 use crate::ac::put_bands;
 use crate::dc::put_units;
@@ -21,7 +22,7 @@ fn put_places<V: BlockView, D: Desk>(
 ) -> Result<(), WriteFault>
     requires created { (D.state desk.old).output_created ≡ true }
     requires scan { IsProgScan (V.numbers view.now) head.now }
-    requires blocks { HasBaselineBlocks (V.numbers view.now) (V.blocks view.now) }
+    requires blocks { HasBlocksIn (V.numbers view.now) (V.blocks view.now) }
     requires four { length (V.numbers view.now).components ≤ 4 }
     requires places { All (IsScanPlace (V.numbers view.now) head.now) cursor.old }
     requires enough { count ≤ length cursor.old }
@@ -47,7 +48,7 @@ fn write_interval<V: BlockView, D: Desk>(
 ) -> Result<(), WriteFault>
     requires can { CanSend (D.state desk.old) out.old }
     requires scan { IsProgScan (V.numbers view.now) head.now }
-    requires blocks { HasBaselineBlocks (V.numbers view.now) (V.blocks view.now) }
+    requires blocks { HasBlocksIn (V.numbers view.now) (V.blocks view.now) }
     requires four { length (V.numbers view.now).components ≤ 4 }
     requires places { All (IsScanPlace (V.numbers view.now) head.now) cursor.old }
     requires enough { count ≤ length cursor.old }
@@ -74,7 +75,7 @@ pub fn write_scan<V: BlockView, D: Desk>(
 ) -> Result<(), WriteFault>
     requires can { CanSend (D.state desk.old) out.old }
     requires scan { IsProgScan (V.numbers view.now) head.now }
-    requires blocks { HasBaselineBlocks (V.numbers view.now) (V.blocks view.now) }
+    requires blocks { HasBlocksIn (V.numbers view.now) (V.blocks view.now) }
     ensures { Sends (D.state desk.old) out.old (written_data (V.numbers view.now) head.now tables.now interval (V.blocks view.now)) result out.new (D.state desk.new) }
 {
     let frame = view.frame();

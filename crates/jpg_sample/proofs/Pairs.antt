@@ -95,3 +95,18 @@ repeat_step times i row old new lt e is =
     ∙ ap (λ ys. repeat_row times (take i row) ++ ys) (sym (append-nil (replicate times (get_or row i 0))))
     ∙ sym (flat_map-append (λ s. replicate times s) (take i row) (get_or row i 0 ∷ []))
     ∙ ap (flat_map (λ s. replicate times s)) (sym (take_more row i 0 lt))
+
+pub fill_pair : (out : List ℕ) (n s : ℕ) → n + 2 ≤ length out → take (n + 2) (set (set out n s) (n + 1) s) ≡ take n out ++ replicate 2 s
+fill_pair out n s le =
+    let first = set out n s in
+    let long : length first ≡ length out = length-set out n s in
+    let more : n + 2 ≡ n + 1 + 1 = omega arith in
+    ap (λ m. take m (set first (n + 1) s)) more
+    ∙ take_more_set first (n + 1) s (omega (arith, le, long))
+    ∙ ap (λ ys. ys ++ s ∷ []) (take_more_set out n s (omega (arith, le)))
+    ∙ append_assoc (take n out) (s ∷ []) (s ∷ [])
+
+pub repeated_once : (row : List ℕ) → row ≡ repeat_row 1 row
+unfolding repeat_row
+repeated_once [] = refl
+repeated_once (s ∷ row) = ap (λ ys. s ∷ ys) (repeated_once row)

@@ -43,17 +43,17 @@ pub fn up_row(row: &[u8], out: &mut [u8])
 
 // A column of two rows, of which the near one counts three times.
 #[inline(always)]
-fn sum(near: &[u8], far: &[u8], i: usize) -> u32
+fn sum(near: &[u8], far: &[u8], i: usize) -> u16
     requires { (i < length near.now) × (i < length far.now) }
     ensures value { result ≡ column_sum near.now far.now i }
     ensures bound { result ≤ 1020 }
 {
-    3 * u32::from(near[i]) + u32::from(far[i])
+    3 * u16::from(near[i]) + u16::from(far[i])
 }
 
 // A sum, with more of itself or of a neighbour.
 #[inline(always)]
-fn mixed(c: u32, other: u32, more: u32) -> u8
+fn mixed(c: u16, other: u16, more: u16) -> u8
     requires { (c ≤ 1020) × (other ≤ 1020) × (more ≤ 8) }
     ensures { result ≡ (3 * c + other + more) / 16 }
 {

@@ -6,9 +6,9 @@ use Rattle.std.proofs.Math.Seq.{drop-cons}
 use Rattle.std.proofs.lemmas.List.{drop_all, get_or-replicate}
 use Rattle.jpg_spec.specs.Codes.{Code}
 use Rattle.jpg_spec.specs.Numbers.{category}
-use Rattle.jpg_spec.specs.Elements.{Coding, are_in_bounds, zeros}
-use Rattle.jpg_spec.specs.ScanText.{gray_coding}
-use Rattle.jpg_spec.specs.WrittenFile.{IsBaselineBlock}
+use Rattle.jpg_spec.specs.Geometry.{Frame, bounds}
+use Rattle.jpg_spec.specs.Elements.{are_in_bounds, IsBlockIn, zeros}
+use Rattle.jpg_spec.specs.declared.frame.Bounds.{Bounds}
 use Rattle.jpg_spec.proofs.Small.{ac_category, few_digits}
 use Rattle.jpg_spec.proofs.Common.{both}
 use Rattle.jpg_seq.specs.BlockBits.{IsShort}
@@ -23,26 +23,26 @@ left_end codes block k run h = ap (λ values. left_bits codes values run) (drop_
 
 -- VALUES WITHIN THE BOUNDS
 
-few_at : (c : Coding) → c.bounds.ac ≡ pos 1023 → (values : List ℤ) (k : ℕ) → are_in_bounds c false values ≡ true → category (slice_index_or values k (pos 0)) ≤ 15
+few_at : (r : Bounds) → r.ac ≡ pos 1023 → (values : List ℤ) (k : ℕ) → are_in_bounds r false values ≡ true → category (slice_index_or values k (pos 0)) ≤ 15
 unfolding Rattle.jpg_spec.specs.Numbers.digits
-few_at c b [] k ok = lit≤ tt
-few_at c b (v ∷ values) k ok =
-    let h = both (int_le (pos (nat_abs v)) c.bounds.ac) (are_in_bounds c false values) ok in
-    by k (ac_category v (subst (λ w. int_le (pos (nat_abs v)) w ≡ true) b h.0)) (λ n. few_at c b values n h.1)
+few_at r b [] k ok = lit≤ tt
+few_at r b (v ∷ values) k ok =
+    let h = both (int_le (pos (nat_abs v)) r.ac) (are_in_bounds r false values) ok in
+    by k (ac_category v (subst (λ w. int_le (pos (nat_abs v)) w ≡ true) b h.0)) (λ n. few_at r b values n h.1)
   where
     by : (k : ℕ) → category v ≤ 10 → ((n : ℕ) → category (slice_index_or values n (pos 0)) ≤ 15) → category (slice_index_or (v ∷ values) k (pos 0)) ≤ 15
     by zero few ih = omega arith
     by (suc n) few ih = ih n
 
-is_short : (c : Coding) → c.bounds.ac ≡ pos 1023 → (block : List ℤ) → are_in_bounds c true block ≡ true → IsShort block
+is_short : (r : Bounds) → r.ac ≡ pos 1023 → (block : List ℤ) → are_in_bounds r true block ≡ true → IsShort block
 unfolding Rattle.jpg_spec.specs.Numbers.digits
-is_short c b [] ok zero h l = absurd (omega arith)
-is_short c b [] ok (suc k) h l = lit≤ tt
-is_short c b (v ∷ values) ok zero h l = absurd (omega arith)
-is_short c b (v ∷ values) ok (suc k) h l = few_at c b values k (both (int_le c.bounds.dc_low v && int_le v c.bounds.dc_high) (are_in_bounds c false values) ok).1
+is_short r b [] ok zero h l = absurd (omega arith)
+is_short r b [] ok (suc k) h l = lit≤ tt
+is_short r b (v ∷ values) ok zero h l = absurd (omega arith)
+is_short r b (v ∷ values) ok (suc k) h l = few_at r b values k (both (int_le r.dc_low v && int_le v r.dc_high) (are_in_bounds r false values) ok).1
 
-pub baseline_short : (block : List ℤ) → IsBaselineBlock block → IsShort block
-baseline_short block is = is_short gray_coding refl block is.1
+pub block_short : (f : Frame) (block : List ℤ) → IsBlockIn (bounds f) block → IsShort block
+block_short f block is = is_short (bounds f) refl block is.1
 
 pub zeros_short : (last : ℤ) → IsShort (last ∷ zeros 63)
 unfolding Rattle.jpg_spec.specs.Numbers.digits

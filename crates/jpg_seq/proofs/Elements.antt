@@ -49,7 +49,7 @@ left_at p i others (v ∷ values) h = some_left i (63 - length values) others (o
 -- ONE ELEMENT
 
 pub one_element : (c : Coding) (s t : Standing) (u : UnitLeft) (units left : List UnitLeft) (e : Element) (here : List ℤ) (bits : List Bool) → s.left ≡ u ∷ units
-    → SpellsElement (codes_due c u) e bits → Tells c (s.predictions u.component) e u units here left → are_in_bounds c u.has_dc here ≡ true
+    → SpellsElement (codes_due c u) e bits → Tells c (s.predictions u.component) e u units here left → are_in_bounds c.bounds u.has_dc here ≡ true
     → record { predictions = predictions_after s.predictions u.component e; left = left } ≡ t → Covers c s (e ∷ []) here bits t
 one_element c s t u units left e here bits l sp told ok is =
     (u, units, here, left, [], bits, [], l, sym (append-nil here), sym (append-nil bits), sp, told, ok, (refl, refl, sym is))
@@ -58,7 +58,7 @@ one_element c s t u units left e here bits l sp told ok is =
 abbrev pub TellsHere : Coding → ℕ → ℕ → Element → List ℤ → Type 0
 TellsHere c i n e here =
     ((q : ℤ) (others : List UnitLeft) → Tells c q e (open_unit i (zeros n)) others here (going_on (open_unit i []) (zeros (n - length here)) others))
-    × (are_in_bounds c false here ≡ true) × ((p : ℕ → ℤ) → predictions_after p i e ≡ p)
+    × (are_in_bounds c.bounds false here ≡ true) × ((p : ℕ → ℤ) → predictions_after p i e ≡ p)
 
 pub value_tells : (c : Coding) (b : Bounds) (dc ac : List Code) (i n run : ℕ) (v : ℤ) → IsCodingOf b dc ac c i → AreSane b → 1 ≤ category v → category v ≤ b.ac_cat → run ≤ 15 → run < n
     → TellsHere c i n (value run v []) (zeros run ++ v ∷ [])

@@ -10,7 +10,9 @@ pub mod Marked
 pub mod NewCoders
 pub mod Parts
 pub mod Readings
+pub mod RowReadings
 pub mod ScanIntervals
+pub mod ScanRows
 pub mod ScanUnits
 pub mod Sources
 pub mod Steps

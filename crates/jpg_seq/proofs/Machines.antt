@@ -309,9 +309,9 @@ step_last m p coder now b whole first there count h one i bits o =
 
 -- A FAULT
 
-pub step_fault : (m new : SeqReader) (p : Place) (coder : Coder) (now after : Picture) (b : Bool) (fault : UnitFault) → slice_get m.cursor 0 ≡ Some p → coder_at m p.component ≡ Some coder
-    → IsWrong (env_at m coder p.component) m.unit b fault → Step sequential m now b (Err fault) new after
-step_fault m new p coder now after b fault first there h i bits o =
+pub step_fault : (m new : SeqReader) (p : Place) (coder : Coder) (now : Picture) (b : Bool) (fault : UnitFault) → slice_get m.cursor 0 ≡ Some p → coder_at m p.component ≡ Some coder
+    → IsWrong (env_at m coder p.component) m.unit b fault → Step sequential m now b (Err fault) new now
+step_fault m new p coder now b fault first there h i bits o =
     let n = next_is m i bits now p first o in
     let k = p.component in
     let s = m.unit in
@@ -321,23 +321,25 @@ step_fault m new p coder now after b fault first there h i bits o =
     let reads = reads_of m i bits now coder o coder' in
     let less = (o.at_work coder coder').left in
     let A : ℕ → Type 0 = λ q. IsWrong (env_at m coder q) s b fault in
-    let shows = subst A (sym kk) h i.scan.coding o.next.component o.predictions (new_units_at o.more) reads in
-    record {
-      elements = o.elements ++ o.unit_elements;
-      told = o.whole ++ s.values;
-      front = o.front ++ o.unit_front;
-      here = s.part ++ b ∷ [];
-      rest = [];
-      standing = st s.values;
-      unit = unit_in_work o.next.component s.values;
-      others = new_units_at o.more;
-      cut = part_more bits o.front o.part b o.split ∙ ap (λ z. o.front ++ z) (part_more o.part o.unit_front s.part b o.unit_split)
-          ∙ sym (append_assoc o.front o.unit_front (s.part ++ b ∷ [])) ∙ sym (append-nil ((o.front ++ o.unit_front) ++ (s.part ++ b ∷ [])));
-      covers = covers_then i.scan.coding (at_start (units_of i)) (st []) (st s.values) o.elements o.unit_elements o.whole s.values o.front o.unit_front o.covers o.unit_covers;
-      left = left_at o.predictions o.next.component (new_units_at o.more) s.values less;
-      codes = λ q. clash i.scan.coding.refines q.1 reads.0.first;
-      shows = shows;
-    }
+    let shows = subst A (sym kk) h i.scan.coding o.next.component o.predictions (new_units_at o.more) reads in (
+      record {
+        elements = o.elements ++ o.unit_elements;
+        told = o.whole ++ s.values;
+        front = o.front ++ o.unit_front;
+        here = s.part ++ b ∷ [];
+        rest = [];
+        standing = st s.values;
+        unit = unit_in_work o.next.component s.values;
+        others = new_units_at o.more;
+        cut = part_more bits o.front o.part b o.split ∙ ap (λ z. o.front ++ z) (part_more o.part o.unit_front s.part b o.unit_split)
+            ∙ sym (append_assoc o.front o.unit_front (s.part ++ b ∷ [])) ∙ sym (append-nil ((o.front ++ o.unit_front) ++ (s.part ++ b ∷ [])));
+        covers = covers_then i.scan.coding (at_start (units_of i)) (st []) (st s.values) o.elements o.unit_elements o.whole s.values o.front o.unit_front o.covers o.unit_covers;
+        left = left_at o.predictions o.next.component (new_units_at o.more) s.values less;
+        codes = λ q. clash i.scan.coding.refines q.1 reads.0.first;
+        shows = shows;
+      },
+      refl,
+    )
 
 -- THE TABLES OF A COMPONENT
 

@@ -85,7 +85,7 @@ pub fault_ends : (most : ℕ) (m0 : SeqReader) (now0 : Picture) (store0 : List B
     → slice_get m.cursor 0 ≡ Some p → SoFar most m0 now0 store0 m now store done → ReadsOn m p.component store (took.Fault fault) unit rest → TakesBits sequential most m0 now0 store0 (taken.Fault fault) new now rest
 fault_ends most m0 now0 store0 m now store done p unit rest fault new first s r =
     let h = r.2.2 in
-    let u = up_to most m0 now0 store0 m now store done p r.0 r.2.0 h.0 h.1 h.2 rest (Err fault) new now first r.1 s r.2.1 h.3 h.4 (step_fault (with_work m h.2) new p r.0 now now h.1 fault first r.1 h.5) in
+    let u = up_to most m0 now0 store0 m now store done p r.0 r.2.0 h.0 h.1 h.2 rest (Err fault) new now first r.1 s r.2.1 h.3 h.4 (step_fault (with_work m h.2) new p r.0 now h.1 fault first r.1 h.5) in
     (u.bits, u.split, u.chain)
 
 -- the machine and the picture behind a whole unit

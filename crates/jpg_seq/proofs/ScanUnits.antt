@@ -17,6 +17,7 @@ use Rattle.jpg_spec.specs.Elements.{Element, difference, value, long_run, is_zer
 use Rattle.jpg_spec.specs.Sending.{sent, shifted, band_elements}
 use Rattle.jpg_spec.specs.Scan.{Blocks, block_at, part_of}
 use Rattle.jpg_spec.specs.ScanText.{UnitDue, Owned, units_due, last_dc, unit_elements, element_bits, code_of}
+use Rattle.jpg_spec.specs.WrittenFile.{HasBlocksIn}
 use Rattle.jpg_spec.specs.declared.frame.Place.{Place}
 use Rattle.jpg_spec.specs.declared.frame.ScanPart.{ScanPart}
 use Rattle.jpg_huff.specs.declared.table.Table.{Table}
@@ -28,9 +29,9 @@ use Rattle.jpg_spec.proofs.Common.{both, some_once}
 use Rattle.jpg_spec.proofs.Small.{shifted_none}
 use Rattle.jpg_seq.specs.NewReader.{HasTables}
 use Rattle.jpg_seq.specs.BlockBits.{spelled, band_bits, block_bits, IsShort}
-use Rattle.jpg_seq.specs.ScanWritten.{tables_in, no_codes, IsScanPlace, block_due, unit_bits, places_bits, HasBaselineBlocks}
+use Rattle.jpg_seq.specs.ScanWritten.{tables_in, no_codes, IsScanPlace, block_due, unit_bits, places_bits}
 use Rattle.jpg_seq.proofs.Bands.{plain_elements, band_plain}
-use Rattle.jpg_seq.proofs.Blocks.{baseline_short, zeros_short}
+use Rattle.jpg_seq.proofs.Blocks.{block_short, zeros_short}
 
 -- THE BITS OF ONE UNIT, by the tables of its component
 
@@ -213,11 +214,11 @@ first_is P (q ∷ places) p all e = subst P (once q p e) (All-head P q places al
     once a b e = cc
 
 -- A BLOCK of values in the bounds has short codes
-pub due_short : (f : Frame) (head : ScanHead) (blocks : Blocks) (last : ℤ) (p : Place) → HasBaselineBlocks f blocks → IsScanPlace f head p → IsShort (block_due blocks last p)
+pub due_short : (f : Frame) (head : ScanHead) (blocks : Blocks) (last : ℤ) (p : Place) → HasBlocksIn f blocks → IsScanPlace f head p → IsShort (block_due blocks last p)
 due_short f head blocks last p all is = by p.real refl
   where
     by : (b : Bool) → p.real ≡ b → IsShort (cond b (block_at blocks p) (last ∷ zeros 63))
-    by true e = baseline_short (block_at blocks p) (all p.component p.x p.y (is_real_place f head p is e))
+    by true e = block_short f (block_at blocks p) (all p.component p.x p.y (is_real_place f head p is e))
     by false e = zeros_short last
 
 -- THE CODES of a part, as they were got for the set

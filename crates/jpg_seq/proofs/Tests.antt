@@ -14,13 +14,13 @@ use Rattle.jpg_spec.proofs.Common.{and_intro, both_false, in_order, from_test, a
 use Rattle.jpg_seq.specs.Range.{AreSane, InRange}
 use Rattle.jpg_seq.specs.Judge.{IsBadSymbol}
 
-pub first_in_bounds : (c : Coding) (b : Bounds) (v : ℤ) → c.bounds ≡ b → InRange b v → are_in_bounds c true (v ∷ []) ≡ true
+pub first_in_bounds : (c : Coding) (b : Bounds) (v : ℤ) → c.bounds ≡ b → InRange b v → are_in_bounds c.bounds true (v ∷ []) ≡ true
 first_in_bounds c b v e h =
     let k : int_le b.dc_low v ≡ true = in_order b.dc_low v h.0 in
     let l : int_le v b.dc_high ≡ true = in_order v b.dc_high h.1 in
     ap (λ (x : Bounds). (int_le x.dc_low v && int_le v x.dc_high) && true) e ∙ and_intro (int_le b.dc_low v && int_le v b.dc_high) true (and_intro (int_le b.dc_low v) (int_le v b.dc_high) k l) refl
 
-pub first_out : (c : Coding) (b : Bounds) (v : ℤ) → c.bounds ≡ b → (InRange b v → ⊥) → are_in_bounds c true (v ∷ []) ≡ false
+pub first_out : (c : Coding) (b : Bounds) (v : ℤ) → c.bounds ≡ b → (InRange b v → ⊥) → are_in_bounds c.bounds true (v ∷ []) ≡ false
 first_out c b v e h =
     ap (λ (x : Bounds). (int_le x.dc_low v && int_le v x.dc_high) && true) e
     ∙ both_false (int_le b.dc_low v) (int_le v b.dc_high) (λ t. h (from_test b.dc_low v t.0, from_test v b.dc_high t.1))
@@ -28,13 +28,13 @@ first_out c b v e h =
 most_positive : (b : Bounds) → AreSane b → pos 0 ≤ℤ b.ac
 most_positive b sane = omega (arith, ints, sane.ac, pow_pos b.ac_cat)
 
-pub zeros_in_bounds : (c : Coding) (b : Bounds) (n : ℕ) → c.bounds ≡ b → AreSane b → are_in_bounds c false (zeros n) ≡ true
+pub zeros_in_bounds : (c : Coding) (b : Bounds) (n : ℕ) → c.bounds ≡ b → AreSane b → are_in_bounds c.bounds false (zeros n) ≡ true
 zeros_in_bounds c b zero e sane = refl
 zeros_in_bounds c b (suc n) e sane =
-    and_intro (int_le (pos 0) c.bounds.ac) (are_in_bounds c false (zeros n)) (ap (λ (x : Bounds). int_le (pos 0) x.ac) e ∙ in_order (pos 0) b.ac (most_positive b sane)) (zeros_in_bounds c b n e sane)
+    and_intro (int_le (pos 0) c.bounds.ac) (are_in_bounds c.bounds false (zeros n)) (ap (λ (x : Bounds). int_le (pos 0) x.ac) e ∙ in_order (pos 0) b.ac (most_positive b sane)) (zeros_in_bounds c b n e sane)
 
 -- a value of an allowed category lies in the bounds
-pub value_in_bounds : (c : Coding) (b : Bounds) (v : ℤ) → c.bounds ≡ b → AreSane b → category v ≤ b.ac_cat → are_in_bounds c false (v ∷ []) ≡ true
+pub value_in_bounds : (c : Coding) (b : Bounds) (v : ℤ) → c.bounds ≡ b → AreSane b → category v ≤ b.ac_cat → are_in_bounds c.bounds false (v ∷ []) ≡ true
 value_in_bounds c b v e sane few =
     let l = below_digits (nat_abs v) in
     let m : 2 ^ category v ≤ 2 ^ b.ac_cat = pow-le-pow_right {n = 2} (omega arith) {i = category v} {j = b.ac_cat} few in

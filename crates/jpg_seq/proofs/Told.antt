@@ -4,11 +4,14 @@ use Rattle.std.specs.Prelude.{◌==◌}
 use Rattle.std.specs.List.{Contains}
 use Rattle.std.proofs.lemmas.Bool.{cases_lt}
 use Rattle.std.proofs.lemmas.Grind.{elements}
-use Rattle.std.proofs.lemmas.List.{drop-take, take-take}
+use Rattle.std.proofs.lemmas.List.{append_assoc, append-nil, drop-take, length-append, length-take-le, take-append-drop, take-take, take_all}
 use Rattle.jpg_spec.specs.Bits.{bits_of}
 use Rattle.jpg_spec.specs.Codes.{Code}
-use Rattle.jpg_spec.proofs.Strings.{bits_of-split}
-use Rattle.jpg_seq.specs.Values.{StandsToldFirst, TellsOrNone, told_none}
+use Rattle.jpg_spec.specs.Parts.{IsFront}
+use Rattle.jpg_spec.proofs.Strings.{bits_of-split, length-bits_of}
+use Rattle.jpg_huff.specs.Laws.{AreApart}
+use Rattle.jpg_huff.specs.Walk.{BeginsNoCode}
+use Rattle.jpg_seq.specs.Values.{StandsToldFirst, TellsNone, TellsOrNone, told_none}
 use Rattle.jpg_seq.specs.declared.values.Told.{Told}
 
 -- the bits of a number below 1024, and those of its parts
@@ -30,17 +33,18 @@ told_more codes told i t lt so_far here n h =
     subst P e (subst (λ x. TellsOrNone codes (bits_of 10 i) x) (sym w) here)))
     (cases_lt n i)
 
--- the first ten bits tell it, so all do
-pub told_first : (codes : List Code) (bits : List Bool) (ten : ℕ) (t : Told) → 10 ≤ length bits → bits_of 10 ten ≡ take 10 bits → TellsOrNone codes (bits_of 10 ten) t → (t.length ≡ 0 → ⊥) → StandsToldFirst codes bits t
-told_first codes bits ten t long is (inl none) some = absurd (some none)
-told_first codes bits ten t long is (inr f) some =
+-- the first ten bits alone tell it
+same_ten : (codes : List Code) (a b : List Bool) (t : Told) → take 10 a ≡ take 10 b → 10 ≤ length b → StandsToldFirst codes a t → StandsToldFirst codes b t
+same_ten codes a b t is long f =
     let k = f.code in let size = f.size in
     let few = f.few in
     let C : List Bool → Type 0 = λ x. Contains codes (x, 16 * t.run + size) in
-    let front : take k (bits_of 10 ten) ≡ take k bits = ap (take k) is ∙ take-take k 10 bits (omega (arith, few)) in
+    let low : k ≤ 10 = omega (arith, few) in
+    let front : take k a ≡ take k b = sym (take-take k 10 a low) ∙ ap (take k) is ∙ take-take k 10 b low in
     let ten_is : k + (10 - k) ≡ 10 = omega (arith, few) in
-    let behind : take size (drop k (bits_of 10 ten)) ≡ take size (drop k bits) =
-    ap (λ x. take size (drop k x)) is ∙ ap (λ n. take size (drop k (take n bits))) (sym ten_is) ∙ ap (take size) (drop-take k (10 - k) bits) ∙ take-take size (10 - k) (drop k bits) (omega (arith, few)) in
+    let part = λ (x : List Bool).
+    ap (λ n. take size (drop k (take n x))) (sym ten_is) ∙ ap (take size) (drop-take k (10 - k) x) ∙ take-take size (10 - k) (drop k x) (omega (arith, few)) in
+    let behind : take size (drop k a) ≡ take size (drop k b) = sym (part a) ∙ ap (λ x. take size (drop k x)) is ∙ part b in
     record {
       code = k;
       size = size;
@@ -54,3 +58,62 @@ told_first codes bits ten t long is (inr f) some =
       category = f.category;
       extra = f.extra ∙ behind;
     }
+
+first_ten : (bits : List Bool) (ten : ℕ) → bits_of 10 ten ≡ take 10 bits → take 10 (bits_of 10 ten) ≡ take 10 bits
+first_ten bits ten is = take_all 10 (bits_of 10 ten) (omega (arith, length-bits_of 10 ten)) ∙ is
+
+-- the first ten bits tell it, so all do
+pub told_first : (codes : List Code) (bits : List Bool) (ten : ℕ) (t : Told) → 10 ≤ length bits → bits_of 10 ten ≡ take 10 bits → TellsOrNone codes (bits_of 10 ten) t → (t.length ≡ 0 → ⊥) → StandsToldFirst codes bits t
+told_first codes bits ten t long is (inl none) some = absurd (some none.0)
+told_first codes bits ten t long is (inr f) some = same_ten codes (bits_of 10 ten) bits t (first_ten bits ten is) long f
+
+-- they tell none
+pub told_not : (codes : List Code) (bits : List Bool) (ten : ℕ) (t : Told) → bits_of 10 ten ≡ take 10 bits → TellsOrNone codes (bits_of 10 ten) t → t.length ≡ 0 → TellsNone codes bits
+told_not codes bits ten t is (inl none) e = λ u f. none.1 u (same_ten codes bits (bits_of 10 ten) u (sym (first_ten bits ten is)) (omega (arith, length-bits_of 10 ten)) f)
+told_not codes bits ten t is (inr f) e = absurd (omega (arith, f.sum, f.some, e))
+
+-- WHERE NONE STANDS FIRST
+
+-- two codes that stand first
+code_apart : (codes : List Code) → AreApart codes → (bits : List Bool) (k n s t : ℕ) → k ≤ length bits → n ≤ length bits → Contains codes (take k bits, s) → Contains codes (take n bits, t) → (k ≡ n) × (s ≡ t)
+code_apart codes apart bits k n s t a b h g =
+    let e = apart (take k bits, s) (take n bits, t) (drop k bits) (drop n bits) h g (take-append-drop k bits ∙ sym (take-append-drop n bits)) in
+    let l = ap (λ (c : Code). length c.0) e in
+    (omega (arith, l, length-take-le k bits a, length-take-le n bits b), ap (λ (c : Code). c.1) e)
+
+-- another code stands first, whose symbol tells no value that short
+pub none_symbol : (codes : List Code) (bits : List Bool) (n symbol : ℕ) → AreApart codes → n ≤ length bits → Contains codes (take n bits, symbol) → ((1 ≤ symbol % 16) × (n + symbol % 16 ≤ 10) → ⊥) → TellsNone codes bits
+none_symbol codes bits n symbol apart l h not = λ u f.
+    let e = code_apart codes apart bits f.code n (16 * u.run + f.size) symbol (omega (arith, f.there)) l f.in_codes h in
+    let m : (16 * u.run + f.size) % 16 ≡ f.size = omega (arith, f.few, f.some) in
+    let z : f.size ≡ symbol % 16 = sym m ∙ ap (λ q. q % 16) e.1 in
+    not (omega (arith, f.sized, z), omega (arith, f.few, e.0, z))
+
+-- the bits are a part of a code
+front_apart : (codes : List Code) (bits : List Bool) (k symbol : ℕ) → AreApart codes → IsFront codes bits → 1 ≤ k → k ≤ length bits → Contains codes (take k bits, symbol) → ⊥
+front_apart codes bits k symbol apart (inl nil) some low h = omega (arith, some, low, ap length nil)
+front_apart codes bits k symbol apart (inr b) some low h =
+    let more = b.1 ∷ b.2 in
+    let joined : take k bits ++ (drop k bits ++ more) ≡ b.0.0 ++ [] =
+    sym (append_assoc (take k bits) (drop k bits) more) ∙ ap (λ l. l ++ more) (take-append-drop k bits) ∙ sym b.4 ∙ sym (append-nil b.0.0) in
+    let l = ap (λ (c : Code). length c.0) (apart (take k bits, symbol) b.0 (drop k bits ++ more) [] h b.3 joined) in
+    omega (arith, l, ap length b.4, length-append bits more, length-take-le k bits low, low)
+
+pub none_part : (codes : List Code) (bits : List Bool) → AreApart codes → IsFront codes bits → TellsNone codes bits
+none_part codes bits apart front = λ u f. front_apart codes bits f.code (16 * u.run + f.size) apart front f.some (omega (arith, f.there)) f.in_codes
+
+-- they begin none with their nth bit
+pub none_begins : (codes : List Code) (bits : List Bool) (n : ℕ) → AreApart codes → 1 ≤ n → n ≤ length bits → IsFront codes (take (n - 1) bits) → BeginsNoCode codes (take n bits) → TellsNone codes bits
+none_begins codes bits n apart some low front none = λ u f.
+    let k = f.code in
+    let C : List Bool → Type 0 = λ x. Contains codes (x, 16 * u.run + f.size) in
+    ⊎_elim
+    (λ (a : k < n). (let le : k ≤ n - 1 = omega (arith, a) in
+    front_apart codes (take (n - 1) bits) k (16 * u.run + f.size) apart front f.some (omega (arith, le, low, length-take-le (n - 1) bits (omega (arith, low))))
+    (subst C (sym (take-take k (n - 1) bits le)) f.in_codes)))
+    (λ (b : n ≤ k). none (take k bits, 16 * u.run + f.size) (drop n (take k bits)) f.in_codes (sym (take-append-drop n (take k bits)) ∙ ap (λ x. x ++ drop n (take k bits)) (take-take n k bits b)))
+    (cases_lt k n)
+
+-- nothing is kept for bits that tell none
+pub kept_none : (codes : List Code) (bits ten : List Bool) (t : Told) → bits ≡ ten → t.length ≡ 0 → TellsNone codes bits → TellsOrNone codes ten t
+kept_none codes bits ten t is zero none = inl (zero, subst (λ b. TellsNone codes b) is none)

@@ -12,4 +12,6 @@ pub mod Work
 pub mod Reader
 pub mod ScanWritten
 pub mod SoFar
+pub mod Rows
+pub mod RowTaken
 pub mod NewReader

@@ -1,8 +1,8 @@
 -- The machine of a sequential scan before its first unit.
-use Rattle.std.specs.Prelude.{◌≡◌, ℕ, ◌<◌, ◌==◌, if◌then◌else◌, true, false, List, ◌++◌, length, slice_get, slice_index_or, Option, Some, All}
+use Rattle.std.specs.Prelude.{◌≡◌, ℕ, ◌<◌, ◌==◌, if◌then◌else◌, true, false, List, [], ◌∷◌, ◌++◌, length, slice_get, slice_index_or, Option, None, Some, All}
 use Rattle.std.specs.Option.{option_map}
 use Rattle.jpg_spec.specs.Lists.{is_distinct, slot_value}
-use Rattle.jpg_spec.specs.Geometry.{Frame, is_progressive, units}
+use Rattle.jpg_spec.specs.Geometry.{Frame, bounds, is_progressive, units}
 use Rattle.jpg_spec.specs.Segments.{ScanHead, head_components}
 use Rattle.jpg_spec.specs.Scan.{TablesInForce, scan_coding}
 use Rattle.jpg_spec.specs.declared.frame.ScanPart.{ScanPart}
@@ -13,6 +13,7 @@ use Rattle.jpg_huff.specs.Sets.{dc_tables, ac_tables, in_slot}
 use Rattle.jpg_huff.specs.Tables.{table_of, symbol_codes}
 use Rattle.jpg_coefs.specs.Picture.{map_of}
 use Rattle.jpg_coefs.specs.Machine.{Interval}
+use Rattle.jpg_seq.specs.declared.reader.SeqReader.{SeqReader}
 use Rattle.jpg_seq.specs.declared.work.Coder.{Coder}
 use Rattle.jpg_seq.specs.Reader.{IsSequential}
 
@@ -59,3 +60,15 @@ pub record AreFilled (set : TableSet) (parts : List ScanPart) (n : ℕ) (coders 
   pub four : length coders ≡ 4
   pub found : (k : ℕ) (coder : Coder) → slot_value (slice_get coders k) ≡ Some coder → (j : ℕ) × (j < n) × ((part_at parts j).component ≡ k) × IsCoderOf set (part_at parts j) coder
   pub there : (j : ℕ) → j < n → (coder : Coder) × (slot_value (slice_get coders (part_at parts j).component) ≡ Some coder)
+
+-- no tables
+abbrev pub no_coders : List (Option Coder)
+no_coders = None ∷ None ∷ None ∷ None ∷ []
+
+-- the machine before its tables are put in
+pub record IsBare (f : Frame) (head : ScanHead) (m : SeqReader) : Type 0 where
+  pub bounds : m.bounds ≡ bounds f
+  pub coders : m.coders ≡ no_coders
+  pub cursor : m.cursor ≡ units f (head_components head)
+  pub four : length m.predictions ≡ 4
+  pub left : m.left ≡ 0

@@ -2,12 +2,11 @@
 use Rattle.std.specs.Prelude.{◌≡◌, ℕ, ◌<◌, Bool, true, false, if◌then◌else◌, List, [], ◌∷◌, length, flat_map, unwrap_or, ℤ, pos}
 use Rattle.jpg_spec.specs.Bits.{data_of}
 use Rattle.jpg_spec.specs.Lists.{is_among}
-use Rattle.jpg_spec.specs.Geometry.{Frame, IsReal, is_real}
+use Rattle.jpg_spec.specs.Geometry.{Frame, is_real}
 use Rattle.jpg_spec.specs.Segments.{HuffmanTable, ScanHead, head_components, table_codes}
 use Rattle.jpg_spec.specs.Elements.{zeros}
 use Rattle.jpg_spec.specs.Scan.{Blocks, block_at, part_of}
 use Rattle.jpg_spec.specs.ScanText.{units_due, interval_elements, element_bits, scan_elements, scan_data}
-use Rattle.jpg_spec.specs.WrittenFile.{IsBaselineBlock}
 use Rattle.jpg_spec.specs.declared.frame.Place.{Place}
 use Rattle.jpg_huff.specs.declared.set.TableSet.{TableSet}
 use Rattle.jpg_seq.specs.NewReader.{in_force}
@@ -23,10 +22,6 @@ tables_in set class slot = unwrap_or (in_force set class slot) no_codes
 -- the data of the scan, with restart markers each so many MCUs (0: none)
 abbrev pub written_data : Frame → ScanHead → TableSet → ℕ → Blocks → List ℕ
 written_data f head set interval blocks = scan_data (tables_in set) head (scan_elements f head interval blocks)
-
--- 64 values in the bounds of precision 8 at each real place
-abbrev pub HasBaselineBlocks : Frame → Blocks → Type 0
-HasBaselineBlocks f blocks = (i x y : ℕ) → IsReal f i x y → IsBaselineBlock (blocks i x y)
 
 -- UNITS
 

@@ -1,5 +1,5 @@
 -- Values that stand first in bits, by their code and its extra bits (T.81, F.1.2.2, F.2.2.2).
-use Rattle.std.specs.Prelude.{◌≡◌, ◌⊎◌, ℕ, ◌+◌, ◌*◌, ◌<◌, ◌≤◌, Bool, List, length, take, drop, slice_index_or, Contains, pos}
+use Rattle.std.specs.Prelude.{◌≡◌, ◌⊎◌, ℕ, ◌+◌, ◌*◌, ◌<◌, ◌≤◌, Bool, List, length, take, drop, slice_index_or, Contains, pos, Option, None, Some}
 use Rattle.jpg_spec.specs.Bits.{bits_of}
 use Rattle.jpg_spec.specs.Codes.{Code}
 use Rattle.jpg_spec.specs.Numbers.{category, extra_bits}
@@ -19,9 +19,18 @@ pub record StandsToldFirst (codes : List Code) (bits : List Bool) (t : Told) : T
   pub category : category t.value ≡ size
   pub extra : extra_bits t.value ≡ take size (drop code bits)
 
--- or nothing is told
+-- no such value stands first
+abbrev pub TellsNone : List Code → List Bool → Type 0
+TellsNone codes bits = (t : Told) → StandsToldFirst codes bits t → ⊥
+
+-- nothing is told exactly where none does
 abbrev pub TellsOrNone : List Code → List Bool → Told → Type 0
-TellsOrNone codes bits t = (t.length ≡ 0) ⊎ StandsToldFirst codes bits t
+TellsOrNone codes bits t = ((t.length ≡ 0) × TellsNone codes bits) ⊎ StandsToldFirst codes bits t
+
+-- what the first ten of the bits tell, where ten are there
+abbrev pub TellsFirst : List Code → List Bool → Option Told → Type 0
+TellsFirst codes bits None = (length bits < 10) ⊎ TellsNone codes bits
+TellsFirst codes bits (Some t) = StandsToldFirst codes bits t
 
 abbrev pub told_none : Told
 told_none = record { value = pos 0; run = 0; length = 0 }

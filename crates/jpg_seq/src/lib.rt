@@ -10,6 +10,6 @@ mod values;
 mod work;
 mod write;
 
-pub use laws::sequential_machines_keep_units;
+pub use laws::{scans_have_rows, sequential_machines_keep_units};
 pub use reader::{BytesTaken, SeqReader};
 pub use scan_write::write_seq_scan;

@@ -1,14 +1,18 @@
 //! The machine that reads a sequential scan (T.81, F.2.2).
-ghost use Rattle.std.specs.Prelude.{◌≡◌, ◌≤◌, ◌<◌, ◌*◌, length, Bool, List, Some, All};
+ghost use Rattle.std.specs.Prelude.{◌≡◌, ◌≤◌, ◌<◌, ◌*◌, length, take, Bool, List, Some, All};
 ghost use Rattle.jpg_seq.specs.declared.work.Coder.{Coder as Coded};
-ghost use Rattle.jpg_seq.specs.NewReader.{HasTables, IsCoderOf, AreFilled, IsSeqScan, IsOfScan};
+ghost use Rattle.jpg_seq.specs.NewReader.{HasTables, IsBare, IsCoderOf, AreFilled, IsSeqScan, IsOfScan, no_coders};
 ghost use Rattle.jpg_spec.specs.Geometry.{padded_blocks};
+ghost use Rattle.jpg_spec.specs.Segments.{head_components};
+ghost use Rattle.jpg_base.specs.Cursor.{AreIn};
 ghost use Rattle.jpg_coefs.specs.Machine.{Interval, TakesBits};
 ghost use Rattle.jpg_base.specs.Cursor.{IsPadded};
-ghost use Rattle.jpg_coefs.specs.Picture.{with_block};
+ghost use Rattle.jpg_coefs.specs.Picture.{put_at, with_block};
 ghost use Rattle.jpg_seq.specs.Work.{EndsUnit};
 ghost use Rattle.jpg_seq.specs.Source.{bits_in};
 ghost use Rattle.jpg_seq.specs.BytesTaken.{TakesBytes};
+ghost use Rattle.jpg_seq.specs.Rows.{AreInRow, IsInRow, lowered};
+ghost use Rattle.jpg_seq.specs.RowTaken.{CanReadRow, Passes, TakesBytesInRow, TakesInRow};
 ghost use Rattle.jpg_seq.specs.Reader.{CanRead, ReadsOn, SeqStands, behind, with_work, sequential};
 
 use crate::source::Source;
@@ -30,31 +34,34 @@ pub struct SeqReader {
     left: u64,
 }
 
-// The tables of a part.
-fn coder_of(part: &ScanPart, tables: &TableSet) -> Option<Coder>
+// The tables of a part are put in a place.
+#[cold]
+#[inline(never)]
+fn put_coder(place: &mut Option<Coder>, part: &ScanPart, tables: &TableSet)
     requires { HasTables tables.now part.now }
-    ensures { (coder : Coded) × (result ≡ Some coder) × IsCoderOf tables.now part.now coder }
+    ensures { (coder : Coded) × (place.new ≡ Some coder) × IsCoderOf tables.now part.now coder }
 {
     let (Some(dc), Some(ac)) = (tables.dc(part.dc), tables.ac(part.ac)) else {
-        return None;
+        unreachable!();
     };
-    Some(Coder {
+    *place = Some(Coder {
         dc: Decoder::new(dc),
         ac: ValueDecoder::new(ac),
-    })
+    });
 }
 
-// The tables of the parts, by component.
-fn coders_of(parts: &[ScanPart], tables: &TableSet) -> [Option<Coder>; 4]
+// The tables of the parts are put in, by component.
+#[cold]
+#[inline(never)]
+fn put_coders(coders: &mut [Option<Coder>; 4], parts: &[ScanPart], tables: &TableSet)
+    requires none { coders.old ≡ no_coders }
     requires there { All (HasTables tables.now) parts.now }
     requires small { All (λ p. p.component < 4) parts.now }
-    ensures { AreFilled tables.now parts.now (length parts.now) result }
+    ensures { AreFilled tables.now parts.now (length parts.now) coders.new }
 {
-    let mut coders = [None, None, None, None];
     for part in parts {
-        coders[part.component as usize] = coder_of(part, tables);
+        put_coder(&mut coders[part.component as usize], part, tables);
     }
-    coders
 }
 
 impl SeqReader {
@@ -64,15 +71,35 @@ impl SeqReader {
         requires { IsSeqScan frame.now head.now tables.now }
         ensures { (i : Interval) → IsOfScan frame.now head.now tables.now i → sequential.ready result i }
     {
-        frame.checked();
+        let mut reader = SeqReader::bare(frame, head);
+        reader.put_tables(frame, head, tables);
+        reader
+    }
+
+    /// The same without the tables. They take tens of kilobytes, so `put_tables` puts them in where the machine stays.
+    #[inline(always)]
+    pub fn bare(frame: &Frame, head: &ScanHead) -> SeqReader
+        requires { AreIn frame.now (head_components head.now) }
+        ensures { IsBare frame.now head.now result }
+    {
         SeqReader {
             bounds: frame.bounds(),
-            coders: coders_of(head.parts.as_slice(), tables),
+            coders: [None, None, None, None],
             cursor: Cursor::new(frame, head),
             predictions: [0; 4],
             unit: UnitWork::new(),
             left: 0,
         }
+    }
+
+    /// Puts in the tables that the head names.
+    pub fn put_tables(&mut self, frame: &Frame, head: &ScanHead, tables: &TableSet)
+        requires scan { IsSeqScan frame.now head.now tables.now }
+        requires bare { IsBare frame.now head.now self.old }
+        ensures { (i : Interval) → IsOfScan frame.now head.now tables.now i → sequential.ready self.new i }
+    {
+        frame.checked();
+        put_coders(&mut self.coders, head.parts.as_slice(), tables);
     }
 
     // Takes bits of the unit in work.
@@ -145,6 +172,125 @@ impl SeqReader {
                     }
                 }
             }
+        }
+    }
+}
+
+impl SeqReader {
+    // A unit that is whole, whose block is put into the blocks of an MCU row.
+    #[inline(always)]
+    fn put_in_row(&mut self, unit: &mut UnitWork, row: &mut Coefs, tops: &[u32; 4], place: Place)
+        requires small { place.component < 4 }
+        requires here { IsInRow row.old.frame tops.now place }
+        requires whole { length unit.old.values ≡ 64 }
+        requires left { 1 ≤ self.old.left }
+        requires place { 1 ≤ length self.old.cursor }
+        ensures machine { with_work self.new unit.new ≡ behind (with_work self.old unit.old) place.component }
+        ensures count { length row.old.blocks ≡ padded_blocks row.old.frame }
+        ensures block { row.new ≡ put_at row.old (lowered tops.now place) unit.old.values }
+    {
+        row.checked();
+        let block = unit.block();
+        let top = tops[place.component as usize];
+        row.set_block(place.component, place.x, place.y - top, &block);
+        self.predictions[place.component as usize] = block.get(0);
+        *unit = UnitWork::new();
+        self.cursor.step();
+        self.left -= 1;
+    }
+
+    // Bits of the source, whose blocks are put into those of an MCU row.
+    #[inline(always)]
+    fn read_in_row(
+        &mut self,
+        unit: &mut UnitWork,
+        source: &mut Source<'_>,
+        row: &mut Coefs,
+        tops: &[u32; 4],
+        most: u64,
+    ) -> Taken
+        requires open { CanReadRow tops.now (with_work self.old unit.old) row.old }
+        requires inside { AreInRow row.old.frame tops.now (take most self.old.cursor) }
+        requires some { 1 ≤ most }
+        ensures takes { TakesInRow most tops.now (with_work self.old unit.old) row.old (bits_in source.old) result (with_work self.new unit.new) row.new (bits_in source.new) }
+        ensures passes { Passes most self.old result self.new }
+    {
+        let mut done = 0;
+        loop {
+            let place = self.cursor.place();
+            match self.unit_bits(place.component, unit, source) {
+                Took::More => return Taken::More,
+                Took::Empty => return Taken::More,
+                Took::Fault(fault) => return Taken::Fault(fault),
+                Took::Done => {
+                    self.put_in_row(unit, row, tops, place);
+                    if self.left == 0 {
+                        return Taken::IntervalDone;
+                    }
+                    done += 1;
+                    if done >= most {
+                        return Taken::Units;
+                    }
+                }
+            }
+        }
+    }
+
+    /// Takes bits from the front of the store as `bits` does, while an MCU row is read: its blocks begin at these
+    /// rows of the components' grids, and the next `most` units lie in it.
+    pub fn bits_in_row(
+        &mut self,
+        store: &mut BitStore,
+        row: &mut Coefs,
+        tops: &[u32; 4],
+        most: u64,
+    ) -> Taken
+        requires open { CanReadRow tops.now self.old row.old }
+        requires inside { AreInRow row.old.frame tops.now (take most self.old.cursor) }
+        requires some { 1 ≤ most }
+        ensures takes { TakesInRow most tops.now self.old row.old store.old result self.new row.new store.new }
+        ensures passes { Passes most self.old result self.new }
+    {
+        let mut unit = self.unit.copy();
+        let _ = store.len();
+        let mut source = Source {
+            store: store.copy(),
+            bytes: &[],
+        };
+        let taken = self.read_in_row(&mut unit, &mut source, row, tops, most);
+        source.take_all();
+        self.unit = unit;
+        *store = source.store;
+        taken
+    }
+
+    /// Takes the bits of data bytes, without stuffing, as `bits_in_row` takes those of a store.
+    pub fn bytes_in_row(
+        &mut self,
+        bytes: &[u8],
+        row: &mut Coefs,
+        tops: &[u32; 4],
+        most: u64,
+    ) -> BytesTaken
+        requires open { CanReadRow tops.now self.old row.old }
+        requires inside { AreInRow row.old.frame tops.now (take most self.old.cursor) }
+        requires some { 1 ≤ most }
+        requires few { length bytes.now < 4294967296 }
+        ensures takes { TakesBytesInRow most tops.now self.old row.old bytes.now result self.new row.new }
+        ensures within { result.bits ≤ 8 * length bytes.now }
+        ensures passes { Passes most self.old result.taken self.new }
+    {
+        let mut unit = self.unit.copy();
+        let mut source = Source {
+            store: BitStore::new(),
+            bytes,
+        };
+        let all = source.len();
+        let taken = self.read_in_row(&mut unit, &mut source, row, tops, most);
+        self.unit = unit;
+        BytesTaken {
+            taken,
+            bits: all - source.len(),
         }
     }
 }

@@ -2,10 +2,11 @@
 ghost use Rattle.std.specs.Prelude.{◌≡◌, ◌≤◌, ◌==◌, if◌then◌else◌, Ok, true, All, length, take, drop};
 ghost use Rattle.jpg_spec.specs.Geometry.{IsReal};
 ghost use Rattle.jpg_spec.specs.Scan.{part_of};
+ghost use Rattle.jpg_spec.specs.WrittenFile.{HasBlocksIn};
 ghost use Rattle.jpg_huff.specs.BitOut.{CanSend, Puts, Sends};
 ghost use Rattle.jpg_seq.specs.NewReader.{HasTables, IsSeqScan};
 ghost use Rattle.jpg_seq.specs.BlockBits.{IsShort};
-ghost use Rattle.jpg_seq.specs.ScanWritten.{HasBaselineBlocks, IsScanPlace, block_due, unit_bits, places_bits, places_data, written_data};
+ghost use Rattle.jpg_seq.specs.ScanWritten.{IsScanPlace, block_due, unit_bits, places_bits, places_data, written_data};
 
 use crate::write::put_block;
 use jpg_base::{Block, Cursor, Desk, Place, ScanHead, ScanPart, WriteFault};
@@ -76,7 +77,7 @@ fn put_units<V: BlockView, D: Desk>(
 ) -> Result<(), WriteFault>
     requires created { (D.state desk.old).output_created ≡ true }
     requires scan { IsSeqScan (V.numbers view.now) head.now encoders.now }
-    requires blocks { HasBaselineBlocks (V.numbers view.now) (V.blocks view.now) }
+    requires blocks { HasBlocksIn (V.numbers view.now) (V.blocks view.now) }
     requires four { length (V.numbers view.now).components ≤ 4 }
     requires places { All (IsScanPlace (V.numbers view.now) head.now) cursor.old }
     requires enough { count ≤ length cursor.old }
@@ -115,7 +116,7 @@ fn write_interval<V: BlockView, D: Desk>(
 ) -> Result<(), WriteFault>
     requires can { CanSend (D.state desk.old) out.old }
     requires scan { IsSeqScan (V.numbers view.now) head.now encoders.now }
-    requires blocks { HasBaselineBlocks (V.numbers view.now) (V.blocks view.now) }
+    requires blocks { HasBlocksIn (V.numbers view.now) (V.blocks view.now) }
     requires four { length (V.numbers view.now).components ≤ 4 }
     requires places { All (IsScanPlace (V.numbers view.now) head.now) cursor.old }
     requires enough { count ≤ length cursor.old }
@@ -141,7 +142,7 @@ pub fn write_seq_scan<V: BlockView, D: Desk>(
 ) -> Result<(), WriteFault>
     requires can { CanSend (D.state desk.old) out.old }
     requires scan { IsSeqScan (V.numbers view.now) head.now tables.now }
-    requires blocks { HasBaselineBlocks (V.numbers view.now) (V.blocks view.now) }
+    requires blocks { HasBlocksIn (V.numbers view.now) (V.blocks view.now) }
     ensures { Sends (D.state desk.old) out.old (written_data (V.numbers view.now) head.now tables.now interval (V.blocks view.now)) result out.new (D.state desk.new) }
 {
     let frame = view.frame();

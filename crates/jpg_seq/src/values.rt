@@ -1,11 +1,11 @@
 //! AC codes, and values that ten bits tell at once (T.81, F.2.2.2).
-ghost use Rattle.std.specs.Prelude.{◌≡◌, ◌<◌, ◌≤◌, List, length, Contains, IfSome};
+ghost use Rattle.std.specs.Prelude.{◌≡◌, ◌<◌, ◌≤◌, List, length, Contains};
 ghost use Rattle.jpg_spec.specs.Bits.{bits_of};
 ghost use Rattle.jpg_spec.specs.Codes.{Code};
 ghost use Rattle.jpg_huff.specs.Laws.{AreApart};
 ghost use Rattle.jpg_huff.specs.Look.{Spots};
 ghost use Rattle.jpg_huff.specs.Tables.{symbol_codes};
-ghost use Rattle.jpg_seq.specs.Values.{AreTold, StandsToldFirst, TellsOrNone};
+ghost use Rattle.jpg_seq.specs.Values.{AreTold, TellsFirst, TellsOrNone};
 
 use jpg_base::BitStore;
 use jpg_huff::{Decoder, Spotted, Table, extend};
@@ -67,6 +67,7 @@ fn told_by(codes: &Decoder, ten: u16) -> Told
     requires { ten < 1024 }
     ensures { TellsOrNone codes.now (bits_of 10 ten) result }
 {
+    codes.apart();
     let bits = ten_bits(ten);
     match codes.spot(&bits) {
         Spotted::Symbol { length, symbol } => {
@@ -88,6 +89,8 @@ fn told_by(codes: &Decoder, ten: u16) -> Told
 
 impl ValueDecoder {
     /// For the codes of this table.
+    #[cold]
+    #[inline(never)]
     pub fn new(table: &Table) -> ValueDecoder
         ensures { result ≡ symbol_codes table.now }
     {
@@ -115,10 +118,10 @@ impl ValueDecoder {
         self.decoder.spot(bits)
     }
 
-    /// A value that the first ten of these bits tell.
+    /// A value that the first ten of these bits tell: None where they tell none, and where fewer are there.
     #[inline(always)]
     pub fn told(&self, bits: &BitStore) -> Option<Told>
-        ensures { IfSome result (λ told. StandsToldFirst self.now bits.now told) }
+        ensures { TellsFirst self.now bits.now result }
     {
         if bits.len() < 10 {
             return None;

@@ -63,7 +63,7 @@ covers_then c s m t (e ∷ es) es' told told' bits bits' k l = (
 -- THE EOB of the bands that wait
 ended_covers : (c : Coding) (p : ℕ → ℤ) (i : ℕ) (wait : List (List ℤ)) (bits : List Bool) (us : List UnitLeft)
     → nonzeros_in (flat wait) ≡ length bits → (1 ≤ length wait → digits (length wait) ≤ c.most_run + 1) → AllHave (c.ac i) (ended (length wait) bits)
-    → are_in_bounds c false (corrected c.al (flat wait) bits) ≡ true
+    → are_in_bounds c.bounds false (corrected c.al (flat wait) bits) ≡ true
     → (b : List Bool) × Covers c (at p (units_of i wait ++ us)) (ended (length wait) bits) (corrected c.al (flat wait) bits) b (at p us)
 ended_covers c p i [] bits us n d have ok = ([], (refl, refl, refl))
 ended_covers c p i (w ∷ ws) bits us n d have ok =
@@ -225,7 +225,7 @@ done_then c p i es es' units mid told told' k l = (k.0 ++ l.0, covers_then c (at
 
 Later : Coding → (ℕ → ℤ) → ℕ → ℕ → List (List Sent) → List (List ℤ) → List (List ℤ) → Type 0
 Later c p i most later olds news = (bits : List Bool) (wait : List (List ℤ)) → length wait < most → nonzeros_in (flat wait) ≡ length bits
-    → AllHave (c.ac i) (band_elements most (length wait) bits later) → are_in_bounds c false (corrected c.al (flat wait) bits ++ flat news) ≡ true
+    → AllHave (c.ac i) (band_elements most (length wait) bits later) → are_in_bounds c.bounds false (corrected c.al (flat wait) bits ++ flat news) ≡ true
     → Done c p i (band_elements most (length wait) bits later) (units_of i wait ++ units_of i olds) (corrected c.al (flat wait) bits ++ flat news)
 
 -- a band that waits: its EOB is written at once, or later
@@ -233,7 +233,7 @@ waits_on : (c : Coding) (p : ℕ → ℤ) (i most : ℕ) (later : List (List Sen
     → ((n : ℕ) → 1 ≤ n → n ≤ most → digits n ≤ c.most_run + 1) → (length wait ≡ most → flag ≡ true)
     → length wait ≤ most → 0 < most → nonzeros_in (flat wait) ≡ length bits → Later c p i most later olds news
     → AllHave (c.ac i) (cond flag (ended (length wait) bits ++ band_elements most 0 [] later) (band_elements most (length wait) bits later))
-    → are_in_bounds c false (corrected c.al (flat wait) bits ++ flat news) ≡ true
+    → are_in_bounds c.bounds false (corrected c.al (flat wait) bits ++ flat news) ≡ true
     → Done c p i (cond flag (ended (length wait) bits ++ band_elements most 0 [] later) (band_elements most (length wait) bits later)) (units_of i wait ++ units_of i olds) (corrected c.al (flat wait) bits ++ flat news)
 unfolding Later
 waits_on c p i most later olds news bits wait true fits full small some n ih have ok =
@@ -266,7 +266,7 @@ going_first i o1 o2 x more us e = subst (λ q. going_on (record { component = i;
 band_waits : (c : Coding) (p : ℕ → ℤ) (i most : ℕ) (r : Sent) (rs : List Sent) (later : List (List Sent)) (o1 o2 n1 n2 : List ℤ) (olds news : List (List ℤ)) (bits : List Bool) (wait : List (List ℤ))
     → ((n : ℕ) → 1 ≤ n → n ≤ most → digits n ≤ c.most_run + 1)
     → length wait < most → nonzeros_in (flat wait) ≡ length bits → AllSent c [] o1 n1 → AllSent c (r ∷ rs) o2 n2 → any_of is_new (r ∷ rs) ≡ false → Later c p i most later olds news
-    → AllHave (c.ac i) (body most (length wait) bits [] (r ∷ rs) later) → are_in_bounds c false (corrected c.al (flat wait) bits ++ ((n1 ++ n2) ++ flat news)) ≡ true
+    → AllHave (c.ac i) (body most (length wait) bits [] (r ∷ rs) later) → are_in_bounds c.bounds false (corrected c.al (flat wait) bits ++ ((n1 ++ n2) ++ flat news)) ≡ true
     → Done c p i (body most (length wait) bits [] (r ∷ rs) later) (units_of i wait ++ units_of i ((o1 ++ o2) ∷ olds)) (corrected c.al (flat wait) bits ++ ((n1 ++ n2) ++ flat news))
 unfolding body
 band_waits c p i most r rs later o1 o2 n1 n2 olds news bits wait fits small n h1 h2 none ih have ok =
@@ -288,11 +288,11 @@ band_waits c p i most r rs later o1 o2 n1 n2 olds news bits wait fits small n h1
     λ e. (let t : (length wait + 1 == most) ≡ true = grind (arith, nat_tests, len, e) in ap (λ k. k || nat_lt 937 (length all)) t) in
     at_done c p i _ (cond flag (ended (length wait + 1) all ++ band_elements most 0 [] later) (band_elements most (length wait + 1) all later)) _ _ _ _ es units told
     (waits_on c p i most later olds news all (wait ++ o2 ∷ []) flag fits full (omega (arith, len, small)) (omega arith) nn ih
-    (subst (λ q. AllHave (c.ac i) q) (sym es) have) (ap (λ t. are_in_bounds c false t) told ∙ ok))
+    (subst (λ q. AllHave (c.ac i) q) (sym es) have) (ap (λ t. are_in_bounds c.bounds false t) told ∙ ok))
 
 -- a band up to its last new value
 band_front : (c : Coding) (p : ℕ → ℤ) (i : ℕ) (f : Sent) (fs : List Sent) (o1 o2 n1 : List ℤ) (olds : List (List ℤ)) → Fronted (f ∷ fs) → AllSent c (f ∷ fs) o1 n1
-    → AllHave (c.ac i) (value_elements 0 [] (f ∷ fs)) → are_in_bounds c false n1 ≡ true
+    → AllHave (c.ac i) (value_elements 0 [] (f ∷ fs)) → are_in_bounds c.bounds false n1 ≡ true
     → (b : List Bool) × Covers c (at p (units_of i ((o1 ++ o2) ∷ olds))) (value_elements 0 [] (f ∷ fs)) n1 b (at p (going_on (record { component = i; has_dc = false; old = [] }) o2 (units_of i olds)))
 band_front c p i f fs o1 o2 n1 olds fr h have ok =
     let k = front_covers c p i 0 [] [] (f ∷ fs) o1 n1 o2 (units_of i olds) (omega arith) refl refl (λ e. refl) fr h have ok in
@@ -301,7 +301,7 @@ band_front c p i f fs o1 o2 n1 olds fr h have ok =
 band_first : (c : Coding) (p : ℕ → ℤ) (i most : ℕ) (f : Sent) (fs : List Sent) (o1 o2 n1 : List ℤ) (olds : List (List ℤ)) (bits : List Bool) (wait : List (List ℤ))
     → ((n : ℕ) → 1 ≤ n → n ≤ most → digits n ≤ c.most_run + 1)
     → length wait < most → nonzeros_in (flat wait) ≡ length bits → Fronted (f ∷ fs) → AllSent c (f ∷ fs) o1 n1
-    → AllHave (c.ac i) (ended (length wait) bits ++ value_elements 0 [] (f ∷ fs)) → are_in_bounds c false (corrected c.al (flat wait) bits) ≡ true → are_in_bounds c false n1 ≡ true
+    → AllHave (c.ac i) (ended (length wait) bits ++ value_elements 0 [] (f ∷ fs)) → are_in_bounds c.bounds false (corrected c.al (flat wait) bits) ≡ true → are_in_bounds c.bounds false n1 ≡ true
     → (b : List Bool) × Covers c (at p (units_of i wait ++ units_of i ((o1 ++ o2) ∷ olds))) (ended (length wait) bits ++ value_elements 0 [] (f ∷ fs)) (corrected c.al (flat wait) bits ++ n1) b
     (at p (going_on (record { component = i; has_dc = false; old = [] }) o2 (units_of i olds)))
 band_first c p i most f fs o1 o2 n1 olds bits wait fits small n fr h have ok1 ok2 =
@@ -313,14 +313,14 @@ band_first c p i most f fs o1 o2 n1 olds bits wait fits small n fr h have ok1 ok
 band_new : (c : Coding) (p : ℕ → ℤ) (i most : ℕ) (f : Sent) (fs rest : List Sent) (later : List (List Sent)) (o1 o2 n1 n2 : List ℤ) (olds news : List (List ℤ)) (bits : List Bool) (wait : List (List ℤ))
     → ((n : ℕ) → 1 ≤ n → n ≤ most → digits n ≤ c.most_run + 1)
     → length wait < most → nonzeros_in (flat wait) ≡ length bits → Fronted (f ∷ fs) → AllSent c (f ∷ fs) o1 n1 → AllSent c rest o2 n2 → any_of is_new rest ≡ false → Later c p i most later olds news
-    → AllHave (c.ac i) (body most (length wait) bits (f ∷ fs) rest later) → are_in_bounds c false (corrected c.al (flat wait) bits ++ ((n1 ++ n2) ++ flat news)) ≡ true
+    → AllHave (c.ac i) (body most (length wait) bits (f ∷ fs) rest later) → are_in_bounds c.bounds false (corrected c.al (flat wait) bits ++ ((n1 ++ n2) ++ flat news)) ≡ true
     → Done c p i (body most (length wait) bits (f ∷ fs) rest later) (units_of i wait ++ units_of i ((o1 ++ o2) ∷ olds)) (corrected c.al (flat wait) bits ++ ((n1 ++ n2) ++ flat news))
 unfolding body Later
 band_new c p i most f fs [] later o1 o2 n1 n2 olds news bits wait fits small n fr h1 h2 none ih have ok =
     let t1 = corrected c.al (flat wait) bits in
     let hs = have_split (c.ac i) (ended (length wait) bits ++ value_elements 0 [] (f ∷ fs)) (band_elements most 0 [] later) have in
     let told : (t1 ++ n1) ++ flat news ≡ t1 ++ ((n1 ++ n2) ++ flat news) = ap (λ q. (t1 ++ n1) ++ (q ++ flat news)) (sym h2.1) ∙ regroup t1 n1 n2 (flat news) in
-    let b = bounds_split c (t1 ++ n1) (flat news) (ap (λ t. are_in_bounds c false t) told ∙ ok) in
+    let b = bounds_split c (t1 ++ n1) (flat news) (ap (λ t. are_in_bounds c.bounds false t) told ∙ ok) in
     let b1 = bounds_split c t1 n1 b.0 in
     let k = band_first c p i most f fs o1 o2 n1 olds bits wait fits small n fr h1 hs.0 b1.0 b1.1 in
     let first : (bb : List Bool) × Covers c (at p (units_of i wait ++ units_of i ((o1 ++ o2) ∷ olds))) (ended (length wait) bits ++ value_elements 0 [] (f ∷ fs)) (t1 ++ n1) bb (at p (units_of i olds)) = (
@@ -340,7 +340,7 @@ band_new c p i most f fs (r ∷ rs) later o1 o2 n1 n2 olds news bits wait fits s
     let bt = behind_told c (r ∷ rs) o2 n2 h2 none in
     let t2 : corrected c.al (flat (o2 ∷ [])) cr ≡ n2 = ap (λ q. corrected c.al q cr) (append-nil o2) ∙ sym bt.0 in
     let told : (t1 ++ n1) ++ (corrected c.al (flat (o2 ∷ [])) cr ++ flat news) ≡ t1 ++ ((n1 ++ n2) ++ flat news) = ap (λ q. (t1 ++ n1) ++ (q ++ flat news)) t2 ∙ regroup t1 n1 n2 (flat news) in
-    let b = bounds_split c (t1 ++ n1) (corrected c.al (flat (o2 ∷ [])) cr ++ flat news) (ap (λ t. are_in_bounds c false t) told ∙ ok) in
+    let b = bounds_split c (t1 ++ n1) (corrected c.al (flat (o2 ∷ [])) cr ++ flat news) (ap (λ t. are_in_bounds c.bounds false t) told ∙ ok) in
     let b1 = bounds_split c t1 n1 b.0 in
     let k = band_first c p i most f fs o1 o2 n1 olds bits wait fits small n fr h1 hs.0 b1.0 b1.1 in
     let mid : going_on (record { component = i; has_dc = false; old = [] }) o2 (units_of i olds) ≡ units_of i (o2 ∷ []) ++ units_of i olds =
@@ -361,13 +361,13 @@ AllBands c (band ∷ bands) olds news = (o : List ℤ) × (os : List (List ℤ))
 pub bands_cover : (c : Coding) (p : ℕ → ℤ) (i most : ℕ) (bands : List (List Sent)) (olds news : List (List ℤ)) (bits : List Bool) (wait : List (List ℤ))
     → ((n : ℕ) → 1 ≤ n → n ≤ most → digits n ≤ c.most_run + 1) → AllBands c bands olds news
     → length wait < most → nonzeros_in (flat wait) ≡ length bits
-    → AllHave (c.ac i) (band_elements most (length wait) bits bands) → are_in_bounds c false (corrected c.al (flat wait) bits ++ flat news) ≡ true
+    → AllHave (c.ac i) (band_elements most (length wait) bits bands) → are_in_bounds c.bounds false (corrected c.al (flat wait) bits ++ flat news) ≡ true
     → Done c p i (band_elements most (length wait) bits bands) (units_of i wait ++ units_of i olds) (corrected c.al (flat wait) bits ++ flat news)
 unfolding Later body
 bands_cover c p i most [] olds news bits wait fits h small n have ok =
     let t1 = corrected c.al (flat wait) bits in
     let told : t1 ≡ t1 ++ flat news = sym (ap (λ q. t1 ++ flat q) h.1 ∙ append-nil t1) in
-    let k = ended_covers c p i wait bits [] n (λ e. fits (length wait) e (omega arith)) have (ap (λ t. are_in_bounds c false t) told ∙ ok) in
+    let k = ended_covers c p i wait bits [] n (λ e. fits (length wait) e (omega arith)) have (ap (λ t. are_in_bounds c.bounds false t) told ∙ ok) in
     at_done c p i (ended (length wait) bits) _ _ _ _ _ refl (ap (λ q. units_of i wait ++ units_of i q) (sym h.0)) told k
 bands_cover c p i most (band ∷ bands) olds news bits wait fits h small n have ok =
     let s = split c band h.0 h.2 h.7 in
@@ -377,11 +377,11 @@ bands_cover c p i most (band ∷ bands) olds news bits wait fits h small n have 
     let units : units_of i wait ++ units_of i ((s.o1 ++ s.o2) ∷ h.1) ≡ units_of i wait ++ units_of i olds =
     ap (λ q. units_of i wait ++ units_of i (q ∷ h.1)) (sym s.joined.0) ∙ ap (λ q. units_of i wait ++ units_of i q) (sym h.4) in
     at_done c p i (body most (length wait) bits (up_to_last band) (behind_last band) bands) _ _ _ _ _ refl units told
-    (either (up_to_last band) (behind_last band) s later (omega (arith, s.sum, h.6)) s.fronted s.front s.behind s.none have (ap (λ t. are_in_bounds c false t) told ∙ ok))
+    (either (up_to_last band) (behind_last band) s later (omega (arith, s.sum, h.6)) s.fronted s.front s.behind s.none have (ap (λ t. are_in_bounds c.bounds false t) told ∙ ok))
   where
     either : (front rest : List Sent) (s : Split c band h.0 h.2) → Later c p i most bands h.1 h.3 → 0 < length front + length rest
         → Fronted front → AllSent c front s.o1 s.n1 → AllSent c rest s.o2 s.n2 → any_of is_new rest ≡ false
-        → AllHave (c.ac i) (body most (length wait) bits front rest bands) → are_in_bounds c false (corrected c.al (flat wait) bits ++ ((s.n1 ++ s.n2) ++ flat h.3)) ≡ true
+        → AllHave (c.ac i) (body most (length wait) bits front rest bands) → are_in_bounds c.bounds false (corrected c.al (flat wait) bits ++ ((s.n1 ++ s.n2) ++ flat h.3)) ≡ true
         → Done c p i (body most (length wait) bits front rest bands) (units_of i wait ++ units_of i ((s.o1 ++ s.o2) ∷ h.1)) (corrected c.al (flat wait) bits ++ ((s.n1 ++ s.n2) ++ flat h.3))
     either [] [] s later some fr h1 h2 none have ok = let f : ⊥ = omega arith in absurd f
     either [] (r ∷ rs) s later some fr h1 h2 none have ok = band_waits c p i most r rs bands s.o1 s.o2 s.n1 s.n2 h.1 h.3 bits wait fits small n h1 h2 none later have ok

@@ -10,7 +10,6 @@ use Rattle.jpg_spec.specs.Lists.{below, any_of, are_equal}
 use Rattle.jpg_spec.specs.Faults.{Told, refuse}
 use Rattle.jpg_spec.specs.Elements.{Coding, are_in_bounds}
 use Rattle.jpg_spec.specs.declared.fault.Fault.{Fault}
-use Rattle.jpg_spec.specs.declared.frame.Bounds.{Bounds}
 
 -- TESTS
 
@@ -162,17 +161,8 @@ any_append t (x ∷ xs) ys = by (t x) (any_append t xs ys)
     by false e = e
 
 -- values within the bounds of AC, and more of them
-pub bounds_join : (c : Coding) (xs ys : List ℤ) → are_in_bounds c false xs ≡ true → are_in_bounds c false ys ≡ true → are_in_bounds c false (xs ++ ys) ≡ true
+pub bounds_join : (c : Coding) (xs ys : List ℤ) → are_in_bounds c.bounds false xs ≡ true → are_in_bounds c.bounds false ys ≡ true → are_in_bounds c.bounds false (xs ++ ys) ≡ true
 bounds_join c [] ys h k = k
 bounds_join c (v ∷ xs) ys h k =
-    let s = both (int_le (pos (nat_abs v)) c.bounds.ac) (are_in_bounds c false xs) h in
-    and_intro (int_le (pos (nat_abs v)) c.bounds.ac) (are_in_bounds c false (xs ++ ys)) s.0 (bounds_join c xs ys s.1 k)
-
--- the same bounds, the same values within them
-pub same_within : (c d : Coding) → c.bounds ≡ d.bounds → (has_dc : Bool) (told : List ℤ) → are_in_bounds c has_dc told ≡ are_in_bounds d has_dc told
-same_within c d e has_dc [] = refl
-same_within c d e true (v ∷ told) =
-    ap (λ (b : Bounds). int_le b.dc_low v && int_le v b.dc_high && are_in_bounds c false told) e
-    ∙ ap (λ t. int_le d.bounds.dc_low v && int_le v d.bounds.dc_high && t) (same_within c d e false told)
-same_within c d e false (v ∷ told) =
-    ap (λ (b : Bounds). int_le (pos (nat_abs v)) b.ac && are_in_bounds c false told) e ∙ ap (λ t. int_le (pos (nat_abs v)) d.bounds.ac && t) (same_within c d e false told)
+    let s = both (int_le (pos (nat_abs v)) c.bounds.ac) (are_in_bounds c.bounds false xs) h in
+    and_intro (int_le (pos (nat_abs v)) c.bounds.ac) (are_in_bounds c.bounds false (xs ++ ys)) s.0 (bounds_join c xs ys s.1 k)

@@ -119,7 +119,7 @@ past_end c p (ends bands bits) u us here left n m x b y z facts ic t dc most fit
 -- THE LAW
 pub shows_excludes : (c : Coding) (s : Standing) (u : UnitLeft) (us : List UnitLeft) (fault : Fault) (e : Element) (here : List ℤ) (left : List UnitLeft) (bits front y z : List Bool)
     → NumberFacts → IsCoding c → OneWay (codes_due c u) → ((u.has_dc ≡ true) × (c.refines ≡ true) → ⊥)
-    → BitsShow c s u us fault bits → SpellsElement (codes_due c u) e front → Tells c (s.predictions u.component) e u us here left → are_in_bounds c u.has_dc here ≡ true
+    → BitsShow c s u us fault bits → SpellsElement (codes_due c u) e front → Tells c (s.predictions u.component) e u us here left → are_in_bounds c.bounds u.has_dc here ≡ true
     → bits ++ z ≡ front ++ y → ⊥
 shows_excludes c s u us fault e here left bits front y z facts ic one due (inl k) sp t ok same =
     no_code (codes_due c u) (symbol_of e) (bits_behind e) front bits y z k.1 (codes_are_due c (s.predictions u.component) e u us here left (codes_due c u) front t due sp) same
@@ -138,7 +138,7 @@ shows_excludes c s u us fault e here left bits front y z facts ic one due (inr (
     let a = told_is c (s.predictions u.component) q.0 u us q.1 q.2 q.4 in
     let a' = told_is c (s.predictions u.component) e u us here left t in
     let eh : q.1 ≡ here = a.0 ∙ ap (λ d. values_told c (s.predictions u.component) d u us) ee ∙ sym a'.0 in
-    clash (are_in_bounds c u.has_dc here) ok (ap (λ v. are_in_bounds c u.has_dc v) (sym eh) ∙ q.5)
+    clash (are_in_bounds c.bounds u.has_dc here) ok (ap (λ v. are_in_bounds c.bounds u.has_dc v) (sym eh) ∙ q.5)
 shows_excludes c s u us fault e here left bits front y z facts ic one due (inr (inr (inr (inr k)))) sp t ok same =
     let q = k.1 in
     let d = codes_are_due c (s.predictions u.component) e u us here left (codes_due c u) front t due sp in
@@ -164,7 +164,7 @@ data_excludes c units fault bits bits' more more' told facts ic one d w same =
     longer [] values spelling t nil k r y' s = no_units d.unit d.others (sym d.left ∙ ap (λ (z : Standing). z.left) (sym k.2) ∙ nil)
     longer (e ∷ es) values spelling t nil k r y' s =
         let h = head_inj d.unit k.0 d.others k.1 (sym d.left ∙ k.7) in
-        let Q : UnitLeft → List UnitLeft → Type 0 = λ v vs. SpellsElement (codes_due c v) e k.5 × Tells c (d.standing.predictions v.component) e v vs k.2 k.3 × (are_in_bounds c v.has_dc k.2 ≡ true) in
+        let Q : UnitLeft → List UnitLeft → Type 0 = λ v vs. SpellsElement (codes_due c v) e k.5 × Tells c (d.standing.predictions v.component) e v vs k.2 k.3 × (are_in_bounds c.bounds v.has_dc k.2 ≡ true) in
         let q0 : Q k.0 k.1 = (k.10, k.11, k.12) in
         let q1 : Q d.unit k.1 = subst (λ v. Q v k.1) (sym h.0) q0 in
         let q : Q d.unit d.others = subst (λ vs. Q d.unit vs) (sym h.1) q1 in

@@ -24,7 +24,7 @@ use Rattle.jpg_spec.proofs.WrittenScript.{among_join}
 
 -- WHERE NOTHING IS FOUND
 
-first_none : {X : Type 0} (a b : Option X) → first_some a b ≡ None → (a ≡ None) × (b ≡ None)
+pub first_none : {X : Type 0} (a b : Option X) → first_some a b ≡ None → (a ≡ None) × (b ≡ None)
 first_none None b e = (refl, e)
 first_none (Some x) b e = cc
 

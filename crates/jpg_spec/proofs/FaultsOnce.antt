@@ -120,7 +120,7 @@ no_element_there : (c : Coding) (units : List UnitLeft) (fault : Fault) (bits : 
     → Covers c d.standing (e ∷ es) told spelling t → d.here ++ d.rest ≡ spelling ++ y → ⊥
 no_element_there c units fault bits d e es told spelling y t sound k cut =
     let h = head_inj d.unit k.0 d.others k.1 (sym d.left ∙ k.7) in
-    let Q : UnitLeft → List UnitLeft → Type 0 = λ v vs. SpellsElement (codes_due c v) e k.5 × Tells c (d.standing.predictions v.component) e v vs k.2 k.3 × (are_in_bounds c v.has_dc k.2 ≡ true) in
+    let Q : UnitLeft → List UnitLeft → Type 0 = λ v vs. SpellsElement (codes_due c v) e k.5 × Tells c (d.standing.predictions v.component) e v vs k.2 k.3 × (are_in_bounds c.bounds v.has_dc k.2 ≡ true) in
     let q0 : Q k.0 k.1 = (k.10, k.11, k.12) in
     let q1 : Q d.unit k.1 = subst (λ v. Q v k.1) (sym h.0) q0 in
     let q : Q d.unit d.others = subst (λ vs. Q d.unit vs) (sym h.1) q1 in

@@ -12,7 +12,7 @@ use Rattle.jpg_spec.specs.Geometry.{Frame, is_progressive, units, mcu_units}
 use Rattle.jpg_spec.specs.FrameHeader.{AreLimits}
 use Rattle.jpg_spec.specs.Segments.{HuffmanTable, ScanHead, head_components}
 use Rattle.jpg_spec.specs.Scan.{Blocks, scan_coding}
-use Rattle.jpg_spec.specs.ScanText.{units_due, last_dc, intervals_text, typical_table, typical_tables, gray_coding}
+use Rattle.jpg_spec.specs.ScanText.{units_due, last_dc, intervals_text, typical_table, typical_tables}
 use Rattle.jpg_spec.specs.Markers.{eoi}
 use Rattle.jpg_spec.specs.Meaning.{Meaning, PictureComponent, colour_of}
 use Rattle.jpg_spec.specs.Script.{Entry}
@@ -40,7 +40,7 @@ use Rattle.jpg_spec.specs.FileMeaning.{Means}
 use Rattle.jpg_spec.specs.Laws.{IsOwnText}
 use Rattle.jpg_spec.proofs.WrittenScripts.{sequential_passes}
 use Rattle.jpg_spec.proofs.WrittenMeans.{sequential_means}
-use Rattle.jpg_spec.proofs.Common.{both, neither, same_itself, same_within}
+use Rattle.jpg_spec.proofs.Common.{both, neither, same_itself}
 
 -- THE DATA of a scan
 
@@ -76,7 +76,7 @@ data_long H head n fit known =
     let rows = rows_of H head n in
     let size = n * mcu_units f parts in
     let sendable = each_units (IsRealSendable c H.blocks) f parts
-    (λ i x y e real. (let b = fit.blocks i x y (known i e) real in (b.0, sym (same_within gray_coding c refl true (H.blocks i x y)) ∙ b.1))) in
+    (λ i x y e real. fit.blocks i x y (known i e) real) in
     let each = each_map (λ row. Each (IsRealSendable c H.blocks) row) (λ row. length (stuffed (sequential_coded head H.blocks row)) ≤ 496 * length row + 2) rows
     (λ row h. interval_long f head H.blocks row fit.sequential fit.frame.precision h) (each_rows (IsRealSendable c H.blocks) size (units f parts) sendable) in
     let long = intervals_long (λ row. stuffed (sequential_coded head H.blocks row)) 0 rows each in

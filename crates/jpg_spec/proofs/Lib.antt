@@ -18,6 +18,9 @@ pub mod FilesOnce
 pub mod FramesKept
 pub mod FirstPasses
 pub mod FirstScan
+pub mod CodedBlocks
+pub mod EncodedWritten
+pub mod Frequencies
 pub mod FrameBehind
 pub mod FlatTables
 pub mod FrameFound
@@ -115,3 +118,9 @@ pub mod WrittenStep
 pub mod WrittenScripts
 pub mod WrittenSequential
 pub mod Writing
+pub mod ImageRuns
+pub mod ImageTextRuns
+pub mod ImageBodyRuns
+pub mod ImageStands
+pub mod ImageJudged
+pub mod OneImage

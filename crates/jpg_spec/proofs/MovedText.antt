@@ -25,10 +25,10 @@ use Rattle.jpg_spec.proofs.WrittenMeans.{count_is, sequential_means}
 
 -- THE FRAME of what is written
 
-headed_frame : (H : Meaning) → IsHeaded standard_limits H → IsFrame (frame_of_meaning H)
+pub headed_frame : (H : Meaning) → IsHeaded standard_limits H → IsFrame (frame_of_meaning H)
 headed_frame H headed = frame_is standard_limits (frame_of_meaning H) (frame_of_meaning H) standard_are_limits headed.frame
 
-has_standard : (H : Meaning) → IsHeaded standard_limits H → HasStandardScript (frame_of_meaning H) (colour_of H)
+pub has_standard : (H : Meaning) → IsHeaded standard_limits H → HasStandardScript (frame_of_meaning H) (colour_of H)
 has_standard H headed =
     let is = headed_frame H headed in
     let count = count_is H in
@@ -36,7 +36,7 @@ has_standard H headed =
 
 -- THE OWN SCANS have no fault
 
-own_by : (s : Scans) (f : Frame) (colour : Colour) → IsFrame f → HasStandardScript f colour → AreOwn s → script_fault f (script_due s f colour) ≡ None
+pub own_by : (s : Scans) (f : Frame) (colour : Colour) → IsFrame f → HasStandardScript f colour → AreOwn s → script_fault f (script_due s f colour) ≡ None
 own_by sequential f colour is has own = (sequential_has_none f is).faultless
 own_by standard f colour is has own = standard_passes f colour has
 own_by (given script) f colour is has own = absurd own
@@ -48,7 +48,7 @@ own_fault choice M headed own =
 
 -- THE SCRIPT IS OF THE FILE'S KIND
 
-same_kind : (s : Scans) (f : Frame) (colour : Colour) → IsFrame f → HasStandardScript f colour → is_progressive_script (script_due s f colour) ≡ asks_progressive s
+pub same_kind : (s : Scans) (f : Frame) (colour : Colour) → IsFrame f → HasStandardScript f colour → is_progressive_script (script_due s f colour) ≡ asks_progressive s
 same_kind sequential f colour is has = (sequential_has_none f is).sequential
 same_kind standard f colour is has = standard_begins f colour has
 same_kind (given script) f colour is has = refl
@@ -71,7 +71,7 @@ moved_kind choice M = by (asks_progressive choice.scans)
 abbrev pub does_pass_as : Bool → Meaning → List Entry → Bool
 does_pass_as is_prog H script = cond is_prog (is_progressive_behind H [] script) (is_script_behind (frame_of_meaning H) [] script)
 
-passes_by : (H : Meaning) (script : List Entry) (b : Bool) → length (frame_of_meaning H).components ≤ 4 → is_progressive H.process ≡ b → is_progressive_script script ≡ b → script_fault (frame_of_meaning H) script ≡ None
+pub passes_by : (H : Meaning) (script : List Entry) (b : Bool) → length (frame_of_meaning H).components ≤ 4 → is_progressive H.process ≡ b → is_progressive_script script ≡ b → script_fault (frame_of_meaning H) script ≡ None
     → does_pass_as b H script ≡ true
 passes_by H script true few process kind none = progressive_without_fault H script (record { few = few; process = process; progressive = kind; faultless = none })
 passes_by H script false few process kind none = sequential_without_fault (frame_of_meaning H) script (record { few = few; sequential = kind; faultless = none })
@@ -85,7 +85,7 @@ moved_passes choice M headed none =
 
 -- WHAT IS WRITTEN means the picture moved
 
-means_by : (H : Meaning) (script : List Entry) (restart : Restart) (b : Bool) → is_progressive H.process ≡ b → IsHeaded standard_limits H → does_pass_as b H script ≡ true → IsRestart restart
+pub means_by : (H : Meaning) (script : List Entry) (restart : Restart) (b : Bool) → is_progressive H.process ≡ b → IsHeaded standard_limits H → does_pass_as b H script ≡ true → IsRestart restart
     → Means standard_limits (file_text H script restart) H
 means_by H script restart true process headed passes small =
     let short = progressive_short standard_limits H script restart standard_are_limits headed process passes small in

@@ -8,10 +8,9 @@ use Rattle.std.proofs.lemmas.List.Sums.{AllPass-from_list_all}
 use Rattle.std.proofs.lemmas.Bool.{ltb-true}
 use Rattle.jpg_spec.specs.Lists.{any_of}
 use Rattle.jpg_spec.specs.Segments.{QuantTable, standard_limits}
-use Rattle.jpg_spec.specs.Geometry.{Frame, greatest, h_max, v_max, component_at, is_real}
+use Rattle.jpg_spec.specs.Geometry.{Frame, bounds, greatest, h_max, v_max, component_at, is_real}
 use Rattle.jpg_spec.specs.FrameHeader.{IsFrame}
-use Rattle.jpg_spec.specs.Elements.{zeros}
-use Rattle.jpg_spec.specs.ScanText.{gray_coding}
+use Rattle.jpg_spec.specs.Elements.{zeros, IsBlockIn}
 use Rattle.jpg_spec.specs.Markers.{kept_count}
 use Rattle.jpg_spec.specs.Meaning.{Meaning, PictureComponent, picture_frame, real_blocks, colour_of}
 use Rattle.jpg_spec.specs.Moves.{zigzag, mirrored, mirrored_down, most_across, most_down, component_of, whole_columns, whole_rows, flip_h, flip_v, headed_by}
@@ -19,10 +18,11 @@ use Rattle.jpg_spec.specs.Transposed.{exchanged, transposed}
 use Rattle.jpg_spec.specs.Transforms.{transformed, transpose, exchanged_axes, mirrors_across, mirrors_down}
 use Rattle.jpg_spec.specs.Moved.{Choice, picture_grids, grayed, trimmed, whole_side, moved, process_due, asks_progressive, gray_fault, is_gray_or_ycbcr, transformed_frame, trimmed_frame, grayed_frame, exchanged_factors}
 use Rattle.jpg_spec.specs.FileText.{frame_of_meaning, distinct_after, distinct_quants, slot_in}
-use Rattle.jpg_spec.specs.WrittenFile.{IsQuantiser, HasQuants, IsBaselineBlock, IsKeptMarker, IsHeaded}
+use Rattle.jpg_spec.specs.WrittenFile.{IsQuantiser, HasQuants, IsKeptMarker, IsHeaded}
 use Rattle.jpg_spec.specs.Lists.{are_equal}
 use Rattle.jpg_spec.specs.WholeBlocks.{HasWholeBlocks}
 use Rattle.jpg_spec.specs.declared.frame.Component.{Component}
+use Rattle.jpg_spec.specs.declared.frame.Bounds.{Bounds}
 use Rattle.jpg_spec.specs.declared.transform.PictureFault.TheVariants.{GrayColour, GrayFactors}
 use Rattle.jpg_spec.specs.declared.transform.Transform.{Transform}
 use Rattle.jpg_spec.specs.declared.transform.Transform.TheVariants.{Keep, FlipH, FlipV, Transpose, Transverse, Rotate90, Rotate180, Rotate270}
@@ -30,11 +30,11 @@ use Rattle.jpg_spec.proofs.Common.{same_of, equal_itself}
 use Rattle.jpg_spec.proofs.Rows.{map_map}
 use Rattle.jpg_spec.proofs.BlockLaws.{length_transposed}
 use Rattle.jpg_spec.proofs.PlacesFound.{or_first, or_second}
-use Rattle.jpg_spec.proofs.Within.{mirrored_writable}
+use Rattle.jpg_spec.proofs.Within.{mirrored_in}
 use Rattle.jpg_spec.proofs.WrittenQuants.{is_in, equal_swap, distinct_has}
 use Rattle.jpg_spec.proofs.WrittenFront.{frame_component}
 use Rattle.jpg_spec.proofs.WrittenHeading.{heading, other_process}
-use Rattle.jpg_spec.proofs.MovedBounds.{transposed_writable, mirrored_down_writable}
+use Rattle.jpg_spec.proofs.MovedBounds.{transposed_in, mirrored_down_in}
 use Rattle.jpg_spec.proofs.MovedFrames.{transformed_is, trimmed_is, grayed_is, across_low, down_low}
 use Rattle.jpg_spec.proofs.OutsideZeros.{HasRealBlocks, transformed_real, alone}
 use Rattle.jpg_spec.proofs.SameNumbers.{numbers_of, SameNumbers, same_frame, frame_passes, is_place, same_places}
@@ -45,7 +45,7 @@ pub record IsPicture (M : Meaning) : Type 0 where
   pub quants : All HasQuants M.components
   pub markers : All IsKeptMarker M.kept
   pub count : kept_count (reverse M.kept) ≤ 268435456
-  pub blocks : (i x y : ℕ) → IsBaselineBlock (M.blocks i x y)
+  pub blocks : (i x y : ℕ) → IsBlockIn (bounds (picture_frame M)) (M.blocks i x y)
   pub others : HasRealBlocks M
 
 -- THE SLOTS of distinct tables
@@ -120,24 +120,15 @@ may_be_written M is = record {
 
 -- BLOCKS that are mirrored, exchanged, or left out
 
-mirrored_here : (block : List ℤ) → IsBaselineBlock block → IsBaselineBlock (mirrored block)
-mirrored_here block is = mirrored_writable gray_coding block is
+pub zeros_here : (f : Frame) → IsBlockIn (bounds f) (zeros 64)
+zeros_here f = (refl, refl)
 
-down_here : (block : List ℤ) → IsBaselineBlock block → IsBaselineBlock (mirrored_down block)
-down_here block is = mirrored_down_writable gray_coding block is
+chosen_here : (r : Bounds) (b : Bool) (one other : List ℤ) → IsBlockIn r one → IsBlockIn r other → IsBlockIn r (cond b one other)
+chosen_here r true one other is are = is
+chosen_here r false one other is are = are
 
-exchanged_here : (block : List ℤ) → IsBaselineBlock block → IsBaselineBlock (transposed (pos 0) block)
-exchanged_here block is = transposed_writable gray_coding block is
-
-zeros_here : IsBaselineBlock (zeros 64)
-zeros_here = (refl, refl)
-
-chosen_here : (b : Bool) (one other : List ℤ) → IsBaselineBlock one → IsBaselineBlock other → IsBaselineBlock (cond b one other)
-chosen_here true one other is are = is
-chosen_here false one other is are = are
-
-real_here : (f : Frame) (M : Meaning) → ((i x y : ℕ) → IsBaselineBlock (M.blocks i x y)) → (i x y : ℕ) → IsBaselineBlock (real_blocks f M.blocks i x y)
-real_here f M are i x y = chosen_here (nat_lt i (length f.components) && is_real f i x y) (M.blocks i x y) (zeros 64) (are i x y) zeros_here
+real_here : (f : Frame) (M : Meaning) → ((i x y : ℕ) → IsBlockIn (bounds f) (M.blocks i x y)) → (i x y : ℕ) → IsBlockIn (bounds f) (real_blocks f M.blocks i x y)
+real_here f M are i x y = chosen_here (bounds f) (nat_lt i (length f.components) && is_real f i x y) (M.blocks i x y) (zeros 64) (are i x y) (zeros_here f)
 
 -- TABLES
 
@@ -180,7 +171,7 @@ across_picture M is = record {
   quants = is.quants;
   markers = is.markers;
   count = is.count;
-  blocks = λ i x y. chosen_here (nat_lt x (whole_columns M i)) _ _ (mirrored_here _ (is.blocks i _ y)) (is.blocks i x y);
+  blocks = λ i x y. chosen_here (bounds (picture_frame M)) (nat_lt x (whole_columns M i)) _ _ (mirrored_in (bounds (picture_frame M)) _ (is.blocks i _ y)) (is.blocks i x y);
   others = transformed_real M FlipH (whole_blocks M is) (some_across M is) (some_down M is) is.others;
 }
 
@@ -190,7 +181,7 @@ down_picture M is = record {
   quants = is.quants;
   markers = is.markers;
   count = is.count;
-  blocks = λ i x y. chosen_here (nat_lt y (whole_rows M i)) _ _ (down_here _ (is.blocks i x _)) (is.blocks i x y);
+  blocks = λ i x y. chosen_here (bounds (picture_frame M)) (nat_lt y (whole_rows M i)) _ _ (mirrored_down_in (bounds (picture_frame M)) _ (is.blocks i x _)) (is.blocks i x y);
   others = transformed_real M FlipV (whole_blocks M is) (some_across M is) (some_down M is) is.others;
 }
 
@@ -216,7 +207,7 @@ over_picture M is =
       quants = axes_exchanged M.components is.quants;
       markers = is.markers;
       count = is.count;
-      blocks = λ i x y. exchanged_here (M.blocks i y x) (is.blocks i y x);
+      blocks = λ i x y. transposed_in (bounds (picture_frame M)) (M.blocks i y x) (is.blocks i y x);
       others = transformed_real M Transpose (whole_blocks M is) (grown (across_low (picture_frame (transpose M)).components frame.factors frame.count_low) (map_map (λ c. c.h) _ (map exchanged_axes M.components)))
           (grown (down_low (picture_frame (transpose M)).components frame.factors frame.count_low) (map_map (λ c. c.v) _ (map exchanged_axes M.components))) is.others;
     }

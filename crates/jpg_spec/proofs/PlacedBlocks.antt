@@ -115,20 +115,20 @@ IsRealSendable c blocks p = p.real ≡ true → IsWritable c (p.component, block
 abbrev pub IsPlacedWritable : Coding → Placed → Type 0
 IsPlacedWritable c q = IsWritable c ((q.0).component, q.1)
 
-zeros_in_bounds : (c : Coding) (n : ℕ) → int_le (pos 0) c.bounds.ac ≡ true → are_in_bounds c false (zeros n) ≡ true
+zeros_in_bounds : (c : Coding) (n : ℕ) → int_le (pos 0) c.bounds.ac ≡ true → are_in_bounds c.bounds false (zeros n) ≡ true
 zeros_in_bounds c zero e = refl
-zeros_in_bounds c (suc n) e = and_intro (int_le (pos (nat_abs (pos 0))) c.bounds.ac) (are_in_bounds c false (zeros n)) e (zeros_in_bounds c n e)
+zeros_in_bounds c (suc n) e = and_intro (int_le (pos (nat_abs (pos 0))) c.bounds.ac) (are_in_bounds c.bounds false (zeros n)) e (zeros_in_bounds c n e)
 
 due_one : (c : Coding) (blocks : Blocks) (last : ℕ → ℤ) (p : Place) → int_le (pos 0) c.bounds.ac ≡ true → ((i : ℕ) → IsLast c (last i)) → IsRealSendable c blocks p → IsWritable c (p.component, block_due blocks last p)
 due_one c blocks last p z l r = by p.real refl
   where
     by : (b : Bool) → p.real ≡ b → IsWritable c (p.component, cond b (block_at blocks p) (last p.component ∷ zeros 63))
     by true e = r e
-    by false e = (refl, and_intro (int_le c.bounds.dc_low (last p.component) && int_le (last p.component) c.bounds.dc_high) (are_in_bounds c false (zeros 63)) (l p.component) (zeros_in_bounds c 63 z))
+    by false e = (refl, and_intro (int_le c.bounds.dc_low (last p.component) && int_le (last p.component) c.bounds.dc_high) (are_in_bounds c.bounds false (zeros 63)) (l p.component) (zeros_in_bounds c 63 z))
 
 pub first_last : (c : Coding) (i : ℕ) (block : List ℤ) → IsWritable c (i, block) → IsLast c (slice_index_or block 0 (pos 0))
 first_last c i [] w = let f : ⊥ = omega (arith, w.0) in absurd f
-first_last c i (v ∷ block) w = (both (int_le c.bounds.dc_low v && int_le v c.bounds.dc_high) (are_in_bounds c false block) w.1).0
+first_last c i (v ∷ block) w = (both (int_le c.bounds.dc_low v && int_le v c.bounds.dc_high) (are_in_bounds c.bounds false block) w.1).0
 
 lasts_on : (c : Coding) (last : ℕ → ℤ) (component : ℕ) (block : List ℤ) → ((i : ℕ) → IsLast c (last i)) → IsWritable c (component, block) → (i : ℕ) → IsLast c (last_dc last component block i)
 lasts_on c last component block l w i = by (i == component)

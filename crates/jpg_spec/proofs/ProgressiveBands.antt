@@ -4,18 +4,17 @@ use Rattle.std.specs.Prelude.{map, flat_map, nat_le, nat_lt, nat_abs, int_le}
 use Rattle.std.proofs.lemmas.Bool.Decides.{nat_tests}
 use Rattle.std.proofs.lemmas.List.{get_or-map, ext_get_or, get_or-take, get_or-drop, length-map, length-drop, length-take-le}
 use Rattle.jpg_spec.specs.Lists.{any_of, is_among, below}
-use Rattle.jpg_spec.specs.Geometry.{Frame, is_real, component_at, blocks_across, blocks_down, place, units}
+use Rattle.jpg_spec.specs.Geometry.{Frame, bounds_of, bounds, is_real, component_at, blocks_across, blocks_down, place, units}
 use Rattle.jpg_spec.specs.FrameHeader.{IsFrame}
 use Rattle.jpg_spec.specs.Segments.{ScanHead, head_components}
-use Rattle.jpg_spec.specs.Elements.{are_in_bounds, scaled, zeros}
+use Rattle.jpg_spec.specs.Elements.{are_in_bounds, IsBlockIn, scaled, zeros}
 use Rattle.jpg_spec.specs.Sending.{divided}
 use Rattle.jpg_spec.specs.Scan.{Blocks, Scan, band, block_at, coefficient}
 use Rattle.jpg_spec.specs.Meaning.{Meaning}
-use Rattle.jpg_spec.specs.ScanText.{last_dc, gray_coding}
+use Rattle.jpg_spec.specs.ScanText.{last_dc}
 use Rattle.jpg_spec.specs.History.{names, has_coefficient}
 use Rattle.jpg_spec.specs.FileText.{frame_of_meaning}
 use Rattle.jpg_spec.specs.PictureInWork.{is_at, AreDistinct}
-use Rattle.jpg_spec.specs.WrittenFile.{IsBaselineBlock}
 use Rattle.jpg_spec.specs.declared.frame.Place.{Place}
 use Rattle.jpg_spec.proofs.PlacesDistinct.{units_distinct, map_is_flat}
 use Rattle.jpg_spec.proofs.PlacedBlocks.{Each, each_map, each_join, Placed, block_due, placed_due, all_placed}
@@ -43,10 +42,10 @@ band_by s f a b low high la lb step =
     get_or-take n (drop s.ss a) k (pos 0) few ∙ get_or-drop s.ss a k (pos 0) ∙ step (s.ss + k) (omega arith) (omega (arith, few, low))
     ∙ sym (get_or-map f (band s b) k (pos 0) (pos 0) (subst (λ m. k < m) (sym l2) few) ∙ ap f (get_or-take n (drop s.ss b) k (pos 0) few ∙ get_or-drop s.ss b k (pos 0)))))
 
-acs_small : (vs : List ℤ) → are_in_bounds gray_coding false vs ≡ true → Each (λ v. nat_abs v ≤ 1023) vs
+acs_small : (vs : List ℤ) → are_in_bounds (bounds_of 8) false vs ≡ true → Each (λ v. nat_abs v ≤ 1023) vs
 acs_small [] e = tt
 acs_small (v ∷ vs) e =
-    let b = both (int_le (pos (nat_abs v)) (pos 1023)) (are_in_bounds gray_coding false vs) e in
+    let b = both (int_le (pos (nat_abs v)) (pos 1023)) (are_in_bounds (bounds_of 8) false vs) e in
     let h = b.0 in
     (small v h, acs_small vs b.1)
   where
@@ -63,11 +62,11 @@ each_drop P zero xs h = h
 each_drop P (suc n) [] h = tt
 each_drop P (suc n) (x ∷ xs) h = each_drop P n xs h.1
 
-behind_first : (n : ℕ) (block : List ℤ) → 1 ≤ n → are_in_bounds gray_coding true block ≡ true → Each (λ v. nat_abs v ≤ 1023) (drop n block)
+behind_first : (n : ℕ) (block : List ℤ) → 1 ≤ n → are_in_bounds (bounds_of 8) true block ≡ true → Each (λ v. nat_abs v ≤ 1023) (drop n block)
 behind_first zero block l e = absurd (omega (arith, l))
 behind_first (suc n) [] l e = tt
 behind_first (suc n) (v ∷ block) l e =
-    each_drop (λ v. nat_abs v ≤ 1023) n block (acs_small block (both (int_le gray_coding.bounds.dc_low v && int_le v gray_coding.bounds.dc_high) (are_in_bounds gray_coding false block) e).1)
+    each_drop (λ v. nat_abs v ≤ 1023) n block (acs_small block (both (int_le (bounds_of 8).dc_low v && int_le v (bounds_of 8).dc_high) (are_in_bounds (bounds_of 8) false block) e).1)
 
 -- PLACES of a scan of one component are real
 
@@ -104,7 +103,7 @@ pub record IsBandScan (H : Meaning) (heads : List ScanHead) (s : Scan) (head : S
   pub frame : IsFrame (frame_of_meaning H)
   pub count : length (frame_of_meaning H).components ≡ length H.components
   pub known : i < length H.components
-  pub blocks : (i x y : ℕ) → i < length H.components → is_real (frame_of_meaning H) i x y ≡ true → IsBaselineBlock (H.blocks i x y)
+  pub blocks : (i x y : ℕ) → i < length H.components → is_real (frame_of_meaning H) i x y ≡ true → IsBlockIn (bounds (frame_of_meaning H)) (H.blocks i x y)
   pub sizes : (i x y : ℕ) → length (before i x y) ≡ 64
   pub old : (x y k : ℕ) → is_real (frame_of_meaning H) i x y ≡ true → head.ss ≤ k → k ≤ head.se → coefficient before i x y k ≡ ac_known (was_known head) (coefficient H.blocks i x y k)
 
@@ -147,7 +146,7 @@ band_due H heads s head i before is =
         let f = frame_of_meaning H in
         let real_i : is_real f i p.x p.y ≡ true = subst (λ n. is_real f n p.x p.y ≡ true) c real in
         let there : q.1 ≡ H.blocks i p.x p.y = due ∙ ap (λ n. H.blocks n p.x p.y) c in
-        let fine : IsBaselineBlock q.1 = subst IsBaselineBlock (sym there) (is.blocks i p.x p.y is.known real_i) in
+        let fine : IsBlockIn (bounds f) q.1 = subst (IsBlockIn (bounds f)) (sym there) (is.blocks i p.x p.y is.known real_i) in
         let g : ℤ → ℤ = λ v. scaled s.coding.al (divided s.coding.al v) in
         let d = length-drop s.ss q.1 in
         let l = length-take-le (s.se + 1 - s.ss) (drop s.ss q.1) (omega (arith, d, fine.0, low, high)) in

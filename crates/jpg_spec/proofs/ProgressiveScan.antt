@@ -4,18 +4,17 @@ use Rattle.std.specs.Prelude.{flat_map, nat_le, nat_lt, nat_abs, int_le, slice_i
 use Rattle.std.proofs.lemmas.Bool.Decides.{nat_tests}
 use Rattle.std.proofs.lemmas.Int.{ints}
 use Rattle.jpg_spec.specs.Lists.{any_of, is_among, is_distinct}
-use Rattle.jpg_spec.specs.Geometry.{Frame, bounds_of, is_progressive, is_real, units}
+use Rattle.jpg_spec.specs.Geometry.{Frame, bounds, bounds_of, is_progressive, is_real, units}
 use Rattle.jpg_spec.specs.FrameHeader.{IsFrame}
 use Rattle.jpg_spec.specs.Segments.{ScanHead, head_components}
-use Rattle.jpg_spec.specs.Elements.{scaled}
+use Rattle.jpg_spec.specs.Elements.{Coding, scaled, IsBlockIn}
 use Rattle.jpg_spec.specs.Sending.{shifted}
 use Rattle.jpg_spec.specs.Scan.{Blocks, Scan, TablesInForce, scan_of, block_at, coefficient}
-use Rattle.jpg_spec.specs.ScanText.{last_dc, gray_coding}
+use Rattle.jpg_spec.specs.ScanText.{last_dc}
 use Rattle.jpg_spec.specs.Meaning.{Meaning}
 use Rattle.jpg_spec.specs.History.{names, has_coefficient}
 use Rattle.jpg_spec.specs.FileText.{frame_of_meaning}
 use Rattle.jpg_spec.specs.PictureInWork.{is_at, AreDistinct}
-use Rattle.jpg_spec.specs.WrittenFile.{IsBaselineBlock}
 use Rattle.jpg_spec.specs.declared.frame.Place.{Place}
 use Rattle.jpg_spec.proofs.Small.{IsDc, dc_small}
 use Rattle.jpg_spec.proofs.Writing.{zero_scaled}
@@ -68,8 +67,11 @@ each_place P blocks last (p ∷ places) h = (h.0, each_place P blocks (last_dc l
 
 -- DC: WHAT IS DUE
 
-due_dc : (q : Placed) → IsPlacedWritable gray_coding q → IsDc (slice_index_or q.1 0 (pos 0))
-due_dc q w = let k = both (int_le gray_coding.bounds.dc_low (slice_index_or q.1 0 (pos 0))) (int_le (slice_index_or q.1 0 (pos 0)) gray_coding.bounds.dc_high) (first_last gray_coding (q.0).component q.1 w) in dc_small (slice_index_or q.1 0 (pos 0)) k.0 k.1
+abbrev in_eight : Coding
+in_eight = record { bounds = bounds_of 8; al = 0; refines = false; most_category = 0; most_run = 0; dc = λ i. []; ac = λ i. [] }
+
+due_dc : (q : Placed) → IsPlacedWritable in_eight q → IsDc (slice_index_or q.1 0 (pos 0))
+due_dc q w = let k = both (int_le (bounds_of 8).dc_low (slice_index_or q.1 0 (pos 0))) (int_le (slice_index_or q.1 0 (pos 0)) (bounds_of 8).dc_high) (first_last in_eight (q.0).component q.1 w) in dc_small (slice_index_or q.1 0 (pos 0)) k.0 k.1
 
 -- what the scan tells of DC at a place of its components, whatever is due
 abbrev pub TellsPad : Meaning → ScanHead → Bool → ℕ → Blocks → Type 0
@@ -106,7 +108,7 @@ pub record IsDcScan (H : Meaning) (heads : List ScanHead) (s : Scan) (head : Sca
   pub count : length (frame_of_meaning H).components ≡ length H.components
   pub distinct : is_distinct (head_components head) ≡ true
   pub known : (i : ℕ) → is_among i (head_components head) ≡ true → i < length H.components
-  pub blocks : (i x y : ℕ) → i < length H.components → is_real (frame_of_meaning H) i x y ≡ true → IsBaselineBlock (H.blocks i x y)
+  pub blocks : (i x y : ℕ) → i < length H.components → is_real (frame_of_meaning H) i x y ≡ true → IsBlockIn (bounds (frame_of_meaning H)) (H.blocks i x y)
   pub sizes : (i x y : ℕ) → length (before i x y) ≡ 64
   pub tells : TellsPad H head (nat_lt 0 head.ah) s.coding.al before
   pub real : (i x y : ℕ) → is_among i (head_components head) ≡ true → is_real (frame_of_meaning H) i x y ≡ true
@@ -119,12 +121,12 @@ dc_renews s head = dc_new (nat_lt 0 head.ah) s.coding.al
 pub rows_each : (P : Place → Type 0) (s : Scan) (parts : List ℕ) (f : Frame) → s.places ≡ units f parts → Each P (units f parts) → Each (λ row. Each P row) (rows_of s)
 rows_each P s parts f e h = each_rows P s.interval s.places (subst (λ l. Each P l) (sym e) h)
 
-dc_writable : (H : Meaning) (heads : List ScanHead) (s : Scan) (head : ScanHead) (before : Blocks) → IsDcScan H heads s head before → Each (λ row. Each (IsPlacedWritable gray_coding) (placed_due H.blocks (λ i. pos 0) row)) (rows_of s)
+dc_writable : (H : Meaning) (heads : List ScanHead) (s : Scan) (head : ScanHead) (before : Blocks) → IsDcScan H heads s head before → Each (λ row. Each (IsPlacedWritable in_eight) (placed_due H.blocks (λ i. pos 0) row)) (rows_of s)
 dc_writable H heads s head before is =
     let f = frame_of_meaning H in
-    each_map (λ row. Each (IsRealSendable gray_coding H.blocks) row) (λ row. Each (IsPlacedWritable gray_coding) (placed_due H.blocks (λ i. pos 0) row)) (rows_of s)
-    (λ row h. placed_writable gray_coding H.blocks (λ i. pos 0) row refl (λ i. refl) h)
-    (rows_each (IsRealSendable gray_coding H.blocks) s (head_components head) f is.places (each_units (IsRealSendable gray_coding H.blocks) f (head_components head) (λ i x y e r. is.blocks i x y (is.known i e) r)))
+    each_map (λ row. Each (IsRealSendable in_eight H.blocks) row) (λ row. Each (IsPlacedWritable in_eight) (placed_due H.blocks (λ i. pos 0) row)) (rows_of s)
+    (λ row h. placed_writable in_eight H.blocks (λ i. pos 0) row refl (λ i. refl) h)
+    (rows_each (IsRealSendable in_eight H.blocks) s (head_components head) f is.places (each_units (IsRealSendable in_eight H.blocks) f (head_components head) (λ i x y e r. is.blocks i x y (is.known i e) r)))
 
 pub dc_due : (H : Meaning) (heads : List ScanHead) (s : Scan) (head : ScanHead) (before : Blocks) → IsDcScan H heads s head before
     → Each (λ row. Each (IsDcDue s (nat_lt 0 head.ah) before (after_renewed s (dc_renews s head) H.blocks before)) (placed_due H.blocks (λ i. pos 0) row)) (rows_of s)
@@ -138,9 +140,9 @@ dc_due H heads s head before is =
     let among = rows_each (λ (p : Place). is_among p.component parts ≡ true) s parts f is.places (each_units (λ (p : Place). is_among p.component parts ≡ true) f parts (λ i x y h. h)) in
     let found = each_flat (λ (q : Placed). block_at after q.0 ≡ renew_block s new before q) (λ row. placed_due H.blocks first row) (rows_of s)
     (after_found s new H.blocks before (subst (λ l. AreDistinct l) (sym is.places) (units_distinct f parts is.distinct))) in
-    each_both (λ row. Each (λ (p : Place). is_among p.component parts ≡ true) row) (λ row. Each (λ (q : Placed). IsPlacedWritable gray_coding q × (block_at after q.0 ≡ renew_block s new before q)) (placed_due H.blocks first row))
+    each_both (λ row. Each (λ (p : Place). is_among p.component parts ≡ true) row) (λ row. Each (λ (q : Placed). IsPlacedWritable in_eight q × (block_at after q.0 ≡ renew_block s new before q)) (placed_due H.blocks first row))
     (λ row. Each (IsDcDue s r before after) (placed_due H.blocks first row)) (rows_of s)
-    (λ row a w. each_both (λ (q : Placed). is_among (q.0).component parts ≡ true) (λ (q : Placed). IsPlacedWritable gray_coding q × (block_at after q.0 ≡ renew_block s new before q)) (IsDcDue s r before after) (placed_due H.blocks first row)
+    (λ row a w. each_both (λ (q : Placed). is_among (q.0).component parts ≡ true) (λ (q : Placed). IsPlacedWritable in_eight q × (block_at after q.0 ≡ renew_block s new before q)) (IsDcDue s r before after) (placed_due H.blocks first row)
     (λ q m k. record {
       size = is.sizes (q.0).component (q.0).x (q.0).y;
       due = due_dc q k.0;
@@ -148,9 +150,9 @@ dc_due H heads s head before is =
       found = k.1;
     }) (each_place (λ (p : Place). is_among p.component parts ≡ true) H.blocks first row a) w)
     among
-    (each_both (λ row. Each (IsPlacedWritable gray_coding) (placed_due H.blocks first row)) (λ row. Each (λ (q : Placed). block_at after q.0 ≡ renew_block s new before q) (placed_due H.blocks first row))
-    (λ row. Each (λ (q : Placed). IsPlacedWritable gray_coding q × (block_at after q.0 ≡ renew_block s new before q)) (placed_due H.blocks first row)) (rows_of s)
-    (λ row a b. each_both (IsPlacedWritable gray_coding) (λ (q : Placed). block_at after q.0 ≡ renew_block s new before q) (λ (q : Placed). IsPlacedWritable gray_coding q × (block_at after q.0 ≡ renew_block s new before q)) (placed_due H.blocks first row) (λ q x y. (x, y)) a b)
+    (each_both (λ row. Each (IsPlacedWritable in_eight) (placed_due H.blocks first row)) (λ row. Each (λ (q : Placed). block_at after q.0 ≡ renew_block s new before q) (placed_due H.blocks first row))
+    (λ row. Each (λ (q : Placed). IsPlacedWritable in_eight q × (block_at after q.0 ≡ renew_block s new before q)) (placed_due H.blocks first row)) (rows_of s)
+    (λ row a b. each_both (IsPlacedWritable in_eight) (λ (q : Placed). block_at after q.0 ≡ renew_block s new before q) (λ (q : Placed). IsPlacedWritable in_eight q × (block_at after q.0 ≡ renew_block s new before q)) (placed_due H.blocks first row) (λ q x y. (x, y)) a b)
     (dc_writable H heads s head before is) found)
 
 -- what it makes of the picture
@@ -204,7 +206,7 @@ dc_renewed H heads s head before is = record {
     pad : (i x y : ℕ) → is_among i parts ≡ true → (b : Bool) → any_of (is_at i x y) s.places ≡ b → IsPad (Some head.al) (coefficient (after_renewed s new H.blocks before) i x y 0)
     pad i x y e true h =
         after_inside s new H.blocks before (IsPad (Some head.al)) i x y 0 (omega arith) inside h
-        (each_map (IsPlacedWritable gray_coding) (λ (q : Placed). is_at i x y q.0 ≡ true → IsPad (Some head.al) (new (coefficient before i x y 0) (get_or q.1 0 (pos 0)))) (all_placed H.blocks (rows_of s))
+        (each_map (IsPlacedWritable in_eight) (λ (q : Placed). is_at i x y q.0 ≡ true → IsPad (Some head.al) (new (coefficient before i x y 0) (get_or q.1 0 (pos 0)))) (all_placed H.blocks (rows_of s))
         (λ q w a. subst (λ n. IsPad (Some n) (new (coefficient before i x y 0) (get_or q.1 0 (pos 0)))) is.scan.al (is.tells i x y (get_or q.1 0 (pos 0)) e (due_dc q w)))
-        (each_unflat (IsPlacedWritable gray_coding) (λ row. placed_due H.blocks (λ i. pos 0) row) (rows_of s) (dc_writable H heads s head before is)))
+        (each_unflat (IsPlacedWritable in_eight) (λ row. placed_due H.blocks (λ i. pos 0) row) (rows_of s) (dc_writable H heads s head before is)))
     pad i x y e false h = subst (IsPad (Some head.al)) (sym (ap (λ b. get_or b 0 (pos 0)) (after_elsewhere s new H.blocks before i x y h))) (is.old i x y e)

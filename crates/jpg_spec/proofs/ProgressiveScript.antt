@@ -6,10 +6,10 @@ use Rattle.std.proofs.lemmas.Bool.Decides.{nat_tests}
 use Rattle.std.proofs.lemmas.List.{append_assoc, append-nil}
 use Rattle.jpg_spec.specs.Bits.{stuffed}
 use Rattle.jpg_spec.specs.Lists.{is_among}
-use Rattle.jpg_spec.specs.Geometry.{Frame, component_at, is_progressive, is_real, units, mcu_units, bounds_of}
+use Rattle.jpg_spec.specs.Geometry.{Frame, component_at, is_progressive, is_real, units, mcu_units, bounds, bounds_of}
 use Rattle.jpg_spec.specs.FrameHeader.{IsFrame}
 use Rattle.jpg_spec.specs.Segments.{QuantTable, HuffmanTable, ScanHead, head_components}
-use Rattle.jpg_spec.specs.Elements.{Coding, scaled}
+use Rattle.jpg_spec.specs.Elements.{Coding, IsBlockIn, scaled}
 use Rattle.jpg_spec.specs.Sending.{sent, shifted, divided}
 use Rattle.jpg_spec.specs.Scan.{Blocks, TablesInForce, scan_of, coefficient, ScanMeans}
 use Rattle.jpg_spec.specs.ScanText.{intervals_text}
@@ -20,7 +20,7 @@ use Rattle.jpg_spec.specs.InForce.{huffman_in_force, quant_in_force}
 use Rattle.jpg_spec.specs.History.{has_begun, has_coefficient, known_to, is_next, quant_of}
 use Rattle.jpg_spec.specs.Items.{Item, segments_of, SpellsIntervalsText}
 use Rattle.jpg_spec.specs.FileText.{Written, segment_text, frame_of_meaning, written_head, head_text, tables_text, tables_given, Restart, interval_of, scans_text}
-use Rattle.jpg_spec.specs.WrittenFile.{IsBaselineBlock, is_progressive_entry, is_progressive_behind, IsRestart}
+use Rattle.jpg_spec.specs.WrittenFile.{is_progressive_entry, is_progressive_behind, IsRestart}
 use Rattle.jpg_spec.specs.declared.frame.Place.{Place}
 use Rattle.jpg_spec.specs.declared.frame.ScanPart.{ScanPart}
 use Rattle.jpg_spec.specs.declared.frame.Bounds.{Bounds}
@@ -51,7 +51,7 @@ use Rattle.jpg_spec.proofs.Common.{both, le_of, same_of, same_itself}
 pub record IsFit (H : Meaning) : Type 0 where
   pub frame : IsFrame (frame_of_meaning H)
   pub progressive : is_progressive H.process ≡ true
-  pub blocks : (i x y : ℕ) → i < length H.components → is_real (frame_of_meaning H) i x y ≡ true → IsBaselineBlock (H.blocks i x y)
+  pub blocks : (i x y : ℕ) → i < length H.components → is_real (frame_of_meaning H) i x y ≡ true → IsBlockIn (bounds (frame_of_meaning H)) (H.blocks i x y)
   pub count : length (frame_of_meaning H).components ≡ length H.components
 
 -- what a scan leads to

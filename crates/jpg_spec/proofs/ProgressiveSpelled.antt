@@ -112,13 +112,13 @@ all_bands c r old new step (vs ∷ bands) h =
     let l = length-map vs (sent r c.al) in
     (map old vs, map (map old) bands, map new vs, map (map new) bands, refl, refl, omega (arith, l, (h.0).0), all_sent c r old new step vs (h.0).1, all_bands c r old new step bands h.1)
 
-inside : (c : Coding) (new : ℤ → ℤ) → ((v : ℤ) → nat_abs v ≤ 1023 → int_le (pos (nat_abs (new v))) c.bounds.ac ≡ true) → (bands : List (List ℤ)) → Each IsBand bands → are_in_bounds c false (flat (map (map new) bands)) ≡ true
+inside : (c : Coding) (new : ℤ → ℤ) → ((v : ℤ) → nat_abs v ≤ 1023 → int_le (pos (nat_abs (new v))) c.bounds.ac ≡ true) → (bands : List (List ℤ)) → Each IsBand bands → are_in_bounds c.bounds false (flat (map (map new) bands)) ≡ true
 inside c new ok [] h = refl
 inside c new ok (vs ∷ bands) h = join vs (h.0).1 (inside c new ok bands h.1)
   where
-    join : (vs : List ℤ) → Each (λ v. nat_abs v ≤ 1023) vs → are_in_bounds c false (flat (map (map new) bands)) ≡ true → are_in_bounds c false (map new vs ++ flat (map (map new) bands)) ≡ true
+    join : (vs : List ℤ) → Each (λ v. nat_abs v ≤ 1023) vs → are_in_bounds c.bounds false (flat (map (map new) bands)) ≡ true → are_in_bounds c.bounds false (map new vs ++ flat (map (map new) bands)) ≡ true
     join [] a later = later
-    join (v ∷ vs) a later = and_intro (int_le (pos (nat_abs (new v))) c.bounds.ac) (are_in_bounds c false (map new vs ++ flat (map (map new) bands))) (ok v a.0) (join vs a.1 later)
+    join (v ∷ vs) a later = and_intro (int_le (pos (nat_abs (new v))) c.bounds.ac) (are_in_bounds c.bounds false (map new vs ++ flat (map (map new) bands))) (ok v a.0) (join vs a.1 later)
 
 behind_all : (i : ℕ) (olds : List (List ℤ)) → AllBehindDc i (units_of i olds)
 behind_all i [] = tt
@@ -153,11 +153,11 @@ DcUnits c r (u ∷ units) (d ∷ due) told =
     (o : ℤ) × (more : List ℤ) × (u.component ≡ d.0) × (u.has_dc ≡ true) × (u.old ≡ o ∷ []) × IsDc (slice_index_or d.1 0 (pos 0)) × IsDc (dc_new r c.al o (slice_index_or d.1 0 (pos 0)))
     × (told ≡ dc_new r c.al o (slice_index_or d.1 0 (pos 0)) ∷ more) × DcUnits c r units due more
 
-dc_inside : (c : Coding) (v : ℤ) → c.bounds ≡ bounds_of 8 → IsDc v → (b : Bool) → b ≡ true → are_in_bounds c b (v ∷ []) ≡ true
+dc_inside : (c : Coding) (v : ℤ) → c.bounds ≡ bounds_of 8 → IsDc v → (b : Bool) → b ≡ true → are_in_bounds c.bounds b (v ∷ []) ≡ true
 dc_inside c v e d b h =
     let low : int_le (neg_ℤ (pos 1024)) v ≡ true = is_true (int_le (neg_ℤ (pos 1024)) v) (d.low).le in
     let high : int_le v (pos 1023) ≡ true = is_true (int_le v (pos 1023)) (d.high).le in
-    ap (λ x. are_in_bounds c x (v ∷ [])) h
+    ap (λ x. are_in_bounds c.bounds x (v ∷ [])) h
     ∙ and_intro (int_le c.bounds.dc_low v && int_le v c.bounds.dc_high) true
     (subst (λ (k : Bounds). (int_le k.dc_low v && int_le v k.dc_high) ≡ true) (sym e) (and_intro (int_le (neg_ℤ (pos 1024)) v) (int_le v (pos 1023)) low high)) refl
 

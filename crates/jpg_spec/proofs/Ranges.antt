@@ -83,14 +83,14 @@ cut_at xs m n e =
     let l = length-drop m xs in
     (take m xs, drop m xs, sym (take-append-drop m xs), length-take-le m xs (omega (arith, e)), omega (arith, l, e))
 
-flat_within : (c : Coding) (units : List UnitLeft) (here : List ℤ) → NoDc units → length here ≡ length (old_values units) → are_in_bounds c false here ≡ true → AreWithin c units here
+flat_within : (c : Coding) (units : List UnitLeft) (here : List ℤ) → NoDc units → length here ≡ length (old_values units) → are_in_bounds c.bounds false here ≡ true → AreWithin c units here
 flat_within c [] [] n l e = refl
 flat_within c [] (x ∷ here) n l e = absurd (omega (arith, l))
 flat_within c (u ∷ units) here n l e =
     let k = length-append u.old (old_values units) in
     let q = cut_at here (length u.old) (length (old_values units)) (l ∙ k) in
-    let r = bounds_split c q.0 q.1 (subst (λ x. are_in_bounds c false x ≡ true) q.2 e) in
-    (q.0, q.1, q.2, q.3, subst (λ b. are_in_bounds c b q.0 ≡ true) (sym n.0) r.0, flat_within c units q.1 n.1 q.4 r.1)
+    let r = bounds_split c q.0 q.1 (subst (λ x. are_in_bounds c.bounds false x ≡ true) q.2 e) in
+    (q.0, q.1, q.2, q.3, subst (λ b. are_in_bounds c.bounds b q.0 ≡ true) (sym n.0) r.0, flat_within c units q.1 n.1 q.4 r.1)
 
 within_join : (c : Coding) (units others : List UnitLeft) (here more : List ℤ) → AreWithin c units here → AreWithin c others more → AreWithin c (units ++ others) (here ++ more)
 within_join c [] others here more w v = subst (λ l. AreWithin c others (l ++ more)) (sym w) v
@@ -103,15 +103,15 @@ take_no_dc (suc n) [] d = tt
 take_no_dc (suc n) (u ∷ units) d = (d.0, take_no_dc n units d.1)
 
 bands_within : (c : Coding) (u : UnitLeft) (units : List UnitLeft) (here : List ℤ) (left : List UnitLeft) (more : List ℤ) (bands : ℕ) (bits : List Bool) → NoDc (u ∷ units)
-    → here ≡ corrected c.al (old_values (take bands (u ∷ units))) bits → left ≡ drop bands (u ∷ units) → are_in_bounds c u.has_dc here ≡ true → AreWithin c left more → AreWithin c (u ∷ units) (here ++ more)
+    → here ≡ corrected c.al (old_values (take bands (u ∷ units))) bits → left ≡ drop bands (u ∷ units) → are_in_bounds c.bounds u.has_dc here ≡ true → AreWithin c left more → AreWithin c (u ∷ units) (here ++ more)
 bands_within c u units here left more bands bits n told rest ok w =
     let size : length here ≡ length (old_values (take bands (u ∷ units))) = ap length told ∙ length_corrected c.al (old_values (take bands (u ∷ units))) bits in
-    let first = flat_within c (take bands (u ∷ units)) here (take_no_dc bands (u ∷ units) n) size (subst (λ b. are_in_bounds c b here ≡ true) n.0 ok) in
+    let first = flat_within c (take bands (u ∷ units)) here (take_no_dc bands (u ∷ units) n) size (subst (λ b. are_in_bounds c.bounds b here ≡ true) n.0 ok) in
     subst (λ us. AreWithin c us (here ++ more)) (take-append-drop bands (u ∷ units))
     (within_join c (take bands (u ∷ units)) (drop bands (u ∷ units)) here more first (subst (λ l. AreWithin c l more) rest w))
 
 any_step : (c : Coding) (p : ℤ) (e : Element) (u : UnitLeft) (units : List UnitLeft) (here : List ℤ) (left : List UnitLeft) (more : List ℤ) → IsMode c (u ∷ units)
-    → Tells c p e u units here left → are_in_bounds c u.has_dc here ≡ true → AreWithin c left more → AreWithin c (u ∷ units) (here ++ more)
+    → Tells c p e u units here left → are_in_bounds c.bounds u.has_dc here ≡ true → AreWithin c left more → AreWithin c (u ∷ units) (here ++ more)
 any_step c p e u units here left more (inl m) t ok w = step c p e u units here left more (ends_one c p e u units here left m t) t ok w
 any_step c p (difference d) u units here left more (inr m) t ok w = step c p (difference d) u units here left more tt t ok w
 any_step c p (dc_bit b) u units here left more (inr m) t ok w = step c p (dc_bit b) u units here left more tt t ok w
@@ -208,7 +208,7 @@ scan_mode limits items blocks contents places l rule = by (is_progressive (frame
 
 abbrev pub PlacesWithin : Scan → Blocks → List Place → Type 0
 PlacesWithin s after [] = Unit {0}
-PlacesWithin s after (p ∷ places) = (are_in_bounds s.coding (s.ss == 0) (band s (block_at after p)) ≡ true) × PlacesWithin s after places
+PlacesWithin s after (p ∷ places) = (are_in_bounds s.coding.bounds (s.ss == 0) (band s (block_at after p)) ≡ true) × PlacesWithin s after places
 
 places_join : (s : Scan) (after : Blocks) (a b : List Place) → PlacesWithin s after a → PlacesWithin s after b → PlacesWithin s after (a ++ b)
 places_join s after [] b w v = v
@@ -221,7 +221,7 @@ places_within s before after (p ∷ places) sizes w =
     let l = w.3 in
     let k = length_band s (block_at before p) (block_at after p) (sizes p.component p.x p.y) in
     let r = append_apart (band s (block_at after p)) w.0 (flat_map (λ p. band s (block_at after p)) places) w.1 (sym (l ∙ k)) w.2 in
-    (subst (λ b. are_in_bounds s.coding (s.ss == 0) b ≡ true) (sym r.0) w.4, places_within s before after places sizes (subst (λ t. AreWithin s.coding (map (unit_at s before) places) t) (sym r.1) w.5))
+    (subst (λ b. are_in_bounds s.coding.bounds (s.ss == 0) b ≡ true) (sym r.0) w.4, places_within s before after places sizes (subst (λ t. AreWithin s.coding (map (unit_at s before) places) t) (sym r.1) w.5))
 
 intervals_within : (s : Scan) (before after : Blocks) (all : List (List Place)) (intervals : List (List ℕ)) → ((i x y : ℕ) → length (before i x y) ≡ length (after i x y)) → ((places : List Place) → IsMode s.coding (map (unit_at s before) places))
     → SpellsIntervals s before after all intervals → PlacesWithin s after (joined all)
@@ -235,38 +235,38 @@ intervals_within s before after (p ∷ all) (c ∷ intervals) sizes mode k =
     (places_within s before after p sizes (any_within s.coding (at_start (map (unit_at s before) p)) u.1 u.0 (flat_map (λ p. band s (block_at after p)) p) here.0 (mode p) u.2 u.3))
     (intervals_within s before after all intervals sizes mode k.1)
 
-at_place : (s : Scan) (after : Blocks) (places : List Place) (i x y : ℕ) → PlacesWithin s after places → any_of (is_at i x y) places ≡ true → are_in_bounds s.coding (s.ss == 0) (band s (after i x y)) ≡ true
+at_place : (s : Scan) (after : Blocks) (places : List Place) (i x y : ℕ) → PlacesWithin s after places → any_of (is_at i x y) places ≡ true → are_in_bounds s.coding.bounds (s.ss == 0) (band s (after i x y)) ≡ true
 at_place s after [] i x y w h = cc
 at_place s after (p ∷ places) i x y w h = by (is_at i x y p) refl h (at_place s after places i x y w.1)
   where
-    by : (b : Bool) → is_at i x y p ≡ b → (b || any_of (is_at i x y) places) ≡ true → (any_of (is_at i x y) places ≡ true → are_in_bounds s.coding (s.ss == 0) (band s (after i x y)) ≡ true) → are_in_bounds s.coding (s.ss == 0) (band s (after i x y)) ≡ true
+    by : (b : Bool) → is_at i x y p ≡ b → (b || any_of (is_at i x y) places) ≡ true → (any_of (is_at i x y) places ≡ true → are_in_bounds s.coding.bounds (s.ss == 0) (band s (after i x y)) ≡ true) → are_in_bounds s.coding.bounds (s.ss == 0) (band s (after i x y)) ≡ true
     by true e g later =
         let u = both (p.component == i && p.x == x) (p.y == y) e in
         let v = both (p.component == i) (p.x == x) u.0 in
-        subst (λ n. are_in_bounds s.coding (s.ss == 0) (band s (after i x n)) ≡ true) (same_of p.y y u.1)
-        (subst (λ n. are_in_bounds s.coding (s.ss == 0) (band s (after i n p.y)) ≡ true) (same_of p.x x v.1)
-        (subst (λ n. are_in_bounds s.coding (s.ss == 0) (band s (after n p.x p.y)) ≡ true) (same_of p.component i v.0) w.0))
+        subst (λ n. are_in_bounds s.coding.bounds (s.ss == 0) (band s (after i x n)) ≡ true) (same_of p.y y u.1)
+        (subst (λ n. are_in_bounds s.coding.bounds (s.ss == 0) (band s (after i n p.y)) ≡ true) (same_of p.x x v.1)
+        (subst (λ n. are_in_bounds s.coding.bounds (s.ss == 0) (band s (after n p.x p.y)) ≡ true) (same_of p.component i v.0) w.0))
     by false e g later = later g
 
 -- A COEFFICIENT in the bounds
-ac_value : (c : Coding) (l : List ℤ) (j : ℕ) → are_in_bounds c false l ≡ true → j < length l → int_le (pos (nat_abs (get_or l j (pos 0)))) c.bounds.ac ≡ true
+ac_value : (c : Coding) (l : List ℤ) (j : ℕ) → are_in_bounds c.bounds false l ≡ true → j < length l → int_le (pos (nat_abs (get_or l j (pos 0)))) c.bounds.ac ≡ true
 ac_value c [] j e h = absurd (omega (arith, h))
-ac_value c (v ∷ l) zero e h = (both (int_le (pos (nat_abs v)) c.bounds.ac) (are_in_bounds c false l) e).0
-ac_value c (v ∷ l) (suc j) e h = ac_value c l j (both (int_le (pos (nat_abs v)) c.bounds.ac) (are_in_bounds c false l) e).1 (omega (arith, h))
+ac_value c (v ∷ l) zero e h = (both (int_le (pos (nat_abs v)) c.bounds.ac) (are_in_bounds c.bounds false l) e).0
+ac_value c (v ∷ l) (suc j) e h = ac_value c l j (both (int_le (pos (nat_abs v)) c.bounds.ac) (are_in_bounds c.bounds false l) e).1 (omega (arith, h))
 
-value_in : (c : Coding) (d : Bool) (l : List ℤ) (j k : ℕ) → are_in_bounds c d l ≡ true → j < length l → (d ≡ true → j ≡ k) → (d ≡ false → 1 ≤ k) → is_coefficient c.bounds k (get_or l j (pos 0)) ≡ true
+value_in : (c : Coding) (d : Bool) (l : List ℤ) (j k : ℕ) → are_in_bounds c.bounds d l ≡ true → j < length l → (d ≡ true → j ≡ k) → (d ≡ false → 1 ≤ k) → is_coefficient c.bounds k (get_or l j (pos 0)) ≡ true
 value_in c d [] j k e h a b = absurd (omega (arith, h))
 value_in c true (v ∷ l) zero k e h a b =
     let z : k ≡ 0 = sym (a refl) in
     let zero_k : (k == 0) ≡ true = grind (arith, nat_tests, z) in
     ap (λ t. cond t (int_le c.bounds.dc_low v && int_le v c.bounds.dc_high) (int_le (pos (nat_abs v)) c.bounds.ac)) zero_k
-    ∙ (both (int_le c.bounds.dc_low v && int_le v c.bounds.dc_high) (are_in_bounds c false l) e).0
+    ∙ (both (int_le c.bounds.dc_low v && int_le v c.bounds.dc_high) (are_in_bounds c.bounds false l) e).0
 value_in c true (v ∷ l) (suc j) k e h a b =
     let z : suc j ≡ k = a refl in
     let some_k : (k == 0) ≡ false = grind (arith, nat_tests, z) in
     let w = get_or l j (pos 0) in
     ap (λ t. cond t (int_le c.bounds.dc_low w && int_le w c.bounds.dc_high) (int_le (pos (nat_abs w)) c.bounds.ac)) some_k
-    ∙ ac_value c l j (both (int_le c.bounds.dc_low v && int_le v c.bounds.dc_high) (are_in_bounds c false l) e).1 (omega (arith, h))
+    ∙ ac_value c l j (both (int_le c.bounds.dc_low v && int_le v c.bounds.dc_high) (are_in_bounds c.bounds false l) e).1 (omega (arith, h))
 value_in c false (v ∷ l) j k e h a b =
     let z : 1 ≤ k = b refl in
     let some_k : (k == 0) ≡ false = grind (arith, nat_tests, z) in

@@ -11,8 +11,7 @@ use Rattle.jpg_spec.specs.Segments.{QuantTable, ScanHead, standard_limits}
 use Rattle.jpg_spec.specs.declared.frame.ScanPart.{ScanPart}
 use Rattle.jpg_spec.specs.Geometry.{Frame, bounds_of, component_at, no_component, is_real}
 use Rattle.jpg_spec.specs.FrameHeader.{IsFrame, AreLimits}
-use Rattle.jpg_spec.specs.Elements.{zeros, are_in_bounds}
-use Rattle.jpg_spec.specs.ScanText.{gray_coding}
+use Rattle.jpg_spec.specs.Elements.{zeros, are_in_bounds, IsBlockIn}
 use Rattle.jpg_spec.specs.QuantContents.{is_zero_quant}
 use Rattle.jpg_spec.specs.Markers.{Segment, Pass, SpellsSegment, code_fault, code_fault_if, has_frame, has_scan, is_kept, kept_after, kept_count}
 use Rattle.jpg_spec.specs.InForce.{no_frame, frame_of, first_some, quant_in_force, head_in, heads_of}
@@ -23,7 +22,7 @@ use Rattle.jpg_spec.specs.Scan.{Blocks}
 use Rattle.jpg_spec.specs.Meaning.{Meaning, PictureComponent, picture_frame, real_blocks}
 use Rattle.jpg_spec.specs.FileMeaning.{Leads, Means, picture_component, meaning_of}
 use Rattle.jpg_spec.specs.Ranges.{is_coefficient}
-use Rattle.jpg_spec.specs.WrittenFile.{IsQuantiser, HasQuants, IsBaselineBlock, IsKeptMarker, IsHeaded}
+use Rattle.jpg_spec.specs.WrittenFile.{IsQuantiser, AreQuantisers, HasQuants, IsKeptMarker, IsHeaded}
 use Rattle.jpg_spec.specs.Moved.{Choice, moved, gray_fault}
 use Rattle.jpg_spec.specs.declared.frame.Component.{Component}
 use Rattle.jpg_spec.specs.declared.frame.Limits.{Limits}
@@ -166,7 +165,7 @@ has_table limits f (s ∷ before) i p e h = by_frame (has_frame before) refl (λ
             let none = no_heads f before (no_scans limits before p.2 b) in
             let z : false ≡ true = sym (ap (λ t. has_begun (cond t (head_in f s.1 ∷ heads_of f before) (heads_of f before)) i) c ∙ ap (λ hs. has_begun hs i) none) ∙ h in clash z
 
-quantisers_of : (table : QuantTable) → IsQuants table → AreEntries table → (length table ≡ 64) × All IsQuantiser table
+quantisers_of : (table : QuantTable) → IsQuants table → AreEntries table → AreQuantisers table
 quantisers_of table is entries = (is.long, each table is.some entries)
   where
     each : (qs : List ℕ) → any_of is_zero_quant qs ≡ false → All (λ q. q < 65536) qs → All IsQuantiser qs
@@ -178,42 +177,39 @@ quantisers_of table is entries = (is.long, each table is.some entries)
         some : (q : ℕ) → (q == 0) ≡ false → 1 ≤ q
         some q e = grind (arith, nat_tests, e)
 
-abbrev IsTable : QuantTable → Type 0
-IsTable table = (length table ≡ 64) × All IsQuantiser table
-
-in_force_is : (before : List Segment) (slot : ℕ) (table : QuantTable) → AllContents IsByte before → quant_in_force before slot ≡ Some table → IsTable table
+in_force_is : (before : List Segment) (slot : ℕ) (table : QuantTable) → AllContents IsByte before → quant_in_force before slot ≡ Some table → AreQuantisers table
 in_force_is before slot table of e = quantisers_of table (in_force_quants before slot table e) (in_force_entries before slot table of e)
 
-table_is : (f : Frame) (before : List Segment) (i : ℕ) (table : QuantTable) → AllContents IsByte before → quant_of f before i ≡ Some table → IsTable table
+table_is : (f : Frame) (before : List Segment) (i : ℕ) (table : QuantTable) → AllContents IsByte before → quant_of f before i ≡ Some table → AreQuantisers table
 table_is f [] i table of e = cc
 table_is f (s ∷ before) i table of e = by (s.0 == 0xda) e (λ k. table_is f before i table of.1 k)
   where
-    pick : (quant_of f before i ≡ Some table → IsTable table) → (a : Option QuantTable) (b : Bool) → quant_of f before i ≡ a → first_some a (cond b (quant_in_force before (component_at f i).quant) None) ≡ Some table → IsTable table
+    pick : (quant_of f before i ≡ Some table → AreQuantisers table) → (a : Option QuantTable) (b : Bool) → quant_of f before i ≡ a → first_some a (cond b (quant_in_force before (component_at f i).quant) None) ≡ Some table → AreQuantisers table
     pick older (Some x) b h k = older (h ∙ k)
     pick older None true h k = in_force_is before (component_at f i).quant table of.1 k
     pick older None false h k = cc
 
-    by : (b : Bool) → cond b (first_some (quant_of f before i) (cond (names (head_in f s.1) i) (quant_in_force before (component_at f i).quant) None)) (quant_of f before i) ≡ Some table → (quant_of f before i ≡ Some table → IsTable table) → IsTable table
+    by : (b : Bool) → cond b (first_some (quant_of f before i) (cond (names (head_in f s.1) i) (quant_in_force before (component_at f i).quant) None)) (quant_of f before i) ≡ Some table → (quant_of f before i ≡ Some table → AreQuantisers table) → AreQuantisers table
     by true k older = pick older (quant_of f before i) (names (head_in f s.1) i) refl k
     by false k older = older k
 
 -- BLOCKS in their range
 
-ac_in : (block : List ℤ) → ((k : ℕ) → is_coefficient (bounds_of 8) (suc k) (get_or block k (pos 0)) ≡ true) → are_in_bounds gray_coding false block ≡ true
+ac_in : (block : List ℤ) → ((k : ℕ) → is_coefficient (bounds_of 8) (suc k) (get_or block k (pos 0)) ≡ true) → are_in_bounds (bounds_of 8) false block ≡ true
 ac_in [] h = refl
 ac_in (v ∷ block) h =
     let one : int_le (pos (nat_abs v)) (pos 1023) ≡ true =
     sym (ap (λ b. cond b (int_le (bounds_of 8).dc_low v && int_le v (bounds_of 8).dc_high) (int_le (pos (nat_abs v)) (bounds_of 8).ac)) (not_zero 0)) ∙ h 0 in
-    ap (λ b. b && are_in_bounds gray_coding false block) one ∙ ac_in block (λ k. later k (get_or block k (pos 0)) (h (suc k)))
+    ap (λ b. b && are_in_bounds (bounds_of 8) false block) one ∙ ac_in block (λ k. later k (get_or block k (pos 0)) (h (suc k)))
   where
     later : (k : ℕ) (w : ℤ) → is_coefficient (bounds_of 8) (suc (suc k)) w ≡ true → is_coefficient (bounds_of 8) (suc k) w ≡ true
     later k w e =
         ap (λ b. cond b (int_le (bounds_of 8).dc_low w && int_le w (bounds_of 8).dc_high) (int_le (pos (nat_abs w)) (bounds_of 8).ac)) (not_zero k ∙ sym (not_zero (suc k))) ∙ e
 
-block_in : (block : List ℤ) → length block ≡ 64 → ((k : ℕ) → is_coefficient (bounds_of 8) k (get_or block k (pos 0)) ≡ true) → IsBaselineBlock block
+block_in : (block : List ℤ) → length block ≡ 64 → ((k : ℕ) → is_coefficient (bounds_of 8) k (get_or block k (pos 0)) ≡ true) → IsBlockIn (bounds_of 8) block
 block_in [] l h = absurd (omega (arith, l))
 block_in (v ∷ block) l h =
-    (l, ap (λ b. b && are_in_bounds gray_coding false block) (h 0) ∙ ac_in block (λ k. h (suc k)))
+    (l, ap (λ b. b && are_in_bounds (bounds_of 8) false block) (h 0) ∙ ac_in block (λ k. h (suc k)))
 
 -- THE PICTURE of a file
 
@@ -256,7 +252,7 @@ file_tables limits f before of pass e complete =
     (table i (has_table limits f before i pass e (all_below (has_begun (heads_of f before)) (length f.components) i complete k)))))
   where
     table : (i : ℕ) → HasTable (quant_of f before i) → HasQuants (picture_component f before i)
-    table i (t, k) = subst (λ (o : Option QuantTable). IsTable (unwrap_or o [])) (sym k) (table_is f before i t of k)
+    table i (t, k) = subst (λ (o : Option QuantTable). AreQuantisers (unwrap_or o [])) (sym k) (table_is f before i t of k)
 
 -- THE LAW
 pub read_picture : (limits : Limits) (bytes : List ℕ) (M : Meaning) → AreLimits limits → All IsByte bytes → Means limits bytes M → IsPicture M
@@ -277,7 +273,7 @@ read_picture limits bytes M limited all m =
     } in
     subst (λ N. IsPicture N) (sym m.meaning) here
   where
-    shown : (b : Bool) (block : List ℤ) → IsBaselineBlock block → IsBaselineBlock (cond b block (zeros 64))
+    shown : (b : Bool) (block : List ℤ) → IsBlockIn (bounds_of 8) block → IsBlockIn (bounds_of 8) (cond b block (zeros 64))
     shown true block is = is
     shown false block is = (refl, refl)
 

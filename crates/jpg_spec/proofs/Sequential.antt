@@ -39,10 +39,10 @@ sends_category c s v e z =
     let k : (1 ≤ category v) × (category v ≤ c.most_category) = (some_category v nz, subst (λ n. category v ≤ n) (sym s.most) (ac_category v small)) in
     subst (λ w. (1 ≤ category w) × (category w ≤ c.most_category)) (sym (divided_none v)) k
 
-all_sent : (c : Coding) → IsSequential c → (vs : List ℤ) → are_in_bounds c false vs ≡ true → AllSent c (map (sent false 0) vs) (zeros (length vs)) vs
+all_sent : (c : Coding) → IsSequential c → (vs : List ℤ) → are_in_bounds c.bounds false vs ≡ true → AllSent c (map (sent false 0) vs) (zeros (length vs)) vs
 all_sent c s [] ok = (refl, refl)
 all_sent c s (v ∷ vs) ok =
-    let b = both (int_le (pos (nat_abs v)) c.bounds.ac) (are_in_bounds c false vs) ok in (
+    let b = both (int_le (pos (nat_abs v)) c.bounds.ac) (are_in_bounds c.bounds false vs) ok in (
       pos 0,
       zeros (length vs),
       v,
@@ -64,7 +64,7 @@ behind_dc i = record { component = i; has_dc = false; old = zeros 63 }
 abbrev pub band_sent : List ℤ → List Element
 band_sent vs = band_elements 1 0 [] (map (sent false 0) vs ∷ [])
 
-band_spelled : (c : Coding) → IsSequential c → (p : ℕ → ℤ) (i : ℕ) (vs : List ℤ) (chosen : Element → List Bool) (us : List UnitLeft) → length vs ≡ 63 → are_in_bounds c false vs ≡ true → IsChosen (c.ac i) chosen
+band_spelled : (c : Coding) → IsSequential c → (p : ℕ → ℤ) (i : ℕ) (vs : List ℤ) (chosen : Element → List Bool) (us : List UnitLeft) → length vs ≡ 63 → are_in_bounds c.bounds false vs ≡ true → IsChosen (c.ac i) chosen
     → Covers c (at p (behind_dc i ∷ us)) (band_sent vs) vs (flat_map chosen (band_sent vs)) (at p us)
 band_spelled c s p i vs chosen us l ok is =
     let band = map (sent false 0) vs in
@@ -72,7 +72,7 @@ band_spelled c s p i vs chosen us l ok is =
     let bands : AllBands c (band ∷ []) (zeros 63 ∷ []) (vs ∷ []) = (zeros 63, [], vs, [], refl, refl, omega (arith, some_sent vs, l), all, (refl, refl)) in
     let most : c.most_category ≤ 10 = omega (arith, s.most) in
     let fits : (n : ℕ) → 1 ≤ n → n ≤ 1 → digits n ≤ c.most_run + 1 = λ n a b. (let e : 1 ≡ n = omega arith in subst (λ m. digits m ≤ c.most_run + 1) e (omega (arith, one_digit))) in
-    let k = bands_cover c p i 1 (band ∷ []) (zeros 63 ∷ []) (vs ∷ []) [] [] fits bands (lit< tt) refl (band_have c i band (zeros 63) vs (s.ac i) most all) (ap (are_in_bounds c false) (append-nil vs) ∙ ok) in
+    let k = bands_cover c p i 1 (band ∷ []) (zeros 63 ∷ []) (vs ∷ []) [] [] fits bands (lit< tt) refl (band_have c i band (zeros 63) vs (s.ac i) most all) (ap (are_in_bounds c.bounds false) (append-nil vs) ∙ ok) in
     let covers : Covers c (at p (behind_dc i ∷ [])) (band_sent vs) vs k.0 (at p []) = subst (λ x. Covers c (at p (behind_dc i ∷ [])) (band_sent vs) x k.0 (at p [])) (append-nil vs) k.1 in
     covers_behind c (at p (behind_dc i ∷ [])) (at p []) us (band_sent vs) vs (flat_map chosen (band_sent vs))
     (covers_chosen c i chosen (at p (behind_dc i ∷ [])) (at p []) (band_sent vs) vs k.0 is (refl, refl, tt) covers)
@@ -105,12 +105,12 @@ dc_predicted p i w all h j = by (j == i)
 
 -- a unit: its difference, and then its band
 unit_first : (c : Coding) → IsSequential c → (p : ℕ → ℤ) (i : ℕ) (v : ℤ) (vs : List ℤ) (us : List UnitLeft) (chosen : Owned → List Bool) (es : List Element) (told : List ℤ) (bits : List Bool) (t : Standing)
-    → IsDc (p i) → are_in_bounds c true (v ∷ vs) ≡ true → AreChosen c chosen
+    → IsDc (p i) → are_in_bounds c.bounds true (v ∷ vs) ≡ true → AreChosen c chosen
     → Covers c (at (predicted p i (shifted 0 v)) (behind_dc i ∷ us)) es told bits t
     → Covers c (at p (new_unit i ∷ us)) (difference (shifted 0 v -ℤ p i) ∷ es) (v ∷ told) (chosen (i, difference (shifted 0 v -ℤ p i)) ++ bits) t
 unit_first c s p i v vs us chosen es told bits t dcp ok is later =
     let d = shifted 0 v -ℤ p i in
-    let b = both (int_le c.bounds.dc_low v && int_le v c.bounds.dc_high) (are_in_bounds c false vs) ok in
+    let b = both (int_le c.bounds.dc_low v && int_le v c.bounds.dc_high) (are_in_bounds c.bounds false vs) ok in
     let b' = both (int_le c.bounds.dc_low v) (int_le v c.bounds.dc_high) b.0 in
     let low : int_le (neg_ℤ (pos 1024)) v ≡ true = subst (λ (k : Bounds). int_le k.dc_low v ≡ true) s.bounds b'.0 in
     let high : int_le v (pos 1023) ≡ true = subst (λ (k : Bounds). int_le v k.dc_high ≡ true) s.bounds b'.1 in
@@ -122,7 +122,7 @@ unit_first c s p i v vs us chosen es told bits t dcp ok is later =
     let there : p i +ℤ d ≡ shifted 0 v = back (shifted 0 v) (p i) in
     let same : v ≡ scaled c.al (p i +ℤ d) = sym (ap (scaled c.al) (there ∙ shifted_none v) ∙ ap (λ a. scaled a v) s.al ∙ scaled_none v) in
     let next : predicted p i (shifted 0 v) ≡ predicted p i (p i +ℤ d) = ap (λ w. (let q : ℕ → ℤ = predicted p i w in q)) (sym there) in
-    let inside : are_in_bounds c true (v ∷ []) ≡ true = and_intro (int_le c.bounds.dc_low v && int_le v c.bounds.dc_high) true b.0 refl in (
+    let inside : are_in_bounds c.bounds true (v ∷ []) ≡ true = and_intro (int_le c.bounds.dc_low v && int_le v c.bounds.dc_high) true b.0 refl in (
       new_unit i,
       us,
       v ∷ [],
@@ -149,7 +149,7 @@ units_spelled c s chosen is p ((i, []) ∷ later) dcs ok =
     absurd f
 units_spelled c s chosen is p ((i, v ∷ vs) ∷ later) dcs ok =
     let h = All-head (λ u. IsWritable c u) (i, v ∷ vs) later ok in
-    let b = both (int_le c.bounds.dc_low v && int_le v c.bounds.dc_high) (are_in_bounds c false vs) h.1 in
+    let b = both (int_le c.bounds.dc_low v && int_le v c.bounds.dc_high) (are_in_bounds c.bounds false vs) h.1 in
     let b' = both (int_le c.bounds.dc_low v) (int_le v c.bounds.dc_high) b.0 in
     let low : int_le (neg_ℤ (pos 1024)) v ≡ true = subst (λ (k : Bounds). int_le k.dc_low v ≡ true) s.bounds b'.0 in
     let high : int_le v (pos 1023) ≡ true = subst (λ (k : Bounds). int_le v k.dc_high ≡ true) s.bounds b'.1 in

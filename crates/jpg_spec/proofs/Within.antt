@@ -4,39 +4,39 @@ use Rattle.std.specs.Prelude.{◌⊎◌, int_le, nat_abs, neg_ℤ}
 use Rattle.std.proofs.Math.Nat.{pow-le-pow_right}
 use Rattle.std.proofs.lemmas.List.{append_assoc, append-nil, length-append}
 use Rattle.jpg_spec.specs.Numbers.{digits}
-use Rattle.jpg_spec.specs.Elements.{Coding, UnitLeft, Element, difference, dc_bit, value, long_run, ends, Tells, going_on, old_values, corrected, is_zero, grown, scaled, zeros_in, are_in_bounds}
+use Rattle.jpg_spec.specs.Elements.{Coding, UnitLeft, Element, difference, dc_bit, value, long_run, ends, Tells, going_on, old_values, corrected, is_zero, grown, scaled, zeros_in, are_in_bounds, IsBlockIn}
 use Rattle.jpg_spec.specs.Moves.{zigzag, mirrored}
-use Rattle.jpg_spec.specs.Written.{IsWritable}
+use Rattle.jpg_spec.specs.declared.frame.Bounds.{Bounds}
 use Rattle.jpg_spec.proofs.Facts.{below_digits}
 use Rattle.jpg_spec.proofs.MirroredBlocks.{mirror_at, mirrored_is, mirrored_block}
 use Rattle.jpg_spec.proofs.Common.{both, and_intro, bounds_join}
 
 -- JOINED VALUES
 
-join_dc : (c : Coding) (v : ℤ) (more : List ℤ) → are_in_bounds c true (v ∷ []) ≡ true → are_in_bounds c false more ≡ true → are_in_bounds c true (v ∷ more) ≡ true
+join_dc : (c : Coding) (v : ℤ) (more : List ℤ) → are_in_bounds c.bounds true (v ∷ []) ≡ true → are_in_bounds c.bounds false more ≡ true → are_in_bounds c.bounds true (v ∷ more) ≡ true
 join_dc c v more h k =
     let b = both (int_le c.bounds.dc_low v && int_le v c.bounds.dc_high) true h in
-    and_intro (int_le c.bounds.dc_low v && int_le v c.bounds.dc_high) (are_in_bounds c false more) b.0 k
+    and_intro (int_le c.bounds.dc_low v && int_le v c.bounds.dc_high) (are_in_bounds c.bounds false more) b.0 k
 
 -- what is told of a unit so far may be followed by values in the bounds
 Joins : Coding → Bool → List ℤ → Type 0
-Joins c has_dc here = (more : List ℤ) → are_in_bounds c false more ≡ true → are_in_bounds c has_dc (here ++ more) ≡ true
+Joins c has_dc here = (more : List ℤ) → are_in_bounds c.bounds false more ≡ true → are_in_bounds c.bounds has_dc (here ++ more) ≡ true
 
-joins_rest : (c : Coding) (has_dc : Bool) (here : List ℤ) → has_dc ≡ false → are_in_bounds c has_dc here ≡ true → Joins c has_dc here
+joins_rest : (c : Coding) (has_dc : Bool) (here : List ℤ) → has_dc ≡ false → are_in_bounds c.bounds has_dc here ≡ true → Joins c has_dc here
 unfolding Joins
-joins_rest c has_dc here e h = λ more k. (let f : are_in_bounds c false here ≡ true = subst (λ b. are_in_bounds c b here ≡ true) e h in
-    subst (λ b. are_in_bounds c b (here ++ more) ≡ true) (sym e) (bounds_join c here more f k))
+joins_rest c has_dc here e h = λ more k. (let f : are_in_bounds c.bounds false here ≡ true = subst (λ b. are_in_bounds c.bounds b here ≡ true) e h in
+    subst (λ b. are_in_bounds c.bounds b (here ++ more) ≡ true) (sym e) (bounds_join c here more f k))
 
-joins_dc : (c : Coding) (has_dc : Bool) (here : List ℤ) (v : ℤ) → has_dc ≡ true → here ≡ v ∷ [] → are_in_bounds c has_dc here ≡ true → Joins c has_dc here
+joins_dc : (c : Coding) (has_dc : Bool) (here : List ℤ) (v : ℤ) → has_dc ≡ true → here ≡ v ∷ [] → are_in_bounds c.bounds has_dc here ≡ true → Joins c has_dc here
 unfolding Joins
-joins_dc c has_dc here v e s h = λ more k. (let f : are_in_bounds c true (v ∷ []) ≡ true = subst (λ x. are_in_bounds c true x ≡ true) s (subst (λ b. are_in_bounds c b here ≡ true) e h) in
-    subst (λ b. are_in_bounds c b (here ++ more) ≡ true) (sym e) (subst (λ x. are_in_bounds c true (x ++ more) ≡ true) (sym s) (join_dc c v more f k)))
+joins_dc c has_dc here v e s h = λ more k. (let f : are_in_bounds c.bounds true (v ∷ []) ≡ true = subst (λ x. are_in_bounds c.bounds true x ≡ true) s (subst (λ b. are_in_bounds c.bounds b here ≡ true) e h) in
+    subst (λ b. are_in_bounds c.bounds b (here ++ more) ≡ true) (sym e) (subst (λ x. are_in_bounds c.bounds true (x ++ more) ≡ true) (sym s) (join_dc c v more f k)))
 
 -- EACH UNIT has as many values as it had before, in the bounds
 
 abbrev pub AreWithin : Coding → List UnitLeft → List ℤ → Type 0
 AreWithin c [] told = told ≡ []
-AreWithin c (u ∷ units) told = (here : List ℤ) × (more : List ℤ) × (told ≡ here ++ more) × (length here ≡ length u.old) × (are_in_bounds c u.has_dc here ≡ true) × AreWithin c units more
+AreWithin c (u ∷ units) told = (here : List ℤ) × (more : List ℤ) × (told ≡ here ++ more) × (length here ≡ length u.old) × (are_in_bounds c.bounds u.has_dc here ≡ true) × AreWithin c units more
 
 going : (c : Coding) (u : UnitLeft) (old : List ℤ) (units : List UnitLeft) (here more : List ℤ) → length u.old ≡ length here + length old → Joins c u.has_dc here
     → AreWithin c (going_on u old units) more → AreWithin c (u ∷ units) (here ++ more)
@@ -70,7 +70,7 @@ EndsOne (ends bands bits) = bands ≡ 1
 
 -- an element keeps it so
 pub step : (c : Coding) (p : ℤ) (e : Element) (u : UnitLeft) (units : List UnitLeft) (here : List ℤ) (left : List UnitLeft) (more : List ℤ) → EndsOne e
-    → Tells c p e u units here left → are_in_bounds c u.has_dc here ≡ true → AreWithin c left more → AreWithin c (u ∷ units) (here ++ more)
+    → Tells c p e u units here left → are_in_bounds c.bounds u.has_dc here ≡ true → AreWithin c left more → AreWithin c (u ∷ units) (here ++ more)
 step c p (difference d) u units here left more run t ok w =
     going c u t.1 units here more (omega (arith, ap length t.5, ap length t.6)) (joins_dc c u.has_dc here _ t.2 t.6 ok) (subst (λ l. AreWithin c l more) t.7 w)
 step c p (dc_bit b) u units here left more run t ok w =
@@ -112,19 +112,19 @@ same_magnitude true (pos zero) = refl
 same_magnitude true (pos (suc n)) = refl
 same_magnitude true (negsuc n) = refl
 
-mirror_rest : (c : Coding) (places : List ℕ) (block : List ℤ) → are_in_bounds c false block ≡ true → are_in_bounds c false (mirror_at places block) ≡ true
-mirror_rest c [] block ok = refl
-mirror_rest c (n ∷ places) [] ok = refl
-mirror_rest c (n ∷ places) (v ∷ block) ok =
-    let b = both (int_le (pos (nat_abs v)) c.bounds.ac) (are_in_bounds c false block) ok in
+mirror_rest : (r : Bounds) (places : List ℕ) (block : List ℤ) → are_in_bounds r false block ≡ true → are_in_bounds r false (mirror_at places block) ≡ true
+mirror_rest r [] block ok = refl
+mirror_rest r (n ∷ places) [] ok = refl
+mirror_rest r (n ∷ places) (v ∷ block) ok =
+    let b = both (int_le (pos (nat_abs v)) r.ac) (are_in_bounds r false block) ok in
     let w = cond (n % 2 == 1) (neg_ℤ v) v in
-    and_intro (int_le (pos (nat_abs w)) c.bounds.ac) (are_in_bounds c false (mirror_at places block)) (ap (λ m. int_le (pos m) c.bounds.ac) (same_magnitude (n % 2 == 1) v) ∙ b.0) (mirror_rest c places block b.1)
+    and_intro (int_le (pos (nat_abs w)) r.ac) (are_in_bounds r false (mirror_at places block)) (ap (λ m. int_le (pos m) r.ac) (same_magnitude (n % 2 == 1) v) ∙ b.0) (mirror_rest r places block b.1)
 
-mirror_within : (c : Coding) (places : List ℕ) (block : List ℤ) → are_in_bounds c true block ≡ true → are_in_bounds c true (mirror_at (0 ∷ places) block) ≡ true
-mirror_within c places [] ok = refl
-mirror_within c places (v ∷ block) ok =
-    let b = both (int_le c.bounds.dc_low v && int_le v c.bounds.dc_high) (are_in_bounds c false block) ok in
-    and_intro (int_le c.bounds.dc_low v && int_le v c.bounds.dc_high) (are_in_bounds c false (mirror_at places block)) b.0 (mirror_rest c places block b.1)
+mirror_within : (r : Bounds) (places : List ℕ) (block : List ℤ) → are_in_bounds r true block ≡ true → are_in_bounds r true (mirror_at (0 ∷ places) block) ≡ true
+mirror_within r places [] ok = refl
+mirror_within r places (v ∷ block) ok =
+    let b = both (int_le r.dc_low v && int_le v r.dc_high) (are_in_bounds r false block) ok in
+    and_intro (int_le r.dc_low v && int_le v r.dc_high) (are_in_bounds r false (mirror_at places block)) b.0 (mirror_rest r places block b.1)
 
-pub mirrored_writable : (c : Coding) (block : List ℤ) → IsWritable c (0, block) → IsWritable c (0, mirrored block)
-mirrored_writable c block h = (mirrored_block block h.0, subst (λ x. are_in_bounds c true x ≡ true) (sym (mirrored_is block)) (mirror_within c (drop 1 zigzag) block h.1))
+pub mirrored_in : (r : Bounds) (block : List ℤ) → IsBlockIn r block → IsBlockIn r (mirrored block)
+mirrored_in r block h = (mirrored_block block h.0, subst (λ x. are_in_bounds r true x ≡ true) (sym (mirrored_is block)) (mirror_within r (drop 1 zigzag) block h.1))

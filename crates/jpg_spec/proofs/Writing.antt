@@ -56,12 +56,12 @@ corrected_zero al (pos (suc m) ∷ pre) (x ∷ cs) n = ap (λ t. grown al x (pos
 corrected_zero al (negsuc m ∷ pre) [] n = let f : ⊥ = omega arith in absurd f
 corrected_zero al (negsuc m ∷ pre) (x ∷ cs) n = ap (λ t. grown al x (negsuc m) ∷ t) (corrected_zero al pre cs (omega arith))
 
-pub bounds_split : (c : Coding) (a b : List ℤ) → are_in_bounds c false (a ++ b) ≡ true → (are_in_bounds c false a ≡ true) × (are_in_bounds c false b ≡ true)
+pub bounds_split : (c : Coding) (a b : List ℤ) → are_in_bounds c.bounds false (a ++ b) ≡ true → (are_in_bounds c.bounds false a ≡ true) × (are_in_bounds c.bounds false b ≡ true)
 bounds_split c [] b h = (refl, h)
 bounds_split c (v ∷ a) b h =
-    let k = both (int_le (pos (nat_abs v)) c.bounds.ac) (are_in_bounds c false (a ++ b)) h in
+    let k = both (int_le (pos (nat_abs v)) c.bounds.ac) (are_in_bounds c.bounds false (a ++ b)) h in
     let r = bounds_split c a b k.1 in
-    (and_intro (int_le (pos (nat_abs v)) c.bounds.ac) (are_in_bounds c false a) k.0 r.0, r.1)
+    (and_intro (int_le (pos (nat_abs v)) c.bounds.ac) (are_in_bounds c.bounds false a) k.0 r.0, r.1)
 
 bare : ℕ → UnitLeft
 bare i = record { component = i; has_dc = false; old = [] }
@@ -101,7 +101,7 @@ at_lists c p i es es' whole whole' told told' behind us e w t k =
 -- one element, and then others
 one_value : (c : Coding) (p : ℕ → ℤ) (i run : ℕ) (w : ℤ) (cs : List Bool) (pre more behind told : List ℤ) (us : List UnitLeft) (es : List Element)
     → run ≤ 15 → zeros_in pre ≡ run → nonzeros_in pre ≡ length cs → (1 ≤ category w) × (category w ≤ c.most_category)
-    → (code : List Bool) × Contains (c.ac i) (code, 16 * run + category w) → are_in_bounds c false (corrected c.al pre cs ++ scaled c.al w ∷ []) ≡ true
+    → (code : List Bool) × Contains (c.ac i) (code, 16 * run + category w) → are_in_bounds c.bounds false (corrected c.al pre cs ++ scaled c.al w ∷ []) ≡ true
     → Written c p i es (more ++ behind) told behind us
     → Written c p i (value run w cs ∷ es) (pre ++ pos 0 ∷ (more ++ behind)) ((corrected c.al pre cs ++ scaled c.al w ∷ []) ++ told) behind us
 one_value c p i run w cs pre more behind told us es small z n k code ok later =
@@ -128,7 +128,7 @@ one_value c p i run w cs pre more behind told us es small z n k code ok later =
 
 one_long_run : (c : Coding) (p : ℕ → ℤ) (i : ℕ) (cs : List Bool) (pre more behind told : List ℤ) (us : List UnitLeft) (es : List Element)
     → zeros_in pre ≡ 15 → nonzeros_in (pre ++ pos 0 ∷ []) ≡ length cs
-    → (code : List Bool) × Contains (c.ac i) (code, 0xf0) → are_in_bounds c false (corrected c.al (pre ++ pos 0 ∷ []) cs) ≡ true
+    → (code : List Bool) × Contains (c.ac i) (code, 0xf0) → are_in_bounds c.bounds false (corrected c.al (pre ++ pos 0 ∷ []) cs) ≡ true
     → Written c p i es (more ++ behind) told behind us
     → Written c p i (long_run cs ∷ es) (pre ++ pos 0 ∷ (more ++ behind)) (corrected c.al (pre ++ pos 0 ∷ []) cs ++ told) behind us
 one_long_run c p i cs pre more behind told us es z n code ok later =
@@ -161,7 +161,7 @@ if_false b a d e = ap (λ t. cond t a d) e
 -- THE LAW
 pub front_covers : (c : Coding) (p : ℕ → ℤ) (i run : ℕ) (cs : List Bool) (pre : List ℤ) (sents : List Sent) (olds news behind : List ℤ) (us : List UnitLeft)
     → run ≤ 15 → zeros_in pre ≡ run → nonzeros_in pre ≡ length cs → (sents ≡ [] → pre ≡ []) → Fronted sents → AllSent c sents olds news
-    → AllHave (c.ac i) (value_elements run cs sents) → are_in_bounds c false (corrected c.al pre cs ++ news) ≡ true
+    → AllHave (c.ac i) (value_elements run cs sents) → are_in_bounds c.bounds false (corrected c.al pre cs ++ news) ≡ true
     → Written c p i (value_elements run cs sents) (pre ++ olds ++ behind) (corrected c.al pre cs ++ news) behind us
 front_covers c p i run cs pre [] olds news behind us small z n e f h have ok =
     let ep = e refl in (
@@ -183,7 +183,7 @@ front_covers c p i run cs pre (correction b ∷ sents) olds news behind us small
     let zz : zeros_in (pre ++ o ∷ []) ≡ run = zeros_push pre o ∙ ap (λ t. zeros_in pre + cond t 1 0) new.0 ∙ omega (arith, z) in
     let nn : nonzeros_in (pre ++ o ∷ []) ≡ length (cs ++ b ∷ []) = nonzeros_push pre o ∙ ap (λ t. nonzeros_in pre + cond t 0 1) new.0 ∙ omega (arith, n, length_push cs b) in
     at_lists c p i _ _ _ _ _ _ behind us refl whole told
-    (front_covers c p i run (cs ++ b ∷ []) (pre ++ o ∷ []) sents more h.3 behind us small zz nn (more_left (correction b) sents (pre ++ o ∷ []) refl f.0) f.1 h.7 have (ap (λ q. are_in_bounds c false q) told ∙ ok))
+    (front_covers c p i run (cs ++ b ∷ []) (pre ++ o ∷ []) sents more h.3 behind us small zz nn (more_left (correction b) sents (pre ++ o ∷ []) refl f.0) f.1 h.7 have (ap (λ q. are_in_bounds c.bounds false q) told ∙ ok))
 front_covers c p i run cs pre (newly (pos zero) ∷ sents) olds news behind us small z n e f h have ok =
     let more = h.1 in
     let new = h.6 in
@@ -194,7 +194,7 @@ front_covers c p i run cs pre (newly (pos zero) ∷ sents) olds news behind us s
     sym (append_assoc pre (pos 0 ∷ more) behind) ∙ ap (λ q. (pre ++ q) ++ behind) (ap (λ t. t ∷ more) (sym new.0) ∙ sym h.4) in
     let pushed : (pre ++ pos 0 ∷ []) ++ more ++ behind ≡ pre ++ olds ++ behind =
     ap (λ q. q ++ behind) (append_assoc pre (pos 0 ∷ []) more ∙ ap (λ q. pre ++ q) (ap (λ t. t ∷ more) (sym new.0) ∙ sym h.4)) in
-    let b = bounds_split c (corrected c.al (pre ++ pos 0 ∷ []) cs) h.3 (ap (λ q. are_in_bounds c false q) told ∙ ok) in
+    let b = bounds_split c (corrected c.al (pre ++ pos 0 ∷ []) cs) h.3 (ap (λ q. are_in_bounds c.bounds false q) told ∙ ok) in
     let zz = zeros_push pre (pos 0) in
     let nn : nonzeros_in (pre ++ pos 0 ∷ []) ≡ length cs = nonzeros_push pre (pos 0) ∙ omega (arith, n) in
     ⊎_elim
@@ -211,7 +211,7 @@ front_covers c p i run cs pre (newly (pos zero) ∷ sents) olds news behind us s
     let hv = subst (λ q. AllHave (c.ac i) q) es have in
     at_lists c p i _ _ _ _ _ _ behind us (sym es) pushed told
     (front_covers c p i (run + 1) cs (pre ++ pos 0 ∷ []) sents more h.3 behind us (omega arith) (omega (arith, zz, z)) nn (more_left (newly (pos zero)) sents (pre ++ pos 0 ∷ []) refl f.0) f.1 h.7 hv
-    (ap (λ q. are_in_bounds c false q) told ∙ ok)))
+    (ap (λ q. are_in_bounds c.bounds false q) told ∙ ok)))
     (cases_eq run 15)
 front_covers c p i run cs pre (newly (pos (suc m)) ∷ sents) olds news behind us small z n e f h have ok =
     let more = h.1 in
@@ -220,7 +220,7 @@ front_covers c p i run cs pre (newly (pos (suc m)) ∷ sents) olds news behind u
     append_assoc (corrected c.al pre cs) (scaled c.al (pos (suc m)) ∷ []) h.3 ∙ ap (λ v. corrected c.al pre cs ++ v ∷ h.3) (sym new.1) ∙ ap (λ q. corrected c.al pre cs ++ q) (sym h.5) in
     let whole : pre ++ pos 0 ∷ (more ++ behind) ≡ pre ++ olds ++ behind =
     sym (append_assoc pre (pos 0 ∷ more) behind) ∙ ap (λ q. (pre ++ q) ++ behind) (ap (λ t. t ∷ more) (sym new.0) ∙ sym h.4) in
-    let b = bounds_split c (corrected c.al pre cs ++ scaled c.al (pos (suc m)) ∷ []) h.3 (ap (λ q. are_in_bounds c false q) told ∙ ok) in
+    let b = bounds_split c (corrected c.al pre cs ++ scaled c.al (pos (suc m)) ∷ []) h.3 (ap (λ q. are_in_bounds c.bounds false q) told ∙ ok) in
     at_lists c p i (value run (pos (suc m)) cs ∷ value_elements 0 [] sents) (value run (pos (suc m)) cs ∷ value_elements 0 [] sents) _ _ _ _ behind us refl whole told
     (one_value c p i run (pos (suc m)) cs pre more behind h.3 us (value_elements 0 [] sents) small z n (new.2 refl) have.0 b.0
     (front_covers c p i 0 [] [] sents more h.3 behind us (omega arith) refl refl (λ q. refl) f.1 h.7 have.1 b.1))
@@ -231,7 +231,7 @@ front_covers c p i run cs pre (newly (negsuc m) ∷ sents) olds news behind us s
     append_assoc (corrected c.al pre cs) (scaled c.al (negsuc m) ∷ []) h.3 ∙ ap (λ v. corrected c.al pre cs ++ v ∷ h.3) (sym new.1) ∙ ap (λ q. corrected c.al pre cs ++ q) (sym h.5) in
     let whole : pre ++ pos 0 ∷ (more ++ behind) ≡ pre ++ olds ++ behind =
     sym (append_assoc pre (pos 0 ∷ more) behind) ∙ ap (λ q. (pre ++ q) ++ behind) (ap (λ t. t ∷ more) (sym new.0) ∙ sym h.4) in
-    let b = bounds_split c (corrected c.al pre cs ++ scaled c.al (negsuc m) ∷ []) h.3 (ap (λ q. are_in_bounds c false q) told ∙ ok) in
+    let b = bounds_split c (corrected c.al pre cs ++ scaled c.al (negsuc m) ∷ []) h.3 (ap (λ q. are_in_bounds c.bounds false q) told ∙ ok) in
     at_lists c p i (value run (negsuc m) cs ∷ value_elements 0 [] sents) (value run (negsuc m) cs ∷ value_elements 0 [] sents) _ _ _ _ behind us refl whole told
     (one_value c p i run (negsuc m) cs pre more behind h.3 us (value_elements 0 [] sents) small z n (new.2 refl) have.0 b.0
     (front_covers c p i 0 [] [] sents more h.3 behind us (omega arith) refl refl (λ q. refl) f.1 h.7 have.1 b.1))

@@ -10,7 +10,6 @@ use Rattle.jpg_spec.specs.Scan.{TablesInForce, codes_of, part_of, scan_coding}
 use Rattle.jpg_spec.specs.ScanText.{UnitDue, typical_table, typical_tables}
 use Rattle.jpg_spec.specs.Written.{IsWritable, sequential_bits, SpellsDue}
 use Rattle.jpg_spec.proofs.Sequential.{written_spells}
-use Rattle.jpg_spec.proofs.Common.{same_within}
 use Rattle.jpg_spec.proofs.PlacedBlocks.{Each, each_all}
 
 -- THE CODES of the components of the units matter alone
@@ -69,7 +68,7 @@ covers_coded c dc ac test s t (e ∷ es) told bits same a k =
       k.9,
       subst (λ q. SpellsElement q e k.5) (due_coded c dc ac test k.0 same all.0) k.10,
       tells_coded c dc ac (s.predictions (k.0).component) e k.0 k.1 k.2 k.3 k.11,
-      sym (same_within c (coded_by c dc ac) refl (k.0).has_dc k.2) ∙ k.12,
+      k.12,
       covers_coded c dc ac test (record { predictions = predictions_after s.predictions (k.0).component e; left = k.3 }) t es k.4 k.6 same
           (in_after c (s.predictions (k.0).component) test e k.0 k.1 k.2 k.3 k.11 all) k.13,
     )

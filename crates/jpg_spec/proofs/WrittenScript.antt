@@ -5,11 +5,11 @@ use Rattle.std.specs.Int.{to_be_bytes, w16}
 use Rattle.std.proofs.lemmas.List.{append_assoc, append-nil}
 use Rattle.jpg_spec.specs.Bits.{stuffed}
 use Rattle.jpg_spec.specs.Lists.{any_of, all_of, is_among, is_distinct, below}
-use Rattle.jpg_spec.specs.Geometry.{Frame, component_at, is_progressive, is_real, place, units, mcu_units}
+use Rattle.jpg_spec.specs.Geometry.{Frame, bounds, component_at, is_progressive, is_real, place, units, mcu_units}
 use Rattle.jpg_spec.specs.FrameHeader.{IsFrame}
 use Rattle.jpg_spec.specs.Segments.{QuantTable, ScanHead, head_components}
 use Rattle.jpg_spec.specs.Scan.{Blocks, Scan, scan_coding, scan_of, unit_at, ScanMeans}
-use Rattle.jpg_spec.specs.ScanText.{intervals_text, typical_table, typical_tables, gray_coding}
+use Rattle.jpg_spec.specs.ScanText.{intervals_text, typical_table, typical_tables}
 use Rattle.jpg_spec.specs.Meaning.{Meaning, colour_of}
 use Rattle.jpg_spec.specs.Script.{Entry}
 use Rattle.jpg_spec.specs.InForce.{frame_of, huffman_in_force, quant_in_force}
@@ -17,13 +17,13 @@ use Rattle.jpg_spec.specs.History.{has_begun, quant_of}
 use Rattle.jpg_spec.specs.Items.{Item, segments_of, SpellsIntervalsText}
 use Rattle.jpg_spec.specs.FileMeaning.{scan_after}
 use Rattle.jpg_spec.specs.FileText.{Written, segment_text, frame_of_meaning, head_text, tables_text, tables_given, Restart, off, rows, mcus, interval_of, scans_text}
-use Rattle.jpg_spec.specs.WrittenFile.{IsBaselineBlock, is_sequential_entry, is_script_behind, IsRestart}
+use Rattle.jpg_spec.specs.WrittenFile.{is_sequential_entry, is_script_behind, IsRestart}
 use Rattle.jpg_spec.specs.Laws.{IsNewUnit}
 use Rattle.jpg_spec.specs.declared.frame.Colour.{Colour}
 use Rattle.jpg_spec.specs.declared.frame.Place.{Place}
 use Rattle.jpg_spec.specs.declared.frame.ScanPart.{ScanPart}
 use Rattle.jpg_spec.specs.declared.frame.Limits.{Limits}
-use Rattle.jpg_spec.specs.Elements.{new_unit}
+use Rattle.jpg_spec.specs.Elements.{new_unit, IsBlockIn}
 use Rattle.jpg_spec.proofs.PictureInWork.{leads_sizes}
 use Rattle.jpg_spec.proofs.FirstPasses.{sequential_unit}
 use Rattle.jpg_spec.proofs.PlacesSome.{units_some, chunks_some}
@@ -34,13 +34,13 @@ use Rattle.jpg_spec.proofs.WrittenHead.{IsSpoken, head_contents}
 use Rattle.jpg_spec.proofs.WrittenState.{IsSent, Sends, quants_due, tables_step, interval_step}
 use Rattle.jpg_spec.proofs.WrittenStep.{ids_of, intervals_text_spelled, rule_is, head_in_is, scan_is, scan_step}
 use Rattle.jpg_spec.proofs.WrittenSequential.{plain_part, plain_head, plain_components, IsEntry, entry_is, among_below, plain_spoken, plain_needed, needed_tellable, IsGiven, all_given, typical_given, sequential_admitted, plain_data, scans_are}
-use Rattle.jpg_spec.proofs.Common.{both, neither, same_within}
+use Rattle.jpg_spec.proofs.Common.{both, neither}
 
 -- a meaning that may be written in sequential scans
 pub record IsFit (H : Meaning) : Type 0 where
   pub frame : IsFrame (frame_of_meaning H)
   pub sequential : is_progressive H.process ≡ false
-  pub blocks : (i x y : ℕ) → i < length H.components → is_real (frame_of_meaning H) i x y ≡ true → IsBaselineBlock (H.blocks i x y)
+  pub blocks : (i x y : ℕ) → i < length H.components → is_real (frame_of_meaning H) i x y ≡ true → IsBlockIn (bounds (frame_of_meaning H)) (H.blocks i x y)
   pub count : length (frame_of_meaning H).components ≡ length H.components
 
 -- the real blocks of the components that are done are those of the picture
@@ -142,7 +142,7 @@ entry_step limits H restart heads done w text components fit small entry begun s
         (λ i x y e. subst (λ (z : Scan). unit_at z st.blocks (place f i x y) ≡ new_unit i) scan
         (sequential_unit limits items st.blocks (head_contents (ids_of H) head) (place f i x y) st.leads rule plain (ap (λ (h : ScanHead). is_among i (head_components h)) told ∙ e))) in
         let sendable = each_units (IsRealSendable (scan_coding f typical_tables head) H.blocks) f (head_components head)
-        (λ i x y e real. (let b = fit.blocks i x y (known i e) real in (b.0, sym (same_within gray_coding (scan_coding f typical_tables head) refl true (H.blocks i x y)) ∙ b.1))) in
+        (λ i x y e real. fit.blocks i x y (known i e) real) in
         let distinct : is_distinct (head_components head) ≡ true = ap is_distinct names_are ∙ entry.distinct in
         let means = scan_means f tabs n head st.blocks H.blocks fit.sequential fit.frame.precision (typical_given tabs head given) distinct (leads_sizes limits items st.blocks st.leads) new sendable in
         let means' = subst (λ m. ScanMeans (scan_of f tabs m head) (map coded all) st.blocks after) (sym st.interval) means in

@@ -155,11 +155,15 @@ predictions_after predictions component (value run v bits) = predictions
 predictions_after predictions component (long_run bits) = predictions
 predictions_after predictions component (ends bands bits) = predictions
 
--- whether the values lie in the bounds
-abbrev pub are_in_bounds : Coding → Bool → List ℤ → Bool
-are_in_bounds c has_dc [] = true
-are_in_bounds c true (v ∷ told) = int_le c.bounds.dc_low v && int_le v c.bounds.dc_high && are_in_bounds c false told
-are_in_bounds c false (v ∷ told) = int_le (pos (nat_abs v)) c.bounds.ac && are_in_bounds c false told
+-- whether the values lie in the bounds, with a DC value first or not
+abbrev pub are_in_bounds : Bounds → Bool → List ℤ → Bool
+are_in_bounds b has_dc [] = true
+are_in_bounds b true (v ∷ told) = int_le b.dc_low v && int_le v b.dc_high && are_in_bounds b false told
+are_in_bounds b false (v ∷ told) = int_le (pos (nat_abs v)) b.ac && are_in_bounds b false told
+
+-- 64 values in the bounds
+abbrev pub IsBlockIn : Bounds → List ℤ → Type 0
+IsBlockIn b block = (length block ≡ 64) × (are_in_bounds b true block ≡ true)
 
 -- The bits spell the elements. From one standing they lead to the other, and tell these values in their order.
 abbrev pub Covers : Coding → Standing → List Element → List ℤ → List Bool → Standing → Type 0
@@ -167,7 +171,7 @@ Covers c s [] told bits t = (told ≡ []) × (bits ≡ []) × (t ≡ s)
 Covers c s (e ∷ elements) told bits t =
     (u : UnitLeft) × (units : List UnitLeft) × (here : List ℤ) × (left : List UnitLeft) × (more : List ℤ) × (front : List Bool) × (rest : List Bool)
     × (s.left ≡ u ∷ units) × (told ≡ here ++ more) × (bits ≡ front ++ rest)
-    × SpellsElement (codes_due c u) e front × Tells c (s.predictions u.component) e u units here left × (are_in_bounds c u.has_dc here ≡ true)
+    × SpellsElement (codes_due c u) e front × Tells c (s.predictions u.component) e u units here left × (are_in_bounds c.bounds u.has_dc here ≡ true)
     × Covers c (record { predictions = predictions_after s.predictions u.component e; left = left }) elements more rest t
 
 -- predictions begin at 0 in each interval

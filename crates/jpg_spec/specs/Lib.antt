@@ -4,7 +4,11 @@ pub mod Colours
 pub mod CommentText
 pub mod CommentWords
 pub mod Dct
+pub mod Downsampling
 pub mod Elements
+pub mod Encoded
+pub mod EncodingExamples
+pub mod EncodingLaws
 pub mod Examples
 pub mod Faults
 pub mod FileExamples
@@ -12,6 +16,7 @@ pub mod FileMeaning
 pub mod FileStands
 pub mod FileText
 pub mod FirstFault
+pub mod ForwardDct
 pub mod FrameContents
 pub mod FrameHeader
 pub mod Geometry
@@ -26,6 +31,7 @@ pub mod Items
 pub mod Jfif
 pub mod Laws
 pub mod Lists
+pub mod Luminance
 pub mod Markers
 pub mod Meaning
 pub mod Messages
@@ -35,6 +41,7 @@ pub mod NotShown
 pub mod Numbers
 pub mod PictureInWork
 pub mod Parts
+pub mod Quality
 pub mod QuantContents
 pub mod Ranges
 pub mod Requests
@@ -65,3 +72,11 @@ pub mod Upsampling
 pub mod Words
 pub mod Written
 pub mod WrittenFile
+pub mod Images
+pub mod PnmText
+pub mod BmpFile
+pub mod ImageFaults
+pub mod ImageLaws
+pub mod ImageExamples
+pub mod ImageSteps
+pub mod ImageReading

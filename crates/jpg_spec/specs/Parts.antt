@@ -149,7 +149,7 @@ pub record StandsInUnits (c : Coding) (units : List UnitLeft) (told : List ℤ) 
   pub same : told ≡ before ++ here
   pub first : left ≡ unit ∷ others
   pub is_part : PartOfElement c standing unit others here part
-  pub in_bounds : are_in_bounds c false here ≡ true
+  pub in_bounds : are_in_bounds c.bounds false here ≡ true
 
 -- whatever they told, and whatever they leave
 abbrev pub AreUnderWay : Coding → List UnitLeft → List Bool → Type 0

@@ -24,7 +24,7 @@ BitsShow c s u units fault bits =
     ⊎ (((fault ≡ BadSymbol) × ((symbol : ℕ) × Contains (codes_due c u) (bits, symbol) × (is_symbol c u.has_dc symbol ≡ false)))
     ⊎ (((fault ≡ BadRun) × ((run : ℕ) × (size : ℕ) × Contains (codes_due c u) (bits, 16 * run + size) × (u.has_dc ≡ false) × (1 ≤ size) × (size ≤ c.most_category) × (zeros_in u.old ≤ run)))
     ⊎ (((fault ≡ CoefRange) × ((e : Element) × (here : List ℤ) × (left : List UnitLeft) × SpellsElement (codes_due c u) e bits
-    × Tells c (s.predictions u.component) e u units here left × (are_in_bounds c u.has_dc here ≡ false)))
+    × Tells c (s.predictions u.component) e u units here left × (are_in_bounds c.bounds u.has_dc here ≡ false)))
     ⊎ ((fault ≡ RunPastEnd) × ((n : ℕ) × (x : ℕ) × (code : List Bool) × Contains (codes_due c u) (code, 16 * n) × (u.has_dc ≡ false) × (n ≤ c.most_run)
     × (bits ≡ code ++ bits_of n x) × (x < 2 ^ n) × (1 + length units < 2 ^ n + x))))))
 

@@ -6,11 +6,10 @@ use Rattle.jpg_spec.specs.Lists.{below, chunks, are_equal, is_among}
 use Rattle.jpg_spec.specs.Typical.{dc_luma_counts, dc_luma_values, ac_luma_counts, ac_luma_values, dc_chroma_counts, dc_chroma_values, ac_chroma_counts, ac_chroma_values}
 use Rattle.jpg_spec.specs.Geometry.{Frame, units, is_progressive, mcu_units}
 use Rattle.jpg_spec.specs.Segments.{HuffmanTable, table_codes, ScanHead, head_components}
-use Rattle.jpg_spec.specs.Elements.{Coding, Element, difference, dc_bit, value, long_run, ends, is_dc_bit, symbol_of, bits_behind, predicted, zeros}
+use Rattle.jpg_spec.specs.Elements.{Element, difference, dc_bit, value, long_run, ends, is_dc_bit, symbol_of, bits_behind, predicted, zeros}
 use Rattle.jpg_spec.specs.Sending.{Sent, sent, shifted, band_elements}
-use Rattle.jpg_spec.specs.Scan.{Blocks, TablesInForce, block_at, part_of, scan_coding}
+use Rattle.jpg_spec.specs.Scan.{Blocks, TablesInForce, block_at, part_of}
 use Rattle.jpg_spec.specs.declared.frame.Place.{Place}
-use Rattle.jpg_spec.specs.declared.frame.Process.TheVariants.{Baseline}
 
 -- A SCAN's elements, each with its component
 
@@ -112,20 +111,9 @@ typical_table class slot =
     then (if slot == 0 then record { counts = dc_luma_counts; symbols = dc_luma_values } else record { counts = dc_chroma_counts; symbols = dc_chroma_values })
     else (if slot == 0 then record { counts = ac_luma_counts; symbols = ac_luma_values } else record { counts = ac_chroma_counts; symbols = ac_chroma_values })
 
--- the frame of a gray picture of 8 bits with these sides, the header of its one scan, and the coding of that by K.3 to K.6
-abbrev pub gray_frame : ℕ → ℕ → Frame
-gray_frame width height =
-    record { process = Baseline; precision = 8; width = width; height = height; components = record { id = 1; h = 1; v = 1; quant = 0 } ∷ [] }
-
-abbrev pub gray_head : ScanHead
-gray_head = record { parts = record { component = 0; dc = 0; ac = 0 } ∷ []; ss = 0; se = 63; ah = 0; al = 0 }
-
 -- K.3 to K.6 in slots 0 and 1
 abbrev pub typical_tables : TablesInForce
 typical_tables class slot = Some (typical_table class slot)
-
-abbrev pub gray_coding : Coding
-gray_coding = scan_coding (gray_frame 8 8) typical_tables gray_head
 
 -- typical tables in sequential scans of precision 8, else the flat table of what the scan writes
 abbrev pub scan_tables : Frame → ScanHead → List (List Owned) → ℕ → ℕ → HuffmanTable

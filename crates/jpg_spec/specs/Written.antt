@@ -1,12 +1,12 @@
 -- WHAT A SEQUENTIAL SCAN of precision 8 can write, and the units that it writes (T.81, F.1.2).
-use Rattle.std.specs.Prelude.{◌≡◌, Bool, true, false, List, length, map, flat_map}
+use Rattle.std.specs.Prelude.{Bool, false, List, map, flat_map}
 use Rattle.jpg_spec.specs.Segments.{ScanHead}
-use Rattle.jpg_spec.specs.Elements.{Coding, are_in_bounds, SpellsUnits, new_unit}
+use Rattle.jpg_spec.specs.Elements.{Coding, IsBlockIn, SpellsUnits, new_unit}
 use Rattle.jpg_spec.specs.ScanText.{UnitDue, element_bits, interval_elements, typical_table}
 
--- 64 values in the bounds
+-- a block in the bounds of the coding
 abbrev pub IsWritable : Coding → UnitDue → Type 0
-IsWritable c u = (length u.1 ≡ 64) × (are_in_bounds c true u.1 ≡ true)
+IsWritable c u = IsBlockIn c.bounds u.1
 
 -- the bits that are written of the units of an interval, by the typical tables
 abbrev pub sequential_bits : ScanHead → List UnitDue → List Bool

@@ -1,9 +1,10 @@
 -- WHAT MAY BE WRITTEN: meanings that are headed, sequential scripts, and restarts (T.81, B.2, the manual of jpegtran).
 use Rattle.std.specs.Prelude.{◌≡◌, ℕ, ◌+◌, ◌<◌, ◌≤◌, Bool, true, false, not, nat_lt, nat_le, ◌&&◌, ◌||◌, ◌==◌, List, [], ◌∷◌, ◌++◌, length, reverse, Ok, ℤ, All}
 use Rattle.jpg_spec.specs.Lists.{any_of, all_of, is_among, is_distinct, below}
-use Rattle.jpg_spec.specs.Geometry.{Frame, factor_sum, is_progressive, is_real}
+use Rattle.jpg_spec.specs.Geometry.{Frame, bounds, factor_sum, is_progressive, is_real, IsReal}
 use Rattle.jpg_spec.specs.FrameHeader.{checked_frame}
-use Rattle.jpg_spec.specs.Elements.{zeros, are_in_bounds}
+use Rattle.jpg_spec.specs.Elements.{zeros, IsBlockIn}
+use Rattle.jpg_spec.specs.Scan.{Blocks}
 use Rattle.jpg_spec.specs.Markers.{Segment, is_within, kept_count}
 use Rattle.jpg_spec.specs.Meaning.{Meaning, PictureComponent}
 use Rattle.jpg_spec.specs.Script.{Entry}
@@ -12,18 +13,20 @@ use Rattle.jpg_spec.specs.ScanContents.{are_parameters}
 use Rattle.jpg_spec.specs.History.{known_to, is_known_to, is_next}
 use Rattle.jpg_spec.specs.FileText.{Restart, off, rows, mcus, frame_of_meaning, written_head}
 use Rattle.jpg_spec.specs.declared.frame.Limits.{Limits}
-use Rattle.jpg_spec.specs.ScanText.{gray_coding}
 
 -- 64 quantisers of two bytes, none of them 0
 abbrev pub IsQuantiser : ℕ → Type 0
 IsQuantiser q = (1 ≤ q) × (q < 65536)
 
-abbrev pub HasQuants : PictureComponent → Type 0
-HasQuants c = (length c.quants ≡ 64) × All IsQuantiser c.quants
+abbrev pub AreQuantisers : List ℕ → Type 0
+AreQuantisers quants = (length quants ≡ 64) × All IsQuantiser quants
 
--- 64 values in the bounds of precision 8
-abbrev pub IsBaselineBlock : List ℤ → Type 0
-IsBaselineBlock block = (length block ≡ 64) × (are_in_bounds gray_coding true block ≡ true)
+abbrev pub HasQuants : PictureComponent → Type 0
+HasQuants c = AreQuantisers c.quants
+
+-- each real block lies in the bounds of the frame
+abbrev pub HasBlocksIn : Frame → Blocks → Type 0
+HasBlocksIn f blocks = (i x y : ℕ) → IsReal f i x y → IsBlockIn (bounds f) (blocks i x y)
 
 -- APPn or COM, within the length of a segment
 abbrev pub IsKeptMarker : Segment → Type 0
@@ -35,7 +38,7 @@ pub record IsHeaded (limits : Limits) (H : Meaning) : Type 0 where
   pub quants : All HasQuants H.components
   pub markers : All IsKeptMarker H.kept
   pub count : kept_count (reverse H.kept) ≤ limits.kept
-  pub blocks : (i x y : ℕ) → i < length H.components → is_real (frame_of_meaning H) i x y ≡ true → IsBaselineBlock (H.blocks i x y)
+  pub blocks : (i x y : ℕ) → i < length H.components → is_real (frame_of_meaning H) i x y ≡ true → IsBlockIn (bounds (frame_of_meaning H)) (H.blocks i x y)
   pub others : (i x y : ℕ) → (nat_lt i (length H.components) && is_real (frame_of_meaning H) i x y) ≡ false → H.blocks i x y ≡ zeros 64
 
 -- SEQUENTIAL SCRIPTS: one to four distinct components, of ten blocks an MCU at most where they are several, none of them in a scan before; and all at the end

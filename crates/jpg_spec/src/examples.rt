@@ -1,4 +1,6 @@
 //! Worked examples: what the definitions say of small pictures, by computation.
+#![tactic(auto, unfolding(crate::specs::Bits::bits_of, crate::specs::Lists::chunks_of, crate::specs::Codes::codes, crate::specs::Numbers::digits, crate::specs::ScanText::element_bits, crate::specs::FileText::file_text, crate::specs::Moves::mirrored, crate::specs::ScanText::scan_data, crate::specs::FileText::scans_text, crate::specs::Geometry::units, crate::specs::Bits::whole_bytes))]
+
 ghost use Rattle.std.specs.Prelude.{◌≡◌, ℕ, List, [], ◌∷◌, ◌+◌, ◌-◌, ◌*◌, ℤ, pos, negsuc, length};
 ghost use Rattle.jpg_spec.specs.Elements.{zeros};
 ghost use Rattle.jpg_spec.specs.Scan.{Blocks};

@@ -1,4 +1,6 @@
 //! Worked examples of files that are written, by computation: restarts, several components, progressive scans.
+#![tactic(auto, unfolding(crate::specs::Bits::bits_of, crate::specs::Lists::chunks_of, crate::specs::Codes::codes, crate::specs::Numbers::digits, crate::specs::ScanText::element_bits, crate::specs::FileText::file_text, crate::specs::ScanText::flat_table, crate::specs::ScanText::scan_data, crate::specs::FileText::scans_text, crate::specs::ScanText::symbols_used, crate::specs::Geometry::units, crate::specs::Bits::whole_bytes))]
+
 ghost use Rattle.std.specs.Prelude.{◌≡◌, [], ◌∷◌};
 ghost use Rattle.jpg_spec.specs.FileText.{file_text, off, rows, mcus};
 ghost use Rattle.jpg_spec.specs.FileExamples.{gray_scan, gray_passes, four_blocks, four_text, two_and_one, two_and_one_text, far_apart, far_apart_text, many_twos, many_twos_text, mixed_values, mixed_values_text, three_values, three_scan, three_scan_text, three_passes, three_passes_text};

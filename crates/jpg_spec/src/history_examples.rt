@@ -1,4 +1,6 @@
 //! Worked examples of the scans that a file admits, by computation (T.81, B.2.3, B.2.4, G.1.1.1).
+#![tactic(auto, unfolding(crate::specs::Codes::are_codes, crate::specs::FrameHeader::checked_frame, crate::specs::ScanContents::checked_head, crate::specs::HuffContents::huffman_table_of, crate::specs::HuffContents::huffman_tables_of, crate::specs::QuantContents::quant_table_of, crate::specs::QuantContents::quant_tables_of))]
+
 ghost use Rattle.std.specs.Prelude.{◌≡◌, [], ◌∷◌, None, Some, replicate};
 ghost use Rattle.jpg_spec.specs.Segments.{standard_limits};
 ghost use Rattle.jpg_spec.specs.Items.{contents_rule};

@@ -3,6 +3,8 @@
 #![tactic(auto)]
 
 mod answers;
+pub mod encoding_examples;
+pub mod encoding_laws;
 pub mod examples;
 mod fault;
 pub mod file_examples;
@@ -11,6 +13,8 @@ mod frame;
 pub mod header_laws;
 pub mod history_examples;
 mod image;
+pub mod image_examples;
+pub mod image_laws;
 mod jfif;
 pub mod laws;
 pub mod marker_examples;

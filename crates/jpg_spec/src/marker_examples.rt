@@ -1,4 +1,6 @@
 //! Worked examples of markers, segments, comments and words: what the definitions say, by computation.
+#![tactic(auto, unfolding(crate::specs::Codes::are_codes, crate::specs::HuffContents::huffman_table_of, crate::specs::HuffContents::huffman_tables_of, crate::specs::QuantContents::quant_tables_of))]
+
 ghost use Rattle.std.specs.Prelude.{◌≡◌, List, ℕ, [], ◌∷◌, ◌++◌, true, false, Some, None, Ok, Err, codes, replicate};
 ghost use Rattle.jpg_spec.specs.Segments.{standard_limits};
 ghost use Rattle.jpg_spec.specs.Typical.{dc_luma_counts, dc_luma_values};

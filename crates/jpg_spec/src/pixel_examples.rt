@@ -1,4 +1,6 @@
 //! Worked examples of samples and colours, by computation.
+#![tactic(auto, unfolding(crate::specs::ImageText::bmp_header, crate::specs::Dct::column, crate::specs::Dct::dequantised, crate::specs::Numbers::digits, crate::specs::Dct::even_sums, crate::specs::Dct::inverse_dct, crate::specs::Dct::joined_sums, crate::specs::Dct::odd_sums, crate::specs::ImageText::palette, crate::specs::ImageText::pnm_header, crate::specs::Upsampling::repeat_row, crate::specs::Dct::sample_row, crate::specs::RedGreenBlue::to_rgb, crate::specs::Upsampling::up_row, crate::specs::Upsampling::up_rows2))]
+
 ghost use Rattle.std.specs.Prelude.{◌≡◌, ℕ, List, [], ◌∷◌, ◌++◌, pos, replicate, length, codes, true, false, None, Some};
 ghost use Rattle.jpg_spec.specs.Lists.{joined};
 ghost use Rattle.jpg_spec.specs.Examples.{gray_square, gray_rows, flat_picture, ninth_row};

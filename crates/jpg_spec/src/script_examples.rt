@@ -1,4 +1,6 @@
 //! Worked examples of scripts (T.81, B.2.3, G.1.1.1; the manual's wizard.txt).
+#![tactic(auto, unfolding(crate::specs::ScriptFaults::script_fault))]
+
 ghost use Rattle.std.specs.Prelude.{◌≡◌, ◌∷◌, [], None, Some};
 ghost use Rattle.jpg_spec.specs.Examples.{three_frame};
 ghost use Rattle.jpg_spec.specs.ScriptFaults.{script_fault, of_one, standard_script};

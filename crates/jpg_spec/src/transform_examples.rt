@@ -1,4 +1,6 @@
 //! Worked examples of the transforms, by computation: small files, columns and rows that stay, sides that are trimmed.
+#![tactic(auto, unfolding(crate::specs::Bits::bits_of, crate::specs::Lists::chunks_of, crate::specs::Codes::codes, crate::specs::Numbers::digits, crate::specs::ScanText::element_bits, crate::specs::FileText::file_text, crate::specs::Moves::mirrored, crate::specs::Moves::mirrored_down, crate::specs::ScanText::scan_data, crate::specs::FileText::scans_text, crate::specs::Transposed::transposed, crate::specs::Geometry::units, crate::specs::Bits::whole_bytes))]
+
 ghost use Rattle.std.specs.Prelude.{◌≡◌, ℕ, ℤ, [], ◌∷◌, pos, negsuc, true, false, None, Some};
 ghost use Rattle.jpg_spec.specs.Elements.{zeros};
 ghost use Rattle.jpg_spec.specs.Scan.{Blocks};

@@ -8,8 +8,8 @@ ghost use Rattle.jpg_spec.specs.Transforms.{transformed, inverse, signed, turned
 ghost use Rattle.jpg_spec.specs.FileMeaning.{Means};
 ghost use Rattle.jpg_spec.specs.Laws.{IsTransformOf, UndoesTransform, formula_block, HasSampling, IsZeroOutside, FirstIsGreatest};
 ghost use Rattle.jpg_spec.specs.declared.frame.Limits.{Limits};
-ghost use Rattle.jpg_spec.specs.Elements.{Coding};
-ghost use Rattle.jpg_spec.specs.Written.{IsWritable};
+ghost use Rattle.jpg_spec.specs.declared.frame.Bounds.{Bounds};
+ghost use Rattle.jpg_spec.specs.Elements.{IsBlockIn};
 ghost use Rattle.jpg_spec.specs.WholeBlocks.{HasWholeBlocks};
 ghost use Rattle.jpg_spec.specs.declared.transform.Transform.{Transform};
 
@@ -46,7 +46,7 @@ pub fn blocks_of_files_are_whole()
     ensures { (limits : Limits) (bytes : List ℕ) (M : Meaning) (i x y : ℕ) → Means limits bytes M → length (M.blocks i x y) ≡ 64 }
 {}
 
-/// Each block that the formula makes of one that can be written can be written: its DC is the same, and no AC has another magnitude.
+/// Each block that the formula makes of one in the bounds of a frame lies in them: its DC is the same, and no AC has another magnitude.
 pub fn moved_blocks_can_be_written()
-    ensures { (c : Coding) (across down over : Bool) (old : List ℤ) → IsWritable c (0, old) → IsWritable c (0, signed across down (turned_over over old)) }
+    ensures { (b : Bounds) (across down over : Bool) (old : List ℤ) → IsBlockIn b old → IsBlockIn b (signed across down (turned_over over old)) }
 {}

@@ -1,3 +1,3 @@
-pub mod BaselineSet
+pub mod BlockSet
 pub mod Begun
 pub mod SeqScans

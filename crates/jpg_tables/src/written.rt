@@ -1,6 +1,7 @@
 // The data of sequential scans, written of pictures whose blocks are all the same (T.81, F.1.2, E.1.4).
 ghost use Rattle.std.specs.Prelude.{◌≡◌};
-ghost use Rattle.jpg_spec.specs.WrittenFile.{IsBaselineBlock};
+ghost use Rattle.jpg_spec.specs.Geometry.{bounds_of};
+ghost use Rattle.jpg_spec.specs.Elements.{IsBlockIn};
 
 #[cfg(test)]
 mod tests;
@@ -36,8 +37,8 @@ impl<'a> BlockView for Same<'a> {
 
 // A value of a block by its place; one out of bounds is left out.
 fn set(block: &mut Block, k: u8, value: i16)
-    requires { IsBaselineBlock block.old }
-    ensures { IsBaselineBlock block.new }
+    requires { IsBlockIn (bounds_of 8) block.old }
+    ensures { IsBlockIn (bounds_of 8) block.new }
 {
     if k == 0 {
         if -1024 <= value && value <= 1023 {
@@ -49,7 +50,7 @@ fn set(block: &mut Block, k: u8, value: i16)
 }
 
 fn block_of(values: &[(u8, i16)]) -> Block
-    ensures { IsBaselineBlock result }
+    ensures { IsBlockIn (bounds_of 8) result }
 {
     let mut block = Block::zero();
     for (k, value) in values {
@@ -65,7 +66,7 @@ fn send(
     interval: u16,
     desk: &mut MemoryDesk,
 ) -> Result<(), WriteFault>
-    requires { IsBaselineBlock block.now }
+    requires { IsBlockIn (bounds_of 8) block.now }
 {
     if is_progressive(frame.process()) {
         return Err(WriteFault);

@@ -11,7 +11,8 @@ use Rattle.jpg_spec.specs.declared.transform.PictureFault.TheVariants.{GrayColou
 use Rattle.std.proofs.lemmas.List.{get_or-map}
 use Rattle.jpg_spec.proofs.Common.{length_below, same_of}
 use Rattle.jpg_spec.proofs.Rows.{at_below}
-use Rattle.jpg_file.specs.PictureRead.{IsPicture, component_told, picture_meaning}
+use Rattle.jpg_file.specs.PictureKept.{component_told}
+use Rattle.jpg_file.specs.PictureRead.{picture_meaning}
 use Rattle.jpg_file.specs.declared.picture.Picture.{Picture}
 use Rattle.jpg_transform.specs.Planned.{is_first_greatest}
 use Rattle.jpg_transform.proofs.SeenPicture.{seen_grids}
@@ -26,22 +27,22 @@ first_told p some =
     get_or-map (component_told p.frame p.quants.items) (below n) 0 0 (record { id = 0; h = 1; v = 1; quants = [] }) (omega (arith, some, length_below n))
     ∙ ap (component_told p.frame p.quants.items) (at_below n 0 (omega (arith, some)))
 
-pub gray_by_frame : (gray : Bool) (p : Picture) → IsPicture p → gray_fault gray (picture_meaning p) ≡ fault_by gray (is_gray_or_ycbcr p.colour) (is_first_greatest p.frame)
-gray_by_frame gray p is =
+pub gray_by_frame : (gray : Bool) (p : Picture) → gray_fault gray (picture_meaning p) ≡ fault_by gray (is_gray_or_ycbcr p.colour) (is_first_greatest p.frame)
+gray_by_frame gray p =
     let M = picture_meaning p in
     let f = p.frame in
-    let first = first_told p is.frame.count_low in
+    let first = first_told p p.keeps.frame.count_low in
     let across : most_across M ≡ h_max f = ap (λ (g : Grids). greatest g.across) (seen_grids p) in
     let down : most_down M ≡ v_max f = ap (λ (g : Grids). greatest g.down) (seen_grids p) in
-    ap (λ c. fault_by gray (is_gray_or_ycbcr c) ((component_of M 0).h == most_across M && (component_of M 0).v == most_down M)) (sym is.colour)
+    ap (λ c. fault_by gray (is_gray_or_ycbcr c) ((component_of M 0).h == most_across M && (component_of M 0).v == most_down M)) (sym p.keeps.colour)
     ∙ ap (λ (c : PictureComponent). fault_by gray (is_gray_or_ycbcr p.colour) (c.h == most_across M && c.v == most_down M)) first
     ∙ ap (λ n. fault_by gray (is_gray_or_ycbcr p.colour) ((component_at f 0).h == n && (component_at f 0).v == most_down M)) across
     ∙ ap (λ n. fault_by gray (is_gray_or_ycbcr p.colour) ((component_at f 0).h == h_max f && (component_at f 0).v == n)) down
 
 -- where there is none, the first component is whole
-pub first_greatest : (gray : Bool) (p : Picture) → IsPicture p → gray_fault gray (picture_meaning p) ≡ None → gray ≡ true → FirstIsGreatest p.frame
-first_greatest gray p is none e = by (is_gray_or_ycbcr p.colour) ((component_at p.frame 0).h == h_max p.frame) ((component_at p.frame 0).v == v_max p.frame) refl refl
-    (ap (λ b. fault_by b (is_gray_or_ycbcr p.colour) (is_first_greatest p.frame)) (sym e) ∙ sym (gray_by_frame gray p is) ∙ none)
+pub first_greatest : (gray : Bool) (p : Picture) → gray_fault gray (picture_meaning p) ≡ None → gray ≡ true → FirstIsGreatest p.frame
+first_greatest gray p none e = by (is_gray_or_ycbcr p.colour) ((component_at p.frame 0).h == h_max p.frame) ((component_at p.frame 0).v == v_max p.frame) refl refl
+    (ap (λ b. fault_by b (is_gray_or_ycbcr p.colour) (is_first_greatest p.frame)) (sym e) ∙ sym (gray_by_frame gray p) ∙ none)
   where
     by : (a b d : Bool) → ((component_at p.frame 0).h == h_max p.frame) ≡ b → ((component_at p.frame 0).v == v_max p.frame) ≡ d → fault_by true a (b && d) ≡ None → FirstIsGreatest p.frame
     by true true true h v n = record { across = same_of _ _ h; down = same_of _ _ v }

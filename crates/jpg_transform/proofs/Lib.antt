@@ -2,6 +2,7 @@ pub mod Applied
 pub mod GrayFaults
 pub mod HeadColour
 pub mod MovedFrame
+pub mod MovedBlocks
 pub mod MovedFile
 pub mod MovedHead
 pub mod MovedScript

@@ -6,39 +6,44 @@ use Rattle.std.specs.Prelude.{◌||◌, nat_lt, zip}
 use Rattle.std.proofs.lemmas.List.{length-map}
 use Rattle.std.proofs.lemmas.Slice.Zip.{get_or-zip, length-zip}
 use Rattle.jpg_spec.specs.Lists.{any_of, below}
-use Rattle.jpg_spec.specs.Geometry.{Frame, IsReal, blocks_across, blocks_down, component_at, is_real, no_component}
-use Rattle.jpg_spec.specs.Elements.{zeros}
+use Rattle.jpg_spec.specs.Geometry.{Frame, bounds, IsReal, is_progressive, blocks_across, blocks_down, component_at, is_real, no_component}
+use Rattle.jpg_spec.specs.Elements.{zeros, IsBlockIn}
 use Rattle.jpg_spec.specs.FileText.{file_text, frame_of_meaning}
+use Rattle.jpg_spec.specs.FrameHeader.{IsFrame}
 use Rattle.jpg_spec.specs.Jfif.{jfif_of}
-use Rattle.jpg_spec.specs.Laws.{IsMovable}
-use Rattle.jpg_spec.specs.Meaning.{Meaning, PictureComponent, colour_of, real_blocks}
+use Rattle.jpg_spec.specs.Meaning.{Meaning, PictureComponent, colour_of, picture_frame, real_blocks}
 use Rattle.jpg_spec.specs.Moved.{Choice, Grids, asks_progressive, moved, moved_frame, moved_script, moved_script_fault, moved_text, process_due, script_due}
 use Rattle.jpg_spec.specs.Moves.{copied, headed_kept, is_wide, sequential_process}
 use Rattle.jpg_spec.specs.Scan.{Blocks}
-use Rattle.jpg_spec.specs.Script.{Entry}
-use Rattle.jpg_spec.specs.Segments.{QuantTable, standard_limits}
-use Rattle.jpg_spec.specs.WrittenFile.{IsBaselineBlock, IsHeaded}
+use Rattle.jpg_spec.specs.Script.{Entry, is_progressive_script}
+use Rattle.jpg_spec.specs.ScriptFaults.{script_fault}
+use Rattle.jpg_spec.specs.ScriptLaws.{HasStandardScript}
+use Rattle.jpg_spec.specs.Segments.{QuantTable}
+use Rattle.jpg_spec.specs.WrittenFile.{HasBlocksIn}
 use Rattle.jpg_spec.specs.declared.frame.Colour.{Colour}
 use Rattle.jpg_spec.specs.declared.frame.Copying.{Copying}
 use Rattle.jpg_spec.specs.declared.frame.Component.{Component}
 use Rattle.jpg_spec.specs.declared.frame.Process.{Process}
 use Rattle.jpg_spec.specs.declared.frame.Process.TheVariants.{Baseline, Extended, Progressive}
 use Rattle.jpg_spec.specs.declared.jfif.Jfif.{Jfif}
-use Rattle.jpg_spec.proofs.Common.{both, lt_of, lt_yes}
+use Rattle.jpg_spec.proofs.Common.{both, lt_of}
 use Rattle.jpg_spec.proofs.ReadPicture.{read_moved}
-use Rattle.jpg_spec.proofs.Rows.{by_items}
+use Rattle.jpg_spec.proofs.Rows.{by_items, map_map}
 use Rattle.jpg_spec.proofs.SameNumbers.{SameNumbers, is_place, numbers_of, same_places}
-use Rattle.jpg_spec.proofs.MovedText.{moved_means, moved_passes}
+use Rattle.jpg_spec.proofs.MovedText.{moved_means, passes_by, same_kind}
+use Rattle.jpg_spec.proofs.OutsideZeros.{HasRealBlocks}
+use Rattle.jpg_spec.proofs.StandardScripts.{meaning_has}
 use Rattle.jpg_markers.specs.OutHead.{with_tables}
 use Rattle.jpg_markers.specs.declared.writing.head.OutHead.{OutHead}
-use Rattle.jpg_seq.specs.ScanWritten.{HasBaselineBlocks}
-use Rattle.jpg_file.specs.PictureRead.{IsPicture, component_told, picture_meaning}
+use Rattle.jpg_file.specs.PictureKept.{component_told}
+use Rattle.jpg_file.specs.PictureRead.{picture_meaning}
 use Rattle.jpg_file.specs.declared.picture.Picture.{Picture}
 use Rattle.jpg_transform.specs.MovedBlocks.{IsWrittenAs}
 use Rattle.jpg_transform.specs.Places.{IsSeenAs}
 use Rattle.jpg_transform.specs.Planned.{IsJobFor, IsOutHeadOf, process_in, process_of}
 use Rattle.jpg_transform.specs.declared.choice.Job.{Job}
-use Rattle.jpg_transform.proofs.MovedHead.{unheaded, moved_components, moved_count, meaning_numbers, precision_stays, frame_precision_stays, kept_stays}
+use Rattle.jpg_transform.proofs.MovedBlocks.{moved_bounded, moved_real}
+use Rattle.jpg_transform.proofs.MovedHead.{unheaded, numbers_with, moved_components, moved_count, meaning_numbers, precision_stays, frame_precision_stays, kept_stays}
 use Rattle.jpg_transform.proofs.MovedScript.{moved_colour_is, out_colour, script_none, script_same}
 use Rattle.jpg_file.specs.Restarts.{restart_of}
 use Rattle.jpg_file.specs.WriteFile.{CanWriteFile, does_pass, file_bytes, file_meaning}
@@ -77,20 +82,19 @@ out_meaning p c = moved c (picture_meaning p)
 
 -- what is written of it
 pub record IsWritten (p : Picture) (c : Choice) (out : OutHead) (blocks : Blocks) : Type 0 where
-  pub picture : IsPicture p
   pub head : IsOutHeadOf c p out
-  pub headed : IsHeaded standard_limits (out_meaning p c)
+  pub framed : IsFrame out.frame
   pub seen : IsSeenAs (out_meaning p c) out.frame blocks
 
-out_components : (p : Picture) (c : Choice) (out : OutHead) → IsPicture p → IsOutHeadOf c p out → with_tables out.frame.components out.quants.items ≡ (out_meaning p c).components
-out_components p c out is h =
+out_components : (p : Picture) (c : Choice) (out : OutHead) → IsOutHeadOf c p out → with_tables out.frame.components out.quants.items ≡ (out_meaning p c).components
+out_components p c out h =
     ap (λ (g : Frame). with_tables g.components out.quants.items) h.frame
     ∙ ap (λ (q : List QuantTable). with_tables (moved_frame c p.frame).components q) h.tables
-    ∙ moved_components c p.frame p.quants.items (picture_meaning p) (sym (tables_are p.frame p.quants.items is.tables)) is.tables is.frame.count_low
+    ∙ moved_components c p.frame p.quants.items (picture_meaning p) (sym (tables_are p.frame p.quants.items p.keeps.tables)) p.keeps.tables p.keeps.frame.count_low
 
-out_count : (p : Picture) (c : Choice) (out : OutHead) → IsPicture p → IsOutHeadOf c p out → length out.quants.items ≡ length out.frame.components
-out_count p c out is h =
-    ap length h.tables ∙ moved_count c p.frame p.quants.items is.tables is.frame.count_low ∙ sym (ap (λ (g : Frame). length g.components) h.frame)
+out_count : (p : Picture) (c : Choice) (out : OutHead) → IsOutHeadOf c p out → length out.quants.items ≡ length out.frame.components
+out_count p c out h =
+    ap length h.tables ∙ moved_count c p.frame p.quants.items p.keeps.tables p.keeps.frame.count_low ∙ sym (ap (λ (g : Frame). length g.components) h.frame)
 
 out_precision : (p : Picture) (c : Choice) (out : OutHead) → IsOutHeadOf c p out → out.frame.precision ≡ (out_meaning p c).precision
 out_precision p c out h =
@@ -101,18 +105,18 @@ same_numbers p c out blocks w = record {
   width = sym (ap (λ (g : Grids). g.width) w.seen.grids);
   height = sym (ap (λ (g : Grids). g.height) w.seen.grids);
   precision = out_precision p c out w.head;
-  components = meaning_numbers out.frame.components out.quants.items (out_meaning p c) (out_components p c out w.picture w.head) (out_count p c out w.picture w.head);
+  components = meaning_numbers out.frame.components out.quants.items (out_meaning p c) (out_components p c out w.head) (out_count p c out w.head);
 }
 
 kind_is : (b : Bool) (tables : List QuantTable) (N : Meaning) → process_of tables ≡ sequential_process N → cond b Progressive (process_of tables) ≡ process_due b N
 kind_is true tables N e = refl
 kind_is false tables N e = e
 
-process_is : (p : Picture) (c : Choice) (out : OutHead) → IsPicture p → IsOutHeadOf c p out → process_in c.scans out.quants.items ≡ process_due (asks_progressive c.scans) (unheaded c (picture_meaning p))
-process_is p c out is h =
+process_is : (p : Picture) (c : Choice) (out : OutHead) → IsOutHeadOf c p out → process_in c.scans out.quants.items ≡ process_due (asks_progressive c.scans) (unheaded c (picture_meaning p))
+process_is p c out h =
     let N = unheaded c (picture_meaning p) in
-    let tables : map (λ (d : PictureComponent). d.quants) N.components ≡ out.quants.items = ap (map (λ (d : PictureComponent). d.quants)) (sym (out_components p c out is h)) ∙ tables_of out.frame.components out.quants.items (out_count p c out is h) in
-    let eight : N.precision ≡ 8 = precision_stays c (picture_meaning p) ∙ is.frame.precision in
+    let tables : map (λ (d : PictureComponent). d.quants) N.components ≡ out.quants.items = ap (map (λ (d : PictureComponent). d.quants)) (sym (out_components p c out h)) ∙ tables_of out.frame.components out.quants.items (out_count p c out h) in
+    let eight : N.precision ≡ 8 = precision_stays c (picture_meaning p) ∙ p.keeps.frame.precision in
     kind_is (asks_progressive c.scans) out.quants.items N
     (ap process_of (sym tables) ∙ ap (λ b. cond b Extended Baseline) (sym (any_map is_wide (λ (d : PictureComponent). d.quants) N.components))
     ∙ ap (λ n. cond (not (n == 8) || any_of (λ (d : PictureComponent). is_wide d.quants) N.components) Extended Baseline) (sym eight))
@@ -123,39 +127,54 @@ place_real f i x y e =
     let b = both (nat_lt x (blocks_across f (component_at f i))) (nat_lt y (blocks_down f (component_at f i))) a.1 in
     record { component = lt_of i (length f.components) a.0; across = lt_of x (blocks_across f (component_at f i)) b.0; down = lt_of y (blocks_down f (component_at f i)) b.1 }
 
-real_place : (f : Frame) (i x y : ℕ) → IsReal f i x y → is_place f i x y ≡ true
-real_place f i x y r =
-    ap (λ b. b && is_real f i x y) (lt_yes i (length f.components) r.component)
-    ∙ ap (λ b. b && nat_lt y (blocks_down f (component_at f i))) (lt_yes x (blocks_across f (component_at f i)) r.across)
-    ∙ lt_yes y (blocks_down f (component_at f i)) r.down
+-- the numbers of the frame and of the meaning
+own_numbers : (p : Picture) → SameNumbers p.frame (picture_frame (picture_meaning p))
+own_numbers p =
+    let N = picture_meaning p in
+    let q = p.quants.items in
+    record {
+      width = refl;
+      height = refl;
+      precision = refl;
+      components =
+          sym (numbers_with p.frame.components q p.keeps.tables) ∙ ap (map (λ (d : PictureComponent). (d.id, d.h, d.v))) (tables_are p.frame q p.keeps.tables) ∙ sym (map_map numbers_of _ N.components);
+    }
 
--- the test of a place, by the meaning
-place_of : (p : Picture) (c : Choice) (out : OutHead) (blocks : Blocks) (i x y : ℕ) → IsWritten p c out blocks → (nat_lt i (length (out_meaning p c).components) && is_real (frame_of_meaning (out_meaning p c)) i x y) ≡ is_place out.frame i x y
-place_of p c out blocks i x y w =
-    let g = frame_of_meaning (out_meaning p c) in
-    ap (λ n. nat_lt i n && is_real g i x y) (sym (length-map (out_meaning p c).components _)) ∙ sym (same_places out.frame g i x y (same_numbers p c out blocks w))
+picture_numbers : (p : Picture) (c : Choice) (out : OutHead) (blocks : Blocks) → IsWritten p c out blocks → SameNumbers out.frame (picture_frame (out_meaning p c))
+picture_numbers p c out blocks w =
+    let N = out_meaning p c in
+    let s = same_numbers p c out blocks w in
+    record {
+      width = s.width;
+      height = s.height;
+      precision = s.precision;
+      components = s.components ∙ map_map numbers_of _ N.components ∙ sym (map_map numbers_of _ N.components);
+    }
 
 blocks_are : (p : Picture) (c : Choice) (out : OutHead) (blocks : Blocks) → IsWritten p c out blocks → real_blocks out.frame blocks ≡ (out_meaning p c).blocks
 blocks_are p c out blocks w = fun_ext (λ i. fun_ext (λ x. fun_ext (λ y. by i x y (is_place out.frame i x y) refl)))
   where
-    by : (i x y : ℕ) (b : Bool) → is_place out.frame i x y ≡ b → cond b (blocks i x y) (zeros 64) ≡ (out_meaning p c).blocks i x y
+    N : Meaning
+    N = out_meaning p c
+
+    real : HasRealBlocks N
+    real = moved_real p c out.frame (own_numbers p) w.framed w.seen.grids
+
+    by : (i x y : ℕ) (b : Bool) → is_place out.frame i x y ≡ b → cond b (blocks i x y) (zeros 64) ≡ N.blocks i x y
     by i x y true e = sym (w.seen.same i x y (place_real out.frame i x y e))
-    by i x y false e = sym (w.headed.others i x y (place_of p c out blocks i x y w ∙ e))
+    by i x y false e =
+        sym (real i x y ∙ ap (λ b. cond b (N.blocks i x y) (zeros 64)) (sym (same_places out.frame (picture_frame N) i x y (picture_numbers p c out blocks w)) ∙ e))
 
-baseline : (p : Picture) (c : Choice) (out : OutHead) (blocks : Blocks) → IsWritten p c out blocks → HasBaselineBlocks out.frame blocks
-baseline p c out blocks w i x y r =
-    let N = out_meaning p c in
-    let e = place_of p c out blocks i x y w ∙ real_place out.frame i x y r in
-    let a = both (nat_lt i (length N.components)) (is_real (frame_of_meaning N) i x y) e in
-    subst IsBaselineBlock (w.seen.same i x y r) (w.headed.blocks i x y (lt_of i (length N.components) a.0) a.1)
+in_bounds : (p : Picture) (c : Choice) (out : OutHead) (blocks : Blocks) → IsWritten p c out blocks → HasBlocksIn out.frame blocks
+in_bounds p c out blocks w i x y r = subst (IsBlockIn (bounds out.frame)) (w.seen.same i x y r) (moved_bounded p c i x y)
 
-kept_are : (p : Picture) (c : Choice) (out : OutHead) → IsPicture p → IsOutHeadOf c p out → headed_kept out.colour out.jfif (copied out.copying p.kept) ≡ (out_meaning p c).kept
-kept_are p c out is h =
+kept_are : (p : Picture) (c : Choice) (out : OutHead) → IsOutHeadOf c p out → headed_kept out.colour out.jfif (copied out.copying p.kept) ≡ (out_meaning p c).kept
+kept_are p c out h =
     let N = unheaded c (picture_meaning p) in
     let k = kept_stays c (picture_meaning p) in
     ap (λ (d : Copying). headed_kept out.colour out.jfif (copied d p.kept)) h.copying
-    ∙ ap (λ (d : Colour). headed_kept d out.jfif (copied c.copying p.kept)) (out_colour p c out is h)
-    ∙ ap (λ (j : Jfif). headed_kept (colour_of N) j (copied c.copying p.kept)) (h.jfif ∙ is.jfif)
+    ∙ ap (λ (d : Colour). headed_kept d out.jfif (copied c.copying p.kept)) (out_colour p c out h)
+    ∙ ap (λ (j : Jfif). headed_kept (colour_of N) j (copied c.copying p.kept)) (h.jfif ∙ p.keeps.jfif)
     ∙ ap (λ kept. headed_kept (colour_of N) (jfif_of kept) (copied c.copying kept)) (sym k)
 
 pub meaning_is : (p : Picture) (c : Choice) (plan : Plan) (blocks : Blocks) → IsWritten p c plan.out blocks → file_meaning plan p.kept blocks ≡ out_meaning p c
@@ -163,13 +182,13 @@ meaning_is p c plan blocks w =
     let H = file_meaning plan p.kept blocks in
     let N = out_meaning p c in
     let h = w.head in
-    ap (λ (v : Process). let m : Meaning = record H { process = v } in m) (ap (λ (g : Frame). g.process) h.frame ∙ process_is p c plan.out w.picture h)
+    ap (λ (v : Process). let m : Meaning = record H { process = v } in m) (ap (λ (g : Frame). g.process) h.frame ∙ process_is p c plan.out h)
     ∙ ap (λ v. let m : Meaning = record H { process = N.process; precision = v } in m) (out_precision p c plan.out h)
     ∙ ap (λ v. let m : Meaning = record H { process = N.process; precision = N.precision; width = v } in m) (sym (ap (λ (g : Grids). g.width) w.seen.grids))
     ∙ ap (λ v. let m : Meaning = record H { process = N.process; precision = N.precision; width = N.width; height = v } in m) (sym (ap (λ (g : Grids). g.height) w.seen.grids))
-    ∙ ap (λ v. let m : Meaning = record N { components = v; blocks = H.blocks; kept = H.kept } in m) (out_components p c plan.out w.picture h)
+    ∙ ap (λ v. let m : Meaning = record N { components = v; blocks = H.blocks; kept = H.kept } in m) (out_components p c plan.out h)
     ∙ ap (λ v. let m : Meaning = record N { blocks = v; kept = H.kept } in m) (blocks_are p c plan.out blocks w)
-    ∙ ap (λ v. let m : Meaning = record N { kept = v } in m) (kept_are p c plan.out w.picture h)
+    ∙ ap (λ v. let m : Meaning = record N { kept = v } in m) (kept_are p c plan.out h)
 
 -- THE PLAN can be written, and this is its text
 
@@ -181,23 +200,47 @@ record IsPlanned (p : Picture) (c : Choice) (plan : Plan) (blocks : Blocks) : Ty
   pub restart : restart_of plan.restart ≡ c.restart
 
 script_is : (p : Picture) (c : Choice) (plan : Plan) (blocks : Blocks) → IsPlanned p c plan blocks → plan.script ≡ moved_script c (picture_meaning p)
-script_is p c plan blocks k = (let w = k.written in k.script ∙ script_same p c plan.out w.picture w.head)
+script_is p c plan blocks k = (let w = k.written in k.script ∙ script_same p c plan.out w.head)
+
+-- it passes: it has no fault on the frame, and is of the file's kind
+either_sequential : (b : Bool) → is_progressive (cond b Extended Baseline) ≡ false
+either_sequential true = refl
+either_sequential false = refl
+
+kind_due : (b : Bool) (N : Meaning) → is_progressive (process_due b N) ≡ b
+kind_due true N = refl
+kind_due false N = either_sequential _
+
+script_passes : (p : Picture) (c : Choice) (plan : Plan) (blocks : Blocks) → IsPlanned p c plan blocks → does_pass (out_meaning p c) plan.script ≡ true
+script_passes p c plan blocks k =
+    let w = k.written in
+    let H = out_meaning p c in
+    let f = frame_of_meaning H in
+    let is = w.framed in
+    let numbers = (same_numbers p c plan.out blocks w).components in
+    let count : length plan.out.frame.components ≡ length f.components =
+    sym (length-map plan.out.frame.components numbers_of) ∙ ap length numbers ∙ length-map f.components numbers_of in
+    let told : length f.components ≡ length H.components = length-map H.components _ in
+    let colours = meaning_has H (record { some = (let low = is.count_low in omega (arith, low, count, told)); few = (let high = is.count_high in omega (arith, high, count, told)) }) in
+    let has : HasStandardScript plan.out.frame plan.out.colour =
+    record { some = is.count_low; few = is.count_high; three = λ e. count ∙ colours.three (sym (moved_colour_is p c plan.out w.head) ∙ e) } in
+    let kind : is_progressive_script plan.script ≡ is_progressive H.process =
+    ap is_progressive_script k.script ∙ same_kind c.scans plan.out.frame plan.out.colour is has ∙ sym (kind_due (asks_progressive c.scans) (unheaded c (picture_meaning p))) in
+    passes_by H plan.script (is_progressive H.process) (let high = is.count_high in omega (arith, high, count)) refl kind (ap (script_fault f) (script_is p c plan blocks k) ∙ k.faultless)
 
 can_write : (p : Picture) (c : Choice) (plan : Plan) (blocks : Blocks) → IsPlanned p c plan blocks → CanWriteFile plan p.kept plan.out.frame blocks
 can_write p c plan blocks k =
     let w = k.written in
-    let is = w.picture in let h = w.head in
+    let h = w.head in
     let m = meaning_is p c plan blocks w in
     record {
-      precision = out_precision p c plan.out h ∙ precision_stays c (picture_meaning p) ∙ is.frame.precision;
-      tables = out_count p c plan.out is h;
-      colour = moved_colour_is p c plan.out is h ∙ sym (ap colour_of m);
-      passes =
-          ap (λ (H : Meaning). does_pass H plan.script) m ∙ ap (does_pass (out_meaning p c)) (script_is p c plan blocks k)
-          ∙ moved_passes c (picture_meaning p) w.headed k.faultless;
+      precision = out_precision p c plan.out h ∙ precision_stays c (picture_meaning p) ∙ p.keeps.frame.precision;
+      tables = out_count p c plan.out h;
+      colour = moved_colour_is p c plan.out h ∙ sym (ap colour_of m);
+      passes = ap (λ (H : Meaning). does_pass H plan.script) m ∙ script_passes p c plan blocks k;
       seen = refl;
       grids = refl;
-      writable = baseline p c plan.out blocks w;
+      writable = in_bounds p c plan.out blocks w;
     }
 
 text_is : (p : Picture) (c : Choice) (plan : Plan) (blocks : Blocks) → IsPlanned p c plan blocks → file_bytes plan p.kept blocks ≡ moved_text c (picture_meaning p)
@@ -207,16 +250,11 @@ text_is p c plan blocks k =
     ∙ ap (λ (s : List Entry). file_text (out_meaning p c) s c.restart) (script_is p c plan blocks k)
 
 -- on a frame that is the output's
-pub writes_job : (p : Picture) (c : Choice) (job : Job) (f : Frame) (blocks : Blocks) → f ≡ job.plan.out.frame → IsPicture p → IsJobFor p c job → IsMovable c (picture_meaning p) → IsSeenAs (out_meaning p c) job.plan.out.frame blocks
+pub writes_job : (p : Picture) (c : Choice) (job : Job) (f : Frame) (blocks : Blocks) → f ≡ job.plan.out.frame → IsFrame job.plan.out.frame → IsJobFor p c job → IsSeenAs (out_meaning p c) job.plan.out.frame blocks
     → IsWrittenAs p c job f blocks
-writes_job p c job f blocks same is h movable shows =
+writes_job p c job f blocks same is h shows =
     let k : IsPlanned p c job.plan blocks = record {
-      written = record {
-        picture = is;
-        head = h.head;
-        headed = read_moved movable.limits movable.bytes (picture_meaning p) c movable.limited movable.are_bytes movable.means movable.admitted;
-        seen = shows;
-      };
+      written = record { head = h.head; framed = is; seen = shows };
       script = h.script;
       faultless = script_none c (picture_meaning p) h.admitted;
       restart = h.restart;
@@ -224,5 +262,6 @@ writes_job p c job f blocks same is h movable shows =
     record {
       can = subst (λ (g : Frame). CanWriteFile job.plan p.kept g blocks) (sym same) (can_write p c job.plan blocks k);
       text = text_is p c job.plan blocks k;
-      means = moved_means c (picture_meaning p) k.written.headed k.faultless h.counted;
+      means = λ movable.
+          moved_means c (picture_meaning p) (read_moved movable.limits movable.bytes (picture_meaning p) c movable.limited movable.are_bytes movable.means movable.admitted) k.faultless h.counted;
     }

@@ -104,7 +104,7 @@ moved_count choice f q l some =
 
 -- NUMBERS
 
-numbers_with : (cs : List Component) (q : List QuantTable) → length q ≡ length cs → map (λ (c : PictureComponent). (c.id, c.h, c.v)) (with_tables cs q) ≡ map numbers_of cs
+pub numbers_with : (cs : List Component) (q : List QuantTable) → length q ≡ length cs → map (λ (c : PictureComponent). (c.id, c.h, c.v)) (with_tables cs q) ≡ map numbers_of cs
 numbers_with [] q l = refl
 numbers_with (c ∷ cs) [] l = absurd (omega (arith, l))
 numbers_with (c ∷ cs) (t ∷ q) l = ap (λ ns. (c.id, c.h, c.v) ∷ ns) (numbers_with cs q (omega (arith, l)))

@@ -15,7 +15,7 @@ use Rattle.jpg_spec.proofs.Rows.{map_map}
 use Rattle.jpg_spec.proofs.ScriptGrids.{same_script_fault, same_sequential, same_standard}
 use Rattle.jpg_scans.specs.Judged.{judged}
 use Rattle.jpg_markers.specs.declared.writing.head.OutHead.{OutHead}
-use Rattle.jpg_file.specs.PictureRead.{IsPicture, picture_meaning}
+use Rattle.jpg_file.specs.PictureRead.{picture_meaning}
 use Rattle.jpg_file.specs.declared.picture.Picture.{Picture}
 use Rattle.jpg_transform.specs.Planned.{IsOutHeadOf, moved_colour}
 use Rattle.jpg_transform.proofs.HeadColour.{headed_colour}
@@ -57,11 +57,11 @@ out_grids p choice out h =
 
 -- COLOURS
 
-pub out_colour : (p : Picture) (choice : Choice) (out : OutHead) → IsPicture p → IsOutHeadOf choice p out → out.colour ≡ colour_of (unheaded choice (picture_meaning p))
-out_colour p choice out is h = h.colour ∙ ap (moved_colour choice.gray) is.colour ∙ sym (colour_moves choice (picture_meaning p))
+pub out_colour : (p : Picture) (choice : Choice) (out : OutHead) → IsOutHeadOf choice p out → out.colour ≡ colour_of (unheaded choice (picture_meaning p))
+out_colour p choice out h = h.colour ∙ ap (moved_colour choice.gray) p.keeps.colour ∙ sym (colour_moves choice (picture_meaning p))
 
-pub moved_colour_is : (p : Picture) (choice : Choice) (out : OutHead) → IsPicture p → IsOutHeadOf choice p out → out.colour ≡ colour_of (moved choice (picture_meaning p))
-moved_colour_is p choice out is h = out_colour p choice out is h ∙ sym (headed_colour choice (unheaded choice (picture_meaning p)))
+pub moved_colour_is : (p : Picture) (choice : Choice) (out : OutHead) → IsOutHeadOf choice p out → out.colour ≡ colour_of (moved choice (picture_meaning p))
+moved_colour_is p choice out h = out_colour p choice out h ∙ sym (headed_colour choice (unheaded choice (picture_meaning p)))
 
 -- SCRIPTS
 
@@ -70,16 +70,16 @@ same_due sequential f g a b e c = same_sequential f g e
 same_due standard f g a b e c = ap (standard_script f) c ∙ same_standard f g b e
 same_due (given script) f g a b e c = refl
 
-pub script_same : (p : Picture) (choice : Choice) (out : OutHead) → IsPicture p → IsOutHeadOf choice p out → script_due choice.scans out.frame out.colour ≡ moved_script choice (picture_meaning p)
-script_same p choice out is h =
+pub script_same : (p : Picture) (choice : Choice) (out : OutHead) → IsOutHeadOf choice p out → script_due choice.scans out.frame out.colour ≡ moved_script choice (picture_meaning p)
+script_same p choice out h =
     let H = moved choice (picture_meaning p) in
-    same_due choice.scans out.frame (frame_of_meaning H) out.colour (colour_of H) (out_grids p choice out h) (moved_colour_is p choice out is h)
+    same_due choice.scans out.frame (frame_of_meaning H) out.colour (colour_of H) (out_grids p choice out h) (moved_colour_is p choice out h)
 
-pub fault_same : (p : Picture) (choice : Choice) (out : OutHead) (f : Frame) (script : List Entry) → IsPicture p → IsOutHeadOf choice p out → f ≡ out.frame → script ≡ script_due choice.scans out.frame out.colour
+pub fault_same : (p : Picture) (choice : Choice) (out : OutHead) (f : Frame) (script : List Entry) → IsOutHeadOf choice p out → f ≡ out.frame → script ≡ script_due choice.scans out.frame out.colour
     → script_fault f script ≡ moved_script_fault choice (picture_meaning p)
-fault_same p choice out f script is h same e =
+fault_same p choice out f script h same e =
     let H = moved choice (picture_meaning p) in
-    ap (λ (g : Frame). script_fault g script) same ∙ ap (script_fault out.frame) (e ∙ script_same p choice out is h)
+    ap (λ (g : Frame). script_fault g script) same ∙ ap (script_fault out.frame) (e ∙ script_same p choice out h)
     ∙ same_script_fault out.frame (frame_of_meaning H) (moved_script choice (picture_meaning p)) (out_grids p choice out h)
 
 -- WHAT THE CHECK ANSWERS
@@ -102,12 +102,12 @@ judged_err (Some other) fault e = ap Some (sym (err_same fault other e))
 behind_gray : (choice : Choice) (M : Meaning) (fault : Option PictureFault) → gray_fault choice.gray M ≡ None → moved_script_fault choice M ≡ fault → picture_fault choice M ≡ fault
 behind_gray choice M fault none e = ap (λ g. first_some g (moved_script_fault choice M)) none ∙ e
 
-pub checked_none : (p : Picture) (choice : Choice) (out : OutHead) (script : List Entry) → IsPicture p → IsOutHeadOf choice p out → script ≡ script_due choice.scans out.frame out.colour → gray_fault choice.gray (picture_meaning p) ≡ None
+pub checked_none : (p : Picture) (choice : Choice) (out : OutHead) (script : List Entry) → IsOutHeadOf choice p out → script ≡ script_due choice.scans out.frame out.colour → gray_fault choice.gray (picture_meaning p) ≡ None
     → Ok tt ≡ judged (script_fault out.frame script) → picture_fault choice (picture_meaning p) ≡ None
-checked_none p choice out script is h e none ok =
-    behind_gray choice (picture_meaning p) None none (sym (fault_same p choice out out.frame script is h refl e) ∙ judged_ok (script_fault out.frame script) ok)
+checked_none p choice out script h e none ok =
+    behind_gray choice (picture_meaning p) None none (sym (fault_same p choice out out.frame script h refl e) ∙ judged_ok (script_fault out.frame script) ok)
 
-pub checked_fault : (p : Picture) (choice : Choice) (out : OutHead) (script : List Entry) (fault : PictureFault) → IsPicture p → IsOutHeadOf choice p out → script ≡ script_due choice.scans out.frame out.colour → gray_fault choice.gray (picture_meaning p) ≡ None
+pub checked_fault : (p : Picture) (choice : Choice) (out : OutHead) (script : List Entry) (fault : PictureFault) → IsOutHeadOf choice p out → script ≡ script_due choice.scans out.frame out.colour → gray_fault choice.gray (picture_meaning p) ≡ None
     → Err fault ≡ judged (script_fault out.frame script) → picture_fault choice (picture_meaning p) ≡ Some fault
-checked_fault p choice out script fault is h e none err =
-    behind_gray choice (picture_meaning p) (Some fault) none (sym (fault_same p choice out out.frame script is h refl e) ∙ judged_err (script_fault out.frame script) fault err)
+checked_fault p choice out script fault h e none err =
+    behind_gray choice (picture_meaning p) (Some fault) none (sym (fault_same p choice out out.frame script h refl e) ∙ judged_err (script_fault out.frame script) fault err)

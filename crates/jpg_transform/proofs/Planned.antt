@@ -10,7 +10,8 @@ use Rattle.jpg_spec.proofs.Rows.{at_below}
 use Rattle.jpg_spec.proofs.SameNumbers.{is_place}
 use Rattle.jpg_spec.proofs.WholeFiles.{shown_whole}
 use Rattle.jpg_coefs.specs.Picture.{map_of}
-use Rattle.jpg_file.specs.PictureRead.{IsPicture, component_told, picture_meaning}
+use Rattle.jpg_file.specs.PictureKept.{component_told}
+use Rattle.jpg_file.specs.PictureRead.{picture_meaning}
 use Rattle.jpg_file.specs.declared.picture.Picture.{Picture}
 use Rattle.jpg_transform.specs.Places.{IsOutput}
 use Rattle.jpg_transform.specs.Planned.{IsJobFor}
@@ -19,25 +20,25 @@ use Rattle.jpg_transform.proofs.GrayFaults.{first_greatest}
 use Rattle.jpg_transform.proofs.MovedScript.{gray_none}
 
 -- the output's frame is due
-pub is_output : (p : Picture) (choice : Choice) (job : Job) → IsPicture p → IsJobFor p choice job → IsOutput choice job.transform p.frame job.plan.out.frame
-is_output p choice job is h = record {
+pub is_output : (p : Picture) (choice : Choice) (job : Job) → IsJobFor p choice job → IsOutput choice job.transform p.frame job.plan.out.frame
+is_output p choice job h = record {
   transform_is = sym h.transform;
-  gray_across = λ e. (first_greatest choice.gray p is (gray_none choice (picture_meaning p) h.admitted) e).across;
-  gray_down = λ e. (first_greatest choice.gray p is (gray_none choice (picture_meaning p) h.admitted) e).down;
+  gray_across = λ e. (first_greatest choice.gray p (gray_none choice (picture_meaning p) h.admitted) e).across;
+  gray_down = λ e. (first_greatest choice.gray p (gray_none choice (picture_meaning p) h.admitted) e).down;
   grids = ap frame_grids h.head.frame;
 }
 
 -- its blocks and tables are whole
-long_quants : (p : Picture) → IsPicture p → (k : ℕ) → k < length p.frame.components → length (component_told p.frame p.quants.items k).quants ≡ 64
-long_quants p is k h = (is.quants k h).long
+long_quants : (p : Picture) → (k : ℕ) → k < length p.frame.components → length (component_told p.frame p.quants.items k).quants ≡ 64
+long_quants p k h = (p.keeps.quants k h).long
 
-pub whole_picture : (p : Picture) → IsPicture p → HasWholeBlocks (picture_meaning p)
-whole_picture p is = record {
-  blocks = λ i x y. shown_whole (is_place p.frame i x y) (map_of p.coefs i x y) (is.range.sizes i x y);
+pub whole_picture : (p : Picture) → HasWholeBlocks (picture_meaning p)
+whole_picture p = record {
+  blocks = λ i x y. shown_whole (is_place p.frame i x y) (map_of p.coefs i x y) (p.keeps.range.sizes i x y);
   quants = λ k d less.
       (let n = length p.frame.components in
       let h : k < n = (let l = length-map (below n) (component_told p.frame p.quants.items) in let m = length_below n in omega (arith, less, l, m)) in
       subst (λ (c : PictureComponent). length c.quants ≡ 64)
       (sym (get_or-map (component_told p.frame p.quants.items) (below n) k 0 d (let m = length_below n in omega (arith, h, m)) ∙ ap (component_told p.frame p.quants.items) (at_below n k h)))
-      (long_quants p is k h));
+      (long_quants p k h));
 }

@@ -7,7 +7,8 @@ use Rattle.jpg_spec.specs.Moved.{Grids, frame_grids, picture_grids}
 use Rattle.jpg_spec.proofs.MovedGrids.{factor_across, factor_down}
 use Rattle.jpg_spec.proofs.Rows.{by_items, map_map}
 use Rattle.jpg_coefs.specs.Picture.{map_of}
-use Rattle.jpg_file.specs.PictureRead.{component_told, picture_meaning}
+use Rattle.jpg_file.specs.PictureKept.{component_told}
+use Rattle.jpg_file.specs.PictureRead.{picture_meaning}
 use Rattle.jpg_file.specs.declared.picture.Picture.{Picture}
 use Rattle.jpg_transform.specs.Places.{IsSeenAs}
 use Rattle.jpg_transform.proofs.Showing.{real_true}

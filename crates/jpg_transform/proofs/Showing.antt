@@ -33,10 +33,10 @@ pub record Given (g : Frame) (t : Transform) (over : Bool) (columns rows : ℕ �
 abbrev pub IsMade : Bool → Transform → Frame → Frame → Type 0
 IsMade trim t f g = frame_grids g ≡ frame_grids (trimmed_frame trim t (transformed_frame t f))
 
-some_across : (g : Frame) → IsFrame g → 0 < h_max g
+pub some_across : (g : Frame) → IsFrame g → 0 < h_max g
 some_across g is = (let h = across_low g.components is.factors is.count_low in omega (arith, h))
 
-some_down : (g : Frame) → IsFrame g → 0 < v_max g
+pub some_down : (g : Frame) → IsFrame g → 0 < v_max g
 some_down g is = (let h = down_low g.components is.factors is.count_low in omega (arith, h))
 
 made : (trim : Bool) (t : Transform) (f g : Frame) → IsMade trim t f g → frame_grids g ≡ trim_grids trim t (over_grids (transposes t) (frame_grids f))
@@ -175,7 +175,7 @@ first_quants : (cs : List PictureComponent) → All (λ c. length c.quants ≡ 6
 first_quants [] all some = absurd (omega (arith, some))
 first_quants (c ∷ cs) all some = All-head (λ c. length c.quants ≡ 64) c cs all
 
-gray_whole : (gray : Bool) (M : Meaning) → 0 < length M.components → HasWholeBlocks M → HasWholeBlocks (grayed gray M)
+pub gray_whole : (gray : Bool) (M : Meaning) → 0 < length M.components → HasWholeBlocks M → HasWholeBlocks (grayed gray M)
 gray_whole false M some w = w
 gray_whole true M some w = record {
   blocks = λ i x y. shown_whole _ (M.blocks i x y) (w.blocks i x y);

@@ -27,12 +27,13 @@ moved_numbers m = m.frame.now
 abbrev pub ShowsJob : Picture → Job → Blocks → Type 0
 ShowsJob p job seen = (choice : Choice) → IsJobFor p choice job → IsSeenAs (moved choice (picture_meaning p)) job.plan.out.frame seen
 
--- The file of the job may be written in these blocks, and its text is that of the picture moved, which means that picture.
+-- The file of the job may be written in these blocks, and its text is that of the picture moved; where some bytes mean the picture,
+-- the text means the picture moved.
 pub record IsWrittenAs (p : Picture) (choice : Choice) (job : Job) (f : Frame) (seen : Blocks) : Type 0 where
   pub can : CanWriteFile job.plan p.kept f seen
   pub text : file_bytes job.plan p.kept seen ≡ moved_text choice (picture_meaning p)
-  pub means : Means standard_limits (moved_text choice (picture_meaning p)) (moved choice (picture_meaning p))
+  pub means : IsMovable choice (picture_meaning p) → Means standard_limits (moved_text choice (picture_meaning p)) (moved choice (picture_meaning p))
 
--- So it is where some bytes mean the picture, for whatever choice this is the job.
+-- So it is for whatever choice this is the job.
 abbrev pub WritesJob : Picture → Job → Frame → Blocks → Type 0
-WritesJob p job f seen = (choice : Choice) → IsJobFor p choice job → IsMovable choice (picture_meaning p) → IsWrittenAs p choice job f seen
+WritesJob p job f seen = (choice : Choice) → IsJobFor p choice job → IsWrittenAs p choice job f seen

@@ -4,7 +4,6 @@ ghost use Rattle.jpg_spec.specs.Geometry.{IsReal};
 ghost use Rattle.jpg_spec.specs.Meaning.{real_blocks};
 ghost use Rattle.jpg_spec.specs.Moved.{Choice};
 ghost use Rattle.jpg_coefs.specs.Picture.{map_of};
-ghost use Rattle.jpg_file.specs.PictureRead.{IsPicture};
 ghost use Rattle.jpg_transform.specs.Applied.{Copies, in_grids, in_grid, in_grid_row, is_place};
 ghost use Rattle.jpg_transform.specs.MovedBlocks.{ShowsJob, moved_blocks, moved_numbers};
 ghost use Rattle.jpg_transform.specs.Planned.{IsJobFor};
@@ -19,8 +18,7 @@ use std::alloc::Global;
 /// job's frame they show the picture moved, and all blocks outside the real grids are zero. It answers NoMemory where
 /// memory is wanting.
 pub fn apply(alloc: Global, picture: &Picture, job: &Job) -> Result<Coefs, NoMemory>
-    requires picture { IsPicture picture.now }
-    requires job { (choice : Choice) × IsJobFor picture.now choice job.now }
+    requires { (choice : Choice) × IsJobFor picture.now choice job.now }
     ensures frame { IfOk result (λ c. c.frame ≡ job.now.plan.out.frame) }
     ensures shows { IfOk result (λ c. ShowsJob picture.now job.now (map_of c)) }
     ensures zero { IfOk result (λ c. real_blocks job.now.plan.out.frame (map_of c) ≡ map_of c) }

@@ -1,5 +1,4 @@
 // A picture moved, as a view of the picture that was read (the manual of jpegtran).
-ghost use Rattle.jpg_file.specs.PictureRead.{IsPicture};
 ghost use Rattle.jpg_transform.specs.Places.{HasSources};
 
 use jpg_base::Frame;
@@ -13,6 +12,5 @@ pub struct Moved<'a> {
     pub(crate) over: bool,
     pub(crate) columns: [u32; 4],
     pub(crate) rows: [u32; 4],
-    ghost keeps: { IsPicture picture.now },
     ghost reaches: { HasSources picture.now.frame over columns rows frame.now },
 }

@@ -4,7 +4,6 @@ ghost use Rattle.jpg_spec.specs.Geometry.{IsReal};
 ghost use Rattle.jpg_spec.specs.Moved.{Choice, columns_in, rows_in};
 ghost use Rattle.jpg_spec.specs.Transforms.{opposite};
 ghost use Rattle.jpg_coefs.specs.Picture.{map_of};
-ghost use Rattle.jpg_file.specs.PictureRead.{IsPicture};
 ghost use Rattle.jpg_transform.specs.Places.{HasOpposites};
 ghost use Rattle.jpg_transform.specs.Planned.{IsJobFor};
 ghost use Rattle.jpg_transform.specs.MovedBlocks.{ShowsJob, WritesJob, moved_blocks, moved_numbers};
@@ -74,11 +73,11 @@ fn opposite(changed: u32, x: u32) -> u32
 }
 
 impl<'a> Moved<'a> {
-    /// The picture grayed, transformed and trimmed, as the job that `plan` gave for it says. Where it was read from a file,
-    /// `write_file` may write it by the job's plan, and the text is that of the picture moved. It takes no memory.
+    /// The picture grayed, transformed and trimmed, as the job that `plan` gave for it says. `write_file` may write it by the
+    /// job's plan, and the text is that of the picture moved, which it means where some bytes mean the picture. It takes no
+    /// memory.
     pub fn new(picture: &'a Picture, job: &'a Job) -> Moved<'a>
-        requires picture { IsPicture picture.now }
-        requires job { (choice : Choice) × IsJobFor picture.now choice job.now }
+        requires { (choice : Choice) × IsJobFor picture.now choice job.now }
         ensures frame { moved_numbers result ≡ job.now.plan.out.frame }
         ensures shows { ShowsJob picture.now job.now (moved_blocks result) }
         ensures writes { WritesJob picture.now job.now (moved_numbers result) (moved_blocks result) }

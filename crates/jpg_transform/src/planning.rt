@@ -3,7 +3,7 @@ ghost use Rattle.std.specs.Prelude.{◌≡◌, ◌≤◌, length, map, None};
 ghost use Rattle.jpg_spec.specs.Transposed.{transposed};
 ghost use Rattle.jpg_spec.specs.Moved.{asks_progressive, gray_fault, is_gray_or_ycbcr, script_due};
 ghost use Rattle.jpg_spec.specs.WrittenFile.{IsRestart};
-ghost use Rattle.jpg_file.specs.PictureRead.{IsPicture, picture_meaning};
+ghost use Rattle.jpg_file.specs.PictureRead.{picture_meaning};
 ghost use Rattle.jpg_file.specs.Restarts.{restart_of};
 ghost use Rattle.jpg_transform.specs.Planned.{IsOutHeadOf, IsPlan, choice_told, is_first_greatest, moved_tables, process_in, process_of, scans_told};
 
@@ -21,7 +21,6 @@ use jpg_spec::{Colour, PictureFault, Process};
 /// shall be gray, GrayFactors where the first component of such a picture hasn't the greatest factors, and then those of
 /// the script on the output's frame (`Script::check`), of which the own scripts have none. It takes no memory.
 pub fn plan(picture: &Picture, choice: &Choice) -> Result<Job, PictureFault>
-    requires { IsPicture picture.now }
     ensures { IsPlan picture.now (choice_told choice.now) result }
 {
     if let Some(fault) = gray_fault(picture, choice.gray) {
@@ -82,7 +81,6 @@ fn is_gray_or_ycbcr(colour: Colour) -> bool
 
 // The fault of a picture that shall be gray.
 fn gray_fault(picture: &Picture, gray: bool) -> Option<PictureFault>
-    requires { IsPicture picture.now }
     ensures { result ≡ gray_fault gray (picture_meaning picture.now) }
 {
     if gray && !is_gray_or_ycbcr(picture.colour) {
@@ -105,8 +103,7 @@ fn is_first_greatest(frame: &Frame) -> bool
 
 // What the head of the output is written from.
 fn head_of(picture: &Picture, choice: &Choice) -> OutHead
-    requires picture { IsPicture picture.now }
-    requires admitted { gray_fault choice.now.gray (picture_meaning picture.now) ≡ None }
+    requires { gray_fault choice.now.gray (picture_meaning picture.now) ≡ None }
     ensures { IsOutHeadOf (choice_told choice.now) picture.now result }
 {
     let quants = moved_tables(picture.quants.as_slice(), choice);

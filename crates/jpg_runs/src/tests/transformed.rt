@@ -298,8 +298,8 @@ fn of_a_camera(alloc: Global) -> Result<Bytes, NoMemory> {
     Ok(file)
 }
 
-// Its segment is passed on where all are, and nothing is read behind the piece with EOI: the calls are an open, a read, a create and
-// writes.
+// Its segment is passed on where all are, and nothing is read after the piece with EOI, the second of 16,384 bytes at most: the calls are
+// an open, two reads, a create and writes.
 #[test]
 fn pictures_of_a_camera_are_moved(rt: HostRuntime) -> Result<(), Fail> {
     let rows: [(&[&str], usize, u32); 3] = [
@@ -325,7 +325,7 @@ fn pictures_of_a_camera_are_moved(rt: HostRuntime) -> Result<(), Fail> {
         };
         assert_eq!(rt; (output.len(), sum(output)), (length, due), "{words:?}");
         let mut failing = desk_with(rt.alloc(), input.as_slice(), 65536)?;
-        failing.fail(3)?;
+        failing.fail(4)?;
         let ended = ran(rt.alloc(), list.as_slice(), &mut failing);
         assert_eq!(rt; ended.why, Why::OpenFault(Which::Output), "{words:?}");
     }

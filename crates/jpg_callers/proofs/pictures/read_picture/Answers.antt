@@ -4,18 +4,18 @@ use Rattle.jpg_file.specs.ReadFile.{AfterFeed}
 use Rattle.jpg_callers.proofs.Calls.{picture_ended, picture_stopped, picture_whole}
 use Rattle.jpg_callers.proofs.pictures.read_picture.Goals as goal
 
-pub returns-in-Ok-Done-clause-read : goal.returns-in-Ok-Done-clause-read
-returns-in-Ok-Done-clause-read c =
+pub returns-in-Ok-Done : goal.returns-in-Ok-Done
+returns-in-Ok-Done c =
     let file = c.args.file.now in
     let k = subst (λ (fed : Fed). AfterFeed [] file (Ok fed) c.feed.new.self) c.in-Ok-Done.field-0-is (c.in-Ok-Done.ensures.answered [] c.new-reader.ensures.read) in
-    picture_whole file c.in-Ok-Done.field-0-0 c.feed.new.self c.take.result (c.in-Ok-Done.ensures.limits ∙ c.new-reader.ensures.limits ∙ c.standard.ensures) c.take.ensures.meaning k
+    picture_whole file c.in-Ok-Done.field-0-0 c.feed.new.self c.take.result (c.in-Ok-Done.ensures.limits ∙ c.new-reader.ensures.limits ∙ c.standard.ensures) c.take.ensures k
 
-pub returns-in-Ok-More-clause-read : goal.returns-in-Ok-More-clause-read
-returns-in-Ok-More-clause-read c =
+pub returns-in-Ok-More : goal.returns-in-Ok-More
+returns-in-Ok-More c =
     let file = c.args.file.now in
     let k = subst (λ (fed : Fed). AfterFeed [] file (Ok fed) c.feed.new.self) c.in-Ok-More.field-0-is (c.in-Ok-More.ensures.answered [] c.new-reader.ensures.read) in
     picture_ended file c.end.result c.feed.new.self.limits (c.in-Ok-More.ensures.limits ∙ c.new-reader.ensures.limits ∙ c.standard.ensures) (c.end.ensures.answered file k)
 
-pub returns-in-Err-clause-read : goal.returns-in-Err-clause-read
-returns-in-Err-clause-read c =
+pub returns-in-Err : goal.returns-in-Err
+returns-in-Err c =
     picture_stopped c.args.file.now c.in-Err.stop c.feed.new.self (c.in-Err.ensures.limits ∙ c.new-reader.ensures.limits ∙ c.standard.ensures) (c.in-Err.ensures.answered [] c.new-reader.ensures.read)

@@ -9,11 +9,11 @@ use Rattle.jpg_callers.proofs.Calls.{unread}
 use Rattle.jpg_callers.proofs.pictures.turn_coefs.Goals as goal
 
 pub returns-in-Err : goal.returns-in-Err
-returns-in-Err c = unread c.args.file.now (choice_told c.args.choice.now) c.in-Err.stop c.in-Err.ensures.read
+returns-in-Err c = unread c.args.file.now (choice_told c.args.choice.now) c.in-Err.stop c.in-Err.ensures
 
 pub returns-in-Ok-apply : goal.returns-in-Ok-apply
 returns-in-Ok-apply c =
     let p = c.in-Ok.picture in
     let a = choice_told c.args.choice.now in
     let coefs = c.in-Ok-apply.coefs in
-    (picture_meaning p, c.in-Ok.ensures.read, subst (λ (f : Frame). IsSeenAs (moved a (picture_meaning p)) f (map_of coefs)) (sym c.in-Ok-apply.ensures.frame) (c.in-Ok-apply.ensures.shows a c.in-Ok-plan.ensures))
+    (picture_meaning p, c.in-Ok.ensures, subst (λ (f : Frame). IsSeenAs (moved a (picture_meaning p)) f (map_of coefs)) (sym c.in-Ok-apply.ensures.frame) (c.in-Ok-apply.ensures.shows a c.in-Ok-plan.ensures))

@@ -1,5 +1,5 @@
 use Rattle.jpg_cli.proofs.Certain.{refused_alone}
-use Rattle.jpg_cli.proofs.OneRefusal.{none_refused, refused_for_one, runs_refuse_once}
+use Rattle.jpg_cli.proofs.OneRefusal.{none_refused, none_refused_shown, refused_for_one, runs_refuse_once, runs_show_once}
 use Rattle.jpg_cli.proofs.laws.refusals_are_one.Goals as goal
 
 pub returns-clause-one : goal.returns-clause-one
@@ -7,6 +7,12 @@ returns-clause-one c = λ wanted input f g a b. refused_for_one wanted input f g
 
 pub returns-clause-runs : goal.returns-clause-runs
 returns-clause-runs c = λ input f g a b. runs_refuse_once input f g a b
+
+pub returns-clause-shows : goal.returns-clause-shows
+returns-clause-shows c = λ gray input f g a b. runs_show_once gray input f g a b
+
+pub returns-clause-shown : goal.returns-clause-shown
+returns-clause-shown c = λ gray input f refused is. none_refused_shown gray input f refused is
 
 pub returns-clause-none : goal.returns-clause-none
 returns-clause-none c = λ input f refused is. none_refused input f (refused_alone input f refused) is

@@ -13,7 +13,7 @@ invariant-loop-why g l =
       read : (bytes : List ℕ) × HasFed l.wanted l.reader bytes × Consumes (state l.initial.desk).left (state l.desk).left bytes;
       opened : (state l.desk).input_open ≡ true;
       limits : l.reader.limits ≡ standard_limits;
-      room : length l.buffer ≡ 65536;
+      room : length l.buffer ≡ 16384;
     }
 
 abbrev pub decreases-loop-why : goal.decreases-loop-why

@@ -3,7 +3,7 @@ use Rattle.jpg_base.specs.declared.stop.Fed.{Fed}
 use Rattle.jpg_base.specs.declared.stop.Stop.{Stop}
 use Rattle.jpg_file.specs.ReadFile.{AfterFeed}
 use Rattle.jpg_cli.specs.ReadPicture.{AfterTakingPiece}
-use Rattle.jpg_cli.proofs.PictureBytes.{fault_or, more_or, more_small, whole_or}
+use Rattle.jpg_cli.proofs.PictureBytes.{fault_or, more_or, more_small, short_piece, whole_or}
 use Rattle.jpg_cli.proofs.read_picture.take_piece.Goals as goal
 
 pub returns-in-Ok-More-clause-taken : goal.returns-in-Ok-More-clause-taken
@@ -31,3 +31,6 @@ returns-in-Err-Fault-clause-taken c = λ bytes h.
     let k = subst (λ (stop : Stop). AfterFeed bytes piece (Err stop) c.feed.new.self) c.in-Err-Fault.field-0-is (c.in-Err-Fault.ensures.answered bytes h.read) in
     subst (λ s. AfterTakingPiece w (bytes ++ piece) s c.feed.new.self) (sym c.step_unless-in-Err-Fault.ensures)
     (fault_or w bytes piece c.args.reader.now c.feed.new.self c.in-Err-Fault.fault c.unwanted-in-Err-Fault.result (c.in-Err-Fault.ensures.limits ∙ c.requires.limits) h c.requires.short k (sym c.unwanted-in-Err-Fault.ensures))
+
+pub returns-in-Err-NoMemory-clause-taken : goal.returns-in-Err-NoMemory-clause-taken
+returns-in-Err-NoMemory-clause-taken c = λ bytes h. short_piece c.args.wanted bytes c.args.piece.now c.args.reader.now c.requires.limits h c.requires.short

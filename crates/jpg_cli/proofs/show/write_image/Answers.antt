@@ -7,18 +7,18 @@ returns-in-Ok-clause-wrote g c =
     let state = g.D.Desk.state in
     let words = c.args.words.now in
     image_done (state c.args.desk.now) (state c.create.new.self) (state c.decode_rows.new.desk) words.files.output (λ kind. picture_text kind c.args.picture.now words.gray words.smooth)
-    ((goal.ImageEnd-dyn g (c.args.end.now.vtable, c.args.end.now.value)).progress c.args.end.now.value) words.kind c.requires.end c.in-Done.ensures c.in-Ok.ensures
+    ((goal.ImageEnd-dyn g (c.args.end.now.vtable, c.args.end.now.value)).progress c.args.end.now.value) words.kind c.requires.end c.in-Done.ensures c.in-Ok.ensures.written
 
 pub returns-in-Err-NoMemory-clause-wrote : goal.returns-in-Err-NoMemory-clause-wrote
 returns-in-Err-NoMemory-clause-wrote g c =
     let state = g.D.Desk.state in
     let words = c.args.words.now in
     image_wanting (state c.args.desk.now) (state c.create.new.self) (state c.decode_rows.new.desk) words.files.output (λ kind. picture_text kind c.args.picture.now words.gray words.smooth)
-    ((goal.ImageEnd-dyn g (c.args.end.now.vtable, c.args.end.now.value)).progress c.args.end.now.value) words.kind c.in-Err-NoMemory.field-0 c.requires.end c.in-Err-NoMemory.field-0-is c.in-Done.ensures c.in-Err-NoMemory.ensures
+    ((goal.ImageEnd-dyn g (c.args.end.now.vtable, c.args.end.now.value)).progress c.args.end.now.value) words.kind c.in-Err-NoMemory.field-0 c.requires.end c.in-Err-NoMemory.field-0-is c.in-Done.ensures c.in-Err-NoMemory.ensures.written
 
 pub returns-in-Err-WriteFault-clause-wrote : goal.returns-in-Err-WriteFault-clause-wrote
 returns-in-Err-WriteFault-clause-wrote g c =
     let state = g.D.Desk.state in
     let words = c.args.words.now in
     image_failed (state c.args.desk.now) (state c.create.new.self) (state c.decode_rows.new.desk) words.files.output (λ kind. picture_text kind c.args.picture.now words.gray words.smooth)
-    ((goal.ImageEnd-dyn g (c.args.end.now.vtable, c.args.end.now.value)).progress c.args.end.now.value) words.kind c.in-Err-WriteFault.field-0 c.requires.end c.in-Err-WriteFault.field-0-is c.in-Done.ensures c.in-Err-WriteFault.ensures
+    ((goal.ImageEnd-dyn g (c.args.end.now.vtable, c.args.end.now.value)).progress c.args.end.now.value) words.kind c.in-Err-WriteFault.field-0 c.requires.end c.in-Err-WriteFault.field-0-is c.in-Done.ensures c.in-Err-WriteFault.ensures.written

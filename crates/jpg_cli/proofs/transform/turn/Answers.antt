@@ -1,10 +1,7 @@
 use Rattle.jpg_file.specs.PictureRead.{picture_meaning}
 use Rattle.jpg_transform.specs.Planned.{choice_told}
-use Rattle.jpg_cli.proofs.Running.{meant, turned_done, turned_unopened, turned_unwritten}
+use Rattle.jpg_cli.proofs.Running.{turned_done, turned_unopened, turned_unwritten}
 use Rattle.jpg_cli.proofs.transform.turn.Goals as goal
-
-pub write_moved-requires-clause-meant : goal.write_moved-requires-clause-meant
-write_moved-requires-clause-meant g c = (let read = c.in-Ok.ensures.read.1 in meant (picture_meaning c.in-Ok.picture) read.bytes read.is)
 
 pub returns-in-Done-clause-turned : goal.returns-in-Done-clause-turned
 returns-in-Done-clause-turned g c =

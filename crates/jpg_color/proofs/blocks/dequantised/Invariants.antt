@@ -1,10 +1,9 @@
 use Rattle.std.specs.Prelude.{◌≡◌, ◌≤◌, ◌*ℤ◌, pos, take, length, map, All, nat_abs, slice_index}
-use Rattle.jpg_spec.specs.Lists.{below, index_of}
-use Rattle.jpg_spec.specs.Moves.{zigzag}
+use Rattle.jpg_spec.specs.Lists.{below}
 use Rattle.jpg_spec.specs.Dct.{number_at}
 use Rattle.jpg_color.proofs.blocks.dequantised.Given as goal
 
 abbrev pub invariant-loop-n : goal.invariant-loop-n
 invariant-loop-n l =
     (length l.values ≡ 64) × All (λ x. nat_abs x ≤ 67108864) l.values
-    × (take l.n l.values ≡ map (λ n. number_at l.block (index_of n zigzag) *ℤ pos (slice_index l.quants (index_of n zigzag))) (below l.n))
+    × (take l.n l.values ≡ map (λ m. number_at l.given m *ℤ pos (slice_index l.steps m)) (below l.n))

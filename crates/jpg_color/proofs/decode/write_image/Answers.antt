@@ -3,14 +3,14 @@ use Rattle.std.proofs.lemmas.Result.{err_from_is_err_and}
 use Rattle.jpg_spec.specs.ImageText.{first_piece}
 use Rattle.jpg_pnm_bmp.specs.EndState.{EndState}
 use Rattle.jpg_color.specs.DecodeRows.{rows_in_all}
-use Rattle.jpg_color.proofs.Decoded.{decodes_none, can_finish, rows_stop, end_stop, image_sent}
+use Rattle.jpg_color.proofs.Decoded.{decodes_none, can_finish, rows_stop, end_stop, image_finished, image_sent}
 use Rattle.jpg_color.proofs.decode.write_image.Goals as goal
 
-pub returns-in_default : goal.returns-in_default
-returns-in_default g c = decodes_none _ _
+pub returns-in_default-clause-written : goal.returns-in_default-clause-written
+returns-in_default-clause-written g c = decodes_none _ _
 
-pub returns-in_err-send_rows : goal.returns-in_err-send_rows
-returns-in_err-send_rows g c =
+pub returns-in_err-send_rows-clause-written : goal.returns-in_err-send_rows-clause-written
+returns-in_err-send_rows-clause-written g c =
     let back = err_from_is_err_and c.from_residual.result c.from_residual.ensures.1 in
     let e : EndState = (goal.ImageEnd-dyn g (c.args.end.now.vtable, c.args.end.now.value)).progress c.args.end.now.value in
     let i = c.args.info.now in
@@ -23,19 +23,24 @@ send_end-requires-clause-end g c =
     let e : EndState = (goal.ImageEnd-dyn g (c.args.end.now.vtable, c.args.end.now.value)).progress c.args.end.now.value in
     can_finish c.args.info.now e _ _ c.args.rows.now c.requires.rows c.in-Ok.ensures.0 (c.in_ok-send_rows.ensures.end)
 
-pub returns-in_err-send_end : goal.returns-in_err-send_end
-returns-in_err-send_end g c =
+pub returns-in_err-send_end-clause-written : goal.returns-in_err-send_end-clause-written
+returns-in_err-send_end-clause-written g c =
     let back = err_from_is_err_and c.from_residual-in_err-send_end.result c.from_residual-in_err-send_end.ensures.1 in
     let e : EndState = (goal.ImageEnd-dyn g (c.args.end.now.vtable, c.args.end.now.value)).progress c.args.end.now.value in
     let i = c.args.info.now in
     rw (back.1, back.2)
     (end_stop (g.D.Desk.state c.args.desk.now) (g.D.Desk.state c.send_rows.new.desk) (g.D.Desk.state c.send_end.new.desk) i e _ _ c.start_image.new.out c.send_rows.new.out c.send_end.new.out (rows_in_all c.args.rows.now)
-    c.in_err-send_end.field-0.0 c.in-Ok.ensures.0 (c.in-Ok.ensures.1 ∙ ap (λ o. o ++ first_piece e.kind i) c.requires.out) c.in_ok-send_rows.ensures c.in_err-send_end.ensures)
+    c.in_err-send_end.field-0.0 c.in-Ok.ensures.0 (c.in-Ok.ensures.1 ∙ ap (λ o. o ++ first_piece e.kind i) c.requires.out) c.in_ok-send_rows.ensures c.in_err-send_end.ensures.sent)
 
-pub returns : goal.returns
-returns g c =
+pub returns-clause-written : goal.returns-clause-written
+returns-clause-written g c =
     let e : EndState = (goal.ImageEnd-dyn g (c.args.end.now.vtable, c.args.end.now.value)).progress c.args.end.now.value in
     let i = c.args.info.now in
     image_sent (g.D.Desk.state c.args.desk.now) (g.D.Desk.state c.send_rows.new.desk) (g.D.Desk.state c.send_end.new.desk) (g.D.Desk.state c.send.new.desk) i e _ _ c.start_image.new.out c.send_rows.new.out c.send_end.new.out
-    c.send.new.out (rows_in_all c.args.rows.now) c.send.result c.in-Ok.ensures.0 (c.in-Ok.ensures.1 ∙ ap (λ o. o ++ first_piece e.kind i) c.requires.out) c.in_ok-send_rows.ensures c.in_ok-send_end.ensures c.send.ensures.sent
+    c.send.new.out (rows_in_all c.args.rows.now) c.send.result c.in-Ok.ensures.0 (c.in-Ok.ensures.1 ∙ ap (λ o. o ++ first_piece e.kind i) c.requires.out) c.in_ok-send_rows.ensures c.in_ok-send_end.ensures.sent c.send.ensures.sent
     c.send.ensures.all
+
+pub returns-clause-end : goal.returns-clause-end
+returns-clause-end g c =
+    let e : EndState = (goal.ImageEnd-dyn g (c.args.end.now.vtable, c.args.end.now.value)).progress c.args.end.now.value in
+    image_finished c.args.info.now e _ _ _ (rows_in_all c.args.rows.now) c.send.result c.in-Ok.ensures.0 c.in_ok-send_rows.ensures.end c.in_ok-send_end.ensures.end

@@ -1,9 +1,9 @@
 use Rattle.std.proofs.Common.{ap, subst}
 use Rattle.std.specs.Prelude.{is_some}
 use Rattle.jpg_file.specs.File.{limits_of}
-use Rattle.jpg_file.specs.Reading.{TakesRunOfScan}
+use Rattle.jpg_file.specs.Reading.{GoesOn, TakesRunOfScan}
 use Rattle.jpg_file.specs.declared.items.ItemStep.{ItemStep}
-use Rattle.jpg_file.proofs.FileSteps.{inside_of, run_else, run_fault, run_more}
+use Rattle.jpg_file.proofs.FileSteps.{inside_of, run_fault, run_more}
 use Rattle.jpg_file.proofs.file.FileWork.run.Goals as goal
 
 pub scan_run-n-requires-clause-stands : goal.scan_run-n-requires-clause-stands
@@ -14,10 +14,16 @@ scan_run-n-requires-clause-stands c =
     (s.items, s.contents, o.0, s.at)
 
 pub returns-in-More : goal.returns-in-More
-returns-in-More c = run_more c.args.self.now c.args.run.now c.scan_run-n.result.0 c.scan_run-n.new.self (ap is_some (c.requires.opened).inside) c.requires.room (subst (λ (a : ItemStep). TakesRunOfScan c.args.self.now.reading c.args.run.now c.scan_run-n.result.0 a c.scan_run-n.new.self) c.in-More.is c.scan_run-n.ensures)
+returns-in-More c = run_more c.args.self.now c.args.run.now c.scan_run-n.result.0 c.scan_run-n.new.self (ap is_some (c.requires.opened).inside) c.requires.room (subst (λ (a : ItemStep). TakesRunOfScan c.args.self.now.reading c.args.run.now c.scan_run-n.result.0 a c.scan_run-n.new.self) c.in-More.is c.scan_run-n.ensures.after)
 
 pub returns-in-Fault : goal.returns-in-Fault
-returns-in-Fault c = run_fault c.args.self.now c.args.run.now c.scan_run-n.result.0 c.scan_run-n.new.self c.in-Fault.fault (ap is_some (c.requires.opened).inside) c.requires.room (subst (λ (a : ItemStep). TakesRunOfScan c.args.self.now.reading c.args.run.now c.scan_run-n.result.0 a c.scan_run-n.new.self) c.in-Fault.is c.scan_run-n.ensures)
+returns-in-Fault c = run_fault c.args.self.now c.args.run.now c.scan_run-n.result.0 c.scan_run-n.new.self c.in-Fault.fault (ap is_some (c.requires.opened).inside) c.requires.room (subst (λ (a : ItemStep). TakesRunOfScan c.args.self.now.reading c.args.run.now c.scan_run-n.result.0 a c.scan_run-n.new.self) c.in-Fault.is c.scan_run-n.ensures.after)
 
-pub returns-in_default : goal.returns-in_default
-returns-in_default c = run_else c.args.self.now c.args.run.now c.scan_run-n.result.0 c.scan_run-n.new.self c.scan_run-n.result.1 (ap is_some (c.requires.opened).inside) c.requires.room c.scan_run-n.ensures
+pub unreachable-requires : goal.unreachable-requires
+unreachable-requires c = subst (λ (a : ItemStep). GoesOn a) c.in-Head.is c.scan_run-n.ensures.goes
+
+pub unreachable-requires-in-Eoi : goal.unreachable-requires-in-Eoi
+unreachable-requires-in-Eoi c = subst (λ (a : ItemStep). GoesOn a) c.in-Eoi.is c.scan_run-n.ensures.goes
+
+pub unreachable-requires-in-NoMemory : goal.unreachable-requires-in-NoMemory
+unreachable-requires-in-NoMemory c = subst (λ (a : ItemStep). GoesOn a) c.in-NoMemory.is c.scan_run-n.ensures.goes

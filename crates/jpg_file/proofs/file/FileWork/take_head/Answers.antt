@@ -3,7 +3,7 @@ use Rattle.jpg_file.specs.File.{limits_of}
 use Rattle.jpg_file.specs.Reading.{HeadWhole}
 use Rattle.jpg_file.specs.declared.file.FileWork.{FileWork}
 use Rattle.jpg_file.specs.declared.items.ItemStep.TheVariants as step
-use Rattle.jpg_file.proofs.FileSteps.{head_after, head_goes, head_whole, room_made}
+use Rattle.jpg_file.proofs.FileSteps.{head_after, head_goes, head_whole, no_room, room_made}
 use Rattle.jpg_file.proofs.file.FileWork.take_head.Goals as goal
 
 pub take_head-requires : goal.take_head-requires
@@ -30,3 +30,27 @@ returns-in-Fault-clause-after c = λ bytes h.
     let made = room_made old room c.make_room.result c.make_room.ensures.made (sym c.is_err.ensures.value ∙ c.if-is_err.false) in
     let a = head_after (limits_of old) bytes old room (step.Fault c.in-Fault.fault) c.take_head.new.self c.take_head.new.begun h made c.in-Fault.ensures in
     (a.1, a.0)
+
+pub returns-then-is_err-clause-after : goal.returns-then-is_err-clause-after
+returns-then-is_err-clause-after c = λ bytes h. no_room c.args.self.now c.make_room.new.self c.make_room.result c.make_room.ensures.made (sym c.is_err.ensures.value ∙ c.if-is_err.true)
+
+pub unreachable-requires : goal.unreachable-requires
+unreachable-requires c =
+    let old = c.args.self.now in
+    let o = c.requires.stands in
+    let made = room_made old c.make_room.new.self c.make_room.result c.make_room.ensures.made (sym c.is_err.ensures.value ∙ c.if-is_err.false) in
+    head_after (limits_of old) o.0 old c.make_room.new.self step.Head c.take_head.new.self c.take_head.new.begun o.1 made c.in-Head.ensures
+
+pub unreachable-requires-in-Eoi : goal.unreachable-requires-in-Eoi
+unreachable-requires-in-Eoi c =
+    let old = c.args.self.now in
+    let o = c.requires.stands in
+    let made = room_made old c.make_room.new.self c.make_room.result c.make_room.ensures.made (sym c.is_err.ensures.value ∙ c.if-is_err.false) in
+    head_after (limits_of old) o.0 old c.make_room.new.self step.Eoi c.take_head.new.self c.take_head.new.begun o.1 made c.in-Eoi.ensures
+
+pub unreachable-requires-in-NoMemory : goal.unreachable-requires-in-NoMemory
+unreachable-requires-in-NoMemory c =
+    let old = c.args.self.now in
+    let o = c.requires.stands in
+    let made = room_made old c.make_room.new.self c.make_room.result c.make_room.ensures.made (sym c.is_err.ensures.value ∙ c.if-is_err.false) in
+    head_after (limits_of old) o.0 old c.make_room.new.self step.NoMemory c.take_head.new.self c.take_head.new.begun o.1 made c.in-NoMemory.ensures

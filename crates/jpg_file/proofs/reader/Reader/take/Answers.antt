@@ -4,7 +4,7 @@ use Rattle.jpg_file.specs.File.{EndsFile}
 use Rattle.jpg_file.specs.ReadFile.{ReaderState}
 use Rattle.jpg_file.proofs.reader.Reader.take.Goals as goal
 
-pub returns-clause-meaning : goal.returns-clause-meaning
-returns-clause-meaning c = λ bytes d.
-    c.picture_of.ensures.file c.self.inside.limits bytes d.meaning (subst (λ (r : ReaderState). EndsFile r.limits bytes r.file) (sym c.self.view_is) d.ended)
+pub returns : goal.returns
+returns c = λ bytes d.
+    c.picture_of.ensures c.self.inside.limits bytes d.meaning (subst (λ (r : ReaderState). EndsFile r.limits bytes r.file) (sym c.self.view_is) d.ended)
     (subst (λ (r : ReaderState). IsWholeFile r.limits bytes d.meaning) (sym c.self.view_is) d.whole)

@@ -30,8 +30,8 @@ run-n-requires-clause-due c =
     let o = c.requires.opened in
     ap (λ (s : InScan). s.work.whole) (some_once c.in-Some-scan.scan o.scan (sym c.in-Some-scan.is ∙ o.inside)) ∙ o.due
 
-pub returns-in-More : goal.returns-in-More
-returns-in-More c = run_goes_on c.args.self.now c.in-Some.coefs c.run-n.new.coefs c.in-Some-scan.scan c.run-n.new.self c.args.run.now c.run-n.result.0 c.in-Some.is c.in-Some-scan.is (subst (λ (a : ScanStep). TakesRun c.in-Some-scan.scan c.in-Some.coefs c.args.run.now c.run-n.result.0 a c.run-n.new.self c.run-n.new.coefs) c.in-More.is c.run-n.ensures.after)
+pub returns-in-More-clause-after : goal.returns-in-More-clause-after
+returns-in-More-clause-after c = run_goes_on c.args.self.now c.in-Some.coefs c.run-n.new.coefs c.in-Some-scan.scan c.run-n.new.self c.args.run.now c.run-n.result.0 c.in-Some.is c.in-Some-scan.is (subst (λ (a : ScanStep). TakesRun c.in-Some-scan.scan c.in-Some.coefs c.args.run.now c.run-n.result.0 a c.run-n.new.self c.run-n.new.coefs) c.in-More.is c.run-n.ensures.after)
 
-pub returns-in-Fault : goal.returns-in-Fault
-returns-in-Fault c = run_shows c.args.self.now _ c.in-Some.coefs c.run-n.new.coefs c.in-Some-scan.scan c.run-n.new.self c.args.run.now c.run-n.result.0 c.in-Fault.fault c.in-Some.is c.in-Some-scan.is (subst (λ (a : ScanStep). TakesRun c.in-Some-scan.scan c.in-Some.coefs c.args.run.now c.run-n.result.0 a c.run-n.new.self c.run-n.new.coefs) c.in-Fault.is c.run-n.ensures.after)
+pub returns-in-Fault-clause-after : goal.returns-in-Fault-clause-after
+returns-in-Fault-clause-after c = run_shows c.args.self.now _ c.in-Some.coefs c.run-n.new.coefs c.in-Some-scan.scan c.run-n.new.self c.args.run.now c.run-n.result.0 c.in-Fault.fault c.in-Some.is c.in-Some-scan.is (subst (λ (a : ScanStep). TakesRun c.in-Some-scan.scan c.in-Some.coefs c.args.run.now c.run-n.result.0 a c.run-n.new.self c.run-n.new.coefs) c.in-Fault.is c.run-n.ensures.after)

@@ -16,8 +16,8 @@ use Rattle.jpg_file.proofs.Beginnings.{begun_more, table_there}
 use Rattle.jpg_file.proofs.HeadTaken.{found, judged, head_begins, head_shows}
 use Rattle.jpg_file.proofs.reading.Reading.take_head.Goals as goal
 
-pub begin_scan-scan-requires : goal.begin_scan-scan-requires
-begin_scan-scan-requires c =
+pub begin_data-requires : goal.begin_data-requires
+begin_data-requires c =
     let o = c.requires.stands in
     let r = c.args.self.now in
     let b = c.args.begun.now in
@@ -25,7 +25,7 @@ begin_scan-scan-requires c =
     let q = c.in-Some-coefs.coefs in
     let w = found r.items.limits o.0 o.1 o.2 r b f c.in-Some.held q o.3 c.in-Some.is c.copy-frame.ensures c.in-Some-coefs.is in
     let j = judged r.items.limits o.0 o.1 o.2 r b f q c.contents.result.now (Ok c.in-Ok.head) w c.contents.ensures c.in-Ok.ensures in
-    (r.items.limits, o.1, o.2, (reading_of r.items.segments).contents, o.0, head_begins r.items.limits o.0 o.1 o.2 r b f q c.in-Ok.head w j)
+    (q, c.checked-in-Ok.ensures.sizes, (r.items.limits, o.1, o.2, (reading_of r.items.segments).contents, o.0, head_begins r.items.limits o.0 o.1 o.2 r b f q c.in-Ok.head w j))
 
 pub returns-in-Err : goal.returns-in-Err
 returns-in-Err c = λ bytes items blocks k.
@@ -47,17 +47,18 @@ returns-in-Ok c = λ bytes items blocks k.
     let w = found r.items.limits bytes items blocks r b f c.in-Some.held q k c.in-Some.is c.copy-frame.ensures c.in-Some-coefs.is in
     let j = judged r.items.limits bytes items blocks r b f q c.contents.result.now (Ok head) w c.contents.ensures c.in-Ok.ensures in
     let begins = head_begins r.items.limits bytes items blocks r b f q head w j in
+    let begun = c.begin_data.ensures in
     let slots : Slots = (told_by r.items.held).quants in
     let same = c.as_slice-parts.ensures.value ∙ ap (λ (h : ScanHead). h.parts) c.head.view_is in (
       record {
         coefs = q;
         has = c.in-Some-coefs.is;
-        scan = c.begin_scan-scan.result;
-        inside = refl;
-        at = c.begin_scan-scan.ensures.begun r.items.limits items blocks contents bytes begins;
+        scan = begun.0;
+        inside = begun.1;
+        at = begun.3 q c.checked-in-Ok.ensures.sizes r.items.limits items blocks contents bytes begins;
         head = c.head_done.ensures.behind bytes items blocks k.segment k.code;
         count = k.count;
-        behind = omega (arith, k.same, c.head_done.ensures.same, ap waiting c.begin_scan-scan.ensures.gate);
+        behind = omega (arith, k.same, c.head_done.ensures.same, ap waiting begun.2);
       },
       begun_more r.items.limits b c.note.new.self (segments_of items) contents head slots (ap (λ (g : Frame). head_in g contents) (begins.header).framed ∙ (begins.header).header)
           (framed (segments_of items) begins.allowed)

@@ -6,21 +6,22 @@ use Rattle.jpg_file.proofs.scan.ScanWork.marker.Goals as goal
 pub next_interval-requires : goal.next_interval-requires
 next_interval-requires c =
     let o = c.requires in
-    let m = o.3 in
-    let r = right_marker o.0 o.2 o.1 m.fill c.args.code c.args.self.now c.args.coefs.now m.at c.if-not-self.false c.if-self-eq0.false c.if-code-self.false m.work in
-    record { «open» = (o.0, with_interval o.1 r.0 r.1, o.2, r.2) }
+    let now = o.3 in
+    let m = o.4 in
+    let r = right_marker o.0 o.2 o.1 m.fill c.args.code c.args.self.now now m.at c.if-not-self.false c.if-self-eq0.false c.if-code-self.false m.work in
+    record { «open» = (o.0, with_interval o.1 r.0 r.1, o.2, now, r.2) }
 
 pub returns-then-not-self : goal.returns-then-not-self
-returns-then-not-self c = λ limits p bytes m. short_marker limits bytes p m.fill c.args.code c.args.self.now c.args.coefs.now m.no_zero m.no_fill m.at c.if-not-self.true m.work
+returns-then-not-self c = λ now limits p bytes m. short_marker limits bytes p m.fill c.args.code c.args.self.now now m.no_zero m.no_fill m.at c.if-not-self.true m.work
 
 pub returns-then-self-eq0 : goal.returns-then-self-eq0
-returns-then-self-eq0 c = λ limits p bytes m. (refl, last_framed limits p c.args.self.now c.args.coefs.now c.if-not-self.false m.work, last_marker limits p c.args.self.now c.args.coefs.now c.if-not-self.false c.if-self-eq0.true m.work)
+returns-then-self-eq0 c = λ now limits p bytes m. (refl, last_framed limits p c.args.self.now now c.if-not-self.false m.work, last_marker limits p c.args.self.now now c.if-not-self.false c.if-self-eq0.true m.work)
 
 pub returns-then-code-self : goal.returns-then-code-self
-returns-then-code-self c = λ limits p bytes m.
-    wrong_marker limits bytes p m.fill c.args.code c.args.self.now c.args.coefs.now m.no_zero m.no_fill m.at c.if-not-self.false c.if-self-eq0.false c.if-code-self.true m.work
+returns-then-code-self c = λ now limits p bytes m.
+    wrong_marker limits bytes p m.fill c.args.code c.args.self.now now m.no_zero m.no_fill m.at c.if-not-self.false c.if-self-eq0.false c.if-code-self.true m.work
 
 pub returns-else-code-self : goal.returns-else-code-self
-returns-else-code-self c = λ limits p bytes m.
-    let r = right_marker limits bytes p m.fill c.args.code c.args.self.now c.args.coefs.now m.at c.if-not-self.false c.if-self-eq0.false c.if-code-self.false m.work in
-    (r.0, r.1, (r.2).at, c.next_interval.ensures limits (with_interval p r.0 r.1) bytes r.2)
+returns-else-code-self c = λ now limits p bytes m.
+    let r = right_marker limits bytes p m.fill c.args.code c.args.self.now now m.at c.if-not-self.false c.if-self-eq0.false c.if-code-self.false m.work in
+    (r.0, r.1, (r.2).at, c.next_interval.ensures limits (with_interval p r.0 r.1) bytes now r.2)

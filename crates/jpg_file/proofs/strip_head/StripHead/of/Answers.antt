@@ -4,4 +4,4 @@ use Rattle.jpg_file.proofs.strip_head.StripHead.of.Goals as goal
 
 pub returns-clause-head : goal.returns-clause-head
 returns-clause-head c =
-    head_fits c.args.picture.now _ c.requires c.copy.ensures refl (c.copied.ensures ∙ c.as_slice.ensures.value)
+    head_fits c.args.picture.now _ c.copy.ensures refl (c.copied.ensures ∙ c.as_slice.ensures.value)

@@ -15,7 +15,9 @@ pub returns-in-More-clause-goes : goal.returns-in-More-clause-goes
 returns-in-More-clause-goes c = λ i bits w. inr (c.in-More.ensures.takes i bits (c.put.ensures.puts i bits (c.loop-self.invariant.leads i bits w)))
 
 pub returns-in-Fault-clause-goes : goal.returns-in-Fault-clause-goes
-returns-in-Fault-clause-goes c = λ i bits w. c.in-Fault.ensures.takes i bits (c.put.ensures.puts i bits (c.loop-self.invariant.leads i bits w))
+returns-in-Fault-clause-goes c =
+    let w = c.loop-self.invariant.has_whole in
+    absurd (c.in-Fault.ensures.quiet w.0 w.1 (c.put.ensures.puts w.0 w.1 w.2))
 
 pub loop-self-preserved : goal.loop-self-preserved
 loop-self-preserved c =

@@ -1,4 +1,4 @@
-use Rattle.jpg_prog_read.proofs.AcUnits.{between_at, padded_at, takes_bits, unit_taken}
+use Rattle.jpg_prog_read.proofs.AcUnits.{between_at, padded_at, takes_bits, taken_quietly, unit_taken}
 use Rattle.jpg_prog_read.proofs.ac_reader.AcReader.take.Goals as goal
 
 pub block-block-requires : goal.block-block-requires
@@ -16,3 +16,8 @@ pub returns-clause-takes : goal.returns-clause-takes
 returns-clause-takes c = λ i bits w.
     let m = c.args.self.now in let now = c.args.coefs.now in let p = c.place-place.result in
     unit_taken m c.start.new.self i bits now p c.block-block.result c.start.result (between_at m i bits now p w c.requires.some c.place-place.ensures) c.block-block.ensures c.start.ensures.open c.start.ensures.outside c.start.ensures.answered
+
+pub returns-clause-quiet : goal.returns-clause-quiet
+returns-clause-quiet c = λ i bits w.
+    let m = c.args.self.now in let now = c.args.coefs.now in let p = c.place-place.result in
+    taken_quietly m i bits now p c.block-block.result c.start.result (between_at m i bits now p w c.requires.some c.place-place.ensures) c.block-block.ensures c.start.ensures.quiet

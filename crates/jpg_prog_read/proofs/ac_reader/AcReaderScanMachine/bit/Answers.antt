@@ -1,4 +1,4 @@
-use Rattle.std.proofs.Common.{inr, [], ◌∷◌, ◌++◌}
+use Rattle.std.proofs.Common.{inr, refl, [], ◌∷◌, ◌++◌}
 use Rattle.jpg_prog_read.proofs.ac_reader.AcReaderScanMachine.bit.Goals as goal
 
 pub unit_bit-requires : goal.unit_bit-requires
@@ -11,7 +11,7 @@ pub returns-in-More : goal.returns-in-More
 returns-in-More c = λ i bits s. inr (c.in-More.ensures i bits c.args.coefs.now (c.settle.ensures.settles i bits s))
 
 pub returns-in-Fault : goal.returns-in-Fault
-returns-in-Fault c = λ i bits s. c.in-Fault.ensures i bits c.args.coefs.now (c.settle.ensures.settles i bits s)
+returns-in-Fault c = λ i bits s. (c.in-Fault.ensures i bits c.args.coefs.now (c.settle.ensures.settles i bits s), refl)
 
 pub returns-in-Done : goal.returns-in-Done
 returns-in-Done c = λ i bits s. c.go_on.ensures.goes i (bits ++ c.args.bit ∷ []) (c.in-Done.ensures i bits c.args.coefs.now (c.settle.ensures.settles i bits s))

@@ -27,3 +27,7 @@ returns-in-Long-stage-clause-answered c = λ ac at bits k f.
 pub returns-in-Value-stage-clause-answered : goal.returns-in-Value-stage-clause-answered
 returns-in-Value-stage-clause-answered c = λ ac at bits k f.
     absurd (value_not_ended at bits c.skip.new.self (sym c.in-Value-stage.ensures) c.in-AtEnd.ensures.at (c.in-AtEnd.ensures.stands at bits (zero_in at.coding c.args.scan.now.most_magnitude k.bounds) f))
+
+pub returns-in-Ends-clause-ends : goal.returns-in-Ends-clause-ends
+returns-in-Ends-clause-ends c = λ ac at bits k f e.
+    ends_run at bits c.skip.new.self (sym c.in-Ends.ensures) c.in-AtZero.ensures.at.1 (c.in-AtZero.ensures.stands at bits (zero_in at.coding c.args.scan.now.most_magnitude k.bounds) f)

@@ -3,6 +3,7 @@ use Rattle.jpg_spec.specs.Bits.{bits_of}
 use Rattle.jpg_prog_read.specs.ExtraWork.{ExtraWork}
 use Rattle.jpg_prog_read.specs.InWork.{InWork}
 use Rattle.jpg_prog_read.proofs.BandBits.{number_taken, taken, waits_for}
+use Rattle.jpg_prog_read.proofs.Leaf.{empty_is}
 use Rattle.jpg_prog_read.proofs.band.BandReader.take_number.Goals as goal
 
 pub peek-requires-clause-few : goal.peek-requires-clause-few
@@ -14,7 +15,7 @@ returns-then-size-len c =
     let old = c.args.self.now in
     let store = c.args.store.now in
     let size : c.size-size.result ≡ old.size = c.size-size.ensures.value ∙ ap (λ (s : InWork). s.size) c.self.view_is in
-    let none = ap (λ (s : InWork). s.extra) (sym c.self.view_is) ∙ c.is_new.ensures c.if-is_new.true in
+    let none = ap (λ (s : InWork). s.extra) (sym c.self.view_is) ∙ empty_is _ (sym c.is_new.ensures ∙ c.if-is_new.true) in
     let v : ExtraWork → InWork = λ x. (let m : InWork = record { front = take i.start i.values; done = take (i.at - i.start) (drop i.start i.values); rest = take (i.end - i.at) (drop i.at i.values); behind = drop i.end i.values; stage = i.stage; walked = i.walk; run = i.run; size = x.size; extra = x.bits; due = i.due; bands = i.bands } in m) in
     let peeked : bits_of c.size-size.result c.peek.result ≡ take old.size store = c.peek.ensures.value ∙ ap (λ n. take n store) size in
     let whole : c.fill.new.self ≡ record i.extra { bits = take old.size store } = c.fill.ensures ∙ ap (λ b. (let x : ExtraWork = record i.extra { bits = b } in x)) peeked in

@@ -30,7 +30,7 @@ returns-in-More-clause-step c =
 
 pub returns-in-Fault-clause-step : goal.returns-in-Fault-clause-step
 returns-in-Fault-clause-step c =
-    step_fault c.args.self.now c.unit_bit.new.self c.place-place.result c.args.coefs.now c.args.coefs.now c.args.bit c.unit_bit.new.self.unit c.in-Fault.fault c.place-place.ensures c.in-Fault.ensures.reads
+    step_fault c.args.self.now c.unit_bit.new.self c.place-place.result c.args.coefs.now c.args.bit c.unit_bit.new.self.unit c.in-Fault.fault c.place-place.ensures c.in-Fault.ensures.reads
 
 pub returns-then-self-eq0-clause-step : goal.returns-then-self-eq0-clause-step
 returns-then-self-eq0-clause-step c =

@@ -17,10 +17,9 @@ invariant_of-result c =
     let rows : ℕ → ℕ = λ i. slice_index c.all_rows.result i in
     let given : Given out job.transform c.transposes.result columns rows = record { frame = c.checked.ensures; over_is = c.transposes.ensures; columns_are = c.all_columns.ensures; rows_are = c.all_rows.ensures } in
     record {
-      keeps = c.requires.picture;
       reaches = record {
         few = c.checked.ensures.count_high;
-        places = λ i x y r. reached_by c.requires.job.0 p.frame out job.transform c.transposes.result columns rows i x y c.requires.picture.frame given (is_output p c.requires.job.0 job c.requires.picture c.requires.job.1) r;
+        places = λ i x y r. reached_by c.requires.0 p.frame out job.transform c.transposes.result columns rows i x y p.keeps.frame given (is_output p c.requires.0 job c.requires.1) r;
       };
     }
 
@@ -33,7 +32,7 @@ returns-clause-shows c = λ choice h.
     let columns : ℕ → ℕ = λ i. slice_index c.all_columns.result i in
     let rows : ℕ → ℕ = λ i. slice_index c.all_rows.result i in
     let given : Given out job.transform c.transposes.result columns rows = record { frame = c.checked.ensures; over_is = c.transposes.ensures; columns_are = c.all_columns.ensures; rows_are = c.all_rows.ensures } in
-    shown_by choice p.frame out job.transform c.transposes.result columns rows (map_of p.coefs) (picture_meaning p) c.requires.picture.frame given (whole_picture p c.requires.picture) (seen_meaning p) (is_output p choice job c.requires.picture h))
+    shown_by choice p.frame out job.transform c.transposes.result columns rows (map_of p.coefs) (picture_meaning p) p.keeps.frame given (whole_picture p) (seen_meaning p) (is_output p choice job h))
 
 pub returns-clause-writes : goal.returns-clause-writes
-returns-clause-writes c = λ choice h movable. writes_job c.args.picture.now choice c.args.job.now _ _ refl c.requires.picture h movable (returns-clause-shows c choice h)
+returns-clause-writes c = λ choice h. writes_job c.args.picture.now choice c.args.job.now _ _ refl c.checked.ensures h (returns-clause-shows c choice h)

@@ -1,0 +1,8 @@
+use Rattle.std.specs.Prelude.{◌≡◌, take, length, map}
+use Rattle.jpg_spec.specs.Lists.{below}
+use Rattle.jpg_spec.specs.Encoded.{pixel_component}
+use Rattle.jpg_spec.specs.declared.image.ImageKind.TheVariants.{Rgb}
+use Rattle.jpg_color.proofs.ycc.blue_row.Given as goal
+
+abbrev pub invariant-loop-x : goal.invariant-loop-x
+invariant-loop-x l = (length l.bs ≡ length l.fn.bs) × (take l.x l.bs ≡ map (pixel_component Rgb l.pixels 1) (below l.x))

@@ -1,0 +1,51 @@
+-- Rows of an image, and the plane of a component.
+use Rattle.std.specs.Prelude.{◌≡◌, ℕ, ◌*◌, ◌+◌, ◌≤◌, ◌<◌, ◌-◌, min, List, length, map, take, drop, slice_index}
+use Rattle.jpg_spec.specs.Lists.{below}
+use Rattle.jpg_spec.specs.Downsampling.{narrowed, in_rows}
+use Rattle.jpg_spec.specs.Encoded.{full_plane, samples_of_block}
+use Rattle.jpg_spec.specs.declared.image.ImageInfo.{ImageInfo}
+use Rattle.jpg_color.specs.ColourRows.{numbers_of}
+use Rattle.jpg_color.specs.declared.rows.ImagePlane.{ImagePlane}
+
+-- an image has its samples, and sides that a frame can have
+pub record HasSamples (info : ImageInfo) (samples : List ℕ) : Type 0 where
+  pub wide : 1 ≤ info.width
+  pub wide_few : info.width ≤ 65500
+  pub high : 1 ≤ info.height
+  pub high_few : info.height ≤ 65500
+  pub all : length samples ≡ info.height * (numbers_of info.kind * info.width)
+
+-- row p
+abbrev pub row_of : ImageInfo → List ℕ → ℕ → List ℕ
+row_of info samples p = take (numbers_of info.kind * info.width) (drop (p * (numbers_of info.kind * info.width)) samples)
+
+-- component i, its last column and row repeated
+abbrev pub plane_of : ImageInfo → List ℕ → ℕ → ℕ → ℕ → ℕ
+plane_of info samples i x y = full_plane (record { info = info; samples = samples }) i x y
+
+-- the rows of the plane under row y of a plane that is `down` times lower, one behind another
+abbrev pub HasRows : ImageInfo → List ℕ → ℕ → ℕ → ℕ → List ℕ → Type 0
+HasRows info samples i down y rows = (r u : ℕ) → r < down → u < info.width → slice_index rows (r * info.width + u) ≡ plane_of info samples i u (down * y + r)
+
+-- a component of an image that has its samples, and a ratio from 1 to 4
+pub record IsImagePlane (p : ImagePlane) : Type 0 where
+  pub image : HasSamples p.info.now p.samples.now
+  pub component : p.component < 3
+  pub across : (1 ≤ p.ratio.across) × (p.ratio.across ≤ 4)
+  pub down : (1 ≤ p.ratio.down) × (p.ratio.down ≤ 4)
+
+-- its plane, made narrower and lower
+abbrev pub narrow_plane : ImagePlane → ℕ → ℕ → ℕ
+narrow_plane p x y = narrowed p.ratio.across p.ratio.down (plane_of p.info.now p.samples.now p.component) x y
+
+-- of which the last row that the image makes is repeated
+abbrev pub lower_row : ImagePlane → ℕ → ℕ → ℕ → ℕ
+lower_row p made x y = narrow_plane p x (min y (made - 1))
+
+-- as many samples of a row
+unfoldable pub narrowed_row : ImagePlane → ℕ → ℕ → List ℕ
+narrowed_row p y count = map (λ x. narrow_plane p x y) (below count)
+
+-- the rows from row 8 * y on, as blocks
+abbrev pub HasBlocks : ImagePlane → ℕ → ℕ → ℕ → List ℕ → Type 0
+HasBlocks p made wide y rows = (x : ℕ) → 8 * x + 8 ≤ wide → samples_of_block (in_rows wide rows) x 0 ≡ samples_of_block (lower_row p made) x y

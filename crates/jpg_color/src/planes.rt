@@ -1,0 +1,52 @@
+// Planes of an image, made narrower and lower row by row, and their blocks (T.81, A.1.1, A.2).
+ghost use Rattle.std.specs.Prelude.{◌≡◌, ◌+◌, ◌-◌, ◌*◌, ◌≤◌, ◌<◌, ℕ, length, slice_index, take, ◌++◌};
+ghost use Rattle.jpg_spec.specs.Downsampling.{in_rows};
+ghost use Rattle.jpg_spec.specs.Encoded.{samples_of_block};
+ghost use Rattle.jpg_color.specs.ColourRows.{numbers_of, row_component};
+
+use crate::ycc::{blue_row, gray_row, red_row};
+use jpg_spec::ImageKind;
+
+/// Component `i` of a row of an image: gray as it is, else luminance or one of the two colour differences.
+#[tactic(auto, unfolding(crate::specs::ColourRows::row_component))]
+pub fn component_row(kind: ImageKind, row: &[u8], i: u8, out: &mut [u8])
+    requires some { i < 3 }
+    requires long { length row.now ≡ numbers_of kind * length out.old }
+    ensures { out.new ≡ row_component kind row.now i (length out.old) }
+{
+    match kind {
+        ImageKind::Gray => out.copy_from_slice(row),
+        ImageKind::Rgb => match i {
+            0 => gray_row(row, out),
+            1 => blue_row(row, out),
+            _ => red_row(row, out),
+        },
+    }
+}
+
+// Row v of a block among rows of samples.
+#[inline(always)]
+fn put_row(samples: &mut [u8; 64], v: usize, row: &[u8])
+    requires { (v < 8) × (length row.now ≡ 8) }
+    ensures long { length samples.new ≡ 64 }
+    ensures value { take (8 * v + 8) samples.new ≡ take (8 * v) samples.old ++ row.now }
+{
+    samples[8 * v..8 * v + 8].copy_from_slice(row);
+}
+
+/// Block x of eight rows of samples, one behind another.
+pub fn block_at(rows: &[u8], wide: usize, x: usize) -> [u8; 64]
+    requires there { 8 * x + 8 ≤ wide }
+    requires long { length rows.now ≡ 8 * wide }
+    ensures { result ≡ samples_of_block (in_rows wide rows.now) x 0 }
+{
+    let mut samples = [0; 64];
+    for v in 0..8 {
+        put_row(
+            &mut samples,
+            v,
+            &rows[v * wide + 8 * x..v * wide + 8 * x + 8],
+        );
+    }
+    samples
+}

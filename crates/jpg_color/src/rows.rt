@@ -1,0 +1,146 @@
+// Rows of a component's plane (T.81, A.1.1; release 6b's downsampling).
+ghost use Rattle.std.specs.Prelude.{◌≡◌, ◌+◌, ◌-◌, ◌*◌, ◌≤◌, ◌<◌, ℕ, min, length, slice_index, take, drop};
+ghost use Rattle.jpg_color.specs.ColourRows.{numbers_of};
+ghost use Rattle.jpg_color.specs.PlaneRows.{row_of, plane_of, lower_row, narrowed_row, IsImagePlane, HasSamples, HasRows, HasBlocks};
+
+use crate::planes::component_row;
+use jpg_sample::{Ratio, down_rows};
+use jpg_spec::{ImageInfo, ImageKind};
+
+/// A component of an image's samples, to be made narrower and lower by a ratio.
+pub struct ImagePlane<'a> {
+    pub samples: &'a [u8],
+    pub info: &'a ImageInfo,
+    pub component: u8,
+    pub ratio: Ratio,
+}
+
+// How many numbers a pixel has.
+fn numbers(kind: ImageKind) -> usize
+    ensures value { result ≡ numbers_of kind }
+    ensures few { result ≤ 3 }
+{
+    match kind {
+        ImageKind::Gray => 1,
+        ImageKind::Rgb => 3,
+    }
+}
+
+// The place of a row, or of the last one.
+fn place(p: usize, high: usize) -> usize
+    requires { 1 ≤ high }
+    ensures value { result ≡ min p (high - 1) }
+    ensures there { result < high }
+{
+    if p < high { p } else { high - 1 }
+}
+
+fn part(samples: &[u8], at: usize, wide: usize) -> &[u8]
+    requires { at + wide ≤ length samples.now }
+    ensures { result.now ≡ take wide (drop at samples.now) }
+{
+    &samples[at..at + wide]
+}
+
+// Row p of an image, or the last one.
+fn image_row<'a>(samples: &'a [u8], info: &ImageInfo, p: usize) -> &'a [u8]
+    requires { HasSamples info.now samples.now }
+    ensures { result.now ≡ row_of info.now samples.now (min p (info.now.height - 1)) }
+{
+    let wide = numbers(info.kind) * info.width as usize;
+    let row = place(p, info.height as usize);
+    part(samples, row * wide, wide)
+}
+
+// Puts row p of component `i` at place r among rows.
+fn put_row(samples: &[u8], info: &ImageInfo, i: u8, p: usize, rows: &mut [u8], r: usize)
+    requires image { HasSamples info.now samples.now }
+    requires component { i < 3 }
+    requires there { r * info.now.width + info.now.width ≤ length rows.old }
+    ensures long { length rows.new ≡ length rows.old }
+    ensures here { (u : ℕ) → u < info.now.width → slice_index rows.new (r * info.now.width + u) ≡ plane_of info.now samples.now i u p }
+    ensures before { (k : ℕ) → k < r * info.now.width → slice_index rows.new k ≡ slice_index rows.old k }
+{
+    let width = info.width as usize;
+    let row = image_row(samples, info, p);
+    component_row(info.kind, row, i, &mut rows[r * width..r * width + width]);
+}
+
+// The rows under row y, the last one of the image repeated.
+fn put_rows(samples: &[u8], info: &ImageInfo, i: u8, down: usize, y: usize, rows: &mut [u8])
+    requires image { HasSamples info.now samples.now }
+    requires component { i < 3 }
+    requires few { (down ≤ 4) × (y ≤ 1000000) }
+    requires room { length rows.old ≡ down * info.now.width }
+    ensures long { length rows.new ≡ length rows.old }
+    ensures rows { HasRows info.now samples.now i down y rows.new }
+{
+    for r in 0..down {
+        put_row(samples, info, i, down * y + r, rows, r);
+    }
+}
+
+// Row y of the plane, as many samples as `out` has, from the rows of the image under it: they are put into `rows`.
+fn plane_row(plane: &ImagePlane, y: usize, rows: &mut [u8], out: &mut [u8])
+    requires plane { IsImagePlane plane.now }
+    requires few { y ≤ 1000000 }
+    requires room { length rows.old ≡ plane.now.ratio.down * plane.now.info.now.width }
+    ensures value { out.new ≡ narrowed_row plane.now y (length out.old) }
+    ensures long { length rows.new ≡ length rows.old }
+{
+    put_rows(
+        plane.samples,
+        plane.info,
+        plane.component,
+        plane.ratio.down as usize,
+        y,
+        rows,
+    );
+    down_rows(rows, plane.info.width, &plane.ratio, out);
+}
+
+// Row y, of which those that the image makes are `made`, put as row v of the eight.
+fn put_plane_row(
+    plane: &ImagePlane,
+    made: usize,
+    y: usize,
+    rows: &mut [u8],
+    out: &mut [u8],
+    wide: usize,
+    v: usize,
+)
+    requires plane { IsImagePlane plane.now }
+    requires few { (1 ≤ made) × (made ≤ 1000000) }
+    requires room { length rows.old ≡ plane.now.ratio.down * plane.now.info.now.width }
+    requires there { v * wide + wide ≤ length out.old }
+    ensures kept { length rows.new ≡ length rows.old }
+    ensures long { length out.new ≡ length out.old }
+    ensures here { (u : ℕ) → u < wide → slice_index out.new (v * wide + u) ≡ lower_row plane.now made u y }
+    ensures before { (k : ℕ) → k < v * wide → slice_index out.new k ≡ slice_index out.old k }
+{
+    let row = place(y, made);
+    plane_row(plane, row, rows, &mut out[v * wide..v * wide + wide]);
+}
+
+/// Eight rows of a component's plane from row 8 * y on, each of `wide` samples, of which those that the image makes are `made`. The rows of
+/// the image under each are put into `rows`, which has room for them.
+pub fn block_rows(
+    plane: &ImagePlane,
+    made: usize,
+    y: usize,
+    rows: &mut [u8],
+    out: &mut [u8],
+    wide: usize,
+)
+    requires plane { IsImagePlane plane.now }
+    requires few { (1 ≤ made) × (made ≤ 1000000) × (y ≤ 1000000) }
+    requires room { length rows.old ≡ plane.now.ratio.down * plane.now.info.now.width }
+    requires eight { length out.old ≡ 8 * wide }
+    ensures kept { length rows.new ≡ length rows.old }
+    ensures long { length out.new ≡ length out.old }
+    ensures blocks { HasBlocks plane.now made wide y out.new }
+{
+    for v in 0..8 {
+        put_plane_row(plane, made, 8 * y + v, rows, out, wide, v);
+    }
+}

@@ -1,0 +1,126 @@
+-- Blocks in natural order and in zigzag order.
+use Rattle.std.proofs.Common.{◌≡◌, ℕ, ◌+◌, ◌<◌, ◌≤◌, true, List, [], ◌∷◌, ◌++◌, length, take, set, get_or, slice_index, map, add-one, refl, sym, ap, ◌∙◌, subst, arith, ⊎_elim, ◌≢◌, All, ℤ, pos, nat_lt, nat_abs, to_z, of_z, negsuc, ◌≤ℤ◌, neg_ℤ, rules}
+use Rattle.std.specs.Prelude.{zip}
+use mir.Syntax.{w16}
+use mir.Val.{SFits}
+use Rattle.std.specs.Simd.Lanes.{pick_l}
+use Rattle.std.proofs.lemmas.Bool.{ltb-true, cases_lt}
+use Rattle.std.proofs.lemmas.Int.{to_z-of_z, ints}
+use Rattle.std.proofs.lemmas.List.{get_or-map, get_or_append_left, length-map, take_more_set, take_all, map-append, get_or-set_same, get_or-set_other}
+use Rattle.std.proofs.lemmas.List.Elements.{All-get_or}
+use Rattle.std.proofs.lemmas.List.Sums.{AllPass-from_list_all}
+use Rattle.jpg_spec.specs.Lists.{below, index_of}
+use Rattle.jpg_spec.specs.Moves.{zigzag}
+use Rattle.jpg_spec.specs.Dct.{number_at}
+use Rattle.jpg_spec.specs.ForwardDct.{multiples, quantised, quantised_block}
+use Rattle.jpg_spec.proofs.Rows.{at_below, map_map, map_alike, by_items}
+use Rattle.jpg_dct.specs.Natural.{natural_table}
+use Rattle.jpg_dct.specs.Division.{with_sign, divided, divided_at, Divides, AreDivisors, AreFewer}
+use Rattle.jpg_dct.specs.Lines.{AreWithin}
+
+-- THE PLACES of natural indices
+
+abbrev pub places : List ℕ
+places = map (λ n. index_of n zigzag) (below 64)
+
+pub place_is : (n : ℕ) → n < 64 → get_or places n 0 ≡ index_of n zigzag
+place_is n lt = get_or-map (λ m. index_of m zigzag) (below 64) n 0 0 lt ∙ ap (λ m. index_of m zigzag) (at_below 64 n lt)
+
+pub place_low : (n : ℕ) → n < 64 → get_or places n 0 < 64
+place_low n lt = ltb-true (get_or places n 0) 64 (All-get_or (λ x. nat_lt x 64 ≡ true) places n 0 lt (AllPass-from_list_all (λ x. nat_lt x 64) places refl))
+
+abbrev pub value_of : List ℕ → ℕ → ℕ
+value_of table n = slice_index table (index_of n zigzag)
+
+pub place_step : (table values : List ℕ) (n v : ℕ) → length values ≡ 64 → n < 64 → take n values ≡ map (value_of table) (below n) → v ≡ slice_index table (get_or places n 0)
+    → take (n + 1) (set values n v) ≡ map (value_of table) (below (n + 1))
+place_step table values n v long lt e is =
+    take_more_set values n v (omega (arith, long, lt))
+    ∙ ap (λ ys. ys ++ v ∷ []) e
+    ∙ ap (λ y. map (value_of table) (below n) ++ y ∷ []) (is ∙ ap (slice_index table) (place_is n lt))
+    ∙ sym (map-append (value_of table) (below n) (n ∷ []))
+    ∙ ap (λ m. map (value_of table) (below m)) (sym (add-one n))
+
+pub places_done : (table values : List ℕ) (n : ℕ) → length values ≡ 64 → n ≡ 64 → take n values ≡ map (value_of table) (below n) → values ≡ natural_table table
+places_done table values n long is e = sym (take_all n values (omega (arith, long, is))) ∙ e ∙ ap (λ m. map (value_of table) (below m)) is
+
+-- back again
+pub back : (table : List ℕ) → length table ≡ 64 → map (slice_index (natural_table table)) zigzag ≡ table
+back table long = (let e : map (slice_index (natural_table table)) zigzag ≡ map (slice_index table) (below 64) = refl in e ∙ by_items 64 (slice_index table) table 0 long (λ i h. refl))
+
+-- A VECTOR in zigzag order
+
+abbrev pub lanes : List ℤ → List ℕ
+lanes xs = map (of_z w16) xs
+
+fits_16 : (v : ℤ) → negsuc 32767 ≤ℤ v → v ≤ℤ pos 32767 → SFits w16 v
+fits_16 v low high = search (rules, low, high, arith, ints)
+
+pub swizzled : (xs : List ℤ) → length xs ≡ 64 → ((k : ℕ) → k < 64 → (negsuc 32767 ≤ℤ get_or xs k (pos 0)) × (get_or xs k (pos 0) ≤ℤ pos 32767))
+    → map (to_z w16) (pick_l 0 (lanes xs ++ lanes xs) zigzag) ≡ map (number_at xs) zigzag
+swizzled xs l fit =
+    map_map (to_z w16) (λ k. get_or (lanes xs ++ lanes xs) k 0) zigzag
+    ∙ map_alike (λ k. nat_lt k 64 ≡ true) (λ k. to_z w16 (get_or (lanes xs ++ lanes xs) k 0)) (λ k. get_or xs k (pos 0)) zigzag one (AllPass-from_list_all (λ x. nat_lt x 64) zigzag refl)
+  where
+    one : (k : ℕ) → nat_lt k 64 ≡ true → to_z w16 (get_or (lanes xs ++ lanes xs) k 0) ≡ get_or xs k (pos 0)
+    one k h =
+        let lt : k < 64 = ltb-true k 64 h in
+        let m = length-map xs (of_z w16) in
+        ap (to_z w16) (get_or_append_left (lanes xs) (lanes xs) 0 k (omega (arith, m, l, lt)) ∙ get_or-map (of_z w16) xs k (pos 0) 0 (omega (arith, l, lt)))
+        ∙ to_z-of_z w16 (get_or xs k (pos 0)) (fits_16 (get_or xs k (pos 0)) (fit k lt).0 (fit k lt).1)
+
+-- DIVIDED BLOCKS
+
+quantised_is : (t : ℤ) (q : ℕ) → quantised t q ≡ with_sign t (multiples (nat_abs t) q)
+quantised_is (pos n) q = refl
+quantised_is (negsuc n) q = ap (λ m. neg_ℤ (pos (multiples m q))) (omega arith)
+
+pub divided_is : (t : ℤ) (q half factor scale : ℕ) → Divides q half factor scale → nat_abs t ≤ 8192 → with_sign t (divided (nat_abs t) half factor scale) ≡ quantised t q
+divided_is t q half factor scale d small = ap (with_sign t) (d.all (nat_abs t) small) ∙ sym (quantised_is t q)
+
+zipped : (f : ℕ → ℕ → ℤ) (g : ℕ → ℕ) (ns : List ℕ) → map (λ n. f n (g n)) ns ≡ map (λ p. f p.0 p.1) (zip ns (map g ns))
+zipped f g [] = refl
+zipped f g (n ∷ ns) = ap (λ (xs : List ℤ). (let l : List ℤ = f n (g n) ∷ xs in l)) (zipped f g ns)
+
+pub coded_block : (values coded : List ℤ) (quants halves factors scales : List ℕ) → AreDivisors quants halves factors scales → length values ≡ 64 → AreWithin 8192 values
+    → ((n : ℕ) → n < 64 → number_at coded n ≡ divided_at values halves factors scales n)
+    → map (number_at coded) zigzag ≡ quantised_block (map (slice_index quants) zigzag) values
+coded_block values coded quants halves factors scales d long small all =
+    map_alike (λ n. nat_lt n 64 ≡ true) (number_at coded) (λ n. quantised (number_at values n) (slice_index quants n)) zigzag one (AllPass-from_list_all (λ x. nat_lt x 64) zigzag refl)
+    ∙ zipped (λ n q. quantised (number_at values n) q) (slice_index quants) zigzag
+  where
+    one : (n : ℕ) → nat_lt n 64 ≡ true → number_at coded n ≡ quantised (number_at values n) (slice_index quants n)
+    one n h =
+        let lt : n < 64 = ltb-true n 64 h in
+        all n lt ∙ divided_is (number_at values n) (slice_index quants n) (slice_index halves n) (slice_index factors n) (slice_index scales n) (d.at n lt)
+        (All-get_or (λ x. nat_abs x ≤ 8192) values n (pos 0) (omega (arith, long, lt)) small)
+
+pub are_fewer : (quants halves factors scales : List ℕ) → AreDivisors quants halves factors scales → AreFewer halves scales
+are_fewer quants halves factors scales d = record { half = λ n lt. (d.at n lt).small; scale = λ n lt. (d.at n lt).few }
+
+-- MADE READY, one after another
+
+pub natural_some : (table : List ℕ) (n : ℕ) → length table ≡ 64 → All (λ q. 1 ≤ q) table → n < 64 → 1 ≤ slice_index (natural_table table) n
+natural_some table n long all lt =
+    let low : index_of n zigzag < 64 = subst (λ k. k < 64) (place_is n lt) (place_low n lt) in
+    let e : slice_index (natural_table table) n ≡ slice_index table (index_of n zigzag) =
+    get_or-map (value_of table) (below 64) n 0 0 lt ∙ ap (value_of table) (at_below 64 n lt)
+    in
+    subst (λ q. 1 ≤ q) (sym e) (All-get_or (λ q. 1 ≤ q) table (index_of n zigzag) 0 (omega (arith, long, low)) all)
+
+pub divides_more : (quants halves factors scales : List ℕ) (n half factor scale : ℕ) → n < 64 → length halves ≡ 64 → length factors ≡ 64 → length scales ≡ 64
+    → ((k : ℕ) → k < n → Divides (slice_index quants k) (slice_index halves k) (slice_index factors k) (slice_index scales k))
+    → Divides (slice_index quants n) half factor scale
+    → (k : ℕ) → k < n + 1 → Divides (slice_index quants k) (slice_index (set halves n half) k) (slice_index (set factors n factor) k) (slice_index (set scales n scale) k)
+divides_more quants halves factors scales n half factor scale lt lh lf ls old now k lk =
+    ⊎_elim
+    (λ (a : k < n). (let differ : k ≢ n = (λ e. omega (arith, a, e)) in
+    subst (λ x. Divides (slice_index quants k) x (slice_index (set factors n factor) k) (slice_index (set scales n scale) k)) (sym (get_or-set_other halves n k half 0 differ))
+    (subst (λ x. Divides (slice_index quants k) (slice_index halves k) x (slice_index (set scales n scale) k)) (sym (get_or-set_other factors n k factor 0 differ))
+    (subst (λ x. Divides (slice_index quants k) (slice_index halves k) (slice_index factors k) x) (sym (get_or-set_other scales n k scale 0 differ)) (old k a)))))
+    (λ (b : n ≤ k). (let e : n ≡ k = omega (arith, b, lk) in
+    subst (λ j. Divides (slice_index quants j) (slice_index (set halves n half) j) (slice_index (set factors n factor) j) (slice_index (set scales n scale) j)) e
+    (subst (λ x. Divides (slice_index quants n) x (slice_index (set factors n factor) n) (slice_index (set scales n scale) n)) (sym (get_or-set_same halves n half 0 (omega (arith, lh, lt))))
+    (subst (λ x. Divides (slice_index quants n) half x (slice_index (set scales n scale) n)) (sym (get_or-set_same factors n factor 0 (omega (arith, lf, lt))))
+    (subst (λ x. Divides (slice_index quants n) half factor x) (sym (get_or-set_same scales n scale 0 (omega (arith, ls, lt)))) now)))))
+    (cases_lt k n)

@@ -1,0 +1,7 @@
+use Rattle.std.proofs.Common.{Bool, List, subst}
+use Rattle.jpg_file.specs.RowData.{TakesRowData}
+use Rattle.jpg_file.proofs.rows.RowWork.take_waiting.Goals as goal
+
+pub returns-clause-takes : goal.returns-clause-takes
+returns-clause-takes c =
+    subst (λ (z : List Bool). TakesRowData c.args.self.now c.args.machine.now z c.take.result.step c.take.new.self c.take.new.machine) c.copy-store.ensures c.take.ensures.takes

@@ -1,0 +1,22 @@
+use Rattle.std.proofs.Common.{◌∙◌}
+use Rattle.jpg_file.proofs.RowScans.{open_scan, run_in_row, run_as, work_same}
+use Rattle.jpg_file.proofs.scan.InScan.run_in_row.Goals as goal
+
+pub take_bytes-n-requires-clause-open : goal.take_bytes-n-requires-clause-open
+take_bytes-n-requires-clause-open c =
+    let o = c.requires.inside in let i = o.inside in
+    (o.whole, o.row, open_scan i.0 i.1 i.2 i.3 c.args.self.now o.whole i.4 c.requires.due)
+
+pub take_bytes-n-requires-clause-inside : goal.take_bytes-n-requires-clause-inside
+take_bytes-n-requires-clause-inside c = (c.requires.inside.due c.requires.due).0
+
+pub take_bytes-n-requires-clause-left : goal.take_bytes-n-requires-clause-left
+take_bytes-n-requires-clause-left c = (c.requires.inside.due c.requires.due).1
+
+pub returns : goal.returns
+returns c = λ limits items contents bytes whole at d.
+    let s = c.args.self.now in
+    let t = c.take_bytes-n.ensures.takes whole at (open_scan limits items contents bytes s whole d c.requires.due) in
+    let n = c.take_bytes-n.result.0 in let step = c.take_bytes-n.result.1.step in let m = c.take_bytes-n.new.machine in let waiting = c.take_bytes-n.new.self.waiting in
+    let k = run_in_row limits items contents bytes c.args.run.now n s m whole t.0 step waiting c.requires.gate c.requires.due c.requires.plain d t.2 in
+    (t.0, t.1, run_as limits items contents bytes c.args.run.now n s.gate s.work c.stepped.new.self m t.0 step c.stepped.result waiting c.stepped.ensures.answer (c.stepped.ensures.work ∙ work_same s.work m step) k)

@@ -1,0 +1,26 @@
+-- How many units of the MCU row in work are left.
+use Rattle.std.specs.Prelude.{◌≡◌, ℕ, ◌+◌, ◌-◌, ◌≤◌, ◌==◌, drop, length}
+use Rattle.jpg_seq.specs.declared.reader.SeqReader.{SeqReader}
+use Rattle.jpg_file.specs.declared.machine.ScanReader.{ScanReader}
+use Rattle.jpg_file.specs.declared.machine.ScanReader.TheVariants.{Sequential}
+use Rattle.jpg_file.specs.declared.rows.RowStep.{RowStep}
+use Rattle.jpg_file.specs.declared.rows.RowWork.{RowWork}
+
+abbrev pub counted : RowWork → ℕ → RowWork
+counted w units = record w { left = w.left - units }
+
+-- so many of its units are whole; the row is whole where none is left, and only then bits wait
+pub record CountsRow (w : RowWork) (m : ScanReader) (answer : RowStep) (new : RowWork) (after : ScanReader) : Type 0 where
+  pub tops : new.tops ≡ w.tops
+  pub steps : new.steps ≡ w.steps
+  pub units : new.units ≡ w.units
+  pub later : new.later ≡ w.later
+  pub passed : ℕ
+  pub left : w.left ≡ new.left + passed
+  pub old_machine : SeqReader
+  pub new_machine : SeqReader
+  pub old_is : m ≡ Sequential old_machine
+  pub new_is : after ≡ Sequential new_machine
+  pub cursor : new_machine.cursor ≡ drop passed old_machine.cursor
+  pub whole : answer.row ≡ (new.left == 0)
+  pub wait : 1 ≤ length new.waiting → new.left ≡ 0

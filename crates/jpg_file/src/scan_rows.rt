@@ -1,0 +1,76 @@
+// The data of a scan, read MCU row by MCU row (T.81, A.2.3, B.1.1.5).
+ghost use Rattle.std.specs.Prelude.{◌≡◌, ◌<◌, ◌≤◌, [], false, true, length};
+ghost use Rattle.jpg_file.specs.InData.{ArePlain};
+ghost use Rattle.jpg_file.specs.RowCounts.{CountsRow};
+ghost use Rattle.jpg_file.specs.RowData.{IsHalfRow, IsInsideRow, IsRowData, TakesByteInRow, TakesRestInRow, TakesRunInRow, scan_answer, work_after};
+
+use crate::data::DataStep;
+use crate::rows::RowWork;
+use crate::scan::{InScan, ScanStep, ScanWork, named};
+use jpg_base::BitStore;
+use jpg_huff::Passed;
+use jpg_spec::Fault;
+
+impl ScanWork {
+    // Notes what data came to.
+    fn stepped(&mut self, step: DataStep) -> ScanStep
+        ensures answer { result ≡ scan_answer step }
+        ensures work { self.new ≡ work_after self.old self.old.machine step }
+    {
+        match step {
+            DataStep::More => ScanStep::More,
+            DataStep::Whole => {
+                self.whole = true;
+                ScanStep::More
+            }
+            DataStep::Fault(fault) => ScanStep::Fault(named(fault)),
+        }
+    }
+}
+
+impl InScan {
+    /// Takes a byte of the file, and tells whether the MCU row is whole with it.
+    pub fn byte_in_row(&mut self, rows: &mut RowWork, byte: u8) -> (ScanStep, bool)
+        requires inside { IsRowData self.old rows.old }
+        requires none { rows.old.waiting ≡ [] }
+        ensures { TakesByteInRow self.old rows.old byte result.0 self.new rows.new }
+    {
+        match self.gate.byte(byte) {
+            Passed::More => (ScanStep::More, false),
+            Passed::Data(data) => {
+                if self.work.whole {
+                    return (ScanStep::Fault(Fault::ExtraData), false);
+                }
+                let mut store = BitStore::new();
+                store.push(data);
+                let got = rows.take(&mut self.work.machine, store);
+                (self.work.stepped(got.step), got.row)
+            }
+            Passed::Marker(code) => (self.work.marker(code), false),
+        }
+    }
+
+    /// Takes the bits that wait behind the last MCU row, and tells whether a further one is whole with them.
+    pub fn rest_in_row(&mut self, rows: &mut RowWork) -> (ScanStep, bool)
+        requires { IsHalfRow self.old rows.old }
+        ensures { TakesRestInRow self.old rows.old result.0 self.new rows.new }
+    {
+        let got = rows.take_waiting(&mut self.work.machine);
+        (self.work.stepped(got.step), got.row)
+    }
+
+    /// Takes plain bytes from the front of a stretch, and tells how many, and whether the MCU row is whole with the last of them.
+    pub fn run_in_row(&mut self, rows: &mut RowWork, run: &[u8]) -> (usize, ScanStep, bool)
+        requires inside { IsRowData self.old rows.old }
+        requires gate { self.old.gate ≡ false }
+        requires due { self.old.work.whole ≡ false }
+        requires some { 1 ≤ length run.now }
+        requires few { length run.now < 4294967296 }
+        requires plain { ArePlain run.now }
+        requires none { rows.old.waiting ≡ [] }
+        ensures { TakesRunInRow self.old rows.old run.now result.0 result.1 self.new rows.new }
+    {
+        let (n, got) = rows.take_bytes(&mut self.work.machine, run);
+        (n, self.work.stepped(got.step), got.row)
+    }
+}

@@ -1,0 +1,29 @@
+-- Image files that are read piece by piece.
+use Rattle.std.specs.Prelude.{◌≡◌, ℕ, ◌<◌, ◌≤◌, List, ◌++◌, length, Result, Ok, Err}
+use Rattle.jpg_base.specs.declared.stop.Stop.{Stop}
+use Rattle.jpg_base.specs.declared.stop.Stop.TheVariants as stop
+use Rattle.jpg_spec.specs.declared.frame.Limits.{Limits}
+use Rattle.jpg_spec.specs.ImageFaults.{IsImage, IsImageFault}
+use Rattle.jpg_spec.specs.ImageSteps.{at_start, run}
+use Rattle.jpg_pnm_bmp.specs.Reader.{standing, image_told}
+use Rattle.jpg_pnm_bmp.specs.declared.piece.Fed2.{Fed2}
+use Rattle.jpg_pnm_bmp.specs.declared.piece.Fed2.TheVariants as fed
+use Rattle.jpg_pnm_bmp.specs.declared.work.Work.{Work}
+
+-- it was given these bytes, so many
+pub record HasRead (bytes : List ℕ) (taken : ℕ) (w : Work) : Type 0 where
+  pub stands : standing w ≡ run at_start bytes
+  pub taken_is : taken ≡ length bytes
+
+-- What a further piece led to, whatever follows it, for all limits that the bytes are within.
+abbrev pub AfterPiece : List ℕ → List ℕ → Result Fed2 Stop → Work → Type 0
+AfterPiece bytes piece (Ok fed.More) w = standing w ≡ run at_start (bytes ++ piece)
+AfterPiece bytes piece (Ok fed.Done) w = (limits : Limits) (rest : List ℕ) → length (bytes ++ piece) ≤ limits.input → IsImage limits ((bytes ++ piece) ++ rest) (image_told w)
+AfterPiece bytes piece (Err (stop.Fault f)) w = (limits : Limits) (rest : List ℕ) → length (bytes ++ piece) ≤ limits.input → IsImageFault limits ((bytes ++ piece) ++ rest) f.fault f.at
+AfterPiece bytes piece (Err stop.NoMemory) w = Unit {0}
+
+-- What is told where the input ends, for all limits that the bytes are below.
+abbrev pub AfterEnd : List ℕ → Result (Unit {0}) Stop → Work → Type 0
+AfterEnd bytes (Ok u) w = (limits : Limits) → length bytes < limits.input → IsImage limits bytes (image_told w)
+AfterEnd bytes (Err (stop.Fault f)) w = (limits : Limits) → length bytes < limits.input → IsImageFault limits bytes f.fault f.at
+AfterEnd bytes (Err stop.NoMemory) w = Unit {0}

@@ -1,5 +1,0 @@
-use Rattle.jpg_prog_read.proofs.DcLooked.{AreOf}
-use Rattle.jpg_prog_read.proofs.dc_looks.DcLooks.of.Given as goal
-
-abbrev pub invariant-loop-slot : goal.invariant-loop-slot
-invariant-loop-slot l = AreOf l.tables l.each

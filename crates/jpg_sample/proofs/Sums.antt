@@ -1,0 +1,115 @@
+-- Sums that are added up one after another, and means of them.
+use Rattle.std.proofs.Common.{◌≡◌, ℕ, zero, suc, ◌+◌, ◌-◌, ◌*◌, ◌/◌, ◌%◌, ◌<◌, ◌≤◌, min, List, [], ◌∷◌, ◌++◌, length, take, set, slice_index, map, add-one, refl, sym, ap, ◌∙◌, arith, ⊎_elim, Bool}
+use Rattle.std.specs.Prelude.{sum_by, nat_lt, if◌then◌else◌}
+use Rattle.std.proofs.lemmas.Bool.{cases_lt}
+use Rattle.std.proofs.lemmas.Nat.{div_below, mul-le}
+use Rattle.std.proofs.lemmas.List.{take_more_set, take_all, map-append, length-take-le, get_or-take}
+use Rattle.std.proofs.lemmas.List.Sums.{sum_by-append}
+use Rattle.jpg_spec.specs.Lists.{below}
+use Rattle.jpg_spec.specs.Downsampling.{mean_of, edge_repeated, in_rows, sum_under, narrowed, down_rows}
+use Rattle.jpg_spec.proofs.Common.{lt_yes, lt_no}
+use Rattle.jpg_spec.proofs.Rows.{by_items}
+use Rattle.jpg_sample.specs.Means.{row_part, block_part}
+
+sum_one : (f : ℕ → ℕ) (n : ℕ) → sum_by f (n ∷ []) ≡ f n
+sum_one f n = omega arith
+
+pub sum_more : (f : ℕ → ℕ) (n : ℕ) → sum_by f (below (n + 1)) ≡ sum_by f (below n) + f n
+sum_more f n = ap (λ m. sum_by f (below m)) (add-one n) ∙ sum_by-append f (below n) (n ∷ []) ∙ ap (λ s. sum_by f (below n) + s) (sum_one f n)
+
+pub sum_alike : (f g : ℕ → ℕ) (n : ℕ) → ((k : ℕ) → k < n → f k ≡ g k) → sum_by f (below n) ≡ sum_by g (below n)
+sum_alike f g zero same = refl
+sum_alike f g (suc n) same =
+    sum_by-append f (below n) (n ∷ []) ∙ ap (λ s. sum_by f (below n) + s) (sum_one f n)
+    ∙ ap (λ s. s + f n) (sum_alike f g n (λ k h. same k (omega (arith, h)))) ∙ ap (λ s. sum_by g (below n) + s) (same n (omega arith))
+    ∙ sym (sum_by-append g (below n) (n ∷ []) ∙ ap (λ s. sum_by g (below n) + s) (sum_one g n))
+
+-- the first column under column x
+pub first_alike : (x width across u : ℕ) → 1 ≤ across → 1 ≤ width → min ((if nat_lt x width then across * x else width) + u) (width - 1) ≡ min (across * x + u) (width - 1)
+first_alike x width across u some wide =
+    ⊎_elim
+    (λ (a : x < width). ap (λ (t : Bool). min ((if t then across * x else width) + u) (width - 1)) (lt_yes x width a))
+    (λ (b : width ≤ x). (let m : 1 * x ≤ across * x = mul-le 1 x across x some (omega arith) in
+    ap (λ (t : Bool). min ((if t then across * x else width) + u) (width - 1)) (lt_no x width b) ∙ omega (arith, m, b, wide)))
+    (cases_lt x width)
+
+-- the samples under column x
+pub under_is : (rows : List ℕ) (width across down x : ℕ) → 1 ≤ across → 1 ≤ width
+    → block_part rows width across down (if nat_lt x width then across * x else width) ≡ sum_under across down (edge_repeated width down (in_rows width rows)) x 0
+under_is rows width across down x some wide =
+    sum_alike (row_part rows width across (if nat_lt x width then across * x else width)) (λ v. sum_by (λ u. edge_repeated width down (in_rows width rows) (across * x + u) (down * 0 + v)) (below across)) down
+    (λ v lv. sum_alike (λ u. slice_index rows (v * width + min ((if nat_lt x width then across * x else width) + u) (width - 1)))
+    (λ u. edge_repeated width down (in_rows width rows) (across * x + u) (down * 0 + v)) across
+    (λ u lu. (let e : min (down * 0 + v) (down - 1) ≡ v = omega (arith, lv) in
+    ap (λ m. slice_index rows (v * width + m)) (first_alike x width across u some wide) ∙ ap (λ w. slice_index rows (w * width + min (across * x + u) (width - 1))) (sym e))))
+
+pub one_mean : (rows : List ℕ) (width across down x first sum r : ℕ) → 1 ≤ across → 1 ≤ width → first ≡ (if nat_lt x width then across * x else width)
+    → sum ≡ block_part rows width across down first → r ≡ mean_of across down x sum → r ≡ narrowed across down (edge_repeated width down (in_rows width rows)) x 0
+one_mean rows width across down x first sum r some wide ef es er =
+    er ∙ ap (mean_of across down x) (es ∙ ap (block_part rows width across down) ef ∙ under_is rows width across down x some wide)
+
+-- one sample more of the row
+pub mean_more : (f : ℕ → ℕ) (out : List ℕ) (x r : ℕ) → x < length out → take x out ≡ map f (below x) → r ≡ f x → take (x + 1) (set out x r) ≡ map f (below (x + 1))
+mean_more f out x r lt e is =
+    take_more_set out x r lt ∙ ap (λ ys. ys ++ r ∷ []) e ∙ ap (λ y. map f (below x) ++ y ∷ []) is ∙ sym (map-append f (below x) (x ∷ [])) ∙ ap (λ m. map f (below m)) (sym (add-one x))
+
+pub row_done : (across down width : ℕ) (rows out : List ℕ) (x n : ℕ) → length out ≡ n → x ≡ n
+    → take x out ≡ map (λ k. narrowed across down (edge_repeated width down (in_rows width rows)) k 0) (below x) → out ≡ down_rows across down width rows n
+unfolding down_rows
+row_done across down width rows out x n long is e =
+    sym (take_all x out (omega (arith, long, is))) ∙ e ∙ ap (λ m. map (λ k. narrowed across down (edge_repeated width down (in_rows width rows)) k 0) (below m)) is
+
+pub small_mean : (sum count : ℕ) → 1 ≤ count → sum ≤ 255 * count → (sum + count / 2) / count < 256
+small_mean sum count some h = div_below (sum + count / 2) count 256 (omega (arith, some)) (omega (arith, h, some))
+
+pub sum_added : (f : ℕ → ℕ) (n sum more : ℕ) → sum ≡ sum_by f (below n) → more ≡ f n → sum + more ≡ sum_by f (below (n + 1))
+sum_added f n sum more e is = ap (λ s. s + more) e ∙ ap (λ m. sum_by f (below n) + m) is ∙ sym (sum_more f n)
+
+pub sum_bound : (across v sum more : ℕ) → sum ≤ 255 * across * v → more ≤ 255 * across → sum + more ≤ 255 * across * (v + 1)
+sum_bound across v sum more h m = (let e : 255 * across * (v + 1) ≡ 255 * across * v + 255 * across = grind arith in omega (arith, h, m, e))
+
+pub all_count : (across down count : ℕ) → count ≡ across * down → 255 * across * down ≡ 255 * count
+all_count across down count e = (let m : 255 * across * down ≡ 255 * (across * down) = grind arith in m ∙ ap (λ n. 255 * n) (sym e))
+
+-- the mean of four whose columns are there
+pub quarter_is : (rows : List ℕ) (width x r : ℕ) → 2 * x + 1 < width
+    → r ≡ (slice_index rows (2 * x) + slice_index rows (2 * x + 1) + (slice_index rows (width + 2 * x) + slice_index rows (width + 2 * x + 1)) + (1 + x % 2)) / 4
+    → r ≡ narrowed 2 2 (edge_repeated width 2 (in_rows width rows)) x 0
+quarter_is rows width x r there er =
+    let plane : ℕ → ℕ → ℕ = edge_repeated width 2 (in_rows width rows) in
+    let e00 : plane (2 * x + 0) 0 ≡ slice_index rows (2 * x) = ap (slice_index rows) (omega (arith, there)) in
+    let e10 : plane (2 * x + 1) 0 ≡ slice_index rows (2 * x + 1) = ap (slice_index rows) (omega (arith, there)) in
+    let e01 : plane (2 * x + 0) 1 ≡ slice_index rows (width + 2 * x) = ap (slice_index rows) (omega (arith, there)) in
+    let e11 : plane (2 * x + 1) 1 ≡ slice_index rows (width + 2 * x + 1) = ap (slice_index rows) (omega (arith, there)) in
+    let s : sum_under 2 2 plane x 0 ≡ slice_index rows (2 * x) + slice_index rows (2 * x + 1) + (slice_index rows (width + 2 * x) + slice_index rows (width + 2 * x + 1)) = omega (arith, e00, e10, e01, e11) in
+    er ∙ sym (ap (λ n. (n + (1 + x % 2)) / 4) s)
+
+pub quarter_as : (rows : List ℕ) (width x a b c d r : ℕ) → 2 * x + 1 < width → a ≡ slice_index rows (2 * x) → b ≡ slice_index rows (2 * x + 1) → c ≡ slice_index rows (width + 2 * x) → d ≡ slice_index rows (width + 2 * x + 1)
+    → r ≡ (a + b + (c + d) + (1 + x % 2)) / 4 → r ≡ narrowed 2 2 (edge_repeated width 2 (in_rows width rows)) x 0
+quarter_as rows width x a b c d r there ea eb ec ed er =
+    quarter_is rows width x r there (er ∙ ap (λ n. (n + (1 + x % 2)) / 4) (omega (arith, ea, eb, ec, ed)))
+
+-- one sample alone
+single_is : (rows : List ℕ) (width x : ℕ) → x < width → narrowed 1 1 (edge_repeated width 1 (in_rows width rows)) x 0 ≡ slice_index rows x
+single_is rows width x there =
+    let plane : ℕ → ℕ → ℕ = edge_repeated width 1 (in_rows width rows) in
+    let e : plane (1 * x + 0) 0 ≡ slice_index rows x = ap (slice_index rows) (omega (arith, there)) in
+    let s : sum_under 1 1 plane x 0 ≡ slice_index rows x = omega (arith, e) in
+    let q : (n : ℕ) → (n + 0) / 1 ≡ n = λ n. omega arith in
+    ap (λ n. (n + 0) / 1) s ∙ q (slice_index rows x)
+
+pub copy_is : (rows : List ℕ) (width n : ℕ) → n ≤ width → length rows ≡ width → take n rows ≡ down_rows 1 1 width rows n
+unfolding down_rows
+copy_is rows width n few long =
+    sym (by_items n (λ x. narrowed 1 1 (edge_repeated width 1 (in_rows width rows)) x 0) (take n rows) 0 (length-take-le n rows (omega (arith, few, long)))
+    (λ i h. single_is rows width i (omega (arith, h, few)) ∙ sym (get_or-take n rows i 0 h)))
+
+-- the mean of two whose columns are there
+pub half_as : (rows : List ℕ) (width x a b r : ℕ) → 2 * x + 1 < width → a ≡ slice_index rows (2 * x) → b ≡ slice_index rows (2 * x + 1) → r ≡ (a + b + x % 2) / 2
+    → r ≡ narrowed 2 1 (edge_repeated width 1 (in_rows width rows)) x 0
+half_as rows width x a b r there ea eb er =
+    let plane : ℕ → ℕ → ℕ = edge_repeated width 1 (in_rows width rows) in
+    let e0 : plane (2 * x + 0) 0 ≡ slice_index rows (2 * x) = ap (slice_index rows) (omega (arith, there)) in
+    let e1 : plane (2 * x + 1) 0 ≡ slice_index rows (2 * x + 1) = ap (slice_index rows) (omega (arith, there)) in
+    let s : sum_under 2 1 plane x 0 ≡ a + b = omega (arith, e0, e1, ea, eb) in
+    er ∙ sym (ap (λ n. (n + x % 2) / 2) s)

@@ -1,0 +1,42 @@
+use Rattle.std.proofs.Common.{rules, ◌≡◌, ◌++◌, ◌-◌, List, Bool, length, ap, sym, ◌∙◌, subst, arith}
+use Rattle.std.proofs.lemmas.List.{length-append}
+use Rattle.jpg_spec.specs.Bits.{bits_of_bytes}
+use Rattle.jpg_seq.specs.Source.{bits_in}
+use Rattle.jpg_seq.specs.Reader.{with_work}
+use Rattle.jpg_seq.specs.RowTaken.{TakesInRow}
+use Rattle.jpg_seq.specs.Work.{Work}
+use Rattle.jpg_seq.proofs.Sources.{bytes_long, source_long, new_source, taken_count}
+use Rattle.jpg_seq.proofs.reader.SeqReader.bytes_in_row.Goals as goal
+
+pub len-requires : goal.len-requires
+len-requires c =
+    let o = c.requires.open in let rest = c.read_in_row-taken.new.source in let new = with_work c.read_in_row-taken.new.self c.read_in_row-taken.new.unit in
+    let all = new_source c.new.result c.args.bytes.now c.new.ensures in
+    let U : Work → Type 0 = λ w. TakesInRow c.args.most c.args.tops.now (with_work c.args.self.now w) c.args.row.now (bits_in (record { store = c.new.result; bytes = c.args.bytes })) c.read_in_row-taken.result new c.read_in_row-taken.new.row (bits_in rest) in
+    let whole = subst U c.copy-unit.ensures c.read_in_row-taken.ensures.takes in
+    let t = (whole o.0 o.1 o.2).2 in
+    omega (arith, ap length (sym all ∙ t.1), length-append t.0 (bits_in rest), source_long rest, bytes_long c.args.bytes.now, c.requires.few)
+
+pub overflow_sub-result : goal.overflow_sub-result
+overflow_sub-result c =
+    let o = c.requires.open in let rest = c.read_in_row-taken.new.source in let new = with_work c.read_in_row-taken.new.self c.read_in_row-taken.new.unit in
+    let all = new_source c.new.result c.args.bytes.now c.new.ensures in
+    let U : Work → Type 0 = λ w. TakesInRow c.args.most c.args.tops.now (with_work c.args.self.now w) c.args.row.now (bits_in (record { store = c.new.result; bytes = c.args.bytes })) c.read_in_row-taken.result new c.read_in_row-taken.new.row (bits_in rest) in
+    let whole = subst U c.copy-unit.ensures c.read_in_row-taken.ensures.takes in
+    let t = (whole o.0 o.1 o.2).2 in
+    omega (arith, c.len-all.ensures, c.len.ensures, ap length t.1, length-append t.0 (bits_in rest))
+
+pub returns-clause-takes : goal.returns-clause-takes
+returns-clause-takes c =
+    let o = c.requires.open in let rest = c.read_in_row-taken.new.source in let new = with_work c.read_in_row-taken.new.self c.read_in_row-taken.new.unit in
+    let all = new_source c.new.result c.args.bytes.now c.new.ensures in
+    let U : Work → Type 0 = λ w. TakesInRow c.args.most c.args.tops.now (with_work c.args.self.now w) c.args.row.now (bits_in (record { store = c.new.result; bytes = c.args.bytes })) c.read_in_row-taken.result new c.read_in_row-taken.new.row (bits_in rest) in
+    let whole = subst U c.copy-unit.ensures c.read_in_row-taken.ensures.takes in
+    let t = (whole o.0 o.1 o.2).2 in
+    let count = taken_count c.args.bytes.now t.0 (bits_in rest) (c.len-all.result - c.len.result) c.len.result (sym all ∙ t.1) (omega (arith, c.len-all.ensures, ap length all)) c.len.ensures in
+    let T : List Bool → Type 0 = λ x. TakesInRow c.args.most c.args.tops.now c.args.self.now c.args.row.now (bits_of_bytes c.args.bytes.now) c.read_in_row-taken.result new c.read_in_row-taken.new.row x in
+    let S : List Bool → Type 0 = λ x. TakesInRow c.args.most c.args.tops.now c.args.self.now c.args.row.now x c.read_in_row-taken.result new c.read_in_row-taken.new.row (bits_in rest) in
+    subst T count (subst S all whole)
+
+pub returns-clause-within : goal.returns-clause-within
+returns-clause-within c = omega (arith, c.len-all.ensures, source_long (record { store = c.new.result; bytes = c.args.bytes }), ap length c.new.ensures)

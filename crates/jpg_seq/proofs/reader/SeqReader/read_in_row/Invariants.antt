@@ -1,0 +1,10 @@
+use Rattle.jpg_seq.specs.Reader.{with_work}
+use Rattle.jpg_seq.specs.Source.{bits_in}
+use Rattle.jpg_seq.specs.RowTaken.{ReadsRow}
+use Rattle.jpg_seq.proofs.reader.SeqReader.read_in_row.Given as goal
+
+abbrev pub invariant-loop-fault : goal.invariant-loop-fault
+invariant-loop-fault l = ReadsRow l.most l.tops (with_work l.fn.self l.fn.unit) l.fn.row (bits_in l.fn.source) (with_work l.self l.unit) l.row (bits_in l.source) l.done
+
+abbrev pub decreases-loop-fault : goal.decreases-loop-fault
+decreases-loop-fault l = l.self.left

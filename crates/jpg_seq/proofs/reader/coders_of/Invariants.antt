@@ -1,5 +1,0 @@
-use Rattle.jpg_seq.specs.NewReader.{AreFilled}
-use Rattle.jpg_seq.proofs.reader.coders_of.Given as goal
-
-abbrev pub invariant-loop-part : goal.invariant-loop-part
-invariant-loop-part l = AreFilled l.tables l.parts l.part-index l.coders

@@ -1,0 +1,60 @@
+-- One row of the MCUs of a picture, whose blocks stand alone (T.81, A.2.3).
+use Rattle.std.specs.Prelude.{◌≡◌, ℕ, ◌+◌, ◌-◌, ◌*◌, ◌≤◌, ◌<◌, ◌==◌, if◌then◌else◌, true, List, [], ◌∷◌, drop, length, map, flat_map, slice_index_or, All}
+use Rattle.jpg_spec.specs.Lists.{below}
+use Rattle.jpg_spec.specs.Geometry.{Frame, blocks_across, component_at, mcu_part, mcu_row_frame, mcu_units, mcus_across, padded_blocks, place, scan_mcus_across, units}
+use Rattle.jpg_spec.specs.declared.frame.Place.{Place}
+use Rattle.jpg_spec.specs.FrameHeader.{IsFrame}
+use Rattle.jpg_base.specs.Cursor.{AreIn, IsPadded, scan_mcus_down}
+use Rattle.jpg_coefs.specs.Picture.{Picture, is_padded, map_of}
+
+-- the row of a component's grid at which the MCU row begins
+abbrev pub top_of : List ℕ → ℕ → ℕ
+top_of tops i = slice_index_or tops i 0
+
+-- The blocks of the MCU row that begins at these rows are those of the picture.
+pub record IsRowOf (tops : List ℕ) (whole row : Picture) : Type 0 where
+  pub framed : row.frame ≡ mcu_row_frame whole.frame
+  pub count : length whole.blocks ≡ padded_blocks whole.frame
+  pub blocks : (i x y : ℕ) → is_padded row.frame i x y ≡ true → map_of row i x y ≡ map_of whole i x (top_of tops i + y)
+
+-- a place of the picture as it is seen in the MCU row
+abbrev pub lowered : List ℕ → Place → Place
+lowered tops p = record p { y = p.y - top_of tops p.component }
+
+-- it lies in the MCU row
+pub record IsInRow (f : Frame) (tops : List ℕ) (p : Place) : Type 0 where
+  pub below : top_of tops p.component ≤ p.y
+  pub padded : IsPadded f p.component p.x (p.y - top_of tops p.component)
+
+abbrev pub AreInRow : Frame → List ℕ → List Place → Type 0
+AreInRow f tops places = All (IsInRow f tops) places
+
+-- THE MCU ROWS OF A SCAN
+
+-- its places in MCU row k
+abbrev pub scan_row : Frame → List ℕ → ℕ → List Place
+scan_row f [] k = []
+scan_row f (i ∷ []) k = map (λ x. place f i x k) (below (blocks_across f (component_at f i)))
+scan_row f (i ∷ j ∷ more) k = flat_map (λ mx. flat_map (mcu_part f mx k) (i ∷ j ∷ more)) (below (mcus_across f))
+
+-- how many there are
+abbrev pub row_units : Frame → List ℕ → ℕ
+row_units f components = scan_mcus_across f components * mcu_units f components
+
+-- the rows of blocks of component i in an MCU row: one, if it stands alone
+abbrev pub rows_in_mcu : Frame → ℕ → ℕ
+rows_in_mcu f i = if length f.components == 1 then 1 else (component_at f i).v
+
+-- MCU row k begins at these rows of the grids
+abbrev pub BeginAt : Frame → List ℕ → ℕ → Type 0
+BeginAt f tops k = (i : ℕ) → i < length f.components → top_of tops i ≡ k * rows_in_mcu f i
+
+-- From a place of the scan of all components on: `left` of the places are those that are left of MCU row k, which begins at these rows.
+pub record IsNext (f : Frame) (components tops : List ℕ) (places : List Place) (k left : ℕ) : Type 0 where
+  pub frame : IsFrame f
+  pub there : AreIn f components
+  pub all : length components ≡ length f.components
+  pub begins : BeginAt f tops k
+  pub row : k < scan_mcus_down f components
+  pub few : left ≤ row_units f components
+  pub next : places ≡ drop (k * row_units f components + (row_units f components - left)) (units f components)

@@ -1,0 +1,128 @@
+-- The blocks of a picture moved lie in the bounds, and are zeros outside the real grids.
+use Rattle.std.proofs.Common.{◌≡◌, ℕ, suc, ◌<◌, Bool, true, false, cond, ◌&&◌, List, [], ◌∷◌, length, get_or, refl, sym, ap, ◌∙◌, subst, arith, ℤ, pos}
+use Rattle.std.specs.Prelude.{nat_lt, nat_abs, int_le}
+use Rattle.std.proofs.lemmas.List.{length-map}
+use Rattle.jpg_spec.specs.Elements.{IsBlockIn, are_in_bounds, zeros}
+use Rattle.jpg_spec.specs.FrameHeader.{IsFrame}
+use Rattle.jpg_spec.specs.Geometry.{Frame, bounds_of, greatest}
+use Rattle.jpg_spec.specs.Lists.{below}
+use Rattle.jpg_spec.specs.Meaning.{Meaning, picture_frame, real_blocks}
+use Rattle.jpg_spec.specs.Moved.{Choice, Grids, frame_grids, grayed, moved, picture_grids, trimmed}
+use Rattle.jpg_spec.specs.Moves.{component_of, flip_h, flip_v, whole_columns, whole_rows}
+use Rattle.jpg_spec.specs.Ranges.{is_coefficient}
+use Rattle.jpg_spec.specs.Scan.{Blocks}
+use Rattle.jpg_spec.specs.Transforms.{transformed, transpose}
+use Rattle.jpg_spec.specs.declared.transform.Transform.{Transform}
+use Rattle.jpg_spec.specs.declared.transform.Transform.TheVariants.{Keep, FlipH, FlipV, Transpose, Transverse, Rotate90, Rotate180, Rotate270}
+use Rattle.jpg_spec.proofs.Common.{length_below, not_zero}
+use Rattle.jpg_spec.proofs.MovedBounds.{mirrored_down_in, transposed_in}
+use Rattle.jpg_spec.proofs.OutsideZeros.{HasRealBlocks, alone, transformed_real}
+use Rattle.jpg_spec.proofs.SameNumbers.{SameNumbers, is_place, same_places}
+use Rattle.jpg_spec.proofs.Within.{mirrored_in}
+use Rattle.jpg_coefs.specs.Picture.{map_of}
+use Rattle.jpg_file.specs.PictureKept.{component_told}
+use Rattle.jpg_file.specs.PictureRead.{picture_meaning}
+use Rattle.jpg_file.specs.declared.picture.Picture.{Picture}
+use Rattle.jpg_transform.proofs.Planned.{whole_picture}
+use Rattle.jpg_transform.proofs.Showing.{gray_whole, some_across, some_down}
+
+-- IN THE BOUNDS
+
+abbrev AreBounded : Meaning → Type 0
+AreBounded M = (i x y : ℕ) → IsBlockIn (bounds_of 8) (M.blocks i x y)
+
+ac_in : (block : List ℤ) → ((k : ℕ) → is_coefficient (bounds_of 8) (suc k) (get_or block k (pos 0)) ≡ true) → are_in_bounds (bounds_of 8) false block ≡ true
+ac_in [] h = refl
+ac_in (v ∷ block) h =
+    let one : int_le (pos (nat_abs v)) (pos 1023) ≡ true =
+    sym (ap (λ b. cond b (int_le (bounds_of 8).dc_low v && int_le v (bounds_of 8).dc_high) (int_le (pos (nat_abs v)) (bounds_of 8).ac)) (not_zero 0)) ∙ h 0 in
+    ap (λ b. b && are_in_bounds (bounds_of 8) false block) one ∙ ac_in block (λ k. later k (get_or block k (pos 0)) (h (suc k)))
+  where
+    later : (k : ℕ) (w : ℤ) → is_coefficient (bounds_of 8) (suc (suc k)) w ≡ true → is_coefficient (bounds_of 8) (suc k) w ≡ true
+    later k w e =
+        ap (λ b. cond b (int_le (bounds_of 8).dc_low w && int_le w (bounds_of 8).dc_high) (int_le (pos (nat_abs w)) (bounds_of 8).ac)) (not_zero k ∙ sym (not_zero (suc k))) ∙ e
+
+block_in : (block : List ℤ) → length block ≡ 64 → ((k : ℕ) → is_coefficient (bounds_of 8) k (get_or block k (pos 0)) ≡ true) → IsBlockIn (bounds_of 8) block
+block_in [] l h = absurd (omega (arith, l))
+block_in (v ∷ block) l h = (l, ap (λ b. b && are_in_bounds (bounds_of 8) false block) (h 0) ∙ ac_in block (λ k. h (suc k)))
+
+chosen : (b : Bool) (one other : List ℤ) → IsBlockIn (bounds_of 8) one → IsBlockIn (bounds_of 8) other → IsBlockIn (bounds_of 8) (cond b one other)
+chosen true one other is are = is
+chosen false one other is are = are
+
+real_bounded : (f : Frame) (blocks : Blocks) → ((i x y : ℕ) → IsBlockIn (bounds_of 8) (blocks i x y)) → (i x y : ℕ) → IsBlockIn (bounds_of 8) (real_blocks f blocks i x y)
+real_bounded f blocks are i x y = chosen (is_place f i x y) (blocks i x y) (zeros 64) (are i x y) (refl, refl)
+
+across_bounded : (M : Meaning) → AreBounded M → AreBounded (flip_h M)
+across_bounded M are i x y = chosen (nat_lt x (whole_columns M i)) _ _ (mirrored_in (bounds_of 8) _ (are i _ y)) (are i x y)
+
+down_bounded : (M : Meaning) → AreBounded M → AreBounded (flip_v M)
+down_bounded M are i x y = chosen (nat_lt y (whole_rows M i)) _ _ (mirrored_down_in (bounds_of 8) _ (are i x _)) (are i x y)
+
+over_bounded : (M : Meaning) → AreBounded M → AreBounded (transpose M)
+over_bounded M are i x y = transposed_in (bounds_of 8) (M.blocks i y x) (are i y x)
+
+turned_bounded : (t : Transform) (M : Meaning) → AreBounded M → AreBounded (transformed t M)
+turned_bounded Keep M are = are
+turned_bounded FlipH M are = across_bounded M are
+turned_bounded FlipV M are = down_bounded M are
+turned_bounded Transpose M are = over_bounded M are
+turned_bounded Rotate90 M are = across_bounded (transpose M) (over_bounded M are)
+turned_bounded Rotate270 M are = over_bounded (flip_h M) (across_bounded M are)
+turned_bounded Rotate180 M are = across_bounded (flip_v M) (down_bounded M are)
+turned_bounded Transverse M are = over_bounded (flip_h (flip_v M)) (across_bounded (flip_v M) (down_bounded M are))
+
+gray_bounded : (gray : Bool) (M : Meaning) → AreBounded M → AreBounded (grayed gray M)
+gray_bounded false M are = are
+gray_bounded true M are = real_bounded (picture_frame (grayed true M)) M.blocks are
+
+cut_bounded : (trim : Bool) (t : Transform) (M : Meaning) → AreBounded M → AreBounded (trimmed trim t M)
+cut_bounded false t M are = are
+cut_bounded true t M are = real_bounded (picture_frame (trimmed true t M)) M.blocks are
+
+-- those of a picture, moved
+pub moved_bounded : (p : Picture) (c : Choice) (i x y : ℕ) → IsBlockIn (bounds_of 8) ((moved c (picture_meaning p)).blocks i x y)
+moved_bounded p c =
+    let M = picture_meaning p in
+    let own : AreBounded M = real_bounded p.frame (map_of p.coefs) (λ i x y. block_in (map_of p.coefs i x y) (p.keeps.range.sizes i x y) (λ k. p.keeps.range.values i x y k)) in
+    cut_bounded c.trim c.transform (transformed c.transform (grayed c.gray M)) (turned_bounded c.transform (grayed c.gray M) (gray_bounded c.gray M own))
+
+-- ZEROS OUTSIDE
+
+own_real : (p : Picture) → SameNumbers p.frame (picture_frame (picture_meaning p)) → HasRealBlocks (picture_meaning p)
+own_real p same i x y =
+    outer (is_place p.frame i x y) (map_of p.coefs i x y) ∙ ap (λ b. cond b (real_blocks p.frame (map_of p.coefs) i x y) (zeros 64)) (same_places p.frame (picture_frame (picture_meaning p)) i x y same)
+  where
+    outer : (b : Bool) (block : List ℤ) → cond b block (zeros 64) ≡ cond b (cond b block (zeros 64)) (zeros 64)
+    outer true block = refl
+    outer false block = refl
+
+gray_real : (gray : Bool) (M : Meaning) → HasRealBlocks M → HasRealBlocks (grayed gray M)
+gray_real false M real = real
+gray_real true M real = alone (record M { components = record (component_of M 0) { h = 1; v = 1 } ∷ [] })
+
+cut_real : (trim : Bool) (t : Transform) (M : Meaning) → HasRealBlocks M → HasRealBlocks (trimmed trim t M)
+cut_real false t M real = real
+cut_real true t M real = alone (record M { width = (trimmed true t M).width; height = (trimmed true t M).height })
+
+cut_across : (trim : Bool) (t : Transform) (M : Meaning) → (picture_grids (trimmed trim t M)).across ≡ (picture_grids M).across
+cut_across true t M = refl
+cut_across false t M = refl
+
+cut_down : (trim : Bool) (t : Transform) (M : Meaning) → (picture_grids (trimmed trim t M)).down ≡ (picture_grids M).down
+cut_down true t M = refl
+cut_down false t M = refl
+
+-- those of a picture moved, in a frame of its grids
+pub moved_real : (p : Picture) (c : Choice) (out : Frame) → SameNumbers p.frame (picture_frame (picture_meaning p)) → IsFrame out → picture_grids (moved c (picture_meaning p)) ≡ frame_grids out
+    → HasRealBlocks (moved c (picture_meaning p))
+moved_real p c out same is grids =
+    let M = picture_meaning p in
+    let G = grayed c.gray M in
+    let T = transformed c.transform G in
+    let n = length p.frame.components in
+    let some : 0 < length M.components =
+    (let l = length-map (below n) (component_told p.frame p.quants.items) in let m = length_below n in let low = p.keeps.frame.count_low in omega (arith, l, m, low)) in
+    let across : 0 < greatest (picture_grids T).across = subst (λ hs. 0 < greatest hs) (ap (λ (K : Grids). K.across) (sym grids) ∙ cut_across c.trim c.transform T) (some_across out is) in
+    let down : 0 < greatest (picture_grids T).down = subst (λ vs. 0 < greatest vs) (ap (λ (K : Grids). K.down) (sym grids) ∙ cut_down c.trim c.transform T) (some_down out is) in
+    cut_real c.trim c.transform T (transformed_real G c.transform (gray_whole c.gray M some (whole_picture p)) across down (gray_real c.gray M (own_real p same)))
