@@ -1,23 +1,21 @@
 -- What some bytes lead to, by where they begin.
-use Rattle.std.proofs.Common.{◌≡◌, ℕ, ◌+◌, ◌*◌, ◌<◌, ◌≤◌, ◌==◌, Bool, true, false, cond, List, [], ◌∷◌, length, take, get_or, refl, sym, ap, ◌∙◌, subst, arith}
+use Rattle.std.proofs.Common.{◌≡◌, ℕ, ◌*◌, ◌≤◌, ◌==◌, Bool, true, false, cond, List, [], ◌∷◌, length, take, get_or, refl, sym, ap, ◌∙◌, subst, arith}
 use Rattle.std.specs.Prelude.{nat_le}
 use Rattle.jpg_spec.specs.Images.{is_side}
 use Rattle.jpg_spec.specs.PnmText.{is_number_due}
 use Rattle.jpg_spec.specs.BmpFile.{height, width, bmp_depth, used}
-use Rattle.jpg_spec.specs.ImageFaults.{Head, pnm, bmp, body_of, image_of, IsBodyFront}
-use Rattle.jpg_spec.specs.ImageSteps.{ImageState, at_start, in_number, in_body, whole, failed, step, run}
+use Rattle.jpg_spec.specs.ImageFaults.{Head, pnm, bmp, image_of, IsBodyFront}
+use Rattle.jpg_spec.specs.ImageSteps.{ImageState, in_number, in_body, whole, step, run}
 use Rattle.jpg_spec.specs.ImageReading.{StandsFor, InBody}
 use Rattle.jpg_spec.proofs.ImageBodyRuns.{ThreeNumbers, last_three, bmp_sides}
 use Rattle.jpg_spec.proofs.ImageStands.{stands}
 use Rattle.jpg_spec.proofs.Common.{both, le_of}
 use Rattle.jpg_pnm_bmp.specs.Known.{list_of}
-use Rattle.jpg_pnm_bmp.specs.Reader.{standing, standing_of, image_told, image_by, numbers_list, IsReached, Reaches, CanStretch, Stretches}
+use Rattle.jpg_pnm_bmp.specs.Reader.{standing, image_told, IsReached, Reaches, CanStretch, Stretches}
 use Rattle.jpg_pnm_bmp.specs.declared.numbers.Numbers.{Numbers}
 use Rattle.jpg_pnm_bmp.specs.declared.numbers.Numbers.TheVariants.{Nothing, Width, Sides, All}
 use Rattle.jpg_pnm_bmp.specs.declared.work.Answer.{Answer}
 use Rattle.jpg_pnm_bmp.specs.declared.work.Answer.TheVariants as answer
-use Rattle.jpg_pnm_bmp.specs.declared.work.Stage.{Stage}
-use Rattle.jpg_pnm_bmp.specs.declared.work.Stage.TheVariants as stage
 use Rattle.jpg_pnm_bmp.specs.declared.work.Moved.{Moved}
 use Rattle.jpg_pnm_bmp.specs.declared.work.Work.{Work}
 use Rattle.jpg_pnm_bmp.proofs.Stretch.{first_run}

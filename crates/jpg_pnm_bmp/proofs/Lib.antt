@@ -2,6 +2,10 @@ pub mod BmpParts
 pub mod Digits
 pub mod FileSize
 pub mod HeldRows
+pub mod ImageBytes
+pub mod ImageMade
+pub mod ImageRight
+pub mod MadeSamples
 pub mod TurnedRound
 pub mod Written
 pub mod Advance

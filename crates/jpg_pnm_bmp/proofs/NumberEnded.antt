@@ -1,11 +1,11 @@
 -- What stands behind the last number of a PNM text.
-use Rattle.std.proofs.Common.{◌≡◌, ℕ, ◌+◌, ◌<◌, ◌==◌, Bool, true, false, cond, List, [], ◌∷◌, ◌++◌, length, refl, sym, ap, ◌∙◌, subst, arith}
+use Rattle.std.proofs.Common.{◌≡◌, ℕ, ◌+◌, ◌==◌, Bool, true, false, cond, List, [], ◌∷◌, ◌++◌, length, refl, sym, ap, ◌∙◌, arith}
 use Rattle.std.specs.Prelude.{nat_lt}
 use Rattle.jpg_spec.proofs.Common.{lt_yes, lt_no}
 use Rattle.jpg_spec.specs.Images.{sample_count}
 use Rattle.jpg_spec.specs.PnmText.{is_plain, pnm_info, is_number_due}
 use Rattle.jpg_spec.specs.ImageFaults.{pnm, image_of}
-use Rattle.jpg_spec.specs.ImageSteps.{ImageState, in_gap, in_body, whole, plain_image, behind_number}
+use Rattle.jpg_spec.specs.ImageSteps.{in_gap, in_body, whole, plain_image, behind_number}
 use Rattle.jpg_pnm_bmp.specs.Known.{list_of}
 use Rattle.jpg_pnm_bmp.specs.Reader.{numbers_list, AddsNumber}
 use Rattle.jpg_pnm_bmp.specs.declared.numbers.Numbers.{Numbers}

@@ -3,6 +3,8 @@ pub mod EndState
 pub mod Ends
 pub mod Written
 pub mod Known
+pub mod Made
 pub mod Pieces
+pub mod PixelsRead
 pub mod Reader
 pub mod Shapes

@@ -3,6 +3,7 @@ use Rattle.std.specs.Prelude.{◌≡◌, ℕ, ◌<◌, ◌≤◌, List, ◌++◌
 use Rattle.jpg_base.specs.declared.stop.Stop.{Stop}
 use Rattle.jpg_base.specs.declared.stop.Stop.TheVariants as stop
 use Rattle.jpg_spec.specs.declared.frame.Limits.{Limits}
+use Rattle.jpg_spec.specs.Images.{Image}
 use Rattle.jpg_spec.specs.ImageFaults.{IsImage, IsImageFault}
 use Rattle.jpg_spec.specs.ImageSteps.{at_start, run}
 use Rattle.jpg_pnm_bmp.specs.Reader.{standing, image_told}
@@ -15,15 +16,21 @@ pub record HasRead (bytes : List ℕ) (taken : ℕ) (w : Work) : Type 0 where
   pub stands : standing w ≡ run at_start bytes
   pub taken_is : taken ≡ length bytes
 
--- What a further piece led to, whatever follows it, for all limits that the bytes are within.
+-- What a further piece led to, whatever follows it, for all limits that the bytes are within; and the image, once it is whole.
+abbrev pub AfterRead : List ℕ → List ℕ → Result Fed2 Stop → Work → Image → Type 0
+AfterRead bytes piece (Ok fed.More) w image = standing w ≡ run at_start (bytes ++ piece)
+AfterRead bytes piece (Ok fed.Done) w image = (limits : Limits) (rest : List ℕ) → length (bytes ++ piece) ≤ limits.input → IsImage limits ((bytes ++ piece) ++ rest) image
+AfterRead bytes piece (Err (stop.Fault f)) w image = (limits : Limits) (rest : List ℕ) → length (bytes ++ piece) ≤ limits.input → IsImageFault limits ((bytes ++ piece) ++ rest) f.fault f.at
+AfterRead bytes piece (Err stop.NoMemory) w image = Unit {0}
+
 abbrev pub AfterPiece : List ℕ → List ℕ → Result Fed2 Stop → Work → Type 0
-AfterPiece bytes piece (Ok fed.More) w = standing w ≡ run at_start (bytes ++ piece)
-AfterPiece bytes piece (Ok fed.Done) w = (limits : Limits) (rest : List ℕ) → length (bytes ++ piece) ≤ limits.input → IsImage limits ((bytes ++ piece) ++ rest) (image_told w)
-AfterPiece bytes piece (Err (stop.Fault f)) w = (limits : Limits) (rest : List ℕ) → length (bytes ++ piece) ≤ limits.input → IsImageFault limits ((bytes ++ piece) ++ rest) f.fault f.at
-AfterPiece bytes piece (Err stop.NoMemory) w = Unit {0}
+AfterPiece bytes piece answer w = AfterRead bytes piece answer w (image_told w)
 
 -- What is told where the input ends, for all limits that the bytes are below.
+abbrev pub Ended : List ℕ → Result (Unit {0}) Stop → Image → Type 0
+Ended bytes (Ok u) image = (limits : Limits) → length bytes < limits.input → IsImage limits bytes image
+Ended bytes (Err (stop.Fault f)) image = (limits : Limits) → length bytes < limits.input → IsImageFault limits bytes f.fault f.at
+Ended bytes (Err stop.NoMemory) image = Unit {0}
+
 abbrev pub AfterEnd : List ℕ → Result (Unit {0}) Stop → Work → Type 0
-AfterEnd bytes (Ok u) w = (limits : Limits) → length bytes < limits.input → IsImage limits bytes (image_told w)
-AfterEnd bytes (Err (stop.Fault f)) w = (limits : Limits) → length bytes < limits.input → IsImageFault limits bytes f.fault f.at
-AfterEnd bytes (Err stop.NoMemory) w = Unit {0}
+AfterEnd bytes answer w = Ended bytes answer (image_told w)

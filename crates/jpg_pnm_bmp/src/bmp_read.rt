@@ -1,12 +1,12 @@
 // The header of a BMP image.
-ghost use Rattle.std.specs.Prelude.{◌≡◌, ◌+◌, ◌<◌, ◌≤◌, ◌&&◌, ℕ, List, length};
-ghost use Rattle.jpg_spec.specs.BmpFile.{short_at, long_at, bmp_offset, palette_entries, palette_bytes, is_unread, is_forbidden, bmp_fault, height, used, line};
+ghost use Rattle.std.specs.Prelude.{◌≡◌, ◌+◌, ◌<◌, ◌≤◌, ◌&&◌, ◌==◌, ℕ, List, length};
+ghost use Rattle.jpg_spec.specs.BmpFile.{short_at, long_at, bmp_offset, palette_entries, palette_bytes, is_unread, is_forbidden, bmp_depth, bmp_fault, bmp_info, height, used, line};
 ghost use Rattle.jpg_spec.specs.Images.{is_side, are_few_pixels};
 ghost use Rattle.jpg_spec.specs.ImageFaults.{bmp, body_of};
 ghost use Rattle.jpg_pnm_bmp.specs.Shapes.{body_told};
 
 use crate::body::Shape;
-use jpg_spec::Fault;
+use jpg_spec::{Fault, ImageInfo, ImageKind};
 
 fn short_at(head: &[u8], place: usize) -> u16
     requires { place + 1 < length head.now }
@@ -93,7 +93,7 @@ pub(crate) fn head_fault(head: &[u8]) -> Option<Fault>
     None
 }
 
-fn used(head: &[u8]) -> u64
+pub(crate) fn used(head: &[u8]) -> u64
     requires { 54 ≤ length head.now }
     ensures used { result ≡ used head.now }
     ensures most { result ≤ 12884901885 }
@@ -106,7 +106,7 @@ fn used(head: &[u8]) -> u64
     }
 }
 
-fn line(head: &[u8]) -> u64
+pub(crate) fn line(head: &[u8]) -> u64
     requires { 54 ≤ length head.now }
     ensures line { result ≡ line head.now }
     ensures most { result ≤ 12884901888 }
@@ -133,5 +133,33 @@ pub(crate) fn bmp_shape(head: &[u8]) -> Shape
         line,
         used,
         limit,
+    }
+}
+
+pub(crate) fn bmp_height(head: &[u8]) -> u32
+    requires { 54 ≤ length head.now }
+    ensures { result ≡ height head.now }
+{
+    long_at(head, 22)
+}
+
+// Whether the pixels are places of a palette.
+pub(crate) fn is_indexed(head: &[u8]) -> bool
+    requires { 54 ≤ length head.now }
+    ensures { result ≡ (bmp_depth head.now == 8) }
+{
+    short_at(head, 28) == 8
+}
+
+pub(crate) fn bmp_info(head: &[u8]) -> ImageInfo
+    requires { 54 ≤ length head.now }
+    ensures { result ≡ bmp_info head.now }
+{
+    ImageInfo {
+        width: long_at(head, 18),
+        height: long_at(head, 22),
+        kind: ImageKind::Rgb,
+        x_metre: long_at(head, 38),
+        y_metre: long_at(head, 42),
     }
 }

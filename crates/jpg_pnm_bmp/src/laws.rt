@@ -1,7 +1,11 @@
-// Laws over what an end's calls append, on a function that does nothing.
+// Laws over what an end's calls append, and over images that are read, on functions that do nothing.
 ghost use Rattle.std.specs.Prelude.{◌≡◌, List, ℕ, Ok};
 ghost use Rattle.jpg_spec.specs.declared.image.EndKind.{EndKind};
 ghost use Rattle.jpg_spec.specs.declared.image.ImageInfo.{ImageInfo};
+ghost use Rattle.jpg_spec.specs.Images.{Image as ImageRead};
+ghost use Rattle.jpg_spec.specs.ImageFaults.{IsImage};
+ghost use Rattle.jpg_spec.specs.declared.frame.Limits.{Limits};
+ghost use Rattle.jpg_pnm_bmp.specs.Made.{AreBytes, IsRightImage};
 ghost use Rattle.jpg_pnm_bmp.specs.EndState.{EndState, new_end, CanTakeRow, CanFinish, Starts, Finishes};
 ghost use Rattle.jpg_pnm_bmp.specs.Written.{Image, Wrote, Took, GoesOn, begun, with_next, whole_text};
 ghost use Rattle.jpg_pnm_bmp.specs.declared.end.Finish.TheVariants as finish;
@@ -14,4 +18,10 @@ pub fn images_are_written_whole()
     ensures part { (i : Image) (s t : List ℕ) (e n : EndState) → Wrote e i s → Finishes e s (Ok finish.More) n t → Wrote n i t }
     ensures more { (s t : List ℕ) (e n : EndState) → CanFinish e → Finishes e s (Ok finish.More) n t → GoesOn e n }
     ensures done { (i : Image) (s t : List ℕ) (e n : EndState) → Wrote e i s → Finishes e s (Ok finish.Done) n t → t ≡ whole_text e.kind i }
+{}
+
+/// The sides of an image in a file of bytes are from 1 to 65500, its pixels no more than 268,435,456, and its samples as many as its
+/// numbers say, each a byte.
+pub fn images_are_right()
+    ensures { (limits : Limits) (bytes : List ℕ) (image : ImageRead) → IsImage limits bytes image → AreBytes bytes → IsRightImage image }
 {}

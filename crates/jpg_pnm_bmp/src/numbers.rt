@@ -6,7 +6,7 @@ ghost use Rattle.jpg_spec.specs.Images.{is_side, sample_count, are_few_pixels};
 ghost use Rattle.jpg_spec.specs.PnmText.{is_plain, is_read, is_left_out, is_pnm_space, begins_gap, pnm_info, is_number_due, number_fault};
 ghost use Rattle.jpg_pnm_bmp.specs.Known.{list_of};
 
-use jpg_spec::Fault;
+use jpg_spec::{Fault, ImageInfo, ImageKind};
 
 // None, the width, both sides, or the greatest sample too.
 #[derive(Clone, Copy, Debug, PartialEq, Eq)]
@@ -149,5 +149,22 @@ pub(crate) fn may_follow(format: u8, due: bool, byte: u8) -> bool
         begins_gap(byte)
     } else {
         is_plain(format) || is_space(byte)
+    }
+}
+
+pub(crate) fn pnm_info(format: u8, width: u16, height: u16) -> ImageInfo
+    ensures { (rest : List ℕ) → result ≡ pnm_info format (width ∷ height ∷ rest) }
+{
+    let kind = if is_gray(format) {
+        ImageKind::Gray
+    } else {
+        ImageKind::Rgb
+    };
+    ImageInfo {
+        width: u32::from(width),
+        height: u32::from(height),
+        kind,
+        x_metre: 0,
+        y_metre: 0,
     }
 }

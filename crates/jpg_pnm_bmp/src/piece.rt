@@ -13,9 +13,9 @@ pub enum Fed2 {
     Done,
 }
 
-/// Reads a piece behind bytes that were taken. It answers Done with the byte that makes the last sample known, or the fault that the
-/// bytes show at its place, or that memory is wanting; else More.
-pub fn read_piece(work: &mut Work, taken: u64, piece: &[u8]) -> Result<Fed2, Stop>
+// Reads a piece behind bytes that were taken. It answers Done with the byte that makes the last sample known, or the fault that the
+// bytes show at its place, or that memory is wanting; else More.
+pub(crate) fn read_piece(work: &mut Work, taken: u64, piece: &[u8]) -> Result<Fed2, Stop>
     requires room { taken + length piece.now ≤ 1099511627776 }
     ensures { (bytes : List ℕ) → HasRead bytes taken work.old → AfterPiece bytes piece.now result work.new }
 {
@@ -38,8 +38,8 @@ pub fn read_piece(work: &mut Work, taken: u64, piece: &[u8]) -> Result<Fed2, Sto
     Ok(Fed2::More)
 }
 
-/// The bytes end here. It answers Ok where the image is whole now, or its fault; or that memory is wanting.
-pub fn end_here(work: &mut Work, taken: u64) -> Result<(), Stop>
+// The bytes end here. It answers Ok where the image is whole now, or its fault; or that memory is wanting.
+pub(crate) fn end_here(work: &mut Work, taken: u64) -> Result<(), Stop>
     ensures { (bytes : List ℕ) → HasRead bytes taken work.old → AfterEnd bytes result work.new }
 {
     match work.end() {

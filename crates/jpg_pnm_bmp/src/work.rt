@@ -2,7 +2,7 @@
 ghost use Rattle.std.specs.Prelude.{◌≡◌, ◌<◌, ◌≤◌, ◌++◌, ◌∷◌, [], ℕ, List, length, take, true, false, None, Ok, OnOk};
 ghost use Rattle.jpg_spec.specs.PnmText.{is_number_due, number_fault};
 ghost use Rattle.jpg_spec.specs.ImageFaults.{Head, body_of};
-ghost use Rattle.jpg_spec.specs.ImageSteps.{in_body, first_byte, second_byte, gap_byte, number_byte, behind_number, head_so_far, bmp_front, front_byte, state_end, ended_by, plain_image, run};
+ghost use Rattle.jpg_spec.specs.ImageSteps.{at_start, in_body, first_byte, second_byte, gap_byte, number_byte, behind_number, head_so_far, bmp_front, front_byte, state_end, ended_by, plain_image, run};
 ghost use Rattle.jpg_pnm_bmp.specs.Known.{list_of};
 ghost use Rattle.jpg_pnm_bmp.specs.Reader.{standing, numbers_list, IsReached, KeepsStage, Reaches, AddsNumber, CanStretch, Holds, StretchesBy, EndsAs, number_ended_at};
 ghost use Rattle.jpg_pnm_bmp.specs.Shapes.{body_told};
@@ -71,7 +71,9 @@ fn sample_byte(n: u32, most: u8) -> u8
 }
 
 impl Work {
-    pub fn new(alloc: Global) -> Work {
+    pub fn new(alloc: Global) -> Work
+        ensures { standing result ≡ at_start }
+    {
         Work {
             stage: Stage::Start,
             format: 0,

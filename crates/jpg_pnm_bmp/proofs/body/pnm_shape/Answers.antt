@@ -1,5 +1,5 @@
-use Rattle.std.proofs.Common.{◌≡◌, ℕ, ◌+◌, ◌∷◌, [], refl, sym, ap, ◌∙◌, subst}
-use Rattle.jpg_spec.specs.Images.{Body, sample_count}
+use Rattle.std.proofs.Common.{◌≡◌, ℕ, ◌+◌, ◌∷◌, [], sym, ap, ◌∙◌}
+use Rattle.jpg_spec.specs.Images.{sample_count}
 use Rattle.jpg_spec.specs.PnmText.{pnm_info}
 use Rattle.jpg_spec.specs.ImageFaults.{pnm, body_of, one_line}
 use Rattle.jpg_pnm_bmp.specs.declared.numbers.Numbers.{Numbers}

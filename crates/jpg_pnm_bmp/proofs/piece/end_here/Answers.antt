@@ -1,4 +1,3 @@
-use Rattle.std.proofs.Common.{sym}
 use Rattle.jpg_pnm_bmp.specs.Reader.{image_told}
 use Rattle.jpg_pnm_bmp.proofs.EndRead.{reached_at, image_at_end, fault_at_end}
 use Rattle.jpg_pnm_bmp.proofs.piece.end_here.Goals as goal

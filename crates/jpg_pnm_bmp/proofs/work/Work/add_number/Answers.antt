@@ -1,7 +1,6 @@
-use Rattle.std.proofs.Common.{◌≡◌, ℕ, ◌≤◌, Bool, true, false, cond, List, ◌∷◌, refl, subst, Option, None, Some}
+use Rattle.std.proofs.Common.{◌≡◌, ℕ, ◌≤◌, Bool, true, false, cond, List, ◌∷◌, refl, subst, None, Some}
 use Rattle.std.specs.Prelude.{nat_lt}
 use Rattle.jpg_spec.proofs.Common.{not_lt_of}
-use Rattle.jpg_spec.specs.declared.fault.Fault.{Fault}
 use Rattle.jpg_spec.specs.declared.fault.Fault.TheVariants.{ImageValue}
 use Rattle.jpg_spec.specs.PnmText.{number_fault}
 use Rattle.jpg_pnm_bmp.specs.Known.{list_of}

@@ -1,11 +1,10 @@
-use Rattle.std.proofs.Common.{◌≡◌, ◌≤◌, ℕ, List, [], ◌∷◌, take, get_or, sym, ap, ◌∙◌, subst}
+use Rattle.std.proofs.Common.{◌≡◌, ◌≤◌, [], take, get_or, sym, ap, ◌∙◌, subst}
 use Rattle.jpg_spec.specs.BmpFile.{height}
-use Rattle.jpg_spec.specs.ImageFaults.{Head, pnm, bmp, body_of}
-use Rattle.jpg_spec.specs.ImageSteps.{ImageState, step, run}
+use Rattle.jpg_spec.specs.ImageFaults.{pnm, bmp, body_of}
+use Rattle.jpg_spec.specs.ImageSteps.{step, run}
 use Rattle.jpg_pnm_bmp.specs.Known.{list_of}
 use Rattle.jpg_pnm_bmp.specs.Reader.{standing, standing_of, image_by, numbers_list, IsReached, Reaches}
 use Rattle.jpg_pnm_bmp.specs.Shapes.{body_told}
-use Rattle.jpg_pnm_bmp.specs.declared.work.Work.{Work}
 use Rattle.jpg_pnm_bmp.proofs.Advance.{one_led, due_reached, body_reached, stretch_led, pnm_numbers, pnm_can, bmp_can, bmp_height}
 use Rattle.jpg_pnm_bmp.proofs.work.Work.advance.Goals as goal
 

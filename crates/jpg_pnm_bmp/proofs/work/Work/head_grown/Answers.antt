@@ -1,7 +1,7 @@
 use Rattle.std.proofs.Common.{◌≡◌, ℕ, ◌≤◌, Bool, cond, List, [], length, sym, ap, ◌∙◌, subst, Option, None}
 use Rattle.jpg_spec.proofs.Common.{lt_no}
 use Rattle.jpg_spec.specs.BmpFile.{bmp_fault}
-use Rattle.jpg_spec.specs.ImageSteps.{ImageState, in_bmp_head, fault_or, bmp_front, head_so_far}
+use Rattle.jpg_spec.specs.ImageSteps.{in_bmp_head, fault_or, bmp_front, head_so_far}
 use Rattle.jpg_pnm_bmp.specs.Reader.{Reaches}
 use Rattle.jpg_spec.specs.declared.fault.Fault.{Fault}
 use Rattle.jpg_pnm_bmp.proofs.work.Work.head_grown.Goals as goal

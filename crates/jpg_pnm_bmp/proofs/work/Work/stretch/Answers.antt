@@ -6,9 +6,7 @@ use Rattle.jpg_spec.specs.ImageFaults.{Head, body_of}
 use Rattle.jpg_spec.specs.ImageSteps.{in_body, failed, run}
 use Rattle.jpg_spec.specs.declared.fault.Fault.TheVariants.{ImageValue}
 use Rattle.jpg_pnm_bmp.specs.Shapes.{body_told, AreBelow}
-use Rattle.jpg_pnm_bmp.specs.Reader.{CanStretch, Holds, Stretches}
-use Rattle.jpg_pnm_bmp.specs.declared.work.Answer.{Answer}
-use Rattle.jpg_pnm_bmp.specs.declared.work.Work.{Work}
+use Rattle.jpg_pnm_bmp.specs.Reader.{CanStretch, Holds}
 use Rattle.jpg_pnm_bmp.proofs.Stretch.{PartFits, stretched, wrong_run}
 use Rattle.jpg_pnm_bmp.proofs.work.Work.stretch.Goals as goal
 

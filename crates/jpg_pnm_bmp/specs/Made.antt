@@ -1,0 +1,23 @@
+-- The image that is made of one whose last sample is known.
+use Rattle.std.specs.Prelude.{◌≡◌, ℕ, ◌*◌, ◌<◌, ◌≤◌, List, length, All, Result, Ok, Err}
+use Rattle.jpg_base.specs.declared.names.NoMemory.{NoMemory}
+use Rattle.jpg_spec.specs.Images.{Image, sample_count}
+use Rattle.jpg_spec.specs.declared.image.ImageInfo.{ImageInfo}
+
+abbrev pub AreBytes : List ℕ → Type 0
+AreBytes xs = All (λ b. b < 256) xs
+
+-- its numbers, and its samples, where they are bytes
+abbrev pub Makes : Image → Result ImageInfo NoMemory → List ℕ → Type 0
+Makes image (Ok info) made = (info ≡ image.info) × (AreBytes image.samples → made ≡ image.samples)
+Makes image (Err fault) made = Unit {0}
+
+-- an image within bounds, with as many samples as its numbers say, all of which are bytes
+pub record IsRightImage (image : Image) : Type 0 where
+  pub width_low : 1 ≤ image.info.width
+  pub width_high : image.info.width ≤ 65500
+  pub height_low : 1 ≤ image.info.height
+  pub height_high : image.info.height ≤ 65500
+  pub pixels : image.info.width * image.info.height ≤ 268435456
+  pub count : length image.samples ≡ sample_count image.info
+  pub bytes : AreBytes image.samples

@@ -1,0 +1,172 @@
+// Image files that are read piece by piece (release 6b's image files).
+ghost use Rattle.std.specs.Prelude.{◌≡◌, ◌≤◌, ◌+◌, [], ℕ, List, length, Some, true, false, Ok, Err};
+ghost use Rattle.jpg_base.specs.declared.stop.Stop.{Stop as Stopped};
+ghost use Rattle.jpg_pnm_bmp.specs.PixelsRead.{Reads, EndsRead, image_by_parts};
+
+use crate::make::make_image;
+use crate::piece::{Fed2, end_here, read_piece};
+use crate::work::Work;
+use jpg_base::{Bytes, Stop};
+use jpg_spec::{ImageInfo, ImageKind};
+use std::alloc::Global;
+
+/// An image: its numbers, and its samples by rows from the top, one for each pixel of a gray image, red, green and blue for colours.
+#[derive(Drop)]
+pub struct Image {
+    pub info: ImageInfo,
+    pub samples: Bytes,
+}
+
+/// Reads an image file: P2, P3, P5, P6, or a BMP of 8 or 24 bits a pixel.
+#[derive(Drop)]
+pub struct PixelReader {
+    work: Work,
+    made: Bytes,
+    info: ImageInfo,
+    taken: u64,
+    done: bool,
+    stop: Option<Stop>,
+}
+
+impl PixelReader {
+    ghost use Rattle.jpg_pnm_bmp.specs.PixelsRead.{image_read, pixels_taken, pixels_stop, is_read, HasFed, Feeds, Ends, KeepsDone, EndsDone};
+
+    /// A reader that was given no bytes. It takes no memory yet.
+    pub fn new(alloc: Global) -> PixelReader
+        ensures fed { HasFed [] result }
+        ensures done { is_read result ≡ false }
+        ensures taken { pixels_taken result ≡ 0 }
+    {
+        PixelReader {
+            work: Work::new(alloc),
+            made: Bytes::new(alloc),
+            info: ImageInfo {
+                width: 0,
+                height: 0,
+                kind: ImageKind::Gray,
+                x_metre: 0,
+                y_metre: 0,
+            },
+            taken: 0,
+            done: false,
+            stop: None,
+        }
+    }
+
+    /// Takes a further piece of the file, of any length. It answers Done where it holds the byte that makes the last sample known: what
+    /// stands after that byte is left unread. Else it answers the fault that the bytes so far show, at the number of bytes up to the one
+    /// that shows it: ImageText, ImageUnsupported, ImageHeader or ImageValue; or that there is no memory. Else it answers More. After a
+    /// stop it answers the same stop. It may not be called once the image is whole (`is_read`), and at most 2^40 bytes may be fed in all.
+    pub fn feed(&mut self, piece: &[u8]) -> Result<Fed2, Stop>
+        requires open { is_read self.old ≡ false }
+        requires room { pixels_taken self.old + length piece.now ≤ 1099511627776 }
+        ensures answered { Feeds self.old piece.now result self.new }
+        ensures done { KeepsDone result self.new }
+        ensures stopped { (stop : Stopped) → result ≡ Err stop → pixels_stop self.new ≡ Some stop }
+        ensures again { (stop : Stopped) → pixels_stop self.old ≡ Some stop → (result ≡ Err stop) × (self.new ≡ self.old) }
+        ensures taken { pixels_taken self.new ≤ pixels_taken self.old + length piece.now }
+    {
+        if let Some(stop) = self.stop {
+            return Err(stop);
+        }
+        let answer = read_image(
+            &mut self.work,
+            self.taken,
+            piece,
+            &mut self.info,
+            &mut self.made,
+        );
+        match answer {
+            Ok(Fed2::More) => self.taken += piece.len() as u64,
+            Ok(Fed2::Done) => self.done = true,
+            Err(stop) => self.stop = Some(stop),
+        }
+        answer
+    }
+
+    /// Whether the image is whole.
+    pub fn is_read(&self) -> bool
+        ensures { result ≡ is_read self.now }
+    {
+        self.done
+    }
+
+    /// The file ends here. It answers Ok where the image is whole now, which it is where the last number of P2 or P3 ends with the file;
+    /// else the fault of a number that ends there, ImageUnsupported, ImageHeader or ImageValue; else ImageShort; or the earlier stop. It
+    /// may not be called once the image is whole (`is_read`).
+    pub fn end(&mut self) -> Result<(), Stop>
+        requires { is_read self.old ≡ false }
+        ensures answered { Ends self.old result self.new }
+        ensures done { EndsDone result self.new }
+        ensures stopped { (stop : Stopped) → result ≡ Err stop → pixels_stop self.new ≡ Some stop }
+        ensures again { (stop : Stopped) → pixels_stop self.old ≡ Some stop → (result ≡ Err stop) × (self.new ≡ self.old) }
+    {
+        if let Some(stop) = self.stop {
+            return Err(stop);
+        }
+        let answer = end_image(&mut self.work, self.taken, &mut self.info, &mut self.made);
+        match answer {
+            Ok(()) => self.done = true,
+            Err(stop) => self.stop = Some(stop),
+        }
+        answer
+    }
+
+    /// The image, which must be whole (`is_read`).
+    pub fn take(self) -> Image
+        requires { is_read self ≡ true }
+        ensures { image_by_parts result.info result.samples ≡ image_read self }
+    {
+        Image {
+            info: self.info,
+            samples: self.made,
+        }
+    }
+}
+
+// Reads a piece, and makes the image where it is whole with it.
+fn read_image(
+    work: &mut Work,
+    taken: u64,
+    piece: &[u8],
+    info: &mut ImageInfo,
+    made: &mut Bytes,
+) -> Result<Fed2, Stop>
+    requires { taken + length piece.now ≤ 1099511627776 }
+    ensures { Reads work.old taken piece.now result work.new (image_by_parts info.new made.new) }
+{
+    match read_piece(work, taken, piece) {
+        Ok(fed) => match fed {
+            Fed2::More => Ok(Fed2::More),
+            Fed2::Done => match make_image(work, made) {
+                Ok(numbers) => {
+                    *info = numbers;
+                    Ok(Fed2::Done)
+                }
+                Err(_) => Err(Stop::NoMemory),
+            },
+        },
+        Err(stop) => Err(stop),
+    }
+}
+
+// The bytes end here: makes the image where it is whole now.
+fn end_image(
+    work: &mut Work,
+    taken: u64,
+    info: &mut ImageInfo,
+    made: &mut Bytes,
+) -> Result<(), Stop>
+    ensures { EndsRead work.old taken result (image_by_parts info.new made.new) }
+{
+    match end_here(work, taken) {
+        Ok(()) => match make_image(work, made) {
+            Ok(numbers) => {
+                *info = numbers;
+                Ok(())
+            }
+            Err(_) => Err(Stop::NoMemory),
+        },
+        Err(stop) => Err(stop),
+    }
+}
