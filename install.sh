@@ -4,7 +4,7 @@ set -euo pipefail
 unset CDPATH
 
 kits="rattle-kit-13b or rattle-kit-13f, logic dac8208d650f15bf"
-tools=(jpegtran djpeg rdjpgcom wrjpgcom)
+tools=(jpegtran djpeg cjpeg rdjpgcom wrjpgcom)
 
 usage() {
     cat <<END
@@ -12,8 +12,8 @@ usage() {
 ./install.sh --uninstall [PREFIX]   takes away what was installed there
 ./install.sh --help                 prints this
 
-PREFIX/bin gets jpgsuite, jpegtran, djpeg, rdjpgcom and wrjpgcom, PREFIX/share their manual pages and completions for
-bash and zsh. A file that is there already and isn't of jpgsuite is never replaced: nothing is installed then.
+PREFIX/bin gets jpgsuite, jpegtran, djpeg, cjpeg, rdjpgcom and wrjpgcom, PREFIX/share their manual pages and completions
+for bash and zsh. A file that is there already and isn't of jpgsuite is never replaced: nothing is installed then.
 
 It needs rt, the command of the Rattle kit ($kits), on PATH.
 

@@ -39,6 +39,14 @@ impl Block {
         Block { values: [0; 64] }
     }
 
+    /// These numbers.
+    #[inline(always)]
+    pub fn of(values: [i16; 64]) -> Block
+        ensures { result ≡ values }
+    {
+        Block { values }
+    }
+
     /// The number at place `k`.
     pub fn get(&self, k: u8) -> i16
         requires { k < 64 }

@@ -43,6 +43,20 @@ impl QuantTable {
         QuantTable { values: [1; 64] }
     }
 
+    /// These quantisers.
+    pub fn of(values: [u16; 64]) -> QuantTable
+        ensures { result ≡ values }
+    {
+        QuantTable { values }
+    }
+
+    /// Its quantisers.
+    pub fn values(&self) -> [u16; 64]
+        ensures { result ≡ self.now }
+    {
+        self.values
+    }
+
     /// The quantiser at place `k`.
     pub fn get(&self, k: u8) -> u16
         requires { k < 64 }

@@ -1,11 +1,13 @@
 -- What calls with a whole file come to.
-use Rattle.std.proofs.Common.{◌≡◌, ℕ, ◌<◌, List, [], ◌∷◌, ◌++◌, take, Option, None, Some, Result, Ok, Err, sym, ap, ◌∙◌, subst}
+use Rattle.std.proofs.Common.{◌≡◌, ℕ, List, [], ◌∷◌, ◌++◌, take, Option, Some, Result, Ok, Err, sym, ap, ◌∙◌, subst}
 use Rattle.std.proofs.lemmas.List.{append-nil}
 use Rattle.jpg_spec.specs.CommentText.{IsReadFault}
 use Rattle.jpg_spec.specs.FileStands.{IsWholeFile}
 use Rattle.jpg_spec.specs.Meaning.{Meaning}
 use Rattle.jpg_spec.specs.Moved.{Choice}
 use Rattle.jpg_spec.specs.Segments.{standard_limits}
+use Rattle.jpg_spec.specs.declared.frame.Copying.{Copying}
+use Rattle.jpg_spec.specs.declared.frame.Copying.TheVariants.{All}
 use Rattle.jpg_spec.specs.declared.frame.Limits.{Limits}
 use Rattle.jpg_base.specs.declared.names.Name.{Name}
 use Rattle.jpg_base.specs.declared.names.Name.TheVariants.{Out}
@@ -20,9 +22,12 @@ use Rattle.jpg_comments.specs.Begun.{Appends}
 use Rattle.jpg_comments.specs.Printing.{PrintsWhole}
 use Rattle.jpg_comments.specs.ReadComments.{AfterFeed as AfterComments, StopsAt as CommentsStopAt}
 use Rattle.jpg_comments.specs.declared.comments.Comments.{Comments}
+use Rattle.jpg_file.specs.File.{keeping_of}
+use Rattle.jpg_file.specs.Keeping.{kept_for}
 use Rattle.jpg_file.specs.PictureRead.{TakesPicture}
 use Rattle.jpg_file.specs.ReadFile.{AfterFeed, IsRefusal, ReaderState, StopsAt}
 use Rattle.jpg_file.specs.declared.picture.Picture.{Picture}
+use Rattle.jpg_file.proofs.Keeping.{kept_for_all}
 use Rattle.jpg_callers.specs.Calling.{BeginsWith, HoldsTurned, IsCommentsOf, IsNotTurned, IsPictureOf, IsTurned}
 use Rattle.jpg_callers.specs.declared.pictures.NotTurned.{NotTurned}
 use Rattle.jpg_callers.specs.declared.pictures.NotTurned.TheVariants as unturned
@@ -45,10 +50,11 @@ comments_ended file stop.NoMemory limits e h = tt
 
 -- PICTURES
 
-pub picture_whole : (file : List ℕ) (used : ℕ) (r : ReaderState) (p : Picture) → r.limits ≡ standard_limits → TakesPicture r p → AfterFeed [] file (Ok (fed.Done used)) r → IsPictureOf file (Ok p)
-picture_whole file used r p e takes h =
+pub picture_whole : (file : List ℕ) (used : ℕ) (r : ReaderState) (p : Picture) → r.limits ≡ standard_limits → keeping_of r.file ≡ All → TakesPicture r p → AfterFeed [] file (Ok (fed.Done used)) r → IsPictureOf file (Ok p)
+picture_whole file used r p e all takes h =
     let done = h.0 in
-    (used, subst (λ (M : Meaning). IsWholeFile standard_limits (take used file) M) (sym (takes (take used file) done)) (subst (λ (l : Limits). IsWholeFile l (take used file) done.meaning) e done.whole))
+    let means = takes (take used file) done ∙ ap (λ (k : Copying). kept_for k done.meaning) all ∙ kept_for_all done.meaning in
+    (used, subst (λ (M : Meaning). IsWholeFile standard_limits (take used file) M) (sym means) (subst (λ (l : Limits). IsWholeFile l (take used file) done.meaning) e done.whole))
 
 pub picture_stopped : (file : List ℕ) (s : Stop) (r : ReaderState) → r.limits ≡ standard_limits → AfterFeed [] file (Err s) r → IsPictureOf file (Err s)
 picture_stopped file (stop.Fault f) r e h =

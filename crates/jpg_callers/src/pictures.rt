@@ -46,8 +46,8 @@ pub fn turn(alloc: Global, file: &[u8], choice: &Choice) -> Result<MemoryDesk, N
     }
 }
 
-// The file of the picture moved, as the job says.
-fn write_turned(
+/// The file of the picture moved, as the job says, in a desk as `turn` gives it.
+pub fn write_turned(
     alloc: Global,
     picture: &Picture,
     choice: &Choice,

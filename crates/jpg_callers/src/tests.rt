@@ -1,6 +1,8 @@
 // What the callers give for small files. Another program gave the lengths and sums of the files turned, and the
 // coefficients; segments and faults are as they are defined (T.81, B.1.1).
-use crate::{Listed, NotTurned, comments_of, comments_of_pieces, list_segments, turn, turn_coefs};
+use crate::{
+    Listed, NotTurned, comments_of, comments_of_pieces, encode, list_segments, turn, turn_coefs,
+};
 use jpg_base::{Fault, FaultAt, Stop};
 use jpg_transform::{BlockView, Choice, Coefs, Copying, Restart, Scans, Transform};
 use std::test::Fail;
@@ -185,5 +187,39 @@ fn coefficients_are_turned(rt: HostRuntime) -> Result<(), Fail> {
         );
     }
     assert_eq!(rt; coefficient(&coefs, 1, 0, 0), None, "outside");
+    Ok(())
+}
+
+#[test]
+fn images_are_encoded(rt: HostRuntime) -> Result<(), Fail> {
+    let rows: [(&[u8], u8, usize, u32); 4] = [
+        (b"P5 1 1 255 \xff", 75, 332, 3874955668),
+        (b"P2 1 1 9 9", 75, 332, 3874955668),
+        (b"P3 2 1 15 15 0 0 0 15 0", 90, 667, 965684577),
+        (b"P3 2 1 15 15 0 0 0 15 0 and more", 1, 758, 21374666),
+    ];
+    for (image, quality, length, want) in rows {
+        let desk = encode(rt.alloc(), image, quality)
+            .ok()
+            .ok_or("not encoded")?;
+        assert_eq!(rt; desk.outputs(), 1, "{image:?}");
+        if desk.outputs() > 0 {
+            assert_eq!(rt; desk.output(0).len(), length, "{image:?}");
+            assert_eq!(rt; sum(desk.output(0)), want, "{image:?}");
+        }
+    }
+    let rows: [(&[u8], Option<Stop>); 4] = [
+        (b"GIF", stop(Fault::ImageText, 1)),
+        (b"P5 1 1 255 ", stop(Fault::ImageShort, 11)),
+        (b"P2 1 1 9 10 ", stop(Fault::ImageValue, 12)),
+        (b"P6 0 1 255 ", stop(Fault::ImageHeader, 5)),
+    ];
+    for (image, want) in rows {
+        let why = match encode(rt.alloc(), image, 75) {
+            Err(NotTurned::Stop(why)) => Some(why),
+            _ => None,
+        };
+        assert!(rt; why == want, "{image:?}");
+    }
     Ok(())
 }

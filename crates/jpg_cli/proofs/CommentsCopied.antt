@@ -53,7 +53,7 @@ copies_told left outputs s = record {
 pub copies_none : (s : DeskState) → OnlyCopies s s
 copies_none s = copies_told s.left s.outputs s
 
-works_then : (a b c : DeskState) → OnlyWorks a b → OnlyWorks b c → OnlyWorks a c
+pub works_then : (a b c : DeskState) → OnlyWorks a b → OnlyWorks b c → OnlyWorks a c
 works_then a b c h k = record {
   stays = record { counts = NoneFell-then a.counts b.counts c.counts h.stays.counts k.stays.counts; files = k.stays.files ∙ h.stays.files };
   said = k.said ∙ h.said;

@@ -13,7 +13,7 @@ use Rattle.jpg_spec.specs.ShowWords.{ShowAsked}
 use Rattle.jpg_spec.specs.declared.image.EndKind.{EndKind}
 use Rattle.jpg_spec.specs.Words.{tool_of}
 use Rattle.jpg_spec.specs.CommentWords.{WordsTold, words_right, words_wrong}
-use Rattle.jpg_cli.specs.Commands.{Command, not_built, transform_picture, show_picture, print_comments, insert_comment, command_asked, name_of}
+use Rattle.jpg_cli.specs.Commands.{encode_image, Command, not_built, transform_picture, show_picture, print_comments, insert_comment, command_asked, name_of}
 use Rattle.jpg_cli.proofs.CommentsPrinted.{printed_then}
 use Rattle.jpg_cli.proofs.InsertedThen.{inserted_then}
 use Rattle.jpg_cli.proofs.PictureTaken.{from_still}
@@ -29,14 +29,15 @@ use Rattle.jpg_spec.specs.Meaning.{Meaning}
 use Rattle.jpg_spec.specs.Segments.{standard_limits}
 use Rattle.jpg_spec.proofs.FileLaws.{means_more}
 use Rattle.jpg_spec.specs.Messages.{message, status_of}
-use Rattle.jpg_cli.proofs.Endings.{stopped_then, unopened_then, unread_then, wrote_then}
+use Rattle.jpg_cli.proofs.Endings.{stopped_then, unopened_then, unread_then, untouched_then, wrote_then}
 use Rattle.jpg_cli.specs.Run.{PictureInput, SaysText, task_of, showing_of, RanShow, Worked, Works, Ran, IsAnswerDue, IsShowDue, NoneRose}
 use Rattle.jpg_cli.specs.Ends.{has_format}
 use Rattle.jpg_cli.specs.Showing.{Showing, Shown}
 use Rattle.jpg_cli.specs.declared.read_picture.Wanted.{Wanted}
 use Rattle.jpg_cli.specs.declared.read_picture.Wanted.TheVariants.{Coefficients, Image}
+use Rattle.jpg_cli.proofs.ImageEncoded.{encoding_then}
 use Rattle.jpg_cli.proofs.ImageShown.{shown_then}
-use Rattle.jpg_cli.specs.Stays.{OnlySays, Untouched}
+use Rattle.jpg_cli.specs.Stays.{OnlySays}
 
 -- a message changes nothing of what was done
 picture_then : (t : Turning) (s0 s1 s2 : DeskState) (M : Meaning) → OnlySays s1 s2 → ReadsPicture t M s0 s1 → ReadsPicture t M s0 s2
@@ -65,9 +66,6 @@ turned_then t s0 s1 s2 why.WriteFault k h = (
 )
 turned_then t s0 s1 s2 why.NoMemory k h = (stopped_then s0 s1 s2 (to_input t) put.Done k h.0, from_still s0 s1 s2 t.input (IsShortRead Coefficients) k.same.left h.1)
 
-untouched_then : (s0 s1 s2 : DeskState) → OnlySays s1 s2 → Untouched s0 s1 → Untouched s0 s2
-untouched_then s0 s1 s2 k t = record { asked = k.same.asked ∙ t.asked; outputs = k.same.outputs ∙ t.outputs; left = k.same.left ∙ t.left }
-
 transformed_then : (a : TransformAsked) (s0 s1 s2 : DeskState) (w : Why) → OnlySays s1 s2 → Transformed a s0 w s1 → Transformed a s0 w s2
 transformed_then a s0 s1 s2 w k (inl h) = inl (stopped_scans_then a.scans s0 s1 s2 w k h)
 transformed_then a s0 s1 s2 w k (inr (inl (scans, has, turned))) = inr (inl (scans, has, turned_then (turning_of a scans) s0 s1 s2 w k turned))
@@ -83,6 +81,7 @@ worked_then formats (words_wrong u) s0 s1 s2 w k t = (t.0, untouched_then s0 s1 
 worked_then formats (words_right not_built) s0 s1 s2 w k t = (t.0, untouched_then s0 s1 s2 k t.1)
 worked_then formats (words_right (transform_picture asked)) s0 s1 s2 w k t = transformed_then asked s0 s1 s2 w k t
 worked_then formats (words_right (show_picture asked)) s0 s1 s2 w k t = show_then (has_format asked.kind formats) asked s0 s1 s2 w k t
+worked_then formats (words_right (encode_image asked)) s0 s1 s2 w k t = encoding_then asked s0 s1 s2 w k t
 worked_then formats (words_right (print_comments files)) s0 s1 s2 w k (inl t) = inl (printed_then s0 s1 s2 (name_of files.input) (name_of files.output) w k t)
 worked_then formats (words_right (print_comments files)) s0 s1 s2 w k (inr t) = inr (t.0, untouched_then s0 s1 s2 k t.1)
 worked_then formats (words_right (insert_comment asked)) s0 s1 s2 w k t = inserted_then s0 s1 s2 (task_of asked) w k t

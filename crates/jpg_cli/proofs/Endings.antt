@@ -8,7 +8,7 @@ use Rattle.jpg_base.specs.Laws.{Grows, NotesNames, NotesNames-then}
 use Rattle.jpg_spec.specs.Segments.{standard_limits}
 use Rattle.jpg_cli.specs.Endings.{Added, asked_for, Asks, Copied, Stopped, Unopened, Unread}
 use Rattle.jpg_cli.specs.Reading.{IsFile, ReadsBytes, rest_of}
-use Rattle.jpg_cli.specs.Stays.{OnlySays}
+use Rattle.jpg_cli.specs.Stays.{OnlySays, Untouched}
 
 -- ONE MORE NAME
 
@@ -54,3 +54,6 @@ copied_then s0 s1 s2 before input output Is k h = record {
   wrote = wrote_then s0 s1 s2 (before ++ input ∷ []) output h.text k h.wrote;
   is = h.is;
 }
+
+pub untouched_then : (s0 s1 s2 : DeskState) → OnlySays s1 s2 → Untouched s0 s1 → Untouched s0 s2
+untouched_then s0 s1 s2 k t = record { asked = k.same.asked ∙ t.asked; outputs = k.same.outputs ∙ t.outputs; left = k.same.left ∙ t.left }

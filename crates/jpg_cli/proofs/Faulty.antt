@@ -1,11 +1,10 @@
 -- Where all calls are done, what is wrong with the files is what is answered.
-use Rattle.std.proofs.Common.{◌⊎◌, ◌≡◌, ℕ, List, Option, None, Some, Result, Ok, Err, refl, sym, ap, ◌∙◌, subst, inl, inr}
+use Rattle.std.proofs.Common.{◌≡◌, ℕ, List, Option, None, Some, Result, Ok, Err, refl, sym, ap, ◌∙◌, subst, inl, inr}
 use Rattle.jpg_base.specs.declared.names.Name.{Name}
 use Rattle.jpg_base.specs.declared.names.Name.TheVariants as name
 use Rattle.jpg_base.specs.Desk.{DeskState}
 use Rattle.jpg_spec.specs.Segments.{standard_limits}
 use Rattle.jpg_spec.specs.FileMeaning.{Means}
-use Rattle.jpg_spec.specs.FirstFault.{IsFirstFault}
 use Rattle.jpg_spec.specs.Meaning.{Meaning}
 use Rattle.jpg_spec.specs.Moved.{Scans, picture_fault}
 use Rattle.jpg_spec.specs.Script.{Entry}
@@ -22,7 +21,6 @@ use Rattle.jpg_cli.specs.Run.{IsAnswerDue, IsRefusalDue, IsShowDue, NoneRose, Pi
 use Rattle.jpg_cli.specs.ScriptTaken.{HasScans, HasScansFault, TellsIn}
 use Rattle.jpg_cli.specs.Showing.{Showing, Shown}
 use Rattle.jpg_cli.specs.Turned.{Transformed}
-use Rattle.jpg_cli.specs.declared.read_picture.Wanted.{Wanted}
 use Rattle.jpg_cli.specs.declared.read_picture.Wanted.TheVariants.{Coefficients, Image}
 use Rattle.jpg_scans.proofs.OneScript.{one_answer}
 use Rattle.jpg_spec.proofs.FileLaws.{means_no_fault, means_once}
@@ -35,7 +33,7 @@ use Rattle.jpg_cli.proofs.OneRefusal.{refused_for_one}
 some_or_fault : (a : List Entry) (f : FaultAt) → (let x : Result (List Entry) FaultAt = Ok a in x) ≡ Err f → ⊥
 some_or_fault a f e = cc
 
-fault_same : (f g : FaultAt) → (let x : Result (List Entry) FaultAt = Err f in x) ≡ Err g → f ≡ g
+pub fault_same : (f g : FaultAt) → (let x : Result (List Entry) FaultAt = Err f in x) ≡ Err g → f ≡ g
 fault_same f g e = cc
 
 -- it is what is read of that file

@@ -5,14 +5,20 @@ use Rattle.jpg_base.specs.declared.names.Put.{Put}
 use Rattle.jpg_base.specs.declared.names.Put.TheVariants as put
 use Rattle.jpg_base.specs.Desk.{DeskState, Creates, NotesName}
 use Rattle.jpg_base.specs.Laws.{Grows, Grows-from}
+use Rattle.jpg_spec.specs.ImageText.{end_text}
 use Rattle.jpg_spec.specs.Meaning.{Meaning}
+use Rattle.jpg_spec.specs.Pixels.{info, pixels}
 use Rattle.jpg_spec.specs.declared.answers.Why.{Why}
 use Rattle.jpg_spec.specs.declared.answers.Why.TheVariants as why
 use Rattle.jpg_spec.specs.declared.answers.Which.TheVariants as which
+use Rattle.jpg_spec.specs.declared.frame.Copying.{Copying}
 use Rattle.jpg_spec.specs.declared.image.EndKind.{EndKind}
+use Rattle.jpg_spec.specs.declared.image.ImageInfo.{ImageInfo}
 use Rattle.jpg_color.specs.DecodeRows.{Decodes}
 use Rattle.jpg_color.specs.declared.decode.DecodeStop.{DecodeStop}
 use Rattle.jpg_color.specs.declared.decode.DecodeStop.TheVariants as stop
+use Rattle.jpg_file.specs.Keeping.{kept_for}
+use Rattle.jpg_file.proofs.KeepingLaws.{info_same, pixels_same}
 use Rattle.jpg_pnm_bmp.specs.EndState.{EndState, new_end}
 use Rattle.jpg_huff.specs.Out.{OnlyWrites}
 use Rattle.jpg_cli.specs.CommentWords.{file_told}
@@ -49,7 +55,7 @@ pub image_wanting : (s0 s1 s2 : DeskState) (output : Name) (text : EndKind → L
 image_wanting s0 s1 s2 output text e kind ended new is h decoded =
     let same = subst (λ due. Decodes s1 due (Err ended) s2) (same_text text e kind new) decoded in
     let d = subst (λ (x : DecodeStop). Decodes s1 (text kind) (Err x) s2) is same in
-    (noted_then s0 s1 s2 output h d.only, (d.bytes.0, Grows-from s0.outputs s1.outputs s2.outputs output (take d.bytes.0 (text kind)) h.after.1 d.bytes.1))
+    (noted_then s0 s1 s2 output h d.only, (d.bytes.0, d.bytes.1, Grows-from s0.outputs s1.outputs s2.outputs output (take d.bytes.0 (text kind)) h.after.1 d.bytes.2))
 
 pub image_failed : (s0 s1 s2 : DeskState) (output : Name) (text : EndKind → List ℕ) (e : EndState) (kind : EndKind) (ended : DecodeStop) → e ≡ new_end kind → ended ≡ stop.WriteFault → Creates s0 output put.Done s1 → Decodes s1 (text e.kind) (Err ended) s2
     → AfterImage output s0 (text kind) why.WriteFault s2
@@ -61,25 +67,31 @@ image_failed s0 s1 s2 output text e kind ended new is h decoded =
       (d.bytes.0.0, Grows-from s0.outputs s1.outputs s2.outputs output (take d.bytes.0.0 (text kind)) h.after.1 d.bytes.0.1),
     )
 
+-- It doesn't depend on markers that weren't kept.
+pub text_shown : (s : Showing) (keeping : Copying) (M : Meaning) → shown_text s (kept_for keeping M) ≡ shown_text s M
+text_shown s keeping M =
+    ap (λ (told : ImageInfo). end_text s.kind told (pixels (kept_for keeping M) s.gray s.smooth)) (info_same keeping s.gray M)
+    ∙ ap (end_text s.kind (info M s.gray)) (pixels_same keeping s.gray s.smooth M)
+
 -- NO PICTURE
 
-pub shown_unread : (s : Showing) (s0 s1 : DeskState) (w : Why) → PictureRead (Image s.gray) s.input s0 (Err w) s1 → Shown s s0 w s1
-shown_unread s s0 s1 why.Done h = absurd h
-shown_unread s s0 s1 (why.Usage u) h = absurd h
-shown_unread s s0 s1 (why.Refused f) h = h
-shown_unread s s0 s1 (why.Picture p) h = absurd h
-shown_unread s s0 s1 (why.OpenFault which.Input) h = h
-shown_unread s s0 s1 (why.OpenFault which.Script) h = absurd h
-shown_unread s s0 s1 (why.OpenFault which.Tables) h = absurd h
-shown_unread s s0 s1 (why.OpenFault which.Comment) h = absurd h
-shown_unread s s0 s1 (why.OpenFault which.Output) h = absurd h
-shown_unread s s0 s1 (why.ReadFault which.Input) h = h
-shown_unread s s0 s1 (why.ReadFault which.Script) h = absurd h
-shown_unread s s0 s1 (why.ReadFault which.Tables) h = absurd h
-shown_unread s s0 s1 (why.ReadFault which.Comment) h = absurd h
-shown_unread s s0 s1 (why.ReadFault which.Output) h = absurd h
-shown_unread s s0 s1 why.WriteFault h = absurd h
-shown_unread s s0 s1 why.NoMemory h = inl h
+pub shown_unread : (s : Showing) (keeping : Copying) (s0 s1 : DeskState) (w : Why) → PictureRead (Image s.gray) keeping s.input s0 (Err w) s1 → Shown s s0 w s1
+shown_unread s keeping s0 s1 why.Done h = absurd h
+shown_unread s keeping s0 s1 (why.Usage u) h = absurd h
+shown_unread s keeping s0 s1 (why.Refused f) h = h
+shown_unread s keeping s0 s1 (why.Picture p) h = absurd h
+shown_unread s keeping s0 s1 (why.OpenFault which.Input) h = h
+shown_unread s keeping s0 s1 (why.OpenFault which.Script) h = absurd h
+shown_unread s keeping s0 s1 (why.OpenFault which.Tables) h = absurd h
+shown_unread s keeping s0 s1 (why.OpenFault which.Comment) h = absurd h
+shown_unread s keeping s0 s1 (why.OpenFault which.Output) h = absurd h
+shown_unread s keeping s0 s1 (why.ReadFault which.Input) h = h
+shown_unread s keeping s0 s1 (why.ReadFault which.Script) h = absurd h
+shown_unread s keeping s0 s1 (why.ReadFault which.Tables) h = absurd h
+shown_unread s keeping s0 s1 (why.ReadFault which.Comment) h = absurd h
+shown_unread s keeping s0 s1 (why.ReadFault which.Output) h = absurd h
+shown_unread s keeping s0 s1 why.WriteFault h = absurd h
+shown_unread s keeping s0 s1 why.NoMemory h = inl h
 
 -- A PICTURE, and its image written
 
@@ -98,7 +110,7 @@ wrote_image s M s0 s1 s2 text h o grows = record {
   outputs = (let P : Option (List (Name × List ℕ)) → Type 0 = λ a. Grows a (s.output, text) s2.outputs in subst P h.kept.outputs grows);
 }
 
-in_part : (s : Showing) (M : Meaning) (s0 s1 s2 : DeskState) (n : ℕ) → HasImageRead s M s0 s1 s2 → NotesName s1.asked (s.output, put.Done) s2.asked → Grows s1.outputs (s.output, take n (shown_text s M)) s2.outputs → ShownInPart s s0 s2
+abbrev in_part : (s : Showing) (M : Meaning) (s0 s1 s2 : DeskState) (n : ℕ) → HasImageRead s M s0 s1 s2 → NotesName s1.asked (s.output, put.Done) s2.asked → Grows s1.outputs (s.output, take n (shown_text s M)) s2.outputs → ShownInPart s s0 s2
 in_part s M s0 s1 s2 n h o grows = record { meaning = M; count = n; read = image_on s M s0 s1 s2 h; wrote = wrote_image s M s0 s1 s2 (take n (shown_text s M)) h o grows }
 
 pub shown_written : (s : Showing) (M : Meaning) (s0 s1 s2 : DeskState) (w : Why) → HasImageRead s M s0 s1 s2 → AfterImage s.output s1 (shown_text s M) w s2 → Shown s s0 w s2
@@ -120,11 +132,11 @@ shown_written s M s0 s1 s2 (why.OpenFault which.Output) h (asked, rose, same) = 
 shown_written s M s0 s1 s2 (why.ReadFault file) h k = absurd k
 shown_written s M s0 s1 s2 why.WriteFault h (asked, rose, (n, grows)) =
     ((let f = h.kept.works.stays.counts.writes in omega (arith, rose, f)), in_part s M s0 s1 s2 n h asked grows)
-shown_written s M s0 s1 s2 why.NoMemory h (asked, (n, grows)) = inr (in_part s M s0 s1 s2 n h asked grows)
+shown_written s M s0 s1 s2 why.NoMemory h (asked, (n, less, grows)) = inr (record { part = in_part s M s0 s1 s2 n h asked grows; left = less })
 
 -- A MESSAGE THEN
 
-part_then : (s : Showing) (s0 s1 s2 : DeskState) → OnlySays s1 s2 → ShownInPart s s0 s1 → ShownInPart s s0 s2
+abbrev part_then : (s : Showing) (s0 s1 s2 : DeskState) → OnlySays s1 s2 → ShownInPart s s0 s1 → ShownInPart s s0 s2
 part_then s s0 s1 s2 k h = record {
   meaning = h.meaning;
   count = h.count;
@@ -153,7 +165,7 @@ shown_then s s0 s1 s2 (why.ReadFault which.Comment) k h = absurd h
 shown_then s s0 s1 s2 (why.ReadFault which.Output) k h = absurd h
 shown_then s s0 s1 s2 why.WriteFault k h = ((let rose = h.0 in let f = k.stays.counts.writes in omega (arith, rose, f)), part_then s s0 s1 s2 k h.1)
 shown_then s s0 s1 s2 why.NoMemory k (inl h) = inl (stopped_then s0 s1 s2 (s.input ∷ []) put.Done k h.0, from_still s0 s1 s2 s.input (IsShortRead (Image s.gray)) k.same.left h.1)
-shown_then s s0 s1 s2 why.NoMemory k (inr h) = inr (part_then s s0 s1 s2 k h)
+shown_then s s0 s1 s2 why.NoMemory k (inr h) = inr (record { part = part_then s s0 s1 s2 k h.part; left = h.left })
 
 -- AS THE WORDS SAY IT
 

@@ -5,12 +5,16 @@ pub mod CommentsCopied
 pub mod CommentsPrinted
 pub mod CommentsRead
 pub mod Decimal
+pub mod EncodeDue
 pub mod Ending
 pub mod Endings
+pub mod FactorsNamed
 pub mod Faulty
 pub mod FoundEnds
 pub mod HeadTaken
+pub mod ImageEncoded
 pub mod ImageShown
+pub mod ImageTaken
 pub mod Input
 pub mod InsertedCopied
 pub mod InsertedThen
@@ -26,4 +30,5 @@ pub mod Running
 pub mod Saying
 pub mod ScriptTaken
 pub mod Shown
+pub mod TablesTaken
 pub mod Unwanted

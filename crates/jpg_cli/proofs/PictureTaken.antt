@@ -8,17 +8,18 @@ use Rattle.jpg_base.specs.Desk.{DeskState, Opens, Reads, Rose}
 use Rattle.jpg_base.specs.Laws.{Consumes-then}
 use Rattle.jpg_spec.specs.Segments.{standard_limits}
 use Rattle.jpg_spec.specs.FileStands.{IsWholeFile}
-use Rattle.jpg_spec.specs.Meaning.{Meaning}
 use Rattle.jpg_spec.specs.declared.answers.Why.{Why}
 use Rattle.jpg_spec.specs.declared.answers.Why.TheVariants as why
 use Rattle.jpg_spec.specs.declared.answers.Which.TheVariants as which
+use Rattle.jpg_spec.specs.declared.frame.Copying.{Copying}
 use Rattle.jpg_spec.specs.declared.frame.Limits.{Limits}
-use Rattle.jpg_file.specs.PictureRead.{TakesPicture, picture_meaning}
+use Rattle.jpg_file.specs.File.{keeping_of}
+use Rattle.jpg_file.specs.PictureRead.{MeansFor, TakesPicture}
 use Rattle.jpg_file.specs.ReadFile.{ReaderState}
 use Rattle.jpg_file.specs.declared.picture.Picture.{Picture}
 use Rattle.jpg_cli.specs.Endings.{Stopped}
 use Rattle.jpg_cli.specs.Reading.{IsFile, rest_of}
-use Rattle.jpg_cli.specs.ReadPicture.{AfterFileEnd, AfterNextPiece, AfterTakingPiece, EndsEarly, EndsReading, HasFed, HoldsFile, IsOpenRead, IsRefusedRead, IsShortRead, IsWholeRead, PictureRead, ReadsFrom, Takes, unwanted_for}
+use Rattle.jpg_cli.specs.ReadPicture.{AfterFileEnd, AfterNextPiece, AfterTakingPiece, EndsEarly, EndsReading, HasFed, HoldsFile, IsOpenRead, IsRefusedRead, IsShortRead, IsWholeRead, PictureRead, ReadsFrom, Takes}
 use Rattle.jpg_cli.specs.Stays.{OnlyReads}
 use Rattle.jpg_cli.specs.declared.read_picture.PictureStep.{PictureStep}
 use Rattle.jpg_cli.specs.declared.read_picture.Wanted.{Wanted}
@@ -78,40 +79,53 @@ piece_unread w start s0 s1 bytes r e h still had rose left = (
 
 -- THE PICTURE of the reader's file
 
-pub picture_taken : (w : Wanted) (s0 s1 : DeskState) (r : ReaderState) (p : Picture) → r.limits ≡ standard_limits → TakesPicture r p → Takes (HoldsFile w r) s0 s1 → EndsReading w s0 (Ok p) s1
-picture_taken w s0 s1 r p e takes (bytes, read, most, h) =
-    let means : (picture_meaning p) ≡ h.done.meaning = takes (take h.count bytes) h.done in
-    let whole = subst (λ (l : Limits). IsWholeFile l (take h.count bytes) h.done.meaning) e h.done.whole in
-    (bytes, read, most, record { count = h.count; within = h.within; last = h.last; small = h.small; whole = subst (λ (M : Meaning). IsWholeFile standard_limits (take h.count bytes) M) (sym means) whole; wanted = ap (unwanted_for w) means ∙ h.wanted })
+pub picture_taken : (w : Wanted) (keeping : Copying) (s0 s1 : DeskState) (r : ReaderState) (p : Picture) → r.limits ≡ standard_limits → keeping_of r.file ≡ keeping → TakesPicture r p → Takes (HoldsFile w r) s0 s1 → EndsReading w keeping s0 (Ok p) s1
+picture_taken w keeping s0 s1 r p e same takes (bytes, read, most, h) = (
+  h.done.meaning,
+  subst (λ (k : Copying). MeansFor k p h.done.meaning) same (takes (take h.count bytes) h.done),
+  (
+    bytes,
+    read,
+    most,
+    record {
+      count = h.count;
+      within = h.within;
+      last = h.last;
+      small = h.small;
+      whole = subst (λ (l : Limits). IsWholeFile l (take h.count bytes) h.done.meaning) e h.done.whole;
+      wanted = h.wanted;
+    },
+  ),
+)
 
 -- FROM THE NAME
 
-reads_from : (s0 s1 s2 : DeskState) (file : Name) (Is : List ℕ → Type 0) → Opens s0 file put.Done s1 → Takes Is s1 s2 → ReadsFrom file Is s0 s2
+pub reads_from : (s0 s1 s2 : DeskState) (file : Name) (Is : List ℕ → Type 0) → Opens s0 file put.Done s1 → Takes Is s1 s2 → ReadsFrom file Is s0 s2
 reads_from s0 s1 s2 file Is h (bytes, read, most, is) = record { bytes = bytes; read = file_read s0.files file s1.left s2.left bytes h.after.2 read; most = most; is = is }
 
-stopped_there : (s0 s1 s2 : DeskState) (file : Name) → Opens s0 file put.Done s1 → OnlyReads s1 s2 → Stopped (file ∷ []) put.Done s0 s2
+pub stopped_there : (s0 s1 s2 : DeskState) (file : Name) → Opens s0 file put.Done s1 → OnlyReads s1 s2 → Stopped (file ∷ []) put.Done s0 s2
 stopped_there s0 s1 s2 file h k = record { asked = noted s0 s1 s2 file h k; outputs = k.outputs ∙ h.outputs }
 
-ends_early : (w : Wanted) (s0 s1 s2 : DeskState) (file : Name) (ended : Why) → Opens s0 file put.Done s1 → OnlyReads s1 s2 → EndsEarly w s1 ended s2 → PictureRead w file s0 (Err ended) s2
-ends_early w s0 s1 s2 file why.Done h k e = absurd e
-ends_early w s0 s1 s2 file (why.Usage u) h k e = absurd e
-ends_early w s0 s1 s2 file (why.Picture p) h k e = absurd e
-ends_early w s0 s1 s2 file (why.Refused f) h k e = (stopped_there s0 s1 s2 file h k, reads_from s0 s1 s2 file (IsRefusedRead w f (rest_of s2.left)) h e)
-ends_early w s0 s1 s2 file (why.OpenFault other) h k e = absurd e
-ends_early w s0 s1 s2 file (why.ReadFault which.Input) h k e = (
+ends_early : (w : Wanted) (keeping : Copying) (s0 s1 s2 : DeskState) (file : Name) (ended : Why) → Opens s0 file put.Done s1 → OnlyReads s1 s2 → EndsEarly w s1 ended s2 → PictureRead w keeping file s0 (Err ended) s2
+ends_early w keeping s0 s1 s2 file why.Done h k e = absurd e
+ends_early w keeping s0 s1 s2 file (why.Usage u) h k e = absurd e
+ends_early w keeping s0 s1 s2 file (why.Picture p) h k e = absurd e
+ends_early w keeping s0 s1 s2 file (why.Refused f) h k e = (stopped_there s0 s1 s2 file h k, reads_from s0 s1 s2 file (IsRefusedRead w f (rest_of s2.left)) h e)
+ends_early w keeping s0 s1 s2 file (why.OpenFault other) h k e = absurd e
+ends_early w keeping s0 s1 s2 file (why.ReadFault which.Input) h k e = (
   record { stopped = stopped_there s0 s1 s2 file h k; reads = (let r = e.1 in let f = h.counts.reads in omega arith) },
   reads_from s0 s1 s2 file (IsOpenRead w) h e.0,
 )
-ends_early w s0 s1 s2 file (why.ReadFault which.Script) h k e = absurd e
-ends_early w s0 s1 s2 file (why.ReadFault which.Tables) h k e = absurd e
-ends_early w s0 s1 s2 file (why.ReadFault which.Comment) h k e = absurd e
-ends_early w s0 s1 s2 file (why.ReadFault which.Output) h k e = absurd e
-ends_early w s0 s1 s2 file why.WriteFault h k e = absurd e
-ends_early w s0 s1 s2 file why.NoMemory h k e = (stopped_there s0 s1 s2 file h k, reads_from s0 s1 s2 file (IsShortRead w) h e)
+ends_early w keeping s0 s1 s2 file (why.ReadFault which.Script) h k e = absurd e
+ends_early w keeping s0 s1 s2 file (why.ReadFault which.Tables) h k e = absurd e
+ends_early w keeping s0 s1 s2 file (why.ReadFault which.Comment) h k e = absurd e
+ends_early w keeping s0 s1 s2 file (why.ReadFault which.Output) h k e = absurd e
+ends_early w keeping s0 s1 s2 file why.WriteFault h k e = absurd e
+ends_early w keeping s0 s1 s2 file why.NoMemory h k e = (stopped_there s0 s1 s2 file h k, reads_from s0 s1 s2 file (IsShortRead w) h e)
 
-pub picture_read : (w : Wanted) (s0 s1 s2 : DeskState) (file : Name) (answer : Result Picture Why) → Opens s0 file put.Done s1 → OnlyReads s1 s2 → EndsReading w s1 answer s2 → PictureRead w file s0 answer s2
-picture_read w s0 s1 s2 file (Ok p) h k e = (noted s0 s1 s2 file h k, reads_from s0 s1 s2 file (IsWholeRead w (picture_meaning p)) h e)
-picture_read w s0 s1 s2 file (Err ended) h k e = ends_early w s0 s1 s2 file ended h k e
+pub picture_read : (w : Wanted) (keeping : Copying) (s0 s1 s2 : DeskState) (file : Name) (answer : Result Picture Why) → Opens s0 file put.Done s1 → OnlyReads s1 s2 → EndsReading w keeping s1 answer s2 → PictureRead w keeping file s0 answer s2
+picture_read w keeping s0 s1 s2 file (Ok p) h k (M, means, e) = (noted s0 s1 s2 file h k, (M, means, reads_from s0 s1 s2 file (IsWholeRead w M) h e))
+picture_read w keeping s0 s1 s2 file (Err ended) h k e = ends_early w keeping s0 s1 s2 file ended h k e
 
 -- what was read of a file stays so where no more of it is read
 pub from_still : (s0 s1 s2 : DeskState) (file : Name) (Is : List ℕ → Type 0) → s2.left ≡ s1.left → ReadsFrom file Is s0 s1 → ReadsFrom file Is s0 s2

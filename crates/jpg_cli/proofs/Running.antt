@@ -1,5 +1,5 @@
 -- Turning a picture: reading it, and then writing it.
-use Rattle.std.proofs.Common.{◌≡◌, ◌⊎◌, ℕ, ◌<◌, Bool, true, false, List, [], ◌∷◌, take, Option, Err, None, refl, sym, ◌∙◌, subst, arith, zero, suc, inl, inr}
+use Rattle.std.proofs.Common.{◌≡◌, ◌⊎◌, ℕ, ◌<◌, Bool, true, false, List, [], ◌∷◌, take, Option, Err, None, refl, sym, ap, ◌∙◌, subst, arith, zero, suc, inl, inr}
 use Rattle.std.specs.List.{All}
 use Rattle.jpg_base.specs.declared.names.Name.{Name}
 use Rattle.jpg_base.specs.declared.names.Put.TheVariants as put
@@ -9,14 +9,19 @@ use Rattle.jpg_spec.specs.Laws.{IsMovable}
 use Rattle.jpg_spec.specs.Meaning.{Meaning}
 use Rattle.jpg_spec.specs.Moved.{Choice, Scans, moved_text, picture_fault}
 use Rattle.jpg_spec.specs.TransformWords.{TransformAsked, choice_asked}
+use Rattle.jpg_spec.specs.WrittenFile.{IsRestart}
 use Rattle.jpg_spec.specs.Segments.{standard_limits}
 use Rattle.jpg_spec.specs.declared.answers.Why.{Why}
 use Rattle.jpg_spec.specs.declared.answers.Why.TheVariants as why
 use Rattle.jpg_spec.specs.declared.answers.Which.TheVariants as which
 use Rattle.jpg_spec.specs.declared.transform.PictureFault.{PictureFault}
+use Rattle.jpg_spec.proofs.MovedText.{moved_means}
+use Rattle.jpg_spec.proofs.ReadPicture.{read_moved}
 use Rattle.jpg_spec.proofs.WrittenFront.{standard_are_limits}
-use Rattle.jpg_transform.proofs.MovedScript.{gray_none}
-use Rattle.jpg_cli.specs.Endings.{Added, Asks}
+use Rattle.jpg_file.specs.Keeping.{kept_for}
+use Rattle.jpg_file.proofs.KeepingLaws.{fault_same, text_same}
+use Rattle.jpg_transform.proofs.MovedScript.{gray_none, script_none}
+use Rattle.jpg_cli.specs.Endings.{Added, Asks, GoesOnAfter}
 use Rattle.jpg_cli.specs.declared.read_picture.Wanted.TheVariants.{Coefficients}
 use Rattle.jpg_cli.specs.ReadPicture.{IsWholeRead, PictureRead, ReadsFrom}
 use Rattle.jpg_cli.specs.Stays.{Keeps, Untouched}
@@ -32,13 +37,14 @@ use Rattle.jpg_cli.specs.ScriptTaken.{HasScans, StopsAtScans, names_before}
 use Rattle.jpg_cli.specs.TransformWords.{script_told, transform_told}
 use Rattle.jpg_cli.specs.Turned.{Transformed, Turned, Turning}
 use Rattle.jpg_cli.specs.declared.transform_words.TransformWords.{TransformWords}
-use Rattle.jpg_cli.specs.Writing.{AfterMoved, IsMeant}
+use Rattle.jpg_cli.specs.Writing.{AfterMoved, AfterOutput, IsMeant, MeansMoved}
+use Rattle.jpg_cli.specs.declared.writing.Wrote.{Wrote}
 use Rattle.jpg_cli.specs.declared.writing.Wrote.TheVariants as wrote
 use Rattle.jpg_cli.proofs.CommentInserted.{none_noted}
 use Rattle.jpg_cli.proofs.Endings.{asks_next, asks_still}
 use Rattle.jpg_cli.proofs.InsertedThen.{same_name}
 use Rattle.jpg_cli.proofs.PictureTaken.{from_still}
-use Rattle.jpg_cli.proofs.ScriptTaken.{GoesOnBehind, turned_behind}
+use Rattle.jpg_cli.proofs.ScriptTaken.{turned_behind}
 
 -- WHAT IS READ is meant
 
@@ -52,15 +58,37 @@ front_small (x ∷ xs) (suc n) h (suc k) d l = front_small xs n (λ i e m. h (su
 meant : (M : Meaning) (bytes : List ℕ) → IsWholeRead Coefficients M bytes → IsMeant M
 meant M bytes h = (take h.count bytes, front_small bytes h.count h.small, h.whole.0)
 
-pub movable : (M : Meaning) (c : Choice) → IsMeant M → picture_fault c M ≡ None → IsMovable c M
+movable : (M : Meaning) (c : Choice) → IsMeant M → picture_fault c M ≡ None → IsMovable c M
 movable M c (bytes, small, means) none = record { limits = standard_limits; bytes = bytes; limited = standard_are_limits; are_bytes = small; means = means; admitted = gray_none c M none }
+
+-- the picture that was read, with the markers that are passed on
+no_fault : (c : Choice) (N M : Meaning) → N ≡ kept_for c.copying M → picture_fault c N ≡ None → picture_fault c M ≡ None
+no_fault c N M shows none = sym (fault_same c M) ∙ ap (picture_fault c) (sym shows) ∙ none
+
+pub moved_for : (c : Choice) (N M : Meaning) → N ≡ kept_for c.copying M → IsRestart c.restart → picture_fault c N ≡ None → IsMeant M → MeansMoved c M
+moved_for c N M shows small none meant =
+    let fine = no_fault c N M shows none in
+    let m = movable M c meant fine in
+    moved_means c M (read_moved m.limits m.bytes M c m.limited m.are_bytes m.means m.admitted) (script_none c M fine) small
+
+pub wrote_for : (c : Choice) (N M : Meaning) (output : Name) (s0 s1 : DeskState) (w : Wrote) → N ≡ kept_for c.copying M → picture_fault c N ≡ None → AfterOutput output s0 (moved_text c N) w s1 → (IsMeant M → MeansMoved c M) → AfterMoved c M output s0 w s1
+wrote_for c N M output s0 s1 w shows none h means = by w (subst (λ (due : List ℕ). AfterOutput output s0 due w s1) (ap (moved_text c) shows ∙ text_same c M) h)
+  where
+    fine : picture_fault c M ≡ None
+    fine = no_fault c N M shows none
+
+    by : (v : Wrote) → AfterOutput output s0 (moved_text c M) v s1 → AfterMoved c M output s0 v s1
+    by wrote.Done k = (fine, k, means)
+    by (wrote.Picture fault) k = absurd k
+    by wrote.OpenFault k = (fine, k)
+    by wrote.WriteFault k = (fine, k)
 
 -- NO PICTURE
 
 abbrev turning_by : Name → Name → Choice → Turning
 turning_by input output c = record { before = []; input = input; output = output; choice = c }
 
-pub turned_unread : (input output : Name) (c : Choice) (s0 s1 : DeskState) (w : Why) → PictureRead Coefficients input s0 (Err w) s1 → Turned (turning_by input output c) s0 w s1
+pub turned_unread : (input output : Name) (c : Choice) (s0 s1 : DeskState) (w : Why) → PictureRead Coefficients c.copying input s0 (Err w) s1 → Turned (turning_by input output c) s0 w s1
 turned_unread input output c s0 s1 why.Done h = absurd h
 turned_unread input output c s0 s1 (why.Usage u) h = absurd h
 turned_unread input output c s0 s1 (why.Refused f) h = h
@@ -125,7 +153,7 @@ turned_unwritten input output c M s0 s1 s2 h (none, (asked, rose, (n, grows))) =
 
 -- AS THE WORDS SAY IT
 
-pub transformed_in : (w : TransformWords) (scans : Scans) (choice : Choice) (s0 s1 s2 : DeskState) (ended : Why) → choice ≡ choice_asked (transform_told w) scans → GoesOnBehind (names_before (script_told w.script)) s0 s1 → HasScans (script_told w.script) s0 scans
+pub transformed_in : (w : TransformWords) (scans : Scans) (choice : Choice) (s0 s1 s2 : DeskState) (ended : Why) → choice ≡ choice_asked (transform_told w) scans → GoesOnAfter (names_before (script_told w.script)) s0 s1 → HasScans (script_told w.script) s0 scans
     → Turned (turning_by w.files.input w.files.output choice) s1 ended s2 → Transformed (transform_told w) s0 ended s2
 transformed_in w scans choice s0 s1 s2 ended same behind has turned =
     let of : Name → Name → Choice → Turning = λ i o c. record { before = names_before (script_told w.script); input = i; output = o; choice = c } in
@@ -160,5 +188,6 @@ names_wanting formats told s k = by k
     by : IsCommand told (Err words.NoMemory) → Worked formats told s why.NoMemory s
     by (inl (a, e)) = subst P (sym e) (inr (inr (refl, untouched s)))
     by (inr (inl (a, e))) = subst P (sym e) (show_wanting (has_format a.kind formats) a s)
-    by (inr (inr (inl (files, e)))) = subst P (sym e) (inr (refl, untouched s))
-    by (inr (inr (inr (asked, e)))) = subst P (sym e) (inl (record { count = 0; stopped = record { asked = none_noted s.asked s.asked refl; outputs = refl }; read = inl refl }))
+    by (inr (inr (inl (a, e)))) = subst P (sym e) (inr (inr (refl, untouched s)))
+    by (inr (inr (inr (inl (files, e))))) = subst P (sym e) (inr (refl, untouched s))
+    by (inr (inr (inr (inr (asked, e))))) = subst P (sym e) (inl (record { count = 0; stopped = record { asked = none_noted s.asked s.asked refl; outputs = refl }; read = inl refl }))

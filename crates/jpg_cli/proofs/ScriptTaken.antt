@@ -1,7 +1,7 @@
 -- The scans of the output, taken from where they come, and what is turned in them.
 use Rattle.std.proofs.Common.{◌≡◌, ◌⊎◌, ℕ, ◌<◌, ◌≤◌, List, [], ◌∷◌, ◌++◌, length, take, Option, None, Some, Result, Ok, Err, refl, sym, ap, ◌∙◌, subst, arith, inl, inr}
 use Rattle.std.proofs.lemmas.Bool.{cases_lt}
-use Rattle.std.proofs.lemmas.List.{append_assoc, length-take-le, take-take, take_all}
+use Rattle.std.proofs.lemmas.List.{append-nil, append_assoc, length-take-le, take-take, take_all}
 use Rattle.jpg_base.specs.declared.names.Name.{Name}
 use Rattle.jpg_base.specs.declared.names.Name.TheVariants as name
 use Rattle.jpg_base.specs.declared.names.Put.{Put}
@@ -17,26 +17,27 @@ use Rattle.jpg_spec.specs.declared.answers.FaultAt.{FaultAt}
 use Rattle.jpg_spec.specs.declared.answers.Why.{Why}
 use Rattle.jpg_spec.specs.declared.answers.Why.TheVariants as why
 use Rattle.jpg_spec.specs.declared.answers.Which.TheVariants as which
-use Rattle.jpg_cli.specs.Endings.{Added, asked_for, Asks, Stopped, Unopened, Unread}
+use Rattle.jpg_cli.specs.Endings.{Added, asked_for, Asks, GoesOnAfter, Stopped, Unopened, Unread}
 use Rattle.jpg_cli.specs.FileTaken.{AfterFile}
 use Rattle.jpg_cli.specs.Reading.{IsFile, rest_of}
 use Rattle.jpg_cli.specs.ReadPicture.{ReadsFrom}
 use Rattle.jpg_cli.specs.ScriptTaken.{StopsAtScans, StopsAtScript, TellsIn}
 use Rattle.jpg_cli.specs.Stays.{Keeps, OnlySays}
 use Rattle.jpg_cli.specs.Turned.{ReadsPicture, Turned, Turning}
+use Rattle.jpg_cli.proofs.CommentsCopied.{works_then}
 use Rattle.jpg_cli.proofs.Endings.{stopped_then, unopened_then, unread_then}
 use Rattle.jpg_cli.proofs.Input.{part_still, read_still}
 
 -- A TEXT IS TOLD BY ITS FRONT, one byte longer than the longest
 
-front_whole : (text : List ℕ) → length (take 65537 text) ≤ 65536 → take 65537 text ≡ text
+pub front_whole : (text : List ℕ) → length (take 65537 text) ≤ 65536 → take 65537 text ≡ text
 front_whole text short = by (cases_lt 65536 (length text))
   where
     by : (65536 < length text) ⊎ (length text ≤ 65536) → take 65537 text ≡ text
     by (inl long) = absurd (let e = length-take-le 65537 text (omega (arith, long)) in omega (arith, e, short))
     by (inr few) = take_all 65537 text (omega (arith, few))
 
-front_few : (text : List ℕ) → length (take 65537 text) ≤ length text
+pub front_few : (text : List ℕ) → length (take 65537 text) ≤ length text
 front_few text = by (cases_lt 65536 (length text))
   where
     by : (65536 < length text) ⊎ (length text ≤ 65536) → length (take 65537 text) ≤ length text
@@ -90,16 +91,16 @@ script_refused file old new bytes f k h told = record {
   read = ap (λ (b : List ℕ). b ++ rest_of new.left) h.2;
 }
 
-other_input : which.Input ≡ which.Script → ⊥
+pub other_input : which.Input ≡ which.Script → ⊥
 other_input e = cc
 
 other_tables : which.Tables ≡ which.Script → ⊥
 other_tables e = cc
 
-other_comment : which.Comment ≡ which.Script → ⊥
+pub other_comment : which.Comment ≡ which.Script → ⊥
 other_comment e = cc
 
-other_output : which.Output ≡ which.Script → ⊥
+pub other_output : which.Output ≡ which.Script → ⊥
 other_output e = cc
 
 pub script_unread : (file : Name) (old new : DeskState) (w : Why) → AfterFile file 65537 which.Script old (Err w) new → StopsAtScript file old w new
@@ -162,32 +163,45 @@ notes_more a None (Some c) xs ys h k = absurd k
 notes_more None (Some b) (Some c) xs ys h k = absurd h
 notes_more (Some a) (Some b) (Some c) xs ys h k = k ∙ ap (λ r. r ++ ys) h ∙ append_assoc a xs ys
 
--- the desk goes on behind these names
-pub record GoesOnBehind (names : List Name) (s0 s1 : DeskState) : Type 0 where
-  pub asked : Asks names put.Done s0 s1
-  pub kept : Keeps s0 s1
-
-asks_more : (xs : List Name) (y : Name) (ys : List Name) (answer : Put) (s0 s1 s2 : DeskState) → GoesOnBehind xs s0 s1 → Asks (y ∷ ys) answer s1 s2 → Asks (xs ++ y ∷ ys) answer s0 s2
+asks_more : (xs : List Name) (y : Name) (ys : List Name) (answer : Put) (s0 s1 s2 : DeskState) → GoesOnAfter xs s0 s1 → Asks (y ∷ ys) answer s1 s2 → Asks (xs ++ y ∷ ys) answer s0 s2
 asks_more xs y ys answer s0 s1 s2 b h =
     subst (λ (entries : List (Name × Put)). NotesNames s0.asked entries s2.asked) (sym (asked_more xs y ys answer))
     (notes_more s0.asked s1.asked s2.asked (asked_for xs put.Done) (asked_for (y ∷ ys) answer) b.asked h)
 
-stopped_more : (xs : List Name) (y : Name) (ys : List Name) (answer : Put) (s0 s1 s2 : DeskState) → GoesOnBehind xs s0 s1 → Stopped (y ∷ ys) answer s1 s2 → Stopped (xs ++ y ∷ ys) answer s0 s2
+pub after_none : (xs : List Name) (s0 s1 s2 : DeskState) → GoesOnAfter xs s0 s1 → Asks [] put.Done s1 s2 → Asks (xs ++ []) put.Done s0 s2
+after_none xs s0 s1 s2 b h =
+    subst (λ (entries : List (Name × Put)). NotesNames s0.asked entries s2.asked) (append-nil (asked_for xs put.Done) ∙ sym (ap (λ names. asked_for names put.Done) (append-nil xs)))
+    (notes_more s0.asked s1.asked s2.asked (asked_for xs put.Done) [] b.asked h)
+
+keeps_then : (a b c : DeskState) → Keeps a b → Keeps b c → Keeps a c
+keeps_then a b c h k = record { works = works_then a b c h.works k.works; outputs = k.outputs ∙ h.outputs }
+
+pub goes_on_more : (xs ys : List Name) (s0 s1 s2 : DeskState) → GoesOnAfter xs s0 s1 → GoesOnAfter ys s1 s2 → GoesOnAfter (xs ++ ys) s0 s2
+goes_on_more xs ys s0 s1 s2 b c = record {
+  asked = by ys c.asked;
+  kept = keeps_then s0 s1 s2 b.kept c.kept;
+}
+  where
+    by : (ys : List Name) → Asks ys put.Done s1 s2 → Asks (xs ++ ys) put.Done s0 s2
+    by [] h = after_none xs s0 s1 s2 b h
+    by (y ∷ ys) h = asks_more xs y ys put.Done s0 s1 s2 b h
+
+pub stopped_more : (xs : List Name) (y : Name) (ys : List Name) (answer : Put) (s0 s1 s2 : DeskState) → GoesOnAfter xs s0 s1 → Stopped (y ∷ ys) answer s1 s2 → Stopped (xs ++ y ∷ ys) answer s0 s2
 stopped_more xs y ys answer s0 s1 s2 b h = record { asked = asks_more xs y ys answer s0 s1 s2 b h.asked; outputs = h.outputs ∙ b.kept.outputs }
 
-unopened_more : (xs : List Name) (y : Name) (ys : List Name) (s0 s1 s2 : DeskState) → GoesOnBehind xs s0 s1 → Unopened (y ∷ ys) s1 s2 → Unopened (xs ++ y ∷ ys) s0 s2
+pub unopened_more : (xs : List Name) (y : Name) (ys : List Name) (s0 s1 s2 : DeskState) → GoesOnAfter xs s0 s1 → Unopened (y ∷ ys) s1 s2 → Unopened (xs ++ y ∷ ys) s0 s2
 unopened_more xs y ys s0 s1 s2 b h = record {
   stopped = stopped_more xs y ys put.Failed s0 s1 s2 b h.stopped;
   opens = (let r = h.opens in let f = b.kept.works.stays.counts.opens in omega (arith, r, f));
 }
 
-unread_more : (xs : List Name) (y : Name) (ys : List Name) (s0 s1 s2 : DeskState) → GoesOnBehind xs s0 s1 → Unread (y ∷ ys) s1 s2 → Unread (xs ++ y ∷ ys) s0 s2
+pub unread_more : (xs : List Name) (y : Name) (ys : List Name) (s0 s1 s2 : DeskState) → GoesOnAfter xs s0 s1 → Unread (y ∷ ys) s1 s2 → Unread (xs ++ y ∷ ys) s0 s2
 unread_more xs y ys s0 s1 s2 b h = record {
   stopped = stopped_more xs y ys put.Done s0 s1 s2 b h.stopped;
   reads = (let r = h.reads in let f = b.kept.works.stays.counts.reads in omega (arith, r, f));
 }
 
-from_before : (xs : List Name) (file : Name) (Is : List ℕ → Type 0) (s0 s1 s2 : DeskState) → GoesOnBehind xs s0 s1 → ReadsFrom file Is s1 s2 → ReadsFrom file Is s0 s2
+pub from_before : (xs : List Name) (file : Name) (Is : List ℕ → Type 0) (s0 s1 s2 : DeskState) → GoesOnAfter xs s0 s1 → ReadsFrom file Is s1 s2 → ReadsFrom file Is s0 s2
 from_before xs file Is s0 s1 s2 b h = record {
   bytes = h.bytes;
   read = subst (λ (files : Option (Name → Option (List ℕ))). IsFile files file (h.bytes ++ rest_of s2.left)) b.kept.works.stays.files h.read;
@@ -195,7 +209,7 @@ from_before xs file Is s0 s1 s2 b h = record {
   is = h.is;
 }
 
-added_more : (xs : List Name) (y output : Name) (text : List ℕ) (s0 s1 s2 : DeskState) → GoesOnBehind xs s0 s1 → Added (y ∷ []) output text s1 s2 → Added (xs ++ y ∷ []) output text s0 s2
+pub added_more : (xs : List Name) (y output : Name) (text : List ℕ) (s0 s1 s2 : DeskState) → GoesOnAfter xs s0 s1 → Added (y ∷ []) output text s1 s2 → Added (xs ++ y ∷ []) output text s0 s2
 added_more xs y output text s0 s1 s2 b h = record {
   asked = subst (λ (names : List Name). Asks names put.Done s0 s2) (sym (append_assoc xs (y ∷ []) (output ∷ []))) (asks_more xs y (output ∷ []) put.Done s0 s1 s2 b h.asked);
   outputs = subst (λ (had : Option (List (Name × List ℕ))). Grows had (output, text) s2.outputs) b.kept.outputs h.outputs;
@@ -206,10 +220,10 @@ added_more xs y output text s0 s1 s2 b h = record {
 abbrev turning_behind : List Name → Name → Name → Choice → Turning
 turning_behind before input output choice = record { before = before; input = input; output = output; choice = choice }
 
-reads_before : (xs : List Name) (input output : Name) (choice : Choice) (M : Meaning) (s0 s1 s2 : DeskState) → GoesOnBehind xs s0 s1 → ReadsPicture (turning_behind [] input output choice) M s1 s2 → ReadsPicture (turning_behind xs input output choice) M s0 s2
+reads_before : (xs : List Name) (input output : Name) (choice : Choice) (M : Meaning) (s0 s1 s2 : DeskState) → GoesOnAfter xs s0 s1 → ReadsPicture (turning_behind [] input output choice) M s1 s2 → ReadsPicture (turning_behind xs input output choice) M s0 s2
 reads_before xs input output choice M s0 s1 s2 b h = record { read = from_before xs input _ s0 s1 s2 b h.read; admitted = h.admitted }
 
-pub turned_behind : (xs : List Name) (input output : Name) (choice : Choice) (s0 s1 s2 : DeskState) (w : Why) → GoesOnBehind xs s0 s1 → Turned (turning_behind [] input output choice) s1 w s2 → Turned (turning_behind xs input output choice) s0 w s2
+pub turned_behind : (xs : List Name) (input output : Name) (choice : Choice) (s0 s1 s2 : DeskState) (w : Why) → GoesOnAfter xs s0 s1 → Turned (turning_behind [] input output choice) s1 w s2 → Turned (turning_behind xs input output choice) s0 w s2
 turned_behind xs i o c s0 s1 s2 why.Done b (M, read, wrote, means) = (M, reads_before xs i o c M s0 s1 s2 b read, added_more xs i o (moved_text c M) s0 s1 s2 b wrote, means)
 turned_behind xs i o c s0 s1 s2 (why.Usage u) b h = absurd h
 turned_behind xs i o c s0 s1 s2 (why.Refused f) b h = (stopped_more xs i [] put.Done s0 s1 s2 b h.0, from_before xs i _ s0 s1 s2 b h.1)

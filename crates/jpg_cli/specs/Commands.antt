@@ -4,11 +4,13 @@ use Rattle.std.specs.Str.{bytes_eq}
 use Rattle.jpg_base.specs.declared.names.Name.{Name}
 use Rattle.jpg_base.specs.declared.names.Name.TheVariants as name
 use Rattle.jpg_spec.specs.Words.{is_tool}
+use Rattle.jpg_spec.specs.EncodeWords.{EncodeAsked, encode_asked}
 use Rattle.jpg_spec.specs.ShowWords.{ShowAsked, show_asked}
 use Rattle.jpg_spec.specs.TransformWords.{TransformAsked, transform_asked}
 use Rattle.jpg_spec.specs.CommentWords.{FileName, standard_input, standard_output, named, FilesAsked, WordsTold, WriteAsked, words_right, words_wrong, usage_at, read_asked, write_asked}
 use Rattle.jpg_spec.specs.declared.answers.UsageFault.TheVariants.{NoTool, UnknownTool}
 use Rattle.jpg_cli.specs.CommentWords.{files_told, write_told}
+use Rattle.jpg_cli.specs.EncodeWords.{encode_told}
 use Rattle.jpg_cli.specs.ShowWords.{show_told}
 use Rattle.jpg_cli.specs.TransformWords.{transform_told}
 use Rattle.jpg_cli.specs.declared.words.Asked.{Asked}
@@ -16,11 +18,12 @@ use Rattle.jpg_cli.specs.declared.words.Asked.TheVariants as asked
 use Rattle.jpg_cli.specs.declared.comment_words.WordsStop.{WordsStop}
 use Rattle.jpg_cli.specs.declared.comment_words.WordsStop.TheVariants as stop
 
--- what isn't built yet; jpegtran; djpeg; rdjpgcom; wrjpgcom
+-- what isn't built yet; jpegtran; djpeg; cjpeg; rdjpgcom; wrjpgcom
 pub data Command : Type 0 where
   not_built : Command
   transform_picture : TransformAsked → Command
   show_picture : ShowAsked → Command
+  encode_image : EncodeAsked → Command
   print_comments : FilesAsked → Command
   insert_comment : WriteAsked → Command
 
@@ -44,10 +47,16 @@ abbrev pub transform_command : WordsTold TransformAsked → WordsTold Command
 transform_command (words_wrong usage) = words_wrong usage
 transform_command (words_right asked) = words_right (transform_picture asked)
 
+-- and for cjpeg
+abbrev pub encode_command : WordsTold EncodeAsked → WordsTold Command
+encode_command (words_wrong usage) = words_wrong usage
+encode_command (words_right asked) = words_right (encode_image asked)
+
 abbrev pub known_command : List ℕ → List (List ℕ) → WordsTold Command
 known_command tool words =
     if bytes_eq tool (codes "jpegtran") then transform_command (transform_asked words)
     else if bytes_eq tool (codes "djpeg") then show_command (show_asked words)
+    else if bytes_eq tool (codes "cjpeg") then encode_command (encode_asked words)
     else if bytes_eq tool (codes "rdjpgcom") then read_command (read_asked 1 words)
     else if bytes_eq tool (codes "wrjpgcom") then write_command (write_asked 1 words)
     else words_right not_built
@@ -68,6 +77,7 @@ abbrev pub command_told : Asked → Command
 command_told asked.NotBuilt = not_built
 command_told (asked.Jpegtran words) = transform_picture (transform_told words)
 command_told (asked.Djpeg words) = show_picture (show_told words)
+command_told (asked.Cjpeg words) = encode_image (encode_told words)
 command_told (asked.Rdjpgcom files) = print_comments (files_told files)
 command_told (asked.Wrjpgcom words) = insert_comment (write_told words)
 
@@ -78,4 +88,5 @@ IsCommand told (Err (stop.Usage usage)) = told ≡ words_wrong usage
 IsCommand told (Err stop.NoMemory) =
     ((a : TransformAsked) × (told ≡ words_right (transform_picture a)))
     ⊎ ((asked : ShowAsked) × (told ≡ words_right (show_picture asked)))
+    ⊎ ((asked : EncodeAsked) × (told ≡ words_right (encode_image asked)))
     ⊎ ((files : FilesAsked) × (told ≡ words_right (print_comments files))) ⊎ ((asked : WriteAsked) × (told ≡ words_right (insert_comment asked)))

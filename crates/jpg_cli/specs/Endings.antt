@@ -7,6 +7,7 @@ use Rattle.jpg_base.specs.Desk.{DeskState, Rose}
 use Rattle.jpg_base.specs.Laws.{NotesNames, Grows}
 use Rattle.jpg_spec.specs.Segments.{standard_limits}
 use Rattle.jpg_cli.specs.Reading.{ReadsBytes}
+use Rattle.jpg_cli.specs.Stays.{Keeps}
 
 -- names in the order in which they are asked for, with their answers: this one for the last, and Done for each before it
 abbrev pub asked_for : List Name → Put → List (Name × Put)
@@ -18,7 +19,12 @@ asked_for (name ∷ next ∷ names) answer = (name, put.Done) ∷ asked_for (nex
 abbrev pub Asks : List Name → Put → DeskState → DeskState → Type 0
 Asks names answer old new = NotesNames old.asked (asked_for names answer) new.asked
 
--- They were, and no output was added.
+-- These names were asked for and opened, and nothing but reading was done.
+pub record GoesOnAfter (names : List Name) (old new : DeskState) : Type 0 where
+  pub asked : Asks names put.Done old new
+  pub kept : Keeps old new
+
+-- They were asked for, and no output was added.
 pub record Stopped (names : List Name) (answer : Put) (old new : DeskState) : Type 0 where
   pub asked : Asks names answer old new
   pub outputs : new.outputs ≡ old.outputs

@@ -3,12 +3,17 @@ pub mod Commands
 pub mod CommentInserted
 pub mod CommentTaken
 pub mod CommentWords
+pub mod EncodeDue
+pub mod EncodeWords
 pub mod Endings
 pub mod Ends
 pub mod FileTaken
+pub mod ImageEncoded
+pub mod ImageWritten
 pub mod InsertComment
 pub mod Laws
 pub mod ReadComments
+pub mod ReadImage
 pub mod ReadPicture
 pub mod Reading
 pub mod Requests
@@ -18,6 +23,7 @@ pub mod ShowWords
 pub mod Showing
 pub mod Stays
 pub mod Switches
+pub mod TablesTaken
 pub mod TransformWords
 pub mod Turned
 pub mod Writing

@@ -16,10 +16,11 @@ use Rattle.jpg_spec.specs.declared.answers.Why.TheVariants as why
 use Rattle.jpg_spec.specs.declared.answers.Which.TheVariants as which
 use Rattle.jpg_spec.specs.declared.fault.Fault.{Fault}
 use Rattle.jpg_spec.specs.declared.frame.Colour.{Colour}
+use Rattle.jpg_spec.specs.declared.frame.Copying.{Copying}
 use Rattle.jpg_spec.specs.declared.image.ImageKind.{ImageKind}
 use Rattle.jpg_color.specs.Admits.{admitted}
 use Rattle.jpg_color.specs.Shown.{factors_of}
-use Rattle.jpg_file.specs.PictureRead.{picture_meaning}
+use Rattle.jpg_file.specs.PictureRead.{MeansFor}
 use Rattle.jpg_file.specs.ReadFile.{HasRead, IsDone, IsRefusal, ReaderState}
 use Rattle.jpg_file.specs.declared.picture.Picture.{Picture}
 use Rattle.jpg_cli.specs.Endings.{Asks, Stopped, Unopened, Unread}
@@ -90,14 +91,14 @@ pub record ReadsFrom (file : Name) (Is : List ℕ → Type 0) (old new : DeskSta
   pub most : length bytes ≤ standard_limits.input
   pub is : Is bytes
 
--- THE ANSWERS: the picture means what the file means, or why there is none
-abbrev pub PictureRead : Wanted → Name → DeskState → Result Picture Why → DeskState → Type 0
-PictureRead w file old (Ok p) new = Asks (file ∷ []) put.Done old new × ReadsFrom file (IsWholeRead w (picture_meaning p)) old new
-PictureRead w file old (Err (why.Refused f)) new = Stopped (file ∷ []) put.Done old new × ReadsFrom file (IsRefusedRead w f (rest_of new.left)) old new
-PictureRead w file old (Err (why.OpenFault which.Input)) new = Unopened (file ∷ []) old new
-PictureRead w file old (Err (why.ReadFault which.Input)) new = Unread (file ∷ []) old new × ReadsFrom file (IsOpenRead w) old new
-PictureRead w file old (Err why.NoMemory) new = Stopped (file ∷ []) put.Done old new × ReadsFrom file (IsShortRead w) old new
-PictureRead w file old (Err other) new = ⊥
+-- THE ANSWERS: the picture means what the file means, but for markers that aren't kept where these are passed on; or why there is none
+abbrev pub PictureRead : Wanted → Copying → Name → DeskState → Result Picture Why → DeskState → Type 0
+PictureRead w keeping file old (Ok p) new = Asks (file ∷ []) put.Done old new × ((M : Meaning) × MeansFor keeping p M × ReadsFrom file (IsWholeRead w M) old new)
+PictureRead w keeping file old (Err (why.Refused f)) new = Stopped (file ∷ []) put.Done old new × ReadsFrom file (IsRefusedRead w f (rest_of new.left)) old new
+PictureRead w keeping file old (Err (why.OpenFault which.Input)) new = Unopened (file ∷ []) old new
+PictureRead w keeping file old (Err (why.ReadFault which.Input)) new = Unread (file ∷ []) old new × ReadsFrom file (IsOpenRead w) old new
+PictureRead w keeping file old (Err why.NoMemory) new = Stopped (file ∷ []) put.Done old new × ReadsFrom file (IsShortRead w) old new
+PictureRead w keeping file old (Err other) new = ⊥
 
 -- STEP BY STEP, from a desk whose input is open
 
@@ -110,9 +111,9 @@ EndsEarly w old (why.ReadFault which.Input) new = Takes (IsOpenRead w) old new �
 EndsEarly w old why.NoMemory new = Takes (IsShortRead w) old new
 EndsEarly w old other new = ⊥
 
-abbrev pub EndsReading : Wanted → DeskState → Result Picture Why → DeskState → Type 0
-EndsReading w old (Ok p) new = Takes (IsWholeRead w (picture_meaning p)) old new
-EndsReading w old (Err ended) new = EndsEarly w old ended new
+abbrev pub EndsReading : Wanted → Copying → DeskState → Result Picture Why → DeskState → Type 0
+EndsReading w keeping old (Ok p) new = (M : Meaning) × MeansFor keeping p M × Takes (IsWholeRead w M) old new
+EndsReading w keeping old (Err ended) new = EndsEarly w old ended new
 
 -- The reader was fed these bytes, fewer than may be taken, in which nothing is unwanted, and goes on.
 pub record HasFed (w : Wanted) (r : ReaderState) (bytes : List ℕ) : Type 0 where

@@ -1,8 +1,8 @@
 -- What switches and files ask for, as the calls answer it.
-use Rattle.std.specs.Prelude.{◌≡◌, ℕ, Bool, true, false, List, drop, Option, Some, None, Result, Ok, Err}
+use Rattle.std.specs.Prelude.{◌≡◌, ℕ, ◌-◌, ◌∷◌, Bool, true, false, List, drop, Option, Some, None, option_and_then, unwrap_or, Result, Ok, Err, []}
 use Rattle.std.specs.Borrow.{Bor}
 use Rattle.jpg_spec.specs.CommentWords.{FileName, FilesAsked, named, standard_output, WordsTold, words_wrong}
-use Rattle.jpg_spec.specs.Requests.{Request, SwitchAsked, alone, request_from, valued, wrong}
+use Rattle.jpg_spec.specs.Requests.{Request, SwitchAsked, alone, are_factors, factors_from, factors_named, quality_named, request_from, valued, wrong}
 use Rattle.jpg_spec.specs.Switches.{Switch, is_switch, purpose_of}
 use Rattle.jpg_spec.specs.declared.switch.Purpose.{Purpose}
 use Rattle.jpg_spec.specs.declared.answers.Usage.{Usage}
@@ -19,6 +19,13 @@ output_told (Some word) = named word.now
 abbrev pub files_said : Option (Bor (List ℕ)) → Option (Bor (List ℕ)) → FilesAsked
 files_said output input = record { input = input_told input; output = output_told output }
 
+-- a quality and factors that are spelled so
+abbrev pub quality_said : Option (List ℕ) → Option ℕ
+quality_said text = option_and_then quality_named text
+
+abbrev pub factors_said : Option (List ℕ) → List (ℕ × ℕ)
+factors_said text = unwrap_or (option_and_then factors_named text) []
+
 -- what the switches said so far, with the name of the input, if there is one
 abbrev pub with_input_told : Said × Option (Bor (List ℕ)) → Request
 with_input_told p = record {
@@ -32,6 +39,10 @@ with_input_told p = record {
   restart = restart_of p.0.restart;
   format = p.0.format;
   smooth = p.0.smooth;
+  quality = quality_said (text_told p.0.quality);
+  baseline = p.0.baseline;
+  tables = text_told p.0.tables;
+  factors = factors_said (text_told p.0.factors);
 }
 
 -- and with no input's name yet
@@ -70,3 +81,8 @@ abbrev pub is_valued : SwitchAsked → Bool
 is_valued (alone asks) = false
 is_valued (valued asks) = true
 is_valued (wrong fault) = false
+
+-- The pair of factors that a text begins with, and what stands after it; or none, and the text spells no factors.
+abbrev pub IsFirstPair : List ℕ → Option ((ℕ × ℕ) × Bor (List ℕ)) → Type 0
+IsFirstPair text None = (most : ℕ) → factors_from most text ≡ None
+IsFirstPair text (Some found) = (a x d : ℕ) × (text ≡ a ∷ x ∷ d ∷ found.1.now) × (are_factors a x d ≡ true) × (found.0 ≡ (a - 48, d - 48))

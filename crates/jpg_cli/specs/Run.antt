@@ -21,8 +21,9 @@ use Rattle.jpg_spec.specs.declared.answers.UsageFault.TheVariants.{NoEnd}
 use Rattle.jpg_spec.specs.declared.image.EndKind.{EndKind}
 use Rattle.jpg_spec.specs.TransformWords.{TransformAsked, choice_asked}
 use Rattle.jpg_spec.specs.Words.{tool_of}
-use Rattle.jpg_cli.specs.Commands.{Command, not_built as unbuilt, transform_picture, show_picture, print_comments, insert_comment, command_asked, name_of}
+use Rattle.jpg_cli.specs.Commands.{Command, not_built as unbuilt, transform_picture, show_picture, encode_image, print_comments, insert_comment, command_asked, name_of}
 use Rattle.jpg_cli.specs.CommentInserted.{Inserted, Task}
+use Rattle.jpg_cli.specs.ImageEncoded.{EncodedAsAsked}
 use Rattle.jpg_cli.specs.ReadComments.{Printed}
 use Rattle.jpg_cli.specs.ReadPicture.{IsRefusedFor}
 use Rattle.jpg_cli.specs.declared.read_picture.Wanted.{Wanted}
@@ -109,6 +110,7 @@ Worked formats (words_wrong usage) old ended new = (ended ≡ why.Usage usage) �
 Worked formats (words_right unbuilt) old ended new = (ended ≡ why.Refused (record { fault = NotBuilt; at = 0 })) × Untouched old new
 Worked formats (words_right (transform_picture asked)) old ended new = Transformed asked old ended new
 Worked formats (words_right (show_picture asked)) old ended new = RanShow (has_format asked.kind formats) asked old ended new
+Worked formats (words_right (encode_image asked)) old ended new = EncodedAsAsked asked old ended new
 Worked formats (words_right (print_comments files)) old ended new = RanRead files old ended new
 Worked formats (words_right (insert_comment asked)) old ended new = Inserted (task_of asked) old ended new
 

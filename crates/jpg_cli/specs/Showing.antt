@@ -1,5 +1,5 @@
 -- HOW SHOWING A PICTURE ENDS (the manual of djpeg), by why it ended.
-use Rattle.std.specs.Prelude.{◌≡◌, ◌⊎◌, ℕ, Bool, true, false, List, [], ◌∷◌, take}
+use Rattle.std.specs.Prelude.{◌≡◌, ◌⊎◌, ◌<◌, ℕ, Bool, true, false, List, [], ◌∷◌, length, take}
 use Rattle.jpg_base.specs.declared.names.Name.{Name}
 use Rattle.jpg_base.specs.declared.names.Put.TheVariants as put
 use Rattle.jpg_base.specs.Desk.{DeskState, NotesName, Rose}
@@ -48,8 +48,13 @@ pub record ShownInPart (s : Showing) (old new : DeskState) : Type 0 where
   pub read : ReadsShown s meaning old new
   pub wrote : Added (s.input ∷ []) s.output (take count (shown_text s meaning)) old new
 
+-- and something of it is left
+pub record ShownNotWhole (s : Showing) (old new : DeskState) : Type 0 where
+  pub part : ShownInPart s old new
+  pub left : part.count < length (shown_text s part.meaning)
+
 -- Done: the output holds the text of the image of the picture that the input means. Where the output wasn't written to its end, it holds a first
--- part of that text. The output is created only behind a picture that was read and is shown.
+-- part of that text, and where memory was wanting not all of it. The output is created only behind a picture that was read and is shown.
 abbrev pub Shown : Showing → DeskState → Why → DeskState → Type 0
 Shown s old why.Done new = (M : Meaning) × ReadsShown s M old new × Added (s.input ∷ []) s.output (shown_text s M) old new
 Shown s old (why.Refused f) new = Stopped (s.input ∷ []) put.Done old new × ReadsFrom s.input (IsRefusedRead (Image s.gray) f (rest_of new.left)) old new
@@ -57,13 +62,17 @@ Shown s old (why.OpenFault which.Input) new = Unopened (s.input ∷ []) old new
 Shown s old (why.OpenFault which.Output) new = Unopened (s.input ∷ s.output ∷ []) old new × ((M : Meaning) × ReadsShown s M old new)
 Shown s old (why.ReadFault which.Input) new = Unread (s.input ∷ []) old new × ReadsFrom s.input (IsOpenRead (Image s.gray)) old new
 Shown s old why.WriteFault new = Rose old.counts.writes new.counts.writes × ShownInPart s old new
-Shown s old why.NoMemory new = (Stopped (s.input ∷ []) put.Done old new × ReadsFrom s.input (IsShortRead (Image s.gray)) old new) ⊎ ShownInPart s old new
+Shown s old why.NoMemory new = (Stopped (s.input ∷ []) put.Done old new × ReadsFrom s.input (IsShortRead (Image s.gray)) old new) ⊎ ShownNotWhole s old new
 Shown s old other new = ⊥
 
 -- with an end of images of this format, or none, which the words ask for
 abbrev pub ShownBy : Bool → ShowWords → DeskState → Why → DeskState → Type 0
 ShownBy true w old ended new = Shown (showing_told w) old ended new
 ShownBy false w old ended new = (ended ≡ why.Usage (record { fault = NoEnd; word = w.kind_word })) × Untouched old new
+
+-- Outputs grew by one of this name, which holds a first part of the bytes, and not all.
+abbrev pub GrowsByLess : Name → DeskState → List ℕ → DeskState → Type 0
+GrowsByLess output old due new = (n : ℕ) × (n < length due) × Grows old.outputs (output, take n due) new.outputs
 
 -- CREATING AND WRITING THE OUTPUT: it holds what is due, or a first part of it; or it wasn't created.
 abbrev pub AfterImage : Name → DeskState → List ℕ → Why → DeskState → Type 0
@@ -72,7 +81,7 @@ AfterImage output old due (why.OpenFault which.Output) new =
     NotesName old.asked (output, put.Failed) new.asked × Rose old.counts.opens new.counts.opens × (new.outputs ≡ old.outputs)
 AfterImage output old due why.WriteFault new =
     NotesName old.asked (output, put.Done) new.asked × Rose old.counts.writes new.counts.writes × GrowsInPart output old due new
-AfterImage output old due why.NoMemory new = NotesName old.asked (output, put.Done) new.asked × GrowsInPart output old due new
+AfterImage output old due why.NoMemory new = NotesName old.asked (output, put.Done) new.asked × GrowsByLess output old due new
 AfterImage output old due other new = ⊥
 
 -- of this picture, as the words ask for it

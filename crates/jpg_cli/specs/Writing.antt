@@ -8,6 +8,8 @@ use Rattle.jpg_spec.specs.FileMeaning.{Means}
 use Rattle.jpg_spec.specs.Meaning.{Meaning}
 use Rattle.jpg_spec.specs.Moved.{Choice, moved, moved_text, picture_fault}
 use Rattle.jpg_spec.specs.Segments.{standard_limits}
+use Rattle.jpg_file.specs.PictureRead.{MeansFor}
+use Rattle.jpg_file.specs.declared.picture.Picture.{Picture}
 use Rattle.jpg_cli.specs.Stays.{Untouched}
 use Rattle.jpg_cli.specs.declared.writing.Wrote.{Wrote}
 use Rattle.jpg_cli.specs.declared.writing.Wrote.TheVariants as wrote
@@ -41,3 +43,7 @@ AfterMoved choice M output old wrote.Done new =
     (picture_fault choice M ≡ None) × AfterOutput output old (moved_text choice M) wrote.Done new × (IsMeant M → MeansMoved choice M)
 AfterMoved choice M output old wrote.OpenFault new = (picture_fault choice M ≡ None) × AfterOutput output old (moved_text choice M) wrote.OpenFault new
 AfterMoved choice M output old wrote.WriteFault new = (picture_fault choice M ≡ None) × AfterOutput output old (moved_text choice M) wrote.WriteFault new
+
+-- Whatever picture this one means, but for markers that the choice doesn't pass on.
+abbrev pub WritesMoved : Choice → Picture → Name → DeskState → Wrote → DeskState → Type 0
+WritesMoved choice p output old answer new = (M : Meaning) → MeansFor choice.copying p M → AfterMoved choice M output old answer new

@@ -11,7 +11,11 @@ ghost use Rattle.jpg_spec.specs.declared.answers.Why.TheVariants as why;
 ghost use Rattle.jpg_spec.specs.declared.transform.PictureFault.{PictureFault};
 ghost use Rattle.jpg_cli.specs.Run.{IsAnswerDue, IsShowDue};
 ghost use Rattle.jpg_cli.specs.Turned.{Transformed};
+ghost use Rattle.jpg_spec.specs.EncodeWords.{EncodeAsked};
 ghost use Rattle.jpg_spec.specs.TransformWords.{TransformAsked};
+ghost use Rattle.jpg_spec.specs.declared.answers.Why.{Why};
+ghost use Rattle.jpg_cli.specs.EncodeDue.{IsDueOrNoMemory, IsEncodeDue, TellsFiles};
+ghost use Rattle.jpg_cli.specs.ImageEncoded.{EncodedAsAsked};
 ghost use Rattle.jpg_cli.specs.ReadComments.{IsPrintDue, Printed};
 ghost use Rattle.jpg_cli.specs.CommentInserted.{Inserted, IsInsertDue, Task};
 ghost use Rattle.jpg_cli.specs.ReadPicture.{IsRefusedFor};
@@ -54,6 +58,15 @@ pub fn shown_answers_are_due()
 /// rose, the run ends with Done, or for want of memory.
 pub fn pictures_are_shown()
     ensures { (showing : Showing) (old : DeskState) → HasImage showing old → WhereNoneRose (Shown showing) old IsDoneOrWanting }
+{}
+
+/// Where no count of open, read or write rose, a run that encodes an image ends as its scans, its tables and its image say: Refused where
+/// the file that shall tell the scans has a fault, or else that of the tables, or else the input; else Picture where the image has a fault
+/// for what is asked, and Done where it has none; or NoMemory. Over a desk that tells its files one such answer is due: so an image without
+/// a fault is encoded, and what is wrong is what is answered.
+pub fn encodings_are_due()
+    ensures due { (asked : EncodeAsked) (old : DeskState) → WhereNoneRose (EncodedAsAsked asked) old (IsDueOrNoMemory asked old) }
+    ensures one { (asked : EncodeAsked) (due : Why) (old : DeskState) → TellsFiles old → IsEncodeDue asked old due → Answers (EncodedAsAsked asked) old due }
 {}
 
 /// An input is refused with one fault at one place, whatever is wanted of it: so are all runs that refuse it, however it is cut into

@@ -3,11 +3,17 @@
 
 mod comment_taken;
 mod comment_words;
+mod encode;
+mod encode_request;
+mod encode_values;
+mod encode_words;
+mod encoding;
 mod insert_comment;
 mod laws;
 mod message;
 mod program;
 mod read_comments;
+mod read_image;
 mod read_picture;
 mod reading;
 mod requests;
@@ -16,6 +22,7 @@ mod show;
 mod show_by;
 mod show_words;
 mod switches;
+mod tables_taken;
 mod top;
 mod transform;
 mod transform_words;
@@ -23,8 +30,9 @@ mod words;
 mod writing;
 
 pub use comment_words::{CommentFrom, Files, WordsStop, WriteWords};
+pub use encode_request::EncodeWords;
 pub use laws::{
-    answers_are_due, files_with_a_frame_header_have_the_comment_inserted,
+    answers_are_due, encodings_are_due, files_with_a_frame_header_have_the_comment_inserted,
     inserted_comments_are_due, pictures_are_shown, pictures_are_turned, pictures_are_turned_back,
     printed_comments_are_due, shown_answers_are_due, whole_files_have_their_comments_printed,
 };

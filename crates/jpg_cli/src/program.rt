@@ -8,13 +8,15 @@ use std::io::ErrorKind;
 use std::process::ExitCode;
 use std::rt::Runtime;
 
-const VERSION: &str = "jpgsuite 0.5.1\n";
+const VERSION: &str = "jpgsuite 0.6.0\n";
 
 const HELP: &str = "\
 jpegtran [-flip horizontal | -flip vertical | -rotate 90 | -rotate 180 | -rotate 270 | -transpose | -transverse]
     [-trim] [-grayscale] [-copy none | -copy comments | -copy all] [-progressive | -scans SCRIPT] [-restart N[B]]
     [-outfile NAME] [FILE] > OUTPUT
 djpeg [-pnm | -ppm | -bmp] [-grayscale] [-nosmooth] [-dct int] [-scale 1/1] [-outfile NAME] [FILE] > OUTPUT
+cjpeg [-quality N] [-grayscale] [-baseline] [-progressive | -scans SCRIPT] [-restart N[B]] [-sample HxV,..] [-qtables TABLES]
+    [-dct int] [-outfile NAME] [FILE] > OUTPUT
 rdjpgcom [FILE] > OUTPUT
 wrjpgcom [-replace] [-comment TEXT | -cfile FILE] [FILE] > OUTPUT
 ";

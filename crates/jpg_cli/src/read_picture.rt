@@ -1,6 +1,7 @@
 //! The picture of an input, read piece by piece (T.81, B.2.1).
 ghost use Rattle.std.specs.Prelude.{◌≡◌, ◌≤◌, [], List, ℕ, length, true, false};
 ghost use Rattle.jpg_spec.specs.Segments.{standard_limits};
+ghost use Rattle.jpg_file.specs.File.{keeping_of};
 ghost use Rattle.jpg_file.specs.ReadFile.{HasRead, head_seen};
 ghost use Rattle.jpg_cli.specs.Stays.{Keeps, OnlyReads};
 ghost use Rattle.jpg_cli.specs.ReadPicture.{AfterFileEnd, EndsReading, EndsWhole, GoesOn, HasFed, PictureRead, ReadsNext, ReadsPictureBytes, StepDone, step_unless, unwanted_in};
@@ -9,7 +10,7 @@ use crate::reading::read_within;
 use jpg_base::{Desk, Fed, Got, Name, Put, Stop};
 use jpg_color::admits;
 use jpg_file::{Picture, Reader};
-use jpg_spec::{FaultAt, Limits, Which, Why};
+use jpg_spec::{Copying, FaultAt, Limits, Which, Why};
 use std::alloc::Global;
 
 /// What is wanted of a picture: its coefficients, or an image, gray where that is asked for.
@@ -27,31 +28,38 @@ enum PictureStep {
     Ended(Why),
 }
 
-/// The picture of the file of this name. The file is read in pieces of at most 16,384 bytes, up to the
-/// one in which it is whole, shows a fault, or tells at the end of its first scan header that the picture isn't wanted.
+/// The picture of the file of this name, with the markers that may be passed on. The file is read in pieces of at
+/// most 16,384 bytes, up to the one in which it is whole, shows a fault, or tells at the end of its first scan header
+/// that the picture isn't wanted.
 #[inline(never)]
 pub fn read_picture<D: Desk>(
     alloc: Global,
     name: &Name,
     wanted: Wanted,
+    copying: Copying,
     desk: &mut D,
 ) -> Result<Picture, Why>
     ensures kept { Keeps (D.state desk.old) (D.state desk.new) }
-    ensures read { PictureRead wanted name.now (D.state desk.old) result (D.state desk.new) }
+    ensures read { PictureRead wanted copying name.now (D.state desk.old) result (D.state desk.new) }
 {
     match desk.open(name) {
         Put::Failed => Err(Why::OpenFault(Which::Input)),
-        Put::Done => take_picture(alloc, wanted, desk),
+        Put::Done => take_picture(alloc, wanted, copying, desk),
     }
 }
 
 // The picture of the open input.
-fn take_picture<D: Desk>(alloc: Global, wanted: Wanted, desk: &mut D) -> Result<Picture, Why>
+fn take_picture<D: Desk>(
+    alloc: Global,
+    wanted: Wanted,
+    copying: Copying,
+    desk: &mut D,
+) -> Result<Picture, Why>
     requires open { (D.state desk.old).input_open ≡ true }
     ensures kept { OnlyReads (D.state desk.old) (D.state desk.new) }
-    ensures read { EndsReading wanted (D.state desk.old) result (D.state desk.new) }
+    ensures read { EndsReading wanted copying (D.state desk.old) result (D.state desk.new) }
 {
-    let mut reader = Reader::new(alloc, Limits::standard());
+    let mut reader = Reader::for_copying(alloc, Limits::standard(), copying);
     match read_whole(&mut reader, wanted, desk) {
         Ok(()) => Ok(reader.take()),
         Err(why) => Err(why),
@@ -66,6 +74,7 @@ fn read_whole<D: Desk>(reader: &mut Reader, wanted: Wanted, desk: &mut D) -> Res
     ensures kept { OnlyReads (D.state desk.old) (D.state desk.new) }
     ensures ended { EndsWhole wanted (D.state desk.old) result reader.new (D.state desk.new) }
     ensures limits { reader.new.limits ≡ standard_limits }
+    ensures keeping { keeping_of reader.new.file ≡ keeping_of reader.old.file }
 {
     let mut buffer = [0u8; 16384];
     loop {
@@ -91,6 +100,7 @@ fn next_piece<D: Desk>(
     ensures goes_on { GoesOn result reader.new (D.state desk.new) }
     ensures after { ReadsNext wanted reader.old (D.state desk.old) result reader.new (D.state desk.new) }
     ensures limits { reader.new.limits ≡ standard_limits }
+    ensures keeping { keeping_of reader.new.file ≡ keeping_of reader.old.file }
 {
     match read_within(desk, reader.room(), buffer) {
         Got::Failed => PictureStep::Ended(Why::ReadFault(Which::Input)),
@@ -133,6 +143,7 @@ fn take_piece(reader: &mut Reader, wanted: Wanted, piece: &[u8]) -> PictureStep
     ensures taken { ReadsPictureBytes wanted reader.old piece.now result reader.new }
     ensures done { StepDone result reader.new }
     ensures limits { reader.new.limits ≡ standard_limits }
+    ensures keeping { keeping_of reader.new.file ≡ keeping_of reader.old.file }
 {
     match reader.feed(piece) {
         Ok(Fed::More) => step_unless(unwanted(reader, wanted), PictureStep::More),
@@ -151,6 +162,7 @@ fn at_end(reader: &mut Reader, wanted: Wanted) -> Why
     requires limits { reader.old.limits ≡ standard_limits }
     ensures ended { (bytes : List ℕ) → HasFed wanted reader.old bytes → AfterFileEnd wanted bytes result }
     ensures limits { reader.new.limits ≡ standard_limits }
+    ensures keeping { keeping_of reader.new.file ≡ keeping_of reader.old.file }
 {
     match reader.end() {
         Stop::Fault(fault) => Why::Refused(fault),

@@ -1,8 +1,8 @@
-//! What switches and files ask for, in any command (the manuals of jpegtran and djpeg in release 6b; shortest forms are the
+//! What switches and files ask for, in any command (the manuals of jpegtran, djpeg and cjpeg in release 6b; shortest forms are the
 //! suite's own).
 ghost use Rattle.std.specs.Prelude.{◌≡◌, ◌<◌, ◌≤◌, ℕ, IfOk, Some, length, map, drop, true, false, option_map, string_bytes};
 ghost use Rattle.jpg_spec.specs.CommentWords.{words_right};
-ghost use Rattle.jpg_spec.specs.Requests.{copying_named, ends_with_b, flip_named, is_int, is_whole_scale, number_of, request, restart_by, restart_named, rotation_named, switch_asked, transform_number, where_good, with_output, with_transform, with_value, without_b};
+ghost use Rattle.jpg_spec.specs.Requests.{copying_named, ends_with_b, factors_named, flip_named, is_int, is_whole_scale, number_of, quality_named, request, restart_by, restart_named, rotation_named, switch_asked, transform_number, where_good, with_output, with_transform, with_value, without_b};
 ghost use Rattle.jpg_file.specs.Restarts.{restart_of};
 ghost use Rattle.jpg_spec.specs.Switches.{is_switch};
 ghost use Rattle.jpg_cli.specs.CommentWords.{AnswersWords, files_told, word_at};
@@ -10,6 +10,7 @@ ghost use Rattle.jpg_cli.specs.Requests.{IsSaid, IsSaidAtEnd, IsSaidOf, SaysAt, 
 ghost use Rattle.jpg_cli.specs.Switches.{told_switch};
 
 use crate::comment_words::{Files, usage, value_of, word_at};
+use crate::encode_values::{factors_named, quality_named};
 use crate::switches::{Switch, is_switch, lower, purpose_of, stands_for};
 use jpg_base::{Name, NoMemory, Text};
 use jpg_spec::{Copying, EndKind, Purpose, Transform, Usage, UsageFault};
@@ -31,6 +32,13 @@ pub struct Said<'a> {
     /// The format of the image, with the index of the word that asks for it, if one does.
     pub format: Option<(EndKind, u64)>,
     pub smooth: bool,
+    /// The quality as it is spelled, if it is given.
+    pub quality: Option<&'a str>,
+    pub baseline: bool,
+    /// The name of a file that has tables, if there is one.
+    pub tables: Option<&'a str>,
+    /// The factors as they are spelled, if they are given.
+    pub factors: Option<&'a str>,
 }
 
 /// What the switches say, and the name of the input, if the words give one; the word at place 0 is the command. Words that
@@ -53,6 +61,10 @@ pub fn read_said<'a>(
         restart: Restart::Off,
         format: None,
         smooth: true,
+        quality: None,
+        baseline: false,
+        tables: None,
+        factors: None,
     };
     let mut index = 1;
     while index < words.len() {
@@ -178,6 +190,10 @@ impl<'a> Said<'a> {
             Purpose::NotSmoothed => Ok(self.not_smoothed()),
             Purpose::DctGiven => self.where_good(is_int(value), index),
             Purpose::ScaleGiven => self.where_good(is_whole_scale(value), index),
+            Purpose::QualityGiven => self.with_quality(value, index),
+            Purpose::BaselineAsked => Ok(self.baseline()),
+            Purpose::FactorsGiven => self.with_factors(value, index),
+            Purpose::TablesInFile => Ok(self.with_tables(value)),
             Purpose::LeftOut => Err(usage(UsageFault::LeftOutSwitch, index)),
             Purpose::Replacing | Purpose::CommentGiven | Purpose::CommentInFile => {
                 Err(usage(UsageFault::UnknownSwitch, index))
@@ -242,6 +258,53 @@ impl<'a> Said<'a> {
     {
         Said {
             smooth: false,
+            ..self
+        }
+    }
+
+    // The same with a quality, if it is one.
+    fn with_quality(self, value: &'a str, index: usize) -> Result<Said<'a>, Usage>
+        requires { index < 18446744073709551615 }
+        ensures { AnswersWords said_told (with_value index (quality_named value.now) (λ q. words_right (record (said_told self.entry) { quality = Some q }))) result }
+    {
+        match quality_named(value.as_bytes()) {
+            Some(_) => Ok(Said {
+                quality: Some(value),
+                ..self
+            }),
+            None => Err(usage(UsageFault::BadValue, index + 1)),
+        }
+    }
+
+    fn baseline(self) -> Said<'a>
+        ensures { said_told result ≡ record (said_told self.entry) { baseline = true } }
+    {
+        Said {
+            baseline: true,
+            ..self
+        }
+    }
+
+    // The same with factors, if they are some.
+    fn with_factors(self, value: &'a str, index: usize) -> Result<Said<'a>, Usage>
+        requires { index < 18446744073709551615 }
+        ensures { AnswersWords said_told (with_value index (factors_named value.now) (λ f. words_right (record (said_told self.entry) { factors = f }))) result }
+    {
+        match factors_named(value.as_bytes()) {
+            Some(_) => Ok(Said {
+                factors: Some(value),
+                ..self
+            }),
+            None => Err(usage(UsageFault::BadValue, index + 1)),
+        }
+    }
+
+    // The same with the tables that the file of this name has.
+    fn with_tables(self, name: &'a str) -> Said<'a>
+        ensures { said_told result ≡ record (said_told self.entry) { tables = Some name.now } }
+    {
+        Said {
+            tables: Some(name),
             ..self
         }
     }
@@ -332,7 +395,10 @@ fn takes_value(purpose: Purpose) -> bool
         | Purpose::ScriptInFile
         | Purpose::RestartGiven
         | Purpose::DctGiven
-        | Purpose::ScaleGiven => true,
+        | Purpose::ScaleGiven
+        | Purpose::QualityGiven
+        | Purpose::FactorsGiven
+        | Purpose::TablesInFile => true,
         Purpose::Transposing
         | Purpose::TransposingAcross
         | Purpose::Trimming
@@ -341,6 +407,7 @@ fn takes_value(purpose: Purpose) -> bool
         | Purpose::PnmAsked
         | Purpose::BmpAsked
         | Purpose::NotSmoothed
+        | Purpose::BaselineAsked
         | Purpose::LeftOut
         | Purpose::Replacing
         | Purpose::CommentGiven
@@ -446,8 +513,8 @@ fn without_b(text: &[u8]) -> &[u8]
     if lower(*letter) == b'b' { before } else { text }
 }
 
-// The number that one to five decimal digits spell.
-fn number_of(text: &[u8]) -> Option<u32>
+/// The number that one to five decimal digits spell.
+pub(crate) fn number_of(text: &[u8]) -> Option<u32>
     ensures { result ≡ number_of text.now }
 {
     if text.is_empty() || text.len() > 5 {

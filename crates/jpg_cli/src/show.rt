@@ -12,7 +12,7 @@ use jpg_base::{Desk, Put};
 use jpg_color::{DecodeStop, decode_rows};
 use jpg_file::Picture;
 use jpg_pnm_bmp::ImageEnd;
-use jpg_spec::{Which, Why};
+use jpg_spec::{Copying, Which, Why};
 use std::alloc::Global;
 
 /// Reads the picture of the input, and writes the image that it shows to the output, in the format of `end`. The input is read in
@@ -29,7 +29,7 @@ pub fn show_picture<D: Desk>(
     ensures shown { Shown (showing_told words.now) (D.state desk.old) result (D.state desk.new) }
 {
     let wanted = Wanted::Image { gray: words.gray };
-    match read_picture(alloc, &words.files.input, wanted, desk) {
+    match read_picture(alloc, &words.files.input, wanted, Copying::None, desk) {
         Err(why) => why,
         Ok(picture) => write_image(alloc, &picture, words, end, desk),
     }

@@ -254,6 +254,110 @@ pub static DJPEG_SWITCHES: [Switch; 23] = [
     },
 ];
 
+/// The switches of cjpeg.
+pub static CJPEG_SWITCHES: [Switch; 20] = [
+    Switch {
+        name: "quality",
+        shortest: 1,
+        purpose: Purpose::QualityGiven,
+    },
+    Switch {
+        name: "grayscale",
+        shortest: 2,
+        purpose: Purpose::Graying,
+    },
+    Switch {
+        name: "greyscale",
+        shortest: 2,
+        purpose: Purpose::Graying,
+    },
+    Switch {
+        name: "baseline",
+        shortest: 1,
+        purpose: Purpose::BaselineAsked,
+    },
+    Switch {
+        name: "progressive",
+        shortest: 1,
+        purpose: Purpose::ProgressiveAsked,
+    },
+    Switch {
+        name: "scans",
+        shortest: 4,
+        purpose: Purpose::ScriptInFile,
+    },
+    Switch {
+        name: "restart",
+        shortest: 1,
+        purpose: Purpose::RestartGiven,
+    },
+    Switch {
+        name: "sample",
+        shortest: 2,
+        purpose: Purpose::FactorsGiven,
+    },
+    Switch {
+        name: "qtables",
+        shortest: 2,
+        purpose: Purpose::TablesInFile,
+    },
+    Switch {
+        name: "dct",
+        shortest: 2,
+        purpose: Purpose::DctGiven,
+    },
+    Switch {
+        name: "outfile",
+        shortest: 4,
+        purpose: Purpose::OutputNamed,
+    },
+    Switch {
+        name: "optimize",
+        shortest: 1,
+        purpose: Purpose::LeftOut,
+    },
+    Switch {
+        name: "optimise",
+        shortest: 1,
+        purpose: Purpose::LeftOut,
+    },
+    Switch {
+        name: "arithmetic",
+        shortest: 1,
+        purpose: Purpose::LeftOut,
+    },
+    Switch {
+        name: "verbose",
+        shortest: 1,
+        purpose: Purpose::LeftOut,
+    },
+    Switch {
+        name: "debug",
+        shortest: 1,
+        purpose: Purpose::LeftOut,
+    },
+    Switch {
+        name: "maxmemory",
+        shortest: 3,
+        purpose: Purpose::LeftOut,
+    },
+    Switch {
+        name: "smooth",
+        shortest: 2,
+        purpose: Purpose::LeftOut,
+    },
+    Switch {
+        name: "qslots",
+        shortest: 2,
+        purpose: Purpose::LeftOut,
+    },
+    Switch {
+        name: "targa",
+        shortest: 1,
+        purpose: Purpose::LeftOut,
+    },
+];
+
 /// Whether a word begins with a hyphen.
 pub fn is_switch(word: &str) -> bool
     ensures { result ≡ is_switch word.now }

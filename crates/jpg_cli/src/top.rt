@@ -6,6 +6,7 @@ ghost use Rattle.jpg_cli.specs.Stays.{OnlySays};
 ghost use Rattle.jpg_cli.specs.Run.{Ran, Works, SaysText};
 
 use crate::comment_words::WordsStop;
+use crate::encode::encode;
 use crate::insert_comment::insert_comment;
 use crate::message::message_of;
 use crate::read_comments::print_comments;
@@ -54,6 +55,7 @@ fn work<D: Desk>(alloc: Global, words: &[String], desk: &mut D, ends: Vec<Box<dy
         }),
         Ok(Asked::Jpegtran(words)) => transform(alloc, &words, desk),
         Ok(Asked::Djpeg(words)) => show_by(alloc, &words, desk, ends),
+        Ok(Asked::Cjpeg(words)) => encode(alloc, words, desk),
         Ok(Asked::Rdjpgcom(files)) => print_comments(alloc, &files, desk),
         Ok(Asked::Wrjpgcom(words)) => insert_comment(alloc, &words, desk),
     }
@@ -63,6 +65,7 @@ fn work<D: Desk>(alloc: Global, words: &[String], desk: &mut D, ends: Vec<Box<dy
 /// say, as a sequential file, to a file or onto standard output. An input is refused with its first fault, and nothing is written then.
 /// `djpeg` writes the image that such a file shows, as PNM or BMP, by the first of the ends of images that has the format; where none has
 /// it, the words are wrong at the one that asks for it.
+/// `cjpeg` writes the file of an image, PNM or BMP, encoded as its switches say.
 /// `rdjpgcom [FILE]` prints the comments of a file, or of standard input, onto standard output. `wrjpgcom`
 /// writes a file, or standard input, with a comment inserted before its frame header onto standard output.
 /// What is wrong or refused is named in a message.

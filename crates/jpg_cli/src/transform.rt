@@ -50,7 +50,8 @@ fn turn<D: Desk>(alloc: Global, files: &Files, choice: &Choice, desk: &mut D) ->
     ensures kept { OnlyWorks (D.state desk.old) (D.state desk.new) }
     ensures turned { Turned (turning_told files.now choice.now) (D.state desk.old) result (D.state desk.new) }
 {
-    match read_picture(alloc, &files.input, Wanted::Coefficients, desk) {
+    let copying = choice.copying;
+    match read_picture(alloc, &files.input, Wanted::Coefficients, copying, desk) {
         Err(why) => why,
         Ok(picture) => match write_moved(&picture, choice, &files.output, desk) {
             Wrote::Done => Why::Done,

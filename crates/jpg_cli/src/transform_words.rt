@@ -53,8 +53,12 @@ pub fn jpegtran_words(alloc: Global, words: &[String]) -> Result<TransformWords,
     })
 }
 
-// A file of this name goes before the own scans.
-fn script_from(alloc: Global, progressive: bool, name: Option<&str>) -> Result<ScriptFrom, NoMemory>
+/// A file of this name goes before the own scans.
+pub(crate) fn script_from(
+    alloc: Global,
+    progressive: bool,
+    name: Option<&str>,
+) -> Result<ScriptFrom, NoMemory>
     ensures { IfOk result (λ script. script_told script ≡ scans_source progressive (text_told name.entry)) }
 {
     match name {

@@ -1,13 +1,16 @@
 //! The words of a call.
 ghost use Rattle.std.specs.Prelude.{◌≡◌, ◌≤◌, IfSome, IfNone, drop, length, map, true, false, string_bytes};
 ghost use Rattle.jpg_spec.specs.CommentWords.{read_asked, write_asked};
+ghost use Rattle.jpg_spec.specs.EncodeWords.{encode_asked};
 ghost use Rattle.jpg_spec.specs.ShowWords.{show_asked};
 ghost use Rattle.jpg_spec.specs.TransformWords.{transform_asked};
 ghost use Rattle.jpg_spec.specs.Words.{is_tool, tool_of};
 ghost use Rattle.jpg_cli.specs.declared.comment_words.WordsStop.TheVariants.{Usage as wrong};
-ghost use Rattle.jpg_cli.specs.Commands.{IsCommand, command_asked, known_command, read_command, show_command, transform_command, write_command};
+ghost use Rattle.jpg_cli.specs.Commands.{IsCommand, command_asked, encode_command, known_command, read_command, show_command, transform_command, write_command};
 
 use crate::comment_words::{Files, WordsStop, WriteWords, rdjpgcom_words, wrjpgcom_words};
+use crate::encode_request::EncodeWords;
+use crate::encode_words::cjpeg_words;
 use crate::show_words::{ShowWords, djpeg_words};
 use crate::transform_words::{TransformWords, jpegtran_words};
 use jpg_spec::{Usage, UsageFault};
@@ -22,6 +25,8 @@ pub enum Asked {
     Jpegtran(TransformWords),
     /// `djpeg`, with its files and how the picture is shown.
     Djpeg(ShowWords),
+    /// `cjpeg`, with its files and how the image is encoded.
+    Cjpeg(EncodeWords),
     /// `rdjpgcom`, with its files.
     Rdjpgcom(Files),
     /// `wrjpgcom`, with its files, the comment's source and whether it replaces others.
@@ -80,6 +85,8 @@ fn known_words(alloc: Global, tool: &str, words: &[String]) -> Result<Asked, Wor
         transform_command(alloc, words)
     } else if tool == "djpeg" {
         show_command(alloc, words)
+    } else if tool == "cjpeg" {
+        encode_command(alloc, words)
     } else if tool == "rdjpgcom" {
         read_command(alloc, words)
     } else if tool == "wrjpgcom" {
@@ -103,6 +110,15 @@ fn show_command(alloc: Global, words: &[String]) -> Result<Asked, WordsStop>
 {
     match djpeg_words(alloc, words) {
         Ok(asked) => Ok(Asked::Djpeg(asked)),
+        Err(stop) => Err(stop),
+    }
+}
+
+fn encode_command(alloc: Global, words: &[String]) -> Result<Asked, WordsStop>
+    ensures { IsCommand (encode_command (encode_asked (drop 1 (map string_bytes words.now)))) result }
+{
+    match cjpeg_words(alloc, words) {
+        Ok(asked) => Ok(Asked::Cjpeg(asked)),
         Err(stop) => Err(stop),
     }
 }

@@ -1,9 +1,10 @@
 //! A picture that was read, moved and written (the manual of jpegtran).
 ghost use Rattle.std.specs.Prelude.{◌≡◌};
-ghost use Rattle.jpg_file.specs.PictureRead.{picture_meaning};
+ghost use Rattle.jpg_spec.specs.Meaning.{Meaning};
+ghost use Rattle.jpg_file.specs.PictureRead.{MeansFor, picture_meaning};
 ghost use Rattle.jpg_transform.specs.Planned.{choice_told};
 ghost use Rattle.jpg_cli.specs.Stays.{OnlyWorks};
-ghost use Rattle.jpg_cli.specs.Writing.{AfterMoved, AfterOutput, IsMeant, MeansMoved};
+ghost use Rattle.jpg_cli.specs.Writing.{AfterOutput, IsMeant, MeansMoved, WritesMoved};
 ghost use Rattle.jpg_spec.specs.Moved.{moved_text};
 ghost use Rattle.jpg_transform.specs.Planned.{IsJobFor};
 
@@ -26,8 +27,9 @@ pub enum Wrote {
 }
 
 /// Writes a picture to an output of this name, moved as the choice asks for it: the text of its file, in the scans of the
-/// choice. Where some bytes mean the picture, as where it was read, the text means the picture moved. The output is created
-/// when it is known that the picture has no fault. It takes no memory.
+/// choice. Where some bytes mean the picture, as where it was read, the text means the picture moved, also where markers that
+/// the choice doesn't pass on weren't kept. The output is created when it is known that the picture has no fault. It takes no
+/// memory.
 #[inline(never)]
 pub fn write_moved<D: Desk>(
     picture: &Picture,
@@ -37,7 +39,7 @@ pub fn write_moved<D: Desk>(
 ) -> Wrote
     ensures kept { OnlyWorks (D.state desk.old) (D.state desk.new) }
     ensures left { (D.state desk.new).left ≡ (D.state desk.old).left }
-    ensures wrote { AfterMoved (choice_told choice.now) (picture_meaning picture.now) output.now (D.state desk.old) result (D.state desk.new) }
+    ensures wrote { WritesMoved (choice_told choice.now) picture.now output.now (D.state desk.old) result (D.state desk.new) }
 {
     match plan(picture, choice) {
         Err(fault) => Wrote::Picture(fault),
@@ -56,7 +58,7 @@ fn write_job<D: Desk>(
     requires { IsJobFor picture.now (choice_told choice.now) job.now }
     ensures kept { OnlyWorks (D.state desk.old) (D.state desk.new) }
     ensures left { (D.state desk.new).left ≡ (D.state desk.old).left }
-    ensures means { IsMeant (picture_meaning picture.now) → MeansMoved (choice_told choice.now) (picture_meaning picture.now) }
+    ensures means { (M : Meaning) → MeansFor choice.now.copying picture.now M → IsMeant M → MeansMoved (choice_told choice.now) M }
     ensures output { AfterOutput output.now (D.state desk.old) (moved_text (choice_told choice.now) (picture_meaning picture.now)) result (D.state desk.new) }
 {
     let moved = Moved::new(picture, job);

@@ -1,4 +1,5 @@
 pub mod Apart
 pub mod Chains
+pub mod Copied
 pub mod Maps
 pub mod Stored

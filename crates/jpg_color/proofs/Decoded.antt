@@ -19,6 +19,7 @@ use Rattle.jpg_file.specs.PictureRead.{picture_meaning}
 use Rattle.jpg_file.specs.declared.picture.Picture.{Picture}
 use Rattle.jpg_file.proofs.StripHeads.{picture_colours}
 use Rattle.jpg_pnm_bmp.specs.EndState.{EndState, CanFinish, IsImageInfo, held_of, info_of, new_end, started}
+use Rattle.jpg_pnm_bmp.proofs.SomeBytes.{text_some}
 use Rattle.jpg_color.specs.Shown.{Display, IsShowable, display_fault, factors_of, row_length, row_of}
 use Rattle.jpg_color.specs.PictureRows.{RowsLeft, IsFirstRow, display_in, shown_blocks}
 use Rattle.jpg_color.specs.DecodeRows.{AreRowsOf, Decodes, IsEndFor, Sends, SendsRows, end_at, end_parts, finished, finished_end, picture_end, picture_text, row_pieces, rows_in_all}
@@ -128,8 +129,11 @@ parts_same i e e1 e2 rows now at =
 
 -- WHAT WAS WRITTEN
 
-pub decodes_none : (s : DeskState) (due : List ℕ) → Decodes s due (Err stop.NoMemory) s
-decodes_none s due = (let h : Sends s [] due (Err stop.NoMemory) [] s = sends_none s [] due [] in record { only = h.only; bytes = h.bytes })
+-- nothing, where memory is wanting before all
+pub decodes_none : (s : DeskState) (kind : EndKind) (i : ImageInfo) (rows : List (List ℕ)) → Decodes s (end_text kind i rows) (Err stop.NoMemory) s
+decodes_none s kind i rows =
+    let h : Sends s [] (end_text kind i rows) (Err stop.NoMemory) [] s = sends_none s [] (end_text kind i rows) [] (text_some kind i rows) in
+    record { only = h.only; bytes = h.bytes }
 
 pub decodes_stop : (s s1 : DeskState) (due new : List ℕ) (f : DecodeStop) → Sends s [] due (Err f) new s1 → Decodes s due (Err f) s1
 decodes_stop s s1 due new stop.NoMemory h = record { only = h.only; bytes = h.bytes }

@@ -1,4 +1,5 @@
 pub mod ColourRows
+pub mod PixelLanes
 pub mod CutBlocks
 pub mod PlaneRows
 pub mod Coverage
@@ -26,3 +27,9 @@ pub mod StripsNext
 mod Swizzled
 pub mod Three
 pub mod Windows
+pub mod EncodeFrames
+pub mod EncodeSources
+pub mod EncodedBlocks
+pub mod EncodedHead
+pub mod EncodedPictures
+pub mod FirstBelow

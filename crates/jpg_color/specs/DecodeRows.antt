@@ -1,10 +1,11 @@
 -- A PICTURE AS AN IMAGE FILE: all its rows, and what writing them does (release 6b's djpeg).
-use Rattle.std.specs.Prelude.{◌≡◌, ℕ, Bool, List, [], ◌++◌, length, map, flat_map, true, false, if◌then◌else◌, Some, IfOk, Result, Ok, Err}
+use Rattle.std.specs.Prelude.{◌≡◌, ◌<◌, ℕ, Bool, List, [], ◌++◌, length, take, map, flat_map, true, false, if◌then◌else◌, Option, Some, IfOk, Result, Ok, Err}
 use Rattle.jpg_spec.specs.Lists.{below}
 use Rattle.jpg_spec.specs.ImageText.{row_bytes, row_piece, end_text}
 use Rattle.jpg_spec.specs.Pixels.{info, pixels}
 use Rattle.jpg_spec.specs.declared.image.EndKind.{EndKind}
 use Rattle.jpg_spec.specs.declared.image.ImageInfo.{ImageInfo}
+use Rattle.jpg_base.specs.declared.names.Name.{Name}
 use Rattle.jpg_base.specs.Desk.{DeskState, Rose, AppendsLast}
 use Rattle.jpg_base.specs.Laws.{AppendsPart}
 use Rattle.jpg_huff.specs.Out.{OnlyWrites}
@@ -22,10 +23,14 @@ use Rattle.jpg_color.specs.declared.decode.DecodeStop.TheVariants as stop
 abbrev pub picture_text : EndKind → Picture → Bool → Bool → List ℕ
 picture_text kind p gray smooth = end_text kind (info (picture_meaning p) gray) (pixels (picture_meaning p) gray smooth)
 
--- All that is due was written, or a first part of it: after WriteFault, which counts as a write, and after NoMemory.
+-- Outputs that are told gain a first part of the bytes, and not all.
+abbrev pub AppendsLess : Option (List (Name × List ℕ)) → List ℕ → Option (List (Name × List ℕ)) → Type 0
+AppendsLess old bytes new = (n : ℕ) × (n < length bytes) × AppendsLast old (take n bytes) new
+
+-- All that is due was written, or a first part of it: after WriteFault, which counts as a write, and after NoMemory, where something is left.
 abbrev pub AreDecoded : DeskState → List ℕ → Result (Unit {0}) DecodeStop → DeskState → Type 0
 AreDecoded old due (Ok u) new = AppendsLast old.outputs due new.outputs
-AreDecoded old due (Err stop.NoMemory) new = AppendsPart old.outputs due new.outputs
+AreDecoded old due (Err stop.NoMemory) new = AppendsLess old.outputs due new.outputs
 AreDecoded old due (Err stop.WriteFault) new = AppendsPart old.outputs due new.outputs × Rose old.counts.writes new.counts.writes
 
 -- and nothing else changed
@@ -33,10 +38,11 @@ pub record Decodes (old : DeskState) (due : List ℕ) (result : Result (Unit {0}
   pub only : OnlyWrites old new
   pub bytes : AreDecoded old due result new
 
--- WHAT GOES OUT ON THE WAY. Bytes that waited and bytes that are due have gone out or wait; after a stop a first part has gone out.
+-- WHAT GOES OUT ON THE WAY. Bytes that waited and bytes that are due have gone out or wait; after a stop a first part has gone out, after NoMemory
+-- not all.
 abbrev pub AreSent : DeskState → List ℕ → List ℕ → Result (Unit {0}) DecodeStop → List ℕ → DeskState → Type 0
 AreSent s0 old due (Ok u) new s1 = (gone : List ℕ) × AppendsLast s0.outputs gone s1.outputs × (old ++ due ≡ gone ++ new)
-AreSent s0 old due (Err stop.NoMemory) new s1 = AppendsPart s0.outputs (old ++ due) s1.outputs
+AreSent s0 old due (Err stop.NoMemory) new s1 = AppendsLess s0.outputs (old ++ due) s1.outputs
 AreSent s0 old due (Err stop.WriteFault) new s1 = AppendsPart s0.outputs (old ++ due) s1.outputs × Rose s0.counts.writes s1.counts.writes
 
 pub record Sends (s0 : DeskState) (old due : List ℕ) (result : Result (Unit {0}) DecodeStop) (new : List ℕ) (s1 : DeskState) : Type 0 where

@@ -8,3 +8,7 @@ pub mod PictureRows
 pub mod RowBytes
 pub mod Shown
 pub mod StripsState
+pub mod Encode
+pub mod EncodeAnswer
+pub mod EncodeBlocks
+pub mod EncodeHead

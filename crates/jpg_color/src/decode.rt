@@ -3,7 +3,7 @@ ghost use Rattle.std.specs.Prelude.{◌≡◌, ◌*◌, ◌==◌, if◌then◌el
 ghost use Rattle.jpg_spec.specs.ImageText.{end_text};
 ghost use Rattle.jpg_spec.specs.Pixels.{info, out_fault};
 ghost use Rattle.jpg_file.specs.PictureRead.{picture_meaning};
-ghost use Rattle.jpg_pnm_bmp.specs.EndState.{CanFinish, CanTakeRow, IsImageInfo, Starts, new_end};
+ghost use Rattle.jpg_pnm_bmp.specs.EndState.{CanFinish, CanTakeRow, Finishes, IsImageInfo, Starts, TakesRow, new_end};
 ghost use Rattle.jpg_color.specs.DecodeRows.{AreRowsOf, Decodes, IsEndFor, Sends, SendsPart, SendsRow, SendsRows, end_parts, finished, finished_end, picture_end, picture_text, rows_in_all};
 
 use crate::kinds::shown_kind;
@@ -25,7 +25,8 @@ const MANY: usize = 32768;
 
 /// Writes the image that a picture shows to the output that was created last, in the format of `end`: the text of the image's rows as
 /// release 6b's djpeg makes them, gray where that is asked for, with rows of samples smoothed or repeated. `end` took all rows then and
-/// was finished. After NoMemory and WriteFault a first part of the text is written, and nothing is said of `end`.
+/// was finished. After NoMemory and WriteFault a first part of the text is written, after NoMemory not all, and nothing is said of
+/// `end`.
 pub fn decode_rows<D: Desk>(
     alloc: Global,
     picture: &Picture,
@@ -136,10 +137,18 @@ fn send_row<D: Desk>(
     requires created { (D.state desk.old).output_created ≡ true }
     ensures { SendsRow (D.state desk.old) (progress end.old) out.old row.now result (progress end.new) out.new (D.state desk.new) }
 {
-    match end.row(row, out) {
+    match take_row(row, end, out) {
         Ok(()) => send_much(out, desk),
         Err(NoMemory) => Err(DecodeStop::NoMemory),
     }
+}
+
+// Gives it to the end.
+fn take_row(row: &[u8], end: &mut Box<dyn ImageEnd>, out: &mut Bytes) -> Result<(), NoMemory>
+    requires end { CanTakeRow (progress end.old) row.now }
+    ensures { TakesRow (progress end.old) out.old row.now result (progress end.new) out.new }
+{
+    end.row(row, out)
 }
 
 // What stands behind the rows.
@@ -172,13 +181,21 @@ fn send_part<D: Desk>(
     requires created { (D.state desk.old).output_created ≡ true }
     ensures { SendsPart (D.state desk.old) (progress end.old) out.old result (progress end.new) out.new (D.state desk.new) }
 {
-    match end.finish(out) {
+    match take_part(end, out) {
         Ok(answer) => match send_much(out, desk) {
             Ok(()) => Ok(answer),
             Err(stop) => Err(stop),
         },
         Err(NoMemory) => Err(DecodeStop::NoMemory),
     }
+}
+
+// Takes it from the end.
+fn take_part(end: &mut Box<dyn ImageEnd>, out: &mut Bytes) -> Result<Finish, NoMemory>
+    requires end { CanFinish (progress end.old) }
+    ensures { Finishes (progress end.old) out.old result (progress end.new) out.new }
+{
+    end.finish(out)
 }
 
 // Writes what waits, once it is much.

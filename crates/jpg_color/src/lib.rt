@@ -3,7 +3,11 @@
 
 mod blocks;
 mod decode;
+mod encode;
+mod encode_blocks;
+mod encode_head;
 mod kinds;
+mod lanes;
 mod next;
 mod part;
 mod picture_rows;
@@ -16,6 +20,7 @@ mod ycc;
 
 pub use blocks::block_samples;
 pub use decode::{DecodeStop, decode_rows};
+pub use encode::{EncodeStop, Encoding, encode_picture};
 pub use jpg_spec::ImageKind;
 pub use kinds::admits;
 pub use planes::{block_at, component_row};

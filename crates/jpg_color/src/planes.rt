@@ -34,6 +34,18 @@ fn put_row(samples: &mut [u8; 64], v: usize, row: &[u8])
     samples[8 * v..8 * v + 8].copy_from_slice(row);
 }
 
+/// Puts block x of eight rows of samples, one after another.
+#[inline(always)]
+pub(crate) fn cut_block(rows: &[u8], wide: usize, x: usize, samples: &mut [u8; 64])
+    requires there { 8 * x + 8 ≤ wide }
+    requires long { length rows.now ≡ 8 * wide }
+    ensures { samples.new ≡ samples_of_block (in_rows wide rows.now) x 0 }
+{
+    for v in 0..8 {
+        put_row(samples, v, &rows[v * wide + 8 * x..v * wide + 8 * x + 8]);
+    }
+}
+
 /// Block x of eight rows of samples, one behind another.
 pub fn block_at(rows: &[u8], wide: usize, x: usize) -> [u8; 64]
     requires there { 8 * x + 8 ≤ wide }
@@ -41,12 +53,6 @@ pub fn block_at(rows: &[u8], wide: usize, x: usize) -> [u8; 64]
     ensures { result ≡ samples_of_block (in_rows wide rows.now) x 0 }
 {
     let mut samples = [0; 64];
-    for v in 0..8 {
-        put_row(
-            &mut samples,
-            v,
-            &rows[v * wide + 8 * x..v * wide + 8 * x + 8],
-        );
-    }
+    cut_block(rows, wide, x, &mut samples);
     samples
 }

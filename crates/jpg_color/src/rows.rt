@@ -8,6 +8,7 @@ use jpg_sample::{Ratio, down_rows};
 use jpg_spec::{ImageInfo, ImageKind};
 
 /// A component of an image's samples, to be made narrower and lower by a ratio.
+#[derive(Drop)]
 pub struct ImagePlane<'a> {
     pub samples: &'a [u8],
     pub info: &'a ImageInfo,

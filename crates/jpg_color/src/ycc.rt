@@ -1,7 +1,11 @@
 // Luminance and the two colour differences of red, green and blue (JFIF 1.02).
-ghost use Rattle.std.specs.Prelude.{◌≡◌, ◌*◌, length};
+ghost use Rattle.std.specs.Prelude.{◌≡◌, ◌+◌, ◌*◌, ◌<◌, ◌≤◌, ℕ, length, slice_index};
 ghost use Rattle.jpg_spec.specs.Luminance.{luminance, blue_difference, red_difference, to_ycc};
+ghost use Rattle.jpg_spec.specs.Encoded.{pixel_component};
+ghost use Rattle.jpg_spec.specs.declared.image.ImageKind.TheVariants.{Rgb};
 ghost use Rattle.jpg_color.specs.ColourRows.{component_row};
+
+use crate::lanes::{blue_differences, luminances, red_differences};
 
 #[inline(always)]
 fn luminance(r: u8, g: u8, b: u8) -> u8
@@ -53,12 +57,87 @@ pub fn ycc_row(pixels: &[u8], ys: &mut [u8], cbs: &mut [u8], crs: &mut [u8])
     }
 }
 
+// Sixteen samples of a component of pixels, of which there are some more.
+#[inline(always)]
+fn samples_of(pixels: &[u8], i: u8) -> [u8; 16]
+    requires some { i < 3 }
+    requires long { length pixels.now ≡ 64 }
+    ensures { result ≡ component_row pixels.now i 16 }
+{
+    match i {
+        0 => luminances(pixels),
+        1 => blue_differences(pixels),
+        _ => red_differences(pixels),
+    }
+}
+
+// The pixels from 16 * c on.
+#[inline(always)]
+fn part(pixels: &[u8], c: usize) -> &[u8]
+    requires { 48 * c + 64 ≤ length pixels.now }
+    ensures long { length result.now ≡ 64 }
+    ensures value { (k : ℕ) → k < 64 → slice_index result.now k ≡ slice_index pixels.now (48 * c + k) }
+{
+    &pixels[48 * c..48 * c + 64]
+}
+
+// Puts samples from column 16 * c on.
+#[inline(always)]
+fn put_samples(out: &mut [u8], c: usize, samples: &[u8; 16])
+    requires { 16 * c + 16 ≤ length out.old }
+    ensures long { length out.new ≡ length out.old }
+    ensures here { (k : ℕ) → k < 16 → slice_index out.new (16 * c + k) ≡ slice_index samples.now k }
+    ensures before { (k : ℕ) → k < 16 * c → slice_index out.new k ≡ slice_index out.old k }
+{
+    out[16 * c..16 * c + 16].copy_from_slice(samples);
+}
+
+// Puts those of columns 16 * c to 16 * c + 15.
+#[inline(always)]
+fn put_sixteen(pixels: &[u8], i: u8, c: usize, out: &mut [u8])
+    requires some { i < 3 }
+    requires more { 48 * c + 64 ≤ length pixels.now }
+    requires there { 16 * c + 16 ≤ length out.old }
+    ensures long { length out.new ≡ length out.old }
+    ensures here { (k : ℕ) → k < 16 → slice_index out.new (16 * c + k) ≡ pixel_component Rgb pixels.now i (16 * c + k) }
+    ensures before { (k : ℕ) → k < 16 * c → slice_index out.new k ≡ slice_index out.old k }
+{
+    let pixels = part(pixels, c);
+    put_samples(out, c, &samples_of(pixels, i));
+}
+
+// How often sixteen pixels are taken of so many, where some more are read each time.
+#[inline(always)]
+fn sixteens(count: usize) -> usize
+    ensures few { 16 * result ≤ count }
+    ensures more { (c : ℕ) → c < result → 48 * c + 64 ≤ 3 * count }
+{
+    if count < 6 { 0 } else { (count - 6) / 16 }
+}
+
+// Puts samples by sixteen, and tells how many.
+#[inline(always)]
+fn put_sixteens(pixels: &[u8], i: u8, out: &mut [u8]) -> usize
+    requires some { i < 3 }
+    requires pixels { length pixels.now ≡ 3 * length out.old }
+    ensures few { result ≤ length out.old }
+    ensures long { length out.new ≡ length out.old }
+    ensures made { (k : ℕ) → k < result → slice_index out.new k ≡ pixel_component Rgb pixels.now i k }
+{
+    let count = sixteens(out.len());
+    for c in 0..count {
+        put_sixteen(pixels, i, c, out);
+    }
+    16 * count
+}
+
 /// The difference of blue of a row of red, green and blue.
 pub fn blue_row(pixels: &[u8], bs: &mut [u8])
     requires { length pixels.now ≡ 3 * length bs.old }
     ensures { bs.new ≡ component_row pixels.now 1 (length bs.old) }
 {
-    for x in 0..bs.len() {
+    let made = put_sixteens(pixels, 1, bs);
+    for x in made..bs.len() {
         bs[x] = blue_difference(pixels[3 * x], pixels[3 * x + 1], pixels[3 * x + 2]);
     }
 }
@@ -68,7 +147,8 @@ pub fn red_row(pixels: &[u8], rs: &mut [u8])
     requires { length pixels.now ≡ 3 * length rs.old }
     ensures { rs.new ≡ component_row pixels.now 2 (length rs.old) }
 {
-    for x in 0..rs.len() {
+    let made = put_sixteens(pixels, 2, rs);
+    for x in made..rs.len() {
         rs[x] = red_difference(pixels[3 * x], pixels[3 * x + 1], pixels[3 * x + 2]);
     }
 }
@@ -78,7 +158,8 @@ pub fn gray_row(pixels: &[u8], ys: &mut [u8])
     requires { length pixels.now ≡ 3 * length ys.old }
     ensures { ys.new ≡ component_row pixels.now 0 (length ys.old) }
 {
-    for x in 0..ys.len() {
+    let made = put_sixteens(pixels, 0, ys);
+    for x in made..ys.len() {
         ys[x] = luminance(pixels[3 * x], pixels[3 * x + 1], pixels[3 * x + 2]);
     }
 }

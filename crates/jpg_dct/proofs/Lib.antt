@@ -6,6 +6,13 @@ pub mod Lows
 pub mod Natural
 pub mod Numbers
 pub mod Samples
+pub mod Scaled
+pub mod TableLists
+pub mod TableRuns
 pub mod Wrapped
 pub mod OneCoefficient
 pub mod Zigzag
+pub mod ReadTexts
+pub mod TableFronts
+pub mod TableRest
+pub mod OneAnswer

@@ -1,4 +1,8 @@
+pub mod Both
 pub mod Division
 pub mod Lines
 pub mod Natural
+pub mod OneAnswer
+pub mod ReadTables
+pub mod TableState
 pub mod Told

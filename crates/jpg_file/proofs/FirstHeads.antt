@@ -3,7 +3,9 @@ use Rattle.std.proofs.Common.{◌≡◌, ℕ, false, ◌==◌, List, [], ◌∷�
 use Rattle.std.specs.Prelude.{◌||◌, replicate, reverse, find, option_map, unwrap_or}
 use Rattle.std.proofs.lemmas.List.{length-append, reverse-reverse, take_all, take-append-le, take-append-drop}
 use Rattle.jpg_spec.specs.Geometry.{Frame}
-use Rattle.jpg_spec.specs.Jfif.{is_jfif, jfif_of, jfif_told}
+use Rattle.jpg_spec.specs.FrameHeader.{identifiers}
+use Rattle.jpg_spec.specs.Colours.{colours_of}
+use Rattle.jpg_spec.specs.Jfif.{adobe_transform, is_jfif, jfif_of, jfif_told}
 use Rattle.jpg_spec.specs.declared.jfif.Jfif.{Jfif}
 use Rattle.jpg_spec.specs.Scan.{Blocks}
 use Rattle.jpg_spec.specs.Markers.{Segment, SpellsSegment, SpellsSegments, BeginsSegment, PartOfSegment, has_scan, kept_after, code_fault}
@@ -17,6 +19,7 @@ use Rattle.jpg_spec.proofs.OneHeader.{whole_not_standing}
 use Rattle.jpg_spec.proofs.Common.{neither}
 use Rattle.jpg_markers.specs.Reading.{Reading, reading_of}
 use Rattle.jpg_file.specs.FirstHead.{HasHead, HasNoHead, IsFirstHead, colours_by, head_told}
+use Rattle.jpg_file.specs.Keeping.{is_wanted}
 use Rattle.jpg_file.specs.Held.{HeldTold, Holds}
 use Rattle.jpg_file.specs.Items.{BetweenItems, BehindSegment, AtPlace}
 use Rattle.jpg_file.specs.File.{head_or}
@@ -25,6 +28,7 @@ use Rattle.jpg_file.specs.declared.items.Items.{Items}
 use Rattle.jpg_spec.proofs.Common.{not_same}
 use Rattle.jpg_spec.proofs.ItemSteps.{fill_begin, fill_part, fill_segment}
 use Rattle.jpg_file.proofs.ItemBytes.{part_behind}
+use Rattle.jpg_file.proofs.Keeping.{adobe_same, filter_reverse}
 
 -- IT STAYS with more bytes, and behind another segment
 
@@ -114,7 +118,9 @@ colour_same : (limits : Limits) (before : List Segment) (contents : List ℕ) (h
 colour_same limits before contents h f k e =
     let kept : List Segment = reverse (kept_after before) in
     let jfif : h.jfif ≡ jfif_of kept = k.jfif ∙ ap (λ l. jfif_told (find is_jfif l)) (sym (reverse-reverse (kept_after before))) in
-    ap (λ (g : Frame). colours_by g h.jfif h.kept) e ∙ ap (λ (j : Jfif). colours_by (frame_of limits before) j h.kept) jfif ∙ ap (λ (l : List Segment). colours_by (frame_of limits before) (jfif_of kept) l) k.kept
+    let held : adobe_transform h.kept ≡ adobe_transform kept = ap adobe_transform (k.kept ∙ sym (filter_reverse (is_wanted h.keeping) (kept_after before))) ∙ adobe_same h.keeping kept in
+    ap (λ (g : Frame). colours_by g h.jfif h.kept) e ∙ ap (λ (j : Jfif). colours_by (frame_of limits before) j h.kept) jfif
+    ∙ ap (λ (a : Option ℕ). let f = frame_of limits before in colours_of (length f.components) (identifiers f.components) (jfif_of kept).seen a) held
 
 pub noted : (limits : Limits) (bytes : List ℕ) (items : List Item) (blocks : Blocks) (w : Items) (contents : List ℕ) (h : HeldTold) (f : Frame) (n : ℕ) (old : Option Head) → BehindSegment limits bytes items blocks w
     → (reading_of w.segments).code ≡ 0xda → (reading_of w.segments).contents ≡ contents → contents_rule limits (segments_of items) 0xda contents ≡ None → Holds limits h ((0xda, contents) ∷ segments_of items) → h.frame ≡ Some f → n ≡ length bytes

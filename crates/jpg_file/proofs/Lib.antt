@@ -6,6 +6,8 @@ pub mod HeadSays
 pub mod ProgressiveRoom
 pub mod IntervalFits
 pub mod ScanBytes
+pub mod Keeping
+pub mod KeepingLaws
 pub mod InForce
 pub mod ItemBytes
 pub mod ScanLeft

@@ -1,6 +1,6 @@
 -- The picture of a whole file, part by part.
 use Rattle.std.proofs.Common.{◌≡◌, ℕ, zero, suc, ◌+◌, ◌<◌, ◌≤◌, Bool, true, false, cond, ◌==◌, List, [], ◌∷◌, ◌++◌, length, map, take, get_or, refl, sym, ap, ◌∙◌, subst, arith, Option, Some, None}
-use Rattle.std.specs.Prelude.{is_none, find, unwrap_or, slice_get, slice_index, slice_index_or}
+use Rattle.std.specs.Prelude.{is_none, filter, find, unwrap_or, slice_get, slice_index, slice_index_or}
 use Rattle.std.proofs.lemmas.List.{length-map, map-append, reverse-append, reverse-reverse, take_all, take_more}
 use Rattle.std.proofs.lemmas.Option.{get_or_from_slice_get, slice_get_within}
 use Rattle.jpg_spec.proofs.QuantsInForce.{IsQuants, in_force_quants}
@@ -27,11 +27,13 @@ use Rattle.jpg_spec.proofs.FirstPasses.{all_below}
 use Rattle.jpg_spec.proofs.Common.{clash, some_once, same_of, length_below, some_of}
 use Rattle.jpg_spec.proofs.Ranges.{leads_in_range}
 use Rattle.jpg_coefs.specs.Picture.{Picture as Made, map_of}
-use Rattle.jpg_file.specs.File.{EndsFile, PictureSoFar}
+use Rattle.jpg_file.specs.File.{EndsFile, PictureSoFar, keeping_of}
+use Rattle.jpg_file.specs.Keeping.{is_wanted, kept_for}
 use Rattle.jpg_file.specs.Held.{told_by}
 use Rattle.jpg_file.specs.PictureKept.{PictureParts, component_told, parts_meaning, IsQuantTable}
 use Rattle.jpg_file.specs.declared.file.FileWork.{FileWork}
 use Rattle.jpg_file.proofs.FileSteps.{frame_left, one_begun}
+use Rattle.jpg_file.proofs.Keeping.{filter_reverse, jfif_found}
 use Rattle.jpg_file.proofs.PieceSteps.{file_means}
 
 -- ADOBE'S SEGMENTS, one by one
@@ -137,7 +139,7 @@ left_picture limits bytes w p e l =
     let is = some_once q.coefs p.coefs (sym q.has ∙ l.coefs) in
     record { frame = same; grids = ap (λ (c : Made). c.frame) (sym is) ∙ q.framed ∙ same; blocks = q.as_map ∙ ap map_of is }
 
-pub left_means : (limits : Limits) (bytes : List ℕ) (w : FileWork) (p : PictureParts) (M : Meaning) → (e : EndsFile limits bytes w) → IsLeft w p → IsWholeFile limits bytes M → parts_meaning p ≡ M
+pub left_means : (limits : Limits) (bytes : List ℕ) (w : FileWork) (p : PictureParts) (M : Meaning) → (e : EndsFile limits bytes w) → IsLeft w p → IsWholeFile limits bytes M → parts_meaning p ≡ kept_for (keeping_of w) M
 left_means limits bytes w p M e l whole =
     let k = e.ends in
     let before = segments_of k.items in
@@ -148,13 +150,14 @@ left_means limits bytes w p M e l whole =
     let components = map_below (component_told f p.quants) (picture_component f before) (length f.components)
     (λ i low. ap (λ (t : QuantTable). let c : PictureComponent = record { id = (component_at f i).id; h = (component_at f i).h; v = (component_at f i).v; quants = t } in c) (table i low)) in
     let blocks = ap (real_blocks f) (sym q.blocks) in
-    let kept = l.kept ∙ ((k.at).holds).kept in
+    let keeping = keeping_of w in
+    let kept = l.kept ∙ ((k.at).holds).kept ∙ sym (filter_reverse (is_wanted keeping) (kept_after before)) in
     let N = meaning_of f before k.blocks in
     ap (λ (cs : List PictureComponent). let n : Meaning = record (parts_meaning p) { components = cs } in n) components
     ∙ ap (λ bs. let n : Meaning = record N { blocks = bs; kept = p.kept } in n) blocks
     ∙ ap (λ (ks : List Segment). let n : Meaning = record N { kept = ks } in n) kept
-    ∙ ap (λ (g : Frame). meaning_of g before k.blocks) (sym q.frame)
-    ∙ (means_once limits bytes bytes (meaning_of (frame_of_items limits k.items) before k.blocks) M (file_means limits bytes w e).0 whole.0 refl).0
+    ∙ ap (λ (g : Frame). kept_for keeping (meaning_of g before k.blocks)) (sym q.frame)
+    ∙ ap (kept_for keeping) (means_once limits bytes bytes (meaning_of (frame_of_items limits k.items) before k.blocks) M (file_means limits bytes w e).0 whole.0 refl).0
 
 pub left_range : (limits : Limits) (bytes : List ℕ) (w : FileWork) (p : PictureParts) → (e : EndsFile limits bytes w) → IsLeft w p → AreInRange (bounds p.frame) (map_of p.coefs)
 left_range limits bytes w p e l =
@@ -168,7 +171,9 @@ pub left_jfif : (limits : Limits) (bytes : List ℕ) (w : FileWork) → (e : End
 left_jfif limits bytes w e =
     let h = ((e.ends).at).holds in
     let before = segments_of (e.ends).items in
-    h.jfif ∙ ap (λ l. jfif_told (find is_jfif l)) (sym (reverse-reverse (kept_after before))) ∙ ap jfif_of (sym h.kept)
+    let keeping = keeping_of w in
+    h.jfif ∙ ap jfif_told (sym (jfif_found keeping (kept_after before))) ∙ ap (λ l. jfif_told (find is_jfif l)) (sym (reverse-reverse (filter (is_wanted keeping) (kept_after before))))
+    ∙ ap jfif_of (sym h.kept)
 
 -- THE TABLES were in force, and so have no zeros
 quant_sound : (f : Frame) (before : List Segment) (i : ℕ) (t : QuantTable) → quant_of f before i ≡ Some t → IsQuants t

@@ -10,6 +10,7 @@ use Rattle.jpg_spec.specs.FileMeaning.{no_blocks}
 use Rattle.jpg_spec.specs.FirstFault.{Shows}
 use Rattle.jpg_spec.specs.Laws.{frame_of_items}
 use Rattle.jpg_spec.specs.declared.answers.FaultAt.{FaultAt}
+use Rattle.jpg_spec.specs.declared.frame.Copying.{Copying}
 use Rattle.jpg_spec.specs.declared.frame.Limits.{Limits}
 use Rattle.jpg_base.specs.declared.names.NoMemory.{NoMemory}
 use Rattle.jpg_base.specs.declared.stop.Stop.{Stop}
@@ -29,6 +30,10 @@ use Rattle.jpg_file.specs.declared.file.FileWork.{FileWork}
 
 abbrev pub limits_of : FileWork → Limits
 limits_of w = w.reading.items.limits
+
+-- which markers it keeps
+abbrev pub keeping_of : FileWork → Copying
+keeping_of w = w.reading.items.held.keeping
 
 -- The blocks that the items lead to are those of the picture. There is none before the first scan, and then they are zeros.
 abbrev pub PictureSoFar : Limits → List Item → Blocks → Option Picture → Type 0

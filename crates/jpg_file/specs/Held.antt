@@ -1,5 +1,5 @@
 -- What a reader of a file keeps of the segments so far.
-use Rattle.std.specs.Prelude.{◌≡◌, ℕ, Bool, List, ◌∷◌, length, reverse, Option, Some, None, find, is_none, ◌&&◌, ◌||◌}
+use Rattle.std.specs.Prelude.{◌≡◌, ℕ, Bool, List, ◌∷◌, length, reverse, Option, Some, None, filter, find, is_none, ◌&&◌, ◌||◌}
 use Rattle.jpg_spec.specs.Lists.{any_of}
 use Rattle.jpg_spec.specs.Geometry.{Frame, component_at}
 use Rattle.jpg_spec.specs.Segments.{ScanHead}
@@ -10,10 +10,12 @@ use Rattle.jpg_spec.specs.Markers.{Segment, has_scan, kept_after, kept_rule}
 use Rattle.jpg_spec.specs.InForce.{frame_after, huffman_in_force, quant_in_force, restart_in_force}
 use Rattle.jpg_spec.specs.History.{needs_ac_table, needs_dc_table}
 use Rattle.jpg_spec.specs.Items.{contents_rule}
+use Rattle.jpg_spec.specs.declared.frame.Copying.{Copying}
 use Rattle.jpg_spec.specs.declared.frame.Limits.{Limits}
 use Rattle.jpg_spec.specs.declared.frame.ScanPart.{ScanPart}
 use Rattle.jpg_spec.specs.declared.jfif.Jfif.{Jfif}
 use Rattle.jpg_huff.specs.Sets.{slots_of}
+use Rattle.jpg_file.specs.Keeping.{is_wanted}
 use Rattle.jpg_file.specs.declared.held.Held.{Held}
 use Rattle.jpg_file.specs.declared.held.Took.{Took}
 use Rattle.jpg_file.specs.declared.held.Took.TheVariants as took
@@ -25,13 +27,14 @@ pub record HeldTold : Type 0 where
   pub quants : Slots
   pub interval : ℕ
   pub scanned : Bool
+  pub keeping : Copying
   pub kept : List Segment
   pub jfif : Jfif
 
 abbrev pub told_by : Held → HeldTold
-told_by h = record { frame = h.frame; tables = slots_of h.tables; quants = h.quants; interval = h.interval; scanned = h.scanned; kept = h.kept; jfif = h.jfif }
+told_by h = record { frame = h.frame; tables = slots_of h.tables; quants = h.quants; interval = h.interval; scanned = h.scanned; keeping = h.keeping; kept = h.kept; jfif = h.jfif }
 
--- It is what is in force behind these segments.
+-- It is what is in force behind these segments, with those of the kept markers that are wanted.
 pub record Holds (limits : Limits) (h : HeldTold) (before : List Segment) : Type 0 where
   pub frame : h.frame ≡ frame_after limits before
   pub dc_slots : length h.tables.dc ≡ 4
@@ -42,7 +45,7 @@ pub record Holds (limits : Limits) (h : HeldTold) (before : List Segment) : Type
   pub quants : (slot : ℕ) → quant_in h.quants slot ≡ quant_in_force before slot
   pub interval : h.interval ≡ restart_in_force before
   pub scanned : h.scanned ≡ has_scan before
-  pub kept : h.kept ≡ reverse (kept_after before)
+  pub kept : h.kept ≡ reverse (filter (is_wanted h.keeping) (kept_after before))
   pub jfif : h.jfif ≡ jfif_told (find is_jfif (kept_after before))
 
 -- a part of a scan whose tables aren't all there

@@ -2,6 +2,7 @@ pub mod Data
 pub mod Machine
 pub mod NewScan
 pub mod InData
+pub mod Keeping
 pub mod Held
 pub mod Items
 pub mod Begin
@@ -12,6 +13,7 @@ pub mod File
 pub mod ReadFile
 pub mod PictureKept
 pub mod PictureRead
+pub mod KeepingLaws
 pub mod StripHead
 pub mod FirstHead
 pub mod Restarts

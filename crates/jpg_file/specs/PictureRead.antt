@@ -2,8 +2,10 @@
 use Rattle.std.specs.Prelude.{◌≡◌, ℕ, List}
 use Rattle.jpg_spec.specs.Meaning.{Meaning}
 use Rattle.jpg_spec.specs.FileStands.{IsWholeFile}
+use Rattle.jpg_spec.specs.declared.frame.Copying.{Copying}
 use Rattle.jpg_spec.specs.declared.frame.Limits.{Limits}
-use Rattle.jpg_file.specs.File.{EndsFile}
+use Rattle.jpg_file.specs.File.{EndsFile, keeping_of}
+use Rattle.jpg_file.specs.Keeping.{kept_for}
 use Rattle.jpg_file.specs.PictureKept.{PictureParts, parts_meaning}
 use Rattle.jpg_file.specs.ReadFile.{IsDone, ReaderState}
 use Rattle.jpg_file.specs.declared.file.FileWork.{FileWork}
@@ -16,9 +18,13 @@ parts_of p = record { frame = p.frame; colour = p.colour; quants = p.quants.item
 abbrev pub picture_meaning : Picture → Meaning
 picture_meaning p = parts_meaning (parts_of p)
 
--- Whatever whole file was read, the picture means what the file means.
+-- It means this one, but for the markers that aren't kept where these are passed on.
+abbrev pub MeansFor : Copying → Picture → Meaning → Type 0
+MeansFor keeping p M = picture_meaning p ≡ kept_for keeping M
+
+-- Whatever whole file was read, the picture means what the file means, with the markers that were kept.
 abbrev pub ShowsFile : FileWork → Picture → Type 0
-ShowsFile w p = (limits : Limits) (bytes : List ℕ) (M : Meaning) → EndsFile limits bytes w → IsWholeFile limits bytes M → picture_meaning p ≡ M
+ShowsFile w p = (limits : Limits) (bytes : List ℕ) (M : Meaning) → EndsFile limits bytes w → IsWholeFile limits bytes M → MeansFor (keeping_of w) p M
 
 abbrev pub TakesPicture : ReaderState → Picture → Type 0
-TakesPicture r p = (bytes : List ℕ) (d : IsDone bytes r) → picture_meaning p ≡ d.meaning
+TakesPicture r p = (bytes : List ℕ) (d : IsDone bytes r) → MeansFor (keeping_of r.file) p d.meaning

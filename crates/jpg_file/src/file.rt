@@ -1,7 +1,7 @@
 // A whole file in work, byte by byte (T.81, B.2.1).
 ghost use Rattle.std.specs.Prelude.{◌≡◌, ◌<◌, ◌+◌, ◌++◌, ℕ, List, [], ◌∷◌, ◌≤◌, length, slice_index, IfErr};
 ghost use Rattle.jpg_spec.specs.FrameHeader.{AreLimits};
-ghost use Rattle.jpg_file.specs.File.{HeadStands, NotesHead, PassesFront, RoomMade, Stands, TakesFileByte, TakesFileEnd, TakesFileHead, TakesFileStep, TakesSome, limits_of};
+ghost use Rattle.jpg_file.specs.File.{HeadStands, NotesHead, PassesFront, RoomMade, Stands, TakesFileByte, TakesFileEnd, TakesFileHead, TakesFileStep, TakesSome, keeping_of, limits_of};
 ghost use Rattle.jpg_file.specs.InData.{ArePlain};
 ghost use Rattle.jpg_file.specs.Reading.{IsOpenScan};
 
@@ -11,7 +11,7 @@ use crate::items::{ItemStep, Items};
 use crate::reading::Reading;
 use jpg_base::{Limits, NoMemory, Stop};
 use jpg_coefs::Coefs;
-use jpg_spec::{Fault, FaultAt};
+use jpg_spec::{Copying, Fault, FaultAt};
 use memchr::memchr;
 use std::alloc::Global;
 
@@ -25,15 +25,16 @@ pub struct FileWork {
 }
 
 impl FileWork {
-    /// Before any byte. It takes no memory yet.
-    pub fn new(alloc: Global, limits: Limits) -> FileWork
+    /// Before any byte, with the markers that shall be kept. It takes no memory yet.
+    pub fn new(alloc: Global, limits: Limits, keeping: Copying) -> FileWork
         requires { AreLimits limits }
-        ensures { Stands limits [] result }
+        ensures stands { Stands limits [] result }
+        ensures keeping { keeping_of result ≡ keeping }
     {
         FileWork {
             alloc,
             reading: Reading {
-                items: Items::new(alloc, limits),
+                items: Items::new(alloc, limits, keeping),
                 coefs: None,
                 scan: None,
                 taken: 0,
@@ -51,6 +52,7 @@ impl FileWork {
         requires room { self.old.reading.taken < (limits_of self.old).input }
         ensures after { TakesFileByte self.old byte result self.new }
         ensures head { IfErr result (λ stop. self.new.head ≡ self.old.head) }
+        ensures keeping { keeping_of self.new ≡ keeping_of self.old }
     {
         match self.step(byte) {
             ItemStep::More => Ok(false),
@@ -68,7 +70,8 @@ impl FileWork {
         requires limits { AreLimits (limits_of self.old) }
         requires room { self.old.reading.taken < (limits_of self.old).input }
         requires some { 1 ≤ length bytes.now }
-        ensures { TakesSome self.old bytes.now result.0 result.1 self.new }
+        ensures after { TakesSome self.old bytes.now result.0 result.1 self.new }
+        ensures keeping { keeping_of self.new ≡ keeping_of self.old }
     {
         if self.reading.is_open() {
             let most = self.reading.items.limits.input - self.reading.taken;
@@ -88,7 +91,8 @@ impl FileWork {
         requires limits { AreLimits (limits_of self.old) }
         requires room { self.old.reading.taken < (limits_of self.old).input }
         requires some { 1 ≤ length bytes.now }
-        ensures { PassesFront self.old bytes.now result self.new }
+        ensures after { PassesFront self.old bytes.now result self.new }
+        ensures keeping { keeping_of self.new ≡ keeping_of self.old }
     {
         if self.reading.scan.is_some() {
             return 0;
@@ -107,7 +111,8 @@ impl FileWork {
         requires some { 1 ≤ length run.now }
         requires few { length run.now < 4294967296 }
         requires plain { ArePlain run.now }
-        ensures { TakesSome self.old run.now result.0 result.1 self.new }
+        ensures after { TakesSome self.old run.now result.0 result.1 self.new }
+        ensures keeping { keeping_of self.new ≡ keeping_of self.old }
     {
         let (n, step) = self.reading.scan_run(run);
         match step {
@@ -126,6 +131,7 @@ impl FileWork {
         requires room { self.old.reading.taken < (limits_of self.old).input }
         ensures after { TakesFileStep self.old byte result self.new }
         ensures head { self.new.head ≡ self.old.head }
+        ensures keeping { keeping_of self.new ≡ keeping_of self.old }
     {
         if self.reading.scan.is_some() {
             self.reading.scan_byte(byte)
@@ -141,6 +147,7 @@ impl FileWork {
         requires stands { (bytes : List ℕ) × HeadStands (limits_of self.old) bytes self.old }
         ensures after { TakesFileHead self.old result self.new }
         ensures head { IfErr result (λ stop. self.new.head ≡ self.old.head) }
+        ensures keeping { keeping_of self.new ≡ keeping_of self.old }
     {
         if self.make_room().is_err() {
             return Err(Stop::NoMemory);
@@ -170,6 +177,7 @@ impl FileWork {
     fn make_room(&mut self) -> Result<(), NoMemory>
         ensures made { RoomMade self.old result self.new }
         ensures head { self.new.head ≡ self.old.head }
+        ensures keeping { keeping_of self.new ≡ keeping_of self.old }
     {
         let Some(frame) = &self.reading.items.held.frame else {
             return Ok(());

@@ -7,6 +7,7 @@ ghost use Rattle.jpg_spec.specs.History.{needs_ac_table, needs_dc_table};
 ghost use Rattle.jpg_spec.specs.Jfif.{begins_jfif, begins_adobe};
 ghost use Rattle.jpg_spec.specs.Markers.{Segment, is_kept_if, is_within, kept_rule, process_of_code};
 ghost use Rattle.jpg_spec.specs.declared.frame.Limits.{Limits as Bounded};
+ghost use Rattle.jpg_file.specs.Keeping.{is_wanted};
 ghost use Rattle.jpg_file.specs.Held.{Holds, HoldsSegment, Takes, lacks_any, lacks_part, told_by};
 ghost use Rattle.jpg_markers.specs.Seen.{IsOther};
 
@@ -15,11 +16,11 @@ use jpg_huff::TableSet;
 use jpg_markers::{
     App, Jfif, KeptList, QuantSet, read_app, read_dht, read_dqt, read_dri, read_sof,
 };
-use jpg_spec::{Fault, Process, ScanPart};
+use jpg_spec::{Copying, Fault, Process, ScanPart};
 use std::alloc::Global;
 
 /// What the segments so far tell: the frame, the tables in force, the restart interval (in MCUs, 0 for
-/// none), whether a scan began, the markers that are kept, and the last JFIF header.
+/// none), whether a scan began, which markers are wanted, those that are kept, and the last JFIF header.
 #[derive(Drop)]
 pub struct Held {
     pub frame: Option<Frame>,
@@ -27,6 +28,7 @@ pub struct Held {
     pub quants: QuantSet,
     pub interval: u16,
     pub scanned: bool,
+    pub keeping: Copying,
     pub kept: KeptList,
     pub jfif: Jfif,
 }
@@ -43,8 +45,9 @@ pub enum Took {
 
 impl Held {
     /// Before any segment.
-    pub fn new(alloc: Global) -> Held
-        ensures { (limits : Bounded) → Holds limits (told_by result) [] }
+    pub fn new(alloc: Global, keeping: Copying) -> Held
+        ensures holds { (limits : Bounded) → Holds limits (told_by result) [] }
+        ensures keeping { result.keeping ≡ keeping }
     {
         Held {
             frame: None,
@@ -52,6 +55,7 @@ impl Held {
             quants: QuantSet::new(),
             interval: 0,
             scanned: false,
+            keeping,
             kept: KeptList::new(alloc),
             jfif: Jfif {
                 seen: false,
@@ -70,7 +74,8 @@ impl Held {
         requires limits { AreLimits limits }
         requires other { code ≡ 0xda → ⊥ }
         requires short { length contents.now ≤ 65533 }
-        ensures { HoldsSegment (told_by self.old) limits code contents.now result (told_by self.new) }
+        ensures held { HoldsSegment (told_by self.old) limits code contents.now result (told_by self.new) }
+        ensures keeping { self.new.keeping ≡ self.old.keeping }
     {
         match code {
             0xc4 => self.take_huffmans(limits, contents),
@@ -84,7 +89,8 @@ impl Held {
     }
 
     fn take_huffmans(&mut self, limits: Limits, contents: &[u8]) -> Took
-        ensures { (before : List Segment) → Holds limits (told_by self.old) before → Takes limits before 0xc4 contents.now result (told_by self.new) }
+        ensures held { (before : List Segment) → Holds limits (told_by self.old) before → Takes limits before 0xc4 contents.now result (told_by self.new) }
+        ensures keeping { self.new.keeping ≡ self.old.keeping }
     {
         match read_dht(contents, &mut self.tables) {
             Ok(()) => Took::Done,
@@ -93,7 +99,8 @@ impl Held {
     }
 
     fn take_quants(&mut self, limits: Limits, contents: &[u8]) -> Took
-        ensures { (before : List Segment) → Holds limits (told_by self.old) before → Takes limits before 0xdb contents.now result (told_by self.new) }
+        ensures held { (before : List Segment) → Holds limits (told_by self.old) before → Takes limits before 0xdb contents.now result (told_by self.new) }
+        ensures keeping { self.new.keeping ≡ self.old.keeping }
     {
         match read_dqt(contents, &mut self.quants) {
             Ok(()) => Took::Done,
@@ -102,7 +109,8 @@ impl Held {
     }
 
     fn take_interval(&mut self, limits: Limits, contents: &[u8]) -> Took
-        ensures { (before : List Segment) → Holds limits (told_by self.old) before → Takes limits before 0xdd contents.now result (told_by self.new) }
+        ensures held { (before : List Segment) → Holds limits (told_by self.old) before → Takes limits before 0xdd contents.now result (told_by self.new) }
+        ensures keeping { self.new.keeping ≡ self.old.keeping }
     {
         match read_dri(contents) {
             Ok(interval) => {
@@ -116,7 +124,8 @@ impl Held {
     fn take_frame(&mut self, limits: Limits, code: u8, process: Process, contents: &[u8]) -> Took
         requires limits { AreLimits limits }
         requires process { process_of_code code ≡ Some process }
-        ensures { (before : List Segment) → Holds limits (told_by self.old) before → Takes limits before code contents.now result (told_by self.new) }
+        ensures held { (before : List Segment) → Holds limits (told_by self.old) before → Takes limits before code contents.now result (told_by self.new) }
+        ensures keeping { self.new.keeping ≡ self.old.keeping }
     {
         match read_sof(process, contents, &limits) {
             Ok(frame) => {
@@ -127,13 +136,17 @@ impl Held {
         }
     }
 
-    // Application segments and comments are kept. Others tell nothing.
+    // Application segments and comments are kept, where they are wanted. Others tell nothing.
     fn take_other(&mut self, limits: Limits, code: u8, contents: &[u8]) -> Took
         requires other { IsOther code }
         requires short { length contents.now ≤ 65533 }
-        ensures { HoldsSegment (told_by self.old) limits code contents.now result (told_by self.new) }
+        ensures held { HoldsSegment (told_by self.old) limits code contents.now result (told_by self.new) }
+        ensures keeping { self.new.keeping ≡ self.old.keeping }
     {
         if !is_kept(self.scanned, code, contents) {
+            return Took::Done;
+        }
+        if !is_wanted(self.keeping, code, contents) {
             return Took::Done;
         }
         match self.kept.push(code, contents) {
@@ -201,6 +214,17 @@ fn is_kept(scanned: bool, code: u8, contents: &[u8]) -> bool
     ensures { result ≡ is_kept_if scanned code contents.now }
 {
     (code == 0xfe || 0xe0 <= code && code <= 0xef) && !(scanned && is_header(code, contents))
+}
+
+// Whether a marker is passed on, or begins as one that tells the colours or the density.
+fn is_wanted(keeping: Copying, code: u8, contents: &[u8]) -> bool
+    ensures { result ≡ is_wanted keeping (code, contents.now) }
+{
+    match keeping {
+        Copying::None => is_header(code, contents),
+        Copying::Comments => code == 0xfe || is_header(code, contents),
+        Copying::All => true,
+    }
 }
 
 fn is_header(code: u8, contents: &[u8]) -> bool

@@ -11,7 +11,7 @@ ghost use Rattle.jpg_file.specs.Items.{BetweenItems, BehindHead, BehindSegment, 
 use crate::held::{Held, Took};
 use jpg_base::{Limits, NoMemory, Stop};
 use jpg_markers::{SegStep, SegmentReader};
-use jpg_spec::FaultAt;
+use jpg_spec::{Copying, FaultAt};
 use std::alloc::Global;
 
 /// The reader of segments, and what they told.
@@ -39,15 +39,16 @@ pub enum ItemStep {
 
 impl Items {
     /// Before any byte.
-    pub fn new(alloc: Global, limits: Limits) -> Items
+    pub fn new(alloc: Global, limits: Limits, keeping: Copying) -> Items
         requires { AreLimits limits }
         ensures between { BetweenItems limits [] [] no_blocks result }
         ensures taken { (reading_of result.segments).taken ≡ 0 }
+        ensures keeping { result.held.keeping ≡ keeping }
     {
         Items {
             limits,
             segments: SegmentReader::new(alloc, limits),
-            held: Held::new(alloc),
+            held: Held::new(alloc, keeping),
         }
     }
 
@@ -58,6 +59,7 @@ impl Items {
         requires room { (reading_of self.old.segments).taken < self.old.limits.input }
         ensures after { TakesItemByte self.old byte result self.new }
         ensures taken { (reading_of self.new.segments).taken ≡ (reading_of self.old.segments).taken + 1 }
+        ensures keeping { self.new.held.keeping ≡ self.old.held.keeping }
     {
         match self.segments.byte(byte) {
             Err(Stop::Fault(fault)) => ItemStep::Fault(fault),
@@ -77,6 +79,7 @@ impl Items {
         requires room { (reading_of self.old.segments).taken + length bytes.now ≤ self.old.limits.input }
         ensures few { result ≤ length bytes.now }
         ensures after { PassesItems self.old bytes.now result self.new }
+        ensures keeping { self.new.held.keeping ≡ self.old.held.keeping }
     {
         match self.segments.stretch(bytes) {
             Ok(n) => n,
@@ -92,6 +95,7 @@ impl Items {
         requires within { at ≤ self.old.limits.input }
         ensures after { TakesMarker self.old code result self.new }
         ensures taken { (reading_of self.new.segments).taken ≡ at }
+        ensures keeping { self.new.held.keeping ≡ self.old.held.keeping }
     {
         match self.segments.marker(code, at) {
             Err(Stop::Fault(fault)) => ItemStep::Fault(fault),
@@ -110,6 +114,7 @@ impl Items {
         ensures behind { PassesHead self.old self.new }
         ensures limits { self.new.limits ≡ self.old.limits }
         ensures same { (reading_of self.new.segments).taken ≡ (reading_of self.old.segments).taken }
+        ensures keeping { self.new.held.keeping ≡ self.old.held.keeping }
     {
         self.held.scanned = true;
     }
@@ -122,6 +127,7 @@ impl Items {
         requires short { length (reading_of self.old.segments).contents ≤ 65533 }
         ensures after { JudgesSegment self.old result self.new }
         ensures same { self.new.segments ≡ self.old.segments }
+        ensures keeping { self.new.held.keeping ≡ self.old.held.keeping }
     {
         let code = self.segments.code();
         if code == 0xda {

@@ -41,7 +41,7 @@ pub use jpg_coefs::{BlockView, Coefs};
 pub use jpg_markers::{Jfif, Kept, KeptList, OutHead};
 pub use jpg_scans::Script;
 pub use judge::judge_head;
-pub use laws::rows_are_due_in_order;
+pub use laws::{rows_are_due_in_order, unwanted_markers_are_not_missed};
 pub use machine::ScanReader;
 pub use picture::Picture;
 pub use picture_taken::picture_of;

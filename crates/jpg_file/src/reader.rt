@@ -1,8 +1,9 @@
 // A whole file, fed in pieces of any length (T.81, B.2.1).
 ghost use Rattle.std.specs.Prelude.{◌≡◌, ◌<◌, ◌+◌, ◌-◌, length, [], ℕ, List, Some, None, true, false, Ok, Err};
 ghost use Rattle.jpg_spec.specs.FrameHeader.{AreLimits};
+ghost use Rattle.jpg_spec.specs.declared.frame.Copying.TheVariants.{All};
 ghost use Rattle.jpg_base.specs.declared.stop.Stop.{Stop as Stopped};
-ghost use Rattle.jpg_file.specs.File.{Stands};
+ghost use Rattle.jpg_file.specs.File.{Stands, keeping_of};
 ghost use Rattle.jpg_file.specs.PictureRead.{TakesPicture};
 ghost use Rattle.jpg_file.specs.ReadFile.{EndsDone, FeedsFile, HasRead, ReadsPiece, StopsAt, head_seen};
 
@@ -11,7 +12,7 @@ use crate::file::FileWork;
 use crate::picture::Picture;
 use crate::picture_taken::picture_of;
 use jpg_base::{Fed, Frame, Limits, Stop};
-use jpg_spec::Colour;
+use jpg_spec::{Colour, Copying};
 use std::alloc::Global;
 use std::marker::Model;
 
@@ -35,15 +36,27 @@ impl Model for Reader {
 }
 
 impl Reader {
-    /// A reader that was given no bytes. It takes no memory yet.
+    /// A reader that was given no bytes. It keeps all markers. It takes no memory yet.
     pub fn new(alloc: Global, limits: Limits) -> Reader
         requires { AreLimits limits }
         ensures read { HasRead [] result }
         ensures limits { result.limits ≡ limits }
+        ensures keeping { keeping_of result.file ≡ All }
+    {
+        Reader::for_copying(alloc, limits, Copying::All)
+    }
+
+    /// The same, but of the markers it keeps only those that this passes on, and JFIF and Adobe segments. The others
+    /// are counted all the same.
+    pub fn for_copying(alloc: Global, limits: Limits, copying: Copying) -> Reader
+        requires { AreLimits limits }
+        ensures read { HasRead [] result }
+        ensures limits { result.limits ≡ limits }
+        ensures keeping { keeping_of result.file ≡ copying }
     {
         Reader {
             limits,
-            file: FileWork::new(alloc, limits),
+            file: FileWork::new(alloc, limits, copying),
             done: false,
             stop: None,
         }
@@ -61,6 +74,7 @@ impl Reader {
         ensures stopped { (stop : Stopped) → result ≡ Err stop → self.new.stop ≡ Some stop }
         ensures again { (stop : Stopped) → self.old.stop ≡ Some stop → (result ≡ Err stop) × (self.new ≡ self.old) }
         ensures limits { self.new.limits ≡ self.old.limits }
+        ensures keeping { keeping_of self.new.file ≡ keeping_of self.old.file }
     {
         if let Some(stop) = self.stop {
             return Err(stop);
@@ -99,6 +113,7 @@ impl Reader {
         ensures stopped { self.new.stop ≡ Some result }
         ensures again { (stop : Stopped) → self.old.stop ≡ Some stop → (result ≡ stop) × (self.new ≡ self.old) }
         ensures limits { self.new.limits ≡ self.old.limits }
+        ensures keeping { keeping_of self.new.file ≡ keeping_of self.old.file }
     {
         if let Some(stop) = self.stop {
             return stop;
@@ -119,7 +134,7 @@ impl Reader {
         }
     }
 
-    /// The picture of the whole file. It may be called where `feed` answered Done alone (`is_done`).
+    /// The picture of the whole file, with the markers that were kept. It may be called where `feed` answered Done alone (`is_done`).
     pub fn take(self) -> Picture
         requires { self.done ≡ true }
         ensures { TakesPicture self result }
@@ -132,7 +147,8 @@ impl Reader {
 fn read_piece(file: &mut FileWork, limits: Limits, piece: &[u8]) -> Result<Fed, Stop>
     requires limits { AreLimits limits }
     requires stands { (bytes : List ℕ) × Stands limits bytes file.old }
-    ensures { ReadsPiece limits file.old piece.now result file.new }
+    ensures after { ReadsPiece limits file.old piece.now result file.new }
+    ensures keeping { keeping_of file.new ≡ keeping_of file.old }
 {
     let mut done = 0usize;
     while done < piece.len() {

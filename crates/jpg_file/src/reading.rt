@@ -29,7 +29,8 @@ impl Reading {
     /// Takes a scan header that is whole: its scan begins, or it shows a fault.
     pub fn take_head(&mut self, begun: &mut Begun) -> ItemStep
         requires stands { (bytes : List ℕ) × (items : List Item) × (blocks : Blocks) × HeadWhole self.old.items.limits bytes items blocks self.old begun.old }
-        ensures { TakesHead self.old begun.old result self.new begun.new }
+        ensures after { TakesHead self.old begun.old result self.new begun.new }
+        ensures keeping { self.new.items.held.keeping ≡ self.old.items.held.keeping }
     {
         let at = self.taken;
         let Some(held) = &self.items.held.frame else {
@@ -72,6 +73,7 @@ impl Reading {
         requires room { self.old.taken < self.old.items.limits.input }
         ensures after { TakesByteOfItems self.old byte result self.new }
         ensures coefs { self.new.coefs ≡ self.old.coefs }
+        ensures keeping { self.new.items.held.keeping ≡ self.old.items.held.keeping }
     {
         self.taken += 1;
         self.items.byte(byte)
@@ -84,7 +86,8 @@ impl Reading {
         requires count { (reading_of self.old.items.segments).taken ≡ self.old.taken }
         requires room { self.old.taken + length bytes.now ≤ self.old.items.limits.input }
         requires limits { AreLimits self.old.items.limits }
-        ensures { PassesReading self.old bytes.now result self.new }
+        ensures after { PassesReading self.old bytes.now result self.new }
+        ensures keeping { self.new.items.held.keeping ≡ self.old.items.held.keeping }
     {
         let n = self.items.contents(bytes);
         self.taken += n as u64;
@@ -96,7 +99,8 @@ impl Reading {
         requires stands { (items : List Item) × (contents : List ℕ) × (bytes : List ℕ) × Scanning self.old.items.limits items contents bytes self.old }
         requires limits { AreLimits self.old.items.limits }
         requires room { self.old.taken < self.old.items.limits.input }
-        ensures { TakesByteOfScan self.old byte result self.new }
+        ensures after { TakesByteOfScan self.old byte result self.new }
+        ensures keeping { self.new.items.held.keeping ≡ self.old.items.held.keeping }
     {
         let Some(coefs) = &mut self.coefs else {
             return ItemStep::NoMemory;
@@ -139,6 +143,7 @@ impl Reading {
         requires plain { ArePlain run.now }
         ensures after { TakesRunOfScan self.old run.now result.0 result.1 self.new }
         ensures goes { GoesOn result.1 }
+        ensures keeping { self.new.items.held.keeping ≡ self.old.items.held.keeping }
     {
         let Some(coefs) = &mut self.coefs else {
             unreachable!();

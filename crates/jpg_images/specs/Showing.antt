@@ -12,6 +12,7 @@ use Rattle.jpg_base.specs.Laws.{AppendsPart}
 use Rattle.jpg_base.specs.declared.stop.Stop.TheVariants as stop
 use Rattle.jpg_huff.specs.Out.{OnlyWrites}
 use Rattle.jpg_file.specs.ReadFile.{IsRefusal}
+use Rattle.jpg_color.specs.DecodeRows.{AppendsLess}
 use Rattle.jpg_color.specs.declared.decode.DecodeStop.TheVariants as decode
 use Rattle.jpg_images.specs.declared.shown.NotShown.{NotShown}
 use Rattle.jpg_images.specs.declared.shown.NotShown.TheVariants.{Refused, Out, Unwritten}
@@ -41,7 +42,7 @@ AfterShown file kind way old (Ok u) new = IsShown file kind way (λ text. Append
 AfterShown file kind way old (Err (Refused (stop.Fault f))) new = IsRefusal standard_limits file f × (new ≡ old)
 AfterShown file kind way old (Err (Refused stop.NoMemory)) new = new ≡ old
 AfterShown file kind way old (Err (Out fault)) new = IsNoImage file way fault × (new ≡ old)
-AfterShown file kind way old (Err (Unwritten decode.NoMemory)) new = IsShown file kind way (λ text. AppendsPart old.outputs text new.outputs)
+AfterShown file kind way old (Err (Unwritten decode.NoMemory)) new = IsShown file kind way (λ text. AppendsLess old.outputs text new.outputs)
 AfterShown file kind way old (Err (Unwritten decode.WriteFault)) new = IsShown file kind way (λ text. AppendsPart old.outputs text new.outputs) × Rose old.counts.writes new.counts.writes
 
 -- and nothing but the outputs and the counts changed

@@ -23,7 +23,7 @@ pub enum NotShown {
     Refused(Stop),
     /// The picture has other colours than those that are shown, or factors that don't divide the greatest. Nothing was written.
     Out(Fault),
-    /// Memory or the desk was wanting. A first part of the image was written.
+    /// Memory or the desk was wanting. A first part of the image was written, and not all where memory was wanting.
     Unwritten(DecodeStop),
 }
 

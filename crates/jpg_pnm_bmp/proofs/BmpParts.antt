@@ -51,7 +51,7 @@ part_appended info taken parts bytes most =
     ap (λ n. behind n (nat_lt taken (parts + 1))) (sym count) ∙ ap (behind (min (parts + 1) (length (rest Bmp (told info) (rows_of taken (row_bytes (told info)) bytes))))) (sym (last_is info taken parts bytes))
 
 -- a part behind the header is a row, the last one first
-row_part : (info : ImageInfo) (taken part : ℕ) (bytes : List ℕ) → part < taken
+pub row_part : (info : ImageInfo) (taken part : ℕ) (bytes : List ℕ) → part < taken
     → get_or (rest Bmp info (rows_of taken (row_bytes info) bytes)) (suc part) [] ≡ bmp_row info (take (row_bytes info) (drop ((taken - suc part) * row_bytes info) bytes))
 row_part info taken part bytes h =
     let rows = rows_of taken (row_bytes info) bytes in

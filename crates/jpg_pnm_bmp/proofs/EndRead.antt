@@ -1,12 +1,14 @@
 -- What is told where the bytes end.
 use Rattle.std.proofs.Common.{◌≡◌, ℕ, ◌<◌, List, length, sym, subst, Ok, Err}
 use Rattle.jpg_spec.specs.Images.{Image}
-use Rattle.jpg_spec.specs.ImageFaults.{IsImage, IsImageFault}
+use Rattle.jpg_spec.specs.ImageFaults.{IsImage, IsImageFault, IsOpenImage}
 use Rattle.jpg_spec.specs.ImageSteps.{at_start, run, state_end}
-use Rattle.jpg_spec.proofs.ImageJudged.{IsLive, end_image, end_fault}
+use Rattle.jpg_spec.proofs.ImageJudged.{IsLive, end_image, end_fault, live_shows_nothing}
 use Rattle.jpg_spec.specs.declared.fault.Fault.{Fault}
 use Rattle.jpg_spec.specs.declared.frame.Limits.{Limits}
 use Rattle.jpg_pnm_bmp.specs.Reader.{standing, standing_of, IsReached}
+use Rattle.jpg_pnm_bmp.specs.PixelsRead.{HasFed}
+use Rattle.jpg_pnm_bmp.specs.declared.pixels.PixelReader.{PixelReader}
 use Rattle.jpg_pnm_bmp.specs.declared.work.Stage.{Stage}
 use Rattle.jpg_pnm_bmp.specs.declared.work.Stage.TheVariants as stage
 use Rattle.jpg_pnm_bmp.specs.declared.work.Work.{Work}
@@ -20,6 +22,9 @@ standing_live stage.BmpHead w = tt
 standing_live (stage.BmpFront passed) w = tt
 standing_live stage.PnmBody w = tt
 standing_live stage.BmpBody w = tt
+
+pub fed_open : (bytes : List ℕ) (r : PixelReader) → HasFed bytes r → IsOpenImage bytes
+fed_open bytes r h = live_shows_nothing bytes (subst IsLive h.3.stands (standing_live r.work.stage r.work))
 
 pub reached_at : (w : Work) (bytes : List ℕ) → standing w ≡ run at_start bytes → IsReached (standing w)
 reached_at w bytes e = (bytes, sym e)

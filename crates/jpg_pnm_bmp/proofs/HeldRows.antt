@@ -1,7 +1,7 @@
 -- Rows of one length that stand one behind another.
 use Rattle.std.proofs.Common.{◌≡◌, ℕ, zero, suc, ◌+◌, ◌-◌, ◌*◌, ◌<◌, ◌≤◌, List, [], ◌∷◌, ◌++◌, length, take, drop, get_or, refl, sym, add-one, ap, ◌∙◌, arith}
 use Rattle.std.proofs.Math.Nat.{add-mul, zero-mul}
-use Rattle.std.proofs.lemmas.List.{take_all, take-append-le, drop-append-le, drop-drop, length-drop}
+use Rattle.std.proofs.lemmas.List.{take_all, length-take-le, take-append-le, drop-append-le, drop-drop, length-drop}
 use Rattle.jpg_pnm_bmp.specs.Ends.{rows_of}
 
 pub length_rows : (n long : ℕ) (bytes : List ℕ) → length (rows_of n long bytes) ≡ n
@@ -29,3 +29,11 @@ row_at zero k long bytes h = absurd (omega (arith, h))
 row_at (suc n) zero long bytes h = ap (λ m. take long (drop m bytes)) (sym (zero-mul long))
 row_at (suc n) (suc k) long bytes h =
     row_at n k long (drop long bytes) (omega (arith, h)) ∙ ap (take long) (drop-drop (k * long) long bytes ∙ ap (λ m. drop m bytes) (let e : long + k * long ≡ suc k * long = omega (arith, suc_times k long) in e))
+
+-- and its length
+pub row_long : (n k long : ℕ) (bytes : List ℕ) → length bytes ≡ n * long → k < n → length (get_or (rows_of n long bytes) k []) ≡ long
+row_long zero k long bytes whole h = absurd (omega (arith, h))
+row_long (suc n) zero long bytes whole h = length-take-le long bytes (omega (arith, whole ∙ suc_times n long))
+row_long (suc n) (suc k) long bytes whole h =
+    let all : length bytes ≡ n * long + long = whole ∙ suc_times n long in
+    row_long n k long (drop long bytes) (length-drop long bytes ∙ (let e : length bytes - long ≡ n * long = omega (arith, all) in e)) (omega (arith, h))

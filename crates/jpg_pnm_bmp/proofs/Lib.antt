@@ -6,6 +6,7 @@ pub mod ImageBytes
 pub mod ImageMade
 pub mod ImageRight
 pub mod MadeSamples
+pub mod SomeBytes
 pub mod TurnedRound
 pub mod Written
 pub mod Advance

@@ -56,23 +56,29 @@ pub record CanFinish (e : EndState) : Type 0 where
   pub all : e.taken ≡ (info_of e).height
   pub before : e.done ≡ false
 
--- WHAT THEY DO. Where memory is wanting all stays as it was.
-
-abbrev pub Appends : EndState → List ℕ → List ℕ → EndState → Result (Unit {0}) NoMemory → EndState → List ℕ → Type 0
-Appends e out piece due (Ok u) new grown = (new ≡ due) × (grown ≡ out ++ piece)
-Appends e out piece due (Err fault) new grown = (new ≡ e) × (grown ≡ out)
+-- WHAT THEY DO. Where memory is wanting all stays as it was. `row` and `finish` want it only where they have something to append, so that
+-- something of the text is left then.
 
 abbrev pub started : EndState → ImageInfo → EndState
 started e info = record e { info = Some info }
 
+abbrev pub Starts : EndState → List ℕ → ImageInfo → Result (Unit {0}) NoMemory → EndState → List ℕ → Type 0
+Starts e out info (Ok u) new grown = (new ≡ started e info) × (grown ≡ out ++ first_piece e.kind info)
+Starts e out info (Err fault) new grown = (new ≡ e) × (grown ≡ out)
+
+-- no memory for this piece
+abbrev pub HasNoRoom : EndState → List ℕ → List ℕ → EndState → List ℕ → Type 0
+HasNoRoom e out piece new grown = (0 < length piece) × (new ≡ e) × (grown ≡ out)
+
 abbrev pub with_row : EndState → List ℕ → EndState
 with_row e row = record e { taken = e.taken + 1; held = e.held ++ held_of e.kind (row ∷ []) }
 
-abbrev pub Starts : EndState → List ℕ → ImageInfo → Result (Unit {0}) NoMemory → EndState → List ℕ → Type 0
-Starts e out info = Appends e out (first_piece e.kind info) (started e info)
+abbrev pub next_piece : EndState → List ℕ → List ℕ
+next_piece e row = row_piece e.kind (info_of e) row
 
 abbrev pub TakesRow : EndState → List ℕ → List ℕ → Result (Unit {0}) NoMemory → EndState → List ℕ → Type 0
-TakesRow e out row = Appends e out (row_piece e.kind (info_of e) row) (with_row e row)
+TakesRow e out row (Ok u) new grown = (new ≡ with_row e row) × (grown ≡ out ++ next_piece e row)
+TakesRow e out row (Err fault) new grown = HasNoRoom e out (next_piece e row) new grown
 
 -- the parts that are due at the end, and the next of them
 abbrev pub parts_due : EndState → List (List ℕ)
@@ -89,4 +95,4 @@ with_part e = record e { parts = min (e.parts + 1) (length (parts_due e)); done 
 
 abbrev pub Finishes : EndState → List ℕ → Result Finish NoMemory → EndState → List ℕ → Type 0
 Finishes e out (Ok answer) new grown = (answer ≡ (if is_last e then Done else More)) × (new ≡ with_part e) × (grown ≡ out ++ next_part e)
-Finishes e out (Err fault) new grown = (new ≡ e) × (grown ≡ out)
+Finishes e out (Err fault) new grown = HasNoRoom e out (next_part e) new grown

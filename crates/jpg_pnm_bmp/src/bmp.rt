@@ -1,10 +1,10 @@
 // Images as BMP files: 8 bits a pixel with a palette of grays, or 24 bits for colours.
-ghost use Rattle.std.specs.Prelude.{◌≡◌, ◌≤◌, ◌+◌, ◌*◌, IsOk, OnOk};
+ghost use Rattle.std.specs.Prelude.{◌≡◌, ◌≤◌, ◌+◌, ◌*◌, OnOk};
 ghost use Rattle.std.specs.Vec.{vec_capacity, vec_len};
 ghost use Rattle.jpg_spec.specs.ImageText.{row_bytes};
 ghost use Rattle.jpg_spec.specs.declared.image.EndKind.TheVariants as kind;
 ghost use Rattle.jpg_pnm_bmp.specs.Bmp.{IsInBounds};
-ghost use Rattle.jpg_pnm_bmp.specs.EndState.{CanFinish, CanTakeRow, TakesRow, new_end, next_part, told};
+ghost use Rattle.jpg_pnm_bmp.specs.EndState.{CanFinish, new_end, next_part, told};
 
 use crate::bmp_header::{bytes_of_row, make_header};
 use crate::bmp_row::make_row;
@@ -22,6 +22,7 @@ pub struct BmpEnd {
     rows: Vec<u8>,
     part: Vec<u8>,
     ghost bounds: { IsInBounds (told info) },
+    ghost wide: { (told info).height ≤ 65500 * (told info).width },
     ghost few: { taken ≤ (told info).height },
     ghost whole: { vec_len rows ≡ taken * row_bytes (told info) },
     ghost room: { (told info).height * row_bytes (told info) ≤ vec_capacity rows },
@@ -82,11 +83,7 @@ impl ImageEnd for BmpEnd {
     }
 
     // The memory was asked for by `start`.
-    fn row(&mut self, row: &[u8], out: &mut Bytes) -> Result<(), NoMemory>
-        requires { CanTakeRow (bmp_state self.old) row.now }
-        ensures state { TakesRow (bmp_state self.old) out.old row.now result (bmp_state self.new) out.new }
-        ensures room { IsOk result }
-    {
+    fn row(&mut self, row: &[u8], out: &mut Bytes) -> Result<(), NoMemory> {
         let _ = out;
         match self.rows.extend_from_slice(row) {
             Ok(()) => {

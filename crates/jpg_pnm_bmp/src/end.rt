@@ -15,7 +15,8 @@ pub enum Finish {
 /// Makes an image file of an image's rows, in a format of its own. `start` comes once, then `row` for each row
 /// from the top down, then `finish` until it answers `Done`. What they append, one behind another, is the file.
 ///
-/// Each call answers NoMemory where memory is wanting. The end and what is appended to are then as they were.
+/// Each call answers NoMemory where memory is wanting. The end and what is appended to are then as they were. `row` and `finish`
+/// answer it only where they have something to append: memory for rows that are held is asked for by `start`.
 pub trait ImageEnd: Drop {
     /// What it was told, and what it appended.
     ghost progress: { Self → EndState };

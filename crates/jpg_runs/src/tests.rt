@@ -10,6 +10,7 @@ use std::alloc::Global;
 use std::test::Fail;
 
 mod comments;
+mod encoded;
 mod inserted;
 mod refused;
 mod transformed;
@@ -24,10 +25,6 @@ static OTHERS: [u8; 64] = [
     27, 28, 29, 30, 31, 32, 33, 34, 35, 36, 37, 38, 39, 40, 41, 42, 43, 44, 45, 46, 47, 48, 49, 50,
     51, 52, 53, 54, 55, 56, 57, 58, 59, 60, 61, 62, 63, 255,
 ];
-
-fn not_built(at: u64) -> Why {
-    refused_at(Fault::NotBuilt, at)
-}
 
 // There is no input, so that an open would fail and raise its count.
 #[test]
@@ -50,7 +47,7 @@ fn other_words_open_nothing(rt: HostRuntime) -> Result<(), Fail> {
         ),
         (
             &["jpgwork", "1"],
-            not_built(0),
+            refused_at(Fault::NotBuilt, 0),
             "jpgwork: refused: NotBuilt at byte 0\n",
         ),
         (
@@ -60,8 +57,8 @@ fn other_words_open_nothing(rt: HostRuntime) -> Result<(), Fail> {
         ),
         (
             &["cjpeg", "-flip", "horizontal"],
-            not_built(0),
-            "cjpeg: refused: NotBuilt at byte 0\n",
+            usage_at(UsageFault::UnknownSwitch, 1),
+            "cjpeg: usage: UnknownSwitch at word 1\n",
         ),
     ];
     for (i, (words, why, message)) in rows.iter().enumerate() {

@@ -3,13 +3,13 @@ use Rattle.std.proofs.Common.{◌≡◌, ℕ, zero, suc, ◌+◌, ◌-◌, ◌*�
 use Rattle.std.specs.Prelude.{sum_by, nat_lt, if◌then◌else◌}
 use Rattle.std.proofs.lemmas.Bool.{cases_lt}
 use Rattle.std.proofs.lemmas.Nat.{div_below, mul-le}
-use Rattle.std.proofs.lemmas.List.{take_more_set, take_all, map-append, length-take-le, get_or-take}
+use Rattle.std.proofs.lemmas.List.{take_more_set, take_all, map-append, length-take-le, get_or-take, get_or-map}
 use Rattle.std.proofs.lemmas.List.Sums.{sum_by-append}
 use Rattle.jpg_spec.specs.Lists.{below}
 use Rattle.jpg_spec.specs.Downsampling.{mean_of, edge_repeated, in_rows, sum_under, narrowed, down_rows}
-use Rattle.jpg_spec.proofs.Common.{lt_yes, lt_no}
-use Rattle.jpg_spec.proofs.Rows.{by_items}
-use Rattle.jpg_sample.specs.Means.{row_part, block_part}
+use Rattle.jpg_spec.proofs.Common.{lt_yes, lt_no, length_below}
+use Rattle.jpg_spec.proofs.Rows.{by_items, at_below}
+use Rattle.jpg_sample.specs.Means.{row_part, block_part, quarter_at, quarter_of}
 
 sum_one : (f : ℕ → ℕ) (n : ℕ) → sum_by f (n ∷ []) ≡ f n
 sum_one f n = omega arith
@@ -113,3 +113,33 @@ half_as rows width x a b r there ea eb er =
     let e1 : plane (2 * x + 1) 0 ≡ slice_index rows (2 * x + 1) = ap (slice_index rows) (omega (arith, there)) in
     let s : sum_under 2 1 plane x 0 ≡ a + b = omega (arith, e0, e1, ea, eb) in
     er ∙ sym (ap (λ n. (n + x % 2) / 2) s)
+
+-- one of eight means
+pub one_of_eight : (rows upper lower means : List ℕ) (width c k : ℕ) → k < 8 → 16 * c + 16 ≤ width
+    → ((j : ℕ) → j < 16 → slice_index upper j ≡ slice_index rows (16 * c + j)) → ((j : ℕ) → j < 16 → slice_index lower j ≡ slice_index rows (width + 16 * c + j))
+    → means ≡ map (quarter_at upper lower) (below 8) → slice_index means k ≡ quarter_of rows width (8 * c + k)
+one_of_eight rows upper lower means width c k few there up low is =
+    let x = 8 * c + k in
+    let at : slice_index means k ≡ quarter_at upper lower k =
+    ap (λ l. slice_index l k) is ∙ get_or-map (quarter_at upper lower) (below 8) k 0 0 (omega (arith, length_below 8, few)) ∙ ap (quarter_at upper lower) (at_below 8 k few) in
+    let a : slice_index upper (2 * k) ≡ slice_index rows (2 * x) = up (2 * k) (omega (arith, few)) ∙ ap (slice_index rows) (omega arith) in
+    let b : slice_index upper (2 * k + 1) ≡ slice_index rows (2 * x + 1) = up (2 * k + 1) (omega (arith, few)) ∙ ap (slice_index rows) (omega arith) in
+    let d : slice_index lower (2 * k) ≡ slice_index rows (width + 2 * x) = low (2 * k) (omega (arith, few)) ∙ ap (slice_index rows) (omega arith) in
+    let e : slice_index lower (2 * k + 1) ≡ slice_index rows (width + 2 * x + 1) = low (2 * k + 1) (omega (arith, few)) ∙ ap (slice_index rows) (omega arith) in
+    let odd : k % 2 ≡ x % 2 = omega arith in
+    quarter_as rows width x _ _ _ _ (slice_index means k) (omega (arith, few, there)) a b d e
+    (at ∙ ap (λ n. (slice_index upper (2 * k) + slice_index upper (2 * k + 1) + (slice_index lower (2 * k) + slice_index lower (2 * k + 1)) + (1 + n)) / 4) odd)
+
+pub quarters_done : (rows out : List ℕ) (width x n : ℕ) → length out ≡ n → x ≡ n → ((k : ℕ) → k < x → slice_index out k ≡ quarter_of rows width k) → out ≡ down_rows 2 2 width rows n
+unfolding down_rows
+quarters_done rows out width x n long is same =
+    sym (by_items n (quarter_of rows width) out 0 long (λ i h. sym (same i (omega (arith, h, is)))))
+
+-- values at places below n, and at m places more
+pub made_more : (f : ℕ → ℕ) (old new : List ℕ) (n m : ℕ) → ((k : ℕ) → k < n → slice_index old k ≡ f k) → ((k : ℕ) → k < n → slice_index new k ≡ slice_index old k)
+    → ((k : ℕ) → k < m → slice_index new (n + k) ≡ f (n + k)) → (k : ℕ) → k < n + m → slice_index new k ≡ f k
+made_more f old new n m made before here k lt =
+    ⊎_elim
+    (λ (a : k < n). before k a ∙ made k a)
+    (λ (b : n ≤ k). (let e : n + (k - n) ≡ k = omega (arith, b) in ap (slice_index new) (sym e) ∙ here (k - n) (omega (arith, b, lt)) ∙ ap f e))
+    (cases_lt k n)

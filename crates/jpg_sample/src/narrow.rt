@@ -1,9 +1,37 @@
 // Rows of samples made narrower and lower: each sample is the mean of those that it stands for (release 6b's downsampling).
-ghost use Rattle.std.specs.Prelude.{◌≡◌, ◌+◌, ◌-◌, ◌*◌, ◌/◌, ◌≤◌, ◌<◌, min, nat_lt, if◌then◌else◌, length};
+ghost use Rattle.std.specs.Prelude.{◌≡◌, ◌+◌, ◌-◌, ◌*◌, ◌/◌, ◌≤◌, ◌<◌, ℕ, min, nat_lt, if◌then◌else◌, length, map, slice_index};
+ghost use Rattle.jpg_spec.specs.Lists.{below};
 ghost use Rattle.jpg_spec.specs.Downsampling.{mean_of, down_rows};
-ghost use Rattle.jpg_sample.specs.Means.{row_part, block_part};
+ghost use Rattle.jpg_sample.specs.Means.{row_part, block_part, quarter_at, quarter_of};
 
 use crate::Ratio;
+use std::simd::{u8x16, u16x8};
+
+const EVENS: [usize; 8] = [0, 2, 4, 6, 8, 10, 12, 14];
+
+const ODDS: [usize; 8] = [1, 3, 5, 7, 9, 11, 13, 15];
+
+// What is added before the quarter is taken.
+const HALVES: [u16; 8] = [1, 2, 1, 2, 1, 2, 1, 2];
+
+// Tells that a sample fits its type. It does nothing.
+#[inline(always)]
+fn fits(sample: u8)
+    ensures { sample < 256 }
+{
+    let _ = sample;
+}
+
+// Tells that all samples fit their type. It does nothing.
+#[inline(always)]
+fn all_fit(samples: &[u8])
+    requires { length samples.now ≡ 16 }
+    ensures { (k : ℕ) → k < 16 → slice_index samples.now k < 256 }
+{
+    for k in 0..16 {
+        fits(samples[k]);
+    }
+}
 
 // The place of a column, or of the last one.
 #[inline(always)]
@@ -132,6 +160,72 @@ fn means(rows: &[u8], width: usize, across: usize, down: usize, out: &mut [u8])
     }
 }
 
+// Eight means of 2 by 2, from 16 samples of either row.
+#[inline(always)]
+fn eight_quarters(upper: &[u8], lower: &[u8]) -> [u8; 8]
+    requires upper { length upper.now ≡ 16 }
+    requires lower { length lower.now ≡ 16 }
+    ensures { result ≡ map (quarter_at upper.now lower.now) (below 8) }
+{
+    all_fit(upper);
+    all_fit(lower);
+    let u = u8x16::from_slice(upper);
+    let l = u8x16::from_slice(lower);
+    let above = u.swizzle(EVENS).cast::<u16>() + u.swizzle(ODDS).cast::<u16>();
+    let under = l.swizzle(EVENS).cast::<u16>() + l.swizzle(ODDS).cast::<u16>();
+    let sums = above + under + u16x8::from_array(HALVES);
+    (sums / u16x8::splat(4)).cast::<u8>().to_array()
+}
+
+// Puts eight samples from column 8 * c on.
+#[inline(always)]
+fn put_samples(out: &mut [u8], c: usize, samples: &[u8; 8])
+    requires { 8 * c + 8 ≤ length out.old }
+    ensures long { length out.new ≡ length out.old }
+    ensures here { (k : ℕ) → k < 8 → slice_index out.new (8 * c + k) ≡ slice_index samples.now k }
+    ensures before { (k : ℕ) → k < 8 * c → slice_index out.new k ≡ slice_index out.old k }
+{
+    out[8 * c..8 * c + 8].copy_from_slice(samples);
+}
+
+// Sixteen samples.
+#[inline(always)]
+fn part(row: &[u8], at: usize) -> &[u8]
+    requires { at + 16 ≤ length row.now }
+    ensures long { length result.now ≡ 16 }
+    ensures value { (k : ℕ) → k < 16 → slice_index result.now k ≡ slice_index row.now (at + k) }
+{
+    &row[at..at + 16]
+}
+
+// Puts those of columns 8 * c to 8 * c + 7 of two rows.
+#[inline(always)]
+fn put_eight(rows: &[u8], width: usize, c: usize, out: &mut [u8])
+    requires there { 8 * c + 8 ≤ length out.old }
+    requires room { 2 * length out.old ≤ width }
+    requires rows { length rows.now ≡ 2 * width }
+    ensures long { length out.new ≡ length out.old }
+    ensures here { (k : ℕ) → k < 8 → slice_index out.new (8 * c + k) ≡ quarter_of rows.now width (8 * c + k) }
+    ensures before { (k : ℕ) → k < 8 * c → slice_index out.new k ≡ slice_index out.old k }
+{
+    let upper = part(rows, 16 * c);
+    let lower = part(rows, width + 16 * c);
+    put_samples(out, c, &eight_quarters(upper, lower));
+}
+
+// Puts all whole eights.
+#[inline(always)]
+fn put_eights(rows: &[u8], width: usize, out: &mut [u8])
+    requires room { 2 * length out.old ≤ width }
+    requires rows { length rows.now ≡ 2 * width }
+    ensures long { length out.new ≡ length out.old }
+    ensures made { (k : ℕ) → k < 8 * (length out.old / 8) → slice_index out.new k ≡ quarter_of rows.now width k }
+{
+    for c in 0..out.len() / 8 {
+        put_eight(rows, width, c, out);
+    }
+}
+
 // 2 by 2, where all columns are there.
 #[inline(always)]
 fn quarters(rows: &[u8], width: usize, out: &mut [u8])
@@ -139,7 +233,8 @@ fn quarters(rows: &[u8], width: usize, out: &mut [u8])
     requires rows { length rows.now ≡ 2 * width }
     ensures { out.new ≡ down_rows 2 2 width rows.now (length out.old) }
 {
-    for x in 0..out.len() {
+    put_eights(rows, width, out);
+    for x in 8 * (out.len() / 8)..out.len() {
         let upper = u32::from(rows[2 * x]) + u32::from(rows[2 * x + 1]);
         let lower = u32::from(rows[width + 2 * x]) + u32::from(rows[width + 2 * x + 1]);
         out[x] = quarter(upper + lower, (x % 2) as u32);

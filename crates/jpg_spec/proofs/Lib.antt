@@ -6,6 +6,7 @@ pub mod Common
 pub mod DataFacts
 pub mod DataLength
 pub mod BlockLaws
+pub mod EncodedKept
 pub mod Excludes
 pub mod ExtraBits
 pub mod Facts

@@ -1,5 +1,5 @@
 -- A picture that may be written may be written moved, as a choice asks for it.
-use Rattle.std.proofs.Common.{◌≡◌, ℕ, suc, ◌+◌, ◌*◌, ◌<◌, ◌≤◌, Bool, true, false, cond, not, ◌&&◌, ◌==◌, List, [], ◌∷◌, length, get_or, map, refl, sym, ap, ◌∙◌, subst, arith, ℤ, pos, Some, None}
+use Rattle.std.proofs.Common.{◌≡◌, ℕ, suc, ◌+◌, ◌*◌, ◌<◌, ◌≤◌, Bool, true, false, cond, not, ◌&&◌, ◌==◌, List, [], ◌∷◌, length, get_or, map, refl, sym, ap, ◌∙◌, subst, arith, ℤ, Some, None}
 use Rattle.std.specs.Prelude.{◌||◌, nat_lt, reverse}
 use Rattle.std.specs.List.{All}
 use Rattle.std.proofs.lemmas.List.{get_or-map, length-map}
@@ -13,7 +13,7 @@ use Rattle.jpg_spec.specs.FrameHeader.{IsFrame}
 use Rattle.jpg_spec.specs.Elements.{zeros, IsBlockIn}
 use Rattle.jpg_spec.specs.Markers.{kept_count}
 use Rattle.jpg_spec.specs.Meaning.{Meaning, PictureComponent, picture_frame, real_blocks, colour_of}
-use Rattle.jpg_spec.specs.Moves.{zigzag, mirrored, mirrored_down, most_across, most_down, component_of, whole_columns, whole_rows, flip_h, flip_v, headed_by}
+use Rattle.jpg_spec.specs.Moves.{zigzag, most_across, most_down, component_of, whole_columns, whole_rows, flip_h, flip_v, headed_by}
 use Rattle.jpg_spec.specs.Transposed.{exchanged, transposed}
 use Rattle.jpg_spec.specs.Transforms.{transformed, transpose, exchanged_axes, mirrors_across, mirrors_down}
 use Rattle.jpg_spec.specs.Moved.{Choice, picture_grids, grayed, trimmed, whole_side, moved, process_due, asks_progressive, gray_fault, is_gray_or_ycbcr, transformed_frame, trimmed_frame, grayed_frame, exchanged_factors}

@@ -206,7 +206,7 @@ ac_in (v ∷ block) h =
     later k w e =
         ap (λ b. cond b (int_le (bounds_of 8).dc_low w && int_le w (bounds_of 8).dc_high) (int_le (pos (nat_abs w)) (bounds_of 8).ac)) (not_zero k ∙ sym (not_zero (suc k))) ∙ e
 
-block_in : (block : List ℤ) → length block ≡ 64 → ((k : ℕ) → is_coefficient (bounds_of 8) k (get_or block k (pos 0)) ≡ true) → IsBlockIn (bounds_of 8) block
+pub block_in : (block : List ℤ) → length block ≡ 64 → ((k : ℕ) → is_coefficient (bounds_of 8) k (get_or block k (pos 0)) ≡ true) → IsBlockIn (bounds_of 8) block
 block_in [] l h = absurd (omega (arith, l))
 block_in (v ∷ block) l h =
     (l, ap (λ b. b && are_in_bounds (bounds_of 8) false block) (h 0) ∙ ac_in block (λ k. h (suc k)))

@@ -1,5 +1,5 @@
 -- What a sequential scan writes is in the grammar, by the tables in force for its components.
-use Rattle.std.proofs.Common.{◌≡◌, ℕ, zero, suc, Bool, true, false, cond, List, [], ◌∷◌, drop, Some, refl, sym, ap, ◌∙◌, subst, ℤ}
+use Rattle.std.proofs.Common.{◌≡◌, ℕ, zero, suc, Bool, true, false, cond, List, [], ◌∷◌, drop, Some, sym, ap, ◌∙◌, subst, ℤ}
 use Rattle.std.specs.Prelude.{map, flat_map}
 use Rattle.jpg_spec.specs.Codes.{Code}
 use Rattle.jpg_spec.specs.Lists.{is_among}

@@ -40,8 +40,11 @@ abbrev pub is_gray : ImageKind → Bool
 is_gray Gray = true
 is_gray Rgb = false
 
+abbrev pub count_due : Bool → ImageKind → ℕ
+count_due gray kind = if gray || is_gray kind then 1 else 3
+
 abbrev pub components_due : Encoding → Image → ℕ
-components_due e image = if e.gray || is_gray image.info.kind then 1 else 3
+components_due e image = count_due e.gray image.info.kind
 
 abbrev pub component_due : Encoding → ℕ → PictureComponent
 component_due e i =

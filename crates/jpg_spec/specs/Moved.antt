@@ -12,9 +12,11 @@ use Rattle.jpg_spec.specs.declared.frame.Component.{Component}
 use Rattle.jpg_spec.specs.declared.frame.Process.{Process}
 use Rattle.jpg_spec.specs.declared.frame.Process.TheVariants.{Progressive}
 use Rattle.jpg_spec.specs.declared.frame.Copying.{Copying}
+use Rattle.jpg_spec.specs.declared.frame.Copying.TheVariants as copying
 use Rattle.jpg_spec.specs.declared.frame.Colour.{Colour}
 use Rattle.jpg_spec.specs.declared.frame.Colour.TheVariants.{Gray, YCbCr, Rgb, Cmyk, Ycck, Unknown}
 use Rattle.jpg_spec.specs.declared.transform.Transform.{Transform}
+use Rattle.jpg_spec.specs.declared.transform.Transform.TheVariants.{Keep}
 use Rattle.jpg_spec.specs.declared.transform.PictureFault.{PictureFault}
 use Rattle.jpg_spec.specs.declared.transform.PictureFault.TheVariants.{GrayColour, GrayFactors}
 
@@ -32,6 +34,17 @@ pub record Choice : Type 0 where
   pub copying : Copying
   pub scans : Scans
   pub restart : Restart
+
+-- nothing moved, and no kept marker passed on
+abbrev pub as_it_is : Scans → Restart → Choice
+as_it_is scans restart = record {
+  transform = Keep;
+  trim = false;
+  gray = false;
+  copying = copying.None;
+  scans = scans;
+  restart = restart;
+}
 
 -- GRAYED: component 1 alone, of factors 1 by 1
 

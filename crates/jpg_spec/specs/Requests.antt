@@ -1,6 +1,6 @@
--- WHAT SWITCHES AND FILES ASK FOR, behind a command's own word; the first fault of the words from left to right (the manuals of jpegtran and djpeg
--- in release 6b; shortest forms and faults are the suite's own).
-use Rattle.std.specs.Prelude.{ℕ, ◌+◌, ◌-◌, ◌*◌, Bool, true, false, not, nat_le, ◌&&◌, ◌||◌, ◌==◌, if◌then◌else◌, List, [], ◌∷◌, length, Option, Some, None, option_and_then, codes}
+-- WHAT SWITCHES AND FILES ASK FOR, behind a command's own word; the first fault of the words from left to right (the manuals of jpegtran, djpeg
+-- and cjpeg in release 6b; shortest forms and faults are the suite's own).
+use Rattle.std.specs.Prelude.{ℕ, zero, suc, ◌+◌, ◌-◌, ◌*◌, Bool, true, false, not, nat_le, ◌&&◌, ◌||◌, ◌==◌, if◌then◌else◌, List, [], ◌∷◌, length, Option, Some, None, option_and_then, option_map, max, codes}
 use Rattle.std.specs.Str.{bytes_eq}
 use Rattle.jpg_spec.specs.Lists.{all_of}
 use Rattle.jpg_spec.specs.Markers.{is_within}
@@ -14,13 +14,13 @@ use Rattle.jpg_spec.specs.declared.frame.Copying.TheVariants as copying
 use Rattle.jpg_spec.specs.declared.switch.Purpose.{Purpose}
 use Rattle.jpg_spec.specs.declared.image.EndKind.{EndKind}
 use Rattle.jpg_spec.specs.declared.image.EndKind.TheVariants.{Pnm, Bmp}
-use Rattle.jpg_spec.specs.declared.switch.Purpose.TheVariants.{LeftOut, CopyingGiven, FlipGiven, RotationGiven, Transposing, TransposingAcross, Trimming, Graying, OutputNamed, ProgressiveAsked, ScriptInFile, RestartGiven, PnmAsked, BmpAsked, NotSmoothed, DctGiven, ScaleGiven}
+use Rattle.jpg_spec.specs.declared.switch.Purpose.TheVariants.{LeftOut, CopyingGiven, FlipGiven, RotationGiven, Transposing, TransposingAcross, Trimming, Graying, OutputNamed, ProgressiveAsked, ScriptInFile, RestartGiven, PnmAsked, BmpAsked, NotSmoothed, DctGiven, ScaleGiven, QualityGiven, BaselineAsked, FactorsGiven, TablesInFile}
 use Rattle.jpg_spec.specs.declared.transform.Transform.{Transform}
 use Rattle.jpg_spec.specs.declared.transform.Transform.TheVariants.{Keep, FlipH, FlipV, Transpose, Transverse, Rotate90, Rotate180, Rotate270}
 
 -- WHAT IS ASKED FOR: files; a transform, trimming, graying, which kept markers are passed on; whether the scans are those of a progressive file, the
 -- name of a file that tells them, and where restart markers stand; a format of images with the index of the word that asks for it, and whether samples
--- are smoothed
+-- are smoothed; the quality of quantisers, whether they are of one byte, the name of a file that has them, and the factors of the first components
 pub record Request : Type 0 where
   pub files : FilesAsked
   pub transform : Transform
@@ -32,6 +32,10 @@ pub record Request : Type 0 where
   pub restart : Restart
   pub format : Option (EndKind × ℕ)
   pub smooth : Bool
+  pub quality : Option ℕ
+  pub baseline : Bool
+  pub tables : Option (List ℕ)
+  pub factors : List (ℕ × ℕ)
 
 -- where nothing is said
 abbrev pub nothing_said : Request
@@ -46,6 +50,10 @@ nothing_said = record {
   restart = off;
   format = None;
   smooth = true;
+  quality = None;
+  baseline = false;
+  tables = None;
+  factors = [];
 }
 
 abbrev pub with_input : List ℕ → Request → Request
@@ -115,6 +123,30 @@ is_int value = stands_for 1 (codes "int") value
 abbrev pub is_whole_scale : List ℕ → Bool
 is_whole_scale value = bytes_eq value (codes "1/1")
 
+-- a quality from 1 to 100, and 0 as 1
+abbrev pub quality_by : ℕ → Option ℕ
+quality_by n = if nat_le n 100 then Some (max 1 n) else None
+
+abbrev pub quality_named : List ℕ → Option ℕ
+quality_named value = option_and_then quality_by (number_of value)
+
+-- Factors across and down, each a digit from 1 to 4, with an x between them; commas between those of at most four components.
+abbrev pub is_factor : ℕ → Bool
+is_factor b = is_within 49 52 b
+
+abbrev pub are_factors : ℕ → ℕ → ℕ → Bool
+are_factors across x down = is_factor across && (x == 120 && is_factor down)
+
+abbrev pub factors_from : ℕ → List ℕ → Option (List (ℕ × ℕ))
+factors_from zero text = None
+factors_from (suc most) (across ∷ x ∷ down ∷ []) = if are_factors across x down then Some ((across - 48, down - 48) ∷ []) else None
+factors_from (suc most) (across ∷ x ∷ down ∷ comma ∷ text) =
+    if are_factors across x down && comma == 44 then option_map (λ more. (across - 48, down - 48) ∷ more) (factors_from most text) else None
+factors_from (suc most) text = None
+
+abbrev pub factors_named : List ℕ → Option (List (ℕ × ℕ))
+factors_named value = factors_from 4 value
+
 -- SWITCHES
 
 -- which of the eight transforms this is
@@ -168,6 +200,10 @@ switch_asked index (Some BmpAsked) = alone (λ a. words_right (record a { format
 switch_asked index (Some NotSmoothed) = alone (λ a. words_right (record a { smooth = false }))
 switch_asked index (Some DctGiven) = valued (λ value a. where_good index (is_int value) a)
 switch_asked index (Some ScaleGiven) = valued (λ value a. where_good index (is_whole_scale value) a)
+switch_asked index (Some QualityGiven) = valued (λ value a. with_value index (quality_named value) (λ q. words_right (record a { quality = Some q })))
+switch_asked index (Some BaselineAsked) = alone (λ a. words_right (record a { baseline = true }))
+switch_asked index (Some FactorsGiven) = valued (λ value a. with_value index (factors_named value) (λ f. words_right (record a { factors = f })))
+switch_asked index (Some TablesInFile) = valued (λ value a. words_right (record a { tables = Some value }))
 switch_asked index (Some LeftOut) = wrong LeftOutSwitch
 switch_asked index (Some other) = wrong UnknownSwitch
 switch_asked index None = wrong UnknownSwitch

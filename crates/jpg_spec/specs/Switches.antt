@@ -3,7 +3,7 @@ use Rattle.std.specs.Prelude.{ℕ, ◌+◌, Bool, false, nat_le, ◌&&◌, ◌==
 use Rattle.jpg_spec.specs.Lists.{begins_with}
 use Rattle.jpg_spec.specs.Markers.{is_within}
 use Rattle.jpg_spec.specs.declared.switch.Purpose.{Purpose}
-use Rattle.jpg_spec.specs.declared.switch.Purpose.TheVariants.{LeftOut, Replacing, CommentGiven, CommentInFile, CopyingGiven, FlipGiven, RotationGiven, Transposing, TransposingAcross, Trimming, Graying, OutputNamed, ProgressiveAsked, ScriptInFile, RestartGiven, PnmAsked, BmpAsked, NotSmoothed, DctGiven, ScaleGiven}
+use Rattle.jpg_spec.specs.declared.switch.Purpose.TheVariants.{LeftOut, Replacing, CommentGiven, CommentInFile, CopyingGiven, FlipGiven, RotationGiven, Transposing, TransposingAcross, Trimming, Graying, OutputNamed, ProgressiveAsked, ScriptInFile, RestartGiven, PnmAsked, BmpAsked, NotSmoothed, DctGiven, ScaleGiven, QualityGiven, BaselineAsked, FactorsGiven, TablesInFile}
 
 -- a word that begins with a hyphen
 abbrev pub is_switch : List ℕ → Bool
@@ -60,6 +60,29 @@ jpegtran_switches =
     ∷ record { name = codes "verbose"; shortest = 1; purpose = LeftOut }
     ∷ record { name = codes "debug"; shortest = 1; purpose = LeftOut }
     ∷ record { name = codes "maxmemory"; shortest = 3; purpose = LeftOut } ∷ []
+
+abbrev pub cjpeg_switches : List Switch
+cjpeg_switches =
+    record { name = codes "quality"; shortest = 1; purpose = QualityGiven }
+    ∷ record { name = codes "grayscale"; shortest = 2; purpose = Graying }
+    ∷ record { name = codes "greyscale"; shortest = 2; purpose = Graying }
+    ∷ record { name = codes "baseline"; shortest = 1; purpose = BaselineAsked }
+    ∷ record { name = codes "progressive"; shortest = 1; purpose = ProgressiveAsked }
+    ∷ record { name = codes "scans"; shortest = 4; purpose = ScriptInFile }
+    ∷ record { name = codes "restart"; shortest = 1; purpose = RestartGiven }
+    ∷ record { name = codes "sample"; shortest = 2; purpose = FactorsGiven }
+    ∷ record { name = codes "qtables"; shortest = 2; purpose = TablesInFile }
+    ∷ record { name = codes "dct"; shortest = 2; purpose = DctGiven }
+    ∷ record { name = codes "outfile"; shortest = 4; purpose = OutputNamed }
+    ∷ record { name = codes "optimize"; shortest = 1; purpose = LeftOut }
+    ∷ record { name = codes "optimise"; shortest = 1; purpose = LeftOut }
+    ∷ record { name = codes "arithmetic"; shortest = 1; purpose = LeftOut }
+    ∷ record { name = codes "verbose"; shortest = 1; purpose = LeftOut }
+    ∷ record { name = codes "debug"; shortest = 1; purpose = LeftOut }
+    ∷ record { name = codes "maxmemory"; shortest = 3; purpose = LeftOut }
+    ∷ record { name = codes "smooth"; shortest = 2; purpose = LeftOut }
+    ∷ record { name = codes "qslots"; shortest = 2; purpose = LeftOut }
+    ∷ record { name = codes "targa"; shortest = 1; purpose = LeftOut } ∷ []
 
 abbrev pub djpeg_switches : List Switch
 djpeg_switches =

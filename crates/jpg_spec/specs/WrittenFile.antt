@@ -1,5 +1,5 @@
 -- WHAT MAY BE WRITTEN: meanings that are headed, sequential scripts, and restarts (T.81, B.2, the manual of jpegtran).
-use Rattle.std.specs.Prelude.{◌≡◌, ℕ, ◌+◌, ◌<◌, ◌≤◌, Bool, true, false, not, nat_lt, nat_le, ◌&&◌, ◌||◌, ◌==◌, List, [], ◌∷◌, ◌++◌, length, reverse, Ok, ℤ, All}
+use Rattle.std.specs.Prelude.{◌≡◌, ℕ, ◌+◌, ◌<◌, ◌≤◌, Bool, true, false, not, nat_lt, nat_le, ◌&&◌, ◌||◌, ◌==◌, List, [], ◌∷◌, ◌++◌, length, reverse, Ok, All}
 use Rattle.jpg_spec.specs.Lists.{any_of, all_of, is_among, is_distinct, below}
 use Rattle.jpg_spec.specs.Geometry.{Frame, bounds, factor_sum, is_progressive, is_real, IsReal}
 use Rattle.jpg_spec.specs.FrameHeader.{checked_frame}

@@ -4,6 +4,7 @@ ghost use Rattle.jpg_spec.specs.Lists.{below};
 ghost use Rattle.jpg_spec.specs.Elements.{zeros};
 ghost use Rattle.jpg_spec.specs.ForwardDct.{forward_dct, quantised};
 ghost use Rattle.jpg_spec.specs.Quality.{quality_scale, scaled_quantiser, scaled_table, luminance_table, chrominance_table};
+ghost use Rattle.jpg_spec.specs.TableText.{encoding_tables};
 ghost use Rattle.jpg_spec.specs.Luminance.{to_ycc};
 ghost use Rattle.jpg_spec.specs.Downsampling.{down_rows};
 ghost use Rattle.jpg_spec.specs.Encoded.{encoded, encoded_text, encode_fault};
@@ -31,6 +32,13 @@ pub fn qualities_scale_tables()
     ensures ten { (scaled_quantiser 500 false 16 ≡ 80) × (scaled_quantiser 500 false 121 ≡ 605) }
     ensures one_byte { scaled_quantiser 500 true 121 ≡ 255 }
     ensures least { scaled_table 0 false luminance_table ≡ replicate 64 1 }
+{}
+
+/// Tables of a file are scaled where a quality is told, and a third isn't used. A second that isn't there stays K.2, of quality 75 where none is told.
+pub fn files_replace_tables()
+    ensures none { encoding_tables None false None ≡ (scaled_table 50 false luminance_table, scaled_table 50 false chrominance_table) }
+    ensures one { encoding_tables None false (Some (replicate 64 300 ∷ [])) ≡ (replicate 64 300, scaled_table 50 false chrominance_table) }
+    ensures scaled { encoding_tables (Some 10) true (Some (replicate 64 300 ∷ replicate 64 3 ∷ replicate 64 9 ∷ [])) ≡ (replicate 64 255, replicate 64 15) }
 {}
 
 /// Samples from 0 to 63: of each row the same frequencies across, and down the frequencies of the rows' means. (The numbers are those of a

@@ -9,6 +9,7 @@ ghost use Rattle.jpg_spec.specs.Laws.{AreOwn};
 ghost use Rattle.jpg_spec.specs.ForwardDct.{forward_dct, quantised_block};
 ghost use Rattle.jpg_spec.specs.Encoded.{Encoding, encoded, encoded_text, sampling_fault, encode_fault};
 ghost use Rattle.jpg_spec.specs.Images.{Image};
+ghost use Rattle.jpg_spec.specs.Moved.{as_it_is, moved, moved_text, picture_fault};
 ghost use Rattle.jpg_spec.specs.EncodingLaws.{AreSamples, IsEncodable};
 
 /// Of any samples and quantisers the coefficients of a block lie in the bounds of precision 8: DC from -1024 to 1016, AC from -1020 to 1020.
@@ -19,6 +20,14 @@ pub fn quantised_blocks_are_in_range()
 /// So the picture of an image may be written, whatever image it is, where its factors and grids aren't refused.
 pub fn encoded_images_may_be_written()
     ensures { (e : Encoding) (image : Image) → IsEncodable e image → sampling_fault e image ≡ None → IsHeaded standard_limits (encoded e image) }
+{}
+
+/// Where nothing is moved and no marker passed on, an image encoded stays what it is: the text of the picture moved is its text, and the faults of such
+/// a picture are those of its script.
+pub fn encoded_images_stay_as_they_are()
+    ensures same { (e : Encoding) (image : Image) → moved (as_it_is e.scans e.restart) (encoded e image) ≡ encoded e image }
+    ensures text { (e : Encoding) (image : Image) → moved_text (as_it_is e.scans e.restart) (encoded e image) ≡ encoded_text e image }
+    ensures fault { (e : Encoding) (image : Image) → sampling_fault e image ≡ None → picture_fault (as_it_is e.scans e.restart) (encoded e image) ≡ encode_fault e image }
 {}
 
 /// The own scans of an image encoded have no fault. In these, and in given ones without a fault, its file means its picture.

@@ -43,4 +43,12 @@ pub enum Purpose {
     DctGiven,
     /// `-scale`: the next word is the size, `1/1` alone.
     ScaleGiven,
+    /// `-quality`: the next word is the quality of the quantisers.
+    QualityGiven,
+    /// `-baseline`: no quantiser of more than one byte.
+    BaselineAsked,
+    /// `-sample`: the next word has the factors of the components.
+    FactorsGiven,
+    /// `-qtables`: the next word names the file that holds tables of quantisers.
+    TablesInFile,
 }

@@ -1,6 +1,7 @@
-//! Worked examples of words: what the words of jpegtran and djpeg ask for, by computation.
-ghost use Rattle.std.specs.Prelude.{◌≡◌, [], ◌∷◌, true, false, codes};
+//! Worked examples of words: what the words of jpegtran, djpeg and cjpeg ask for, by computation.
+ghost use Rattle.std.specs.Prelude.{◌≡◌, [], ◌∷◌, true, false, Some, codes};
 ghost use Rattle.jpg_spec.specs.CommentWords.{usage_at, words_right};
+ghost use Rattle.jpg_spec.specs.EncodeWords.{encode_asked, encode_of, factors_due};
 ghost use Rattle.jpg_spec.specs.Requests.{nothing_said, with_input, with_output};
 ghost use Rattle.jpg_spec.specs.ShowWords.{show_asked, show_of};
 ghost use Rattle.jpg_spec.specs.FileText.{rows, mcus};
@@ -74,4 +75,34 @@ pub fn wrong_words_of_djpeg_have_their_places()
     ensures targa { show_asked (codes "-t" ∷ []) ≡ usage_at LeftOutSwitch 1 }
     ensures flip { show_asked (codes "-flip" ∷ codes "h" ∷ []) ≡ usage_at UnknownSwitch 1 }
     ensures files { show_asked (codes "a" ∷ codes "b" ∷ []) ≡ usage_at TooManyFiles 2 }
+{}
+
+/// The values of cjpeg: a quality of 0 is 1, and factors are pairs of digits, of which those that aren't given are 1 by 1.
+pub fn values_of_cjpeg_are_numbers()
+    ensures none { encode_asked [] ≡ words_right (encode_of nothing_said) }
+    ensures quality { encode_asked (codes "-q" ∷ codes "095" ∷ []) ≡ words_right (record (encode_of nothing_said) { quality = Some 95 }) }
+    ensures least { encode_asked (codes "-quality" ∷ codes "0" ∷ []) ≡ words_right (record (encode_of nothing_said) { quality = Some 1 }) }
+    ensures one { encode_asked (codes "-sa" ∷ codes "2x1" ∷ []) ≡ words_right (record (encode_of nothing_said) { factors = (2, 1) ∷ [] }) }
+    ensures two { encode_asked (codes "-sa" ∷ codes "4x3,1x2" ∷ []) ≡ words_right (record (encode_of nothing_said) { factors = (4, 3) ∷ (1, 2) ∷ [] }) }
+    ensures more { factors_due ((2, 1) ∷ []) 3 ≡ (2, 1) ∷ (1, 1) ∷ (1, 1) ∷ [] }
+    ensures gray { factors_due ((4, 3) ∷ (1, 2) ∷ []) 1 ≡ (4, 3) ∷ [] }
+    ensures own { factors_due [] 3 ≡ (2, 2) ∷ (1, 1) ∷ (1, 1) ∷ [] }
+    ensures tables { encode_asked (codes "-QT" ∷ codes "t" ∷ []) ≡ words_right (record (encode_of nothing_said) { tables = Some (codes "t") }) }
+    ensures baseline { encode_asked (codes "-b" ∷ []) ≡ words_right (record (encode_of nothing_said) { baseline = true }) }
+    ensures script { encode_asked (codes "-scan" ∷ codes "a" ∷ codes "-p" ∷ []) ≡ words_right (record (encode_of nothing_said) { scans = in_file (codes "a") }) }
+{}
+
+/// The first word of cjpeg that is wrong is told.
+pub fn wrong_words_of_cjpeg_have_their_places()
+    ensures quality { encode_asked (codes "-q" ∷ codes "101" ∷ []) ≡ usage_at BadValue 2 }
+    ensures capital { encode_asked (codes "-sample" ∷ codes "2X1" ∷ []) ≡ usage_at BadValue 2 }
+    ensures five { encode_asked (codes "-sa" ∷ codes "1x1,1x1,1x1,1x1,1x1" ∷ []) ≡ usage_at BadValue 2 }
+    ensures comma { encode_asked (codes "-sa" ∷ codes "1x1," ∷ []) ≡ usage_at BadValue 2 }
+    ensures large { encode_asked (codes "-sa" ∷ codes "5x1" ∷ []) ≡ usage_at BadValue 2 }
+    ensures short { encode_asked (codes "-s" ∷ codes "a" ∷ []) ≡ usage_at UnknownSwitch 1 }
+    ensures smooth { encode_asked (codes "-sm" ∷ codes "10" ∷ []) ≡ usage_at LeftOutSwitch 1 }
+    ensures slots { encode_asked (codes "-qslots" ∷ codes "0" ∷ []) ≡ usage_at LeftOutSwitch 1 }
+    ensures copy { encode_asked (codes "-copy" ∷ codes "all" ∷ []) ≡ usage_at UnknownSwitch 1 }
+    ensures missing { encode_asked (codes "-b" ∷ codes "-qtables" ∷ []) ≡ usage_at MissingValue 2 }
+    ensures bmp { encode_asked (codes "-bmp" ∷ []) ≡ usage_at UnknownSwitch 1 }
 {}

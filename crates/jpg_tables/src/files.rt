@@ -5,7 +5,7 @@ ghost use Rattle.std.specs.Prelude.{◌≡◌, ◌≤◌, false};
 use jpg_base::{Bytes, Fed, NoMemory, Stop};
 use jpg_coefs::{BlockView, Coefs};
 use jpg_file::{Picture, Reader};
-use jpg_spec::{Colour, Fault, FaultAt, Limits};
+use jpg_spec::{Colour, Copying, Fault, FaultAt, Limits};
 use std::alloc::Global;
 use std::test::Fail;
 
@@ -89,8 +89,13 @@ fn coefficient(coefs: &Coefs, (i, x, y): (u8, u32, u32), k: u8) -> Option<i16> {
 
 // The picture of the file with these changes.
 fn picture(alloc: Global, changes: &[Change]) -> Option<Picture> {
+    picture_for(alloc, changes, Copying::All)
+}
+
+// The same with the markers that are passed on.
+fn picture_for(alloc: Global, changes: &[Change], copying: Copying) -> Option<Picture> {
     let file = changed(alloc, changes).ok()?;
-    let mut reader = Reader::new(alloc, Limits::standard());
+    let mut reader = Reader::for_copying(alloc, Limits::standard(), copying);
     if read(&mut reader, file.as_slice(), 7).is_err() || !reader.is_done() {
         return None;
     }
@@ -340,6 +345,23 @@ fn first_headers_are_told(rt: HostRuntime) -> Result<(), Fail> {
                 "{changes:?} in pieces of {size}, stopped: {stopped}"
             );
         }
+    }
+    Ok(())
+}
+
+static MARKERS: &[u8] = b"\xff\xfe\x00\x03\x09\xff\xe2\x00\x03\x09";
+
+// A comment and an APP2 segment behind the JFIF header, which is always kept.
+#[test]
+fn markers_are_left_out(rt: HostRuntime) -> Result<(), Fail> {
+    for (copying, count) in [
+        (Copying::None, 1),
+        (Copying::Comments, 2),
+        (Copying::All, 3),
+    ] {
+        let picture = picture_for(rt.alloc(), &[(20, 20, MARKERS)], copying).ok_or("picture")?;
+        assert_eq!(rt; picture.kept.len(), count, "{copying:?}");
+        assert!(rt; picture.jfif.seen, "{copying:?}");
     }
     Ok(())
 }

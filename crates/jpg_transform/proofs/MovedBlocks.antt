@@ -19,6 +19,7 @@ use Rattle.jpg_spec.proofs.MovedBounds.{mirrored_down_in, transposed_in}
 use Rattle.jpg_spec.proofs.OutsideZeros.{HasRealBlocks, alone, transformed_real}
 use Rattle.jpg_spec.proofs.SameNumbers.{SameNumbers, is_place, same_places}
 use Rattle.jpg_spec.proofs.Within.{mirrored_in}
+use Rattle.jpg_spec.proofs.ReadPicture.{block_in}
 use Rattle.jpg_coefs.specs.Picture.{map_of}
 use Rattle.jpg_file.specs.PictureKept.{component_told}
 use Rattle.jpg_file.specs.PictureRead.{picture_meaning}
@@ -30,21 +31,6 @@ use Rattle.jpg_transform.proofs.Showing.{gray_whole, some_across, some_down}
 
 abbrev AreBounded : Meaning → Type 0
 AreBounded M = (i x y : ℕ) → IsBlockIn (bounds_of 8) (M.blocks i x y)
-
-ac_in : (block : List ℤ) → ((k : ℕ) → is_coefficient (bounds_of 8) (suc k) (get_or block k (pos 0)) ≡ true) → are_in_bounds (bounds_of 8) false block ≡ true
-ac_in [] h = refl
-ac_in (v ∷ block) h =
-    let one : int_le (pos (nat_abs v)) (pos 1023) ≡ true =
-    sym (ap (λ b. cond b (int_le (bounds_of 8).dc_low v && int_le v (bounds_of 8).dc_high) (int_le (pos (nat_abs v)) (bounds_of 8).ac)) (not_zero 0)) ∙ h 0 in
-    ap (λ b. b && are_in_bounds (bounds_of 8) false block) one ∙ ac_in block (λ k. later k (get_or block k (pos 0)) (h (suc k)))
-  where
-    later : (k : ℕ) (w : ℤ) → is_coefficient (bounds_of 8) (suc (suc k)) w ≡ true → is_coefficient (bounds_of 8) (suc k) w ≡ true
-    later k w e =
-        ap (λ b. cond b (int_le (bounds_of 8).dc_low w && int_le w (bounds_of 8).dc_high) (int_le (pos (nat_abs w)) (bounds_of 8).ac)) (not_zero k ∙ sym (not_zero (suc k))) ∙ e
-
-block_in : (block : List ℤ) → length block ≡ 64 → ((k : ℕ) → is_coefficient (bounds_of 8) k (get_or block k (pos 0)) ≡ true) → IsBlockIn (bounds_of 8) block
-block_in [] l h = absurd (omega (arith, l))
-block_in (v ∷ block) l h = (l, ap (λ b. b && are_in_bounds (bounds_of 8) false block) (h 0) ∙ ac_in block (λ k. h (suc k)))
 
 chosen : (b : Bool) (one other : List ℤ) → IsBlockIn (bounds_of 8) one → IsBlockIn (bounds_of 8) other → IsBlockIn (bounds_of 8) (cond b one other)
 chosen true one other is are = is

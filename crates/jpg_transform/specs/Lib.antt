@@ -1,4 +1,3 @@
-pub mod Applied
 pub mod Changed
 pub mod MovedBlocks
 pub mod Places

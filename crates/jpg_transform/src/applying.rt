@@ -4,7 +4,7 @@ ghost use Rattle.jpg_spec.specs.Geometry.{IsReal};
 ghost use Rattle.jpg_spec.specs.Meaning.{real_blocks};
 ghost use Rattle.jpg_spec.specs.Moved.{Choice};
 ghost use Rattle.jpg_coefs.specs.Picture.{map_of};
-ghost use Rattle.jpg_transform.specs.Applied.{Copies, in_grids, in_grid, in_grid_row, is_place};
+ghost use Rattle.jpg_coefs.specs.Copied.{Copies, in_grids, in_grid, in_grid_row, is_place};
 ghost use Rattle.jpg_transform.specs.MovedBlocks.{ShowsJob, moved_blocks, moved_numbers};
 ghost use Rattle.jpg_transform.specs.Planned.{IsJobFor};
 

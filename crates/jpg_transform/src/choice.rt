@@ -1,4 +1,8 @@
 // What is asked of a picture (the manual of jpegtran), and how it is written then.
+ghost use Rattle.std.specs.Prelude.{◌≡◌};
+ghost use Rattle.jpg_spec.specs.Moved.{asks_progressive};
+ghost use Rattle.jpg_transform.specs.Planned.{scans_told};
+
 use jpg_file::{Plan, Restart};
 use jpg_scans::Script;
 use jpg_spec::{Copying, Transform};
@@ -11,6 +15,19 @@ pub enum Scans {
     /// The progressive ones of release 6b (`Script::standard`).
     Standard,
     Given(Script),
+}
+
+impl Scans {
+    /// Whether they are those of a progressive file.
+    pub fn progressive(&self) -> bool
+        ensures { result ≡ asks_progressive (scans_told self.now) }
+    {
+        match self {
+            Scans::Sequential => false,
+            Scans::Standard => true,
+            Scans::Given(script) => script.progressive(),
+        }
+    }
 }
 
 /// What is asked of a picture: to be grayed, transformed and trimmed, in this order; which of its kept markers are passed

@@ -18,4 +18,4 @@ pub use jpg_file::{Picture, Restart};
 pub use jpg_scans::Script;
 pub use jpg_spec::{Copying, PictureFault, Transform};
 pub use moved::Moved;
-pub use planning::plan;
+pub use planning::{counted, plan};

@@ -1,7 +1,7 @@
 // How a picture is written as it was asked for (the manual of jpegtran).
 ghost use Rattle.std.specs.Prelude.{◌≡◌, ◌≤◌, length, map, None};
 ghost use Rattle.jpg_spec.specs.Transposed.{transposed};
-ghost use Rattle.jpg_spec.specs.Moved.{asks_progressive, gray_fault, is_gray_or_ycbcr, script_due};
+ghost use Rattle.jpg_spec.specs.Moved.{gray_fault, is_gray_or_ycbcr, script_due};
 ghost use Rattle.jpg_spec.specs.WrittenFile.{IsRestart};
 ghost use Rattle.jpg_file.specs.PictureRead.{picture_meaning};
 ghost use Rattle.jpg_file.specs.Restarts.{restart_of};
@@ -43,8 +43,8 @@ pub fn plan(picture: &Picture, choice: &Choice) -> Result<Job, PictureFault>
     }
 }
 
-// Tells that an interval is counted in two bytes, and does nothing.
-fn counted(restart: Restart)
+/// Tells that an interval is counted in two bytes. It does nothing.
+pub fn counted(restart: Restart)
     ensures { IsRestart (restart_of restart) }
 {
     let _ = restart;
@@ -58,17 +58,6 @@ fn script_due(scans: &Scans, frame: &Frame, colour: Colour) -> Script
         Scans::Sequential => Script::sequential(frame),
         Scans::Standard => Script::standard(frame, colour),
         Scans::Given(script) => script.copy(),
-    }
-}
-
-// Whether they are those of a progressive file.
-fn asks_progressive(scans: &Scans) -> bool
-    ensures { result ≡ asks_progressive (scans_told scans.now) }
-{
-    match scans {
-        Scans::Sequential => false,
-        Scans::Standard => true,
-        Scans::Given(script) => script.progressive(),
     }
 }
 
@@ -164,7 +153,7 @@ fn turned(tables: &[QuantTable]) -> ArrayVec<QuantTable, 4>
 fn process_in(scans: &Scans, tables: &[QuantTable]) -> Process
     ensures { result ≡ process_in (scans_told scans.now) tables.now }
 {
-    if asks_progressive(scans) {
+    if scans.progressive() {
         Process::Progressive
     } else {
         process_of(tables)

@@ -1,4 +1,4 @@
-// The words of jpegtran, rdjpgcom and wrjpgcom: what is wrong with which of them, and what they ask for.
+// The words of jpegtran, cjpeg, rdjpgcom and wrjpgcom: what is wrong with which of them, and what they ask for.
 use jpg_base::Name;
 use jpg_cli::{Asked, CommentFrom, ScriptFrom, WordsStop, read_words};
 use jpg_run_parts::strings;
@@ -8,7 +8,7 @@ use std::test::Fail;
 
 #[test]
 fn words_are_refused(rt: HostRuntime) -> Result<(), Fail> {
-    let rows: [(&[&str], UsageFault, u64); 47] = [
+    let rows: [(&[&str], UsageFault, u64); 60] = [
         (
             &["jpegtran", "-flip", "horizontal", "-rotate", "90"],
             UsageFault::TwoTransforms,
@@ -41,6 +41,23 @@ fn words_are_refused(rt: HostRuntime) -> Result<(), Fail> {
         (&["jpegtran", "-rotate", "000090"], UsageFault::BadValue, 2),
         (&["jpegtran", "a", "-trim"], UsageFault::TooManyFiles, 2),
         (&["jpegtran", "-scans"], UsageFault::MissingValue, 1),
+        (&["cjpeg", "-q", "101"], UsageFault::BadValue, 2),
+        (&["cjpeg", "-q", "000100"], UsageFault::BadValue, 2),
+        (&["cjpeg", "-sm", "10"], UsageFault::LeftOutSwitch, 1),
+        (&["cjpeg", "-T"], UsageFault::LeftOutSwitch, 1),
+        (&["cjpeg", "-s", "a"], UsageFault::UnknownSwitch, 1),
+        (&["cjpeg", "-g"], UsageFault::UnknownSwitch, 1),
+        (&["cjpeg", "-sample", "2X1"], UsageFault::BadValue, 2),
+        (&["cjpeg", "-sa", "2x1,"], UsageFault::BadValue, 2),
+        (&["cjpeg", "-sa", "5x1"], UsageFault::BadValue, 2),
+        (
+            &["cjpeg", "-sa", "1x1,1x1,1x1,1x1,1x1"],
+            UsageFault::BadValue,
+            2,
+        ),
+        (&["cjpeg", "-dct", "float"], UsageFault::BadValue, 2),
+        (&["cjpeg", "-b", "-qt"], UsageFault::MissingValue, 2),
+        (&["cjpeg", "a", "-gray"], UsageFault::TooManyFiles, 2),
         (&["rdjpgcom", "-verbose"], UsageFault::LeftOutSwitch, 1),
         (&["rdjpgcom", "-v"], UsageFault::LeftOutSwitch, 1),
         (&["rdjpgcom", "-VErb"], UsageFault::LeftOutSwitch, 1),

@@ -8,7 +8,8 @@ pub returns-in-Ok-Done : goal.returns-in-Ok-Done
 returns-in-Ok-Done c =
     let file = c.args.file.now in
     let k = subst (λ (fed : Fed). AfterFeed [] file (Ok fed) c.feed.new.self) c.in-Ok-Done.field-0-is (c.in-Ok-Done.ensures.answered [] c.new-reader.ensures.read) in
-    picture_whole file c.in-Ok-Done.field-0-0 c.feed.new.self c.take.result (c.in-Ok-Done.ensures.limits ∙ c.new-reader.ensures.limits ∙ c.standard.ensures) c.take.ensures k
+    picture_whole file c.in-Ok-Done.field-0-0 c.feed.new.self c.take.result (c.in-Ok-Done.ensures.limits ∙ c.new-reader.ensures.limits ∙ c.standard.ensures) (c.in-Ok-Done.ensures.keeping ∙ c.new-reader.ensures.keeping)
+    c.take.ensures k
 
 pub returns-in-Ok-More : goal.returns-in-Ok-More
 returns-in-Ok-More c =

@@ -1,4 +1,4 @@
-use Rattle.std.proofs.Common.{rules, [], ◌++◌, refl}
+use Rattle.std.proofs.Common.{rules, [], ◌++◌, ◌∙◌, refl}
 use Rattle.jpg_cli.proofs.CommentsCopied.{none_read}
 use Rattle.jpg_cli.proofs.PictureBytes.{fed_none}
 use Rattle.jpg_cli.proofs.PictureTaken.{reads_none, reads_then}
@@ -12,6 +12,7 @@ loop-why-init g c =
       read = ([], fed_none c.args.wanted c.args.reader.now c.requires.limits c.requires.none, none_read s.left);
       opened = c.requires.open;
       limits = c.requires.limits;
+      keeping = refl;
       room = refl;
     }
 
@@ -26,5 +27,6 @@ loop-why-preserved g c =
       read = (so.read.0 ++ after.0, after.2, after.3);
       opened = c.in-More.ensures.goes_on.0;
       limits = c.in-More.ensures.limits;
+      keeping = c.in-More.ensures.keeping ∙ so.keeping;
       room = search rules;
     }

@@ -1,6 +1,7 @@
 use Rattle.std.specs.Prelude.{◌≡◌, ◌-◌, ◌^◌, List, ℕ, true, length}
 use Rattle.std.specs.Io.KnownBytes.{Consumes}
 use Rattle.jpg_spec.specs.Segments.{standard_limits}
+use Rattle.jpg_file.specs.File.{keeping_of}
 use Rattle.jpg_cli.specs.ReadPicture.{HasFed}
 use Rattle.jpg_cli.specs.Stays.{OnlyReads}
 use Rattle.jpg_cli.proofs.read_picture.read_whole.Given as goal
@@ -13,6 +14,7 @@ invariant-loop-why g l =
       read : (bytes : List ℕ) × HasFed l.wanted l.reader bytes × Consumes (state l.initial.desk).left (state l.desk).left bytes;
       opened : (state l.desk).input_open ≡ true;
       limits : l.reader.limits ≡ standard_limits;
+      keeping : keeping_of l.reader.file ≡ keeping_of l.initial.reader.file;
       room : length l.buffer ≡ 16384;
     }
 

@@ -2,7 +2,7 @@ use Rattle.std.proofs.Common.{List, ℕ, subst}
 use Rattle.jpg_cli.specs.Writing.{AfterOutput}
 use Rattle.jpg_cli.specs.declared.writing.Wrote.TheVariants as wrote
 use Rattle.jpg_cli.proofs.Output.{output_done, output_failed}
-use Rattle.jpg_cli.proofs.Running.{movable}
+use Rattle.jpg_cli.proofs.Running.{moved_for}
 use Rattle.jpg_file.specs.PictureRead.{picture_meaning}
 use Rattle.jpg_transform.specs.Planned.{choice_told}
 use Rattle.jpg_cli.proofs.writing.write_job.Goals as goal
@@ -34,14 +34,14 @@ returns-in-Err-clause-output g c =
 pub returns-in-Failed-clause-means : goal.returns-in-Failed-clause-means
 returns-in-Failed-clause-means g c =
     let a = choice_told c.args.choice.now in
-    (λ m. (c.new-moved.ensures.writes a c.requires).means (movable (picture_meaning c.args.picture.now) a m c.requires.admitted))
+    (λ M shows meant. moved_for a (picture_meaning c.args.picture.now) M shows c.requires.counted c.requires.admitted meant)
 
 pub returns-in-Ok-clause-means : goal.returns-in-Ok-clause-means
 returns-in-Ok-clause-means g c =
     let a = choice_told c.args.choice.now in
-    (λ m. (c.new-moved.ensures.writes a c.requires).means (movable (picture_meaning c.args.picture.now) a m c.requires.admitted))
+    (λ M shows meant. moved_for a (picture_meaning c.args.picture.now) M shows c.requires.counted c.requires.admitted meant)
 
 pub returns-in-Err-clause-means : goal.returns-in-Err-clause-means
 returns-in-Err-clause-means g c =
     let a = choice_told c.args.choice.now in
-    (λ m. (c.new-moved.ensures.writes a c.requires).means (movable (picture_meaning c.args.picture.now) a m c.requires.admitted))
+    (λ M shows meant. moved_for a (picture_meaning c.args.picture.now) M shows c.requires.counted c.requires.admitted meant)

@@ -1,4 +1,6 @@
 use Rattle.std.proofs.Common.{sym, subst}
+use Rattle.jpg_spec.specs.Pixels.{info, pixels}
+use Rattle.jpg_file.specs.PictureRead.{picture_meaning}
 use Rattle.jpg_pnm_bmp.specs.EndState.{EndState, IsImageInfo}
 use Rattle.jpg_color.proofs.Decoded.{decodes_none, decoded_end, decoded_text, image_info}
 use Rattle.jpg_color.proofs.decode.decode_rows.Goals as goal
@@ -7,7 +9,10 @@ pub write_image-requires-clause-info : goal.write_image-requires-clause-info
 write_image-requires-clause-info g c = subst IsImageInfo (sym c.info_of-info.ensures) (image_info c.args.picture.now c.args.gray c.requires.admitted)
 
 pub returns-in_default-clause-written : goal.returns-in_default-clause-written
-returns-in_default-clause-written g c = decodes_none _ _
+returns-in_default-clause-written g c =
+    let e : EndState = (goal.ImageEnd-dyn g (c.args.end.now.vtable, c.args.end.now.value)).progress c.args.end.now.value in
+    let meaning = picture_meaning c.args.picture.now in
+    decodes_none _ e.kind (info meaning c.args.gray) (pixels meaning c.args.gray c.args.smooth)
 
 pub returns-clause-written : goal.returns-clause-written
 returns-clause-written g c =

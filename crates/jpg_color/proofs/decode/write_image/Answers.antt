@@ -7,7 +7,9 @@ use Rattle.jpg_color.proofs.Decoded.{decodes_none, can_finish, rows_stop, end_st
 use Rattle.jpg_color.proofs.decode.write_image.Goals as goal
 
 pub returns-in_default-clause-written : goal.returns-in_default-clause-written
-returns-in_default-clause-written g c = decodes_none _ _
+returns-in_default-clause-written g c =
+    let e : EndState = (goal.ImageEnd-dyn g (c.args.end.now.vtable, c.args.end.now.value)).progress c.args.end.now.value in
+    decodes_none _ e.kind c.args.info.now (rows_in_all c.args.rows.now)
 
 pub returns-in_err-send_rows-clause-written : goal.returns-in_err-send_rows-clause-written
 returns-in_err-send_rows-clause-written g c =

@@ -1,4 +1,4 @@
-use Rattle.std.proofs.Common.{◌++◌, ◌+◌, Bool, Ok, Err, refl, take, sym, subst, arith}
+use Rattle.std.proofs.Common.{◌++◌, ◌+◌, ◌∙◌, Bool, Ok, Err, refl, take, sym, subst, arith}
 use Rattle.std.specs.Prelude.{Result}
 use Rattle.std.proofs.lemmas.Result.{err_from_is_err_and}
 use Rattle.jpg_spec.specs.FrameHeader.{AreLimits}
@@ -8,21 +8,21 @@ use Rattle.jpg_file.specs.ReadFile.{AfterFilePiece}
 use Rattle.jpg_file.proofs.PieceSteps.{LastOf, last_of, limits_are, piece_long, piece_more, room_of, some_more, some_stopped, some_whole, some_within}
 use Rattle.jpg_file.proofs.reader.read_piece.Goals as goal
 
-pub returns-then-file-limits : goal.returns-then-file-limits
-returns-then-file-limits c = λ bytes h.
+pub returns-then-file-limits-clause-after : goal.returns-then-file-limits-clause-after
+returns-then-file-limits-clause-after c = λ bytes h.
     let w = c.loop-done.file in
     let full = c.if-file-limits.true in
     subst (λ (e : Stop). AfterFilePiece c.args.limits bytes c.args.piece.now (Err e) w) (sym c.too_long.ensures) (piece_long c.args.limits bytes c.args.piece.now c.loop-done.done w (omega (arith, full)) (c.loop-done.invariant.1 bytes h))
 
-pub returns-then-file-limits-2 : goal.returns-then-file-limits-2
-returns-then-file-limits-2 c = λ bytes h.
+pub returns-then-file-limits-2-clause-after : goal.returns-then-file-limits-2-clause-after
+returns-then-file-limits-2-clause-after c = λ bytes h.
     let w = c.loop-done.file in
     let full = c.if-file-limits-2.true in
     subst (λ (e : Stop). AfterFilePiece c.args.limits bytes c.args.piece.now (Err e) w) (sym c.too_long-then-file-limits-2.ensures)
     (piece_long c.args.limits bytes c.args.piece.now c.loop-done.done w (omega (arith, full)) (c.loop-done.invariant.1 bytes h))
 
-pub returns : goal.returns
-returns c = λ bytes h.
+pub returns-clause-after : goal.returns-clause-after
+returns-clause-after c = λ bytes h.
     let short = c.if-file-limits-2.false in
     let end = c.loop-done-test.false in
     piece_more c.args.limits bytes c.args.piece.now c.loop-done.done c.loop-done.file (omega (arith, end)) (omega (arith, short)) (c.loop-done.invariant.1 bytes h)
@@ -47,25 +47,25 @@ some-n-requires-clause-room c =
     let short = c.if-file-limits.false in
     room_of c.args.limits front c.loop-done.file (c.loop-done.invariant.1 o.0 o.1) (omega (arith, short))
 
-pub returns-in_err-answer : goal.returns-in_err-answer
-returns-in_err-answer c = λ bytes h.
+pub returns-in_err-answer-clause-after : goal.returns-in_err-answer-clause-after
+returns-in_err-answer-clause-after c = λ bytes h.
     let limits = c.args.limits in
     let piece = c.args.piece.now in
     let done = c.loop-done.done in
     let n = c.some-n.result.0 in
     let new = c.some-n.new.self in
     let back = err_from_is_err_and c.from_residual.result c.from_residual.ensures.1 in
-    let l = last_of limits bytes piece done n c.some-n.result.1 c.loop-done.file new c.loop-done.invariant.0 (c.loop-done.invariant.1 bytes h) c.some-n.ensures in
+    let l = last_of limits bytes piece done n c.some-n.result.1 c.loop-done.file new c.loop-done.invariant.0 (c.loop-done.invariant.1 bytes h) c.some-n.ensures.after in
     rw (back.1, back.2) (some_stopped limits bytes piece done n c.in_err-answer.field-0.0 new (subst (λ (a : Result Bool Stop). LastOf limits bytes piece done n a new) c.in_err-answer.was l))
 
-pub returns-then-branch : goal.returns-then-branch
-returns-then-branch c = λ bytes h.
+pub returns-then-branch-clause-after : goal.returns-then-branch-clause-after
+returns-then-branch-clause-after c = λ bytes h.
     let limits = c.args.limits in
     let piece = c.args.piece.now in
     let done = c.loop-done.done in
     let n = c.some-n.result.0 in
     let new = c.some-n.new.self in
-    let l = last_of limits bytes piece done n c.some-n.result.1 c.loop-done.file new c.loop-done.invariant.0 (c.loop-done.invariant.1 bytes h) c.some-n.ensures in
+    let l = last_of limits bytes piece done n c.some-n.result.1 c.loop-done.file new c.loop-done.invariant.0 (c.loop-done.invariant.1 bytes h) c.some-n.ensures.after in
     some_whole limits bytes piece done n (done + n) new refl
     (subst (λ (b : Bool). LastOf limits bytes piece done n (Ok b) new) c.if-branch.true (subst (λ (a : Result Bool Stop). LastOf limits bytes piece done n a new) c.in_ok-answer.was l))
 
@@ -77,10 +77,11 @@ loop-done-preserved c =
     let n = c.some-n.result.0 in
     let new = c.some-n.new.self in
     let o = c.requires.stands in
-    let first = last_of limits o.0 piece done n c.some-n.result.1 c.loop-done.file new c.loop-done.invariant.0 (c.loop-done.invariant.1 o.0 o.1) c.some-n.ensures in (
+    let first = last_of limits o.0 piece done n c.some-n.result.1 c.loop-done.file new c.loop-done.invariant.0 (c.loop-done.invariant.1 o.0 o.1) c.some-n.ensures.after in (
       some_within limits o.0 piece done n c.some-n.result.1 new first,
       λ bytes h.
-          (let l = last_of limits bytes piece done n c.some-n.result.1 c.loop-done.file new c.loop-done.invariant.0 (c.loop-done.invariant.1 bytes h) c.some-n.ensures in
+          (let l = last_of limits bytes piece done n c.some-n.result.1 c.loop-done.file new c.loop-done.invariant.0 (c.loop-done.invariant.1 bytes h) c.some-n.ensures.after in
           some_more limits bytes piece done n new
           (subst (λ (b : Bool). LastOf limits bytes piece done n (Ok b) new) c.if-branch.false (subst (λ (a : Result Bool Stop). LastOf limits bytes piece done n a new) c.in_ok-answer.was l))),
+      c.some-n.ensures.keeping ∙ c.loop-done.invariant.2,
     )

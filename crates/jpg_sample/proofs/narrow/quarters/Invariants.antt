@@ -1,8 +1,6 @@
-use Rattle.std.specs.Prelude.{◌≡◌, take, length, map}
-use Rattle.jpg_spec.specs.Lists.{below}
-use Rattle.jpg_spec.specs.Downsampling.{edge_repeated, in_rows, narrowed}
+use Rattle.std.specs.Prelude.{◌≡◌, ◌<◌, ℕ, length, slice_index}
+use Rattle.jpg_sample.specs.Means.{quarter_of}
 use Rattle.jpg_sample.proofs.narrow.quarters.Given as goal
 
 abbrev pub invariant-loop-x : goal.invariant-loop-x
-invariant-loop-x l =
-    (length l.out ≡ length l.fn.out) × (take l.x l.out ≡ map (λ k. narrowed 2 2 (edge_repeated l.width 2 (in_rows l.width l.rows)) k 0) (below l.x))
+invariant-loop-x l = (length l.out ≡ length l.fn.out) × ((k : ℕ) → k < l.x → slice_index l.out k ≡ quarter_of l.rows l.width k)

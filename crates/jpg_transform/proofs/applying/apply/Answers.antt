@@ -1,8 +1,9 @@
 use Rattle.std.proofs.Common.{subst}
 use Rattle.jpg_spec.specs.Geometry.{Frame, padded_blocks}
-use Rattle.jpg_transform.specs.Applied.{Copies, in_grids}
+use Rattle.jpg_coefs.specs.Copied.{Copies, in_grids}
 use Rattle.jpg_transform.specs.MovedBlocks.{moved_blocks}
-use Rattle.jpg_transform.proofs.Applied.{shows_all, zero_outside}
+use Rattle.jpg_coefs.proofs.Copied.{zero_outside}
+use Rattle.jpg_transform.proofs.Applied.{shows_all}
 use Rattle.jpg_transform.proofs.applying.apply.Goals as goal
 
 pub returns-clause-shows : goal.returns-clause-shows

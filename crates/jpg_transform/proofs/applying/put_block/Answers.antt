@@ -1,8 +1,8 @@
 use Rattle.std.proofs.Common.{rules, ◌∙◌, ap, sym, subst}
 use Rattle.jpg_coefs.specs.Picture.{Picture, with_block}
-use Rattle.jpg_transform.specs.Applied.{Copies, is_place}
+use Rattle.jpg_coefs.specs.Copied.{Copies, is_place}
 use Rattle.jpg_transform.specs.MovedBlocks.{moved_blocks}
-use Rattle.jpg_transform.proofs.Applied.{place_there, put_one}
+use Rattle.jpg_coefs.proofs.Copied.{place_there, put_one}
 use Rattle.jpg_transform.proofs.applying.put_block.Goals as goal
 
 pub set_block-requires : goal.set_block-requires

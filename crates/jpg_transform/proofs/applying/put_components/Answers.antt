@@ -1,5 +1,5 @@
 use Rattle.jpg_transform.specs.MovedBlocks.{moved_blocks, moved_numbers}
-use Rattle.jpg_transform.proofs.Applied.{components_more}
+use Rattle.jpg_coefs.proofs.Copied.{components_more}
 use Rattle.jpg_transform.proofs.applying.put_components.Goals as goal
 
 pub loop-i-preserved : goal.loop-i-preserved

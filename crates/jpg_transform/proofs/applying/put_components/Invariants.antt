@@ -1,4 +1,4 @@
-use Rattle.jpg_transform.specs.Applied.{Copies, in_components}
+use Rattle.jpg_coefs.specs.Copied.{Copies, in_components}
 use Rattle.jpg_transform.specs.MovedBlocks.{moved_blocks, moved_numbers}
 use Rattle.jpg_transform.proofs.applying.put_components.Given as goal
 

@@ -1,8 +1,8 @@
 use Rattle.std.proofs.Common.{◌≡◌, ◌∙◌, ℕ, arith, subst, ap}
 use Rattle.jpg_spec.specs.Geometry.{Frame, blocks_across, component_at}
-use Rattle.jpg_transform.specs.Applied.{Copies, in_row}
+use Rattle.jpg_coefs.specs.Copied.{Copies, in_row}
 use Rattle.jpg_transform.specs.MovedBlocks.{moved_blocks, moved_numbers}
-use Rattle.jpg_transform.proofs.Applied.{row_more}
+use Rattle.jpg_coefs.proofs.Copied.{row_more}
 use Rattle.jpg_transform.proofs.applying.put_row.Goals as goal
 
 pub loop-x-preserved : goal.loop-x-preserved

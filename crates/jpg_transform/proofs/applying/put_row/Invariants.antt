@@ -1,4 +1,4 @@
-use Rattle.jpg_transform.specs.Applied.{Copies, in_row}
+use Rattle.jpg_coefs.specs.Copied.{Copies, in_row}
 use Rattle.jpg_transform.specs.MovedBlocks.{moved_blocks}
 use Rattle.jpg_transform.proofs.applying.put_row.Given as goal
 

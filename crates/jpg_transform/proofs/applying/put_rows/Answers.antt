@@ -1,8 +1,8 @@
 use Rattle.std.proofs.Common.{◌≡◌, ◌∙◌, ℕ, arith, subst, ap}
 use Rattle.jpg_spec.specs.Geometry.{Frame, blocks_down, component_at}
-use Rattle.jpg_transform.specs.Applied.{Copies, in_rows}
+use Rattle.jpg_coefs.specs.Copied.{Copies, in_rows}
 use Rattle.jpg_transform.specs.MovedBlocks.{moved_blocks, moved_numbers}
-use Rattle.jpg_transform.proofs.Applied.{no_rows, rows_more}
+use Rattle.jpg_coefs.proofs.Copied.{no_rows, rows_more}
 use Rattle.jpg_transform.proofs.applying.put_rows.Goals as goal
 
 pub loop-y-init : goal.loop-y-init

@@ -1,11 +1,11 @@
 use Rattle.std.proofs.Common.{◌-◌, ◌∙◌, sym, arith}
-use Rattle.jpg_file.proofs.PieceSteps.{counted, front_none, front_passes, limits_are}
+use Rattle.jpg_file.proofs.PieceSteps.{front_none, front_passes}
 use Rattle.jpg_file.proofs.FileSteps.{between_of, none_is}
 use Rattle.jpg_file.specs.File.{limits_of}
 use Rattle.jpg_file.proofs.file.FileWork.front.Goals as goal
 
-pub returns-then-is_some : goal.returns-then-is_some
-returns-then-is_some c = front_none c.args.self.now c.args.bytes.now c.requires.some c.requires.room
+pub returns-then-is_some-clause-after : goal.returns-then-is_some-clause-after
+returns-then-is_some-clause-after c = front_none c.args.self.now c.args.bytes.now c.requires.some c.requires.room
 
 pub contents-requires-clause-same : goal.contents-requires-clause-same
 contents-requires-clause-same c =
@@ -19,8 +19,8 @@ contents-requires-clause-count c =
     let o = c.requires.stands in
     (between_of (limits_of w) o.0 w o.1 (sym c.is_some.ensures ∙ c.if-is_some.false)).beside.same
 
-pub returns : goal.returns
-returns c =
+pub returns-clause-after : goal.returns-clause-after
+returns-clause-after c =
     let most = c.min-most.ensures in
     front_passes c.args.self.now c.contents.new.self c.args.bytes.now (c.min-most.result - 1) c.contents.result (none_is c.args.self.now.reading.scan (sym c.is_some.ensures ∙ c.if-is_some.false)) (omega (arith, most, c.requires.some, c.requires.room))
-    (omega (arith, most, c.requires.some, c.requires.room)) c.contents.ensures
+    (omega (arith, most, c.requires.some, c.requires.room)) c.contents.ensures.after

@@ -13,11 +13,11 @@ scan_run-n-requires-clause-stands c =
     let s = inside_of (limits_of w) o.0 w o.1 (ap is_some (c.requires.opened).inside) in
     (s.items, s.contents, o.0, s.at)
 
-pub returns-in-More : goal.returns-in-More
-returns-in-More c = run_more c.args.self.now c.args.run.now c.scan_run-n.result.0 c.scan_run-n.new.self (ap is_some (c.requires.opened).inside) c.requires.room (subst (λ (a : ItemStep). TakesRunOfScan c.args.self.now.reading c.args.run.now c.scan_run-n.result.0 a c.scan_run-n.new.self) c.in-More.is c.scan_run-n.ensures.after)
+pub returns-in-More-clause-after : goal.returns-in-More-clause-after
+returns-in-More-clause-after c = run_more c.args.self.now c.args.run.now c.scan_run-n.result.0 c.scan_run-n.new.self (ap is_some (c.requires.opened).inside) c.requires.room (subst (λ (a : ItemStep). TakesRunOfScan c.args.self.now.reading c.args.run.now c.scan_run-n.result.0 a c.scan_run-n.new.self) c.in-More.is c.scan_run-n.ensures.after)
 
-pub returns-in-Fault : goal.returns-in-Fault
-returns-in-Fault c = run_fault c.args.self.now c.args.run.now c.scan_run-n.result.0 c.scan_run-n.new.self c.in-Fault.fault (ap is_some (c.requires.opened).inside) c.requires.room (subst (λ (a : ItemStep). TakesRunOfScan c.args.self.now.reading c.args.run.now c.scan_run-n.result.0 a c.scan_run-n.new.self) c.in-Fault.is c.scan_run-n.ensures.after)
+pub returns-in-Fault-clause-after : goal.returns-in-Fault-clause-after
+returns-in-Fault-clause-after c = run_fault c.args.self.now c.args.run.now c.scan_run-n.result.0 c.scan_run-n.new.self c.in-Fault.fault (ap is_some (c.requires.opened).inside) c.requires.room (subst (λ (a : ItemStep). TakesRunOfScan c.args.self.now.reading c.args.run.now c.scan_run-n.result.0 a c.scan_run-n.new.self) c.in-Fault.is c.scan_run-n.ensures.after)
 
 pub unreachable-requires : goal.unreachable-requires
 unreachable-requires c = subst (λ (a : ItemStep). GoesOn a) c.in-Head.is c.scan_run-n.ensures.goes

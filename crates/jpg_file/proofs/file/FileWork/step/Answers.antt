@@ -24,7 +24,7 @@ returns-then-is_some-clause-after c = λ bytes k.
     let w = c.args.self.now in
     let s = inside_of (limits_of w) bytes w k (sym c.is_some.ensures ∙ c.if-is_some.true) in
     let few = counted (limits_of w) bytes w k in let room = c.requires.room in
-    after_inside (limits_of w) bytes (c.args.byte ∷ []) c.scan_byte.result w _ s (c.scan_byte.ensures s.items s.contents bytes s.at) refl refl (omega (arith, few, room, length-append bytes (c.args.byte ∷ [])))
+    after_inside (limits_of w) bytes (c.args.byte ∷ []) c.scan_byte.result w _ s (c.scan_byte.ensures.after s.items s.contents bytes s.at) refl refl (omega (arith, few, room, length-append bytes (c.args.byte ∷ [])))
 
 pub returns-else-is_some-clause-after : goal.returns-else-is_some-clause-after
 returns-else-is_some-clause-after c = λ bytes k.

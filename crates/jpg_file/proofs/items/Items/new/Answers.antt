@@ -7,5 +7,5 @@ returns-clause-between c = record {
   stands = c.new.ensures.stands;
   at = inl (record { same = refl; short = inl refl; no_items = refl; blank = refl });
   bounded = (c.new.ensures.limits, refl);
-  holds = c.new-2.ensures c.args.limits;
+  holds = c.new-2.ensures.holds c.args.limits;
 }

@@ -17,7 +17,7 @@ returns-in-Done-clause-after c = λ bytes items blocks k.
     let e = sym c.code-code.ensures in
     let f = sym c.contents.ensures in
     let kept = subst (λ (xs : List ℕ). kept_rule w.limits before c.code-code.result xs ≡ None) f (subst (λ (n : ℕ). kept_rule w.limits before n r.contents ≡ None) e k.kept) in
-    let t = c.in-Done.ensures before k.holds kept in
+    let t = c.in-Done.ensures.held before k.holds kept in
     let t1 = subst (λ (n : ℕ). Takes w.limits before n c.contents.result.now took.Done (told_by new.held)) (sym e) t in
     let t2 = subst (λ (xs : List ℕ). Takes w.limits before r.code xs took.Done (told_by new.held)) (sym f) t1 in
     segment_taken w.limits bytes items blocks w new k (λ h. c.if-code.false (sym e ∙ h)) t2.0 refl refl t2.1
@@ -30,7 +30,7 @@ returns-in-Fault-clause-after c = λ bytes items blocks k.
     let e = sym c.code-code.ensures in
     let f = sym c.contents.ensures in
     let kept = subst (λ (xs : List ℕ). kept_rule w.limits before c.code-code.result xs ≡ None) f (subst (λ (n : ℕ). kept_rule w.limits before n r.contents ≡ None) e k.kept) in
-    let t = c.in-Fault.ensures before k.holds kept in
+    let t = c.in-Fault.ensures.held before k.holds kept in
     let t1 = subst (λ (n : ℕ). Takes w.limits before n c.contents.result.now (took.Fault c.in-Fault.fault) (told_by c.take.new.self)) (sym e) t in
     let t2 = subst (λ (xs : List ℕ). Takes w.limits before r.code xs (took.Fault c.in-Fault.fault) (told_by c.take.new.self)) (sym f) t1 in
     (segment_fault w.limits bytes items blocks w c.in-Fault.fault k t2, c.taken.ensures)

@@ -1,10 +1,12 @@
 use Rattle.std.proofs.Common.{sym, subst}
 use Rattle.jpg_spec.specs.FileStands.{IsWholeFile}
-use Rattle.jpg_file.specs.File.{EndsFile}
+use Rattle.jpg_file.specs.File.{EndsFile, keeping_of}
+use Rattle.jpg_file.specs.PictureRead.{MeansFor}
 use Rattle.jpg_file.specs.ReadFile.{ReaderState}
 use Rattle.jpg_file.proofs.reader.Reader.take.Goals as goal
 
 pub returns : goal.returns
 returns c = λ bytes d.
-    c.picture_of.ensures c.self.inside.limits bytes d.meaning (subst (λ (r : ReaderState). EndsFile r.limits bytes r.file) (sym c.self.view_is) d.ended)
-    (subst (λ (r : ReaderState). IsWholeFile r.limits bytes d.meaning) (sym c.self.view_is) d.whole)
+    subst (λ (r : ReaderState). MeansFor (keeping_of r.file) c.picture_of.result d.meaning) c.self.view_is
+    (c.picture_of.ensures c.self.inside.limits bytes d.meaning (subst (λ (r : ReaderState). EndsFile r.limits bytes r.file) (sym c.self.view_is) d.ended)
+    (subst (λ (r : ReaderState). IsWholeFile r.limits bytes d.meaning) (sym c.self.view_is) d.whole))

@@ -1,4 +1,4 @@
-use Rattle.std.proofs.Common.{◌≡◌, ◌∙◌, List, ◌∷◌, Ok, Err, true, false, subst, sym, refl, ap, arith}
+use Rattle.std.proofs.Common.{◌≡◌, ◌∙◌, List, ◌∷◌, Ok, Err, true, false, subst, sym, ap, arith}
 use Rattle.std.specs.Prelude.{is_none}
 use Rattle.jpg_spec.specs.Geometry.{Frame, component_at}
 use Rattle.jpg_spec.specs.InForce.{first_some, head_in}
@@ -27,8 +27,8 @@ begin_data-requires c =
     let j = judged r.items.limits o.0 o.1 o.2 r b f q c.contents.result.now (Ok c.in-Ok.head) w c.contents.ensures c.in-Ok.ensures in
     (q, c.checked-in-Ok.ensures.sizes, (r.items.limits, o.1, o.2, (reading_of r.items.segments).contents, o.0, head_begins r.items.limits o.0 o.1 o.2 r b f q c.in-Ok.head w j))
 
-pub returns-in-Err : goal.returns-in-Err
-returns-in-Err c = λ bytes items blocks k.
+pub returns-in-Err-clause-after : goal.returns-in-Err-clause-after
+returns-in-Err-clause-after c = λ bytes items blocks k.
     let r = c.args.self.now in
     let b = c.args.begun.now in
     let f = c.copy-frame.result in
@@ -36,8 +36,8 @@ returns-in-Err c = λ bytes items blocks k.
     let w = found r.items.limits bytes items blocks r b f c.in-Some.held q k c.in-Some.is c.copy-frame.ensures c.in-Some-coefs.is in
     head_shows r.items.limits bytes items blocks r b f q c.in-Err.fault w (judged r.items.limits bytes items blocks r b f q c.contents.result.now (Err c.in-Err.fault) w c.contents.ensures c.in-Err.ensures)
 
-pub returns-in-Ok : goal.returns-in-Ok
-returns-in-Ok c = λ bytes items blocks k.
+pub returns-in-Ok-clause-after : goal.returns-in-Ok-clause-after
+returns-in-Ok-clause-after c = λ bytes items blocks k.
     let r = c.args.self.now in
     let b = c.args.begun.now in
     let f = c.copy-frame.result in

@@ -1,10 +1,12 @@
-use Rattle.std.proofs.Common.{arith, ◌≡◌, ◌≤◌, ◌+◌, ◌++◌, true, false, sym, ap, ◌∙◌}
+use Rattle.std.proofs.Common.{arith, ◌≡◌, ◌≤◌, ◌+◌, ◌++◌, ◌*◌, length, true, false, refl, sym, ap, ◌∙◌}
 use Rattle.std.specs.Prelude.{nat_lt, if◌then◌else◌}
 use Rattle.std.proofs.lemmas.Bool.Decides.{nat_tests}
 use Rattle.jpg_pnm_bmp.specs.declared.end.Finish.TheVariants.{More, Done}
-use Rattle.jpg_pnm_bmp.specs.EndState.{EndState, is_last, with_part}
+use Rattle.jpg_spec.specs.ImageText.{row_bytes}
+use Rattle.jpg_pnm_bmp.specs.EndState.{EndState, is_last, told, with_part}
 use Rattle.jpg_pnm_bmp.specs.Ends.{bmp_state}
 use Rattle.jpg_pnm_bmp.proofs.BmpParts.{last_is, not_done, part_appended}
+use Rattle.jpg_pnm_bmp.proofs.SomeBytes.{part_some}
 use Rattle.jpg_pnm_bmp.proofs.bmp.BmpEndImageEnd.finish.Goals as goal
 
 pub returns-then-self : goal.returns-then-self
@@ -28,3 +30,15 @@ returns c =
       part_appended b.info b.taken b.parts b.rows.items most ∙ ap with_part same,
       c.in-Ok-push_all.ensures.whole ∙ ap (λ t. c.args.out.now ++ t) (c.as_slice.ensures.value ∙ c.in-Ok.ensures.next),
     )
+
+pub returns-in-Err : goal.returns-in-Err
+returns-in-Err c =
+    let b = c.args.self.now in
+    let whole : length b.rows.items ≡ b.taken * row_bytes (told b.info) = sym b.rows.ok.0 ∙ b.whole in
+    (part_some b.info b.taken b.parts b.rows.items whole b.few b.wide c.requires.before, c.in-Err.ensures.same, refl)
+
+pub returns-in-Err-push_all : goal.returns-in-Err-push_all
+returns-in-Err-push_all c =
+    let b = c.args.self.now in
+    let whole : length b.rows.items ≡ b.taken * row_bytes (told b.info) = sym b.rows.ok.0 ∙ b.whole in
+    (part_some b.info b.taken b.parts b.rows.items whole b.few b.wide c.requires.before, c.in-Ok.ensures.same, c.in-Err-push_all.ensures.same)

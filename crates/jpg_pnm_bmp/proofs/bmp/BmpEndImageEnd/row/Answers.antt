@@ -1,4 +1,4 @@
-use Rattle.std.proofs.Common.{◌≡◌, ◌+◌, ◌*◌, length, refl, sym, ap, ◌∙◌}
+use Rattle.std.proofs.Common.{◌≡◌, ◌+◌, ◌*◌, length, sym, ap, ◌∙◌}
 use Rattle.std.proofs.lemmas.List.{append-nil}
 use Rattle.jpg_spec.specs.ImageText.{row_bytes}
 use Rattle.jpg_pnm_bmp.specs.EndState.{told}
@@ -8,11 +8,7 @@ use Rattle.jpg_pnm_bmp.proofs.bmp.BmpEndImageEnd.row.Goals as goal
 pub returns-in-Ok : goal.returns-in-Ok
 returns-in-Ok c =
     let b = c.args.self.now in
-    let whole : length b.rows.items ≡ b.taken * row_bytes (told b.info) = sym b.rows.ok.0 ∙ b.whole in
-    record {
-      state = (
-        ap (state_of b.info (b.taken + 1) b.parts) c.in-Ok.ensures.items ∙ row_held b.info b.taken b.parts b.rows.items c.args.row.now whole c.requires.long c.requires.unfinished,
-        sym (append-nil c.args.out.now),
-      );
-      room = refl;
-    }
+    let whole : length b.rows.items ≡ b.taken * row_bytes (told b.info) = sym b.rows.ok.0 ∙ b.whole in (
+      ap (state_of b.info (b.taken + 1) b.parts) c.in-Ok.ensures.items ∙ row_held b.info b.taken b.parts b.rows.items c.args.row.now whole c.requires.long c.requires.unfinished,
+      sym (append-nil c.args.out.now),
+    )

@@ -1,0 +1,105 @@
+-- The frame that is asked for is the one that is due, or the fault that is due forbids it.
+use Rattle.std.proofs.Common.{◌≡◌, ℕ, zero, suc, ◌<◌, ◌≤◌, Bool, true, false, cond, ◌&&◌, ◌||◌, List, [], ◌∷◌, length, map, refl, sym, ap, ◌∙◌, subst, arith, ⊎_elim, Some, None, Ok, Err}
+use Rattle.std.specs.Prelude.{find, nat_lt}
+use Rattle.std.specs.List.{All}
+use Rattle.std.proofs.lemmas.Bool.{cases_lt}
+use Rattle.std.proofs.lemmas.List.{map-append}
+use Rattle.std.proofs.lemmas.List.Elements.{All-append, All-cons, All-get_or, All-nil}
+use Rattle.jpg_spec.specs.Lists.{below}
+use Rattle.jpg_spec.specs.FrameHeader.{HasFactors, checked_frame}
+use Rattle.jpg_spec.specs.Geometry.{Frame, padded_blocks}
+use Rattle.jpg_spec.specs.Moved.{asks_progressive, process_due}
+use Rattle.jpg_spec.specs.Moves.{is_wide}
+use Rattle.jpg_spec.specs.Segments.{standard_limits}
+use Rattle.jpg_spec.specs.Encoded.{any_process, component_due, components_due, has_fraction}
+use Rattle.jpg_spec.specs.EncodingLaws.{AreFactors, IsEncodable}
+use Rattle.jpg_spec.specs.declared.fault.Fault.{Fault}
+use Rattle.jpg_spec.specs.declared.frame.Component.{Component}
+use Rattle.jpg_spec.specs.declared.frame.Limits.{Limits}
+use Rattle.jpg_spec.specs.declared.frame.Process.{Process}
+use Rattle.jpg_spec.specs.declared.frame.Process.TheVariants.{Baseline, Extended, Progressive}
+use Rattle.jpg_spec.specs.declared.transform.PictureFault.TheVariants.{FractionalFactors, TooManyBlocks}
+use Rattle.jpg_spec.proofs.Rows.{map_map}
+use Rattle.jpg_spec.proofs.SameNumbers.{frame_passes}
+use Rattle.jpg_base.specs.Frame.{numbers_of}
+use Rattle.jpg_pnm_bmp.specs.declared.pixels.Image.{Image as Read}
+use Rattle.jpg_color.specs.Encode.{CanEncode, fault_due, frame_due, head_due, image_told, request, scans_asked}
+use Rattle.jpg_color.specs.EncodeHead.{component_asked, components_asked, fraction_at, process_asked, table_asked}
+use Rattle.jpg_color.specs.declared.encode.Encoding.{Encoding as Asked}
+use Rattle.jpg_color.proofs.EncodedHead.{fault_of_fraction, fault_of_grids, few_grids, fractions_same, is_frame, many_grids, sequential_is}
+
+-- WHAT MAY BE ASKED
+
+pub is_encodable : (i : Read) (a : Asked) → CanEncode i a → IsEncodable (request a) (image_told i)
+is_encodable i a can = record {
+  width_low = can.image.width_low;
+  width_high = can.image.width_high;
+  height_low = can.image.height_low;
+  height_high = can.image.height_high;
+  samples = can.image.bytes;
+  factors = can.factors;
+  first = can.first;
+  others = can.others;
+  restart = tt;
+}
+
+few_by : (b : Bool) (n : ℕ) → n ≡ cond b 1 3 → n ≤ 4
+few_by true n e = omega (arith, e)
+few_by false n e = omega (arith, e)
+
+pub few_asked : (i : Read) (a : Asked) → CanEncode i a → length a.factors.items ≤ 4
+few_asked i a can = few_by _ (length a.factors.items) can.pairs
+
+-- THE NUMBERS
+
+pub components_are : (i : Read) (a : Asked) → CanEncode i a → components_asked a ≡ (frame_due i a).components
+components_are i a can =
+    ap (λ n. map (component_asked a) (below n)) can.pairs
+    ∙ sym (map_map (λ c. (let k : Component = record { id = c.id; h = c.h; v = c.v; quant = 0 } in k)) (component_due (request a)) (below (components_due (request a) (image_told i))))
+
+pub process_is : (i : Read) (a : Asked) → CanEncode i a → process_asked a ≡ (frame_due i a).process
+process_is i a can = by a.progressive
+  where
+    by : (p : Bool) → cond p Progressive (cond (is_wide (table_asked a 0) || (nat_lt 1 (length a.factors.items) && is_wide (table_asked a 1))) Extended Baseline)
+        ≡ process_due (asks_progressive (scans_asked p)) (any_process (request a) (image_told i))
+    by true = refl
+    by false = sequential_is (request a) (image_told i) (length a.factors.items) can.pairs
+
+pub numbers_are : (i : Read) (a : Asked) (p : Process) (cs : List Component) → CanEncode i a → p ≡ process_asked a → cs ≡ components_asked a → numbers_of p 8 i.info.width i.info.height cs ≡ frame_due i a
+numbers_are i a p cs can e c =
+    ap (λ q. numbers_of q 8 i.info.width i.info.height cs) (e ∙ process_is i a can)
+    ∙ ap (λ ds. numbers_of (frame_due i a).process 8 i.info.width i.info.height ds) (c ∙ components_are i a can)
+
+all_made : {X : Type 0} (P : X → Type 0) (f : ℕ → X) (n : ℕ) → ((k : ℕ) → k < n → P (f k)) → All P (map f (below n))
+all_made P f zero each = All-nil P
+all_made P f (suc n) each =
+    subst (All P) (sym (map-append f (below n) (n ∷ []))) (All-append P (map f (below n)) (f n ∷ []) (all_made P f n (λ k h. each k (omega (arith, h)))) (All-cons P (f n) [] (each n (omega arith)) (All-nil P)))
+
+pub factors_are : (a : Asked) → All AreFactors a.factors.items → All HasFactors (components_asked a)
+factors_are a all =
+    all_made HasFactors (component_asked a) (length a.factors.items)
+    (λ k h. (let f = All-get_or AreFactors a.factors.items k (1, 1) h all in record { h_low = f.h_low; h_high = f.h_high; v_low = f.v_low; v_high = f.v_high }))
+
+-- THE FAULT
+
+found_due : (i : Read) (a : Asked) (cs : List Component) → CanEncode i a → cs ≡ components_asked a
+    → find (fraction_at cs) (below (length cs)) ≡ find (has_fraction (head_due i a)) (below (length (head_due i a).components))
+found_due i a cs can e = ap (λ ds. find (fraction_at ds) (below (length ds))) (e ∙ components_are i a can) ∙ fractions_same (head_due i a)
+
+pub fraction_due : (i : Read) (a : Asked) (cs : List Component) (k : ℕ) → CanEncode i a → cs ≡ components_asked a → find (fraction_at cs) (below (length cs)) ≡ Some k → fault_due i a ≡ Some (FractionalFactors k)
+fraction_due i a cs k can e found = fault_of_fraction (head_due i a) k (sym (found_due i a cs can e) ∙ found)
+
+pub none_due : (i : Read) (a : Asked) (cs : List Component) → CanEncode i a → cs ≡ components_asked a → find (fraction_at cs) (below (length cs)) ≡ None → padded_blocks (frame_due i a) ≤ 8388608 → fault_due i a ≡ None
+none_due i a cs can e none few = fault_of_grids (head_due i a) (sym (found_due i a cs can e) ∙ none) ∙ few_grids (head_due i a) few
+
+no_fault : (f : Frame) (fault : Fault) → Err fault ≡ Ok f → ⊥
+no_fault f fault e = cc
+
+pub many_due : (i : Read) (a : Asked) (cs : List Component) (limits : Limits) (fault : Fault) (g : Frame) → CanEncode i a → cs ≡ components_asked a → find (fraction_at cs) (below (length cs)) ≡ None
+    → g ≡ frame_due i a → limits ≡ standard_limits → Err fault ≡ checked_frame limits g → fault_due i a ≡ Some TooManyBlocks
+many_due i a cs limits fault g can e none same l err =
+    fault_of_grids (head_due i a) (sym (found_due i a cs can e) ∙ none)
+    ∙ ⊎_elim (λ (many : 8388608 < padded_blocks (frame_due i a)). many_grids (head_due i a) many)
+    (λ (few : padded_blocks (frame_due i a) ≤ 8388608).
+    absurd (no_fault (frame_due i a) fault
+    (err ∙ ap (λ k. checked_frame k g) l ∙ ap (checked_frame standard_limits) same ∙ frame_passes (frame_due i a) (is_frame (request a) (image_told i) (is_encodable i a can) can.pairs few)))) (cases_lt 8388608 (padded_blocks (frame_due i a)))

@@ -1,0 +1,133 @@
+-- What the blocks of a component are made of, and where they are put.
+use Rattle.std.proofs.Common.{◌≡◌, ℕ, zero, suc, ◌+◌, ◌-◌, ◌*◌, ◌/◌, ◌<◌, ◌≤◌, min, Bool, true, false, cond, ◌&&◌, ◌||◌, ◌==◌, List, [], ◌∷◌, length, map, slice_index_or, refl, sym, ap, ◌∙◌, subst, arith, ℤ}
+use Rattle.std.specs.Prelude.{replicate}
+use Rattle.std.proofs.Math.Nat.{div-le_self}
+use Rattle.std.proofs.Math.Path.{fun_ext}
+use Rattle.std.proofs.lemmas.Nat.{div_below, le-div, mul-le}
+use Rattle.std.proofs.lemmas.List.{get_or-map, length-map}
+use Rattle.jpg_spec.specs.Downsampling.{narrowed}
+use Rattle.jpg_spec.specs.Elements.{zeros}
+use Rattle.jpg_spec.specs.Encoded.{Encoding, component_due, components_due, encoded_block, encoded_head, full_plane, is_gray, rows_made, samples_of_block}
+use Rattle.jpg_spec.specs.ForwardDct.{forward_dct, quantised_block}
+use Rattle.jpg_spec.specs.Geometry.{Frame, component_at, div_up, greatest, h_max, v_max, no_component}
+use Rattle.jpg_spec.specs.Images.{Image, sample_count}
+use Rattle.jpg_spec.specs.Lists.{below}
+use Rattle.jpg_spec.specs.Meaning.{Meaning, picture_frame, real_blocks}
+use Rattle.jpg_spec.specs.Moves.{component_of, most_across, most_down}
+use Rattle.jpg_spec.specs.Scan.{Blocks}
+use Rattle.jpg_spec.specs.declared.frame.Component.{Component}
+use Rattle.jpg_spec.specs.declared.image.ImageKind.{ImageKind}
+use Rattle.jpg_spec.specs.declared.image.ImageKind.TheVariants.{Gray, Rgb}
+use Rattle.jpg_spec.proofs.Common.{length_below, same_of}
+use Rattle.jpg_spec.proofs.Rows.{at_below}
+use Rattle.jpg_pnm_bmp.specs.Made.{IsRightImage}
+use Rattle.jpg_coefs.specs.Picture.{Picture, map_of}
+use Rattle.jpg_coefs.proofs.Maps.{blank_is}
+use Rattle.jpg_coefs.specs.Copied.{Copies, in_grid, in_grids}
+use Rattle.jpg_color.specs.ColourRows.{numbers_of}
+use Rattle.jpg_color.specs.PlaneRows.{HasSamples}
+use Rattle.jpg_color.proofs.EncodedHead.{frame_across, frame_component, frame_down}
+
+-- RATIOS of the greatest factors
+
+greatest_map : (g : Component → ℕ) (cs : List Component) (i : ℕ) → i < length cs → g (slice_index_or cs i no_component) ≤ greatest (map g cs)
+greatest_map g [] i h = absurd (omega (arith, h))
+greatest_map g (c ∷ cs) zero h = omega arith
+greatest_map g (c ∷ cs) (suc i) h = (let l = greatest_map g cs i (omega (arith, h)) in omega (arith, l))
+
+pub across_most : (f : Frame) (i : ℕ) → i < length f.components → (component_at f i).h ≤ h_max f
+across_most f i h = greatest_map (λ c. c.h) f.components i h
+
+pub down_most : (f : Frame) (i : ℕ) → i < length f.components → (component_at f i).v ≤ v_max f
+down_most f i h = greatest_map (λ c. c.v) f.components i h
+
+pub ratio_some : (n k : ℕ) → 1 ≤ k → k ≤ n → 1 ≤ n / k
+ratio_some n k low h = le-div 1 n k low (omega (arith, h))
+
+pub ratio_few : (n k : ℕ) → n ≤ 4 → n / k ≤ 4
+ratio_few n k h = (let l = div-le_self n k in omega (arith, l, h))
+
+-- SIZES
+
+samples_few : (w h most : ℕ) → 1 ≤ most → h ≤ most → div_up (w * h) most ≤ w
+samples_few w h most low high =
+    let m = mul-le w h w most (omega arith) high in
+    let s : (w + 1) * most ≡ w * most + most = grind arith in
+    let b = div_below (w * h + most - 1) most (w + 1) (omega (arith, low)) (omega (arith, m, s, low)) in
+    omega (arith, b)
+
+pub row_few : (w h most : ℕ) → w ≤ 65500 → 1 ≤ most → h ≤ most → 8 * (8 * div_up (div_up (w * h) most) 8) ≤ 1000000
+row_few w h most few low high = (let s = samples_few w h most low high in omega (arith, s, few))
+
+pub has_samples : (image : Image) → IsRightImage image → HasSamples image.info image.samples
+has_samples image is = record {
+  wide = is.width_low;
+  wide_few = is.width_high;
+  high = is.height_low;
+  high_few = is.height_high;
+  all = is.count ∙ counted image.info.width image.info.height image.info.x_metre image.info.y_metre image.info.kind;
+}
+  where
+    counted : (w h x y : ℕ) (k : ImageKind) → sample_count (record { width = w; height = h; kind = k; x_metre = x; y_metre = y }) ≡ h * (numbers_of k * w)
+    counted w h x y Gray = ap (λ n. h * n) (omega arith)
+    counted w h x y Rgb = refl
+
+-- THE BLOCKS of a plane in so many rows, by ratios and quantisers
+
+abbrev pub plane_by : Image → ℕ → ℕ → ℕ → ℕ → ℕ → ℕ → ℕ
+plane_by image i across down made x y = narrowed across down (full_plane image i) x (min y (made - 1))
+
+pub source_is : (H : Meaning) (image : Image) (f : Frame) (i across down made : ℕ) (quants : List ℕ) → f ≡ picture_frame H → across ≡ h_max f / (component_at f i).h → down ≡ v_max f / (component_at f i).v
+    → made ≡ div_up H.height (v_max f) * (component_at f i).v → quants ≡ (component_of H i).quants
+    → (x y : ℕ) → quantised_block quants (forward_dct (samples_of_block (plane_by image i across down made) x y)) ≡ encoded_block H image i x y
+source_is H image f i across down made quants e a d m q x y =
+    let c = component_of H i in
+    let h : (component_at f i).h ≡ c.h = ap (λ (g : Frame). (component_at g i).h) e ∙ ap (λ (k : Component). k.h) (frame_component H i) in
+    let v : (component_at f i).v ≡ c.v = ap (λ (g : Frame). (component_at g i).v) e ∙ ap (λ (k : Component). k.v) (frame_component H i) in
+    let hm : h_max f ≡ most_across H = ap h_max e ∙ frame_across H in
+    let vm : v_max f ≡ most_down H = ap v_max e ∙ frame_down H in
+    let a1 : across ≡ most_across H / c.h = a ∙ ap (λ n. n / (component_at f i).h) hm ∙ ap (λ n. most_across H / n) h in
+    let d1 : down ≡ most_down H / c.v = d ∙ ap (λ n. n / (component_at f i).v) vm ∙ ap (λ n. most_down H / n) v in
+    let m1 : made ≡ rows_made H i = m ∙ ap (λ n. div_up H.height n * (component_at f i).v) vm ∙ ap (λ n. div_up H.height (most_down H) * n) v in
+    ap (λ p. quantised_block p (forward_dct (samples_of_block (plane_by image i across down made) x y))) q
+    ∙ ap (λ n. quantised_block c.quants (forward_dct (samples_of_block (plane_by image i n down made) x y))) a1
+    ∙ ap (λ n. quantised_block c.quants (forward_dct (samples_of_block (plane_by image i (most_across H / c.h) n made) x y))) d1
+    ∙ ap (λ n. quantised_block c.quants (forward_dct (samples_of_block (plane_by image i (most_across H / c.h) (most_down H / c.v) n) x y))) m1
+
+-- THE COMPONENTS that are due
+
+pub count_due : (e : Encoding) (image : Image) → length (picture_frame (encoded_head e image)).components ≡ components_due e image
+count_due e image =
+    length-map (map (component_due e) (below (components_due e image))) (λ c. (let k : Component = record { id = c.id; h = c.h; v = c.v; quant = 0 } in k))
+    ∙ length-map (below (components_due e image)) (component_due e) ∙ length_below (components_due e image)
+
+few_due : (b : Bool) → cond b 1 3 ≤ 3
+few_due true = omega arith
+few_due false = omega arith
+
+pub at_most_three : (e : Encoding) (image : Image) → components_due e image ≤ 3
+at_most_three e image = few_due (e.gray || is_gray image.info.kind)
+
+pub component_there : (e : Encoding) (image : Image) (i : ℕ) → i < components_due e image → component_of (encoded_head e image) i ≡ component_due e i
+component_there e image i h =
+    get_or-map (component_due e) (below (components_due e image)) i 0 (record { id = 0; h = 1; v = 1; quants = [] }) (subst (λ n. i < n) (sym (length_below (components_due e image))) h)
+    ∙ ap (component_due e) (at_below (components_due e image) i h)
+
+-- PUT: the blocks of component i alone count in its grid
+
+never : (here rest : Bool) (a b old : List ℤ) → here ≡ false → cond (here && rest) a old ≡ cond (here && rest) b old
+never true rest a b old e = cc
+never false rest a b old e = refl
+
+pub same_blocks : (f : Frame) (i : ℕ) (s t : Blocks) (old new : Picture) → ((x y : ℕ) → s i x y ≡ t i x y) → Copies (in_grid f i) s old new → Copies (in_grid f i) t old new
+same_blocks f i s t old new e c = record { frame = c.frame; blocks = λ j u v. c.blocks j u v ∙ by j u v (j == i) refl }
+  where
+    by : (j u v : ℕ) (b : Bool) → (j == i) ≡ b → cond (in_grid f i j u v) (s j u v) (map_of old j u v) ≡ cond (in_grid f i j u v) (t j u v) (map_of old j u v)
+    by j u v true h =
+        let is = same_of j i h in
+        ap (λ block. cond (in_grid f i j u v) block (map_of old j u v)) (ap (λ k. s k u v) is ∙ e u v ∙ sym (ap (λ k. t k u v) is))
+    by j u v false h = never (j == i) _ (s j u v) (t j u v) (map_of old j u v) h
+
+pub all_put : (f : Frame) (seen : Blocks) (old new : Picture) (n : ℕ) → old.blocks ≡ replicate n (zeros 64) → Copies (in_grids f) seen old new → map_of new ≡ real_blocks f seen
+all_put f seen old new n none c =
+    fun_ext (λ i. fun_ext (λ x. fun_ext (λ y. c.blocks i x y ∙ ap (λ (b : Blocks). cond (in_grids f i x y) (seen i x y) (b i x y)) (blank_is old n none))))

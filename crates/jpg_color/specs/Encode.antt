@@ -1,0 +1,73 @@
+-- A PICTURE MADE OF AN IMAGE (the manual of cjpeg): what is asked for, when it can be made, and what is due.
+use Rattle.std.specs.Prelude.{◌≡◌, Bool, true, false, [], length, slice_index_or, All, Option, Some, None, Result, Ok, Err}
+use Rattle.jpg_spec.specs.FileText.{off}
+use Rattle.jpg_spec.specs.Geometry.{Frame}
+use Rattle.jpg_spec.specs.Images.{Image}
+use Rattle.jpg_spec.specs.Meaning.{Meaning, picture_frame}
+use Rattle.jpg_spec.specs.Moved.{Scans, sequential, standard, asks_progressive}
+use Rattle.jpg_spec.specs.Scan.{Blocks}
+use Rattle.jpg_spec.specs.WrittenFile.{AreQuantisers}
+use Rattle.jpg_spec.specs.Encoded.{Encoding, components_due, encoded, encoded_block, encoded_head, sampling_fault}
+use Rattle.jpg_spec.specs.EncodingLaws.{AreFactors}
+use Rattle.jpg_spec.specs.declared.transform.PictureFault.{PictureFault}
+use Rattle.jpg_pnm_bmp.specs.Made.{IsRightImage}
+use Rattle.jpg_pnm_bmp.specs.declared.pixels.Image.{Image as Read}
+use Rattle.jpg_color.specs.declared.encode.Encoding.{Encoding as Asked}
+
+-- an image that was read
+abbrev pub image_told : Read → Image
+image_told i = record { info = i.info; samples = i.samples }
+
+-- WHAT IS ASKED FOR, in the words of the definitions: its own scans, and no restarts
+
+abbrev pub scans_asked : Bool → Scans
+scans_asked true = standard
+scans_asked false = sequential
+
+abbrev pub request : Asked → Encoding
+request a = record {
+  gray = a.gray;
+  scans = scans_asked a.progressive;
+  restart = off;
+  factors = a.factors.items;
+  first = slice_index_or a.tables 0 [];
+  others = slice_index_or a.tables 1 [];
+}
+
+-- These words ask for the same, whatever their scans and restarts are, if the scans are of the same kind.
+pub record AsksFor (a : Asked) (e : Encoding) : Type 0 where
+  pub gray : e.gray ≡ a.gray
+  pub scans : asks_progressive e.scans ≡ a.progressive
+  pub factors : e.factors ≡ a.factors.items
+  pub first : e.first ≡ slice_index_or a.tables 0 []
+  pub others : e.others ≡ slice_index_or a.tables 1 []
+
+-- An image with all its samples, factors from 1 to 4 for each component that is due, and tables of 64 quantisers without zeros.
+pub record CanEncode (i : Read) (a : Asked) : Type 0 where
+  pub image : IsRightImage (image_told i)
+  pub factors : All AreFactors a.factors.items
+  pub pairs : length a.factors.items ≡ components_due (request a) (image_told i)
+  pub first : AreQuantisers (slice_index_or a.tables 0 [])
+  pub others : AreQuantisers (slice_index_or a.tables 1 [])
+
+-- WHAT IS DUE: all but the blocks, the frame, and the blocks
+
+abbrev pub head_due : Read → Asked → Meaning
+head_due i a = encoded_head (request a) (image_told i)
+
+abbrev pub frame_due : Read → Asked → Frame
+frame_due i a = picture_frame (head_due i a)
+
+abbrev pub blocks_due : Read → Asked → Blocks
+blocks_due i a = encoded_block (head_due i a) (image_told i)
+
+abbrev pub picture_due : Read → Asked → Meaning
+picture_due i a = encoded (request a) (image_told i)
+
+abbrev pub fault_due : Read → Asked → Option PictureFault
+fault_due i a = sampling_fault (request a) (image_told i)
+
+-- the frame, or the fault that forbids it
+abbrev pub IsFramed : Read → Asked → Result Frame PictureFault → Type 0
+IsFramed i a (Ok f) = (f ≡ frame_due i a) × (fault_due i a ≡ None)
+IsFramed i a (Err fault) = fault_due i a ≡ Some fault

@@ -1,0 +1,60 @@
+-- What the bytes of a text of tables come to, one by one. What a text is stands in TableText of jpg_spec.
+use Rattle.std.specs.Prelude.{ℕ, ◌+◌, ◌-◌, ◌*◌, ◌<◌, ◌≤◌, Bool, false, nat_lt, nat_le, ◌&&◌, ◌==◌, if◌then◌else◌, true, List, [], ◌∷◌, ◌++◌, length, Option, None, Some, option_map, option_and_then}
+use Rattle.jpg_spec.specs.Requests.{is_digit}
+use Rattle.jpg_spec.specs.Segments.{QuantTable}
+use Rattle.jpg_spec.specs.ScriptGrammar.{in_comment, is_space}
+use Rattle.jpg_spec.specs.TableText.{is_count, tables_of}
+
+-- NUMBERS: those that are whole, and of the one in work how many digits came and what they tell
+
+pub record NumbersState : Type 0 where
+  pub numbers : List ℕ
+  pub digits : ℕ
+  pub value : ℕ
+
+abbrev pub no_numbers : NumbersState
+no_numbers = record { numbers = []; digits = 0; value = 0 }
+
+-- a number in work is whole before a byte that is no digit
+abbrev pub ended : NumbersState → NumbersState
+ended s = if s.digits == 0 then s else record { numbers = s.numbers ++ s.value ∷ []; digits = 0; value = 0 }
+
+abbrev pub digit_step : NumbersState → ℕ → Option NumbersState
+digit_step s d =
+    if nat_lt (length s.numbers) 256 && (nat_lt s.digits 5 && nat_le (10 * s.value + d) 65535)
+    then Some (record { numbers = s.numbers; digits = s.digits + 1; value = 10 * s.value + d })
+    else None
+
+abbrev pub number_step : NumbersState → ℕ → Option NumbersState
+number_step s b = if is_digit b then digit_step s (b - 48) else if is_space b then Some (ended s) else None
+
+-- the tables, where the text ends here
+abbrev pub tables_told : NumbersState → Option (List QuantTable)
+tables_told s = if is_count (length (ended s).numbers) then Some (tables_of (ended s).numbers) else None
+
+-- a number in work is one of 256 at most
+abbrev pub HasRoom : List ℕ → ℕ → Type 0
+HasRoom numbers digits = 1 ≤ digits → length numbers < 256
+
+-- BYTES, with comments
+
+pub record ReaderState : Type 0 where
+  pub behind : Bool
+  pub text : NumbersState
+
+abbrev pub reader_step : ReaderState → ℕ → Option ReaderState
+reader_step s b =
+    option_map (λ text. record { behind = in_comment s.behind b; text = text }) (number_step s.text (if in_comment s.behind b then 32 else b))
+
+abbrev pub new_reader : ReaderState
+new_reader = record { behind = false; text = no_numbers }
+
+-- of no bytes, or of one more and the rest
+unfoldable pub run : {S : Type 0} → (S → ℕ → Option S) → S → List ℕ → Option S
+run step s [] = Some s
+run step s (b ∷ bytes) = option_and_then (λ t. run step t bytes) (step s b)
+
+-- an answer: whether the byte was taken, and what stands then
+abbrev pub taken : {S : Type 0} → Bool → S → Option S
+taken true s = Some s
+taken false s = None

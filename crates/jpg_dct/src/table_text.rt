@@ -1,0 +1,205 @@
+// The text of tables, byte by byte (the manual of cjpeg, -qtables).
+ghost use Rattle.std.specs.Prelude.{◌≡◌, ◌<◌, ◌≤◌, length, option_map};
+ghost use Rattle.jpg_spec.specs.Quality.{in_zigzag};
+ghost use Rattle.jpg_spec.specs.Requests.{is_digit};
+ghost use Rattle.jpg_spec.specs.ScriptGrammar.{in_comment, is_space};
+ghost use Rattle.jpg_spec.specs.TableText.{TellsTables, is_count, tables_of};
+ghost use Rattle.jpg_spec.specs.declared.fault.Fault.TheVariants.{TableText};
+ghost use Rattle.jpg_dct.specs.ReadTables.{IsRead, tables_or_fault};
+ghost use Rattle.jpg_dct.specs.TableState.{digit_step, ended, new_reader, number_step, reader_step, taken, tables_told};
+
+use crate::blocks::ZIGZAG;
+use arrayvec::ArrayVec;
+use jpg_base::{Fault, FaultAt, QuantTable};
+use std::marker::Model;
+
+// The numbers that are whole, how many digits of one more came and what they tell, and whether the last byte was in a comment.
+#[derive(Drop)]
+pub struct TableReader {
+    numbers: ArrayVec<u16, 256>,
+    digits: u8,
+    value: u16,
+    in_comment: bool,
+}
+
+impl Model for TableReader {
+    ghost use Rattle.jpg_spec.specs.declared.fault.Fault.TheVariants.{TableText};
+    ghost use Rattle.jpg_dct.specs.ReadTables.{IsRead, tables_or_fault};
+    ghost use Rattle.jpg_dct.specs.TableState.{ReaderState as State, HasRoom};
+
+    ghost Value = { State };
+
+    ghost view = { λ r. record { behind = r.in_comment; text = record { numbers = r.numbers.items; digits = r.digits; value = r.value } } };
+
+    ghost invariant = { λ r. HasRoom r.numbers.items r.digits };
+}
+
+// The bytes of a text at most.
+const LONGEST: u64 = 65536;
+
+/// The tables that a text tells, as files of tables have them (the manual of cjpeg): 64, 128, 192 or 256 numbers of one to five digits
+/// and at most 65535, with space between; each 64 are a table, row by row. Or TableText at the first byte that no such text has there,
+/// at the text's end where it ends too early, or at 65537 where it is longer than 65536 bytes.
+pub fn read_tables(text: &[u8]) -> Result<ArrayVec<QuantTable, 4>, FaultAt>
+    ensures { TellsTables text.now (tables_or_fault result) }
+{
+    match read(text) {
+        Err(fault) => Err(fault),
+        Ok(reader) => match reader.end() {
+            None => Err(wrong_at(text.len() as u64)),
+            Some(tables) => Ok(tables),
+        },
+    }
+}
+
+// All bytes of a text, or the first that may not stand there.
+fn read(text: &[u8]) -> Result<TableReader, FaultAt>
+    ensures { IsRead text.now result }
+{
+    let mut reader = TableReader::new();
+    let mut before = 0;
+    for byte in text {
+        if before == LONGEST {
+            return Err(wrong_at(before + 1));
+        }
+        if !reader.byte(*byte) {
+            return Err(wrong_at(before + 1));
+        }
+        before += 1;
+    }
+    Ok(reader)
+}
+
+// A text of tables is wrong at this place.
+fn wrong_at(at: u64) -> FaultAt
+    ensures { result ≡ record { fault = TableText; at = at } }
+{
+    FaultAt {
+        fault: Fault::TableText,
+        at,
+    }
+}
+
+impl TableReader {
+    fn new() -> TableReader
+        ensures { result ≡ new_reader }
+    {
+        TableReader {
+            numbers: ArrayVec::new(),
+            digits: 0,
+            value: 0,
+            in_comment: false,
+        }
+    }
+
+    // Takes a byte, where it may stand there.
+    fn byte(&mut self, byte: u8) -> bool
+        ensures { taken result self.new ≡ reader_step self.old byte }
+    {
+        self.in_comment = in_comment(self.in_comment, byte);
+        if self.in_comment {
+            self.plain_byte(32)
+        } else {
+            self.plain_byte(byte)
+        }
+    }
+
+    // A byte of no comment, or a space in its place.
+    fn plain_byte(&mut self, byte: u8) -> bool
+        ensures text { taken result self.new.text ≡ number_step self.old.text byte }
+        ensures behind { self.new.behind ≡ self.old.behind }
+    {
+        if is_digit(byte) {
+            return self.digit(byte - 48);
+        }
+        self.end_number();
+        is_space(byte)
+    }
+
+    fn digit(&mut self, digit: u8) -> bool
+        requires { digit < 10 }
+        ensures text { taken result self.new.text ≡ digit_step self.old.text digit }
+        ensures behind { self.new.behind ≡ self.old.behind }
+    {
+        let next = 10 * u32::from(self.value) + u32::from(digit);
+        if self.numbers.len() >= 256 || self.digits >= 5 || next > 65535 {
+            return false;
+        }
+        self.digits += 1;
+        self.value = next as u16;
+        true
+    }
+
+    // A number in work is whole.
+    fn end_number(&mut self)
+        ensures text { self.new.text ≡ ended self.old.text }
+        ensures behind { self.new.behind ≡ self.old.behind }
+    {
+        if self.digits > 0 {
+            self.numbers.push(self.value);
+            self.digits = 0;
+            self.value = 0;
+        }
+    }
+
+    // The tables, where the text ends here.
+    fn end(mut self) -> Option<ArrayVec<QuantTable, 4>>
+        ensures { option_map (λ v. v.items) result ≡ tables_told self.text }
+    {
+        self.end_number();
+        if !is_count(self.numbers.len()) {
+            return None;
+        }
+        Some(tables_of(self.numbers.as_slice()))
+    }
+}
+
+fn is_digit(byte: u8) -> bool
+    ensures { result ≡ is_digit byte }
+{
+    48 <= byte && byte <= 57
+}
+
+fn is_space(byte: u8) -> bool
+    ensures { result ≡ is_space byte }
+{
+    byte == 32 || (byte == 9 || (byte == 10 || (byte == 12 || byte == 13)))
+}
+
+// A byte of a comment: it begins with # and goes on up to LF.
+fn in_comment(behind: bool, byte: u8) -> bool
+    ensures { result ≡ in_comment behind byte }
+{
+    if behind { byte != 10 } else { byte == 35 }
+}
+
+// As many as one to four tables have.
+fn is_count(count: usize) -> bool
+    ensures value { result ≡ is_count count }
+{
+    count == 64 || (count == 128 || (count == 192 || count == 256))
+}
+
+// Each 64 numbers a table.
+fn tables_of(numbers: &[u16]) -> ArrayVec<QuantTable, 4>
+    requires { length numbers.now ≤ 256 }
+    ensures { result.items ≡ tables_of numbers.now }
+{
+    let mut tables = ArrayVec::new();
+    for i in 0..numbers.len() / 64 {
+        tables.push(table_of(&numbers[64 * i..64 * i + 64]));
+    }
+    tables
+}
+
+// Numbers row by row, in zigzag order.
+fn table_of(rows: &[u16]) -> QuantTable
+    requires { length rows.now ≡ 64 }
+    ensures { result ≡ in_zigzag rows.now }
+{
+    let mut values = [0; 64];
+    for k in 0..64 {
+        values[k] = rows[ZIGZAG[k]];
+    }
+    QuantTable::of(values)
+}
