@@ -7,11 +7,13 @@ use Rattle.jpg_spec.specs.Lists.{below}
 use Rattle.jpg_spec.specs.ImageText.{row_bytes, row_piece, first_piece, rest, end_text}
 use Rattle.jpg_spec.specs.Meaning.{PictureComponent, colour_of}
 use Rattle.jpg_spec.specs.Pixels.{info, out_fault, out_fault_of, pixel_row, pixels, shows_gray, shown_row}
+use Rattle.jpg_spec.specs.declared.frame.Colour.{Colour}
 use Rattle.jpg_spec.specs.declared.frame.Component.{Component}
 use Rattle.jpg_spec.specs.declared.image.EndKind.{EndKind}
 use Rattle.jpg_spec.specs.declared.image.EndKind.TheVariants.{Pnm, Bmp}
 use Rattle.jpg_spec.specs.declared.image.ImageInfo.{ImageInfo}
 use Rattle.jpg_spec.specs.declared.image.ImageKind.TheVariants as kind
+use Rattle.jpg_spec.specs.declared.jfif.Jfif.{Jfif}
 use Rattle.jpg_spec.proofs.Common.{length_below}
 use Rattle.jpg_coefs.specs.Picture.{Picture as Coefs}
 use Rattle.jpg_file.specs.PictureKept.{component_told}
@@ -22,7 +24,7 @@ use Rattle.jpg_pnm_bmp.specs.EndState.{EndState, CanFinish, IsImageInfo, held_of
 use Rattle.jpg_pnm_bmp.proofs.SomeBytes.{text_some}
 use Rattle.jpg_color.specs.Shown.{Display, IsShowable, display_fault, factors_of, row_length, row_of}
 use Rattle.jpg_color.specs.PictureRows.{RowsLeft, IsFirstRow, display_in, shown_blocks}
-use Rattle.jpg_color.specs.DecodeRows.{AreRowsOf, Decodes, IsEndFor, Sends, SendsRows, end_at, end_parts, finished, finished_end, picture_end, picture_text, row_pieces, rows_in_all}
+use Rattle.jpg_color.specs.DecodeRows.{AreRowsOf, Decodes, IsEndFor, Sends, SendsRows, end_at, end_parts, finished, finished_end, picture_end, picture_text, row_pieces, rows_in_all, told_info}
 use Rattle.jpg_color.specs.declared.decode.DecodeStop.{DecodeStop}
 use Rattle.jpg_color.specs.declared.decode.DecodeStop.TheVariants as stop
 use Rattle.jpg_spec.proofs.Rows.{map_map}
@@ -54,9 +56,13 @@ image_info p gray none =
       pixels = pixels_few (display_in p gray true) (is_showable p gray true none);
     }
 
+pub told_of : (p : Picture) (gray : Bool) → told_info p.frame p.colour p.jfif gray ≡ info (picture_meaning p) gray
+told_of p gray =
+    ap (λ (c : Colour). told_info p.frame c p.jfif gray) p.keeps.colour ∙ ap (λ (j : Jfif). told_info p.frame (colour_of (picture_meaning p)) j gray) p.keeps.jfif
+
 -- AN END THAT WAS STARTED
 
-none_held : (kind : EndKind) → [] ≡ held_of kind []
+pub none_held : (kind : EndKind) → [] ≡ held_of kind []
 none_held Pnm = refl
 none_held Bmp = refl
 
@@ -65,7 +71,7 @@ started_end e info new =
     ap (λ (x : EndState). started x info) new
     ∙ ap (λ (h : List (List ℕ)). (let x : EndState = record { kind = e.kind; info = Some info; taken = 0; held = h; parts = 0; done = false } in x)) (none_held e.kind)
 
-long_by : (b : Bool) (width : ℕ) (i : ImageInfo) → i.width ≡ width → i.kind ≡ (if b then kind.Gray else kind.Rgb) → row_bytes i ≡ (if b then width else 3 * width)
+pub long_by : (b : Bool) (width : ℕ) (i : ImageInfo) → i.width ≡ width → i.kind ≡ (if b then kind.Gray else kind.Rgb) → row_bytes i ≡ (if b then width else 3 * width)
 long_by true width i w k = ap (λ n. row_bytes (record i { kind = n })) k ∙ w
 long_by false width i w k = ap (λ n. row_bytes (record i { kind = n })) k ∙ ap (λ n. 3 * n) w
 
@@ -105,7 +111,7 @@ all_pixels p gray smooth r first =
     ap (λ (x : Display). all x r.coefs) first.display ∙ ap (λ (q : Coefs). all d q) first.coefs
     ∙ map_all (row_of d (shown_blocks d p.coefs)) (pixel_row (picture_meaning p) gray smooth) (λ (y : ℕ). same_row p gray smooth y) (below p.frame.height)
 
-rest_held : (kind : EndKind) (i : ImageInfo) (rows : List (List ℕ)) → rest kind i (held_of kind rows) ≡ rest kind i rows
+pub rest_held : (kind : EndKind) (i : ImageInfo) (rows : List (List ℕ)) → rest kind i (held_of kind rows) ≡ rest kind i rows
 rest_held Pnm i rows = refl
 rest_held Bmp i rows = refl
 

@@ -23,8 +23,9 @@ use Rattle.jpg_spec.proofs.Rows.{at_below}
 use Rattle.jpg_pnm_bmp.specs.Made.{IsRightImage}
 use Rattle.jpg_coefs.specs.Picture.{Picture, map_of}
 use Rattle.jpg_coefs.proofs.Maps.{blank_is}
-use Rattle.jpg_coefs.specs.Copied.{Copies, in_grid, in_grids}
+use Rattle.jpg_coefs.specs.Copied.{Copies, in_grids}
 use Rattle.jpg_color.specs.ColourRows.{numbers_of}
+use Rattle.jpg_color.specs.McuRows.{in_span}
 use Rattle.jpg_color.specs.PlaneRows.{HasSamples}
 use Rattle.jpg_color.proofs.EncodedHead.{frame_across, frame_component, frame_down}
 
@@ -49,7 +50,7 @@ ratio_few n k h = (let l = div-le_self n k in omega (arith, l, h))
 
 -- SIZES
 
-samples_few : (w h most : ℕ) → 1 ≤ most → h ≤ most → div_up (w * h) most ≤ w
+pub samples_few : (w h most : ℕ) → 1 ≤ most → h ≤ most → div_up (w * h) most ≤ w
 samples_few w h most low high =
     let m = mul-le w h w most (omega arith) high in
     let s : (w + 1) * most ≡ w * most + most = grind arith in
@@ -108,6 +109,13 @@ few_due false = omega arith
 pub at_most_three : (e : Encoding) (image : Image) → components_due e image ≤ 3
 at_most_three e image = few_due (e.gray || is_gray image.info.kind)
 
+three_due : (b : Bool) → 1 < cond b 1 3 → 2 < cond b 1 3
+three_due true h = absurd (omega (arith, h))
+three_due false h = omega arith
+
+pub three_or_one : (e : Encoding) (image : Image) → 1 < components_due e image → 2 < components_due e image
+three_or_one e image h = three_due (e.gray || is_gray image.info.kind) h
+
 pub component_there : (e : Encoding) (image : Image) (i : ℕ) → i < components_due e image → component_of (encoded_head e image) i ≡ component_due e i
 component_there e image i h =
     get_or-map (component_due e) (below (components_due e image)) i 0 (record { id = 0; h = 1; v = 1; quants = [] }) (subst (λ n. i < n) (sym (length_below (components_due e image))) h)
@@ -119,13 +127,13 @@ never : (here rest : Bool) (a b old : List ℤ) → here ≡ false → cond (her
 never true rest a b old e = cc
 never false rest a b old e = refl
 
-pub same_blocks : (f : Frame) (i : ℕ) (s t : Blocks) (old new : Picture) → ((x y : ℕ) → s i x y ≡ t i x y) → Copies (in_grid f i) s old new → Copies (in_grid f i) t old new
-same_blocks f i s t old new e c = record { frame = c.frame; blocks = λ j u v. c.blocks j u v ∙ by j u v (j == i) refl }
+pub same_blocks : (f : Frame) (i first last : ℕ) (s t : Blocks) (old new : Picture) → ((x y : ℕ) → s i x y ≡ t i x y) → Copies (in_span f i first last) s old new → Copies (in_span f i first last) t old new
+same_blocks f i first last s t old new e c = record { frame = c.frame; blocks = λ j u v. c.blocks j u v ∙ by j u v (j == i) refl }
   where
-    by : (j u v : ℕ) (b : Bool) → (j == i) ≡ b → cond (in_grid f i j u v) (s j u v) (map_of old j u v) ≡ cond (in_grid f i j u v) (t j u v) (map_of old j u v)
+    by : (j u v : ℕ) (b : Bool) → (j == i) ≡ b → cond (in_span f i first last j u v) (s j u v) (map_of old j u v) ≡ cond (in_span f i first last j u v) (t j u v) (map_of old j u v)
     by j u v true h =
         let is = same_of j i h in
-        ap (λ block. cond (in_grid f i j u v) block (map_of old j u v)) (ap (λ k. s k u v) is ∙ e u v ∙ sym (ap (λ k. t k u v) is))
+        ap (λ block. cond (in_span f i first last j u v) block (map_of old j u v)) (ap (λ k. s k u v) is ∙ e u v ∙ sym (ap (λ k. t k u v) is))
     by j u v false h = never (j == i) _ (s j u v) (t j u v) (map_of old j u v) h
 
 pub all_put : (f : Frame) (seen : Blocks) (old new : Picture) (n : ℕ) → old.blocks ≡ replicate n (zeros 64) → Copies (in_grids f) seen old new → map_of new ≡ real_blocks f seen

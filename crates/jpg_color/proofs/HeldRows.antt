@@ -120,7 +120,7 @@ reaches d blocks i m y s h le late early =
     told_far true {k} {high} {down} f two (inr (e, lt)) = inr (e, subst (λ n. y < high * n) two lt)
     told_far false f two told = absurd (clash true refl (sym f))
 
-long_from : (rows : ℕ → List ℕ) (first count : ℕ) → length (rows_from rows first count) ≡ count
+pub long_from : (rows : ℕ → List ℕ) (first count : ℕ) → length (rows_from rows first count) ≡ count
 long_from rows first count = length-map (below count) (λ k. rows (first + k)) ∙ length_below count
 
 pub sources : (s : Shown) (blocks : Blocks) (i : ℕ) → IsShowable s.display → StandsFor s blocks → i < parts s.display
@@ -206,7 +206,7 @@ fresh_stands d blocks held s none =
 
 -- ONE MCU ROW MORE
 
-map_below : {A : Type 0} (f g : ℕ → A) (n : ℕ) → ((k : ℕ) → k < n → f k ≡ g k) → map f (below n) ≡ map g (below n)
+pub map_below : {A : Type 0} (f g : ℕ → A) (n : ℕ) → ((k : ℕ) → k < n → f k ≡ g k) → map f (below n) ≡ map g (below n)
 map_below f g zero e = refl
 map_below f g (suc n) e =
     map-append f (below n) (n ∷ [])

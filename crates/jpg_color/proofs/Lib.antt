@@ -2,8 +2,13 @@ pub mod ColourRows
 pub mod PixelLanes
 pub mod CutBlocks
 pub mod PlaneRows
+pub mod PlaneWindows
+pub mod McuRows
+pub mod McuSources
 pub mod Coverage
 pub mod Decoded
+pub mod Drawn
+pub mod DrawnLaws
 pub mod Ending
 pub mod Extended
 mod Halves
@@ -16,7 +21,9 @@ pub mod Pixels
 pub mod Places
 pub mod Products
 pub mod Refused
+pub mod RowRanges
 pub mod RowsPut
+pub mod RowsSending
 pub mod SamplesRead
 pub mod Sent
 pub mod Showing

@@ -1,5 +1,5 @@
 -- Lanes of pixels: luminance and the two colour differences of sixteen at once.
-use Rattle.std.proofs.Common.{◌≡◌, ℕ, ◌+◌, ◌-◌, ◌*◌, ◌/◌, ◌%◌, ◌<◌, List, ◌++◌, length, take, slice_index, slice_index_or, set, map, ⊎_elim, ◌≤◌, refl, sym, ap, ◌∙◌, arith}
+use Rattle.std.proofs.Common.{◌≡◌, ℕ, ◌+◌, ◌-◌, ◌*◌, ◌/◌, ◌%◌, ◌<◌, List, ◌++◌, length, take, slice_index, slice_index_or, set, map, ⊎_elim, ◌≤◌, sym, ap, ◌∙◌, arith}
 use Rattle.std.proofs.lemmas.Bool.{cases_lt}
 use Rattle.std.proofs.lemmas.List.{take_all, get_or_append_left, get_or-map, get_or-set_other, length-map}
 use Rattle.std.proofs.lemmas.Grind.{get_or-set_at}
@@ -9,7 +9,8 @@ use Rattle.jpg_spec.specs.Encoded.{pixel_component}
 use Rattle.jpg_spec.specs.declared.image.ImageKind.TheVariants.{Rgb}
 use Rattle.jpg_spec.proofs.Common.{length_below}
 use Rattle.jpg_spec.proofs.Rows.{by_items, at_below}
-use Rattle.jpg_color.specs.ColourRows.{component_row}
+use Rattle.jpg_sample.proofs.Sums.{made_more}
+use Rattle.jpg_color.specs.ColourRows.{component_row, PutsSixteen, HasMade}
 use Rattle.jpg_color.proofs.ColourRows.{luminance_first, blue_second, red_third}
 
 -- lane k of 64
@@ -40,7 +41,8 @@ sixteen_are f i p long small is =
     ∙ sym (get_or-map (pixel_component Rgb p i) (below 16) n 0 0 (omega (arith, length_below 16, lt)) ∙ ap (pixel_component Rgb p i) (at_below 16 n lt))))
 
 abbrev pub luminance_lane : ℕ → ℕ → ℕ → ℕ
-luminance_lane r g b = (((r * 19595 % 4294967296 + g * 38470 % 4294967296) % 4294967296 + b * 7471 % 4294967296) % 4294967296 + 32768) % 4294967296 / 65536
+luminance_lane r g b =
+    (((r * 19595 % 4294967296 + g * 22086 % 4294967296) % 4294967296 + (b * 7471 % 4294967296 + g * 16384 % 4294967296) % 4294967296) % 4294967296 + 32768) % 4294967296 / 65536
 
 luminance_is : (r g b : ℕ) → r < 256 → g < 256 → b < 256 → luminance_lane r g b ≡ slice_index (to_ycc r g b) 0
 luminance_is r g b lr lg lb = (let e : luminance_lane r g b ≡ luminance r g b = omega (arith, lr, lg, lb) in e ∙ luminance_first r g b)
@@ -49,7 +51,8 @@ pub luminances_are : (p : List ℕ) → length p ≡ 64 → ((k : ℕ) → k < 6
 luminances_are p long small = sixteen_are luminance_lane 0 p long small luminance_is
 
 abbrev pub blue_lane : ℕ → ℕ → ℕ → ℕ
-blue_lane r g b = ((b * 32768 % 4294967296 + 8421375) % 4294967296 + (4294967296 - (r * 11059 % 4294967296 + g * 21709 % 4294967296) % 4294967296)) % 4294967296 / 65536
+blue_lane r g b =
+    ((b * 32768 % 4294967296 + 8421375) % 4294967296 + (4294967296 - (r * 11059 % 4294967296 + g * 21709 % 4294967296) % 4294967296)) % 4294967296 / 65536
 
 blue_is : (r g b : ℕ) → r < 256 → g < 256 → b < 256 → blue_lane r g b ≡ slice_index (to_ycc r g b) 1
 blue_is r g b lr lg lb = (let e : blue_lane r g b ≡ blue_difference r g b = omega (arith, lr, lg, lb) in e ∙ blue_second r g b)
@@ -58,7 +61,8 @@ pub blues_are : (p : List ℕ) → length p ≡ 64 → ((k : ℕ) → k < 64 →
 blues_are p long small = sixteen_are blue_lane 1 p long small blue_is
 
 abbrev pub red_lane : ℕ → ℕ → ℕ → ℕ
-red_lane r g b = ((r * 32768 % 4294967296 + 8421375) % 4294967296 + (4294967296 - (g * 27439 % 4294967296 + b * 5329 % 4294967296) % 4294967296)) % 4294967296 / 65536
+red_lane r g b =
+    ((r * 32768 % 4294967296 + 8421375) % 4294967296 + (4294967296 - (b * 5329 % 4294967296 + g * 27439 % 4294967296) % 4294967296)) % 4294967296 / 65536
 
 red_is : (r g b : ℕ) → r < 256 → g < 256 → b < 256 → red_lane r g b ≡ slice_index (to_ycc r g b) 2
 red_is r g b lr lg lb = (let e : red_lane r g b ≡ red_difference r g b = omega (arith, lr, lg, lb) in e ∙ red_third r g b)
@@ -90,3 +94,13 @@ sample_set f out x r there same is k lt =
     (λ (a : k < x). get_or-set_other out x k r 0 (omega (arith, a)) ∙ same k a)
     (λ (b : x ≤ k). (let e : k ≡ x = omega (arith, b, lt) in get_or-set_at out x k r 0 e there ∙ is ∙ ap f (sym e)))
     (cases_lt k x)
+
+-- sixteen samples more
+pub made_sixteen : (pixels : List ℕ) (i c : ℕ) (first old new : List ℕ) → HasMade pixels i (16 * c) first old → PutsSixteen pixels i c old new → HasMade pixels i (16 * (c + 1)) first new
+made_sixteen pixels i c first old new made puts = record {
+  long = puts.long ∙ made.long;
+  all = λ k lt. made_more (pixel_component Rgb pixels i) old new (16 * c) 16 made.all puts.before puts.here k (omega (arith, lt));
+}
+
+pub all_made : (pixels : List ℕ) (i x : ℕ) (old new : List ℕ) (n : ℕ) → HasMade pixels i x old new → length old ≡ n → x ≡ n → new ≡ component_row pixels i n
+all_made pixels i x old new n made long is = row_made pixels i new x n (made.long ∙ long) is made.all

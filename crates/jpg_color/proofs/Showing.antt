@@ -49,7 +49,7 @@ more_rows r n =
     let one : n + 1 ≡ suc n = omega arith in
     ap (λ m. rows_until r m) one ∙ map-append (row_of r.strips.display (shown_blocks r.strips.display r.coefs)) (below n) (n ∷ [])
 
-held_more : (kind : EndKind) (rows : List (List ℕ)) (row : List ℕ) → held_of kind rows ++ held_of kind (row ∷ []) ≡ held_of kind (rows ++ row ∷ [])
+pub held_more : (kind : EndKind) (rows : List (List ℕ)) (row : List ℕ) → held_of kind rows ++ held_of kind (row ∷ []) ≡ held_of kind (rows ++ row ∷ [])
 held_more Pnm rows row = refl
 held_more Bmp rows row = refl
 

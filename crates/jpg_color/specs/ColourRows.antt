@@ -1,5 +1,5 @@
 -- A component of a row of red, green and blue.
-use Rattle.std.specs.Prelude.{ℕ, List, map}
+use Rattle.std.specs.Prelude.{◌≡◌, ℕ, ◌+◌, ◌*◌, ◌<◌, List, length, slice_index, map}
 use Rattle.jpg_spec.specs.Lists.{below}
 use Rattle.jpg_spec.specs.Encoded.{pixel_component}
 use Rattle.jpg_spec.specs.declared.image.ImageKind.{ImageKind}
@@ -16,3 +16,14 @@ numbers_of Rgb = 3
 -- component i of a row of so many pixels of a kind
 unfoldable pub row_component : ImageKind → List ℕ → ℕ → ℕ → List ℕ
 row_component kind row i count = map (pixel_component kind row i) (below count)
+
+-- sixteen samples of component i were put from column 16 * c on, and those before them stand
+pub record PutsSixteen (pixels : List ℕ) (i c : ℕ) (old new : List ℕ) : Type 0 where
+  pub long : length new ≡ length old
+  pub here : (k : ℕ) → k < 16 → slice_index new (16 * c + k) ≡ pixel_component Rgb pixels i (16 * c + k)
+  pub before : (k : ℕ) → k < 16 * c → slice_index new k ≡ slice_index old k
+
+-- so many samples of component i are made
+pub record HasMade (pixels : List ℕ) (i made : ℕ) (old new : List ℕ) : Type 0 where
+  pub long : length new ≡ length old
+  pub all : (k : ℕ) → k < made → slice_index new k ≡ pixel_component Rgb pixels i k

@@ -2,7 +2,10 @@
 use Rattle.std.specs.Prelude.{◌≡◌, ◌<◌, ℕ, Bool, List, [], ◌++◌, length, take, map, flat_map, true, false, if◌then◌else◌, Option, Some, IfOk, Result, Ok, Err}
 use Rattle.jpg_spec.specs.Lists.{below}
 use Rattle.jpg_spec.specs.ImageText.{row_bytes, row_piece, end_text}
-use Rattle.jpg_spec.specs.Pixels.{info, pixels}
+use Rattle.jpg_spec.specs.Geometry.{Frame}
+use Rattle.jpg_spec.specs.Pixels.{info, metre, pixels}
+use Rattle.jpg_spec.specs.declared.frame.Colour.{Colour}
+use Rattle.jpg_spec.specs.declared.jfif.Jfif.{Jfif}
 use Rattle.jpg_spec.specs.declared.image.EndKind.{EndKind}
 use Rattle.jpg_spec.specs.declared.image.ImageInfo.{ImageInfo}
 use Rattle.jpg_base.specs.declared.names.Name.{Name}
@@ -14,10 +17,15 @@ use Rattle.jpg_file.specs.declared.picture.Picture.{Picture}
 use Rattle.jpg_pnm_bmp.specs.EndState.{EndState, held_of, info_of, with_row, with_part, is_last, next_part, parts_due}
 use Rattle.jpg_pnm_bmp.specs.declared.end.Finish.{Finish}
 use Rattle.jpg_pnm_bmp.specs.declared.end.Finish.TheVariants.{More, Done}
+use Rattle.jpg_color.specs.Admits.{kind_of}
 use Rattle.jpg_color.specs.PictureRows.{RowsLeft, shown_blocks}
 use Rattle.jpg_color.specs.Shown.{row_of, row_length}
 use Rattle.jpg_color.specs.declared.decode.DecodeStop.{DecodeStop}
 use Rattle.jpg_color.specs.declared.decode.DecodeStop.TheVariants as stop
+
+-- what is told of an image, by its frame, its colours and the JFIF header
+abbrev pub told_info : Frame → Colour → Jfif → Bool → ImageInfo
+told_info f colour j gray = record { width = f.width; height = f.height; kind = kind_of colour gray; x_metre = metre j j.x; y_metre = metre j j.y }
 
 -- the text of the image that a picture shows
 abbrev pub picture_text : EndKind → Picture → Bool → Bool → List ℕ

@@ -7,8 +7,10 @@ pub mod PartState
 pub mod PictureRows
 pub mod RowBytes
 pub mod Shown
+pub mod StripImage
 pub mod StripsState
 pub mod Encode
 pub mod EncodeAnswer
 pub mod EncodeBlocks
 pub mod EncodeHead
+pub mod McuRows

@@ -6,6 +6,7 @@ use Rattle.jpg_spec.specs.Encoded.{full_plane, samples_of_block}
 use Rattle.jpg_spec.specs.declared.image.ImageInfo.{ImageInfo}
 use Rattle.jpg_color.specs.ColourRows.{numbers_of}
 use Rattle.jpg_color.specs.declared.rows.ImagePlane.{ImagePlane}
+use Rattle.jpg_color.specs.declared.rows.Window.{Window}
 
 -- an image has its samples, and sides that a frame can have
 pub record HasSamples (info : ImageInfo) (samples : List ℕ) : Type 0 where
@@ -26,6 +27,12 @@ plane_of info samples i x y = full_plane (record { info = info; samples = sample
 -- the rows of the plane under row y of a plane that is `down` times lower, one behind another
 abbrev pub HasRows : ImageInfo → List ℕ → ℕ → ℕ → ℕ → List ℕ → Type 0
 HasRows info samples i down y rows = (r u : ℕ) → r < down → u < info.width → slice_index rows (r * info.width + u) ≡ plane_of info samples i u (down * y + r)
+
+-- row p of component i stands as row r, and what is above it stays
+pub record PutsRow (info : ImageInfo) (samples : List ℕ) (i p r : ℕ) (old new : List ℕ) : Type 0 where
+  pub long : length new ≡ length old
+  pub here : (u : ℕ) → u < info.width → slice_index new (r * info.width + u) ≡ plane_of info samples i u p
+  pub before : (k : ℕ) → k < r * info.width → slice_index new k ≡ slice_index old k
 
 -- a component of an image that has its samples, and a ratio from 1 to 4
 pub record IsImagePlane (p : ImagePlane) : Type 0 where
@@ -49,3 +56,22 @@ narrowed_row p y count = map (λ x. narrow_plane p x y) (below count)
 -- the rows from row 8 * y on, as blocks
 abbrev pub HasBlocks : ImagePlane → ℕ → ℕ → ℕ → List ℕ → Type 0
 HasBlocks p made wide y rows = (x : ℕ) → 8 * x + 8 ≤ wide → samples_of_block (in_rows wide rows) x 0 ≡ samples_of_block (lower_row p made) x y
+
+-- WINDOWS of the rows of the plane's component
+
+-- so many of its rows, from a multiple of them on
+pub record IsWindow (p : ImagePlane) (w : Window) : Type 0 where
+  pub lines : w.lines ≤ 32
+  pub at : w.at ≤ 65535
+  pub long : length w.rows.now ≡ w.lines * p.info.now.width
+  pub rows : HasRows p.info.now p.samples.now p.component w.lines w.at w.rows.now
+
+-- those under row y of the lower plane are among them
+pub record IsUnder (p : ImagePlane) (w : Window) (y : ℕ) : Type 0 where
+  pub first : w.lines * w.at ≤ p.ratio.down * y
+  pub last : p.ratio.down * y + p.ratio.down ≤ w.lines * w.at + w.lines
+
+-- those under eight rows are, where the last one that is made is repeated
+pub record AreUnder (p : ImagePlane) (w : Window) (made y : ℕ) : Type 0 where
+  pub first : w.lines * w.at ≤ p.ratio.down * min (8 * y) (made - 1)
+  pub last : p.ratio.down * (8 * y + 8) ≤ w.lines * w.at + w.lines

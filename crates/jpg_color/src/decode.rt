@@ -1,16 +1,17 @@
 // A picture shown as an image file (release 6b's djpeg).
 ghost use Rattle.std.specs.Prelude.{◌≡◌, ◌*◌, ◌==◌, if◌then◌else◌, true, None, [], IfOk};
 ghost use Rattle.jpg_spec.specs.ImageText.{end_text};
-ghost use Rattle.jpg_spec.specs.Pixels.{info, out_fault};
+ghost use Rattle.jpg_spec.specs.Pixels.{out_fault};
 ghost use Rattle.jpg_file.specs.PictureRead.{picture_meaning};
 ghost use Rattle.jpg_pnm_bmp.specs.EndState.{CanFinish, CanTakeRow, Finishes, IsImageInfo, Starts, TakesRow, new_end};
-ghost use Rattle.jpg_color.specs.DecodeRows.{AreRowsOf, Decodes, IsEndFor, Sends, SendsPart, SendsRow, SendsRows, end_parts, finished, finished_end, picture_end, picture_text, rows_in_all};
+ghost use Rattle.jpg_color.specs.DecodeRows.{AreRowsOf, Decodes, IsEndFor, Sends, SendsPart, SendsRow, SendsRows, end_parts, finished, finished_end, picture_end, picture_text, rows_in_all, told_info};
 
 use crate::kinds::shown_kind;
 use crate::picture_rows::PictureRows;
-use jpg_base::{Bytes, Desk, NoMemory, Put};
+use jpg_base::{Bytes, Desk, Frame, NoMemory, Put};
 use jpg_file::Picture;
 use jpg_pnm_bmp::{Finish, ImageEnd, ImageInfo};
+use jpg_spec::{Colour, Jfif};
 use std::alloc::Global;
 
 /// Why the rows of a picture weren't all written.
@@ -44,7 +45,7 @@ pub fn decode_rows<D: Desk>(
     let Ok(mut rows) = PictureRows::new(alloc, picture, gray, smooth) else {
         return Err(DecodeStop::NoMemory);
     };
-    let info = info_of(picture, gray);
+    let info = info_of(&picture.frame, picture.colour, picture.jfif, gray);
     write_image(&info, &mut rows, end, &mut Bytes::new(alloc), desk)
 }
 
@@ -73,7 +74,7 @@ fn write_image<D: Desk>(
 }
 
 // Begins it.
-fn start_image(
+pub(crate) fn start_image(
     info: &ImageInfo,
     end: &mut Box<dyn ImageEnd>,
     out: &mut Bytes,
@@ -86,15 +87,15 @@ fn start_image(
 }
 
 // What is told of the image.
-fn info_of(picture: &Picture, gray: bool) -> ImageInfo
-    ensures { result ≡ info (picture_meaning picture.now) gray }
+pub(crate) fn info_of(frame: &Frame, colour: Colour, jfif: Jfif, gray: bool) -> ImageInfo
+    ensures { result ≡ told_info frame.now colour jfif gray }
 {
     ImageInfo {
-        width: picture.frame.width(),
-        height: picture.frame.height(),
-        kind: shown_kind(picture.colour, gray),
-        x_metre: metre(picture.jfif.unit, picture.jfif.x),
-        y_metre: metre(picture.jfif.unit, picture.jfif.y),
+        width: frame.width(),
+        height: frame.height(),
+        kind: shown_kind(colour, gray),
+        x_metre: metre(jfif.unit, jfif.x),
+        y_metre: metre(jfif.unit, jfif.y),
     }
 }
 
@@ -127,7 +128,7 @@ fn send_rows<D: Desk>(
 }
 
 // A row.
-fn send_row<D: Desk>(
+pub(crate) fn send_row<D: Desk>(
     row: &[u8],
     end: &mut Box<dyn ImageEnd>,
     out: &mut Bytes,
@@ -152,7 +153,7 @@ fn take_row(row: &[u8], end: &mut Box<dyn ImageEnd>, out: &mut Bytes) -> Result<
 }
 
 // What stands behind the rows.
-fn send_end<D: Desk>(
+pub(crate) fn send_end<D: Desk>(
     end: &mut Box<dyn ImageEnd>,
     out: &mut Bytes,
     desk: &mut D,
@@ -210,7 +211,7 @@ fn send_much<D: Desk>(out: &mut Bytes, desk: &mut D) -> Result<(), DecodeStop>
 }
 
 // Writes all that waits.
-fn send<D: Desk>(out: &mut Bytes, desk: &mut D) -> Result<(), DecodeStop>
+pub(crate) fn send<D: Desk>(out: &mut Bytes, desk: &mut D) -> Result<(), DecodeStop>
     requires { (D.state desk.old).output_created ≡ true }
     ensures sent { Sends (D.state desk.old) out.old [] result out.new (D.state desk.new) }
     ensures all { IfOk result (λ u. out.new ≡ []) }

@@ -32,7 +32,7 @@ pub enum EncodeStop {
 }
 
 /// The picture of an image. It answers FractionalFactors with the first component whose ratio to the greatest factors isn't whole, and then
-/// TooManyBlocks where the padded grids hold more than 8388608 blocks. Beside the picture it takes a few rows of a component.
+/// TooManyBlocks where the padded grids hold more than 8388608 blocks. Beside the picture it takes the rows of an MCU row of each component.
 pub fn encode_picture(
     alloc: Global,
     image: &Image,

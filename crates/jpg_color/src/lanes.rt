@@ -2,13 +2,52 @@
 ghost use Rattle.std.specs.Prelude.{◌≡◌, ◌<◌, ℕ, length, slice_index};
 ghost use Rattle.jpg_color.specs.ColourRows.{component_row};
 
-use std::simd::{u8x64, u32x16};
+use std::simd::{u8x64, u32x16, u32x32};
+
+// The places of red and green of each pixel, of blue and green, of red alone, and of blue.
+const RED_GREEN: [usize; 32] = [
+    0, 1, 3, 4, 6, 7, 9, 10, 12, 13, 15, 16, 18, 19, 21, 22, 24, 25, 27, 28, 30, 31, 33, 34, 36,
+    37, 39, 40, 42, 43, 45, 46,
+];
+
+const BLUE_GREEN: [usize; 32] = [
+    2, 1, 5, 4, 8, 7, 11, 10, 14, 13, 17, 16, 20, 19, 23, 22, 26, 25, 29, 28, 32, 31, 35, 34, 38,
+    37, 41, 40, 44, 43, 47, 46,
+];
 
 const REDS: [usize; 16] = [0, 3, 6, 9, 12, 15, 18, 21, 24, 27, 30, 33, 36, 39, 42, 45];
 
-const GREENS: [usize; 16] = [1, 4, 7, 10, 13, 16, 19, 22, 25, 28, 31, 34, 37, 40, 43, 46];
-
 const BLUES: [usize; 16] = [2, 5, 8, 11, 14, 17, 20, 23, 26, 29, 32, 35, 38, 41, 44, 47];
+
+// Of sixteen pairs the first ones, and the second ones.
+const EVENS: [usize; 16] = [0, 2, 4, 6, 8, 10, 12, 14, 16, 18, 20, 22, 24, 26, 28, 30];
+
+const ODDS: [usize; 16] = [1, 3, 5, 7, 9, 11, 13, 15, 17, 19, 21, 23, 25, 27, 29, 31];
+
+// What each of a pair is multiplied by.
+const LUMINANCE_RG: [u32; 32] = [
+    19595, 22086, 19595, 22086, 19595, 22086, 19595, 22086, 19595, 22086, 19595, 22086, 19595,
+    22086, 19595, 22086, 19595, 22086, 19595, 22086, 19595, 22086, 19595, 22086, 19595, 22086,
+    19595, 22086, 19595, 22086, 19595, 22086,
+];
+
+const LUMINANCE_BG: [u32; 32] = [
+    7471, 16384, 7471, 16384, 7471, 16384, 7471, 16384, 7471, 16384, 7471, 16384, 7471, 16384,
+    7471, 16384, 7471, 16384, 7471, 16384, 7471, 16384, 7471, 16384, 7471, 16384, 7471, 16384,
+    7471, 16384, 7471, 16384,
+];
+
+const BLUE_RG: [u32; 32] = [
+    11059, 21709, 11059, 21709, 11059, 21709, 11059, 21709, 11059, 21709, 11059, 21709, 11059,
+    21709, 11059, 21709, 11059, 21709, 11059, 21709, 11059, 21709, 11059, 21709, 11059, 21709,
+    11059, 21709, 11059, 21709, 11059, 21709,
+];
+
+const RED_BG: [u32; 32] = [
+    5329, 27439, 5329, 27439, 5329, 27439, 5329, 27439, 5329, 27439, 5329, 27439, 5329, 27439,
+    5329, 27439, 5329, 27439, 5329, 27439, 5329, 27439, 5329, 27439, 5329, 27439, 5329, 27439,
+    5329, 27439, 5329, 27439,
+];
 
 // Tells that a number fits its type. It does nothing.
 #[inline(always)]
@@ -37,10 +76,9 @@ pub(crate) fn luminances(pixels: &[u8]) -> [u8; 16]
 {
     all_fit(pixels);
     let p = u8x64::from_slice(pixels);
-    let r = p.swizzle(REDS).cast::<u32>();
-    let g = p.swizzle(GREENS).cast::<u32>();
-    let b = p.swizzle(BLUES).cast::<u32>();
-    let sum = r * u32x16::splat(19595) + g * u32x16::splat(38470) + b * u32x16::splat(7471);
+    let rg = p.swizzle(RED_GREEN).cast::<u32>() * u32x32::from_array(LUMINANCE_RG);
+    let bg = p.swizzle(BLUE_GREEN).cast::<u32>() * u32x32::from_array(LUMINANCE_BG);
+    let sum = (rg.swizzle(EVENS) + rg.swizzle(ODDS)) + (bg.swizzle(EVENS) + bg.swizzle(ODDS));
     ((sum + u32x16::splat(32768)) / u32x16::splat(65536))
         .cast::<u8>()
         .to_array()
@@ -54,12 +92,10 @@ pub(crate) fn blue_differences(pixels: &[u8]) -> [u8; 16]
 {
     all_fit(pixels);
     let p = u8x64::from_slice(pixels);
-    let r = p.swizzle(REDS).cast::<u32>();
-    let g = p.swizzle(GREENS).cast::<u32>();
+    let rg = p.swizzle(RED_GREEN).cast::<u32>() * u32x32::from_array(BLUE_RG);
     let b = p.swizzle(BLUES).cast::<u32>();
     let more = b * u32x16::splat(32768) + u32x16::splat(8421375);
-    let less = r * u32x16::splat(11059) + g * u32x16::splat(21709);
-    ((more - less) / u32x16::splat(65536))
+    ((more - (rg.swizzle(EVENS) + rg.swizzle(ODDS))) / u32x16::splat(65536))
         .cast::<u8>()
         .to_array()
 }
@@ -73,11 +109,9 @@ pub(crate) fn red_differences(pixels: &[u8]) -> [u8; 16]
     all_fit(pixels);
     let p = u8x64::from_slice(pixels);
     let r = p.swizzle(REDS).cast::<u32>();
-    let g = p.swizzle(GREENS).cast::<u32>();
-    let b = p.swizzle(BLUES).cast::<u32>();
+    let bg = p.swizzle(BLUE_GREEN).cast::<u32>() * u32x32::from_array(RED_BG);
     let more = r * u32x16::splat(32768) + u32x16::splat(8421375);
-    let less = g * u32x16::splat(27439) + b * u32x16::splat(5329);
-    ((more - less) / u32x16::splat(65536))
+    ((more - (bg.swizzle(EVENS) + bg.swizzle(ODDS))) / u32x16::splat(65536))
         .cast::<u8>()
         .to_array()
 }

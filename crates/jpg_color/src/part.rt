@@ -59,7 +59,7 @@ fn rows_of(count: u8, factor: u8) -> u8
 
 // So many bytes.
 pub(crate) fn bytes(alloc: Global, count: usize) -> Result<Vec<u8>, NoMemory>
-    requires { count ≤ 1000000 }
+    requires { count ≤ 4000000 }
     ensures { IfOk result (λ v. length v.items ≡ count) }
 {
     let Ok(mut bytes) = Vec::with_capacity(alloc, count) else {

@@ -1,9 +1,11 @@
 // Rows of a component's plane (T.81, A.1.1; release 6b's downsampling).
 ghost use Rattle.std.specs.Prelude.{◌≡◌, ◌+◌, ◌-◌, ◌*◌, ◌≤◌, ◌<◌, ℕ, min, length, slice_index, take, drop};
+ghost use Rattle.jpg_spec.specs.declared.image.ImageKind.TheVariants.{Rgb};
 ghost use Rattle.jpg_color.specs.ColourRows.{numbers_of};
-ghost use Rattle.jpg_color.specs.PlaneRows.{row_of, plane_of, lower_row, narrowed_row, IsImagePlane, HasSamples, HasRows, HasBlocks};
+ghost use Rattle.jpg_color.specs.PlaneRows.{row_of, plane_of, lower_row, narrowed_row, AreUnder, HasBlocks, HasRows, HasSamples, IsImagePlane, IsUnder, IsWindow, PutsRow};
 
 use crate::planes::component_row;
+use crate::ycc::ycc_row;
 use jpg_sample::{Ratio, down_rows};
 use jpg_spec::{ImageInfo, ImageKind};
 
@@ -14,6 +16,14 @@ pub struct ImagePlane<'a> {
     pub info: &'a ImageInfo,
     pub component: u8,
     pub ratio: Ratio,
+}
+
+/// Rows of a component of an image, one after another: as many as `lines`, from row lines * at on. The last one of the image is repeated.
+#[derive(Drop)]
+pub struct Window<'a> {
+    pub rows: &'a [u8],
+    pub lines: usize,
+    pub at: u32,
 }
 
 // How many numbers a pixel has.
@@ -67,11 +77,18 @@ fn put_row(samples: &[u8], info: &ImageInfo, i: u8, p: usize, rows: &mut [u8], r
     component_row(info.kind, row, i, &mut rows[r * width..r * width + width]);
 }
 
-// The rows under row y, the last one of the image repeated.
-fn put_rows(samples: &[u8], info: &ImageInfo, i: u8, down: usize, y: usize, rows: &mut [u8])
+// Rows of component `i` from row down * y on, the last one of the image repeated.
+pub(crate) fn put_rows(
+    samples: &[u8],
+    info: &ImageInfo,
+    i: u8,
+    down: usize,
+    y: usize,
+    rows: &mut [u8],
+)
     requires image { HasSamples info.now samples.now }
     requires component { i < 3 }
-    requires few { (down ≤ 4) × (y ≤ 1000000) }
+    requires few { (down ≤ 32) × (y ≤ 1000000) }
     requires room { length rows.old ≡ down * info.now.width }
     ensures long { length rows.new ≡ length rows.old }
     ensures rows { HasRows info.now samples.now i down y rows.new }
@@ -81,23 +98,87 @@ fn put_rows(samples: &[u8], info: &ImageInfo, i: u8, down: usize, y: usize, rows
     }
 }
 
-// Row y of the plane, as many samples as `out` has, from the rows of the image under it: they are put into `rows`.
-fn plane_row(plane: &ImagePlane, y: usize, rows: &mut [u8], out: &mut [u8])
-    requires plane { IsImagePlane plane.now }
-    requires few { y ≤ 1000000 }
-    requires room { length rows.old ≡ plane.now.ratio.down * plane.now.info.now.width }
-    ensures value { out.new ≡ narrowed_row plane.now y (length out.old) }
-    ensures long { length rows.new ≡ length rows.old }
+// Puts row p of luminance and the two colour differences at place r among rows of each.
+fn put_colour_row(
+    samples: &[u8],
+    info: &ImageInfo,
+    p: usize,
+    ys: &mut [u8],
+    cbs: &mut [u8],
+    crs: &mut [u8],
+    r: usize,
+)
+    requires image { HasSamples info.now samples.now }
+    requires kind { info.now.kind ≡ Rgb }
+    requires luminance { r * info.now.width + info.now.width ≤ length ys.old }
+    requires blue { length cbs.old ≡ length ys.old }
+    requires red { length crs.old ≡ length ys.old }
+    ensures luminance { PutsRow info.now samples.now 0 p r ys.old ys.new }
+    ensures blue { PutsRow info.now samples.now 1 p r cbs.old cbs.new }
+    ensures red { PutsRow info.now samples.now 2 p r crs.old crs.new }
 {
-    put_rows(
-        plane.samples,
-        plane.info,
-        plane.component,
-        plane.ratio.down as usize,
-        y,
-        rows,
+    let width = info.width as usize;
+    let (from, to) = (r * width, r * width + width);
+    ycc_row(
+        image_row(samples, info, p),
+        &mut ys[from..to],
+        &mut cbs[from..to],
+        &mut crs[from..to],
     );
-    down_rows(rows, plane.info.width, &plane.ratio, out);
+}
+
+// Rows of luminance and the two colour differences from row down * y on, the last one of the image repeated.
+pub(crate) fn put_colour_rows(
+    samples: &[u8],
+    info: &ImageInfo,
+    down: usize,
+    y: usize,
+    ys: &mut [u8],
+    cbs: &mut [u8],
+    crs: &mut [u8],
+)
+    requires image { HasSamples info.now samples.now }
+    requires kind { info.now.kind ≡ Rgb }
+    requires few { (down ≤ 32) × (y ≤ 1000000) }
+    requires luminance { length ys.old ≡ down * info.now.width }
+    requires blue { length cbs.old ≡ down * info.now.width }
+    requires red { length crs.old ≡ down * info.now.width }
+    ensures luminance { (length ys.new ≡ length ys.old) × HasRows info.now samples.now 0 down y ys.new }
+    ensures blue { (length cbs.new ≡ length cbs.old) × HasRows info.now samples.now 1 down y cbs.new }
+    ensures red { (length crs.new ≡ length crs.old) × HasRows info.now samples.now 2 down y crs.new }
+{
+    for r in 0..down {
+        put_colour_row(samples, info, down * y + r, ys, cbs, crs, r);
+    }
+}
+
+// The rows of a window that stand under row y of a plane.
+fn rows_under<'a>(plane: &ImagePlane, window: &Window<'a>, y: usize) -> &'a [u8]
+    requires plane { IsImagePlane plane.now }
+    requires window { IsWindow plane.now window.now }
+    requires there { IsUnder plane.now window.now y }
+    ensures long { length result.now ≡ plane.now.ratio.down * plane.now.info.now.width }
+    ensures rows { HasRows plane.now.info.now plane.now.samples.now plane.now.component plane.now.ratio.down y result.now }
+{
+    let width = plane.info.width as usize;
+    let down = plane.ratio.down as usize;
+    let first = down * y - window.lines * window.at as usize;
+    part(window.rows, first * width, down * width)
+}
+
+// Row y of the plane, as many samples as `out` has, from the rows of the image under it.
+fn plane_row(plane: &ImagePlane, window: &Window, y: usize, out: &mut [u8])
+    requires plane { IsImagePlane plane.now }
+    requires window { IsWindow plane.now window.now }
+    requires there { IsUnder plane.now window.now y }
+    ensures { out.new ≡ narrowed_row plane.now y (length out.old) }
+{
+    down_rows(
+        rows_under(plane, window, y),
+        plane.info.width,
+        &plane.ratio,
+        out,
+    );
 }
 
 // Row y, of which those that the image makes are `made`, put as row v of the eight.
@@ -105,43 +186,43 @@ fn put_plane_row(
     plane: &ImagePlane,
     made: usize,
     y: usize,
-    rows: &mut [u8],
+    window: &Window,
     out: &mut [u8],
     wide: usize,
     v: usize,
 )
     requires plane { IsImagePlane plane.now }
-    requires few { (1 ≤ made) × (made ≤ 1000000) }
-    requires room { length rows.old ≡ plane.now.ratio.down * plane.now.info.now.width }
+    requires window { IsWindow plane.now window.now }
+    requires some { 1 ≤ made }
+    requires under { IsUnder plane.now window.now (min y (made - 1)) }
     requires there { v * wide + wide ≤ length out.old }
-    ensures kept { length rows.new ≡ length rows.old }
     ensures long { length out.new ≡ length out.old }
     ensures here { (u : ℕ) → u < wide → slice_index out.new (v * wide + u) ≡ lower_row plane.now made u y }
     ensures before { (k : ℕ) → k < v * wide → slice_index out.new k ≡ slice_index out.old k }
 {
     let row = place(y, made);
-    plane_row(plane, row, rows, &mut out[v * wide..v * wide + wide]);
+    plane_row(plane, window, row, &mut out[v * wide..v * wide + wide]);
 }
 
 /// Eight rows of a component's plane from row 8 * y on, each of `wide` samples, of which those that the image makes are `made`. The rows of
-/// the image under each are put into `rows`, which has room for them.
+/// the image under them are in a window.
 pub fn block_rows(
     plane: &ImagePlane,
     made: usize,
     y: usize,
-    rows: &mut [u8],
+    window: &Window,
     out: &mut [u8],
     wide: usize,
 )
     requires plane { IsImagePlane plane.now }
-    requires few { (1 ≤ made) × (made ≤ 1000000) × (y ≤ 1000000) }
-    requires room { length rows.old ≡ plane.now.ratio.down * plane.now.info.now.width }
+    requires window { IsWindow plane.now window.now }
+    requires few { (1 ≤ made) × (y ≤ 1000000) }
+    requires under { AreUnder plane.now window.now made y }
     requires eight { length out.old ≡ 8 * wide }
-    ensures kept { length rows.new ≡ length rows.old }
     ensures long { length out.new ≡ length out.old }
     ensures blocks { HasBlocks plane.now made wide y out.new }
 {
     for v in 0..8 {
-        put_plane_row(plane, made, 8 * y + v, rows, out, wide, v);
+        put_plane_row(plane, made, 8 * y + v, window, out, wide, v);
     }
 }

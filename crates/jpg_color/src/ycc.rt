@@ -3,7 +3,7 @@ ghost use Rattle.std.specs.Prelude.{◌≡◌, ◌+◌, ◌*◌, ◌<◌, ◌≤
 ghost use Rattle.jpg_spec.specs.Luminance.{luminance, blue_difference, red_difference, to_ycc};
 ghost use Rattle.jpg_spec.specs.Encoded.{pixel_component};
 ghost use Rattle.jpg_spec.specs.declared.image.ImageKind.TheVariants.{Rgb};
-ghost use Rattle.jpg_color.specs.ColourRows.{component_row};
+ghost use Rattle.jpg_color.specs.ColourRows.{component_row, PutsSixteen, HasMade};
 
 use crate::lanes::{blue_differences, luminances, red_differences};
 
@@ -38,23 +38,6 @@ pub fn to_ycc(r: u8, g: u8, b: u8) -> [u8; 3]
         blue_difference(r, g, b),
         red_difference(r, g, b),
     ]
-}
-
-/// A row of red, green and blue as three rows.
-pub fn ycc_row(pixels: &[u8], ys: &mut [u8], cbs: &mut [u8], crs: &mut [u8])
-    requires pixels { length pixels.now ≡ 3 * length ys.old }
-    requires blue { length cbs.old ≡ length ys.old }
-    requires red { length crs.old ≡ length ys.old }
-    ensures luminance { ys.new ≡ component_row pixels.now 0 (length ys.old) }
-    ensures blue { cbs.new ≡ component_row pixels.now 1 (length ys.old) }
-    ensures red { crs.new ≡ component_row pixels.now 2 (length ys.old) }
-{
-    for x in 0..ys.len() {
-        let ycc = to_ycc(pixels[3 * x], pixels[3 * x + 1], pixels[3 * x + 2]);
-        ys[x] = ycc[0];
-        cbs[x] = ycc[1];
-        crs[x] = ycc[2];
-    }
 }
 
 // Sixteen samples of a component of pixels, of which there are some more.
@@ -129,6 +112,62 @@ fn put_sixteens(pixels: &[u8], i: u8, out: &mut [u8]) -> usize
         put_sixteen(pixels, i, c, out);
     }
     16 * count
+}
+
+// Puts columns 16 * c to 16 * c + 15 of all three components.
+#[inline(always)]
+fn put_three(pixels: &[u8], c: usize, ys: &mut [u8], bs: &mut [u8], rs: &mut [u8])
+    requires more { 48 * c + 64 ≤ length pixels.now }
+    requires first { 16 * c + 16 ≤ length ys.old }
+    requires second { 16 * c + 16 ≤ length bs.old }
+    requires third { 16 * c + 16 ≤ length rs.old }
+    ensures luminance { PutsSixteen pixels.now 0 c ys.old ys.new }
+    ensures blue { PutsSixteen pixels.now 1 c bs.old bs.new }
+    ensures red { PutsSixteen pixels.now 2 c rs.old rs.new }
+{
+    let pixels = part(pixels, c);
+    let y = luminances(pixels);
+    let b = blue_differences(pixels);
+    let r = red_differences(pixels);
+    put_samples(ys, c, &y);
+    put_samples(bs, c, &b);
+    put_samples(rs, c, &r);
+}
+
+// Puts samples of all three by sixteen, and tells how many.
+#[inline(always)]
+fn put_threes(pixels: &[u8], ys: &mut [u8], bs: &mut [u8], rs: &mut [u8]) -> usize
+    requires pixels { length pixels.now ≡ 3 * length ys.old }
+    requires blue { length bs.old ≡ length ys.old }
+    requires red { length rs.old ≡ length ys.old }
+    ensures few { result ≤ length ys.old }
+    ensures luminance { HasMade pixels.now 0 result ys.old ys.new }
+    ensures blue { HasMade pixels.now 1 result bs.old bs.new }
+    ensures red { HasMade pixels.now 2 result rs.old rs.new }
+{
+    let count = sixteens(ys.len());
+    for c in 0..count {
+        put_three(pixels, c, ys, bs, rs);
+    }
+    16 * count
+}
+
+/// A row of red, green and blue as three rows.
+pub fn ycc_row(pixels: &[u8], ys: &mut [u8], cbs: &mut [u8], crs: &mut [u8])
+    requires pixels { length pixels.now ≡ 3 * length ys.old }
+    requires blue { length cbs.old ≡ length ys.old }
+    requires red { length crs.old ≡ length ys.old }
+    ensures luminance { ys.new ≡ component_row pixels.now 0 (length ys.old) }
+    ensures blue { cbs.new ≡ component_row pixels.now 1 (length ys.old) }
+    ensures red { crs.new ≡ component_row pixels.now 2 (length ys.old) }
+{
+    let made = put_threes(pixels, ys, cbs, crs);
+    for x in made..ys.len() {
+        let ycc = to_ycc(pixels[3 * x], pixels[3 * x + 1], pixels[3 * x + 2]);
+        ys[x] = ycc[0];
+        cbs[x] = ycc[1];
+        crs[x] = ycc[2];
+    }
 }
 
 /// The difference of blue of a row of red, green and blue.

@@ -127,6 +127,3 @@ greatest_step xs k g more lt all e =
 
 pub greatest_all : (xs : List ℤ) (k g : ℕ) → length xs ≤ k → All (λ x. nat_abs x ≤ g) (take k xs) → All (λ x. nat_abs x ≤ g) xs
 greatest_all xs k g le all = subst (λ ys. All (λ x. nat_abs x ≤ g) ys) (take_all k xs le) all
-
-pub all_smaller : (xs : List ℤ) (m n : ℕ) → m ≤ n → All (λ x. nat_abs x ≤ m) xs → All (λ x. nat_abs x ≤ n) xs
-all_smaller xs m n le all = All-weaker (λ x. nat_abs x ≤ m) (λ x. nat_abs x ≤ n) (λ (x : ℤ) (h : nat_abs x ≤ m). omega (arith, h, le)) xs all

@@ -1,5 +1,8 @@
 pub mod Bounds
 pub mod Division
+pub mod EightFrequencies
+pub mod EightQuotients
+pub mod Eights
 pub mod Lines
 pub mod Loops
 pub mod Lows

@@ -1,82 +1,73 @@
--- Columns put among rows, one after another: the block in natural order.
-use Rattle.std.proofs.Common.{◌≡◌, ◌≢◌, ℕ, ◌+◌, ◌*◌, ◌/◌, ◌%◌, ◌≤◌, ◌<◌, List, length, take, set, map, All, ℤ, pos, nat_abs, sym, ap, ◌∙◌, subst, arith, ⊎_elim}
+-- Rows put one after another: the block in natural order.
+use Rattle.std.proofs.Common.{◌≡◌, ℕ, ◌+◌, ◌*◌, ◌/◌, ◌%◌, ◌≤◌, ◌<◌, List, [], ◌∷◌, length, set, slice_index_or, All, ℤ, pos, nat_abs, to_z, of_z, sym, ap, ◌∙◌, subst, arith, ⊎_elim}
+use Rattle.std.specs.Int.{w16}
 use Rattle.std.proofs.lemmas.Bool.{cases_lt}
-use Rattle.std.proofs.lemmas.List.{get_or-set_same, get_or-set_other, take_all, ext_get_or}
-use Rattle.std.proofs.lemmas.List.Elements.{All-from_get_or, All-get_or}
-use Rattle.jpg_spec.specs.Lists.{below}
-use Rattle.jpg_spec.specs.Dct.{number_at}
-use Rattle.jpg_spec.specs.ForwardDct.{frequency_rows, frequency_row, frequency_column, forward_dct}
-use Rattle.jpg_spec.proofs.CodedBlocks.{number_is, forward_long}
+use Rattle.std.proofs.lemmas.Int.{to_z-of_z}
+use Rattle.std.proofs.lemmas.List.{get_or-set_same, get_or-set_other, ext_get_or}
+use Rattle.std.proofs.lemmas.List.Elements.{All-from_get_or}
+use Rattle.jpg_spec.specs.Dct.{number_at, column_at}
+use Rattle.jpg_spec.specs.ForwardDct.{forward_dct}
+use Rattle.jpg_spec.proofs.CodedBlocks.{forward_long}
+use Rattle.jpg_dct.specs.declared.lanes.Eight.{Eight}
+use Rattle.jpg_dct.specs.Eights.{IsEight, vector}
+use Rattle.jpg_dct.proofs.Eights.{each_of_eight, fits16, handed, seen}
 
--- one number more of column u
-pub put_here : (out column : List ℤ) (x : ℤ) (k u : ℕ) → x ≡ number_at column k → k < 8 → u < 8 → length out ≡ 64
-    → ((v : ℕ) → v < k → number_at out (8 * v + u) ≡ number_at column v) → (v : ℕ) → v < k + 1 → number_at (set out (8 * k + u) x) (8 * v + u) ≡ number_at column v
-put_here out column x k u is lk lu long old v lv =
+-- one number more
+pub number_set : (f : ℕ → ℤ) (out : List ℤ) (n : ℕ) (x : ℤ) → n < length out → ((k : ℕ) → k < n → number_at out k ≡ f k) → x ≡ f n → (k : ℕ) → k < n + 1 → number_at (set out n x) k ≡ f k
+number_set f out n x there old is k lt =
     ⊎_elim
-    (λ (a : v < k). get_or-set_other out (8 * k + u) (8 * v + u) x (pos 0) (λ e. omega (arith, a, e)) ∙ old v a)
-    (λ (b : k ≤ v). (let e : v ≡ k = omega (arith, b, lv) in
-    ap (λ n. number_at (set out (8 * k + u) x) (8 * n + u)) e ∙ get_or-set_same out (8 * k + u) x (pos 0) (omega (arith, lk, lu, long)) ∙ is ∙ ap (number_at column) (sym e)))
-    (cases_lt v k)
+    (λ (a : k < n). get_or-set_other out n k x (pos 0) (λ e. omega (arith, a, e)) ∙ old k a)
+    (λ (b : n ≤ k). (let e : k ≡ n = omega (arith, b, lt) in ap (number_at (set out n x)) e ∙ get_or-set_same out n x (pos 0) there ∙ is ∙ ap f (sym e)))
+    (cases_lt k n)
 
--- the other columns stay
-pub put_other : (out first : List ℤ) (x : ℤ) (k u : ℕ) → u < 8 → ((v w : ℕ) → w < 8 → w ≢ u → number_at out (8 * v + w) ≡ number_at first (8 * v + w))
-    → (v w : ℕ) → w < 8 → w ≢ u → number_at (set out (8 * k + u) x) (8 * v + w) ≡ number_at first (8 * v + w)
-put_other out first x k u lu old v w lw differ =
-    get_or-set_other out (8 * k + u) (8 * v + w) x (pos 0) (λ e. differ (omega (arith, e, lu, lw))) ∙ old v w lw differ
+-- eight rows of a block
+abbrev pub AreRows : List ℕ → List (List ℤ) → Type 0
+AreRows s rows = (v : ℕ) → v < 8 → (u : ℕ) → u < 8 → number_at (slice_index_or rows v []) u ≡ number_at (forward_dct s) (8 * v + u)
 
--- one column more
-pub column_more : (out new column : List ℤ) (rows : List (List ℤ)) (u : ℕ) → u < 8 → column ≡ frequency_column rows u
-    → ((v w : ℕ) → v < 8 → w < u → number_at out (8 * v + w) ≡ number_at (frequency_column rows w) v)
-    → ((v : ℕ) → v < 8 → number_at new (8 * v + u) ≡ number_at column v)
-    → ((v w : ℕ) → w < 8 → w ≢ u → number_at new (8 * v + w) ≡ number_at out (8 * v + w))
-    → (v w : ℕ) → v < 8 → w < u + 1 → number_at new (8 * v + w) ≡ number_at (frequency_column rows w) v
-column_more out new column rows u lu is old here others v w lv lw =
-    ⊎_elim
-    (λ (a : w < u). others v w (omega (arith, a, lu)) (λ e. omega (arith, e, a)) ∙ old v w lv a)
-    (λ (b : u ≤ w). (let e : w ≡ u = omega (arith, b, lw) in
-    ap (λ n. number_at new (8 * v + n)) e ∙ here v lv ∙ ap (λ l. number_at l v) is ∙ ap (λ n. number_at (frequency_column rows n) v) (sym e)))
-    (cases_lt w u)
+-- as they are handed on
+pub rows_handed : (s : List ℕ) (d : Eight) → ((v : ℕ) → v < 8 → IsEight 8192 (vector d v)) → ((u v : ℕ) → u < 8 → v < 8 → number_at (vector d v) u ≡ number_at (forward_dct s) (8 * v + u))
+    → AreRows s (seen w16 d.v0 ∷ seen w16 d.v1 ∷ seen w16 d.v2 ∷ seen w16 d.v3 ∷ seen w16 d.v4 ∷ seen w16 d.v5 ∷ seen w16 d.v6 ∷ seen w16 d.v7 ∷ [])
+rows_handed s d small is =
+    each_of_eight (λ v xs. (u : ℕ) → u < 8 → number_at xs u ≡ number_at (forward_dct s) (8 * v + u))
+    (λ u lu. handed d.v0 u _ (small 0 (omega arith)) (is u 0 lu (omega arith)))
+    (λ u lu. handed d.v1 u _ (small 1 (omega arith)) (is u 1 lu (omega arith)))
+    (λ u lu. handed d.v2 u _ (small 2 (omega arith)) (is u 2 lu (omega arith)))
+    (λ u lu. handed d.v3 u _ (small 3 (omega arith)) (is u 3 lu (omega arith)))
+    (λ u lu. handed d.v4 u _ (small 4 (omega arith)) (is u 4 lu (omega arith)))
+    (λ u lu. handed d.v5 u _ (small 5 (omega arith)) (is u 5 lu (omega arith)))
+    (λ u lu. handed d.v6 u _ (small 6 (omega arith)) (is u 6 lu (omega arith)))
+    (λ u lu. handed d.v7 u _ (small 7 (omega arith)) (is u 7 lu (omega arith)))
 
--- all of them
-pub block_is : (samples : List ℕ) (out : List ℤ) (rows : List (List ℤ)) (u : ℕ) → u ≡ 8 → length out ≡ 64 → rows ≡ frequency_rows samples
-    → ((v w : ℕ) → v < 8 → w < u → number_at out (8 * v + w) ≡ number_at (frequency_column rows w) v) → out ≡ forward_dct samples
-block_is samples out rows u eu long er all =
-    ext_get_or (pos 0) out (forward_dct samples) (long ∙ sym (forward_long samples))
-    (λ n h. (let few : n < 64 = omega (arith, h, long) in
-    let lv : n / 8 < 8 = omega (arith, few) in
+-- all numbers are there
+number_is_of : (s : List ℕ) (out : List ℤ) (rows : List (List ℤ)) (n : ℕ) → 64 ≤ n → ((k : ℕ) → k < n → number_at out k ≡ column_at rows (k % 8) (k / 8)) → AreRows s rows
+    → (k : ℕ) → k < 64 → number_at out k ≡ number_at (forward_dct s) k
+number_is_of s out rows n end made are k lt =
+    let e : 8 * (k / 8) + k % 8 ≡ k = omega arith in
+    made k (omega (arith, lt, end)) ∙ are (k / 8) (omega (arith, lt)) (k % 8) (omega arith) ∙ ap (number_at (forward_dct s)) e
+
+pub block_is : (s : List ℕ) (out : List ℤ) (rows : List (List ℤ)) (n : ℕ) → 64 ≤ n → length out ≡ 64 → ((k : ℕ) → k < n → number_at out k ≡ column_at rows (k % 8) (k / 8)) → AreRows s rows
+    → out ≡ forward_dct s
+block_is s out rows n end long made are =
+    ext_get_or (pos 0) out (forward_dct s) (long ∙ sym (forward_long s)) (λ k h. number_is_of s out rows n end made are k (omega (arith, h, long)))
+
+-- small numbers
+pub block_small : (s : List ℕ) (d : Eight) → ((v : ℕ) → v < 8 → IsEight 8192 (vector d v)) → ((u v : ℕ) → u < 8 → v < 8 → number_at (vector d v) u ≡ number_at (forward_dct s) (8 * v + u))
+    → All (λ x. nat_abs x ≤ 8192) (forward_dct s)
+block_small s d small is =
+    All-from_get_or (λ x. nat_abs x ≤ 8192) (forward_dct s) (pos 0)
+    (λ k h. (let lt : k < 64 = omega (arith, h, forward_long s) in
+    let lv : k / 8 < 8 = omega (arith, lt) in
+    let lu : k % 8 < 8 = omega arith in
+    let e : 8 * (k / 8) + k % 8 ≡ k = omega arith in
+    subst (λ x. nat_abs x ≤ 8192) (is (k % 8) (k / 8) lu lv ∙ ap (number_at (forward_dct s)) e) ((small (k / 8) lv).small (k % 8) lu)))
+
+-- so that 16 bits hold a number of the rows
+pub number_fits : (s : List ℕ) (d : Eight) (rows : List (List ℤ)) (n : ℕ) → n < 64 → ((v : ℕ) → v < 8 → IsEight 8192 (vector d v))
+    → ((u v : ℕ) → u < 8 → v < 8 → number_at (vector d v) u ≡ number_at (forward_dct s) (8 * v + u)) → AreRows s rows
+    → to_z w16 (of_z w16 (column_at rows (n % 8) (n / 8))) ≡ column_at rows (n % 8) (n / 8)
+number_fits s d rows n lt small is are =
+    let lv : n / 8 < 8 = omega (arith, lt) in
     let lu : n % 8 < 8 = omega arith in
-    let lw : n % 8 < u = omega (arith, lu, eu) in
-    let e : n ≡ 8 * (n / 8) + n % 8 = omega arith in
-    ap (number_at out) e ∙ all (n / 8) (n % 8) lv lw ∙ ap (λ r. number_at (frequency_column r (n % 8)) (n / 8)) er
-    ∙ sym (ap (number_at (forward_dct samples)) e ∙ number_is samples (n / 8) (n % 8) lv lu)))
-
--- the rows are all there
-pub rows_are : (samples : List ℕ) (done : List (List ℤ)) (v : ℕ) → v ≡ 8 → length done ≡ 8 → take v done ≡ map (frequency_row samples) (below v) → done ≡ frequency_rows samples
-rows_are samples done v ev ld e =
-    sym (take_all v done (omega (arith, ev, ld))) ∙ e ∙ ap (λ n. map (frequency_row samples) (below n)) ev
-
--- small numbers of columns in the block
-pub small_block : (out : List ℤ) (u : ℕ) → u ≡ 8 → length out ≡ 64 → ((v w : ℕ) → v < 8 → w < u → nat_abs (number_at out (8 * v + w)) ≤ 8192) → All (λ x. nat_abs x ≤ 8192) out
-small_block out u eu long all =
-    All-from_get_or (λ x. nat_abs x ≤ 8192) out (pos 0)
-    (λ n h. (let few : n < 64 = omega (arith, h, long) in
-    let lv : n / 8 < 8 = omega (arith, few) in
-    let lw : n % 8 < u = omega (arith, eu) in
-    let e : n ≡ 8 * (n / 8) + n % 8 = omega arith in
-    subst (λ k. nat_abs (number_at out k) ≤ 8192) (sym e) (all (n / 8) (n % 8) lv lw)))
-
-pub small_more : (out new column : List ℤ) (u : ℕ) → u < 8 → All (λ x. nat_abs x ≤ 8192) column → length column ≡ 8
-    → ((v w : ℕ) → v < 8 → w < u → nat_abs (number_at out (8 * v + w)) ≤ 8192)
-    → ((v : ℕ) → v < 8 → number_at new (8 * v + u) ≡ number_at column v)
-    → ((v w : ℕ) → w < 8 → w ≢ u → number_at new (8 * v + w) ≡ number_at out (8 * v + w))
-    → (v w : ℕ) → v < 8 → w < u + 1 → nat_abs (number_at new (8 * v + w)) ≤ 8192
-small_more out new column u lu small long old here others v w lv lw =
-    ⊎_elim
-    (λ (a : w < u). subst (λ x. nat_abs x ≤ 8192) (sym (others v w (omega (arith, a, lu)) (λ e. omega (arith, e, a)))) (old v w lv a))
-    (λ (b : u ≤ w). (let e : w ≡ u = omega (arith, b, lw) in
-    subst (λ x. nat_abs x ≤ 8192) (sym (ap (λ n. number_at new (8 * v + n)) e ∙ here v lv))
-    (All-get_or (λ x. nat_abs x ≤ 8192) column v (pos 0) (omega (arith, lv, long)) small)))
-    (cases_lt w u)
-
-pub all_rows : (done : List (List ℤ)) (v : ℕ) → v ≡ 8 → length done ≡ 8 → All (All (λ x. nat_abs x ≤ 4096)) (take v done) → All (All (λ x. nat_abs x ≤ 4096)) done
-all_rows done v ev ld all = subst (λ rs. All (All (λ x. nat_abs x ≤ 4096)) rs) (take_all v done (omega (arith, ev, ld))) all
+    let x : ℤ = column_at rows (n % 8) (n / 8) in
+    let h : nat_abs x ≤ 8192 = subst (λ x. nat_abs x ≤ 8192) (is (n % 8) (n / 8) lu lv ∙ sym (are (n / 8) lv (n % 8) lu)) ((small (n / 8) lv).small (n % 8) lu) in
+    to_z-of_z w16 x (fits16 x (omega (arith, h)))

@@ -1,22 +1,19 @@
 -- Blocks in natural order and in zigzag order.
-use Rattle.std.proofs.Common.{◌≡◌, ℕ, ◌+◌, ◌<◌, ◌≤◌, true, List, [], ◌∷◌, ◌++◌, length, take, set, get_or, slice_index, map, add-one, refl, sym, ap, ◌∙◌, subst, arith, ⊎_elim, ◌≢◌, All, ℤ, pos, nat_lt, nat_abs, to_z, of_z, negsuc, ◌≤ℤ◌, neg_ℤ, rules}
+use Rattle.std.proofs.Common.{◌≡◌, ℕ, ◌+◌, ◌*◌, ◌/◌, ◌%◌, ◌<◌, ◌≤◌, true, List, [], ◌∷◌, ◌++◌, length, take, set, get_or, slice_index, map, add-one, refl, sym, ap, ◌∙◌, subst, arith, ⊎_elim, ◌≢◌, All, ℤ, pos, nat_lt, nat_abs, negsuc, neg_ℤ}
 use Rattle.std.specs.Prelude.{zip}
-use mir.Syntax.{w16}
-use mir.Val.{SFits}
-use Rattle.std.specs.Simd.Lanes.{pick_l}
 use Rattle.std.proofs.lemmas.Bool.{ltb-true, cases_lt}
-use Rattle.std.proofs.lemmas.Int.{to_z-of_z, ints}
-use Rattle.std.proofs.lemmas.List.{get_or-map, get_or_append_left, length-map, take_more_set, take_all, map-append, get_or-set_same, get_or-set_other}
+use Rattle.std.proofs.lemmas.List.{get_or-map, take_more_set, take_all, map-append, get_or-set_same, get_or-set_other}
 use Rattle.std.proofs.lemmas.List.Elements.{All-get_or}
 use Rattle.std.proofs.lemmas.List.Sums.{AllPass-from_list_all}
 use Rattle.jpg_spec.specs.Lists.{below, index_of}
 use Rattle.jpg_spec.specs.Moves.{zigzag}
 use Rattle.jpg_spec.specs.Dct.{number_at}
-use Rattle.jpg_spec.specs.ForwardDct.{multiples, quantised, quantised_block}
-use Rattle.jpg_spec.proofs.Rows.{at_below, map_map, map_alike, by_items}
+use Rattle.jpg_spec.specs.ForwardDct.{multiples, quantised, quantised_block, forward_dct}
+use Rattle.jpg_spec.proofs.Rows.{at_below, map_alike, by_items}
 use Rattle.jpg_dct.specs.Natural.{natural_table}
-use Rattle.jpg_dct.specs.Division.{with_sign, divided, divided_at, Divides, AreDivisors, AreFewer}
-use Rattle.jpg_dct.specs.Lines.{AreWithin}
+use Rattle.jpg_dct.specs.Division.{with_sign, divided, Divides, AreDivisors, AreFewer}
+use Rattle.jpg_dct.specs.declared.lanes.Eight.{Eight}
+use Rattle.jpg_dct.specs.Eights.{IsEight, AreQuotients, vector, quotient_at}
 
 -- THE PLACES of natural indices
 
@@ -48,27 +45,6 @@ places_done table values n long is e = sym (take_all n values (omega (arith, lon
 pub back : (table : List ℕ) → length table ≡ 64 → map (slice_index (natural_table table)) zigzag ≡ table
 back table long = (let e : map (slice_index (natural_table table)) zigzag ≡ map (slice_index table) (below 64) = refl in e ∙ by_items 64 (slice_index table) table 0 long (λ i h. refl))
 
--- A VECTOR in zigzag order
-
-abbrev pub lanes : List ℤ → List ℕ
-lanes xs = map (of_z w16) xs
-
-fits_16 : (v : ℤ) → negsuc 32767 ≤ℤ v → v ≤ℤ pos 32767 → SFits w16 v
-fits_16 v low high = search (rules, low, high, arith, ints)
-
-pub swizzled : (xs : List ℤ) → length xs ≡ 64 → ((k : ℕ) → k < 64 → (negsuc 32767 ≤ℤ get_or xs k (pos 0)) × (get_or xs k (pos 0) ≤ℤ pos 32767))
-    → map (to_z w16) (pick_l 0 (lanes xs ++ lanes xs) zigzag) ≡ map (number_at xs) zigzag
-swizzled xs l fit =
-    map_map (to_z w16) (λ k. get_or (lanes xs ++ lanes xs) k 0) zigzag
-    ∙ map_alike (λ k. nat_lt k 64 ≡ true) (λ k. to_z w16 (get_or (lanes xs ++ lanes xs) k 0)) (λ k. get_or xs k (pos 0)) zigzag one (AllPass-from_list_all (λ x. nat_lt x 64) zigzag refl)
-  where
-    one : (k : ℕ) → nat_lt k 64 ≡ true → to_z w16 (get_or (lanes xs ++ lanes xs) k 0) ≡ get_or xs k (pos 0)
-    one k h =
-        let lt : k < 64 = ltb-true k 64 h in
-        let m = length-map xs (of_z w16) in
-        ap (to_z w16) (get_or_append_left (lanes xs) (lanes xs) 0 k (omega (arith, m, l, lt)) ∙ get_or-map (of_z w16) xs k (pos 0) 0 (omega (arith, l, lt)))
-        ∙ to_z-of_z w16 (get_or xs k (pos 0)) (fits_16 (get_or xs k (pos 0)) (fit k lt).0 (fit k lt).1)
-
 -- DIVIDED BLOCKS
 
 quantised_is : (t : ℤ) (q : ℕ) → quantised t q ≡ with_sign t (multiples (nat_abs t) q)
@@ -82,18 +58,39 @@ zipped : (f : ℕ → ℕ → ℤ) (g : ℕ → ℕ) (ns : List ℕ) → map (λ
 zipped f g [] = refl
 zipped f g (n ∷ ns) = ap (λ (xs : List ℤ). (let l : List ℤ = f n (g n) ∷ xs in l)) (zipped f g ns)
 
-pub coded_block : (values coded : List ℤ) (quants halves factors scales : List ℕ) → AreDivisors quants halves factors scales → length values ≡ 64 → AreWithin 8192 values
-    → ((n : ℕ) → n < 64 → number_at coded n ≡ divided_at values halves factors scales n)
-    → map (number_at coded) zigzag ≡ quantised_block (map (slice_index quants) zigzag) values
-coded_block values coded quants halves factors scales d long small all =
-    map_alike (λ n. nat_lt n 64 ≡ true) (number_at coded) (λ n. quantised (number_at values n) (slice_index quants n)) zigzag one (AllPass-from_list_all (λ x. nat_lt x 64) zigzag refl)
+pub coded_block : (values : List ℤ) (coded : ℕ → ℤ) (quants halves factors scales : List ℕ) → AreDivisors quants halves factors scales
+    → ((n : ℕ) → n < 64 → nat_abs (number_at values n) ≤ 8192)
+    → ((n : ℕ) → n < 64 → coded n ≡ quotient_at (number_at values n) halves factors scales n)
+    → map coded zigzag ≡ quantised_block (map (slice_index quants) zigzag) values
+coded_block values coded quants halves factors scales d small all =
+    map_alike (λ n. nat_lt n 64 ≡ true) coded (λ n. quantised (number_at values n) (slice_index quants n)) zigzag one (AllPass-from_list_all (λ x. nat_lt x 64) zigzag refl)
     ∙ zipped (λ n q. quantised (number_at values n) q) (slice_index quants) zigzag
   where
-    one : (n : ℕ) → nat_lt n 64 ≡ true → number_at coded n ≡ quantised (number_at values n) (slice_index quants n)
+    one : (n : ℕ) → nat_lt n 64 ≡ true → coded n ≡ quantised (number_at values n) (slice_index quants n)
     one n h =
         let lt : n < 64 = ltb-true n 64 h in
-        all n lt ∙ divided_is (number_at values n) (slice_index quants n) (slice_index halves n) (slice_index factors n) (slice_index scales n) (d.at n lt)
-        (All-get_or (λ x. nat_abs x ≤ 8192) values n (pos 0) (omega (arith, long, lt)) small)
+        all n lt ∙ divided_is (number_at values n) (slice_index quants n) (slice_index halves n) (slice_index factors n) (slice_index scales n) (d.at n lt) (small n lt)
+
+-- rows of frequencies, divided
+pub coded_rows : (samples : List ℕ) (rows done : Eight) (quants halves factors scales : List ℕ) → AreDivisors quants halves factors scales
+    → ((v : ℕ) → v < 8 → IsEight 8192 (vector rows v))
+    → ((u v : ℕ) → u < 8 → v < 8 → number_at (vector rows v) u ≡ number_at (forward_dct samples) (8 * v + u))
+    → AreQuotients rows done halves factors scales
+    → map (λ n. number_at (vector done (n / 8)) (n % 8)) zigzag ≡ quantised_block (map (slice_index quants) zigzag) (forward_dct samples)
+coded_rows samples rows done quants halves factors scales d small is all =
+    coded_block (forward_dct samples) (λ n. number_at (vector done (n / 8)) (n % 8)) quants halves factors scales d
+    (λ n lt. (let lv : n / 8 < 8 = omega (arith, lt) in
+    subst (λ x. nat_abs x ≤ 8192) (here n lt) ((small (n / 8) lv).small (n % 8) (omega arith))))
+    (λ n lt. (let lv : n / 8 < 8 = omega (arith, lt) in
+    let e : 8 * (n / 8) + n % 8 ≡ n = omega arith in
+    all (n % 8) (n / 8) (omega arith) lv ∙ ap (λ x. quotient_at x halves factors scales (8 * (n / 8) + n % 8)) (here n lt)
+    ∙ ap (λ m. quotient_at (number_at (forward_dct samples) n) halves factors scales m) e))
+  where
+    here : (n : ℕ) → n < 64 → number_at (vector rows (n / 8)) (n % 8) ≡ number_at (forward_dct samples) n
+    here n lt =
+        let lv : n / 8 < 8 = omega (arith, lt) in
+        let e : 8 * (n / 8) + n % 8 ≡ n = omega arith in
+        is (n % 8) (n / 8) (omega arith) lv ∙ ap (number_at (forward_dct samples)) e
 
 pub are_fewer : (quants halves factors scales : List ℕ) → AreDivisors quants halves factors scales → AreFewer halves scales
 are_fewer quants halves factors scales d = record { half = λ n lt. (d.at n lt).small; scale = λ n lt. (d.at n lt).few }

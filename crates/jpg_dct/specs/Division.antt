@@ -1,6 +1,5 @@
 -- Division by eight quantisers as two multiplications, each of which leaves the high half.
-use Rattle.std.specs.Prelude.{◌≡◌, ℕ, ◌+◌, ◌*◌, ◌/◌, ◌<◌, ◌≤◌, List, length, slice_index, ℤ, pos, negsuc, neg_ℤ, nat_abs}
-use Rattle.jpg_spec.specs.Dct.{number_at}
+use Rattle.std.specs.Prelude.{◌≡◌, ℕ, ◌+◌, ◌*◌, ◌/◌, ◌<◌, ◌≤◌, List, length, slice_index, ℤ, pos, negsuc, neg_ℤ}
 use Rattle.jpg_spec.specs.ForwardDct.{multiples}
 
 -- a magnitude with the sign of a number
@@ -33,11 +32,6 @@ pub record IsNear (d v : ℕ) : Type 0 where
 pub record AreDivisors (quants halves factors scales : List ℕ) : Type 0 where
   pub long : length quants ≡ 64
   pub at : (n : ℕ) → n < 64 → Divides (slice_index quants n) (slice_index halves n) (slice_index factors n) (slice_index scales n)
-
--- number n divided, with its sign
-abbrev pub divided_at : List ℤ → List ℕ → List ℕ → List ℕ → ℕ → ℤ
-divided_at values halves factors scales n =
-    with_sign (number_at values n) (divided (nat_abs (number_at values n)) (slice_index halves n) (slice_index factors n) (slice_index scales n))
 
 pub record AreFewer (halves scales : List ℕ) : Type 0 where
   pub half : (n : ℕ) → n < 64 → slice_index halves n ≤ 8196

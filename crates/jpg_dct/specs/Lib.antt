@@ -1,5 +1,6 @@
 pub mod Both
 pub mod Division
+pub mod Eights
 pub mod Lines
 pub mod Natural
 pub mod OneAnswer

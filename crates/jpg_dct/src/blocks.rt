@@ -3,14 +3,13 @@ ghost use Rattle.std.specs.Prelude.{◌≡◌, ◌+◌, ◌<◌, ◌≤◌, ◌�
 ghost use Rattle.jpg_spec.specs.Moves.{zigzag};
 ghost use Rattle.jpg_spec.specs.Dct.{number_at};
 ghost use Rattle.jpg_spec.specs.ForwardDct.{forward_dct, quantised, quantised_block};
-ghost use Rattle.jpg_dct.specs.Lines.{AreWithin};
-ghost use Rattle.jpg_dct.specs.Division.{divided_at, AreFewer, AreDivisors};
+ghost use Rattle.jpg_dct.specs.Division.{AreDivisors};
 ghost use Rattle.jpg_dct.specs.Natural.{natural_table};
 
-use crate::forward::fdct;
-use crate::quantising::{Divisor, divided, divisor_of};
+use crate::eight_frequencies::frequencies;
+use crate::eight_quotients::{divided_rows, in_zigzag};
+use crate::quantising::{Divisor, divisor_of};
 use std::marker::Model;
-use std::simd::i16x64;
 
 // The natural index of each place in zigzag order, and the place of each natural index.
 pub const ZIGZAG: [usize; 64] = [
@@ -57,47 +56,6 @@ fn natural(table: &[u16; 64]) -> [u16; 64]
     quants
 }
 
-// All numbers divided.
-#[inline(always)]
-fn all(values: &[i32; 64], halves: &[u16; 64], factors: &[u16; 64], scales: &[u16; 64]) -> [i16; 64]
-    requires small { AreWithin 8192 values.now }
-    requires few { AreFewer halves.now scales.now }
-    ensures { (n : ℕ) → n < 64 → number_at result n ≡ divided_at values.now halves.now factors.now scales.now n }
-{
-    let mut coded = [0; 64];
-    for n in 0..64 {
-        coded[n] = divided(values[n], halves[n], factors[n], scales[n]);
-    }
-    coded
-}
-
-// Tells that the number fits its type. It does nothing.
-#[inline(always)]
-fn fits(value: i16)
-    ensures { (negsuc 32767 ≤ℤ value) × (value ≤ℤ pos 32767) }
-{
-    let _ = value;
-}
-
-// Tells that all numbers fit their type. It does nothing.
-#[inline(always)]
-fn all_fit(values: &[i16; 64])
-    ensures { (k : ℕ) → k < 64 → (negsuc 32767 ≤ℤ number_at values.now k) × (number_at values.now k ≤ℤ pos 32767) }
-{
-    for k in 0..64 {
-        fits(values[k]);
-    }
-}
-
-// A block in zigzag order.
-#[inline(always)]
-fn in_zigzag(values: &[i16; 64]) -> [i16; 64]
-    ensures { result ≡ map (number_at values.now) zigzag }
-{
-    all_fit(values);
-    i16x64::from_array(*values).swizzle(ZIGZAG).to_array()
-}
-
 impl Divisors {
     /// The quantisers of a table in zigzag order.
     pub fn new(table: &[u16; 64]) -> Divisors
@@ -127,11 +85,13 @@ impl Divisors {
     }
 
     /// The quantised coefficients of 64 samples, in zigzag order.
+    // It stays a call: within a caller's loop the tables are held in 32 bits, and made narrow again for each block.
+    #[inline(never)]
     pub fn block(&self, samples: &[u8; 64]) -> [i16; 64]
         ensures { result ≡ quantised_block self.now (forward_dct samples.now) }
     {
-        let values = fdct(samples);
-        let coded = all(&values, &self.halves, &self.factors, &self.scales);
-        in_zigzag(&coded)
+        let rows = frequencies(samples);
+        let coded = divided_rows(rows, &self.halves, &self.factors, &self.scales);
+        in_zigzag(coded)
     }
 }

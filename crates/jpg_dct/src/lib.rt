@@ -2,13 +2,17 @@
 #![tactic(auto)]
 
 mod blocks;
+mod eight_frequencies;
+mod eight_quotients;
 mod flat;
 mod forward;
 mod inverse;
+mod lanes;
 mod laws;
 mod narrow;
 mod quality;
 mod quantising;
+mod sample_columns;
 mod table_text;
 mod tables;
 mod wide;

@@ -5,21 +5,21 @@ ghost use Rattle.jpg_dct.specs.Told.{told};
 ghost use Rattle.jpg_spec.specs.Dct.{even_sums, odd_sums, line_sums, column, columns, ranged, sample_row, inverse_dct};
 
 #[inline(always)]
-pub(crate) fn plus(a: i32, b: i32) -> i32
+fn plus(a: i32, b: i32) -> i32
     ensures { result ≡ int_wrap w32 (a +ℤ b) }
 {
     a.wrapping_add(b)
 }
 
 #[inline(always)]
-pub(crate) fn minus(a: i32, b: i32) -> i32
+fn minus(a: i32, b: i32) -> i32
     ensures { result ≡ int_wrap w32 (a -ℤ b) }
 {
     a.wrapping_sub(b)
 }
 
 #[inline(always)]
-pub(crate) fn times(a: i32, b: i32) -> i32
+fn times(a: i32, b: i32) -> i32
     ensures { result ≡ int_wrap w32 (a *ℤ b) }
 {
     a.wrapping_mul(b)
@@ -49,7 +49,7 @@ fn even(i0: i32, i2: i32, i4: i32, i6: i32) -> [i32; 4]
 
 // What the odd frequencies give.
 #[inline(always)]
-pub(crate) fn odd(i1: i32, i3: i32, i5: i32, i7: i32) -> [i32; 4]
+fn odd(i1: i32, i3: i32, i5: i32, i7: i32) -> [i32; 4]
     ensures { result ≡ map (int_wrap w32) (odd_sums i1 i3 i5 i7) }
 {
     let low = plus(i1, i3);

@@ -1,10 +1,9 @@
-// Frequencies as multiples of quantisers (T.81, A.3.4): by division, and 64 at once by two multiplications each.
+// Frequencies as multiples of quantisers (T.81, A.3.4): by division, and what divides by two multiplications.
 ghost use Rattle.std.specs.Prelude.{◌≡◌, ◌+◌, ◌-◌, ◌*◌, ◌/◌, ◌≤◌, ◌<◌, nat_abs, min, map, ℕ, ℤ, pos, length, slice_index, All};
 ghost use Rattle.jpg_spec.specs.Moves.{zigzag};
 ghost use Rattle.jpg_spec.specs.Dct.{number_at};
 ghost use Rattle.jpg_spec.specs.ForwardDct.{multiples, quantised, quantised_block, forward_dct};
-ghost use Rattle.jpg_dct.specs.Lines.{AreWithin};
-ghost use Rattle.jpg_dct.specs.Division.{with_sign, high_part, divided, Divides, IsNear, AreDivisors};
+ghost use Rattle.jpg_dct.specs.Division.{with_sign, Divides, IsNear};
 
 #[inline(always)]
 fn multiples(size: u32, q: u16) -> u32
@@ -112,28 +111,5 @@ pub(crate) fn divisor_of(q: u16) -> Divisor
         half: (4 * few) as u16,
         factor: factor_of(8 * few, v),
         scale: scale_of(v),
-    }
-}
-
-#[inline(always)]
-fn high_part(a: u16, b: u16) -> u16
-    ensures { result ≡ high_part a b }
-{
-    ((u32::from(a) * u32::from(b)) / 65536) as u16
-}
-
-// A number divided, with its sign.
-#[inline(always)]
-pub(crate) fn divided(value: i32, half: u16, factor: u16, scale: u16) -> i16
-    requires small { nat_abs value ≤ 8192 }
-    requires numbers { (half ≤ 8196) × (scale ≤ 16384) }
-    ensures { result ≡ with_sign value (divided (nat_abs value) half factor scale) }
-{
-    let size = value.unsigned_abs() as u16;
-    let whole = high_part(high_part(size + half, factor), scale);
-    if value < 0 {
-        -(whole as i16)
-    } else {
-        whole as i16
     }
 }

@@ -1,25 +1,21 @@
 -- What a byte makes of a file in work.
-use Rattle.std.proofs.Common.{take, ◌<◌, ◌+◌, ◌≡◌, ℕ, ◌≤◌, Bool, true, false, cond, ◌==◌, List, [], ◌∷◌, ◌++◌, length, refl, sym, ap, ◌∙◌, subst, arith, Option, Some, None, Ok, Err, inl, inr}
+use Rattle.std.proofs.Common.{take, ◌<◌, ◌+◌, ◌≡◌, ℕ, ◌≤◌, Bool, true, false, ◌==◌, List, [], ◌∷◌, ◌++◌, length, refl, sym, ap, ◌∙◌, subst, arith, Option, Some, None, Ok, Err, inl, inr}
 use Rattle.std.proofs.lemmas.Bool.Decides.{nat_tests}
 use Rattle.std.proofs.lemmas.List.{length-append, length-take-le}
-use Rattle.std.specs.Prelude.{◌||◌, nat_lt, unwrap_or, option_and_then, slice_index, is_some, is_err, Result}
-use Rattle.jpg_spec.specs.Faults.{Told}
-use Rattle.jpg_spec.specs.Geometry.{Frame, is_progressive}
-use Rattle.jpg_spec.specs.FrameContents.{frame_header}
+use Rattle.std.specs.Prelude.{◌||◌, nat_lt, unwrap_or, slice_index, is_some, is_err, Result}
+use Rattle.jpg_spec.specs.Geometry.{Frame}
 use Rattle.jpg_spec.specs.Scan.{Blocks}
-use Rattle.jpg_spec.specs.Markers.{Segment, process_of_code, is_frame_code, has_frame, has_scan, code_fault, code_fault_if}
-use Rattle.jpg_spec.specs.InForce.{first_some, frame_after, frame_of, heads_of, no_frame, told_some}
+use Rattle.jpg_spec.specs.Markers.{Segment, is_frame_code, has_frame, has_scan, code_fault, code_fault_if}
+use Rattle.jpg_spec.specs.InForce.{frame_after, heads_of, no_frame}
 use Rattle.jpg_spec.specs.History.{has_begun, is_complete}
 use Rattle.jpg_spec.specs.Items.{Item, segment, scan, segments_of, contents_rule}
 use Rattle.jpg_spec.specs.FileMeaning.{Leads}
 use Rattle.jpg_spec.specs.Laws.{frame_of_items}
 use Rattle.jpg_spec.specs.declared.frame.Limits.{Limits}
-use Rattle.jpg_spec.specs.declared.frame.Process.{Process}
-use Rattle.jpg_spec.specs.declared.frame.Process.TheVariants.{Baseline, Extended, Progressive}
-use Rattle.jpg_spec.proofs.FrameFound.{framed, told_process}
+use Rattle.jpg_spec.proofs.FrameFound.{framed}
 use Rattle.jpg_spec.proofs.FrameBehind as behind
 use Rattle.jpg_spec.proofs.FirstPasses.{all_below}
-use Rattle.jpg_spec.proofs.Common.{clash, neither, not_same, or_right, same_of}
+use Rattle.jpg_spec.proofs.Common.{clash, neither, not_same, or_right}
 use Rattle.jpg_spec.proofs.BeforeScans.{no_heads}
 use Rattle.jpg_spec.proofs.Untouched.{frame_stays}
 use Rattle.jpg_coefs.specs.Picture.{Picture, map_of}
@@ -216,7 +212,7 @@ head_after limits bytes old room answer r b h made takes =
     (takes bytes h.items h.blocks (subst (λ l. HeadWhole l bytes h.items h.blocks room.reading room.begun) (sym same) (head_whole limits bytes old room h made)))
 
 -- the contents of its segment break no rule
-unbroken : (limits : Limits) (items : List Item) (contents bytes : List ℕ) (r : Reading) → (s : Scanning limits items contents bytes r) → contents_rule limits (segments_of items) 0xda contents ≡ None
+pub unbroken : (limits : Limits) (items : List Item) (contents bytes : List ℕ) (r : Reading) → (s : Scanning limits items contents bytes r) → contents_rule limits (segments_of items) 0xda contents ≡ None
 unbroken limits items contents bytes r s =
     let place = (s.at).place in
     let of = (s.at).of in

@@ -1,16 +1,16 @@
 -- What a byte between items makes of the bytes so far.
-use Rattle.std.proofs.Common.{◌≡◌, ℕ, suc, ◌+◌, ◌≤◌, false, List, [], ◌∷◌, ◌++◌, length, take, refl, sym, ap, ◌∙◌, subst, arith, Some, None, Ok, Err, inl, inr, ◌⊎◌}
+use Rattle.std.proofs.Common.{◌≡◌, ℕ, suc, ◌+◌, ◌≤◌, List, [], ◌∷◌, ◌++◌, length, take, refl, sym, ap, ◌∙◌, subst, arith, Some, None, Ok, Err, inl, inr, ◌⊎◌}
 use Rattle.std.specs.Prelude.{replicate}
 use Rattle.std.specs.Int.{to_be_bytes, w16}
 use Rattle.std.proofs.lemmas.List.{append_assoc, append-nil, length-append, length-replicate, length-take-le}
 use Rattle.jpg_spec.specs.Scan.{Blocks}
 use Rattle.jpg_spec.specs.Markers.{Segment, Rule, soi, SpellsMarker, SpellsSegment, SpellsSegments, BeginsSegment, PartOfSegment, NoMarkerBytes, TailShows, ShowsNoStart, code_fault, kept_rule}
 use Rattle.jpg_spec.specs.Markers as markers
-use Rattle.jpg_spec.specs.Items.{Item, segment, segments_of, SpellsFront, ends_in_scan, contents_rule}
+use Rattle.jpg_spec.specs.Items.{Item, segment, segments_of, contents_rule}
 use Rattle.jpg_spec.specs.FileMeaning.{no_blocks}
 use Rattle.jpg_spec.specs.FirstFault.{Shows}
 use Rattle.jpg_spec.specs.FileStands.{FileStands}
-use Rattle.jpg_spec.specs.ScanReading.{Beside, LeadingMarker}
+use Rattle.jpg_spec.specs.ScanReading.{Beside}
 use Rattle.jpg_spec.specs.declared.fault.Fault.{Fault}
 use Rattle.jpg_spec.specs.declared.fault.Fault.TheVariants.{NoMarker}
 use Rattle.jpg_spec.specs.declared.frame.Limits.{Limits}

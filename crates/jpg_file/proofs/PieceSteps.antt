@@ -1,11 +1,11 @@
 -- A file in work, piece by piece.
-use Rattle.std.proofs.Common.{◌-◌, Bool, ◌≡◌, ℕ, ◌+◌, ◌<◌, ◌≤◌, true, List, [], ◌∷◌, ◌++◌, length, take, drop, get_or, refl, false, Some, None, Ok, Err, Result, sym, ap, ◌∙◌, subst, arith, inl, inr, ◌⊎◌}
+use Rattle.std.proofs.Common.{◌-◌, Bool, ◌≡◌, ℕ, ◌+◌, ◌<◌, ◌≤◌, true, List, [], ◌∷◌, ◌++◌, length, take, drop, get_or, refl, false, Some, None, Ok, Err, Result, sym, ap, ◌∙◌, subst, arith, inl, inr}
 use Rattle.std.proofs.lemmas.List.{take-take, append-nil, get_or-take, get_or-drop, length-drop, length-take-le, append_assoc, length-append, take_all, take_more, take-append-drop, take-append-le}
 use Rattle.std.proofs.Math.Seq.{take-append-add}
 use Rattle.std.specs.Prelude.{IfErr, Option, is_some}
 use Rattle.jpg_spec.specs.Items.{segments_of}
 use Rattle.jpg_spec.specs.FileMeaning.{meaning_of}
-use Rattle.jpg_spec.specs.FirstFault.{IsFirstFault, Shows}
+use Rattle.jpg_spec.specs.FirstFault.{IsFirstFault}
 use Rattle.jpg_spec.specs.FileStands.{FileStands, IsWholeFile}
 use Rattle.jpg_spec.specs.Laws.{frame_of_items}
 use Rattle.jpg_spec.specs.declared.answers.FaultAt.{FaultAt}

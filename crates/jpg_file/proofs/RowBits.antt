@@ -1,12 +1,11 @@
 -- Bits that are given to a machine while an MCU row is read, of which some wait.
-use Rattle.std.proofs.Common.{◌≡◌, ℕ, ◌+◌, ◌-◌, ◌*◌, ◌/◌, ◌<◌, ◌≤◌, Bool, true, false, List, [], ◌∷◌, ◌++◌, length, take, drop, get_or, refl, sym, ap, ◌∙◌, subst, arith, Ok}
+use Rattle.std.proofs.Common.{◌≡◌, ℕ, ◌+◌, ◌-◌, ◌*◌, ◌/◌, ◌≤◌, Bool, true, false, List, [], ◌∷◌, ◌++◌, length, take, drop, get_or, refl, sym, ap, ◌∙◌, subst, arith, Ok}
 use Rattle.std.proofs.Math.Seq.{drop-append_seam}
 use Rattle.std.proofs.lemmas.List.{append_assoc, append-nil, length-append, length-take-le}
 use Rattle.jpg_spec.specs.Bits.{bits_of, bits_of_bytes}
 use Rattle.jpg_spec.specs.Items.{Item}
 use Rattle.jpg_spec.specs.ScanReading.{ScanPlace, ScanAt, with_byte}
 use Rattle.jpg_spec.specs.declared.frame.Limits.{Limits}
-use Rattle.jpg_spec.proofs.Strings.{length-bits_of}
 use Rattle.jpg_coefs.specs.Picture.{Picture}
 use Rattle.jpg_spec.specs.ScanFaults.{DataShows}
 use Rattle.jpg_coefs.specs.Machine.{Chain, ChainTo, Interval, Kind, TakesBits, fault_of, units_of}
@@ -15,7 +14,7 @@ use Rattle.jpg_coefs.specs.declared.machine.UnitStep.TheVariants as step
 use Rattle.jpg_coefs.specs.declared.machine.Taken.TheVariants as taken
 use Rattle.jpg_coefs.proofs.Chains.{chain_then, chain_stands}
 use Rattle.jpg_file.specs.Data.{AfterBits, EndsWhole, GivesBits, GivesRun}
-use Rattle.jpg_file.specs.InData.{AtWork, AfterByte}
+use Rattle.jpg_file.specs.InData.{AtWork}
 use Rattle.jpg_file.specs.Machine.{any_scan}
 use Rattle.jpg_file.specs.RowData.{RowBits, RowRun, HalfData, AfterRest, scan_answer, work_after}
 use Rattle.jpg_file.specs.declared.data.DataStep.{DataStep}
@@ -24,7 +23,7 @@ use Rattle.jpg_file.specs.declared.machine.ScanReader.{ScanReader}
 use Rattle.jpg_file.specs.declared.scan.InScan.{InScan}
 use Rattle.jpg_file.specs.declared.scan.ScanWork.{ScanWork}
 use Rattle.jpg_file.proofs.Chains.{whole_taken, fault_taken}
-use Rattle.jpg_file.proofs.Runs.{bytes_long, chain_cut, run_cut, run_fault, run_whole}
+use Rattle.jpg_file.proofs.Runs.{bytes_long, chain_cut, run_cut}
 use Rattle.jpg_file.proofs.ScanBytes.{due_more, due_whole, due_fault, data_byte}
 
 -- WHAT A STORE COMES TO

@@ -1,5 +1,5 @@
 -- The machine of a sequential scan among the others, while an MCU row is read.
-use Rattle.std.proofs.Common.{◌≡◌, ◌∙◌, ℕ, Bool, List, refl, sym, ap, subst}
+use Rattle.std.proofs.Common.{◌≡◌, ℕ, Bool, List, sym, subst}
 use Rattle.jpg_coefs.specs.Machine.{Interval, TakesBits}
 use Rattle.jpg_coefs.specs.Picture.{Picture}
 use Rattle.jpg_coefs.specs.declared.machine.Taken.{Taken}

@@ -1,16 +1,15 @@
 -- The data of a scan while an MCU row is read.
-use Rattle.std.proofs.Common.{◌≡◌, ℕ, ◌<◌, ◌≤◌, Bool, true, false, List, [], ◌∷◌, ◌++◌, length, take, get_or, refl, sym, ap, ◌∙◌, subst, arith}
-use Rattle.jpg_spec.specs.Bits.{bits_of, bits_of_bytes}
+use Rattle.std.proofs.Common.{◌≡◌, ℕ, Bool, false, List, [], ◌∷◌, ◌++◌, take, get_or, refl, sym, subst, arith}
+use Rattle.jpg_spec.specs.Bits.{bits_of_bytes}
 use Rattle.jpg_spec.specs.Items.{Item}
-use Rattle.jpg_spec.specs.ScanReading.{ScanAt, with_byte}
 use Rattle.jpg_spec.specs.declared.frame.Limits.{Limits}
 use Rattle.jpg_spec.proofs.ScanSteps.{plain_data}
 use Rattle.jpg_coefs.specs.Picture.{Picture}
 use Rattle.jpg_coefs.proofs.Chains.{chain_stands}
-use Rattle.jpg_file.specs.InData.{AfterByte, ArePlain, AtWork, InData}
+use Rattle.jpg_file.specs.InData.{AfterByte, ArePlain, InData}
 use Rattle.jpg_file.specs.Machine.{any_scan}
 use Rattle.jpg_file.specs.RowMachine.{IsOpenScan}
-use Rattle.jpg_file.specs.RowData.{AfterRest, HalfData, RowBits, RowRun, RunRest, scan_answer, work_after}
+use Rattle.jpg_file.specs.RowData.{AfterRest, HalfData, RowRun, RunRest, scan_answer, work_after}
 use Rattle.jpg_file.specs.declared.data.DataStep.{DataStep}
 use Rattle.jpg_file.specs.declared.data.DataStep.TheVariants as came
 use Rattle.jpg_file.specs.declared.machine.ScanReader.{ScanReader}
@@ -56,7 +55,7 @@ run_in_row limits items contents bytes run n s m now after step waiting gate who
     let byte = get_or run g.early 0 in
     let at = plain_data limits first before.place byte (open_at limits items contents first mid g.between before gate) (plain g.early low) in
     let last = half_after limits items contents (first ++ byte ∷ []) before.place byte s.gate (mid.work) g.between after step waiting m before.of at gate before.work whole g.last in
-    record { mid = mid; between = g.between; early = g.early; count = g.count; within = low; before = before; last = as_last step last }
+    record { mid = mid; between = g.between; early = g.early; count = g.count; within = low; «open» = gate; before = before; last = as_last step last }
   where
     as_last : (step : DataStep) → AfterRest limits items contents ((bytes ++ take g.early run) ++ get_or run g.early 0 ∷ []) (scan_answer step) waiting (record { gate = s.gate; work = work_after (record (s.work) { machine = g.mid }) m step }) after
         → AfterRest limits items contents ((bytes ++ take g.early run) ++ get_or run g.early 0 ∷ []) (scan_answer step) waiting (record { gate = s.gate; work = work_after s.work m step }) after

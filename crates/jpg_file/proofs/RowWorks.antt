@@ -1,17 +1,18 @@
 -- The MCU row in work: what its data came to, and how many of its units are left.
-use Rattle.std.proofs.Common.{◌≡◌, ℕ, ◌+◌, ◌-◌, ◌*◌, ◌/◌, ◌<◌, ◌≤◌, ◌==◌, Bool, List, [], ◌∷◌, ◌++◌, length, take, drop, get_or, refl, sym, ap, ◌∙◌, subst, arith, Ok}
+use Rattle.std.proofs.Common.{◌≡◌, ℕ, ◌+◌, ◌-◌, ◌*◌, ◌/◌, ◌≤◌, ◌==◌, Bool, List, [], ◌++◌, length, drop, get_or, sym, ap, ◌∙◌, subst, arith, Ok}
 use Rattle.std.proofs.lemmas.List.{append_cancel_left, append-nil, length-append, length-drop, take-append-drop, take_all}
 use Rattle.jpg_spec.specs.Bits.{bits_of, bits_of_bytes}
 use Rattle.jpg_spec.proofs.Strings.{length-bits_of}
 use Rattle.jpg_coefs.specs.Picture.{Picture}
 use Rattle.jpg_coefs.specs.Machine.{TakesBits}
+use Rattle.jpg_coefs.specs.declared.machine.UnitFault.{UnitFault}
 use Rattle.jpg_coefs.specs.declared.machine.Taken.{Taken}
 use Rattle.jpg_coefs.specs.declared.machine.Taken.TheVariants as taken
 use Rattle.jpg_coefs.specs.declared.machine.UnitStep.TheVariants as step
 use Rattle.jpg_coefs.proofs.Chains.{some_taken}
 use Rattle.jpg_seq.specs.Rows.{IsRowOf}
 use Rattle.jpg_file.specs.Machine.{any_scan, reader_left}
-use Rattle.jpg_file.specs.RowMachine.{IsOpenScan, PassesRow, TakesRowBits}
+use Rattle.jpg_file.specs.RowMachine.{PassesRow, TakesRowBits}
 use Rattle.jpg_file.specs.RowCounts.{CountsRow, counted}
 use Rattle.jpg_file.specs.RowData.{RowBits, RowRun, TakesRowData, TakesRowRun}
 use Rattle.jpg_file.specs.declared.data.DataStep.{DataStep}
@@ -19,8 +20,8 @@ use Rattle.jpg_file.specs.declared.data.DataStep.TheVariants as came
 use Rattle.jpg_file.specs.declared.machine.ScanReader.{ScanReader}
 use Rattle.jpg_file.specs.declared.rows.RowStep.{RowStep}
 use Rattle.jpg_file.specs.declared.rows.RowWork.{RowWork}
-use Rattle.jpg_file.proofs.RowBits.{chain_all, run_rest, run_given, run_shown}
-use Rattle.jpg_file.proofs.Runs.{bytes_long, run_whole, run_fault}
+use Rattle.jpg_file.proofs.RowBits.{chain_all, run_rest}
+use Rattle.jpg_file.proofs.Runs.{bytes_long}
 
 -- as many units as the machine passed
 pub units_passed : (most : ℕ) (m new : ScanReader) (answer : Taken) → (p : PassesRow most m answer new) → any_scan.left m ≡ any_scan.left new + p.passes.units
@@ -32,9 +33,17 @@ few_passed most m new taken.Units p = omega (arith, p.passes.few.0)
 few_passed most m new taken.IntervalDone p = p.passes.few.0
 few_passed most m new (taken.Fault f) p = omega (arith, p.passes.few)
 
+-- bits that end no interval
+pub more_goes : (n : ℕ) → (let s : DataStep = came.More in s) ≡ came.Whole → n ≡ 0
+more_goes n e = absurd cc
+
+pub fault_goes : (n : ℕ) (f : UnitFault) → (let s : DataStep = came.Fault f in s) ≡ came.Whole → n ≡ 0
+fault_goes n f e = absurd cc
+
 pub counts_row : (w mid new : RowWork) (m after : ScanReader) (answered : Taken) (came_to : DataStep) (units : ℕ) (result : RowStep) → (p : PassesRow w.left m answered after) → units ≡ p.passes.units → mid.tops ≡ w.tops → mid.steps ≡ w.steps → mid.units ≡ w.units → mid.later ≡ w.later
-    → mid.left ≡ w.left → new ≡ counted mid units → result ≡ record { step = came_to; row = (mid.left - units) == 0 } → (1 ≤ length mid.waiting → units ≡ w.left) → CountsRow w m result new after
-counts_row w mid new m after answered came_to units result p count tops steps size later left is answer waits =
+    → mid.left ≡ w.left → new ≡ counted mid units → result ≡ record { step = came_to; row = (mid.left - units) == 0 } → (1 ≤ length mid.waiting → units ≡ w.left) → (came_to ≡ came.Whole → any_scan.left after ≡ 0)
+    → CountsRow w m result new after
+counts_row w mid new m after answered came_to units result p count tops steps size later left is answer waits ended =
     let n : new.left ≡ mid.left - units = ap (λ (q : RowWork). q.left) is in
     let few = few_passed w.left m after answered p in
     let W : List Bool → Type 0 = λ z. 1 ≤ length z → units ≡ w.left in
@@ -51,6 +60,8 @@ counts_row w mid new m after answered came_to units result p count tops steps si
       old_is = p.old_is;
       new_is = p.new_is;
       cursor = p.passes.cursor;
+      interval = units_passed w.left m after answered p;
+      ended = λ e. ended (sym (ap (λ (q : RowStep). q.step) answer) ∙ e);
       whole = ap (λ (q : RowStep). q.row) answer ∙ ap (λ k. k == 0) (sym n);
       wait = λ some. omega (arith, n, left, all some);
     }

@@ -1,7 +1,7 @@
 -- A scan header that breaks no rule, where its scan begins (T.81, B.2.3).
 use Rattle.std.specs.Prelude.{◌≡◌, ℕ, false, List, length, Option, None, Some}
-use Rattle.jpg_spec.specs.Geometry.{Frame}
-use Rattle.jpg_spec.specs.Segments.{ScanHead}
+use Rattle.jpg_spec.specs.Geometry.{Frame, units}
+use Rattle.jpg_spec.specs.Segments.{ScanHead, head_components}
 use Rattle.jpg_spec.specs.ScanContents.{IsHead}
 use Rattle.jpg_spec.specs.FrameHeader.{IsFrame}
 use Rattle.jpg_spec.specs.Scan.{Blocks, scan_coding}
@@ -15,6 +15,7 @@ use Rattle.jpg_seq.specs.NewReader.{in_force}
 use Rattle.jpg_file.specs.InData.{InData}
 use Rattle.jpg_file.specs.Items.{IsBeside}
 use Rattle.jpg_file.specs.NewScan.{IsBareScan, IsScanHeader}
+use Rattle.jpg_file.specs.RowPlaces.{scan_left}
 use Rattle.jpg_file.specs.declared.machine.ScanReader.{ScanReader}
 use Rattle.jpg_file.specs.declared.scan.InScan.{InScan}
 
@@ -56,7 +57,7 @@ StandsAtFirst f head set interval now s =
 -- it does so in a place, whatever picture there is
 abbrev pub IsBegun : Frame → ScanHead → TableSet → ℕ → Option InScan → Type 0
 IsBegun f head set interval place =
-    (s : InScan) × (place ≡ Some s) × (s.gate ≡ false) × ((now : Picture) → HasSizes now → StandsAtFirst f head set interval now s)
+    (s : InScan) × (place ≡ Some s) × (s.gate ≡ false) × (scan_left s.work ≡ length (units f (head_components head))) × ((now : Picture) → HasSizes now → StandsAtFirst f head set interval now s)
 
 -- the scan of this machine before any data, and such a scan in a place, without its tables
 abbrev pub before_data : ScanReader → ℕ → ℕ → InScan

@@ -1,7 +1,7 @@
 -- Which scans there were, and the quantisation table of each component at its first one (T.81, B.2.3, B.2.4.1, G.1.1.1).
 use Rattle.std.specs.Prelude.{◌≡◌, ℕ, ◌<◌, ◌≤◌, Bool, true, false, is_none, if◌then◌else◌, List, [], length, map, Option, Some, None}
 use Rattle.jpg_spec.specs.Lists.{all_of, below, is_among}
-use Rattle.jpg_spec.specs.Geometry.{Frame, component_at}
+use Rattle.jpg_spec.specs.Geometry.{Frame, component_at, is_progressive}
 use Rattle.jpg_spec.specs.Segments.{QuantTable, ScanHead}
 use Rattle.jpg_spec.specs.QuantContents.{Slots, quant_in}
 use Rattle.jpg_spec.specs.Markers.{Segment, has_frame}
@@ -29,6 +29,11 @@ is_same_kept kept f slots i = is_same_table (quant_in kept i) (quant_in slots (c
 abbrev pub StandsForHeads : Option Progress → Frame → List ScanHead → Type 0
 StandsForHeads None f heads = heads ≡ []
 StandsForHeads (Some p) f heads = StandsForScans p f heads
+
+-- All components were in a scan, and the frame is sequential, whatever scans of whatever frame there were.
+abbrev pub HasBegunAll : Option Progress → Type 0
+HasBegunAll o =
+    (f : Frame) (heads : List ScanHead) → StandsForHeads o f heads → (is_progressive f.process ≡ false) × ((i : ℕ) → i < length f.components → has_begun heads i ≡ true)
 
 -- whether each component of a frame was in a scan, whatever scans of whatever frame there were
 abbrev pub IsComplete : Option Progress → Bool → Type 0

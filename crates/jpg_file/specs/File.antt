@@ -35,6 +35,10 @@ limits_of w = w.reading.items.limits
 abbrev pub keeping_of : FileWork → Copying
 keeping_of w = w.reading.items.held.keeping
 
+-- the file with this picture
+abbrev pub with_picture : FileWork → Picture → FileWork
+with_picture w whole = record w { reading = record w.reading { coefs = Some whole } }
+
 -- The blocks that the items lead to are those of the picture. There is none before the first scan, and then they are zeros.
 abbrev pub PictureSoFar : Limits → List Item → Blocks → Option Picture → Type 0
 PictureSoFar limits items blocks None = (has_scan (segments_of items) ≡ false) × (blocks ≡ no_blocks)

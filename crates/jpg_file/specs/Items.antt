@@ -2,7 +2,7 @@
 use Rattle.std.specs.Prelude.{◌≡◌, ◌⊎◌, ℕ, ◌+◌, ◌≤◌, List, [], ◌∷◌, ◌++◌, length, take, None}
 use Rattle.jpg_spec.specs.Scan.{Blocks}
 use Rattle.jpg_spec.specs.Markers.{SpellsMarker, SpellsSegment, code_fault, kept_rule}
-use Rattle.jpg_spec.specs.Items.{Item, segment, scan, segments_of, SpellsFront}
+use Rattle.jpg_spec.specs.Items.{Item, segment, scan, segments_of}
 use Rattle.jpg_spec.specs.FileMeaning.{Leads, no_blocks}
 use Rattle.jpg_spec.specs.FirstFault.{Shows}
 use Rattle.jpg_spec.specs.ScanReading.{Beside}

@@ -15,11 +15,13 @@ pub mod PictureKept
 pub mod PictureRead
 pub mod KeepingLaws
 pub mod StripHead
+pub mod Strips
 pub mod FirstHead
 pub mod Restarts
 pub mod RowMachine
 pub mod RowCounts
 pub mod RowPlaces
+pub mod RowTurns
 pub mod RowData
 pub mod WriteTables
 pub mod WriteDue

@@ -5,15 +5,19 @@ use Rattle.jpg_spec.specs.InForce.{frame_of}
 use Rattle.jpg_spec.specs.Geometry.{Frame}
 use Rattle.jpg_spec.specs.FrameHeader.{IsFrame}
 use Rattle.jpg_spec.specs.Scan.{Blocks}
+use Rattle.jpg_spec.specs.FileMeaning.{scan_after}
 use Rattle.jpg_spec.specs.FirstFault.{Shows}
 use Rattle.jpg_spec.specs.declared.frame.Limits.{Limits}
 use Rattle.jpg_coefs.specs.Picture.{Picture, map_of}
-use Rattle.jpg_markers.specs.Reading.{reading_of}
+use Rattle.jpg_markers.specs.Reading.{HasRoom, reading_of}
+use Rattle.jpg_spec.specs.declared.frame.Copying.TheVariants as copying
+use Rattle.jpg_file.specs.Begin.{HasSizes}
 use Rattle.jpg_file.specs.InData.{InData}
 use Rattle.jpg_file.specs.Begun.{HasBegun}
 use Rattle.jpg_file.specs.declared.begun.Begun.{Begun}
 use Rattle.jpg_file.specs.declared.items.Items.{Items}
 use Rattle.jpg_file.specs.Items.{BetweenItems, BehindSegment, BehindHead, AfterItem, AfterScan, PassesItems}
+use Rattle.jpg_file.specs.RowPlaces.{scan_left}
 use Rattle.jpg_file.specs.declared.scan.InScan.{InScan}
 use Rattle.jpg_file.specs.declared.items.ItemStep.{ItemStep}
 use Rattle.jpg_file.specs.declared.items.ItemStep.TheVariants.{More, Head, Eoi, Fault, NoMemory}
@@ -85,6 +89,10 @@ pub record HeadWhole (limits : Limits) (bytes : List ℕ) (items : List Item) (b
   pub count : r.taken ≡ length bytes
   pub same : (reading_of (r.items).segments).taken ≡ r.taken
 
+-- with this picture
+abbrev pub with_coefs : Reading → Picture → Reading
+with_coefs r now = record r { coefs = Some now }
+
 abbrev pub AfterHead : Limits → List ℕ → List Item → Items → ItemStep → Reading → Begun → Type 0
 AfterHead limits bytes items old More r b = Scanning limits items (reading_of old.segments).contents bytes r × HasBegun limits b ((0xda, (reading_of old.segments).contents) ∷ segments_of items)
 AfterHead limits bytes items old Head r b = ⊥
@@ -96,6 +104,16 @@ AfterHead limits bytes items old NoMemory r b = ⊥
 abbrev pub TakesHead : Reading → Begun → ItemStep → Reading → Begun → Type 0
 TakesHead old before answer new b =
     (bytes : List ℕ) (items : List Item) (blocks : Blocks) → HeadWhole old.items.limits bytes items blocks old before → AfterHead old.items.limits bytes items old.items answer new b
+
+-- there is a picture with which a header is whole
+abbrev pub CanBeginHead : Reading → Begun → Type 0
+CanBeginHead r b = (now : Picture) × HasSizes now × ((bytes : List ℕ) × (items : List Item) × (blocks : Blocks) × HeadWhole r.items.limits bytes items blocks (with_coefs r now) b)
+
+-- all units of the scan that begins are left
+abbrev pub LeavesAll : Reading → Begun → ItemStep → Reading → Type 0
+LeavesAll old before answer new =
+    (bytes : List ℕ) (items : List Item) (blocks : Blocks) (now : Picture) (scan : InScan) → HeadWhole old.items.limits bytes items blocks (with_coefs old now) before → new.scan ≡ Some scan → answer ≡ More
+    → scan_left scan.work ≡ length (scan_after old.items.limits (segments_of items) (reading_of old.items.segments).contents).places
 
 abbrev pub TakesByteOfItems : Reading → ℕ → ItemStep → Reading → Type 0
 TakesByteOfItems old byte answer new =
@@ -143,3 +161,10 @@ pub record PassesReading (old : Reading) (bytes : List ℕ) (n : ℕ) (new : Rea
   pub scan : new.scan ≡ old.scan
   pub taken : new.taken ≡ old.taken + n
   pub items : PassesItems old.items bytes n new.items
+
+-- A scan began, there is room for the contents of a segment, and no further marker is kept: only JFIF and Adobe segments are wanted, and
+-- behind the first scan header these are none.
+pub record IsSparing (r : Reading) : Type 0 where
+  pub keeping : r.items.held.keeping ≡ copying.None
+  pub scanned : r.items.held.scanned ≡ true
+  pub room : HasRoom r.items.segments

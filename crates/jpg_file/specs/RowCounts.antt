@@ -1,6 +1,8 @@
 -- How many units of the MCU row in work are left.
 use Rattle.std.specs.Prelude.{◌≡◌, ℕ, ◌+◌, ◌-◌, ◌≤◌, ◌==◌, drop, length}
 use Rattle.jpg_seq.specs.declared.reader.SeqReader.{SeqReader}
+use Rattle.jpg_file.specs.Machine.{any_scan}
+use Rattle.jpg_file.specs.declared.data.DataStep.TheVariants as came
 use Rattle.jpg_file.specs.declared.machine.ScanReader.{ScanReader}
 use Rattle.jpg_file.specs.declared.machine.ScanReader.TheVariants.{Sequential}
 use Rattle.jpg_file.specs.declared.rows.RowStep.{RowStep}
@@ -22,5 +24,7 @@ pub record CountsRow (w : RowWork) (m : ScanReader) (answer : RowStep) (new : Ro
   pub old_is : m ≡ Sequential old_machine
   pub new_is : after ≡ Sequential new_machine
   pub cursor : new_machine.cursor ≡ drop passed old_machine.cursor
+  pub interval : any_scan.left m ≡ any_scan.left after + passed
+  pub ended : answer.step ≡ came.Whole → any_scan.left after ≡ 0
   pub whole : answer.row ≡ (new.left == 0)
   pub wait : 1 ≤ length new.waiting → new.left ≡ 0

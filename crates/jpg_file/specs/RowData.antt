@@ -103,6 +103,7 @@ pub record RunRest (limits : Limits) (items : List Item) (contents bytes run : L
   pub early : ℕ
   pub count : n ≡ early + 1
   pub within : early < length run
+  pub «open» : mid.gate ≡ false
   pub before : InData limits items contents (bytes ++ take early run) mid between
   pub last : AfterRest limits items contents ((bytes ++ take early run) ++ slice_index run early ∷ []) answer waiting new now
 

@@ -1,7 +1,9 @@
 // A whole file in work, byte by byte (T.81, B.2.1).
-ghost use Rattle.std.specs.Prelude.{◌≡◌, ◌<◌, ◌+◌, ◌++◌, ℕ, List, [], ◌∷◌, ◌≤◌, length, slice_index, IfErr};
+ghost use Rattle.std.specs.Prelude.{◌≡◌, ◌<◌, ◌+◌, ◌++◌, ℕ, List, [], ◌∷◌, ◌≤◌, length, slice_index, IfErr, Err};
 ghost use Rattle.jpg_spec.specs.FrameHeader.{AreLimits};
-ghost use Rattle.jpg_file.specs.File.{HeadStands, NotesHead, PassesFront, RoomMade, Stands, TakesFileByte, TakesFileEnd, TakesFileHead, TakesFileStep, TakesSome, keeping_of, limits_of};
+ghost use Rattle.jpg_base.specs.declared.stop.Stop.TheVariants as stop;
+ghost use Rattle.jpg_coefs.specs.Picture.{Picture};
+ghost use Rattle.jpg_file.specs.File.{HeadStands, NotesHead, PassesFront, RoomMade, Stands, TakesFileByte, TakesFileEnd, TakesFileHead, TakesFileStep, TakesSome, keeping_of, limits_of, with_picture};
 ghost use Rattle.jpg_file.specs.InData.{ArePlain};
 ghost use Rattle.jpg_file.specs.Reading.{IsOpenScan};
 
@@ -84,14 +86,15 @@ impl FileWork {
         (n + 1, self.byte(bytes[n]))
     }
 
-    // Takes contents of a segment in work from the front of these bytes, the last of them and that of the segment
-    // left out, and reports how many they were.
-    fn front(&mut self, bytes: &[u8]) -> usize
+    /// Takes contents of a segment in work from the front of these bytes, the last of them and that of the segment
+    /// left out, and reports how many they were.
+    pub fn front(&mut self, bytes: &[u8]) -> usize
         requires stands { (bytes : List ℕ) × Stands (limits_of self.old) bytes self.old }
         requires limits { AreLimits (limits_of self.old) }
         requires room { self.old.reading.taken < (limits_of self.old).input }
         requires some { 1 ≤ length bytes.now }
         ensures after { PassesFront self.old bytes.now result self.new }
+        ensures head { self.new.head ≡ self.old.head }
         ensures keeping { keeping_of self.new ≡ keeping_of self.old }
     {
         if self.reading.scan.is_some() {
@@ -124,8 +127,8 @@ impl FileWork {
         }
     }
 
-    // Takes a byte, inside the data of a scan or between items.
-    fn step(&mut self, byte: u8) -> ItemStep
+    /// Takes a byte, inside the data of a scan or between items.
+    pub fn step(&mut self, byte: u8) -> ItemStep
         requires stands { (bytes : List ℕ) × Stands (limits_of self.old) bytes self.old }
         requires limits { AreLimits (limits_of self.old) }
         requires room { self.old.reading.taken < (limits_of self.old).input }
@@ -140,10 +143,10 @@ impl FileWork {
         }
     }
 
-    // Takes a scan header that is whole.
+    /// Takes a scan header that is whole.
     #[cold]
     #[inline(never)]
-    fn take_head(&mut self) -> Result<bool, Stop>
+    pub fn take_head(&mut self) -> Result<bool, Stop>
         requires stands { (bytes : List ℕ) × HeadStands (limits_of self.old) bytes self.old }
         ensures after { TakesFileHead self.old result self.new }
         ensures head { IfErr result (λ stop. self.new.head ≡ self.old.head) }
@@ -164,8 +167,8 @@ impl FileWork {
         }
     }
 
-    // Keeps the first scan header.
-    fn note_head(&mut self)
+    /// Keeps the first scan header.
+    pub fn note_head(&mut self)
         ensures { NotesHead self.old self.new }
     {
         if self.head.is_none() {
@@ -191,9 +194,11 @@ impl FileWork {
         Ok(())
     }
 
-    // Takes EOI: the file is whole where each component was in a scan.
-    fn take_end(&self) -> Result<bool, Stop>
-        ensures { TakesFileEnd self.now result }
+    /// Takes EOI, whatever picture there is: the file is whole where each component was in a scan.
+    pub fn take_end(&self) -> Result<bool, Stop>
+        ensures end { TakesFileEnd self.now result }
+        ensures any { (whole : Picture) → TakesFileEnd (with_picture self.now whole) result }
+        ensures memory { result ≡ Err stop.NoMemory → ⊥ }
     {
         if self.begun.is_complete() {
             return Ok(true);
@@ -205,8 +210,8 @@ impl FileWork {
     }
 }
 
-// How many bytes there are before the first FF, at most so many.
-fn plain_length(bytes: &[u8], most: u64) -> usize
+/// How many bytes there are before the first FF, at most so many.
+pub fn plain_length(bytes: &[u8], most: u64) -> usize
     ensures within { result ≤ length bytes.now }
     ensures few { result < 4294967296 }
     ensures room { result ≤ most }

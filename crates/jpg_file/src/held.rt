@@ -1,5 +1,5 @@
 // What the segments of a file told so far (T.81, B.2).
-ghost use Rattle.std.specs.Prelude.{◌≡◌, ◌≤◌, ◌==◌, ◌&&◌, ◌||◌, ◌<◌, All, is_none, not, List, [], ◌∷◌, length, Some, None};
+ghost use Rattle.std.specs.Prelude.{◌≡◌, ◌≤◌, ◌==◌, ◌&&◌, ◌||◌, ◌<◌, All, is_none, not, true, List, [], ◌∷◌, length, Some, None};
 ghost use Rattle.jpg_spec.specs.FrameHeader.{AreLimits};
 ghost use Rattle.jpg_spec.specs.Geometry.{is_progressive};
 ghost use Rattle.jpg_spec.specs.HuffContents.{huffman_in};
@@ -75,6 +75,8 @@ impl Held {
         requires other { code ≡ 0xda → ⊥ }
         requires short { length contents.now ≤ 65533 }
         ensures held { HoldsSegment (told_by self.old) limits code contents.now result (told_by self.new) }
+        ensures memory { self.old.keeping ≡ Copying.None → self.old.scanned ≡ true → result ≡ Took.NoMemory → ⊥ }
+        ensures scanned { self.new.scanned ≡ self.old.scanned }
         ensures keeping { self.new.keeping ≡ self.old.keeping }
     {
         match code {
@@ -90,6 +92,8 @@ impl Held {
 
     fn take_huffmans(&mut self, limits: Limits, contents: &[u8]) -> Took
         ensures held { (before : List Segment) → Holds limits (told_by self.old) before → Takes limits before 0xc4 contents.now result (told_by self.new) }
+        ensures memory { result ≡ Took.NoMemory → ⊥ }
+        ensures scanned { self.new.scanned ≡ self.old.scanned }
         ensures keeping { self.new.keeping ≡ self.old.keeping }
     {
         match read_dht(contents, &mut self.tables) {
@@ -100,6 +104,8 @@ impl Held {
 
     fn take_quants(&mut self, limits: Limits, contents: &[u8]) -> Took
         ensures held { (before : List Segment) → Holds limits (told_by self.old) before → Takes limits before 0xdb contents.now result (told_by self.new) }
+        ensures memory { result ≡ Took.NoMemory → ⊥ }
+        ensures scanned { self.new.scanned ≡ self.old.scanned }
         ensures keeping { self.new.keeping ≡ self.old.keeping }
     {
         match read_dqt(contents, &mut self.quants) {
@@ -110,6 +116,8 @@ impl Held {
 
     fn take_interval(&mut self, limits: Limits, contents: &[u8]) -> Took
         ensures held { (before : List Segment) → Holds limits (told_by self.old) before → Takes limits before 0xdd contents.now result (told_by self.new) }
+        ensures memory { result ≡ Took.NoMemory → ⊥ }
+        ensures scanned { self.new.scanned ≡ self.old.scanned }
         ensures keeping { self.new.keeping ≡ self.old.keeping }
     {
         match read_dri(contents) {
@@ -125,6 +133,8 @@ impl Held {
         requires limits { AreLimits limits }
         requires process { process_of_code code ≡ Some process }
         ensures held { (before : List Segment) → Holds limits (told_by self.old) before → Takes limits before code contents.now result (told_by self.new) }
+        ensures memory { result ≡ Took.NoMemory → ⊥ }
+        ensures scanned { self.new.scanned ≡ self.old.scanned }
         ensures keeping { self.new.keeping ≡ self.old.keeping }
     {
         match read_sof(process, contents, &limits) {
@@ -141,6 +151,8 @@ impl Held {
         requires other { IsOther code }
         requires short { length contents.now ≤ 65533 }
         ensures held { HoldsSegment (told_by self.old) limits code contents.now result (told_by self.new) }
+        ensures memory { self.old.keeping ≡ Copying.None → self.old.scanned ≡ true → result ≡ Took.NoMemory → ⊥ }
+        ensures scanned { self.new.scanned ≡ self.old.scanned }
         ensures keeping { self.new.keeping ≡ self.old.keeping }
     {
         if !is_kept(self.scanned, code, contents) {

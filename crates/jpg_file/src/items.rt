@@ -1,11 +1,11 @@
 // The items of a file, byte by byte, scan data left out (T.81, B.1.1, B.2.1).
-ghost use Rattle.std.specs.Prelude.{◌≡◌, ◌<◌, ◌+◌, ◌++◌, ◌≤◌, ℕ, List, [], ◌∷◌, length, None};
+ghost use Rattle.std.specs.Prelude.{◌≡◌, ◌<◌, ◌+◌, ◌++◌, ◌≤◌, ℕ, List, [], ◌∷◌, length, None, true};
 ghost use Rattle.jpg_spec.specs.FrameHeader.{AreLimits};
 ghost use Rattle.jpg_spec.specs.Scan.{Blocks};
 ghost use Rattle.jpg_spec.specs.Items.{Item};
 ghost use Rattle.jpg_spec.specs.FileMeaning.{no_blocks};
 ghost use Rattle.jpg_spec.specs.declared.frame.Limits.{Limits as Bounded};
-ghost use Rattle.jpg_markers.specs.Reading.{reading_of};
+ghost use Rattle.jpg_markers.specs.Reading.{HasRoom, reading_of};
 ghost use Rattle.jpg_file.specs.Items.{BetweenItems, BehindHead, BehindSegment, JudgesSegment, PassesHead, PassesItems, TakesItemByte, TakesMarker};
 
 use crate::held::{Held, Took};
@@ -59,6 +59,9 @@ impl Items {
         requires room { (reading_of self.old.segments).taken < self.old.limits.input }
         ensures after { TakesItemByte self.old byte result self.new }
         ensures taken { (reading_of self.new.segments).taken ≡ (reading_of self.old.segments).taken + 1 }
+        ensures memory { self.old.held.keeping ≡ Copying.None → self.old.held.scanned ≡ true → HasRoom self.old.segments → result ≡ ItemStep.NoMemory → ⊥ }
+        ensures room { HasRoom self.old.segments → HasRoom self.new.segments }
+        ensures scanned { self.new.held.scanned ≡ self.old.held.scanned }
         ensures keeping { self.new.held.keeping ≡ self.old.held.keeping }
     {
         match self.segments.byte(byte) {
@@ -95,6 +98,8 @@ impl Items {
         requires within { at ≤ self.old.limits.input }
         ensures after { TakesMarker self.old code result self.new }
         ensures taken { (reading_of self.new.segments).taken ≡ at }
+        ensures scanned { self.new.held.scanned ≡ self.old.held.scanned }
+        ensures room { HasRoom self.old.segments → HasRoom self.new.segments }
         ensures keeping { self.new.held.keeping ≡ self.old.held.keeping }
     {
         match self.segments.marker(code, at) {
@@ -112,6 +117,7 @@ impl Items {
     pub fn head_done(&mut self)
         requires { (bytes : List ℕ) × (items : List Item) × (blocks : Blocks) × BehindSegment self.old.limits bytes items blocks self.old }
         ensures behind { PassesHead self.old self.new }
+        ensures scanned { self.new.held.scanned ≡ true }
         ensures limits { self.new.limits ≡ self.old.limits }
         ensures same { (reading_of self.new.segments).taken ≡ (reading_of self.old.segments).taken }
         ensures keeping { self.new.held.keeping ≡ self.old.held.keeping }
@@ -127,6 +133,8 @@ impl Items {
         requires short { length (reading_of self.old.segments).contents ≤ 65533 }
         ensures after { JudgesSegment self.old result self.new }
         ensures same { self.new.segments ≡ self.old.segments }
+        ensures memory { self.old.held.keeping ≡ Copying.None → self.old.held.scanned ≡ true → result ≡ ItemStep.NoMemory → ⊥ }
+        ensures scanned { self.new.held.scanned ≡ self.old.held.scanned }
         ensures keeping { self.new.held.keeping ≡ self.old.held.keeping }
     {
         let code = self.segments.code();

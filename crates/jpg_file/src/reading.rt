@@ -5,7 +5,9 @@ ghost use Rattle.jpg_spec.specs.Scan.{Blocks};
 ghost use Rattle.jpg_spec.specs.Items.{Item};
 ghost use Rattle.jpg_spec.specs.declared.frame.Limits.{Limits as Bounded};
 ghost use Rattle.jpg_markers.specs.Reading.{reading_of};
-ghost use Rattle.jpg_file.specs.Reading.{GoesOn, HeadWhole, IsOpenScan, Itemising, PassesReading, Scanning, TakesByteOfItems, TakesByteOfScan, TakesHead, TakesRunOfScan, has_open};
+ghost use Rattle.jpg_coefs.specs.Picture.{Picture};
+ghost use Rattle.jpg_file.specs.Begin.{HasSizes};
+ghost use Rattle.jpg_file.specs.Reading.{CanBeginHead, GoesOn, HeadWhole, IsOpenScan, IsSparing, Itemising, LeavesAll, PassesReading, Scanning, TakesByteOfItems, TakesByteOfScan, TakesHead, TakesRunOfScan, has_open, with_coefs};
 ghost use Rattle.jpg_file.specs.InData.{ArePlain};
 
 use crate::begin::begin_data;
@@ -32,14 +34,27 @@ impl Reading {
         ensures after { TakesHead self.old begun.old result self.new begun.new }
         ensures keeping { self.new.items.held.keeping ≡ self.old.items.held.keeping }
     {
+        let Some(coefs) = &self.coefs else {
+            return ItemStep::NoMemory;
+        };
+        coefs.checked();
+        self.begin_head(begun)
+    }
+
+    /// The same whatever picture there is.
+    pub fn begin_head(&mut self, begun: &mut Begun) -> ItemStep
+        requires stands { CanBeginHead self.old begun.old }
+        ensures after { (now : Picture) → HasSizes now → TakesHead (with_coefs self.old now) begun.old result (with_coefs self.new now) begun.new }
+        ensures coefs { self.new.coefs ≡ self.old.coefs }
+        ensures left { LeavesAll self.old begun.old result self.new }
+        ensures scanned { result ≡ ItemStep.More → self.new.items.held.scanned ≡ true }
+        ensures keeping { self.new.items.held.keeping ≡ self.old.items.held.keeping }
+    {
         let at = self.taken;
         let Some(held) = &self.items.held.frame else {
             return ItemStep::NoMemory;
         };
         let frame = held.copy();
-        let Some(coefs) = &self.coefs else {
-            return ItemStep::NoMemory;
-        };
         match judge_head(
             self.items.segments.contents(),
             &frame,
@@ -49,7 +64,6 @@ impl Reading {
             Err(fault) => ItemStep::Fault(FaultAt { fault, at }),
             Ok(head) => {
                 frame.checked();
-                coefs.checked();
                 begin_data(
                     &mut self.scan,
                     &frame,
@@ -73,6 +87,8 @@ impl Reading {
         requires room { self.old.taken < self.old.items.limits.input }
         ensures after { TakesByteOfItems self.old byte result self.new }
         ensures coefs { self.new.coefs ≡ self.old.coefs }
+        ensures memory { IsSparing self.old → result ≡ ItemStep.NoMemory → ⊥ }
+        ensures sparing { IsSparing self.old → IsSparing self.new }
         ensures keeping { self.new.items.held.keeping ≡ self.old.items.held.keeping }
     {
         self.taken += 1;

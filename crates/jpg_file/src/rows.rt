@@ -1,13 +1,19 @@
 // The MCU row in work of a scan of all components (T.81, A.2.3).
-ghost use Rattle.std.specs.Prelude.{◌≡◌, ◌<◌, ◌≤◌, ◌+◌, ◌-◌, ◌==◌, [], length, drop};
+ghost use Rattle.std.specs.Prelude.{◌≡◌, ◌<◌, ◌≤◌, ◌+◌, ◌-◌, ◌==◌, IfOk, ℕ, List, [], length, drop};
 ghost use Rattle.jpg_spec.specs.Bits.{bits_of};
+ghost use Rattle.jpg_spec.specs.Geometry.{Frame as Numbers, units};
+ghost use Rattle.jpg_spec.specs.Segments.{head_components};
+ghost use Rattle.jpg_base.specs.Cursor.{AreIn, scan_mcus_down};
+ghost use Rattle.jpg_seq.specs.Rows.{IsRowOf, top_of};
 ghost use Rattle.jpg_file.specs.RowCounts.{CountsRow, counted};
 ghost use Rattle.jpg_file.specs.RowData.{CanTake, IsInsideRow, TakesRowData, TakesRowRun};
+ghost use Rattle.jpg_file.specs.RowTurns.{IsRowIn, KeepsRowIn, TurnsRow, rows_of, unfinished, zero_picture};
 
 use crate::data::DataStep;
 use crate::machine::ScanReader;
-use jpg_base::BitStore;
+use jpg_base::{BitStore, Frame, NoMemory, ScanHead};
 use jpg_coefs::{Coefs, ScanMachine, Taken};
+use std::alloc::Global;
 
 /// The blocks of the MCU row in work, the rows of the components' grids at which it begins and how many rows of each it has, the
 /// units of an MCU row, those that are left of this one, the MCU rows behind it, and bits that wait behind its last one.
@@ -29,7 +35,87 @@ pub struct RowStep {
     pub row: bool,
 }
 
+// The rows of blocks of component `i` in an MCU row: one, where it stands alone, and none, where there is no such component.
+fn rows_of(frame: &Frame, i: u8) -> u32
+    ensures { result ≡ rows_of frame.now i }
+{
+    if i >= frame.count() {
+        0
+    } else if frame.count() == 1 {
+        1
+    } else {
+        u32::from(frame.component(i).v)
+    }
+}
+
+// The same of each component.
+fn steps_of(frame: &Frame) -> [u32; 4]
+    ensures { (i : ℕ) → top_of result i ≡ rows_of frame.now i }
+{
+    frame.checked();
+    [
+        rows_of(frame, 0),
+        rows_of(frame, 1),
+        rows_of(frame, 2),
+        rows_of(frame, 3),
+    ]
+}
+
+// The rows at which the next MCU row begins.
+fn next_tops(tops: &[u32; 4], steps: &[u32; 4]) -> [u32; 4]
+    requires { (i : ℕ) → top_of tops.now i + top_of steps.now i < 4294967296 }
+    ensures { (i : ℕ) → top_of result i ≡ top_of tops.now i + top_of steps.now i }
+{
+    [
+        tops[0] + steps[0],
+        tops[1] + steps[1],
+        tops[2] + steps[2],
+        tops[3] + steps[3],
+    ]
+}
+
 impl RowWork {
+    /// The first MCU row of a scan of all components of a frame.
+    pub fn new(alloc: Global, frame: &Frame, head: &ScanHead) -> Result<RowWork, NoMemory>
+        requires there { AreIn frame.now (head_components head.now) }
+        requires all { length (head_components head.now) ≡ length frame.now.components }
+        ensures zero { IfOk result (λ w. IsRowOf w.tops (zero_picture frame.now) w.coefs) }
+        ensures at { IfOk result (λ w. IsRowIn frame.now (head_components head.now) w (length (units frame.now (head_components head.now)))) }
+        ensures waiting { IfOk result (λ w. w.waiting ≡ []) }
+        ensures first { IfOk result (λ w. w.left ≡ w.units) }
+        ensures count { IfOk result (λ w. unfinished w ≡ scan_mcus_down frame.now (head_components head.now)) }
+    {
+        frame.checked();
+        let mcus = frame.scan_mcus(head);
+        let units = u64::from(mcus.wide) * u64::from(frame.mcu_units(head));
+        let coefs = Coefs::new(alloc, &frame.row())?;
+        Ok(RowWork {
+            coefs,
+            tops: [0; 4],
+            steps: steps_of(frame),
+            units,
+            left: units,
+            later: mcus.high - 1,
+            waiting: BitStore::new(),
+        })
+    }
+
+    /// Goes to the next MCU row, where this one is whole and there is one.
+    pub fn next(&mut self)
+        requires { (f : Numbers) × (components : List ℕ) × (left : ℕ) × IsRowIn f components self.old left }
+        ensures at { KeepsRowIn self.old self.new }
+        ensures of { TurnsRow self.old self.new }
+        ensures waiting { self.new.waiting ≡ self.old.waiting }
+    {
+        if self.left > 0 || self.later == 0 {
+            return;
+        }
+        self.coefs.clear();
+        self.tops = next_tops(&self.tops, &self.steps);
+        self.left = self.units;
+        self.later -= 1;
+    }
+
     // Counts units that are whole.
     fn count(&mut self, units: u64, step: DataStep) -> RowStep
         requires { units ≤ self.old.left }

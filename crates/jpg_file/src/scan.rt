@@ -6,6 +6,7 @@ ghost use Rattle.jpg_spec.specs.declared.frame.Limits.{Limits};
 ghost use Rattle.jpg_coefs.specs.Machine.{fault_of};
 ghost use Rattle.jpg_coefs.specs.Picture.{Picture};
 ghost use Rattle.jpg_file.specs.declared.scan.ScanStep.TheVariants as answer;
+ghost use Rattle.jpg_file.specs.RowPlaces.{scan_left};
 ghost use Rattle.jpg_file.specs.InData.{ArePlain, AtWork, GoesInside, IsInside, MarkerAt, NextBegins, TakesCode, TakesData, TakesRun, TakesScanByte};
 
 use crate::data::{DataStep, take_data};
@@ -137,7 +138,9 @@ impl ScanWork {
     /// Takes a marker's code, whatever picture there is.
     pub fn marker(&mut self, code: u8) -> ScanStep
         requires { (limits : Limits) × (p : ScanPlace) × (bytes : List ℕ) × (now : Picture) × MarkerAt limits bytes p code self.old now }
-        ensures { (now : Picture) → TakesCode self.old now code result self.new }
+        ensures takes { (now : Picture) → TakesCode self.old now code result self.new }
+        ensures left { scan_left self.new ≡ scan_left self.old }
+        ensures done { (last : ℕ) → result ≡ ScanStep.Marker last → scan_left self.new ≡ 0 }
     {
         if !self.whole {
             ScanStep::Fault(Fault::EntropyShort)
@@ -154,7 +157,8 @@ impl ScanWork {
     // Begins the next interval.
     fn next_interval(&mut self)
         requires open { (limits : Limits) × (p : ScanPlace) × (bytes : List ℕ) × (now : Picture) × NextBegins limits bytes p self.old now }
-        ensures { (limits : Limits) (p : ScanPlace) (bytes : List ℕ) (now : Picture) → NextBegins limits bytes p self.old now → AtWork limits p self.new now }
+        ensures begun { (limits : Limits) (p : ScanPlace) (bytes : List ℕ) (now : Picture) → NextBegins limits bytes p self.old now → AtWork limits p self.new now }
+        ensures left { scan_left self.new ≡ scan_left self.old }
     {
         let units = self.interval.min(self.due);
         self.machine.restart(units);

@@ -1,7 +1,10 @@
 // The data of a scan, read MCU row by MCU row (T.81, A.2.3, B.1.1.5).
-ghost use Rattle.std.specs.Prelude.{◌≡◌, ◌<◌, ◌≤◌, [], false, true, length};
-ghost use Rattle.jpg_file.specs.InData.{ArePlain};
+ghost use Rattle.std.specs.Prelude.{◌≡◌, ◌<◌, ◌≤◌, ℕ, [], false, true, length};
+ghost use Rattle.jpg_file.specs.declared.scan.ScanStep.TheVariants as answer;
+ghost use Rattle.jpg_file.specs.InData.{ArePlain, GoesInside};
 ghost use Rattle.jpg_file.specs.RowCounts.{CountsRow};
+ghost use Rattle.jpg_file.specs.RowPlaces.{scan_left};
+ghost use Rattle.jpg_file.specs.RowTurns.{CountsScan};
 ghost use Rattle.jpg_file.specs.RowData.{IsHalfRow, IsInsideRow, IsRowData, TakesByteInRow, TakesRestInRow, TakesRunInRow, scan_answer, work_after};
 
 use crate::data::DataStep;
@@ -33,7 +36,11 @@ impl InScan {
     pub fn byte_in_row(&mut self, rows: &mut RowWork, byte: u8) -> (ScanStep, bool)
         requires inside { IsRowData self.old rows.old }
         requires none { rows.old.waiting ≡ [] }
-        ensures { TakesByteInRow self.old rows.old byte result.0 self.new rows.new }
+        ensures takes { TakesByteInRow self.old rows.old byte result.0 self.new rows.new }
+        ensures counts { CountsScan self.old.work rows.old result.1 self.new.work rows.new }
+        ensures waited { (code : ℕ) → result.0 ≡ answer.Marker code → self.old.gate ≡ true }
+        ensures marker { (code : ℕ) → result.0 ≡ answer.Marker code → result.1 ≡ false }
+        ensures done { (code : ℕ) → result.0 ≡ answer.Marker code → scan_left self.new.work ≡ 0 }
     {
         match self.gate.byte(byte) {
             Passed::More => (ScanStep::More, false),
@@ -53,7 +60,10 @@ impl InScan {
     /// Takes the bits that wait behind the last MCU row, and tells whether a further one is whole with them.
     pub fn rest_in_row(&mut self, rows: &mut RowWork) -> (ScanStep, bool)
         requires { IsHalfRow self.old rows.old }
-        ensures { TakesRestInRow self.old rows.old result.0 self.new rows.new }
+        ensures takes { TakesRestInRow self.old rows.old result.0 self.new rows.new }
+        ensures counts { CountsScan self.old.work rows.old result.1 self.new.work rows.new }
+        ensures goes { GoesInside result.0 }
+        ensures gate { self.new.gate ≡ self.old.gate }
     {
         let got = rows.take_waiting(&mut self.work.machine);
         (self.work.stepped(got.step), got.row)
@@ -68,7 +78,10 @@ impl InScan {
         requires few { length run.now < 4294967296 }
         requires plain { ArePlain run.now }
         requires none { rows.old.waiting ≡ [] }
-        ensures { TakesRunInRow self.old rows.old run.now result.0 result.1 self.new rows.new }
+        ensures takes { TakesRunInRow self.old rows.old run.now result.0 result.1 self.new rows.new }
+        ensures counts { CountsScan self.old.work rows.old result.2 self.new.work rows.new }
+        ensures goes { GoesInside result.1 }
+        ensures gate { self.new.gate ≡ self.old.gate }
     {
         let (n, got) = rows.take_bytes(&mut self.work.machine, run);
         (n, self.work.stepped(got.step), got.row)

@@ -3,8 +3,6 @@ pub mod Distinct
 pub mod HeadSent
 pub mod HeadText
 pub mod Headers
-pub mod Heads
-pub mod Scans
 pub mod SegmentText
 pub mod Tables
 pub mod Taking

@@ -13,13 +13,14 @@ use Rattle.std.proofs.Math.Nat.{mul_comm, le-div_iff_mul-le, div-lt_iff_lt-mul}
 use Rattle.jpg_spec.specs.Lists.{below}
 use Rattle.jpg_spec.specs.Geometry.{Frame, blocks_across, blocks_down, component_at, div_up, factor_sum, mcu_part, mcu_row_frame, mcus_across, mcus_down, no_component, place, units, v_max}
 use Rattle.jpg_spec.specs.FrameHeader.{HasFactors, IsFrame, padded_across, padded_down}
+use Rattle.jpg_spec.specs.ScanRows.{scan_row}
 use Rattle.jpg_spec.specs.declared.frame.Place.{Place}
 use Rattle.jpg_spec.proofs.Common.{length_below}
 use Rattle.jpg_spec.proofs.PlacesFound.{real_in_padded}
 use Rattle.jpg_base.specs.Cursor.{AreIn, IsPadded, scan_mcus_down}
 use Rattle.jpg_base.proofs.Grids.{across_low, down_low}
 use Rattle.jpg_base.proofs.UnitCounts.{length_rows}
-use Rattle.jpg_seq.specs.Rows.{AreInRow, BeginAt, IsInRow, rows_in_mcu, row_units, scan_row, top_of}
+use Rattle.jpg_seq.specs.Rows.{AreInRow, BeginAt, IsInRow, rows_in_mcu, row_units, top_of}
 
 -- LISTS of rows
 

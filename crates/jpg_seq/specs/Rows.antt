@@ -1,7 +1,6 @@
 -- One row of the MCUs of a picture, whose blocks stand alone (T.81, A.2.3).
-use Rattle.std.specs.Prelude.{◌≡◌, ℕ, ◌+◌, ◌-◌, ◌*◌, ◌≤◌, ◌<◌, ◌==◌, if◌then◌else◌, true, List, [], ◌∷◌, drop, length, map, flat_map, slice_index_or, All}
-use Rattle.jpg_spec.specs.Lists.{below}
-use Rattle.jpg_spec.specs.Geometry.{Frame, blocks_across, component_at, mcu_part, mcu_row_frame, mcu_units, mcus_across, padded_blocks, place, scan_mcus_across, units}
+use Rattle.std.specs.Prelude.{◌≡◌, ℕ, ◌+◌, ◌-◌, ◌*◌, ◌≤◌, ◌<◌, ◌==◌, if◌then◌else◌, true, List, drop, length, slice_index_or, All}
+use Rattle.jpg_spec.specs.Geometry.{Frame, component_at, mcu_row_frame, mcu_units, padded_blocks, scan_mcus_across, units}
 use Rattle.jpg_spec.specs.declared.frame.Place.{Place}
 use Rattle.jpg_spec.specs.FrameHeader.{IsFrame}
 use Rattle.jpg_base.specs.Cursor.{AreIn, IsPadded, scan_mcus_down}
@@ -31,13 +30,7 @@ AreInRow f tops places = All (IsInRow f tops) places
 
 -- THE MCU ROWS OF A SCAN
 
--- its places in MCU row k
-abbrev pub scan_row : Frame → List ℕ → ℕ → List Place
-scan_row f [] k = []
-scan_row f (i ∷ []) k = map (λ x. place f i x k) (below (blocks_across f (component_at f i)))
-scan_row f (i ∷ j ∷ more) k = flat_map (λ mx. flat_map (mcu_part f mx k) (i ∷ j ∷ more)) (below (mcus_across f))
-
--- how many there are
+-- how many places it has in an MCU row
 abbrev pub row_units : Frame → List ℕ → ℕ
 row_units f components = scan_mcus_across f components * mcu_units f components
 

@@ -2,9 +2,10 @@
 ghost use Rattle.std.specs.Prelude.{◌≡◌, ℕ, List, length, take, flat_map};
 ghost use Rattle.jpg_spec.specs.Geometry.{Frame as Numbers, mcu_row_frame, units};
 ghost use Rattle.jpg_spec.specs.Lists.{below};
+ghost use Rattle.jpg_spec.specs.ScanRows.{scan_row};
 ghost use Rattle.jpg_spec.specs.declared.frame.Place.{Place};
 ghost use Rattle.jpg_base.specs.Cursor.{scan_mcus_down};
-ghost use Rattle.jpg_seq.specs.Rows.{AreInRow, IsNext, row_units, scan_row};
+ghost use Rattle.jpg_seq.specs.Rows.{AreInRow, IsNext, row_units};
 ghost use Rattle.jpg_coefs.specs.Machine.{KeepsUnits};
 ghost use Rattle.jpg_seq.specs.declared.reader.SeqReader.{SeqReader};
 ghost use Rattle.jpg_seq.specs.Reader.{sequential};

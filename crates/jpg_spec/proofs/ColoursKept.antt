@@ -84,7 +84,7 @@ colours_with f jfif adobe = colours_of (length f.components) (identifiers f.comp
 abbrev behind_first : List Item → List ℕ → List (List ℕ) → List Item → List Segment
 behind_first more contents intervals before = segments_of (more ++ scan contents intervals ∷ before)
 
-same_frame_behind : (limits : Limits) (more : List Item) (contents : List ℕ) (intervals : List (List ℕ)) (before : List Item) (blocks : Blocks) → Leads limits (more ++ scan contents intervals ∷ before) blocks
+pub same_frame_behind : (limits : Limits) (more : List Item) (contents : List ℕ) (intervals : List (List ℕ)) (before : List Item) (blocks : Blocks) → Leads limits (more ++ scan contents intervals ∷ before) blocks
     → frame_of limits (behind_first more contents intervals before) ≡ frame_of limits (segments_of before)
 same_frame_behind limits more contents intervals before blocks l =
     let at = leads_before limits more (scan contents intervals ∷ before) blocks l in

@@ -45,7 +45,7 @@ with_item limits item items bytes front text cut w = record {
 }
 
 -- items with no scan among them are spelled as their segments
-no_scan_spelled : (items : List Item) (bytes : List ℕ) → SpellsFront items bytes → has_scan (segments_of items) ≡ false → SpellsSegments (segments_of items) bytes
+pub no_scan_spelled : (items : List Item) (bytes : List ℕ) → SpellsFront items bytes → has_scan (segments_of items) ≡ false → SpellsSegments (segments_of items) bytes
 no_scan_spelled [] bytes s none = s
 no_scan_spelled (segment code contents ∷ items) bytes s none = (s.0, s.1, s.2, no_scan_spelled items s.0 s.3 (neither (code == 0xda) (has_scan (segments_of items)) none).1, s.4.0, s.4.1)
 no_scan_spelled (scan contents intervals ∷ items) bytes s none = cc

@@ -165,7 +165,7 @@ scan_last first items items' later contents intervals e f g = ap ends_in_scan (f
 behind_stream : (limits : Limits) (bytes x : List ℕ) (items : List Item) (tail : List ℕ) → (w : BehindItems limits bytes items tail) → bytes ++ x ≡ w.front ++ (tail ++ x)
 behind_stream limits bytes x items tail w = ap (λ l. l ++ x) w.cut ∙ append_assoc w.front tail x
 
-inside_stream : (limits : Limits) (bytes x tail : List ℕ) → (i : InsideScan limits bytes tail) → bytes ++ x ≡ i.front ++ (i.head ++ (i.text ++ (tail ++ x)))
+pub inside_stream : (limits : Limits) (bytes x tail : List ℕ) → (i : InsideScan limits bytes tail) → bytes ++ x ≡ i.front ++ (i.head ++ (i.text ++ (tail ++ x)))
 inside_stream limits bytes x tail i =
     ap (λ l. l ++ x) i.cut ∙ append_assoc (i.front ++ i.head ++ i.text) tail x ∙ append_assoc (i.front ++ i.head) i.text (tail ++ x) ∙ append_assoc i.front i.head (i.text ++ (tail ++ x))
 
@@ -273,7 +273,7 @@ in_one limits a b tail tail' i j P e f p =
     subst (λ z. P i.items i.contents z) blocks (subst (λ z. P i.items z j.blocks) (sym f) (subst (λ z. P z j.contents j.blocks) (sym e) p))
 
 -- the headers are the same where the items are
-one_header : (limits : Limits) (a b tail tail' r r' : List ℕ) (i : InsideScan limits a tail) (j : InsideScan limits b tail') → i.head ++ r ≡ j.head ++ r' → (i.contents ≡ j.contents) × (r ≡ r')
+pub one_header : (limits : Limits) (a b tail tail' r r' : List ℕ) (i : InsideScan limits a tail) (j : InsideScan limits b tail') → i.head ++ r ≡ j.head ++ r' → (i.contents ≡ j.contents) × (r ≡ r')
 one_header limits a b tail tail' r r' i j e = let h = segment_once 0xda 0xda i.contents j.contents i.head j.head r r' i.header j.header e in (h.1, h.3)
 
 -- a place that closes is met by no scan that goes on

@@ -59,7 +59,7 @@ head_some f (count ∷ bytes) head told =
 
 -- A FRAME that passed its checks gives places
 
-checked_places : (limits : Limits) (f : Frame) → IsChecked limits f → HasPlaces f
+pub checked_places : (limits : Limits) (f : Frame) → IsChecked limits f → HasPlaces f
 checked_places limits f is =
     let sides = neither (f.width == 0) (f.height == 0) is.some in
     record {
@@ -71,7 +71,7 @@ checked_places limits f is =
 
 -- THE SCAN that a header begins has places
 
-first_some_places : (limits : Limits) (bytes : List ℕ) (before : List Segment) (contents : List ℕ) → IsHeader limits bytes before contents → contents_rule limits before 0xda contents ≡ None → 1 ≤ length (scan_after limits before contents).places
+pub first_some_places : (limits : Limits) (bytes : List ℕ) (before : List Segment) (contents : List ℕ) → IsHeader limits bytes before contents → contents_rule limits before 0xda contents ≡ None → 1 ≤ length (scan_after limits before contents).places
 first_some_places limits bytes before contents is unbroken =
     let found = frame_found limits before is.passed.2 (framed before is.passed.0) in
     let same : frame_of limits before ≡ found.0 = ap (λ o. unwrap_or o no_frame) found.1 in

@@ -114,7 +114,7 @@ same_units s old new others same (p ∷ places) d =
     ∙ ap (λ l. unit_at s old p ∷ l) (same_units s old new others same places d.1)
 
 -- intervals that were read tell the same of a picture that changes behind them
-spelled_still : (s : Scan) (before old new : Blocks) (others : List Place) → ((i x y : ℕ) → any_of (is_at i x y) others ≡ false → new i x y ≡ old i x y) → (front : List (List Place)) (done : List (List ℕ)) → AreApart (joined front) others
+pub spelled_still : (s : Scan) (before old new : Blocks) (others : List Place) → ((i x y : ℕ) → any_of (is_at i x y) others ≡ false → new i x y ≡ old i x y) → (front : List (List Place)) (done : List (List ℕ)) → AreApart (joined front) others
     → SpellsIntervals s before old front done → SpellsIntervals s before new front done
 spelled_still s before old new others same [] [] d k = k
 spelled_still s before old new others same [] (c ∷ done) d k = k
@@ -141,7 +141,7 @@ spelled_join s before after (p ∷ front) (c ∷ done) places coded k h = (k.0, 
 all_places : (s : Scan) (before work : Blocks) (done : List (List ℕ)) (places : List Place) (later : List (List Place)) (w : ScanSoFar s before work done (places ∷ later)) → s.places ≡ joined w.front ++ (places ++ joined later)
 all_places s before work done places later w = sym (joined_chunks s.interval s.places) ∙ ap joined w.cut ∙ joined_join w.front (places ∷ later)
 
-due_apart : (s : Scan) (before work : Blocks) (done : List (List ℕ)) (places : List Place) (later : List (List Place)) → AreDistinct s.places → (w : ScanSoFar s before work done (places ∷ later)) → AreApart (joined w.front) places
+pub due_apart : (s : Scan) (before work : Blocks) (done : List (List ℕ)) (places : List Place) (later : List (List Place)) → AreDistinct s.places → (w : ScanSoFar s before work done (places ∷ later)) → AreApart (joined w.front) places
 due_apart s before work done places later distinct w =
     (apart_less (joined w.front) places (joined later) (apart_of (joined w.front) (places ++ joined later) (subst (λ l. AreDistinct l) (all_places s before work done places later w) distinct))).0
 

@@ -64,7 +64,7 @@ pub or_second : (a b : Bool) → b ≡ true → (a || b) ≡ true
 or_second true b e = refl
 or_second false b e = e
 
-found_below : (test : Place → Bool) (f : ℕ → List Place) (n k : ℕ) → k < n → any_of test (f k) ≡ true → any_of test (flat_map f (below n)) ≡ true
+pub found_below : (test : Place → Bool) (f : ℕ → List Place) (n k : ℕ) → k < n → any_of test (f k) ≡ true → any_of test (flat_map f (below n)) ≡ true
 found_below test f zero k h e = absurd (omega (arith, h))
 found_below test f (suc n) k h e =
     ap (any_of test) (flat_below f n) ∙ any_join test (flat_map f (below n)) (f n)
@@ -72,10 +72,10 @@ found_below test f (suc n) k h e =
     (λ (l : n ≤ k). (let s : k ≡ n = omega (arith, h, l) in or_second (any_of test (flat_map f (below n))) (any_of test (f n)) (ap (λ m. any_of test (f m)) (sym s) ∙ e)))
     (cases_lt k n)
 
-found_row : (test : Place → Bool) (g : ℕ → Place) (n k : ℕ) → k < n → test (g k) ≡ true → any_of test (map g (below n)) ≡ true
+pub found_row : (test : Place → Bool) (g : ℕ → Place) (n k : ℕ) → k < n → test (g k) ≡ true → any_of test (map g (below n)) ≡ true
 found_row test g n k h e = ap (any_of test) (map_is_flat g (below n)) ∙ found_below test (λ x. g x ∷ []) n k h (or_first (test (g k)) false e)
 
-here : (f : Frame) (i x y a b : ℕ) → a ≡ x → b ≡ y → is_at i x y (place f i a b) ≡ true
+pub here : (f : Frame) (i x y a b : ℕ) → a ≡ x → b ≡ y → is_at i x y (place f i a b) ≡ true
 here f i x y a b s t =
     and_intro (i == i && a == x) (b == y) (and_intro (i == i) (a == x) (same_itself i) (ap (λ n. n == x) s ∙ same_itself x)) (ap (λ n. n == y) t ∙ same_itself y)
 
@@ -84,13 +84,13 @@ found_single f i x y a b =
     found_below (is_at i x y) (λ y. map (λ x. place f i x y) (below (blocks_across f (component_at f i)))) (blocks_down f (component_at f i)) y b
     (found_row (is_at i x y) (λ x. place f i x y) (blocks_across f (component_at f i)) x a (here f i x y x y refl refl))
 
-found_part : (f : Frame) (mx my i a b x y : ℕ) → a < (component_at f i).h → b < (component_at f i).v → mx * (component_at f i).h + a ≡ x → my * (component_at f i).v + b ≡ y → any_of (is_at i x y) (mcu_part f mx my i) ≡ true
+pub found_part : (f : Frame) (mx my i a b x y : ℕ) → a < (component_at f i).h → b < (component_at f i).v → mx * (component_at f i).h + a ≡ x → my * (component_at f i).v + b ≡ y → any_of (is_at i x y) (mcu_part f mx my i) ≡ true
 found_part f mx my i a b x y la lb s t =
     let c = component_at f i in
     found_below (is_at i x y) (λ v. map (λ h. place f i (mx * c.h + h) (my * c.v + v)) (below c.h)) c.v b lb
     (found_row (is_at i x y) (λ h. place f i (mx * c.h + h) (my * c.v + b)) c.h a la (here f i x y (mx * c.h + a) (my * c.v + b) s t))
 
-found_parts : (test : Place → Bool) (f : ℕ → List Place) (parts : List ℕ) (i : ℕ) → is_among i parts ≡ true → any_of test (f i) ≡ true → any_of test (flat_map f parts) ≡ true
+pub found_parts : (test : Place → Bool) (f : ℕ → List Place) (parts : List ℕ) (i : ℕ) → is_among i parts ≡ true → any_of test (f i) ≡ true → any_of test (flat_map f parts) ≡ true
 found_parts test f [] i h e = cc
 found_parts test f (j ∷ parts) i h e = any_join test (f j) (flat_map f parts) ∙ by (j == i) refl h (λ k. found_parts test f parts i k e)
   where
@@ -121,14 +121,14 @@ real_in_padded side factor most some =
     least (div_up (side * factor) most) 8 (mcus * factor) (omega arith) samples
 
 -- the MCU of a column
-record Cut (x d n : ℕ) : Type 0 where
-  quot : ℕ
-  rem : ℕ
-  small : rem < d
-  whole : quot * d + rem ≡ x
-  within : quot < n
+pub record Cut (x d n : ℕ) : Type 0 where
+  pub quot : ℕ
+  pub rem : ℕ
+  pub small : rem < d
+  pub whole : quot * d + rem ≡ x
+  pub within : quot < n
 
-cut_at : (x d n : ℕ) → 0 < d → x < n * d → Cut x d n
+pub cut_at : (x d n : ℕ) → 0 < d → x < n * d → Cut x d n
 cut_at x d n some h = record { quot = x / d; rem = x % d; small = omega (arith, some); whole = omega arith; within = (div-lt_iff_lt-mul some).1 h }
 
 found_interleaved : (f : Frame) (parts : List ℕ) (i x y : ℕ) → IsFrame f → i < length f.components → is_among i parts ≡ true → x < blocks_across f (component_at f i) → y < blocks_down f (component_at f i)

@@ -157,7 +157,7 @@ more_done s before turn e f done c u places later done' d v places' later' same 
     })
 
 -- data with a marker behind them
-data_ends : (code code' : ℕ) (c d t r a b u v : List ℕ) → SpellsData c t → SpellsData d r → SpellsMarker code a → SpellsMarker code' b → t ++ (a ++ u) ≡ r ++ (b ++ v) → (c ≡ d) × (u ≡ v)
+pub data_ends : (code code' : ℕ) (c d t r a b u v : List ℕ) → SpellsData c t → SpellsData d r → SpellsMarker code a → SpellsMarker code' b → t ++ (a ++ u) ≡ r ++ (b ++ v) → (c ≡ d) × (u ≡ v)
 data_ends code code' c d t r a b u v s k m n e =
     ⊎_elim
     (λ (g : DataGoOn c t (a ++ u) d r (b ++ v)). (let none = data_no_marker code g.more g.text a (b ++ v) u g.spelled m (sym g.behind) in

@@ -56,10 +56,14 @@ pub mod QuantContents
 pub mod Ranges
 pub mod RedGreenBlue
 pub mod Requests
+pub mod RowLaws
+pub mod RowsShown
+pub mod RowsTold
 pub mod Scan
 pub mod ScanContents
 pub mod ScanFaults
 pub mod ScanReading
+pub mod ScanRows
 pub mod ScanText
 pub mod Script
 pub mod ScriptExamples

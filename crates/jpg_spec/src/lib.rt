@@ -20,6 +20,7 @@ pub mod laws;
 pub mod marker_examples;
 pub mod marker_laws;
 pub mod pixel_examples;
+pub mod row_laws;
 pub mod script_examples;
 pub mod script_laws;
 pub mod shown_laws;

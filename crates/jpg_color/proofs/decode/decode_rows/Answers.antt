@@ -1,12 +1,12 @@
-use Rattle.std.proofs.Common.{sym, subst}
+use Rattle.std.proofs.Common.{sym, subst, ◌∙◌}
 use Rattle.jpg_spec.specs.Pixels.{info, pixels}
 use Rattle.jpg_file.specs.PictureRead.{picture_meaning}
 use Rattle.jpg_pnm_bmp.specs.EndState.{EndState, IsImageInfo}
-use Rattle.jpg_color.proofs.Decoded.{decodes_none, decoded_end, decoded_text, image_info}
+use Rattle.jpg_color.proofs.Decoded.{decodes_none, decoded_end, decoded_text, image_info, told_of}
 use Rattle.jpg_color.proofs.decode.decode_rows.Goals as goal
 
 pub write_image-requires-clause-info : goal.write_image-requires-clause-info
-write_image-requires-clause-info g c = subst IsImageInfo (sym c.info_of-info.ensures) (image_info c.args.picture.now c.args.gray c.requires.admitted)
+write_image-requires-clause-info g c = subst IsImageInfo (sym (c.info_of-info.ensures ∙ told_of c.args.picture.now c.args.gray)) (image_info c.args.picture.now c.args.gray c.requires.admitted)
 
 pub returns-in_default-clause-written : goal.returns-in_default-clause-written
 returns-in_default-clause-written g c =
@@ -18,10 +18,10 @@ pub returns-clause-written : goal.returns-clause-written
 returns-clause-written g c =
     let e : EndState = (goal.ImageEnd-dyn g (c.args.end.now.vtable, c.args.end.now.value)).progress c.args.end.now.value in
     decoded_text (g.D.Desk.state c.args.desk.now) (g.D.Desk.state c.write_image.new.desk) e.kind c.args.picture.now c.args.gray c.args.smooth c.info_of-info.result c.in-Ok.rows c.write_image.result
-    c.info_of-info.ensures c.in-Ok.ensures c.write_image.ensures.written
+    (c.info_of-info.ensures ∙ told_of c.args.picture.now c.args.gray) c.in-Ok.ensures c.write_image.ensures.written
 
 pub returns-clause-end : goal.returns-clause-end
 returns-clause-end g c =
     let e : EndState = (goal.ImageEnd-dyn g (c.args.end.now.vtable, c.args.end.now.value)).progress c.args.end.now.value in
     decoded_end _ e.kind c.args.picture.now c.args.gray c.args.smooth c.info_of-info.result c.in-Ok.rows c.write_image.result
-    c.info_of-info.ensures c.in-Ok.ensures c.write_image.ensures.end
+    (c.info_of-info.ensures ∙ told_of c.args.picture.now c.args.gray) c.in-Ok.ensures c.write_image.ensures.end

@@ -21,5 +21,5 @@ returns c =
     let old = c.args.coefs.now in
     let there = place_there c.args.frame.now old.frame i x y c.checked.ensures c.requires.frame c.requires.there in
     let samples = c.cut_block.ensures ∙ c.requires.blocks x (omega (arith, c.requires.there.across, c.requires.source.wide)) in
-    let block = c.of.ensures ∙ c.block.ensures ∙ ap (λ t. quantised_block s.divisors (forward_dct t)) samples in
+    let block = c.of.ensures ∙ c.block.ensures ∙ ap (λ t. quantised_block s.divisors.now (forward_dct t)) samples in
     subst (λ (q : Picture). Copies (is_place i x y) (source_blocks s) old q) (sym (c.set_block.ensures ∙ ap (λ b. with_block old i x y b) block)) (put_one i x y (source_blocks s) old there c.checked-2.ensures.count)

@@ -1,4 +1,3 @@
-use Rattle.std.proofs.Common.{rules}
 use Rattle.jpg_color.proofs.PixelLanes.{blues_are}
 use Rattle.jpg_color.proofs.lanes.blue_differences.Goals as goal
 

@@ -1,4 +1,3 @@
-use Rattle.std.proofs.Common.{rules}
 use Rattle.jpg_color.proofs.PixelLanes.{luminances_are}
 use Rattle.jpg_color.proofs.lanes.luminances.Goals as goal
 

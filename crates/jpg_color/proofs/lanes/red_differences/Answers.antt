@@ -1,4 +1,3 @@
-use Rattle.std.proofs.Common.{rules}
 use Rattle.jpg_color.proofs.PixelLanes.{reds_are}
 use Rattle.jpg_color.proofs.lanes.red_differences.Goals as goal
 

@@ -4,5 +4,5 @@ use Rattle.jpg_color.proofs.rows.block_rows.Given as goal
 
 abbrev pub invariant-loop-v : goal.invariant-loop-v
 invariant-loop-v l =
-    (length l.rows ≡ length l.fn.rows) × (length l.out ≡ length l.fn.out)
+    (length l.out ≡ length l.fn.out)
     × ((k u : ℕ) → k < l.v → u < l.wide → slice_index l.out (k * l.wide + u) ≡ lower_row l.plane l.made u (8 * l.y + k))

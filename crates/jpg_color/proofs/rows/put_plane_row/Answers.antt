@@ -8,4 +8,4 @@ returns-clause-here c =
     let long : length out ≡ c.args.wide = search rules in
     let low : c.args.v * c.args.wide ≤ length c.args.out.now = search rules in
     λ u lu. put_mid_at (c.args.v * c.args.wide) _ c.args.out.now out u low (omega (arith, long, lu))
-    ∙ placed c.args.plane.now out c.args.made c.args.y c.place-row.result c.args.wide u _ c.plane_row.ensures.value long c.place-row.ensures.value lu
+    ∙ placed c.args.plane.now out c.args.made c.args.y c.place-row.result c.args.wide u _ c.plane_row.ensures long c.place-row.ensures.value lu

@@ -1,4 +1,4 @@
-use Rattle.std.proofs.Common.{rules, ◌∙◌}
+use Rattle.std.proofs.Common.{◌∙◌}
 use Rattle.jpg_color.proofs.PixelLanes.{one_of_sixteen}
 use Rattle.jpg_color.proofs.ycc.put_sixteen.Goals as goal
 

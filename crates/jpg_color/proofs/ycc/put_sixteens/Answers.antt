@@ -1,4 +1,4 @@
-use Rattle.std.proofs.Common.{rules, ◌∙◌, ◌*◌, arith}
+use Rattle.std.proofs.Common.{◌∙◌, ◌*◌, arith}
 use Rattle.jpg_spec.specs.Encoded.{pixel_component}
 use Rattle.jpg_spec.specs.declared.image.ImageKind.TheVariants.{Rgb}
 use Rattle.jpg_sample.proofs.Sums.{made_more}

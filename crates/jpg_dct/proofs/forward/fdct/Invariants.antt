@@ -1,9 +1,6 @@
-use Rattle.std.specs.Prelude.{◌≡◌, ℕ, ◌+◌, ◌*◌, ◌<◌, ◌≤◌, length, nat_abs}
-use Rattle.jpg_spec.specs.Dct.{number_at}
-use Rattle.jpg_spec.specs.ForwardDct.{frequency_column}
+use Rattle.std.specs.Prelude.{◌≡◌, ℕ, ◌/◌, ◌%◌, ◌<◌, length}
+use Rattle.jpg_spec.specs.Dct.{number_at, column_at}
 use Rattle.jpg_dct.proofs.forward.fdct.Given as goal
 
-abbrev pub invariant-loop-u : goal.invariant-loop-u
-invariant-loop-u l =
-    (length l.out ≡ 64) × ((v w : ℕ) → v < 8 → w < l.u → number_at l.out (8 * v + w) ≡ number_at (frequency_column l.rows w) v)
-    × ((v w : ℕ) → v < 8 → w < l.u → nat_abs (number_at l.out (8 * v + w)) ≤ 8192)
+abbrev pub invariant-loop-n : goal.invariant-loop-n
+invariant-loop-n l = (length l.out ≡ 64) × ((k : ℕ) → k < l.n → number_at l.out k ≡ column_at l.rows (k % 8) (k / 8))

@@ -1,4 +1,4 @@
-use Rattle.std.proofs.Common.{◌≡◌, ◌∙◌, ◌*◌, ◌-◌, ℕ, refl, ap, subst, sym, arith}
+use Rattle.std.proofs.Common.{◌≡◌, ◌∙◌, ◌*◌, ℕ, refl, ap, subst, sym, arith}
 use Rattle.jpg_spec.specs.Geometry.{mcu_units}
 use Rattle.jpg_spec.specs.Segments.{head_components}
 use Rattle.jpg_spec.proofs.Common.{some_once}
@@ -7,6 +7,7 @@ use Rattle.jpg_file.specs.Begin.{before_data}
 use Rattle.jpg_file.specs.NewScan.{IsBareScan}
 use Rattle.jpg_file.specs.declared.scan.InScan.{InScan}
 use Rattle.jpg_file.proofs.Beginning.{start_of, first_interval, first_of_scan, in_data, counted, due_behind}
+use Rattle.jpg_file.proofs.RowCounts.{begun_left}
 use Rattle.jpg_file.proofs.begin.begin_data.Goals as goal
 
 pub put_bare-requires : goal.put_bare-requires
@@ -52,6 +53,7 @@ returns c =
       w,
       refl,
       gate,
+      begun_left w.work c.scan_units-all.result c.first_units-first.result (ap (λ (q : InScan). q.work.whole) (sym same)) (ap (λ (q : InScan). q.work.due) (sym same)) c.restart.ensures.left c.first_units-first.ensures.most ∙ c.scan_units-all.ensures,
       λ now sizes limits items blocks contents bytes b. (let f = c.args.frame.now in
           let head = c.args.head.now in
           let set = c.args.tables.now in

@@ -15,4 +15,4 @@ returns-clause-gate c =
 pub returns-clause-begun : goal.returns-clause-begun
 returns-clause-begun c =
     let b = c.begin_data.ensures in
-    subst (λ (s : InScan). StandsAtFirst c.args.frame.now c.args.head.now c.args.tables.now c.args.interval c.args.coefs.now s) (some_once b.0 c.in-Some.scan (sym b.1 ∙ c.in-Some.is)) (b.3 c.args.coefs.now c.checked.ensures.sizes)
+    subst (λ (s : InScan). StandsAtFirst c.args.frame.now c.args.head.now c.args.tables.now c.args.interval c.args.coefs.now s) (some_once b.0 c.in-Some.scan (sym b.1 ∙ c.in-Some.is)) (b.4 c.args.coefs.now c.checked.ensures.sizes)

@@ -1,9 +1,8 @@
-use Rattle.std.proofs.Common.{◌≡◌, ◌+◌, ◌-◌, ◌/◌, ◌≤◌, length, take, drop, subst, sym, ap, ◌∙◌, arith, Bool, List}
+use Rattle.std.proofs.Common.{◌-◌, ◌/◌, length, take, drop, subst, sym, ◌∙◌, arith, Bool, List}
 use Rattle.std.specs.Prelude.{ℕ}
 use Rattle.std.proofs.lemmas.List.{take_all, length-drop}
 use Rattle.jpg_spec.specs.Bits.{bits_of_bytes}
 use Rattle.jpg_coefs.specs.Machine.{TakesBits}
-use Rattle.jpg_coefs.specs.declared.machine.Taken.{Taken}
 use Rattle.jpg_coefs.specs.declared.machine.Taken.TheVariants as taken
 use Rattle.jpg_file.specs.declared.data.DataStep.TheVariants as came
 use Rattle.jpg_file.proofs.Runs.{HasRun, run_begun, run_behind, run_on, run_more, run_whole, run_fault, left_of, some_first}

@@ -1,4 +1,4 @@
-use Rattle.std.proofs.Common.{arith, ap, length, []}
+use Rattle.std.proofs.Common.{arith, ap, length}
 use Rattle.std.proofs.lemmas.List.{length-append}
 use Rattle.jpg_spec.specs.Bits.{bits_of}
 use Rattle.jpg_spec.proofs.Strings.{length-bits_of}

@@ -1,6 +1,6 @@
 use Rattle.std.proofs.Common.{◌≡◌, true, arith}
 use Rattle.jpg_spec.specs.ScanContents.{are_among, ids_told}
-use Rattle.jpg_markers.proofs.Scans.{parts_below}
+use Rattle.jpg_spec.proofs.KnownParts.{parts_below}
 use Rattle.jpg_markers.proofs.scan.head_of.Goals as goal
 
 pub blocks_of-requires-clause-known : goal.blocks_of-requires-clause-known

@@ -1,3 +1,4 @@
+use Rattle.std.proofs.Common.{arith}
 use Rattle.jpg_color.proofs.PartNumbers.{stretch_is, rows_is, wide_in, few_bytes, measured, new_part, quants_told, room_is}
 use Rattle.jpg_color.proofs.part.Part.new.Goals as goal
 
@@ -10,10 +11,11 @@ new-requires-clause-wide c =
 
 pub bytes-requires : goal.bytes-requires
 bytes-requires c =
-    few_bytes _ _
+    let few = few_bytes _ _
     (stretch_is c.args.head.now c.args.smooth c.args.i c.component-of.result c.width.result c.height.result c.h_max.result c.h_max-2.result c.v_max.result c.v_max-2.result c.samples-wide.result c.samples-high.result
     c.requires.there c.component-of.ensures.value c.width.ensures c.height.ensures c.h_max.ensures.value c.h_max-2.ensures.value c.v_max.ensures.value c.v_max-2.ensures.value c.samples-wide.ensures c.samples-high.ensures)
-    _ c.requires.sizes
+    _ c.requires.sizes in
+    omega (arith, few)
 
 pub invariant_of-result : goal.invariant_of-result
 invariant_of-result c =

@@ -1,4 +1,4 @@
-use Rattle.std.proofs.Common.{◌≡◌, ◌∷◌, [], ◌++◌, None, sym, subst}
+use Rattle.std.proofs.Common.{◌∷◌, [], ◌++◌, sym, subst}
 use Rattle.jpg_file.specs.File.{AfterFileByte, HeadStands, KeepsBytes, MakesPicture, limits_of}
 use Rattle.jpg_file.proofs.FileSteps.{asked}
 use Rattle.jpg_file.proofs.file.FileWork.byte.Goals as goal
@@ -24,7 +24,7 @@ pub returns-in-Eoi-clause-after : goal.returns-in-Eoi-clause-after
 returns-in-Eoi-clause-after c = λ bytes k.
     let old = c.args.self.now in
     let all = bytes ++ c.args.byte ∷ [] in
-    asked ⊥ (KeepsBytes old) (λ n. absurd n) (limits_of old) all c.take_end.result c.step.new.self (c.take_end.ensures (limits_of old) all (c.in-Eoi.ensures.after bytes k))
+    asked ⊥ (KeepsBytes old) (λ n. absurd n) (limits_of old) all c.take_end.result c.step.new.self (c.take_end.ensures.end (limits_of old) all (c.in-Eoi.ensures.after bytes k))
 
 pub returns-in-Fault-clause-after : goal.returns-in-Fault-clause-after
 returns-in-Fault-clause-after c = λ bytes k. let e = c.in-Fault.ensures.after bytes k in (e.1, e.0)

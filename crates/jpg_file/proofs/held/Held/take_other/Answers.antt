@@ -44,5 +44,7 @@ returns-in_default c = record {
           jfif = search (rules, holds, none);
         },
       ));
+  memory = λ wanted scanned e. absurd cc;
+  scanned = refl;
   keeping = refl;
 }

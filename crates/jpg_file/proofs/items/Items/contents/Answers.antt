@@ -1,7 +1,4 @@
 use Rattle.std.proofs.Common.{arith}
-use Rattle.jpg_spec.specs.Items.{segments_of}
-use Rattle.jpg_markers.specs.declared.segments.SegmentReader.{SegmentReader}
-use Rattle.jpg_file.specs.declared.items.Items.{Items}
 use Rattle.jpg_file.proofs.ItemBytes.{stretch_passes, stretch_stops}
 use Rattle.jpg_file.proofs.items.Items.contents.Goals as goal
 

@@ -1,10 +1,7 @@
-use Rattle.std.proofs.Common.{◌≡◌, ◌∙◌, List, drop, take, sym, subst, refl}
+use Rattle.std.proofs.Common.{◌≡◌, ◌∙◌, drop, take, sym, subst, refl}
 use Rattle.jpg_spec.specs.Bits.{bits_of_bytes}
-use Rattle.jpg_spec.specs.declared.frame.Place.{Place}
 use Rattle.jpg_seq.specs.Rows.{AreInRow}
 use Rattle.jpg_seq.specs.declared.reader.SeqReader.{SeqReader}
-use Rattle.jpg_file.specs.declared.machine.ScanReader.{ScanReader}
-use Rattle.jpg_file.specs.RowMachine.{CanRead}
 use Rattle.jpg_file.proofs.RowMachines.{row_open, row_takes, one_machine}
 use Rattle.jpg_file.proofs.machine.ScanReader.bytes_in_row.Goals as goal
 

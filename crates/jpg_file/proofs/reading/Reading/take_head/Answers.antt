@@ -1,75 +1,20 @@
-use Rattle.std.proofs.Common.{◌≡◌, ◌∙◌, List, ◌∷◌, Ok, Err, true, false, subst, sym, ap, arith}
-use Rattle.std.specs.Prelude.{is_none}
-use Rattle.jpg_spec.specs.Geometry.{Frame, component_at}
-use Rattle.jpg_spec.specs.InForce.{first_some, head_in}
-use Rattle.jpg_spec.specs.QuantContents.{Slots, quant_in}
-use Rattle.jpg_spec.specs.History.{names}
-use Rattle.jpg_spec.specs.Items.{segments_of}
-use Rattle.jpg_spec.specs.declared.frame.ScanPart.{ScanPart}
-use Rattle.jpg_spec.proofs.FrameFound.{framed}
-use Rattle.jpg_file.specs.Begun.{StandsForHeads, quant_named}
-use Rattle.jpg_file.specs.Held.{told_by}
-use Rattle.jpg_spec.specs.Segments.{ScanHead}
-use Rattle.jpg_markers.specs.Reading.{reading_of}
-use Rattle.jpg_file.specs.Reading.{waiting}
-use Rattle.jpg_file.proofs.Beginnings.{begun_more, table_there}
-use Rattle.jpg_file.proofs.HeadTaken.{found, judged, head_begins, head_shows}
+use Rattle.std.proofs.Common.{◌∙◌, Option, sym, subst}
+use Rattle.jpg_coefs.specs.Picture.{Picture}
+use Rattle.jpg_file.specs.Reading.{AfterHead, HeadWhole}
 use Rattle.jpg_file.proofs.reading.Reading.take_head.Goals as goal
 
-pub begin_data-requires : goal.begin_data-requires
-begin_data-requires c =
+pub begin_head-requires : goal.begin_head-requires
+begin_head-requires c =
+    let r = c.args.self.now in
     let o = c.requires.stands in
-    let r = c.args.self.now in
-    let b = c.args.begun.now in
-    let f = c.copy-frame.result in
-    let q = c.in-Some-coefs.coefs in
-    let w = found r.items.limits o.0 o.1 o.2 r b f c.in-Some.held q o.3 c.in-Some.is c.copy-frame.ensures c.in-Some-coefs.is in
-    let j = judged r.items.limits o.0 o.1 o.2 r b f q c.contents.result.now (Ok c.in-Ok.head) w c.contents.ensures c.in-Ok.ensures in
-    (q, c.checked-in-Ok.ensures.sizes, (r.items.limits, o.1, o.2, (reading_of r.items.segments).contents, o.0, head_begins r.items.limits o.0 o.1 o.2 r b f q c.in-Ok.head w j))
+    let q = c.in-Some.coefs in
+    record { stands = (q, c.checked.ensures.sizes, (o.0, o.1, o.2, subst (λ (p : Option Picture). HeadWhole r.items.limits o.0 o.1 o.2 (record r { coefs = p }) c.args.begun.now) c.in-Some.is o.3)) }
 
-pub returns-in-Err-clause-after : goal.returns-in-Err-clause-after
-returns-in-Err-clause-after c = λ bytes items blocks k.
+pub returns-clause-after : goal.returns-clause-after
+returns-clause-after c = λ bytes items blocks k.
     let r = c.args.self.now in
-    let b = c.args.begun.now in
-    let f = c.copy-frame.result in
-    let q = c.in-Some-coefs.coefs in
-    let w = found r.items.limits bytes items blocks r b f c.in-Some.held q k c.in-Some.is c.copy-frame.ensures c.in-Some-coefs.is in
-    head_shows r.items.limits bytes items blocks r b f q c.in-Err.fault w (judged r.items.limits bytes items blocks r b f q c.contents.result.now (Err c.in-Err.fault) w c.contents.ensures c.in-Err.ensures)
-
-pub returns-in-Ok-clause-after : goal.returns-in-Ok-clause-after
-returns-in-Ok-clause-after c = λ bytes items blocks k.
-    let r = c.args.self.now in
-    let b = c.args.begun.now in
-    let f = c.copy-frame.result in
-    let q = c.in-Some-coefs.coefs in
-    let head = c.in-Ok.head in
-    let contents = (reading_of r.items.segments).contents in
-    let w = found r.items.limits bytes items blocks r b f c.in-Some.held q k c.in-Some.is c.copy-frame.ensures c.in-Some-coefs.is in
-    let j = judged r.items.limits bytes items blocks r b f q c.contents.result.now (Ok head) w c.contents.ensures c.in-Ok.ensures in
-    let begins = head_begins r.items.limits bytes items blocks r b f q head w j in
-    let begun = c.begin_data.ensures in
-    let slots : Slots = (told_by r.items.held).quants in
-    let same = c.as_slice-parts.ensures.value ∙ ap (λ (h : ScanHead). h.parts) c.head.view_is in (
-      record {
-        coefs = q;
-        has = c.in-Some-coefs.is;
-        scan = begun.0;
-        inside = begun.1;
-        at = begun.3 q c.checked-in-Ok.ensures.sizes r.items.limits items blocks contents bytes begins;
-        head = c.head_done.ensures.behind bytes items blocks k.segment k.code;
-        count = k.count;
-        behind = omega (arith, k.same, c.head_done.ensures.same, ap waiting begun.2);
-      },
-      begun_more r.items.limits b c.note.new.self (segments_of items) contents head slots (ap (λ (g : Frame). head_in g contents) (begins.header).framed ∙ (begins.header).header)
-          (framed (segments_of items) begins.allowed)
-          ((k.segment).holds).quants
-          (record {
-            scans = subst (λ (g : Frame). (heads : List ScanHead) → StandsForHeads b.progress g heads → StandsForHeads c.note.new.self.progress g (head ∷ heads)) (sym (begins.header).framed)
-                (λ heads stands. c.note.ensures.scans heads (subst (λ o. StandsForHeads o f heads) (sym c.note_quants.ensures.progress) stands));
-            quants = λ i. ap (λ (s : Slots). quant_in s i) c.note.ensures.quants ∙ c.note_quants.ensures.quants i
-                ∙ ap (λ (l : List ScanPart). first_some (quant_in b.quants i) (quant_named f slots l i)) same
-                ∙ ap (λ (g : Frame). first_some (quant_in b.quants i) (quant_named g slots head.parts i)) (sym (begins.header).framed);
-            tables = λ i. subst (λ (g : Frame). names head i ≡ true → is_none (quant_in slots (component_at g i).quant) ≡ false) (sym (begins.header).framed) (table_there (told_by r.items.held) f head i j.3);
-          })
-          k.begun,
-    )
+    let q = c.in-Some.coefs in
+    let new = c.begin_head.new.self in
+    let whole = subst (λ (p : Option Picture). HeadWhole r.items.limits bytes items blocks (record r { coefs = p }) c.args.begun.now) c.in-Some.is k in
+    subst (λ (p : Option Picture). AfterHead r.items.limits bytes items r.items c.begin_head.result (record new { coefs = p }) c.begin_head.new.begun) (sym (c.begin_head.ensures.coefs ∙ c.in-Some.is))
+    (c.begin_head.ensures.after q c.checked.ensures.sizes bytes items blocks whole)

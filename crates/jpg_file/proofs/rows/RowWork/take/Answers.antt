@@ -1,13 +1,11 @@
-use Rattle.std.proofs.Common.{◌≡◌, ◌∙◌, ◌-◌, ◌≤◌, ℕ, List, Bool, [], length, drop, refl, sym, ap, subst, arith}
-use Rattle.jpg_spec.specs.Bits.{bits_of_bytes}
-use Rattle.jpg_coefs.specs.Picture.{Picture}
+use Rattle.std.proofs.Common.{◌≡◌, ◌∙◌, ◌-◌, [], length, refl, ap, arith}
 use Rattle.jpg_coefs.specs.declared.machine.Taken.TheVariants as taken
-use Rattle.jpg_file.specs.Machine.{any_scan}
+use Rattle.jpg_file.specs.Machine.{any_scan, reader_left}
 use Rattle.jpg_file.specs.declared.data.DataStep.TheVariants as came
 use Rattle.jpg_file.specs.declared.rows.RowStep.{RowStep}
 use Rattle.jpg_file.specs.declared.rows.RowWork.{RowWork}
 use Rattle.jpg_file.proofs.RowBits.{bits_more, bits_units, bits_whole, bits_fault}
-use Rattle.jpg_file.proofs.RowWorks.{units_passed, few_passed, counts_row, data_takes}
+use Rattle.jpg_file.proofs.RowWorks.{units_passed, few_passed, counts_row, fault_goes, more_goes, data_takes}
 use Rattle.jpg_file.proofs.rows.RowWork.take.Goals as goal
 
 pub overflow_sub-units : goal.overflow_sub-units
@@ -36,7 +34,7 @@ returns-in-More-clause-counts c =
     let rest = c.bits_in_row-taken.new.store in let bits = c.args.store in let p = c.in-More.ensures.passes in
     let mid : RowWork = record w { coefs = row } in let units = c.units_left-before.result - c.units_left.result in
     let count : units ≡ p.passes.units = omega (arith, units_passed w.left m after taken.More p, c.units_left-before.ensures, c.units_left.ensures) in
-    counts_row w mid c.count.new.self m after taken.More came.More units c.count.result p count refl refl refl refl refl c.count.ensures.counted c.count.ensures.answer (λ some. absurd (omega (arith, some, ap length c.requires.none)))
+    counts_row w mid c.count.new.self m after taken.More came.More units c.count.result p count refl refl refl refl refl c.count.ensures.counted c.count.ensures.answer (λ some. absurd (omega (arith, some, ap length c.requires.none))) (more_goes (any_scan.left after))
 
 pub count-requires-in-Units : goal.count-requires-in-Units
 count-requires-in-Units c =
@@ -61,7 +59,7 @@ returns-in-Units-clause-counts c =
     let rest = c.bits_in_row-taken.new.store in let bits = c.args.store in let p = c.in-Units.ensures.passes in
     let mid : RowWork = record w { coefs = row; waiting = rest } in let units = c.units_left-before.result - c.units_left.result in
     let count : units ≡ p.passes.units = omega (arith, units_passed w.left m after taken.Units p, c.units_left-before.ensures, c.units_left.ensures) in
-    counts_row w mid c.count-in-Units.new.self m after taken.Units came.More units c.count-in-Units.result p count refl refl refl refl refl c.count-in-Units.ensures.counted c.count-in-Units.ensures.answer (λ some. omega (arith, count, p.passes.few.0))
+    counts_row w mid c.count-in-Units.new.self m after taken.Units came.More units c.count-in-Units.result p count refl refl refl refl refl c.count-in-Units.ensures.counted c.count-in-Units.ensures.answer (λ some. omega (arith, count, p.passes.few.0)) (more_goes (any_scan.left after))
 
 pub count-requires-in-IntervalDone : goal.count-requires-in-IntervalDone
 count-requires-in-IntervalDone c =
@@ -86,7 +84,7 @@ returns-in-IntervalDone-clause-counts c =
     let rest = c.bits_in_row-taken.new.store in let bits = c.args.store in let p = c.in-IntervalDone.ensures.passes in
     let mid : RowWork = record w { coefs = row } in let units = c.units_left-before.result - c.units_left.result in
     let count : units ≡ p.passes.units = omega (arith, units_passed w.left m after taken.IntervalDone p, c.units_left-before.ensures, c.units_left.ensures) in
-    counts_row w mid c.count-in-IntervalDone.new.self m after taken.IntervalDone came.Whole units c.count-in-IntervalDone.result p count refl refl refl refl refl c.count-in-IntervalDone.ensures.counted c.count-in-IntervalDone.ensures.answer (λ some. absurd (omega (arith, some, ap length c.requires.none)))
+    counts_row w mid c.count-in-IntervalDone.new.self m after taken.IntervalDone came.Whole units c.count-in-IntervalDone.result p count refl refl refl refl refl c.count-in-IntervalDone.ensures.counted c.count-in-IntervalDone.ensures.answer (λ some. absurd (omega (arith, some, ap length c.requires.none))) (λ e. ap reader_left p.new_is ∙ p.passes.few.1)
 
 pub count-requires-in-Fault : goal.count-requires-in-Fault
 count-requires-in-Fault c =
@@ -111,4 +109,4 @@ returns-in-Fault-clause-counts c =
     let rest = c.bits_in_row-taken.new.store in let bits = c.args.store in let p = c.in-Fault.ensures.passes in
     let mid : RowWork = record w { coefs = row } in let units = c.units_left-before.result - c.units_left.result in
     let count : units ≡ p.passes.units = omega (arith, units_passed w.left m after (taken.Fault c.in-Fault.fault) p, c.units_left-before.ensures, c.units_left.ensures) in
-    counts_row w mid c.count-in-Fault.new.self m after (taken.Fault c.in-Fault.fault) (came.Fault c.in-Fault.fault) units c.count-in-Fault.result p count refl refl refl refl refl c.count-in-Fault.ensures.counted c.count-in-Fault.ensures.answer (λ some. absurd (omega (arith, some, ap length c.requires.none)))
+    counts_row w mid c.count-in-Fault.new.self m after (taken.Fault c.in-Fault.fault) (came.Fault c.in-Fault.fault) units c.count-in-Fault.result p count refl refl refl refl refl c.count-in-Fault.ensures.counted c.count-in-Fault.ensures.answer (λ some. absurd (omega (arith, some, ap length c.requires.none))) (fault_goes (any_scan.left after) c.in-Fault.fault)

@@ -1,16 +1,15 @@
-use Rattle.std.proofs.Common.{◌≡◌, ◌∙◌, ◌-◌, ◌≤◌, ℕ, List, Bool, [], length, drop, refl, sym, ap, subst, arith}
+use Rattle.std.proofs.Common.{◌≡◌, ◌∙◌, ◌-◌, [], length, drop, refl, ap, subst, arith}
 use Rattle.jpg_spec.specs.Bits.{bits_of_bytes}
-use Rattle.jpg_coefs.specs.Picture.{Picture}
 use Rattle.jpg_coefs.specs.declared.machine.Taken.{Taken}
 use Rattle.jpg_coefs.specs.declared.machine.Taken.TheVariants as taken
 use Rattle.jpg_file.specs.RowMachine.{PassesRow, TakesRowBits}
-use Rattle.jpg_file.specs.Machine.{any_scan}
+use Rattle.jpg_file.specs.Machine.{any_scan, reader_left}
 use Rattle.jpg_file.specs.declared.data.DataStep.TheVariants as came
 use Rattle.jpg_file.specs.declared.rows.RowStep.{RowStep}
 use Rattle.jpg_file.specs.declared.rows.RowWork.{RowWork}
 use Rattle.jpg_file.proofs.RowBits.{run_given, run_shown}
 use Rattle.jpg_file.proofs.Runs.{given_bytes, run_whole, run_fault}
-use Rattle.jpg_file.proofs.RowWorks.{units_passed, few_passed, counts_row, run_takes_row, more_run, units_run, last_given}
+use Rattle.jpg_file.proofs.RowWorks.{units_passed, few_passed, counts_row, fault_goes, more_goes, run_takes_row, more_run, units_run}
 use Rattle.jpg_file.proofs.rows.RowWork.take_bytes.Goals as goal
 
 pub overflow_sub-units : goal.overflow_sub-units
@@ -49,7 +48,7 @@ returns-in-More-clause-counts c =
     let q = subst (λ (a : Taken). PassesRow w.left m a after) c.in-More.is p in
     let mid : RowWork = record w { coefs = row } in let units = c.units_left-before.result - c.units_left.result in
     let count : units ≡ q.passes.units = omega (arith, units_passed w.left m after taken.More q, c.units_left-before.ensures, c.units_left.ensures) in
-    counts_row w mid c.count.new.self m after taken.More came.More units c.count.result q count refl refl refl refl refl c.count.ensures.counted c.count.ensures.answer (λ some. absurd (omega (arith, some, ap length c.requires.none)))
+    counts_row w mid c.count.new.self m after taken.More came.More units c.count.result q count refl refl refl refl refl c.count.ensures.counted c.count.ensures.answer (λ some. absurd (omega (arith, some, ap length c.requires.none))) (more_goes (any_scan.left after))
 
 pub count-requires-in-Units : goal.count-requires-in-Units
 count-requires-in-Units c =
@@ -84,7 +83,7 @@ returns-in-Units-clause-counts c =
     let q = subst (λ (a : Taken). PassesRow w.left m a after) c.in-Units.is p in
     let mid : RowWork = record w { coefs = row; waiting = c.last_bits-self.result } in let units = c.units_left-before.result - c.units_left.result in
     let count : units ≡ q.passes.units = omega (arith, units_passed w.left m after taken.Units q, c.units_left-before.ensures, c.units_left.ensures) in
-    counts_row w mid c.count-in-Units.new.self m after taken.Units came.More units c.count-in-Units.result q count refl refl refl refl refl c.count-in-Units.ensures.counted c.count-in-Units.ensures.answer (λ some. omega (arith, count, q.passes.few.0))
+    counts_row w mid c.count-in-Units.new.self m after taken.Units came.More units c.count-in-Units.result q count refl refl refl refl refl c.count-in-Units.ensures.counted c.count-in-Units.ensures.answer (λ some. omega (arith, count, q.passes.few.0)) (more_goes (any_scan.left after))
 
 pub count-requires-in-IntervalDone : goal.count-requires-in-IntervalDone
 count-requires-in-IntervalDone c =
@@ -119,7 +118,7 @@ returns-in-IntervalDone-clause-counts c =
     let q = subst (λ (a : Taken). PassesRow w.left m a after) c.in-IntervalDone.is p in
     let mid : RowWork = record w { coefs = row } in let units = c.units_left-before.result - c.units_left.result in
     let count : units ≡ q.passes.units = omega (arith, units_passed w.left m after taken.IntervalDone q, c.units_left-before.ensures, c.units_left.ensures) in
-    counts_row w mid c.count-in-IntervalDone.new.self m after taken.IntervalDone came.Whole units c.count-in-IntervalDone.result q count refl refl refl refl refl c.count-in-IntervalDone.ensures.counted c.count-in-IntervalDone.ensures.answer (λ some. absurd (omega (arith, some, ap length c.requires.none)))
+    counts_row w mid c.count-in-IntervalDone.new.self m after taken.IntervalDone came.Whole units c.count-in-IntervalDone.result q count refl refl refl refl refl c.count-in-IntervalDone.ensures.counted c.count-in-IntervalDone.ensures.answer (λ some. absurd (omega (arith, some, ap length c.requires.none))) (λ e. ap reader_left q.new_is ∙ q.passes.few.1)
 
 pub count-requires-in-Fault : goal.count-requires-in-Fault
 count-requires-in-Fault c =
@@ -154,4 +153,4 @@ returns-in-Fault-clause-counts c =
     let q = subst (λ (a : Taken). PassesRow w.left m a after) c.in-Fault.is p in
     let mid : RowWork = record w { coefs = row } in let units = c.units_left-before.result - c.units_left.result in
     let count : units ≡ q.passes.units = omega (arith, units_passed w.left m after (taken.Fault c.in-Fault.fault) q, c.units_left-before.ensures, c.units_left.ensures) in
-    counts_row w mid c.count-in-Fault.new.self m after (taken.Fault c.in-Fault.fault) (came.Fault c.in-Fault.fault) units c.count-in-Fault.result q count refl refl refl refl refl c.count-in-Fault.ensures.counted c.count-in-Fault.ensures.answer (λ some. absurd (omega (arith, some, ap length c.requires.none)))
+    counts_row w mid c.count-in-Fault.new.self m after (taken.Fault c.in-Fault.fault) (came.Fault c.in-Fault.fault) units c.count-in-Fault.result q count refl refl refl refl refl c.count-in-Fault.ensures.counted c.count-in-Fault.ensures.answer (λ some. absurd (omega (arith, some, ap length c.requires.none))) (fault_goes (any_scan.left after) c.in-Fault.fault)

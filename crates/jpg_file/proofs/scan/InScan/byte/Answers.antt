@@ -22,7 +22,7 @@ returns-in-Marker-clause-after c = λ limits items contents bytes d.
     let f : c.in-Marker.code ≡ 255 → ⊥ = λ h. e.1 (sym e.3 ∙ h) in
     let P : ℕ → Type 0 = λ n. MarkerAt limits (bytes ++ n ∷ []) d.place c.in-Marker.code c.args.self.now.work c.args.coefs.now in
     let m = subst P e.3 (marker_at limits items contents bytes c.in-Marker.code c.args.self.now c.args.coefs.now d e.0 z f) in
-    marker_byte limits items contents all d.place m.fill c.in-Marker.code c.byte.new.self c.marker.new.self c.args.coefs.now c.marker.result d.of z f m.at e.4 (c.marker.ensures c.args.coefs.now limits d.place all m)
+    marker_byte limits items contents all d.place m.fill c.in-Marker.code c.byte.new.self c.marker.new.self c.args.coefs.now c.marker.result d.of z f m.at e.4 (c.marker.ensures.takes c.args.coefs.now limits d.place all m)
 
 pub marker-requires : goal.marker-requires
 marker-requires c =

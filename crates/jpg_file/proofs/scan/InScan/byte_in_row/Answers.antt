@@ -1,4 +1,4 @@
-use Rattle.std.proofs.Common.{◌≡◌, ◌∙◌, ◌++◌, ◌∷◌, [], ℕ, List, Bool, sym, ap, subst}
+use Rattle.std.proofs.Common.{◌≡◌, ◌∙◌, ◌++◌, ◌∷◌, [], ℕ, List, Bool, refl, sym, ap, subst}
 use Rattle.jpg_spec.specs.Bits.{bits_of}
 use Rattle.jpg_spec.specs.declared.fault.Fault.TheVariants as fault
 use Rattle.jpg_file.specs.InData.{MarkerAt}
@@ -6,16 +6,17 @@ use Rattle.jpg_file.specs.declared.scan.ScanStep.TheVariants as step
 use Rattle.jpg_file.specs.Machine.{any_scan}
 use Rattle.jpg_file.specs.RowData.{RowBits}
 use Rattle.jpg_file.proofs.RowBits.{half_after}
+use Rattle.jpg_file.proofs.RowCounts.{counts_scan, none_counted}
 use Rattle.jpg_file.proofs.RowScans.{open_scan, rest_as, rest_none, work_same}
-use Rattle.jpg_file.proofs.ScanBytes.{data_at, data_byte, ff_byte, marker_at, marker_byte, whole_extra}
+use Rattle.jpg_file.proofs.ScanBytes.{data_at, ff_byte, marker_at, marker_byte, whole_extra}
 use Rattle.jpg_file.proofs.scan.InScan.byte_in_row.Goals as goal
 
-pub returns-in-More : goal.returns-in-More
-returns-in-More c = λ limits items contents bytes whole at d.
+pub returns-in-More-clause-takes : goal.returns-in-More-clause-takes
+returns-in-More-clause-takes c = λ limits items contents bytes whole at d.
     (whole, at, rest_none limits items contents (bytes ++ c.args.byte ∷ []) step.More c.args.rows.now.waiting (record (c.args.self.now) { gate = c.byte.new.self }) whole c.requires.none (ff_byte limits items contents bytes c.args.byte c.args.self.now c.byte.new.self whole d c.in-More.ensures.0 c.in-More.ensures.1))
 
-pub returns-then-self : goal.returns-then-self
-returns-then-self c = λ limits items contents bytes whole at d.
+pub returns-then-self-clause-takes : goal.returns-then-self-clause-takes
+returns-then-self-clause-takes c = λ limits items contents bytes whole at d.
     let all : List ℕ = bytes ++ c.args.byte ∷ [] in
     let here = data_at limits items contents bytes c.args.byte c.in-Data.data c.args.self.now whole d c.in-Data.ensures.0 in
     (whole, at, rest_none limits items contents all (step.Fault fault.ExtraData) c.args.rows.now.waiting (record { gate = c.byte.new.self; work = c.args.self.now.work }) whole c.requires.none (whole_extra limits all d.place c.in-Data.data c.args.self.now.work whole here c.if-self.true d.work))
@@ -31,8 +32,8 @@ take-got-requires-clause-inside c = (c.requires.inside.due c.if-self.false).0
 pub take-got-requires-clause-some : goal.take-got-requires-clause-some
 take-got-requires-clause-some c = (c.requires.inside.due c.if-self.false).1
 
-pub returns-else-self : goal.returns-else-self
-returns-else-self c = λ limits items contents bytes whole at d.
+pub returns-else-self-clause-takes : goal.returns-else-self-clause-takes
+returns-else-self-clause-takes c = λ limits items contents bytes whole at d.
     let all : List ℕ = bytes ++ c.args.byte ∷ [] in
     let here = data_at limits items contents bytes c.args.byte c.in-Data.data c.args.self.now whole d c.in-Data.ensures.0 in
     let t = c.take-got.ensures.takes whole at (open_scan limits items contents bytes c.args.self.now whole d c.if-self.false) in
@@ -41,8 +42,8 @@ returns-else-self c = λ limits items contents bytes whole at d.
     let k = half_after limits items contents all d.place c.in-Data.data c.byte.new.self c.args.self.now.work whole t.0 c.take-got.result.step c.take-got.new.self.waiting c.take-got.new.machine d.of here c.in-Data.ensures.1 d.work c.if-self.false (subst B e t.2) in
     (t.0, t.1, rest_as limits items contents all c.byte.new.self c.args.self.now.work c.stepped.new.self c.take-got.new.machine t.0 c.take-got.result.step c.stepped.result c.take-got.new.self.waiting c.stepped.ensures.answer (c.stepped.ensures.work ∙ work_same c.args.self.now.work c.take-got.new.machine c.take-got.result.step) k)
 
-pub returns-in-Marker : goal.returns-in-Marker
-returns-in-Marker c = λ limits items contents bytes whole at d.
+pub returns-in-Marker-clause-takes : goal.returns-in-Marker-clause-takes
+returns-in-Marker-clause-takes c = λ limits items contents bytes whole at d.
     let e = c.in-Marker.ensures in
     let all : List ℕ = bytes ++ c.args.byte ∷ [] in
     let z : c.in-Marker.code ≡ 0 → ⊥ = λ h. e.2 (sym e.3 ∙ h) in
@@ -52,7 +53,7 @@ returns-in-Marker c = λ limits items contents bytes whole at d.
       whole,
       at,
       rest_none limits items contents all c.marker.result c.args.rows.now.waiting (record { gate = c.byte.new.self; work = c.marker.new.self }) whole c.requires.none
-          (marker_byte limits items contents all d.place m.fill c.in-Marker.code c.byte.new.self c.marker.new.self whole c.marker.result d.of z f m.at e.4 (c.marker.ensures whole limits d.place all m)),
+          (marker_byte limits items contents all d.place m.fill c.in-Marker.code c.byte.new.self c.marker.new.self whole c.marker.result d.of z f m.at e.4 (c.marker.ensures.takes whole limits d.place all m)),
     )
 
 pub marker-requires : goal.marker-requires
@@ -64,3 +65,17 @@ marker-requires c =
     let z : c.in-Marker.code ≡ 0 → ⊥ = λ h. e.2 (sym e.3 ∙ h) in
     let f : c.in-Marker.code ≡ 255 → ⊥ = λ h. e.1 (sym e.3 ∙ h) in
     (i.0, d.place, i.3 ++ c.in-Marker.code ∷ [], o.whole, marker_at i.0 i.1 i.2 i.3 c.in-Marker.code c.args.self.now o.whole d e.0 z f)
+
+pub returns-in-More-clause-counts : goal.returns-in-More-clause-counts
+returns-in-More-clause-counts c = none_counted c.args.self.now.work c.args.self.now.work c.args.rows.now refl c.requires.none
+
+pub returns-then-self-clause-counts : goal.returns-then-self-clause-counts
+returns-then-self-clause-counts c = none_counted c.args.self.now.work c.args.self.now.work c.args.rows.now refl c.requires.none
+
+pub returns-else-self-clause-counts : goal.returns-else-self-clause-counts
+returns-else-self-clause-counts c =
+    let w = c.args.self.now.work in
+    counts_scan w c.args.rows.now c.take-got.result c.stepped.new.self c.take-got.new.self c.take-got.new.machine c.if-self.false (c.requires.inside.due c.if-self.false).1 c.take-got.ensures.counts (c.stepped.ensures.work ∙ work_same w c.take-got.new.machine c.take-got.result.step)
+
+pub returns-in-Marker-clause-counts : goal.returns-in-Marker-clause-counts
+returns-in-Marker-clause-counts c = none_counted c.args.self.now.work c.marker.new.self c.args.rows.now c.marker.ensures.left c.requires.none

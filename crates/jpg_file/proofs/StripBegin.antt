@@ -1,0 +1,188 @@
+-- The first scan of a file that is read MCU row by MCU row begins.
+use Rattle.std.proofs.Common.{◌≡◌, ℕ, ◌+◌, ◌*◌, ◌≤◌, ◌<◌, false, List, [], ◌∷◌, length, refl, sym, ap, ◌∙◌, subst, arith, ⊎_elim, Option, Some, None, Ok, inl, pos, Bool}
+use Rattle.std.specs.Prelude.{unwrap_or}
+use Rattle.std.proofs.lemmas.Bool.{cases_lt}
+use Rattle.std.proofs.lemmas.List.{length-map, length-replicate}
+use Rattle.jpg_spec.specs.Faults.{Told}
+use Rattle.jpg_spec.specs.FileMeaning.{scan_after}
+use Rattle.jpg_spec.specs.FrameHeader.{IsFrame}
+use Rattle.jpg_spec.specs.Geometry.{Frame, is_progressive, padded_blocks, units}
+use Rattle.jpg_spec.specs.InForce.{frame_of, head_in, heads_of, no_frame, no_head, told_or}
+use Rattle.jpg_spec.specs.Items.{Item, segments_of}
+use Rattle.jpg_spec.specs.Markers.{Segment, code_fault, has_scan}
+use Rattle.jpg_spec.specs.Scan.{Blocks}
+use Rattle.jpg_spec.specs.Segments.{ScanHead, head_components}
+use Rattle.jpg_spec.specs.declared.frame.Limits.{Limits}
+use Rattle.jpg_spec.specs.declared.frame.ScanPart.{ScanPart}
+use Rattle.jpg_spec.proofs.Common.{some_once}
+use Rattle.jpg_spec.proofs.FrameFound.{framed}
+use Rattle.jpg_coefs.specs.Picture.{Picture}
+use Rattle.jpg_coefs.proofs.Maps.{blank_is}
+use Rattle.jpg_markers.specs.Reading.{IsBehindScan, StandsFor, reading_of}
+use Rattle.jpg_markers.specs.declared.segments.SegmentReader.{SegmentReader}
+use Rattle.jpg_seq.specs.Rows.{IsRowOf}
+use Rattle.jpg_file.specs.Begin.{HasSizes}
+use Rattle.jpg_file.specs.Begun.{HasBegun, HasBegunAll, StandsForHeads}
+use Rattle.jpg_file.specs.Items.{BehindHead}
+use Rattle.jpg_file.specs.File.{HeadStands, NotesHead}
+use Rattle.jpg_file.specs.FirstHead.{HasHead}
+use Rattle.jpg_file.specs.Held.{told_by}
+use Rattle.jpg_file.specs.InData.{InData}
+use Rattle.jpg_file.specs.Judge.{JudgesHead}
+use Rattle.jpg_file.specs.Reading.{AfterHead, HeadWhole, waiting, with_coefs}
+use Rattle.jpg_file.specs.RowData.{AfterRest}
+use Rattle.jpg_file.specs.RowPlaces.{scan_left}
+use Rattle.jpg_file.specs.RowTurns.{IsRowIn, zero_picture}
+use Rattle.jpg_file.specs.Strips.{GoesByRow, IsHeadOfAll, components_of, contents_held, frame_behind}
+use Rattle.jpg_file.specs.declared.begun.Begun.{Begun}
+use Rattle.jpg_file.specs.declared.file.FileWork.{FileWork}
+use Rattle.jpg_file.specs.declared.items.Items.{Items}
+use Rattle.jpg_file.specs.declared.items.ItemStep.TheVariants as came
+use Rattle.jpg_file.specs.declared.reading.Reading.{Reading}
+use Rattle.jpg_file.specs.declared.rows.RowWork.{RowWork}
+use Rattle.jpg_file.specs.declared.scan.InScan.{InScan}
+use Rattle.jpg_file.specs.declared.scan.ScanStep.TheVariants as answer
+use Rattle.jpg_file.proofs.FileSteps.{frame_held, unbroken}
+use Rattle.jpg_file.proofs.FirstHeads.{noted}
+use Rattle.jpg_file.proofs.RowBehind.{first_blocks}
+use Rattle.jpg_file.proofs.StripAlone.{all_begun}
+
+-- THE HEADER
+pub head_found : (limits : Limits) (bytes : List ℕ) (w : FileWork) (f : Frame) (head : ScanHead) (contents : List ℕ) → (h : HeadStands limits bytes w) → w.reading.items.held.frame ≡ Some f → contents ≡ contents_held w → is_progressive f.process ≡ false → length head.parts ≡ length f.components
+    → JudgesHead contents f (told_by w.reading.items.held) w.begun (Ok head) → IsHeadOfAll limits h.items (contents_held w) f head
+head_found limits bytes w f head contents h is same sequential all judges =
+    let s = h.at in
+    let before = segments_of h.items in
+    let framed : frame_of limits before ≡ f = ap (λ (o : Option Frame). unwrap_or o no_frame) (sym (s.holds).frame ∙ is) in
+    let j = judges limits before framed s.holds (h.beside).begun in
+    record { framed = framed; told = ap (head_in f) (sym same) ∙ ap (λ (t : Told ScanHead). told_or no_head t) j.1; is_head = j.2; sequential = sequential; all = all }
+
+pub components_all : (f : Frame) (head : ScanHead) → length head.parts ≡ length f.components → length (head_components head) ≡ length f.components
+components_all f head all = length-map head.parts (λ (p : ScanPart). p.component) ∙ all
+
+-- ZERO BLOCKS before it
+
+pub zero_sizes : (f : Frame) → HasSizes (zero_picture f)
+zero_sizes f i x y = ap (λ (m : Blocks). length (m i x y)) (blank_is (zero_picture f) (padded_blocks f) refl) ∙ length-replicate 64 (pos 0)
+
+pub zero_whole : (limits : Limits) (bytes : List ℕ) (w : FileWork) (f : Frame) → (h : HeadStands limits bytes w) → frame_behind limits h.items ≡ f → IsFrame f → has_scan (segments_of h.items) ≡ false → HeadWhole limits bytes h.items h.blocks (with_coefs w.reading (zero_picture f)) w.begun
+zero_whole limits bytes w f h is is_frame first =
+    let before = segments_of h.items in
+    let allowed = subst (λ n. code_fault before n ≡ None) h.code (h.at).allowed in
+    let held = frame_held limits bytes h.items h.blocks w.reading.items.held.frame ((h.at).at).leads ((h.at).holds).frame (framed before allowed) in
+    let one : held.frame ≡ f = sym held.is ∙ is in
+    record {
+      segment = h.at;
+      code = h.code;
+      frame = f;
+      framed = held.has ∙ ap (λ (g : Frame). Some g) one;
+      is_frame = is_frame;
+      begun = (h.beside).begun;
+      coefs = zero_picture f;
+      has = refl;
+      pictured = refl;
+      as_map = first_blocks limits h.items h.blocks ((h.at).at).leads first ∙ sym (blank_is (zero_picture f) (padded_blocks f) refl);
+      count = (h.beside).count;
+      same = (h.beside).same;
+    }
+
+pub first_of : (limits : Limits) (bytes : List ℕ) (w : FileWork) → (h : HeadStands limits bytes w) → w.head ≡ None → has_scan (segments_of h.items) ≡ false
+first_of limits bytes w h none = subst (λ o. HasHead limits bytes (segments_of h.items) o) none (h.beside).head
+
+-- ROOM for a segment changes nothing
+room_made : (limits : Limits) (items : List Item) (contents : List ℕ) (old : Items) (s : SegmentReader) → reading_of s ≡ reading_of old.segments → BehindHead limits items contents old → BehindHead limits items contents (record old { segments = s })
+room_made limits items contents old s e h = record {
+  sent = h.sent;
+  stands = subst (λ r. StandsFor h.sent ((0xda, contents) ∷ segments_of items) r) (sym e) h.stands;
+  behind = subst (λ r. IsBehindScan r) (sym e) h.behind;
+  bounded = (ap (λ r. r.limits) e ∙ (h.bounded).0, (h.bounded).1);
+  holds = h.holds;
+}
+
+pub head_room : (limits : Limits) (bytes : List ℕ) (items : List Item) (old : Items) (taken : Reading) (z : Picture) (b : Begun) (s : SegmentReader) → reading_of s ≡ reading_of (taken.items).segments → AfterHead limits bytes items old came.More (with_coefs taken z) b
+    → AfterHead limits bytes items old came.More (with_coefs (record taken { items = record taken.items { segments = s } }) z) b
+head_room limits bytes items old taken z b s e a =
+    let k = a.0 in (
+      record {
+        coefs = k.coefs;
+        has = k.has;
+        scan = k.scan;
+        inside = k.inside;
+        at = k.at;
+        head = room_made limits items (reading_of old.segments).contents taken.items s e k.head;
+        count = k.count;
+        behind = subst (λ r. r.taken + waiting (k.scan).gate ≤ taken.taken) (sym e) k.behind;
+      },
+      a.1,
+    )
+
+-- THE FIRST ROW
+
+-- as the header behind these items says
+row_as : (limits : Limits) (items : List Item) (contents : List ℕ) (f : Frame) (head : ScanHead) (rows : RowWork) (left : ℕ) → frame_behind limits items ≡ f → head_in f contents ≡ head → left ≡ length (scan_after limits (segments_of items) contents).places
+    → IsRowIn f (head_components head) rows (length (units f (head_components head))) → IsRowIn (frame_behind limits items) (components_of limits items contents) rows left
+row_as limits items contents f head rows left is told all k =
+    let a = subst (λ (x : ScanHead). IsRowIn f (head_components x) rows (length (units f (head_components x)))) (sym told) k in
+    let b = subst (λ (g : Frame). IsRowIn g (head_components (head_in g contents)) rows (length (units g (head_components (head_in g contents))))) (sym is) a in
+    subst (λ n. IsRowIn (frame_behind limits items) (components_of limits items contents) rows n) (sym all) b
+
+some_left : (rows : RowWork) (left : ℕ) → rows.left ≡ rows.units → left ≡ rows.left + rows.later * rows.units → 1 ≤ left → 1 ≤ rows.left
+some_left rows left whole sum some = ⊎_elim
+    (λ (h : 0 < rows.left). omega (arith, h))
+    (λ (h : rows.left ≤ 0). (let z : rows.units ≡ 0 = omega (arith, h, whole) in absurd (omega (arith, some, sum, h, ap (λ u. rows.later * u) z, (let e : rows.later * 0 ≡ 0 = omega arith in e)))))
+    (cases_lt 0 rows.left)
+
+-- all components were in a scan
+begun_here : (limits : Limits) (items : List Item) (contents : List ℕ) (b : Begun) (f : Frame) (head : ScanHead) → IsHeadOfAll limits items contents f head → HasBegun limits b ((0xda, contents) ∷ segments_of items) → HasBegunAll b.progress
+begun_here limits items contents b f head k h =
+    let before = segments_of items in
+    let g = frame_of limits before in
+    let told : head_in g contents ≡ head = ap (λ (x : Frame). head_in x contents) k.framed ∙ k.told in
+    let s : StandsForHeads b.progress g (head_in g contents ∷ heads_of g before) = h.scans in
+    all_begun b.progress f head (heads_of g before) (subst (λ (x : Frame). StandsForHeads b.progress x (head ∷ heads_of g before)) k.framed (subst (λ (x : ScanHead). StandsForHeads b.progress g (x ∷ heads_of g before)) told s)) k.is_head
+    (components_all f head k.all) k.sequential
+
+pub rows_begun : (limits : Limits) (bytes : List ℕ) (old taken new : FileWork) (f : Frame) (head : ScanHead) (rows : RowWork) → (h : HeadStands limits bytes old) → IsHeadOfAll limits h.items (contents_held old) f head → has_scan (segments_of h.items) ≡ false
+    → AfterHead limits bytes h.items old.reading.items came.More (with_coefs taken.reading (zero_picture f)) taken.begun → taken.head ≡ old.head → NotesHead taken new
+    → ((scan : InScan) → taken.reading.scan ≡ Some scan → scan_left scan.work ≡ length (scan_after limits (segments_of h.items) (contents_held old)).places) → IsRowOf rows.tops (zero_picture f) rows.coefs → IsRowIn f (head_components head) rows (length (units f (head_components head)))
+    → rows.waiting ≡ [] → rows.left ≡ rows.units → GoesByRow limits bytes new rows
+rows_begun limits bytes old taken new f head rows h k first a kept notes left row at empty whole =
+    let z = zero_picture f in
+    let contents = contents_held old in
+    let before : List Segment = (0xda, contents) ∷ segments_of h.items in
+    let s = a.0 in
+    let holds = (s.head).holds in
+    let allowed = subst (λ n. code_fault (segments_of h.items) n ≡ None) h.code (h.at).allowed in
+    let held = frame_held limits bytes h.items h.blocks taken.reading.items.held.frame ((h.at).at).leads holds.frame (framed (segments_of h.items) allowed) in
+    let had = subst (λ o. HasHead limits bytes (segments_of h.items) o) (sym kept) (h.beside).head in
+    let now = noted limits bytes h.items h.blocks old.reading.items contents (told_by taken.reading.items.held) held.frame taken.reading.taken taken.head h.at h.code refl (unbroken limits h.items contents bytes (with_coefs taken.reading z) s) holds held.has s.count had in
+    let coded : InData limits h.items contents bytes s.scan z = subst (λ (q : Picture). InData limits h.items contents bytes s.scan q) (some_once s.coefs z (sym s.has)) s.at in
+    let inside : new.reading.scan ≡ Some s.scan = ap (λ (r : Reading). r.scan) notes.reading ∙ s.inside in
+    let in_scan = row_as limits h.items contents f head rows (scan_left s.scan.work) k.framed k.told (left s.scan s.inside) at in
+    let sum = (in_scan.at).sum in
+    record {
+      stands = record {
+        whole = z;
+        row = row;
+        at = inl (record {
+          items = h.items;
+          contents = contents;
+          scan = s.scan;
+          inside = inside;
+          coded = subst (λ (l : List Bool). AfterRest limits h.items contents bytes answer.More l s.scan z) (sym empty) coded;
+          held = record {
+            head = subst (λ (r : Reading). BehindHead limits h.items contents r.items) (sym notes.reading) s.head;
+            count = ap (λ (r : Reading). r.taken) notes.reading ∙ s.count;
+            behind = subst (λ (r : Reading). (reading_of (r.items).segments).taken + waiting s.scan.gate ≤ r.taken) (sym notes.reading) s.behind;
+            begun = subst (λ b. HasBegun limits b before) (sym notes.begun) a.1;
+            within = (h.beside).within;
+            first_head = subst (λ o. HasHead limits bytes before o) (sym notes.head) now;
+            of = record { first = first; sequential = ap (λ (g : Frame). is_progressive g.process) k.framed ∙ k.sequential };
+            all = subst (λ b. HasBegunAll b.progress) (sym notes.begun) (begun_here limits h.items contents taken.begun f head k a.1);
+          };
+          at = in_scan;
+        });
+      };
+      none = empty;
+      turned = λ scan e some. some_left rows (scan_left s.scan.work) whole sum (subst (λ (q : InScan). 1 ≤ scan_left q.work) (some_once scan s.scan (sym e ∙ inside)) some);
+    }

@@ -1,0 +1,64 @@
+-- How many MCU rows the first scan of a file has, where it has all components.
+use Rattle.std.proofs.Common.{◌≡◌, ℕ, ◌≤◌, ◌<◌, List, [], ◌∷◌, length, refl, sym, ap, ◌∙◌, subst, arith, Option, Some, None}
+use Rattle.std.proofs.lemmas.List.{length-map}
+use Rattle.jpg_spec.specs.Geometry.{Frame, mcus_down}
+use Rattle.jpg_spec.specs.Items.{segments_of}
+use Rattle.jpg_spec.specs.Lists.{below}
+use Rattle.jpg_spec.specs.Markers.{code_fault}
+use Rattle.jpg_spec.specs.ScanContents.{IsHead}
+use Rattle.jpg_spec.specs.Segments.{ScanHead, head_components}
+use Rattle.jpg_spec.specs.declared.frame.Limits.{Limits}
+use Rattle.jpg_spec.specs.declared.frame.ScanPart.{ScanPart}
+use Rattle.jpg_spec.proofs.Common.{length_below}
+use Rattle.jpg_spec.proofs.FrameFound.{framed}
+use Rattle.jpg_spec.proofs.PlacedBlocks.{Each}
+use Rattle.jpg_spec.proofs.RowCounts.{head_below}
+use Rattle.jpg_base.specs.Cursor.{scan_mcus_down}
+use Rattle.jpg_file.specs.File.{HeadStands, NotesHead, head_or}
+use Rattle.jpg_file.specs.FirstHead.{head_told}
+use Rattle.jpg_file.specs.Held.{HeldTold, told_by}
+use Rattle.jpg_file.specs.Reading.{AfterHead, with_coefs}
+use Rattle.jpg_file.specs.RowTurns.{zero_picture}
+use Rattle.jpg_file.specs.Strips.{IsHeadOfAll, contents_held, rows_of_all}
+use Rattle.jpg_file.specs.declared.file.FileWork.{FileWork}
+use Rattle.jpg_file.specs.declared.head.Head.{Head}
+use Rattle.jpg_file.specs.declared.items.ItemStep.TheVariants as came
+use Rattle.jpg_file.proofs.FileSteps.{frame_held}
+use Rattle.jpg_file.proofs.StripBegin.{components_all}
+
+-- AS MANY as any list of all components says
+
+many_down : (f : Frame) (ids : List ℕ) → 2 ≤ length ids → scan_mcus_down f ids ≡ mcus_down f
+many_down f [] some = absurd (omega (arith, some))
+many_down f (i ∷ []) some = absurd (omega (arith, some))
+many_down f (i ∷ j ∷ ids) some = refl
+
+rows_same : (f : Frame) (ids : List ℕ) → 1 ≤ length ids → length ids ≡ length f.components → Each (λ x. x < length f.components) ids → scan_mcus_down f ids ≡ rows_of_all f
+rows_same f [] some all low = absurd (omega (arith, some))
+rows_same f (i ∷ []) some all low =
+    let z : i ≡ 0 = omega (arith, low.0, all) in
+    ap (λ n. scan_mcus_down f (n ∷ [])) z ∙ ap (λ n. scan_mcus_down f (below n)) all
+rows_same f (i ∷ j ∷ ids) some all low = sym (many_down f (below (length f.components)) (omega (arith, all, length_below (length f.components))))
+
+pub head_rows : (f : Frame) (head : ScanHead) → IsHead f head → length head.parts ≡ length f.components → scan_mcus_down f (head_components head) ≡ rows_of_all f
+head_rows f head is all =
+    let some : 1 ≤ length (head_components head) = omega (arith, is.some, length-map head.parts (λ (p : ScanPart). p.component)) in
+    rows_same f (head_components head) some (components_all f head all) (head_below f head is)
+
+-- THE HEADER that is kept has the scan's frame
+
+abbrev frame_or : Frame → Option Head → Frame
+frame_or f None = f
+frame_or f (Some h) = h.frame
+
+told_frame : (t : HeldTold) (n : ℕ) (f : Frame) (kept : Head) → t.frame ≡ Some f → head_told t n ≡ Some kept → kept.frame ≡ f
+told_frame t n f kept is e = ap (λ (o : Option Head). frame_or f o) (sym e) ∙ ap (λ (o : Option Frame). frame_or f (head_told (record t { frame = o }) n)) is
+
+pub kept_frame : (limits : Limits) (bytes : List ℕ) (old taken new : FileWork) (f : Frame) (head : ScanHead) (kept : Head) → (h : HeadStands limits bytes old) → IsHeadOfAll limits h.items (contents_held old) f head
+    → AfterHead limits bytes h.items old.reading.items came.More (with_coefs taken.reading (zero_picture f)) taken.begun → taken.head ≡ None → NotesHead taken new → new.head ≡ Some kept → kept.frame ≡ f
+kept_frame limits bytes old taken new f head kept h k a none notes is =
+    let allowed = subst (λ n. code_fault (segments_of h.items) n ≡ None) h.code (h.at).allowed in
+    let held = frame_held limits bytes h.items h.blocks taken.reading.items.held.frame ((h.at).at).leads (((a.0).head).holds).frame (framed (segments_of h.items) allowed) in
+    let has : taken.reading.items.held.frame ≡ Some f = held.has ∙ ap (λ (g : Frame). Some g) (sym held.is ∙ k.framed) in
+    let told = head_told (told_by taken.reading.items.held) taken.reading.taken in
+    told_frame (told_by taken.reading.items.held) taken.reading.taken f kept has (sym (notes.head ∙ ap (λ (o : Option Head). head_or o told) none) ∙ is)

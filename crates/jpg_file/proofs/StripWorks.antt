@@ -1,0 +1,95 @@
+-- A file in work that is read MCU row by MCU row, where it may be: before its first scan, and where its scans are read whole.
+use Rattle.std.proofs.Common.{◌≡◌, ℕ, ◌+◌, Bool, true, false, List, [], ◌∷◌, ◌++◌, take, get_or, refl, sym, subst, Option, Some, None, Ok, Err}
+use Rattle.std.specs.Prelude.{IfErr, Result}
+use Rattle.jpg_spec.specs.declared.frame.Limits.{Limits}
+use Rattle.jpg_base.specs.declared.stop.Stop.{Stop}
+use Rattle.jpg_base.specs.declared.stop.Stop.TheVariants as stop
+use Rattle.jpg_file.specs.File.{AfterFileByte, KeepsBytes, PassesFront, Stands, TakesSome, limits_of}
+use Rattle.jpg_file.specs.Strips.{AfterBegin, AfterFile, AfterStrip, IfStops, RowsRun, StripGoes, StripRun, end_step}
+use Rattle.jpg_file.specs.declared.file.FileWork.{FileWork}
+use Rattle.jpg_file.specs.declared.rows.RowWork.{RowWork}
+use Rattle.jpg_file.specs.declared.strips.StripStep.{StripStep}
+use Rattle.jpg_file.specs.declared.strips.StripStep.TheVariants as step
+
+-- what a file that is read whole comes to
+pub plain_after : (asks : Type 0) (limits : Limits) (bytes : List ℕ) (rows : Option RowWork) (w : FileWork) (answer : Result Bool Stop) (result : StripStep) → rows ≡ None → result ≡ end_step answer → AfterFileByte asks limits bytes answer w → AfterStrip limits bytes result rows w
+plain_after asks limits bytes rows w answer result none is a = subst (λ (s : StripStep). AfterStrip limits bytes s rows w) (sym is) (subst (λ (r : Option RowWork). AfterStrip limits bytes (end_step answer) r w) (sym none) (by answer a))
+  where
+    by : (answer : Result Bool Stop) → AfterFileByte asks limits bytes answer w → AfterFile limits bytes (end_step answer) w
+    by (Ok false) a = a
+    by (Ok true) a = a
+    by (Err (stop.Fault f)) a = a
+    by (Err stop.NoMemory) a = tt
+
+-- a scan that doesn't begin
+pub begin_stops : (limits : Limits) (bytes : List ℕ) (rows : Option RowWork) (w : FileWork) (e : Stop) → rows ≡ None → AfterBegin limits bytes (Err e) w → AfterStrip limits bytes (step.Ended e) rows w
+begin_stops limits bytes rows w e none a = subst (λ (r : Option RowWork). AfterStrip limits bytes (step.Ended e) r w) (sym none) (by e a)
+  where
+    by : (e : Stop) → AfterBegin limits bytes (Err e) w → AfterFile limits bytes (step.Ended e) w
+    by (stop.Fault f) a = a
+    by stop.NoMemory a = tt
+
+-- SOME BYTES
+
+stops : (result : StripStep) (holds : Type 0) → holds → IfStops result holds
+stops step.More holds h = tt
+stops step.Row holds h = tt
+stops step.Whole holds h = tt
+stops (step.Ended e) holds h = h
+
+end_stops : (answer : Result Bool Stop) (holds : Type 0) → IfErr answer (λ e. holds) → IfStops (end_step answer) holds
+end_stops (Ok false) holds h = tt
+end_stops (Ok true) holds h = tt
+end_stops (Err e) holds h = h
+
+-- of a file that is read whole
+pub some_plain : (w : FileWork) (rows : Option RowWork) (run : List ℕ) (n : ℕ) (answer : Result Bool Stop) (new : FileWork) (result : StripStep) → rows ≡ None → result ≡ end_step answer → TakesSome w run n answer new → (bytes : List ℕ) → StripGoes (limits_of w) bytes rows w
+    → StripRun (limits_of w) bytes run n result rows new
+some_plain w rows run n answer new result none is t bytes g =
+    let limits = limits_of w in
+    let k = subst (λ (r : Option RowWork). StripGoes limits bytes r w) none g in
+    let front = bytes ++ take t.early run in
+    let before = t.before limits bytes k refl in
+    record {
+      mid = t.mid;
+      early = t.early;
+      count = t.count;
+      within = t.within;
+      before = before;
+      room = t.room limits bytes k refl;
+      head = subst (λ (s : StripStep). IfStops s (new.head ≡ (t.mid).head)) (sym is) (end_stops answer (new.head ≡ (t.mid).head) t.head);
+      last = plain_after (KeepsBytes w) limits (front ++ get_or run t.early 0 ∷ []) rows new answer result none is (t.last limits front before refl);
+    }
+
+-- before the first scan: contents of a segment, and a byte
+pub first_plain : (w mid : FileWork) (run : List ℕ) (n : ℕ) (old rows : Option RowWork) (new : FileWork) (result : StripStep) → old ≡ None → PassesFront w run n mid
+    → ((bytes : List ℕ) → Stands (limits_of mid) bytes mid → AfterStrip (limits_of mid) (bytes ++ get_or run n 0 ∷ []) result rows new) → IfStops result (new.head ≡ mid.head) → (bytes : List ℕ) → StripGoes (limits_of w) bytes old w
+    → StripRun (limits_of w) bytes run (n + 1) result rows new
+first_plain w mid run n old rows new result none p after head bytes g =
+    let limits = limits_of w in
+    let k = subst (λ (r : Option RowWork). StripGoes limits bytes r w) none g in
+    let front = bytes ++ take n run in
+    let before = p.stands limits bytes k in
+    record {
+      mid = mid;
+      early = n;
+      count = refl;
+      within = p.within;
+      before = before;
+      room = p.room;
+      head = head;
+      last = subst (λ (l : Limits). AfterStrip l (front ++ get_or run n 0 ∷ []) result rows new) p.limits (after front (subst (λ (l : Limits). Stands l front mid) (sym p.limits) before));
+    }
+
+-- of one that is read MCU row by MCU row
+pub some_rows : (limits : Limits) (bytes run : List ℕ) (n : ℕ) (result : StripStep) (new : FileWork) (after : RowWork) → RowsRun limits bytes run n result new after → StripRun limits bytes run n result (Some after) new
+some_rows limits bytes run n result new after t = record {
+  mid = t.mid;
+  early = t.early;
+  count = t.count;
+  within = t.within;
+  before = t.before;
+  room = t.room;
+  head = stops result (new.head ≡ (t.mid).head) (sym t.head);
+  last = t.last;
+}

@@ -1,0 +1,287 @@
+// A file in work whose first scan has all components, and is read MCU row by MCU row (T.81, A.2.3, B.2.1).
+ghost use Rattle.std.specs.Prelude.{◌≡◌, ◌<◌, ◌≤◌, ◌+◌, ℕ, List, Some, length, if◌then◌else◌, is_some, true, false, None, IfErr, IfOk, Err};
+ghost use Rattle.jpg_spec.specs.FrameHeader.{AreLimits};
+ghost use Rattle.jpg_spec.specs.Segments.{head_components};
+ghost use Rattle.jpg_spec.specs.declared.frame.Copying.TheVariants as copying;
+ghost use Rattle.jpg_base.specs.Cursor.{scan_mcus_down};
+ghost use Rattle.jpg_base.specs.declared.stop.Stop.TheVariants as stop;
+ghost use Rattle.jpg_file.specs.File.{keeping_of, limits_of};
+ghost use Rattle.jpg_file.specs.InData.{ArePlain};
+ghost use Rattle.jpg_file.specs.Reading.{IsOpenScan, IsSparing};
+ghost use Rattle.jpg_file.specs.Strips.{BeginsRows, CountsAll, CountsRows, IsNoRow, NotWanting, FindsHead, GoesByRow, HasHeadOfAll, HasLaterHead, end_step, PassesItem, PassesLaterHead, StandsByRow, TakesLaterByte, TakesRest, TakesRowByte, TakesRowRun};
+ghost use Rattle.jpg_file.specs.RowTurns.{unfinished};
+ghost use Rattle.jpg_file.specs.declared.rows.RowWork.{RowWork as Row};
+
+use crate::file::{FileWork, plain_length};
+use crate::held::is_progressive;
+use crate::items::ItemStep;
+use crate::judge::judge_head;
+use crate::rows::RowWork;
+use crate::scan::ScanStep;
+use jpg_base::{Frame, ScanHead, Stop};
+use jpg_spec::{Fault, FaultAt};
+
+/// What bytes come to.
+#[derive(Clone, Copy, Debug, PartialEq, Eq)]
+pub enum StripStep {
+    /// The file goes on.
+    More,
+    /// A further MCU row is whole.
+    Row,
+    /// The file is whole.
+    Whole,
+    /// It stops.
+    Ended(Stop),
+}
+
+// A fault with this many bytes.
+fn fault_at(fault: Fault, at: u64) -> StripStep
+    ensures { result ≡ StripStep.Ended (stop.Fault (record { fault = fault; at = at })) }
+{
+    StripStep::Ended(Stop::Fault(FaultAt { fault, at }))
+}
+
+// What data come to that go on.
+fn row_step(row: bool) -> StripStep
+    ensures { result ≡ (if row then StripStep.Row else StripStep.More) }
+{
+    if row { StripStep::Row } else { StripStep::More }
+}
+
+impl FileWork {
+    /// Goes to the next MCU row where one is whole, and takes the bits that wait behind it.
+    pub fn row_rest(&mut self, rows: &mut RowWork) -> StripStep
+        requires { (bytes : List ℕ) × StandsByRow (limits_of self.old) bytes self.old rows.old }
+        ensures after { TakesRest self.old rows.old result self.new rows.new }
+        ensures rows { CountsRows result rows.old rows.new }
+        ensures memory { NotWanting result }
+        ensures same { self.new.reading.items ≡ self.old.reading.items }
+        ensures head { self.new.head ≡ self.old.head }
+    {
+        let at = self.reading.taken;
+        let Some(scan) = &mut self.reading.scan else {
+            return StripStep::More;
+        };
+        rows.next();
+        if rows.waiting.len() == 0 {
+            return StripStep::More;
+        }
+        let (step, row) = scan.rest_in_row(rows);
+        match step {
+            ScanStep::More => row_step(row),
+            ScanStep::Fault(fault) => fault_at(fault, at),
+            ScanStep::Marker(_) => unreachable!(),
+        }
+    }
+}
+
+impl FileWork {
+    /// Takes a byte inside the data of the scan.
+    pub fn row_byte(&mut self, rows: &mut RowWork, byte: u8) -> StripStep
+        requires stands { (bytes : List ℕ) × GoesByRow (limits_of self.old) bytes self.old rows.old }
+        requires inside { is_some self.old.reading.scan ≡ true }
+        requires limits { AreLimits (limits_of self.old) }
+        requires room { self.old.reading.taken < (limits_of self.old).input }
+        ensures after { TakesRowByte self.old rows.old byte result self.new rows.new }
+        ensures rows { CountsRows result rows.old rows.new }
+        ensures memory { NotWanting result }
+        ensures sparing { IsSparing self.old.reading → IsSparing self.new.reading }
+        ensures head { self.new.head ≡ self.old.head }
+        ensures keeping { keeping_of self.new ≡ keeping_of self.old }
+    {
+        let Some(scan) = &mut self.reading.scan else {
+            unreachable!();
+        };
+        let at = self.reading.taken + 1;
+        self.reading.taken = at;
+        let (step, row) = scan.byte_in_row(rows, byte);
+        match step {
+            ScanStep::More => row_step(row),
+            ScanStep::Fault(fault) => fault_at(fault, at),
+            ScanStep::Marker(code) => {
+                self.reading.scan = None;
+                let came = self.reading.items.marker(code, at);
+                self.later_item(came)
+            }
+        }
+    }
+
+    /// Takes plain bytes inside the data of the scan, and tells how many.
+    pub fn row_run(&mut self, rows: &mut RowWork, run: &[u8]) -> (usize, StripStep)
+        requires stands { (bytes : List ℕ) × GoesByRow (limits_of self.old) bytes self.old rows.old }
+        requires limits { AreLimits (limits_of self.old) }
+        requires opened { IsOpenScan self.old.reading }
+        requires room { self.old.reading.taken + length run.now ≤ (limits_of self.old).input }
+        requires some { 1 ≤ length run.now }
+        requires few { length run.now < 4294967296 }
+        requires plain { ArePlain run.now }
+        ensures after { TakesRowRun self.old rows.old run.now result.0 result.1 self.new rows.new }
+        ensures rows { CountsRows result.1 rows.old rows.new }
+        ensures memory { NotWanting result.1 }
+        ensures same { self.new.reading.items ≡ self.old.reading.items }
+        ensures head { self.new.head ≡ self.old.head }
+    {
+        let Some(scan) = &mut self.reading.scan else {
+            unreachable!();
+        };
+        let (n, step, row) = scan.run_in_row(rows, run);
+        let at = self.reading.taken + n as u64;
+        self.reading.taken = at;
+        match step {
+            ScanStep::More => (n, row_step(row)),
+            ScanStep::Fault(fault) => (n, fault_at(fault, at)),
+            ScanStep::Marker(_) => unreachable!(),
+        }
+    }
+}
+
+impl FileWork {
+    /// Takes some of these bytes, and tells how many these were and what the last of them came to.
+    pub fn row_some(&mut self, rows: &mut RowWork, bytes: &[u8]) -> (usize, StripStep)
+        requires stands { (front : List ℕ) × GoesByRow (limits_of self.old) front self.old rows.old }
+        requires limits { AreLimits (limits_of self.old) }
+        requires room { self.old.reading.taken < (limits_of self.old).input }
+        requires some { 1 ≤ length bytes.now }
+        ensures after { TakesRowRun self.old rows.old bytes.now result.0 result.1 self.new rows.new }
+        ensures rows { CountsRows result.1 rows.old rows.new }
+        ensures memory { IsSparing self.old.reading → NotWanting result.1 }
+        ensures sparing { IsSparing self.old.reading → IsSparing self.new.reading }
+        ensures head { self.new.head ≡ self.old.head }
+        ensures keeping { keeping_of self.new ≡ keeping_of self.old }
+    {
+        if self.reading.is_open() {
+            let most = self.reading.items.limits.input - self.reading.taken;
+            let n = plain_length(bytes, most);
+            if n > 0 {
+                return self.row_run(rows, &bytes[..n]);
+            }
+        }
+        if self.reading.scan.is_some() {
+            (1, self.row_byte(rows, bytes[0]))
+        } else {
+            (1, self.later_byte(bytes[0]))
+        }
+    }
+}
+
+impl FileWork {
+    /// Takes a byte behind the scan.
+    pub fn later_byte(&mut self, byte: u8) -> StripStep
+        requires stands { (bytes : List ℕ) × (rows : Row) × GoesByRow (limits_of self.old) bytes self.old rows }
+        requires none { is_some self.old.reading.scan ≡ false }
+        requires limits { AreLimits (limits_of self.old) }
+        requires room { self.old.reading.taken < (limits_of self.old).input }
+        ensures after { TakesLaterByte self.old byte result self.new }
+        ensures no { IsNoRow result }
+        ensures memory { IsSparing self.old.reading → NotWanting result }
+        ensures sparing { IsSparing self.old.reading → IsSparing self.new.reading }
+        ensures head { self.new.head ≡ self.old.head }
+        ensures keeping { keeping_of self.new ≡ keeping_of self.old }
+    {
+        let came = self.reading.item_byte(byte);
+        self.later_item(came)
+    }
+
+    // What an item comes to behind the scan.
+    fn later_item(&self, came: ItemStep) -> StripStep
+        requires { came ≡ ItemStep.Head → HasLaterHead self.now }
+        ensures after { PassesItem self.now came result }
+        ensures memory { (came ≡ ItemStep.NoMemory → ⊥) → NotWanting result }
+        ensures no { IsNoRow result }
+    {
+        match came {
+            ItemStep::More => StripStep::More,
+            ItemStep::Head => self.later_head(),
+            ItemStep::Eoi => end_step(self.take_end()),
+            ItemStep::Fault(fault) => StripStep::Ended(Stop::Fault(fault)),
+            ItemStep::NoMemory => StripStep::Ended(Stop::NoMemory),
+        }
+    }
+
+    // A scan header after a scan of all components shows a fault.
+    fn later_head(&self) -> StripStep
+        requires { HasLaterHead self.now }
+        ensures after { PassesLaterHead self.now result }
+        ensures memory { NotWanting result }
+        ensures no { IsNoRow result }
+    {
+        let Some(frame) = &self.reading.items.held.frame else {
+            unreachable!();
+        };
+        match judge_head(
+            self.reading.items.segments.contents(),
+            frame,
+            &self.reading.items.held,
+            &self.begun,
+        ) {
+            Err(fault) => fault_at(fault, self.reading.taken),
+            Ok(_) => unreachable!(),
+        }
+    }
+}
+
+/// What a byte of a file that is read whole comes to.
+pub fn end_step(answer: Result<bool, Stop>) -> StripStep
+    ensures is { result ≡ end_step answer }
+    ensures no { IsNoRow result }
+    ensures memory { (answer ≡ Err stop.NoMemory → ⊥) → NotWanting result }
+{
+    match answer {
+        Ok(false) => StripStep::More,
+        Ok(true) => StripStep::Whole,
+        Err(stop) => StripStep::Ended(stop),
+    }
+}
+
+impl FileWork {
+    /// The frame and the scan header that is whole, where it is of a sequential scan of all components and breaks no rule.
+    pub fn head_of_all(&self) -> Option<(Frame, ScanHead)>
+        ensures { FindsHead self.now result }
+    {
+        let Some(frame) = &self.reading.items.held.frame else {
+            return None;
+        };
+        let Ok(head) = judge_head(
+            self.reading.items.segments.contents(),
+            frame,
+            &self.reading.items.held,
+            &self.begun,
+        ) else {
+            return None;
+        };
+        if is_progressive(frame) || head.parts.len() != frame.count() as usize {
+            return None;
+        }
+        Some((frame.copy(), head))
+    }
+
+    /// A scan with such a header begins, with its first MCU row, and with room for each segment after it.
+    pub fn begin_rows(&mut self, frame: &Frame, head: &ScanHead) -> Result<RowWork, Stop>
+        requires of { HasHeadOfAll self.old frame.now head.now }
+        requires first { self.old.head ≡ None }
+        ensures after { BeginsRows self.old frame.now head.now result self.new }
+        ensures count { IfOk result (λ rows. unfinished rows ≡ scan_mcus_down frame.now (head_components head.now)) }
+        ensures all { IfOk result (λ rows. CountsAll (Some rows) self.new) }
+        ensures sparing { IfOk result (λ rows. keeping_of self.old ≡ copying.None → IsSparing self.new.reading) }
+        ensures head { IfErr result (λ stop. self.new.head ≡ self.old.head) }
+        ensures keeping { keeping_of self.new ≡ keeping_of self.old }
+    {
+        frame.checked();
+        let Ok(rows) = RowWork::new(self.alloc, frame, head) else {
+            return Err(Stop::NoMemory);
+        };
+        match self.reading.begin_head(&mut self.begun) {
+            ItemStep::More => {
+                if self.reading.items.segments.reserve().is_err() {
+                    return Err(Stop::NoMemory);
+                }
+                self.note_head();
+                Ok(rows)
+            }
+            ItemStep::Fault(fault) => Err(Stop::Fault(fault)),
+            ItemStep::Head => unreachable!(),
+            ItemStep::Eoi => unreachable!(),
+            ItemStep::NoMemory => unreachable!(),
+        }
+    }
+}

@@ -1,0 +1,156 @@
+-- MCU rows that are told are of the scan that the file's header begins, and as many as its picture has.
+use Rattle.std.proofs.Common.{◌≡◌, ℕ, Bool, ◌+◌, ◌*◌, ◌<◌, ◌≤◌, false, List, [], ◌∷◌, ◌++◌, length, sym, ap, ◌∙◌, subst, arith, ⊎_elim, None}
+use Rattle.std.proofs.lemmas.Bool.{cases_lt}
+use Rattle.std.proofs.lemmas.Nat.{mul-le}
+use Rattle.std.proofs.lemmas.List.{append_assoc, append-nil, length-append}
+use Rattle.jpg_spec.specs.Lists.{joined}
+use Rattle.jpg_spec.specs.FrameHeader.{AreLimits, IsFrame}
+use Rattle.jpg_spec.specs.Segments.{head_components}
+use Rattle.jpg_spec.specs.Scan.{Blocks}
+use Rattle.jpg_spec.specs.Markers.{Segment, code_fault, has_scan}
+use Rattle.jpg_spec.specs.InForce.{frame_of, head_in}
+use Rattle.jpg_spec.specs.Header.{IsHeader}
+use Rattle.jpg_spec.specs.Items.{segments_of}
+use Rattle.jpg_spec.specs.FileMeaning.{meaning_of, no_blocks, scan_after}
+use Rattle.jpg_spec.specs.FirstFault.{InsideScan}
+use Rattle.jpg_spec.specs.Pixels.{out_fault}
+use Rattle.jpg_spec.specs.Strips.{mcu_rows}
+use Rattle.jpg_spec.specs.ScanRows.{first_rows, scan_row}
+use Rattle.jpg_spec.specs.RowsTold.{BeginsScanOfAll, CompletesRows, TellsBlocks, TellsRows, row_places}
+use Rattle.jpg_spec.specs.RowsShown.{ShowsRows, picture_so_far, rows_text}
+use Rattle.jpg_spec.specs.RowLaws.{IsShownInRows}
+use Rattle.jpg_spec.specs.declared.image.EndKind.{EndKind}
+use Rattle.jpg_spec.specs.declared.frame.Limits.{Limits}
+use Rattle.jpg_spec.proofs.BeforeScans.{header_leads}
+use Rattle.jpg_spec.proofs.BlocksOnce.{joined_chunks}
+use Rattle.jpg_spec.proofs.FileHeader.{no_scan_spelled}
+use Rattle.jpg_spec.proofs.FirstScan.{first_some_places}
+use Rattle.jpg_spec.proofs.FrameBehind.{leads_pass}
+use Rattle.jpg_spec.proofs.FrameFound.{framed}
+use Rattle.jpg_spec.proofs.HeaderFirst.{scan_passed, with_scan}
+use Rattle.jpg_spec.proofs.HeadersOnce.{items_of, segments_of_items}
+use Rattle.jpg_spec.proofs.OneHeader.{whole_once}
+use Rattle.jpg_spec.proofs.PictureInWork.{joined_join}
+use Rattle.jpg_spec.proofs.Untouched.{frame_stays}
+use Rattle.jpg_spec.proofs.RowCounts.{head_below, length_rows, picture_rows, units_by_row}
+use Rattle.jpg_spec.proofs.RowsCovered.{shown_covered}
+use Rattle.jpg_spec.proofs.RowsLater.{frame_there, head_there}
+use Rattle.jpg_spec.proofs.RowsOnce.{completed_once}
+use Rattle.jpg_spec.proofs.RowsWhole.{no_more_rows}
+
+-- A PLACE INSIDE THE FIRST SCAN stands after the header of the file
+
+pub place_header : (limits : Limits) (bytes tail : List ℕ) (i : InsideScan limits bytes tail) → has_scan (segments_of i.items) ≡ false → IsHeader limits (i.front ++ i.head) (segments_of i.items) i.contents
+place_header limits bytes tail i none =
+    with_scan limits (segments_of i.items) i.front i.head i.contents (no_scan_spelled i.items i.front i.spelled none, leads_pass limits i.items i.blocks i.leads, none) i.header i.allowed.0
+    (scan_passed limits (segments_of i.items) i.contents i.allowed.1)
+
+-- so they are told with a scan of all components begun
+pub rows_begin : (limits : Limits) (bytes : List ℕ) (rows : ℕ) (x : Blocks) (w : TellsRows limits bytes rows x) → BeginsScanOfAll limits bytes (segments_of (w.place).items) (w.place).contents
+rows_begin limits bytes rows x w =
+    let i = w.place in
+    record {
+      front = i.front ++ i.head;
+      rest = i.text ++ w.rest;
+      cut = w.cut ∙ ap (λ l. l ++ w.rest) (i.cut ∙ append-nil (i.front ++ i.head ++ i.text)) ∙ append_assoc (i.front ++ i.head) i.text w.rest;
+      header = place_header limits w.front [] i (w.of_all).first;
+      unbroken = i.allowed.1;
+      of_all = w.of_all;
+    }
+
+-- and bytes begin one
+pub begun_once : (limits : Limits) (bytes : List ℕ) (before others : List Segment) (contents more : List ℕ) → BeginsScanOfAll limits bytes before contents → BeginsScanOfAll limits bytes others more
+    → (before ≡ others) × (contents ≡ more)
+begun_once limits bytes before others contents more a b =
+    let h = whole_once limits a.front b.front a.rest b.rest before others contents more a.header b.header (sym a.cut ∙ b.cut) in (h.1, h.2)
+
+-- ITS PICTURE has as many MCU rows
+
+pub begun_frame : (limits : Limits) (bytes : List ℕ) (before : List Segment) (contents : List ℕ) → AreLimits limits → BeginsScanOfAll limits bytes before contents → IsFrame (frame_of limits before)
+begun_frame limits bytes before contents limited w =
+    let same = segments_of_items before in
+    subst (λ xs. IsFrame (frame_of limits xs)) same
+    (frame_there limits (items_of before) no_blocks limited (header_leads limits before (w.of_all).first (w.header).passed.2) (subst (λ xs. code_fault xs 0xda ≡ None) (sym same) (w.header).passed.0))
+
+pub begun_rows : (limits : Limits) (bytes : List ℕ) (before : List Segment) (contents : List ℕ) (blocks : Blocks) → AreLimits limits → BeginsScanOfAll limits bytes before contents
+    → (scan_after limits before contents).places ≡ row_places limits before contents (mcu_rows (picture_so_far limits before contents blocks))
+begun_rows limits bytes before contents blocks limited w =
+    let f = frame_of limits before in
+    let head = head_in f contents in
+    let after = (0xda, contents) ∷ before in
+    let is = begun_frame limits bytes before contents limited w in
+    let stays : frame_of limits after ≡ f = frame_stays limits before 0xda contents (framed before (w.header).passed.0) (w.header).passed.0 in
+    units_by_row f (head_components head)
+    ∙ ap (first_rows f (head_components head))
+    (sym (ap (λ g. mcu_rows (meaning_of g after blocks)) stays ∙ picture_rows f (head_components head) after blocks is (head_below f head (head_there limits before contents w.unbroken)) (w.of_all).all))
+
+pub begun_places : (limits : Limits) (bytes : List ℕ) (before : List Segment) (contents : List ℕ) → BeginsScanOfAll limits bytes before contents → 1 ≤ length (scan_after limits before contents).places
+begun_places limits bytes before contents w = first_some_places limits w.front before contents w.header w.unbroken
+
+-- and where it is shown, its components cover the image's rows
+pub begun_covered : (limits : Limits) (bytes : List ℕ) (before : List Segment) (contents : List ℕ) (blocks : Blocks) (gray smooth : Bool) → AreLimits limits → BeginsScanOfAll limits bytes before contents
+    → out_fault gray (picture_so_far limits before contents blocks) ≡ None → IsShownInRows (picture_so_far limits before contents blocks) gray smooth
+begun_covered limits bytes before contents blocks gray smooth limited w none =
+    let after = (0xda, contents) ∷ before in
+    let stays : frame_of limits after ≡ frame_of limits before = frame_stays limits before 0xda contents (framed before (w.header).passed.0) (w.header).passed.0 in
+    shown_covered (frame_of limits after) after blocks gray smooth (subst (λ g. IsFrame g) (sym stays) (begun_frame limits bytes before contents limited w)) none
+
+-- ALL ROWS that are told are complete, whatever follows
+
+pub told_here : (limits : Limits) (bytes : List ℕ) (rows : ℕ) (x : Blocks) (before : List Segment) (contents : List ℕ) → BeginsScanOfAll limits bytes before contents → (w : TellsRows limits bytes rows x)
+    → TellsBlocks (scan_after limits before contents) (w.place).done (w.place).coded w.places w.told × (w.places ≡ row_places limits before contents rows ++ w.more)
+told_here limits bytes rows x before contents b w =
+    let same = begun_once limits bytes (segments_of (w.place).items) before (w.place).contents contents (rows_begin limits bytes rows x w) b in
+    let P : List Segment → List ℕ → Type 0 =
+    λ before contents. TellsBlocks (scan_after limits before contents) (w.place).done (w.place).coded w.places w.told × (w.places ≡ row_places limits before contents rows ++ w.more) in
+    subst (λ c. P before c) same.1 (subst (λ s. P s (w.place).contents) same.0 (w.tells, w.first))
+
+pub all_complete : (limits : Limits) (bytes : List ℕ) (rows : ℕ) (x : Blocks) (before : List Segment) (contents : List ℕ) → BeginsScanOfAll limits bytes before contents
+    → (scan_after limits before contents).places ≡ row_places limits before contents rows → TellsRows limits bytes rows x → CompletesRows limits bytes rows x
+all_complete limits bytes rows x before contents b all w = (
+  w,
+  λ y v. (let h = told_here limits bytes (rows + 1) y before contents b v in
+      no_more_rows limits before contents rows (v.place).done (v.place).coded v.places v.more v.told all (begun_places limits bytes before contents b) h.0 h.1),
+)
+
+-- no more rows are told than there are
+pub rows_few : (limits : Limits) (bytes : List ℕ) (rows all : ℕ) (x : Blocks) (before : List Segment) (contents : List ℕ) → BeginsScanOfAll limits bytes before contents
+    → (scan_after limits before contents).places ≡ row_places limits before contents all → TellsRows limits bytes rows x → rows ≤ all
+rows_few limits bytes rows all x before contents b whole w =
+    ⊎_elim (λ (h : all < rows). absurd (too_many h)) (λ (h : rows ≤ all). h) (cases_lt all rows)
+  where
+    too_many : all < rows → ⊥
+    too_many h =
+        let t = told_here limits bytes rows x before contents b w in
+        let s = scan_after limits before contents in
+        let f = frame_of limits before in
+        let ids = head_components (head_in f contents) in
+        let row = length (scan_row f ids 0) in
+        let q = t.0 in
+        let cut : s.places ≡ joined q.whole ++ ((q.part ++ q.rest) ++ joined q.later) = sym (joined_chunks s.interval s.places) ∙ ap joined q.intervals ∙ joined_join q.whole ((q.part ++ q.rest) ∷ q.later) in
+        let l1 = ap length cut in
+        let l2 = length-append (joined q.whole) ((q.part ++ q.rest) ++ joined q.later) in
+        let l3 = length-append (q.part ++ q.rest) (joined q.later) in
+        let l4 = length-append q.part q.rest in
+        let l5 = ap length q.all ∙ length-append (joined q.whole) q.part in
+        let l6 = ap length t.1 ∙ length-append (row_places limits before contents rows) w.more in
+        let l7 = length_rows f ids rows in
+        let l8 = ap length whole ∙ length_rows f ids all in
+        let some = begun_places limits bytes before contents b in
+        let more : (all + 1) * row ≤ rows * row = mul-le (all + 1) row rows row (omega (arith, h)) (omega arith) in
+        let l9 : (all + 1) * row ≡ all * row + row = grind arith in
+        let short : row ≡ 0 = omega (arith, l1, l2, l3, l4, l5, l6, l7, l8, l9, more) in
+        let none : all * row ≡ 0 = ap (λ n. all * n) short ∙ omega arith in
+        omega (arith, some, l8, none)
+
+-- BYTES SHOW ONE TEXT
+pub shown_once : (limits : Limits) (kind : EndKind) (gray smooth : Bool) (bytes a b : List ℕ) → ShowsRows limits kind gray smooth bytes a → ShowsRows limits kind gray smooth bytes b → a ≡ b
+shown_once limits kind gray smooth bytes a b v w =
+    let head = begun_once limits bytes v.before w.before v.contents w.contents v.begins w.begins in
+    let rows = completed_once limits bytes v.rows w.rows v.blocks w.blocks v.completed w.completed in
+    v.same
+    ∙ ap (λ s. rows_text kind (picture_so_far limits s v.contents v.blocks) gray smooth v.rows) head.0
+    ∙ ap (λ c. rows_text kind (picture_so_far limits w.before c v.blocks) gray smooth v.rows) head.1
+    ∙ ap (λ b. rows_text kind (picture_so_far limits w.before w.contents b) gray smooth v.rows) rows.1
+    ∙ ap (λ n. rows_text kind (picture_so_far limits w.before w.contents w.blocks) gray smooth n) rows.0
+    ∙ sym w.same

@@ -1,0 +1,81 @@
+-- THE MCU ROWS OF A FIRST SCAN that the bytes of a file tell while it is read (T.81, A.2.3, B.1.1.5, E.1.4, F.2.2).
+use Rattle.std.specs.Prelude.{◌≡◌, ℕ, ◌+◌, Bool, false, if◌then◌else◌, ℤ, List, [], ◌∷◌, ◌++◌, length, map, flat_map, None}
+use Rattle.jpg_spec.specs.Bits.{bits_of_bytes}
+use Rattle.jpg_spec.specs.Lists.{any_of, chunks, joined}
+use Rattle.jpg_spec.specs.Elements.{Coding, Covers, Element, Standing, UnitLeft, at_start}
+use Rattle.jpg_spec.specs.Geometry.{is_progressive}
+use Rattle.jpg_spec.specs.Segments.{head_components}
+use Rattle.jpg_spec.specs.Scan.{Blocks, Scan, SpellsIntervals, band, block_at, unit_at}
+use Rattle.jpg_spec.specs.Markers.{Segment, has_scan}
+use Rattle.jpg_spec.specs.InForce.{frame_of, head_in}
+use Rattle.jpg_spec.specs.Items.{contents_rule, segments_of}
+use Rattle.jpg_spec.specs.Header.{IsHeader}
+use Rattle.jpg_spec.specs.FileMeaning.{no_blocks, scan_after}
+use Rattle.jpg_spec.specs.FirstFault.{InsideScan}
+use Rattle.jpg_spec.specs.PictureInWork.{is_at}
+use Rattle.jpg_spec.specs.ScanRows.{first_rows}
+use Rattle.jpg_spec.specs.declared.frame.Limits.{Limits}
+use Rattle.jpg_spec.specs.declared.frame.Place.{Place}
+
+-- THE SCAN: a sequential file's first one, which has all components of the frame
+
+pub record IsScanOfAll (limits : Limits) (before : List Segment) (contents : List ℕ) : Type 0 where
+  pub first : has_scan before ≡ false
+  pub sequential : is_progressive (frame_of limits before).process ≡ false
+  pub all : length (head_components (head_in (frame_of limits before) contents)) ≡ length (frame_of limits before).components
+
+-- First bytes are the file's header, whose scan header breaks no rule and begins such a scan.
+pub record BeginsScanOfAll (limits : Limits) (bytes : List ℕ) (before : List Segment) (contents : List ℕ) : Type 0 where
+  pub front : List ℕ
+  pub rest : List ℕ
+  pub cut : bytes ≡ front ++ rest
+  pub header : IsHeader limits front before contents
+  pub unbroken : contents_rule limits before 0xda contents ≡ None
+  pub of_all : IsScanOfAll limits before contents
+
+-- its places in so many first MCU rows
+abbrev pub row_places : Limits → List Segment → List ℕ → ℕ → List Place
+row_places limits before contents rows = (let f = frame_of limits before in first_rows f (head_components (head_in f contents)) rows)
+
+-- WHAT ITS DATA TELL
+
+-- The bits tell these values, the first ones of the units of an interval.
+abbrev pub TellsFirst : Coding → List UnitLeft → List ℤ → List Bool → Type 0
+TellsFirst c units told bits = (elements : List Element) × (t : Standing) × Covers c (at_start units) elements told bits t
+
+-- Whole intervals, and then first bits of the one in work, tell the blocks at these places. What follows these bits is of no account.
+pub record TellsBlocks (s : Scan) (done : List (List ℕ)) (coded : List ℕ) (places : List Place) (told : Blocks) : Type 0 where
+  pub whole : List (List Place)
+  pub part : List Place
+  pub rest : List Place
+  pub later : List (List Place)
+  pub bits : List Bool
+  pub behind : List Bool
+  pub intervals : chunks s.interval s.places ≡ whole ++ (part ++ rest) ∷ later
+  pub all : places ≡ joined whole ++ part
+  pub spelled : SpellsIntervals s no_blocks told whole done
+  pub cut : bits_of_bytes coded ≡ bits ++ behind
+  pub first : TellsFirst s.coding (map (unit_at s no_blocks) (part ++ rest)) (flat_map (λ p. band s (block_at told p)) part) bits
+  pub sizes : (i x y : ℕ) → length (told i x y) ≡ 64
+
+-- the blocks at these places, and zeros elsewhere
+abbrev pub blocks_in : List Place → Blocks → Blocks
+blocks_in places told i x y = if any_of (is_at i x y) places then told i x y else no_blocks i x y
+
+-- So many MCU rows are told: first bytes stand inside the data of such a scan, and tell the blocks of these rows. All other blocks are zero.
+pub record TellsRows (limits : Limits) (bytes : List ℕ) (rows : ℕ) (blocks : Blocks) : Type 0 where
+  pub front : List ℕ
+  pub rest : List ℕ
+  pub cut : bytes ≡ front ++ rest
+  pub place : InsideScan limits front []
+  pub of_all : IsScanOfAll limits (segments_of place.items) place.contents
+  pub places : List Place
+  pub more : List Place
+  pub told : Blocks
+  pub tells : TellsBlocks (scan_after limits (segments_of place.items) place.contents) place.done place.coded places told
+  pub first : places ≡ row_places limits (segments_of place.items) place.contents rows ++ more
+  pub same : blocks ≡ blocks_in (row_places limits (segments_of place.items) place.contents rows) told
+
+-- THE MCU ROWS that the bytes complete: so many, and not one more.
+abbrev pub CompletesRows : Limits → List ℕ → ℕ → Blocks → Type 0
+CompletesRows limits bytes rows blocks = TellsRows limits bytes rows blocks × ((more : Blocks) → TellsRows limits bytes (rows + 1) more → ⊥)
