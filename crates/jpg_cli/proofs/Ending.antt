@@ -32,11 +32,12 @@ use Rattle.jpg_spec.specs.Messages.{message, status_of}
 use Rattle.jpg_cli.proofs.Endings.{stopped_then, unopened_then, unread_then, untouched_then, wrote_then}
 use Rattle.jpg_cli.specs.Run.{PictureInput, SaysText, task_of, showing_of, RanShow, Worked, Works, Ran, IsAnswerDue, IsShowDue, NoneRose}
 use Rattle.jpg_cli.specs.Ends.{has_format}
-use Rattle.jpg_cli.specs.Showing.{Showing, Shown}
+use Rattle.jpg_cli.specs.Showing.{Showing, Shown, bytes_before}
 use Rattle.jpg_cli.specs.declared.read_picture.Wanted.{Wanted}
 use Rattle.jpg_cli.specs.declared.read_picture.Wanted.TheVariants.{Coefficients, Image}
 use Rattle.jpg_cli.proofs.ImageEncoded.{encoding_then}
 use Rattle.jpg_cli.proofs.ImageShown.{shown_then}
+use Rattle.jpg_cli.proofs.RowsStand.{so_read}
 use Rattle.jpg_cli.specs.Stays.{OnlySays}
 
 -- a message changes nothing of what was done
@@ -167,14 +168,15 @@ pub show_due : (s : Showing) (s0 s1 : DeskState) (w : Why) → NoneRose s0.count
 unfolding picture_due
 show_due s s0 s1 why.Done n (M, read, wrote) = record { picture = picture_due (Image s.gray) s.input s0 s1 M read; shown = read.is.wanted }
 show_due s s0 s1 (why.Usage u) n h = absurd h
-show_due s s0 s1 (why.Refused f) n h = record { bytes = h.1.bytes ++ rest_of s1.left; file = h.1.read; refused = h.1.is.refused }
+show_due s s0 s1 (why.Refused f) n h =
+    let k = so_read s (bytes_before f) (IsRefusedRead (Image s.gray) f (rest_of s1.left)) s0 s1 h in record { bytes = k.bytes ++ rest_of s1.left; file = k.read; refused = k.is.refused }
 show_due s s0 s1 (why.Picture p) n h = absurd h
 show_due s s0 s1 (why.OpenFault which.Input) n h = absurd (n.0 h.opens)
 show_due s s0 s1 (why.OpenFault which.Script) n h = absurd h
 show_due s s0 s1 (why.OpenFault which.Tables) n h = absurd h
 show_due s s0 s1 (why.OpenFault which.Comment) n h = absurd h
 show_due s s0 s1 (why.OpenFault which.Output) n h = absurd (n.0 h.0.opens)
-show_due s s0 s1 (why.ReadFault which.Input) n h = absurd (n.1 h.0.reads)
+show_due s s0 s1 (why.ReadFault which.Input) n h = absurd (n.1 h.0)
 show_due s s0 s1 (why.ReadFault which.Script) n h = absurd h
 show_due s s0 s1 (why.ReadFault which.Tables) n h = absurd h
 show_due s s0 s1 (why.ReadFault which.Comment) n h = absurd h

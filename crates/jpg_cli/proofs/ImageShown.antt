@@ -8,6 +8,7 @@ use Rattle.jpg_base.specs.Laws.{Grows, Grows-from}
 use Rattle.jpg_spec.specs.ImageText.{end_text}
 use Rattle.jpg_spec.specs.Meaning.{Meaning}
 use Rattle.jpg_spec.specs.Pixels.{info, pixels}
+use Rattle.jpg_spec.specs.Segments.{standard_limits}
 use Rattle.jpg_spec.specs.declared.answers.Why.{Why}
 use Rattle.jpg_spec.specs.declared.answers.Why.TheVariants as why
 use Rattle.jpg_spec.specs.declared.answers.Which.TheVariants as which
@@ -18,23 +19,25 @@ use Rattle.jpg_color.specs.DecodeRows.{Decodes}
 use Rattle.jpg_color.specs.declared.decode.DecodeStop.{DecodeStop}
 use Rattle.jpg_color.specs.declared.decode.DecodeStop.TheVariants as stop
 use Rattle.jpg_file.specs.Keeping.{kept_for}
+use Rattle.jpg_file.specs.RowsNone.{HasNoRows}
 use Rattle.jpg_file.proofs.KeepingLaws.{info_same, pixels_same}
 use Rattle.jpg_pnm_bmp.specs.EndState.{EndState, new_end}
 use Rattle.jpg_huff.specs.Out.{OnlyWrites}
 use Rattle.jpg_cli.specs.CommentWords.{file_told}
 use Rattle.jpg_cli.specs.Commands.{name_of}
 use Rattle.jpg_cli.specs.Endings.{Added, Asks}
-use Rattle.jpg_cli.specs.ReadPicture.{IsRefusedRead, IsShortRead, IsOpenRead, IsWholeRead, PictureRead, ReadsFrom}
-use Rattle.jpg_cli.specs.Reading.{rest_of}
+use Rattle.jpg_cli.specs.ReadPicture.{IsShortRead, IsOpenRead, IsWholeRead}
 use Rattle.jpg_cli.specs.Run.{RanShow}
 use Rattle.jpg_cli.specs.ShowWords.{show_told}
-use Rattle.jpg_cli.specs.Showing.{AfterImage, ReadsShown, Shown, ShownBy, ShownInPart, Showing, shown_text}
+use Rattle.jpg_cli.specs.Showing.{AfterImage, IsInTime, ReadsShown, Shown, ShownBy, ShownInPart, Showing, all_bytes, shown_text}
 use Rattle.jpg_cli.specs.Stays.{Keeps, OnlySays}
 use Rattle.jpg_cli.specs.declared.read_picture.Wanted.TheVariants.{Image}
 use Rattle.jpg_cli.specs.declared.show_words.ShowWords.{ShowWords}
-use Rattle.jpg_cli.proofs.Endings.{asks_next, stopped_then, unopened_then, unread_then, wrote_then}
+use Rattle.jpg_cli.proofs.Endings.{asks_next, stopped_then, unopened_then, wrote_then}
 use Rattle.jpg_cli.proofs.InsertedThen.{same_name}
 use Rattle.jpg_cli.proofs.PictureTaken.{from_still}
+use Rattle.jpg_cli.proofs.RowHeads.{begins_still}
+use Rattle.jpg_cli.proofs.RowsStand.{refused_then, rows_then, stands_then, still_read}
 
 -- CREATED AND WRITTEN
 
@@ -73,26 +76,6 @@ text_shown s keeping M =
     ap (λ (told : ImageInfo). end_text s.kind told (pixels (kept_for keeping M) s.gray s.smooth)) (info_same keeping s.gray M)
     ∙ ap (end_text s.kind (info M s.gray)) (pixels_same keeping s.gray s.smooth M)
 
--- NO PICTURE
-
-pub shown_unread : (s : Showing) (keeping : Copying) (s0 s1 : DeskState) (w : Why) → PictureRead (Image s.gray) keeping s.input s0 (Err w) s1 → Shown s s0 w s1
-shown_unread s keeping s0 s1 why.Done h = absurd h
-shown_unread s keeping s0 s1 (why.Usage u) h = absurd h
-shown_unread s keeping s0 s1 (why.Refused f) h = h
-shown_unread s keeping s0 s1 (why.Picture p) h = absurd h
-shown_unread s keeping s0 s1 (why.OpenFault which.Input) h = h
-shown_unread s keeping s0 s1 (why.OpenFault which.Script) h = absurd h
-shown_unread s keeping s0 s1 (why.OpenFault which.Tables) h = absurd h
-shown_unread s keeping s0 s1 (why.OpenFault which.Comment) h = absurd h
-shown_unread s keeping s0 s1 (why.OpenFault which.Output) h = absurd h
-shown_unread s keeping s0 s1 (why.ReadFault which.Input) h = h
-shown_unread s keeping s0 s1 (why.ReadFault which.Script) h = absurd h
-shown_unread s keeping s0 s1 (why.ReadFault which.Tables) h = absurd h
-shown_unread s keeping s0 s1 (why.ReadFault which.Comment) h = absurd h
-shown_unread s keeping s0 s1 (why.ReadFault which.Output) h = absurd h
-shown_unread s keeping s0 s1 why.WriteFault h = absurd h
-shown_unread s keeping s0 s1 why.NoMemory h = inl h
-
 -- A PICTURE, and its image written
 
 pub record HasImageRead (s : Showing) (M : Meaning) (s0 s1 s2 : DeskState) : Type 0 where
@@ -100,9 +83,14 @@ pub record HasImageRead (s : Showing) (M : Meaning) (s0 s1 s2 : DeskState) : Typ
   pub asked : Asks (s.input ∷ []) put.Done s0 s1
   pub read : ReadsShown s M s0 s1
   pub left : s2.left ≡ s1.left
+  pub plain : HasNoRows standard_limits read.bytes
 
-image_on : (s : Showing) (M : Meaning) (s0 s1 s2 : DeskState) → HasImageRead s M s0 s1 s2 → ReadsShown s M s0 s2
-image_on s M s0 s1 s2 h = from_still s0 s1 s2 s.input (IsWholeRead (Image s.gray) M) h.left h.read
+-- no rows are due before
+none_early : (s : Showing) (bytes written : List ℕ) → HasNoRows standard_limits bytes → IsInTime s bytes written
+none_early s bytes written none front rest text cut many k = absurd (none k.before k.contents (begins_still front rest bytes k.before k.contents cut k.begins))
+
+abbrev image_on : (s : Showing) (M : Meaning) (s0 s1 s2 : DeskState) → HasImageRead s M s0 s1 s2 → ReadsShown s M s0 s2
+image_on s M s0 s1 s2 h = still_read s0 s1 s2 s.input (IsWholeRead (Image s.gray) M) h.left h.read
 
 wrote_image : (s : Showing) (M : Meaning) (s0 s1 s2 : DeskState) (text : List ℕ) → HasImageRead s M s0 s1 s2 → NotesName s1.asked (s.output, put.Done) s2.asked → Grows s1.outputs (s.output, text) s2.outputs → Added (s.input ∷ []) s.output text s0 s2
 wrote_image s M s0 s1 s2 text h o grows = record {
@@ -127,12 +115,14 @@ shown_written s M s0 s1 s2 (why.OpenFault which.Output) h (asked, rose, same) = 
     stopped = record { asked = asks_next s0 s1 s2 (s.input ∷ []) s.output put.Failed h.asked asked; outputs = same ∙ h.kept.outputs };
     opens = (let f = h.kept.works.stays.counts.opens in omega (arith, rose, f));
   },
-  (M, image_on s M s0 s1 s2 h),
+  inl (M, image_on s M s0 s1 s2 h),
 )
 shown_written s M s0 s1 s2 (why.ReadFault file) h k = absurd k
-shown_written s M s0 s1 s2 why.WriteFault h (asked, rose, (n, grows)) =
-    ((let f = h.kept.works.stays.counts.writes in omega (arith, rose, f)), in_part s M s0 s1 s2 n h asked grows)
-shown_written s M s0 s1 s2 why.NoMemory h (asked, (n, less, grows)) = inr (record { part = in_part s M s0 s1 s2 n h asked grows; left = less })
+shown_written s M s0 s1 s2 why.WriteFault h (asked, rose, (n, grows)) = (
+  (let f = h.kept.works.stays.counts.writes in omega (arith, rose, f)),
+  inl (record { part = in_part s M s0 s1 s2 n h asked grows; early = none_early s (h.read).bytes (take n (shown_text s M)) h.plain }),
+)
+shown_written s M s0 s1 s2 why.NoMemory h (asked, (n, less, grows)) = inr (inl (record { part = in_part s M s0 s1 s2 n h asked grows; left = less }))
 
 -- A MESSAGE THEN
 
@@ -140,7 +130,7 @@ abbrev part_then : (s : Showing) (s0 s1 s2 : DeskState) → OnlySays s1 s2 → S
 part_then s s0 s1 s2 k h = record {
   meaning = h.meaning;
   count = h.count;
-  read = from_still s0 s1 s2 s.input (IsWholeRead (Image s.gray) h.meaning) k.same.left h.read;
+  read = still_read s0 s1 s2 s.input (IsWholeRead (Image s.gray) h.meaning) k.same.left h.read;
   wrote = wrote_then s0 s1 s2 (s.input ∷ []) s.output (take h.count (shown_text s h.meaning)) k h.wrote;
 }
 
@@ -148,24 +138,29 @@ pub shown_then : (s : Showing) (s0 s1 s2 : DeskState) (w : Why) → OnlySays s1 
 shown_then s s0 s1 s2 why.Done k (M, read, wrote) =
     (M, from_still s0 s1 s2 s.input (IsWholeRead (Image s.gray) M) k.same.left read, wrote_then s0 s1 s2 (s.input ∷ []) s.output (shown_text s M) k wrote)
 shown_then s s0 s1 s2 (why.Usage u) k h = absurd h
-shown_then s s0 s1 s2 (why.Refused f) k h =
-    let P : Option (List ℕ) → Type 0 = λ l. ReadsFrom s.input (IsRefusedRead (Image s.gray) f (rest_of l)) s0 s2 in
-    (stopped_then s0 s1 s2 (s.input ∷ []) put.Done k h.0, subst P (sym k.same.left) (from_still s0 s1 s2 s.input (IsRefusedRead (Image s.gray) f (rest_of s1.left)) k.same.left h.1))
+shown_then s s0 s1 s2 (why.Refused f) k h = refused_then s f s0 s1 s2 k h
 shown_then s s0 s1 s2 (why.Picture p) k h = absurd h
 shown_then s s0 s1 s2 (why.OpenFault which.Input) k h = unopened_then s0 s1 s2 (s.input ∷ []) k h
 shown_then s s0 s1 s2 (why.OpenFault which.Script) k h = absurd h
 shown_then s s0 s1 s2 (why.OpenFault which.Tables) k h = absurd h
 shown_then s s0 s1 s2 (why.OpenFault which.Comment) k h = absurd h
-shown_then s s0 s1 s2 (why.OpenFault which.Output) k h =
-    (unopened_then s0 s1 s2 (s.input ∷ s.output ∷ []) k h.0, (h.1.0, from_still s0 s1 s2 s.input (IsWholeRead (Image s.gray) h.1.0) k.same.left h.1.1))
-shown_then s s0 s1 s2 (why.ReadFault which.Input) k h = (unread_then s0 s1 s2 (s.input ∷ []) k h.0, from_still s0 s1 s2 s.input (IsOpenRead (Image s.gray)) k.same.left h.1)
+shown_then s s0 s1 s2 (why.OpenFault which.Output) k (unopened, inl h) =
+    (unopened_then s0 s1 s2 (s.input ∷ s.output ∷ []) k unopened, inl (h.0, from_still s0 s1 s2 s.input (IsWholeRead (Image s.gray) h.0) k.same.left h.1))
+shown_then s s0 s1 s2 (why.OpenFault which.Output) k (unopened, inr h) =
+    (unopened_then s0 s1 s2 (s.input ∷ s.output ∷ []) k unopened, inr (still_read s0 s1 s2 s.input _ k.same.left h))
+shown_then s s0 s1 s2 (why.ReadFault which.Input) k h =
+    ((let rose = h.0 in let f = k.stays.counts.reads in omega (arith, rose, f)), stands_then s all_bytes (IsOpenRead (Image s.gray)) s0 s1 s2 k h.1)
 shown_then s s0 s1 s2 (why.ReadFault which.Script) k h = absurd h
 shown_then s s0 s1 s2 (why.ReadFault which.Tables) k h = absurd h
 shown_then s s0 s1 s2 (why.ReadFault which.Comment) k h = absurd h
 shown_then s s0 s1 s2 (why.ReadFault which.Output) k h = absurd h
-shown_then s s0 s1 s2 why.WriteFault k h = ((let rose = h.0 in let f = k.stays.counts.writes in omega (arith, rose, f)), part_then s s0 s1 s2 k h.1)
+shown_then s s0 s1 s2 why.WriteFault k (rose, inl h) =
+    ((let f = k.stays.counts.writes in omega (arith, rose, f)), inl (record { part = part_then s s0 s1 s2 k h.part; early = h.early }))
+shown_then s s0 s1 s2 why.WriteFault k (rose, inr h) =
+    ((let f = k.stays.counts.writes in omega (arith, rose, f)), inr (record { part = rows_then s s0 s1 s2 k h.part; early = h.early }))
 shown_then s s0 s1 s2 why.NoMemory k (inl h) = inl (stopped_then s0 s1 s2 (s.input ∷ []) put.Done k h.0, from_still s0 s1 s2 s.input (IsShortRead (Image s.gray)) k.same.left h.1)
-shown_then s s0 s1 s2 why.NoMemory k (inr h) = inr (record { part = part_then s s0 s1 s2 k h.part; left = h.left })
+shown_then s s0 s1 s2 why.NoMemory k (inr (inl h)) = inr (inl (record { part = part_then s s0 s1 s2 k h.part; left = h.left }))
+shown_then s s0 s1 s2 why.NoMemory k (inr (inr h)) = inr (inr (record { part = rows_then s s0 s1 s2 k h.part; left = h.left }))
 
 -- AS THE WORDS SAY IT
 

@@ -10,16 +10,17 @@ use Rattle.jpg_spec.proofs.FileLaws.{means_no_fault}
 use Rattle.jpg_spec.proofs.OneReason.{one_reason}
 use Rattle.jpg_cli.specs.Certain.{HasFile, IsNotRefused, IsTold}
 use Rattle.jpg_cli.specs.Laws.{MeanShown, WasRefused, WasRefusedShown}
-use Rattle.jpg_cli.specs.ReadPicture.{IsRefused, IsRefusedFor, IsUnwanted}
+use Rattle.jpg_cli.specs.ReadPicture.{IsRefused, IsRefusedFor, IsRefusedRead, IsUnwanted}
 use Rattle.jpg_cli.specs.declared.read_picture.Wanted.{Wanted}
 use Rattle.jpg_cli.specs.declared.read_picture.Wanted.TheVariants.{Coefficients, Image}
 use Rattle.jpg_cli.specs.Reading.{rest_of}
-use Rattle.jpg_cli.specs.Showing.{Showing, Shown}
+use Rattle.jpg_cli.specs.Showing.{Showing, Shown, bytes_before}
 use Rattle.jpg_spec.specs.Moved.{Scans}
 use Rattle.jpg_spec.specs.TransformWords.{ScansSource, own_sequential, own_progressive, in_file, TransformAsked}
 use Rattle.jpg_cli.specs.ScriptTaken.{HasScansFault, StopsAtScans}
 use Rattle.jpg_cli.specs.Turned.{Transformed, Turned, Turning, turning_of}
 use Rattle.jpg_cli.proofs.RefusedOnce.{one_refusal}
+use Rattle.jpg_cli.proofs.RowsStand.{so_read}
 use Rattle.jpg_cli.proofs.Certain.{no_scans_fault, none_unshown, one_file, refused_alone}
 
 -- WHATEVER IS WANTED
@@ -45,7 +46,8 @@ runs_refuse_once input f g a b = one_refusal input f g (run_refused a.turning a.
 
 run_not_shown : (s : Showing) (old new : DeskState) (bytes : List ℕ) (f : FaultAt) → IsTold old.files s.input bytes → Shown s old (why.Refused f) new → IsRefusedFor (Image s.gray) bytes f
 run_not_shown s old new bytes f told h =
-    subst (λ (b : List ℕ). IsRefusedFor (Image s.gray) b f) (one_file old.files s.input bytes (h.1.bytes ++ rest_of new.left) told h.1.read) h.1.is.refused
+    let k = so_read s (bytes_before f) (IsRefusedRead (Image s.gray) f (rest_of new.left)) old new h in
+    subst (λ (b : List ℕ). IsRefusedFor (Image s.gray) b f) (one_file old.files s.input bytes (k.bytes ++ rest_of new.left) told k.read) k.is.refused
 
 shown_refusal : (gray : Bool) (input : List ℕ) (f : FaultAt) → WasRefusedShown gray input f → IsRefusedFor (Image gray) input f
 shown_refusal gray input f a = subst (λ (g : Bool). IsRefusedFor (Image g) input f) a.grayed (run_not_shown a.showing a.old a.new input f a.told a.shown)

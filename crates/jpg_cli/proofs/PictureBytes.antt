@@ -80,14 +80,14 @@ short_piece w bytes piece r e h short = record { front = bytes; piece = piece; c
 -- A REFUSAL of a piece, in which it stands
 
 -- what isn't wanted now wasn't there before
-new_place : (w : Wanted) (bytes piece : List ℕ) (r : ReaderState) (f : FaultAt) → HasFed w r bytes → IsUnwanted w (bytes ++ piece) f → length bytes < f.at
+pub new_place : (w : Wanted) (bytes piece : List ℕ) (r : ReaderState) (f : FaultAt) → HasFed w r bytes → IsUnwanted w (bytes ++ piece) f → length bytes < f.at
 new_place w bytes piece r f h k = by (cases_lt (length bytes) f.at)
   where
     by : (length bytes < f.at) ⊎ (f.at ≤ length bytes) → length bytes < f.at
     by (inl more) = more
     by (inr few) = absurd (h.wanted f (unwanted_less w bytes piece (bytes ++ piece) f refl few k))
 
-refused_there : (w : Wanted) (bytes piece rest : List ℕ) (f : FaultAt) → length piece ≤ 65536 → f.at ≤ length (bytes ++ piece) → length bytes < f.at → IsRefusedFor w ((bytes ++ piece) ++ rest) f → IsRefusedRead w f rest (bytes ++ piece)
+pub refused_there : (w : Wanted) (bytes piece rest : List ℕ) (f : FaultAt) → length piece ≤ 65536 → f.at ≤ length (bytes ++ piece) → length bytes < f.at → IsRefusedFor w ((bytes ++ piece) ++ rest) f → IsRefusedRead w f rest (bytes ++ piece)
 refused_there w bytes piece rest f short within behind refused = record { refused = refused; within = within; last = omega (arith, behind, short, length-append bytes piece) }
 
 -- where the reader goes on, or is whole
@@ -115,7 +115,7 @@ fault_within limits bytes f n (inl h) = h.1.0
 fault_within limits bytes f n (inr (inl h)) = (let e = h.1 in let l = h.2 in omega (arith, e, l))
 fault_within limits bytes f n (inr (inr h)) = (let e = h.1 in omega (arith, e))
 
-stop_within : (bytes : List ℕ) (f : FaultAt) → IsStopOf standard_limits bytes f → f.at ≤ length bytes
+pub stop_within : (bytes : List ℕ) (f : FaultAt) → IsStopOf standard_limits bytes f → f.at ≤ length bytes
 stop_within bytes f k = (let low = inside (k []) in omega (arith, low, length-append bytes []))
   where
     inside : IsRefused (bytes ++ []) f → f.at ≤ length (bytes ++ [])

@@ -21,6 +21,7 @@ pub mod Run
 pub mod ScriptTaken
 pub mod ShowWords
 pub mod Showing
+pub mod ShowingRows
 pub mod Stays
 pub mod Switches
 pub mod TablesTaken

@@ -1,12 +1,19 @@
 -- HOW SHOWING A PICTURE ENDS (the manual of djpeg), by why it ended.
-use Rattle.std.specs.Prelude.{◌≡◌, ◌⊎◌, ◌<◌, ℕ, Bool, true, false, List, [], ◌∷◌, length, take}
+use Rattle.std.specs.Prelude.{◌≡◌, ◌⊎◌, ◌<◌, ◌≤◌, ℕ, Bool, true, false, List, [], ◌∷◌, ◌++◌, length, take, None}
 use Rattle.jpg_base.specs.declared.names.Name.{Name}
 use Rattle.jpg_base.specs.declared.names.Put.TheVariants as put
 use Rattle.jpg_base.specs.Desk.{DeskState, NotesName, Rose}
 use Rattle.jpg_base.specs.Laws.{Grows}
 use Rattle.jpg_spec.specs.ImageText.{end_text}
+use Rattle.jpg_spec.specs.Markers.{Segment}
 use Rattle.jpg_spec.specs.Meaning.{Meaning}
-use Rattle.jpg_spec.specs.Pixels.{info, pixels}
+use Rattle.jpg_spec.specs.NotShown.{colours_behind, factors_behind}
+use Rattle.jpg_spec.specs.Pixels.{info, out_fault_of, pixels}
+use Rattle.jpg_spec.specs.RowsShown.{ShowsRows, picture_so_far, rows_text}
+use Rattle.jpg_spec.specs.RowsTold.{BeginsScanOfAll, TellsRows}
+use Rattle.jpg_spec.specs.Scan.{Blocks}
+use Rattle.jpg_spec.specs.Segments.{standard_limits}
+use Rattle.jpg_spec.specs.declared.answers.FaultAt.{FaultAt}
 use Rattle.jpg_spec.specs.declared.answers.Why.{Why}
 use Rattle.jpg_spec.specs.declared.answers.Why.TheVariants as why
 use Rattle.jpg_spec.specs.declared.answers.UsageFault.TheVariants.{NoEnd}
@@ -16,7 +23,7 @@ use Rattle.jpg_color.specs.DecodeRows.{picture_text}
 use Rattle.jpg_file.specs.declared.picture.Picture.{Picture}
 use Rattle.jpg_cli.specs.declared.read_picture.Wanted.TheVariants.{Image}
 use Rattle.jpg_cli.specs.declared.show_words.ShowWords.{ShowWords}
-use Rattle.jpg_cli.specs.Endings.{Added, Stopped, Unopened, Unread}
+use Rattle.jpg_cli.specs.Endings.{Added, Stopped, Unopened}
 use Rattle.jpg_cli.specs.Reading.{rest_of}
 use Rattle.jpg_cli.specs.ReadPicture.{IsOpenRead, IsRefusedRead, IsShortRead, IsWholeRead, ReadsFrom}
 use Rattle.jpg_cli.specs.Stays.{Untouched}
@@ -32,6 +39,8 @@ pub record Showing : Type 0 where
 
 abbrev pub showing_told : ShowWords → Showing
 showing_told w = record { input = w.files.input; output = w.files.output; kind = w.kind; gray = w.gray; smooth = w.smooth }
+
+-- OF A WHOLE PICTURE
 
 -- the text of the image
 abbrev pub shown_text : Showing → Meaning → List ℕ
@@ -53,16 +62,97 @@ pub record ShownNotWhole (s : Showing) (old new : DeskState) : Type 0 where
   pub part : ShownInPart s old new
   pub left : part.count < length (shown_text s part.meaning)
 
--- Done: the output holds the text of the image of the picture that the input means. Where the output wasn't written to its end, it holds a first
--- part of that text, and where memory was wanting not all of it. The output is created only behind a picture that was read and is shown.
+-- OF A PICTURE WHOSE MCU ROWS ARE SHOWN while it is read
+
+-- A scan of all components of a sequential frame began in these bytes, and its picture is shown, gray where that is asked for.
+pub record IsShownByRows (gray : Bool) (bytes : List ℕ) : Type 0 where
+  pub before : List Segment
+  pub contents : List ℕ
+  pub begins : BeginsScanOfAll standard_limits bytes before contents
+  pub shown : out_fault_of (colours_behind standard_limits before) gray (factors_behind standard_limits before) ≡ None
+
+-- The text of all MCU rows that these bytes complete.
+abbrev pub IsRowsText : Showing → List ℕ → List ℕ → Type 0
+IsRowsText s bytes text = ShowsRows standard_limits s.kind s.gray s.smooth bytes text
+
+-- That of some first ones, which they tell.
+pub record IsToldText (s : Showing) (bytes text : List ℕ) : Type 0 where
+  pub begun : IsShownByRows s.gray bytes
+  pub rows : ℕ
+  pub blocks : Blocks
+  pub told : TellsRows standard_limits bytes rows blocks
+  pub same : text ≡ rows_text s.kind (picture_so_far standard_limits begun.before begun.contents blocks) s.gray s.smooth rows
+
+-- which of the bytes that were read are shown: all, or those before the place of a fault
+abbrev pub all_bytes : List ℕ → List ℕ
+all_bytes bytes = bytes
+
+abbrev pub bytes_before : FaultAt → List ℕ → List ℕ
+bytes_before f bytes = take f.at bytes
+
+-- Bytes were read of which this is so, and no such scan began in those that are shown. No output was added.
+abbrev pub IsPlain : Bool → (List ℕ → List ℕ) → (List ℕ → Type 0) → List ℕ → Type 0
+IsPlain gray upto Is bytes = Is bytes × (IsShownByRows gray (upto bytes) → ⊥)
+
+abbrev pub ShowsNothing : Showing → (List ℕ → List ℕ) → (List ℕ → Type 0) → DeskState → DeskState → Type 0
+ShowsNothing s upto Is old new = Stopped (s.input ∷ []) put.Done old new × ReadsFrom s.input (IsPlain s.gray upto Is) old new
+
+-- It began in them, and this is the text of all MCU rows that they complete.
+abbrev pub IsShownUpTo : Showing → (List ℕ → List ℕ) → (List ℕ → Type 0) → List ℕ → List ℕ → Type 0
+IsShownUpTo s upto Is text bytes = Is bytes × IsShownByRows s.gray (upto bytes) × IsRowsText s (upto bytes) text
+
+-- The output holds it.
+pub record ShowsSoFar (s : Showing) (upto : List ℕ → List ℕ) (Is : List ℕ → Type 0) (old new : DeskState) : Type 0 where
+  pub text : List ℕ
+  pub read : ReadsFrom s.input (IsShownUpTo s upto Is text) old new
+  pub wrote : Added (s.input ∷ []) s.output text old new
+
+abbrev pub StandsAfter : Showing → (List ℕ → List ℕ) → (List ℕ → Type 0) → DeskState → DeskState → Type 0
+StandsAfter s upto Is old new = ShowsNothing s upto Is old new ⊎ ShowsSoFar s upto Is old new
+
+-- It began, and nothing was added. Fewer than 65,536 bytes were read behind the end of a whole file or what it is refused for.
+abbrev pub ReadsBegun : Showing → DeskState → DeskState → Type 0
+ReadsBegun s old new = ReadsFrom s.input (λ bytes. IsShortRead (Image s.gray) bytes × IsShownByRows s.gray bytes) old new
+
+-- It began, and the output holds a first part of the text of MCU rows that the bytes tell.
+pub record RowsInPart (s : Showing) (old new : DeskState) : Type 0 where
+  pub text : List ℕ
+  pub count : ℕ
+  pub read : ReadsFrom s.input (λ bytes. IsShortRead (Image s.gray) bytes × IsToldText s bytes text) old new
+  pub wrote : Added (s.input ∷ []) s.output (take count text) old new
+
+-- and not all of the image, where the bytes hold the whole file
+pub record RowsNotWhole (s : Showing) (old new : DeskState) : Type 0 where
+  pub part : RowsInPart s old new
+  pub left : (M : Meaning) → IsWholeRead (Image s.gray) M (part.read).bytes → length (take part.count part.text) < length (shown_text s M)
+
+-- What was written is at least what is due of these bytes without their last 65,536.
+abbrev pub IsInTime : Showing → List ℕ → List ℕ → Type 0
+IsInTime s bytes written =
+    (front rest text : List ℕ) → bytes ≡ front ++ rest → 65536 ≤ length rest → IsRowsText s front text → length text ≤ length written
+
+pub record ShownInTime (s : Showing) (old new : DeskState) : Type 0 where
+  pub part : ShownInPart s old new
+  pub early : IsInTime s (part.read).bytes (take part.count (shown_text s part.meaning))
+
+pub record RowsInTime (s : Showing) (old new : DeskState) : Type 0 where
+  pub part : RowsInPart s old new
+  pub early : IsInTime s (part.read).bytes (take part.count part.text)
+
+-- Done: the output holds the text of the image of the picture that the input means. A sequential file whose first scan has all components is shown
+-- while it is read: where it is refused, the output holds the rows that the bytes before the fault's place make ready, and where reading fails, those
+-- of all bytes that were read. Another one is shown when it was read, and where it wasn't, nothing is created. Where the output wasn't written to its
+-- end, it holds a first part of that text, after NoMemory not all of it.
 abbrev pub Shown : Showing → DeskState → Why → DeskState → Type 0
 Shown s old why.Done new = (M : Meaning) × ReadsShown s M old new × Added (s.input ∷ []) s.output (shown_text s M) old new
-Shown s old (why.Refused f) new = Stopped (s.input ∷ []) put.Done old new × ReadsFrom s.input (IsRefusedRead (Image s.gray) f (rest_of new.left)) old new
+Shown s old (why.Refused f) new = StandsAfter s (bytes_before f) (IsRefusedRead (Image s.gray) f (rest_of new.left)) old new
 Shown s old (why.OpenFault which.Input) new = Unopened (s.input ∷ []) old new
-Shown s old (why.OpenFault which.Output) new = Unopened (s.input ∷ s.output ∷ []) old new × ((M : Meaning) × ReadsShown s M old new)
-Shown s old (why.ReadFault which.Input) new = Unread (s.input ∷ []) old new × ReadsFrom s.input (IsOpenRead (Image s.gray)) old new
-Shown s old why.WriteFault new = Rose old.counts.writes new.counts.writes × ShownInPart s old new
-Shown s old why.NoMemory new = (Stopped (s.input ∷ []) put.Done old new × ReadsFrom s.input (IsShortRead (Image s.gray)) old new) ⊎ ShownNotWhole s old new
+Shown s old (why.OpenFault which.Output) new =
+    Unopened (s.input ∷ s.output ∷ []) old new × (((M : Meaning) × ReadsShown s M old new) ⊎ ReadsBegun s old new)
+Shown s old (why.ReadFault which.Input) new = Rose old.counts.reads new.counts.reads × StandsAfter s all_bytes (IsOpenRead (Image s.gray)) old new
+Shown s old why.WriteFault new = Rose old.counts.writes new.counts.writes × (ShownInTime s old new ⊎ RowsInTime s old new)
+Shown s old why.NoMemory new =
+    (Stopped (s.input ∷ []) put.Done old new × ReadsFrom s.input (IsShortRead (Image s.gray)) old new) ⊎ (ShownNotWhole s old new ⊎ RowsNotWhole s old new)
 Shown s old other new = ⊥
 
 -- with an end of images of this format, or none, which the words ask for

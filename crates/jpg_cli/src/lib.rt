@@ -20,6 +20,7 @@ mod requests;
 mod script_taken;
 mod show;
 mod show_by;
+mod show_rows;
 mod show_words;
 mod switches;
 mod tables_taken;

@@ -1,23 +1,46 @@
 //! A picture read, and shown as an image (the manual of djpeg).
-ghost use Rattle.std.specs.Prelude.{◌≡◌, None};
+ghost use Rattle.std.specs.Prelude.{◌≡◌, ◌≤◌, None, true, false, length, ℕ, List, []};
+ghost use Rattle.jpg_base.specs.Desk.{DeskState, Opens};
+ghost use Rattle.jpg_base.specs.declared.names.Put.TheVariants as put;
 ghost use Rattle.jpg_spec.specs.Pixels.{out_fault};
+ghost use Rattle.jpg_spec.specs.Segments.{standard_limits};
 ghost use Rattle.jpg_file.specs.PictureRead.{picture_meaning};
+ghost use Rattle.jpg_file.specs.ReadFile.{head_seen};
+ghost use Rattle.jpg_file.specs.ReadRows.{HasReadPlainly, whole_reader};
 ghost use Rattle.jpg_pnm_bmp.specs.EndState.{new_end};
+ghost use Rattle.jpg_cli.specs.ReadPicture.{AfterFileEnd, unwanted_in};
 ghost use Rattle.jpg_cli.specs.Showing.{AfterPicture, Shown, showing_told};
-ghost use Rattle.jpg_cli.specs.Stays.{OnlyWorks};
+ghost use Rattle.jpg_cli.specs.ShowingRows.{EndsFirst, GoesOnFirst, HasFedPlainly, IsOpened, ReadsFirst, StaysFirst, TakesFirst, step_of};
+ghost use Rattle.jpg_cli.specs.Stays.{OnlyReads, OnlyWorks};
+ghost use Rattle.jpg_cli.specs.declared.read_picture.Wanted.TheVariants.{Image};
 
-use crate::read_picture::{Wanted, read_picture};
+use crate::reading::read_within;
+use crate::show_rows::show_rows;
 use crate::show_words::ShowWords;
-use jpg_base::{Desk, Put};
-use jpg_color::{DecodeStop, decode_rows};
-use jpg_file::Picture;
+use jpg_base::{Desk, Got, Put, Stop};
+use jpg_color::{DecodeStop, admits, decode_rows};
+use jpg_file::{FedRow, Picture, RowReader};
 use jpg_pnm_bmp::ImageEnd;
-use jpg_spec::{Copying, Which, Why};
+use jpg_spec::{FaultAt, Limits, Which, Why};
 use std::alloc::Global;
 
-/// Reads the picture of the input, and writes the image that it shows to the output, in the format of `end`. The input is read in
-/// pieces of at most 16,384 bytes, up to the one in which it is whole, shows a fault or tells that it isn't shown. The output is
-/// created when the picture is there, so it may have the input's name.
+// What a piece comes to, before rows are read.
+#[derive(Clone, Copy, Debug, PartialEq, Eq)]
+enum FirstStep {
+    More,
+    Whole,
+    // The MCU rows of a scan begin in a piece of so many bytes, to which this is the reader's answer.
+    Rows {
+        count: u64,
+        answer: Result<FedRow, Stop>,
+    },
+    Ended(Why),
+}
+
+/// Writes the image that the input shows to the output, in the format of `end`. The input is read in pieces of at most 16,384
+/// bytes, up to the one in which it is whole, shows a fault or tells that it isn't shown. A sequential file whose first scan has
+/// all components is written while it is read, so its output may not have the input's name. Of other files the output is
+/// created when the picture is there.
 pub fn show_picture<D: Desk>(
     alloc: Global,
     words: &ShowWords,
@@ -28,10 +51,149 @@ pub fn show_picture<D: Desk>(
     ensures kept { OnlyWorks (D.state desk.old) (D.state desk.new) }
     ensures shown { Shown (showing_told words.now) (D.state desk.old) result (D.state desk.new) }
 {
-    let wanted = Wanted::Image { gray: words.gray };
-    match read_picture(alloc, &words.files.input, wanted, Copying::None, desk) {
-        Err(why) => why,
-        Ok(picture) => write_image(alloc, &picture, words, end, desk),
+    match desk.open(&words.files.input) {
+        Put::Failed => Why::OpenFault(Which::Input),
+        Put::Done => show_input(alloc, words, end, desk),
+    }
+}
+
+// The same of the open input.
+#[inline(never)]
+fn show_input<D: Desk>(
+    alloc: Global,
+    words: &ShowWords,
+    end: &mut Box<dyn ImageEnd>,
+    desk: &mut D,
+) -> Why
+    requires open { (D.state desk.old).input_open ≡ true }
+    requires end { progress end.old ≡ new_end words.now.kind }
+    requires opened { IsOpened words.now.files.input (D.state desk.old) }
+    ensures kept { OnlyWorks (D.state desk.old) (D.state desk.new) }
+    ensures shown { (old : DeskState) → Opens old words.now.files.input put.Done (D.state desk.old) → Shown (showing_told words.now) old result (D.state desk.new) }
+{
+    let Ok(mut reader) = RowReader::new(alloc, Limits::standard()) else {
+        return Why::NoMemory;
+    };
+    let mut buffer = [0u8; 16384];
+    match read_first(&mut reader, words.gray, &mut buffer, desk) {
+        FirstStep::More => unreachable!(),
+        FirstStep::Whole => write_image(alloc, &reader.take(), words, end, desk),
+        FirstStep::Rows { count, answer } => {
+            show_rows(
+                alloc,
+                &mut reader,
+                words,
+                answer,
+                count,
+                &mut buffer,
+                end,
+                desk,
+            )
+        }
+        FirstStep::Ended(why) => why,
+    }
+}
+
+// Reads the open input until rows begin or the file is whole, or tells why the reading ends.
+fn read_first<D: Desk>(
+    reader: &mut RowReader,
+    gray: bool,
+    buffer: &mut [u8; 16384],
+    desk: &mut D,
+) -> FirstStep
+    requires open { (D.state desk.old).input_open ≡ true }
+    requires none { HasReadPlainly [] reader.old }
+    requires limits { reader.old.limits ≡ standard_limits }
+    ensures kept { OnlyReads (D.state desk.old) (D.state desk.new) }
+    ensures read { EndsFirst gray (D.state desk.old) result buffer.new reader.new (D.state desk.new) }
+    ensures limits { reader.new.limits ≡ standard_limits }
+{
+    loop {
+        match next_first(reader, gray, buffer, desk) {
+            FirstStep::More => {}
+            step => return step,
+        }
+    }
+}
+
+// Reads a piece.
+fn next_first<D: Desk>(
+    reader: &mut RowReader,
+    gray: bool,
+    buffer: &mut [u8; 16384],
+    desk: &mut D,
+) -> FirstStep
+    requires open { (D.state desk.old).input_open ≡ true }
+    requires more { reader.old.done ≡ false }
+    requires limits { reader.old.limits ≡ standard_limits }
+    ensures kept { OnlyReads (D.state desk.old) (D.state desk.new) }
+    ensures goes_on { GoesOnFirst result reader.new (D.state desk.new) }
+    ensures after { ReadsFirst gray reader.old (D.state desk.old) result buffer.new reader.new (D.state desk.new) }
+    ensures limits { reader.new.limits ≡ standard_limits }
+{
+    match read_within(desk, reader.room(), buffer) {
+        Got::Failed => FirstStep::Ended(Why::ReadFault(Which::Input)),
+        Got::End => FirstStep::Ended(at_first_end(reader, gray)),
+        Got::Bytes(count) => take_first(reader, gray, &buffer[..count as usize]),
+    }
+}
+
+// Takes a piece.
+fn take_first(reader: &mut RowReader, gray: bool, piece: &[u8]) -> FirstStep
+    requires more { reader.old.done ≡ false }
+    requires short { length piece.now ≤ 16384 }
+    requires limits { reader.old.limits ≡ standard_limits }
+    ensures goes_on { StaysFirst result reader.new }
+    ensures taken { TakesFirst gray reader.old piece.now result reader.new }
+    ensures limits { reader.new.limits ≡ standard_limits }
+{
+    let answer = reader.feed_row(piece);
+    if let Some(fault) = unwanted(reader, gray) {
+        return FirstStep::Ended(Why::Refused(fault));
+    }
+    if reader.strip().is_some() {
+        let count = piece.len() as u64;
+        return FirstStep::Rows { count, answer };
+    }
+    step_of(answer)
+}
+
+// What the reader's answer comes to, where no rows are read.
+fn step_of(answer: Result<FedRow, Stop>) -> FirstStep
+    ensures { result ≡ step_of answer }
+{
+    match answer {
+        Ok(FedRow::More) => FirstStep::More,
+        Ok(FedRow::Row { .. }) => FirstStep::More,
+        Ok(FedRow::Done { .. }) => FirstStep::Whole,
+        Err(Stop::Fault(fault)) => FirstStep::Ended(Why::Refused(fault)),
+        Err(Stop::NoMemory) => FirstStep::Ended(Why::NoMemory),
+    }
+}
+
+// Why the picture isn't shown, once the first scan header told it.
+fn unwanted(reader: &RowReader, gray: bool) -> Option<FaultAt>
+    ensures { result ≡ unwanted_in (Image gray) (head_seen (whole_reader reader.now)) }
+{
+    match reader.head() {
+        None => None,
+        Some((frame, colour, at)) => match admits(&frame, colour, gray) {
+            Ok(_) => None,
+            Err(fault) => Some(FaultAt { fault, at }),
+        },
+    }
+}
+
+// The answer for an input that ends here.
+fn at_first_end(reader: &mut RowReader, gray: bool) -> Why
+    requires more { reader.old.done ≡ false }
+    requires limits { reader.old.limits ≡ standard_limits }
+    ensures ended { (bytes : List ℕ) → HasFedPlainly gray reader.old bytes → AfterFileEnd (Image gray) bytes result }
+    ensures limits { reader.new.limits ≡ standard_limits }
+{
+    match reader.end() {
+        Stop::Fault(fault) => Why::Refused(fault),
+        Stop::NoMemory => Why::NoMemory,
     }
 }
 

@@ -15,6 +15,7 @@ use Rattle.jpg_spec.specs.declared.image.EndKind.{EndKind}
 use Rattle.jpg_spec.specs.declared.image.EndKind.TheVariants.{Pnm, Bmp}
 use Rattle.jpg_spec.specs.declared.image.ImageInfo.{ImageInfo}
 use Rattle.jpg_spec.proofs.Common.{same_itself}
+use Rattle.jpg_spec.specs.RowsShown.{ready_rows as rows_ready}
 use Rattle.jpg_coefs.specs.Picture.{Picture as Coefs}
 use Rattle.jpg_file.specs.StripHead.{IsStripHead}
 use Rattle.jpg_file.specs.declared.strip_head.StripHead.{StripHead}
@@ -22,7 +23,7 @@ use Rattle.jpg_pnm_bmp.specs.EndState.{EndState, Starts, held_of, info_of, new_e
 use Rattle.jpg_color.specs.Shown.{AreMcuRow, Display, IsDue, IsFresh, IsPushed, IsShowable, Shown, StandsFor, all_rows, at_top, display_fault, display_of, picture_of, ready_rows, row_of}
 use Rattle.jpg_color.specs.DecodeRows.{Sends, end_at, end_parts, finished, row_pieces, told_info}
 use Rattle.jpg_color.specs.StripImage.{AreGiven, BeginsDrawing, Drawing, Draws, DrawsRow, EndsDrawing, GoesOnDrawing, IsDrawnTo, IsEndOf, IsNewDrawing, IsToldOf, SendsReady, StaysDrawn}
-use Rattle.jpg_color.specs.StripImage.{first_rows, next_rows, next_text, rest_text, rows_due, rows_ready, with_rows}
+use Rattle.jpg_color.specs.StripImage.{first_rows, next_rows, next_text, rest_text, rows_due, with_rows}
 use Rattle.jpg_color.specs.declared.decode.DecodeStop.{DecodeStop}
 use Rattle.jpg_color.proofs.Decoded.{long_by, rest_held, started_end}
 use Rattle.jpg_color.proofs.HeldRows.{map_below}

@@ -14,11 +14,12 @@ use Rattle.jpg_spec.specs.Strips.{block_rows, first_kept, known_rows, mcu_rows, 
 use Rattle.jpg_spec.specs.Upsampling.{Stretch, has_far_rows}
 use Rattle.jpg_spec.specs.declared.frame.Colour.{Colour}
 use Rattle.jpg_spec.specs.declared.image.EndKind.{EndKind}
+use Rattle.jpg_spec.specs.RowsShown.{ready_rows as rows_ready, rows_text}
 use Rattle.jpg_spec.proofs.Strips.{window, ready_told}
 use Rattle.jpg_pnm_bmp.specs.EndState.{EndState}
 use Rattle.jpg_color.specs.Shown.{Display, IsShowable, StandsFor, all_rows, parts, picture_of, ready_rows, row_of}
 use Rattle.jpg_color.specs.DecodeRows.{end_at}
-use Rattle.jpg_color.specs.StripImage.{AgreeInFirstRows, AreDrawnAlike, Drawing, Draws, IsDrawnTo, TextsJoin, first_rows, next_rows, next_text, rest_text, rows_ready, text_to, whole_text}
+use Rattle.jpg_color.specs.StripImage.{AgreeInFirstRows, AreDrawnAlike, Drawing, Draws, IsDrawnTo, TextsJoin, first_rows, next_rows, next_text, rest_text, whole_text}
 use Rattle.jpg_color.proofs.Coverage.{count_is, covered, in_frame, whole_ratios}
 use Rattle.jpg_color.proofs.Drawn.{GoesUp, all_drawn, all_same, goes_up, high_same, ready_same, row_same, rows_join}
 use Rattle.jpg_color.proofs.HeldRows.{map_below}
@@ -27,13 +28,13 @@ use Rattle.jpg_color.proofs.Windows.{ready_high, ready_none}
 
 -- TEXTS
 
-texts_first : (d : Drawing) (M : Meaning) (gray smooth : Bool) (kind : EndKind) → Draws d M gray smooth → text_to kind M gray smooth 0 ≡ first_piece kind (info M gray)
+texts_first : (d : Drawing) (M : Meaning) (gray smooth : Bool) (kind : EndKind) → Draws d M gray smooth → rows_text kind M gray smooth 0 ≡ first_piece kind (info M gray)
 texts_first d M gray smooth kind h =
     let none : rows_ready M gray smooth 0 ≡ 0 = sym (ready_same d M gray smooth h 0) ∙ ready_none d.strips.display h.showable in
     ap (λ rows. first_piece kind (info M gray) ++ flat_map (row_piece kind (info M gray)) rows) (no_row (pixels M gray smooth) (rows_ready M gray smooth 0) none) ∙ append-nil (first_piece kind (info M gray))
 
 texts_more : (d : Drawing) (M : Meaning) (gray smooth : Bool) (m : ℕ) (kind : EndKind) → Draws d M gray smooth → m < mcu_rows M
-    → text_to kind M gray smooth m ++ next_text kind M gray smooth m ≡ text_to kind M gray smooth (m + 1)
+    → rows_text kind M gray smooth m ++ next_text kind M gray smooth m ≡ rows_text kind M gray smooth (m + 1)
 texts_more d M gray smooth m kind h lt =
     let up : GoesUp M gray smooth m = goes_up d M gray smooth m h (subst (λ n. m < n) (sym (all_same d M gray smooth h)) lt) in
     let piece : List ℕ → List ℕ = row_piece kind (info M gray) in
@@ -41,11 +42,11 @@ texts_more d M gray smooth m kind h lt =
     append_assoc first (flat_map piece (first_rows M gray smooth m)) (next_text kind M gray smooth m)
     ∙ ap (λ x. first ++ x) (sym (flat_map-append piece (first_rows M gray smooth m) (next_rows M gray smooth m)) ∙ ap (flat_map piece) (rows_join M gray smooth m up))
 
-texts_whole : (kind : EndKind) (M : Meaning) (gray smooth : Bool) → text_to kind M gray smooth (mcu_rows M) ++ rest_text kind M gray smooth ≡ whole_text kind M gray smooth
+texts_whole : (kind : EndKind) (M : Meaning) (gray smooth : Bool) → rows_text kind M gray smooth (mcu_rows M) ++ rest_text kind M gray smooth ≡ whole_text kind M gray smooth
 texts_whole kind M gray smooth =
     ap (λ rows. (first_piece kind (info M gray) ++ flat_map (row_piece kind (info M gray)) rows) ++ rest_text kind M gray smooth) (all_drawn M gray smooth)
 
-texts_part : (kind : EndKind) (M : Meaning) (gray smooth : Bool) (m : ℕ) → (more : List ℕ) × (text_to kind M gray smooth m ++ more ≡ whole_text kind M gray smooth)
+texts_part : (kind : EndKind) (M : Meaning) (gray smooth : Bool) (m : ℕ) → (more : List ℕ) × (rows_text kind M gray smooth m ++ more ≡ whole_text kind M gray smooth)
 texts_part kind M gray smooth m =
     let piece : List ℕ → List ℕ = row_piece kind (info M gray) in
     let first = first_piece kind (info M gray) in
@@ -55,7 +56,7 @@ texts_part kind M gray smooth m =
     sym (flat_map-append piece (first_rows M gray smooth m) others) ∙ ap (flat_map piece) (take_and_drop (pixels M gray smooth) n)
     in (
       flat_map piece others ++ rest_text kind M gray smooth,
-      sym (append_assoc (text_to kind M gray smooth m) (flat_map piece others) (rest_text kind M gray smooth))
+      sym (append_assoc (rows_text kind M gray smooth m) (flat_map piece others) (rest_text kind M gray smooth))
           ∙ ap (λ x. x ++ rest_text kind M gray smooth) (append_assoc first (flat_map piece (first_rows M gray smooth m)) (flat_map piece others) ∙ ap (λ x. first ++ x) rows),
     )
 

@@ -3,17 +3,17 @@ use Rattle.std.specs.Prelude.{◌≡◌, ℕ, ◌+◌, ◌-◌, ◌*◌, ◌<◌
 use Rattle.jpg_base.specs.Desk.{DeskState}
 use Rattle.jpg_huff.specs.Out.{OnlyWrites}
 use Rattle.jpg_spec.specs.Geometry.{div_up}
-use Rattle.jpg_spec.specs.Jfif.{jfif_of}
 use Rattle.jpg_spec.specs.Scan.{Blocks}
 use Rattle.jpg_spec.specs.Meaning.{Meaning, colour_of}
 use Rattle.jpg_spec.specs.Pixels.{info, pixels, samples_across, samples_down}
 use Rattle.jpg_spec.specs.ImageText.{row_bytes, first_piece, row_piece, rest, end_text}
-use Rattle.jpg_spec.specs.Strips.{block_rows, mcu_rows, needed, ready, rows_from}
+use Rattle.jpg_spec.specs.RowsShown.{ready_rows as rows_ready, rows_text}
+use Rattle.jpg_spec.specs.Strips.{block_rows, mcu_rows, rows_from}
 use Rattle.jpg_spec.specs.Laws.{with_blocks}
 use Rattle.jpg_spec.specs.declared.image.EndKind.{EndKind}
 use Rattle.jpg_spec.specs.declared.image.ImageInfo.{ImageInfo}
 use Rattle.jpg_coefs.specs.Picture.{Picture as Coefs}
-use Rattle.jpg_file.specs.StripHead.{bare_picture}
+use Rattle.jpg_file.specs.StripHead.{IsHeadOfPicture}
 use Rattle.jpg_file.specs.declared.strip_head.StripHead.{StripHead}
 use Rattle.jpg_pnm_bmp.specs.EndState.{EndState, IsImageInfo, held_of, info_of}
 use Rattle.jpg_color.specs.Shown.{AreMcuRow, Display, IsDue, IsShowable, Shown, StandsFor}
@@ -36,16 +36,7 @@ pub record IsToldOf (d : Display) (i : ImageInfo) : Type 0 where
 
 -- THE PICTURE
 
--- the head of M: all but its blocks
-pub record HasHead (h : StripHead) (M : Meaning) : Type 0 where
-  pub picture : M ≡ record (bare_picture h.frame h.quants.items M.blocks) { kept = M.kept }
-  pub colour : h.colour ≡ colour_of M
-  pub jfif : h.jfif ≡ jfif_of M.kept
-
--- the rows of its image that m MCU rows make ready
-abbrev pub rows_ready : Meaning → Bool → Bool → ℕ → ℕ
-rows_ready M gray smooth m = ready M (needed (colour_of M) gray) smooth (mcu_rows M) m
-
+-- the first rows of its image, those that m MCU rows make ready
 abbrev pub first_rows : Meaning → Bool → Bool → ℕ → List (List ℕ)
 first_rows M gray smooth m = take (rows_ready M gray smooth m) (pixels M gray smooth)
 
@@ -53,10 +44,7 @@ first_rows M gray smooth m = take (rows_ready M gray smooth m) (pixels M gray sm
 abbrev pub next_rows : Meaning → Bool → Bool → ℕ → List (List ℕ)
 next_rows M gray smooth m = drop (rows_ready M gray smooth m) (first_rows M gray smooth (m + 1))
 
--- THE TEXT: up to the rows that m MCU rows make ready, what MCU row m adds to it, and what stands after all rows
-abbrev pub text_to : EndKind → Meaning → Bool → Bool → ℕ → List ℕ
-text_to kind M gray smooth m = first_piece kind (info M gray) ++ flat_map (row_piece kind (info M gray)) (first_rows M gray smooth m)
-
+-- THE TEXT: what MCU row m adds to that of the rows before it, and what stands after all rows
 abbrev pub next_text : EndKind → Meaning → Bool → Bool → ℕ → List ℕ
 next_text kind M gray smooth m = flat_map (row_piece kind (info M gray)) (next_rows M gray smooth m)
 
@@ -68,10 +56,10 @@ whole_text kind M gray smooth = end_text kind (info M gray) (pixels M gray smoot
 
 -- It has no rows at first, each MCU row adds its own, and what stands after all rows ends it. At any time it is a first part of the whole.
 pub record TextsJoin (kind : EndKind) (M : Meaning) (gray smooth : Bool) : Type 0 where
-  pub first : text_to kind M gray smooth 0 ≡ first_piece kind (info M gray)
-  pub more : (m : ℕ) → m < mcu_rows M → text_to kind M gray smooth m ++ next_text kind M gray smooth m ≡ text_to kind M gray smooth (m + 1)
-  pub whole : text_to kind M gray smooth (mcu_rows M) ++ rest_text kind M gray smooth ≡ whole_text kind M gray smooth
-  pub part : (m : ℕ) → (others : List ℕ) × (text_to kind M gray smooth m ++ others ≡ whole_text kind M gray smooth)
+  pub first : rows_text kind M gray smooth 0 ≡ first_piece kind (info M gray)
+  pub more : (m : ℕ) → m < mcu_rows M → rows_text kind M gray smooth m ++ next_text kind M gray smooth m ≡ rows_text kind M gray smooth (m + 1)
+  pub whole : rows_text kind M gray smooth (mcu_rows M) ++ rest_text kind M gray smooth ≡ whole_text kind M gray smooth
+  pub part : (m : ℕ) → (others : List ℕ) × (rows_text kind M gray smooth m ++ others ≡ whole_text kind M gray smooth)
 
 -- WHAT IT DRAWS: the image of M, gray and smoothed or not
 pub record Draws (d : Drawing) (M : Meaning) (gray smooth : Bool) : Type 0 where
@@ -108,7 +96,7 @@ pub record IsNewOf (h : StripHead) (gray smooth : Bool) (d : Drawing) : Type 0 w
   pub new : IsNewDrawing d
   pub display : d.strips.display ≡ display_of h gray smooth
   pub info : d.info ≡ told_info h.frame h.colour h.jfif gray
-  pub draws : (M : Meaning) → HasHead h M → Draws d M gray smooth
+  pub draws : (M : Meaning) → IsHeadOfPicture h M → Draws d M gray smooth
 
 -- ITS BEGINNING
 pub record BeginsDrawing (old : Drawing) (e : EndState) (new : Drawing) (new_end : EndState) : Type 0 where

@@ -301,7 +301,7 @@ one_begun limits bytes w e none =
     clash (has_begun (heads_of f before) 0) (all_below (has_begun (heads_of f before)) (length f.components) 0 e.complete (omega (arith, some))) (ap (λ heads. has_begun heads 0) (no_heads f before none))
 
 -- THE FIRST SCAN HEADER, by the state
-head_by : (limits : Limits) (bytes : List ℕ) (before : List Segment) (o : Option Head) → (has_scan before ≡ false → HasNoHead limits bytes) → HasHead limits bytes before o → IsHeadOf limits bytes o
+pub head_by : (limits : Limits) (bytes : List ℕ) (before : List Segment) (o : Option Head) → (has_scan before ≡ false → HasNoHead limits bytes) → HasHead limits bytes before o → IsHeadOf limits bytes o
 head_by limits bytes before None none k = none k
 head_by limits bytes before (Some h) none k = k
 

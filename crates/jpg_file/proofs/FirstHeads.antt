@@ -87,11 +87,11 @@ no_head limits bytes s before contents n h = whole_not_standing limits (take n b
 
 -- A SCAN HEADER, the first one or a later one
 
-record HeadsFirst (limits : Limits) (bytes : List ℕ) (before : List Segment) (contents : List ℕ) : Type 0 where
+pub record HeadsFirst (limits : Limits) (bytes : List ℕ) (before : List Segment) (contents : List ℕ) : Type 0 where
   pub header : IsHeader limits bytes before contents
   pub unbroken : contents_rule limits before 0xda contents ≡ None
 
-heads_first : (limits : Limits) (bytes : List ℕ) (items : List Item) (blocks : Blocks) (w : Items) (contents : List ℕ) → BehindSegment limits bytes items blocks w → (reading_of w.segments).code ≡ 0xda → (reading_of w.segments).contents ≡ contents
+pub heads_first : (limits : Limits) (bytes : List ℕ) (items : List Item) (blocks : Blocks) (w : Items) (contents : List ℕ) → BehindSegment limits bytes items blocks w → (reading_of w.segments).code ≡ 0xda → (reading_of w.segments).contents ≡ contents
     → has_scan (segments_of items) ≡ false → contents_rule limits (segments_of items) 0xda contents ≡ None → HeadsFirst limits bytes (segments_of items) contents
 heads_first limits bytes items blocks w contents k code same none rule =
     let b = (k.at).beside in

@@ -61,7 +61,7 @@ jfif_no_adobe s e = by (s.0 == 0xe0) refl
 
 -- THE COMPONENTS by their places
 
-map_below : {A : Type 0} (f g : ℕ → A) (n : ℕ) → ((i : ℕ) → i < n → f i ≡ g i) → map f (below n) ≡ map g (below n)
+pub map_below : {A : Type 0} (f g : ℕ → A) (n : ℕ) → ((i : ℕ) → i < n → f i ≡ g i) → map f (below n) ≡ map g (below n)
 map_below f g zero h = refl
 map_below f g (suc n) h =
     map-append f (below n) (n ∷ []) ∙ ap (λ l. l ++ f n ∷ []) (map_below f g n (λ i low. h i (omega (arith, low)))) ∙ ap (λ x. map g (below n) ++ x ∷ []) (h n (omega arith)) ∙ sym (map-append g (below n) (n ∷ []))
@@ -176,7 +176,7 @@ left_jfif limits bytes w e =
     ∙ ap jfif_of (sym h.kept)
 
 -- THE TABLES were in force, and so have no zeros
-quant_sound : (f : Frame) (before : List Segment) (i : ℕ) (t : QuantTable) → quant_of f before i ≡ Some t → IsQuants t
+pub quant_sound : (f : Frame) (before : List Segment) (i : ℕ) (t : QuantTable) → quant_of f before i ≡ Some t → IsQuants t
 quant_sound f [] i t e = cc
 quant_sound f (s ∷ before) i t e = by (s.0 == 0xda) e (λ u h. quant_sound f before i u h)
   where

@@ -51,18 +51,18 @@ within limits bytes w (inr s) = s.within
 
 -- A PIECE, and a front of it
 
-joined : (bytes piece : List ℕ) (i : ℕ) → bytes ++ piece ≡ (bytes ++ take i piece) ++ drop i piece
+pub joined : (bytes piece : List ℕ) (i : ℕ) → bytes ++ piece ≡ (bytes ++ take i piece) ++ drop i piece
 joined bytes piece i = ap (λ l. bytes ++ l) (sym (take-append-drop i piece)) ∙ sym (append_assoc bytes (take i piece) (drop i piece))
 
 pub one_more : (bytes piece : List ℕ) (i : ℕ) → i < length piece → bytes ++ take (i + 1) piece ≡ (bytes ++ take i piece) ++ get_or piece i 0 ∷ []
 one_more bytes piece i h = ap (λ l. bytes ++ l) (take_more piece i 0 h) ∙ sym (append_assoc bytes (take i piece) (get_or piece i 0 ∷ []))
 
-whole_front : (front rest : List ℕ) → take (length front) (front ++ rest) ≡ front
+pub whole_front : (front rest : List ℕ) → take (length front) (front ++ rest) ≡ front
 whole_front front rest = take-append-le (length front) front rest (omega arith) ∙ take_all (length front) front (omega arith)
 
 -- THE ANSWERS
 
-stop_longer : (limits : Limits) (front rest all : List ℕ) (b : ℕ) (f : FaultAt) → all ≡ (front ++ b ∷ []) ++ rest → FileStands limits front → length front < limits.input → IsStop limits (front ++ b ∷ []) f → IsStopOf limits all f
+pub stop_longer : (limits : Limits) (front rest all : List ℕ) (b : ℕ) (f : FaultAt) → all ≡ (front ++ b ∷ []) ++ rest → FileStands limits front → length front < limits.input → IsStop limits (front ++ b ∷ []) f → IsStopOf limits all f
 stop_longer limits front rest all b f cut stands short (at, shown) more =
     let whole = front ++ b ∷ [] in
     subst (λ l. IsRefusal limits l f) (sym (ap (λ l. l ++ more) cut ∙ append_assoc whole rest more))
@@ -75,7 +75,7 @@ head_kept limits bytes piece i old next stands same =
     let is : take (length front) (bytes ++ piece) ≡ front = ap (take (length front)) (joined bytes piece i) ∙ whole_front front (drop i piece) in
     subst (λ o. IsHeadOf limits (take (length front) (bytes ++ piece)) o) (sym same) (subst (λ l. IsHeadOf limits l old.head) (sym is) (head_is limits front old stands))
 
-front_of : (front rest all : List ℕ) (n : ℕ) → n ≡ length front → all ≡ front ++ rest → take n all ≡ front
+pub front_of : (front rest all : List ℕ) (n : ℕ) → n ≡ length front → all ≡ front ++ rest → take n all ≡ front
 front_of front rest all n long cut = ap (λ m. take m all) long ∙ ap (take (length front)) cut ∙ whole_front front rest
 
 pub piece_stopped : (limits : Limits) (bytes piece : List ℕ) (i : ℕ) (e : Stop) (old w next : FileWork) → i < length piece → Stands limits (bytes ++ take i piece) old → old.reading.taken < limits.input
@@ -191,10 +191,10 @@ rest_front piece done early few =
     let size = length-take-le done piece few in
     ap (take (done + early)) (sym (take-append-drop done piece)) ∙ ap (λ n. take (n + early) (take done piece ++ drop done piece)) (sym size) ∙ take-append-add (take done piece) (drop done piece) early
 
-front_is : (bytes piece : List ℕ) (done early : ℕ) → done ≤ length piece → (bytes ++ take done piece) ++ take early (drop done piece) ≡ bytes ++ take (done + early) piece
+pub front_is : (bytes piece : List ℕ) (done early : ℕ) → done ≤ length piece → (bytes ++ take done piece) ++ take early (drop done piece) ≡ bytes ++ take (done + early) piece
 front_is bytes piece done early few = append_assoc bytes (take done piece) (take early (drop done piece)) ∙ ap (λ l. bytes ++ l) (sym (rest_front piece done early few))
 
-rest_less : (piece : List ℕ) (done early : ℕ) → done ≤ length piece → early < length (drop done piece) → done + early < length piece
+pub rest_less : (piece : List ℕ) (done early : ℕ) → done ≤ length piece → early < length (drop done piece) → done + early < length piece
 rest_less piece done early few low = let size = length-drop done piece in omega (arith, few, low, size)
 
 -- the state before the last of them, and what that one came to

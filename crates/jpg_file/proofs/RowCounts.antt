@@ -127,12 +127,12 @@ counts_rows old new w after row result c is = subst (λ (s : StripStep). CountsR
 pub same_rows : (w after : RowWork) (result : StripStep) → IsNoRow result → unfinished after ≡ unfinished w → CountsRows result w after
 same_rows w after step.More k e = e
 same_rows w after step.Row k e = absurd k
-same_rows w after step.Whole k e = tt
+same_rows w after step.Whole k e = e
 same_rows w after (step.Ended s) k e = tt
 
 -- behind another row, of which none was whole
 pub rows_then : (old w after : RowWork) (result : StripStep) → unfinished w ≡ unfinished old → CountsRows result w after → CountsRows result old after
 rows_then old w after step.More e c = c ∙ e
 rows_then old w after step.Row e c = sym e ∙ c
-rows_then old w after step.Whole e c = tt
+rows_then old w after step.Whole e c = c ∙ e
 rows_then old w after (step.Ended s) e c = tt

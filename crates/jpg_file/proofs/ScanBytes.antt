@@ -49,7 +49,7 @@ pub read_at : (limits : Limits) (p : ScanPlace) (w : ScanWork) (now : Picture) �
 read_at limits p w now e k = subst (λ b. AtInterval limits p b w.machine now) e k.at
 
 -- what is said of them
-of_place : (limits : Limits) (p : ScanPlace) (i : Interval) (P : Coding → List UnitLeft → Type 0) → IsReadable limits p → IsInterval limits p i → ScanSoFar (scan_at limits p) p.blocks (map_of i.before) p.done (p.places ∷ p.later)
+pub of_place : (limits : Limits) (p : ScanPlace) (i : Interval) (P : Coding → List UnitLeft → Type 0) → IsReadable limits p → IsInterval limits p i → ScanSoFar (scan_at limits p) p.blocks (map_of i.before) p.done (p.places ∷ p.later)
     → P i.scan.coding (units_of i) → P (scan_at limits p).coding (units_at limits p)
 of_place limits p i P r is w k =
     subst (λ (q : Scan). P q.coding (units_at limits p)) is.scan (subst (λ us. P i.scan.coding us) (same_units limits p i r is w) k)
@@ -60,7 +60,7 @@ pub record AreDueUnits (limits : Limits) (p : ScanPlace) : Type 0 where
   pub left : List UnitLeft
   pub stands : StandsInUnits (scan_at limits p).coding (units_at limits p) told left (bits_of_bytes p.coded)
 
-due_units : (limits : Limits) (p : ScanPlace) (m : ScanReader) (now : Picture) → IsReadable limits p → Due limits p m now → AreDueUnits limits p
+pub due_units : (limits : Limits) (p : ScanPlace) (m : ScanReader) (now : Picture) → IsReadable limits p → Due limits p m now → AreDueUnits limits p
 due_units limits p m now r d =
     let u = scans_keep_units.unfinished m d.interval (bits_of_bytes p.coded) now d.stands in
     record {

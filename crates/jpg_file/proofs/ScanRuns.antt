@@ -29,7 +29,7 @@ abbrev pub with_bytes : ScanPlace → List ℕ → ScanPlace
 with_bytes p more = record p { coded = p.coded ++ more }
 
 -- THE PLACE behind plain bytes
-plain_at : (limits : Limits) (bytes : List ℕ) (p : ScanPlace) (run : List ℕ) → ArePlain run → ScanAt limits bytes p [] → ScanAt limits (bytes ++ run) (with_bytes p run) []
+pub plain_at : (limits : Limits) (bytes : List ℕ) (p : ScanPlace) (run : List ℕ) → ArePlain run → ScanAt limits bytes p [] → ScanAt limits (bytes ++ run) (with_bytes p run) []
 plain_at limits bytes p [] plain w =
     subst (λ l. ScanAt limits l (with_bytes p []) []) (sym (append-nil bytes)) (subst (λ l. ScanAt limits bytes (record p { coded = l }) []) (sym (append-nil p.coded)) (same p w))
   where
@@ -62,7 +62,7 @@ due_chain limits p run w m now after e k chain =
     }
 
 -- a front of plain bytes is plain
-front_plain : (run : List ℕ) (n : ℕ) → n ≤ length run → ArePlain run → ArePlain (take n run)
+pub front_plain : (run : List ℕ) (n : ℕ) → n ≤ length run → ArePlain run → ArePlain (take n run)
 front_plain run n few plain k low e =
     let size = length-take-le n run few in
     plain k (omega (arith, low, size, few)) (sym (get_or-take n run k 0 (omega (arith, low, size))) ∙ e)

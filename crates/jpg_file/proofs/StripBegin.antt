@@ -133,7 +133,7 @@ some_left rows left whole sum some = ⊎_elim
     (cases_lt 0 rows.left)
 
 -- all components were in a scan
-begun_here : (limits : Limits) (items : List Item) (contents : List ℕ) (b : Begun) (f : Frame) (head : ScanHead) → IsHeadOfAll limits items contents f head → HasBegun limits b ((0xda, contents) ∷ segments_of items) → HasBegunAll b.progress
+pub begun_here : (limits : Limits) (items : List Item) (contents : List ℕ) (b : Begun) (f : Frame) (head : ScanHead) → IsHeadOfAll limits items contents f head → HasBegun limits b ((0xda, contents) ∷ segments_of items) → HasBegunAll b.progress
 begun_here limits items contents b f head k h =
     let before = segments_of items in
     let g = frame_of limits before in

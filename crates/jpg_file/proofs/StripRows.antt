@@ -37,13 +37,13 @@ use Rattle.jpg_file.proofs.RowPlaces.{cursor_by, row_by}
 use Rattle.jpg_file.proofs.ScanBytes.{due_at}
 
 -- THE MACHINE of a scan of whole blocks
-seq_of : (m : ScanReader) (i : Interval) (bits : List Bool) (now : Picture) → any_scan.stands m i bits now → scan_kind i.scan ≡ whole_blocks → (n : SeqReader) × (m ≡ Sequential n)
+pub seq_of : (m : ScanReader) (i : Interval) (bits : List Bool) (now : Picture) → any_scan.stands m i bits now → scan_kind i.scan ≡ whole_blocks → (n : SeqReader) × (m ≡ Sequential n)
 seq_of (Sequential n) i bits now s e = (n, refl)
 seq_of (DcFirst n) i bits now s e = (let z : dc_first ≡ whole_blocks = sym s.1 ∙ e in absurd cc)
 seq_of (DcRefine n) i bits now s e = (let z : dc_later ≡ whole_blocks = sym s.1 ∙ e in absurd cc)
 seq_of (Ac n) i bits now s e = (let z : ac_band ≡ whole_blocks = sym s.1 ∙ e in absurd cc)
 
-kind_at : (limits : Limits) (items : List Item) (contents : List ℕ) → is_progressive (frame_behind limits items).process ≡ false → scan_kind (scan_after limits (segments_of items) contents) ≡ whole_blocks
+pub kind_at : (limits : Limits) (items : List Item) (contents : List ℕ) → is_progressive (frame_behind limits items).process ≡ false → scan_kind (scan_after limits (segments_of items) contents) ≡ whole_blocks
 kind_at limits items contents e =
     let f = frame_behind limits items in
     let head = head_in f contents in
@@ -62,7 +62,7 @@ pub record RowDue (limits : Limits) (items : List Item) (contents : List ℕ) (w
 pub scan_of_place : (limits : Limits) (items : List Item) (contents : List ℕ) (p : ScanPlace) → p.items ≡ items → p.contents ≡ contents → scan_at limits p ≡ scan_after limits (segments_of items) contents
 scan_of_place limits items contents p a b = ap (λ (l : List Item). scan_after limits (segments_of l) p.contents) a ∙ ap (λ c. scan_after limits (segments_of items) c) b
 
-due_by : (limits : Limits) (items : List Item) (contents : List ℕ) (p : ScanPlace) (i : Interval) (w : ScanWork) (bits : List Bool) (whole : Picture) → (p.items ≡ items) × (p.contents ≡ contents) → IsInterval limits p i
+pub due_by : (limits : Limits) (items : List Item) (contents : List ℕ) (p : ScanPlace) (i : Interval) (w : ScanWork) (bits : List Bool) (whole : Picture) → (p.items ≡ items) × (p.contents ≡ contents) → IsInterval limits p i
     → ScanSoFar (scan_at limits p) p.blocks (map_of i.before) p.done (p.places ∷ p.later) → any_scan.stands w.machine i bits whole → i.before.frame ≡ frame_at limits p → w.whole ≡ false → w.due ≡ length (joined p.later) → IsFirstScan limits items
     → RowDue limits items contents w whole
 due_by limits items contents p i w bits whole of is so_far stands framed due later first =

@@ -29,7 +29,7 @@ use Rattle.jpg_file.proofs.StripRows.{data_due, data_goes, half_due, half_row, s
 
 -- THE PICTURE is the file's, and blank behind the row
 
-data_framed : (limits : Limits) (items : List Item) (contents bytes : List ℕ) (s : InScan) (whole : Picture) → InData limits items contents bytes s whole → IsFirstScan limits items → whole.frame ≡ frame_behind limits items
+pub data_framed : (limits : Limits) (items : List Item) (contents bytes : List ℕ) (s : InScan) (whole : Picture) → InData limits items contents bytes s whole → IsFirstScan limits items → whole.frame ≡ frame_behind limits items
 data_framed limits items contents bytes s whole d first = by s.work.whole refl
   where
     by : (b : Bool) → s.work.whole ≡ b → whole.frame ≡ frame_behind limits items
@@ -122,7 +122,7 @@ ready_goes limits bytes w scan rows r none = record {
 
 -- THE BITS that waited
 
-half_of : (limits : Limits) (items : List Item) (contents bytes : List ℕ) (waiting : List Bool) (s : InScan) (whole : Picture) → 1 ≤ length waiting → AfterRest limits items contents bytes answer.More waiting s whole → HalfData limits items contents bytes waiting s whole
+pub half_of : (limits : Limits) (items : List Item) (contents bytes : List ℕ) (waiting : List Bool) (s : InScan) (whole : Picture) → 1 ≤ length waiting → AfterRest limits items contents bytes answer.More waiting s whole → HalfData limits items contents bytes waiting s whole
 half_of limits items contents bytes [] s whole some d = absurd (omega (arith, some))
 half_of limits items contents bytes (bit ∷ bits) s whole some (more, h) = h
 

@@ -1,11 +1,14 @@
 -- A file in work that is read MCU row by MCU row, where it may be: before its first scan, and where its scans are read whole.
 use Rattle.std.proofs.Common.{◌≡◌, ℕ, ◌+◌, Bool, true, false, List, [], ◌∷◌, ◌++◌, take, get_or, refl, sym, subst, Option, Some, None, Ok, Err}
-use Rattle.std.specs.Prelude.{IfErr, Result}
+use Rattle.std.specs.Prelude.{IfErr, Result, is_none}
 use Rattle.jpg_spec.specs.declared.frame.Limits.{Limits}
 use Rattle.jpg_base.specs.declared.stop.Stop.{Stop}
 use Rattle.jpg_base.specs.declared.stop.Stop.TheVariants as stop
 use Rattle.jpg_file.specs.File.{AfterFileByte, KeepsBytes, PassesFront, Stands, TakesSome, limits_of}
-use Rattle.jpg_file.specs.Strips.{AfterBegin, AfterFile, AfterStrip, IfStops, RowsRun, StripGoes, StripRun, end_step}
+use Rattle.jpg_file.specs.RowsKnown.{KnowsRows}
+use Rattle.jpg_file.specs.declared.strip_head.StripHead.{StripHead}
+use Rattle.jpg_file.proofs.PieceSteps.{one_more}
+use Rattle.jpg_file.specs.Strips.{CountsStrip, AfterBegin, AfterFile, AfterStrip, IfStops, RowsRun, StripGoes, StripRun, end_step}
 use Rattle.jpg_file.specs.declared.file.FileWork.{FileWork}
 use Rattle.jpg_file.specs.declared.rows.RowWork.{RowWork}
 use Rattle.jpg_file.specs.declared.strips.StripStep.{StripStep}
@@ -31,7 +34,7 @@ begin_stops limits bytes rows w e none a = subst (λ (r : Option RowWork). After
 
 -- SOME BYTES
 
-stops : (result : StripStep) (holds : Type 0) → holds → IfStops result holds
+pub stops : (result : StripStep) (holds : Type 0) → holds → IfStops result holds
 stops step.More holds h = tt
 stops step.Row holds h = tt
 stops step.Whole holds h = tt
@@ -93,3 +96,17 @@ some_rows limits bytes run n result new after t = record {
   head = stops result (new.head ≡ (t.mid).head) (sym t.head);
   last = t.last;
 }
+
+-- WHAT IS KNOWN of rows that begin
+pub first_known : (w mid : FileWork) (run : List ℕ) (n : ℕ) (rows : Option RowWork) (strip : Option StripHead) → PassesFront w run n mid → ((bytes : List ℕ) → Stands (limits_of mid) bytes mid → KnowsRows (limits_of mid) (bytes ++ get_or run n 0 ∷ []) 0 rows strip)
+    → (bytes : List ℕ) → Stands (limits_of w) bytes w → KnowsRows (limits_of w) (bytes ++ take (n + 1) run) 0 rows strip
+first_known w mid run n rows strip p known bytes k =
+    let limits = limits_of w in
+    let front = bytes ++ take n run in
+    let before = p.stands limits bytes k in
+    subst (λ (l : List ℕ). KnowsRows limits l 0 rows strip) (sym (one_more bytes run n p.within))
+    (subst (λ (l : Limits). KnowsRows l (front ++ get_or run n 0 ∷ []) 0 rows strip) p.limits (known front (subst (λ (l : Limits). Stands l front mid) (sym p.limits) before)))
+
+pub none_counts : (answer : StripStep) (rows after : Option RowWork) → is_none rows ≡ true → CountsStrip answer rows after
+none_counts answer None after e = tt
+none_counts answer (Some rows) after e = absurd cc

@@ -22,9 +22,15 @@ pub mod RowMachine
 pub mod RowCounts
 pub mod RowPlaces
 pub mod RowTurns
+pub mod RowStops
 pub mod RowData
 pub mod WriteTables
 pub mod WriteDue
 pub mod WriteScan
 pub mod WriteProgScan
 pub mod WriteFile
+pub mod ReadRows
+pub mod RowsKnown
+pub mod RowPieces
+pub mod RowsNone
+pub mod RowFaults

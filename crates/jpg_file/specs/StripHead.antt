@@ -5,7 +5,8 @@ use Rattle.jpg_spec.specs.Geometry.{Frame}
 use Rattle.jpg_spec.specs.FrameHeader.{IsFrame}
 use Rattle.jpg_spec.specs.Segments.{QuantTable}
 use Rattle.jpg_spec.specs.Scan.{Blocks}
-use Rattle.jpg_spec.specs.Meaning.{Meaning}
+use Rattle.jpg_spec.specs.Jfif.{jfif_of}
+use Rattle.jpg_spec.specs.Meaning.{Meaning, colour_of}
 use Rattle.jpg_spec.specs.declared.frame.Colour.{Colour}
 use Rattle.jpg_spec.specs.declared.frame.Colour.TheVariants.{Gray, YCbCr, Rgb, Cmyk, Ycck, Unknown}
 use Rattle.jpg_file.specs.PictureKept.{IsQuantTable, component_told}
@@ -38,3 +39,10 @@ pub record IsStripHead (h : StripHead) : Type 0 where
   pub tables : length h.quants.items ≡ length h.frame.components
   pub quants : (i : ℕ) → i < length h.frame.components → IsQuantTable (slice_index_or h.quants.items i [])
   pub colour : may_have (length h.frame.components) h.colour ≡ true
+
+-- It is what the rows of this picture are made from, beside blocks.
+pub record IsHeadOfPicture (h : StripHead) (M : Meaning) : Type 0 where
+  pub head : IsStripHead h
+  pub same : M ≡ record (bare_picture h.frame h.quants.items M.blocks) { kept = M.kept }
+  pub colour : h.colour ≡ colour_of M
+  pub jfif : h.jfif ≡ jfif_of M.kept

@@ -112,11 +112,19 @@ AfterRows limits bytes step.Whole w rows = EndsByRow limits bytes w rows
 AfterRows limits bytes (step.Ended (stop.Fault f)) w rows = IsStop limits bytes f
 AfterRows limits bytes (step.Ended stop.NoMemory) w rows = Unit {0}
 
+-- bits that wait end no file, and ask for no memory
+abbrev pub GoesOnRest : StripStep → Type 0
+GoesOnRest step.More = Unit {0}
+GoesOnRest step.Row = Unit {0}
+GoesOnRest step.Whole = ⊥
+GoesOnRest (step.Ended (stop.Fault f)) = Unit {0}
+GoesOnRest (step.Ended stop.NoMemory) = ⊥
+
 -- A FURTHER MCU ROW is whole where the answer is Row, and none where it is More.
 abbrev pub CountsRows : StripStep → RowWork → RowWork → Type 0
 CountsRows step.More rows after = unfinished after ≡ unfinished rows
 CountsRows step.Row rows after = unfinished rows ≡ unfinished after + 1
-CountsRows step.Whole rows after = Unit {0}
+CountsRows step.Whole rows after = unfinished after ≡ unfinished rows
 CountsRows (step.Ended e) rows after = Unit {0}
 
 -- as many as a scan of all components of a frame has

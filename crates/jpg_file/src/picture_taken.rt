@@ -46,8 +46,8 @@ pub fn picture_of(file: FileWork) -> Picture
     }
 }
 
-// The table of each component.
-fn tables_of(frame: &Frame, begun: &Begun) -> ArrayVec<QuantTable, 4>
+/// The table of each component.
+pub fn tables_of(frame: &Frame, begun: &Begun) -> ArrayVec<QuantTable, 4>
     requires { (i : ℕ) → i < length frame.now.components → is_none (quant_in begun.now.quants i) ≡ false }
     ensures count { length result.items ≡ length frame.now.components }
     ensures tables { (i : ℕ) → i < length frame.now.components → slice_index_or result.items i [] ≡ unwrap_or (quant_in begun.now.quants i) [] }

@@ -7,6 +7,7 @@ ghost use Rattle.jpg_base.specs.Cursor.{AreIn, scan_mcus_down};
 ghost use Rattle.jpg_seq.specs.Rows.{IsRowOf, top_of};
 ghost use Rattle.jpg_file.specs.RowCounts.{CountsRow, counted};
 ghost use Rattle.jpg_file.specs.RowData.{CanTake, IsInsideRow, TakesRowData, TakesRowRun};
+ghost use Rattle.jpg_file.specs.RowStops.{StopsRowData, StopsRowRun};
 ghost use Rattle.jpg_file.specs.RowTurns.{IsRowIn, KeepsRowIn, TurnsRow, rows_of, unfinished, zero_picture};
 
 use crate::data::DataStep;
@@ -136,6 +137,7 @@ impl RowWork {
         requires some { 1 ≤ self.old.left }
         requires none { self.old.waiting ≡ [] }
         ensures takes { TakesRowData self.old machine.old store result.step self.new machine.new }
+        ensures stops { StopsRowData self.old machine.old store result.step }
         ensures counts { CountsRow self.old machine.old result self.new machine.new }
     {
         let mut store = store;
@@ -162,6 +164,7 @@ impl RowWork {
         requires some { 1 ≤ length bytes.now }
         requires few { length bytes.now < 4294967296 }
         ensures takes { TakesRowRun self.old machine.old bytes.now result.0 result.1.step self.new machine.new }
+        ensures stops { StopsRowRun self.old machine.old bytes.now result.0 result.1.step }
         ensures counts { CountsRow self.old machine.old result.1 self.new machine.new }
     {
         let before = machine.units_left();
@@ -187,6 +190,7 @@ impl RowWork {
         requires inside { IsInsideRow self.old machine.old }
         requires some { 1 ≤ self.old.left }
         ensures takes { TakesRowData self.old machine.old self.old.waiting result.step self.new machine.new }
+        ensures stops { StopsRowData self.old machine.old self.old.waiting result.step }
         ensures counts { CountsRow self.old machine.old result self.new machine.new }
     {
         let store = self.waiting.copy();

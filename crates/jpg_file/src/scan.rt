@@ -1,5 +1,5 @@
 // The data of a scan, read byte by byte (T.81, B.1.1.5, E.1.4).
-ghost use Rattle.std.specs.Prelude.{◌≡◌, ◌<◌, ◌≤◌, ◌&&◌, not, false, true, ℕ, List, [], ◌∷◌, ◌++◌, length};
+ghost use Rattle.std.specs.Prelude.{◌≡◌, ◌+◌, ◌<◌, ◌≤◌, ◌&&◌, not, false, true, ℕ, List, [], ◌∷◌, ◌++◌, length};
 ghost use Rattle.jpg_spec.specs.Items.{Item};
 ghost use Rattle.jpg_spec.specs.ScanReading.{ScanPlace, ScanAt, with_byte};
 ghost use Rattle.jpg_spec.specs.declared.frame.Limits.{Limits};
@@ -141,6 +141,7 @@ impl ScanWork {
         ensures takes { (now : Picture) → TakesCode self.old now code result self.new }
         ensures left { scan_left self.new ≡ scan_left self.old }
         ensures done { (last : ℕ) → result ≡ ScanStep.Marker last → scan_left self.new ≡ 0 }
+        ensures wrong { (fault : Fault) → result ≡ ScanStep.Fault fault → self.old.whole ≡ true → code ≡ 0xd0 + self.old.turn → ⊥ }
     {
         if !self.whole {
             ScanStep::Fault(Fault::EntropyShort)

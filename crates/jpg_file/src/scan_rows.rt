@@ -4,6 +4,7 @@ ghost use Rattle.jpg_file.specs.declared.scan.ScanStep.TheVariants as answer;
 ghost use Rattle.jpg_file.specs.InData.{ArePlain, GoesInside};
 ghost use Rattle.jpg_file.specs.RowCounts.{CountsRow};
 ghost use Rattle.jpg_file.specs.RowPlaces.{scan_left};
+ghost use Rattle.jpg_file.specs.RowStops.{StopsByteInRow, StopsRestInRow, StopsRunInRow};
 ghost use Rattle.jpg_file.specs.RowTurns.{CountsScan};
 ghost use Rattle.jpg_file.specs.RowData.{IsHalfRow, IsInsideRow, IsRowData, TakesByteInRow, TakesRestInRow, TakesRunInRow, scan_answer, work_after};
 
@@ -37,6 +38,7 @@ impl InScan {
         requires inside { IsRowData self.old rows.old }
         requires none { rows.old.waiting ≡ [] }
         ensures takes { TakesByteInRow self.old rows.old byte result.0 self.new rows.new }
+        ensures stops { StopsByteInRow self.old rows.old byte result.0 }
         ensures counts { CountsScan self.old.work rows.old result.1 self.new.work rows.new }
         ensures waited { (code : ℕ) → result.0 ≡ answer.Marker code → self.old.gate ≡ true }
         ensures marker { (code : ℕ) → result.0 ≡ answer.Marker code → result.1 ≡ false }
@@ -61,6 +63,7 @@ impl InScan {
     pub fn rest_in_row(&mut self, rows: &mut RowWork) -> (ScanStep, bool)
         requires { IsHalfRow self.old rows.old }
         ensures takes { TakesRestInRow self.old rows.old result.0 self.new rows.new }
+        ensures stops { StopsRestInRow self.old rows.old result.0 }
         ensures counts { CountsScan self.old.work rows.old result.1 self.new.work rows.new }
         ensures goes { GoesInside result.0 }
         ensures gate { self.new.gate ≡ self.old.gate }
@@ -79,6 +82,7 @@ impl InScan {
         requires plain { ArePlain run.now }
         requires none { rows.old.waiting ≡ [] }
         ensures takes { TakesRunInRow self.old rows.old run.now result.0 result.1 self.new rows.new }
+        ensures stops { StopsRunInRow self.old rows.old run.now result.0 result.1 }
         ensures counts { CountsScan self.old.work rows.old result.2 self.new.work rows.new }
         ensures goes { GoesInside result.1 }
         ensures gate { self.new.gate ≡ self.old.gate }

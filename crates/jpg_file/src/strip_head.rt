@@ -1,8 +1,14 @@
 // What the rows of a picture are made from, beside blocks (T.81, B.2.2, B.2.4.1; JFIF 1.02).
-ghost use Rattle.std.specs.Prelude.{◌≡◌, ◌≤◌, length};
+ghost use Rattle.std.specs.Prelude.{◌≡◌, ◌≤◌, List, length};
+ghost use Rattle.jpg_spec.specs.Markers.{Segment};
+ghost use Rattle.jpg_spec.specs.declared.frame.Limits.{Limits as Bounds};
+ghost use Rattle.jpg_file.specs.RowsKnown.{HoldsScan, TellsScan};
 ghost use Rattle.jpg_file.specs.StripHead.{IsStripHead};
 
+use crate::file::FileWork;
+use crate::head::colours;
 use crate::picture::Picture;
+use crate::picture_taken::tables_of;
 use arrayvec::ArrayVec;
 use jpg_base::{Frame, QuantTable};
 use jpg_markers::Jfif;
@@ -33,6 +39,42 @@ impl StripHead {
             quants: copied(picture.quants.as_slice()),
             jfif: picture.jfif,
         }
+    }
+
+    /// The same once more.
+    pub fn copy(&self) -> StripHead
+        ensures frame { result.frame ≡ self.now.frame }
+        ensures colour { result.colour ≡ self.now.colour }
+        ensures quants { result.quants.items ≡ self.now.quants.items }
+        ensures jfif { result.jfif ≡ self.now.jfif }
+    {
+        StripHead {
+            frame: self.frame.copy(),
+            colour: self.colour,
+            quants: copied(self.quants.as_slice()),
+            jfif: self.jfif,
+        }
+    }
+}
+
+/// That of the picture whose first scan begins, behind the scan's header.
+pub fn strip_of(file: &FileWork) -> StripHead
+    requires { (limits : Bounds) × (before : List Segment) × HoldsScan limits before file.now }
+    ensures { TellsScan file.now result }
+{
+    let held = &file.reading.items.held;
+    let Some(frame) = &held.frame else {
+        unreachable!();
+    };
+    let frame = frame.copy();
+    frame.checked();
+    let colour = colours(&frame, &held.jfif, &held.kept);
+    let quants = tables_of(&frame, &file.begun);
+    StripHead {
+        frame,
+        colour,
+        quants,
+        jfif: held.jfif,
     }
 }
 

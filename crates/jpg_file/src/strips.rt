@@ -8,8 +8,11 @@ ghost use Rattle.jpg_base.specs.declared.stop.Stop.TheVariants as stop;
 ghost use Rattle.jpg_file.specs.File.{keeping_of, limits_of};
 ghost use Rattle.jpg_file.specs.InData.{ArePlain};
 ghost use Rattle.jpg_file.specs.Reading.{IsOpenScan, IsSparing};
-ghost use Rattle.jpg_file.specs.Strips.{BeginsRows, CountsAll, CountsRows, IsNoRow, NotWanting, FindsHead, GoesByRow, HasHeadOfAll, HasLaterHead, end_step, PassesItem, PassesLaterHead, StandsByRow, TakesLaterByte, TakesRest, TakesRowByte, TakesRowRun};
+ghost use Rattle.jpg_file.specs.Strips.{BeginsRows, CountsAll, CountsRows, IsNoRow, NotWanting, FindsHead, GoesByRow, GoesOnRest, HasHeadOfAll, HasLaterHead, end_step, PassesItem, PassesLaterHead, StandsByRow, TakesLaterByte, TakesRest, TakesRowByte, TakesRowRun};
+ghost use Rattle.jpg_file.specs.RowStops.{StopsByte, StopsRest, StopsRun};
 ghost use Rattle.jpg_file.specs.RowTurns.{unfinished};
+ghost use Rattle.jpg_file.specs.RowsNone.{FindsNone};
+ghost use Rattle.jpg_file.specs.RowsKnown.{BeginsTold};
 ghost use Rattle.jpg_file.specs.declared.rows.RowWork.{RowWork as Row};
 
 use crate::file::{FileWork, plain_length};
@@ -53,6 +56,8 @@ impl FileWork {
     pub fn row_rest(&mut self, rows: &mut RowWork) -> StripStep
         requires { (bytes : List ℕ) × StandsByRow (limits_of self.old) bytes self.old rows.old }
         ensures after { TakesRest self.old rows.old result self.new rows.new }
+        ensures stops { StopsRest self.old rows.old result }
+        ensures goes { GoesOnRest result }
         ensures rows { CountsRows result rows.old rows.new }
         ensures memory { NotWanting result }
         ensures same { self.new.reading.items ≡ self.old.reading.items }
@@ -83,6 +88,7 @@ impl FileWork {
         requires limits { AreLimits (limits_of self.old) }
         requires room { self.old.reading.taken < (limits_of self.old).input }
         ensures after { TakesRowByte self.old rows.old byte result self.new rows.new }
+        ensures stops { StopsByte self.old rows.old byte result }
         ensures rows { CountsRows result rows.old rows.new }
         ensures memory { NotWanting result }
         ensures sparing { IsSparing self.old.reading → IsSparing self.new.reading }
@@ -116,6 +122,7 @@ impl FileWork {
         requires few { length run.now < 4294967296 }
         requires plain { ArePlain run.now }
         ensures after { TakesRowRun self.old rows.old run.now result.0 result.1 self.new rows.new }
+        ensures stops { StopsRun self.old rows.old run.now result.0 result.1 }
         ensures rows { CountsRows result.1 rows.old rows.new }
         ensures memory { NotWanting result.1 }
         ensures same { self.new.reading.items ≡ self.old.reading.items }
@@ -143,6 +150,7 @@ impl FileWork {
         requires room { self.old.reading.taken < (limits_of self.old).input }
         requires some { 1 ≤ length bytes.now }
         ensures after { TakesRowRun self.old rows.old bytes.now result.0 result.1 self.new rows.new }
+        ensures stops { StopsRun self.old rows.old bytes.now result.0 result.1 }
         ensures rows { CountsRows result.1 rows.old rows.new }
         ensures memory { IsSparing self.old.reading → NotWanting result.1 }
         ensures sparing { IsSparing self.old.reading → IsSparing self.new.reading }
@@ -236,7 +244,8 @@ pub fn end_step(answer: Result<bool, Stop>) -> StripStep
 impl FileWork {
     /// The frame and the scan header that is whole, where it is of a sequential scan of all components and breaks no rule.
     pub fn head_of_all(&self) -> Option<(Frame, ScanHead)>
-        ensures { FindsHead self.now result }
+        ensures head { FindsHead self.now result }
+        ensures none { FindsNone self.now result }
     {
         let Some(frame) = &self.reading.items.held.frame else {
             return None;
@@ -260,6 +269,7 @@ impl FileWork {
         requires of { HasHeadOfAll self.old frame.now head.now }
         requires first { self.old.head ≡ None }
         ensures after { BeginsRows self.old frame.now head.now result self.new }
+        ensures told { IfOk result (λ rows. BeginsTold self.old frame.now head.now self.new) }
         ensures count { IfOk result (λ rows. unfinished rows ≡ scan_mcus_down frame.now (head_components head.now)) }
         ensures all { IfOk result (λ rows. CountsAll (Some rows) self.new) }
         ensures sparing { IfOk result (λ rows. keeping_of self.old ≡ copying.None → IsSparing self.new.reading) }

@@ -12,17 +12,17 @@ use Rattle.jpg_spec.specs.ScanText.{code_of}
 use Rattle.jpg_spec.proofs.Small.{few_digits}
 use Rattle.jpg_huff.specs.Encoder.{IsValueEntry, AreValueEntries}
 
-pub small_category : (v : ℤ) → negsuc 7 ≤ℤ v → v ≤ℤ pos 7 → category v ≤ 4
-small_category (pos n) low high = few_digits 4 n (omega (arith, ints))
-small_category (negsuc n) low high = few_digits 4 (suc n) (omega (arith, ints))
+pub small_category : (v : ℤ) → negsuc 31 ≤ℤ v → v ≤ℤ pos 31 → category v ≤ 6
+small_category (pos n) low high = few_digits 6 n (omega (arith, ints))
+small_category (negsuc n) low high = few_digits 6 (suc n) (omega (arith, ints))
 
-pub below_20 : (n l s : ℕ) → l ≤ 16 → s ≤ 4 → n < 2 ^ (l + s) → n < 1048576
-below_20 n l s h k lt =
-    let p : 2 ^ (l + s) ≤ 2 ^ 20 = pow-le-pow_right {n = 2} (lit< tt) {i = l + s} {j = 20} (omega (arith, h, k)) in
+pub below_22 : (n l s : ℕ) → l ≤ 16 → s ≤ 6 → n < 2 ^ (l + s) → n < 4194304
+below_22 n l s h k lt =
+    let p : 2 ^ (l + s) ≤ 2 ^ 22 = pow-le-pow_right {n = 2} (lit< tt) {i = l + s} {j = 22} (omega (arith, h, k)) in
     omega (arith, p, lt)
 
 -- an entry of these bits
-pub entry_is : (codes : List Code) (run : ℕ) (v : ℤ) (l s n entry : ℕ) → l ≤ 16 → s ≤ 4 → n < 2 ^ (l + s) → s ≡ category v → bits_of (l + s) n ≡ code_of codes (16 * run + s) ++ extra_bits v → entry ≡ 32 * n + (l + s) → IsValueEntry codes run v entry
+pub entry_is : (codes : List Code) (run : ℕ) (v : ℤ) (l s n entry : ℕ) → l ≤ 16 → s ≤ 6 → n < 2 ^ (l + s) → s ≡ category v → bits_of (l + s) n ≡ code_of codes (16 * run + s) ++ extra_bits v → entry ≡ 32 * n + (l + s) → IsValueEntry codes run v entry
 entry_is codes run v l s n entry h k lt c bits e =
     let m : entry % 32 ≡ l + s = omega (arith, h, k, e) in
     let d : entry / 32 ≡ n = omega (arith, h, k, e) in
@@ -31,14 +31,14 @@ entry_is codes run v l s n entry h k lt c bits e =
       fits = subst (λ m. entry / 32 < 2 ^ m) (sym m) (subst (λ d. d < 2 ^ (l + s)) (sym d) lt);
     }
 
-pub entry_at : (codes : List Code) (entries : List ℕ) (run n : ℕ) (v : ℤ) → AreValueEntries codes entries → run < 16 → n < 16 → pos n ≡ v +ℤ pos 8 → IsValueEntry codes run v (slice_index entries (16 * run + n))
+pub entry_at : (codes : List Code) (entries : List ℕ) (run n : ℕ) (v : ℤ) → AreValueEntries codes entries → run < 16 → n < 64 → pos n ≡ v +ℤ pos 32 → IsValueEntry codes run v (slice_index entries (64 * run + n))
 entry_at codes entries run n v all h k e =
-    let i = 16 * run + n in
-    let d : i / 16 ≡ run = omega (arith, h, k) in
-    let m : i % 16 ≡ n = omega (arith, h, k) in
-    let b : pos n -ℤ pos 8 ≡ v = omega (arith, ints, e) in
+    let i = 64 * run + n in
+    let d : i / 64 ≡ run = omega (arith, h, k) in
+    let m : i % 64 ≡ n = omega (arith, h, k) in
+    let b : pos n -ℤ pos 32 ≡ v = omega (arith, ints, e) in
     let entry = slice_index entries i in
-    subst (λ w. IsValueEntry codes run w entry) (ap (λ m. pos m -ℤ pos 8) m ∙ b) (subst (λ r. IsValueEntry codes r (pos (i % 16) -ℤ pos 8) entry) d (all i (omega (arith, h, k))))
+    subst (λ w. IsValueEntry codes run w entry) (ap (λ m. pos m -ℤ pos 32) m ∙ b) (subst (λ r. IsValueEntry codes r (pos (i % 64) -ℤ pos 32) entry) d (all i (omega (arith, h, k))))
 
 -- one entry more
 pub each_more : (P : ℕ → ℕ → Type 0) (entries : List ℕ) (i v : ℕ) → i < length entries → ((n : ℕ) → n < i → P n (get_or entries n 0)) → P i v → (n : ℕ) → n < i + 1 → P n (get_or (set entries i v) n 0)

@@ -17,7 +17,7 @@ pub record IsValueEntry (codes : List Code) (run : ℕ) (value : ℤ) (entry : �
 
 -- by 16 times the run, and the value and 8
 abbrev pub AreValueEntries : List Code → List ℕ → Type 0
-AreValueEntries codes entries = (i : ℕ) → i < 256 → IsValueEntry codes (i / 16) (pos (i % 16) -ℤ pos 8) (slice_index entries i)
+AreValueEntries codes entries = (i : ℕ) → i < 1024 → IsValueEntry codes (i / 64) (pos (i % 64) -ℤ pos 32) (slice_index entries i)
 
 -- by slots, the codes of the tables of a set
 pub record AreEncodersOf (tables : TableSet) (dc ac : List (Option (List Code))) : Type 0 where

@@ -12,12 +12,12 @@ use crate::out::joined;
 use crate::{Code, Table, TableSet, category, extra_bits};
 use std::marker::Model;
 
-/// A table, and what is written for values from -8 to 7 behind fewer than 16 zeros.
+/// A table, and what is written for values from -32 to 31 behind fewer than 16 zeros.
 #[derive(Drop)]
 pub struct Encoder {
     table: Table,
-    // by 16 times the run, and the value and 8: 32 times the bits, and how many they are
-    values: [u32; 256],
+    // by 64 times the run, and the value and 32: 32 times the bits, and how many they are
+    values: [u32; 1024],
 }
 
 impl Model for Encoder {
@@ -33,29 +33,29 @@ impl Model for Encoder {
     ghost invariant = { λ e. AreValueEntries (symbol_codes e.table) e.values };
 }
 
-// The value and 8.
+// The value and 32.
 #[inline(always)]
 fn raised(value: i16) -> usize
-    requires small { (negsuc 7 ≤ℤ value) × (value ≤ℤ pos 7) }
-    ensures value { pos result ≡ value +ℤ pos 8 }
-    ensures few { result < 16 }
+    requires small { (negsuc 31 ≤ℤ value) × (value ≤ℤ pos 31) }
+    ensures value { pos result ≡ value +ℤ pos 32 }
+    ensures few { result < 64 }
 {
-    (value + 8) as usize
+    (value + 32) as usize
 }
 
-// The number less 8.
+// The number less 32.
 fn lowered(number: usize) -> i32
-    requires few { number < 16 }
-    ensures value { result ≡ pos number -ℤ pos 8 }
-    ensures small { (negsuc 7 ≤ℤ result) × (result ≤ℤ pos 7) }
+    requires few { number < 64 }
+    ensures value { result ≡ pos number -ℤ pos 32 }
+    ensures small { (negsuc 31 ≤ℤ result) × (result ≤ℤ pos 31) }
 {
-    number as i32 - 8
+    number as i32 - 32
 }
 
 // What is kept for a value.
 fn value_entry(table: &Table, run: u8, value: i32) -> u32
     requires run { run < 16 }
-    requires small { (negsuc 7 ≤ℤ value) × (value ≤ℤ pos 7) }
+    requires small { (negsuc 31 ≤ℤ value) × (value ≤ℤ pos 31) }
     ensures { IsValueEntry (symbol_codes table.now) run value result }
 {
     let size = category(value);
@@ -64,12 +64,12 @@ fn value_entry(table: &Table, run: u8, value: i32) -> u32
 }
 
 // What is kept for all values.
-fn value_entries(table: &Table) -> [u32; 256]
+fn value_entries(table: &Table) -> [u32; 1024]
     ensures { AreValueEntries (symbol_codes table.now) result }
 {
-    let mut values = [0; 256];
-    for i in 0..256usize {
-        values[i] = value_entry(table, (i / 16) as u8, lowered(i % 16));
+    let mut values = [0; 1024];
+    for i in 0..1024usize {
+        values[i] = value_entry(table, (i / 64) as u8, lowered(i % 64));
     }
     values
 }
@@ -94,16 +94,16 @@ impl Encoder {
         self.table.written(symbol)
     }
 
-    /// What is written for a value from -8 to 7 behind fewer than 16 zeros: the first code of its symbol, if any, and its
+    /// What is written for a value from -32 to 31 behind fewer than 16 zeros: the first code of its symbol, if any, and its
     /// extra bits (T.81, F.1.2.2). It is a number, and how many bits it has.
     #[inline(always)]
     pub fn value(&self, run: u8, value: i16) -> (u32, u8)
         requires run { run < 16 }
-        requires small { (negsuc 7 ≤ℤ value) × (value ≤ℤ pos 7) }
+        requires small { (negsuc 31 ≤ℤ value) × (value ≤ℤ pos 31) }
         ensures bits { bits_of result.1 result.0 ≡ code_of self.now (16 * run + category_of value) ++ extra_of value }
         ensures fits { (result.1 ≤ 32) × (result.0 < 2 ^ result.1) }
     {
-        let entry = self.values[16 * run as usize + raised(value)];
+        let entry = self.values[64 * run as usize + raised(value)];
         (entry >> 5, (entry % 32) as u8)
     }
 }

@@ -12,6 +12,7 @@ mod inputs;
 mod progressive;
 mod scripts;
 mod shown;
+mod strips;
 mod written;
 
 const DONE: Ended = Ended {

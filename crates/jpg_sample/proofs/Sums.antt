@@ -59,6 +59,16 @@ unfolding down_rows
 row_done across down width rows out x n long is e =
     sym (take_all x out (omega (arith, long, is))) ∙ e ∙ ap (λ m. map (λ k. narrowed across down (edge_repeated width down (in_rows width rows)) k 0) (below m)) is
 
+-- what was made of them before
+pub row_made : (across down width : ℕ) (rows out : List ℕ) (n : ℕ) → take n out ≡ down_rows across down width rows n
+    → take n out ≡ map (λ k. narrowed across down (edge_repeated width down (in_rows width rows)) k 0) (below n)
+unfolding down_rows
+row_made across down width rows out n e = e
+
+pub nothing_made : (across down width : ℕ) (rows : List ℕ) → [] ≡ down_rows across down width rows 0
+unfolding down_rows
+nothing_made across down width rows = refl
+
 pub small_mean : (sum count : ℕ) → 1 ≤ count → sum ≤ 255 * count → (sum + count / 2) / count < 256
 small_mean sum count some h = div_below (sum + count / 2) count 256 (omega (arith, some)) (omega (arith, h, some))
 

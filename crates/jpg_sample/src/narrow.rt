@@ -1,5 +1,5 @@
 // Rows of samples made narrower and lower: each sample is the mean of those that it stands for (release 6b's downsampling).
-ghost use Rattle.std.specs.Prelude.{◌≡◌, ◌+◌, ◌-◌, ◌*◌, ◌/◌, ◌≤◌, ◌<◌, ℕ, min, nat_lt, if◌then◌else◌, length, map, slice_index};
+ghost use Rattle.std.specs.Prelude.{◌≡◌, ◌+◌, ◌-◌, ◌*◌, ◌/◌, ◌≤◌, ◌<◌, ℕ, min, nat_lt, if◌then◌else◌, length, map, slice_index, take};
 ghost use Rattle.jpg_spec.specs.Lists.{below};
 ghost use Rattle.jpg_spec.specs.Downsampling.{mean_of, down_rows};
 ghost use Rattle.jpg_sample.specs.Means.{row_part, block_part, quarter_at, quarter_of};
@@ -144,16 +144,18 @@ fn first_of(x: usize, width: usize, across: usize) -> usize
     if x < width { across * x } else { width }
 }
 
-// Any ratio, and columns behind the last one.
+// Those from column `from` on, by any ratio, and of columns after the last one.
 #[inline(always)]
-fn means(rows: &[u8], width: usize, across: usize, down: usize, out: &mut [u8])
+fn means(rows: &[u8], width: usize, across: usize, down: usize, from: usize, out: &mut [u8])
     requires across { (1 ≤ across) × (across ≤ 4) }
     requires down { (1 ≤ down) × (down ≤ 4) }
     requires some { (1 ≤ width) × (width < 4294967296) }
     requires rows { length rows.now ≡ down * width }
+    requires within { from ≤ length out.old }
+    requires made { take from out.old ≡ down_rows across down width rows.now from }
     ensures { out.new ≡ down_rows across down width rows.now (length out.old) }
 {
-    for x in 0..out.len() {
+    for x in from..out.len() {
         let first = first_of(x, width, across);
         let sum = block_sum(rows, width, across, down, first);
         out[x] = mean(across, down, x, sum);
@@ -266,7 +268,38 @@ fn copies(row: &[u8], width: usize, out: &mut [u8])
     out.copy_from_slice(&row[..out.len()]);
 }
 
-/// Rows of `width` samples, one behind another, as many as the ratio says down, made one row: of those behind the last column
+// All of them, where all columns are there.
+#[inline(always)]
+fn first_means(rows: &[u8], width: usize, across: usize, down: usize, out: &mut [u8])
+    requires across { (1 ≤ across) × (across ≤ 4) }
+    requires down { (1 ≤ down) × (down ≤ 4) }
+    requires some { (1 ≤ width) × (width < 4294967296) }
+    requires rows { length rows.now ≡ down * width }
+    requires there { across * length out.old ≤ width }
+    ensures { out.new ≡ down_rows across down width rows.now (length out.old) }
+{
+    if across == 1 && down == 1 {
+        copies(rows, width, out);
+    } else if across == 2 && down == 1 {
+        halves(rows, width, out);
+    } else if across == 2 && down == 2 {
+        quarters(rows, width, out);
+    } else {
+        means(rows, width, across, down, 0, out);
+    }
+}
+
+// How many of so many stand over columns that are all there.
+#[inline(always)]
+fn whole(width: usize, across: usize, count: usize) -> usize
+    requires { 1 ≤ across }
+    ensures few { result ≤ count }
+    ensures there { across * result ≤ width }
+{
+    (width / across).min(count)
+}
+
+/// Rows of `width` samples, one after another, as many as the ratio says down, made one row: of those after the last column
 /// the last one stands for each.
 pub fn down_rows(rows: &[u8], width: u32, ratio: &Ratio, out: &mut [u8])
     requires across { (1 ≤ ratio.now.across) × (ratio.now.across ≤ 4) }
@@ -278,13 +311,7 @@ pub fn down_rows(rows: &[u8], width: u32, ratio: &Ratio, out: &mut [u8])
     let across = ratio.across as usize;
     let down = ratio.down as usize;
     let width = width as usize;
-    if across == 1 && down == 1 && out.len() <= width {
-        copies(rows, width, out);
-    } else if across == 2 && down == 1 && out.len() <= width / 2 {
-        halves(rows, width, out);
-    } else if across == 2 && down == 2 && out.len() <= width / 2 {
-        quarters(rows, width, out);
-    } else {
-        means(rows, width, across, down, out);
-    }
+    let made = whole(width, across, out.len());
+    first_means(rows, width, across, down, &mut out[..made]);
+    means(rows, width, across, down, made, out);
 }

@@ -127,7 +127,7 @@ fn put_run<D: Desk>(
 {
     if run >= 16 {
         put_any_behind(ac, run, value, held, out, desk)
-    } else if value >= -8 && value < 8 {
+    } else if value >= -32 && value < 32 {
         let (bits, count) = ac.value(run, value);
         out.put_behind(held, bits, count, desk)
     } else {

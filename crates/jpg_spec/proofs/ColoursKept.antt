@@ -92,13 +92,18 @@ same_frame_behind limits more contents intervals before blocks l =
     let k = frame_keeps limits more (scan contents intervals ∷ before) blocks l (or_right (is_frame_code 0xda) (has_frame (segments_of before)) found) in
     k.same ∙ frame_stays limits (segments_of before) 0xda contents found at.1.1
 
+pub same_jfif_behind : (more : List Item) (contents : List ℕ) (intervals : List (List ℕ)) (before : List Item)
+    → jfif_of (reverse (kept_after (behind_first more contents intervals before))) ≡ jfif_of (reverse (kept_after (segments_of before)))
+same_jfif_behind more contents intervals before =
+    same_jfif (kept_after (behind_first more contents intervals before)) (kept_after (segments_of before)) (finds_first is_jfif more contents intervals before jfif_of_colours).1
+
 pub same_colours_behind : (limits : Limits) (more : List Item) (contents : List ℕ) (intervals : List (List ℕ)) (before : List Item) (blocks : Blocks) → Leads limits (more ++ scan contents intervals ∷ before) blocks
     → colours_behind limits (behind_first more contents intervals before) ≡ colours_behind limits (segments_of before)
 same_colours_behind limits more contents intervals before blocks l =
     let all = behind_first more contents intervals before in
     let first = segments_of before in
     let f = same_frame_behind limits more contents intervals before blocks l in
-    let jfif = same_jfif (kept_after all) (kept_after first) (finds_first is_jfif more contents intervals before jfif_of_colours).1 in
+    let jfif = same_jfif_behind more contents intervals before in
     let adobe = same_adobe (kept_after all) (kept_after first) (finds_first is_adobe more contents intervals before adobe_of_colours).1 in
     ap (λ g. colours_with g (jfif_of (reverse (kept_after all))) (adobe_transform (reverse (kept_after all)))) f
     ∙ ap (λ j. colours_with (frame_of limits first) j (adobe_transform (reverse (kept_after all)))) jfif

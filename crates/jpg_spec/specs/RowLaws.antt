@@ -190,6 +190,13 @@ all_rows_text limits bytes M w gray smooth blocks = rows_text Pnm (read_so_far l
 abbrev pub image_text : Meaning → Bool → Bool → List ℕ
 image_text M gray smooth = end_text Pnm (info M gray) (pixels M gray smooth)
 
+-- the image in any format: that of a picture, and of these blocks with what stands at the end of its scan header
+abbrev pub text_in : EndKind → Meaning → Bool → Bool → List ℕ
+text_in kind M gray smooth = end_text kind (info M gray) (pixels M gray smooth)
+
+abbrev pub so_far_in : EndKind → (limits : Limits) → (bytes : List ℕ) → (M : Meaning) → IsReadByRows limits bytes M → (gray smooth : Bool) → Blocks → List ℕ
+so_far_in kind limits bytes M w gray smooth blocks = text_in kind (read_so_far limits bytes M w blocks) gray smooth
+
 -- A READER of such a scan
 
 -- The next unit is under way, of which the bits have told these values; or they show a fault in it.

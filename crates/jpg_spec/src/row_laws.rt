@@ -21,7 +21,7 @@ ghost use Rattle.jpg_spec.specs.RowLaws.{TellsEnough, HasRows};
 ghost use Rattle.jpg_spec.specs.RowLaws.{HasBegunPicture, begun_picture, begun_rows, IsShownInRows, IsReadByRows, CompletesAll};
 ghost use Rattle.jpg_spec.specs.RowLaws.{ReadsUnits, ReadsInterval, StopsInRows, stopped_blocks};
 ghost use Rattle.jpg_spec.specs.RowLaws.{ReadsAtLeast, ReadsRows, ReadsWholeRows, blocks_read};
-ghost use Rattle.jpg_spec.specs.RowLaws.{TellsTwice, fewer_text, more_text, GoesOnFrom, all_rows_text, image_text};
+ghost use Rattle.jpg_spec.specs.RowLaws.{TellsTwice, fewer_text, more_text, GoesOnFrom, all_rows_text, image_text, so_far_in, text_in};
 ghost use Rattle.jpg_spec.specs.declared.image.EndKind.{EndKind};
 ghost use Rattle.jpg_spec.specs.declared.image.EndKind.TheVariants.{Bmp};
 ghost use Rattle.jpg_spec.specs.declared.fault.Fault.TheVariants.{RepeatedScan};
@@ -123,10 +123,13 @@ pub fn pictures_so_far_are_shown_as_their_files()
         → BeginsScanOfAll limits bytes before contents → AreNotShownAlike limits gray bytes (picture_so_far limits before contents blocks) }
 {}
 
-/// The text of all MCU rows of a whole file is that of its image, where the image goes out row by row.
+/// The text of all MCU rows of a whole file is that of its image, where the image goes out row by row. In any format, the image of
+/// their blocks, with what stands at the end of the scan header, is that of the file.
 pub fn files_show_all_rows()
-    ensures { (limits : Limits) (bytes : List ℕ) (M : Meaning) (w : IsReadByRows limits bytes M) (gray smooth : Bool) (blocks : Blocks)
+    ensures rows { (limits : Limits) (bytes : List ℕ) (M : Meaning) (w : IsReadByRows limits bytes M) (gray smooth : Bool) (blocks : Blocks)
         → CompletesRows limits bytes (mcu_rows M) blocks → all_rows_text limits bytes M w gray smooth blocks ≡ image_text M gray smooth }
+    ensures image { (limits : Limits) (bytes : List ℕ) (M : Meaning) (w : IsReadByRows limits bytes M) (kind : EndKind) (gray smooth : Bool) (blocks : Blocks)
+        → CompletesRows limits bytes (mcu_rows M) blocks → so_far_in kind limits bytes M w gray smooth blocks ≡ text_in kind M gray smooth }
 {}
 
 /// Bytes show one text, and none of a BMP file, whose header and rows go out at its end.

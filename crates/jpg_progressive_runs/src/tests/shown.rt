@@ -140,7 +140,7 @@ static SHOWN: [(&[&str], &[Change], usize, u64); 16] = [
 ];
 
 // What is asked of a file, and what is said of it.
-static REFUSED: [(&[&str], &[Change], &str); 17] = [
+static REFUSED: [(&[&str], &[Change], &str); 16] = [
     (
         &[],
         &[
@@ -320,11 +320,6 @@ static REFUSED: [(&[&str], &[Change], &str); 17] = [
             ),
         ],
         "djpeg: refused: MissingTable at byte 300\n",
-    ),
-    (
-        &[],
-        &[(328, 329, &[0xff, 0, 0xff, 0])],
-        "djpeg: refused: NoCode at byte 332\n",
     ),
     (
         &[],

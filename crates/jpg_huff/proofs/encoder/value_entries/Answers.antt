@@ -18,6 +18,6 @@ loop-i-preserved c =
     let e = c.value_entry.result in
     let f : SFits w32 c.lowered.result = search rules in (
       search rules,
-      each_more (λ n e. IsValueEntry codes (n / 16) (pos (n % 16) -ℤ pos 8) e) c.loop-i.values i e (omega (arith, c.loop-i.invariant.0, c.loop-i-test.true)) c.loop-i.invariant.1
-          (subst (λ v. IsValueEntry codes (i / 16) v e) (to_z-of_z w32 c.lowered.result f ∙ c.lowered.ensures.value) c.value_entry.ensures),
+      each_more (λ n e. IsValueEntry codes (n / 64) (pos (n % 64) -ℤ pos 32) e) c.loop-i.values i e (omega (arith, c.loop-i.invariant.0, c.loop-i-test.true)) c.loop-i.invariant.1
+          (subst (λ v. IsValueEntry codes (i / 64) v e) (to_z-of_z w32 c.lowered.result f ∙ c.lowered.ensures.value) c.value_entry.ensures),
     )

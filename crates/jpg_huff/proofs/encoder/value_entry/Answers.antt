@@ -6,7 +6,7 @@ use Rattle.jpg_spec.specs.Bits.{bits_of}
 use Rattle.jpg_spec.specs.Numbers.{category, extra_bits}
 use Rattle.jpg_spec.specs.ScanText.{code_of}
 use Rattle.jpg_huff.specs.Tables.{symbol_codes}
-use Rattle.jpg_huff.proofs.Encoded.{small_category, below_20, entry_is}
+use Rattle.jpg_huff.proofs.Encoded.{small_category, below_22, entry_is}
 use Rattle.jpg_huff.proofs.encoder.value_entry.Goals as goal
 
 pub overflow_add-run : goal.overflow_add-run
@@ -28,7 +28,7 @@ overflow_mul-result c =
     let f : SFits w32 c.args.value = search rules in
     let s = c.category-size.ensures.category ∙ ap category (to_z-of_z w32 c.args.value f) in
     let few = small_category c.args.value c.requires.small.0 c.requires.small.1 in
-    let small = below_20 c.joined.result c.written-code.result.length c.category-size.result c.written-code.ensures.short (omega (arith, s, few)) c.joined.ensures.fits in
+    let small = below_22 c.joined.result c.written-code.result.length c.category-size.result c.written-code.ensures.short (omega (arith, s, few)) c.joined.ensures.fits in
     record { fits = omega (arith, small) }
 
 pub overflow_add-result : goal.overflow_add-result
@@ -36,7 +36,7 @@ overflow_add-result c =
     let f : SFits w32 c.args.value = search rules in
     let s = c.category-size.ensures.category ∙ ap category (to_z-of_z w32 c.args.value f) in
     let few = small_category c.args.value c.requires.small.0 c.requires.small.1 in
-    let small = below_20 c.joined.result c.written-code.result.length c.category-size.result c.written-code.ensures.short (omega (arith, s, few)) c.joined.ensures.fits in
+    let small = below_22 c.joined.result c.written-code.result.length c.category-size.result c.written-code.ensures.short (omega (arith, s, few)) c.joined.ensures.fits in
     record { fits = omega (arith, small, s, few, c.written-code.ensures.short, c.from.ensures) }
 
 pub returns : goal.returns

@@ -1,8 +1,11 @@
-use Rattle.std.proofs.Common.{rules, ◌∙◌}
+use Rattle.std.proofs.Common.{rules, ◌∙◌, refl}
 use Rattle.std.proofs.lemmas.List.{length-set}
 use Rattle.jpg_spec.specs.Downsampling.{edge_repeated, in_rows, narrowed}
-use Rattle.jpg_sample.proofs.Sums.{one_mean, mean_more, row_done}
+use Rattle.jpg_sample.proofs.Sums.{one_mean, mean_more, row_done, row_made}
 use Rattle.jpg_sample.proofs.narrow.means.Goals as goal
+
+pub loop-x-init : goal.loop-x-init
+loop-x-init c = (refl, row_made c.args.across c.args.down c.args.width c.args.rows.now c.args.out.now c.args.from c.requires.made)
 
 pub loop-x-preserved : goal.loop-x-preserved
 loop-x-preserved c =

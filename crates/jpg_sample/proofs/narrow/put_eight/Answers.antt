@@ -1,4 +1,4 @@
-use Rattle.std.proofs.Common.{rules, ◌∙◌, arith}
+use Rattle.std.proofs.Common.{◌∙◌, arith}
 use Rattle.jpg_sample.proofs.Sums.{one_of_eight}
 use Rattle.jpg_sample.proofs.narrow.put_eight.Goals as goal
 

@@ -1,4 +1,4 @@
-use Rattle.std.proofs.Common.{rules, ◌∙◌, ◌*◌, arith}
+use Rattle.std.proofs.Common.{◌∙◌, ◌*◌, arith}
 use Rattle.jpg_sample.specs.Means.{quarter_of}
 use Rattle.jpg_sample.proofs.Sums.{made_more}
 use Rattle.jpg_sample.proofs.narrow.put_eights.Goals as goal

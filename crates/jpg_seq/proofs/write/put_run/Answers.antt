@@ -8,15 +8,15 @@ use Rattle.jpg_huff.specs.BitOut.{PutsBehind}
 use Rattle.jpg_seq.proofs.Bands.{run_last}
 use Rattle.jpg_seq.proofs.write.put_run.Goals as goal
 
-pub returns-then-value-lt8-clause-puts : goal.returns-then-value-lt8-clause-puts
-returns-then-value-lt8-clause-puts g c =
+pub returns-then-value-lt32-clause-puts : goal.returns-then-value-lt32-clause-puts
+returns-then-value-lt32-clause-puts g c =
     let codes = c.args.ac.now in
     let f : SFits w16 c.args.value = search rules in
     let e = c.value-bits.ensures.bits ∙ ap (λ v. code_of codes (16 * c.args.run + category v) ++ extra_bits v) (to_z-of_z w16 c.args.value f) ∙ sym (run_last codes c.args.run c.args.value (omega (arith, c.if-run-ge16.false))) in
     subst (λ bits. PutsBehind (g.D.Desk.state c.args.desk.now) c.args.out.now c.args.held bits c.put_behind.result c.put_behind.new.self (g.D.Desk.state c.put_behind.new.desk)) e c.put_behind.ensures.puts
 
-pub returns-else-value-geminus8-clause-puts : goal.returns-else-value-geminus8-clause-puts
-returns-else-value-geminus8-clause-puts g c =
+pub returns-else-value-geminus32-clause-puts : goal.returns-else-value-geminus32-clause-puts
+returns-else-value-geminus32-clause-puts g c =
     let codes = c.args.ac.now in
     let run = c.args.run in
     let f : SFits w16 c.args.value = search rules in

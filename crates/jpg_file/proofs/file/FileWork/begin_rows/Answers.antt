@@ -8,6 +8,7 @@ use Rattle.jpg_file.specs.declared.reading.Reading.{Reading}
 use Rattle.jpg_file.proofs.HeadReady.{are_in}
 use Rattle.jpg_file.proofs.StripBegin.{first_of, head_room, rows_begun, zero_sizes, zero_whole}
 use Rattle.jpg_file.proofs.StripCounts.{head_rows, kept_frame}
+use Rattle.jpg_file.proofs.StripTold.{begins_told}
 use Rattle.jpg_file.proofs.file.FileWork.begin_rows.Goals as goal
 
 pub new-requires-clause-there : goal.new-requires-clause-there
@@ -82,3 +83,15 @@ returns-else-is_err-clause-all c = λ head is.
     let b = head_room (limits_of w) o.0 h.items w.reading.items taken (zero_picture f) c.begin_head.new.begun c.reserve.new.self c.reserve.ensures.same a in
     c.in-Ok.ensures.count ∙ head_rows f c.args.head.now k.is_head k.all
     ∙ ap (λ (g : Frame). rows_of_all g) (sym (kept_frame (limits_of w) o.0 w roomy c.note_head.new.self f c.args.head.now head h k b c.requires.first c.note_head.ensures is))
+
+pub returns-else-is_err-clause-told : goal.returns-else-is_err-clause-told
+returns-else-is_err-clause-told c = λ bytes h k.
+    let w = c.args.self.now in
+    let f = c.args.frame.now in
+    let first = first_of (limits_of w) bytes w h c.requires.first in
+    let whole = zero_whole (limits_of w) bytes w f h k.framed c.checked.ensures first in
+    let taken = c.begin_head.new.self in
+    let room : Reading = record taken { items = record taken.items { segments = c.reserve.new.self } } in
+    let roomy : FileWork = record { alloc = w.alloc; reading = room; begun = c.begin_head.new.begun; head = w.head } in
+    let a = c.in-More.ensures.after (zero_picture f) (zero_sizes f) bytes h.items h.blocks whole in
+    begins_told (limits_of w) bytes w roomy c.note_head.new.self f c.args.head.now h k first (head_room (limits_of w) bytes h.items w.reading.items taken (zero_picture f) c.begin_head.new.begun c.reserve.new.self c.reserve.ensures.same a) c.note_head.ensures

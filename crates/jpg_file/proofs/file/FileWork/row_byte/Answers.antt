@@ -3,10 +3,12 @@ use Rattle.jpg_file.specs.File.{limits_of}
 use Rattle.jpg_file.specs.Items.{IsOfMarker}
 use Rattle.jpg_file.specs.Reading.{waiting}
 use Rattle.jpg_file.specs.Strips.{AfterRows, CountsRows, NotWanting}
+use Rattle.jpg_base.specs.declared.stop.Stop.TheVariants as stop
 use Rattle.jpg_file.specs.declared.items.ItemStep.{ItemStep}
 use Rattle.jpg_file.specs.declared.strips.StripStep.{StripStep}
 use Rattle.jpg_file.specs.RowTurns.{CountsScan}
 use Rattle.jpg_file.specs.declared.strips.StripStep.TheVariants as step
+use Rattle.jpg_file.proofs.FaultsRows.{byte_at_fault, marker_at_fault, no_stop}
 use Rattle.jpg_file.proofs.RowCounts.{counts_rows, same_rows}
 use Rattle.jpg_file.proofs.StripBytes.{byte_goes, byte_leaves, byte_stops, leaves_kind, ready_row}
 use Rattle.jpg_file.proofs.StripTurns.{file_with, row_ready}
@@ -94,3 +96,23 @@ returns-in-Marker-clause-memory c =
     let took = c.byte_in_row-step in
     let g = c.requires.stands in
     c.later_item.ensures.memory (λ is. subst (λ (s : ItemStep). IsOfMarker s) is (leaves_kind g.0 c.args.byte c.in-Marker.code w scan took.new.self rows took.new.rows took.result.0 c.marker-came.new.self c.marker-came.result (row_ready (limits_of w) g.0 w scan rows g.1 c.in-Some.is) (g.1).none took.ensures.takes c.in-Marker.is c.marker-came.ensures.after))
+
+pub returns-in-More-clause-stops : goal.returns-in-More-clause-stops
+returns-in-More-clause-stops c = λ f bytes e g. absurd (no_stop c.byte_in_row-step.result.1 c.row_step.result (stop.Fault f) c.row_step.ensures e)
+
+pub returns-in-Fault-clause-stops : goal.returns-in-Fault-clause-stops
+returns-in-Fault-clause-stops c = λ f bytes e g.
+    let w = c.args.self.now in
+    let scan = c.in-Some.scan in
+    let rows = c.args.rows.now in
+    let took = c.byte_in_row-step in
+    byte_at_fault (limits_of w) bytes c.args.byte w scan rows took.result.0 c.in-Fault.fault (row_ready (limits_of w) bytes w scan rows g c.in-Some.is) g.none took.ensures.stops c.in-Fault.is
+
+pub returns-in-Marker-clause-stops : goal.returns-in-Marker-clause-stops
+returns-in-Marker-clause-stops c = λ f bytes e g.
+    let w = c.args.self.now in
+    let scan = c.in-Some.scan in
+    let rows = c.args.rows.now in
+    let took = c.byte_in_row-step in
+    marker_at_fault (limits_of w) bytes (bytes ++ c.args.byte ∷ []) w scan took.new.self rows took.new.rows took.result.1 (row_ready (limits_of w) bytes w scan rows g c.in-Some.is) took.ensures.counts
+    (took.ensures.marker c.in-Marker.code c.in-Marker.is) (took.ensures.done c.in-Marker.code c.in-Marker.is)

@@ -1,7 +1,9 @@
 use Rattle.std.proofs.Common.{sym, subst, arith}
+use Rattle.jpg_base.specs.declared.stop.Stop.TheVariants as stop
 use Rattle.jpg_file.specs.File.{limits_of}
 use Rattle.jpg_file.specs.Strips.{AfterRows, CountsRows, NotWanting}
 use Rattle.jpg_file.specs.declared.strips.StripStep.{StripStep}
+use Rattle.jpg_file.proofs.FaultsRows.{no_stop, rest_at_fault}
 use Rattle.jpg_file.proofs.RowCounts.{counts_rows, rows_then}
 use Rattle.jpg_file.proofs.StripTurns.{file_with, next_counts, next_ready, nothing, ready_goes, ready_half, rest_goes, rest_stops}
 use Rattle.jpg_file.proofs.file.FileWork.row_rest.Goals as goal
@@ -59,3 +61,16 @@ returns-in-Fault-clause-rows c = subst (λ (a : StripStep). CountsRows a c.args.
 
 pub returns-in-Fault-clause-memory : goal.returns-in-Fault-clause-memory
 returns-in-Fault-clause-memory c = subst (λ (a : StripStep). NotWanting a) (sym c.fault_at.ensures) tt
+
+pub returns-in-More-clause-stops : goal.returns-in-More-clause-stops
+returns-in-More-clause-stops c = λ f bytes e k. absurd (no_stop c.rest_in_row-step.result.1 c.row_step.result (stop.Fault f) c.row_step.ensures e)
+
+pub returns-in-Fault-clause-stops : goal.returns-in-Fault-clause-stops
+returns-in-Fault-clause-stops c = λ f bytes e k.
+    let w = c.args.self.now in
+    let scan = c.in-Some.scan in
+    let rows = c.args.rows.now in
+    let new = c.next.new.self in
+    let r = next_ready (limits_of w) bytes w scan rows new k c.in-Some.is c.next.ensures.at c.next.ensures.of c.next.ensures.waiting in
+    let took = c.rest_in_row-step in
+    rest_at_fault (limits_of w) bytes w scan rows new took.result.0 c.in-Fault.fault r (omega (arith, c.len.ensures.value, c.if-len-eq0.false)) (next_counts (limits_of w) bytes w scan rows new k c.in-Some.is c.next.ensures.at) took.ensures.stops c.in-Fault.is

@@ -1,7 +1,9 @@
 use Rattle.std.proofs.Common.{arith, sym, subst}
+use Rattle.jpg_base.specs.declared.stop.Stop.TheVariants as stop
 use Rattle.jpg_file.specs.File.{limits_of}
 use Rattle.jpg_file.specs.Strips.{CountsRows, NotWanting}
 use Rattle.jpg_file.specs.declared.strips.StripStep.{StripStep}
+use Rattle.jpg_file.proofs.FaultsRows.{no_stop, run_at_fault}
 use Rattle.jpg_file.proofs.RowCounts.{counts_rows}
 use Rattle.jpg_file.proofs.StripBytes.{ready_row, run_few, run_goes, run_stops}
 use Rattle.jpg_file.proofs.StripTurns.{row_ready}
@@ -48,3 +50,14 @@ returns-in-Fault-clause-rows c = subst (λ (a : StripStep). CountsRows a c.args.
 
 pub returns-in-Fault-clause-memory : goal.returns-in-Fault-clause-memory
 returns-in-Fault-clause-memory c = subst (λ (a : StripStep). NotWanting a) (sym c.fault_at.ensures) tt
+
+pub returns-in-More-clause-stops : goal.returns-in-More-clause-stops
+returns-in-More-clause-stops c = λ f bytes e g. absurd (no_stop c.run_in_row-n.result.2 c.row_step.result (stop.Fault f) c.row_step.ensures e)
+
+pub returns-in-Fault-clause-stops : goal.returns-in-Fault-clause-stops
+returns-in-Fault-clause-stops c = λ f bytes e g.
+    let w = c.args.self.now in
+    let scan = c.in-Some.scan in
+    let rows = c.args.rows.now in
+    let took = c.run_in_row-n in
+    run_at_fault (limits_of w) bytes c.args.run.now took.result.0 w scan rows took.result.1 c.in-Fault.fault (row_ready (limits_of w) bytes w scan rows g c.in-Some.is) g.none took.ensures.stops c.in-Fault.is

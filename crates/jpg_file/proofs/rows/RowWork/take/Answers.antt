@@ -5,6 +5,7 @@ use Rattle.jpg_file.specs.declared.data.DataStep.TheVariants as came
 use Rattle.jpg_file.specs.declared.rows.RowStep.{RowStep}
 use Rattle.jpg_file.specs.declared.rows.RowWork.{RowWork}
 use Rattle.jpg_file.proofs.RowBits.{bits_more, bits_units, bits_whole, bits_fault}
+use Rattle.jpg_file.proofs.FaultsData.{row_ends, row_goes, row_stops}
 use Rattle.jpg_file.proofs.RowWorks.{units_passed, few_passed, counts_row, fault_goes, more_goes, data_takes}
 use Rattle.jpg_file.proofs.rows.RowWork.take.Goals as goal
 
@@ -110,3 +111,16 @@ returns-in-Fault-clause-counts c =
     let mid : RowWork = record w { coefs = row } in let units = c.units_left-before.result - c.units_left.result in
     let count : units ≡ p.passes.units = omega (arith, units_passed w.left m after (taken.Fault c.in-Fault.fault) p, c.units_left-before.ensures, c.units_left.ensures) in
     counts_row w mid c.count-in-Fault.new.self m after (taken.Fault c.in-Fault.fault) (came.Fault c.in-Fault.fault) units c.count-in-Fault.result p count refl refl refl refl refl c.count-in-Fault.ensures.counted c.count-in-Fault.ensures.answer (λ some. absurd (omega (arith, some, ap length c.requires.none))) (fault_goes (any_scan.left after) c.in-Fault.fault)
+
+pub returns-in-More-clause-stops : goal.returns-in-More-clause-stops
+returns-in-More-clause-stops c = row_goes c.args.self.now c.args.machine.now c.args.store c.count.result.step (ap (λ (r : RowStep). r.step) c.count.ensures.answer)
+
+pub returns-in-Units-clause-stops : goal.returns-in-Units-clause-stops
+returns-in-Units-clause-stops c = row_goes c.args.self.now c.args.machine.now c.args.store c.count-in-Units.result.step (ap (λ (r : RowStep). r.step) c.count-in-Units.ensures.answer)
+
+pub returns-in-IntervalDone-clause-stops : goal.returns-in-IntervalDone-clause-stops
+returns-in-IntervalDone-clause-stops c = row_ends c.args.self.now c.args.machine.now c.args.store c.count-in-IntervalDone.result.step (ap (λ (r : RowStep). r.step) c.count-in-IntervalDone.ensures.answer)
+
+pub returns-in-Fault-clause-stops : goal.returns-in-Fault-clause-stops
+returns-in-Fault-clause-stops c =
+    row_stops c.args.self.now c.args.machine.now c.bits_in_row-taken.new.self c.bits_in_row-taken.new.row c.args.store c.bits_in_row-taken.new.store c.in-Fault.fault c.count-in-Fault.result.step c.in-Fault.ensures.takes (ap (λ (r : RowStep). r.step) c.count-in-Fault.ensures.answer)

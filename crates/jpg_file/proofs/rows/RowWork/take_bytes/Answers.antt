@@ -1,4 +1,4 @@
-use Rattle.std.proofs.Common.{◌≡◌, ◌∙◌, ◌-◌, [], length, drop, refl, ap, subst, arith}
+use Rattle.std.proofs.Common.{◌≡◌, ◌∙◌, ◌-◌, [], length, take, drop, refl, ap, subst, arith}
 use Rattle.jpg_spec.specs.Bits.{bits_of_bytes}
 use Rattle.jpg_coefs.specs.declared.machine.Taken.{Taken}
 use Rattle.jpg_coefs.specs.declared.machine.Taken.TheVariants as taken
@@ -9,6 +9,7 @@ use Rattle.jpg_file.specs.declared.rows.RowStep.{RowStep}
 use Rattle.jpg_file.specs.declared.rows.RowWork.{RowWork}
 use Rattle.jpg_file.proofs.RowBits.{run_given, run_shown}
 use Rattle.jpg_file.proofs.Runs.{given_bytes, run_whole, run_fault}
+use Rattle.jpg_file.proofs.FaultsData.{row_ends, row_goes, run_stops_row}
 use Rattle.jpg_file.proofs.RowWorks.{units_passed, few_passed, counts_row, fault_goes, more_goes, run_takes_row, more_run, units_run}
 use Rattle.jpg_file.proofs.rows.RowWork.take_bytes.Goals as goal
 
@@ -154,3 +155,23 @@ returns-in-Fault-clause-counts c =
     let mid : RowWork = record w { coefs = row } in let units = c.units_left-before.result - c.units_left.result in
     let count : units ≡ q.passes.units = omega (arith, units_passed w.left m after (taken.Fault c.in-Fault.fault) q, c.units_left-before.ensures, c.units_left.ensures) in
     counts_row w mid c.count-in-Fault.new.self m after (taken.Fault c.in-Fault.fault) (came.Fault c.in-Fault.fault) units c.count-in-Fault.result q count refl refl refl refl refl c.count-in-Fault.ensures.counted c.count-in-Fault.ensures.answer (λ some. absurd (omega (arith, some, ap length c.requires.none))) (fault_goes (any_scan.left after) c.in-Fault.fault)
+
+pub returns-in-More-clause-stops : goal.returns-in-More-clause-stops
+returns-in-More-clause-stops c =
+    row_goes c.args.self.now c.args.machine.now (bits_of_bytes (take c.div_ceil-given.result c.args.bytes.now)) c.count.result.step (ap (λ (r : RowStep). r.step) c.count.ensures.answer)
+
+pub returns-in-Units-clause-stops : goal.returns-in-Units-clause-stops
+returns-in-Units-clause-stops c =
+    row_goes c.args.self.now c.args.machine.now (bits_of_bytes (take c.div_ceil-given.result c.args.bytes.now)) c.count-in-Units.result.step (ap (λ (r : RowStep). r.step) c.count-in-Units.ensures.answer)
+
+pub returns-in-IntervalDone-clause-stops : goal.returns-in-IntervalDone-clause-stops
+returns-in-IntervalDone-clause-stops c =
+    row_ends c.args.self.now c.args.machine.now (bits_of_bytes (take c.div_ceil-given.result c.args.bytes.now)) c.count-in-IntervalDone.result.step (ap (λ (r : RowStep). r.step) c.count-in-IntervalDone.ensures.answer)
+
+pub returns-in-Fault-clause-stops : goal.returns-in-Fault-clause-stops
+returns-in-Fault-clause-stops c =
+    let w = c.args.self.now in let m = c.args.machine.now in let after = c.bytes_in_row-got.new.self in let row = c.bytes_in_row-got.new.row in
+    let bytes = c.args.bytes.now in let rest = drop c.bytes_in_row-got.result.bits (bits_of_bytes bytes) in let n = c.div_ceil-given.result in
+    let given = given_bytes bytes c.bytes_in_row-got.result.bits n c.bytes_in_row-got.ensures.within c.div_ceil-given.ensures in
+    let T : Taken → Type 0 = λ a. TakesRowBits w.left w.tops m w.coefs (bits_of_bytes bytes) a after row rest in
+    run_stops_row w m after row bytes rest n c.in-Fault.fault c.count-in-Fault.result.step given (subst T c.in-Fault.is c.bytes_in_row-got.ensures.takes) (ap (λ (r : RowStep). r.step) c.count-in-Fault.ensures.answer)

@@ -7,6 +7,7 @@ use Rattle.jpg_file.specs.Machine.{any_scan}
 use Rattle.jpg_file.specs.RowData.{RowBits}
 use Rattle.jpg_file.proofs.RowBits.{half_after}
 use Rattle.jpg_file.proofs.RowCounts.{counts_scan, none_counted}
+use Rattle.jpg_file.proofs.FaultsData.{byte_extra, byte_faults, byte_wrong, goes_on}
 use Rattle.jpg_file.proofs.RowScans.{open_scan, rest_as, rest_none, work_same}
 use Rattle.jpg_file.proofs.ScanBytes.{data_at, ff_byte, marker_at, marker_byte, whole_extra}
 use Rattle.jpg_file.proofs.scan.InScan.byte_in_row.Goals as goal
@@ -79,3 +80,19 @@ returns-else-self-clause-counts c =
 
 pub returns-in-Marker-clause-counts : goal.returns-in-Marker-clause-counts
 returns-in-Marker-clause-counts c = none_counted c.args.self.now.work c.marker.new.self c.args.rows.now c.marker.ensures.left c.requires.none
+
+pub returns-in-More-clause-stops : goal.returns-in-More-clause-stops
+returns-in-More-clause-stops c = goes_on c.args.self.now c.args.rows.now c.args.byte step.More refl
+
+pub returns-then-self-clause-stops : goal.returns-then-self-clause-stops
+returns-then-self-clause-stops c = byte_extra c.args.self.now c.args.rows.now c.args.byte c.in-Data.data (step.Fault fault.ExtraData) c.in-Data.ensures.0 c.if-self.true
+
+pub returns-else-self-clause-stops : goal.returns-else-self-clause-stops
+returns-else-self-clause-stops c =
+    let e : c.push.new.self ≡ bits_of 8 c.in-Data.data = c.push.ensures ∙ ap (λ (z : List Bool). z ++ bits_of 8 c.in-Data.data) c.new-store.ensures in
+    byte_faults c.args.self.now c.args.rows.now c.args.byte c.in-Data.data c.push.new.self c.stepped.result c.take-got.result.step c.in-Data.ensures.0 c.if-self.false e c.stepped.ensures.answer c.take-got.ensures.stops
+
+pub returns-in-Marker-clause-stops : goal.returns-in-Marker-clause-stops
+returns-in-Marker-clause-stops c =
+    let e = c.in-Marker.ensures in
+    byte_wrong c.args.self.now c.args.rows.now c.args.byte c.in-Marker.code c.marker.result e.0 (λ h. e.2 (sym e.3 ∙ h)) (λ h. e.1 (sym e.3 ∙ h)) e.3 c.marker.ensures.wrong

@@ -2,6 +2,7 @@ use Rattle.std.proofs.Common.{◌∙◌, ap}
 use Rattle.jpg_file.specs.declared.scan.ScanWork.{ScanWork}
 use Rattle.jpg_file.proofs.RowCounts.{counts_scan}
 use Rattle.jpg_file.proofs.RowBits.{half_then}
+use Rattle.jpg_file.proofs.FaultsData.{rest_faults}
 use Rattle.jpg_file.proofs.RowScans.{open_half, rest_as, work_same}
 use Rattle.jpg_file.proofs.scan.InScan.rest_in_row.Goals as goal
 
@@ -22,3 +23,6 @@ returns-clause-counts c =
     let h = c.requires.half.4 in
     let due = ap (λ (q : ScanWork). q.whole) h.same ∙ h.due in
     counts_scan w c.args.rows.now c.take_waiting-got.result c.stepped.new.self c.take_waiting-got.new.self c.take_waiting-got.new.machine due c.requires.due.1 c.take_waiting-got.ensures.counts (c.stepped.ensures.work ∙ work_same w c.take_waiting-got.new.machine c.take_waiting-got.result.step)
+
+pub returns-clause-stops : goal.returns-clause-stops
+returns-clause-stops c = rest_faults c.args.self.now c.args.rows.now c.stepped.result c.take_waiting-got.result.step c.stepped.ensures.answer c.take_waiting-got.ensures.stops

@@ -1,5 +1,6 @@
-use Rattle.std.proofs.Common.{◌∙◌}
+use Rattle.std.proofs.Common.{◌∙◌, arith}
 use Rattle.jpg_file.proofs.RowCounts.{counts_scan}
+use Rattle.jpg_file.proofs.FaultsData.{run_faults}
 use Rattle.jpg_file.proofs.RowScans.{open_scan, run_in_row, run_as, work_same}
 use Rattle.jpg_file.proofs.scan.InScan.run_in_row.Goals as goal
 
@@ -27,3 +28,11 @@ returns-clause-counts c =
     let w = c.args.self.now.work in
     let got = c.take_bytes-n.result.1 in
     counts_scan w c.args.rows.now got c.stepped.new.self c.take_bytes-n.new.self c.take_bytes-n.new.machine c.requires.due (c.requires.inside.due c.requires.due).1 c.take_bytes-n.ensures.counts (c.stepped.ensures.work ∙ work_same w c.take_bytes-n.new.machine got.step)
+
+pub returns-clause-stops : goal.returns-clause-stops
+returns-clause-stops c =
+    let s = c.args.self.now in
+    let o = c.requires.inside in let i = o.inside in
+    let t = c.take_bytes-n.ensures.takes o.whole o.row (open_scan i.0 i.1 i.2 i.3 s o.whole i.4 c.requires.due) in
+    let r = t.2 in
+    run_faults s c.args.rows.now c.args.run.now c.take_bytes-n.result.0 c.stepped.result c.take_bytes-n.result.1.step (omega (arith, r.count, r.within)) c.requires.gate c.requires.due c.requires.plain c.stepped.ensures.answer c.take_bytes-n.ensures.stops

@@ -1,6 +1,7 @@
-use Rattle.std.proofs.Common.{◌++◌, take, sym, subst}
+use Rattle.std.proofs.Common.{◌++◌, take, sym, subst, rules}
 use Rattle.jpg_file.specs.File.{Stands, limits_of}
-use Rattle.jpg_file.proofs.StripWorks.{first_plain, some_plain}
+use Rattle.jpg_file.proofs.RowsNone.{none_after, none_first, none_seen}
+use Rattle.jpg_file.proofs.StripWorks.{first_known, first_plain, some_plain}
 use Rattle.jpg_file.proofs.strip_work.StripWork.plain.Goals as goal
 
 pub returns-then-is_some-clause-after : goal.returns-then-is_some-clause-after
@@ -16,3 +17,15 @@ first_byte-requires-clause-stands c =
 
 pub returns-clause-after : goal.returns-clause-after
 returns-clause-after c = first_plain c.args.self.now.file c.front-n.new.self c.args.bytes.now c.front-n.result c.args.self.now.rows c.first_byte.new.self.rows c.first_byte.new.self.file c.first_byte.result c.requires.none c.front-n.ensures.after c.first_byte.ensures.after c.first_byte.ensures.head
+
+pub returns-clause-known : goal.returns-clause-known
+returns-clause-known c = first_known c.args.self.now.file c.front-n.new.self c.args.bytes.now c.front-n.result c.first_byte.new.self.rows c.first_byte.new.self.strip c.front-n.ensures.after c.first_byte.ensures.known
+
+pub returns-then-is_some-clause-none : goal.returns-then-is_some-clause-none
+returns-then-is_some-clause-none c = λ bytes k none.
+    let w = c.args.self.now.file in
+    let more = take c.some-n.result.0 c.args.bytes.now in
+    none_after (limits_of w) (bytes ++ more) c.end_step.result c.args.self.now.rows (none_seen (limits_of w) bytes more w k (search rules) none)
+
+pub returns-clause-none : goal.returns-clause-none
+returns-clause-none c = λ bytes k none. none_first c.args.self.now.file c.front-n.new.self c.args.bytes.now c.front-n.result c.first_byte.result c.first_byte.new.self.rows c.front-n.ensures.after c.first_byte.ensures.none bytes k

@@ -1,0 +1,119 @@
+-- An input that ends before a scan of all components, or is whole without one, over the states that a desk tells.
+use Rattle.std.proofs.Common.{◌≡◌, ℕ, ◌≤◌, List, [], length, take, refl, ap, ◌∙◌, subst, arith, inl, None}
+use Rattle.std.specs.Io.KnownBytes.{Consumes}
+use Rattle.jpg_base.specs.declared.names.Name.{Name}
+use Rattle.jpg_base.specs.declared.names.Put.TheVariants as put
+use Rattle.jpg_base.specs.Desk.{DeskState, Opens}
+use Rattle.jpg_spec.specs.FileStands.{IsWholeFile}
+use Rattle.jpg_spec.specs.ImageText.{end_text}
+use Rattle.jpg_spec.specs.Meaning.{Meaning}
+use Rattle.jpg_spec.specs.Pixels.{info, out_fault, pixels}
+use Rattle.jpg_spec.specs.declared.frame.Limits.{Limits}
+use Rattle.jpg_spec.specs.Segments.{standard_limits}
+use Rattle.jpg_spec.specs.declared.answers.Why.{Why}
+use Rattle.jpg_spec.specs.declared.answers.Why.TheVariants as why
+use Rattle.jpg_spec.specs.declared.answers.Which.TheVariants as which
+use Rattle.jpg_file.specs.File.{keeping_of}
+use Rattle.jpg_file.specs.PictureRead.{MeansFor, TakesPicture, picture_meaning}
+use Rattle.jpg_file.specs.ReadFile.{ReaderState}
+use Rattle.jpg_file.proofs.KeepingLaws.{out_same}
+use Rattle.jpg_file.specs.ReadRows.{RowReaderState, whole_reader}
+use Rattle.jpg_file.specs.RowsNone.{HasNoRows}
+use Rattle.jpg_file.specs.declared.picture.Picture.{Picture}
+use Rattle.jpg_cli.specs.Reading.{rest_of}
+use Rattle.jpg_cli.specs.ReadPicture.{HoldsFile, IsOpenRead, IsRefusedRead, IsShortRead, IsWholeRead, ReadsFrom, Takes}
+use Rattle.jpg_cli.specs.Showing.{AfterImage, IsPlain, Shown, Showing, all_bytes, bytes_before, shown_text}
+use Rattle.jpg_cli.specs.ShowingRows.{EndsPlainly, HoldsPlainly}
+use Rattle.jpg_cli.specs.Stays.{Keeps, OnlyReads}
+use Rattle.jpg_cli.specs.declared.read_picture.Wanted.{Wanted}
+use Rattle.jpg_cli.specs.declared.read_picture.Wanted.TheVariants.{Image}
+use Rattle.jpg_cli.proofs.CommentsCopied.{none_read, works_then}
+use Rattle.jpg_cli.proofs.ImageShown.{shown_written, text_shown}
+use Rattle.jpg_cli.proofs.Input.{file_read, noted}
+use Rattle.jpg_cli.proofs.PictureTaken.{reads_from, reads_none, stopped_there}
+use Rattle.jpg_cli.proofs.Unwanted.{no_header}
+
+-- IT ENDS
+
+pub ends_plainly : (s : Showing) (old start new : DeskState) (ended : Why) → Opens old s.input put.Done start → OnlyReads start new → EndsPlainly s.gray start ended new → Shown s old ended new
+ends_plainly s old start new why.Done h k e = absurd e
+ends_plainly s old start new (why.Usage u) h k e = absurd e
+ends_plainly s old start new (why.Picture p) h k e = absurd e
+ends_plainly s old start new (why.Refused f) h k e =
+    inl (stopped_there old start new s.input h k, reads_from old start new s.input (IsPlain s.gray (bytes_before f) (IsRefusedRead (Image s.gray) f (rest_of new.left))) h e)
+ends_plainly s old start new (why.OpenFault file) h k e = absurd e
+ends_plainly s old start new (why.ReadFault which.Input) h k e =
+    ((let r = e.1 in let f = h.counts.reads in omega arith), inl (stopped_there old start new s.input h k, reads_from old start new s.input (IsPlain s.gray all_bytes (IsOpenRead (Image s.gray))) h e.0))
+ends_plainly s old start new (why.ReadFault which.Script) h k e = absurd e
+ends_plainly s old start new (why.ReadFault which.Tables) h k e = absurd e
+ends_plainly s old start new (why.ReadFault which.Comment) h k e = absurd e
+ends_plainly s old start new (why.ReadFault which.Output) h k e = absurd e
+ends_plainly s old start new why.WriteFault h k e = absurd e
+ends_plainly s old start new why.NoMemory h k e = inl (stopped_there old start new s.input h k, reads_from old start new s.input (IsShortRead (Image s.gray)) h e)
+
+-- NO MEMORY for a reader
+pub nothing_read : (s : Showing) (old start : DeskState) → Opens old s.input put.Done start → Shown s old why.NoMemory start
+nothing_read s old start h =
+    let short : IsShortRead (Image s.gray) [] =
+    record {
+      front = [];
+      piece = [];
+      cut = refl;
+      few = omega arith;
+      before = record { short = omega arith; stands = inl (inl refl); wanted = λ f u. no_header u.before u.contents f.at u.header };
+    } in
+    inl (stopped_there old start start s.input h (reads_none start), reads_from old start start s.input (IsShortRead (Image s.gray)) h ([], none_read start.left, omega arith, short))
+
+-- IT IS WHOLE
+
+-- the bytes are the whole file that the reader holds
+whole_read : (w : Wanted) (bytes : List ℕ) (r : ReaderState) → r.limits ≡ standard_limits → (h : HoldsFile w r bytes) → IsWholeRead w (h.done).meaning bytes
+whole_read w bytes r e h = record {
+  count = h.count;
+  within = h.within;
+  last = h.last;
+  whole = subst (λ (l : Limits). IsWholeFile l (take h.count bytes) (h.done).meaning) e (h.done).whole;
+  small = h.small;
+  wanted = h.wanted;
+}
+
+-- the picture that was taken of it means what the file means, but for markers that weren't kept
+pub record IsTaken (s : Showing) (start now : DeskState) (r : RowReaderState) (p : Picture) : Type 0 where
+  pub meaning : Meaning
+  pub means : MeansFor (keeping_of r.file) p meaning
+  pub bytes : List ℕ
+  pub read : Consumes start.left now.left bytes
+  pub most : length bytes ≤ standard_limits.input
+  pub whole : IsWholeRead (Image s.gray) meaning bytes
+  pub plain : HasNoRows standard_limits bytes
+
+pub whole_taken : (s : Showing) (start now : DeskState) (r : RowReaderState) (p : Picture) → r.limits ≡ standard_limits → TakesPicture (whole_reader r) p → Takes (HoldsPlainly s.gray r) start now → IsTaken s start now r p
+whole_taken s start now r p e takes (bytes, read, most, h) =
+    let done = (h.holds).done in
+    record {
+      meaning = done.meaning;
+      means = takes (take (h.holds).count bytes) done;
+      bytes = bytes;
+      read = read;
+      most = most;
+      whole = whole_read (Image s.gray) bytes (whole_reader r) e h.holds;
+      plain = h.plain;
+    }
+
+pub taken_admitted : (s : Showing) (start now : DeskState) (r : RowReaderState) (p : Picture) → IsTaken s start now r p → out_fault s.gray (picture_meaning p) ≡ None
+taken_admitted s start now r p h = ap (out_fault s.gray) h.means ∙ out_same (keeping_of r.file) s.gray h.meaning ∙ (h.whole).wanted
+
+pub keeps_after : (old start now : DeskState) (file : Name) → Opens old file put.Done start → OnlyReads start now → Keeps old now
+keeps_after old start now file h k = record {
+  works = works_then old start now (record { stays = record { counts = h.counts; files = h.files }; said = h.said }) k.copies.works;
+  outputs = k.outputs ∙ h.outputs;
+}
+
+-- and its image was written
+pub taken_shown : (s : Showing) (old start now new : DeskState) (r : RowReaderState) (p : Picture) (ended : Why) → Opens old s.input put.Done start → OnlyReads start now → IsTaken s start now r p → new.left ≡ now.left
+    → AfterImage s.output now (end_text s.kind (info (picture_meaning p) s.gray) (pixels (picture_meaning p) s.gray s.smooth)) ended new → Shown s old ended new
+taken_shown s old start now new r p ended h k t left wrote =
+    let read : ReadsFrom s.input (IsWholeRead (Image s.gray) t.meaning) old now = record { bytes = t.bytes; read = file_read old.files s.input start.left now.left t.bytes h.after.2 t.read; most = t.most; is = t.whole } in
+    shown_written s t.meaning old now new ended
+    (record { kept = keeps_after old start now s.input h k; asked = noted old start now s.input h k; read = read; left = left; plain = t.plain })
+    (subst (λ (due : List ℕ). AfterImage s.output now due ended new) (ap (shown_text s) t.means ∙ text_shown s (keeping_of r.file) t.meaning) wrote)

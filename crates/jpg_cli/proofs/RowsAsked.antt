@@ -1,0 +1,128 @@
+-- What reading comes to after a picture's rows were shown, over the states that a desk tells.
+use Rattle.std.proofs.Common.{◌≡◌, ℕ, ◌+◌, ◌-◌, ◌<◌, List, [], ◌∷◌, ◌++◌, length, take, refl, sym, ap, ◌∙◌, subst, arith, inl, inr, Option}
+use Rattle.std.proofs.lemmas.List.{append-nil, length-append, take_all}
+use Rattle.jpg_base.specs.declared.names.Got.TheVariants as got
+use Rattle.jpg_base.specs.declared.names.Got.{Got}
+use Rattle.jpg_base.specs.declared.names.Put.{Put}
+use Rattle.jpg_base.specs.declared.names.Put.TheVariants as put
+use Rattle.jpg_base.specs.declared.names.Name.{Name}
+use Rattle.jpg_base.specs.Desk.{DeskState, NotesName, Reads}
+use Rattle.jpg_base.specs.Laws.{Grows}
+use Rattle.jpg_spec.specs.RowsShown.{picture_so_far, rows_text}
+use Rattle.jpg_spec.specs.RowsTold.{CompletesRows}
+use Rattle.jpg_spec.specs.Segments.{standard_limits}
+use Rattle.jpg_spec.specs.declared.answers.FaultAt.{FaultAt}
+use Rattle.jpg_spec.specs.declared.answers.Why.{Why}
+use Rattle.jpg_spec.specs.declared.answers.Why.TheVariants as why
+use Rattle.jpg_spec.specs.declared.answers.Which.TheVariants as which
+use Rattle.jpg_spec.specs.declared.frame.Limits.{Limits}
+use Rattle.jpg_spec.specs.declared.fault.Fault.TheVariants.{Truncated}
+use Rattle.jpg_spec.proofs.FileLaws.{first_fault_once, stands_truncated}
+use Rattle.jpg_file.specs.ReadFile.{IsRefusal}
+use Rattle.jpg_file.specs.ReadRows.{HasReadAll, RowReaderState}
+use Rattle.jpg_pnm_bmp.specs.EndState.{EndState}
+use Rattle.jpg_color.specs.StripImage.{Drawing}
+use Rattle.jpg_cli.specs.Endings.{Added}
+use Rattle.jpg_cli.specs.Reading.{rest_of}
+use Rattle.jpg_cli.specs.ReadPicture.{IsOpenRead, IsRefusedRead}
+use Rattle.jpg_cli.specs.Showing.{IsRowsText, IsShownByRows, IsShownUpTo, Showing, Shown, ShowsSoFar, all_bytes, bytes_before}
+use Rattle.jpg_cli.specs.ShowingRows.{AfterRows, GoesLater, HasCreated, HasShown, Head, StopsWith, at_work}
+use Rattle.jpg_cli.specs.declared.read_picture.Wanted.TheVariants.{Image}
+use Rattle.jpg_cli.specs.declared.show_rows.RowsStep.{RowsStep}
+use Rattle.jpg_cli.specs.declared.show_rows.RowsStep.TheVariants as step
+use Rattle.jpg_cli.proofs.CommentsCopied.{left_still, works_then}
+use Rattle.jpg_cli.proofs.Input.{none_left}
+use Rattle.jpg_cli.proofs.RowsDesk.{created_added, created_read}
+use Rattle.jpg_cli.proofs.RowsEnd.{none_unwanted, shown_head}
+use Rattle.jpg_cli.proofs.RowsRead.{open_rows, taken_by_row}
+
+-- nothing more was read
+created_still : (s : Showing) (old start : DeskState) (all written : List ℕ) (answer : Got) (buf : List ℕ) (s0 s1 : DeskState) → Reads s0 answer buf s1 → s1.left ≡ s0.left → HasCreated s old start all written s0 → HasCreated s old start all written s1
+created_still s old start all written answer buf s0 s1 read left h = record {
+  opened = h.opened;
+  works = works_then start s0 s1 h.works (record { stays = record { counts = read.counts; files = read.files }; said = read.said });
+  left = left_still s0 s1 all start left h.left;
+  asked = (let P : Option (List (Name × Put)) → Type 0 = λ a. NotesName start.asked (s.output, put.Done) a in subst P (sym read.asked) h.asked);
+  outputs = (let P : Option (List (Name × List ℕ)) → Type 0 = λ a. Grows start.outputs (s.output, written) a in subst P (sym read.outputs) h.outputs);
+  created = read.output_created ∙ h.created;
+}
+
+-- the output holds the text of all MCU rows that are complete
+so_far : (s : Showing) (old start : DeskState) (h : Head) (all : List ℕ) (m : ℕ) (r : RowReaderState) (d : Drawing) (e : EndState) (s0 s1 : DeskState) (upto : List ℕ → List ℕ) (Is : List ℕ → Type 0) → upto all ≡ all → (k : HasShown s old start h all m (at_work r d e s0)) → HasCreated s old start all k.written s1
+    → Is all → ShowsSoFar s upto Is old s1
+so_far s old start h all m r d e s0 s1 upto Is whole k desk is =
+    let text : List ℕ = rows_text s.kind (picture_so_far standard_limits h.before h.contents (k.drawing).blocks) s.gray s.smooth m in
+    let same : k.written ≡ text = sym (append-nil k.written) ∙ ap (λ l. k.written ++ l) (sym k.out) ∙ (k.drawing).text in
+    let completed = subst (λ (l : Limits). CompletesRows l all m (k.read).blocks) k.limits (k.read).completed in
+    let due : IsRowsText s all text = record { before = h.before; contents = h.contents; begins = (k.head).begins; rows = m; blocks = (k.drawing).blocks; completed = ((k.drawing).told, completed.1); same = refl } in
+    let short : length all < standard_limits.input = subst (λ (l : Limits). length all < l.input) k.limits (k.read).short in
+    record {
+      text = text;
+      read = created_read s old start all k.written s1 (IsShownUpTo s upto Is text) desk (omega (arith, short))
+          (is, subst (λ l. IsShownByRows s.gray l) (sym whole) (shown_head s.gray h all k.head), subst (λ l. IsRowsText s l text) (sym whole) due);
+      wrote = subst (λ t. Added (s.input ∷ []) s.output t old s1) same (created_added s old start all k.written s1 desk);
+    }
+
+pub rows_unread : (s : Showing) (old start : DeskState) (h : Head) (all : List ℕ) (m : ℕ) (r : RowReaderState) (d : Drawing) (e : EndState) (buf : List ℕ) (s0 s1 : DeskState) → Reads s0 got.Failed buf s1 → HasShown s old start h all m (at_work r d e s0)
+    → Shown s old (why.ReadFault which.Input) s1
+rows_unread s old start h all m r d e buf s0 s1 read k = (
+  (let rose = read.after.0 in let a = ((k.desk).opened).counts.reads in let b = (((k.desk).works).stays).counts.reads in omega (arith, rose, a, b)),
+  inr (so_far s old start h all m r d e s0 s1 all_bytes (IsOpenRead (Image s.gray)) refl k (created_still s old start all k.written got.Failed buf s0 s1 read read.after.1 k.desk) (open_rows s.gray h all m r k.limits k.head k.read)),
+)
+
+-- THE END
+pub rows_read_all : (s : Showing) (old start : DeskState) (h : Head) (all : List ℕ) (m : ℕ) (r : RowReaderState) (d : Drawing) (e : EndState) (now : DeskState) → HasShown s old start h all m (at_work r d e now) → HasReadAll all r
+rows_read_all s old start h all m r d e now k = inr (m, k.read)
+
+end_place : (s : Showing) (old start : DeskState) (h : Head) (all : List ℕ) (m : ℕ) (r : RowReaderState) (d : Drawing) (e : EndState) (now : DeskState) (f : FaultAt) → HasShown s old start h all m (at_work r d e now) → IsRefusal r.limits all f → f.at ≡ length all
+end_place s old start h all m r d e now f k stops =
+    let so = open_rows s.gray h all m r k.limits k.head k.read in
+    (first_fault_once standard_limits all f.fault Truncated f.at (length all) (subst (λ (l : Limits). IsRefusal l all f) k.limits stops) (stands_truncated standard_limits all so.stands so.short)).1
+
+end_whole : (s : Showing) (old start : DeskState) (h : Head) (all : List ℕ) (m : ℕ) (r : RowReaderState) (d : Drawing) (e : EndState) (now : DeskState) (f : FaultAt) → HasShown s old start h all m (at_work r d e now) → IsRefusal r.limits all f
+    → take f.at all ≡ all
+end_whole s old start h all m r d e now f k stops = let at = end_place s old start h all m r d e now f k stops in take_all f.at all (omega (arith, at))
+
+end_refused : (s : Showing) (old start : DeskState) (h : Head) (all : List ℕ) (m : ℕ) (r : RowReaderState) (d : Drawing) (e : EndState) (now : DeskState) (f : FaultAt) → HasShown s old start h all m (at_work r d e now) → IsRefusal r.limits all f → IsRefusedRead (Image s.gray) f [] all
+end_refused s old start h all m r d e now f k stops =
+    let first = subst (λ (l : Limits). IsRefusal l all f) k.limits stops in
+    let at = end_place s old start h all m r d e now f k stops in
+    record {
+      refused = inl (subst (λ l. IsRefusal standard_limits l f) (sym (append-nil all)) first, λ g u. absurd (none_unwanted s.gray h all [] g k.head u));
+      within = omega (arith, at);
+      last = omega (arith, at);
+    }
+
+pub rows_at_end : (s : Showing) (old start : DeskState) (h : Head) (all : List ℕ) (m : ℕ) (r : RowReaderState) (d : Drawing) (e : EndState) (buf : List ℕ) (ended : Why) (s0 s1 : DeskState) → Reads s0 got.End buf s1 → StopsWith r.limits all ended
+    → HasShown s old start h all m (at_work r d e s0) → Shown s old ended s1
+rows_at_end s old start h all m r d e buf why.Done s0 s1 read stops k = absurd stops
+rows_at_end s old start h all m r d e buf (why.Usage u) s0 s1 read stops k = absurd stops
+rows_at_end s old start h all m r d e buf (why.Picture p) s0 s1 read stops k = absurd stops
+rows_at_end s old start h all m r d e buf (why.Refused f) s0 s1 read stops k =
+    let none : rest_of s1.left ≡ [] = ap rest_of read.after.1 ∙ none_left s0.left read.after.0 in
+    inr (so_far s old start h all m r d e s0 s1 (bytes_before f) (IsRefusedRead (Image s.gray) f (rest_of s1.left)) (end_whole s old start h all m r d e s0 f k stops) k (created_still s old start all k.written got.End buf s0 s1 read read.after.1 k.desk)
+    (subst (λ (rest : List ℕ). IsRefusedRead (Image s.gray) f rest all) (sym none) (end_refused s old start h all m r d e s0 f k stops)))
+rows_at_end s old start h all m r d e buf (why.OpenFault u) s0 s1 read stops k = absurd stops
+rows_at_end s old start h all m r d e buf (why.ReadFault u) s0 s1 read stops k = absurd stops
+rows_at_end s old start h all m r d e buf why.WriteFault s0 s1 read stops k = absurd stops
+rows_at_end s old start h all m r d e buf why.NoMemory s0 s1 read stops k = absurd stops
+
+-- the room that is left for more
+pub rows_room : (s : Showing) (old start : DeskState) (h : Head) (all : List ℕ) (m : ℕ) (r : RowReaderState) (d : Drawing) (e : EndState) (now : DeskState) (room : ℕ) → room ≡ r.limits.input - r.file.reading.taken → HasShown s old start h all m (at_work r d e now)
+    → (room + length all ≡ standard_limits.input) × (length all < standard_limits.input)
+rows_room s old start h all m r d e now room is k =
+    let taken = taken_by_row r.limits all r.file (k.read).begun.rows (k.read).«open» in
+    let same = is ∙ ap (λ (l : Limits). l.input - r.file.reading.taken) k.limits ∙ ap (λ n. standard_limits.input - n) taken in
+    let short = subst (λ (l : Limits). length all < l.input) k.limits (k.read).short in
+    (omega (arith, same, short), short)
+
+-- more was taken
+pub goes_later : (s : Showing) (old start : DeskState) (h : Head) (all piece : List ℕ) (st : RowsStep) (r : RowReaderState) (d : Drawing) (e : EndState) (now : DeskState) (t : ℕ) → t ≡ length all → length all < standard_limits.input → 0 < length piece
+    → AfterRows s old start h (all ++ piece) st (at_work r d e now) → GoesLater t st r.file.reading.taken
+goes_later s old start h all piece step.More r d e now t is short some (m, k) =
+    let taken = taken_by_row r.limits (all ++ piece) r.file (k.read).begun.rows (k.read).«open» in (omega (arith, is, taken, some, length-append all piece), omega (arith, is, short))
+goes_later s old start h all piece step.Whole r d e now t is short some k = tt
+goes_later s old start h all piece (step.Ended w) r d e now t is short some k = tt
+
+pub rows_taken : (s : Showing) (old start : DeskState) (h : Head) (all : List ℕ) (m : ℕ) (r : RowReaderState) (d : Drawing) (e : EndState) (now : DeskState) → HasShown s old start h all m (at_work r d e now) → r.file.reading.taken ≡ length all
+rows_taken s old start h all m r d e now k = taken_by_row r.limits all r.file (k.read).begun.rows (k.read).«open»

@@ -1,0 +1,242 @@
+-- Bits and bytes that show a fault while an MCU row is read.
+use Rattle.std.proofs.Common.{◌≡◌, ℕ, suc, ◌+◌, ◌-◌, ◌/◌, ◌%◌, ◌≤◌, Bool, true, false, cond, List, [], ◌∷◌, ◌++◌, length, take, get_or, refl, sym, ap, ◌∙◌, subst, arith, inl, inr, Err}
+use Rattle.std.specs.Prelude.{replicate}
+use Rattle.std.proofs.lemmas.List.{append_assoc, append-nil, length-append, take_more}
+use Rattle.jpg_spec.specs.Bits.{bits_of, bits_of_bytes}
+use Rattle.jpg_spec.specs.Lists.{joined}
+use Rattle.jpg_spec.specs.Items.{Item, segments_of}
+use Rattle.jpg_spec.specs.Scan.{Blocks}
+use Rattle.jpg_spec.specs.FirstFault.{HoldsUnits}
+use Rattle.jpg_spec.specs.ScanReading.{LeadingMarker, ScanAt, ScanPlace, scan_at, with_byte}
+use Rattle.jpg_spec.specs.RowLaws.{HasNoMoreData}
+use Rattle.jpg_spec.specs.declared.fault.Fault.{Fault}
+use Rattle.jpg_spec.specs.declared.frame.Limits.{Limits}
+use Rattle.jpg_spec.proofs.DataFacts.{bits_join, completes_holds}
+use Rattle.jpg_spec.proofs.PartStands.{part_due}
+use Rattle.jpg_spec.proofs.ScanSteps.{marker_code}
+use Rattle.jpg_spec.proofs.TablesInForce.{scan_sound}
+use Rattle.jpg_huff.specs.Gate.{IsData}
+use Rattle.jpg_coefs.specs.Picture.{Picture, map_of}
+use Rattle.jpg_coefs.specs.Machine.{TakesBits}
+use Rattle.jpg_coefs.specs.declared.machine.Taken.TheVariants as taken
+use Rattle.jpg_coefs.specs.declared.machine.UnitFault.{UnitFault}
+use Rattle.jpg_coefs.proofs.Chains.{chain_stands, some_taken}
+use Rattle.jpg_file.specs.InData.{ArePlain, AtWork, IsInterval, IsReadable}
+use Rattle.jpg_file.specs.Machine.{any_scan}
+use Rattle.jpg_file.specs.RowData.{HalfData, scan_answer}
+use Rattle.jpg_file.specs.RowMachine.{TakesRowBits}
+use Rattle.jpg_file.specs.RowPlaces.{IsRowAt, scan_left}
+use Rattle.jpg_file.specs.RowStops.{CompletesBefore, ShowsInRow, StopsByteInRow, StopsRestInRow, StopsRowData, StopsRowRun, StopsRunInRow}
+use Rattle.jpg_file.specs.Strips.{IsFirstScan, components_of, frame_behind}
+use Rattle.jpg_file.specs.declared.data.DataStep.{DataStep}
+use Rattle.jpg_file.specs.declared.data.DataStep.TheVariants as came
+use Rattle.jpg_file.specs.declared.machine.ScanReader.{ScanReader}
+use Rattle.jpg_file.specs.declared.rows.RowWork.{RowWork}
+use Rattle.jpg_file.specs.declared.scan.InScan.{InScan}
+use Rattle.jpg_file.specs.declared.scan.ScanStep.{ScanStep}
+use Rattle.jpg_file.specs.declared.scan.ScanStep.TheVariants as answer
+use Rattle.jpg_file.specs.declared.scan.ScanWork.{ScanWork}
+use Rattle.jpg_file.proofs.FaultsPlaced.{fault_completes, fault_stops}
+use Rattle.jpg_file.proofs.RowsPlaced.{CompletesDue, PlaceStops, all_at, left_whole, place_stops, scan_of_all, stops_complete}
+use Rattle.jpg_file.proofs.RowsTold.{TellsAt, whole_at}
+use Rattle.jpg_file.proofs.Runs.{run_cut}
+use Rattle.jpg_file.proofs.RowScans.{open_half, open_scan}
+use Rattle.jpg_file.proofs.ScanBytes.{data_at, due_at, due_units, marker_at, read_at}
+use Rattle.jpg_file.proofs.ScanRuns.{front_plain, open_at, plain_at, with_bytes}
+
+-- BITS of the MCU row in work
+
+same_fault : (came_to : DataStep) (g f : UnitFault) → came_to ≡ came.Fault g → came_to ≡ came.Fault f → g ≡ f
+same_fault came_to g f a b = (let z : (let s : DataStep = came.Fault g in s) ≡ came.Fault f = sym a ∙ b in cc)
+
+pub row_stops : (w : RowWork) (m after : ScanReader) (row : Picture) (bits rest : List Bool) (g : UnitFault) (came_to : DataStep) → TakesRowBits w.left w.tops m w.coefs bits (taken.Fault g) after row rest → came_to ≡ came.Fault g → StopsRowData w m bits came_to
+row_stops w m after row bits rest g came_to t is = λ f whole e of o.
+    (let k = t whole of o in (after, k.0, rest, subst (λ (h : UnitFault). TakesBits any_scan w.left m whole bits (taken.Fault h) after k.0 rest) (same_fault came_to g f is e) k.2))
+
+pub row_goes : (w : RowWork) (m : ScanReader) (bits : List Bool) (came_to : DataStep) → came_to ≡ came.More → StopsRowData w m bits came_to
+row_goes w m bits came_to is = λ f whole e of o. absurd (let z : (let s : DataStep = came.More in s) ≡ came.Fault f = sym is ∙ e in cc)
+
+pub row_ends : (w : RowWork) (m : ScanReader) (bits : List Bool) (came_to : DataStep) → came_to ≡ came.Whole → StopsRowData w m bits came_to
+row_ends w m bits came_to is = λ f whole e of o. absurd (let z : (let s : DataStep = came.Whole in s) ≡ came.Fault f = sym is ∙ e in cc)
+
+-- of the bytes up to the one that shows the fault
+first_taken : (most : ℕ) (m new : ScanReader) (now after : Picture) (bytes : List ℕ) (rest : List Bool) (n : ℕ) (f : UnitFault) → n ≡ length bytes - length rest / 8 → TakesBits any_scan most m now (bits_of_bytes bytes) (taken.Fault f) new after rest
+    → ShowsInRow most m now (bits_of_bytes (take n bytes)) f
+first_taken most m new now after bytes rest n f count (bits, cut, chain) =
+    let c = run_cut bytes bits rest n cut (some_taken any_scan most m new now after bits (Err f) chain) count in
+    let l = c.last in
+    let byte = get_or bytes c.early 0 in
+    let is : bits_of_bytes (take n bytes) ≡ bits ++ l.rest =
+    ap (λ k. bits_of_bytes (take k bytes)) c.count ∙ ap bits_of_bytes (take_more bytes c.early 0 l.within) ∙ bits_join (take c.early bytes) (byte ∷ []) ∙ ap (λ z. bits_of_bytes (take c.early bytes) ++ z) (append-nil (bits_of 8 byte) ∙ l.byte)
+    ∙ sym (append_assoc (bits_of_bytes (take c.early bytes)) l.front l.rest) ∙ ap (λ z. z ++ l.rest) (sym l.cut) in
+    (new, after, l.rest, (bits, is, chain))
+
+pub run_stops_row : (w : RowWork) (m after : ScanReader) (row : Picture) (bytes : List ℕ) (rest : List Bool) (n : ℕ) (g : UnitFault) (came_to : DataStep) → n ≡ length bytes - length rest / 8
+    → TakesRowBits w.left w.tops m w.coefs (bits_of_bytes bytes) (taken.Fault g) after row rest → came_to ≡ came.Fault g → StopsRowRun w m bytes n came_to
+run_stops_row w m after row bytes rest n g came_to count t is = λ f whole e of o.
+    (let k = t whole of o in first_taken w.left m after whole k.0 bytes rest n f count (subst (λ (h : UnitFault). TakesBits any_scan w.left m whole (bits_of_bytes bytes) (taken.Fault h) after k.0 rest) (same_fault came_to g f is e) k.2))
+
+-- DATA BYTES of the scan
+
+pub completes_as : (limits : Limits) (bytes : List ℕ) (items : List Item) (contents : List ℕ) (rows : RowWork) → CompletesDue limits bytes items contents rows → CompletesBefore limits bytes (segments_of items) contents rows
+completes_as limits bytes items contents rows c = record { begins = c.begins; m = c.m; count = c.count; blocks = c.blocks; completed = c.completed }
+
+left_is : (w : ScanWork) → w.whole ≡ false → scan_left w ≡ w.due + any_scan.left w.machine
+left_is w e = ap (λ b. w.due + cond b 0 (any_scan.left w.machine)) e
+
+pub bytes_stop : (limits : Limits) (items : List Item) (contents bytes : List ℕ) (p : ScanPlace) (more : List ℕ) (w : ScanWork) (now : Picture) (rows : RowWork) (f : UnitFault) → (p.items ≡ items) × (p.contents ≡ contents)
+    → ScanAt limits bytes (with_bytes p more) [] → AtWork limits p w now → w.whole ≡ false → ShowsInRow rows.left w.machine now (bits_of_bytes more) f → IsFirstScan limits items
+    → IsRowAt (frame_behind limits items) (components_of limits items contents) rows (scan_left w) → CompletesBefore limits bytes (segments_of items) contents rows
+bytes_stop limits items contents bytes p more w now rows f of at work e shows first row =
+    let k = due_at limits p w now e work in
+    let q = with_bytes p more in
+    let all = scan_of_all limits items contents rows (scan_left w) first row in
+    let is : IsInterval limits q k.interval = record { scan = (k.is).scan; places = (k.is).places; later = (k.is).later } in
+    let readable : IsReadable limits q = record { distinct = (work.readable).distinct } in
+    let cut : bits_of_bytes (p.coded ++ more) ≡ bits_of_bytes p.coded ++ (bits_of_bytes more ++ []) = bits_join p.coded more ∙ ap (λ z. bits_of_bytes p.coded ++ z) (sym (append-nil (bits_of_bytes more))) in
+    let z = fault_stops limits items contents bytes q k.interval w.machine now (bits_of_bytes p.coded) (bits_of_bytes more) [] rows.left f of at first all readable is k.so_far k.stands cut shows in
+    let left : scan_left w ≡ length (joined p.later) + any_scan.left w.machine = omega (arith, left_is w e, work.due) in
+    let there = subst (λ n. IsRowAt (frame_behind limits items) (components_of limits items contents) rows n) left row in
+    completes_as limits bytes items contents rows (fault_completes limits items contents bytes rows (any_scan.left w.machine) (length (joined p.later)) z there)
+
+-- bits that waited
+pub half_stops : (limits : Limits) (items : List Item) (contents bytes : List ℕ) (waiting : List Bool) (s : InScan) (now : Picture) (rows : RowWork) (f : UnitFault) → HalfData limits items contents bytes waiting s now → ShowsInRow rows.left s.work.machine now waiting f
+    → IsFirstScan limits items → IsRowAt (frame_behind limits items) (components_of limits items contents) rows (scan_left s.work) → CompletesBefore limits bytes (segments_of items) contents rows
+half_stops limits items contents bytes waiting s now rows f h shows first row =
+    let p = h.place in
+    let q = with_byte p h.byte in
+    let all = scan_of_all limits items contents rows (scan_left s.work) first row in
+    let k = due_at limits p h.old h.before h.due h.work in
+    let b = h.bits in
+    let bits = bits_of_bytes p.coded ++ b.0 in
+    let stands = chain_stands any_scan (h.old).machine s.work.machine h.before now k.interval (bits_of_bytes p.coded) b.0 b.2 k.stands in
+    let one : bits_of_bytes (h.byte ∷ []) ≡ bits_of 8 h.byte = append-nil (bits_of 8 h.byte) in
+    let cut : bits_of_bytes (p.coded ++ h.byte ∷ []) ≡ bits ++ (waiting ++ []) =
+    bits_join p.coded (h.byte ∷ []) ∙ ap (λ z. bits_of_bytes p.coded ++ z) (one ∙ b.1) ∙ sym (append_assoc (bits_of_bytes p.coded) b.0 waiting) ∙ ap (λ z. bits ++ z) (sym (append-nil waiting)) in
+    let is : IsInterval limits q k.interval = record { scan = (k.is).scan; places = (k.is).places; later = (k.is).later } in
+    let readable : IsReadable limits q = record { distinct = ((h.work).readable).distinct } in
+    let z = fault_stops limits items contents bytes q k.interval s.work.machine now bits waiting [] rows.left f h.of h.at first all readable is k.so_far stands cut shows in
+    let e : s.work.whole ≡ false = ap (λ (w : ScanWork). w.whole) h.same ∙ h.due in
+    let due : s.work.due ≡ (h.old).due = ap (λ (w : ScanWork). w.due) h.same in
+    let left : scan_left s.work ≡ length (joined p.later) + any_scan.left s.work.machine = omega (arith, left_is s.work e, due, (h.work).due) in
+    let there = subst (λ n. IsRowAt (frame_behind limits items) (components_of limits items contents) rows n) left row in
+    completes_as limits bytes items contents rows (fault_completes limits items contents bytes rows (any_scan.left s.work.machine) (length (joined p.later)) z there)
+
+-- A DATA BYTE after a whole interval
+
+extra_told : (limits : Limits) (p : ScanPlace) (byte : ℕ) (told : Blocks) → TellsAt limits p told → TellsAt limits (with_byte p byte) told
+extra_told limits p byte told t =
+    let k = t.tells in
+    record {
+      front = t.front;
+      part = t.part;
+      rest = t.rest;
+      chunked = t.chunked;
+      cut = t.cut;
+      tells = record {
+        whole = k.whole;
+        part = k.part;
+        rest = k.rest;
+        later = k.later;
+        bits = k.bits;
+        behind = k.behind ++ bits_of_bytes (byte ∷ []);
+        intervals = k.intervals;
+        all = k.all;
+        spelled = k.spelled;
+        cut = bits_join p.coded (byte ∷ []) ∙ ap (λ z. z ++ bits_of_bytes (byte ∷ [])) k.cut ∙ append_assoc k.bits k.behind (bits_of_bytes (byte ∷ []));
+        first = k.first;
+        sizes = k.sizes;
+      };
+      same = t.same;
+    }
+
+extra_holds : (limits : Limits) (p : ScanPlace) (byte : ℕ) → HoldsUnits (scan_at limits p) p.blocks p.places p.coded → HoldsUnits (scan_at limits p) p.blocks p.places (p.coded ++ byte ∷ [])
+extra_holds limits p byte (told, (bits, rest, cut, spells)) =
+    (told, (bits, rest ++ bits_of_bytes (byte ∷ []), bits_join p.coded (byte ∷ []) ∙ ap (λ z. z ++ bits_of_bytes (byte ∷ [])) cut ∙ append_assoc bits rest (bits_of_bytes (byte ∷ [])), spells))
+
+pub extra_stops : (limits : Limits) (items : List Item) (contents bytes front tail : List ℕ) (p : ScanPlace) (byte : ℕ) (w : ScanWork) (now : Picture) (rows : RowWork) → (p.items ≡ items) × (p.contents ≡ contents) → ScanAt limits front p tail
+    → ScanAt limits bytes (with_byte p byte) [] → AtWork limits p w now → w.whole ≡ true → IsFirstScan limits items → IsRowAt (frame_behind limits items) (components_of limits items contents) rows (scan_left w)
+    → CompletesBefore limits bytes (segments_of items) contents rows
+unfolding extra_told
+extra_stops limits items contents bytes front tail p byte w now rows of before at work e first row =
+    let here = all_at limits items contents p of (scan_of_all limits items contents rows (scan_left w) first row) in
+    let k = read_at limits p w now e work in
+    let u = whole_at limits front tail p (map_of now) before here k.so_far in
+    let sum = ap length (u.at).cut ∙ length-append (u.at).part (u.at).rest in
+    let t = extra_told limits p byte (map_of now) u.at in
+    let holds = extra_holds limits p byte (completes_holds (scan_at limits p) p.blocks p.places p.coded k.completes) in
+    let z : PlaceStops limits items contents bytes now (scan_left w) = record {
+      tells = record { place = with_byte p byte; of = of; tail = []; at = at; of_all = here; told = t; left_is = omega (arith, u.left_is, left_whole w e, work.due) };
+      units = inr (inr (holds, omega (arith, sum, u.left_is)));
+      last = inl (0, refl);
+    } in
+    completes_as limits bytes items contents rows (stops_complete limits items contents bytes now rows (scan_left w) z row)
+
+-- A MARKER that doesn't begin the interval that is due
+
+leading : (fill code : ℕ) → (code ≡ 0 → ⊥) → (code ≡ 255 → ⊥) → LeadingMarker (replicate (suc fill) 255 ++ code ∷ [])
+leading fill code z f =
+    let tail = replicate (suc fill) 255 ++ code ∷ [] in
+    record { code = code; marker = tail; rest = []; spelled = marker_code fill code z f; cut = sym (append-nil tail) }
+
+no_more_data : (limits : Limits) (p : ScanPlace) (fill code : ℕ) (w : ScanWork) (now : Picture) → (code ≡ 0 → ⊥) → (code ≡ 255 → ⊥) → AtWork limits p w now → (w.whole ≡ true → code ≡ 0xd0 + w.turn → ⊥)
+    → HasNoMoreData (scan_at limits p) p (replicate (suc fill) 255 ++ code ∷ [])
+unfolding leading
+no_more_data limits p fill code w now z f work wrong = inr (leading fill code z f, by w.whole refl)
+  where
+    by : (b : Bool) → w.whole ≡ b → HoldsUnits (scan_at limits p) p.blocks p.places p.coded → code ≡ 0xd0 + length p.done % 8 → p.later ≡ []
+    by true e holds is = absurd (wrong e (omega (arith, is, work.turn)))
+    by false e holds is =
+        let u = due_units limits p w.machine now work.readable (due_at limits p w now e work) in
+        absurd ((part_due (scan_at limits p) p.blocks p.places u.told u.left p.coded (scan_sound limits (segments_of p.items) p.contents) u.stands).0 holds)
+
+pub marker_stops : (limits : Limits) (items : List Item) (contents bytes : List ℕ) (p : ScanPlace) (fill code : ℕ) (w : ScanWork) (now : Picture) (rows : RowWork) → (p.items ≡ items) × (p.contents ≡ contents) → (code ≡ 0 → ⊥) → (code ≡ 255 → ⊥)
+    → ScanAt limits bytes p (replicate (suc fill) 255 ++ code ∷ []) → AtWork limits p w now → (w.whole ≡ true → code ≡ 0xd0 + w.turn → ⊥) → IsFirstScan limits items
+    → IsRowAt (frame_behind limits items) (components_of limits items contents) rows (scan_left w) → CompletesBefore limits bytes (segments_of items) contents rows
+marker_stops limits items contents bytes p fill code w now rows of z f at work wrong first row =
+    let tail = replicate (suc fill) 255 ++ code ∷ [] in
+    let all = scan_of_all limits items contents rows (scan_left w) first row in
+    let k = place_stops limits items contents bytes tail p w now of at work (no_more_data limits p fill code w now z f work wrong) first all in
+    completes_as limits bytes items contents rows (stops_complete limits items contents bytes now rows (scan_left w) k row)
+
+-- WHAT THE SCAN ANSWERS: a fault alone stops it
+
+pub faulty : (given : ScanStep) (came_to : DataStep) (fault : Fault) → given ≡ scan_answer came_to → given ≡ answer.Fault fault → (f : UnitFault) × (came_to ≡ came.Fault f)
+faulty given came.More fault is e = absurd (let z : (let s : ScanStep = answer.More in s) ≡ answer.Fault fault = sym is ∙ e in cc)
+faulty given came.Whole fault is e = absurd (let z : (let s : ScanStep = answer.More in s) ≡ answer.Fault fault = sym is ∙ e in cc)
+faulty given (came.Fault f) fault is e = (f, refl)
+
+pub goes_on : (old : InScan) (w : RowWork) (byte : ℕ) (given : ScanStep) → given ≡ answer.More → StopsByteInRow old w byte given
+goes_on old w byte given is fault limits items contents bytes whole e row d at = absurd (let z : (let s : ScanStep = answer.More in s) ≡ answer.Fault fault = sym is ∙ e in cc)
+
+pub byte_faults : (old : InScan) (w : RowWork) (byte passed : ℕ) (store : List Bool) (given : ScanStep) (came_to : DataStep) → IsData old.gate byte passed → old.work.whole ≡ false → store ≡ bits_of 8 passed → given ≡ scan_answer came_to
+    → StopsRowData w old.work.machine store came_to → StopsByteInRow old w byte given
+byte_faults old w byte passed store given came_to is_data due bits is stops fault limits items contents bytes whole e row d at =
+    let g = faulty given came_to fault is e in
+    let shows = stops g.0 whole g.1 row (open_scan limits items contents bytes old whole d due) in
+    let one : store ≡ bits_of_bytes (passed ∷ []) = bits ∙ sym (append-nil (bits_of 8 passed)) in
+    bytes_stop limits items contents (bytes ++ byte ∷ []) d.place (passed ∷ []) old.work whole w g.0 d.of (data_at limits items contents bytes byte passed old whole d is_data) d.work due
+    (subst (λ z. ShowsInRow w.left old.work.machine whole z g.0) one shows) at.0 at.1
+
+pub byte_extra : (old : InScan) (w : RowWork) (byte passed : ℕ) (given : ScanStep) → IsData old.gate byte passed → old.work.whole ≡ true → StopsByteInRow old w byte given
+byte_extra old w byte passed given is_data whole_is fault limits items contents bytes whole e row d at =
+    extra_stops limits items contents (bytes ++ byte ∷ []) bytes (replicate d.fill 255) d.place passed old.work whole w d.of d.at (data_at limits items contents bytes byte passed old whole d is_data) d.work whole_is at.0 at.1
+
+pub byte_wrong : (old : InScan) (w : RowWork) (byte code : ℕ) (given : ScanStep) → old.gate ≡ true → (code ≡ 0 → ⊥) → (code ≡ 255 → ⊥) → code ≡ byte → ((fault : Fault) → given ≡ answer.Fault fault → old.work.whole ≡ true → code ≡ 0xd0 + old.work.turn → ⊥)
+    → StopsByteInRow old w byte given
+byte_wrong old w byte code given gate z f same wrong fault limits items contents bytes whole e row d at =
+    let m = marker_at limits items contents bytes code old whole d gate z f in
+    let k = marker_stops limits items contents (bytes ++ code ∷ []) d.place m.fill code old.work whole w d.of z f m.at m.work (wrong fault e) at.0 at.1 in
+    subst (λ n. CompletesBefore limits (bytes ++ n ∷ []) (segments_of items) contents w) same k
+
+pub rest_faults : (old : InScan) (w : RowWork) (given : ScanStep) (came_to : DataStep) → given ≡ scan_answer came_to → StopsRowData w old.work.machine w.waiting came_to → StopsRestInRow old w given
+rest_faults old w given came_to is stops fault limits items contents bytes whole e row h at =
+    let g = faulty given came_to fault is e in
+    half_stops limits items contents bytes w.waiting old whole w g.0 h (stops g.0 whole g.1 row (open_half limits items contents bytes w.waiting old whole h)) at.0 at.1
+
+pub run_faults : (old : InScan) (w : RowWork) (run : List ℕ) (n : ℕ) (given : ScanStep) (came_to : DataStep) → n ≤ length run → old.gate ≡ false → old.work.whole ≡ false → ArePlain run → given ≡ scan_answer came_to
+    → StopsRowRun w old.work.machine run n came_to → StopsRunInRow old w run n given
+run_faults old w run n given came_to few gate due plain is stops fault limits items contents bytes whole e row d at =
+    let g = faulty given came_to fault is e in
+    let there = plain_at limits bytes d.place (take n run) (front_plain run n few plain) (open_at limits items contents bytes old whole d gate) in
+    bytes_stop limits items contents (bytes ++ take n run) d.place (take n run) old.work whole w g.0 d.of there d.work due (stops g.0 whole g.1 row (open_scan limits items contents bytes old whole d due)) at.0 at.1

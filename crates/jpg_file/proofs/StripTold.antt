@@ -1,0 +1,183 @@
+-- The head of the picture whose MCU rows are read, as it stands where the first scan begins.
+use Rattle.std.proofs.Common.{◌≡◌, ℕ, ◌+◌, ◌<◌, List, [], ◌∷◌, length, refl, sym, ap, ◌∙◌, subst, arith, Option, Some, None}
+use Rattle.std.specs.Prelude.{find, is_none, reverse, slice_index_or, unwrap_or, false, true}
+use Rattle.std.proofs.lemmas.List.{append-nil, reverse-reverse}
+use Rattle.jpg_spec.specs.Colours.{colours_of}
+use Rattle.jpg_spec.specs.FileMeaning.{meaning_of, picture_component}
+use Rattle.jpg_spec.specs.FrameHeader.{IsFrame, identifiers}
+use Rattle.jpg_spec.specs.Geometry.{Frame, component_at, is_progressive}
+use Rattle.jpg_spec.specs.History.{quant_of}
+use Rattle.jpg_spec.specs.InForce.{frame_of, head_in, heads_of, no_frame}
+use Rattle.jpg_spec.specs.Items.{segments_of}
+use Rattle.jpg_spec.specs.Jfif.{adobe_transform, is_jfif, jfif_of, jfif_told}
+use Rattle.jpg_spec.specs.Markers.{Segment, code_fault, has_scan, kept_after}
+use Rattle.jpg_spec.specs.Meaning.{Meaning, PictureComponent}
+use Rattle.jpg_spec.specs.NotShown.{colours_behind}
+use Rattle.jpg_spec.specs.QuantContents.{quant_in}
+use Rattle.jpg_spec.specs.Scan.{Blocks}
+use Rattle.jpg_spec.specs.Segments.{QuantTable, ScanHead, head_components}
+use Rattle.jpg_spec.specs.declared.frame.Colour.{Colour}
+use Rattle.jpg_spec.specs.declared.frame.Limits.{Limits}
+use Rattle.jpg_spec.specs.declared.jfif.Jfif.{Jfif}
+use Rattle.jpg_spec.proofs.ColoursKept.{picture_colours}
+use Rattle.jpg_spec.proofs.Common.{some_of}
+use Rattle.jpg_spec.proofs.FrameFound.{framed}
+use Rattle.jpg_base.specs.Cursor.{scan_mcus_down}
+use Rattle.jpg_file.specs.Begun.{HasBegun, HasBegunAll}
+use Rattle.jpg_file.specs.File.{HeadStands, NotesHead}
+use Rattle.jpg_file.specs.FirstHead.{colours_by}
+use Rattle.jpg_file.specs.Held.{Holds, HeldTold, told_by}
+use Rattle.jpg_file.specs.Keeping.{is_wanted}
+use Rattle.jpg_file.specs.PictureKept.{IsQuantTable, component_told}
+use Rattle.jpg_file.specs.Reading.{AfterHead, with_coefs}
+use Rattle.jpg_file.specs.RowTurns.{unfinished, zero_picture}
+use Rattle.jpg_file.specs.RowsKnown.{BeginsAll, HoldsScan, RowsKnown, TellsScan, TellsStrip}
+use Rattle.jpg_file.specs.StripHead.{IsHeadOfPicture, bare_picture, may_have}
+use Rattle.jpg_file.specs.Strips.{IsHeadOfAll, contents_held}
+use Rattle.jpg_file.specs.declared.file.FileWork.{FileWork}
+use Rattle.jpg_file.specs.declared.items.ItemStep.TheVariants as came
+use Rattle.jpg_file.specs.declared.reading.Reading.{Reading}
+use Rattle.jpg_file.specs.declared.rows.RowWork.{RowWork}
+use Rattle.jpg_file.specs.declared.strip_head.StripHead.{StripHead}
+use Rattle.jpg_file.proofs.FileSteps.{frame_held, unbroken}
+use Rattle.jpg_file.proofs.FirstHeads.{heads_first}
+use Rattle.jpg_file.proofs.Keeping.{adobe_same, filter_reverse}
+use Rattle.jpg_file.proofs.PictureSteps.{map_below, quant_sound}
+use Rattle.jpg_file.proofs.StripBegin.{begun_here, components_all}
+use Rattle.jpg_file.proofs.StripHeads.{colours_fit}
+
+-- WHAT IS HELD there
+
+held_jfif : (limits : Limits) (before : List Segment) (h : HeldTold) → Holds limits h before → h.jfif ≡ jfif_of (reverse (kept_after before))
+held_jfif limits before h k = k.jfif ∙ ap (λ l. jfif_told (find is_jfif l)) (sym (reverse-reverse (kept_after before)))
+
+held_colour : (limits : Limits) (before : List Segment) (h : HeldTold) → Holds limits h before → colours_by (frame_of limits before) h.jfif h.kept ≡ colours_behind limits before
+held_colour limits before h k =
+    let kept : List Segment = reverse (kept_after before) in
+    let f = frame_of limits before in
+    let held : adobe_transform h.kept ≡ adobe_transform kept = ap adobe_transform (k.kept ∙ sym (filter_reverse (is_wanted h.keeping) (kept_after before))) ∙ adobe_same h.keeping kept in
+    ap (λ (j : Jfif). colours_by f j h.kept) (held_jfif limits before h k) ∙ ap (λ (a : Option ℕ). colours_of (length f.components) (identifiers f.components) (jfif_of kept).seen a) held
+
+pub held_frame : (limits : Limits) (before : List Segment) (w : FileWork) (f : Frame) → HoldsScan limits before w → w.reading.items.held.frame ≡ Some f → frame_of limits before ≡ f
+held_frame limits before w f k is = ap (λ (o : Option Frame). unwrap_or o no_frame) (sym (k.holds).frame ∙ is)
+
+-- each component has its table
+pub held_table : (limits : Limits) (before : List Segment) (w : FileWork) (f : Frame) (i : ℕ) → HoldsScan limits before w → w.reading.items.held.frame ≡ Some f → IsFrame f → i < length f.components → is_none (quant_in w.begun.quants i) ≡ false
+held_table limits before w f i k is is_frame low =
+    let g = frame_of limits before in
+    let heads = heads_of g before in
+    let same : g ≡ f = held_frame limits before w f k is in
+    let begun = (k.all g heads (k.begun).scans).1 i (subst (λ (x : Frame). i < length x.components) (sym same) low) in
+    let few = is_frame.count_high in
+    (k.begun).there i (omega (arith, low, few)) begun
+
+-- THE HEAD
+pub record IsHeld (w : FileWork) (h : StripHead) : Type 0 where
+  pub frame : w.reading.items.held.frame ≡ Some h.frame
+  pub is_frame : IsFrame h.frame
+  pub colour : h.colour ≡ colours_by h.frame (told_by w.reading.items.held).jfif (told_by w.reading.items.held).kept
+  pub count : length h.quants.items ≡ length h.frame.components
+  pub tables : (i : ℕ) → i < length h.frame.components → slice_index_or h.quants.items i [] ≡ unwrap_or (quant_in w.begun.quants i) []
+  pub jfif : h.jfif ≡ (told_by w.reading.items.held).jfif
+
+table_of : (limits : Limits) (before : List Segment) (w : FileWork) (h : StripHead) (i : ℕ) → HoldsScan limits before w → IsHeld w h → i < length h.frame.components → slice_index_or h.quants.items i [] ≡ unwrap_or (quant_of h.frame before i) []
+table_of limits before w h i k l low =
+    let few = (l.is_frame).count_high in
+    l.tables i low ∙ ap (λ (o : Option QuantTable). unwrap_or o []) ((k.begun).quants i (omega (arith, low, few)) ∙ ap (λ (g : Frame). quant_of g before i) (held_frame limits before w h.frame k l.frame))
+
+table_sound : (limits : Limits) (before : List Segment) (w : FileWork) (h : StripHead) (i : ℕ) → HoldsScan limits before w → IsHeld w h → i < length h.frame.components → IsQuantTable (slice_index_or h.quants.items i [])
+table_sound limits before w h i k l low =
+    let few = (l.is_frame).count_high in
+    let x = some_of (quant_in w.begun.quants i) (held_table limits before w h.frame i k l.frame l.is_frame low) in
+    let sound = quant_sound (frame_of limits before) before i x.0 (sym ((k.begun).quants i (omega (arith, low, few))) ∙ x.1) in
+    let is : slice_index_or h.quants.items i [] ≡ x.0 = l.tables i low ∙ ap (λ (o : Option QuantTable). unwrap_or o []) x.1 in
+    subst IsQuantTable (sym is) (record { long = sound.long; some = sound.some })
+
+colour_fits : (f : Frame) (c : Colour) (j : Jfif) (kept : List Segment) → IsFrame f → c ≡ colours_by f j kept → may_have (length f.components) c ≡ true
+colour_fits f c j kept is e = ap (may_have (length f.components)) e ∙ colours_fit (length f.components) (identifiers f.components) j.seen (adobe_transform kept) is.count_low is.count_high
+
+pub strip_tells : (w : FileWork) (h : StripHead) → IsHeld w h → TellsScan w h
+strip_tells w h l limits before k = (
+  sym same,
+  λ blocks. record {
+    head = record {
+      frame = l.is_frame;
+      tables = l.count;
+      quants = λ i low. table_sound limits before w h i k l low;
+      colour = colour_fits h.frame h.colour (told_by w.reading.items.held).jfif (told_by w.reading.items.held).kept l.is_frame l.colour;
+    };
+    same = whole blocks;
+    colour = l.colour ∙ ap (λ (g : Frame). colours_by g (told_by w.reading.items.held).jfif (told_by w.reading.items.held).kept) (sym same) ∙ held_colour limits before (told_by w.reading.items.held) k.holds ∙ sym (picture_colours limits before blocks);
+    jfif = l.jfif ∙ held_jfif limits before (told_by w.reading.items.held) k.holds;
+  },
+)
+  where
+    same : frame_of limits before ≡ h.frame
+    same = held_frame limits before w h.frame k l.frame
+
+    whole : (blocks : Blocks) → (let M = meaning_of (frame_of limits before) before blocks in M ≡ record (bare_picture h.frame h.quants.items M.blocks) { kept = M.kept })
+    whole blocks =
+        subst (λ (g : Frame). (let M = meaning_of g before blocks in M ≡ record (bare_picture h.frame h.quants.items M.blocks) { kept = M.kept })) (sym same)
+        (ap (λ (cs : List PictureComponent). let n : Meaning = record (meaning_of h.frame before blocks) { components = cs } in n) (sym (map_below (component_told h.frame h.quants.items) (picture_component h.frame before) (length h.frame.components)
+        (λ i low. ap (λ (t : QuantTable). let c : PictureComponent = record { id = (component_at h.frame i).id; h = (component_at h.frame i).h; v = (component_at h.frame i).v; quants = t } in c) (table_of limits before w h i k l low)))))
+
+-- WHERE THE SCAN BEGINS
+pub begins_told : (limits : Limits) (bytes : List ℕ) (old taken new : FileWork) (f : Frame) (head : ScanHead) → (h : HeadStands limits bytes old) → IsHeadOfAll limits h.items (contents_held old) f head → has_scan (segments_of h.items) ≡ false
+    → AfterHead limits bytes h.items old.reading.items came.More (with_coefs taken.reading (zero_picture f)) taken.begun → NotesHead taken new → BeginsAll limits bytes (segments_of h.items) (contents_held old) new
+begins_told limits bytes old taken new f head h k first a notes =
+    let contents = contents_held old in
+    let before = segments_of h.items in
+    let all : List Segment = (0xda, contents) ∷ before in
+    let s = a.0 in
+    let holds = (s.head).holds in
+    let rule = unbroken limits h.items contents bytes (with_coefs taken.reading (zero_picture f)) s in
+    let x = heads_first limits bytes h.items h.blocks old.reading.items contents h.at h.code refl first rule in
+    let allowed = subst (λ n. code_fault before n ≡ None) h.code (h.at).allowed in
+    let held = frame_held limits bytes h.items h.blocks taken.reading.items.held.frame ((h.at).at).leads holds.frame (framed before allowed) in
+    let told : head_in (frame_of limits before) contents ≡ head = ap (λ (g : Frame). head_in g contents) k.framed ∙ k.told in
+    record {
+      begins = record {
+        front = bytes;
+        rest = [];
+        cut = sym (append-nil bytes);
+        header = x.header;
+        unbroken = rule;
+        of_all = record {
+          first = first;
+          sequential = ap (λ (g : Frame). is_progressive g.process) k.framed ∙ k.sequential;
+          all = ap (λ (x : ScanHead). length (head_components x)) told ∙ components_all f head k.all ∙ ap (λ (g : Frame). length g.components) (sym k.framed);
+        };
+      };
+      holds = record {
+        holds = subst (λ (r : Reading). Holds limits (told_by r.items.held) all) (sym notes.reading) holds;
+        begun = subst (λ b. HasBegun limits b all) (sym notes.begun) a.1;
+        all = subst (λ b. HasBegunAll b.progress) (sym notes.begun) (begun_here limits h.items contents taken.begun f head k a.1);
+        frame = held.frame;
+        has = ap (λ (r : Reading). r.items.held.frame) notes.reading ∙ held.has;
+      };
+    }
+
+-- its MCU rows are counted, and the head of its picture is told
+pub rows_known : (limits : Limits) (bytes : List ℕ) (old new : FileWork) (f : Frame) (head : ScanHead) (rows : RowWork) (strip : StripHead) → (h : HeadStands limits bytes old) → IsHeadOfAll limits h.items (contents_held old) f head
+    → BeginsAll limits bytes (segments_of h.items) (contents_held old) new → unfinished rows ≡ scan_mcus_down f (head_components head) → TellsScan new strip → RowsKnown limits bytes 0 rows (Some strip)
+rows_known limits bytes old new f head rows strip h k b count tells =
+    let contents = contents_held old in
+    let before = segments_of h.items in
+    let t = tells limits ((0xda, contents) ∷ before) b.holds in
+    record {
+      before = before;
+      contents = contents;
+      begins = b.begins;
+      told = t;
+      count = (let e : 0 + unfinished rows ≡ unfinished rows = omega arith in e) ∙ count ∙ ap (λ (x : ScanHead). scan_mcus_down f (head_components x)) (sym k.told) ∙ ap (λ (g : Frame). scan_mcus_down g (head_components (head_in g contents))) (sym k.framed);
+    }
+
+-- A COPY of the head
+head_copied : (a b : StripHead) → a.frame ≡ b.frame → a.colour ≡ b.colour → a.quants.items ≡ b.quants.items → a.jfif ≡ b.jfif → a ≡ b
+head_copied a b f c q j =
+    ap (λ (x : Frame). let h : StripHead = record a { frame = x } in h) f ∙ ap (λ (x : Colour). let h : StripHead = record a { frame = b.frame; colour = x } in h) c
+    ∙ ap (λ (x : List QuantTable). let h : StripHead = record b { quants = record { items = x }; jfif = a.jfif } in h) q ∙ ap (λ (x : Jfif). let h : StripHead = record b { jfif = x } in h) j
+
+pub strip_copied : (a b : StripHead) → a.frame ≡ b.frame → a.colour ≡ b.colour → a.quants.items ≡ b.quants.items → a.jfif ≡ b.jfif → (o : Option StripHead) → o ≡ Some b → (f : Frame) (picture : Blocks → Meaning) → TellsStrip o f picture
+    → (a.frame ≡ f) × ((blocks : Blocks) → IsHeadOfPicture a (picture blocks))
+strip_copied a b f c q j o is g picture t = (let x : TellsStrip (Some a) g picture = subst (λ (h : StripHead). TellsStrip (Some h) g picture) (sym (head_copied a b f c q j)) (subst (λ (s : Option StripHead). TellsStrip s g picture) is t) in x)

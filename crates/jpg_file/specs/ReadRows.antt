@@ -1,0 +1,161 @@
+-- A file that is fed piece by piece, and read MCU row by MCU row where its first scan has all components of a sequential frame (T.81, A.2.3, B.2.1).
+use Rattle.std.specs.Prelude.{◌≡◌, ◌⊎◌, ℕ, ◌+◌, ◌*◌, ◌<◌, ◌≤◌, Bool, true, false, List, ◌++◌, length, take, Option, Some, None, Result, Ok, Err}
+use Rattle.jpg_spec.specs.Geometry.{Frame, blocks_across, blocks_down, bounds, component_at, mcu_row_frame}
+use Rattle.jpg_spec.specs.FrameHeader.{AreLimits}
+use Rattle.jpg_spec.specs.Scan.{Blocks}
+use Rattle.jpg_spec.specs.Ranges.{AreInRange}
+use Rattle.jpg_spec.specs.Markers.{Segment}
+use Rattle.jpg_spec.specs.InForce.{frame_of}
+use Rattle.jpg_spec.specs.Meaning.{Meaning}
+use Rattle.jpg_spec.specs.FileStands.{FileStands, IsWholeFile}
+use Rattle.jpg_spec.specs.RowsTold.{BeginsScanOfAll, CompletesRows, TellsRows}
+use Rattle.jpg_spec.specs.RowsShown.{picture_so_far}
+use Rattle.jpg_spec.specs.declared.frame.Copying.TheVariants as copying
+use Rattle.jpg_spec.specs.declared.frame.Limits.{Limits}
+use Rattle.jpg_base.specs.declared.stop.Stop.{Stop}
+use Rattle.jpg_base.specs.declared.stop.Stop.TheVariants as stop
+use Rattle.jpg_coefs.specs.Picture.{Picture, map_of}
+use Rattle.jpg_seq.specs.Rows.{rows_in_mcu}
+use Rattle.jpg_file.specs.File.{EndsFile, keeping_of}
+use Rattle.jpg_file.specs.FirstHead.{IsHeadOf}
+use Rattle.jpg_file.specs.ReadFile.{HasRead, IsDone, IsStopOf, KeepsHead, KeepsHeadAt, ReaderState}
+use Rattle.jpg_file.specs.RowPieces.{HasLastByte, RowsOpen}
+use Rattle.jpg_file.specs.RowTurns.{unfinished}
+use Rattle.jpg_file.specs.RowsKnown.{TellsStrip, rows_of_scan}
+use Rattle.jpg_file.specs.RowsNone.{HasNoRows}
+use Rattle.jpg_file.specs.Strips.{SparesRows, StandsByRow}
+use Rattle.jpg_file.specs.declared.file.FileWork.{FileWork}
+use Rattle.jpg_file.specs.declared.row_reader.FedRow.{FedRow}
+use Rattle.jpg_file.specs.declared.row_reader.FedRow.TheVariants as fed
+use Rattle.jpg_file.specs.declared.rows.RowWork.{RowWork}
+use Rattle.jpg_file.specs.declared.strip_head.StripHead.{StripHead}
+
+-- what is seen of it: the file in work, the MCU row in work and the head of its picture once there is one, whether the file is whole, and why it stopped, if it did
+pub record RowReaderState : Type 0 where
+  pub limits : Limits
+  pub file : FileWork
+  pub rows : Option RowWork
+  pub strip : Option StripHead
+  pub done : Bool
+  pub stop : Option Stop
+
+-- as a reader of whole files is seen
+abbrev pub whole_reader : RowReaderState → ReaderState
+whole_reader r = record { limits = r.limits; file = r.file; done = r.done; stop = r.stop }
+
+-- what every one keeps: it stands for some bytes, or for a whole file, and where MCU rows are in work it asks for no memory
+pub record IsReadingRows (r : RowReaderState) : Type 0 where
+  pub limited : AreLimits r.limits
+  pub keeping : keeping_of r.file ≡ copying.None
+  pub sparing : SparesRows r.rows r.file
+  pub «open» : r.stop ≡ None → r.done ≡ false → (bytes : List ℕ) × RowsOpen r.limits bytes r.rows r.file
+  pub ended : r.done ≡ true → r.rows ≡ None → (bytes : List ℕ) × EndsFile r.limits bytes r.file
+
+-- THE HEAD of the picture whose rows are read, when the scan began in the bytes
+pub record HasBegunRows (bytes : List ℕ) (r : RowReaderState) : Type 0 where
+  pub before : List Segment
+  pub contents : List ℕ
+  pub begins : BeginsScanOfAll r.limits bytes before contents
+  pub rows : RowWork
+  pub has : r.rows ≡ Some rows
+  pub head : IsHeadOf r.limits bytes r.file.head
+  pub told : TellsStrip r.strip (frame_of r.limits before) (picture_so_far r.limits before contents)
+
+-- the picture of these blocks, with what stands at the end of that scan header
+abbrev pub picture_read : (bytes : List ℕ) → (r : RowReaderState) → HasBegunRows bytes r → Blocks → Meaning
+picture_read bytes r b blocks = picture_so_far r.limits b.before b.contents blocks
+
+-- THE BYTES SO FAR
+
+-- No such scan began in them, and they show no fault and hold no whole file.
+pub record HasReadPlainly (bytes : List ℕ) (r : RowReaderState) : Type 0 where
+  pub none : r.rows ≡ None
+  pub plain : HasNoRows r.limits bytes
+  pub read : HasRead bytes (whole_reader r)
+
+-- It began. So many MCU rows were given, and no further one is complete.
+pub record HasReadRows (bytes : List ℕ) (m : ℕ) (r : RowReaderState) : Type 0 where
+  pub going : r.stop ≡ None
+  pub undone : r.done ≡ false
+  pub short : length bytes < r.limits.input
+  pub stands : FileStands r.limits bytes
+  pub begun : HasBegunRows bytes r
+  pub «open» : StandsByRow r.limits bytes r.file begun.rows
+  pub byte : HasLastByte r.limits bytes
+  pub rows : m + unfinished begun.rows ≡ rows_of_scan r.limits begun.before begun.contents
+  pub blocks : Blocks
+  pub completed : CompletesRows r.limits bytes m blocks
+
+-- these coefficients are those of MCU row k
+pub record AreOfRow (f : Frame) (k : ℕ) (row : Picture) (blocks : Blocks) : Type 0 where
+  pub same : (i x y : ℕ) → i < length f.components → x < blocks_across f (component_at f i) → y < rows_in_mcu f i
+      → k * rows_in_mcu f i + y < blocks_down f (component_at f i) → map_of row i x y ≡ blocks i x (k * rows_in_mcu f i + y)
+
+-- Of the last byte bits may be left, which aren't judged yet. The last of so many MCU rows, which were given, is lent.
+pub record HasGivenRow (bytes : List ℕ) (m : ℕ) (r : RowReaderState) : Type 0 where
+  pub going : r.stop ≡ None
+  pub undone : r.done ≡ false
+  pub within : length bytes ≤ r.limits.input
+  pub begun : HasBegunRows bytes r
+  pub «open» : StandsByRow r.limits bytes r.file begun.rows
+  pub byte : HasLastByte r.limits bytes
+  pub rows : m + unfinished begun.rows ≡ rows_of_scan r.limits begun.before begun.contents
+  pub blocks : Blocks
+  pub told : TellsRows r.limits bytes m blocks
+  pub last : ℕ
+  pub count : m ≡ last + 1
+  pub framed : ((begun.rows).coefs).frame ≡ mcu_row_frame (frame_of r.limits begun.before)
+  pub range : AreInRange (bounds (frame_of r.limits begun.before)) (map_of (begun.rows).coefs)
+  pub row : AreOfRow (frame_of r.limits begun.before) last (begun.rows).coefs blocks
+
+abbrev pub HasReadSoFar : List ℕ → ℕ → RowReaderState → Type 0
+HasReadSoFar bytes m r = (HasReadPlainly bytes r × (m ≡ 0)) ⊎ (HasReadRows bytes m r ⊎ HasGivenRow bytes m r)
+
+-- no bits are left that aren't judged
+abbrev pub HasReadAll : List ℕ → RowReaderState → Type 0
+HasReadAll bytes r = HasReadPlainly bytes r ⊎ ((m : ℕ) × HasReadRows bytes m r)
+
+-- A whole file, all whose MCU rows were given.
+pub record IsDoneByRows (bytes : List ℕ) (m : ℕ) (r : RowReaderState) : Type 0 where
+  pub done : r.done ≡ true
+  pub meaning : Meaning
+  pub whole : IsWholeFile r.limits bytes meaning
+  pub begun : HasBegunRows bytes r
+  pub blocks : Blocks
+  pub completed : CompletesRows r.limits bytes m blocks
+
+-- a whole file without such a scan
+pub record IsDonePlainly (bytes : List ℕ) (r : RowReaderState) : Type 0 where
+  pub none : r.rows ≡ None
+  pub plain : HasNoRows r.limits bytes
+  pub done : IsDone bytes (whole_reader r)
+
+-- THE ANSWER to a piece that is fed, by all bytes so far: of a fault, which MCU rows are complete before it
+
+pub record StopsRows (bytes : List ℕ) (m : ℕ) (r : RowReaderState) : Type 0 where
+  pub begun : HasBegunRows bytes r
+  pub blocks : Blocks
+  pub completed : CompletesRows r.limits bytes m blocks
+
+abbrev pub StopsSoFar : List ℕ → ℕ → RowReaderState → Type 0
+StopsSoFar bytes m r = ((r.rows ≡ None) × HasNoRows r.limits bytes × (m ≡ 0)) ⊎ StopsRows bytes m r
+
+abbrev pub AfterFeedRow : List ℕ → ℕ → List ℕ → Result FedRow Stop → RowReaderState → Type 0
+AfterFeedRow bytes m piece (Ok fed.More) r = (HasReadPlainly (bytes ++ piece) r × (m ≡ 0)) ⊎ HasReadRows (bytes ++ piece) m r
+AfterFeedRow bytes m piece (Ok (fed.Row used)) r = HasGivenRow (bytes ++ take used piece) (m + 1) r × (used ≤ length piece)
+AfterFeedRow bytes m piece (Ok (fed.Done used)) r =
+    (IsDonePlainly (bytes ++ take used piece) r ⊎ IsDoneByRows (bytes ++ take used piece) m r) × (1 ≤ used) × (used ≤ length piece)
+AfterFeedRow bytes m piece (Err (stop.Fault f)) r =
+    IsStopOf r.limits (bytes ++ piece) f × (length bytes ≤ f.at) × KeepsHeadAt r.limits (bytes ++ piece) f r.file.head × StopsSoFar (take f.at (bytes ++ piece)) m r
+AfterFeedRow bytes m piece (Err stop.NoMemory) r = KeepsHead r.limits (length bytes) (bytes ++ piece) r.file.head × (r.rows ≡ None) × HasNoRows r.limits bytes
+
+-- for all bytes that were fed before, of which so many MCU rows were given
+abbrev pub FeedsRow : RowReaderState → List ℕ → Result FedRow Stop → RowReaderState → Type 0
+FeedsRow old piece answer new = (bytes : List ℕ) (m : ℕ) → HasReadSoFar bytes m old → AfterFeedRow bytes m piece answer new
+
+-- the word that keeps `done`
+abbrev pub EndsDoneRow : Result FedRow Stop → RowReaderState → Type 0
+EndsDoneRow (Ok fed.More) r = r.done ≡ false
+EndsDoneRow (Ok (fed.Row used)) r = r.done ≡ false
+EndsDoneRow (Ok (fed.Done used)) r = r.done ≡ true
+EndsDoneRow (Err e) r = r.done ≡ false
