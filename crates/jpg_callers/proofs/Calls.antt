@@ -1,8 +1,11 @@
 -- What calls with a whole file come to.
-use Rattle.std.proofs.Common.{◌≡◌, ℕ, List, [], ◌∷◌, ◌++◌, take, Option, Some, Result, Ok, Err, sym, ap, ◌∙◌, subst}
+use Rattle.std.proofs.Common.{◌≡◌, ℕ, List, [], ◌∷◌, ◌++◌, take, inl, inr, Option, Some, Result, Ok, Err, sym, ap, ◌∙◌, subst}
 use Rattle.std.proofs.lemmas.List.{append-nil}
 use Rattle.jpg_spec.specs.CommentText.{IsReadFault}
+use Rattle.jpg_spec.specs.Early.{MeansEarly}
+use Rattle.jpg_spec.specs.FileMeaning.{meaning_of}
 use Rattle.jpg_spec.specs.FileStands.{IsWholeFile}
+use Rattle.jpg_spec.specs.InForce.{frame_of}
 use Rattle.jpg_spec.specs.Meaning.{Meaning}
 use Rattle.jpg_spec.specs.Moved.{Choice}
 use Rattle.jpg_spec.specs.Segments.{standard_limits}
@@ -24,8 +27,9 @@ use Rattle.jpg_comments.specs.ReadComments.{AfterFeed as AfterComments, StopsAt 
 use Rattle.jpg_comments.specs.declared.comments.Comments.{Comments}
 use Rattle.jpg_file.specs.File.{keeping_of}
 use Rattle.jpg_file.specs.Keeping.{kept_for}
-use Rattle.jpg_file.specs.PictureRead.{TakesPicture}
-use Rattle.jpg_file.specs.ReadFile.{AfterFeed, IsRefusal, ReaderState, StopsAt}
+use Rattle.jpg_file.specs.PictureRead.{TakesEarly, TakesPicture}
+use Rattle.jpg_file.specs.ReadFile.{AfterEnd, AfterFeed, IsRefusal, ReaderState, StopsAt}
+use Rattle.jpg_file.specs.declared.ends.End.TheVariants as ends
 use Rattle.jpg_file.specs.declared.picture.Picture.{Picture}
 use Rattle.jpg_file.proofs.Keeping.{kept_for_all}
 use Rattle.jpg_callers.specs.Calling.{BeginsWith, HoldsTurned, IsCommentsOf, IsNotTurned, IsPictureOf, IsTurned}
@@ -54,12 +58,18 @@ pub picture_whole : (file : List ℕ) (used : ℕ) (r : ReaderState) (p : Pictur
 picture_whole file used r p e all takes h =
     let done = h.0 in
     let means = takes (take used file) done ∙ ap (λ (k : Copying). kept_for k done.meaning) all ∙ kept_for_all done.meaning in
-    (used, subst (λ (M : Meaning). IsWholeFile standard_limits (take used file) M) (sym means) (subst (λ (l : Limits). IsWholeFile l (take used file) done.meaning) e done.whole))
+    (used, inl (subst (λ (M : Meaning). IsWholeFile standard_limits (take used file) M) (sym means) (subst (λ (l : Limits). IsWholeFile l (take used file) done.meaning) e done.whole)))
 
 pub picture_stopped : (file : List ℕ) (s : Stop) (r : ReaderState) → r.limits ≡ standard_limits → AfterFeed [] file (Err s) r → IsPictureOf file (Err s)
 picture_stopped file (stop.Fault f) r e h =
     subst (λ (b : List ℕ). IsRefusal standard_limits b f) (append-nil file) (subst (λ (l : Limits). IsRefusal l (file ++ []) f) e (h.0 []))
 picture_stopped file stop.NoMemory r e h = tt
+
+pub picture_early : (file : List ℕ) (n : ℕ) (r : ReaderState) (p : Picture) → r.limits ≡ standard_limits → keeping_of r.file ≡ All → TakesEarly r p → AfterEnd file (ends.Early n) r → IsPictureOf file (Ok p)
+picture_early file n r p e all takes (at, is) =
+    let M = meaning_of (frame_of r.limits is.segments) is.segments is.blocks in
+    let means = takes file is ∙ ap (λ (k : Copying). kept_for k M) all ∙ kept_for_all M in
+    (n, inr (subst (λ (N : Meaning). MeansEarly standard_limits file N) (sym means) (subst (λ (l : Limits). MeansEarly l file M) e is.early), at))
 
 pub picture_ended : (file : List ℕ) (s : Stop) (limits : Limits) → limits ≡ standard_limits → StopsAt limits file s → IsPictureOf file (Err s)
 picture_ended file (stop.Fault f) limits e h = subst (λ (l : Limits). IsRefusal l file f) e h

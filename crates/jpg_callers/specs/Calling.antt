@@ -1,6 +1,7 @@
 -- WHAT THE CALLERS PROMISE of a file that they have whole.
-use Rattle.std.specs.Prelude.{◌≡◌, ℕ, List, [], ◌∷◌, take, Result, Ok, Err, Some}
+use Rattle.std.specs.Prelude.{◌≡◌, ◌⊎◌, ℕ, List, [], ◌∷◌, length, take, Result, Ok, Err, Some}
 use Rattle.jpg_spec.specs.CommentText.{IsReadFault}
+use Rattle.jpg_spec.specs.Early.{MeansEarly}
 use Rattle.jpg_spec.specs.FileStands.{IsWholeFile}
 use Rattle.jpg_spec.specs.Meaning.{Meaning}
 use Rattle.jpg_spec.specs.Moved.{Choice, moved, moved_text, picture_fault}
@@ -25,11 +26,14 @@ IsCommentsOf file (Ok text) = (n : ℕ) × PrintsWhole standard_limits (take n f
 IsCommentsOf file (Err (stop.Fault f)) = IsReadFault standard_limits file f.fault f.at
 IsCommentsOf file (Err stop.NoMemory) = Unit {0}
 
--- A front of the file is whole and means this picture.
-abbrev pub BeginsWith : List ℕ → Meaning → Type 0
-BeginsWith file M = (n : ℕ) × IsWholeFile standard_limits (take n file) M
+-- So many bytes of the file are whole and mean this picture, or all of them end early and mean it.
+abbrev pub IsReadAs : List ℕ → ℕ → Meaning → Type 0
+IsReadAs file n M = IsWholeFile standard_limits (take n file) M ⊎ (MeansEarly standard_limits file M × (n ≡ length file))
 
--- the picture that a front means, or what the file is refused with
+abbrev pub BeginsWith : List ℕ → Meaning → Type 0
+BeginsWith file M = (n : ℕ) × IsReadAs file n M
+
+-- the picture that it means, or what the file is refused with
 abbrev pub IsPictureOf : List ℕ → Result Picture Stop → Type 0
 IsPictureOf file (Ok p) = BeginsWith file (picture_meaning p)
 IsPictureOf file (Err (stop.Fault f)) = IsRefusal standard_limits file f

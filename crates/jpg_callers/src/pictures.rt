@@ -4,7 +4,7 @@ ghost use Rattle.jpg_transform.specs.Planned.{IsJobFor, choice_told};
 ghost use Rattle.jpg_callers.specs.Calling.{IsPictureOf, IsTurned, IsTurnedCoefs, HoldsTurned};
 
 use jpg_base::{Desk, MemoryDesk, Name, Put};
-use jpg_file::{Fed, Limits, Picture, Reader, Stop, write_file};
+use jpg_file::{End, Fed, Limits, Picture, Reader, Stop, write_file};
 use jpg_transform::{Choice, Coefs, Job, Moved, PictureFault, apply, plan};
 use std::alloc::Global;
 
@@ -17,16 +17,19 @@ pub enum NotTurned {
     Picture(PictureFault),
 }
 
-/// The picture of a file. It answers the file's first fault, at the number of bytes that show it, Truncated
-/// at the file's length and InputTooLong at 2^40 among them, and NoMemory. Bytes behind EOI are left out of
-/// account.
+/// The picture of a file, whole or ended early. It answers the file's first fault, at the number of bytes
+/// that show it, Truncated at the file's length and InputTooLong at 2^40 among them, and NoMemory. Bytes
+/// behind EOI are left out of account.
 pub fn read_picture(alloc: Global, file: &[u8]) -> Result<Picture, Stop>
     ensures { IsPictureOf file.now result }
 {
     let mut reader = Reader::new(alloc, Limits::standard());
     match reader.feed(file) {
         Ok(Fed::Done { .. }) => Ok(reader.take()),
-        Ok(Fed::More) => Err(reader.end()),
+        Ok(Fed::More) => match reader.end() {
+            End::Early(_) => Ok(reader.take()),
+            End::Stop(stop) => Err(stop),
+        },
         Err(stop) => Err(stop),
     }
 }

@@ -14,20 +14,20 @@ use Rattle.jpg_comments.specs.Inserting.{HoldsHead}
 use Rattle.jpg_comments.specs.Printing.{HoldsWhole}
 use Rattle.jpg_scans.proofs.OneScript.{one_answer}
 use Rattle.jpg_comments.proofs.OneAnswer.{heads_sound, reading_sound, whole_no_fault}
-use Rattle.jpg_cli.specs.Certain.{AreToldScans, HasFrameHeader, HasImage, HasPicture, HasWholeFile, IsDoneOrWanting, IsTold, IsToldComment, IsToldScript}
+use Rattle.jpg_cli.specs.Certain.{AreToldScans, HasFrameHeader, HasImage, HasPicture, HasWholeFile, IsDoneAsOrWanting, IsDoneOrWanting, IsTold, IsToldComment, IsToldScript}
 use Rattle.jpg_cli.specs.CommentInserted.{HasInputFault, HasLongComment, Inserted, IsComment, IsInsertDue, Task}
 use Rattle.jpg_cli.specs.ReadComments.{IsPrintDue, Printed}
 use Rattle.jpg_cli.specs.Reading.{IsFile}
 use Rattle.jpg_cli.specs.Laws.{MeanSame, WasTurnedBack, text_back}
-use Rattle.jpg_cli.specs.Run.{IsAnswerDue, IsRefusalDue, IsShowDue, NoneRose}
+use Rattle.jpg_cli.specs.Run.{IsAnswerDue, IsRefusalDue, IsShowDue, NoneRose, PictureDue}
 use Rattle.jpg_cli.specs.Commands.{name_of}
 use Rattle.jpg_cli.specs.ScriptTaken.{HasScans, HasScansFault, TellsIn}
 use Rattle.jpg_cli.specs.Showing.{Showing, Shown}
 use Rattle.jpg_cli.specs.Turned.{Transformed}
 use Rattle.jpg_cli.specs.ReadPicture.{IsRefused, IsRefusedFor}
 use Rattle.jpg_cli.specs.declared.read_picture.Wanted.TheVariants.{Coefficients, Image}
+use Rattle.jpg_spec.specs.Early.{IsMeaning, MeansAs, MeansEarly}
 use Rattle.jpg_spec.specs.FileMeaning.{Means}
-use Rattle.jpg_spec.specs.FirstFault.{IsFirstFault}
 use Rattle.jpg_spec.specs.Meaning.{Meaning}
 use Rattle.jpg_spec.specs.Pixels.{out_fault}
 use Rattle.jpg_spec.specs.Moved.{Scans, given, moved, picture_fault}
@@ -38,7 +38,8 @@ use Rattle.jpg_spec.specs.declared.transform.PictureFault.{PictureFault}
 use Rattle.jpg_spec.specs.declared.transform.Transform.{Transform}
 use Rattle.jpg_spec.proofs.MovedBack.{moved_back}
 use Rattle.jpg_spec.proofs.ShownAlike.{shown_alike}
-use Rattle.jpg_spec.proofs.FileLaws.{means_no_fault, means_once}
+use Rattle.jpg_spec.proofs.EarlyOnce.{meaning_once, means_not_early}
+use Rattle.jpg_spec.proofs.FileLaws.{early_no_fault, means_no_fault}
 use Rattle.jpg_cli.proofs.Ending.{due_answer, show_due}
 use Rattle.jpg_cli.proofs.CommentsPrinted.{print_due}
 use Rattle.jpg_cli.proofs.Input.{some_inj}
@@ -61,6 +62,7 @@ printed_certain old new input output w (bytes, n, told, front) none printed = by
   where
     by : (w : Why) → IsPrintDue input old w → IsDoneOrWanting w
     by why.Done due = tt
+    by (why.Warned m) due = absurd due
     by (why.Usage u) due = absurd due
     by (why.Picture p) due = absurd due
     by (why.Refused f) (other, is, fault) =
@@ -96,6 +98,7 @@ inserted_certain old new task w has none done = by w (insert_due old new task w 
 
     by : (w : Why) → IsInsertDue task old w → IsDoneOrWanting w
     by why.Done due = tt
+    by (why.Warned m) due = absurd due
     by (why.Usage u) due = absurd due
     by (why.Picture p) due = absurd due
     by (why.Refused f) due = absurd (refused f due)
@@ -151,33 +154,63 @@ no_scans_fault old own_sequential scans f told has = absurd has
 no_scans_fault old own_progressive scans f told has = absurd has
 no_scans_fault old (in_file file) scans f (script, told, e) has = no_script_fault old file script f told has
 
-pub turned_certain : (a : TransformAsked) (old new : DeskState) (w : Why) → HasPicture a old → NoneRose old.counts new.counts → Transformed a old w new → IsDoneOrWanting w
+-- a file that means a picture has no fault
+pub none_faulty : (bytes : List ℕ) (M : Meaning) (f : FaultAt) → IsMeaning standard_limits bytes M → IsRefused bytes f → ⊥
+none_faulty bytes M f (inl means) fault = means_no_fault standard_limits bytes M f.fault f.at means fault
+none_faulty bytes M f (inr means) fault = early_no_fault standard_limits bytes f.fault f.at means.0 fault
+
+-- what is meant is meant once, in one way
+
+pub meaning_of_as : (early : Option ℕ) (bytes : List ℕ) (M : Meaning) → MeansAs standard_limits early bytes M → IsMeaning standard_limits bytes M
+meaning_of_as None bytes M means = inl means
+meaning_of_as (Some n) bytes M means = inr means.0
+
+as_once : (early other : Option ℕ) (bytes more : List ℕ) (M N : Meaning) → MeansAs standard_limits early bytes M → MeansAs standard_limits other more N → more ≡ bytes → M ≡ N
+as_once early other bytes more M N h k same =
+    meaning_once standard_limits bytes M N (meaning_of_as early bytes M h) (subst (λ (b : List ℕ). IsMeaning standard_limits b N) same (meaning_of_as other more N k))
+
+done_once : (early : Option ℕ) (bytes more : List ℕ) (M N : Meaning) → MeansAs standard_limits early bytes M → Means standard_limits more N → more ≡ bytes → IsDoneAsOrWanting early why.Done
+done_once None bytes more M N h k same = tt
+done_once (Some n) bytes more M N h k same = absurd (means_not_early standard_limits bytes N M (subst (λ (b : List ℕ). Means standard_limits b N) same k) h.0)
+
+warned_once : (early : Option ℕ) (bytes more : List ℕ) (M N : Meaning) (m : ℕ) → MeansAs standard_limits early bytes M → MeansAs standard_limits (Some m) more N → more ≡ bytes → IsDoneAsOrWanting early (why.Warned m)
+warned_once None bytes more M N m h k same = absurd (means_not_early standard_limits bytes M N h (subst (λ (b : List ℕ). MeansEarly standard_limits b N) same k.0))
+warned_once (Some n) bytes more M N m h k same = k.1 ∙ ap length same ∙ sym h.1
+
+wanting : (early : Option ℕ) → IsDoneAsOrWanting early why.NoMemory
+wanting None = tt
+wanting (Some n) = tt
+
+pub turned_certain : (a : TransformAsked) (old new : DeskState) (w : Why) → (has : HasPicture a old) → NoneRose old.counts new.counts → Transformed a old w new → IsDoneAsOrWanting has.early w
 turned_certain a old new w has none turned = by w (due_answer a old new w none turned)
   where
     input : Name
     input = name_of a.files.input
 
     refused : (f : FaultAt) (other : List ℕ) → other ≡ has.bytes → IsRefused other f → ⊥
-    refused f other same fault =
-        means_no_fault standard_limits has.bytes has.meaning f.fault f.at has.means (subst (λ (b : List ℕ). IsFirstFault standard_limits b f.fault f.at) same fault)
+    refused f other same fault = none_faulty has.bytes has.meaning f (meaning_of_as has.early has.bytes has.meaning has.means) (subst (λ (b : List ℕ). IsRefused b f) same fault)
 
     due_refused : (f : FaultAt) → IsRefusalDue a f old → ⊥
     due_refused f (inl fault) = no_scans_fault old a.scans has.scans f has.asked fault
     due_refused f (inr (scans, is, due)) = refused f due.bytes (one_file old.files input has.bytes due.bytes has.told due.file) (refused_alone due.bytes f due.refused)
 
-    by : (w : Why) → IsAnswerDue a old w → IsDoneOrWanting w
-    by why.Done due = tt
-    by (why.Usage u) due = absurd due
-    by (why.Picture p) due =
+    picture : (p : PictureFault) (early : Option ℕ) → PictureDue a (Some p) early old → ⊥
+    picture p early due =
         let k = due.picture in
         let scans = same_scans old a.scans has.scans due.scans has.asked due.asked in
-        let same = (means_once standard_limits has.bytes k.bytes has.meaning k.meaning has.means k.means (sym (one_file old.files input has.bytes k.bytes has.told k.file))).0 in
-        absurd (no_fault p (sym has.admitted ∙ ap (λ (s : Scans). picture_fault (choice_asked a s) has.meaning) (sym scans) ∙ ap (λ (M : Meaning). picture_fault (choice_asked a due.scans) M) same ∙ due.is))
+        let same = as_once has.early early has.bytes k.bytes has.meaning k.meaning has.means k.means (one_file old.files input has.bytes k.bytes has.told k.file) in
+        no_fault p (sym has.admitted ∙ ap (λ (s : Scans). picture_fault (choice_asked a s) has.meaning) (sym scans) ∙ ap (λ (M : Meaning). picture_fault (choice_asked a due.scans) M) same ∙ due.is)
+
+    by : (w : Why) → IsAnswerDue a old w → IsDoneAsOrWanting has.early w
+    by why.Done due = let k = due.picture in done_once has.early has.bytes k.bytes has.meaning k.meaning has.means k.means (one_file old.files input has.bytes k.bytes has.told k.file)
+    by (why.Warned m) due = let k = due.picture in warned_once has.early has.bytes k.bytes has.meaning k.meaning m has.means k.means (one_file old.files input has.bytes k.bytes has.told k.file)
+    by (why.Usage u) due = absurd due
+    by (why.Picture p) due = absurd (picture p due.0 due.1)
     by (why.Refused f) due = absurd (due_refused f due)
     by (why.OpenFault u) due = absurd due
     by (why.ReadFault u) due = absurd due
     by why.WriteFault due = absurd due
-    by why.NoMemory due = tt
+    by why.NoMemory due = wanting has.early
 
 -- SHOWN
 
@@ -185,29 +218,30 @@ none_out : (f : FaultAt) → None ≡ Some f.fault → ⊥
 none_out f e = cc
 
 -- a file whose picture is shown is refused with nothing
-pub none_unshown : (gray : Bool) (bytes : List ℕ) (M : Meaning) (f : FaultAt) → Means standard_limits bytes M → out_fault gray M ≡ None → IsRefusedFor (Image gray) bytes f → ⊥
-none_unshown gray bytes M f means shown (inl (fault, later)) = means_no_fault standard_limits bytes M f.fault f.at means fault
+pub none_unshown : (gray : Bool) (bytes : List ℕ) (M : Meaning) (f : FaultAt) → IsMeaning standard_limits bytes M → out_fault gray M ≡ None → IsRefusedFor (Image gray) bytes f → ⊥
+none_unshown gray bytes M f means shown (inl (fault, later)) = none_faulty bytes M f means fault
 none_unshown gray bytes M f means shown (inr (out, later)) = none_out f (sym shown ∙ (shown_alike standard_limits gray bytes M means).same f out)
 
-pub shown_certain : (s : Showing) (old new : DeskState) (w : Why) → HasImage s old → NoneRose old.counts new.counts → Shown s old w new → IsDoneOrWanting w
+pub shown_certain : (s : Showing) (old new : DeskState) (w : Why) → (has : HasImage s old) → NoneRose old.counts new.counts → Shown s old w new → IsDoneAsOrWanting has.early w
 shown_certain s old new w has none shown = by w (show_due s old new w none shown)
   where
     refused : (f : FaultAt) (other : List ℕ) → other ≡ has.bytes → IsRefusedFor (Image s.gray) other f → ⊥
     refused f other same fault =
-        none_unshown s.gray has.bytes has.meaning f has.means has.shown (subst (λ (b : List ℕ). IsRefusedFor (Image s.gray) b f) same fault)
+        none_unshown s.gray has.bytes has.meaning f (meaning_of_as has.early has.bytes has.meaning has.means) has.shown (subst (λ (b : List ℕ). IsRefusedFor (Image s.gray) b f) same fault)
 
-    by : (w : Why) → IsShowDue s old w → IsDoneOrWanting w
-    by why.Done due = tt
+    by : (w : Why) → IsShowDue s old w → IsDoneAsOrWanting has.early w
+    by why.Done due = let k = due.picture in done_once has.early has.bytes k.bytes has.meaning k.meaning has.means k.means (one_file old.files s.input has.bytes k.bytes has.told k.file)
+    by (why.Warned m) due = let k = due.picture in warned_once has.early has.bytes k.bytes has.meaning k.meaning m has.means k.means (one_file old.files s.input has.bytes k.bytes has.told k.file)
     by (why.Usage u) due = absurd due
     by (why.Picture p) due = absurd due
     by (why.Refused f) due = absurd (refused f due.bytes (one_file old.files s.input has.bytes due.bytes has.told due.file) due.refused)
     by (why.OpenFault u) due = absurd due
     by (why.ReadFault u) due = absurd due
     by why.WriteFault due = absurd due
-    by why.NoMemory due = tt
+    by why.NoMemory due = wanting has.early
 
 -- AND TURNED BACK
 
 pub turned_back : (t : Transform) (M : Meaning) (w : WasTurnedBack t M) → MeanSame (text_back w) M
 turned_back t M w =
-    (moved w.turning.choice w.turned.0, w.turned.3, moved_back w.turned.0 M t w.turning.choice w.made.whole w.back.transform w.back.untrimmed w.back.ungrayed w.made.same)
+    (moved w.turning.choice w.picture, w.turned.2, moved_back w.picture M t w.turning.choice w.made.whole w.back.transform w.back.untrimmed w.back.ungrayed w.made.same)

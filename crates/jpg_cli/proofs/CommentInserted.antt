@@ -108,6 +108,7 @@ writes task comment bytes text old now Is w is = record {
 due_first : (task : Task) (comment bytes text : List ℕ) (old now : DeskState) (due : Option Why) (c : Insert) → 0 < length text → AfterFed comment task.replace bytes text due c → IsWriting task comment bytes text old now → AfterBegin task comment old due c now
 due_first task comment bytes text old now None c some h w = (bytes, text, some, h, w)
 due_first task comment bytes text old now (Some why.Done) c some h w = absurd h
+due_first task comment bytes text old now (Some (why.Warned n)) c some h w = absurd h
 due_first task comment bytes text old now (Some (why.Usage u)) c some h w = absurd h
 due_first task comment bytes text old now (Some (why.Picture p)) c some h w = absurd h
 due_first task comment bytes text old now (Some (why.Refused f)) c some (of, inl (none, faults)) w = absurd (not_none text none some)
@@ -168,6 +169,7 @@ ends task comment bytes text old s0 s1 w ended k h = by ended h
 
     by : (ended : Why) → EndsInserting comment task.replace (begun task comment bytes text old s0 w) ended s1 → Inserted task old ended s1
     by why.Done h = (copies (λ with. IsInsertedWhole with task.replace) h.0, h.1)
+    by (why.Warned n) h = absurd h
     by (why.Usage u) h = absurd h
     by (why.Picture p) h = absurd h
     by (why.Refused f) h = inr (inr (copies (λ with. IsLongFile with task.replace f (rest_of s1.left)) h))
@@ -213,6 +215,7 @@ out_of_memory task comment bytes old now r =
 
 pub ended_before : (task : Task) (comment bytes : List ℕ) (old s0 s1 : DeskState) (w : Why) → IsReading task comment bytes old s0 → OnlyReads s0 s1 → EndsBefore bytes s0 w s1 → Inserted task old w s1
 ended_before task comment bytes old s0 s1 why.Done r k h = absurd h
+ended_before task comment bytes old s0 s1 (why.Warned n) r k h = absurd h
 ended_before task comment bytes old s0 s1 (why.Usage u) r k h = absurd h
 ended_before task comment bytes old s0 s1 (why.Picture p) r k h = absurd h
 ended_before task comment bytes old s0 s1 (why.Refused f) r k (piece, more, most, is) =
@@ -333,6 +336,7 @@ comment_only task old now bytes k h =
 
 pub not_begun : (task : Task) (old now : DeskState) (bytes : List ℕ) (w : Why) → Keeps old now → AfterComment old task.comment (Ok bytes) now → IsBegunWith bytes task.replace (Err w) → Inserted task old w now
 not_begun task old now bytes why.Done k h b = absurd b
+not_begun task old now bytes (why.Warned n) k h b = absurd b
 not_begun task old now bytes (why.Usage u) k h b = absurd b
 not_begun task old now bytes (why.Picture p) k h b = absurd b
 not_begun task old now bytes (why.Refused f) k h b = comment_long task old now bytes f k h b.0 b.1 b.2
@@ -346,6 +350,7 @@ not_begun task old now bytes why.NoMemory k h b = comment_only task old now byte
 file_untaken : (task : Task) (old now : DeskState) (file : Name) (w : Why) → is_given task.comment ≡ false → names_of task.comment ≡ file ∷ [] → ((bytes : List ℕ) → IsFile old.files file bytes → IsComment old task.comment bytes)
     → (ReadsPart 65001 file old now → ReadsComment task.comment old now) → Keeps old now → AfterFile file 65001 which.Comment old (Err w) now → Inserted task old w now
 file_untaken task old now file why.Done from same is part k h = absurd h
+file_untaken task old now file (why.Warned n) from same is part k h = absurd h
 file_untaken task old now file (why.Usage u) from same is part k h = absurd h
 file_untaken task old now file (why.Picture p) from same is part k h = absurd h
 file_untaken task old now file (why.Refused f) from same is part k h = absurd h
@@ -374,6 +379,7 @@ nothing_asked task old now k same = inl (record { count = 0; stopped = record { 
 
 words_untaken : (task : Task) (old now : DeskState) (text : List ℕ) (w : Why) → Keeps old now → AfterWords old text (Err w) now → Inserted task old w now
 words_untaken task old now text why.Done k h = absurd h
+words_untaken task old now text (why.Warned n) k h = absurd h
 words_untaken task old now text (why.Usage u) k h = absurd h
 words_untaken task old now text (why.Picture p) k h = absurd h
 words_untaken task old now text (why.Refused f) k h = absurd h

@@ -91,6 +91,7 @@ copied_still start s0 s1 bytes text h left outputs = record { most = h.most; rea
 pub next_due : (start s2 : DeskState) (bytes text piece all : List ℕ) (due : Option Why) (c : Comments) → 0 < length piece → AfterTaking (bytes ++ piece) all due c → HasCopied start (bytes ++ piece) all s2 → AfterNext start bytes due c s2
 next_due start s2 bytes text piece all None c some h k = (piece, all, some, h, k)
 next_due start s2 bytes text piece all (Some why.Done) c some h k = (bytes ++ piece, all, k, h)
+next_due start s2 bytes text piece all (Some (why.Warned n)) c some h k = absurd h
 next_due start s2 bytes text piece all (Some (why.Usage u)) c some h k = absurd h
 next_due start s2 bytes text piece all (Some (why.Picture p)) c some h k = absurd h
 next_due start s2 bytes text piece all (Some (why.Refused f)) c some h k = (bytes ++ piece, all, k, h (rest_of s2.left))
@@ -113,6 +114,7 @@ next_unwritten start s0 s1 s2 bytes text piece more due c most e still fell h ha
 
 pub next_end : (start s0 s1 : DeskState) (bytes text : List ℕ) (w : Why) → HasCopied start bytes text s0 → IsAtEnd s0.left → s1.left ≡ s0.left → s1.outputs ≡ s0.outputs → AfterEnd bytes text w → EndsCopying start w s1
 next_end start s0 s1 bytes text why.Done had end left outputs h = absurd h
+next_end start s0 s1 bytes text (why.Warned n) had end left outputs h = absurd h
 next_end start s0 s1 bytes text (why.Usage u) had end left outputs h = absurd h
 next_end start s0 s1 bytes text (why.Picture p) had end left outputs h = absurd h
 next_end start s0 s1 bytes text (why.Refused f) had end left outputs h =

@@ -43,6 +43,7 @@ prints_from s0 s1 s2 s3 input output Is h k w c =
 
 pub printed_from : (s0 s1 s2 s3 : DeskState) (input output : Name) (w : Why) → Opens s0 input put.Done s1 → Creates s1 output put.Done s2 → OnlyCopies s2 s3 → EndsCopying s2 w s3 → Printed input output s0 w s3
 printed_from s0 s1 s2 s3 input output why.Done h k c e = prints_from s0 s1 s2 s3 input output IsWholeText h k c e
+printed_from s0 s1 s2 s3 input output (why.Warned n) h k c e = absurd e
 printed_from s0 s1 s2 s3 input output (why.Usage u) h k c e = absurd e
 printed_from s0 s1 s2 s3 input output (why.Picture p) h k c e = absurd e
 printed_from s0 s1 s2 s3 input output (why.Refused f) h k c e = prints_from s0 s1 s2 s3 input output (IsFaultText f (rest_of s3.left)) h k c e
@@ -65,6 +66,7 @@ printed_from s0 s1 s2 s3 input output why.NoMemory h k c e = prints_from s0 s1 s
 
 pub printed_then : (s0 s1 s2 : DeskState) (input output : Name) (w : Why) → OnlySays s1 s2 → Printed input output s0 w s1 → Printed input output s0 w s2
 printed_then s0 s1 s2 input output why.Done k h = copied_then s0 s1 s2 [] input output IsWholeText k h
+printed_then s0 s1 s2 input output (why.Warned n) k h = absurd h
 printed_then s0 s1 s2 input output (why.Usage u) k h = absurd h
 printed_then s0 s1 s2 input output (why.Picture p) k h = absurd h
 printed_then s0 s1 s2 input output (why.Refused f) k h =
@@ -102,6 +104,7 @@ whole_due s0 s1 input output h =
 
 pub print_due : (s0 s1 : DeskState) (input output : Name) (w : Why) → NoneRose s0.counts s1.counts → Printed input output s0 w s1 → IsPrintDue input s0 w
 print_due s0 s1 input output why.Done n h = whole_due s0 s1 input output h
+print_due s0 s1 input output (why.Warned m) n h = absurd h
 print_due s0 s1 input output (why.Usage u) n h = absurd h
 print_due s0 s1 input output (why.Picture p) n h = absurd h
 print_due s0 s1 input output (why.Refused f) n h = (h.bytes ++ rest_of s1.left, h.read.1, h.is.fault)

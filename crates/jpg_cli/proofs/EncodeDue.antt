@@ -40,6 +40,7 @@ encoded_due : (a : EncodeAsked) (scans : Scans) (tables : Option (List QuantTabl
     → Encoded (task_after before a scans tables) s0 w s1 → IsDueOrNoMemory a s0 w
 encoded_due a scans tables before s0 s1 why.Done has told n (I, read, wrote, means) =
     inl (record { scans = scans; tables = tables; image = I; asked = has; told = told; input = image_in a scans tables before I s0 s1 read.read; is = read.admitted })
+encoded_due a scans tables before s0 s1 (why.Warned m) has told n h = absurd h
 encoded_due a scans tables before s0 s1 (why.Usage u) has told n h = absurd h
 encoded_due a scans tables before s0 s1 (why.Refused f) has told n h =
     inl (by_input scans tables has told (record { bytes = h.1.bytes ++ rest_of s1.left; file = h.1.read; is = h.1.is.is }))
@@ -61,6 +62,7 @@ encoded_due a scans tables before s0 s1 why.NoMemory has told n h = inr refl
 tables_due : (a : EncodeAsked) (source : Option (List ℕ)) (scans : Scans) (before : List Name) (s0 s1 : DeskState) (w : Why) → source ≡ a.tables → HasScans a.scans s0 scans → NoneRose s0.counts s1.counts → StopsAtTables before source s0 w s1 → IsDueOrNoMemory a s0 w
 tables_due a None scans before s0 s1 w e has n h = absurd h
 tables_due a (Some file) scans before s0 s1 why.Done e has n h = absurd h
+tables_due a (Some file) scans before s0 s1 (why.Warned m) e has n h = absurd h
 tables_due a (Some file) scans before s0 s1 (why.Usage u) e has n h = absurd h
 tables_due a (Some file) scans before s0 s1 (why.Refused f) e has n h = inl (by_tables scans has (subst (λ (source : Option (List ℕ)). HasTablesFault source s0 f) e h.fault))
 tables_due a (Some file) scans before s0 s1 (why.Picture p) e has n h = absurd h
@@ -81,6 +83,7 @@ scans_due : (a : EncodeAsked) (source : ScansSource) (s0 s1 : DeskState) (w : Wh
 scans_due a own_sequential s0 s1 w e n h = absurd h
 scans_due a own_progressive s0 s1 w e n h = absurd h
 scans_due a (in_file file) s0 s1 why.Done e n h = absurd h
+scans_due a (in_file file) s0 s1 (why.Warned m) e n h = absurd h
 scans_due a (in_file file) s0 s1 (why.Usage u) e n h = absurd h
 scans_due a (in_file file) s0 s1 (why.Refused f) e n h = inl (by_scans (subst (λ (source : ScansSource). HasScansFault source s0 f) e h.fault))
 scans_due a (in_file file) s0 s1 (why.Picture p) e n h = absurd h
@@ -219,21 +222,25 @@ due_once a s (why.Refused f) (why.Picture q) t h k = absurd (not_refused a s (So
 due_once a s (why.Picture p) why.Done t h k = absurd (some_none p (fault_once a s (Some p) None t h k))
 due_once a s (why.Picture p) (why.Refused g) t h k = absurd (not_refused a s (Some p) g t h k)
 due_once a s (why.Picture p) (why.Picture q) t h k = ap (λ (x : PictureFault). why.Picture x) (some_once q p (fault_once a s (Some p) (Some q) t h k))
+due_once a s (why.Warned m) w t h k = absurd h
 due_once a s (why.Usage u) w t h k = absurd h
 due_once a s (why.OpenFault u) w t h k = absurd h
 due_once a s (why.ReadFault u) w t h k = absurd h
 due_once a s why.WriteFault w t h k = absurd h
 due_once a s why.NoMemory w t h k = absurd h
+due_once a s why.Done (why.Warned m) t h k = absurd k
 due_once a s why.Done (why.Usage u) t h k = absurd k
 due_once a s why.Done (why.OpenFault u) t h k = absurd k
 due_once a s why.Done (why.ReadFault u) t h k = absurd k
 due_once a s why.Done why.WriteFault t h k = absurd k
 due_once a s why.Done why.NoMemory t h k = absurd k
+due_once a s (why.Refused f) (why.Warned m) t h k = absurd k
 due_once a s (why.Refused f) (why.Usage u) t h k = absurd k
 due_once a s (why.Refused f) (why.OpenFault u) t h k = absurd k
 due_once a s (why.Refused f) (why.ReadFault u) t h k = absurd k
 due_once a s (why.Refused f) why.WriteFault t h k = absurd k
 due_once a s (why.Refused f) why.NoMemory t h k = absurd k
+due_once a s (why.Picture p) (why.Warned m) t h k = absurd k
 due_once a s (why.Picture p) (why.Usage u) t h k = absurd k
 due_once a s (why.Picture p) (why.OpenFault u) t h k = absurd k
 due_once a s (why.Picture p) (why.ReadFault u) t h k = absurd k

@@ -4,7 +4,7 @@ use Rattle.jpg_base.specs.declared.names.Name.{Name}
 use Rattle.jpg_base.specs.declared.names.Name.TheVariants as name
 use Rattle.jpg_base.specs.Desk.{DeskState}
 use Rattle.jpg_spec.specs.Segments.{standard_limits}
-use Rattle.jpg_spec.specs.FileMeaning.{Means}
+use Rattle.jpg_spec.specs.Early.{IsMeaning}
 use Rattle.jpg_spec.specs.Meaning.{Meaning}
 use Rattle.jpg_spec.specs.Moved.{Scans, picture_fault}
 use Rattle.jpg_spec.specs.Script.{Entry}
@@ -23,8 +23,8 @@ use Rattle.jpg_cli.specs.Showing.{Showing, Shown}
 use Rattle.jpg_cli.specs.Turned.{Transformed}
 use Rattle.jpg_cli.specs.declared.read_picture.Wanted.TheVariants.{Coefficients, Image}
 use Rattle.jpg_scans.proofs.OneScript.{one_answer}
-use Rattle.jpg_spec.proofs.FileLaws.{means_no_fault, means_once}
-use Rattle.jpg_cli.proofs.Certain.{no_scans_fault, none_unshown, one_file, refused_alone, same_scans}
+use Rattle.jpg_spec.proofs.EarlyOnce.{meaning_once}
+use Rattle.jpg_cli.proofs.Certain.{meaning_of_as, no_scans_fault, none_faulty, none_unshown, one_file, refused_alone, same_scans}
 use Rattle.jpg_cli.proofs.Ending.{due_answer, show_due}
 use Rattle.jpg_cli.proofs.OneRefusal.{refused_for_one}
 
@@ -61,8 +61,9 @@ script_answered a f old new w has none turned = by w (due_answer a old new w non
 
     by : (w : Why) → IsAnswerDue a old w → IsOrNoMemory (why.Refused f) w
     by why.Done due = absurd (script_no_scans old a.scans f due.scans has due.asked)
+    by (why.Warned m) due = absurd (script_no_scans old a.scans f due.scans has due.asked)
     by (why.Usage u) due = absurd due
-    by (why.Picture p) due = absurd (script_no_scans old a.scans f due.scans has due.asked)
+    by (why.Picture p) (early, due) = absurd (script_no_scans old a.scans f due.scans has due.asked)
     by (why.Refused g) due = refused g due
     by (why.OpenFault u) due = absurd due
     by (why.ReadFault u) due = absurd due
@@ -71,11 +72,14 @@ script_answered a f old new w has none turned = by w (due_answer a old new w non
 
 -- THE INPUT has one
 
+-- the input that is told means what it means
+meant_there : (old : DeskState) (input : Name) (bytes : List ℕ) (early : Option ℕ) → IsTold old.files input bytes → (k : PictureInput input early old) → IsMeaning standard_limits bytes k.meaning
+meant_there old input bytes early told k =
+    subst (λ (b : List ℕ). IsMeaning standard_limits b k.meaning) (one_file old.files input bytes k.bytes told k.file) (meaning_of_as early k.bytes k.meaning k.means)
+
 -- a picture that the input means is none that it is refused for
-no_picture : (old : DeskState) (input : Name) (bytes : List ℕ) (f : FaultAt) → IsTold old.files input bytes → IsRefusedFor Coefficients bytes f → PictureInput input old → ⊥
-no_picture old input bytes f told refused k =
-    let same = one_file old.files input bytes k.bytes told k.file in
-    means_no_fault standard_limits bytes k.meaning f.fault f.at (subst (λ (b : List ℕ). Means standard_limits b k.meaning) same k.means) (refused_alone bytes f refused)
+no_picture : (old : DeskState) (input : Name) (bytes : List ℕ) (f : FaultAt) (early : Option ℕ) → IsTold old.files input bytes → IsRefusedFor Coefficients bytes f → PictureInput input early old → ⊥
+no_picture old input bytes f early told refused k = none_faulty bytes k.meaning f (meant_there old input bytes early told k) (refused_alone bytes f refused)
 
 pub input_answered : (a : TransformAsked) (f : FaultAt) (old new : DeskState) (w : Why) → HasFaultyInput a f old → NoneRose old.counts new.counts → Transformed a old w new → IsOrNoMemory (why.Refused f) w
 input_answered a f old new w has none turned = by w (due_answer a old new w none turned)
@@ -93,9 +97,10 @@ input_answered a f old new w has none turned = by w (due_answer a old new w none
         inl (ap (λ (x : FaultAt). why.Refused x) (same_fault g due.bytes (one_file old.files input has.bytes due.bytes has.told due.file) due.refused))
 
     by : (w : Why) → IsAnswerDue a old w → IsOrNoMemory (why.Refused f) w
-    by why.Done due = absurd (no_picture old input has.bytes f has.told has.refused due.picture)
+    by why.Done due = absurd (no_picture old input has.bytes f None has.told has.refused due.picture)
+    by (why.Warned m) due = absurd (no_picture old input has.bytes f (Some m) has.told has.refused due.picture)
     by (why.Usage u) due = absurd due
-    by (why.Picture p) due = absurd (no_picture old input has.bytes f has.told has.refused due.picture)
+    by (why.Picture p) (early, due) = absurd (no_picture old input has.bytes f early has.told has.refused due.picture)
     by (why.Refused g) due = refused g due
     by (why.OpenFault u) due = absurd due
     by (why.ReadFault u) due = absurd due
@@ -117,10 +122,10 @@ picture_answered a f old new w has none turned = by w (due_answer a old new w no
     input = name_of a.files.input
 
     -- what is found of the picture is what it has
-    found : (o : Option PictureFault) (scans : Scans) (k : PictureInput input old) → HasScans a.scans old scans → picture_fault (choice_asked a scans) k.meaning ≡ o → o ≡ Some f
-    found o scans k is fault =
+    found : (o : Option PictureFault) (scans : Scans) (early : Option ℕ) (k : PictureInput input early old) → HasScans a.scans old scans → picture_fault (choice_asked a scans) k.meaning ≡ o → o ≡ Some f
+    found o scans early k is fault =
         let one = same_scans old a.scans has.scans scans has.asked is in
-        let same = (means_once standard_limits has.bytes k.bytes has.meaning k.meaning has.means k.means (sym (one_file old.files input has.bytes k.bytes has.told k.file))).0 in
+        let same = meaning_once standard_limits has.bytes has.meaning k.meaning has.means (meant_there old input has.bytes early has.told k) in
         sym fault ∙ ap (λ (M : Meaning). picture_fault (choice_asked a scans) M) (sym same) ∙ ap (λ (s : Scans). picture_fault (choice_asked a s) has.meaning) one ∙ has.faulty
 
     refused : (g : FaultAt) → IsRefusalDue a g old → ⊥
@@ -128,12 +133,13 @@ picture_answered a f old new w has none turned = by w (due_answer a old new w no
     refused g (inr (scans, is, due)) =
         let same = one_file old.files input has.bytes due.bytes has.told due.file in
         let fault : IsRefused has.bytes g = subst (λ (b : List ℕ). IsRefused b g) same (refused_alone due.bytes g due.refused) in
-        means_no_fault standard_limits has.bytes has.meaning g.fault g.at has.means fault
+        none_faulty has.bytes has.meaning g has.means fault
 
     by : (w : Why) → IsAnswerDue a old w → IsOrNoMemory (why.Picture f) w
-    by why.Done due = absurd (some_none f (found None due.scans due.picture due.asked due.is))
+    by why.Done due = absurd (some_none f (found None due.scans None due.picture due.asked due.is))
+    by (why.Warned m) due = absurd (some_none f (found None due.scans (Some m) due.picture due.asked due.is))
     by (why.Usage u) due = absurd due
-    by (why.Picture p) due = inl (ap (λ (x : PictureFault). why.Picture x) (some_once p f (found (Some p) due.scans due.picture due.asked due.is)))
+    by (why.Picture p) (early, due) = inl (ap (λ (x : PictureFault). why.Picture x) (some_once p f (found (Some p) due.scans early due.picture due.asked due.is)))
     by (why.Refused g) due = absurd (refused g due)
     by (why.OpenFault u) due = absurd due
     by (why.ReadFault u) due = absurd due
@@ -150,10 +156,8 @@ image_answered s f old new w has none shown = by w (show_due s old new w none sh
         refused_for_one (Image s.gray) has.bytes g f (subst (λ (b : List ℕ). IsRefusedFor (Image s.gray) b g) same refused) has.refused
 
     by : (w : Why) → IsShowDue s old w → IsOrNoMemory (why.Refused f) w
-    by why.Done due =
-        let k = due.picture in
-        let same = one_file old.files s.input has.bytes k.bytes has.told k.file in
-        absurd (none_unshown s.gray has.bytes k.meaning f (subst (λ (b : List ℕ). Means standard_limits b k.meaning) same k.means) due.shown has.refused)
+    by why.Done due = absurd (none_unshown s.gray has.bytes due.picture.meaning f (meant_there old s.input has.bytes None has.told due.picture) due.shown has.refused)
+    by (why.Warned m) due = absurd (none_unshown s.gray has.bytes due.picture.meaning f (meant_there old s.input has.bytes (Some m) has.told due.picture) due.shown has.refused)
     by (why.Usage u) due = absurd due
     by (why.Picture p) due = absurd due
     by (why.Refused g) due =

@@ -24,9 +24,10 @@ use Rattle.jpg_spec.proofs.FirstScan.{header_stands}
 use Rattle.jpg_spec.proofs.OneHeader.{whole_once}
 use Rattle.jpg_file.specs.FirstHead.{IsHeadOf}
 use Rattle.jpg_file.specs.ReadFile.{IsStopOf, KeepsHeadAt, StopsAt, head_seen}
-use Rattle.jpg_file.specs.ReadRows.{AfterFeedRow, EndsDoneRow, HasBegunRows, HasReadAll, HasReadPlainly, HasReadSoFar, IsDonePlainly, RowReaderState, whole_reader}
+use Rattle.jpg_file.specs.ReadRows.{AfterEndRow, AfterFeedRow, EndsDoneRow, HasBegunRows, HasReadAll, HasReadPlainly, HasReadSoFar, IsDonePlainly, RowReaderState, whole_reader}
 use Rattle.jpg_file.specs.RowsKnown.{TellsStrip}
 use Rattle.jpg_file.specs.RowsNone.{HasNoRows}
+use Rattle.jpg_file.specs.declared.ends.End.TheVariants as ends
 use Rattle.jpg_file.specs.declared.row_reader.FedRow.{FedRow}
 use Rattle.jpg_file.specs.declared.row_reader.FedRow.TheVariants as fed
 use Rattle.jpg_file.specs.declared.rows.RowWork.{RowWork}
@@ -35,9 +36,9 @@ use Rattle.jpg_spec.specs.Geometry.{Frame}
 use Rattle.jpg_spec.specs.Scan.{Blocks}
 use Rattle.jpg_cli.specs.ReadPicture.{AfterFileEnd, IsRefusedFor, IsRefusedRead, IsUnwanted, unwanted_in}
 use Rattle.jpg_cli.specs.Showing.{IsShownByRows}
-use Rattle.jpg_cli.specs.ShowingRows.{AfterFirst, BeginsRows, HasFedPlainly, HoldsPlainly, IsHeadIn, StaysFirst, step_of}
+use Rattle.jpg_cli.specs.ShowingRows.{AfterFirst, BeginsRows, HasFedPlainly, HoldsEarlyPlainly, HoldsPlainly, IsHeadIn, StaysFirst, step_of}
 use Rattle.jpg_cli.specs.declared.read_picture.Wanted.TheVariants.{Image}
-use Rattle.jpg_cli.proofs.PictureBytes.{has_fed, holds_file, new_place, refused_end, refused_there, short_piece, stop_within}
+use Rattle.jpg_cli.proofs.PictureBytes.{early_end, has_fed, holds_file, new_place, refused_end, refused_there, short_piece, stop_within}
 use Rattle.jpg_cli.proofs.RowHeads.{begins_still, begins_whole, shown_before}
 use Rattle.jpg_cli.proofs.Unwanted.{stop_wanted, unwanted_head, unwanted_more, unwanted_within, wanted_head}
 
@@ -303,11 +304,20 @@ fault_first gray bytes piece f r e short none out (stops, late, keeps, inr h) = 
 
 -- THE END
 
-pub read_all : (gray : Bool) (bytes : List ℕ) (old : RowReaderState) → old.limits ≡ standard_limits → HasFedPlainly gray old bytes → HasReadAll bytes old
-read_all gray bytes old e k = inl (record { none = k.none; plain = subst (λ (l : Limits). HasNoRows l bytes) (sym e) k.plain; read = (k.fed).read })
+pub read_all : (gray : Bool) (bytes : List ℕ) (old : RowReaderState) → old.limits ≡ standard_limits → HasFedPlainly gray old bytes → HasReadAll bytes 0 old
+read_all gray bytes old e k = inl (record { none = k.none; plain = subst (λ (l : Limits). HasNoRows l bytes) (sym e) k.plain; read = (k.fed).read }, refl)
 
 pub end_refused : (gray : Bool) (bytes : List ℕ) (old : RowReaderState) (f : FaultAt) → old.limits ≡ standard_limits → HasFedPlainly gray old bytes → StopsAt old.limits bytes (stop.Fault f) → AfterFileEnd (Image gray) bytes (why.Refused f)
 end_refused gray bytes old f e k s = refused_end (Image gray) bytes (whole_reader old) f e k.fed s
+
+pub end_early : (gray : Bool) (bytes : List ℕ) (old new : RowReaderState) (n : ℕ) → new.limits ≡ standard_limits → HasFedPlainly gray old bytes → AfterEndRow bytes 0 (ends.Early n) new → HoldsEarlyPlainly gray new n bytes
+end_early gray bytes old new n e k (count, inl (early, zero)) = record {
+  none = early.none;
+  plain = subst (λ (l : Limits). HasNoRows l bytes) e early.plain;
+  holds = early_end (Image gray) bytes (whole_reader old) (whole_reader new) n e k.fed (count, early.early);
+}
+end_early gray bytes old new n e k (count, inr early) =
+    let b = early.begun in absurd (k.plain b.before b.contents (subst (λ (l : Limits). BeginsScanOfAll l bytes b.before b.contents) e b.begins))
 
 -- BY THE ANSWER
 

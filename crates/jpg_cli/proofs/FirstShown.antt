@@ -1,5 +1,5 @@
 -- An input that ends before a scan of all components, or is whole without one, over the states that a desk tells.
-use Rattle.std.proofs.Common.{◌≡◌, ℕ, ◌≤◌, List, [], length, take, refl, ap, ◌∙◌, subst, arith, inl, None}
+use Rattle.std.proofs.Common.{◌≡◌, ℕ, ◌≤◌, List, [], length, take, refl, ap, ◌∙◌, subst, arith, inl, Option, None, Some}
 use Rattle.std.specs.Io.KnownBytes.{Consumes}
 use Rattle.jpg_base.specs.declared.names.Name.{Name}
 use Rattle.jpg_base.specs.declared.names.Put.TheVariants as put
@@ -14,29 +14,30 @@ use Rattle.jpg_spec.specs.declared.answers.Why.{Why}
 use Rattle.jpg_spec.specs.declared.answers.Why.TheVariants as why
 use Rattle.jpg_spec.specs.declared.answers.Which.TheVariants as which
 use Rattle.jpg_file.specs.File.{keeping_of}
-use Rattle.jpg_file.specs.PictureRead.{MeansFor, TakesPicture, picture_meaning}
+use Rattle.jpg_file.specs.PictureRead.{MeansFor, TakesEarly, TakesPicture, picture_meaning}
 use Rattle.jpg_file.specs.ReadFile.{ReaderState}
 use Rattle.jpg_file.proofs.KeepingLaws.{out_same}
 use Rattle.jpg_file.specs.ReadRows.{RowReaderState, whole_reader}
 use Rattle.jpg_file.specs.RowsNone.{HasNoRows}
 use Rattle.jpg_file.specs.declared.picture.Picture.{Picture}
 use Rattle.jpg_cli.specs.Reading.{rest_of}
-use Rattle.jpg_cli.specs.ReadPicture.{HoldsFile, IsOpenRead, IsRefusedRead, IsShortRead, IsWholeRead, ReadsFrom, Takes}
+use Rattle.jpg_cli.specs.ReadPicture.{HoldsFile, IsAllRead, IsOpenRead, IsRead, IsRefusedRead, IsShortRead, IsWholeRead, ReadsFrom, Takes, unwanted_for}
 use Rattle.jpg_cli.specs.Showing.{AfterImage, IsPlain, Shown, Showing, all_bytes, bytes_before, shown_text}
-use Rattle.jpg_cli.specs.ShowingRows.{EndsPlainly, HoldsPlainly}
+use Rattle.jpg_cli.specs.ShowingRows.{EndsPlainly, HoldsEarlyPlainly, HoldsPlainly}
 use Rattle.jpg_cli.specs.Stays.{Keeps, OnlyReads}
 use Rattle.jpg_cli.specs.declared.read_picture.Wanted.{Wanted}
 use Rattle.jpg_cli.specs.declared.read_picture.Wanted.TheVariants.{Image}
 use Rattle.jpg_cli.proofs.CommentsCopied.{none_read, works_then}
 use Rattle.jpg_cli.proofs.ImageShown.{shown_written, text_shown}
 use Rattle.jpg_cli.proofs.Input.{file_read, noted}
-use Rattle.jpg_cli.proofs.PictureTaken.{reads_from, reads_none, stopped_there}
+use Rattle.jpg_cli.proofs.PictureTaken.{early_meaning, early_taken, reads_from, reads_none, stopped_there}
 use Rattle.jpg_cli.proofs.Unwanted.{no_header}
 
 -- IT ENDS
 
 pub ends_plainly : (s : Showing) (old start new : DeskState) (ended : Why) → Opens old s.input put.Done start → OnlyReads start new → EndsPlainly s.gray start ended new → Shown s old ended new
 ends_plainly s old start new why.Done h k e = absurd e
+ends_plainly s old start new (why.Warned n) h k e = absurd e
 ends_plainly s old start new (why.Usage u) h k e = absurd e
 ends_plainly s old start new (why.Picture p) h k e = absurd e
 ends_plainly s old start new (why.Refused f) h k e =
@@ -78,16 +79,17 @@ whole_read w bytes r e h = record {
 }
 
 -- the picture that was taken of it means what the file means, but for markers that weren't kept
-pub record IsTaken (s : Showing) (start now : DeskState) (r : RowReaderState) (p : Picture) : Type 0 where
+pub record IsTaken (s : Showing) (early : Option ℕ) (start now : DeskState) (r : RowReaderState) (p : Picture) : Type 0 where
   pub meaning : Meaning
   pub means : MeansFor (keeping_of r.file) p meaning
   pub bytes : List ℕ
   pub read : Consumes start.left now.left bytes
   pub most : length bytes ≤ standard_limits.input
-  pub whole : IsWholeRead (Image s.gray) meaning bytes
+  pub is : IsRead (Image s.gray) meaning early bytes
+  pub all : IsAllRead early now
   pub plain : HasNoRows standard_limits bytes
 
-pub whole_taken : (s : Showing) (start now : DeskState) (r : RowReaderState) (p : Picture) → r.limits ≡ standard_limits → TakesPicture (whole_reader r) p → Takes (HoldsPlainly s.gray r) start now → IsTaken s start now r p
+pub whole_taken : (s : Showing) (start now : DeskState) (r : RowReaderState) (p : Picture) → r.limits ≡ standard_limits → TakesPicture (whole_reader r) p → Takes (HoldsPlainly s.gray r) start now → IsTaken s None start now r p
 whole_taken s start now r p e takes (bytes, read, most, h) =
     let done = (h.holds).done in
     record {
@@ -96,12 +98,30 @@ whole_taken s start now r p e takes (bytes, read, most, h) =
       bytes = bytes;
       read = read;
       most = most;
-      whole = whole_read (Image s.gray) bytes (whole_reader r) e h.holds;
+      is = whole_read (Image s.gray) bytes (whole_reader r) e h.holds;
+      all = tt;
       plain = h.plain;
     }
 
-pub taken_admitted : (s : Showing) (start now : DeskState) (r : RowReaderState) (p : Picture) → IsTaken s start now r p → out_fault s.gray (picture_meaning p) ≡ None
-taken_admitted s start now r p h = ap (out_fault s.gray) h.means ∙ out_same (keeping_of r.file) s.gray h.meaning ∙ (h.whole).wanted
+-- and so does what was taken of one that ended early
+pub cut_taken : (s : Showing) (n : ℕ) (start now : DeskState) (r : RowReaderState) (p : Picture) → r.limits ≡ standard_limits → TakesEarly (whole_reader r) p → Takes (HoldsEarlyPlainly s.gray r n) start now → rest_of now.left ≡ [] → IsTaken s (Some n) start now r p
+cut_taken s n start now r p e takes (bytes, read, most, h) all = record {
+  meaning = early_meaning h.holds;
+  means = takes bytes (h.holds).ended;
+  bytes = bytes;
+  read = read;
+  most = most;
+  is = early_taken (Image s.gray) bytes n (whole_reader r) e h.holds;
+  all = all;
+  plain = h.plain;
+}
+
+read_wanted : (w : Wanted) (M : Meaning) (early : Option ℕ) (bytes : List ℕ) → IsRead w M early bytes → unwanted_for w M ≡ None
+read_wanted w M None bytes h = h.wanted
+read_wanted w M (Some n) bytes h = h.wanted
+
+pub taken_admitted : (s : Showing) (early : Option ℕ) (start now : DeskState) (r : RowReaderState) (p : Picture) → IsTaken s early start now r p → out_fault s.gray (picture_meaning p) ≡ None
+taken_admitted s early start now r p h = ap (out_fault s.gray) h.means ∙ out_same (keeping_of r.file) s.gray h.meaning ∙ read_wanted (Image s.gray) h.meaning early h.bytes h.is
 
 pub keeps_after : (old start now : DeskState) (file : Name) → Opens old file put.Done start → OnlyReads start now → Keeps old now
 keeps_after old start now file h k = record {
@@ -110,10 +130,10 @@ keeps_after old start now file h k = record {
 }
 
 -- and its image was written
-pub taken_shown : (s : Showing) (old start now new : DeskState) (r : RowReaderState) (p : Picture) (ended : Why) → Opens old s.input put.Done start → OnlyReads start now → IsTaken s start now r p → new.left ≡ now.left
-    → AfterImage s.output now (end_text s.kind (info (picture_meaning p) s.gray) (pixels (picture_meaning p) s.gray s.smooth)) ended new → Shown s old ended new
-taken_shown s old start now new r p ended h k t left wrote =
-    let read : ReadsFrom s.input (IsWholeRead (Image s.gray) t.meaning) old now = record { bytes = t.bytes; read = file_read old.files s.input start.left now.left t.bytes h.after.2 t.read; most = t.most; is = t.whole } in
-    shown_written s t.meaning old now new ended
-    (record { kept = keeps_after old start now s.input h k; asked = noted old start now s.input h k; read = read; left = left; plain = t.plain })
-    (subst (λ (due : List ℕ). AfterImage s.output now due ended new) (ap (shown_text s) t.means ∙ text_shown s (keeping_of r.file) t.meaning) wrote)
+pub taken_shown : (s : Showing) (early : Option ℕ) (old start now new : DeskState) (r : RowReaderState) (p : Picture) (ended : Why) → Opens old s.input put.Done start → OnlyReads start now → IsTaken s early start now r p → new.left ≡ now.left
+    → AfterImage s.output early now (end_text s.kind (info (picture_meaning p) s.gray) (pixels (picture_meaning p) s.gray s.smooth)) ended new → Shown s old ended new
+taken_shown s early old start now new r p ended h k t left wrote =
+    let read : ReadsFrom s.input (IsRead (Image s.gray) t.meaning early) old now = record { bytes = t.bytes; read = file_read old.files s.input start.left now.left t.bytes h.after.2 t.read; most = t.most; is = t.is } in
+    shown_written s t.meaning early old now new ended
+    (record { kept = keeps_after old start now s.input h k; asked = noted old start now s.input h k; read = (read, t.all); left = left; plain = t.plain })
+    (subst (λ (due : List ℕ). AfterImage s.output early now due ended new) (ap (shown_text s) t.means ∙ text_shown s (keeping_of r.file) t.meaning) wrote)

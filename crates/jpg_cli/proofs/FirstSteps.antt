@@ -15,7 +15,7 @@ use Rattle.jpg_file.specs.RowsNone.{HasNoRows}
 use Rattle.jpg_cli.specs.Reading.{rest_of}
 use Rattle.jpg_cli.specs.ReadPicture.{AfterFileEnd, IsRefusedRead}
 use Rattle.jpg_cli.specs.Showing.{IsShownByRows}
-use Rattle.jpg_cli.specs.ShowingRows.{AfterFirst, AfterFirstRead, BeginsRows, EndsPlainly, HasFedPlainly}
+use Rattle.jpg_cli.specs.ShowingRows.{AfterFirst, AfterFirstEnd, AfterFirstRead, BeginsRows, EndsPlainly, HasFedPlainly}
 use Rattle.jpg_cli.specs.Stays.{OnlyReads}
 use Rattle.jpg_cli.specs.declared.read_picture.Wanted.TheVariants.{Image}
 use Rattle.jpg_cli.specs.declared.show.FirstStep.{FirstStep}
@@ -43,9 +43,10 @@ first_unread gray start s0 s1 bytes r e k still had rose left = (
 )
 
 -- THE END
-pub first_end : (gray : Bool) (start s0 s1 : DeskState) (bytes : List ℕ) (r : RowReaderState) (ended : Why) → HasFedPlainly gray r bytes → IsAtEnd s0.left → s1.left ≡ s0.left → Consumes start.left s0.left bytes → AfterFileEnd (Image gray) bytes ended
+first_end : (gray : Bool) (start s0 s1 : DeskState) (bytes : List ℕ) (r : RowReaderState) (ended : Why) → HasFedPlainly gray r bytes → IsAtEnd s0.left → s1.left ≡ s0.left → Consumes start.left s0.left bytes → AfterFileEnd (Image gray) bytes ended
     → EndsPlainly gray start ended s1
 first_end gray start s0 s1 bytes r why.Done k end left had h = absurd h
+first_end gray start s0 s1 bytes r (why.Warned n) k end left had h = absurd h
 first_end gray start s0 s1 bytes r (why.Usage u) k end left had h = absurd h
 first_end gray start s0 s1 bytes r (why.Picture p) k end left had h = absurd h
 first_end gray start s0 s1 bytes r (why.Refused f) k end left had h =
@@ -57,12 +58,23 @@ first_end gray start s0 s1 bytes r (why.ReadFault file) k end left had h = absur
 first_end gray start s0 s1 bytes r why.WriteFault k end left had h = absurd h
 first_end gray start s0 s1 bytes r why.NoMemory k end left had h = absurd h
 
+pub first_ends : (gray : Bool) (start s0 s1 : DeskState) (bytes buf : List ℕ) (r after : RowReaderState) (st : FirstStep) → HasFedPlainly gray r bytes → IsAtEnd s0.left → s1.left ≡ s0.left → Consumes start.left s0.left bytes → AfterFirstEnd gray bytes st after
+    → AfterFirstRead gray start bytes st buf after s1
+first_ends gray start s0 s1 bytes buf r after first.More k end left had h = absurd h
+first_ends gray start s0 s1 bytes buf r after first.Whole k end left had h = absurd h
+first_ends gray start s0 s1 bytes buf r after (first.Early n) k end left had h =
+    let short = (k.fed).short in
+    (((h.holds).ended).done, h.none, (bytes, left_still s0 s1 bytes start left had, omega (arith, short), h), ap rest_of left ∙ none_left s0.left end)
+first_ends gray start s0 s1 bytes buf r after (first.Rows count answer) k end left had h = absurd h
+first_ends gray start s0 s1 bytes buf r after (first.Ended w) k end left had h = first_end gray start s0 s1 bytes r w k end left had h
+
 -- A PIECE
 
 after_piece : (gray : Bool) (start s0 s1 : DeskState) (n : ℕ) (buf bytes : List ℕ) (answer : FirstStep) (r : RowReaderState) → length (bytes ++ take n buf) ≤ standard_limits.input → 0 < length (take n buf) → length (take n buf) ≤ length buf → length (take n buf) ≡ n
     → s1.input_open ≡ true → Consumes start.left s1.left (bytes ++ take n buf) → AfterFirst gray bytes (take n buf) answer r → AfterFirstRead gray start bytes answer buf r s1
 after_piece gray start s0 s1 n buf bytes first.More r most some within size opened read h = (take n buf, some, h, read)
 after_piece gray start s0 s1 n buf bytes first.Whole r most some within size opened read h = (((h.holds).done).done, h.none, (bytes ++ take n buf, read, most, h))
+after_piece gray start s0 s1 n buf bytes (first.Early m) r most some within size opened read h = absurd h
 after_piece gray start s0 s1 n buf bytes (first.Rows count answer) r most some within size opened read h =
     let same = h.0 ∙ size in (
       (let c = h.0 in omega (arith, c, within)),
@@ -70,6 +82,7 @@ after_piece gray start s0 s1 n buf bytes (first.Rows count answer) r most some w
       (bytes ++ take n buf, read, most, subst (λ k. BeginsRows gray (bytes ++ take n buf) (take k buf) answer r) (sym same) h.1),
     )
 after_piece gray start s0 s1 n buf bytes (first.Ended why.Done) r most some within size opened read h = absurd h
+after_piece gray start s0 s1 n buf bytes (first.Ended (why.Warned m)) r most some within size opened read h = absurd h
 after_piece gray start s0 s1 n buf bytes (first.Ended (why.Usage u)) r most some within size opened read h = absurd h
 after_piece gray start s0 s1 n buf bytes (first.Ended (why.Picture p)) r most some within size opened read h = absurd h
 after_piece gray start s0 s1 n buf bytes (first.Ended (why.Refused f)) r most some within size opened read h = (bytes ++ take n buf, read, most, (h.0 (rest_of s1.left), h.1))

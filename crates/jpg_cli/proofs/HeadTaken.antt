@@ -78,6 +78,7 @@ fed_at_head bytes piece comment text replace None c e some nothing short h =
     let is = inserted_so_far comment all text c e some h in
     head_in_piece bytes piece comment text c.replace (length all) nothing short (subst (λ (b : List ℕ). IsInserted standard_limits b comment c.replace text) (sym (take_all (length all) all (omega arith))) is)
 fed_at_head bytes piece comment text replace (Some why.Done) c e some nothing short h = absurd h
+fed_at_head bytes piece comment text replace (Some (why.Warned n)) c e some nothing short h = absurd h
 fed_at_head bytes piece comment text replace (Some (why.Usage u)) c e some nothing short h = absurd h
 fed_at_head bytes piece comment text replace (Some (why.Picture p)) c e some nothing short h = absurd h
 fed_at_head bytes piece comment text replace (Some (why.Refused f)) c e some nothing short (of, inl (none, faults)) = absurd (not_none text none some)
@@ -107,6 +108,7 @@ head_begun s0 s1 n buf comment bytes old out replace due was c most e f empty sh
 ended : (s0 s1 : DeskState) (piece comment bytes text : List ℕ) (replace : Bool) (w : Why) (was c : Insert) → length (bytes ++ piece) ≤ standard_limits.input → was.limits ≡ standard_limits → length piece ≤ 65536 → HasInserted comment bytes [] was → Consumes s0.left s1.left piece
     → AfterFed comment replace (bytes ++ piece) text (Some w) c → text ≡ [] → EndsBefore bytes s0 w s1
 ended s0 s1 piece comment bytes text replace why.Done was c most e short h read fed none = absurd fed
+ended s0 s1 piece comment bytes text replace (why.Warned n) was c most e short h read fed none = absurd fed
 ended s0 s1 piece comment bytes text replace (why.Usage u) was c most e short h read fed none = absurd fed
 ended s0 s1 piece comment bytes text replace (why.Picture p) was c most e short h read fed none = absurd fed
 ended s0 s1 piece comment bytes text replace (why.Refused f) was c most e short h read (of, inl (empty, faults)) none =
@@ -127,6 +129,7 @@ head_ended s0 s1 n buf comment bytes old out replace w was c most e empty short 
 
 pub head_ends : (s0 s1 : DeskState) (comment bytes : List ℕ) (replace : Bool) (w : Why) (was : Insert) → was.limits ≡ standard_limits → HasInserted comment bytes [] was → IsAtEnd s0.left → s1.left ≡ s0.left → AfterAll comment replace bytes [] w → EndsBefore bytes s0 w s1
 head_ends s0 s1 comment bytes replace why.Done was e h end left a = absurd (not_none [] refl (text_is_some bytes comment [] replace a.0))
+head_ends s0 s1 comment bytes replace (why.Warned n) was e h end left a = absurd a
 head_ends s0 s1 comment bytes replace (why.Usage u) was e h end left a = absurd a
 head_ends s0 s1 comment bytes replace (why.Picture p) was e h end left a = absurd a
 head_ends s0 s1 comment bytes replace (why.Refused f) was e h end left a =

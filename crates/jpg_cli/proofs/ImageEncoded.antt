@@ -57,6 +57,7 @@ pub encoded_written : (e : Encoding) (I : Image) (output : Name) (s1 s2 : DeskSt
 encoded_written e I output s1 s2 why.Done can none (faultless, out, means) =
     let no : encode_fault e I ≡ None = written_fault e I none ∙ faultless in
     (no, subst (λ (text : List ℕ). AfterOutput output s1 text wrote.Done s2) (stays_text e I) out, encoded_means e I can no)
+encoded_written e I output s1 s2 (why.Warned m) can none h = absurd h
 encoded_written e I output s1 s2 (why.Usage u) can none h = absurd h
 encoded_written e I output s1 s2 (why.Refused f) can none h = absurd h
 encoded_written e I output s1 s2 (why.Picture fault) can none (is, untouched) = (written_fault e I none ∙ is, untouched)
@@ -102,6 +103,7 @@ task_by input output encoding = record { before = []; input = input; output = ou
 
 pub encoded_unread : (input output : Name) (encoding : Image → Encoding) (s0 s1 : DeskState) (w : Why) → ImageRead input s0 (Err w) s1 → Encoded (task_by input output encoding) s0 w s1
 encoded_unread input output encoding s0 s1 why.Done h = absurd h
+encoded_unread input output encoding s0 s1 (why.Warned m) h = absurd h
 encoded_unread input output encoding s0 s1 (why.Usage u) h = absurd h
 encoded_unread input output encoding s0 s1 (why.Refused f) h = h
 encoded_unread input output encoding s0 s1 (why.Picture p) h = absurd h
@@ -148,6 +150,7 @@ stopped_here input I s0 s1 s2 h same = record { asked = asks_still s0 s1 s2 (inp
 pub encoded_after : (input output : Name) (encoding : Image → Encoding) (I : Image) (s0 s1 s2 : DeskState) (w : Why) → HasImageRead input I s0 s1 s2 → AfterEncoding (encoding I) I output s1 w s2 → Encoded (task_by input output encoding) s0 w s2
 encoded_after input output encoding I s0 s1 s2 why.Done h (none, (asked, grows), means) =
     (I, record { read = read_on input I s0 s1 s2 h; admitted = none }, wrote_text input output I s0 s1 s2 (encoded_text (encoding I) I) h asked grows, means)
+encoded_after input output encoding I s0 s1 s2 (why.Warned m) h k = absurd k
 encoded_after input output encoding I s0 s1 s2 (why.Usage u) h k = absurd k
 encoded_after input output encoding I s0 s1 s2 (why.Refused f) h k = absurd k
 encoded_after input output encoding I s0 s1 s2 (why.Picture fault) h (is, same) = (stopped_here input I s0 s1 s2 h same, (I, read_on input I s0 s1 s2 h, is))
@@ -179,6 +182,7 @@ encodable_before xs input output encoding I s0 s1 s2 b h = record { read = from_
 
 pub encoded_behind : (xs : List Name) (i o : Name) (f : Image → Encoding) (s0 s1 s2 : DeskState) (w : Why) → GoesOnAfter xs s0 s1 → Encoded (task_by i o f) s1 w s2 → Encoded (task_behind xs i o f) s0 w s2
 encoded_behind xs i o f s0 s1 s2 why.Done b (I, read, wrote, means) = (I, encodable_before xs i o f I s0 s1 s2 b read, added_more xs i o (encoded_text (f I) I) s0 s1 s2 b wrote, means)
+encoded_behind xs i o f s0 s1 s2 (why.Warned m) b h = absurd h
 encoded_behind xs i o f s0 s1 s2 (why.Usage u) b h = absurd h
 encoded_behind xs i o f s0 s1 s2 (why.Refused g) b h = (stopped_more xs i [] put.Done s0 s1 s2 b h.0, from_before xs i _ s0 s1 s2 b h.1)
 encoded_behind xs i o f s0 s1 s2 (why.Picture p) b h = (stopped_more xs i [] put.Done s0 s1 s2 b h.0, (h.1.0, from_before xs i _ s0 s1 s2 b h.1.1, h.1.2))
@@ -246,6 +250,7 @@ encodable_then t I s0 s1 s2 k h = record { read = image_then t I s0 s1 s2 k h.re
 
 encoded_then : (t : EncodeTask) (s0 s1 s2 : DeskState) (w : Why) → OnlySays s1 s2 → Encoded t s0 w s1 → Encoded t s0 w s2
 encoded_then t s0 s1 s2 why.Done k (I, read, wrote, means) = (I, encodable_then t I s0 s1 s2 k read, wrote_then s0 s1 s2 (to_image t) t.output (encoded_text (t.encoding I) I) k wrote, means)
+encoded_then t s0 s1 s2 (why.Warned m) k h = absurd h
 encoded_then t s0 s1 s2 (why.Usage u) k h = absurd h
 encoded_then t s0 s1 s2 (why.Refused f) k h =
     let P : Option (List ℕ) → Type 0 = λ l. ReadsFrom t.input (IsFaultRead f (rest_of l)) s0 s2 in

@@ -1,5 +1,5 @@
 -- Showing a picture: reading it, and then writing its image.
-use Rattle.std.proofs.Common.{◌≡◌, ℕ, Bool, true, false, List, [], ◌∷◌, take, Option, Ok, Err, sym, ap, ◌∙◌, subst, arith, inl, inr}
+use Rattle.std.proofs.Common.{◌≡◌, ℕ, Bool, true, false, List, [], ◌∷◌, take, Option, None, Some, Ok, Err, refl, sym, ap, ◌∙◌, subst, arith, inl, inr}
 use Rattle.jpg_base.specs.declared.names.Name.{Name}
 use Rattle.jpg_base.specs.declared.names.Put.{Put}
 use Rattle.jpg_base.specs.declared.names.Put.TheVariants as put
@@ -26,7 +26,7 @@ use Rattle.jpg_huff.specs.Out.{OnlyWrites}
 use Rattle.jpg_cli.specs.CommentWords.{file_told}
 use Rattle.jpg_cli.specs.Commands.{name_of}
 use Rattle.jpg_cli.specs.Endings.{Added, Asks}
-use Rattle.jpg_cli.specs.ReadPicture.{IsShortRead, IsOpenRead, IsWholeRead}
+use Rattle.jpg_cli.specs.ReadPicture.{IsOpenRead, IsRead, IsShortRead, done_as}
 use Rattle.jpg_cli.specs.Run.{RanShow}
 use Rattle.jpg_cli.specs.ShowWords.{show_told}
 use Rattle.jpg_cli.specs.Showing.{AfterImage, IsInTime, ReadsShown, Shown, ShownBy, ShownInPart, Showing, all_bytes, shown_text}
@@ -35,7 +35,7 @@ use Rattle.jpg_cli.specs.declared.read_picture.Wanted.TheVariants.{Image}
 use Rattle.jpg_cli.specs.declared.show_words.ShowWords.{ShowWords}
 use Rattle.jpg_cli.proofs.Endings.{asks_next, stopped_then, unopened_then, wrote_then}
 use Rattle.jpg_cli.proofs.InsertedThen.{same_name}
-use Rattle.jpg_cli.proofs.PictureTaken.{from_still}
+use Rattle.jpg_cli.proofs.PictureTaken.{all_still, from_still}
 use Rattle.jpg_cli.proofs.RowHeads.{begins_still}
 use Rattle.jpg_cli.proofs.RowsStand.{refused_then, rows_then, stands_then, still_read}
 
@@ -48,21 +48,30 @@ noted_then s0 s1 s2 output h k = (let P : Option (List (Name × Put)) → Type 0
 same_text : (text : EndKind → List ℕ) (e : EndState) (kind : EndKind) → e ≡ new_end kind → text e.kind ≡ text kind
 same_text text e kind new = ap (λ (x : EndState). text x.kind) new
 
-pub image_done : (s0 s1 s2 : DeskState) (output : Name) (text : EndKind → List ℕ) (e : EndState) (kind : EndKind) → e ≡ new_end kind → Creates s0 output put.Done s1 → Decodes s1 (text e.kind) (Ok tt) s2 → AfterImage output s0 (text kind) why.Done s2
-image_done s0 s1 s2 output text e kind new h decoded =
-    let d = subst (λ due. Decodes s1 due (Ok tt) s2) (same_text text e kind new) decoded in
-    (noted_then s0 s1 s2 output h d.only, Grows-from s0.outputs s1.outputs s2.outputs output (text kind) h.after.1 d.bytes)
+pub image_done : (s0 s1 s2 : DeskState) (output : Name) (early : Option ℕ) (text : EndKind → List ℕ) (e : EndState) (kind : EndKind) → e ≡ new_end kind → Creates s0 output put.Done s1 → Decodes s1 (text e.kind) (Ok tt) s2
+    → AfterImage output early s0 (text kind) (done_as early) s2
+image_done s0 s1 s2 output early text e kind new h decoded = by early refl
+  where
+    d : Decodes s1 (text kind) (Ok tt) s2
+    d = subst (λ due. Decodes s1 due (Ok tt) s2) (same_text text e kind new) decoded
 
-pub image_wanting : (s0 s1 s2 : DeskState) (output : Name) (text : EndKind → List ℕ) (e : EndState) (kind : EndKind) (ended : DecodeStop) → e ≡ new_end kind → ended ≡ stop.NoMemory → Creates s0 output put.Done s1 → Decodes s1 (text e.kind) (Err ended) s2
-    → AfterImage output s0 (text kind) why.NoMemory s2
-image_wanting s0 s1 s2 output text e kind ended new is h decoded =
+    all : Grows s0.outputs (output, text kind) s2.outputs
+    all = Grows-from s0.outputs s1.outputs s2.outputs output (text kind) h.after.1 d.bytes
+
+    by : (o : Option ℕ) → early ≡ o → AfterImage output early s0 (text kind) (done_as o) s2
+    by None same = (same, noted_then s0 s1 s2 output h d.only, all)
+    by (Some n) same = (same, noted_then s0 s1 s2 output h d.only, all)
+
+pub image_wanting : (s0 s1 s2 : DeskState) (output : Name) (early : Option ℕ) (text : EndKind → List ℕ) (e : EndState) (kind : EndKind) (ended : DecodeStop) → e ≡ new_end kind → ended ≡ stop.NoMemory → Creates s0 output put.Done s1 → Decodes s1 (text e.kind) (Err ended) s2
+    → AfterImage output early s0 (text kind) why.NoMemory s2
+image_wanting s0 s1 s2 output early text e kind ended new is h decoded =
     let same = subst (λ due. Decodes s1 due (Err ended) s2) (same_text text e kind new) decoded in
     let d = subst (λ (x : DecodeStop). Decodes s1 (text kind) (Err x) s2) is same in
     (noted_then s0 s1 s2 output h d.only, (d.bytes.0, d.bytes.1, Grows-from s0.outputs s1.outputs s2.outputs output (take d.bytes.0 (text kind)) h.after.1 d.bytes.2))
 
-pub image_failed : (s0 s1 s2 : DeskState) (output : Name) (text : EndKind → List ℕ) (e : EndState) (kind : EndKind) (ended : DecodeStop) → e ≡ new_end kind → ended ≡ stop.WriteFault → Creates s0 output put.Done s1 → Decodes s1 (text e.kind) (Err ended) s2
-    → AfterImage output s0 (text kind) why.WriteFault s2
-image_failed s0 s1 s2 output text e kind ended new is h decoded =
+pub image_failed : (s0 s1 s2 : DeskState) (output : Name) (early : Option ℕ) (text : EndKind → List ℕ) (e : EndState) (kind : EndKind) (ended : DecodeStop) → e ≡ new_end kind → ended ≡ stop.WriteFault → Creates s0 output put.Done s1 → Decodes s1 (text e.kind) (Err ended) s2
+    → AfterImage output early s0 (text kind) why.WriteFault s2
+image_failed s0 s1 s2 output early text e kind ended new is h decoded =
     let same = subst (λ due. Decodes s1 due (Err ended) s2) (same_text text e kind new) decoded in
     let d = subst (λ (x : DecodeStop). Decodes s1 (text kind) (Err x) s2) is same in (
       noted_then s0 s1 s2 output h d.only,
@@ -78,65 +87,74 @@ text_shown s keeping M =
 
 -- A PICTURE, and its image written
 
-pub record HasImageRead (s : Showing) (M : Meaning) (s0 s1 s2 : DeskState) : Type 0 where
+pub record HasImageRead (s : Showing) (M : Meaning) (early : Option ℕ) (s0 s1 s2 : DeskState) : Type 0 where
   pub kept : Keeps s0 s1
   pub asked : Asks (s.input ∷ []) put.Done s0 s1
-  pub read : ReadsShown s M s0 s1
+  pub read : ReadsShown s M early s0 s1
   pub left : s2.left ≡ s1.left
-  pub plain : HasNoRows standard_limits read.bytes
+  pub plain : HasNoRows standard_limits (read.0).bytes
 
 -- no rows are due before
 none_early : (s : Showing) (bytes written : List ℕ) → HasNoRows standard_limits bytes → IsInTime s bytes written
 none_early s bytes written none front rest text cut many k = absurd (none k.before k.contents (begins_still front rest bytes k.before k.contents cut k.begins))
 
-abbrev image_on : (s : Showing) (M : Meaning) (s0 s1 s2 : DeskState) → HasImageRead s M s0 s1 s2 → ReadsShown s M s0 s2
-image_on s M s0 s1 s2 h = still_read s0 s1 s2 s.input (IsWholeRead (Image s.gray) M) h.left h.read
+abbrev shown_still : (s : Showing) (M : Meaning) (early : Option ℕ) (s0 s1 s2 : DeskState) → s2.left ≡ s1.left → ReadsShown s M early s0 s1 → ReadsShown s M early s0 s2
+shown_still s M early s0 s1 s2 e h = (still_read s0 s1 s2 s.input (IsRead (Image s.gray) M early) e h.0, all_still early s1 s2 e h.1)
 
-wrote_image : (s : Showing) (M : Meaning) (s0 s1 s2 : DeskState) (text : List ℕ) → HasImageRead s M s0 s1 s2 → NotesName s1.asked (s.output, put.Done) s2.asked → Grows s1.outputs (s.output, text) s2.outputs → Added (s.input ∷ []) s.output text s0 s2
-wrote_image s M s0 s1 s2 text h o grows = record {
+abbrev image_on : (s : Showing) (M : Meaning) (early : Option ℕ) (s0 s1 s2 : DeskState) → HasImageRead s M early s0 s1 s2 → ReadsShown s M early s0 s2
+image_on s M early s0 s1 s2 h = shown_still s M early s0 s1 s2 h.left h.read
+
+wrote_image : (s : Showing) (M : Meaning) (early : Option ℕ) (s0 s1 s2 : DeskState) (text : List ℕ) → HasImageRead s M early s0 s1 s2 → NotesName s1.asked (s.output, put.Done) s2.asked → Grows s1.outputs (s.output, text) s2.outputs → Added (s.input ∷ []) s.output text s0 s2
+wrote_image s M early s0 s1 s2 text h o grows = record {
   asked = asks_next s0 s1 s2 (s.input ∷ []) s.output put.Done h.asked o;
   outputs = (let P : Option (List (Name × List ℕ)) → Type 0 = λ a. Grows a (s.output, text) s2.outputs in subst P h.kept.outputs grows);
 }
 
-abbrev in_part : (s : Showing) (M : Meaning) (s0 s1 s2 : DeskState) (n : ℕ) → HasImageRead s M s0 s1 s2 → NotesName s1.asked (s.output, put.Done) s2.asked → Grows s1.outputs (s.output, take n (shown_text s M)) s2.outputs → ShownInPart s s0 s2
-in_part s M s0 s1 s2 n h o grows = record { meaning = M; count = n; read = image_on s M s0 s1 s2 h; wrote = wrote_image s M s0 s1 s2 (take n (shown_text s M)) h o grows }
+abbrev in_part : (s : Showing) (M : Meaning) (early : Option ℕ) (s0 s1 s2 : DeskState) (n : ℕ) → HasImageRead s M early s0 s1 s2 → NotesName s1.asked (s.output, put.Done) s2.asked → Grows s1.outputs (s.output, take n (shown_text s M)) s2.outputs → ShownInPart s s0 s2
+in_part s M early s0 s1 s2 n h o grows = record { meaning = M; early = early; count = n; read = image_on s M early s0 s1 s2 h; wrote = wrote_image s M early s0 s1 s2 (take n (shown_text s M)) h o grows }
 
-pub shown_written : (s : Showing) (M : Meaning) (s0 s1 s2 : DeskState) (w : Why) → HasImageRead s M s0 s1 s2 → AfterImage s.output s1 (shown_text s M) w s2 → Shown s s0 w s2
-shown_written s M s0 s1 s2 why.Done h (asked, grows) = (M, image_on s M s0 s1 s2 h, wrote_image s M s0 s1 s2 (shown_text s M) h asked grows)
-shown_written s M s0 s1 s2 (why.Usage u) h k = absurd k
-shown_written s M s0 s1 s2 (why.Refused f) h k = absurd k
-shown_written s M s0 s1 s2 (why.Picture p) h k = absurd k
-shown_written s M s0 s1 s2 (why.OpenFault which.Input) h k = absurd k
-shown_written s M s0 s1 s2 (why.OpenFault which.Script) h k = absurd k
-shown_written s M s0 s1 s2 (why.OpenFault which.Tables) h k = absurd k
-shown_written s M s0 s1 s2 (why.OpenFault which.Comment) h k = absurd k
-shown_written s M s0 s1 s2 (why.OpenFault which.Output) h (asked, rose, same) = (
+pub shown_written : (s : Showing) (M : Meaning) (early : Option ℕ) (s0 s1 s2 : DeskState) (w : Why) → HasImageRead s M early s0 s1 s2 → AfterImage s.output early s1 (shown_text s M) w s2 → Shown s s0 w s2
+shown_written s M early s0 s1 s2 why.Done h (whole, asked, grows) =
+    (M, subst (λ (o : Option ℕ). ReadsShown s M o s0 s2) whole (image_on s M early s0 s1 s2 h), wrote_image s M early s0 s1 s2 (shown_text s M) h asked grows)
+shown_written s M early s0 s1 s2 (why.Warned n) h (cut, asked, grows) =
+    (M, subst (λ (o : Option ℕ). ReadsShown s M o s0 s2) cut (image_on s M early s0 s1 s2 h), wrote_image s M early s0 s1 s2 (shown_text s M) h asked grows)
+shown_written s M early s0 s1 s2 (why.Usage u) h k = absurd k
+shown_written s M early s0 s1 s2 (why.Refused f) h k = absurd k
+shown_written s M early s0 s1 s2 (why.Picture p) h k = absurd k
+shown_written s M early s0 s1 s2 (why.OpenFault which.Input) h k = absurd k
+shown_written s M early s0 s1 s2 (why.OpenFault which.Script) h k = absurd k
+shown_written s M early s0 s1 s2 (why.OpenFault which.Tables) h k = absurd k
+shown_written s M early s0 s1 s2 (why.OpenFault which.Comment) h k = absurd k
+shown_written s M early s0 s1 s2 (why.OpenFault which.Output) h (asked, rose, same) = (
   record {
     stopped = record { asked = asks_next s0 s1 s2 (s.input ∷ []) s.output put.Failed h.asked asked; outputs = same ∙ h.kept.outputs };
     opens = (let f = h.kept.works.stays.counts.opens in omega (arith, rose, f));
   },
-  inl (M, image_on s M s0 s1 s2 h),
+  inl (M, early, image_on s M early s0 s1 s2 h),
 )
-shown_written s M s0 s1 s2 (why.ReadFault file) h k = absurd k
-shown_written s M s0 s1 s2 why.WriteFault h (asked, rose, (n, grows)) = (
+shown_written s M early s0 s1 s2 (why.ReadFault file) h k = absurd k
+shown_written s M early s0 s1 s2 why.WriteFault h (asked, rose, (n, grows)) = (
   (let f = h.kept.works.stays.counts.writes in omega (arith, rose, f)),
-  inl (record { part = in_part s M s0 s1 s2 n h asked grows; early = none_early s (h.read).bytes (take n (shown_text s M)) h.plain }),
+  inl (record { part = in_part s M early s0 s1 s2 n h asked grows; early = none_early s ((h.read).0).bytes (take n (shown_text s M)) h.plain }),
 )
-shown_written s M s0 s1 s2 why.NoMemory h (asked, (n, less, grows)) = inr (inl (record { part = in_part s M s0 s1 s2 n h asked grows; left = less }))
+shown_written s M early s0 s1 s2 why.NoMemory h (asked, (n, less, grows)) = inr (inl (record { part = in_part s M early s0 s1 s2 n h asked grows; left = less }))
 
 -- A MESSAGE THEN
 
 abbrev part_then : (s : Showing) (s0 s1 s2 : DeskState) → OnlySays s1 s2 → ShownInPart s s0 s1 → ShownInPart s s0 s2
 part_then s s0 s1 s2 k h = record {
   meaning = h.meaning;
+  early = h.early;
   count = h.count;
-  read = still_read s0 s1 s2 s.input (IsWholeRead (Image s.gray) h.meaning) k.same.left h.read;
+  read = shown_still s h.meaning h.early s0 s1 s2 k.same.left h.read;
   wrote = wrote_then s0 s1 s2 (s.input ∷ []) s.output (take h.count (shown_text s h.meaning)) k h.wrote;
 }
 
 pub shown_then : (s : Showing) (s0 s1 s2 : DeskState) (w : Why) → OnlySays s1 s2 → Shown s s0 w s1 → Shown s s0 w s2
 shown_then s s0 s1 s2 why.Done k (M, read, wrote) =
-    (M, from_still s0 s1 s2 s.input (IsWholeRead (Image s.gray) M) k.same.left read, wrote_then s0 s1 s2 (s.input ∷ []) s.output (shown_text s M) k wrote)
+    (M, shown_still s M None s0 s1 s2 k.same.left read, wrote_then s0 s1 s2 (s.input ∷ []) s.output (shown_text s M) k wrote)
+shown_then s s0 s1 s2 (why.Warned n) k (M, read, wrote) =
+    (M, shown_still s M (Some n) s0 s1 s2 k.same.left read, wrote_then s0 s1 s2 (s.input ∷ []) s.output (shown_text s M) k wrote)
 shown_then s s0 s1 s2 (why.Usage u) k h = absurd h
 shown_then s s0 s1 s2 (why.Refused f) k h = refused_then s f s0 s1 s2 k h
 shown_then s s0 s1 s2 (why.Picture p) k h = absurd h
@@ -145,7 +163,7 @@ shown_then s s0 s1 s2 (why.OpenFault which.Script) k h = absurd h
 shown_then s s0 s1 s2 (why.OpenFault which.Tables) k h = absurd h
 shown_then s s0 s1 s2 (why.OpenFault which.Comment) k h = absurd h
 shown_then s s0 s1 s2 (why.OpenFault which.Output) k (unopened, inl h) =
-    (unopened_then s0 s1 s2 (s.input ∷ s.output ∷ []) k unopened, inl (h.0, from_still s0 s1 s2 s.input (IsWholeRead (Image s.gray) h.0) k.same.left h.1))
+    (unopened_then s0 s1 s2 (s.input ∷ s.output ∷ []) k unopened, inl (h.0, h.1, shown_still s h.0 h.1 s0 s1 s2 k.same.left h.2))
 shown_then s s0 s1 s2 (why.OpenFault which.Output) k (unopened, inr h) =
     (unopened_then s0 s1 s2 (s.input ∷ s.output ∷ []) k unopened, inr (still_read s0 s1 s2 s.input _ k.same.left h))
 shown_then s s0 s1 s2 (why.ReadFault which.Input) k h =

@@ -90,6 +90,7 @@ after_piece : (start s1 : DeskState) (bytes piece : List ℕ) (answer : ImageSte
 after_piece start s1 bytes piece step.More r some most read h = (piece, some, h, read, most)
 after_piece start s1 bytes piece step.Whole r some most read h = ((bytes ++ piece, read, most, h.0 (rest_of s1.left)), h.1)
 after_piece start s1 bytes piece (step.Ended why.Done) r some most read h = absurd h
+after_piece start s1 bytes piece (step.Ended (why.Warned m)) r some most read h = absurd h
 after_piece start s1 bytes piece (step.Ended (why.Usage u)) r some most read h = absurd h
 after_piece start s1 bytes piece (step.Ended (why.Picture p)) r some most read h = absurd h
 after_piece start s1 bytes piece (step.Ended (why.Refused f)) r some most read h = (bytes ++ piece, read, most, h (rest_of s1.left))
@@ -111,6 +112,7 @@ image_end start s0 s1 bytes step.Whole r short end left had h =
     let none : rest_of s1.left ≡ [] = ap rest_of left ∙ none_left s0.left end in
     ((bytes, left_still s0 s1 bytes start left had, omega (arith, short), subst (λ (rest : List ℕ). IsImageRead (image_read r) rest bytes) (sym none) h.0), h.1)
 image_end start s0 s1 bytes (step.Ended why.Done) r short end left had h = absurd h
+image_end start s0 s1 bytes (step.Ended (why.Warned m)) r short end left had h = absurd h
 image_end start s0 s1 bytes (step.Ended (why.Usage u)) r short end left had h = absurd h
 image_end start s0 s1 bytes (step.Ended (why.Picture p)) r short end left had h = absurd h
 image_end start s0 s1 bytes (step.Ended (why.Refused f)) r short end left had h =
@@ -147,6 +149,7 @@ goes_on_end (step.Ended ended) r now h = tt
 
 ends_early : (s0 s1 s2 : DeskState) (file : Name) (ended : Why) → Opens s0 file put.Done s1 → OnlyReads s1 s2 → EndsEarly s1 ended s2 → ImageRead file s0 (Err ended) s2
 ends_early s0 s1 s2 file why.Done h k e = absurd e
+ends_early s0 s1 s2 file (why.Warned m) h k e = absurd e
 ends_early s0 s1 s2 file (why.Usage u) h k e = absurd e
 ends_early s0 s1 s2 file (why.Picture p) h k e = absurd e
 ends_early s0 s1 s2 file (why.Refused f) h k e = (stopped_there s0 s1 s2 file h k, reads_from s0 s1 s2 file (IsFaultRead f (rest_of s2.left)) h e)

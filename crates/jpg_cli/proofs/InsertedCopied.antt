@@ -51,6 +51,7 @@ pub fed_part : (comment bytes text : List ℕ) (replace : Bool) (due : Option Wh
 fed_part comment bytes text replace None c e same h =
     subst (λ (b : Bool). InsertsPart standard_limits comment b bytes text) same (stands_part comment bytes text c.head c.replace c.taken (reading_of c.reader) (stands comment bytes text c e h))
 fed_part comment bytes text replace (Some why.Done) c e same h = absurd h
+fed_part comment bytes text replace (Some (why.Warned n)) c e same h = absurd h
 fed_part comment bytes text replace (Some (why.Usage u)) c e same h = absurd h
 fed_part comment bytes text replace (Some (why.Picture p)) c e same h = absurd h
 fed_part comment bytes text replace (Some (why.Refused f)) c e same (of, inl (none, faults)) = inl none
@@ -91,6 +92,7 @@ rest_due : (start s2 : DeskState) (comment bytes piece all : List ℕ) (replace 
     → AfterRest comment replace start bytes due c s2
 rest_due start s2 comment bytes piece all replace None c more some h k = (piece, all, more, some, h, k)
 rest_due start s2 comment bytes piece all replace (Some why.Done) c more some h k = absurd h
+rest_due start s2 comment bytes piece all replace (Some (why.Warned n)) c more some h k = absurd h
 rest_due start s2 comment bytes piece all replace (Some (why.Usage u)) c more some h k = absurd h
 rest_due start s2 comment bytes piece all replace (Some (why.Picture p)) c more some h k = absurd h
 rest_due start s2 comment bytes piece all replace (Some (why.Refused f)) c more some (of, inl (none, faults)) k = absurd (not_none all none some)
@@ -131,6 +133,7 @@ rest_unread start s0 s1 comment bytes text c e some h still had rose left output
 pub rest_ends : (start s0 s1 : DeskState) (comment bytes text : List ℕ) (replace : Bool) (w : Why) → 0 < length text → HasCopied start bytes text s0 → IsAtEnd s0.left → s1.left ≡ s0.left → s1.outputs ≡ s0.outputs → AfterAll comment replace bytes text w → EndsInserting comment replace start w s1
 rest_ends start s0 s1 comment bytes text replace why.Done some had end left outputs h =
     ((bytes, text, copied_still start s0 s1 bytes text had left outputs, h), (let P : Option (List ℕ) → Type 0 = λ l. IsAtEnd l in subst P (sym left) end))
+rest_ends start s0 s1 comment bytes text replace (why.Warned n) some had end left outputs h = absurd h
 rest_ends start s0 s1 comment bytes text replace (why.Usage u) some had end left outputs h = absurd h
 rest_ends start s0 s1 comment bytes text replace (why.Picture p) some had end left outputs h = absurd h
 rest_ends start s0 s1 comment bytes text replace (why.Refused f) some had end left outputs h = absurd (not_none text h.1 some)

@@ -78,6 +78,7 @@ refused_then s0 s1 s2 task f k (inr (inr h)) =
 pub inserted_then : (s0 s1 s2 : DeskState) (task : Task) (w : Why) → OnlySays s1 s2 → Inserted task s0 w s1 → Inserted task s0 w s2
 inserted_then s0 s1 s2 task why.Done k h =
     (writes_then s0 s1 s2 task (λ comment. IsInsertedWhole comment task.replace) k h.0, (let P : Option (List ℕ) → Type 0 = λ l. IsAtEnd l in subst P (sym k.same.left) h.1))
+inserted_then s0 s1 s2 task (why.Warned n) k h = absurd h
 inserted_then s0 s1 s2 task (why.Usage u) k h = absurd h
 inserted_then s0 s1 s2 task (why.Picture p) k h = absurd h
 inserted_then s0 s1 s2 task (why.Refused f) k h = refused_then s0 s1 s2 task f k h
@@ -118,6 +119,7 @@ whole_input s0 s1 input bytes h end =
 pub insert_due : (s0 s1 : DeskState) (task : Task) (w : Why) → NoneRose s0.counts s1.counts → Inserted task s0 w s1 → IsInsertDue task s0 w
 insert_due s0 s1 task why.Done n (h, end) =
     (let copied = h.copied in (h.comment, copied.bytes, copied.text, h.source, whole_input s0 s1 task.input copied.bytes copied.read.1 end, copied.is))
+insert_due s0 s1 task (why.Warned m) n h = absurd h
 insert_due s0 s1 task (why.Usage u) n h = absurd h
 insert_due s0 s1 task (why.Picture p) n h = absurd h
 insert_due s0 s1 task (why.Refused f) n (inl h) = inl (h.comment, h.source, h.long, h.fault)

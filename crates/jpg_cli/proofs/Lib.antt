@@ -5,6 +5,9 @@ pub mod CommentsCopied
 pub mod CommentsPrinted
 pub mod CommentsRead
 pub mod Decimal
+pub mod EarlyEnding
+pub mod EarlyImage
+pub mod EarlyRows
 pub mod EncodeDue
 pub mod Ending
 pub mod Endings

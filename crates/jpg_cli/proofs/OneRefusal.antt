@@ -1,14 +1,12 @@
 -- Where something is wanted of an input, it is refused with one fault at one place; and a file that means a picture with none.
 use Rattle.std.proofs.Common.{◌≡◌, ℕ, Bool, List, ◌++◌, refl, sym, subst, arith, inl, inr}
 use Rattle.jpg_base.specs.Desk.{DeskState}
-use Rattle.jpg_spec.specs.FirstFault.{HasMeaning}
 use Rattle.jpg_spec.specs.Segments.{standard_limits}
 use Rattle.jpg_spec.specs.declared.answers.FaultAt.{FaultAt}
 use Rattle.jpg_spec.specs.declared.answers.Why.{Why}
 use Rattle.jpg_spec.specs.declared.answers.Why.TheVariants as why
-use Rattle.jpg_spec.proofs.FileLaws.{means_no_fault}
 use Rattle.jpg_spec.proofs.OneReason.{one_reason}
-use Rattle.jpg_cli.specs.Certain.{HasFile, IsNotRefused, IsTold}
+use Rattle.jpg_cli.specs.Certain.{HasFile, HasSomeMeaning, IsNotRefused, IsTold}
 use Rattle.jpg_cli.specs.Laws.{MeanShown, WasRefused, WasRefusedShown}
 use Rattle.jpg_cli.specs.ReadPicture.{IsRefused, IsRefusedFor, IsRefusedRead, IsUnwanted}
 use Rattle.jpg_cli.specs.declared.read_picture.Wanted.{Wanted}
@@ -21,7 +19,7 @@ use Rattle.jpg_cli.specs.ScriptTaken.{HasScansFault, StopsAtScans}
 use Rattle.jpg_cli.specs.Turned.{Transformed, Turned, Turning, turning_of}
 use Rattle.jpg_cli.proofs.RefusedOnce.{one_refusal}
 use Rattle.jpg_cli.proofs.RowsStand.{so_read}
-use Rattle.jpg_cli.proofs.Certain.{no_scans_fault, none_unshown, one_file, refused_alone}
+use Rattle.jpg_cli.proofs.Certain.{no_scans_fault, none_faulty, none_unshown, one_file, refused_alone}
 
 -- WHATEVER IS WANTED
 
@@ -60,11 +58,12 @@ runs_show_once gray input f g a b = refused_for_one (Image gray) input f g (show
 pub none_refused_shown : (gray : Bool) (input : List ℕ) (f : FaultAt) → IsRefusedFor (Image gray) input f → MeanShown gray input → ⊥
 none_refused_shown gray input f refused (M, means, shown) = none_unshown gray input M f means shown refused
 
-pub none_refused : (input : List ℕ) (f : FaultAt) → IsRefused input f → HasMeaning standard_limits input → ⊥
-none_refused input f a (M, means) = means_no_fault standard_limits input M f.fault f.at means a
+pub none_refused : (input : List ℕ) (f : FaultAt) → IsRefused input f → HasSomeMeaning input → ⊥
+none_refused input f a (M, means) = none_faulty input M f means a
 
 turned_file : (a : TransformAsked) (scans : Scans) (old new : DeskState) (w : Why) → HasFile a old → Turned (turning_of a scans) old w new → IsNotRefused w
 turned_file a scans old new why.Done has h = tt
+turned_file a scans old new (why.Warned n) has h = tt
 turned_file a scans old new (why.Usage u) has h = absurd h
 turned_file a scans old new (why.Picture p) has h = tt
 turned_file a scans old new (why.Refused f) has h = absurd (none_refused has.bytes f (run_refused (turning_of a scans) old new has.bytes f has.told h) has.means)
@@ -77,6 +76,7 @@ told_script : (a : TransformAsked) (source : ScansSource) (old new : DeskState) 
 told_script a own_sequential old new w e has h = absurd h
 told_script a own_progressive old new w e has h = absurd h
 told_script a (in_file file) old new why.Done e has h = tt
+told_script a (in_file file) old new (why.Warned n) e has h = absurd h
 told_script a (in_file file) old new (why.Usage u) e has h = absurd h
 told_script a (in_file file) old new (why.Picture p) e has h = tt
 told_script a (in_file file) old new (why.Refused f) e has h =

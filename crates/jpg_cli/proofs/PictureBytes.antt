@@ -1,5 +1,5 @@
 -- What the bytes of a file that were read come to, for the picture in it.
-use Rattle.std.proofs.Common.{◌≡◌, ℕ, ◌+◌, ◌<◌, ◌≤◌, List, [], ◌∷◌, ◌++◌, length, take, drop, refl, sym, ap, ◌∙◌, subst, arith, inl, inr, ◌⊎◌, Option, Some, None, zero, suc, get_or}
+use Rattle.std.proofs.Common.{◌≡◌, ℕ, ◌+◌, ◌<◌, ◌≤◌, List, [], ◌∷◌, ◌++◌, length, take, drop, refl, sym, ap, ◌∙◌, subst, arith, inl, inr, ◌⊎◌, Option, Some, None, zero, suc, get_or, Bool}
 use Rattle.std.specs.List.{All}
 use Rattle.std.proofs.lemmas.List.Elements.{All-append, All-nil}
 use Rattle.std.proofs.lemmas.List.{append-nil, append_assoc, length-append, take-append-drop}
@@ -9,17 +9,24 @@ use Rattle.jpg_spec.specs.Segments.{standard_limits}
 use Rattle.jpg_spec.specs.FirstFault.{IsFirstFault}
 use Rattle.jpg_spec.specs.FileStands.{FileStands}
 use Rattle.jpg_spec.specs.declared.fault.Fault.{Fault}
-use Rattle.jpg_spec.specs.declared.fault.Fault.TheVariants.{Truncated}
+use Rattle.jpg_spec.specs.Early.{IsMeaning, MeansEarly}
+use Rattle.jpg_spec.specs.FileMeaning.{meaning_of}
+use Rattle.jpg_spec.specs.InForce.{frame_of}
+use Rattle.jpg_spec.specs.Meaning.{Meaning}
+use Rattle.jpg_spec.specs.NotShown.{IsNotShown}
+use Rattle.jpg_spec.specs.Pixels.{out_fault}
 use Rattle.jpg_spec.specs.declared.answers.FaultAt.{FaultAt}
 use Rattle.jpg_spec.specs.declared.answers.Why.TheVariants as why
 use Rattle.jpg_spec.specs.declared.frame.Limits.{Limits}
-use Rattle.jpg_spec.proofs.FileLaws.{first_fault_once, stands_truncated}
+use Rattle.jpg_spec.proofs.FileLaws.{shown_not_standing}
+use Rattle.jpg_spec.proofs.ShownAlike.{shown_alike}
 use Rattle.jpg_base.specs.declared.stop.Stop.TheVariants as stop
 use Rattle.jpg_file.specs.FirstHead.{IsHeadOf}
-use Rattle.jpg_file.specs.ReadFile.{HasRead, IsDone, IsRefusal, IsStopOf, KeepsHeadAt, ReaderState, StopsAt, head_seen}
+use Rattle.jpg_file.specs.declared.ends.End.TheVariants as ends
+use Rattle.jpg_file.specs.ReadFile.{AfterEnd, HasRead, IsDone, IsRefusal, IsStopOf, KeepsHeadAt, ReaderState, StopsAt, head_seen}
 use Rattle.jpg_file.specs.declared.head.Head.{Head}
 use Rattle.jpg_file.proofs.PieceSteps.{counted}
-use Rattle.jpg_cli.specs.ReadPicture.{AfterFileEnd, AfterTakingPiece, HasFed, HoldsFile, IsOpenRead, IsRefused, IsRefusedFor, IsRefusedRead, IsShortRead, IsUnwanted, step_unless, unwanted_for, unwanted_in}
+use Rattle.jpg_cli.specs.ReadPicture.{AfterFileEnd, AfterTakingPiece, HasFed, HoldsEarly, HoldsFile, IsOpenRead, IsRefused, IsRefusedFor, IsRefusedRead, IsShortRead, IsUnwanted, step_unless, unwanted_for, unwanted_in}
 use Rattle.jpg_cli.specs.declared.read_picture.PictureStep.TheVariants as step
 use Rattle.jpg_cli.specs.declared.read_picture.Wanted.{Wanted}
 use Rattle.jpg_cli.specs.declared.read_picture.Wanted.TheVariants.{Coefficients, Image}
@@ -171,11 +178,16 @@ fault_or w bytes piece old r f o e h short s told = by o told
 
 -- THE END
 
+pub fault_at_end : (bytes : List ℕ) (f : Fault) (n : ℕ) → FileStands standard_limits bytes → length bytes < standard_limits.input → IsFirstFault standard_limits bytes f n → n ≡ length bytes
+fault_at_end bytes f n stands short (inl k) = absurd (shown_not_standing standard_limits f (take n bytes) (drop n bytes) bytes k.1.1 stands (take-append-drop n bytes))
+fault_at_end bytes f n stands short (inr (inl k)) = let long = k.2 in absurd (omega (arith, long, short))
+fault_at_end bytes f n stands short (inr (inr k)) = k.1
+
 pub refused_end : (w : Wanted) (bytes : List ℕ) (r : ReaderState) (f : FaultAt) → r.limits ≡ standard_limits → HasFed w r bytes → StopsAt r.limits bytes (stop.Fault f) → AfterFileEnd w bytes (why.Refused f)
 refused_end w bytes r f e h s =
     let so = open_so_far w bytes r e h in
     let first = subst (λ (l : Limits). IsRefusal l bytes f) e s in
-    let at = (first_fault_once standard_limits bytes f.fault Truncated f.at (length bytes) first (stands_truncated standard_limits bytes so.stands so.short)).1 in
+    let at = fault_at_end bytes f.fault f.at so.stands so.short first in
     record {
       refused = inl (
         subst (λ (l : List ℕ). IsRefusal standard_limits l f) (sym (append-nil bytes)) first,
@@ -184,3 +196,20 @@ refused_end w bytes r f e h s =
       within = omega (arith, at);
       last = omega (arith, at);
     }
+
+pub early_end : (w : Wanted) (bytes : List ℕ) (r new : ReaderState) (n : ℕ) → new.limits ≡ standard_limits → HasFed w r bytes → AfterEnd bytes (ends.Early n) new → HoldsEarly w new n bytes
+early_end w bytes r new n e h (count, early) = record { count = count; ended = early; small = h.small; wanted = by w h.wanted }
+  where
+    M : Meaning
+    M = meaning_of (frame_of new.limits early.segments) early.segments early.blocks
+
+    means : IsMeaning standard_limits bytes (meaning_of (frame_of new.limits early.segments) early.segments early.blocks)
+    means = inr (subst (λ (l : Limits). MeansEarly l bytes (meaning_of (frame_of new.limits early.segments) early.segments early.blocks)) e early.early)
+
+    none : (gray : Bool) (o : Option Fault) → out_fault gray M ≡ o → ((f : FaultAt) → IsNotShown standard_limits gray bytes f → ⊥) → o ≡ None
+    none gray None same shown = refl
+    none gray (Some fault) same shown = let t = (shown_alike standard_limits gray bytes M means).told fault same in absurd (shown t.0 t.1)
+
+    by : (w : Wanted) → ((f : FaultAt) → IsUnwanted w bytes f → ⊥) → unwanted_for w M ≡ None
+    by Coefficients shown = refl
+    by (Image gray) shown = none gray (out_fault gray M) refl shown

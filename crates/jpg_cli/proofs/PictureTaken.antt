@@ -1,5 +1,5 @@
 -- What reading pieces of a picture's file comes to, over the states that a desk tells.
-use Rattle.std.proofs.Common.{◌≡◌, ℕ, ◌<◌, ◌≤◌, List, [], ◌∷◌, ◌++◌, length, take, Option, Result, Ok, Err, refl, sym, ap, ◌∙◌, subst, arith}
+use Rattle.std.proofs.Common.{◌≡◌, ℕ, ◌<◌, ◌≤◌, List, [], ◌∷◌, ◌++◌, length, take, Option, Some, None, Result, Ok, Err, refl, sym, ap, ◌∙◌, subst, arith}
 use Rattle.std.specs.Io.KnownBytes.{Consumes, IsAtEnd}
 use Rattle.jpg_base.specs.declared.names.Name.{Name}
 use Rattle.jpg_base.specs.declared.names.Put.TheVariants as put
@@ -8,18 +8,22 @@ use Rattle.jpg_base.specs.Desk.{DeskState, Opens, Reads, Rose}
 use Rattle.jpg_base.specs.Laws.{Consumes-then}
 use Rattle.jpg_spec.specs.Segments.{standard_limits}
 use Rattle.jpg_spec.specs.FileStands.{IsWholeFile}
+use Rattle.jpg_spec.specs.Early.{MeansEarly}
+use Rattle.jpg_spec.specs.InForce.{frame_of}
+use Rattle.jpg_spec.specs.Meaning.{Meaning}
+use Rattle.jpg_spec.specs.FileMeaning.{meaning_of}
 use Rattle.jpg_spec.specs.declared.answers.Why.{Why}
 use Rattle.jpg_spec.specs.declared.answers.Why.TheVariants as why
 use Rattle.jpg_spec.specs.declared.answers.Which.TheVariants as which
 use Rattle.jpg_spec.specs.declared.frame.Copying.{Copying}
 use Rattle.jpg_spec.specs.declared.frame.Limits.{Limits}
 use Rattle.jpg_file.specs.File.{keeping_of}
-use Rattle.jpg_file.specs.PictureRead.{MeansFor, TakesPicture}
+use Rattle.jpg_file.specs.PictureRead.{MeansFor, TakesEarly, TakesPicture}
 use Rattle.jpg_file.specs.ReadFile.{ReaderState}
 use Rattle.jpg_file.specs.declared.picture.Picture.{Picture}
 use Rattle.jpg_cli.specs.Endings.{Stopped}
 use Rattle.jpg_cli.specs.Reading.{IsFile, rest_of}
-use Rattle.jpg_cli.specs.ReadPicture.{AfterFileEnd, AfterNextPiece, AfterTakingPiece, EndsEarly, EndsReading, HasFed, HoldsFile, IsOpenRead, IsRefusedRead, IsShortRead, IsWholeRead, PictureRead, ReadsFrom, Takes}
+use Rattle.jpg_cli.specs.ReadPicture.{AfterFileEnd, AfterNextPiece, AfterPictureEnd, AfterTakingPiece, EndDone, EndsEarly, EndsReading, GoesOn, HasFed, Holds, HoldsEarly, HoldsFile, IsAllRead, IsEarlyRead, IsOpenRead, IsRead, IsRefusedRead, IsShortRead, IsWholeRead, PictureRead, ReadsFrom, Takes}
 use Rattle.jpg_cli.specs.Stays.{OnlyReads}
 use Rattle.jpg_cli.specs.declared.read_picture.PictureStep.{PictureStep}
 use Rattle.jpg_cli.specs.declared.read_picture.Wanted.{Wanted}
@@ -41,7 +45,9 @@ reads_none s = record { copies = copies_none s; outputs = refl }
 after_piece : (w : Wanted) (start s1 : DeskState) (bytes piece : List ℕ) (answer : PictureStep) (r : ReaderState) → 0 < length piece → length (bytes ++ piece) ≤ standard_limits.input → Consumes start.left s1.left (bytes ++ piece) → AfterTakingPiece w (bytes ++ piece) answer r → AfterNextPiece w start bytes answer r s1
 after_piece w start s1 bytes piece step.More r some most read h = (piece, some, h, read)
 after_piece w start s1 bytes piece step.Whole r some most read h = (bytes ++ piece, read, most, h)
+after_piece w start s1 bytes piece (step.Early n) r some most read h = absurd h
 after_piece w start s1 bytes piece (step.Ended why.Done) r some most read h = absurd h
+after_piece w start s1 bytes piece (step.Ended (why.Warned n)) r some most read h = absurd h
 after_piece w start s1 bytes piece (step.Ended (why.Usage u)) r some most read h = absurd h
 after_piece w start s1 bytes piece (step.Ended (why.Picture p)) r some most read h = absurd h
 after_piece w start s1 bytes piece (step.Ended (why.Refused f)) r some most read h = (bytes ++ piece, read, most, h (rest_of s1.left))
@@ -59,6 +65,7 @@ piece_taken w start s0 s1 n buf bytes answer r most read had h =
 
 pub piece_end : (w : Wanted) (start s0 s1 : DeskState) (bytes : List ℕ) (ended : Why) → length bytes < standard_limits.input → IsAtEnd s0.left → s1.left ≡ s0.left → Consumes start.left s0.left bytes → AfterFileEnd w bytes ended → EndsEarly w start ended s1
 piece_end w start s0 s1 bytes why.Done short end left had h = absurd h
+piece_end w start s0 s1 bytes (why.Warned n) short end left had h = absurd h
 piece_end w start s0 s1 bytes (why.Usage u) short end left had h = absurd h
 piece_end w start s0 s1 bytes (why.Picture p) short end left had h = absurd h
 piece_end w start s0 s1 bytes (why.Refused f) short end left had h =
@@ -68,6 +75,20 @@ piece_end w start s0 s1 bytes (why.OpenFault file) short end left had h = absurd
 piece_end w start s0 s1 bytes (why.ReadFault file) short end left had h = absurd h
 piece_end w start s0 s1 bytes why.WriteFault short end left had h = absurd h
 piece_end w start s0 s1 bytes why.NoMemory short end left had h = absurd h
+
+pub picture_end : (w : Wanted) (start s0 s1 : DeskState) (bytes : List ℕ) (answer : PictureStep) (r : ReaderState) → length bytes < standard_limits.input → IsAtEnd s0.left → s1.left ≡ s0.left → Consumes start.left s0.left bytes → AfterPictureEnd w bytes answer r
+    → AfterNextPiece w start bytes answer r s1
+picture_end w start s0 s1 bytes step.More r short end left had h = absurd h
+picture_end w start s0 s1 bytes step.Whole r short end left had h = absurd h
+picture_end w start s0 s1 bytes (step.Early n) r short end left had h =
+    ((bytes, left_still s0 s1 bytes start left had, omega (arith, short), h), ap rest_of left ∙ none_left s0.left end)
+picture_end w start s0 s1 bytes (step.Ended ended) r short end left had h = piece_end w start s0 s1 bytes ended short end left had h
+
+pub end_goes_on : (answer : PictureStep) (r : ReaderState) (now : DeskState) → EndDone answer r → GoesOn answer r now
+end_goes_on step.More r now h = absurd h
+end_goes_on step.Whole r now h = absurd h
+end_goes_on (step.Early n) r now h = h
+end_goes_on (step.Ended ended) r now h = tt
 
 -- A READ that failed
 pub piece_unread : (w : Wanted) (start s0 s1 : DeskState) (bytes : List ℕ) (r : ReaderState) → r.limits ≡ standard_limits → HasFed w r bytes → OnlyReads start s0 → Consumes start.left s0.left bytes → Rose s0.counts.reads s1.counts.reads → s1.left ≡ s0.left
@@ -79,24 +100,30 @@ piece_unread w start s0 s1 bytes r e h still had rose left = (
 
 -- THE PICTURE of the reader's file
 
-pub picture_taken : (w : Wanted) (keeping : Copying) (s0 s1 : DeskState) (r : ReaderState) (p : Picture) → r.limits ≡ standard_limits → keeping_of r.file ≡ keeping → TakesPicture r p → Takes (HoldsFile w r) s0 s1 → EndsReading w keeping s0 (Ok p) s1
-picture_taken w keeping s0 s1 r p e same takes (bytes, read, most, h) = (
-  h.done.meaning,
-  subst (λ (k : Copying). MeansFor k p h.done.meaning) same (takes (take h.count bytes) h.done),
-  (
-    bytes,
-    read,
-    most,
-    record {
-      count = h.count;
-      within = h.within;
-      last = h.last;
-      small = h.small;
-      whole = subst (λ (l : Limits). IsWholeFile l (take h.count bytes) h.done.meaning) e h.done.whole;
-      wanted = h.wanted;
-    },
-  ),
-)
+whole_taken : (w : Wanted) (bytes : List ℕ) (r : ReaderState) → r.limits ≡ standard_limits → (h : HoldsFile w r bytes) → IsWholeRead w h.done.meaning bytes
+whole_taken w bytes r e h = record {
+  count = h.count;
+  within = h.within;
+  last = h.last;
+  small = h.small;
+  whole = subst (λ (l : Limits). IsWholeFile l (take h.count bytes) h.done.meaning) e h.done.whole;
+  wanted = h.wanted;
+}
+
+-- what a file that ended early means, as the reader holds it
+abbrev pub early_meaning : {w : Wanted} {r : ReaderState} {n : ℕ} {bytes : List ℕ} → HoldsEarly w r n bytes → Meaning
+early_meaning {w} {r} {n} {bytes} h = (let k = h.ended in meaning_of (frame_of r.limits k.segments) k.segments k.blocks)
+
+pub early_taken : (w : Wanted) (bytes : List ℕ) (n : ℕ) (r : ReaderState) → r.limits ≡ standard_limits → (h : HoldsEarly w r n bytes) → IsEarlyRead w (early_meaning h) n bytes
+early_taken w bytes n r e h =
+    let M = early_meaning h in record { early = subst (λ (l : Limits). MeansEarly l bytes M) e h.ended.early; count = h.count; small = h.small; wanted = h.wanted }
+
+pub picture_taken : (w : Wanted) (keeping : Copying) (s0 s1 : DeskState) (r : ReaderState) (p : Picture) (early : Option ℕ) → r.limits ≡ standard_limits → keeping_of r.file ≡ keeping → TakesPicture r p → TakesEarly r p
+    → Takes (Holds w r early) s0 s1 → IsAllRead early s1 → EndsReading w keeping s0 (Ok (p, early)) s1
+picture_taken w keeping s0 s1 r p None e same whole cut (bytes, read, most, h) all =
+    ((h.done.meaning, subst (λ (k : Copying). MeansFor k p h.done.meaning) same (whole (take h.count bytes) h.done), (bytes, read, most, whole_taken w bytes r e h)), all)
+picture_taken w keeping s0 s1 r p (Some n) e same whole cut (bytes, read, most, h) all =
+    ((early_meaning h, subst (λ (k : Copying). MeansFor k p (early_meaning h)) same (cut bytes h.ended), (bytes, read, most, early_taken w bytes n r e h)), all)
 
 -- FROM THE NAME
 
@@ -108,6 +135,7 @@ stopped_there s0 s1 s2 file h k = record { asked = noted s0 s1 s2 file h k; outp
 
 ends_early : (w : Wanted) (keeping : Copying) (s0 s1 s2 : DeskState) (file : Name) (ended : Why) → Opens s0 file put.Done s1 → OnlyReads s1 s2 → EndsEarly w s1 ended s2 → PictureRead w keeping file s0 (Err ended) s2
 ends_early w keeping s0 s1 s2 file why.Done h k e = absurd e
+ends_early w keeping s0 s1 s2 file (why.Warned n) h k e = absurd e
 ends_early w keeping s0 s1 s2 file (why.Usage u) h k e = absurd e
 ends_early w keeping s0 s1 s2 file (why.Picture p) h k e = absurd e
 ends_early w keeping s0 s1 s2 file (why.Refused f) h k e = (stopped_there s0 s1 s2 file h k, reads_from s0 s1 s2 file (IsRefusedRead w f (rest_of s2.left)) h e)
@@ -123,8 +151,8 @@ ends_early w keeping s0 s1 s2 file (why.ReadFault which.Output) h k e = absurd e
 ends_early w keeping s0 s1 s2 file why.WriteFault h k e = absurd e
 ends_early w keeping s0 s1 s2 file why.NoMemory h k e = (stopped_there s0 s1 s2 file h k, reads_from s0 s1 s2 file (IsShortRead w) h e)
 
-pub picture_read : (w : Wanted) (keeping : Copying) (s0 s1 s2 : DeskState) (file : Name) (answer : Result Picture Why) → Opens s0 file put.Done s1 → OnlyReads s1 s2 → EndsReading w keeping s1 answer s2 → PictureRead w keeping file s0 answer s2
-picture_read w keeping s0 s1 s2 file (Ok p) h k (M, means, e) = (noted s0 s1 s2 file h k, (M, means, reads_from s0 s1 s2 file (IsWholeRead w M) h e))
+pub picture_read : (w : Wanted) (keeping : Copying) (s0 s1 s2 : DeskState) (file : Name) (answer : Result (Picture × Option ℕ) Why) → Opens s0 file put.Done s1 → OnlyReads s1 s2 → EndsReading w keeping s1 answer s2 → PictureRead w keeping file s0 answer s2
+picture_read w keeping s0 s1 s2 file (Ok found) h k ((M, means, e), all) = (noted s0 s1 s2 file h k, (M, means, reads_from s0 s1 s2 file (IsRead w M found.1) h e), all)
 picture_read w keeping s0 s1 s2 file (Err ended) h k e = ends_early w keeping s0 s1 s2 file ended h k e
 
 -- what was read of a file stays so where no more of it is read
@@ -135,3 +163,7 @@ from_still s0 s1 s2 file Is e h = record {
   most = h.most;
   is = h.is;
 }
+
+pub all_still : (early : Option ℕ) (s1 s2 : DeskState) → s2.left ≡ s1.left → IsAllRead early s1 → IsAllRead early s2
+all_still None s1 s2 e h = tt
+all_still (Some n) s1 s2 e h = ap rest_of e ∙ h

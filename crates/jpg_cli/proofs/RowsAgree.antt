@@ -42,7 +42,7 @@ use Rattle.jpg_cli.specs.ShowingRows.{Head, IsHeadIn}
 use Rattle.jpg_cli.proofs.RowsWhole.{few_told, so_far, so_far_shown}
 
 -- THE FRAME at the scan header's end is that of the segments before it
-frame_so_far : (h : Head) (all : List ℕ) → BeginsScanOfAll standard_limits all h.before h.contents → frame_of standard_limits ((0xda, h.contents) ∷ h.before) ≡ frame_of standard_limits h.before
+pub frame_so_far : (h : Head) (all : List ℕ) → BeginsScanOfAll standard_limits all h.before h.contents → frame_of standard_limits ((0xda, h.contents) ∷ h.before) ≡ frame_of standard_limits h.before
 frame_so_far h all k = frame_stays standard_limits h.before 0xda h.contents (framed h.before (k.header).passed.0) (k.header).passed.0
 
 -- BLOCKS of the first rows, where they are real
@@ -58,14 +58,14 @@ real_agree f places told i x z found = by (nat_lt i (length f.components) && is_
         let at = found (lt_of i (length f.components) k.0) k.1 in
         sym (ap (λ t. cond (nat_lt i (length f.components) && is_real f i x z) (cond t (told i x z) (no_blocks i x z)) (zeros 64)) at)
 
-real_there : (f : Frame) (blocks : Blocks) (i x y : ℕ) → i < length f.components → x < blocks_across f (component_at f i) → y < blocks_down f (component_at f i) → real_blocks f blocks i x y ≡ blocks i x y
+pub real_there : (f : Frame) (blocks : Blocks) (i x y : ℕ) → i < length f.components → x < blocks_across f (component_at f i) → y < blocks_down f (component_at f i) → real_blocks f blocks i x y ≡ blocks i x y
 real_there f blocks i x y known wide high =
     ap (λ b. cond (b && (nat_lt x (blocks_across f (component_at f i)) && nat_lt y (blocks_down f (component_at f i)))) (blocks i x y) (zeros 64)) (lt_yes i (length f.components) known)
     ∙ ap (λ b. cond (b && nat_lt y (blocks_down f (component_at f i))) (blocks i x y) (zeros 64)) (lt_yes x (blocks_across f (component_at f i)) wide)
     ∙ ap (λ b. cond b (blocks i x y) (zeros 64)) (lt_yes y (blocks_down f (component_at f i)) high)
 
 -- a component's rows of blocks in an MCU row are told by the frame
-rows_told : (f : Frame) (segments : List Segment) (blocks : Blocks) (i : ℕ) → i < length f.components → block_rows (meaning_of f segments blocks) i ≡ rows_in_mcu f i
+pub rows_told : (f : Frame) (segments : List Segment) (blocks : Blocks) (i : ℕ) → i < length f.components → block_rows (meaning_of f segments blocks) i ≡ rows_in_mcu f i
 rows_told f segments blocks i lt =
     let M = meaning_of f segments blocks in
     let count : length M.components ≡ length f.components = length-map (below (length f.components)) (picture_component f segments) ∙ length_below (length f.components) in

@@ -1,5 +1,5 @@
 -- What reading comes to after a picture's rows were shown, over the states that a desk tells.
-use Rattle.std.proofs.Common.{◌≡◌, ℕ, ◌+◌, ◌-◌, ◌<◌, List, [], ◌∷◌, ◌++◌, length, take, refl, sym, ap, ◌∙◌, subst, arith, inl, inr, Option}
+use Rattle.std.proofs.Common.{◌≡◌, ℕ, ◌+◌, ◌-◌, ◌<◌, true, ◌⊎◌, List, [], ◌∷◌, ◌++◌, length, take, refl, sym, ap, ◌∙◌, subst, arith, inl, inr, Option}
 use Rattle.std.proofs.lemmas.List.{append-nil, length-append, take_all}
 use Rattle.jpg_base.specs.declared.names.Got.TheVariants as got
 use Rattle.jpg_base.specs.declared.names.Got.{Got}
@@ -9,32 +9,32 @@ use Rattle.jpg_base.specs.declared.names.Name.{Name}
 use Rattle.jpg_base.specs.Desk.{DeskState, NotesName, Reads}
 use Rattle.jpg_base.specs.Laws.{Grows}
 use Rattle.jpg_spec.specs.RowsShown.{picture_so_far, rows_text}
-use Rattle.jpg_spec.specs.RowsTold.{CompletesRows}
+use Rattle.jpg_spec.specs.RowsTold.{BeginsScanOfAll, CompletesRows}
 use Rattle.jpg_spec.specs.Segments.{standard_limits}
 use Rattle.jpg_spec.specs.declared.answers.FaultAt.{FaultAt}
 use Rattle.jpg_spec.specs.declared.answers.Why.{Why}
 use Rattle.jpg_spec.specs.declared.answers.Why.TheVariants as why
 use Rattle.jpg_spec.specs.declared.answers.Which.TheVariants as which
 use Rattle.jpg_spec.specs.declared.frame.Limits.{Limits}
-use Rattle.jpg_spec.specs.declared.fault.Fault.TheVariants.{Truncated}
-use Rattle.jpg_spec.proofs.FileLaws.{first_fault_once, stands_truncated}
 use Rattle.jpg_file.specs.ReadFile.{IsRefusal}
-use Rattle.jpg_file.specs.ReadRows.{HasReadAll, RowReaderState}
+use Rattle.jpg_file.specs.ReadRows.{AfterEndRow, HasReadAll, IsEarlyByRows, IsEarlyPlainly, RowReaderState}
+use Rattle.jpg_file.specs.declared.ends.End.TheVariants as ends
 use Rattle.jpg_pnm_bmp.specs.EndState.{EndState}
 use Rattle.jpg_color.specs.StripImage.{Drawing}
 use Rattle.jpg_cli.specs.Endings.{Added}
 use Rattle.jpg_cli.specs.Reading.{rest_of}
 use Rattle.jpg_cli.specs.ReadPicture.{IsOpenRead, IsRefusedRead}
-use Rattle.jpg_cli.specs.Showing.{IsRowsText, IsShownByRows, IsShownUpTo, Showing, Shown, ShowsSoFar, all_bytes, bytes_before}
-use Rattle.jpg_cli.specs.ShowingRows.{AfterRows, GoesLater, HasCreated, HasShown, Head, StopsWith, at_work}
+use Rattle.jpg_cli.specs.Showing.{IsInTime, IsRowsText, IsShownByRows, IsShownUpTo, Showing, Shown, ShowsSoFar, all_bytes, bytes_before}
+use Rattle.jpg_cli.specs.ShowingRows.{AfterRows, AfterRowsEnd, GoesLater, GoesOnRows, HasCreated, HasShown, HasShownEarly, Head, StopsWith, at_work}
 use Rattle.jpg_cli.specs.declared.read_picture.Wanted.TheVariants.{Image}
 use Rattle.jpg_cli.specs.declared.show_rows.RowsStep.{RowsStep}
 use Rattle.jpg_cli.specs.declared.show_rows.RowsStep.TheVariants as step
 use Rattle.jpg_cli.proofs.CommentsCopied.{left_still, works_then}
 use Rattle.jpg_cli.proofs.Input.{none_left}
+use Rattle.jpg_cli.proofs.PictureBytes.{fault_at_end}
 use Rattle.jpg_cli.proofs.RowsDesk.{created_added, created_read}
 use Rattle.jpg_cli.proofs.RowsEnd.{none_unwanted, shown_head}
-use Rattle.jpg_cli.proofs.RowsRead.{open_rows, taken_by_row}
+use Rattle.jpg_cli.proofs.RowsRead.{early_more, open_rows, taken_by_row}
 
 -- nothing more was read
 created_still : (s : Showing) (old start : DeskState) (all written : List ℕ) (answer : Got) (buf : List ℕ) (s0 s1 : DeskState) → Reads s0 answer buf s1 → s1.left ≡ s0.left → HasCreated s old start all written s0 → HasCreated s old start all written s1
@@ -71,13 +71,13 @@ rows_unread s old start h all m r d e buf s0 s1 read k = (
 )
 
 -- THE END
-pub rows_read_all : (s : Showing) (old start : DeskState) (h : Head) (all : List ℕ) (m : ℕ) (r : RowReaderState) (d : Drawing) (e : EndState) (now : DeskState) → HasShown s old start h all m (at_work r d e now) → HasReadAll all r
-rows_read_all s old start h all m r d e now k = inr (m, k.read)
+pub rows_read_all : (s : Showing) (old start : DeskState) (h : Head) (all : List ℕ) (m : ℕ) (r : RowReaderState) (d : Drawing) (e : EndState) (now : DeskState) → HasShown s old start h all m (at_work r d e now) → HasReadAll all m r
+rows_read_all s old start h all m r d e now k = inr k.read
 
 end_place : (s : Showing) (old start : DeskState) (h : Head) (all : List ℕ) (m : ℕ) (r : RowReaderState) (d : Drawing) (e : EndState) (now : DeskState) (f : FaultAt) → HasShown s old start h all m (at_work r d e now) → IsRefusal r.limits all f → f.at ≡ length all
 end_place s old start h all m r d e now f k stops =
     let so = open_rows s.gray h all m r k.limits k.head k.read in
-    (first_fault_once standard_limits all f.fault Truncated f.at (length all) (subst (λ (l : Limits). IsRefusal l all f) k.limits stops) (stands_truncated standard_limits all so.stands so.short)).1
+    fault_at_end all f.fault f.at so.stands so.short (subst (λ (l : Limits). IsRefusal l all f) k.limits stops)
 
 end_whole : (s : Showing) (old start : DeskState) (h : Head) (all : List ℕ) (m : ℕ) (r : RowReaderState) (d : Drawing) (e : EndState) (now : DeskState) (f : FaultAt) → HasShown s old start h all m (at_work r d e now) → IsRefusal r.limits all f
     → take f.at all ≡ all
@@ -93,9 +93,10 @@ end_refused s old start h all m r d e now f k stops =
       last = omega (arith, at);
     }
 
-pub rows_at_end : (s : Showing) (old start : DeskState) (h : Head) (all : List ℕ) (m : ℕ) (r : RowReaderState) (d : Drawing) (e : EndState) (buf : List ℕ) (ended : Why) (s0 s1 : DeskState) → Reads s0 got.End buf s1 → StopsWith r.limits all ended
+rows_at_end : (s : Showing) (old start : DeskState) (h : Head) (all : List ℕ) (m : ℕ) (r : RowReaderState) (d : Drawing) (e : EndState) (buf : List ℕ) (ended : Why) (s0 s1 : DeskState) → Reads s0 got.End buf s1 → StopsWith r.limits all ended
     → HasShown s old start h all m (at_work r d e s0) → Shown s old ended s1
 rows_at_end s old start h all m r d e buf why.Done s0 s1 read stops k = absurd stops
+rows_at_end s old start h all m r d e buf (why.Warned n) s0 s1 read stops k = absurd stops
 rows_at_end s old start h all m r d e buf (why.Usage u) s0 s1 read stops k = absurd stops
 rows_at_end s old start h all m r d e buf (why.Picture p) s0 s1 read stops k = absurd stops
 rows_at_end s old start h all m r d e buf (why.Refused f) s0 s1 read stops k =
@@ -107,11 +108,53 @@ rows_at_end s old start h all m r d e buf (why.ReadFault u) s0 s1 read stops k =
 rows_at_end s old start h all m r d e buf why.WriteFault s0 s1 read stops k = absurd stops
 rows_at_end s old start h all m r d e buf why.NoMemory s0 s1 read stops k = absurd stops
 
+-- or all MCU rows that are complete were drawn and written, where the input ended early
+ended_early : (s : Showing) (old start : DeskState) (h : Head) (all : List ℕ) (m n : ℕ) (r after : RowReaderState) (d : Drawing) (e : EndState) (buf : List ℕ) (s0 s1 : DeskState) → Reads s0 got.End buf s1 → after.limits ≡ r.limits
+    → AfterEndRow all m (ends.Early n) after → HasShown s old start h all m (at_work r d e s0) → HasShownEarly s old start h all m n (at_work after d e s1)
+ended_early s old start h all m n r after d e buf s0 s1 read limits ended k = record {
+  written = k.written;
+  limits = limits ∙ k.limits;
+  count = ended.0;
+  short = subst (λ (l : Limits). length all < l.input) k.limits (k.read).short;
+  done = by ended.1;
+  small = k.small;
+  head = k.head;
+  drawing = k.drawing;
+  desk = created_still s old start all k.written got.End buf s0 s1 read read.after.1 k.desk;
+  early = subst (λ l. IsInTime s l k.written) (append-nil all) (early_more s old start h all [] m r d e s0 (omega arith) k);
+  ended = ap rest_of read.after.1 ∙ none_left s0.left read.after.0;
+}
+  where
+    by : (IsEarlyPlainly all after × (m ≡ 0)) ⊎ IsEarlyByRows all m after → IsEarlyByRows all m after
+    by (inl plain) = absurd ((plain.0).plain h.before h.contents (subst (λ (l : Limits). BeginsScanOfAll l all h.before h.contents) (sym (limits ∙ k.limits)) (k.head).begins))
+    by (inr rows) = rows
+
+pub rows_end : (s : Showing) (old start : DeskState) (h : Head) (all : List ℕ) (m : ℕ) (r after : RowReaderState) (d : Drawing) (e : EndState) (buf : List ℕ) (st : RowsStep) (s0 s1 : DeskState) → Reads s0 got.End buf s1 → after.limits ≡ r.limits
+    → AfterRowsEnd all m st after → HasShown s old start h all m (at_work r d e s0) → AfterRows s old start h (all ++ []) st (at_work after d e s1)
+rows_end s old start h all m r after d e buf step.More s0 s1 read limits ended k = absurd ended
+rows_end s old start h all m r after d e buf step.Whole s0 s1 read limits ended k = absurd ended
+rows_end s old start h all m r after d e buf (step.Early n) s0 s1 read limits ended k =
+    subst (λ l. AfterRows s old start h l (step.Early n) (at_work after d e s1)) (sym (append-nil all)) (m, ended_early s old start h all m n r after d e buf s0 s1 read limits ended k)
+rows_end s old start h all m r after d e buf (step.Ended w) s0 s1 read limits ended k =
+    rows_at_end s old start h all m r d e buf w s0 s1 read (subst (λ (l : Limits). StopsWith l all w) limits ended) k
+
+pub end_goes_on : (all : List ℕ) (m : ℕ) (st : RowsStep) (r : RowReaderState) (now : DeskState) → now.output_created ≡ true → AfterRowsEnd all m st r → GoesOnRows st r now
+end_goes_on all m step.More r now created ended = absurd ended
+end_goes_on all m step.Whole r now created ended = absurd ended
+end_goes_on all m (step.Early n) r now created ended = created
+end_goes_on all m (step.Ended w) r now created ended = tt
+
+pub end_later : (all : List ℕ) (m : ℕ) (st : RowsStep) (r : RowReaderState) (before now : ℕ) → AfterRowsEnd all m st r → GoesLater before st now
+end_later all m step.More r before now ended = absurd ended
+end_later all m step.Whole r before now ended = absurd ended
+end_later all m (step.Early n) r before now ended = tt
+end_later all m (step.Ended w) r before now ended = tt
+
 -- the room that is left for more
 pub rows_room : (s : Showing) (old start : DeskState) (h : Head) (all : List ℕ) (m : ℕ) (r : RowReaderState) (d : Drawing) (e : EndState) (now : DeskState) (room : ℕ) → room ≡ r.limits.input - r.file.reading.taken → HasShown s old start h all m (at_work r d e now)
     → (room + length all ≡ standard_limits.input) × (length all < standard_limits.input)
 rows_room s old start h all m r d e now room is k =
-    let taken = taken_by_row r.limits all r.file (k.read).begun.rows (k.read).«open» in
+    let taken = taken_by_row r.limits all r.file (k.read).begun.rows ((k.read).«open»).stands in
     let same = is ∙ ap (λ (l : Limits). l.input - r.file.reading.taken) k.limits ∙ ap (λ n. standard_limits.input - n) taken in
     let short = subst (λ (l : Limits). length all < l.input) k.limits (k.read).short in
     (omega (arith, same, short), short)
@@ -120,9 +163,10 @@ rows_room s old start h all m r d e now room is k =
 pub goes_later : (s : Showing) (old start : DeskState) (h : Head) (all piece : List ℕ) (st : RowsStep) (r : RowReaderState) (d : Drawing) (e : EndState) (now : DeskState) (t : ℕ) → t ≡ length all → length all < standard_limits.input → 0 < length piece
     → AfterRows s old start h (all ++ piece) st (at_work r d e now) → GoesLater t st r.file.reading.taken
 goes_later s old start h all piece step.More r d e now t is short some (m, k) =
-    let taken = taken_by_row r.limits (all ++ piece) r.file (k.read).begun.rows (k.read).«open» in (omega (arith, is, taken, some, length-append all piece), omega (arith, is, short))
+    let taken = taken_by_row r.limits (all ++ piece) r.file (k.read).begun.rows ((k.read).«open»).stands in (omega (arith, is, taken, some, length-append all piece), omega (arith, is, short))
 goes_later s old start h all piece step.Whole r d e now t is short some k = tt
+goes_later s old start h all piece (step.Early n) r d e now t is short some k = tt
 goes_later s old start h all piece (step.Ended w) r d e now t is short some k = tt
 
 pub rows_taken : (s : Showing) (old start : DeskState) (h : Head) (all : List ℕ) (m : ℕ) (r : RowReaderState) (d : Drawing) (e : EndState) (now : DeskState) → HasShown s old start h all m (at_work r d e now) → r.file.reading.taken ≡ length all
-rows_taken s old start h all m r d e now k = taken_by_row r.limits all r.file (k.read).begun.rows (k.read).«open»
+rows_taken s old start h all m r d e now k = taken_by_row r.limits all r.file (k.read).begun.rows ((k.read).«open»).stands

@@ -100,7 +100,7 @@ shown_whole s old start h all m r d e now k = record {
     wanted : (o : Option Fault) → out_fault s.gray M ≡ o → out_fault s.gray M ≡ None
     wanted None is = is
     wanted (Some fault) is =
-        let t = (shown_alike standard_limits s.gray k.front M whole.0).told fault is in
+        let t = (shown_alike standard_limits s.gray k.front M (inl whole.0)).told fault is in
         absurd (not_shown s.gray k.front t.0 t.1 (record { before = h.before; contents = h.contents; begins = begins; shown = (k.head).shown }))
 
 pub all_told : (s : Showing) (old start : DeskState) (h : Head) (all : List ℕ) (m : ℕ) (r : RowReaderState) (d : Drawing) (e : EndState) (now : DeskState) → HasShownAll s old start h all m (at_work r d e now) → IsWhole d.strips
@@ -119,11 +119,11 @@ pub record IsEndOfText (s : Showing) (M : Meaning) (all written due : List ℕ) 
   pub whole : IsWholeRead (Image s.gray) M all
   pub same : written ++ due ≡ shown_text s M
 
-abbrev reads_whole : (s : Showing) (old start : DeskState) (M : Meaning) (all written due : List ℕ) (now : DeskState) (had : List ℕ) → IsEndOfText s M all written due → HasCreated s old start all had now → ReadsShown s M old now
-reads_whole s old start M all written due now had h desk = created_read s old start all had now (IsWholeRead (Image s.gray) M) desk h.most h.whole
+abbrev reads_whole : (s : Showing) (old start : DeskState) (M : Meaning) (all written due : List ℕ) (now : DeskState) (had : List ℕ) → IsEndOfText s M all written due → HasCreated s old start all had now → ReadsShown s M None old now
+reads_whole s old start M all written due now had h desk = (created_read s old start all had now (IsWholeRead (Image s.gray) M) desk h.most h.whole, tt)
 
 abbrev image_part : (s : Showing) (old start : DeskState) (M : Meaning) (all written due : List ℕ) (n : ℕ) (s0 s1 : DeskState) → IsEndOfText s M all written due → HasCreated s old start all written s0 → OnlyWrites s0 s1
-    → AppendsLast s0.outputs (take n due) s1.outputs → Added (s.input ∷ []) s.output (take (length written + n) (shown_text s M)) old s1 × ReadsShown s M old s1
+    → AppendsLast s0.outputs (take n due) s1.outputs → Added (s.input ∷ []) s.output (take (length written + n) (shown_text s M)) old s1 × ReadsShown s M None old s1
 image_part s old start M all written due n s0 s1 h desk only gone =
     let new = created_more s old start all written (take n due) s0 s1 desk only gone in (
       subst (λ t. Added (s.input ∷ []) s.output t old s1) (first_part written due (shown_text s M) n h.same) (created_added s old start all (written ++ take n due) s1 new),
@@ -143,13 +143,13 @@ image_ended s old start M all written out due (Err stop.NoMemory) new s0 s1 h ea
     let less = (sent.bytes).1 in
     let part = image_part s old start M all written (out ++ due) n s0 s1 h desk sent.only (sent.bytes).2 in
     let size : length written + length (out ++ due) ≡ length (shown_text s M) = sym (length-append written (out ++ due)) ∙ ap length h.same in
-    inr (inl (record { part = record { meaning = M; count = length written + n; read = part.1; wrote = part.0 }; left = omega (arith, less, size) }))
+    inr (inl (record { part = record { meaning = M; early = None; count = length written + n; read = part.1; wrote = part.0 }; left = omega (arith, less, size) }))
 image_ended s old start M all written out due (Err stop.WriteFault) new s0 s1 h early desk sent none =
     let n = (sent.bytes).0.0 in
     let part = image_part s old start M all written (out ++ due) n s0 s1 h desk sent.only (sent.bytes).0.1 in (
       rose_since s old start all written s0 s1 desk (sent.bytes).1,
       inl (record {
-        part = record { meaning = M; count = length written + n; read = part.1; wrote = part.0 };
+        part = record { meaning = M; early = None; count = length written + n; read = part.1; wrote = part.0 };
         early = λ front rest other cut many k.
             (let l = early front rest other cut many k in
             let size = ap length (first_part written (out ++ due) (shown_text s M) n h.same) in omega (arith, l, size, length-append written (take n (out ++ due))));

@@ -6,7 +6,7 @@ use Rattle.jpg_pnm_bmp.specs.EndState.{EndState}
 use Rattle.jpg_color.specs.StripImage.{Drawing}
 use Rattle.jpg_spec.specs.declared.answers.Why.{Why}
 use Rattle.jpg_cli.specs.Showing.{Showing, Shown}
-use Rattle.jpg_cli.specs.ShowingRows.{AfterRows, GoesLater, HasShown, HasShownAll, Head, reads_left, at_work}
+use Rattle.jpg_cli.specs.ShowingRows.{AfterRows, GoesLater, HasShown, HasShownAll, HasShownEarly, Head, reads_left, at_work}
 use Rattle.jpg_cli.specs.declared.show_rows.RowsStep.{RowsStep}
 use Rattle.jpg_cli.specs.declared.show_rows.RowsStep.TheVariants as step
 
@@ -18,6 +18,10 @@ pub whole_here : (s : Showing) (old start : DeskState) (h : Head) (all : List �
     → (m : ℕ) × HasShownAll s old start h all m (at_work r d e now)
 whole_here s old start h all st r d e now is k = subst (λ (x : RowsStep). AfterRows s old start h all x (at_work r d e now)) is k
 
+pub early_here : (s : Showing) (old start : DeskState) (h : Head) (all : List ℕ) (st : RowsStep) (n : ℕ) (r : RowReaderState) (d : Drawing) (e : EndState) (now : DeskState) → st ≡ step.Early n → AfterRows s old start h all st (at_work r d e now)
+    → (m : ℕ) × HasShownEarly s old start h all m n (at_work r d e now)
+early_here s old start h all st n r d e now is k = subst (λ (x : RowsStep). AfterRows s old start h all x (at_work r d e now)) is k
+
 pub ended_here : (s : Showing) (old start : DeskState) (h : Head) (all : List ℕ) (st : RowsStep) (ended : Why) (r : RowReaderState) (d : Drawing) (e : EndState) (now : DeskState) → st ≡ step.Ended ended → AfterRows s old start h all st (at_work r d e now)
     → Shown s old ended now
 ended_here s old start h all st ended r d e now is k = subst (λ (x : RowsStep). AfterRows s old start h all x (at_work r d e now)) is k
@@ -25,4 +29,5 @@ ended_here s old start h all st ended r d e now is k = subst (λ (x : RowsStep).
 pub less_left : (st next : RowsStep) (before now : ℕ) → st ≡ step.More → GoesLater before next now → reads_left next now < reads_left st before
 less_left st step.More before now is h = let e = ap (λ (x : RowsStep). reads_left x before) is in let a = h.0 in let b = h.1 in omega (arith, e, a, b)
 less_left st step.Whole before now is h = let e = ap (λ (x : RowsStep). reads_left x before) is in omega (arith, e)
+less_left st (step.Early n) before now is h = let e = ap (λ (x : RowsStep). reads_left x before) is in omega (arith, e)
 less_left st (step.Ended w) before now is h = let e = ap (λ (x : RowsStep). reads_left x before) is in omega (arith, e)

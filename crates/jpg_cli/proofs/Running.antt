@@ -1,5 +1,5 @@
 -- Turning a picture: reading it, and then writing it.
-use Rattle.std.proofs.Common.{◌≡◌, ◌⊎◌, ℕ, ◌<◌, Bool, true, false, List, [], ◌∷◌, take, Option, Err, None, refl, sym, ap, ◌∙◌, subst, arith, zero, suc, inl, inr}
+use Rattle.std.proofs.Common.{◌≡◌, ◌⊎◌, ℕ, ◌<◌, Bool, true, false, List, [], ◌∷◌, take, Option, Err, Some, None, refl, sym, ap, ◌∙◌, subst, arith, zero, suc, inl, inr}
 use Rattle.std.specs.List.{All}
 use Rattle.jpg_base.specs.declared.names.Name.{Name}
 use Rattle.jpg_base.specs.declared.names.Put.TheVariants as put
@@ -15,15 +15,15 @@ use Rattle.jpg_spec.specs.declared.answers.Why.{Why}
 use Rattle.jpg_spec.specs.declared.answers.Why.TheVariants as why
 use Rattle.jpg_spec.specs.declared.answers.Which.TheVariants as which
 use Rattle.jpg_spec.specs.declared.transform.PictureFault.{PictureFault}
+use Rattle.jpg_spec.proofs.MeaningLeft.{read_moved}
 use Rattle.jpg_spec.proofs.MovedText.{moved_means}
-use Rattle.jpg_spec.proofs.ReadPicture.{read_moved}
 use Rattle.jpg_spec.proofs.WrittenFront.{standard_are_limits}
 use Rattle.jpg_file.specs.Keeping.{kept_for}
 use Rattle.jpg_file.proofs.KeepingLaws.{fault_same, text_same}
 use Rattle.jpg_transform.proofs.MovedScript.{gray_none, script_none}
 use Rattle.jpg_cli.specs.Endings.{Added, Asks, GoesOnAfter}
 use Rattle.jpg_cli.specs.declared.read_picture.Wanted.TheVariants.{Coefficients}
-use Rattle.jpg_cli.specs.ReadPicture.{IsWholeRead, PictureRead, ReadsFrom}
+use Rattle.jpg_cli.specs.ReadPicture.{IsAllRead, IsRead, PictureRead, ReadsFrom, done_as}
 use Rattle.jpg_cli.specs.Stays.{Keeps, Untouched}
 use Rattle.jpg_cli.specs.Commands.{Command, IsCommand, name_of}
 use Rattle.jpg_cli.specs.CommentWords.{file_told}
@@ -35,7 +35,7 @@ use Rattle.jpg_spec.specs.declared.image.EndKind.{EndKind}
 use Rattle.jpg_cli.specs.declared.comment_words.WordsStop.TheVariants as words
 use Rattle.jpg_cli.specs.ScriptTaken.{HasScans, StopsAtScans, names_before}
 use Rattle.jpg_cli.specs.TransformWords.{script_told, transform_told}
-use Rattle.jpg_cli.specs.Turned.{Transformed, Turned, Turning}
+use Rattle.jpg_cli.specs.Turned.{ReadsPicture, Transformed, Turned, TurnedWith, Turning}
 use Rattle.jpg_cli.specs.declared.transform_words.TransformWords.{TransformWords}
 use Rattle.jpg_cli.specs.Writing.{AfterMoved, AfterOutput, IsMeant, MeansMoved}
 use Rattle.jpg_cli.specs.declared.writing.Wrote.{Wrote}
@@ -43,7 +43,7 @@ use Rattle.jpg_cli.specs.declared.writing.Wrote.TheVariants as wrote
 use Rattle.jpg_cli.proofs.CommentInserted.{none_noted}
 use Rattle.jpg_cli.proofs.Endings.{asks_next, asks_still}
 use Rattle.jpg_cli.proofs.InsertedThen.{same_name}
-use Rattle.jpg_cli.proofs.PictureTaken.{from_still}
+use Rattle.jpg_cli.proofs.PictureTaken.{all_still, from_still}
 use Rattle.jpg_cli.proofs.ScriptTaken.{turned_behind}
 
 -- WHAT IS READ is meant
@@ -55,8 +55,9 @@ front_small (x ∷ xs) zero h k d l = let f : ⊥ = omega arith in absurd f
 front_small (x ∷ xs) (suc n) h zero d l = h 0 d (omega arith)
 front_small (x ∷ xs) (suc n) h (suc k) d l = front_small xs n (λ i e m. h (suc i) e (omega arith)) k d (omega arith)
 
-meant : (M : Meaning) (bytes : List ℕ) → IsWholeRead Coefficients M bytes → IsMeant M
-meant M bytes h = (take h.count bytes, front_small bytes h.count h.small, h.whole.0)
+meant : (M : Meaning) (early : Option ℕ) (bytes : List ℕ) → IsRead Coefficients M early bytes → IsMeant M
+meant M None bytes h = (take h.count bytes, front_small bytes h.count h.small, inl h.whole.0)
+meant M (Some n) bytes h = (bytes, h.small, inr h.early)
 
 movable : (M : Meaning) (c : Choice) → IsMeant M → picture_fault c M ≡ None → IsMovable c M
 movable M c (bytes, small, means) none = record { limits = standard_limits; bytes = bytes; limited = standard_are_limits; are_bytes = small; means = means; admitted = gray_none c M none }
@@ -90,6 +91,7 @@ turning_by input output c = record { before = []; input = input; output = output
 
 pub turned_unread : (input output : Name) (c : Choice) (s0 s1 : DeskState) (w : Why) → PictureRead Coefficients c.copying input s0 (Err w) s1 → Turned (turning_by input output c) s0 w s1
 turned_unread input output c s0 s1 why.Done h = absurd h
+turned_unread input output c s0 s1 (why.Warned n) h = absurd h
 turned_unread input output c s0 s1 (why.Usage u) h = absurd h
 turned_unread input output c s0 s1 (why.Refused f) h = h
 turned_unread input output c s0 s1 (why.Picture p) h = absurd h
@@ -109,46 +111,56 @@ turned_unread input output c s0 s1 why.NoMemory h = h
 -- A PICTURE, written
 
 -- a picture was read from the input, and its desk goes on
-pub record HasPictureRead (t : Turning) (M : Meaning) (s0 s1 s2 : DeskState) : Type 0 where
+pub record HasPictureRead (t : Turning) (M : Meaning) (early : Option ℕ) (s0 s1 s2 : DeskState) : Type 0 where
   pub kept : Keeps s0 s1
   pub asked : Asks (t.input ∷ []) put.Done s0 s1
-  pub read : ReadsFrom t.input (IsWholeRead Coefficients M) s0 s1
+  pub read : ReadsFrom t.input (IsRead Coefficients M early) s0 s1
+  pub all : IsAllRead early s1
   pub left : s2.left ≡ s1.left
 
-read_on : (t : Turning) (M : Meaning) (s0 s1 s2 : DeskState) → HasPictureRead t M s0 s1 s2 → ReadsFrom t.input (IsWholeRead Coefficients M) s0 s2
-read_on t M s0 s1 s2 h = from_still s0 s1 s2 t.input (IsWholeRead Coefficients M) h.left h.read
+read_on : (t : Turning) (M : Meaning) (early : Option ℕ) (s0 s1 s2 : DeskState) → HasPictureRead t M early s0 s1 s2 → ReadsFrom t.input (IsRead Coefficients M early) s0 s2
+read_on t M early s0 s1 s2 h = from_still s0 s1 s2 t.input (IsRead Coefficients M early) h.left h.read
 
-wrote_text : (t : Turning) (M : Meaning) (s0 s1 s2 : DeskState) (text : List ℕ) → HasPictureRead t M s0 s1 s2 → NotesName s1.asked (t.output, put.Done) s2.asked → Grows s1.outputs (t.output, text) s2.outputs → Added (t.input ∷ []) t.output text s0 s2
-wrote_text t M s0 s1 s2 text h o grows = record {
+reads_on : (t : Turning) (M : Meaning) (early : Option ℕ) (s0 s1 s2 : DeskState) → HasPictureRead t M early s0 s1 s2 → picture_fault t.choice M ≡ None → ReadsPicture t M early s0 s2
+reads_on t M early s0 s1 s2 h none = record { read = read_on t M early s0 s1 s2 h; all = all_still early s1 s2 h.left h.all; admitted = none }
+
+wrote_text : (t : Turning) (M : Meaning) (early : Option ℕ) (s0 s1 s2 : DeskState) (text : List ℕ) → HasPictureRead t M early s0 s1 s2 → NotesName s1.asked (t.output, put.Done) s2.asked → Grows s1.outputs (t.output, text) s2.outputs → Added (t.input ∷ []) t.output text s0 s2
+wrote_text t M early s0 s1 s2 text h o grows = record {
   asked = asks_next s0 s1 s2 (t.input ∷ []) t.output put.Done h.asked o;
   outputs = (let P : Option (List (Name × List ℕ)) → Type 0 = λ a. Grows a (t.output, text) s2.outputs in subst P h.kept.outputs grows);
 }
 
-pub turned_done : (input output : Name) (c : Choice) (M : Meaning) (s0 s1 s2 : DeskState) → HasPictureRead (turning_by input output c) M s0 s1 s2 → AfterMoved c M output s1 wrote.Done s2 → Turned (turning_by input output c) s0 why.Done s2
-turned_done input output c M s0 s1 s2 h (none, (asked, grows), means) =
+turned_with : (input output : Name) (c : Choice) (M : Meaning) (early : Option ℕ) (s0 s1 s2 : DeskState) → HasPictureRead (turning_by input output c) M early s0 s1 s2 → AfterMoved c M output s1 wrote.Done s2
+    → TurnedWith (turning_by input output c) M early s0 s2
+turned_with input output c M early s0 s1 s2 h (none, (asked, grows), means) =
     let t = turning_by input output c in
-    (M, record { read = read_on t M s0 s1 s2 h; admitted = none }, wrote_text t M s0 s1 s2 (moved_text c M) h asked grows, means (meant M h.read.bytes h.read.is))
+    (reads_on t M early s0 s1 s2 h none, wrote_text t M early s0 s1 s2 (moved_text c M) h asked grows, means (meant M early h.read.bytes h.read.is))
 
-pub turned_fault : (input output : Name) (c : Choice) (M : Meaning) (fault : PictureFault) (s0 s1 s2 : DeskState) → HasPictureRead (turning_by input output c) M s0 s1 s2 → AfterMoved c M output s1 (wrote.Picture fault) s2 → Turned (turning_by input output c) s0 (why.Picture fault) s2
-turned_fault input output c M fault s0 s1 s2 h (is, same) =
+pub turned_done : (input output : Name) (c : Choice) (M : Meaning) (early : Option ℕ) (s0 s1 s2 : DeskState) → HasPictureRead (turning_by input output c) M early s0 s1 s2 → AfterMoved c M output s1 wrote.Done s2
+    → Turned (turning_by input output c) s0 (done_as early) s2
+turned_done input output c M None s0 s1 s2 h k = (M, turned_with input output c M None s0 s1 s2 h k)
+turned_done input output c M (Some n) s0 s1 s2 h k = (M, turned_with input output c M (Some n) s0 s1 s2 h k)
+
+pub turned_fault : (input output : Name) (c : Choice) (M : Meaning) (early : Option ℕ) (fault : PictureFault) (s0 s1 s2 : DeskState) → HasPictureRead (turning_by input output c) M early s0 s1 s2 → AfterMoved c M output s1 (wrote.Picture fault) s2 → Turned (turning_by input output c) s0 (why.Picture fault) s2
+turned_fault input output c M early fault s0 s1 s2 h (is, same) =
     let t = turning_by input output c in
-    (record { asked = asks_still s0 s1 s2 (input ∷ []) put.Done same.asked h.asked; outputs = same.outputs ∙ h.kept.outputs }, (M, read_on t M s0 s1 s2 h, is))
+    (record { asked = asks_still s0 s1 s2 (input ∷ []) put.Done same.asked h.asked; outputs = same.outputs ∙ h.kept.outputs }, (M, early, read_on t M early s0 s1 s2 h, all_still early s1 s2 h.left h.all, is))
 
-pub turned_unopened : (input output : Name) (c : Choice) (M : Meaning) (s0 s1 s2 : DeskState) → HasPictureRead (turning_by input output c) M s0 s1 s2 → AfterMoved c M output s1 wrote.OpenFault s2 → Turned (turning_by input output c) s0 (why.OpenFault which.Output) s2
-turned_unopened input output c M s0 s1 s2 h (none, (asked, rose, same)) =
+pub turned_unopened : (input output : Name) (c : Choice) (M : Meaning) (early : Option ℕ) (s0 s1 s2 : DeskState) → HasPictureRead (turning_by input output c) M early s0 s1 s2 → AfterMoved c M output s1 wrote.OpenFault s2 → Turned (turning_by input output c) s0 (why.OpenFault which.Output) s2
+turned_unopened input output c M early s0 s1 s2 h (none, (asked, rose, same)) =
     let t = turning_by input output c in (
       record {
         stopped = record { asked = asks_next s0 s1 s2 (input ∷ []) output put.Failed h.asked asked; outputs = same ∙ h.kept.outputs };
         opens = (let f = h.kept.works.stays.counts.opens in omega (arith, rose, f));
       },
-      (M, record { read = read_on t M s0 s1 s2 h; admitted = none }),
+      (M, early, reads_on t M early s0 s1 s2 h none),
     )
 
-pub turned_unwritten : (input output : Name) (c : Choice) (M : Meaning) (s0 s1 s2 : DeskState) → HasPictureRead (turning_by input output c) M s0 s1 s2 → AfterMoved c M output s1 wrote.WriteFault s2 → Turned (turning_by input output c) s0 why.WriteFault s2
-turned_unwritten input output c M s0 s1 s2 h (none, (asked, rose, (n, grows))) =
+pub turned_unwritten : (input output : Name) (c : Choice) (M : Meaning) (early : Option ℕ) (s0 s1 s2 : DeskState) → HasPictureRead (turning_by input output c) M early s0 s1 s2 → AfterMoved c M output s1 wrote.WriteFault s2 → Turned (turning_by input output c) s0 why.WriteFault s2
+turned_unwritten input output c M early s0 s1 s2 h (none, (asked, rose, (n, grows))) =
     let t = turning_by input output c in (
       (let f = h.kept.works.stays.counts.writes in omega (arith, rose, f)),
-      (M, n, record { read = read_on t M s0 s1 s2 h; admitted = none }, wrote_text t M s0 s1 s2 (take n (moved_text c M)) h asked grows),
+      (M, early, n, reads_on t M early s0 s1 s2 h none, wrote_text t M early s0 s1 s2 (take n (moved_text c M)) h asked grows),
     )
 
 -- AS THE WORDS SAY IT

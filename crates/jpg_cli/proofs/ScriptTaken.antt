@@ -23,7 +23,7 @@ use Rattle.jpg_cli.specs.Reading.{IsFile, rest_of}
 use Rattle.jpg_cli.specs.ReadPicture.{ReadsFrom}
 use Rattle.jpg_cli.specs.ScriptTaken.{StopsAtScans, StopsAtScript, TellsIn}
 use Rattle.jpg_cli.specs.Stays.{Keeps, OnlySays}
-use Rattle.jpg_cli.specs.Turned.{ReadsPicture, Turned, Turning}
+use Rattle.jpg_cli.specs.Turned.{ReadsPicture, Turned, TurnedWith, Turning}
 use Rattle.jpg_cli.proofs.CommentsCopied.{works_then}
 use Rattle.jpg_cli.proofs.Endings.{stopped_then, unopened_then, unread_then}
 use Rattle.jpg_cli.proofs.Input.{part_still, read_still}
@@ -105,6 +105,7 @@ other_output e = cc
 
 pub script_unread : (file : Name) (old new : DeskState) (w : Why) → AfterFile file 65537 which.Script old (Err w) new → StopsAtScript file old w new
 script_unread file old new why.Done h = absurd h
+script_unread file old new (why.Warned n) h = absurd h
 script_unread file old new (why.Usage u) h = absurd h
 script_unread file old new (why.Picture p) h = absurd h
 script_unread file old new (why.Refused f) h = absurd h
@@ -125,6 +126,7 @@ script_unread file old new why.NoMemory h = h
 
 stopped_script_then : (file : Name) (s0 s1 s2 : DeskState) (w : Why) → OnlySays s1 s2 → StopsAtScript file s0 w s1 → StopsAtScript file s0 w s2
 stopped_script_then file s0 s1 s2 why.Done k h = absurd h
+stopped_script_then file s0 s1 s2 (why.Warned n) k h = absurd h
 stopped_script_then file s0 s1 s2 (why.Usage u) k h = absurd h
 stopped_script_then file s0 s1 s2 (why.Picture p) k h = absurd h
 stopped_script_then file s0 s1 s2 (why.Refused f) k h = record {
@@ -220,21 +222,27 @@ added_more xs y output text s0 s1 s2 b h = record {
 abbrev turning_behind : List Name → Name → Name → Choice → Turning
 turning_behind before input output choice = record { before = before; input = input; output = output; choice = choice }
 
-reads_before : (xs : List Name) (input output : Name) (choice : Choice) (M : Meaning) (s0 s1 s2 : DeskState) → GoesOnAfter xs s0 s1 → ReadsPicture (turning_behind [] input output choice) M s1 s2 → ReadsPicture (turning_behind xs input output choice) M s0 s2
-reads_before xs input output choice M s0 s1 s2 b h = record { read = from_before xs input _ s0 s1 s2 b h.read; admitted = h.admitted }
+reads_before : (xs : List Name) (input output : Name) (choice : Choice) (M : Meaning) (early : Option ℕ) (s0 s1 s2 : DeskState) → GoesOnAfter xs s0 s1 → ReadsPicture (turning_behind [] input output choice) M early s1 s2
+    → ReadsPicture (turning_behind xs input output choice) M early s0 s2
+reads_before xs input output choice M early s0 s1 s2 b h = record { read = from_before xs input _ s0 s1 s2 b h.read; all = h.all; admitted = h.admitted }
+
+with_before : (xs : List Name) (input output : Name) (choice : Choice) (M : Meaning) (early : Option ℕ) (s0 s1 s2 : DeskState) → GoesOnAfter xs s0 s1 → TurnedWith (turning_behind [] input output choice) M early s1 s2
+    → TurnedWith (turning_behind xs input output choice) M early s0 s2
+with_before xs i o c M early s0 s1 s2 b (read, wrote, means) = (reads_before xs i o c M early s0 s1 s2 b read, added_more xs i o (moved_text c M) s0 s1 s2 b wrote, means)
 
 pub turned_behind : (xs : List Name) (input output : Name) (choice : Choice) (s0 s1 s2 : DeskState) (w : Why) → GoesOnAfter xs s0 s1 → Turned (turning_behind [] input output choice) s1 w s2 → Turned (turning_behind xs input output choice) s0 w s2
-turned_behind xs i o c s0 s1 s2 why.Done b (M, read, wrote, means) = (M, reads_before xs i o c M s0 s1 s2 b read, added_more xs i o (moved_text c M) s0 s1 s2 b wrote, means)
+turned_behind xs i o c s0 s1 s2 why.Done b (M, w) = (M, with_before xs i o c M None s0 s1 s2 b w)
+turned_behind xs i o c s0 s1 s2 (why.Warned n) b (M, w) = (M, with_before xs i o c M (Some n) s0 s1 s2 b w)
 turned_behind xs i o c s0 s1 s2 (why.Usage u) b h = absurd h
 turned_behind xs i o c s0 s1 s2 (why.Refused f) b h = (stopped_more xs i [] put.Done s0 s1 s2 b h.0, from_before xs i _ s0 s1 s2 b h.1)
-turned_behind xs i o c s0 s1 s2 (why.Picture p) b h = (stopped_more xs i [] put.Done s0 s1 s2 b h.0, (h.1.0, from_before xs i _ s0 s1 s2 b h.1.1, h.1.2))
+turned_behind xs i o c s0 s1 s2 (why.Picture p) b h = (stopped_more xs i [] put.Done s0 s1 s2 b h.0, (h.1.0, h.1.1, from_before xs i _ s0 s1 s2 b h.1.2, h.1.3, h.1.4))
 turned_behind xs i o c s0 s1 s2 (why.OpenFault which.Input) b h = unopened_more xs i [] s0 s1 s2 b h
 turned_behind xs i o c s0 s1 s2 (why.OpenFault which.Script) b h = absurd h
 turned_behind xs i o c s0 s1 s2 (why.OpenFault which.Tables) b h = absurd h
 turned_behind xs i o c s0 s1 s2 (why.OpenFault which.Comment) b h = absurd h
 turned_behind xs i o c s0 s1 s2 (why.OpenFault which.Output) b h = (
   subst (λ (names : List Name). Unopened names s0 s2) (sym (append_assoc xs (i ∷ []) (o ∷ []))) (unopened_more xs i (o ∷ []) s0 s1 s2 b h.0),
-  (h.1.0, reads_before xs i o c h.1.0 s0 s1 s2 b h.1.1),
+  (h.1.0, h.1.1, reads_before xs i o c h.1.0 h.1.1 s0 s1 s2 b h.1.2),
 )
 turned_behind xs i o c s0 s1 s2 (why.ReadFault which.Input) b h = (unread_more xs i [] s0 s1 s2 b h.0, from_before xs i _ s0 s1 s2 b h.1)
 turned_behind xs i o c s0 s1 s2 (why.ReadFault which.Script) b h = absurd h
@@ -243,6 +251,6 @@ turned_behind xs i o c s0 s1 s2 (why.ReadFault which.Comment) b h = absurd h
 turned_behind xs i o c s0 s1 s2 (why.ReadFault which.Output) b h = absurd h
 turned_behind xs i o c s0 s1 s2 why.WriteFault b h = (
   (let r = h.0 in let f = b.kept.works.stays.counts.writes in omega (arith, r, f)),
-  (h.1.0, h.1.1, reads_before xs i o c h.1.0 s0 s1 s2 b h.1.2, added_more xs i o (take h.1.1 (moved_text c h.1.0)) s0 s1 s2 b h.1.3),
+  (h.1.0, h.1.1, h.1.2, reads_before xs i o c h.1.0 h.1.1 s0 s1 s2 b h.1.3, added_more xs i o (take h.1.2 (moved_text c h.1.0)) s0 s1 s2 b h.1.4),
 )
 turned_behind xs i o c s0 s1 s2 why.NoMemory b h = (stopped_more xs i [] put.Done s0 s1 s2 b h.0, from_before xs i _ s0 s1 s2 b h.1)

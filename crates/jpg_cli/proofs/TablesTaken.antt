@@ -83,6 +83,7 @@ other_output e = cc
 
 pub tables_unread : (file : Name) (old new : DeskState) (w : Why) → AfterFile file 65537 which.Tables old (Err w) new → StopsAtFile [] file old w new
 tables_unread file old new why.Done h = absurd h
+tables_unread file old new (why.Warned m) h = absurd h
 tables_unread file old new (why.Usage u) h = absurd h
 tables_unread file old new (why.Picture p) h = absurd h
 tables_unread file old new (why.Refused f) h = absurd h
@@ -103,6 +104,7 @@ tables_unread file old new why.NoMemory h = h
 
 stopped_file_then : (before : List Name) (file : Name) (s0 s1 s2 : DeskState) (w : Why) → OnlySays s1 s2 → StopsAtFile before file s0 w s1 → StopsAtFile before file s0 w s2
 stopped_file_then before file s0 s1 s2 why.Done k h = absurd h
+stopped_file_then before file s0 s1 s2 (why.Warned m) k h = absurd h
 stopped_file_then before file s0 s1 s2 (why.Usage u) k h = absurd h
 stopped_file_then before file s0 s1 s2 (why.Picture p) k h = absurd h
 stopped_file_then before file s0 s1 s2 (why.Refused f) k h = record {
@@ -143,6 +145,7 @@ part_before most file s0 s1 s2 e (bytes, h) = (bytes, (h.0, subst (λ (files : O
 stops_before : (xs : List Name) (file : Name) (s0 s1 s2 : DeskState) (w : Why) → GoesOnAfter xs s0 s1 → StopsAtFile [] file s1 w s2 → StopsAtFile xs file s0 w s2
 unfolding tells_before
 stops_before xs file s0 s1 s2 why.Done b h = absurd h
+stops_before xs file s0 s1 s2 (why.Warned m) b h = absurd h
 stops_before xs file s0 s1 s2 (why.Usage u) b h = absurd h
 stops_before xs file s0 s1 s2 (why.Picture p) b h = absurd h
 stops_before xs file s0 s1 s2 (why.Refused f) b h = record {

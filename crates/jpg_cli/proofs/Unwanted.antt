@@ -212,6 +212,6 @@ done_wanted (Image gray) bytes r e d none = by (out_fault gray d.meaning) refl
     by : (o : Option Fault) → out_fault gray d.meaning ≡ o → o ≡ None
     by None same = refl
     by (Some fault) same =
-        let alike = shown_alike standard_limits gray bytes d.meaning means in
+        let alike = shown_alike standard_limits gray bytes d.meaning (inl means) in
         let t = alike.told fault same in
         absurd (head_wanted gray bytes r.file.head head none t.0 t.1)

@@ -3,8 +3,7 @@ use Rattle.std.specs.Prelude.{◌≡◌, ℕ, ◌⊎◌, ◌<◌, ◌≤◌, Lis
 use Rattle.jpg_base.specs.declared.names.Name.{Name}
 use Rattle.jpg_base.specs.declared.names.Name.TheVariants as name
 use Rattle.jpg_base.specs.Desk.{DeskState}
-use Rattle.jpg_spec.specs.FileMeaning.{Means}
-use Rattle.jpg_spec.specs.FirstFault.{HasMeaning}
+use Rattle.jpg_spec.specs.Early.{IsMeaning, MeansAs}
 use Rattle.jpg_spec.specs.Meaning.{Meaning}
 use Rattle.jpg_spec.specs.Segments.{standard_limits}
 use Rattle.jpg_spec.specs.CommentText.{IsInserted, longest_comment}
@@ -42,6 +41,13 @@ IsDoneOrWanting why.Done = Unit {0}
 IsDoneOrWanting why.NoMemory = Unit {0}
 IsDoneOrWanting other = ⊥
 
+-- The same, where the input ends early after so many bytes.
+abbrev pub IsDoneAsOrWanting : Option ℕ → Why → Type 0
+IsDoneAsOrWanting None why.Done = Unit {0}
+IsDoneAsOrWanting (Some n) (why.Warned m) = m ≡ n
+IsDoneAsOrWanting early why.NoMemory = Unit {0}
+IsDoneAsOrWanting early other = ⊥
+
 -- This is the answer, or there was no memory.
 abbrev pub IsOrNoMemory : Why → Why → Type 0
 IsOrNoMemory due ended = (ended ≡ due) ⊎ (ended ≡ why.NoMemory)
@@ -75,23 +81,29 @@ AreToldScans old own_sequential scans = scans ≡ sequential
 AreToldScans old own_progressive scans = scans ≡ standard
 AreToldScans old (in_file file) scans = (script : List Entry) × IsToldScript old file script × (scans ≡ given script)
 
--- The scans and the input are told, and the input means a picture, which has no fault for this choice.
+-- The scans and the input are told, and the input means a picture, also where it ends early, which has no fault for this choice.
 pub record HasPicture (a : TransformAsked) (old : DeskState) : Type 0 where
   pub scans : Scans
+  pub early : Option ℕ
   pub bytes : List ℕ
   pub meaning : Meaning
   pub asked : AreToldScans old a.scans scans
   pub told : IsTold old.files (name_of a.files.input) bytes
-  pub means : Means standard_limits bytes meaning
+  pub means : MeansAs standard_limits early bytes meaning
   pub admitted : picture_fault (choice_asked a scans) meaning ≡ None
 
 -- The input is told, and means a picture that is shown.
 pub record HasImage (s : Showing) (old : DeskState) : Type 0 where
+  pub early : Option ℕ
   pub bytes : List ℕ
   pub meaning : Meaning
   pub told : IsTold old.files s.input bytes
-  pub means : Means standard_limits bytes meaning
+  pub means : MeansAs standard_limits early bytes meaning
   pub shown : out_fault s.gray meaning ≡ None
+
+-- bytes that mean something, whole or where they end early
+abbrev pub HasSomeMeaning : List ℕ → Type 0
+HasSomeMeaning bytes = (M : Meaning) × IsMeaning standard_limits bytes M
 
 -- The scans and the input are told, and the input means a picture.
 pub record HasFile (a : TransformAsked) (old : DeskState) : Type 0 where
@@ -99,11 +111,12 @@ pub record HasFile (a : TransformAsked) (old : DeskState) : Type 0 where
   pub bytes : List ℕ
   pub asked : AreToldScans old a.scans scans
   pub told : IsTold old.files (name_of a.files.input) bytes
-  pub means : HasMeaning standard_limits bytes
+  pub means : HasSomeMeaning bytes
 
 -- The input wasn't refused: all was done, or its picture can't be written as it is asked for, or a device failed, or memory was wanting.
 abbrev pub IsNotRefused : Why → Type 0
 IsNotRefused why.Done = Unit {0}
+IsNotRefused (why.Warned n) = Unit {0}
 IsNotRefused (why.Picture fault) = Unit {0}
 IsNotRefused (why.OpenFault which) = Unit {0}
 IsNotRefused (why.ReadFault which) = Unit {0}
@@ -127,14 +140,14 @@ pub record HasFaultyInput (a : TransformAsked) (f : FaultAt) (old : DeskState) :
   pub told : IsTold old.files (name_of a.files.input) bytes
   pub refused : IsRefusedFor Coefficients bytes f
 
--- The input means a picture, which has this fault for the choice.
+-- The input means a picture, also where it ends early, which has this fault for the choice.
 pub record HasFaultyPicture (a : TransformAsked) (fault : PictureFault) (old : DeskState) : Type 0 where
   pub scans : Scans
   pub bytes : List ℕ
   pub meaning : Meaning
   pub asked : AreToldScans old a.scans scans
   pub told : IsTold old.files (name_of a.files.input) bytes
-  pub means : Means standard_limits bytes meaning
+  pub means : IsMeaning standard_limits bytes meaning
   pub faulty : picture_fault (choice_asked a scans) meaning ≡ Some fault
 
 -- The input is refused with this fault, where its image is wanted.

@@ -1,6 +1,7 @@
 -- What the laws over runs say.
-use Rattle.std.specs.Prelude.{◌≡◌, ℕ, Bool, List, None}
+use Rattle.std.specs.Prelude.{◌≡◌, ℕ, Bool, List, Option, None}
 use Rattle.jpg_base.specs.Desk.{DeskState}
+use Rattle.jpg_spec.specs.Early.{IsMeaning}
 use Rattle.jpg_spec.specs.FileMeaning.{Means}
 use Rattle.jpg_spec.specs.Laws.{IsTransformOf, UndoesTransform}
 use Rattle.jpg_spec.specs.Meaning.{Meaning}
@@ -14,7 +15,7 @@ use Rattle.jpg_spec.specs.declared.answers.Why.TheVariants as why
 use Rattle.jpg_cli.specs.Certain.{IsOrNoMemory, IsTold}
 use Rattle.jpg_cli.specs.Run.{NoneRose}
 use Rattle.jpg_cli.specs.Showing.{Showing, Shown}
-use Rattle.jpg_cli.specs.Turned.{Turned, Turning}
+use Rattle.jpg_cli.specs.Turned.{Turned, TurnedWith, Turning}
 
 -- Where no count of open, read or write rose, a run that ends like this has such an answer.
 abbrev pub WhereNoneRose : (DeskState → Why → DeskState → Type 0) → DeskState → (Why → Type 0) → Type 0
@@ -45,22 +46,24 @@ pub record WasRefusedShown (gray : Bool) (bytes : List ℕ) (f : FaultAt) : Type
   pub told : IsTold old.files showing.input bytes
   pub shown : Shown showing old (why.Refused f) new
 
--- A run was done that turned what a transform makes of this picture by its inverse, without trimming and graying.
+-- A run was done, perhaps with a warning, that turned what a transform makes of this picture by its inverse, without trimming and graying.
 pub record WasTurnedBack (t : Transform) (M : Meaning) : Type 0 where
   pub turning : Turning
   pub old : DeskState
   pub new : DeskState
-  pub turned : Turned turning old why.Done new
-  pub made : IsTransformOf t M turned.0
+  pub picture : Meaning
+  pub early : Option ℕ
+  pub turned : TurnedWith turning picture early old new
+  pub made : IsTransformOf t M picture
   pub back : UndoesTransform t turning.choice
 
 -- the text that it wrote
 abbrev pub text_back : {t : Transform} {M : Meaning} → WasTurnedBack t M → List ℕ
-text_back w = moved_text w.turning.choice w.turned.0
+text_back w = moved_text w.turning.choice w.picture
 
--- The bytes mean a picture that is shown, gray where that is asked for.
+-- The bytes mean a picture, also where they end early, that is shown, gray where that is asked for.
 abbrev pub MeanShown : Bool → List ℕ → Type 0
-MeanShown gray bytes = (M : Meaning) × Means standard_limits bytes M × (out_fault gray M ≡ None)
+MeanShown gray bytes = (M : Meaning) × IsMeaning standard_limits bytes M × (out_fault gray M ≡ None)
 
 -- The bytes mean a picture that is the same in sides, identifiers, factors, quantisers and blocks.
 abbrev pub MeanSame : List ℕ → Meaning → Type 0

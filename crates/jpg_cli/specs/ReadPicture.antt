@@ -10,6 +10,9 @@ use Rattle.jpg_spec.specs.Pixels.{out_fault}
 use Rattle.jpg_spec.specs.Segments.{standard_limits}
 use Rattle.jpg_spec.specs.Meaning.{Meaning}
 use Rattle.jpg_spec.specs.FileStands.{FileStands, IsWholeFile}
+use Rattle.jpg_spec.specs.Early.{MeansEarly}
+use Rattle.jpg_spec.specs.FileMeaning.{meaning_of}
+use Rattle.jpg_spec.specs.InForce.{frame_of}
 use Rattle.jpg_spec.specs.declared.answers.FaultAt.{FaultAt}
 use Rattle.jpg_spec.specs.declared.answers.Why.{Why}
 use Rattle.jpg_spec.specs.declared.answers.Why.TheVariants as why
@@ -21,7 +24,7 @@ use Rattle.jpg_spec.specs.declared.image.ImageKind.{ImageKind}
 use Rattle.jpg_color.specs.Admits.{admitted}
 use Rattle.jpg_color.specs.Shown.{factors_of}
 use Rattle.jpg_file.specs.PictureRead.{MeansFor}
-use Rattle.jpg_file.specs.ReadFile.{HasRead, IsDone, IsRefusal, ReaderState}
+use Rattle.jpg_file.specs.ReadFile.{HasRead, IsDone, IsEarlyEnd, IsRefusal, ReaderState}
 use Rattle.jpg_file.specs.declared.picture.Picture.{Picture}
 use Rattle.jpg_cli.specs.Endings.{Asks, Stopped, Unopened, Unread}
 use Rattle.jpg_cli.specs.Reading.{IsFile, rest_of}
@@ -61,6 +64,28 @@ pub record IsWholeRead (w : Wanted) (M : Meaning) (bytes : List ℕ) : Type 0 wh
   pub small : All (λ b. b < 256) bytes
   pub wanted : unwanted_for w M ≡ None
 
+-- They are bytes, which end early, as many, and mean this, which is wanted.
+pub record IsEarlyRead (w : Wanted) (M : Meaning) (n : ℕ) (bytes : List ℕ) : Type 0 where
+  pub early : MeansEarly standard_limits bytes M
+  pub count : n ≡ length bytes
+  pub small : All (λ b. b < 256) bytes
+  pub wanted : unwanted_for w M ≡ None
+
+-- one of these, by the number of bytes where they end early
+abbrev pub IsRead : Wanted → Meaning → Option ℕ → List ℕ → Type 0
+IsRead w M None bytes = IsWholeRead w M bytes
+IsRead w M (Some n) bytes = IsEarlyRead w M n bytes
+
+-- where they end early, they are all of the file
+abbrev pub IsAllRead : Option ℕ → DeskState → Type 0
+IsAllRead None new = Unit {0}
+IsAllRead (Some n) new = rest_of new.left ≡ []
+
+-- the answer where the whole output was written then
+abbrev pub done_as : Option ℕ → Why
+done_as None = why.Done
+done_as (Some n) = why.Warned n
+
 -- The file, which has this rest behind the bytes, is refused so. That shows in the bytes, fewer than 65,536 of which are behind it.
 pub record IsRefusedRead (w : Wanted) (f : FaultAt) (rest bytes : List ℕ) : Type 0 where
   pub refused : IsRefusedFor w (bytes ++ rest) f
@@ -92,8 +117,9 @@ pub record ReadsFrom (file : Name) (Is : List ℕ → Type 0) (old new : DeskSta
   pub is : Is bytes
 
 -- THE ANSWERS: the picture means what the file means, but for markers that aren't kept where these are passed on; or why there is none
-abbrev pub PictureRead : Wanted → Copying → Name → DeskState → Result Picture Why → DeskState → Type 0
-PictureRead w keeping file old (Ok p) new = Asks (file ∷ []) put.Done old new × ((M : Meaning) × MeansFor keeping p M × ReadsFrom file (IsWholeRead w M) old new)
+abbrev pub PictureRead : Wanted → Copying → Name → DeskState → Result (Picture × Option ℕ) Why → DeskState → Type 0
+PictureRead w keeping file old (Ok found) new =
+    Asks (file ∷ []) put.Done old new × ((M : Meaning) × MeansFor keeping found.0 M × ReadsFrom file (IsRead w M found.1) old new) × IsAllRead found.1 new
 PictureRead w keeping file old (Err (why.Refused f)) new = Stopped (file ∷ []) put.Done old new × ReadsFrom file (IsRefusedRead w f (rest_of new.left)) old new
 PictureRead w keeping file old (Err (why.OpenFault which.Input)) new = Unopened (file ∷ []) old new
 PictureRead w keeping file old (Err (why.ReadFault which.Input)) new = Unread (file ∷ []) old new × ReadsFrom file (IsOpenRead w) old new
@@ -111,8 +137,8 @@ EndsEarly w old (why.ReadFault which.Input) new = Takes (IsOpenRead w) old new �
 EndsEarly w old why.NoMemory new = Takes (IsShortRead w) old new
 EndsEarly w old other new = ⊥
 
-abbrev pub EndsReading : Wanted → Copying → DeskState → Result Picture Why → DeskState → Type 0
-EndsReading w keeping old (Ok p) new = (M : Meaning) × MeansFor keeping p M × Takes (IsWholeRead w M) old new
+abbrev pub EndsReading : Wanted → Copying → DeskState → Result (Picture × Option ℕ) Why → DeskState → Type 0
+EndsReading w keeping old (Ok found) new = ((M : Meaning) × MeansFor keeping found.0 M × Takes (IsRead w M found.1) old new) × IsAllRead found.1 new
 EndsReading w keeping old (Err ended) new = EndsEarly w old ended new
 
 -- The reader was fed these bytes, fewer than may be taken, in which nothing is unwanted, and goes on.
@@ -132,33 +158,53 @@ pub record HoldsFile (w : Wanted) (r : ReaderState) (bytes : List ℕ) : Type 0 
   pub small : All (λ b. b < 256) bytes
   pub wanted : unwanted_for w done.meaning ≡ None
 
-abbrev pub EndsWhole : Wanted → DeskState → Result (Unit {0}) Why → ReaderState → DeskState → Type 0
-EndsWhole w old (Ok done) r new = (r.done ≡ true) × Takes (HoldsFile w r) old new
+-- The bytes ended early, as many, and the reader holds what they mean, which is wanted.
+pub record HoldsEarly (w : Wanted) (r : ReaderState) (n : ℕ) (bytes : List ℕ) : Type 0 where
+  pub count : n ≡ length bytes
+  pub ended : IsEarlyEnd bytes r
+  pub small : All (λ b. b < 256) bytes
+  pub wanted : unwanted_for w (meaning_of (frame_of r.limits ended.segments) ended.segments ended.blocks) ≡ None
+
+abbrev pub Holds : Wanted → ReaderState → Option ℕ → List ℕ → Type 0
+Holds w r None bytes = HoldsFile w r bytes
+Holds w r (Some n) bytes = HoldsEarly w r n bytes
+
+abbrev pub EndsWhole : Wanted → DeskState → Result (Option ℕ) Why → ReaderState → DeskState → Type 0
+EndsWhole w old (Ok early) r new = (r.done ≡ true) × Takes (Holds w r early) old new × IsAllRead early new
 EndsWhole w old (Err ended) r new = EndsEarly w old ended new
 
 -- What a piece comes to.
 abbrev pub AfterTakingPiece : Wanted → List ℕ → PictureStep → ReaderState → Type 0
 AfterTakingPiece w bytes step.More r = HasFed w r bytes
 AfterTakingPiece w bytes step.Whole r = HoldsFile w r bytes
+AfterTakingPiece w bytes (step.Early n) r = ⊥
 AfterTakingPiece w bytes (step.Ended (why.Refused f)) r = (rest : List ℕ) → IsRefusedRead w f rest bytes
 AfterTakingPiece w bytes (step.Ended why.NoMemory) r = IsShortRead w bytes
 AfterTakingPiece w bytes (step.Ended other) r = ⊥
 
--- what bytes that end come to
+-- what bytes that end are refused with
 abbrev pub AfterFileEnd : Wanted → List ℕ → Why → Type 0
 AfterFileEnd w bytes (why.Refused f) = IsRefusedRead w f [] bytes
 AfterFileEnd w bytes other = ⊥
+
+-- what bytes that end come to
+abbrev pub AfterPictureEnd : Wanted → List ℕ → PictureStep → ReaderState → Type 0
+AfterPictureEnd w bytes (step.Early n) r = HoldsEarly w r n bytes
+AfterPictureEnd w bytes (step.Ended ended) r = AfterFileEnd w bytes ended
+AfterPictureEnd w bytes other r = ⊥
 
 -- From these bytes on: one more piece was read, or why the reading ends.
 abbrev pub AfterNextPiece : Wanted → DeskState → List ℕ → PictureStep → ReaderState → DeskState → Type 0
 AfterNextPiece w old bytes step.More r new = (piece : List ℕ) × (0 < length piece) × HasFed w r (bytes ++ piece) × Consumes old.left new.left (bytes ++ piece)
 AfterNextPiece w old bytes step.Whole r new = Takes (HoldsFile w r) old new
+AfterNextPiece w old bytes (step.Early n) r new = Takes (HoldsEarly w r n) old new × (rest_of new.left ≡ [])
 AfterNextPiece w old bytes (step.Ended ended) r new = EndsEarly w old ended new
 
 -- Where more of the input may be read, it is open, and the reader goes on.
 abbrev pub GoesOn : PictureStep → ReaderState → DeskState → Type 0
 GoesOn step.More r now = (now.input_open ≡ true) × (r.done ≡ false)
 GoesOn step.Whole r now = r.done ≡ true
+GoesOn (step.Early n) r now = r.done ≡ true
 GoesOn (step.Ended ended) r now = Unit {0}
 
 -- FOR ALL BYTES that were read before
@@ -170,11 +216,18 @@ ReadsNext w had old answer r new =
 abbrev pub ReadsPictureBytes : Wanted → ReaderState → List ℕ → PictureStep → ReaderState → Type 0
 ReadsPictureBytes w had piece answer r = (bytes : List ℕ) → HasFed w had bytes → AfterTakingPiece w (bytes ++ piece) answer r
 
--- whether the reader is whole then
+-- whether the reader is done then
 abbrev pub StepDone : PictureStep → ReaderState → Type 0
 StepDone step.More r = r.done ≡ false
 StepDone step.Whole r = r.done ≡ true
+StepDone (step.Early n) r = r.done ≡ true
 StepDone (step.Ended ended) r = Unit {0}
+
+-- whether it is where the input ended
+abbrev pub EndDone : PictureStep → ReaderState → Type 0
+EndDone (step.Early n) r = r.done ≡ true
+EndDone (step.Ended ended) r = Unit {0}
+EndDone other r = ⊥
 
 -- WHAT THE FIRST SCAN HEADER TELLS: a fault at its end, where the picture isn't shown
 

@@ -10,7 +10,7 @@ use Rattle.jpg_spec.specs.declared.answers.Why.TheVariants as why
 use Rattle.jpg_spec.specs.declared.fault.Fault.TheVariants.{NotBuilt}
 use Rattle.jpg_spec.specs.declared.transform.PictureFault.{PictureFault}
 use Rattle.jpg_spec.specs.CommentWords.{FilesAsked, WordsTold, WriteAsked, words_right, words_wrong}
-use Rattle.jpg_spec.specs.FileMeaning.{Means}
+use Rattle.jpg_spec.specs.Early.{MeansAs}
 use Rattle.jpg_spec.specs.Meaning.{Meaning}
 use Rattle.jpg_spec.specs.Messages.{message, status_of}
 use Rattle.jpg_spec.specs.Moved.{Scans, picture_fault}
@@ -41,23 +41,23 @@ abbrev pub SaysText : DeskState → List ℕ → DeskState → Type 0
 SaysText old text new =
     Appends old.said new.said text ⊎ (Rose old.counts.says new.counts.says × ((n : ℕ) × Appends old.said new.said (take n text)))
 
--- Where the files are told, the input is this one, and means this picture.
-pub record PictureInput (input : Name) (old : DeskState) : Type 0 where
+-- Where the files are told, the input is this one, and means this picture, as a whole file or as one that ends early after so many bytes.
+pub record PictureInput (input : Name) (early : Option ℕ) (old : DeskState) : Type 0 where
   pub bytes : List ℕ
   pub meaning : Meaning
   pub file : IsFile old.files input bytes
-  pub means : Means standard_limits bytes meaning
+  pub means : MeansAs standard_limits early bytes meaning
 
 -- The picture has this fault in the scans that are asked for, or none.
-pub record PictureDue (a : TransformAsked) (fault : Option PictureFault) (old : DeskState) : Type 0 where
+pub record PictureDue (a : TransformAsked) (fault : Option PictureFault) (early : Option ℕ) (old : DeskState) : Type 0 where
   pub scans : Scans
   pub asked : HasScans a.scans old scans
-  pub picture : PictureInput (name_of a.files.input) old
+  pub picture : PictureInput (name_of a.files.input) early old
   pub is : picture_fault (choice_asked a scans) picture.meaning ≡ fault
 
 -- It is shown.
-pub record ShownInput (s : Showing) (old : DeskState) : Type 0 where
-  pub picture : PictureInput s.input old
+pub record ShownInput (s : Showing) (early : Option ℕ) (old : DeskState) : Type 0 where
+  pub picture : PictureInput s.input early old
   pub shown : out_fault s.gray picture.meaning ≡ None
 
 -- The input is refused with this fault, where this is wanted of it.
@@ -73,14 +73,16 @@ IsRefusalDue a f old =
 
 -- Where no count of open, read or write rose, the answer is the one that the scans and the input have, or want of memory.
 abbrev pub IsAnswerDue : TransformAsked → DeskState → Why → Type 0
-IsAnswerDue a old why.Done = PictureDue a None old
+IsAnswerDue a old why.Done = PictureDue a None None old
+IsAnswerDue a old (why.Warned n) = PictureDue a None (Some n) old
 IsAnswerDue a old (why.Refused f) = IsRefusalDue a f old
-IsAnswerDue a old (why.Picture fault) = PictureDue a (Some fault) old
+IsAnswerDue a old (why.Picture fault) = (early : Option ℕ) × PictureDue a (Some fault) early old
 IsAnswerDue a old why.NoMemory = Unit {0}
 IsAnswerDue a old other = ⊥
 
 abbrev pub IsShowDue : Showing → DeskState → Why → Type 0
-IsShowDue s old why.Done = ShownInput s old
+IsShowDue s old why.Done = ShownInput s None old
+IsShowDue s old (why.Warned n) = ShownInput s (Some n) old
 IsShowDue s old (why.Refused f) = RefusedInput (Image s.gray) s.input f old
 IsShowDue s old why.NoMemory = Unit {0}
 IsShowDue s old other = ⊥

@@ -1,5 +1,5 @@
 -- HOW SHOWING A PICTURE ENDS (the manual of djpeg), by why it ended.
-use Rattle.std.specs.Prelude.{◌≡◌, ◌⊎◌, ◌<◌, ◌≤◌, ℕ, Bool, true, false, List, [], ◌∷◌, ◌++◌, length, take, None}
+use Rattle.std.specs.Prelude.{◌≡◌, ◌⊎◌, ◌<◌, ◌≤◌, ℕ, Bool, true, false, List, [], ◌∷◌, ◌++◌, length, take, Option, None, Some}
 use Rattle.jpg_base.specs.declared.names.Name.{Name}
 use Rattle.jpg_base.specs.declared.names.Put.TheVariants as put
 use Rattle.jpg_base.specs.Desk.{DeskState, NotesName, Rose}
@@ -25,7 +25,7 @@ use Rattle.jpg_cli.specs.declared.read_picture.Wanted.TheVariants.{Image}
 use Rattle.jpg_cli.specs.declared.show_words.ShowWords.{ShowWords}
 use Rattle.jpg_cli.specs.Endings.{Added, Stopped, Unopened}
 use Rattle.jpg_cli.specs.Reading.{rest_of}
-use Rattle.jpg_cli.specs.ReadPicture.{IsOpenRead, IsRefusedRead, IsShortRead, IsWholeRead, ReadsFrom}
+use Rattle.jpg_cli.specs.ReadPicture.{IsAllRead, IsOpenRead, IsRead, IsRefusedRead, IsShortRead, IsWholeRead, ReadsFrom}
 use Rattle.jpg_cli.specs.Stays.{Untouched}
 use Rattle.jpg_cli.specs.Writing.{GrowsInPart}
 
@@ -46,15 +46,16 @@ showing_told w = record { input = w.files.input; output = w.files.output; kind =
 abbrev pub shown_text : Showing → Meaning → List ℕ
 shown_text s M = end_text s.kind (info M s.gray) (pixels M s.gray s.smooth)
 
--- The picture that the input means was read. It is shown.
-abbrev pub ReadsShown : Showing → Meaning → DeskState → DeskState → Type 0
-ReadsShown s M old new = ReadsFrom s.input (IsWholeRead (Image s.gray) M) old new
+-- The picture that the input means was read, also where it ended early after so many bytes. It is shown.
+abbrev pub ReadsShown : Showing → Meaning → Option ℕ → DeskState → DeskState → Type 0
+ReadsShown s M early old new = ReadsFrom s.input (IsRead (Image s.gray) M early) old new × IsAllRead early new
 
 -- Such a picture was read, and a first part of its text was written to the output.
 pub record ShownInPart (s : Showing) (old new : DeskState) : Type 0 where
   pub meaning : Meaning
+  pub early : Option ℕ
   pub count : ℕ
-  pub read : ReadsShown s meaning old new
+  pub read : ReadsShown s meaning early old new
   pub wrote : Added (s.input ∷ []) s.output (take count (shown_text s meaning)) old new
 
 -- and something of it is left
@@ -133,22 +134,23 @@ IsInTime s bytes written =
 
 pub record ShownInTime (s : Showing) (old new : DeskState) : Type 0 where
   pub part : ShownInPart s old new
-  pub early : IsInTime s (part.read).bytes (take part.count (shown_text s part.meaning))
+  pub early : IsInTime s ((part.read).0).bytes (take part.count (shown_text s part.meaning))
 
 pub record RowsInTime (s : Showing) (old new : DeskState) : Type 0 where
   pub part : RowsInPart s old new
   pub early : IsInTime s (part.read).bytes (take part.count part.text)
 
--- Done: the output holds the text of the image of the picture that the input means. A sequential file whose first scan has all components is shown
--- while it is read: where it is refused, the output holds the rows that the bytes before the fault's place make ready, and where reading fails, those
--- of all bytes that were read. Another one is shown when it was read, and where it wasn't, nothing is created. Where the output wasn't written to its
--- end, it holds a first part of that text, after NoMemory not all of it.
+-- Done, or Warned where the input ended early: the output holds the text of the image of the picture that the input means. A sequential file whose
+-- first scan has all components is shown while it is read: where it is refused, the output holds the rows that the bytes before the fault's place make
+-- ready, and where reading fails, those of all bytes that were read. Another one is shown when it was read, and where it wasn't, nothing is created.
+-- Where the output wasn't written to its end, it holds a first part of that text, after NoMemory not all of it.
 abbrev pub Shown : Showing → DeskState → Why → DeskState → Type 0
-Shown s old why.Done new = (M : Meaning) × ReadsShown s M old new × Added (s.input ∷ []) s.output (shown_text s M) old new
+Shown s old why.Done new = (M : Meaning) × ReadsShown s M None old new × Added (s.input ∷ []) s.output (shown_text s M) old new
+Shown s old (why.Warned n) new = (M : Meaning) × ReadsShown s M (Some n) old new × Added (s.input ∷ []) s.output (shown_text s M) old new
 Shown s old (why.Refused f) new = StandsAfter s (bytes_before f) (IsRefusedRead (Image s.gray) f (rest_of new.left)) old new
 Shown s old (why.OpenFault which.Input) new = Unopened (s.input ∷ []) old new
 Shown s old (why.OpenFault which.Output) new =
-    Unopened (s.input ∷ s.output ∷ []) old new × (((M : Meaning) × ReadsShown s M old new) ⊎ ReadsBegun s old new)
+    Unopened (s.input ∷ s.output ∷ []) old new × (((M : Meaning) × (early : Option ℕ) × ReadsShown s M early old new) ⊎ ReadsBegun s old new)
 Shown s old (why.ReadFault which.Input) new = Rose old.counts.reads new.counts.reads × StandsAfter s all_bytes (IsOpenRead (Image s.gray)) old new
 Shown s old why.WriteFault new = Rose old.counts.writes new.counts.writes × (ShownInTime s old new ⊎ RowsInTime s old new)
 Shown s old why.NoMemory new =
@@ -165,15 +167,18 @@ abbrev pub GrowsByLess : Name → DeskState → List ℕ → DeskState → Type 
 GrowsByLess output old due new = (n : ℕ) × (n < length due) × Grows old.outputs (output, take n due) new.outputs
 
 -- CREATING AND WRITING THE OUTPUT: it holds what is due, or a first part of it; or it wasn't created.
-abbrev pub AfterImage : Name → DeskState → List ℕ → Why → DeskState → Type 0
-AfterImage output old due why.Done new = NotesName old.asked (output, put.Done) new.asked × Grows old.outputs (output, due) new.outputs
-AfterImage output old due (why.OpenFault which.Output) new =
+abbrev pub AfterImage : Name → Option ℕ → DeskState → List ℕ → Why → DeskState → Type 0
+AfterImage output early old due why.Done new =
+    (early ≡ None) × NotesName old.asked (output, put.Done) new.asked × Grows old.outputs (output, due) new.outputs
+AfterImage output early old due (why.Warned n) new =
+    (early ≡ Some n) × NotesName old.asked (output, put.Done) new.asked × Grows old.outputs (output, due) new.outputs
+AfterImage output early old due (why.OpenFault which.Output) new =
     NotesName old.asked (output, put.Failed) new.asked × Rose old.counts.opens new.counts.opens × (new.outputs ≡ old.outputs)
-AfterImage output old due why.WriteFault new =
+AfterImage output early old due why.WriteFault new =
     NotesName old.asked (output, put.Done) new.asked × Rose old.counts.writes new.counts.writes × GrowsInPart output old due new
-AfterImage output old due why.NoMemory new = NotesName old.asked (output, put.Done) new.asked × GrowsByLess output old due new
-AfterImage output old due other new = ⊥
+AfterImage output early old due why.NoMemory new = NotesName old.asked (output, put.Done) new.asked × GrowsByLess output old due new
+AfterImage output early old due other new = ⊥
 
 -- of this picture, as the words ask for it
-abbrev pub AfterPicture : ShowWords → Picture → DeskState → Why → DeskState → Type 0
-AfterPicture w p old ended new = AfterImage w.files.output old (picture_text w.kind p w.gray w.smooth) ended new
+abbrev pub AfterPicture : ShowWords → Picture → Option ℕ → DeskState → Why → DeskState → Type 0
+AfterPicture w p early old ended new = AfterImage w.files.output early old (picture_text w.kind p w.gray w.smooth) ended new

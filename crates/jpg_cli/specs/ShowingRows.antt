@@ -1,5 +1,5 @@
 -- SHOWING AN INPUT WHILE IT IS READ, step by step (the manual of djpeg): what was read, drawn and written so far.
-use Rattle.std.specs.Prelude.{◌≡◌, ℕ, ◌+◌, ◌-◌, ◌^◌, ◌<◌, ◌≤◌, Bool, true, false, All, List, [], ◌++◌, length, take, Option, Some, None, Result, Ok, Err}
+use Rattle.std.specs.Prelude.{◌≡◌, ℕ, ◌+◌, ◌-◌, ◌*◌, ◌^◌, ◌<◌, ◌≤◌, Bool, true, false, All, List, [], ◌++◌, length, take, Option, Some, None, Result, Ok, Err}
 use Rattle.std.specs.Io.KnownBytes.{Consumes}
 use Rattle.jpg_base.specs.declared.names.Name.{Name}
 use Rattle.jpg_base.specs.declared.names.Put.TheVariants as put
@@ -10,28 +10,34 @@ use Rattle.jpg_base.specs.Laws.{Grows}
 use Rattle.jpg_spec.specs.InForce.{frame_of}
 use Rattle.jpg_spec.specs.Markers.{Segment}
 use Rattle.jpg_spec.specs.NotShown.{colours_behind, factors_behind}
-use Rattle.jpg_spec.specs.Pixels.{out_fault_of}
+use Rattle.jpg_spec.specs.ImageText.{end_text}
+use Rattle.jpg_spec.specs.Meaning.{Meaning}
+use Rattle.jpg_spec.specs.Pixels.{info, out_fault_of, pixels}
 use Rattle.jpg_spec.specs.RowsShown.{picture_so_far, rows_text}
 use Rattle.jpg_spec.specs.RowsTold.{BeginsScanOfAll, TellsRows}
 use Rattle.jpg_spec.specs.Scan.{Blocks}
+use Rattle.jpg_spec.specs.Elements.{zeros}
 use Rattle.jpg_spec.specs.Segments.{standard_limits}
+use Rattle.jpg_spec.specs.Strips.{mcu_rows}
 use Rattle.jpg_spec.specs.declared.answers.Why.{Why}
 use Rattle.jpg_spec.specs.declared.answers.Why.TheVariants as why
 use Rattle.jpg_spec.specs.declared.answers.Which.TheVariants as which
-use Rattle.jpg_file.specs.ReadRows.{AfterFeedRow, EndsDoneRow, HasReadRows, IsDoneByRows, RowReaderState, whole_reader}
+use Rattle.jpg_file.specs.ReadRows.{AfterEndRow, AfterFeedRow, EndsDoneRow, HasReadRows, IsDoneByRows, IsEarlyByRows, RowReaderState, whole_reader}
 use Rattle.jpg_file.specs.RowsNone.{HasNoRows}
+use Rattle.jpg_file.specs.declared.ends.End.TheVariants as ends
 use Rattle.jpg_file.specs.declared.row_reader.FedRow.{FedRow}
 use Rattle.jpg_file.specs.declared.row_reader.FedRow.TheVariants as fed
 use Rattle.jpg_file.specs.ReadFile.{IsRefusal}
 use Rattle.jpg_spec.specs.declared.frame.Limits.{Limits}
 use Rattle.jpg_pnm_bmp.specs.EndState.{EndState}
+use Rattle.jpg_seq.specs.Rows.{rows_in_mcu}
 use Rattle.jpg_color.specs.Shown.{ready_rows}
 use Rattle.jpg_color.specs.StripImage.{Drawing, IsDrawnTo, IsEndOf}
 use Rattle.jpg_color.specs.declared.decode.DecodeStop.{DecodeStop}
 use Rattle.jpg_color.specs.declared.decode.DecodeStop.TheVariants as decode
-use Rattle.jpg_cli.specs.ReadPicture.{HasFed, HoldsFile, IsOpenRead, IsRefusedRead, IsShortRead, Takes}
+use Rattle.jpg_cli.specs.ReadPicture.{AfterFileEnd, HasFed, HoldsEarly, HoldsFile, IsEarlyRead, IsOpenRead, IsRefusedRead, IsShortRead, Takes}
 use Rattle.jpg_cli.specs.Reading.{rest_of}
-use Rattle.jpg_cli.specs.Showing.{IsInTime, IsPlain, IsShownByRows, Showing, Shown, all_bytes, bytes_before, showing_told}
+use Rattle.jpg_cli.specs.Showing.{IsInTime, IsPlain, IsShownByRows, Showing, Shown, all_bytes, bytes_before, showing_told, shown_text}
 use Rattle.jpg_cli.specs.Stays.{OnlyReads, OnlyWorks}
 use Rattle.jpg_cli.specs.declared.read_picture.Wanted.TheVariants.{Image}
 use Rattle.jpg_cli.specs.declared.show.FirstStep.{FirstStep}
@@ -53,6 +59,12 @@ pub record HoldsPlainly (gray : Bool) (r : RowReaderState) (bytes : List ℕ) : 
   pub none : r.rows ≡ None
   pub plain : HasNoRows standard_limits bytes
   pub holds : HoldsFile (Image gray) (whole_reader r) bytes
+
+-- The bytes ended early, as many, and none began in them. It holds what they mean.
+pub record HoldsEarlyPlainly (gray : Bool) (r : RowReaderState) (n : ℕ) (bytes : List ℕ) : Type 0 where
+  pub none : r.rows ≡ None
+  pub plain : HasNoRows standard_limits bytes
+  pub holds : HoldsEarly (Image gray) (whole_reader r) n bytes
 
 -- THE HEAD of a picture that is shown while it is read
 pub record Head : Type 0 where
@@ -86,6 +98,7 @@ pub record BeginsRows (gray : Bool) (all piece : List ℕ) (answer : Result FedR
 abbrev pub AfterFirst : Bool → List ℕ → List ℕ → FirstStep → RowReaderState → Type 0
 AfterFirst gray bytes piece first.More r = HasFedPlainly gray r (bytes ++ piece)
 AfterFirst gray bytes piece first.Whole r = HoldsPlainly gray r (bytes ++ piece)
+AfterFirst gray bytes piece (first.Early n) r = ⊥
 AfterFirst gray bytes piece (first.Rows count answer) r = (count ≡ length piece) × BeginsRows gray (bytes ++ piece) piece answer r
 AfterFirst gray bytes piece (first.Ended (why.Refused f)) r =
     ((rest : List ℕ) → IsRefusedRead (Image gray) f rest (bytes ++ piece)) × (IsShownByRows gray (take f.at (bytes ++ piece)) → ⊥)
@@ -109,8 +122,15 @@ step_of (Err stop.NoMemory) = first.Ended why.NoMemory
 abbrev pub StaysFirst : FirstStep → RowReaderState → Type 0
 StaysFirst first.More r = r.done ≡ false
 StaysFirst first.Whole r = r.done ≡ true
+StaysFirst (first.Early n) r = Unit {0}
 StaysFirst (first.Rows count answer) r = EndsDoneRow answer r
 StaysFirst (first.Ended ended) r = Unit {0}
+
+-- what bytes that end come to
+abbrev pub AfterFirstEnd : Bool → List ℕ → FirstStep → RowReaderState → Type 0
+AfterFirstEnd gray bytes (first.Early n) r = HoldsEarlyPlainly gray r n bytes
+AfterFirstEnd gray bytes (first.Ended ended) r = AfterFileEnd (Image gray) bytes ended
+AfterFirstEnd gray bytes other r = ⊥
 
 -- THE DESK, from where its input was open: what came of reading
 
@@ -123,6 +143,8 @@ EndsPlainly gray old other new = ⊥
 abbrev pub EndsFirst : Bool → DeskState → FirstStep → List ℕ → RowReaderState → DeskState → Type 0
 EndsFirst gray old first.More buffer r new = ⊥
 EndsFirst gray old first.Whole buffer r new = (r.done ≡ true) × (r.rows ≡ None) × Takes (HoldsPlainly gray r) old new
+EndsFirst gray old (first.Early n) buffer r new =
+    (r.done ≡ true) × (r.rows ≡ None) × Takes (HoldsEarlyPlainly gray r n) old new × (rest_of new.left ≡ [])
 EndsFirst gray old (first.Rows count answer) buffer r new =
     (count ≤ length buffer) × (new.input_open ≡ true) × Takes (λ bytes. BeginsRows gray bytes (take count buffer) answer r) old new
 EndsFirst gray old (first.Ended ended) buffer r new = EndsPlainly gray old ended new
@@ -184,6 +206,10 @@ pub record Work : Type 0 where
 abbrev pub at_work : RowReaderState → Drawing → EndState → DeskState → Work
 at_work r d e desk = record { reader = r; image = d; end = e; now = desk }
 
+-- the picture has the image of this one
+abbrev pub IsImageOf : Showing → Meaning → Meaning → Type 0
+IsImageOf s P M = end_text s.kind (info P s.gray) (pixels P s.gray s.smooth) ≡ shown_text s M
+
 -- THE STATE at which an answer of the reader is acted upon
 pub record IsShowing (s : Showing) (old start : DeskState) (h : Head) (all : List ℕ) (m : ℕ) (piece : List ℕ) (answer : Result FedRow Stop) (w : Work) : Type 0 where
   pub written : List ℕ
@@ -221,10 +247,46 @@ pub record HasShownAll (s : Showing) (old start : DeskState) (h : Head) (all : L
   pub desk : HasCreated s old start all written w.now
   pub early : IsInTime s all written
 
+-- The input ended early, after so many bytes, and all MCU rows that are complete were drawn and written.
+pub record HasShownEarly (s : Showing) (old start : DeskState) (h : Head) (all : List ℕ) (m n : ℕ) (w : Work) : Type 0 where
+  pub written : List ℕ
+  pub limits : (w.reader).limits ≡ standard_limits
+  pub count : n ≡ length all
+  pub short : length all < standard_limits.input
+  pub done : IsEarlyByRows all m w.reader
+  pub small : All (λ b. b < 256) all
+  pub head : IsHeadIn s.gray h all
+  pub drawing : IsDrawing s h all m written w.image w.end
+  pub desk : HasCreated s old start all written w.now
+  pub early : IsInTime s all written
+  pub ended : rest_of (w.now).left ≡ []
+
+-- So many MCU rows of the picture that the input means were drawn, also some that it doesn't tell. All blocks from `gap` MCU rows further on are zero.
+pub record IsEnding (s : Showing) (old start : DeskState) (h : Head) (all : List ℕ) (n gap : ℕ) (d : Drawing) (e : EndState) (now : DeskState) : Type 0 where
+  pub rows : ℕ
+  pub written : List ℕ
+  pub meaning : Meaning
+  pub read : IsEarlyRead (Image s.gray) meaning n all
+  pub short : length all < standard_limits.input
+  pub head : IsHeadIn s.gray h all
+  pub few : rows ≤ mcu_rows (picture_so_far standard_limits h.before h.contents meaning.blocks)
+  pub later : (i x y : ℕ) → (rows + gap) * rows_in_mcu (frame_of standard_limits h.before) i ≤ y → meaning.blocks i x y ≡ zeros 64
+  pub kind : e.kind ≡ s.kind
+  pub framed : d.strips.display.frame ≡ frame_of standard_limits h.before
+  pub given : d.strips.given ≡ ready_rows d.strips.display d.strips.pushed
+  pub end : IsEndOf d e
+  pub drawn : IsDrawnTo d e (picture_so_far standard_limits h.before h.contents meaning.blocks) s.gray s.smooth rows
+  pub text : written ++ d.out ≡ rows_text s.kind (picture_so_far standard_limits h.before h.contents meaning.blocks) s.gray s.smooth rows
+  pub image : IsImageOf s (picture_so_far standard_limits h.before h.contents meaning.blocks) meaning
+  pub desk : HasCreated s old start all written now
+  pub early : IsInTime s all written
+  pub ended : rest_of now.left ≡ []
+
 -- what a piece comes to
 abbrev pub AfterRows : Showing → DeskState → DeskState → Head → List ℕ → RowsStep → Work → Type 0
 AfterRows s old start h all step.More w = (m : ℕ) × HasShown s old start h all m w
 AfterRows s old start h all step.Whole w = (m : ℕ) × HasShownAll s old start h all m w
+AfterRows s old start h all (step.Early n) w = (m : ℕ) × HasShownEarly s old start h all m n w
 AfterRows s old start h all (step.Ended ended) w = Shown s old ended w.now
 
 -- Something was read and drawn before.
@@ -259,6 +321,22 @@ pub record CanFinish (s : Showing) (w : Work) : Type 0 where
   pub rows : ℕ
   pub shown : HasShownAll s old start head all rows w
 
+pub record CanEnd (s : Showing) (n : ℕ) (w : Work) : Type 0 where
+  pub old : DeskState
+  pub start : DeskState
+  pub head : Head
+  pub all : List ℕ
+  pub rows : ℕ
+  pub shown : HasShownEarly s old start head all rows n w
+
+-- All rows that are missing are zero.
+pub record CanEndInZeros (s : Showing) (n : ℕ) (d : Drawing) (e : EndState) (now : DeskState) : Type 0 where
+  pub old : DeskState
+  pub start : DeskState
+  pub head : Head
+  pub all : List ℕ
+  pub ending : IsEnding s old start head all n 0 d e now
+
 -- WHATEVER it was
 
 abbrev pub Draws : ShowWords → List ℕ → Result FedRow Stop → RowReaderState → Drawing → EndState → DeskState
@@ -276,6 +354,13 @@ abbrev pub FinishesRows : Showing → RowReaderState → Drawing → EndState �
 FinishesRows s r d e s0 ended s1 =
     (old start : DeskState) (h : Head) (all : List ℕ) (m : ℕ) → HasShownAll s old start h all m (at_work r d e s0) → Shown s old ended s1
 
+abbrev pub FinishesEarly : Showing → ℕ → RowReaderState → Drawing → EndState → DeskState → Why → DeskState → Type 0
+FinishesEarly s n r d e s0 ended s1 =
+    (old start : DeskState) (h : Head) (all : List ℕ) (m : ℕ) → HasShownEarly s old start h all m n (at_work r d e s0) → Shown s old ended s1
+
+abbrev pub EndsInZeros : Showing → ℕ → Drawing → EndState → DeskState → Why → DeskState → Type 0
+EndsInZeros s n d e s0 ended s1 = (old start : DeskState) (h : Head) (all : List ℕ) → IsEnding s old start h all n 0 d e s0 → Shown s old ended s1
+
 abbrev pub ShowsFrom : Showing → List ℕ → Result FedRow Stop → RowReaderState → DeskState → Why → DeskState → Type 0
 ShowsFrom s piece answer r s0 ended s1 =
     (old start : DeskState) (all : List ℕ) → BeginsRows s.gray all piece answer r → HasOpened s old start all s0 → Shown s old ended s1
@@ -289,16 +374,23 @@ why_of (Ok u) = why.Done
 why_of (Err decode.NoMemory) = why.NoMemory
 why_of (Err decode.WriteFault) = why.WriteFault
 
+-- where the input ended early, after so many bytes
+abbrev pub warned_of : Result (Unit {0}) DecodeStop → ℕ → Why
+warned_of (Ok u) n = why.Warned n
+warned_of (Err stopped) n = why_of (Err stopped)
+
 -- more bytes were taken
 abbrev pub GoesLater : ℕ → RowsStep → ℕ → Type 0
 GoesLater before step.More now = (before < now) × (before < 2 ^ 40)
 GoesLater before step.Whole now = Unit {0}
+GoesLater before (step.Early n) now = Unit {0}
 GoesLater before (step.Ended ended) now = Unit {0}
 
 -- how much may be read at most
 abbrev pub reads_left : RowsStep → ℕ → ℕ
 reads_left step.More taken = 1 + (2 ^ 40 - taken)
 reads_left step.Whole taken = 0
+reads_left (step.Early n) taken = 0
 reads_left (step.Ended ended) taken = 0
 
 -- what the reader's answer comes to, where no further MCU row is whole
@@ -325,8 +417,15 @@ abbrev pub StopsWith : Limits → List ℕ → Why → Type 0
 StopsWith limits bytes (why.Refused f) = IsRefusal limits bytes f
 StopsWith limits bytes other = ⊥
 
+-- what bytes that end come to, of which so many MCU rows were given
+abbrev pub AfterRowsEnd : List ℕ → ℕ → RowsStep → RowReaderState → Type 0
+AfterRowsEnd bytes m (step.Early n) r = AfterEndRow bytes m (ends.Early n) r
+AfterRowsEnd bytes m (step.Ended ended) r = StopsWith r.limits bytes ended
+AfterRowsEnd bytes m other r = ⊥
+
 -- where more may be read, the input is open, and so is the output
 abbrev pub GoesOnRows : RowsStep → RowReaderState → DeskState → Type 0
 GoesOnRows step.More r now = (r.done ≡ false) × (now.input_open ≡ true) × (now.output_created ≡ true)
 GoesOnRows step.Whole r now = now.output_created ≡ true
+GoesOnRows (step.Early n) r now = now.output_created ≡ true
 GoesOnRows (step.Ended ended) r now = Unit {0}

@@ -1,5 +1,5 @@
 -- HOW TURNING A PICTURE ENDS (the manual of jpegtran), by why it ended.
-use Rattle.std.specs.Prelude.{◌≡◌, ◌⊎◌, ℕ, List, [], ◌∷◌, ◌++◌, take, None, Some}
+use Rattle.std.specs.Prelude.{◌≡◌, ◌⊎◌, ℕ, List, [], ◌∷◌, ◌++◌, take, Option, None, Some}
 use Rattle.jpg_base.specs.declared.names.Name.{Name}
 use Rattle.jpg_base.specs.declared.names.Put.TheVariants as put
 use Rattle.jpg_base.specs.Desk.{DeskState, Rose}
@@ -15,7 +15,7 @@ use Rattle.jpg_cli.specs.declared.comment_words.Files.{Files}
 use Rattle.jpg_cli.specs.Commands.{name_of}
 use Rattle.jpg_cli.specs.Endings.{Added, Stopped, Unopened, Unread}
 use Rattle.jpg_cli.specs.Reading.{rest_of}
-use Rattle.jpg_cli.specs.ReadPicture.{IsOpenRead, IsRefusedRead, IsShortRead, IsWholeRead, ReadsFrom}
+use Rattle.jpg_cli.specs.ReadPicture.{IsAllRead, IsOpenRead, IsRead, IsRefusedRead, IsShortRead, ReadsFrom}
 use Rattle.jpg_cli.specs.ScriptTaken.{HasScans, StopsAtScans, names_before}
 use Rattle.jpg_cli.specs.Stays.{Untouched}
 use Rattle.jpg_cli.specs.Writing.{MeansMoved}
@@ -34,29 +34,38 @@ turning_told files choice = record { before = []; input = files.input; output = 
 abbrev pub to_input : Turning → List Name
 to_input t = t.before ++ t.input ∷ []
 
--- The picture that the input means was read. It has no fault for this choice.
-pub record ReadsPicture (t : Turning) (M : Meaning) (old new : DeskState) : Type 0 where
-  pub read : ReadsFrom t.input (IsWholeRead Coefficients M) old new
+-- The picture that the input means was read, also where it ended early after so many bytes. It has no fault for this choice.
+pub record ReadsPicture (t : Turning) (M : Meaning) (early : Option ℕ) (old new : DeskState) : Type 0 where
+  pub read : ReadsFrom t.input (IsRead Coefficients M early) old new
+  pub all : IsAllRead early new
   pub admitted : picture_fault t.choice M ≡ None
 
 -- This text was written to the output.
 abbrev pub WroteText : Turning → List ℕ → DeskState → DeskState → Type 0
 WroteText t text old new = Added (to_input t) t.output text old new
 
--- Done: the output holds the text of the file of the picture moved as the choice asks for it, which means that picture moved. Where the output wasn't
--- written to its end, it holds a first part of that text. The output is created only behind a picture that was read and has no fault.
+-- Such a picture was read, and the output holds the text of the file of it moved as the choice asks for it, which means that picture moved.
+abbrev pub TurnedWith : Turning → Meaning → Option ℕ → DeskState → DeskState → Type 0
+TurnedWith t M early old new = ReadsPicture t M early old new × WroteText t (moved_text t.choice M) old new × MeansMoved t.choice M
+
+-- Done, or Warned where the input ended early: the output holds the text of the file of the picture moved as the choice asks for it, which means
+-- that picture moved. Where the output wasn't written to its end, it holds a first part of that text. The output is created only after a picture
+-- that was read and has no fault.
 abbrev pub Turned : Turning → DeskState → Why → DeskState → Type 0
-Turned t old why.Done new = (M : Meaning) × ReadsPicture t M old new × WroteText t (moved_text t.choice M) old new × MeansMoved t.choice M
+Turned t old why.Done new = (M : Meaning) × TurnedWith t M None old new
+Turned t old (why.Warned n) new = (M : Meaning) × TurnedWith t M (Some n) old new
 Turned t old (why.Refused f) new = Stopped (to_input t) put.Done old new × ReadsFrom t.input (IsRefusedRead Coefficients f (rest_of new.left)) old new
 Turned t old (why.Picture fault) new =
     Stopped (to_input t) put.Done old new
-    × ((M : Meaning) × ReadsFrom t.input (IsWholeRead Coefficients M) old new × (picture_fault t.choice M ≡ Some fault))
+    × ((M : Meaning) × (early : Option ℕ) × ReadsFrom t.input (IsRead Coefficients M early) old new × IsAllRead early new
+    × (picture_fault t.choice M ≡ Some fault))
 Turned t old (why.OpenFault which.Input) new = Unopened (to_input t) old new
-Turned t old (why.OpenFault which.Output) new = Unopened (to_input t ++ t.output ∷ []) old new × ((M : Meaning) × ReadsPicture t M old new)
+Turned t old (why.OpenFault which.Output) new =
+    Unopened (to_input t ++ t.output ∷ []) old new × ((M : Meaning) × (early : Option ℕ) × ReadsPicture t M early old new)
 Turned t old (why.ReadFault which.Input) new = Unread (to_input t) old new × ReadsFrom t.input (IsOpenRead Coefficients) old new
 Turned t old why.WriteFault new =
     Rose old.counts.writes new.counts.writes
-    × ((M : Meaning) × (count : ℕ) × ReadsPicture t M old new × WroteText t (take count (moved_text t.choice M)) old new)
+    × ((M : Meaning) × (early : Option ℕ) × (count : ℕ) × ReadsPicture t M early old new × WroteText t (take count (moved_text t.choice M)) old new)
 Turned t old why.NoMemory new = Stopped (to_input t) put.Done old new × ReadsFrom t.input (IsShortRead Coefficients) old new
 Turned t old other new = ⊥
 

@@ -5,6 +5,7 @@ use Rattle.jpg_base.specs.declared.names.Put.TheVariants as put
 use Rattle.jpg_base.specs.Desk.{DeskState, Rose, NotesName}
 use Rattle.jpg_base.specs.Laws.{Grows}
 use Rattle.jpg_spec.specs.FileMeaning.{Means}
+use Rattle.jpg_spec.specs.Early.{IsMeaning}
 use Rattle.jpg_spec.specs.Meaning.{Meaning}
 use Rattle.jpg_spec.specs.Moved.{Choice, moved, moved_text, picture_fault}
 use Rattle.jpg_spec.specs.Segments.{standard_limits}
@@ -14,9 +15,9 @@ use Rattle.jpg_cli.specs.Stays.{Untouched}
 use Rattle.jpg_cli.specs.declared.writing.Wrote.{Wrote}
 use Rattle.jpg_cli.specs.declared.writing.Wrote.TheVariants as wrote
 
--- some bytes mean this picture
+-- some bytes mean this picture, as a whole file or as one that ends early
 abbrev pub IsMeant : Meaning → Type 0
-IsMeant M = (bytes : List ℕ) × All (λ b. b < 256) bytes × Means standard_limits bytes M
+IsMeant M = (bytes : List ℕ) × All (λ b. b < 256) bytes × IsMeaning standard_limits bytes M
 
 -- The text of the picture moved means it.
 abbrev pub MeansMoved : Choice → Meaning → Type 0

@@ -2,9 +2,7 @@
 ghost use Rattle.std.specs.Prelude.{◌≡◌, ℕ, Bool, List};
 ghost use Rattle.jpg_base.specs.Desk.{DeskState};
 ghost use Rattle.jpg_base.specs.declared.names.Name.{Name};
-ghost use Rattle.jpg_spec.specs.FirstFault.{HasMeaning};
 ghost use Rattle.jpg_spec.specs.Meaning.{Meaning};
-ghost use Rattle.jpg_spec.specs.Segments.{standard_limits};
 ghost use Rattle.jpg_spec.specs.declared.transform.Transform.{Transform};
 ghost use Rattle.jpg_spec.specs.declared.answers.FaultAt.{FaultAt};
 ghost use Rattle.jpg_spec.specs.declared.answers.Why.TheVariants as why;
@@ -24,40 +22,42 @@ ghost use Rattle.jpg_cli.specs.declared.read_picture.Wanted.{Wanted};
 ghost use Rattle.jpg_cli.specs.declared.read_picture.Wanted.TheVariants.{Coefficients, Image};
 ghost use Rattle.jpg_cli.specs.Laws.{Answers, MeanSame, MeanShown, WasRefused, WasRefusedShown, WasTurnedBack, WhateverRose, WhereNoneRose, text_back};
 ghost use Rattle.jpg_cli.specs.Certain.{HasFaultyImage, HasFaultyInput, HasFaultyPicture, HasFaultyScript};
-ghost use Rattle.jpg_cli.specs.Certain.{HasFile, HasFrameHeader, HasImage, HasPicture, HasWholeFile, IsNotRefused, IsDoneOrWanting};
+ghost use Rattle.jpg_cli.specs.Certain.{HasFile, HasFrameHeader, HasImage, HasPicture, HasWholeFile};
+ghost use Rattle.jpg_cli.specs.Certain.{HasSomeMeaning, IsNotRefused, IsDoneAsOrWanting, IsDoneOrWanting};
 
 /// Where no count of open, read or write rose, a run that turns a picture ends as its scans and its input say: Refused where the
-/// file that shall tell the scans has a fault; else Done where the input means a picture that has no fault for what is asked,
-/// Picture where it has one, Refused with its first fault; or NoMemory.
+/// file that shall tell the scans has a fault; else Done where the input means a picture that has no fault for what is asked, Warned
+/// where it ends early and means one, Picture where the picture has a fault, Refused with its first fault; or NoMemory.
 pub fn answers_are_due()
     ensures { (asked : TransformAsked) (old : DeskState) → WhereNoneRose (Transformed asked) old (IsAnswerDue asked old) }
 {}
 
 /// A file that means a picture is turned: where the desk tells it, and the file of the scans if they come from one, the picture
-/// has no fault for what is asked, and no count of open, read or write rose, the run ends with Done, or for want of memory. It is
-/// never refused: whichever counts rose, the run ends with Done or Picture, or as a device failed, or for want of memory.
+/// has no fault for what is asked, and no count of open, read or write rose, the run ends with Done, where it ends early with
+/// Warned and its length, or for want of memory. It is never refused: whichever counts rose, the run ends with Done, Warned or
+/// Picture, or as a device failed, or for want of memory.
 pub fn pictures_are_turned()
-    ensures certain { (asked : TransformAsked) (old : DeskState) → HasPicture asked old → WhereNoneRose (Transformed asked) old IsDoneOrWanting }
+    ensures certain { (a : TransformAsked) (old : DeskState) → (has : HasPicture a old) → WhereNoneRose (Transformed a) old (IsDoneAsOrWanting has.early) }
     ensures read { (asked : TransformAsked) (old : DeskState) → HasFile asked old → WhateverRose (Transformed asked) old IsNotRefused }
 {}
 
 /// A transform and then its inverse, without trimming and graying, restore a picture: where the input's picture is what a
-/// transform makes of another one, and a run that asks for the inverse ends with Done, the output means a picture with the
+/// transform makes of another one, and a run that asks for the inverse ends with Done or Warned, the output means a picture with the
 /// other's sides, identifiers, factors, quantisation tables and blocks, in whatever scans both are written and whatever is passed on.
 pub fn pictures_are_turned_back()
     ensures { (t : Transform) (M : Meaning) (run : WasTurnedBack t M) → MeanSame (text_back run) M }
 {}
 
 /// Where no count of open, read or write rose, a run that shows a picture ends as its input says: Done where it means a picture
-/// that is shown, Refused with its first fault or as not shown, whichever comes first, or NoMemory.
+/// that is shown, Warned where it ends early and means one, Refused with its first fault or as not shown, whichever comes first, or NoMemory.
 pub fn shown_answers_are_due()
     ensures { (showing : Showing) (old : DeskState) → WhereNoneRose (Shown showing) old (IsShowDue showing old) }
 {}
 
 /// A file that means a picture that is shown has its image written: where the desk tells it, and no count of open, read or write
-/// rose, the run ends with Done, or for want of memory.
+/// rose, the run ends with Done, where it ends early with Warned and its length, or for want of memory.
 pub fn pictures_are_shown()
-    ensures { (showing : Showing) (old : DeskState) → HasImage showing old → WhereNoneRose (Shown showing) old IsDoneOrWanting }
+    ensures { (s : Showing) (old : DeskState) → (has : HasImage s old) → WhereNoneRose (Shown s) old (IsDoneAsOrWanting has.early) }
 {}
 
 /// Where no count of open, read or write rose, a run that encodes an image ends as its scans, its tables and its image say: Refused where
@@ -76,7 +76,7 @@ pub fn refusals_are_one()
     ensures one { (wanted : Wanted) (input : List ℕ) (f g : FaultAt) → IsRefusedFor wanted input f → IsRefusedFor wanted input g → f ≡ g }
     ensures runs { (input : List ℕ) (f g : FaultAt) → WasRefused input f → WasRefused input g → f ≡ g }
     ensures shows { (gray : Bool) (input : List ℕ) (f g : FaultAt) → WasRefusedShown gray input f → WasRefusedShown gray input g → f ≡ g }
-    ensures none { (input : List ℕ) (f : FaultAt) → IsRefusedFor Coefficients input f → HasMeaning standard_limits input → ⊥ }
+    ensures none { (input : List ℕ) (f : FaultAt) → IsRefusedFor Coefficients input f → HasSomeMeaning input → ⊥ }
     ensures shown { (gray : Bool) (input : List ℕ) (f : FaultAt) → IsRefusedFor (Image gray) input f → MeanShown gray input → ⊥ }
 {}
 

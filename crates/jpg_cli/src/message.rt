@@ -72,6 +72,15 @@ fn add_usage(message: &mut Message, usage: Usage)
     add_number(message, usage.word);
 }
 
+fn add_warning(message: &mut Message, at: u64)
+    requires room { array_vec_len message.old ≤ 10 }
+    ensures text { message.new.items ≡ message.old.items ++ text_of (why.Warned at) }
+    ensures room { array_vec_len message.new ≤ 100 }
+{
+    add(message, "warning: ends early at byte ");
+    add_number(message, at);
+}
+
 #[tactic(auto, using(crate::proofs::Names::fault_short))]
 fn add_refusal(message: &mut Message, fault: FaultAt)
     requires room { array_vec_len message.old ≤ 10 }
@@ -149,6 +158,7 @@ fn add_text(message: &mut Message, why: Why)
 {
     match why {
         Why::Done => {}
+        Why::Warned(at) => add_warning(message, at),
         Why::Usage(usage) => add_usage(message, usage),
         Why::Refused(fault) => add_refusal(message, fault),
         Why::Picture(fault) => add_picture(message, fault),

@@ -8,7 +8,7 @@ use std::io::ErrorKind;
 use std::process::ExitCode;
 use std::rt::Runtime;
 
-const VERSION: &str = "jpgsuite 0.7.0\n";
+const VERSION: &str = "jpgsuite 0.8.0\n";
 
 const HELP: &str = "\
 jpegtran [-flip horizontal | -flip vertical | -rotate 90 | -rotate 180 | -rotate 270 | -transpose | -transverse]

@@ -4,12 +4,12 @@ ghost use Rattle.jpg_spec.specs.Segments.{standard_limits};
 ghost use Rattle.jpg_file.specs.File.{keeping_of};
 ghost use Rattle.jpg_file.specs.ReadFile.{HasRead, head_seen};
 ghost use Rattle.jpg_cli.specs.Stays.{Keeps, OnlyReads};
-ghost use Rattle.jpg_cli.specs.ReadPicture.{AfterFileEnd, EndsReading, EndsWhole, GoesOn, HasFed, PictureRead, ReadsNext, ReadsPictureBytes, StepDone, step_unless, unwanted_in};
+ghost use Rattle.jpg_cli.specs.ReadPicture.{AfterPictureEnd, EndDone, EndsReading, EndsWhole, GoesOn, HasFed, PictureRead, ReadsNext, ReadsPictureBytes, StepDone, done_as, step_unless, unwanted_in};
 
 use crate::reading::read_within;
 use jpg_base::{Desk, Fed, Got, Name, Put, Stop};
 use jpg_color::admits;
-use jpg_file::{Picture, Reader};
+use jpg_file::{End, Picture, Reader};
 use jpg_spec::{Copying, FaultAt, Limits, Which, Why};
 use std::alloc::Global;
 
@@ -25,12 +25,13 @@ pub enum Wanted {
 enum PictureStep {
     More,
     Whole,
+    Early(u64),
     Ended(Why),
 }
 
-/// The picture of the file of this name, with the markers that may be passed on. The file is read in pieces of at
-/// most 16,384 bytes, up to the one in which it is whole, shows a fault, or tells at the end of its first scan header
-/// that the picture isn't wanted.
+/// The picture of the file of this name, with the markers that may be passed on; and where the file ended early, after how many
+/// bytes. The file is read in pieces of at most 16,384 bytes, up to its end or the one in which it is whole, shows a fault, or
+/// tells at the end of its first scan header that the picture isn't wanted.
 #[inline(never)]
 pub fn read_picture<D: Desk>(
     alloc: Global,
@@ -38,7 +39,7 @@ pub fn read_picture<D: Desk>(
     wanted: Wanted,
     copying: Copying,
     desk: &mut D,
-) -> Result<Picture, Why>
+) -> Result<(Picture, Option<u64>), Why>
     ensures kept { Keeps (D.state desk.old) (D.state desk.new) }
     ensures read { PictureRead wanted copying name.now (D.state desk.old) result (D.state desk.new) }
 {
@@ -54,20 +55,24 @@ fn take_picture<D: Desk>(
     wanted: Wanted,
     copying: Copying,
     desk: &mut D,
-) -> Result<Picture, Why>
+) -> Result<(Picture, Option<u64>), Why>
     requires open { (D.state desk.old).input_open ≡ true }
     ensures kept { OnlyReads (D.state desk.old) (D.state desk.new) }
     ensures read { EndsReading wanted copying (D.state desk.old) result (D.state desk.new) }
 {
     let mut reader = Reader::for_copying(alloc, Limits::standard(), copying);
     match read_whole(&mut reader, wanted, desk) {
-        Ok(()) => Ok(reader.take()),
+        Ok(early) => Ok((reader.take(), early)),
         Err(why) => Err(why),
     }
 }
 
-// Reads the open input until the file is whole, or tells why the reading ends.
-fn read_whole<D: Desk>(reader: &mut Reader, wanted: Wanted, desk: &mut D) -> Result<(), Why>
+// Reads the open input until the file is whole or ends early, or tells why the reading ends.
+fn read_whole<D: Desk>(
+    reader: &mut Reader,
+    wanted: Wanted,
+    desk: &mut D,
+) -> Result<Option<u64>, Why>
     requires open { (D.state desk.old).input_open ≡ true }
     requires none { HasRead [] reader.old }
     requires limits { reader.old.limits ≡ standard_limits }
@@ -80,7 +85,8 @@ fn read_whole<D: Desk>(reader: &mut Reader, wanted: Wanted, desk: &mut D) -> Res
     loop {
         match next_piece(reader, wanted, &mut buffer, desk) {
             PictureStep::More => {}
-            PictureStep::Whole => return Ok(()),
+            PictureStep::Whole => return Ok(None),
+            PictureStep::Early(at) => return Ok(Some(at)),
             PictureStep::Ended(why) => return Err(why),
         }
     }
@@ -104,8 +110,18 @@ fn next_piece<D: Desk>(
 {
     match read_within(desk, reader.room(), buffer) {
         Got::Failed => PictureStep::Ended(Why::ReadFault(Which::Input)),
-        Got::End => PictureStep::Ended(at_end(reader, wanted)),
+        Got::End => at_end(reader, wanted),
         Got::Bytes(count) => take_piece(reader, wanted, &buffer[..count as usize]),
+    }
+}
+
+/// The answer where the whole output was written.
+pub fn done_as(early: Option<u64>) -> Why
+    ensures { result ≡ done_as early }
+{
+    match early {
+        None => Why::Done,
+        Some(at) => Why::Warned(at),
     }
 }
 
@@ -157,15 +173,17 @@ fn take_piece(reader: &mut Reader, wanted: Wanted, piece: &[u8]) -> PictureStep
 }
 
 // The answer for an input that ends here, in which nothing was unwanted.
-fn at_end(reader: &mut Reader, wanted: Wanted) -> Why
+fn at_end(reader: &mut Reader, wanted: Wanted) -> PictureStep
     requires more { reader.old.done ≡ false }
     requires limits { reader.old.limits ≡ standard_limits }
-    ensures ended { (bytes : List ℕ) → HasFed wanted reader.old bytes → AfterFileEnd wanted bytes result }
+    ensures ended { (bytes : List ℕ) → HasFed wanted reader.old bytes → AfterPictureEnd wanted bytes result reader.new }
+    ensures done { EndDone result reader.new }
     ensures limits { reader.new.limits ≡ standard_limits }
     ensures keeping { keeping_of reader.new.file ≡ keeping_of reader.old.file }
 {
     match reader.end() {
-        Stop::Fault(fault) => Why::Refused(fault),
-        Stop::NoMemory => Why::NoMemory,
+        End::Early(at) => PictureStep::Early(at),
+        End::Stop(Stop::Fault(fault)) => PictureStep::Ended(Why::Refused(fault)),
+        End::Stop(Stop::NoMemory) => PictureStep::Ended(Why::NoMemory),
     }
 }

@@ -8,18 +8,19 @@ ghost use Rattle.jpg_file.specs.PictureRead.{picture_meaning};
 ghost use Rattle.jpg_file.specs.ReadFile.{head_seen};
 ghost use Rattle.jpg_file.specs.ReadRows.{HasReadPlainly, whole_reader};
 ghost use Rattle.jpg_pnm_bmp.specs.EndState.{new_end};
-ghost use Rattle.jpg_cli.specs.ReadPicture.{AfterFileEnd, unwanted_in};
+ghost use Rattle.jpg_cli.specs.ReadPicture.{unwanted_in};
 ghost use Rattle.jpg_cli.specs.Showing.{AfterPicture, Shown, showing_told};
-ghost use Rattle.jpg_cli.specs.ShowingRows.{EndsFirst, GoesOnFirst, HasFedPlainly, IsOpened, ReadsFirst, StaysFirst, TakesFirst, step_of};
+ghost use Rattle.jpg_cli.specs.ShowingRows.{AfterFirstEnd, EndsFirst, GoesOnFirst, HasFedPlainly, IsOpened, ReadsFirst, StaysFirst, TakesFirst, step_of};
 ghost use Rattle.jpg_cli.specs.Stays.{OnlyReads, OnlyWorks};
 ghost use Rattle.jpg_cli.specs.declared.read_picture.Wanted.TheVariants.{Image};
 
+use crate::read_picture::done_as;
 use crate::reading::read_within;
 use crate::show_rows::show_rows;
 use crate::show_words::ShowWords;
 use jpg_base::{Desk, Got, Put, Stop};
 use jpg_color::{DecodeStop, admits, decode_rows};
-use jpg_file::{FedRow, Picture, RowReader};
+use jpg_file::{End, FedRow, Picture, RowReader};
 use jpg_pnm_bmp::ImageEnd;
 use jpg_spec::{FaultAt, Limits, Which, Why};
 use std::alloc::Global;
@@ -29,6 +30,8 @@ use std::alloc::Global;
 enum FirstStep {
     More,
     Whole,
+    // The input ended early, after so many bytes, before any MCU row.
+    Early(u64),
     // The MCU rows of a scan begin in a piece of so many bytes, to which this is the reader's answer.
     Rows {
         count: u64,
@@ -77,7 +80,10 @@ fn show_input<D: Desk>(
     let mut buffer = [0u8; 16384];
     match read_first(&mut reader, words.gray, &mut buffer, desk) {
         FirstStep::More => unreachable!(),
-        FirstStep::Whole => write_image(alloc, &reader.take(), words, end, desk),
+        FirstStep::Whole => write_image(alloc, &reader.take(), None, words, end, desk),
+        FirstStep::Early(count) => {
+            write_image(alloc, &reader.take(), Some(count), words, end, desk)
+        }
         FirstStep::Rows { count, answer } => {
             show_rows(
                 alloc,
@@ -133,7 +139,7 @@ fn next_first<D: Desk>(
 {
     match read_within(desk, reader.room(), buffer) {
         Got::Failed => FirstStep::Ended(Why::ReadFault(Which::Input)),
-        Got::End => FirstStep::Ended(at_first_end(reader, gray)),
+        Got::End => at_first_end(reader, gray),
         Got::Bytes(count) => take_first(reader, gray, &buffer[..count as usize]),
     }
 }
@@ -184,23 +190,26 @@ fn unwanted(reader: &RowReader, gray: bool) -> Option<FaultAt>
     }
 }
 
-// The answer for an input that ends here.
-fn at_first_end(reader: &mut RowReader, gray: bool) -> Why
+// What an input that ends here comes to, before rows are read.
+fn at_first_end(reader: &mut RowReader, gray: bool) -> FirstStep
     requires more { reader.old.done ≡ false }
     requires limits { reader.old.limits ≡ standard_limits }
-    ensures ended { (bytes : List ℕ) → HasFedPlainly gray reader.old bytes → AfterFileEnd (Image gray) bytes result }
+    ensures ended { (bytes : List ℕ) → HasFedPlainly gray reader.old bytes → AfterFirstEnd gray bytes result reader.new }
+    ensures goes_on { (now : DeskState) → GoesOnFirst result reader.new now }
     ensures limits { reader.new.limits ≡ standard_limits }
 {
     match reader.end() {
-        Stop::Fault(fault) => Why::Refused(fault),
-        Stop::NoMemory => Why::NoMemory,
+        End::Early(count) => FirstStep::Early(count),
+        End::Stop(Stop::Fault(fault)) => FirstStep::Ended(Why::Refused(fault)),
+        End::Stop(Stop::NoMemory) => FirstStep::Ended(Why::NoMemory),
     }
 }
 
-// Creates the output, and writes the image to it.
+// Creates the output, and writes the image to it; of an input that ended early, after how many bytes.
 fn write_image<D: Desk>(
     alloc: Global,
     picture: &Picture,
+    early: Option<u64>,
     words: &ShowWords,
     end: &mut Box<dyn ImageEnd>,
     desk: &mut D,
@@ -209,12 +218,12 @@ fn write_image<D: Desk>(
     requires end { progress end.old ≡ new_end words.now.kind }
     ensures kept { OnlyWorks (D.state desk.old) (D.state desk.new) }
     ensures left { (D.state desk.new).left ≡ (D.state desk.old).left }
-    ensures wrote { AfterPicture words.now picture.now (D.state desk.old) result (D.state desk.new) }
+    ensures wrote { AfterPicture words.now picture.now early (D.state desk.old) result (D.state desk.new) }
 {
     match desk.create(&words.files.output) {
         Put::Failed => Why::OpenFault(Which::Output),
         Put::Done => match decode_rows(alloc, picture, words.gray, words.smooth, end, desk) {
-            Ok(()) => Why::Done,
+            Ok(()) => done_as(early),
             Err(DecodeStop::NoMemory) => Why::NoMemory,
             Err(DecodeStop::WriteFault) => Why::WriteFault,
         },

@@ -4,14 +4,14 @@ ghost use Rattle.jpg_spec.specs.Segments.{standard_limits};
 ghost use Rattle.jpg_file.specs.ReadRows.{EndsDoneRow, HasReadAll};
 ghost use Rattle.jpg_pnm_bmp.specs.EndState.{new_end};
 ghost use Rattle.jpg_cli.specs.Showing.{showing_told};
-ghost use Rattle.jpg_cli.specs.ShowingRows.{CanBegin, CanDraw, CanFinish, CanReadRows, Draws, DrawsFrom, EndsRow, FinishesRows, GoesLater, GoesOnRows, IsLast, ReadsRows, ShowsFrom, StopsWith, at_work, last_step, why_of};
+ghost use Rattle.jpg_cli.specs.ShowingRows.{AfterRowsEnd, CanBegin, CanDraw, CanEnd, CanEndInZeros, CanFinish, CanReadRows, Draws, DrawsFrom, EndsInZeros, EndsRow, FinishesEarly, FinishesRows, GoesLater, GoesOnRows, IsLast, ReadsRows, ShowsFrom, at_work, last_step, warned_of, why_of};
 ghost use Rattle.jpg_cli.specs.Stays.{OnlyWorks};
 
 use crate::reading::read_within;
 use crate::show_words::ShowWords;
 use jpg_base::{Desk, Got, Put, Stop};
 use jpg_color::{DecodeStop, StripImage};
-use jpg_file::{FedRow, RowReader};
+use jpg_file::{End, FedRow, RowReader};
 use jpg_pnm_bmp::ImageEnd;
 use jpg_spec::{Which, Why};
 use std::alloc::Global;
@@ -21,6 +21,8 @@ use std::alloc::Global;
 enum RowsStep {
     More,
     Whole,
+    // The input ended early, after so many bytes.
+    Early(u64),
     Ended(Why),
 }
 
@@ -91,6 +93,7 @@ fn draw_rows<D: Desk>(
         match step {
             RowsStep::More => {}
             RowsStep::Whole => return finish_rows(reader, words, image, end, desk),
+            RowsStep::Early(count) => return finish_early(reader, words, image, count, end, desk),
             RowsStep::Ended(why) => return why,
         }
         step = next_rows(reader, words, image, buffer, end, desk);
@@ -112,6 +115,58 @@ fn finish_rows<D: Desk>(
     why_of(image.finish(end, desk))
 }
 
+// Ends the image of a file that ended early after so many bytes: with the MCU row in work, where one is missing, and zero rows after it.
+fn finish_early<D: Desk>(
+    reader: &RowReader,
+    words: &ShowWords,
+    image: &mut StripImage,
+    count: u64,
+    end: &mut Box<dyn ImageEnd>,
+    desk: &mut D,
+) -> Why
+    requires early { CanEnd (showing_told words.now) count (at_work reader.now image.old (progress end.old) (D.state desk.old)) }
+    ensures kept { OnlyWorks (D.state desk.old) (D.state desk.new) }
+    ensures shown { FinishesEarly (showing_told words.now) count reader.now image.old (progress end.old) (D.state desk.old) result (D.state desk.new) }
+{
+    if image.is_whole() {
+        return warned_of(image.finish(end, desk), count);
+    }
+    match image.push(reader.row_coefs(), end, desk) {
+        Ok(()) => finish_zeros(words, image, count, end, desk),
+        Err(stop) => why_of(Err(stop)),
+    }
+}
+
+// Ends it with zero rows.
+fn finish_zeros<D: Desk>(
+    words: &ShowWords,
+    image: &mut StripImage,
+    count: u64,
+    end: &mut Box<dyn ImageEnd>,
+    desk: &mut D,
+) -> Why
+    requires zeros { CanEndInZeros (showing_told words.now) count image.old (progress end.old) (D.state desk.old) }
+    ensures kept { OnlyWorks (D.state desk.old) (D.state desk.new) }
+    ensures shown { EndsInZeros (showing_told words.now) count image.old (progress end.old) (D.state desk.old) result (D.state desk.new) }
+{
+    while !image.is_whole() {
+        if let Err(stop) = image.push_zero(end, desk) {
+            return why_of(Err(stop));
+        }
+    }
+    warned_of(image.finish(end, desk), count)
+}
+
+// The answer for an input that ended early after so many bytes.
+fn warned_of(answer: Result<(), DecodeStop>, count: u64) -> Why
+    ensures { result ≡ warned_of answer count }
+{
+    match answer {
+        Ok(()) => Why::Warned(count),
+        Err(stop) => why_of(Err(stop)),
+    }
+}
+
 // Reads a piece, and draws the MCU rows that are whole in it.
 fn next_rows<D: Desk>(
     reader: &mut RowReader,
@@ -130,7 +185,7 @@ fn next_rows<D: Desk>(
 {
     match read_within(desk, reader.room(), buffer) {
         Got::Failed => RowsStep::Ended(Why::ReadFault(Which::Input)),
-        Got::End => RowsStep::Ended(at_end(reader)),
+        Got::End => at_end(reader),
         Got::Bytes(count) => {
             let piece = &buffer[..count as usize];
             are_bytes(piece);
@@ -227,15 +282,17 @@ fn last_step(answer: Result<FedRow, Stop>) -> RowsStep
     }
 }
 
-// The answer for an input that ends here.
-fn at_end(reader: &mut RowReader) -> Why
+// What an input that ends here comes to.
+fn at_end(reader: &mut RowReader) -> RowsStep
     requires more { reader.old.done ≡ false }
-    ensures ended { (bytes : List ℕ) → HasReadAll bytes reader.old → StopsWith reader.old.limits bytes result }
+    ensures ended { (bytes : List ℕ) (m : ℕ) → HasReadAll bytes m reader.old → AfterRowsEnd bytes m result reader.new }
     ensures file { reader.new.file ≡ reader.old.file }
+    ensures limits { reader.new.limits ≡ reader.old.limits }
 {
     match reader.end() {
-        Stop::Fault(fault) => Why::Refused(fault),
-        Stop::NoMemory => Why::NoMemory,
+        End::Early(count) => RowsStep::Early(count),
+        End::Stop(Stop::Fault(fault)) => RowsStep::Ended(Why::Refused(fault)),
+        End::Stop(Stop::NoMemory) => RowsStep::Ended(Why::NoMemory),
     }
 }
 

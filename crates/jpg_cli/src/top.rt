@@ -63,6 +63,7 @@ fn work<D: Desk>(alloc: Global, words: &[String], desk: &mut D, ends: Vec<Box<dy
 
 /// Runs the command that the words ask for over a desk: `jpegtran` writes a file, or standard input, moved as its switches
 /// say, as a sequential file, to a file or onto standard output. An input is refused with its first fault, and nothing is written then.
+/// One that ends early is written with what it has, and the status is 2.
 /// `djpeg` writes the image that such a file shows, as PNM or BMP, by the first of the ends of images that has the format; where none has
 /// it, the words are wrong at the one that asks for it.
 /// `cjpeg` writes the file of an image, PNM or BMP, encoded as its switches say.

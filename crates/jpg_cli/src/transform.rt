@@ -7,7 +7,7 @@ ghost use Rattle.jpg_cli.specs.Turned.{Transformed, Turned, turning_told};
 ghost use Rattle.jpg_spec.specs.TransformWords.{choice_asked};
 
 use crate::comment_words::Files;
-use crate::read_picture::{Wanted, read_picture};
+use crate::read_picture::{Wanted, done_as, read_picture};
 use crate::script_taken::take_scans;
 use crate::transform_words::TransformWords;
 use crate::writing::{Wrote, write_moved};
@@ -18,8 +18,9 @@ use std::alloc::Global;
 
 /// Takes the scans of the output, reads the picture of the input, and writes it to the output, moved as the words ask for
 /// it. A script's file is read and judged before the input is opened. The input is read in pieces of at most 16,384 bytes,
-/// up to the one in which it is whole or shows a fault; then no memory is asked for. The output is created when the picture
-/// is there and has no fault, so it may have the input's name.
+/// up to the one in which it is whole or shows a fault, or up to its end; then no memory is asked for. An input that ends
+/// early is turned with what it has, and the answer warns of it. The output is created when the picture is there and has no
+/// fault, so it may have the input's name.
 #[inline(never)]
 pub fn transform<D: Desk>(alloc: Global, words: &TransformWords, desk: &mut D) -> Why
     ensures kept { OnlyWorks (D.state desk.old) (D.state desk.new) }
@@ -53,8 +54,8 @@ fn turn<D: Desk>(alloc: Global, files: &Files, choice: &Choice, desk: &mut D) ->
     let copying = choice.copying;
     match read_picture(alloc, &files.input, Wanted::Coefficients, copying, desk) {
         Err(why) => why,
-        Ok(picture) => match write_moved(&picture, choice, &files.output, desk) {
-            Wrote::Done => Why::Done,
+        Ok((picture, early)) => match write_moved(&picture, choice, &files.output, desk) {
+            Wrote::Done => done_as(early),
             Wrote::Picture(fault) => Why::Picture(fault),
             Wrote::OpenFault => Why::OpenFault(Which::Output),
             Wrote::WriteFault => Why::WriteFault,

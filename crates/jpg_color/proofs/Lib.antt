@@ -12,6 +12,7 @@ pub mod DrawnLaws
 pub mod Ending
 pub mod Extended
 mod Halves
+pub mod GrayRows
 pub mod HeldRows
 pub mod Looking
 pub mod OnlyFirst

@@ -1,5 +1,5 @@
 -- Lanes of pixels: luminance and the two colour differences of sixteen at once.
-use Rattle.std.proofs.Common.{◌≡◌, ℕ, ◌+◌, ◌-◌, ◌*◌, ◌/◌, ◌%◌, ◌<◌, List, ◌++◌, length, take, slice_index, slice_index_or, set, map, ⊎_elim, ◌≤◌, sym, ap, ◌∙◌, arith}
+use Rattle.std.proofs.Common.{◌≡◌, ℕ, ◌+◌, ◌-◌, ◌*◌, ◌/◌, ◌%◌, ◌<◌, List, ◌++◌, length, take, slice_index, slice_index_or, set, map, ⊎_elim, ◌≤◌, sym, ap, ◌∙◌, arith, Fits, w8}
 use Rattle.std.proofs.lemmas.Bool.{cases_lt}
 use Rattle.std.proofs.lemmas.List.{take_all, get_or_append_left, get_or-map, get_or-set_other, length-map}
 use Rattle.std.proofs.lemmas.Grind.{get_or-set_at}
@@ -21,6 +21,9 @@ lane_is : (p : List ℕ) (k : ℕ) → length p ≡ 64 → k < 64 → lane p k �
 lane_is p k long lt =
     let same : take 64 p ≡ p = take_all 64 p (omega (arith, long)) in
     ap (λ q. slice_index_or (q ++ q) k 0) same ∙ get_or_append_left p p 0 k (omega (arith, long, lt))
+
+lane_small : (p : List ℕ) (k : ℕ) → length p ≡ 64 → ((j : ℕ) → j < 64 → slice_index p j < 256) → k < 64 → lane p k < 256
+lane_small p k long small lt = (let e = lane_is p k long lt in let s = small k lt in omega (arith, e, s))
 
 -- a function of three lanes, sixteen times
 abbrev pub sixteen : (ℕ → ℕ → ℕ → ℕ) → List ℕ → List ℕ
@@ -50,22 +53,56 @@ luminance_is r g b lr lg lb = (let e : luminance_lane r g b ≡ luminance r g b 
 pub luminances_are : (p : List ℕ) → length p ≡ 64 → ((k : ℕ) → k < 64 → slice_index p k < 256) → sixteen luminance_lane p ≡ component_row p 0 16
 luminances_are p long small = sixteen_are luminance_lane 0 p long small luminance_is
 
+-- what 255 exceeds the difference of blue by
+abbrev pub blue_less : ℕ → ℕ → ℕ → ℕ
+blue_less r g b =
+    (((r * 11059 % 4294967296 + g * 10854 % 4294967296) % 4294967296 + (b * 4294934528 % 4294967296 + g * 10855 % 4294967296) % 4294967296) % 4294967296 + 8355840) % 4294967296 / 65536
+
 abbrev pub blue_lane : ℕ → ℕ → ℕ → ℕ
-blue_lane r g b =
-    ((b * 32768 % 4294967296 + 8421375) % 4294967296 + (4294967296 - (r * 11059 % 4294967296 + g * 21709 % 4294967296) % 4294967296)) % 4294967296 / 65536
+blue_lane r g b = (255 + (256 - blue_less r g b)) % 256
+
+less_blue : (r g b : ℕ) → r < 256 → g < 256 → b < 256 → blue_less r g b + blue_difference r g b ≡ 255
+less_blue r g b lr lg lb = omega (arith, lr, lg, lb)
+
+blue_small : (r g b : ℕ) → r < 256 → g < 256 → b < 256 → blue_less r g b < 256
+blue_small r g b lr lg lb = (let e = less_blue r g b lr lg lb in omega (arith, e))
 
 blue_is : (r g b : ℕ) → r < 256 → g < 256 → b < 256 → blue_lane r g b ≡ slice_index (to_ycc r g b) 1
-blue_is r g b lr lg lb = (let e : blue_lane r g b ≡ blue_difference r g b = omega (arith, lr, lg, lb) in e ∙ blue_second r g b)
+blue_is r g b lr lg lb = (let s = less_blue r g b lr lg lb in let e : blue_lane r g b ≡ blue_difference r g b = omega (arith, s) in e ∙ blue_second r g b)
+
+pub blues_fit : (p : List ℕ) → length p ≡ 64 → ((k : ℕ) → k < 64 → slice_index p k < 256) → (n : ℕ) → n < 16 → Fits w8 (blue_less (lane p (3 * n)) (lane p (3 * n + 1)) (lane p (3 * n + 2)))
+blues_fit p long small n lt =
+    record {
+      fits = blue_small (lane p (3 * n)) (lane p (3 * n + 1)) (lane p (3 * n + 2)) (lane_small p (3 * n) long small (omega (arith, lt)))
+          (lane_small p (3 * n + 1) long small (omega (arith, lt))) (lane_small p (3 * n + 2) long small (omega (arith, lt)));
+    }
 
 pub blues_are : (p : List ℕ) → length p ≡ 64 → ((k : ℕ) → k < 64 → slice_index p k < 256) → sixteen blue_lane p ≡ component_row p 1 16
 blues_are p long small = sixteen_are blue_lane 1 p long small blue_is
 
+-- what 255 exceeds the difference of red by
+abbrev pub red_less : ℕ → ℕ → ℕ → ℕ
+red_less r g b =
+    (((r * 4294934528 % 4294967296 + g * 13719 % 4294967296) % 4294967296 + (b * 5329 % 4294967296 + g * 13720 % 4294967296) % 4294967296) % 4294967296 + 8355840) % 4294967296 / 65536
+
 abbrev pub red_lane : ℕ → ℕ → ℕ → ℕ
-red_lane r g b =
-    ((r * 32768 % 4294967296 + 8421375) % 4294967296 + (4294967296 - (b * 5329 % 4294967296 + g * 27439 % 4294967296) % 4294967296)) % 4294967296 / 65536
+red_lane r g b = (255 + (256 - red_less r g b)) % 256
+
+less_red : (r g b : ℕ) → r < 256 → g < 256 → b < 256 → red_less r g b + red_difference r g b ≡ 255
+less_red r g b lr lg lb = omega (arith, lr, lg, lb)
+
+red_small : (r g b : ℕ) → r < 256 → g < 256 → b < 256 → red_less r g b < 256
+red_small r g b lr lg lb = (let e = less_red r g b lr lg lb in omega (arith, e))
 
 red_is : (r g b : ℕ) → r < 256 → g < 256 → b < 256 → red_lane r g b ≡ slice_index (to_ycc r g b) 2
-red_is r g b lr lg lb = (let e : red_lane r g b ≡ red_difference r g b = omega (arith, lr, lg, lb) in e ∙ red_third r g b)
+red_is r g b lr lg lb = (let s = less_red r g b lr lg lb in let e : red_lane r g b ≡ red_difference r g b = omega (arith, s) in e ∙ red_third r g b)
+
+pub reds_fit : (p : List ℕ) → length p ≡ 64 → ((k : ℕ) → k < 64 → slice_index p k < 256) → (n : ℕ) → n < 16 → Fits w8 (red_less (lane p (3 * n)) (lane p (3 * n + 1)) (lane p (3 * n + 2)))
+reds_fit p long small n lt =
+    record {
+      fits = red_small (lane p (3 * n)) (lane p (3 * n + 1)) (lane p (3 * n + 2)) (lane_small p (3 * n) long small (omega (arith, lt)))
+          (lane_small p (3 * n + 1) long small (omega (arith, lt))) (lane_small p (3 * n + 2) long small (omega (arith, lt)));
+    }
 
 pub reds_are : (p : List ℕ) → length p ≡ 64 → ((k : ℕ) → k < 64 → slice_index p k < 256) → sixteen red_lane p ≡ component_row p 2 16
 reds_are p long small = sixteen_are red_lane 2 p long small red_is

@@ -16,7 +16,7 @@ use Rattle.jpg_spec.specs.Scan.{Blocks}
 use Rattle.jpg_spec.specs.Ranges.{AreInRange}
 use Rattle.jpg_spec.proofs.Common.{both, from_test, length_below}
 use Rattle.jpg_spec.proofs.Rows.{by_items, at_below}
-use Rattle.jpg_color.specs.KeptRows.{KeptRows, stride, rows_of, last_row, row_in, with_rows}
+use Rattle.jpg_color.specs.KeptRows.{KeptRows, stride, rows_of, last_row, row_in, with_gray, with_rows}
 use Rattle.jpg_color.specs.RowBytes.{byte_in, PutsBlock, PutsRows}
 
 -- a byte of a row lies before all rows below
@@ -187,3 +187,12 @@ pub filled : (old : KeptRows) (quants : QuantTable) (blocks : Blocks) (i first c
 filled old quants blocks i first count wide room len bytes rows view e =
     ap (λ (rs : List (List ℕ)). (let k : KeptRows = record { wide = wide; room = room; rows = rs } in k)) e
     ∙ ap (λ (k : KeptRows). with_rows k quants blocks i first count) view
+
+-- the same of rows of 128
+pub grayed : (old : KeptRows) (count wide room len : ℕ) (bytes : List ℕ) (rows : List (List ℕ))
+    → ◌≡◌ {A = KeptRows} (record { wide = wide; room = room; rows = rows_of wide len bytes }) old
+    → rows ≡ last_row (rows_of wide len bytes) ++ map (λ y. map (λ x. 128) (below wide)) (below count)
+    → ◌≡◌ {A = KeptRows} (record { wide = wide; room = room; rows = rows }) (with_gray old count)
+grayed old count wide room len bytes rows view e =
+    ap (λ (rs : List (List ℕ)). (let k : KeptRows = record { wide = wide; room = room; rows = rs } in k)) e
+    ∙ ap (λ (k : KeptRows). with_gray k count) view

@@ -38,6 +38,10 @@ abbrev pub with_rows : KeptRows → QuantTable → Blocks → ℕ → ℕ → �
 with_rows kept quants blocks i first count =
     record kept { rows = last_row kept.rows ++ map (row_in kept.wide quants blocks i first) (below count) }
 
+-- The same, where the rows are those of zero blocks.
+abbrev pub with_gray : KeptRows → ℕ → KeptRows
+with_gray kept count = record kept { rows = last_row kept.rows ++ map (λ y. map (λ x. 128) (below kept.wide)) (below count) }
+
 -- There are blocks for `count` rows of `wide` samples of component i, from row `first` of its blocks on.
 pub record HasRows (q : Picture) (i first wide count : ℕ) : Type 0 where
   pub component : i < length q.frame.components

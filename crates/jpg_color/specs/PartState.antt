@@ -10,7 +10,7 @@ use Rattle.jpg_spec.specs.Strips.{block_rows, kept_row}
 use Rattle.jpg_coefs.specs.Picture.{Picture, map_of}
 use Rattle.jpg_file.specs.StripHead.{bare_picture}
 use Rattle.jpg_file.specs.declared.strip_head.StripHead.{StripHead}
-use Rattle.jpg_color.specs.KeptRows.{KeptRows, HasRows, with_rows}
+use Rattle.jpg_color.specs.KeptRows.{KeptRows, HasRows, with_gray, with_rows}
 
 pub record PartState : Type 0 where
   pub component : ℕ
@@ -88,6 +88,14 @@ pub record CanFill (q : Picture) (whole : Bool) (m : ℕ) (p : PartState) : Type
 
 abbrev pub filled : Picture → Bool → ℕ → PartState → PartState
 filled q whole m p = record p { kept = with_rows p.kept p.quants (map_of q) p.component (begins whole m p) (told p m) }
+
+-- The same of zero blocks.
+pub record CanFillGray (m : ℕ) (p : PartState) : Type 0 where
+  pub early : m < 65536
+  pub few : told p m ≤ 8 * p.block_rows
+
+abbrev pub grayed : ℕ → PartState → PartState
+grayed m p = record p { kept = with_gray p.kept (told p m) }
 
 -- the rows of samples that row y of the image is made from are kept behind m MCU rows
 pub record CanDraw (y m : ℕ) (p : PartState) : Type 0 where

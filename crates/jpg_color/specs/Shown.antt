@@ -12,6 +12,7 @@ use Rattle.jpg_spec.specs.Strips.{block_rows, mcu_rows, needed, ready, IsHeld}
 use Rattle.jpg_spec.specs.declared.fault.Fault.{Fault}
 use Rattle.jpg_spec.specs.declared.frame.Colour.{Colour}
 use Rattle.jpg_coefs.specs.Picture.{Picture, map_of}
+use Rattle.jpg_file.specs.RowTurns.{zero_picture}
 use Rattle.jpg_file.specs.StripHead.{bare_picture, may_have}
 use Rattle.jpg_file.specs.declared.strip_head.StripHead.{StripHead}
 use Rattle.jpg_color.specs.KeptRows.{KeptRows}
@@ -84,6 +85,10 @@ pub record AreMcuRow (d : Display) (m : ℕ) (first : ℕ → ℕ) (q : Picture)
 pub record IsMcuRow (f : Frame) (q : Picture) : Type 0 where
   pub frame : q.frame ≡ mcu_row_frame f
   pub range : AreInRange (bounds f) (map_of q)
+
+-- one whose blocks are all zero
+abbrev pub zero_row : Display → Picture
+zero_row d = zero_picture (mcu_row_frame d.frame)
 
 -- all rows that are ready were given, and MCU rows are missing
 pub record IsDue (s : Shown) : Type 0 where

@@ -2,9 +2,9 @@
 ghost use Rattle.std.specs.Prelude.{◌≡◌, ◌<◌, ℕ, length, slice_index};
 ghost use Rattle.jpg_color.specs.ColourRows.{component_row};
 
-use std::simd::{u8x64, u32x16, u32x32};
+use std::simd::{u8x16, u8x64, u32x16, u32x32};
 
-// The places of red and green of each pixel, of blue and green, of red alone, and of blue.
+// The places of red and green of each pixel, and of blue and green.
 const RED_GREEN: [usize; 32] = [
     0, 1, 3, 4, 6, 7, 9, 10, 12, 13, 15, 16, 18, 19, 21, 22, 24, 25, 27, 28, 30, 31, 33, 34, 36,
     37, 39, 40, 42, 43, 45, 46,
@@ -15,16 +15,13 @@ const BLUE_GREEN: [usize; 32] = [
     37, 41, 40, 44, 43, 47, 46,
 ];
 
-const REDS: [usize; 16] = [0, 3, 6, 9, 12, 15, 18, 21, 24, 27, 30, 33, 36, 39, 42, 45];
-
-const BLUES: [usize; 16] = [2, 5, 8, 11, 14, 17, 20, 23, 26, 29, 32, 35, 38, 41, 44, 47];
-
 // Of sixteen pairs the first ones, and the second ones.
 const EVENS: [usize; 16] = [0, 2, 4, 6, 8, 10, 12, 14, 16, 18, 20, 22, 24, 26, 28, 30];
 
 const ODDS: [usize; 16] = [1, 3, 5, 7, 9, 11, 13, 15, 17, 19, 21, 23, 25, 27, 29, 31];
 
-// What each of a pair is multiplied by.
+// What each of a pair is multiplied by, modulo 2^32. Of a difference it is made what is missing to 255, so that its greatest factor is
+// -32768, and all of them fit 16 bits.
 const LUMINANCE_RG: [u32; 32] = [
     19595, 22086, 19595, 22086, 19595, 22086, 19595, 22086, 19595, 22086, 19595, 22086, 19595,
     22086, 19595, 22086, 19595, 22086, 19595, 22086, 19595, 22086, 19595, 22086, 19595, 22086,
@@ -38,15 +35,29 @@ const LUMINANCE_BG: [u32; 32] = [
 ];
 
 const BLUE_RG: [u32; 32] = [
-    11059, 21709, 11059, 21709, 11059, 21709, 11059, 21709, 11059, 21709, 11059, 21709, 11059,
-    21709, 11059, 21709, 11059, 21709, 11059, 21709, 11059, 21709, 11059, 21709, 11059, 21709,
-    11059, 21709, 11059, 21709, 11059, 21709,
+    11059, 10854, 11059, 10854, 11059, 10854, 11059, 10854, 11059, 10854, 11059, 10854, 11059,
+    10854, 11059, 10854, 11059, 10854, 11059, 10854, 11059, 10854, 11059, 10854, 11059, 10854,
+    11059, 10854, 11059, 10854, 11059, 10854,
+];
+
+const BLUE_BG: [u32; 32] = [
+    4294934528, 10855, 4294934528, 10855, 4294934528, 10855, 4294934528, 10855, 4294934528, 10855,
+    4294934528, 10855, 4294934528, 10855, 4294934528, 10855, 4294934528, 10855, 4294934528, 10855,
+    4294934528, 10855, 4294934528, 10855, 4294934528, 10855, 4294934528, 10855, 4294934528, 10855,
+    4294934528, 10855,
+];
+
+const RED_RG: [u32; 32] = [
+    4294934528, 13719, 4294934528, 13719, 4294934528, 13719, 4294934528, 13719, 4294934528, 13719,
+    4294934528, 13719, 4294934528, 13719, 4294934528, 13719, 4294934528, 13719, 4294934528, 13719,
+    4294934528, 13719, 4294934528, 13719, 4294934528, 13719, 4294934528, 13719, 4294934528, 13719,
+    4294934528, 13719,
 ];
 
 const RED_BG: [u32; 32] = [
-    5329, 27439, 5329, 27439, 5329, 27439, 5329, 27439, 5329, 27439, 5329, 27439, 5329, 27439,
-    5329, 27439, 5329, 27439, 5329, 27439, 5329, 27439, 5329, 27439, 5329, 27439, 5329, 27439,
-    5329, 27439, 5329, 27439,
+    5329, 13720, 5329, 13720, 5329, 13720, 5329, 13720, 5329, 13720, 5329, 13720, 5329, 13720,
+    5329, 13720, 5329, 13720, 5329, 13720, 5329, 13720, 5329, 13720, 5329, 13720, 5329, 13720,
+    5329, 13720, 5329, 13720,
 ];
 
 // Tells that a number fits its type. It does nothing.
@@ -93,11 +104,10 @@ pub(crate) fn blue_differences(pixels: &[u8]) -> [u8; 16]
     all_fit(pixels);
     let p = u8x64::from_slice(pixels);
     let rg = p.swizzle(RED_GREEN).cast::<u32>() * u32x32::from_array(BLUE_RG);
-    let b = p.swizzle(BLUES).cast::<u32>();
-    let more = b * u32x16::splat(32768) + u32x16::splat(8421375);
-    ((more - (rg.swizzle(EVENS) + rg.swizzle(ODDS))) / u32x16::splat(65536))
-        .cast::<u8>()
-        .to_array()
+    let bg = p.swizzle(BLUE_GREEN).cast::<u32>() * u32x32::from_array(BLUE_BG);
+    let sum = (rg.swizzle(EVENS) + rg.swizzle(ODDS)) + (bg.swizzle(EVENS) + bg.swizzle(ODDS));
+    let less = ((sum + u32x16::splat(8355840)) / u32x16::splat(65536)).cast::<u8>();
+    (u8x16::splat(255) - less).to_array()
 }
 
 /// The differences of red of sixteen pixels, and sixteen numbers more are read.
@@ -108,10 +118,9 @@ pub(crate) fn red_differences(pixels: &[u8]) -> [u8; 16]
 {
     all_fit(pixels);
     let p = u8x64::from_slice(pixels);
-    let r = p.swizzle(REDS).cast::<u32>();
+    let rg = p.swizzle(RED_GREEN).cast::<u32>() * u32x32::from_array(RED_RG);
     let bg = p.swizzle(BLUE_GREEN).cast::<u32>() * u32x32::from_array(RED_BG);
-    let more = r * u32x16::splat(32768) + u32x16::splat(8421375);
-    ((more - (bg.swizzle(EVENS) + bg.swizzle(ODDS))) / u32x16::splat(65536))
-        .cast::<u8>()
-        .to_array()
+    let sum = (rg.swizzle(EVENS) + rg.swizzle(ODDS)) + (bg.swizzle(EVENS) + bg.swizzle(ODDS));
+    let less = ((sum + u32x16::splat(8355840)) / u32x16::splat(65536)).cast::<u8>();
+    (u8x16::splat(255) - less).to_array()
 }

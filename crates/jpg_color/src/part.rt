@@ -3,7 +3,7 @@ ghost use Rattle.std.specs.Prelude.{◌≡◌, ◌<◌, ◌≤◌, ◌+◌, ◌-
 ghost use Rattle.jpg_spec.specs.Geometry.{div_up};
 ghost use Rattle.jpg_spec.specs.Upsampling.{has_far_rows};
 ghost use Rattle.jpg_file.specs.StripHead.{IsStripHead};
-ghost use Rattle.jpg_color.specs.PartState.{CanDraw, CanFill, IsNewPart, IsSized, drawn, filled, head_picture};
+ghost use Rattle.jpg_color.specs.PartState.{CanDraw, CanFill, CanFillGray, IsNewPart, IsSized, drawn, filled, grayed, head_picture};
 
 use crate::sample_rows::SampleRows;
 use jpg_base::{NoMemory, QuantTable};
@@ -153,6 +153,16 @@ impl Part {
         let count = known(self.block_rows, self.high, pushed + 1) - before;
         self.rows
             .fill(coefs, self.component, &self.quants, first, count);
+    }
+
+    /// The same, where its blocks are zero.
+    pub(crate) fn fill_gray(&mut self, pushed: u32)
+        requires { CanFillGray pushed self.old }
+        ensures { self.new ≡ grayed pushed self.old }
+    {
+        let before = known(self.block_rows, self.high, pushed);
+        let count = known(self.block_rows, self.high, pushed + 1) - before;
+        self.rows.fill_gray(count);
     }
 
     /// Makes its part of row `y` of the image, from the rows that are kept behind so many MCU rows.

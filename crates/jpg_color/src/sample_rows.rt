@@ -3,7 +3,7 @@ ghost use Rattle.std.specs.Prelude.{◌≡◌, ◌<◌, ◌≤◌, ◌+◌, ◌*
 ghost use Rattle.jpg_spec.specs.Geometry.{component_at};
 ghost use Rattle.jpg_spec.specs.FrameHeader.{padded_down};
 ghost use Rattle.jpg_coefs.specs.Picture.{map_of};
-ghost use Rattle.jpg_color.specs.KeptRows.{HasRows, stride, rows_of, last_row, sample_in, with_rows};
+ghost use Rattle.jpg_color.specs.KeptRows.{HasRows, stride, rows_of, last_row, sample_in, with_gray, with_rows};
 ghost use Rattle.jpg_color.specs.RowBytes.{PutsBlock, PutsRows};
 
 use crate::blocks::{natural_quants, samples_by};
@@ -151,6 +151,17 @@ fn put_rows(
     }
 }
 
+// Puts `count` rows of 128 behind the first `kept` ones.
+fn put_gray(samples: &mut [u8], wide: u32, kept: usize, count: usize)
+    requires wide { (1 ≤ wide) × (wide ≤ 65500) }
+    requires rows { kept + count ≤ 33 }
+    requires room { (kept + count) * stride wide ≤ length samples.old }
+    ensures { PutsRows (stride wide) kept count (stride wide) (λ y x. 128) samples.old samples.new }
+{
+    let line = line_of(wide);
+    samples[kept * line..(kept + count) * line].fill(128);
+}
+
 // Moves the last of `len` rows to the front, and tells how many rows are there then.
 fn keep_last(samples: &mut [u8], wide: u32, len: u32) -> u32
     requires wide { wide ≤ 65500 }
@@ -230,6 +241,17 @@ impl SampleRows {
             first,
             count as usize,
         );
+        self.len = kept + count;
+    }
+
+    /// Keeps the last row, and puts behind it `count` rows of 128: those of zero blocks.
+    pub fn fill_gray(&mut self, count: u32)
+        requires room { count < self.old.room }
+        ensures { self.new ≡ with_gray self.old count }
+    {
+        let wide = self.wide;
+        let kept = keep_last(&mut self.samples, wide, self.len);
+        put_gray(&mut self.samples, wide, kept as usize, count as usize);
         self.len = kept + count;
     }
 }

@@ -1,8 +1,8 @@
 // An image that is written row by row, while the MCU rows of its picture come.
-ghost use Rattle.std.specs.Prelude.{◌≡◌, ◌≤◌, true, None, [], IfOk};
+ghost use Rattle.std.specs.Prelude.{◌≡◌, ◌≤◌, ◌==◌, true, None, [], IfOk};
 ghost use Rattle.jpg_file.specs.StripHead.{IsStripHead};
 ghost use Rattle.jpg_pnm_bmp.specs.EndState.{new_end};
-ghost use Rattle.jpg_color.specs.Shown.{IsDue, IsMcuRow, display_fault, display_of, all_rows};
+ghost use Rattle.jpg_color.specs.Shown.{IsDue, IsMcuRow, display_fault, display_of, all_rows, zero_row};
 ghost use Rattle.jpg_color.specs.DecodeRows.{Sends};
 ghost use Rattle.jpg_color.specs.StripImage.{BeginsDrawing, CanTake, DrawsRow, EndsDrawing, IsEndOf, IsNewDrawing, IsNewOf, IsWhole, SendsReady, StaysDrawn};
 
@@ -111,6 +111,28 @@ impl StripImage {
     {
         self.strips.push(row);
         send_ready(&mut self.strips, end, &mut self.out, desk)
+    }
+
+    /// The same of an MCU row whose blocks are all zero.
+    pub fn push_zero<D: Desk>(
+        &mut self,
+        end: &mut Box<dyn ImageEnd>,
+        desk: &mut D,
+    ) -> Result<(), DecodeStop>
+        requires due { IsDue self.old.strips }
+        requires end { IsEndOf self.old (progress end.old) }
+        requires created { (D.state desk.old).output_created ≡ true }
+        ensures { DrawsRow (D.state desk.old) self.old (progress end.old) (zero_row self.old.strips.display) result self.new (progress end.new) (D.state desk.new) }
+    {
+        self.strips.push_zero();
+        send_ready(&mut self.strips, end, &mut self.out, desk)
+    }
+
+    /// Whether all MCU rows were told.
+    pub fn is_whole(&self) -> bool
+        ensures { result ≡ (self.now.strips.pushed == all_rows self.now.strips.display) }
+    {
+        self.strips.is_whole()
     }
 
     /// Writes all that waits. It takes no memory.

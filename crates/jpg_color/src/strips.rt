@@ -8,8 +8,8 @@ ghost use Rattle.jpg_spec.specs.Strips.{needed};
 ghost use Rattle.jpg_spec.specs.Upsampling.{has_far_rows};
 ghost use Rattle.jpg_coefs.specs.Picture.{map_of};
 ghost use Rattle.jpg_file.specs.StripHead.{IsStripHead};
-ghost use Rattle.jpg_color.specs.PartState.{AreSized, CanDraw, CanFill, head_picture, no_rows, drawn, filled};
-ghost use Rattle.jpg_color.specs.Shown.{Advances, IsDue, IsFresh, IsMcuRow, IsPushed, IsShowable, all_rows, at_due, at_top, display_fault, display_of, parts, ready_rows, rows_in};
+ghost use Rattle.jpg_color.specs.PartState.{AreSized, CanDraw, CanFill, CanFillGray, head_picture, no_rows, drawn, filled, grayed};
+ghost use Rattle.jpg_color.specs.Shown.{Advances, IsDue, IsFresh, IsMcuRow, IsPushed, IsShowable, all_rows, at_due, at_top, display_fault, display_of, parts, ready_rows, rows_in, zero_row};
 ghost use Rattle.jpg_color.specs.StripsState.{AreNewParts, AreWide, HasMcuRow, coloured, coloured_length, part_at, start_of};
 
 use crate::kinds::is_gray;
@@ -149,6 +149,15 @@ fn fill_parts(parts: &mut [Part], coefs: &Coefs, whole: bool, pushed: u32)
     }
 }
 
+fn gray_parts(parts: &mut [Part], pushed: u32)
+    requires { All (CanFillGray pushed) parts.old }
+    ensures { parts.new ≡ map (grayed pushed) parts.old }
+{
+    for i in 0..parts.len() {
+        parts[i].fill_gray(pushed);
+    }
+}
+
 fn draw_parts(parts: &mut [Part], y: u32, pushed: u32)
     requires { All (CanDraw y pushed) parts.old }
     ensures { parts.new ≡ map (drawn y pushed) parts.old }
@@ -259,6 +268,16 @@ impl Strips {
     {
         self.checked();
         self.take(coefs, true);
+    }
+
+    /// Takes the MCU row that is due, where all of its blocks are zero, as `push` takes it.
+    pub fn push_zero(&mut self)
+        requires due { IsDue self.old }
+        ensures { IsPushed self.old at_top (zero_row self.old.display) self.new }
+    {
+        self.checked();
+        gray_parts(&mut self.parts, self.pushed);
+        self.pushed += 1;
     }
 
     /// Goes to the next row of the image, which `row` lends then. It answers false exactly where all rows that the MCU rows

@@ -16,6 +16,7 @@ pub mod Scannings
 pub mod Beginnings
 pub mod Ending
 pub mod Lacking
+pub mod Leaving
 pub mod HeadTables
 pub mod Heads
 pub mod HeadReady
@@ -78,3 +79,5 @@ pub mod RowsNone
 pub mod RowsNoneFed
 pub mod FaultsPieces
 pub mod FaultsAnswered
+pub mod RowsEarly
+pub mod RowsEnd

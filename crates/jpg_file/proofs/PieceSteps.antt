@@ -169,17 +169,6 @@ keeps_more r w piece result e undone k reads = record {
   ended = λ done. absurd (clash r.done done undone);
 }
 
-pub keeps_done : (r : ReaderState) (w : FileWork) (piece : List ℕ) (result : Result Fed Stop) (used : ℕ) → result ≡ Ok (fed.Done used) → r.done ≡ false → r.stop ≡ None → IsReading r → ReadsPiece r.limits r.file piece result w
-    → IsReading (record r { file = w; done = true })
-keeps_done r w piece result used e undone none k reads =
-    let o = k.open none undone in
-    let a = subst (λ x. AfterFilePiece r.limits o.0 piece x w) e (reads o.0 o.1) in
-    record {
-      limited = k.limited;
-      «open» = λ stop undone_now. absurd (clash true refl undone_now);
-      ended = λ done. (o.0 ++ take used piece, a.0);
-    }
-
 -- what a reader with room requires of its file
 pub room_of : (limits : Limits) (bytes : List ℕ) (w : FileWork) → Stands limits bytes w → w.reading.taken < limits.input → w.reading.taken < (limits_of w).input
 room_of limits bytes w s room = subst (λ (l : Limits). w.reading.taken < l.input) (sym (limits_are limits bytes w s)) room

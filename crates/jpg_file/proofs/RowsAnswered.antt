@@ -49,7 +49,7 @@ before_read bytes m r h = record {
   going = h.going;
   undone = h.undone;
   begun = h.begun;
-  «open» = open_by r.limits bytes r.rows r.file (h.begun).rows (h.begun).has h.open h.byte;
+  «open» = open_by r.limits bytes r.rows r.file (h.begun).rows (h.begun).has (h.open).stands h.byte;
   count = h.rows;
   told = h.blocks;
   tells = h.completed.0;
@@ -128,7 +128,7 @@ more_begun r old new bytes piece rows going undone h reads knows has = record {
   short = a.1;
   stands = (let v = strip_whole r.limits all (Some rows) new.file g.goes in stands_file r.limits all v.file v.stands);
   begun = begun_here r new all 0 rows k has g.goes.stands;
-  «open» = g.goes.stands;
+  «open» = g.goes;
   byte = g.last refl;
   rows = k.count;
   blocks = complete.0;

@@ -49,7 +49,7 @@ rows_completed limits bytes before contents w rows whole m begins r none count =
 
 -- A FURTHER ONE is whole
 
-rest_framed : (limits : Limits) (items : List Item) (contents bytes : List ℕ) (waiting : List Bool) (s : InScan) (whole : Picture) → AfterRest limits items contents bytes answer.More waiting s whole → IsFirstScan limits items → whole.frame ≡ frame_behind limits items
+pub rest_framed : (limits : Limits) (items : List Item) (contents bytes : List ℕ) (waiting : List Bool) (s : InScan) (whole : Picture) → AfterRest limits items contents bytes answer.More waiting s whole → IsFirstScan limits items → whole.frame ≡ frame_behind limits items
 rest_framed limits items contents bytes [] s whole d first = data_framed limits items contents bytes s whole d first
 rest_framed limits items contents bytes (bit ∷ bits) s whole (more, h) first = (half_due limits items contents bytes (bit ∷ bits) s whole h first).framed
 

@@ -62,7 +62,7 @@ fed_more_rows r new bytes piece m rows told going undone b count tells has strip
   short = short;
   stands = (let v = strip_whole r.limits (bytes ++ piece) (Some rows) new.file g in stands_file r.limits (bytes ++ piece) v.file v.stands);
   begun = begun_with r new bytes piece rows b has strip (open_head r.limits (bytes ++ piece) (Some rows) new.file g.stands);
-  «open» = g.stands;
+  «open» = g;
   byte = last;
   rows = here;
   blocks = complete.0;

@@ -119,7 +119,7 @@ place_tells limits items contents bytes whole rows left t at =
 
 -- AN MCU ROW that is whole
 
-real_in_row : (f : Frame) (i x y : ℕ) → i < length f.components → x < blocks_across f (component_at f i) → y < blocks_down f (component_at f i) → is_real f i x y ≡ true
+pub real_in_row : (f : Frame) (i x y : ℕ) → i < length f.components → x < blocks_across f (component_at f i) → y < blocks_down f (component_at f i) → is_real f i x y ≡ true
 real_in_row f i x y there across down = ap (λ b. b && nat_lt y (blocks_down f (component_at f i))) (lt_yes x (blocks_across f (component_at f i)) across) ∙ lt_yes y (blocks_down f (component_at f i)) down
 
 -- it lies in the row's padded grids

@@ -14,6 +14,7 @@ use Rattle.jpg_file.specs.declared.row_reader.FedRow.TheVariants as fed
 use Rattle.jpg_file.specs.declared.rows.RowWork.{RowWork}
 use Rattle.jpg_file.specs.declared.strip_work.StripWork.{StripWork}
 use Rattle.jpg_file.specs.declared.strips.StripStep.TheVariants as step
+use Rattle.jpg_file.proofs.Leaving.{whole_leaves}
 
 go_open : (limits : Limits) (bytes : List ℕ) (rows : Option RowWork) (w : FileWork) → RowsGo limits bytes rows w → RowsOpen limits bytes rows w
 go_open limits bytes rows w g = record { stands = by rows g.goes; last = g.last }
@@ -70,7 +71,7 @@ keeps_done_rows r old new piece result used e undone going k kept reads =
       keeping = kept.keeping ∙ k.keeping;
       sparing = kept.sparing k.keeping k.sparing;
       «open» = λ none undone_now. absurd (clash true refl undone_now);
-      ended = λ done none. (o.0 ++ take used piece, ends_plain r.limits (o.0 ++ take used piece) new.rows new.file none a.0);
+      ended = λ done none. whole_leaves r.limits (o.0 ++ take used piece) new.file (ends_plain r.limits (o.0 ++ take used piece) new.rows new.file none a.0);
     }
 
 pub keeps_stopped_rows : (r : RowReaderState) (old new : StripWork) (s : Stop) → r.done ≡ false → IsReadingRows (with_work r old) → KeepsWork old new → IsReadingRows (record (with_work r new) { stop = Some s })

@@ -26,9 +26,9 @@ by_row_counted limits bytes w rows s = by s.at
     by (inl r) = (r.held).count
     by (inr b) = ((b.between).beside).count
 
-pub read_all : (bytes : List ℕ) (r : RowReaderState) → HasReadAll bytes r → ReadAll bytes r
-read_all bytes r (inl h) = record { stands = h.read.stands; short = h.read.short; taken = counted r.limits bytes r.file h.read.open }
-read_all bytes r (inr (m, h)) = record { stands = h.stands; short = h.short; taken = by_row_counted r.limits bytes r.file (h.begun).rows h.open }
+pub read_all : (bytes : List ℕ) (m : ℕ) (r : RowReaderState) → HasReadAll bytes m r → ReadAll bytes r
+read_all bytes m r (inl (h, none)) = record { stands = h.read.stands; short = h.read.short; taken = counted r.limits bytes r.file h.read.open }
+read_all bytes m r (inr h) = record { stands = h.stands; short = h.short; taken = by_row_counted r.limits bytes r.file (h.begun).rows (h.open).stands }
 
 -- as it stands before any byte
 pub read_nothing : (limits : Limits) (r : RowReaderState) → AreLimits limits → r.limits ≡ limits → r.rows ≡ None → r.stop ≡ None → r.done ≡ false → Stands limits [] r.file → HasReadPlainly [] r

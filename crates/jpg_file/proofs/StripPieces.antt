@@ -12,8 +12,8 @@ use Rattle.jpg_file.specs.declared.scan.ScanStep.TheVariants as answer
 use Rattle.jpg_file.specs.declared.strips.StripStep.{StripStep}
 
 -- the file as it is read whole
-pub goes_stands : (limits : Limits) (bytes : List ℕ) (w : FileWork) (rows : RowWork) → GoesByRow limits bytes w rows → (whole : Picture) × Stands limits bytes (with_picture w whole)
-goes_stands limits bytes w rows g = ((g.stands).whole, by (g.stands).at)
+pub goes_with : (limits : Limits) (bytes : List ℕ) (w : FileWork) (rows : RowWork) → (g : GoesByRow limits bytes w rows) → Stands limits bytes (with_picture w (g.stands).whole)
+goes_with limits bytes w rows g = by (g.stands).at
   where
     by : RowsInside limits bytes w rows (g.stands).whole ⊎ RowsBehind limits bytes w rows (g.stands).whole → Stands limits bytes (with_picture w (g.stands).whole)
     by (inl r) =
@@ -37,6 +37,9 @@ goes_stands limits bytes w rows g = ((g.stands).whole, by (g.stands).at)
           head = h.first_head;
         })
     by (inr b) = inl b.between
+
+pub goes_stands : (limits : Limits) (bytes : List ℕ) (w : FileWork) (rows : RowWork) → GoesByRow limits bytes w rows → (whole : Picture) × Stands limits bytes (with_picture w whole)
+goes_stands limits bytes w rows g = ((g.stands).whole, goes_with limits bytes w rows g)
 
 -- a byte
 pub one_row : (limits : Limits) (front bytes : List ℕ) (w new : FileWork) (rows after : RowWork) (result : StripStep) → GoesByRow limits front w rows → w.reading.taken < limits.input → 1 ≤ length bytes → new.head ≡ w.head → AfterRows limits (front ++ get_or bytes 0 0 ∷ []) result new after

@@ -36,7 +36,7 @@ data_framed limits items contents bytes s whole d first = by s.work.whole refl
     by false e = (data_due limits items contents bytes s whole d e first).framed
     by true e = (read_at limits d.place s.work whole e d.work).framed ∙ ap (λ (l : List Item). frame_behind limits l) (d.of).0
 
-rest_blank : (limits : Limits) (items : List Item) (contents bytes : List ℕ) (waiting : List Bool) (s : InScan) (rows : RowWork) (whole : Picture) → AfterRest limits items contents bytes answer.More waiting s whole → IsFirstScan limits items
+pub rest_blank : (limits : Limits) (items : List Item) (contents bytes : List ℕ) (waiting : List Bool) (s : InScan) (rows : RowWork) (whole : Picture) → AfterRest limits items contents bytes answer.More waiting s whole → IsFirstScan limits items
     → IsRowIn (frame_behind limits items) (components_of limits items contents) rows (scan_left s.work) → IsBlankBehind rows whole
 rest_blank limits items contents bytes [] s rows whole d first at =
     data_blank limits items contents bytes s (frame_behind limits items) (components_of limits items contents) rows whole d first.first (ap (λ (t : Scan). t.places) (scan_of_place limits items contents d.place (d.of).0 (d.of).1)) (data_framed limits items contents bytes s whole d first) at

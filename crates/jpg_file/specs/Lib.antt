@@ -10,6 +10,7 @@ pub mod Reading
 pub mod Begun
 pub mod Judge
 pub mod File
+pub mod Left
 pub mod ReadFile
 pub mod PictureKept
 pub mod PictureRead

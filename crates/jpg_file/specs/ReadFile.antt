@@ -1,9 +1,14 @@
 -- A whole file that is fed piece by piece (T.81, B.2.1).
-use Rattle.std.specs.Prelude.{◌≡◌, ◌⊎◌, ℕ, ◌<◌, ◌≤◌, Bool, true, false, List, ◌++◌, length, take, ◌+◌, option_map, Option, None, Result, Ok, Err}
+use Rattle.std.specs.Prelude.{◌≡◌, ◌⊎◌, ℕ, ◌<◌, ◌≤◌, Bool, true, false, List, ◌++◌, length, take, ◌+◌, option_map, Option, Some, None, Result, Ok, Err}
 use Rattle.jpg_spec.specs.Geometry.{Frame}
 use Rattle.jpg_spec.specs.FrameHeader.{AreLimits}
 use Rattle.jpg_spec.specs.Meaning.{Meaning}
-use Rattle.jpg_spec.specs.FirstFault.{IsFirstFault}
+use Rattle.jpg_spec.specs.Scan.{Blocks}
+use Rattle.jpg_spec.specs.Markers.{Segment}
+use Rattle.jpg_spec.specs.InForce.{frame_of}
+use Rattle.jpg_spec.specs.FileMeaning.{meaning_of}
+use Rattle.jpg_spec.specs.FirstFault.{HaveBegun, IsFirstFault}
+use Rattle.jpg_spec.specs.Early.{MeansEarly}
 use Rattle.jpg_spec.specs.FileStands.{FileStands, IsWholeFile}
 use Rattle.jpg_spec.specs.declared.answers.FaultAt.{FaultAt}
 use Rattle.jpg_spec.specs.declared.frame.Colour.{Colour}
@@ -13,22 +18,26 @@ use Rattle.jpg_base.specs.declared.stop.Fed.TheVariants as fed
 use Rattle.jpg_base.specs.declared.stop.Stop.{Stop}
 use Rattle.jpg_base.specs.declared.stop.Stop.TheVariants as stop
 use Rattle.jpg_file.specs.FirstHead.{IsHeadOf}
+use Rattle.jpg_file.specs.Left.{Leaves, LeavesPicture}
+use Rattle.jpg_file.specs.declared.ends.End.{End}
+use Rattle.jpg_file.specs.declared.ends.End.TheVariants as ends
 use Rattle.jpg_file.specs.File.{EndsFile, IsStop, Stands}
 use Rattle.jpg_file.specs.declared.head.Head.{Head}
 use Rattle.jpg_file.specs.declared.file.FileWork.{FileWork}
 
--- what is seen of a reader: the file in work, whether it is whole (then neither `feed` nor `end` may be called any more), and why it stopped, if it did
+-- what is seen of a reader: the file in work, whether it is done (it is whole or ended early, so that neither `feed` nor `end` may be called any more),
+-- and why it stopped, if it did
 pub record ReaderState : Type 0 where
   pub limits : Limits
   pub file : FileWork
   pub done : Bool
   pub stop : Option Stop
 
--- what every reader keeps: it stands for some bytes, or for a whole file
+-- what every reader keeps: it stands for some bytes, or leaves a picture
 pub record IsReading (r : ReaderState) : Type 0 where
   pub limited : AreLimits r.limits
   pub «open» : r.stop ≡ None → r.done ≡ false → (bytes : List ℕ) × Stands r.limits bytes r.file
-  pub ended : r.done ≡ true → (bytes : List ℕ) × EndsFile r.limits bytes r.file
+  pub ended : r.done ≡ true → LeavesPicture r.limits r.file
 
 -- The bytes were fed. They show no fault and hold no whole file, and more may come.
 pub record HasRead (bytes : List ℕ) (r : ReaderState) : Type 0 where
@@ -46,6 +55,20 @@ pub record IsDone (bytes : List ℕ) (r : ReaderState) : Type 0 where
   pub whole : IsWholeFile r.limits bytes meaning
   pub ended : EndsFile r.limits bytes r.file
   pub head : IsHeadOf r.limits bytes r.file.head
+
+-- They end early, and leave what they mean.
+pub record IsEarlyEnd (bytes : List ℕ) (r : ReaderState) : Type 0 where
+  pub done : r.done ≡ true
+  pub segments : List Segment
+  pub blocks : Blocks
+  pub early : MeansEarly r.limits bytes (meaning_of (frame_of r.limits segments) segments blocks)
+  pub left : Leaves r.limits segments blocks r.file
+  pub head : IsHeadOf r.limits bytes r.file.head
+
+-- whether each component has begun in bytes that were fed
+abbrev pub TellsBegun : Limits → List ℕ → Bool → Type 0
+TellsBegun limits bytes true = HaveBegun limits bytes
+TellsBegun limits bytes false = HaveBegun limits bytes → ⊥
 
 -- WHAT A FILE IS REFUSED WITH: its first fault
 abbrev pub IsRefusal : Limits → List ℕ → FaultAt → Type 0
@@ -83,6 +106,15 @@ FeedsFile old piece answer new = (bytes : List ℕ) → HasRead bytes old → Af
 abbrev pub StopsAt : Limits → List ℕ → Stop → Type 0
 StopsAt limits bytes (stop.Fault f) = IsRefusal limits bytes f
 StopsAt limits bytes stop.NoMemory = ⊥
+
+-- where they end: early, at their number, or with a fault
+abbrev pub AfterEnd : List ℕ → End → ReaderState → Type 0
+AfterEnd bytes (ends.Early n) r = (n ≡ length bytes) × IsEarlyEnd bytes r
+AfterEnd bytes (ends.Stop stop) r = StopsAt r.limits bytes stop
+
+abbrev pub EndsWith : End → ReaderState → Type 0
+EndsWith (ends.Early n) r = r.done ≡ true
+EndsWith (ends.Stop stop) r = (r.done ≡ false) × (r.stop ≡ Some stop)
 
 -- the word that keeps `done`
 abbrev pub EndsDone : Result Fed Stop → ReaderState → Type 0

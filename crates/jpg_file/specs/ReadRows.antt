@@ -7,6 +7,8 @@ use Rattle.jpg_spec.specs.Ranges.{AreInRange}
 use Rattle.jpg_spec.specs.Markers.{Segment}
 use Rattle.jpg_spec.specs.InForce.{frame_of}
 use Rattle.jpg_spec.specs.Meaning.{Meaning}
+use Rattle.jpg_spec.specs.Elements.{zeros}
+use Rattle.jpg_spec.specs.Early.{MeansEarly}
 use Rattle.jpg_spec.specs.FileStands.{FileStands, IsWholeFile}
 use Rattle.jpg_spec.specs.RowsTold.{BeginsScanOfAll, CompletesRows, TellsRows}
 use Rattle.jpg_spec.specs.RowsShown.{picture_so_far}
@@ -16,14 +18,17 @@ use Rattle.jpg_base.specs.declared.stop.Stop.{Stop}
 use Rattle.jpg_base.specs.declared.stop.Stop.TheVariants as stop
 use Rattle.jpg_coefs.specs.Picture.{Picture, map_of}
 use Rattle.jpg_seq.specs.Rows.{rows_in_mcu}
-use Rattle.jpg_file.specs.File.{EndsFile, keeping_of}
+use Rattle.jpg_file.specs.File.{keeping_of}
 use Rattle.jpg_file.specs.FirstHead.{IsHeadOf}
-use Rattle.jpg_file.specs.ReadFile.{HasRead, IsDone, IsStopOf, KeepsHead, KeepsHeadAt, ReaderState}
+use Rattle.jpg_file.specs.Left.{LeavesPicture}
+use Rattle.jpg_file.specs.ReadFile.{HasRead, IsDone, IsEarlyEnd, IsStopOf, KeepsHead, KeepsHeadAt, ReaderState, StopsAt}
 use Rattle.jpg_file.specs.RowPieces.{HasLastByte, RowsOpen}
 use Rattle.jpg_file.specs.RowTurns.{unfinished}
 use Rattle.jpg_file.specs.RowsKnown.{TellsStrip, rows_of_scan}
 use Rattle.jpg_file.specs.RowsNone.{HasNoRows}
-use Rattle.jpg_file.specs.Strips.{SparesRows, StandsByRow}
+use Rattle.jpg_file.specs.Strips.{GoesByRow, SparesRows, StandsByRow}
+use Rattle.jpg_file.specs.declared.ends.End.{End}
+use Rattle.jpg_file.specs.declared.ends.End.TheVariants as ends
 use Rattle.jpg_file.specs.declared.file.FileWork.{FileWork}
 use Rattle.jpg_file.specs.declared.row_reader.FedRow.{FedRow}
 use Rattle.jpg_file.specs.declared.row_reader.FedRow.TheVariants as fed
@@ -43,13 +48,13 @@ pub record RowReaderState : Type 0 where
 abbrev pub whole_reader : RowReaderState → ReaderState
 whole_reader r = record { limits = r.limits; file = r.file; done = r.done; stop = r.stop }
 
--- what every one keeps: it stands for some bytes, or for a whole file, and where MCU rows are in work it asks for no memory
+-- what every one keeps: it stands for some bytes, or leaves a picture, and where MCU rows are in work it asks for no memory
 pub record IsReadingRows (r : RowReaderState) : Type 0 where
   pub limited : AreLimits r.limits
   pub keeping : keeping_of r.file ≡ copying.None
   pub sparing : SparesRows r.rows r.file
   pub «open» : r.stop ≡ None → r.done ≡ false → (bytes : List ℕ) × RowsOpen r.limits bytes r.rows r.file
-  pub ended : r.done ≡ true → r.rows ≡ None → (bytes : List ℕ) × EndsFile r.limits bytes r.file
+  pub ended : r.done ≡ true → r.rows ≡ None → LeavesPicture r.limits r.file
 
 -- THE HEAD of the picture whose rows are read, when the scan began in the bytes
 pub record HasBegunRows (bytes : List ℕ) (r : RowReaderState) : Type 0 where
@@ -80,7 +85,7 @@ pub record HasReadRows (bytes : List ℕ) (m : ℕ) (r : RowReaderState) : Type 
   pub short : length bytes < r.limits.input
   pub stands : FileStands r.limits bytes
   pub begun : HasBegunRows bytes r
-  pub «open» : StandsByRow r.limits bytes r.file begun.rows
+  pub «open» : GoesByRow r.limits bytes r.file begun.rows
   pub byte : HasLastByte r.limits bytes
   pub rows : m + unfinished begun.rows ≡ rows_of_scan r.limits begun.before begun.contents
   pub blocks : Blocks
@@ -112,8 +117,8 @@ abbrev pub HasReadSoFar : List ℕ → ℕ → RowReaderState → Type 0
 HasReadSoFar bytes m r = (HasReadPlainly bytes r × (m ≡ 0)) ⊎ (HasReadRows bytes m r ⊎ HasGivenRow bytes m r)
 
 -- no bits are left that aren't judged
-abbrev pub HasReadAll : List ℕ → RowReaderState → Type 0
-HasReadAll bytes r = HasReadPlainly bytes r ⊎ ((m : ℕ) × HasReadRows bytes m r)
+abbrev pub HasReadAll : List ℕ → ℕ → RowReaderState → Type 0
+HasReadAll bytes m r = (HasReadPlainly bytes r × (m ≡ 0)) ⊎ HasReadRows bytes m r
 
 -- A whole file, all whose MCU rows were given.
 pub record IsDoneByRows (bytes : List ℕ) (m : ℕ) (r : RowReaderState) : Type 0 where
@@ -129,6 +134,46 @@ pub record IsDonePlainly (bytes : List ℕ) (r : RowReaderState) : Type 0 where
   pub none : r.rows ≡ None
   pub plain : HasNoRows r.limits bytes
   pub done : IsDone bytes (whole_reader r)
+
+-- WHERE THEY END EARLY
+
+-- Without such a scan, what is left is a picture.
+pub record IsEarlyPlainly (bytes : List ℕ) (r : RowReaderState) : Type 0 where
+  pub none : r.rows ≡ None
+  pub plain : HasNoRows r.limits bytes
+  pub early : IsEarlyEnd bytes (whole_reader r)
+
+-- the real blocks of so many first MCU rows are the same
+pub record AgreeInRows (f : Frame) (rows : ℕ) (blocks others : Blocks) : Type 0 where
+  pub same : (i x y : ℕ) → i < length f.components → x < blocks_across f (component_at f i) → y < blocks_down f (component_at f i)
+      → y < rows * rows_in_mcu f i → blocks i x y ≡ others i x y
+
+-- MCU row k is lent: in a frame's bounds, and of these blocks
+pub record LendsRow (f : Frame) (k : ℕ) (lent : Picture) (blocks : Blocks) : Type 0 where
+  pub framed : lent.frame ≡ mcu_row_frame f
+  pub range : AreInRange (bounds f) (map_of lent)
+  pub row : AreOfRow f k lent blocks
+
+-- With it, so many MCU rows were given. The row in work, where one is missing, is lent as it is; all blocks of later rows are zero.
+pub record IsEarlyByRows (bytes : List ℕ) (m : ℕ) (r : RowReaderState) : Type 0 where
+  pub done : r.done ≡ true
+  pub begun : HasBegunRows bytes r
+  pub meaning : Meaning
+  pub early : MeansEarly r.limits bytes meaning
+  pub rows : m + unfinished begun.rows ≡ rows_of_scan r.limits begun.before begun.contents
+  pub blocks : Blocks
+  pub completed : CompletesRows r.limits bytes m blocks
+  pub given : AgreeInRows (frame_of r.limits begun.before) m blocks meaning.blocks
+  pub work : 1 ≤ unfinished begun.rows → LendsRow (frame_of r.limits begun.before) m (begun.rows).coefs meaning.blocks
+  pub later : (i x y : ℕ) → (m + 1) * rows_in_mcu (frame_of r.limits begun.before) i ≤ y → meaning.blocks i x y ≡ zeros 64
+
+abbrev pub AfterEndRow : List ℕ → ℕ → End → RowReaderState → Type 0
+AfterEndRow bytes m (ends.Early n) r = (n ≡ length bytes) × ((IsEarlyPlainly bytes r × (m ≡ 0)) ⊎ IsEarlyByRows bytes m r)
+AfterEndRow bytes m (ends.Stop stop) r = StopsAt r.limits bytes stop
+
+-- for all bytes that were fed before, of which so many MCU rows were given
+abbrev pub EndsRow : RowReaderState → End → RowReaderState → Type 0
+EndsRow old answer new = (bytes : List ℕ) (m : ℕ) → HasReadAll bytes m old → AfterEndRow bytes m answer new
 
 -- THE ANSWER to a piece that is fed, by all bytes so far: of a fault, which MCU rows are complete before it
 

@@ -1,10 +1,19 @@
-// The faults of an input that holds no whole file.
+// Where an input ends that holds no whole file.
 ghost use Rattle.std.specs.Prelude.{◌≡◌};
 ghost use Rattle.jpg_spec.specs.declared.fault.Fault.TheVariants.{Truncated, InputTooLong};
 ghost use Rattle.jpg_base.specs.declared.stop.Stop.TheVariants as stop;
 
 use jpg_base::Stop;
 use jpg_spec::{Fault, FaultAt};
+
+/// What a file comes to that ends before its EOI.
+#[derive(Clone, Copy, Debug, PartialEq, Eq)]
+pub enum End {
+    /// It ends early, after so many bytes, and means what it has: each component has begun.
+    Early(u64),
+    /// It is truncated, or showed a fault before.
+    Stop(Stop),
+}
 
 /// It has as many bytes as may be taken.
 pub fn too_long(most: u64) -> Stop

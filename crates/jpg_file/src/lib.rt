@@ -33,6 +33,7 @@ mod write_tables;
 pub use begin::begin_scan;
 pub use begun::Begun;
 pub use data::{DataStep, take_data};
+pub use ends::End;
 pub use file::FileWork;
 pub use head::{Head, colours, head_of};
 pub use held::{Held, Took, lacks_table};

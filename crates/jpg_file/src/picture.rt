@@ -7,7 +7,7 @@ use jpg_coefs::Coefs;
 use jpg_markers::{Jfif, KeptList};
 use jpg_spec::Colour;
 
-/// What a whole file tells: its frame and colours, the quantisation table of each component at its first
+/// What a file tells, whole or as far as it goes: its frame and colours, the quantisation table of each component at its first
 /// scan, all coefficients, the markers that are kept, and the last JFIF header. Each picture keeps that it has one
 /// table for each component, without zeros, that its coefficients lie in the frame's grids and bounds, and that its
 /// colours and its JFIF header are those that its components and kept markers tell.

@@ -1,8 +1,8 @@
-// The picture of a whole file, made of what its bytes told (T.81, B.2.1).
-ghost use Rattle.std.specs.Prelude.{◌≡◌, ◌<◌, ℕ, List, [], false, is_none, length, slice_index_or, unwrap_or};
+// The picture of a file, whole or as far as it goes, made of what its bytes told (T.81, B.2.1).
+ghost use Rattle.std.specs.Prelude.{◌≡◌, ◌<◌, ℕ, [], false, is_none, length, slice_index_or, unwrap_or};
 ghost use Rattle.jpg_spec.specs.QuantContents.{quant_in};
 ghost use Rattle.jpg_spec.specs.declared.frame.Limits.{Limits};
-ghost use Rattle.jpg_file.specs.File.{EndsFile};
+ghost use Rattle.jpg_file.specs.Left.{LeavesPicture};
 ghost use Rattle.jpg_file.specs.PictureRead.{ShowsFile};
 
 use crate::begun::Begun;
@@ -14,9 +14,9 @@ use crate::reading::Reading;
 use arrayvec::ArrayVec;
 use jpg_base::{Frame, QuantTable};
 
-/// The picture of a file that is whole.
+/// The picture of a file that is whole or ended early.
 pub fn picture_of(file: FileWork) -> Picture
-    requires { (limits : Limits) × (bytes : List ℕ) × EndsFile limits bytes file }
+    requires { (limits : Limits) × LeavesPicture limits file }
     ensures { ShowsFile file result }
 {
     let FileWork { reading, begun, .. } = file;

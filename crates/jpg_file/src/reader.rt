@@ -4,10 +4,11 @@ ghost use Rattle.jpg_spec.specs.FrameHeader.{AreLimits};
 ghost use Rattle.jpg_spec.specs.declared.frame.Copying.TheVariants.{All};
 ghost use Rattle.jpg_base.specs.declared.stop.Stop.{Stop as Stopped};
 ghost use Rattle.jpg_file.specs.File.{Stands, keeping_of};
-ghost use Rattle.jpg_file.specs.PictureRead.{TakesPicture};
-ghost use Rattle.jpg_file.specs.ReadFile.{EndsDone, FeedsFile, HasRead, ReadsPiece, StopsAt, head_seen};
+ghost use Rattle.jpg_file.specs.PictureRead.{TakesEarly, TakesPicture};
+ghost use Rattle.jpg_file.specs.ReadFile.{AfterEnd, EndsDone, EndsWith, FeedsFile, HasRead, ReadsPiece, TellsBegun, head_seen};
+ghost use Rattle.jpg_file.specs.declared.ends.End.TheVariants as ends;
 
-use crate::ends::{too_long, truncated};
+use crate::ends::{End, too_long, truncated};
 use crate::file::FileWork;
 use crate::picture::Picture;
 use crate::picture_taken::picture_of;
@@ -66,7 +67,7 @@ impl Reader {
     /// how many bytes of the piece were used, its EOI among them. Else it answers the first fault of the bytes
     /// so far, at its place, and InputTooLong where as many bytes were taken as may be, or NoMemory. Else it
     /// answers More.
-    /// After a stop it answers the same stop. It may not be called once the file is whole (`is_done`).
+    /// After a stop it answers the same stop. It may not be called once the file is done (`is_done`).
     pub fn feed(&mut self, piece: &[u8]) -> Result<Fed, Stop>
         requires { self.old.done ≡ false }
         ensures answered { FeedsFile self.old piece.now result self.new }
@@ -96,31 +97,43 @@ impl Reader {
         self.limits.input.saturating_sub(self.file.reading.taken)
     }
 
-    /// Whether the file is whole, so that neither `feed` nor `end` may be called any more.
+    /// Whether the file is whole or ended early, so that neither `feed` nor `end` may be called any more.
     pub fn is_done(&self) -> bool
         ensures { result ≡ self.now.done }
     {
         self.done
     }
 
-    /// The file ends here. It answers Truncated at the number of bytes taken, or the earlier stop. It
-    /// may not be called once the file is whole (`is_done`).
-    pub fn end(&mut self) -> Stop
+    /// Whether each component was named by a scan header that is whole and breaks no rule.
+    pub fn begun(&self) -> bool
+        ensures { (bytes : List ℕ) → HasRead bytes self.now → TellsBegun self.now.limits bytes result }
+    {
+        self.file.begun.is_complete()
+    }
+
+    /// The file ends here. It answers Early with the number of bytes taken where each component has begun,
+    /// and its picture may be taken then. Else it answers Truncated at the number of bytes taken, or the
+    /// earlier stop. It may not be called once the file is done (`is_done`).
+    pub fn end(&mut self) -> End
         requires { self.old.done ≡ false }
-        ensures answered { (bytes : List ℕ) → HasRead bytes self.old → StopsAt self.old.limits bytes result }
-        ensures done { self.new.done ≡ false }
+        ensures answered { (bytes : List ℕ) → HasRead bytes self.old → AfterEnd bytes result self.new }
+        ensures done { EndsWith result self.new }
         ensures file { self.new.file ≡ self.old.file }
-        ensures stopped { self.new.stop ≡ Some result }
-        ensures again { (stop : Stopped) → self.old.stop ≡ Some stop → (result ≡ stop) × (self.new ≡ self.old) }
+        ensures again { (stop : Stopped) → self.old.stop ≡ Some stop → (result ≡ ends.Stop stop) × (self.new ≡ self.old) }
         ensures limits { self.new.limits ≡ self.old.limits }
         ensures keeping { keeping_of self.new.file ≡ keeping_of self.old.file }
     {
         if let Some(stop) = self.stop {
-            return stop;
+            return End::Stop(stop);
         }
-        let stop = truncated(self.file.reading.taken);
+        let taken = self.file.reading.taken;
+        if self.file.begun.is_complete() {
+            self.done = true;
+            return End::Early(taken);
+        }
+        let stop = truncated(taken);
         self.stop = Some(stop);
-        stop
+        End::Stop(stop)
     }
 
     /// The frame, the colours, and the place of the end of the first scan header, once it is whole and breaks
@@ -134,10 +147,12 @@ impl Reader {
         }
     }
 
-    /// The picture of the whole file, with the markers that were kept. It may be called where `feed` answered Done alone (`is_done`).
+    /// The picture of the whole file, or of one that ended early, with the markers that were kept. It may be called where
+    /// `feed` answered Done or `end` answered Early alone (`is_done`).
     pub fn take(self) -> Picture
         requires { self.done ≡ true }
-        ensures { TakesPicture self result }
+        ensures meaning { TakesPicture self result }
+        ensures early { TakesEarly self result }
     {
         picture_of(self.file)
     }

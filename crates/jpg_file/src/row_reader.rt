@@ -5,15 +5,16 @@ ghost use Rattle.jpg_spec.specs.InForce.{frame_of};
 ghost use Rattle.jpg_spec.specs.declared.frame.Copying.TheVariants.{None as NoMarkers};
 ghost use Rattle.jpg_base.specs.declared.stop.Stop.{Stop as Stopped};
 ghost use Rattle.jpg_file.specs.File.{keeping_of};
-ghost use Rattle.jpg_file.specs.PictureRead.{TakesPicture};
-ghost use Rattle.jpg_file.specs.ReadFile.{HasRead, StopsAt, head_seen};
+ghost use Rattle.jpg_file.specs.PictureRead.{TakesEarly, TakesPicture};
+ghost use Rattle.jpg_file.specs.ReadFile.{EndsWith, HasRead, head_seen};
+ghost use Rattle.jpg_file.specs.declared.ends.End.TheVariants as ends;
 ghost use Rattle.jpg_file.specs.RowPieces.{CountsFed, IfSparing, KeepsWork, KnowsOn, KnowsRead, RowsGo, RowsOpen, ReadsOn, ReadsRows};
 ghost use Rattle.jpg_file.specs.RowsKnown.{TellsStrip};
 ghost use Rattle.jpg_file.specs.RowsNone.{NoneOn, NoneRead};
 ghost use Rattle.jpg_file.specs.RowFaults.{FaultsOn, FaultsRead};
-ghost use Rattle.jpg_file.specs.ReadRows.{EndsDoneRow, FeedsRow, HasBegunRows, HasReadAll, HasReadPlainly, picture_read, whole_reader};
+ghost use Rattle.jpg_file.specs.ReadRows.{EndsDoneRow, EndsRow, FeedsRow, HasBegunRows, HasReadPlainly, picture_read, whole_reader};
 
-use crate::ends::{too_long, truncated};
+use crate::ends::{End, too_long, truncated};
 use crate::file::FileWork;
 use crate::picture::Picture;
 use crate::picture_taken::picture_of;
@@ -110,23 +111,29 @@ impl RowReader {
             .saturating_sub(self.work.file.reading.taken)
     }
 
-    /// The file ends here. It answers Truncated at the number of bytes taken, or the earlier stop. It may not be called once the file is
-    /// whole, nor where `feed_row` answered Row last.
-    pub fn end(&mut self) -> Stop
+    /// The file ends here. It answers Early with the number of bytes taken where each component has begun: the picture may be taken then,
+    /// or `row_coefs` lends the MCU row in work, with zeros where units are missing. Else it answers Truncated at the number of bytes taken,
+    /// or the earlier stop. It may not be called once the file is done, nor where `feed_row` answered Row last.
+    pub fn end(&mut self) -> End
         requires { self.old.done ≡ false }
-        ensures answered { (bytes : List ℕ) → HasReadAll bytes self.old → StopsAt self.old.limits bytes result }
-        ensures done { self.new.done ≡ false }
+        ensures answered { EndsRow self.old result self.new }
+        ensures done { EndsWith result (whole_reader self.new) }
         ensures file { self.new.file ≡ self.old.file }
-        ensures stopped { self.new.stop ≡ Some result }
-        ensures again { (stop : Stopped) → self.old.stop ≡ Some stop → (result ≡ stop) × (self.new ≡ self.old) }
+        ensures rows { (self.new.rows ≡ self.old.rows) × (self.new.strip ≡ self.old.strip) }
+        ensures again { (stop : Stopped) → self.old.stop ≡ Some stop → (result ≡ ends.Stop stop) × (self.new ≡ self.old) }
         ensures limits { self.new.limits ≡ self.old.limits }
     {
         if let Some(stop) = self.stop {
-            return stop;
+            return End::Stop(stop);
         }
-        let stop = truncated(self.work.file.reading.taken);
+        let taken = self.work.file.reading.taken;
+        if self.work.file.begun.is_complete() {
+            self.done = true;
+            return End::Early(taken);
+        }
+        let stop = truncated(taken);
         self.stop = Some(stop);
-        stop
+        End::Stop(stop)
     }
 
     /// The frame, the colours, and the place of the end of the first scan header, once it is whole and breaks no rule; also after a later stop.
@@ -153,7 +160,8 @@ impl RowReader {
         }
     }
 
-    /// The blocks of the MCU row that is whole, of which `feed_row` answered Row last.
+    /// The blocks of the MCU row that is whole, of which `feed_row` answered Row last. Where `end` answered Early and MCU rows are missing,
+    /// those of the row in work.
     pub fn row_coefs(&self) -> &Coefs
         requires { (rows : RowWork) × (self.now.rows ≡ Some rows) }
         ensures { (rows : RowWork) → self.now.rows ≡ Some rows → result.now ≡ rows.coefs }
@@ -164,11 +172,13 @@ impl RowReader {
         }
     }
 
-    /// The picture of the whole file, where it wasn't read MCU row by MCU row. It may be called where `feed_row` answered Done alone.
+    /// The picture of the whole file, or of one that ended early, where it wasn't read MCU row by MCU row. It may be called where `feed_row`
+    /// answered Done or `end` answered Early alone.
     pub fn take(self) -> Picture
         requires done { self.done ≡ true }
         requires none { self.rows ≡ None }
-        ensures { TakesPicture (whole_reader self) result }
+        ensures meaning { TakesPicture (whole_reader self) result }
+        ensures early { TakesEarly (whole_reader self) result }
     {
         picture_of(self.work.file)
     }

@@ -1,13 +1,11 @@
 -- What a file that was read is shown as.
-use Rattle.std.proofs.Common.{◌≡◌, ℕ, Bool, List, take, Option, None, Some, Result, Ok, Err, refl, sym, ap, ◌∙◌, subst, map}
+use Rattle.std.proofs.Common.{◌≡◌, ℕ, Bool, List, Option, None, Some, Result, Ok, Err, refl, sym, ap, ◌∙◌}
 use Rattle.jpg_base.specs.Desk.{DeskState}
 use Rattle.jpg_base.specs.declared.stop.Stop.{Stop}
 use Rattle.jpg_base.specs.declared.stop.Stop.TheVariants as stop
 use Rattle.jpg_huff.proofs.Emitted.{OnlyWrites-same}
-use Rattle.jpg_spec.specs.FileStands.{IsWholeFile}
 use Rattle.jpg_spec.specs.Meaning.{colour_of}
 use Rattle.jpg_spec.specs.Pixels.{out_fault, out_fault_of}
-use Rattle.jpg_spec.specs.Segments.{standard_limits}
 use Rattle.jpg_spec.specs.declared.fault.Fault.{Fault}
 use Rattle.jpg_spec.specs.declared.image.EndKind.{EndKind}
 use Rattle.jpg_spec.specs.declared.image.ImageKind.{ImageKind}
@@ -20,9 +18,8 @@ use Rattle.jpg_color.specs.declared.decode.DecodeStop.{DecodeStop}
 use Rattle.jpg_color.specs.declared.decode.DecodeStop.TheVariants as decode
 use Rattle.jpg_color.proofs.Decoded.{factors_same}
 use Rattle.jpg_color.proofs.Refused.{no_fault_told}
-use Rattle.jpg_callers.specs.Calling.{BeginsWith, IsPictureOf}
+use Rattle.jpg_callers.specs.Calling.{IsPictureOf}
 use Rattle.jpg_images.specs.Showing.{Shows}
-use Rattle.jpg_images.specs.declared.shown.NotShown.{NotShown}
 use Rattle.jpg_images.specs.declared.shown.NotShown.TheVariants.{Refused, Out, Unwritten}
 use Rattle.jpg_images.specs.declared.shown.Way.{Way}
 

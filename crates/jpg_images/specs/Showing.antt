@@ -1,6 +1,5 @@
 -- WHAT IS PROMISED of a file that is shown as an image.
-use Rattle.std.specs.Prelude.{◌≡◌, ℕ, Bool, List, take, Result, Ok, Err, None, Some}
-use Rattle.jpg_spec.specs.FileStands.{IsWholeFile}
+use Rattle.std.specs.Prelude.{◌≡◌, ℕ, List, Result, Ok, Err, None, Some}
 use Rattle.jpg_spec.specs.ImageText.{end_text}
 use Rattle.jpg_spec.specs.Meaning.{Meaning}
 use Rattle.jpg_spec.specs.Pixels.{info, out_fault, pixels}
@@ -14,6 +13,7 @@ use Rattle.jpg_huff.specs.Out.{OnlyWrites}
 use Rattle.jpg_file.specs.ReadFile.{IsRefusal}
 use Rattle.jpg_color.specs.DecodeRows.{AppendsLess}
 use Rattle.jpg_color.specs.declared.decode.DecodeStop.TheVariants as decode
+use Rattle.jpg_callers.specs.Calling.{IsReadAs}
 use Rattle.jpg_images.specs.declared.shown.NotShown.{NotShown}
 use Rattle.jpg_images.specs.declared.shown.NotShown.TheVariants.{Refused, Out, Unwritten}
 use Rattle.jpg_images.specs.declared.shown.Way.{Way}
@@ -22,11 +22,11 @@ use Rattle.jpg_images.specs.declared.shown.Way.{Way}
 abbrev pub shown_text : EndKind → Way → Meaning → List ℕ
 shown_text kind way M = end_text kind (info M way.gray) (pixels M way.gray way.smooth)
 
--- A front of the file is whole and means a picture that can be shown, of whose image this went out.
+-- The file means a picture that can be shown, of whose image this went out.
 pub record IsShown (file : List ℕ) (kind : EndKind) (way : Way) (sent : List ℕ → Type 0) : Type 0 where
   pub end : ℕ
   pub meaning : Meaning
-  pub whole : IsWholeFile standard_limits (take end file) meaning
+  pub whole : IsReadAs file end meaning
   pub admitted : out_fault way.gray meaning ≡ None
   pub text : sent (shown_text kind way meaning)
 
@@ -34,7 +34,7 @@ pub record IsShown (file : List ℕ) (kind : EndKind) (way : Way) (sent : List �
 pub record IsNoImage (file : List ℕ) (way : Way) (fault : Fault) : Type 0 where
   pub end : ℕ
   pub meaning : Meaning
-  pub whole : IsWholeFile standard_limits (take end file) meaning
+  pub whole : IsReadAs file end meaning
   pub refused : out_fault way.gray meaning ≡ Some fault
 
 abbrev pub AfterShown : List ℕ → EndKind → Way → DeskState → Result (Unit {0}) NotShown → DeskState → Type 0

@@ -750,6 +750,18 @@ fn a_write_that_fails_leaves_a_first_part(rt: HostRuntime) -> Result<(), Fail> {
 }
 
 #[test]
+fn a_file_without_its_end_is_shown(rt: HostRuntime) -> Result<(), Fail> {
+    let file = file_of(rt.alloc(), &ONE).ok().ok_or("no memory")?;
+    let front = file.as_slice().split_last_chunk::<2>().ok_or("short")?.0;
+    let (desk, result) = tried(rt.alloc(), front, &[], 0)?;
+    assert!(rt; result == Ok(()));
+    let (whole, shown) = tried(rt.alloc(), file.as_slice(), &[], 0)?;
+    assert!(rt; shown == Ok(()));
+    assert!(rt; image_of(&desk) == image_of(&whole));
+    Ok(())
+}
+
+#[test]
 fn a_cut_file_is_refused(rt: HostRuntime) -> Result<(), Fail> {
     let file = file_of(rt.alloc(), &ONE).ok().ok_or("no memory")?;
     let front = file.as_slice().get(..100).ok_or("short")?;

@@ -151,13 +151,12 @@ fn put_band<D: Desk>(
     block.long();
     let mut held = out.take();
     let mut next = 1;
-    let mut rest = block.nonzero() >> 1;
+    let mut rest = (block.nonzero() >> 1) << 1;
     while rest != 0 {
-        let run = rest.trailing_zeros() as u8;
-        let k = next + run;
-        held = put_run(ac, run, block.get(k), held, out, desk)?;
+        let k = rest.trailing_zeros() as u8;
+        held = put_run(ac, k - next, block.get(k), held, out, desk)?;
         next = k + 1;
-        rest = (rest >> run) >> 1;
+        rest &= rest - 1;
     }
     out.give(held);
     if next < 64 {

@@ -36,7 +36,7 @@ joined_chunks (suc n) xs = joined_chunks_of (length xs) n xs (omega arith)
 abbrev pub band_of : Scan → Blocks → Place → List ℤ
 band_of s after p = band s (block_at after p)
 
-bands_told : (s : Scan) (before after after' : Blocks) (all : List (List Place)) (intervals : List (List ℕ)) → IsSound s.coding
+pub bands_told : (s : Scan) (before after after' : Blocks) (all : List (List Place)) (intervals : List (List ℕ)) → IsSound s.coding
     → SpellsIntervals s before after all intervals → SpellsIntervals s before after' all intervals
     → flat_map (band_of s after) (joined all) ≡ flat_map (band_of s after') (joined all)
 bands_told s before after after' [] [] sound a b = refl
@@ -56,7 +56,7 @@ length_band s a b e =
     let same : length (drop s.ss a) ≡ length (drop s.ss b) = length-drop s.ss a ∙ ap (λ k. k - s.ss) e ∙ sym (length-drop s.ss b) in
     length-take n (drop s.ss a) ∙ ap (λ k. min n k) same ∙ sym (length-take n (drop s.ss b))
 
-bands_at : (s : Scan) (after after' : Blocks) (places : List Place) (i x y : ℕ) → ((i x y : ℕ) → length (after i x y) ≡ length (after' i x y))
+pub bands_at : (s : Scan) (after after' : Blocks) (places : List Place) (i x y : ℕ) → ((i x y : ℕ) → length (after i x y) ≡ length (after' i x y))
     → flat_map (band_of s after) places ≡ flat_map (band_of s after') places → any_of (is_at i x y) places ≡ true → band s (after i x y) ≡ band s (after' i x y)
 bands_at s after after' [] i x y sizes e h = cc
 bands_at s after after' (p ∷ places) i x y sizes e h =

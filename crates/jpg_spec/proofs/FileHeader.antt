@@ -1,10 +1,10 @@
 -- A whole file begins with a header: its segments before its first scan, with the header of this scan.
-use Rattle.std.proofs.Common.{◌≡◌, ℕ, Bool, true, false, ◌==◌, List, [], ◌∷◌, ◌++◌, refl, sym, ap, ◌∙◌, None}
+use Rattle.std.proofs.Common.{◌≡◌, ℕ, Bool, true, false, ◌==◌, List, [], ◌∷◌, ◌++◌, refl, sym, ap, ◌∙◌, subst, None}
 use Rattle.std.specs.Prelude.{◌||◌}
 use Rattle.std.proofs.lemmas.List.{append_assoc}
 use Rattle.jpg_spec.specs.Scan.{Blocks}
 use Rattle.jpg_spec.specs.Meaning.{Meaning}
-use Rattle.jpg_spec.specs.Markers.{SpellsSegments, has_scan}
+use Rattle.jpg_spec.specs.Markers.{SpellsSegments, code_fault, code_fault_if, has_frame, has_scan}
 use Rattle.jpg_spec.specs.InForce.{frame_of}
 use Rattle.jpg_spec.specs.History.{is_complete}
 use Rattle.jpg_spec.specs.Items.{Item, segment, scan, segments_of, SpellsFront, contents_rule}
@@ -15,6 +15,7 @@ use Rattle.jpg_spec.proofs.Common.{clash, neither, not_same}
 use Rattle.jpg_spec.proofs.FrameBehind.{leads_pass}
 use Rattle.jpg_spec.proofs.HeaderFirst.{AreOfHeader, scan_passed, with_scan}
 use Rattle.jpg_spec.proofs.HeaderShown.{not_complete}
+use Rattle.jpg_spec.proofs.ReadPicture.{framed_end}
 
 -- Some items are those before a first scan, this scan, and more. The bytes begin with the header that ends with the header of the scan.
 pub record HasFirstScan (limits : Limits) (items : List Item) (bytes : List ℕ) : Type 0 where
@@ -51,7 +52,7 @@ no_scan_spelled (segment code contents ∷ items) bytes s none = (s.0, s.1, s.2,
 no_scan_spelled (scan contents intervals ∷ items) bytes s none = cc
 
 -- items with one have a first
-first_scan : (limits : Limits) (items : List Item) (blocks : Blocks) (bytes : List ℕ) → SpellsFront items bytes → Leads limits items blocks → has_scan (segments_of items) ≡ true → HasFirstScan limits items bytes
+pub first_scan : (limits : Limits) (items : List Item) (blocks : Blocks) (bytes : List ℕ) → SpellsFront items bytes → Leads limits items blocks → has_scan (segments_of items) ≡ true → HasFirstScan limits items bytes
 first_scan limits [] blocks bytes s l some = cc
 first_scan limits (segment code contents ∷ items) blocks bytes s l some =
     let older : has_scan (segments_of items) ≡ true = sym (ap (λ b. b || has_scan (segments_of items)) (not_same code 0xda s.4.2)) ∙ some in
@@ -77,11 +78,18 @@ first_scan limits (scan contents intervals ∷ items) blocks bytes s l some =
           unbroken = l.2;
         }
 
--- THE LAW: the items of a whole file have one
-pub file_header : (limits : Limits) (bytes : List ℕ) (M : Meaning) → (w : Means limits bytes M) → HasFirstScan limits w.items w.front
-file_header limits bytes M w = first_scan limits w.items w.blocks w.front w.spelled w.leads (by (has_scan (segments_of w.items)) refl)
+-- THE LAW: items with each component in a scan have one
+pub items_header : (limits : Limits) (items : List Item) (blocks : Blocks) (bytes : List ℕ) → SpellsFront items bytes → Leads limits items blocks → has_frame (segments_of items) ≡ true
+    → is_complete (frame_of limits (segments_of items)) (segments_of items) ≡ true → HasFirstScan limits items bytes
+items_header limits items blocks bytes s l found complete = first_scan limits items blocks bytes s l (by (has_scan (segments_of items)) refl)
   where
-    by : (b : Bool) → has_scan (segments_of w.items) ≡ b → b ≡ true
+    ends : code_fault (segments_of items) 0xd9 ≡ None
+    ends = subst (λ b. code_fault_if b 0xd9 ≡ None) (sym found) refl
+
+    by : (b : Bool) → has_scan (segments_of items) ≡ b → b ≡ true
     by true some = refl
-    by false none =
-        absurd (clash (is_complete (frame_of limits (segments_of w.items)) (segments_of w.items)) w.complete (not_complete limits (segments_of w.items) (leads_pass limits w.items w.blocks w.leads) none w.framed))
+    by false none = absurd (clash (is_complete (frame_of limits (segments_of items)) (segments_of items)) complete (not_complete limits (segments_of items) (leads_pass limits items blocks l) none ends))
+
+-- and so has a whole file
+pub file_header : (limits : Limits) (bytes : List ℕ) (M : Meaning) → (w : Means limits bytes M) → HasFirstScan limits w.items w.front
+file_header limits bytes M w = items_header limits w.items w.blocks w.front w.spelled w.leads (framed_end (segments_of w.items) w.framed) w.complete

@@ -11,7 +11,7 @@ use Rattle.jpg_spec.specs.Markers.{soi, ShowsNoStart, IsLeast}
 use Rattle.jpg_spec.specs.InForce.{frame_of}
 use Rattle.jpg_spec.specs.Items.{Item, segments_of}
 use Rattle.jpg_spec.specs.FileMeaning.{Leads, Means, meaning_of}
-use Rattle.jpg_spec.specs.FirstFault.{BehindItems, ItemShows, InsideScan, Shows, ShowsNone, HasMeaning, IsFirstFault}
+use Rattle.jpg_spec.specs.FirstFault.{BehindItems, ItemShows, InsideScan, Shows, ShowsNone, HasMeaning, HaveBegun, IsEarly, IsFirstFault}
 use Rattle.jpg_spec.specs.declared.fault.Fault.{Fault}
 use Rattle.jpg_spec.specs.declared.fault.Fault.TheVariants.{Truncated, InputTooLong}
 use Rattle.jpg_spec.specs.declared.frame.Limits.{Limits}
@@ -154,16 +154,26 @@ next_shown limits front rest b fault s t within =
       ),
     )
 
--- bytes that stand at the input's end are truncated
-pub stands_truncated : (limits : Limits) (bytes : List ℕ) → FileStands limits bytes → length bytes < limits.input → IsFirstFault limits bytes Truncated (length bytes)
-stands_truncated limits bytes s short =
+-- bytes that stand at the input's end are truncated, where some component hasn't begun
+pub stands_truncated : (limits : Limits) (bytes : List ℕ) → FileStands limits bytes → length bytes < limits.input → (HaveBegun limits bytes → ⊥) → IsFirstFault limits bytes Truncated (length bytes)
+stands_truncated limits bytes s short none =
     inr (inr (
       refl,
       refl,
       short,
       stands_shows_none limits bytes s,
       λ means. whole_not_standing limits bytes means.0 means.1.rest bytes means.1 s (sym means.1.cut),
+      λ early. none early.begun,
     ))
+
+-- else they end early
+pub stands_early : (limits : Limits) (bytes : List ℕ) → FileStands limits bytes → length bytes < limits.input → HaveBegun limits bytes → IsEarly limits bytes
+stands_early limits bytes s short begun = record {
+  short = short;
+  faultless = stands_shows_none limits bytes s;
+  unended = λ means. whole_not_standing limits bytes means.0 means.1.rest bytes means.1 s (sym means.1.cut);
+  begun = begun;
+}
 
 -- bytes that stand at the limit are too many
 pub stands_too_long : (limits : Limits) (bytes : List ℕ) → FileStands limits (take limits.input bytes) → limits.input ≤ length bytes → IsFirstFault limits bytes InputTooLong limits.input
@@ -189,6 +199,12 @@ means_no_fault limits bytes M fault n w (inl k) = shown_not_whole limits fault (
 means_no_fault limits bytes M fault n w (inr (inl k)) = k.4 (M, w)
 means_no_fault limits bytes M fault n w (inr (inr k)) = k.4 (M, w)
 
+-- nor with a premature end
+pub early_no_fault : (limits : Limits) (bytes : List ℕ) (fault : Fault) (n : ℕ) → IsEarly limits bytes → IsFirstFault limits bytes fault n → ⊥
+early_no_fault limits bytes fault n w (inl k) = w.faultless fault n k.1.0 k.1.1
+early_no_fault limits bytes fault n w (inr (inl k)) = let x = w.short in let y = k.2 in omega (arith, x, y)
+early_no_fault limits bytes fault n w (inr (inr k)) = k.5 w
+
 -- and one first fault, at one place
 least_once : (limits : Limits) (bytes : List ℕ) (f g : Fault) (m n : ℕ) → IsLeast (Shows limits) bytes f m → IsLeast (Shows limits) bytes g n → (f ≡ g) × (m ≡ n)
 least_once limits bytes f g m n a b = by (cases_lt m n) (cases_lt n m)
@@ -202,7 +218,7 @@ abbrev pub AtLimit : Limits → List ℕ → Fault → ℕ → Type 0
 AtLimit limits bytes fault n = (fault ≡ InputTooLong) × (n ≡ limits.input) × (limits.input ≤ length bytes) × ShowsNone limits (take n bytes) × (HasMeaning limits bytes → ⊥)
 
 abbrev pub AtEnd : Limits → List ℕ → Fault → ℕ → Type 0
-AtEnd limits bytes fault n = (fault ≡ Truncated) × (n ≡ length bytes) × (length bytes < limits.input) × ShowsNone limits bytes × (HasMeaning limits bytes → ⊥)
+AtEnd limits bytes fault n = (fault ≡ Truncated) × (n ≡ length bytes) × (length bytes < limits.input) × ShowsNone limits bytes × (HasMeaning limits bytes → ⊥) × (IsEarly limits bytes → ⊥)
 
 shown_not_at_limit : (limits : Limits) (bytes : List ℕ) (f g : Fault) (m n : ℕ) → m ≤ limits.input → IsLeast (Shows limits) bytes f m → AtLimit limits bytes g n → ⊥
 shown_not_at_limit limits bytes f g m n within a b =

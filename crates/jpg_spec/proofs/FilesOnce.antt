@@ -42,14 +42,14 @@ item_head limits items (scan xs m) here rest blocks s l = record {
   other = λ e. (let z : ⊥ = omega (arith, e) in z);
 }
 
-head_at : (limits : Limits) (items : List Item) (u v : List ℕ) → u ≡ v → HasHead limits (segments_of items) v → HasHead limits (segments_of items) u
+pub head_at : (limits : Limits) (items : List Item) (u v : List ℕ) → u ≡ v → HasHead limits (segments_of items) v → HasHead limits (segments_of items) u
 head_at limits items u v e h =
     record { code = h.code; contents = h.contents; head = h.head; rest = h.rest; cut = e ∙ h.cut; spelled = h.spelled; allowed = h.allowed; rule = h.rule; other = h.other }
 
 pub next_head : (limits : Limits) (items items' : List Item) (u v : List ℕ) → HasNext limits items u items' v → HasHead limits (segments_of items) u
 next_head limits items items' u v g = head_at limits items u (g.here ++ (g.text ++ v)) g.behind (item_head limits items g.first g.here (g.text ++ v) g.blocks g.spelled g.leads)
 
-inside_head : (limits : Limits) (bytes tail rest : List ℕ) (i : InsideScan limits bytes tail) → HasHead limits (segments_of i.items) (i.head ++ rest)
+pub inside_head : (limits : Limits) (bytes tail rest : List ℕ) (i : InsideScan limits bytes tail) → HasHead limits (segments_of i.items) (i.head ++ rest)
 inside_head limits bytes tail rest i = record {
   code = 0xda;
   contents = i.contents;
@@ -64,7 +64,7 @@ inside_head limits bytes tail rest i = record {
 
 -- WHAT STANDS BEHIND A WHOLE SCAN
 
-segment_marker : (code : ℕ) (contents bytes x : List ℕ) → SpellsSegment code contents bytes → LeadingMarker (bytes ++ x)
+pub segment_marker : (code : ℕ) (contents bytes x : List ℕ) → SpellsSegment code contents bytes → LeadingMarker (bytes ++ x)
 segment_marker code contents bytes x s = record {
   code = code;
   marker = s.0;
@@ -76,7 +76,7 @@ segment_marker code contents bytes x s = record {
 last_marker : (code : ℕ) (tail : List ℕ) → SpellsMarker code tail → LeadingMarker tail
 last_marker code tail m = record { code = code; marker = tail; rest = []; spelled = m; cut = sym (append-nil tail) }
 
-begins_more : (a x : List ℕ) → LeadingMarker a → LeadingMarker (a ++ x)
+pub begins_more : (a x : List ℕ) → LeadingMarker a → LeadingMarker (a ++ x)
 begins_more a x b = record { code = b.code; marker = b.marker; rest = b.rest ++ x; spelled = b.spelled; cut = ap (λ l. l ++ x) b.cut ∙ append_assoc b.marker b.rest x }
 
 item_marker : (first : Item) (here x : List ℕ) → SpellsItem first here → LeadingMarker (here ++ x)
@@ -153,16 +153,16 @@ next_quiet : (items later : List Item) (text v : List ℕ) → SpellsItems later
 next_quiet items [] text v s quiet = subst (λ l. IsQuiet (l ++ v)) (sym s) (quiet refl)
 next_quiet items (x ∷ later) text v s quiet = inr (items_marker x later text v s)
 
-next_marker : (items later : List Item) (text v : List ℕ) → SpellsItems later text → (later ≡ [] → LeadingMarker v) → LeadingMarker (text ++ v)
+pub next_marker : (items later : List Item) (text v : List ℕ) → SpellsItems later text → (later ≡ [] → LeadingMarker v) → LeadingMarker (text ++ v)
 next_marker items [] text v s quiet = subst (λ l. LeadingMarker (l ++ v)) (sym s) (quiet refl)
 next_marker items (x ∷ later) text v s quiet = items_marker x later text v s
 
-scan_last : (first : Item) (items items' later : List Item) (contents : List ℕ) (intervals : List (List ℕ)) → first ≡ scan contents intervals → items' ≡ later ++ first ∷ items → later ≡ [] → ends_in_scan items' ≡ true
+pub scan_last : (first : Item) (items items' later : List Item) (contents : List ℕ) (intervals : List (List ℕ)) → first ≡ scan contents intervals → items' ≡ later ++ first ∷ items → later ≡ [] → ends_in_scan items' ≡ true
 scan_last first items items' later contents intervals e f g = ap ends_in_scan (f ∙ ap (λ l. l ++ first ∷ items) g ∙ ap (λ x. x ∷ items) e)
 
 -- WITNESSES on one stream of bytes
 
-behind_stream : (limits : Limits) (bytes x : List ℕ) (items : List Item) (tail : List ℕ) → (w : BehindItems limits bytes items tail) → bytes ++ x ≡ w.front ++ (tail ++ x)
+pub behind_stream : (limits : Limits) (bytes x : List ℕ) (items : List Item) (tail : List ℕ) → (w : BehindItems limits bytes items tail) → bytes ++ x ≡ w.front ++ (tail ++ x)
 behind_stream limits bytes x items tail w = ap (λ l. l ++ x) w.cut ∙ append_assoc w.front tail x
 
 pub inside_stream : (limits : Limits) (bytes x tail : List ℕ) → (i : InsideScan limits bytes tail) → bytes ++ x ≡ i.front ++ (i.head ++ (i.text ++ (tail ++ x)))
@@ -175,7 +175,7 @@ scan_in limits items contents = scan_after limits (segments_of items) contents
 abbrev pub AtIn : Limits → List Item → List ℕ → Blocks → List (List ℕ) → List ℕ → List Place → List (List Place) → List ℕ → Type 0
 AtIn limits items contents blocks done coded places later text = (let s = scan_in limits items contents in At s blocks (chunks s.interval s.places) 0 done coded places later text)
 
-inside_at : (limits : Limits) (bytes tail : List ℕ) (i : InsideScan limits bytes tail) → AtIn limits i.items i.contents i.blocks i.done i.coded i.places i.later i.text
+pub inside_at : (limits : Limits) (bytes tail : List ℕ) (i : InsideScan limits bytes tail) → AtIn limits i.items i.contents i.blocks i.done i.coded i.places i.later i.text
 inside_at limits bytes tail i = record { spelled = i.intervals; holds = i.due }
 
 abbrev pub ClosesIn : Limits → List Item → List ℕ → Blocks → List (List ℕ) → List ℕ → List Place → List (List Place) → Fault → List ℕ → Type 0
@@ -190,7 +190,7 @@ next_calm limits items contents blocks stream first v n (inl q) = inl (q, inr n.
 next_calm limits items contents blocks stream first v n (inr q) = inr (n.completes, refl, q)
 
 -- the next item, where the bytes are inside a scan
-next_in : (limits : Limits) (bytes tail rest : List ℕ) (i : InsideScan limits bytes tail) (u : List ℕ) (items' : List Item) (v : List ℕ) → u ≡ i.head ++ rest → (g : HasNext limits i.items u items' v) → NextScan limits i.items i.contents i.blocks rest g.first (g.text ++ v)
+pub next_in : (limits : Limits) (bytes tail rest : List ℕ) (i : InsideScan limits bytes tail) (u : List ℕ) (items' : List Item) (v : List ℕ) → u ≡ i.head ++ rest → (g : HasNext limits i.items u items' v) → NextScan limits i.items i.contents i.blocks rest g.first (g.text ++ v)
 next_in limits bytes tail rest i u items' v e g =
     next_scan limits i.items i.contents i.blocks i.head rest g.first g.here (g.text ++ v) g.blocks i.header i.leads g.spelled g.leads (sym e ∙ g.behind)
 
@@ -266,7 +266,7 @@ inside_closed_not_going limits a b x tail fault items' tail' i c w l e =
 -- INSIDE A SCAN, and inside a scan
 
 -- what holds inside the second scan holds inside the first, where they have the same items before and the same header
-in_one : (limits : Limits) (a b tail tail' : List ℕ) (i : InsideScan limits a tail) (j : InsideScan limits b tail') (P : List Item → List ℕ → Blocks → Type 0) → i.items ≡ j.items → i.contents ≡ j.contents
+pub in_one : (limits : Limits) (a b tail tail' : List ℕ) (i : InsideScan limits a tail) (j : InsideScan limits b tail') (P : List Item → List ℕ → Blocks → Type 0) → i.items ≡ j.items → i.contents ≡ j.contents
     → P j.items j.contents j.blocks → P i.items i.contents i.blocks
 in_one limits a b tail tail' i j P e f p =
     let blocks = blocks_once limits i.items j.blocks i.blocks (subst (λ z. Leads limits z j.blocks) (sym e) j.leads) i.leads in

@@ -12,7 +12,7 @@ use Rattle.jpg_spec.proofs.FrameFound.{Found, frame_found}
 use Rattle.jpg_spec.proofs.HeaderFirst.{scan_passed}
 use Rattle.jpg_spec.proofs.Common.{same_of}
 
-header_too : (limits : Limits) (before : List Segment) (code : ℕ) (contents : List ℕ) → contents_rule limits before code contents ≡ None → header_rule limits before code contents ≡ None
+pub header_too : (limits : Limits) (before : List Segment) (code : ℕ) (contents : List ℕ) → contents_rule limits before code contents ≡ None → header_rule limits before code contents ≡ None
 header_too limits before code contents e = by (code == 0xda) refl
   where
     by : (b : Bool) → (code == 0xda) ≡ b → cond (code == 0xda) (fault_in (scan_header (frame_of limits before) contents)) (contents_rule limits before code contents) ≡ None

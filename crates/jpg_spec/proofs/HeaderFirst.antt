@@ -14,7 +14,7 @@ use Rattle.jpg_spec.specs.Scan.{Blocks}
 use Rattle.jpg_spec.specs.Meaning.{Meaning}
 use Rattle.jpg_spec.specs.Items.{Item, segment, scan, segments_of, SpellsFront, fault_in, contents_rule}
 use Rattle.jpg_spec.specs.FileMeaning.{Leads, Means}
-use Rattle.jpg_spec.specs.FirstFault.{BehindItems, ItemShows, InsideScan, Shows, IsFirstFault}
+use Rattle.jpg_spec.specs.FirstFault.{BehindItems, ItemShows, InsideScan, Shows, HaveBegun, IsFirstFault}
 use Rattle.jpg_spec.specs.Header.{header_rule, InHeader, HeaderShows, HeaderStands, IsHeader}
 use Rattle.jpg_spec.specs.declared.fault.Fault.{Fault}
 use Rattle.jpg_spec.specs.declared.fault.Fault.TheVariants.{Truncated, MissingComponent, InputTooLong}
@@ -201,6 +201,19 @@ standing_means_none limits bytes M w rest s = by (items_header limits w.items w.
         let within : InHeader limits (w.front ++ w.marker) before w.marker = (record { front = w.front; cut = refl; spelled = h.0; passed = h.1 }, h.2) in
         shown_not_standing limits (w.front ++ w.marker) rest MissingComponent (inr (before, w.marker, within, inr (inr (refl, w.ended, w.framed)))) s
 
+-- nor has a component begun
+standing_begun_none : (limits : Limits) (bytes : List ℕ) → HaveBegun limits bytes → HeaderStands limits bytes → ⊥
+standing_begun_none limits bytes w s = by (items_header limits w.items w.blocks w.front w.spelled w.leads)
+  where
+    none : BeginsWhole limits bytes → ⊥
+    none k = whole_not_standing limits k.0 k.1 k.2 k.3 k.4 (subst (λ l. HeaderStands limits l) k.5 s)
+
+    by : BeginsWhole limits w.front ⊎ AreOfHeader limits (segments_of w.items) w.front → ⊥
+    by (inl h) = none (whole_before limits bytes w.front (w.head ++ w.rest) (w.cut ∙ append_assoc w.front w.head w.rest) h)
+    by (inr h) =
+        let told = scan_passed limits (segments_of w.items) w.contents w.allowed.1 in
+        none (w.front ++ w.head, w.rest, segments_of w.items, w.contents, with_scan limits (segments_of w.items) w.front w.head w.contents h w.header w.allowed.0 told, w.cut)
+
 pub standing_truncated : (limits : Limits) (bytes : List ℕ) → length bytes < limits.input → HeaderStands limits bytes → IsFirstFault limits bytes Truncated (length bytes)
 standing_truncated limits bytes short s =
     inr (inr (
@@ -209,6 +222,7 @@ standing_truncated limits bytes short s =
       short,
       λ fault n long t. standing_shows_none limits (take n bytes) (drop n bytes) fault (subst (λ l. HeaderStands limits l) (sym (take-append-drop n bytes)) s) t,
       λ means. standing_means_none limits bytes means.0 means.1 means.1.rest (subst (λ l. HeaderStands limits l) means.1.cut s),
+      λ early. standing_begun_none limits bytes early.begun s,
     ))
 
 pub standing_too_long : (limits : Limits) (bytes : List ℕ) → limits.input ≤ length bytes → HeaderStands limits (take limits.input bytes) → IsFirstFault limits bytes InputTooLong limits.input

@@ -5,6 +5,9 @@ pub mod ColoursKept
 pub mod Common
 pub mod DataFacts
 pub mod DataLength
+pub mod EarlyBegun
+pub mod EarlyOnce
+pub mod EarlyRanges
 pub mod BlockLaws
 pub mod EncodedKept
 pub mod Excludes
@@ -32,6 +35,7 @@ pub mod HeaderFirst
 pub mod HeaderShown
 pub mod HeadersOnce
 pub mod InForce
+pub mod MeaningLeft
 pub mod IntervalUnits
 pub mod ItemSteps
 pub mod ItemsOnce
@@ -145,3 +149,8 @@ pub mod RowsRead
 pub mod RowsCovered
 pub mod RowsReader
 pub mod RowsBegin
+pub mod EarlySoFar
+pub mod RowsOfItems
+pub mod UnitsCut
+pub mod EarlyRows
+pub mod EarlyImage

@@ -37,7 +37,7 @@ tells_all c p (ends bands bits) u us here left t =
     let l = u ∷ us in
     omega (arith, ap length t.5, length_corrected c.al (old_values (take bands l)) bits, ap (λ vs. length (old_values vs)) t.6, units_join (take bands l) (drop bands l), ap (λ vs. length (old_values vs)) (take-append-drop bands l))
 
-covers_all : (c : Coding) (s : Standing) (es : List Element) (told : List ℤ) (bits : List Bool) (t : Standing) → Covers c s es told bits t → length told + length (old_values t.left) ≡ length (old_values s.left)
+pub covers_all : (c : Coding) (s : Standing) (es : List Element) (told : List ℤ) (bits : List Bool) (t : Standing) → Covers c s es told bits t → length told + length (old_values t.left) ≡ length (old_values s.left)
 covers_all c s [] told bits t k = omega (arith, ap length k.0, ap (λ (x : Standing). length (old_values x.left)) k.2)
 covers_all c s (e ∷ es) told bits t k =
     let next : Standing = record { predictions = predictions_after s.predictions (k.0).component e; left = k.3 } in
@@ -48,7 +48,7 @@ covers_all c s (e ∷ es) told bits t k =
 passed_size : (u : UnitLeft) (others : List UnitLeft) (first : List ℤ) → (let v : UnitLeft = record u { old = first ++ u.old } in length (old_values (v ∷ others)) ≡ length first + length (old_values (u ∷ others)))
 passed_size u others first = omega (arith, length-append (first ++ u.old) (old_values others), length-append first u.old, unit_size u others)
 
-part_all : (c : Coding) (s : Standing) (u : UnitLeft) (others : List UnitLeft) (here : List ℤ) (bits : List Bool) → PartOfElement c s u others here bits → length here + length (old_values (u ∷ others)) ≡ length (old_values s.left)
+pub part_all : (c : Coding) (s : Standing) (u : UnitLeft) (others : List UnitLeft) (here : List ℤ) (bits : List Bool) → PartOfElement c s u others here bits → length here + length (old_values (u ∷ others)) ≡ length (old_values s.left)
 part_all c s u others here bits (in_code h) = omega (arith, ap length h.none, ap (λ vs. length (old_values vs)) h.left)
 part_all c s u others here bits (in_difference size extra h few) = omega (arith, ap length h.none, ap (λ vs. length (old_values vs)) h.left)
 part_all c s u others here bits (in_number run size extra h few) = omega (arith, ap length h.none, ap (λ vs. length (old_values vs)) h.left)

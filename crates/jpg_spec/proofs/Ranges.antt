@@ -71,7 +71,7 @@ alone_after c p (value run v bits) u units here left t n = absurd (clash u.has_d
 alone_after c p (long_run bits) u units here left t n = absurd (clash u.has_dc n.0 t.2)
 alone_after c p (ends bands bits) u units here left t n = absurd (clash u.has_dc n.0 t.0)
 
-mode_after : (c : Coding) (p : ℤ) (e : Element) (u : UnitLeft) (units : List UnitLeft) (here : List ℤ) (left : List UnitLeft) → Tells c p e u units here left → IsMode c (u ∷ units) → IsMode c left
+pub mode_after : (c : Coding) (p : ℤ) (e : Element) (u : UnitLeft) (units : List UnitLeft) (here : List ℤ) (left : List UnitLeft) → Tells c p e u units here left → IsMode c (u ∷ units) → IsMode c left
 mode_after c p e u units here left t (inl m) = inl m
 mode_after c p e u units here left t (inr (inl m)) = inr (inl (no_dc_after c p e u units here left t m))
 mode_after c p e u units here left t (inr (inr m)) = inr (inr (alone_after c p e u units here left t m))
@@ -83,7 +83,7 @@ cut_at xs m n e =
     let l = length-drop m xs in
     (take m xs, drop m xs, sym (take-append-drop m xs), length-take-le m xs (omega (arith, e)), omega (arith, l, e))
 
-flat_within : (c : Coding) (units : List UnitLeft) (here : List ℤ) → NoDc units → length here ≡ length (old_values units) → are_in_bounds c.bounds false here ≡ true → AreWithin c units here
+pub flat_within : (c : Coding) (units : List UnitLeft) (here : List ℤ) → NoDc units → length here ≡ length (old_values units) → are_in_bounds c.bounds false here ≡ true → AreWithin c units here
 flat_within c [] [] n l e = refl
 flat_within c [] (x ∷ here) n l e = absurd (omega (arith, l))
 flat_within c (u ∷ units) here n l e =
@@ -110,7 +110,7 @@ bands_within c u units here left more bands bits n told rest ok w =
     subst (λ us. AreWithin c us (here ++ more)) (take-append-drop bands (u ∷ units))
     (within_join c (take bands (u ∷ units)) (drop bands (u ∷ units)) here more first (subst (λ l. AreWithin c l more) rest w))
 
-any_step : (c : Coding) (p : ℤ) (e : Element) (u : UnitLeft) (units : List UnitLeft) (here : List ℤ) (left : List UnitLeft) (more : List ℤ) → IsMode c (u ∷ units)
+pub any_step : (c : Coding) (p : ℤ) (e : Element) (u : UnitLeft) (units : List UnitLeft) (here : List ℤ) (left : List UnitLeft) (more : List ℤ) → IsMode c (u ∷ units)
     → Tells c p e u units here left → are_in_bounds c.bounds u.has_dc here ≡ true → AreWithin c left more → AreWithin c (u ∷ units) (here ++ more)
 any_step c p e u units here left more (inl m) t ok w = step c p e u units here left more (ends_one c p e u units here left m t) t ok w
 any_step c p (difference d) u units here left more (inr m) t ok w = step c p (difference d) u units here left more tt t ok w
@@ -170,7 +170,7 @@ alone_units s blocks (p ∷ places) sizes a b =
     let one : length (take (0 + 1 - 0) (drop 0 (block_at blocks p))) ≡ 1 = length-take-le 1 (block_at blocks p) (omega (arith, size)) in
     (zero_ss, subst (λ n. length (take (s.se + 1 - n) (drop n (block_at blocks p))) ≡ 1) (sym a) (subst (λ n. length (take (n + 1 - 0) (drop 0 (block_at blocks p))) ≡ 1) (sym b) one), alone_units s blocks places sizes a b)
 
-scan_mode : (limits : Limits) (items : List Item) (blocks : Blocks) (contents : List ℕ) (places : List Place) → Leads limits items blocks → contents_rule limits (segments_of items) 0xda contents ≡ None
+pub scan_mode : (limits : Limits) (items : List Item) (blocks : Blocks) (contents : List ℕ) (places : List Place) → Leads limits items blocks → contents_rule limits (segments_of items) 0xda contents ≡ None
     → (let s = scan_after limits (segments_of items) contents in IsMode s.coding (map (unit_at s blocks) places))
 scan_mode limits items blocks contents places l rule = by (is_progressive (frame_of limits (segments_of items)).process) refl
   where
@@ -223,7 +223,7 @@ places_within s before after (p ∷ places) sizes w =
     let r = append_apart (band s (block_at after p)) w.0 (flat_map (λ p. band s (block_at after p)) places) w.1 (sym (l ∙ k)) w.2 in
     (subst (λ b. are_in_bounds s.coding.bounds (s.ss == 0) b ≡ true) (sym r.0) w.4, places_within s before after places sizes (subst (λ t. AreWithin s.coding (map (unit_at s before) places) t) (sym r.1) w.5))
 
-intervals_within : (s : Scan) (before after : Blocks) (all : List (List Place)) (intervals : List (List ℕ)) → ((i x y : ℕ) → length (before i x y) ≡ length (after i x y)) → ((places : List Place) → IsMode s.coding (map (unit_at s before) places))
+pub intervals_within : (s : Scan) (before after : Blocks) (all : List (List Place)) (intervals : List (List ℕ)) → ((i x y : ℕ) → length (before i x y) ≡ length (after i x y)) → ((places : List Place) → IsMode s.coding (map (unit_at s before) places))
     → SpellsIntervals s before after all intervals → PlacesWithin s after (joined all)
 intervals_within s before after [] [] sizes mode k = tt
 intervals_within s before after [] (c ∷ intervals) sizes mode k = absurd k
@@ -235,7 +235,7 @@ intervals_within s before after (p ∷ all) (c ∷ intervals) sizes mode k =
     (places_within s before after p sizes (any_within s.coding (at_start (map (unit_at s before) p)) u.1 u.0 (flat_map (λ p. band s (block_at after p)) p) here.0 (mode p) u.2 u.3))
     (intervals_within s before after all intervals sizes mode k.1)
 
-at_place : (s : Scan) (after : Blocks) (places : List Place) (i x y : ℕ) → PlacesWithin s after places → any_of (is_at i x y) places ≡ true → are_in_bounds s.coding.bounds (s.ss == 0) (band s (after i x y)) ≡ true
+pub at_place : (s : Scan) (after : Blocks) (places : List Place) (i x y : ℕ) → PlacesWithin s after places → any_of (is_at i x y) places ≡ true → are_in_bounds s.coding.bounds (s.ss == 0) (band s (after i x y)) ≡ true
 at_place s after [] i x y w h = cc
 at_place s after (p ∷ places) i x y w h = by (is_at i x y p) refl h (at_place s after places i x y w.1)
   where
@@ -254,7 +254,7 @@ ac_value c [] j e h = absurd (omega (arith, h))
 ac_value c (v ∷ l) zero e h = (both (int_le (pos (nat_abs v)) c.bounds.ac) (are_in_bounds c.bounds false l) e).0
 ac_value c (v ∷ l) (suc j) e h = ac_value c l j (both (int_le (pos (nat_abs v)) c.bounds.ac) (are_in_bounds c.bounds false l) e).1 (omega (arith, h))
 
-value_in : (c : Coding) (d : Bool) (l : List ℤ) (j k : ℕ) → are_in_bounds c.bounds d l ≡ true → j < length l → (d ≡ true → j ≡ k) → (d ≡ false → 1 ≤ k) → is_coefficient c.bounds k (get_or l j (pos 0)) ≡ true
+pub value_in : (c : Coding) (d : Bool) (l : List ℤ) (j k : ℕ) → are_in_bounds c.bounds d l ≡ true → j < length l → (d ≡ true → j ≡ k) → (d ≡ false → 1 ≤ k) → is_coefficient c.bounds k (get_or l j (pos 0)) ≡ true
 value_in c d [] j k e h a b = absurd (omega (arith, h))
 value_in c true (v ∷ l) zero k e h a b =
     let z : k ≡ 0 = sym (a refl) in
@@ -273,7 +273,7 @@ value_in c false (v ∷ l) j k e h a b =
     let w = get_or (v ∷ l) j (pos 0) in
     ap (λ t. cond t (int_le c.bounds.dc_low w && int_le w c.bounds.dc_high) (int_le (pos (nat_abs w)) c.bounds.ac)) some_k ∙ ac_value c (v ∷ l) j e h
 
-zero_in : (k : ℕ) → is_coefficient (bounds_of 8) k (pos 0) ≡ true
+pub zero_in : (k : ℕ) → is_coefficient (bounds_of 8) k (pos 0) ≡ true
 zero_in k = by (k == 0)
   where
     by : (b : Bool) → cond b (int_le (bounds_of 8).dc_low (pos 0) && int_le (pos 0) (bounds_of 8).dc_high) (int_le (pos (nat_abs (pos 0))) (bounds_of 8).ac) ≡ true
@@ -323,7 +323,7 @@ pub leads_in_range : (limits : Limits) (items : List Item) (blocks : Blocks) →
 leads_in_range limits items blocks l = record { sizes = leads_sizes limits items blocks l; values = in_range limits items blocks l }
 
 -- the real blocks alone
-real_in_range : (f : Frame) (blocks : Blocks) → AreInRange (bounds f) blocks → AreInRange (bounds f) (real_blocks f blocks)
+pub real_in_range : (f : Frame) (blocks : Blocks) → AreInRange (bounds f) blocks → AreInRange (bounds f) (real_blocks f blocks)
 real_in_range f blocks w = record {
   sizes = λ i x y. size (nat_lt i (length f.components) && is_real f i x y) (blocks i x y) (w.sizes i x y);
   values = λ i x y k. value (nat_lt i (length f.components) && is_real f i x y) (blocks i x y) k (w.values i x y k);

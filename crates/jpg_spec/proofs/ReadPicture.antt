@@ -7,9 +7,9 @@ use Rattle.std.proofs.lemmas.Bool.Decides.{nat_tests}
 use Rattle.std.proofs.lemmas.List.{get_or-map, length-map, reverse-reverse}
 use Rattle.std.proofs.lemmas.List.Elements.{All-head, All-tail, All-nil, All-cons, All-from_get_or}
 use Rattle.jpg_spec.specs.Lists.{any_of, is_among, below}
-use Rattle.jpg_spec.specs.Segments.{QuantTable, ScanHead, standard_limits}
+use Rattle.jpg_spec.specs.Segments.{QuantTable, ScanHead}
 use Rattle.jpg_spec.specs.declared.frame.ScanPart.{ScanPart}
-use Rattle.jpg_spec.specs.Geometry.{Frame, bounds_of, component_at, no_component, is_real}
+use Rattle.jpg_spec.specs.Geometry.{Frame, bounds, bounds_of, component_at, no_component, is_real}
 use Rattle.jpg_spec.specs.FrameHeader.{IsFrame, AreLimits}
 use Rattle.jpg_spec.specs.Elements.{zeros, are_in_bounds, IsBlockIn}
 use Rattle.jpg_spec.specs.QuantContents.{is_zero_quant}
@@ -18,12 +18,12 @@ use Rattle.jpg_spec.specs.InForce.{no_frame, frame_of, first_some, quant_in_forc
 use Rattle.jpg_spec.specs.History.{names, has_begun, quant_of, lacks_table, is_complete, needs_dc_table, needs_ac_table}
 use Rattle.jpg_spec.specs.InForce.{huffman_in_force}
 use Rattle.jpg_spec.specs.Items.{Item, segment, scan, segments_of, SpellsFront, contents_rule}
+use Rattle.jpg_spec.specs.Header.{header_rule}
 use Rattle.jpg_spec.specs.Scan.{Blocks}
 use Rattle.jpg_spec.specs.Meaning.{Meaning, PictureComponent, picture_frame, real_blocks}
-use Rattle.jpg_spec.specs.FileMeaning.{Leads, Means, picture_component, meaning_of}
-use Rattle.jpg_spec.specs.Ranges.{is_coefficient}
-use Rattle.jpg_spec.specs.WrittenFile.{IsQuantiser, AreQuantisers, HasQuants, IsKeptMarker, IsHeaded}
-use Rattle.jpg_spec.specs.Moved.{Choice, moved, gray_fault}
+use Rattle.jpg_spec.specs.FileMeaning.{Leads, picture_component, meaning_of}
+use Rattle.jpg_spec.specs.Ranges.{is_coefficient, AreInRange}
+use Rattle.jpg_spec.specs.WrittenFile.{IsQuantiser, AreQuantisers, HasQuants, IsKeptMarker}
 use Rattle.jpg_spec.specs.declared.frame.Component.{Component}
 use Rattle.jpg_spec.specs.declared.frame.Limits.{Limits}
 use Rattle.jpg_spec.proofs.Common.{same_of}
@@ -31,8 +31,7 @@ use Rattle.jpg_spec.proofs.Common.{both}
 use Rattle.jpg_spec.proofs.Rows.{map_map, by_items, all_front, all_back, at_below, all_reverse}
 use Rattle.jpg_spec.proofs.Common.{length_below}
 use Rattle.jpg_spec.proofs.Common.{not_zero}
-use Rattle.jpg_spec.proofs.FrameFound.{framed}
-use Rattle.jpg_spec.proofs.FrameBehind.{leads_pass, frame_behind}
+use Rattle.jpg_spec.proofs.FrameFound.{framed, frame_found}
 use Rattle.jpg_spec.proofs.FirstPasses.{head_at, all_below}
 use Rattle.jpg_spec.proofs.Untouched.{frame_stays}
 use Rattle.jpg_spec.proofs.BeforeScans.{no_heads}
@@ -40,9 +39,8 @@ use Rattle.jpg_spec.proofs.Common.{neither}
 use Rattle.jpg_spec.proofs.KeptMarkers.{may_keep, input_count}
 use Rattle.jpg_spec.proofs.QuantsInForce.{AllContents, IsByte, AreEntries, IsQuants, in_force_quants, in_force_entries}
 use Rattle.jpg_spec.proofs.WrittenFront.{frame_is}
-use Rattle.jpg_spec.proofs.Ranges.{leads_in_range}
 use Rattle.jpg_spec.proofs.SameNumbers.{numbers_of, SameNumbers, same_frame, is_place, same_places}
-use Rattle.jpg_spec.proofs.MovedWritten.{IsPicture, moved_headed}
+use Rattle.jpg_spec.proofs.MovedWritten.{IsPicture}
 
 -- THE SEGMENTS of a file of bytes: of bytes, and none too long
 
@@ -53,13 +51,13 @@ AreShort (s ∷ before) = (length s.1 + 2 < 65536) × AreShort before
 abbrev pub AreOfBytes : List Segment → Type 0
 AreOfBytes before = AreShort before × AllContents IsByte before
 
-one_more : (code : ℕ) (contents bytes : List ℕ) (before : List Segment) → SpellsSegment code contents bytes → All IsByte bytes → AreOfBytes before → AreOfBytes ((code, contents) ∷ before)
+pub one_more : (code : ℕ) (contents bytes : List ℕ) (before : List Segment) → SpellsSegment code contents bytes → All IsByte bytes → AreOfBytes before → AreOfBytes ((code, contents) ∷ before)
 one_more code contents bytes before s all older =
     let (marker, spelled, short, whole) = s in
     let here = subst (λ bs. All IsByte bs) whole all in
     ((short, older.0), (all_back IsByte (marker ++ to_be_bytes w16 (length contents + 2)) contents here, older.1))
 
-segments_bytes : (items : List Item) (front : List ℕ) → SpellsFront items front → All IsByte front → AreOfBytes (segments_of items)
+pub segments_bytes : (items : List Item) (front : List ℕ) → SpellsFront items front → All IsByte front → AreOfBytes (segments_of items)
 segments_bytes [] front s all = (tt, tt)
 segments_bytes (segment code contents ∷ items) front s all =
     let (start, rest, cut, older, spelled) = s in
@@ -83,7 +81,7 @@ kept_markers (s ∷ before) short = by (is_kept before s.0 s.1) refl (kept_marke
 
 -- THE RULES of a file's segments
 
-leads_rules : (limits : Limits) (items : List Item) (blocks : Blocks) → Leads limits items blocks → Pass (contents_rule limits) (segments_of items)
+pub leads_rules : (limits : Limits) (items : List Item) (blocks : Blocks) → Leads limits items blocks → Pass (contents_rule limits) (segments_of items)
 leads_rules limits [] blocks l = tt
 leads_rules limits (segment code contents ∷ items) blocks l = (l.0, l.1, leads_rules limits items blocks l.2)
 leads_rules limits (scan contents intervals ∷ items) blocks l = (l.1, l.2, leads_rules limits items l.0 l.3)
@@ -110,7 +108,7 @@ named_has f before head (p ∷ parts) i e h =
     by true s k none later = subst (λ j. HasTable (quant_in_force before (component_at f j).quant)) (same_of p.component i s) (lacks_none _ none)
     by false s k none later = later k
 
-no_scans : (limits : Limits) (before : List Segment) → Pass (contents_rule limits) before → has_frame before ≡ false → has_scan before ≡ false
+pub no_scans : (limits : Limits) (before : List Segment) → Pass (contents_rule limits) before → has_frame before ≡ false → has_scan before ≡ false
 no_scans limits [] p e = refl
 no_scans limits (s ∷ before) p e = by (s.0 == 0xda) refl (λ k. no_scans limits before p.2 k)
   where
@@ -228,18 +226,12 @@ zero_slots : (cs : List PictureComponent) → All (λ c. c.quant ≤ 3) (map (λ
 zero_slots [] = All-nil (λ c. c.quant ≤ 3)
 zero_slots (c ∷ cs) = All-cons (λ c. c.quant ≤ 3) _ _ (omega arith) (zero_slots cs)
 
-framed_end : (before : List Segment) → code_fault before 0xd9 ≡ None → has_frame before ≡ true
+pub framed_end : (before : List Segment) → code_fault before 0xd9 ≡ None → has_frame before ≡ true
 framed_end before e = by (has_frame before) e
   where
     by : (b : Bool) → code_fault_if b 0xd9 ≡ None → b ≡ true
     by true e = refl
     by false e = cc
-
-file_frame : (limits : Limits) (items : List Item) (blocks : Blocks) → AreLimits limits → Leads limits items blocks → code_fault (segments_of items) 0xd9 ≡ None → IsFrame (frame_of limits (segments_of items))
-file_frame limits items blocks limited leads e =
-    let found = frame_behind limits items blocks leads (framed_end (segments_of items) e) in
-    let f = found.0 in
-    subst (λ g. IsFrame g) (sym (ap (λ o. unwrap_or o no_frame) found.1)) (frame_is limits f f limited (found.2).passes)
 
 file_tables : (limits : Limits) (f : Frame) (before : List Segment) → AllContents IsByte before → Pass (contents_rule limits) before → frame_of limits before ≡ f → is_complete f before ≡ true
     → All HasQuants (map (picture_component f before) (below (length f.components)))
@@ -254,22 +246,33 @@ file_tables limits f before of pass e complete =
     table : (i : ℕ) → HasTable (quant_of f before i) → HasQuants (picture_component f before i)
     table i (t, k) = subst (λ (o : Option QuantTable). AreQuantisers (unwrap_or o [])) (sym k) (table_is f before i t of k)
 
--- THE LAW
-pub read_picture : (limits : Limits) (bytes : List ℕ) (M : Meaning) → AreLimits limits → All IsByte bytes → Means limits bytes M → IsPicture M
-read_picture limits bytes M limited all m =
-    let segments = segments_of m.items in
+-- WHAT BYTES LEAVE: segments that break no rule, with each component in a scan, and blocks in their range
+pub record IsLeft (limits : Limits) (segments : List Segment) (blocks : Blocks) (M : Meaning) : Type 0 where
+  pub found : has_frame segments ≡ true
+  pub complete : is_complete (frame_of limits segments) segments ≡ true
+  pub rules : Pass (contents_rule limits) segments
+  pub headers : Pass (header_rule limits) segments
+  pub range : AreInRange (bounds (frame_of limits segments)) blocks
+  pub meaning : M ≡ meaning_of (frame_of limits segments) segments blocks
+
+left_frame : (limits : Limits) (segments : List Segment) → AreLimits limits → Pass (header_rule limits) segments → has_frame segments ≡ true → IsFrame (frame_of limits segments)
+left_frame limits segments limited pass e =
+    let found = frame_found limits segments pass e in
+    let f = found.0 in
+    subst (λ g. IsFrame g) (sym (ap (λ o. unwrap_or o no_frame) found.1)) (frame_is limits f f limited (found.2).passes)
+
+pub left_picture : (limits : Limits) (segments : List Segment) (blocks : Blocks) (M : Meaning) → AreLimits limits → AreOfBytes segments → IsLeft limits segments blocks M → IsPicture M
+left_picture limits segments blocks M limited of m =
     let f = frame_of limits segments in
-    let of = segments_bytes m.items m.front m.spelled (all_front IsByte m.front m.marker (all_front IsByte (m.front ++ m.marker) m.rest (subst (λ bs. All IsByte bs) m.cut all))) in
-    let range = leads_in_range limits m.items m.blocks m.leads in
-    let pass = leads_pass limits m.items m.blocks m.leads in
-    let same = file_numbers f segments m.blocks in
-    let here : IsPicture (meaning_of f segments m.blocks) = record {
-      frame = same_frame f (picture_frame (meaning_of f segments m.blocks)) same (zero_slots (map (picture_component f segments) (below (length f.components)))) (file_frame limits m.items m.blocks limited m.leads m.framed);
-      quants = file_tables limits f segments of.1 (leads_rules limits m.items m.blocks m.leads) refl m.complete;
+    let range = m.range in
+    let same = file_numbers f segments blocks in
+    let here : IsPicture (meaning_of f segments blocks) = record {
+      frame = same_frame f (picture_frame (meaning_of f segments blocks)) same (zero_slots (map (picture_component f segments) (below (length f.components)))) (left_frame limits segments limited m.headers m.found);
+      quants = file_tables limits f segments of.1 m.rules refl m.complete;
       markers = all_reverse IsKeptMarker (kept_after segments) (0, []) (kept_markers segments of.0);
-      count = subst (λ xs. kept_count xs ≤ 268435456) (sym (reverse-reverse (kept_after segments))) (let a = input_count limits segments pass in let b = limited.kept in omega (arith, a, b));
-      blocks = λ i x y. shown (nat_lt i (length f.components) && is_real f i x y) (m.blocks i x y) (block_in (m.blocks i x y) (range.sizes i x y) (λ k. range.values i x y k));
-      others = λ i x y. ap (λ b. cond b (m.blocks i x y) (zeros 64)) (twice (is_place f i x y)) ∙ outer (is_place f i x y) (m.blocks i x y) ∙ ap (λ b. cond b (real_blocks f m.blocks i x y) (zeros 64)) (same_places f (picture_frame (meaning_of f segments m.blocks)) i x y same);
+      count = subst (λ xs. kept_count xs ≤ 268435456) (sym (reverse-reverse (kept_after segments))) (let a = input_count limits segments m.headers in let b = limited.kept in omega (arith, a, b));
+      blocks = λ i x y. shown (nat_lt i (length f.components) && is_real f i x y) (blocks i x y) (block_in (blocks i x y) (range.sizes i x y) (λ k. range.values i x y k));
+      others = λ i x y. ap (λ b. cond b (blocks i x y) (zeros 64)) (twice (is_place f i x y)) ∙ outer (is_place f i x y) (blocks i x y) ∙ ap (λ b. cond b (real_blocks f blocks i x y) (zeros 64)) (same_places f (picture_frame (meaning_of f segments blocks)) i x y same);
     } in
     subst (λ N. IsPicture N) (sym m.meaning) here
   where
@@ -283,7 +286,3 @@ read_picture limits bytes M limited all m =
     outer : (b : Bool) (block : List ℤ) → cond b block (zeros 64) ≡ cond b (cond b block (zeros 64)) (zeros 64)
     outer true block = refl
     outer false block = refl
-
--- what a file means may be written, moved as a choice asks for it
-pub read_moved : (limits : Limits) (bytes : List ℕ) (M : Meaning) (choice : Choice) → AreLimits limits → All IsByte bytes → Means limits bytes M → gray_fault choice.gray M ≡ None → IsHeaded standard_limits (moved choice M)
-read_moved limits bytes M choice limited all m none = moved_headed choice M none (read_picture limits bytes M limited all m)

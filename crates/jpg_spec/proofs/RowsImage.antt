@@ -41,14 +41,14 @@ same_header a b w h k =
     ∙ ap (λ x. pnm_letter b.kind ++ 10 ∷ decimal b.width ++ codes " " ++ decimal x ++ 10 ∷ codes "255" ++ 10 ∷ []) h
 
 -- A PICTURE with other markers, and the same colours
-abbrev kept_as : Meaning → List (ℕ × List ℕ) → Meaning
+abbrev pub kept_as : Meaning → List (ℕ × List ℕ) → Meaning
 kept_as M kept = record M { kept = kept }
 
 -- what is told of an image, by the colours and the JFIF header
 abbrev info_of : Meaning → Colour → Jfif → Bool → ImageInfo
 info_of M colour jfif gray = record { width = M.width; height = M.height; kind = cond (shows_gray colour gray) kind.Gray kind.Rgb; x_metre = metre jfif jfif.x; y_metre = metre jfif jfif.y }
 
-same_pixels : (M : Meaning) (kept : List (ℕ × List ℕ)) (gray smooth : Bool) → colour_of (kept_as M kept) ≡ colour_of M → pixels (kept_as M kept) gray smooth ≡ pixels M gray smooth
+pub same_pixels : (M : Meaning) (kept : List (ℕ × List ℕ)) (gray smooth : Bool) → colour_of (kept_as M kept) ≡ colour_of M → pixels (kept_as M kept) gray smooth ≡ pixels M gray smooth
 same_pixels M kept gray smooth e = ap (λ c. map (shown_row c M gray smooth) (below M.height)) e
 
 all_ready : (M : Meaning) (gray smooth : Bool) (rows : ℕ) → rows ≡ mcu_rows M → ready_rows M gray smooth rows ≡ M.height
@@ -61,7 +61,7 @@ all_pixels M gray smooth rows e =
     let l : length (pixels M gray smooth) ≡ M.height = length-map (below M.height) (pixel_row M gray smooth) ∙ length_below M.height in
     ap (λ n. take n (pixels M gray smooth)) (all_ready M gray smooth rows e) ∙ take_all M.height (pixels M gray smooth) (omega (arith, l))
 
-same_text : (M : Meaning) (kept : List (ℕ × List ℕ)) (gray smooth : Bool) → colour_of (kept_as M kept) ≡ colour_of M → rows_text Pnm (kept_as M kept) gray smooth (mcu_rows M) ≡ end_text Pnm (info M gray) (pixels M gray smooth)
+pub same_text : (M : Meaning) (kept : List (ℕ × List ℕ)) (gray smooth : Bool) → colour_of (kept_as M kept) ≡ colour_of M → rows_text Pnm (kept_as M kept) gray smooth (mcu_rows M) ≡ end_text Pnm (info M gray) (pixels M gray smooth)
 same_text M kept gray smooth e =
     let N = kept_as M kept in
     ap (λ rows. pnm_header (info N gray) ++ flat_map (λ row. row) rows) (all_pixels N gray smooth (mcu_rows M) refl ∙ same_pixels M kept gray smooth e)
@@ -98,7 +98,7 @@ so_far_jfif limits bytes M w blocks =
     ap (λ (s : List Segment). jfif_of (reverse (kept_after s))) (sym at.before)
     ∙ sym (ap (λ (N : Meaning). jfif_of N.kept) m.meaning ∙ ap (λ (z : List Item). jfif_of (reverse (kept_after (segments_of z)))) first.joined ∙ same_jfif_behind first.more first.contents first.intervals first.before)
 
-same_info : (M : Meaning) (kept : List (ℕ × List ℕ)) (gray : Bool) → colour_of (kept_as M kept) ≡ colour_of M → jfif_of kept ≡ jfif_of M.kept → info (kept_as M kept) gray ≡ info M gray
+pub same_info : (M : Meaning) (kept : List (ℕ × List ℕ)) (gray : Bool) → colour_of (kept_as M kept) ≡ colour_of M → jfif_of kept ≡ jfif_of M.kept → info (kept_as M kept) gray ≡ info M gray
 same_info M kept gray colours jfif =
     ap (λ c. info_of M c (jfif_of kept) gray) colours ∙ ap (λ j. info_of M (colour_of M) j gray) jfif
 

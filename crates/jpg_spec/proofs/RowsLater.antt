@@ -98,7 +98,7 @@ named_again limits more contents intervals before blocks head l is k =
     some = let s = k.some in omega (arith, s, length-map head.parts (λ p. p.component))
 
 -- and is refused
-second_refused : (limits : Limits) (more : List Item) (contents : List ℕ) (intervals : List (List ℕ)) (before : List Item) (blocks : Blocks) (other : List ℕ) → Leads limits (more ++ scan contents intervals ∷ before) blocks
+pub second_refused : (limits : Limits) (more : List Item) (contents : List ℕ) (intervals : List (List ℕ)) (before : List Item) (blocks : Blocks) (other : List ℕ) → Leads limits (more ++ scan contents intervals ∷ before) blocks
     → HasAll limits before contents → contents_rule limits (segments_of (more ++ scan contents intervals ∷ before)) 0xda other ≡ None → ⊥
 second_refused limits more contents intervals before blocks other l is rule =
     let after = segments_of (more ++ scan contents intervals ∷ before) in

@@ -54,7 +54,7 @@ length_corrected al (o ∷ old) (b ∷ bits) = by (is_zero o) (length_corrected 
     by true e f = ap suc e
     by false e f = ap suc f
 
-one_band : (bands : ℕ) → 1 ≤ bands → digits bands ≤ 1 → bands ≡ 1
+pub one_band : (bands : ℕ) → 1 ≤ bands → digits bands ≤ 1 → bands ≡ 1
 one_band bands h k =
     let p : 2 ^ digits bands ≤ 2 ^ 1 = pow-le-pow_right (lit< tt) k in
     let b = below_digits bands in

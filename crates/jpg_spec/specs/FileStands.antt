@@ -31,13 +31,16 @@ StandsInside limits bytes tail w =
     let s = scan_after limits (segments_of w.items) w.contents in
     ((fill : ℕ) × (tail ≡ replicate fill 255)) × (AreDue s w.blocks w.places w.coded ⊎ Completes s w.blocks w.places w.coded)
 
+-- AFTER ITEMS: bytes of a further one, of which some are missing
+abbrev pub PartOfItem : List Item → List ℕ → Type 0
+PartOfItem items tail = ((code : ℕ) × BeginsSegment (segments_of items) code tail) ⊎ PartOfSegment (segments_of items) tail
+
 -- A FILE THAT STANDS: before its items, behind items with a part of a segment, or inside scan data
 
 abbrev pub FileStands : Limits → List ℕ → Type 0
 FileStands limits bytes =
     ((bytes ≡ []) ⊎ (bytes ≡ 255 ∷ []))
-    ⊎ (((items : List Item) × (tail : List ℕ) × BehindItems limits bytes items tail
-    × (((code : ℕ) × BeginsSegment (segments_of items) code tail) ⊎ PartOfSegment (segments_of items) tail))
+    ⊎ (((items : List Item) × (tail : List ℕ) × BehindItems limits bytes items tail × PartOfItem items tail)
     ⊎ ((tail : List ℕ) × (w : InsideScan limits bytes tail) × StandsInside limits bytes tail w))
 
 -- the bytes are a whole file: they mean this, and end with EOI

@@ -1,7 +1,7 @@
 -- THE FIRST FAULT of a file: the least front of the bytes that shows a fault, and the first of the faults in their order that this front shows.
 -- No clause speaks of a reader or of cuts. Each says how first bytes are made that show the fault.
--- A file that ends early is no file and shows no fault with any of its bytes: its fault stands at its end alone.
-use Rattle.std.specs.Prelude.{◌≡◌, ◌⊎◌, ℕ, ◌+◌, ◌%◌, ◌<◌, ◌≤◌, Bool, false, List, [], ◌∷◌, ◌++◌, length, take, map, None, ℤ}
+-- A file that ends early is no file and shows no fault with any of its bytes: its fault, where it has one, stands at its end alone.
+use Rattle.std.specs.Prelude.{◌≡◌, ◌⊎◌, ℕ, ◌+◌, ◌%◌, ◌<◌, ◌≤◌, Bool, true, false, List, [], ◌∷◌, ◌++◌, length, take, map, None, ℤ}
 use Rattle.jpg_spec.specs.Bits.{Packs, bits_of_bytes}
 use Rattle.jpg_spec.specs.Lists.{chunks}
 use Rattle.jpg_spec.specs.Elements.{SpellsUnits}
@@ -92,8 +92,31 @@ ShowsNone limits bytes = (fault : Fault) (n : ℕ) → n ≤ length bytes → Sh
 abbrev pub HasMeaning : Limits → List ℕ → Type 0
 HasMeaning limits bytes = (M : Meaning) × Means limits bytes M
 
+-- Whole items that break no rule, and a whole SOS segment that breaks none: with it each component has begun (T.81, B.2.3).
+pub record HaveBegun (limits : Limits) (bytes : List ℕ) : Type 0 where
+  pub items : List Item
+  pub blocks : Blocks
+  pub contents : List ℕ
+  pub front : List ℕ
+  pub head : List ℕ
+  pub rest : List ℕ
+  pub cut : bytes ≡ front ++ head ++ rest
+  pub spelled : SpellsFront items front
+  pub header : SpellsSegment 0xda contents head
+  pub leads : Leads limits items blocks
+  pub allowed : (code_fault (segments_of items) 0xda ≡ None) × (contents_rule limits (segments_of items) 0xda contents ≡ None)
+  pub complete : is_complete (frame_of limits (segments_of items)) ((0xda, contents) ∷ segments_of items) ≡ true
+
+-- A PREMATURE END (release 6b's libjpeg.doc): no whole file stands, no fault is shown, and each component has begun.
+pub record IsEarly (limits : Limits) (bytes : List ℕ) : Type 0 where
+  pub short : length bytes < limits.input
+  pub faultless : ShowsNone limits bytes
+  pub unended : HasMeaning limits bytes → ⊥
+  pub begun : HaveBegun limits bytes
+
 abbrev pub IsFirstFault : Limits → List ℕ → Fault → ℕ → Type 0
 IsFirstFault limits bytes fault n =
     ((n ≤ limits.input) × IsLeast (Shows limits) bytes fault n)
     ⊎ (((fault ≡ InputTooLong) × (n ≡ limits.input) × (limits.input ≤ length bytes) × ShowsNone limits (take n bytes) × (HasMeaning limits bytes → ⊥))
-    ⊎ ((fault ≡ Truncated) × (n ≡ length bytes) × (length bytes < limits.input) × ShowsNone limits bytes × (HasMeaning limits bytes → ⊥)))
+    ⊎ ((fault ≡ Truncated) × (n ≡ length bytes) × (length bytes < limits.input) × ShowsNone limits bytes × (HasMeaning limits bytes → ⊥)
+    × (IsEarly limits bytes → ⊥)))

@@ -16,7 +16,8 @@ use Rattle.jpg_spec.specs.InForce.{frame_of}
 use Rattle.jpg_spec.specs.Header.{HeaderShows, IsHeader}
 use Rattle.jpg_spec.specs.Items.{Item, segments_of}
 use Rattle.jpg_spec.specs.Meaning.{Meaning, picture_frame, real_blocks}
-use Rattle.jpg_spec.specs.FileMeaning.{scan_after, Means}
+use Rattle.jpg_spec.specs.FileMeaning.{scan_after}
+use Rattle.jpg_spec.specs.Early.{IsMeaning}
 use Rattle.jpg_spec.specs.FirstFault.{Shows, IsFirstFault}
 use Rattle.jpg_spec.specs.FileStands.{FileStands}
 use Rattle.jpg_spec.specs.PictureInWork.{is_at, BeginsScan, AreDistinct, IntervalRead, UnitsRead, OneChanges, ScanSoFar}
@@ -120,6 +121,11 @@ pub record HeaderShowsAt (limits : Limits) (bytes : List ℕ) (fault : Fault) (n
 -- the bytes show no fault
 abbrev pub NothingShown : Limits → List ℕ → Type 0
 NothingShown limits bytes = (fault : Fault) → Shows limits fault bytes → ⊥
+
+-- The bytes stand, and are fewer than may be taken.
+pub record StandsShort (limits : Limits) (bytes : List ℕ) : Type 0 where
+  pub stands : FileStands limits bytes
+  pub short : length bytes < limits.input
 
 abbrev pub IsTruncated : Limits → List ℕ → Type 0
 IsTruncated limits bytes = IsFirstFault limits bytes Truncated (length bytes)
@@ -236,13 +242,13 @@ pub record Fits (limits : Limits) (bytes : List ℕ) : Type 0 where
 
 -- PICTURES THAT ARE MOVED (the manual of jpegtran)
 
--- A picture that some bytes mean, which has no fault as a gray one where it shall be gray.
+-- A picture that some bytes mean, also where they end early, which has no fault as a gray one where it shall be gray.
 pub record IsMovable (choice : Choice) (M : Meaning) : Type 0 where
   pub limits : Limits
   pub bytes : List ℕ
   pub limited : AreLimits limits
   pub are_bytes : All (λ b. b < 256) bytes
-  pub means : Means limits bytes M
+  pub means : IsMeaning limits bytes M
   pub admitted : gray_fault choice.gray M ≡ None
 
 -- the file of a picture that is moved, in scans that have no fault

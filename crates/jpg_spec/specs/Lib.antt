@@ -6,6 +6,8 @@ pub mod CommentText
 pub mod CommentWords
 pub mod Dct
 pub mod Downsampling
+pub mod Early
+pub mod EarlyExamples
 pub mod Elements
 pub mod EncodeWords
 pub mod Encoded

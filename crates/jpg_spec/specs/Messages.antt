@@ -9,7 +9,7 @@ use Rattle.jpg_spec.specs.declared.answers.Which.TheVariants.{Input, Script, Tab
 use Rattle.jpg_spec.specs.declared.answers.Why.{Why}
 use Rattle.jpg_spec.specs.declared.transform.PictureFault.{PictureFault}
 use Rattle.jpg_spec.specs.declared.transform.PictureFault.TheVariants.{GrayColour, GrayFactors, FractionalFactors, TooManyBlocks, ScriptComponent, ScriptMcu, ScriptBand, ScriptIncomplete}
-use Rattle.jpg_spec.specs.declared.answers.Why.TheVariants.{Done, Usage, Refused, Picture, OpenFault, ReadFault, WriteFault, NoMemory}
+use Rattle.jpg_spec.specs.declared.answers.Why.TheVariants.{Done, Warned, Usage, Refused, Picture, OpenFault, ReadFault, WriteFault, NoMemory}
 
 abbrev pub usage_name : UsageFault → List ℕ
 usage_name NoTool = codes "NoTool"
@@ -63,6 +63,7 @@ picture_numbers (ScriptIncomplete component coefficient bit) = then_number compo
 -- what stands behind the command's name and `: `
 abbrev pub text_of : Why → List ℕ
 text_of Done = []
+text_of (Warned n) = codes "warning: ends early at byte " ++ decimal n
 text_of (Usage u) = codes "usage: " ++ usage_name u.fault ++ codes " at word " ++ decimal u.word
 text_of (Refused f) = codes "refused: " ++ fault_name f.fault ++ codes " at byte " ++ decimal f.at
 text_of (Picture p) = codes "picture: " ++ picture_name p ++ picture_numbers p
@@ -77,6 +78,7 @@ line tool text = tool ++ codes ": " ++ text ++ 10 ∷ []
 -- the message of a command: nothing where all was done, else one line
 abbrev pub message : List ℕ → Why → List ℕ
 message tool Done = []
+message tool (Warned n) = line tool (text_of (Warned n))
 message tool (Usage u) = line tool (text_of (Usage u))
 message tool (Refused f) = line tool (text_of (Refused f))
 message tool (Picture p) = line tool (text_of (Picture p))
@@ -88,6 +90,7 @@ message tool NoMemory = line tool (text_of NoMemory)
 -- the exit status
 abbrev pub status_of : Why → ℕ
 status_of Done = 0
+status_of (Warned n) = 2
 status_of (Usage u) = 1
 status_of (Refused f) = 1
 status_of (Picture p) = 1

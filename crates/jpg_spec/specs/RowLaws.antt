@@ -7,11 +7,13 @@ use Rattle.jpg_spec.specs.Parts.{StandsInUnits}
 use Rattle.jpg_spec.specs.Scan.{Blocks, Scan, unit_at}
 use Rattle.jpg_spec.specs.ScanFaults.{DataShows}
 use Rattle.jpg_spec.specs.FrameHeader.{AreLimits}
-use Rattle.jpg_spec.specs.Meaning.{Meaning, colour_of}
+use Rattle.jpg_spec.specs.Meaning.{Meaning, colour_of, real_blocks}
 use Rattle.jpg_spec.specs.Markers.{Segment}
+use Rattle.jpg_spec.specs.InForce.{frame_of}
 use Rattle.jpg_spec.specs.Items.{Item, scan, segments_of}
 use Rattle.jpg_spec.specs.FileMeaning.{Leads, Means, scan_after}
 use Rattle.jpg_spec.specs.FirstFault.{HoldsUnits}
+use Rattle.jpg_spec.specs.Early.{MeansEarly}
 use Rattle.jpg_spec.specs.PictureInWork.{AreDistinct, ScanSoFar, UnitsRead}
 use Rattle.jpg_spec.specs.ScanReading.{LeadingMarker, ScanAt, ScanPlace, scan_at}
 use Rattle.jpg_spec.specs.ImageText.{end_text}
@@ -244,3 +246,32 @@ pub record ReadsWholeRows (limits : Limits) (bytes : List ℕ) (rows : ℕ) : Ty
 -- the blocks of the rows in the picture in work
 abbrev pub blocks_read : Limits → ScanPlace → ℕ → Blocks → Blocks
 blocks_read limits p rows now = blocks_in (row_places limits (segments_of p.items) p.contents rows) now
+
+-- A FILE THAT ENDS EARLY in such a scan, or after it
+pub record EndsEarlyByRows (limits : Limits) (bytes : List ℕ) (M : Meaning) : Type 0 where
+  pub early : MeansEarly limits bytes M
+  pub before : List Segment
+  pub contents : List ℕ
+  pub begins : BeginsScanOfAll limits bytes before contents
+
+-- the picture of its blocks at the end of the scan header
+abbrev pub early_so_far : (limits : Limits) → (bytes : List ℕ) → (M : Meaning) → EndsEarlyByRows limits bytes M → Meaning
+early_so_far limits bytes M w = picture_so_far limits w.before w.contents M.blocks
+
+-- the text of all its MCU rows
+abbrev pub early_text : (limits : Limits) → (bytes : List ℕ) → (M : Meaning) → EndsEarlyByRows limits bytes M → (gray smooth : Bool) → List ℕ
+early_text limits bytes M w gray smooth = rows_text Pnm (early_so_far limits bytes M w) gray smooth (mcu_rows M)
+
+-- Its bytes complete so many MCU rows, of these blocks.
+pub record EndsEarlyInRows (limits : Limits) (bytes : List ℕ) (M : Meaning) (rows : ℕ) : Type 0 where
+  pub limited : AreLimits limits
+  pub ends : EndsEarlyByRows limits bytes M
+  pub blocks : Blocks
+  pub completed : CompletesRows limits bytes rows blocks
+
+-- its blocks in so many first MCU rows, and the real ones of those that are complete
+abbrev pub early_rows : (limits : Limits) → (bytes : List ℕ) → (M : Meaning) → (rows : ℕ) → EndsEarlyInRows limits bytes M rows → ℕ → Blocks
+early_rows limits bytes M rows w n = blocks_in (row_places limits (w.ends).before (w.ends).contents n) M.blocks
+
+abbrev pub complete_rows : (limits : Limits) → (bytes : List ℕ) → (M : Meaning) → (rows : ℕ) → EndsEarlyInRows limits bytes M rows → Blocks
+complete_rows limits bytes M rows w = real_blocks (frame_of limits (w.ends).before) w.blocks

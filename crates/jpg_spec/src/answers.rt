@@ -88,6 +88,8 @@ impl Which {
 pub enum Why {
     /// The whole output was written.
     Done,
+    /// The same, of an input that ended early after so many bytes.
+    Warned(u64),
     /// The words ask for nothing that there is.
     Usage(Usage),
     /// The input has this fault at this place.
@@ -105,12 +107,13 @@ pub enum Why {
 }
 
 impl Why {
-    /// The exit status: 0 for Done, 3 for NoMemory, 1 for the others.
+    /// The exit status: 0 for Done, 2 for Warned, 3 for NoMemory, 1 for the others.
     pub fn code(self) -> u8
         ensures { result ≡ status_of self }
     {
         match self {
             Why::Done => 0,
+            Why::Warned(_) => 2,
             Why::NoMemory => 3,
             _ => 1,
         }

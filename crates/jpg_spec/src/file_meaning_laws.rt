@@ -15,11 +15,12 @@ ghost use Rattle.jpg_spec.specs.Sound.{IsSound, AreTables};
 ghost use Rattle.jpg_spec.specs.Markers.{Segment};
 ghost use Rattle.jpg_spec.specs.Items.{Item};
 ghost use Rattle.jpg_spec.specs.FileMeaning.{Leads, Means, scan_after};
-ghost use Rattle.jpg_spec.specs.FirstFault.{Shows, HasMeaning, IsFirstFault};
+ghost use Rattle.jpg_spec.specs.FirstFault.{Shows, HasMeaning, HaveBegun, IsEarly, IsFirstFault};
 ghost use Rattle.jpg_spec.specs.FileStands.{FileStands, IsWholeFile};
+ghost use Rattle.jpg_spec.specs.Early.{MeansEarly, IsMeaning};
 ghost use Rattle.jpg_spec.specs.Parts.{AreUnderWay, HoldsNoInterval, ShowsNoFault, StandsInOneWay, CountsAll};
 ghost use Rattle.jpg_spec.specs.PictureInWork.{IsFirstPass, AreDistinct, IntervalRead, UnitsRead, ScanSoFar};
-ghost use Rattle.jpg_spec.specs.Laws.{NothingShown, LastShows, IsTruncated, IsTooLong, AtMostOneFault, NextIntervalRead, NextUnitRead, AllUnitsRead, ScanBegun, begun_scan, IsSequentialBehind, IsNewUnit, IsZeroBand, bounds_behind};
+ghost use Rattle.jpg_spec.specs.Laws.{NothingShown, LastShows, StandsShort, IsTruncated, IsTooLong, AtMostOneFault, NextIntervalRead, NextUnitRead, AllUnitsRead, ScanBegun, begun_scan, IsSequentialBehind, IsNewUnit, IsZeroBand, bounds_behind};
 ghost use Rattle.jpg_spec.specs.declared.fault.Fault.{Fault};
 ghost use Rattle.jpg_spec.specs.declared.frame.Limits.{Limits};
 ghost use Rattle.jpg_spec.specs.declared.frame.Place.{Place};
@@ -30,6 +31,12 @@ pub fn files_mean_one_thing()
     ensures more { (limits : Limits) (bytes more : List ℕ) (M : Meaning) → Means limits bytes M → Means limits (bytes ++ more) M }
     ensures front { (limits : Limits) (bytes more : List ℕ) (M N : Meaning) → IsWholeFile limits bytes M → Means limits (bytes ++ more) N → M ≡ N }
     ensures place { (limits : Limits) (bytes more : List ℕ) (M N : Meaning) → IsWholeFile limits bytes M → IsWholeFile limits (bytes ++ more) N → more ≡ [] }
+{}
+
+/// What bytes mean, as a whole file or as one that ends early, is one thing; and never are they both (T.81, B.2.1).
+pub fn early_files_mean_one_thing()
+    ensures one { (limits : Limits) (bytes : List ℕ) (M N : Meaning) → IsMeaning limits bytes M → IsMeaning limits bytes N → M ≡ N }
+    ensures never_both { (limits : Limits) (bytes : List ℕ) (M N : Meaning) → Means limits bytes M → MeansEarly limits bytes N → ⊥ }
 {}
 
 /// Whatever segments a file has, the Huffman tables in force are valid, and so is the coding of each scan by them (T.81, B.2.4.2
@@ -63,9 +70,11 @@ pub fn faults_behind_standing_bytes_are_first()
     ensures { (limits : Limits) (bytes rest : List ℕ) (f : Fault) → LastShows limits bytes f → IsFirstFault limits (bytes ++ rest) f (length bytes) }
 {}
 
-/// A file of fewer bytes than the input's limit that stands is truncated, at its end.
+/// A file of fewer bytes than the input's limit that stands is truncated, at its end, where some component hasn't begun. Else it ends
+/// early (T.81, B.2.3).
 pub fn standing_files_are_truncated()
-    ensures { (limits : Limits) (bytes : List ℕ) → FileStands limits bytes → length bytes < limits.input → IsTruncated limits bytes }
+    ensures truncated { (limits : Limits) (bytes : List ℕ) → StandsShort limits bytes → (HaveBegun limits bytes → ⊥) → IsTruncated limits bytes }
+    ensures early { (limits : Limits) (bytes : List ℕ) → StandsShort limits bytes → HaveBegun limits bytes → IsEarly limits bytes }
 {}
 
 /// A file that stands at the input's limit is too long, at the limit.
@@ -73,9 +82,10 @@ pub fn files_beyond_the_limit_are_too_long()
     ensures { (limits : Limits) (bytes : List ℕ) → FileStands limits (take limits.input bytes) → limits.input ≤ length bytes → IsTooLong limits bytes }
 {}
 
-/// A file never has both a meaning and a first fault, and it has one first fault at most, at one place.
+/// A file never has both a meaning and a first fault, nor one where it ends early, and it has one first fault at most, at one place.
 pub fn first_faults_are_one()
     ensures never_both { (limits : Limits) (bytes : List ℕ) (fault : Fault) (n : ℕ) → HasMeaning limits bytes → IsFirstFault limits bytes fault n → ⊥ }
+    ensures early { (limits : Limits) (bytes : List ℕ) (fault : Fault) (n : ℕ) → IsEarly limits bytes → IsFirstFault limits bytes fault n → ⊥ }
     ensures one { (limits : Limits) (bytes : List ℕ) → AtMostOneFault (IsFirstFault limits bytes) }
 {}
 
@@ -131,4 +141,5 @@ pub fn scans_find_zeros()
 pub fn coefficients_lie_in_their_range()
     ensures items { (limits : Limits) (items : List Item) (blocks : Blocks) → Leads limits items blocks → AreInRange (bounds_behind limits items) blocks }
     ensures meaning { (limits : Limits) (bytes : List ℕ) (M : Meaning) → Means limits bytes M → AreInRange (bounds (picture_frame M)) M.blocks }
+    ensures early { (limits : Limits) (bytes : List ℕ) (M : Meaning) → MeansEarly limits bytes M → AreInRange (bounds (picture_frame M)) M.blocks }
 {}

@@ -3,6 +3,7 @@
 #![tactic(auto)]
 
 mod answers;
+pub mod early_examples;
 pub mod encoding_examples;
 pub mod encoding_laws;
 pub mod examples;

@@ -1,5 +1,5 @@
 //! Laws on the MCU rows of a first scan of all components that the bytes of a file tell (T.81, A.2.3, E.1.4, F.2.2).
-ghost use Rattle.std.specs.Prelude.{◌≡◌, ◌≤◌, ◌++◌, ◌*◌, ℕ, Bool, List, [], length, Some, None, Ok};
+ghost use Rattle.std.specs.Prelude.{◌≡◌, ◌≤◌, ◌+◌, ◌++◌, ◌*◌, ℕ, Bool, List, [], length, Some, None, Ok};
 ghost use Rattle.jpg_spec.specs.Scan.{Blocks};
 ghost use Rattle.jpg_spec.specs.Segments.{ScanHead};
 ghost use Rattle.jpg_spec.specs.Meaning.{Meaning};
@@ -21,6 +21,7 @@ ghost use Rattle.jpg_spec.specs.RowLaws.{TellsEnough, HasRows};
 ghost use Rattle.jpg_spec.specs.RowLaws.{HasBegunPicture, begun_picture, begun_rows, IsShownInRows, IsReadByRows, CompletesAll};
 ghost use Rattle.jpg_spec.specs.RowLaws.{ReadsUnits, ReadsInterval, StopsInRows, stopped_blocks};
 ghost use Rattle.jpg_spec.specs.RowLaws.{ReadsAtLeast, ReadsRows, ReadsWholeRows, blocks_read};
+ghost use Rattle.jpg_spec.specs.RowLaws.{EndsEarlyByRows, EndsEarlyInRows, complete_rows, early_rows, early_so_far, early_text};
 ghost use Rattle.jpg_spec.specs.RowLaws.{TellsTwice, fewer_text, more_text, GoesOnFrom, all_rows_text, image_text, so_far_in, text_in};
 ghost use Rattle.jpg_spec.specs.declared.image.EndKind.{EndKind};
 ghost use Rattle.jpg_spec.specs.declared.image.EndKind.TheVariants.{Bmp};
@@ -137,4 +138,29 @@ pub fn rows_show_one_text()
     ensures bmp { (M : Meaning) (gray smooth : Bool) (rows : ℕ) → rows_text Bmp M gray smooth rows ≡ [] }
     ensures one { (limits : Limits) (kind : EndKind) (gray smooth : Bool) (bytes a b : List ℕ)
         → ShowsRows limits kind gray smooth bytes a → ShowsRows limits kind gray smooth bytes b → a ≡ b }
+{}
+
+/// The picture of a file that ends early in such a scan, or after it, is that of its blocks at the end of the scan header, but for
+/// markers that are kept after it (T.81, B.2.1, B.2.3).
+pub fn early_pictures_follow_their_scan_header()
+    ensures { (limits : Limits) (bytes : List ℕ) (M : Meaning) (w : EndsEarlyByRows limits bytes M)
+        → early_so_far limits bytes M w ≡ record M { kept = (early_so_far limits bytes M w).kept } }
+{}
+
+/// A file that ends early in such a scan, or after it, has the blocks of the MCU rows that its bytes complete. After the next one it has
+/// none: of that row the units that are whole stand in it (T.81, A.2.3, E.1.4, F.2.2).
+pub fn early_files_have_the_rows_they_complete()
+    ensures complete { (limits : Limits) (bytes : List ℕ) (M : Meaning) (rows : ℕ) (w : EndsEarlyInRows limits bytes M rows)
+        → early_rows limits bytes M rows w rows ≡ complete_rows limits bytes M rows w }
+    ensures none { (limits : Limits) (bytes : List ℕ) (M : Meaning) (rows : ℕ) (w : EndsEarlyInRows limits bytes M rows)
+        → early_rows limits bytes M rows w (rows + 1) ≡ M.blocks }
+{}
+
+/// The text of all MCU rows of such a file is that of its image, where the image goes out row by row. In any format, the image of its
+/// blocks, with what stands at the end of the scan header, is that of the file.
+pub fn early_files_show_all_rows()
+    ensures rows { (limits : Limits) (bytes : List ℕ) (M : Meaning) (w : EndsEarlyByRows limits bytes M) (gray smooth : Bool)
+        → early_text limits bytes M w gray smooth ≡ image_text M gray smooth }
+    ensures image { (limits : Limits) (bytes : List ℕ) (M : Meaning) (w : EndsEarlyByRows limits bytes M) (kind : EndKind) (gray smooth : Bool)
+        → text_in kind (early_so_far limits bytes M w) gray smooth ≡ text_in kind M gray smooth }
 {}

@@ -1,6 +1,6 @@
 //! Laws over files that aren't shown (release 6b's djpeg).
 ghost use Rattle.std.specs.Prelude.{◌≡◌, ℕ, Bool, List, take};
-ghost use Rattle.jpg_spec.specs.FileMeaning.{Means};
+ghost use Rattle.jpg_spec.specs.Early.{IsMeaning};
 ghost use Rattle.jpg_spec.specs.FileStands.{FileStands};
 ghost use Rattle.jpg_spec.specs.Laws.{AreNotShownAlike};
 ghost use Rattle.jpg_spec.specs.Meaning.{Meaning};
@@ -18,8 +18,8 @@ pub fn no_fault_comes_before_what_is_not_shown()
     ensures { (limits : Limits) (gray : Bool) (bytes : List ℕ) (f : FaultAt) → IsNotShown limits gray bytes f → FileStands limits (take f.at bytes) }
 {}
 
-/// A file that means a picture isn't shown exactly where the picture isn't, and for that reason: what stands behind its first scan
-/// header says nothing of colours and factors.
+/// A file that means a picture, also one that ends early, isn't shown exactly where the picture isn't, and for that reason: what stands
+/// after its first scan header says nothing of colours and factors.
 pub fn pictures_are_not_shown_for_their_own_reason()
-    ensures { (limits : Limits) (gray : Bool) (bytes : List ℕ) (M : Meaning) → Means limits bytes M → AreNotShownAlike limits gray bytes M }
+    ensures { (limits : Limits) (gray : Bool) (bytes : List ℕ) (M : Meaning) → IsMeaning limits bytes M → AreNotShownAlike limits gray bytes M }
 {}

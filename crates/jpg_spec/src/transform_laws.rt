@@ -5,7 +5,7 @@ ghost use Rattle.jpg_spec.specs.FrameHeader.{IsFrame};
 ghost use Rattle.jpg_spec.specs.Moved.{Choice, moved, moved_frame, IsSamePicture};
 ghost use Rattle.jpg_spec.specs.Meaning.{Meaning};
 ghost use Rattle.jpg_spec.specs.Transforms.{transformed, inverse, signed, turned_over};
-ghost use Rattle.jpg_spec.specs.FileMeaning.{Means};
+ghost use Rattle.jpg_spec.specs.Early.{IsMeaning};
 ghost use Rattle.jpg_spec.specs.Laws.{IsTransformOf, UndoesTransform, formula_block, HasSampling, IsZeroOutside, FirstIsGreatest};
 ghost use Rattle.jpg_spec.specs.declared.frame.Limits.{Limits};
 ghost use Rattle.jpg_spec.specs.declared.frame.Bounds.{Bounds};
@@ -43,7 +43,7 @@ pub fn frames_moved_are_frames()
 
 /// The blocks of each file's picture have 64 numbers.
 pub fn blocks_of_files_are_whole()
-    ensures { (limits : Limits) (bytes : List ℕ) (M : Meaning) (i x y : ℕ) → Means limits bytes M → length (M.blocks i x y) ≡ 64 }
+    ensures { (limits : Limits) (bytes : List ℕ) (M : Meaning) (i x y : ℕ) → IsMeaning limits bytes M → length (M.blocks i x y) ≡ 64 }
 {}
 
 /// Each block that the formula makes of one in the bounds of a frame lies in them: its DC is the same, and no AC has another magnitude.

@@ -4,7 +4,7 @@ ghost use Rattle.std.specs.Prelude.{◌≡◌, ◌≤◌, false};
 
 use jpg_base::{Bytes, Fed, NoMemory, Stop};
 use jpg_coefs::{BlockView, Coefs};
-use jpg_file::{Picture, Reader};
+use jpg_file::{End, Picture, Reader};
 use jpg_spec::{Colour, Copying, Fault, FaultAt, Limits};
 use std::alloc::Global;
 use std::test::Fail;
@@ -59,7 +59,7 @@ fn fault(fault: Fault, at: u64) -> Result<u64, Stop> {
     Err(Stop::Fault(FaultAt { fault, at }))
 }
 
-// What came of bytes that were fed in pieces of this size: how many make the file whole, else why it isn't.
+// What came of bytes that were fed in pieces of this size: how many were read into the picture, else why none.
 fn read(reader: &mut Reader, bytes: &[u8], size: usize) -> Result<u64, Stop>
     requires some { 1 ≤ size }
     requires more { reader.old.done ≡ false }
@@ -71,7 +71,10 @@ fn read(reader: &mut Reader, bytes: &[u8], size: usize) -> Result<u64, Stop>
             Fed::Done { used } => return Ok(taken.saturating_add(used)),
         }
     }
-    Err(reader.end())
+    match reader.end() {
+        End::Early(taken) => Ok(taken),
+        End::Stop(stop) => Err(stop),
+    }
 }
 
 // The coefficient at place k of a block, None where there is no such block.
@@ -138,7 +141,7 @@ static SECOND_FIRST: [u8; 4] = [0x2b, 0xff, 0xd1, 0x2b];
 
 #[test]
 fn files_come_to_one_answer(rt: HostRuntime) -> Result<(), Fail> {
-    let rows: [(&[Change], Result<u64, Stop>); 17] = [
+    let rows: [(&[Change], Result<u64, Stop>); 18] = [
         (&[], Ok(331)),
         (&[(328, 329, b"\x25\x6a")], Ok(332)),
         (&[(331, 331, b"\xff\x00behind")], Ok(331)),
@@ -149,7 +152,8 @@ fn files_come_to_one_answer(rt: HostRuntime) -> Result<(), Fail> {
         ),
         (&[(328, 329, b"")], fault(Fault::EntropyShort, 330)),
         (&[(328, 329, b"\x2b\x00")], fault(Fault::ExtraData, 330)),
-        (&[(329, 331, b"")], fault(Fault::Truncated, 329)),
+        (&[(329, 331, b"")], Ok(329)),
+        (&[(327, 331, b"")], fault(Fault::Truncated, 327)),
         (&[(135, 318, b"")], fault(Fault::MissingTable, 145)),
         (
             &[(96, 98, &WIDE), (318, 318, &EACH), (328, 329, &RESTARTS)],

@@ -1,20 +1,19 @@
 -- The blocks of a picture moved lie in the bounds, and are zeros outside the real grids.
-use Rattle.std.proofs.Common.{◌≡◌, ℕ, suc, ◌<◌, Bool, true, false, cond, ◌&&◌, List, [], ◌∷◌, length, get_or, refl, sym, ap, ◌∙◌, subst, arith, ℤ, pos}
-use Rattle.std.specs.Prelude.{nat_lt, nat_abs, int_le}
+use Rattle.std.proofs.Common.{◌≡◌, ℕ, ◌<◌, Bool, true, false, cond, List, [], ◌∷◌, length, refl, sym, ap, ◌∙◌, subst, arith, ℤ}
+use Rattle.std.specs.Prelude.{nat_lt}
 use Rattle.std.proofs.lemmas.List.{length-map}
-use Rattle.jpg_spec.specs.Elements.{IsBlockIn, are_in_bounds, zeros}
+use Rattle.jpg_spec.specs.Elements.{IsBlockIn, zeros}
 use Rattle.jpg_spec.specs.FrameHeader.{IsFrame}
 use Rattle.jpg_spec.specs.Geometry.{Frame, bounds_of, greatest}
 use Rattle.jpg_spec.specs.Lists.{below}
 use Rattle.jpg_spec.specs.Meaning.{Meaning, picture_frame, real_blocks}
 use Rattle.jpg_spec.specs.Moved.{Choice, Grids, frame_grids, grayed, moved, picture_grids, trimmed}
 use Rattle.jpg_spec.specs.Moves.{component_of, flip_h, flip_v, whole_columns, whole_rows}
-use Rattle.jpg_spec.specs.Ranges.{is_coefficient}
 use Rattle.jpg_spec.specs.Scan.{Blocks}
 use Rattle.jpg_spec.specs.Transforms.{transformed, transpose}
 use Rattle.jpg_spec.specs.declared.transform.Transform.{Transform}
 use Rattle.jpg_spec.specs.declared.transform.Transform.TheVariants.{Keep, FlipH, FlipV, Transpose, Transverse, Rotate90, Rotate180, Rotate270}
-use Rattle.jpg_spec.proofs.Common.{length_below, not_zero}
+use Rattle.jpg_spec.proofs.Common.{length_below}
 use Rattle.jpg_spec.proofs.MovedBounds.{mirrored_down_in, transposed_in}
 use Rattle.jpg_spec.proofs.OutsideZeros.{HasRealBlocks, alone, transformed_real}
 use Rattle.jpg_spec.proofs.SameNumbers.{SameNumbers, is_place, same_places}

@@ -1,5 +1,5 @@
 -- The file of a picture moved: what is written of it means the picture moved.
-use Rattle.std.proofs.Common.{◌≡◌, ℕ, Bool, true, false, cond, not, ◌&&◌, ◌==◌, List, [], ◌∷◌, length, get_or, map, refl, sym, ap, ◌∙◌, subst, arith, None}
+use Rattle.std.proofs.Common.{◌≡◌, ℕ, Bool, true, false, cond, not, ◌==◌, List, [], ◌∷◌, length, get_or, map, refl, sym, ap, ◌∙◌, subst, arith, None}
 use Rattle.std.proofs.Math.Path.{fun_ext}
 use Rattle.std.proofs.Math.ListN as listn
 use Rattle.std.specs.Prelude.{◌||◌, nat_lt, zip}
@@ -27,7 +27,7 @@ use Rattle.jpg_spec.specs.declared.frame.Process.{Process}
 use Rattle.jpg_spec.specs.declared.frame.Process.TheVariants.{Baseline, Extended, Progressive}
 use Rattle.jpg_spec.specs.declared.jfif.Jfif.{Jfif}
 use Rattle.jpg_spec.proofs.Common.{both, lt_of}
-use Rattle.jpg_spec.proofs.ReadPicture.{read_moved}
+use Rattle.jpg_spec.proofs.MeaningLeft.{read_moved}
 use Rattle.jpg_spec.proofs.Rows.{by_items, map_map}
 use Rattle.jpg_spec.proofs.SameNumbers.{SameNumbers, is_place, numbers_of, same_places}
 use Rattle.jpg_spec.proofs.MovedText.{moved_means, passes_by, same_kind}

@@ -109,6 +109,24 @@ impl<'a> Moved<'a> {
     {
         self.picture.coefs.block(component, x, y)
     }
+
+    // A block of the output, turned as the transform says.
+    #[inline(never)]
+    fn turned(&self, component: u8, x: u32, y: u32) -> Block
+        requires { IsReal (moved_numbers self.now) component x y }
+        ensures { result ≡ moved_blocks self.now component x y }
+    {
+        self.checked();
+        let columns = self.columns[component as usize];
+        let rows = self.rows[component as usize];
+        let column = opposite(columns, x);
+        let row = opposite(rows, y);
+        if self.over {
+            signed_over(x < columns, y < rows, &self.source(component, row, column))
+        } else {
+            signed(x < columns, y < rows, &self.source(component, column, row))
+        }
+    }
 }
 
 impl<'a> BlockView for Moved<'a> {
@@ -120,16 +138,12 @@ impl<'a> BlockView for Moved<'a> {
         self.frame
     }
 
+    // It stays a call, of which a block that stays is copied once.
+    #[inline(never)]
     fn block(&self, component: u8, x: u32, y: u32) -> Block {
-        self.checked();
-        let columns = self.columns[component as usize];
-        let rows = self.rows[component as usize];
-        let column = opposite(columns, x);
-        let row = opposite(rows, y);
-        if self.over {
-            signed_over(x < columns, y < rows, &self.source(component, row, column))
-        } else {
-            signed(x < columns, y < rows, &self.source(component, column, row))
+        if self.over || x < self.columns[component as usize] || y < self.rows[component as usize] {
+            return self.turned(component, x, y);
         }
+        self.source(component, x, y)
     }
 }

@@ -3,8 +3,10 @@
 use super::progressive::{LARGER, PADDED_INTERVALS};
 use super::{DONE, Handed, Outcome, SUM_OF_NONE, done, outcome, ran_with};
 use jpg_cli::Ended;
-use jpg_run_parts::{Change, CutDesk, changed, desk_with, ran, refused_at, strings};
-use jpg_spec::Fault;
+use jpg_run_parts::{
+    Change, CutDesk, changed, desk_with, ran, refused_at, smallest, strings, written,
+};
+use jpg_spec::{Fault, Why};
 use std::alloc::Global;
 use std::test::Fail;
 
@@ -522,15 +524,15 @@ static FAULTY: [Faulty; 37] = [
         Fault::BadLength,
         150,
     ),
-    // The file ends in data.
+    // The file ends in the first scan header.
     (
         &[0, 8, 0, 8],
         &[
             0xff, 0xc4, 0, 0x14, 0x10, 1, 0, 0, 0, 0, 0, 0, 0, 0, 0, 0, 0, 0, 0, 0, 0, 0, 0xff,
-            0xda, 0, 8, 1, 1, 0, 0, 0, 0, 0x3f, 0xff, 0xda, 0, 8, 1, 1, 0, 1, 0x3f, 0, 0x7f,
+            0xda, 0, 8, 1, 1, 0, 0, 0,
         ],
         Fault::Truncated,
-        179,
+        166,
     ),
 ];
 
@@ -670,5 +672,52 @@ fn a_file_is_shown(rt: HostRuntime) -> Result<(), Fail> {
         let shown = shown_in_two(rt.alloc(), file.as_slice(), first)?;
         assert_eq!(rt; shown, (DONE, 829, 0xc2832be049c1816e), "cut at {first}");
     }
+    Ok(())
+}
+
+// Three scans: DC, and AC in two passes.
+static THREE_SCANS: [u8; 59] = [
+    0xff, 0xda, 0, 8, 1, 1, 0, 0, 0, 0, 0x3f, 0xff, 0xc4, 0, 0x16, 0x10, 0, 3, 0, 0, 0, 0, 0, 0, 0,
+    0, 0, 0, 0, 0, 0, 0, 0, 1, 0xf0, 0xff, 0xda, 0, 8, 1, 1, 0, 1, 0x3f, 1, 0x47, 0xff, 0xda, 0, 8,
+    1, 1, 0, 1, 0x3f, 0x10, 0xac, 0xff, 0xd9,
+];
+
+#[test]
+fn fronts_of_three_scans_are_truncated_or_end_early(rt: HostRuntime) -> Result<(), Fail> {
+    let words = strings(rt.alloc(), &["jpegtran", "-flip", "horizontal"])?;
+    let file = changed(rt.alloc(), &[(90, 91, &[0xc2]), (135, 331, &THREE_SCANS)])?;
+    for length in 0..194usize {
+        let front = file.as_slice().get(..length).ok_or("a shorter length")?;
+        let mut desk = desk_with(rt.alloc(), front, u32::MAX)?;
+        let ended = ran(rt.alloc(), words.as_slice(), &mut desk);
+        let at = length as u64;
+        let begun = length >= 145;
+        let due = if begun {
+            Ended {
+                code: 2,
+                why: Why::Warned(at),
+            }
+        } else {
+            Ended {
+                code: 1,
+                why: refused_at(Fault::Truncated, at),
+            }
+        };
+        assert!(rt; ended == due, "of {length}");
+        assert_eq!(rt; desk.outputs(), u32::from(begun), "of {length}");
+    }
+    Ok(())
+}
+
+// Of a scan whose data are missing nothing counts.
+#[test]
+fn a_scan_header_alone_changes_nothing(rt: HostRuntime) -> Result<(), Fail> {
+    let words = strings(rt.alloc(), &["jpegtran", "-flip", "horizontal"])?;
+    let file = changed(rt.alloc(), &[(90, 91, &[0xc2]), (135, 331, &THREE_SCANS)])?;
+    let front = file.as_slice().get(..180).ok_or("a shorter length")?;
+    let mut desk = desk_with(rt.alloc(), front, u32::MAX)?;
+    let ended = ran(rt.alloc(), words.as_slice(), &mut desk);
+    assert!(rt; ended.why == Why::Warned(180));
+    assert!(rt; written(&desk) == Some(smallest()));
     Ok(())
 }

@@ -2,7 +2,7 @@
 use super::FLIP;
 use jpg_base::Desk;
 use jpg_cli::Ended;
-use jpg_run_parts::{Change, changed, desk_with, ran, smallest, strings};
+use jpg_run_parts::{Change, changed, desk_with, ran, refused_at, smallest, strings, written};
 use jpg_spec::{Fault, FaultAt, Why};
 use std::test::Fail;
 
@@ -119,7 +119,7 @@ static HEADERS: [(&[Change], Fault, u64); 36] = [
 ];
 
 // Tables that are wanting, data that spell no picture, and no EOI.
-static SCANS: [(&[Change], Fault, u64); 20] = [
+static SCANS: [(&[Change], Fault, u64); 16] = [
     (&[(20, 89, &[])], Fault::MissingTable, 259),
     (&[(102, 135, &[])], Fault::MissingTable, 295),
     (&[(135, 318, &[])], Fault::MissingTable, 145),
@@ -140,10 +140,6 @@ static SCANS: [(&[Change], Fault, u64); 20] = [
     ),
     (&[(97, 98, &[0x0c])], Fault::EntropyShort, 331),
     (&[(95, 96, &[0x0c])], Fault::EntropyShort, 331),
-    (&[(328, 331, &[])], Fault::Truncated, 328),
-    (&[(329, 331, &[])], Fault::Truncated, 329),
-    (&[(330, 331, &[])], Fault::Truncated, 330),
-    (&[(330, 331, &[0xda])], Fault::Truncated, 331),
     (
         &[(330, 331, &[0xd0, 0xff, 0xd9])],
         Fault::UnexpectedMarker,
@@ -202,7 +198,7 @@ fn messages_name_the_fault(rt: HostRuntime) -> Result<(), Fail> {
     let rows: [(usize, &[u8]); 3] = [
         (0, b"jpegtran: refused: Truncated at byte 0\n"),
         (327, b"jpegtran: refused: Truncated at byte 327\n"),
-        (330, b"jpegtran: refused: Truncated at byte 330\n"),
+        (318, b"jpegtran: refused: Truncated at byte 318\n"),
     ];
     for &(length, message) in rows.iter() {
         let input = smallest().get(..length).ok_or("a shorter length")?;
@@ -211,5 +207,78 @@ fn messages_name_the_fault(rt: HostRuntime) -> Result<(), Fail> {
         assert_eq!(rt; ended.code, 1, "of {length}");
         assert_eq!(rt; desk.said(), message, "of {length}");
     }
+    Ok(())
+}
+
+// What is changed so that the file ends early, and after how many bytes: in the data and behind them.
+static EARLY: [(&[Change], u64); 4] = [
+    (&[(328, 331, &[])], 328),
+    (&[(329, 331, &[])], 329),
+    (&[(330, 331, &[])], 330),
+    (&[(330, 331, &[0xda])], 331),
+];
+
+#[test]
+fn files_that_end_early_are_written_with_a_warning(rt: HostRuntime) -> Result<(), Fail> {
+    let flip = strings(rt.alloc(), &FLIP)?;
+    for &(changes, at) in EARLY.iter() {
+        let input = changed(rt.alloc(), changes)?;
+        let warned = Ended {
+            code: 2,
+            why: Why::Warned(at),
+        };
+        for piece in [1, 65536] {
+            let mut desk = desk_with(rt.alloc(), input.as_slice(), piece)?;
+            assert!(rt;
+                ran(rt.alloc(), flip.as_slice(), &mut desk) == warned,
+                "{changes:?}"
+            );
+            assert_eq!(rt; desk.outputs(), 1, "{changes:?}");
+            assert!(rt;
+                desk.said()
+                    .starts_with(b"jpegtran: warning: ends early at byte 3"),
+                "{changes:?}"
+            );
+        }
+    }
+    Ok(())
+}
+
+#[test]
+fn each_front_is_truncated_or_ends_early(rt: HostRuntime) -> Result<(), Fail> {
+    let flip = strings(rt.alloc(), &FLIP)?;
+    for length in 0..331usize {
+        let input = smallest().get(..length).ok_or("a shorter length")?;
+        let mut desk = desk_with(rt.alloc(), input, 100)?;
+        let ended = ran(rt.alloc(), flip.as_slice(), &mut desk);
+        let at = length as u64;
+        let due = if length < 328 {
+            refused_at(Fault::Truncated, at)
+        } else {
+            Why::Warned(at)
+        };
+        assert!(rt; ended.why == due, "of {length}");
+        assert_eq!(rt; desk.outputs(), u32::from(length >= 328), "of {length}");
+    }
+    Ok(())
+}
+
+// Two blocks, of which one is whole where the file ends.
+#[test]
+fn units_that_are_not_whole_are_zero(rt: HostRuntime) -> Result<(), Fail> {
+    let flip = strings(rt.alloc(), &FLIP)?;
+    let cut = changed(rt.alloc(), &[(96, 98, &[0, 16]), (328, 331, &[0x28])])?;
+    let moved = changed(rt.alloc(), &[(96, 98, &[0, 16]), (328, 329, &[0x28, 0xaf])])?;
+    let mut desk = desk_with(rt.alloc(), cut.as_slice(), 100)?;
+    let ended = ran(rt.alloc(), flip.as_slice(), &mut desk);
+    assert!(rt;
+        ended
+            == Ended {
+                code: 2,
+                why: Why::Warned(329)
+            }
+    );
+    assert!(rt; written(&desk) == Some(moved.as_slice()));
+    assert!(rt; desk.said() == b"jpegtran: warning: ends early at byte 329\n".as_slice());
     Ok(())
 }

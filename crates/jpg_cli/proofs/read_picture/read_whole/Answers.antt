@@ -4,8 +4,8 @@ use Rattle.jpg_cli.proofs.PictureBytes.{fed_none}
 use Rattle.jpg_cli.proofs.PictureTaken.{reads_none, reads_then}
 use Rattle.jpg_cli.proofs.read_picture.read_whole.Goals as goal
 
-pub loop-why-init : goal.loop-why-init
-loop-why-init g c =
+pub loop-at-init : goal.loop-at-init
+loop-at-init g c =
     let s = g.D.Desk.state c.args.desk.now in
     record {
       kept = reads_none s;
@@ -16,14 +16,14 @@ loop-why-init g c =
       room = refl;
     }
 
-pub loop-why-preserved : goal.loop-why-preserved
-loop-why-preserved g c =
+pub loop-at-preserved : goal.loop-at-preserved
+loop-at-preserved g c =
     let state = g.D.Desk.state in
     let start = state c.args.desk.now in
-    let so = c.loop-why.invariant in
+    let so = c.loop-at.invariant in
     let after = c.in-More.ensures.after start so.read.0 so.read.1 so.kept so.read.2 in
     record {
-      kept = reads_then start (state c.loop-why.desk) (state c.next_piece.new.desk) so.kept c.in-More.ensures.kept;
+      kept = reads_then start (state c.loop-at.desk) (state c.next_piece.new.desk) so.kept c.in-More.ensures.kept;
       read = (so.read.0 ++ after.0, after.2, after.3);
       opened = c.in-More.ensures.goes_on.0;
       limits = c.in-More.ensures.limits;

@@ -6,8 +6,8 @@ use Rattle.jpg_cli.specs.ReadPicture.{HasFed}
 use Rattle.jpg_cli.specs.Stays.{OnlyReads}
 use Rattle.jpg_cli.proofs.read_picture.read_whole.Given as goal
 
-abbrev pub invariant-loop-why : goal.invariant-loop-why
-invariant-loop-why g l =
+abbrev pub invariant-loop-at : goal.invariant-loop-at
+invariant-loop-at g l =
     let state = g.D.Desk.state in
     record {
       kept : OnlyReads (state l.initial.desk) (state l.desk);
@@ -18,5 +18,5 @@ invariant-loop-why g l =
       room : length l.buffer ≡ 16384;
     }
 
-abbrev pub decreases-loop-why : goal.decreases-loop-why
-decreases-loop-why g l = 2 ^ 40 - l.reader.file.reading.taken
+abbrev pub decreases-loop-at : goal.decreases-loop-at
+decreases-loop-at g l = 2 ^ 40 - l.reader.file.reading.taken

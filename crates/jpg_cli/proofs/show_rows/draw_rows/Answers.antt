@@ -1,7 +1,7 @@
 use Rattle.std.proofs.Common.{rules, ◌++◌}
 use Rattle.jpg_cli.specs.Showing.{showing_told}
 use Rattle.jpg_cli.proofs.CommentsCopied.{works_then}
-use Rattle.jpg_cli.proofs.RowsLoop.{ended_here, more_here, whole_here}
+use Rattle.jpg_cli.proofs.RowsLoop.{early_here, ended_here, more_here, whole_here}
 use Rattle.jpg_cli.proofs.show_rows.draw_rows.Goals as goal
 
 pub loop-step-init : goal.loop-step-init
@@ -23,6 +23,21 @@ returns-in-Whole-clause-shown g c = λ old start h all m k.
     let a = c.loop-step.invariant.shows old start h all m k in
     let b = whole_here s old start h a.0 c.loop-step.step c.loop-step.reader c.loop-step.image _ _ c.in-Whole.is a.1 in
     c.finish_rows.ensures.shown old start h a.0 b.0 b.1
+
+pub finish_early-requires : goal.finish_early-requires
+finish_early-requires g c =
+    let s = showing_told c.args.words.now in
+    let w = c.requires.draws in
+    let a = c.loop-step.invariant.shows w.old w.start w.head w.all w.rows w.showing in
+    let b = early_here s w.old w.start w.head a.0 c.loop-step.step c.in-Early.count c.loop-step.reader c.loop-step.image _ _ c.in-Early.is a.1 in
+    record { early = record { old = w.old; start = w.start; head = w.head; all = a.0; rows = b.0; shown = b.1 } }
+
+pub returns-in-Early-clause-shown : goal.returns-in-Early-clause-shown
+returns-in-Early-clause-shown g c = λ old start h all m k.
+    let s = showing_told c.args.words.now in
+    let a = c.loop-step.invariant.shows old start h all m k in
+    let b = early_here s old start h a.0 c.loop-step.step c.in-Early.count c.loop-step.reader c.loop-step.image _ _ c.in-Early.is a.1 in
+    c.finish_early.ensures.shown old start h a.0 b.0 b.1
 
 pub returns-in-Ended-clause-shown : goal.returns-in-Ended-clause-shown
 returns-in-Ended-clause-shown g c = λ old start h all m k.

@@ -1,10 +1,10 @@
-use Rattle.std.proofs.Common.{arith, rules, [], ◌++◌, ◌≡◌, ◌<◌, ◌≤◌, length, take, refl}
+use Rattle.std.proofs.Common.{◌∙◌, arith, rules, [], ◌++◌, ◌≡◌, ◌<◌, ◌≤◌, length, take, refl}
 use Rattle.std.specs.List.{All}
 use Rattle.std.proofs.lemmas.List.Elements.{All-append}
 use Rattle.std.proofs.lemmas.List.{length-take-le}
 use Rattle.jpg_cli.specs.Showing.{showing_told}
 use Rattle.jpg_cli.proofs.CommentsCopied.{some_taken, within_most}
-use Rattle.jpg_cli.proofs.RowsAsked.{goes_later, rows_at_end, rows_read_all, rows_room, rows_taken, rows_unread}
+use Rattle.jpg_cli.proofs.RowsAsked.{end_goes_on, end_later, goes_later, rows_end, rows_read_all, rows_room, rows_taken, rows_unread}
 use Rattle.jpg_cli.proofs.RowsRead.{fed_more}
 use Rattle.jpg_cli.proofs.show_rows.next_rows.Goals as goal
 
@@ -18,11 +18,30 @@ pub returns-in-End-clause-shown : goal.returns-in-End-clause-shown
 returns-in-End-clause-shown g c = λ old start h all m k.
     let state = g.D.Desk.state in
     let s = showing_told c.args.words.now in
-    let e = (goal.ImageEnd-dyn g (c.args.end.now.vtable, c.args.end.now.value)).progress c.args.end.now.value in (
+    let e = (goal.ImageEnd-dyn g (c.args.end.now.vtable, c.args.end.now.value)).progress c.args.end.now.value in
+    let ended = c.at_end.ensures.ended all m (rows_read_all s old start h all m c.args.reader.now c.args.image.now e (state c.args.desk.now) k) in (
       [],
-      rows_at_end s old start h all m c.args.reader.now c.args.image.now e c.read_within.new.buffer c.at_end.result (state c.args.desk.now) (state c.read_within.new.desk) c.in-End.ensures.read
-          (c.at_end.ensures.ended all (rows_read_all s old start h all m c.args.reader.now c.args.image.now e (state c.args.desk.now) k)) k,
+      rows_end s old start h all m c.args.reader.now c.at_end.new.reader c.args.image.now e c.read_within.new.buffer c.at_end.result (state c.args.desk.now) (state c.read_within.new.desk) c.in-End.ensures.read c.at_end.ensures.limits ended k,
     )
+
+pub returns-in-End-clause-goes_on : goal.returns-in-End-clause-goes_on
+returns-in-End-clause-goes_on g c =
+    let w = c.requires.reads in
+    let k = w.shown in
+    let state = g.D.Desk.state in
+    let s = showing_told c.args.words.now in
+    let e = (goal.ImageEnd-dyn g (c.args.end.now.vtable, c.args.end.now.value)).progress c.args.end.now.value in
+    end_goes_on w.all w.rows c.at_end.result c.at_end.new.reader (state c.read_within.new.desk) (c.in-End.ensures.read.output_created ∙ (k.desk).created)
+    (c.at_end.ensures.ended w.all w.rows (rows_read_all s w.old w.start w.head w.all w.rows c.args.reader.now c.args.image.now e (state c.args.desk.now) k))
+
+pub returns-in-End-clause-later : goal.returns-in-End-clause-later
+returns-in-End-clause-later g c =
+    let w = c.requires.reads in
+    let state = g.D.Desk.state in
+    let s = showing_told c.args.words.now in
+    let e = (goal.ImageEnd-dyn g (c.args.end.now.vtable, c.args.end.now.value)).progress c.args.end.now.value in
+    end_later w.all w.rows c.at_end.result c.at_end.new.reader _ _
+    (c.at_end.ensures.ended w.all w.rows (rows_read_all s w.old w.start w.head w.all w.rows c.args.reader.now c.args.image.now e (state c.args.desk.now) w.shown))
 
 pub returns-in-Bytes-clause-shown : goal.returns-in-Bytes-clause-shown
 returns-in-Bytes-clause-shown g c = λ old start h all m k.

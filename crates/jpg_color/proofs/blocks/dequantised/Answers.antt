@@ -1,9 +1,8 @@
 use Rattle.std.proofs.Common.{rules, ◌≡◌, ◌≤◌, ◌<◌, List, ℤ, pos, ◌*ℤ◌, slice_index, nat_abs, to_z, of_z, FitsSigned, All, refl, sym, ap, subst, ◌∙◌, arith}
-use Rattle.std.specs.Int.{w16, w32}
+use Rattle.std.specs.Int.{w32}
 use Rattle.std.proofs.lemmas.Int.{to_z-of_z}
 use Rattle.std.proofs.lemmas.List.{length-set}
 use Rattle.std.proofs.lemmas.List.Elements.{All-replicate, All-set}
-use Rattle.jpg_spec.specs.Dct.{number_at}
 use Rattle.jpg_dct.specs.Natural.{natural}
 use Rattle.jpg_color.proofs.Places.{scaled_step, scaled_done, given_small, given_seen}
 use Rattle.jpg_color.proofs.blocks.dequantised.Goals as goal

@@ -1,4 +1,4 @@
-use Rattle.std.proofs.Common.{rules, refl, ◌∙◌}
+use Rattle.std.proofs.Common.{rules, ◌∙◌}
 use Rattle.std.proofs.lemmas.List.{length-set}
 use Rattle.jpg_color.proofs.Places.{place_low, byte_fits, quant_step, quants_done}
 use Rattle.jpg_color.proofs.blocks.natural_quants.Goals as goal

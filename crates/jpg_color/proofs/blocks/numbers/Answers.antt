@@ -1,4 +1,4 @@
-use Rattle.std.proofs.Common.{rules, ◌≡◌, ◌<◌, to_z, of_z, FitsSigned, ◌∙◌}
+use Rattle.std.proofs.Common.{rules, ◌≡◌, to_z, of_z, FitsSigned, ◌∙◌}
 use Rattle.std.specs.Int.{w16}
 use Rattle.std.proofs.lemmas.Int.{to_z-of_z}
 use Rattle.std.proofs.lemmas.List.{length-set}

@@ -1,6 +1,6 @@
 use Rattle.std.proofs.lemmas.Result.{err_from_is_err_and}
 use Rattle.jpg_pnm_bmp.specs.EndState.{EndState}
-use Rattle.jpg_color.proofs.RowsSending.{sends_none_yet, takes_row, row_goes, ready_sent, ready_stopped, fewer_ready}
+use Rattle.jpg_color.proofs.RowsSending.{sends_none_yet, takes_row, row_goes, ready_sent, ready_stopped}
 use Rattle.jpg_color.proofs.Showing.{fits_so, sent_so}
 use Rattle.jpg_color.proofs.strip_image.send_ready.Goals as goal
 

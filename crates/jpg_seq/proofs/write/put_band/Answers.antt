@@ -1,4 +1,4 @@
-use Rattle.std.proofs.Common.{◌≡◌, ◌+◌, ◌-◌, ◌/◌, ◌<◌, ◌≤◌, ◌^◌, ◌++◌, [], Err, pos, drop, refl, sym, ap, ◌∙◌, subst, arith, rules}
+use Rattle.std.proofs.Common.{◌≡◌, ◌+◌, ◌-◌, ◌<◌, ◌≤◌, ◌^◌, ◌++◌, [], Err, pos, drop, refl, sym, ap, ◌∙◌, subst, arith, rules}
 use mir.Syntax.{w16, w64}
 use mir.Val.{SFits, to_z, of_z}
 use Rattle.std.specs.Prelude.{slice_index_or}
@@ -9,8 +9,8 @@ use Rattle.jpg_spec.specs.Numbers.{category}
 use Rattle.jpg_spec.specs.ScanText.{code_of}
 use Rattle.jpg_seq.specs.BlockBits.{run_bits, band_bits}
 use Rattle.jpg_seq.proofs.Bands.{left_bits, left_all, left_none, left_zeros}
-use Rattle.jpg_base.proofs.Marked.{marks_are, marks_behind}
-use Rattle.jpg_seq.proofs.Marked.{next_value, no_value}
+use Rattle.jpg_base.proofs.Marked.{marks_are}
+use Rattle.jpg_seq.proofs.Marked.{first_blank, next_value, no_value}
 use Rattle.jpg_huff.specs.BitOut.{Puts, holding}
 use Rattle.jpg_huff.proofs.InParts.{DoneButFor, of_bits, part_start, part_then, part_last, part_end, part_fault}
 use Rattle.jpg_huff.proofs.Together.{puts_nothing}
@@ -21,7 +21,7 @@ loop-rest-init g c =
     let codes = c.args.ac.now in
     let block = c.args.block.now in
     let s = g.D.Desk.state c.args.desk.now in
-    let small : c.nonzero-rest.result < 2 ^ 64 = search rules in
+    let small : c.nonzero.result < 2 ^ 64 = search rules in
     let all = band_bits codes (drop 1 block) in
     let rest = left_bits codes (drop 1 block) 0 in
     let same : holding c.take-held.new.self c.take-held.result ≡ c.args.out.now = ap (λ w. holding w c.take-held.result) c.take-held.ensures.left ∙ ap (holding c.args.out.now) c.take-held.ensures.held in
@@ -29,7 +29,7 @@ loop-rest-init g c =
       created = c.requires.created;
       part = subst (λ w. DoneButFor Puts s c.args.out.now all rest w s) (sym same) (part_start Puts s c.args.out.now all rest (puts_nothing s c.args.out.now) (left_all codes (drop 1 block)));
       none = ap (λ w. w.bits) c.take-held.ensures.left;
-      marked = ap (λ n. n / 2 ^ 1) (marks_are block c.nonzero-rest.result c.long.ensures small c.nonzero-rest.ensures) ∙ marks_behind block 1;
+      marked = first_blank block c.nonzero.result c.long.ensures (marks_are block c.nonzero.result c.long.ensures small c.nonzero.ensures) small;
       some = omega arith;
       few = omega arith;
     }
@@ -37,16 +37,27 @@ loop-rest-init g c =
 pub get-requires : goal.get-requires
 get-requires g c =
     let rest = c.loop-rest.rest in
+    (next_value c.args.ac.now c.args.block.now c.loop-rest.next (trailing_zeros w64 rest) rest c.long.ensures c.loop-rest.invariant.few c.loop-rest.invariant.marked (omega (arith, c.loop-rest-test.true)) refl).1
+
+pub overflow_sub-k : goal.overflow_sub-k
+overflow_sub-k g c =
+    let rest = c.loop-rest.rest in
     (next_value c.args.ac.now c.args.block.now c.loop-rest.next (trailing_zeros w64 rest) rest c.long.ensures c.loop-rest.invariant.few c.loop-rest.invariant.marked (omega (arith, c.loop-rest-test.true)) refl).0
+
+pub loop-rest-smaller : goal.loop-rest-smaller
+loop-rest-smaller g c =
+    let rest = c.loop-rest.rest in
+    let n = next_value c.args.ac.now c.args.block.now c.loop-rest.next (trailing_zeros w64 rest) rest c.long.ensures c.loop-rest.invariant.few c.loop-rest.invariant.marked (omega (arith, c.loop-rest-test.true)) refl in
+    omega (arith, n.0, n.1)
 
 pub put_run-requires-clause-short : goal.put_run-requires-clause-short
 put_run-requires-clause-short g c =
     let rest = c.loop-rest.rest in
-    let k = c.loop-rest.next + trailing_zeros w64 rest in
+    let k = trailing_zeros w64 rest in
     let n = next_value c.args.ac.now c.args.block.now c.loop-rest.next (trailing_zeros w64 rest) rest c.long.ensures c.loop-rest.invariant.few c.loop-rest.invariant.marked (omega (arith, c.loop-rest-test.true)) refl in
     let f : SFits w16 c.get.result = search rules in
     let e : to_z w16 (of_z w16 c.get.result) ≡ slice_index_or c.args.block.now k (pos 0) = to_z-of_z w16 c.get.result f ∙ c.get.ensures.value in
-    subst (λ v. category v ≤ 15) (sym e) (c.requires.short k (omega (arith, c.loop-rest.invariant.some)) n.0)
+    subst (λ v. category v ≤ 15) (sym e) (c.requires.short k (omega (arith, n.0, c.loop-rest.invariant.some)) n.1)
 
 pub returns-in_err-held : goal.returns-in_err-held
 returns-in_err-held g c =
@@ -54,13 +65,14 @@ returns-in_err-held g c =
     let codes = c.args.ac.now in
     let block = c.args.block.now in
     let rest = c.loop-rest.rest in
-    let z = trailing_zeros w64 rest in
+    let k = trailing_zeros w64 rest in
+    let z = k - c.loop-rest.next in
     let next = c.loop-rest.next in
-    let n = next_value codes block next z rest c.long.ensures c.loop-rest.invariant.few c.loop-rest.invariant.marked (omega (arith, c.loop-rest-test.true)) refl in
+    let n = next_value codes block next k rest c.long.ensures c.loop-rest.invariant.few c.loop-rest.invariant.marked (omega (arith, c.loop-rest-test.true)) refl in
     let v = to_z w16 (of_z w16 c.get.result) in
     let f : SFits w16 c.get.result = search rules in
-    let e : v ≡ slice_index_or block (next + z) (pos 0) = to_z-of_z w16 c.get.result f ∙ c.get.ensures.value in
-    let later = left_bits codes (drop (next + z + 1) block) 0 in
+    let e : v ≡ slice_index_or block k (pos 0) = to_z-of_z w16 c.get.result f ∙ c.get.ensures.value in
+    let later = left_bits codes (drop (k + 1) block) 0 in
     let back = err_from_is_err_and c.from_residual.result c.from_residual.ensures.1 in
     let fault = c.in_err-held.field-0.0 in
     let new = c.put_run.new.out in
@@ -75,13 +87,14 @@ loop-rest-preserved g c =
     let codes = c.args.ac.now in
     let block = c.args.block.now in
     let rest = c.loop-rest.rest in
-    let z = trailing_zeros w64 rest in
+    let k = trailing_zeros w64 rest in
+    let z = k - c.loop-rest.next in
     let next = c.loop-rest.next in
-    let n = next_value codes block next z rest c.long.ensures c.loop-rest.invariant.few c.loop-rest.invariant.marked (omega (arith, c.loop-rest-test.true)) refl in
+    let n = next_value codes block next k rest c.long.ensures c.loop-rest.invariant.few c.loop-rest.invariant.marked (omega (arith, c.loop-rest-test.true)) refl in
     let v = to_z w16 (of_z w16 c.get.result) in
     let f : SFits w16 c.get.result = search rules in
-    let e : v ≡ slice_index_or block (next + z) (pos 0) = to_z-of_z w16 c.get.result f ∙ c.get.ensures.value in
-    let later = left_bits codes (drop (next + z + 1) block) 0 in
+    let e : v ≡ slice_index_or block k (pos 0) = to_z-of_z w16 c.get.result f ∙ c.get.ensures.value in
+    let later = left_bits codes (drop (k + 1) block) 0 in
     record {
       created = c.in_ok-held.ensures.puts.kept.output_created ∙ c.loop-rest.invariant.created;
       part = part_then Puts of_bits (state c.args.desk.now) (state c.loop-rest.desk) (state c.put_run.new.desk) c.args.out.now (holding c.loop-rest.out c.loop-rest.held) (holding c.put_run.new.out c.in_ok-held.held) (band_bits codes (drop 1 block)) (left_bits codes (drop next block) 0)
@@ -89,7 +102,7 @@ loop-rest-preserved g c =
       none = c.in_ok-held.ensures.none;
       marked = n.3;
       some = omega arith;
-      few = omega (arith, n.0);
+      few = omega (arith, n.1);
     }
 
 pub returns-then-next-lt64 : goal.returns-then-next-lt64

@@ -4,6 +4,7 @@ use Rattle.jpg_huff.specs.BitOut.{Puts, holding}
 use Rattle.jpg_huff.proofs.InParts.{DoneButFor}
 use Rattle.jpg_seq.proofs.Bands.{left_bits}
 use Rattle.jpg_base.specs.Marks.{marks}
+use Rattle.jpg_seq.proofs.Marked.{blank}
 use Rattle.jpg_seq.proofs.write.put_band.Given as goal
 
 abbrev pub invariant-loop-rest : goal.invariant-loop-rest
@@ -13,7 +14,7 @@ invariant-loop-rest g l =
       created : (state l.desk).output_created ≡ true;
       part : DoneButFor Puts (state l.fn.desk) l.fn.out (band_bits l.ac (drop 1 l.block)) (left_bits l.ac (drop l.next l.block) 0) (holding l.out l.held) (state l.desk);
       none : l.out.bits ≡ [];
-      marked : l.rest ≡ marks (drop l.next l.block);
+      marked : l.rest ≡ marks (blank l.next l.block);
       some : 1 ≤ l.next;
       few : l.next ≤ 64;
     }

@@ -1,3 +1,4 @@
+use Rattle.jpg_spec.proofs.EarlyRanges.{early_in_range}
 use Rattle.jpg_spec.proofs.Ranges.{leads_in_range, means_in_range}
 use Rattle.jpg_spec.proofs.file_meaning_laws.coefficients_lie_in_their_range.Goals as goal
 
@@ -6,3 +7,6 @@ returns-clause-items c = λ limits items blocks l. leads_in_range limits items b
 
 pub returns-clause-meaning : goal.returns-clause-meaning
 returns-clause-meaning c = λ limits bytes M w. means_in_range limits bytes M w
+
+pub returns-clause-early : goal.returns-clause-early
+returns-clause-early c = early_in_range

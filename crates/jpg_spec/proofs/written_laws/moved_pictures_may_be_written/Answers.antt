@@ -3,7 +3,7 @@ use Rattle.jpg_spec.specs.FileMeaning.{Means}
 use Rattle.jpg_spec.specs.Moved.{moved}
 use Rattle.jpg_spec.specs.Segments.{standard_limits}
 use Rattle.jpg_spec.proofs.MovedText.{moved_means}
-use Rattle.jpg_spec.proofs.ReadPicture.{read_moved}
+use Rattle.jpg_spec.proofs.MeaningLeft.{read_moved}
 use Rattle.jpg_spec.proofs.written_laws.moved_pictures_may_be_written.Goals as goal
 
 pub returns-clause-headed : goal.returns-clause-headed

@@ -1,5 +1,5 @@
 use Rattle.jpg_spec.proofs.MovedText.{own_fault}
-use Rattle.jpg_spec.proofs.ReadPicture.{read_moved}
+use Rattle.jpg_spec.proofs.MeaningLeft.{read_moved}
 use Rattle.jpg_spec.proofs.written_laws.own_scans_of_pictures_have_no_fault.Goals as goal
 
 pub returns : goal.returns

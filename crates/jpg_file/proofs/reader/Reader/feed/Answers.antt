@@ -1,6 +1,7 @@
 use Rattle.std.proofs.Common.{rules, ◌∙◌, sym, ap, subst}
 use Rattle.jpg_file.specs.ReadFile.{HasRead, ReaderState}
-use Rattle.jpg_file.proofs.PieceSteps.{fed_done, fed_more, fed_stop, keeps_done, keeps_more}
+use Rattle.jpg_file.proofs.Leaving.{keeps_done}
+use Rattle.jpg_file.proofs.PieceSteps.{fed_done, fed_more, fed_stop, keeps_more}
 use Rattle.jpg_file.proofs.reader.Reader.feed.Goals as goal
 
 pub invariant_of-self : goal.invariant_of-self

@@ -1,12 +1,15 @@
-use Rattle.std.proofs.Common.{sym, subst}
-use Rattle.jpg_spec.specs.FileStands.{IsWholeFile}
-use Rattle.jpg_file.specs.File.{EndsFile, keeping_of}
-use Rattle.jpg_file.specs.PictureRead.{MeansFor}
+use Rattle.std.proofs.Common.{subst}
+use Rattle.jpg_file.specs.PictureRead.{ShowsFile}
 use Rattle.jpg_file.specs.ReadFile.{ReaderState}
+use Rattle.jpg_file.proofs.Leaving.{takes_whole}
 use Rattle.jpg_file.proofs.reader.Reader.take.Goals as goal
 
-pub returns : goal.returns
-returns c = λ bytes d.
-    subst (λ (r : ReaderState). MeansFor (keeping_of r.file) c.picture_of.result d.meaning) c.self.view_is
-    (c.picture_of.ensures c.self.inside.limits bytes d.meaning (subst (λ (r : ReaderState). EndsFile r.limits bytes r.file) (sym c.self.view_is) d.ended)
-    (subst (λ (r : ReaderState). IsWholeFile r.limits bytes d.meaning) (sym c.self.view_is) d.whole))
+pub returns-clause-meaning : goal.returns-clause-meaning
+returns-clause-meaning c = λ bytes d.
+    let shows = subst (λ (r : ReaderState). ShowsFile r.file c.picture_of.result) c.self.view_is c.picture_of.ensures in
+    takes_whole _ bytes c.picture_of.result shows d
+
+pub returns-clause-early : goal.returns-clause-early
+returns-clause-early c = λ bytes d.
+    let shows = subst (λ (r : ReaderState). ShowsFile r.file c.picture_of.result) c.self.view_is c.picture_of.ensures in
+    shows _ d.segments d.blocks d.left

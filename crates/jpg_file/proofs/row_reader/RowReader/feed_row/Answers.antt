@@ -1,6 +1,6 @@
 use Rattle.std.proofs.Common.{rules, ◌∙◌, ap}
 use Rattle.jpg_file.specs.ReadRows.{RowReaderState}
-use Rattle.jpg_file.proofs.RowsKept.{keeps_given_rows, keeps_more_rows}
+use Rattle.jpg_file.proofs.RowsKept.{keeps_done_rows, keeps_given_rows, keeps_more_rows}
 use Rattle.std.proofs.Common.{subst, sym, Ok, Some, ◌≡◌, true}
 use Rattle.std.specs.Prelude.{Result}
 use Rattle.jpg_base.specs.declared.stop.Stop.{Stop}
@@ -24,6 +24,13 @@ invariant_of-self-in-Ok-Row c =
     let work = c.self.inside.work in
     let r : RowReaderState = record { limits = c.self.inside.limits; file = work.file; rows = work.rows; strip = work.strip; done = c.self.inside.done; stop = c.self.inside.stop } in
     keeps_given_rows r work c.read_rows-answer.new.work c.args.piece.now c.read_rows-answer.result c.in-Ok-Row.field-0-0 (search rules) (ap (λ (r : RowReaderState). r.done) c.self.view_is ∙ c.requires) c.self.invariant c.read_rows-answer.ensures.keeps c.read_rows-answer.ensures.after
+
+pub invariant_of-self-in-Ok-Done : goal.invariant_of-self-in-Ok-Done
+invariant_of-self-in-Ok-Done c =
+    let work = c.self.inside.work in
+    let r : RowReaderState = record { limits = c.self.inside.limits; file = work.file; rows = work.rows; strip = work.strip; done = c.self.inside.done; stop = c.self.inside.stop } in
+    keeps_done_rows r work c.read_rows-answer.new.work c.args.piece.now c.read_rows-answer.result c.in-Ok-Done.field-0-0 (search rules) (ap (λ (r : RowReaderState). r.done) c.self.view_is ∙ c.requires) (search rules) c.self.invariant
+    c.read_rows-answer.ensures.keeps c.read_rows-answer.ensures.after
 
 pub returns-in-Ok-Row-clause-answered : goal.returns-in-Ok-Row-clause-answered
 returns-in-Ok-Row-clause-answered c = λ bytes m s.

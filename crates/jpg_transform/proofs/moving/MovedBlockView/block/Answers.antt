@@ -1,46 +1,14 @@
-use Rattle.std.proofs.Common.{subst, sym, ℕ, List, ℤ, ◌≡◌}
-use Rattle.std.specs.Prelude.{slice_index, All, ◌≤ℤ◌, negsuc}
+use Rattle.std.proofs.Common.{arith}
+use Rattle.std.specs.Prelude.{slice_index}
 use Rattle.jpg_spec.specs.Transforms.{opposite}
-use Rattle.jpg_spec.specs.Geometry.{Frame, IsReal}
-use Rattle.jpg_coefs.specs.Picture.{map_of}
+use Rattle.jpg_transform.proofs.Viewed.{real_at, stays}
 use Rattle.jpg_transform.proofs.moving.MovedBlockView.block.Goals as goal
-
--- at equal places
-real_at : (f : Frame) (i a b x y : ℕ) → x ≡ a → y ≡ b → IsReal f i a b → IsReal f i x y
-real_at f i a b x y e h r = subst (λ (z : ℕ). IsReal f i z y) (sym e) (subst (λ (z : ℕ). IsReal f i a z) (sym h) r)
-
--- a value above the least
-above : (f : List ℤ) (block : List ℤ) → block ≡ f → All (λ v. negsuc 32766 ≤ℤ v) f → All (λ v. negsuc 32766 ≤ℤ v) block
-above f block e h = subst (λ (b : List ℤ). All (λ v. negsuc 32766 ≤ℤ v) b) (sym e) h
 
 pub source-requires : goal.source-requires
 source-requires c =
     let m = c.args.self.now in
     let i = c.args.component in
-    real_at m.picture.now.frame i (opposite (slice_index m.rows i) c.args.y) (opposite (slice_index m.columns i) c.args.x) c.opposite-row.result c.opposite-column.result
-    c.opposite-row.ensures c.opposite-column.ensures ((m.reaches.places i c.args.x c.args.y c.requires).turned c.if-self.true)
-
-pub source-requires-else-self : goal.source-requires-else-self
-source-requires-else-self c =
-    let m = c.args.self.now in
-    let i = c.args.component in
-    real_at m.picture.now.frame i (opposite (slice_index m.columns i) c.args.x) (opposite (slice_index m.rows i) c.args.y) c.opposite-column.result c.opposite-row.result
-    c.opposite-column.ensures c.opposite-row.ensures ((m.reaches.places i c.args.x c.args.y c.requires).plain c.if-self.false)
-
-pub signed_over-requires : goal.signed_over-requires
-signed_over-requires c =
-    let m = c.args.self.now in
-    let i = c.args.component in
-    above (map_of m.picture.now.coefs i c.opposite-row.result c.opposite-column.result) c.source.result c.source.ensures
-    (c.checked.ensures.above i c.opposite-row.result c.opposite-column.result
-    (real_at m.picture.now.frame i (opposite (slice_index m.rows i) c.args.y) (opposite (slice_index m.columns i) c.args.x) c.opposite-row.result c.opposite-column.result
-    c.opposite-row.ensures c.opposite-column.ensures ((m.reaches.places i c.args.x c.args.y c.requires).turned c.if-self.true)))
-
-pub signed-requires : goal.signed-requires
-signed-requires c =
-    let m = c.args.self.now in
-    let i = c.args.component in
-    above (map_of m.picture.now.coefs i c.opposite-column.result c.opposite-row.result) c.source-else-self.result c.source-else-self.ensures
-    (c.checked.ensures.above i c.opposite-column.result c.opposite-row.result
-    (real_at m.picture.now.frame i (opposite (slice_index m.columns i) c.args.x) (opposite (slice_index m.rows i) c.args.y) c.opposite-column.result c.opposite-row.result
-    c.opposite-column.ensures c.opposite-row.ensures ((m.reaches.places i c.args.x c.args.y c.requires).plain c.if-self.false)))
+    let columns = slice_index m.columns i in
+    let rows = slice_index m.rows i in
+    real_at m.picture.now.frame i (opposite columns c.args.x) (opposite rows c.args.y) c.args.x c.args.y (stays columns c.args.x (omega (arith, c.if-x-self.false))) (stays rows c.args.y (omega (arith, c.if-y-self.false)))
+    ((m.reaches.places i c.args.x c.args.y c.requires).plain c.if-self.false)

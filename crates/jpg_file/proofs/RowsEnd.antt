@@ -1,0 +1,40 @@
+-- What a reader of MCU rows answers where its bytes end.
+use Rattle.std.proofs.Common.{◌≡◌, ℕ, Bool, true, false, List, refl, subst, inl, inr, ◌⊎◌, Option, None}
+use Rattle.jpg_spec.specs.FrameHeader.{AreLimits}
+use Rattle.jpg_spec.specs.declared.frame.Limits.{Limits}
+use Rattle.jpg_spec.proofs.Common.{clash}
+use Rattle.jpg_file.specs.Begun.{IsComplete}
+use Rattle.jpg_file.specs.File.{Stands, with_picture}
+use Rattle.jpg_file.specs.ReadFile.{TellsBegun}
+use Rattle.jpg_file.specs.ReadRows.{HasReadAll, IsEarlyByRows, IsEarlyPlainly, IsReadingRows, RowReaderState, whole_reader}
+use Rattle.jpg_file.specs.Strips.{StripStands}
+use Rattle.jpg_file.specs.declared.file.FileWork.{FileWork}
+use Rattle.jpg_file.specs.declared.rows.RowWork.{RowWork}
+use Rattle.jpg_file.proofs.Leaving.{early_leaves, ends_early, tells_begun}
+use Rattle.jpg_file.proofs.RowsEarly.{rows_early}
+use Rattle.jpg_file.proofs.StripPieces.{goes_with}
+
+-- whether each component has begun
+pub all_told : (bytes : List ℕ) (m : ℕ) (r : RowReaderState) (all : Bool) → HasReadAll bytes m r → IsComplete r.file.begun.progress all → TellsBegun r.limits bytes all
+all_told bytes m r all (inl (h, none)) told = tells_begun r.limits bytes r.file all h.read.open told
+all_told bytes m r all (inr h) told = tells_begun r.limits bytes (with_picture r.file ((h.open).stands).whole) all (goes_with r.limits bytes r.file (h.begun).rows h.open) told
+
+pub early_answered : (bytes : List ℕ) (m : ℕ) (r : RowReaderState) (all : Bool) → AreLimits r.limits → HasReadAll bytes m r → IsComplete r.file.begun.progress all → all ≡ true
+    → (let new : RowReaderState = record r { done = true } in (IsEarlyPlainly bytes new × (m ≡ 0)) ⊎ IsEarlyByRows bytes m new)
+early_answered bytes m r all limited (inl (h, none)) told e = inl (record { none = h.none; plain = h.plain; early = ends_early (whole_reader r) bytes all h.read told e }, none)
+early_answered bytes m r all limited (inr h) told e = inr (rows_early bytes m r all limited h told e)
+
+-- what it keeps
+plain_stands : (limits : Limits) (bytes : List ℕ) (o : Option RowWork) (w : FileWork) → o ≡ None → StripStands limits bytes o w → Stands limits bytes w
+plain_stands limits bytes o w none s = (let k = subst (λ (x : Option RowWork). StripStands limits bytes x w) none s in k)
+
+pub keeps_early_rows : (r : RowReaderState) (all : Bool) → r.done ≡ false → r.stop ≡ None → IsReadingRows r → IsComplete r.file.begun.progress all → all ≡ true → IsReadingRows (record r { done = true })
+keeps_early_rows r all undone going k told e =
+    let o = k.open going undone in
+    record {
+      limited = k.limited;
+      keeping = k.keeping;
+      sparing = k.sparing;
+      «open» = λ none undone_now. absurd (clash true refl undone_now);
+      ended = λ done none. early_leaves r.limits o.0 r.file all (plain_stands r.limits o.0 r.rows r.file none (o.1).stands) told e;
+    }
