@@ -1,5 +1,6 @@
 #!/usr/bin/env bash
-# Proves jpgsuite, builds it and installs it: the program, a small command for each tool, manual pages and completions.
+# Proves jpgsuite, builds it and installs it: the program, a small command for each tool, manual pages and completions. Then it
+# rotates a picture with what it installed.
 set -euo pipefail
 unset CDPATH
 
@@ -8,17 +9,19 @@ tools=(jpegtran djpeg cjpeg rdjpgcom wrjpgcom)
 
 usage() {
     cat <<END
-./install.sh [PREFIX]               proves jpgsuite, builds it and installs it into PREFIX (~/.local where none is given)
-./install.sh --uninstall [PREFIX]   takes away what was installed there
+./install.sh [PREFIX]               proves jpgsuite, builds it, installs it into PREFIX (default: ~/.local) and tries it
+./install.sh --uninstall [PREFIX]   removes what was installed there
 ./install.sh --help                 prints this
 
 PREFIX/bin gets jpgsuite, jpegtran, djpeg, cjpeg, rdjpgcom and wrjpgcom, PREFIX/share their manual pages and completions
 for bash and zsh. A file that is there already and isn't of jpgsuite is never replaced: nothing is installed then.
+At the end the installed jpegtran rotates example/colour.jpg, and the status is 1 unless that gives example/turned.jpg.
 
-It needs rt, the command of the Rattle kit ($kits), on PATH.
+It needs rt, the command of the Rattle kit ($kits), on PATH. What rt prints
+goes to crates/jpg_suite/out/install.log.
 
 Environment:
-  DESTDIR            stands in front of each path that is written, for who makes a package
+  DESTDIR            is prepended to each path that is written, for packages
   JPGSUITE_PROGRAM   a program that was built before: it is installed as it is, nothing is proved, and rt isn't needed
 END
 }
@@ -41,7 +44,7 @@ can_be_made() {
     [ -d "$above" ] && [ -w "$above" ]
 }
 
-# The command of a tool: it calls the program beside it, wherever both stand, and through links to it too.
+# The command of a tool: it calls the program in its own folder, wherever that is, and through links to the command too.
 small_command() {
     cat <<END
 #!/bin/sh
@@ -53,7 +56,7 @@ exec "\${here%/*}/jpgsuite" $1 "\$@"
 END
 }
 
-# Puts together, in a folder of its own, what is installed, but for the program.
+# Makes a folder with all that is installed, except the program.
 stage() {
     local tool to=$1
     mkdir -p "$to/bin" "$to/share/man/man1" "$to/share/bash-completion/completions" "$to/share/zsh/site-functions"
@@ -70,20 +73,38 @@ stage() {
     chmod 755 "$to"/bin/*
 }
 
-# Of what rt run says, a line a crate; all of it goes into a log.
-tell_crates() {
-    local line count crate="" since=0
+# Appends to `order` the crates that a crate uses, directly or not, and then the crate itself: rt builds them in this order.
+order=()
+order_of() {
+    local name
+    for name in $(sed -n "s/^$1://p" crates.txt); do
+        # Crates of the kit have no line, and aren't proved here.
+        [[ " ${order[*]} " == *" $name "* ]] || ! grep -q "^$name:" crates.txt || order_of "$name"
+    done
+    order+=("$1")
+}
+
+# Reads what rt run prints, and writes all of it to a log; shows the number and the name of each crate as it begins, and then
+# how many functions were proved. rt says nothing of a crate that is proved already.
+show_crates() {
+    local line name number crate="" since=0
     while IFS= read -r line; do
         printf '%s\n' "$line" >> "$1"
         case $line in
         "rt: chose --jobs "*" for "*)
+            [ -z "$crate" ] || echo
             crate=${line##* for }
             since=$SECONDS
-            printf '  %s:' "$crate"
+            number=0
+            for name in "${order[@]}"; do
+                number=$((number + 1))
+                [ "$name" != "$crate" ] || break
+            done
+            printf '  %s of %s: %s ..' "$number" "${#order[@]}" "$crate"
             ;;
         "logic=proved functions="*)
-            count=${line#logic=proved functions=}
-            [ -z "$crate" ] || printf ' %s functions proved, %s s\n' "${count%% *}" "$((SECONDS - since))"
+            number=${line#logic=proved functions=}
+            [ -z "$crate" ] || printf ' %s functions proved, %s s\n' "${number%% *}" "$((SECONDS - since))"
             crate=""
             ;;
         "rt: waiting for "* | "rt: "*": another copy of the repository "*) printf '  %s\n' "${line#rt: }" ;;
@@ -93,9 +114,9 @@ tell_crates() {
     [ -z "$crate" ] || echo " not proved"
 }
 
-# Proves and builds the program, and runs it once, on the input that is stored beside it.
+# Proves and builds the program, and runs it once, on the input that is stored with it.
 build() {
-    local found log=$work/log
+    local found log=$PWD/crates/jpg_suite/out/install.log
     command -v rt > /dev/null ||
         fail "rt isn't on PATH: it is the command of the Rattle kit ($kits), which proves and builds jpgsuite"
     found=$(rt version 2>&1) || true
@@ -103,11 +124,25 @@ build() {
     "rattle-kit-13b logic dac8208d650f15bf" | "rattle-kit-13f logic dac8208d650f15bf") ;;
     *) fail "rt version says '$found', but jpgsuite is proved with $kits" ;;
     esac
-    echo "proving jpgsuite with $found, crate by crate (what the kit kept of an earlier run, and hasn't changed, isn't proved again)"
-    if ! (cd crates/jpg_suite && rt run -- "${words[@]}" < stdin 2>&1 > "$work/answer") | tell_crates "$log"; then
+    order_of jpg_suite
+    mkdir -p "${log%/*}"
+    : > "$log"
+    echo "proving the ${#order[@]} crates of jpgsuite with $found (what an earlier run proved isn't proved again)"
+    echo "log: $log"
+    if ! (cd crates/jpg_suite && rt run -- "${words[@]}" < stdin 2>&1 > "$work/answer") | show_crates "$log"; then
         grep -v ': proved$' "$log" >&2 || true
-        fail "jpgsuite wasn't built: what rt said stands above"
+        fail "jpgsuite wasn't built: what rt printed is above, and in $log"
     fi
+}
+
+# The main job, done by what was installed.
+try_it() {
+    local call="$root/bin/jpegtran -rotate 90 example/colour.jpg"
+    if ! "$root/bin/jpegtran" -rotate 90 example/colour.jpg > "$work/turned.jpg" ||
+        ! cmp -s "$work/turned.jpg" example/turned.jpg; then
+        fail "what was installed doesn't work: $call doesn't write what example/turned.jpg has"
+    fi
+    echo "tried: $call writes what example/turned.jpg has"
 }
 
 install_all() {
@@ -158,7 +193,7 @@ install_all() {
         done < "$root/$list"
     fi
 
-    # What is installed is noted first, so that it can be taken away however this ends.
+    # The list of what is installed is written first, so that it can be removed however this ends.
     mkdir -p "$work/stage/$(dirname "$list")"
     {
         printf 'file %s\n' "${names[@]}"
@@ -181,12 +216,13 @@ $("$program" --version) is installed in $root:
   share/man/man1: a manual page of each
   share/bash-completion/completions, share/zsh/site-functions: completions (zsh wants the latter on its fpath)
 Where PREFIX/bin comes first on PATH it hides others of these names.
-./install.sh --uninstall takes all of it away.
+./install.sh --uninstall removes all of it.
 END
     case ":$PATH:" in
     *":$prefix/bin:"*) ;;
     *) [ -n "${DESTDIR:-}" ] || echo "$prefix/bin isn't on PATH." ;;
     esac
+    try_it
 }
 
 uninstall() {

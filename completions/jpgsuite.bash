@@ -38,8 +38,8 @@ _jpgsuite_rows=(
     'wrjpgcom -cfile 2 FILE'
 )
 
-# What the value of a switch is: names, FILE, TEXT, or - where it stands alone. A word stands for a switch as in the commands: a
-# beginning of its name that has its shortest form, in either case.
+# What the value of a switch is: names, FILE, TEXT, or - if it takes none. A word means a switch as in the commands: a
+# prefix of its name that has at least its shortest form, in either case.
 _jpgsuite_value() {
     local tool=$1 word=${2,,} row name shortest value
     for row in "${_jpgsuite_rows[@]}"; do
@@ -63,7 +63,7 @@ _jpgsuite() {
         tool=${COMP_WORDS[1]}
         from=2
     fi
-    # Which value is due at the word, if any, and whether a file was named before it.
+    # Which value is expected at the word, if any, and whether a file was named before it.
     for ((at = from; at < COMP_CWORD; at++)); do
         if [[ $value != - ]]; then
             value=-
@@ -74,7 +74,7 @@ _jpgsuite() {
             taken=1
         fi
     done
-    # Where nothing is answered here, bash offers files.
+    # If nothing is offered here, bash offers files.
     if [[ $taken == 1 || $value == TEXT ]]; then
         compopt +o default
     elif [[ $value == - && $word == -* ]]; then

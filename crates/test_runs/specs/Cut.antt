@@ -3,7 +3,7 @@ use Rattle.std.specs.Prelude.{ℕ, min, max}
 use Rattle.jpg_base.specs.Desk.{DeskState}
 use Rattle.jpg_base.specs.Memory.{memory_state}
 use Rattle.jpg_base.specs.declared.memory.MemoryDesk.{MemoryDesk}
-use Rattle.jpg_run_parts.specs.declared.cut_desk.CutDesk.{CutDesk}
+use Rattle.test_runs.specs.declared.cut_desk.CutDesk.{CutDesk}
 
 abbrev pub desk_of : CutDesk → MemoryDesk
 desk_of d = d.desk

@@ -12,7 +12,7 @@ pub struct CutDesk {
 }
 
 impl CutDesk {
-    ghost use Rattle.jpg_run_parts.specs.Cut.{desk_of, next_most};
+    ghost use Rattle.test_runs.specs.Cut.{desk_of, next_most};
 
     /// This desk, of which the first read gives at most so many bytes, but at least one.
     pub fn new(desk: MemoryDesk, most: usize) -> CutDesk
@@ -33,7 +33,7 @@ impl CutDesk {
 impl Desk for CutDesk {
     ghost use Rattle.jpg_base.specs.Desk.{Reads};
     ghost use Rattle.jpg_base.specs.Memory.{read_answer};
-    ghost use Rattle.jpg_run_parts.specs.Cut.{cut_room, cut_state, desk_of, next_most};
+    ghost use Rattle.test_runs.specs.Cut.{cut_room, cut_state, desk_of, next_most};
 
     ghost state = { cut_state };
 

@@ -1,5 +1,0 @@
-//! Runs over progressive files and of djpeg, for the gate alone.
-#![tactic(auto)]
-
-#[cfg(test)]
-mod tests;
