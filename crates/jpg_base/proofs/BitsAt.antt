@@ -1,4 +1,4 @@
--- Bits of numbers, one behind another.
+-- Bits of numbers, one after another.
 use Rattle.std.proofs.Common.{◌≡◌, ℕ, zero, suc, ◌+◌, ◌-◌, ◌*◌, ◌/◌, ◌%◌, ◌^◌, ◌<◌, ◌≤◌, Bool, List, [], ◌∷◌, ◌++◌, length, take, drop, refl, sym, ap, ◌∙◌, arith, add-one, add-zero, add-suc, ◌==◌, min, subst, true, false, get_or}
 use mir.Val.{bool_byte}
 use Rattle.std.specs.Int.Bits.{bit_or}
@@ -10,7 +10,7 @@ use Rattle.jpg_spec.specs.Bits.{bits_of}
 use Rattle.jpg_spec.proofs.Strings.{length-bits_of}
 use Rattle.jpg_spec.proofs.Common.{take_front}
 
--- the front and the rest of a string
+-- a prefix and the rest of a string
 pub bits_of-add : (d t n : ℕ) → bits_of (d + t) n ≡ bits_of d (n / 2 ^ t) ++ bits_of t n
 unfolding bits_of
 bits_of-add d zero n = let z : n / 1 ≡ n = omega arith in rw (add-zero, z, append-nil) refl
@@ -35,7 +35,7 @@ bits_of-mod t n =
     let e : n ≡ n / 2 ^ t * 2 ^ t + n % 2 ^ t = search arith in
     sym (bits_of-low t (n / 2 ^ t) (n % 2 ^ t)) ∙ ap (bits_of t) (sym e)
 
--- numbers side by side
+-- numbers next to one another
 pub bits_of-beside : (c t a b : ℕ) → b < 2 ^ t → bits_of (c + t) (a * 2 ^ t + b) ≡ bits_of c a ++ bits_of t b
 bits_of-beside c t a b h =
     bits_of-add c t (a * 2 ^ t + b) ∙ ap (λ x. bits_of c x ++ bits_of t (a * 2 ^ t + b)) (shr_high a t b h) ∙ ap (λ x. bits_of c a ++ x) (bits_of-low t a b)
@@ -55,14 +55,14 @@ middle count before n word h =
     ∙ take_front n (bits_of n (word / 2 ^ rest)) (bits_of rest word) (length-bits_of n (word / 2 ^ rest))
     ∙ sym (bits_of-mod n (word / 2 ^ rest))
 
--- the bits behind the first ones
+-- the bits after the first ones
 pub behind : (count n word : ℕ) → n ≤ count → bits_of (count - n) word ≡ drop n (bits_of count word)
 behind count n word h =
     let e : count ≡ n + (count - n) = omega arith in
     sym (ap (λ m. drop n (bits_of m word)) e ∙ ap (drop n) (bits_of-add n (count - n) word)
     ∙ drop_front n (bits_of n (word / 2 ^ (count - n))) (bits_of (count - n) word) (length-bits_of n (word / 2 ^ (count - n))))
 
--- the low bits of a number that was cut to more
+-- the low bits of a number that was truncated to more bits
 pub bits_of-cut : (t m n : ℕ) → t ≤ m → bits_of t (n % 2 ^ m) ≡ bits_of t n
 bits_of-cut t m n h =
     let e : n ≡ n / 2 ^ m * 2 ^ m + n % 2 ^ m = search arith in
@@ -115,7 +115,7 @@ one_bit bits i n h e lt =
     let t : (n % 2 == 1) ∷ [] ≡ get_or bits i false ∷ [] = e ∙ ap (take 1) d in
     sym (odd_is n (omega (arith, lt))) ∙ first_is (n % 2 == 1) (get_or bits i false) [] [] t
 
--- 32 bits of a store, or all that it has
+-- 32 bits of a store, or fewer if it has fewer
 pub take_some : (xs : List Bool) (n : ℕ) → n ≡ min (length xs) 32 → take n xs ≡ take 32 xs
 take_some xs n e = (let m : n ≡ min 32 (length xs) = omega (arith, e) in ap (λ k. take k xs) m ∙ take_min 32 xs)
 

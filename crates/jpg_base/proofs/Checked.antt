@@ -1,4 +1,4 @@
--- What a frame header that passed the checks keeps.
+-- What a frame header that passed the checks guarantees.
 use Rattle.std.proofs.Common.{◌≡◌, ℕ, ◌≤◌, Bool, false, not, ◌||◌, ◌==◌, nat_lt, List, [], ◌∷◌, length, arith, All}
 use Rattle.std.proofs.lemmas.Bool.{or_parts, ltb-false, eqb-true, not-false}
 use Rattle.std.proofs.lemmas.Bool.Decides.{nat_tests}
@@ -10,9 +10,9 @@ use Rattle.jpg_spec.specs.declared.frame.Component.{Component}
 use Rattle.jpg_spec.specs.declared.frame.Limits.{Limits}
 use Rattle.jpg_base.specs.Frame.{IsCheckedFrame}
 use Rattle.jpg_base.proofs.Grids.{across_low, across_high, down_low, down_high}
-use Rattle.jpg_spec.proofs.WrittenFront.{all_factors}
+use Rattle.jpg_spec.proofs.FrameFound.{all_factors}
 
--- a test that nothing meets
+-- a test that nothing passes
 none_meet : {X : Type 0} (test : X → Bool) (P : X → Type 0) → ((x : X) → test x ≡ false → P x) → (xs : List X) → any_of test xs ≡ false → All P xs
 none_meet test P one [] e = All-nil P
 none_meet test P one (x ∷ xs) e =

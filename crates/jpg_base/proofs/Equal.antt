@@ -1,4 +1,4 @@
--- Lists that are compared number by number.
+-- Lists that are compared element by element.
 use Rattle.std.proofs.Common.{◌≡◌, ℕ, Bool, ◌&&◌, List, [], ◌∷◌, refl, ap}
 use lib.Dec.{eqb}
 use lib.Pointwise.{pointwise}

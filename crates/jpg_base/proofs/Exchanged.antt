@@ -4,7 +4,7 @@ use Rattle.std.proofs.lemmas.Bool.{ltb-true}
 use Rattle.std.proofs.lemmas.List.{get_or-map, set_at, take_more, drop_more, length-take-le, append_assoc, length-map, take_all, drop_all, append-nil}
 use Rattle.std.proofs.lemmas.List.Elements.{All-get_or}
 use Rattle.std.proofs.lemmas.List.Sums.{AllPass-from_list_all}
-use Rattle.jpg_spec.specs.Moves.{zigzag}
+use Rattle.jpg_spec.specs.Zigzag.{zigzag}
 use Rattle.jpg_spec.specs.Transposed.{exchanged, transposed}
 
 abbrev pub places : List ℕ
@@ -23,7 +23,7 @@ transposed_at xs k lt =
     get_or-map (λ n. get_or xs (exchanged n) 0) zigzag k 0 0 lt
     ∙ sym (ap (λ (n : ℕ). get_or xs n 0) (get_or-map exchanged zigzag k 0 0 lt))
 
--- one place more is done
+-- one more place is done
 pub exchange_step : (xs rest values : List ℕ) (k v : ℕ) → length rest ≡ 64 → k < 64 → values ≡ take k (transposed 0 xs) ++ drop k rest → v ≡ get_or xs (get_or places k 0) 0
     → set values k v ≡ take (k + 1) (transposed 0 xs) ++ drop (k + 1) rest
 exchange_step xs rest values k v h lt e is =

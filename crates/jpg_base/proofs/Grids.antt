@@ -1,4 +1,4 @@
--- What the checks of a frame header say of its components and grids.
+-- What the checks of a frame header guarantee of its components and grids.
 use Rattle.std.proofs.Common.{ℕ, ◌*◌, ◌≤◌, List, [], ◌∷◌, length, arith, All}
 use Rattle.std.proofs.lemmas.Nat.{mul-le}
 use Rattle.std.proofs.lemmas.List.Elements.{All-head, All-tail, All-weaker}

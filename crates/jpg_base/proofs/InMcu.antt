@@ -9,7 +9,7 @@ use Rattle.jpg_spec.specs.declared.frame.ScanPart.{ScanPart}
 use Rattle.jpg_spec.specs.declared.frame.Place.{Place}
 use Rattle.jpg_base.specs.declared.cursor.CursorPart.{CursorPart}
 use Rattle.jpg_base.specs.Cursor.{cursor_part_of, spot_of}
-use Rattle.jpg_base.proofs.UnitCounts.{mcu_from, in_part, behind_part}
+use Rattle.jpg_base.proofs.UnitCounts.{mcu_from, in_part, after_part}
 
 ids_from : (parts : List ScanPart) (n : ℕ) (p : ScanPart) → n < length parts → map (λ (q : ScanPart). q.component) (drop n parts) ≡ (get_or parts n p).component ∷ map (λ (q : ScanPart). q.component) (drop (n + 1) parts)
 ids_from parts n p h = ap (map (λ (q : ScanPart). q.component)) (drop_more parts n p h)
@@ -26,7 +26,7 @@ pub next_part : (f : Frame) (mx my : ℕ) (parts : List ScanPart) (n k : ℕ) (p
     → get_or (mcu_from f mx my (map (λ (q : ScanPart). q.component) (drop n parts))) k d
     ≡ get_or (mcu_from f mx my (map (λ (q : ScanPart). q.component) (drop (n + 1) parts))) (k - (component_at f (get_or parts n p).component).h * (component_at f (get_or parts n p).component).v) d
 next_part f mx my parts n k p d h le =
-    ap (λ (ids : List ℕ). get_or (mcu_from f mx my ids) k d) (ids_from parts n p h) ∙ behind_part f mx my (get_or parts n p).component k (map (λ (q : ScanPart). q.component) (drop (n + 1) parts)) d le
+    ap (λ (ids : List ℕ). get_or (mcu_from f mx my ids) k d) (ids_from parts n p h) ∙ after_part f mx my (get_or parts n p).component k (map (λ (q : ScanPart). q.component) (drop (n + 1) parts)) d le
 
 pub fewer_left : (f : Frame) (parts : List ScanPart) (n k : ℕ) (p : ScanPart) → n < length parts → k < factor_sum f (map (λ (q : ScanPart). q.component) (drop n parts))
     → (component_at f (get_or parts n p).component).h * (component_at f (get_or parts n p).component).v ≤ k

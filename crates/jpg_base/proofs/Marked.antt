@@ -26,14 +26,14 @@ half : (b : Bool) (n : ℕ) → (cond b 1 0 + 2 * n) / 2 ≡ n
 half true n = omega arith
 half false n = omega arith
 
--- those behind the first ones
-pub marks_behind : (values : List ℤ) (n : ℕ) → marks values / 2 ^ n ≡ marks (drop n values)
-marks_behind values zero = omega arith
-marks_behind [] (suc n) = omega arith
-marks_behind (v ∷ values) (suc n) =
+-- those after the first ones
+pub marks_after : (values : List ℤ) (n : ℕ) → marks values / 2 ^ n ≡ marks (drop n values)
+marks_after values zero = omega arith
+marks_after [] (suc n) = omega arith
+marks_after (v ∷ values) (suc n) =
     let more : suc n ≡ 1 + n = omega arith in
-    ap (λ m. marks (v ∷ values) / 2 ^ m) more ∙ sym (shr-shr (marks (v ∷ values)) 1 n) ∙ ap (λ m. m / 2 ^ n) (half (is_some v) (marks values)) ∙ marks_behind values n
+    ap (λ m. marks (v ∷ values) / 2 ^ m) more ∙ sym (shr-shr (marks (v ∷ values)) 1 n) ∙ ap (λ m. m / 2 ^ n) (half (is_some v) (marks values)) ∙ marks_after values n
 
--- how many zeros stand in front
+-- the number of zeros before it
 abbrev pub zeros_first : List ℤ → ℕ
 zeros_first values = prefix_len (λ v. not (is_some v)) values

@@ -1,4 +1,4 @@
--- The bits that tell which numbers of a block aren't 0.
+-- The bits that mark which numbers of a block aren't 0.
 use Rattle.std.proofs.Common.{◌≡◌, ℕ, zero, suc, ◌<◌, ◌-◌, ◌%◌, ◌^◌, ◌==◌, Bool, true, false, cond, not, List, length, get_or, map, refl, ap, ◌∙◌, arith, ℤ, pos, negsuc, ◌≤ℤ◌, of_z}
 use Rattle.std.specs.Prelude.{replicate, if◌then◌else◌}
 use Rattle.std.specs.Int.{bit_at}

@@ -1,4 +1,4 @@
--- Pieces of lists that a desk in memory moves.
+-- Pieces of lists that a desk in memory copies.
 use Rattle.std.proofs.Common.{◌≡◌, ℕ, ◌+◌, ◌-◌, ◌<◌, ◌≤◌, List, [], ◌∷◌, ◌++◌, length, map, take, drop, get_or, set, min, refl, sym, add-one, ap, ◌∙◌, arith, Vec}
 use Rattle.std.specs.declared.alloc.Global.{Global}
 use Rattle.std.proofs.lemmas.List.{take-append-drop, take_at, drop-drop, length-take-le, map-append, take_all, set_at, take_more}
@@ -10,7 +10,7 @@ use Rattle.jpg_base.specs.Desk.{AfterAppend, AfterAppendLast, append_last, appen
 use Rattle.jpg_base.specs.Input.{given}
 use Rattle.jpg_base.specs.Memory.{named}
 
--- the bytes that were copied to the front of a buffer, and those that are left after them
+-- the bytes that were copied to the beginning of a buffer, and those that are left after them
 pub given_front : (bytes copied buf : List ℕ) (at most : ℕ) → copied ≡ take most (drop at bytes) → most ≤ length (drop at bytes) → drop at bytes ≡ take most (copied ++ drop most buf) ++ drop (at + most) bytes
 given_front bytes copied buf at most e le =
     let len : length copied ≡ most = ap length e ∙ length-take-le most (drop at bytes) le in
@@ -27,7 +27,7 @@ pub given_end : (most : ℕ) (rest : List ℕ) → length rest ≡ 0 → given m
 given_end most [] h = refl
 given_end most (byte ∷ rest) h = absurd (omega (arith, h))
 
--- a list that is not empty is its front and its last element
+-- a list that is not empty is a prefix and its last element
 front_and_last : {A : Type 0} (xs : List A) (d : A) → 0 < length xs → xs ≡ take (length xs - 1) xs ++ get_or xs (length xs - 1) d ∷ []
 front_and_last xs d h =
     sym (take_all (length xs - 1 + 1) xs (omega arith)) ∙ take_more xs (length xs - 1) d (omega arith)

@@ -9,7 +9,7 @@ use Rattle.std.proofs.lemmas.List.Elements.{All-get_or}
 use Rattle.jpg_spec.specs.Lists.{below}
 use Rattle.jpg_spec.specs.declared.frame.Place.{Place}
 use Rattle.jpg_base.specs.declared.cursor.CursorPart.{CursorPart}
-use Rattle.jpg_base.specs.Cursor.{IsAt, HasPartFactors, no_part, spot_of, row_left, part_row, below_row, part_spots, behind_part, mcu_spots, behind_mcu, line_spots, behind_line, all_spots, spots_from, spots_left}
+use Rattle.jpg_base.specs.Cursor.{IsAt, HasPartFactors, no_part, spot_of, row_left, part_row, below_row, part_spots, after_part, mcu_spots, after_mcu, line_spots, after_line, all_spots, spots_from, spots_left}
 use Rattle.jpg_spec.proofs.Rows.{at_below}
 use Rattle.jpg_spec.proofs.Common.{length_below}
 
@@ -34,26 +34,26 @@ part_first : (p : CursorPart) (column row : ℕ) → 1 ≤ p.v → part_spots p 
 part_first p column row h = level (part_row p column row) p.v 0 h
 
 mcu_first : (parts : List CursorPart) (row column k : ℕ) → k < length parts → 1 ≤ (get_or parts k no_part).v
-    → flat_map (λ p. part_spots p column row) (drop k parts) ≡ row_left (get_or parts k no_part) column row 0 0 ++ (below_row (get_or parts k no_part) column row 0 ++ behind_part parts column row k)
+    → flat_map (λ p. part_spots p column row) (drop k parts) ≡ row_left (get_or parts k no_part) column row 0 0 ++ (below_row (get_or parts k no_part) column row 0 ++ after_part parts column row k)
 mcu_first parts row column k h v =
     let p = get_or parts k no_part in
-    parts_level (λ q. part_spots q column row) parts k h ∙ ap (λ x. x ++ behind_part parts column row k) (part_first p column row v) ∙ append_assoc (row_left p column row 0 0) (below_row p column row 0) (behind_part parts column row k)
+    parts_level (λ q. part_spots q column row) parts k h ∙ ap (λ x. x ++ after_part parts column row k) (part_first p column row v) ∙ append_assoc (row_left p column row 0 0) (below_row p column row 0) (after_part parts column row k)
 
 line_first : (parts : List CursorPart) (wide row column : ℕ) → 1 ≤ length parts → 1 ≤ (get_or parts 0 no_part).v → column < wide
-    → flat_map (mcu_spots parts row) (drop column (below wide)) ≡ row_left (get_or parts 0 no_part) column row 0 0 ++ (below_row (get_or parts 0 no_part) column row 0 ++ (behind_part parts column row 0 ++ behind_mcu parts wide column row))
+    → flat_map (mcu_spots parts row) (drop column (below wide)) ≡ row_left (get_or parts 0 no_part) column row 0 0 ++ (below_row (get_or parts 0 no_part) column row 0 ++ (after_part parts column row 0 ++ after_mcu parts wide column row))
 line_first parts wide row column some v h =
     let p = get_or parts 0 no_part in
-    let r = row_left p column row 0 0 in let b = below_row p column row 0 in let q = behind_part parts column row 0 in let m = behind_mcu parts wide column row in
+    let r = row_left p column row 0 0 in let b = below_row p column row 0 in let q = after_part parts column row 0 in let m = after_mcu parts wide column row in
     level (mcu_spots parts row) wide column h ∙ ap (λ x. x ++ m) (mcu_first parts row column 0 some v) ∙ append_assoc r (b ++ q) m ∙ ap (λ x. r ++ x) (append_assoc b q m)
 
 pub all_first : (parts : List CursorPart) (wide high row : ℕ) → 1 ≤ length parts → 1 ≤ (get_or parts 0 no_part).v → 1 ≤ wide → row < high
     → flat_map (line_spots parts wide) (drop row (below high)) ≡ spots_from parts wide high row 0 0 0 0
 all_first parts wide high row some v w h =
     let p = get_or parts 0 no_part in
-    let r = row_left p 0 row 0 0 in let b = below_row p 0 row 0 in let q = behind_part parts 0 row 0 in let m = behind_mcu parts wide 0 row in let l = behind_line parts wide high row in
+    let r = row_left p 0 row 0 0 in let b = below_row p 0 row 0 in let q = after_part parts 0 row 0 in let m = after_mcu parts wide 0 row in let l = after_line parts wide high row in
     level (line_spots parts wide) high row h ∙ ap (λ x. x ++ l) (line_first parts wide row 0 some v w) ∙ append_assoc r (b ++ (q ++ m)) l ∙ ap (λ x. r ++ x) (append_assoc b (q ++ m) l ∙ ap (λ x. b ++ x) (append_assoc q m l))
 
--- the first place, and what is left behind it
+-- the first place, and what is left after it
 row_more : (p : CursorPart) (column row down across : ℕ) → across < p.h → row_left p column row down across ≡ spot_of p (column * p.h + across) (row * p.v + down) ∷ row_left p column row down (across + 1)
 row_more p column row down across h = ap (map (λ k. spot_of p (column * p.h + k) (row * p.v + down))) (next_below p.h across h)
 
@@ -63,7 +63,7 @@ row_end p column row down across h = ap (map (λ k. spot_of p (column * p.h + k)
 pub behind_first : List CursorPart → ℕ → ℕ → ℕ → ℕ → ℕ → ℕ → ℕ → List Place
 behind_first parts wide high row column part down across =
     let p = get_or parts part no_part in
-    row_left p column row down (across + 1) ++ (below_row p column row down ++ (behind_part parts column row part ++ (behind_mcu parts wide column row ++ behind_line parts wide high row)))
+    row_left p column row down (across + 1) ++ (below_row p column row down ++ (after_part parts column row part ++ (after_mcu parts wide column row ++ after_line parts wide high row)))
 
 pub here : (parts : List CursorPart) (wide high row column part down across : ℕ) → IsAt parts wide high row column part down across → row < high
     → spots_left parts wide high row column part down across
@@ -72,7 +72,7 @@ unfolding spots_left behind_first
 here parts wide high row column part down across at lt =
     let p = get_or parts part no_part in
     let t : nat_lt row high ≡ true = grind (arith, nat_tests) in
-    let rest = below_row p column row down ++ (behind_part parts column row part ++ (behind_mcu parts wide column row ++ behind_line parts wide high row)) in
+    let rest = below_row p column row down ++ (after_part parts column row part ++ (after_mcu parts wide column row ++ after_line parts wide high row)) in
     ap (λ b. if b then spots_from parts wide high row column part down across else []) t ∙ ap (λ x. x ++ rest) (row_more p column row down across at.at_across)
 
 none_here : (parts : List CursorPart) (wide high row column part down across : ℕ) → high ≤ row → spots_left parts wide high row column part down across ≡ []
@@ -102,9 +102,9 @@ begins parts wide high some factors w h =
 drop_first : (xs : List Place) (x : Place) (ys : List Place) → xs ≡ x ∷ ys → ys ≡ drop 1 xs
 drop_first xs x ys e = sym (ap (drop 1) e)
 
-behind_is : (parts : List CursorPart) (wide high row column part down across : ℕ) (left : List Place) → IsAt parts wide high row column part down across → row < high
+after_is : (parts : List CursorPart) (wide high row column part down across : ℕ) (left : List Place) → IsAt parts wide high row column part down across → row < high
     → left ≡ behind_first parts wide high row column part down across → left ≡ drop 1 (spots_left parts wide high row column part down across)
-behind_is parts wide high row column part down across left at lt e =
+after_is parts wide high row column part down across left at lt e =
     let p = get_or parts part no_part in
     e ∙ drop_first (spots_left parts wide high row column part down across) (spot_of p (column * p.h + across) (row * p.v + down)) (behind_first parts wide high row column part down across) (here parts wide high row column part down across at lt)
 
@@ -112,32 +112,32 @@ pub to_the_right : (parts : List CursorPart) (wide high row column part down acr
     → spots_left parts wide high row column part down (across + 1) ≡ drop 1 (spots_left parts wide high row column part down across)
 unfolding behind_first
 to_the_right parts wide high row column part down across at lt =
-    behind_is parts wide high row column part down across _ at lt (some_here parts wide high row column part down (across + 1) lt)
+    after_is parts wide high row column part down across _ at lt (some_here parts wide high row column part down (across + 1) lt)
 
 -- where the row of the part ends
 row_ends : (parts : List CursorPart) (wide high row column part down across : ℕ) → (get_or parts part no_part).h ≤ across + 1
-    → below_row (get_or parts part no_part) column row down ++ (behind_part parts column row part ++ (behind_mcu parts wide column row ++ behind_line parts wide high row)) ≡ behind_first parts wide high row column part down across
+    → below_row (get_or parts part no_part) column row down ++ (after_part parts column row part ++ (after_mcu parts wide column row ++ after_line parts wide high row)) ≡ behind_first parts wide high row column part down across
 unfolding behind_first
 row_ends parts wide high row column part down across e =
     let p = get_or parts part no_part in
-    sym (ap (λ x. x ++ (below_row p column row down ++ (behind_part parts column row part ++ (behind_mcu parts wide column row ++ behind_line parts wide high row)))) (row_end p column row down (across + 1) e))
+    sym (ap (λ x. x ++ (below_row p column row down ++ (after_part parts column row part ++ (after_mcu parts wide column row ++ after_line parts wide high row)))) (row_end p column row down (across + 1) e))
 
 pub down_a_row : (parts : List CursorPart) (wide high row column part down across : ℕ) → IsAt parts wide high row column part down across → row < high
     → (get_or parts part no_part).h ≤ across + 1 → down + 1 < (get_or parts part no_part).v
     → spots_left parts wide high row column part (down + 1) 0 ≡ drop 1 (spots_left parts wide high row column part down across)
 down_a_row parts wide high row column part down across at lt e1 h =
     let p = get_or parts part no_part in
-    let rest = behind_part parts column row part ++ (behind_mcu parts wide column row ++ behind_line parts wide high row) in
-    behind_is parts wide high row column part down across _ at lt
+    let rest = after_part parts column row part ++ (after_mcu parts wide column row ++ after_line parts wide high row) in
+    after_is parts wide high row column part down across _ at lt
     (some_here parts wide high row column part (down + 1) 0 lt
     ∙ sym (ap (λ x. x ++ rest) (level (part_row p column row) p.v (down + 1) h) ∙ append_assoc (row_left p column row (down + 1) 0) (below_row p column row (down + 1)) rest)
     ∙ row_ends parts wide high row column part down across e1)
 
 part_ends : (parts : List CursorPart) (wide high row column part down across : ℕ) → (get_or parts part no_part).h ≤ across + 1 → (get_or parts part no_part).v ≤ down + 1
-    → behind_part parts column row part ++ (behind_mcu parts wide column row ++ behind_line parts wide high row) ≡ behind_first parts wide high row column part down across
+    → after_part parts column row part ++ (after_mcu parts wide column row ++ after_line parts wide high row) ≡ behind_first parts wide high row column part down across
 part_ends parts wide high row column part down across e1 e2 =
     let p = get_or parts part no_part in
-    sym (ap (λ x. x ++ (behind_part parts column row part ++ (behind_mcu parts wide column row ++ behind_line parts wide high row))) (level_end (part_row p column row) p.v (down + 1) e2))
+    sym (ap (λ x. x ++ (after_part parts column row part ++ (after_mcu parts wide column row ++ after_line parts wide high row))) (level_end (part_row p column row) p.v (down + 1) e2))
     ∙ row_ends parts wide high row column part down across e1
 
 pub to_a_part : (parts : List CursorPart) (wide high row column part down across : ℕ) → IsAt parts wide high row column part down across → row < high
@@ -145,18 +145,18 @@ pub to_a_part : (parts : List CursorPart) (wide high row column part down across
     → spots_left parts wide high row column (part + 1) 0 0 ≡ drop 1 (spots_left parts wide high row column part down across)
 to_a_part parts wide high row column part down across at lt e1 e2 h =
     let q = get_or parts (part + 1) no_part in
-    let rest = behind_mcu parts wide column row ++ behind_line parts wide high row in
+    let rest = after_mcu parts wide column row ++ after_line parts wide high row in
     let v = (All-get_or HasPartFactors parts (part + 1) no_part h at.factors).v_low in
-    let r = row_left q column row 0 0 in let b = below_row q column row 0 in let k = behind_part parts column row (part + 1) in
-    behind_is parts wide high row column part down across _ at lt
+    let r = row_left q column row 0 0 in let b = below_row q column row 0 in let k = after_part parts column row (part + 1) in
+    after_is parts wide high row column part down across _ at lt
     (some_here parts wide high row column (part + 1) 0 0 lt
     ∙ sym (ap (λ x. x ++ rest) (mcu_first parts row column (part + 1) h v) ∙ append_assoc r (b ++ k) rest ∙ ap (λ x. r ++ x) (append_assoc b k rest))
     ∙ part_ends parts wide high row column part down across e1 e2)
 
 mcu_ends : (parts : List CursorPart) (wide high row column part down across : ℕ) → (get_or parts part no_part).h ≤ across + 1 → (get_or parts part no_part).v ≤ down + 1 → length parts ≤ part + 1
-    → behind_mcu parts wide column row ++ behind_line parts wide high row ≡ behind_first parts wide high row column part down across
+    → after_mcu parts wide column row ++ after_line parts wide high row ≡ behind_first parts wide high row column part down across
 mcu_ends parts wide high row column part down across e1 e2 e3 =
-    sym (ap (λ x. x ++ (behind_mcu parts wide column row ++ behind_line parts wide high row)) (ap (flat_map (λ p. part_spots p column row)) (drop_all (part + 1) parts e3)))
+    sym (ap (λ x. x ++ (after_mcu parts wide column row ++ after_line parts wide high row)) (ap (flat_map (λ p. part_spots p column row)) (drop_all (part + 1) parts e3)))
     ∙ part_ends parts wide high row column part down across e1 e2
 
 pub to_a_column : (parts : List CursorPart) (wide high row column part down across : ℕ) → IsAt parts wide high row column part down across → row < high
@@ -166,16 +166,16 @@ to_a_column parts wide high row column part down across at lt e1 e2 e3 h =
     let some : 1 ≤ length parts = omega (arith, at.at_part) in
     let v = (All-get_or HasPartFactors parts 0 no_part some at.factors).v_low in
     let p = get_or parts 0 no_part in
-    let r = row_left p (column + 1) row 0 0 in let b = below_row p (column + 1) row 0 in let q = behind_part parts (column + 1) row 0 in let m = behind_mcu parts wide (column + 1) row in let l = behind_line parts wide high row in
-    behind_is parts wide high row column part down across _ at lt
+    let r = row_left p (column + 1) row 0 0 in let b = below_row p (column + 1) row 0 in let q = after_part parts (column + 1) row 0 in let m = after_mcu parts wide (column + 1) row in let l = after_line parts wide high row in
+    after_is parts wide high row column part down across _ at lt
     (some_here parts wide high row (column + 1) 0 0 0 lt
     ∙ sym (ap (λ x. x ++ l) (line_first parts wide row (column + 1) some v h) ∙ append_assoc r (b ++ (q ++ m)) l ∙ ap (λ x. r ++ x) (append_assoc b (q ++ m) l ∙ ap (λ x. b ++ x) (append_assoc q m l)))
     ∙ mcu_ends parts wide high row column part down across e1 e2 e3)
 
 line_ends : (parts : List CursorPart) (wide high row column part down across : ℕ) → (get_or parts part no_part).h ≤ across + 1 → (get_or parts part no_part).v ≤ down + 1 → length parts ≤ part + 1 → wide ≤ column + 1
-    → behind_line parts wide high row ≡ behind_first parts wide high row column part down across
+    → after_line parts wide high row ≡ behind_first parts wide high row column part down across
 line_ends parts wide high row column part down across e1 e2 e3 e4 =
-    sym (ap (λ x. x ++ behind_line parts wide high row) (level_end (mcu_spots parts row) wide (column + 1) e4))
+    sym (ap (λ x. x ++ after_line parts wide high row) (level_end (mcu_spots parts row) wide (column + 1) e4))
     ∙ mcu_ends parts wide high row column part down across e1 e2 e3
 
 pub to_a_line : (parts : List CursorPart) (wide high row column part down across : ℕ) → IsAt parts wide high row column part down across → row < high
@@ -186,9 +186,9 @@ to_a_line parts wide high row column part down across at lt e1 e2 e3 e4 =
     let v = (All-get_or HasPartFactors parts 0 no_part some at.factors).v_low in
     let end = line_ends parts wide high row column part down across e1 e2 e3 e4 in
     ⊎_elim
-    (λ (h : row + 1 < high). behind_is parts wide high row column part down across _ at lt
+    (λ (h : row + 1 < high). after_is parts wide high row column part down across _ at lt
     (some_here parts wide high (row + 1) 0 0 0 0 h ∙ sym (all_first parts wide high (row + 1) some v (omega (arith, at.at_column)) h) ∙ end))
-    (λ (h : high ≤ row + 1). behind_is parts wide high row column part down across _ at lt
+    (λ (h : high ≤ row + 1). after_is parts wide high row column part down across _ at lt
     (none_here parts wide high (row + 1) 0 0 0 0 h ∙ sym (level_end (line_spots parts wide) high (row + 1) h) ∙ end))
     (cases_lt (row + 1) high)
 

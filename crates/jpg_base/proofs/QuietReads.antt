@@ -1,4 +1,4 @@
--- What a read of a quiet desk does to what it tells.
+-- What a read of a quiet desk does to the state of the desk.
 use Rattle.std.proofs.Common.{◌≡◌, ℕ, List, Bool, true, refl, sym, ap, arith, subst, Some}
 use Rattle.std.specs.Prelude.{◌≤◌}
 use Rattle.jpg_base.specs.declared.names.Got.{Got}
@@ -38,7 +38,7 @@ reads old new created answer buf e g = record {
   output_created = refl;
 }
 
--- whether an input is open is told by the condition of the call
+-- whether an input is open follows from the condition of the call
 pub reads_open : (old new : Input) (is_open created : Bool) (answer : Got) (buf : List ℕ) → is_open ≡ true → new.bytes ≡ old.bytes → Gives (input_rest old) answer buf (input_rest new)
     → Reads (quiet_state (record { input = old; is_open = is_open; is_created = created })) answer buf (quiet_state (record { input = new; is_open = is_open; is_created = created }))
 reads_open old new is_open created answer buf o e g =

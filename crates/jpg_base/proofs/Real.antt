@@ -1,4 +1,4 @@
--- A component has one real block at least.
+-- A component has at least one real block.
 use Rattle.std.proofs.Common.{ℕ, ◌+◌, ◌-◌, ◌*◌, ◌<◌, ◌≤◌, arith}
 use Rattle.std.proofs.lemmas.Nat.{le-div, mul-le}
 use Rattle.jpg_spec.specs.Geometry.{div_up}

@@ -18,7 +18,7 @@ fewer_blocks wide less more le cs =
     (λ (c : Component). mul-le (wide * c.h) (less * c.v) (wide * c.h) (more * c.v) (omega arith) (mul-le less c.v more c.v le (omega arith)))
     cs 0 0 (omega arith)
 
--- lines of one MCU at most make at most one row of MCUs, and every frame has one
+-- lines of at most one MCU make at most one row of MCUs, and every frame has one
 one_row : (lines height d : ℕ) → 1 ≤ d → lines ≤ d → 1 ≤ height → div_up lines d ≤ div_up height d
 one_row lines height d some few tall =
     let most : div_up lines d < 2 = (div-lt_iff_lt-mul some).1 (omega (arith, few, some)) in

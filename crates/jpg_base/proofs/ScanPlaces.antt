@@ -73,7 +73,7 @@ div_up_most n d = div-le_self (n + d - 1) d
 pub few_blocks : (side factor most : ℕ) → side ≤ 65500 → factor ≤ 4 → most ≤ 4 → div_up (div_up (side * factor) most) 8 ≤ 2 ^ 20
 few_blocks side factor most s f m = omega (arith, div_up_most (side * factor) most, div_up_most (div_up (side * factor) most) 8, mul-le side factor 65500 4 s f)
 
--- WHERE THEY LIE
+-- WHERE THEY ARE
 
 all_rows : (P : Place → Type 0) (f : ℕ → List Place) (n : ℕ) → ((k : ℕ) → k < n → All P (f k)) → All P (flat_map f (below n))
 all_rows P f zero each = All-nil P

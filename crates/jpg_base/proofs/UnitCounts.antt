@@ -1,4 +1,4 @@
--- How many units a scan has, and which is the one of a number.
+-- The number of units of a scan, and which unit has a given number.
 use Rattle.std.proofs.Common.{◌≡◌, ℕ, zero, suc, ◌+◌, ◌-◌, ◌*◌, ◌/◌, ◌%◌, ◌<◌, ◌≤◌, List, [], ◌∷◌, ◌++◌, length, get_or, refl, sym, ap, ◌∙◌, subst, arith, ⊎_elim}
 use Rattle.std.specs.Prelude.{map, flat_map, sum_by}
 use Rattle.std.proofs.lemmas.List.{append-nil, length-append, length-map, get_or-append-add, get_or_append_left, get_or-map}
@@ -94,9 +94,9 @@ pub in_part : (f : Frame) (mx my i k : ℕ) (ids : List ℕ) (d : Place) → 1 �
 in_part f mx my i k ids d some lt =
     get_or_append_left (mcu_part f mx my i) (mcu_from f mx my ids) d k (omega (arith, lt, length_part f mx my i)) ∙ part_place f mx my i k d some lt
 
-pub behind_part : (f : Frame) (mx my i k : ℕ) (ids : List ℕ) (d : Place) → (component_at f i).h * (component_at f i).v ≤ k
+pub after_part : (f : Frame) (mx my i k : ℕ) (ids : List ℕ) (d : Place) → (component_at f i).h * (component_at f i).v ≤ k
     → get_or (mcu_from f mx my (i ∷ ids)) k d ≡ get_or (mcu_from f mx my ids) (k - (component_at f i).h * (component_at f i).v) d
-behind_part f mx my i k ids d le =
+after_part f mx my i k ids d le =
     let n = (component_at f i).h * (component_at f i).v in
     let e : k ≡ length (mcu_part f mx my i) + (k - n) = omega (arith, le, length_part f mx my i) in
     ap (λ (q : ℕ). get_or (mcu_from f mx my (i ∷ ids)) q d) e ∙ get_or-append-add (mcu_part f mx my i) (mcu_from f mx my ids) (k - n) d

@@ -10,7 +10,7 @@ appends_then (Some a) None c xs ys h k = absurd h
 appends_then (Some a) (Some b) None xs ys h k = absurd k
 appends_then (Some a) (Some b) (Some c) xs ys h k = k ∙ ap (λ r. r ++ ys) h ∙ append_assoc a xs ys
 
--- so many more bytes of what is left
+-- `count` more bytes of what is left
 pub written_step : (a b c : Option (List ℕ)) (piece rest left : List ℕ) (count : ℕ) → count ≤ length rest → left ≡ drop count rest → (rest ≡ drop (length piece - length rest) piece) × Appends a b (take (length piece - length rest) piece) → Appends b c (take count rest)
     → (left ≡ drop (length piece - length left) piece) × Appends a c (take (length piece - length left) piece)
 written_step a b c piece rest left count le e h k =

@@ -1,4 +1,4 @@
--- The places of a scan from one of them on (T.81, A.2).
+-- The remaining places of a scan, from one of them on (T.81, A.2).
 use Rattle.std.specs.Prelude.{◌≡◌, ℕ, ◌+◌, ◌*◌, ◌^◌, ◌<◌, ◌≤◌, nat_lt, ◌&&◌, if◌then◌else◌, List, [], ◌∷◌, ◌++◌, length, map, flat_map, drop, slice_index_or, All}
 use Rattle.jpg_spec.specs.Lists.{below}
 use Rattle.jpg_spec.specs.Geometry.{Frame, component_at, blocks_across, blocks_down, mcus_down}
@@ -23,7 +23,7 @@ pub record IsPadded (f : Frame) (i x y : ℕ) : Type 0 where
   pub across : x < padded_across f (component_at f i)
   pub down : y < padded_down f (component_at f i)
 
--- a component that is alone in a scan, and one among others
+-- the only component of a scan, and one of several
 abbrev pub lone_part : Frame → ℕ → CursorPart
 lone_part f i = record { component = i; h = 1; v = 1; wide = blocks_across f (component_at f i); high = blocks_down f (component_at f i) }
 
@@ -60,22 +60,22 @@ below_row p column row down = flat_map (part_row p column row) (drop (down + 1) 
 abbrev pub part_spots : CursorPart → ℕ → ℕ → List Place
 part_spots p column row = flat_map (part_row p column row) (below p.v)
 
--- the other components of the MCU
-abbrev pub behind_part : List CursorPart → ℕ → ℕ → ℕ → List Place
-behind_part parts column row part = flat_map (λ p. part_spots p column row) (drop (part + 1) parts)
+-- the remaining components of the MCU
+abbrev pub after_part : List CursorPart → ℕ → ℕ → ℕ → List Place
+after_part parts column row part = flat_map (λ p. part_spots p column row) (drop (part + 1) parts)
 
 abbrev pub mcu_spots : List CursorPart → ℕ → ℕ → List Place
 mcu_spots parts row column = flat_map (λ p. part_spots p column row) parts
 
--- the other MCUs of the row, and the rows below
-abbrev pub behind_mcu : List CursorPart → ℕ → ℕ → ℕ → List Place
-behind_mcu parts wide column row = flat_map (mcu_spots parts row) (drop (column + 1) (below wide))
+-- the remaining MCUs of the row, and the rows below
+abbrev pub after_mcu : List CursorPart → ℕ → ℕ → ℕ → List Place
+after_mcu parts wide column row = flat_map (mcu_spots parts row) (drop (column + 1) (below wide))
 
 abbrev pub line_spots : List CursorPart → ℕ → ℕ → List Place
 line_spots parts wide row = flat_map (mcu_spots parts row) (below wide)
 
-abbrev pub behind_line : List CursorPart → ℕ → ℕ → ℕ → List Place
-behind_line parts wide high row = flat_map (line_spots parts wide) (drop (row + 1) (below high))
+abbrev pub after_line : List CursorPart → ℕ → ℕ → ℕ → List Place
+after_line parts wide high row = flat_map (line_spots parts wide) (drop (row + 1) (below high))
 
 abbrev pub all_spots : List CursorPart → ℕ → ℕ → List Place
 all_spots parts wide high = flat_map (line_spots parts wide) (below high)
@@ -83,9 +83,9 @@ all_spots parts wide high = flat_map (line_spots parts wide) (below high)
 abbrev pub spots_from : List CursorPart → ℕ → ℕ → ℕ → ℕ → ℕ → ℕ → ℕ → List Place
 spots_from parts wide high row column part down across =
     let p = slice_index_or parts part no_part in
-    row_left p column row down across ++ (below_row p column row down ++ (behind_part parts column row part ++ (behind_mcu parts wide column row ++ behind_line parts wide high row)))
+    row_left p column row down across ++ (below_row p column row down ++ (after_part parts column row part ++ (after_mcu parts wide column row ++ after_line parts wide high row)))
 
--- all that are left, of which there are none behind the last row
+-- all places that are left, none after the last row
 unfoldable pub spots_left : List CursorPart → ℕ → ℕ → ℕ → ℕ → ℕ → ℕ → ℕ → List Place
 spots_left parts wide high row column part down across = if nat_lt row high then spots_from parts wide high row column part down across else []
 

@@ -1,4 +1,4 @@
--- What a desk tells, and what its calls do to it.
+-- What contracts see of a desk, and what its calls do to it.
 use Rattle.std.specs.Prelude.{◌≡◌, ℕ, ◌+◌, ◌-◌, ◌^◌, ◌≤◌, min, Bool, true, false, List, [], ◌∷◌, ◌++◌, length, take, Option, None, Some}
 use Rattle.std.specs.Prelude.{refl}
 use Rattle.std.proofs.Common.{ap, append_assoc}
@@ -10,7 +10,7 @@ use Rattle.jpg_base.specs.declared.names.Got.{Got}
 use Rattle.jpg_base.specs.declared.names.Got.TheVariants as got
 use Rattle.jpg_base.specs.declared.names.Counts.{Counts}
 
--- What a desk tells. None stands for a meaning that it does not tell.
+-- The state of a desk. None is what isn't known of it.
 pub record DeskState : Type 0 where
   -- the bytes of each named file
   pub files : Option (Name → Option (List ℕ))
@@ -20,7 +20,7 @@ pub record DeskState : Type 0 where
   pub outputs : Option (List (Name × List ℕ))
   -- the bytes of all messages
   pub said : Option (List ℕ)
-  -- the names that open and create asked for, in order, each with its answer
+  -- the names that were opened or created, in order, each with the answer
   pub asked : Option (List (Name × Put))
   pub counts : Counts
   pub input_open : Bool
@@ -30,7 +30,7 @@ pub record DeskState : Type 0 where
 abbrev pub raised : ℕ → ℕ
 raised count = min (count + 1) (2 ^ 64 - 1)
 
--- a count rose, or stands at its last value
+-- a count rose, or is at its last value
 abbrev pub Rose : ℕ → ℕ → Type 0
 Rose before now = raised before ≤ now
 
@@ -59,18 +59,18 @@ abbrev pub counted_say : Put → Counts → Counts
 counted_say Done counts = counts
 counted_say Failed counts = record counts { says = raised counts.says }
 
--- the names asked for grew by one, or are told no more
+-- one more name was recorded, or names aren't recorded any more
 abbrev pub NotesName : Option (List (Name × Put)) → Name × Put → Option (List (Name × Put)) → Type 0
 NotesName old entry None = Unit {0}
 NotesName None entry (Some new) = ⊥
 NotesName (Some old) entry (Some new) = new ≡ old ++ entry ∷ []
 
--- where the files are told, the input is the named one from its first byte
+-- where the files are known, the input is the named one from its first byte
 abbrev pub OpensFile : Option (Name → Option (List ℕ)) → Name → Option (List ℕ) → Type 0
 OpensFile None name left = Unit {0}
 OpensFile (Some files) name left = (bytes : List ℕ) × (files name ≡ Some bytes) × (left ≡ Some bytes)
 
--- what is told stays told
+-- what is known remains known
 abbrev pub StaysTold : {A : Type 0} → Option A → Option A → Type 0
 StaysTold None new = Unit {0}
 StaysTold (Some x) None = ⊥
@@ -90,13 +90,13 @@ pub record Opens (old : DeskState) (name : Name) (answer : Put) (new : DeskState
   pub said : new.said ≡ old.said
   pub output_created : new.output_created ≡ old.output_created
 
--- the front of the buffer has at least one of the next bytes, or none are left
+-- the buffer begins with at least one of the next bytes, or none are left
 abbrev pub AfterRead : DeskState → Got → List ℕ → DeskState → Type 0
 AfterRead old (got.Bytes n) buf new = (1 ≤ n) × (n ≤ length buf) × Consumes old.left new.left (take n buf)
 AfterRead old got.End buf new = IsAtEnd old.left × (new.left ≡ old.left)
 AfterRead old got.Failed buf new = Rose old.counts.reads new.counts.reads × (new.left ≡ old.left)
 
--- With bytes the input stays open. Behind its end, and behind a failure, it isn't said to be.
+-- With bytes the input remains open. After its end, and after a failure, nothing says that it is.
 abbrev pub KeepsInputOpen : DeskState → Got → DeskState → Type 0
 KeepsInputOpen old (got.Bytes n) new = new.input_open ≡ old.input_open
 KeepsInputOpen old got.End new = Unit {0}
@@ -113,7 +113,7 @@ pub record Reads (old : DeskState) (answer : Got) (buf : List ℕ) (new : DeskSt
   pub input_open : KeepsInputOpen old answer new
   pub output_created : new.output_created ≡ old.output_created
 
--- outputs that are told gain an empty one
+-- outputs that are known gain an empty one
 abbrev pub AddsOutput : Option (List (Name × List ℕ)) → Name → Option (List (Name × List ℕ)) → Type 0
 AddsOutput None name new = Unit {0}
 AddsOutput (Some old) name None = ⊥
@@ -174,7 +174,7 @@ pub record Says (old : DeskState) (text : List ℕ) (answer : Put) (new : DeskSt
   pub input_open : new.input_open ≡ old.input_open
   pub output_created : new.output_created ≡ old.output_created
 
--- what a list of bytes gives, and what is left of it
+-- what a read of a list of bytes gives, and the rest of the list
 abbrev pub Gives : List ℕ → Got → List ℕ → List ℕ → Type 0
 Gives old (got.Bytes n) buf new = (1 ≤ n) × (n ≤ length buf) × (old ≡ take n buf ++ new)
 Gives old got.End buf new = (old ≡ []) × (new ≡ old)

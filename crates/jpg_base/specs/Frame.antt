@@ -1,4 +1,4 @@
--- The numbers of a frame as definitions see them, and what a Frame keeps.
+-- The numbers of a frame as definitions see them, and the invariant of a Frame.
 use Rattle.std.specs.Prelude.{◌≡◌, ℕ, ◌*◌, ◌≤◌, List, map, sum_by}
 use Rattle.jpg_spec.specs.Geometry.{Frame, greatest, h_max, v_max}
 use Rattle.jpg_spec.specs.FrameHeader.{IsFrame}

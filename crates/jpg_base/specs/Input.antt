@@ -1,4 +1,4 @@
--- An input whose bytes lie in memory.
+-- An input whose bytes are in memory.
 use Rattle.std.specs.Prelude.{◌+◌, [], ◌∷◌, ℕ, List, Option, None, Some, min, drop, length}
 use Rattle.jpg_base.specs.declared.names.Got.{Got}
 use Rattle.jpg_base.specs.declared.names.Got.TheVariants as got
@@ -8,7 +8,7 @@ use Rattle.jpg_base.specs.declared.input.Input.{Input}
 abbrev pub input_rest : Input → List ℕ
 input_rest i = drop i.at i.bytes.items
 
--- what a read of at most this many bytes answers where these are left
+-- the answer of a read of at most this many bytes, where these are left
 abbrev pub given : ℕ → List ℕ → Got
 given most [] = got.End
 given most (byte ∷ rest) = got.Bytes (min most (length rest + 1))

@@ -1,4 +1,4 @@
--- How the steps of a desk follow one another.
+-- Sequences of a desk's steps.
 use Rattle.std.specs.Prelude.{◌≡◌, ℕ, ◌+◌, List, [], ◌∷◌, ◌++◌, length, take, Option, None, Some}
 use Rattle.std.proofs.Common.{ap, sym, ◌∙◌, append_assoc, arith, subst, min}
 use Rattle.std.proofs.lemmas.List.{take_min, take-append-le}
@@ -19,7 +19,7 @@ Consumes-then (Some a) None c xs ys h k = absurd h
 Consumes-then (Some a) (Some b) None xs ys h k = absurd k
 Consumes-then (Some a) (Some b) (Some c) xs ys h k = h ∙ ap (λ r. xs ++ r) k ∙ sym (append_assoc xs ys c)
 
--- the names asked for grew by these, or are told no more
+-- these names were recorded, or names aren't recorded any more
 abbrev pub NotesNames : Option (List (Name × Put)) → List (Name × Put) → Option (List (Name × Put)) → Type 0
 NotesNames old entries None = Unit {0}
 NotesNames None entries (Some new) = ⊥
@@ -38,7 +38,7 @@ AppendsLast-then (Some a) None c xs ys h k = absurd h
 AppendsLast-then (Some a) (Some b) None xs ys h k = absurd k
 AppendsLast-then (Some a) (Some b) (Some c) xs ys h k = k ∙ ap (λ o. append_last o ys) h ∙ append_last-twice a xs ys
 
--- outputs that are told gain a first part of the bytes
+-- outputs that are known gain a first part of the bytes
 abbrev pub AppendsPart : Option (List (Name × List ℕ)) → List ℕ → Option (List (Name × List ℕ)) → Type 0
 AppendsPart old bytes new = (n : ℕ) × AppendsLast old (take n bytes) new
 
@@ -54,7 +54,7 @@ pub AppendsPart-then : (a b c : Option (List (Name × List ℕ))) (xs ys : List 
 AppendsPart-then a b c xs ys h k =
     (length xs + k.0, (let P : List ℕ → Type 0 = λ t. AppendsLast a t c in subst P (sym (take-append-add xs ys k.0)) (AppendsLast-then a b c xs (take k.0 ys) h k.1)))
 
--- outputs that are told grew by this one
+-- outputs that are known grew by this one
 abbrev pub Grows : Option (List (Name × List ℕ)) → Name × List ℕ → Option (List (Name × List ℕ)) → Type 0
 Grows None output new = Unit {0}
 Grows (Some old) output None = ⊥

@@ -1,4 +1,4 @@
--- What a desk in memory tells, and what its calls do beside what any desk's do.
+-- What contracts see of a desk in memory, and what its calls do in addition to those of any desk.
 use Rattle.std.specs.Prelude.{◌≡◌, ◌+◌, ◌-◌, ◌^◌, ◌&&◌, None, [], ◌∷◌, ℕ, List, Bool, false, Option, Some, if◌then◌else◌, map, min, drop, is_some, nat_lt, nat_eq, length, Vec}
 use Rattle.std.specs.declared.alloc.Global.{Global}
 use Rattle.std.specs.List.{list_any}
@@ -54,7 +54,7 @@ memory_failing d = d.failing.items
 abbrev pub memory_piece : MemoryDesk → ℕ
 memory_piece d = d.piece
 
--- whether the call after so many calls is among these. Calls after the last number are not.
+-- whether the call after this many calls is among these. Calls after the last number aren't.
 abbrev pub is_failing_next : ℕ → List ℕ → Bool
 is_failing_next calls failing = nat_lt calls (2 ^ 64 - 1) && list_any (λ call. nat_eq call (calls + 1)) failing
 
@@ -62,17 +62,17 @@ is_failing_next calls failing = nat_lt calls (2 ^ 64 - 1) && list_any (λ call. 
 abbrev pub fails_next : MemoryDesk → Bool
 fails_next d = is_failing_next d.calls d.failing.items
 
--- a state with one file more, in the place of one of this name
+-- a state with one more file, or with that of this name replaced
 abbrev pub with_file : Name → List ℕ → DeskState → DeskState
 with_file name bytes state = record state {
   files = option_map (λ had. (λ n. if is_same_name name n then Some bytes else had n)) state.files;
 }
 
--- what a read into a buffer of this length answers
+-- the answer of a read into a buffer of this length
 abbrev pub read_answer : MemoryDesk → ℕ → Got
 read_answer d room = if fails_next d then got.Failed else given_of (min d.piece room) (option_map input_rest d.input)
 
--- the number of calls, those that fail and the most bytes of a read stay as they were
+-- the number of calls, the numbers of those that fail and the most bytes of a read don't change
 pub record SameNumbers (old new : MemoryDesk) : Type 0 where
   pub calls : memory_calls new ≡ memory_calls old
   pub failing : memory_failing new ≡ memory_failing old
@@ -96,7 +96,7 @@ pub record HasNothing (state : DeskState) : Type 0 where
   pub input_open : state.input_open ≡ false
   pub output_created : state.output_created ≡ false
 
--- a new desk, which gives at most this many bytes a read: no call was made, and none fails
+-- a new desk, which gives at most this many bytes per read: no call was made, and none fails
 pub record IsNew (desk : MemoryDesk) (most : ℕ) : Type 0 where
   pub nothing : HasNothing (memory_state desk)
   pub calls : memory_calls desk ≡ 0

@@ -1,4 +1,4 @@
--- What a quiet desk tells: the same bytes for every name, and those that are left.
+-- What contracts see of a quiet desk: the same bytes for every name, and those that are left.
 use Rattle.std.specs.Prelude.{◌≡◌, ◌-◌, ◌^◌, ℕ, List, Option, None, Some, false, if◌then◌else◌, min}
 use Rattle.jpg_base.specs.declared.names.Got.{Got}
 use Rattle.jpg_base.specs.declared.names.Counts.{Counts}
@@ -22,7 +22,7 @@ quiet_state d = record {
   output_created = d.is_created;
 }
 
--- what a read into a buffer of this length answers: as many of the bytes left as fit
+-- the answer of a read into a buffer of this length: as many of the bytes left as fit
 abbrev pub quiet_answer : QuietDesk → ℕ → Got
 quiet_answer d room = given_of (min (2 ^ 32 - 1) room) (quiet_state d).left
 

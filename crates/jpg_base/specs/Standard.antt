@@ -1,4 +1,4 @@
--- What a desk over real files tells: its counts, and whether an input is open and an output was created.
+-- What contracts see of a desk over real files: its counts, and whether an input is open and an output was created.
 use Rattle.std.specs.Prelude.{◌≡◌, ℕ, ◌≤◌, List, Option, None, false, length, take}
 use Rattle.std.specs.Io.KnownBytes.{Appends, Consumes, IsAtEnd, Keeps}
 use Rattle.jpg_base.specs.declared.names.Put.{Put}
@@ -20,19 +20,19 @@ std_state told = record {
   output_created = told.output_created;
 }
 
--- a desk at which no call was made tells no bytes
+-- a desk at which no call was made: no bytes are known
 pub record TellsNothing (state : DeskState) : Type 0 where
   pub counts : state.counts ≡ record { opens = 0; reads = 0; writes = 0; says = 0 }
   pub input_open : state.input_open ≡ false
   pub output_created : state.output_created ≡ false
 
--- what a read of a reader answers: the front of the buffer has at least one of the next bytes, or none are left
+-- the answer of a read: the buffer begins with at least one of the next bytes, or none are left
 abbrev pub ReadsSome : Option (List ℕ) → Got → List ℕ → Option (List ℕ) → Type 0
 ReadsSome old (got.Bytes n) buf new = (1 ≤ n) × (n ≤ length buf) × Consumes old new (take n buf)
 ReadsSome old got.End buf new = IsAtEnd new
 ReadsSome old got.Failed buf new = Keeps old new
 
--- a writer gained the whole piece, or a first part of it
+-- a writer gained the complete piece, or a first part of it
 abbrev pub WritesAll : Option (List ℕ) → List ℕ → Put → Option (List ℕ) → Type 0
 WritesAll old piece Done new = Appends old new piece
 WritesAll old piece Failed new = (n : ℕ) × Appends old new (take n piece)

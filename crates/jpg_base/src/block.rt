@@ -1,4 +1,4 @@
-// A block of 64 coefficients (T.81, A.3.6).
+//! A block of 64 coefficients (T.81, A.3.6).
 ghost use Rattle.std.specs.Prelude.{◌≡◌, ◌<◌, ◌≤ℤ◌, ℕ, pos, negsuc, if◌then◌else◌, replicate, slice_index_or, slice_set, length};
 ghost use Rattle.std.specs.Int.{bit_at};
 ghost use Rattle.jpg_spec.specs.Elements.{is_zero};
@@ -8,7 +8,7 @@ use std::marker::Model;
 use std::simd::cmp::SimdPartialEq;
 use std::simd::i16x64;
 
-// The place in zigzag order of the frequencies exchanged, for each place.
+// For each place in zigzag order, the place with the horizontal and the vertical frequency exchanged.
 const EXCHANGED: [usize; 64] = [
     0, 2, 1, 5, 4, 3, 9, 8, 7, 6, 14, 13, 12, 11, 10, 20, 19, 18, 17, 16, 15, 27, 26, 25, 24, 23,
     22, 21, 35, 34, 33, 32, 31, 30, 29, 28, 42, 41, 40, 39, 38, 37, 36, 48, 47, 46, 45, 44, 43, 53,
@@ -56,7 +56,7 @@ impl Block {
         self.values[k as usize]
     }
 
-    /// Puts `value` at place `k`. All other numbers stay.
+    /// Puts `value` at place `k`. All other numbers remain.
     pub fn set(&mut self, k: u8, value: i16)
         requires { k < 64 }
         ensures value { self.new ≡ slice_set self.old k value }
@@ -65,14 +65,15 @@ impl Block {
         self.values[k as usize] = value;
     }
 
-    /// Tells that it has 64 numbers. It does nothing.
+    /// States, for proofs, that it has 64 numbers. It does nothing.
     pub fn long(&self)
         ensures { length self.now ≡ 64 }
     {
         let _ = &self.values;
     }
 
-    /// The block with its frequencies exchanged: each place has the number of the frequencies exchanged.
+    /// The block with its axes exchanged: each place has the number of the place with the horizontal and the vertical
+    /// frequency exchanged.
     #[inline(always)]
     pub fn transposed(&self) -> Block
         ensures value { result ≡ transposed (pos 0) self.now }
@@ -103,7 +104,7 @@ fn nonzero_lanes(values: &[i16; 64]) -> u64
         .to_bitmask()
 }
 
-// Tells that the number fits its type. It does nothing.
+// States, for proofs, that the number fits its type. It does nothing.
 #[inline(always)]
 fn fits(value: i16)
     ensures { (negsuc 32767 ≤ℤ value) × (value ≤ℤ pos 32767) }
@@ -111,7 +112,7 @@ fn fits(value: i16)
     let _ = value;
 }
 
-// Tells that all numbers fit their type. It does nothing.
+// States, for proofs, that all numbers fit their type. It does nothing.
 #[inline(always)]
 fn all_fit(values: &[i16; 64])
     ensures { (k : ℕ) → k < 64 → (negsuc 32767 ≤ℤ slice_index_or values.now k (pos 0)) × (slice_index_or values.now k (pos 0) ≤ℤ pos 32767) }
@@ -121,7 +122,7 @@ fn all_fit(values: &[i16; 64])
     }
 }
 
-// The numbers of the frequencies exchanged.
+// The numbers of a block with its axes exchanged.
 #[inline(always)]
 fn exchanged(values: &[i16; 64]) -> [i16; 64]
     ensures { result ≡ transposed (pos 0) values.now }

@@ -1,11 +1,11 @@
-// A list of bytes that grows.
+//! A growing list of bytes.
 ghost use Rattle.std.specs.Prelude.{◌≡◌, [], ◌++◌, OnOk, OnErr};
 
 use crate::NoMemory;
 use std::alloc::Global;
 use std::marker::Model;
 
-/// A list of bytes, seen as that list.
+/// A list of bytes; contracts see it as that list.
 #[derive(Drop)]
 pub struct Bytes {
     bytes: Vec<u8>,
@@ -29,7 +29,7 @@ impl Bytes {
         }
     }
 
-    /// Appends the piece whole. Where memory is wanting it changes nothing.
+    /// Appends the complete piece. At NoMemory nothing has changed.
     pub fn push_all(&mut self, piece: &[u8]) -> Result<(), NoMemory>
         ensures whole { OnOk result (self.new ≡ self.old ++ piece.now) }
         ensures same { OnErr result (self.new ≡ self.old) }

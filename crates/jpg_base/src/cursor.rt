@@ -1,4 +1,4 @@
-// The places of a scan, one after another (T.81, A.2).
+//! The places of a scan, one after another (T.81, A.2).
 ghost use Rattle.std.specs.Prelude.{◌≡◌, ◌<◌, ◌≤◌, ◌^◌, nat_lt, ◌&&◌, ◌*◌, ◌/◌, [], ◌∷◌, length, map, flat_map, slice_index_or, drop, slice_get, Some, All};
 ghost use Rattle.jpg_spec.specs.Geometry.{units, mcu_part, mcu_units, factor_sum, scan_mcus_across};
 ghost use Rattle.jpg_spec.specs.Segments.{head_components};
@@ -22,7 +22,7 @@ pub struct CursorPart {
 }
 
 impl CursorPart {
-    // Whether a place lies in the real grid.
+    // Whether a place is in the real grid.
     fn has(&self, x: u32, y: u32) -> bool
         ensures { result ≡ (nat_lt x self.now.wide && nat_lt y self.now.high) }
     {
@@ -44,7 +44,7 @@ impl CursorPart {
     }
 }
 
-/// The places of a scan that are left, of which it tells the first.
+/// The remaining places of a scan, and the first of them.
 #[derive(Drop)]
 pub struct Cursor {
     parts: ArrayVec<CursorPart, 4>,
@@ -69,7 +69,7 @@ impl Model for Cursor {
     ghost invariant = { λ c. IsAt c.parts.items c.wide c.high c.row c.column c.part c.down c.across };
 }
 
-// How often a number goes into another, where that is below this bound.
+// The quotient of two numbers, where it is below this bound.
 fn quotient(number: u64, divisor: u32, bound: u32) -> u32
     requires some { 1 ≤ divisor }
     requires below { number < bound * divisor }
@@ -136,7 +136,7 @@ impl Frame {
         u64::from(mcus.high) * u64::from(row)
     }
 
-    // The block of a number in an MCU of these components.
+    // The block with number `k` in an MCU of these components.
     fn in_mcu(&self, parts: &[ScanPart], column: u32, row: u32, k: u32) -> Place
         requires few { length parts.now ≤ 4 }
         requires there { All (λ p. p.component < length self.now.components) parts.now }
@@ -159,7 +159,7 @@ impl Frame {
         CursorPart::default().spot(0, 0)
     }
 
-    // The unit of a number in a scan of one component.
+    // The block of unit `unit` in a scan of one component.
     fn single_block(&self, i: u8, unit: u64) -> Place
         requires there { i < length self.now.components }
         requires unit { unit < length (units self.now (i ∷ [])) }
@@ -170,7 +170,7 @@ impl Frame {
         part.spot((unit % u64::from(part.wide)) as u32, y)
     }
 
-    // The unit of a number in a scan of several components.
+    // The block of unit `unit` in a scan of several components.
     fn several_block(&self, parts: &[ScanPart], unit: u64) -> Place
         requires several { 2 ≤ length parts.now }
         requires few { length parts.now ≤ 4 }
@@ -187,7 +187,7 @@ impl Frame {
         self.in_mcu(parts, column, row, (unit % u64::from(size)) as u32)
     }
 
-    /// The unit of a number in a scan (T.81, A.2.2, A.2.3).
+    /// The block of unit `unit` in a scan (T.81, A.2.2, A.2.3).
     pub fn mcu_block(&self, head: &ScanHead, unit: u64) -> Place
         requires components { AreIn self.now (head_components head.now) }
         requires unit { unit < length (units self.now (head_components head.now)) }
@@ -200,7 +200,7 @@ impl Frame {
         }
     }
 
-    // What a scan's cursor has of a component that is alone.
+    // The part of a scan's cursor for the only component of a scan.
     fn lone_part(&self, i: u8) -> CursorPart
         requires { i < length self.now.components }
         ensures value { result ≡ lone_part self.now i }
@@ -220,7 +220,7 @@ impl Frame {
         }
     }
 
-    // What a scan's cursor has of a component among others.
+    // The part of a scan's cursor for one of several components.
     fn cursor_part(&self, i: u8) -> CursorPart
         requires { i < length self.now.components }
         ensures value { result ≡ cursor_part_of self.now i }
@@ -261,7 +261,7 @@ fn one_part(part: CursorPart) -> ArrayVec<CursorPart, 4>
 }
 
 impl Cursor {
-    /// Before the first place of a scan.
+    /// A cursor at the first place of a scan.
     pub fn new(frame: &Frame, head: &ScanHead) -> Cursor
         requires { AreIn frame.now (head_components head.now) }
         ensures { result ≡ units frame.now (head_components head.now) }
@@ -279,7 +279,7 @@ impl Cursor {
         }
     }
 
-    // Before the first place of a grid of MCUs.
+    // A cursor at the first place of a grid of MCUs.
     fn first(parts: ArrayVec<CursorPart, 4>, wide: u32, high: u32) -> Cursor
         requires some { 1 ≤ length parts.items }
         requires factors { All HasPartFactors parts.items }
@@ -299,7 +299,7 @@ impl Cursor {
         }
     }
 
-    /// The first place.
+    /// The current place.
     pub fn place(&self) -> Place
         requires { 1 ≤ length self.now }
         ensures { slice_get self.now 0 ≡ Some result }

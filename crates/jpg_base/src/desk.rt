@@ -1,4 +1,4 @@
-// The outside as a trait: whoever is generic over it can raise no count by itself.
+//! The outside as a trait. A function that is generic over it can't raise a count by itself.
 ghost use Rattle.std.specs.Prelude.{◌≡◌, ◌<◌, length, true};
 ghost use Rattle.jpg_base.specs.Desk.{DeskState, Opens, Reads, Creates, Writes, Says};
 
@@ -6,11 +6,11 @@ use crate::{Counts, Got, Name, Put};
 
 /// Files, an input, outputs and messages.
 ///
-/// A call answers `Failed` only where the count of its kind rises in that call, or stands at
-/// `u64::MAX`. No count falls. What a call is not said to change stays as it was.
+/// A call answers `Failed` only if the count of its kind rises in that call, or is already `u64::MAX`. No count falls.
+/// What isn't mentioned for a call doesn't change in it.
 pub trait Desk {
-    /// What it tells of itself: the bytes of each file, those left of the input, the outputs, the
-    /// messages and the names asked for, each only where it knows them.
+    /// The state that contracts see: the bytes of each file, the rest of the input, the outputs, the messages and the
+    /// names that were opened or created, each only if the desk knows it.
     ghost state: { Self → DeskState };
 
     /// Makes the named file the input, read from its first byte. After `Failed`, which counts as an
@@ -18,12 +18,12 @@ pub trait Desk {
     fn open(&mut self, name: &Name) -> Put
         ensures { Opens (state self.old) name.now result (state self.new) };
 
-    /// Puts at least one of the next bytes of the input at the front of `buf`, and gives their
-    /// number, which is at most `buf.len()` and `u32::MAX`. `End` comes exactly where no bytes are
-    /// left. `Failed` counts as a read, and takes no bytes. The rest of `buf` may hold anything.
+    /// Puts at least one of the next bytes of the input at the start of `buf`, and gives their number, which is at most
+    /// `buf.len()` and `u32::MAX`. The answer is `End` exactly if no bytes are left. `Failed` counts as a read, and
+    /// takes no bytes. The rest of `buf` may hold anything.
     ///
-    /// An input has to be open, and `buf` may not be empty. Behind `End` and `Failed` no input counts
-    /// as open: whoever is generic over desks reads no further.
+    /// An input must be open, and `buf` may not be empty. After `End` and `Failed` no input counts as open, so code
+    /// that is generic over desks reads no further.
     fn read(&mut self, buf: &mut [u8]) -> Got
         requires open { (state self.old).input_open ≡ true }
         requires room { 0 < length buf.old }
@@ -33,16 +33,16 @@ pub trait Desk {
     fn create(&mut self, name: &Name) -> Put
         ensures { Creates (state self.old) name.now result (state self.new) };
 
-    /// Appends the whole piece to the last output. At `Failed`, which counts as a write, it has
-    /// appended a first part of it, perhaps nothing.
+    /// Appends the complete piece to the last output. At `Failed`, which counts as a write, it has appended a first
+    /// part of it, perhaps nothing.
     ///
-    /// An output has to be created before.
+    /// An output must have been created.
     fn write(&mut self, piece: &[u8]) -> Put
         requires { (state self.old).output_created ≡ true }
         ensures { Writes (state self.old) piece.now result (state self.new) };
 
-    /// Appends the whole text to the messages. At `Failed`, which counts as a say, it has appended
-    /// a first part of it, perhaps nothing.
+    /// Appends the complete text to the messages. At `Failed`, which counts as a say, it has appended a first part of
+    /// it, perhaps nothing.
     fn say(&mut self, text: &[u8]) -> Put
         ensures { Says (state self.old) text.now result (state self.new) };
 

@@ -1,4 +1,4 @@
-// The header of a frame, and the grids that it bounds (T.81, A.1, A.2, B.2.2).
+//! The header of a frame, and the grids that it bounds (T.81, A.1, A.2, B.2.2).
 ghost use Rattle.std.specs.Prelude.{◌≡◌, ◌*◌, ◌<◌, ◌≤◌, length, IfOk};
 ghost use Rattle.jpg_spec.specs.Geometry.{h_max, v_max, bounds, component_at, padded_blocks, mcu_row_frame};
 ghost use Rattle.jpg_spec.specs.FrameHeader.{AreLimits, HasFactors, IsFrame, checked_frame, mcu_grid, real_grid, padded_grid, padded_across, padded_down};
@@ -12,9 +12,9 @@ use arrayvec::ArrayVec;
 use jpg_spec::{Bounds, Component, Fault, Grid, Limits, Process};
 use std::marker::Model;
 
-/// A frame header whose numbers passed all checks (T.81, B.2.2): sides of 1 to 65500 samples, 8
-/// bits a sample, one to four components with factors 1 to 4, distinct identifiers and
-/// quantisation slots 0 to 3, and at most 8388608 blocks in the padded grids.
+/// A frame header whose numbers passed all checks (T.81, B.2.2): width and height from 1 to 65500 samples, 8 bits per
+/// sample, one to four components with factors 1 to 4, distinct identifiers and quantisation slots 0 to 3, and at most
+/// 8388608 blocks in the padded grids.
 #[derive(Drop)]
 pub struct Frame {
     process: Process,
@@ -38,11 +38,10 @@ impl Model for Frame {
 }
 
 impl Frame {
-    /// The frame of these numbers, or the first fault that forbids it, in this order: EmptyImage
-    /// (a side is 0), TooLarge (a side above `limits.side`), Precision (not 8), ComponentCount
-    /// (not one to four), Sampling (a factor not 1 to 4), DuplicateComponent (two equal
-    /// identifiers), QuantSlot (above 3), TooManyBlocks (more than `limits.blocks` in the padded
-    /// grids) (T.81, B.2.2). It takes no memory.
+    /// The frame of these numbers, or the first of these faults: EmptyImage (a side is 0), TooLarge (a side above
+    /// `limits.side`), Precision (not 8), ComponentCount (not one to four), Sampling (a factor not 1 to 4),
+    /// DuplicateComponent (two equal identifiers), QuantSlot (above 3), TooManyBlocks (more than `limits.blocks` in the
+    /// padded grids) (T.81, B.2.2). It takes no memory.
     #[tactic(auto, unfolding(jpg_spec::specs::FrameHeader::checked_frame))]
     pub fn new(
         process: Process,
@@ -91,7 +90,7 @@ impl Frame {
         })
     }
 
-    /// The same frame again.
+    /// A copy of the frame.
     pub fn copy(&self) -> Frame
         ensures { result ≡ self.now }
     {
@@ -121,8 +120,8 @@ impl Frame {
         }
     }
 
-    /// One row of the MCUs of a scan of all components, as a frame: it has 8 lines where there is one
-    /// component, else 8 times the greatest factor down (T.81, A.2.3).
+    /// One row of the MCUs of a scan of all components, as a frame: it has 8 lines if there is one component, otherwise
+    /// 8 times the greatest vertical factor (T.81, A.2.3).
     pub fn row(&self) -> Frame
         ensures { result ≡ mcu_row_frame self.now }
     {
@@ -149,8 +148,8 @@ impl Frame {
         }
     }
 
-    /// Tells what every frame keeps: the facts of `IsFrame`, which hold of its numbers since they
-    /// passed the checks. It does nothing.
+    /// States, for proofs, the facts of `IsFrame`, which hold of each frame's numbers since they passed the checks. It
+    /// does nothing.
     pub fn checked(&self)
         ensures { IsFrame self.now }
     {
@@ -164,7 +163,7 @@ impl Frame {
         self.process
     }
 
-    /// Bits a sample.
+    /// Bits per sample.
     pub fn precision(&self) -> u8
         ensures { result ≡ self.now.precision }
     {
@@ -194,7 +193,7 @@ impl Frame {
         self.components.len() as u8
     }
 
-    /// The greatest factor across.
+    /// The greatest horizontal factor.
     pub fn h_max(&self) -> u8
         ensures value { result ≡ h_max self.now }
         ensures low { 1 ≤ result }
@@ -203,7 +202,7 @@ impl Frame {
         self.h_max
     }
 
-    /// The greatest factor down.
+    /// The greatest vertical factor.
     pub fn v_max(&self) -> u8
         ensures value { result ≡ v_max self.now }
         ensures low { 1 ≤ result }
@@ -224,7 +223,7 @@ impl Frame {
         }
     }
 
-    /// The component at place `i` of the header, from 0.
+    /// The component at index `i` of the header, from 0.
     pub fn component(&self, i: u8) -> Component
         requires { i < length self.now.components }
         ensures value { result ≡ component_at self.now i }
@@ -234,7 +233,7 @@ impl Frame {
         self.components[i as usize]
     }
 
-    /// The real blocks of component `i`: those that hold its samples (T.81, A.1.1, A.2.2).
+    /// The real blocks of component `i`: those that its samples fill (T.81, A.1.1, A.2.2).
     pub fn blocks(&self, i: u8) -> Grid
         requires { i < length self.now.components }
         ensures value { result ≡ real_grid self.now (component_at self.now i) }
@@ -263,7 +262,7 @@ impl Frame {
         }
     }
 
-    /// What the precision allows.
+    /// The ranges of coefficients that the precision allows.
     pub fn bounds(&self) -> Bounds
         ensures { result ≡ bounds self.now }
     {
@@ -278,7 +277,7 @@ impl Frame {
     }
 }
 
-// The components in a list of their own.
+// The components as a list of the frame's own.
 fn kept(components: &[Component]) -> ArrayVec<Component, 4>
     requires { length components.now ≤ 4 }
     ensures { result.items ≡ components.now }

@@ -1,4 +1,4 @@
-// The checks of a frame header, one function each (T.81, B.2.2).
+//! The checks of a frame header, one function each (T.81, B.2.2).
 ghost use Rattle.std.specs.Prelude.{◌≡◌, ◌+◌, ◌*◌, ◌<◌, ◌≤◌, nat_lt, ◌||◌, ◌==◌, not, length, All};
 ghost use Rattle.jpg_spec.specs.Lists.{any_of, is_among, is_distinct};
 ghost use Rattle.jpg_spec.specs.Geometry.{div_up};
@@ -7,36 +7,42 @@ ghost use Rattle.jpg_base.specs.Frame.{greatest_across, greatest_down, blocks_of
 
 use jpg_spec::Component;
 
+/// Whether the width or the height is 0.
 pub(crate) fn is_empty(width: u32, height: u32) -> bool
     ensures { result ≡ (width == 0 || height == 0) }
 {
     width == 0 || height == 0
 }
 
+/// Whether the width or the height is above `side`.
 pub(crate) fn is_larger(width: u32, height: u32, side: u32) -> bool
     ensures { result ≡ (nat_lt side width || nat_lt side height) }
 {
     width > side || height > side
 }
 
+/// Whether samples have a number of bits that isn't read, which is any but 8.
 pub(crate) fn is_unread(precision: u8) -> bool
     ensures { result ≡ not (precision == 8) }
 {
     precision != 8
 }
 
+/// Whether the number of components isn't from 1 to 4.
 pub(crate) fn has_wrong_count(components: &[Component]) -> bool
     ensures { result ≡ (length components.now == 0 || nat_lt 4 (length components.now)) }
 {
     components.is_empty() || components.len() > 4
 }
 
+// Whether one of a component's factors isn't from 1 to 4.
 fn has_wrong_factor(component: Component) -> bool
     ensures { result ≡ has_bad_factor component }
 {
     component.h == 0 || component.h > 4 || component.v == 0 || component.v > 4
 }
 
+/// Whether a factor of any component isn't from 1 to 4.
 pub(crate) fn has_wrong_factors(components: &[Component]) -> bool
     ensures { result ≡ any_of has_bad_factor components.now }
 {
@@ -48,6 +54,7 @@ pub(crate) fn has_wrong_factors(components: &[Component]) -> bool
     false
 }
 
+/// Whether a component names a quantisation slot above 3.
 pub(crate) fn has_wrong_slots(components: &[Component]) -> bool
     ensures { result ≡ any_of has_bad_slot components.now }
 {
@@ -59,6 +66,7 @@ pub(crate) fn has_wrong_slots(components: &[Component]) -> bool
     false
 }
 
+// Whether one of the components has this identifier.
 fn has_id(components: &[Component], id: u8) -> bool
     ensures { result ≡ is_among id (identifiers components.now) }
 {
@@ -70,6 +78,7 @@ fn has_id(components: &[Component], id: u8) -> bool
     false
 }
 
+/// Whether two components have the same identifier.
 pub(crate) fn has_same_ids(components: &[Component]) -> bool
     ensures { result ≡ not (is_distinct (identifiers components.now)) }
 {
@@ -81,6 +90,7 @@ pub(crate) fn has_same_ids(components: &[Component]) -> bool
     false
 }
 
+/// The greatest horizontal factor.
 pub(crate) fn greatest_h(components: &[Component]) -> u8
     ensures value { result ≡ greatest_across components.now }
     ensures low { All HasFactors components.now → 1 ≤ length components.now → 1 ≤ result }
@@ -93,6 +103,7 @@ pub(crate) fn greatest_h(components: &[Component]) -> u8
     most
 }
 
+/// The greatest vertical factor.
 pub(crate) fn greatest_v(components: &[Component]) -> u8
     ensures value { result ≡ greatest_down components.now }
     ensures low { All HasFactors components.now → 1 ≤ length components.now → 1 ≤ result }
@@ -139,7 +150,7 @@ fn all_blocks(wide: u32, high: u32, components: &[Component]) -> u64
     blocks
 }
 
-/// Whether the padded grids of all components hold more blocks than that.
+/// Whether the padded grids of all components have more than `most` blocks.
 pub(crate) fn has_more_blocks(width: u32, height: u32, components: &[Component], most: u32) -> bool
     requires width { width ≤ 65500 }
     requires height { height ≤ 65500 }
@@ -153,7 +164,7 @@ pub(crate) fn has_more_blocks(width: u32, height: u32, components: &[Component],
     all_blocks(wide, high, components) > u64::from(most)
 }
 
-/// The MCUs along a side of this many samples.
+/// The MCUs along a side of this many samples, by the greatest factor.
 pub(crate) fn mcu_side(side: u32, greatest: u8) -> u32
     requires side { side ≤ 65500 }
     requires low { 1 ≤ greatest }
@@ -165,7 +176,7 @@ pub(crate) fn mcu_side(side: u32, greatest: u8) -> u32
     div_up(side, 8 * u32::from(greatest))
 }
 
-/// The blocks along a side of this many samples at the greatest factor.
+/// The real blocks of a component along a side of this many samples, by its factor and the greatest one.
 pub(crate) fn real_side(side: u32, factor: u8, greatest: u8) -> u32
     requires side { side ≤ 65500 }
     requires factor { factor ≤ 4 }
@@ -177,7 +188,7 @@ pub(crate) fn real_side(side: u32, factor: u8, greatest: u8) -> u32
     div_up(div_up(side * u32::from(factor), u32::from(greatest)), 8)
 }
 
-/// The padded blocks along a side, from the MCUs along it.
+/// The blocks along a side of a padded grid, from the MCUs along it.
 pub(crate) fn padded_side(mcus: u32, factor: u8) -> u32
     requires mcus { mcus ≤ 65532 }
     requires factor { factor ≤ 4 }

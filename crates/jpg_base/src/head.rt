@@ -1,4 +1,4 @@
-// The header of a scan (T.81, B.2.3).
+//! The header of a scan (T.81, B.2.3).
 ghost use Rattle.std.specs.Prelude.{◌≡◌};
 
 use arrayvec::ArrayVec;
@@ -25,7 +25,7 @@ impl Model for ScanHead {
 }
 
 impl ScanHead {
-    /// The same header again.
+    /// A copy of the header.
     pub fn copy(&self) -> ScanHead
         ensures { result ≡ self.now }
     {

@@ -1,9 +1,9 @@
-// An input whose bytes lie in memory.
+//! An input whose bytes are in memory.
 ghost use Rattle.std.specs.Prelude.{◌≡◌, ◌≤◌, ◌<◌, length, min, vec_len};
 
 use crate::Got;
 
-// Bytes, and how many of them were given.
+// Bytes, and how many of them were read.
 #[derive(Drop)]
 pub struct Input {
     pub bytes: Vec<u8>,
@@ -15,7 +15,7 @@ impl Input {
     ghost use Rattle.jpg_base.specs.Desk.{Gives};
     ghost use Rattle.jpg_base.specs.Input.{input_rest, given};
 
-    // The next bytes, at most `piece`.
+    // Reads the next bytes, at most `piece`.
     #[tactic(auto, using(crate::proofs::Pieces::given_some, crate::proofs::Pieces::given_end))]
     pub fn give(&mut self, piece: u32, buf: &mut [u8]) -> Got
         requires piece { 1 ≤ piece }

@@ -1,10 +1,8 @@
-// A desk in memory, for tests: it fails at the calls that it is told.
+//! A desk in memory, for tests: the calls that a test chooses fail.
 ghost use Rattle.std.specs.Prelude.{◌≡◌, ◌≤◌, ◌<◌, ◌+◌, ◌^◌, ◌-◌, min, [], ◌∷◌, ◌++◌, length, take, vec_len, true, OnOk, OnErr, Some, None, slice_get};
 ghost use Rattle.std.specs.Option.{option_map};
 
 mod parts;
-#[cfg(test)]
-mod tests;
 
 use crate::input::Input;
 use crate::{Counts, Desk, Got, Name, NoMemory, Put};
@@ -23,10 +21,9 @@ pub struct Asked {
     pub answer: Put,
 }
 
-/// A desk whose files, outputs and messages lie in memory, for tests. It fails at the calls that it
-/// was told, where an absent name is opened, and where it finds no memory; each such call raises the
-/// count of its kind by one and no other count. It tells everything, but for the names asked for
-/// once it found no memory to note one.
+/// A desk whose files, outputs and messages are in memory, for tests. A call fails if a test chose it, if it opens an
+/// absent name, or if there is no memory; each such call raises the count of its kind by one and no other count.
+/// Contracts see all of its state, except the names asked for once there was no memory to record one.
 #[derive(Drop)]
 pub struct MemoryDesk {
     alloc: Global,
@@ -47,8 +44,7 @@ pub struct MemoryDesk {
 impl MemoryDesk {
     ghost use Rattle.jpg_base.specs.Memory.{memory_state, memory_said, memory_outputs, memory_failing, memory_calls, memory_piece, SameNumbers, IsNew, with_file};
 
-    /// A desk with no files and no failures, which gives at most `piece` bytes a read. `piece` is at
-    /// least 1.
+    /// A desk with no files and no failures, which gives at most `piece` bytes per read. `piece` is at least 1.
     pub fn new(alloc: Global, piece: u32) -> MemoryDesk
         requires { 1 ≤ piece }
         ensures { IsNew result piece }
@@ -72,8 +68,8 @@ impl MemoryDesk {
         }
     }
 
-    /// Adds a file with this name, in the place of one that there is. An input that is open keeps
-    /// the bytes that it had. At `NoMemory` nothing has changed.
+    /// Adds a file with this name, or replaces the one of this name. An open input keeps the bytes that it had. At
+    /// `NoMemory` nothing has changed.
     pub fn add_file(&mut self, name: &Name, bytes: &[u8]) -> Result<(), NoMemory>
         ensures ok { OnOk result (memory_state self.new ≡ with_file name.now bytes.now (memory_state self.old)) }
         ensures err { OnErr result (memory_state self.new ≡ memory_state self.old) }
@@ -89,9 +85,9 @@ impl MemoryDesk {
         }
     }
 
-    /// Makes the call of this number fail, where all calls of `open`, `read`, `create`, `write` and
-    /// `say` are counted together from 1. A number that has passed, and 0, change nothing. A `write`
-    /// or `say` that fails so appends a first part, perhaps nothing. At `NoMemory` nothing has changed.
+    /// Makes the call of this number fail; all calls of `open`, `read`, `create`, `write` and `say` are counted
+    /// together, from 1. The number 0 and those of earlier calls change nothing. A `write` or `say` that fails in this
+    /// way appends a first part, perhaps nothing. At `NoMemory` nothing has changed.
     pub fn fail(&mut self, call: u64) -> Result<(), NoMemory>
         ensures ok { OnOk result (memory_failing self.new ≡ memory_failing self.old ++ call ∷ []) }
         ensures err { OnErr result (memory_failing self.new ≡ memory_failing self.old) }
@@ -105,14 +101,14 @@ impl MemoryDesk {
         }
     }
 
-    /// How many outputs were created, where they are at most `u32::MAX`; else `u32::MAX`.
+    /// How many outputs were created, or `u32::MAX` if there are more.
     pub fn outputs(&self) -> u32
         ensures { result ≡ min (length (memory_outputs self.now)) (2 ^ 32 - 1) }
     {
         u32::try_from(self.outputs.len()).unwrap_or(u32::MAX)
     }
 
-    /// The bytes of an output, by its place from 0, which has to be less than `outputs`.
+    /// The bytes of the output with index `i`, from 0, which must be less than `outputs`.
     pub fn output(&self, i: u32) -> &[u8]
         requires { i < length (memory_outputs self.now) }
         ensures { option_map (λ p. p.1) (slice_get (memory_outputs self.now) i) ≡ Some result.now }

@@ -1,10 +1,10 @@
-// Names of files, and the answers of a desk.
+//! Names of files, and the answers of a desk.
 ghost use Rattle.std.specs.Prelude.{◌≡◌, IfOk};
 
 use crate::Text;
 use std::alloc::Global;
 
-/// There was no memory for what was asked.
+/// There was no memory for the call.
 #[derive(Clone, Copy, Debug, PartialEq, Eq)]
 pub struct NoMemory;
 
@@ -19,7 +19,7 @@ pub enum Name {
 impl Name {
     ghost use Rattle.jpg_base.specs.Name.{is_same_name};
 
-    /// Whether both stand for the same file: the texts of two file names are compared by their bytes.
+    /// Whether both name the same file: two file names are compared by their bytes.
     pub fn is_same(&self, other: &Name) -> bool
         ensures { result ≡ is_same_name self.now other.now }
     {
@@ -31,7 +31,7 @@ impl Name {
         }
     }
 
-    /// The same name once more. It answers `NoMemory` only where there is none for the text.
+    /// A copy of the name. It answers `NoMemory` only if there is none for the text.
     pub fn try_clone(&self, alloc: Global) -> Result<Name, NoMemory>
         ensures { IfOk result (λ name. name ≡ self.now) }
     {

@@ -1,11 +1,11 @@
-// A quantisation table (T.81, B.2.4.1).
+//! A quantisation table (T.81, B.2.4.1).
 ghost use Rattle.std.specs.Prelude.{◌≡◌, ◌<◌, replicate, slice_index, slice_set, length, IsTrue, ◌↔◌};
 ghost use Rattle.jpg_spec.specs.Lists.{are_equal};
 ghost use Rattle.jpg_spec.specs.Transposed.{transposed};
 
 use std::marker::Model;
 
-// The place in zigzag order of the frequencies exchanged, for each place.
+// For each place in zigzag order, the place with the horizontal and the vertical frequency exchanged.
 static EXCHANGED: [u8; 64] = [
     0, 2, 1, 5, 4, 3, 9, 8, 7, 6, 14, 13, 12, 11, 10, 20, 19, 18, 17, 16, 15, 27, 26, 25, 24, 23,
     22, 21, 35, 34, 33, 32, 31, 30, 29, 28, 42, 41, 40, 39, 38, 37, 36, 48, 47, 46, 45, 44, 43, 53,
@@ -66,7 +66,7 @@ impl QuantTable {
         self.values[k as usize]
     }
 
-    /// Puts `value` at place `k`. All other quantisers stay.
+    /// Puts `value` at place `k`. All other quantisers remain.
     pub fn set(&mut self, k: u8, value: u16)
         requires { k < 64 }
         ensures value { self.new ≡ slice_set self.old k value }
@@ -83,14 +83,15 @@ impl QuantTable {
         self.values == other.values
     }
 
-    /// Tells that it has 64 quantisers. It does nothing.
+    /// States, for proofs, that it has 64 quantisers. It does nothing.
     pub fn long(&self)
         ensures { length self.now ≡ 64 }
     {
         let _ = &self.values;
     }
 
-    /// The table with its axes exchanged: each place has the quantiser of the frequencies exchanged.
+    /// The table with its axes exchanged: each place has the quantiser of the place with the horizontal and the
+    /// vertical frequency exchanged.
     pub fn transposed(&self) -> QuantTable
         ensures { result ≡ transposed 0 self.now }
     {

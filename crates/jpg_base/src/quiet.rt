@@ -1,12 +1,12 @@
-// A desk of one file that keeps nothing of what it is given.
+//! A desk of one file that keeps nothing of what is written.
 ghost use Rattle.std.specs.Prelude.{◌≡◌, ◌<◌, length, true, IfOk};
 
 use crate::input::Input;
 use crate::{Counts, Desk, Got, Name, NoMemory, Put};
 use std::alloc::Global;
 
-/// A desk that has the same bytes for every name, and never fails. It tells these bytes and those that
-/// are left of the input, and neither its outputs nor the names asked for nor what was said.
+/// A desk that has the same bytes for every name, and never fails. Contracts see these bytes and the rest of the input,
+/// but neither outputs, nor names, nor messages.
 #[derive(Drop)]
 pub struct QuietDesk {
     input: Input,
@@ -17,8 +17,8 @@ pub struct QuietDesk {
 impl QuietDesk {
     ghost use Rattle.jpg_base.specs.Quiet.{quiet_state, IsNewQuiet};
 
-    /// A desk with these bytes for every name, with no input and no output yet. It answers NoMemory where
-    /// memory is wanting.
+    /// A desk with these bytes for every name, with no input and no output yet. It answers NoMemory if there is no
+    /// memory for a copy.
     pub fn new(alloc: Global, bytes: &[u8]) -> Result<QuietDesk, NoMemory>
         ensures { IfOk result (λ desk. IsNewQuiet bytes.now (quiet_state desk)) }
     {

@@ -1,4 +1,4 @@
-// Real files and the standard streams. It tells nothing but its counts.
+//! Real files and the standard streams. Contracts see only the counts.
 ghost use Rattle.std.specs.Prelude.{◌≡◌, ◌≤◌, ◌<◌, None, true, length};
 ghost use Rattle.jpg_base.specs.Desk.{raised, Rose};
 ghost use Rattle.jpg_base.specs.Standard.{ReadsSome, WritesAll};
@@ -16,7 +16,7 @@ enum Source<R: Runtime> {
     File(R::File),
 }
 
-// Where bytes are written. Standard output and files differ in this alone.
+// Where bytes are written: standard output or a file.
 #[derive(Drop)]
 enum Sink<R: Runtime> {
     Closed,
@@ -38,7 +38,7 @@ impl<R: Runtime> Write for Sink<R> {
     }
 }
 
-/// All that the desk tells of itself.
+/// All of the desk's state that contracts see.
 #[derive(Clone, Copy)]
 pub struct Told {
     pub counts: Counts,
@@ -46,9 +46,9 @@ pub struct Told {
     pub output_created: bool,
 }
 
-/// Real files, standard input, output and error. `In` is read as standard input, `Out` is written as
-/// standard output, and what is said goes to standard error. To open `Out` and to create `In` fails,
-/// and so does a message that is no UTF-8. Each failure raises the count of its kind by one.
+/// Real files, standard input, output and error. `In` is read as standard input, `Out` is written as standard output,
+/// and messages go to standard error. Opening `Out`, creating `In` and saying what isn't UTF-8 fail. Each failure
+/// raises the count of its kind by one.
 #[derive(Drop)]
 pub struct StdDesk<R: Runtime> {
     rt: R,
@@ -68,7 +68,7 @@ fn raise(count: &mut u64)
 impl<R: Runtime> StdDesk<R> {
     ghost use Rattle.jpg_base.specs.Standard.{std_state, TellsNothing};
 
-    /// A desk with no input and no output yet, at which nothing has failed.
+    /// A desk with no input, no output and no failures yet.
     pub fn new(rt: R) -> Self
         ensures { TellsNothing (std_state result.told) }
     {
@@ -90,7 +90,7 @@ impl<R: Runtime> StdDesk<R> {
     }
 }
 
-// Standard output, unless there is no memory for it.
+// Standard output, unless there is no memory for its buffer.
 fn standard_output<R: Runtime>(rt: &R) -> Option<Sink<R>> {
     let rt: Result<R, AllocError> = rt.clone();
     match rt {
@@ -112,7 +112,7 @@ fn read_some<T: Read>(reader: &mut T, buf: &mut [u8]) -> Got
     }
 }
 
-// Writes all the bytes, in as many writes as it takes. A write of nothing is a failure.
+// Writes all the bytes, in as many writes as it takes. A write of no bytes is a failure.
 fn write_whole<W: Write>(writer: &mut W, piece: &[u8]) -> Put
     ensures { WritesAll (W.contents writer.old) piece.now result (W.contents writer.new) }
 {

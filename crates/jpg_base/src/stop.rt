@@ -1,4 +1,4 @@
-// Why a call stops, and how far a feed came.
+//! Why a call stops, and how a feed ends.
 ghost use Rattle.std.specs.Prelude.{◌≡◌};
 
 use crate::NoMemory;
@@ -8,7 +8,7 @@ use jpg_spec::FaultAt;
 #[derive(Clone, Copy, Debug, PartialEq, Eq)]
 pub struct WriteFault;
 
-/// Why reading stops: the input has a fault, or memory is wanting.
+/// Why reading stops: the input has a fault, or there is no memory.
 #[derive(Clone, Copy, Debug, PartialEq, Eq)]
 pub enum Stop {
     Fault(FaultAt),
@@ -25,7 +25,7 @@ impl From<NoMemory> for Stop {
     }
 }
 
-/// What a piece of input led to: more is wanted, or the file is whole after this many bytes of the piece.
+/// The answer to a piece of input: more is needed, or the file is complete after this many bytes of the piece.
 #[derive(Clone, Copy, Debug, PartialEq, Eq)]
 pub enum Fed {
     More,

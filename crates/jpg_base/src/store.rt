@@ -1,11 +1,10 @@
-// Bits that wait in a word.
+//! Bits in a word, which wait to be decoded.
 ghost use Rattle.std.specs.Prelude.{◌≡◌, ◌<◌, ◌≤◌, ◌+◌, ◌-◌, ◌^◌, [], ◌∷◌, ◌++◌, length, take, drop, slice_index_or, false};
 ghost use Rattle.jpg_spec.specs.Bits.{bits_of};
 
 use std::marker::Model;
 
-/// At most 64 bits in their order. They are the low `count` bits of the word; what stands above them
-/// is of no account.
+/// At most 64 bits in their order. They are the low `count` bits of the word; the bits above them are ignored.
 #[derive(Drop)]
 pub struct BitStore {
     word: u64,
@@ -31,7 +30,7 @@ impl BitStore {
         BitStore { word: 0, count: 0 }
     }
 
-    /// The same bits again.
+    /// A copy of the bits.
     #[inline(always)]
     pub fn copy(&self) -> BitStore
         ensures { result ≡ self.now }
@@ -72,7 +71,7 @@ impl BitStore {
         self.count += n;
     }
 
-    // The `n` bits behind the first ones.
+    // The `n` bits after the first `before` ones.
     #[inline(always)]
     fn part(&self, before: u8, n: u8) -> u64
         requires some { 1 ≤ n }
@@ -95,9 +94,9 @@ impl BitStore {
         if n == 0 { 0 } else { self.part(0, n) as u32 }
     }
 
-    /// The `n` bits behind the first `before` ones as a number.
+    /// The `n` bits after the first `before` ones, as a number.
     #[inline(always)]
-    pub fn peek_behind(&self, before: u8, n: u8) -> u32
+    pub fn peek_after(&self, before: u8, n: u8) -> u32
         requires some { 1 ≤ n }
         requires few { n ≤ 24 }
         requires there { before + n ≤ length self.now }
@@ -134,7 +133,7 @@ impl BitStore {
         self.count -= n;
     }
 
-    /// Takes 32 bits from the front of another store, or all that it has.
+    /// Takes 32 bits from the start of another store, or all that it has.
     #[inline(always)]
     pub fn take_from(&mut self, store: &mut BitStore)
         requires { length self.old ≤ 32 }
@@ -149,7 +148,7 @@ impl BitStore {
         }
     }
 
-    /// These bits, and behind them 32 from the front of another store, or all that it has.
+    /// These bits, followed by the first 32 of another store, or by all of its bits if there are fewer.
     #[inline(always)]
     pub fn joined(&self, store: &BitStore) -> BitStore
         requires { length self.now ≤ 32 }

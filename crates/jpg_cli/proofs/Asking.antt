@@ -1,14 +1,14 @@
--- The words of wrjpgcom, one switch after another.
+-- The words of wrjpgcom, switch by switch.
 use Rattle.std.proofs.Common.{◌≡◌, ℕ, ◌+◌, ◌<◌, Bool, true, false, List, [], ◌∷◌, length, drop, refl, sym, ap, ◌∙◌, arith}
 use Rattle.std.specs.Prelude.{Some}
 use Rattle.std.specs.Borrow.{Bor}
 use Rattle.std.proofs.lemmas.List.{drop_more}
-use Rattle.jpg_spec.specs.Switches.{is_switch, purpose_of, wrjpgcom_switches}
-use Rattle.jpg_spec.specs.CommentWords.{CommentSource, from_words, from_file, is_given, is_in_file, write_asked_from}
-use Rattle.jpg_spec.specs.declared.switch.Purpose.TheVariants.{Replacing, CommentGiven, CommentInFile}
-use Rattle.jpg_cli.specs.declared.comment_words.CommentWord.{CommentWord}
-use Rattle.jpg_cli.specs.declared.comment_words.CommentWord.TheVariants as word
-use Rattle.jpg_cli.specs.CommentWords.{source_told, word_at}
+use Rattle.jpg_spec_words.specs.Switches.{is_switch, purpose_of, wrjpgcom_switches}
+use Rattle.jpg_spec_words.specs.CommentWords.{CommentSource, from_words, from_file, is_given, is_in_file, write_asked_from}
+use Rattle.jpg_spec_words.specs.declared.switch.Purpose.TheVariants.{Replacing, CommentGiven, CommentInFile}
+use Rattle.jpg_cli.specs.declared.words.comments.CommentWord.{CommentWord}
+use Rattle.jpg_cli.specs.declared.words.comments.CommentWord.TheVariants as word
+use Rattle.jpg_cli.specs.Words.CommentWords.{source_told, word_at}
 
 pub not_in_file : (w : CommentWord) → ((name : Bor (List ℕ)) → w ≡ word.File name → ⊥) → is_in_file (source_told w) ≡ false
 not_in_file word.Input other = refl

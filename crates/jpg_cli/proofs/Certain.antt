@@ -1,43 +1,44 @@
--- Where all calls are done, a file that has what a command of comments wants gets it.
+-- If all calls succeed, a file that has what its command needs is processed.
 use Rattle.std.proofs.Common.{◌⊎◌, ◌≡◌, ℕ, ◌<◌, ◌≤◌, Bool, List, length, take, Option, None, Some, Result, Ok, Err, sym, ap, ◌∙◌, subst, arith, inl, inr}
 use Rattle.std.proofs.lemmas.List.{length-append, take_all, take-append-le}
 use Rattle.jpg_base.specs.declared.names.Name.{Name}
 use Rattle.jpg_base.specs.declared.names.Name.TheVariants as name
 use Rattle.jpg_base.specs.Desk.{DeskState}
 use Rattle.jpg_spec.specs.Segments.{standard_limits}
-use Rattle.jpg_spec.specs.CommentText.{IsInserted, IsInsertFault, IsReadFault}
-use Rattle.jpg_spec.specs.CommentWords.{CommentSource, from_input, from_words, from_file}
-use Rattle.jpg_spec.specs.declared.answers.FaultAt.{FaultAt}
-use Rattle.jpg_spec.specs.declared.answers.Why.{Why}
-use Rattle.jpg_spec.specs.declared.answers.Why.TheVariants as why
+use Rattle.jpg_spec_write.specs.CommentText.{IsInserted, IsInsertFault, IsReadFault}
+use Rattle.jpg_spec_words.specs.CommentWords.{CommentSource, from_input, from_words, from_file}
+use Rattle.jpg_spec.specs.declared.fault.FaultAt.{FaultAt}
+use Rattle.jpg_spec_words.specs.declared.answers.Why.{Why}
+use Rattle.jpg_spec_words.specs.declared.answers.Why.TheVariants as why
 use Rattle.jpg_comments.specs.Inserting.{HoldsHead}
 use Rattle.jpg_comments.specs.Printing.{HoldsWhole}
 use Rattle.jpg_scans.proofs.OneScript.{one_answer}
 use Rattle.jpg_comments.proofs.OneAnswer.{heads_sound, reading_sound, whole_no_fault}
 use Rattle.jpg_cli.specs.Certain.{AreToldScans, HasFrameHeader, HasImage, HasPicture, HasWholeFile, IsDoneAsOrWanting, IsDoneOrWanting, IsTold, IsToldComment, IsToldScript}
-use Rattle.jpg_cli.specs.CommentInserted.{HasInputFault, HasLongComment, Inserted, IsComment, IsInsertDue, Task}
-use Rattle.jpg_cli.specs.ReadComments.{IsPrintDue, Printed}
-use Rattle.jpg_cli.specs.Reading.{IsFile}
+use Rattle.jpg_cli.specs.Tools.CommentInserted.{HasInputFault, HasLongComment, Inserted, IsComment, IsInsertDue, Task}
+use Rattle.jpg_cli.specs.Tools.ReadComments.{IsPrintDue, Printed}
+use Rattle.jpg_cli.specs.Desk.Reading.{IsFile}
 use Rattle.jpg_cli.specs.Laws.{MeanSame, WasTurnedBack, text_back}
 use Rattle.jpg_cli.specs.Run.{IsAnswerDue, IsRefusalDue, IsShowDue, NoneRose, PictureDue}
 use Rattle.jpg_cli.specs.Commands.{name_of}
-use Rattle.jpg_cli.specs.ScriptTaken.{HasScans, HasScansFault, TellsIn}
-use Rattle.jpg_cli.specs.Showing.{Showing, Shown}
-use Rattle.jpg_cli.specs.Turned.{Transformed}
-use Rattle.jpg_cli.specs.ReadPicture.{IsRefused, IsRefusedFor}
-use Rattle.jpg_cli.specs.declared.read_picture.Wanted.TheVariants.{Coefficients, Image}
+use Rattle.jpg_cli.specs.Desk.ScriptTaken.{HasScans, HasScansFault, TellsIn}
+use Rattle.jpg_cli.specs.Tools.Showing.{Showing, Shown}
+use Rattle.jpg_cli.specs.Tools.Turned.{Transformed}
+use Rattle.jpg_cli.specs.Desk.ReadPicture.{IsRefused, IsRefusedFor}
+use Rattle.jpg_cli.specs.declared.desk.picture.Wanted.TheVariants.{Coefficients, Image}
 use Rattle.jpg_spec.specs.Early.{IsMeaning, MeansAs, MeansEarly}
 use Rattle.jpg_spec.specs.FileMeaning.{Means}
 use Rattle.jpg_spec.specs.Meaning.{Meaning}
-use Rattle.jpg_spec.specs.Pixels.{out_fault}
-use Rattle.jpg_spec.specs.Moved.{Scans, given, moved, picture_fault}
-use Rattle.jpg_spec.specs.Script.{Entry}
-use Rattle.jpg_spec.specs.ScriptGrammar.{TellsScript}
-use Rattle.jpg_spec.specs.TransformWords.{ScansSource, own_sequential, own_progressive, in_file, TransformAsked, choice_asked}
-use Rattle.jpg_spec.specs.declared.transform.PictureFault.{PictureFault}
-use Rattle.jpg_spec.specs.declared.transform.Transform.{Transform}
-use Rattle.jpg_spec.proofs.MovedBack.{moved_back}
-use Rattle.jpg_spec.proofs.ShownAlike.{shown_alike}
+use Rattle.jpg_spec_image.specs.Pixels.{out_fault}
+use Rattle.jpg_spec_write.specs.ScansAsked.{Scans, given}
+use Rattle.jpg_spec_move.specs.Moved.{moved, picture_fault}
+use Rattle.jpg_spec_write.specs.Script.{Entry}
+use Rattle.jpg_spec_write.specs.ScriptGrammar.{TellsScript}
+use Rattle.jpg_spec_words.specs.TransformWords.{ScansSource, own_sequential, own_progressive, in_file, TransformAsked, choice_asked}
+use Rattle.jpg_spec_write.specs.declared.picture_fault.PictureFault.{PictureFault}
+use Rattle.jpg_spec_move.specs.declared.transform.Transform.{Transform}
+use Rattle.jpg_spec_move.proofs.MovedBack.{moved_back}
+use Rattle.jpg_spec_image.proofs.ShownAlike.{shown_alike}
 use Rattle.jpg_spec.proofs.EarlyOnce.{meaning_once, means_not_early}
 use Rattle.jpg_spec.proofs.FileLaws.{early_no_fault, means_no_fault}
 use Rattle.jpg_cli.proofs.Ending.{due_answer, show_due}
@@ -45,7 +46,7 @@ use Rattle.jpg_cli.proofs.CommentsPrinted.{print_due}
 use Rattle.jpg_cli.proofs.Input.{some_inj}
 use Rattle.jpg_cli.proofs.InsertedThen.{insert_due}
 
--- a file that is told is one
+-- a known file has one list of bytes
 pub one_file : (files : Option (Name → Option (List ℕ))) (n : Name) (bytes other : List ℕ) → IsTold files n bytes → IsFile files n other → other ≡ bytes
 one_file None n bytes other told is = absurd told
 one_file (Some files) n bytes other told is = some_inj other bytes (sym is ∙ told)
@@ -107,9 +108,9 @@ inserted_certain old new task w has none done = by w (insert_due old new task w 
     by why.WriteFault due = absurd due
     by why.NoMemory due = tt
 
--- TURNED
+-- TRANSFORMED
 
--- where coefficients are wanted, nothing is unwanted
+-- if coefficients are asked for, no file is unwanted
 pub refused_alone : (input : List ℕ) (f : FaultAt) → IsRefusedFor Coefficients input f → IsRefused input f
 refused_alone input f (inl a) = a.0
 refused_alone input f (inr a) = absurd a.0
@@ -117,7 +118,7 @@ refused_alone input f (inr a) = absurd a.0
 no_fault : (fault : PictureFault) → None ≡ Some fault → ⊥
 no_fault fault e = cc
 
--- the scans of a file that is told are one, and no fault
+-- the scans of a known file are the same ones, and have no fault
 
 abbrev Told : Type 0
 Told = Result (List Entry) FaultAt
@@ -159,7 +160,7 @@ pub none_faulty : (bytes : List ℕ) (M : Meaning) (f : FaultAt) → IsMeaning s
 none_faulty bytes M f (inl means) fault = means_no_fault standard_limits bytes M f.fault f.at means fault
 none_faulty bytes M f (inr means) fault = early_no_fault standard_limits bytes f.fault f.at means.0 fault
 
--- what is meant is meant once, in one way
+-- bytes have one meaning, in one way
 
 pub meaning_of_as : (early : Option ℕ) (bytes : List ℕ) (M : Meaning) → MeansAs standard_limits early bytes M → IsMeaning standard_limits bytes M
 meaning_of_as None bytes M means = inl means
@@ -212,12 +213,12 @@ turned_certain a old new w has none turned = by w (due_answer a old new w none t
     by why.WriteFault due = absurd due
     by why.NoMemory due = wanting has.early
 
--- SHOWN
+-- DECODED
 
 none_out : (f : FaultAt) → None ≡ Some f.fault → ⊥
 none_out f e = cc
 
--- a file whose picture is shown is refused with nothing
+-- a file whose picture can be displayed isn't refused
 pub none_unshown : (gray : Bool) (bytes : List ℕ) (M : Meaning) (f : FaultAt) → IsMeaning standard_limits bytes M → out_fault gray M ≡ None → IsRefusedFor (Image gray) bytes f → ⊥
 none_unshown gray bytes M f means shown (inl (fault, later)) = none_faulty bytes M f means fault
 none_unshown gray bytes M f means shown (inr (out, later)) = none_out f (sym shown ∙ (shown_alike standard_limits gray bytes M means).same f out)
@@ -240,7 +241,7 @@ shown_certain s old new w has none shown = by w (show_due s old new w none shown
     by why.WriteFault due = absurd due
     by why.NoMemory due = wanting has.early
 
--- AND TURNED BACK
+-- AND TRANSFORMED BACK
 
 pub turned_back : (t : Transform) (M : Meaning) (w : WasTurnedBack t M) → MeanSame (text_back w) M
 turned_back t M w =

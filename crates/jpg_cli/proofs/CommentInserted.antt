@@ -1,4 +1,4 @@
--- What inserting a comment comes to, over the states that a desk tells.
+-- What inserting a comment does, over the states of a desk.
 use Rattle.std.proofs.Common.{◌⊎◌, ◌≡◌, ℕ, ◌<◌, ◌≤◌, ◌-◌, ◌^◌, Bool, false, IfNone, List, [], ◌∷◌, ◌++◌, length, take, Option, None, Some, Ok, Err, refl, sym, ap, ◌∙◌, subst, arith, inl, inr}
 use Rattle.std.proofs.lemmas.List.{append-nil, length-append, length-take, take_all, take-append-le}
 use Rattle.std.specs.Io.KnownBytes.{Consumes}
@@ -12,26 +12,26 @@ use Rattle.jpg_base.specs.Laws.{Consumes-then, Grows-from, NoneFell-then, NotesN
 use Rattle.jpg_huff.specs.Out.{OnlyWrites}
 use Rattle.jpg_spec.specs.Segments.{standard_limits}
 use Rattle.jpg_markers.specs.Reading.{reading_of}
-use Rattle.jpg_spec.specs.CommentWords.{CommentSource, from_input, from_words, from_file, is_given}
+use Rattle.jpg_spec_words.specs.CommentWords.{CommentSource, from_input, from_words, from_file, is_given}
 use Rattle.jpg_spec.specs.declared.fault.Fault.{Fault}
 use Rattle.jpg_spec.specs.declared.fault.Fault.TheVariants.{CommentTooLong}
-use Rattle.jpg_spec.specs.declared.answers.FaultAt.{FaultAt}
-use Rattle.jpg_spec.specs.declared.answers.Why.{Why}
-use Rattle.jpg_spec.specs.declared.answers.Why.TheVariants as why
-use Rattle.jpg_spec.specs.declared.answers.Which.TheVariants as which
+use Rattle.jpg_spec.specs.declared.fault.FaultAt.{FaultAt}
+use Rattle.jpg_spec_words.specs.declared.answers.Why.{Why}
+use Rattle.jpg_spec_words.specs.declared.answers.Why.TheVariants as why
+use Rattle.jpg_spec_words.specs.declared.answers.Which.TheVariants as which
 use Rattle.jpg_comments.specs.WriteInserted.{HasInserted, StandsAt}
 use Rattle.jpg_comments.specs.declared.insert.Insert.{Insert}
-use Rattle.jpg_cli.specs.CommentInserted.{AfterBegin, Inserted, IsOutOfMemory, IsComment, IsCommentRead, IsReading, IsShortComment, IsWriting, ReadsAlone, ReadsComment, ReadsInput, ReadsLast, Task, WritesText, names_of, names_to_input, names_to_output}
+use Rattle.jpg_cli.specs.Tools.CommentInserted.{AfterFrameMarker, Inserted, IsOutOfMemory, IsComment, IsCommentRead, IsReading, IsShortComment, IsWriting, ReadsAlone, ReadsComment, ReadsInput, ReadsLast, Task, WritesText, names_of, names_to_input, names_to_output}
 use Rattle.jpg_cli.specs.Endings.{Asks, Stopped, Unopened, Unread}
 use Rattle.jpg_cli.proofs.Endings.{asks_next, asks_still}
-use Rattle.jpg_cli.specs.CommentTaken.{AfterComment, AfterWords}
-use Rattle.jpg_cli.specs.FileTaken.{AfterFile}
-use Rattle.jpg_cli.specs.InsertComment.{AfterFed, EndsBefore, EndsInserting, IsAtHead, IsBegunWith, IsFaultBefore, IsFilePart, IsLongFile, IsNoHead, IsInsertedWhole}
-use Rattle.jpg_cli.specs.ReadComments.{Copies, HasCopied}
+use Rattle.jpg_cli.specs.Desk.CommentTaken.{AfterComment, AfterWords}
+use Rattle.jpg_cli.specs.Desk.FileTaken.{AfterFile}
+use Rattle.jpg_cli.specs.Tools.InsertComment.{AfterFed, EndsBefore, EndsInserting, IsAtHead, IsBegunWith, IsFaultBefore, IsFilePart, IsLongFile, IsNoHead, IsInsertedWhole}
+use Rattle.jpg_cli.specs.Tools.ReadComments.{CopiesText, HasCopied}
 use Rattle.jpg_cli.specs.Stays.{OnlyCopies}
-use Rattle.jpg_cli.specs.Reading.{IsFile, ReadsPart, rest_of}
+use Rattle.jpg_cli.specs.Desk.Reading.{IsFile, ReadsPart, rest_of}
 use Rattle.jpg_cli.specs.Stays.{Keeps, OnlyReads}
-use Rattle.jpg_cli.specs.FileTaken.{AfterFile}
+use Rattle.jpg_cli.specs.Desk.FileTaken.{AfterFile}
 use Rattle.jpg_cli.specs.Stays.{Keeps, OnlyCopies, OnlyReads, Untouched}
 use Rattle.jpg_cli.proofs.Input.{file_read}
 use Rattle.jpg_cli.proofs.CommentsCopied.{copies_then, had_told, none_read}
@@ -89,7 +89,7 @@ written_first task comment bytes text old s0 s1 s2 r k w appended = record {
   counts = NoneFell-then old.counts s1.counts s2.counts (NoneFell-then old.counts s0.counts s1.counts r.counts k.counts) w.counts;
 }
 
--- what was written stands when the run ends
+-- what was written is in the output when the run ends
 writes : (task : Task) (comment bytes text : List ℕ) (old now : DeskState) (Is : List ℕ → List ℕ → List ℕ → Type 0) → IsWriting task comment bytes text old now → Is comment bytes text → WritesText task Is old now
 writes task comment bytes text old now Is w is = record {
   comment = comment;
@@ -105,7 +105,7 @@ writes task comment bytes text old now Is w is = record {
 
 -- AT THE MARKER of the frame header
 
-due_first : (task : Task) (comment bytes text : List ℕ) (old now : DeskState) (due : Option Why) (c : Insert) → 0 < length text → AfterFed comment task.replace bytes text due c → IsWriting task comment bytes text old now → AfterBegin task comment old due c now
+due_first : (task : Task) (comment bytes text : List ℕ) (old now : DeskState) (due : Option Why) (c : Insert) → 0 < length text → AfterFed comment task.replace bytes text due c → IsWriting task comment bytes text old now → AfterFrameMarker task comment old due c now
 due_first task comment bytes text old now None c some h w = (bytes, text, some, h, w)
 due_first task comment bytes text old now (Some why.Done) c some h w = absurd h
 due_first task comment bytes text old now (Some (why.Warned n)) c some h w = absurd h
@@ -123,7 +123,7 @@ pub first_uncreated : (task : Task) (comment bytes : List ℕ) (old s0 s1 : Desk
 first_uncreated task comment bytes old s0 s1 output e at r k = uncreated task comment bytes old s0 s1 at r (subst (λ (n : Name). Creates s0 n put.Failed s1) (sym e) k)
 
 pub first_written : (task : Task) (comment bytes text : List ℕ) (old s0 s1 s2 : DeskState) (output : Name) (due : Option Why) (c : Insert) → task.output ≡ output → 0 < length text → IsReading task comment bytes old s0 → AfterFed comment task.replace bytes text due c
-    → Creates s0 output put.Done s1 → OnlyWrites s1 s2 → AfterWrite s1 text put.Done s2 → AfterBegin task comment old due c s2
+    → Creates s0 output put.Done s1 → OnlyWrites s1 s2 → AfterWrite s1 text put.Done s2 → AfterFrameMarker task comment old due c s2
 first_written task comment bytes text old s0 s1 s2 output due c e some r h k w appended =
     due_first task comment bytes text old s2 due c some h (written_first task comment bytes text old s0 s1 s2 r (subst (λ (n : Name). Creates s0 n put.Done s1) (sym e) k) w appended)
 
@@ -136,9 +136,9 @@ first_unwritten task comment bytes text old s0 s1 s2 output due c e some limits 
   (let f = r.counts.writes in let g = k.counts.writes in omega (arith, rose, f, g)),
 )
 
--- BEHIND IT
+-- AFTER IT
 
--- the desk as it would be, had it told the output at its creation and the input as it was opened
+-- the desk as it would be if its output were known from its creation and its input from its opening
 abbrev pub begun : (task : Task) (comment bytes text : List ℕ) (old now : DeskState) → IsWriting task comment bytes text old now → DeskState
 begun task comment bytes text old now w = had_told w.left w.created now
 
@@ -164,7 +164,7 @@ writing_more task comment bytes text more all old s0 s1 w k h = record {
 pub ends : (task : Task) (comment bytes text : List ℕ) (old s0 s1 : DeskState) (w : IsWriting task comment bytes text old s0) (ended : Why) → OnlyCopies s0 s1 → EndsInserting comment task.replace (begun task comment bytes text old s0 w) ended s1 → Inserted task old ended s1
 ends task comment bytes text old s0 s1 w ended k h = by ended h
   where
-    copies : (Is : List ℕ → List ℕ → List ℕ → Type 0) → Copies (Is comment) (begun task comment bytes text old s0 w) s1 → WritesText task Is old s1
+    copies : (Is : List ℕ → List ℕ → List ℕ → Type 0) → CopiesText (Is comment) (begun task comment bytes text old s0 w) s1 → WritesText task Is old s1
     copies Is c = writes task comment c.0 c.1 old s1 Is (writing_more task comment bytes text c.0 c.1 old s0 s1 w k c.2) c.3
 
     by : (ended : Why) → EndsInserting comment task.replace (begun task comment bytes text old s0 w) ended s1 → Inserted task old ended s1
@@ -184,7 +184,7 @@ ends task comment bytes text old s0 s1 w ended k h = by ended h
 
 -- WHERE NOTHING IS WRITTEN
 
--- what was read stands when the run ends
+-- what was read is the result when the run ends
 reads_alone : (task : Task) (comment bytes : List ℕ) (old now : DeskState) (Is : List ℕ → Type 0) → IsReading task comment bytes old now → Is bytes → ReadsAlone task Is old now
 reads_alone task comment bytes old now Is r is = (
   record { asked = r.names; outputs = r.outputs },
@@ -240,33 +240,33 @@ reads_then a b c h k = record { copies = copies_then a b c h.copies k.copies; ou
 pub fed_most : (comment bytes text : List ℕ) (c : Insert) → c.limits ≡ standard_limits → HasInserted comment bytes text c → length bytes ≤ standard_limits.input
 fed_most comment bytes text c e h = (let short = fed_short comment bytes text c e h in omega (arith, short))
 
--- where the first text was written, more may come
+-- if the first text was written, more may follow
 pub more_begun : (result due : Option Why) (replace : Bool) (comment bytes text : List ℕ) (c : Insert) → IfNone result (due ≡ None) → 0 < length text → AfterFed comment replace bytes text due c
     → IfNone result ((with : List ℕ) × (all : List ℕ) × (written : List ℕ) × (0 < length written) × HasInserted with all written c)
 more_begun None due replace comment bytes text c none some h = (comment, bytes, text, some, subst (λ (d : Option Why). AfterFed comment replace bytes text d c) none h)
 more_begun (Some w) due replace comment bytes text c none some h = tt
 
--- the number of bytes taken, behind the marker
-pub taken_behind : (comment bytes text : List ℕ) (c : Insert) → c.limits ≡ standard_limits → 0 < length text → HasInserted comment bytes text c → (unwrap_or c.taken 0 ≡ length bytes) × (length bytes < standard_limits.input)
-taken_behind comment bytes text c e some h = (by c.taken (stands comment bytes text c e h), fed_short comment bytes text c e h)
+-- the number of bytes taken after the marker
+pub taken_after : (comment bytes text : List ℕ) (c : Insert) → c.limits ≡ standard_limits → 0 < length text → HasInserted comment bytes text c → (unwrap_or c.taken 0 ≡ length bytes) × (length bytes < standard_limits.input)
+taken_after comment bytes text c e some h = (by c.taken (stands comment bytes text c e h), fed_short comment bytes text c e h)
   where
     by : (taken : Option ℕ) → StandsAt standard_limits comment c.replace bytes text taken c.head (reading_of c.reader) → unwrap_or taken 0 ≡ length bytes
     by None s = absurd (not_none text s.1 some)
     by (Some taken) s = s.0
 
--- a desk of which nothing is told
+-- a desk of which nothing is known
 abbrev pub blank : DeskState → DeskState
 blank s = had_told None None s
 
 pub blank_copied : (s : DeskState) (bytes text : List ℕ) → length bytes < standard_limits.input → HasCopied (blank s) bytes text s
 blank_copied s bytes text short = record { most = omega (arith, short); read = tt; written = tt }
 
--- each piece makes the bytes that may still come fewer
+-- each piece reduces the number of bytes that may follow
 pub fewer : (comment bytes piece text all : List ℕ) (was c : Insert) → was.limits ≡ standard_limits → c.limits ≡ standard_limits → 0 < length text → 0 < length all → 0 < length piece → HasInserted comment bytes text was → HasInserted comment (bytes ++ piece) all c
     → 2 ^ 40 - unwrap_or c.taken 0 < 2 ^ 40 - unwrap_or was.taken 0
 fewer comment bytes piece text all was c e f some more longer h k =
-    let a = taken_behind comment bytes text was e some h in
-    let b = taken_behind comment (bytes ++ piece) all c f more k in
+    let a = taken_after comment bytes text was e some h in
+    let b = taken_after comment (bytes ++ piece) all c f more k in
     let before = a.0 in let after = b.0 in let room = b.1 in
     omega (arith, before, after, room, longer, length-append bytes piece)
 
@@ -277,7 +277,7 @@ none_noted a None e = tt
 none_noted None (Some b) e = absurd (let z : Some b ≡ None = e in cc)
 none_noted (Some a) (Some b) e = (let z : b ≡ a = (let y : Some b ≡ Some a = e in cc) in z ∙ sym (append-nil a))
 
--- The bytes of the words are taken as they are. Where they are too long, so is their front.
+-- The bytes of the words are taken as they are. If they are too long, so is a prefix of them.
 pub took : (old now : DeskState) (source : CommentSource) (bytes : List ℕ) → AfterComment old source (Ok bytes) now
     → (comment : List ℕ) × IsComment old source comment × Asks (names_of source) put.Done old now × ((bytes ≡ comment) ⊎ (bytes ≡ take 65001 comment)) × IsCommentRead source comment now
 took old now from_input bytes (names, is, front) = (bytes ++ rest_of now.left, is, names, inr front, ap (λ (b : List ℕ). b ++ rest_of now.left) front)
@@ -323,7 +323,7 @@ comment_last : (task : Task) (old now : DeskState) → (now.left ≡ old.left) �
 comment_last task old now (inl same) = inl same
 comment_last task old now (inr read) = inr (inl read)
 
--- it was taken, and then memory was wanting
+-- it was taken, and then there was no memory
 comment_only : (task : Task) (old now : DeskState) (bytes : List ℕ) → Keeps old now → AfterComment old task.comment (Ok bytes) now → Inserted task old why.NoMemory now
 comment_only task old now bytes k h =
     let names = names_of task.comment in

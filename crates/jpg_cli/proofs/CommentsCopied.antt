@@ -1,4 +1,4 @@
--- What reading pieces and writing the text of their comments comes to, over the states that a desk tells.
+-- What reading pieces and writing the text of their comments does, over the states of a desk.
 use Rattle.std.proofs.Common.{◌≡◌, ℕ, ◌+◌, ◌==◌, Bool, true, ◌<◌, ◌≤◌, List, [], ◌∷◌, ◌++◌, length, take, Option, None, Some, refl, sym, ap, ◌∙◌, subst, arith}
 use Rattle.std.proofs.lemmas.List.{append-nil, length-append, length-take}
 use Rattle.std.specs.Io.KnownBytes.{Consumes, IsAtEnd}
@@ -10,14 +10,14 @@ use Rattle.jpg_base.specs.Laws.{NoneFell-then, Consumes-then, AppendsLast-then, 
 use Rattle.jpg_huff.specs.Out.{OnlyWrites}
 use Rattle.jpg_spec.specs.Segments.{standard_limits}
 use Rattle.jpg_spec.specs.declared.frame.Limits.{Limits}
-use Rattle.jpg_spec.specs.declared.answers.Why.{Why}
-use Rattle.jpg_spec.specs.declared.answers.Why.TheVariants as why
-use Rattle.jpg_spec.specs.declared.answers.Which.TheVariants as which
-use Rattle.jpg_comments.specs.Begun.{Appends}
+use Rattle.jpg_spec_words.specs.declared.answers.Why.{Why}
+use Rattle.jpg_spec_words.specs.declared.answers.Why.TheVariants as why
+use Rattle.jpg_spec_words.specs.declared.answers.Which.TheVariants as which
+use Rattle.jpg_comments.specs.SegmentsSoFar.{Appends}
 use Rattle.jpg_comments.specs.ReadComments.{HasRead}
 use Rattle.jpg_comments.specs.declared.comments.Comments.{Comments}
-use Rattle.jpg_cli.specs.Reading.{rest_of}
-use Rattle.jpg_cli.specs.ReadComments.{AfterEnd, AfterNext, AfterTaking, EndsCopying, HasCopied, IsFaultText}
+use Rattle.jpg_cli.specs.Desk.Reading.{rest_of}
+use Rattle.jpg_cli.specs.Tools.ReadComments.{AfterEnd, AfterNext, AfterTaking, EndsCopying, HasCopied, IsFaultText}
 use Rattle.jpg_cli.specs.Stays.{OnlyCopies, OnlyWorks}
 use Rattle.jpg_cli.proofs.Input.{none_left}
 use Rattle.jpg_cli.proofs.CommentsRead.{part_of_part, taken_part, text_so_far}
@@ -39,7 +39,7 @@ none_read (Some left) = refl
 
 -- FRAMES
 
--- the desk as it would be, had it told these bytes left and these outputs
+-- the desk as it would be if these bytes left and these outputs were known
 abbrev pub had_told : Option (List ℕ) → Option (List (Name × List ℕ)) → DeskState → DeskState
 had_told left outputs s = record s { left = left; outputs = outputs }
 
@@ -87,7 +87,7 @@ copied start s0 s1 s2 bytes text piece more most h read same k w = record {
 pub copied_still : (start s0 s1 : DeskState) (bytes text : List ℕ) → HasCopied start bytes text s0 → s1.left ≡ s0.left → s1.outputs ≡ s0.outputs → HasCopied start bytes text s1
 copied_still start s0 s1 bytes text h left outputs = record { most = h.most; read = left_still s0 s1 bytes start left h.read; written = outputs_still s0 s1 text start outputs h.written }
 
--- all was written: what the piece came to is so of the desk
+-- all was written: the result of the piece is that of the desk
 pub next_due : (start s2 : DeskState) (bytes text piece all : List ℕ) (due : Option Why) (c : Comments) → 0 < length piece → AfterTaking (bytes ++ piece) all due c → HasCopied start (bytes ++ piece) all s2 → AfterNext start bytes due c s2
 next_due start s2 bytes text piece all None c some h k = (piece, all, some, h, k)
 next_due start s2 bytes text piece all (Some why.Done) c some h k = (bytes ++ piece, all, k, h)
@@ -100,7 +100,7 @@ next_due start s2 bytes text piece all (Some (why.ReadFault w)) c some h k = abs
 next_due start s2 bytes text piece all (Some why.WriteFault) c some h k = absurd h
 next_due start s2 bytes text piece all (Some why.NoMemory) c some h k = (bytes ++ piece, all, k, h)
 
--- a part was written alone
+-- only a part was written
 pub next_unwritten : (start s0 s1 s2 : DeskState) (bytes text piece more : List ℕ) (due : Option Why) (c : Comments) → length (bytes ++ piece) ≤ standard_limits.input → c.limits ≡ standard_limits → OnlyCopies start s0 → NoneFell s0.counts s1.counts → AfterTaking (bytes ++ piece) (text ++ more) due c
     → HasCopied start bytes text s0 → Consumes s0.left s1.left piece → s1.outputs ≡ s0.outputs → OnlyWrites s1 s2 → AfterWrite s1 more put.Failed s2 → EndsCopying start why.WriteFault s2
 next_unwritten start s0 s1 s2 bytes text piece more due c most e still fell h had read same k w =

@@ -1,4 +1,4 @@
--- What printing the comments of an input comes to, over the states that a desk tells.
+-- What printing the comments of an input does, over the states of a desk.
 use Rattle.std.proofs.Common.{◌≡◌, ℕ, List, [], ◌∷◌, ◌++◌, take, Option, sym, subst, arith}
 use Rattle.std.specs.Io.KnownBytes.{Consumes}
 use Rattle.std.proofs.lemmas.List.{length-append, take-append-le}
@@ -7,15 +7,15 @@ use Rattle.jpg_base.specs.declared.names.Put.{Put}
 use Rattle.jpg_base.specs.declared.names.Put.TheVariants as put
 use Rattle.jpg_base.specs.Desk.{DeskState, Creates, Opens}
 use Rattle.jpg_base.specs.Laws.{Grows, Grows-from}
-use Rattle.jpg_spec.specs.declared.answers.Why.{Why}
-use Rattle.jpg_spec.specs.declared.answers.Why.TheVariants as why
-use Rattle.jpg_spec.specs.declared.answers.Which.TheVariants as which
-use Rattle.jpg_cli.specs.Reading.{rest_of}
+use Rattle.jpg_spec_words.specs.declared.answers.Why.{Why}
+use Rattle.jpg_spec_words.specs.declared.answers.Why.TheVariants as why
+use Rattle.jpg_spec_words.specs.declared.answers.Which.TheVariants as which
+use Rattle.jpg_cli.specs.Desk.Reading.{rest_of}
 use Rattle.jpg_spec.specs.Segments.{standard_limits}
-use Rattle.jpg_spec.specs.CommentText.{IsReadWhole}
+use Rattle.jpg_spec_write.specs.CommentText.{IsReadWhole}
 use Rattle.jpg_cli.specs.Stays.{OnlyCopies, OnlySays}
 use Rattle.jpg_cli.specs.Run.{NoneRose}
-use Rattle.jpg_cli.specs.ReadComments.{Copies, EndsCopying, IsFaultText, IsPrintDue, IsTextPart, IsTextSoFar, IsWholeText, Printed}
+use Rattle.jpg_cli.specs.Tools.ReadComments.{CopiesText, EndsCopying, IsFaultText, IsPrintDue, IsTextPart, IsTextSoFar, IsWholeText, Printed}
 use Rattle.jpg_cli.specs.Endings.{Asks, Copied}
 use Rattle.jpg_cli.proofs.Endings.{copied_then, asks_next, asks_still, unopened_then}
 use Rattle.jpg_cli.proofs.Input.{file_read, notes_one}
@@ -25,7 +25,7 @@ use Rattle.jpg_cli.proofs.Input.{file_read, notes_one}
 both_names : (s0 s1 s2 : DeskState) (input output : Name) (answer : Put) → Opens s0 input put.Done s1 → Creates s1 output answer s2 → Asks (input ∷ output ∷ []) answer s0 s2
 both_names s0 s1 s2 input output answer h k = asks_next s0 s1 s2 (input ∷ []) output answer (notes_one s0.asked s1.asked (input, put.Done) h.asked) k.asked
 
-prints_from : (s0 s1 s2 s3 : DeskState) (input output : Name) (Is : List ℕ → List ℕ → Type 0) → Opens s0 input put.Done s1 → Creates s1 output put.Done s2 → OnlyCopies s2 s3 → Copies Is s2 s3 → Copied [] input output Is s0 s3
+prints_from : (s0 s1 s2 s3 : DeskState) (input output : Name) (Is : List ℕ → List ℕ → Type 0) → Opens s0 input put.Done s1 → Creates s1 output put.Done s2 → OnlyCopies s2 s3 → CopiesText Is s2 s3 → Copied [] input output Is s0 s3
 prints_from s0 s1 s2 s3 input output Is h k w c =
     let bytes = c.0 in let text = c.1 in
     let L : Option (List ℕ) → Type 0 = λ l. Consumes l s3.left bytes in

@@ -1,26 +1,26 @@
--- What the bytes of a file that were read come to, for the comments that were printed.
+-- What the bytes read from a file mean for the comments that were printed.
 use Rattle.std.proofs.Common.{◌⊎◌, ◌≡◌, ℕ, zero, suc, ◌+◌, ◌<◌, ◌≤◌, List, [], ◌∷◌, ◌++◌, length, take, Option, None, Some, refl, sym, ap, ◌∙◌, subst, arith, inl, inr}
 use Rattle.std.proofs.lemmas.List.{append-nil, length-append, take_all, take-append-le}
 use Rattle.std.proofs.Math.Seq.{take-append-add}
 use Rattle.jpg_spec.specs.Segments.{standard_limits}
-use Rattle.jpg_spec.specs.Markers.{Segment, kept_rule, SegmentsShow}
-use Rattle.jpg_spec.specs.CommentText.{comments_text, IsMarkerFault, IsReadFault, IsReadWhole, ShowsNothing}
+use Rattle.jpg_spec.specs.Markers.{Segment, kept_rule, SegmentsReveal}
+use Rattle.jpg_spec_write.specs.CommentText.{comments_text, IsMarkerFault, IsReadFault, IsReadWhole, RevealsNothing}
 use Rattle.jpg_spec.specs.declared.fault.Fault.{Fault}
 use Rattle.jpg_spec.specs.declared.fault.Fault.TheVariants.{Truncated}
-use Rattle.jpg_spec.specs.declared.answers.FaultAt.{FaultAt}
-use Rattle.jpg_spec.specs.declared.answers.Why.{Why}
-use Rattle.jpg_spec.specs.declared.answers.Why.TheVariants as why
+use Rattle.jpg_spec.specs.declared.fault.FaultAt.{FaultAt}
+use Rattle.jpg_spec_words.specs.declared.answers.Why.{Why}
+use Rattle.jpg_spec_words.specs.declared.answers.Why.TheVariants as why
 use Rattle.jpg_spec.specs.declared.frame.Limits.{Limits}
-use Rattle.jpg_comments.specs.Begun.{AreWholeBefore}
+use Rattle.jpg_comments.specs.SegmentsSoFar.{AreWholeBefore}
 use Rattle.jpg_comments.specs.Printing.{HoldsWhole, HasPrinted, PrintsBefore, PrintsPart, PrintsWhole}
 use Rattle.jpg_comments.specs.ReadComments.{HasRead, StopsAt}
 use Rattle.jpg_comments.specs.declared.comments.Comments.{Comments}
 use Rattle.jpg_markers.specs.Reading.{reading_of}
 use Rattle.jpg_comments.proofs.Taken.{begun}
 use Rattle.jpg_base.specs.declared.stop.Stop.TheVariants as stop
-use Rattle.jpg_cli.specs.ReadComments.{AfterEnd, AfterTaking, AreWhole, IsFaultText, IsTextPart, IsTextSoFar, IsWholeText}
+use Rattle.jpg_cli.specs.Tools.ReadComments.{AfterEnd, AfterTaking, AreCompleteSegments, IsFaultText, IsTextPart, IsTextSoFar, IsWholeText}
 
--- FRONTS
+-- PREFIXES
 
 -- a first part of a first part
 pub take_again : (k n : ℕ) (xs : List ℕ) → (m : ℕ) × (take k (take n xs) ≡ take m xs)
@@ -61,7 +61,7 @@ whole_text bytes piece text used limits e short h =
       is = p.2;
     }
 
--- a fault that is a file's stands in its bytes
+-- a fault of a file is in its bytes
 pub fault_within : (is_whole : List ℕ → Type 0) (bytes : List ℕ) (f : Fault) (n : ℕ) → IsMarkerFault standard_limits is_whole bytes f n → n ≤ length bytes
 fault_within is_whole bytes f n (w, inl h) = h.1.0
 fault_within is_whole bytes f n (w, inr (inl h)) = (let e = h.1 in let l = h.2 in omega (arith, e, l))
@@ -76,15 +76,15 @@ upto (suc n) (suc m) = next (upto n m)
     next (inl h) = inl (omega (arith, h))
     next (inr h) = inr (omega (arith, h))
 
--- a fault stands in the last piece
-pub fault_last : (is_whole : List ℕ → Type 0) (bytes piece : List ℕ) (f : FaultAt) → ShowsNothing standard_limits is_whole bytes → length bytes < standard_limits.input → length piece ≤ 65536
+-- a fault is in the last piece
+pub fault_last : (is_whole : List ℕ → Type 0) (bytes piece : List ℕ) (f : FaultAt) → RevealsNothing standard_limits is_whole bytes → length bytes < standard_limits.input → length piece ≤ 65536
     → IsMarkerFault standard_limits is_whole ((bytes ++ piece) ++ []) f.fault f.at → length (bytes ++ piece) < f.at + 65536
 fault_last is_whole bytes piece f nothing less short (w, inl h) = by (upto f.at (length bytes))
   where
     by : (f.at ≤ length bytes) ⊎ (length bytes < f.at) → length (bytes ++ piece) < f.at + 65536
     by (inl l) =
         let e : take f.at ((bytes ++ piece) ++ []) ≡ take f.at bytes = ap (take f.at) (append-nil (bytes ++ piece)) ∙ take-append-le f.at bytes piece l in
-        absurd ((nothing f.at l).0 f.fault (subst (λ (b : List ℕ). SegmentsShow (kept_rule standard_limits) f.fault b) e h.1.1))
+        absurd ((nothing f.at l).0 f.fault (subst (λ (b : List ℕ). SegmentsReveal (kept_rule standard_limits) f.fault b) e h.1.1))
     by (inr l) = omega (arith, l, short, length-append bytes piece)
 fault_last is_whole bytes piece f nothing less short (w, inr (inl h)) = (let e = h.1 in omega (arith, e, less, short, length-append bytes piece))
 fault_last is_whole bytes piece f nothing less short (w, inr (inr h)) = (let e = h.1 in omega (arith, e, length-append (bytes ++ piece) []))
@@ -114,7 +114,7 @@ part_text bytes text limits e h =
 
 -- THE END
 
-pub no_fault_shown : (is_whole : List ℕ → Type 0) (bytes : List ℕ) (f : FaultAt) → ShowsNothing standard_limits is_whole bytes → length bytes < standard_limits.input → IsMarkerFault standard_limits is_whole bytes f.fault f.at → f.at ≡ length bytes
+pub no_fault_shown : (is_whole : List ℕ → Type 0) (bytes : List ℕ) (f : FaultAt) → RevealsNothing standard_limits is_whole bytes → length bytes < standard_limits.input → IsMarkerFault standard_limits is_whole bytes f.fault f.at → f.at ≡ length bytes
 no_fault_shown is_whole bytes f nothing short (w, inl h) = absurd ((nothing f.at h.1.0).0 f.fault h.1.1)
 no_fault_shown is_whole bytes f nothing short (w, inr (inl h)) = absurd (let l = h.2 in omega (arith, l, short))
 no_fault_shown is_whole bytes f nothing short (w, inr (inr h)) = h.1
@@ -141,7 +141,7 @@ part_of_part bytes text k h =
     let again = take_again k h.count (comments_text h.before) in
     record { front = h.front; count = again.0; before = h.before; whole = h.whole; is = ap (take k) h.is ∙ again.1 }
 
-all_of : (front : ℕ) (bytes text : List ℕ) (before : List Segment) → AreWhole (take front bytes) before → text ≡ comments_text before → IsTextPart bytes text
+all_of : (front : ℕ) (bytes text : List ℕ) (before : List Segment) → AreCompleteSegments (take front bytes) before → text ≡ comments_text before → IsTextPart bytes text
 all_of front bytes text before whole is = record {
   front = front;
   count = length (comments_text before);
@@ -151,7 +151,7 @@ all_of front bytes text before whole is = record {
 }
 
 so_far_part : (bytes text : List ℕ) → IsTextSoFar bytes text → IsTextPart bytes text
-so_far_part bytes text h = all_of (length bytes) bytes text h.before (subst (λ (l : List ℕ). AreWhole l h.before) (sym (take_all (length bytes) bytes (omega arith))) (inr (Truncated, inr h.begun))) h.is
+so_far_part bytes text h = all_of (length bytes) bytes text h.before (subst (λ (l : List ℕ). AreCompleteSegments l h.before) (sym (take_all (length bytes) bytes (omega arith))) (inr (Truncated, inr h.begun))) h.is
 
 whole_part : (bytes text : List ℕ) → IsWholeText bytes text → IsTextPart bytes text
 whole_part bytes text h = all_of h.count bytes text h.before (inl h.whole) h.is

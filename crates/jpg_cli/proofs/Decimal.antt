@@ -40,7 +40,7 @@ at_least_one n zero h l = let p : n < 1 = l in omega arith
 at_least_one n (suc zero) h l = let p : n < 10 = l in omega arith
 at_least_one n (suc (suc f)) h l = omega arith
 
--- a digit more
+-- one more digit
 pub step : (places : List ℕ) (free n number : ℕ) → length places ≡ 20 → free ≤ 20 → 10 ≤ n → n < 10 ^ free → 1 ≤ free → digits_onto (44 + free) 10 false n (drop free places) ≡ decimal number
     → digits_onto (44 + (free - 1)) 10 false (n / 10) (drop (free - 1) (set places (free - 1) (48 + n % 10))) ≡ decimal number
 step places free n number long most ten small some e =

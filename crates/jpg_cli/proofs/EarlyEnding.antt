@@ -1,4 +1,5 @@
--- The image of a file that ended early is ended: with the MCU row in work, where one is missing, and zero rows after it.
+-- The image of a file that ended early is completed: with the current MCU row, if one is missing, and then with zero
+-- rows.
 use Rattle.std.proofs.Common.{◌≡◌, ℕ, ◌+◌, ◌*◌, ◌<◌, ◌≤◌, true, false, List, [], ◌∷◌, ◌++◌, length, take, drop, refl, sym, ap, ◌∙◌, subst, arith, inl, inr, ◌⊎◌, Option, Some, None, Result, Ok, Err}
 use Rattle.std.specs.Prelude.{◌==◌, IfOk}
 use Rattle.std.proofs.lemmas.Bool.{cases_lt}
@@ -12,43 +13,43 @@ use Rattle.jpg_spec.specs.Geometry.{Frame, bounds, mcu_row_frame, padded_blocks}
 use Rattle.jpg_spec.specs.InForce.{frame_of}
 use Rattle.jpg_spec.specs.Markers.{Segment}
 use Rattle.jpg_spec.specs.Meaning.{Meaning}
-use Rattle.jpg_spec.specs.Pixels.{out_fault}
+use Rattle.jpg_spec_image.specs.Pixels.{out_fault}
 use Rattle.jpg_spec.specs.Ranges.{AreInRange}
 use Rattle.jpg_spec.specs.RowLaws.{EndsEarlyByRows}
-use Rattle.jpg_spec.specs.RowsShown.{rows_text}
+use Rattle.jpg_spec_image.specs.RowsShown.{rows_text}
 use Rattle.jpg_spec.specs.RowsTold.{BeginsScanOfAll, CompletesRows}
 use Rattle.jpg_spec.specs.Scan.{Blocks}
 use Rattle.jpg_spec.specs.Segments.{standard_limits}
-use Rattle.jpg_spec.specs.Strips.{mcu_rows}
+use Rattle.jpg_spec_image.specs.Strips.{mcu_rows}
 use Rattle.jpg_spec.specs.declared.fault.Fault.{Fault}
 use Rattle.jpg_spec.specs.declared.frame.Limits.{Limits}
-use Rattle.jpg_spec.specs.declared.image.EndKind.{EndKind}
+use Rattle.jpg_spec_image.specs.declared.image.EndKind.{EndKind}
 use Rattle.jpg_spec.proofs.Common.{same_itself, same_of}
 use Rattle.jpg_spec.proofs.Ranges.{in_range}
 use Rattle.jpg_spec.proofs.RowsHeader.{begun_once}
 use Rattle.jpg_spec.proofs.RowsOnce.{rows_once}
-use Rattle.jpg_spec.proofs.ShownAlike.{shown_alike}
+use Rattle.jpg_spec_image.proofs.ShownAlike.{shown_alike}
 use Rattle.jpg_coefs.specs.Picture.{Picture as Coefs, map_of}
 use Rattle.jpg_coefs.proofs.Maps.{blank_is}
 use Rattle.jpg_seq.specs.Rows.{rows_in_mcu}
-use Rattle.jpg_file.specs.ReadRows.{AgreeInRows, LendsRow, RowReaderState}
-use Rattle.jpg_file.specs.RowTurns.{unfinished, zero_picture}
-use Rattle.jpg_file.specs.RowsKnown.{rows_of_scan}
-use Rattle.jpg_file.specs.declared.rows.RowWork.{RowWork}
+use Rattle.jpg_file.specs.Read.ReadRows.{AgreeInRows, LendsRow, RowReaderState}
+use Rattle.jpg_file.specs.Read.RowTurns.{unfinished, zero_picture}
+use Rattle.jpg_file.specs.Read.RowsKnown.{rows_of_scan}
+use Rattle.jpg_file.specs.declared.read.rows.RowWork.{RowWork}
 use Rattle.jpg_pnm_bmp.specs.EndState.{EndState}
-use Rattle.jpg_color.specs.DecodeRows.{Sends}
-use Rattle.jpg_color.specs.Shown.{Display, IsDue, IsMcuRow, all_rows, zero_row}
-use Rattle.jpg_color.specs.StripImage.{Drawing, DrawsMore, DrawsRow, EndsDrawing, IsDrawnTo, IsWhole, TextsJoin, next_text, rest_text}
+use Rattle.jpg_color.specs.DecodeRows.{SendsImage}
+use Rattle.jpg_color.specs.Shown.{Display, IsNextRowDue, IsMcuRow, all_rows, zero_row}
+use Rattle.jpg_color.specs.StripImage.{Drawing, DrawsMore, DrawsRow, EndsDrawing, IsDrawnTo, IsAllGiven, TextsJoin, next_text, rest_text}
 use Rattle.jpg_color.specs.declared.decode.DecodeStop.{DecodeStop}
 use Rattle.jpg_color.specs.declared.decode.DecodeStop.TheVariants as stop
 use Rattle.jpg_color.proofs.Drawn.{all_same}
 use Rattle.jpg_color.proofs.DrawnLaws.{drawn_alike, texts_join}
 use Rattle.jpg_cli.specs.Endings.{Added}
-use Rattle.jpg_cli.specs.Reading.{rest_of}
-use Rattle.jpg_cli.specs.ReadPicture.{IsEarlyRead}
-use Rattle.jpg_cli.specs.Showing.{IsInTime, ReadsShown, Showing, Shown, shown_text}
-use Rattle.jpg_cli.specs.ShowingRows.{HasCreated, HasShownEarly, Head, IsEnding, at_work, warned_of, why_of}
-use Rattle.jpg_cli.specs.declared.read_picture.Wanted.TheVariants.{Image}
+use Rattle.jpg_cli.specs.Desk.Reading.{rest_of}
+use Rattle.jpg_cli.specs.Desk.ReadPicture.{IsEarlyRead}
+use Rattle.jpg_cli.specs.Tools.Showing.{IsInTime, ReadsShown, Showing, Shown, shown_text}
+use Rattle.jpg_cli.specs.Tools.ShowingRows.{HasCreated, HasShownEarly, Head, IsEnding, at_work, warned_of, why_of}
+use Rattle.jpg_cli.specs.declared.desk.picture.Wanted.TheVariants.{Image}
 use Rattle.jpg_cli.proofs.EarlyImage.{early_image}
 use Rattle.jpg_cli.proofs.EarlyRows.{early_first, early_text, rows_of_picture}
 use Rattle.jpg_cli.proofs.FirstRead.{not_shown}
@@ -58,7 +59,7 @@ use Rattle.jpg_cli.proofs.RowsEnd.{shown_head}
 use Rattle.jpg_cli.proofs.RowsStopped.{rose_since}
 use Rattle.jpg_cli.proofs.RowsWhole.{few_told, so_far}
 
--- AT ITS BEGIN all MCU rows were drawn that were given
+-- AT ITS BEGINNING all MCU rows that were passed have been drawn
 
 -- it is the scan of that header
 early_head : (s : Showing) (old start : DeskState) (h : Head) (all : List ℕ) (m n : ℕ) (r : RowReaderState) (d : Drawing) (e : EndState) (now : DeskState) → (k : HasShownEarly s old start h all m n (at_work r d e now))
@@ -141,7 +142,7 @@ not_all a b le e = by (cases_lt a b)
     by (inr ge) = (let same : b ≡ a = omega (arith, le, ge) in absurd (clash (sym (same_itself a) ∙ ap (λ n. a == n) (sym same) ∙ e)))
 
 pub ending_due : (s : Showing) (old start : DeskState) (h : Head) (all : List ℕ) (n gap : ℕ) (d : Drawing) (e : EndState) (now : DeskState) → IsEnding s old start h all n gap d e now
-    → (d.strips.pushed == all_rows d.strips.display) ≡ false → IsDue d.strips
+    → (d.strips.pushed == all_rows d.strips.display) ≡ false → IsNextRowDue d.strips
 ending_due s old start h all n gap d e now k some =
     let P = so_far h (k.meaning).blocks in
     let all_are : all_rows d.strips.display ≡ mcu_rows P = all_same d P s.gray s.smooth (k.drawn).image in
@@ -150,15 +151,15 @@ ending_due s old start h all n gap d e now k some =
     record { given = k.given; missing = not_all d.strips.pushed (all_rows d.strips.display) (omega (arith, all_are, pushed, few)) some }
 
 pub ending_whole : (s : Showing) (old start : DeskState) (h : Head) (all : List ℕ) (n gap : ℕ) (d : Drawing) (e : EndState) (now : DeskState) → IsEnding s old start h all n gap d e now
-    → (d.strips.pushed == all_rows d.strips.display) ≡ true → IsWhole d.strips
+    → (d.strips.pushed == all_rows d.strips.display) ≡ true → IsAllGiven d.strips
 ending_whole s old start h all n gap d e now k none = record { given = k.given; all = same_of d.strips.pushed (all_rows d.strips.display) none }
 
--- THE NEXT ROW: the one in work, which is lent
+-- THE NEXT ROW: the current one, which is lent
 
 one_left : (m u all n p full : ℕ) → all ≡ n → m + u ≡ all → p ≡ m → full ≡ n → p < full → 1 ≤ u
 one_left m u all n p full same count drawn whole lt = omega (arith, same, count, drawn, whole, lt)
 
-pub work_lends : (s : Showing) (old start : DeskState) (h : Head) (all : List ℕ) (m n : ℕ) (r : RowReaderState) (d : Drawing) (e : EndState) (now : DeskState) (q : Coefs) → (k : HasShownEarly s old start h all m n (at_work r d e now)) → IsDue d.strips
+pub work_lends : (s : Showing) (old start : DeskState) (h : Head) (all : List ℕ) (m n : ℕ) (r : RowReaderState) (d : Drawing) (e : EndState) (now : DeskState) (q : Coefs) → (k : HasShownEarly s old start h all m n (at_work r d e now)) → IsNextRowDue d.strips
     → ((rows : RowWork) → r.rows ≡ Some rows → q ≡ rows.coefs) → LendsRow (frame_of standard_limits h.before) m q ((k.done).meaning).blocks
 unfolding ending_begins
 work_lends s old start h all m n r d e now q k due lent =
@@ -181,7 +182,7 @@ ending_framed s old start h all n gap d e now q k lent = record {
   range = subst (λ (x : Frame). AreInRange (bounds x) (map_of q)) (sym k.framed) lent.range;
 }
 
-pub work_framed : (s : Showing) (old start : DeskState) (h : Head) (all : List ℕ) (m n : ℕ) (r : RowReaderState) (d : Drawing) (e : EndState) (now : DeskState) (q : Coefs) → HasShownEarly s old start h all m n (at_work r d e now) → IsDue d.strips
+pub work_framed : (s : Showing) (old start : DeskState) (h : Head) (all : List ℕ) (m n : ℕ) (r : RowReaderState) (d : Drawing) (e : EndState) (now : DeskState) (q : Coefs) → HasShownEarly s old start h all m n (at_work r d e now) → IsNextRowDue d.strips
     → ((rows : RowWork) → r.rows ≡ Some rows → q ≡ rows.coefs) → IsMcuRow d.strips.display.frame q
 unfolding ending_begins
 work_framed s old start h all m n r d e now q k due lent =
@@ -221,18 +222,18 @@ pub record IsMoreEnding (s : Showing) (h : Head) (m : ℕ) (M : Meaning) (writte
   pub due : List ℕ
   pub others : List ℕ
   pub more : DrawsMore s0 d e (so_far h M.blocks) s.gray s.smooth m result new new_end s1
-  pub sent : Sends s0 d.out due result new.out s1
+  pub sent : SendsImage s0 d.out due result new.out s1
   pub text : written ++ (d.out ++ due) ≡ rows_text s.kind (so_far h M.blocks) s.gray s.smooth (m + 1)
   pub all : written ++ ((d.out ++ due) ++ others) ≡ shown_text s M
 
 pub more_ending : (s : Showing) (old start : DeskState) (h : Head) (all : List ℕ) (n gap : ℕ) (d : Drawing) (e : EndState) (s0 : DeskState) (q : Coefs) (result : Result (Unit {0}) DecodeStop) (new : Drawing) (new_end : EndState) (s1 : DeskState)
-    → (k : IsEnding s old start h all n gap d e s0) → IsDue d.strips → LendsRow (frame_of standard_limits h.before) k.rows q (k.meaning).blocks → DrawsRow s0 d e q result new new_end s1
+    → (k : IsEnding s old start h all n gap d e s0) → IsNextRowDue d.strips → LendsRow (frame_of standard_limits h.before) k.rows q (k.meaning).blocks → DrawsRow s0 d e q result new new_end s1
     → IsMoreEnding s h k.rows k.meaning k.written d e s0 result new new_end s1
 more_ending s old start h all n gap d e s0 q result new new_end s1 k due lent draws = record {
   due = next;
   others = (join.part (k.rows + 1)).0;
   more = more;
-  sent = subst (λ (kind : EndKind). Sends s0 d.out (next_text kind P s.gray s.smooth k.rows) result new.out s1) k.kind more.sent;
+  sent = subst (λ (kind : EndKind). SendsImage s0 d.out (next_text kind P s.gray s.smooth k.rows) result new.out s1) k.kind more.sent;
   text = text;
   all = sym (append_assoc k.written (d.out ++ next) (join.part (k.rows + 1)).0) ∙ ap (λ l. l ++ (join.part (k.rows + 1)).0) text ∙ (join.part (k.rows + 1)).1 ∙ k.image;
 }
@@ -272,7 +273,7 @@ part_text written due others text n same =
     sym same ∙ ap (λ l. written ++ (l ++ others)) (sym (take-append-drop n due)) ∙ ap (λ l. written ++ l) (append_assoc (take n due) (drop n due) others) ∙ sym (append_assoc written (take n due) b) in
     ap (take (length a)) cut ∙ front_of a b
 
--- what was written, what waits and what follows it is the text of the image
+-- what was written, what waits and what follows it are the text of the image
 pub record IsEarlyText (s : Showing) (M : Meaning) (n : ℕ) (all written due others : List ℕ) (now : DeskState) : Type 0 where
   pub short : length all < standard_limits.input
   pub read : IsEarlyRead (Image s.gray) M n all
@@ -293,7 +294,7 @@ early_part s old start M n all written due others i s0 s1 h desk only gone =
     )
 
 early_stopped : (s : Showing) (old start : DeskState) (M : Meaning) (n : ℕ) (all written out due others new : List ℕ) (ended : DecodeStop) (s0 s1 : DeskState) → IsEarlyText s M n all written (out ++ due) others s0 → HasCreated s old start all written s0
-    → Sends s0 out due (Err ended) new s1 → Shown s old (why_of (Err ended)) s1
+    → SendsImage s0 out due (Err ended) new s1 → Shown s old (why_of (Err ended)) s1
 early_stopped s old start M n all written out due others new stop.NoMemory s0 s1 h desk sent =
     let i = (sent.bytes).0 in
     let less = (sent.bytes).1 in
@@ -324,7 +325,7 @@ early_stopped s old start M n all written out due others new stop.WriteFault s0 
     )
 
 pub ending_stopped : (s : Showing) (old start : DeskState) (h : Head) (all : List ℕ) (n gap : ℕ) (d new : Drawing) (e new_end : EndState) (s0 s1 : DeskState) (q : Coefs) (ended : DecodeStop) → (k : IsEnding s old start h all n gap d e s0)
-    → IsDue d.strips → LendsRow (frame_of standard_limits h.before) k.rows q (k.meaning).blocks → DrawsRow s0 d e q (Err ended) new new_end s1 → Shown s old (why_of (Err ended)) s1
+    → IsNextRowDue d.strips → LendsRow (frame_of standard_limits h.before) k.rows q (k.meaning).blocks → DrawsRow s0 d e q (Err ended) new new_end s1 → Shown s old (why_of (Err ended)) s1
 ending_stopped s old start h all n gap d new e new_end s0 s1 q ended k due lent draws =
     let w = more_ending s old start h all n gap d e s0 q (Err ended) new new_end s1 k due lent draws in
     early_stopped s old start k.meaning n all k.written d.out w.due w.others new.out ended s0 s1 (record { short = k.short; read = k.read; same = w.all; early = k.early; ended = k.ended }) k.desk w.sent
@@ -335,7 +336,7 @@ ending_stopped s old start h all n gap d new e new_end s0 s1 q ended k due lent 
 abbrev AreZeroFrom : Head → ℕ → Blocks → Type 0
 AreZeroFrom h m blocks = (i x y : ℕ) → m * rows_in_mcu (frame_of standard_limits h.before) i ≤ y → blocks i x y ≡ zeros 64
 
-pub ending_drawn : (s : Showing) (old start : DeskState) (h : Head) (all : List ℕ) (n gap : ℕ) (d new : Drawing) (e new_end : EndState) (s0 s1 : DeskState) (q : Coefs) → (k : IsEnding s old start h all n gap d e s0) → IsDue d.strips
+pub ending_drawn : (s : Showing) (old start : DeskState) (h : Head) (all : List ℕ) (n gap : ℕ) (d new : Drawing) (e new_end : EndState) (s0 s1 : DeskState) (q : Coefs) → (k : IsEnding s old start h all n gap d e s0) → IsNextRowDue d.strips
     → LendsRow (frame_of standard_limits h.before) k.rows q (k.meaning).blocks → AreZeroFrom h (k.rows + 1) (k.meaning).blocks → DrawsRow s0 d e q (Ok tt) new new_end s1 → IsEnding s old start h all n 0 new new_end s1
 ending_drawn s old start h all n gap d new e new_end s0 s1 q k due lent zero draws = record {
   rows = k.rows + 1;
@@ -371,9 +372,9 @@ ending_drawn s old start h all n gap d new e new_end s0 s1 q k due lent zero dra
     gap_gone : (m b y : ℕ) → (m + 0) * b ≤ y → m * b ≤ y
     gap_gone m b y l = omega (arith, l)
 
--- by the answer: after the row in work, and after one of zero blocks
+-- by the answer: after the current row, and after one of zero blocks
 pub work_then : (s : Showing) (old start : DeskState) (h : Head) (all : List ℕ) (m n : ℕ) (r : RowReaderState) (d : Drawing) (e : EndState) (now : DeskState) (new : Drawing) (new_end : EndState) (s1 : DeskState) (q : Coefs) (result : Result (Unit {0}) DecodeStop) (u : Unit {0}) → result ≡ Ok u
-    → (k : HasShownEarly s old start h all m n (at_work r d e now)) → IsDue d.strips → ((rows : RowWork) → r.rows ≡ Some rows → q ≡ rows.coefs) → DrawsRow now d e q result new new_end s1 → IsEnding s old start h all n 0 new new_end s1
+    → (k : HasShownEarly s old start h all m n (at_work r d e now)) → IsNextRowDue d.strips → ((rows : RowWork) → r.rows ≡ Some rows → q ≡ rows.coefs) → DrawsRow now d e q result new new_end s1 → IsEnding s old start h all n 0 new new_end s1
 unfolding ending_begins
 work_then s old start h all m n r d e now new new_end s1 q result u done k due lent draws =
     let begins = ending_begins s old start h all m n r d e now k in
@@ -381,7 +382,7 @@ work_then s old start h all m n r d e now new new_end s1 q result u done k due l
     (subst (λ (x : Result (Unit {0}) DecodeStop). DrawsRow now d e q x new new_end s1) done draws)
 
 pub work_stopped : (s : Showing) (old start : DeskState) (h : Head) (all : List ℕ) (m n : ℕ) (r : RowReaderState) (d : Drawing) (e : EndState) (now : DeskState) (new : Drawing) (new_end : EndState) (s1 : DeskState) (q : Coefs) (ended : DecodeStop)
-    → HasShownEarly s old start h all m n (at_work r d e now) → IsDue d.strips → ((rows : RowWork) → r.rows ≡ Some rows → q ≡ rows.coefs) → DrawsRow now d e q (Err ended) new new_end s1
+    → HasShownEarly s old start h all m n (at_work r d e now) → IsNextRowDue d.strips → ((rows : RowWork) → r.rows ≡ Some rows → q ≡ rows.coefs) → DrawsRow now d e q (Err ended) new new_end s1
     → Shown s old (why_of (Err ended)) s1
 unfolding ending_begins
 work_stopped s old start h all m n r d e now new new_end s1 q ended k due lent draws =
@@ -391,7 +392,7 @@ more_rows : (a b y : ℕ) → (a + 1) * b ≤ y → (a + 0) * b ≤ y
 more_rows a b y l = (let e : (a + 1) * b ≡ a * b + b = grind arith in omega (arith, e, l))
 
 pub zeros_then : (s : Showing) (old start : DeskState) (h : Head) (all : List ℕ) (n : ℕ) (d : Drawing) (e : EndState) (now : DeskState) (new : Drawing) (new_end : EndState) (s1 : DeskState) (result : Result (Unit {0}) DecodeStop) (u : Unit {0}) → result ≡ Ok u
-    → (k : IsEnding s old start h all n 0 d e now) → IsDue d.strips → DrawsRow now d e (zero_row d.strips.display) result new new_end s1 → IsEnding s old start h all n 0 new new_end s1
+    → (k : IsEnding s old start h all n 0 d e now) → IsNextRowDue d.strips → DrawsRow now d e (zero_row d.strips.display) result new new_end s1 → IsEnding s old start h all n 0 new new_end s1
 zeros_then s old start h all n d e now new new_end s1 result u done k due draws =
     ending_drawn s old start h all n 0 d new e new_end now s1 (zero_row d.strips.display) k due (zeros_lend s old start h all n d e now k)
     (λ i x y low. k.later i x y (more_rows k.rows (rows_in_mcu (frame_of standard_limits h.before) i) y low))
@@ -400,7 +401,7 @@ zeros_then s old start h all n d e now new new_end s1 result u done k due draws 
 -- ITS END
 
 early_ended : (s : Showing) (old start : DeskState) (M : Meaning) (n : ℕ) (all written out due new : List ℕ) (result : Result (Unit {0}) DecodeStop) (s0 s1 : DeskState) → IsEarlyText s M n all written (out ++ due) [] s0 → HasCreated s old start all written s0
-    → Sends s0 out due result new s1 → IfOk result (λ u. new ≡ []) → Shown s old (warned_of result n) s1
+    → SendsImage s0 out due result new s1 → IfOk result (λ u. new ≡ []) → Shown s old (warned_of result n) s1
 early_ended s old start M n all written out due new (Ok u) s0 s1 h desk sent none =
     let gone = (sent.bytes).0 in
     let same : gone ≡ out ++ due = sym (append-nil gone) ∙ ap (λ l. gone ++ l) (sym none) ∙ sym (sent.bytes).2 in
@@ -419,7 +420,7 @@ early_finished s old start h all n gap d e now result new new_end s1 ends none k
     let rows : k.rows ≡ mcu_rows P = sym (k.drawn).pushed ∙ same_of d.strips.pushed (all_rows d.strips.display) none ∙ all_same d P s.gray s.smooth (k.drawn).image in
     let drawn = subst (λ m. IsDrawnTo d e P s.gray s.smooth m) rows k.drawn in
     let rest = rest_text s.kind P s.gray s.smooth in
-    let sent = subst (λ (kind : EndKind). Sends now d.out (rest_text kind P s.gray s.smooth) result new.out s1) k.kind (ends.drawn P s.gray s.smooth drawn) in
+    let sent = subst (λ (kind : EndKind). SendsImage now d.out (rest_text kind P s.gray s.smooth) result new.out s1) k.kind (ends.drawn P s.gray s.smooth drawn) in
     let join = texts_join d P s.gray s.smooth s.kind (k.drawn).image in
     let text : k.written ++ ((d.out ++ rest) ++ []) ≡ shown_text s k.meaning =
     ap (λ l. k.written ++ l) (append-nil (d.out ++ rest)) ∙ sym (append_assoc k.written d.out rest) ∙ ap (λ l. l ++ rest) (k.text ∙ ap (λ m. rows_text s.kind P s.gray s.smooth m) rows) ∙ join.whole ∙ k.image in

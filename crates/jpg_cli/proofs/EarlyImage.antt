@@ -1,48 +1,50 @@
--- The image of a file that ends early in a scan of all components, or after it, is that of its blocks at the end of the scan header.
+-- The image of a file that ends early in a scan of all components, or after it, is that of its blocks at the end of the
+-- scan header.
 use Rattle.std.proofs.Common.{◌≡◌, ℕ, Bool, true, false, cond, List, ◌∷◌, ◌++◌, map, refl, sym, ap, ◌∙◌, subst, inl, inr, None}
 use Rattle.std.specs.Prelude.{◌⊎◌, reverse}
 use Rattle.std.proofs.lemmas.List.{append_assoc}
-use Rattle.jpg_spec.specs.Early.{EndsBehind, EndsInside, segments_with}
+use Rattle.jpg_spec.specs.Early.{EndsAfter, EndsInside, segments_with}
 use Rattle.jpg_spec.specs.FirstFault.{HaveBegun, InsideScan}
-use Rattle.jpg_spec.specs.ImageText.{end_text}
+use Rattle.jpg_spec_image.specs.ImageText.{end_text}
 use Rattle.jpg_spec.specs.Items.{Item, contents_rule, segments_of}
 use Rattle.jpg_spec.specs.Jfif.{jfif_of}
 use Rattle.jpg_spec.specs.Lists.{below}
 use Rattle.jpg_spec.specs.Markers.{Segment, has_scan, kept_after}
 use Rattle.jpg_spec.specs.Meaning.{Meaning, colour_of}
-use Rattle.jpg_spec.specs.NotShown.{colours_behind}
-use Rattle.jpg_spec.specs.Pixels.{info, metre, pixels, shown_row, shows_gray}
-use Rattle.jpg_spec.specs.RowLaws.{EndsEarlyByRows, early_so_far, text_in}
+use Rattle.jpg_spec.specs.InForce.{colours_after}
+use Rattle.jpg_spec_image.specs.Pixels.{info, metre, pixels, shown_row, shows_gray}
+use Rattle.jpg_spec.specs.RowLaws.{EndsEarlyByRows, early_so_far}
+use Rattle.jpg_spec_image.specs.RowLaws.{text_in}
 use Rattle.jpg_spec.specs.RowsTold.{BeginsScanOfAll}
 use Rattle.jpg_spec.specs.declared.frame.Colour.{Colour}
 use Rattle.jpg_spec.specs.declared.frame.Limits.{Limits}
-use Rattle.jpg_spec.specs.declared.image.EndKind.{EndKind}
-use Rattle.jpg_spec.specs.declared.image.ImageInfo.{ImageInfo}
-use Rattle.jpg_spec.specs.declared.image.ImageKind.TheVariants as kind
+use Rattle.jpg_spec_image.specs.declared.image.EndKind.{EndKind}
+use Rattle.jpg_spec_image.specs.declared.image.ImageInfo.{ImageInfo}
+use Rattle.jpg_spec_image.specs.declared.image.ImageKind.TheVariants as kind
 use Rattle.jpg_spec.specs.declared.jfif.Jfif.{Jfif}
-use Rattle.jpg_spec.proofs.ColoursKept.{picture_colours, same_colours_behind, same_jfif_behind}
+use Rattle.jpg_spec.proofs.ColoursKept.{picture_colours, same_colours_after, same_jfif_after}
 use Rattle.jpg_spec.proofs.EarlyBegun.{AllNamed, begun_behind}
 use Rattle.jpg_spec.proofs.EarlySoFar.{IsItemsScan, items_scan, so_far_early}
 use Rattle.jpg_spec.proofs.FileHeader.{HasFirstScan, first_scan, items_header, no_scan_spelled}
-use Rattle.jpg_spec.proofs.FrameBehind.{leads_pass}
+use Rattle.jpg_spec.proofs.FrameAfter.{leads_pass}
 use Rattle.jpg_spec.proofs.HeaderFirst.{AreOfHeader, scan_passed, with_scan}
 use Rattle.jpg_spec.proofs.OneHeader.{whole_once}
-use Rattle.jpg_spec.proofs.RowsAlike.{colours_stay}
+use Rattle.jpg_spec_image.proofs.RowsAlike.{colours_stay}
 use Rattle.jpg_spec.proofs.RowsLater.{second_refused}
 
--- WHAT STANDS AT THE SCAN HEADER stands at the end: the colours, and what the JFIF header says
+-- WHAT IS KNOWN AT THE SCAN HEADER doesn't change to the end: the colours, and the JFIF header
 pub record StaysToEnd (limits : Limits) (M : Meaning) (before : List Segment) : Type 0 where
-  pub colours : colour_of M ≡ colours_behind limits before
+  pub colours : colour_of M ≡ colours_after limits before
   pub jfif : jfif_of M.kept ≡ jfif_of (reverse (kept_after before))
 
-behind_stays : (limits : Limits) (bytes : List ℕ) (M : Meaning) (before : List Segment) (contents : List ℕ) → BeginsScanOfAll limits bytes before contents → HaveBegun limits bytes → EndsBehind limits bytes M → StaysToEnd limits M before
-behind_stays limits bytes M before contents begins begun p = record {
+after_stays : (limits : Limits) (bytes : List ℕ) (M : Meaning) (before : List Segment) (contents : List ℕ) → BeginsScanOfAll limits bytes before contents → HaveBegun limits bytes → EndsAfter limits bytes M → StaysToEnd limits M before
+after_stays limits bytes M before contents begins begun p = record {
   colours =
-      ap colour_of p.meaning ∙ picture_colours limits (segments_of p.items) p.behind.blocks ∙ ap (λ (z : List Item). colours_behind limits (segments_of z)) first.joined
-      ∙ same_colours_behind limits first.more first.contents first.intervals first.before p.behind.blocks at.leads ∙ ap (colours_behind limits) at.same;
+      ap colour_of p.meaning ∙ picture_colours limits (segments_of p.items) p.behind.blocks ∙ ap (λ (z : List Item). colours_after limits (segments_of z)) first.joined
+      ∙ same_colours_after limits first.more first.contents first.intervals first.before p.behind.blocks at.leads ∙ ap (colours_after limits) at.same;
   jfif =
       ap (λ (N : Meaning). jfif_of N.kept) p.meaning ∙ ap (λ (z : List Item). jfif_of (reverse (kept_after (segments_of z)))) first.joined
-      ∙ same_jfif_behind first.more first.contents first.intervals first.before ∙ ap (λ (s : List Segment). jfif_of (reverse (kept_after s))) at.same;
+      ∙ same_jfif_after first.more first.contents first.intervals first.before ∙ ap (λ (s : List Segment). jfif_of (reverse (kept_after s))) at.same;
 }
   where
     named : AllNamed limits (segments_of p.items)
@@ -63,8 +65,8 @@ inside_stays limits bytes M before contents begins p = by (has_scan (segments_of
     here : (segments_of i.items ≡ before) → (i.contents ≡ contents) → StaysToEnd limits M before
     here same of = record {
       colours =
-          ap colour_of p.meaning ∙ picture_colours limits (segments_with i.items i.contents) p.after ∙ ap (λ (b : List Segment). colours_behind limits ((0xda, i.contents) ∷ b)) same
-          ∙ ap (λ (c : List ℕ). colours_behind limits ((0xda, c) ∷ before)) of ∙ colours_stay limits bytes before contents begins;
+          ap colour_of p.meaning ∙ picture_colours limits (segments_with i.items i.contents) p.after ∙ ap (λ (b : List Segment). colours_after limits ((0xda, i.contents) ∷ b)) same
+          ∙ ap (λ (c : List ℕ). colours_after limits ((0xda, c) ∷ before)) of ∙ colours_stay limits bytes before contents begins;
       jfif = ap (λ (N : Meaning). jfif_of N.kept) p.meaning ∙ ap (λ (s : List Segment). jfif_of (reverse (kept_after s))) same;
     }
 
@@ -84,8 +86,8 @@ inside_stays limits bytes M before contents begins p = by (has_scan (segments_of
 stays_to_end : (limits : Limits) (bytes : List ℕ) (M : Meaning) → (w : EndsEarlyByRows limits bytes M) → StaysToEnd limits M w.before
 stays_to_end limits bytes M w = by w.early.1
   where
-    by : EndsBehind limits bytes M ⊎ EndsInside limits bytes M → StaysToEnd limits M w.before
-    by (inl p) = behind_stays limits bytes M w.before w.contents w.begins w.early.0.begun p
+    by : EndsAfter limits bytes M ⊎ EndsInside limits bytes M → StaysToEnd limits M w.before
+    by (inl p) = after_stays limits bytes M w.before w.contents w.begins w.early.0.begun p
     by (inr p) = inside_stays limits bytes M w.before w.contents w.begins p
 
 -- A PICTURE with other markers, and the same colours and density

@@ -1,4 +1,5 @@
--- Where a file ends early in a scan of all components: its first MCU rows are those that were told, and their text is the same.
+-- If a file ends early in a scan of all components, its first MCU rows are those that were decoded, and their text is
+-- the same.
 use Rattle.std.proofs.Common.{◌≡◌, ℕ, ◌*◌, ◌<◌, Bool, true, false, cond, List, [], ◌∷◌, ◌++◌, length, refl, sym, ap, ◌∙◌, subst, arith}
 use Rattle.std.specs.Prelude.{◌&&◌, nat_lt}
 use Rattle.std.proofs.lemmas.List.{append-nil, length-append}
@@ -8,29 +9,31 @@ use Rattle.jpg_spec.specs.Geometry.{Frame, blocks_across, blocks_down, component
 use Rattle.jpg_spec.specs.InForce.{frame_of, head_in}
 use Rattle.jpg_spec.specs.Markers.{Segment}
 use Rattle.jpg_spec.specs.Meaning.{real_blocks}
-use Rattle.jpg_spec.specs.RowLaws.{IsShownInRows}
-use Rattle.jpg_spec.specs.RowsShown.{rows_text}
+use Rattle.jpg_spec_image.specs.RowLaws.{IsShownInRows}
+use Rattle.jpg_spec_image.specs.RowsShown.{rows_text}
 use Rattle.jpg_spec.specs.RowsTold.{BeginsScanOfAll, TellsRows}
 use Rattle.jpg_spec.specs.Scan.{Blocks}
 use Rattle.jpg_spec.specs.Segments.{head_components, standard_limits}
-use Rattle.jpg_spec.specs.Strips.{block_rows, mcu_rows}
-use Rattle.jpg_spec.specs.declared.image.EndKind.{EndKind}
+use Rattle.jpg_spec_image.specs.Strips.{block_rows, mcu_rows}
+use Rattle.jpg_spec_image.specs.declared.image.EndKind.{EndKind}
 use Rattle.jpg_spec.proofs.Common.{both, lt_of}
-use Rattle.jpg_spec.proofs.RowCounts.{head_below, picture_rows, rows_down}
-use Rattle.jpg_spec.proofs.RowsHeader.{begun_covered, begun_frame}
+use Rattle.jpg_spec.proofs.RowCounts.{head_below, rows_down}
+use Rattle.jpg_spec_image.proofs.RowCounts.{picture_rows}
+use Rattle.jpg_spec_image.proofs.RowsHeader.{begun_covered}
+use Rattle.jpg_spec.proofs.RowsHeader.{begun_frame}
 use Rattle.jpg_spec.proofs.RowsLater.{head_there}
-use Rattle.jpg_spec.proofs.RowsReady.{text_goes_on}
+use Rattle.jpg_spec_image.proofs.RowsReady.{text_goes_on}
 use Rattle.jpg_spec.proofs.WrittenFront.{standard_are_limits}
 use Rattle.jpg_base.specs.Cursor.{scan_mcus_down}
 use Rattle.jpg_seq.specs.Rows.{rows_in_mcu}
-use Rattle.jpg_file.specs.ReadRows.{AgreeInRows}
-use Rattle.jpg_file.specs.RowsKnown.{rows_of_scan}
+use Rattle.jpg_file.specs.Read.ReadRows.{AgreeInRows}
+use Rattle.jpg_file.specs.Read.RowsKnown.{rows_of_scan}
 use Rattle.jpg_color.specs.StripImage.{AgreeInFirstRows}
-use Rattle.jpg_cli.specs.ShowingRows.{Head, IsHeadIn}
+use Rattle.jpg_cli.specs.Tools.ShowingRows.{Head, IsHeadIn}
 use Rattle.jpg_cli.proofs.RowsAgree.{frame_so_far, rows_told}
 use Rattle.jpg_cli.proofs.RowsWhole.{few_told, so_far, so_far_shown}
 
--- HOW MANY MCU ROWS the picture has
+-- THE NUMBER OF MCU ROWS of the picture
 same_down : (f : Frame) (ids : List ℕ) → rows_down f ids ≡ scan_mcus_down f ids
 same_down f [] = refl
 same_down f (i ∷ []) = refl

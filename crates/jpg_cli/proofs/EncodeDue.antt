@@ -1,37 +1,37 @@
--- Where nothing failed, an image is encoded or refused as its files say; and they say one answer.
+-- If nothing failed, an image is encoded or refused as its files require; and they have only one answer.
 use Rattle.std.proofs.Common.{◌≡◌, ℕ, List, ◌++◌, Option, None, Some, Result, Ok, Err, refl, sym, ap, ◌∙◌, subst, inl, inr}
 use Rattle.jpg_base.specs.declared.names.Name.{Name}
 use Rattle.jpg_base.specs.declared.names.Name.TheVariants as name
 use Rattle.jpg_base.specs.Desk.{DeskState}
-use Rattle.jpg_spec.specs.Encoded.{encode_fault}
-use Rattle.jpg_spec.specs.EncodeWords.{EncodeAsked, encoding_asked}
-use Rattle.jpg_spec.specs.Images.{Image}
-use Rattle.jpg_spec.specs.ImageFaults.{IsImage, IsImageFault}
-use Rattle.jpg_spec.specs.Moved.{Scans}
-use Rattle.jpg_spec.specs.ScriptGrammar.{TellsScript}
+use Rattle.jpg_spec_encode.specs.Encoded.{encode_fault}
+use Rattle.jpg_spec_words.specs.EncodeWords.{EncodeAsked, encoding_asked}
+use Rattle.jpg_spec_image.specs.Images.{Image}
+use Rattle.jpg_spec_image.specs.ImageFaults.{IsImage, IsImageFault}
+use Rattle.jpg_spec_write.specs.ScansAsked.{Scans}
+use Rattle.jpg_spec_write.specs.ScriptGrammar.{TellsScript}
 use Rattle.jpg_spec.specs.Segments.{QuantTable, standard_limits}
-use Rattle.jpg_spec.specs.TableText.{TellsTables}
-use Rattle.jpg_spec.specs.TransformWords.{ScansSource, own_sequential, own_progressive, in_file}
-use Rattle.jpg_spec.specs.declared.answers.FaultAt.{FaultAt}
-use Rattle.jpg_spec.specs.declared.answers.Why.{Why}
-use Rattle.jpg_spec.specs.declared.answers.Why.TheVariants as why
-use Rattle.jpg_spec.specs.declared.answers.Which.TheVariants as which
-use Rattle.jpg_spec.specs.declared.transform.PictureFault.{PictureFault}
-use Rattle.jpg_spec.proofs.OneImage.{never_both, one_fault, one_image}
+use Rattle.jpg_spec_image.specs.TableText.{TellsTables}
+use Rattle.jpg_spec_words.specs.TransformWords.{ScansSource, own_sequential, own_progressive, in_file}
+use Rattle.jpg_spec.specs.declared.fault.FaultAt.{FaultAt}
+use Rattle.jpg_spec_words.specs.declared.answers.Why.{Why}
+use Rattle.jpg_spec_words.specs.declared.answers.Why.TheVariants as why
+use Rattle.jpg_spec_words.specs.declared.answers.Which.TheVariants as which
+use Rattle.jpg_spec_write.specs.declared.picture_fault.PictureFault.{PictureFault}
+use Rattle.jpg_spec_image.proofs.OneImage.{never_both, one_fault, one_image}
 use Rattle.jpg_scans.proofs.OneScript.{one_answer as one_script}
 use Rattle.jpg_dct.proofs.OneAnswer.{one_answer as one_told}
 use Rattle.jpg_cli.specs.Certain.{AreToldScans, IsOrNoMemory, IsTold}
 use Rattle.jpg_cli.specs.Commands.{name_of}
-use Rattle.jpg_cli.specs.EncodeDue.{EncodingDue, FaultyInput, ImageInput, IsDueOrNoMemory, IsEncodeDue, RefusalDue, by_input, by_scans, by_tables, TellsFiles}
-use Rattle.jpg_cli.specs.ImageEncoded.{Encoded, EncodedAsAsked, ReadsImage, task_after}
-use Rattle.jpg_cli.specs.Reading.{IsFile, rest_of}
+use Rattle.jpg_cli.specs.Tools.EncodeDue.{EncodingDue, FaultyInput, ImageInput, IsDueOrNoMemory, IsEncodeDue, RefusalDue, by_input, by_scans, by_tables, TellsFiles}
+use Rattle.jpg_cli.specs.Tools.ImageEncoded.{Encoded, EncodedAsAsked, ReadsImage, task_after}
+use Rattle.jpg_cli.specs.Desk.Reading.{IsFile, rest_of}
 use Rattle.jpg_cli.specs.Run.{NoneRose}
-use Rattle.jpg_cli.specs.ScriptTaken.{HasScans, HasScansFault, StopsAtScans, names_before}
-use Rattle.jpg_cli.specs.TablesTaken.{HasTables, HasTablesFault, StopsAtTables, TellsTablesIn}
+use Rattle.jpg_cli.specs.Desk.ScriptTaken.{HasScans, HasScansFault, StopsAtScans, names_before}
+use Rattle.jpg_cli.specs.Desk.TablesTaken.{HasTables, HasTablesFault, StopsAtTables, TellsTablesIn}
 use Rattle.jpg_cli.proofs.Certain.{no_scans_fault, one_file, same_scans}
 use Rattle.jpg_cli.proofs.Faulty.{fault_same}
 
--- THE ANSWER IS DUE
+-- THE ANSWER IS THE ONE OF THE FILES
 
 image_in : (a : EncodeAsked) (scans : Scans) (tables : Option (List QuantTable)) (before : List Name) (image : Image) (s0 s1 : DeskState) → ReadsImage (task_after before a scans tables) image s0 s1 → ImageInput (name_of a.files.input) image s0
 image_in a scans tables before image s0 s1 h = record { bytes = h.bytes ++ rest_of s1.left; file = h.read; is = h.is.is }
@@ -106,7 +106,7 @@ encode_due a s0 s1 w n (inr (inl (scans, has, (inl h)))) = tables_due a a.tables
 encode_due a s0 s1 w n (inr (inl (scans, has, (inr (tables, told, h))))) = encoded_due a scans tables _ s0 s1 w has told n h
 encode_due a s0 s1 w n (inr (inr (wanting, same))) = inr wanting
 
--- ONE ANSWER, over a desk that tells its files
+-- ONE ANSWER, over a desk whose files are known
 
 is_told : (s : DeskState) (n : Name) (bytes : List ℕ) → TellsFiles s → IsFile s.files n bytes → IsTold s.files n bytes
 is_told s n bytes t h =
@@ -178,7 +178,7 @@ input_fault s input f g t h k =
     let one = one_fault standard_limits h.bytes g.fault f.fault g.at f.at (subst (λ (b : List ℕ). IsImageFault standard_limits b g.fault g.at) same k.is) h.is in
     ap (λ x. (let at : FaultAt = record { fault = x; at = g.at } in at)) one.0 ∙ ap (λ n. (let at : FaultAt = record { fault = f.fault; at = n } in at)) one.1
 
--- what is due of a picture is one, and no refusal
+-- what is expected of a picture, a fault or none, is unique
 fault_once : (a : EncodeAsked) (s : DeskState) (x y : Option PictureFault) → TellsFiles s → EncodingDue a x s → EncodingDue a y s → y ≡ x
 fault_once a s x y t h k =
     sym k.is

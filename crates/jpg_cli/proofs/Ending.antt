@@ -6,44 +6,45 @@ use Rattle.jpg_base.specs.declared.names.Name.{Name}
 use Rattle.jpg_base.specs.declared.names.Put.TheVariants as put
 use Rattle.jpg_base.specs.Desk.{DeskState, NoneFell}
 use Rattle.jpg_base.specs.Laws.{NoneFell-then}
-use Rattle.jpg_spec.specs.declared.answers.Why.{Why}
-use Rattle.jpg_spec.specs.declared.answers.Why.TheVariants as why
-use Rattle.jpg_spec.specs.declared.answers.Which.TheVariants as which
-use Rattle.jpg_spec.specs.ShowWords.{ShowAsked}
-use Rattle.jpg_spec.specs.declared.image.EndKind.{EndKind}
-use Rattle.jpg_spec.specs.declared.transform.PictureFault.{PictureFault}
-use Rattle.jpg_spec.specs.Words.{tool_of}
-use Rattle.jpg_spec.specs.CommentWords.{WordsTold, words_right, words_wrong}
+use Rattle.jpg_spec_words.specs.declared.answers.Why.{Why}
+use Rattle.jpg_spec_words.specs.declared.answers.Why.TheVariants as why
+use Rattle.jpg_spec_words.specs.declared.answers.Which.TheVariants as which
+use Rattle.jpg_spec_words.specs.ShowWords.{ShowAsked}
+use Rattle.jpg_spec_image.specs.declared.image.EndKind.{EndKind}
+use Rattle.jpg_spec_write.specs.declared.picture_fault.PictureFault.{PictureFault}
+use Rattle.jpg_spec_words.specs.Words.{tool_of}
+use Rattle.jpg_spec_words.specs.CommentWords.{WordsTold, words_right, words_wrong}
 use Rattle.jpg_cli.specs.Commands.{encode_image, Command, not_built, transform_picture, show_picture, print_comments, insert_comment, command_asked, name_of}
 use Rattle.jpg_cli.proofs.CommentsPrinted.{printed_then}
 use Rattle.jpg_cli.proofs.InsertedThen.{inserted_then}
 use Rattle.jpg_cli.proofs.PictureTaken.{all_still, from_still}
-use Rattle.jpg_spec.specs.Moved.{Scans, moved_text, picture_fault}
-use Rattle.jpg_spec.specs.TransformWords.{ScansSource, own_sequential, own_progressive, in_file, TransformAsked, choice_asked}
-use Rattle.jpg_cli.specs.ScriptTaken.{HasScans, HasScansFault, StopsAtScans}
-use Rattle.jpg_cli.specs.Turned.{ReadsPicture, Transformed, Turned, TurnedWith, Turning, to_input, turning_of}
+use Rattle.jpg_spec_write.specs.ScansAsked.{Scans}
+use Rattle.jpg_spec_move.specs.Moved.{moved_text, picture_fault}
+use Rattle.jpg_spec_words.specs.TransformWords.{ScansSource, own_sequential, own_progressive, in_file, TransformAsked, choice_asked}
+use Rattle.jpg_cli.specs.Desk.ScriptTaken.{HasScans, HasScansFault, StopsAtScans}
+use Rattle.jpg_cli.specs.Tools.Turned.{ReadsPicture, Transformed, Turned, TurnedWith, Turning, to_input, turning_of}
 use Rattle.jpg_cli.proofs.ScriptTaken.{stopped_scans_then}
-use Rattle.jpg_cli.specs.Reading.{IsFile, rest_of}
-use Rattle.jpg_cli.specs.ReadPicture.{IsAllRead, IsOpenRead, IsRead, IsRefusedRead, IsShortRead, ReadsFrom}
+use Rattle.jpg_cli.specs.Desk.Reading.{IsFile, rest_of}
+use Rattle.jpg_cli.specs.Desk.ReadPicture.{IsAllRead, IsOpenRead, IsReadPicture, IsRefusedRead, IsShortRead, ReadsFrom}
 use Rattle.jpg_spec.specs.FileMeaning.{Means}
 use Rattle.jpg_spec.specs.Meaning.{Meaning}
 use Rattle.jpg_spec.specs.Segments.{standard_limits}
 use Rattle.jpg_spec.proofs.FileLaws.{means_more}
-use Rattle.jpg_spec.specs.Messages.{message, status_of}
+use Rattle.jpg_spec_words.specs.Messages.{message, status_of}
 use Rattle.jpg_cli.proofs.Endings.{stopped_then, unopened_then, unread_then, untouched_then, wrote_then}
 use Rattle.jpg_cli.specs.Run.{PictureDue, PictureInput, SaysText, task_of, showing_of, RanShow, Worked, Works, Ran, IsAnswerDue, IsShowDue, NoneRose}
-use Rattle.jpg_cli.specs.Ends.{has_format}
-use Rattle.jpg_cli.specs.Showing.{Showing, Shown, bytes_before}
-use Rattle.jpg_cli.specs.declared.read_picture.Wanted.{Wanted}
-use Rattle.jpg_cli.specs.declared.read_picture.Wanted.TheVariants.{Coefficients, Image}
+use Rattle.jpg_cli.specs.Tools.Ends.{has_format}
+use Rattle.jpg_cli.specs.Tools.Showing.{Showing, Shown, bytes_before}
+use Rattle.jpg_cli.specs.declared.desk.picture.Wanted.{Wanted}
+use Rattle.jpg_cli.specs.declared.desk.picture.Wanted.TheVariants.{Coefficients, Image}
 use Rattle.jpg_cli.proofs.ImageEncoded.{encoding_then}
 use Rattle.jpg_cli.proofs.ImageShown.{shown_then}
 use Rattle.jpg_cli.proofs.RowsStand.{so_read}
 use Rattle.jpg_cli.specs.Stays.{OnlySays}
 
--- a message changes nothing of what was done
+-- a message doesn't change what was done
 picture_then : (t : Turning) (s0 s1 s2 : DeskState) (M : Meaning) (early : Option ℕ) → OnlySays s1 s2 → ReadsPicture t M early s0 s1 → ReadsPicture t M early s0 s2
-picture_then t s0 s1 s2 M early k h = record { read = from_still s0 s1 s2 t.input (IsRead Coefficients M early) k.same.left h.read; all = all_still early s1 s2 k.same.left h.all; admitted = h.admitted }
+picture_then t s0 s1 s2 M early k h = record { read = from_still s0 s1 s2 t.input (IsReadPicture Coefficients M early) k.same.left h.read; all = all_still early s1 s2 k.same.left h.all; admitted = h.admitted }
 
 with_then : (t : Turning) (s0 s1 s2 : DeskState) (M : Meaning) (early : Option ℕ) → OnlySays s1 s2 → TurnedWith t M early s0 s1 → TurnedWith t M early s0 s2
 with_then t s0 s1 s2 M early k (read, wrote, means) = (picture_then t s0 s1 s2 M early k read, wrote_then s0 s1 s2 (to_input t) t.output (moved_text t.choice M) k wrote, means)
@@ -55,7 +56,7 @@ turned_then t s0 s1 s2 (why.Usage u) k h = absurd h
 turned_then t s0 s1 s2 (why.Refused f) k h =
     let P : Option (List ℕ) → Type 0 = λ l. ReadsFrom t.input (IsRefusedRead Coefficients f (rest_of l)) s0 s2 in
     (stopped_then s0 s1 s2 (to_input t) put.Done k h.0, subst P (sym k.same.left) (from_still s0 s1 s2 t.input (IsRefusedRead Coefficients f (rest_of s1.left)) k.same.left h.1))
-turned_then t s0 s1 s2 (why.Picture p) k h = (stopped_then s0 s1 s2 (to_input t) put.Done k h.0, (h.1.0, h.1.1, from_still s0 s1 s2 t.input (IsRead Coefficients h.1.0 h.1.1) k.same.left h.1.2, all_still h.1.1 s1 s2 k.same.left h.1.3, h.1.4))
+turned_then t s0 s1 s2 (why.Picture p) k h = (stopped_then s0 s1 s2 (to_input t) put.Done k h.0, (h.1.0, h.1.1, from_still s0 s1 s2 t.input (IsReadPicture Coefficients h.1.0 h.1.1) k.same.left h.1.2, all_still h.1.1 s1 s2 k.same.left h.1.3, h.1.4))
 turned_then t s0 s1 s2 (why.OpenFault which.Input) k h = unopened_then s0 s1 s2 (to_input t) k h
 turned_then t s0 s1 s2 (why.OpenFault which.Script) k h = absurd h
 turned_then t s0 s1 s2 (why.OpenFault which.Tables) k h = absurd h
@@ -109,9 +110,9 @@ ran formats words s0 s1 s2 code w h k m e = record {
   stays = record { counts = NoneFell-then s0.counts s1.counts s2.counts h.kept.stays.counts k.stays.counts; files = k.stays.files ∙ h.kept.stays.files };
 }
 
--- where nothing failed, the answer is the due one
+-- if nothing failed, the answer is the expected one
 
-picture_due : (wanted : Wanted) (input : Name) (s0 s1 : DeskState) (M : Meaning) (early : Option ℕ) → ReadsFrom input (IsRead wanted M early) s0 s1 → IsAllRead early s1 → PictureInput input early s0
+picture_due : (wanted : Wanted) (input : Name) (s0 s1 : DeskState) (M : Meaning) (early : Option ℕ) → ReadsFrom input (IsReadPicture wanted M early) s0 s1 → IsAllRead early s1 → PictureInput input early s0
 picture_due wanted input s0 s1 M (Some n) h all =
     let same : h.bytes ++ rest_of s1.left ≡ h.bytes = ap (λ (l : List ℕ). h.bytes ++ l) all ∙ append-nil h.bytes in
     record {
@@ -131,7 +132,7 @@ picture_due wanted input s0 s1 M None h all =
       means = subst (λ (b : List ℕ). Means standard_limits b M) cut (means_more standard_limits (take h.is.count h.bytes) (drop h.is.count h.bytes ++ rest) M h.is.whole.0);
     }
 
-picture_of_scans : (a : TransformAsked) (scans : Scans) (fault : Option PictureFault) (s0 s1 : DeskState) (M : Meaning) (early : Option ℕ) → HasScans a.scans s0 scans → ReadsFrom (name_of a.files.input) (IsRead Coefficients M early) s0 s1
+picture_of_scans : (a : TransformAsked) (scans : Scans) (fault : Option PictureFault) (s0 s1 : DeskState) (M : Meaning) (early : Option ℕ) → HasScans a.scans s0 scans → ReadsFrom (name_of a.files.input) (IsReadPicture Coefficients M early) s0 s1
     → IsAllRead early s1 → picture_fault (choice_asked a scans) M ≡ fault → PictureDue a fault early s0
 unfolding picture_due
 picture_of_scans a scans fault s0 s1 M None has read all is = record { scans = scans; asked = has; picture = picture_due Coefficients (name_of a.files.input) s0 s1 M None read all; is = is }

@@ -1,4 +1,4 @@
--- What stands when a command ended stays so with a message.
+-- What holds when a command has ended still holds after its message.
 use Rattle.std.proofs.Common.{◌≡◌, ℕ, List, [], ◌∷◌, ◌++◌, Option, refl, sym, ap, ◌∙◌, subst, arith}
 use Rattle.jpg_base.specs.declared.names.Name.{Name}
 use Rattle.jpg_base.specs.declared.names.Put.{Put}
@@ -7,7 +7,7 @@ use Rattle.jpg_base.specs.Desk.{DeskState, NotesName}
 use Rattle.jpg_base.specs.Laws.{Grows, NotesNames, NotesNames-then}
 use Rattle.jpg_spec.specs.Segments.{standard_limits}
 use Rattle.jpg_cli.specs.Endings.{Added, asked_for, Asks, Copied, Stopped, Unopened, Unread}
-use Rattle.jpg_cli.specs.Reading.{IsFile, ReadsBytes, rest_of}
+use Rattle.jpg_cli.specs.Desk.Reading.{IsFile, ReadsBytes, rest_of}
 use Rattle.jpg_cli.specs.Stays.{OnlySays, Untouched}
 
 -- ONE MORE NAME
@@ -22,7 +22,7 @@ asks_next s0 s1 s2 names name answer h k =
     let P : List (Name × Put) → Type 0 = λ entries. NotesNames s0.asked entries s2.asked in
     subst P (sym (asked_next names name answer)) (NotesNames-then s0.asked s1.asked s2.asked (asked_for names put.Done) (name, answer) h k)
 
--- no more were asked for
+-- no more were opened or created
 pub asks_still : (s0 s1 s2 : DeskState) (names : List Name) (answer : Put) → s2.asked ≡ s1.asked → Asks names answer s0 s1 → Asks names answer s0 s2
 asks_still s0 s1 s2 names answer e h = let P : Option (List (Name × Put)) → Type 0 = λ a. NotesNames s0.asked (asked_for names answer) a in subst P (sym e) h
 

@@ -1,11 +1,11 @@
--- Factors, read pair after pair.
+-- Factors, read pair by pair.
 use Rattle.std.proofs.Common.{◌≡◌, ℕ, zero, suc, ◌-◌, ◌<◌, ◌≤◌, All, true, false, ◌&&◌, ◌==◌, List, [], ◌∷◌, ◌++◌, length, slice_index, Option, None, Some, option_map, refl, sym, ap, ◌∙◌, subst, arith}
 use Rattle.std.proofs.lemmas.List.Elements.{All-append, All-cons, All-nil}
 use Rattle.std.proofs.lemmas.List.{append_assoc, length-append}
 use Rattle.std.specs.Prelude.{nat_le}
 use Rattle.jpg_spec.specs.Markers.{is_within}
-use Rattle.jpg_spec.specs.EncodingLaws.{AreFactors}
-use Rattle.jpg_spec.specs.Requests.{are_factors, factors_from, is_factor}
+use Rattle.jpg_spec_encode.specs.EncodingLaws.{AreFactors}
+use Rattle.jpg_spec_words.specs.Requests.{are_factors, factors_from, is_factor}
 use Rattle.jpg_spec.proofs.Common.{both, le_of}
 
 abbrev Pairs : Type 0
@@ -68,7 +68,7 @@ ended_there told had now rest behind pair is (a, x, d, cut, ok, same) none few m
     ∙ sym (ap (λ (text : List ℕ). after had (factors_from (4 - length had) text)) (cut ∙ ap (λ (l : List ℕ). a ∷ x ∷ d ∷ l) (nothing_there behind none)))
     ∙ sym is
 
--- or a comma and more stand after it
+-- or a comma and more follow it
 pub goes_on : (told : Option Pairs) (had now : Pairs) (rest behind : List ℕ) (comma : ℕ) (more : List ℕ) (pair : ℕ × ℕ) → told ≡ after had (factors_from (4 - length had) rest) → FirstPair rest behind pair → behind ≡ comma ∷ more → comma ≡ 44 → length had < 4 → now ≡ had ++ pair ∷ []
     → told ≡ after now (factors_from (4 - length now) more)
 goes_on told had now rest behind comma more pair is (a, x, d, cut, ok, same) next e few grown =

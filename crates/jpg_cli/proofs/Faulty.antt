@@ -1,4 +1,4 @@
--- Where all calls are done, what is wrong with the files is what is answered.
+-- If all calls succeed, what is wrong with the files is the answer.
 use Rattle.std.proofs.Common.{◌≡◌, ℕ, List, Option, None, Some, Result, Ok, Err, refl, sym, ap, ◌∙◌, subst, inl, inr}
 use Rattle.jpg_base.specs.declared.names.Name.{Name}
 use Rattle.jpg_base.specs.declared.names.Name.TheVariants as name
@@ -6,22 +6,23 @@ use Rattle.jpg_base.specs.Desk.{DeskState}
 use Rattle.jpg_spec.specs.Segments.{standard_limits}
 use Rattle.jpg_spec.specs.Early.{IsMeaning}
 use Rattle.jpg_spec.specs.Meaning.{Meaning}
-use Rattle.jpg_spec.specs.Moved.{Scans, picture_fault}
-use Rattle.jpg_spec.specs.Script.{Entry}
-use Rattle.jpg_spec.specs.ScriptGrammar.{TellsScript}
-use Rattle.jpg_spec.specs.TransformWords.{ScansSource, own_sequential, own_progressive, in_file, TransformAsked, choice_asked}
-use Rattle.jpg_spec.specs.declared.answers.FaultAt.{FaultAt}
-use Rattle.jpg_spec.specs.declared.answers.Why.{Why}
-use Rattle.jpg_spec.specs.declared.answers.Why.TheVariants as why
-use Rattle.jpg_spec.specs.declared.transform.PictureFault.{PictureFault}
+use Rattle.jpg_spec_write.specs.ScansAsked.{Scans}
+use Rattle.jpg_spec_move.specs.Moved.{picture_fault}
+use Rattle.jpg_spec_write.specs.Script.{Entry}
+use Rattle.jpg_spec_write.specs.ScriptGrammar.{TellsScript}
+use Rattle.jpg_spec_words.specs.TransformWords.{ScansSource, own_sequential, own_progressive, in_file, TransformAsked, choice_asked}
+use Rattle.jpg_spec.specs.declared.fault.FaultAt.{FaultAt}
+use Rattle.jpg_spec_words.specs.declared.answers.Why.{Why}
+use Rattle.jpg_spec_words.specs.declared.answers.Why.TheVariants as why
+use Rattle.jpg_spec_write.specs.declared.picture_fault.PictureFault.{PictureFault}
 use Rattle.jpg_cli.specs.Certain.{HasFaultyImage, HasFaultyInput, HasFaultyPicture, HasFaultyScript, IsOrNoMemory, IsTold}
 use Rattle.jpg_cli.specs.Commands.{name_of}
-use Rattle.jpg_cli.specs.ReadPicture.{IsRefused, IsRefusedFor}
+use Rattle.jpg_cli.specs.Desk.ReadPicture.{IsRefused, IsRefusedFor}
 use Rattle.jpg_cli.specs.Run.{IsAnswerDue, IsRefusalDue, IsShowDue, NoneRose, PictureInput}
-use Rattle.jpg_cli.specs.ScriptTaken.{HasScans, HasScansFault, TellsIn}
-use Rattle.jpg_cli.specs.Showing.{Showing, Shown}
-use Rattle.jpg_cli.specs.Turned.{Transformed}
-use Rattle.jpg_cli.specs.declared.read_picture.Wanted.TheVariants.{Coefficients, Image}
+use Rattle.jpg_cli.specs.Desk.ScriptTaken.{HasScans, HasScansFault, TellsIn}
+use Rattle.jpg_cli.specs.Tools.Showing.{Showing, Shown}
+use Rattle.jpg_cli.specs.Tools.Turned.{Transformed}
+use Rattle.jpg_cli.specs.declared.desk.picture.Wanted.TheVariants.{Coefficients, Image}
 use Rattle.jpg_scans.proofs.OneScript.{one_answer}
 use Rattle.jpg_spec.proofs.EarlyOnce.{meaning_once}
 use Rattle.jpg_cli.proofs.Certain.{meaning_of_as, no_scans_fault, none_faulty, none_unshown, one_file, refused_alone, same_scans}
@@ -36,7 +37,7 @@ some_or_fault a f e = cc
 pub fault_same : (f g : FaultAt) → (let x : Result (List Entry) FaultAt = Err f in x) ≡ Err g → f ≡ g
 fault_same f g e = cc
 
--- it is what is read of that file
+-- it is the fault that is read from that file
 is_told : (old : DeskState) (file : List ℕ) (text : List ℕ) (f : FaultAt) (told : Result (List Entry) FaultAt) → IsTold old.files (name.File file) text → TellsScript text (Err f) → TellsIn (name.File file) told old → told ≡ Err f
 is_told old file text f told is tells found =
     let same = one_file old.files (name.File file) text found.text is found.is in
@@ -72,12 +73,12 @@ script_answered a f old new w has none turned = by w (due_answer a old new w non
 
 -- THE INPUT has one
 
--- the input that is told means what it means
+-- a picture that the input means is a meaning of its known bytes
 meant_there : (old : DeskState) (input : Name) (bytes : List ℕ) (early : Option ℕ) → IsTold old.files input bytes → (k : PictureInput input early old) → IsMeaning standard_limits bytes k.meaning
 meant_there old input bytes early told k =
     subst (λ (b : List ℕ). IsMeaning standard_limits b k.meaning) (one_file old.files input bytes k.bytes told k.file) (meaning_of_as early k.bytes k.meaning k.means)
 
--- a picture that the input means is none that it is refused for
+-- if the input means a picture, it isn't refused for that picture
 no_picture : (old : DeskState) (input : Name) (bytes : List ℕ) (f : FaultAt) (early : Option ℕ) → IsTold old.files input bytes → IsRefusedFor Coefficients bytes f → PictureInput input early old → ⊥
 no_picture old input bytes f early told refused k = none_faulty bytes k.meaning f (meant_there old input bytes early told k) (refused_alone bytes f refused)
 
@@ -121,7 +122,7 @@ picture_answered a f old new w has none turned = by w (due_answer a old new w no
     input : Name
     input = name_of a.files.input
 
-    -- what is found of the picture is what it has
+    -- the fault that is found is that of the picture
     found : (o : Option PictureFault) (scans : Scans) (early : Option ℕ) (k : PictureInput input early old) → HasScans a.scans old scans → picture_fault (choice_asked a scans) k.meaning ≡ o → o ≡ Some f
     found o scans early k is fault =
         let one = same_scans old a.scans has.scans scans has.asked is in
@@ -146,7 +147,7 @@ picture_answered a f old new w has none turned = by w (due_answer a old new w no
     by why.WriteFault due = absurd due
     by why.NoMemory due = inr refl
 
--- AN IMAGE is wanted, and the input is refused
+-- AN IMAGE is asked for, and the input is refused
 
 pub image_answered : (s : Showing) (f : FaultAt) (old new : DeskState) (w : Why) → HasFaultyImage s f old → NoneRose old.counts new.counts → Shown s old w new → IsOrNoMemory (why.Refused f) w
 image_answered s f old new w has none shown = by w (show_due s old new w none shown)

@@ -1,4 +1,4 @@
--- What pieces come to, up to a scan of all components.
+-- What pieces of a file result in, up to a scan of all components.
 use Rattle.std.proofs.Common.{◌≡◌, ℕ, ◌<◌, ◌≤◌, Bool, true, false, List, [], ◌++◌, length, take, drop, refl, sym, ap, ◌∙◌, subst, arith, inl, inr, ◌⊎◌, Option, Some, None, Result, Ok, Err}
 use Rattle.std.specs.List.{All}
 use Rattle.std.specs.Option.{is_some}
@@ -6,49 +6,49 @@ use Rattle.std.proofs.lemmas.Bool.{cases_lt}
 use Rattle.std.proofs.lemmas.List.{append_assoc, append-nil, length-append, length-take-le, take_all, take-append-drop, take-append-le}
 use Rattle.jpg_base.specs.declared.stop.Stop.{Stop}
 use Rattle.jpg_base.specs.declared.stop.Stop.TheVariants as stop
-use Rattle.jpg_spec.specs.FirstFault.{IsFirstFault, Shows}
+use Rattle.jpg_spec.specs.FirstFault.{IsFirstFault, Reveals}
 use Rattle.jpg_spec.specs.Header.{IsHeader}
-use Rattle.jpg_spec.specs.FileStands.{FileStands, IsWholeFile}
+use Rattle.jpg_spec.specs.UnfinishedFile.{UnfinishedFile, IsWholeFile}
 use Rattle.jpg_spec.specs.Markers.{Segment}
 use Rattle.jpg_spec.specs.Meaning.{Meaning}
-use Rattle.jpg_spec.specs.NotShown.{colours_behind, factors_behind}
-use Rattle.jpg_spec.specs.Pixels.{out_fault_of}
+use Rattle.jpg_spec.specs.InForce.{colours_after, factors_after}
+use Rattle.jpg_spec_image.specs.Pixels.{out_fault_of}
 use Rattle.jpg_spec.specs.RowsTold.{BeginsScanOfAll}
 use Rattle.jpg_spec.specs.Segments.{standard_limits}
-use Rattle.jpg_spec.specs.declared.answers.FaultAt.{FaultAt}
-use Rattle.jpg_spec.specs.declared.answers.Why.TheVariants as why
+use Rattle.jpg_spec.specs.declared.fault.FaultAt.{FaultAt}
+use Rattle.jpg_spec_words.specs.declared.answers.Why.TheVariants as why
 use Rattle.jpg_spec.specs.declared.fault.Fault.{Fault}
 use Rattle.jpg_spec.specs.declared.frame.Limits.{Limits}
 use Rattle.jpg_spec.proofs.FileLaws.{shown_not_standing}
 use Rattle.jpg_spec.proofs.FirstScan.{header_stands}
 use Rattle.jpg_spec.proofs.OneHeader.{whole_once}
-use Rattle.jpg_file.specs.FirstHead.{IsHeadOf}
-use Rattle.jpg_file.specs.ReadFile.{IsStopOf, KeepsHeadAt, StopsAt, head_seen}
-use Rattle.jpg_file.specs.ReadRows.{AfterEndRow, AfterFeedRow, EndsDoneRow, HasBegunRows, HasReadAll, HasReadPlainly, HasReadSoFar, IsDonePlainly, RowReaderState, whole_reader}
-use Rattle.jpg_file.specs.RowsKnown.{TellsStrip}
-use Rattle.jpg_file.specs.RowsNone.{HasNoRows}
-use Rattle.jpg_file.specs.declared.ends.End.TheVariants as ends
-use Rattle.jpg_file.specs.declared.row_reader.FedRow.{FedRow}
-use Rattle.jpg_file.specs.declared.row_reader.FedRow.TheVariants as fed
-use Rattle.jpg_file.specs.declared.rows.RowWork.{RowWork}
-use Rattle.jpg_file.specs.declared.strip_head.StripHead.{StripHead}
+use Rattle.jpg_file.specs.Read.FirstHeader.{IsFirstHeaderOf}
+use Rattle.jpg_file.specs.Read.ReadFile.{IsStopOf, KeepsHeadAt, StopsAt, head_seen}
+use Rattle.jpg_file.specs.Read.ReadRows.{AfterEndRow, AfterFeedRow, EndsDoneRow, HasBegunRows, HasReadAll, HasReadPlainly, HasReadSoFar, IsDonePlainly, RowReaderState, whole_reader}
+use Rattle.jpg_file.specs.Read.RowsKnown.{TellsStrip}
+use Rattle.jpg_file.specs.Read.RowsNone.{HasNoRows}
+use Rattle.jpg_file.specs.declared.read.ends.End.TheVariants as ends
+use Rattle.jpg_file.specs.declared.read.row_reader.FedRow.{FedRow}
+use Rattle.jpg_file.specs.declared.read.row_reader.FedRow.TheVariants as fed
+use Rattle.jpg_file.specs.declared.read.rows.RowWork.{RowWork}
+use Rattle.jpg_file.specs.declared.read.strip_head.StripHead.{StripHead}
 use Rattle.jpg_spec.specs.Geometry.{Frame}
 use Rattle.jpg_spec.specs.Scan.{Blocks}
-use Rattle.jpg_cli.specs.ReadPicture.{AfterFileEnd, IsRefusedFor, IsRefusedRead, IsUnwanted, unwanted_in}
-use Rattle.jpg_cli.specs.Showing.{IsShownByRows}
-use Rattle.jpg_cli.specs.ShowingRows.{AfterFirst, BeginsRows, HasFedPlainly, HoldsEarlyPlainly, HoldsPlainly, IsHeadIn, StaysFirst, step_of}
-use Rattle.jpg_cli.specs.declared.read_picture.Wanted.TheVariants.{Image}
+use Rattle.jpg_cli.specs.Desk.ReadPicture.{AfterFileEnd, IsRefusedFor, IsRefusedRead, IsUnwanted, unwanted_in}
+use Rattle.jpg_cli.specs.Tools.Showing.{IsShownByRows}
+use Rattle.jpg_cli.specs.Tools.ShowingRows.{AfterFirst, BeginsShownRows, HasFedPlainly, HoldsEarlyPlainly, HoldsPlainly, IsHeadIn, StaysFirst, step_of}
+use Rattle.jpg_cli.specs.declared.desk.picture.Wanted.TheVariants.{Image}
 use Rattle.jpg_cli.proofs.PictureBytes.{early_end, has_fed, holds_file, new_place, refused_end, refused_there, short_piece, stop_within}
 use Rattle.jpg_cli.proofs.RowHeads.{begins_still, begins_whole, shown_before}
 use Rattle.jpg_cli.proofs.Unwanted.{stop_wanted, unwanted_head, unwanted_more, unwanted_within, wanted_head}
 
--- THE HEAD that the reader keeps is one of some first bytes
+-- THE HEAD that the reader keeps is that of a prefix of the bytes
 
 pub record HasHeadIn (all : List ℕ) (r : RowReaderState) : Type 0 where
   pub front : List ℕ
   pub rest : List ℕ
   pub cut : all ≡ front ++ rest
-  pub head : IsHeadOf r.limits front r.file.head
+  pub head : IsFirstHeaderOf r.limits front r.file.head
 
 whole_cut : (l : List ℕ) (n : ℕ) → l ≡ take n l ++ drop n l
 whole_cut l n = sym (take-append-drop n l)
@@ -69,21 +69,21 @@ head_in bytes piece m (Err (stop.Fault f)) r (stops, late, inl h, so) = record {
 head_in bytes piece m (Err (stop.Fault f)) r (stops, late, inr (n, at, h, s), so) = record { front = take n (bytes ++ piece); rest = drop n (bytes ++ piece); cut = whole_cut (bytes ++ piece) n; head = h }
 head_in bytes piece m (Err stop.NoMemory) r ((n, few, h), none, plain) = record { front = take n (bytes ++ piece); rest = drop n (bytes ++ piece); cut = whole_cut (bytes ++ piece) n; head = h }
 
--- A PICTURE THAT ISN'T SHOWN
+-- A PICTURE THAT CAN'T BE DISPLAYED
 
--- a fault comes after bytes that stand
-fault_later : (bytes rest : List ℕ) (fault : Fault) (n : ℕ) → FileStands standard_limits bytes → length bytes ≤ standard_limits.input → IsFirstFault standard_limits (bytes ++ rest) fault n → length bytes ≤ n
+-- a fault comes after bytes that have none
+fault_later : (bytes rest : List ℕ) (fault : Fault) (n : ℕ) → UnfinishedFile standard_limits bytes → length bytes ≤ standard_limits.input → IsFirstFault standard_limits (bytes ++ rest) fault n → length bytes ≤ n
 fault_later bytes rest fault n stands short (inl k) = by (cases_lt n (length bytes))
   where
     by : (n < length bytes) ⊎ (length bytes ≤ n) → length bytes ≤ n
     by (inr many) = many
     by (inl few) =
         absurd (shown_not_standing standard_limits fault (take n bytes) (drop n bytes) bytes
-        (subst (λ l. Shows standard_limits fault l) (take-append-le n bytes rest (omega (arith, few))) k.1.1) stands (take-append-drop n bytes))
+        (subst (λ l. Reveals standard_limits fault l) (take-append-le n bytes rest (omega (arith, few))) k.1.1) stands (take-append-drop n bytes))
 fault_later bytes rest fault n stands short (inr (inl k)) = (let at = k.1 in omega (arith, at, short))
 fault_later bytes rest fault n stands short (inr (inr k)) = (let at = k.1 in omega (arith, at, length-append bytes rest))
 
--- bytes that tell it are refused for it, whatever follows
+-- bytes that reveal it are refused for it, whatever follows
 unwanted_always : (gray : Bool) (all rest : List ℕ) (f : FaultAt) → length all ≤ standard_limits.input → IsUnwanted (Image gray) all f → IsRefusedFor (Image gray) (all ++ rest) f
 unwanted_always gray all rest f most s = inr (unwanted_more (Image gray) all rest f s, λ g refused. late g refused)
   where
@@ -105,17 +105,17 @@ unwanted_always gray all rest f most s = inr (unwanted_more (Image gray) all res
 none_told : (f : Fault) → None ≡ Some f → ⊥
 none_told f e = cc
 
--- the scan header of a picture that isn't shown is none of one that is
+-- the scan header of a picture that can't be displayed isn't one of a picture that can
 pub not_shown : (gray : Bool) (all : List ℕ) (f : FaultAt) → IsUnwanted (Image gray) all f → IsShownByRows gray all → ⊥
 not_shown gray all f s h =
     let k = h.begins in
     let one = whole_once standard_limits (take f.at all) k.front (drop f.at all) k.rest s.before h.before s.contents h.contents s.header k.header (take-append-drop f.at all ∙ k.cut) in
-    none_told f.fault (sym h.shown ∙ sym (ap (λ (b : List Segment). out_fault_of (colours_behind standard_limits b) gray (factors_behind standard_limits b)) one.1) ∙ s.fault)
+    none_told f.fault (sym h.shown ∙ sym (ap (λ (b : List Segment). out_fault_of (colours_after standard_limits b) gray (factors_after standard_limits b)) one.1) ∙ s.fault)
 
--- of all bytes so far, where the head tells it
+-- of all bytes so far, if the head reveals it
 told_in : (gray : Bool) (all : List ℕ) (r : RowReaderState) (f : FaultAt) → r.limits ≡ standard_limits → HasHeadIn all r → unwanted_in (Image gray) (head_seen (whole_reader r)) ≡ Some f → IsUnwanted (Image gray) all f
 told_in gray all r f e h told =
-    let k = unwanted_head (Image gray) h.front r.file.head f (subst (λ (l : Limits). IsHeadOf l h.front r.file.head) e h.head) told in
+    let k = unwanted_head (Image gray) h.front r.file.head f (subst (λ (l : Limits). IsFirstHeaderOf l h.front r.file.head) e h.head) told in
     subst (λ l. IsUnwanted (Image gray) l f) (sym h.cut) (unwanted_more (Image gray) h.front h.rest f k)
 
 pub first_unwanted : (gray : Bool) (bytes piece : List ℕ) (old r : RowReaderState) (f : FaultAt) → r.limits ≡ standard_limits → HasFedPlainly gray old bytes → length piece ≤ 16384 → length (bytes ++ piece) ≤ standard_limits.input → HasHeadIn (bytes ++ piece) r
@@ -134,14 +134,14 @@ read_plainly gray bytes old e k = inl (record { none = k.none; plain = subst (λ
 
 -- A SCAN THAT BEGINS
 
--- the one of the bytes, where its header is whole
+-- that of the bytes, once its header is complete
 pub record HasBegun (all : List ℕ) (r : RowReaderState) : Type 0 where
   pub front : List ℕ
   pub rest : List ℕ
   pub cut : all ≡ front ++ rest
   pub begun : HasBegunRows front r
 
--- no scan is in work, or one began
+-- no scan is being read, or one began
 abbrev pub IsPlainOrBegun : List ℕ → RowReaderState → Type 0
 IsPlainOrBegun all r = (r.rows ≡ None) ⊎ HasBegun all r
 
@@ -155,16 +155,16 @@ plain_or bytes piece m (Err (stop.Fault f)) r (stops, late, head, inl h) = inl h
 plain_or bytes piece m (Err (stop.Fault f)) r (stops, late, head, inr h) = inr (record { front = take f.at (bytes ++ piece); rest = drop f.at (bytes ++ piece); cut = whole_cut (bytes ++ piece) f.at; begun = h.begun })
 plain_or bytes piece m (Err stop.NoMemory) r (head, none, plain) = inl none
 
--- its picture is shown, where the head tells nothing
+-- its picture can be displayed, if the head doesn't reveal a fault
 begun_head : (gray : Bool) (front : List ℕ) (r : RowReaderState) → r.limits ≡ standard_limits → (b : HasBegunRows front r) → unwanted_in (Image gray) (head_seen (whole_reader r)) ≡ None
     → IsHeadIn gray (record { before = b.before; contents = b.contents }) front
-begun_head gray front r e b none = record { begins = begins; shown = by (out_fault_of (colours_behind standard_limits b.before) gray (factors_behind standard_limits b.before)) refl }
+begun_head gray front r e b none = record { begins = begins; shown = by (out_fault_of (colours_after standard_limits b.before) gray (factors_after standard_limits b.before)) refl }
   where
     begins : BeginsScanOfAll standard_limits front b.before b.contents
     begins = subst (λ (l : Limits). BeginsScanOfAll l front b.before b.contents) e b.begins
 
-    head : IsHeadOf standard_limits front r.file.head
-    head = subst (λ (l : Limits). IsHeadOf l front r.file.head) e b.head
+    head : IsFirstHeaderOf standard_limits front r.file.head
+    head = subst (λ (l : Limits). IsFirstHeaderOf l front r.file.head) e b.head
 
     at : ℕ
     at = length begins.front
@@ -172,7 +172,7 @@ begun_head gray front r e b none = record { begins = begins; shown = by (out_fau
     first : take at front ≡ begins.front
     first = ap (take at) begins.cut ∙ take-append-le at begins.front begins.rest (omega arith) ∙ take_all at begins.front (omega arith)
 
-    by : (o : Option Fault) → out_fault_of (colours_behind standard_limits b.before) gray (factors_behind standard_limits b.before) ≡ o → o ≡ None
+    by : (o : Option Fault) → out_fault_of (colours_after standard_limits b.before) gray (factors_after standard_limits b.before) ≡ o → o ≡ None
     by None same = refl
     by (Some fault) same =
         absurd (wanted_head (Image gray) front r.file.head head none (record { fault = fault; at = at })
@@ -199,7 +199,7 @@ not_none r front b none = no_work b.rows (sym b.has ∙ none)
 
 pub rows_begin : (gray : Bool) (bytes piece : List ℕ) (answer : Result FedRow Stop) (old r : RowReaderState) → old.limits ≡ standard_limits → r.limits ≡ standard_limits → HasFedPlainly gray old bytes → length piece ≤ 16384
     → length (bytes ++ piece) ≤ standard_limits.input → All (λ b. b < 256) (bytes ++ piece) → AfterFeedRow bytes 0 piece answer r → EndsDoneRow answer r → unwanted_in (Image gray) (head_seen (whole_reader r)) ≡ None → HasBegun (bytes ++ piece) r
-    → BeginsRows gray (bytes ++ piece) piece answer r
+    → BeginsShownRows gray (bytes ++ piece) piece answer r
 rows_begin gray bytes piece answer old r eo e k short most small after done none h = record {
   head = record { before = (h.begun).before; contents = (h.begun).contents };
   rows = record {
@@ -228,7 +228,7 @@ goes_on_plainly gray bytes piece r e small none h = record {
   fed = has_fed (Image gray) (bytes ++ piece) (whole_reader r) e small none h.read;
 }
 
--- after a whole file none begins
+-- after a complete file none begins
 pub plain_whole : (front rest : List ℕ) (M : Meaning) → IsWholeFile standard_limits front M → HasNoRows standard_limits front → HasNoRows standard_limits (front ++ rest)
 plain_whole front rest M w none before contents h = none before contents (begins_whole front rest M w before contents h)
 
@@ -257,9 +257,9 @@ refused_plainly gray bytes piece r f e short none stops late keeps rest =
       last = omega (arith, late, short, length-append bytes piece);
     }
 
--- BY THE ANSWER, where the head tells nothing
+-- BY THE ANSWER, if the head doesn't reveal a fault
 
--- no head is told, so none began; or one is, and it did
+-- there is no head, so none began; or there is one, and it did
 pub none_begun : (o : Option StripHead) (f : Frame) (picture : Blocks → Meaning) → is_some o ≡ false → TellsStrip o f picture → ⊥
 none_begun None f picture e t = t
 none_begun (Some h) f picture e t = true_false e

@@ -1,32 +1,32 @@
--- An input that ends before a scan of all components, or is whole without one, over the states that a desk tells.
+-- An input that ends before a scan of all components, or is complete without one, over the states of a desk.
 use Rattle.std.proofs.Common.{◌≡◌, ℕ, ◌≤◌, List, [], length, take, refl, ap, ◌∙◌, subst, arith, inl, Option, None, Some}
 use Rattle.std.specs.Io.KnownBytes.{Consumes}
 use Rattle.jpg_base.specs.declared.names.Name.{Name}
 use Rattle.jpg_base.specs.declared.names.Put.TheVariants as put
 use Rattle.jpg_base.specs.Desk.{DeskState, Opens}
-use Rattle.jpg_spec.specs.FileStands.{IsWholeFile}
-use Rattle.jpg_spec.specs.ImageText.{end_text}
+use Rattle.jpg_spec.specs.UnfinishedFile.{IsWholeFile}
+use Rattle.jpg_spec_image.specs.ImageText.{end_text}
 use Rattle.jpg_spec.specs.Meaning.{Meaning}
-use Rattle.jpg_spec.specs.Pixels.{info, out_fault, pixels}
+use Rattle.jpg_spec_image.specs.Pixels.{info, out_fault, pixels}
 use Rattle.jpg_spec.specs.declared.frame.Limits.{Limits}
 use Rattle.jpg_spec.specs.Segments.{standard_limits}
-use Rattle.jpg_spec.specs.declared.answers.Why.{Why}
-use Rattle.jpg_spec.specs.declared.answers.Why.TheVariants as why
-use Rattle.jpg_spec.specs.declared.answers.Which.TheVariants as which
-use Rattle.jpg_file.specs.File.{keeping_of}
-use Rattle.jpg_file.specs.PictureRead.{MeansFor, TakesEarly, TakesPicture, picture_meaning}
-use Rattle.jpg_file.specs.ReadFile.{ReaderState}
-use Rattle.jpg_file.proofs.KeepingLaws.{out_same}
-use Rattle.jpg_file.specs.ReadRows.{RowReaderState, whole_reader}
-use Rattle.jpg_file.specs.RowsNone.{HasNoRows}
-use Rattle.jpg_file.specs.declared.picture.Picture.{Picture}
-use Rattle.jpg_cli.specs.Reading.{rest_of}
-use Rattle.jpg_cli.specs.ReadPicture.{HoldsFile, IsAllRead, IsOpenRead, IsRead, IsRefusedRead, IsShortRead, IsWholeRead, ReadsFrom, Takes, unwanted_for}
-use Rattle.jpg_cli.specs.Showing.{AfterImage, IsPlain, Shown, Showing, all_bytes, bytes_before, shown_text}
-use Rattle.jpg_cli.specs.ShowingRows.{EndsPlainly, HoldsEarlyPlainly, HoldsPlainly}
+use Rattle.jpg_spec_words.specs.declared.answers.Why.{Why}
+use Rattle.jpg_spec_words.specs.declared.answers.Why.TheVariants as why
+use Rattle.jpg_spec_words.specs.declared.answers.Which.TheVariants as which
+use Rattle.jpg_file.specs.Read.File.{keeping_of}
+use Rattle.jpg_file.specs.Read.PictureRead.{MeansFor, TakesEarly, TakesPicture, picture_meaning}
+use Rattle.jpg_file.specs.Read.ReadFile.{ReaderState}
+use Rattle.jpg_cli.proofs.KeepingLaws.{out_same}
+use Rattle.jpg_file.specs.Read.ReadRows.{RowReaderState, whole_reader}
+use Rattle.jpg_file.specs.Read.RowsNone.{HasNoRows}
+use Rattle.jpg_file.specs.declared.read.picture.Picture.{Picture}
+use Rattle.jpg_cli.specs.Desk.Reading.{rest_of}
+use Rattle.jpg_cli.specs.Desk.ReadPicture.{HoldsFile, IsAllRead, IsOpenRead, IsReadPicture, IsRefusedRead, IsShortRead, IsWholeRead, ReadsFrom, TakesPieces, unwanted_for}
+use Rattle.jpg_cli.specs.Tools.Showing.{AfterImage, IsPlain, Shown, Showing, all_bytes, bytes_before, shown_text}
+use Rattle.jpg_cli.specs.Tools.ShowingRows.{EndsPlainly, HoldsEarlyPlainly, HoldsPlainly}
 use Rattle.jpg_cli.specs.Stays.{Keeps, OnlyReads}
-use Rattle.jpg_cli.specs.declared.read_picture.Wanted.{Wanted}
-use Rattle.jpg_cli.specs.declared.read_picture.Wanted.TheVariants.{Image}
+use Rattle.jpg_cli.specs.declared.desk.picture.Wanted.{Wanted}
+use Rattle.jpg_cli.specs.declared.desk.picture.Wanted.TheVariants.{Image}
 use Rattle.jpg_cli.proofs.CommentsCopied.{none_read, works_then}
 use Rattle.jpg_cli.proofs.ImageShown.{shown_written, text_shown}
 use Rattle.jpg_cli.proofs.Input.{file_read, noted}
@@ -65,9 +65,9 @@ nothing_read s old start h =
     } in
     inl (stopped_there old start start s.input h (reads_none start), reads_from old start start s.input (IsShortRead (Image s.gray)) h ([], none_read start.left, omega arith, short))
 
--- IT IS WHOLE
+-- IT IS COMPLETE
 
--- the bytes are the whole file that the reader holds
+-- the bytes are the complete file that the reader has
 whole_read : (w : Wanted) (bytes : List ℕ) (r : ReaderState) → r.limits ≡ standard_limits → (h : HoldsFile w r bytes) → IsWholeRead w (h.done).meaning bytes
 whole_read w bytes r e h = record {
   count = h.count;
@@ -78,18 +78,18 @@ whole_read w bytes r e h = record {
   wanted = h.wanted;
 }
 
--- the picture that was taken of it means what the file means, but for markers that weren't kept
+-- the picture that was taken of it means what the file means, except for markers that weren't kept
 pub record IsTaken (s : Showing) (early : Option ℕ) (start now : DeskState) (r : RowReaderState) (p : Picture) : Type 0 where
   pub meaning : Meaning
   pub means : MeansFor (keeping_of r.file) p meaning
   pub bytes : List ℕ
   pub read : Consumes start.left now.left bytes
   pub most : length bytes ≤ standard_limits.input
-  pub is : IsRead (Image s.gray) meaning early bytes
+  pub is : IsReadPicture (Image s.gray) meaning early bytes
   pub all : IsAllRead early now
   pub plain : HasNoRows standard_limits bytes
 
-pub whole_taken : (s : Showing) (start now : DeskState) (r : RowReaderState) (p : Picture) → r.limits ≡ standard_limits → TakesPicture (whole_reader r) p → Takes (HoldsPlainly s.gray r) start now → IsTaken s None start now r p
+pub whole_taken : (s : Showing) (start now : DeskState) (r : RowReaderState) (p : Picture) → r.limits ≡ standard_limits → TakesPicture (whole_reader r) p → TakesPieces (HoldsPlainly s.gray r) start now → IsTaken s None start now r p
 whole_taken s start now r p e takes (bytes, read, most, h) =
     let done = (h.holds).done in
     record {
@@ -104,7 +104,7 @@ whole_taken s start now r p e takes (bytes, read, most, h) =
     }
 
 -- and so does what was taken of one that ended early
-pub cut_taken : (s : Showing) (n : ℕ) (start now : DeskState) (r : RowReaderState) (p : Picture) → r.limits ≡ standard_limits → TakesEarly (whole_reader r) p → Takes (HoldsEarlyPlainly s.gray r n) start now → rest_of now.left ≡ [] → IsTaken s (Some n) start now r p
+pub cut_taken : (s : Showing) (n : ℕ) (start now : DeskState) (r : RowReaderState) (p : Picture) → r.limits ≡ standard_limits → TakesEarly (whole_reader r) p → TakesPieces (HoldsEarlyPlainly s.gray r n) start now → rest_of now.left ≡ [] → IsTaken s (Some n) start now r p
 cut_taken s n start now r p e takes (bytes, read, most, h) all = record {
   meaning = early_meaning h.holds;
   means = takes bytes (h.holds).ended;
@@ -116,7 +116,7 @@ cut_taken s n start now r p e takes (bytes, read, most, h) all = record {
   plain = h.plain;
 }
 
-read_wanted : (w : Wanted) (M : Meaning) (early : Option ℕ) (bytes : List ℕ) → IsRead w M early bytes → unwanted_for w M ≡ None
+read_wanted : (w : Wanted) (M : Meaning) (early : Option ℕ) (bytes : List ℕ) → IsReadPicture w M early bytes → unwanted_for w M ≡ None
 read_wanted w M None bytes h = h.wanted
 read_wanted w M (Some n) bytes h = h.wanted
 
@@ -133,7 +133,7 @@ keeps_after old start now file h k = record {
 pub taken_shown : (s : Showing) (early : Option ℕ) (old start now new : DeskState) (r : RowReaderState) (p : Picture) (ended : Why) → Opens old s.input put.Done start → OnlyReads start now → IsTaken s early start now r p → new.left ≡ now.left
     → AfterImage s.output early now (end_text s.kind (info (picture_meaning p) s.gray) (pixels (picture_meaning p) s.gray s.smooth)) ended new → Shown s old ended new
 taken_shown s early old start now new r p ended h k t left wrote =
-    let read : ReadsFrom s.input (IsRead (Image s.gray) t.meaning early) old now = record { bytes = t.bytes; read = file_read old.files s.input start.left now.left t.bytes h.after.2 t.read; most = t.most; is = t.is } in
+    let read : ReadsFrom s.input (IsReadPicture (Image s.gray) t.meaning early) old now = record { bytes = t.bytes; read = file_read old.files s.input start.left now.left t.bytes h.after.2 t.read; most = t.most; is = t.is } in
     shown_written s t.meaning early old now new ended
     (record { kept = keeps_after old start now s.input h k; asked = noted old start now s.input h k; read = (read, t.all); left = left; plain = t.plain })
     (subst (λ (due : List ℕ). AfterImage s.output early now due ended new) (ap (shown_text s) t.means ∙ text_shown s (keeping_of r.file) t.meaning) wrote)

@@ -1,4 +1,4 @@
--- What reading pieces comes to, up to a scan of all components, over the states that a desk tells.
+-- The result of reading pieces, up to a scan of all components, over the states of a desk.
 use Rattle.std.proofs.Common.{◌≡◌, ℕ, ◌<◌, ◌≤◌, ◌+◌, ◌-◌, Bool, true, List, [], ◌++◌, length, take, sym, ap, ◌∙◌, subst, arith}
 use Rattle.std.proofs.lemmas.List.{length-take-le}
 use Rattle.std.specs.Io.KnownBytes.{Consumes, IsAtEnd}
@@ -6,20 +6,20 @@ use Rattle.jpg_base.specs.declared.names.Got.TheVariants as got
 use Rattle.jpg_base.specs.Desk.{DeskState, Reads, Rose}
 use Rattle.jpg_base.specs.Laws.{Consumes-then}
 use Rattle.jpg_spec.specs.Segments.{standard_limits}
-use Rattle.jpg_spec.specs.declared.answers.Why.{Why}
-use Rattle.jpg_spec.specs.declared.answers.Why.TheVariants as why
-use Rattle.jpg_spec.specs.declared.answers.Which.TheVariants as which
+use Rattle.jpg_spec_words.specs.declared.answers.Why.{Why}
+use Rattle.jpg_spec_words.specs.declared.answers.Why.TheVariants as why
+use Rattle.jpg_spec_words.specs.declared.answers.Which.TheVariants as which
 use Rattle.jpg_spec.specs.declared.frame.Limits.{Limits}
-use Rattle.jpg_file.specs.ReadRows.{HasReadPlainly, RowReaderState, whole_reader}
-use Rattle.jpg_file.specs.RowsNone.{HasNoRows}
-use Rattle.jpg_cli.specs.Reading.{rest_of}
-use Rattle.jpg_cli.specs.ReadPicture.{AfterFileEnd, IsRefusedRead}
-use Rattle.jpg_cli.specs.Showing.{IsShownByRows}
-use Rattle.jpg_cli.specs.ShowingRows.{AfterFirst, AfterFirstEnd, AfterFirstRead, BeginsRows, EndsPlainly, HasFedPlainly}
+use Rattle.jpg_file.specs.Read.ReadRows.{HasReadPlainly, RowReaderState, whole_reader}
+use Rattle.jpg_file.specs.Read.RowsNone.{HasNoRows}
+use Rattle.jpg_cli.specs.Desk.Reading.{rest_of}
+use Rattle.jpg_cli.specs.Desk.ReadPicture.{AfterFileEnd, IsRefusedRead}
+use Rattle.jpg_cli.specs.Tools.Showing.{IsShownByRows}
+use Rattle.jpg_cli.specs.Tools.ShowingRows.{AfterFirst, AfterFirstEnd, AfterFirstRead, BeginsShownRows, EndsPlainly, HasFedPlainly}
 use Rattle.jpg_cli.specs.Stays.{OnlyReads}
-use Rattle.jpg_cli.specs.declared.read_picture.Wanted.TheVariants.{Image}
-use Rattle.jpg_cli.specs.declared.show.FirstStep.{FirstStep}
-use Rattle.jpg_cli.specs.declared.show.FirstStep.TheVariants as first
+use Rattle.jpg_cli.specs.declared.desk.picture.Wanted.TheVariants.{Image}
+use Rattle.jpg_cli.specs.declared.tools.djpeg.FirstStep.{FirstStep}
+use Rattle.jpg_cli.specs.declared.tools.djpeg.FirstStep.TheVariants as first
 use Rattle.jpg_cli.proofs.CommentsCopied.{left_still, some_taken}
 use Rattle.jpg_cli.proofs.Input.{none_left}
 use Rattle.jpg_cli.proofs.PictureBytes.{fed_none, open_so_far}
@@ -79,7 +79,7 @@ after_piece gray start s0 s1 n buf bytes (first.Rows count answer) r most some w
     let same = h.0 ∙ size in (
       (let c = h.0 in omega (arith, c, within)),
       opened,
-      (bytes ++ take n buf, read, most, subst (λ k. BeginsRows gray (bytes ++ take n buf) (take k buf) answer r) (sym same) h.1),
+      (bytes ++ take n buf, read, most, subst (λ k. BeginsShownRows gray (bytes ++ take n buf) (take k buf) answer r) (sym same) h.1),
     )
 after_piece gray start s0 s1 n buf bytes (first.Ended why.Done) r most some within size opened read h = absurd h
 after_piece gray start s0 s1 n buf bytes (first.Ended (why.Warned m)) r most some within size opened read h = absurd h

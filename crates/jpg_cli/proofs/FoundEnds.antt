@@ -1,9 +1,9 @@
--- The end of a kind, among ends that are looked at one after another.
+-- The image writer of a format, among writers that are tried one after another.
 use Rattle.std.proofs.Common.{◌≡◌, ◌||◌, suc, arith, length, true, false, List, [], ◌∷◌, map, refl, sym, ap, ◌∙◌, subst}
-use Rattle.jpg_spec.specs.declared.image.EndKind.{EndKind}
-use Rattle.jpg_spec.specs.declared.image.EndKind.TheVariants.{Pnm, Bmp}
+use Rattle.jpg_spec_image.specs.declared.image.EndKind.{EndKind}
+use Rattle.jpg_spec_image.specs.declared.image.EndKind.TheVariants.{Pnm, Bmp}
 use Rattle.jpg_pnm_bmp.specs.EndState.{new_end, EndState}
-use Rattle.jpg_cli.specs.Ends.{AreNewEnds, formats_of, has_format, is_same_format}
+use Rattle.jpg_cli.specs.Tools.Ends.{AreNewEnds, formats_of, has_format, is_same_format}
 
 abbrev pub HasSameFormat : {X : Type 0} → List X → List X → (X → EndState) → EndKind → Type 0
 HasSameFormat all left at kind = has_format kind (formats_of (map at all)) ≡ has_format kind (formats_of (map at left))
@@ -14,7 +14,7 @@ same_format Bmp Bmp e = refl
 same_format Pnm Bmp e = cc
 same_format Bmp Pnm e = cc
 
--- THE NEXT of the ends that are left
+-- THE NEXT of the image writers that are left
 
 pub new_first : {X : Type 0} (now rest : List X) (x : X) (at : X → EndState) → now ≡ x ∷ rest → AreNewEnds (map at now) → at x ≡ new_end (at x).kind
 new_first now rest x at is new =

@@ -1,23 +1,23 @@
--- What the pieces of a file come to up to the marker of its frame header, where a comment is inserted.
+-- The result of the pieces of a file up to the marker of its frame header, where a comment is inserted.
 use Rattle.std.proofs.Common.{◌⊎◌, ◌≡◌, ℕ, ◌<◌, ◌≤◌, Bool, List, [], ◌++◌, length, take, Option, None, Some, refl, sym, ap, ◌∙◌, subst, arith, inl, inr}
 use Rattle.std.proofs.lemmas.List.{append-nil, length-append, length-take, take_all, take-append-le}
 use Rattle.std.specs.Io.KnownBytes.{Consumes, IsAtEnd}
 use Rattle.jpg_base.specs.declared.names.Got.TheVariants as got
 use Rattle.jpg_base.specs.Desk.{DeskState, Reads, Rose}
 use Rattle.jpg_spec.specs.Segments.{standard_limits}
-use Rattle.jpg_spec.specs.CommentText.{IsHeadFault, IsInserted, ShowsNothing}
-use Rattle.jpg_spec.specs.declared.answers.Why.{Why}
-use Rattle.jpg_spec.specs.declared.answers.Why.TheVariants as why
-use Rattle.jpg_spec.specs.declared.answers.Which.TheVariants as which
+use Rattle.jpg_spec_write.specs.CommentText.{IsHeadFault, IsInserted, RevealsNothing}
+use Rattle.jpg_spec_words.specs.declared.answers.Why.{Why}
+use Rattle.jpg_spec_words.specs.declared.answers.Why.TheVariants as why
+use Rattle.jpg_spec_words.specs.declared.answers.Which.TheVariants as which
 use Rattle.jpg_spec.specs.declared.frame.Limits.{Limits}
 use Rattle.jpg_markers.specs.Reading.{reading_of}
-use Rattle.jpg_comments.specs.Begun.{Appends}
+use Rattle.jpg_comments.specs.SegmentsSoFar.{Appends}
 use Rattle.jpg_comments.specs.Inserting.{HoldsHead}
 use Rattle.jpg_comments.specs.WriteInserted.{HasInserted, StandsAt}
 use Rattle.jpg_comments.specs.declared.insert.Insert.{Insert}
-use Rattle.jpg_cli.specs.Reading.{rest_of}
-use Rattle.jpg_cli.specs.InsertComment.{AfterAll, AfterFed, AfterHeadRead, EndsBefore, IsAtHead}
-use Rattle.jpg_cli.specs.declared.insert_comment.AtHead.TheVariants as at_head
+use Rattle.jpg_cli.specs.Desk.Reading.{rest_of}
+use Rattle.jpg_cli.specs.Tools.InsertComment.{AfterAll, AfterFed, AfterHeadRead, EndsBefore, IsAtHead}
+use Rattle.jpg_cli.specs.declared.tools.wrjpgcom.AtHead.TheVariants as at_head
 use Rattle.jpg_cli.proofs.CommentsRead.{fault_last, fault_within, no_fault_shown, upto}
 use Rattle.jpg_cli.proofs.CommentsCopied.{none_read, text_added}
 use Rattle.jpg_cli.proofs.Input.{none_left}
@@ -30,9 +30,9 @@ text_is_some bytes comment text replace (before, code, front, rest, cut, head, i
 
 -- BEFORE THE MARKER
 
--- what the bytes tell for which nothing was written
+-- what is known of bytes for which nothing was written
 pub record Nothing (bytes : List ℕ) (c : Insert) : Type 0 where
-  pub shows : ShowsNothing standard_limits (HoldsHead standard_limits) bytes
+  pub shows : RevealsNothing standard_limits (HoldsHead standard_limits) bytes
   pub short : length bytes < standard_limits.input
   pub taken : (reading_of c.reader).taken ≡ length bytes
 
@@ -48,8 +48,9 @@ head_unread comment bytes s0 s1 c e h rose left = (let nothing = nothing_there c
 
 -- AT THE MARKER
 
--- Of bytes that show nothing before the last piece, a file with a comment inserted tells where the marker is.
-head_in_piece : (bytes piece comment text : List ℕ) (replace : Bool) (k : ℕ) → ShowsNothing standard_limits (HoldsHead standard_limits) bytes → length piece ≤ 65536
+-- If bytes before the last piece have neither a fault nor the marker, a file with a comment inserted has the marker in
+-- the last piece.
+head_in_piece : (bytes piece comment text : List ℕ) (replace : Bool) (k : ℕ) → RevealsNothing standard_limits (HoldsHead standard_limits) bytes → length piece ≤ 65536
     → IsInserted standard_limits (take k (bytes ++ piece)) comment replace text → IsAtHead (bytes ++ piece)
 head_in_piece bytes piece comment text replace k nothing short (before, code, front, rest, cut, head, is) = by (upto (length front) (length bytes))
   where
@@ -71,7 +72,7 @@ head_in_piece bytes piece comment text replace k nothing short (before, code, fr
     by (inl l) = absurd ((nothing (length front) l).1 (subst (λ (b : List ℕ). HoldsHead standard_limits b) (take-append-le (length front) bytes piece l) holds))
     by (inr l) = (length front, omega (arith, long, length-take k all), omega (arith, l, short, length-append bytes piece), holds)
 
-fed_at_head : (bytes piece comment text : List ℕ) (replace : Bool) (due : Option Why) (c : Insert) → c.limits ≡ standard_limits → 0 < length text → ShowsNothing standard_limits (HoldsHead standard_limits) bytes → length piece ≤ 65536
+fed_at_head : (bytes piece comment text : List ℕ) (replace : Bool) (due : Option Why) (c : Insert) → c.limits ≡ standard_limits → 0 < length text → RevealsNothing standard_limits (HoldsHead standard_limits) bytes → length piece ≤ 65536
     → AfterFed comment replace (bytes ++ piece) text due c → IsAtHead (bytes ++ piece)
 fed_at_head bytes piece comment text replace None c e some nothing short h =
     let all = bytes ++ piece in
@@ -89,7 +90,7 @@ fed_at_head bytes piece comment text replace (Some why.WriteFault) c e some noth
 fed_at_head bytes piece comment text replace (Some why.NoMemory) c e some nothing short (inl none) = absurd (not_none text none some)
 fed_at_head bytes piece comment text replace (Some why.NoMemory) c e some nothing short (inr (n, front, whole, is, part)) = head_in_piece bytes piece comment whole replace front nothing short is
 
--- what a piece appended is all that is due
+-- what a piece appended is all of the pending text
 fed_text : (comment all old out : List ℕ) (replace : Bool) (due : Option Why) (c : Insert) → old ≡ [] → Appends (λ text. AfterFed comment replace all text due c) [] old out → AfterFed comment replace all out due c
 fed_text comment all old out replace due c empty h = subst (λ (text : List ℕ). AfterFed comment replace all text due c) (text_added old out h.0 empty h.1) h.2
 

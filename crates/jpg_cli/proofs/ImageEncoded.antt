@@ -5,50 +5,52 @@ use Rattle.jpg_base.specs.declared.names.Name.{Name}
 use Rattle.jpg_base.specs.declared.names.Put.TheVariants as put
 use Rattle.jpg_base.specs.Desk.{DeskState, NotesName}
 use Rattle.jpg_base.specs.Laws.{Grows}
-use Rattle.jpg_spec.specs.Encoded.{Encoding, encode_fault, encoded, encoded_script, encoded_text, sampling_fault}
-use Rattle.jpg_spec.specs.EncodeWords.{EncodeAsked, encoding_asked}
-use Rattle.jpg_spec.specs.EncodingLaws.{AreFactors, IsEncodable}
-use Rattle.jpg_spec.specs.WrittenFile.{AreQuantisers, IsRestart}
-use Rattle.jpg_spec.specs.FileText.{frame_of_meaning}
+use Rattle.jpg_spec_encode.specs.Encoded.{Encoding, encode_fault, encoded, encoded_script, encoded_text, sampling_fault}
+use Rattle.jpg_spec_words.specs.EncodeWords.{EncodeAsked, encoding_asked}
+use Rattle.jpg_spec_encode.specs.EncodingLaws.{AreFactors, IsEncodable}
+use Rattle.jpg_spec.specs.Segments.{AreQuantisers}
+use Rattle.jpg_spec_write.specs.WrittenFile.{IsRestart}
+use Rattle.jpg_spec_write.specs.FileText.{frame_of_meaning}
 use Rattle.jpg_spec.specs.InForce.{first_some}
-use Rattle.jpg_spec.specs.ScriptFaults.{script_fault}
-use Rattle.jpg_spec.specs.Images.{Image}
-use Rattle.jpg_spec.specs.Moved.{Scans, as_it_is, picture_fault}
+use Rattle.jpg_spec_write.specs.ScriptFaults.{script_fault}
+use Rattle.jpg_spec_image.specs.Images.{Image}
+use Rattle.jpg_spec_write.specs.ScansAsked.{Scans}
+use Rattle.jpg_spec_move.specs.Moved.{as_it_is, picture_fault}
 use Rattle.jpg_spec.specs.Segments.{QuantTable}
-use Rattle.jpg_spec.specs.declared.answers.Why.{Why}
-use Rattle.jpg_spec.specs.declared.answers.Why.TheVariants as why
-use Rattle.jpg_spec.specs.declared.answers.Which.TheVariants as which
-use Rattle.jpg_spec.specs.declared.transform.PictureFault.{PictureFault}
-use Rattle.jpg_spec.proofs.EncodedKept.{stays_fault, stays_text}
-use Rattle.jpg_spec.proofs.EncodedWritten.{encoded_means}
+use Rattle.jpg_spec_words.specs.declared.answers.Why.{Why}
+use Rattle.jpg_spec_words.specs.declared.answers.Why.TheVariants as why
+use Rattle.jpg_spec_words.specs.declared.answers.Which.TheVariants as which
+use Rattle.jpg_spec_write.specs.declared.picture_fault.PictureFault.{PictureFault}
+use Rattle.jpg_spec_words.proofs.EncodedKept.{stays_fault, stays_text}
+use Rattle.jpg_spec_encode.proofs.EncodedWritten.{encoded_means}
 use Rattle.jpg_color.specs.Encode.{AsksFor, CanEncode, image_told}
 use Rattle.jpg_color.specs.EncodeAnswer.{IsEncoded}
 use Rattle.jpg_color.specs.declared.encode.Encoding.{Encoding as Asked}
 use Rattle.jpg_color.specs.declared.encode.EncodeStop.{EncodeStop}
 use Rattle.jpg_color.specs.declared.encode.EncodeStop.TheVariants as stop
 use Rattle.jpg_pnm_bmp.specs.Made.{IsRightImage}
-use Rattle.jpg_pnm_bmp.specs.declared.pixels.Image.{Image as Read}
+use Rattle.jpg_pnm_bmp.specs.declared.read.pixels.Image.{Image as Read}
 use Rattle.jpg_cli.specs.Commands.{name_of}
-use Rattle.jpg_cli.specs.EncodeWords.{encode_told}
-use Rattle.jpg_cli.specs.declared.encode_request.EncodeWords.{EncodeWords}
+use Rattle.jpg_cli.specs.Words.EncodeWords.{encode_told}
+use Rattle.jpg_cli.specs.declared.words.cjpeg_request.EncodeWords.{EncodeWords}
 use Rattle.jpg_cli.specs.Endings.{Added, Asks, GoesOnAfter, Stopped, Unopened}
-use Rattle.jpg_cli.specs.ImageEncoded.{Encoded, EncodedAfter, EncodedAsAsked, EncodedBy, EncodeTask, ReadsEncodable, ReadsImage, task_after, to_image}
-use Rattle.jpg_cli.specs.ImageWritten.{AfterEncoding, AfterWritten, why_none}
-use Rattle.jpg_cli.specs.Reading.{rest_of}
-use Rattle.jpg_cli.specs.ReadImage.{ImageRead, IsFaultRead, IsImageRead, IsOpenRead, IsShortRead}
-use Rattle.jpg_cli.specs.ReadPicture.{ReadsFrom}
-use Rattle.jpg_cli.specs.ScriptTaken.{HasScans, StopsAtScans, names_before}
+use Rattle.jpg_cli.specs.Tools.ImageEncoded.{Encoded, EncodedAfter, EncodedAsAsked, EncodedBy, EncodeTask, ReadsEncodable, ReadsImage, task_after, to_image}
+use Rattle.jpg_cli.specs.Desk.ImageWritten.{AfterEncoding, AfterWritten, why_none}
+use Rattle.jpg_cli.specs.Desk.Reading.{rest_of}
+use Rattle.jpg_cli.specs.Desk.ReadImage.{ImageRead, IsFaultRead, IsImageRead, IsOpenImageRead, IsShortImageRead}
+use Rattle.jpg_cli.specs.Desk.ReadPicture.{ReadsFrom}
+use Rattle.jpg_cli.specs.Desk.ScriptTaken.{HasScans, StopsAtScans, names_before}
 use Rattle.jpg_cli.specs.Stays.{Keeps, OnlySays, Untouched}
-use Rattle.jpg_cli.specs.TablesTaken.{HasTables, StopsAtTables, tables_names}
-use Rattle.jpg_cli.specs.Writing.{AfterOutput}
-use Rattle.jpg_cli.specs.declared.writing.Wrote.TheVariants as wrote
+use Rattle.jpg_cli.specs.Desk.TablesTaken.{HasTables, StopsAtTables, tables_names}
+use Rattle.jpg_cli.specs.Desk.Writing.{AfterOutput}
+use Rattle.jpg_cli.specs.declared.desk.moved.Wrote.TheVariants as wrote
 use Rattle.jpg_cli.proofs.Endings.{asks_next, asks_still, stopped_then, unopened_then, untouched_then, unread_then, wrote_then}
 use Rattle.jpg_cli.proofs.InsertedThen.{same_name}
 use Rattle.jpg_cli.proofs.PictureTaken.{from_still}
 use Rattle.jpg_cli.proofs.ScriptTaken.{added_more, from_before, goes_on_more, stopped_more, stopped_scans_then, unopened_more, unread_more}
 use Rattle.jpg_cli.proofs.TablesTaken.{stopped_tables_then, stops_after, tables_before}
 
--- WRITING an image encoded: it stays as it is
+-- WRITING an encoded image: it isn't transformed
 
 written_fault : (e : Encoding) (I : Image) → sampling_fault e I ≡ None → encode_fault e I ≡ picture_fault (as_it_is e.scans e.restart) (encoded e I)
 written_fault e I none = sym (stays_fault e I none)
@@ -122,7 +124,7 @@ encoded_unread input output encoding s0 s1 why.NoMemory h = h
 
 -- AN IMAGE, encoded and written
 
--- an image was read from the input, and its desk goes on
+-- an image was read from the input, and its desk is used further
 pub record HasImageRead (input : Name) (I : Image) (s0 s1 s2 : DeskState) : Type 0 where
   pub kept : Keeps s0 s1
   pub asked : Asks (input ∷ []) put.Done s0 s1
@@ -135,7 +137,7 @@ read_on input I s0 s1 s2 h =
     subst P (sym h.left) (from_still s0 s1 s2 input (IsImageRead I (rest_of s1.left)) h.left h.read)
 
 -- up to its last piece
-short_on : (input : Name) (I : Image) (s0 s1 s2 : DeskState) → HasImageRead input I s0 s1 s2 → ReadsFrom input IsShortRead s0 s2
+short_on : (input : Name) (I : Image) (s0 s1 s2 : DeskState) → HasImageRead input I s0 s1 s2 → ReadsFrom input IsShortImageRead s0 s2
 short_on input I s0 s1 s2 h = let r = read_on input I s0 s1 s2 h in record { bytes = r.bytes; read = r.read; most = r.most; is = r.is.read }
 
 wrote_text : (input output : Name) (I : Image) (s0 s1 s2 : DeskState) (text : List ℕ) → HasImageRead input I s0 s1 s2 → NotesName s1.asked (output, put.Done) s2.asked → Grows s1.outputs (output, text) s2.outputs → Added (input ∷ []) output text s0 s2
@@ -172,7 +174,7 @@ encoded_after input output encoding I s0 s1 s2 why.WriteFault h (none, (asked, r
 )
 encoded_after input output encoding I s0 s1 s2 why.NoMemory h same = (stopped_here input I s0 s1 s2 h same, short_on input I s0 s1 s2 h)
 
--- AFTER NAMES that were asked for before
+-- AFTER NAMES that were opened or created before
 
 abbrev task_behind : List Name → Name → Name → (Image → Encoding) → EncodeTask
 task_behind before input output encoding = record { before = before; input = input; output = output; encoding = encoding }
@@ -261,7 +263,7 @@ encoded_then t s0 s1 s2 (why.OpenFault which.Script) k h = absurd h
 encoded_then t s0 s1 s2 (why.OpenFault which.Tables) k h = absurd h
 encoded_then t s0 s1 s2 (why.OpenFault which.Comment) k h = absurd h
 encoded_then t s0 s1 s2 (why.OpenFault which.Output) k h = (unopened_then s0 s1 s2 (to_image t ++ t.output ∷ []) k h.0, (h.1.0, encodable_then t h.1.0 s0 s1 s2 k h.1.1))
-encoded_then t s0 s1 s2 (why.ReadFault which.Input) k h = (unread_then s0 s1 s2 (to_image t) k h.0, from_still s0 s1 s2 t.input IsOpenRead k.same.left h.1)
+encoded_then t s0 s1 s2 (why.ReadFault which.Input) k h = (unread_then s0 s1 s2 (to_image t) k h.0, from_still s0 s1 s2 t.input IsOpenImageRead k.same.left h.1)
 encoded_then t s0 s1 s2 (why.ReadFault which.Script) k h = absurd h
 encoded_then t s0 s1 s2 (why.ReadFault which.Tables) k h = absurd h
 encoded_then t s0 s1 s2 (why.ReadFault which.Comment) k h = absurd h
@@ -270,7 +272,7 @@ encoded_then t s0 s1 s2 why.WriteFault k h = (
   (let rose = h.0 in let f = k.stays.counts.writes in omega (arith, rose, f)),
   (h.1.0, h.1.1, encodable_then t h.1.0 s0 s1 s2 k h.1.2, wrote_then s0 s1 s2 (to_image t) t.output (take h.1.1 (encoded_text (t.encoding h.1.0) h.1.0)) k h.1.3),
 )
-encoded_then t s0 s1 s2 why.NoMemory k h = (stopped_then s0 s1 s2 (to_image t) put.Done k h.0, from_still s0 s1 s2 t.input IsShortRead k.same.left h.1)
+encoded_then t s0 s1 s2 why.NoMemory k h = (stopped_then s0 s1 s2 (to_image t) put.Done k h.0, from_still s0 s1 s2 t.input IsShortImageRead k.same.left h.1)
 
 by_then : (xs : List Name) (a : EncodeAsked) (scans : Scans) (s0 s1 s2 : DeskState) (w : Why) → OnlySays s1 s2 → EncodedBy xs a scans s0 w s1 → EncodedBy xs a scans s0 w s2
 by_then xs a scans s0 s1 s2 w k (inl h) = inl (stopped_tables_then xs a.tables s0 s1 s2 w k h)

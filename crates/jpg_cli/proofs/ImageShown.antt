@@ -1,38 +1,38 @@
--- Showing a picture: reading it, and then writing its image.
+-- Decoding a picture: reading it, and then writing its image.
 use Rattle.std.proofs.Common.{◌≡◌, ℕ, Bool, true, false, List, [], ◌∷◌, take, Option, None, Some, Ok, Err, refl, sym, ap, ◌∙◌, subst, arith, inl, inr}
 use Rattle.jpg_base.specs.declared.names.Name.{Name}
 use Rattle.jpg_base.specs.declared.names.Put.{Put}
 use Rattle.jpg_base.specs.declared.names.Put.TheVariants as put
 use Rattle.jpg_base.specs.Desk.{DeskState, Creates, NotesName}
 use Rattle.jpg_base.specs.Laws.{Grows, Grows-from}
-use Rattle.jpg_spec.specs.ImageText.{end_text}
+use Rattle.jpg_spec_image.specs.ImageText.{end_text}
 use Rattle.jpg_spec.specs.Meaning.{Meaning}
-use Rattle.jpg_spec.specs.Pixels.{info, pixels}
+use Rattle.jpg_spec_image.specs.Pixels.{info, pixels}
 use Rattle.jpg_spec.specs.Segments.{standard_limits}
-use Rattle.jpg_spec.specs.declared.answers.Why.{Why}
-use Rattle.jpg_spec.specs.declared.answers.Why.TheVariants as why
-use Rattle.jpg_spec.specs.declared.answers.Which.TheVariants as which
+use Rattle.jpg_spec_words.specs.declared.answers.Why.{Why}
+use Rattle.jpg_spec_words.specs.declared.answers.Why.TheVariants as why
+use Rattle.jpg_spec_words.specs.declared.answers.Which.TheVariants as which
 use Rattle.jpg_spec.specs.declared.frame.Copying.{Copying}
-use Rattle.jpg_spec.specs.declared.image.EndKind.{EndKind}
-use Rattle.jpg_spec.specs.declared.image.ImageInfo.{ImageInfo}
+use Rattle.jpg_spec_image.specs.declared.image.EndKind.{EndKind}
+use Rattle.jpg_spec_image.specs.declared.image.ImageInfo.{ImageInfo}
 use Rattle.jpg_color.specs.DecodeRows.{Decodes}
 use Rattle.jpg_color.specs.declared.decode.DecodeStop.{DecodeStop}
 use Rattle.jpg_color.specs.declared.decode.DecodeStop.TheVariants as stop
-use Rattle.jpg_file.specs.Keeping.{kept_for}
-use Rattle.jpg_file.specs.RowsNone.{HasNoRows}
-use Rattle.jpg_file.proofs.KeepingLaws.{info_same, pixels_same}
+use Rattle.jpg_file.specs.Read.Keeping.{kept_for}
+use Rattle.jpg_file.specs.Read.RowsNone.{HasNoRows}
+use Rattle.jpg_cli.proofs.KeepingLaws.{info_same, pixels_same}
 use Rattle.jpg_pnm_bmp.specs.EndState.{EndState, new_end}
 use Rattle.jpg_huff.specs.Out.{OnlyWrites}
-use Rattle.jpg_cli.specs.CommentWords.{file_told}
+use Rattle.jpg_cli.specs.Words.CommentWords.{file_told}
 use Rattle.jpg_cli.specs.Commands.{name_of}
 use Rattle.jpg_cli.specs.Endings.{Added, Asks}
-use Rattle.jpg_cli.specs.ReadPicture.{IsOpenRead, IsRead, IsShortRead, done_as}
+use Rattle.jpg_cli.specs.Desk.ReadPicture.{IsOpenRead, IsReadPicture, IsShortRead, done_as}
 use Rattle.jpg_cli.specs.Run.{RanShow}
-use Rattle.jpg_cli.specs.ShowWords.{show_told}
-use Rattle.jpg_cli.specs.Showing.{AfterImage, IsInTime, ReadsShown, Shown, ShownBy, ShownInPart, Showing, all_bytes, shown_text}
+use Rattle.jpg_cli.specs.Words.ShowWords.{show_told}
+use Rattle.jpg_cli.specs.Tools.Showing.{AfterImage, IsInTime, ReadsShown, Shown, ShownBy, ShownInPart, Showing, all_bytes, shown_text}
 use Rattle.jpg_cli.specs.Stays.{Keeps, OnlySays}
-use Rattle.jpg_cli.specs.declared.read_picture.Wanted.TheVariants.{Image}
-use Rattle.jpg_cli.specs.declared.show_words.ShowWords.{ShowWords}
+use Rattle.jpg_cli.specs.declared.desk.picture.Wanted.TheVariants.{Image}
+use Rattle.jpg_cli.specs.declared.words.djpeg.ShowWords.{ShowWords}
 use Rattle.jpg_cli.proofs.Endings.{asks_next, stopped_then, unopened_then, wrote_then}
 use Rattle.jpg_cli.proofs.InsertedThen.{same_name}
 use Rattle.jpg_cli.proofs.PictureTaken.{all_still, from_still}
@@ -44,7 +44,7 @@ use Rattle.jpg_cli.proofs.RowsStand.{refused_then, rows_then, stands_then, still
 noted_then : (s0 s1 s2 : DeskState) (output : Name) → Creates s0 output put.Done s1 → OnlyWrites s1 s2 → NotesName s0.asked (output, put.Done) s2.asked
 noted_then s0 s1 s2 output h k = (let P : Option (List (Name × Put)) → Type 0 = λ a. NotesName s0.asked (output, put.Done) a in subst P (sym k.asked) h.asked)
 
--- the text in the format that the end has, which is the one asked for
+-- the text in the format of the image writer, which is the one asked for
 same_text : (text : EndKind → List ℕ) (e : EndState) (kind : EndKind) → e ≡ new_end kind → text e.kind ≡ text kind
 same_text text e kind new = ap (λ (x : EndState). text x.kind) new
 
@@ -94,12 +94,12 @@ pub record HasImageRead (s : Showing) (M : Meaning) (early : Option ℕ) (s0 s1 
   pub left : s2.left ≡ s1.left
   pub plain : HasNoRows standard_limits (read.0).bytes
 
--- no rows are due before
+-- no rows are written before
 none_early : (s : Showing) (bytes written : List ℕ) → HasNoRows standard_limits bytes → IsInTime s bytes written
 none_early s bytes written none front rest text cut many k = absurd (none k.before k.contents (begins_still front rest bytes k.before k.contents cut k.begins))
 
 abbrev shown_still : (s : Showing) (M : Meaning) (early : Option ℕ) (s0 s1 s2 : DeskState) → s2.left ≡ s1.left → ReadsShown s M early s0 s1 → ReadsShown s M early s0 s2
-shown_still s M early s0 s1 s2 e h = (still_read s0 s1 s2 s.input (IsRead (Image s.gray) M early) e h.0, all_still early s1 s2 e h.1)
+shown_still s M early s0 s1 s2 e h = (still_read s0 s1 s2 s.input (IsReadPicture (Image s.gray) M early) e h.0, all_still early s1 s2 e h.1)
 
 abbrev image_on : (s : Showing) (M : Meaning) (early : Option ℕ) (s0 s1 s2 : DeskState) → HasImageRead s M early s0 s1 s2 → ReadsShown s M early s0 s2
 image_on s M early s0 s1 s2 h = shown_still s M early s0 s1 s2 h.left h.read
@@ -180,7 +180,7 @@ shown_then s s0 s1 s2 why.NoMemory k (inl h) = inl (stopped_then s0 s1 s2 (s.inp
 shown_then s s0 s1 s2 why.NoMemory k (inr (inl h)) = inr (inl (record { part = part_then s s0 s1 s2 k h.part; left = h.left }))
 shown_then s s0 s1 s2 why.NoMemory k (inr (inr h)) = inr (inr (record { part = rows_then s s0 s1 s2 k h.part; left = h.left }))
 
--- AS THE WORDS SAY IT
+-- AS THE WORDS ASK FOR IT
 
 pub asked_shown : (b : Bool) (w : ShowWords) (s0 s1 : DeskState) (ended : Why) → ShownBy b w s0 ended s1 → RanShow b (show_told w) s0 ended s1
 asked_shown true w s0 s1 ended h =

@@ -1,4 +1,4 @@
--- What reading pieces of an image file comes to, over the states that a desk tells.
+-- What reading pieces of an image file does, over the states of a desk.
 use Rattle.std.proofs.Common.{◌≡◌, ℕ, ◌<◌, ◌≤◌, List, [], ◌++◌, length, take, drop, Result, Ok, Err, refl, sym, ap, ◌∙◌, subst, arith, inl, inr}
 use Rattle.std.specs.Io.KnownBytes.{Consumes, IsAtEnd}
 use Rattle.std.specs.Prelude.{IfOk}
@@ -9,28 +9,28 @@ use Rattle.jpg_base.specs.declared.names.Put.TheVariants as put
 use Rattle.jpg_base.specs.declared.names.Got.TheVariants as got
 use Rattle.jpg_base.specs.Desk.{DeskState, Opens, Reads, Rose}
 use Rattle.jpg_base.specs.Laws.{Consumes-then}
-use Rattle.jpg_spec.specs.Images.{Image}
-use Rattle.jpg_spec.specs.ImageFaults.{IsImage, IsImageFault, IsOpenImage, IsWholeImage, ShowsImageFault}
+use Rattle.jpg_spec_image.specs.Images.{Image}
+use Rattle.jpg_spec_image.specs.ImageFaults.{IsImage, IsImageFault, IsOpenImage, IsWholeImage, ShowsImageFault}
 use Rattle.jpg_spec.specs.Segments.{standard_limits}
 use Rattle.jpg_spec.specs.declared.frame.Limits.{Limits}
-use Rattle.jpg_spec.specs.declared.answers.FaultAt.{FaultAt}
+use Rattle.jpg_spec.specs.declared.fault.FaultAt.{FaultAt}
 use Rattle.jpg_spec.specs.declared.fault.Fault.TheVariants.{InputTooLong}
-use Rattle.jpg_spec.specs.declared.answers.Why.{Why}
-use Rattle.jpg_spec.specs.declared.answers.Why.TheVariants as why
-use Rattle.jpg_spec.specs.declared.answers.Which.TheVariants as which
+use Rattle.jpg_spec_words.specs.declared.answers.Why.{Why}
+use Rattle.jpg_spec_words.specs.declared.answers.Why.TheVariants as why
+use Rattle.jpg_spec_words.specs.declared.answers.Which.TheVariants as which
 use Rattle.jpg_color.specs.Encode.{image_told}
 use Rattle.jpg_pnm_bmp.specs.Made.{AreBytes, IsRightImage}
-use Rattle.jpg_pnm_bmp.specs.PixelsRead.{HasFed, image_read}
-use Rattle.jpg_pnm_bmp.specs.declared.pixels.Image.{Image as Read}
-use Rattle.jpg_pnm_bmp.specs.declared.pixels.PixelReader.{PixelReader}
+use Rattle.jpg_pnm_bmp.specs.PixelsRead.{HasFedImage, image_read}
+use Rattle.jpg_pnm_bmp.specs.declared.read.pixels.Image.{Image as Read}
+use Rattle.jpg_pnm_bmp.specs.declared.read.pixels.PixelReader.{PixelReader}
 use Rattle.jpg_pnm_bmp.proofs.EndRead.{fed_open}
 use Rattle.jpg_pnm_bmp.proofs.ImageRight.{image_right}
-use Rattle.jpg_cli.specs.Reading.{rest_of}
-use Rattle.jpg_cli.specs.ReadImage.{AfterImageEnd, AfterNextPiece, AfterTakingPiece, EndDone, EndsEarly, EndsReading, GoesOn, HoldsImage, ImageRead, IsFaultRead, IsImageRead, IsOpenRead, IsShortRead}
-use Rattle.jpg_cli.specs.ReadPicture.{Takes}
+use Rattle.jpg_cli.specs.Desk.Reading.{rest_of}
+use Rattle.jpg_cli.specs.Desk.ReadImage.{AfterImageEnd, AfterNextImagePiece, AfterTakingImagePiece, EndDone, EndsEarly, EndsImageReading, ImageGoesOn, HoldsImage, ImageRead, IsFaultRead, IsImageRead, IsOpenImageRead, IsShortImageRead}
+use Rattle.jpg_cli.specs.Desk.ReadPicture.{TakesPieces}
 use Rattle.jpg_cli.specs.Stays.{OnlyReads}
-use Rattle.jpg_cli.specs.declared.read_image.ImageStep.{ImageStep}
-use Rattle.jpg_cli.specs.declared.read_image.ImageStep.TheVariants as step
+use Rattle.jpg_cli.specs.declared.desk.image.ImageStep.{ImageStep}
+use Rattle.jpg_cli.specs.declared.desk.image.ImageStep.TheVariants as step
 use Rattle.jpg_cli.proofs.CommentsCopied.{left_still, some_taken}
 use Rattle.jpg_cli.proofs.Input.{none_left, noted}
 use Rattle.jpg_cli.proofs.PictureTaken.{reads_from, stopped_there}
@@ -44,15 +44,15 @@ open_front bytes n le h m few =
     let k = h m (omega (arith, few, long, le)) in
     (λ fault s. k.0 fault (subst (ShowsImageFault fault) same s), λ image w. k.1 image (subst (λ x. IsWholeImage x image) same w))
 
-pub open_fed : (bytes : List ℕ) (r : PixelReader) → HasFed bytes r → length bytes < standard_limits.input → IsOpenRead bytes
+pub open_fed : (bytes : List ℕ) (r : PixelReader) → HasFedImage bytes r → length bytes < standard_limits.input → IsOpenImageRead bytes
 open_fed bytes r h short = record { short = short; stands = fed_open bytes r h }
 
 -- with one more piece
-pub short_more : (bytes piece : List ℕ) (r : PixelReader) → HasFed bytes r → length bytes < standard_limits.input → length piece ≤ 65536 → IsShortRead (bytes ++ piece)
+pub short_more : (bytes piece : List ℕ) (r : PixelReader) → HasFedImage bytes r → length bytes < standard_limits.input → length piece ≤ 65536 → IsShortImageRead (bytes ++ piece)
 short_more bytes piece r h short few = record { front = bytes; piece = piece; cut = refl; few = few; before = open_fed bytes r h short }
 
 -- with none
-pub short_end : (bytes : List ℕ) (r : PixelReader) → HasFed bytes r → length bytes < standard_limits.input → IsShortRead bytes
+pub short_end : (bytes : List ℕ) (r : PixelReader) → HasFedImage bytes r → length bytes < standard_limits.input → IsShortImageRead bytes
 short_end bytes r h short = record {
   front = bytes;
   piece = [];
@@ -62,7 +62,7 @@ short_end bytes r h short = record {
 }
 
 -- as many as may be taken
-short_full : (bytes : List ℕ) (r : PixelReader) → HasFed bytes r → length bytes ≡ standard_limits.input → IsShortRead bytes
+short_full : (bytes : List ℕ) (r : PixelReader) → HasFedImage bytes r → length bytes ≡ standard_limits.input → IsShortImageRead bytes
 short_full bytes r h full =
     let n : ℕ = 1099511627775 in
     let le : n ≤ length bytes = omega (arith, full) in
@@ -75,7 +75,7 @@ short_full bytes r h full =
       before = record { short = omega (arith, long); stands = open_front bytes n le (fed_open bytes r h) };
     }
 
-pub too_long : (bytes rest : List ℕ) (r : PixelReader) → HasFed bytes r → length bytes ≡ standard_limits.input → IsFaultRead (record { fault = InputTooLong; at = standard_limits.input }) rest bytes
+pub too_long : (bytes rest : List ℕ) (r : PixelReader) → HasFedImage bytes r → length bytes ≡ standard_limits.input → IsFaultRead (record { fault = InputTooLong; at = standard_limits.input }) rest bytes
 too_long bytes rest r h full =
     let front : take standard_limits.input (bytes ++ rest) ≡ bytes = ap (λ n. take n (bytes ++ rest)) (sym full) ∙ take-append_seam bytes rest in
     let longer : standard_limits.input ≤ length (bytes ++ rest) = (let l = length-append bytes rest in omega (arith, l, full)) in
@@ -86,7 +86,7 @@ too_long bytes rest r h full =
 
 -- A PIECE
 
-after_piece : (start s1 : DeskState) (bytes piece : List ℕ) (answer : ImageStep) (r : PixelReader) → 0 < length piece → length (bytes ++ piece) ≤ standard_limits.input → Consumes start.left s1.left (bytes ++ piece) → AfterTakingPiece (bytes ++ piece) answer r → AfterNextPiece start bytes answer r s1
+after_piece : (start s1 : DeskState) (bytes piece : List ℕ) (answer : ImageStep) (r : PixelReader) → 0 < length piece → length (bytes ++ piece) ≤ standard_limits.input → Consumes start.left s1.left (bytes ++ piece) → AfterTakingImagePiece (bytes ++ piece) answer r → AfterNextImagePiece start bytes answer r s1
 after_piece start s1 bytes piece step.More r some most read h = (piece, some, h, read, most)
 after_piece start s1 bytes piece step.Whole r some most read h = ((bytes ++ piece, read, most, h.0 (rest_of s1.left)), h.1)
 after_piece start s1 bytes piece (step.Ended why.Done) r some most read h = absurd h
@@ -99,14 +99,14 @@ after_piece start s1 bytes piece (step.Ended (why.ReadFault file)) r some most r
 after_piece start s1 bytes piece (step.Ended why.WriteFault) r some most read h = absurd h
 after_piece start s1 bytes piece (step.Ended why.NoMemory) r some most read h = (bytes ++ piece, read, most, h)
 
-pub piece_taken : (start s0 s1 : DeskState) (n : ℕ) (buf bytes : List ℕ) (answer : ImageStep) (r : PixelReader) → length (bytes ++ take n buf) ≤ standard_limits.input → Reads s0 (got.Bytes n) buf s1 → Consumes start.left s0.left bytes → AfterTakingPiece (bytes ++ take n buf) answer r
-    → AfterNextPiece start bytes answer r s1
+pub piece_taken : (start s0 s1 : DeskState) (n : ℕ) (buf bytes : List ℕ) (answer : ImageStep) (r : PixelReader) → length (bytes ++ take n buf) ≤ standard_limits.input → Reads s0 (got.Bytes n) buf s1 → Consumes start.left s0.left bytes → AfterTakingImagePiece (bytes ++ take n buf) answer r
+    → AfterNextImagePiece start bytes answer r s1
 piece_taken start s0 s1 n buf bytes answer r most read had h =
     after_piece start s1 bytes (take n buf) answer r (some_taken n buf read.after.0 read.after.1) most (Consumes-then start.left s0.left s1.left bytes (take n buf) had read.after.2) h
 
 -- AT THE END
 
-pub image_end : (start s0 s1 : DeskState) (bytes : List ℕ) (answer : ImageStep) (r : PixelReader) → length bytes < standard_limits.input → IsAtEnd s0.left → s1.left ≡ s0.left → Consumes start.left s0.left bytes → AfterImageEnd bytes answer r → AfterNextPiece start bytes answer r s1
+pub image_end : (start s0 s1 : DeskState) (bytes : List ℕ) (answer : ImageStep) (r : PixelReader) → length bytes < standard_limits.input → IsAtEnd s0.left → s1.left ≡ s0.left → Consumes start.left s0.left bytes → AfterImageEnd bytes answer r → AfterNextImagePiece start bytes answer r s1
 image_end start s0 s1 bytes step.More r short end left had h = absurd h
 image_end start s0 s1 bytes step.Whole r short end left had h =
     let none : rest_of s1.left ≡ [] = ap rest_of left ∙ none_left s0.left end in
@@ -124,7 +124,7 @@ image_end start s0 s1 bytes (step.Ended why.WriteFault) r short end left had h =
 image_end start s0 s1 bytes (step.Ended why.NoMemory) r short end left had h = (bytes, left_still s0 s1 bytes start left had, omega (arith, short), h)
 
 -- A READ that failed
-pub image_unread : (start s0 s1 : DeskState) (bytes : List ℕ) (r : PixelReader) → HasFed bytes r → length bytes < standard_limits.input → OnlyReads start s0 → Consumes start.left s0.left bytes → Rose s0.counts.reads s1.counts.reads → s1.left ≡ s0.left
+pub image_unread : (start s0 s1 : DeskState) (bytes : List ℕ) (r : PixelReader) → HasFedImage bytes r → length bytes < standard_limits.input → OnlyReads start s0 → Consumes start.left s0.left bytes → Rose s0.counts.reads s1.counts.reads → s1.left ≡ s0.left
     → EndsEarly start (why.ReadFault which.Input) s1
 image_unread start s0 s1 bytes r h short still had rose left = (
   (bytes, left_still s0 s1 bytes start left had, omega (arith, short), open_fed bytes r h short),
@@ -132,15 +132,15 @@ image_unread start s0 s1 bytes r h short still had rose left = (
 )
 
 -- MORE than may be taken
-pub image_too_long : (start s0 : DeskState) (bytes : List ℕ) (r : PixelReader) → HasFed bytes r → length bytes ≡ standard_limits.input → Consumes start.left s0.left bytes → EndsEarly start (why.Refused (record { fault = InputTooLong; at = standard_limits.input })) s0
+pub image_too_long : (start s0 : DeskState) (bytes : List ℕ) (r : PixelReader) → HasFedImage bytes r → length bytes ≡ standard_limits.input → Consumes start.left s0.left bytes → EndsEarly start (why.Refused (record { fault = InputTooLong; at = standard_limits.input })) s0
 image_too_long start s0 bytes r h full had = (bytes, had, omega (arith, full), too_long bytes (rest_of s0.left) r h full)
 
 -- THE IMAGE of the reader
-pub image_taken : (s0 s1 : DeskState) (r : PixelReader) (i : Read) → image_told i ≡ image_read r → HoldsImage s0 r s1 → EndsReading s0 (Ok i) s1
+pub image_taken : (s0 s1 : DeskState) (r : PixelReader) (i : Read) → image_told i ≡ image_read r → HoldsImage s0 r s1 → EndsImageReading s0 (Ok i) s1
 image_taken s0 s1 r i e h =
-    subst (λ (I : Image). Takes (IsImageRead I (rest_of s1.left)) s0 s1 × IsRightImage I) (sym e) h
+    subst (λ (I : Image). TakesPieces (IsImageRead I (rest_of s1.left)) s0 s1 × IsRightImage I) (sym e) h
 
-pub goes_on_end : (answer : ImageStep) (r : PixelReader) (now : DeskState) → EndDone answer r → GoesOn answer r now
+pub goes_on_end : (answer : ImageStep) (r : PixelReader) (now : DeskState) → EndDone answer r → ImageGoesOn answer r now
 goes_on_end step.More r now h = absurd h
 goes_on_end step.Whole r now h = h
 goes_on_end (step.Ended ended) r now h = tt
@@ -156,44 +156,44 @@ ends_early s0 s1 s2 file (why.Refused f) h k e = (stopped_there s0 s1 s2 file h 
 ends_early s0 s1 s2 file (why.OpenFault other) h k e = absurd e
 ends_early s0 s1 s2 file (why.ReadFault which.Input) h k e = (
   record { stopped = stopped_there s0 s1 s2 file h k; reads = (let r = e.1 in let f = h.counts.reads in omega arith) },
-  reads_from s0 s1 s2 file IsOpenRead h e.0,
+  reads_from s0 s1 s2 file IsOpenImageRead h e.0,
 )
 ends_early s0 s1 s2 file (why.ReadFault which.Script) h k e = absurd e
 ends_early s0 s1 s2 file (why.ReadFault which.Tables) h k e = absurd e
 ends_early s0 s1 s2 file (why.ReadFault which.Comment) h k e = absurd e
 ends_early s0 s1 s2 file (why.ReadFault which.Output) h k e = absurd e
 ends_early s0 s1 s2 file why.WriteFault h k e = absurd e
-ends_early s0 s1 s2 file why.NoMemory h k e = (stopped_there s0 s1 s2 file h k, reads_from s0 s1 s2 file IsShortRead h e)
+ends_early s0 s1 s2 file why.NoMemory h k e = (stopped_there s0 s1 s2 file h k, reads_from s0 s1 s2 file IsShortImageRead h e)
 
-pub image_read_from : (s0 s1 s2 : DeskState) (file : Name) (answer : Result Read Why) → Opens s0 file put.Done s1 → OnlyReads s1 s2 → EndsReading s1 answer s2 → ImageRead file s0 answer s2
+pub image_read_from : (s0 s1 s2 : DeskState) (file : Name) (answer : Result Read Why) → Opens s0 file put.Done s1 → OnlyReads s1 s2 → EndsImageReading s1 answer s2 → ImageRead file s0 answer s2
 image_read_from s0 s1 s2 file (Ok i) h k e = (noted s0 s1 s2 file h k, reads_from s0 s1 s2 file (IsImageRead (image_told i) (rest_of s2.left)) h e.0)
 image_read_from s0 s1 s2 file (Err ended) h k e = ends_early s0 s1 s2 file ended h k e
 
-pub right_of : (s0 s1 : DeskState) (answer : Result Read Why) → EndsReading s0 answer s1 → IfOk answer (λ i. IsRightImage (image_told i))
+pub right_of : (s0 s1 : DeskState) (answer : Result Read Why) → EndsImageReading s0 answer s1 → IfOk answer (λ i. IsRightImage (image_told i))
 right_of s0 s1 (Ok i) h = h.1
 right_of s0 s1 (Err ended) h = tt
 
--- WHAT A PIECE that was fed comes to
+-- THE RESULT OF A PIECE that was fed
 
-pub whole_shown : (bytes piece : List ℕ) (old : PixelReader) (image : Image) → HasFed bytes old → length bytes < standard_limits.input → length piece ≤ 65536 → length (bytes ++ piece) ≤ standard_limits.input → AreBytes (bytes ++ piece)
+pub whole_shown : (bytes piece : List ℕ) (old : PixelReader) (image : Image) → HasFedImage bytes old → length bytes < standard_limits.input → length piece ≤ 65536 → length (bytes ++ piece) ≤ standard_limits.input → AreBytes (bytes ++ piece)
     → ((limits : Limits) (rest : List ℕ) → length (bytes ++ piece) ≤ limits.input → IsImage limits ((bytes ++ piece) ++ rest) image) → ((rest : List ℕ) → IsImageRead image rest (bytes ++ piece)) × IsRightImage image
 whole_shown bytes piece old image h short few most small is = (
   (λ rest. record { is = is standard_limits rest most; read = short_more bytes piece old h short few }),
   image_right standard_limits ((bytes ++ piece) ++ []) image (is standard_limits [] most) (subst AreBytes (sym (append-nil (bytes ++ piece))) small),
 )
 
-pub fault_shown : (bytes piece : List ℕ) (old : PixelReader) (f : FaultAt) → HasFed bytes old → length bytes < standard_limits.input → length piece ≤ 65536 → length (bytes ++ piece) ≤ standard_limits.input
+pub fault_shown : (bytes piece : List ℕ) (old : PixelReader) (f : FaultAt) → HasFedImage bytes old → length bytes < standard_limits.input → length piece ≤ 65536 → length (bytes ++ piece) ≤ standard_limits.input
     → ((limits : Limits) (rest : List ℕ) → length (bytes ++ piece) ≤ limits.input → IsImageFault limits ((bytes ++ piece) ++ rest) f.fault f.at) → (rest : List ℕ) → IsFaultRead f rest (bytes ++ piece)
 fault_shown bytes piece old f h short few most is = λ rest. record { is = is standard_limits rest most; read = short_more bytes piece old h short few }
 
--- and what bytes that end do
+-- and of bytes where the input ends
 
-pub whole_ended : (bytes : List ℕ) (old : PixelReader) (image : Image) → HasFed bytes old → length bytes < standard_limits.input → ((limits : Limits) → length bytes < limits.input → IsImage limits bytes image) → IsImageRead image [] bytes × IsRightImage image
+pub whole_ended : (bytes : List ℕ) (old : PixelReader) (image : Image) → HasFedImage bytes old → length bytes < standard_limits.input → ((limits : Limits) → length bytes < limits.input → IsImage limits bytes image) → IsImageRead image [] bytes × IsRightImage image
 whole_ended bytes old image h short is = (
   record { is = subst (λ (b : List ℕ). IsImage standard_limits b image) (sym (append-nil bytes)) (is standard_limits short); read = short_end bytes old h short },
   image_right standard_limits bytes image (is standard_limits short) h.2,
 )
 
-pub fault_ended : (bytes : List ℕ) (old : PixelReader) (f : FaultAt) → HasFed bytes old → length bytes < standard_limits.input → ((limits : Limits) → length bytes < limits.input → IsImageFault limits bytes f.fault f.at) → IsFaultRead f [] bytes
+pub fault_ended : (bytes : List ℕ) (old : PixelReader) (f : FaultAt) → HasFedImage bytes old → length bytes < standard_limits.input → ((limits : Limits) → length bytes < limits.input → IsImageFault limits bytes f.fault f.at) → IsFaultRead f [] bytes
 fault_ended bytes old f h short is =
     record { is = subst (λ (b : List ℕ). IsImageFault standard_limits b f.fault f.at) (sym (append-nil bytes)) (is standard_limits short); read = short_end bytes old h short }

@@ -1,4 +1,4 @@
--- What reading the input comes to, over the states that a desk tells.
+-- What reading the input does, over the states of a desk.
 use Rattle.std.proofs.Common.{◌≡◌, ℕ, ◌≤◌, List, [], ◌∷◌, ◌++◌, length, take, Option, None, Some, refl, sym, ap, ◌∙◌, subst, arith, inl, inr}
 use Rattle.std.specs.Prelude.{◌⊎◌}
 use Rattle.std.specs.Io.KnownBytes.{Consumes, IsAtEnd}
@@ -8,8 +8,8 @@ use Rattle.jpg_base.specs.declared.names.Put.{Put}
 use Rattle.jpg_base.specs.declared.names.Put.TheVariants as put
 use Rattle.jpg_base.specs.Desk.{DeskState, NotesName, OpensFile, Opens}
 use Rattle.jpg_base.specs.Laws.{NotesNames}
-use Rattle.jpg_cli.specs.declared.reading.Taken.TheVariants as taken
-use Rattle.jpg_cli.specs.Reading.{AfterReading, IsFile, ReadsPart, rest_of, IsReadTo}
+use Rattle.jpg_cli.specs.declared.desk.file.Taken.TheVariants as taken
+use Rattle.jpg_cli.specs.Desk.Reading.{AfterReading, IsFile, ReadsPart, rest_of, IsReadTo}
 use Rattle.jpg_cli.specs.Stays.{OnlyReads}
 
 pub notes_one : (a b : Option (List (Name × Put))) (entry : Name × Put) → NotesName a entry b → NotesNames a (entry ∷ []) b
@@ -17,7 +17,7 @@ notes_one a None entry h = tt
 notes_one None (Some b) entry h = absurd h
 notes_one (Some a) (Some b) entry h = h
 
--- what was taken is the front of an input
+-- what was taken is a prefix of an input
 front_is : (limit : ℕ) (input taken rest : List ℕ) → input ≡ taken ++ rest → length taken ≤ limit → (limit ≤ length taken) ⊎ (rest ≡ []) → taken ≡ take limit input
 front_is limit input taken rest e le (inl ge) = sym (ap (take limit) e ∙ take_at taken rest limit (omega (arith, le, ge)))
 front_is limit input taken rest e le (inr none) = sym (ap (take limit) (e ∙ ap (λ r. taken ++ r) none ∙ append-nil taken) ∙ take_all limit taken le)
@@ -56,7 +56,7 @@ took limit s0 s1 s2 n v h k r = (
   front_is limit (v ++ rest_of s2.left) v (rest_of s2.left) refl r.1 (none_behind limit v s2.left r.2),
 )
 
--- what was read of a file stays so where no more of it is read
+-- what was read of a file is the same if no more of it is read
 pub part_still : (most : ℕ) (file : Name) (a b c : DeskState) → c.left ≡ b.left → ReadsPart most file a b → ReadsPart most file a c
 part_still most file a b c e (bytes, (few, is)) = (bytes, (few, (let P : Option (List ℕ) → Type 0 = λ l. IsFile a.files file (bytes ++ rest_of l) in subst P (sym e) is)))
 

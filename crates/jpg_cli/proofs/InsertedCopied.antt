@@ -1,4 +1,4 @@
--- What writing a file with a comment inserted comes to behind its head, over the states that a desk tells.
+-- What writing a file with a comment inserted does after its head, over the states of a desk.
 use Rattle.std.proofs.Common.{◌≡◌, ℕ, ◌+◌, ◌<◌, ◌≤◌, Bool, List, [], ◌++◌, length, take, Option, None, Some, sym, ap, ◌∙◌, subst, arith, inl, inr}
 use Rattle.std.proofs.lemmas.List.{length-append, take_all, take-append-le}
 use Rattle.std.specs.Io.KnownBytes.{IsAtEnd}
@@ -8,21 +8,21 @@ use Rattle.jpg_base.specs.Desk.{DeskState, AfterWrite, AppendsLast, Reads, Rose}
 use Rattle.jpg_base.specs.Laws.{AppendsPart-then, Consumes-then}
 use Rattle.jpg_huff.specs.Out.{OnlyWrites}
 use Rattle.jpg_spec.specs.Segments.{standard_limits}
-use Rattle.jpg_spec.specs.CommentText.{IsInserted, IsInsertFault}
+use Rattle.jpg_spec_write.specs.CommentText.{IsInserted, IsInsertFault}
 use Rattle.jpg_spec.specs.declared.fault.Fault.TheVariants.{InputTooLong}
-use Rattle.jpg_spec.specs.declared.answers.FaultAt.{FaultAt}
-use Rattle.jpg_spec.specs.declared.answers.Why.{Why}
-use Rattle.jpg_spec.specs.declared.answers.Why.TheVariants as why
-use Rattle.jpg_spec.specs.declared.answers.Which.TheVariants as which
+use Rattle.jpg_spec.specs.declared.fault.FaultAt.{FaultAt}
+use Rattle.jpg_spec_words.specs.declared.answers.Why.{Why}
+use Rattle.jpg_spec_words.specs.declared.answers.Why.TheVariants as why
+use Rattle.jpg_spec_words.specs.declared.answers.Which.TheVariants as which
 use Rattle.jpg_spec.specs.declared.frame.Limits.{Limits}
 use Rattle.jpg_markers.specs.Reading.{Reading, reading_of}
-use Rattle.jpg_comments.specs.Begun.{Appends}
+use Rattle.jpg_comments.specs.SegmentsSoFar.{Appends}
 use Rattle.jpg_comments.specs.Inserting.{HoldsHead, InsertsPart}
 use Rattle.jpg_comments.specs.WriteInserted.{HasInserted, StandsAt}
 use Rattle.jpg_comments.specs.declared.insert.Insert.{Insert}
-use Rattle.jpg_cli.specs.Reading.{rest_of}
-use Rattle.jpg_cli.specs.InsertComment.{AfterAll, AfterFed, AfterRest, EndsInserting, IsFilePart, IsLongFile}
-use Rattle.jpg_cli.specs.ReadComments.{HasCopied}
+use Rattle.jpg_cli.specs.Desk.Reading.{rest_of}
+use Rattle.jpg_cli.specs.Tools.InsertComment.{AfterAll, AfterFed, AfterRest, EndsInserting, IsFilePart, IsLongFile}
+use Rattle.jpg_cli.specs.Tools.ReadComments.{HasCopied}
 use Rattle.jpg_cli.specs.Stays.{OnlyCopies}
 use Rattle.jpg_cli.proofs.CommentsRead.{fault_within, take_again}
 use Rattle.jpg_cli.proofs.CommentsCopied.{copied, copied_still, left_still, outputs_still, some_taken, text_added, within_most}
@@ -61,7 +61,7 @@ fed_part comment bytes text replace (Some (why.ReadFault w)) c e same h = absurd
 fed_part comment bytes text replace (Some why.WriteFault) c e same h = absurd h
 fed_part comment bytes text replace (Some why.NoMemory) c e same h = h
 
--- where there is a text, the marker is in the bytes
+-- if there is a text, the marker is in the bytes
 pub file_part : (comment bytes text : List ℕ) (replace : Bool) → 0 < length text → InsertsPart standard_limits comment replace bytes text → IsFilePart comment replace bytes text
 file_part comment bytes text replace some (inl none) = absurd (not_none text none some)
 file_part comment bytes text replace some (inr h) = h

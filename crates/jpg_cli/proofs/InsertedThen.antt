@@ -1,4 +1,4 @@
--- What was done of a comment's insertion stays so with a message, and is due where nothing failed.
+-- What was done to insert a comment still holds after a message, and is the expected result if nothing failed.
 use Rattle.std.proofs.Common.{◌≡◌, ℕ, List, ◌++◌, take, Option, refl, sym, ap, ◌∙◌, subst, arith, inl, inr}
 use Rattle.std.proofs.lemmas.List.{append-nil}
 use Rattle.std.specs.Io.KnownBytes.{IsAtEnd}
@@ -6,18 +6,18 @@ use Rattle.jpg_base.specs.declared.names.Name.{Name}
 use Rattle.jpg_base.specs.declared.names.Name.TheVariants as name
 use Rattle.jpg_base.specs.declared.names.Put.TheVariants as put
 use Rattle.jpg_base.specs.Desk.{DeskState}
-use Rattle.jpg_spec.specs.declared.answers.FaultAt.{FaultAt}
-use Rattle.jpg_spec.specs.declared.answers.Why.{Why}
-use Rattle.jpg_spec.specs.declared.answers.Why.TheVariants as why
-use Rattle.jpg_spec.specs.declared.answers.Which.TheVariants as which
+use Rattle.jpg_spec.specs.declared.fault.FaultAt.{FaultAt}
+use Rattle.jpg_spec_words.specs.declared.answers.Why.{Why}
+use Rattle.jpg_spec_words.specs.declared.answers.Why.TheVariants as why
+use Rattle.jpg_spec_words.specs.declared.answers.Which.TheVariants as which
 use Rattle.jpg_spec.specs.Segments.{standard_limits}
-use Rattle.jpg_spec.specs.CommentWords.{CommentSource, from_input, from_words, from_file}
+use Rattle.jpg_spec_words.specs.CommentWords.{CommentSource, from_input, from_words, from_file}
 use Rattle.jpg_cli.specs.Stays.{OnlySays}
-use Rattle.jpg_cli.specs.Reading.{IsFile, rest_of}
-use Rattle.jpg_cli.specs.InsertComment.{IsAtHead, IsFaultBefore, IsFilePart, IsLongFile, IsNoHead, IsInsertedWhole}
-use Rattle.jpg_cli.specs.CommentInserted.{Inserted, IsComment, IsCommentRead, IsInsertDue, ReadsAlone, ReadsComment, ReadsInput, ReadsLast, Task, WritesText, names_of, names_to_input, names_to_output, task_told}
-use Rattle.jpg_cli.specs.CommentWords.{comment_told, file_told, write_told}
-use Rattle.jpg_cli.specs.declared.comment_words.WriteWords.{WriteWords}
+use Rattle.jpg_cli.specs.Desk.Reading.{IsFile, rest_of}
+use Rattle.jpg_cli.specs.Tools.InsertComment.{IsAtHead, IsFaultBefore, IsFilePart, IsLongFile, IsNoHead, IsInsertedWhole}
+use Rattle.jpg_cli.specs.Tools.CommentInserted.{Inserted, IsComment, IsCommentRead, IsInsertDue, ReadsAlone, ReadsComment, ReadsInput, ReadsLast, Task, WritesText, names_of, names_to_input, names_to_output, task_told}
+use Rattle.jpg_cli.specs.Words.CommentWords.{comment_told, file_told, write_told}
+use Rattle.jpg_cli.specs.declared.words.comments.WriteWords.{WriteWords}
 use Rattle.jpg_cli.specs.Commands.{name_of}
 use Rattle.jpg_cli.specs.Run.{NoneRose, task_of}
 use Rattle.jpg_cli.proofs.Endings.{bytes_then, copied_then, stopped_then, unopened_then, unread_then}
@@ -145,7 +145,7 @@ same_name name.In = refl
 same_name name.Out = refl
 same_name (name.File text) = refl
 
--- The names that the words tell are those of the files.
+-- The names in the words are those of the files.
 pub asked_inserted : (words : WriteWords) (old new : DeskState) (w : Why) → Inserted (task_told words) old w new → Inserted (task_of (write_told words)) old w new
 asked_inserted words old new w h =
     let to : Name → Name → Task = λ input output. record { comment = comment_told words.comment; input = input; output = output; replace = words.replace } in

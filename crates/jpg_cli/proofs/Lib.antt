@@ -24,6 +24,7 @@ pub mod ImageTaken
 pub mod Input
 pub mod InsertedCopied
 pub mod InsertedThen
+pub mod KeepingLaws
 pub mod Matching
 pub mod Names
 pub mod Naming

@@ -1,15 +1,16 @@
--- The names that messages hold are short.
+-- The names in messages are short.
 use Rattle.std.proofs.Common.{◌≤◌, length, lit≤}
 use Rattle.jpg_spec.specs.Faults.{fault_name}
-use Rattle.jpg_spec.specs.Messages.{picture_name, usage_name, which_name}
+use Rattle.jpg_spec_write.specs.PictureFaults.{picture_name}
+use Rattle.jpg_spec_words.specs.Messages.{usage_name, which_name}
 use Rattle.jpg_spec.specs.declared.fault.Fault.{Fault}
 use Rattle.jpg_spec.specs.declared.fault.Fault.TheVariants as fault
-use Rattle.jpg_spec.specs.declared.answers.UsageFault.{UsageFault}
-use Rattle.jpg_spec.specs.declared.answers.UsageFault.TheVariants as usage
-use Rattle.jpg_spec.specs.declared.answers.Which.{Which}
-use Rattle.jpg_spec.specs.declared.answers.Which.TheVariants as which
-use Rattle.jpg_spec.specs.declared.transform.PictureFault.{PictureFault}
-use Rattle.jpg_spec.specs.declared.transform.PictureFault.TheVariants as picture
+use Rattle.jpg_spec_words.specs.declared.answers.UsageFault.{UsageFault}
+use Rattle.jpg_spec_words.specs.declared.answers.UsageFault.TheVariants as usage
+use Rattle.jpg_spec_words.specs.declared.answers.Which.{Which}
+use Rattle.jpg_spec_words.specs.declared.answers.Which.TheVariants as which
+use Rattle.jpg_spec_write.specs.declared.picture_fault.PictureFault.{PictureFault}
+use Rattle.jpg_spec_write.specs.declared.picture_fault.PictureFault.TheVariants as picture
 
 pub fault_short : (f : Fault) → length (fault_name f) ≤ 20
 fault_short fault.NotBuilt = lit≤ tt

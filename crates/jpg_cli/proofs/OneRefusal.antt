@@ -1,27 +1,28 @@
--- Where something is wanted of an input, it is refused with one fault at one place; and a file that means a picture with none.
+-- Whatever is asked for, an input is refused with at most one fault, at one place; and a file that means a picture with
+-- none.
 use Rattle.std.proofs.Common.{◌≡◌, ℕ, Bool, List, ◌++◌, refl, sym, subst, arith, inl, inr}
 use Rattle.jpg_base.specs.Desk.{DeskState}
 use Rattle.jpg_spec.specs.Segments.{standard_limits}
-use Rattle.jpg_spec.specs.declared.answers.FaultAt.{FaultAt}
-use Rattle.jpg_spec.specs.declared.answers.Why.{Why}
-use Rattle.jpg_spec.specs.declared.answers.Why.TheVariants as why
-use Rattle.jpg_spec.proofs.OneReason.{one_reason}
+use Rattle.jpg_spec.specs.declared.fault.FaultAt.{FaultAt}
+use Rattle.jpg_spec_words.specs.declared.answers.Why.{Why}
+use Rattle.jpg_spec_words.specs.declared.answers.Why.TheVariants as why
+use Rattle.jpg_spec_image.proofs.OneReason.{one_reason}
 use Rattle.jpg_cli.specs.Certain.{HasFile, HasSomeMeaning, IsNotRefused, IsTold}
 use Rattle.jpg_cli.specs.Laws.{MeanShown, WasRefused, WasRefusedShown}
-use Rattle.jpg_cli.specs.ReadPicture.{IsRefused, IsRefusedFor, IsRefusedRead, IsUnwanted}
-use Rattle.jpg_cli.specs.declared.read_picture.Wanted.{Wanted}
-use Rattle.jpg_cli.specs.declared.read_picture.Wanted.TheVariants.{Coefficients, Image}
-use Rattle.jpg_cli.specs.Reading.{rest_of}
-use Rattle.jpg_cli.specs.Showing.{Showing, Shown, bytes_before}
-use Rattle.jpg_spec.specs.Moved.{Scans}
-use Rattle.jpg_spec.specs.TransformWords.{ScansSource, own_sequential, own_progressive, in_file, TransformAsked}
-use Rattle.jpg_cli.specs.ScriptTaken.{HasScansFault, StopsAtScans}
-use Rattle.jpg_cli.specs.Turned.{Transformed, Turned, Turning, turning_of}
+use Rattle.jpg_cli.specs.Desk.ReadPicture.{IsRefused, IsRefusedFor, IsRefusedRead, IsUnwanted}
+use Rattle.jpg_cli.specs.declared.desk.picture.Wanted.{Wanted}
+use Rattle.jpg_cli.specs.declared.desk.picture.Wanted.TheVariants.{Coefficients, Image}
+use Rattle.jpg_cli.specs.Desk.Reading.{rest_of}
+use Rattle.jpg_cli.specs.Tools.Showing.{Showing, Shown, bytes_before}
+use Rattle.jpg_spec_write.specs.ScansAsked.{Scans}
+use Rattle.jpg_spec_words.specs.TransformWords.{ScansSource, own_sequential, own_progressive, in_file, TransformAsked}
+use Rattle.jpg_cli.specs.Desk.ScriptTaken.{HasScansFault, StopsAtScans}
+use Rattle.jpg_cli.specs.Tools.Turned.{Transformed, Turned, Turning, turning_of}
 use Rattle.jpg_cli.proofs.RefusedOnce.{one_refusal}
 use Rattle.jpg_cli.proofs.RowsStand.{so_read}
 use Rattle.jpg_cli.proofs.Certain.{no_scans_fault, none_faulty, none_unshown, one_file, refused_alone}
 
--- WHATEVER IS WANTED
+-- WHATEVER IS ASKED FOR
 
 one_unwanted : (w : Wanted) (input : List ℕ) (f g : FaultAt) → IsUnwanted w input f → IsUnwanted w input g → f ≡ g
 one_unwanted Coefficients input f g a b = absurd a

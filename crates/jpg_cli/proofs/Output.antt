@@ -1,4 +1,4 @@
--- What creating and writing an output comes to, over the states that a desk tells.
+-- What creating and writing an output does, over the states of a desk.
 use Rattle.std.proofs.Common.{ℕ, List, take, Option, Ok, Err, sym, subst, arith}
 use Rattle.jpg_base.specs.declared.names.Name.{Name}
 use Rattle.jpg_base.specs.declared.names.Put.{Put}
@@ -7,9 +7,9 @@ use Rattle.jpg_base.specs.declared.stop.WriteFault.{WriteFault}
 use Rattle.jpg_base.specs.Desk.{DeskState, NotesName, Creates}
 use Rattle.jpg_base.specs.Laws.{Grows-from}
 use Rattle.jpg_huff.specs.Out.{OnlyWrites}
-use Rattle.jpg_file.specs.WriteFile.{AreAppended}
-use Rattle.jpg_cli.specs.Writing.{AfterOutput}
-use Rattle.jpg_cli.specs.declared.writing.Wrote.TheVariants as wrote
+use Rattle.jpg_file.specs.Write.WriteFile.{AreAppended}
+use Rattle.jpg_cli.specs.Desk.Writing.{AfterOutput}
+use Rattle.jpg_cli.specs.declared.desk.moved.Wrote.TheVariants as wrote
 
 pub output_done : (s0 s1 s2 : DeskState) (output : Name) (due : List ℕ) → Creates s0 output put.Done s1 → OnlyWrites s1 s2 → AreAppended s1 due (Ok tt) s2 → AfterOutput output s0 due wrote.Done s2
 output_done s0 s1 s2 output due h k w = (

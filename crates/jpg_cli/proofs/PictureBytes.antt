@@ -1,4 +1,4 @@
--- What the bytes of a file that were read come to, for the picture in it.
+-- What the bytes read from a file mean for the picture in it.
 use Rattle.std.proofs.Common.{◌≡◌, ℕ, ◌+◌, ◌<◌, ◌≤◌, List, [], ◌∷◌, ◌++◌, length, take, drop, refl, sym, ap, ◌∙◌, subst, arith, inl, inr, ◌⊎◌, Option, Some, None, zero, suc, get_or, Bool}
 use Rattle.std.specs.List.{All}
 use Rattle.std.proofs.lemmas.List.Elements.{All-append, All-nil}
@@ -7,29 +7,29 @@ use Rattle.std.proofs.lemmas.Bool.{cases_lt}
 use Rattle.std.proofs.Math.Seq.{take-append-add}
 use Rattle.jpg_spec.specs.Segments.{standard_limits}
 use Rattle.jpg_spec.specs.FirstFault.{IsFirstFault}
-use Rattle.jpg_spec.specs.FileStands.{FileStands}
+use Rattle.jpg_spec.specs.UnfinishedFile.{UnfinishedFile}
 use Rattle.jpg_spec.specs.declared.fault.Fault.{Fault}
 use Rattle.jpg_spec.specs.Early.{IsMeaning, MeansEarly}
 use Rattle.jpg_spec.specs.FileMeaning.{meaning_of}
 use Rattle.jpg_spec.specs.InForce.{frame_of}
 use Rattle.jpg_spec.specs.Meaning.{Meaning}
-use Rattle.jpg_spec.specs.NotShown.{IsNotShown}
-use Rattle.jpg_spec.specs.Pixels.{out_fault}
-use Rattle.jpg_spec.specs.declared.answers.FaultAt.{FaultAt}
-use Rattle.jpg_spec.specs.declared.answers.Why.TheVariants as why
+use Rattle.jpg_spec_image.specs.NotShown.{IsNotShown}
+use Rattle.jpg_spec_image.specs.Pixels.{out_fault}
+use Rattle.jpg_spec.specs.declared.fault.FaultAt.{FaultAt}
+use Rattle.jpg_spec_words.specs.declared.answers.Why.TheVariants as why
 use Rattle.jpg_spec.specs.declared.frame.Limits.{Limits}
 use Rattle.jpg_spec.proofs.FileLaws.{shown_not_standing}
-use Rattle.jpg_spec.proofs.ShownAlike.{shown_alike}
+use Rattle.jpg_spec_image.proofs.ShownAlike.{shown_alike}
 use Rattle.jpg_base.specs.declared.stop.Stop.TheVariants as stop
-use Rattle.jpg_file.specs.FirstHead.{IsHeadOf}
-use Rattle.jpg_file.specs.declared.ends.End.TheVariants as ends
-use Rattle.jpg_file.specs.ReadFile.{AfterEnd, HasRead, IsDone, IsRefusal, IsStopOf, KeepsHeadAt, ReaderState, StopsAt, head_seen}
-use Rattle.jpg_file.specs.declared.head.Head.{Head}
+use Rattle.jpg_file.specs.Read.FirstHeader.{IsFirstHeaderOf}
+use Rattle.jpg_file.specs.declared.read.ends.End.TheVariants as ends
+use Rattle.jpg_file.specs.Read.ReadFile.{AfterEnd, HasRead, IsDone, IsRefusal, IsStopOf, KeepsHeadAt, ReaderState, StopsAt, head_seen}
+use Rattle.jpg_file.specs.declared.read.first_header.Head.{Head}
 use Rattle.jpg_file.proofs.PieceSteps.{counted}
-use Rattle.jpg_cli.specs.ReadPicture.{AfterFileEnd, AfterTakingPiece, HasFed, HoldsEarly, HoldsFile, IsOpenRead, IsRefused, IsRefusedFor, IsRefusedRead, IsShortRead, IsUnwanted, step_unless, unwanted_for, unwanted_in}
-use Rattle.jpg_cli.specs.declared.read_picture.PictureStep.TheVariants as step
-use Rattle.jpg_cli.specs.declared.read_picture.Wanted.{Wanted}
-use Rattle.jpg_cli.specs.declared.read_picture.Wanted.TheVariants.{Coefficients, Image}
+use Rattle.jpg_cli.specs.Desk.ReadPicture.{AfterFileEnd, AfterTakingPiece, HasFed, HoldsEarly, HoldsFile, IsOpenRead, IsRefused, IsRefusedFor, IsRefusedRead, IsShortRead, IsUnwanted, step_unless, unwanted_for, unwanted_in}
+use Rattle.jpg_cli.specs.declared.desk.picture.PictureStep.TheVariants as step
+use Rattle.jpg_cli.specs.declared.desk.picture.Wanted.{Wanted}
+use Rattle.jpg_cli.specs.declared.desk.picture.Wanted.TheVariants.{Coefficients, Image}
 use Rattle.jpg_cli.proofs.Unwanted.{done_unwanted, done_wanted, head_of, no_header, stop_unwanted, stop_wanted, unwanted_first, unwanted_head, unwanted_less, unwanted_more, unwanted_within, wanted_head}
 
 -- BYTES SO FAR
@@ -39,7 +39,7 @@ short_so_far bytes r e h = subst (λ (l : Limits). length bytes < l.input) e h.s
 
 pub has_fed : (w : Wanted) (bytes : List ℕ) (r : ReaderState) → r.limits ≡ standard_limits → All (λ b. b < 256) bytes → unwanted_in w (head_seen r) ≡ None → HasRead bytes r → HasFed w r bytes
 has_fed w bytes r e small none h =
-    let head = subst (λ (l : Limits). IsHeadOf l bytes r.file.head) e h.head in
+    let head = subst (λ (l : Limits). IsFirstHeaderOf l bytes r.file.head) e h.head in
     record { read = h; taken = counted r.limits bytes r.file h.open; short = short_so_far bytes r e h; small = small; wanted = wanted_head w bytes r.file.head head none }
 
 -- before any byte
@@ -52,7 +52,7 @@ fed_none w r e h =
     none_there (Image gray) f s = no_header s.before s.contents f.at s.header
 
 pub open_so_far : (w : Wanted) (bytes : List ℕ) (r : ReaderState) → r.limits ≡ standard_limits → HasFed w r bytes → IsOpenRead w bytes
-open_so_far w bytes r e h = record { short = h.short; stands = subst (λ (l : Limits). FileStands l bytes) e h.read.stands; wanted = h.wanted }
+open_so_far w bytes r e h = record { short = h.short; stands = subst (λ (l : Limits). UnfinishedFile l bytes) e h.read.stands; wanted = h.wanted }
 
 -- A PIECE
 
@@ -84,7 +84,7 @@ holds_file w bytes piece used r e short small none h =
 pub short_piece : (w : Wanted) (bytes piece : List ℕ) (r : ReaderState) → r.limits ≡ standard_limits → HasFed w r bytes → length piece ≤ 65536 → IsShortRead w (bytes ++ piece)
 short_piece w bytes piece r e h short = record { front = bytes; piece = piece; cut = refl; few = short; before = open_so_far w bytes r e h }
 
--- A REFUSAL of a piece, in which it stands
+-- A REFUSAL of a piece, whose reason is in the piece
 
 -- what isn't wanted now wasn't there before
 pub new_place : (w : Wanted) (bytes piece : List ℕ) (r : ReaderState) (f : FaultAt) → HasFed w r bytes → IsUnwanted w (bytes ++ piece) f → length bytes < f.at
@@ -97,12 +97,12 @@ new_place w bytes piece r f h k = by (cases_lt (length bytes) f.at)
 pub refused_there : (w : Wanted) (bytes piece rest : List ℕ) (f : FaultAt) → length piece ≤ 65536 → f.at ≤ length (bytes ++ piece) → length bytes < f.at → IsRefusedFor w ((bytes ++ piece) ++ rest) f → IsRefusedRead w f rest (bytes ++ piece)
 refused_there w bytes piece rest f short within behind refused = record { refused = refused; within = within; last = omega (arith, behind, short, length-append bytes piece) }
 
--- where the reader goes on, or is whole
+-- if the reader goes on, or is complete
 pub unwanted_piece : (w : Wanted) (bytes piece : List ℕ) (old r : ReaderState) (f : FaultAt) → r.limits ≡ standard_limits → HasFed w old bytes → length piece ≤ 65536 → HasRead (bytes ++ piece) r → unwanted_in w (head_seen r) ≡ Some f
     → (rest : List ℕ) → IsRefusedRead w f rest (bytes ++ piece)
 unwanted_piece w bytes piece old r f e h short read told rest =
     let all = bytes ++ piece in
-    let k = unwanted_head w all r.file.head f (subst (λ (l : Limits). IsHeadOf l all r.file.head) e read.head) told in
+    let k = unwanted_head w all r.file.head f (subst (λ (l : Limits). IsFirstHeaderOf l all r.file.head) e read.head) told in
     refused_there w bytes piece rest f short (unwanted_within w all f k) (new_place w bytes piece old f h k) (unwanted_first w all rest r f e read k)
 
 pub unwanted_whole : (w : Wanted) (bytes piece : List ℕ) (used : ℕ) (old r : ReaderState) (f : FaultAt) → r.limits ≡ standard_limits → HasFed w old bytes → length piece ≤ 65536 → IsDone (bytes ++ take used piece) r → unwanted_in w (head_seen r) ≡ Some f
@@ -111,12 +111,12 @@ unwanted_whole w bytes piece used old r f e h short done told rest =
     let front = bytes ++ take used piece in
     let left = drop used piece in
     let cut : front ++ left ≡ bytes ++ piece = append_assoc bytes (take used piece) left ∙ ap (λ l. bytes ++ l) (take-append-drop used piece) in
-    let k = unwanted_head w front r.file.head f (subst (λ (l : Limits). IsHeadOf l front r.file.head) e done.head) told in
+    let k = unwanted_head w front r.file.head f (subst (λ (l : Limits). IsFirstHeaderOf l front r.file.head) e done.head) told in
     let there = subst (λ l. IsUnwanted w l f) cut (unwanted_more w front left f k) in
     let first = subst (λ l. IsRefusedFor w l f) (sym (append_assoc front left rest) ∙ ap (λ l. l ++ rest) cut) (done_unwanted w front (left ++ rest) r f e done k) in
     refused_there w bytes piece rest f short (unwanted_within w (bytes ++ piece) f there) (new_place w bytes piece old f h there) first
 
--- a fault of bytes stands in them
+-- a fault of bytes is in them
 fault_within : (limits : Limits) (bytes : List ℕ) (f : Fault) (n : ℕ) → IsFirstFault limits bytes f n → n ≤ length bytes
 fault_within limits bytes f n (inl h) = h.1.0
 fault_within limits bytes f n (inr (inl h)) = (let e = h.1 in let l = h.2 in omega (arith, e, l))
@@ -128,7 +128,7 @@ stop_within bytes f k = (let low = inside (k []) in omega (arith, low, length-ap
     inside : IsRefused (bytes ++ []) f → f.at ≤ length (bytes ++ [])
     inside s = fault_within standard_limits (bytes ++ []) f.fault f.at s
 
--- where the reader stopped
+-- if the reader stopped
 pub refused_piece : (w : Wanted) (bytes piece : List ℕ) (o : Option Head) (f : FaultAt) → length piece ≤ 65536 → IsStopOf standard_limits (bytes ++ piece) f × (length bytes < f.at) × KeepsHeadAt standard_limits (bytes ++ piece) f o
     → unwanted_in w (head_of o) ≡ None → (rest : List ℕ) → IsRefusedRead w f rest (bytes ++ piece)
 refused_piece w bytes piece o f short h none rest =
@@ -142,7 +142,7 @@ unwanted_stop w bytes piece old o f g h short s told rest = by s.2
     all : List ℕ
     all = bytes ++ piece
 
-    of : (n : ℕ) → n ≤ f.at → IsHeadOf standard_limits (take n all) o → IsRefusedRead w g rest all
+    of : (n : ℕ) → n ≤ f.at → IsFirstHeaderOf standard_limits (take n all) o → IsRefusedRead w g rest all
     of n few head =
         let k = unwanted_head w (take n all) o g head told in
         let there = subst (λ l. IsUnwanted w l g) (take-append-drop n all) (unwanted_more w (take n all) (drop n all) g k) in
@@ -152,7 +152,7 @@ unwanted_stop w bytes piece old o f g h short s told rest = by s.2
     by (inl head) = of f.at (omega arith) head
     by (inr (m, at, head, stop)) = of m (omega (arith, at)) head
 
--- BY WHAT the first scan header tells
+-- BY THE first scan header
 
 pub more_or : (w : Wanted) (bytes piece : List ℕ) (old r : ReaderState) (o : Option FaultAt) → r.limits ≡ standard_limits → HasFed w old bytes → length piece ≤ 65536 → All (λ b. b < 256) (bytes ++ piece) → HasRead (bytes ++ piece) r
     → unwanted_in w (head_seen r) ≡ o → AfterTakingPiece w (bytes ++ piece) (step_unless o step.More) r
@@ -178,7 +178,7 @@ fault_or w bytes piece old r f o e h short s told = by o told
 
 -- THE END
 
-pub fault_at_end : (bytes : List ℕ) (f : Fault) (n : ℕ) → FileStands standard_limits bytes → length bytes < standard_limits.input → IsFirstFault standard_limits bytes f n → n ≡ length bytes
+pub fault_at_end : (bytes : List ℕ) (f : Fault) (n : ℕ) → UnfinishedFile standard_limits bytes → length bytes < standard_limits.input → IsFirstFault standard_limits bytes f n → n ≡ length bytes
 fault_at_end bytes f n stands short (inl k) = absurd (shown_not_standing standard_limits f (take n bytes) (drop n bytes) bytes k.1.1 stands (take-append-drop n bytes))
 fault_at_end bytes f n stands short (inr (inl k)) = let long = k.2 in absurd (omega (arith, long, short))
 fault_at_end bytes f n stands short (inr (inr k)) = k.1

@@ -1,4 +1,4 @@
--- What reading pieces of a picture's file comes to, over the states that a desk tells.
+-- What reading pieces of a picture's file does, over the states of a desk.
 use Rattle.std.proofs.Common.{◌≡◌, ℕ, ◌<◌, ◌≤◌, List, [], ◌∷◌, ◌++◌, length, take, Option, Some, None, Result, Ok, Err, refl, sym, ap, ◌∙◌, subst, arith}
 use Rattle.std.specs.Io.KnownBytes.{Consumes, IsAtEnd}
 use Rattle.jpg_base.specs.declared.names.Name.{Name}
@@ -7,27 +7,27 @@ use Rattle.jpg_base.specs.declared.names.Got.TheVariants as got
 use Rattle.jpg_base.specs.Desk.{DeskState, Opens, Reads, Rose}
 use Rattle.jpg_base.specs.Laws.{Consumes-then}
 use Rattle.jpg_spec.specs.Segments.{standard_limits}
-use Rattle.jpg_spec.specs.FileStands.{IsWholeFile}
+use Rattle.jpg_spec.specs.UnfinishedFile.{IsWholeFile}
 use Rattle.jpg_spec.specs.Early.{MeansEarly}
 use Rattle.jpg_spec.specs.InForce.{frame_of}
 use Rattle.jpg_spec.specs.Meaning.{Meaning}
 use Rattle.jpg_spec.specs.FileMeaning.{meaning_of}
-use Rattle.jpg_spec.specs.declared.answers.Why.{Why}
-use Rattle.jpg_spec.specs.declared.answers.Why.TheVariants as why
-use Rattle.jpg_spec.specs.declared.answers.Which.TheVariants as which
+use Rattle.jpg_spec_words.specs.declared.answers.Why.{Why}
+use Rattle.jpg_spec_words.specs.declared.answers.Why.TheVariants as why
+use Rattle.jpg_spec_words.specs.declared.answers.Which.TheVariants as which
 use Rattle.jpg_spec.specs.declared.frame.Copying.{Copying}
 use Rattle.jpg_spec.specs.declared.frame.Limits.{Limits}
-use Rattle.jpg_file.specs.File.{keeping_of}
-use Rattle.jpg_file.specs.PictureRead.{MeansFor, TakesEarly, TakesPicture}
-use Rattle.jpg_file.specs.ReadFile.{ReaderState}
-use Rattle.jpg_file.specs.declared.picture.Picture.{Picture}
+use Rattle.jpg_file.specs.Read.File.{keeping_of}
+use Rattle.jpg_file.specs.Read.PictureRead.{MeansFor, TakesEarly, TakesPicture}
+use Rattle.jpg_file.specs.Read.ReadFile.{ReaderState}
+use Rattle.jpg_file.specs.declared.read.picture.Picture.{Picture}
 use Rattle.jpg_cli.specs.Endings.{Stopped}
-use Rattle.jpg_cli.specs.Reading.{IsFile, rest_of}
-use Rattle.jpg_cli.specs.ReadPicture.{AfterFileEnd, AfterNextPiece, AfterPictureEnd, AfterTakingPiece, EndDone, EndsEarly, EndsReading, GoesOn, HasFed, Holds, HoldsEarly, HoldsFile, IsAllRead, IsEarlyRead, IsOpenRead, IsRead, IsRefusedRead, IsShortRead, IsWholeRead, PictureRead, ReadsFrom, Takes}
+use Rattle.jpg_cli.specs.Desk.Reading.{IsFile, rest_of}
+use Rattle.jpg_cli.specs.Desk.ReadPicture.{AfterFileEnd, AfterNextPiece, AfterPictureEnd, AfterTakingPiece, EndDone, EndsEarly, EndsReading, PictureGoesOn, HasFed, HoldsPicture, HoldsEarly, HoldsFile, IsAllRead, IsEarlyRead, IsOpenRead, IsReadPicture, IsRefusedRead, IsShortRead, IsWholeRead, PictureRead, ReadsFrom, TakesPieces}
 use Rattle.jpg_cli.specs.Stays.{OnlyReads}
-use Rattle.jpg_cli.specs.declared.read_picture.PictureStep.{PictureStep}
-use Rattle.jpg_cli.specs.declared.read_picture.Wanted.{Wanted}
-use Rattle.jpg_cli.specs.declared.read_picture.PictureStep.TheVariants as step
+use Rattle.jpg_cli.specs.declared.desk.picture.PictureStep.{PictureStep}
+use Rattle.jpg_cli.specs.declared.desk.picture.Wanted.{Wanted}
+use Rattle.jpg_cli.specs.declared.desk.picture.PictureStep.TheVariants as step
 use Rattle.jpg_cli.proofs.CommentsCopied.{copies_none, copies_then, left_still, some_taken}
 use Rattle.jpg_cli.proofs.Input.{file_read, none_left, noted}
 use Rattle.jpg_cli.proofs.PictureBytes.{open_so_far}
@@ -84,7 +84,7 @@ picture_end w start s0 s1 bytes (step.Early n) r short end left had h =
     ((bytes, left_still s0 s1 bytes start left had, omega (arith, short), h), ap rest_of left ∙ none_left s0.left end)
 picture_end w start s0 s1 bytes (step.Ended ended) r short end left had h = piece_end w start s0 s1 bytes ended short end left had h
 
-pub end_goes_on : (answer : PictureStep) (r : ReaderState) (now : DeskState) → EndDone answer r → GoesOn answer r now
+pub end_goes_on : (answer : PictureStep) (r : ReaderState) (now : DeskState) → EndDone answer r → PictureGoesOn answer r now
 end_goes_on step.More r now h = absurd h
 end_goes_on step.Whole r now h = absurd h
 end_goes_on (step.Early n) r now h = h
@@ -110,7 +110,7 @@ whole_taken w bytes r e h = record {
   wanted = h.wanted;
 }
 
--- what a file that ended early means, as the reader holds it
+-- what a file that ended early means, as the reader has it
 abbrev pub early_meaning : {w : Wanted} {r : ReaderState} {n : ℕ} {bytes : List ℕ} → HoldsEarly w r n bytes → Meaning
 early_meaning {w} {r} {n} {bytes} h = (let k = h.ended in meaning_of (frame_of r.limits k.segments) k.segments k.blocks)
 
@@ -119,7 +119,7 @@ early_taken w bytes n r e h =
     let M = early_meaning h in record { early = subst (λ (l : Limits). MeansEarly l bytes M) e h.ended.early; count = h.count; small = h.small; wanted = h.wanted }
 
 pub picture_taken : (w : Wanted) (keeping : Copying) (s0 s1 : DeskState) (r : ReaderState) (p : Picture) (early : Option ℕ) → r.limits ≡ standard_limits → keeping_of r.file ≡ keeping → TakesPicture r p → TakesEarly r p
-    → Takes (Holds w r early) s0 s1 → IsAllRead early s1 → EndsReading w keeping s0 (Ok (p, early)) s1
+    → TakesPieces (HoldsPicture w r early) s0 s1 → IsAllRead early s1 → EndsReading w keeping s0 (Ok (p, early)) s1
 picture_taken w keeping s0 s1 r p None e same whole cut (bytes, read, most, h) all =
     ((h.done.meaning, subst (λ (k : Copying). MeansFor k p h.done.meaning) same (whole (take h.count bytes) h.done), (bytes, read, most, whole_taken w bytes r e h)), all)
 picture_taken w keeping s0 s1 r p (Some n) e same whole cut (bytes, read, most, h) all =
@@ -127,7 +127,7 @@ picture_taken w keeping s0 s1 r p (Some n) e same whole cut (bytes, read, most, 
 
 -- FROM THE NAME
 
-pub reads_from : (s0 s1 s2 : DeskState) (file : Name) (Is : List ℕ → Type 0) → Opens s0 file put.Done s1 → Takes Is s1 s2 → ReadsFrom file Is s0 s2
+pub reads_from : (s0 s1 s2 : DeskState) (file : Name) (Is : List ℕ → Type 0) → Opens s0 file put.Done s1 → TakesPieces Is s1 s2 → ReadsFrom file Is s0 s2
 reads_from s0 s1 s2 file Is h (bytes, read, most, is) = record { bytes = bytes; read = file_read s0.files file s1.left s2.left bytes h.after.2 read; most = most; is = is }
 
 pub stopped_there : (s0 s1 s2 : DeskState) (file : Name) → Opens s0 file put.Done s1 → OnlyReads s1 s2 → Stopped (file ∷ []) put.Done s0 s2
@@ -152,10 +152,10 @@ ends_early w keeping s0 s1 s2 file why.WriteFault h k e = absurd e
 ends_early w keeping s0 s1 s2 file why.NoMemory h k e = (stopped_there s0 s1 s2 file h k, reads_from s0 s1 s2 file (IsShortRead w) h e)
 
 pub picture_read : (w : Wanted) (keeping : Copying) (s0 s1 s2 : DeskState) (file : Name) (answer : Result (Picture × Option ℕ) Why) → Opens s0 file put.Done s1 → OnlyReads s1 s2 → EndsReading w keeping s1 answer s2 → PictureRead w keeping file s0 answer s2
-picture_read w keeping s0 s1 s2 file (Ok found) h k ((M, means, e), all) = (noted s0 s1 s2 file h k, (M, means, reads_from s0 s1 s2 file (IsRead w M found.1) h e), all)
+picture_read w keeping s0 s1 s2 file (Ok found) h k ((M, means, e), all) = (noted s0 s1 s2 file h k, (M, means, reads_from s0 s1 s2 file (IsReadPicture w M found.1) h e), all)
 picture_read w keeping s0 s1 s2 file (Err ended) h k e = ends_early w keeping s0 s1 s2 file ended h k e
 
--- what was read of a file stays so where no more of it is read
+-- what was read of a file is the same if no more of it is read
 pub from_still : (s0 s1 s2 : DeskState) (file : Name) (Is : List ℕ → Type 0) → s2.left ≡ s1.left → ReadsFrom file Is s0 s1 → ReadsFrom file Is s0 s2
 from_still s0 s1 s2 file Is e h = record {
   bytes = h.bytes;

@@ -1,10 +1,10 @@
--- An input has one first fault, whatever is wanted of it.
+-- An input has one first fault, whatever is asked for.
 use Rattle.std.proofs.Common.{◌≡◌, ℕ, List, ap, ◌∙◌}
 use Rattle.jpg_spec.specs.Segments.{standard_limits}
-use Rattle.jpg_spec.specs.declared.answers.FaultAt.{FaultAt}
+use Rattle.jpg_spec.specs.declared.fault.FaultAt.{FaultAt}
 use Rattle.jpg_spec.specs.declared.fault.Fault.{Fault}
 use Rattle.jpg_spec.proofs.FileLaws.{first_fault_once}
-use Rattle.jpg_cli.specs.ReadPicture.{IsRefused}
+use Rattle.jpg_cli.specs.Desk.ReadPicture.{IsRefused}
 
 same_refusal : (f g : FaultAt) → f.fault ≡ g.fault → f.at ≡ g.at → f ≡ g
 same_refusal f g e h = ap (λ (k : Fault). let x : FaultAt = record { fault = k; at = f.at } in x) e ∙ ap (λ n. let x : FaultAt = record { fault = g.fault; at = n } in x) h

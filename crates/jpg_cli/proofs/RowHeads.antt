@@ -5,13 +5,13 @@ use Rattle.std.proofs.Math.Seq.{take-append-add}
 use Rattle.jpg_spec.specs.Markers.{Segment}
 use Rattle.jpg_spec.specs.RowsTold.{BeginsScanOfAll}
 use Rattle.jpg_spec.specs.Segments.{standard_limits}
-use Rattle.jpg_spec.specs.FileStands.{IsWholeFile}
+use Rattle.jpg_spec.specs.UnfinishedFile.{IsWholeFile}
 use Rattle.jpg_spec.specs.Header.{IsHeader}
 use Rattle.jpg_spec.specs.Items.{segments_of}
 use Rattle.jpg_spec.specs.Meaning.{Meaning}
 use Rattle.jpg_spec.proofs.FileHeader.{file_header}
 use Rattle.jpg_spec.proofs.OneHeader.{whole_once}
-use Rattle.jpg_cli.specs.Showing.{IsShownByRows}
+use Rattle.jpg_cli.specs.Tools.Showing.{IsShownByRows}
 
 abbrev pub begins_more : (bytes more : List ℕ) (before : List Segment) (contents : List ℕ) → BeginsScanOfAll standard_limits bytes before contents → BeginsScanOfAll standard_limits (bytes ++ more) before contents
 begins_more bytes more before contents h = record {
@@ -33,7 +33,7 @@ begins_still front rest bytes before contents cut h = record {
   of_all = h.of_all;
 }
 
--- two bytes that go on into the same ones
+-- two lists of bytes that are continued to the same ones
 pub one_head : (a b x y : List ℕ) (before later : List Segment) (contents others : List ℕ) → a ++ x ≡ b ++ y → BeginsScanOfAll standard_limits a before contents → BeginsScanOfAll standard_limits b later others
     → (before ≡ later) × (contents ≡ others)
 one_head a b x y before later contents others e h k =
@@ -48,7 +48,7 @@ begins_upto bytes piece n before contents late h =
     let at : n ≡ length bytes + d = omega (arith, late) in
     begins_still bytes (take d piece) (take n (bytes ++ piece)) before contents (ap (λ k. take k (bytes ++ piece)) at ∙ take-append-add bytes piece d) h
 
--- one that some first bytes show
+-- one that a prefix of the bytes has
 pub shown_before : (gray : Bool) (bytes : List ℕ) (n : ℕ) → IsShownByRows gray (take n bytes) → IsShownByRows gray bytes
 shown_before gray bytes n h = record {
   before = h.before;
@@ -57,7 +57,7 @@ shown_before gray bytes n h = record {
   shown = h.shown;
 }
 
--- one that begins in a whole file and what follows it begins in the file
+-- one that begins in a complete file and what follows it begins in the file
 pub begins_whole : (front rest : List ℕ) (M : Meaning) → IsWholeFile standard_limits front M → (before : List Segment) (contents : List ℕ) → BeginsScanOfAll standard_limits (front ++ rest) before contents
     → BeginsScanOfAll standard_limits front before contents
 begins_whole front rest M (w, e) before contents h =

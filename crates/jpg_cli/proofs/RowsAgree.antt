@@ -1,4 +1,4 @@
--- Pictures of which the same first MCU rows were told: their blocks, and the row that a reader gave.
+-- Pictures of which the same first MCU rows were decoded: their blocks, and the row that a reader gave.
 use Rattle.std.proofs.Common.{◌≡◌, ℕ, ◌+◌, ◌*◌, ◌<◌, ◌≤◌, Bool, true, false, cond, ◌==◌, ◌&&◌, List, [], ◌∷◌, ◌++◌, length, refl, sym, ap, ◌∙◌, subst, arith}
 use Rattle.std.specs.Prelude.{nat_lt}
 use Rattle.std.proofs.lemmas.List.{append-nil, get_or-map, length-append, length-map}
@@ -11,34 +11,36 @@ use Rattle.jpg_spec.specs.Items.{segments_of}
 use Rattle.jpg_spec.specs.Lists.{any_of, below}
 use Rattle.jpg_spec.specs.Markers.{Segment}
 use Rattle.jpg_spec.specs.Meaning.{PictureComponent, real_blocks}
-use Rattle.jpg_spec.specs.Moves.{component_of}
+use Rattle.jpg_spec.specs.Meaning.{component_of}
 use Rattle.jpg_spec.specs.PictureInWork.{is_at}
-use Rattle.jpg_spec.specs.RowLaws.{IsShownInRows, TellsMore, first_blocks}
-use Rattle.jpg_spec.specs.RowsShown.{rows_text}
+use Rattle.jpg_spec_image.specs.RowLaws.{IsShownInRows}
+use Rattle.jpg_spec.specs.RowLaws.{TellsMore, first_blocks}
+use Rattle.jpg_spec_image.specs.RowsShown.{rows_text}
 use Rattle.jpg_spec.specs.RowsTold.{BeginsScanOfAll, TellsRows, blocks_in, row_places}
 use Rattle.jpg_spec.specs.Scan.{Blocks}
 use Rattle.jpg_spec.specs.Segments.{head_components, standard_limits}
-use Rattle.jpg_spec.specs.Strips.{block_rows}
+use Rattle.jpg_spec_image.specs.Strips.{block_rows}
 use Rattle.jpg_spec.specs.declared.frame.Place.{Place}
-use Rattle.jpg_spec.specs.declared.image.EndKind.{EndKind}
+use Rattle.jpg_spec_image.specs.declared.image.EndKind.{EndKind}
 use Rattle.jpg_spec.proofs.Common.{both, length_below, lt_of, lt_yes}
 use Rattle.jpg_spec.proofs.FrameFound.{framed}
 use Rattle.jpg_spec.proofs.RowCounts.{head_names}
 use Rattle.jpg_spec.proofs.Rows.{at_below}
 use Rattle.jpg_spec.proofs.RowsFound.{found_first}
-use Rattle.jpg_spec.proofs.RowsHeader.{begun_covered, begun_frame, begun_once, rows_begin}
+use Rattle.jpg_spec_image.proofs.RowsHeader.{begun_covered}
+use Rattle.jpg_spec.proofs.RowsHeader.{begun_frame, begun_once, rows_begin}
 use Rattle.jpg_spec.proofs.RowsLater.{head_there}
 use Rattle.jpg_spec.proofs.RowsOnce.{first_told, rows_once}
-use Rattle.jpg_spec.proofs.RowsReady.{text_goes_on}
+use Rattle.jpg_spec_image.proofs.RowsReady.{text_goes_on}
 use Rattle.jpg_spec.proofs.Untouched.{frame_stays}
 use Rattle.jpg_spec.proofs.WrittenFront.{standard_are_limits}
 use Rattle.jpg_coefs.specs.Picture.{Picture as Coefs, map_of}
 use Rattle.jpg_seq.specs.Rows.{rows_in_mcu}
-use Rattle.jpg_file.specs.ReadRows.{AreOfRow}
+use Rattle.jpg_file.specs.Read.ReadRows.{AreOfRow}
 use Rattle.jpg_color.specs.Shown.{AreMcuRow, Display, IsShowable, at_top, parts, picture_of, rows_in}
 use Rattle.jpg_color.specs.StripImage.{AgreeInFirstRows}
 use Rattle.jpg_color.proofs.Coverage.{component_is, count_is, in_frame}
-use Rattle.jpg_cli.specs.ShowingRows.{Head, IsHeadIn}
+use Rattle.jpg_cli.specs.Tools.ShowingRows.{Head, IsHeadIn}
 use Rattle.jpg_cli.proofs.RowsWhole.{few_told, so_far, so_far_shown}
 
 -- THE FRAME at the scan header's end is that of the segments before it
@@ -64,7 +66,7 @@ real_there f blocks i x y known wide high =
     ∙ ap (λ b. cond (b && nat_lt y (blocks_down f (component_at f i))) (blocks i x y) (zeros 64)) (lt_yes x (blocks_across f (component_at f i)) wide)
     ∙ ap (λ b. cond b (blocks i x y) (zeros 64)) (lt_yes y (blocks_down f (component_at f i)) high)
 
--- a component's rows of blocks in an MCU row are told by the frame
+-- a component's rows of blocks in an MCU row depend only on the frame
 pub rows_told : (f : Frame) (segments : List Segment) (blocks : Blocks) (i : ℕ) → i < length f.components → block_rows (meaning_of f segments blocks) i ≡ rows_in_mcu f i
 rows_told f segments blocks i lt =
     let M = meaning_of f segments blocks in
@@ -75,7 +77,7 @@ rows_told f segments blocks i lt =
     get_or-map (picture_component f segments) (below (length f.components)) i 0 none low ∙ ap (picture_component f segments) (at_below (length f.components) i lt) in
     ap (λ n. cond (n == 1) 1 (component_of M i).v) count ∙ ap (λ (c : PictureComponent). cond (length f.components == 1) 1 c.v) at
 
--- Of two pictures, the first rows of which were told
+-- Of two pictures whose first rows were decoded
 record AreToldTwice (gray : Bool) (h : Head) (all : List ℕ) (m n : ℕ) (some more : Blocks) : Type 0 where
   pub head : IsHeadIn gray h all
   pub less : m ≤ n

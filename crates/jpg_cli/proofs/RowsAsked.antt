@@ -1,4 +1,4 @@
--- What reading comes to after a picture's rows were shown, over the states that a desk tells.
+-- The result of reading after a picture's rows were written, over the states of a desk.
 use Rattle.std.proofs.Common.{◌≡◌, ℕ, ◌+◌, ◌-◌, ◌<◌, true, ◌⊎◌, List, [], ◌∷◌, ◌++◌, length, take, refl, sym, ap, ◌∙◌, subst, arith, inl, inr, Option}
 use Rattle.std.proofs.lemmas.List.{append-nil, length-append, take_all}
 use Rattle.jpg_base.specs.declared.names.Got.TheVariants as got
@@ -8,27 +8,28 @@ use Rattle.jpg_base.specs.declared.names.Put.TheVariants as put
 use Rattle.jpg_base.specs.declared.names.Name.{Name}
 use Rattle.jpg_base.specs.Desk.{DeskState, NotesName, Reads}
 use Rattle.jpg_base.specs.Laws.{Grows}
-use Rattle.jpg_spec.specs.RowsShown.{picture_so_far, rows_text}
+use Rattle.jpg_spec.specs.RowsTold.{picture_so_far}
+use Rattle.jpg_spec_image.specs.RowsShown.{rows_text}
 use Rattle.jpg_spec.specs.RowsTold.{BeginsScanOfAll, CompletesRows}
 use Rattle.jpg_spec.specs.Segments.{standard_limits}
-use Rattle.jpg_spec.specs.declared.answers.FaultAt.{FaultAt}
-use Rattle.jpg_spec.specs.declared.answers.Why.{Why}
-use Rattle.jpg_spec.specs.declared.answers.Why.TheVariants as why
-use Rattle.jpg_spec.specs.declared.answers.Which.TheVariants as which
+use Rattle.jpg_spec.specs.declared.fault.FaultAt.{FaultAt}
+use Rattle.jpg_spec_words.specs.declared.answers.Why.{Why}
+use Rattle.jpg_spec_words.specs.declared.answers.Why.TheVariants as why
+use Rattle.jpg_spec_words.specs.declared.answers.Which.TheVariants as which
 use Rattle.jpg_spec.specs.declared.frame.Limits.{Limits}
-use Rattle.jpg_file.specs.ReadFile.{IsRefusal}
-use Rattle.jpg_file.specs.ReadRows.{AfterEndRow, HasReadAll, IsEarlyByRows, IsEarlyPlainly, RowReaderState}
-use Rattle.jpg_file.specs.declared.ends.End.TheVariants as ends
+use Rattle.jpg_file.specs.Read.ReadFile.{IsRefusal}
+use Rattle.jpg_file.specs.Read.ReadRows.{AfterEndRow, HasReadAll, IsEarlyByRows, IsEarlyPlainly, RowReaderState}
+use Rattle.jpg_file.specs.declared.read.ends.End.TheVariants as ends
 use Rattle.jpg_pnm_bmp.specs.EndState.{EndState}
 use Rattle.jpg_color.specs.StripImage.{Drawing}
 use Rattle.jpg_cli.specs.Endings.{Added}
-use Rattle.jpg_cli.specs.Reading.{rest_of}
-use Rattle.jpg_cli.specs.ReadPicture.{IsOpenRead, IsRefusedRead}
-use Rattle.jpg_cli.specs.Showing.{IsInTime, IsRowsText, IsShownByRows, IsShownUpTo, Showing, Shown, ShowsSoFar, all_bytes, bytes_before}
-use Rattle.jpg_cli.specs.ShowingRows.{AfterRows, AfterRowsEnd, GoesLater, GoesOnRows, HasCreated, HasShown, HasShownEarly, Head, StopsWith, at_work}
-use Rattle.jpg_cli.specs.declared.read_picture.Wanted.TheVariants.{Image}
-use Rattle.jpg_cli.specs.declared.show_rows.RowsStep.{RowsStep}
-use Rattle.jpg_cli.specs.declared.show_rows.RowsStep.TheVariants as step
+use Rattle.jpg_cli.specs.Desk.Reading.{rest_of}
+use Rattle.jpg_cli.specs.Desk.ReadPicture.{IsOpenRead, IsRefusedRead}
+use Rattle.jpg_cli.specs.Tools.Showing.{IsInTime, IsRowsText, IsShownByRows, IsShownUpTo, Showing, Shown, ShowsSoFar, all_bytes, bytes_before}
+use Rattle.jpg_cli.specs.Tools.ShowingRows.{AfterShownPiece, AfterRowsEnd, GoesLater, GoesOnRows, HasCreated, HasShown, HasShownEarly, Head, StopsWith, at_work}
+use Rattle.jpg_cli.specs.declared.desk.picture.Wanted.TheVariants.{Image}
+use Rattle.jpg_cli.specs.declared.tools.djpeg_rows.RowsStep.{RowsStep}
+use Rattle.jpg_cli.specs.declared.tools.djpeg_rows.RowsStep.TheVariants as step
 use Rattle.jpg_cli.proofs.CommentsCopied.{left_still, works_then}
 use Rattle.jpg_cli.proofs.Input.{none_left}
 use Rattle.jpg_cli.proofs.PictureBytes.{fault_at_end}
@@ -47,7 +48,7 @@ created_still s old start all written answer buf s0 s1 read left h = record {
   created = read.output_created ∙ h.created;
 }
 
--- the output holds the text of all MCU rows that are complete
+-- the output has the text of all MCU rows that are complete
 so_far : (s : Showing) (old start : DeskState) (h : Head) (all : List ℕ) (m : ℕ) (r : RowReaderState) (d : Drawing) (e : EndState) (s0 s1 : DeskState) (upto : List ℕ → List ℕ) (Is : List ℕ → Type 0) → upto all ≡ all → (k : HasShown s old start h all m (at_work r d e s0)) → HasCreated s old start all k.written s1
     → Is all → ShowsSoFar s upto Is old s1
 so_far s old start h all m r d e s0 s1 upto Is whole k desk is =
@@ -108,7 +109,7 @@ rows_at_end s old start h all m r d e buf (why.ReadFault u) s0 s1 read stops k =
 rows_at_end s old start h all m r d e buf why.WriteFault s0 s1 read stops k = absurd stops
 rows_at_end s old start h all m r d e buf why.NoMemory s0 s1 read stops k = absurd stops
 
--- or all MCU rows that are complete were drawn and written, where the input ended early
+-- or all MCU rows that are complete were drawn and written, if the input ended early
 ended_early : (s : Showing) (old start : DeskState) (h : Head) (all : List ℕ) (m n : ℕ) (r after : RowReaderState) (d : Drawing) (e : EndState) (buf : List ℕ) (s0 s1 : DeskState) → Reads s0 got.End buf s1 → after.limits ≡ r.limits
     → AfterEndRow all m (ends.Early n) after → HasShown s old start h all m (at_work r d e s0) → HasShownEarly s old start h all m n (at_work after d e s1)
 ended_early s old start h all m n r after d e buf s0 s1 read limits ended k = record {
@@ -130,11 +131,11 @@ ended_early s old start h all m n r after d e buf s0 s1 read limits ended k = re
     by (inr rows) = rows
 
 pub rows_end : (s : Showing) (old start : DeskState) (h : Head) (all : List ℕ) (m : ℕ) (r after : RowReaderState) (d : Drawing) (e : EndState) (buf : List ℕ) (st : RowsStep) (s0 s1 : DeskState) → Reads s0 got.End buf s1 → after.limits ≡ r.limits
-    → AfterRowsEnd all m st after → HasShown s old start h all m (at_work r d e s0) → AfterRows s old start h (all ++ []) st (at_work after d e s1)
+    → AfterRowsEnd all m st after → HasShown s old start h all m (at_work r d e s0) → AfterShownPiece s old start h (all ++ []) st (at_work after d e s1)
 rows_end s old start h all m r after d e buf step.More s0 s1 read limits ended k = absurd ended
 rows_end s old start h all m r after d e buf step.Whole s0 s1 read limits ended k = absurd ended
 rows_end s old start h all m r after d e buf (step.Early n) s0 s1 read limits ended k =
-    subst (λ l. AfterRows s old start h l (step.Early n) (at_work after d e s1)) (sym (append-nil all)) (m, ended_early s old start h all m n r after d e buf s0 s1 read limits ended k)
+    subst (λ l. AfterShownPiece s old start h l (step.Early n) (at_work after d e s1)) (sym (append-nil all)) (m, ended_early s old start h all m n r after d e buf s0 s1 read limits ended k)
 rows_end s old start h all m r after d e buf (step.Ended w) s0 s1 read limits ended k =
     rows_at_end s old start h all m r d e buf w s0 s1 read (subst (λ (l : Limits). StopsWith l all w) limits ended) k
 
@@ -161,7 +162,7 @@ rows_room s old start h all m r d e now room is k =
 
 -- more was taken
 pub goes_later : (s : Showing) (old start : DeskState) (h : Head) (all piece : List ℕ) (st : RowsStep) (r : RowReaderState) (d : Drawing) (e : EndState) (now : DeskState) (t : ℕ) → t ≡ length all → length all < standard_limits.input → 0 < length piece
-    → AfterRows s old start h (all ++ piece) st (at_work r d e now) → GoesLater t st r.file.reading.taken
+    → AfterShownPiece s old start h (all ++ piece) st (at_work r d e now) → GoesLater t st r.file.reading.taken
 goes_later s old start h all piece step.More r d e now t is short some (m, k) =
     let taken = taken_by_row r.limits (all ++ piece) r.file (k.read).begun.rows ((k.read).«open»).stands in (omega (arith, is, taken, some, length-append all piece), omega (arith, is, short))
 goes_later s old start h all piece step.Whole r d e now t is short some k = tt

@@ -1,16 +1,16 @@
--- Where rows begin, and the output isn't created, over the states that a desk tells.
+-- The case that rows begin and the output isn't created, over the states of a desk.
 use Rattle.std.proofs.Common.{ℕ, List, [], ◌∷◌, ◌∙◌, arith, inl, inr, Result}
 use Rattle.jpg_base.specs.declared.names.Put.TheVariants as put
 use Rattle.jpg_base.specs.declared.stop.Stop.{Stop}
 use Rattle.jpg_base.specs.Desk.{Creates, DeskState}
-use Rattle.jpg_spec.specs.declared.answers.Why.TheVariants as why
-use Rattle.jpg_spec.specs.declared.answers.Which.TheVariants as which
-use Rattle.jpg_file.specs.ReadRows.{RowReaderState}
-use Rattle.jpg_file.specs.declared.row_reader.FedRow.{FedRow}
-use Rattle.jpg_cli.specs.ReadPicture.{IsShortRead, ReadsFrom}
-use Rattle.jpg_cli.specs.Showing.{IsShownByRows, Showing, Shown}
-use Rattle.jpg_cli.specs.ShowingRows.{BeginsRows, HasOpened}
-use Rattle.jpg_cli.specs.declared.read_picture.Wanted.TheVariants.{Image}
+use Rattle.jpg_spec_words.specs.declared.answers.Why.TheVariants as why
+use Rattle.jpg_spec_words.specs.declared.answers.Which.TheVariants as which
+use Rattle.jpg_file.specs.Read.ReadRows.{RowReaderState}
+use Rattle.jpg_file.specs.declared.read.row_reader.FedRow.{FedRow}
+use Rattle.jpg_cli.specs.Desk.ReadPicture.{IsShortRead, ReadsFrom}
+use Rattle.jpg_cli.specs.Tools.Showing.{IsShownByRows, Showing, Shown}
+use Rattle.jpg_cli.specs.Tools.ShowingRows.{BeginsShownRows, HasOpened}
+use Rattle.jpg_cli.specs.declared.desk.picture.Wanted.TheVariants.{Image}
 use Rattle.jpg_cli.proofs.Endings.{asks_next}
 use Rattle.jpg_cli.proofs.Input.{file_read, noted}
 use Rattle.jpg_cli.proofs.PictureTaken.{stopped_there}
@@ -18,16 +18,16 @@ use Rattle.jpg_cli.proofs.RowsEnd.{shown_head}
 use Rattle.jpg_cli.proofs.RowsStand.{still_read}
 
 -- what was read
-abbrev opened_read : (s : Showing) (old start : DeskState) (all : List ℕ) (piece : List ℕ) (answer : Result FedRow Stop) (r : RowReaderState) (now : DeskState) (Is : List ℕ → Type 0) → BeginsRows s.gray all piece answer r → HasOpened s old start all now → Is all
+abbrev opened_read : (s : Showing) (old start : DeskState) (all : List ℕ) (piece : List ℕ) (answer : Result FedRow Stop) (r : RowReaderState) (now : DeskState) (Is : List ℕ → Type 0) → BeginsShownRows s.gray all piece answer r → HasOpened s old start all now → Is all
     → ReadsFrom s.input Is old now
 opened_read s old start all piece answer r now Is k h is = record { bytes = all; read = file_read old.files s.input start.left now.left all (h.opened).after.2 h.left; most = (k.rows).most; is = is }
 
 -- NO MEMORY for an image
-pub no_image : (s : Showing) (old start : DeskState) (all : List ℕ) (piece : List ℕ) (answer : Result FedRow Stop) (r : RowReaderState) (now : DeskState) → BeginsRows s.gray all piece answer r → HasOpened s old start all now → Shown s old why.NoMemory now
+pub no_image : (s : Showing) (old start : DeskState) (all : List ℕ) (piece : List ℕ) (answer : Result FedRow Stop) (r : RowReaderState) (now : DeskState) → BeginsShownRows s.gray all piece answer r → HasOpened s old start all now → Shown s old why.NoMemory now
 no_image s old start all piece answer r now k h = inl (stopped_there old start now s.input h.opened h.reads, opened_read s old start all piece answer r now (IsShortRead (Image s.gray)) k h (k.rows).short)
 
 -- NO OUTPUT
-pub no_output : (s : Showing) (old start : DeskState) (all : List ℕ) (piece : List ℕ) (answer : Result FedRow Stop) (r : RowReaderState) (now new : DeskState) → BeginsRows s.gray all piece answer r → HasOpened s old start all now → Creates now s.output put.Failed new
+pub no_output : (s : Showing) (old start : DeskState) (all : List ℕ) (piece : List ℕ) (answer : Result FedRow Stop) (r : RowReaderState) (now new : DeskState) → BeginsShownRows s.gray all piece answer r → HasOpened s old start all now → Creates now s.output put.Failed new
     → Shown s old (why.OpenFault which.Output) new
 no_output s old start all piece answer r now new k h made = (
   record {

@@ -1,4 +1,4 @@
--- An output that was created while its input is read, over the states that a desk tells.
+-- An output that was created while its input is read, over the states of a desk.
 use Rattle.std.proofs.Common.{ℕ, ◌≤◌, List, [], ◌∷◌, ◌++◌, length, Option, None, Some, sym, ap, ◌∙◌, subst}
 use Rattle.jpg_base.specs.declared.names.Name.{Name}
 use Rattle.jpg_base.specs.declared.names.Put.{Put}
@@ -8,9 +8,9 @@ use Rattle.jpg_base.specs.Laws.{Grows}
 use Rattle.jpg_huff.specs.Out.{OnlyWrites}
 use Rattle.jpg_spec.specs.Segments.{standard_limits}
 use Rattle.jpg_cli.specs.Endings.{Added}
-use Rattle.jpg_cli.specs.ReadPicture.{ReadsFrom}
-use Rattle.jpg_cli.specs.Showing.{Showing}
-use Rattle.jpg_cli.specs.ShowingRows.{HasCreated}
+use Rattle.jpg_cli.specs.Desk.ReadPicture.{ReadsFrom}
+use Rattle.jpg_cli.specs.Tools.Showing.{Showing}
+use Rattle.jpg_cli.specs.Tools.ShowingRows.{HasCreated}
 use Rattle.jpg_cli.specs.Stays.{OnlyWorks}
 use Rattle.jpg_cli.proofs.CommentsCopied.{left_still, works_then}
 use Rattle.jpg_cli.proofs.Endings.{asks_next}

@@ -1,39 +1,40 @@
--- What an answer of the reader comes to, where no further MCU row is whole and all that waited is written.
+-- What follows from a reader's answer, if no further MCU row is complete and all that waited is written.
 use Rattle.std.proofs.Common.{◌≡◌, ℕ, ◌≤◌, Bool, List, [], ◌∷◌, ◌++◌, length, take, drop, refl, sym, ap, ◌∙◌, subst, arith, inl, inr, Some, Result, Ok, Err}
 use Rattle.std.proofs.lemmas.List.{append_assoc, append-nil, length-append, length-take-le, take-append-drop}
 use Rattle.jpg_base.specs.Desk.{AppendsLast, DeskState}
 use Rattle.jpg_base.specs.declared.stop.Stop.{Stop}
 use Rattle.jpg_base.specs.declared.stop.Stop.TheVariants as stop
-use Rattle.jpg_spec.specs.FileStands.{IsWholeFile}
+use Rattle.jpg_spec.specs.UnfinishedFile.{IsWholeFile}
 use Rattle.jpg_spec.specs.Meaning.{Meaning}
-use Rattle.jpg_spec.specs.RowsShown.{picture_so_far, rows_text}
+use Rattle.jpg_spec.specs.RowsTold.{picture_so_far}
+use Rattle.jpg_spec_image.specs.RowsShown.{rows_text}
 use Rattle.jpg_spec.specs.RowsTold.{BeginsScanOfAll, CompletesRows, TellsRows}
 use Rattle.jpg_spec.specs.Scan.{Blocks}
 use Rattle.jpg_spec.specs.Markers.{Segment}
-use Rattle.jpg_spec.specs.NotShown.{colours_behind, factors_behind}
-use Rattle.jpg_spec.specs.Pixels.{out_fault_of}
+use Rattle.jpg_spec.specs.InForce.{colours_after, factors_after}
+use Rattle.jpg_spec_image.specs.Pixels.{out_fault_of}
 use Rattle.jpg_spec.proofs.RowsOnce.{rows_once, rows_stay}
 use Rattle.jpg_spec.specs.Segments.{standard_limits}
-use Rattle.jpg_spec.specs.declared.answers.FaultAt.{FaultAt}
-use Rattle.jpg_spec.specs.declared.answers.Why.TheVariants as why
+use Rattle.jpg_spec.specs.declared.fault.FaultAt.{FaultAt}
+use Rattle.jpg_spec_words.specs.declared.answers.Why.TheVariants as why
 use Rattle.jpg_spec.specs.declared.frame.Limits.{Limits}
-use Rattle.jpg_spec.specs.declared.image.ImageInfo.{ImageInfo}
-use Rattle.jpg_file.specs.ReadFile.{IsStopOf}
-use Rattle.jpg_file.specs.ReadRows.{AfterFeedRow, HasReadRows, RowReaderState, StopsRows}
-use Rattle.jpg_file.specs.RowsNone.{HasNoRows}
-use Rattle.jpg_file.specs.declared.row_reader.FedRow.{FedRow}
-use Rattle.jpg_file.specs.declared.row_reader.FedRow.TheVariants as fed
+use Rattle.jpg_spec_image.specs.declared.image.ImageInfo.{ImageInfo}
+use Rattle.jpg_file.specs.Read.ReadFile.{IsStopOf}
+use Rattle.jpg_file.specs.Read.ReadRows.{AfterFeedRow, HasReadRows, RowReaderState, StopsRows}
+use Rattle.jpg_file.specs.Read.RowsNone.{HasNoRows}
+use Rattle.jpg_file.specs.declared.read.row_reader.FedRow.{FedRow}
+use Rattle.jpg_file.specs.declared.read.row_reader.FedRow.TheVariants as fed
 use Rattle.jpg_pnm_bmp.specs.EndState.{EndState}
-use Rattle.jpg_color.specs.DecodeRows.{Sends}
+use Rattle.jpg_color.specs.DecodeRows.{SendsImage}
 use Rattle.jpg_color.specs.declared.decode.DecodeStop.{DecodeStop}
-use Rattle.jpg_color.specs.Shown.{IsShowable, Shown as Strips, StandsFor, picture_of, ready_rows}
+use Rattle.jpg_color.specs.Shown.{IsShowable, ShownState as Strips, StandsForPicture, picture_of, rows_made_ready}
 use Rattle.jpg_color.specs.StripImage.{Drawing, IsDrawnTo, IsEndOf}
 use Rattle.jpg_cli.specs.Endings.{Added}
-use Rattle.jpg_cli.specs.Reading.{rest_of}
-use Rattle.jpg_cli.specs.ReadPicture.{IsRefusedRead, IsUnwanted}
-use Rattle.jpg_cli.specs.Showing.{IsInTime, IsRowsText, IsShownByRows, IsShownUpTo, Showing, Shown, bytes_before}
-use Rattle.jpg_cli.specs.ShowingRows.{AfterRows, HasCreated, HasFedRows, HasShown, HasShownAll, Head, IsDrawing, IsHeadIn, IsLast, IsShowing, last_step, why_of, at_work}
-use Rattle.jpg_cli.specs.declared.read_picture.Wanted.TheVariants.{Image}
+use Rattle.jpg_cli.specs.Desk.Reading.{rest_of}
+use Rattle.jpg_cli.specs.Desk.ReadPicture.{IsRefusedRead, IsUnwanted}
+use Rattle.jpg_cli.specs.Tools.Showing.{IsInTime, IsRowsText, IsShownByRows, IsShownUpTo, Showing, Shown, bytes_before}
+use Rattle.jpg_cli.specs.Tools.ShowingRows.{AfterShownPiece, HasCreated, HasFedRows, HasShown, HasShownAll, Head, IsDrawing, IsHeadIn, IsLastPiece, IsShowing, last_step, why_of, at_work}
+use Rattle.jpg_cli.specs.declared.desk.picture.Wanted.TheVariants.{Image}
 use Rattle.jpg_cli.proofs.FirstRead.{HasBegun, not_shown, plain_whole}
 use Rattle.jpg_cli.proofs.PictureBytes.{stop_within}
 use Rattle.jpg_cli.proofs.RowHeads.{begins_more, one_head}
@@ -43,7 +44,7 @@ use Rattle.jpg_cli.proofs.RowsWhole.{fits_whole}
 
 -- WHAT WAITED IS WRITTEN
 
--- an image that differs in what waits alone draws the same
+-- an image that differs only in what waits draws the same
 pub drawn_still : (d new : Drawing) (e : EndState) (M : Meaning) (gray smooth : Bool) (m : ℕ) → new.strips ≡ d.strips → new.info ≡ d.info → IsDrawnTo d e M gray smooth m → IsDrawnTo new e M gray smooth m
 drawn_still d new e M gray smooth m x i h = record {
   image = record {
@@ -56,7 +57,7 @@ drawn_still d new e M gray smooth m x i h = record {
   };
   pushed = ap (λ (t : Strips). t.pushed) x ∙ h.pushed;
   given = ap (λ (t : Strips). t.given) x ∙ h.given;
-  stands = subst (λ (t : Strips). StandsFor t M.blocks) (sym x) h.stands;
+  stands = subst (λ (t : Strips). StandsForPicture t M.blocks) (sym x) h.stands;
   end = h.end;
 }
 
@@ -76,7 +77,7 @@ drawing_written s h all m written d new e x i none k =
     record {
       kind = k.kind;
       framed = ap (λ (t : Strips). t.display.frame) x ∙ k.framed;
-      given = ap (λ (t : Strips). t.given) x ∙ k.given ∙ sym (ap (λ (t : Strips). ready_rows t.display t.pushed) x);
+      given = ap (λ (t : Strips). t.given) x ∙ k.given ∙ sym (ap (λ (t : Strips). rows_made_ready t.display t.pushed) x);
       end = end_still d new e x i k.end;
       blocks = k.blocks;
       told = k.told;
@@ -104,7 +105,7 @@ refused_rows gray h all fed piece f cut few k stops late rest = record {
 not_plain : (h : Head) (all : List ℕ) (gray : Bool) (limits : Limits) → limits ≡ standard_limits → IsHeadIn gray h all → HasNoRows limits all → ⊥
 not_plain h all gray limits e k none = none h.before h.contents (subst (λ (l : Limits). BeginsScanOfAll l all h.before h.contents) (sym e) k.begins)
 
--- the rows that some first bytes complete
+-- the rows that a prefix of the bytes completes
 record CompletesFront (bytes : List ℕ) (m : ℕ) : Type 0 where
   pub before : List Segment
   pub contents : List ℕ
@@ -121,7 +122,7 @@ stopped_front bytes m r e k = record {
   completed = subst (λ (l : Limits). CompletesRows l bytes m k.blocks) e k.completed;
 }
 
--- are those that were told, of the same scan
+-- are those that were decoded, of the same scan
 shown_front : (s : Showing) (h : Head) (all : List ℕ) (n m : ℕ) (blocks : Blocks) → IsHeadIn s.gray h all → TellsRows standard_limits all m blocks → CompletesFront (take n all) m
     → IsShownByRows s.gray (take n all) × IsRowsText s (take n all) (rows_text s.kind (picture_so_far standard_limits h.before h.contents blocks) s.gray s.smooth m)
 shown_front s h all n m blocks head told k =
@@ -134,7 +135,7 @@ shown_front s h all n m blocks head told k =
         before = k.before;
         contents = k.contents;
         begins = k.begins;
-        shown = ap (λ (b : List Segment). out_fault_of (colours_behind standard_limits b) s.gray (factors_behind standard_limits b)) one.0 ∙ head.shown;
+        shown = ap (λ (b : List Segment). out_fault_of (colours_after standard_limits b) s.gray (factors_after standard_limits b)) one.0 ∙ head.shown;
       },
       record {
         before = k.before;
@@ -151,7 +152,7 @@ shown_front s h all n m blocks head told k =
     )
 
 pub rows_ended : (s : Showing) (old start : DeskState) (h : Head) (all : List ℕ) (m : ℕ) (piece : List ℕ) (answer : Result FedRow Stop) (r : RowReaderState) (d : Drawing) (e : EndState) (written : List ℕ) (now : DeskState)
-    → IsLast answer → HasFedRows s.gray h all m piece answer r → IsDrawing s h all m written d e → d.out ≡ [] → HasCreated s old start all written now → IsInTime s all written → AfterRows s old start h all (last_step answer) (at_work r d e now)
+    → IsLastPiece answer → HasFedRows s.gray h all m piece answer r → IsDrawing s h all m written d e → d.out ≡ [] → HasCreated s old start all written now → IsInTime s all written → AfterShownPiece s old start h all (last_step answer) (at_work r d e now)
 rows_ended s old start h all m piece (Ok fed.More) r d e written now last k drawing out desk early = by k.after
   where
     by : AfterFeedRow k.fed m piece (Ok fed.More) r → (n : ℕ) × HasShown s old start h all n (at_work r d e now)
@@ -232,7 +233,7 @@ all_gone : (out gone rest : List ℕ) → rest ≡ [] → out ++ [] ≡ gone ++ 
 all_gone out gone rest none e = sym (append-nil gone) ∙ ap (λ l. gone ++ l) (sym none) ∙ sym e ∙ append-nil out
 
 pub rows_written : (s : Showing) (old start : DeskState) (h : Head) (all : List ℕ) (m : ℕ) (piece : List ℕ) (answer : Result FedRow Stop) (r : RowReaderState) (d new : Drawing) (e : EndState) (s0 s1 : DeskState)
-    → IsLast answer → new.strips ≡ d.strips → new.info ≡ d.info → new.out ≡ [] → Sends s0 d.out [] (Ok tt) new.out s1 → IsShowing s old start h all m piece answer (at_work r d e s0) → AfterRows s old start h all (last_step answer) (at_work r new e s1)
+    → IsLastPiece answer → new.strips ≡ d.strips → new.info ≡ d.info → new.out ≡ [] → SendsImage s0 d.out [] (Ok tt) new.out s1 → IsShowing s old start h all m piece answer (at_work r d e s0) → AfterShownPiece s old start h all (last_step answer) (at_work r new e s1)
 rows_written s old start h all m piece answer r d new e s0 s1 last x i none sent k =
     let gone = (sent.bytes).0 in
     let same = all_gone d.out gone new.out none (sent.bytes).2 in
@@ -243,7 +244,7 @@ rows_written s old start h all m piece answer r d new e s0 s1 last x i none sent
 
 -- or it isn't all
 pub rows_unwritten : (s : Showing) (old start : DeskState) (h : Head) (all : List ℕ) (m : ℕ) (piece : List ℕ) (answer : Result FedRow Stop) (r : RowReaderState) (d : Drawing) (e : EndState) (new : List ℕ) (ended : DecodeStop) (s0 s1 : DeskState)
-    → Sends s0 d.out [] (Err ended) new s1 → IsShowing s old start h all m piece answer (at_work r d e s0) → Shown s old (why_of (Err ended)) s1
+    → SendsImage s0 d.out [] (Err ended) new s1 → IsShowing s old start h all m piece answer (at_work r d e s0) → Shown s old (why_of (Err ended)) s1
 rows_unwritten s old start h all m piece answer r d e new ended s0 s1 sent k =
     let picture = picture_so_far standard_limits h.before h.contents (k.drawing).blocks in
     let text = rows_text s.kind picture s.gray s.smooth m in

@@ -1,45 +1,46 @@
--- The image of a whole file whose MCU rows were all shown is ended.
+-- The image of a complete file whose MCU rows were all drawn is completed.
 use Rattle.std.proofs.Common.{◌≡◌, ℕ, ◌+◌, ◌≤◌, List, [], ◌∷◌, ◌++◌, length, take, refl, sym, ap, ◌∙◌, subst, arith, inl, inr, Option, Some, None, Result, Ok, Err}
 use Rattle.std.specs.Prelude.{IfOk}
 use Rattle.std.proofs.lemmas.List.{append_assoc, append-nil, length-append, take_all, take-append-le}
 use Rattle.jpg_base.specs.Desk.{AppendsLast, DeskState}
 use Rattle.jpg_huff.specs.Out.{OnlyWrites}
-use Rattle.jpg_spec.specs.FileStands.{IsWholeFile}
-use Rattle.jpg_spec.specs.ImageText.{end_text}
+use Rattle.jpg_spec.specs.UnfinishedFile.{IsWholeFile}
+use Rattle.jpg_spec_image.specs.ImageText.{end_text}
 use Rattle.jpg_spec.specs.Meaning.{Meaning}
-use Rattle.jpg_spec.specs.Pixels.{info, out_fault, pixels}
-use Rattle.jpg_spec.specs.RowLaws.{CompletesAll, IsReadByRows}
+use Rattle.jpg_spec_image.specs.Pixels.{info, out_fault, pixels}
+use Rattle.jpg_spec_image.specs.RowLaws.{CompletesAll}
+use Rattle.jpg_spec.specs.RowLaws.{IsReadByRows}
 use Rattle.jpg_spec.specs.RowsTold.{BeginsScanOfAll, CompletesRows, TellsRows}
-use Rattle.jpg_spec.specs.RowsShown.{rows_text}
+use Rattle.jpg_spec_image.specs.RowsShown.{rows_text}
 use Rattle.jpg_spec.specs.Scan.{Blocks}
 use Rattle.jpg_spec.specs.Segments.{standard_limits}
-use Rattle.jpg_spec.specs.Strips.{mcu_rows}
+use Rattle.jpg_spec_image.specs.Strips.{mcu_rows}
 use Rattle.jpg_spec.specs.declared.fault.Fault.{Fault}
 use Rattle.jpg_spec.specs.declared.frame.Limits.{Limits}
-use Rattle.jpg_spec.specs.declared.image.EndKind.{EndKind}
-use Rattle.jpg_spec.proofs.RowsCompleted.{complete_all}
-use Rattle.jpg_spec.proofs.RowsImage.{image_so_far}
+use Rattle.jpg_spec_image.specs.declared.image.EndKind.{EndKind}
+use Rattle.jpg_spec_image.proofs.RowsCompleted.{complete_all}
+use Rattle.jpg_spec_image.proofs.RowsImage.{image_so_far}
 use Rattle.jpg_spec.proofs.RowsOnce.{completed_once, rows_once, rows_stay}
-use Rattle.jpg_spec.proofs.ShownAlike.{shown_alike}
-use Rattle.jpg_file.specs.ReadRows.{RowReaderState}
+use Rattle.jpg_spec_image.proofs.ShownAlike.{shown_alike}
+use Rattle.jpg_file.specs.Read.ReadRows.{RowReaderState}
 use Rattle.jpg_pnm_bmp.specs.EndState.{EndState}
-use Rattle.jpg_color.specs.DecodeRows.{Sends}
-use Rattle.jpg_color.specs.StripImage.{Drawing, EndsDrawing, IsDrawnTo, IsWhole, rest_text}
+use Rattle.jpg_color.specs.DecodeRows.{SendsImage}
+use Rattle.jpg_color.specs.StripImage.{Drawing, EndsDrawing, IsDrawnTo, IsAllGiven, rest_text}
 use Rattle.jpg_color.specs.declared.decode.DecodeStop.{DecodeStop}
 use Rattle.jpg_color.specs.declared.decode.DecodeStop.TheVariants as stop
 use Rattle.jpg_color.proofs.Drawn.{all_same}
 use Rattle.jpg_color.proofs.DrawnLaws.{texts_join}
 use Rattle.jpg_cli.specs.Endings.{Added}
-use Rattle.jpg_cli.specs.ReadPicture.{IsWholeRead}
-use Rattle.jpg_cli.specs.Showing.{IsInTime, ReadsShown, Showing, Shown, shown_text}
-use Rattle.jpg_cli.specs.ShowingRows.{HasCreated, HasShownAll, Head, why_of, at_work}
-use Rattle.jpg_cli.specs.declared.read_picture.Wanted.TheVariants.{Image}
+use Rattle.jpg_cli.specs.Desk.ReadPicture.{IsWholeRead}
+use Rattle.jpg_cli.specs.Tools.Showing.{IsInTime, ReadsShown, Showing, Shown, shown_text}
+use Rattle.jpg_cli.specs.Tools.ShowingRows.{HasCreated, HasShownAll, Head, why_of, at_work}
+use Rattle.jpg_cli.specs.declared.desk.picture.Wanted.TheVariants.{Image}
 use Rattle.jpg_cli.proofs.FirstRead.{not_shown}
 use Rattle.jpg_cli.proofs.RowsDesk.{created_added, created_more, created_read}
 use Rattle.jpg_cli.proofs.RowsStopped.{first_part, rose_since}
 use Rattle.jpg_cli.proofs.RowsWhole.{begins_in, read_by_rows, so_far}
 
--- THE FILE: the image of the rows that were told is that of its picture
+-- THE FILE: the image of the decoded rows is that of its picture
 
 pub record IsShownWhole (s : Showing) (h : Head) (all : List ℕ) (m : ℕ) (blocks : Blocks) (M : Meaning) : Type 0 where
   pub whole : IsWholeRead (Image s.gray) M all
@@ -103,7 +104,7 @@ shown_whole s old start h all m r d e now k = record {
         let t = (shown_alike standard_limits s.gray k.front M (inl whole.0)).told fault is in
         absurd (not_shown s.gray k.front t.0 t.1 (record { before = h.before; contents = h.contents; begins = begins; shown = (k.head).shown }))
 
-pub all_told : (s : Showing) (old start : DeskState) (h : Head) (all : List ℕ) (m : ℕ) (r : RowReaderState) (d : Drawing) (e : EndState) (now : DeskState) → HasShownAll s old start h all m (at_work r d e now) → IsWhole d.strips
+pub all_told : (s : Showing) (old start : DeskState) (h : Head) (all : List ℕ) (m : ℕ) (r : RowReaderState) (d : Drawing) (e : EndState) (now : DeskState) → HasShownAll s old start h all m (at_work r d e now) → IsAllGiven d.strips
 all_told s old start h all m r d e now k = record {
   given = (k.drawing).given;
   all =
@@ -113,7 +114,7 @@ all_told s old start h all m r d e now k = record {
 
 -- ITS END
 
--- what was written, what waits and what stands after the rows is the text of the image
+-- what was written, what waits and what follows the rows are the text of the image
 pub record IsEndOfText (s : Showing) (M : Meaning) (all written due : List ℕ) : Type 0 where
   pub most : length all ≤ standard_limits.input
   pub whole : IsWholeRead (Image s.gray) M all
@@ -131,7 +132,7 @@ image_part s old start M all written due n s0 s1 h desk only gone =
     )
 
 image_ended : (s : Showing) (old start : DeskState) (M : Meaning) (all written out due : List ℕ) (result : Result (Unit {0}) DecodeStop) (new : List ℕ) (s0 s1 : DeskState) → IsEndOfText s M all written (out ++ due) → IsInTime s all written
-    → HasCreated s old start all written s0 → Sends s0 out due result new s1 → IfOk result (λ u. new ≡ []) → Shown s old (why_of result) s1
+    → HasCreated s old start all written s0 → SendsImage s0 out due result new s1 → IfOk result (λ u. new ≡ []) → Shown s old (why_of result) s1
 image_ended s old start M all written out due (Ok u) new s0 s1 h early desk sent none =
     let gone = (sent.bytes).0 in
     let same : gone ≡ out ++ due = sym (append-nil gone) ∙ ap (λ l. gone ++ l) (sym none) ∙ sym (sent.bytes).2 in
@@ -164,7 +165,7 @@ rows_finished s old start h all m r d e now result new new_end s1 ends k =
     let w = shown_whole s old start h all m r d e now k in
     let drawn = subst (λ n. IsDrawnTo d e P s.gray s.smooth n) w.rows (k.drawing).drawn in
     let rest = rest_text s.kind P s.gray s.smooth in
-    let sent = subst (λ (kind : EndKind). Sends now d.out (rest_text kind P s.gray s.smooth) result new.out s1) (k.drawing).kind (ends.drawn P s.gray s.smooth drawn) in
+    let sent = subst (λ (kind : EndKind). SendsImage now d.out (rest_text kind P s.gray s.smooth) result new.out s1) (k.drawing).kind (ends.drawn P s.gray s.smooth drawn) in
     let join = texts_join d P s.gray s.smooth s.kind ((k.drawing).drawn).image in
     let text : k.written ++ (d.out ++ rest) ≡ shown_text s M =
     sym (append_assoc k.written d.out rest) ∙ ap (λ l. l ++ rest) ((k.drawing).text ∙ ap (λ n. rows_text s.kind P s.gray s.smooth n) w.rows) ∙ join.whole ∙ w.text in

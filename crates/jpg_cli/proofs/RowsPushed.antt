@@ -1,4 +1,4 @@
--- One MCU row more is drawn: it is given to the image, and the reader is asked for the next one.
+-- One more MCU row is drawn: it is passed to the image, and the reader is asked for the next one.
 use Rattle.std.proofs.Common.{◌≡◌, ℕ, ◌+◌, ◌-◌, ◌<◌, ◌≤◌, Bool, List, [], ◌++◌, length, take, drop, refl, sym, ap, ◌∙◌, subst, arith, inr, Some, Result, Ok, Err}
 use Rattle.std.proofs.lemmas.List.{append_assoc, append-nil, length-append, length-drop, take_all, take-append-drop}
 use Rattle.jpg_base.specs.Desk.{DeskState}
@@ -8,27 +8,27 @@ use Rattle.jpg_spec.specs.InForce.{frame_of}
 use Rattle.jpg_spec.specs.Meaning.{Meaning}
 use Rattle.jpg_spec.specs.Ranges.{AreInRange}
 use Rattle.jpg_spec.specs.RowsTold.{BeginsScanOfAll, TellsRows}
-use Rattle.jpg_spec.specs.RowsShown.{rows_text}
+use Rattle.jpg_spec_image.specs.RowsShown.{rows_text}
 use Rattle.jpg_spec.specs.Scan.{Blocks}
 use Rattle.jpg_spec.specs.Segments.{standard_limits}
-use Rattle.jpg_spec.specs.Strips.{mcu_rows}
+use Rattle.jpg_spec_image.specs.Strips.{mcu_rows}
 use Rattle.jpg_spec.specs.declared.frame.Limits.{Limits}
-use Rattle.jpg_spec.specs.declared.image.EndKind.{EndKind}
+use Rattle.jpg_spec_image.specs.declared.image.EndKind.{EndKind}
 use Rattle.jpg_spec.proofs.RowsOnce.{rows_stay}
 use Rattle.jpg_coefs.specs.Picture.{Picture as Coefs, map_of}
-use Rattle.jpg_file.specs.ReadRows.{AfterFeedRow, AreOfRow, FeedsRow, HasGivenRow, RowReaderState}
-use Rattle.jpg_file.specs.declared.row_reader.FedRow.{FedRow}
-use Rattle.jpg_file.specs.declared.row_reader.FedRow.TheVariants as fed
-use Rattle.jpg_file.specs.declared.rows.RowWork.{RowWork}
+use Rattle.jpg_file.specs.Read.ReadRows.{AfterFeedRow, AreOfRow, FeedsRow, HasGivenRow, RowReaderState}
+use Rattle.jpg_file.specs.declared.read.row_reader.FedRow.{FedRow}
+use Rattle.jpg_file.specs.declared.read.row_reader.FedRow.TheVariants as fed
+use Rattle.jpg_file.specs.declared.read.rows.RowWork.{RowWork}
 use Rattle.jpg_pnm_bmp.specs.EndState.{EndState}
-use Rattle.jpg_color.specs.DecodeRows.{Sends}
-use Rattle.jpg_color.specs.Shown.{Display, IsDue, IsMcuRow, all_rows}
+use Rattle.jpg_color.specs.DecodeRows.{SendsImage}
+use Rattle.jpg_color.specs.Shown.{Display, IsNextRowDue, IsMcuRow, all_rows}
 use Rattle.jpg_color.specs.StripImage.{Drawing, DrawsMore, DrawsRow, IsDrawnTo, next_text}
 use Rattle.jpg_color.specs.declared.decode.DecodeStop.{DecodeStop}
 use Rattle.jpg_color.proofs.Drawn.{all_same}
 use Rattle.jpg_color.proofs.DrawnLaws.{drawn_alike, texts_join}
-use Rattle.jpg_cli.specs.Showing.{Showing, Shown}
-use Rattle.jpg_cli.specs.ShowingRows.{HasFedRows, Head, IsDrawing, IsHeadIn, IsShowing, why_of, at_work}
+use Rattle.jpg_cli.specs.Tools.Showing.{Showing, Shown}
+use Rattle.jpg_cli.specs.Tools.ShowingRows.{HasFedRows, Head, IsDrawing, IsHeadIn, IsShowing, why_of, at_work}
 use Rattle.jpg_cli.proofs.RowHeads.{one_head}
 use Rattle.jpg_cli.proofs.RowsAgree.{agree_first, row_shown, same_text}
 use Rattle.jpg_cli.proofs.RowsDesk.{created_more}
@@ -46,7 +46,7 @@ pub record IsNextRow (h : Head) (all : List ℕ) (m : ℕ) (q : Coefs) : Type 0 
   pub range : AreInRange (bounds (frame_of standard_limits h.before)) (map_of q)
   pub row : AreOfRow (frame_of standard_limits h.before) m q blocks
 
--- what it was fed up to it
+-- the bytes that it was fed up to that row
 abbrev up_to : List ℕ → List ℕ → ℕ → List ℕ
 up_to before piece used = before ++ take used piece
 
@@ -96,7 +96,7 @@ next_row gray h all m piece used r q k lent =
 -- BEFORE IT IS DRAWN
 
 -- it is one that the image waits for
-pub row_due : (s : Showing) (h : Head) (all : List ℕ) (m : ℕ) (written : List ℕ) (q : Coefs) (d : Drawing) (e : EndState) → IsHeadIn s.gray h all → IsNextRow h all m q → IsDrawing s h all m written d e → IsDue d.strips
+pub row_due : (s : Showing) (h : Head) (all : List ℕ) (m : ℕ) (written : List ℕ) (q : Coefs) (d : Drawing) (e : EndState) → IsHeadIn s.gray h all → IsNextRow h all m q → IsDrawing s h all m written d e → IsNextRowDue d.strips
 row_due s h all m written q d e head k w =
     let few : m + 1 ≤ mcu_rows (so_far h w.blocks) = few_told h all (m + 1) k.blocks w.blocks head.begins k.told in
     let all_are = all_same d (so_far h w.blocks) s.gray s.smooth (w.drawn).image in
@@ -109,13 +109,13 @@ row_framed s h all m written q d e k w = record {
   range = subst (λ (x : Frame). AreInRange (bounds x) (map_of q)) (sym w.framed) k.range;
 }
 
--- WHAT IT ADDS, of the picture that has its blocks too
+-- WHAT IT ADDS, of the picture that has its blocks as well
 
 pub record IsMoreDrawn (s : Showing) (h : Head) (all : List ℕ) (m : ℕ) (written : List ℕ) (q : Coefs) (d : Drawing) (e : EndState) (s0 : DeskState) (result : Result (Unit {0}) DecodeStop) (new : Drawing) (new_end : EndState) (s1 : DeskState) : Type 0 where
   pub next : IsNextRow h all m q
   pub due : List ℕ
   pub more : DrawsMore s0 d e (so_far h next.blocks) s.gray s.smooth m result new new_end s1
-  pub sent : Sends s0 d.out due result new.out s1
+  pub sent : SendsImage s0 d.out due result new.out s1
   pub text : written ++ (d.out ++ due) ≡ rows_text s.kind (so_far h next.blocks) s.gray s.smooth (m + 1)
 
 pub more_drawn : (s : Showing) (h : Head) (all : List ℕ) (m : ℕ) (written : List ℕ) (q : Coefs) (d : Drawing) (e : EndState) (s0 : DeskState) (result : Result (Unit {0}) DecodeStop) (new : Drawing) (new_end : EndState) (s1 : DeskState)
@@ -135,8 +135,8 @@ more_drawn s h all m written q d e s0 result new new_end s1 head k w draws = rec
     next : List ℕ
     next = next_text s.kind P s.gray s.smooth m
 
-    sent : Sends s0 d.out next result new.out s1
-    sent = subst (λ (kind : EndKind). Sends s0 d.out (next_text kind P s.gray s.smooth m) result new.out s1) w.kind more.sent
+    sent : SendsImage s0 d.out next result new.out s1
+    sent = subst (λ (kind : EndKind). SendsImage s0 d.out (next_text kind P s.gray s.smooth m) result new.out s1) w.kind more.sent
 
     few : m + 1 ≤ mcu_rows P
     few = few_told h all (m + 1) k.blocks k.blocks head.begins k.told
@@ -223,7 +223,7 @@ row_here s old start h all m piece answer used r d e now is k = subst (λ (a : R
 
 -- a row that waits at this answer, and its place in the piece
 pub record IsAtRow (s : Showing) (h : Head) (piece : List ℕ) (used : ℕ) (r : RowReaderState) (q : Coefs) (d : Drawing) (e : EndState) (now : DeskState) : Type 0 where
-  pub due : IsDue d.strips
+  pub due : IsNextRowDue d.strips
   pub row : IsMcuRow d.strips.display.frame q
   pub within : used ≤ length piece
 
@@ -249,8 +249,8 @@ row_then s old start h all m piece used rest result u answer r after q d new e n
     (row_drawn s old start h all m piece used answer r after q d new e new_end s0 s1 lent (subst (λ (x : Result (Unit {0}) DecodeStop). DrawsRow s0 d e q x new new_end s1) done draws)
     (subst (λ l. FeedsRow r l answer after) same feeds) limits k)
 
--- the image waits for one row less
-pub less_rows : (d new : Drawing) (e new_end : EndState) (q : Coefs) (result : Result (Unit {0}) DecodeStop) (u : Unit {0}) (s0 s1 : DeskState) → IsDue d.strips → result ≡ Ok u → DrawsRow s0 d e q result new new_end s1
+-- the image waits for one fewer row
+pub less_rows : (d new : Drawing) (e new_end : EndState) (q : Coefs) (result : Result (Unit {0}) DecodeStop) (u : Unit {0}) (s0 s1 : DeskState) → IsNextRowDue d.strips → result ≡ Ok u → DrawsRow s0 d e q result new new_end s1
     → all_rows new.strips.display - new.strips.pushed < all_rows d.strips.display - d.strips.pushed
 less_rows d new e new_end q result u s0 s1 due done draws =
     let so = subst (λ (x : Result (Unit {0}) DecodeStop). DrawsRow s0 d e q x new new_end s1) done draws in

@@ -1,4 +1,4 @@
--- One piece more of a file whose rows are shown.
+-- One more piece of a file that is written row by row.
 use Rattle.std.proofs.Common.{◌≡◌, ℕ, ◌+◌, ◌<◌, ◌≤◌, Bool, List, [], ◌++◌, length, take, drop, refl, sym, ap, ◌∙◌, subst, arith, inl, inr, ◌⊎◌, Option, None, Result, Ok, Err}
 use Rattle.std.specs.List.{All}
 use Rattle.std.proofs.lemmas.Bool.{cases_lt}
@@ -12,28 +12,29 @@ use Rattle.jpg_base.specs.declared.stop.Stop.{Stop}
 use Rattle.jpg_base.specs.declared.stop.Stop.TheVariants as stop
 use Rattle.jpg_base.specs.Desk.{DeskState, NotesName, Reads}
 use Rattle.jpg_base.specs.Laws.{Consumes-then, Grows}
-use Rattle.jpg_spec.specs.FileStands.{FileStands}
+use Rattle.jpg_spec.specs.UnfinishedFile.{UnfinishedFile}
 use Rattle.jpg_spec.specs.Markers.{Segment}
 use Rattle.jpg_spec.specs.RowLaws.{TellsMore, first_blocks}
-use Rattle.jpg_spec.specs.RowsShown.{picture_so_far, rows_text}
+use Rattle.jpg_spec.specs.RowsTold.{picture_so_far}
+use Rattle.jpg_spec_image.specs.RowsShown.{rows_text}
 use Rattle.jpg_spec.specs.RowsTold.{BeginsScanOfAll, CompletesRows, TellsRows}
 use Rattle.jpg_spec.specs.Scan.{Blocks}
 use Rattle.jpg_spec.specs.Segments.{standard_limits}
 use Rattle.jpg_spec.specs.declared.frame.Limits.{Limits}
 use Rattle.jpg_spec.proofs.RowsOnce.{first_told, rows_once, rows_stay}
-use Rattle.jpg_file.specs.ReadRows.{AfterFeedRow, FeedsRow, HasReadRows, RowReaderState}
-use Rattle.jpg_file.specs.RowsNone.{HasNoRows}
-use Rattle.jpg_file.specs.Strips.{RowsBehind, RowsInside, StandsByRow}
-use Rattle.jpg_file.specs.declared.file.FileWork.{FileWork}
-use Rattle.jpg_file.specs.declared.row_reader.FedRow.{FedRow}
-use Rattle.jpg_file.specs.declared.row_reader.FedRow.TheVariants as fed
-use Rattle.jpg_file.specs.declared.rows.RowWork.{RowWork}
+use Rattle.jpg_file.specs.Read.ReadRows.{AfterFeedRow, FeedsRow, HasReadRows, RowReaderState}
+use Rattle.jpg_file.specs.Read.RowsNone.{HasNoRows}
+use Rattle.jpg_file.specs.Read.Strips.{RowsAfter, RowsInside, StandsByRow}
+use Rattle.jpg_file.specs.declared.read.file.FileWork.{FileWork}
+use Rattle.jpg_file.specs.declared.read.row_reader.FedRow.{FedRow}
+use Rattle.jpg_file.specs.declared.read.row_reader.FedRow.TheVariants as fed
+use Rattle.jpg_file.specs.declared.read.rows.RowWork.{RowWork}
 use Rattle.jpg_pnm_bmp.specs.EndState.{EndState}
 use Rattle.jpg_color.specs.StripImage.{Drawing}
-use Rattle.jpg_cli.specs.ReadPicture.{IsOpenRead, IsUnwanted}
-use Rattle.jpg_cli.specs.Showing.{IsInTime, Showing}
-use Rattle.jpg_cli.specs.ShowingRows.{HasCreated, HasShown, Head, IsDrawing, IsHeadIn, IsShowing, at_work}
-use Rattle.jpg_cli.specs.declared.read_picture.Wanted.TheVariants.{Image}
+use Rattle.jpg_cli.specs.Desk.ReadPicture.{IsOpenRead, IsUnwanted}
+use Rattle.jpg_cli.specs.Tools.Showing.{IsInTime, Showing}
+use Rattle.jpg_cli.specs.Tools.ShowingRows.{HasCreated, HasShown, Head, IsDrawing, IsHeadIn, IsShowing, at_work}
+use Rattle.jpg_cli.specs.declared.desk.picture.Wanted.TheVariants.{Image}
 use Rattle.jpg_cli.proofs.CommentsCopied.{works_then}
 use Rattle.jpg_cli.proofs.FirstRead.{not_none}
 use Rattle.jpg_cli.proofs.RowHeads.{begins_more, begins_upto, one_head}
@@ -45,22 +46,22 @@ use Rattle.jpg_cli.proofs.RowsEnd.{none_unwanted}
 pub taken_by_row : (limits : Limits) (bytes : List ℕ) (w : FileWork) (rows : RowWork) → StandsByRow limits bytes w rows → w.reading.taken ≡ length bytes
 taken_by_row limits bytes w rows h = by h.at
   where
-    by : RowsInside limits bytes w rows h.whole ⊎ RowsBehind limits bytes w rows h.whole → w.reading.taken ≡ length bytes
+    by : RowsInside limits bytes w rows h.whole ⊎ RowsAfter limits bytes w rows h.whole → w.reading.taken ≡ length bytes
     by (inl i) = (i.held).count
     by (inr b) = ((b.between).beside).count
 
--- ROWS THAT ARE TOLD stay told, and with more fewer are
+-- ROWS that are decoded remain so, and if more are decoded, fewer are
 fewer_told : (bytes : List ℕ) (k m : ℕ) (blocks : Blocks) → k ≤ m → TellsRows standard_limits bytes m blocks → (x : Blocks) × TellsRows standard_limits bytes k x
 fewer_told bytes k m blocks few told =
     let w : TellsMore standard_limits bytes k = record { all = m; blocks = blocks; enough = few; told = told } in (first_blocks standard_limits bytes k w, first_told standard_limits bytes k w)
 
--- of longer bytes, where more are told
+-- of longer bytes, if more are decoded
 told_before : (bytes more : List ℕ) (k m : ℕ) (blocks x : Blocks) → k ≤ m → TellsRows standard_limits bytes m blocks → TellsRows standard_limits (bytes ++ more) k x → TellsRows standard_limits bytes k x
 told_before bytes more k m blocks x few told h =
     let y = fewer_told bytes k m blocks few told in
     subst (λ (b : Blocks). TellsRows standard_limits bytes k b) (sym (rows_once standard_limits (bytes ++ more) k x y.0 h (rows_stay standard_limits bytes more k y.0 y.1))) y.1
 
--- no more are told than are complete
+-- no more are decoded than are complete
 no_more_told : (bytes : List ℕ) (k m : ℕ) (blocks x : Blocks) → CompletesRows standard_limits bytes m blocks → TellsRows standard_limits bytes k x → k ≤ m
 no_more_told bytes k m blocks x completed told = by (cases_lt m k)
   where
@@ -68,7 +69,7 @@ no_more_told bytes k m blocks x completed told = by (cases_lt m k)
     by (inr few) = few
     by (inl more) = (let y = fewer_told bytes (m + 1) k x (omega (arith, more)) told in absurd (completed.1 y.0 y.1))
 
--- A SCAN THAT BEGAN stays in work
+-- A SCAN THAT BEGAN remains the current one
 no_plain : (bytes : List ℕ) (before : List Segment) (contents : List ℕ) (limits : Limits) → limits ≡ standard_limits → BeginsScanOfAll standard_limits bytes before contents → HasNoRows limits bytes → ⊥
 no_plain bytes before contents limits e k none = none before contents (subst (λ (l : Limits). BeginsScanOfAll l bytes before contents) (sym e) k)
 
@@ -85,7 +86,7 @@ work_stays bytes piece before contents m (Err (stop.Fault f)) r e k (stops, late
 work_stays bytes piece before contents m (Err (stop.Fault f)) r e k (stops, late, keeps, inr h) none = not_none r (take f.at (bytes ++ piece)) h.begun none
 work_stays bytes piece before contents m (Err stop.NoMemory) r e k (keeps, rows, plain) none = no_plain bytes before contents r.limits e k plain
 
--- A PIECE MORE
+-- ONE MORE PIECE
 
 pub drawing_more : (s : Showing) (h : Head) (all piece : List ℕ) (m : ℕ) (written : List ℕ) (d : Drawing) (e : EndState) → IsDrawing s h all m written d e → IsDrawing s h (all ++ piece) m written d e
 drawing_more s h all piece m written d e k = record {
@@ -113,11 +114,11 @@ created_on s old start all piece written n buf s0 s1 same read h = record {
 pub open_rows : (gray : Bool) (h : Head) (all : List ℕ) (m : ℕ) (r : RowReaderState) → r.limits ≡ standard_limits → IsHeadIn gray h all → HasReadRows all m r → IsOpenRead (Image gray) all
 open_rows gray h all m r e head k = record {
   short = subst (λ (l : Limits). length all < l.input) e k.short;
-  stands = subst (λ (l : Limits). FileStands l all) e k.stands;
+  stands = subst (λ (l : Limits). UnfinishedFile l all) e k.stands;
   wanted = λ f u. none_unwanted gray h all [] f head (subst (λ l. IsUnwanted (Image gray) l f) (sym (append-nil all)) u);
 }
 
--- what was due before the piece was written before it
+-- the text that was pending before the piece was written before it
 pub early_more : (s : Showing) (old start : DeskState) (h : Head) (all piece : List ℕ) (m : ℕ) (r : RowReaderState) (d : Drawing) (e : EndState) (now : DeskState) → length piece ≤ 16384 → (k : HasShown s old start h all m (at_work r d e now)) → IsInTime s (all ++ piece) k.written
 early_more s old start h all piece m r d e now few k front rest text cut many due =
     let size = ap length cut in

@@ -1,4 +1,4 @@
--- Where the output of rows is created and its image begun, over the states that a desk tells.
+-- The case that the output of rows is created and its image begun, over the states of a desk.
 use Rattle.std.proofs.Common.{◌≡◌, ℕ, ◌+◌, ◌≤◌, Bool, List, [], ◌∷◌, ◌++◌, length, take, drop, refl, sym, ap, ◌∙◌, subst, arith, inl, inr, Option, None, Some, Result, Ok, Err}
 use Rattle.std.proofs.lemmas.List.{append_assoc, append-nil, length-append, take_all, take-append-drop, take-append-le}
 use Rattle.jpg_base.specs.declared.names.Name.{Name}
@@ -10,40 +10,41 @@ use Rattle.jpg_base.specs.Desk.{AddsOutput, Creates, DeskState, NotesName}
 use Rattle.jpg_base.specs.Laws.{Grows}
 use Rattle.jpg_spec.specs.FileMeaning.{no_blocks}
 use Rattle.jpg_spec.specs.Geometry.{Frame}
-use Rattle.jpg_spec.specs.ImageText.{first_piece}
+use Rattle.jpg_spec_image.specs.ImageText.{first_piece}
 use Rattle.jpg_spec.specs.InForce.{frame_of}
 use Rattle.jpg_spec.specs.Markers.{Segment}
 use Rattle.jpg_spec.specs.Meaning.{Meaning}
-use Rattle.jpg_spec.specs.NotShown.{colours_behind}
-use Rattle.jpg_spec.specs.Pixels.{info, out_fault_of, pixels}
+use Rattle.jpg_spec.specs.InForce.{colours_after}
+use Rattle.jpg_spec_image.specs.Pixels.{info, out_fault_of, pixels}
 use Rattle.jpg_spec.specs.RowLaws.{TellsMore, first_blocks}
-use Rattle.jpg_spec.specs.RowsShown.{picture_so_far, rows_text}
+use Rattle.jpg_spec.specs.RowsTold.{picture_so_far}
+use Rattle.jpg_spec_image.specs.RowsShown.{rows_text}
 use Rattle.jpg_spec.specs.RowsTold.{BeginsScanOfAll, TellsRows}
 use Rattle.jpg_spec.specs.Scan.{Blocks}
 use Rattle.jpg_spec.specs.Segments.{standard_limits}
-use Rattle.jpg_spec.specs.declared.answers.Why.TheVariants as why
+use Rattle.jpg_spec_words.specs.declared.answers.Why.TheVariants as why
 use Rattle.jpg_spec.specs.declared.frame.Colour.{Colour}
 use Rattle.jpg_spec.specs.declared.frame.Limits.{Limits}
-use Rattle.jpg_spec.specs.declared.image.EndKind.{EndKind}
-use Rattle.jpg_spec.specs.declared.image.ImageInfo.{ImageInfo}
+use Rattle.jpg_spec_image.specs.declared.image.EndKind.{EndKind}
+use Rattle.jpg_spec_image.specs.declared.image.ImageInfo.{ImageInfo}
 use Rattle.jpg_spec.proofs.ColoursKept.{picture_colours}
-use Rattle.jpg_spec.proofs.RowsAlike.{colours_stay}
+use Rattle.jpg_spec_image.proofs.RowsAlike.{colours_stay}
 use Rattle.jpg_spec.proofs.RowsOnce.{first_told, rows_stay}
-use Rattle.jpg_file.specs.ReadRows.{AfterFeedRow, HasBegunRows, RowReaderState, picture_read}
-use Rattle.jpg_file.specs.RowsKnown.{TellsStrip}
-use Rattle.jpg_file.specs.StripHead.{IsHeadOfPicture}
-use Rattle.jpg_file.specs.declared.row_reader.FedRow.{FedRow}
-use Rattle.jpg_file.specs.declared.row_reader.FedRow.TheVariants as fed
-use Rattle.jpg_file.specs.declared.strip_head.StripHead.{StripHead}
+use Rattle.jpg_file.specs.Read.ReadRows.{AfterFeedRow, HasBegunRows, RowReaderState, picture_read}
+use Rattle.jpg_file.specs.Read.RowsKnown.{TellsStrip}
+use Rattle.jpg_file.specs.Read.StripHead.{IsHeadOfPicture}
+use Rattle.jpg_file.specs.declared.read.row_reader.FedRow.{FedRow}
+use Rattle.jpg_file.specs.declared.read.row_reader.FedRow.TheVariants as fed
+use Rattle.jpg_file.specs.declared.read.strip_head.StripHead.{StripHead}
 use Rattle.jpg_pnm_bmp.specs.EndState.{EndState, new_end}
 use Rattle.jpg_pnm_bmp.proofs.SomeBytes.{text_some}
-use Rattle.jpg_color.specs.Shown.{Display, Shown as Strips, display_fault, display_of, factors_of}
-use Rattle.jpg_color.specs.StripImage.{BeginsDrawing, Drawing, Draws, IsDrawnTo, IsNewOf}
+use Rattle.jpg_color.specs.Shown.{Display, ShownState as Strips, display_fault, display_of, factors_of}
+use Rattle.jpg_color.specs.StripImage.{BeginsDrawing, Drawing, DrawsImage, IsDrawnTo, IsNewOf}
 use Rattle.jpg_color.proofs.DrawnLaws.{texts_join}
-use Rattle.jpg_cli.specs.ReadPicture.{IsShortRead}
-use Rattle.jpg_cli.specs.Showing.{IsInTime, IsToldText, Showing, Shown}
-use Rattle.jpg_cli.specs.ShowingRows.{BeginsRows, HasCreated, HasFedRows, HasOpened, Head, IsHeadIn, IsShowing, at_work}
-use Rattle.jpg_cli.specs.declared.read_picture.Wanted.TheVariants.{Image}
+use Rattle.jpg_cli.specs.Desk.ReadPicture.{IsShortRead}
+use Rattle.jpg_cli.specs.Tools.Showing.{IsInTime, IsToldText, Showing, Shown}
+use Rattle.jpg_cli.specs.Tools.ShowingRows.{BeginsShownRows, HasCreated, HasFedRows, HasOpened, Head, IsHeadIn, IsShowing, at_work}
+use Rattle.jpg_cli.specs.declared.desk.picture.Wanted.TheVariants.{Image}
 use Rattle.jpg_cli.proofs.CommentsCopied.{left_still, works_then}
 use Rattle.jpg_cli.proofs.FirstRead.{HasBegun}
 use Rattle.jpg_cli.proofs.RowHeads.{begins_still, one_head}
@@ -51,7 +52,7 @@ use Rattle.jpg_cli.proofs.RowsDesk.{created_added, created_read}
 use Rattle.jpg_cli.proofs.RowsEnd.{rows_begun, shown_head}
 use Rattle.jpg_cli.proofs.RowsWhole.{goes_on, so_far}
 
--- THE HEAD that the reader tells
+-- THE HEAD that the reader gives
 
 pub record IsStripOf (h : Head) (x : StripHead) : Type 0 where
   pub frame : x.frame ≡ frame_of standard_limits h.before
@@ -80,14 +81,14 @@ strip_told gray h all m piece answer r o x k is tells = record { frame = told.0;
         subst (λ c. Is standard_limits h.before c) one.1
         (subst (λ (s : List Segment). Is standard_limits s (b.begun).contents) one.0 (subst (λ (l : Limits). Is l (b.begun).before (b.begun).contents) k.limits here))
 
--- is that of a picture that is shown
+-- is that of a picture that can be displayed
 pub strip_shown : (gray smooth : Bool) (h : Head) (all : List ℕ) (x : StripHead) → IsHeadIn gray h all → IsStripOf h x → display_fault (display_of x gray smooth) ≡ None
 strip_shown gray smooth h all x head k =
     let after : List Segment = (0xda, h.contents) ∷ h.before in
-    let colour : x.colour ≡ colours_behind standard_limits h.before =
+    let colour : x.colour ≡ colours_after standard_limits h.before =
     (k.picture no_blocks).colour ∙ picture_colours standard_limits after no_blocks ∙ colours_stay standard_limits all h.before h.contents head.begins in
     ap (λ (c : Colour). out_fault_of c gray (factors_of x.frame)) colour
-    ∙ ap (λ (f : Frame). out_fault_of (colours_behind standard_limits h.before) gray (factors_of f)) k.frame ∙ head.shown
+    ∙ ap (λ (f : Frame). out_fault_of (colours_after standard_limits h.before) gray (factors_of f)) k.frame ∙ head.shown
 
 -- THE OUTPUT was created, and nothing is in it
 
@@ -106,9 +107,9 @@ created_first s old start all now new h made = record {
   created = made.after.0;
 }
 
--- NOTHING IS DUE YET: before the piece in which the scan began none did
+-- NOTHING IS PENDING YET: before the piece in which the scan began there was nothing to write
 
-none_due : (s : Showing) (all : List ℕ) (piece : List ℕ) (answer : Result FedRow Stop) (r : RowReaderState) → BeginsRows s.gray all piece answer r → IsInTime s all []
+none_due : (s : Showing) (all : List ℕ) (piece : List ℕ) (answer : Result FedRow Stop) (r : RowReaderState) → BeginsShownRows s.gray all piece answer r → IsInTime s all []
 none_due s all piece answer r k front rest text cut many due =
     let bytes = (k.rows).fed in
     let few = (k.rows).few in
@@ -120,7 +121,7 @@ none_due s all piece answer r k front rest text cut many due =
     let same : bytes ≡ front ++ other = sym (take-append-drop (length front) bytes) ∙ ap (λ l. l ++ other) first in
     absurd (k.none due.before due.contents (begins_still front other bytes due.before due.contents same due.begins))
 
--- NO MCU ROWS are told of it at first
+-- NO MCU ROWS of it are decoded at first
 
 cut_at_used : (all bytes piece : List ℕ) (used : ℕ) → all ≡ bytes ++ piece → all ≡ (bytes ++ take used piece) ++ drop used piece
 cut_at_used all bytes piece used cut = cut ∙ ap (λ l. bytes ++ l) (sym (take-append-drop used piece)) ∙ sym (append_assoc bytes (take used piece) (drop used piece))
@@ -154,7 +155,7 @@ none_told_yet gray h all m piece (Err (stop.Fault f)) r k = by k.after
 none_told_yet gray h all m piece (Err stop.NoMemory) r k = absurd (k.begun (k.after).1)
 
 -- NO MEMORY for what its text begins with
-pub not_started : (s : Showing) (old start : DeskState) (all : List ℕ) (piece : List ℕ) (answer : Result FedRow Stop) (r : RowReaderState) (now new : DeskState) → BeginsRows s.gray all piece answer r → HasOpened s old start all now → Creates now s.output put.Done new
+pub not_started : (s : Showing) (old start : DeskState) (all : List ℕ) (piece : List ℕ) (answer : Result FedRow Stop) (r : RowReaderState) (now new : DeskState) → BeginsShownRows s.gray all piece answer r → HasOpened s old start all now → Creates now s.output put.Done new
     → Shown s old why.NoMemory new
 not_started s old start all piece answer r now new k h made =
     let desk = created_first s old start all now new h made in
@@ -173,7 +174,7 @@ not_started s old start all piece answer r now new k h made =
     }))
 
 -- IT IS BEGUN
-pub rows_started : (s : Showing) (old start : DeskState) (all : List ℕ) (piece : List ℕ) (answer : Result FedRow Stop) (r : RowReaderState) (x : StripHead) (image d : Drawing) (first e : EndState) (now new : DeskState) → (k : BeginsRows s.gray all piece answer r)
+pub rows_started : (s : Showing) (old start : DeskState) (all : List ℕ) (piece : List ℕ) (answer : Result FedRow Stop) (r : RowReaderState) (x : StripHead) (image d : Drawing) (first e : EndState) (now new : DeskState) → (k : BeginsShownRows s.gray all piece answer r)
     → HasOpened s old start all now → Creates now s.output put.Done new → IsStripOf k.head x → IsNewOf x s.gray s.smooth image → first ≡ new_end s.kind → BeginsDrawing image first d e → IsShowing s old start k.head all 0 piece answer (at_work r d e new)
 rows_started s old start all piece answer r x image d first e now new k h made strip made_image first_is begins = record {
   written = [];
@@ -206,7 +207,7 @@ rows_started s old start all piece answer r x image d first e now new k h made s
     P : Meaning
     P = so_far k.head told.0
 
-    draws : Draws image P s.gray s.smooth
+    draws : DrawsImage image P s.gray s.smooth
     draws = made_image.draws P (strip.picture told.0)
 
     drawn : IsDrawnTo d e P s.gray s.smooth 0

@@ -1,4 +1,4 @@
--- Where rows that are due weren't all written.
+-- The case that the pending rows weren't all written.
 use Rattle.std.proofs.Common.{◌≡◌, ℕ, ◌+◌, ◌≤◌, List, [], ◌∷◌, ◌++◌, length, take, sym, ap, ◌∙◌, subst, arith, inr, Err}
 use Rattle.std.proofs.lemmas.List.{length-append, length-take-le}
 use Rattle.std.proofs.Math.Seq.{take-append-add}
@@ -7,18 +7,18 @@ use Rattle.jpg_base.specs.Laws.{AppendsPart}
 use Rattle.jpg_huff.specs.Out.{OnlyWrites}
 use Rattle.jpg_spec.specs.Meaning.{Meaning}
 use Rattle.jpg_spec.specs.Segments.{standard_limits}
-use Rattle.jpg_spec.specs.declared.answers.Why.TheVariants as why
-use Rattle.jpg_color.specs.DecodeRows.{AppendsLess, Sends}
+use Rattle.jpg_spec_words.specs.declared.answers.Why.TheVariants as why
+use Rattle.jpg_color.specs.DecodeRows.{AppendsLess, SendsImage}
 use Rattle.jpg_color.specs.declared.decode.DecodeStop.{DecodeStop}
 use Rattle.jpg_color.specs.declared.decode.DecodeStop.TheVariants as stop
 use Rattle.jpg_cli.specs.Endings.{Added}
-use Rattle.jpg_cli.specs.ReadPicture.{IsShortRead, IsWholeRead}
-use Rattle.jpg_cli.specs.Showing.{IsInTime, IsToldText, RowsInPart, Showing, Shown, shown_text}
-use Rattle.jpg_cli.specs.ShowingRows.{HasCreated, why_of}
-use Rattle.jpg_cli.specs.declared.read_picture.Wanted.TheVariants.{Image}
+use Rattle.jpg_cli.specs.Desk.ReadPicture.{IsShortRead, IsWholeRead}
+use Rattle.jpg_cli.specs.Tools.Showing.{IsInTime, IsToldText, RowsInPart, Showing, Shown, shown_text}
+use Rattle.jpg_cli.specs.Tools.ShowingRows.{HasCreated, why_of}
+use Rattle.jpg_cli.specs.declared.desk.picture.Wanted.TheVariants.{Image}
 use Rattle.jpg_cli.proofs.RowsDesk.{created_added, created_more, created_read}
 
--- a text of MCU rows that the bytes tell, of which this was written and this is due
+-- a text of the decoded MCU rows, of which this was written and this is pending
 pub record IsDueText (s : Showing) (all written due text : List ℕ) : Type 0 where
   pub most : length all ≤ standard_limits.input
   pub short : IsShortRead (Image s.gray) all
@@ -26,7 +26,7 @@ pub record IsDueText (s : Showing) (all written due text : List ℕ) : Type 0 wh
   pub same : written ++ due ≡ text
   pub early : IsInTime s all written
 
--- It is no longer than that of a whole file.
+-- It is no longer than that of a complete file.
 abbrev pub FitsWhole : Showing → List ℕ → List ℕ → Type 0
 FitsWhole s all text = (M : Meaning) → IsWholeRead (Image s.gray) M all → length text ≤ length (shown_text s M)
 
@@ -72,6 +72,6 @@ rows_wanting s old start all written due text s0 s1 h fits desk only (n, less, g
     }))
 
 pub rows_stopped : (s : Showing) (old start : DeskState) (all written out due text new : List ℕ) (ended : DecodeStop) (s0 s1 : DeskState) → IsDueText s all written (out ++ due) text → FitsWhole s all text → HasCreated s old start all written s0
-    → Sends s0 out due (Err ended) new s1 → Shown s old (why_of (Err ended)) s1
+    → SendsImage s0 out due (Err ended) new s1 → Shown s old (why_of (Err ended)) s1
 rows_stopped s old start all written out due text new stop.NoMemory s0 s1 h fits desk sent = rows_wanting s old start all written (out ++ due) text s0 s1 h fits desk sent.only sent.bytes
 rows_stopped s old start all written out due text new stop.WriteFault s0 s1 h fits desk sent = rows_failed s old start all written (out ++ due) text s0 s1 h desk sent.only (sent.bytes).0 (sent.bytes).1

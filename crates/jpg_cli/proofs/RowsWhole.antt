@@ -1,28 +1,32 @@
--- The text of MCU rows that bytes tell is a first part of the text of the whole file, and the image of all of them is its image.
+-- The text of the decoded MCU rows is a first part of the text of the complete file, and the image of all of them is
+-- its image.
 use Rattle.std.proofs.Common.{◌≡◌, ℕ, ◌+◌, ◌≤◌, Bool, List, ◌++◌, length, take, drop, refl, sym, ap, ◌∙◌, subst, arith, Option, Some, None}
 use Rattle.std.proofs.lemmas.List.{length-append, take-append-drop}
-use Rattle.jpg_spec.specs.FileStands.{IsWholeFile}
-use Rattle.jpg_spec.specs.ImageText.{end_text}
+use Rattle.jpg_spec.specs.UnfinishedFile.{IsWholeFile}
+use Rattle.jpg_spec_image.specs.ImageText.{end_text}
 use Rattle.jpg_spec.specs.Meaning.{Meaning}
-use Rattle.jpg_spec.specs.Pixels.{info, out_fault, pixels}
-use Rattle.jpg_spec.specs.RowLaws.{CompletesAll, GoesOnFrom, IsReadByRows, TellsTwice}
+use Rattle.jpg_spec_image.specs.Pixels.{info, out_fault, pixels}
+use Rattle.jpg_spec_image.specs.RowLaws.{CompletesAll, GoesOnFrom, TellsTwice}
+use Rattle.jpg_spec.specs.RowLaws.{IsReadByRows}
 use Rattle.jpg_spec.specs.RowsTold.{BeginsScanOfAll, TellsRows}
-use Rattle.jpg_spec.specs.RowsShown.{picture_so_far, rows_text}
+use Rattle.jpg_spec.specs.RowsTold.{picture_so_far}
+use Rattle.jpg_spec_image.specs.RowsShown.{rows_text}
 use Rattle.jpg_spec.specs.Scan.{Blocks}
 use Rattle.jpg_spec.specs.Segments.{standard_limits}
-use Rattle.jpg_spec.specs.Strips.{mcu_rows}
+use Rattle.jpg_spec_image.specs.Strips.{mcu_rows}
 use Rattle.jpg_spec.specs.declared.fault.Fault.{Fault}
-use Rattle.jpg_spec.specs.declared.image.EndKind.{EndKind}
-use Rattle.jpg_spec.specs.declared.image.EndKind.TheVariants.{Bmp, Pnm}
-use Rattle.jpg_spec.proofs.RowsAlike.{so_far_alike}
-use Rattle.jpg_spec.proofs.RowsCompleted.{complete_all}
-use Rattle.jpg_spec.proofs.RowsHeader.{begun_rows, rows_few}
-use Rattle.jpg_spec.proofs.RowsImage.{image_of_all, nothing_sent}
+use Rattle.jpg_spec_image.specs.declared.image.EndKind.{EndKind}
+use Rattle.jpg_spec_image.specs.declared.image.EndKind.TheVariants.{Bmp, Pnm}
+use Rattle.jpg_spec_image.proofs.RowsAlike.{so_far_alike}
+use Rattle.jpg_spec_image.proofs.RowsCompleted.{complete_all}
+use Rattle.jpg_spec_image.proofs.RowsHeader.{begun_rows}
+use Rattle.jpg_spec.proofs.RowsHeader.{rows_few}
+use Rattle.jpg_spec_image.proofs.RowsImage.{image_of_all, nothing_sent}
 use Rattle.jpg_spec.proofs.RowsOnce.{rows_stay}
-use Rattle.jpg_spec.proofs.RowsText.{texts_go_on}
+use Rattle.jpg_spec_image.proofs.RowsText.{texts_go_on}
 use Rattle.jpg_spec.proofs.WrittenFront.{standard_are_limits}
-use Rattle.jpg_cli.specs.Showing.{Showing, shown_text}
-use Rattle.jpg_cli.specs.ShowingRows.{Head, IsHeadIn}
+use Rattle.jpg_cli.specs.Tools.Showing.{Showing, shown_text}
+use Rattle.jpg_cli.specs.Tools.ShowingRows.{Head, IsHeadIn}
 use Rattle.jpg_cli.proofs.FirstRead.{not_shown}
 use Rattle.jpg_cli.proofs.RowHeads.{begins_whole}
 use Rattle.jpg_cli.proofs.RowsStopped.{FitsWhole}
@@ -31,7 +35,7 @@ use Rattle.jpg_cli.proofs.RowsStopped.{FitsWhole}
 abbrev pub so_far : Head → Blocks → Meaning
 so_far h blocks = picture_so_far standard_limits h.before h.contents blocks
 
--- is shown as its file is
+-- is displayed as its file is
 pub so_far_shown : (gray : Bool) (h : Head) (all : List ℕ) (blocks : Blocks) → IsHeadIn gray h all → out_fault gray (so_far h blocks) ≡ None
 so_far_shown gray h all blocks k = by (out_fault gray (so_far h blocks)) refl
   where
@@ -41,12 +45,12 @@ so_far_shown gray h all blocks k = by (out_fault gray (so_far h blocks)) refl
         let t = (so_far_alike standard_limits gray all h.before h.contents blocks k.begins).told fault e in
         absurd (not_shown gray all t.0 t.1 (record { before = h.before; contents = h.contents; begins = k.begins; shown = k.shown }))
 
--- no more MCU rows are told than it has
+-- no more MCU rows are decoded than it has
 pub few_told : (h : Head) (all : List ℕ) (m : ℕ) (told blocks : Blocks) → BeginsScanOfAll standard_limits all h.before h.contents → TellsRows standard_limits all m told → m ≤ mcu_rows (so_far h blocks)
 few_told h all m told blocks begins k =
     rows_few standard_limits all m (mcu_rows (so_far h blocks)) told h.before h.contents begins (begun_rows standard_limits all h.before h.contents blocks standard_are_limits begins) k
 
--- with more of them the text goes on
+-- with more of them the text is continued
 pub goes_on : (gray smooth : Bool) (kind : EndKind) (h : Head) (all : List ℕ) (m n : ℕ) (some more : Blocks) → IsHeadIn gray h all → m ≤ n → TellsRows standard_limits all m some → TellsRows standard_limits all n more
     → GoesOnFrom (rows_text kind (so_far h some) gray smooth m) (rows_text kind (so_far h more) gray smooth n)
 goes_on gray smooth kind h all m n some more head less first second =
@@ -67,7 +71,7 @@ goes_on gray smooth kind h all m n some more head less first second =
     } in
     texts_go_on standard_limits gray smooth all kind twice
 
--- OF A WHOLE FILE, which some first bytes are
+-- OF A COMPLETE FILE, which a prefix of the bytes is
 abbrev pub read_by_rows : (h : Head) (front : List ℕ) (M : Meaning) → IsWholeFile standard_limits front M → BeginsScanOfAll standard_limits front h.before h.contents → IsReadByRows standard_limits front M
 read_by_rows h front M whole begins = record { limited = standard_are_limits; means = whole.0; before = h.before; contents = h.contents; begins = begins }
 

@@ -1,52 +1,53 @@
--- Turning a picture: reading it, and then writing it.
+-- Transforming a picture: reading it, and then writing it.
 use Rattle.std.proofs.Common.{◌≡◌, ◌⊎◌, ℕ, ◌<◌, Bool, true, false, List, [], ◌∷◌, take, Option, Err, Some, None, refl, sym, ap, ◌∙◌, subst, arith, zero, suc, inl, inr}
 use Rattle.std.specs.List.{All}
 use Rattle.jpg_base.specs.declared.names.Name.{Name}
 use Rattle.jpg_base.specs.declared.names.Put.TheVariants as put
 use Rattle.jpg_base.specs.Desk.{DeskState, NotesName}
 use Rattle.jpg_base.specs.Laws.{Grows}
-use Rattle.jpg_spec.specs.Laws.{IsMovable}
+use Rattle.jpg_spec_move.specs.Laws.{IsMovable}
 use Rattle.jpg_spec.specs.Meaning.{Meaning}
-use Rattle.jpg_spec.specs.Moved.{Choice, Scans, moved_text, picture_fault}
-use Rattle.jpg_spec.specs.TransformWords.{TransformAsked, choice_asked}
-use Rattle.jpg_spec.specs.WrittenFile.{IsRestart}
+use Rattle.jpg_spec_move.specs.Moved.{Choice, moved_text, picture_fault}
+use Rattle.jpg_spec_write.specs.ScansAsked.{Scans}
+use Rattle.jpg_spec_words.specs.TransformWords.{TransformAsked, choice_asked}
+use Rattle.jpg_spec_write.specs.WrittenFile.{IsRestart}
 use Rattle.jpg_spec.specs.Segments.{standard_limits}
-use Rattle.jpg_spec.specs.declared.answers.Why.{Why}
-use Rattle.jpg_spec.specs.declared.answers.Why.TheVariants as why
-use Rattle.jpg_spec.specs.declared.answers.Which.TheVariants as which
-use Rattle.jpg_spec.specs.declared.transform.PictureFault.{PictureFault}
-use Rattle.jpg_spec.proofs.MeaningLeft.{read_moved}
-use Rattle.jpg_spec.proofs.MovedText.{moved_means}
+use Rattle.jpg_spec_words.specs.declared.answers.Why.{Why}
+use Rattle.jpg_spec_words.specs.declared.answers.Why.TheVariants as why
+use Rattle.jpg_spec_words.specs.declared.answers.Which.TheVariants as which
+use Rattle.jpg_spec_write.specs.declared.picture_fault.PictureFault.{PictureFault}
+use Rattle.jpg_spec_move.proofs.MeaningLeft.{read_moved}
+use Rattle.jpg_spec_move.proofs.MovedText.{moved_means}
 use Rattle.jpg_spec.proofs.WrittenFront.{standard_are_limits}
-use Rattle.jpg_file.specs.Keeping.{kept_for}
-use Rattle.jpg_file.proofs.KeepingLaws.{fault_same, text_same}
+use Rattle.jpg_file.specs.Read.Keeping.{kept_for}
+use Rattle.jpg_cli.proofs.KeepingLaws.{fault_same, text_same}
 use Rattle.jpg_transform.proofs.MovedScript.{gray_none, script_none}
 use Rattle.jpg_cli.specs.Endings.{Added, Asks, GoesOnAfter}
-use Rattle.jpg_cli.specs.declared.read_picture.Wanted.TheVariants.{Coefficients}
-use Rattle.jpg_cli.specs.ReadPicture.{IsAllRead, IsRead, PictureRead, ReadsFrom, done_as}
+use Rattle.jpg_cli.specs.declared.desk.picture.Wanted.TheVariants.{Coefficients}
+use Rattle.jpg_cli.specs.Desk.ReadPicture.{IsAllRead, IsReadPicture, PictureRead, ReadsFrom, done_as}
 use Rattle.jpg_cli.specs.Stays.{Keeps, Untouched}
 use Rattle.jpg_cli.specs.Commands.{Command, IsCommand, name_of}
-use Rattle.jpg_cli.specs.CommentWords.{file_told}
+use Rattle.jpg_cli.specs.Words.CommentWords.{file_told}
 use Rattle.jpg_cli.specs.Run.{RanShow, Worked}
-use Rattle.jpg_cli.specs.Ends.{has_format}
-use Rattle.jpg_spec.specs.CommentWords.{WordsTold}
-use Rattle.jpg_spec.specs.ShowWords.{ShowAsked}
-use Rattle.jpg_spec.specs.declared.image.EndKind.{EndKind}
-use Rattle.jpg_cli.specs.declared.comment_words.WordsStop.TheVariants as words
-use Rattle.jpg_cli.specs.ScriptTaken.{HasScans, StopsAtScans, names_before}
-use Rattle.jpg_cli.specs.TransformWords.{script_told, transform_told}
-use Rattle.jpg_cli.specs.Turned.{ReadsPicture, Transformed, Turned, TurnedWith, Turning}
-use Rattle.jpg_cli.specs.declared.transform_words.TransformWords.{TransformWords}
-use Rattle.jpg_cli.specs.Writing.{AfterMoved, AfterOutput, IsMeant, MeansMoved}
-use Rattle.jpg_cli.specs.declared.writing.Wrote.{Wrote}
-use Rattle.jpg_cli.specs.declared.writing.Wrote.TheVariants as wrote
+use Rattle.jpg_cli.specs.Tools.Ends.{has_format}
+use Rattle.jpg_spec_words.specs.CommentWords.{WordsTold}
+use Rattle.jpg_spec_words.specs.ShowWords.{ShowAsked}
+use Rattle.jpg_spec_image.specs.declared.image.EndKind.{EndKind}
+use Rattle.jpg_cli.specs.declared.words.comments.WordsStop.TheVariants as words
+use Rattle.jpg_cli.specs.Desk.ScriptTaken.{HasScans, StopsAtScans, names_before}
+use Rattle.jpg_cli.specs.Words.TransformWords.{script_told, transform_told}
+use Rattle.jpg_cli.specs.Tools.Turned.{ReadsPicture, Transformed, Turned, TurnedWith, Turning}
+use Rattle.jpg_cli.specs.declared.words.jpegtran.TransformWords.{TransformWords}
+use Rattle.jpg_cli.specs.Desk.Writing.{AfterMoved, AfterOutput, IsMeant, MeansMoved}
+use Rattle.jpg_cli.specs.declared.desk.moved.Wrote.{Wrote}
+use Rattle.jpg_cli.specs.declared.desk.moved.Wrote.TheVariants as wrote
 use Rattle.jpg_cli.proofs.CommentInserted.{none_noted}
 use Rattle.jpg_cli.proofs.Endings.{asks_next, asks_still}
 use Rattle.jpg_cli.proofs.InsertedThen.{same_name}
 use Rattle.jpg_cli.proofs.PictureTaken.{all_still, from_still}
-use Rattle.jpg_cli.proofs.ScriptTaken.{turned_behind}
+use Rattle.jpg_cli.proofs.ScriptTaken.{turned_after}
 
--- WHAT IS READ is meant
+-- WHAT IS READ is what the file means
 
 front_small : (xs : List ℕ) (n : ℕ) → All (λ b. b < 256) xs → All (λ b. b < 256) (take n xs)
 front_small [] zero h k d l = let f : ⊥ = omega arith in absurd f
@@ -55,7 +56,7 @@ front_small (x ∷ xs) zero h k d l = let f : ⊥ = omega arith in absurd f
 front_small (x ∷ xs) (suc n) h zero d l = h 0 d (omega arith)
 front_small (x ∷ xs) (suc n) h (suc k) d l = front_small xs n (λ i e m. h (suc i) e (omega arith)) k d (omega arith)
 
-meant : (M : Meaning) (early : Option ℕ) (bytes : List ℕ) → IsRead Coefficients M early bytes → IsMeant M
+meant : (M : Meaning) (early : Option ℕ) (bytes : List ℕ) → IsReadPicture Coefficients M early bytes → IsMeant M
 meant M None bytes h = (take h.count bytes, front_small bytes h.count h.small, inl h.whole.0)
 meant M (Some n) bytes h = (bytes, h.small, inr h.early)
 
@@ -110,16 +111,16 @@ turned_unread input output c s0 s1 why.NoMemory h = h
 
 -- A PICTURE, written
 
--- a picture was read from the input, and its desk goes on
+-- a picture was read from the input, and its desk is used further
 pub record HasPictureRead (t : Turning) (M : Meaning) (early : Option ℕ) (s0 s1 s2 : DeskState) : Type 0 where
   pub kept : Keeps s0 s1
   pub asked : Asks (t.input ∷ []) put.Done s0 s1
-  pub read : ReadsFrom t.input (IsRead Coefficients M early) s0 s1
+  pub read : ReadsFrom t.input (IsReadPicture Coefficients M early) s0 s1
   pub all : IsAllRead early s1
   pub left : s2.left ≡ s1.left
 
-read_on : (t : Turning) (M : Meaning) (early : Option ℕ) (s0 s1 s2 : DeskState) → HasPictureRead t M early s0 s1 s2 → ReadsFrom t.input (IsRead Coefficients M early) s0 s2
-read_on t M early s0 s1 s2 h = from_still s0 s1 s2 t.input (IsRead Coefficients M early) h.left h.read
+read_on : (t : Turning) (M : Meaning) (early : Option ℕ) (s0 s1 s2 : DeskState) → HasPictureRead t M early s0 s1 s2 → ReadsFrom t.input (IsReadPicture Coefficients M early) s0 s2
+read_on t M early s0 s1 s2 h = from_still s0 s1 s2 t.input (IsReadPicture Coefficients M early) h.left h.read
 
 reads_on : (t : Turning) (M : Meaning) (early : Option ℕ) (s0 s1 s2 : DeskState) → HasPictureRead t M early s0 s1 s2 → picture_fault t.choice M ≡ None → ReadsPicture t M early s0 s2
 reads_on t M early s0 s1 s2 h none = record { read = read_on t M early s0 s1 s2 h; all = all_still early s1 s2 h.left h.all; admitted = none }
@@ -163,14 +164,14 @@ turned_unwritten input output c M early s0 s1 s2 h (none, (asked, rose, (n, grow
       (M, early, n, reads_on t M early s0 s1 s2 h none, wrote_text t M early s0 s1 s2 (take n (moved_text c M)) h asked grows),
     )
 
--- AS THE WORDS SAY IT
+-- AS THE WORDS ASK FOR IT
 
 pub transformed_in : (w : TransformWords) (scans : Scans) (choice : Choice) (s0 s1 s2 : DeskState) (ended : Why) → choice ≡ choice_asked (transform_told w) scans → GoesOnAfter (names_before (script_told w.script)) s0 s1 → HasScans (script_told w.script) s0 scans
     → Turned (turning_by w.files.input w.files.output choice) s1 ended s2 → Transformed (transform_told w) s0 ended s2
 transformed_in w scans choice s0 s1 s2 ended same behind has turned =
     let of : Name → Name → Choice → Turning = λ i o c. record { before = names_before (script_told w.script); input = i; output = o; choice = c } in
     let asked = choice_asked (transform_told w) scans in
-    let there = turned_behind (names_before (script_told w.script)) w.files.input w.files.output choice s0 s1 s2 ended behind turned in
+    let there = turned_after (names_before (script_told w.script)) w.files.input w.files.output choice s0 s1 s2 ended behind turned in
     inr (inl (
       scans,
       has,
@@ -182,7 +183,7 @@ pub transformed_stopped : (a : TransformAsked) (s0 s1 : DeskState) (ended : Why)
 transformed_stopped a s0 s1 ended (inl h) = inl h
 transformed_stopped a s0 s1 ended (inr h) = inr (inr h)
 
--- where memory is wanting for the names of its files
+-- if there is no memory for the names of its files
 
 untouched : (s : DeskState) → Untouched s s
 untouched s = record { asked = refl; outputs = refl; left = refl }

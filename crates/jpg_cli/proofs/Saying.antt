@@ -1,16 +1,16 @@
 -- Switches of a command, one after another.
 use Rattle.std.proofs.Common.{◌≡◌, ◌==◌, ◌++◌, ℕ, ◌+◌, ◌<◌, true, false, cond, List, [], ◌∷◌, length, drop, refl, sym, ap, ◌∙◌, arith, Some, None, Result, Ok, Err}
 use Rattle.std.proofs.lemmas.List.{drop_all, drop_more}
-use Rattle.jpg_spec.specs.CommentWords.{WordsTold, usage_at, words_right, words_wrong}
-use Rattle.jpg_spec.specs.Switches.{Switch, is_switch, lower, purpose_of}
-use Rattle.jpg_spec.specs.Requests.{Request, SwitchAsked, alone, ends_with_b, request_from, switch_asked, then_asks, valued, without_b, wrong}
-use Rattle.jpg_spec.specs.declared.answers.Usage.{Usage}
-use Rattle.jpg_spec.specs.declared.answers.UsageFault.{UsageFault}
-use Rattle.jpg_spec.specs.declared.answers.UsageFault.TheVariants.{MissingValue, UnknownSwitch}
-use Rattle.jpg_spec.specs.declared.switch.Purpose.{Purpose}
-use Rattle.jpg_cli.specs.CommentWords.{usage_told, word_at}
-use Rattle.jpg_cli.specs.Requests.{HasSwitch, IsSaid, SaysAt, is_valued, said_told}
-use Rattle.jpg_cli.specs.declared.requests.Said.{Said}
+use Rattle.jpg_spec_words.specs.CommentWords.{WordsTold, usage_at, words_right, words_wrong}
+use Rattle.jpg_spec_words.specs.Switches.{Switch, is_switch, lower, purpose_of}
+use Rattle.jpg_spec_words.specs.Requests.{Request, SwitchAsked, alone, ends_with_b, request_from, switch_asked, then_asks, valued, without_b, wrong}
+use Rattle.jpg_spec_words.specs.declared.answers.Usage.{Usage}
+use Rattle.jpg_spec_words.specs.declared.answers.UsageFault.{UsageFault}
+use Rattle.jpg_spec_words.specs.declared.answers.UsageFault.TheVariants.{MissingValue, UnknownSwitch}
+use Rattle.jpg_spec_words.specs.declared.switch.Purpose.{Purpose}
+use Rattle.jpg_cli.specs.Words.CommentWords.{usage_told, word_at}
+use Rattle.jpg_cli.specs.Words.Requests.{HasSwitch, IsSaid, SaysAt, is_valued, said_told}
+use Rattle.jpg_cli.specs.declared.words.requests.Said.{Said}
 use Rattle.jpg_cli.proofs.Asking.{two_more}
 
 -- what the switch of a word asks for
@@ -39,7 +39,7 @@ wrong_asks : (sw : List Switch) (i : ℕ) (a : Request) (word : List ℕ) (rest 
 wrong_asks sw i a word [] fault switch is = rw (switch, is) refl
 wrong_asks sw i a word (next ∷ words) fault switch is = rw (switch, is) refl
 
--- BY WHAT IT SAYS
+-- BY WHAT IT ASKS FOR
 
 abbrev usage_in : Result Said Usage → WordsTold Request
 usage_in (Ok s) = words_right (said_told s)
@@ -116,23 +116,23 @@ unknown_said sw ws i s usage less u switch none =
     ap (request_from sw i (said_told s)) (one_more ws i less) ∙ wrong_asks sw i (said_told s) (word_at ws i) (drop (i + 1) ws) UnknownSwitch switch (ap (switch_asked i) none) ∙ ap (λ v. words_wrong v) (sym u)
 
 -- a B at the end of a text
-ends_behind : (b c : ℕ) (rest : List ℕ) → ends_with_b (b ∷ rest ++ c ∷ []) ≡ ends_with_b (rest ++ c ∷ [])
-ends_behind b c [] = refl
-ends_behind b c (d ∷ rest) = refl
+ends_after : (b c : ℕ) (rest : List ℕ) → ends_with_b (b ∷ rest ++ c ∷ []) ≡ ends_with_b (rest ++ c ∷ [])
+ends_after b c [] = refl
+ends_after b c (d ∷ rest) = refl
 
 pub ends_at : (before : List ℕ) (c : ℕ) → ends_with_b (before ++ c ∷ []) ≡ (lower c == 98)
 ends_at [] c = refl
-ends_at (b ∷ before) c = ends_behind b c before ∙ ends_at before c
+ends_at (b ∷ before) c = ends_after b c before ∙ ends_at before c
 
 -- a text without it
-one_behind : (b c : ℕ) (rest : List ℕ) → without_b (b ∷ rest ++ c ∷ []) ≡ b ∷ without_b (rest ++ c ∷ [])
-one_behind b c [] = refl
-one_behind b c (d ∷ rest) = refl
+one_after : (b c : ℕ) (rest : List ℕ) → without_b (b ∷ rest ++ c ∷ []) ≡ b ∷ without_b (rest ++ c ∷ [])
+one_after b c [] = refl
+one_after b c (d ∷ rest) = refl
 
 pub with_b : (before : List ℕ) (c : ℕ) → (lower c == 98) ≡ true → without_b (before ++ c ∷ []) ≡ before
 with_b [] c is = ap (λ t. cond t [] (c ∷ [])) is
-with_b (b ∷ before) c is = one_behind b c before ∙ ap (λ t. b ∷ t) (with_b before c is)
+with_b (b ∷ before) c is = one_after b c before ∙ ap (λ t. b ∷ t) (with_b before c is)
 
 pub no_b : (before : List ℕ) (c : ℕ) → (lower c == 98) ≡ false → without_b (before ++ c ∷ []) ≡ before ++ c ∷ []
 no_b [] c not = ap (λ t. cond t [] (c ∷ [])) not
-no_b (b ∷ before) c not = one_behind b c before ∙ ap (λ t. b ∷ t) (no_b before c not)
+no_b (b ∷ before) c not = one_after b c before ∙ ap (λ t. b ∷ t) (no_b before c not)

@@ -1,4 +1,4 @@
--- The scans of the output, taken from where they come, and what is turned in them.
+-- The scans of the output, by their source, and what is transformed in them.
 use Rattle.std.proofs.Common.{◌≡◌, ◌⊎◌, ℕ, ◌<◌, ◌≤◌, List, [], ◌∷◌, ◌++◌, length, take, Option, None, Some, Result, Ok, Err, refl, sym, ap, ◌∙◌, subst, arith, inl, inr}
 use Rattle.std.proofs.lemmas.Bool.{cases_lt}
 use Rattle.std.proofs.lemmas.List.{append-nil, append_assoc, length-take-le, take-take, take_all}
@@ -9,26 +9,26 @@ use Rattle.jpg_base.specs.declared.names.Put.TheVariants as put
 use Rattle.jpg_base.specs.Desk.{DeskState}
 use Rattle.jpg_base.specs.Laws.{Grows, NotesNames}
 use Rattle.jpg_spec.specs.Meaning.{Meaning}
-use Rattle.jpg_spec.specs.Moved.{Choice, moved_text}
-use Rattle.jpg_spec.specs.Script.{Entry}
-use Rattle.jpg_spec.specs.ScriptGrammar.{BeginsScript, EndsTooEarly, IsTooLong, IsWrongByte, TellsScript}
-use Rattle.jpg_spec.specs.TransformWords.{ScansSource, own_sequential, own_progressive, in_file}
-use Rattle.jpg_spec.specs.declared.answers.FaultAt.{FaultAt}
-use Rattle.jpg_spec.specs.declared.answers.Why.{Why}
-use Rattle.jpg_spec.specs.declared.answers.Why.TheVariants as why
-use Rattle.jpg_spec.specs.declared.answers.Which.TheVariants as which
+use Rattle.jpg_spec_move.specs.Moved.{Choice, moved_text}
+use Rattle.jpg_spec_write.specs.Script.{Entry}
+use Rattle.jpg_spec_write.specs.ScriptGrammar.{BeginsScript, EndsTooEarly, IsTooLong, IsWrongByte, TellsScript}
+use Rattle.jpg_spec_words.specs.TransformWords.{ScansSource, own_sequential, own_progressive, in_file}
+use Rattle.jpg_spec.specs.declared.fault.FaultAt.{FaultAt}
+use Rattle.jpg_spec_words.specs.declared.answers.Why.{Why}
+use Rattle.jpg_spec_words.specs.declared.answers.Why.TheVariants as why
+use Rattle.jpg_spec_words.specs.declared.answers.Which.TheVariants as which
 use Rattle.jpg_cli.specs.Endings.{Added, asked_for, Asks, GoesOnAfter, Stopped, Unopened, Unread}
-use Rattle.jpg_cli.specs.FileTaken.{AfterFile}
-use Rattle.jpg_cli.specs.Reading.{IsFile, rest_of}
-use Rattle.jpg_cli.specs.ReadPicture.{ReadsFrom}
-use Rattle.jpg_cli.specs.ScriptTaken.{StopsAtScans, StopsAtScript, TellsIn}
+use Rattle.jpg_cli.specs.Desk.FileTaken.{AfterFile}
+use Rattle.jpg_cli.specs.Desk.Reading.{IsFile, rest_of}
+use Rattle.jpg_cli.specs.Desk.ReadPicture.{ReadsFrom}
+use Rattle.jpg_cli.specs.Desk.ScriptTaken.{StopsAtScans, StopsAtScript, TellsIn}
 use Rattle.jpg_cli.specs.Stays.{Keeps, OnlySays}
-use Rattle.jpg_cli.specs.Turned.{ReadsPicture, Turned, TurnedWith, Turning}
+use Rattle.jpg_cli.specs.Tools.Turned.{ReadsPicture, Turned, TurnedWith, Turning}
 use Rattle.jpg_cli.proofs.CommentsCopied.{works_then}
 use Rattle.jpg_cli.proofs.Endings.{stopped_then, unopened_then, unread_then}
 use Rattle.jpg_cli.proofs.Input.{part_still, read_still}
 
--- A TEXT IS TOLD BY ITS FRONT, one byte longer than the longest
+-- A TEXT DEPENDS ONLY ON ITS PREFIX, one byte longer than the longest
 
 pub front_whole : (text : List ℕ) → length (take 65537 text) ≤ 65536 → take 65537 text ≡ text
 front_whole text short = by (cases_lt 65536 (length text))
@@ -152,7 +152,7 @@ stopped_scans_then own_sequential s0 s1 s2 w k h = absurd h
 stopped_scans_then own_progressive s0 s1 s2 w k h = absurd h
 stopped_scans_then (in_file file) s0 s1 s2 w k h = stopped_script_then (name.File file) s0 s1 s2 w k h
 
--- BEHIND NAMES that were asked for before
+-- AFTER NAMES that were opened or created before
 
 asked_more : (xs : List Name) (y : Name) (ys : List Name) (answer : Put) → asked_for (xs ++ y ∷ ys) answer ≡ asked_for xs put.Done ++ asked_for (y ∷ ys) answer
 asked_more [] y ys answer = refl
@@ -217,40 +217,40 @@ added_more xs y output text s0 s1 s2 b h = record {
   outputs = subst (λ (had : Option (List (Name × List ℕ))). Grows had (output, text) s2.outputs) b.kept.outputs h.outputs;
 }
 
--- A PICTURE that is turned behind them
+-- A PICTURE that is transformed after them
 
-abbrev turning_behind : List Name → Name → Name → Choice → Turning
-turning_behind before input output choice = record { before = before; input = input; output = output; choice = choice }
+abbrev turning_after : List Name → Name → Name → Choice → Turning
+turning_after before input output choice = record { before = before; input = input; output = output; choice = choice }
 
-reads_before : (xs : List Name) (input output : Name) (choice : Choice) (M : Meaning) (early : Option ℕ) (s0 s1 s2 : DeskState) → GoesOnAfter xs s0 s1 → ReadsPicture (turning_behind [] input output choice) M early s1 s2
-    → ReadsPicture (turning_behind xs input output choice) M early s0 s2
+reads_before : (xs : List Name) (input output : Name) (choice : Choice) (M : Meaning) (early : Option ℕ) (s0 s1 s2 : DeskState) → GoesOnAfter xs s0 s1 → ReadsPicture (turning_after [] input output choice) M early s1 s2
+    → ReadsPicture (turning_after xs input output choice) M early s0 s2
 reads_before xs input output choice M early s0 s1 s2 b h = record { read = from_before xs input _ s0 s1 s2 b h.read; all = h.all; admitted = h.admitted }
 
-with_before : (xs : List Name) (input output : Name) (choice : Choice) (M : Meaning) (early : Option ℕ) (s0 s1 s2 : DeskState) → GoesOnAfter xs s0 s1 → TurnedWith (turning_behind [] input output choice) M early s1 s2
-    → TurnedWith (turning_behind xs input output choice) M early s0 s2
+with_before : (xs : List Name) (input output : Name) (choice : Choice) (M : Meaning) (early : Option ℕ) (s0 s1 s2 : DeskState) → GoesOnAfter xs s0 s1 → TurnedWith (turning_after [] input output choice) M early s1 s2
+    → TurnedWith (turning_after xs input output choice) M early s0 s2
 with_before xs i o c M early s0 s1 s2 b (read, wrote, means) = (reads_before xs i o c M early s0 s1 s2 b read, added_more xs i o (moved_text c M) s0 s1 s2 b wrote, means)
 
-pub turned_behind : (xs : List Name) (input output : Name) (choice : Choice) (s0 s1 s2 : DeskState) (w : Why) → GoesOnAfter xs s0 s1 → Turned (turning_behind [] input output choice) s1 w s2 → Turned (turning_behind xs input output choice) s0 w s2
-turned_behind xs i o c s0 s1 s2 why.Done b (M, w) = (M, with_before xs i o c M None s0 s1 s2 b w)
-turned_behind xs i o c s0 s1 s2 (why.Warned n) b (M, w) = (M, with_before xs i o c M (Some n) s0 s1 s2 b w)
-turned_behind xs i o c s0 s1 s2 (why.Usage u) b h = absurd h
-turned_behind xs i o c s0 s1 s2 (why.Refused f) b h = (stopped_more xs i [] put.Done s0 s1 s2 b h.0, from_before xs i _ s0 s1 s2 b h.1)
-turned_behind xs i o c s0 s1 s2 (why.Picture p) b h = (stopped_more xs i [] put.Done s0 s1 s2 b h.0, (h.1.0, h.1.1, from_before xs i _ s0 s1 s2 b h.1.2, h.1.3, h.1.4))
-turned_behind xs i o c s0 s1 s2 (why.OpenFault which.Input) b h = unopened_more xs i [] s0 s1 s2 b h
-turned_behind xs i o c s0 s1 s2 (why.OpenFault which.Script) b h = absurd h
-turned_behind xs i o c s0 s1 s2 (why.OpenFault which.Tables) b h = absurd h
-turned_behind xs i o c s0 s1 s2 (why.OpenFault which.Comment) b h = absurd h
-turned_behind xs i o c s0 s1 s2 (why.OpenFault which.Output) b h = (
+pub turned_after : (xs : List Name) (input output : Name) (choice : Choice) (s0 s1 s2 : DeskState) (w : Why) → GoesOnAfter xs s0 s1 → Turned (turning_after [] input output choice) s1 w s2 → Turned (turning_after xs input output choice) s0 w s2
+turned_after xs i o c s0 s1 s2 why.Done b (M, w) = (M, with_before xs i o c M None s0 s1 s2 b w)
+turned_after xs i o c s0 s1 s2 (why.Warned n) b (M, w) = (M, with_before xs i o c M (Some n) s0 s1 s2 b w)
+turned_after xs i o c s0 s1 s2 (why.Usage u) b h = absurd h
+turned_after xs i o c s0 s1 s2 (why.Refused f) b h = (stopped_more xs i [] put.Done s0 s1 s2 b h.0, from_before xs i _ s0 s1 s2 b h.1)
+turned_after xs i o c s0 s1 s2 (why.Picture p) b h = (stopped_more xs i [] put.Done s0 s1 s2 b h.0, (h.1.0, h.1.1, from_before xs i _ s0 s1 s2 b h.1.2, h.1.3, h.1.4))
+turned_after xs i o c s0 s1 s2 (why.OpenFault which.Input) b h = unopened_more xs i [] s0 s1 s2 b h
+turned_after xs i o c s0 s1 s2 (why.OpenFault which.Script) b h = absurd h
+turned_after xs i o c s0 s1 s2 (why.OpenFault which.Tables) b h = absurd h
+turned_after xs i o c s0 s1 s2 (why.OpenFault which.Comment) b h = absurd h
+turned_after xs i o c s0 s1 s2 (why.OpenFault which.Output) b h = (
   subst (λ (names : List Name). Unopened names s0 s2) (sym (append_assoc xs (i ∷ []) (o ∷ []))) (unopened_more xs i (o ∷ []) s0 s1 s2 b h.0),
   (h.1.0, h.1.1, reads_before xs i o c h.1.0 h.1.1 s0 s1 s2 b h.1.2),
 )
-turned_behind xs i o c s0 s1 s2 (why.ReadFault which.Input) b h = (unread_more xs i [] s0 s1 s2 b h.0, from_before xs i _ s0 s1 s2 b h.1)
-turned_behind xs i o c s0 s1 s2 (why.ReadFault which.Script) b h = absurd h
-turned_behind xs i o c s0 s1 s2 (why.ReadFault which.Tables) b h = absurd h
-turned_behind xs i o c s0 s1 s2 (why.ReadFault which.Comment) b h = absurd h
-turned_behind xs i o c s0 s1 s2 (why.ReadFault which.Output) b h = absurd h
-turned_behind xs i o c s0 s1 s2 why.WriteFault b h = (
+turned_after xs i o c s0 s1 s2 (why.ReadFault which.Input) b h = (unread_more xs i [] s0 s1 s2 b h.0, from_before xs i _ s0 s1 s2 b h.1)
+turned_after xs i o c s0 s1 s2 (why.ReadFault which.Script) b h = absurd h
+turned_after xs i o c s0 s1 s2 (why.ReadFault which.Tables) b h = absurd h
+turned_after xs i o c s0 s1 s2 (why.ReadFault which.Comment) b h = absurd h
+turned_after xs i o c s0 s1 s2 (why.ReadFault which.Output) b h = absurd h
+turned_after xs i o c s0 s1 s2 why.WriteFault b h = (
   (let r = h.0 in let f = b.kept.works.stays.counts.writes in omega (arith, r, f)),
   (h.1.0, h.1.1, h.1.2, reads_before xs i o c h.1.0 h.1.1 s0 s1 s2 b h.1.3, added_more xs i o (take h.1.2 (moved_text c h.1.0)) s0 s1 s2 b h.1.4),
 )
-turned_behind xs i o c s0 s1 s2 why.NoMemory b h = (stopped_more xs i [] put.Done s0 s1 s2 b h.0, from_before xs i _ s0 s1 s2 b h.1)
+turned_after xs i o c s0 s1 s2 why.NoMemory b h = (stopped_more xs i [] put.Done s0 s1 s2 b h.0, from_before xs i _ s0 s1 s2 b h.1)

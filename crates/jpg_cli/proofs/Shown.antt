@@ -1,9 +1,9 @@
 -- What the words of djpeg ask for, by the request that they make.
 use Rattle.std.proofs.Common.{◌≡◌, ◌∙◌, ℕ, ap, sym}
-use Rattle.jpg_spec.specs.CommentWords.{FilesAsked, WordsTold, words_right}
-use Rattle.jpg_spec.specs.Requests.{Request, then_asks}
-use Rattle.jpg_spec.specs.ShowWords.{ShowAsked, format_of, show_of}
-use Rattle.jpg_spec.specs.declared.image.EndKind.{EndKind}
+use Rattle.jpg_spec_words.specs.CommentWords.{FilesAsked, WordsTold, words_right}
+use Rattle.jpg_spec_words.specs.Requests.{Request, then_asks}
+use Rattle.jpg_spec_words.specs.ShowWords.{ShowAsked, format_of, show_of}
+use Rattle.jpg_spec_image.specs.declared.image.EndKind.{EndKind}
 
 -- as it is asked for with these files, and in this format
 abbrev showing : Request → FilesAsked → EndKind × ℕ → ShowAsked

@@ -1,4 +1,4 @@
--- The tables of quantisers, taken from a file where one is named.
+-- The tables of quantisers, read from a file if one is named.
 use Rattle.std.proofs.Common.{◌≡◌, ℕ, ◌≤◌, List, [], ◌∷◌, ◌++◌, take, Option, None, Some, Result, Ok, Err, sym, ap, subst, arith, inl, inr}
 use Rattle.std.proofs.lemmas.List.{take-take}
 use Rattle.jpg_base.specs.declared.names.Name.{Name}
@@ -6,21 +6,21 @@ use Rattle.jpg_base.specs.declared.names.Name.TheVariants as name
 use Rattle.jpg_base.specs.declared.names.Put.TheVariants as put
 use Rattle.jpg_base.specs.Desk.{DeskState}
 use Rattle.jpg_spec.specs.Segments.{QuantTable}
-use Rattle.jpg_spec.specs.TableText.{BeginsTables, HasManyBytes, HasWrongByte, LacksNumbers, TellsTables}
-use Rattle.jpg_spec.specs.declared.answers.FaultAt.{FaultAt}
-use Rattle.jpg_spec.specs.declared.answers.Why.{Why}
-use Rattle.jpg_spec.specs.declared.answers.Why.TheVariants as why
-use Rattle.jpg_spec.specs.declared.answers.Which.TheVariants as which
+use Rattle.jpg_spec_image.specs.TableText.{BeginsTables, HasManyBytes, HasWrongByte, LacksNumbers, TellsTables}
+use Rattle.jpg_spec.specs.declared.fault.FaultAt.{FaultAt}
+use Rattle.jpg_spec_words.specs.declared.answers.Why.{Why}
+use Rattle.jpg_spec_words.specs.declared.answers.Why.TheVariants as why
+use Rattle.jpg_spec_words.specs.declared.answers.Which.TheVariants as which
 use Rattle.jpg_cli.specs.Endings.{GoesOnAfter}
-use Rattle.jpg_cli.specs.FileTaken.{AfterFile}
-use Rattle.jpg_cli.specs.Reading.{IsFile, ReadsPart, rest_of}
+use Rattle.jpg_cli.specs.Desk.FileTaken.{AfterFile}
+use Rattle.jpg_cli.specs.Desk.Reading.{IsFile, ReadsPart, rest_of}
 use Rattle.jpg_cli.specs.Stays.{Keeps, OnlySays}
-use Rattle.jpg_cli.specs.TablesTaken.{HasTables, StopsAtFile, StopsAtTables, TellsTablesIn}
+use Rattle.jpg_cli.specs.Desk.TablesTaken.{HasTables, StopsAtFile, StopsAtTables, TellsTablesIn}
 use Rattle.jpg_cli.proofs.Endings.{stopped_then, unopened_then, unread_then}
 use Rattle.jpg_cli.proofs.Input.{part_still, read_still}
 use Rattle.jpg_cli.proofs.ScriptTaken.{front_few, front_whole, stopped_more, unopened_more, unread_more}
 
--- A TEXT IS TOLD BY ITS FRONT, one byte longer than the longest
+-- A TEXT DEPENDS ONLY ON ITS PREFIX, one byte longer than the longest
 
 begins_again : (n : ℕ) (text : List ℕ) → n ≤ 65537 → BeginsTables (take n (take 65537 text)) → BeginsTables (take n text)
 begins_again n text few h = subst BeginsTables (take-take n 65537 text few) h
@@ -129,9 +129,9 @@ pub stopped_tables_then : (before : List Name) (source : Option (List ℕ)) (s0 
 stopped_tables_then before None s0 s1 s2 w k h = absurd h
 stopped_tables_then before (Some file) s0 s1 s2 w k h = stopped_file_then before (name.File file) s0 s1 s2 w k h
 
--- AFTER NAMES that were asked for before
+-- AFTER NAMES that were opened or created before
 
--- a file that is told is told by each desk that has the same files
+-- what a file encodes is the same for each desk that has the same files
 tells_before : (file : Name) (told : Result (List QuantTable) FaultAt) (s0 s1 : DeskState) → s1.files ≡ s0.files → TellsTablesIn file told s1 → TellsTablesIn file told s0
 tells_before file told s0 s1 e h = record { text = h.text; is = subst (λ (files : Option (Name → Option (List ℕ))). IsFile files file h.text) e h.is; tells = h.tells }
 

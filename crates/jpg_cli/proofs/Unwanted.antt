@@ -1,18 +1,18 @@
--- What the first scan header that a reader was fed tells of what is wanted.
+-- What the first scan header that a reader was fed reveals of what isn't wanted.
 use Rattle.std.proofs.Common.{◌≡◌, ℕ, ◌<◌, ◌≤◌, Bool, List, [], ◌++◌, length, take, drop, refl, sym, ap, ◌∙◌, subst, arith, inl, inr, ◌⊎◌, Option, Some, None}
 use Rattle.std.proofs.lemmas.Bool.{cases_lt}
 use Rattle.std.proofs.lemmas.List.{append_assoc, append-nil, length-append, length-take, length-take-le, take-append-drop, take-append-le}
 use Rattle.std.specs.Option.{option_map}
-use Rattle.jpg_spec.specs.FirstFault.{IsFirstFault, Shows}
+use Rattle.jpg_spec.specs.FirstFault.{IsFirstFault, Reveals}
 use Rattle.jpg_spec.specs.Header.{IsHeader}
 use Rattle.jpg_spec.specs.Markers.{Segment}
 use Rattle.jpg_spec.specs.FileMeaning.{Means}
-use Rattle.jpg_spec.specs.FileStands.{FileStands, IsWholeFile}
+use Rattle.jpg_spec.specs.UnfinishedFile.{UnfinishedFile, IsWholeFile}
 use Rattle.jpg_spec.specs.Geometry.{Frame}
-use Rattle.jpg_spec.specs.NotShown.{colours_behind}
-use Rattle.jpg_spec.specs.Pixels.{out_fault, out_fault_of}
+use Rattle.jpg_spec.specs.InForce.{colours_after}
+use Rattle.jpg_spec_image.specs.Pixels.{out_fault, out_fault_of}
 use Rattle.jpg_spec.specs.Segments.{standard_limits}
-use Rattle.jpg_spec.specs.declared.answers.FaultAt.{FaultAt}
+use Rattle.jpg_spec.specs.declared.fault.FaultAt.{FaultAt}
 use Rattle.jpg_spec.specs.declared.fault.Fault.{Fault}
 use Rattle.jpg_spec.specs.declared.frame.Colour.{Colour}
 use Rattle.jpg_spec.specs.declared.frame.Limits.{Limits}
@@ -20,18 +20,18 @@ use Rattle.jpg_spec.proofs.Common.{some_once}
 use Rattle.jpg_spec.proofs.FileLaws.{means_more, means_no_fault, shown_not_standing}
 use Rattle.jpg_spec.proofs.FirstScan.{header_stands}
 use Rattle.jpg_spec.proofs.OneHeader.{whole_once}
-use Rattle.jpg_spec.proofs.OneReason.{reason_behind}
-use Rattle.jpg_spec.proofs.ShownAlike.{shown_alike}
+use Rattle.jpg_spec_image.proofs.OneReason.{reason_after}
+use Rattle.jpg_spec_image.proofs.ShownAlike.{shown_alike}
 use Rattle.jpg_color.specs.Admits.{kind_of, kind_or}
 use Rattle.jpg_color.specs.Shown.{factors_of}
-use Rattle.jpg_file.specs.FirstHead.{IsFirstHead, IsHeadOf}
-use Rattle.jpg_file.specs.File.{IsStop}
-use Rattle.jpg_file.specs.ReadFile.{HasRead, IsDone, KeepsHeadAt, ReaderState}
-use Rattle.jpg_file.specs.declared.head.Head.{Head}
-use Rattle.jpg_file.proofs.FirstHeads.{no_head}
-use Rattle.jpg_cli.specs.ReadPicture.{IsRefused, IsRefusedFor, IsUnwanted, fault_told, unwanted_for, unwanted_in}
-use Rattle.jpg_cli.specs.declared.read_picture.Wanted.{Wanted}
-use Rattle.jpg_cli.specs.declared.read_picture.Wanted.TheVariants.{Coefficients, Image}
+use Rattle.jpg_file.specs.Read.FirstHeader.{IsFirstHeader, IsFirstHeaderOf}
+use Rattle.jpg_file.specs.Read.File.{IsStop}
+use Rattle.jpg_file.specs.Read.ReadFile.{HasRead, IsDone, KeepsHeadAt, ReaderState}
+use Rattle.jpg_file.specs.declared.read.first_header.Head.{Head}
+use Rattle.jpg_file.proofs.FirstHeaders.{no_head}
+use Rattle.jpg_cli.specs.Desk.ReadPicture.{IsRefused, IsRefusedFor, IsUnwanted, fault_told, unwanted_for, unwanted_in}
+use Rattle.jpg_cli.specs.declared.desk.picture.Wanted.{Wanted}
+use Rattle.jpg_cli.specs.declared.desk.picture.Wanted.TheVariants.{Coefficients, Image}
 use Rattle.jpg_cli.proofs.RefusedOnce.{one_refusal}
 
 -- THE HEADER that a reader keeps
@@ -39,10 +39,10 @@ use Rattle.jpg_cli.proofs.RefusedOnce.{one_refusal}
 abbrev pub head_of : Option Head → Option (Frame × Colour × ℕ)
 head_of o = option_map (λ (h : Head). (h.frame, h.colour, h.at)) o
 
--- the fault that a first scan header has, as its segments tell it
-same_reason : (limits : Limits) (gray : Bool) (bytes : List ℕ) (h : Head) → (k : IsFirstHead limits bytes h) → out_fault_of h.colour gray (factors_of h.frame) ≡ reason_behind limits gray k.before
+-- the fault of a first scan header, as its segments reveal it
+same_reason : (limits : Limits) (gray : Bool) (bytes : List ℕ) (h : Head) → (k : IsFirstHeader limits bytes h) → out_fault_of h.colour gray (factors_of h.frame) ≡ reason_after limits gray k.before
 same_reason limits gray bytes h k =
-    ap (λ (c : Colour). out_fault_of c gray (factors_of h.frame)) k.colour ∙ ap (λ (f : Frame). out_fault_of (colours_behind limits k.before) gray (factors_of f)) k.frame
+    ap (λ (c : Colour). out_fault_of c gray (factors_of h.frame)) k.colour ∙ ap (λ (f : Frame). out_fault_of (colours_after limits k.before) gray (factors_of f)) k.frame
 
 told_some : (o : Option Fault) (c : Colour) (gray : Bool) (at : ℕ) (f : FaultAt) → fault_told (kind_or o (kind_of c gray)) at ≡ Some f → (o ≡ Some f.fault) × (at ≡ f.at)
 told_some None c gray at f e = cc
@@ -54,8 +54,8 @@ told_none : (o : Option Fault) (c : Colour) (gray : Bool) (at : ℕ) → fault_t
 told_none None c gray at e = refl
 told_none (Some fault) c gray at e = cc
 
--- it isn't wanted for what the header tells
-head_unwanted : (gray : Bool) (bytes : List ℕ) (o : Option Head) (f : FaultAt) → IsHeadOf standard_limits bytes o → unwanted_in (Image gray) (head_of o) ≡ Some f → IsUnwanted (Image gray) bytes f
+-- the picture isn't wanted for what the header reveals
+head_unwanted : (gray : Bool) (bytes : List ℕ) (o : Option Head) (f : FaultAt) → IsFirstHeaderOf standard_limits bytes o → unwanted_in (Image gray) (head_of o) ≡ Some f → IsUnwanted (Image gray) bytes f
 head_unwanted gray bytes None f k e = cc
 head_unwanted gray bytes (Some h) f k e =
     let told = told_some (out_fault_of h.colour gray (factors_of h.frame)) h.colour gray h.at f e in
@@ -72,26 +72,26 @@ head_unwanted gray bytes (Some h) f k e =
 no_fault : (f : FaultAt) → None ≡ Some f.fault → ⊥
 no_fault f e = cc
 
--- and where it tells nothing, for nothing
-head_wanted : (gray : Bool) (bytes : List ℕ) (o : Option Head) → IsHeadOf standard_limits bytes o → unwanted_in (Image gray) (head_of o) ≡ None → (f : FaultAt) → IsUnwanted (Image gray) bytes f → ⊥
+-- and if it reveals nothing, it is wanted
+head_wanted : (gray : Bool) (bytes : List ℕ) (o : Option Head) → IsFirstHeaderOf standard_limits bytes o → unwanted_in (Image gray) (head_of o) ≡ None → (f : FaultAt) → IsUnwanted (Image gray) bytes f → ⊥
 head_wanted gray bytes None k e f s = k s.before s.contents f.at s.header
 head_wanted gray bytes (Some h) k e f s =
     let cut = take-append-drop h.at bytes ∙ sym (take-append-drop f.at bytes) in
     let one = whole_once standard_limits (take h.at bytes) (take f.at bytes) (drop h.at bytes) (drop f.at bytes) k.before s.before k.contents s.contents k.header s.header cut in
     let none = told_none (out_fault_of h.colour gray (factors_of h.frame)) h.colour gray h.at e in
-    no_fault f (sym none ∙ same_reason standard_limits gray bytes h k ∙ ap (reason_behind standard_limits gray) one.1 ∙ s.fault)
+    no_fault f (sym none ∙ same_reason standard_limits gray bytes h k ∙ ap (reason_after standard_limits gray) one.1 ∙ s.fault)
 
 -- before any byte there is none
 pub no_header : (before : List Segment) (contents : List ℕ) (n : ℕ) → IsHeader standard_limits (take n []) before contents → ⊥
 no_header before contents n k = no_head standard_limits [] (inl (inl refl)) before contents n k
 
--- WHATEVER IS WANTED
+-- WHATEVER IS ASKED FOR
 
-pub unwanted_head : (w : Wanted) (bytes : List ℕ) (o : Option Head) (f : FaultAt) → IsHeadOf standard_limits bytes o → unwanted_in w (head_of o) ≡ Some f → IsUnwanted w bytes f
+pub unwanted_head : (w : Wanted) (bytes : List ℕ) (o : Option Head) (f : FaultAt) → IsFirstHeaderOf standard_limits bytes o → unwanted_in w (head_of o) ≡ Some f → IsUnwanted w bytes f
 unwanted_head Coefficients bytes o f k e = cc
 unwanted_head (Image gray) bytes o f k e = head_unwanted gray bytes o f k e
 
-pub wanted_head : (w : Wanted) (bytes : List ℕ) (o : Option Head) → IsHeadOf standard_limits bytes o → unwanted_in w (head_of o) ≡ None → (f : FaultAt) → IsUnwanted w bytes f → ⊥
+pub wanted_head : (w : Wanted) (bytes : List ℕ) (o : Option Head) → IsFirstHeaderOf standard_limits bytes o → unwanted_in w (head_of o) ≡ None → (f : FaultAt) → IsUnwanted w bytes f → ⊥
 wanted_head Coefficients bytes o k e f h = h
 wanted_head (Image gray) bytes o k e f h = head_wanted gray bytes o k e f h
 
@@ -99,7 +99,7 @@ pub unwanted_within : (w : Wanted) (bytes : List ℕ) (f : FaultAt) → IsUnwant
 unwanted_within Coefficients bytes f h = absurd h
 unwanted_within (Image gray) bytes f s = s.within
 
--- longer bytes, and a front of them
+-- longer bytes, and a prefix of them
 pub unwanted_more : (w : Wanted) (bytes rest : List ℕ) (f : FaultAt) → IsUnwanted w bytes f → IsUnwanted w (bytes ++ rest) f
 unwanted_more Coefficients bytes rest f h = absurd h
 unwanted_more (Image gray) bytes rest f s =
@@ -124,7 +124,7 @@ unwanted_less (Image gray) bytes rest all f cut few s = record {
   fault = s.fault;
 }
 
--- AT THE PLACE of what isn't wanted no byte shows a fault
+-- AT THE PLACE of what isn't wanted no byte has a fault
 
 pub no_stop_there : (w : Wanted) (bytes : List ℕ) (f g : FaultAt) → IsUnwanted w bytes g → f.at ≡ g.at → IsStop standard_limits (take f.at bytes) f → ⊥
 no_stop_there Coefficients bytes f g h same stop = h
@@ -132,28 +132,28 @@ no_stop_there (Image gray) bytes f g s same (long, shown) =
     shown_not_standing standard_limits f.fault (take f.at bytes) [] (take g.at bytes) shown (header_stands standard_limits (take g.at bytes) s.before s.contents s.header s.unbroken)
     (append-nil (take f.at bytes) ∙ ap (λ n. take n bytes) same)
 
--- WHAT COMES BEHIND bytes that stand
+-- WHAT FOLLOWS bytes without a fault
 
-fault_behind : (bytes rest : List ℕ) (fault : Fault) (n : ℕ) → FileStands standard_limits bytes → length bytes < standard_limits.input → IsFirstFault standard_limits (bytes ++ rest) fault n → length bytes ≤ n
-fault_behind bytes rest fault n stands short (inl k) = by (cases_lt n (length bytes))
+fault_after : (bytes rest : List ℕ) (fault : Fault) (n : ℕ) → UnfinishedFile standard_limits bytes → length bytes < standard_limits.input → IsFirstFault standard_limits (bytes ++ rest) fault n → length bytes ≤ n
+fault_after bytes rest fault n stands short (inl k) = by (cases_lt n (length bytes))
   where
     by : (n < length bytes) ⊎ (length bytes ≤ n) → length bytes ≤ n
     by (inr many) = many
     by (inl few) =
         absurd (shown_not_standing standard_limits fault (take n bytes) (drop n bytes) bytes
-        (subst (λ l. Shows standard_limits fault l) (take-append-le n bytes rest (omega (arith, few))) k.1.1) stands (take-append-drop n bytes))
-fault_behind bytes rest fault n stands short (inr (inl k)) = (let at = k.1 in omega (arith, at, short))
-fault_behind bytes rest fault n stands short (inr (inr k)) = (let at = k.1 in omega (arith, at, length-append bytes rest))
+        (subst (λ l. Reveals standard_limits fault l) (take-append-le n bytes rest (omega (arith, few))) k.1.1) stands (take-append-drop n bytes))
+fault_after bytes rest fault n stands short (inr (inl k)) = (let at = k.1 in omega (arith, at, short))
+fault_after bytes rest fault n stands short (inr (inr k)) = (let at = k.1 in omega (arith, at, length-append bytes rest))
 
 -- A reader that goes on: what isn't wanted in its bytes comes before any refusal.
 pub unwanted_first : (w : Wanted) (bytes rest : List ℕ) (r : ReaderState) (f : FaultAt) → r.limits ≡ standard_limits → HasRead bytes r → IsUnwanted w bytes f → IsRefusedFor w (bytes ++ rest) f
 unwanted_first w bytes rest r f e h k =
     let within = unwanted_within w bytes f k in
-    let stands = subst (λ (l : Limits). FileStands l bytes) e h.stands in
+    let stands = subst (λ (l : Limits). UnfinishedFile l bytes) e h.stands in
     let short = subst (λ (l : Limits). length bytes < l.input) e h.short in
-    inr (unwanted_more w bytes rest f k, λ g refused. (let late = fault_behind bytes rest g.fault g.at stands short refused in omega (arith, within, late)))
+    inr (unwanted_more w bytes rest f k, λ g refused. (let late = fault_after bytes rest g.fault g.at stands short refused in omega (arith, within, late)))
 
--- A reader that stopped: what isn't wanted comes before the fault, or nothing is.
+-- A reader that stopped: what isn't wanted comes before the fault, if there is anything unwanted.
 pub stop_unwanted : (w : Wanted) (bytes rest : List ℕ) (n : ℕ) (f g : FaultAt) → n ≤ f.at → IsUnwanted w (take n bytes) g → IsRefused (bytes ++ rest) f → IsRefusedFor w (bytes ++ rest) g
 stop_unwanted w bytes rest n f g few k refused =
     let all : List ℕ = bytes ++ rest in
@@ -186,7 +186,7 @@ stop_wanted w bytes rest o f within keeps none refused = inl (refused, λ g k. l
     late g k (inl less) = less
     late g k (inr few) = absurd (early g few k keeps)
 
--- A WHOLE FILE
+-- A COMPLETE FILE
 
 -- what isn't wanted in it comes before any refusal, since there is none
 pub done_unwanted : (w : Wanted) (bytes rest : List ℕ) (r : ReaderState) (f : FaultAt) → r.limits ≡ standard_limits → IsDone bytes r → IsUnwanted w bytes f → IsRefusedFor w (bytes ++ rest) f
@@ -198,7 +198,7 @@ done_unwanted w bytes rest r f e d k = inr (unwanted_more w bytes rest f k, λ g
     none : (g : FaultAt) → IsRefused (bytes ++ rest) g → ⊥
     none g first = means_no_fault standard_limits (bytes ++ rest) d.meaning g.fault g.at means first
 
--- and where nothing is unwanted, its picture is wanted
+-- and if nothing is unwanted, its picture is wanted
 pub done_wanted : (w : Wanted) (bytes : List ℕ) (r : ReaderState) → r.limits ≡ standard_limits → (d : IsDone bytes r) → unwanted_in w (head_of r.file.head) ≡ None → unwanted_for w d.meaning ≡ None
 done_wanted Coefficients bytes r e d none = refl
 done_wanted (Image gray) bytes r e d none = by (out_fault gray d.meaning) refl
@@ -206,8 +206,8 @@ done_wanted (Image gray) bytes r e d none = by (out_fault gray d.meaning) refl
     means : Means standard_limits bytes d.meaning
     means = (subst (λ (l : Limits). IsWholeFile l bytes d.meaning) e d.whole).0
 
-    head : IsHeadOf standard_limits bytes r.file.head
-    head = subst (λ (l : Limits). IsHeadOf l bytes r.file.head) e d.head
+    head : IsFirstHeaderOf standard_limits bytes r.file.head
+    head = subst (λ (l : Limits). IsFirstHeaderOf l bytes r.file.head) e d.head
 
     by : (o : Option Fault) → out_fault gray d.meaning ≡ o → o ≡ None
     by None same = refl

@@ -3,22 +3,22 @@ use Rattle.std.specs.Prelude.{◌≡◌, ◌⊎◌, ℕ, if◌then◌else◌, Li
 use Rattle.std.specs.Str.{bytes_eq}
 use Rattle.jpg_base.specs.declared.names.Name.{Name}
 use Rattle.jpg_base.specs.declared.names.Name.TheVariants as name
-use Rattle.jpg_spec.specs.Words.{is_tool}
-use Rattle.jpg_spec.specs.EncodeWords.{EncodeAsked, encode_asked}
-use Rattle.jpg_spec.specs.ShowWords.{ShowAsked, show_asked}
-use Rattle.jpg_spec.specs.TransformWords.{TransformAsked, transform_asked}
-use Rattle.jpg_spec.specs.CommentWords.{FileName, standard_input, standard_output, named, FilesAsked, WordsTold, WriteAsked, words_right, words_wrong, usage_at, read_asked, write_asked}
-use Rattle.jpg_spec.specs.declared.answers.UsageFault.TheVariants.{NoTool, UnknownTool}
-use Rattle.jpg_cli.specs.CommentWords.{files_told, write_told}
-use Rattle.jpg_cli.specs.EncodeWords.{encode_told}
-use Rattle.jpg_cli.specs.ShowWords.{show_told}
-use Rattle.jpg_cli.specs.TransformWords.{transform_told}
+use Rattle.jpg_spec_words.specs.Words.{is_tool}
+use Rattle.jpg_spec_words.specs.EncodeWords.{EncodeAsked, encode_asked}
+use Rattle.jpg_spec_words.specs.ShowWords.{ShowAsked, show_asked}
+use Rattle.jpg_spec_words.specs.TransformWords.{TransformAsked, transform_asked}
+use Rattle.jpg_spec_words.specs.CommentWords.{FileName, standard_input, standard_output, named, FilesAsked, WordsTold, WriteAsked, words_right, words_wrong, usage_at, read_asked, write_asked}
+use Rattle.jpg_spec_words.specs.declared.answers.UsageFault.TheVariants.{NoTool, UnknownTool}
+use Rattle.jpg_cli.specs.Words.CommentWords.{files_view, write_told}
+use Rattle.jpg_cli.specs.Words.EncodeWords.{encode_told}
+use Rattle.jpg_cli.specs.Words.ShowWords.{show_told}
+use Rattle.jpg_cli.specs.Words.TransformWords.{transform_told}
 use Rattle.jpg_cli.specs.declared.words.Asked.{Asked}
 use Rattle.jpg_cli.specs.declared.words.Asked.TheVariants as asked
-use Rattle.jpg_cli.specs.declared.comment_words.WordsStop.{WordsStop}
-use Rattle.jpg_cli.specs.declared.comment_words.WordsStop.TheVariants as stop
+use Rattle.jpg_cli.specs.declared.words.comments.WordsStop.{WordsStop}
+use Rattle.jpg_cli.specs.declared.words.comments.WordsStop.TheVariants as stop
 
--- what isn't built yet; jpegtran; djpeg; cjpeg; rdjpgcom; wrjpgcom
+-- a command that isn't built yet; jpegtran; djpeg; cjpeg; rdjpgcom; wrjpgcom
 pub data Command : Type 0 where
   not_built : Command
   transform_picture : TransformAsked → Command
@@ -27,7 +27,7 @@ pub data Command : Type 0 where
   print_comments : FilesAsked → Command
   insert_comment : WriteAsked → Command
 
--- the same for rdjpgcom as for its files
+-- what the files of rdjpgcom ask for, as a command
 abbrev pub read_command : WordsTold FilesAsked → WordsTold Command
 read_command (words_wrong usage) = words_wrong usage
 read_command (words_right files) = words_right (print_comments files)
@@ -78,10 +78,11 @@ command_told asked.NotBuilt = not_built
 command_told (asked.Jpegtran words) = transform_picture (transform_told words)
 command_told (asked.Djpeg words) = show_picture (show_told words)
 command_told (asked.Cjpeg words) = encode_image (encode_told words)
-command_told (asked.Rdjpgcom files) = print_comments (files_told files)
+command_told (asked.Rdjpgcom files) = print_comments (files_view files)
 command_told (asked.Wrjpgcom words) = insert_comment (write_told words)
 
--- Where the words are right, what they ask for; where they aren't, what is wrong. Memory can be wanting where a file is named, or a comment given.
+-- If the words are right, what they ask for; if they aren't, what is wrong. NoMemory is possible if a file is named, or
+-- a comment given.
 abbrev pub IsCommand : WordsTold Command → Result Asked WordsStop → Type 0
 IsCommand told (Ok a) = told ≡ words_right (command_told a)
 IsCommand told (Err (stop.Usage usage)) = told ≡ words_wrong usage

@@ -1,4 +1,4 @@
--- HOW A COMMAND ENDS: the names that it asked for, what it read of an input, and what it wrote.
+-- HOW A COMMAND ENDS: the names that it opened or created, what it read of an input, and what it wrote.
 use Rattle.std.specs.Prelude.{◌≡◌, ℕ, List, [], ◌∷◌, ◌++◌}
 use Rattle.jpg_base.specs.declared.names.Name.{Name}
 use Rattle.jpg_base.specs.declared.names.Put.{Put}
@@ -6,25 +6,26 @@ use Rattle.jpg_base.specs.declared.names.Put.TheVariants as put
 use Rattle.jpg_base.specs.Desk.{DeskState, Rose}
 use Rattle.jpg_base.specs.Laws.{NotesNames, Grows}
 use Rattle.jpg_spec.specs.Segments.{standard_limits}
-use Rattle.jpg_cli.specs.Reading.{ReadsBytes}
+use Rattle.jpg_cli.specs.Desk.Reading.{ReadsBytes}
 use Rattle.jpg_cli.specs.Stays.{Keeps}
 
--- names in the order in which they are asked for, with their answers: this one for the last, and Done for each before it
+-- names in the order in which they are opened or created, with their answers: this one for the last, and Done for each
+-- before it
 abbrev pub asked_for : List Name → Put → List (Name × Put)
 asked_for [] answer = []
 asked_for (name ∷ []) answer = (name, answer) ∷ []
 asked_for (name ∷ next ∷ names) answer = (name, put.Done) ∷ asked_for (next ∷ names) answer
 
--- These names were asked for, the last one with this answer.
+-- These names were opened or created, the last one with this answer.
 abbrev pub Asks : List Name → Put → DeskState → DeskState → Type 0
 Asks names answer old new = NotesNames old.asked (asked_for names answer) new.asked
 
--- These names were asked for and opened, and nothing but reading was done.
+-- These names were opened, and nothing else was done but reading.
 pub record GoesOnAfter (names : List Name) (old new : DeskState) : Type 0 where
   pub asked : Asks names put.Done old new
   pub kept : Keeps old new
 
--- They were asked for, and no output was added.
+-- They were opened or created, and no output was added.
 pub record Stopped (names : List Name) (answer : Put) (old new : DeskState) : Type 0 where
   pub asked : Asks names answer old new
   pub outputs : new.outputs ≡ old.outputs
@@ -39,12 +40,13 @@ pub record Unread (names : List Name) (old new : DeskState) : Type 0 where
   pub stopped : Stopped names put.Done old new
   pub reads : Rose old.counts.reads new.counts.reads
 
--- These names were asked for, and then one more, under which an output was added. It holds this text.
+-- These names were opened, and then an output was created under one more name. It has this text.
 pub record Added (names : List Name) (output : Name) (text : List ℕ) (old new : DeskState) : Type 0 where
   pub asked : Asks (names ++ output ∷ []) put.Done old new
   pub outputs : Grows old.outputs (output, text) new.outputs
 
--- Behind these names the input was opened, and bytes of it were read, no more than may be. The output holds a text, of which with them this is so.
+-- After these names the input was opened, and bytes of it, no more than may be, were read. The output has a text, and
+-- this holds of the bytes and the text.
 pub record Copied (before : List Name) (input output : Name) (Is : List ℕ → List ℕ → Type 0) (old new : DeskState) : Type 0 where
   pub bytes : List ℕ
   pub text : List ℕ

@@ -3,33 +3,33 @@ use Rattle.std.specs.Prelude.{◌≡◌, ℕ, Bool, List, Option, None}
 use Rattle.jpg_base.specs.Desk.{DeskState}
 use Rattle.jpg_spec.specs.Early.{IsMeaning}
 use Rattle.jpg_spec.specs.FileMeaning.{Means}
-use Rattle.jpg_spec.specs.Laws.{IsTransformOf, UndoesTransform}
+use Rattle.jpg_spec_move.specs.Laws.{IsTransformOf, UndoesTransform}
 use Rattle.jpg_spec.specs.Meaning.{Meaning}
-use Rattle.jpg_spec.specs.Moved.{IsSamePicture, moved_text}
-use Rattle.jpg_spec.specs.Pixels.{out_fault}
+use Rattle.jpg_spec_move.specs.Moved.{IsSamePicture, moved_text}
+use Rattle.jpg_spec_image.specs.Pixels.{out_fault}
 use Rattle.jpg_spec.specs.Segments.{standard_limits}
-use Rattle.jpg_spec.specs.declared.transform.Transform.{Transform}
-use Rattle.jpg_spec.specs.declared.answers.FaultAt.{FaultAt}
-use Rattle.jpg_spec.specs.declared.answers.Why.{Why}
-use Rattle.jpg_spec.specs.declared.answers.Why.TheVariants as why
+use Rattle.jpg_spec_move.specs.declared.transform.Transform.{Transform}
+use Rattle.jpg_spec.specs.declared.fault.FaultAt.{FaultAt}
+use Rattle.jpg_spec_words.specs.declared.answers.Why.{Why}
+use Rattle.jpg_spec_words.specs.declared.answers.Why.TheVariants as why
 use Rattle.jpg_cli.specs.Certain.{IsOrNoMemory, IsTold}
 use Rattle.jpg_cli.specs.Run.{NoneRose}
-use Rattle.jpg_cli.specs.Showing.{Showing, Shown}
-use Rattle.jpg_cli.specs.Turned.{Turned, TurnedWith, Turning}
+use Rattle.jpg_cli.specs.Tools.Showing.{Showing, Shown}
+use Rattle.jpg_cli.specs.Tools.Turned.{Turned, TurnedWith, Turning}
 
--- Where no count of open, read or write rose, a run that ends like this has such an answer.
+-- If no count of open, read or write rose, a run that ends in this way has such an answer.
 abbrev pub WhereNoneRose : (DeskState → Why → DeskState → Type 0) → DeskState → (Why → Type 0) → Type 0
 WhereNoneRose Ends old Is = (new : DeskState) (why : Why) → NoneRose old.counts new.counts → Ends old why new → Is why
 
--- It has this answer, or there was no memory.
-abbrev pub Answers : (DeskState → Why → DeskState → Type 0) → DeskState → Why → Type 0
-Answers Ends old due = WhereNoneRose Ends old (IsOrNoMemory due)
+-- It has this answer, or NoMemory.
+abbrev pub AnswersOrNoMemory : (DeskState → Why → DeskState → Type 0) → DeskState → Why → Type 0
+AnswersOrNoMemory Ends old due = WhereNoneRose Ends old (IsOrNoMemory due)
 
 -- Whichever counts rose, it has such an answer.
 abbrev pub WhateverRose : (DeskState → Why → DeskState → Type 0) → DeskState → (Why → Type 0) → Type 0
 WhateverRose Ends old Is = (new : DeskState) (why : Why) → Ends old why new → Is why
 
--- A run that turns a picture refused this input with this fault, however the desk cut it into pieces.
+-- A run that transforms a picture refused this input with this fault, however the desk cut it into pieces.
 pub record WasRefused (bytes : List ℕ) (f : FaultAt) : Type 0 where
   pub turning : Turning
   pub old : DeskState
@@ -37,7 +37,7 @@ pub record WasRefused (bytes : List ℕ) (f : FaultAt) : Type 0 where
   pub told : IsTold old.files turning.input bytes
   pub turned : Turned turning old (why.Refused f) new
 
--- A run that shows a picture did, gray where that is asked for.
+-- A run that decodes a picture did, in grayscale or not.
 pub record WasRefusedShown (gray : Bool) (bytes : List ℕ) (f : FaultAt) : Type 0 where
   pub showing : Showing
   pub old : DeskState
@@ -46,7 +46,8 @@ pub record WasRefusedShown (gray : Bool) (bytes : List ℕ) (f : FaultAt) : Type
   pub told : IsTold old.files showing.input bytes
   pub shown : Shown showing old (why.Refused f) new
 
--- A run was done, perhaps with a warning, that turned what a transform makes of this picture by its inverse, without trimming and graying.
+-- A run was done, perhaps with a warning, that transformed a transform of this picture by its inverse, without trimming
+-- and conversion to grayscale.
 pub record WasTurnedBack (t : Transform) (M : Meaning) : Type 0 where
   pub turning : Turning
   pub old : DeskState
@@ -61,7 +62,7 @@ pub record WasTurnedBack (t : Transform) (M : Meaning) : Type 0 where
 abbrev pub text_back : {t : Transform} {M : Meaning} → WasTurnedBack t M → List ℕ
 text_back w = moved_text w.turning.choice w.picture
 
--- The bytes mean a picture, also where they end early, that is shown, gray where that is asked for.
+-- The bytes mean a picture, also if they end early, that can be displayed, in grayscale or not.
 abbrev pub MeanShown : Bool → List ℕ → Type 0
 MeanShown gray bytes = (M : Meaning) × IsMeaning standard_limits bytes M × (out_fault gray M ≡ None)
 

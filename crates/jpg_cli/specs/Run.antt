@@ -4,44 +4,46 @@ use Rattle.std.specs.Io.KnownBytes.{Appends}
 use Rattle.jpg_base.specs.declared.names.Counts.{Counts}
 use Rattle.jpg_base.specs.declared.names.Name.{Name}
 use Rattle.jpg_base.specs.Desk.{DeskState, Rose}
-use Rattle.jpg_spec.specs.declared.answers.FaultAt.{FaultAt}
-use Rattle.jpg_spec.specs.declared.answers.Why.{Why}
-use Rattle.jpg_spec.specs.declared.answers.Why.TheVariants as why
+use Rattle.jpg_spec.specs.declared.fault.FaultAt.{FaultAt}
+use Rattle.jpg_spec_words.specs.declared.answers.Why.{Why}
+use Rattle.jpg_spec_words.specs.declared.answers.Why.TheVariants as why
 use Rattle.jpg_spec.specs.declared.fault.Fault.TheVariants.{NotBuilt}
-use Rattle.jpg_spec.specs.declared.transform.PictureFault.{PictureFault}
-use Rattle.jpg_spec.specs.CommentWords.{FilesAsked, WordsTold, WriteAsked, words_right, words_wrong}
+use Rattle.jpg_spec_write.specs.declared.picture_fault.PictureFault.{PictureFault}
+use Rattle.jpg_spec_words.specs.CommentWords.{FilesAsked, WordsTold, WriteAsked, words_right, words_wrong}
 use Rattle.jpg_spec.specs.Early.{MeansAs}
 use Rattle.jpg_spec.specs.Meaning.{Meaning}
-use Rattle.jpg_spec.specs.Messages.{message, status_of}
-use Rattle.jpg_spec.specs.Moved.{Scans, picture_fault}
-use Rattle.jpg_spec.specs.Pixels.{out_fault}
+use Rattle.jpg_spec_words.specs.Messages.{message, status_of}
+use Rattle.jpg_spec_write.specs.ScansAsked.{Scans}
+use Rattle.jpg_spec_move.specs.Moved.{picture_fault}
+use Rattle.jpg_spec_image.specs.Pixels.{out_fault}
 use Rattle.jpg_spec.specs.Segments.{standard_limits}
-use Rattle.jpg_spec.specs.ShowWords.{ShowAsked}
-use Rattle.jpg_spec.specs.declared.answers.UsageFault.TheVariants.{NoEnd}
-use Rattle.jpg_spec.specs.declared.image.EndKind.{EndKind}
-use Rattle.jpg_spec.specs.TransformWords.{TransformAsked, choice_asked}
-use Rattle.jpg_spec.specs.Words.{tool_of}
+use Rattle.jpg_spec_words.specs.ShowWords.{ShowAsked}
+use Rattle.jpg_spec_words.specs.declared.answers.UsageFault.TheVariants.{NoEnd}
+use Rattle.jpg_spec_image.specs.declared.image.EndKind.{EndKind}
+use Rattle.jpg_spec_words.specs.TransformWords.{TransformAsked, choice_asked}
+use Rattle.jpg_spec_words.specs.Words.{tool_of}
 use Rattle.jpg_cli.specs.Commands.{Command, not_built as unbuilt, transform_picture, show_picture, encode_image, print_comments, insert_comment, command_asked, name_of}
-use Rattle.jpg_cli.specs.CommentInserted.{Inserted, Task}
-use Rattle.jpg_cli.specs.ImageEncoded.{EncodedAsAsked}
-use Rattle.jpg_cli.specs.ReadComments.{Printed}
-use Rattle.jpg_cli.specs.ReadPicture.{IsRefusedFor}
-use Rattle.jpg_cli.specs.declared.read_picture.Wanted.{Wanted}
-use Rattle.jpg_cli.specs.declared.read_picture.Wanted.TheVariants.{Coefficients, Image}
-use Rattle.jpg_cli.specs.Ends.{has_format}
-use Rattle.jpg_cli.specs.Reading.{IsFile}
-use Rattle.jpg_cli.specs.Showing.{Showing, Shown}
+use Rattle.jpg_cli.specs.Tools.CommentInserted.{Inserted, Task}
+use Rattle.jpg_cli.specs.Tools.ImageEncoded.{EncodedAsAsked}
+use Rattle.jpg_cli.specs.Tools.ReadComments.{Printed}
+use Rattle.jpg_cli.specs.Desk.ReadPicture.{IsRefusedFor}
+use Rattle.jpg_cli.specs.declared.desk.picture.Wanted.{Wanted}
+use Rattle.jpg_cli.specs.declared.desk.picture.Wanted.TheVariants.{Coefficients, Image}
+use Rattle.jpg_cli.specs.Tools.Ends.{has_format}
+use Rattle.jpg_cli.specs.Desk.Reading.{IsFile}
+use Rattle.jpg_cli.specs.Tools.Showing.{Showing, Shown}
 use Rattle.jpg_cli.specs.Stays.{FilesStay, OnlyWorks, Untouched}
-use Rattle.jpg_cli.specs.ScriptTaken.{HasScans, HasScansFault}
-use Rattle.jpg_cli.specs.Turned.{Transformed}
+use Rattle.jpg_cli.specs.Desk.ScriptTaken.{HasScans, HasScansFault}
+use Rattle.jpg_cli.specs.Tools.Turned.{Transformed}
 use Rattle.jpg_cli.specs.declared.top.Ended.{Ended}
 
--- The text was said. Where the count of failed messages rose, a first part of it may have been said alone.
+-- The text was said. If the count of failed messages rose, perhaps only a first part of it.
 abbrev pub SaysText : DeskState → List ℕ → DeskState → Type 0
 SaysText old text new =
     Appends old.said new.said text ⊎ (Rose old.counts.says new.counts.says × ((n : ℕ) × Appends old.said new.said (take n text)))
 
--- Where the files are told, the input is this one, and means this picture, as a whole file or as one that ends early after so many bytes.
+-- If the files are known, the input is this one, and means this picture, as a complete file or as one that ends early
+-- after this many bytes.
 pub record PictureInput (input : Name) (early : Option ℕ) (old : DeskState) : Type 0 where
   pub bytes : List ℕ
   pub meaning : Meaning
@@ -55,23 +57,23 @@ pub record PictureDue (a : TransformAsked) (fault : Option PictureFault) (early 
   pub picture : PictureInput (name_of a.files.input) early old
   pub is : picture_fault (choice_asked a scans) picture.meaning ≡ fault
 
--- It is shown.
+-- It can be displayed.
 pub record ShownInput (s : Showing) (early : Option ℕ) (old : DeskState) : Type 0 where
   pub picture : PictureInput s.input early old
   pub shown : out_fault s.gray picture.meaning ≡ None
 
--- The input is refused with this fault, where this is wanted of it.
+-- The input is refused with this fault, where this is asked for.
 pub record RefusedInput (w : Wanted) (input : Name) (f : FaultAt) (old : DeskState) : Type 0 where
   pub bytes : List ℕ
   pub file : IsFile old.files input bytes
   pub refused : IsRefusedFor w bytes f
 
--- The file that shall tell the scans has this fault; or it tells them, and the input is refused with this fault.
+-- The script's file has this fault; or it has none, and the input is refused with this fault.
 abbrev pub IsRefusalDue : TransformAsked → FaultAt → DeskState → Type 0
 IsRefusalDue a f old =
     HasScansFault a.scans old f ⊎ ((scans : Scans) × HasScans a.scans old scans × RefusedInput Coefficients (name_of a.files.input) f old)
 
--- Where no count of open, read or write rose, the answer is the one that the scans and the input have, or want of memory.
+-- If no count of open, read or write rose, the answer is that of the scans and the input, or NoMemory.
 abbrev pub IsAnswerDue : TransformAsked → DeskState → Why → Type 0
 IsAnswerDue a old why.Done = PictureDue a None None old
 IsAnswerDue a old (why.Warned n) = PictureDue a None (Some n) old
@@ -90,7 +92,7 @@ IsShowDue s old other = ⊥
 abbrev pub NoneRose : Counts → Counts → Type 0
 NoneRose old new = (Rose old.opens new.opens → ⊥) × (Rose old.reads new.reads → ⊥) × (Rose old.writes new.writes → ⊥)
 
--- A picture is shown, where one of the ends of images has the format, or memory was wanting for the names of its files.
+-- A picture is decoded, if one of the image writers has the format, or there was no memory for the names of its files.
 abbrev pub showing_of : ShowAsked → Showing
 showing_of a = record { input = name_of a.files.input; output = name_of a.files.output; kind = a.kind; gray = a.gray; smooth = a.smooth }
 
@@ -98,7 +100,7 @@ abbrev pub RanShow : Bool → ShowAsked → DeskState → Why → DeskState → 
 RanShow true a old ended new = Shown (showing_of a) old ended new ⊎ ((ended ≡ why.NoMemory) × Untouched old new)
 RanShow false a old ended new = ((ended ≡ why.Usage (record { fault = NoEnd; word = a.kind_word })) ⊎ (ended ≡ why.NoMemory)) × Untouched old new
 
--- The comments of the input are printed, or memory was wanting for its name.
+-- The comments of the input are printed, or there was no memory for its name.
 abbrev pub RanRead : FilesAsked → DeskState → Why → DeskState → Type 0
 RanRead files old ended new = Printed (name_of files.input) (name_of files.output) old ended new ⊎ ((ended ≡ why.NoMemory) × Untouched old new)
 
@@ -106,7 +108,7 @@ RanRead files old ended new = Printed (name_of files.input) (name_of files.outpu
 abbrev pub task_of : WriteAsked → Task
 task_of asked = record { comment = asked.comment; input = name_of asked.files.input; output = name_of asked.files.output; replace = asked.replace }
 
--- by the formats of the ends of images, and what the words ask for
+-- by the formats of the image writers, and what the words ask for
 abbrev pub Worked : List EndKind → WordsTold Command → DeskState → Why → DeskState → Type 0
 Worked formats (words_wrong usage) old ended new = (ended ≡ why.Usage usage) × Untouched old new
 Worked formats (words_right unbuilt) old ended new = (ended ≡ why.Refused (record { fault = NotBuilt; at = 0 })) × Untouched old new

@@ -1,18 +1,18 @@
--- WHAT STAYS of a desk in the steps of a run.
+-- WHAT DOESN'T CHANGE of a desk in the steps of a run.
 use Rattle.std.specs.Prelude.{◌≡◌}
 use Rattle.jpg_base.specs.Desk.{DeskState, NoneFell}
 
--- no count fell, and the files stayed
+-- no count fell, and the files didn't change
 pub record FilesStay (old new : DeskState) : Type 0 where
   pub counts : NoneFell old.counts new.counts
   pub files : new.files ≡ old.files
 
--- and so did what was said
+-- nor did the messages
 pub record OnlyWorks (old new : DeskState) : Type 0 where
   pub stays : FilesStay old new
   pub said : new.said ≡ old.said
 
--- and the outputs
+-- nor did the outputs
 pub record Keeps (old new : DeskState) : Type 0 where
   pub works : OnlyWorks old new
   pub outputs : new.outputs ≡ old.outputs
@@ -28,13 +28,13 @@ pub record OnlyReads (old new : DeskState) : Type 0 where
   pub copies : OnlyCopies old new
   pub outputs : new.outputs ≡ old.outputs
 
--- nothing was asked for, nothing read and nothing written
+-- nothing was opened or created, nothing read and nothing written
 pub record Untouched (old new : DeskState) : Type 0 where
   pub asked : new.asked ≡ old.asked
   pub outputs : new.outputs ≡ old.outputs
   pub left : new.left ≡ old.left
 
--- nothing but what was said and the counts changed
+-- nothing but the messages and the counts changed
 pub record OnlySays (old new : DeskState) : Type 0 where
   pub stays : FilesStay old new
   pub same : Untouched old new

@@ -1,14 +1,16 @@
-//! Messages, put together without memory of their own.
+//! Messages, built without memory of their own.
 ghost use Rattle.std.specs.Prelude.{◌≡◌, ◌≤◌, ◌<◌, ◌+◌, ◌++◌, length, drop};
 ghost use Rattle.std.specs.Fmt.{decimal};
 ghost use Rattle.arrayvec.specs.ArrayVec.{array_vec_len};
-ghost use Rattle.jpg_spec.specs.Messages.{message, picture_numbers, text_of, then_bit, then_number};
-ghost use Rattle.jpg_spec.specs.declared.answers.Why.TheVariants as why;
+ghost use Rattle.jpg_spec_words.specs.Messages.{message, picture_numbers, text_of, then_bit, then_number};
+ghost use Rattle.jpg_spec_words.specs.declared.answers.Why.TheVariants as why;
 
 use arrayvec::ArrayVec;
-use jpg_spec::{FaultAt, PictureFault, Usage, Why};
+use jpg_spec::FaultAt;
+use jpg_spec_words::{Usage, Why};
+use jpg_spec_write::PictureFault;
 
-/// A message in work: each has fewer than 128 bytes.
+/// A message that is being built; each has fewer than 128 bytes.
 pub type Message = ArrayVec<u8, 128>;
 
 // Appends a text.
@@ -93,7 +95,7 @@ fn add_refusal(message: &mut Message, fault: FaultAt)
     add_number(message, fault.at);
 }
 
-// Appends a number behind a space.
+// Appends a space and a number.
 fn then_number(message: &mut Message, number: u8)
     requires room { array_vec_len message.old + 24 ≤ 128 }
     ensures text { message.new.items ≡ message.old.items ++ then_number number }
@@ -175,7 +177,7 @@ fn add_text(message: &mut Message, why: Why)
     }
 }
 
-/// The line that names a command and why it ended; nothing where all was done.
+/// The line that names a command and why it ended; nothing for Done.
 pub fn message_of(tool: &str, why: Why) -> Message
     requires { length tool.now ≤ 8 }
     ensures { result.items ≡ message tool.now why }

@@ -21,7 +21,7 @@ rdjpgcom [FILE] > OUTPUT
 wrjpgcom [-replace] [-comment TEXT | -cfile FILE] [FILE] > OUTPUT
 ";
 
-// What is told of the program itself, where the words ask for that alone.
+// The text about the program itself, if the words ask only for that.
 fn told(words: &[String]) -> Option<&'static str> {
     match words {
         [word] if word.as_str() == "--help" => Some(HELP),
@@ -30,7 +30,7 @@ fn told(words: &[String]) -> Option<&'static str> {
     }
 }
 
-// The words behind the program's name; else the exit status.
+// The words after the program's name; or the exit status.
 fn words<R: Runtime<A = Global>>(rt: &R) -> Result<Vec<String>, u8> {
     let mut words = Vec::new(rt.alloc());
     let args = match env::args(rt) {
@@ -49,9 +49,9 @@ fn words<R: Runtime<A = Global>>(rt: &R) -> Result<Vec<String>, u8> {
     Ok(words)
 }
 
-/// Runs the command that the program's words ask for over real files and the standard streams, and
-/// ends with its exit status. `--help` and `--version` alone print what they ask for. Where there is no
-/// memory for the words it ends with 3, and where a word isn't UTF-8 with 1; both times it says nothing.
+/// Runs the command that the program's words ask for over real files and the standard streams, and ends with its exit
+/// status. A single `--help` or `--version` prints the help or the version. If there is no memory for the words the
+/// status is 3, and if a word isn't UTF-8 it is 1, both without a message.
 pub fn run_program<R: Runtime<A = Global>>(rt: R) -> ExitCode {
     let alloc = rt.alloc();
     let words = match words(&rt) {

@@ -1,21 +1,22 @@
-//! The top call.
+//! The entry point for all commands.
 ghost use Rattle.std.specs.Prelude.{◌≤◌, length, map, string_bytes};
-ghost use Rattle.jpg_spec.specs.Messages.{message};
-ghost use Rattle.jpg_cli.specs.Ends.{AreNewEnds, formats_of};
+ghost use Rattle.jpg_spec_words.specs.Messages.{message};
+ghost use Rattle.jpg_cli.specs.Tools.Ends.{AreNewEnds, formats_of};
 ghost use Rattle.jpg_cli.specs.Stays.{OnlySays};
 ghost use Rattle.jpg_cli.specs.Run.{Ran, Works, SaysText};
 
-use crate::comment_words::WordsStop;
-use crate::encode::encode;
-use crate::insert_comment::insert_comment;
 use crate::message::message_of;
-use crate::read_comments::print_comments;
-use crate::show_by::show_by;
-use crate::transform::transform;
+use crate::tools::cjpeg::encode;
+use crate::tools::image_writer::show_by;
+use crate::tools::jpegtran::transform;
+use crate::tools::rdjpgcom::print_comments;
+use crate::tools::wrjpgcom::insert_comment;
+use crate::words::comments::WordsStop;
 use crate::words::{Asked, read_words, tool_name};
 use jpg_base::{Desk, Put};
 use jpg_pnm_bmp::ImageEnd;
-use jpg_spec::{Fault, FaultAt, Why};
+use jpg_spec::{Fault, FaultAt};
+use jpg_spec_words::Why;
 use std::alloc::Global;
 
 /// How a command ended: its exit status, and why.
@@ -25,7 +26,7 @@ pub struct Ended {
     pub why: Why,
 }
 
-// Says why a command ended; nothing where all was done.
+// Says why a command ended; nothing for Done.
 fn tell<D: Desk>(tool: &str, why: Why, desk: &mut D)
     requires { length tool.now ≤ 8 }
     ensures kept { OnlySays (D.state desk.old) (D.state desk.new) }
@@ -61,15 +62,14 @@ fn work<D: Desk>(alloc: Global, words: &[String], desk: &mut D, ends: Vec<Box<dy
     }
 }
 
-/// Runs the command that the words ask for over a desk: `jpegtran` writes a file, or standard input, moved as its switches
-/// say, as a sequential file, to a file or onto standard output. An input is refused with its first fault, and nothing is written then.
-/// One that ends early is written with what it has, and the status is 2.
-/// `djpeg` writes the image that such a file shows, as PNM or BMP, by the first of the ends of images that has the format; where none has
-/// it, the words are wrong at the one that asks for it.
-/// `cjpeg` writes the file of an image, PNM or BMP, encoded as its switches say.
-/// `rdjpgcom [FILE]` prints the comments of a file, or of standard input, onto standard output. `wrjpgcom`
-/// writes a file, or standard input, with a comment inserted before its frame header onto standard output.
-/// What is wrong or refused is named in a message.
+/// Runs the command that the words ask for over a desk: `jpegtran` writes a file, or standard input, transformed as its
+/// switches say, as a sequential file or, with `-progressive` or a script of such scans, a progressive one, to a file
+/// or standard output. An input is refused with its first fault, and nothing is written then. One that ends early is
+/// written with what it has, and the status is 2. `djpeg` writes the image of such a file, as PNM or BMP, with the
+/// first of the image writers `ends` that has the format; if none has it, the words are wrong at the one that asks for
+/// it. `cjpeg` writes the file of an image, PNM or BMP, encoded as its switches say. `rdjpgcom [FILE]` prints the
+/// comments of a file, or of standard input, to standard output. `wrjpgcom` writes a file, or standard input, with a
+/// comment inserted before its frame header to standard output. What is wrong or refused is named in a message.
 pub fn run<D: Desk>(
     alloc: Global,
     words: &[String],

@@ -1,29 +1,38 @@
-//! The words of a call.
+//! The words of a call: which command they name, and what they ask for.
 ghost use Rattle.std.specs.Prelude.{◌≡◌, ◌≤◌, IfSome, IfNone, drop, length, map, true, false, string_bytes};
-ghost use Rattle.jpg_spec.specs.CommentWords.{read_asked, write_asked};
-ghost use Rattle.jpg_spec.specs.EncodeWords.{encode_asked};
-ghost use Rattle.jpg_spec.specs.ShowWords.{show_asked};
-ghost use Rattle.jpg_spec.specs.TransformWords.{transform_asked};
-ghost use Rattle.jpg_spec.specs.Words.{is_tool, tool_of};
-ghost use Rattle.jpg_cli.specs.declared.comment_words.WordsStop.TheVariants.{Usage as wrong};
+ghost use Rattle.jpg_spec_words.specs.CommentWords.{read_asked, write_asked};
+ghost use Rattle.jpg_spec_words.specs.EncodeWords.{encode_asked};
+ghost use Rattle.jpg_spec_words.specs.ShowWords.{show_asked};
+ghost use Rattle.jpg_spec_words.specs.TransformWords.{transform_asked};
+ghost use Rattle.jpg_spec_words.specs.Words.{is_tool, tool_of};
+ghost use Rattle.jpg_cli.specs.declared.words.comments.WordsStop.TheVariants.{Usage as wrong};
 ghost use Rattle.jpg_cli.specs.Commands.{IsCommand, command_asked, encode_command, known_command, read_command, show_command, transform_command, write_command};
 
-use crate::comment_words::{Files, WordsStop, WriteWords, rdjpgcom_words, wrjpgcom_words};
-use crate::encode_request::EncodeWords;
-use crate::encode_words::cjpeg_words;
-use crate::show_words::{ShowWords, djpeg_words};
-use crate::transform_words::{TransformWords, jpegtran_words};
-use jpg_spec::{Usage, UsageFault};
+pub mod cjpeg;
+pub mod cjpeg_request;
+pub mod cjpeg_values;
+pub mod comments;
+pub mod djpeg;
+pub mod jpegtran;
+pub mod requests;
+pub mod switches;
+
+use crate::words::cjpeg::cjpeg_words;
+use crate::words::cjpeg_request::EncodeWords;
+use crate::words::comments::{Files, WordsStop, WriteWords, rdjpgcom_words, wrjpgcom_words};
+use crate::words::djpeg::{ShowWords, djpeg_words};
+use crate::words::jpegtran::{TransformWords, jpegtran_words};
+use jpg_spec_words::{Usage, UsageFault};
 use std::alloc::Global;
 
 /// What the words of a call ask for.
 #[derive(Drop)]
 pub enum Asked {
-    /// What isn't built yet.
+    /// A command that isn't built yet.
     NotBuilt,
-    /// `jpegtran`, with its files and what is asked of the picture.
+    /// `jpegtran`, with its files and what is asked for the picture.
     Jpegtran(TransformWords),
-    /// `djpeg`, with its files and how the picture is shown.
+    /// `djpeg`, with its files and how the picture is decoded.
     Djpeg(ShowWords),
     /// `cjpeg`, with its files and how the image is encoded.
     Cjpeg(EncodeWords),
@@ -49,7 +58,7 @@ fn known_tool(word: &str) -> Option<&'static str>
     }
 }
 
-/// The name that messages begin with: the command, or the program where the words name none.
+/// The name that messages begin with: the command, or the program if the words name none.
 pub fn tool_name(words: &[String]) -> &'static str
     ensures name { result.now ≡ tool_of (map string_bytes words.now) }
     ensures short { length result.now ≤ 8 }

@@ -1,4 +1,4 @@
--- Bits that a machine takes one after another.
+-- Bits that a machine takes one by one.
 use Rattle.std.proofs.Common.{◌≡◌, ℕ, ◌≤◌, Bool, List, [], ◌∷◌, ◌++◌, length, refl, sym, ap, ◌∙◌, subst, arith}
 use Rattle.std.specs.Prelude.{Result, Ok, Err}
 use Rattle.std.proofs.lemmas.List.{append_assoc, append-nil, length-append}
@@ -26,7 +26,7 @@ chain_stands {M} k m new now after i so_far (b ∷ bits) h s =
     let R : List Bool → Type 0 = λ n. k.stands new i n after in
     subst R (append_assoc so_far (b ∷ []) bits) (chain_stands k h.0 new h.1 after i (so_far ++ b ∷ []) bits h.3 (h.2 i so_far s))
 
--- what the last bit of such a chain comes to
+-- the answer at the last bit of such a chain
 pub answer_to : {M : Type 0} (k : Kind M) (most : ℕ) (m new : M) (now after : Picture) (i : Interval) (so_far bits : List Bool) (answer : Result UnitStep UnitFault) → (c : ChainTo k most m now bits answer new after) → k.stands m i so_far now
     → Answered k i (so_far ++ bits) answer c.3 new after
 answer_to {M} k most m new now after i so_far bits answer (front, bit, mid, between, cut, chain, few, last) s =
@@ -46,7 +46,7 @@ still_at_faults {M} k keeps most m new now after bits f (front, bit, mid, betwee
 pub some_taken : {M : Type 0} (k : Kind M) (most : ℕ) (m new : M) (now after : Picture) (bits : List Bool) (answer : Result UnitStep UnitFault) → ChainTo k most m now bits answer new after → 1 ≤ length bits
 some_taken k most m new now after bits answer (front, bit, mid, between, cut, chain, few, last) = omega (arith, ap length cut, length-append front (bit ∷ []))
 
--- ONE BIT, taken as a store of one
+-- ONE BIT, taken from a store of one
 one_front : (bits front : List Bool) (b bit : Bool) → b ∷ [] ≡ bits → bits ≡ front ++ bit ∷ [] → (front ≡ []) × (bit ≡ b)
 one_front bits [] b bit e f = (refl, (let t : b ∷ [] ≡ bit ∷ [] = e ∙ f in cc))
 one_front bits (d ∷ front) b bit e f = absurd (omega (arith, ap length e, ap length f, length-append front (bit ∷ [])))

@@ -1,4 +1,4 @@
--- Blocks that are put place after place are those of the real grids in the end.
+-- Blocks that are put place by place are those of the real grids in the end.
 use Rattle.std.proofs.Common.{◌≡◌, ℕ, ◌+◌, Bool, true, false, cond, ◌&&◌, ◌==◌, List, length, refl, sym, ap, ◌∙◌, subst, arith, ℤ}
 use Rattle.std.proofs.Math.Path.{fun_ext}
 use Rattle.std.specs.Prelude.{nat_lt, ◌||◌, replicate}
@@ -15,7 +15,7 @@ use Rattle.jpg_base.specs.Cursor.{IsPadded}
 use Rattle.jpg_base.proofs.ScanPlaces.{padded_of}
 use Rattle.jpg_coefs.specs.Picture.{Picture, HasPlace, map_of, with_block}
 use Rattle.jpg_coefs.proofs.Maps.{blank_is, put_here, put_others}
-use Rattle.jpg_coefs.specs.Copied.{Copies, in_components, in_grid, in_grid_row, in_grids, in_row, in_rows, is_place}
+use Rattle.jpg_coefs.specs.Copied.{CopiesBlocks, in_components, in_grid, in_grid_row, in_grids, in_row, in_first_rows, is_place}
 
 -- ONE BLOCK
 
@@ -34,7 +34,7 @@ place_by i x y j u v =
     grouped true b c = refl
     grouped false b c = refl
 
-pub put_one : (i x y : ℕ) (seen : Blocks) (old : Picture) → IsPadded old.frame i x y → length old.blocks ≡ padded_blocks old.frame → Copies (is_place i x y) seen old (with_block old i x y (seen i x y))
+pub put_one : (i x y : ℕ) (seen : Blocks) (old : Picture) → IsPadded old.frame i x y → length old.blocks ≡ padded_blocks old.frame → CopiesBlocks (is_place i x y) seen old (with_block old i x y (seen i x y))
 put_one i x y seen old there count = record { frame = refl; blocks = λ j u v. at j u v (is_place i x y j u v) refl }
   where
     p : Place
@@ -60,10 +60,10 @@ put_one i x y seen old there count = record { frame = refl; blocks = λ j u v. a
 abbrev IsBoth : (a b c : ℕ → ℕ → ℕ → Bool) → Type 0
 IsBoth a b c = (i x y : ℕ) → c i x y ≡ (a i x y || b i x y)
 
-copies_none : (chosen : ℕ → ℕ → ℕ → Bool) (seen : Blocks) (old : Picture) → ((i x y : ℕ) → chosen i x y ≡ false) → Copies chosen seen old old
+copies_none : (chosen : ℕ → ℕ → ℕ → Bool) (seen : Blocks) (old : Picture) → ((i x y : ℕ) → chosen i x y ≡ false) → CopiesBlocks chosen seen old old
 copies_none chosen seen old none = record { frame = refl; blocks = λ i x y. sym (ap (λ b. cond b (seen i x y) (map_of old i x y)) (none i x y)) }
 
-copies_more : (a b c : ℕ → ℕ → ℕ → Bool) (seen : Blocks) (old mid new : Picture) → IsBoth a b c → Copies a seen old mid → Copies b seen mid new → Copies c seen old new
+copies_more : (a b c : ℕ → ℕ → ℕ → Bool) (seen : Blocks) (old mid new : Picture) → IsBoth a b c → CopiesBlocks a seen old mid → CopiesBlocks b seen mid new → CopiesBlocks c seen old new
 copies_more a b c seen old mid new e first second = record {
   frame = second.frame ∙ first.frame;
   blocks = λ i x y.
@@ -79,9 +79,9 @@ copies_more a b c seen old mid new e first second = record {
 less_none : (u : ℕ) → nat_lt u 0 ≡ false
 less_none u = grind (arith, nat_tests)
 
-pub no_rows : (f : Frame) (i : ℕ) (seen : Blocks) (old : Picture) → Copies (in_rows f i 0) seen old old
+pub no_rows : (f : Frame) (i : ℕ) (seen : Blocks) (old : Picture) → CopiesBlocks (in_first_rows f i 0) seen old old
 no_rows f i seen old =
-    copies_none (in_rows f i 0) seen old
+    copies_none (in_first_rows f i 0) seen old
     (λ j u v. ap (λ t. (j == i) && (nat_lt u (blocks_across f (component_at f i)) && t)) (less_none v) ∙ never (j == i) (nat_lt u (blocks_across f (component_at f i))))
   where
     never : (a b : Bool) → (a && (b && false)) ≡ false
@@ -112,14 +112,14 @@ outer true false true = refl
 outer true false false = refl
 outer false b r = refl
 
-pub row_more : (i y count : ℕ) (seen : Blocks) (old mid new : Picture) → Copies (in_row i y count) seen old mid → Copies (is_place i count y) seen mid new → Copies (in_row i y (count + 1)) seen old new
+pub row_more : (i y count : ℕ) (seen : Blocks) (old mid new : Picture) → CopiesBlocks (in_row i y count) seen old mid → CopiesBlocks (is_place i count y) seen mid new → CopiesBlocks (in_row i y (count + 1)) seen old new
 row_more i y count seen old mid new =
     copies_more (in_row i y count) (is_place i count y) (in_row i y (count + 1)) seen old mid new
     (λ j u v. ap (λ t. (j == i) && (t && v == y)) (less_more u count) ∙ inner (j == i) (nat_lt u count) (u == count) (v == y))
 
-pub rows_more : (f : Frame) (i count : ℕ) (seen : Blocks) (old mid new : Picture) → Copies (in_rows f i count) seen old mid → Copies (in_grid_row f i count) seen mid new → Copies (in_rows f i (count + 1)) seen old new
+pub rows_more : (f : Frame) (i count : ℕ) (seen : Blocks) (old mid new : Picture) → CopiesBlocks (in_first_rows f i count) seen old mid → CopiesBlocks (in_grid_row f i count) seen mid new → CopiesBlocks (in_first_rows f i (count + 1)) seen old new
 rows_more f i count seen old mid new =
-    copies_more (in_rows f i count) (in_grid_row f i count) (in_rows f i (count + 1)) seen old mid new
+    copies_more (in_first_rows f i count) (in_grid_row f i count) (in_first_rows f i (count + 1)) seen old mid new
     (λ j u v.
     ap (λ t. (j == i) && (nat_lt u (blocks_across f (component_at f i)) && t)) (less_more v count)
     ∙ last (j == i) (nat_lt u (blocks_across f (component_at f i))) (nat_lt v count) (v == count))
@@ -131,7 +131,7 @@ at_same j n t = by (j == n) refl
     by true e = ap t (same_of j n e)
     by false e = refl
 
-pub components_more : (f : Frame) (count : ℕ) (seen : Blocks) (old mid new : Picture) → Copies (in_components f count) seen old mid → Copies (in_grid f count) seen mid new → Copies (in_components f (count + 1)) seen old new
+pub components_more : (f : Frame) (count : ℕ) (seen : Blocks) (old mid new : Picture) → CopiesBlocks (in_components f count) seen old mid → CopiesBlocks (in_grid f count) seen mid new → CopiesBlocks (in_components f (count + 1)) seen old new
 components_more f count seen old mid new =
     copies_more (in_components f count) (in_grid f count) (in_components f (count + 1)) seen old mid new
     (λ j u v.
@@ -140,11 +140,11 @@ components_more f count seen old mid new =
 
 -- ALL OF THEM, put among zero blocks
 
-pub all_real : (f : Frame) (seen : Blocks) (old new : Picture) (n : ℕ) → old.blocks ≡ replicate n (zeros 64) → Copies (in_grids f) seen old new → (i x y : ℕ) → map_of new i x y ≡ real_blocks f seen i x y
+pub all_real : (f : Frame) (seen : Blocks) (old new : Picture) (n : ℕ) → old.blocks ≡ replicate n (zeros 64) → CopiesBlocks (in_grids f) seen old new → (i x y : ℕ) → map_of new i x y ≡ real_blocks f seen i x y
 all_real f seen old new n none all i x y =
     all.blocks i x y ∙ ap (λ (b : Blocks). cond (in_grids f i x y) (seen i x y) (b i x y)) (blank_is old n none)
 
-pub zero_outside : (f : Frame) (seen : Blocks) (old new : Picture) (n : ℕ) → old.blocks ≡ replicate n (zeros 64) → Copies (in_grids f) seen old new → real_blocks f (map_of new) ≡ map_of new
+pub zero_outside : (f : Frame) (seen : Blocks) (old new : Picture) (n : ℕ) → old.blocks ≡ replicate n (zeros 64) → CopiesBlocks (in_grids f) seen old new → real_blocks f (map_of new) ≡ map_of new
 zero_outside f seen old new n none all = fun_ext (λ i. fun_ext (λ x. fun_ext (λ y. by i x y (in_grids f i x y) (all_real f seen old new n none all i x y))))
   where
     by : (i x y : ℕ) (b : Bool) → map_of new i x y ≡ cond b (seen i x y) (zeros 64) → cond b (map_of new i x y) (zeros 64) ≡ map_of new i x y

@@ -46,7 +46,7 @@ map_sizes q all i x y = by (is_padded q.frame i x y)
     by true = at (block_index q.frame i x y)
     by false = length-replicate 64 (pos 0)
 
--- a new picture has no blocks but zero ones
+-- all blocks of a new picture are zero
 pub blank_is : (q : Picture) (n : ℕ) → q.blocks ≡ replicate n (zeros 64) → map_of q ≡ no_blocks
 blank_is q n e = fun_ext (λ i. fun_ext (λ x. fun_ext (λ y. by i x y (is_padded q.frame i x y))))
   where
@@ -82,7 +82,7 @@ put_others q p block w i x y e = by (is_padded q.frame i x y) refl
         (λ s. (let z : true ≡ false = sym (at_place i x y p s.0 s.1 s.2) ∙ e in
         let no : ⊥ = cc in no))
 
--- Of a block that is put with a new band the band alone changed.
+-- Of a block that is put with a new band only the band changed.
 pub put_changes : (s : Scan) (q : Picture) (p : Place) (block : List ℤ) → HasPlace q p → KeepsOutside s q p block → OneChanges s p (map_of q) (map_of (put_at q p block))
 put_changes s q p block h keeps = record {
   elsewhere = put_others q p block h;

@@ -1,4 +1,5 @@
--- The blocks of a picture in their order of storage: component by component, row by row of the padded grids (T.81, A.2.4).
+-- The blocks of a picture in their order of storage: component by component, row by row of the padded grids (T.81,
+-- A.2.4).
 use Rattle.std.specs.Prelude.{◌≡◌, ℕ, ◌+◌, ◌*◌, ◌<◌, Bool, false, nat_lt, ◌&&◌, if◌then◌else◌, List, length, take, sum_by, slice_index, slice_index_or, slice_set, ℤ, pos}
 use Rattle.jpg_spec.specs.Elements.{zeros}
 use Rattle.jpg_spec.specs.Geometry.{Frame, component_at, padded_blocks}
@@ -24,7 +25,7 @@ component_offset f i = sum_by (grid_blocks f) (take i f.components)
 abbrev pub block_index : Frame → ℕ → ℕ → ℕ → ℕ
 block_index f i x y = component_offset f i + (y * padded_across f (component_at f i) + x)
 
--- whether a place lies in its component's padded grid
+-- whether a place is in its component's padded grid
 abbrev pub is_padded : Frame → ℕ → ℕ → ℕ → Bool
 is_padded f i x y = nat_lt i (length f.components) && (nat_lt x (padded_across f (component_at f i)) && nat_lt y (padded_down f (component_at f i)))
 
@@ -43,7 +44,7 @@ with_block p i x y block = record p { blocks = slice_set p.blocks (block_index p
 abbrev pub put_at : Picture → Place → List ℤ → Picture
 put_at q p block = with_block q p.component p.x p.y block
 
--- the place lies in the padded grid, and all blocks are there
+-- the place is in the padded grid, and all blocks are there
 pub record HasPlace (q : Picture) (p : Place) : Type 0 where
   pub place : IsPadded q.frame p.component p.x p.y
   pub count : length q.blocks ≡ padded_blocks q.frame
@@ -53,7 +54,7 @@ pub record KeepsOutside (s : Scan) (q : Picture) (p : Place) (block : List ℤ) 
   pub size : length block ≡ 64
   pub same : (k : ℕ) → is_in_band s k ≡ false → slice_index_or block k (pos 0) ≡ coefficient (map_of q) p.component p.x p.y k
 
--- what is kept of a frame: where each component begins, and how wide its rows are
+-- what is stored of a frame: where each component begins, and how long its rows are
 pub record IsLaidOut (f : Frame) (offsets strides : List ℕ) (count : ℕ) : Type 0 where
   pub frame : IsFrame f
   pub begins : (i : ℕ) → i < length f.components → slice_index offsets i ≡ component_offset f i

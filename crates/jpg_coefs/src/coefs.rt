@@ -1,4 +1,4 @@
-// The coefficients of a picture.
+//! The coefficients of a picture: the blocks of all padded grids (T.81, A.2.4).
 ghost use Rattle.std.specs.Prelude.{◌≡◌, ◌<◌, ◌≤◌, IfOk, replicate, slice_get, Some, pos, length, ℕ};
 ghost use Rattle.jpg_spec.specs.Elements.{zeros};
 ghost use Rattle.jpg_spec.specs.Geometry.{padded_blocks};
@@ -41,7 +41,7 @@ impl Coefs {
         self.blocks[self.place(component, x, y)]
     }
 
-    /// Tells that each block has 64 values, and that there is one for each place of the padded grids. It
+    /// States, for proofs, that each block has 64 values, and that there is one for each place of the padded grids. It
     /// does nothing.
     pub fn checked(&self)
         ensures sizes { (i x y : ℕ) → length (map_of self.now i x y) ≡ 64 }
@@ -60,7 +60,7 @@ impl Coefs {
         self.offsets[i] as usize + (y as usize * self.strides[i] as usize + x as usize)
     }
 
-    /// Puts a block of a component at a column and a row of its padded grid. All others stay.
+    /// Puts a block of a component at a column and a row of its padded grid. All others remain.
     pub fn set_block(&mut self, component: u8, x: u32, y: u32, block: &Block)
         requires { IsPadded self.old.frame component x y }
         ensures { self.new ≡ with_block self.old component x y block.now }
@@ -70,7 +70,7 @@ impl Coefs {
         self.blocks[place] = *block;
     }
 
-    /// Makes all blocks zero. The frame stays.
+    /// Makes all blocks zero. The frame remains.
     pub fn clear(&mut self)
         ensures frame { self.new.frame ≡ self.old.frame }
         ensures zero { self.new.blocks ≡ replicate (padded_blocks self.old.frame) (zeros 64) }
@@ -80,7 +80,7 @@ impl Coefs {
 }
 
 impl Coefs {
-    /// All blocks of the padded grids of the frame, zero. It answers NoMemory where memory is wanting.
+    /// All blocks of the padded grids of the frame, zero. It answers NoMemory if there is no memory for them.
     pub fn new(alloc: Global, frame: &Frame) -> Result<Coefs, NoMemory>
         ensures frame { IfOk result (λ c. c.frame ≡ frame.now) }
         ensures zero { IfOk result (λ c. c.blocks ≡ replicate (padded_blocks frame.now) (zeros 64)) }
@@ -111,7 +111,7 @@ impl Coefs {
 }
 
 impl Coefs {
-    // The block at a place, by another name than the one of views.
+    // The block at a place, by a name other than that of the trait.
     fn padded_block(&self, component: u8, x: u32, y: u32) -> Block
         requires { IsPadded self.now.frame component x y }
         ensures { result ≡ block_in self.now component x y }

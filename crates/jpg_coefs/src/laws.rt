@@ -1,4 +1,4 @@
-// Laws over the definitions of this crate, each on a function that does nothing.
+//! Laws over the definitions of this crate, each on a function that does nothing.
 ghost use Rattle.std.specs.Prelude.{◌≡◌, false, Bool, List, ℕ, ℤ, replicate};
 ghost use Rattle.jpg_spec.specs.Elements.{zeros};
 ghost use Rattle.jpg_spec.specs.FileMeaning.{no_blocks};
@@ -10,7 +10,7 @@ ghost use Rattle.jpg_coefs.specs.Picture.{Picture, HasPlace, KeepsOutside, map_o
 
 use crate::ScanMachine;
 
-/// Where a block is put, that block changes, and all others stay; and its band alone, where it was put so.
+/// When a block is put, only that block changes, and only in its band if it was put for a band.
 pub fn one_block_changes()
     ensures here { (q : Picture) (p : Place) (block : List ℤ) → HasPlace q p → block_at (map_of (put_at q p block)) p ≡ block }
     ensures others { (q : Picture) (p : Place) (block : List ℤ) → HasPlace q p → (i x y : ℕ) → is_at i x y p ≡ false → map_of (put_at q p block) i x y ≡ map_of q i x y }
@@ -22,13 +22,13 @@ pub fn zero_blocks_are_none()
     ensures { (q : Picture) (n : ℕ) → q.blocks ≡ replicate n (zeros 64) → map_of q ≡ no_blocks }
 {}
 
-/// A machine that stood for bits stands for these and the further ones that it took.
+/// A machine that was given some bits and takes further ones was given all of them, in their order.
 pub fn bits_are_taken_in_order<M: ScanMachine>()
     ensures { (m new : M) (now after : Picture) (bits : List Bool) → Chain M.kind m now bits new after → StandsOn M.kind m now bits new after }
 {}
 
-/// Behind bits that show a fault a machine left the picture as it was before the last of them: blocks of whole units stand in it, and all else is
-/// as before the interval.
+/// After bits with a fault a machine has left the picture as it was before the last of them: it has the blocks of
+/// complete units, and all else is as before the interval.
 pub fn faults_change_no_block<M: ScanMachine>()
     ensures { KeepsUnits M M.kind → StillAtFaults M.kind }
 {}

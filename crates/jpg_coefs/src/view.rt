@@ -1,4 +1,4 @@
-// What is seen of the blocks of a picture.
+//! A view of the blocks of a picture.
 ghost use Rattle.std.specs.Prelude.{◌≡◌};
 ghost use Rattle.jpg_spec.specs.Geometry.{Frame as Numbers, IsReal};
 ghost use Rattle.jpg_spec.specs.Scan.{Blocks};

@@ -1,6 +1,6 @@
 -- Rows of components, sample by sample.
 use Rattle.std.proofs.Common.{◌≡◌, ℕ, List, [], ◌∷◌, slice_index, refl, ap, ◌∙◌}
-use Rattle.jpg_spec.specs.Luminance.{luminance, blue_difference, red_difference, to_ycc}
+use Rattle.jpg_spec_image.specs.Luminance.{luminance, blue_difference, red_difference, to_ycc}
 
 pub luminance_first : (r g b : ℕ) → luminance r g b ≡ slice_index (to_ycc r g b) 0
 unfolding to_ycc

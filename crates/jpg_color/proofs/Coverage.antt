@@ -1,4 +1,4 @@
--- What a frame's numbers say of the components of its picture, and of their rows.
+-- What the numbers of a frame guarantee for the components of its picture, and for their rows.
 use Rattle.std.proofs.Common.{◌≡◌, ◌⊎◌, inl, inr, ℕ, zero, suc, ◌+◌, ◌-◌, ◌*◌, ◌/◌, ◌%◌, ◌<◌, ◌≤◌, Bool, true, false, not, ◌==◌, if◌then◌else◌, List, [], ◌∷◌, length, get_or, take, map, subst, refl, sym, ap, ◌∙◌, arith, None, Some}
 use Rattle.std.proofs.lemmas.Nat.{div-add-mod'}
 use Rattle.std.proofs.lemmas.List.Elements.{All-get_or}
@@ -9,9 +9,9 @@ use Rattle.jpg_spec.specs.Lists.{below, any_of}
 use Rattle.jpg_spec.specs.Geometry.{Frame, div_up, greatest, h_max, v_max, component_at, no_component, blocks_across, blocks_down}
 use Rattle.jpg_spec.specs.FrameHeader.{HasFactors}
 use Rattle.jpg_spec.specs.Scan.{Blocks}
-use Rattle.jpg_spec.specs.Moves.{component_of, most_across, most_down}
-use Rattle.jpg_spec.specs.Pixels.{samples_across, samples_down, stretch_of, shows_gray, is_colour_out, is_fractional}
-use Rattle.jpg_spec.specs.Strips.{lines, block_rows, needed, IsCovered}
+use Rattle.jpg_spec.specs.Meaning.{component_of, most_across, most_down}
+use Rattle.jpg_spec_image.specs.Pixels.{samples_across, samples_down, stretch_of, shows_gray, is_colour_out, is_fractional}
+use Rattle.jpg_spec_image.specs.Strips.{lines, block_rows, needed, IsCovered}
 use Rattle.jpg_spec.specs.declared.fault.Fault.TheVariants.{ColourOut, FractionalSampling}
 use Rattle.jpg_spec.specs.declared.frame.Colour.{Colour}
 use Rattle.jpg_spec.specs.declared.frame.Colour.TheVariants.{Gray, YCbCr, Rgb, Cmyk, Ycck, Unknown}
@@ -19,8 +19,8 @@ use Rattle.jpg_spec.specs.declared.frame.Component.{Component}
 use Rattle.jpg_spec.proofs.Common.{length_below, neither, clash, same_of}
 use Rattle.jpg_spec.proofs.Rows.{at_below, map_map, by_items}
 use Rattle.jpg_base.proofs.Grids.{across_low, across_high, down_low, down_high}
-use Rattle.jpg_file.specs.PictureKept.{component_told}
-use Rattle.jpg_file.specs.StripHead.{may_have}
+use Rattle.jpg_file.specs.Read.PictureKept.{component_told}
+use Rattle.jpg_file.specs.Read.StripHead.{may_have}
 use Rattle.jpg_color.specs.Shown.{Display, IsShowable, picture_of, parts, all_rows, rows_in, factors_of, display_fault}
 use Rattle.jpg_spec.specs.FileMeaning.{no_blocks}
 
@@ -86,7 +86,7 @@ pub down_is : (d : Display) (blocks : Blocks) (i : ℕ) → i < length d.frame.c
 down_is d blocks i h =
     ap (λ m. m / (component_of (picture_of d blocks) i).v) (most_down_is d blocks) ∙ ap (λ c. v_max d.frame / c.v) (component_is d blocks i h)
 
--- THOSE THAT ARE SHOWN
+-- THOSE THAT ARE DISPLAYED
 
 one_or_three : (b : Bool) → (◌≡◌ {A = ℕ} (if b then 1 else 3) 1) ⊎ (◌≡◌ {A = ℕ} (if b then 1 else 3) 3)
 one_or_three true = inl refl
@@ -134,7 +134,7 @@ in_frame d i s h = let f = parts_fit d s in omega (arith, f, h)
 pub factors_at : (d : Display) (i : ℕ) → IsShowable d → i < length d.frame.components → HasFactors (component_at d.frame i)
 factors_at d i s h = All-get_or HasFactors d.frame.components i no_component h s.frame.factors
 
--- WHOLE RATIOS
+-- INTEGER RATIOS
 
 none_at : (t : ℕ × ℕ → Bool) (factors : List (ℕ × ℕ)) (i : ℕ) (default : ℕ × ℕ) → i < length factors → any_of t factors ≡ false → t (get_or factors i default) ≡ false
 none_at t [] i default h e = absurd (omega (arith, h))
@@ -247,7 +247,7 @@ alone_down (c ∷ []) e = omega arith
 alone_down [] e = absurd (omega (arith, e))
 alone_down (a ∷ b ∷ cs) e = absurd (omega (arith, e))
 
--- lines of the image in an MCU row, by whether a component stands alone
+-- lines of the image in an MCU row, by whether a component is the only one
 lines_by : (b : Bool) (down v most : ℕ) → down * v ≡ most → (b ≡ true → down ≡ 1) → (if b then 8 else 8 * most) ≡ 8 * (if b then 1 else v) * down
 lines_by true down v most e one = let d = one refl in omega (arith, d)
 lines_by false down v most e one =
@@ -283,7 +283,7 @@ lines_some d blocks s =
     by true v low = omega arith
     by false v low = omega (arith, low)
 
--- rows of samples, stretched, are as many as the rows of the image at least
+-- rows of samples, upsampled, are at least as many as the rows of the image
 pub tall_enough : (height v most down : ℕ) → 1 ≤ v → 1 ≤ most → down * v ≡ most → height ≤ div_up (height * v) most * down
 tall_enough height v most down some pos e =
     let q = div_up (height * v) most in

@@ -5,11 +5,11 @@ use Rattle.std.proofs.lemmas.Nat.{mul-le}
 use Rattle.std.proofs.lemmas.List.{take_all, append-nil, length-drop, length-take-le, get_or-take, get_or-drop}
 use Rattle.std.proofs.lemmas.Grind.{flat_map-append}
 use Rattle.jpg_spec.specs.Lists.{below}
-use Rattle.jpg_spec.specs.Downsampling.{in_rows}
-use Rattle.jpg_spec.specs.Encoded.{samples_of_block, pixel_component}
-use Rattle.jpg_spec.specs.declared.image.ImageKind.{ImageKind}
-use Rattle.jpg_spec.specs.declared.image.ImageKind.TheVariants.{Gray}
-use Rattle.jpg_color.specs.ColourRows.{numbers_of, row_component}
+use Rattle.jpg_spec_image.specs.Downsampling.{in_rows}
+use Rattle.jpg_spec_encode.specs.Encoded.{samples_of_block, pixel_component}
+use Rattle.jpg_spec_image.specs.declared.image.ImageKind.{ImageKind}
+use Rattle.jpg_spec_image.specs.declared.image.ImageKind.TheVariants.{Gray}
+use Rattle.jpg_color.specs.ColourRows.{numbers_of_pixel, row_component}
 use Rattle.jpg_spec.proofs.Rows.{by_items}
 
 abbrev pub block_row : List ℕ → ℕ → ℕ → ℕ → List ℕ
@@ -25,11 +25,11 @@ row_more rows samples new row wide x v e is er =
 pub block_done : (rows samples : List ℕ) (wide x v : ℕ) → v ≡ 8 → length samples ≡ 64 → take (8 * v) samples ≡ flat_map (block_row rows wide x) (below v) → samples ≡ samples_of_block (in_rows wide rows) x 0
 block_done rows samples wide x v ev long e = sym (take_all (8 * v) samples (omega (arith, ev, long))) ∙ e ∙ ap (λ n. flat_map (block_row rows wide x) (below n)) ev
 
--- a gray row is its own component
-pub gray_is : (kind : ImageKind) (row : List ℕ) (i n : ℕ) → kind ≡ Gray → length row ≡ numbers_of kind * n → row ≡ row_component kind row i n
+-- a grayscale row is its component
+pub gray_is : (kind : ImageKind) (row : List ℕ) (i n : ℕ) → kind ≡ Gray → length row ≡ numbers_of_pixel kind * n → row ≡ row_component kind row i n
 unfolding row_component
 gray_is kind row i n e long =
-    let l : length row ≡ n = long ∙ ap (λ k. numbers_of k * n) e ∙ omega arith in
+    let l : length row ≡ n = long ∙ ap (λ k. numbers_of_pixel k * n) e ∙ omega arith in
     sym (ap (λ k. map (pixel_component k row i) (below n)) e ∙ by_items n (slice_index row) row 0 l (λ j h. refl))
 
 -- eight samples of row v, as a part of the rows

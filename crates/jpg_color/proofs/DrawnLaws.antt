@@ -1,25 +1,26 @@
--- Laws on images that are written while their pictures come: the texts of MCU rows join, and pictures with the same first MCU rows are drawn alike.
+-- Laws on images that are written while their pictures are decoded: the texts of MCU rows join, and pictures with the
+-- same first MCU rows are drawn alike.
 use Rattle.std.proofs.Common.{◌≡◌, ℕ, ◌+◌, ◌-◌, ◌*◌, ◌/◌, ◌%◌, ◌<◌, ◌≤◌, min, ℤ, slice_index, Bool, true, false, if◌then◌else◌, List, ◌++◌, length, take, drop, flat_map, sym, ap, ◌∙◌, subst, arith}
 use Rattle.std.proofs.lemmas.List.{append-nil, append_assoc}
 use Rattle.std.proofs.lemmas.Grind.{flat_map-append}
 use Rattle.jpg_spec.specs.Geometry.{div_up}
-use Rattle.jpg_spec.specs.ImageText.{first_piece, row_piece}
-use Rattle.jpg_spec.specs.Dct.{dequantised, inverse_dct}
+use Rattle.jpg_spec_image.specs.ImageText.{first_piece, row_piece}
+use Rattle.jpg_spec_image.specs.Dct.{dequantised, inverse_dct}
 use Rattle.jpg_spec.specs.Laws.{with_blocks}
 use Rattle.jpg_spec.specs.Meaning.{Meaning}
-use Rattle.jpg_spec.specs.Moves.{component_of}
-use Rattle.jpg_spec.specs.Pixels.{colour_row, info, pixel_row, pixels, plane, plane_row, samples_across, samples_down, shows_gray, stretch_of, upsampled}
+use Rattle.jpg_spec.specs.Meaning.{component_of}
+use Rattle.jpg_spec_image.specs.Pixels.{colour_row, info, pixel_row, pixels, plane, plane_row, samples_across, samples_down, shows_gray, stretch_of, upsampled}
 use Rattle.jpg_spec.specs.Scan.{Blocks}
-use Rattle.jpg_spec.specs.Strips.{block_rows, first_kept, known_rows, mcu_rows, ready_of, IsRowReady}
-use Rattle.jpg_spec.specs.Upsampling.{Stretch, has_far_rows}
+use Rattle.jpg_spec_image.specs.Strips.{block_rows, first_kept, known_rows, mcu_rows, ready_of, IsRowReady}
+use Rattle.jpg_spec_image.specs.Upsampling.{Stretch, has_far_rows}
 use Rattle.jpg_spec.specs.declared.frame.Colour.{Colour}
-use Rattle.jpg_spec.specs.declared.image.EndKind.{EndKind}
-use Rattle.jpg_spec.specs.RowsShown.{ready_rows as rows_ready, rows_text}
-use Rattle.jpg_spec.proofs.Strips.{window, ready_told}
+use Rattle.jpg_spec_image.specs.declared.image.EndKind.{EndKind}
+use Rattle.jpg_spec_image.specs.RowsShown.{ready_rows as rows_ready, rows_text}
+use Rattle.jpg_spec_image.proofs.Strips.{window, ready_told}
 use Rattle.jpg_pnm_bmp.specs.EndState.{EndState}
-use Rattle.jpg_color.specs.Shown.{Display, IsShowable, StandsFor, all_rows, parts, picture_of, ready_rows, row_of}
+use Rattle.jpg_color.specs.Shown.{Display, IsShowable, StandsForPicture, all_rows, parts, picture_of, rows_made_ready, row_of_blocks}
 use Rattle.jpg_color.specs.DecodeRows.{end_at}
-use Rattle.jpg_color.specs.StripImage.{AgreeInFirstRows, AreDrawnAlike, Drawing, Draws, IsDrawnTo, TextsJoin, first_rows, next_rows, next_text, rest_text, whole_text}
+use Rattle.jpg_color.specs.StripImage.{AgreeInFirstRows, AreDrawnAlike, Drawing, DrawsImage, IsDrawnTo, TextsJoin, first_image_rows, next_rows, next_text, rest_text, whole_text}
 use Rattle.jpg_color.proofs.Coverage.{count_is, covered, in_frame, whole_ratios}
 use Rattle.jpg_color.proofs.Drawn.{GoesUp, all_drawn, all_same, goes_up, high_same, ready_same, row_same, rows_join}
 use Rattle.jpg_color.proofs.HeldRows.{map_below}
@@ -28,19 +29,19 @@ use Rattle.jpg_color.proofs.Windows.{ready_high, ready_none}
 
 -- TEXTS
 
-texts_first : (d : Drawing) (M : Meaning) (gray smooth : Bool) (kind : EndKind) → Draws d M gray smooth → rows_text kind M gray smooth 0 ≡ first_piece kind (info M gray)
+texts_first : (d : Drawing) (M : Meaning) (gray smooth : Bool) (kind : EndKind) → DrawsImage d M gray smooth → rows_text kind M gray smooth 0 ≡ first_piece kind (info M gray)
 texts_first d M gray smooth kind h =
     let none : rows_ready M gray smooth 0 ≡ 0 = sym (ready_same d M gray smooth h 0) ∙ ready_none d.strips.display h.showable in
     ap (λ rows. first_piece kind (info M gray) ++ flat_map (row_piece kind (info M gray)) rows) (no_row (pixels M gray smooth) (rows_ready M gray smooth 0) none) ∙ append-nil (first_piece kind (info M gray))
 
-texts_more : (d : Drawing) (M : Meaning) (gray smooth : Bool) (m : ℕ) (kind : EndKind) → Draws d M gray smooth → m < mcu_rows M
+texts_more : (d : Drawing) (M : Meaning) (gray smooth : Bool) (m : ℕ) (kind : EndKind) → DrawsImage d M gray smooth → m < mcu_rows M
     → rows_text kind M gray smooth m ++ next_text kind M gray smooth m ≡ rows_text kind M gray smooth (m + 1)
 texts_more d M gray smooth m kind h lt =
     let up : GoesUp M gray smooth m = goes_up d M gray smooth m h (subst (λ n. m < n) (sym (all_same d M gray smooth h)) lt) in
     let piece : List ℕ → List ℕ = row_piece kind (info M gray) in
     let first = first_piece kind (info M gray) in
-    append_assoc first (flat_map piece (first_rows M gray smooth m)) (next_text kind M gray smooth m)
-    ∙ ap (λ x. first ++ x) (sym (flat_map-append piece (first_rows M gray smooth m) (next_rows M gray smooth m)) ∙ ap (flat_map piece) (rows_join M gray smooth m up))
+    append_assoc first (flat_map piece (first_image_rows M gray smooth m)) (next_text kind M gray smooth m)
+    ∙ ap (λ x. first ++ x) (sym (flat_map-append piece (first_image_rows M gray smooth m) (next_rows M gray smooth m)) ∙ ap (flat_map piece) (rows_join M gray smooth m up))
 
 texts_whole : (kind : EndKind) (M : Meaning) (gray smooth : Bool) → rows_text kind M gray smooth (mcu_rows M) ++ rest_text kind M gray smooth ≡ whole_text kind M gray smooth
 texts_whole kind M gray smooth =
@@ -52,15 +53,15 @@ texts_part kind M gray smooth m =
     let first = first_piece kind (info M gray) in
     let n = rows_ready M gray smooth m in
     let others : List (List ℕ) = drop n (pixels M gray smooth) in
-    let rows : flat_map piece (first_rows M gray smooth m) ++ flat_map piece others ≡ flat_map piece (pixels M gray smooth) =
-    sym (flat_map-append piece (first_rows M gray smooth m) others) ∙ ap (flat_map piece) (take_and_drop (pixels M gray smooth) n)
+    let rows : flat_map piece (first_image_rows M gray smooth m) ++ flat_map piece others ≡ flat_map piece (pixels M gray smooth) =
+    sym (flat_map-append piece (first_image_rows M gray smooth m) others) ∙ ap (flat_map piece) (take_and_drop (pixels M gray smooth) n)
     in (
       flat_map piece others ++ rest_text kind M gray smooth,
       sym (append_assoc (rows_text kind M gray smooth m) (flat_map piece others) (rest_text kind M gray smooth))
-          ∙ ap (λ x. x ++ rest_text kind M gray smooth) (append_assoc first (flat_map piece (first_rows M gray smooth m)) (flat_map piece others) ∙ ap (λ x. first ++ x) rows),
+          ∙ ap (λ x. x ++ rest_text kind M gray smooth) (append_assoc first (flat_map piece (first_image_rows M gray smooth m)) (flat_map piece others) ∙ ap (λ x. first ++ x) rows),
     )
 
-pub texts_join : (d : Drawing) (M : Meaning) (gray smooth : Bool) (kind : EndKind) → Draws d M gray smooth → TextsJoin kind M gray smooth
+pub texts_join : (d : Drawing) (M : Meaning) (gray smooth : Bool) (kind : EndKind) → DrawsImage d M gray smooth → TextsJoin kind M gray smooth
 texts_join d M gray smooth kind h =
     record {
       first = texts_first d M gray smooth kind h;
@@ -102,7 +103,7 @@ none_ready s y = by (has_far_rows s)
     by true = omega arith
     by false = omega arith
 
-same_upsampled : (d : Display) (blocks others : Blocks) (m i y : ℕ) → IsShowable d → Agree (picture_of d blocks) others m → m ≤ all_rows d → i < parts d → y < ready_rows d m
+same_upsampled : (d : Display) (blocks others : Blocks) (m i y : ℕ) → IsShowable d → Agree (picture_of d blocks) others m → m ≤ all_rows d → i < parts d → y < rows_made_ready d m
     → upsampled (picture_of d blocks) d.smooth i y ≡ upsampled (picture_of d others) d.smooth i y
 same_upsampled d blocks others m i y shown agree le h lt =
     let M = picture_of d blocks in
@@ -123,14 +124,14 @@ by_colour true c up other e = e 0 (omega arith)
 by_colour false c up other e =
     ap (λ x. colour_row c x (up 1) (up 2)) (e 0 (omega arith)) ∙ ap (λ x. colour_row c (other 0) x (up 2)) (e 1 (omega arith)) ∙ ap (λ x. colour_row c (other 0) (other 1) x) (e 2 (omega arith))
 
-same_row : (d : Display) (blocks others : Blocks) (m y : ℕ) → IsShowable d → Agree (picture_of d blocks) others m → m ≤ all_rows d → y < ready_rows d m → row_of d blocks y ≡ row_of d others y
+same_row : (d : Display) (blocks others : Blocks) (m y : ℕ) → IsShowable d → Agree (picture_of d blocks) others m → m ≤ all_rows d → y < rows_made_ready d m → row_of_blocks d blocks y ≡ row_of_blocks d others y
 same_row d blocks others m y shown agree le lt =
     by_colour (shows_gray d.colour d.gray) d.colour (λ (i : ℕ). upsampled (picture_of d blocks) d.smooth i y) (λ (i : ℕ). upsampled (picture_of d others) d.smooth i y)
     (λ (i : ℕ) (h : i < parts d). same_upsampled d blocks others m i y shown agree le h lt)
 
 -- WHAT IS DRAWN OF ONE IS DRAWN OF THE OTHER
 
-stands_too : (d : Drawing) (blocks others : Blocks) (m : ℕ) → IsShowable d.strips.display → Agree (picture_of d.strips.display blocks) others m → d.strips.pushed ≡ m → StandsFor d.strips blocks → StandsFor d.strips others
+stands_too : (d : Drawing) (blocks others : Blocks) (m : ℕ) → IsShowable d.strips.display → Agree (picture_of d.strips.display blocks) others m → d.strips.pushed ≡ m → StandsForPicture d.strips blocks → StandsForPicture d.strips others
 stands_too d blocks others m shown agree is h =
     let x = d.strips.display in
     let M = picture_of x blocks in
@@ -151,7 +152,7 @@ stands_too d blocks others m shown agree is h =
     inside : (first k known : ℕ) → k < known - first → first + k < known
     inside first k known l = omega (arith, l)
 
-draws_too : (d : Drawing) (M : Meaning) (others : Blocks) (gray smooth : Bool) → Draws d M gray smooth → Draws d (with_blocks M others) gray smooth
+draws_too : (d : Drawing) (M : Meaning) (others : Blocks) (gray smooth : Bool) → DrawsImage d M gray smooth → DrawsImage d (with_blocks M others) gray smooth
 draws_too d M others gray smooth h =
     record {
       showable = h.showable;
@@ -171,10 +172,10 @@ drawn_too d e M others gray smooth m h agree =
     in
     let image = draws_too d M others gray smooth h.image in
     let n = rows_ready M gray smooth m in
-    let is : ready_rows x m ≡ n = ready_same d M gray smooth h.image m in
+    let is : rows_made_ready x m ≡ n = ready_same d M gray smooth h.image m in
     let le : m ≤ all_rows x = subst (λ k. k ≤ all_rows x) h.pushed h.stands.some in
-    let most : n ≤ M.height = bound (ready_rows x m) n x.frame.height M.height (ready_high x m h.image.showable le) is (high_same d M gray smooth h.image) in
-    let rows : first_rows M gray smooth m ≡ first_rows N gray smooth m =
+    let most : n ≤ M.height = bound (rows_made_ready x m) n x.frame.height M.height (ready_high x m h.image.showable le) is (high_same d M gray smooth h.image) in
+    let rows : first_image_rows M gray smooth m ≡ first_image_rows N gray smooth m =
     take_rows (pixel_row M gray smooth) n M.height most
     ∙ map_below (pixel_row M gray smooth) (pixel_row N gray smooth) n
     (λ (y : ℕ) (lt : y < n).

@@ -1,4 +1,4 @@
--- The frame that is asked for is the one that is due, or the fault that is due forbids it.
+-- The frame that the code makes for an image is that of the definitions, or the fault of the definitions forbids it.
 use Rattle.std.proofs.Common.{◌≡◌, ℕ, zero, suc, ◌<◌, ◌≤◌, Bool, true, false, cond, ◌&&◌, ◌||◌, List, [], ◌∷◌, length, map, refl, sym, ap, ◌∙◌, subst, arith, ⊎_elim, Some, None, Ok, Err}
 use Rattle.std.specs.Prelude.{find, nat_lt}
 use Rattle.std.specs.List.{All}
@@ -8,29 +8,29 @@ use Rattle.std.proofs.lemmas.List.Elements.{All-append, All-cons, All-get_or, Al
 use Rattle.jpg_spec.specs.Lists.{below}
 use Rattle.jpg_spec.specs.FrameHeader.{HasFactors, checked_frame}
 use Rattle.jpg_spec.specs.Geometry.{Frame, padded_blocks}
-use Rattle.jpg_spec.specs.Moved.{asks_progressive, process_due}
-use Rattle.jpg_spec.specs.Moves.{is_wide}
+use Rattle.jpg_spec_write.specs.ScansAsked.{asks_progressive, process_due}
+use Rattle.jpg_spec_write.specs.Headed.{is_wide}
 use Rattle.jpg_spec.specs.Segments.{standard_limits}
-use Rattle.jpg_spec.specs.Encoded.{any_process, component_due, components_due, has_fraction}
-use Rattle.jpg_spec.specs.EncodingLaws.{AreFactors, IsEncodable}
+use Rattle.jpg_spec_encode.specs.Encoded.{any_process, component_due, components_due, has_fraction}
+use Rattle.jpg_spec_encode.specs.EncodingLaws.{AreFactors, IsEncodable}
 use Rattle.jpg_spec.specs.declared.fault.Fault.{Fault}
 use Rattle.jpg_spec.specs.declared.frame.Component.{Component}
 use Rattle.jpg_spec.specs.declared.frame.Limits.{Limits}
 use Rattle.jpg_spec.specs.declared.frame.Process.{Process}
 use Rattle.jpg_spec.specs.declared.frame.Process.TheVariants.{Baseline, Extended, Progressive}
-use Rattle.jpg_spec.specs.declared.transform.PictureFault.TheVariants.{FractionalFactors, TooManyBlocks}
+use Rattle.jpg_spec_write.specs.declared.picture_fault.PictureFault.TheVariants.{FractionalFactors, TooManyBlocks}
 use Rattle.jpg_spec.proofs.Rows.{map_map}
 use Rattle.jpg_spec.proofs.SameNumbers.{frame_passes}
 use Rattle.jpg_base.specs.Frame.{numbers_of}
-use Rattle.jpg_pnm_bmp.specs.declared.pixels.Image.{Image as Read}
-use Rattle.jpg_color.specs.Encode.{CanEncode, fault_due, frame_due, head_due, image_told, request, scans_asked}
+use Rattle.jpg_pnm_bmp.specs.declared.read.pixels.Image.{Image as Read}
+use Rattle.jpg_color.specs.Encode.{CanEncode, fault_due, encoded_frame, encoded_parts, image_told, encoding_request, scans_asked}
 use Rattle.jpg_color.specs.EncodeHead.{component_asked, components_asked, fraction_at, process_asked, table_asked}
 use Rattle.jpg_color.specs.declared.encode.Encoding.{Encoding as Asked}
 use Rattle.jpg_color.proofs.EncodedHead.{fault_of_fraction, fault_of_grids, few_grids, fractions_same, is_frame, many_grids, sequential_is}
 
 -- WHAT MAY BE ASKED
 
-pub is_encodable : (i : Read) (a : Asked) → CanEncode i a → IsEncodable (request a) (image_told i)
+pub is_encodable : (i : Read) (a : Asked) → CanEncode i a → IsEncodable (encoding_request a) (image_told i)
 is_encodable i a can = record {
   width_low = can.image.width_low;
   width_high = can.image.width_high;
@@ -52,23 +52,23 @@ few_asked i a can = few_by _ (length a.factors.items) can.pairs
 
 -- THE NUMBERS
 
-pub components_are : (i : Read) (a : Asked) → CanEncode i a → components_asked a ≡ (frame_due i a).components
+pub components_are : (i : Read) (a : Asked) → CanEncode i a → components_asked a ≡ (encoded_frame i a).components
 components_are i a can =
     ap (λ n. map (component_asked a) (below n)) can.pairs
-    ∙ sym (map_map (λ c. (let k : Component = record { id = c.id; h = c.h; v = c.v; quant = 0 } in k)) (component_due (request a)) (below (components_due (request a) (image_told i))))
+    ∙ sym (map_map (λ c. (let k : Component = record { id = c.id; h = c.h; v = c.v; quant = 0 } in k)) (component_due (encoding_request a)) (below (components_due (encoding_request a) (image_told i))))
 
-pub process_is : (i : Read) (a : Asked) → CanEncode i a → process_asked a ≡ (frame_due i a).process
+pub process_is : (i : Read) (a : Asked) → CanEncode i a → process_asked a ≡ (encoded_frame i a).process
 process_is i a can = by a.progressive
   where
     by : (p : Bool) → cond p Progressive (cond (is_wide (table_asked a 0) || (nat_lt 1 (length a.factors.items) && is_wide (table_asked a 1))) Extended Baseline)
-        ≡ process_due (asks_progressive (scans_asked p)) (any_process (request a) (image_told i))
+        ≡ process_due (asks_progressive (scans_asked p)) (any_process (encoding_request a) (image_told i))
     by true = refl
-    by false = sequential_is (request a) (image_told i) (length a.factors.items) can.pairs
+    by false = sequential_is (encoding_request a) (image_told i) (length a.factors.items) can.pairs
 
-pub numbers_are : (i : Read) (a : Asked) (p : Process) (cs : List Component) → CanEncode i a → p ≡ process_asked a → cs ≡ components_asked a → numbers_of p 8 i.info.width i.info.height cs ≡ frame_due i a
+pub numbers_are : (i : Read) (a : Asked) (p : Process) (cs : List Component) → CanEncode i a → p ≡ process_asked a → cs ≡ components_asked a → numbers_of p 8 i.info.width i.info.height cs ≡ encoded_frame i a
 numbers_are i a p cs can e c =
     ap (λ q. numbers_of q 8 i.info.width i.info.height cs) (e ∙ process_is i a can)
-    ∙ ap (λ ds. numbers_of (frame_due i a).process 8 i.info.width i.info.height ds) (c ∙ components_are i a can)
+    ∙ ap (λ ds. numbers_of (encoded_frame i a).process 8 i.info.width i.info.height ds) (c ∙ components_are i a can)
 
 all_made : {X : Type 0} (P : X → Type 0) (f : ℕ → X) (n : ℕ) → ((k : ℕ) → k < n → P (f k)) → All P (map f (below n))
 all_made P f zero each = All-nil P
@@ -83,23 +83,23 @@ factors_are a all =
 -- THE FAULT
 
 found_due : (i : Read) (a : Asked) (cs : List Component) → CanEncode i a → cs ≡ components_asked a
-    → find (fraction_at cs) (below (length cs)) ≡ find (has_fraction (head_due i a)) (below (length (head_due i a).components))
-found_due i a cs can e = ap (λ ds. find (fraction_at ds) (below (length ds))) (e ∙ components_are i a can) ∙ fractions_same (head_due i a)
+    → find (fraction_at cs) (below (length cs)) ≡ find (has_fraction (encoded_parts i a)) (below (length (encoded_parts i a).components))
+found_due i a cs can e = ap (λ ds. find (fraction_at ds) (below (length ds))) (e ∙ components_are i a can) ∙ fractions_same (encoded_parts i a)
 
 pub fraction_due : (i : Read) (a : Asked) (cs : List Component) (k : ℕ) → CanEncode i a → cs ≡ components_asked a → find (fraction_at cs) (below (length cs)) ≡ Some k → fault_due i a ≡ Some (FractionalFactors k)
-fraction_due i a cs k can e found = fault_of_fraction (head_due i a) k (sym (found_due i a cs can e) ∙ found)
+fraction_due i a cs k can e found = fault_of_fraction (encoded_parts i a) k (sym (found_due i a cs can e) ∙ found)
 
-pub none_due : (i : Read) (a : Asked) (cs : List Component) → CanEncode i a → cs ≡ components_asked a → find (fraction_at cs) (below (length cs)) ≡ None → padded_blocks (frame_due i a) ≤ 8388608 → fault_due i a ≡ None
-none_due i a cs can e none few = fault_of_grids (head_due i a) (sym (found_due i a cs can e) ∙ none) ∙ few_grids (head_due i a) few
+pub none_due : (i : Read) (a : Asked) (cs : List Component) → CanEncode i a → cs ≡ components_asked a → find (fraction_at cs) (below (length cs)) ≡ None → padded_blocks (encoded_frame i a) ≤ 8388608 → fault_due i a ≡ None
+none_due i a cs can e none few = fault_of_grids (encoded_parts i a) (sym (found_due i a cs can e) ∙ none) ∙ few_grids (encoded_parts i a) few
 
 no_fault : (f : Frame) (fault : Fault) → Err fault ≡ Ok f → ⊥
 no_fault f fault e = cc
 
 pub many_due : (i : Read) (a : Asked) (cs : List Component) (limits : Limits) (fault : Fault) (g : Frame) → CanEncode i a → cs ≡ components_asked a → find (fraction_at cs) (below (length cs)) ≡ None
-    → g ≡ frame_due i a → limits ≡ standard_limits → Err fault ≡ checked_frame limits g → fault_due i a ≡ Some TooManyBlocks
+    → g ≡ encoded_frame i a → limits ≡ standard_limits → Err fault ≡ checked_frame limits g → fault_due i a ≡ Some TooManyBlocks
 many_due i a cs limits fault g can e none same l err =
-    fault_of_grids (head_due i a) (sym (found_due i a cs can e) ∙ none)
-    ∙ ⊎_elim (λ (many : 8388608 < padded_blocks (frame_due i a)). many_grids (head_due i a) many)
-    (λ (few : padded_blocks (frame_due i a) ≤ 8388608).
-    absurd (no_fault (frame_due i a) fault
-    (err ∙ ap (λ k. checked_frame k g) l ∙ ap (checked_frame standard_limits) same ∙ frame_passes (frame_due i a) (is_frame (request a) (image_told i) (is_encodable i a can) can.pairs few)))) (cases_lt 8388608 (padded_blocks (frame_due i a)))
+    fault_of_grids (encoded_parts i a) (sym (found_due i a cs can e) ∙ none)
+    ∙ ⊎_elim (λ (many : 8388608 < padded_blocks (encoded_frame i a)). many_grids (encoded_parts i a) many)
+    (λ (few : padded_blocks (encoded_frame i a) ≤ 8388608).
+    absurd (no_fault (encoded_frame i a) fault
+    (err ∙ ap (λ k. checked_frame k g) l ∙ ap (checked_frame standard_limits) same ∙ frame_passes (encoded_frame i a) (is_frame (encoding_request a) (image_told i) (is_encodable i a can) can.pairs few)))) (cases_lt 8388608 (padded_blocks (encoded_frame i a)))

@@ -1,30 +1,30 @@
--- What the blocks of a component are made of, and where they are put.
+-- The sources of the blocks of a component, and the places where they are put.
 use Rattle.std.proofs.Common.{◌≡◌, ℕ, zero, suc, ◌+◌, ◌-◌, ◌*◌, ◌/◌, ◌<◌, ◌≤◌, min, Bool, true, false, cond, ◌&&◌, ◌||◌, ◌==◌, List, [], ◌∷◌, length, map, slice_index_or, refl, sym, ap, ◌∙◌, subst, arith, ℤ}
 use Rattle.std.specs.Prelude.{replicate}
 use Rattle.std.proofs.Math.Nat.{div-le_self}
 use Rattle.std.proofs.Math.Path.{fun_ext}
 use Rattle.std.proofs.lemmas.Nat.{div_below, le-div, mul-le}
 use Rattle.std.proofs.lemmas.List.{get_or-map, length-map}
-use Rattle.jpg_spec.specs.Downsampling.{narrowed}
+use Rattle.jpg_spec_image.specs.Downsampling.{downsampled}
 use Rattle.jpg_spec.specs.Elements.{zeros}
-use Rattle.jpg_spec.specs.Encoded.{Encoding, component_due, components_due, encoded_block, encoded_head, full_plane, is_gray, rows_made, samples_of_block}
-use Rattle.jpg_spec.specs.ForwardDct.{forward_dct, quantised_block}
+use Rattle.jpg_spec_encode.specs.Encoded.{Encoding, component_due, components_due, encoded_block, encoded_head, full_plane, is_gray, rows_made, samples_of_block}
+use Rattle.jpg_spec_image.specs.ForwardDct.{forward_dct, quantised_block}
 use Rattle.jpg_spec.specs.Geometry.{Frame, component_at, div_up, greatest, h_max, v_max, no_component}
-use Rattle.jpg_spec.specs.Images.{Image, sample_count}
+use Rattle.jpg_spec_image.specs.Images.{Image, sample_count}
 use Rattle.jpg_spec.specs.Lists.{below}
 use Rattle.jpg_spec.specs.Meaning.{Meaning, picture_frame, real_blocks}
-use Rattle.jpg_spec.specs.Moves.{component_of, most_across, most_down}
+use Rattle.jpg_spec.specs.Meaning.{component_of, most_across, most_down}
 use Rattle.jpg_spec.specs.Scan.{Blocks}
 use Rattle.jpg_spec.specs.declared.frame.Component.{Component}
-use Rattle.jpg_spec.specs.declared.image.ImageKind.{ImageKind}
-use Rattle.jpg_spec.specs.declared.image.ImageKind.TheVariants.{Gray, Rgb}
+use Rattle.jpg_spec_image.specs.declared.image.ImageKind.{ImageKind}
+use Rattle.jpg_spec_image.specs.declared.image.ImageKind.TheVariants.{Gray, Rgb}
 use Rattle.jpg_spec.proofs.Common.{length_below, same_of}
 use Rattle.jpg_spec.proofs.Rows.{at_below}
 use Rattle.jpg_pnm_bmp.specs.Made.{IsRightImage}
 use Rattle.jpg_coefs.specs.Picture.{Picture, map_of}
 use Rattle.jpg_coefs.proofs.Maps.{blank_is}
-use Rattle.jpg_coefs.specs.Copied.{Copies, in_grids}
-use Rattle.jpg_color.specs.ColourRows.{numbers_of}
+use Rattle.jpg_coefs.specs.Copied.{CopiesBlocks, in_grids}
+use Rattle.jpg_color.specs.ColourRows.{numbers_of_pixel}
 use Rattle.jpg_color.specs.McuRows.{in_span}
 use Rattle.jpg_color.specs.PlaneRows.{HasSamples}
 use Rattle.jpg_color.proofs.EncodedHead.{frame_across, frame_component, frame_down}
@@ -69,14 +69,14 @@ has_samples image is = record {
   all = is.count ∙ counted image.info.width image.info.height image.info.x_metre image.info.y_metre image.info.kind;
 }
   where
-    counted : (w h x y : ℕ) (k : ImageKind) → sample_count (record { width = w; height = h; kind = k; x_metre = x; y_metre = y }) ≡ h * (numbers_of k * w)
+    counted : (w h x y : ℕ) (k : ImageKind) → sample_count (record { width = w; height = h; kind = k; x_metre = x; y_metre = y }) ≡ h * (numbers_of_pixel k * w)
     counted w h x y Gray = ap (λ n. h * n) (omega arith)
     counted w h x y Rgb = refl
 
--- THE BLOCKS of a plane in so many rows, by ratios and quantisers
+-- THE BLOCKS of a plane in a number of rows, by ratios and quantisers
 
 abbrev pub plane_by : Image → ℕ → ℕ → ℕ → ℕ → ℕ → ℕ → ℕ
-plane_by image i across down made x y = narrowed across down (full_plane image i) x (min y (made - 1))
+plane_by image i across down made x y = downsampled across down (full_plane image i) x (min y (made - 1))
 
 pub source_is : (H : Meaning) (image : Image) (f : Frame) (i across down made : ℕ) (quants : List ℕ) → f ≡ picture_frame H → across ≡ h_max f / (component_at f i).h → down ≡ v_max f / (component_at f i).v
     → made ≡ div_up H.height (v_max f) * (component_at f i).v → quants ≡ (component_of H i).quants
@@ -95,7 +95,7 @@ source_is H image f i across down made quants e a d m q x y =
     ∙ ap (λ n. quantised_block c.quants (forward_dct (samples_of_block (plane_by image i (most_across H / c.h) n made) x y))) d1
     ∙ ap (λ n. quantised_block c.quants (forward_dct (samples_of_block (plane_by image i (most_across H / c.h) (most_down H / c.v) n) x y))) m1
 
--- THE COMPONENTS that are due
+-- THE COMPONENTS of the definitions
 
 pub count_due : (e : Encoding) (image : Image) → length (picture_frame (encoded_head e image)).components ≡ components_due e image
 count_due e image =
@@ -121,13 +121,13 @@ component_there e image i h =
     get_or-map (component_due e) (below (components_due e image)) i 0 (record { id = 0; h = 1; v = 1; quants = [] }) (subst (λ n. i < n) (sym (length_below (components_due e image))) h)
     ∙ ap (component_due e) (at_below (components_due e image) i h)
 
--- PUT: the blocks of component i alone count in its grid
+-- PUT: only the blocks of component i count in its grid
 
 never : (here rest : Bool) (a b old : List ℤ) → here ≡ false → cond (here && rest) a old ≡ cond (here && rest) b old
 never true rest a b old e = cc
 never false rest a b old e = refl
 
-pub same_blocks : (f : Frame) (i first last : ℕ) (s t : Blocks) (old new : Picture) → ((x y : ℕ) → s i x y ≡ t i x y) → Copies (in_span f i first last) s old new → Copies (in_span f i first last) t old new
+pub same_blocks : (f : Frame) (i first last : ℕ) (s t : Blocks) (old new : Picture) → ((x y : ℕ) → s i x y ≡ t i x y) → CopiesBlocks (in_span f i first last) s old new → CopiesBlocks (in_span f i first last) t old new
 same_blocks f i first last s t old new e c = record { frame = c.frame; blocks = λ j u v. c.blocks j u v ∙ by j u v (j == i) refl }
   where
     by : (j u v : ℕ) (b : Bool) → (j == i) ≡ b → cond (in_span f i first last j u v) (s j u v) (map_of old j u v) ≡ cond (in_span f i first last j u v) (t j u v) (map_of old j u v)
@@ -136,6 +136,6 @@ same_blocks f i first last s t old new e c = record { frame = c.frame; blocks = 
         ap (λ block. cond (in_span f i first last j u v) block (map_of old j u v)) (ap (λ k. s k u v) is ∙ e u v ∙ sym (ap (λ k. t k u v) is))
     by j u v false h = never (j == i) _ (s j u v) (t j u v) (map_of old j u v) h
 
-pub all_put : (f : Frame) (seen : Blocks) (old new : Picture) (n : ℕ) → old.blocks ≡ replicate n (zeros 64) → Copies (in_grids f) seen old new → map_of new ≡ real_blocks f seen
+pub all_put : (f : Frame) (seen : Blocks) (old new : Picture) (n : ℕ) → old.blocks ≡ replicate n (zeros 64) → CopiesBlocks (in_grids f) seen old new → map_of new ≡ real_blocks f seen
 all_put f seen old new n none c =
     fun_ext (λ i. fun_ext (λ x. fun_ext (λ y. c.blocks i x y ∙ ap (λ (b : Blocks). cond (in_grids f i x y) (seen i x y) (b i x y)) (blank_is old n none))))

@@ -1,18 +1,18 @@
--- The blocks of the picture of an image lie in the bounds, and the real ones alone are kept.
+-- The blocks of the picture of an image are in the bounds, and only the real ones are kept.
 use Rattle.std.proofs.Common.{◌≡◌, Bool, true, false, cond, ◌&&◌, List, length, refl, ℤ, None}
 use Rattle.std.specs.Prelude.{nat_lt}
 use Rattle.std.proofs.Math.Path.{fun_ext}
 use Rattle.jpg_spec.specs.Elements.{zeros}
-use Rattle.jpg_spec.specs.Encoded.{Encoding, encoded, encoded_text, sampling_fault}
-use Rattle.jpg_spec.specs.EncodingLaws.{IsEncodable}
+use Rattle.jpg_spec_encode.specs.Encoded.{Encoding, encoded, encoded_text, sampling_fault}
+use Rattle.jpg_spec_encode.specs.EncodingLaws.{IsEncodable}
 use Rattle.jpg_spec.specs.Geometry.{Frame, bounds, is_real}
-use Rattle.jpg_spec.specs.Images.{Image}
-use Rattle.jpg_spec.specs.Laws.{AreOwn}
+use Rattle.jpg_spec_image.specs.Images.{Image}
+use Rattle.jpg_spec_write.specs.Laws.{AreOwn}
 use Rattle.jpg_spec.specs.Meaning.{picture_frame, real_blocks}
 use Rattle.jpg_spec.specs.Ranges.{AreInRange}
 use Rattle.jpg_spec.specs.Scan.{Blocks}
 use Rattle.jpg_spec.specs.Segments.{standard_limits}
-use Rattle.jpg_spec.proofs.EncodedWritten.{encoded_own, encoded_means}
+use Rattle.jpg_spec_encode.proofs.EncodedWritten.{encoded_own, encoded_means}
 use Rattle.jpg_spec.proofs.Ranges.{means_in_range}
 
 pub encoded_in_range : (e : Encoding) (image : Image) → IsEncodable e image → AreOwn e.scans → sampling_fault e image ≡ None → AreInRange (bounds (picture_frame (encoded e image))) (encoded e image).blocks

@@ -7,31 +7,32 @@ use Rattle.std.proofs.Math.ListN.{get_or-map}
 use Rattle.std.proofs.lemmas.List.{length-map}
 use Rattle.std.proofs.lemmas.List.Elements.{All-nil, All-cons, All-get_or}
 use Rattle.jpg_spec.specs.Lists.{below, any_of}
-use Rattle.jpg_spec.specs.FileText.{off}
+use Rattle.jpg_spec_write.specs.FileText.{off}
 use Rattle.jpg_spec.specs.FrameHeader.{IsFrame, HasFactors}
 use Rattle.jpg_spec.specs.Geometry.{Frame, greatest, h_max, v_max, component_at, padded_blocks}
-use Rattle.jpg_spec.specs.Images.{Image}
+use Rattle.jpg_spec_image.specs.Images.{Image}
 use Rattle.jpg_spec.specs.InForce.{first_some}
 use Rattle.jpg_spec.specs.Jfif.{jfif_of}
 use Rattle.jpg_spec.specs.Meaning.{Meaning, PictureComponent, colour_of, picture_frame, real_blocks}
-use Rattle.jpg_spec.specs.Moved.{sequential, asks_progressive, process_due}
-use Rattle.jpg_spec.specs.Moves.{component_of, is_wide, jfif_contents, most_across, most_down}
-use Rattle.jpg_spec.specs.Pixels.{is_fractional}
+use Rattle.jpg_spec_write.specs.ScansAsked.{sequential, asks_progressive, process_due}
+use Rattle.jpg_spec.specs.Meaning.{component_of, most_across, most_down}
+use Rattle.jpg_spec_write.specs.Headed.{is_wide, jfif_contents}
+use Rattle.jpg_spec_image.specs.Pixels.{is_fractional}
 use Rattle.jpg_spec.specs.Segments.{QuantTable, two_bytes}
-use Rattle.jpg_spec.specs.Encoded.{Encoding, any_process, component_due, components_due, density_of, encoded, encoded_block, encoded_head, factors_fault, grids_fault, has_fraction, is_density, is_gray, sampling_fault}
-use Rattle.jpg_spec.specs.EncodingLaws.{AreFactors, IsEncodable}
+use Rattle.jpg_spec_encode.specs.Encoded.{Encoding, any_process, component_due, components_due, density_of, encoded, encoded_block, encoded_head, factors_fault, grids_fault, has_fraction, is_density, is_gray, sampling_fault}
+use Rattle.jpg_spec_encode.specs.EncodingLaws.{AreFactors, IsEncodable}
 use Rattle.jpg_spec.specs.declared.frame.Colour.TheVariants.{Gray, YCbCr}
 use Rattle.jpg_spec.specs.declared.frame.Component.{Component}
 use Rattle.jpg_spec.specs.declared.frame.Process.{Process}
 use Rattle.jpg_spec.specs.declared.frame.Process.TheVariants.{Baseline, Extended}
-use Rattle.jpg_spec.specs.declared.image.ImageInfo.{ImageInfo}
+use Rattle.jpg_spec_image.specs.declared.image.ImageInfo.{ImageInfo}
 use Rattle.jpg_spec.specs.declared.jfif.Jfif.{Jfif}
-use Rattle.jpg_spec.specs.declared.transform.PictureFault.TheVariants.{FractionalFactors, TooManyBlocks}
+use Rattle.jpg_spec_write.specs.declared.picture_fault.PictureFault.TheVariants.{FractionalFactors, TooManyBlocks}
 use Rattle.jpg_color.specs.EncodeHead.{fraction_at}
 use Rattle.jpg_spec.proofs.Common.{both, lt_of, lt_yes, lt_no}
 use Rattle.jpg_spec.proofs.Rows.{map_map}
 
--- ENCODINGS THAT TELL THE SAME: the scans count by their kind alone
+-- ENCODINGS WITH THE SAME RESULT: of the scans only the kind counts
 
 abbrev head_by : Image → Bool → Bool → List (ℕ × ℕ) → QuantTable → QuantTable → Meaning
 head_by image progressive gray factors first others =
@@ -157,7 +158,7 @@ few_grids H few = ap (λ b. cond b (Some TooManyBlocks) None) (lt_no 8388608 (pa
 pub many_grids : (H : Meaning) → 8388608 < padded_blocks (picture_frame H) → grids_fault H ≡ Some TooManyBlocks
 many_grids H many = ap (λ b. cond b (Some TooManyBlocks) None) (lt_yes 8388608 (padded_blocks (picture_frame H)) many)
 
--- THE PROCESS: whether a table that is used is wide
+-- THE PROCESS: whether a table that is used has 16 bits
 
 any_wide : (first others : Bool) (b : Bool) → cond (first || (nat_lt 1 (cond b 1 3) && others)) Extended Baseline ≡ cond (cond b (first || false) (first || (others || (others || false)))) Extended Baseline
 any_wide true others true = refl

@@ -1,4 +1,4 @@
--- Rows of 128, which zero blocks tell (T.81, A.3.3).
+-- Rows of 128, which zero blocks encode (T.81, A.3.3).
 use Rattle.std.proofs.Common.{◌≡◌, ℕ, ⊎_elim, ◌+◌, ◌-◌, ◌*◌, ◌%◌, ◌<◌, ◌≤◌, List, [], ◌++◌, length, take, drop, map, replicate, slice_index, ℤ, pos, false, refl, sym, ap, subst, ◌∙◌, arith}
 use Rattle.std.specs.Prelude.{◌*ℤ◌}
 use Rattle.std.specs.List.{All}
@@ -11,19 +11,19 @@ use Rattle.std.proofs.lemmas.List.Elements.{All-weaker}
 use Rattle.std.proofs.lemmas.Slice.{take-put_mid_below}
 use borrow.Rule.Slice.PartMut.{put_mid}
 use Rattle.jpg_spec.specs.Lists.{below, index_of}
-use Rattle.jpg_spec.specs.Dct.{column, dequantised, even_sums, inverse_dct, joined_sums, number_at, odd_sums, sample_row}
+use Rattle.jpg_spec_image.specs.Dct.{column, dequantised, even_sums, inverse_dct, joined_sums, number_at, odd_sums, sample_row}
 use Rattle.jpg_spec.specs.Elements.{zeros}
 use Rattle.jpg_spec.specs.FileMeaning.{no_blocks}
 use Rattle.jpg_spec.specs.Geometry.{bounds, mcu_row_frame, padded_blocks}
-use Rattle.jpg_spec.specs.Moves.{zigzag}
+use Rattle.jpg_spec.specs.Zigzag.{zigzag}
 use Rattle.jpg_spec.specs.Ranges.{AreInRange}
 use Rattle.jpg_spec.specs.Scan.{Blocks}
 use Rattle.jpg_spec.specs.Segments.{QuantTable, standard_limits}
 use Rattle.jpg_spec.proofs.Ranges.{in_range}
 use Rattle.jpg_coefs.specs.Picture.{Picture, map_of}
 use Rattle.jpg_coefs.proofs.Maps.{blank_is}
-use Rattle.jpg_color.specs.KeptRows.{KeptRows, last_row, row_in, sample_in, with_gray, with_rows}
-use Rattle.jpg_color.specs.PartState.{CanFill, CanFillGray, PartState, filled, grayed, told}
+use Rattle.jpg_color.specs.KeptRows.{KeptRows, last_row, row_in, sample_in, with_gray, with_block_rows}
+use Rattle.jpg_color.specs.PartState.{CanFill, CanFillGray, PartState, filled, grayed_part, rows_so_far_of}
 use Rattle.jpg_color.specs.Shown.{Display, zero_row}
 use Rattle.jpg_color.proofs.RowsPut.{map_below}
 use Rattle.jpg_color.specs.RowBytes.{PutsRows}
@@ -64,7 +64,7 @@ part_filled line kept count old part room is =
     let n = (kept + count) * line - kept * line in
     is ∙ ap (λ k. replicate k 128) (length-take-le n (drop (kept * line) old) (omega (arith, room, length-drop (kept * line) old)))
 
--- WHAT ZERO BLOCKS TELL
+-- WHAT ZERO BLOCKS ENCODE
 
 zero_at : (k : ℕ) → number_at (zeros 64) k ≡ pos 0
 zero_at k = ⊎_elim
@@ -91,7 +91,7 @@ gray_sample quants y x =
     ap (λ b. slice_index (inverse_dct b) (8 * (y % 8) + x % 8)) (zero_dequantised quants) ∙ ap (λ l. slice_index l (8 * (y % 8) + x % 8)) gray_samples
     ∙ get_or-replicate 64 (8 * (y % 8) + x % 8) 128 0 (omega arith)
 
-gray_rows : (kept : KeptRows) (quants : QuantTable) (i first count : ℕ) → with_rows kept quants no_blocks i first count ≡ with_gray kept count
+gray_rows : (kept : KeptRows) (quants : QuantTable) (i first count : ℕ) → with_block_rows kept quants no_blocks i first count ≡ with_gray kept count
 gray_rows kept quants i first count =
     ap (λ (rs : List (List ℕ)). (let k : KeptRows = record kept { rows = last_row kept.rows ++ rs } in k))
     (map_below (row_in kept.wide quants no_blocks i first) (λ y. map (λ x. 128) (below kept.wide)) count
@@ -101,12 +101,12 @@ blank_row : (d : Display) → map_of (zero_row d) ≡ no_blocks
 blank_row d = blank_is (zero_row d) (padded_blocks (mcu_row_frame d.frame)) refl
 
 -- a part after an MCU row of zero blocks
-grayed_is : (d : Display) (m : ℕ) (p : PartState) → grayed m p ≡ filled (zero_row d) false m p
+grayed_is : (d : Display) (m : ℕ) (p : PartState) → grayed_part m p ≡ filled (zero_row d) false m p
 grayed_is d m p =
     ap (λ (k : KeptRows). (let q : PartState = record p { kept = k } in q))
-    (sym (gray_rows p.kept p.quants p.component 0 (told p m)) ∙ ap (λ (b : Blocks). with_rows p.kept p.quants b p.component 0 (told p m)) (sym (blank_row d)))
+    (sym (gray_rows p.kept p.quants p.component 0 (rows_so_far_of p m)) ∙ ap (λ (b : Blocks). with_block_rows p.kept p.quants b p.component 0 (rows_so_far_of p m)) (sym (blank_row d)))
 
-pub all_grayed : (d : Display) (m : ℕ) (ps : List PartState) → map (grayed m) ps ≡ map (filled (zero_row d) false m) ps
+pub all_grayed : (d : Display) (m : ℕ) (ps : List PartState) → map (grayed_part m) ps ≡ map (filled (zero_row d) false m) ps
 all_grayed d m ps = ap (λ (f : PartState → PartState). map f ps) (fun_ext (grayed_is d m))
 
 -- such a row is in its range, and every part has room for it

@@ -3,7 +3,7 @@ use Rattle.std.proofs.Common.{◌≡◌, ◌/◌, ℤ, pos, negsuc, ◌+ℤ◌, 
 use Rattle.std.specs.Int.{int_shr}
 use Rattle.std.proofs.lemmas.Int.{ints}
 
--- what is rounded down lies below a number, and not far
+-- what is rounded down is below a number, and not far
 low_16 : (z : ℤ) → (int_shr z 16 *ℤ pos 65536) ≤ℤ z
 low_16 (pos a) = (let e : (pos (a / 65536) *ℤ pos 65536) ≤ℤ pos a = omega (arith, ints) in e)
 low_16 (negsuc a) = (let e : (negsuc (a / 65536) *ℤ pos 65536) ≤ℤ negsuc a = omega (arith, ints) in e)
@@ -20,7 +20,7 @@ high_1 : (z : ℤ) → z ≤ℤ ((int_shr z 1 *ℤ pos 2) +ℤ pos 1)
 high_1 (pos a) = (let e : pos a ≤ℤ ((pos (a / 2) *ℤ pos 2) +ℤ pos 1) = omega (arith, ints) in e)
 high_1 (negsuc a) = (let e : negsuc a ≤ℤ ((negsuc (a / 2) *ℤ pos 2) +ℤ pos 1) = omega (arith, ints) in e)
 
--- a number in its place is the only one
+-- the number of such an interval is unique
 only_16 : (z s : ℤ) → (s *ℤ pos 65536) ≤ℤ z → z ≤ℤ ((s *ℤ pos 65536) +ℤ pos 65535) → s ≡ int_shr z 16
 only_16 z s low high =
     let l : (int_shr z 16 *ℤ pos 65536) ≤ℤ z = low_16 z in
@@ -43,7 +43,7 @@ half_of p u h eu eh =
     let d' : (u +ℤ pos 1) ≤ℤ ((h *ℤ pos 2) +ℤ pos 1) = subst (λ x. (u +ℤ pos 1) ≤ℤ ((x *ℤ pos 2) +ℤ pos 1)) (sym eh) d in
     (omega (arith, ints, a', b', c', d'), omega (arith, ints, a', b', c', d'))
 
--- the difference d, its double t, and what is seen of each on the way
+-- the difference d, its double t, and what is computed from each on the way
 pub red_is : (d t t' u u' h h' r : ℤ) → t ≡ d *ℤ pos 2 → t' ≡ t → u ≡ int_shr (t' *ℤ pos 26345) 16 → u' ≡ u → h ≡ int_shr (u' +ℤ pos 1) 1 → h' ≡ h → r ≡ d +ℤ h'
     → r ≡ int_shr ((d *ℤ pos 91881) +ℤ pos 32768) 16
 red_is d t t' u u' h h' r et et' eu eu' eh eh' er =

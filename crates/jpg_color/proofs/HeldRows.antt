@@ -1,4 +1,5 @@
--- What is kept of a picture's rows of samples: rows of the image find their sources there, and one MCU row more keeps it so.
+-- The rows of samples that are kept of a picture: rows of the image find their sources there, and one more MCU row
+-- preserves that.
 use Rattle.std.proofs.Common.{◌≡◌, ◌⊎◌, inl, inr, ℕ, zero, suc, ◌+◌, ◌-◌, ◌*◌, ◌/◌, ◌%◌, ◌<◌, ◌≤◌, min, Bool, true, false, ◌==◌, if◌then◌else◌, List, [], ◌∷◌, ◌++◌, length, map, drop, slice_index, slice_index_or, subst, refl, sym, ap, ◌∙◌, arith}
 use Rattle.std.proofs.Math.Nat.{le-div_iff_mul-le, div-lt_iff_lt-mul}
 use Rattle.std.proofs.lemmas.Bool.{cases_lt}
@@ -8,21 +9,21 @@ use Rattle.jpg_spec.specs.Geometry.{div_up, component_at, blocks_across, blocks_
 use Rattle.jpg_spec.specs.FileMeaning.{no_blocks}
 use Rattle.jpg_spec.specs.Scan.{Blocks}
 use Rattle.jpg_spec.specs.Meaning.{Meaning}
-use Rattle.jpg_spec.specs.Dct.{dequantised, inverse_dct}
-use Rattle.jpg_spec.specs.Upsampling.{Stretch, is_smoothed, has_far_rows, near_row, far_row}
-use Rattle.jpg_spec.specs.Pixels.{samples_across, samples_down, plane, plane_row, stretch_of}
-use Rattle.jpg_spec.specs.Strips.{IsRowReady, rows_from, lines, block_rows, known_rows, first_kept, IsHeld}
+use Rattle.jpg_spec_image.specs.Dct.{dequantised, inverse_dct}
+use Rattle.jpg_spec_image.specs.Upsampling.{Stretch, is_smoothed, has_far_rows, near_row, far_row}
+use Rattle.jpg_spec_image.specs.Pixels.{samples_across, samples_down, plane, plane_row, stretch_of}
+use Rattle.jpg_spec_image.specs.Strips.{IsRowReady, rows_from, lines, block_rows, known_rows, first_kept, IsHeld}
 use Rattle.jpg_spec.proofs.Common.{length_below, both, same_of, clash}
-use Rattle.jpg_spec.proofs.Strips.{kept_is, ready_told}
+use Rattle.jpg_spec_image.proofs.Strips.{kept_is, ready_told}
 use Rattle.jpg_coefs.specs.Picture.{Picture, map_of}
 use Rattle.jpg_color.specs.KeptRows.{sample_in, row_in, last_row}
-use Rattle.jpg_color.specs.Shown.{Display, Shown, IsShowable, StandsFor, IsDue, AreMcuRow, picture_of, parts, all_rows, ready_rows, rows_in, held_rows}
+use Rattle.jpg_color.specs.Shown.{Display, ShownState, IsShowable, StandsForPicture, IsNextRowDue, AreMcuRow, picture_of, parts, all_rows, rows_made_ready, rows_in, held_rows}
 use Rattle.jpg_color.proofs.Coverage.{in_frame, whole_ratios, covered, component_is, blocks_across_is}
 use Rattle.jpg_color.proofs.Windows.{count_fits, told_rows, rows_missing, all_some, ready_none, ready_low, ready_more, ready_high}
 
 -- THE SOURCES of the next row
 
-pub record HasSources (s : Shown) (blocks : Blocks) (i : ℕ) : Type 0 where
+pub record HasSources (s : ShownState) (blocks : Blocks) (i : ℕ) : Type 0 where
   pub low : first_kept (picture_of s.display blocks) i s.pushed ≤ near_row (stretch_of (picture_of s.display blocks) s.display.smooth i) s.given
   pub high : near_row (stretch_of (picture_of s.display blocks) s.display.smooth i) s.given - first_kept (picture_of s.display blocks) i s.pushed < length (held_rows s i)
   pub near : slice_index_or (held_rows s i) (near_row (stretch_of (picture_of s.display blocks) s.display.smooth i) s.given - first_kept (picture_of s.display blocks) i s.pushed) []
@@ -38,7 +39,7 @@ pub record HasSources (s : Shown) (blocks : Blocks) (i : ℕ) : Type 0 where
 pub down_is_two : (s : Stretch) → has_far_rows s ≡ true → s.down ≡ 2
 down_is_two s e = let b = both (is_smoothed s) (s.down == 2) e in same_of s.down 2 b.1
 
--- the row of samples that a row of the image is made from first
+-- the first of the rows of samples that a row of the image is made from
 near_below : (far : Bool) (k high down y : ℕ) → 1 ≤ down → (far ≡ true → down ≡ 2) → (y < (if far then 2 * k - 1 else k * down)) ⊎ ((k ≡ high) × (y < high * down)) → y / down < k
 near_below true k high down y some two (inl lt) =
     let e : k * down ≡ k * 2 = ap (λ n. k * n) (two refl) in
@@ -75,7 +76,7 @@ far_inside false n k high y e short le low (inl lt) =
         by (inr m) = omega (arith, m)
 far_inside false n k high y e short le low (inr (is, lt)) = record { least = omega (arith, short, low); most = omega (arith, is, lt, short) }
 
--- the rows that the last MCU row and the one above it tell hold it
+-- the rows of the last MCU row and the one above it contain it
 record Reaches (d : Display) (blocks : Blocks) (i m y : ℕ) : Type 0 where
   near_low : first_kept (picture_of d blocks) i m ≤ near_row (stretch_of (picture_of d blocks) d.smooth i) y
   near_high : near_row (stretch_of (picture_of d blocks) d.smooth i) y < known_rows (picture_of d blocks) i m
@@ -85,7 +86,7 @@ record Reaches (d : Display) (blocks : Blocks) (i m y : ℕ) : Type 0 where
 before_last : (m all : ℕ) → m ≤ all → 1 ≤ all → m - 1 < all
 before_last m all le some = omega (arith, le, some)
 
-reaches : (d : Display) (blocks : Blocks) (i m y : ℕ) → IsShowable d → i < parts d → m ≤ all_rows d → ready_rows d (m - 1) ≤ y → y < ready_rows d m → Reaches d blocks i m y
+reaches : (d : Display) (blocks : Blocks) (i m y : ℕ) → IsShowable d → i < parts d → m ≤ all_rows d → rows_made_ready d (m - 1) ≤ y → y < rows_made_ready d m → Reaches d blocks i m y
 reaches d blocks i m y s h le late early =
     let M = picture_of d blocks in
     let st = stretch_of M d.smooth i in
@@ -94,9 +95,9 @@ reaches d blocks i m y s h le late early =
     let n = 8 * block_rows M i * (m - 1) in
     let before : m - 1 < all_rows d = before_last m (all_rows d) le (all_some d s) in
     let told : IsRowReady st (known_rows M i m) y = ready_told M (parts d) d.smooth (all_rows d) m i y c h le early in
-    let low : lines M * (m - 1) - 1 ≤ ready_rows d (m - 1) = ready_low d (m - 1) before in
+    let low : lines M * (m - 1) - 1 ≤ rows_made_ready d (m - 1) = ready_low d (m - 1) before in
     let e : lines M * (m - 1) ≡ n * st.down = ap (λ k. k * (m - 1)) c.whole ∙ (let a : 8 * block_rows M i * st.down * (m - 1) ≡ (8 * block_rows M i * (m - 1)) * st.down = grind arith in a) in
-    let from : n * st.down - 1 ≤ y = subst (λ k. k - 1 ≤ y) e (through (lines M * (m - 1) - 1) (ready_rows d (m - 1)) y low late) in
+    let from : n * st.down - 1 ≤ y = subst (λ k. k - 1 ≤ y) e (through (lines M * (m - 1) - 1) (rows_made_ready d (m - 1)) y low late) in
     let short : n < st.high = rows_missing d i (m - 1) s h before in
     let fits : known_rows M i m ≤ st.high = least_second (8 * block_rows M i * m) st.high in
     let far : has_far_rows st ≡ true → Inside (n - 1) (known_rows M i m) (far_row st y) =
@@ -123,8 +124,8 @@ reaches d blocks i m y s h le late early =
 pub long_from : (rows : ℕ → List ℕ) (first count : ℕ) → length (rows_from rows first count) ≡ count
 long_from rows first count = length-map (below count) (λ k. rows (first + k)) ∙ length_below count
 
-pub sources : (s : Shown) (blocks : Blocks) (i : ℕ) → IsShowable s.display → StandsFor s blocks → i < parts s.display
-    → s.given < ready_rows s.display s.pushed → HasSources s blocks i
+pub sources : (s : ShownState) (blocks : Blocks) (i : ℕ) → IsShowable s.display → StandsForPicture s blocks → i < parts s.display
+    → s.given < rows_made_ready s.display s.pushed → HasSources s blocks i
 sources s blocks i shown stands h lt =
     let d = s.display in
     let M = picture_of d blocks in
@@ -160,10 +161,10 @@ pub held_same : (M : Meaning) (shown : ℕ) (smooth : Bool) (all m given : ℕ) 
 held_same M shown smooth all m given held others same h =
     record { some = h.some; early = h.early; late = h.late; rows = λ (i : ℕ) (lt : i < shown). same i lt ∙ h.rows i lt }
 
-pub given_stands : (s : Shown) (blocks : Blocks) → StandsFor s blocks → s.given < ready_rows s.display s.pushed
+pub given_stands : (s : ShownState) (blocks : Blocks) → StandsForPicture s blocks → s.given < rows_made_ready s.display s.pushed
     → IsHeld (picture_of s.display blocks) (parts s.display) s.display.smooth (all_rows s.display) s.pushed (s.given + 1) (held_rows s)
 given_stands s blocks h lt =
-    record { some = h.some; early = next s.given (ready_rows s.display s.pushed) lt; late = later (ready_rows s.display (s.pushed - 1)) s.given h.late; rows = h.rows }
+    record { some = h.some; early = next s.given (rows_made_ready s.display s.pushed) lt; late = later (rows_made_ready s.display (s.pushed - 1)) s.given h.late; rows = h.rows }
   where
     next : (a b : ℕ) → a < b → a + 1 ≤ b
     next a b l = omega (arith, l)
@@ -171,15 +172,15 @@ given_stands s blocks h lt =
     later : (a b : ℕ) → a ≤ b → a ≤ b + 1
     later a b l = omega (arith, l)
 
--- each row that is given is one of the image
-pub given_low : (s : Shown) (blocks : Blocks) → IsShowable s.display → StandsFor s blocks → s.given < ready_rows s.display s.pushed → s.given < s.display.frame.height
-given_low s blocks shown h lt = below_most s.given (ready_rows s.display s.pushed) s.display.frame.height lt (ready_high s.display s.pushed shown h.some)
+-- each row that is passed is one of the image
+pub given_low : (s : ShownState) (blocks : Blocks) → IsShowable s.display → StandsForPicture s blocks → s.given < rows_made_ready s.display s.pushed → s.given < s.display.frame.height
+given_low s blocks shown h lt = below_most s.given (rows_made_ready s.display s.pushed) s.display.frame.height lt (ready_high s.display s.pushed shown h.some)
   where
     below_most : (a b c : ℕ) → a < b → b ≤ c → a < c
     below_most a b c l m = omega (arith, l, m)
 
-pub given_high : (s : Shown) (blocks : Blocks) → IsShowable s.display → StandsFor s blocks → s.given ≤ s.display.frame.height
-given_high s blocks shown h = within_most s.given (ready_rows s.display s.pushed) s.display.frame.height h.early (ready_high s.display s.pushed shown h.some)
+pub given_high : (s : ShownState) (blocks : Blocks) → IsShowable s.display → StandsForPicture s blocks → s.given ≤ s.display.frame.height
+given_high s blocks shown h = within_most s.given (rows_made_ready s.display s.pushed) s.display.frame.height h.early (ready_high s.display s.pushed shown h.some)
   where
     within_most : (a b c : ℕ) → a ≤ b → b ≤ c → a ≤ c
     within_most a b c l m = omega (arith, l, m)
@@ -190,8 +191,8 @@ fresh_stands d blocks held s none =
     let M = picture_of d blocks in
     record {
       some = omega arith;
-      early = least (ready_rows d 0);
-      late = same_low (ready_rows d 0) (ready_none d s);
+      early = least (rows_made_ready d 0);
+      late = same_low (rows_made_ready d 0) (ready_none d s);
       rows = λ (i : ℕ) (h : i < parts d). none i h ∙ ap (rows_from (plane_row M i) (first_kept M i 0)) (sym (nothing (block_rows M i) (samples_down M i)));
     }
   where
@@ -204,7 +205,7 @@ fresh_stands d blocks held s none =
     nothing : (rows high : ℕ) → min (8 * rows * 0) high - (8 * rows * (0 - 1) - 1) ≡ 0
     nothing rows high = let z : 8 * rows * 0 ≡ 0 = grind arith in omega (arith, z)
 
--- ONE MCU ROW MORE
+-- ONE MORE MCU ROW
 
 pub map_below : {A : Type 0} (f g : ℕ → A) (n : ℕ) → ((k : ℕ) → k < n → f k ≡ g k) → map f (below n) ≡ map g (below n)
 map_below f g zero e = refl
@@ -240,7 +241,7 @@ last_is rows first count =
     drop_whole (x ∷ xs) zero e = absurd (omega (arith, e))
     drop_whole (x ∷ xs) (suc n) e = drop_whole xs n (omega (arith, e))
 
--- n rows are known, and the last of them is kept if there are any; up to row `end` come new ones
+-- n rows are known, and the last of them is kept if there are any; up to row `end` there are new ones
 with_new : (rows : ℕ → List ℕ) (first n end : ℕ) (old : List (List ℕ)) → first ≤ n - 1 → n ≤ end → old ≡ rows_from rows first (n - first)
     → last_row old ++ rows_from rows n (end - n) ≡ rows_from rows (n - 1) (end - (n - 1))
 with_new rows first zero end old low le e =
@@ -299,7 +300,7 @@ told_row d i m first q blocks y s h missing mcu lt =
     column_below : (x wide : ℕ) → x < wide → x / 8 < div_up wide 8
     column_below x wide l = omega (arith, l)
 
-pub pushed_stands : (s : Shown) (first : ℕ → ℕ) (q : Picture) (blocks : Blocks) → IsShowable s.display → IsDue s → AreMcuRow s.display s.pushed first q blocks → StandsFor s blocks
+pub pushed_stands : (s : ShownState) (first : ℕ → ℕ) (q : Picture) (blocks : Blocks) → IsShowable s.display → IsNextRowDue s → AreMcuRow s.display s.pushed first q blocks → StandsForPicture s blocks
     → IsHeld (picture_of s.display blocks) (parts s.display) s.display.smooth (all_rows s.display) (s.pushed + 1) s.given (λ i. pushed_rows s.display i s.pushed first q (held_rows s i))
 pushed_stands s first q blocks shown due mcu stands =
     let d = s.display in
@@ -308,8 +309,8 @@ pushed_stands s first q blocks shown due mcu stands =
     let more = ready_more d m shown due.missing in
     record {
       some = next m (all_rows d) due.missing;
-      early = subst (λ n. n ≤ ready_rows d (m + 1)) (sym due.given) more;
-      late = subst (λ n. ready_rows d n ≤ s.given) (sym (back m)) (subst (λ n. ready_rows d m ≤ n) (sym due.given) (itself (ready_rows d m)));
+      early = subst (λ n. n ≤ rows_made_ready d (m + 1)) (sym due.given) more;
+      late = subst (λ n. rows_made_ready d n ≤ s.given) (sym (back m)) (subst (λ n. rows_made_ready d m ≤ n) (sym due.given) (itself (rows_made_ready d m)));
       rows = λ (i : ℕ) (h : i < parts d).
           (let c = count_fits d i m shown h due.missing in
           let n = 8 * rows_in d i * m in

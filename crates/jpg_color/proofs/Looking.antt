@@ -1,4 +1,4 @@
--- MCU rows of a whole picture are told until a row of the image is ready.
+-- MCU rows of a complete picture are decoded until a row of the image is ready.
 use Rattle.std.proofs.Common.{◌≡◌, ℕ, ◌+◌, ◌-◌, ◌<◌, ◌≤◌, ◌*◌, Bool, true, false, ◌==◌, ◌&&◌, nat_lt, if◌then◌else◌, refl, sym, ap, ◌∙◌, subst, arith, length}
 use Rattle.std.proofs.lemmas.Bool.Decides.{nat_tests}
 use Rattle.std.proofs.lemmas.Bool.{eqb-true}
@@ -6,85 +6,85 @@ use Rattle.jpg_spec.specs.Elements.{zeros}
 use Rattle.jpg_spec.specs.Geometry.{bounds, blocks_across, blocks_down, component_at, is_real}
 use Rattle.jpg_spec.specs.Ranges.{AreInRange}
 use Rattle.jpg_coefs.specs.Picture.{Picture as Coefs, map_of}
-use Rattle.jpg_file.specs.declared.picture.Picture.{Picture}
-use Rattle.jpg_file.specs.declared.strip_head.StripHead.{StripHead}
-use Rattle.jpg_color.specs.Shown.{Shown, Display, IsFresh, StandsFor, IsDue, IsGiven, IsPushed, IsShowable, Advances, all_rows, at_due, parts, ready_rows, rows_in, row_length, row_of}
-use Rattle.jpg_color.specs.PictureRows.{AreRows, GoesOn, IsBehind, shown_blocks}
+use Rattle.jpg_file.specs.declared.read.picture.Picture.{Picture}
+use Rattle.jpg_file.specs.declared.read.strip_head.StripHead.{StripHead}
+use Rattle.jpg_color.specs.Shown.{ShownState, Display, IsFreshRows, StandsForPicture, IsNextRowDue, IsGiven, IsPushed, IsShowable, Advances, all_rows, at_due, parts, rows_made_ready, rows_in, row_length, row_of_blocks}
+use Rattle.jpg_color.specs.PictureRows.{ArePictureRows, RowGoesOn, IsAfter, shown_blocks}
 use Rattle.jpg_color.proofs.Coverage.{in_frame}
 use Rattle.jpg_color.proofs.Windows.{ready_end, ready_high}
 
--- the same rows were given, and what was told stands
-pub record IsLooking (s0 : Shown) (q0 : Coefs) (s : Shown) (q : Coefs) : Type 0 where
+-- the same rows were written, and what was decoded still holds
+pub record IsLooking (s0 : ShownState) (q0 : Coefs) (s : ShownState) (q : Coefs) : Type 0 where
   pub shown : IsShowable s0.display
   pub display : s.display ≡ s0.display
   pub given : s.given ≡ s0.given
   pub coefs : q ≡ q0
-  pub rows : AreRows s q
+  pub rows : ArePictureRows s q
 
-pub looks : (s : Shown) (q : Coefs) → IsShowable s.display → AreRows s q → IsLooking s q s q
+pub looks : (s : ShownState) (q : Coefs) → IsShowable s.display → ArePictureRows s q → IsLooking s q s q
 looks s q shown rows = record { shown = shown; display = refl; given = refl; coefs = refl; rows = rows }
 
--- MCU rows are missing, where not all were told
-pub missing : (s0 s s1 : Shown) (q0 q : Coefs) → IsLooking s0 q0 s q → Advances s false s1 → (s1.pushed == all_rows s1.display) ≡ false → IsDue s1
+-- MCU rows are missing, if not all were decoded
+pub missing : (s0 s s1 : ShownState) (q0 q : Coefs) → IsLooking s0 q0 s q → Advances s false s1 → (s1.pushed == all_rows s1.display) ≡ false → IsNextRowDue s1
 missing s0 s s1 q0 q h a unfinished =
     let same : s1 ≡ s = a.1 in
     let le : s.pushed ≤ all_rows s.display = h.rows.stands.some in
     let few : s.pushed < all_rows s.display =
-    (let n : (s.pushed == all_rows s.display) ≡ false = subst (λ (x : Shown). (x.pushed == all_rows x.display) ≡ false) same unfinished in grind (arith, nat_tests, n, le))
+    (let n : (s.pushed == all_rows s.display) ≡ false = subst (λ (x : ShownState). (x.pushed == all_rows x.display) ≡ false) same unfinished in grind (arith, nat_tests, n, le))
     in
-    subst IsDue (sym same) (record { given = a.0; missing = few })
+    subst IsNextRowDue (sym same) (record { given = a.0; missing = few })
 
-pub frame_same : (s0 s s1 : Shown) (q0 q : Coefs) → IsLooking s0 q0 s q → Advances s false s1 → q.frame ≡ s1.display.frame
-frame_same s0 s s1 q0 q h a = subst (λ (x : Shown). q.frame ≡ x.display.frame) (sym a.1) h.rows.frame
+pub frame_same : (s0 s s1 : ShownState) (q0 q : Coefs) → IsLooking s0 q0 s q → Advances s false s1 → q.frame ≡ s1.display.frame
+frame_same s0 s s1 q0 q h a = subst (λ (x : ShownState). q.frame ≡ x.display.frame) (sym a.1) h.rows.frame
 
-pub range_same : (s0 s s1 : Shown) (q0 q : Coefs) → IsLooking s0 q0 s q → Advances s false s1 → AreInRange (bounds s1.display.frame) (map_of q)
-range_same s0 s s1 q0 q h a = subst (λ (x : Shown). AreInRange (bounds x.display.frame) (map_of q)) (sym a.1) h.rows.range
+pub range_same : (s0 s s1 : ShownState) (q0 q : Coefs) → IsLooking s0 q0 s q → Advances s false s1 → AreInRange (bounds s1.display.frame) (map_of q)
+range_same s0 s s1 q0 q h a = subst (λ (x : ShownState). AreInRange (bounds x.display.frame) (map_of q)) (sym a.1) h.rows.range
 
--- what an MCU row of the whole picture adds
+-- what an MCU row of the complete picture adds
 real_same : (d : Display) (q : Coefs) (i x y : ℕ) → IsShowable d → i < parts d → x < blocks_across d.frame (component_at d.frame i) → y < blocks_down d.frame (component_at d.frame i)
     → map_of q i x y ≡ shown_blocks d q i x y
 real_same d q i x y shown a b c =
     let there : (nat_lt i (length d.frame.components) && is_real d.frame i x y) ≡ true = (let n = in_frame d i shown a in grind (arith, nat_tests, n, b, c)) in
     sym (ap (λ t. if t then map_of q i x y else zeros 64) there)
 
-rows_pushed : (s s1 : Shown) (q : Coefs) → IsShowable s.display → AreRows s q → IsPushed s (at_due s) q s1 → AreRows s1 q
+rows_pushed : (s s1 : ShownState) (q : Coefs) → IsShowable s.display → ArePictureRows s q → IsPushed s (at_due s) q s1 → ArePictureRows s1 q
 rows_pushed s s1 q shown h p =
     record {
       frame = subst (λ (d : Display). q.frame ≡ d.frame) (sym p.display) h.frame;
       range = subst (λ (d : Display). AreInRange (bounds d.frame) (map_of q)) (sym p.display) h.range;
-      stands = subst (λ (d : Display). StandsFor s1 (shown_blocks d q)) (sym p.display)
+      stands = subst (λ (d : Display). StandsForPicture s1 (shown_blocks d q)) (sym p.display)
           (p.stands (shown_blocks s.display q) h.stands (record { same = λ (i x y : ℕ) a b c e. real_same s.display q i x (s.pushed * rows_in s.display i + y) shown a b e }));
     }
 
-pub goes_looking : (s0 s s1 s2 : Shown) (q0 q : Coefs) → IsLooking s0 q0 s q → Advances s false s1 → IsPushed s1 (at_due s1) q s2 → IsLooking s0 q0 s2 q
+pub goes_looking : (s0 s s1 s2 : ShownState) (q0 q : Coefs) → IsLooking s0 q0 s q → Advances s false s1 → IsPushed s1 (at_due s1) q s2 → IsLooking s0 q0 s2 q
 goes_looking s0 s s1 s2 q0 q h a p =
-    let rows : AreRows s1 q = subst (λ (x : Shown). AreRows x q) (sym a.1) h.rows in
+    let rows : ArePictureRows s1 q = subst (λ (x : ShownState). ArePictureRows x q) (sym a.1) h.rows in
     record {
       shown = h.shown;
-      display = p.display ∙ ap (λ (x : Shown). x.display) a.1 ∙ h.display;
-      given = p.given ∙ ap (λ (x : Shown). x.given) a.1 ∙ h.given;
+      display = p.display ∙ ap (λ (x : ShownState). x.display) a.1 ∙ h.display;
+      given = p.given ∙ ap (λ (x : ShownState). x.given) a.1 ∙ h.given;
       coefs = h.coefs;
-      rows = rows_pushed s1 s2 q (subst IsShowable (sym (ap (λ (x : Shown). x.display) a.1 ∙ h.display)) h.shown) rows p;
+      rows = rows_pushed s1 s2 q (subst IsShowable (sym (ap (λ (x : ShownState). x.display) a.1 ∙ h.display)) h.shown) rows p;
     }
 
-pub fewer_missing : (s s1 s2 : Shown) (q : Coefs) → Advances s false s1 → IsDue s1 → IsPushed s1 (at_due s1) q s2 → all_rows s2.display - s2.pushed < all_rows s.display - s.pushed
+pub fewer_missing : (s s1 s2 : ShownState) (q : Coefs) → Advances s false s1 → IsNextRowDue s1 → IsPushed s1 (at_due s1) q s2 → all_rows s2.display - s2.pushed < all_rows s.display - s.pushed
 fewer_missing s s1 s2 q a due p =
     let d : all_rows s2.display ≡ all_rows s1.display = ap all_rows p.display in
-    let e : all_rows s1.display ≡ all_rows s.display = ap (λ (x : Shown). all_rows x.display) a.1 in
-    let n : s1.pushed ≡ s.pushed = ap (λ (x : Shown). x.pushed) a.1 in
+    let e : all_rows s1.display ≡ all_rows s.display = ap (λ (x : ShownState). all_rows x.display) a.1 in
+    let n : s1.pushed ≡ s.pushed = ap (λ (x : ShownState). x.pushed) a.1 in
     omega (arith, d, e, n, p.pushed, due.missing)
 
-pub rows_given : (s s1 : Shown) (q : Coefs) → AreRows s q → IsGiven s s1.last s1 → AreRows s1 q
+pub rows_given : (s s1 : ShownState) (q : Coefs) → ArePictureRows s q → IsGiven s s1.last s1 → ArePictureRows s1 q
 rows_given s s1 q h g =
     record {
       frame = subst (λ (d : Display). q.frame ≡ d.frame) (sym g.display) h.frame;
       range = subst (λ (d : Display). AreInRange (bounds d.frame) (map_of q)) (sym g.display) h.range;
-      stands = subst (λ (d : Display). StandsFor s1 (shown_blocks d q)) (sym g.display) (g.stands (shown_blocks s.display q) h.stands);
+      stands = subst (λ (d : Display). StandsForPicture s1 (shown_blocks d q)) (sym g.display) (g.stands (shown_blocks s.display q) h.stands);
     }
 
-pub goes_on : (s0 s s1 : Shown) (q0 q : Coefs) → IsLooking s0 q0 s q → IsGiven s s1.last s1 → GoesOn (record { strips = s0; coefs = q0 }) (record { strips = s1; coefs = q })
+pub goes_on : (s0 s s1 : ShownState) (q0 q : Coefs) → IsLooking s0 q0 s q → IsGiven s s1.last s1 → RowGoesOn (record { strips = s0; coefs = q0 }) (record { strips = s1; coefs = q })
 goes_on s0 s s1 q0 q h g =
-    let high : ready_rows s.display s.pushed ≤ s.display.frame.height = ready_high s.display s.pushed (subst IsShowable (sym h.display) h.shown) h.rows.stands.some in
+    let high : rows_made_ready s.display s.pushed ≤ s.display.frame.height = ready_high s.display s.pushed (subst IsShowable (sym h.display) h.shown) h.rows.stands.some in
     let same : s.display.frame.height ≡ s0.display.frame.height = ap (λ (d : Display). d.frame.height) h.display in
     record {
       early = omega (arith, high, same, g.early, h.given);
@@ -93,21 +93,21 @@ goes_on s0 s s1 q0 q h g =
       given = g.given ∙ ap (λ n. n + 1) h.given;
       long = g.long ∙ ap row_length h.display;
       value = g.value (shown_blocks s.display q) h.rows.stands
-          ∙ ap (λ (d : Display). row_of d (shown_blocks d q) s.given) h.display ∙ ap (λ (c : Coefs). row_of s0.display (shown_blocks s0.display c) s.given) h.coefs
-          ∙ ap (λ n. row_of s0.display (shown_blocks s0.display q0) n) h.given;
+          ∙ ap (λ (d : Display). row_of_blocks d (shown_blocks d q) s.given) h.display ∙ ap (λ (c : Coefs). row_of_blocks s0.display (shown_blocks s0.display c) s.given) h.coefs
+          ∙ ap (λ n. row_of_blocks s0.display (shown_blocks s0.display q0) n) h.given;
     }
 
-pub is_behind : (s0 s s1 : Shown) (q0 q : Coefs) → IsLooking s0 q0 s q → Advances s false s1 → (s1.pushed == all_rows s1.display) ≡ true → IsBehind (record { strips = s0; coefs = q0 }) (record { strips = s1; coefs = q })
-is_behind s0 s s1 q0 q h a whole =
+pub is_after : (s0 s s1 : ShownState) (q0 q : Coefs) → IsLooking s0 q0 s q → Advances s false s1 → (s1.pushed == all_rows s1.display) ≡ true → IsAfter (record { strips = s0; coefs = q0 }) (record { strips = s1; coefs = q })
+is_after s0 s s1 q0 q h a whole =
     let same : s1 ≡ s = a.1 in
-    let is : s.pushed ≡ all_rows s.display = eqb-true s.pushed (all_rows s.display) (subst (λ (x : Shown). (x.pushed == all_rows x.display) ≡ true) same whole) in
+    let is : s.pushed ≡ all_rows s.display = eqb-true s.pushed (all_rows s.display) (subst (λ (x : ShownState). (x.pushed == all_rows x.display) ≡ true) same whole) in
     record {
-      all = sym h.given ∙ a.0 ∙ ap (λ n. ready_rows s.display n) is ∙ ready_end s.display ∙ ap (λ (d : Display). d.frame.height) h.display;
-      display = ap (λ (x : Shown). x.display) same ∙ h.display;
+      all = sym h.given ∙ a.0 ∙ ap (λ n. rows_made_ready s.display n) is ∙ ready_end s.display ∙ ap (λ (d : Display). d.frame.height) h.display;
+      display = ap (λ (x : ShownState). x.display) same ∙ h.display;
     }
 
 -- before the first MCU row of a picture that was read
-pub first_rows : (p : Picture) (h : StripHead) (gray smooth : Bool) (s : Shown) → h.frame ≡ p.frame → IsFresh h gray smooth s → AreRows s p.coefs
+pub first_rows : (p : Picture) (h : StripHead) (gray smooth : Bool) (s : ShownState) → h.frame ≡ p.frame → IsFreshRows h gray smooth s → ArePictureRows s p.coefs
 first_rows p h gray smooth s same fresh =
     let is = p.keeps in
     let f : s.display.frame ≡ p.frame = ap (λ (d : Display). d.frame) fresh.display ∙ same in

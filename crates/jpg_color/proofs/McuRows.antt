@@ -1,4 +1,4 @@
--- Blocks that are put row of MCUs by row of MCUs are those of the real grids in the end.
+-- Blocks that are put MCU row by MCU row are those of the real grids in the end.
 use Rattle.std.proofs.Common.{◌≡◌, ℕ, ◌+◌, ◌*◌, ◌≤◌, min, Bool, true, false, cond, ◌&&◌, ◌==◌, length, refl, sym, ap, ◌∙◌, arith, ℤ, List}
 use Rattle.std.specs.Prelude.{nat_le, nat_lt, ◌||◌}
 use Rattle.std.proofs.lemmas.Bool.Decides.{nat_tests}
@@ -10,7 +10,7 @@ use Rattle.jpg_spec.proofs.Common.{same_of}
 use Rattle.jpg_spec.proofs.MovedFrames.{down_low}
 use Rattle.jpg_spec.proofs.PlacesFound.{real_in_padded}
 use Rattle.jpg_coefs.specs.Picture.{Picture, map_of}
-use Rattle.jpg_coefs.specs.Copied.{Copies, in_grid_row, in_grids}
+use Rattle.jpg_coefs.specs.Copied.{CopiesBlocks, in_grid_row, in_grids}
 use Rattle.jpg_color.specs.McuRows.{in_mcu_row, in_mcu_rows, in_part, in_parts, in_span, rows_before}
 
 -- MORE AND MORE PLACES
@@ -18,10 +18,10 @@ use Rattle.jpg_color.specs.McuRows.{in_mcu_row, in_mcu_rows, in_part, in_parts, 
 abbrev IsBoth : (a b c : ℕ → ℕ → ℕ → Bool) → Type 0
 IsBoth a b c = (i x y : ℕ) → c i x y ≡ (a i x y || b i x y)
 
-copies_none : (chosen : ℕ → ℕ → ℕ → Bool) (seen : Blocks) (old : Picture) → ((i x y : ℕ) → chosen i x y ≡ false) → Copies chosen seen old old
+copies_none : (chosen : ℕ → ℕ → ℕ → Bool) (seen : Blocks) (old : Picture) → ((i x y : ℕ) → chosen i x y ≡ false) → CopiesBlocks chosen seen old old
 copies_none chosen seen old none = record { frame = refl; blocks = λ i x y. sym (ap (λ b. cond b (seen i x y) (map_of old i x y)) (none i x y)) }
 
-copies_more : (a b c : ℕ → ℕ → ℕ → Bool) (seen : Blocks) (old mid new : Picture) → IsBoth a b c → Copies a seen old mid → Copies b seen mid new → Copies c seen old new
+copies_more : (a b c : ℕ → ℕ → ℕ → Bool) (seen : Blocks) (old mid new : Picture) → IsBoth a b c → CopiesBlocks a seen old mid → CopiesBlocks b seen mid new → CopiesBlocks c seen old new
 copies_more a b c seen old mid new e first second = record {
   frame = second.frame ∙ first.frame;
   blocks = λ i x y.
@@ -34,7 +34,7 @@ copies_more a b c seen old mid new e first second = record {
     by true false n o = refl
     by false s n o = refl
 
-copies_same : (a b : ℕ → ℕ → ℕ → Bool) (seen : Blocks) (old new : Picture) → ((i x y : ℕ) → b i x y ≡ a i x y) → Copies a seen old new → Copies b seen old new
+copies_same : (a b : ℕ → ℕ → ℕ → Bool) (seen : Blocks) (old new : Picture) → ((i x y : ℕ) → b i x y ≡ a i x y) → CopiesBlocks a seen old new → CopiesBlocks b seen old new
 copies_same a b seen old new e c = record { frame = c.frame; blocks = λ i x y. c.blocks i x y ∙ sym (ap (λ t. cond t (seen i x y) (map_of old i x y)) (e i x y)) }
 
 less_more : (u x : ℕ) → nat_lt u (x + 1) ≡ (nat_lt u x || u == x)
@@ -66,13 +66,13 @@ empty_span first v = grind (arith, nat_tests)
 span_step : (first y v : ℕ) → first ≤ y → (nat_le first v && nat_lt v (y + 1)) ≡ ((nat_le first v && nat_lt v y) || v == y)
 span_step first y v h = grind (arith, nat_tests)
 
-pub no_span : (f : Frame) (i first : ℕ) (seen : Blocks) (old : Picture) → Copies (in_span f i first first) seen old old
+pub no_span : (f : Frame) (i first : ℕ) (seen : Blocks) (old : Picture) → CopiesBlocks (in_span f i first first) seen old old
 no_span f i first seen old =
     copies_none (in_span f i first first) seen old
     (λ j u v. ap (λ t. (j == i) && (nat_lt u (blocks_across f (component_at f i)) && t)) (empty_span first v) ∙ never (j == i) (nat_lt u (blocks_across f (component_at f i))))
 
-pub span_more : (f : Frame) (i first y : ℕ) (seen : Blocks) (old mid new : Picture) → first ≤ y → Copies (in_span f i first y) seen old mid → Copies (in_grid_row f i y) seen mid new
-    → Copies (in_span f i first (y + 1)) seen old new
+pub span_more : (f : Frame) (i first y : ℕ) (seen : Blocks) (old mid new : Picture) → first ≤ y → CopiesBlocks (in_span f i first y) seen old mid → CopiesBlocks (in_grid_row f i y) seen mid new
+    → CopiesBlocks (in_span f i first (y + 1)) seen old new
 span_more f i first y seen old mid new low =
     copies_more (in_span f i first y) (in_grid_row f i y) (in_span f i first (y + 1)) seen old mid new
     (λ j u v.
@@ -91,8 +91,8 @@ at_same j n t = by (j == n) refl
     by true e = ap t (same_of j n e)
     by false e = refl
 
-pub parts_more : (f : Frame) (m count : ℕ) (seen : Blocks) (old mid new : Picture) → Copies (in_parts f m count) seen old mid → Copies (in_part f m count) seen mid new
-    → Copies (in_parts f m (count + 1)) seen old new
+pub parts_more : (f : Frame) (m count : ℕ) (seen : Blocks) (old mid new : Picture) → CopiesBlocks (in_parts f m count) seen old mid → CopiesBlocks (in_part f m count) seen mid new
+    → CopiesBlocks (in_parts f m (count + 1)) seen old new
 parts_more f m count seen old mid new =
     copies_more (in_parts f m count) (in_part f m count) (in_parts f m (count + 1)) seen old mid new
     (λ j u v.
@@ -113,15 +113,15 @@ before_first a d v = let z : a * 0 ≡ 0 = omega arith in grind (arith, nat_test
 joined : (a b v : ℕ) → a ≤ b → nat_lt v b ≡ (nat_lt v a || (nat_le a v && nat_lt v b))
 joined a b v h = grind (arith, nat_tests)
 
-pub no_mcu_rows : (f : Frame) (seen : Blocks) (old : Picture) → Copies (in_mcu_rows f 0) seen old old
+pub no_mcu_rows : (f : Frame) (seen : Blocks) (old : Picture) → CopiesBlocks (in_mcu_rows f 0) seen old old
 no_mcu_rows f seen old =
     copies_none (in_mcu_rows f 0) seen old
     (λ j u v. let n = length f.components in
     let c = component_at f j in
     ap (λ t. nat_lt j n && (nat_lt u (blocks_across f c) && t)) (before_first c.v (blocks_down f c) v) ∙ never (nat_lt j n) (nat_lt u (blocks_across f c)))
 
-pub mcu_rows_more : (f : Frame) (m : ℕ) (seen : Blocks) (old mid new : Picture) → Copies (in_mcu_rows f m) seen old mid → Copies (in_mcu_row f m) seen mid new
-    → Copies (in_mcu_rows f (m + 1)) seen old new
+pub mcu_rows_more : (f : Frame) (m : ℕ) (seen : Blocks) (old mid new : Picture) → CopiesBlocks (in_mcu_rows f m) seen old mid → CopiesBlocks (in_mcu_row f m) seen mid new
+    → CopiesBlocks (in_mcu_rows f (m + 1)) seen old new
 mcu_rows_more f m seen old mid new =
     copies_more (in_mcu_rows f m) (in_mcu_row f m) (in_mcu_rows f (m + 1)) seen old mid new
     (λ j u v. let n = length f.components in
@@ -137,7 +137,7 @@ all_rows f i is =
     let e : c.v * mcus_down f ≡ mcus_down f * c.v = grind arith in
     omega (arith, r, e)
 
-pub all_mcu_rows : (f : Frame) (m : ℕ) (seen : Blocks) (old new : Picture) → IsFrame f → m ≡ mcus_down f → Copies (in_mcu_rows f m) seen old new → Copies (in_grids f) seen old new
+pub all_mcu_rows : (f : Frame) (m : ℕ) (seen : Blocks) (old new : Picture) → IsFrame f → m ≡ mcus_down f → CopiesBlocks (in_mcu_rows f m) seen old new → CopiesBlocks (in_grids f) seen old new
 all_mcu_rows f m seen old new is e =
     copies_same (in_mcu_rows f m) (in_grids f) seen old new
     (λ j u v. let n = length f.components in

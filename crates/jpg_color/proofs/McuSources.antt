@@ -1,4 +1,5 @@
--- What a row of MCUs is made of: components that are as low as their factors say, and windows that hold all rows under their blocks.
+-- The sources of a row of MCUs: components that are as low as their factors require, and windows that have all rows
+-- under their blocks.
 use Rattle.std.proofs.Common.{◌≡◌, ℕ, zero, suc, ◌+◌, ◌-◌, ◌*◌, ◌/◌, ◌%◌, ◌<◌, ◌≤◌, min, Bool, true, false, cond, ◌||◌, ◌==◌, List, [], ◌∷◌, ◌++◌, length, take, drop, slice_index, refl, sym, ap, ◌∙◌, subst, arith, Option, Some, None, ⊎_elim}
 use Rattle.std.specs.Prelude.{find, if◌then◌else◌, not, option_map}
 use Rattle.std.proofs.lemmas.Bool.Decides.{nat_tests}
@@ -6,13 +7,13 @@ use Rattle.std.proofs.lemmas.Bool.{cases_lt}
 use Rattle.std.proofs.lemmas.List.{length-append, length-drop, length-take-le}
 use Rattle.std.proofs.lemmas.Nat.{div-add-mod', mul-le}
 use Rattle.jpg_spec.specs.Lists.{below}
-use Rattle.jpg_spec.specs.Encoded.{factors_fault, grids_fault, has_fraction}
+use Rattle.jpg_spec_encode.specs.Encoded.{factors_fault, grids_fault, has_fraction}
 use Rattle.jpg_spec.specs.FrameHeader.{IsFrame}
 use Rattle.jpg_spec.specs.Geometry.{Frame, component_at, div_up, h_max, v_max}
 use Rattle.jpg_spec.specs.InForce.{first_some}
 use Rattle.jpg_spec.specs.Meaning.{Meaning, picture_frame}
-use Rattle.jpg_spec.specs.declared.transform.PictureFault.{PictureFault}
-use Rattle.jpg_spec.specs.declared.transform.PictureFault.TheVariants.{FractionalFactors}
+use Rattle.jpg_spec_write.specs.declared.picture_fault.PictureFault.{PictureFault}
+use Rattle.jpg_spec_write.specs.declared.picture_fault.PictureFault.TheVariants.{FractionalFactors}
 use Rattle.jpg_spec.proofs.Common.{length_below}
 use Rattle.jpg_spec.proofs.MovedFrames.{across_low}
 use Rattle.jpg_spec.proofs.PlacesFound.{covers, least}
@@ -21,8 +22,8 @@ use Rattle.jpg_color.specs.EncodeBlocks.{IsOfMcuRow, IsSource}
 use Rattle.jpg_color.specs.EncodeHead.{fraction_at}
 use Rattle.jpg_color.specs.McuRows.{rows_before}
 use Rattle.jpg_color.specs.PlaneRows.{AreUnder}
-use Rattle.jpg_color.specs.declared.encode_blocks.Source.{Source}
-use Rattle.jpg_color.specs.declared.rows.Window.{Window}
+use Rattle.jpg_color.specs.declared.encode.blocks.Source.{Source}
+use Rattle.jpg_color.specs.declared.encode.rows.Window.{Window}
 use Rattle.jpg_color.proofs.EncodeSources.{across_most, samples_few}
 use Rattle.jpg_color.proofs.EncodedHead.{fractions_same}
 
@@ -63,7 +64,7 @@ whole_down H f i e none there =
 
 -- THE ROWS UNDER EIGHT of a component
 
--- the last row that the image makes lies in the last row of MCUs, or below its first row
+-- the last row that the image makes is in the last row of MCUs, or below its first row
 made_enough : (height most m v made : ℕ) → 1 ≤ most → 1 ≤ v → m < div_up height (8 * most) → made ≡ div_up height most * v → 8 * (v * m) ≤ made - 1
 made_enough height most m v made low some there is =
     let e : m * (8 * most) ≡ 8 * m * most = grind arith in

@@ -1,4 +1,4 @@
--- A block whose coefficients are 0 but the first.
+-- A block whose coefficients are 0 except the first.
 use Rattle.std.proofs.Common.{◌≡◌, ℕ, zero, suc, ◌<◌, ◌≤◌, true, cond, List, ◌∷◌, drop, nat_lt, get_or, slice_index, ℤ, pos, negsuc, ◌*ℤ◌, refl, sym, ap, ◌∙◌, arith}
 use Rattle.std.specs.Prelude.{replicate}
 use Rattle.std.specs.Int.{bit_at}
@@ -10,8 +10,8 @@ use Rattle.std.proofs.lemmas.List.Elements.{All-get_or}
 use Rattle.std.proofs.lemmas.List.Sums.{AllPass-from_list_all}
 use Rattle.jpg_spec.specs.Lists.{index_of}
 use Rattle.jpg_spec.specs.Elements.{is_zero}
-use Rattle.jpg_spec.specs.Moves.{zigzag}
-use Rattle.jpg_spec.specs.Dct.{number_at, dequantised}
+use Rattle.jpg_spec.specs.Zigzag.{zigzag}
+use Rattle.jpg_spec_image.specs.Dct.{number_at, dequantised}
 use Rattle.jpg_spec.proofs.Rows.{by_items}
 use Rattle.jpg_color.proofs.Places.{places, place_is, place_low, value_of}
 

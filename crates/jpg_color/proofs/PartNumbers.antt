@@ -1,4 +1,4 @@
--- The numbers of a component that is shown, as the code works them out.
+-- The numbers of a component that is displayed, as the code computes them.
 use Rattle.std.proofs.Common.{◌≡◌, ℕ, ◌+◌, ◌*◌, ◌/◌, ◌<◌, ◌≤◌, Bool, ◌==◌, if◌then◌else◌, List, [], length, slice_index_or, subst, refl, sym, ap, ◌∙◌, arith}
 use Rattle.std.proofs.Math.Nat.{mul-le-mul}
 use Rattle.std.proofs.lemmas.List.{get_or_default}
@@ -6,13 +6,13 @@ use Rattle.jpg_spec.specs.Geometry.{div_up, h_max, v_max, component_at}
 use Rattle.jpg_spec.specs.FileMeaning.{no_blocks}
 use Rattle.jpg_spec.specs.Meaning.{Meaning}
 use Rattle.jpg_spec.specs.Segments.{QuantTable}
-use Rattle.jpg_spec.specs.Moves.{component_of}
-use Rattle.jpg_spec.specs.Upsampling.{Stretch}
-use Rattle.jpg_spec.specs.Pixels.{stretch_of}
-use Rattle.jpg_spec.specs.Strips.{block_rows}
+use Rattle.jpg_spec.specs.Meaning.{component_of}
+use Rattle.jpg_spec_image.specs.Upsampling.{Stretch}
+use Rattle.jpg_spec_image.specs.Pixels.{stretch_of}
+use Rattle.jpg_spec_image.specs.Strips.{block_rows}
 use Rattle.jpg_spec.specs.declared.frame.Component.{Component}
-use Rattle.jpg_file.specs.StripHead.{bare_picture}
-use Rattle.jpg_file.specs.declared.strip_head.StripHead.{StripHead}
+use Rattle.jpg_file.specs.Read.StripHead.{bare_picture}
+use Rattle.jpg_file.specs.declared.read.strip_head.StripHead.{StripHead}
 use Rattle.jpg_color.specs.KeptRows.{KeptRows}
 use Rattle.jpg_color.specs.PartState.{AreSizes, IsMeasured, IsNewPart, state_of}
 use Rattle.jpg_color.specs.Shown.{Display, display_of}

@@ -1,4 +1,4 @@
--- The parts of strips, told by the picture: what they keep, fill and draw.
+-- The parts of strips, determined by the picture: what they keep, fill and draw.
 use Rattle.std.proofs.Common.{◌≡◌, ℕ, ◌+◌, ◌-◌, ◌*◌, ◌<◌, ◌≤◌, min, Bool, true, false, ◌==◌, ◌&&◌, if◌then◌else◌, List, [], ◌++◌, length, map, slice_index_or, subst, refl, sym, ap, ◌∙◌, All}
 use Rattle.std.proofs.lemmas.List.{get_or-map}
 use Rattle.std.proofs.lemmas.List.Elements.{All-from_get_or}
@@ -7,13 +7,13 @@ use Rattle.jpg_spec.specs.Lists.{below}
 use Rattle.jpg_spec.specs.FileMeaning.{no_blocks}
 use Rattle.jpg_spec.specs.Segments.{QuantTable}
 use Rattle.jpg_spec.specs.Scan.{Blocks}
-use Rattle.jpg_spec.specs.Upsampling.{Stretch, is_smoothed, has_far_rows, near_row, far_row, upsampled_row, up_row, up_rows2, repeat_row}
-use Rattle.jpg_spec.specs.Pixels.{samples_across, plane_row, stretch_of}
-use Rattle.jpg_spec.specs.Strips.{block_rows, known_rows, first_kept, kept_row}
+use Rattle.jpg_spec_image.specs.Upsampling.{Stretch, is_smoothed, has_far_rows, near_row, far_row, upsampled_row, up_row, up_rows2, repeat_row}
+use Rattle.jpg_spec_image.specs.Pixels.{samples_across, plane_row, stretch_of}
+use Rattle.jpg_spec_image.specs.Strips.{block_rows, known_rows, first_kept, kept_row}
 use Rattle.jpg_coefs.specs.Picture.{Picture, map_of}
 use Rattle.jpg_color.specs.KeptRows.{KeptRows, HasRows, row_in, last_row}
-use Rattle.jpg_color.specs.PartState.{PartState, IsPart, CanFill, CanDraw, no_part, known, told, top, begins, filled, drawn}
-use Rattle.jpg_color.specs.Shown.{Display, IsShowable, StandsFor, IsDue, picture_of, parts, rows_in, held_rows, ready_rows}
+use Rattle.jpg_color.specs.PartState.{PartState, IsPart, CanFill, CanDraw, no_drawn_part, known, rows_so_far_of, top, begins, filled, drawn}
+use Rattle.jpg_color.specs.Shown.{Display, IsShowable, StandsForPicture, IsNextRowDue, picture_of, parts, rows_in, held_rows, rows_made_ready}
 use Rattle.jpg_color.specs.StripsState.{HasMcuRow, part_at, shown_of, start_of}
 use Rattle.jpg_color.proofs.Coverage.{in_frame, component_is}
 use Rattle.jpg_color.proofs.Windows.{CountFits, count_fits, told_rows}
@@ -22,10 +22,10 @@ use Rattle.jpg_color.proofs.HeldRows.{HasSources, sources, pushed_rows}
 -- WHAT IS KEPT
 
 pub at_map : (f : PartState → PartState) (ps : List PartState) (i : ℕ) → i < length ps → part_at (map f ps) i ≡ f (part_at ps i)
-at_map f ps i lt = get_or-map f ps i no_part no_part lt
+at_map f ps i lt = get_or-map f ps i no_drawn_part no_drawn_part lt
 
 pub held_at : (d : Display) (m g : ℕ) (ps : List PartState) (row : List ℕ) (i : ℕ) → held_rows (shown_of d m g ps row) i ≡ (part_at ps i).kept.rows
-held_at d m g ps row i = ap (λ (k : KeptRows). k.rows) (listn.get_or-map (λ (p : PartState). p.kept) ps i no_part)
+held_at d m g ps row i = ap (λ (k : KeptRows). k.rows) (listn.get_or-map (λ (p : PartState). p.kept) ps i no_drawn_part)
 
 pub wide_is : (d : Display) (i : ℕ) (p : PartState) → IsPart (picture_of d no_blocks) d.smooth i p → p.kept.wide ≡ samples_across (picture_of d no_blocks) i
 wide_is d i p is = is.wide ∙ ap (λ s. s.wide) is.stretch
@@ -38,7 +38,7 @@ known_is d i m p is =
     ap (λ n. min (8 * n * m) p.stretch.high) is.rows
     ∙ ap (λ s. min (8 * block_rows (picture_of d no_blocks) i * m) s.high) is.stretch
 
-pub told_is : (d : Display) (i m : ℕ) (p : PartState) → IsPart (picture_of d no_blocks) d.smooth i p → told p m ≡ told_rows d i m
+pub told_is : (d : Display) (i m : ℕ) (p : PartState) → IsPart (picture_of d no_blocks) d.smooth i p → rows_so_far_of p m ≡ told_rows d i m
 told_is d i m p is =
     ap (λ k. known p (m + 1) - k) (known_is d i m p is)
     ∙ ap (λ k. k - known_rows (picture_of d no_blocks) i m) (known_is d i (m + 1) p is)
@@ -68,7 +68,7 @@ filled_rows d whole i m g q ps row s h lt is =
     held_at d (m + 1) g (map (filled q whole m) ps) row i
     ∙ ap (λ (k : PartState). k.kept.rows) (at_map (filled q whole m) ps i lt)
     ∙ ap (λ ys. last_row p.kept.rows ++ ys)
-    (rows_like q p.component i p.kept.wide (samples_across (picture_of d no_blocks) i) (begins whole m p) (start_of whole (shown_of d m g ps row) i) (told p m) (told_rows d i m) p.quants (slice_index_or d.quants i [])
+    (rows_like q p.component i p.kept.wide (samples_across (picture_of d no_blocks) i) (begins whole m p) (start_of whole (shown_of d m g ps row) i) (rows_so_far_of p m) (told_rows d i m) p.quants (slice_index_or d.quants i [])
     is.component (wide_is d i p is) (begins_is d whole i m p is) (told_is d i m p is) (quants_are d i p s h is))
     ∙ ap (λ (old : List (List ℕ)). pushed_rows d i m (start_of whole (shown_of d m g ps row)) q old) (sym (held_at d m g ps row i))
 
@@ -84,14 +84,14 @@ part_fills : (d : Display) (whole : Bool) (i m g : ℕ) (q : Picture) (ps : List
 part_fills d whole i m g q ps row p s h early fits there is = record {
   early = early;
   few = subst (λ n. n ≤ 8 * p.block_rows) (sym (told_is d i m p is)) (subst (λ n. told_rows d i m ≤ 8 * n) (sym is.rows) fits.few);
-  blocks = rows_for q i p.component (samples_across (picture_of d no_blocks) i) p.kept.wide (start_of whole (shown_of d m g ps row) i) (begins whole m p) (told_rows d i m) (told p m)
+  blocks = rows_for q i p.component (samples_across (picture_of d no_blocks) i) p.kept.wide (start_of whole (shown_of d m g ps row) i) (begins whole m p) (told_rows d i m) (rows_so_far_of p m)
       is.component (wide_is d i p is) (begins_is d whole i m p is) (told_is d i m p is) (there.rows i h);
 }
 
-pub all_fill : (d : Display) (whole : Bool) (m g : ℕ) (q : Picture) (ps : List PartState) (row : List ℕ) → IsShowable d → length ps ≡ parts d → m < 65536 → IsDue (shown_of d m g ps row)
+pub all_fill : (d : Display) (whole : Bool) (m g : ℕ) (q : Picture) (ps : List PartState) (row : List ℕ) → IsShowable d → length ps ≡ parts d → m < 65536 → IsNextRowDue (shown_of d m g ps row)
     → HasMcuRow (shown_of d m g ps row) whole q → ((i : ℕ) → i < parts d → IsPart (picture_of d no_blocks) d.smooth i (part_at ps i)) → All (CanFill q whole m) ps
 all_fill d whole m g q ps row s count early due there are =
-    All-from_get_or (CanFill q whole m) ps no_part
+    All-from_get_or (CanFill q whole m) ps no_drawn_part
     (λ (i : ℕ) (lt : i < length ps). (let h : i < parts d = subst (λ n. i < n) count lt in
     part_fills d whole i m g q ps row (part_at ps i) s h early (count_fits d i m s h due.missing) there (are i h)))
 
@@ -116,14 +116,14 @@ part_draws d blocks i m g ps row early h is =
     (subst (λ (rows : List (List ℕ)). Draws (stretch_of M d.smooth i) (first_kept M i m) g rows) (held_at d m g ps row i) all)) in
     record { early = early; low = own.low; high = own.high; far_low = own.far_low; far_high = own.far_high }
 
-pub all_draw : (d : Display) (blocks : Blocks) (m g : ℕ) (ps : List PartState) (row : List ℕ) → IsShowable d → length ps ≡ parts d → m < 65536 → StandsFor (shown_of d m g ps row) blocks
-    → g < ready_rows d m → ((i : ℕ) → i < parts d → IsPart (picture_of d no_blocks) d.smooth i (part_at ps i)) → All (CanDraw g m) ps
+pub all_draw : (d : Display) (blocks : Blocks) (m g : ℕ) (ps : List PartState) (row : List ℕ) → IsShowable d → length ps ≡ parts d → m < 65536 → StandsForPicture (shown_of d m g ps row) blocks
+    → g < rows_made_ready d m → ((i : ℕ) → i < parts d → IsPart (picture_of d no_blocks) d.smooth i (part_at ps i)) → All (CanDraw g m) ps
 all_draw d blocks m g ps row s count early stands lt are =
-    All-from_get_or (CanDraw g m) ps no_part
+    All-from_get_or (CanDraw g m) ps no_drawn_part
     (λ (i : ℕ) (h : i < length ps). (let t : i < parts d = subst (λ n. i < n) count h in
     part_draws d blocks i m g ps row early (sources (shown_of d m g ps row) blocks i s stands t lt) (are i t)))
 
--- the row, by whether it needs two rows, and else by whether it is smoothed
+-- the row, by whether it needs two rows, and otherwise by whether it is smoothed
 by_way : (b c : Bool) (across : ℕ) (near far other_near other_far : List ℕ) → near ≡ other_near → (b ≡ true → far ≡ other_far)
     → (if b then up_rows2 near far else if c then up_row near else repeat_row across near) ≡ (if b then up_rows2 other_near other_far else if c then up_row other_near else repeat_row across other_near)
 by_way true c across near far other_near other_far en ef = ap (λ x. up_rows2 x far) en ∙ ap (up_rows2 other_near) (ef refl)
@@ -139,8 +139,8 @@ from_sources d blocks i m g ps row h =
     let rows = kept_row (first_kept M i m) (held_rows (shown_of d m g ps row) i) in
     by_way (has_far_rows s) (is_smoothed s && s.down == 1) s.across (rows (near_row s g)) (rows (far_row s g)) (plane_row M i (near_row s g)) (plane_row M i (far_row s g)) h.near h.far
 
-pub drawn_line : (d : Display) (blocks : Blocks) (i m g : ℕ) (ps : List PartState) (row : List ℕ) → IsShowable d → i < parts d → i < length ps → StandsFor (shown_of d m g ps row) blocks
-    → g < ready_rows d m → IsPart (picture_of d no_blocks) d.smooth i (part_at ps i)
+pub drawn_line : (d : Display) (blocks : Blocks) (i m g : ℕ) (ps : List PartState) (row : List ℕ) → IsShowable d → i < parts d → i < length ps → StandsForPicture (shown_of d m g ps row) blocks
+    → g < rows_made_ready d m → IsPart (picture_of d no_blocks) d.smooth i (part_at ps i)
     → (part_at (map (drawn g m) ps) i).line ≡ upsampled_row (stretch_of (picture_of d blocks) d.smooth i) (plane_row (picture_of d blocks) i) g
 drawn_line d blocks i m g ps row s h lt stands early is =
     let p = part_at ps i in

@@ -4,9 +4,9 @@ use Rattle.std.proofs.lemmas.Bool.{cases_lt}
 use Rattle.std.proofs.lemmas.List.{take_all, get_or_append_left, get_or-map, get_or-set_other, length-map}
 use Rattle.std.proofs.lemmas.Grind.{get_or-set_at}
 use Rattle.jpg_spec.specs.Lists.{below}
-use Rattle.jpg_spec.specs.Luminance.{luminance, blue_difference, red_difference, to_ycc}
-use Rattle.jpg_spec.specs.Encoded.{pixel_component}
-use Rattle.jpg_spec.specs.declared.image.ImageKind.TheVariants.{Rgb}
+use Rattle.jpg_spec_image.specs.Luminance.{luminance, blue_difference, red_difference, to_ycc}
+use Rattle.jpg_spec_encode.specs.Encoded.{pixel_component}
+use Rattle.jpg_spec_image.specs.declared.image.ImageKind.TheVariants.{Rgb}
 use Rattle.jpg_spec.proofs.Common.{length_below}
 use Rattle.jpg_spec.proofs.Rows.{by_items, at_below}
 use Rattle.jpg_sample.proofs.Sums.{made_more}
@@ -124,7 +124,7 @@ one_of_sixteen pixels part samples i c k few same is =
 pub row_made : (pixels : List ℕ) (i : ℕ) (out : List ℕ) (x n : ℕ) → length out ≡ n → x ≡ n → ((k : ℕ) → k < x → slice_index out k ≡ pixel_component Rgb pixels i k) → out ≡ component_row pixels i n
 row_made pixels i out x n long is same = sym (by_items n (pixel_component Rgb pixels i) out 0 long (λ k lt. sym (same k (omega (arith, lt, is)))))
 
--- one sample more
+-- one more sample
 pub sample_set : (f : ℕ → ℕ) (out : List ℕ) (x r : ℕ) → x < length out → ((k : ℕ) → k < x → slice_index out k ≡ f k) → r ≡ f x → (k : ℕ) → k < x + 1 → slice_index (set out x r) k ≡ f k
 sample_set f out x r there same is k lt =
     ⊎_elim
@@ -132,7 +132,7 @@ sample_set f out x r there same is k lt =
     (λ (b : x ≤ k). (let e : k ≡ x = omega (arith, b, lt) in get_or-set_at out x k r 0 e there ∙ is ∙ ap f (sym e)))
     (cases_lt k x)
 
--- sixteen samples more
+-- sixteen more samples
 pub made_sixteen : (pixels : List ℕ) (i c : ℕ) (first old new : List ℕ) → HasMade pixels i (16 * c) first old → PutsSixteen pixels i c old new → HasMade pixels i (16 * (c + 1)) first new
 made_sixteen pixels i c first old new made puts = record {
   long = puts.long ∙ made.long;

@@ -7,8 +7,8 @@ use Rattle.std.proofs.lemmas.List.Elements.{All-get_or}
 use Rattle.std.proofs.lemmas.List.Sums.{AllPass-from_list_all}
 use Rattle.std.proofs.lemmas.List.{take_more_set, take_more, take_all, map-append, get_or-map, length-map}
 use Rattle.jpg_spec.specs.Lists.{below, index_of}
-use Rattle.jpg_spec.specs.Moves.{zigzag}
-use Rattle.jpg_spec.specs.Dct.{number_at, dequantised}
+use Rattle.jpg_spec.specs.Zigzag.{zigzag}
+use Rattle.jpg_spec_image.specs.Dct.{number_at, dequantised}
 use Rattle.jpg_spec.proofs.Rows.{at_below, by_items}
 use Rattle.jpg_dct.proofs.Bounds.{abs_scaled, all_at}
 use Rattle.jpg_dct.specs.Natural.{natural, natural_table}

@@ -9,23 +9,23 @@ use Rattle.std.proofs.lemmas.Slice.{take-put_mid}
 use borrow.Rule.Slice.PartMut.{put_mid}
 use Rattle.std.proofs.lemmas.List.{length-map, get_or-map, get_or-take, get_or-drop, get_or-append_right, ext_get_or, length-take-le}
 use Rattle.jpg_spec.specs.Lists.{below}
-use Rattle.jpg_spec.specs.Luminance.{to_ycc}
-use Rattle.jpg_spec.specs.Downsampling.{edge_repeated, in_rows, mean_of, narrowed, down_rows}
-use Rattle.jpg_spec.specs.Encoded.{pixel_component, samples_of_block}
-use Rattle.jpg_spec.specs.declared.image.ImageInfo.{ImageInfo}
-use Rattle.jpg_spec.specs.declared.image.ImageKind.{ImageKind}
-use Rattle.jpg_spec.specs.declared.image.ImageKind.TheVariants.{Gray, Rgb}
+use Rattle.jpg_spec_image.specs.Luminance.{to_ycc}
+use Rattle.jpg_spec_image.specs.Downsampling.{edge_repeated, in_rows, mean_of, downsampled, down_rows}
+use Rattle.jpg_spec_encode.specs.Encoded.{pixel_component, samples_of_block}
+use Rattle.jpg_spec_image.specs.declared.image.ImageInfo.{ImageInfo}
+use Rattle.jpg_spec_image.specs.declared.image.ImageKind.{ImageKind}
+use Rattle.jpg_spec_image.specs.declared.image.ImageKind.TheVariants.{Gray, Rgb}
 use Rattle.jpg_spec.proofs.Common.{length_below}
 use Rattle.jpg_spec.proofs.Rows.{at_below}
 use Rattle.jpg_sample.proofs.Sums.{sum_alike}
-use Rattle.jpg_color.specs.ColourRows.{numbers_of, row_component}
-use Rattle.jpg_color.specs.PlaneRows.{row_of, plane_of, narrow_plane, lower_row, narrowed_row, HasSamples, HasRows}
-use Rattle.jpg_color.specs.declared.rows.ImagePlane.{ImagePlane}
+use Rattle.jpg_color.specs.ColourRows.{numbers_of_pixel, row_component}
+use Rattle.jpg_color.specs.PlaneRows.{row_of, plane_of, narrow_plane, lower_row, downsampled_row, HasSamples, HasPlaneRows}
+use Rattle.jpg_color.specs.declared.encode.rows.ImagePlane.{ImagePlane}
 
 -- the mean of samples that are alike
-pub narrowed_alike : (across down x y z : ℕ) (one other : ℕ → ℕ → ℕ) → ((u v : ℕ) → u < across → v < down → one (across * x + u) (down * y + v) ≡ other (across * x + u) (down * z + v))
-    → narrowed across down one x y ≡ narrowed across down other x z
-narrowed_alike across down x y z one other same =
+pub downsampled_alike : (across down x y z : ℕ) (one other : ℕ → ℕ → ℕ) → ((u v : ℕ) → u < across → v < down → one (across * x + u) (down * y + v) ≡ other (across * x + u) (down * z + v))
+    → downsampled across down one x y ≡ downsampled across down other x z
+downsampled_alike across down x y z one other same =
     ap (mean_of across down x)
     (sum_alike (λ v. sum_by (λ u. one (across * x + u) (down * y + v)) (below across)) (λ v. sum_by (λ u. other (across * x + u) (down * z + v)) (below across)) down
     (λ v lv. sum_alike (λ u. one (across * x + u) (down * y + v)) (λ u. other (across * x + u) (down * z + v)) across (λ u lu. same u v lu lv)))
@@ -34,23 +34,23 @@ edge_twice : (w a : ℕ) → min (min a (w - 1)) (w - 1) ≡ min a (w - 1)
 edge_twice w a = omega arith
 
 -- the rows under row y give row y
-pub under_rows : (info : ImageInfo) (samples rows : List ℕ) (i across down x y : ℕ) → 1 ≤ info.width → HasRows info samples i down y rows
-    → narrowed across down (edge_repeated info.width down (in_rows info.width rows)) x 0 ≡ narrowed across down (plane_of info samples i) x y
+pub under_rows : (info : ImageInfo) (samples rows : List ℕ) (i across down x y : ℕ) → 1 ≤ info.width → HasPlaneRows info samples i down y rows
+    → downsampled across down (edge_repeated info.width down (in_rows info.width rows)) x 0 ≡ downsampled across down (plane_of info samples i) x y
 under_rows info samples rows i across down x y some has =
-    narrowed_alike across down x 0 y (edge_repeated info.width down (in_rows info.width rows)) (plane_of info samples i)
+    downsampled_alike across down x 0 y (edge_repeated info.width down (in_rows info.width rows)) (plane_of info samples i)
     (λ u v lu lv. (let m : ℕ = min (across * x + u) (info.width - 1) in
     let e : min (down * 0 + v) (down - 1) ≡ v = omega (arith, lv) in
     let lm : m < info.width = omega (arith, some) in
     ap (λ r. slice_index rows (r * info.width + m)) e ∙ has v m lv lm
     ∙ ap (λ a. pixel_component info.kind samples i (min (down * y + v) (info.height - 1) * info.width + a)) (edge_twice info.width (across * x + u))))
 
-pub row_is : (p : ImagePlane) (rows : List ℕ) (y n : ℕ) → 1 ≤ p.info.now.width → HasRows p.info.now p.samples.now p.component p.ratio.down y rows
-    → down_rows p.ratio.across p.ratio.down p.info.now.width rows n ≡ narrowed_row p y n
-unfolding down_rows narrowed_row
+pub row_is : (p : ImagePlane) (rows : List ℕ) (y n : ℕ) → 1 ≤ p.info.now.width → HasPlaneRows p.info.now p.samples.now p.component p.ratio.down y rows
+    → down_rows p.ratio.across p.ratio.down p.info.now.width rows n ≡ downsampled_row p y n
+unfolding down_rows downsampled_row
 row_is p rows y n some has = alike (below n)
   where
     here : ℕ → ℕ
-    here x = narrowed p.ratio.across p.ratio.down (edge_repeated p.info.now.width p.ratio.down (in_rows p.info.now.width rows)) x 0
+    here x = downsampled p.ratio.across p.ratio.down (edge_repeated p.info.now.width p.ratio.down (in_rows p.info.now.width rows)) x 0
 
     alike : (xs : List ℕ) → map here xs ≡ map (λ x. narrow_plane p x y) xs
     alike [] = refl
@@ -60,18 +60,18 @@ row_is p rows y n some has = alike (below n)
 
 -- A ROW OF THE IMAGE
 
-pub row_there : (info : ImageInfo) (samples : List ℕ) (row n : ℕ) → HasSamples info samples → n ≡ numbers_of info.kind → row < info.height → row * (n * info.width) + n * info.width ≤ length samples
+pub row_there : (info : ImageInfo) (samples : List ℕ) (row n : ℕ) → HasSamples info samples → n ≡ numbers_of_pixel info.kind → row < info.height → row * (n * info.width) + n * info.width ≤ length samples
 row_there info samples row n has en lt =
     let f : row * (n * info.width) + n * info.width ≤ info.height * (n * info.width) = row_fits row (n * info.width) info.height (n * info.width) lt (omega arith) in
     let l : length samples ≡ info.height * (n * info.width) = has.all ∙ ap (λ k. info.height * (k * info.width)) (sym en) in
     omega (arith, f, l)
 
-pub row_found : (info : ImageInfo) (samples : List ℕ) (row p n : ℕ) → n ≡ numbers_of info.kind → row ≡ min p (info.height - 1) → take (n * info.width) (drop (row * (n * info.width)) samples) ≡ row_of info samples (min p (info.height - 1))
+pub row_found : (info : ImageInfo) (samples : List ℕ) (row p n : ℕ) → n ≡ numbers_of_pixel info.kind → row ≡ min p (info.height - 1) → take (n * info.width) (drop (row * (n * info.width)) samples) ≡ row_of info samples (min p (info.height - 1))
 row_found info samples row p n en er =
     ap (λ k. take (k * info.width) (drop (row * (k * info.width)) samples)) en ∙ ap (λ r. row_of info samples r) er
 
 -- a component of a pixel of a row
-pub pixel_in_row : (kind : ImageKind) (samples : List ℕ) (i w p u : ℕ) → u < w → pixel_component kind (take (numbers_of kind * w) (drop (p * (numbers_of kind * w)) samples)) i u ≡ pixel_component kind samples i (p * w + u)
+pub pixel_in_row : (kind : ImageKind) (samples : List ℕ) (i w p u : ℕ) → u < w → pixel_component kind (take (numbers_of_pixel kind * w) (drop (p * (numbers_of_pixel kind * w)) samples)) i u ≡ pixel_component kind samples i (p * w + u)
 pixel_in_row Gray samples i w p u lu =
     get_or-take (1 * w) (drop (p * (1 * w)) samples) u 0 (omega (arith, lu)) ∙ get_or-drop (p * (1 * w)) samples u 0 ∙ ap (λ k. slice_index samples k) (let e : p * (1 * w) ≡ p * w = ap (λ k. p * k) (omega arith) in omega (arith, e))
 pixel_in_row Rgb samples i w p u lu =
@@ -128,9 +128,9 @@ rows_more info samples old new i down y r are here before k u lk lu =
 
 -- EIGHT ROWS, and their blocks
 
-pub placed : (p : ImagePlane) (out : List ℕ) (made y row wide u n : ℕ) → out ≡ narrowed_row p row n → length out ≡ wide → row ≡ min y (made - 1) → u < wide
+pub placed : (p : ImagePlane) (out : List ℕ) (made y row wide u n : ℕ) → out ≡ downsampled_row p row n → length out ≡ wide → row ≡ min y (made - 1) → u < wide
     → slice_index out u ≡ lower_row p made u y
-unfolding narrowed_row
+unfolding downsampled_row
 placed p out made y row wide u n eo long er lu =
     let f : ℕ → ℕ = λ x. narrow_plane p x row in
     let en : n ≡ wide = sym (length_below n) ∙ sym (length-map (below n) f) ∙ sym (ap length eo) ∙ long in

@@ -6,14 +6,14 @@ use Rattle.std.proofs.lemmas.Slice.{take-put_mid_below, overwrites}
 use borrow.Rule.Slice.PartMut.{put_mid}
 use Rattle.std.proofs.lemmas.List.{length-map, length-drop, length-take-le, get_or-take, get_or-drop}
 use Rattle.jpg_spec.specs.Lists.{below}
-use Rattle.jpg_spec.specs.Encoded.{pixel_component}
-use Rattle.jpg_spec.specs.declared.image.ImageInfo.{ImageInfo}
-use Rattle.jpg_spec.specs.declared.image.ImageKind.{ImageKind}
-use Rattle.jpg_spec.specs.declared.image.ImageKind.TheVariants.{Rgb}
+use Rattle.jpg_spec_encode.specs.Encoded.{pixel_component}
+use Rattle.jpg_spec_image.specs.declared.image.ImageInfo.{ImageInfo}
+use Rattle.jpg_spec_image.specs.declared.image.ImageKind.{ImageKind}
+use Rattle.jpg_spec_image.specs.declared.image.ImageKind.TheVariants.{Rgb}
 use Rattle.jpg_spec.proofs.Common.{length_below}
-use Rattle.jpg_color.specs.PlaneRows.{row_of, plane_of, AreUnder, HasRows, IsUnder, PutsRow}
-use Rattle.jpg_color.specs.declared.rows.ImagePlane.{ImagePlane}
-use Rattle.jpg_color.specs.declared.rows.Window.{Window}
+use Rattle.jpg_color.specs.PlaneRows.{row_of, plane_of, AreUnder, HasPlaneRows, IsUnder, PutsRow}
+use Rattle.jpg_color.specs.declared.encode.rows.ImagePlane.{ImagePlane}
+use Rattle.jpg_color.specs.declared.encode.rows.Window.{Window}
 use Rattle.jpg_color.proofs.PlaneRows.{put_mid_at, rows_more, sample_is}
 
 -- A ROW that is put among others
@@ -39,7 +39,7 @@ puts_row info samples old out row i p r n rgb eo long er room =
       before = λ j lj. put_before (r * info.width) _ old out j low lj;
     }
 
--- so many rows are there, and none is lost
+-- the first rows are there, and the length is the same
 abbrev pub HasFirstRows : ImageInfo → List ℕ → ℕ → ℕ → ℕ → ℕ → List ℕ → List ℕ → Type 0
 HasFirstRows info samples i down y r old new =
     (length new ≡ length old) × ((k u : ℕ) → k < r → u < info.width → slice_index new (k * info.width + u) ≡ plane_of info samples i u (down * y + k))
@@ -59,8 +59,8 @@ under_fits down y base lines width long low high all =
 pub under_long : (rows piece : List ℕ) (from count : ℕ) → from + count ≤ length rows → piece ≡ take count (drop from rows) → length piece ≡ count
 under_long rows piece from count fits e = ap length e ∙ length-take-le count (drop from rows) (omega (arith, fits, length-drop from rows))
 
-pub under_has : (info : ImageInfo) (samples rows piece : List ℕ) (i lines at down y : ℕ) → HasRows info samples i lines at rows → lines * at ≤ down * y → down * y + down ≤ lines * at + lines
-    → piece ≡ take (down * info.width) (drop ((down * y - lines * at) * info.width) rows) → HasRows info samples i down y piece
+pub under_has : (info : ImageInfo) (samples rows piece : List ℕ) (i lines at down y : ℕ) → HasPlaneRows info samples i lines at rows → lines * at ≤ down * y → down * y + down ≤ lines * at + lines
+    → piece ≡ take (down * info.width) (drop ((down * y - lines * at) * info.width) rows) → HasPlaneRows info samples i down y piece
 under_has info samples rows piece i lines at down y has low high e r u lr lu =
     let w = info.width in
     let first : ℕ = down * y - lines * at in

@@ -1,4 +1,4 @@
--- How long rows of the image are, and how many pixels a frame may have.
+-- The length of rows of the image, and the number of pixels that a frame may have.
 use Rattle.std.proofs.Common.{◌≡◌, ◌⊎◌, inl, inr, ℕ, zero, suc, ◌+◌, ◌*◌, ◌<◌, ◌≤◌, max, Bool, true, false, ◌&&◌, ◌==◌, if◌then◌else◌, List, [], ◌∷◌, length, map, subst, refl, sym, ap, ◌∙◌, arith, All}
 use Rattle.std.specs.Prelude.{flat_map, zip, replicate, sum_by, nat_lt}
 use Rattle.std.proofs.lemmas.Nat.{mul-le}
@@ -12,18 +12,18 @@ use Rattle.jpg_spec.specs.Geometry.{Frame, greatest, h_max, v_max, component_at,
 use Rattle.jpg_spec.specs.FrameHeader.{HasFactors, IsFrame}
 use Rattle.jpg_spec.specs.Scan.{Blocks}
 use Rattle.jpg_spec.specs.Meaning.{Meaning}
-use Rattle.jpg_spec.specs.Upsampling.{Stretch, is_smoothed, has_far_rows, near_row, far_row, up_row, up_rows2, repeat_row, pair_of, pair_of2, upsampled_row}
-use Rattle.jpg_spec.specs.Pixels.{samples_across, plane, plane_row, stretch_of, upsampled, shows_gray, is_colour_out, colour_row}
-use Rattle.jpg_spec.specs.RedGreenBlue.{to_rgb, rgb_row, interleaved_row}
+use Rattle.jpg_spec_image.specs.Upsampling.{Stretch, is_smoothed, has_far_rows, near_row, far_row, up_row, up_rows2, repeat_row, pair_of, pair_of2, upsampled_row}
+use Rattle.jpg_spec_image.specs.Pixels.{samples_across, plane, plane_row, stretch_of, upsampled, shows_gray, is_colour_out, colour_row}
+use Rattle.jpg_spec_image.specs.RedGreenBlue.{to_rgb, rgb_row, interleaved_row}
 use Rattle.jpg_spec.specs.declared.frame.Colour.{Colour}
 use Rattle.jpg_spec.specs.declared.frame.Colour.TheVariants.{Gray, YCbCr, Rgb, Cmyk, Ycck, Unknown}
 use Rattle.jpg_spec.specs.declared.frame.Component.{Component}
 use Rattle.jpg_spec.proofs.Common.{length_below, both, same_of, clash}
 use Rattle.jpg_base.proofs.Grids.{across_low, across_high, down_low, down_high}
-use Rattle.jpg_color.specs.Shown.{Display, IsShowable, picture_of, parts, row_of, row_length}
+use Rattle.jpg_color.specs.Shown.{Display, IsShowable, picture_of, parts, row_of_blocks, row_length}
 use Rattle.jpg_color.proofs.Coverage.{in_frame, factors_at, whole_ratios, samples_across_is, parts_some, tall_enough, up_covers, colour_in}
 
--- ROWS OF SAMPLES, STRETCHED
+-- ROWS OF SAMPLES, UPSAMPLED
 
 pub wide_enough : (d : Display) (blocks : Blocks) (i : ℕ) → IsShowable d → i < parts d
     → d.frame.width ≤ samples_across (picture_of d blocks) i * (stretch_of (picture_of d blocks) d.smooth i).across
@@ -125,7 +125,7 @@ long_coloured Unknown gray a b c n out ea eb ec = absurd (clash true refl out)
 all_needed : (d : Display) (i : ℕ) → i < 3 → shows_gray d.colour d.gray ≡ false → i < parts d
 all_needed d i h e = subst (λ (b : Bool). i < (if b then 1 else 3)) (sym e) h
 
-pub long_row : (d : Display) (blocks : Blocks) (y : ℕ) → IsShowable d → length (row_of d blocks y) ≡ row_length d
+pub long_row : (d : Display) (blocks : Blocks) (y : ℕ) → IsShowable d → length (row_of_blocks d blocks y) ≡ row_length d
 long_row d blocks y s =
     let M = picture_of d blocks in
     long_coloured d.colour d.gray (upsampled M d.smooth 0 y) (upsampled M d.smooth 1 y) (upsampled M d.smooth 2 y) d.frame.width (colour_in d s)

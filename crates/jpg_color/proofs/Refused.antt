@@ -1,13 +1,13 @@
--- Which factors of components are refused, one component after another, and what is told of them all.
+-- Which factors of components are refused, component by component, and the answer for all of them.
 use Rattle.std.proofs.Common.{◌≡◌, ℕ, zero, suc, ◌+◌, ◌<◌, ◌≤◌, map, Bool, ◌||◌, List, [], ◌∷◌, length, get_or, take, drop, add-one, subst, refl, sym, ap, ◌∙◌, arith, Option, Some, None, Ok, Result}
 use Rattle.std.proofs.lemmas.List.{get_or-take, length-take-le, length-map}
 use Rattle.jpg_spec.specs.Lists.{any_of}
 use Rattle.jpg_spec.specs.Geometry.{Frame, greatest, component_at, h_max, v_max}
-use Rattle.jpg_spec.specs.Pixels.{is_colour_out, is_fractional, out_fault_of, shows_gray}
+use Rattle.jpg_spec_image.specs.Pixels.{is_colour_out, is_fractional, out_fault_of, shows_gray}
 use Rattle.jpg_spec.specs.declared.fault.Fault.{Fault}
 use Rattle.jpg_spec.specs.declared.frame.Colour.{Colour}
-use Rattle.jpg_spec.specs.declared.image.ImageKind.{ImageKind}
-use Rattle.jpg_color.specs.Admits.{admitted, first_fault, kind_of, kind_or, needed_factors}
+use Rattle.jpg_spec_image.specs.declared.image.ImageKind.{ImageKind}
+use Rattle.jpg_color.specs.Admits.{admitted_kind, first_fault, kind_of, kind_or, needed_factors}
 use Rattle.jpg_color.specs.Shown.{factors_of}
 use Rattle.jpg_color.proofs.Coverage.{factor_at, most_first, most_second}
 
@@ -31,7 +31,7 @@ next_factors f i count bad h le e =
 
 admitted_is : (colour : Colour) (gray : Bool) (f : Frame) (out bad : Bool) → out ≡ is_colour_out colour gray
     → bad ≡ any_of (is_fractional (h_max f) (v_max f)) (needed_factors (shows_gray colour gray) (factors_of f))
-    → kind_or (first_fault out bad) (kind_of colour gray) ≡ admitted colour gray (factors_of f)
+    → kind_or (first_fault out bad) (kind_of colour gray) ≡ admitted_kind colour gray (factors_of f)
 admitted_is colour gray f out bad o b =
     let shown = kind_of colour gray in
     let needed = needed_factors (shows_gray colour gray) (factors_of f) in
@@ -44,12 +44,12 @@ admitted_is colour gray f out bad o b =
 -- the same from the fault and the colours as a caller has them
 pub told_admitted : (colour : Colour) (gray alone : Bool) (f : Frame) (out bad : Bool) (o : Option Fault) → alone ≡ shows_gray colour gray → out ≡ is_colour_out colour gray
     → bad ≡ any_of (is_fractional (h_max f) (v_max f)) (needed_factors alone (factors_of f)) → o ≡ first_fault out bad
-    → kind_or o (kind_of colour gray) ≡ admitted colour gray (factors_of f)
+    → kind_or o (kind_of colour gray) ≡ admitted_kind colour gray (factors_of f)
 told_admitted colour gray alone f out bad o a e b is =
     ap (λ (x : Option Fault). kind_or x (kind_of colour gray)) is
     ∙ admitted_is colour gray f out bad e (b ∙ ap (λ (x : Bool). any_of (is_fractional (h_max f) (v_max f)) (needed_factors x (factors_of f))) a)
 
--- what was told where there is no fault
+-- the answer if there is no fault
 pub no_fault_told : (o : Option Fault) (shown other : ImageKind) → kind_or o shown ≡ Ok other → (o ≡ None) × (other ≡ shown)
 no_fault_told None shown other e = (refl, ok_once shown other e)
   where
@@ -57,6 +57,6 @@ no_fault_told None shown other e = (refl, ok_once shown other e)
     ok_once x y e = cc
 no_fault_told (Some fault) shown other e = cc
 
-pub admitted_showable : (colour : Colour) (gray : Bool) (factors : List (ℕ × ℕ)) (shown : ImageKind) → admitted colour gray factors ≡ Ok shown
+pub admitted_showable : (colour : Colour) (gray : Bool) (factors : List (ℕ × ℕ)) (shown : ImageKind) → admitted_kind colour gray factors ≡ Ok shown
     → (out_fault_of colour gray factors ≡ None) × (shown ≡ kind_of colour gray)
 admitted_showable colour gray factors shown e = no_fault_told (out_fault_of colour gray factors) (kind_of colour gray) shown e

@@ -2,7 +2,7 @@
 use Rattle.std.proofs.Common.{◌≡◌, ℕ, zero, suc, ◌+◌, ◌-◌, ◌≤◌, List, [], ◌∷◌, ◌++◌, length, map, take, drop, refl, sym, ap, ◌∙◌, arith}
 use Rattle.std.proofs.lemmas.List.{append-nil, append_assoc, length-map, map-append, take-append-le, drop-append-le}
 use Rattle.jpg_spec.specs.Lists.{below}
-use Rattle.jpg_spec.specs.Strips.{rows_from}
+use Rattle.jpg_spec_image.specs.Strips.{rows_from}
 use Rattle.jpg_spec.proofs.Common.{length_below}
 
 pub take_whole : {A : Type 0} (xs : List A) (n : ℕ) → length xs ≡ n → take n xs ≡ xs
@@ -40,7 +40,7 @@ below_split f a (suc c) =
     ∙ append_assoc (map f (below a)) (rows_from f a c) (f (a + c) ∷ [])
     ∙ ap (λ xs. map f (below a) ++ xs) (sym (map-append (λ k. f (a + k)) (below c) (c ∷ [])))
 
--- the first rows of those below n, and the others
+-- the first rows of those below n, and the remaining ones
 pub take_rows : (f : ℕ → List ℕ) (a n : ℕ) → a ≤ n → take a (map f (below n)) ≡ map f (below a)
 take_rows f a n le =
     let long = all_below f a in
@@ -60,7 +60,7 @@ drop_rows f a n le =
 pub rows_cut : (f : ℕ → List ℕ) (a b n : ℕ) → a ≤ b → b ≤ n → drop a (take b (map f (below n))) ≡ rows_from f a (b - a)
 rows_cut f a b n le most = ap (drop a) (take_rows f b n most) ∙ drop_rows f a b le
 
--- no row, one row more, and others after them
+-- no row, one more row, and others after them
 pub no_rows_from : (f : ℕ → List ℕ) (a : ℕ) → rows_from f a (a - a) ≡ []
 no_rows_from f a = ap (rows_from f a) (let e : a - a ≡ 0 = omega arith in e)
 

@@ -16,10 +16,10 @@ use Rattle.jpg_spec.specs.Scan.{Blocks}
 use Rattle.jpg_spec.specs.Ranges.{AreInRange}
 use Rattle.jpg_spec.proofs.Common.{both, from_test, length_below}
 use Rattle.jpg_spec.proofs.Rows.{by_items, at_below}
-use Rattle.jpg_color.specs.KeptRows.{KeptRows, stride, rows_of, last_row, row_in, with_gray, with_rows}
+use Rattle.jpg_color.specs.KeptRows.{KeptRows, stride, kept_rows_of, last_row, row_in, with_gray, with_block_rows}
 use Rattle.jpg_color.specs.RowBytes.{byte_in, PutsBlock, PutsRows}
 
--- a byte of a row lies before all rows below
+-- a byte of a row is before all rows below
 pub row_before : (line r q x : ℕ) → r < q → x < line → r * line + x < q * line
 row_before line r q x lt h = grind (arith, rows, mul-add-lt r line x q lt h)
 
@@ -54,7 +54,7 @@ block_step line row column y block old mid new fits p long here others =
       others = λ r x hx side. others (r * line + x) (apart line row column y r x fits hx side) ∙ p.others r x hx side;
     }
 
--- A ROW OF BLOCKS, one block more
+-- A ROW OF BLOCKS, one more block
 
 pub columns_step : (line row rows c : ℕ) (sample : ℕ → ℕ → ℕ) (block old mid new : List ℕ) → 8 * c + 8 ≤ line → PutsRows line row rows (8 * c) sample old mid
     → PutsBlock line row c rows block mid new → ((y x : ℕ) → y < rows → x < 8 → slice_index block (8 * y + x) ≡ sample y (8 * c + x))
@@ -71,7 +71,7 @@ columns_step line row rows c sample block old mid new fits p b told =
       above = λ r x hr hx. b.others r x hx (inl hr) ∙ p.above r x hr hx;
     }
 
--- ALL ROWS, those of one row of blocks more
+-- ALL ROWS, those of one more row of blocks
 
 pub rows_step : (line kept count b rows : ℕ) (sample part : ℕ → ℕ → ℕ) (old mid new : List ℕ) → rows ≡ min (count - 8 * b) 8
     → PutsRows line kept (min count (8 * b)) line sample old mid → PutsRows line (kept + 8 * b) rows line part mid new
@@ -116,7 +116,7 @@ below_joined f m (suc n) =
 
 pub rows_put : (wide kept count : ℕ) (sample : ℕ → ℕ → ℕ) (old new : List ℕ) → wide ≤ stride wide → (kept + count) * stride wide ≤ length old
     → PutsRows (stride wide) kept count (stride wide) sample old new
-    → rows_of wide (kept + count) new ≡ rows_of wide kept old ++ map (λ y. map (sample y) (below wide)) (below count)
+    → kept_rows_of wide (kept + count) new ≡ kept_rows_of wide kept old ++ map (λ y. map (sample y) (below wide)) (below count)
 rows_put wide kept count sample old new fits room p =
     let line = stride wide in
     let ends : (r : ℕ) → r < kept + count → r * line + wide ≤ length old = λ r h. grind (arith, rows, mul-add-lt r line wide (kept + count) h) in
@@ -142,7 +142,7 @@ last_of f (suc n) h =
     ∙ ap (λ t. (let r : List (List ℕ) = f t ∷ [] in r)) (sym e)
 
 pub last_kept : (wide len : ℕ) (old new : List ℕ) → 0 < len → wide ≤ stride wide → len * stride wide ≤ length old → length new ≡ length old
-    → ((x : ℕ) → x < stride wide → get_or new x 0 ≡ get_or old ((len - 1) * stride wide + x) 0) → rows_of wide 1 new ≡ last_row (rows_of wide len old)
+    → ((x : ℕ) → x < stride wide → get_or new x 0 ≡ get_or old ((len - 1) * stride wide + x) 0) → kept_rows_of wide 1 new ≡ last_row (kept_rows_of wide len old)
 last_kept wide len old new some fits room long same =
     let line = stride wide in
     let f : ℕ → ℕ = λ x. get_or old ((len - 1) * line + x) 0 in
@@ -153,7 +153,7 @@ last_kept wide len old new some fits room long same =
     let two : take wide (drop ((len - 1) * line) old) ≡ map f (below wide) = row_is old wide ((len - 1) * line) f (ends (len - 1) low) (λ x h. refl) in
     ap (λ xs. (let r : List (List ℕ) = xs ∷ [] in r)) (one ∙ sym two) ∙ sym (last_of (λ r. take wide (drop (r * line) old)) len some)
 
--- COEFFICIENTS that may be times their quantisers
+-- COEFFICIENTS that may be multiplied by their quantisers
 
 bounded : (b : Bool) (v : ℤ) → cond b (int_le (neg_ℤ (pos 1024)) v && int_le v (pos 1023)) (int_le (pos (nat_abs v)) (pos 1023)) ≡ true → nat_abs v ≤ 1024
 bounded true v e =
@@ -167,10 +167,10 @@ block_small f blocks i x y range =
 
 -- ROWS OF STORAGE
 
-pub rows_count : (wide len : ℕ) (bytes : List ℕ) → length (rows_of wide len bytes) ≡ len
+pub rows_count : (wide len : ℕ) (bytes : List ℕ) → length (kept_rows_of wide len bytes) ≡ len
 rows_count wide len bytes = length-map (below len) (λ r. take wide (drop (r * stride wide) bytes)) ∙ length_below len
 
-pub row_at : (wide len i : ℕ) (bytes : List ℕ) → i < len → slice_index_or (rows_of wide len bytes) i [] ≡ take wide (drop (i * stride wide) bytes)
+pub row_at : (wide len i : ℕ) (bytes : List ℕ) → i < len → slice_index_or (kept_rows_of wide len bytes) i [] ≡ take wide (drop (i * stride wide) bytes)
 row_at wide len i bytes h =
     get_or-map (λ r. take wide (drop (r * stride wide) bytes)) (below len) i 0 [] (omega (arith, h, length_below len)) ∙ ap (λ r. take wide (drop (r * stride wide) bytes)) (at_below len i h)
 
@@ -181,17 +181,17 @@ pub room_is : (wide room n : ℕ) (bytes : List ℕ) → n ≤ room → length b
 room_is wide room n bytes h e = grind (arith, e, mul-le n (stride wide) room (stride wide) h (omega arith))
 
 pub filled : (old : KeptRows) (quants : QuantTable) (blocks : Blocks) (i first count wide room len : ℕ) (bytes : List ℕ) (rows : List (List ℕ))
-    → ◌≡◌ {A = KeptRows} (record { wide = wide; room = room; rows = rows_of wide len bytes }) old
-    → rows ≡ last_row (rows_of wide len bytes) ++ map (row_in wide quants blocks i first) (below count)
-    → ◌≡◌ {A = KeptRows} (record { wide = wide; room = room; rows = rows }) (with_rows old quants blocks i first count)
+    → ◌≡◌ {A = KeptRows} (record { wide = wide; room = room; rows = kept_rows_of wide len bytes }) old
+    → rows ≡ last_row (kept_rows_of wide len bytes) ++ map (row_in wide quants blocks i first) (below count)
+    → ◌≡◌ {A = KeptRows} (record { wide = wide; room = room; rows = rows }) (with_block_rows old quants blocks i first count)
 filled old quants blocks i first count wide room len bytes rows view e =
     ap (λ (rs : List (List ℕ)). (let k : KeptRows = record { wide = wide; room = room; rows = rs } in k)) e
-    ∙ ap (λ (k : KeptRows). with_rows k quants blocks i first count) view
+    ∙ ap (λ (k : KeptRows). with_block_rows k quants blocks i first count) view
 
 -- the same of rows of 128
 pub grayed : (old : KeptRows) (count wide room len : ℕ) (bytes : List ℕ) (rows : List (List ℕ))
-    → ◌≡◌ {A = KeptRows} (record { wide = wide; room = room; rows = rows_of wide len bytes }) old
-    → rows ≡ last_row (rows_of wide len bytes) ++ map (λ y. map (λ x. 128) (below wide)) (below count)
+    → ◌≡◌ {A = KeptRows} (record { wide = wide; room = room; rows = kept_rows_of wide len bytes }) old
+    → rows ≡ last_row (kept_rows_of wide len bytes) ++ map (λ y. map (λ x. 128) (below wide)) (below count)
     → ◌≡◌ {A = KeptRows} (record { wide = wide; room = room; rows = rows }) (with_gray old count)
 grayed old count wide room len bytes rows view e =
     ap (λ (rs : List (List ℕ)). (let k : KeptRows = record { wide = wide; room = room; rows = rs } in k)) e

@@ -4,7 +4,7 @@ use Rattle.std.specs.List.{All}
 use Rattle.jpg_spec.specs.Geometry.{div_up}
 use Rattle.jpg_spec.specs.Segments.{QuantTable}
 use Rattle.jpg_spec.specs.Scan.{Blocks}
-use Rattle.jpg_spec.specs.Dct.{dequantised, inverse_dct}
+use Rattle.jpg_spec_image.specs.Dct.{dequantised, inverse_dct}
 use Rattle.jpg_base.specs.Cursor.{IsPadded}
 use Rattle.jpg_coefs.specs.Picture.{Picture, map_of, block_in}
 use Rattle.jpg_coefs.proofs.Maps.{map_at}

@@ -1,23 +1,23 @@
--- The rows of a picture are given to an end one after another.
+-- The rows of a picture are passed to an image writer one after another.
 use Rattle.std.proofs.Common.{◌≡◌, ℕ, zero, suc, ◌+◌, ◌-◌, ◌<◌, ◌≤◌, true, false, List, [], ◌∷◌, ◌++◌, length, Some, Result, Ok, Err, refl, sym, ap, ◌∙◌, subst, arith}
 use Rattle.std.proofs.lemmas.List.{append-nil, append_assoc, length-append, length-map, map-append}
 use Rattle.std.proofs.lemmas.Grind.{flat_map-append}
 use Rattle.jpg_base.specs.Desk.{DeskState}
 use Rattle.jpg_spec.specs.Lists.{below}
-use Rattle.jpg_spec.specs.ImageText.{row_bytes, row_piece}
-use Rattle.jpg_spec.specs.declared.image.EndKind.{EndKind}
-use Rattle.jpg_spec.specs.declared.image.EndKind.TheVariants.{Pnm, Bmp}
-use Rattle.jpg_spec.specs.declared.image.ImageInfo.{ImageInfo}
+use Rattle.jpg_spec_image.specs.ImageText.{row_bytes, row_piece}
+use Rattle.jpg_spec_image.specs.declared.image.EndKind.{EndKind}
+use Rattle.jpg_spec_image.specs.declared.image.EndKind.TheVariants.{Pnm, Bmp}
+use Rattle.jpg_spec_image.specs.declared.image.ImageInfo.{ImageInfo}
 use Rattle.jpg_spec.proofs.Common.{length_below}
 use Rattle.jpg_coefs.specs.Picture.{Picture as Coefs}
 use Rattle.jpg_pnm_bmp.specs.EndState.{EndState, CanTakeRow, held_of, info_of, with_row}
-use Rattle.jpg_color.specs.Shown.{Display, row_length, row_of}
-use Rattle.jpg_color.specs.PictureRows.{RowsLeft, GoesOn, IsBehind, shown_blocks}
-use Rattle.jpg_color.specs.DecodeRows.{IsEndFor, Sends, SendsRow, SendsRows, end_at, row_pieces, rows_until, rows_in_all}
+use Rattle.jpg_color.specs.Shown.{Display, row_length, row_of_blocks}
+use Rattle.jpg_color.specs.PictureRows.{RowsLeft, RowGoesOn, IsAfter, shown_blocks}
+use Rattle.jpg_color.specs.DecodeRows.{IsEndFor, SendsImage, SendsRow, SendsRows, end_at, row_pieces, rows_until, rows_in_all}
 use Rattle.jpg_color.specs.declared.decode.DecodeStop.{DecodeStop}
 use Rattle.jpg_color.proofs.Sent.{sends_nothing, sends_then, sends_stop, sends_same}
 
--- the first n rows were given
+-- the first n rows were passed
 pub record IsShowing (s0 : DeskState) (e0 : EndState) (out0 : List ℕ) (r0 : RowsLeft) (e : EndState) (out : List ℕ) (r : RowsLeft) (s1 : DeskState) : Type 0 where
   pub for_end : IsEndFor e0 r0
   pub display : r.strips.display ≡ r0.strips.display
@@ -25,7 +25,7 @@ pub record IsShowing (s0 : DeskState) (e0 : EndState) (out0 : List ℕ) (r0 : Ro
   pub few : r.strips.given ≤ r0.strips.display.frame.height
   pub end : e ≡ end_at e0.kind (info_of e0) (rows_until r0 r.strips.given)
   pub created : s1.output_created ≡ true
-  pub sent : Sends s0 out0 (row_pieces e0 (rows_until r0 r.strips.given)) (Ok tt) out s1
+  pub sent : SendsImage s0 out0 (row_pieces e0 (rows_until r0 r.strips.given)) (Ok tt) out s1
 
 pub shows_none : (s : DeskState) (e : EndState) (out : List ℕ) (r : RowsLeft) → IsEndFor e r → s.output_created ≡ true → IsShowing s e out r e out r s
 shows_none s e out r fits created =
@@ -36,18 +36,18 @@ shows_none s e out r fits created =
       few = omega (arith, fits.rows.first);
       end = fits.started ∙ ap (λ n. end_at e.kind (info_of e) (rows_until r n)) (sym fits.rows.first);
       created = created;
-      sent = subst (λ n. Sends s out (row_pieces e (rows_until r n)) (Ok tt) out s) (sym fits.rows.first) (sends_nothing s out);
+      sent = subst (λ n. SendsImage s out (row_pieces e (rows_until r n)) (Ok tt) out s) (sym fits.rows.first) (sends_nothing s out);
     }
 
--- ONE ROW MORE
+-- ONE MORE ROW
 
 long_rows : (r : RowsLeft) (n : ℕ) → length (rows_until r n) ≡ n
-long_rows r n = length-map (below n) (row_of r.strips.display (shown_blocks r.strips.display r.coefs)) ∙ length_below n
+long_rows r n = length-map (below n) (row_of_blocks r.strips.display (shown_blocks r.strips.display r.coefs)) ∙ length_below n
 
-more_rows : (r : RowsLeft) (n : ℕ) → rows_until r (n + 1) ≡ rows_until r n ++ row_of r.strips.display (shown_blocks r.strips.display r.coefs) n ∷ []
+more_rows : (r : RowsLeft) (n : ℕ) → rows_until r (n + 1) ≡ rows_until r n ++ row_of_blocks r.strips.display (shown_blocks r.strips.display r.coefs) n ∷ []
 more_rows r n =
     let one : n + 1 ≡ suc n = omega arith in
-    ap (λ m. rows_until r m) one ∙ map-append (row_of r.strips.display (shown_blocks r.strips.display r.coefs)) (below n) (n ∷ [])
+    ap (λ m. rows_until r m) one ∙ map-append (row_of_blocks r.strips.display (shown_blocks r.strips.display r.coefs)) (below n) (n ∷ [])
 
 pub held_more : (kind : EndKind) (rows : List (List ℕ)) (row : List ℕ) → held_of kind rows ++ held_of kind (row ∷ []) ≡ held_of kind (rows ++ row ∷ [])
 held_more Pnm rows row = refl
@@ -58,12 +58,12 @@ taken_more kind info rows row =
     ap (λ (h : List (List ℕ)). (let e : EndState = record { kind = kind; info = Some info; taken = length rows + 1; held = h; parts = 0; done = false } in e)) (held_more kind rows row)
     ∙ ap (λ (n : ℕ). (let e : EndState = record { kind = kind; info = Some info; taken = n; held = held_of kind (rows ++ row ∷ []); parts = 0; done = false } in e)) (sym (length-append rows (row ∷ [])))
 
--- the row that is given
-pub row_is : (r0 r r1 : RowsLeft) → r.strips.display ≡ r0.strips.display → r.coefs ≡ r0.coefs → GoesOn r r1 → r1.strips.last ≡ row_of r0.strips.display (shown_blocks r0.strips.display r0.coefs) r.strips.given
+-- the row that is passed
+pub row_is : (r0 r r1 : RowsLeft) → r.strips.display ≡ r0.strips.display → r.coefs ≡ r0.coefs → RowGoesOn r r1 → r1.strips.last ≡ row_of_blocks r0.strips.display (shown_blocks r0.strips.display r0.coefs) r.strips.given
 row_is r0 r r1 d q g =
-    g.value ∙ ap (λ (x : Display). row_of x (shown_blocks x r.coefs) r.strips.given) d ∙ ap (λ (x : Coefs). row_of r0.strips.display (shown_blocks r0.strips.display x) r.strips.given) q
+    g.value ∙ ap (λ (x : Display). row_of_blocks x (shown_blocks x r.coefs) r.strips.given) d ∙ ap (λ (x : Coefs). row_of_blocks r0.strips.display (shown_blocks r0.strips.display x) r.strips.given) q
 
-pub row_fits : (s0 s1 : DeskState) (e0 e : EndState) (out0 out : List ℕ) (r0 r r1 : RowsLeft) → IsShowing s0 e0 out0 r0 e out r s1 → GoesOn r r1 → CanTakeRow e r1.strips.last
+pub row_fits : (s0 s1 : DeskState) (e0 e : EndState) (out0 out : List ℕ) (r0 r r1 : RowsLeft) → IsShowing s0 e0 out0 r0 e out r s1 → RowGoesOn r r1 → CanTakeRow e r1.strips.last
 row_fits s0 s1 e0 e out0 out r0 r r1 h g =
     let rows : List (List ℕ) = rows_until r0 r.strips.given in
     let high : r.strips.display.frame.height ≡ r0.strips.display.frame.height = ap (λ (d : Display). d.frame.height) h.display in
@@ -81,11 +81,11 @@ pieces_more : (e : EndState) (rows : List (List ℕ)) (row : List ℕ) → row_p
 pieces_more e rows row =
     sym (flat_map-append (row_piece e.kind (info_of e)) rows (row ∷ []) ∙ ap (λ x. row_pieces e rows ++ x) (append-nil (row_piece e.kind (info_of e) row)))
 
--- what an end makes of a row, whichever rows it has taken
+-- what an image writer makes of a row, whichever rows it has taken
 piece_same : (e0 e : EndState) (rows : List (List ℕ)) (row : List ℕ) → e ≡ end_at e0.kind (info_of e0) rows → row_piece e.kind (info_of e) row ≡ row_piece e0.kind (info_of e0) row
 piece_same e0 e rows row is = ap (λ (x : EndState). row_piece x.kind (info_of x) row) is
 
-pub row_sent : (s0 s1 s2 : DeskState) (e0 e e2 : EndState) (out0 out new : List ℕ) (r0 r r1 : RowsLeft) → IsShowing s0 e0 out0 r0 e out r s1 → GoesOn r r1
+pub row_sent : (s0 s1 s2 : DeskState) (e0 e e2 : EndState) (out0 out new : List ℕ) (r0 r r1 : RowsLeft) → IsShowing s0 e0 out0 r0 e out r s1 → RowGoesOn r r1
     → SendsRow s1 e out r1.strips.last (Ok tt) e2 new s2 → IsShowing s0 e0 out0 r0 e2 new r1 s2
 row_sent s0 s1 s2 e0 e e2 out0 out new r0 r r1 h g k =
     let n = r.strips.given in
@@ -110,12 +110,12 @@ row_sent s0 s1 s2 e0 e e2 out0 out new r0 r r1 h g k =
 
 -- THE LAST ROW, AND A STOP
 
-pub rows_sent : (s0 s1 : DeskState) (e0 e : EndState) (out0 out : List ℕ) (r0 r r1 : RowsLeft) → IsShowing s0 e0 out0 r0 e out r s1 → IsBehind r r1
+pub rows_sent : (s0 s1 : DeskState) (e0 e : EndState) (out0 out : List ℕ) (r0 r r1 : RowsLeft) → IsShowing s0 e0 out0 r0 e out r s1 → IsAfter r r1
     → SendsRows s0 e0 out0 (rows_in_all r0) (Ok tt) e out s1
 rows_sent s0 s1 e0 e out0 out r0 r r1 h b =
     let all : r.strips.given ≡ r0.strips.display.frame.height = b.all ∙ ap (λ (d : Display). d.frame.height) h.display in
     record {
-      sent = subst (λ n. Sends s0 out0 (row_pieces e0 (rows_until r0 n)) (Ok tt) out s1) all h.sent;
+      sent = subst (λ n. SendsImage s0 out0 (row_pieces e0 (rows_until r0 n)) (Ok tt) out s1) all h.sent;
       end = h.end ∙ ap (λ n. end_at e0.kind (info_of e0) (rows_until r0 n)) all;
     }
 
@@ -123,10 +123,10 @@ rows_split : (r : RowsLeft) (n k : ℕ) → (more : List (List ℕ)) × (rows_un
 rows_split r n zero = ([], ap (λ m. rows_until r m) (let e : n + 0 ≡ n = omega arith in e) ∙ sym (append-nil (rows_until r n)))
 rows_split r n (suc k) =
     let less = rows_split r n k in
-    let row : List ℕ = row_of r.strips.display (shown_blocks r.strips.display r.coefs) (n + k) in
+    let row : List ℕ = row_of_blocks r.strips.display (shown_blocks r.strips.display r.coefs) (n + k) in
     (less.0 ++ row ∷ [], ap (λ m. rows_until r m) (let e : n + suc k ≡ n + k + 1 = omega arith in e) ∙ more_rows r (n + k) ∙ ap (λ x. x ++ row ∷ []) less.1 ∙ append_assoc (rows_until r n) less.0 (row ∷ []))
 
-pub rows_stopped : (s0 s1 s2 : DeskState) (e0 e e2 : EndState) (out0 out new : List ℕ) (r0 r r1 : RowsLeft) (f : DecodeStop) → IsShowing s0 e0 out0 r0 e out r s1 → GoesOn r r1
+pub rows_stopped : (s0 s1 s2 : DeskState) (e0 e e2 : EndState) (out0 out new : List ℕ) (r0 r r1 : RowsLeft) (f : DecodeStop) → IsShowing s0 e0 out0 r0 e out r s1 → RowGoesOn r r1
     → SendsRow s1 e out r1.strips.last (Err f) e2 new s2 → SendsRows s0 e0 out0 (rows_in_all r0) (Err f) e2 new s2
 rows_stopped s0 s1 s2 e0 e e2 out0 out new r0 r r1 f h g k =
     let n = r.strips.given in
@@ -159,7 +159,7 @@ sent_so s0 s1 e e2 old row other new r is h = subst (λ (x : List ℕ). SendsRow
 pub fits_so : (e : EndState) (row other : List ℕ) → row ≡ other → CanTakeRow e other → CanTakeRow e row
 fits_so e row other is h = subst (λ (x : List ℕ). CanTakeRow e x) (sym is) h
 
-pub fewer_rows : (r r1 : RowsLeft) → GoesOn r r1 → r1.strips.display.frame.height - r1.strips.given < r.strips.display.frame.height - r.strips.given
+pub fewer_rows : (r r1 : RowsLeft) → RowGoesOn r r1 → r1.strips.display.frame.height - r1.strips.given < r.strips.display.frame.height - r.strips.given
 fewer_rows r r1 g =
     let same : r1.strips.display.frame.height ≡ r.strips.display.frame.height = ap (λ (d : Display). d.frame.height) g.display in
     omega (arith, same, g.early, g.given)

@@ -1,4 +1,4 @@
--- Strips of which nothing was told: their parts have the picture's numbers, and they stand for any picture of these.
+-- Strips of which nothing was decoded: their parts have the picture's numbers, and they represent any picture of these.
 use Rattle.std.proofs.Common.{◌≡◌, ℕ, zero, suc, ◌*◌, ◌<◌, ◌≤◌, Bool, ◌==◌, ◌||◌, if◌then◌else◌, List, [], ◌∷◌, length, subst, refl, sym, ap, ◌∙◌, arith, None}
 use Rattle.std.proofs.Math.Nat.{mul-le-mul}
 use Rattle.jpg_spec.specs.Lists.{below, any_of}
@@ -6,14 +6,14 @@ use Rattle.jpg_spec.specs.Geometry.{Frame, div_up, h_max, v_max, component_at}
 use Rattle.jpg_spec.specs.FileMeaning.{no_blocks}
 use Rattle.jpg_spec.specs.Segments.{QuantTable}
 use Rattle.jpg_spec.specs.Scan.{Blocks}
-use Rattle.jpg_spec.specs.Upsampling.{Stretch, has_far_rows}
-use Rattle.jpg_spec.specs.Pixels.{stretch_of}
-use Rattle.jpg_spec.specs.Strips.{block_rows, lines, needed}
+use Rattle.jpg_spec_image.specs.Upsampling.{Stretch, has_far_rows}
+use Rattle.jpg_spec_image.specs.Pixels.{stretch_of}
+use Rattle.jpg_spec_image.specs.Strips.{block_rows, lines, needed}
 use Rattle.jpg_spec.proofs.Common.{any_append}
-use Rattle.jpg_file.specs.StripHead.{IsStripHead, bare_picture}
-use Rattle.jpg_file.specs.declared.strip_head.StripHead.{StripHead}
+use Rattle.jpg_file.specs.Read.StripHead.{IsStripHead, bare_picture}
+use Rattle.jpg_file.specs.declared.read.strip_head.StripHead.{StripHead}
 use Rattle.jpg_color.specs.PartState.{PartState, AreSizes}
-use Rattle.jpg_color.specs.Shown.{Display, IsShowable, IsFresh, display_of, display_fault, picture_of, parts, all_rows, rows_in, row_length, held_rows}
+use Rattle.jpg_color.specs.Shown.{Display, IsShowable, IsFreshRows, display_of, display_fault, picture_of, parts, all_rows, rows_in, row_length, held_rows}
 use Rattle.jpg_color.specs.StripsState.{AreNewParts, AreStrips, coloured_length, told_display, part_at, shown_of}
 use Rattle.jpg_color.proofs.Coverage.{whole_ratios, in_frame, factors_at, parts_fit, samples_across_is, samples_down_is, lines_is, lines_some, up_covers, up_least}
 use Rattle.jpg_color.proofs.Windows.{rows_in_some, rows_in_few}
@@ -133,11 +133,11 @@ fresh h gray smooth f quants ps row n all count waits s ef eq en are long is sho
 
 pub is_fresh : (h : StripHead) (gray smooth : Bool) (f : Frame) (quants : List QuantTable) (ps : List PartState) (row : List ℕ) (n : ℕ) → IsShowable (display_of h gray smooth)
     → f ≡ h.frame → quants ≡ h.quants.items → n ≡ needed h.colour gray → AreNewParts (bare_picture h.frame h.quants.items no_blocks) smooth n ps
-    → IsFresh h gray smooth (shown_of (told_display f h.colour quants gray smooth) 0 0 ps row)
+    → IsFreshRows h gray smooth (shown_of (told_display f h.colour quants gray smooth) 0 0 ps row)
 is_fresh h gray smooth f quants ps row n s ef eq en are =
     let e = display_is h gray smooth f quants ef eq in
     let d : Display = display_of h gray smooth in
-    subst (λ t. IsFresh h gray smooth (shown_of t 0 0 ps row)) (sym e) (record {
+    subst (λ t. IsFreshRows h gray smooth (shown_of t 0 0 ps row)) (sym e) (record {
       display = refl;
       pushed = refl;
       given = refl;

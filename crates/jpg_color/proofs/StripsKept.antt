@@ -1,19 +1,19 @@
--- What strips keep while MCU rows are told and rows are given.
+-- What strips preserve while MCU rows are decoded and rows are passed.
 use Rattle.std.proofs.Common.{◌≡◌, ◌⊎◌, inl, inr, ℕ, zero, suc, ◌+◌, ◌-◌, ◌*◌, ◌<◌, ◌≤◌, min, Bool, true, false, if◌then◌else◌, List, ◌++◌, length, map, take, drop, slice_index_or, subst, refl, sym, ap, ◌∙◌, arith, All}
 use Rattle.std.proofs.lemmas.Bool.{cases_lt}
 use Rattle.std.proofs.lemmas.List.{length-map, take_all, drop_all, append-nil, get_or_default}
 use Rattle.jpg_spec.specs.Lists.{below}
 use Rattle.jpg_spec.specs.FileMeaning.{no_blocks}
 use Rattle.jpg_spec.specs.Scan.{Blocks}
-use Rattle.jpg_spec.specs.Upsampling.{Stretch}
-use Rattle.jpg_spec.specs.Pixels.{samples_across, samples_down, plane_row, stretch_of, upsampled, shows_gray, colour_row}
-use Rattle.jpg_spec.specs.Strips.{known_rows, first_kept, rows_from}
+use Rattle.jpg_spec_image.specs.Upsampling.{Stretch}
+use Rattle.jpg_spec_image.specs.Pixels.{samples_across, samples_down, plane_row, stretch_of, upsampled, shows_gray, colour_row}
+use Rattle.jpg_spec_image.specs.Strips.{known_rows, first_kept, rows_from}
 use Rattle.jpg_spec.specs.declared.frame.Colour.{Colour}
 use Rattle.jpg_spec.proofs.Common.{length_below}
 use Rattle.jpg_coefs.specs.Picture.{Picture}
 use Rattle.jpg_color.specs.KeptRows.{KeptRows}
-use Rattle.jpg_color.specs.PartState.{PartState, IsPart, CanFill, CanDraw, no_part, filled, drawn}
-use Rattle.jpg_color.specs.Shown.{Display, Shown, StandsFor, AreMcuRow, IsDue, IsPushed, IsGiven, picture_of, parts, all_rows, rows_in, ready_rows, row_of, held_rows}
+use Rattle.jpg_color.specs.PartState.{PartState, IsPart, CanFill, CanDraw, no_drawn_part, filled, drawn}
+use Rattle.jpg_color.specs.Shown.{Display, ShownState, StandsForPicture, AreMcuRow, IsNextRowDue, IsPushed, IsGiven, picture_of, parts, all_rows, rows_in, rows_made_ready, row_of_blocks, held_rows}
 use Rattle.jpg_color.specs.StripsState.{AreStrips, AreWide, HasMcuRow, coloured, line_at, part_at, shown_of, start_of}
 use Rattle.jpg_color.proofs.HeldRows.{pushed_stands, held_same, given_stands, pushed_rows}
 use Rattle.jpg_color.proofs.Products.{wide_enough}
@@ -35,7 +35,7 @@ parts_written n f ps lent new long same is =
 pub row_written : (n : ℕ) (old lent new : List ℕ) → n ≡ length old → lent ≡ old → length new ≡ length lent → take n (new ++ drop (length new) old) ≡ new
 row_written n old lent new long same e = written n old new (sym long) (e ∙ ap length same ∙ sym long)
 
--- ONE MCU ROW MORE
+-- ONE MORE MCU ROW
 
 pub few_told : {d : Display} {m g : ℕ} {ps : List PartState} {row : List ℕ} {all count : ℕ} {waits : Bool} → AreStrips d m g ps row all count waits → m ≤ all_rows d → m < 65536
 few_told k le = omega (arith, le, k.all, k.few)
@@ -43,10 +43,10 @@ few_told k le = omega (arith, le, k.all, k.few)
 due_early : {d : Display} {m g : ℕ} {ps : List PartState} {row : List ℕ} {all count : ℕ} {waits : Bool} → AreStrips d m g ps row all count waits → m < all_rows d → m < 65536
 due_early k lt = omega (arith, lt, k.all, k.few)
 
-pub can_fill : (d : Display) (m g : ℕ) (ps : List PartState) (row : List ℕ) (all count : ℕ) (waits whole : Bool) (q : Picture) (s : Shown) → AreStrips d m g ps row all count waits
-    → shown_of d m g ps row ≡ s → IsDue s → HasMcuRow s whole q → All (CanFill q whole m) ps
+pub can_fill : (d : Display) (m g : ℕ) (ps : List PartState) (row : List ℕ) (all count : ℕ) (waits whole : Bool) (q : Picture) (s : ShownState) → AreStrips d m g ps row all count waits
+    → shown_of d m g ps row ≡ s → IsNextRowDue s → HasMcuRow s whole q → All (CanFill q whole m) ps
 can_fill d m g ps row all count waits whole q s k e due there =
-    let due' : IsDue (shown_of d m g ps row) = subst IsDue (sym e) due in
+    let due' : IsNextRowDue (shown_of d m g ps row) = subst IsNextRowDue (sym e) due in
     all_fill d whole m g q ps row k.showable k.count (due_early k due'.missing) due' (subst (λ t. HasMcuRow t whole q) (sym e) there) k.parts
 
 part_kept : (d : Display) (i : ℕ) (ps : List PartState) (f : PartState → PartState) → length ps ≡ parts d → i < parts d
@@ -56,21 +56,21 @@ part_kept d i ps f count h keeps is =
     subst (IsPart (picture_of d no_blocks) d.smooth i) (sym (at_map f ps i (subst (λ n. i < n) (sym count) h))) (keeps (part_at ps i) is)
 
 stands_more : (d : Display) (m g : ℕ) (ps : List PartState) (row : List ℕ) (all count : ℕ) (waits whole : Bool) (q : Picture) → AreStrips d m g ps row all count waits
-    → IsDue (shown_of d m g ps row) → (blocks : Blocks) → StandsFor (shown_of d m g ps row) blocks → AreMcuRow d m (start_of whole (shown_of d m g ps row)) q blocks
-    → StandsFor (shown_of d (m + 1) g (map (filled q whole m) ps) row) blocks
+    → IsNextRowDue (shown_of d m g ps row) → (blocks : Blocks) → StandsForPicture (shown_of d m g ps row) blocks → AreMcuRow d m (start_of whole (shown_of d m g ps row)) q blocks
+    → StandsForPicture (shown_of d (m + 1) g (map (filled q whole m) ps) row) blocks
 stands_more d m g ps row all count waits whole q k due blocks stands mcu =
-    let s : Shown = shown_of d m g ps row in
-    let new : Shown = shown_of d (m + 1) g (map (filled q whole m) ps) row in
+    let s : ShownState = shown_of d m g ps row in
+    let new : ShownState = shown_of d (m + 1) g (map (filled q whole m) ps) row in
     held_same (picture_of d blocks) (parts d) d.smooth (all_rows d) (m + 1) g (λ i. pushed_rows d i m (start_of whole s) q (held_rows s i)) (held_rows new)
     (λ (i : ℕ) (h : i < parts d). filled_rows d whole i m g q ps row k.showable h (subst (λ n. i < n) (sym k.count) h) (k.parts i h))
     (pushed_stands s (start_of whole s) q blocks k.showable due mcu stands)
 
-pub kept_more : (d : Display) (m g : ℕ) (ps new : List PartState) (row : List ℕ) (all count : ℕ) (waits whole : Bool) (q : Picture) (s : Shown) → AreStrips d m g ps row all count waits
-    → shown_of d m g ps row ≡ s → IsDue s → new ≡ map (filled q whole m) ps → AreStrips d (m + 1) g new row all count waits
+pub kept_more : (d : Display) (m g : ℕ) (ps new : List PartState) (row : List ℕ) (all count : ℕ) (waits whole : Bool) (q : Picture) (s : ShownState) → AreStrips d m g ps row all count waits
+    → shown_of d m g ps row ≡ s → IsNextRowDue s → new ≡ map (filled q whole m) ps → AreStrips d (m + 1) g new row all count waits
 kept_more d m g ps new row all count waits whole q s k e due is =
-    let due' : IsDue (shown_of d m g ps row) = subst IsDue (sym e) due in
+    let due' : IsNextRowDue (shown_of d m g ps row) = subst IsNextRowDue (sym e) due in
     let first : ℕ → ℕ = start_of whole (shown_of d m g ps row) in
-    let old : (blocks : Blocks) × StandsFor (shown_of d m g ps row) blocks = k.stands in
+    let old : (blocks : Blocks) × StandsForPicture (shown_of d m g ps row) blocks = k.stands in
     subst (λ (ns : List PartState). AreStrips d (m + 1) g ns row all count waits) (sym is) (record {
       showable = k.showable;
       all = k.all;
@@ -88,25 +88,25 @@ kept_more d m g ps new row all count waits whole q s k e due is =
       );
     })
 
-pub pushed : (d : Display) (m g : ℕ) (ps new : List PartState) (row : List ℕ) (all count : ℕ) (waits whole : Bool) (q : Picture) (s : Shown) → AreStrips d m g ps row all count waits
-    → shown_of d m g ps row ≡ s → IsDue s → new ≡ map (filled q whole m) ps → IsPushed s (start_of whole s) q (shown_of d (m + 1) g new row)
+pub pushed : (d : Display) (m g : ℕ) (ps new : List PartState) (row : List ℕ) (all count : ℕ) (waits whole : Bool) (q : Picture) (s : ShownState) → AreStrips d m g ps row all count waits
+    → shown_of d m g ps row ≡ s → IsNextRowDue s → new ≡ map (filled q whole m) ps → IsPushed s (start_of whole s) q (shown_of d (m + 1) g new row)
 pushed d m g ps new row all count waits whole q s k e due is =
-    let due' : IsDue (shown_of d m g ps row) = subst IsDue (sym e) due in
+    let due' : IsNextRowDue (shown_of d m g ps row) = subst IsNextRowDue (sym e) due in
     subst (λ t. IsPushed t (start_of whole t) q (shown_of d (m + 1) g new row)) e
     (subst (λ (ns : List PartState). IsPushed (shown_of d m g ps row) (start_of whole (shown_of d m g ps row)) q (shown_of d (m + 1) g ns row)) (sym is) (record {
       display = refl;
       pushed = refl;
       given = refl;
-      stands = λ (blocks : Blocks) (stands : StandsFor (shown_of d m g ps row) blocks) (mcu : AreMcuRow d m (start_of whole (shown_of d m g ps row)) q blocks).
+      stands = λ (blocks : Blocks) (stands : StandsForPicture (shown_of d m g ps row) blocks) (mcu : AreMcuRow d m (start_of whole (shown_of d m g ps row)) q blocks).
           stands_more d m g ps row all count waits whole q k due' blocks stands mcu;
     }))
 
--- ONE ROW MORE
+-- ONE MORE ROW
 
-pub is_early : (d : Display) (m g : ℕ) (ps : List PartState) (row : List ℕ) (s : Shown) (ready : ℕ) → shown_of d m g ps row ≡ s → ready ≡ ready_rows s.display s.pushed → s.given ≤ ready
-    → (g ≡ ready → ⊥) → g < ready_rows d m
+pub is_early : (d : Display) (m g : ℕ) (ps : List PartState) (row : List ℕ) (s : ShownState) (ready : ℕ) → shown_of d m g ps row ≡ s → ready ≡ rows_made_ready s.display s.pushed → s.given ≤ ready
+    → (g ≡ ready → ⊥) → g < rows_made_ready d m
 is_early d m g ps row s ready e is low other =
-    let own : ready ≡ ready_rows d m = subst (λ t. ready ≡ ready_rows t.display t.pushed) (sym e) is in
+    let own : ready ≡ rows_made_ready d m = subst (λ t. ready ≡ rows_made_ready t.display t.pushed) (sym e) is in
     let le : g ≤ ready = subst (λ t. t.given ≤ ready) (sym e) low in
     subst (λ n. g < n) own (less g ready le other)
   where
@@ -117,10 +117,10 @@ is_early d m g ps row s ready e is low other =
         by (inl l) = l
         by (inr m) = absurd (other (omega (arith, le, m)))
 
-pub can_draw : (d : Display) (m g : ℕ) (ps : List PartState) (row : List ℕ) (all count : ℕ) (waits : Bool) → AreStrips d m g ps row all count waits → g < ready_rows d m → All (CanDraw g m) ps
+pub can_draw : (d : Display) (m g : ℕ) (ps : List PartState) (row : List ℕ) (all count : ℕ) (waits : Bool) → AreStrips d m g ps row all count waits → g < rows_made_ready d m → All (CanDraw g m) ps
 can_draw d m g ps row all count waits k lt =
-    let old : (blocks : Blocks) × StandsFor (shown_of d m g ps row) blocks = k.stands in
-    let stands : StandsFor (shown_of d m g ps row) old.0 = old.1 in
+    let old : (blocks : Blocks) × StandsForPicture (shown_of d m g ps row) blocks = k.stands in
+    let stands : StandsForPicture (shown_of d m g ps row) old.0 = old.1 in
     all_draw d old.0 m g ps row k.showable k.count (few_told k stands.some) stands lt k.parts
 
 pub drawn_wide : (d : Display) (m g : ℕ) (ps new : List PartState) (row : List ℕ) (all count : ℕ) (waits : Bool) → AreStrips d m g ps row all count waits → new ≡ map (drawn g m) ps
@@ -151,8 +151,8 @@ some_part false = omega arith
 three_parts : (b : Bool) (i : ℕ) → i < 3 → b ≡ false → i < (if b then 1 else 3)
 three_parts b i lt e = subst (λ c. i < (if c then 1 else 3)) (sym e) lt
 
-row_drawn : (d : Display) (m g : ℕ) (ps : List PartState) (row : List ℕ) (all count : ℕ) (waits : Bool) → AreStrips d m g ps row all count waits → g < ready_rows d m
-    → (blocks : Blocks) → StandsFor (shown_of d m g ps row) blocks → coloured d.colour d.gray d.frame.width (map (drawn g m) ps) ≡ row_of d blocks g
+row_drawn : (d : Display) (m g : ℕ) (ps : List PartState) (row : List ℕ) (all count : ℕ) (waits : Bool) → AreStrips d m g ps row all count waits → g < rows_made_ready d m
+    → (blocks : Blocks) → StandsForPicture (shown_of d m g ps row) blocks → coloured d.colour d.gray d.frame.width (map (drawn g m) ps) ≡ row_of_blocks d blocks g
 row_drawn d m g ps row all count waits k early blocks stands =
     let new : List PartState = map (drawn g m) ps in
     let line : (i : ℕ) → i < parts d → line_at d.frame.width new i ≡ upsampled (picture_of d blocks) d.smooth i g =
@@ -163,8 +163,8 @@ row_drawn d m g ps row all count waits k early blocks stands =
     (λ (e : shows_gray d.colour d.gray ≡ false). line 1 (three_parts (shows_gray d.colour d.gray) 1 (omega arith) e))
     (λ (e : shows_gray d.colour d.gray ≡ false). line 2 (three_parts (shows_gray d.colour d.gray) 2 (omega arith) e))
 
-stands_given : (d : Display) (m g : ℕ) (ps : List PartState) (row last : List ℕ) (all count : ℕ) (waits : Bool) → AreStrips d m g ps row all count waits → g < ready_rows d m
-    → (blocks : Blocks) → StandsFor (shown_of d m g ps row) blocks → StandsFor (shown_of d m (g + 1) (map (drawn g m) ps) last) blocks
+stands_given : (d : Display) (m g : ℕ) (ps : List PartState) (row last : List ℕ) (all count : ℕ) (waits : Bool) → AreStrips d m g ps row all count waits → g < rows_made_ready d m
+    → (blocks : Blocks) → StandsForPicture (shown_of d m g ps row) blocks → StandsForPicture (shown_of d m (g + 1) (map (drawn g m) ps) last) blocks
 stands_given d m g ps row last all count waits k early blocks stands =
     held_same (picture_of d blocks) (parts d) d.smooth (all_rows d) m (g + 1) (held_rows (shown_of d m g ps row)) (held_rows (shown_of d m (g + 1) (map (drawn g m) ps) last))
     (λ (i : ℕ) (h : i < parts d).
@@ -173,10 +173,10 @@ stands_given d m g ps row last all count waits k early blocks stands =
     ∙ sym (held_at d m g ps row i))
     (given_stands (shown_of d m g ps row) blocks stands early)
 
-pub kept_given : (d : Display) (m g : ℕ) (ps new : List PartState) (row last : List ℕ) (all count : ℕ) (waits : Bool) → AreStrips d m g ps row all count waits → g < ready_rows d m
+pub kept_given : (d : Display) (m g : ℕ) (ps new : List PartState) (row last : List ℕ) (all count : ℕ) (waits : Bool) → AreStrips d m g ps row all count waits → g < rows_made_ready d m
     → new ≡ map (drawn g m) ps → length last ≡ length row → AreStrips d m (g + 1) new last all count waits
 kept_given d m g ps new row last all count waits k early is long =
-    let old : (blocks : Blocks) × StandsFor (shown_of d m g ps row) blocks = k.stands in
+    let old : (blocks : Blocks) × StandsForPicture (shown_of d m g ps row) blocks = k.stands in
     subst (λ (ns : List PartState). AreStrips d m (g + 1) ns last all count waits) (sym is) (record {
       showable = k.showable;
       all = k.all;
@@ -190,8 +190,8 @@ kept_given d m g ps new row last all count waits k early is long =
       stands = (old.0, stands_given d m g ps row last all count waits k early old.0 old.1);
     })
 
-pub given : (d : Display) (m g : ℕ) (ps new : List PartState) (row last : List ℕ) (all count : ℕ) (waits : Bool) (s : Shown) → AreStrips d m g ps row all count waits
-    → shown_of d m g ps row ≡ s → g < ready_rows d m → new ≡ map (drawn g m) ps → length last ≡ length row → last ≡ coloured d.colour d.gray d.frame.width new
+pub given : (d : Display) (m g : ℕ) (ps new : List PartState) (row last : List ℕ) (all count : ℕ) (waits : Bool) (s : ShownState) → AreStrips d m g ps row all count waits
+    → shown_of d m g ps row ≡ s → g < rows_made_ready d m → new ≡ map (drawn g m) ps → length last ≡ length row → last ≡ coloured d.colour d.gray d.frame.width new
     → IsGiven s last (shown_of d m (g + 1) new last)
 given d m g ps new row last all count waits s k e early is long made =
     subst (λ t. IsGiven t last (shown_of d m (g + 1) new last)) e
@@ -202,9 +202,9 @@ given d m g ps new row last all count waits s k e early is long made =
       pushed = refl;
       given = refl;
       last = refl;
-      value = λ (blocks : Blocks) (stands : StandsFor (shown_of d m g ps row) blocks).
+      value = λ (blocks : Blocks) (stands : StandsForPicture (shown_of d m g ps row) blocks).
           made ∙ ap (coloured d.colour d.gray d.frame.width) is ∙ row_drawn d m g ps row all count waits k early blocks stands;
-      stands = λ (blocks : Blocks) (stands : StandsFor (shown_of d m g ps row) blocks). stands_given d m g ps row last all count waits k early blocks stands;
+      stands = λ (blocks : Blocks) (stands : StandsForPicture (shown_of d m g ps row) blocks). stands_given d m g ps row last all count waits k early blocks stands;
     }))
 
 -- FEW ROWS are kept
@@ -220,15 +220,15 @@ held_least r (suc m) high =
     let b : 8 * r * suc m ≡ 8 * r * m + 8 * r = grind arith in
     omega (arith, a, b)
 
-pub held_few : (d : Display) (m g : ℕ) (ps : List PartState) (row : List ℕ) (all count : ℕ) (waits : Bool) (s : Shown) (i : ℕ) (p : PartState) (kept : KeptRows) → AreStrips d m g ps row all count waits
+pub held_few : (d : Display) (m g : ℕ) (ps : List PartState) (row : List ℕ) (all count : ℕ) (waits : Bool) (s : ShownState) (i : ℕ) (p : PartState) (kept : KeptRows) → AreStrips d m g ps row all count waits
     → shown_of d m g ps row ≡ s → i < parts s.display → p ≡ slice_index_or ps i p → kept ≡ p.kept → length kept.rows ≤ 8 * rows_in s.display i + 1
 held_few d m g ps row all count waits s i p kept k e lt is same =
     let h : i < parts d = subst (λ t. i < parts t.display) (sym e) lt in
-    let old : (blocks : Blocks) × StandsFor (shown_of d m g ps row) blocks = k.stands in
-    let stands : StandsFor (shown_of d m g ps row) old.0 = old.1 in
+    let old : (blocks : Blocks) × StandsForPicture (shown_of d m g ps row) blocks = k.stands in
+    let stands : StandsForPicture (shown_of d m g ps row) old.0 = old.1 in
     let M = picture_of d old.0 in
     let f = first_kept M i m in
-    let here : p ≡ part_at ps i = is ∙ get_or_default ps i p no_part (subst (λ n. i < n) (sym k.count) h) in
+    let here : p ≡ part_at ps i = is ∙ get_or_default ps i p no_drawn_part (subst (λ n. i < n) (sym k.count) h) in
     let rows : kept.rows ≡ rows_from (plane_row M i) f (known_rows M i m - f) =
     ap (λ (x : KeptRows). x.rows) same ∙ ap (λ (x : PartState). x.kept.rows) here ∙ sym (held_at d m g ps row i) ∙ stands.rows i h in
     let long : length kept.rows ≡ known_rows M i m - f = ap length rows ∙ long_rows (plane_row M i) f (known_rows M i m - f) in

@@ -1,4 +1,4 @@
--- Which rows of samples an MCU row tells, and which rows of the image it makes ready.
+-- Which rows of samples an MCU row encodes, and which rows of the image it makes ready.
 use Rattle.std.proofs.Common.{◌≡◌, ◌⊎◌, inl, inr, ℕ, ◌+◌, ◌-◌, ◌*◌, ◌<◌, ◌≤◌, min, Bool, true, false, ◌==◌, if◌then◌else◌, length, subst, refl, sym, ap, ◌∙◌, arith}
 use Rattle.std.proofs.Math.Nat.{le-div_iff_mul-le, mul-le-mul_right}
 use Rattle.std.proofs.lemmas.Bool.{cases_lt}
@@ -8,25 +8,25 @@ use Rattle.jpg_spec.specs.Geometry.{Frame, bounds, div_up, h_max, v_max, compone
 use Rattle.jpg_spec.specs.FrameHeader.{padded_across, padded_down}
 use Rattle.jpg_spec.specs.FileMeaning.{no_blocks}
 use Rattle.jpg_spec.specs.Ranges.{AreInRange}
-use Rattle.jpg_spec.specs.Upsampling.{has_far_rows}
-use Rattle.jpg_spec.specs.Pixels.{samples_across, samples_down, stretch_of}
-use Rattle.jpg_spec.specs.Strips.{lines, known_rows}
+use Rattle.jpg_spec_image.specs.Upsampling.{has_far_rows}
+use Rattle.jpg_spec_image.specs.Pixels.{samples_across, samples_down, stretch_of}
+use Rattle.jpg_spec_image.specs.Strips.{lines, known_rows}
 use Rattle.jpg_spec.specs.declared.frame.Component.{Component}
 use Rattle.jpg_spec.proofs.Common.{not_same, same_itself}
 use Rattle.jpg_spec.proofs.PlacesFound.{real_in_padded}
 use Rattle.jpg_base.proofs.Grids.{across_low, down_low}
 use Rattle.jpg_coefs.specs.Picture.{Picture, map_of}
 use Rattle.jpg_color.specs.KeptRows.{HasRows}
-use Rattle.jpg_color.specs.Shown.{Display, IsShowable, picture_of, parts, all_rows, ready_rows, rows_in}
+use Rattle.jpg_color.specs.Shown.{Display, IsShowable, picture_of, parts, all_rows, rows_made_ready, rows_in}
 use Rattle.jpg_color.proofs.Coverage.{samples_across_is, samples_down_is, up_least, whole_ratios, in_frame, factors_at, covered, lines_some, parts_some, rows_in_is, blocks_across_is, blocks_down_is}
 
 -- ROWS OF SAMPLES
 
--- the rows that MCU row m tells
+-- the rows that MCU row m encodes
 abbrev pub told_rows : Display → ℕ → ℕ → ℕ
 told_rows d i m = known_rows (picture_of d no_blocks) i (m + 1) - known_rows (picture_of d no_blocks) i m
 
--- rows that are missing are some
+-- if rows are missing, so is an MCU row
 short_of : (n high down height lm : ℕ) → lm ≡ n * down → lm < height → height ≤ high * down → n < high
 short_of n high down height lm e lt tall = above (cases_lt n high)
   where
@@ -88,7 +88,7 @@ counted r m high some lt =
       real = omega (arith, lt, p, q);
     }
 
--- a row of MCUs has so many rows of blocks of each component
+-- the number of rows of blocks of each component in a row of MCUs
 one_mcu_row : (b : Bool) (v : ℕ) → 1 ≤ v → 1 ≤ div_up (if b then 8 else 8 * v) (8 * v)
 one_mcu_row true v low = (le-div_iff_mul-le (omega (arith, low))).1 (omega (arith, low))
 one_mcu_row false v low = (le-div_iff_mul-le (omega (arith, low))).1 (omega (arith, low))
@@ -198,15 +198,15 @@ all_some d s =
     let low = s.frame.height_low in
     (le-div_iff_mul-le some).1 (omega (arith, some, low))
 
--- whether a component that is shown has rows made from two
+-- whether a component that is displayed has rows made from two
 abbrev any_far : Display → Bool
 any_far d = any_of (λ i. has_far_rows (stretch_of (picture_of d no_blocks) d.smooth i)) (below (parts d))
 
-pub ready_end : (d : Display) → ready_rows d (all_rows d) ≡ d.frame.height
+pub ready_end : (d : Display) → rows_made_ready d (all_rows d) ≡ d.frame.height
 ready_end d =
     ap (λ b. if b then d.frame.height else if any_far d then lines (picture_of d no_blocks) * all_rows d - 1 else lines (picture_of d no_blocks) * all_rows d) (same_itself (all_rows d))
 
-ready_early : (d : Display) (m : ℕ) → m < all_rows d → ready_rows d m ≡ (if any_far d then lines (picture_of d no_blocks) * m - 1 else lines (picture_of d no_blocks) * m)
+ready_early : (d : Display) (m : ℕ) → m < all_rows d → rows_made_ready d m ≡ (if any_far d then lines (picture_of d no_blocks) * m - 1 else lines (picture_of d no_blocks) * m)
 ready_early d m lt =
     ap (λ b. if b then d.frame.height else if any_far d then lines (picture_of d no_blocks) * m - 1 else lines (picture_of d no_blocks) * m)
     (not_same m (all_rows d) (λ (e : m ≡ all_rows d). omega (arith, e, lt)))
@@ -223,20 +223,20 @@ early_more : (b : Bool) (n k : ℕ) → n ≤ k → (if b then n - 1 else n) ≤
 early_more true n k le = omega (arith, le)
 early_more false n k le = le
 
--- all rows of the image that whole MCU rows have, but the last of them, are ready
-pub ready_low : (d : Display) (m : ℕ) → m < all_rows d → lines (picture_of d no_blocks) * m - 1 ≤ ready_rows d m
+-- all rows of the image that complete MCU rows have, except the last of them, are ready
+pub ready_low : (d : Display) (m : ℕ) → m < all_rows d → lines (picture_of d no_blocks) * m - 1 ≤ rows_made_ready d m
 ready_low d m lt = subst (λ n. lines (picture_of d no_blocks) * m - 1 ≤ n) (sym (ready_early d m lt)) (early_low (any_far d) (lines (picture_of d no_blocks) * m))
 
-pub ready_none : (d : Display) → IsShowable d → ready_rows d 0 ≡ 0
+pub ready_none : (d : Display) → IsShowable d → rows_made_ready d 0 ≡ 0
 ready_none d s =
     let some = all_some d s in
     let e = ready_early d 0 some in
     let h = early_high (any_far d) (lines (picture_of d no_blocks) * 0) in
     let z : lines (picture_of d no_blocks) * 0 ≡ 0 = grind arith in
-    let le : ready_rows d 0 ≤ lines (picture_of d no_blocks) * 0 = subst (λ n. n ≤ lines (picture_of d no_blocks) * 0) (sym e) h in
+    let le : rows_made_ready d 0 ≤ lines (picture_of d no_blocks) * 0 = subst (λ n. n ≤ lines (picture_of d no_blocks) * 0) (sym e) h in
     omega (arith, le, z)
 
-pub ready_missing : (d : Display) (m : ℕ) → IsShowable d → m < all_rows d → ready_rows d m < d.frame.height
+pub ready_missing : (d : Display) (m : ℕ) → IsShowable d → m < all_rows d → rows_made_ready d m < d.frame.height
 ready_missing d m s lt =
     let M = picture_of d no_blocks in
     let c = covered d no_blocks 0 s (parts_some d) in
@@ -247,20 +247,20 @@ ready_missing d m s lt =
     below_all : (a b c : ℕ) → a ≤ b → b < c → a < c
     below_all a b c h l = omega (arith, h, l)
 
-by_last : (d : Display) (m : ℕ) → m ≤ all_rows d → (m < all_rows d) ⊎ (all_rows d ≤ m) → IsShowable d → ready_rows d m ≤ d.frame.height
+by_last : (d : Display) (m : ℕ) → m ≤ all_rows d → (m < all_rows d) ⊎ (all_rows d ≤ m) → IsShowable d → rows_made_ready d m ≤ d.frame.height
 by_last d m le (inl lt) s = let h = ready_missing d m s lt in omega (arith, h)
 by_last d m le (inr ge) s =
     let e : all_rows d ≡ m = omega (arith, le, ge) in
-    subst (λ n. ready_rows d n ≤ d.frame.height) e (subst (λ n. n ≤ d.frame.height) (sym (ready_end d)) (omega arith))
+    subst (λ n. rows_made_ready d n ≤ d.frame.height) e (subst (λ n. n ≤ d.frame.height) (sym (ready_end d)) (omega arith))
 
-pub ready_high : (d : Display) (m : ℕ) → IsShowable d → m ≤ all_rows d → ready_rows d m ≤ d.frame.height
+pub ready_high : (d : Display) (m : ℕ) → IsShowable d → m ≤ all_rows d → rows_made_ready d m ≤ d.frame.height
 ready_high d m s le = by_last d m le (cases_lt m (all_rows d)) s
 
-more_by : (d : Display) (m : ℕ) → IsShowable d → m < all_rows d → (m + 1 < all_rows d) ⊎ (all_rows d ≤ m + 1) → ready_rows d m ≤ ready_rows d (m + 1)
+more_by : (d : Display) (m : ℕ) → IsShowable d → m < all_rows d → (m + 1 < all_rows d) ⊎ (all_rows d ≤ m + 1) → rows_made_ready d m ≤ rows_made_ready d (m + 1)
 more_by d m s lt (inl next) =
     let M = picture_of d no_blocks in
     let p : lines M * (m + 1) ≡ lines M * m + lines M = grind arith in
-    subst (λ n. n ≤ ready_rows d (m + 1)) (sym (ready_early d m lt))
+    subst (λ n. n ≤ rows_made_ready d (m + 1)) (sym (ready_early d m lt))
     (subst (λ n. (if any_far d then lines M * m - 1 else lines M * m) ≤ n) (sym (ready_early d (m + 1) next))
     (early_more (any_far d) (lines M * m) (lines M * (m + 1)) (le_by (lines M * m) (lines M) (lines M * (m + 1)) p)))
   where
@@ -269,29 +269,29 @@ more_by d m s lt (inl next) =
 more_by d m s lt (inr ge) =
     let e : all_rows d ≡ m + 1 = omega (arith, lt, ge) in
     let h = ready_missing d m s lt in
-    let k : ready_rows d m ≤ ready_rows d (all_rows d) = subst (λ n. ready_rows d m ≤ n) (sym (ready_end d)) (less (ready_rows d m) d.frame.height h) in
-    subst (λ n. ready_rows d m ≤ ready_rows d n) e k
+    let k : rows_made_ready d m ≤ rows_made_ready d (all_rows d) = subst (λ n. rows_made_ready d m ≤ n) (sym (ready_end d)) (less (rows_made_ready d m) d.frame.height h) in
+    subst (λ n. rows_made_ready d m ≤ rows_made_ready d n) e k
   where
     less : (a b : ℕ) → a < b → a ≤ b
     less a b l = omega (arith, l)
 
-pub ready_more : (d : Display) (m : ℕ) → IsShowable d → m < all_rows d → ready_rows d m ≤ ready_rows d (m + 1)
+pub ready_more : (d : Display) (m : ℕ) → IsShowable d → m < all_rows d → rows_made_ready d m ≤ rows_made_ready d (m + 1)
 ready_more d m s lt = more_by d m s lt (cases_lt (m + 1) (all_rows d))
 
--- the image is whole exactly after all MCU rows
-whole_by : (d : Display) (m : ℕ) → IsShowable d → m ≤ all_rows d → (m < all_rows d) ⊎ (all_rows d ≤ m) → d.frame.height ≤ ready_rows d m → m ≡ all_rows d
+-- the image is complete exactly after all MCU rows
+whole_by : (d : Display) (m : ℕ) → IsShowable d → m ≤ all_rows d → (m < all_rows d) ⊎ (all_rows d ≤ m) → d.frame.height ≤ rows_made_ready d m → m ≡ all_rows d
 whole_by d m s le (inl lt) tall = let h = ready_missing d m s lt in absurd (omega (arith, h, tall))
 whole_by d m s le (inr ge) tall = omega (arith, le, ge)
 
-pub ready_whole : (d : Display) (m : ℕ) → IsShowable d → m ≤ all_rows d → d.frame.height ≤ ready_rows d m → m ≡ all_rows d
+pub ready_whole : (d : Display) (m : ℕ) → IsShowable d → m ≤ all_rows d → d.frame.height ≤ rows_made_ready d m → m ≡ all_rows d
 ready_whole d m s le tall = whole_by d m s le (cases_lt m (all_rows d)) tall
 
-part_by : (d : Display) (m : ℕ) → m ≤ all_rows d → (m < all_rows d) ⊎ (all_rows d ≤ m) → ready_rows d m < d.frame.height → m < all_rows d
+part_by : (d : Display) (m : ℕ) → m ≤ all_rows d → (m < all_rows d) ⊎ (all_rows d ≤ m) → rows_made_ready d m < d.frame.height → m < all_rows d
 part_by d m le (inl lt) short = lt
 part_by d m le (inr ge) short =
     let e : m ≡ all_rows d = omega (arith, le, ge) in
-    let h : ready_rows d m ≡ d.frame.height = ap (ready_rows d) e ∙ ready_end d in
+    let h : rows_made_ready d m ≡ d.frame.height = ap (rows_made_ready d) e ∙ ready_end d in
     absurd (omega (arith, h, short))
 
-pub ready_part : (d : Display) (m : ℕ) → m ≤ all_rows d → ready_rows d m < d.frame.height → m < all_rows d
+pub ready_part : (d : Display) (m : ℕ) → m ≤ all_rows d → rows_made_ready d m < d.frame.height → m < all_rows d
 ready_part d m le short = part_by d m le (cases_lt m (all_rows d)) short

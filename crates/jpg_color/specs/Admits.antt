@@ -1,20 +1,20 @@
--- Which pictures are shown, and as which kind of image (release 6b's djpeg).
+-- Which pictures can be displayed, and as which kind of image (release 6b's djpeg).
 use Rattle.std.specs.Prelude.{ℕ, Bool, if◌then◌else◌, List, take, Option, Some, None, Result, Ok, Err}
-use Rattle.jpg_spec.specs.Pixels.{shows_gray, out_fault_of}
+use Rattle.jpg_spec_image.specs.Pixels.{shows_gray, out_fault_of}
 use Rattle.jpg_spec.specs.declared.fault.Fault.{Fault}
 use Rattle.jpg_spec.specs.declared.fault.Fault.TheVariants.{ColourOut, FractionalSampling}
 use Rattle.jpg_spec.specs.declared.frame.Colour.{Colour}
-use Rattle.jpg_spec.specs.declared.image.ImageKind.{ImageKind}
-use Rattle.jpg_spec.specs.declared.image.ImageKind.TheVariants as kind
+use Rattle.jpg_spec_image.specs.declared.image.ImageKind.{ImageKind}
+use Rattle.jpg_spec_image.specs.declared.image.ImageKind.TheVariants as kind
 
 abbrev pub kind_of : Colour → Bool → ImageKind
 kind_of colour gray = if shows_gray colour gray then kind.Gray else kind.Rgb
 
--- the factors of the components that are needed: the first, if it is shown alone
+-- the factors of the components that are needed: only the first, if the others aren't displayed
 abbrev pub needed_factors : Bool → List (ℕ × ℕ) → List (ℕ × ℕ)
 needed_factors alone factors = if alone then take 1 factors else factors
 
--- colours that aren't shown come before factors
+-- colours that can't be displayed come before factors
 abbrev pub first_fault : Bool → Bool → Option Fault
 first_fault out partial = if out then Some ColourOut else if partial then Some FractionalSampling else None
 
@@ -23,6 +23,6 @@ abbrev pub kind_or : Option Fault → ImageKind → Result ImageKind Fault
 kind_or (Some fault) shown = Err fault
 kind_or None shown = Ok shown
 
--- by the colours, whether gray is asked for, and the factors across and down of each component
-abbrev pub admitted : Colour → Bool → List (ℕ × ℕ) → Result ImageKind Fault
-admitted colour gray factors = kind_or (out_fault_of colour gray factors) (kind_of colour gray)
+-- by the colours, whether gray is asked for, and the horizontal and vertical factors of each component
+abbrev pub admitted_kind : Colour → Bool → List (ℕ × ℕ) → Result ImageKind Fault
+admitted_kind colour gray factors = kind_or (out_fault_of colour gray factors) (kind_of colour gray)

@@ -1,31 +1,31 @@
--- A PICTURE MADE OF AN IMAGE (the manual of cjpeg): what is asked for, when it can be made, and what is due.
+-- A PICTURE MADE OF AN IMAGE (the manual of cjpeg): what is asked for, when it can be made, and the result.
 use Rattle.std.specs.Prelude.{◌≡◌, Bool, true, false, [], length, slice_index_or, All, Option, Some, None, Result, Ok, Err}
-use Rattle.jpg_spec.specs.FileText.{off}
+use Rattle.jpg_spec_write.specs.FileText.{off}
 use Rattle.jpg_spec.specs.Geometry.{Frame}
-use Rattle.jpg_spec.specs.Images.{Image}
+use Rattle.jpg_spec_image.specs.Images.{Image}
 use Rattle.jpg_spec.specs.Meaning.{Meaning, picture_frame}
-use Rattle.jpg_spec.specs.Moved.{Scans, sequential, standard, asks_progressive}
+use Rattle.jpg_spec_write.specs.ScansAsked.{Scans, sequential, standard, asks_progressive}
 use Rattle.jpg_spec.specs.Scan.{Blocks}
-use Rattle.jpg_spec.specs.WrittenFile.{AreQuantisers}
-use Rattle.jpg_spec.specs.Encoded.{Encoding, components_due, encoded, encoded_block, encoded_head, sampling_fault}
-use Rattle.jpg_spec.specs.EncodingLaws.{AreFactors}
-use Rattle.jpg_spec.specs.declared.transform.PictureFault.{PictureFault}
+use Rattle.jpg_spec.specs.Segments.{AreQuantisers}
+use Rattle.jpg_spec_encode.specs.Encoded.{Encoding, components_due, encoded, encoded_block, encoded_head, sampling_fault}
+use Rattle.jpg_spec_encode.specs.EncodingLaws.{AreFactors}
+use Rattle.jpg_spec_write.specs.declared.picture_fault.PictureFault.{PictureFault}
 use Rattle.jpg_pnm_bmp.specs.Made.{IsRightImage}
-use Rattle.jpg_pnm_bmp.specs.declared.pixels.Image.{Image as Read}
+use Rattle.jpg_pnm_bmp.specs.declared.read.pixels.Image.{Image as Read}
 use Rattle.jpg_color.specs.declared.encode.Encoding.{Encoding as Asked}
 
 -- an image that was read
 abbrev pub image_told : Read → Image
 image_told i = record { info = i.info; samples = i.samples }
 
--- WHAT IS ASKED FOR, in the words of the definitions: its own scans, and no restarts
+-- WHAT IS ASKED FOR, in the terms of the definitions: default scans, and no restarts
 
 abbrev pub scans_asked : Bool → Scans
 scans_asked true = standard
 scans_asked false = sequential
 
-abbrev pub request : Asked → Encoding
-request a = record {
+abbrev pub encoding_request : Asked → Encoding
+encoding_request a = record {
   gray = a.gray;
   scans = scans_asked a.progressive;
   restart = off;
@@ -34,7 +34,7 @@ request a = record {
   others = slice_index_or a.tables 1 [];
 }
 
--- These words ask for the same, whatever their scans and restarts are, if the scans are of the same kind.
+-- The same is asked for, whatever its scans and restarts are, if the scans are of the same kind.
 pub record AsksFor (a : Asked) (e : Encoding) : Type 0 where
   pub gray : e.gray ≡ a.gray
   pub scans : asks_progressive e.scans ≡ a.progressive
@@ -42,32 +42,32 @@ pub record AsksFor (a : Asked) (e : Encoding) : Type 0 where
   pub first : e.first ≡ slice_index_or a.tables 0 []
   pub others : e.others ≡ slice_index_or a.tables 1 []
 
--- An image with all its samples, factors from 1 to 4 for each component that is due, and tables of 64 quantisers without zeros.
+-- An image with all its samples, factors from 1 to 4 for each component, and tables of 64 quantisers without zeros.
 pub record CanEncode (i : Read) (a : Asked) : Type 0 where
   pub image : IsRightImage (image_told i)
   pub factors : All AreFactors a.factors.items
-  pub pairs : length a.factors.items ≡ components_due (request a) (image_told i)
+  pub pairs : length a.factors.items ≡ components_due (encoding_request a) (image_told i)
   pub first : AreQuantisers (slice_index_or a.tables 0 [])
   pub others : AreQuantisers (slice_index_or a.tables 1 [])
 
--- WHAT IS DUE: all but the blocks, the frame, and the blocks
+-- THE RESULT: all but the blocks, the frame, and the blocks
 
-abbrev pub head_due : Read → Asked → Meaning
-head_due i a = encoded_head (request a) (image_told i)
+abbrev pub encoded_parts : Read → Asked → Meaning
+encoded_parts i a = encoded_head (encoding_request a) (image_told i)
 
-abbrev pub frame_due : Read → Asked → Frame
-frame_due i a = picture_frame (head_due i a)
+abbrev pub encoded_frame : Read → Asked → Frame
+encoded_frame i a = picture_frame (encoded_parts i a)
 
 abbrev pub blocks_due : Read → Asked → Blocks
-blocks_due i a = encoded_block (head_due i a) (image_told i)
+blocks_due i a = encoded_block (encoded_parts i a) (image_told i)
 
 abbrev pub picture_due : Read → Asked → Meaning
-picture_due i a = encoded (request a) (image_told i)
+picture_due i a = encoded (encoding_request a) (image_told i)
 
 abbrev pub fault_due : Read → Asked → Option PictureFault
-fault_due i a = sampling_fault (request a) (image_told i)
+fault_due i a = sampling_fault (encoding_request a) (image_told i)
 
--- the frame, or the fault that forbids it
+-- the frame, or its fault
 abbrev pub IsFramed : Read → Asked → Result Frame PictureFault → Type 0
-IsFramed i a (Ok f) = (f ≡ frame_due i a) × (fault_due i a ≡ None)
+IsFramed i a (Ok f) = (f ≡ encoded_frame i a) × (fault_due i a ≡ None)
 IsFramed i a (Err fault) = fault_due i a ≡ Some fault

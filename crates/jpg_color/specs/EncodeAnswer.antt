@@ -1,16 +1,17 @@
--- THE ANSWER to an image that is to be encoded: its picture, or the first fault of the factors and the grids (the manual of cjpeg; JFIF 1.02).
+-- THE ANSWER to an image that is to be encoded: its picture, or the first fault of the factors and the grids (the
+-- manual of cjpeg; JFIF 1.02).
 use Rattle.std.specs.Prelude.{◌≡◌, [], ◌∷◌, Some, None, Result, Ok, Err}
-use Rattle.jpg_spec.specs.Moves.{jfif_contents}
-use Rattle.jpg_spec.specs.Encoded.{Encoding, density_of, encoded, sampling_fault}
-use Rattle.jpg_pnm_bmp.specs.declared.pixels.Image.{Image as Read}
-use Rattle.jpg_file.specs.PictureRead.{picture_meaning}
-use Rattle.jpg_file.specs.declared.picture.Picture.{Picture}
+use Rattle.jpg_spec_write.specs.Headed.{jfif_contents}
+use Rattle.jpg_spec_encode.specs.Encoded.{Encoding, density_of, encoded, sampling_fault}
+use Rattle.jpg_pnm_bmp.specs.declared.read.pixels.Image.{Image as Read}
+use Rattle.jpg_file.specs.Read.PictureRead.{picture_meaning}
+use Rattle.jpg_file.specs.declared.read.picture.Picture.{Picture}
 use Rattle.jpg_color.specs.Encode.{AsksFor, image_told}
 use Rattle.jpg_color.specs.declared.encode.Encoding.{Encoding as Asked}
 use Rattle.jpg_color.specs.declared.encode.EncodeStop.{EncodeStop}
 use Rattle.jpg_color.specs.declared.encode.EncodeStop.TheVariants as stop
 
--- the picture of the image, which has no fault; it keeps the JFIF header alone
+-- the picture of the image, which has no fault; it keeps only the JFIF header
 pub record IsEncodedAs (i : Read) (a : Asked) (p : Picture) : Type 0 where
   pub means : (e : Encoding) → AsksFor a e → picture_meaning p ≡ encoded e (image_told i)
   pub faultless : (e : Encoding) → AsksFor a e → sampling_fault e (image_told i) ≡ None

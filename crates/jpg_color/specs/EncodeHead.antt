@@ -2,8 +2,8 @@
 use Rattle.std.specs.Prelude.{ℕ, ◌+◌, ◌==◌, ◌||◌, ◌&&◌, Bool, nat_lt, if◌then◌else◌, List, [], length, map, slice_index_or}
 use Rattle.jpg_spec.specs.Geometry.{no_component}
 use Rattle.jpg_spec.specs.Lists.{below}
-use Rattle.jpg_spec.specs.Moves.{is_wide}
-use Rattle.jpg_spec.specs.Pixels.{is_fractional}
+use Rattle.jpg_spec_write.specs.Headed.{is_wide}
+use Rattle.jpg_spec_image.specs.Pixels.{is_fractional}
 use Rattle.jpg_spec.specs.Segments.{QuantTable}
 use Rattle.jpg_spec.specs.declared.frame.Colour.{Colour}
 use Rattle.jpg_spec.specs.declared.frame.Colour.TheVariants.{Gray, YCbCr}
@@ -19,7 +19,7 @@ component_asked a i = record { id = i + 1; h = (slice_index_or a.factors.items i
 abbrev pub components_asked : Asked → List Component
 components_asked a = map (component_asked a) (below (length a.factors.items))
 
--- the ratio of component i to the greatest factors isn't whole
+-- the ratio of component i to the greatest factors isn't an integer
 abbrev pub fraction_at : List Component → ℕ → Bool
 fraction_at components i =
     let c = slice_index_or components i no_component in

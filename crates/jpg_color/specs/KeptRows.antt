@@ -1,4 +1,4 @@
--- Rows of samples of one component that are kept, and the rows that blocks tell.
+-- Rows of samples of one component that are kept, and the rows made of blocks.
 use Rattle.std.specs.Prelude.{ℕ, ◌+◌, ◌-◌, ◌*◌, ◌/◌, ◌%◌, ◌<◌, ◌≤◌, List, ◌++◌, length, map, take, drop, slice_index}
 use Rattle.jpg_spec.specs.Lists.{below}
 use Rattle.jpg_spec.specs.Geometry.{bounds, component_at, div_up}
@@ -6,7 +6,7 @@ use Rattle.jpg_spec.specs.FrameHeader.{padded_across, padded_down}
 use Rattle.jpg_spec.specs.Segments.{QuantTable}
 use Rattle.jpg_spec.specs.Scan.{Blocks}
 use Rattle.jpg_spec.specs.Ranges.{AreInRange}
-use Rattle.jpg_spec.specs.Dct.{dequantised, inverse_dct}
+use Rattle.jpg_spec_image.specs.Dct.{dequantised, inverse_dct}
 use Rattle.jpg_coefs.specs.Picture.{Picture, map_of}
 
 -- at most `room` rows of `wide` samples
@@ -19,8 +19,8 @@ pub record KeptRows : Type 0 where
 abbrev pub stride : ℕ → ℕ
 stride wide = 8 * div_up wide 8
 
-abbrev pub rows_of : ℕ → ℕ → List ℕ → List (List ℕ)
-rows_of wide count samples = map (λ r. take wide (drop (r * stride wide) samples)) (below count)
+abbrev pub kept_rows_of : ℕ → ℕ → List ℕ → List (List ℕ)
+kept_rows_of wide count samples = map (λ r. take wide (drop (r * stride wide) samples)) (below count)
 
 -- The sample at column x and row y below the top of row `first` of the blocks of component i.
 abbrev pub sample_in : QuantTable → Blocks → ℕ → ℕ → ℕ → ℕ → ℕ
@@ -33,9 +33,9 @@ row_in wide quants blocks i first y = map (sample_in quants blocks i first y) (b
 abbrev pub last_row : List (List ℕ) → List (List ℕ)
 last_row rows = drop (length rows - 1) rows
 
--- Of what is kept, the last row stays. Behind it come `count` rows that blocks tell.
-abbrev pub with_rows : KeptRows → QuantTable → Blocks → ℕ → ℕ → ℕ → KeptRows
-with_rows kept quants blocks i first count =
+-- The last row that is kept remains. After it come `count` rows made of blocks.
+abbrev pub with_block_rows : KeptRows → QuantTable → Blocks → ℕ → ℕ → ℕ → KeptRows
+with_block_rows kept quants blocks i first count =
     record kept { rows = last_row kept.rows ++ map (row_in kept.wide quants blocks i first) (below count) }
 
 -- The same, where the rows are those of zero blocks.

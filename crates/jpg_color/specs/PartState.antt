@@ -1,16 +1,17 @@
--- One component that is shown: its numbers, the rows of samples that are kept of it, and what its rows of the image are made from.
+-- One component that is displayed: its numbers, the rows of samples that are kept of it, and what its rows of the image
+-- are made from.
 use Rattle.std.specs.Prelude.{◌≡◌, ℕ, ◌+◌, ◌-◌, ◌*◌, ◌<◌, ◌≤◌, min, Bool, true, false, if◌then◌else◌, List, [], length}
 use Rattle.jpg_spec.specs.FileMeaning.{no_blocks}
 use Rattle.jpg_spec.specs.Segments.{QuantTable}
 use Rattle.jpg_spec.specs.Meaning.{Meaning}
-use Rattle.jpg_spec.specs.Moves.{component_of}
-use Rattle.jpg_spec.specs.Upsampling.{Stretch, has_far_rows, near_row, far_row, upsampled_row}
-use Rattle.jpg_spec.specs.Pixels.{stretch_of}
-use Rattle.jpg_spec.specs.Strips.{block_rows, kept_row}
+use Rattle.jpg_spec.specs.Meaning.{component_of}
+use Rattle.jpg_spec_image.specs.Upsampling.{Stretch, has_far_rows, near_row, far_row, upsampled_row}
+use Rattle.jpg_spec_image.specs.Pixels.{stretch_of}
+use Rattle.jpg_spec_image.specs.Strips.{block_rows, kept_row}
 use Rattle.jpg_coefs.specs.Picture.{Picture, map_of}
-use Rattle.jpg_file.specs.StripHead.{bare_picture}
-use Rattle.jpg_file.specs.declared.strip_head.StripHead.{StripHead}
-use Rattle.jpg_color.specs.KeptRows.{KeptRows, HasRows, with_gray, with_rows}
+use Rattle.jpg_file.specs.Read.StripHead.{bare_picture}
+use Rattle.jpg_file.specs.declared.read.strip_head.StripHead.{StripHead}
+use Rattle.jpg_color.specs.KeptRows.{KeptRows, HasRows, with_gray, with_block_rows}
 
 pub record PartState : Type 0 where
   pub component : ℕ
@@ -31,8 +32,8 @@ state_of component stretch block_rows quants kept line =
 abbrev pub no_rows : KeptRows
 no_rows = record { wide = 0; room = 0; rows = [] }
 
-abbrev pub no_part : PartState
-no_part = state_of 0 (record { wide = 0; high = 0; across = 0; down = 0; smooth = false }) 0 [] no_rows []
+abbrev pub no_drawn_part : PartState
+no_drawn_part = state_of 0 (record { wide = 0; high = 0; across = 0; down = 0; smooth = false }) 0 [] no_rows []
 
 -- the bounds of its numbers
 pub record AreSizes (s : Stretch) (rows : ℕ) : Type 0 where
@@ -46,7 +47,7 @@ pub record AreSizes (s : Stretch) (rows : ℕ) : Type 0 where
   pub rows_low : 1 ≤ rows
   pub rows_high : rows ≤ 4
 
--- Each row that is kept is as wide as the plane, and the row of the image as wide as the repeated samples.
+-- Each row that is kept is as long as a row of the plane, and the row of the image as long as the repeated samples.
 pub record IsMeasured (p : PartState) : Type 0 where
   pub sizes : AreSizes p.stretch p.block_rows
   pub wide : p.kept.wide ≡ p.stretch.wide
@@ -66,38 +67,38 @@ pub record IsNewPart (M : Meaning) (smooth : Bool) (i : ℕ) (p : PartState) : T
   pub part : IsPart M smooth i p
   pub none : p.kept.rows ≡ []
 
--- the rows of samples that m MCU rows tell, those that the next one tells, and the first that is kept behind m
+-- the rows of samples that are known after m MCU rows, those that the next one adds, and the first that is kept after m
 abbrev pub known : PartState → ℕ → ℕ
 known p m = min (8 * p.block_rows * m) p.stretch.high
 
-abbrev pub told : PartState → ℕ → ℕ
-told p m = known p (m + 1) - known p m
+abbrev pub rows_so_far_of : PartState → ℕ → ℕ
+rows_so_far_of p m = known p (m + 1) - known p m
 
 abbrev pub top : PartState → ℕ → ℕ
 top p m = 8 * p.block_rows * (m - 1) - 1
 
--- the row of blocks where MCU row m begins: of a whole picture, or of an MCU row of its own
+-- the row of blocks where MCU row m begins: of a complete picture, or of only the MCU row
 abbrev pub begins : Bool → ℕ → PartState → ℕ
 begins whole m p = if whole then m * p.block_rows else 0
 
 -- the blocks of MCU row m are there
 pub record CanFill (q : Picture) (whole : Bool) (m : ℕ) (p : PartState) : Type 0 where
   pub early : m < 65536
-  pub few : told p m ≤ 8 * p.block_rows
-  pub blocks : HasRows q p.component (begins whole m p) p.kept.wide (told p m)
+  pub few : rows_so_far_of p m ≤ 8 * p.block_rows
+  pub blocks : HasRows q p.component (begins whole m p) p.kept.wide (rows_so_far_of p m)
 
 abbrev pub filled : Picture → Bool → ℕ → PartState → PartState
-filled q whole m p = record p { kept = with_rows p.kept p.quants (map_of q) p.component (begins whole m p) (told p m) }
+filled q whole m p = record p { kept = with_block_rows p.kept p.quants (map_of q) p.component (begins whole m p) (rows_so_far_of p m) }
 
 -- The same of zero blocks.
 pub record CanFillGray (m : ℕ) (p : PartState) : Type 0 where
   pub early : m < 65536
-  pub few : told p m ≤ 8 * p.block_rows
+  pub few : rows_so_far_of p m ≤ 8 * p.block_rows
 
-abbrev pub grayed : ℕ → PartState → PartState
-grayed m p = record p { kept = with_gray p.kept (told p m) }
+abbrev pub grayed_part : ℕ → PartState → PartState
+grayed_part m p = record p { kept = with_gray p.kept (rows_so_far_of p m) }
 
--- the rows of samples that row y of the image is made from are kept behind m MCU rows
+-- the rows of samples that row y of the image is made from are kept after m MCU rows
 pub record CanDraw (y m : ℕ) (p : PartState) : Type 0 where
   pub early : m < 65536
   pub low : top p m ≤ near_row p.stretch y

@@ -1,12 +1,12 @@
 -- Rows of an image, and the plane of a component.
 use Rattle.std.specs.Prelude.{◌≡◌, ℕ, ◌*◌, ◌+◌, ◌≤◌, ◌<◌, ◌-◌, min, List, length, map, take, drop, slice_index}
 use Rattle.jpg_spec.specs.Lists.{below}
-use Rattle.jpg_spec.specs.Downsampling.{narrowed, in_rows}
-use Rattle.jpg_spec.specs.Encoded.{full_plane, samples_of_block}
-use Rattle.jpg_spec.specs.declared.image.ImageInfo.{ImageInfo}
-use Rattle.jpg_color.specs.ColourRows.{numbers_of}
-use Rattle.jpg_color.specs.declared.rows.ImagePlane.{ImagePlane}
-use Rattle.jpg_color.specs.declared.rows.Window.{Window}
+use Rattle.jpg_spec_image.specs.Downsampling.{downsampled, in_rows}
+use Rattle.jpg_spec_encode.specs.Encoded.{full_plane, samples_of_block}
+use Rattle.jpg_spec_image.specs.declared.image.ImageInfo.{ImageInfo}
+use Rattle.jpg_color.specs.ColourRows.{numbers_of_pixel}
+use Rattle.jpg_color.specs.declared.encode.rows.ImagePlane.{ImagePlane}
+use Rattle.jpg_color.specs.declared.encode.rows.Window.{Window}
 
 -- an image has its samples, and sides that a frame can have
 pub record HasSamples (info : ImageInfo) (samples : List ℕ) : Type 0 where
@@ -14,21 +14,21 @@ pub record HasSamples (info : ImageInfo) (samples : List ℕ) : Type 0 where
   pub wide_few : info.width ≤ 65500
   pub high : 1 ≤ info.height
   pub high_few : info.height ≤ 65500
-  pub all : length samples ≡ info.height * (numbers_of info.kind * info.width)
+  pub all : length samples ≡ info.height * (numbers_of_pixel info.kind * info.width)
 
 -- row p
 abbrev pub row_of : ImageInfo → List ℕ → ℕ → List ℕ
-row_of info samples p = take (numbers_of info.kind * info.width) (drop (p * (numbers_of info.kind * info.width)) samples)
+row_of info samples p = take (numbers_of_pixel info.kind * info.width) (drop (p * (numbers_of_pixel info.kind * info.width)) samples)
 
 -- component i, its last column and row repeated
 abbrev pub plane_of : ImageInfo → List ℕ → ℕ → ℕ → ℕ → ℕ
 plane_of info samples i x y = full_plane (record { info = info; samples = samples }) i x y
 
--- the rows of the plane under row y of a plane that is `down` times lower, one behind another
-abbrev pub HasRows : ImageInfo → List ℕ → ℕ → ℕ → ℕ → List ℕ → Type 0
-HasRows info samples i down y rows = (r u : ℕ) → r < down → u < info.width → slice_index rows (r * info.width + u) ≡ plane_of info samples i u (down * y + r)
+-- the rows of the plane that are averaged to row y of one downsampled by `down`, one after another
+abbrev pub HasPlaneRows : ImageInfo → List ℕ → ℕ → ℕ → ℕ → List ℕ → Type 0
+HasPlaneRows info samples i down y rows = (r u : ℕ) → r < down → u < info.width → slice_index rows (r * info.width + u) ≡ plane_of info samples i u (down * y + r)
 
--- row p of component i stands as row r, and what is above it stays
+-- row p of component i is put as row r, and the rows above it remain
 pub record PutsRow (info : ImageInfo) (samples : List ℕ) (i p r : ℕ) (old new : List ℕ) : Type 0 where
   pub long : length new ≡ length old
   pub here : (u : ℕ) → u < info.width → slice_index new (r * info.width + u) ≡ plane_of info samples i u p
@@ -41,17 +41,17 @@ pub record IsImagePlane (p : ImagePlane) : Type 0 where
   pub across : (1 ≤ p.ratio.across) × (p.ratio.across ≤ 4)
   pub down : (1 ≤ p.ratio.down) × (p.ratio.down ≤ 4)
 
--- its plane, made narrower and lower
+-- its plane, downsampled
 abbrev pub narrow_plane : ImagePlane → ℕ → ℕ → ℕ
-narrow_plane p x y = narrowed p.ratio.across p.ratio.down (plane_of p.info.now p.samples.now p.component) x y
+narrow_plane p x y = downsampled p.ratio.across p.ratio.down (plane_of p.info.now p.samples.now p.component) x y
 
--- of which the last row that the image makes is repeated
+-- the same, where the last row made from the image is repeated
 abbrev pub lower_row : ImagePlane → ℕ → ℕ → ℕ → ℕ
 lower_row p made x y = narrow_plane p x (min y (made - 1))
 
--- as many samples of a row
-unfoldable pub narrowed_row : ImagePlane → ℕ → ℕ → List ℕ
-narrowed_row p y count = map (λ x. narrow_plane p x y) (below count)
+-- the first samples of such a row
+unfoldable pub downsampled_row : ImagePlane → ℕ → ℕ → List ℕ
+downsampled_row p y count = map (λ x. narrow_plane p x y) (below count)
 
 -- the rows from row 8 * y on, as blocks
 abbrev pub HasBlocks : ImagePlane → ℕ → ℕ → ℕ → List ℕ → Type 0
@@ -59,19 +59,19 @@ HasBlocks p made wide y rows = (x : ℕ) → 8 * x + 8 ≤ wide → samples_of_b
 
 -- WINDOWS of the rows of the plane's component
 
--- so many of its rows, from a multiple of them on
+-- some of its rows, from a multiple of their number on
 pub record IsWindow (p : ImagePlane) (w : Window) : Type 0 where
   pub lines : w.lines ≤ 32
   pub at : w.at ≤ 65535
   pub long : length w.rows.now ≡ w.lines * p.info.now.width
-  pub rows : HasRows p.info.now p.samples.now p.component w.lines w.at w.rows.now
+  pub rows : HasPlaneRows p.info.now p.samples.now p.component w.lines w.at w.rows.now
 
--- those under row y of the lower plane are among them
+-- those for row y of the downsampled plane are among them
 pub record IsUnder (p : ImagePlane) (w : Window) (y : ℕ) : Type 0 where
   pub first : w.lines * w.at ≤ p.ratio.down * y
   pub last : p.ratio.down * y + p.ratio.down ≤ w.lines * w.at + w.lines
 
--- those under eight rows are, where the last one that is made is repeated
+-- those for eight rows are, where the last one that is made is repeated
 pub record AreUnder (p : ImagePlane) (w : Window) (made y : ℕ) : Type 0 where
   pub first : w.lines * w.at ≤ p.ratio.down * min (8 * y) (made - 1)
   pub last : p.ratio.down * (8 * y + 8) ≤ w.lines * w.at + w.lines

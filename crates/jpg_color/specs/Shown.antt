@@ -1,4 +1,4 @@
--- A picture that is shown row by row: what was told of it, and which rows were given.
+-- A picture that is displayed row by row: which MCU rows were taken, and which rows were given.
 use Rattle.std.specs.Prelude.{◌≡◌, ℕ, ◌+◌, ◌*◌, ◌<◌, Bool, true, false, if◌then◌else◌, List, [], length, map, slice_index_or, Option, None, Some}
 use Rattle.jpg_spec.specs.Geometry.{Frame, bounds, blocks_across, blocks_down, component_at, mcu_row_frame}
 use Rattle.jpg_spec.specs.FrameHeader.{IsFrame}
@@ -7,17 +7,17 @@ use Rattle.jpg_spec.specs.Scan.{Blocks}
 use Rattle.jpg_spec.specs.Ranges.{AreInRange}
 use Rattle.jpg_spec.specs.FileMeaning.{no_blocks}
 use Rattle.jpg_spec.specs.Meaning.{Meaning}
-use Rattle.jpg_spec.specs.Pixels.{shows_gray, shown_row, out_fault_of}
-use Rattle.jpg_spec.specs.Strips.{block_rows, mcu_rows, needed, ready, IsHeld}
+use Rattle.jpg_spec_image.specs.Pixels.{shows_gray, shown_row, out_fault_of}
+use Rattle.jpg_spec_image.specs.Strips.{block_rows, mcu_rows, needed, ready, IsHeld}
 use Rattle.jpg_spec.specs.declared.fault.Fault.{Fault}
 use Rattle.jpg_spec.specs.declared.frame.Colour.{Colour}
 use Rattle.jpg_coefs.specs.Picture.{Picture, map_of}
-use Rattle.jpg_file.specs.RowTurns.{zero_picture}
-use Rattle.jpg_file.specs.StripHead.{bare_picture, may_have}
-use Rattle.jpg_file.specs.declared.strip_head.StripHead.{StripHead}
+use Rattle.jpg_file.specs.Read.RowTurns.{zero_picture}
+use Rattle.jpg_file.specs.Read.StripHead.{bare_picture, may_have}
+use Rattle.jpg_file.specs.declared.read.strip_head.StripHead.{StripHead}
 use Rattle.jpg_color.specs.KeptRows.{KeptRows}
 
--- what a picture has beside its blocks, and how it is shown
+-- a picture except for its blocks, and how it is displayed
 pub record Display : Type 0 where
   pub frame : Frame
   pub colour : Colour
@@ -25,8 +25,9 @@ pub record Display : Type 0 where
   pub gray : Bool
   pub smooth : Bool
 
--- so many MCU rows were told and so many rows given, these rows of samples are kept of each component that is shown, and this row was given last
-pub record Shown : Type 0 where
+-- how many MCU rows were taken and how many rows given, the rows of samples that are kept of each component that is
+-- displayed, and the row that was given last
+pub record ShownState : Type 0 where
   pub display : Display
   pub pushed : ℕ
   pub given : ℕ
@@ -36,23 +37,23 @@ pub record Shown : Type 0 where
 abbrev pub picture_of : Display → Blocks → Meaning
 picture_of d blocks = bare_picture d.frame d.quants blocks
 
--- how many components are shown
+-- how many components are displayed
 abbrev pub parts : Display → ℕ
 parts d = needed d.colour d.gray
 
--- the MCU rows of the picture, and the rows of the image that m of them make
+-- the MCU rows of the picture, and the rows of the image that are made of m of them
 abbrev pub all_rows : Display → ℕ
 all_rows d = mcu_rows (picture_of d no_blocks)
 
-abbrev pub ready_rows : Display → ℕ → ℕ
-ready_rows d m = ready (picture_of d no_blocks) (parts d) d.smooth (all_rows d) m
+abbrev pub rows_made_ready : Display → ℕ → ℕ
+rows_made_ready d m = ready (picture_of d no_blocks) (parts d) d.smooth (all_rows d) m
 
 -- the rows of blocks of component i in an MCU row
 abbrev pub rows_in : Display → ℕ → ℕ
 rows_in d i = block_rows (picture_of d no_blocks) i
 
-abbrev pub row_of : Display → Blocks → ℕ → List ℕ
-row_of d blocks y = shown_row d.colour (picture_of d blocks) d.gray d.smooth y
+abbrev pub row_of_blocks : Display → Blocks → ℕ → List ℕ
+row_of_blocks d blocks y = shown_row d.colour (picture_of d blocks) d.gray d.smooth y
 
 -- the factors of each component
 abbrev pub factors_of : Frame → List (ℕ × ℕ)
@@ -61,7 +62,7 @@ factors_of f = map (λ c. (c.h, c.v)) f.components
 abbrev pub display_fault : Display → Option Fault
 display_fault d = out_fault_of d.colour d.gray (factors_of d.frame)
 
--- It can be shown: one table for each component, colours that they may have, and no fault of the output's kind.
+-- It can be displayed: one table for each component, colours that they may have, and no fault of the output's kind.
 pub record IsShowable (d : Display) : Type 0 where
   pub frame : IsFrame d.frame
   pub tables : length d.quants ≡ length d.frame.components
@@ -69,12 +70,12 @@ pub record IsShowable (d : Display) : Type 0 where
   pub admitted : display_fault d ≡ None
 
 -- the rows that are kept of component i
-abbrev pub held_rows : Shown → ℕ → List (List ℕ)
+abbrev pub held_rows : ShownState → ℕ → List (List ℕ)
 held_rows s i = (slice_index_or s.held i (record { wide = 0; room = 0; rows = [] })).rows
 
--- WHAT IT STANDS FOR: any picture whose MCU rows were told so far
-abbrev pub StandsFor : Shown → Blocks → Type 0
-StandsFor s blocks = IsHeld (picture_of s.display blocks) (parts s.display) s.display.smooth (all_rows s.display) s.pushed s.given (held_rows s)
+-- THE MEANING OF ITS STATES: any picture whose MCU rows were taken so far
+abbrev pub StandsForPicture : ShownState → Blocks → Type 0
+StandsForPicture s blocks = IsHeld (picture_of s.display blocks) (parts s.display) s.display.smooth (all_rows s.display) s.pushed s.given (held_rows s)
 
 -- From row `first i` on, the blocks of component i are those of MCU row m of a picture.
 pub record AreMcuRow (d : Display) (m : ℕ) (first : ℕ → ℕ) (q : Picture) (blocks : Blocks) : Type 0 where
@@ -91,56 +92,56 @@ abbrev pub zero_row : Display → Picture
 zero_row d = zero_picture (mcu_row_frame d.frame)
 
 -- all rows that are ready were given, and MCU rows are missing
-pub record IsDue (s : Shown) : Type 0 where
-  pub given : s.given ≡ ready_rows s.display s.pushed
+pub record IsNextRowDue (s : ShownState) : Type 0 where
+  pub given : s.given ≡ rows_made_ready s.display s.pushed
   pub missing : s.pushed < all_rows s.display
 
 -- the bytes of a row of the image
 abbrev pub row_length : Display → ℕ
 row_length d = if shows_gray d.colour d.gray then d.frame.width else 3 * d.frame.width
 
--- ONE MCU ROW MORE was told: its blocks are those of component i from row `first i` on.
-pub record IsPushed (old : Shown) (first : ℕ → ℕ) (q : Picture) (new : Shown) : Type 0 where
+-- ONE MORE MCU ROW was taken: its blocks are those of component i from row `first i` on.
+pub record IsPushed (old : ShownState) (first : ℕ → ℕ) (q : Picture) (new : ShownState) : Type 0 where
   pub display : new.display ≡ old.display
   pub pushed : new.pushed ≡ old.pushed + 1
   pub given : new.given ≡ old.given
-  pub stands : (blocks : Blocks) → StandsFor old blocks → AreMcuRow old.display old.pushed first q blocks → StandsFor new blocks
+  pub stands : (blocks : Blocks) → StandsForPicture old blocks → AreMcuRow old.display old.pushed first q blocks → StandsForPicture new blocks
 
--- an MCU row of its own, and the one that is due of a whole picture
+-- only the MCU row, and the next one of a complete picture
 abbrev pub at_top : ℕ → ℕ
 at_top i = 0
 
-abbrev pub at_due : Shown → ℕ → ℕ
+abbrev pub at_due : ShownState → ℕ → ℕ
 at_due s i = s.pushed * rows_in s.display i
 
 -- THE NEXT ROW of the image
-pub record IsGiven (old : Shown) (row : List ℕ) (new : Shown) : Type 0 where
-  pub early : old.given < ready_rows old.display old.pushed
+pub record IsGiven (old : ShownState) (row : List ℕ) (new : ShownState) : Type 0 where
+  pub early : old.given < rows_made_ready old.display old.pushed
   pub long : length row ≡ row_length old.display
   pub display : new.display ≡ old.display
   pub pushed : new.pushed ≡ old.pushed
   pub given : new.given ≡ old.given + 1
   pub last : new.last ≡ row
-  pub value : (blocks : Blocks) → StandsFor old blocks → row ≡ row_of old.display blocks old.given
-  pub stands : (blocks : Blocks) → StandsFor old blocks → StandsFor new blocks
+  pub value : (blocks : Blocks) → StandsForPicture old blocks → row ≡ row_of_blocks old.display blocks old.given
+  pub stands : (blocks : Blocks) → StandsForPicture old blocks → StandsForPicture new blocks
 
--- none, exactly where all that are ready were given
-abbrev pub GivesRow : Shown → Option (List ℕ) → Shown → Type 0
+-- none, exactly if all that are ready were given
+abbrev pub GivesRow : ShownState → Option (List ℕ) → ShownState → Type 0
 GivesRow old (Some row) new = IsGiven old row new
-GivesRow old None new = (old.given ≡ ready_rows old.display old.pushed) × (new ≡ old)
+GivesRow old None new = (old.given ≡ rows_made_ready old.display old.pushed) × (new ≡ old)
 
 -- the same, where the row is lent later
-abbrev pub Advances : Shown → Bool → Shown → Type 0
+abbrev pub Advances : ShownState → Bool → ShownState → Type 0
 Advances old true new = IsGiven old new.last new
-Advances old false new = (old.given ≡ ready_rows old.display old.pushed) × (new ≡ old)
+Advances old false new = (old.given ≡ rows_made_ready old.display old.pushed) × (new ≡ old)
 
--- what a picture's head shows
+-- how a picture with this head is displayed
 abbrev pub display_of : StripHead → Bool → Bool → Display
 display_of h gray smooth = record { frame = h.frame; colour = h.colour; quants = h.quants.items; gray = gray; smooth = smooth }
 
--- Rows that nothing was told of: they stand for any picture.
-pub record IsFresh (h : StripHead) (gray smooth : Bool) (s : Shown) : Type 0 where
+-- Rows before the first MCU row: they are those of any picture.
+pub record IsFreshRows (h : StripHead) (gray smooth : Bool) (s : ShownState) : Type 0 where
   pub display : s.display ≡ display_of h gray smooth
   pub pushed : s.pushed ≡ 0
   pub given : s.given ≡ 0
-  pub stands : (blocks : Blocks) → StandsFor s blocks
+  pub stands : (blocks : Blocks) → StandsForPicture s blocks

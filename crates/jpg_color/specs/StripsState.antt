@@ -1,4 +1,4 @@
--- What strips keep: their parts, and the numbers of their picture.
+-- The state of strips: their parts, and the numbers of their picture.
 use Rattle.std.specs.Prelude.{◌≡◌, ℕ, ◌+◌, ◌-◌, ◌*◌, ◌<◌, ◌≤◌, Bool, if◌then◌else◌, List, length, take, slice_index_or, map, Option, None, Some}
 use Rattle.jpg_spec.specs.Lists.{below, any_of}
 use Rattle.jpg_spec.specs.Geometry.{Frame}
@@ -6,17 +6,17 @@ use Rattle.jpg_spec.specs.Segments.{QuantTable}
 use Rattle.jpg_spec.specs.Scan.{Blocks}
 use Rattle.jpg_spec.specs.FileMeaning.{no_blocks}
 use Rattle.jpg_spec.specs.Meaning.{Meaning}
-use Rattle.jpg_spec.specs.Upsampling.{has_far_rows}
-use Rattle.jpg_spec.specs.Pixels.{shows_gray, colour_row, samples_across, stretch_of}
-use Rattle.jpg_spec.specs.Strips.{known_rows, lines, needed}
+use Rattle.jpg_spec_image.specs.Upsampling.{has_far_rows}
+use Rattle.jpg_spec_image.specs.Pixels.{shows_gray, colour_row, samples_across, stretch_of}
+use Rattle.jpg_spec_image.specs.Strips.{known_rows, lines, needed}
 use Rattle.jpg_spec.specs.declared.frame.Colour.{Colour}
 use Rattle.jpg_coefs.specs.Picture.{Picture}
 use Rattle.jpg_color.specs.KeptRows.{HasRows}
-use Rattle.jpg_color.specs.PartState.{PartState, IsPart, IsNewPart, no_part}
-use Rattle.jpg_color.specs.Shown.{Display, Shown, IsShowable, StandsFor, all_rows, parts, picture_of, ready_rows, row_length, row_of, rows_in}
+use Rattle.jpg_color.specs.PartState.{PartState, IsPart, IsNewPart, no_drawn_part}
+use Rattle.jpg_color.specs.Shown.{Display, ShownState, IsShowable, StandsForPicture, all_rows, parts, picture_of, rows_made_ready, row_length, row_of_blocks, rows_in}
 
 abbrev pub part_at : List PartState → ℕ → PartState
-part_at ps i = slice_index_or ps i no_part
+part_at ps i = slice_index_or ps i no_drawn_part
 
 -- the first `count` components of a picture, of which no rows are kept
 pub record AreNewParts (M : Meaning) (smooth : Bool) (n : ℕ) (ps : List PartState) : Type 0 where
@@ -26,8 +26,8 @@ pub record AreNewParts (M : Meaning) (smooth : Bool) (n : ℕ) (ps : List PartSt
 abbrev pub told_display : Frame → Colour → List QuantTable → Bool → Bool → Display
 told_display f colour quants gray smooth = record { frame = f; colour = colour; quants = quants; gray = gray; smooth = smooth }
 
--- what is shown with these parts
-abbrev pub shown_of : Display → ℕ → ℕ → List PartState → List ℕ → Shown
+-- what is displayed with these parts
+abbrev pub shown_of : Display → ℕ → ℕ → List PartState → List ℕ → ShownState
 shown_of d pushed given ps last = record { display = d; pushed = pushed; given = given; held = map (λ p. p.kept) ps; last = last }
 
 -- a row that is made from two rows of samples waits for the one below
@@ -44,18 +44,18 @@ pub record AreStrips (d : Display) (pushed given : ℕ) (ps : List PartState) (r
   pub count : length ps ≡ parts d
   pub parts : (i : ℕ) → i < parts d → IsPart (picture_of d no_blocks) d.smooth i (part_at ps i)
   pub last : length row ≡ row_length d
-  pub stands : (blocks : Blocks) × StandsFor (shown_of d pushed given ps row) blocks
+  pub stands : (blocks : Blocks) × StandsForPicture (shown_of d pushed given ps row) blocks
 
 -- where the blocks of the next MCU row begin
-abbrev pub start_of : Bool → Shown → ℕ → ℕ
+abbrev pub start_of : Bool → ShownState → ℕ → ℕ
 start_of whole s i = if whole then s.pushed * rows_in s.display i else 0
 
 -- the blocks of the next MCU row are there
-pub record HasMcuRow (s : Shown) (whole : Bool) (q : Picture) : Type 0 where
+pub record HasMcuRow (s : ShownState) (whole : Bool) (q : Picture) : Type 0 where
   pub rows : (i : ℕ) → i < parts s.display → HasRows q i (start_of whole s i) (samples_across (picture_of s.display no_blocks) i)
       (known_rows (picture_of s.display no_blocks) i (s.pushed + 1) - known_rows (picture_of s.display no_blocks) i s.pushed)
 
--- the row of the image that lines of the parts make
+-- the row of the image made of lines of the parts
 abbrev pub line_at : ℕ → List PartState → ℕ → List ℕ
 line_at width ps i = take width (part_at ps i).line
 
@@ -68,17 +68,17 @@ coloured colour gray width ps =
 abbrev pub coloured_length : Colour → Bool → ℕ → ℕ
 coloured_length colour gray width = if shows_gray colour gray then width else 3 * width
 
--- lines that are wide enough, of the components that are shown
+-- lines that are long enough, of the components that are displayed
 pub record AreWide (colour : Colour) (gray : Bool) (width : ℕ) (ps : List PartState) : Type 0 where
   pub count : length ps ≡ needed colour gray
   pub wide : (i : ℕ) → i < length ps → width ≤ (part_at ps i).stretch.across * (part_at ps i).stretch.wide
 
 -- what the next row is, or that there is none
-pub record IsNextRow (old : Shown) (row : List ℕ) : Type 0 where
-  pub early : old.given < ready_rows old.display old.pushed
+pub record IsNextRow (old : ShownState) (row : List ℕ) : Type 0 where
+  pub early : old.given < rows_made_ready old.display old.pushed
   pub long : length row ≡ row_length old.display
-  pub value : (blocks : Blocks) → StandsFor old blocks → row ≡ row_of old.display blocks old.given
+  pub value : (blocks : Blocks) → StandsForPicture old blocks → row ≡ row_of_blocks old.display blocks old.given
 
-abbrev pub TellsRow : Shown → Option (List ℕ) → Type 0
+abbrev pub TellsRow : ShownState → Option (List ℕ) → Type 0
 TellsRow old (Some row) = IsNextRow old row
-TellsRow old None = old.given ≡ ready_rows old.display old.pushed
+TellsRow old None = old.given ≡ rows_made_ready old.display old.pushed

@@ -1,13 +1,23 @@
-// A picture shown as an image file (release 6b's djpeg).
+//! A picture decoded to an image file (release 6b's djpeg).
 ghost use Rattle.std.specs.Prelude.{◌≡◌, ◌*◌, ◌==◌, if◌then◌else◌, true, None, [], IfOk};
-ghost use Rattle.jpg_spec.specs.ImageText.{end_text};
-ghost use Rattle.jpg_spec.specs.Pixels.{out_fault};
-ghost use Rattle.jpg_file.specs.PictureRead.{picture_meaning};
+ghost use Rattle.jpg_spec_image.specs.ImageText.{end_text};
+ghost use Rattle.jpg_spec_image.specs.Pixels.{out_fault};
+ghost use Rattle.jpg_file.specs.Read.PictureRead.{picture_meaning};
 ghost use Rattle.jpg_pnm_bmp.specs.EndState.{CanFinish, CanTakeRow, Finishes, IsImageInfo, Starts, TakesRow, new_end};
-ghost use Rattle.jpg_color.specs.DecodeRows.{AreRowsOf, Decodes, IsEndFor, Sends, SendsPart, SendsRow, SendsRows, end_parts, finished, finished_end, picture_end, picture_text, rows_in_all, told_info};
+ghost use Rattle.jpg_color.specs.DecodeRows.{AreRowsOf, Decodes, IsEndFor, SendsImage, SendsPart, SendsRow, SendsRows, end_parts, finished, finished_end, picture_end, picture_text, rows_in_all, told_info};
 
-use crate::kinds::shown_kind;
-use crate::picture_rows::PictureRows;
+pub mod blocks;
+pub mod kinds;
+pub mod next;
+pub mod part;
+pub mod picture_rows;
+pub mod rgb;
+pub mod sample_rows;
+pub mod strip_image;
+pub mod strips;
+
+use crate::decode::kinds::shown_kind;
+use crate::decode::picture_rows::PictureRows;
 use jpg_base::{Bytes, Desk, Frame, NoMemory, Put};
 use jpg_file::Picture;
 use jpg_pnm_bmp::{Finish, ImageEnd, ImageInfo};
@@ -21,13 +31,13 @@ pub enum DecodeStop {
     WriteFault,
 }
 
-// So many bytes are written at once.
+// Writes begin at this many bytes.
 const MANY: usize = 32768;
 
-/// Writes the image that a picture shows to the output that was created last, in the format of `end`: the text of the image's rows as
-/// release 6b's djpeg makes them, gray where that is asked for, with rows of samples smoothed or repeated. `end` took all rows then and
-/// was finished. After NoMemory and WriteFault a first part of the text is written, after NoMemory not all, and nothing is said of
-/// `end`.
+/// Writes the image of a picture to the output that was created last, in the format of `end`: the text of the image's
+/// rows as release 6b's djpeg makes them, in grayscale if that is asked for, with rows of samples smoothed or repeated.
+/// `end` took all rows then and was finished. After NoMemory and WriteFault a first part of the text is written, after
+/// NoMemory not all, and the state of `end` is unspecified.
 pub fn decode_rows<D: Desk>(
     alloc: Global,
     picture: &Picture,
@@ -73,7 +83,7 @@ fn write_image<D: Desk>(
     send(out, desk)
 }
 
-// Begins it.
+// Begins the image.
 pub(crate) fn start_image(
     info: &ImageInfo,
     end: &mut Box<dyn ImageEnd>,
@@ -86,7 +96,7 @@ pub(crate) fn start_image(
     end.start(info, out)
 }
 
-// What is told of the image.
+// The size, kind and density of the image.
 pub(crate) fn info_of(frame: &Frame, colour: Colour, jfif: Jfif, gray: bool) -> ImageInfo
     ensures { result ≡ told_info frame.now colour jfif gray }
 {
@@ -99,7 +109,7 @@ pub(crate) fn info_of(frame: &Frame, colour: Colour, jfif: Jfif, gray: bool) -> 
     }
 }
 
-// Pixels per metre, where the unit is pixels per centimetre.
+// Pixels per metre, if the unit is pixels per centimetre.
 fn metre(unit: u8, density: u16) -> u32
     ensures { result ≡ (if unit == 2 then 100 * density else 0) }
 {
@@ -110,7 +120,7 @@ fn metre(unit: u8, density: u16) -> u32
     }
 }
 
-// All rows.
+// Writes all rows.
 fn send_rows<D: Desk>(
     rows: &mut PictureRows,
     end: &mut Box<dyn ImageEnd>,
@@ -127,7 +137,7 @@ fn send_rows<D: Desk>(
     Ok(())
 }
 
-// A row.
+// Writes a row.
 pub(crate) fn send_row<D: Desk>(
     row: &[u8],
     end: &mut Box<dyn ImageEnd>,
@@ -144,7 +154,7 @@ pub(crate) fn send_row<D: Desk>(
     }
 }
 
-// Gives it to the end.
+// Gives a row to the image writer.
 fn take_row(row: &[u8], end: &mut Box<dyn ImageEnd>, out: &mut Bytes) -> Result<(), NoMemory>
     requires end { CanTakeRow (progress end.old) row.now }
     ensures { TakesRow (progress end.old) out.old row.now result (progress end.new) out.new }
@@ -152,7 +162,7 @@ fn take_row(row: &[u8], end: &mut Box<dyn ImageEnd>, out: &mut Bytes) -> Result<
     end.row(row, out)
 }
 
-// What stands behind the rows.
+// Writes what follows the rows.
 pub(crate) fn send_end<D: Desk>(
     end: &mut Box<dyn ImageEnd>,
     out: &mut Bytes,
@@ -161,7 +171,7 @@ pub(crate) fn send_end<D: Desk>(
     requires end { CanFinish (progress end.old) }
     requires whole { (progress end.old).parts ≡ 0 }
     requires created { (D.state desk.old).output_created ≡ true }
-    ensures sent { Sends (D.state desk.old) out.old (end_parts (progress end.old)) result out.new (D.state desk.new) }
+    ensures sent { SendsImage (D.state desk.old) out.old (end_parts (progress end.old)) result out.new (D.state desk.new) }
     ensures end { IfOk result (λ u. progress end.new ≡ finished (progress end.old)) }
 {
     loop {
@@ -172,7 +182,7 @@ pub(crate) fn send_end<D: Desk>(
     }
 }
 
-// A part of it.
+// Writes a part of it.
 fn send_part<D: Desk>(
     end: &mut Box<dyn ImageEnd>,
     out: &mut Bytes,
@@ -191,7 +201,7 @@ fn send_part<D: Desk>(
     }
 }
 
-// Takes it from the end.
+// Takes a part from the image writer.
 fn take_part(end: &mut Box<dyn ImageEnd>, out: &mut Bytes) -> Result<Finish, NoMemory>
     requires end { CanFinish (progress end.old) }
     ensures { Finishes (progress end.old) out.old result (progress end.new) out.new }
@@ -199,10 +209,10 @@ fn take_part(end: &mut Box<dyn ImageEnd>, out: &mut Bytes) -> Result<Finish, NoM
     end.finish(out)
 }
 
-// Writes what waits, once it is much.
+// Writes the bytes that wait, if they are many.
 fn send_much<D: Desk>(out: &mut Bytes, desk: &mut D) -> Result<(), DecodeStop>
     requires { (D.state desk.old).output_created ≡ true }
-    ensures { Sends (D.state desk.old) out.old [] result out.new (D.state desk.new) }
+    ensures { SendsImage (D.state desk.old) out.old [] result out.new (D.state desk.new) }
 {
     if out.as_slice().len() < MANY {
         return Ok(());
@@ -210,10 +220,10 @@ fn send_much<D: Desk>(out: &mut Bytes, desk: &mut D) -> Result<(), DecodeStop>
     send(out, desk)
 }
 
-// Writes all that waits.
+// Writes all bytes that wait.
 pub(crate) fn send<D: Desk>(out: &mut Bytes, desk: &mut D) -> Result<(), DecodeStop>
     requires { (D.state desk.old).output_created ≡ true }
-    ensures sent { Sends (D.state desk.old) out.old [] result out.new (D.state desk.new) }
+    ensures sent { SendsImage (D.state desk.old) out.old [] result out.new (D.state desk.new) }
     ensures all { IfOk result (λ u. out.new ≡ []) }
 {
     if let Put::Failed = desk.write(out.as_slice()) {

@@ -7,12 +7,12 @@ use Rattle.std.specs.Result.{IsErrAnd}
 use Rattle.jpg_base.specs.declared.names.NoMemory.{NoMemory}
 use Rattle.jpg_comments.specs.Appending.{AppendsText}
 
--- a piece that is appended whole or not at all
+-- a piece that is appended completely or not at all
 pub pushed : (r : Result (Unit {0}) NoMemory) (piece old new : List ℕ) → OnOk r (new ≡ old ++ piece) → OnErr r (new ≡ old) → AppendsText piece r old new
 pushed (Ok u) piece old new whole same = whole
 pushed (Err e) piece old new whole same = (0, same ∙ sym (append-nil old))
 
--- all of the text but this rest was appended
+-- all of the text except this rest was appended
 pub record Leaves (text old now rest : List ℕ) : Type 0 where
   pub done : List ℕ
   pub appended : now ≡ old ++ done

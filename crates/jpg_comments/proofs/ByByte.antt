@@ -3,19 +3,19 @@ use Rattle.std.proofs.Common.{◌≡◌, ℕ, ◌+◌, ◌<◌, Bool, true, fals
 use Rattle.std.proofs.lemmas.Bool.Decides.{nat_tests}
 use Rattle.std.proofs.lemmas.List.{append-nil, length-append, take_all}
 use Rattle.std.proofs.Math.Seq.{take-append-add}
-use Rattle.jpg_spec.specs.Markers.{Segment, kept_rule, has_scan, SpellsSegments, Pass, SegmentsShow, Reached, at_soi, at_frame, at_eoi, at_segment, at_fault, at_part, Reaches}
-use Rattle.jpg_spec.specs.CommentText.{comments_text, IsReadWhole}
+use Rattle.jpg_spec.specs.Markers.{Segment, kept_rule, has_scan, SpellsSegments, Pass, SegmentsReveal, Reached, at_soi, at_frame, at_eoi, at_segment, at_fault, at_part, Reaches}
+use Rattle.jpg_spec_write.specs.CommentText.{comments_text, IsReadWhole}
 use Rattle.jpg_spec.specs.declared.frame.Limits.{Limits}
 use Rattle.jpg_base.specs.declared.stop.Stop.{Stop}
 use Rattle.jpg_base.specs.declared.stop.Stop.TheVariants as stop
 use Rattle.jpg_markers.specs.declared.segments.Phase.TheVariants as phase
 use Rattle.jpg_markers.specs.declared.segments.SegStep.TheVariants as step
-use Rattle.jpg_markers.specs.Reading.{Reading, AtPhase, StandsFor, ShowsBehind, EndsBehind, Comes}
-use Rattle.jpg_comments.specs.Begun.{IsBegun, Appends}
+use Rattle.jpg_markers.specs.Reading.{Reading, AtPhase, StandsForSegments, RevealsAfter, EndsAtEoi, Comes}
+use Rattle.jpg_comments.specs.SegmentsSoFar.{IsBegun, Appends}
 use Rattle.jpg_comments.specs.Printing.{HoldsWhole, HasPrinted, PrintsWhole, PrintsSegment, due_text, AfterPrintedByte}
 use Rattle.jpg_comments.proofs.Taken.{Tells, nothing_first, taken_on, shows_first, begun, whole_front}
 
--- WHERE A FILE IS WHOLE: at EOI, and at the end of a scan header
+-- WHERE A FILE IS COMPLETE: at EOI, and at the end of a scan header
 
 abbrev pub reads_on : Reached → Bool
 reads_on at_soi = true
@@ -33,7 +33,7 @@ abbrev pub reading_tells : (limits : Limits) → Tells limits (HoldsWhole limits
 reading_tells limits = record { goes = reads_on; faulty = λ f. refl; wholes = λ bytes w. read_wholes limits bytes w.0 w.1 }
 
 -- at the start
-pub printed_start : (limits : Limits) (r : Reading) → StandsFor [] [] r → r.limits ≡ limits → r.taken ≡ 0 → HasPrinted limits [] [] r
+pub printed_start : (limits : Limits) (r : Reading) → StandsForSegments [] [] r → r.limits ≡ limits → r.taken ≡ 0 → HasPrinted limits [] [] r
 printed_start limits r stands same none = (
   [],
   record { stands = stands; limited = same; taken = none; most = omega (arith, none); nothing = nothing_first limits (HoldsWhole limits) (reading_tells limits) refl },
@@ -43,22 +43,22 @@ printed_start limits r stands same none = (
 
 -- A BYTE
 
--- nothing is whole with it
+-- nothing is complete with it
 pub printed_on : (limits : Limits) (r next : Reading) (bytes text : List ℕ) (byte : ℕ) (x : Reached) (h : HasPrinted limits bytes text r) → r.taken < limits.input → next.limits ≡ r.limits → next.taken ≡ r.taken + 1
-    → reads_on x ≡ true → Reaches (kept_rule next.limits) (bytes ++ byte ∷ []) x → StandsFor (bytes ++ byte ∷ []) h.0 next → HasPrinted limits (bytes ++ byte ∷ []) text next
+    → reads_on x ≡ true → Reaches (kept_rule next.limits) (bytes ++ byte ∷ []) x → StandsForSegments (bytes ++ byte ∷ []) h.0 next → HasPrinted limits (bytes ++ byte ∷ []) text next
 printed_on limits r next bytes text byte x h short same one going reaches stands =
     (h.0, taken_on limits (HoldsWhole limits) (reading_tells limits) r next bytes byte h.0 h.0 x h.1 short same one going reaches stands, h.2, h.3)
 
 -- EOI
 pub printed_eoi : (limits : Limits) (r next : Reading) (bytes text : List ℕ) (byte : ℕ) (h : HasPrinted limits bytes text r) → r.taken < limits.input → next.limits ≡ r.limits
-    → EndsBehind (kept_rule next.limits) h.0 (bytes ++ byte ∷ []) → PrintsWhole limits (bytes ++ byte ∷ []) text
+    → EndsAtEoi (kept_rule next.limits) h.0 (bytes ++ byte ∷ []) → PrintsWhole limits (bytes ++ byte ∷ []) text
 printed_eoi limits r next bytes text byte h short same ends =
     let e : next.limits ≡ limits = same ∙ h.1.limited in
-    let k = subst (λ l. EndsBehind (kept_rule l) h.0 (bytes ++ byte ∷ [])) e ends in
+    let k = subst (λ l. EndsAtEoi (kept_rule l) h.0 (bytes ++ byte ∷ [])) e ends in
     let was = h.1.taken in
     (h.0, inr (k.0, k.1, k.2, k.3, h.2), h.3, omega (arith, was, short, length-append bytes (byte ∷ [])))
 
--- a fault, or want of memory
+-- a fault, or no memory
 pub printed_stop : (limits : Limits) (r next : Reading) (bytes text : List ℕ) (byte : ℕ) (e : Stop) (h : HasPrinted limits bytes text r) → r.taken < limits.input → next.limits ≡ r.limits → next.taken ≡ r.taken + 1
     → Comes (bytes ++ byte ∷ []) h.0 (Err e) next → AfterPrintedByte limits (bytes ++ byte ∷ []) text (Err e) next
 printed_stop limits r next bytes text byte (stop.Fault f) h short same one comes =
@@ -66,10 +66,10 @@ printed_stop limits r next bytes text byte (stop.Fault f) h short same one comes
     let was = h.1.taken in
     let at = comes.2 in
     let all = bytes ++ byte ∷ [] in
-    let k = subst (λ l. SegmentsShow (kept_rule l) f.fault all) e comes.0 in (
+    let k = subst (λ l. SegmentsReveal (kept_rule l) f.fault all) e comes.0 in (
       shows_first limits (HoldsWhole limits) bytes byte f.fault h.1.nothing (omega (arith, was, short)) k,
       omega (arith, at, one, was, length-append bytes (byte ∷ [])),
-      (h.0, inl (subst (λ l. ShowsBehind (kept_rule l) h.0 f.fault all) e comes.1), h.3),
+      (h.0, inl (subst (λ l. RevealsAfter (kept_rule l) h.0 f.fault all) e comes.1), h.3),
     )
 printed_stop limits r next bytes text byte stop.NoMemory h short same one comes =
     let all = comments_text h.0 in (
@@ -82,7 +82,7 @@ printed_stop limits r next bytes text byte stop.NoMemory h short same one comes 
 
 -- A SEGMENT
 
--- with the bytes of a segment that is whole
+-- with the bytes of a segment that is complete
 pub printed_whole : (limits : Limits) (r next : Reading) (bytes text old new : List ℕ) (byte : ℕ) (result : Result Bool Stop) (h : HasPrinted limits bytes text r)
     → r.taken < limits.input → next.limits ≡ r.limits → next.taken ≡ r.taken + 1 → next.phase ≡ phase.Between
     → Comes (bytes ++ byte ∷ []) h.0 (Ok step.Whole) next → PrintsSegment next.code next.contents result old new

@@ -2,7 +2,7 @@
 use Rattle.std.proofs.Common.{◌≡◌, ℕ, ◌+◌, ◌<◌, ◌≤◌, true, List, [], ◌∷◌, ◌++◌, length, take, drop, min, get_or, Ok, Err, sym, ap, ◌∙◌, subst, arith, inr, Result}
 use Rattle.std.proofs.lemmas.List.{append_assoc, take_all, take_min, take_more, take-append-drop, take-append-le}
 use Rattle.jpg_spec.specs.Markers.{kept_rule}
-use Rattle.jpg_spec.specs.CommentText.{IsReadFault}
+use Rattle.jpg_spec_write.specs.CommentText.{IsReadFault}
 use Rattle.jpg_spec.specs.declared.frame.Limits.{Limits}
 use Rattle.jpg_spec.specs.declared.fault.Fault.TheVariants.{InputTooLong}
 use Rattle.jpg_base.specs.declared.stop.Fed.{Fed}
@@ -10,13 +10,13 @@ use Rattle.jpg_base.specs.declared.stop.Fed.TheVariants as fed
 use Rattle.jpg_base.specs.declared.stop.Stop.{Stop}
 use Rattle.jpg_base.specs.declared.stop.Stop.TheVariants as stop
 use Rattle.jpg_markers.specs.Reading.{Reading, reading_of}
-use Rattle.jpg_comments.specs.Begun.{IsBegun, AreWholeBefore, Appends}
+use Rattle.jpg_comments.specs.SegmentsSoFar.{IsBegun, AreWholeBefore, Appends}
 use Rattle.jpg_comments.specs.Printing.{HoldsWhole, HasPrinted, PrintsWhole, PrintsBefore, PrintsPart, AfterPrintedByte, AfterPrintedPiece}
 use Rattle.jpg_comments.specs.ReadComments.{HasRead, AfterFeed}
 use Rattle.jpg_comments.specs.declared.comments.Comments.{Comments}
 use Rattle.jpg_comments.proofs.Taken.{whole_front, first_fault, long_fault, begun}
 
--- A PIECE, and a front of it
+-- A PIECE, and a prefix of it
 
 pub joined : (bytes piece : List ℕ) (i : ℕ) → bytes ++ piece ≡ (bytes ++ take i piece) ++ drop i piece
 joined bytes piece i = ap (λ l. bytes ++ l) (sym (take-append-drop i piece)) ∙ sym (append_assoc bytes (take i piece) (drop i piece))
@@ -27,7 +27,7 @@ one_more bytes piece i h = ap (λ l. bytes ++ l) (take_more piece i 0 h) ∙ sym
 pub all_of_it : (bytes piece : List ℕ) (i : ℕ) → length piece ≤ i → bytes ++ take i piece ≡ bytes ++ piece
 all_of_it bytes piece i h = ap (λ l. bytes ++ l) (take_all i piece h)
 
--- a front of a front
+-- a prefix of a prefix
 front_longer : (n : ℕ) (all rest : List ℕ) → take (min n (length all)) (all ++ rest) ≡ take n all
 front_longer n all rest = take-append-le (min n (length all)) all rest (omega arith) ∙ take_min n all
 
@@ -40,7 +40,7 @@ followed bytes front rest more e = ap (λ l. l ++ more) e ∙ append_assoc front
 part_longer : (limits : Limits) (all rest text : List ℕ) → PrintsPart limits all text → PrintsPart limits (all ++ rest) text
 part_longer limits all rest text h = (h.0, min h.1 (length all), h.2, subst (λ l. IsBegun (kept_rule limits) l h.2) (sym (front_longer h.1 all rest)) h.3, h.4)
 
--- a fault at the last of some bytes, or want of memory
+-- a fault at the last of some bytes, or no memory
 stopped_longer : (limits : Limits) (bytes piece all rest text : List ℕ) (e : Stop) (r next : Reading) → bytes ++ piece ≡ all ++ rest → AfterPrintedByte limits all text (Err e) r → AfterPrintedPiece limits bytes piece text (Err e) next
 stopped_longer limits bytes piece all rest text (stop.Fault f) r next cut h =
     let n = h.1 in
@@ -71,21 +71,21 @@ piece_long limits bytes piece text i most r next same many h =
       (h.0, subst (λ l. AreWholeBefore limits l InputTooLong h.0) (sym is) (inr (begun limits r front h.0 h.1.limited h.1.stands)), h.3),
     )
 
--- a whole file
+-- a complete file
 pub piece_whole : (limits : Limits) (bytes piece text : List ℕ) (i used : ℕ) (r next : Reading) → i < length piece → used ≡ i + 1
     → AfterPrintedByte limits ((bytes ++ take i piece) ++ get_or piece i 0 ∷ []) text (Ok true) r → AfterPrintedPiece limits bytes piece text (Ok (fed.Done used)) next
 piece_whole limits bytes piece text i used r next less same h =
     let is : bytes ++ take used piece ≡ (bytes ++ take i piece) ++ get_or piece i 0 ∷ [] = ap (λ n. bytes ++ take n piece) same ∙ one_more bytes piece i less in
     (subst (λ l. PrintsWhole limits l text) (sym is) h, omega (arith, same), omega (arith, same, less))
 
--- more is wanted
+-- more is needed
 pub piece_more : (limits : Limits) (bytes piece text : List ℕ) (i : ℕ) (r : Reading) → length piece ≤ i → r.taken < limits.input → HasPrinted limits (bytes ++ take i piece) text r → AfterPrintedPiece limits bytes piece text (Ok fed.More) r
 piece_more limits bytes piece text i r end short h =
     let k = subst (λ l. HasPrinted limits l text r) (all_of_it bytes piece i end) h in
     let taken = k.1.taken in
     (k, omega (arith, taken, short))
 
--- BY THE WHOLE STATE
+-- BY THE COMPLETE STATE
 
 -- what the reader's part of a state answers to a piece
 abbrev Answered : Comments → Reading → List ℕ → List ℕ → List ℕ → List ℕ → List ℕ → Result Fed Stop → Type 0

@@ -5,9 +5,9 @@ use Rattle.std.specs.Int.{to_be_bytes, w16}
 use Rattle.std.proofs.lemmas.Grind.{flat_map-append}
 use Rattle.std.proofs.lemmas.List.{append_assoc, append-nil, length-append, reverse-append}
 use Rattle.std.proofs.lemmas.List.Elements.{filter-append}
-use Rattle.jpg_spec.specs.FileText.{segment_text}
-use Rattle.jpg_spec.specs.Markers.{Segment, Rule, kept_rule, soi, has_frame, is_frame_code, code_fault_if, SpellsSegments, Pass, Between, PartOfSegment, SegmentsShow, Reached, at_soi, at_frame, at_eoi, at_segment, at_fault, at_part, Reaches}
-use Rattle.jpg_spec.specs.CommentText.{ShowsNothing, IsFileFront}
+use Rattle.jpg_spec_write.specs.FileText.{segment_text}
+use Rattle.jpg_spec.specs.Markers.{Segment, Rule, kept_rule, soi, has_frame, is_frame_code, code_fault_if, SpellsSegments, Pass, Between, PartOfSegment, SegmentsReveal, Reached, at_soi, at_frame, at_eoi, at_segment, at_fault, at_part, Reaches}
+use Rattle.jpg_spec_write.specs.CommentText.{RevealsNothing, IsFileFront}
 use Rattle.jpg_spec.specs.declared.frame.Limits.{Limits}
 use Rattle.jpg_spec.specs.declared.fault.Fault.TheVariants.{UnexpectedMarker}
 use Rattle.jpg_spec.proofs.Reached.{reached_once}
@@ -17,11 +17,11 @@ use Rattle.jpg_base.specs.declared.stop.Stop.TheVariants as stop
 use Rattle.jpg_markers.specs.declared.segments.Phase.{Phase}
 use Rattle.jpg_markers.specs.declared.segments.Phase.TheVariants as phase
 use Rattle.jpg_markers.specs.declared.segments.SegStep.TheVariants as step
-use Rattle.jpg_markers.specs.Reading.{Reading, AtPhase, StandsFor, EndsBehind, Comes}
+use Rattle.jpg_markers.specs.Reading.{Reading, AtPhase, StandsForSegments, EndsAtEoi, Comes}
 use Rattle.jpg_comments.specs.Inserting.{HoldsHead, copied_head, copied_segment, HasKept, IsAtFrame, AfterHeadByte}
 use Rattle.jpg_comments.proofs.Taken.{Tells, nothing_first, taken_on, shows_first, whole_front}
 
--- WHERE A HEAD IS WHOLE: at the marker of the frame header
+-- WHERE A HEAD IS COMPLETE: at the marker of the frame header
 
 abbrev pub heads_on : Reached → Bool
 heads_on at_soi = true
@@ -35,7 +35,7 @@ abbrev pub head_tells : (limits : Limits) → Tells limits (HoldsHead limits)
 head_tells limits = record { goes = heads_on; faulty = λ f. refl; wholes = λ bytes w. (at_frame, (w.1.0, w.1.1.0, w.1.1.1, (w.0, w.1.1.2, w.1.1.3)), refl) }
 
 -- at the start
-pub kept_start : (limits : Limits) (replace : Bool) (r : Reading) → StandsFor [] [] r → r.limits ≡ limits → r.taken ≡ 0 → HasKept limits replace [] (255 ∷ 0xd8 ∷ []) r
+pub kept_start : (limits : Limits) (replace : Bool) (r : Reading) → StandsForSegments [] [] r → r.limits ≡ limits → r.taken ≡ 0 → HasKept limits replace [] (255 ∷ 0xd8 ∷ []) r
 kept_start limits replace r stands same none = (
   [],
   record { stands = stands; limited = same; taken = none; most = omega (arith, none); nothing = nothing_first limits (HoldsHead limits) (head_tells limits) refl },
@@ -49,25 +49,25 @@ kept_start limits replace r stands same none = (
 
 -- A BYTE
 
--- nothing is whole with it
+-- nothing is complete with it
 pub kept_on : (limits : Limits) (replace : Bool) (r next : Reading) (bytes head : List ℕ) (byte : ℕ) (x : Reached) (h : HasKept limits replace bytes head r) → r.taken < limits.input → next.limits ≡ r.limits → next.taken ≡ r.taken + 1
-    → heads_on x ≡ true → Reaches (kept_rule next.limits) (bytes ++ byte ∷ []) x → StandsFor (bytes ++ byte ∷ []) h.0 next → HasKept limits replace (bytes ++ byte ∷ []) head next
+    → heads_on x ≡ true → Reaches (kept_rule next.limits) (bytes ++ byte ∷ []) x → StandsForSegments (bytes ++ byte ∷ []) h.0 next → HasKept limits replace (bytes ++ byte ∷ []) head next
 kept_on limits replace r next bytes head byte x h short same one going reaches stands =
     (h.0, taken_on limits (HoldsHead limits) (head_tells limits) r next bytes byte h.0 h.0 x h.1 short same one going reaches stands, h.2, h.3)
 
--- a fault, or want of memory
+-- a fault, or no memory
 pub kept_stop : (limits : Limits) (replace : Bool) (r next : Reading) (bytes head new : List ℕ) (byte : ℕ) (e : Stop) (h : HasKept limits replace bytes head r) → r.taken < limits.input → next.limits ≡ r.limits → next.taken ≡ r.taken + 1
     → Comes (bytes ++ byte ∷ []) h.0 (Err e) next → AfterHeadByte limits replace (bytes ++ byte ∷ []) (Err e) new next
 kept_stop limits replace r next bytes head new byte (stop.Fault f) h short same one comes =
     let was = h.1.taken in
     let at = comes.2 in (
-      shows_first limits (HoldsHead limits) bytes byte f.fault h.1.nothing (omega (arith, was, short)) (subst (λ l. SegmentsShow (kept_rule l) f.fault (bytes ++ byte ∷ [])) (same ∙ h.1.limited) comes.0),
+      shows_first limits (HoldsHead limits) bytes byte f.fault h.1.nothing (omega (arith, was, short)) (subst (λ l. SegmentsReveal (kept_rule l) f.fault (bytes ++ byte ∷ [])) (same ∙ h.1.limited) comes.0),
       omega (arith, at, one, was, length-append bytes (byte ∷ [])),
     )
 kept_stop limits replace r next bytes head new byte stop.NoMemory h short same one comes = tt
 
--- EOI may not stand before the frame
-pub kept_eoi : (limits : Limits) (replace : Bool) (r next : Reading) (bytes all head : List ℕ) (h : HasKept limits replace bytes head r) → EndsBehind (kept_rule next.limits) h.0 all → ⊥
+-- EOI isn't allowed before the frame
+pub kept_eoi : (limits : Limits) (replace : Bool) (r next : Reading) (bytes all head : List ℕ) (h : HasKept limits replace bytes head r) → EndsAtEoi (kept_rule next.limits) h.0 all → ⊥
 kept_eoi limits replace r next bytes all head h ends = no_some (ap (λ b. code_fault_if b 0xd9) (sym h.2) ∙ ends.3)
   where
     no_some : Some UnexpectedMarker ≡ None → ⊥
@@ -75,7 +75,7 @@ kept_eoi limits replace r next bytes all head h ends = no_some (ap (λ b. code_f
 
 -- THE FRAME HEADER'S MARKER
 
--- whole segments aren't it
+-- complete segments aren't it
 no_frame_whole : (rule : Rule) (bytes front : List ℕ) (before : List Segment) → bytes ≡ front → SpellsSegments before front → Pass rule before → Reaches rule bytes at_frame → ⊥
 no_frame_whole rule bytes front [] e s p reaches = clash true refl (ap heads_on (reached_once rule bytes at_soi at_frame (e ∙ s) reaches))
 no_frame_whole rule bytes front (x ∷ before) e s p reaches =
@@ -126,8 +126,8 @@ kept_frame limits replace r next bytes head byte h short same one comes =
 
 -- A SEGMENT
 
--- a segment that isn't a frame header, where no front is a head
-no_header : (limits : Limits) (bytes : List ℕ) (before : List Segment) (code : ℕ) (contents : List ℕ) → ShowsNothing limits (HoldsHead limits) bytes → SpellsSegments ((code, contents) ∷ before) bytes → Pass (kept_rule limits) ((code, contents) ∷ before)
+-- a segment that isn't a frame header, if no prefix is a head
+no_header : (limits : Limits) (bytes : List ℕ) (before : List Segment) (code : ℕ) (contents : List ℕ) → RevealsNothing limits (HoldsHead limits) bytes → SpellsSegments ((code, contents) ∷ before) bytes → Pass (kept_rule limits) ((code, contents) ∷ before)
     → is_frame_code code ≡ false
 no_header limits bytes before code contents nothing s p = by (is_frame_code code) refl
   where
@@ -155,7 +155,7 @@ no_header limits bytes before code contents nothing s p = by (is_frame_code code
         let between : Between (kept_rule limits) front before marker = record { front = s.0; cut = refl; spelled = s.3; passed = p.2 } in
         absurd ((nothing (length front) shorter).1 (subst (λ l. HoldsHead limits l) (sym is) (code, (before, (marker, between, (s.4.1, p.0, s.5), e)))))
 
--- what is kept with one segment more
+-- what is kept with one more segment
 kept_more : (replace : Bool) (code : ℕ) (contents : List ℕ) (before : List Segment) → copied_head replace ((code, contents) ∷ before) ≡ copied_head replace before ++ copied_segment replace code contents
 kept_more replace code contents before = by replace
   where
@@ -185,7 +185,7 @@ kept_more replace code contents before = by replace
         (ap (flat_map text) turned ∙ flat_map-append text (reverse before) (new ∷ []) ∙ ap (λ l. flat_map text (reverse before) ++ l) (append-nil (segment_text code contents)))
 
 -- the segment's spelling
-whole_at : (r : Reading) (bytes : List ℕ) (before : List Segment) → r.phase ≡ phase.Between → StandsFor bytes before r → SpellsSegments before bytes × Pass (kept_rule r.limits) before
+whole_at : (r : Reading) (bytes : List ℕ) (before : List Segment) → r.phase ≡ phase.Between → StandsForSegments bytes before r → SpellsSegments before bytes × Pass (kept_rule r.limits) before
 whole_at r bytes before between s =
     let at = subst (λ p. AtPhase r p bytes before) between s.1 in
     (subst (λ l. SpellsSegments before l) (sym (at.1.cut ∙ ap (λ t. at.1.front ++ t) at.3 ∙ append-nil at.1.front)) at.1.spelled, at.1.passed)

@@ -1,24 +1,24 @@
--- The head of a file that gets a comment, piece by piece, and what is written behind it.
+-- The head of a file that gets a comment, piece by piece, and what is written after it.
 use Rattle.std.proofs.Common.{◌≡◌, ℕ, ◌+◌, ◌-◌, ◌<◌, ◌≤◌, Bool, true, List, [], ◌∷◌, ◌++◌, length, take, drop, get_or, Some, None, Ok, Err, refl, sym, ap, ◌∙◌, subst, arith, inr, Result}
 use Rattle.std.proofs.lemmas.List.{append_assoc, append-nil, length-append, length-take-le, take_all, take-append-drop, take-append-le}
 use Rattle.std.proofs.Math.Seq.{take-append-add}
-use Rattle.jpg_spec.specs.CommentText.{IsHeadFault, IsInsertFault, IsInserted, inserted_head, comment_segment, IsFileFront}
+use Rattle.jpg_spec_write.specs.CommentText.{IsHeadFault, IsInsertFault, IsInserted, inserted_head, comment_segment, IsFileFront}
 use Rattle.jpg_spec.specs.declared.frame.Limits.{Limits}
-use Rattle.jpg_spec.specs.declared.answers.FaultAt.{FaultAt}
+use Rattle.jpg_spec.specs.declared.fault.FaultAt.{FaultAt}
 use Rattle.jpg_spec.specs.declared.fault.Fault.TheVariants.{InputTooLong}
 use Rattle.jpg_base.specs.declared.names.NoMemory.{NoMemory}
 use Rattle.jpg_base.specs.declared.stop.Stop.{Stop}
 use Rattle.jpg_base.specs.declared.stop.Stop.TheVariants as stop
 use Rattle.jpg_markers.specs.Reading.{Reading}
 use Rattle.jpg_comments.specs.Appending.{AppendsText}
-use Rattle.jpg_comments.specs.Begun.{Appends}
+use Rattle.jpg_comments.specs.SegmentsSoFar.{Appends}
 use Rattle.jpg_comments.specs.Inserting.{HoldsHead, copied_head, HasKept, IsAtFrame, AfterHeadByte, AfterHeadPiece, CopiesRest, InsertsPart, InsertsUpTo}
 use Rattle.jpg_comments.proofs.Taken.{whole_front, first_fault, long_fault}
 use Rattle.jpg_comments.proofs.ByPiece.{joined, one_more, all_of_it, followed}
 
 -- UP TO THE MARKER
 
--- a fault at a byte, or want of memory
+-- a fault at a byte, or no memory
 pub head_stopped : (limits : Limits) (replace : Bool) (bytes piece head new : List ℕ) (i : ℕ) (e : Stop) (r next : Reading) → i < length piece
     → AfterHeadByte limits replace ((bytes ++ take i piece) ++ get_or piece i 0 ∷ []) (Err e) head r → AfterHeadPiece limits replace bytes piece (Err e) new next
 head_stopped limits replace bytes piece head new i (stop.Fault f) r next less h =
@@ -50,7 +50,7 @@ head_there limits replace bytes piece head i used r less same h =
     let is : bytes ++ take used piece ≡ (bytes ++ take i piece) ++ get_or piece i 0 ∷ [] = ap (λ n. bytes ++ take n piece) same ∙ one_more bytes piece i less in
     (subst (λ l. IsAtFrame limits replace l head r) (sym is) h, omega (arith, same, less))
 
--- more is wanted
+-- more is needed
 pub head_more : (limits : Limits) (replace : Bool) (bytes piece head : List ℕ) (i : ℕ) (r : Reading) → length piece ≤ i → r.taken < limits.input → HasKept limits replace (bytes ++ take i piece) head r
     → AfterHeadPiece limits replace bytes piece (Ok None) head r
 head_more limits replace bytes piece head i r end short h =
@@ -58,9 +58,9 @@ head_more limits replace bytes piece head i r end short h =
     let taken = k.1.taken in
     (k, omega (arith, taken, short))
 
--- BEHIND IT
+-- AFTER IT
 
--- more bytes are written as they come
+-- more bytes are written as they arrive
 pub inserted_more : (limits : Limits) (comment : List ℕ) (replace : Bool) (bytes text more : List ℕ) → IsInserted limits bytes comment replace text → IsInserted limits (bytes ++ more) comment replace (text ++ more)
 inserted_more limits comment replace bytes text more h = (
   h.0,
@@ -83,7 +83,7 @@ long_inserted limits comment replace bytes text long h =
     ∙ ap (take n) (append_assoc h.2 h.3 (drop (limits.input) bytes)) ∙ whole_front h.2 (h.3 ++ drop (limits.input) bytes) in
     inr (refl, refl, long, (h.1, h.0, n, fits, subst (λ l. IsFileFront limits l h.0 h.1) (sym is) h.5))
 
--- and more bytes behind them
+-- and more bytes after them
 long_anyhow : (limits : Limits) (comment : List ℕ) (replace : Bool) (bytes text : List ℕ) (f : FaultAt) → f.fault ≡ InputTooLong → f.at ≡ limits.input → limits.input ≤ length bytes → IsInserted limits (take (limits.input) bytes) comment replace text
     → (more : List ℕ) → IsInsertFault limits (bytes ++ more) f.fault (f.at)
 long_anyhow limits comment replace bytes text f is at long h = λ more.
@@ -133,7 +133,7 @@ head_inserted limits comment replace bytes head segment r same h = (
   ap (λ l. l ++ segment ++ 255 ∷ r.code ∷ []) h.2 ∙ ap (λ l. copied_head replace h.0 ++ l ++ 255 ∷ r.code ∷ []) same ∙ sym (append-nil (inserted_head comment replace h.0 r.code)),
 )
 
--- where memory is wanting, a first part of it was written
+-- if there is no memory, a first part of it was written
 pub head_part : (limits : Limits) (comment : List ℕ) (replace : Bool) (bytes rest whole old new : List ℕ) (e : NoMemory) → IsInserted limits bytes comment replace whole → AppendsText whole (Err e) old new
     → Appends (λ all. InsertsPart limits comment replace (bytes ++ rest) all) [] old new
 head_part limits comment replace bytes rest whole old new e h part =

@@ -1,13 +1,13 @@
 -- A file with a comment inserted, piece by piece.
 use Rattle.std.proofs.Common.{◌≡◌, ℕ, ◌<◌, ◌≤◌, Bool, List, [], ◌++◌, length, take, drop, Option, Some, None, Ok, Err, refl, sym, ◌∙◌, subst, arith, inl, Result}
-use Rattle.jpg_spec.specs.CommentText.{IsInserted, comment_segment}
+use Rattle.jpg_spec_write.specs.CommentText.{IsInserted, comment_segment}
 use Rattle.jpg_spec.specs.declared.frame.Limits.{Limits}
 use Rattle.jpg_base.specs.declared.names.NoMemory.{NoMemory}
 use Rattle.jpg_base.specs.declared.stop.Stop.{Stop}
 use Rattle.jpg_base.specs.declared.stop.Stop.TheVariants as stop
 use Rattle.jpg_markers.specs.Reading.{Reading, reading_of}
 use Rattle.jpg_comments.specs.Appending.{AppendsText}
-use Rattle.jpg_comments.specs.Begun.{Appends}
+use Rattle.jpg_comments.specs.SegmentsSoFar.{Appends}
 use Rattle.jpg_comments.specs.Inserting.{HasKept, AfterHeadPiece, CopiesRest, InsertsUpTo}
 use Rattle.jpg_comments.specs.WriteInserted.{StandsAt, HasInserted}
 use Rattle.jpg_comments.specs.declared.insert.Insert.{Insert}
@@ -15,7 +15,7 @@ use Rattle.jpg_comments.proofs.Taken.{appends_then}
 use Rattle.jpg_comments.proofs.ByPiece.{joined}
 use Rattle.jpg_comments.proofs.HeadByPieces.{AfterCopy, copied, whole_head, head_inserted, head_part}
 
--- where a state of these parts stands
+-- the invariant of a state, by its parts
 abbrev pub StandsWith : Limits → List ℕ → Bool → Option Stop → List ℕ → List ℕ → List ℕ → Option ℕ → List ℕ → Reading → Type 0
 StandsWith limits comment replace stop segment bytes text taken head r =
     (stop ≡ None) × (length bytes < limits.input) × (segment ≡ comment_segment comment) × StandsAt limits comment replace bytes text taken head r
@@ -33,27 +33,27 @@ by_limits c bytes piece new result next h answered =
     let same = h.1.limited in
     subst (λ l. AfterHeadPiece l c.replace bytes piece result new next) same (answered (subst (λ l. HasKept l c.replace bytes c.head (reading_of c.reader)) (sym same) h))
 
--- a fault there, or want of memory
+-- a fault there, or no memory
 pub stops_before : (limits : Limits) (comment : List ℕ) (replace : Bool) (bytes piece text new : List ℕ) (e : Stop) (next : Reading) → text ≡ [] → AfterHeadPiece limits replace bytes piece (Err e) new next
     → InsertsUpTo limits comment replace (bytes ++ piece) text e
 stops_before limits comment replace bytes piece text new (stop.Fault f) next none h = (λ rest. inl (h rest), inl (none, h))
 stops_before limits comment replace bytes piece text new stop.NoMemory next none h = inl none
 
--- more is wanted
+-- more is needed
 pub goes_on_before : (comment bytes piece text head : List ℕ) (c : Insert) (next : Reading) → c.taken ≡ None → HasInserted comment bytes text c → AfterHeadPiece c.limits c.replace bytes piece (Ok None) head next
     → StandsWith c.limits comment c.replace c.stop c.segment (bytes ++ piece) text c.taken head next
 goes_on_before comment bytes piece text head c next none h after =
     let k = kept_of comment bytes text c none h in
     (h.0, after.1, h.2, subst (λ o. StandsAt c.limits comment c.replace (bytes ++ piece) text o head next) (sym none) (after.0, k.1))
 
--- BEHIND IT
+-- AFTER IT
 
 -- a head that is there
 pub head_at : (limits : Limits) (comment : List ℕ) (replace : Bool) (bytes piece head segment : List ℕ) (used : ℕ) (r : Reading) → segment ≡ comment_segment comment → AfterHeadPiece limits replace bytes piece (Ok (Some used)) head r
     → IsInserted limits (bytes ++ take used piece) comment replace (whole_head head segment r.code)
 head_at limits comment replace bytes piece head segment used r same h = head_inserted limits comment replace (bytes ++ take used piece) head segment r same h.0
 
--- where memory is wanting for it
+-- if there is no memory for it
 pub stops_at_head : (limits : Limits) (comment : List ℕ) (replace : Bool) (bytes piece text whole old new : List ℕ) (used : ℕ) (e : NoMemory) → text ≡ [] → IsInserted limits (bytes ++ take used piece) comment replace whole → AppendsText whole (Err e) old new
     → Appends (λ all. InsertsUpTo limits comment replace (bytes ++ piece) all stop.NoMemory) text old new
 stops_at_head limits comment replace bytes piece text whole old new used e none h part =
@@ -61,7 +61,7 @@ stops_at_head limits comment replace bytes piece text whole old new used e none 
     subst (λ t. Appends (λ all. InsertsUpTo limits comment replace (bytes ++ piece) all stop.NoMemory) t old new) (sym none)
     (subst (λ l. Appends (λ all. InsertsUpTo limits comment replace l all stop.NoMemory) [] old new) (sym (joined bytes piece used)) k)
 
--- the bytes behind it
+-- the bytes after it
 pub copies_rest : (limits : Limits) (comment : List ℕ) (replace : Bool) (bytes piece text head segment old mid new : List ℕ) (used taken most : ℕ) (r : Reading) (result : Result ℕ Stop) → limits.input ≡ most → text ≡ [] → segment ≡ comment_segment comment
     → AfterHeadPiece limits replace bytes piece (Ok (Some used)) head r → mid ≡ old ++ whole_head head segment r.code → taken ≡ r.taken → CopiesRest taken most (drop used piece) result mid new
     → Appends (λ all. AfterCopy limits comment replace (bytes ++ piece) all result) text old new
@@ -74,7 +74,7 @@ copies_rest limits comment replace bytes piece text head segment old mid new use
     let all = subst (λ l. Appends (λ t. AfterCopy limits comment replace l t result) whole mid new) (sym (joined bytes piece used)) more in
     subst (λ t. Appends Q t old new) (sym none) (appends_then (λ t. t ≡ whole) Q [] old mid new (whole, wrote, refl) (λ t e. subst (λ u. Appends Q u mid new) (sym e) all))
 
--- the bytes behind one that was there before
+-- the bytes after one that was there before
 pub copies_more : (comment bytes piece text old new : List ℕ) (taken most : ℕ) (c : Insert) (result : Result ℕ Stop) → c.limits.input ≡ most → c.taken ≡ Some taken → HasInserted comment bytes text c → CopiesRest taken most piece result old new
     → Appends (λ all. AfterCopy c.limits comment c.replace (bytes ++ piece) all result) text old new
 copies_more comment bytes piece text old new taken most c result same some h copies =
@@ -84,7 +84,7 @@ copies_more comment bytes piece text old new taken most c result same some h cop
     less : (m n : ℕ) → m < n → m ≤ n
     less m n l = omega (arith, l)
 
--- more is wanted
-pub goes_on_behind : (comment bytes piece text head : List ℕ) (taken : ℕ) (c : Insert) (next : Reading) → c.stop ≡ None → c.segment ≡ comment_segment comment → AfterCopy c.limits comment c.replace (bytes ++ piece) text (Ok taken)
+-- more is needed
+pub goes_on_after : (comment bytes piece text head : List ℕ) (taken : ℕ) (c : Insert) (next : Reading) → c.stop ≡ None → c.segment ≡ comment_segment comment → AfterCopy c.limits comment c.replace (bytes ++ piece) text (Ok taken)
     → StandsWith c.limits comment c.replace c.stop c.segment (bytes ++ piece) text (Some taken) head next
-goes_on_behind comment bytes piece text head taken c next stop segment h = (stop, h.1, segment, (h.0, h.2))
+goes_on_after comment bytes piece text head taken c next stop segment h = (stop, h.1, segment, (h.0, h.2))

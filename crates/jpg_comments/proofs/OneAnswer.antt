@@ -1,8 +1,8 @@
--- Where a front of the bytes is whole they have no fault of marker segments, and else one at most.
+-- If a prefix of the bytes is complete, they have no fault of marker segments, and otherwise at most one.
 use Rattle.std.proofs.Common.{◌≡◌, ℕ, ◌<◌, ◌≤◌, List, length, take, sym, ◌∙◌, subst, arith, inl, inr, ◌⊎◌}
 use Rattle.std.proofs.lemmas.List.{length-take-le}
-use Rattle.jpg_spec.specs.Markers.{Segment, kept_rule, SegmentsShow, IsLeast, Reached, at_frame, at_eoi, at_segment, at_fault, Reaches}
-use Rattle.jpg_spec.specs.CommentText.{IsReadWhole, IsInsertFault, ShowsNothing, IsMarkerFault}
+use Rattle.jpg_spec.specs.Markers.{Segment, kept_rule, SegmentsReveal, IsLeast, Reached, at_frame, at_eoi, at_segment, at_fault, Reaches}
+use Rattle.jpg_spec_write.specs.CommentText.{IsReadWhole, IsInsertFault, RevealsNothing, IsMarkerFault}
 use Rattle.jpg_spec.specs.declared.fault.Fault.{Fault}
 use Rattle.jpg_spec.specs.declared.fault.Fault.TheVariants.{Truncated, InputTooLong}
 use Rattle.jpg_spec.specs.declared.frame.Limits.{Limits}
@@ -12,7 +12,7 @@ use Rattle.jpg_comments.specs.Printing.{HoldsWhole}
 use Rattle.jpg_comments.specs.Inserting.{HoldsHead}
 use Rattle.jpg_comments.proofs.Taken.{upto}
 
--- Whole bytes come to something that is no fault.
+-- Complete bytes give a result that is no fault.
 abbrev pub IsSound : Limits → (List ℕ → Type 0) → Type 0
 IsSound limits is_whole = (bytes : List ℕ) → is_whole bytes → (y : Reached) × Reaches (kept_rule limits) bytes y × ((f : Fault) → y ≡ at_fault f → ⊥)
 
@@ -26,11 +26,11 @@ reading_sound limits = λ bytes w. by bytes w.0 w.1
 pub heads_sound : (limits : Limits) → IsSound limits (HoldsHead limits)
 heads_sound limits = λ bytes w. (at_frame, (w.1.0, w.1.1.0, w.1.1.1, (w.0, w.1.1.2, w.1.1.3)), λ f e. (let z : ⊥ = cc in z))
 
--- A WHOLE FRONT
+-- A COMPLETE PREFIX
 
--- whole bytes show no fault, nor does a front of them
-no_front_shows : (limits : Limits) (is_whole : List ℕ → Type 0) → IsSound limits is_whole → (bytes : List ℕ) (n m : ℕ) (f : Fault) → m ≤ n → n ≤ length bytes → is_whole (take n bytes) → SegmentsShow (kept_rule limits) f (take m bytes) → ⊥
-no_front_shows limits is_whole sound bytes n m f less long w s = by (upto n m)
+-- complete bytes have no fault, nor does a prefix of them
+no_front_reveals : (limits : Limits) (is_whole : List ℕ → Type 0) → IsSound limits is_whole → (bytes : List ℕ) (n m : ℕ) (f : Fault) → m ≤ n → n ≤ length bytes → is_whole (take n bytes) → SegmentsReveal (kept_rule limits) f (take m bytes) → ⊥
+no_front_reveals limits is_whole sound bytes n m f less long w s = by (upto n m)
   where
     all : List ℕ
     all = take n bytes
@@ -41,18 +41,18 @@ no_front_shows limits is_whole sound bytes n m f less long w s = by (upto n m)
     by : (n ≤ m) ⊎ (m < n) → ⊥
     by (inl h) =
         let same : m ≡ n = omega (arith, h, less) in
-        y.2 f (reached_once (kept_rule limits) all y.0 (at_fault f) y.1 (subst (λ k. SegmentsShow (kept_rule limits) f (take k bytes)) same s))
-    by (inr h) = fronts_clean (kept_rule limits) all y.0 f m y.1 (omega (arith, h, length-take-le n bytes long)) (subst (λ l. SegmentsShow (kept_rule limits) f l) (sym (take_shorter m n bytes less)) s)
+        y.2 f (reached_once (kept_rule limits) all y.0 (at_fault f) y.1 (subst (λ k. SegmentsReveal (kept_rule limits) f (take k bytes)) same s))
+    by (inr h) = fronts_clean (kept_rule limits) all y.0 f m y.1 (omega (arith, h, length-take-le n bytes long)) (subst (λ l. SegmentsReveal (kept_rule limits) f l) (sym (take_shorter m n bytes less)) s)
 
--- where a front is whole there is no fault
+-- if a prefix is complete there is no fault
 pub whole_no_fault : (limits : Limits) (is_whole : List ℕ → Type 0) → IsSound limits is_whole → (bytes : List ℕ) (n at : ℕ) (f : Fault) → n ≤ length bytes → n ≤ limits.input → is_whole (take n bytes) → IsMarkerFault limits is_whole bytes f at → ⊥
 whole_no_fault limits is_whole sound bytes n at f long most w h = by (upto at n) h.1
   where
-    by : (at ≤ n) ⊎ (n < at) → ((at ≤ limits.input) × IsLeast (SegmentsShow (kept_rule limits)) bytes f at)
-        ⊎ (((f ≡ InputTooLong) × (at ≡ limits.input) × (limits.input ≤ length bytes) × ShowsNothing limits is_whole (take at bytes))
-        ⊎ ((f ≡ Truncated) × (at ≡ length bytes) × (length bytes < limits.input) × ShowsNothing limits is_whole bytes)) → ⊥
+    by : (at ≤ n) ⊎ (n < at) → ((at ≤ limits.input) × IsLeast (SegmentsReveal (kept_rule limits)) bytes f at)
+        ⊎ (((f ≡ InputTooLong) × (at ≡ limits.input) × (limits.input ≤ length bytes) × RevealsNothing limits is_whole (take at bytes))
+        ⊎ ((f ≡ Truncated) × (at ≡ length bytes) × (length bytes < limits.input) × RevealsNothing limits is_whole bytes)) → ⊥
     by (inr less) k = h.0 n less w
-    by (inl less) (inl k) = no_front_shows limits is_whole sound bytes n at f less long w k.1.1
+    by (inl less) (inl k) = no_front_reveals limits is_whole sound bytes n at f less long w k.1.1
     by (inl less) (inr (inl k)) =
         let is = k.1 in let fits = k.2 in
         (k.3 n (omega (arith, is, most, fits, length-take-le at bytes (omega (arith, is, fits))))).1 (subst is_whole (sym (take_shorter n at bytes (omega (arith, is, most)))) w)
@@ -62,16 +62,16 @@ whole_no_fault limits is_whole sound bytes n at f long most w h = by (upto at n)
 
 abbrev Alternatives : Limits → (List ℕ → Type 0) → List ℕ → Fault → ℕ → Type 0
 Alternatives limits is_whole bytes f n =
-    ((n ≤ limits.input) × IsLeast (SegmentsShow (kept_rule limits)) bytes f n)
-    ⊎ (((f ≡ InputTooLong) × (n ≡ limits.input) × (limits.input ≤ length bytes) × ShowsNothing limits is_whole (take n bytes))
-    ⊎ ((f ≡ Truncated) × (n ≡ length bytes) × (length bytes < limits.input) × ShowsNothing limits is_whole bytes))
+    ((n ≤ limits.input) × IsLeast (SegmentsReveal (kept_rule limits)) bytes f n)
+    ⊎ (((f ≡ InputTooLong) × (n ≡ limits.input) × (limits.input ≤ length bytes) × RevealsNothing limits is_whole (take n bytes))
+    ⊎ ((f ≡ Truncated) × (n ≡ length bytes) × (length bytes < limits.input) × RevealsNothing limits is_whole bytes))
 
--- a shown fault, where nothing is shown
-shown_nothing : (limits : Limits) (is_whole : List ℕ → Type 0) (bytes : List ℕ) (f : Fault) (n : ℕ) → n ≤ limits.input → IsLeast (SegmentsShow (kept_rule limits)) bytes f n → (limits.input ≤ length bytes) → ShowsNothing limits is_whole (take (limits.input) bytes) → ⊥
+-- a fault contradicts that there is none
+shown_nothing : (limits : Limits) (is_whole : List ℕ → Type 0) (bytes : List ℕ) (f : Fault) (n : ℕ) → n ≤ limits.input → IsLeast (SegmentsReveal (kept_rule limits)) bytes f n → (limits.input ≤ length bytes) → RevealsNothing limits is_whole (take (limits.input) bytes) → ⊥
 shown_nothing limits is_whole bytes f n most least long nothing =
-    (nothing n (omega (arith, most, length-take-le (limits.input) bytes long))).0 f (subst (λ l. SegmentsShow (kept_rule limits) f l) (sym (take_shorter n (limits.input) bytes most)) least.1)
+    (nothing n (omega (arith, most, length-take-le (limits.input) bytes long))).0 f (subst (λ l. SegmentsReveal (kept_rule limits) f l) (sym (take_shorter n (limits.input) bytes most)) least.1)
 
-two_least : (limits : Limits) (bytes : List ℕ) (f g : Fault) (n m : ℕ) → IsLeast (SegmentsShow (kept_rule limits)) bytes f n → IsLeast (SegmentsShow (kept_rule limits)) bytes g m → (f ≡ g) × (n ≡ m)
+two_least : (limits : Limits) (bytes : List ℕ) (f g : Fault) (n m : ℕ) → IsLeast (SegmentsReveal (kept_rule limits)) bytes f n → IsLeast (SegmentsReveal (kept_rule limits)) bytes g m → (f ≡ g) × (n ≡ m)
 two_least limits bytes f g n m a b = by (upto n m) (upto m n)
   where
     by : (n ≤ m) ⊎ (m < n) → (m ≤ n) ⊎ (n < m) → (f ≡ g) × (n ≡ m)
@@ -79,16 +79,16 @@ two_least limits bytes f g n m a b = by (upto n m) (upto m n)
     by (inl h) (inr less) = absurd (b.2 f n less a.1)
     by (inl h) (inl k) =
         let same : n ≡ m = omega (arith, h, k) in
-        (fault_once (kept_rule limits) (take m bytes) f g (subst (λ k. SegmentsShow (kept_rule limits) f (take k bytes)) same a.1) b.1, same)
+        (fault_once (kept_rule limits) (take m bytes) f g (subst (λ k. SegmentsReveal (kept_rule limits) f (take k bytes)) same a.1) b.1, same)
 
 pub one_fault : (limits : Limits) (is_whole : List ℕ → Type 0) (bytes : List ℕ) (f g : Fault) (n m : ℕ) → IsMarkerFault limits is_whole bytes f n → IsMarkerFault limits is_whole bytes g m → (f ≡ g) × (n ≡ m)
 one_fault limits is_whole bytes f g n m a b = by a.1 b.1
   where
     by : Alternatives limits is_whole bytes f n → Alternatives limits is_whole bytes g m → (f ≡ g) × (n ≡ m)
     by (inl x) (inl y) = two_least limits bytes f g n m x.1 y.1
-    by (inl x) (inr (inl y)) = absurd (shown_nothing limits is_whole bytes f n x.0 x.1 y.2 (subst (λ k. ShowsNothing limits is_whole (take k bytes)) y.1 y.3))
+    by (inl x) (inr (inl y)) = absurd (shown_nothing limits is_whole bytes f n x.0 x.1 y.2 (subst (λ k. RevealsNothing limits is_whole (take k bytes)) y.1 y.3))
     by (inl x) (inr (inr y)) = absurd ((y.3 n x.1.0).0 f x.1.1)
-    by (inr (inl x)) (inl y) = absurd (shown_nothing limits is_whole bytes g m y.0 y.1 x.2 (subst (λ k. ShowsNothing limits is_whole (take k bytes)) x.1 x.3))
+    by (inr (inl x)) (inl y) = absurd (shown_nothing limits is_whole bytes g m y.0 y.1 x.2 (subst (λ k. RevealsNothing limits is_whole (take k bytes)) x.1 x.3))
     by (inr (inr x)) (inl y) = absurd ((x.3 m y.1.0).0 g y.1.1)
     by (inr (inl x)) (inr (inl y)) = (x.0 ∙ sym y.0, x.1 ∙ sym y.1)
     by (inr (inr x)) (inr (inr y)) = (x.0 ∙ sym y.0, x.1 ∙ sym y.1)

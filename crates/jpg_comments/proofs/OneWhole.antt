@@ -1,10 +1,10 @@
--- Bytes begin with one whole file at most, as rdjpgcom reads it, and with one head at most, as wrjpgcom reads it.
+-- Bytes begin with at most one complete file, as rdjpgcom reads it, and with at most one head, as wrjpgcom reads it.
 use Rattle.std.proofs.Common.{◌≡◌, ℕ, ◌+◌, ◌≤◌, Bool, true, false, not, ◌&&◌, ◌||◌, ◌==◌, if◌then◌else◌, List, [], ◌∷◌, ◌++◌, length, take, drop, Some, None, refl, sym, ap, ◌∙◌, subst, arith, inl, inr, ⊎_elim}
 use Rattle.std.specs.Int.{to_be_bytes, w16}
 use Rattle.std.proofs.lemmas.List.{append_assoc, append-nil, length-append, length-take-le, take-append-drop, append_cancel_left}
 use Rattle.jpg_spec.specs.Lists.{any_of}
 use Rattle.jpg_spec.specs.Markers.{Segment, has_frame, has_scan, is_frame_code, is_unexpected, is_unsupported, code_fault, code_fault_if, SpellsMarker, SpellsSegments}
-use Rattle.jpg_spec.specs.CommentText.{IsReadWhole, IsInserted, inserted_head, IsFileFront}
+use Rattle.jpg_spec_write.specs.CommentText.{IsReadWhole, IsInserted, inserted_head, IsFileFront}
 use Rattle.jpg_spec.specs.declared.fault.Fault.TheVariants.{UnexpectedMarker, UnsupportedProcess, SecondFrame, SosBeforeSof}
 use Rattle.jpg_spec.specs.declared.frame.Limits.{Limits}
 use Rattle.jpg_spec.proofs.MarkersOnce.{SpellsMore, GoesOn, marker_once, oldest, segments_once}
@@ -12,15 +12,15 @@ use Rattle.jpg_spec.proofs.Common.{clash}
 
 -- AMONG SEGMENTS
 
-any_behind : (test : Segment → Bool) (more : List Segment) (x : Segment) (xs : List Segment) → test x ≡ true → any_of test (more ++ x ∷ xs) ≡ true
-any_behind test [] x xs e = ap (λ b. b || any_of test xs) e
-any_behind test (m ∷ more) x xs e = or_true (test m) (any_of test (more ++ x ∷ xs)) (any_behind test more x xs e)
+any_after : (test : Segment → Bool) (more : List Segment) (x : Segment) (xs : List Segment) → test x ≡ true → any_of test (more ++ x ∷ xs) ≡ true
+any_after test [] x xs e = ap (λ b. b || any_of test xs) e
+any_after test (m ∷ more) x xs e = or_true (test m) (any_of test (more ++ x ∷ xs)) (any_after test more x xs e)
   where
     or_true : (a b : Bool) → b ≡ true → (a || b) ≡ true
     or_true true b h = refl
     or_true false b h = h
 
--- a marker, where more segments go on from the same place
+-- a marker, where more segments follow from the same place
 marker_of_oldest : (x : Segment) (more : List Segment) (text tail u v : List ℕ) (code : ℕ) → SpellsMore (x ∷ more) text → SpellsMarker code tail → text ++ u ≡ tail ++ v
     → (later : List Segment) × (first : Segment) × (x ∷ more ≡ later ++ first ∷ []) × (first.0 ≡ code) × (first.0 ≡ 0xd9 → ⊥)
 marker_of_oldest x more text tail u v code s m e =
@@ -33,7 +33,7 @@ marker_of_oldest x more text tail u v code s m e =
 
 -- HEADS
 
--- a head, and the bytes behind it
+-- a head, and the bytes after it
 pub record Head (limits : Limits) (bytes : List ℕ) (before : List Segment) (code : ℕ) (rest : List ℕ) : Type 0 where
   pub front : List ℕ
   pub tail : List ℕ
@@ -89,7 +89,7 @@ heads_on_from limits bytes rest behind before more code other a b g = by g.0 g.1
         let o = marker_of_oldest x later text a.tail (b.tail ++ behind) rest code s a.marker e in
         let framed : has_frame more ≡ true =
         ap has_frame (same ∙ ap (λ l. l ++ before) o.2 ∙ append_assoc o.0 (o.1 ∷ []) before)
-        ∙ any_behind (λ s. is_frame_code s.0) o.0 o.1 before (ap is_frame_code o.3 ∙ a.frame) in
+        ∙ any_after (λ s. is_frame_code s.0) o.0 o.1 before (ap is_frame_code o.3 ∙ a.frame) in
         absurd (no_second (has_frame more) other framed b.frame b.allowed)
 
 turned : (before more : List Segment) (code other : ℕ) (rest behind : List ℕ) → SameHead before more code other rest behind → SameHead more before other code behind rest
@@ -106,9 +106,9 @@ one_inserted limits bytes comment replace text other a b =
     let s = one_head limits bytes a.3 b.3 a.0 b.0 a.1 b.1 (head_of limits bytes a.2 a.3 a.0 a.1 a.4 a.5) (head_of limits bytes b.2 b.3 b.0 b.1 b.4 b.5) in
     a.6 ∙ ap (λ l. inserted_head comment replace l a.1 ++ a.3) s.segments ∙ ap (λ k. inserted_head comment replace b.0 k ++ a.3) s.codes ∙ ap (λ l. inserted_head comment replace b.0 b.1 ++ l) s.rests ∙ sym b.6
 
--- WHOLE FILES
+-- COMPLETE FILES
 
--- a whole front: its segments, and EOI behind them or nothing
+-- a complete prefix: its segments, and EOI after them or nothing
 pub data Whole (before : List Segment) (bytes rest : List ℕ) : Type 0 where
   at_scan : (contents front : List ℕ) → bytes ≡ front ++ rest → SpellsSegments ((0xda, contents) ∷ before) front → has_scan before ≡ false → Whole before bytes rest
   at_end : (front tail : List ℕ) → bytes ≡ front ++ (tail ++ rest) → SpellsSegments before front → SpellsMarker 0xd9 tail → has_scan before ≡ false → Whole before bytes rest
@@ -122,7 +122,7 @@ same_tail x y xs ys e = cc
 
 -- a scan among segments
 no_scan : (later before : List Segment) (contents : List ℕ) (xs : List Segment) → xs ≡ later ++ (0xda, contents) ∷ before → has_scan xs ≡ false → ⊥
-no_scan later before contents xs e none = clash (has_scan xs) (ap has_scan e ∙ any_behind (λ s. s.0 == 0xda) later (0xda, contents) before refl) none
+no_scan later before contents xs e none = clash (has_scan xs) (ap has_scan e ∙ any_after (λ s. s.0 == 0xda) later (0xda, contents) before refl) none
 
 scan_goes_on : (before more : List Segment) (contents others : List ℕ) (later : List Segment) → (0xda, others) ∷ more ≡ later ++ (0xda, contents) ∷ before → has_scan more ≡ false → (later ≡ []) × (before ≡ more)
 scan_goes_on before more contents others [] e none = (refl, sym (same_tail (0xda, others) (0xda, contents) more before e))
@@ -131,7 +131,7 @@ scan_goes_on before more contents others (x ∷ later) e none = absurd (no_scan 
 none_spelled : (later : List Segment) (text : List ℕ) → later ≡ [] → SpellsMore later text → text ≡ []
 none_spelled later text e s = subst (λ l. SpellsMore l text) e s
 
--- nothing goes on from an EOI but itself
+-- nothing continues an EOI
 end_goes_on : (before more : List Segment) (bytes front tail rest front2 behind : List ℕ) → bytes ≡ front ++ (tail ++ rest) → bytes ≡ front2 ++ behind → SpellsMarker 0xd9 tail → GoesOn before front more front2 → (more ≡ before) × (front2 ≡ front)
 end_goes_on before more bytes front tail rest front2 behind e f m g = by g.0 g.1 g.2 g.3 g.4
   where
@@ -177,7 +177,7 @@ one_whole_front bytes rest behind before more (at_end front tail e s m none) (at
     (k.0, (marker_once 0xd9 0xd9 tail tail2 rest behind m m2 same).2)))
     (segments_once before more front front2 (tail ++ rest) (tail2 ++ behind) s t (sym e ∙ f))
 
--- one whole front
+-- one complete prefix
 pub one_whole : (limits : Limits) (bytes : List ℕ) (n m : ℕ) (before more : List Segment) → n ≤ length bytes → m ≤ length bytes → IsReadWhole limits (take n bytes) before → IsReadWhole limits (take m bytes) more → (n ≡ m) × (before ≡ more)
 one_whole limits bytes n m before more a b v w =
     let k = one_whole_front bytes (drop n bytes) (drop m bytes) before more

@@ -9,7 +9,7 @@ use Rattle.std.proofs.lemmas.List.Elements.{All-head, All-tail, All-from_get_or}
 use Rattle.std.proofs.lemmas.List.Quantifiers.{position-Some}
 use Rattle.std.proofs.lemmas.List.Sums.{fails_before_first}
 use Rattle.memchr.specs.Find.{IsFirstByte, Nowhere, Passes, is_byte3}
-use Rattle.jpg_spec.specs.CommentText.{octal, printed, printed_byte, printed_from}
+use Rattle.jpg_spec_write.specs.CommentText.{octal, printed, printed_byte, printed_from}
 use Rattle.jpg_spec.specs.Markers.{is_within}
 use Rattle.jpg_comments.specs.Pieces.{plain_text}
 
@@ -62,7 +62,7 @@ printed_before bytes plain others i first front back =
     ∙ plain_printed (take i bytes) (drop i bytes) (plain_before bytes i first.0.before))
     ∙ append_assoc (plain_text (take i bytes)) (printed_from false (drop i bytes)) (10 ∷ []))
 
--- a text of its own, and what is behind it
+-- a text by itself, and what is after it
 pub printed_text : (others text behind : List ℕ) → printed_from false others ≡ text ++ printed_from false behind → printed others ≡ text ++ printed behind
 printed_text others text behind e = ap (λ l. l ++ 10 ∷ []) e ∙ append_assoc text (printed_from false behind) (10 ∷ [])
 
@@ -107,7 +107,7 @@ unprintable_none bytes h =
     subst P e (printable_before bytes (length bytes) (λ k below. fails_before_first unprintable bytes k 0 (omega arith))) in
     ap plain_text (sym (append-nil bytes)) ∙ printable_text bytes [] all ∙ append-nil bytes
 
--- the bytes before the first one, its octal digits, and the text of what is behind it
+-- the bytes before the first one, its octal digits, and the text of what is after it
 pub unprintable_first : (bytes run others : List ℕ) (i : ℕ) → position unprintable bytes ≡ Some i → run ≡ take i bytes → others ≡ drop i bytes
     → plain_text bytes ≡ run ++ ((92 ∷ octal (slice_index others 0)) ++ plain_text (drop 1 others))
 unprintable_first bytes run others i h front back =

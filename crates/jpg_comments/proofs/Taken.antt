@@ -1,8 +1,8 @@
--- What each further byte makes of the bytes that a reader was given, and the faults of marker segments that follow.
+-- The effect of each further byte on the bytes that a reader was given, and the faults of marker segments that follow.
 use Rattle.std.proofs.Common.{◌≡◌, ℕ, zero, suc, ◌+◌, ◌<◌, ◌≤◌, Bool, true, false, List, [], ◌∷◌, ◌++◌, length, take, refl, sym, ap, ◌∙◌, subst, arith, inl, inr, ◌⊎◌}
 use Rattle.std.proofs.lemmas.List.{append_assoc, append-nil, length-append, take-append-le, take_all}
-use Rattle.jpg_spec.specs.Markers.{Segment, Rule, kept_rule, is_frame_code, SegmentsShow, IsLeast, Reached, at_fault, at_part, Reaches}
-use Rattle.jpg_spec.specs.CommentText.{ShowsNothing, IsMarkerFault}
+use Rattle.jpg_spec.specs.Markers.{Segment, Rule, kept_rule, is_frame_code, SegmentsReveal, IsLeast, Reached, at_fault, at_part, Reaches}
+use Rattle.jpg_spec_write.specs.CommentText.{RevealsNothing, IsMarkerFault}
 use Rattle.jpg_spec.specs.declared.fault.Fault.{Fault}
 use Rattle.jpg_spec.specs.declared.fault.Fault.TheVariants.{Truncated, InputTooLong}
 use Rattle.jpg_spec.specs.declared.frame.Limits.{Limits}
@@ -10,8 +10,8 @@ use Rattle.jpg_spec.proofs.Reached.{reached_once, least}
 use Rattle.jpg_spec.proofs.Common.{clash}
 use Rattle.jpg_markers.specs.declared.segments.Phase.{Phase}
 use Rattle.jpg_markers.specs.declared.segments.Phase.TheVariants as phase
-use Rattle.jpg_markers.specs.Reading.{Reading, AtPhase, StandsFor}
-use Rattle.jpg_comments.specs.Begun.{IsBegun, HasTaken, ShowsFirst, Appends}
+use Rattle.jpg_markers.specs.Reading.{Reading, AtPhase, StandsForSegments}
+use Rattle.jpg_comments.specs.SegmentsSoFar.{IsBegun, HasTaken, RevealsFirst, Appends}
 
 -- APPENDING
 
@@ -26,20 +26,20 @@ appends_then P Q text old mid new h f =
 pub appends_as : (P Q : List ℕ → Type 0) (text old new : List ℕ) → Appends P text old new → ((all : List ℕ) → P all → Q all) → Appends Q text old new
 appends_as P Q text old new h f = (h.0, h.1, f (text ++ h.0) h.2)
 
--- FRONTS
+-- PREFIXES
 
 pub whole_front : (front rest : List ℕ) → take (length front) (front ++ rest) ≡ front
 whole_front front rest = take-append-le (length front) front rest (omega arith) ∙ take_all (length front) front (omega arith)
 
--- What the bytes come to tells where they are whole: `goes` is false there and at faults.
+-- The result of the bytes determines whether they are complete: `goes` is false there and at faults.
 pub record Tells (limits : Limits) (is_whole : List ℕ → Type 0) : Type 0 where
   pub goes : Reached → Bool
   pub faulty : (f : Fault) → goes (at_fault f) ≡ false
   pub wholes : (bytes : List ℕ) → is_whole bytes → (y : Reached) × Reaches (kept_rule limits) bytes y × (goes y ≡ false)
 
--- bytes that go on are not whole and show no fault
+-- bytes that can be continued are not complete and have no fault
 pub goes_on : (limits : Limits) (is_whole : List ℕ → Type 0) (t : Tells limits is_whole) (bytes : List ℕ) (x : Reached) → t.goes x ≡ true → Reaches (kept_rule limits) bytes x
-    → ((fault : Fault) → SegmentsShow (kept_rule limits) fault bytes → ⊥) × (is_whole bytes → ⊥)
+    → ((fault : Fault) → SegmentsReveal (kept_rule limits) fault bytes → ⊥) × (is_whole bytes → ⊥)
 goes_on limits is_whole t bytes x going reaches = (
   λ fault s. clash (t.goes x) going (ap t.goes (reached_once (kept_rule limits) bytes x (at_fault fault) reaches s) ∙ t.faulty fault),
   λ w. (let y = t.wholes bytes w in clash (t.goes x) going (ap t.goes (reached_once (kept_rule limits) bytes x y.0 reaches y.1) ∙ y.2)),
@@ -54,35 +54,35 @@ upto (suc n) (suc m) = next (upto n m)
     next (inl h) = inl (omega (arith, h))
     next (inr h) = inr (omega (arith, h))
 
--- one byte more shows nothing either
+-- one more byte has no fault either
 pub nothing_more : (limits : Limits) (is_whole : List ℕ → Type 0) (t : Tells limits is_whole) (bytes : List ℕ) (byte : ℕ) (x : Reached) → t.goes x ≡ true → Reaches (kept_rule limits) (bytes ++ byte ∷ []) x
-    → ShowsNothing limits is_whole bytes → ShowsNothing limits is_whole (bytes ++ byte ∷ [])
+    → RevealsNothing limits is_whole bytes → RevealsNothing limits is_whole (bytes ++ byte ∷ [])
 nothing_more limits is_whole t bytes byte x going reaches before = λ n long. by n (upto n (length bytes))
   where
     all : List ℕ
     all = bytes ++ byte ∷ []
 
-    by : (n : ℕ) → (n ≤ length bytes) ⊎ (length bytes < n) → ((fault : Fault) → SegmentsShow (kept_rule limits) fault (take n all) → ⊥) × (is_whole (take n all) → ⊥)
+    by : (n : ℕ) → (n ≤ length bytes) ⊎ (length bytes < n) → ((fault : Fault) → SegmentsReveal (kept_rule limits) fault (take n all) → ⊥) × (is_whole (take n all) → ⊥)
     by n (inl h) =
         let e = take-append-le n bytes (byte ∷ []) h in
         let old = before n h in
-        (λ fault s. old.0 fault (subst (λ l. SegmentsShow (kept_rule limits) fault l) e s), λ w. old.1 (subst is_whole e w))
+        (λ fault s. old.0 fault (subst (λ l. SegmentsReveal (kept_rule limits) fault l) e s), λ w. old.1 (subst is_whole e w))
     by n (inr h) =
         let e = take_all n all (omega (arith, h, length-append bytes (byte ∷ []))) in
         let new = goes_on limits is_whole t all x going reaches in
-        (λ fault s. new.0 fault (subst (λ l. SegmentsShow (kept_rule limits) fault l) e s), λ w. new.1 (subst is_whole e w))
+        (λ fault s. new.0 fault (subst (λ l. SegmentsReveal (kept_rule limits) fault l) e s), λ w. new.1 (subst is_whole e w))
 
--- no bytes show nothing
-pub nothing_first : (limits : Limits) (is_whole : List ℕ → Type 0) (t : Tells limits is_whole) → t.goes at_part ≡ true → ShowsNothing limits is_whole []
+-- no bytes have no fault
+pub nothing_first : (limits : Limits) (is_whole : List ℕ → Type 0) (t : Tells limits is_whole) → t.goes at_part ≡ true → RevealsNothing limits is_whole []
 nothing_first limits is_whole t going = λ n long.
     let e : take n [] ≡ [] = take_all n [] (omega arith) in
     let new = goes_on limits is_whole t [] at_part going (inl (inl refl)) in
-    (λ fault s. new.0 fault (subst (λ l. SegmentsShow (kept_rule limits) fault l) e s), λ w. new.1 (subst is_whole e w))
+    (λ fault s. new.0 fault (subst (λ l. SegmentsReveal (kept_rule limits) fault l) e s), λ w. new.1 (subst is_whole e w))
 
--- one byte more is taken
+-- one more byte is taken
 pub taken_on : (limits : Limits) (is_whole : List ℕ → Type 0) (t : Tells limits is_whole) (r next : Reading) (bytes : List ℕ) (byte : ℕ) (before more : List Segment) (x : Reached)
     → HasTaken limits is_whole bytes before r → r.taken < limits.input → next.limits ≡ r.limits → next.taken ≡ r.taken + 1
-    → t.goes x ≡ true → Reaches (kept_rule next.limits) (bytes ++ byte ∷ []) x → StandsFor (bytes ++ byte ∷ []) more next → HasTaken limits is_whole (bytes ++ byte ∷ []) more next
+    → t.goes x ≡ true → Reaches (kept_rule next.limits) (bytes ++ byte ∷ []) x → StandsForSegments (bytes ++ byte ∷ []) more next → HasTaken limits is_whole (bytes ++ byte ∷ []) more next
 taken_on limits is_whole t r next bytes byte before more x h short same one going reaches stands =
     let e : next.limits ≡ limits = same ∙ h.limited in
     let was = h.taken in
@@ -96,16 +96,16 @@ taken_on limits is_whole t r next bytes byte before more x h short same one goin
 
 -- FAULTS
 
-least_longer : (rule : Rule) (front rest : List ℕ) (f : Fault) → IsLeast (SegmentsShow rule) front f (length front) → IsLeast (SegmentsShow rule) (front ++ rest) f (length front)
+least_longer : (rule : Rule) (front rest : List ℕ) (f : Fault) → IsLeast (SegmentsReveal rule) front f (length front) → IsLeast (SegmentsReveal rule) (front ++ rest) f (length front)
 least_longer rule front rest f h = (
   omega (arith, length-append front rest),
-  subst (λ l. SegmentsShow rule f l) (sym (take-append-le (length front) front rest (omega arith))) h.1,
-  λ other m less s. h.2 other m less (subst (λ l. SegmentsShow rule other l) (take-append-le m front rest (omega (arith, less))) s),
-  λ other less s. h.3 other less (subst (λ l. SegmentsShow rule other l) (take-append-le (length front) front rest (omega arith)) s),
+  subst (λ l. SegmentsReveal rule f l) (sym (take-append-le (length front) front rest (omega arith))) h.1,
+  λ other m less s. h.2 other m less (subst (λ l. SegmentsReveal rule other l) (take-append-le m front rest (omega (arith, less))) s),
+  λ other less s. h.3 other less (subst (λ l. SegmentsReveal rule other l) (take-append-le (length front) front rest (omega arith)) s),
 )
 
--- the first bytes that show a fault show it first of all bytes that begin with them
-pub first_fault : (limits : Limits) (is_whole : List ℕ → Type 0) (front rest : List ℕ) (f : Fault) → ShowsFirst limits is_whole front f
+-- the first bytes that have a fault are the first ones with it in all bytes that begin with them
+pub first_fault : (limits : Limits) (is_whole : List ℕ → Type 0) (front rest : List ℕ) (f : Fault) → RevealsFirst limits is_whole front f
     → IsMarkerFault limits is_whole (front ++ rest) f (length front)
 first_fault limits is_whole front rest f s = (
   λ m less w. s.0 m less (subst is_whole (take-append-le m front rest (omega (arith, less))) w),
@@ -113,25 +113,25 @@ first_fault limits is_whole front rest f s = (
 )
 
 -- the most bytes that may be taken
-pub long_fault : (limits : Limits) (is_whole : List ℕ → Type 0) (front rest : List ℕ) → length front ≡ limits.input → ShowsNothing limits is_whole front
+pub long_fault : (limits : Limits) (is_whole : List ℕ → Type 0) (front rest : List ℕ) → length front ≡ limits.input → RevealsNothing limits is_whole front
     → IsMarkerFault limits is_whole (front ++ rest) InputTooLong (limits.input)
 long_fault limits is_whole front rest long nothing =
     let e : take (limits.input) (front ++ rest) ≡ front = ap (λ n. take n (front ++ rest)) (sym long) ∙ whole_front front rest in (
       λ m less w. (nothing m (omega (arith, long, less))).1 (subst is_whole (take-append-le m front rest (omega (arith, long, less))) w),
-      inr (inl (refl, refl, omega (arith, long, length-append front rest), subst (λ l. ShowsNothing limits is_whole l) (sym e) nothing)),
+      inr (inl (refl, refl, omega (arith, long, length-append front rest), subst (λ l. RevealsNothing limits is_whole l) (sym e) nothing)),
     )
 
 -- bytes that end
-pub ends_fault : (limits : Limits) (is_whole : List ℕ → Type 0) (bytes : List ℕ) → length bytes < limits.input → ShowsNothing limits is_whole bytes
+pub ends_fault : (limits : Limits) (is_whole : List ℕ → Type 0) (bytes : List ℕ) → length bytes < limits.input → RevealsNothing limits is_whole bytes
     → IsMarkerFault limits is_whole bytes Truncated (length bytes)
 ends_fault limits is_whole bytes short nothing = (
   λ m less w. (nothing m (omega (arith, less))).1 w,
   inr (inr (refl, refl, short, nothing)),
 )
 
--- a byte that shows a fault
-pub shows_first : (limits : Limits) (is_whole : List ℕ → Type 0) (bytes : List ℕ) (byte : ℕ) (f : Fault) → ShowsNothing limits is_whole bytes → length bytes < limits.input → SegmentsShow (kept_rule limits) f (bytes ++ byte ∷ [])
-    → ShowsFirst limits is_whole (bytes ++ byte ∷ []) f
+-- a byte that reveals a fault
+pub shows_first : (limits : Limits) (is_whole : List ℕ → Type 0) (bytes : List ℕ) (byte : ℕ) (f : Fault) → RevealsNothing limits is_whole bytes → length bytes < limits.input → SegmentsReveal (kept_rule limits) f (bytes ++ byte ∷ [])
+    → RevealsFirst limits is_whole (bytes ++ byte ∷ []) f
 shows_first limits is_whole bytes byte f nothing short s = (
   λ m less w.
       (let small : m ≤ length bytes = omega (arith, less, length-append bytes (byte ∷ [])) in
@@ -164,5 +164,5 @@ begun_at r phase.Contents bytes before h =
     inr (h.0, h.1, inl (inr (r.code, k.0, k.3, inr (inr (k.1, k.2, r.contents, k.4, k.5, k.6, omega (arith, long, some))))))
 begun_at r phase.Ended bytes before h = absurd h
 
-pub begun : (limits : Limits) (r : Reading) (bytes : List ℕ) (before : List Segment) → r.limits ≡ limits → StandsFor bytes before r → IsBegun (kept_rule limits) bytes before
+pub begun : (limits : Limits) (r : Reading) (bytes : List ℕ) (before : List Segment) → r.limits ≡ limits → StandsForSegments bytes before r → IsBegun (kept_rule limits) bytes before
 begun limits r bytes before e s = subst (λ l. IsBegun (kept_rule l) bytes before) e (begun_at r r.phase bytes before s.1)

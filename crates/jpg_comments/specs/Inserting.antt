@@ -1,8 +1,8 @@
--- A file with one comment more, written as it is read (T.81, B.2.4.5, the manual of wrjpgcom in release 6b).
+-- A file with one more comment, written as it is read (T.81, B.2.4.5, the manual of wrjpgcom in release 6b).
 use Rattle.std.specs.Prelude.{◌≡◌, ◌⊎◌, ℕ, ◌+◌, ◌-◌, ◌<◌, ◌≤◌, Bool, true, false, ◌&&◌, ◌==◌, if◌then◌else◌, List, [], ◌∷◌, ◌++◌, length, take, flat_map, Option, Some, None, Result, Ok, Err}
-use Rattle.jpg_spec.specs.FileText.{segment_text}
+use Rattle.jpg_spec_write.specs.FileText.{segment_text}
 use Rattle.jpg_spec.specs.Markers.{Segment, soi, has_frame}
-use Rattle.jpg_spec.specs.CommentText.{SomeSegments, IsHeadFault, IsInsertFault, IsInserted, head_segments, IsFileFront}
+use Rattle.jpg_spec_write.specs.CommentText.{SomeSegments, IsHeadFault, IsInsertFault, IsInserted, head_segments, IsFileFront}
 use Rattle.jpg_spec.specs.declared.fault.Fault.TheVariants.{InputTooLong}
 use Rattle.jpg_spec.specs.declared.frame.Limits.{Limits}
 use Rattle.jpg_base.specs.declared.stop.Stop.{Stop}
@@ -10,7 +10,7 @@ use Rattle.jpg_base.specs.declared.stop.Stop.TheVariants as stop
 use Rattle.jpg_markers.specs.Reading.{Reading}
 use Rattle.jpg_base.specs.declared.names.NoMemory.{NoMemory}
 use Rattle.jpg_comments.specs.Appending.{AppendsText}
-use Rattle.jpg_comments.specs.Begun.{HasTaken, ShowsFirst}
+use Rattle.jpg_comments.specs.SegmentsSoFar.{HasTaken, RevealsFirst}
 
 -- THE HEAD
 
@@ -26,24 +26,24 @@ copied_head replace before = soi ++ flat_map (λ s. segment_text s.0 s.1) (head_
 abbrev pub copied_segment : Bool → ℕ → List ℕ → List ℕ
 copied_segment replace code contents = if replace && code == 0xfe then [] else segment_text code contents
 
--- The head is kept of bytes that were given to a reader, in which the frame header's marker isn't there yet.
+-- The head is kept of bytes that were given to a reader, among which the frame header's marker isn't complete yet.
 abbrev pub HasKept : Limits → Bool → List ℕ → List ℕ → Reading → Type 0
 HasKept limits replace bytes head r =
     (before : List Segment) × HasTaken limits (HoldsHead limits) bytes before r × (has_frame before ≡ false) × (head ≡ copied_head replace before)
 
--- the frame header's marker is there
+-- the frame header's marker is complete
 abbrev pub IsAtFrame : Limits → Bool → List ℕ → List ℕ → Reading → Type 0
 IsAtFrame limits replace bytes head r =
     (before : List Segment) × IsFileFront limits bytes before r.code × (head ≡ copied_head replace before) × (r.taken ≡ length bytes) × (length bytes ≤ limits.input)
 
--- with a byte more
+-- with one more byte
 abbrev pub AfterHeadByte : Limits → Bool → List ℕ → Result Bool Stop → List ℕ → Reading → Type 0
 AfterHeadByte limits replace bytes (Ok false) head r = HasKept limits replace bytes head r
 AfterHeadByte limits replace bytes (Ok true) head r = IsAtFrame limits replace bytes head r
-AfterHeadByte limits replace bytes (Err (stop.Fault f)) head r = ShowsFirst limits (HoldsHead limits) bytes f.fault × (f.at ≡ length bytes)
+AfterHeadByte limits replace bytes (Err (stop.Fault f)) head r = RevealsFirst limits (HoldsHead limits) bytes f.fault × (f.at ≡ length bytes)
 AfterHeadByte limits replace bytes (Err stop.NoMemory) head r = Unit {0}
 
--- with a piece more, of which this many bytes are used where the marker is there
+-- with one more piece, of which this many bytes are used if the marker is there
 abbrev pub AfterHeadPiece : Limits → Bool → List ℕ → List ℕ → Result (Option ℕ) Stop → List ℕ → Reading → Type 0
 AfterHeadPiece limits replace bytes piece (Ok None) head r = HasKept limits replace (bytes ++ piece) head r × (length (bytes ++ piece) < limits.input)
 AfterHeadPiece limits replace bytes piece (Ok (Some used)) head r = IsAtFrame limits replace (bytes ++ take used piece) head r × (used ≤ length piece)
@@ -60,13 +60,13 @@ abbrev pub KeepsPiece : Bool → Reading → List ℕ → List ℕ → Result (O
 KeepsPiece replace old piece had answer head new =
     (bytes : List ℕ) → HasKept old.limits replace bytes had old → AfterHeadPiece old.limits replace bytes piece answer head new
 
--- the last segment, whose contents fit into one
+-- the last segment, whose contents a segment can have
 abbrev pub KeepsSegment : Bool → Reading → List ℕ → Result (Unit {0}) NoMemory → List ℕ → Type 0
 KeepsSegment replace r had answer head = length r.contents ≤ 65533 → AppendsText (copied_segment replace r.code r.contents) answer had head
 
 -- THE REST
 
--- It is copied whole, and the answer tells how many bytes were taken; or as many as may be taken; or nothing.
+-- All of it is copied, and the answer is how many bytes were taken; or as many as may be taken; or nothing.
 abbrev pub CopiesRest : ℕ → ℕ → List ℕ → Result ℕ Stop → List ℕ → List ℕ → Type 0
 CopiesRest taken most rest (Ok n) old new = (n ≡ taken + length rest) × (n < most) × (new ≡ old ++ rest)
 CopiesRest taken most rest (Err (stop.Fault f)) old new =
@@ -75,12 +75,13 @@ CopiesRest taken most rest (Err stop.NoMemory) old new = new ≡ old
 
 -- THE ANSWERS
 
--- a first part of what was due
+-- a first part of the pending bytes
 abbrev pub InsertsPart : Limits → List ℕ → Bool → List ℕ → List ℕ → Type 0
 InsertsPart limits comment replace bytes text =
     (text ≡ []) ⊎ ((n : ℕ) × (front : ℕ) × (whole : List ℕ) × IsInserted limits (take front bytes) comment replace whole × (text ≡ take n whole))
 
--- A fault before the frame header's marker, where nothing was written, or too many bytes, of which those are written that may be taken. It stands whatever follows.
+-- A fault before the frame header's marker, where nothing was written, or too many bytes, of which those within the
+-- limit are written. It remains whatever follows.
 abbrev pub InsertsUpTo : Limits → List ℕ → Bool → List ℕ → List ℕ → Stop → Type 0
 InsertsUpTo limits comment replace bytes text (stop.Fault f) =
     ((rest : List ℕ) → IsInsertFault limits (bytes ++ rest) f.fault f.at)

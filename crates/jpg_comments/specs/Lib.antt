@@ -1,6 +1,6 @@
 pub mod Answers
 pub mod Appending
-pub mod Begun
+pub mod SegmentsSoFar
 pub mod Inserting
 pub mod Pieces
 pub mod Printing

@@ -1,17 +1,17 @@
 -- The comments of a file that is fed piece by piece (T.81, B.2.4.5, the manual of rdjpgcom in release 6b).
 use Rattle.std.specs.Prelude.{◌≡◌, ℕ, ◌<◌, ◌≤◌, Bool, true, false, List, ◌++◌, length, take, Option, Result, Ok, Err, None}
-use Rattle.jpg_spec.specs.CommentText.{IsReadFault}
+use Rattle.jpg_spec_write.specs.CommentText.{IsReadFault}
 use Rattle.jpg_spec.specs.declared.frame.Limits.{Limits}
 use Rattle.jpg_base.specs.declared.stop.Fed.{Fed}
 use Rattle.jpg_base.specs.declared.stop.Fed.TheVariants as fed
 use Rattle.jpg_base.specs.declared.stop.Stop.{Stop}
 use Rattle.jpg_base.specs.declared.stop.Stop.TheVariants as stop
 use Rattle.jpg_markers.specs.Reading.{reading_of}
-use Rattle.jpg_comments.specs.Begun.{Appends}
+use Rattle.jpg_comments.specs.SegmentsSoFar.{Appends}
 use Rattle.jpg_comments.specs.Printing.{HasPrinted, PrintsWhole, PrintsBefore, PrintsPart}
 use Rattle.jpg_comments.specs.declared.comments.Comments.{Comments}
 
--- the limits that it was given
+-- its limits
 abbrev pub comments_limits : Comments → Limits
 comments_limits c = c.limits
 
@@ -23,15 +23,17 @@ comments_taken c = (reading_of c.reader).taken
 abbrev pub comments_stop : Comments → Option Stop
 comments_stop c = c.stop
 
--- The file is whole: neither `feed` nor `end` may be called any more.
+-- The file is complete: neither `feed` nor `end` may be called any more.
 abbrev pub is_done : Comments → Bool
 is_done c = c.done
 
--- The bytes were fed, and the text was appended for them. No front of them is whole or shows a fault, and more may come.
+-- The bytes were fed, and the text was appended for them. No prefix of them is complete or has a fault, and more may
+-- follow.
 abbrev pub HasRead : List ℕ → List ℕ → Comments → Type 0
 HasRead bytes text c = (c.stop ≡ None) × (c.done ≡ false) × (length bytes < c.limits.input) × HasPrinted c.limits bytes text (reading_of c.reader)
 
--- THE ANSWER to a piece that is fed, by all bytes so far and by the whole text that was appended for them. A fault stands whatever follows.
+-- THE ANSWER to a piece that is fed, by all bytes so far and by the complete text that was appended for them. A fault
+-- remains whatever follows.
 abbrev pub AfterFeed : List ℕ → List ℕ → List ℕ → Result Fed Stop → Comments → Type 0
 AfterFeed bytes piece text (Ok fed.More) c = HasRead (bytes ++ piece) text c
 AfterFeed bytes piece text (Ok (fed.Done used)) c = PrintsWhole c.limits (bytes ++ take used piece) text × (1 ≤ used) × (used ≤ length piece)
@@ -43,7 +45,7 @@ AfterFeed bytes piece text (Err stop.NoMemory) c = PrintsPart c.limits (bytes ++
 abbrev pub Feeds : Comments → List ℕ → List ℕ → Result Fed Stop → List ℕ → Comments → Type 0
 Feeds old piece had answer out new = (bytes text : List ℕ) → HasRead bytes text old → Appends (λ all. AfterFeed bytes piece all answer new) text had out
 
--- a fault of bytes that end
+-- a fault of bytes where the input ends
 abbrev pub StopsAt : Limits → List ℕ → Stop → Type 0
 StopsAt limits bytes (stop.Fault f) = IsReadFault limits bytes f.fault f.at
 StopsAt limits bytes stop.NoMemory = ⊥

@@ -1,4 +1,4 @@
-// The comments of a file, read piece by piece (T.81, B.2.4.5).
+//! The comments of a file, read piece by piece (T.81, B.2.4.5).
 ghost use Rattle.std.specs.Prelude.{◌≡◌, ◌<◌, ◌+◌, ◌-◌, length, [], ℕ, List, Some, None, true, false, Ok, Err};
 ghost use Rattle.jpg_spec.specs.FrameHeader.{AreLimits};
 ghost use Rattle.jpg_base.specs.declared.stop.Stop.{Stop as Stopped};
@@ -40,15 +40,13 @@ impl Comments {
         }
     }
 
-    /// Takes a further piece of the file, of any length, and appends the text of each comment that is
-    /// whole with it. It answers Done with the end of the first scan header or with an EOI before
-    /// any, and tells how many bytes of the piece were used, that end among them.
-    /// Else it answers the fault that the bytes so far show, at the number of bytes taken: NotJpeg,
-    /// NoMarker, UnexpectedMarker, UnsupportedProcess, SecondFrame, SosBeforeSof, BadLength (a length
-    /// below 2) or MarkersTooLarge; and InputTooLong where as many bytes were taken as may be. Else it
-    /// answers More. On a fault the text of the comments that were whole before it is appended, and
-    /// where memory is wanting a first part of such a text. After a stop it answers the same stop. It
-    /// may not be called once the file is whole (`is_done`).
+    /// Takes a further piece of the file, of any length, and appends the text of each comment that is complete with it.
+    /// It answers Done with the end of the first scan header or with an EOI before any, and how many bytes of the piece
+    /// were used, that end among them. Otherwise it answers the fault of the bytes so far, at the number of bytes
+    /// taken: NotJpeg, NoMarker, UnexpectedMarker, UnsupportedProcess, SecondFrame, SosBeforeSof, BadLength (a length
+    /// below 2) or MarkersTooLarge; and InputTooLong if the limit was reached. Otherwise it answers More. On a fault
+    /// the text of the comments that were complete before it is appended, and on NoMemory a first part of such a text.
+    /// After a stop it answers the same stop. It may not be called once the file is complete (`is_done`).
     pub fn feed(&mut self, piece: &[u8], out: &mut Bytes) -> Result<Fed, Stop>
         requires { is_done self.old ≡ false }
         ensures answered { Feeds self.old piece.now out.old result out.new self.new }
@@ -69,7 +67,7 @@ impl Comments {
         answer
     }
 
-    /// How many bytes more may be taken: the most of the limits without those that were taken.
+    /// How many bytes more may be taken: the limit minus those that were taken.
     pub fn room(&self) -> u64
         ensures is { result ≡ (comments_limits self.now).input - comments_taken self.now }
         ensures left { (bytes text : List ℕ) → HasRead bytes text self.now → result + length bytes ≡ (comments_limits self.now).input }
@@ -77,15 +75,15 @@ impl Comments {
         self.limits.input.saturating_sub(self.reader.taken())
     }
 
-    /// Whether the file is whole, so that neither `feed` nor `end` may be called any more.
+    /// Whether the file is complete, so that neither `feed` nor `end` may be called any more.
     pub fn is_done(&self) -> bool
         ensures { result ≡ is_done self.now }
     {
         self.done
     }
 
-    /// The file ends here. It answers Truncated at the number of bytes taken, or the earlier stop. It
-    /// may not be called once the file is whole (`is_done`).
+    /// The file ends here. It answers Truncated at the number of bytes taken, or the earlier stop. It may not be called
+    /// once the file is complete (`is_done`).
     pub fn end(&mut self) -> Stop
         requires { is_done self.old ≡ false }
         ensures answered { (bytes text : List ℕ) → HasRead bytes text self.old → StopsAt (comments_limits self.old) bytes result }
@@ -103,7 +101,7 @@ impl Comments {
     }
 }
 
-// Reads the bytes of a piece up to the one that makes the file whole.
+// Reads the bytes of a piece up to the one that completes the file.
 fn read_piece(
     reader: &mut SegmentReader,
     most: u64,
@@ -130,7 +128,7 @@ fn read_piece(
     Ok(Fed::More)
 }
 
-// Reads a byte, and tells whether the file is whole with it.
+// Reads a byte, and answers whether the file is complete with it.
 fn read_byte(reader: &mut SegmentReader, byte: u8, out: &mut Bytes) -> Result<bool, Stop>
     requires { (reading_of reader.old).taken < (reading_of reader.old).limits.input }
     ensures answered { PrintsByte (reading_of reader.old) byte out.old result out.new (reading_of reader.new) }
@@ -145,7 +143,7 @@ fn read_byte(reader: &mut SegmentReader, byte: u8, out: &mut Bytes) -> Result<bo
     }
 }
 
-// Prints the last segment, where it is a comment, and tells whether it is the header of a scan.
+// Prints the last segment, if it is a comment, and answers whether it is the header of a scan.
 fn print_segment(reader: &SegmentReader, out: &mut Bytes) -> Result<bool, Stop>
     ensures { PrintsSegment (reading_of reader.now).code (reading_of reader.now).contents result out.old out.new }
 {
@@ -155,6 +153,3 @@ fn print_segment(reader: &SegmentReader, out: &mut Bytes) -> Result<bool, Stop>
     }
     Ok(code == 0xda)
 }
-
-#[cfg(test)]
-mod tests;

@@ -1,4 +1,4 @@
-// The faults of an input that holds no whole file.
+//! The faults of an input that has no complete file.
 ghost use Rattle.std.specs.Prelude.{◌≡◌};
 ghost use Rattle.jpg_spec.specs.declared.fault.Fault.TheVariants.{Truncated, InputTooLong};
 ghost use Rattle.jpg_base.specs.declared.stop.Stop.TheVariants as stop;
@@ -6,7 +6,7 @@ ghost use Rattle.jpg_base.specs.declared.stop.Stop.TheVariants as stop;
 use jpg_base::Stop;
 use jpg_spec::{Fault, FaultAt};
 
-/// It has as many bytes as may be taken.
+/// The input has as many bytes as may be taken.
 pub fn too_long(most: u64) -> Stop
     ensures { result ≡ stop.Fault (record { fault = InputTooLong; at = most }) }
 {
@@ -16,7 +16,7 @@ pub fn too_long(most: u64) -> Stop
     })
 }
 
-/// It ends after as many bytes as were taken.
+/// The input ends after the bytes that were taken.
 pub fn truncated(taken: u64) -> Stop
     ensures { result ≡ stop.Fault (record { fault = Truncated; at = taken }) }
 {

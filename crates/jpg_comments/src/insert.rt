@@ -1,4 +1,4 @@
-// A file with one comment more, written piece by piece (T.81, B.2.4.5).
+//! A file with one more comment, written piece by piece (T.81, B.2.4.5).
 ghost use Rattle.std.specs.Prelude.{◌≡◌, ◌≤◌, ◌<◌, ◌+◌, ◌-◌, ◌++◌, ◌∷◌, [], ℕ, List, Some, None, Ok, Err, IfOk, IfSome, length};
 ghost use Rattle.jpg_spec.specs.FrameHeader.{AreLimits};
 ghost use Rattle.jpg_base.specs.declared.stop.Stop.{Stop as Stopped};
@@ -30,7 +30,7 @@ pub struct Insert {
     head: Bytes,
     // the comment's segment
     segment: Bytes,
-    // how many bytes were taken, once the frame header's marker is there
+    // how many bytes were taken, once the frame header's marker was read
     taken: Option<u64>,
     stop: Option<Stop>,
     ghost limited: { (reading_of reader).limits ≡ limits },
@@ -39,9 +39,8 @@ pub struct Insert {
 impl Insert {
     ghost use Rattle.jpg_comments.specs.WriteInserted.{insert_limits, insert_stop, insert_taken, is_replacing, EndsText, HasInserted, Inserts, IsNewInsert, TakesBytes};
 
-    /// A writer that was given no bytes. With `replace` it drops the comments that stand before the
-    /// frame header. An empty comment inserts nothing. It answers CommentTooLong at 65,001 where the
-    /// comment has more than 65,000 bytes.
+    /// An inserter that was given no bytes. With `replace` it drops the comments before the frame header. An empty
+    /// comment inserts nothing. It answers CommentTooLong at 65,001 if the comment has more than 65,000 bytes.
     pub fn new(alloc: Global, limits: Limits, comment: &[u8], replace: bool) -> Result<Insert, Stop>
         requires { AreLimits limits }
         ensures { IsNewInsert limits comment.now replace result }
@@ -69,14 +68,13 @@ impl Insert {
         })
     }
 
-    /// Takes a further piece of the file, of any length. It appends nothing before the marker of the
-    /// frame header; there it appends the segments before it, each with one FF, the comment and the
-    /// marker, and from there on all bytes as they come. It never answers Done. Before that marker it
-    /// answers the fault that the bytes so far show, at the number of bytes taken: NotJpeg, NoMarker,
-    /// UnexpectedMarker, UnsupportedProcess, SosBeforeSof, BadLength (a length below 2) or
-    /// MarkersTooLarge; and InputTooLong wherever as many bytes were taken as may be, and where these
-    /// hold the marker, they are appended. Where memory is wanting, a first part of what was due is
-    /// appended. After a stop it answers the same stop.
+    /// Takes a further piece of the file, of any length. It appends nothing before the marker of the frame header;
+    /// there it appends the segments before it, each with one FF, the comment and the marker, and from there on all
+    /// bytes as they are. It never answers Done. Before that marker it answers the fault of the bytes so far, at the
+    /// number of bytes taken: NotJpeg, NoMarker, UnexpectedMarker, UnsupportedProcess, SosBeforeSof, BadLength (a
+    /// length below 2) or MarkersTooLarge; and InputTooLong wherever the limit is reached: if the bytes up to it have
+    /// the marker, they are appended. On NoMemory a first part of the pending bytes is appended. After a stop it
+    /// answers the same stop.
     pub fn feed(&mut self, piece: &[u8], out: &mut Bytes) -> Result<Fed, Stop>
         ensures answered { Inserts self.old piece.now out.old result out.new self.new }
         ensures more { IfOk result (λ answer. answer ≡ fed.More) }
@@ -97,7 +95,7 @@ impl Insert {
         }
     }
 
-    /// How many bytes more may be taken: the most of the limits without those that were taken.
+    /// How many bytes more may be taken: the limit minus those that were taken.
     pub fn room(&self) -> u64
         ensures is { result ≡ (insert_limits self.now).input - insert_taken self.now }
         ensures left { (comment bytes text : List ℕ) → HasInserted comment bytes text self.now → result + length bytes ≡ (insert_limits self.now).input }
@@ -109,8 +107,8 @@ impl Insert {
         self.limits.input.saturating_sub(taken)
     }
 
-    /// The file ends here. It answers the earlier stop, and else Ok where the marker of the frame
-    /// header was reached, and Truncated at the number of bytes taken where it wasn't.
+    /// The file ends here. It answers the earlier stop, if any; otherwise Ok if the marker of the frame header was
+    /// reached, and Truncated at the number of bytes taken if it wasn't.
     pub fn end(&mut self) -> Result<(), Stop>
         ensures answered { EndsText self.old result }
         ensures stopped { (stop : Stopped) → result ≡ Err stop → insert_stop self.new ≡ Some stop }
@@ -129,7 +127,7 @@ impl Insert {
         Err(stop)
     }
 
-    // A piece, where nothing stopped.
+    // Takes a piece, where nothing stopped.
     fn take(&mut self, piece: &[u8], out: &mut Bytes) -> Result<(), Stop>
         ensures answered { TakesBytes self.old piece.now out.old result out.new self.new }
         ensures limits { insert_limits self.new ≡ insert_limits self.old }
@@ -145,7 +143,7 @@ impl Insert {
         }
     }
 
-    // A piece, where the frame header's marker isn't there yet.
+    // Takes a piece, where the frame header's marker wasn't read yet.
     fn begin(&mut self, piece: &[u8], out: &mut Bytes) -> Result<(), Stop>
         requires { self.old.taken ≡ None }
         ensures answered { TakesBytes self.old piece.now out.old result out.new self.new }
@@ -169,8 +167,7 @@ impl Insert {
     }
 }
 
-// Reads the bytes of a piece up to the marker of the frame header, and tells how many these are, where
-// it is there.
+// Reads the bytes of a piece up to the marker of the frame header, and answers how many these are, if it is there.
 fn read_head(
     reader: &mut SegmentReader,
     head: &mut Bytes,
@@ -199,7 +196,7 @@ fn read_head(
     Ok(None)
 }
 
-// Reads a byte, and tells whether the frame header's marker is there.
+// Reads a byte, and answers whether the frame header's marker is complete.
 fn read_byte(
     reader: &mut SegmentReader,
     head: &mut Bytes,
@@ -222,7 +219,7 @@ fn read_byte(
     }
 }
 
-// Keeps the last segment with one FF, but no comment where comments are replaced.
+// Keeps the last segment with one FF, except for comments where they are replaced.
 fn keep_segment(reader: &SegmentReader, head: &mut Bytes, replace: bool) -> Result<(), NoMemory>
     ensures { KeepsSegment replace (reading_of reader.now) head.old result head.new }
 {
@@ -235,7 +232,7 @@ fn keep_segment(reader: &SegmentReader, head: &mut Bytes, replace: bool) -> Resu
     append_segment(code, &contents[..length], head)
 }
 
-// What stands before the contents of the frame header.
+// Writes all that precedes the contents of the frame header.
 fn write_head(head: &[u8], segment: &[u8], code: u8, out: &mut Bytes) -> Result<(), NoMemory>
     ensures { AppendsText (head.now ++ segment.now ++ 255 ∷ code ∷ []) result out.old out.new }
 {
@@ -244,7 +241,7 @@ fn write_head(head: &[u8], segment: &[u8], code: u8, out: &mut Bytes) -> Result<
     out.push_all(&[0xff, code])
 }
 
-// Copies the bytes behind that, but none past the most that may be taken, and tells how many were taken.
+// Copies the bytes after that, up to the limit, and answers how many were taken.
 fn copy(taken: u64, most: u64, rest: &[u8], out: &mut Bytes) -> Result<u64, Stop>
     ensures { CopiesRest taken most rest.now result out.old out.new }
 {
@@ -257,6 +254,3 @@ fn copy(taken: u64, most: u64, rest: &[u8], out: &mut Bytes) -> Result<u64, Stop
     out.push_all(&rest[..room as usize])?;
     Err(too_long(most))
 }
-
-#[cfg(test)]
-mod tests;

@@ -1,14 +1,14 @@
-//! Laws over the answers of rdjpgcom and wrjpgcom: a file that is whole has one text and no fault, and
-//! one that has a fault has one (T.81, B.1.1.2 to B.1.1.4).
+//! Laws over the answers of rdjpgcom and wrjpgcom: a complete file has one text and no fault, and one that has a fault
+//! has one (T.81, B.1.1.2 to B.1.1.4).
 ghost use Rattle.std.specs.Prelude.{◌≡◌, ℕ, Bool, List};
 ghost use Rattle.jpg_spec.specs.Markers.{Segment};
-ghost use Rattle.jpg_spec.specs.CommentText.{IsReadFault, IsHeadFault, IsInsertFault, IsInserted};
+ghost use Rattle.jpg_spec_write.specs.CommentText.{IsReadFault, IsHeadFault, IsInsertFault, IsInserted};
 ghost use Rattle.jpg_spec.specs.declared.fault.Fault.{Fault};
 ghost use Rattle.jpg_spec.specs.declared.frame.Limits.{Limits};
 ghost use Rattle.jpg_spec.specs.Laws.{AtMostOneFault};
 ghost use Rattle.jpg_comments.specs.Answers.{AtMostOne, AtMostOneFront, BeginsWhole, IsHeadFront, IsWholeFront};
 
-/// Bytes that begin with a whole file, as rdjpgcom reads it, have no fault.
+/// Bytes that begin with a complete file, as rdjpgcom reads it, have no fault.
 pub fn whole_files_have_no_fault()
     ensures { (limits : Limits) (bytes : List ℕ) (n at : ℕ) (fault : Fault) → IsWholeFront limits bytes n → IsReadFault limits bytes fault at → ⊥ }
 {}
@@ -28,7 +28,7 @@ pub fn insert_faults_are_one()
     ensures { (limits : Limits) (bytes : List ℕ) → AtMostOneFault (IsInsertFault limits bytes) }
 {}
 
-/// Bytes begin with one whole file at most, as rdjpgcom reads it.
+/// Bytes begin with at most one complete file, as rdjpgcom reads it.
 pub fn whole_files_are_one()
     ensures { (limits : Limits) (bytes : List ℕ) → AtMostOneFront (BeginsWhole limits bytes) }
 {}

@@ -14,6 +14,3 @@ pub use insert::{Insert, LONGEST_COMMENT};
 pub use jpg_base::{Bytes, Fault, FaultAt, Fed, Limits, NoMemory, Stop};
 pub use printed::append_printed;
 pub use segment::append_segment;
-
-#[cfg(test)]
-mod tests;

@@ -1,8 +1,8 @@
-// Comments as rdjpgcom prints them (its manual in release 6b).
+//! Comments as rdjpgcom prints them (its manual in release 6b).
 ghost use Rattle.std.specs.Prelude.{◌≡◌, ◌≤◌, ◌<◌, ◌++◌, ◌∷◌, false, true, not, IfSome, length, slice_index};
 ghost use Rattle.memchr.specs.Find.{is_byte3};
 ghost use Rattle.std.specs.List.{position};
-ghost use Rattle.jpg_spec.specs.CommentText.{octal, printed, printed_from};
+ghost use Rattle.jpg_spec_write.specs.CommentText.{octal, printed, printed_from};
 ghost use Rattle.jpg_spec.specs.Markers.{is_within};
 ghost use Rattle.jpg_comments.specs.Appending.{AppendsText};
 ghost use Rattle.jpg_comments.specs.Pieces.{plain_text};
@@ -10,9 +10,9 @@ ghost use Rattle.jpg_comments.specs.Pieces.{plain_text};
 use jpg_base::{Bytes, NoMemory};
 use memchr::memchr3;
 
-/// Appends the comment as rdjpgcom prints it: CR as LF, LF behind CR as nothing, a backslash as two,
-/// printable ASCII (32 to 126) as it is, any other byte as a backslash and three octal digits, and LF
-/// at the end. Where memory is wanting, what was appended is a first part of that.
+/// Appends the comment as rdjpgcom prints it: CR as LF, LF after CR as nothing, a backslash as two, printable ASCII (32
+/// to 126) as it is, any other byte as a backslash and three octal digits, and LF at the end. On NoMemory a first part
+/// of that was appended.
 pub fn append_printed(comment: &[u8], out: &mut Bytes) -> Result<(), NoMemory>
     ensures { AppendsText (printed comment.now) result out.old out.new }
 {
@@ -28,8 +28,8 @@ pub fn append_printed(comment: &[u8], out: &mut Bytes) -> Result<(), NoMemory>
     out.push_all(b"\n")
 }
 
-// The printed form of the line end or backslash that the bytes begin with, and the bytes behind it.
-// CR and LF are one line end.
+// The printed form of the line end or backslash that the bytes begin with, and the bytes after it. CR and LF are one
+// line end.
 fn first_escaped(bytes: &[u8]) -> (&'static [u8], &[u8])
     requires some { 1 ≤ length bytes.now }
     requires escaped { is_byte3 13 10 92 (slice_index bytes.now 0) ≡ true }

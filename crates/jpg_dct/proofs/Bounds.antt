@@ -1,10 +1,10 @@
--- How large the sums of a line are.
+-- Bounds of the sums of a line.
 use Rattle.std.proofs.Common.{◌≡◌, ℕ, zero, suc, ◌+◌, ◌*◌, ◌≤◌, ◌<◌, List, [], ◌∷◌, ◌++◌, get_or, ℤ, pos, negsuc, ◌+ℤ◌, ◌-ℤ◌, ◌*ℤ◌, neg_ℤ, nat_abs, All, take, length, max, subst, refl, sym, arith}
 use Rattle.std.proofs.lemmas.Int.{ints, unsigned_abs-mul}
 use Rattle.std.proofs.lemmas.Nat.{mul-le}
 use Rattle.std.proofs.lemmas.List.{take_more, take_all}
 use Rattle.std.proofs.lemmas.List.Elements.{All-head, All-tail, All-weaker, All-push}
-use Rattle.jpg_spec.specs.Dct.{even_sums, odd_sums, joined_sums, line_sums, number_at}
+use Rattle.jpg_spec_image.specs.Dct.{even_sums, odd_sums, joined_sums, line_sums, number_at}
 
 abs_sum : (a b : ℤ) (m n : ℕ) → nat_abs a ≤ m → nat_abs b ≤ n → nat_abs (a +ℤ b) ≤ m + n
 abs_sum a b m n ha hb = omega (arith, ints, ha, hb)
@@ -23,7 +23,7 @@ abs_scaled a k m h =
     let l : nat_abs a * k ≤ m * k = mul-le (nat_abs a) k m k h (omega arith) in
     omega (arith, e, l)
 
--- what all numbers of a list meet, and the default too, is met at any place
+-- a property of all numbers of a list, and of the default, holds at any place
 pub all_at : {X : Type 0} (P : X → Type 0) (xs : List X) (i : ℕ) (d : X) → All P xs → P d → P (get_or xs i d)
 all_at P [] i d all p = p
 all_at P (x ∷ xs) zero d all p = All-head P x xs all
@@ -117,7 +117,7 @@ line_is_small M x0 x1 x2 x3 x4 x5 x6 x7 h0 h1 h2 h3 h4 h5 h6 h7 =
       at7 = omega (arith, abs_less (number_at (even_sums x0 x2 x4 x6) 0) (number_at (odd_sums x1 x3 x5 x7) 3) (40387 * M) (137832 * M) b.at0 o.at3);
     }
 
--- the greatest magnitude of one number more
+-- the greatest magnitude with one more number
 pub greatest_step : (xs : List ℤ) (k g more : ℕ) → k < length xs → All (λ x. nat_abs x ≤ g) (take k xs) → more ≡ max g (nat_abs (get_or xs k (pos 0)))
     → All (λ x. nat_abs x ≤ more) (take (k + 1) xs)
 greatest_step xs k g more lt all e =

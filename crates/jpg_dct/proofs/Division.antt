@@ -1,9 +1,10 @@
--- Division as multiplications: a quotient by a number is that of a product by a power of two, where the factor is the power divided by the number and rounded up.
+-- Division as multiplications: a quotient by a number is that of a product by a power of two, where the factor is the
+-- power divided by the number and rounded up.
 use Rattle.std.proofs.Common.{◌≡◌, ℕ, zero, suc, ◌+◌, ◌-◌, ◌*◌, ◌/◌, ◌≤◌, ◌<◌, min, sym, ap, ◌∙◌, subst, arith, ⊎_elim}
 use Rattle.std.proofs.Math.Nat.{div-eq_of_lt-le, div-mul-le_self, lt-div-mul-add, div-div-eq-div-mul, lt_of_mul-lt-mul_right, mul_assoc, mul_comm, mul_right_comm}
 use Rattle.std.proofs.lemmas.Nat.{mul-le, div_below}
 use Rattle.std.proofs.lemmas.Bool.{cases_lt}
-use Rattle.jpg_spec.specs.ForwardDct.{multiples}
+use Rattle.jpg_spec_image.specs.ForwardDct.{multiples}
 use Rattle.jpg_dct.specs.Division.{high_part, Divides, IsNear}
 
 same : (n : ℕ) → n ≤ n

@@ -5,11 +5,11 @@ use Rattle.std.proofs.lemmas.Bool.{cases_lt}
 use Rattle.std.proofs.lemmas.Int.{ints}
 use Rattle.std.proofs.lemmas.List.Elements.{All-get_or}
 use Rattle.jpg_spec.specs.Lists.{below}
-use Rattle.jpg_spec.specs.Dct.{number_at, column_at, odd_sums}
-use Rattle.jpg_spec.specs.ForwardDct.{level, woven, even_frequencies, line_frequencies, frequency_row, frequency_rows, frequency_column, forward_dct}
-use Rattle.jpg_spec.proofs.Frequencies.{InWidth, LineIn, line_below, sum_of, first_is, sum_high, rounded_row, odd_at0, odd_at1, odd_at2, odd_at3, even_at1, even_at2, even_at3}
-use Rattle.jpg_spec.proofs.CodedBlocks.{number_is}
-use Rattle.jpg_dct.specs.declared.lanes.Eight.{Eight}
+use Rattle.jpg_spec_image.specs.Dct.{number_at, column_at, odd_sums}
+use Rattle.jpg_spec_image.specs.ForwardDct.{level, woven, even_frequencies, line_frequencies, frequency_row, frequency_rows, frequency_column, forward_dct}
+use Rattle.jpg_spec_image.proofs.Frequencies.{InWidth, LineIn, line_below, sum_of, first_is, sum_high, rounded_row, odd_at0, odd_at1, odd_at2, odd_at3, even_at1, even_at2, even_at3}
+use Rattle.jpg_spec_image.proofs.CodedBlocks.{number_is}
+use Rattle.jpg_dct.specs.declared.forward.lanes.Eight.{Eight}
 use Rattle.jpg_dct.specs.Eights.{IsEight, IsLine, vectors, vector, eighth}
 use Rattle.jpg_dct.proofs.Wrapped.{eight, same8}
 use Rattle.jpg_dct.proofs.Lines.{line_small, all8, row_bound}
@@ -167,7 +167,7 @@ row_high s v u few lu =
     (all8 (λ x. x ≤ℤ pos 4090) first (other_high (number_at f 1) b.at1) (other_high (number_at f 2) b.at2) (other_high (number_at f 3) b.at3) (other_high (number_at f 4) b.at4)
     (other_high (number_at f 5) b.at5) (other_high (number_at f 6) b.at6) (other_high (number_at f 7) b.at7))
 
--- row v after the turn
+-- row v after the transposition
 pub row_at : (s : List ℕ) (columns rows across : Eight)
     → ((u v : ℕ) → u < 8 → v < 8 → number_at (vector columns u) v ≡ level s (8 * v + u) *ℤ pos 16)
     → ((v : ℕ) → v < 8 → map (column_at (vectors rows) v) (below 8) ≡ frequency_column (vectors columns) v)

@@ -13,12 +13,12 @@ use Rattle.std.proofs.lemmas.List.{get_or-map, get_or_append_left}
 use Rattle.std.proofs.lemmas.List.Sums.{AllPass-from_list_all}
 use Rattle.std.proofs.lemmas.Simd.{Each1-get_or}
 use Rattle.jpg_spec.specs.Lists.{below}
-use Rattle.jpg_spec.specs.Moves.{zigzag}
-use Rattle.jpg_spec.specs.Dct.{number_at}
+use Rattle.jpg_spec.specs.Zigzag.{zigzag}
+use Rattle.jpg_spec_image.specs.Dct.{number_at}
 use Rattle.jpg_spec.proofs.Common.{length_below}
 use Rattle.jpg_spec.proofs.Rows.{at_below, map_alike}
 use Rattle.jpg_dct.specs.Division.{with_sign, high_part}
-use Rattle.jpg_dct.specs.declared.lanes.Eight.{Eight}
+use Rattle.jpg_dct.specs.declared.forward.lanes.Eight.{Eight}
 use Rattle.jpg_dct.specs.Eights.{IsEight, vector, quotient_at}
 use Rattle.jpg_dct.proofs.Eights.{lane, lane_is, second_is, eight_at, fits16, seen, same16}
 
@@ -95,7 +95,7 @@ Plain z = T (non_neg z) × Fits w16 (nat_abs z)
 plain_pos : (n : ℕ) → n ≤ 8192 → Plain (pos n)
 plain_pos n h = (tt, record { fits = omega (arith, h) })
 
--- what the cast asks of all lanes
+-- what the cast requires of all lanes
 pub sizes_fit : (x : List ℤ) → IsEight 8192 x → Each1 Plain (map (λ n. size_lane (lane w16 x x n)) (below 8))
 sizes_fit x e =
     (p 0 (omega arith), (p 1 (omega arith), (p 2 (omega arith), (p 3 (omega arith), (p 4 (omega arith), (p 5 (omega arith), (p 6 (omega arith), (p 7 (omega arith), tt))))))))
@@ -165,7 +165,7 @@ quotient_is x halves factors scales n whole part more size half factor scale ew 
 
 -- ROWS of quotients
 
--- a row of quotients as it is handed on
+-- a row of quotients as it is passed on
 pub row_of : (x r : List ℤ) (halves factors scales : List ℕ) (v : ℕ) → IsEight 8192 x → IsEight 16384 r
     → ((k : ℕ) → k < 8 → number_at r k ≡ quotient_at (number_at (seen w16 x) k) halves factors scales (8 * v + k))
     → (k : ℕ) → k < 8 → number_at (seen w16 r) k ≡ quotient_at (number_at x k) halves factors scales (8 * v + k)

@@ -1,4 +1,4 @@
--- Lanes of eight: sums, products of pairs and rounding, each lane as a whole number.
+-- Lanes of eight: sums, products of pairs and rounding, each lane as an integer.
 use Rattle.std.proofs.Common.{◌≡◌, ℕ, ◌+◌, ◌-◌, ◌*◌, ◌/◌, ◌%◌, suc, negsuc, ⊎_elim, ◌<◌, ◌≤◌, zero, List, [], ◌∷◌, ◌++◌, length, slice_index, slice_index_or, get_or, map, ℤ, pos, ◌+ℤ◌, ◌-ℤ◌, ◌*ℤ◌, nat_abs, to_z, of_z, FitsSigned, rules, ◌≤ℤ◌, sym, ap, ◌∙◌, subst, arith}
 use Rattle.std.specs.Int.{Width, w16, w32, int_wrap, int_shr}
 use lib.Signed.{shr_z}
@@ -8,12 +8,12 @@ use Rattle.std.proofs.lemmas.Nat.{mod_below, mul-le}
 use Rattle.std.proofs.lemmas.Bool.{cases_lt}
 use Rattle.std.proofs.lemmas.List.{get_or-map, get_or_append_left, get_or-append-add, length-map, ext_get_or}
 use Rattle.jpg_spec.specs.Lists.{below}
-use Rattle.jpg_spec.specs.Dct.{number_at, odd_sums}
+use Rattle.jpg_spec_image.specs.Dct.{number_at, odd_sums}
 use Rattle.jpg_spec.proofs.Common.{length_below}
 use Rattle.jpg_spec.proofs.Rows.{at_below}
-use Rattle.jpg_spec.specs.ForwardDct.{level, even_frequencies}
-use Rattle.jpg_spec.proofs.Frequencies.{odd_at0, odd_at1, odd_at2, odd_at3, even_at1, even_at3}
-use Rattle.jpg_dct.specs.declared.lanes.Eight.{Eight}
+use Rattle.jpg_spec_image.specs.ForwardDct.{level, even_frequencies}
+use Rattle.jpg_spec_image.proofs.Frequencies.{odd_at0, odd_at1, odd_at2, odd_at3, even_at1, even_at3}
+use Rattle.jpg_dct.specs.declared.forward.lanes.Eight.{Eight}
 use Rattle.jpg_dct.specs.Eights.{HasRoom, IsLine, quarter, IsEight, IsRow, vector, four_of, half_rounded, eighth}
 
 -- what holds of each of eight
@@ -147,13 +147,13 @@ roundeds_are x e k lt =
     ∙ to_z-of_z w16 (rounded_lane (lane w32 x x k)) (rounded_fits x e k lt)
     ∙ rounded_lane_is (lane w32 x x k) (number_at x k) (lane_is w32 x x k e.long lt) (e.small k lt)
 
--- what the cast asks of all lanes
+-- what the cast requires of all lanes
 pub all_fit : (x : List ℤ) → IsEight 536870912 x → Each1 (FitsSigned w16) (map (λ n. rounded_lane (lane w32 x x n)) (below 8))
 all_fit x e =
     let p = rounded_fits x e in
     (p 0 (omega arith), (p 1 (omega arith), (p 2 (omega arith), (p 3 (omega arith), (p 4 (omega arith), (p 5 (omega arith), (p 6 (omega arith), (p 7 (omega arith), tt))))))))
 
--- ROWS AND COLUMNS turned
+-- ROWS AND COLUMNS transposed
 
 abbrev pub again : ℤ → ℤ
 again x = to_z w16 (of_z w16 x)
@@ -289,7 +289,7 @@ two_eight a b r k l ea eb few long at = record {
   small = λ i lt. subst (λ z. nat_abs z ≤ 536870912) (sym (two_are a b r k l ea eb few at i lt)) (two_small (number_at a i) (number_at b i) k l (ea.small i lt) (eb.small i lt) few);
 }
 
--- sums of 32 bits, each right in its low bits
+-- sums of 32 bits, each correct in its low bits
 pub wide_sums_are : (a b : List ℤ) → length a ≡ 8 → length b ≡ 8 → (i : ℕ) → i < 8 → (x y : ℤ) → number_at a i ≡ int_wrap w32 x → number_at b i ≡ int_wrap w32 y
     → number_at (map (λ n. to_z w32 ((lane w32 a a n + lane w32 b b n) % 4294967296)) (below 8)) i ≡ int_wrap w32 (x +ℤ y)
 wide_sums_are a b la lb i lt x y ex ey =
@@ -336,7 +336,7 @@ seen_eight16 n xs few e = subst (IsEight n) (sym (same16 n xs few e)) e
 pub seen_eight32 : (xs : List ℤ) → IsEight 536870912 xs → IsEight 536870912 (seen w32 xs)
 seen_eight32 xs e = subst (IsEight 536870912) (sym (same32 xs e)) e
 
--- a vector that was rounded, as it is handed on
+-- a vector that was rounded, as it is passed on
 pub rounded_at : (x r : List ℤ) → IsEight 536870912 x → IsEight 8192 r → ((i : ℕ) → i < 8 → number_at r i ≡ half_rounded (number_at (seen w32 x) i))
     → (i : ℕ) → i < 8 → number_at (seen w16 r) i ≡ half_rounded (number_at x i)
 rounded_at x r ex er at i lt = ap (λ xs. number_at xs i) (same16 8192 r (omega arith) er) ∙ at i lt ∙ ap (λ xs. half_rounded (number_at xs i)) (same32 x ex)
@@ -457,7 +457,7 @@ odd_third a b c d = twice (four_products a b c d (pos 19266) (negsuc 4517) (negs
 pub odd_fourth : (a b c d : ℤ) → half_rounded (four_products a b c d (pos 22726) (pos 19266) (pos 12874) (pos 4520)) ≡ eighth (number_at (odd_sums a b c d) 3)
 odd_fourth a b c d = twice (four_products a b c d (pos 22726) (pos 19266) (pos 12874) (pos 4520)) (number_at (odd_sums a b c d) 3) (omega (arith, ints, odd_at3 a b c d))
 
--- lane k of a vector that a call gave, as it is handed on
+-- lane k of a vector that a call gave, as it is passed on
 pub handed : (r : List ℤ) (k : ℕ) (x : ℤ) → IsEight 8192 r → number_at r k ≡ x → number_at (seen w16 r) k ≡ x
 handed r k x e is = ap (λ xs. number_at xs k) (same16 8192 r (omega arith) e) ∙ is
 

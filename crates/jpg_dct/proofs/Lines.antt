@@ -1,11 +1,11 @@
--- Lines of small numbers: how large their frequencies are.
+-- Lines of small numbers: bounds of their frequencies.
 use Rattle.std.proofs.Common.{ℕ, ◌*◌, ◌≤◌, List, [], ◌∷◌, ℤ, pos, ◌+ℤ◌, ◌*ℤ◌, ◌≤ℤ◌, neg_ℤ, nat_abs, All, sym, subst, arith}
 use Rattle.std.specs.Int.{int_shr}
 use Rattle.std.proofs.lemmas.Int.{ints}
 use Rattle.std.proofs.lemmas.List.Elements.{All-cons, All-nil}
-use Rattle.jpg_spec.specs.Dct.{number_at}
-use Rattle.jpg_spec.specs.ForwardDct.{line_frequencies}
-use Rattle.jpg_spec.proofs.Frequencies.{InWidth, LineIn, line_below, sum_of, first_is, sum_low, sum_high, rounded_row}
+use Rattle.jpg_spec_image.specs.Dct.{number_at}
+use Rattle.jpg_spec_image.specs.ForwardDct.{line_frequencies}
+use Rattle.jpg_spec_image.proofs.Frequencies.{InWidth, LineIn, line_below, sum_of, first_is, sum_low, sum_high, rounded_row}
 
 pub record Bounded (n : ℕ) (f : List ℤ) : Type 0 where
   pub at0 : nat_abs (number_at f 0) ≤ n

@@ -1,8 +1,8 @@
--- Columns and rows that are all there.
+-- The samples of a block, once all its columns and rows are done.
 use Rattle.std.proofs.Common.{◌≡◌, ℕ, ◌*◌, List, length, take, map, flat_map, ℤ, sym, ap, ◌∙◌, arith}
 use Rattle.std.proofs.lemmas.List.{take_all}
 use Rattle.jpg_spec.specs.Lists.{below}
-use Rattle.jpg_spec.specs.Dct.{column, columns, sample_row, inverse_dct}
+use Rattle.jpg_spec_image.specs.Dct.{column, columns, sample_row, inverse_dct}
 
 pub whole_block : (values : List ℤ) (done : List (List ℤ)) (samples : List ℕ) (u v : ℕ) → u ≡ 8 → v ≡ 8 → length done ≡ 8 → take u done ≡ map (column values) (below u)
     → length samples ≡ 64 → take (8 * v) samples ≡ flat_map (sample_row done) (below v) → samples ≡ inverse_dct values

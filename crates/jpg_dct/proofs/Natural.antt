@@ -5,14 +5,14 @@ use Rattle.std.proofs.lemmas.Bool.{cases_lt}
 use Rattle.std.proofs.lemmas.Int.{to_z-of_z}
 use Rattle.std.proofs.lemmas.List.{get_or-set_same, get_or-set_other, ext_get_or}
 use Rattle.std.proofs.lemmas.List.Elements.{All-from_get_or}
-use Rattle.jpg_spec.specs.Dct.{number_at, column_at}
-use Rattle.jpg_spec.specs.ForwardDct.{forward_dct}
-use Rattle.jpg_spec.proofs.CodedBlocks.{forward_long}
-use Rattle.jpg_dct.specs.declared.lanes.Eight.{Eight}
+use Rattle.jpg_spec_image.specs.Dct.{number_at, column_at}
+use Rattle.jpg_spec_image.specs.ForwardDct.{forward_dct}
+use Rattle.jpg_spec_image.proofs.CodedBlocks.{forward_long}
+use Rattle.jpg_dct.specs.declared.forward.lanes.Eight.{Eight}
 use Rattle.jpg_dct.specs.Eights.{IsEight, vector}
 use Rattle.jpg_dct.proofs.Eights.{each_of_eight, fits16, handed, seen}
 
--- one number more
+-- one more number
 pub number_set : (f : ℕ → ℤ) (out : List ℤ) (n : ℕ) (x : ℤ) → n < length out → ((k : ℕ) → k < n → number_at out k ≡ f k) → x ≡ f n → (k : ℕ) → k < n + 1 → number_at (set out n x) k ≡ f k
 number_set f out n x there old is k lt =
     ⊎_elim
@@ -24,7 +24,7 @@ number_set f out n x there old is k lt =
 abbrev pub AreRows : List ℕ → List (List ℤ) → Type 0
 AreRows s rows = (v : ℕ) → v < 8 → (u : ℕ) → u < 8 → number_at (slice_index_or rows v []) u ≡ number_at (forward_dct s) (8 * v + u)
 
--- as they are handed on
+-- as they are passed on
 pub rows_handed : (s : List ℕ) (d : Eight) → ((v : ℕ) → v < 8 → IsEight 8192 (vector d v)) → ((u v : ℕ) → u < 8 → v < 8 → number_at (vector d v) u ≡ number_at (forward_dct s) (8 * v + u))
     → AreRows s (seen w16 d.v0 ∷ seen w16 d.v1 ∷ seen w16 d.v2 ∷ seen w16 d.v3 ∷ seen w16 d.v4 ∷ seen w16 d.v5 ∷ seen w16 d.v6 ∷ seen w16 d.v7 ∷ [])
 rows_handed s d small is =
@@ -61,7 +61,7 @@ block_small s d small is =
     let e : 8 * (k / 8) + k % 8 ≡ k = omega arith in
     subst (λ x. nat_abs x ≤ 8192) (is (k % 8) (k / 8) lu lv ∙ ap (number_at (forward_dct s)) e) ((small (k / 8) lv).small (k % 8) lu)))
 
--- so that 16 bits hold a number of the rows
+-- so that a number of the rows fits 16 bits
 pub number_fits : (s : List ℕ) (d : Eight) (rows : List (List ℤ)) (n : ℕ) → n < 64 → ((v : ℕ) → v < 8 → IsEight 8192 (vector d v))
     → ((u v : ℕ) → u < 8 → v < 8 → number_at (vector d v) u ≡ number_at (forward_dct s) (8 * v + u)) → AreRows s rows
     → to_z w16 (of_z w16 (column_at rows (n % 8) (n / 8))) ≡ column_at rows (n % 8) (n / 8)

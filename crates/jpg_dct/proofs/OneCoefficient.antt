@@ -5,7 +5,7 @@ use Rattle.std.specs.Int.{int_shr}
 use Rattle.std.proofs.lemmas.Bool.{cases_lt}
 use Rattle.std.proofs.lemmas.Int.{ints}
 use Rattle.jpg_spec.specs.Lists.{below}
-use Rattle.jpg_spec.specs.Dct.{even_sums, odd_sums, joined_sums, line_sums, column, columns, sample_of, sample_row, inverse_dct}
+use Rattle.jpg_spec_image.specs.Dct.{even_sums, odd_sums, joined_sums, line_sums, column, columns, sample_of, sample_row, inverse_dct}
 
 plus_zero : (x : ℤ) → x +ℤ pos 0 ≡ x
 plus_zero x = omega (arith, ints)

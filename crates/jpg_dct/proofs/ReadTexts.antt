@@ -1,11 +1,11 @@
--- A text of tables that is read byte by byte: where it is wrong, and what it tells.
+-- A text of tables that is read byte by byte: where it is wrong, and what it encodes.
 use Rattle.std.proofs.Common.{◌≡◌, ℕ, ◌+◌, ◌<◌, ◌≤◌, List, [], ◌∷◌, ◌++◌, length, take, get_or, refl, sym, ap, ◌∙◌, subst, inl, inr, Option, None, Some}
 use Rattle.std.specs.Prelude.{option_and_then, Err, ◌⊎◌}
 use Rattle.std.proofs.lemmas.List.{take_more}
-use Rattle.jpg_spec.specs.TableText.{BeginsTables, HasWrongByte, LacksNumbers, HasManyBytes, TellsTables}
-use Rattle.jpg_spec.specs.declared.answers.FaultAt.{FaultAt}
+use Rattle.jpg_spec_image.specs.TableText.{BeginsTables, HasWrongByte, LacksNumbers, HasManyBytes, TellsTables}
+use Rattle.jpg_spec.specs.declared.fault.FaultAt.{FaultAt}
 use Rattle.jpg_spec.specs.declared.fault.Fault.TheVariants.{TableText}
-use Rattle.jpg_dct.specs.ReadTables.{IsRead}
+use Rattle.jpg_dct.specs.ReadTables.{IsReadTables}
 use Rattle.jpg_dct.specs.TableState.{ReaderState, tables_told, reader_step, new_reader, run}
 use Rattle.jpg_dct.proofs.TableRuns.{run_two, spelled_run, begins_run}
 use Rattle.jpg_dct.proofs.TableRest.{begins}
@@ -55,8 +55,8 @@ ends_early text r l h none = record {
     some_of : (a b : ReaderState) → Some a ≡ Some b → a ≡ b
     some_of a b e = cc
 
-pub refused : (text : List ℕ) (place : ℕ) (f : FaultAt) → f ≡ record { fault = TableText; at = place } → HasWrongByte text place ⊎ HasManyBytes text place → IsRead text (Err f)
-refused text place f e w = subst (λ (g : FaultAt). IsRead text (Err g)) (sym e) (refl, w)
+pub refused : (text : List ℕ) (place : ℕ) (f : FaultAt) → f ≡ record { fault = TableText; at = place } → HasWrongByte text place ⊎ HasManyBytes text place → IsReadTables text (Err f)
+refused text place f e w = subst (λ (g : FaultAt). IsReadTables text (Err g)) (sym e) (refl, w)
 
 pub refused_at_end : (text : List ℕ) (place : ℕ) (f : FaultAt) → f ≡ record { fault = TableText; at = place } → LacksNumbers text place → TellsTables text (Err f)
 refused_at_end text place f e w = subst (λ (g : FaultAt). TellsTables text (Err g)) (sym e) (refl, inr (inl w))

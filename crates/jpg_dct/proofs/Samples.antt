@@ -4,13 +4,13 @@ use Rattle.std.specs.Int.{Width, w32, w64, int_wrap, int_shr, int_rem_euclid}
 use mir.Val.{hbits}
 use Rattle.std.proofs.lemmas.Int.{ints, to_z-of_z, of_z-to_z, int_wrap_fits, int_wrap-add_left, fits_signed_from_abs}
 use lib.Signed.{mag_shr}
-use Rattle.jpg_spec.specs.Dct.{ranged, sample_of}
+use Rattle.jpg_spec_image.specs.Dct.{ranged, sample_of}
 use Rattle.jpg_dct.proofs.Wrapped.{start}
 
 shifted_fits : (w : Width) (z : ℤ) (m : ℕ) → FitsSigned w z → FitsSigned w (int_shr z m)
 shifted_fits w z m f = record { sfits = omega (arith, mag_shr z (2 ^ m), f.sfits) }
 
--- x is what a width holds of the sum s
+-- x is the sum s, wrapped to the width
 pub one_rounded : (w : Width) (x s r : ℤ) → x ≡ int_wrap w s → nat_abs (s +ℤ pos 1024) < 2 ^ hbits w
     → r ≡ int_shr (int_wrap w (to_z w (of_z w x) +ℤ pos 1024)) 11 → to_z w (of_z w r) ≡ int_shr (s +ℤ pos 1024) 11
 one_rounded w x s r ex small e =
@@ -24,7 +24,7 @@ one_rounded w x s r ex small e =
 pub one_bound : (s : ℤ) (n top : ℕ) → nat_abs s ≤ n → n + 1024 < top → nat_abs (s +ℤ pos 1024) < top
 one_bound s n top h l = omega (arith, ints, h, l)
 
--- ten bits of a number, of what 32 bits hold of it, and of what 64 do
+-- ten bits of a number, of the number wrapped to 32 bits, and to 64
 low32 : (z : ℤ) → of_z w32 (int_wrap w32 z) / 262144 % 1024 ≡ nat_abs (int_rem_euclid (int_shr z 18) (pos 1024))
 unfolding int_wrap
 low32 (pos a) =

@@ -3,8 +3,8 @@ use Rattle.std.proofs.Common.{◌≡◌, ℕ, ◌<◌, Bool, true, false, List, 
 use Rattle.std.specs.Prelude.{max, min}
 use Rattle.std.proofs.lemmas.List.{take_all}
 use Rattle.std.proofs.lemmas.List.Elements.{All-from_get_or, All-map}
-use Rattle.jpg_spec.specs.Quality.{most_quantiser, scaled_quantiser}
-use Rattle.jpg_spec.specs.WrittenFile.{IsQuantiser, AreQuantisers}
+use Rattle.jpg_spec_image.specs.Quality.{most_quantiser, scaled_quantiser}
+use Rattle.jpg_spec.specs.Segments.{IsQuantiser, AreQuantisers}
 
 within : (n most : ℕ) → most < 65536 → IsQuantiser (max 1 (min n most))
 within n most h = (omega arith, omega (arith, h))

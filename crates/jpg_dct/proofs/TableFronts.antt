@@ -1,14 +1,14 @@
--- What bytes that were read stand for: a front of a spelling of tables.
+-- What bytes that were read represent: a prefix of a spelling of tables.
 use Rattle.std.proofs.Common.{◌≡◌, ℕ, ◌+◌, ◌-◌, ◌*◌, ◌<◌, ◌≤◌, Bool, true, false, cond, not, ◌&&◌, ◌==◌, List, [], ◌∷◌, ◌++◌, length, map, refl, sym, ap, ◌∙◌, subst, arith, Option, None, Some}
 use Rattle.std.specs.Prelude.{nat_lt, nat_le, option_map, option_and_then, flat_map}
 use Rattle.std.proofs.lemmas.Bool.Decides.{nat_tests}
 use Rattle.std.proofs.lemmas.List.{append_assoc, append-nil, length-append, length-map}
 use Rattle.std.proofs.lemmas.List.Concat.{flat_map-append}
 use Rattle.jpg_spec.specs.Lists.{all_of, is_empty}
-use Rattle.jpg_spec.specs.Requests.{is_digit, digits_from}
+use Rattle.jpg_spec.specs.NumberTexts.{is_digit, digits_from}
 use Rattle.jpg_spec.specs.Segments.{QuantTable}
-use Rattle.jpg_spec.specs.ScriptGrammar.{without_comments, is_space, NumberWord, number_text}
-use Rattle.jpg_spec.specs.TableText.{is_number, is_first, is_further, are_apart, is_count, tables_of, SpellsTables}
+use Rattle.jpg_spec.specs.NumberTexts.{without_comments, is_space, NumberWord, number_text}
+use Rattle.jpg_spec_image.specs.TableText.{is_quantiser_number, is_first_quantiser, is_further_quantiser, are_apart, is_count, tables_of, SpellsTables}
 use Rattle.jpg_spec.proofs.Common.{both, and_intro, same_of, le_of, lt_of, some_once}
 use Rattle.jpg_dct.specs.TableState.{NumbersState, no_numbers, ended, digit_step, number_step, tables_told, ReaderState, reader_step, new_reader, run}
 use Rattle.jpg_dct.proofs.TableRuns.{at, ended_in, value_of, comments_read}
@@ -34,7 +34,7 @@ none_of (x ∷ xs) e = absurd (omega (arith, e))
 
 -- WORDS SO FAR
 
--- what may stand before the next number
+-- what is allowed before the next number
 is_gap : List NumberWord → List ℕ → Bool
 is_gap [] gap = all_of is_space gap
 is_gap (w ∷ words) gap = not (is_empty gap) && all_of is_space gap
@@ -49,17 +49,17 @@ unfolding is_gap
 gap_space [] gap e = e
 gap_space (w ∷ words) gap e = (both (not (is_empty gap)) (all_of is_space gap) e).1
 
-words_more : (words : List NumberWord) (gap digits : List ℕ) → are_apart words ≡ true → is_gap words gap ≡ true → is_number digits ≡ true
+words_more : (words : List NumberWord) (gap digits : List ℕ) → are_apart words ≡ true → is_gap words gap ≡ true → is_quantiser_number digits ≡ true
     → are_apart (words ++ record { gap = gap; digits = digits } ∷ []) ≡ true
 unfolding is_gap
-words_more [] gap digits f g d = and_intro (all_of is_space gap && is_number digits) true (and_intro (all_of is_space gap) (is_number digits) g d) refl
+words_more [] gap digits f g d = and_intro (all_of is_space gap && is_quantiser_number digits) true (and_intro (all_of is_space gap) (is_quantiser_number digits) g d) refl
 words_more (w ∷ words) gap digits f g d =
-    let s = both (is_first w) (all_of is_further words) f in
+    let s = both (is_first_quantiser w) (all_of is_further_quantiser words) f in
     let p = both (not (is_empty gap)) (all_of is_space gap) g in
     let word : NumberWord = record { gap = gap; digits = digits } in
-    and_intro (is_first w) (all_of is_further (words ++ word ∷ [])) s.0
-    (all_join is_further words (word ∷ []) s.1
-    (one_of is_further word (and_intro (not (is_empty gap)) (all_of is_space gap && is_number digits) p.0 (and_intro (all_of is_space gap) (is_number digits) p.1 d))))
+    and_intro (is_first_quantiser w) (all_of is_further_quantiser (words ++ word ∷ [])) s.0
+    (all_join is_further_quantiser words (word ∷ []) s.1
+    (one_of is_further_quantiser word (and_intro (not (is_empty gap)) (all_of is_space gap && is_quantiser_number digits) p.0 (and_intro (all_of is_space gap) (is_quantiser_number digits) p.1 d))))
 
 -- Numbers with the space before them, and of one more space and digits, if any.
 record IsFront (t : List ℕ) (s : NumbersState) : Type 0 where
@@ -141,7 +141,7 @@ digit_front t s u b f d e = by (nat_lt (length s.numbers) 256) (nat_lt s.digits 
     by true false z p q r e = cc
     by false y z p q r e = cc
 
--- THE NUMBERS, once the one in work is whole
+-- THE NUMBERS, once the current one is complete
 
 record IsEnded (t : List ℕ) (s : NumbersState) : Type 0 where
   words : List NumberWord
@@ -153,7 +153,7 @@ record IsEnded (t : List ℕ) (s : NumbersState) : Type 0 where
   most : length words ≤ 256
   none : ended s ≡ at (ended s).numbers 0 0
 
-number_yes : (ds : List ℕ) → 1 ≤ length ds → length ds ≤ 5 → all_of is_digit ds ≡ true → digits_from 0 ds ≤ 65535 → is_number ds ≡ true
+number_yes : (ds : List ℕ) → 1 ≤ length ds → length ds ≤ 5 → all_of is_digit ds ≡ true → digits_from 0 ds ≤ 65535 → is_quantiser_number ds ≡ true
 number_yes ds some few all small =
     and_intro (nat_le 1 (length ds) && nat_le (length ds) 5) (all_of is_digit ds && nat_le (digits_from 0 ds) 65535)
     (and_intro (nat_le 1 (length ds)) (nat_le (length ds) 5) (yes 1 (length ds) some) (yes (length ds) 5 few))
@@ -251,7 +251,7 @@ run_front t (b ∷ bytes) s u f e = by (number_step s b) refl e (λ v g h. run_f
     by None a e more = cc
     by (Some v) a e more = subst (λ x. IsFront x u) (append_assoc t (b ∷ []) bytes) (more v (front_step t s v b f a) e)
 
--- what was read, once the number in work is whole
+-- what was read, once the current number is complete
 pub record IsReadAs (bytes : List ℕ) (s : NumbersState) : Type 0 where
   pub words : List NumberWord
   pub tail : List ℕ
@@ -268,7 +268,7 @@ read_as bytes r e =
     let i = front_ended (without_comments false bytes) r.text (run_front [] (without_comments false bytes) no_numbers r.text front_none all) in
     record { words = i.words; tail = i.tail; text = i.text; formed = i.formed; told = i.told; space = i.space; most = i.most; none = i.none }
 
--- A WHOLE TEXT
+-- A COMPLETE TEXT
 
 pub told_spells : (bytes : List ℕ) (r : ReaderState) (tables : List QuantTable) → run reader_step new_reader bytes ≡ Some r → tables_told r.text ≡ Some tables → SpellsTables bytes tables
 told_spells bytes r tables e told = by (is_count (length (ended r.text).numbers)) refl told

@@ -5,10 +5,10 @@ use Rattle.std.proofs.lemmas.List.{length-map, map-append, take_all, take_more, 
 use Rattle.std.proofs.lemmas.List.Elements.{All-get_or}
 use Rattle.std.proofs.lemmas.List.Sums.{AllPass-from_list_all}
 use Rattle.jpg_spec.specs.Lists.{below}
-use Rattle.jpg_spec.specs.Moves.{zigzag}
+use Rattle.jpg_spec.specs.Zigzag.{zigzag}
 use Rattle.jpg_spec.specs.Segments.{QuantTable}
-use Rattle.jpg_spec.specs.Quality.{in_zigzag}
-use Rattle.jpg_spec.specs.TableText.{table_at}
+use Rattle.jpg_spec_image.specs.Quality.{in_zigzag}
+use Rattle.jpg_spec_image.specs.TableText.{table_at}
 use Rattle.jpg_spec.proofs.Common.{length_below}
 
 -- IN ZIGZAG ORDER

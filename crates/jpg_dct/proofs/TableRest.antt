@@ -1,9 +1,10 @@
--- Bytes that were read are the beginning of some text of tables: the end of a line and as many zeros as are left may follow them.
+-- Bytes that were read are the beginning of some text of tables: the end of a line and as many zeros as are left may
+-- follow them.
 use Rattle.std.proofs.Common.{◌≡◌, ℕ, zero, suc, ◌+◌, ◌≤◌, Bool, true, false, cond, List, [], ◌∷◌, ◌++◌, length, refl, sym, ap, ◌∙◌, arith, Option, Some}
 use Rattle.std.specs.Prelude.{◌-◌, option_map}
 use Rattle.std.proofs.lemmas.List.{length-append, length-map}
-use Rattle.jpg_spec.specs.ScriptGrammar.{in_comment}
-use Rattle.jpg_spec.specs.TableText.{is_count, tables_of, BeginsTables}
+use Rattle.jpg_spec.specs.NumberTexts.{in_comment}
+use Rattle.jpg_spec_image.specs.TableText.{is_count, tables_of, BeginsTables}
 use Rattle.jpg_dct.specs.TableState.{NumbersState, ended, number_step, ReaderState, reader_step, new_reader, run}
 use Rattle.jpg_dct.proofs.TableRuns.{run_two, run_cons, run_nil, at, value_of, digit_taken, number_space, told_by}
 use Rattle.jpg_dct.proofs.TableFronts.{read_as, told_spells}
@@ -11,7 +12,7 @@ use Rattle.jpg_dct.proofs.TableFronts.{read_as, told_spells}
 reader : NumbersState → ReaderState
 reader s = record { behind = false; text = s }
 
--- numbers 0, each with a space behind it
+-- numbers 0, each followed by a space
 zeros_text : ℕ → List ℕ
 zeros_text zero = []
 zeros_text (suc n) = 48 ∷ 32 ∷ zeros_text n

@@ -1,13 +1,13 @@
--- A spelling of tables is read byte by byte to the tables that it tells.
+-- Reading a spelling of tables byte by byte gives the tables that it encodes.
 use Rattle.std.proofs.Common.{◌≡◌, ℕ, ◌+◌, ◌-◌, ◌*◌, ◌<◌, ◌≤◌, Bool, true, false, cond, not, ◌&&◌, ◌==◌, List, [], ◌∷◌, ◌++◌, length, map, refl, sym, ap, ◌∙◌, arith, Option, None, Some}
 use Rattle.std.specs.Prelude.{◌||◌, nat_lt, nat_le, option_map, option_and_then, flat_map}
 use Rattle.std.proofs.lemmas.Bool.Decides.{nat_tests}
 use Rattle.std.proofs.lemmas.List.{append_assoc, length-append, length-map}
 use Rattle.jpg_spec.specs.Lists.{all_of, is_empty}
-use Rattle.jpg_spec.specs.Requests.{is_digit, digits_from}
+use Rattle.jpg_spec.specs.NumberTexts.{is_digit, digits_from}
 use Rattle.jpg_spec.specs.Segments.{QuantTable}
-use Rattle.jpg_spec.specs.ScriptGrammar.{in_comment, without_comments, is_space, NumberWord, NumbersWord, number_text, numbers_text, numbers_told}
-use Rattle.jpg_spec.specs.TableText.{is_number, is_first, is_further, are_apart, is_count, are_tables, tables_of, SpellsTables, BeginsTables}
+use Rattle.jpg_spec.specs.NumberTexts.{in_comment, without_comments, is_space, NumberWord, NumbersWord, number_text, numbers_text, numbers_told}
+use Rattle.jpg_spec_image.specs.TableText.{is_quantiser_number, is_first_quantiser, is_further_quantiser, are_apart, is_count, are_tables, tables_of, SpellsTables, BeginsTables}
 use Rattle.jpg_spec.proofs.Common.{both, and_intro, same_of, le_of, lt_yes, some_once}
 use Rattle.jpg_dct.specs.TableState.{NumbersState, no_numbers, ended, digit_step, number_step, tables_told, ReaderState, reader_step, new_reader, run}
 
@@ -58,7 +58,7 @@ number_space s b e =
     ap (λ t. cond t (digit_step s (b - 48)) (cond (is_space b) (Some (ended s)) None)) (space_no_digit b e)
     ∙ ap (λ t. cond t (Some (ended s)) None) e
 
--- so many numbers, and a number in work of so many digits and this value
+-- these numbers, and a current number with n digits and the value v
 abbrev pub at : List ℕ → ℕ → ℕ → NumbersState
 at ns n v = record { numbers = ns; digits = n; value = v }
 
@@ -98,12 +98,12 @@ digits_on ns n v (d ∷ ds) all room few small =
     ∙ digits_on ns (n + 1) next ds s.1 room (omega (arith, few)) small
     ∙ ap (λ m. Some (at ns m (digits_from next ds))) (omega arith)
 
-number_some : (ds : List ℕ) → is_number ds ≡ true → 1 ≤ length ds
+number_some : (ds : List ℕ) → is_quantiser_number ds ≡ true → 1 ≤ length ds
 number_some ds e =
     let s = both (nat_le 1 (length ds) && nat_le (length ds) 5) (all_of is_digit ds && nat_le (digits_from 0 ds) 65535) e in
     le_of 1 (length ds) (both (nat_le 1 (length ds)) (nat_le (length ds) 5) s.0).0
 
-number_run : (ns ds : List ℕ) → length ns < 256 → is_number ds ≡ true → run number_step (at ns 0 0) ds ≡ Some (at ns (length ds) (digits_from 0 ds))
+number_run : (ns ds : List ℕ) → length ns < 256 → is_quantiser_number ds ≡ true → run number_step (at ns 0 0) ds ≡ Some (at ns (length ds) (digits_from 0 ds))
 number_run ns ds room e =
     let s = both (nat_le 1 (length ds) && nat_le (length ds) 5) (all_of is_digit ds && nat_le (digits_from 0 ds) 65535) e in
     let many = both (nat_le 1 (length ds)) (nat_le (length ds) 5) s.0 in
@@ -148,13 +148,13 @@ record EndsIn (s : NumbersState) (bytes told : List ℕ) : Type 0 where
   run : run number_step s bytes ≡ Some (at numbers digits value)
   all : numbers ++ value ∷ [] ≡ told
 
-further_run : (ns : List ℕ) (n v : ℕ) (ws : List NumberWord) → 1 ≤ n → all_of is_further ws ≡ true → length ns + length ws < 256
+further_run : (ns : List ℕ) (n v : ℕ) (ws : List NumberWord) → 1 ≤ n → all_of is_further_quantiser ws ≡ true → length ns + length ws < 256
     → EndsIn (at ns n v) (flat_map number_text ws) (ns ++ v ∷ map value_of ws)
 further_run ns n v [] some e l = record { numbers = ns; digits = n; value = v; some = some; run = run_nil number_step (at ns n v); all = refl }
 further_run ns n v (w ∷ ws) some e l =
-    let s = both (is_further w) (all_of is_further ws) e in
-    let parts = both (not (is_empty w.gap)) (is_first w) s.0 in
-    let first = both (all_of is_space w.gap) (is_number w.digits) parts.1 in
+    let s = both (is_further_quantiser w) (all_of is_further_quantiser ws) e in
+    let parts = both (not (is_empty w.gap)) (is_first_quantiser w) s.0 in
+    let first = both (all_of is_space w.gap) (is_quantiser_number w.digits) parts.1 in
     let more = length-append ns (v ∷ []) in
     let room : length (ns ++ v ∷ []) < 256 = omega (arith, l, more) in
     let g = gap_run (at ns n v) w.gap parts.0 first.0 ∙ ap (λ (t : NumbersState). Some t) (ended_in ns n v some) in
@@ -174,8 +174,8 @@ further_run ns n v (w ∷ ws) some e l =
 words_run : (ws : List NumberWord) → are_apart ws ≡ true → 1 ≤ length ws → length ws ≤ 256 → EndsIn no_numbers (flat_map number_text ws) (map value_of ws)
 words_run [] e some l = absurd (omega (arith, some))
 words_run (w ∷ ws) e some l =
-    let s = both (is_first w) (all_of is_further ws) e in
-    let parts = both (all_of is_space w.gap) (is_number w.digits) s.0 in
+    let s = both (is_first_quantiser w) (all_of is_further_quantiser ws) e in
+    let parts = both (all_of is_space w.gap) (is_quantiser_number w.digits) s.0 in
     let g = spaces_on no_numbers w.gap parts.0 in
     let d = number_run [] w.digits (omega arith) parts.1 in
     let rest = further_run [] (length w.digits) (value_of w) ws (number_some w.digits parts.1) s.1 (omega (arith, l)) in

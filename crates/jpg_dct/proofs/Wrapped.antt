@@ -1,4 +1,4 @@
--- Sums that are right in the low bits of a width: to wrap on the way changes nothing.
+-- Sums that are correct in the low bits of a width: wrapping on the way changes nothing.
 use Rattle.std.proofs.Common.{◌≡◌, List, [], ◌∷◌, ℤ, ◌+ℤ◌, ◌-ℤ◌, ◌*ℤ◌, neg_ℤ, to_z, of_z, FitsSigned as SFits, sym, ap, ◌∙◌}
 use Rattle.std.specs.Int.{Width, int_wrap}
 use Rattle.std.proofs.lemmas.Int.{to_z-of_z, int_wrap_fits, SFits-int_wrap, int_wrap-add_left, int_wrap-add_right, int_wrap-sub_right, int_wrap-mul_left}

@@ -6,13 +6,13 @@ use Rattle.std.proofs.lemmas.List.{get_or-map, take_more_set, take_all, map-appe
 use Rattle.std.proofs.lemmas.List.Elements.{All-get_or}
 use Rattle.std.proofs.lemmas.List.Sums.{AllPass-from_list_all}
 use Rattle.jpg_spec.specs.Lists.{below, index_of}
-use Rattle.jpg_spec.specs.Moves.{zigzag}
-use Rattle.jpg_spec.specs.Dct.{number_at}
-use Rattle.jpg_spec.specs.ForwardDct.{multiples, quantised, quantised_block, forward_dct}
+use Rattle.jpg_spec.specs.Zigzag.{zigzag}
+use Rattle.jpg_spec_image.specs.Dct.{number_at}
+use Rattle.jpg_spec_image.specs.ForwardDct.{multiples, quantised, quantised_block, forward_dct}
 use Rattle.jpg_spec.proofs.Rows.{at_below, map_alike, by_items}
 use Rattle.jpg_dct.specs.Natural.{natural_table}
 use Rattle.jpg_dct.specs.Division.{with_sign, divided, Divides, AreDivisors, AreFewer}
-use Rattle.jpg_dct.specs.declared.lanes.Eight.{Eight}
+use Rattle.jpg_dct.specs.declared.forward.lanes.Eight.{Eight}
 use Rattle.jpg_dct.specs.Eights.{IsEight, AreQuotients, vector, quotient_at}
 
 -- THE PLACES of natural indices

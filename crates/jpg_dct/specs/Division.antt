@@ -1,6 +1,6 @@
--- Division by eight quantisers as two multiplications, each of which leaves the high half.
+-- Division by eight quantisers as two multiplications, of each of which the high half is taken.
 use Rattle.std.specs.Prelude.{◌≡◌, ℕ, ◌+◌, ◌*◌, ◌/◌, ◌<◌, ◌≤◌, List, length, slice_index, ℤ, pos, negsuc, neg_ℤ}
-use Rattle.jpg_spec.specs.ForwardDct.{multiples}
+use Rattle.jpg_spec_image.specs.ForwardDct.{multiples}
 
 -- a magnitude with the sign of a number
 abbrev pub with_sign : ℤ → ℕ → ℤ
@@ -13,14 +13,14 @@ high_part a b = a * b / 65536
 abbrev pub divided : ℕ → ℕ → ℕ → ℕ → ℕ
 divided size half factor scale = high_part (high_part (size + half) factor) scale
 
--- numbers by which all sizes that occur are divided as by a quantiser
+-- numbers that divide all magnitudes that occur as a quantiser does
 pub record Divides (q half factor scale : ℕ) : Type 0 where
   pub small : half ≤ 8196
   pub byte_pair : factor < 65536
   pub few : scale ≤ 16384
   pub all : (size : ℕ) → size ≤ 8192 → divided size half factor scale ≡ multiples size q
 
--- a power of two that lies near below d
+-- a power of two that is close below d
 pub record IsNear (d v : ℕ) : Type 0 where
   pub some : 4 ≤ v
   pub below : v < d

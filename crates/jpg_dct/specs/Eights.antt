@@ -1,10 +1,10 @@
 -- Vectors of eight lanes.
 use Rattle.std.specs.Prelude.{◌≡◌, ℕ, ◌<◌, ◌≤◌, ◌+◌, ◌*◌, List, [], ◌∷◌, pos, negsuc, ◌≤ℤ◌, ◌+ℤ◌, ◌*ℤ◌, length, slice_index_or, slice_index, ℤ, nat_abs}
 use Rattle.std.specs.Int.{int_shr}
-use Rattle.jpg_spec.specs.Dct.{number_at}
+use Rattle.jpg_spec_image.specs.Dct.{number_at}
 use Rattle.jpg_dct.specs.Division.{with_sign, divided}
-use Rattle.jpg_dct.specs.declared.lanes.Eight.{Eight}
-use Rattle.jpg_dct.specs.declared.lanes.Four.{Four}
+use Rattle.jpg_dct.specs.declared.forward.lanes.Eight.{Eight}
+use Rattle.jpg_dct.specs.declared.forward.lanes.Four.{Four}
 
 -- eight numbers of a magnitude of at most n
 pub record IsEight (n : ℕ) (xs : List ℤ) : Type 0 where
@@ -62,7 +62,7 @@ quotient_at x halves factors scales n = with_sign x (divided (nat_abs x) (slice_
 abbrev pub four_of : List ℤ → List ℤ → List ℤ → List ℤ → ℤ → ℤ → ℤ → ℤ → ℕ → ℤ
 four_of a b c d k l m n i = ((number_at a i *ℤ k) +ℤ (number_at b i *ℤ l)) +ℤ ((number_at c i *ℤ m) +ℤ (number_at d i *ℤ n))
 
--- rows of numbers and what they are divided by tables
+-- rows of numbers, and the same divided by tables
 abbrev pub AreQuotients : Eight → Eight → List ℕ → List ℕ → List ℕ → Type 0
 AreQuotients d done halves factors scales =
     (k v : ℕ) → k < 8 → v < 8 → number_at (vector done v) k ≡ quotient_at (number_at (vector d v) k) halves factors scales (8 * v + k)

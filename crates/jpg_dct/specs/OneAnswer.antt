@@ -1,8 +1,8 @@
--- What a text tells is one answer; texts that are right and wrong (the manual of cjpeg, "-qtables").
+-- What a text encodes is one answer; texts that are right and wrong (the manual of cjpeg, "-qtables").
 use Rattle.std.specs.Prelude.{◌≡◌, ℕ, zero, suc, List, [], ◌∷◌, ◌++◌, codes, Result, Err}
 use Rattle.jpg_spec.specs.Segments.{QuantTable}
-use Rattle.jpg_spec.specs.TableText.{TellsTables}
-use Rattle.jpg_spec.specs.declared.answers.FaultAt.{FaultAt}
+use Rattle.jpg_spec_image.specs.TableText.{TellsTables}
+use Rattle.jpg_spec.specs.declared.fault.FaultAt.{FaultAt}
 use Rattle.jpg_spec.specs.declared.fault.Fault.TheVariants.{TableText}
 
 -- two answers to a text are the same
@@ -12,10 +12,10 @@ HasOneAnswer text = (a b : Result (List QuantTable) FaultAt) → TellsTables tex
 abbrev pub IsWrongAt : List ℕ → ℕ → Type 0
 IsWrongAt text place = TellsTables text (Err (record { fault = TableText; at = place }))
 
--- so many ones, each with a space behind it
-abbrev pub ones : ℕ → List ℕ
-ones zero = []
-ones (suc n) = 49 ∷ 32 ∷ ones n
+-- a number of ones, each with a space after it
+abbrev pub ones_text : ℕ → List ℕ
+ones_text zero = []
+ones_text (suc n) = 49 ∷ 32 ∷ ones_text n
 
 -- 0 to 63 with comments among them, the last one without an end of its line
 abbrev pub counting_text : List ℕ

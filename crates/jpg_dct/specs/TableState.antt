@@ -1,11 +1,11 @@
--- What the bytes of a text of tables come to, one by one. What a text is stands in TableText of jpg_spec.
+-- The result of the bytes of a text of tables, one by one. TableText of jpg_spec defines what a text is.
 use Rattle.std.specs.Prelude.{ℕ, ◌+◌, ◌-◌, ◌*◌, ◌<◌, ◌≤◌, Bool, false, nat_lt, nat_le, ◌&&◌, ◌==◌, if◌then◌else◌, true, List, [], ◌∷◌, ◌++◌, length, Option, None, Some, option_map, option_and_then}
-use Rattle.jpg_spec.specs.Requests.{is_digit}
+use Rattle.jpg_spec.specs.NumberTexts.{is_digit}
 use Rattle.jpg_spec.specs.Segments.{QuantTable}
-use Rattle.jpg_spec.specs.ScriptGrammar.{in_comment, is_space}
-use Rattle.jpg_spec.specs.TableText.{is_count, tables_of}
+use Rattle.jpg_spec.specs.NumberTexts.{in_comment, is_space}
+use Rattle.jpg_spec_image.specs.TableText.{is_count, tables_of}
 
--- NUMBERS: those that are whole, and of the one in work how many digits came and what they tell
+-- NUMBERS: the complete ones, and of the current one how many digits were read and their value
 
 pub record NumbersState : Type 0 where
   pub numbers : List ℕ
@@ -15,7 +15,7 @@ pub record NumbersState : Type 0 where
 abbrev pub no_numbers : NumbersState
 no_numbers = record { numbers = []; digits = 0; value = 0 }
 
--- a number in work is whole before a byte that is no digit
+-- the current number is complete before a byte that isn't a digit
 abbrev pub ended : NumbersState → NumbersState
 ended s = if s.digits == 0 then s else record { numbers = s.numbers ++ s.value ∷ []; digits = 0; value = 0 }
 
@@ -28,11 +28,11 @@ digit_step s d =
 abbrev pub number_step : NumbersState → ℕ → Option NumbersState
 number_step s b = if is_digit b then digit_step s (b - 48) else if is_space b then Some (ended s) else None
 
--- the tables, where the text ends here
+-- the tables, if the text ends here
 abbrev pub tables_told : NumbersState → Option (List QuantTable)
 tables_told s = if is_count (length (ended s).numbers) then Some (tables_of (ended s).numbers) else None
 
--- a number in work is one of 256 at most
+-- the current number is one of 256 at most
 abbrev pub HasRoom : List ℕ → ℕ → Type 0
 HasRoom numbers digits = 1 ≤ digits → length numbers < 256
 
@@ -54,7 +54,7 @@ unfoldable pub run : {S : Type 0} → (S → ℕ → Option S) → S → List �
 run step s [] = Some s
 run step s (b ∷ bytes) = option_and_then (λ t. run step t bytes) (step s b)
 
--- an answer: whether the byte was taken, and what stands then
+-- an answer: whether the byte was taken, and the state then
 abbrev pub taken : {S : Type 0} → Bool → S → Option S
 taken true s = Some s
 taken false s = None

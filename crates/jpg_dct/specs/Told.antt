@@ -1,6 +1,6 @@
--- What the low bits of a row's sum tell.
+-- The sample that the low bits of a row's sum determine.
 use Rattle.std.specs.Prelude.{ℕ, ◌%◌}
-use Rattle.jpg_spec.specs.Dct.{ranged}
+use Rattle.jpg_spec_image.specs.Dct.{ranged}
 
-abbrev pub told : ℕ → ℕ
-told low = ranged (low % 1024)
+abbrev pub natural_of : ℕ → ℕ
+natural_of low = ranged (low % 1024)

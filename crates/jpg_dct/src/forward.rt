@@ -1,9 +1,16 @@
-// The frequencies of a block of samples as a list (T.81, A.3.3).
+//! The frequencies of a block of samples as a list (T.81, A.3.3).
 ghost use Rattle.std.specs.Prelude.{◌≡◌};
-ghost use Rattle.jpg_spec.specs.ForwardDct.{forward_dct};
+ghost use Rattle.jpg_spec_image.specs.ForwardDct.{forward_dct};
 ghost use Rattle.jpg_dct.specs.Lines.{AreWithin};
 
-use crate::eight_frequencies::frequencies;
+pub mod blocks;
+pub mod eight_frequencies;
+pub mod eight_quotients;
+pub mod lanes;
+pub mod quantising;
+pub mod sample_columns;
+
+use crate::forward::eight_frequencies::frequencies;
 
 /// Eight times the coefficients of 64 samples, both in natural order: the rows, and then their columns.
 pub fn fdct(samples: &[u8; 64]) -> [i32; 64]

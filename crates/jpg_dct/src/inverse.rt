@@ -1,8 +1,10 @@
-// The samples of a block (T.81, A.3.3).
+//! The samples of a block (T.81, A.3.3).
 ghost use Rattle.std.specs.Prelude.{◌≡◌, ◌≤◌, ◌*ℤ◌, pos, All, nat_abs, max};
-ghost use Rattle.jpg_spec.specs.Dct.{inverse_dct};
+ghost use Rattle.jpg_spec_image.specs.Dct.{inverse_dct};
 
-use crate::{narrow, wide};
+pub mod flat;
+pub mod narrow;
+pub mod wide;
 
 /// A coefficient times its quantiser.
 pub fn dequantise(value: i16, q: u16) -> i32

@@ -1,28 +1,19 @@
 //! The transform between the coefficients of a block and its samples, and their quantisers (T.81, A.3.3, A.3.4).
 #![tactic(auto)]
 
-mod blocks;
-mod eight_frequencies;
-mod eight_quotients;
-mod flat;
 mod forward;
 mod inverse;
-mod lanes;
 mod laws;
-mod narrow;
 mod quality;
-mod quantising;
-mod sample_columns;
 mod table_text;
 mod tables;
-mod wide;
 
-pub use blocks::Divisors;
-pub use flat::flat_block;
+pub use forward::blocks::Divisors;
 pub use forward::fdct;
+pub use forward::quantising::quantise;
+pub use inverse::flat::flat_block;
 pub use inverse::{dequantise, idct};
 pub use laws::{numbers_are_told_by_rows, texts_tell_tables_once, wrong_tables_have_a_place};
 pub use quality::{quality_scale, scaled_quantiser};
-pub use quantising::quantise;
 pub use table_text::read_tables;
 pub use tables::{chrominance_table, encoding_tables, luminance_table, scaled_table};

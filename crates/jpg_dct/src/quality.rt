@@ -1,6 +1,6 @@
-// Quantisers by quality (release 6b's scale).
+//! Quantisers by quality (release 6b's scale).
 ghost use Rattle.std.specs.Prelude.{◌≡◌, ◌≤◌, max, min};
-ghost use Rattle.jpg_spec.specs.Quality.{quality_scale, most_quantiser, scaled_quantiser};
+ghost use Rattle.jpg_spec_image.specs.Quality.{quality_scale, most_quantiser, scaled_quantiser};
 
 /// The percentage that tables are scaled by for a quality from 1 to 100.
 pub fn quality_scale(quality: u8) -> u32
@@ -25,7 +25,7 @@ fn most(baseline: bool) -> u32
     if baseline { 255 } else { 32767 }
 }
 
-// A number brought between 1 and the most.
+// A number limited to the range from 1 to the most.
 fn limited(n: u32, most: u32) -> u16
     requires { (1 ≤ most) × (most ≤ 32767) }
     ensures { result ≡ max 1 (min n most) }
@@ -34,7 +34,7 @@ fn limited(n: u32, most: u32) -> u16
     if low < 1 { 1 } else { low as u16 }
 }
 
-/// A quantiser scaled by so many hundredths, rounded: at least 1, and at most 32767, or 255 where a baseline file is asked for.
+/// A quantiser scaled by a percentage, rounded: at least 1, and at most 32767, or 255 if a baseline file is asked for.
 pub fn scaled_quantiser(q: u16, scale: u32, baseline: bool) -> u16
     requires { scale ≤ 5000 }
     ensures { result ≡ scaled_quantiser scale baseline q }

@@ -1,19 +1,20 @@
-// The text of tables, byte by byte (the manual of cjpeg, -qtables).
+//! The text of tables, byte by byte (the manual of cjpeg, -qtables).
 ghost use Rattle.std.specs.Prelude.{◌≡◌, ◌<◌, ◌≤◌, length, option_map};
-ghost use Rattle.jpg_spec.specs.Quality.{in_zigzag};
-ghost use Rattle.jpg_spec.specs.Requests.{is_digit};
-ghost use Rattle.jpg_spec.specs.ScriptGrammar.{in_comment, is_space};
-ghost use Rattle.jpg_spec.specs.TableText.{TellsTables, is_count, tables_of};
+ghost use Rattle.jpg_spec_image.specs.Quality.{in_zigzag};
+ghost use Rattle.jpg_spec.specs.NumberTexts.{is_digit};
+ghost use Rattle.jpg_spec.specs.NumberTexts.{in_comment, is_space};
+ghost use Rattle.jpg_spec_image.specs.TableText.{TellsTables, is_count, tables_of};
 ghost use Rattle.jpg_spec.specs.declared.fault.Fault.TheVariants.{TableText};
-ghost use Rattle.jpg_dct.specs.ReadTables.{IsRead, tables_or_fault};
+ghost use Rattle.jpg_dct.specs.ReadTables.{IsReadTables, tables_or_fault};
 ghost use Rattle.jpg_dct.specs.TableState.{digit_step, ended, new_reader, number_step, reader_step, taken, tables_told};
 
-use crate::blocks::ZIGZAG;
+use crate::forward::blocks::ZIGZAG;
 use arrayvec::ArrayVec;
 use jpg_base::{Fault, FaultAt, QuantTable};
 use std::marker::Model;
 
-// The numbers that are whole, how many digits of one more came and what they tell, and whether the last byte was in a comment.
+// The complete numbers, how many digits of the next one were read and their value, and whether the last byte was in a
+// comment.
 #[derive(Drop)]
 pub struct TableReader {
     numbers: ArrayVec<u16, 256>,
@@ -24,7 +25,7 @@ pub struct TableReader {
 
 impl Model for TableReader {
     ghost use Rattle.jpg_spec.specs.declared.fault.Fault.TheVariants.{TableText};
-    ghost use Rattle.jpg_dct.specs.ReadTables.{IsRead, tables_or_fault};
+    ghost use Rattle.jpg_dct.specs.ReadTables.{IsReadTables, tables_or_fault};
     ghost use Rattle.jpg_dct.specs.TableState.{ReaderState as State, HasRoom};
 
     ghost Value = { State };
@@ -34,12 +35,13 @@ impl Model for TableReader {
     ghost invariant = { λ r. HasRoom r.numbers.items r.digits };
 }
 
-// The bytes of a text at most.
+// The greatest length of a text in bytes.
 const LONGEST: u64 = 65536;
 
-/// The tables that a text tells, as files of tables have them (the manual of cjpeg): 64, 128, 192 or 256 numbers of one to five digits
-/// and at most 65535, with space between; each 64 are a table, row by row. Or TableText at the first byte that no such text has there,
-/// at the text's end where it ends too early, or at 65537 where it is longer than 65536 bytes.
+/// The tables that a text encodes, in the form of table files (the manual of cjpeg): 64, 128, 192 or 256 numbers of one
+/// to five digits and at most 65535, with space between; each 64 are a table, row by row. Otherwise TableText at the
+/// first byte that no such text has there, at the text's end if it ends too early, or at 65537 if it is longer than
+/// 65536 bytes.
 pub fn read_tables(text: &[u8]) -> Result<ArrayVec<QuantTable, 4>, FaultAt>
     ensures { TellsTables text.now (tables_or_fault result) }
 {
@@ -52,9 +54,9 @@ pub fn read_tables(text: &[u8]) -> Result<ArrayVec<QuantTable, 4>, FaultAt>
     }
 }
 
-// All bytes of a text, or the first that may not stand there.
+// All bytes of a text, or the first that may not occur there.
 fn read(text: &[u8]) -> Result<TableReader, FaultAt>
-    ensures { IsRead text.now result }
+    ensures { IsReadTables text.now result }
 {
     let mut reader = TableReader::new();
     let mut before = 0;
@@ -92,7 +94,7 @@ impl TableReader {
         }
     }
 
-    // Takes a byte, where it may stand there.
+    // Takes a byte, and answers whether it may occur there.
     fn byte(&mut self, byte: u8) -> bool
         ensures { taken result self.new ≡ reader_step self.old byte }
     {
@@ -104,7 +106,7 @@ impl TableReader {
         }
     }
 
-    // A byte of no comment, or a space in its place.
+    // A byte outside a comment, or a space in place of one inside.
     fn plain_byte(&mut self, byte: u8) -> bool
         ensures text { taken result self.new.text ≡ number_step self.old.text byte }
         ensures behind { self.new.behind ≡ self.old.behind }
@@ -130,7 +132,7 @@ impl TableReader {
         true
     }
 
-    // A number in work is whole.
+    // Completes the current number, if any.
     fn end_number(&mut self)
         ensures text { self.new.text ≡ ended self.old.text }
         ensures behind { self.new.behind ≡ self.old.behind }
@@ -142,7 +144,7 @@ impl TableReader {
         }
     }
 
-    // The tables, where the text ends here.
+    // The tables, if the text ends here.
     fn end(mut self) -> Option<ArrayVec<QuantTable, 4>>
         ensures { option_map (λ v. v.items) result ≡ tables_told self.text }
     {
@@ -166,21 +168,21 @@ fn is_space(byte: u8) -> bool
     byte == 32 || (byte == 9 || (byte == 10 || (byte == 12 || byte == 13)))
 }
 
-// A byte of a comment: it begins with # and goes on up to LF.
+// Whether a byte is in a comment, which begins with # and goes on up to LF.
 fn in_comment(behind: bool, byte: u8) -> bool
     ensures { result ≡ in_comment behind byte }
 {
     if behind { byte != 10 } else { byte == 35 }
 }
 
-// As many as one to four tables have.
+// Whether this many numbers are one to four tables.
 fn is_count(count: usize) -> bool
     ensures value { result ≡ is_count count }
 {
     count == 64 || (count == 128 || (count == 192 || count == 256))
 }
 
-// Each 64 numbers a table.
+// The tables of the numbers, of 64 each.
 fn tables_of(numbers: &[u16]) -> ArrayVec<QuantTable, 4>
     requires { length numbers.now ≤ 256 }
     ensures { result.items ≡ tables_of numbers.now }
@@ -192,7 +194,7 @@ fn tables_of(numbers: &[u16]) -> ArrayVec<QuantTable, 4>
     tables
 }
 
-// Numbers row by row, in zigzag order.
+// A table from its numbers row by row, in zigzag order.
 fn table_of(rows: &[u16]) -> QuantTable
     requires { length rows.now ≡ 64 }
     ensures { result ≡ in_zigzag rows.now }

@@ -1,8 +1,8 @@
-// The quantisers that images are encoded by (T.81, K.1; the manual of cjpeg).
+//! The quantisers that images are encoded by (T.81, K.1; the manual of cjpeg).
 ghost use Rattle.std.specs.Prelude.{◌≡◌, ◌≤◌, All, option_copied, option_map, slice_get};
-ghost use Rattle.jpg_spec.specs.Quality.{quality_scale, scaled_table, luminance_table, chrominance_table};
-ghost use Rattle.jpg_spec.specs.TableText.{IsQuality, encoding_tables, file_scale, quality_due, table_due, file_tables};
-ghost use Rattle.jpg_spec.specs.WrittenFile.{AreQuantisers};
+ghost use Rattle.jpg_spec_image.specs.Quality.{quality_scale, scaled_table, luminance_table, chrominance_table};
+ghost use Rattle.jpg_spec_image.specs.TableText.{IsQuality, encoding_tables, file_scale, quality_due, table_due, file_tables};
+ghost use Rattle.jpg_spec.specs.Segments.{AreQuantisers};
 ghost use Rattle.jpg_dct.specs.Both.{both};
 
 use crate::quality::{quality_scale, scaled_quantiser};
@@ -37,7 +37,8 @@ pub fn chrominance_table() -> QuantTable
     QuantTable::of(CHROMINANCE)
 }
 
-/// Each quantiser scaled by so many hundredths, rounded: at least 1, and at most 32767, or 255 where a baseline file is asked for.
+/// Each quantiser scaled by a percentage, rounded: at least 1, and at most 32767, or 255 if a baseline file is asked
+/// for.
 pub fn scaled_table(base: &QuantTable, scale: u32, baseline: bool) -> QuantTable
     requires { scale ≤ 5000 }
     ensures value { result ≡ scaled_table scale baseline base.now }
@@ -52,7 +53,7 @@ pub fn scaled_table(base: &QuantTable, scale: u32, baseline: bool) -> QuantTable
     QuantTable::of(values)
 }
 
-// The quality told, or else 75.
+// The quality that was asked for, or 75.
 fn quality_due(quality: Option<u8>) -> u8
     requires { IsQuality quality }
     ensures value { result ≡ quality_due quality }
@@ -64,7 +65,7 @@ fn quality_due(quality: Option<u8>) -> u8
     }
 }
 
-// How tables of a file are scaled: not at all where no quality is told.
+// The scale of tables of a file: 100 percent if no quality was asked for.
 fn file_scale(quality: Option<u8>) -> u32
     requires { IsQuality quality }
     ensures value { result ≡ file_scale quality }
@@ -76,7 +77,7 @@ fn file_scale(quality: Option<u8>) -> u32
     }
 }
 
-// A table of a file, or else the standard one.
+// A table of a file, or the standard one.
 fn table_due(
     quality: Option<u8>,
     baseline: bool,
@@ -93,7 +94,7 @@ fn table_due(
     }
 }
 
-// A table of a file, if it has one at this place.
+// A table of a file, if it has one at this index.
 fn table_told(file: Option<&ArrayVec<QuantTable, 4>>, i: usize) -> Option<QuantTable>
     ensures { result ≡ slice_get (file_tables (option_map (λ v. v.items) (option_copied file.entry))) i }
 {
@@ -103,8 +104,9 @@ fn table_told(file: Option<&ArrayVec<QuantTable, 4>>, i: usize) -> Option<QuantT
     }
 }
 
-/// The tables of an image's first component and of the others. Those of a file that stand first are taken, scaled where a quality is
-/// told; in the place of one that isn't there the standard one of luminance or chrominance, scaled by the quality told or 75.
+/// The tables of an image's first component and of the others. The first tables of the file are taken, scaled if a
+/// quality is asked for; a table that the file doesn't have is the standard one of luminance or chrominance, scaled by
+/// the quality, or by 75.
 pub fn encoding_tables(
     quality: Option<u8>,
     baseline: bool,

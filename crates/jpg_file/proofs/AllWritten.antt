@@ -6,9 +6,9 @@ use Rattle.jpg_base.specs.Desk.{DeskState, AppendsLast}
 use Rattle.jpg_huff.specs.BitOut.{Sends, nothing_waits}
 use Rattle.jpg_huff.specs.Out.{Emits}
 use Rattle.jpg_huff.specs.Waiting.{Waiting}
-use Rattle.jpg_file.specs.WriteFile.{AreAppended, Writes}
+use Rattle.jpg_file.specs.Write.WriteFile.{AreAppended, WritesDue}
 
-pub all_written : (s0 s1 : DeskState) (old new : Waiting) (due : List ℕ) (r : Result (Unit {0}) WriteFault) → old ≡ nothing_waits → new.bytes ≡ [] → Sends s0 old due r new s1 → Writes s0 due r s1
+pub all_written : (s0 s1 : DeskState) (old new : Waiting) (due : List ℕ) (r : Result (Unit {0}) WriteFault) → old ≡ nothing_waits → new.bytes ≡ [] → Sends s0 old due r new s1 → WritesDue s0 due r s1
 all_written s0 s1 old new due r empty none h =
     let P : List ℕ → Type 0 = λ bytes. Emits s0 bytes due r new.bytes s1 in
     record { only = h.kept; bytes = by r (subst P (ap (λ (w : Waiting). w.bytes) empty) h.bytes) }

@@ -1,4 +1,4 @@
--- What the bits of a data byte come to.
+-- The results of the bits of a data byte.
 use Rattle.std.proofs.Common.{ℕ, Bool, List, ◌++◌, sym, ap, ◌∙◌, subst, Ok, Err}
 use Rattle.std.proofs.lemmas.List.{append-nil}
 use Rattle.jpg_coefs.specs.Picture.{Picture}
@@ -7,8 +7,8 @@ use Rattle.jpg_coefs.specs.declared.machine.UnitStep.TheVariants as step
 use Rattle.jpg_coefs.specs.declared.machine.UnitFault.{UnitFault}
 use Rattle.jpg_coefs.specs.declared.machine.Taken.TheVariants as taken
 use Rattle.jpg_coefs.proofs.Chains.{chain_stands, answer_to, some_taken}
-use Rattle.jpg_file.specs.Data.{AfterBits}
-use Rattle.jpg_file.specs.declared.data.DataStep.TheVariants as came
+use Rattle.jpg_file.specs.Read.Data.{AfterBits}
+use Rattle.jpg_file.specs.declared.read.data.DataStep.TheVariants as came
 
 pub all_taken : {M : Type 0} (k : Kind M) (most : ℕ) (m new : M) (now after : Picture) (store rest : List Bool) (i : Interval) (so_far : List Bool) → TakesBits k most m now store taken.More new after rest
     → k.stands m i so_far now → AfterBits k i so_far store came.More new after

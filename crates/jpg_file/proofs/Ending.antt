@@ -1,4 +1,4 @@
--- EOI: the file is whole, or a component is missing.
+-- EOI: the file is complete, or a component is missing.
 use Rattle.std.proofs.Common.{◌≡◌, ℕ, ◌≤◌, true, false, List, [], ◌++◌, length, refl, sym, ◌∙◌, subst}
 use Rattle.std.specs.Prelude.{replicate}
 use Rattle.std.proofs.lemmas.List.{append-nil}
@@ -8,13 +8,13 @@ use Rattle.jpg_spec.specs.InForce.{frame_of}
 use Rattle.jpg_spec.specs.History.{is_complete}
 use Rattle.jpg_spec.specs.Items.{Item, segments_of}
 use Rattle.jpg_spec.specs.FileMeaning.{meaning_of}
-use Rattle.jpg_spec.specs.FileStands.{IsWholeFile}
-use Rattle.jpg_spec.specs.FirstFault.{Shows}
+use Rattle.jpg_spec.specs.UnfinishedFile.{IsWholeFile}
+use Rattle.jpg_spec.specs.FirstFault.{Reveals}
 use Rattle.jpg_spec.specs.declared.fault.Fault.TheVariants.{MissingComponent}
 use Rattle.jpg_spec.specs.declared.frame.Limits.{Limits}
 use Rattle.jpg_spec.proofs.ItemSteps.{fill_marker, missing_shown}
-use Rattle.jpg_file.specs.declared.items.Items.{Items}
-use Rattle.jpg_file.specs.Items.{BehindEnd}
+use Rattle.jpg_file.specs.declared.read.items.Items.{Items}
+use Rattle.jpg_file.specs.Read.Items.{BehindEnd}
 
 pub file_ends : (limits : Limits) (bytes : List ℕ) (items : List Item) (blocks : Blocks) (w : Items) → BehindEnd limits bytes items blocks w → is_complete (frame_of limits (segments_of items)) (segments_of items) ≡ true → length bytes ≤ limits.input
     → IsWholeFile limits bytes (meaning_of (frame_of limits (segments_of items)) (segments_of items) blocks)
@@ -39,5 +39,5 @@ file_ends limits bytes items blocks w k whole long =
       refl,
     )
 
-pub file_lacks : (limits : Limits) (bytes : List ℕ) (items : List Item) (blocks : Blocks) (w : Items) → BehindEnd limits bytes items blocks w → is_complete (frame_of limits (segments_of items)) (segments_of items) ≡ false → Shows limits MissingComponent bytes
+pub file_lacks : (limits : Limits) (bytes : List ℕ) (items : List Item) (blocks : Blocks) (w : Items) → BehindEnd limits bytes items blocks w → is_complete (frame_of limits (segments_of items)) (segments_of items) ≡ false → Reveals limits MissingComponent bytes
 file_lacks limits bytes items blocks w k missing = missing_shown limits (kept_rule limits) k.sent bytes items k.tail (k.at).beside k.ended k.allowed missing

@@ -1,4 +1,4 @@
--- Bits and bytes that show a fault while an MCU row is read.
+-- Bits and bytes that have a fault while an MCU row is read.
 use Rattle.std.proofs.Common.{◌≡◌, ℕ, suc, ◌+◌, ◌-◌, ◌/◌, ◌%◌, ◌≤◌, Bool, true, false, cond, List, [], ◌∷◌, ◌++◌, length, take, get_or, refl, sym, ap, ◌∙◌, subst, arith, inl, inr, Err}
 use Rattle.std.specs.Prelude.{replicate}
 use Rattle.std.proofs.lemmas.List.{append_assoc, append-nil, length-append, take_more}
@@ -21,21 +21,21 @@ use Rattle.jpg_coefs.specs.Machine.{TakesBits}
 use Rattle.jpg_coefs.specs.declared.machine.Taken.TheVariants as taken
 use Rattle.jpg_coefs.specs.declared.machine.UnitFault.{UnitFault}
 use Rattle.jpg_coefs.proofs.Chains.{chain_stands, some_taken}
-use Rattle.jpg_file.specs.InData.{ArePlain, AtWork, IsInterval, IsReadable}
-use Rattle.jpg_file.specs.Machine.{any_scan}
-use Rattle.jpg_file.specs.RowData.{HalfData, scan_answer}
-use Rattle.jpg_file.specs.RowMachine.{TakesRowBits}
-use Rattle.jpg_file.specs.RowPlaces.{IsRowAt, scan_left}
-use Rattle.jpg_file.specs.RowStops.{CompletesBefore, ShowsInRow, StopsByteInRow, StopsRestInRow, StopsRowData, StopsRowRun, StopsRunInRow}
-use Rattle.jpg_file.specs.Strips.{IsFirstScan, components_of, frame_behind}
-use Rattle.jpg_file.specs.declared.data.DataStep.{DataStep}
-use Rattle.jpg_file.specs.declared.data.DataStep.TheVariants as came
-use Rattle.jpg_file.specs.declared.machine.ScanReader.{ScanReader}
-use Rattle.jpg_file.specs.declared.rows.RowWork.{RowWork}
-use Rattle.jpg_file.specs.declared.scan.InScan.{InScan}
-use Rattle.jpg_file.specs.declared.scan.ScanStep.{ScanStep}
-use Rattle.jpg_file.specs.declared.scan.ScanStep.TheVariants as answer
-use Rattle.jpg_file.specs.declared.scan.ScanWork.{ScanWork}
+use Rattle.jpg_file.specs.Read.InData.{ArePlain, AtWork, IsInterval, IsReadable}
+use Rattle.jpg_file.specs.Read.Machine.{any_scan}
+use Rattle.jpg_file.specs.Read.RowData.{HalfData, scan_answer}
+use Rattle.jpg_file.specs.Read.RowMachine.{TakesRowBits}
+use Rattle.jpg_file.specs.Read.RowPlaces.{IsRowAt, scan_left}
+use Rattle.jpg_file.specs.Read.RowStops.{CompletesBefore, ShowsInRow, StopsByteInRow, StopsRestInRow, StopsRowData, StopsRowRun, StopsRunInRow}
+use Rattle.jpg_file.specs.Read.Strips.{IsFirstScan, components_of, frame_behind}
+use Rattle.jpg_file.specs.declared.read.data.DataStep.{DataStep}
+use Rattle.jpg_file.specs.declared.read.data.DataStep.TheVariants as came
+use Rattle.jpg_file.specs.declared.read.machine.ScanReader.{ScanReader}
+use Rattle.jpg_file.specs.declared.read.rows.RowWork.{RowWork}
+use Rattle.jpg_file.specs.declared.read.scan.InScan.{InScan}
+use Rattle.jpg_file.specs.declared.read.scan.ScanStep.{ScanStep}
+use Rattle.jpg_file.specs.declared.read.scan.ScanStep.TheVariants as answer
+use Rattle.jpg_file.specs.declared.read.scan.ScanWork.{ScanWork}
 use Rattle.jpg_file.proofs.FaultsPlaced.{fault_completes, fault_stops}
 use Rattle.jpg_file.proofs.RowsPlaced.{CompletesDue, PlaceStops, all_at, left_whole, place_stops, scan_of_all, stops_complete}
 use Rattle.jpg_file.proofs.RowsTold.{TellsAt, whole_at}
@@ -44,7 +44,7 @@ use Rattle.jpg_file.proofs.RowScans.{open_half, open_scan}
 use Rattle.jpg_file.proofs.ScanBytes.{data_at, due_at, due_units, marker_at, read_at}
 use Rattle.jpg_file.proofs.ScanRuns.{front_plain, open_at, plain_at, with_bytes}
 
--- BITS of the MCU row in work
+-- BITS of the current MCU row
 
 same_fault : (came_to : DataStep) (g f : UnitFault) → came_to ≡ came.Fault g → came_to ≡ came.Fault f → g ≡ f
 same_fault came_to g f a b = (let z : (let s : DataStep = came.Fault g in s) ≡ came.Fault f = sym a ∙ b in cc)
@@ -59,7 +59,7 @@ row_goes w m bits came_to is = λ f whole e of o. absurd (let z : (let s : DataS
 pub row_ends : (w : RowWork) (m : ScanReader) (bits : List Bool) (came_to : DataStep) → came_to ≡ came.Whole → StopsRowData w m bits came_to
 row_ends w m bits came_to is = λ f whole e of o. absurd (let z : (let s : DataStep = came.Whole in s) ≡ came.Fault f = sym is ∙ e in cc)
 
--- of the bytes up to the one that shows the fault
+-- of the bytes up to the one that has the fault
 first_taken : (most : ℕ) (m new : ScanReader) (now after : Picture) (bytes : List ℕ) (rest : List Bool) (n : ℕ) (f : UnitFault) → n ≡ length bytes - length rest / 8 → TakesBits any_scan most m now (bits_of_bytes bytes) (taken.Fault f) new after rest
     → ShowsInRow most m now (bits_of_bytes (take n bytes)) f
 first_taken most m new now after bytes rest n f count (bits, cut, chain) =
@@ -122,7 +122,7 @@ half_stops limits items contents bytes waiting s now rows f h shows first row =
     let there = subst (λ n. IsRowAt (frame_behind limits items) (components_of limits items contents) rows n) left row in
     completes_as limits bytes items contents rows (fault_completes limits items contents bytes rows (any_scan.left s.work.machine) (length (joined p.later)) z there)
 
--- A DATA BYTE after a whole interval
+-- A DATA BYTE after a complete interval
 
 extra_told : (limits : Limits) (p : ScanPlace) (byte : ℕ) (told : Blocks) → TellsAt limits p told → TellsAt limits (with_byte p byte) told
 extra_told limits p byte told t =
@@ -172,7 +172,7 @@ extra_stops limits items contents bytes front tail p byte w now rows of before a
     } in
     completes_as limits bytes items contents rows (stops_complete limits items contents bytes now rows (scan_left w) z row)
 
--- A MARKER that doesn't begin the interval that is due
+-- A MARKER that doesn't begin the next interval
 
 leading : (fill code : ℕ) → (code ≡ 0 → ⊥) → (code ≡ 255 → ⊥) → LeadingMarker (replicate (suc fill) 255 ++ code ∷ [])
 leading fill code z f =
@@ -199,7 +199,7 @@ marker_stops limits items contents bytes p fill code w now rows of z f at work w
     let k = place_stops limits items contents bytes tail p w now of at work (no_more_data limits p fill code w now z f work wrong) first all in
     completes_as limits bytes items contents rows (stops_complete limits items contents bytes now rows (scan_left w) k row)
 
--- WHAT THE SCAN ANSWERS: a fault alone stops it
+-- WHAT THE SCAN ANSWERS: only a fault stops it
 
 pub faulty : (given : ScanStep) (came_to : DataStep) (fault : Fault) → given ≡ scan_answer came_to → given ≡ answer.Fault fault → (f : UnitFault) × (came_to ≡ came.Fault f)
 faulty given came.More fault is e = absurd (let z : (let s : ScanStep = answer.More in s) ≡ answer.Fault fault = sym is ∙ e in cc)

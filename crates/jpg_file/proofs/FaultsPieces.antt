@@ -1,4 +1,4 @@
--- A file that is read MCU row by MCU row, and a piece of it that shows a fault.
+-- A file that is read MCU row by MCU row, and a piece of it that has a fault.
 use Rattle.std.proofs.Common.{◌≡◌, ℕ, ◌+◌, ◌-◌, ◌≤◌, true, false, List, [], ◌++◌, length, take, drop, refl, sym, ap, ◌∙◌, subst, arith, inl, inr, Some, None, Ok, Err}
 use Rattle.std.specs.Prelude.{Option, Result, is_some}
 use Rattle.std.proofs.lemmas.List.{append-nil, length-drop, take_all}
@@ -8,24 +8,24 @@ use Rattle.jpg_spec.specs.declared.fault.Fault.TheVariants.{InputTooLong}
 use Rattle.jpg_spec.specs.declared.frame.Limits.{Limits}
 use Rattle.jpg_base.specs.declared.stop.Stop.{Stop}
 use Rattle.jpg_base.specs.declared.stop.Stop.TheVariants as stop
-use Rattle.jpg_file.specs.File.{IsStop, limits_of}
-use Rattle.jpg_file.specs.FirstHead.{IsHeadOf}
-use Rattle.jpg_file.specs.RowFaults.{FaultsFed, FaultsResumed, FaultsSome, RowsFault}
-use Rattle.jpg_file.specs.RowPieces.{RowsGo, RowsOpen}
-use Rattle.jpg_file.specs.RowStops.{RowsAtFault, StopsRest, StopsRun}
-use Rattle.jpg_file.specs.RowTurns.{unfinished}
-use Rattle.jpg_file.specs.RowsKnown.{KnowsRows, RowsKnown}
-use Rattle.jpg_file.specs.Strips.{CountsStrip, GoesByRow, IfStops, StandsByRow, StripGoes, StripStands, TakesResumed, TakesStrip}
-use Rattle.jpg_file.specs.declared.file.FileWork.{FileWork}
-use Rattle.jpg_file.specs.declared.head.Head.{Head}
-use Rattle.jpg_file.specs.declared.row_reader.FedRow.{FedRow}
-use Rattle.jpg_file.specs.declared.rows.RowWork.{RowWork}
-use Rattle.jpg_file.specs.declared.strip_head.StripHead.{StripHead}
-use Rattle.jpg_file.specs.declared.strip_work.StripWork.{StripWork}
-use Rattle.jpg_file.specs.declared.strips.StripStep.{StripStep}
-use Rattle.jpg_file.specs.declared.strips.StripStep.TheVariants as step
+use Rattle.jpg_file.specs.Read.File.{IsStop, limits_of}
+use Rattle.jpg_file.specs.Read.FirstHeader.{IsFirstHeaderOf}
+use Rattle.jpg_file.specs.Read.RowFaults.{FaultsFed, FaultsResumed, FaultsSome, RowsFault}
+use Rattle.jpg_file.specs.Read.RowPieces.{RowsGo, RowsOpen}
+use Rattle.jpg_file.specs.Read.RowStops.{RowsAtFault, StopsRest, StopsRun}
+use Rattle.jpg_file.specs.Read.RowTurns.{unfinished}
+use Rattle.jpg_file.specs.Read.RowsKnown.{KnowsRows, RowsKnown}
+use Rattle.jpg_file.specs.Read.Strips.{CountsStrip, GoesByRow, IfStops, StandsByRow, StripGoes, StripStands, TakesResumed, TakesStrip}
+use Rattle.jpg_file.specs.declared.read.file.FileWork.{FileWork}
+use Rattle.jpg_file.specs.declared.read.first_header.Head.{Head}
+use Rattle.jpg_file.specs.declared.read.row_reader.FedRow.{FedRow}
+use Rattle.jpg_file.specs.declared.read.rows.RowWork.{RowWork}
+use Rattle.jpg_file.specs.declared.read.strip_head.StripHead.{StripHead}
+use Rattle.jpg_file.specs.declared.read.strip_work.StripWork.{StripWork}
+use Rattle.jpg_file.specs.declared.read.strips.StripStep.{StripStep}
+use Rattle.jpg_file.specs.declared.read.strips.StripStep.TheVariants as step
 use Rattle.jpg_file.proofs.FaultsFed.{goes_completes}
-use Rattle.jpg_file.proofs.FirstHeads.{has_longer}
+use Rattle.jpg_file.proofs.FirstHeaders.{has_longer}
 use Rattle.jpg_file.proofs.PieceSteps.{counted, front_is, front_of, joined, within}
 use Rattle.jpg_file.proofs.RowPieces.{LastRow, came_at, last_row, open_head, open_limits, resumed, stop_shown, strip_limits, strip_whole}
 use Rattle.jpg_file.proofs.RowsBegun.{some_stays}
@@ -37,22 +37,22 @@ rows_same : (limits : Limits) (bytes : List ℕ) (rows other : RowWork) → unfi
 rows_same limits bytes rows other same (inl done) = inl (sym same ∙ done)
 rows_same limits bytes rows other same (inr (before, contents, c)) = inr (before, contents, record { begins = c.begins; m = c.m; count = omega (arith, c.count, same); blocks = c.blocks; completed = c.completed })
 
--- the first scan header stays the first one
-pub head_later : (limits : Limits) (bytes more : List ℕ) (before : List Segment) (contents : List ℕ) (o : Option Head) → BeginsScanOfAll limits bytes before contents → IsHeadOf limits bytes o → IsHeadOf limits (bytes ++ more) o
+-- the first scan header remains the first one
+pub head_later : (limits : Limits) (bytes more : List ℕ) (before : List Segment) (contents : List ℕ) (o : Option Head) → BeginsScanOfAll limits bytes before contents → IsFirstHeaderOf limits bytes o → IsFirstHeaderOf limits (bytes ++ more) o
 head_later limits bytes more before contents None b none = absurd (no_rows limits bytes none before contents b)
 head_later limits bytes more before contents (Some h) b k = has_longer limits bytes more (bytes ++ more) before (Some h) refl k
 
--- AT A FAULT: `mid` was in work after the bytes and some more, and further ones show it
+-- AT A FAULT: `mid` was the state after the bytes and some more, and further ones have the fault
 known_later : (limits : Limits) (bytes more : List ℕ) (mid : RowWork) (strip : Option StripHead) → RowsKnown limits bytes 0 mid strip → RowsKnown limits (bytes ++ more) 0 mid strip
 known_later limits bytes more mid strip k = record { before = k.before; contents = k.contents; begins = begun_on limits bytes more k.before k.contents k.begins; told = k.told; count = k.count }
 
-rows_fault : (limits : Limits) (bytes between more : List ℕ) (o : Option RowWork) (mid : RowWork) (strip : Option StripHead) (w : FileWork) (new : StripWork) → CountsStrip step.More o (Some mid) → IsHeadOf limits (bytes ++ between) w.head
+rows_fault : (limits : Limits) (bytes between more : List ℕ) (o : Option RowWork) (mid : RowWork) (strip : Option StripHead) (w : FileWork) (new : StripWork) → CountsStrip step.More o (Some mid) → IsFirstHeaderOf limits (bytes ++ between) w.head
     → (o ≡ None → RowsKnown limits (bytes ++ between) 0 mid strip) → RowsAtFault limits ((bytes ++ between) ++ more) mid → is_some new.rows ≡ true → new.strip ≡ strip → new.file.head ≡ w.head
     → RowsFault limits bytes ((bytes ++ between) ++ more) o new new.rows
 rows_fault limits bytes between more (Some rows) mid strip w new counts head known k some same heads = (
   rows_same limits ((bytes ++ between) ++ more) mid rows counts k,
   λ before contents b.
-      subst (λ (o : Option Head). IsHeadOf limits ((bytes ++ between) ++ more) o) (sym heads) (head_later limits (bytes ++ between) more before contents w.head (begun_on limits bytes between before contents b) head),
+      subst (λ (o : Option Head). IsFirstHeaderOf limits ((bytes ++ between) ++ more) o) (sym heads) (head_later limits (bytes ++ between) more before contents w.head (begun_on limits bytes between before contents b) head),
 )
 rows_fault limits bytes between more None mid strip w new counts head known k some same heads = by new.rows some
   where
@@ -67,15 +67,15 @@ rows_fault limits bytes between more None mid strip w new counts head known k so
           mid = mid;
           known = subst (λ (s : Option StripHead). RowsKnown limits (front ++ more) 0 mid s) (sym same) (known_later limits front more mid strip n);
           rows = k;
-          head = subst (λ (o : Option Head). IsHeadOf limits (front ++ more) o) (sym heads) (head_later limits front more n.before n.contents w.head n.begins head);
+          head = subst (λ (o : Option Head). IsFirstHeaderOf limits (front ++ more) o) (sym heads) (head_later limits front more n.before n.contents w.head n.begins head);
         }
 
--- none was in work
+-- none was being read
 none_fault : (limits : Limits) (bytes all : List ℕ) (o : Option RowWork) (new : StripWork) → CountsStrip step.More o None → new.rows ≡ None → RowsFault limits bytes all o new new.rows
 none_fault limits bytes all (Some rows) new counts none = absurd counts
 none_fault limits bytes all None new counts none = subst (λ (after : Option RowWork). RowsFault limits bytes all None new after) (sym none) tt
 
--- SOME BYTES of the rest of a piece show it
+-- SOME BYTES of the rest of a piece have the fault
 pub row_faulted : (limits : Limits) (bytes piece : List ℕ) (done n : ℕ) (e : Stop) (old : Option RowWork) (work new : StripWork) → done ≤ length piece → RowsGo limits (bytes ++ take done piece) work.rows work.file → CountsStrip step.More old work.rows
     → (old ≡ None → KnowsRows limits (bytes ++ take done piece) 0 work.rows work.strip) → TakesStrip work (take (length piece - done) (drop done piece)) n (step.Ended e) new → CountsStrip (step.Ended e) work.rows new.rows
     → (work.rows ≡ None → IfStops (step.Ended e) (new.rows ≡ None)) → (is_some work.rows ≡ true → new.strip ≡ work.strip) → (is_some work.rows ≡ true → new.file.head ≡ work.file.head)
@@ -145,7 +145,7 @@ long_faulted limits bytes piece done old work many go counts known = subst (λ (
         subst (λ (x : List ℕ). RowsFault limits bytes x old work work.rows) end
         (rows_fault limits bytes (take done piece) [] old mid work.strip work.file work c (open_head limits front (Some mid) work.file g.stands) knows here (ap is_some has) refl refl)
 
--- BITS that waited show it
+-- BITS that waited have the fault
 pub resumed_fault : (limits : Limits) (bytes piece : List ℕ) (e : Stop) (old new : StripWork) → TakesResumed old (step.Ended e) new → (is_some old.rows ≡ false → (let a : StripStep = step.Ended e in a) ≡ step.More) → new.file.head ≡ old.file.head
     → FaultsResumed old (step.Ended e) → RowsOpen limits bytes old.rows old.file → FaultsFed limits bytes piece (Err e) old.rows new
 resumed_fault limits bytes piece stop.NoMemory old new took plain head faults h = tt
@@ -163,7 +163,7 @@ resumed_fault limits bytes piece (stop.Fault f) old new took plain head faults h
         let at : limits_of old.file ≡ limits = open_limits limits bytes (Some rows) old.file g in
         let k = faults rows f bytes has refl (subst (λ (l : Limits). StandsByRow l bytes old.file rows) (sym at) g) in (
           subst (λ (l : Limits). RowsAtFault l bytes rows) at k,
-          λ before contents b. subst (λ (o : Option Head). IsHeadOf limits bytes o) (sym head) (open_head limits bytes (Some rows) old.file g),
+          λ before contents b. subst (λ (o : Option Head). IsFirstHeaderOf limits bytes o) (sym head) (open_head limits bytes (Some rows) old.file g),
         )
 
 -- and bytes after them
@@ -181,7 +181,7 @@ faults_then limits bytes piece (Err (stop.Fault f)) a b new stays counts k = by 
     by (Some x) None stays counts k = absurd counts
     by (Some x) (Some y) stays counts k = (rows_same limits all y x counts k.0, k.1)
 
--- THE WORK, by the MCU row that is in it
+-- THE STATE, by its current MCU row
 some_same : (a b : RowWork) → Some a ≡ Some b → a ≡ b
 some_same a b e = cc
 

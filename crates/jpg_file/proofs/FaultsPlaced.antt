@@ -1,4 +1,5 @@
--- Where the data of a scan of all components show a fault: which units are told before it, and which MCU rows are complete.
+-- Data of a scan of all components that have a fault: which units are decoded before it, and which MCU rows are
+-- complete.
 use Rattle.std.proofs.Common.{◌≡◌, ℕ, zero, suc, ◌+◌, ◌-◌, ◌*◌, ◌<◌, ◌≤◌, ◌==◌, Bool, false, cond, List, [], ◌∷◌, ◌++◌, length, refl, sym, ap, ◌∙◌, subst, arith, inl, inr}
 use Rattle.std.proofs.lemmas.Bool.Decides.{nat_tests}
 use Rattle.std.proofs.lemmas.List.{append_assoc, length-append}
@@ -6,7 +7,7 @@ use Rattle.jpg_spec.specs.Bits.{bits_of_bytes}
 use Rattle.jpg_spec.specs.Lists.{joined}
 use Rattle.jpg_spec.specs.Elements.{Coding, UnitLeft}
 use Rattle.jpg_spec.specs.Scan.{Scan}
-use Rattle.jpg_spec.specs.ScanFaults.{DataShows}
+use Rattle.jpg_spec.specs.ScanFaults.{DataReveals}
 use Rattle.jpg_spec.specs.Sound.{IsSound}
 use Rattle.jpg_spec.specs.Items.{Item, segments_of}
 use Rattle.jpg_spec.specs.ScanReading.{ScanAt, ScanPlace, scan_at}
@@ -24,26 +25,26 @@ use Rattle.jpg_coefs.proofs.Chains.{chain_stands}
 use Rattle.jpg_seq.specs.Reader.{SeqStands, new_units_at}
 use Rattle.jpg_seq.specs.Stands.{unit_in_work}
 use Rattle.jpg_seq.specs.declared.reader.SeqReader.{SeqReader}
-use Rattle.jpg_file.specs.InData.{IsInterval, IsReadable}
-use Rattle.jpg_file.specs.Machine.{any_scan, scan_kind, whole_blocks}
-use Rattle.jpg_file.specs.RowPlaces.{IsRowAt}
-use Rattle.jpg_file.specs.RowStops.{ShowsInRow}
-use Rattle.jpg_file.specs.RowTurns.{unfinished}
-use Rattle.jpg_file.specs.Strips.{IsFirstScan, components_of, frame_behind}
-use Rattle.jpg_file.specs.declared.machine.ScanReader.{ScanReader}
-use Rattle.jpg_file.specs.declared.rows.RowWork.{RowWork}
+use Rattle.jpg_file.specs.Read.InData.{IsInterval, IsReadable}
+use Rattle.jpg_file.specs.Read.Machine.{any_scan, scan_kind, whole_blocks}
+use Rattle.jpg_file.specs.Read.RowPlaces.{IsRowAt}
+use Rattle.jpg_file.specs.Read.RowStops.{ShowsInRow}
+use Rattle.jpg_file.specs.Read.RowTurns.{unfinished}
+use Rattle.jpg_file.specs.Read.Strips.{IsFirstScan, components_of, frame_behind}
+use Rattle.jpg_file.specs.declared.read.machine.ScanReader.{ScanReader}
+use Rattle.jpg_file.specs.declared.read.rows.RowWork.{RowWork}
 use Rattle.jpg_file.proofs.FaultsTold.{shown_most, stands_most}
 use Rattle.jpg_file.proofs.RowsPlaced.{CompletesDue, PlaceStops, all_at, bands_long, machine_stands, parts_stand, stops_complete}
 use Rattle.jpg_file.proofs.RowsTold.{units_at}
 use Rattle.jpg_file.proofs.ScanBytes.{of_place}
 use Rattle.jpg_file.proofs.StripRows.{kind_at, scan_of_place, seq_of}
 
--- a fault of which fewer than so many values are told
+-- a fault before which fewer than `most` values are decoded
 abbrev ShownFew : Fault → List Bool → ℕ → Coding → List UnitLeft → Type 0
-ShownFew fault bits most c units = (d : DataShows c units fault bits) × (length d.told < most)
+ShownFew fault bits most c units = (d : DataReveals c units fault bits) × (length d.told < most)
 
 -- whatever bits follow
-shown_on : (c : Coding) (units : List UnitLeft) (fault : Fault) (bits more : List Bool) (most : ℕ) → (d : DataShows c units fault bits) → length d.told < most → ShownFew fault (bits ++ more) most c units
+shown_on : (c : Coding) (units : List UnitLeft) (fault : Fault) (bits more : List Bool) (most : ℕ) → (d : DataReveals c units fault bits) → length d.told < most → ShownFew fault (bits ++ more) most c units
 shown_on c units fault bits more most d few = (
   record {
     elements = d.elements;
@@ -66,7 +67,7 @@ shown_on c units fault bits more most d few = (
 sound_of : (limits : Limits) (p : ScanPlace) (i : Interval) → IsInterval limits p i → IsSound i.scan.coding
 sound_of limits p i is = subst (λ (s : Scan). IsSound s.coding) (sym is.scan) (scan_sound limits (segments_of p.items) p.contents)
 
--- THE UNITS that a machine stands behind
+-- THE UNITS that a machine has completed
 whole_long : (n : SeqReader) (i : Interval) (bits : List Bool) (now : Picture) → (o : SeqStands n i bits now) → length o.whole ≡ 64 * length o.done
 whole_long n i bits now o = ap length o.read.told_there ∙ bands_long i.scan (map_of now) o.done o.kind.ss o.kind.se o.read.changes.sizes
 
@@ -83,9 +84,9 @@ fewer_left n mid i bits more now between sound o k =
     let b = ap length k.all ∙ length-append k.done (k.next ∷ k.more) in
     omega (arith, most, less, a, b, o.left, k.left, whole_long n i bits now o, whole_long mid i (bits ++ more) between k, length-append k.whole mid.unit.values)
 
--- NO MORE UNITS are told before the fault
+-- NO MORE UNITS are decoded before the fault
 fault_units : (limits : Limits) (q : ScanPlace) (i : Interval) (n : SeqReader) (bits more : List Bool) (bit : Bool) (now : Picture) (f : UnitFault) (count : ℕ) → IsReadable limits q → IsInterval limits q i
-    → ScanSoFar (scan_at limits q) q.blocks (map_of i.before) q.done (q.places ∷ q.later) → SeqStands n i bits now → bits_of_bytes q.coded ≡ bits ++ (bit ∷ more) → DataShows i.scan.coding (units_of i) (fault_of f) (bits ++ bit ∷ [])
+    → ScanSoFar (scan_at limits q) q.blocks (map_of i.before) q.done (q.places ∷ q.later) → SeqStands n i bits now → bits_of_bytes q.coded ≡ bits ++ (bit ∷ more) → DataReveals i.scan.coding (units_of i) (fault_of f) (bits ++ bit ∷ [])
     → length q.places ≡ count + n.left → TellsNoMore (scan_at limits q) q.blocks q.places q.coded count
 fault_units limits q i n bits more bit now f count readable is so_far o cut d sum =
     let p = parts_stand n i bits now o in
@@ -99,7 +100,7 @@ fault_units limits q i n bits more bit now f count readable is so_far o cut d su
     let k = subst (λ l. ShownFew (fault_of f) l (64 * (count + 1)) (scan_at limits q).coding (units_there limits q)) all there in
     inr (inl (fault_of f, k.0, k.1))
 
--- THE PLACE with the fault, where so many units of the interval in work are left, and `due` behind it
+-- THE PLACE with the fault, where `left` units of the current interval are left, and `due` after it
 pub record FaultStops (limits : Limits) (items : List Item) (contents bytes : List ℕ) (left most due : ℕ) : Type 0 where
   pub whole : Picture
   pub units : ℕ
@@ -110,7 +111,7 @@ pub record FaultStops (limits : Limits) (items : List Item) (contents bytes : Li
 regroup : (a front rest more : List Bool) (bit : Bool) → a ++ (((front ++ bit ∷ []) ++ rest) ++ more) ≡ (a ++ front) ++ (bit ∷ (rest ++ more))
 regroup a front rest more bit = simp append_assoc
 
--- the bits at which the fault is shown
+-- the bits at which the fault occurs
 shown_cut : (coded : List ℕ) (a store more bits rest front : List Bool) (bit : Bool) → bits_of_bytes coded ≡ a ++ (store ++ more) → store ≡ bits ++ rest → bits ≡ front ++ bit ∷ [] → bits_of_bytes coded ≡ (a ++ front) ++ (bit ∷ (rest ++ more))
 shown_cut coded a store more bits rest front bit all cut last =
     all ∙ ap (λ l. a ++ (l ++ more)) (cut ∙ ap (λ l. l ++ rest) last) ∙ regroup a front rest more bit
@@ -144,7 +145,7 @@ fault_stops limits items contents bytes q i m now a store more most f of at firs
       };
     }
 
--- THE MCU ROWS: the one in work isn't complete
+-- THE MCU ROWS: the current one isn't complete
 
 some_left : (n : ℕ) → 1 ≤ n → (n == 0) ≡ false
 some_left zero some = absurd (omega (arith, some))
@@ -155,7 +156,7 @@ pub fault_completes : (limits : Limits) (items : List Item) (contents bytes : Li
 fault_completes limits items contents bytes rows left due z at =
     record { begins = c.begins; m = c.m; count = omega (arith, c.count, same); blocks = c.blocks; completed = c.completed }
   where
-    -- with the units that are whole before the fault
+    -- with the units that are complete before the fault
     there : IsRowAt (frame_behind limits items) (components_of limits items contents) (record rows { left = rows.left - (left - z.units) }) (due + z.units)
     there = record {
       frame = at.frame;

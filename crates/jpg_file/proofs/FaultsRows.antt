@@ -1,4 +1,4 @@
--- A file that is read MCU row by MCU row and shows a fault: which MCU rows the bytes up to it complete.
+-- A file that is read MCU row by MCU row and has a fault: which MCU rows the bytes up to it complete.
 use Rattle.std.proofs.Common.{◌≡◌, ℕ, ◌≤◌, Bool, true, false, cond, List, [], ◌∷◌, ◌++◌, length, take, get_or, refl, sym, ◌∙◌, subst, arith, inl, inr}
 use Rattle.std.proofs.lemmas.List.{length-take-le, take-take, take_more}
 use Rattle.jpg_spec.specs.Markers.{Segment}
@@ -6,28 +6,28 @@ use Rattle.jpg_spec.specs.Items.{segments_of}
 use Rattle.jpg_spec.specs.declared.fault.Fault.{Fault}
 use Rattle.jpg_spec.specs.declared.frame.Limits.{Limits}
 use Rattle.jpg_base.specs.declared.stop.Stop.{Stop}
-use Rattle.jpg_file.specs.RowPlaces.{scan_left}
-use Rattle.jpg_file.specs.RowStops.{CompletesBefore, RowsAtFault, StopsByteInRow, StopsRestInRow, StopsRunInRow}
-use Rattle.jpg_file.specs.RowTurns.{CountsScan, unfinished}
-use Rattle.jpg_file.specs.Strips.{RowsRun, components_of, frame_behind}
-use Rattle.jpg_file.specs.declared.file.FileWork.{FileWork}
-use Rattle.jpg_file.specs.declared.rows.RowWork.{RowWork}
-use Rattle.jpg_file.specs.declared.scan.InScan.{InScan}
-use Rattle.jpg_file.specs.declared.scan.ScanStep.{ScanStep}
-use Rattle.jpg_file.specs.declared.scan.ScanStep.TheVariants as answer
-use Rattle.jpg_file.specs.declared.strips.StripStep.{StripStep}
-use Rattle.jpg_file.specs.declared.strips.StripStep.TheVariants as step
+use Rattle.jpg_file.specs.Read.RowPlaces.{scan_left}
+use Rattle.jpg_file.specs.Read.RowStops.{CompletesBefore, RowsAtFault, StopsByteInRow, StopsRestInRow, StopsRunInRow}
+use Rattle.jpg_file.specs.Read.RowTurns.{CountsScan, unfinished}
+use Rattle.jpg_file.specs.Read.Strips.{RowsRun, components_of, frame_behind}
+use Rattle.jpg_file.specs.declared.read.file.FileWork.{FileWork}
+use Rattle.jpg_file.specs.declared.read.rows.RowWork.{RowWork}
+use Rattle.jpg_file.specs.declared.read.scan.InScan.{InScan}
+use Rattle.jpg_file.specs.declared.read.scan.ScanStep.{ScanStep}
+use Rattle.jpg_file.specs.declared.read.scan.ScanStep.TheVariants as answer
+use Rattle.jpg_file.specs.declared.read.strips.StripStep.{StripStep}
+use Rattle.jpg_file.specs.declared.read.strips.StripStep.TheVariants as step
 use Rattle.jpg_file.proofs.RowCounts.{counts_in, counts_rows}
 use Rattle.jpg_file.proofs.RowTurns.{none_unfinished}
 use Rattle.jpg_file.proofs.StripBytes.{ready_data}
 use Rattle.jpg_file.proofs.StripTurns.{RowReady, half_of}
 
--- data that go on stop nothing
+-- data without a fault stop nothing
 pub no_stop : (row : Bool) (came_to : StripStep) (stop : Stop) → came_to ≡ cond row step.Row step.More → came_to ≡ step.Ended stop → ⊥
 no_stop true came_to stop is e = (let z : (let s : StripStep = step.Row in s) ≡ step.Ended stop = sym is ∙ e in cc)
 no_stop false came_to stop is e = (let z : (let s : StripStep = step.More in s) ≡ step.Ended stop = sym is ∙ e in cc)
 
--- where another row is in work, and as many are left
+-- if another row is the current one, and as many are left
 before_same : (limits : Limits) (bytes : List ℕ) (before : List Segment) (contents : List ℕ) (rows other : RowWork) → unfinished rows ≡ unfinished other → CompletesBefore limits bytes before contents rows → CompletesBefore limits bytes before contents other
 before_same limits bytes before contents rows other same c = record { begins = c.begins; m = c.m; count = omega (arith, c.count, same); blocks = c.blocks; completed = c.completed }
 
@@ -55,13 +55,13 @@ rest_at_fault limits bytes w scan old rows given fault r some same stops is =
     let k = stops fault limits r.items r.contents bytes r.whole is r.row h ((r.held).of, (r.at).at) in
     inr (segments_of r.items, r.contents, before_same limits bytes (segments_of r.items) r.contents rows old same k)
 
--- SOME BYTES behind one another
+-- SOME BYTES one after another
 pub run_at_fault : (limits : Limits) (bytes run : List ℕ) (n : ℕ) (w : FileWork) (scan : InScan) (rows : RowWork) (given : ScanStep) (fault : Fault) → RowReady limits bytes w scan rows → rows.waiting ≡ [] → StopsRunInRow scan rows run n given → given ≡ answer.Fault fault
     → RowsAtFault limits (bytes ++ take n run) rows
 run_at_fault limits bytes run n w scan rows given fault r none stops is =
     inr (segments_of r.items, r.contents, stops fault limits r.items r.contents bytes r.whole is r.row (ready_data limits bytes w scan rows r none) ((r.held).of, (r.at).at))
 
--- from their front
+-- from the first of them on
 pub front_at_fault : (limits : Limits) (front bytes : List ℕ) (size n : ℕ) (rows after : RowWork) (new : FileWork) (result : StripStep) → size ≤ length bytes → RowsRun limits front (take size bytes) n result new after → RowsAtFault limits (front ++ take n (take size bytes)) rows
     → RowsAtFault limits (front ++ take n bytes) rows
 front_at_fault limits front bytes size n rows after new result few t k =

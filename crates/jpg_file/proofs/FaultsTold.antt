@@ -1,10 +1,10 @@
--- What bits tell before a fault that the next bit shows: no more than where they stand (T.81, F.2.2).
+-- What bits encode before a fault that the next bit reveals: no more than up to the place where they end (T.81, F.2.2).
 use Rattle.std.proofs.Common.{◌≡◌, ◌+◌, ◌<◌, ◌≤◌, Bool, List, [], ◌∷◌, ◌++◌, length, refl, sym, ap, ◌∙◌, subst, arith, inl, ⊎_elim, ℤ}
 use Rattle.std.proofs.lemmas.Bool.{cases_lt}
 use Rattle.std.proofs.lemmas.List.{append_assoc, append-nil, append_cancel_left, length-append}
 use Rattle.jpg_spec.specs.Elements.{Coding, Covers, Element, UnitLeft, at_start}
 use Rattle.jpg_spec.specs.Parts.{StandsInUnits, in_code}
-use Rattle.jpg_spec.specs.ScanFaults.{DataShows}
+use Rattle.jpg_spec.specs.ScanFaults.{DataReveals}
 use Rattle.jpg_spec.specs.Sound.{IsSound}
 use Rattle.jpg_spec.specs.RowsTold.{TellsFirst}
 use Rattle.jpg_spec.specs.declared.fault.Fault.{Fault}
@@ -14,7 +14,7 @@ use Rattle.jpg_spec.proofs.Parts.{FrontAt, part_front}
 use Rattle.jpg_spec.proofs.PartStands.{codes_one, coding_is, no_further, part_not_shown}
 use Rattle.jpg_file.proofs.RowsTold.{front_within}
 
--- first values that bits tell are no more than those where all the bits stand
+-- a prefix of the bits encodes at most as many values as all of them
 pub stands_most : (c : Coding) (units : List UnitLeft) (told : List ℤ) (left : List UnitLeft) (bits : List Bool) (other : List ℤ) (front rest : List Bool) → IsSound c → StandsInUnits c units told left bits
     → TellsFirst c units other front → bits ≡ front ++ rest → length other ≤ length told
 stands_most c units told left bits other front rest sound w k e =
@@ -34,8 +34,8 @@ stands_most c units told left bits other front rest sound w k e =
     longer [] values spelling h same cut = let l = ap length same ∙ length-append w.before values in let n = ap length h.0 in omega (arith, l, n, size)
     longer (d ∷ es) values spelling h same cut = absurd (no_further c w.standing at.unit at.units w.part rest d es values spelling k.1 sound at.left at.is_front h cut)
 
--- whole elements stand in the next unit, with no bits of it
-whole_stands : (c : Coding) (units : List UnitLeft) (fault : Fault) (bits : List Bool) → (d : DataShows c units fault bits) → StandsInUnits c units d.told (d.unit ∷ d.others) d.front
+-- the complete elements before the fault end in the next unit, with no bits of it
+whole_stands : (c : Coding) (units : List UnitLeft) (fault : Fault) (bits : List Bool) → (d : DataReveals c units fault bits) → StandsInUnits c units d.told (d.unit ∷ d.others) d.front
 whole_stands c units fault bits d = record {
   elements = d.elements;
   before = d.told;
@@ -58,8 +58,8 @@ no_bits [] [] e = refl
 no_bits [] (x ∷ b) e = absurd (omega (arith, e))
 no_bits (x ∷ a) b e = absurd (omega (arith, e))
 
--- THE LAW: where bits stand in a unit and the next bit shows a fault, as much was told before it at most
-pub shown_most : (c : Coding) (units : List UnitLeft) (told : List ℤ) (left : List UnitLeft) (bits : List Bool) (bit : Bool) (fault : Fault) → IsSound c → StandsInUnits c units told left bits → (d : DataShows c units fault (bits ++ bit ∷ []))
+-- THE LAW: if bits end in a unit and the next bit reveals a fault, at most as much was decoded before it
+pub shown_most : (c : Coding) (units : List UnitLeft) (told : List ℤ) (left : List UnitLeft) (bits : List Bool) (bit : Bool) (fault : Fault) → IsSound c → StandsInUnits c units told left bits → (d : DataReveals c units fault (bits ++ bit ∷ []))
     → length d.told ≤ length told
 shown_most c units told left bits bit fault sound w d =
     ⊎_elim
@@ -74,4 +74,4 @@ shown_most c units told left bits bit fault sound w d =
     never h =
         let size : length (d.here ++ d.rest) ≡ 0 = omega (arith, h, ap length all, length-append d.front (d.here ++ d.rest), length-append bits (bit ∷ [])) in
         let none : bits ++ bit ∷ [] ≡ d.front = all ∙ ap (λ l. d.front ++ l) (no_bits d.here d.rest size) ∙ append-nil d.front in
-        part_not_shown c units d.told (d.unit ∷ d.others) d.front fault sound (whole_stands c units fault (bits ++ bit ∷ []) d) (subst (λ l. DataShows c units fault l) none d)
+        part_not_shown c units d.told (d.unit ∷ d.others) d.front fault sound (whole_stands c units fault (bits ++ bit ∷ []) d) (subst (λ l. DataReveals c units fault l) none d)

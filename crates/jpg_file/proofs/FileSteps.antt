@@ -1,4 +1,4 @@
--- What a byte makes of a file in work.
+-- The effect of a byte on a file that is being read.
 use Rattle.std.proofs.Common.{take, ◌<◌, ◌+◌, ◌≡◌, ℕ, ◌≤◌, Bool, true, false, ◌==◌, List, [], ◌∷◌, ◌++◌, length, refl, sym, ap, ◌∙◌, subst, arith, Option, Some, None, Ok, Err, inl, inr}
 use Rattle.std.proofs.lemmas.Bool.Decides.{nat_tests}
 use Rattle.std.proofs.lemmas.List.{length-append, length-take-le}
@@ -13,7 +13,7 @@ use Rattle.jpg_spec.specs.FileMeaning.{Leads}
 use Rattle.jpg_spec.specs.Laws.{frame_of_items}
 use Rattle.jpg_spec.specs.declared.frame.Limits.{Limits}
 use Rattle.jpg_spec.proofs.FrameFound.{framed}
-use Rattle.jpg_spec.proofs.FrameBehind as behind
+use Rattle.jpg_spec.proofs.FrameAfter as behind
 use Rattle.jpg_spec.proofs.FirstPasses.{all_below}
 use Rattle.jpg_spec.proofs.Common.{clash, neither, not_same, or_right}
 use Rattle.jpg_spec.proofs.BeforeScans.{no_heads}
@@ -21,27 +21,27 @@ use Rattle.jpg_spec.proofs.Untouched.{frame_stays}
 use Rattle.jpg_coefs.specs.Picture.{Picture, map_of}
 use Rattle.jpg_markers.specs.Reading.{reading_of}
 use Rattle.jpg_base.specs.declared.names.NoMemory.{NoMemory as Wanting}
-use Rattle.jpg_spec.specs.declared.answers.FaultAt.{FaultAt}
+use Rattle.jpg_spec.specs.declared.fault.FaultAt.{FaultAt}
 use Rattle.jpg_base.specs.declared.stop.Stop.{Stop}
 use Rattle.jpg_base.specs.declared.stop.Stop.TheVariants as stop
-use Rattle.jpg_file.specs.Begun.{HasBegun, IsComplete}
-use Rattle.jpg_file.specs.FirstHead.{HasHead, HasNoHead, IsHeadOf}
-use Rattle.jpg_file.specs.declared.head.Head.{Head}
-use Rattle.jpg_file.specs.Held.{told_by}
-use Rattle.jpg_file.specs.Items.{AddsNoScan, AfterItem, AtPlace, BehindSegment, BetweenItems, IsOfMarker}
-use Rattle.jpg_file.specs.Reading.{AfterHead, AfterItemByte, AfterScanByte, HeadWhole, Itemising, Scanning, TakesHead, TakesRunOfScan}
-use Rattle.jpg_file.specs.declared.scan.InScan.{InScan}
-use Rattle.jpg_file.specs.File.{AfterFileByte, AfterFileStep, BesideItems, KeepsBytes, MakesPicture, TakesSome, EndsFile, EndStands, HasRoom, NotesHead, RoomMade, limits_of, HeadStands, PictureMade, PictureSoFar, Stands, StandsBetween, StandsInside}
-use Rattle.jpg_file.specs.declared.begun.Begun.{Begun}
-use Rattle.jpg_file.specs.declared.reading.Reading.{Reading}
-use Rattle.jpg_file.specs.declared.items.ItemStep.{ItemStep}
-use Rattle.jpg_file.specs.declared.items.ItemStep.TheVariants as step
-use Rattle.jpg_file.specs.declared.file.FileWork.{FileWork}
-use Rattle.jpg_file.proofs.Beginnings.{begun_goes_on}
-use Rattle.jpg_file.proofs.FirstHeads.{between_header, has_longer, has_more, no_head, noted}
+use Rattle.jpg_file.specs.Read.ScanHistory.{HasBegun, IsComplete}
+use Rattle.jpg_file.specs.Read.FirstHeader.{HasHead, HasNoHead, IsFirstHeaderOf}
+use Rattle.jpg_file.specs.declared.read.first_header.Head.{Head}
+use Rattle.jpg_file.specs.Read.SegmentState.{told_by}
+use Rattle.jpg_file.specs.Read.Items.{AddsNoScan, AfterItem, AtPlace, AfterSegment, BetweenItems, IsOfMarker}
+use Rattle.jpg_file.specs.Read.Reading.{AfterHead, AfterItemByte, AfterScanByte, HeadWhole, Itemising, Scanning, TakesHead, TakesRunOfScan}
+use Rattle.jpg_file.specs.declared.read.scan.InScan.{InScan}
+use Rattle.jpg_file.specs.Read.File.{AfterFileByte, AfterFileStep, BesideItems, KeepsBytes, MakesPicture, TakesSome, EndsFile, EndStands, HasRoom, NotesHead, RoomMade, limits_of, HeadStands, PictureMade, PictureSoFar, StandsForFile, StandsBetween, StandsInsideScan}
+use Rattle.jpg_file.specs.declared.read.scan_history.ScanHistory.{ScanHistory}
+use Rattle.jpg_file.specs.declared.read.reading.Reading.{Reading}
+use Rattle.jpg_file.specs.declared.read.items.ItemStep.{ItemStep}
+use Rattle.jpg_file.specs.declared.read.items.ItemStep.TheVariants as step
+use Rattle.jpg_file.specs.declared.read.file.FileWork.{FileWork}
+use Rattle.jpg_file.proofs.ScanHistories.{begun_goes_on}
+use Rattle.jpg_file.proofs.FirstHeaders.{between_header, has_longer, has_more, no_head, noted}
 use Rattle.jpg_spec.proofs.Common.{not_same}
 
--- WHAT IS KEPT BESIDE THE ITEMS goes along with one more
+-- WHAT IS KEPT WITH THE ITEMS is extended by one more
 
 picture_more : (limits : Limits) (items : List Item) (blocks : Blocks) (code : ℕ) (contents : List ℕ) (q : Option Picture) → (code ≡ 0xda → ⊥) → code_fault (segments_of items) code ≡ None → PictureSoFar limits items blocks q → PictureSoFar limits (segment code contents ∷ items) blocks q
 picture_more limits items blocks code contents None other allowed (unscanned, zero) = (ap (λ b. b || has_scan (segments_of items)) (not_same code 0xda other) ∙ unscanned, zero)
@@ -74,7 +74,7 @@ goes_along limits bytes items more blocks w (inr (code, contents, e, other)) at 
     subst (λ (l : List Item). BesideItems limits bytes l blocks w) (sym e)
     (beside_more limits bytes items blocks w code contents other (leads_at limits bytes at.sent items blocks (segment code contents) place) k)
 
--- A BYTE BETWEEN ITEMS, or the marker behind a scan's data
+-- A BYTE BETWEEN ITEMS, or the marker after a scan's data
 pub after_item : (limits : Limits) (bytes : List ℕ) (items : List Item) (blocks : Blocks) (answer : ItemStep) (w : FileWork) → BesideItems limits bytes items blocks w → AfterItem limits bytes items blocks answer w.reading.items → AfterFileStep None limits bytes answer w
 after_item limits bytes items blocks step.More w k (more, adds, at) = inl (record { items = more; blocks = blocks; at = at; beside = goes_along limits bytes items more blocks w adds at k })
 after_item limits bytes items blocks step.Head w k (at, code) = (record { items = items; blocks = blocks; at = at; code = code; beside = k }, refl)
@@ -111,7 +111,7 @@ after_scan before limits bytes (step.Fault f) w a m = a
 after_scan before limits bytes step.NoMemory w a m = absurd m
 
 -- A BYTE INSIDE SCAN DATA
-pub after_inside : (limits : Limits) (bytes more : List ℕ) (answer : ItemStep) (w new : FileWork) → (s : StandsInside limits bytes w) → AfterScanByte limits s.items s.contents (bytes ++ more) answer new.reading → new.begun ≡ w.begun → new.head ≡ w.head
+pub after_inside : (limits : Limits) (bytes more : List ℕ) (answer : ItemStep) (w new : FileWork) → (s : StandsInsideScan limits bytes w) → AfterScanByte limits s.items s.contents (bytes ++ more) answer new.reading → new.begun ≡ w.begun → new.head ≡ w.head
     → length (bytes ++ more) ≤ limits.input → AfterFileStep w.reading.scan limits (bytes ++ more) answer new
 after_inside limits bytes more answer w new s (inl (e, at)) begun head within =
     let before : List Segment = (0xda, s.contents) ∷ segments_of s.items in
@@ -149,7 +149,7 @@ after_inside limits bytes more step.NoMemory w new s (inr (inr shown)) begun hea
 
 -- A SCAN HEADER, with room for the picture
 
--- the frame in force is held, and has components
+-- the frame in force is kept, and has components
 pub record FrameHeld (limits : Limits) (items : List Item) (held : Option Frame) : Type 0 where
   pub frame : Frame
   pub has : held ≡ Some frame
@@ -189,7 +189,7 @@ head_whole limits bytes old new h room =
     let made = room.picture f.frame f.has in
     let p = picture_there limits h.items h.blocks f.frame old.reading.coefs new.reading.coefs f.is k.picture made.1 in
     record {
-      segment = subst (λ i. BehindSegment limits bytes h.items h.blocks i) (sym items) h.at;
+      segment = subst (λ i. AfterSegment limits bytes h.items h.blocks i) (sym items) h.at;
       code = ap (λ i. (reading_of i.segments).code) items ∙ h.code;
       frame = f.frame;
       framed = ap (λ i. i.held.frame) items ∙ f.has;
@@ -204,7 +204,7 @@ head_whole limits bytes old new h room =
     }
 
 -- the header is taken with the room that was made
-pub head_after : (limits : Limits) (bytes : List ℕ) (old room : FileWork) (answer : ItemStep) (r : Reading) (b : Begun) → (h : HeadStands limits bytes old) → HasRoom old room → TakesHead room.reading room.begun answer r b
+pub head_after : (limits : Limits) (bytes : List ℕ) (old room : FileWork) (answer : ItemStep) (r : Reading) (b : ScanHistory) → (h : HeadStands limits bytes old) → HasRoom old room → TakesHead room.reading room.begun answer r b
     → AfterHead limits bytes h.items room.reading.items answer r b
 head_after limits bytes old room answer r b h made takes =
     let same : limits_of room ≡ limits = ap (λ i. i.limits) made.items ∙ (h.at).bounded.1 in
@@ -220,7 +220,7 @@ unbroken limits items contents bytes r s =
     subst (λ c. contents_rule limits (segments_of items) 0xda c ≡ None) of.1 (subst (λ (l : List Item). contents_rule limits (segments_of l) 0xda place.contents ≡ None) of.0 rule)
 
 pub head_goes : (limits : Limits) (bytes : List ℕ) (old room taken new : FileWork) → (h : HeadStands limits bytes old) → HasRoom old room → room.head ≡ old.head → TakesHead room.reading room.begun step.More taken.reading taken.begun → taken.head ≡ room.head → NotesHead taken new
-    → Stands limits bytes new
+    → StandsForFile limits bytes new
 head_goes limits bytes old room taken new h made unchanged takes kept notes =
     let a = head_after limits bytes old room step.More taken.reading taken.begun h made takes in
     let contents = (reading_of room.reading.items.segments).contents in
@@ -249,19 +249,19 @@ pub no_room : (old new : FileWork) (answer : Result (Unit {0}) Wanting) → Room
 no_room old new (Ok done) made e = cc
 no_room old new (Err w) made e = made
 
--- where more is known of what asks for memory
+-- if more is known of what needs memory
 pub asked : (a b : Type 0) → (a → b) → (limits : Limits) (bytes : List ℕ) (answer : Result Bool Stop) (w : FileWork) → AfterFileByte a limits bytes answer w → AfterFileByte b limits bytes answer w
 asked a b f limits bytes (Ok false) w k = k
 asked a b f limits bytes (Ok true) w k = k
 asked a b f limits bytes (Err (stop.Fault e)) w k = k
 asked a b f limits bytes (Err stop.NoMemory) w k = f k
 
--- where a scan is in work, and where none is
-pub inside_of : (limits : Limits) (bytes : List ℕ) (w : FileWork) → Stands limits bytes w → is_some w.reading.scan ≡ true → StandsInside limits bytes w
+-- if a scan is being read, and if none is
+pub inside_of : (limits : Limits) (bytes : List ℕ) (w : FileWork) → StandsForFile limits bytes w → is_some w.reading.scan ≡ true → StandsInsideScan limits bytes w
 inside_of limits bytes w (inr s) e = s
 inside_of limits bytes w (inl s) e = absurd (clash (is_some w.reading.scan) e (ap is_some (s.beside).none))
 
-pub between_of : (limits : Limits) (bytes : List ℕ) (w : FileWork) → Stands limits bytes w → is_some w.reading.scan ≡ false → StandsBetween limits bytes w
+pub between_of : (limits : Limits) (bytes : List ℕ) (w : FileWork) → StandsForFile limits bytes w → is_some w.reading.scan ≡ false → StandsBetween limits bytes w
 between_of limits bytes w (inl s) e = s
 between_of limits bytes w (inr s) e = absurd (clash (is_some w.reading.scan) (ap is_some (s.at).inside) e)
 
@@ -301,25 +301,25 @@ one_begun limits bytes w e none =
     clash (has_begun (heads_of f before) 0) (all_below (has_begun (heads_of f before)) (length f.components) 0 e.complete (omega (arith, some))) (ap (λ heads. has_begun heads 0) (no_heads f before none))
 
 -- THE FIRST SCAN HEADER, by the state
-pub head_by : (limits : Limits) (bytes : List ℕ) (before : List Segment) (o : Option Head) → (has_scan before ≡ false → HasNoHead limits bytes) → HasHead limits bytes before o → IsHeadOf limits bytes o
+pub head_by : (limits : Limits) (bytes : List ℕ) (before : List Segment) (o : Option Head) → (has_scan before ≡ false → HasNoHead limits bytes) → HasHead limits bytes before o → IsFirstHeaderOf limits bytes o
 head_by limits bytes before None none k = none k
 head_by limits bytes before (Some h) none k = k
 
-pub head_is : (limits : Limits) (bytes : List ℕ) (w : FileWork) → Stands limits bytes w → IsHeadOf limits bytes w.head
+pub head_is : (limits : Limits) (bytes : List ℕ) (w : FileWork) → StandsForFile limits bytes w → IsFirstHeaderOf limits bytes w.head
 head_is limits bytes w (inl s) =
     head_by limits bytes (segments_of s.items) w.head (λ none. no_head limits bytes (between_header limits bytes s.items s.blocks w.reading.items s.at none)) (s.beside).head
 head_is limits bytes w (inr s) = head_by limits bytes ((0xda, s.contents) ∷ segments_of s.items) w.head (λ none. absurd (clash true refl none)) s.head
 
-pub head_left : (limits : Limits) (bytes : List ℕ) (w : FileWork) → EndsFile limits bytes w → IsHeadOf limits bytes w.head
+pub head_left : (limits : Limits) (bytes : List ℕ) (w : FileWork) → EndsFile limits bytes w → IsFirstHeaderOf limits bytes w.head
 head_left limits bytes w e = head_by limits bytes (segments_of (e.ends).items) w.head (λ none. absurd (one_begun limits bytes w e none)) ((e.ends).beside).head
 
--- SOME BYTES of a scan behind one another
+-- SOME BYTES of a scan one after another
 
 abbrev pub file_mid : FileWork → Reading → FileWork
 file_mid w r = record w { reading = r }
 
 run_before : (limits : Limits) (front : List ℕ) (w : FileWork) (run : List ℕ) (n : ℕ) (answer : ItemStep) (r : Reading) → (t : TakesRunOfScan w.reading run n answer r) → is_some w.reading.scan ≡ true → w.reading.taken + length run ≤ limits.input
-    → Stands limits front w → Stands limits (front ++ take t.early run) (file_mid w t.mid)
+    → StandsForFile limits front w → StandsForFile limits (front ++ take t.early run) (file_mid w t.mid)
 run_before limits front w run n answer r t some room k =
     let s = inside_of limits front w k some in
     let before : List Segment = (0xda, s.contents) ∷ segments_of s.items in
@@ -336,7 +336,7 @@ run_before limits front w run n answer r t some room k =
     })
 
 run_last : (limits : Limits) (front : List ℕ) (w : FileWork) (run : List ℕ) (n : ℕ) (answer : ItemStep) (r : Reading) → (t : TakesRunOfScan w.reading run n answer r) → w.reading.taken + length run ≤ limits.input
-    → Stands limits front (file_mid w t.mid) → AfterFileStep (t.mid).scan limits (front ++ slice_index run t.early ∷ []) answer (file_mid w r)
+    → StandsForFile limits front (file_mid w t.mid) → AfterFileStep (t.mid).scan limits (front ++ slice_index run t.early ∷ []) answer (file_mid w r)
 run_last limits front w run n answer r t room k =
     let s = inside_of limits front (file_mid w t.mid) k t.inside in
     let low = t.within in

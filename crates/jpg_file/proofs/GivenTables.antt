@@ -1,4 +1,4 @@
--- Which typical tables were written, by flags, and the segments of those that are due.
+-- Which typical tables were written, by flags, and the segments of those that are pending.
 use Rattle.std.proofs.Common.{◌≡◌, ℕ, zero, suc, ◌+◌, ◌*◌, ◌<◌, Bool, true, false, cond, List, [], ◌∷◌, ◌++◌, length, drop, get_or, set, Option, Some, None, refl, sym, ap, ◌∙◌, arith, lit<, ◌==◌, ◌&&◌}
 use Rattle.std.specs.Prelude.{nat_lt, replicate, slice_set}
 use Rattle.std.specs.List.{All}
@@ -9,11 +9,11 @@ use Rattle.std.proofs.lemmas.List.{append_assoc, get_or-set_same, get_or-set_oth
 use Rattle.jpg_spec.specs.Lists.{are_equal}
 use Rattle.jpg_spec.specs.Segments.{HuffmanTable}
 use Rattle.jpg_spec.specs.Scan.{TablesInForce}
-use Rattle.jpg_spec.specs.ScanText.{typical_table, is_same}
-use Rattle.jpg_spec.specs.FileText.{holds_table, segment_text, tables_given, tables_text, with_table}
+use Rattle.jpg_spec_write.specs.ScanText.{typical_table, is_same}
+use Rattle.jpg_spec_write.specs.FileText.{holds_table, segment_text, tables_given, tables_text, with_table}
 use Rattle.jpg_spec.specs.declared.frame.ScanPart.{ScanPart}
 use Rattle.jpg_spec.proofs.Common.{both, same_of, same_itself, lt_yes, lt_of}
-use Rattle.jpg_file.specs.WriteTables.{HasSlots, is_given, given_in, table_due, part_due, part_given, tables_due}
+use Rattle.jpg_file.specs.Write.WriteTables.{HasSlots, is_written_slot, given_in, table_due, part_due, part_given, tables_due}
 
 -- a table where the flag is set
 abbrev told : Bool → HuffmanTable → Option HuffmanTable
@@ -41,13 +41,13 @@ none_given = fun_ext (λ class. fun_ext (λ slot. ap (λ b. told b (typical_tabl
 
 -- ONE MORE
 
-flag_now : (flags : List Bool) (class slot : ℕ) → class < 2 → slot < 2 → length flags ≡ 4 → is_given (flag_set flags class slot) class slot ≡ true
+flag_now : (flags : List Bool) (class slot : ℕ) → class < 2 → slot < 2 → length flags ≡ 4 → is_written_slot (flag_set flags class slot) class slot ≡ true
 flag_now flags class slot hc hs l =
     let k = 2 * class + slot in
     ap (λ b. b && (nat_lt slot 2 && get_or (flag_set flags class slot) k false)) (lt_yes class 2 hc) ∙ ap (λ b. b && get_or (flag_set flags class slot) k false) (lt_yes slot 2 hs)
     ∙ get_or-set_same flags k true false (omega (arith, hc, hs, l))
 
-flag_other : (flags : List Bool) (class slot c s : ℕ) → class < 2 → slot < 2 → (c == class && s == slot) ≡ false → is_given (flag_set flags class slot) c s ≡ is_given flags c s
+flag_other : (flags : List Bool) (class slot c s : ℕ) → class < 2 → slot < 2 → (c == class && s == slot) ≡ false → is_written_slot (flag_set flags class slot) c s ≡ is_written_slot flags c s
 flag_other flags class slot c s hc hs e = by (nat_lt c 2) (nat_lt s 2) refl refl
   where
     k : ℕ
@@ -87,7 +87,7 @@ equal_itself (x ∷ xs) = ap (λ b. b && are_equal xs xs) (same_itself x) ∙ eq
 same_table : (t : HuffmanTable) → is_same t t ≡ true
 same_table t = ap (λ b. b && are_equal t.symbols t.symbols) (equal_itself t.counts) ∙ equal_itself t.symbols
 
-set_already : (flags : List Bool) (class slot : ℕ) → is_given flags class slot ≡ true → flags ≡ flag_set flags class slot
+set_already : (flags : List Bool) (class slot : ℕ) → is_written_slot flags class slot ≡ true → flags ≡ flag_set flags class slot
 set_already flags class slot e =
     let k = 2 * class + slot in
     let flag = both (nat_lt slot 2) (get_or flags k false) (both (nat_lt class 2) (nat_lt slot 2 && get_or flags k false) e).1 in
@@ -95,7 +95,7 @@ set_already flags class slot e =
 
 first_text : (flags : List Bool) (class slot : ℕ) (rest : List (ℕ × ℕ)) → class < 2 → slot < 2 → length flags ≡ 4
     → tables_text (given_in flags) typical_table ((class, slot) ∷ rest) ≡ table_due flags class slot ++ tables_text (given_in (flag_set flags class slot)) typical_table rest
-first_text flags class slot rest hc hs l = by (is_given flags class slot) refl
+first_text flags class slot rest hc hs l = by (is_written_slot flags class slot) refl
   where
     table : HuffmanTable
     table = typical_table class slot
@@ -106,16 +106,16 @@ first_text flags class slot rest hc hs l = by (is_given flags class slot) refl
     text : TablesInForce → List ℕ
     text given = tables_text given typical_table rest
 
-    by : (b : Bool) → is_given flags class slot ≡ b
+    by : (b : Bool) → is_written_slot flags class slot ≡ b
         → cond (holds_table (told b (typical_table class slot)) (typical_table class slot)) (text (given_in flags)) (here ++ text (with_table (given_in flags) class slot (typical_table class slot)))
         ≡ cond b [] here ++ text (given_in (flag_set flags class slot))
     by true e = ap (λ b. cond b (text (given_in flags)) (here ++ text (with_table (given_in flags) class slot table))) (same_table table) ∙ ap (λ f. text (given_in f)) (set_already flags class slot e)
     by false e = ap (λ g. here ++ text g) (given_more flags class slot hc hs l)
 
-flag_is : (flags : List Bool) (class slot : ℕ) → class < 2 → slot < 2 → is_given flags class slot ≡ get_or flags (2 * class + slot) false
+flag_is : (flags : List Bool) (class slot : ℕ) → class < 2 → slot < 2 → is_written_slot flags class slot ≡ get_or flags (2 * class + slot) false
 flag_is flags class slot hc hs = ap (λ b. b && (nat_lt slot 2 && get_or flags (2 * class + slot) false)) (lt_yes class 2 hc) ∙ ap (λ b. b && get_or flags (2 * class + slot) false) (lt_yes slot 2 hs)
 
--- what is due of it, by its flag
+-- what is pending of it, by its flag
 pub due_none : (flags : List Bool) (class slot : ℕ) → class < 2 → slot < 2 → get_or flags (2 * class + slot) false ≡ true → [] ≡ table_due flags class slot
 due_none flags class slot hc hs e =
     sym (ap (λ b. cond b [] (segment_text 0xc4 ((16 * class + slot) ∷ (typical_table class slot).counts ++ (typical_table class slot).symbols))) (flag_is flags class slot hc hs ∙ e))
@@ -150,7 +150,7 @@ part_more flags p parts h l =
     let second : TablesInForce → TablesInForce = λ g. tables_given (with_table g 1 p.ac (typical_table 1 p.ac)) typical_table rest in
     ap second (given_more flags 0 p.dc (lit< tt) h.dc l) ∙ ap (λ (g : TablesInForce). tables_given g typical_table rest) (given_more mid 1 p.ac (lit< tt) h.ac (length_more flags 0 p.dc l))
 
--- A PART THAT IS LEFT, and the others
+-- A PART THAT IS LEFT, and the remaining ones
 
 pub left_from : (parts : List ScanPart) (i : ℕ) (d : ScanPart) → i < length parts → drop i parts ≡ get_or parts i d ∷ drop (i + 1) parts
 left_from parts i d h = let e : suc i ≡ i + 1 = omega arith in drop-cons parts i d h ∙ ap (λ n. get_or parts i d ∷ drop n parts) e

@@ -1,4 +1,4 @@
--- The interval in work of a scan that is read is of the scan's kind (T.81, A.2, E.1.4, G.1.2).
+-- The current interval of a scan that is read is of the scan's kind (T.81, A.2, E.1.4, G.1.2).
 use Rattle.std.proofs.Common.{◌≡◌, ℕ, ◌≤◌, Bool, true, false, cond, ◌==◌, List, [], ◌∷◌, ◌++◌, refl, sym, ap, ◌∙◌, subst, arith, ℤ, pos}
 use Rattle.std.specs.Prelude.{map, nat_lt, slice_index_or}
 use Rattle.std.specs.List.{All}
@@ -18,7 +18,7 @@ use Rattle.jpg_spec.proofs.BlocksOnce.{joined_chunks}
 use Rattle.jpg_spec.proofs.Common.{same_of}
 use Rattle.jpg_spec.proofs.IntervalUnits.{head_of, sequential_units}
 use Rattle.jpg_spec.proofs.PictureInWork.{AreApart, apart_of, apart_swap, joined_join, so_far_units}
-use Rattle.jpg_spec.proofs.PlacedBlocks.{each_all}
+use Rattle.jpg_spec_write.proofs.PlacedBlocks.{each_all}
 use Rattle.jpg_spec.proofs.PlacesDistinct.{units_distinct}
 use Rattle.jpg_spec.proofs.PlacesFound.{each_units}
 use Rattle.jpg_spec.proofs.Rows.{all_back, all_front}
@@ -26,19 +26,19 @@ use Rattle.jpg_spec.proofs.ScanAnswers.{units_at}
 use Rattle.jpg_coefs.specs.Picture.{map_of}
 use Rattle.jpg_coefs.specs.Machine.{Interval, units_of}
 use Rattle.jpg_seq.specs.Reader.{IsSequential, new_units_at}
-use Rattle.jpg_prog_read.specs.AcStands.{BandHasRoom, HasRoom, IsAcInterval}
+use Rattle.jpg_prog_read.specs.AcStands.{BandHasRoom, HasCorrectionRoom, IsAcInterval}
 use Rattle.jpg_prog_read.specs.DcPlaces.{IsDcBand}
-use Rattle.jpg_prog_read.specs.DcRefinement.{HasRoom as DcHasRoom, HasRoomAt, TakesOneBit}
-use Rattle.jpg_file.specs.InData.{IsInterval, IsReadable, frame_at}
-use Rattle.jpg_file.specs.Machine.{FitsKind, any_scan, scan_kind, dc_first, dc_later, ac_band}
-use Rattle.jpg_file.proofs.HeadSays.{Says, head_says}
+use Rattle.jpg_prog_read.specs.DcRefinement.{HasDcRoom as DcHasRoom, HasRoomAt, TakesOneBit}
+use Rattle.jpg_file.specs.Read.InData.{IsInterval, IsReadable, frame_at}
+use Rattle.jpg_file.specs.Read.Machine.{FitsKind, any_scan, scan_kind, dc_first, dc_later, ac_band}
+use Rattle.jpg_file.proofs.HeaderBits.{Says, head_says}
 use Rattle.jpg_file.proofs.Machines.{head_kind, kind_of_coding}
 use Rattle.jpg_file.proofs.ProgressiveRoom.{BeginsPass, ac_band_room, dc_room}
 
 pub distinct_places : (limits : Limits) (p : ScanPlace) → IsReadable limits p → AreDistinct (scan_at limits p).places
 distinct_places limits p r = units_distinct (frame_at limits p) (head_components (head_of limits p)) r.distinct
 
--- the units of the interval in work stand in the picture as before the scan
+-- the units of the current interval are in the picture as before the scan
 pub same_units : (limits : Limits) (p : ScanPlace) (i : Interval) → IsReadable limits p → IsInterval limits p i → ScanSoFar (scan_at limits p) p.blocks (map_of i.before) p.done (p.places ∷ p.later) → units_of i ≡ units_at limits p
 same_units limits p i r is w =
     let s = scan_at limits p in
@@ -46,7 +46,7 @@ same_units limits p i r is w =
     ∙ ap (map (unit_at s (map_of i.before))) is.places
     ∙ so_far_units s p.blocks (map_of i.before) p.done p.places p.later (distinct_places limits p r) w
 
--- EVERY PLACE that is due has its block from before the scan
+-- EVERY PLACE that is left has its block from before the scan
 
 blocks_kept : (P : List ℤ → Type 0) (old new : Blocks) (others places : List Place) → ((i x y : ℕ) → any_of (is_at i x y) others ≡ false → new i x y ≡ old i x y) → AreApart places others → All (λ q. P (block_at old q)) places
     → All (λ q. P (block_at new q)) places
@@ -56,7 +56,7 @@ blocks_kept P old new others (q ∷ places) same apart all =
     All-cons (λ (q : Place). P (block_at new q)) q places (subst P (sym here) (All-head (λ (q : Place). P (block_at old q)) q places all))
     (blocks_kept P old new others places same apart.1 (All-tail (λ (q : Place). P (block_at old q)) q places all))
 
--- what the scan found at each of its places, the picture in work has at those that are due
+-- what holds of the blocks of all places before the scan, holds in the current picture for the places that are left
 due_kept : (P : List ℤ → Type 0) (s : Scan) (before work : Blocks) (done : List (List ℕ)) (places : List Place) (later : List (List Place)) → AreDistinct s.places → ScanSoFar s before work done (places ∷ later) → All (λ q. P (block_at before q)) s.places
     → All (λ q. P (block_at work q)) (places ++ joined later)
 due_kept P s before work done places later distinct w all =
@@ -73,7 +73,7 @@ each_place P limits p h =
 
 -- THE KINDS
 
--- the interval in work of a scan of the file
+-- the current interval of a scan of the file
 pub record InWork (limits : Limits) (bytes : List ℕ) (p : ScanPlace) (i : Interval) : Type 0 where
   pub at : ScanAt limits bytes p []
   pub readable : IsReadable limits p
@@ -126,7 +126,7 @@ band_fits limits bytes p i w e z =
     let says = says_at limits bytes p i w e in
     let limit = says.band z in
     let some : 1 ≤ head.ss = grind (arith, nat_tests, z) in
-    let P : List ℤ → Type 0 = λ block. All (HasRoom s.coding) (band s block) in
+    let P : List ℤ → Type 0 = λ block. All (HasCorrectionRoom s.coding) (band s block) in
     let all = each_place (BandHasRoom s p.blocks) limits p (λ q among. ac_band_room limits p.items p.blocks p.contents q (begins_at limits bytes p i q w e among) some limit.1) in
     let due = due_kept P s p.blocks (map_of i.before) p.done p.places p.later (distinct_places limits p w.readable) w.so_far all in
     let same : p.places ++ joined p.later ≡ i.places ++ i.later = ap (λ l. l ++ joined p.later) (sym (w.is).places) ∙ ap (λ l. i.places ++ l) (sym (w.is).later) in

@@ -1,20 +1,20 @@
--- What a byte between items makes of the bytes so far.
+-- The effect of a byte between items on the bytes so far.
 use Rattle.std.proofs.Common.{◌≡◌, ℕ, suc, ◌+◌, ◌≤◌, List, [], ◌∷◌, ◌++◌, length, take, refl, sym, ap, ◌∙◌, subst, arith, Some, None, Ok, Err, inl, inr, ◌⊎◌}
 use Rattle.std.specs.Prelude.{replicate}
 use Rattle.std.specs.Int.{to_be_bytes, w16}
 use Rattle.std.proofs.lemmas.List.{append_assoc, append-nil, length-append, length-replicate, length-take-le}
 use Rattle.jpg_spec.specs.Scan.{Blocks}
-use Rattle.jpg_spec.specs.Markers.{Segment, Rule, soi, SpellsMarker, SpellsSegment, SpellsSegments, BeginsSegment, PartOfSegment, NoMarkerBytes, TailShows, ShowsNoStart, code_fault, kept_rule}
+use Rattle.jpg_spec.specs.Markers.{Segment, Rule, soi, SpellsMarker, SpellsSegment, SpellsSegments, BeginsSegment, PartOfSegment, NoMarkerBytes, TailReveals, RevealsNoStart, code_fault, kept_rule}
 use Rattle.jpg_spec.specs.Markers as markers
 use Rattle.jpg_spec.specs.Items.{Item, segment, segments_of, contents_rule}
 use Rattle.jpg_spec.specs.FileMeaning.{no_blocks}
-use Rattle.jpg_spec.specs.FirstFault.{Shows}
-use Rattle.jpg_spec.specs.FileStands.{FileStands}
+use Rattle.jpg_spec.specs.FirstFault.{Reveals}
+use Rattle.jpg_spec.specs.UnfinishedFile.{UnfinishedFile}
 use Rattle.jpg_spec.specs.ScanReading.{Beside}
 use Rattle.jpg_spec.specs.declared.fault.Fault.{Fault}
 use Rattle.jpg_spec.specs.declared.fault.Fault.TheVariants.{NoMarker}
 use Rattle.jpg_spec.specs.declared.frame.Limits.{Limits}
-use Rattle.jpg_spec.specs.declared.answers.FaultAt.{FaultAt}
+use Rattle.jpg_spec.specs.declared.fault.FaultAt.{FaultAt}
 use Rattle.jpg_spec.proofs.MarkersOnce.{no_head}
 use Rattle.jpg_spec.proofs.ItemSteps.{same_tail, beside_more, segment_shown, contents_shown, part_stands, segment_passed}
 use Rattle.jpg_spec.proofs.Common.{heads}
@@ -23,10 +23,10 @@ use Rattle.jpg_markers.specs.declared.segments.SegStep.TheVariants as step
 use Rattle.jpg_markers.specs.declared.segments.SegmentReader.{SegmentReader}
 use Rattle.jpg_markers.specs.declared.segments.Phase.{Phase}
 use Rattle.jpg_markers.specs.declared.segments.Phase.TheVariants as phase
-use Rattle.jpg_markers.specs.Reading.{Reading, StandsFor, AtPhase, IsBetween, PartRead, ShowsBehind, EndsBehind, Comes, AddsContents, PassesContents, reading_of}
-use Rattle.jpg_file.specs.Held.{Holds, told_by}
-use Rattle.jpg_file.specs.declared.items.Items.{Items}
-use Rattle.jpg_file.specs.Items.{IsBeside, AtPlace, BetweenItems, BehindSegment, BehindEnd, AddsNoScan, PassesItems}
+use Rattle.jpg_markers.specs.Reading.{Reading, StandsForSegments, AtPhase, IsBetween, PartRead, RevealsAfter, EndsAtEoi, Comes, AddsContents, PassesContents, reading_of}
+use Rattle.jpg_file.specs.Read.SegmentState.{Holds, told_by}
+use Rattle.jpg_file.specs.declared.read.items.Items.{Items}
+use Rattle.jpg_file.specs.Read.Items.{IsBeside, AtPlace, BetweenItems, AfterSegment, BehindEnd, AddsNoScan, PassesItems}
 
 -- THE START
 
@@ -34,7 +34,7 @@ segments_soi : (xs : List Segment) (front : List ℕ) → SpellsSegments xs fron
 segments_soi [] front s = ([], s ∙ sym (append-nil soi))
 segments_soi (x ∷ xs) front s = let r = segments_soi xs s.0 s.3 in (r.0 ++ s.1, s.2 ∙ ap (λ l. l ++ s.1) r.1 ∙ append_assoc soi r.0 s.1)
 
-no_start_soi : (a y : List ℕ) → ShowsNoStart a → a ≡ soi ++ y → ⊥
+no_start_soi : (a y : List ℕ) → RevealsNoStart a → a ≡ soi ++ y → ⊥
 no_start_soi a y (inl s) e = s.2 (heads s.0 255 [] (0xd8 ∷ y) (sym s.1 ∙ e)).0
 no_start_soi a y (inr s) e = s.2 (heads s.0 0xd8 [] y (heads 255 255 (s.0 ∷ []) (0xd8 ∷ y) (sym s.1 ∙ e)).1).0
 
@@ -43,7 +43,7 @@ beside_soi limits rule sent bytes items tail w =
     let r = segments_soi (segments_of items) (w.between).front (w.between).spelled in
     (r.0 ++ tail, (w.between).cut ∙ ap (λ l. l ++ tail) r.1 ∙ append_assoc soi r.0 tail)
 
--- behind SOI, before any item
+-- after SOI, before any item
 first_beside : (limits : Limits) (bytes tail : List ℕ) → markers.Between (kept_rule limits) bytes [] tail → IsBeside limits bytes bytes [] no_blocks tail
 first_beside limits bytes tail b = record {
   beside = record {
@@ -71,19 +71,19 @@ start_more limits bytes r p e a = by p a
     by phase.Contents k = between phase.Contents k
     by phase.Ended k = absurd k
 
--- BYTES that go on
-place_more : (limits : Limits) (bytes sent more : List ℕ) (items : List Item) (blocks : Blocks) (r : Reading) → r.limits ≡ limits → StandsFor (sent ++ more) (segments_of items) r → AtPlace limits bytes sent items blocks
+-- BYTES that are continued
+place_more : (limits : Limits) (bytes sent more : List ℕ) (items : List Item) (blocks : Blocks) (r : Reading) → r.limits ≡ limits → StandsForSegments (sent ++ more) (segments_of items) r → AtPlace limits bytes sent items blocks
     → AtPlace limits (bytes ++ more) (sent ++ more) items blocks
 place_more limits bytes sent more items blocks r e stands (inr (tail, w)) = inr (tail ++ more, record { beside = beside_more limits (kept_rule limits) sent bytes items tail more w.beside; leads = w.leads })
 place_more limits bytes sent more items blocks r e stands (inl s) =
-    let S : List Item → Type 0 = λ z. StandsFor (sent ++ more) (segments_of z) r in
+    let S : List Item → Type 0 = λ z. StandsForSegments (sent ++ more) (segments_of z) r in
     let k = subst S s.no_items stands in
     let P : List ℕ → Type 0 = λ z. AtPlace limits (z ++ more) (sent ++ more) items blocks in
     let Q : List Item → Type 0 = λ z. AtPlace limits (sent ++ more) (sent ++ more) z blocks in
     let R : Blocks → Type 0 = λ z. AtPlace limits (sent ++ more) (sent ++ more) [] z in
     subst P (sym s.same) (subst Q (sym s.no_items) (subst R (sym s.blank) (start_more limits (sent ++ more) r r.phase e k.1)))
 
-pub passes_on : (limits : Limits) (bytes more : List ℕ) (items : List Item) (blocks : Blocks) (w new : Items) → (k : BetweenItems limits bytes items blocks w) → StandsFor (k.sent ++ more) (segments_of items) (reading_of new.segments)
+pub passes_on : (limits : Limits) (bytes more : List ℕ) (items : List Item) (blocks : Blocks) (w new : Items) → (k : BetweenItems limits bytes items blocks w) → StandsForSegments (k.sent ++ more) (segments_of items) (reading_of new.segments)
     → (reading_of new.segments).limits ≡ (reading_of w.segments).limits → new.limits ≡ w.limits → told_by new.held ≡ told_by w.held → BetweenItems limits (bytes ++ more) items blocks new
 passes_on limits bytes more items blocks w new k stands e f same = record {
   sent = k.sent ++ more;
@@ -93,7 +93,7 @@ passes_on limits bytes more items blocks w new k stands e f same = record {
   holds = subst (λ h. Holds limits h (segments_of items)) (sym same) k.holds;
 }
 
-pub goes_on : (limits : Limits) (bytes : List ℕ) (b : ℕ) (items : List Item) (blocks : Blocks) (w new : Items) → (k : BetweenItems limits bytes items blocks w) → StandsFor (k.sent ++ b ∷ []) (segments_of items) (reading_of new.segments)
+pub goes_on : (limits : Limits) (bytes : List ℕ) (b : ℕ) (items : List Item) (blocks : Blocks) (w new : Items) → (k : BetweenItems limits bytes items blocks w) → StandsForSegments (k.sent ++ b ∷ []) (segments_of items) (reading_of new.segments)
     → (reading_of new.segments).limits ≡ (reading_of w.segments).limits → new.limits ≡ w.limits → told_by new.held ≡ told_by w.held → (more : List Item) × AddsNoScan items more × BetweenItems limits (bytes ++ b ∷ []) more blocks new
 goes_on limits bytes b items blocks w new k stands e f same = (items, inl refl, passes_on limits bytes (b ∷ []) items blocks w new k stands e f same)
 
@@ -115,35 +115,35 @@ stretch_stops w r bytes same = record {
   limits = refl;
   taken = omega (arith, ap (λ (q : Reading). q.taken) same);
   stands = λ limits front items blocks k.
-      passes_on limits front [] items blocks w (record w { segments = r }) k (subst (λ b. StandsFor b (segments_of items) (reading_of r)) (sym (append-nil k.sent)) (subst (λ (q : Reading). StandsFor k.sent (segments_of items) q) (sym same) k.stands)) (ap (λ (q : Reading). q.limits) same) refl refl;
+      passes_on limits front [] items blocks w (record w { segments = r }) k (subst (λ b. StandsForSegments b (segments_of items) (reading_of r)) (sym (append-nil k.sent)) (subst (λ (q : Reading). StandsForSegments k.sent (segments_of items) q) (sym same) k.stands)) (ap (λ (q : Reading). q.limits) same) refl refl;
 }
 
 -- A FAULT of markers and lengths
-pub beside_fault : (limits : Limits) (bytes sent : List ℕ) (items : List Item) (blocks : Blocks) (tail : List ℕ) (fault : Fault) → IsBeside limits bytes sent items blocks tail → ShowsBehind (kept_rule limits) (segments_of items) fault sent → Shows limits fault bytes
+pub beside_fault : (limits : Limits) (bytes sent : List ℕ) (items : List Item) (blocks : Blocks) (tail : List ℕ) (fault : Fault) → IsBeside limits bytes sent items blocks tail → RevealsAfter (kept_rule limits) (segments_of items) fault sent → Reveals limits fault bytes
 beside_fault limits bytes sent items blocks tail fault w (inl s) =
     let y = beside_soi limits (kept_rule limits) sent bytes items tail w.beside in absurd (no_start_soi sent y.0 s.2 y.1)
 beside_fault limits bytes sent items blocks tail fault w (inr (other, between, shown)) =
     let e = same_tail (kept_rule limits) sent (segments_of items) tail other (w.beside).between between in
-    segment_shown limits sent bytes items fault tail w.beside (subst (λ t. ((fault ≡ NoMarker) × NoMarkerBytes t) ⊎ TailShows (kept_rule limits) (segments_of items) fault t) (sym e) shown)
+    segment_shown limits sent bytes items fault tail w.beside (subst (λ t. ((fault ≡ NoMarker) × NoMarkerBytes t) ⊎ TailReveals (kept_rule limits) (segments_of items) fault t) (sym e) shown)
 
-start_fault : (limits : Limits) (bytes : List ℕ) (fault : Fault) → ShowsBehind (kept_rule limits) [] fault bytes → Shows limits fault bytes
+start_fault : (limits : Limits) (bytes : List ℕ) (fault : Fault) → RevealsAfter (kept_rule limits) [] fault bytes → Reveals limits fault bytes
 start_fault limits bytes fault (inl (which, first, shown)) = inl (which, shown)
 start_fault limits bytes fault (inr (tail, between, shown)) = beside_fault limits bytes bytes [] no_blocks tail fault (first_beside limits bytes tail between) (inr (tail, between, shown))
 
 pub byte_fault : (limits : Limits) (bytes : List ℕ) (b : ℕ) (items : List Item) (blocks : Blocks) (w new : Items) (f : FaultAt) → (k : BetweenItems limits bytes items blocks w) → (reading_of new.segments).limits ≡ (reading_of w.segments).limits
-    → Comes (k.sent ++ b ∷ []) (segments_of items) (Err (stop.Fault f)) (reading_of new.segments) → Shows limits f.fault (bytes ++ b ∷ []) × (f.at ≡ (reading_of new.segments).taken)
+    → Comes (k.sent ++ b ∷ []) (segments_of items) (Err (stop.Fault f)) (reading_of new.segments) → Reveals limits f.fault (bytes ++ b ∷ []) × (f.at ≡ (reading_of new.segments).taken)
 byte_fault limits bytes b items blocks w new f k e c =
-    let shown = subst (λ (l : Limits). ShowsBehind (kept_rule l) (segments_of items) f.fault (k.sent ++ b ∷ [])) (e ∙ k.bounded.0) c.1 in
+    let shown = subst (λ (l : Limits). RevealsAfter (kept_rule l) (segments_of items) f.fault (k.sent ++ b ∷ [])) (e ∙ k.bounded.0) c.1 in
     (by k.at shown, c.2)
   where
-    by : AtPlace limits bytes k.sent items blocks → ShowsBehind (kept_rule limits) (segments_of items) f.fault (k.sent ++ b ∷ []) → Shows limits f.fault (bytes ++ b ∷ [])
+    by : AtPlace limits bytes k.sent items blocks → RevealsAfter (kept_rule limits) (segments_of items) f.fault (k.sent ++ b ∷ []) → Reveals limits f.fault (bytes ++ b ∷ [])
     by (inr (tail, at)) shown =
         beside_fault limits (bytes ++ b ∷ []) (k.sent ++ b ∷ []) items blocks (tail ++ b ∷ []) f.fault (record { beside = beside_more limits (kept_rule limits) k.sent bytes items tail (b ∷ []) at.beside; leads = at.leads }) shown
     by (inl s) shown =
-        let S : List Item → Type 0 = λ z. ShowsBehind (kept_rule limits) (segments_of z) f.fault (k.sent ++ b ∷ []) in
-        subst (λ z. Shows limits f.fault (z ++ b ∷ [])) (sym s.same) (start_fault limits (k.sent ++ b ∷ []) f.fault (subst S s.no_items shown))
+        let S : List Item → Type 0 = λ z. RevealsAfter (kept_rule limits) (segments_of z) f.fault (k.sent ++ b ∷ []) in
+        subst (λ z. Reveals limits f.fault (z ++ b ∷ [])) (sym s.same) (start_fault limits (k.sent ++ b ∷ []) f.fault (subst S s.no_items shown))
 
--- A SEGMENT more is whole
+-- ONE MORE SEGMENT is complete
 
 -- the segment at the end of what was sent
 pub record LastSegment (limits : Limits) (sent : List ℕ) (before : List Segment) (code : ℕ) (contents : List ℕ) : Type 0 where
@@ -154,7 +154,7 @@ pub record LastSegment (limits : Limits) (sent : List ℕ) (before : List Segmen
   pub allowed : code_fault before code ≡ None
   pub kept : kept_rule limits before code contents ≡ None
 
-pub last_segment : (limits : Limits) (sent : List ℕ) (before : List Segment) (r : Reading) → r.limits ≡ limits → r.phase ≡ phase.Between → StandsFor sent ((r.code, r.contents) ∷ before) r → LastSegment limits sent before r.code r.contents
+pub last_segment : (limits : Limits) (sent : List ℕ) (before : List Segment) (r : Reading) → r.limits ≡ limits → r.phase ≡ phase.Between → StandsForSegments sent ((r.code, r.contents) ∷ before) r → LastSegment limits sent before r.code r.contents
 last_segment limits sent before r e p stands =
     let (tail, between, seen, none) = subst (λ (q : Phase). AtPhase r q sent ((r.code, r.contents) ∷ before)) p stands.1 in
     let b = subst (λ (l : Limits). markers.Between (kept_rule l) sent ((r.code, r.contents) ∷ before) tail) e between in
@@ -179,7 +179,7 @@ long_segment code contents bytes s =
     let h = length-replicate {A = ℕ} (suc m.0) 255 in
     omega (arith, a, b, d, f, g, h)
 
--- none is whole before SOI is
+-- none is complete before SOI is
 start_no_segment : (limits : Limits) (sent : List ℕ) (b : ℕ) (code : ℕ) (contents : List ℕ) → (sent ≡ []) ⊎ (sent ≡ 255 ∷ []) → LastSegment limits (sent ++ b ∷ []) [] code contents → ⊥
 start_no_segment limits sent b code contents short s =
     let a = ap length (s.between).cut in
@@ -193,9 +193,9 @@ start_no_segment limits sent b code contents short s =
     few (inl e) = omega (arith, ap length e)
     few (inr e) = omega (arith, ap length e)
 
-pub behind_segment : (limits : Limits) (bytes : List ℕ) (b : ℕ) (items : List Item) (blocks : Blocks) (w new : Items) → (k : BetweenItems limits bytes items blocks w) → Comes (k.sent ++ b ∷ []) (segments_of items) (Ok step.Whole) (reading_of new.segments)
-    → (reading_of new.segments).phase ≡ phase.Between → (reading_of new.segments).limits ≡ (reading_of w.segments).limits → new.limits ≡ w.limits → told_by new.held ≡ told_by w.held → BehindSegment limits (bytes ++ b ∷ []) items blocks new
-behind_segment limits bytes b items blocks w new k c p e f same = by k.at
+pub after_segment : (limits : Limits) (bytes : List ℕ) (b : ℕ) (items : List Item) (blocks : Blocks) (w new : Items) → (k : BetweenItems limits bytes items blocks w) → Comes (k.sent ++ b ∷ []) (segments_of items) (Ok step.Whole) (reading_of new.segments)
+    → (reading_of new.segments).phase ≡ phase.Between → (reading_of new.segments).limits ≡ (reading_of w.segments).limits → new.limits ≡ w.limits → told_by new.held ≡ told_by w.held → AfterSegment limits (bytes ++ b ∷ []) items blocks new
+after_segment limits bytes b items blocks w new k c p e f same = by k.at
   where
     r : Reading
     r = reading_of new.segments
@@ -203,7 +203,7 @@ behind_segment limits bytes b items blocks w new k c p e f same = by k.at
     last : LastSegment limits (k.sent ++ b ∷ []) (segments_of items) r.code r.contents
     last = last_segment limits (k.sent ++ b ∷ []) (segments_of items) r (e ∙ k.bounded.0) p c.1
 
-    by : AtPlace limits bytes k.sent items blocks → BehindSegment limits (bytes ++ b ∷ []) items blocks new
+    by : AtPlace limits bytes k.sent items blocks → AfterSegment limits (bytes ++ b ∷ []) items blocks new
     by (inl s) =
         let S : List Item → Type 0 = λ z. LastSegment limits (k.sent ++ b ∷ []) (segments_of z) r.code r.contents in
         absurd (start_no_segment limits k.sent b r.code r.contents s.short (subst S s.no_items last))
@@ -224,14 +224,14 @@ behind_segment limits bytes b items blocks w new k c p e f same = by k.at
           holds = subst (λ h. Holds limits h (segments_of items)) (sym same) k.holds;
         }
 
--- and breaks no rule, or shows a fault
-pub segment_taken : (limits : Limits) (bytes : List ℕ) (items : List Item) (blocks : Blocks) (w new : Items) → (k : BehindSegment limits bytes items blocks w) → ((reading_of w.segments).code ≡ 0xda → ⊥)
+-- and breaks no rule, or has a fault
+pub segment_taken : (limits : Limits) (bytes : List ℕ) (items : List Item) (blocks : Blocks) (w new : Items) → (k : AfterSegment limits bytes items blocks w) → ((reading_of w.segments).code ≡ 0xda → ⊥)
     → contents_rule limits (segments_of items) (reading_of w.segments).code (reading_of w.segments).contents ≡ None → reading_of new.segments ≡ reading_of w.segments → new.limits ≡ w.limits
     → Holds limits (told_by new.held) (((reading_of w.segments).code, (reading_of w.segments).contents) ∷ segments_of items) → (more : List Item) × AddsNoScan items more × BetweenItems limits bytes more blocks new
 segment_taken limits bytes items blocks w new k other rule same f holds =
     let r = reading_of w.segments in
     let more : List Item = segment r.code r.contents ∷ items in
-    let S : Reading → Type 0 = λ q. StandsFor k.sent ((r.code, r.contents) ∷ segments_of items) q in (
+    let S : Reading → Type 0 = λ q. StandsForSegments k.sent ((r.code, r.contents) ∷ segments_of items) q in (
       more,
       inr (r.code, r.contents, refl, other),
       record {
@@ -249,8 +249,8 @@ segment_taken limits bytes items blocks w new k other rule same f holds =
       },
     )
 
-pub segment_fault : (limits : Limits) (bytes : List ℕ) (items : List Item) (blocks : Blocks) (w : Items) (fault : Fault) → (k : BehindSegment limits bytes items blocks w)
-    → contents_rule limits (segments_of items) (reading_of w.segments).code (reading_of w.segments).contents ≡ Some fault → Shows limits fault bytes
+pub segment_fault : (limits : Limits) (bytes : List ℕ) (items : List Item) (blocks : Blocks) (w : Items) (fault : Fault) → (k : AfterSegment limits bytes items blocks w)
+    → contents_rule limits (segments_of items) (reading_of w.segments).code (reading_of w.segments).contents ≡ Some fault → Reveals limits fault bytes
 segment_fault limits bytes items blocks w fault k broken =
     contents_shown limits (kept_rule limits) k.sent bytes items (reading_of w.segments).code (reading_of w.segments).contents fault k.tail (k.at).beside k.spelled k.allowed k.no_end broken
 
@@ -258,12 +258,12 @@ segment_fault limits bytes items blocks w fault k broken =
 no_first_end : code_fault [] 0xd9 ≡ None → ⊥
 no_first_end e = cc
 
-pub behind_end : (limits : Limits) (bytes : List ℕ) (b : ℕ) (items : List Item) (blocks : Blocks) (w new : Items) → (k : BetweenItems limits bytes items blocks w) → Comes (k.sent ++ b ∷ []) (segments_of items) (Ok step.Eoi) (reading_of new.segments)
+pub after_end : (limits : Limits) (bytes : List ℕ) (b : ℕ) (items : List Item) (blocks : Blocks) (w new : Items) → (k : BetweenItems limits bytes items blocks w) → Comes (k.sent ++ b ∷ []) (segments_of items) (Ok step.Eoi) (reading_of new.segments)
     → (reading_of new.segments).limits ≡ (reading_of w.segments).limits → told_by new.held ≡ told_by w.held → BehindEnd limits (bytes ++ b ∷ []) items blocks new
-behind_end limits bytes b items blocks w new k c e same = by k.at
+after_end limits bytes b items blocks w new k c e same = by k.at
   where
-    ends : EndsBehind (kept_rule limits) (segments_of items) (k.sent ++ b ∷ [])
-    ends = subst (λ (l : Limits). EndsBehind (kept_rule l) (segments_of items) (k.sent ++ b ∷ [])) (e ∙ k.bounded.0) c.1
+    ends : EndsAtEoi (kept_rule limits) (segments_of items) (k.sent ++ b ∷ [])
+    ends = subst (λ (l : Limits). EndsAtEoi (kept_rule l) (segments_of items) (k.sent ++ b ∷ [])) (e ∙ k.bounded.0) c.1
 
     by : AtPlace limits bytes k.sent items blocks → BehindEnd limits (bytes ++ b ∷ []) items blocks new
     by (inl s) = absurd (no_first_end (subst (λ (z : List Item). code_fault (segments_of z) 0xd9 ≡ None) s.no_items ends.3))
@@ -279,7 +279,7 @@ behind_end limits bytes b items blocks w new k c e same = by k.at
           holds = subst (λ h. Holds limits h (segments_of items)) (sym same) k.holds;
         }
 
--- WHAT STANDS
+-- A FAULTLESS PREFIX
 part_read : (r : Reading) (p : Phase) (before : List Segment) (tail : List ℕ) → PartRead r p before tail → ((code : ℕ) × BeginsSegment before code tail) ⊎ PartOfSegment before tail
 part_read r phase.Empty before tail e = absurd e
 part_read r phase.HalfStart before tail e = absurd e
@@ -290,10 +290,10 @@ part_read r phase.HalfLength before tail (marker, begins, e, fits) = inr (inr (r
 part_read r phase.Contents before tail (marker, high, low, begins, e, h, l, long, some) = inr (inr (r.code, marker, begins, inr (inr (high, low, r.contents, e, h, l, omega (arith, long, some)))))
 part_read r phase.Ended before tail e = absurd e
 
--- the bytes behind the whole items are a marker that may begin a segment, or a part of one
-pub part_behind : (limits : Limits) (bytes sent : List ℕ) (items : List Item) (blocks : Blocks) (r : Reading) (tail : List ℕ) (p : Phase) → r.limits ≡ limits → IsBeside limits bytes sent items blocks tail → AtPhase r p sent (segments_of items)
+-- the bytes after the complete items are a marker that may begin a segment, or a part of one
+pub part_after : (limits : Limits) (bytes sent : List ℕ) (items : List Item) (blocks : Blocks) (r : Reading) (tail : List ℕ) (p : Phase) → r.limits ≡ limits → IsBeside limits bytes sent items blocks tail → AtPhase r p sent (segments_of items)
     → ((code : ℕ) × BeginsSegment (segments_of items) code tail) ⊎ PartOfSegment (segments_of items) tail
-part_behind limits bytes sent items blocks r tail p same at a = by p a
+part_after limits bytes sent items blocks r tail p same at a = by p a
   where
     go : (q : Phase) → IsBetween r q sent (segments_of items) → ((code : ℕ) × BeginsSegment (segments_of items) code tail) ⊎ PartOfSegment (segments_of items) tail
     go q (other, between, seen, part) =
@@ -315,14 +315,14 @@ part_behind limits bytes sent items blocks r tail p same at a = by p a
     by phase.Contents k = go phase.Contents k
     by phase.Ended k = absurd k
 
-pub between_stands : (limits : Limits) (bytes : List ℕ) (items : List Item) (blocks : Blocks) (w : Items) → BetweenItems limits bytes items blocks w → FileStands limits bytes
+pub between_stands : (limits : Limits) (bytes : List ℕ) (items : List Item) (blocks : Blocks) (w : Items) → BetweenItems limits bytes items blocks w → UnfinishedFile limits bytes
 between_stands limits bytes items blocks w k = by k.at
   where
-    start : (sent : List ℕ) → (sent ≡ []) ⊎ (sent ≡ 255 ∷ []) → FileStands limits sent
+    start : (sent : List ℕ) → (sent ≡ []) ⊎ (sent ≡ 255 ∷ []) → UnfinishedFile limits sent
     start sent s = inl s
 
-    by : AtPlace limits bytes k.sent items blocks → FileStands limits bytes
-    by (inl s) = subst (λ z. FileStands limits z) (sym s.same) (start k.sent s.short)
+    by : AtPlace limits bytes k.sent items blocks → UnfinishedFile limits bytes
+    by (inl s) = subst (λ z. UnfinishedFile limits z) (sym s.same) (start k.sent s.short)
     by (inr (tail, at)) =
         part_stands limits (kept_rule limits) k.sent bytes items tail at.beside
-        (part_behind limits bytes k.sent items blocks (reading_of w.segments) tail (reading_of w.segments).phase k.bounded.0 at (k.stands).1)
+        (part_after limits bytes k.sent items blocks (reading_of w.segments) tail (reading_of w.segments).phase k.bounded.0 at (k.stands).1)

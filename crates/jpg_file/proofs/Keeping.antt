@@ -1,4 +1,4 @@
--- Markers that are left out tell nothing: what the others of a picture say.
+-- The JFIF and Adobe segments of a picture are the same without the markers that are left out.
 use Rattle.std.proofs.Common.{◌≡◌, ℕ, Bool, true, false, ◌==◌, List, [], ◌∷◌, ◌++◌, length, map, refl, sym, ap, ◌∙◌, Option}
 use Rattle.std.specs.Prelude.{◌||◌, filter, find, reverse, nat_le}
 use Rattle.std.proofs.lemmas.List.{append-nil}
@@ -8,14 +8,14 @@ use Rattle.jpg_spec.specs.Colours.{colours_of}
 use Rattle.jpg_spec.specs.Jfif.{adobe_transform, begins_adobe, begins_jfif, is_adobe, is_jfif, jfif_of, jfif_told}
 use Rattle.jpg_spec.specs.Markers.{Segment}
 use Rattle.jpg_spec.specs.Meaning.{Meaning, colour_of}
-use Rattle.jpg_spec.specs.Moves.{copied}
+use Rattle.jpg_spec_write.specs.Headed.{copied}
 use Rattle.jpg_spec.specs.declared.frame.Copying.{Copying}
 use Rattle.jpg_spec.specs.declared.frame.Copying.TheVariants as copying
 use Rattle.jpg_spec.specs.declared.jfif.Jfif.{Jfif}
 use Rattle.jpg_spec.proofs.Common.{both, clash}
-use Rattle.jpg_file.specs.Keeping.{begins_header, is_wanted, kept_for}
+use Rattle.jpg_file.specs.Read.Keeping.{begins_header, is_wanted, kept_for}
 
--- A TEST that lets pass all that another one does
+-- A TEST that admits everything that another one does
 
 pub find_in : (test wanted : Segment → Bool) → ((s : Segment) → test s ≡ true → wanted s ≡ true) → (kept : List Segment) → find test (filter wanted kept) ≡ find test kept
 find_in test wanted lets [] = refl

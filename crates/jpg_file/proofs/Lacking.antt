@@ -1,4 +1,4 @@
--- The tables that a scan needs are there where they are in force.
+-- The tables that a scan needs are there if they are in force.
 use Rattle.std.proofs.Common.{◌≡◌, ◌&&◌, List, refl, ap, ◌∙◌, Option, Some, None}
 use Rattle.std.specs.Prelude.{◌||◌, is_none, option_map}
 use Rattle.std.proofs.Math.Path.{fun_ext}
@@ -11,13 +11,13 @@ use Rattle.jpg_spec.specs.History.{needs_dc_table, needs_ac_table, lacks_table}
 use Rattle.jpg_spec.specs.declared.frame.Limits.{Limits}
 use Rattle.jpg_spec.specs.declared.frame.ScanPart.{ScanPart}
 use Rattle.jpg_spec.specs.HuffContents.{huffman_in}
-use Rattle.jpg_file.specs.Held.{HeldTold, Holds, lacks_any, lacks_part}
+use Rattle.jpg_file.specs.Read.SegmentState.{SegmentView, Holds, lacks_any, lacks_part}
 
 pub none_same : {A B : Type 0} (f : A → B) (o : Option A) → is_none (option_map f o) ≡ is_none o
 none_same f None = refl
 none_same f (Some x) = refl
 
-part_lacks : (limits : Limits) (h : HeldTold) (before : List Segment) (f : Frame) (head : ScanHead) (p : ScanPart) → Holds limits h before
+part_lacks : (limits : Limits) (h : SegmentView) (before : List Segment) (f : Frame) (head : ScanHead) (p : ScanPart) → Holds limits h before
     → lacks_part h f head p ≡ (is_none (quant_in_force before (component_at f p.component).quant)
     || (needs_dc_table f head && is_none (huffman_in_force before 0 p.dc) || needs_ac_table f head && is_none (huffman_in_force before 1 p.ac)))
 part_lacks limits h before f head p holds =
@@ -28,5 +28,5 @@ part_lacks limits h before f head p holds =
     ∙ ap (λ o. is_none (quant_in_force before slot) || (needs_dc_table f head && is_none o || needs_ac_table f head && is_none ac)) (holds.dc p.dc)
     ∙ ap (λ o. is_none (quant_in_force before slot) || (needs_dc_table f head && is_none (huffman_in_force before 0 p.dc) || needs_ac_table f head && is_none o)) (holds.ac p.ac)
 
-pub lacks_is : (limits : Limits) (h : HeldTold) (before : List Segment) (f : Frame) (head : ScanHead) → Holds limits h before → lacks_any h f head ≡ lacks_table f before head
+pub lacks_is : (limits : Limits) (h : SegmentView) (before : List Segment) (f : Frame) (head : ScanHead) → Holds limits h before → lacks_any h f head ≡ lacks_table f before head
 lacks_is limits h before f head holds = ap (λ test. any_of test head.parts) (fun_ext (λ p. part_lacks limits h before f head p holds))

@@ -1,4 +1,4 @@
--- What a file in work leaves where it ends: whole, or early.
+-- What a file that is being read leaves where it ends: complete, or early.
 use Rattle.std.proofs.Common.{◌≡◌, ℕ, ◌≤◌, Bool, true, false, ◌==◌, List, [], ◌∷◌, ◌++◌, length, take, refl, sym, ap, ◌∙◌, subst, arith, inl, inr, Option, Some, None, Ok, Result}
 use Rattle.std.specs.Prelude.{◌⊎◌, nat_lt, replicate, unwrap_or, is_none}
 use Rattle.std.proofs.lemmas.Bool.Decides.{nat_tests}
@@ -12,9 +12,9 @@ use Rattle.jpg_spec.specs.InForce.{no_frame, frame_of, frame_after, heads_of}
 use Rattle.jpg_spec.specs.History.{has_begun}
 use Rattle.jpg_spec.specs.Items.{Item, segments_of, ends_in_scan}
 use Rattle.jpg_spec.specs.FileMeaning.{meaning_of}
-use Rattle.jpg_spec.specs.FirstFault.{BehindItems, InsideScan, HaveBegun}
-use Rattle.jpg_spec.specs.FileStands.{PartOfItem}
-use Rattle.jpg_spec.specs.Early.{ScanInPart, EndsBehind, EndsInside, segments_with}
+use Rattle.jpg_spec.specs.FirstFault.{AfterItems, InsideScan, HaveBegun}
+use Rattle.jpg_spec.specs.UnfinishedFile.{PartOfItem}
+use Rattle.jpg_spec.specs.Early.{ScanInPart, EndsAfter, EndsInside, segments_with}
 use Rattle.jpg_spec.specs.Laws.{frame_of_items}
 use Rattle.jpg_spec.specs.Parts.{StandsInUnits}
 use Rattle.jpg_spec.specs.PictureInWork.{UnitsRead}
@@ -23,13 +23,13 @@ use Rattle.jpg_spec.specs.ScanReading.{ScanPlace, scan_at, ScanAt, LeadingMarker
 use Rattle.jpg_spec.specs.declared.frame.Limits.{Limits}
 use Rattle.jpg_spec.proofs.Common.{clash, neither}
 use Rattle.jpg_spec.proofs.BeforeScans.{no_heads}
-use Rattle.jpg_spec.proofs.EarlyBegun.{AllNamed, HasSome, begun_behind, begun_inside, behind_begun, inside_begun}
+use Rattle.jpg_spec.proofs.EarlyBegun.{AllNamed, HasSome, begun_behind, begun_inside, after_begun, inside_begun}
 use Rattle.jpg_spec.proofs.EarlyRanges.{in_part_in_range}
 use Rattle.jpg_spec.proofs.FileLaws.{means_once, stands_early}
 use Rattle.jpg_spec.proofs.FirstPasses.{all_below}
-use Rattle.jpg_spec.proofs.FrameBehind.{header_too, leads_pass}
+use Rattle.jpg_spec.proofs.FrameAfter.{header_too, leads_pass}
 use Rattle.jpg_spec.proofs.FrameFound.{frame_found}
-use Rattle.jpg_spec.proofs.HeadersOnce.{behind_front}
+use Rattle.jpg_spec.proofs.HeadersOnce.{after_front}
 use Rattle.jpg_spec.proofs.ItemSteps.{fill_begin, fill_marker, fill_part}
 use Rattle.jpg_spec.proofs.Ranges.{leads_in_range}
 use Rattle.jpg_coefs.specs.Picture.{Picture, map_of}
@@ -37,26 +37,26 @@ use Rattle.jpg_markers.specs.Reading.{reading_of}
 use Rattle.jpg_base.specs.declared.stop.Fed.{Fed}
 use Rattle.jpg_base.specs.declared.stop.Fed.TheVariants as fed
 use Rattle.jpg_base.specs.declared.stop.Stop.{Stop}
-use Rattle.jpg_file.specs.Begun.{HasBegun, IsComplete}
-use Rattle.jpg_file.specs.File.{EndsFile, PictureSoFar, Stands, StandsBetween, StandsInside, keeping_of}
-use Rattle.jpg_file.specs.Held.{Holds, told_by}
-use Rattle.jpg_file.specs.InData.{AtInterval, InData}
-use Rattle.jpg_file.specs.Items.{AtPlace, IsBeside}
-use Rattle.jpg_file.specs.Keeping.{kept_for}
-use Rattle.jpg_file.specs.Left.{Leaves, LeavesPicture}
-use Rattle.jpg_file.specs.PictureRead.{MeansFor, ShowsFile}
-use Rattle.jpg_file.specs.ReadFile.{AfterFilePiece, HasRead, IsDone, IsEarlyEnd, IsReading, ReaderState, ReadsPiece, TellsBegun}
+use Rattle.jpg_file.specs.Read.ScanHistory.{HasBegun, IsComplete}
+use Rattle.jpg_file.specs.Read.File.{EndsFile, PictureSoFar, StandsForFile, StandsBetween, StandsInsideScan, keeping_of}
+use Rattle.jpg_file.specs.Read.SegmentState.{Holds, told_by}
+use Rattle.jpg_file.specs.Read.InData.{AtInterval, InData}
+use Rattle.jpg_file.specs.Read.Items.{AtPlace, IsBeside}
+use Rattle.jpg_file.specs.Read.Keeping.{kept_for}
+use Rattle.jpg_file.specs.Read.Left.{Leaves, LeavesPicture}
+use Rattle.jpg_file.specs.Read.PictureRead.{MeansFor, RevealsFile}
+use Rattle.jpg_file.specs.Read.ReadFile.{AfterFilePiece, HasRead, IsDone, IsEarlyEnd, IsReading, ReaderState, ReadsPiece, TellsBegun}
 use Rattle.jpg_scans.specs.declared.progress.Progress.{Progress}
-use Rattle.jpg_file.specs.declared.begun.Begun.{Begun}
-use Rattle.jpg_file.specs.declared.file.FileWork.{FileWork}
-use Rattle.jpg_file.specs.declared.picture.Picture.{Picture as Shown}
+use Rattle.jpg_file.specs.declared.read.scan_history.ScanHistory.{ScanHistory}
+use Rattle.jpg_file.specs.declared.read.file.FileWork.{FileWork}
+use Rattle.jpg_file.specs.declared.read.picture.Picture.{Picture as Shown}
 use Rattle.jpg_file.proofs.FileSteps.{frame_left, one_begun}
-use Rattle.jpg_file.proofs.ItemBytes.{part_behind}
+use Rattle.jpg_file.proofs.ItemBytes.{part_after}
 use Rattle.jpg_file.proofs.Machines.{scans_keep_units}
 use Rattle.jpg_file.proofs.PieceSteps.{file_means}
 use Rattle.jpg_file.proofs.ScanBytes.{of_place}
 
--- A WHOLE FILE
+-- A COMPLETE FILE
 
 file_leaves : (limits : Limits) (bytes : List ℕ) (w : FileWork) → (e : EndsFile limits bytes w) → Leaves limits (segments_of (e.ends).items) (e.ends).blocks w
 file_leaves limits bytes w e = by w.reading.coefs refl ((e.ends).beside).picture
@@ -83,7 +83,7 @@ file_leaves limits bytes w e = by w.reading.coefs refl ((e.ends).beside).picture
 pub whole_leaves : (limits : Limits) (bytes : List ℕ) (w : FileWork) → EndsFile limits bytes w → LeavesPicture limits w
 whole_leaves limits bytes w e = (segments_of (e.ends).items, (e.ends).blocks, file_leaves limits bytes w e)
 
-pub takes_whole : (r : ReaderState) (bytes : List ℕ) (p : Shown) → ShowsFile r.file p → (d : IsDone bytes r) → MeansFor (keeping_of r.file) p d.meaning
+pub takes_whole : (r : ReaderState) (bytes : List ℕ) (p : Shown) → RevealsFile r.file p → (d : IsDone bytes r) → MeansFor (keeping_of r.file) p d.meaning
 takes_whole r bytes p shows d =
     let e = d.ended in
     let k = e.ends in
@@ -95,7 +95,7 @@ takes_whole r bytes p shows d =
 none_complete : (all : Bool) → IsComplete None all → all ≡ true → ⊥
 none_complete all told e = clash all e (told (record no_frame { components = no_component ∷ [] }) [] (omega arith) refl)
 
-pub named_by : (limits : Limits) (b : Begun) (before : List Segment) (all : Bool) → HasBegun limits b before → IsComplete b.progress all → (has_frame before ≡ true → HasSome limits before) → all ≡ true → AllNamed limits before
+pub named_by : (limits : Limits) (b : ScanHistory) (before : List Segment) (all : Bool) → HasBegun limits b before → IsComplete b.progress all → (has_frame before ≡ true → HasSome limits before) → all ≡ true → AllNamed limits before
 named_by limits b before all h told some e = by (is_none b.progress) refl
   where
     none_of : (o : Option Progress) → is_none o ≡ true → o ≡ None
@@ -108,15 +108,15 @@ named_by limits b before all h told some e = by (is_none b.progress) refl
         let found = h.framed k in
         record { found = found; complete = sym (told (frame_of limits before) (heads_of (frame_of limits before) before) (some found) h.scans) ∙ e }
 
-not_named : (limits : Limits) (b : Begun) (before : List Segment) (all : Bool) → HasBegun limits b before → IsComplete b.progress all → (has_frame before ≡ true → HasSome limits before) → all ≡ false → AllNamed limits before → ⊥
+not_named : (limits : Limits) (b : ScanHistory) (before : List Segment) (all : Bool) → HasBegun limits b before → IsComplete b.progress all → (has_frame before ≡ true → HasSome limits before) → all ≡ false → AllNamed limits before → ⊥
 not_named limits b before all h told some e w = clash all (told (frame_of limits before) (heads_of (frame_of limits before) before) (some w.found) h.scans ∙ w.complete) e
 
--- WHERE IT STANDS
+-- WHERE IT IS
 
--- what it leaves there, where each component has begun
+-- what it leaves there, if each component has begun
 pub record EndsHere (limits : Limits) (bytes : List ℕ) (w : FileWork) (segments : List Segment) (blocks : Blocks) : Type 0 where
   pub have : HaveBegun limits bytes
-  pub ends : (let M = meaning_of (frame_of limits segments) segments blocks in EndsBehind limits bytes M ⊎ EndsInside limits bytes M)
+  pub ends : (let M = meaning_of (frame_of limits segments) segments blocks in EndsAfter limits bytes M ⊎ EndsInside limits bytes M)
   pub coefs : Picture
   pub has : w.reading.coefs ≡ Some coefs
   pub framed : coefs.frame ≡ frame_of limits segments
@@ -136,7 +136,7 @@ pub record AtEnd (limits : Limits) (bytes : List ℕ) (w : FileWork) : Type 0 wh
 not_zero : (n : ℕ) → (n == 0) ≡ false → 1 ≤ n
 not_zero n e = grind (arith, nat_tests)
 
--- the frame in force is held, and has components
+-- the frame in force is kept, and has components
 record FrameFor (limits : Limits) (segments : List Segment) (held : Option Frame) : Type 0 where
   pub frame : Frame
   pub has : held ≡ Some frame
@@ -159,10 +159,10 @@ some_for limits segments pass found =
 
 -- AFTER ITEMS
 
--- before SOI is whole nothing has begun
+-- before SOI is complete nothing has begun
 start_begun_none : (limits : Limits) (bytes : List ℕ) → (bytes ≡ []) ⊎ (bytes ≡ 255 ∷ []) → HaveBegun limits bytes → ⊥
 start_begun_none limits bytes short w =
-    let h = behind_front w.items w.front w.spelled in
+    let h = after_front w.items w.front w.spelled in
     let a = ap length w.cut in
     let b = length-append (w.front ++ w.head) w.rest in
     let c = length-append w.front w.head in
@@ -215,7 +215,7 @@ beside_end limits bytes sent w s tail k part =
     let b = (k.beside).behind in
     let all = replicate (k.beside).fill 255 ++ tail in
     let part' = filled_item (k.beside).fill s.items tail part in
-    let behind : BehindItems limits bytes s.items all = record { front = b.front; blocks = s.blocks; cut = b.cut; spelled = b.spelled; leads = k.leads } in
+    let behind : AfterItems limits bytes s.items all = record { front = b.front; blocks = s.blocks; cut = b.cut; spelled = b.spelled; leads = k.leads } in
     record {
       segments = segments_of s.items;
       blocks = s.blocks;
@@ -226,7 +226,7 @@ beside_end limits bytes sent w s tail k part =
       here = λ some named.
           (let q = picture_here limits s.items s.blocks w.reading.coefs some named (s.beside).picture in
           record {
-            have = behind_begun limits bytes s.items all behind some named;
+            have = after_begun limits bytes s.items all behind some named;
             ends = inl (record { items = s.items; tail = all; behind = behind; part = part'; begun = filled_begun (k.beside).fill s.items tail (k.beside).plain; meaning = refl });
             coefs = q.coefs;
             has = q.has;
@@ -251,7 +251,7 @@ between_end limits bytes w s = by (s.at).at
     }
     by (inr (tail, k)) =
         let r = reading_of (w.reading.items).segments in
-        beside_end limits bytes (s.at).sent w s tail k (part_behind limits bytes (s.at).sent s.items s.blocks r tail r.phase (s.at).bounded.0 k ((s.at).stands).1)
+        beside_end limits bytes (s.at).sent w s tail k (part_after limits bytes (s.at).sent s.items s.blocks r tail r.phase (s.at).bounded.0 k ((s.at).stands).1)
 
 -- INSIDE THE DATA OF A SCAN
 
@@ -276,12 +276,12 @@ inside_of_place limits bytes p tail k = record {
   due = k.due;
 }
 
--- what the machine's units and the intervals so far tell stands in the picture
+-- what the machine's units and the intervals so far encode is in the picture
 record InPart (limits : Limits) (p : ScanPlace) (now : Picture) : Type 0 where
   pub part : ScanInPart (scan_at limits p) p.blocks p.done p.coded p.places p.later (map_of now)
   pub framed : now.frame ≡ frame_of limits (segments_of p.items)
 
-in_part : (limits : Limits) (bytes : List ℕ) (w : FileWork) (s : StandsInside limits bytes w) → InPart limits (((s.at).at).place) (s.at).coefs
+in_part : (limits : Limits) (bytes : List ℕ) (w : FileWork) (s : StandsInsideScan limits bytes w) → InPart limits (((s.at).at).place) (s.at).coefs
 in_part limits bytes w s = by (s.at).scan.work.whole (d.work).at
   where
     d : InData limits s.items s.contents bytes (s.at).scan (s.at).coefs
@@ -316,7 +316,7 @@ in_part limits bytes w s = by (s.at).scan.work.whole (d.work).at
           framed = u.frame ∙ k.framed;
         }
 
-inside_end : (limits : Limits) (bytes : List ℕ) (w : FileWork) → StandsInside limits bytes w → AtEnd limits bytes w
+inside_end : (limits : Limits) (bytes : List ℕ) (w : FileWork) → StandsInsideScan limits bytes w → AtEnd limits bytes w
 unfolding inside_of_place
 inside_end limits bytes w s =
     let r = s.at in
@@ -349,7 +349,7 @@ inside_end limits bytes w s =
           });
     }
 
-pub at_end : (limits : Limits) (bytes : List ℕ) (w : FileWork) → Stands limits bytes w → AtEnd limits bytes w
+pub at_end : (limits : Limits) (bytes : List ℕ) (w : FileWork) → StandsForFile limits bytes w → AtEnd limits bytes w
 at_end limits bytes w (inl s) = between_end limits bytes w s
 at_end limits bytes w (inr s) = inside_end limits bytes w s
 
@@ -358,7 +358,7 @@ at_end limits bytes w (inr s) = inside_end limits bytes w s
 pub some_at : (limits : Limits) (bytes : List ℕ) (w : FileWork) → (a : AtEnd limits bytes w) → has_frame a.segments ≡ true → HasSome limits a.segments
 some_at limits bytes w a found = some_for limits a.segments a.headers found
 
-pub tells_begun : (limits : Limits) (bytes : List ℕ) (w : FileWork) (all : Bool) → Stands limits bytes w → IsComplete w.begun.progress all → TellsBegun limits bytes all
+pub tells_begun : (limits : Limits) (bytes : List ℕ) (w : FileWork) (all : Bool) → StandsForFile limits bytes w → IsComplete w.begun.progress all → TellsBegun limits bytes all
 tells_begun limits bytes w all s told = by all refl
   where
     by : (b : Bool) → all ≡ b → TellsBegun limits bytes b
@@ -387,7 +387,7 @@ leaves_at limits bytes w a named =
       range = h.range;
     }
 
-pub early_leaves : (limits : Limits) (bytes : List ℕ) (w : FileWork) (all : Bool) → Stands limits bytes w → IsComplete w.begun.progress all → all ≡ true → LeavesPicture limits w
+pub early_leaves : (limits : Limits) (bytes : List ℕ) (w : FileWork) (all : Bool) → StandsForFile limits bytes w → IsComplete w.begun.progress all → all ≡ true → LeavesPicture limits w
 early_leaves limits bytes w all s told e =
     let a = at_end limits bytes w s in
     (a.segments, a.blocks, leaves_at limits bytes w a (named_by limits w.begun a.segments all a.begun told (some_at limits bytes w a) e))

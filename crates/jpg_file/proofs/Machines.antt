@@ -23,14 +23,15 @@ use Rattle.jpg_prog_read.specs.DcFirstPass.{first_pass}
 use Rattle.jpg_prog_read.specs.DcRefinement.{refinement}
 use Rattle.jpg_prog_read.proofs.AcDue as ac
 use Rattle.jpg_prog_read.proofs.DcMachines.{first_keeps_units, refine_keeps_units}
-use Rattle.jpg_file.specs.Data.{AfterBits, GivesRun}
-use Rattle.jpg_file.specs.declared.data.DataStep.{DataStep}
-use Rattle.jpg_file.specs.declared.data.DataStep.TheVariants as came
-use Rattle.jpg_file.specs.Machine.{any_scan, scan_kind, FitsKind, ScanKind, whole_blocks, dc_first, dc_later, ac_band}
-use Rattle.jpg_file.specs.declared.machine.ScanReader.{ScanReader}
-use Rattle.jpg_file.specs.declared.machine.ScanReader.TheVariants.{Sequential, DcFirst, DcRefine, Ac}
+use Rattle.jpg_file.specs.Read.Data.{AfterBits, GivesRun}
+use Rattle.jpg_file.specs.declared.read.data.DataStep.{DataStep}
+use Rattle.jpg_file.specs.declared.read.data.DataStep.TheVariants as came
+use Rattle.jpg_file.specs.Read.Machine.{any_scan, scan_kind, FitsKind, ScanKind, whole_blocks, dc_first, dc_later, ac_band}
+use Rattle.jpg_file.specs.declared.read.machine.ScanReader.{ScanReader}
+use Rattle.jpg_file.specs.declared.read.machine.ScanReader.TheVariants.{Sequential, DcFirst, DcRefine, Ac}
 
--- Machines of the kind k are machines of the kind all, made by e: they stand for what they stand for by themselves, and go on so.
+-- Machines of the kind k are machines of the kind all, made by e: as such they represent what they represent by
+-- themselves, also after more bits.
 pub record IsOneOf (M N : Type 0) (e : M → N) (k : Kind M) (all : Kind N) : Type 0 where
   pub own : (m : M) (i : Interval) (bits : List Bool) (now : Picture) → all.stands (e m) i bits now → k.stands m i bits now
   pub stands : (m new : M) (i : Interval) (bits more : List Bool) (now after : Picture) → all.stands (e m) i bits now → k.stands new i more after → all.stands (e new) i more after

@@ -1,4 +1,4 @@
--- The machine of a scan before its first unit: which one a header asks for, and that it is ready.
+-- The machine of a scan before its first unit: which one a header requires, and that it is ready.
 use Rattle.std.proofs.Common.{◌≡◌, ◌+◌, ◌<◌, Bool, true, false, cond, not, ◌==◌, ◌&&◌, refl, ap, ◌∙◌, subst, arith, length}
 use Rattle.std.specs.Prelude.{◌||◌, nat_lt, nat_le}
 use Rattle.std.proofs.lemmas.Bool.Decides.{nat_tests}
@@ -15,8 +15,8 @@ use Rattle.jpg_seq.specs.NewReader.{HasTables, IsOfScan, IsSeqScan, in_force}
 use Rattle.jpg_seq.proofs.Forced.{valid}
 use Rattle.jpg_prog_read.specs.DcNew.{HasPartTable, IsDcHead, IsFirstHead, IsOfFirst, IsOfRefinement, IsRefineHead}
 use Rattle.jpg_prog_read.specs.NewAcReader.{HasAcTable, IsAcScan, IsOfAcScan}
-use Rattle.jpg_file.specs.Machine.{FitsKind, ScanKind, scan_kind, whole_blocks, dc_first, dc_later, ac_band}
-use Rattle.jpg_file.specs.NewScan.{HasNeeded, IsOfHeader, IsScanHeader}
+use Rattle.jpg_file.specs.Read.Machine.{FitsKind, ScanKind, scan_kind, whole_blocks, dc_first, dc_later, ac_band}
+use Rattle.jpg_file.specs.Read.NewScan.{HasNeeded, IsOfHeader, IsScanHeader}
 use Rattle.jpg_file.proofs.Machines.{head_kind, kind_of_coding}
 
 -- THE KIND of a header
@@ -44,7 +44,7 @@ first_kind b head e none zero =
     let u : nat_lt 0 head.ah ≡ false = grind (arith, nat_tests, zero) in
     ap (λ t. head_kind t head) e ∙ ap (λ t. cond t (cond (nat_lt 0 head.ah) dc_later dc_first) ac_band) t ∙ ap (λ t. cond t dc_later dc_first) u
 
--- THE HEADER as each machine wants it
+-- THE HEADER as each machine needs it
 
 pub as_plain : (f : Frame) (head : ScanHead) (set : TableSet) → IsScanHeader f head set → is_progressive f.process ≡ false → IsSeqScan f head set
 as_plain f head set h plain = record {
@@ -96,7 +96,7 @@ as_first f head set h progressive none zero = record {
         let u : (head.ah == 0) ≡ true = grind (arith, nat_tests, zero) in
         ap (λ b. not b || head.ss == 0 && head.ah == 0) progressive ∙ ap (λ b. b && head.ah == 0) t ∙ u
 
--- AN INTERVAL as each machine wants it
+-- AN INTERVAL as each machine needs it
 
 pub of_plain : (f : Frame) (head : ScanHead) (set : TableSet) (i : Interval) → IsOfHeader f head set i → scan_kind i.scan ≡ whole_blocks → IsOfScan f head set i
 of_plain f head set i of k = record { coding = of.coding; kind = subst (λ q. FitsKind q i) k of.kind; sized = of.sized; places = of.places; frame = of.frame }

@@ -10,7 +10,7 @@ use Rattle.jpg_spec.specs.declared.fault.Fault.TheVariants.{BadLength, McuTooLar
 use Rattle.jpg_spec.proofs.Common.{refused, same_of, same_told}
 use Rattle.jpg_spec.proofs.TablesInForce.{affirmed}
 
--- two bytes tell a part
+-- two bytes encode a part
 parts_count : (f : Frame) (count : ℕ) (bytes : List ℕ) → length bytes ≡ 2 * count → length (parts_told f bytes) ≡ count
 parts_count f zero [] even = refl
 parts_count f (suc count) [] even = absurd (omega (arith, even))
@@ -28,7 +28,7 @@ checked_parameters f count ids made head told progressive =
     let e5 = refused ScanParameters (is_progressive f.process && not (are_parameters f count made)) _ head e4.1 in
     (affirmed (are_parameters f count made) (sym (ap (λ b. b && not (are_parameters f count made)) progressive) ∙ e5.0), same_told made head e5.1)
 
--- THE LAW: in a progressive frame they say DC or a band of AC, and bits within the frame's bounds
+-- THE LAW: in a progressive frame they are DC or a band of AC, and bits within the frame's bounds
 pub head_parameters : (f : Frame) (contents : List ℕ) (head : ScanHead) → scan_header f contents ≡ Ok head → is_progressive f.process ≡ true → are_parameters f (length head.parts) head ≡ true
 head_parameters f [] head told progressive = cc
 head_parameters f (count ∷ bytes) head told progressive =

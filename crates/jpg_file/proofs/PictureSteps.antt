@@ -23,12 +23,12 @@ use Rattle.jpg_spec.specs.declared.frame.Limits.{Limits}
 use Rattle.jpg_spec.proofs.FirstPasses.{all_below}
 use Rattle.jpg_spec.proofs.Common.{clash, some_once, same_of, length_below, some_of}
 use Rattle.jpg_coefs.specs.Picture.{Picture as Made, map_of}
-use Rattle.jpg_file.specs.File.{keeping_of}
-use Rattle.jpg_file.specs.Keeping.{is_wanted, kept_for}
-use Rattle.jpg_file.specs.Held.{told_by}
-use Rattle.jpg_file.specs.Left.{Leaves}
-use Rattle.jpg_file.specs.PictureKept.{PictureParts, component_told, parts_meaning, IsQuantTable}
-use Rattle.jpg_file.specs.declared.file.FileWork.{FileWork}
+use Rattle.jpg_file.specs.Read.File.{keeping_of}
+use Rattle.jpg_file.specs.Read.Keeping.{is_wanted, kept_for}
+use Rattle.jpg_file.specs.Read.SegmentState.{told_by}
+use Rattle.jpg_file.specs.Read.Left.{Leaves}
+use Rattle.jpg_file.specs.Read.PictureKept.{PictureParts, component_told, parts_meaning, IsQuantTable}
+use Rattle.jpg_file.specs.declared.read.file.FileWork.{FileWork}
 use Rattle.jpg_file.proofs.Keeping.{filter_reverse, jfif_found}
 
 -- ADOBE'S SEGMENTS, one by one

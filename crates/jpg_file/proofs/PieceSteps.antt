@@ -1,4 +1,4 @@
--- A file in work, piece by piece.
+-- A file that is being read, piece by piece.
 use Rattle.std.proofs.Common.{◌-◌, Bool, ◌≡◌, ℕ, ◌+◌, ◌<◌, ◌≤◌, true, List, [], ◌∷◌, ◌++◌, length, take, drop, get_or, refl, false, Some, None, Ok, Err, Result, sym, ap, ◌∙◌, subst, arith, inl, inr}
 use Rattle.std.proofs.lemmas.List.{take-take, append-nil, get_or-take, get_or-drop, length-drop, length-take-le, append_assoc, length-append, take_all, take_more, take-append-drop, take-append-le}
 use Rattle.std.proofs.Math.Seq.{take-append-add}
@@ -6,9 +6,9 @@ use Rattle.std.specs.Prelude.{IfErr, Option, is_some}
 use Rattle.jpg_spec.specs.Items.{segments_of}
 use Rattle.jpg_spec.specs.FileMeaning.{meaning_of}
 use Rattle.jpg_spec.specs.FirstFault.{IsFirstFault}
-use Rattle.jpg_spec.specs.FileStands.{FileStands, IsWholeFile}
+use Rattle.jpg_spec.specs.UnfinishedFile.{UnfinishedFile, IsWholeFile}
 use Rattle.jpg_spec.specs.Laws.{frame_of_items}
-use Rattle.jpg_spec.specs.declared.answers.FaultAt.{FaultAt}
+use Rattle.jpg_spec.specs.declared.fault.FaultAt.{FaultAt}
 use Rattle.jpg_spec.specs.declared.frame.Limits.{Limits}
 use Rattle.jpg_spec.specs.declared.fault.Fault.TheVariants.{InputTooLong}
 use Rattle.jpg_spec.proofs.Common.{clash}
@@ -17,39 +17,39 @@ use Rattle.jpg_base.specs.declared.stop.Fed.{Fed}
 use Rattle.jpg_base.specs.declared.stop.Fed.TheVariants as fed
 use Rattle.jpg_base.specs.declared.stop.Stop.{Stop}
 use Rattle.jpg_base.specs.declared.stop.Stop.TheVariants as stop
-use Rattle.jpg_file.specs.File.{AfterFileByte, KeepsBytes, PassesFront, PictureSoFar, TakesFileByte, TakesSome, EndsFile, IsStop, Stands, limits_of}
-use Rattle.jpg_file.specs.FirstHead.{IsHeadOf}
-use Rattle.jpg_file.specs.ReadFile.{AfterFeed, AfterFilePiece, HasRead, IsReading, IsRefusal, IsStopOf, ReaderState, ReadsPiece}
+use Rattle.jpg_file.specs.Read.File.{AfterFileByte, KeepsBytes, PassesFront, PictureSoFar, TakesFileByte, TakesSome, EndsFile, IsStop, StandsForFile, limits_of}
+use Rattle.jpg_file.specs.Read.FirstHeader.{IsFirstHeaderOf}
+use Rattle.jpg_file.specs.Read.ReadFile.{AfterFeed, AfterFilePiece, HasRead, IsReading, IsRefusal, IsStopOf, ReaderState, ReadsPiece}
 use Rattle.jpg_coefs.specs.Picture.{Picture}
-use Rattle.jpg_file.specs.Items.{BetweenItems}
-use Rattle.jpg_file.specs.Reading.{PassesReading}
-use Rattle.jpg_file.specs.declared.reading.Reading.{Reading}
-use Rattle.jpg_file.specs.declared.file.FileWork.{FileWork}
+use Rattle.jpg_file.specs.Read.Items.{BetweenItems}
+use Rattle.jpg_file.specs.Read.Reading.{PassesReading}
+use Rattle.jpg_file.specs.declared.read.reading.Reading.{Reading}
+use Rattle.jpg_file.specs.declared.read.file.FileWork.{FileWork}
 use Rattle.jpg_file.proofs.Ending.{file_ends}
 use Rattle.jpg_file.proofs.FileSteps.{asked, between_of, head_is, head_left}
-use Rattle.jpg_file.proofs.FirstHeads.{has_longer}
+use Rattle.jpg_file.proofs.FirstHeaders.{has_longer}
 use Rattle.jpg_file.proofs.ItemBytes.{between_stands}
 use Rattle.jpg_file.proofs.ScanBytes.{data_stands}
 
--- WHAT A STATE TELLS
+-- WHAT A STATE ENCODES
 
-pub stands_file : (limits : Limits) (bytes : List ℕ) (w : FileWork) → Stands limits bytes w → FileStands limits bytes
+pub stands_file : (limits : Limits) (bytes : List ℕ) (w : FileWork) → StandsForFile limits bytes w → UnfinishedFile limits bytes
 stands_file limits bytes w (inl s) = between_stands limits bytes s.items s.blocks w.reading.items s.at
 stands_file limits bytes w (inr s) = data_stands limits s.items s.contents bytes (s.at).scan (s.at).coefs (s.at).at
 
-pub limits_are : (limits : Limits) (bytes : List ℕ) (w : FileWork) → Stands limits bytes w → limits_of w ≡ limits
+pub limits_are : (limits : Limits) (bytes : List ℕ) (w : FileWork) → StandsForFile limits bytes w → limits_of w ≡ limits
 limits_are limits bytes w (inl s) = (s.at).bounded.1
 limits_are limits bytes w (inr s) = ((s.at).head).bounded.1
 
-pub counted : (limits : Limits) (bytes : List ℕ) (w : FileWork) → Stands limits bytes w → w.reading.taken ≡ length bytes
+pub counted : (limits : Limits) (bytes : List ℕ) (w : FileWork) → StandsForFile limits bytes w → w.reading.taken ≡ length bytes
 counted limits bytes w (inl s) = (s.beside).count
 counted limits bytes w (inr s) = (s.at).count
 
-pub within : (limits : Limits) (bytes : List ℕ) (w : FileWork) → Stands limits bytes w → length bytes ≤ limits.input
+pub within : (limits : Limits) (bytes : List ℕ) (w : FileWork) → StandsForFile limits bytes w → length bytes ≤ limits.input
 within limits bytes w (inl s) = (s.beside).within
 within limits bytes w (inr s) = s.within
 
--- A PIECE, and a front of it
+-- A PIECE, and a prefix of it
 
 pub joined : (bytes piece : List ℕ) (i : ℕ) → bytes ++ piece ≡ (bytes ++ take i piece) ++ drop i piece
 joined bytes piece i = ap (λ l. bytes ++ l) (sym (take-append-drop i piece)) ∙ sym (append_assoc bytes (take i piece) (drop i piece))
@@ -62,23 +62,23 @@ whole_front front rest = take-append-le (length front) front rest (omega arith) 
 
 -- THE ANSWERS
 
-pub stop_longer : (limits : Limits) (front rest all : List ℕ) (b : ℕ) (f : FaultAt) → all ≡ (front ++ b ∷ []) ++ rest → FileStands limits front → length front < limits.input → IsStop limits (front ++ b ∷ []) f → IsStopOf limits all f
+pub stop_longer : (limits : Limits) (front rest all : List ℕ) (b : ℕ) (f : FaultAt) → all ≡ (front ++ b ∷ []) ++ rest → UnfinishedFile limits front → length front < limits.input → IsStop limits (front ++ b ∷ []) f → IsStopOf limits all f
 stop_longer limits front rest all b f cut stands short (at, shown) more =
     let whole = front ++ b ∷ [] in
     subst (λ l. IsRefusal limits l f) (sym (ap (λ l. l ++ more) cut ∙ append_assoc whole rest more))
     (subst (λ n. IsFirstFault limits (whole ++ (rest ++ more)) f.fault n) (sym at) (next_shown limits front (rest ++ more) b f.fault stands shown short))
 
--- the first scan header of a front stays
-head_kept : (limits : Limits) (bytes piece : List ℕ) (i : ℕ) (old next : FileWork) → Stands limits (bytes ++ take i piece) old → next.head ≡ old.head → IsHeadOf limits (take (length (bytes ++ take i piece)) (bytes ++ piece)) next.head
+-- the first scan header of a prefix remains
+head_kept : (limits : Limits) (bytes piece : List ℕ) (i : ℕ) (old next : FileWork) → StandsForFile limits (bytes ++ take i piece) old → next.head ≡ old.head → IsFirstHeaderOf limits (take (length (bytes ++ take i piece)) (bytes ++ piece)) next.head
 head_kept limits bytes piece i old next stands same =
     let front = bytes ++ take i piece in
     let is : take (length front) (bytes ++ piece) ≡ front = ap (take (length front)) (joined bytes piece i) ∙ whole_front front (drop i piece) in
-    subst (λ o. IsHeadOf limits (take (length front) (bytes ++ piece)) o) (sym same) (subst (λ l. IsHeadOf limits l old.head) (sym is) (head_is limits front old stands))
+    subst (λ o. IsFirstHeaderOf limits (take (length front) (bytes ++ piece)) o) (sym same) (subst (λ l. IsFirstHeaderOf limits l old.head) (sym is) (head_is limits front old stands))
 
 pub front_of : (front rest all : List ℕ) (n : ℕ) → n ≡ length front → all ≡ front ++ rest → take n all ≡ front
 front_of front rest all n long cut = ap (λ m. take m all) long ∙ ap (take (length front)) cut ∙ whole_front front rest
 
-pub piece_stopped : (limits : Limits) (bytes piece : List ℕ) (i : ℕ) (e : Stop) (old w next : FileWork) → i < length piece → Stands limits (bytes ++ take i piece) old → old.reading.taken < limits.input
+pub piece_stopped : (limits : Limits) (bytes piece : List ℕ) (i : ℕ) (e : Stop) (old w next : FileWork) → i < length piece → StandsForFile limits (bytes ++ take i piece) old → old.reading.taken < limits.input
     → next.head ≡ old.head → AfterFileByte (Unit {0}) limits ((bytes ++ take i piece) ++ get_or piece i 0 ∷ []) (Err e) w → AfterFilePiece limits bytes piece (Err e) next
 piece_stopped limits bytes piece i (stop.Fault f) old w next less stands short same h =
     let front = bytes ++ take i piece in
@@ -94,7 +94,7 @@ piece_stopped limits bytes piece i stop.NoMemory old w next less stands short sa
     (length (bytes ++ take i piece), omega (arith, length-append bytes (take i piece)), head_kept limits bytes piece i old next stands same)
 
 -- as many bytes as may be taken
-pub piece_long : (limits : Limits) (bytes piece : List ℕ) (i : ℕ) (w : FileWork) → limits.input ≤ w.reading.taken → Stands limits (bytes ++ take i piece) w
+pub piece_long : (limits : Limits) (bytes piece : List ℕ) (i : ℕ) (w : FileWork) → limits.input ≤ w.reading.taken → StandsForFile limits (bytes ++ take i piece) w
     → AfterFilePiece limits bytes piece (Err (stop.Fault (record { fault = InputTooLong; at = limits.input }))) w
 piece_long limits bytes piece i w many h =
     let front = bytes ++ take i piece in
@@ -107,33 +107,33 @@ piece_long limits bytes piece i w many h =
           let cut : all ≡ front ++ (rest ++ more) = ap (λ l. l ++ more) (joined bytes piece i) ∙ append_assoc front rest more in
           let is : take limits.input all ≡ front = ap (λ n. take n all) (sym long) ∙ ap (take (length front)) cut ∙ whole_front front (rest ++ more) in
           let size : limits.input ≤ length all = omega (arith, long, ap length cut, length-append front (rest ++ more)) in
-          stands_too_long limits all (subst (λ l. FileStands limits l) (sym is) (stands_file limits front w h)) size),
+          stands_too_long limits all (subst (λ l. UnfinishedFile limits l) (sym is) (stands_file limits front w h)) size),
       λ less. less,
-      inl (subst (λ n. IsHeadOf limits (take n (bytes ++ piece)) w.head) long (head_kept limits bytes piece i w w h refl)),
+      inl (subst (λ n. IsFirstHeaderOf limits (take n (bytes ++ piece)) w.head) long (head_kept limits bytes piece i w w h refl)),
     )
 
--- a whole file
+-- a complete file
 pub piece_whole : (limits : Limits) (bytes piece : List ℕ) (i used : ℕ) (w : FileWork) → i < length piece → used ≡ i + 1
     → AfterFileByte (Unit {0}) limits ((bytes ++ take i piece) ++ get_or piece i 0 ∷ []) (Ok true) w → AfterFilePiece limits bytes piece (Ok (fed.Done used)) w
 piece_whole limits bytes piece i used w less same h =
     let is : bytes ++ take used piece ≡ (bytes ++ take i piece) ++ get_or piece i 0 ∷ [] = ap (λ n. bytes ++ take n piece) same ∙ one_more bytes piece i less in
     (subst (λ l. EndsFile limits l w) (sym is) h, omega (arith, same), omega (arith, same, less))
 
--- more is wanted
-pub piece_more : (limits : Limits) (bytes piece : List ℕ) (i : ℕ) (w : FileWork) → length piece ≤ i → w.reading.taken < limits.input → Stands limits (bytes ++ take i piece) w → AfterFilePiece limits bytes piece (Ok fed.More) w
+-- more is needed
+pub piece_more : (limits : Limits) (bytes piece : List ℕ) (i : ℕ) (w : FileWork) → length piece ≤ i → w.reading.taken < limits.input → StandsForFile limits (bytes ++ take i piece) w → AfterFilePiece limits bytes piece (Ok fed.More) w
 piece_more limits bytes piece i w end short h =
     let is : bytes ++ take i piece ≡ bytes ++ piece = ap (λ l. bytes ++ l) (take_all i piece end) in
-    let k = subst (λ l. Stands limits l w) is h in
+    let k = subst (λ l. StandsForFile limits l w) is h in
     let few = counted limits (bytes ++ piece) w k in
     (k, omega (arith, few, short))
 
--- THE WHOLE FILE means something
+-- THE COMPLETE FILE means something
 pub file_means : (limits : Limits) (bytes : List ℕ) (w : FileWork) → (e : EndsFile limits bytes w) → IsWholeFile limits bytes (meaning_of (frame_of_items limits (e.ends).items) (segments_of (e.ends).items) (e.ends).blocks)
 file_means limits bytes w e =
     let k = e.ends in
     file_ends limits bytes k.items k.blocks w.reading.items k.at e.complete (k.beside).within
 
--- BY THE WHOLE STATE
+-- BY THE COMPLETE STATE
 
 pub fed_more : (r : ReaderState) (w : FileWork) (bytes piece : List ℕ) (result : Result Fed Stop) → result ≡ Ok fed.More → HasRead bytes r → ReadsPiece r.limits r.file piece result w → AfterFeed bytes piece result (record r { file = w })
 fed_more r w bytes piece result e h reads =
@@ -170,7 +170,7 @@ keeps_more r w piece result e undone k reads = record {
 }
 
 -- what a reader with room requires of its file
-pub room_of : (limits : Limits) (bytes : List ℕ) (w : FileWork) → Stands limits bytes w → w.reading.taken < limits.input → w.reading.taken < (limits_of w).input
+pub room_of : (limits : Limits) (bytes : List ℕ) (w : FileWork) → StandsForFile limits bytes w → w.reading.taken < limits.input → w.reading.taken < (limits_of w).input
 room_of limits bytes w s room = subst (λ (l : Limits). w.reading.taken < l.input) (sym (limits_are limits bytes w s)) room
 
 -- SOME BYTES of the rest of a piece
@@ -186,18 +186,18 @@ front_is bytes piece done early few = append_assoc bytes (take done piece) (take
 pub rest_less : (piece : List ℕ) (done early : ℕ) → done ≤ length piece → early < length (drop done piece) → done + early < length piece
 rest_less piece done early few low = let size = length-drop done piece in omega (arith, few, low, size)
 
--- the state before the last of them, and what that one came to
+-- the state before the last of them, and the result of that one
 pub record LastOf (limits : Limits) (bytes piece : List ℕ) (done n : ℕ) (answer : Result Bool Stop) (new : FileWork) : Type 0 where
   pub i : ℕ
   pub count : done + n ≡ i + 1
   pub less : i < length piece
   pub mid : FileWork
-  pub stands : Stands limits (bytes ++ take i piece) mid
+  pub stands : StandsForFile limits (bytes ++ take i piece) mid
   pub room : mid.reading.taken < limits.input
   pub head : IfErr answer (λ stop. new.head ≡ mid.head)
   pub after : AfterFileByte (Unit {0}) limits ((bytes ++ take i piece) ++ get_or piece i 0 ∷ []) answer new
 
-pub last_of : (limits : Limits) (bytes piece : List ℕ) (done n : ℕ) (answer : Result Bool Stop) (w new : FileWork) → done ≤ length piece → Stands limits (bytes ++ take done piece) w
+pub last_of : (limits : Limits) (bytes piece : List ℕ) (done n : ℕ) (answer : Result Bool Stop) (w new : FileWork) → done ≤ length piece → StandsForFile limits (bytes ++ take done piece) w
     → TakesSome w (take (length piece - done) (drop done piece)) n answer new → LastOf limits bytes piece done n answer new
 last_of limits bytes piece done n answer w new few k taken =
     let size = length-drop done piece in
@@ -206,7 +206,7 @@ last_of limits bytes piece done n answer w new few k taken =
     let same = limits_are limits front w k in
     let i = done + t.early in
     let is = front_is bytes piece done t.early few in
-    let stands = subst (λ l. Stands limits l t.mid) is (t.before limits front k same) in
+    let stands = subst (λ l. StandsForFile limits l t.mid) is (t.before limits front k same) in
     let count = t.count in
     record {
       i = i;
@@ -226,13 +226,13 @@ some_stopped limits bytes piece done n e new l = piece_stopped limits bytes piec
 pub some_whole : (limits : Limits) (bytes piece : List ℕ) (done n used : ℕ) (new : FileWork) → used ≡ done + n → LastOf limits bytes piece done n (Ok true) new → AfterFilePiece limits bytes piece (Ok (fed.Done used)) new
 some_whole limits bytes piece done n used new is l = piece_whole limits bytes piece l.i used new l.less (is ∙ l.count) l.after
 
-pub some_more : (limits : Limits) (bytes piece : List ℕ) (done n : ℕ) (new : FileWork) → LastOf limits bytes piece done n (Ok false) new → Stands limits (bytes ++ take (done + n) piece) new
-some_more limits bytes piece done n new l = subst (λ m. Stands limits (bytes ++ take m piece) new) (sym l.count) (subst (λ x. Stands limits x new) (sym (one_more bytes piece l.i l.less)) l.after)
+pub some_more : (limits : Limits) (bytes piece : List ℕ) (done n : ℕ) (new : FileWork) → LastOf limits bytes piece done n (Ok false) new → StandsForFile limits (bytes ++ take (done + n) piece) new
+some_more limits bytes piece done n new l = subst (λ m. StandsForFile limits (bytes ++ take m piece) new) (sym l.count) (subst (λ x. StandsForFile limits x new) (sym (one_more bytes piece l.i l.less)) l.after)
 
 pub some_within : (limits : Limits) (bytes piece : List ℕ) (done n : ℕ) (answer : Result Bool Stop) (new : FileWork) → LastOf limits bytes piece done n answer new → done + n ≤ length piece
 some_within limits bytes piece done n answer new l = let count = l.count in let less = l.less in omega (arith, count, less)
 
--- THE FRONT of some bytes, and one after it
+-- THE PREFIX of some bytes, and the one after it
 
 -- with contents of a segment
 pub front_passes : (w : FileWork) (r : Reading) (bytes : List ℕ) (most n : ℕ) → w.reading.scan ≡ None → most < length bytes → w.reading.taken + most < (limits_of w).input → PassesReading w.reading (take most bytes) n r
@@ -276,7 +276,7 @@ front_none w bytes some room = record {
   limits = refl;
   room = room;
   scan = refl;
-  stands = λ limits front k. subst (λ l. Stands limits l w) (sym (append-nil front)) k;
+  stands = λ limits front k. subst (λ l. StandsForFile limits l w) (sym (append-nil front)) k;
 }
 
 pub one_taken : (w mid : FileWork) (bytes : List ℕ) (n : ℕ) (answer : Result Bool Stop) (new : FileWork) → PassesFront w bytes n mid → TakesFileByte mid (get_or bytes n 0) answer new → IfErr answer (λ stop. new.head ≡ mid.head)
@@ -292,7 +292,7 @@ one_taken w mid bytes n answer new front took head = record {
   last = λ limits before k same.
       (let is = front.limits ∙ same in
       asked (KeepsBytes mid) (KeepsBytes w) (λ none. sym front.scan ∙ none) limits (before ++ get_or bytes n 0 ∷ []) answer new
-      (subst (λ l. AfterFileByte (KeepsBytes mid) l (before ++ get_or bytes n 0 ∷ []) answer new) is (took before (subst (λ l. Stands l before mid) (sym is) k))));
+      (subst (λ l. AfterFileByte (KeepsBytes mid) l (before ++ get_or bytes n 0 ∷ []) answer new) is (took before (subst (λ l. StandsForFile l before mid) (sym is) k))));
 }
 
 pub front_taken : (w : FileWork) (bytes : List ℕ) (size n : ℕ) (answer : Result Bool Stop) (new : FileWork) → size ≤ length bytes → TakesSome w (take size bytes) n answer new → TakesSome w bytes n answer new
@@ -307,6 +307,6 @@ front_taken w bytes size n answer new few t =
       within = omega (arith, low, long, few);
       head = t.head;
       room = t.room;
-      before = λ limits front k e. subst (λ l. Stands limits (front ++ l) t.mid) same (t.before limits front k e);
+      before = λ limits front k e. subst (λ l. StandsForFile limits (front ++ l) t.mid) same (t.before limits front k e);
       last = λ limits front k e. subst (λ b. AfterFileByte (KeepsBytes w) limits (front ++ b ∷ []) answer new) (get_or-take size bytes t.early 0 (omega (arith, low, long))) (t.last limits front k e);
     }

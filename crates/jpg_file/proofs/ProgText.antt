@@ -7,31 +7,33 @@ use Rattle.std.specs.Option.{option_map}
 use Rattle.std.proofs.Math.Path.{fun_ext}
 use Rattle.std.proofs.lemmas.List.Elements.{All-nil, All-cons}
 use Rattle.std.proofs.lemmas.Option.{get_or_from_slice_get, slice_get_within}
-use Rattle.jpg_spec.specs.FileText.{Restart, Written, frame_of_meaning, head_text, interval_of, scans_text, segment_text, slot_for, tables_given, tables_needed, tables_text, written_head}
+use Rattle.jpg_spec_write.specs.FileText.{Restart, Written, frame_of_meaning, head_text, interval_of, scans_text, segment_text, slot_for, tables_given, tables_needed, tables_text, written_head}
 use Rattle.jpg_spec.specs.FrameHeader.{identifiers}
 use Rattle.jpg_spec.specs.Geometry.{Frame, is_progressive}
 use Rattle.jpg_spec.specs.Meaning.{Meaning, colour_of}
 use Rattle.jpg_spec.specs.Scan.{Blocks}
 use Rattle.jpg_spec.specs.ScanContents.{are_parameters}
-use Rattle.jpg_spec.specs.ScanText.{Owned, flat_table, scan_data, scan_elements, scan_tables, symbols_used, typical_table}
-use Rattle.jpg_spec.specs.Script.{Entry}
+use Rattle.jpg_spec_write.specs.ScanText.{Owned, scan_data, scan_elements, scan_tables, symbols_used, typical_table}
+use Rattle.jpg_spec.specs.FlatTable.{flat_table}
+use Rattle.jpg_spec_write.specs.Script.{Entry}
 use Rattle.jpg_spec.specs.Segments.{HuffmanTable, ScanHead, head_components, needs_dc, needs_ac}
-use Rattle.jpg_spec.specs.WrittenFile.{is_progressive_behind, is_progressive_entry}
+use Rattle.jpg_spec_write.specs.WrittenFile.{is_progressive_after, is_progressive_entry}
 use Rattle.jpg_spec.specs.declared.frame.Colour.{Colour}
 use Rattle.jpg_spec.proofs.Common.{both}
-use Rattle.jpg_spec.proofs.PlacedBlocks.{Each, each_all}
-use Rattle.jpg_spec.proofs.ProgressiveKnown.{progressive_entry}
+use Rattle.jpg_spec.proofs.Each.{Each}
+use Rattle.jpg_spec_write.proofs.PlacedBlocks.{each_all}
+use Rattle.jpg_spec_write.proofs.ProgressiveKnown.{progressive_entry}
 use Rattle.jpg_markers.proofs.Distinct.{left_at}
 use Rattle.jpg_huff.specs.declared.set.TableSet.{TableSet}
 use Rattle.jpg_huff.specs.Sets.{dc_tables, ac_tables, in_slot, no_tables}
 use Rattle.jpg_huff.specs.Tables.{table_of}
-use Rattle.jpg_file.specs.Restarts.{interval_text}
-use Rattle.jpg_file.specs.WriteScan.{head_bytes}
-use Rattle.jpg_file.specs.WriteDue.{given_by, needed}
-use Rattle.jpg_file.specs.WriteProgScan.{CanWriteProgScan, prog_head, prog_scan_bytes, prog_scans_bytes, prog_written_behind}
-use Rattle.jpg_file.specs.WriteFile.{CanWriteFile, file_meaning}
+use Rattle.jpg_file.specs.Write.Restarts.{interval_text}
+use Rattle.jpg_file.specs.Write.WriteScan.{head_bytes}
+use Rattle.jpg_file.specs.Write.NewTables.{given_by, needed_tables}
+use Rattle.jpg_file.specs.Write.WriteProgScan.{CanWriteProgScan, prog_head, prog_scan_bytes, prog_scans_bytes, prog_written_after}
+use Rattle.jpg_file.specs.Write.WriteFile.{CanWriteFile, file_meaning}
 use Rattle.jpg_file.specs.declared.write.Plan.{Plan}
-use Rattle.jpg_file.proofs.ProgHead.{parts_count, prog_components}
+use Rattle.jpg_file.proofs.ProgressiveHeader.{parts_count, prog_components}
 use Rattle.jpg_file.proofs.SameUnits.{same_count}
 use Rattle.jpg_file.proofs.SeqData.{elements_same}
 use Rattle.jpg_file.proofs.WrittenText.{in_order, meaning_grids, meaning_ids, same_interval}
@@ -68,14 +70,14 @@ head_is_prog H e p =
 -- THE SCRIPT
 
 pub prog_entries_can : (plan : Plan) (kept : List (ℕ × List ℕ)) (f : Frame) (blocks : Blocks) (heads : List ScanHead) (script : List Entry) → CanWriteFile plan kept f blocks → is_progressive plan.out.frame.process ≡ true
-    → is_progressive_behind (file_meaning plan kept blocks) heads script ≡ true → All (CanWriteProgScan plan f blocks) script
+    → is_progressive_after (file_meaning plan kept blocks) heads script ≡ true → All (CanWriteProgScan plan f blocks) script
 prog_entries_can plan kept f blocks heads [] can p h = All-nil (CanWriteProgScan plan f blocks)
 prog_entries_can plan kept f blocks heads (e ∷ script) can p h =
     let H = file_meaning plan kept blocks in
     let F = frame_of_meaning H in
     let g = plan.out.frame in
     let colour = plan.out.colour in
-    let k = both (is_progressive_entry F heads (written_head H e)) (is_progressive_behind H (written_head H e ∷ heads) script) h in
+    let k = both (is_progressive_entry F heads (written_head H e)) (is_progressive_after H (written_head H e ∷ heads) script) h in
     let head : written_head H e ≡ prog_head colour e = head_is_prog H e p ∙ ap (λ c. prog_head c e) (sym can.colour) in
     let is = progressive_entry F heads (prog_head colour e) (subst (λ h. is_progressive_entry F heads h ≡ true) head k.0) in
     let named = prog_components colour e in
@@ -103,8 +105,8 @@ flat_of head elements class slot = flat_table (symbols_used head elements class 
 prog_step : (H : Meaning) (restart : Restart) (w : Written) (e : Entry) (script : List Entry) → is_progressive H.process ≡ true
     → (let F = frame_of_meaning H in let head = prog_head (colour_of H) e in let n = interval_of F head restart in let elements = scan_elements F head n H.blocks in let tables = flat_of head elements in
     scans_text H restart w (e ∷ script)
-    ≡ tables_text w.tables tables (needed head) ++ interval_text w.interval n ++ head_text H head ++ scan_data tables head elements
-    ++ scans_text H restart (record { tables = tables_given w.tables tables (needed head); interval = n }) script)
+    ≡ tables_text w.tables tables (needed_tables head) ++ interval_text w.interval n ++ head_text H head ++ scan_data tables head elements
+    ++ scans_text H restart (record { tables = tables_given w.tables tables (needed_tables head); interval = n }) script)
 unfolding scans_text
 prog_step H restart w e script p =
     let F = frame_of_meaning H in
@@ -118,7 +120,7 @@ prog_step H restart w e script p =
     ∙ ap (λ b. of head (tables b) (tables_needed b e head)) p
 
 pub prog_are_text : (plan : Plan) (kept : List (ℕ × List ℕ)) (f : Frame) (blocks : Blocks) (heads : List ScanHead) (restart : Restart) (w : Written) (script : List Entry) → CanWriteFile plan kept f blocks
-    → is_progressive plan.out.frame.process ≡ true → is_progressive_behind (file_meaning plan kept blocks) heads script ≡ true
+    → is_progressive plan.out.frame.process ≡ true → is_progressive_after (file_meaning plan kept blocks) heads script ≡ true
     → prog_scans_bytes plan.out.frame plan.out.colour restart f blocks w script ≡ scans_text (file_meaning plan kept blocks) restart w script
 unfolding scans_text
 prog_are_text plan kept f blocks heads restart w [] can p h = refl
@@ -126,7 +128,7 @@ prog_are_text plan kept f blocks heads restart w (e ∷ script) can p h =
     let H = file_meaning plan kept blocks in
     let F = frame_of_meaning H in
     let g = plan.out.frame in
-    let k = both (is_progressive_entry F heads (written_head H e)) (is_progressive_behind H (written_head H e ∷ heads) script) h in
+    let k = both (is_progressive_entry F heads (written_head H e)) (is_progressive_after H (written_head H e ∷ heads) script) h in
     let head = prog_head (colour_of H) e in
     let is = progressive_entry F heads head (subst (λ h. is_progressive_entry F heads h ≡ true) (head_is_prog H e p) k.0) in
     let grids = meaning_grids plan kept blocks can.tables in
@@ -134,24 +136,24 @@ prog_are_text plan kept f blocks heads restart w (e ∷ script) can p h =
     let N = interval_of F head restart in
     let elements : ℕ → List (List Owned) = λ n. scan_elements f head n blocks in
     let E = scan_elements F head N H.blocks in
-    let after : ℕ → List (List Owned) → Written = λ n es. record { tables = tables_given w.tables (flat_of head es) (needed head); interval = n } in
+    let after : ℕ → List (List Owned) → Written = λ n es. record { tables = tables_given w.tables (flat_of head es) (needed_tables head); interval = n } in
     let rest : Written → List ℕ = λ w. prog_scans_bytes g plan.out.colour restart f blocks w script in
     let whole : ℕ → List ℕ → List (List Owned) → List ℕ → List ℕ = λ n ids es rest.
-    (tables_text w.tables (flat_of head es) (needed head) ++ ((interval_text w.interval n ++ segment_text 0xda (head_bytes ids head)) ++ scan_data (flat_of head es) head es)) ++ rest in
+    (tables_text w.tables (flat_of head es) (needed_tables head) ++ ((interval_text w.interval n ++ segment_text 0xda (head_bytes ids head)) ++ scan_data (flat_of head es) head es)) ++ rest in
     let same = same_interval g F head restart (sym grids) in
     let ids = map (λ c. c.id) H.components in
-    ap (λ c. prog_scan_bytes g c restart f blocks w e ++ rest (prog_written_behind g c restart f blocks w e)) can.colour
+    ap (λ c. prog_scan_bytes g c restart f blocks w e ++ rest (prog_written_after g c restart f blocks w e)) can.colour
     ∙ ap (λ n. whole n (identifiers g.components) (elements n) (rest (after n (elements n)))) same
     ∙ ap (λ i. whole N i (elements N) (rest (after N (elements N)))) (sym (meaning_ids plan kept blocks can.tables))
     ∙ ap (λ es. whole N ids es (rest (after N es))) (elements_same g f F head N blocks can.seen can.grids grids there)
     ∙ ap (whole N ids E) (prog_are_text plan kept f blocks (written_head H e ∷ heads) restart (after N E) script can p k.1)
-    ∙ in_order (tables_text w.tables (flat_of head E) (needed head)) (interval_text w.interval N) (segment_text 0xda (head_bytes ids head)) (scan_data (flat_of head E) head E) (scans_text H restart (after N E) script)
+    ∙ in_order (tables_text w.tables (flat_of head E) (needed_tables head)) (interval_text w.interval N) (segment_text 0xda (head_bytes ids head)) (scan_data (flat_of head E) head E) (scans_text H restart (after N E) script)
     ∙ sym (prog_step H restart w e script p)
 
--- A SCAN THAT IS LEFT, and the others
+-- A SCAN THAT IS LEFT, and the remaining ones
 
 pub prog_scan_left : (file : Frame) (colour : Colour) (restart : Restart) (f : Frame) (blocks : Blocks) (w : Written) (script : List Entry) (i : ℕ) (e : Entry) → slice_get script i ≡ Some e
     → prog_scans_bytes file colour restart f blocks w (drop i script)
-    ≡ prog_scan_bytes file colour restart f blocks w e ++ prog_scans_bytes file colour restart f blocks (prog_written_behind file colour restart f blocks w e) (drop (i + 1) script)
+    ≡ prog_scan_bytes file colour restart f blocks w e ++ prog_scans_bytes file colour restart f blocks (prog_written_after file colour restart f blocks w e) (drop (i + 1) script)
 prog_scan_left file colour restart f blocks w script i e at =
     ap (prog_scans_bytes file colour restart f blocks w) (left_at script i e (slice_get_within script i e at) (sym (get_or_from_slice_get script i e e at)))

@@ -15,24 +15,24 @@ use Rattle.jpg_spec.specs.PictureInWork.{BeginsScan, head_behind}
 use Rattle.jpg_spec.specs.declared.frame.Limits.{Limits}
 use Rattle.jpg_spec.specs.declared.frame.Place.{Place}
 use Rattle.jpg_spec.proofs.Common.{and_intro, both, from_test, le_of}
-use Rattle.jpg_spec.proofs.ProgressiveKnown.{band_next}
+use Rattle.jpg_spec.proofs.Known.{band_next}
 use Rattle.jpg_spec.proofs.Ranges.{in_range}
-use Rattle.jpg_prog_read.specs.AcStands.{BandHasRoom, HasRoom}
+use Rattle.jpg_prog_read.specs.AcStands.{BandHasRoom, HasCorrectionRoom}
 use Rattle.jpg_prog_read.specs.DcRefinement.{HasRoomAt}
-use Rattle.jpg_prog_read.specs.Known.{AreKnown, EachHasRoom, known_behind}
+use Rattle.jpg_prog_read.specs.Known.{AreKnown, EachHasRoom, known_after}
 use Rattle.jpg_prog_read.proofs.DcRoom.{room_known}
 use Rattle.jpg_prog_read.proofs.Known.{band_room, gives_room}
 use Rattle.jpg_prog_read.proofs.KnownBits.{are_known}
-use Rattle.jpg_file.proofs.HeadSays.{IsLow, bits_low, head_is_next, head_says}
+use Rattle.jpg_file.proofs.HeaderBits.{IsLow, bits_low, head_is_next, head_says}
 
--- a scan of a progressive frame that may begin behind these items, and a place of one of its components
+-- a scan of a progressive frame that may begin after these items, and a place of one of its components
 pub record BeginsPass (limits : Limits) (items : List Item) (blocks : Blocks) (contents : List ℕ) (q : Place) : Type 0 where
   pub begins : BeginsScan limits items blocks contents q
   pub progressive : is_progressive (frame_of limits (segments_of items)).process ≡ true
 
 -- what was known of a coefficient of the band
 was_known : (limits : Limits) (items : List Item) (blocks : Blocks) (contents : List ℕ) (q : Place) (k : ℕ) → BeginsPass limits items blocks contents q → (let head = head_behind limits items contents in head.ss ≤ k → k ≤ head.se → k < 64
-    → known_behind limits items q.component k ≡ cond (head.ah == 0) None (Some head.ah))
+    → known_after limits items q.component k ≡ cond (head.ah == 0) None (Some head.ah))
 was_known limits items blocks contents q k b low high small =
     let f = frame_of limits (segments_of items) in
     let head = head_behind limits items contents in
@@ -41,9 +41,9 @@ was_known limits items blocks contents q k b low high small =
     band_next (heads_of f (segments_of items)) head q.component k (head_is_next limits (segments_of items) contents q.component b.progressive (b.begins).allowed (b.begins).among)
     (and_intro (names head q.component) (nat_le head.ss k && nat_le k head.se) (b.begins).among (and_intro (nat_le head.ss k) (nat_le k head.se) t u)) small
 
--- a refinement's bit lies below the greatest
+-- a refinement's bit is below the greatest
 later_low : (limits : Limits) (items : List Item) (blocks : Blocks) (contents : List ℕ) (q : Place) (k : ℕ) → BeginsPass limits items blocks contents q → (let head = head_behind limits items contents in (head.ah == 0) ≡ false
-    → known_behind limits items q.component k ≡ Some head.ah → head.al + 1 ≤ 10)
+    → known_after limits items q.component k ≡ Some head.ah → head.al + 1 ≤ 10)
 later_low limits items blocks contents q k b z was =
     let head = head_behind limits items contents in
     let says = head_says limits (segments_of items) contents b.progressive (b.begins).allowed in
@@ -57,7 +57,7 @@ ac_bound k v low high some e =
     omega (arith, ints, from_test (pos (nat_abs v)) (pos 1023) (sym (ap (λ b. cond b (low && high) (int_le (pos (nat_abs v)) (pos 1023))) t) ∙ e))
 
 ac_room : (limits : Limits) (items : List Item) (blocks : Blocks) (contents : List ℕ) (q : Place) (k : ℕ) → BeginsPass limits items blocks contents q → (let head = head_behind limits items contents in 1 ≤ head.ss → head.ss ≤ k → k ≤ head.se → k < 64
-    → HasRoom (scan_after limits (segments_of items) contents).coding (coefficient blocks q.component q.x q.y k))
+    → HasCorrectionRoom (scan_after limits (segments_of items) contents).coding (coefficient blocks q.component q.x q.y k))
 ac_room limits items blocks contents q k b some low high small = by (head.ah == 0) refl
   where
     head : ScanHead
@@ -69,16 +69,16 @@ ac_room limits items blocks contents q k b some low high small = by (head.ah == 
     known : AreKnown limits items blocks
     known = are_known limits items b.progressive blocks (b.begins).leads
 
-    was : known_behind limits items q.component k ≡ cond ((head_behind limits items contents).ah == 0) None (Some (head_behind limits items contents).ah)
+    was : known_after limits items q.component k ≡ cond ((head_behind limits items contents).ah == 0) None (Some (head_behind limits items contents).ah)
     was = was_known limits items blocks contents q k b low high small
 
-    by : (t : Bool) → ((head_behind limits items contents).ah == 0) ≡ t → HasRoom (scan_after limits (segments_of items) contents).coding (coefficient blocks q.component q.x q.y k)
+    by : (t : Bool) → ((head_behind limits items contents).ah == 0) ≡ t → HasCorrectionRoom (scan_after limits (segments_of items) contents).coding (coefficient blocks q.component q.x q.y k)
     by true z =
-        let none : known_behind limits items q.component k ≡ None = was ∙ ap (λ t. cond t None (Some head.ah)) z in
+        let none : known_after limits items q.component k ≡ None = was ∙ ap (λ t. cond t None (Some head.ah)) z in
         let zero_value = known.unsent q.component q.x q.y k none in
         inl (ap is_zero zero_value)
     by false z =
-        let told : known_behind limits items q.component k ≡ Some head.ah = was ∙ ap (λ t. cond t None (Some head.ah)) z in
+        let told : known_after limits items q.component k ≡ Some head.ah = was ∙ ap (λ t. cond t None (Some head.ah)) z in
         let says = head_says limits (segments_of items) contents b.progressive (b.begins).allowed in
         let c = (scan_after limits (segments_of items) contents).coding in
         let al : c.al ≡ head.al = ap (λ t. cond t head.al 0) b.progressive in
@@ -115,7 +115,7 @@ dc_room limits items blocks contents q b none z =
     let v = coefficient blocks q.component q.x q.y 0 in
     let known = are_known limits items b.progressive blocks (b.begins).leads in
     let was = was_known limits items blocks contents q 0 b (omega (arith, none)) (omega arith) (omega arith) in
-    let told : known_behind limits items q.component 0 ≡ Some head.ah = was ∙ ap (λ t. cond t None (Some head.ah)) z in
+    let told : known_after limits items q.component 0 ≡ Some head.ah = was ∙ ap (λ t. cond t None (Some head.ah)) z in
     let says = head_says limits (segments_of items) contents b.progressive (b.begins).allowed in
     let al : c.al ≡ head.al = ap (λ t. cond t head.al 0) b.progressive in
     let ah : head.ah ≡ c.al + 1 = says.later z ∙ ap (λ n. n + 1) (sym al) in

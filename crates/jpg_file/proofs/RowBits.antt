@@ -1,4 +1,4 @@
--- Bits that are given to a machine while an MCU row is read, of which some wait.
+-- Bits that are passed to a machine while an MCU row is read, of which some wait.
 use Rattle.std.proofs.Common.{◌≡◌, ℕ, ◌+◌, ◌-◌, ◌*◌, ◌/◌, ◌≤◌, Bool, true, false, List, [], ◌∷◌, ◌++◌, length, take, drop, get_or, refl, sym, ap, ◌∙◌, subst, arith, Ok}
 use Rattle.std.proofs.Math.Seq.{drop-append_seam}
 use Rattle.std.proofs.lemmas.List.{append_assoc, append-nil, length-append, length-take-le}
@@ -7,26 +7,26 @@ use Rattle.jpg_spec.specs.Items.{Item}
 use Rattle.jpg_spec.specs.ScanReading.{ScanPlace, ScanAt, with_byte}
 use Rattle.jpg_spec.specs.declared.frame.Limits.{Limits}
 use Rattle.jpg_coefs.specs.Picture.{Picture}
-use Rattle.jpg_spec.specs.ScanFaults.{DataShows}
+use Rattle.jpg_spec.specs.ScanFaults.{DataReveals}
 use Rattle.jpg_coefs.specs.Machine.{Chain, ChainTo, Interval, Kind, TakesBits, fault_of, units_of}
 use Rattle.jpg_coefs.specs.declared.machine.UnitFault.{UnitFault}
 use Rattle.jpg_coefs.specs.declared.machine.UnitStep.TheVariants as step
 use Rattle.jpg_coefs.specs.declared.machine.Taken.TheVariants as taken
 use Rattle.jpg_coefs.proofs.Chains.{chain_then, chain_stands}
-use Rattle.jpg_file.specs.Data.{AfterBits, EndsWhole, GivesBits, GivesRun}
-use Rattle.jpg_file.specs.InData.{AtWork}
-use Rattle.jpg_file.specs.Machine.{any_scan}
-use Rattle.jpg_file.specs.RowData.{RowBits, RowRun, HalfData, AfterRest, scan_answer, work_after}
-use Rattle.jpg_file.specs.declared.data.DataStep.{DataStep}
-use Rattle.jpg_file.specs.declared.data.DataStep.TheVariants as came
-use Rattle.jpg_file.specs.declared.machine.ScanReader.{ScanReader}
-use Rattle.jpg_file.specs.declared.scan.InScan.{InScan}
-use Rattle.jpg_file.specs.declared.scan.ScanWork.{ScanWork}
+use Rattle.jpg_file.specs.Read.Data.{AfterBits, EndsInterval, GivesBits, GivesRun}
+use Rattle.jpg_file.specs.Read.InData.{AtWork}
+use Rattle.jpg_file.specs.Read.Machine.{any_scan}
+use Rattle.jpg_file.specs.Read.RowData.{RowBits, RowRun, HalfData, AfterRowBytes, scan_answer, work_after}
+use Rattle.jpg_file.specs.declared.read.data.DataStep.{DataStep}
+use Rattle.jpg_file.specs.declared.read.data.DataStep.TheVariants as came
+use Rattle.jpg_file.specs.declared.read.machine.ScanReader.{ScanReader}
+use Rattle.jpg_file.specs.declared.read.scan.InScan.{InScan}
+use Rattle.jpg_file.specs.declared.read.scan.ScanWork.{ScanWork}
 use Rattle.jpg_file.proofs.Chains.{whole_taken, fault_taken}
 use Rattle.jpg_file.proofs.Runs.{bytes_long, chain_cut, run_cut}
 use Rattle.jpg_file.proofs.ScanBytes.{due_more, due_whole, due_fault, data_byte}
 
--- WHAT A STORE COMES TO
+-- THE RESULT OF A STORE
 
 pub chain_all : {M : Type 0} (k : Kind M) (most : ℕ) (m new : M) (now after : Picture) (bits : List Bool) → ChainTo k most m now bits (Ok step.More) new after → Chain k m now bits new after
 chain_all {M} k most m new now after bits (front, bit, mid, between, cut, chain, few, last) =
@@ -48,8 +48,8 @@ bits_fault k most m new now after store rest f t = (refl, λ i so_far s. fault_t
 
 -- BITS, and then those that waited
 
-behind_chain : {M : Type 0} (k : Kind M) (m mid new : M) (now between after : Picture) (front waiting : List Bool) (answer : DataStep) → Chain k m now front mid between → GivesBits k mid between waiting answer new after → GivesBits k m now (front ++ waiting) answer new after
-behind_chain {M} k m mid new now between after front waiting answer chain gives = λ i so_far s.
+after_chain : {M : Type 0} (k : Kind M) (m mid new : M) (now between after : Picture) (front waiting : List Bool) (answer : DataStep) → Chain k m now front mid between → GivesBits k mid between waiting answer new after → GivesBits k m now (front ++ waiting) answer new after
+after_chain {M} k m mid new now between after front waiting answer chain gives = λ i so_far s.
     by answer i so_far (gives i (so_far ++ front) (chain_stands k m mid now between i so_far front chain s))
   where
     by : (answer : DataStep) (i : Interval) (so_far : List Bool) → AfterBits k i (so_far ++ front) waiting answer new after → AfterBits k i so_far (front ++ waiting) answer new after
@@ -59,13 +59,13 @@ behind_chain {M} k m mid new now between after front waiting answer chain gives 
       rest,
       ap (λ z. front ++ z) cut ∙ sym (append_assoc front first rest),
       omega (arith, some, length-append front first),
-      subst (λ z. EndsWhole M k i z new after) (append_assoc so_far front first) ends,
+      subst (λ z. EndsInterval M k i z new after) (append_assoc so_far front first) ends,
     )
     by (came.Fault f) i so_far (first, rest, cut, shows) = (
       front ++ first,
       rest,
       ap (λ z. front ++ z) cut ∙ sym (append_assoc front first rest),
-      subst (λ z. DataShows i.scan.coding (units_of i) (fault_of f) z) (append_assoc so_far front first) shows,
+      subst (λ z. DataReveals i.scan.coding (units_of i) (fault_of f) z) (append_assoc so_far front first) shows,
     )
 
 pub rest_then : {M : Type 0} (k : Kind M) (m mid new : M) (now between after : Picture) (bits waiting rest : List Bool) (answer : DataStep) → RowBits k m now bits came.More waiting mid between → RowBits k mid between waiting answer rest new after
@@ -73,9 +73,9 @@ pub rest_then : {M : Type 0} (k : Kind M) (m mid new : M) (now between after : P
 rest_then {M} k m mid new now between after bits waiting rest came.More (front, cut, chain) (more, split, next) =
     (front ++ more, cut ∙ ap (λ z. front ++ z) split ∙ sym (append_assoc front more rest), chain_then k m mid new now between after front more chain next)
 rest_then {M} k m mid new now between after bits waiting rest came.Whole (front, cut, chain) (none, gives) =
-    (none, subst (λ z. GivesBits k m now z came.Whole new after) (sym cut) (behind_chain k m mid new now between after front waiting came.Whole chain gives))
+    (none, subst (λ z. GivesBits k m now z came.Whole new after) (sym cut) (after_chain k m mid new now between after front waiting came.Whole chain gives))
 rest_then {M} k m mid new now between after bits waiting rest (came.Fault f) (front, cut, chain) (none, gives) =
-    (none, subst (λ z. GivesBits k m now z (came.Fault f) new after) (sym cut) (behind_chain k m mid new now between after front waiting (came.Fault f) chain gives))
+    (none, subst (λ z. GivesBits k m now z (came.Fault f) new after) (sym cut) (after_chain k m mid new now between after front waiting (came.Fault f) chain gives))
 
 -- where none waits
 pub none_waits : {M : Type 0} (k : Kind M) (m new : M) (now after : Picture) (bits : List Bool) (answer : DataStep) → RowBits k m now bits answer [] new after → GivesBits k m now bits answer new after
@@ -108,7 +108,7 @@ run_rest {M} k m new now after bytes bits rest waiting n cut some count waits ch
       last = (l.front, l.byte ∙ ap (λ z. l.front ++ z) (sym is), two.second);
     }
 
--- a run that ends an interval or shows a fault
+-- a run that ends an interval or has a fault
 pub run_given : {M : Type 0} (k : Kind M) (m new : M) (now after : Picture) (bytes : List ℕ) (n : ℕ) → GivesRun M k m now bytes n came.Whole new after → RowRun M k m now bytes n came.Whole [] new after
 run_given k m new now after bytes n g =
     record { mid = g.mid; between = g.between; early = g.early; count = g.count; within = g.within; chain = g.chain; last = (refl, g.last) }
@@ -117,11 +117,11 @@ pub run_shown : {M : Type 0} (k : Kind M) (m new : M) (now after : Picture) (byt
 run_shown k m new now after bytes n f g =
     record { mid = g.mid; between = g.between; early = g.early; count = g.count; within = g.within; chain = g.chain; last = (refl, g.last) }
 
--- INSIDE DATA: what a data byte comes to, some bits of which may wait
+-- INSIDE DATA: the result of a data byte, some bits of which may wait
 
 pub half_after : (limits : Limits) (items : List Item) (contents bytes : List ℕ) (p : ScanPlace) (byte : ℕ) (gate : Bool) (w : ScanWork) (before after : Picture) (answer : DataStep) (waiting : List Bool) (m : ScanReader)
     → (p.items ≡ items) × (p.contents ≡ contents) → ScanAt limits bytes (with_byte p byte) [] → gate ≡ false → AtWork limits p w before → w.whole ≡ false → RowBits any_scan w.machine before (bits_of 8 byte) answer waiting m after
-    → AfterRest limits items contents bytes (scan_answer answer) waiting (record { gate = gate; work = work_after w m answer }) after
+    → AfterRowBytes limits items contents bytes (scan_answer answer) waiting (record { gate = gate; work = work_after w m answer }) after
 half_after limits items contents bytes p byte gate w before after came.More [] m of at g k e b =
     data_byte limits items contents bytes (with_byte p byte) gate (record w { machine = m }) after (scan_answer came.More) of at g
     (due_more limits p byte w m before after e k (none_waits any_scan w.machine m before after (bits_of 8 byte) came.More b))
@@ -137,11 +137,11 @@ half_after limits items contents bytes p byte gate w before after (came.Fault f)
 
 -- the bits that waited are taken
 pub half_then : (limits : Limits) (items : List Item) (contents bytes : List ℕ) (waiting rest : List Bool) (s : InScan) (now after : Picture) (answer : DataStep) (m : ScanReader) → HalfData limits items contents bytes waiting s now
-    → RowBits any_scan s.work.machine now waiting answer rest m after → AfterRest limits items contents bytes (scan_answer answer) rest (record { gate = s.gate; work = work_after s.work m answer }) after
+    → RowBits any_scan s.work.machine now waiting answer rest m after → AfterRowBytes limits items contents bytes (scan_answer answer) rest (record { gate = s.gate; work = work_after s.work m answer }) after
 half_then limits items contents bytes waiting rest s now after answer m h b =
     let all = rest_then any_scan (h.old).machine s.work.machine m h.before now after (bits_of 8 h.byte) waiting rest answer h.bits b in
     let same : work_after s.work m answer ≡ work_after h.old m answer = by answer in
-    subst (λ (w : ScanWork). AfterRest limits items contents bytes (scan_answer answer) rest (record { gate = s.gate; work = w }) after) (sym same)
+    subst (λ (w : ScanWork). AfterRowBytes limits items contents bytes (scan_answer answer) rest (record { gate = s.gate; work = w }) after) (sym same)
     (half_after limits items contents bytes h.place h.byte s.gate h.old h.before after answer rest m h.of h.at h.gate h.work h.due all)
   where
     by : (answer : DataStep) → work_after s.work m answer ≡ work_after h.old m answer

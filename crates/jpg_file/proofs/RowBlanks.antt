@@ -1,4 +1,4 @@
--- Behind the MCU row in work nothing of the picture was changed yet.
+-- After the current MCU row nothing of the picture was changed yet.
 use Rattle.std.proofs.Common.{◌≡◌, ℕ, zero, suc, ◌+◌, ◌-◌, ◌*◌, ◌/◌, ◌%◌, ◌<◌, ◌≤◌, ◌==◌, Bool, true, false, cond, List, [], ◌∷◌, ◌++◌, length, take, drop, get_or, refl, sym, ap, ◌∙◌, subst, arith, ⊎_elim}
 use Rattle.std.specs.Prelude.{◌&&◌, ◌||◌, map, flat_map}
 use Rattle.std.specs.List.{All}
@@ -21,8 +21,8 @@ use Rattle.jpg_coefs.specs.Picture.{Picture, map_of}
 use Rattle.jpg_spec.specs.ScanRows.{scan_row}
 use Rattle.jpg_seq.specs.Rows.{row_units, rows_in_mcu}
 use Rattle.jpg_seq.proofs.ScanRows.{row_next}
-use Rattle.jpg_file.specs.RowTurns.{IsBlankBehind, IsRowIn}
-use Rattle.jpg_file.specs.declared.rows.RowWork.{RowWork}
+use Rattle.jpg_file.specs.Read.RowTurns.{IsBlankAfter, IsRowIn}
+use Rattle.jpg_file.specs.declared.read.rows.RowWork.{RowWork}
 use Rattle.jpg_file.proofs.RowTurns.{rows_there}
 
 -- a place of the first n MCU rows
@@ -46,7 +46,7 @@ all_ids : (P : Place → Type 0) (g : ℕ → List Place) (ids : List ℕ) → (
 all_ids P g [] each = All-nil P
 all_ids P g (i ∷ ids) each = All-append P (g i) (flat_map g ids) (each 0 (omega arith)) (all_ids P g ids (λ j h. each (suc j) (omega arith)))
 
--- THE PLACES OF AN MCU ROW lie above the next one
+-- THE PLACES OF AN MCU ROW are above the next one
 
 pub row_above : (f : Frame) (ids : List ℕ) (k : ℕ) → length ids ≡ length f.components → All (IsAbove f (k + 1)) (scan_row f ids k)
 row_above f [] k all = All-nil (IsAbove f (k + 1))
@@ -90,7 +90,7 @@ first_above f ids n j d all few low =
     let more : (q + 1) * rows_in_mcu f p.component ≤ n * rows_in_mcu f p.component = mul-le (q + 1) (rows_in_mcu f p.component) n (rows_in_mcu f p.component) (omega (arith, row)) (omega arith) in
     omega (arith, here, more)
 
--- A BLOCK BEHIND THEM
+-- A BLOCK AFTER THEM
 
 of_place : (i x y : ℕ) (p : Place) → is_at i x y p ≡ true → (p.component ≡ i) × (p.y ≡ y)
 of_place i x y p e =
@@ -111,9 +111,10 @@ not_at f n i x y p low above = by (is_at i x y p) refl
         let o = of_place i x y p e in
         absurd (omega (arith, above, low, o.1, ap (λ c. n * rows_in_mcu f c) o.0))
 
--- The places done are those of the scan but for as many as are left. If all else is as in no picture, all behind the row is.
+-- The places done are those of the scan except as many as are left. If all else is as in a picture without blocks, so
+-- is all after the row.
 pub blank_at : (f : Frame) (ids : List ℕ) (w : RowWork) (whole : Picture) (done cursor : List Place) → units f ids ≡ done ++ cursor → IsRowIn f ids w (length cursor) → whole.frame ≡ f
-    → ((i x y : ℕ) → any_of (is_at i x y) done ≡ false → map_of whole i x y ≡ no_blocks i x y) → IsBlankBehind w whole
+    → ((i x y : ℕ) → any_of (is_at i x y) done ≡ false → map_of whole i x y ≡ no_blocks i x y) → IsBlankAfter w whole
 blank_at f ids w whole done cursor cut k framed elsewhere = λ i x y lt low.
     (let a = k.at in
     let R = row_units f ids in

@@ -1,4 +1,4 @@
--- How many units of a scan are left, and how many of the MCU row in work.
+-- The number of units that are left of a scan, and of its current MCU row.
 use Rattle.std.proofs.Common.{◌≡◌, ℕ, ◌+◌, ◌-◌, ◌*◌, ◌≤◌, ◌==◌, Bool, true, false, cond, List, [], length, refl, sym, ap, ◌∙◌, arith, ◌<◌, ⊎_elim, subst}
 use Rattle.std.specs.Prelude.{min}
 use Rattle.std.proofs.lemmas.Bool.Decides.{nat_tests}
@@ -9,25 +9,25 @@ use Rattle.jpg_spec.specs.Items.{Item, segments_of}
 use Rattle.jpg_spec.specs.Segments.{ScanHead, head_components}
 use Rattle.jpg_spec.specs.declared.frame.Limits.{Limits}
 use Rattle.jpg_spec.proofs.Common.{clash, same_of}
-use Rattle.jpg_file.specs.Machine.{any_scan}
-use Rattle.jpg_file.specs.RowCounts.{CountsRow}
-use Rattle.jpg_file.specs.RowData.{work_after}
-use Rattle.jpg_file.specs.RowPlaces.{scan_left}
-use Rattle.jpg_file.specs.RowTurns.{CountsScan, IsRowIn, unfinished}
-use Rattle.jpg_file.specs.Strips.{CountsRows, IsNoRow}
-use Rattle.jpg_file.specs.declared.strips.StripStep.{StripStep}
-use Rattle.jpg_file.specs.declared.strips.StripStep.TheVariants as step
+use Rattle.jpg_file.specs.Read.Machine.{any_scan}
+use Rattle.jpg_file.specs.Read.RowCounts.{CountsRow}
+use Rattle.jpg_file.specs.Read.RowData.{work_after}
+use Rattle.jpg_file.specs.Read.RowPlaces.{scan_left}
+use Rattle.jpg_file.specs.Read.RowTurns.{CountsScan, IsRowIn, unfinished}
+use Rattle.jpg_file.specs.Read.Strips.{CountsRows, IsNoRow}
+use Rattle.jpg_file.specs.declared.read.strips.StripStep.{StripStep}
+use Rattle.jpg_file.specs.declared.read.strips.StripStep.TheVariants as step
 use Rattle.jpg_file.proofs.RowTurns.{part_counted, whole_counted}
 use Rattle.std.proofs.lemmas.Bool.{cases_lt}
 use Rattle.jpg_seq.specs.Rows.{top_of}
-use Rattle.jpg_file.specs.declared.data.DataStep.{DataStep}
-use Rattle.jpg_file.specs.declared.data.DataStep.TheVariants as came
-use Rattle.jpg_file.specs.declared.machine.ScanReader.{ScanReader}
-use Rattle.jpg_file.specs.declared.rows.RowStep.{RowStep}
-use Rattle.jpg_file.specs.declared.rows.RowWork.{RowWork}
-use Rattle.jpg_file.specs.declared.scan.ScanWork.{ScanWork}
+use Rattle.jpg_file.specs.declared.read.data.DataStep.{DataStep}
+use Rattle.jpg_file.specs.declared.read.data.DataStep.TheVariants as came
+use Rattle.jpg_file.specs.declared.read.machine.ScanReader.{ScanReader}
+use Rattle.jpg_file.specs.declared.read.rows.RowStep.{RowStep}
+use Rattle.jpg_file.specs.declared.read.rows.RowWork.{RowWork}
+use Rattle.jpg_file.specs.declared.read.scan.ScanWork.{ScanWork}
 
--- the next interval's units are those that were due
+-- the next interval's units are those that were left
 pub interval_left : (w : ScanWork) (m : ScanReader) (n turn : ℕ) → w.whole ≡ true → any_scan.left m ≡ n → n ≡ min w.interval w.due → scan_left (record w { machine = m; whole = false; due = w.due - n; turn = turn }) ≡ scan_left w
 interval_left w m n turn whole left few =
     let old : scan_left w ≡ w.due = ap (λ b. w.due + cond b 0 (any_scan.left w.machine)) whole ∙ omega arith in
@@ -43,7 +43,7 @@ pub begun_places : (limits : Limits) (items : List Item) (contents : List ℕ) (
 begun_places limits items contents f head framed header =
     ap (λ (g : Frame). length (units g (head_components (head_in g contents)))) framed ∙ ap (λ (h : ScanHead). length (units f (head_components h))) header
 
--- no unit is whole
+-- no unit is complete
 pub none_counted : (old new : ScanWork) (w : RowWork) → scan_left new ≡ scan_left old → w.waiting ≡ [] → CountsScan old w false new w
 none_counted old new w left none = record {
   tops = refl;
@@ -74,7 +74,7 @@ data_left (came.Fault f) old m passed due left ended =
 zero_is : (n : ℕ) → n ≡ 0 → (n == 0) ≡ true
 zero_is n e = grind (arith, nat_tests)
 
--- data of the scan in work
+-- data of the current scan
 pub counts_scan : (old : ScanWork) (w : RowWork) (result : RowStep) (new : ScanWork) (after : RowWork) (m : ScanReader) → old.whole ≡ false → 1 ≤ w.left → CountsRow w old.machine result after m → new ≡ work_after old m result.step
     → CountsScan old w result.row new after
 counts_scan old w result new after m due some c is = record {
@@ -90,7 +90,7 @@ counts_scan old w result new after m due some c is = record {
   wait = λ more. c.whole ∙ zero_is after.left (c.wait more);
 }
 
--- So the row stays in its scan.
+-- So the row remains in its scan.
 pub counts_in : (f : Frame) (ids : List ℕ) (old new : ScanWork) (w after : RowWork) (row : Bool) → IsRowIn f ids w (scan_left old) → CountsScan old w row new after → IsRowIn f ids after (scan_left new)
 counts_in f ids old new w after row k c =
     let a = k.at in
@@ -112,7 +112,7 @@ counts_in f ids old new w after row k c =
       some = omega (arith, c.units, k.some);
     }
 
--- AND A FURTHER ROW IS WHOLE, or none
+-- AND A FURTHER ROW IS COMPLETE, or none
 pub counts_rows : (old new : ScanWork) (w after : RowWork) (row : Bool) (result : StripStep) → CountsScan old w row new after → result ≡ cond row step.Row step.More → CountsRows result w after
 counts_rows old new w after row result c is = subst (λ (s : StripStep). CountsRows s w after) (sym is) (by row c)
   where
@@ -130,7 +130,7 @@ same_rows w after step.Row k e = absurd k
 same_rows w after step.Whole k e = e
 same_rows w after (step.Ended s) k e = tt
 
--- behind another row, of which none was whole
+-- after another row, of which none was complete
 pub rows_then : (old w after : RowWork) (result : StripStep) → unfinished w ≡ unfinished old → CountsRows result w after → CountsRows result old after
 rows_then old w after step.More e c = c ∙ e
 rows_then old w after step.Row e c = sym e ∙ c

@@ -6,19 +6,19 @@ use Rattle.jpg_coefs.specs.declared.machine.Taken.{Taken}
 use Rattle.jpg_seq.specs.Reader.{sequential}
 use Rattle.jpg_seq.specs.RowTaken.{CanReadRow, TakesInRow}
 use Rattle.jpg_seq.specs.declared.reader.SeqReader.{SeqReader}
-use Rattle.jpg_file.specs.Machine.{any_scan}
-use Rattle.jpg_file.specs.RowMachine.{CanRead, IsOpenScan, TakesRowBits}
-use Rattle.jpg_file.specs.declared.machine.ScanReader.{ScanReader}
-use Rattle.jpg_file.specs.declared.machine.ScanReader.TheVariants.{Sequential}
+use Rattle.jpg_file.specs.Read.Machine.{any_scan}
+use Rattle.jpg_file.specs.Read.RowMachine.{CanReadMcuRow, IsOpenRowScan, TakesRowBits}
+use Rattle.jpg_file.specs.declared.read.machine.ScanReader.{ScanReader}
+use Rattle.jpg_file.specs.declared.read.machine.ScanReader.TheVariants.{Sequential}
 use Rattle.jpg_file.proofs.Machines.{is_sequential, takes_of}
 
 pub one_machine : (m n : SeqReader) → Sequential m ≡ Sequential n → m ≡ n
 one_machine m n e = cc
 
-own : (m : ScanReader) (machine : SeqReader) (whole : Picture) → m ≡ Sequential machine → IsOpenScan m whole → (i : Interval) × (bits : List Bool) × sequential.stands machine i bits whole
+own : (m : ScanReader) (machine : SeqReader) (whole : Picture) → m ≡ Sequential machine → IsOpenRowScan m whole → (i : Interval) × (bits : List Bool) × sequential.stands machine i bits whole
 own m machine whole is o = (o.0, o.1, is_sequential.own machine o.0 o.1 whole (subst (λ (q : ScanReader). any_scan.stands q o.0 o.1 whole) is o.2))
 
-pub row_open : (tops : List ℕ) (m : ScanReader) (machine : SeqReader) (row : Picture) → m ≡ Sequential machine → CanRead tops m row → CanReadRow tops machine row
+pub row_open : (tops : List ℕ) (m : ScanReader) (machine : SeqReader) (row : Picture) → m ≡ Sequential machine → CanReadMcuRow tops m row → CanReadRow tops machine row
 row_open tops m machine row is o = (o.0, o.1, own m machine o.0 is o.2)
 
 pub row_takes : (most : ℕ) (tops : List ℕ) (m : ScanReader) (machine new : SeqReader) (row after : Picture) (store rest : List Bool) (answer : Taken) → m ≡ Sequential machine → TakesInRow most tops machine row store answer new after rest

@@ -1,36 +1,36 @@
--- A file in work that is read MCU row by MCU row, and a piece of it.
+-- A file that is read MCU row by MCU row, and a piece of it.
 use Rattle.std.proofs.Common.{◌≡◌, ◌⊎◌, ℕ, ◌+◌, ◌-◌, ◌<◌, ◌≤◌, Bool, true, false, List, [], ◌∷◌, ◌++◌, length, take, drop, get_or, refl, sym, ap, ◌∙◌, subst, arith, inl, inr, Some, None, Ok, Err}
 use Rattle.std.specs.Prelude.{Option, Result, is_some}
 use Rattle.std.proofs.lemmas.List.{append-nil, get_or-drop, length-append, length-drop, take_all}
 use Rattle.jpg_spec.specs.Items.{segments_of}
-use Rattle.jpg_spec.specs.declared.answers.FaultAt.{FaultAt}
+use Rattle.jpg_spec.specs.declared.fault.FaultAt.{FaultAt}
 use Rattle.jpg_spec.specs.declared.frame.Limits.{Limits}
 use Rattle.jpg_spec.specs.declared.fault.Fault.TheVariants.{InputTooLong}
 use Rattle.jpg_spec.proofs.Common.{clash}
 use Rattle.jpg_base.specs.declared.stop.Stop.{Stop}
 use Rattle.jpg_base.specs.declared.stop.Stop.TheVariants as stop
-use Rattle.jpg_file.specs.File.{AfterFileByte, IsStop, Stands, limits_of, with_picture}
-use Rattle.jpg_file.specs.FirstHead.{IsHeadOf}
-use Rattle.jpg_file.specs.ReadFile.{AfterFilePiece, KeepsHeadAt}
-use Rattle.jpg_file.specs.RowPieces.{AfterRowsPiece, CountsFed, HasLastByte, RowsGo, RowsGive, RowsOpen}
-use Rattle.jpg_file.specs.Strips.{AfterStrip, CountsStrip, GoesOnRest, IfStops, RowsBehind, RowsInside, StripGoes, StripRun, StripStands, TakesResumed, TakesStrip}
-use Rattle.jpg_file.specs.declared.file.FileWork.{FileWork}
-use Rattle.jpg_file.specs.declared.row_reader.FedRow.{FedRow}
-use Rattle.jpg_file.specs.declared.row_reader.FedRow.TheVariants as fed
-use Rattle.jpg_file.specs.declared.rows.RowWork.{RowWork}
-use Rattle.jpg_file.specs.declared.strip_work.StripWork.{StripWork}
-use Rattle.jpg_file.specs.declared.strips.StripStep.{StripStep}
-use Rattle.jpg_file.specs.declared.strips.StripStep.TheVariants as step
+use Rattle.jpg_file.specs.Read.File.{AfterFileByte, IsStop, StandsForFile, limits_of, with_picture}
+use Rattle.jpg_file.specs.Read.FirstHeader.{IsFirstHeaderOf}
+use Rattle.jpg_file.specs.Read.ReadFile.{AfterFilePiece, KeepsHeadAt}
+use Rattle.jpg_file.specs.Read.RowPieces.{AfterRowsPiece, CountsFed, HasLastByte, RowsGo, RowsGive, RowsOpen}
+use Rattle.jpg_file.specs.Read.Strips.{AfterStrip, CountsStrip, GoesOnRest, IfStops, RowsAfter, RowsInside, StripGoes, StripRun, StripStands, TakesResumed, TakesStrip}
+use Rattle.jpg_file.specs.declared.read.file.FileWork.{FileWork}
+use Rattle.jpg_file.specs.declared.read.row_reader.FedRow.{FedRow}
+use Rattle.jpg_file.specs.declared.read.row_reader.FedRow.TheVariants as fed
+use Rattle.jpg_file.specs.declared.read.rows.RowWork.{RowWork}
+use Rattle.jpg_file.specs.declared.read.strip_work.StripWork.{StripWork}
+use Rattle.jpg_file.specs.declared.read.strips.StripStep.{StripStep}
+use Rattle.jpg_file.specs.declared.read.strips.StripStep.TheVariants as step
 use Rattle.jpg_file.proofs.FileSteps.{head_by, head_is}
 use Rattle.jpg_file.proofs.PieceSteps.{counted, front_is, front_of, limits_are, one_more, piece_long, piece_stopped, rest_less, stands_file, stop_longer}
 use Rattle.jpg_file.proofs.StripPieces.{goes_stands}
 
--- WHAT A STATE TELLS
+-- WHAT A STATE ENCODES
 
--- the file as it is read whole
+-- the file as it is read in one go
 pub record ReadWhole (limits : Limits) (bytes : List ℕ) (w : FileWork) : Type 0 where
   pub file : FileWork
-  pub stands : Stands limits bytes file
+  pub stands : StandsForFile limits bytes file
   pub head : file.head ≡ w.head
   pub limits_same : limits_of file ≡ limits_of w
   pub taken : file.reading.taken ≡ w.reading.taken
@@ -48,16 +48,16 @@ pub open_limits : (limits : Limits) (bytes : List ℕ) (rows : Option RowWork) (
 open_limits limits bytes None w g = limits_are limits bytes w g
 open_limits limits bytes (Some rows) w g = by g.at
   where
-    by : RowsInside limits bytes w rows g.whole ⊎ RowsBehind limits bytes w rows g.whole → limits_of w ≡ limits
+    by : RowsInside limits bytes w rows g.whole ⊎ RowsAfter limits bytes w rows g.whole → limits_of w ≡ limits
     by (inl r) = ((r.held).head).bounded.1
     by (inr b) = ((b.between).at).bounded.1
 
 -- the first scan header of the bytes
-pub open_head : (limits : Limits) (bytes : List ℕ) (rows : Option RowWork) (w : FileWork) → StripStands limits bytes rows w → IsHeadOf limits bytes w.head
+pub open_head : (limits : Limits) (bytes : List ℕ) (rows : Option RowWork) (w : FileWork) → StripStands limits bytes rows w → IsFirstHeaderOf limits bytes w.head
 open_head limits bytes None w g = head_is limits bytes w g
 open_head limits bytes (Some rows) w g = by g.at
   where
-    by : RowsInside limits bytes w rows g.whole ⊎ RowsBehind limits bytes w rows g.whole → IsHeadOf limits bytes w.head
+    by : RowsInside limits bytes w rows g.whole ⊎ RowsAfter limits bytes w rows g.whole → IsFirstHeaderOf limits bytes w.head
     by (inl r) = head_by limits bytes ((0xda, r.contents) ∷ segments_of r.items) w.head (λ none. absurd (clash true refl none)) (r.held).first_head
     by (inr b) = head_is limits bytes (with_picture w g.whole) (inl b.between)
 
@@ -93,7 +93,7 @@ some_or_none : (b : Bool) → (b ≡ true) ⊎ (b ≡ false)
 some_or_none true = inl refl
 some_or_none false = inr refl
 
--- a fault that they show
+-- a fault that they have
 pub resumed_stop : (limits : Limits) (bytes piece : List ℕ) (e : Stop) (old new : StripWork) → TakesResumed old (step.Ended e) new → GoesOnRest (step.Ended e) → (is_some old.rows ≡ false → (let a : StripStep = step.Ended e in a) ≡ step.More) → new.file.head ≡ old.file.head
     → RowsOpen limits bytes old.rows old.file → AfterRowsPiece limits bytes piece (Err e) new.rows new.file
 resumed_stop limits bytes piece stop.NoMemory old new took goes plain head h = absurd goes
@@ -109,16 +109,16 @@ resumed_stop limits bytes piece (stop.Fault f) old new took goes plain head h = 
         let is : take f.at (bytes ++ piece) ≡ bytes = front_of bytes piece (bytes ++ piece) f.at shown.0 refl in (
           stop_longer limits l.front piece (bytes ++ piece) l.byte f (ap (λ x. x ++ piece) l.cut) l.stands l.short (subst (λ x. IsStop limits x f) l.cut shown),
           omega (arith, shown.0),
-          inl (subst (λ x. IsHeadOf limits x new.file.head) (sym is) (subst (λ o. IsHeadOf limits bytes o) (sym head) (open_head limits bytes old.rows old.file h.stands))),
+          inl (subst (λ x. IsFirstHeaderOf limits x new.file.head) (sym is) (subst (λ o. IsFirstHeaderOf limits bytes o) (sym head) (open_head limits bytes old.rows old.file h.stands))),
         )
 
--- SOME BYTES of the rest of a piece: the state before the last of them, and what that one came to
+-- SOME BYTES of the rest of a piece: the state before the last of them, and the result of that one
 pub record LastRow (limits : Limits) (bytes piece : List ℕ) (done n : ℕ) (answer : StripStep) (rows : Option RowWork) (new : FileWork) : Type 0 where
   pub i : ℕ
   pub count : done + n ≡ i + 1
   pub less : i < length piece
   pub mid : FileWork
-  pub stands : Stands limits (bytes ++ take i piece) mid
+  pub stands : StandsForFile limits (bytes ++ take i piece) mid
   pub room : mid.reading.taken < limits.input
   pub head : IfStops answer (new.head ≡ mid.head)
   pub after : AfterStrip limits ((bytes ++ take i piece) ++ get_or piece i 0 ∷ []) answer rows new
@@ -139,14 +139,14 @@ last_row limits bytes piece done n answer work new few k taken =
       count = omega (arith, count);
       less = rest_less piece done t.early few t.within;
       mid = t.mid;
-      stands = subst (λ l. Stands limits l t.mid) is t.before;
+      stands = subst (λ l. StandsForFile limits l t.mid) is t.before;
       room = t.room;
       head = t.head;
       after = subst (λ b. AfterStrip limits ((bytes ++ take (done + t.early) piece) ++ b ∷ []) answer new.rows new.file) (get_or-drop done piece t.early 0)
           (subst (λ l. AfterStrip limits (l ++ get_or (drop done piece) t.early 0 ∷ []) answer new.rows new.file) is t.last);
     }
 
--- the bytes before the last one stood
+-- the bytes before the last one had no fault
 pub last_byte : (limits : Limits) (bytes piece : List ℕ) (done n : ℕ) (answer : StripStep) (rows : Option RowWork) (new : FileWork) → LastRow limits bytes piece done n answer rows new → HasLastByte limits (bytes ++ take (done + n) piece)
 last_byte limits bytes piece done n answer rows new l =
     let front = bytes ++ take l.i piece in
@@ -203,7 +203,7 @@ ended_as limits bytes stop.NoMemory None w a = tt
 ended_as limits bytes (stop.Fault f) (Some rows) w a = a
 ended_as limits bytes stop.NoMemory (Some rows) w a = tt
 
--- as of a file that is read whole
+-- as of a file that is read in one go
 stopped_as : (limits : Limits) (bytes piece : List ℕ) (e : Stop) (rows : Option RowWork) (w : FileWork) → length bytes < limits.input → AfterFilePiece limits bytes piece (Err e) w → AfterRowsPiece limits bytes piece (Err e) rows w
 stopped_as limits bytes piece (stop.Fault f) rows w short (stops, later, head) = let z = later short in (stops, omega (arith, z), head)
 stopped_as limits bytes piece stop.NoMemory rows w short a = a
@@ -228,11 +228,11 @@ row_long limits bytes piece done work many k =
     let within = few_within limits front v.file v.stands in
     (a.0, omega (arith, within, length-append bytes (take done piece)), subst (λ o. KeepsHeadAt limits (bytes ++ piece) (record { fault = InputTooLong; at = limits.input }) o) v.head a.2)
   where
-    few_within : (limits : Limits) (bytes : List ℕ) (w : FileWork) → Stands limits bytes w → length bytes ≤ limits.input
+    few_within : (limits : Limits) (bytes : List ℕ) (w : FileWork) → StandsForFile limits bytes w → length bytes ≤ limits.input
     few_within limits bytes w (inl s) = (s.beside).within
     few_within limits bytes w (inr s) = s.within
 
--- more is wanted
+-- more is needed
 pub row_wanted : (limits : Limits) (bytes piece : List ℕ) (done : ℕ) (work : StripWork) → length piece ≤ done → work.file.reading.taken < limits.input → RowsGo limits (bytes ++ take done piece) work.rows work.file
     → AfterRowsPiece limits bytes piece (Ok fed.More) work.rows work.file
 row_wanted limits bytes piece done work end short k =
@@ -241,7 +241,7 @@ row_wanted limits bytes piece done work end short k =
     let v = strip_whole limits (bytes ++ piece) work.rows work.file g.goes in
     (g, omega (arith, counted limits (bytes ++ piece) v.file v.stands, v.taken, short))
 
--- HOW MANY MCU ROWS are whole
+-- THE NUMBER OF MCU ROWS that are complete
 
 pub counts_same : (rows : Option RowWork) → CountsStrip step.More rows rows
 counts_same None = tt

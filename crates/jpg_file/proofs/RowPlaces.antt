@@ -1,4 +1,4 @@
--- Where the machine of a scan that is read row by row stands: the places that are left, by their number.
+-- The place of the machine of a scan that is read row by row: the places that are left, by their number.
 use Rattle.std.proofs.Common.{◌≡◌, ℕ, ◌+◌, ◌-◌, ◌*◌, ◌<◌, ◌≤◌, Bool, false, cond, List, ◌∷◌, ◌++◌, length, drop, take, sym, ap, ◌∙◌, subst, arith}
 use Rattle.std.proofs.Math.Seq.{drop-append_seam}
 use Rattle.std.proofs.lemmas.List.{append_assoc, length-append}
@@ -20,24 +20,24 @@ use Rattle.jpg_seq.specs.Rows.{AreInRow, row_units}
 use Rattle.jpg_seq.specs.declared.reader.SeqReader.{SeqReader}
 use Rattle.jpg_seq.proofs.ScanRows.{row_inside, row_next}
 use Rattle.jpg_seq.specs.Rows.{IsInRow}
-use Rattle.jpg_file.specs.InData.{AtWork, IsInterval}
-use Rattle.jpg_file.specs.Machine.{any_scan}
-use Rattle.jpg_file.specs.RowMachine.{IsInside}
-use Rattle.jpg_file.specs.RowPlaces.{IsRowAt, scan_left}
-use Rattle.jpg_file.specs.declared.machine.ScanReader.{ScanReader}
-use Rattle.jpg_file.specs.declared.machine.ScanReader.TheVariants.{Sequential}
-use Rattle.jpg_file.specs.declared.rows.RowWork.{RowWork}
-use Rattle.jpg_file.specs.declared.scan.ScanWork.{ScanWork}
+use Rattle.jpg_file.specs.Read.InData.{AtWork, IsInterval}
+use Rattle.jpg_file.specs.Read.Machine.{any_scan}
+use Rattle.jpg_file.specs.Read.RowMachine.{IsInsideMcuRow}
+use Rattle.jpg_file.specs.Read.RowPlaces.{IsRowAt, scan_left}
+use Rattle.jpg_file.specs.declared.read.machine.ScanReader.{ScanReader}
+use Rattle.jpg_file.specs.declared.read.machine.ScanReader.TheVariants.{Sequential}
+use Rattle.jpg_file.specs.declared.read.rows.RowWork.{RowWork}
+use Rattle.jpg_file.specs.declared.read.scan.ScanWork.{ScanWork}
 use Rattle.jpg_spec.proofs.PictureInWork.{joined_join}
 use Rattle.jpg_file.proofs.ScanBytes.{due_at}
 
--- A tail of a list is told by its length.
+-- A tail of a list is determined by its length.
 tail_is : (all front back : List Place) → all ≡ front ++ back → back ≡ drop (length all - length back) all
 tail_is all front back e =
     let n : length all - length back ≡ length front = omega (arith, ap length e, length-append front back) in
     sym (ap (drop (length all - length back)) e ∙ ap (λ k. drop k (front ++ back)) n ∙ drop-append_seam front back)
 
--- what a sequential machine stands at
+-- the place of a sequential machine
 seq_left : (m : SeqReader) (i : Interval) (bits : List Bool) (now : Picture) → SeqStands m i bits now → (front : List Place) × (i.places ++ i.later ≡ front ++ m.cursor) × (length m.cursor ≡ m.left + length i.later)
 seq_left m i bits now o = (
   o.done,
@@ -69,7 +69,7 @@ cursor_at limits p w m now is whole k =
 
 -- So the next ones are those that are left of the MCU row.
 pub row_by : (limits : Limits) (p : ScanPlace) (machine : ScanReader) (m : SeqReader) (left : ℕ) (row : Picture) (rows : RowWork) (f : Frame) (ids : List ℕ) → machine ≡ Sequential m
-    → m.cursor ≡ drop (length (scan_at limits p).places - left) (scan_at limits p).places → (scan_at limits p).places ≡ units f ids → row.frame ≡ mcu_row_frame f → IsRowAt f ids rows left → IsInside rows.tops row rows.left machine
+    → m.cursor ≡ drop (length (scan_at limits p).places - left) (scan_at limits p).places → (scan_at limits p).places ≡ units f ids → row.frame ≡ mcu_row_frame f → IsRowAt f ids rows left → IsInsideMcuRow rows.tops row rows.left machine
 row_by limits p machine m left row rows f ids is cursor places framed at =
     let s = scan_at limits p in
     let R = row_units f ids in
@@ -86,5 +86,5 @@ row_by limits p machine m left row rows f ids is cursor places framed at =
     record { machine = m; is = is; inside = subst (λ (g : Frame). AreInRow g rows.tops (take rows.left m.cursor)) (sym framed) inside }
 
 pub row_is_next : (limits : Limits) (p : ScanPlace) (w : ScanWork) (m : SeqReader) (now row : Picture) (rows : RowWork) (f : Frame) (ids : List ℕ) → w.machine ≡ Sequential m → w.whole ≡ false → AtWork limits p w now → (scan_at limits p).places ≡ units f ids
-    → row.frame ≡ mcu_row_frame f → IsRowAt f ids rows (scan_left w) → IsInside rows.tops row rows.left w.machine
+    → row.frame ≡ mcu_row_frame f → IsRowAt f ids rows (scan_left w) → IsInsideMcuRow rows.tops row rows.left w.machine
 row_is_next limits p w m now row rows f ids is whole k places framed at = row_by limits p w.machine m (scan_left w) row rows f ids is (cursor_at limits p w m now is whole k) places framed at

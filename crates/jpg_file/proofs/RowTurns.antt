@@ -19,10 +19,10 @@ use Rattle.jpg_base.proofs.UnitCounts.{length_units, some_factors}
 use Rattle.jpg_coefs.specs.Picture.{Picture, is_padded}
 use Rattle.jpg_coefs.proofs.Maps.{blank_is}
 use Rattle.jpg_seq.specs.Rows.{IsRowOf, row_units, rows_in_mcu, top_of}
-use Rattle.jpg_file.specs.RowTurns.{IsRowIn, KeepsRowIn, TurnsRow, rows_of, unfinished, zero_picture}
-use Rattle.jpg_file.specs.declared.rows.RowWork.{RowWork}
+use Rattle.jpg_file.specs.Read.RowTurns.{IsRowIn, KeepsRowIn, TurnsRow, block_rows_of, unfinished, zero_picture}
+use Rattle.jpg_file.specs.declared.read.rows.RowWork.{RowWork}
 
--- ONE ROW AT LEAST
+-- AT LEAST ONE ROW
 
 one_up : (n d : ℕ) → 1 ≤ n → 1 ≤ d → 1 ≤ div_up n d
 one_up n d some low = (le-div_iff_mul-le low).1 (omega (arith, some, low))
@@ -39,7 +39,7 @@ some_rows f (i ∷ j ∷ more) k there =
     one_up f.height (8 * v_max f) k.height_low (omega (arith, low))
 
 -- the rows of a component that is there
-pub rows_there : (f : Frame) (i : ℕ) → i < length f.components → rows_of f i ≡ rows_in_mcu f i
+pub rows_there : (f : Frame) (i : ℕ) → i < length f.components → block_rows_of f i ≡ rows_in_mcu f i
 rows_there f i lt = ap (λ b. cond b (rows_in_mcu f i) 0) (lt_yes i (length f.components) lt)
 
 some_across : (f : Frame) (ids : List ℕ) → IsFrame f → AreIn f ids → 1 ≤ scan_mcus_across f ids
@@ -64,7 +64,7 @@ row_some f ids k there =
     let one : 1 * 1 ≤ row_units f ids = mul-le 1 1 (scan_mcus_across f ids) (mcu_units f ids) (some_across f ids k there) (some_in_mcu f ids k there) in
     omega (arith, one)
 
--- rows that aren't whole
+-- rows that aren't complete
 pub whole_counted : (w : RowWork) → w.left ≡ 0 → unfinished w ≡ w.later
 whole_counted w e = ap (λ n. w.later + cond (n == 0) 0 1) e ∙ omega arith
 
@@ -79,7 +79,7 @@ no_tops (suc (suc zero)) = refl
 no_tops (suc (suc (suc zero))) = refl
 no_tops (suc (suc (suc (suc i)))) = refl
 
-pub first_in : (f : Frame) (ids : List ℕ) (w : RowWork) → IsFrame f → AreIn f ids → length ids ≡ length f.components → ((i : ℕ) → top_of w.tops i ≡ 0) → ((i : ℕ) → top_of w.steps i ≡ rows_of f i) → w.units ≡ row_units f ids → w.left ≡ w.units
+pub first_in : (f : Frame) (ids : List ℕ) (w : RowWork) → IsFrame f → AreIn f ids → length ids ≡ length f.components → ((i : ℕ) → top_of w.tops i ≡ 0) → ((i : ℕ) → top_of w.steps i ≡ block_rows_of f i) → w.units ≡ row_units f ids → w.left ≡ w.units
     → 1 + w.later ≡ scan_mcus_down f ids → IsRowIn f ids w (length (units f ids))
 first_in f ids w k there all tops steps size left count =
     let R = row_units f ids in
@@ -101,13 +101,13 @@ first_in f ids w k there all tops steps size left count =
       some = omega (arith, size, row_some f ids k there);
     }
 
--- and as many MCU rows aren't whole as the scan has
+-- and as many MCU rows aren't complete as the scan has
 pub first_unfinished : (f : Frame) (ids : List ℕ) (size left later : ℕ) → IsFrame f → AreIn f ids → size ≡ row_units f ids → left ≡ size → 1 + later ≡ scan_mcus_down f ids → later + cond (left == 0) 0 1 ≡ scan_mcus_down f ids
 first_unfinished f ids size left later k there is whole count =
     let some = row_some f ids k there in
     ap (λ b. later + cond b 0 1) (not_same left 0 (λ e. omega (arith, e, whole, is, some))) ∙ omega (arith, count)
 
--- where no units of the scan are left, all its MCU rows are whole
+-- if no units of the scan are left, all its MCU rows are complete
 pub none_unfinished : (f : Frame) (ids : List ℕ) (w : RowWork) (left : ℕ) → IsRowIn f ids w left → left ≡ 0 → unfinished w ≡ 0
 none_unfinished f ids w left k none =
     let sum = k.at.sum in
@@ -141,7 +141,7 @@ next_in old new none some left units steps later tops = λ f ids n k.
     let U = old.units in
     let one : old.later ≡ 1 + new.later = omega (arith, some, later) in
     let sum : n ≡ U + new.later * U = a.sum ∙ ap (λ l. l + old.later * U) none ∙ ap (λ l. 0 + l * U) one ∙ ap (λ l. 0 + l) (add-mul 1 new.later U) ∙ omega arith in
-    let step : (i : ℕ) → top_of new.tops i ≡ (a.row + 1) * rows_of f i = λ i. tops i ∙ ap (λ t. t + top_of old.steps i) (k.tops i) ∙ ap (λ t. a.row * rows_of f i + t) (k.steps i) ∙ sym (add-mul a.row 1 (rows_of f i) ∙ omega arith) in (
+    let step : (i : ℕ) → top_of new.tops i ≡ (a.row + 1) * block_rows_of f i = λ i. tops i ∙ ap (λ t. t + top_of old.steps i) (k.tops i) ∙ ap (λ t. a.row * block_rows_of f i + t) (k.steps i) ∙ sym (add-mul a.row 1 (block_rows_of f i) ∙ omega arith) in (
       record {
         at = record {
           frame = a.frame;
@@ -173,7 +173,7 @@ pub last_in : (w : RowWork) → w.later ≡ 0 → KeepsRowIn w w
 last_in w none = λ f ids n k. (k, (λ more. omega (arith, (k.at).sum, ap (λ l. l * w.units) none, more)), refl)
 
 -- the additions don't overflow
-rows_few : (f : Frame) (i : ℕ) → IsFrame f → rows_of f i ≤ 4
+rows_few : (f : Frame) (i : ℕ) → IsFrame f → block_rows_of f i ≤ 4
 rows_few f i k = by (nat_lt i (length f.components)) refl
   where
     by : (b : Bool) → nat_lt i (length f.components) ≡ b → cond b (rows_in_mcu f i) 0 ≤ 4
@@ -199,6 +199,6 @@ rows_down f (i ∷ j ∷ more) k there =
 pub tops_few : (f : Frame) (ids : List ℕ) (n : ℕ) (w : RowWork) → IsRowIn f ids w n → (i : ℕ) → top_of w.tops i + top_of w.steps i < 4294967296
 tops_few f ids n w k i =
     let a = k.at in
-    let all : top_of w.tops i + top_of w.steps i ≡ (a.row + 1) * rows_of f i = ap (λ t. t + top_of w.steps i) (k.tops i) ∙ ap (λ t. a.row * rows_of f i + t) (k.steps i) ∙ sym (add-mul a.row 1 (rows_of f i) ∙ omega arith) in
-    let most : (a.row + 1) * rows_of f i ≤ 2 ^ 20 * 4 = mul-le (a.row + 1) (rows_of f i) (2 ^ 20) 4 (omega (arith, a.count, rows_down f ids a.frame a.there)) (rows_few f i a.frame) in
+    let all : top_of w.tops i + top_of w.steps i ≡ (a.row + 1) * block_rows_of f i = ap (λ t. t + top_of w.steps i) (k.tops i) ∙ ap (λ t. a.row * block_rows_of f i + t) (k.steps i) ∙ sym (add-mul a.row 1 (block_rows_of f i) ∙ omega arith) in
+    let most : (a.row + 1) * block_rows_of f i ≤ 2 ^ 20 * 4 = mul-le (a.row + 1) (block_rows_of f i) (2 ^ 20) 4 (omega (arith, a.count, rows_down f ids a.frame a.there)) (rows_few f i a.frame) in
     omega (arith, all, most)

@@ -1,4 +1,4 @@
--- The MCU row in work: what its data came to, and how many of its units are left.
+-- The current MCU row: the result of its data, and how many of its units are left.
 use Rattle.std.proofs.Common.{◌≡◌, ℕ, ◌+◌, ◌-◌, ◌*◌, ◌/◌, ◌≤◌, ◌==◌, Bool, List, [], ◌++◌, length, drop, get_or, sym, ap, ◌∙◌, subst, arith, Ok}
 use Rattle.std.proofs.lemmas.List.{append_cancel_left, append-nil, length-append, length-drop, take-append-drop, take_all}
 use Rattle.jpg_spec.specs.Bits.{bits_of, bits_of_bytes}
@@ -11,15 +11,15 @@ use Rattle.jpg_coefs.specs.declared.machine.Taken.TheVariants as taken
 use Rattle.jpg_coefs.specs.declared.machine.UnitStep.TheVariants as step
 use Rattle.jpg_coefs.proofs.Chains.{some_taken}
 use Rattle.jpg_seq.specs.Rows.{IsRowOf}
-use Rattle.jpg_file.specs.Machine.{any_scan, reader_left}
-use Rattle.jpg_file.specs.RowMachine.{PassesRow, TakesRowBits}
-use Rattle.jpg_file.specs.RowCounts.{CountsRow, counted}
-use Rattle.jpg_file.specs.RowData.{RowBits, RowRun, TakesRowData, TakesRowRun}
-use Rattle.jpg_file.specs.declared.data.DataStep.{DataStep}
-use Rattle.jpg_file.specs.declared.data.DataStep.TheVariants as came
-use Rattle.jpg_file.specs.declared.machine.ScanReader.{ScanReader}
-use Rattle.jpg_file.specs.declared.rows.RowStep.{RowStep}
-use Rattle.jpg_file.specs.declared.rows.RowWork.{RowWork}
+use Rattle.jpg_file.specs.Read.Machine.{any_scan, reader_left}
+use Rattle.jpg_file.specs.Read.RowMachine.{PassesRow, TakesRowBits}
+use Rattle.jpg_file.specs.Read.RowCounts.{CountsRow, counted}
+use Rattle.jpg_file.specs.Read.RowData.{RowBits, RowRun, TakesRowData, TakesRowRun}
+use Rattle.jpg_file.specs.declared.read.data.DataStep.{DataStep}
+use Rattle.jpg_file.specs.declared.read.data.DataStep.TheVariants as came
+use Rattle.jpg_file.specs.declared.read.machine.ScanReader.{ScanReader}
+use Rattle.jpg_file.specs.declared.read.rows.RowStep.{RowStep}
+use Rattle.jpg_file.specs.declared.read.rows.RowWork.{RowWork}
 use Rattle.jpg_file.proofs.RowBits.{chain_all, run_rest}
 use Rattle.jpg_file.proofs.Runs.{bytes_long}
 
@@ -84,7 +84,7 @@ run_takes_row w new m after row bytes n rest waiting answer came_to result t coe
       subst (λ (d : DataStep). RowRun ScanReader any_scan m whole bytes n d new.waiting after k.0) (sym is) (subst (λ (z : List Bool). RowRun ScanReader any_scan m whole bytes n came_to z after k.0) (sym waits) (turn whole k.0 k.2)),
     ))
 
--- THE BYTES that are given
+-- THE BYTES that are passed
 
 dropped : (xs : List Bool) (i : ℕ) → length xs ≤ i → drop i xs ≡ []
 dropped xs i h = append_cancel_left xs (drop i xs) [] (ap (λ l. l ++ drop i xs) (sym (take_all i xs h)) ∙ take-append-drop i xs ∙ sym (append-nil xs))
@@ -109,7 +109,7 @@ units_run most m new whole now bytes n count rest waiting within is given waits 
     (λ byte at. waits ∙ ap (λ k. drop (k - 8 * (n - 1)) (bits_of 8 (get_or bytes (n - 1) 0))) (sym long) ∙ ap (λ b. drop (length bits - 8 * (n - 1)) (bits_of 8 b)) (sym at))
     (chain_all any_scan most m new whole now bits chain)
 
--- the bits of the last byte that were given
+-- the bits of the last byte that were passed
 pub last_given : (bytes : List ℕ) (n count : ℕ) (rest : List Bool) → 1 ≤ length bytes → count ≤ 8 * length bytes → rest ≡ drop count (bits_of_bytes bytes) → n ≡ length bytes - length rest / 8 → 1 ≤ count → (1 ≤ n) × (n ≤ length bytes) × (8 * (n - 1) ≤ count) × (count - 8 * (n - 1) ≤ 8)
 last_given bytes n count rest some within is given more =
     let l : length rest ≡ 8 * length bytes - count = omega (arith, ap length is, length-drop count (bits_of_bytes bytes), bytes_long bytes) in

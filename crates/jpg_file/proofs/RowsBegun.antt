@@ -1,4 +1,4 @@
--- A piece of a file that is read MCU row by MCU row, whose scan begins in it, and what it keeps.
+-- A piece of a file that is read MCU row by MCU row, whose scan begins in it, and what it preserves.
 use Rattle.std.proofs.Common.{◌≡◌, ◌⊎◌, ℕ, ◌+◌, ◌-◌, ◌≤◌, true, false, List, ◌++◌, length, take, drop, refl, sym, ap, ◌∙◌, subst, arith, inl, inr, Some, None, Err}
 use Rattle.std.specs.Prelude.{Option, Result, is_some}
 use Rattle.std.proofs.Math.Seq.{take-add}
@@ -8,17 +8,17 @@ use Rattle.jpg_spec.specs.declared.frame.Limits.{Limits}
 use Rattle.jpg_spec.proofs.Common.{clash}
 use Rattle.jpg_base.specs.declared.stop.Stop.{Stop}
 use Rattle.jpg_base.specs.declared.stop.Stop.TheVariants as stop
-use Rattle.jpg_file.specs.File.{Stands, keeping_of, limits_of}
-use Rattle.jpg_file.specs.RowPieces.{IfSparing, KeepsWork, RowsGo}
-use Rattle.jpg_file.specs.RowTurns.{unfinished}
-use Rattle.jpg_file.specs.RowsKnown.{KnowsRows, KnowsSome, RowsKnown}
-use Rattle.jpg_file.specs.Strips.{CountsRows, CountsStrip, IfStops, IsNoRow, NotWanting, SparesRows, StripGoes}
-use Rattle.jpg_file.specs.declared.row_reader.FedRow.{FedRow}
-use Rattle.jpg_file.specs.declared.rows.RowWork.{RowWork}
-use Rattle.jpg_file.specs.declared.strip_head.StripHead.{StripHead}
-use Rattle.jpg_file.specs.declared.strip_work.StripWork.{StripWork}
-use Rattle.jpg_file.specs.declared.strips.StripStep.{StripStep}
-use Rattle.jpg_file.specs.declared.strips.StripStep.TheVariants as step
+use Rattle.jpg_file.specs.Read.File.{StandsForFile, keeping_of, limits_of}
+use Rattle.jpg_file.specs.Read.RowPieces.{IfSparing, KeepsWork, RowsGo}
+use Rattle.jpg_file.specs.Read.RowTurns.{unfinished}
+use Rattle.jpg_file.specs.Read.RowsKnown.{KnowsRows, KnowsSome, RowsKnown}
+use Rattle.jpg_file.specs.Read.Strips.{CountsRows, CountsStrip, IfStops, IsNoRow, NotWanting, SparesRows, StripGoes}
+use Rattle.jpg_file.specs.declared.read.row_reader.FedRow.{FedRow}
+use Rattle.jpg_file.specs.declared.read.rows.RowWork.{RowWork}
+use Rattle.jpg_file.specs.declared.read.strip_head.StripHead.{StripHead}
+use Rattle.jpg_file.specs.declared.read.strip_work.StripWork.{StripWork}
+use Rattle.jpg_file.specs.declared.read.strips.StripStep.{StripStep}
+use Rattle.jpg_file.specs.declared.read.strips.StripStep.TheVariants as step
 use Rattle.jpg_file.proofs.RowPieces.{strip_limits}
 use Rattle.jpg_file.proofs.RowsFed.{begun_on}
 
@@ -40,7 +40,7 @@ keeps_then a b c k l = record {
   sparing = λ e s. l.sparing (k.keeping ∙ e) (k.sparing e s);
 }
 
--- with some bytes more
+-- with some more bytes
 pub keeps_some : (a b c : StripWork) (answer : StripStep) → KeepsWork a b → CountsStrip answer b.rows c.rows → (is_some b.rows ≡ true → c.strip ≡ b.strip) → keeping_of c.file ≡ keeping_of b.file → (keeping_of b.file ≡ copying.None → SparesRows b.rows b.file → SparesRows c.rows c.file) → KeepsWork a c
 keeps_some a b c answer k counts strip keeping sparing = keeps_then a b c k (record { some = some_stays answer b.rows c.rows counts; strip = strip; keeping = keeping; sparing = sparing })
 
@@ -48,7 +48,7 @@ none_or_some : (rows : Option RowWork) → (rows ≡ None) ⊎ (is_some rows ≡
 none_or_some None = inl refl
 none_or_some (Some rows) = inr refl
 
--- NO MEMORY is wanting
+-- THERE IS MEMORY
 pub wants_none : (a b : StripWork) (new : StripWork) (answer : StripStep) (e : Stop) → answer ≡ step.Ended e → KeepsWork a b → (b.rows ≡ None → IfStops answer (new.rows ≡ None)) → (is_some b.rows ≡ true → SparesRows b.rows b.file → NotWanting answer) → IfSparing a (Err e) new
 wants_none a b new answer (stop.Fault f) is k stops memory none spares = tt
 wants_none a b new answer stop.NoMemory is k stops memory none spares = by (none_or_some b.rows)
@@ -57,7 +57,7 @@ wants_none a b new answer stop.NoMemory is k stops memory none spares = by (none
     by (inl e) = (let s : IfStops (step.Ended stop.NoMemory) (new.rows ≡ None) = subst (λ (x : StripStep). IfStops x (new.rows ≡ None)) is (stops e) in s)
     by (inr e) = absurd (let s : NotWanting (step.Ended stop.NoMemory) = subst NotWanting is (memory e (k.sparing none spares)) in s)
 
--- WHAT IS KNOWN stays known, and MCU rows are counted
+-- WHAT IS KNOWN remains known, and MCU rows are counted
 abbrev more_of : StripStep → ℕ
 more_of step.More = 0
 more_of step.Row = 1
@@ -93,7 +93,7 @@ no_more step.Row g k = absurd k
 no_more step.Whole g k = refl
 no_more (step.Ended e) g k = absurd g
 
--- some bytes more
+-- some more bytes
 pub known_some : (limits : Limits) (bytes run : List ℕ) (n : ℕ) (answer : StripStep) (work new : StripWork) → IsGoing answer → RowsGo limits bytes work.rows work.file → KnowsRows limits bytes 0 work.rows work.strip → (work.rows ≡ None → KnowsSome work run n new) → (work.rows ≡ None → IsNoRow answer)
     → CountsStrip answer work.rows new.rows → (is_some work.rows ≡ true → new.strip ≡ work.strip) → KnowsRows limits (bytes ++ take n run) (more_of answer) new.rows new.strip
 known_some limits bytes run n answer work new g go k known never counts same = by work.rows refl k go.goes counts
@@ -105,7 +105,7 @@ known_some limits bytes run n answer work new g go k known never counts same = b
     by : (o : Option RowWork) → work.rows ≡ o → KnowsRows limits bytes 0 o work.strip → StripGoes limits bytes o work.file → CountsStrip answer o new.rows → KnowsRows limits (bytes ++ take n run) (more_of answer) new.rows new.strip
     by None is k s c =
         let at : limits_of work.file ≡ limits = strip_limits limits bytes None work.file s in
-        let t = known is bytes (subst (λ (l : Limits). Stands l bytes work.file) (sym at) s) in
+        let t = known is bytes (subst (λ (l : Limits). StandsForFile l bytes work.file) (sym at) s) in
         subst (λ (m : ℕ). KnowsRows limits (bytes ++ take n run) m new.rows new.strip) (sym (no_more answer g (never is))) (subst (λ (l : Limits). KnowsRows l (bytes ++ take n run) 0 new.rows new.strip) at t)
     by (Some rows) is k s c = later rows new.rows (ap is_some is) k c
 

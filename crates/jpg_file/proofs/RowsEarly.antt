@@ -1,4 +1,5 @@
--- Where the bytes end early that a reader of MCU rows was fed: their picture, the rows that were given, the one in work, and zeros after it.
+-- If the bytes end early that a reader of MCU rows was fed: their picture, the rows that were passed, the current one,
+-- and zeros after it.
 use Rattle.std.proofs.Common.{◌≡◌, ℕ, zero, suc, ◌+◌, ◌*◌, ◌<◌, ◌≤◌, ◌==◌, ◌&&◌, Bool, true, false, cond, List, [], ◌∷◌, ◌++◌, length, refl, sym, ap, ◌∙◌, subst, arith, inl, inr, ◌⊎◌}
 use Rattle.std.specs.Prelude.{◌||◌, nat_lt, replicate}
 use Rattle.std.proofs.lemmas.Bool.Decides.{nat_tests}
@@ -15,7 +16,7 @@ use Rattle.jpg_spec.specs.InForce.{frame_of, head_in, heads_of}
 use Rattle.jpg_spec.specs.History.{has_begun}
 use Rattle.jpg_spec.specs.Items.{Item, SpellsFront, segments_of}
 use Rattle.jpg_spec.specs.FileMeaning.{Leads, meaning_of, no_blocks, scan_after}
-use Rattle.jpg_spec.specs.FileStands.{FileStands}
+use Rattle.jpg_spec.specs.UnfinishedFile.{UnfinishedFile}
 use Rattle.jpg_spec.specs.Early.{MeansEarly}
 use Rattle.jpg_spec.specs.Laws.{frame_of_items}
 use Rattle.jpg_spec.specs.PictureInWork.{is_at}
@@ -25,7 +26,7 @@ use Rattle.jpg_spec.specs.declared.frame.Limits.{Limits}
 use Rattle.jpg_spec.proofs.Common.{both, clash, lt_of, lt_yes, same_of, some_once}
 use Rattle.jpg_spec.proofs.BeforeScans.{no_heads}
 use Rattle.jpg_spec.proofs.FileLaws.{stands_early}
-use Rattle.jpg_spec.proofs.FrameBehind.{leads_pass}
+use Rattle.jpg_spec.proofs.FrameAfter.{leads_pass}
 use Rattle.jpg_spec.proofs.PlacesFound.{real_in_padded}
 use Rattle.jpg_spec.proofs.PlacesSome.{v_max_some}
 use Rattle.jpg_spec.proofs.RowCounts.{head_names}
@@ -38,17 +39,17 @@ use Rattle.jpg_base.specs.Cursor.{scan_mcus_down}
 use Rattle.jpg_coefs.specs.Picture.{Picture, map_of}
 use Rattle.jpg_seq.specs.Rows.{IsRowOf, rows_in_mcu, top_of}
 use Rattle.jpg_seq.proofs.ScanRows.{units_by_row}
-use Rattle.jpg_file.specs.Begun.{HasBegun, HasBegunAll, IsComplete}
-use Rattle.jpg_file.specs.File.{Stands, StandsBetween, with_picture}
-use Rattle.jpg_file.specs.Items.{AtPlace}
-use Rattle.jpg_file.specs.ReadRows.{AgreeInRows, AreOfRow, HasBegunRows, HasReadRows, IsEarlyByRows, LendsRow, RowReaderState}
-use Rattle.jpg_file.specs.RowPlaces.{IsRowAt, scan_left}
-use Rattle.jpg_file.specs.RowTurns.{IsBlankBehind, unfinished}
-use Rattle.jpg_file.specs.RowsKnown.{rows_of_scan}
-use Rattle.jpg_file.specs.Strips.{GoesByRow, RowsBehind, RowsInside, components_of, frame_behind}
-use Rattle.jpg_file.specs.declared.begun.Begun.{Begun}
-use Rattle.jpg_file.specs.declared.file.FileWork.{FileWork}
-use Rattle.jpg_file.specs.declared.rows.RowWork.{RowWork}
+use Rattle.jpg_file.specs.Read.ScanHistory.{HasBegun, HasBegunAll, IsComplete}
+use Rattle.jpg_file.specs.Read.File.{StandsForFile, StandsBetween, with_picture}
+use Rattle.jpg_file.specs.Read.Items.{AtPlace}
+use Rattle.jpg_file.specs.Read.ReadRows.{AgreeInRows, AreOfRow, HasBegunRows, HasReadRows, IsEarlyByRows, LendsRow, RowReaderState}
+use Rattle.jpg_file.specs.Read.RowPlaces.{IsRowAt, scan_left}
+use Rattle.jpg_file.specs.Read.RowTurns.{IsBlankAfter, unfinished}
+use Rattle.jpg_file.specs.Read.RowsKnown.{rows_of_scan}
+use Rattle.jpg_file.specs.Read.Strips.{GoesByRow, RowsAfter, RowsInside, components_of, frame_behind}
+use Rattle.jpg_file.specs.declared.read.scan_history.ScanHistory.{ScanHistory}
+use Rattle.jpg_file.specs.declared.read.file.FileWork.{FileWork}
+use Rattle.jpg_file.specs.declared.read.rows.RowWork.{RowWork}
 use Rattle.jpg_file.proofs.Leaving.{at_end, named_by, some_at, some_for}
 use Rattle.jpg_file.proofs.RowTurns.{rows_there}
 use Rattle.jpg_file.proofs.RowsFed.{rest_framed}
@@ -63,7 +64,7 @@ record EndsWhole (limits : Limits) (bytes : List ℕ) (whole : Picture) : Type 0
   pub early : MeansEarly limits bytes (meaning_of (frame_of limits segments) segments (map_of whole))
   pub framed : whole.frame ≡ frame_of limits segments
 
-ends_whole : (limits : Limits) (bytes : List ℕ) (w : FileWork) (whole : Picture) (all : Bool) → Stands limits bytes (with_picture w whole) → FileStands limits bytes → length bytes < limits.input → IsComplete w.begun.progress all → all ≡ true → EndsWhole limits bytes whole
+ends_whole : (limits : Limits) (bytes : List ℕ) (w : FileWork) (whole : Picture) (all : Bool) → StandsForFile limits bytes (with_picture w whole) → UnfinishedFile limits bytes → length bytes < limits.input → IsComplete w.begun.progress all → all ≡ true → EndsWhole limits bytes whole
 ends_whole limits bytes w whole all s stands short told e =
     let v = with_picture w whole in
     let a = at_end limits bytes v s in
@@ -97,7 +98,7 @@ row_found limits bytes before contents rows i x y begins is there across down lo
     found_first f (head_components (head_in f contents)) i x y rows is there (named_in limits before contents bytes begins i there) (real_in_row f i x y there across down)
     (subst (λ n. y < n * rows) (ap (λ n. cond (n == 1) 1 (component_at f i).v) (sym begins.of_all.all)) few)
 
--- those of the MCU rows that are told are those of the picture
+-- those of the MCU rows that are decoded are those of the picture
 agree_rows : (limits : Limits) (bytes : List ℕ) (before : List Segment) (contents : List ℕ) (rows : ℕ) (all : Blocks) → BeginsScanOfAll limits bytes before contents → IsFrame (frame_of limits before)
     → AgreeInRows (frame_of limits before) rows (blocks_in (row_places limits before contents rows) all) (real_blocks (frame_of limits before) all)
 agree_rows limits bytes before contents rows all begins is = record {
@@ -105,7 +106,7 @@ agree_rows limits bytes before contents rows all begins is = record {
       (ap (λ b. cond b (all i x y) (no_blocks i x y)) (row_found limits bytes before contents rows i x y begins is there across down low) ∙ sym (real_here (frame_of limits before) all i x y there across down));
 }
 
--- NO REAL BLOCK stands after all MCU rows
+-- NO REAL BLOCK is after all MCU rows
 rows_cover : (f : Frame) (ids : List ℕ) (i : ℕ) → IsFrame f → length ids ≡ length f.components → is_among i ids ≡ true → blocks_down f (component_at f i) ≤ scan_mcus_down f ids * rows_in_mcu f i
 rows_cover f [] i is all among = cc
 rows_cover f (j ∷ []) i is all among =
@@ -147,7 +148,7 @@ record RowsLeft (limits : Limits) (bytes : List ℕ) (before : List Segment) (co
 some_one : (n : ℕ) → (suc n == 0) ≡ false
 some_one n = grind (arith, nat_tests)
 
--- how far the row in work is
+-- how much of the current row is done
 record RowNumber (row m left later : ℕ) : Type 0 where
   pub least : row ≤ m
   pub same : 1 ≤ later + cond (left == 0) 0 1 → row ≡ m
@@ -201,7 +202,7 @@ inside_left limits bytes w rows whole m r of turned begins count = record {
               row.same i x y there across low down ∙ agree.same i x (m * v + y) there across down (omega (arith, low, e)));
         }
 
-    blank : IsBlankBehind rows whole
+    blank : IsBlankAfter rows whole
     blank = rest_blank limits r.items r.contents bytes rows.waiting r.scan rows whole r.coded (r.held).of r.at
 
     deep : (i y : ℕ) → i < length (frame_of limits (segments_of r.items)).components → (m + 1) * rows_in_mcu (frame_of limits (segments_of r.items)) i ≤ y → top_of rows.tops i + top_of rows.steps i ≤ y
@@ -232,7 +233,7 @@ items_at limits bytes v s found = by (s.at).at
         let b = (k.beside).behind in record { front = b.front; tail = replicate (k.beside).fill 255 ++ tail; cut = b.cut; spelled = b.spelled; leads = k.leads }
 
 -- a scan is among them
-scan_among : (limits : Limits) (items : List Item) (blocks : Blocks) (b : Begun) → HasBegun limits b (segments_of items) → HasBegunAll b.progress → has_frame (segments_of items) ≡ true → Leads limits items blocks → has_scan (segments_of items) ≡ true
+scan_among : (limits : Limits) (items : List Item) (blocks : Blocks) (b : ScanHistory) → HasBegun limits b (segments_of items) → HasBegunAll b.progress → has_frame (segments_of items) ≡ true → Leads limits items blocks → has_scan (segments_of items) ≡ true
 scan_among limits items blocks b begun all found leads = by (has_scan (segments_of items)) refl
   where
     f : Frame
@@ -246,9 +247,9 @@ scan_among limits items blocks b begun all found leads = by (has_scan (segments_
         let one : has_begun heads 0 ≡ true = (all f heads begun.scans).1 0 (omega (arith, some)) in
         absurd (clash (has_begun heads 0) one (ap (λ hs. has_begun hs 0) (no_heads f (segments_of items) e)))
 
-behind_left : (limits : Limits) (bytes : List ℕ) (w : FileWork) (rows : RowWork) (whole : Picture) (m : ℕ) (before : List Segment) (contents : List ℕ) → (r : RowsBehind limits bytes w rows whole) → IsFrame (frame_of limits before)
+after_left : (limits : Limits) (bytes : List ℕ) (w : FileWork) (rows : RowWork) (whole : Picture) (m : ℕ) (before : List Segment) (contents : List ℕ) → (r : RowsAfter limits bytes w rows whole) → IsFrame (frame_of limits before)
     → BeginsScanOfAll limits bytes before contents → m + unfinished rows ≡ rows_of_scan limits before contents → RowsLeft limits bytes before contents m rows whole
-behind_left limits bytes w rows whole m before contents r is begins count = record {
+after_left limits bytes w rows whole m before contents r is begins count = record {
   framed = picture.1 ∙ rows_held.framed;
   told = subst (λ (b : Blocks). TellsRows limits bytes m (blocks_in (row_places limits before contents m) b)) picture.2 rows_held.told;
   work = λ due. absurd (let z = r.done in omega (arith, due, z));
@@ -288,19 +289,19 @@ behind_left limits bytes w rows whole m before contents r is begins count = reco
         let e : (m + 1) * v ≡ m * v + v = grind arith in
         omega (arith, cover, all, e, low, down)
 
--- WHEREVER IT STANDS
+-- WHEREVER IT IS
 rows_left : (limits : Limits) (bytes : List ℕ) (w : FileWork) (rows : RowWork) (m : ℕ) (before : List Segment) (contents : List ℕ) → (g : GoesByRow limits bytes w rows) → IsFrame (frame_of limits before) → BeginsScanOfAll limits bytes before contents
     → m + unfinished rows ≡ rows_of_scan limits before contents → RowsLeft limits bytes before contents m rows (g.stands).whole
 rows_left limits bytes w rows m before contents g is begins count = by (g.stands).at
   where
-    by : RowsInside limits bytes w rows (g.stands).whole ⊎ RowsBehind limits bytes w rows (g.stands).whole → RowsLeft limits bytes before contents m rows (g.stands).whole
+    by : RowsInside limits bytes w rows (g.stands).whole ⊎ RowsAfter limits bytes w rows (g.stands).whole → RowsLeft limits bytes before contents m rows (g.stands).whole
     by (inl r) =
         let t = place_tells limits r.items r.contents bytes (g.stands).whole rows (scan_left r.scan.work) (inside_tells limits bytes w rows (g.stands).whole r) (r.at).at in
         let one = begun_once limits bytes before (segments_of r.items) contents r.contents begins t.begins in
         let same : rows_of_scan limits before contents ≡ rows_of_scan limits (segments_of r.items) r.contents = ap (λ (l : List Segment). rows_of_scan limits l contents) one.0 ∙ ap (λ (l : List ℕ). rows_of_scan limits (segments_of r.items) l) one.1 in
         let here = inside_left limits bytes w rows (g.stands).whole m r (g.stands).row (g.turned r.scan r.inside) t.begins (count ∙ same) in
         subst (λ (c : List ℕ). RowsLeft limits bytes before c m rows (g.stands).whole) (sym one.1) (subst (λ (l : List Segment). RowsLeft limits bytes l r.contents m rows (g.stands).whole) (sym one.0) here)
-    by (inr r) = behind_left limits bytes w rows (g.stands).whole m before contents r is begins count
+    by (inr r) = after_left limits bytes w rows (g.stands).whole m before contents r is begins count
 
 -- THE ANSWER
 pub rows_early : (bytes : List ℕ) (m : ℕ) (r : RowReaderState) (all : Bool) → AreLimits r.limits → HasReadRows bytes m r → IsComplete r.file.begun.progress all → all ≡ true → IsEarlyByRows bytes m (record r { done = true })

@@ -3,13 +3,13 @@ use Rattle.std.proofs.Common.{◌≡◌, ℕ, Bool, true, false, List, refl, sub
 use Rattle.jpg_spec.specs.FrameHeader.{AreLimits}
 use Rattle.jpg_spec.specs.declared.frame.Limits.{Limits}
 use Rattle.jpg_spec.proofs.Common.{clash}
-use Rattle.jpg_file.specs.Begun.{IsComplete}
-use Rattle.jpg_file.specs.File.{Stands, with_picture}
-use Rattle.jpg_file.specs.ReadFile.{TellsBegun}
-use Rattle.jpg_file.specs.ReadRows.{HasReadAll, IsEarlyByRows, IsEarlyPlainly, IsReadingRows, RowReaderState, whole_reader}
-use Rattle.jpg_file.specs.Strips.{StripStands}
-use Rattle.jpg_file.specs.declared.file.FileWork.{FileWork}
-use Rattle.jpg_file.specs.declared.rows.RowWork.{RowWork}
+use Rattle.jpg_file.specs.Read.ScanHistory.{IsComplete}
+use Rattle.jpg_file.specs.Read.File.{StandsForFile, with_picture}
+use Rattle.jpg_file.specs.Read.ReadFile.{TellsBegun}
+use Rattle.jpg_file.specs.Read.ReadRows.{HasReadAll, IsEarlyByRows, IsEarlyPlainly, IsReadingRows, RowReaderState, whole_reader}
+use Rattle.jpg_file.specs.Read.Strips.{StripStands}
+use Rattle.jpg_file.specs.declared.read.file.FileWork.{FileWork}
+use Rattle.jpg_file.specs.declared.read.rows.RowWork.{RowWork}
 use Rattle.jpg_file.proofs.Leaving.{early_leaves, ends_early, tells_begun}
 use Rattle.jpg_file.proofs.RowsEarly.{rows_early}
 use Rattle.jpg_file.proofs.StripPieces.{goes_with}
@@ -25,7 +25,7 @@ early_answered bytes m r all limited (inl (h, none)) told e = inl (record { none
 early_answered bytes m r all limited (inr h) told e = inr (rows_early bytes m r all limited h told e)
 
 -- what it keeps
-plain_stands : (limits : Limits) (bytes : List ℕ) (o : Option RowWork) (w : FileWork) → o ≡ None → StripStands limits bytes o w → Stands limits bytes w
+plain_stands : (limits : Limits) (bytes : List ℕ) (o : Option RowWork) (w : FileWork) → o ≡ None → StripStands limits bytes o w → StandsForFile limits bytes w
 plain_stands limits bytes o w none s = (let k = subst (λ (x : Option RowWork). StripStands limits bytes x w) none s in k)
 
 pub keeps_early_rows : (r : RowReaderState) (all : Bool) → r.done ≡ false → r.stop ≡ None → IsReadingRows r → IsComplete r.file.begun.progress all → all ≡ true → IsReadingRows (record r { done = true })

@@ -1,4 +1,4 @@
--- From the MCU rows that were given, and how many of the scan aren't whole yet, to those that the bytes complete.
+-- From the MCU rows that were passed, and how many of the scan aren't complete yet, to those that the bytes complete.
 use Rattle.std.proofs.Common.{◌≡◌, ℕ, ◌+◌, ◌==◌, Bool, cond, List, [], ◌∷◌, ◌++◌, sym, ap, ◌∙◌, subst, arith}
 use Rattle.std.proofs.lemmas.List.{append_assoc}
 use Rattle.jpg_spec.specs.Geometry.{mcu_row_frame}
@@ -12,21 +12,21 @@ use Rattle.jpg_spec.proofs.RowCounts.{head_names}
 use Rattle.jpg_spec.proofs.RowsHeader.{begun_once}
 use Rattle.jpg_spec.proofs.RowsLater.{head_there}
 use Rattle.jpg_coefs.specs.Picture.{Picture, map_of}
-use Rattle.jpg_file.specs.ReadRows.{AreOfRow}
-use Rattle.jpg_file.specs.RowsKnown.{rows_of_scan}
-use Rattle.jpg_file.specs.RowData.{AfterRest}
-use Rattle.jpg_file.specs.RowPlaces.{scan_left}
-use Rattle.jpg_file.specs.RowTurns.{unfinished}
-use Rattle.jpg_file.specs.Strips.{IsFirstScan, RowIsWhole, RowsInside, frame_behind}
-use Rattle.jpg_file.specs.declared.file.FileWork.{FileWork}
-use Rattle.jpg_file.specs.declared.rows.RowWork.{RowWork}
-use Rattle.jpg_file.specs.declared.scan.InScan.{InScan}
-use Rattle.jpg_file.specs.declared.scan.ScanStep.TheVariants as answer
+use Rattle.jpg_file.specs.Read.ReadRows.{AreOfRow}
+use Rattle.jpg_file.specs.Read.RowsKnown.{rows_of_scan}
+use Rattle.jpg_file.specs.Read.RowData.{AfterRowBytes}
+use Rattle.jpg_file.specs.Read.RowPlaces.{scan_left}
+use Rattle.jpg_file.specs.Read.RowTurns.{unfinished}
+use Rattle.jpg_file.specs.Read.Strips.{IsFirstScan, RowIsWhole, RowsInside, frame_behind}
+use Rattle.jpg_file.specs.declared.read.file.FileWork.{FileWork}
+use Rattle.jpg_file.specs.declared.read.rows.RowWork.{RowWork}
+use Rattle.jpg_file.specs.declared.read.scan.InScan.{InScan}
+use Rattle.jpg_file.specs.declared.read.scan.ScanStep.TheVariants as answer
 use Rattle.jpg_file.proofs.RowsGiven.{inside_completes, inside_tells, place_tells, row_blocks}
 use Rattle.jpg_file.proofs.StripRows.{half_due}
 use Rattle.jpg_file.proofs.StripTurns.{data_framed}
 
--- what begins stays begun
+-- what has begun remains begun
 pub begun_on : (limits : Limits) (bytes more : List ℕ) (before : List Segment) (contents : List ℕ) → BeginsScanOfAll limits bytes before contents → BeginsScanOfAll limits (bytes ++ more) before contents
 begun_on limits bytes more before contents b = record {
   front = b.front;
@@ -37,7 +37,7 @@ begun_on limits bytes more before contents b = record {
   of_all = b.of_all;
 }
 
--- NO FURTHER MCU ROW is whole
+-- NO FURTHER MCU ROW is complete
 pub rows_completed : (limits : Limits) (bytes : List ℕ) (before : List Segment) (contents : List ℕ) (w : FileWork) (rows : RowWork) (whole : Picture) (m : ℕ) → BeginsScanOfAll limits bytes before contents → RowsInside limits bytes w rows whole → rows.waiting ≡ []
     → m + unfinished rows ≡ rows_of_scan limits before contents → (blocks : Blocks) × CompletesRows limits bytes m blocks
 rows_completed limits bytes before contents w rows whole m begins r none count =
@@ -47,9 +47,9 @@ rows_completed limits bytes before contents w rows whole m begins r none count =
     let is : c.m ≡ m = omega (arith, c.count, count, same) in
     (c.blocks, subst (λ n. CompletesRows limits bytes n c.blocks) is c.completed)
 
--- A FURTHER ONE is whole
+-- A FURTHER ONE is complete
 
-pub rest_framed : (limits : Limits) (items : List Item) (contents bytes : List ℕ) (waiting : List Bool) (s : InScan) (whole : Picture) → AfterRest limits items contents bytes answer.More waiting s whole → IsFirstScan limits items → whole.frame ≡ frame_behind limits items
+pub rest_framed : (limits : Limits) (items : List Item) (contents bytes : List ℕ) (waiting : List Bool) (s : InScan) (whole : Picture) → AfterRowBytes limits items contents bytes answer.More waiting s whole → IsFirstScan limits items → whole.frame ≡ frame_behind limits items
 rest_framed limits items contents bytes [] s whole d first = data_framed limits items contents bytes s whole d first
 rest_framed limits items contents bytes (bit ∷ bits) s whole (more, h) first = (half_due limits items contents bytes (bit ∷ bits) s whole h first).framed
 

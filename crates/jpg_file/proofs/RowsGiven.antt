@@ -1,4 +1,4 @@
--- MCU rows that a file in work has told or completed (T.81, A.2.3).
+-- MCU rows of a file that is being read which are decoded or complete (T.81, A.2.3).
 use Rattle.std.proofs.Common.{◌≡◌, ℕ, ◌+◌, ◌*◌, ◌<◌, ◌≤◌, ◌==◌, ◌&&◌, Bool, true, false, cond, List, [], ◌∷◌, ◌++◌, length, refl, sym, ap, ◌∙◌, subst, arith}
 use Rattle.std.specs.Prelude.{nat_lt}
 use Rattle.std.proofs.Math.Nat.{le-div_iff_mul-le}
@@ -24,29 +24,30 @@ use Rattle.jpg_base.specs.Cursor.{scan_mcus_down}
 use Rattle.jpg_base.proofs.Grids.{down_low}
 use Rattle.jpg_coefs.specs.Picture.{Picture, is_padded, map_of}
 use Rattle.jpg_seq.specs.Rows.{IsRowOf, rows_in_mcu, top_of}
-use Rattle.jpg_file.specs.RowData.{AfterRest}
-use Rattle.jpg_file.specs.RowPlaces.{IsRowAt, scan_left}
-use Rattle.jpg_file.specs.RowTurns.{unfinished}
-use Rattle.jpg_file.specs.ReadRows.{AreOfRow}
-use Rattle.jpg_file.specs.Strips.{IsFirstScan, RowsInside, components_of, frame_behind}
-use Rattle.jpg_file.specs.declared.file.FileWork.{FileWork}
-use Rattle.jpg_file.specs.declared.rows.RowWork.{RowWork}
-use Rattle.jpg_file.specs.declared.scan.InScan.{InScan}
-use Rattle.jpg_file.specs.declared.scan.ScanStep.TheVariants as answer
+use Rattle.jpg_file.specs.Read.RowData.{AfterRowBytes}
+use Rattle.jpg_file.specs.Read.RowPlaces.{IsRowAt, scan_left}
+use Rattle.jpg_file.specs.Read.RowTurns.{unfinished}
+use Rattle.jpg_file.specs.Read.ReadRows.{AreOfRow}
+use Rattle.jpg_file.specs.Read.Strips.{IsFirstScan, RowsInside, components_of, frame_behind}
+use Rattle.jpg_file.specs.declared.read.file.FileWork.{FileWork}
+use Rattle.jpg_file.specs.declared.read.rows.RowWork.{RowWork}
+use Rattle.jpg_file.specs.declared.read.scan.InScan.{InScan}
+use Rattle.jpg_file.specs.declared.read.scan.ScanStep.TheVariants as answer
 use Rattle.jpg_file.proofs.RowsTold.{told_first}
 use Rattle.jpg_file.proofs.RowsPlaced.{CompletesDue, PlaceTells, begins_at, data_stops, data_tells, half_tells, rows_cut, scan_of_all, stops_complete}
 
--- INSIDE THE SCAN, where no bits wait: the MCU rows before the one in work are complete, and this one where no unit of it is left
+-- INSIDE THE SCAN, where no bits wait: the MCU rows before the current one are complete, and this one if no unit of it
+-- is left
 pub inside_completes : (limits : Limits) (bytes : List ℕ) (w : FileWork) (rows : RowWork) (whole : Picture) → (r : RowsInside limits bytes w rows whole) → rows.waiting ≡ [] → CompletesDue limits bytes r.items r.contents rows
 inside_completes limits bytes w rows whole r none =
-    let d = subst (λ (l : List Bool). AfterRest limits r.items r.contents bytes answer.More l r.scan whole) none r.coded in
+    let d = subst (λ (l : List Bool). AfterRowBytes limits r.items r.contents bytes answer.More l r.scan whole) none r.coded in
     let first = (r.held).of in
     let all = scan_of_all limits r.items r.contents rows (scan_left r.scan.work) first (r.at).at in
     stops_complete limits r.items r.contents bytes whole rows (scan_left r.scan.work) (data_stops limits r.items r.contents bytes r.scan whole d first all) (r.at).at
 
 -- WHERE BITS MAY WAIT
 
-rest_tells : (limits : Limits) (items : List Item) (contents bytes : List ℕ) (waiting : List Bool) (s : InScan) (whole : Picture) → AfterRest limits items contents bytes answer.More waiting s whole → IsFirstScan limits items
+rest_tells : (limits : Limits) (items : List Item) (contents bytes : List ℕ) (waiting : List Bool) (s : InScan) (whole : Picture) → AfterRowBytes limits items contents bytes answer.More waiting s whole → IsFirstScan limits items
     → IsScanOfAll limits (segments_of items) contents → PlaceTells limits items contents bytes whole (scan_left s.work)
 rest_tells limits items contents bytes [] s whole d first all = data_tells limits items contents bytes s whole d first all
 rest_tells limits items contents bytes (bit ∷ bits) s whole (more, h) first all = half_tells limits items contents bytes (bit ∷ bits) s whole h first all
@@ -56,7 +57,7 @@ inside_tells limits bytes w rows whole r =
     let first = (r.held).of in
     rest_tells limits r.items r.contents bytes rows.waiting r.scan whole r.coded first (scan_of_all limits r.items r.contents rows (scan_left r.scan.work) first (r.at).at)
 
--- the bytes up to the place alone
+-- only the bytes up to the place
 bytes_alone : (limits : Limits) (bytes : List ℕ) (p : ScanPlace) (tail : List ℕ) → (at : ScanAt limits bytes p tail) → ScanAt limits (at.front ++ at.head ++ at.text) p []
 bytes_alone limits bytes p tail at = record {
   front = at.front;
@@ -71,7 +72,7 @@ bytes_alone limits bytes p tail at = record {
   due = at.due;
 }
 
--- WHAT IS TOLD: so many MCU rows, of the blocks of this picture
+-- WHAT IS DECODED: this many MCU rows, of the blocks of this picture
 pub record TellsDue (limits : Limits) (bytes : List ℕ) (items : List Item) (contents : List ℕ) (rows : RowWork) (whole : Picture) : Type 0 where
   pub begins : BeginsScanOfAll limits bytes (segments_of items) contents
   pub m : ℕ
@@ -117,12 +118,12 @@ place_tells limits items contents bytes whole rows left t at =
           };
         }
 
--- AN MCU ROW that is whole
+-- AN MCU ROW that is complete
 
 pub real_in_row : (f : Frame) (i x y : ℕ) → i < length f.components → x < blocks_across f (component_at f i) → y < blocks_down f (component_at f i) → is_real f i x y ≡ true
 real_in_row f i x y there across down = ap (λ b. b && nat_lt y (blocks_down f (component_at f i))) (lt_yes x (blocks_across f (component_at f i)) across) ∙ lt_yes y (blocks_down f (component_at f i)) down
 
--- it lies in the row's padded grids
+-- it is in the row's padded grids
 one_up : (n d : ℕ) → 1 ≤ n → 1 ≤ d → 1 ≤ div_up n d
 one_up n d some low = (le-div_iff_mul-le low).1 (omega (arith, some, low))
 
@@ -149,7 +150,7 @@ padded_in f i x y is there across low =
     tall true some = omega arith
     tall false some = omega (arith, some)
 
--- the blocks of the row in work are those of the picture
+-- the blocks of the current row are those of the picture
 pub row_blocks : (limits : Limits) (items : List Item) (contents : List ℕ) (whole : Picture) (rows : RowWork) (left last : ℕ) → IsRowOf rows.tops whole rows.coefs → whole.frame ≡ frame_behind limits items
     → (at : IsRowAt (frame_behind limits items) (components_of limits items contents) rows left) → at.row ≡ last → ((i : ℕ) → i < length (frame_behind limits items).components → is_among i (components_of limits items contents) ≡ true)
     → AreOfRow (frame_behind limits items) last rows.coefs (blocks_in (row_places limits (segments_of items) contents (last + 1)) (map_of whole))

@@ -4,16 +4,16 @@ use Rattle.std.specs.Prelude.{Option, Result}
 use Rattle.jpg_spec.specs.declared.frame.Limits.{Limits}
 use Rattle.jpg_spec.proofs.Common.{clash}
 use Rattle.jpg_base.specs.declared.stop.Stop.{Stop}
-use Rattle.jpg_file.specs.File.{EndsFile}
-use Rattle.jpg_file.specs.ReadRows.{IsReadingRows, RowReaderState}
-use Rattle.jpg_file.specs.RowPieces.{AfterRowsPiece, KeepsWork, ReadsRows, RowsGive, RowsGo, RowsOpen}
-use Rattle.jpg_file.specs.Strips.{AfterStrip, StripGoes, StripStands}
-use Rattle.jpg_file.specs.declared.file.FileWork.{FileWork}
-use Rattle.jpg_file.specs.declared.row_reader.FedRow.{FedRow}
-use Rattle.jpg_file.specs.declared.row_reader.FedRow.TheVariants as fed
-use Rattle.jpg_file.specs.declared.rows.RowWork.{RowWork}
-use Rattle.jpg_file.specs.declared.strip_work.StripWork.{StripWork}
-use Rattle.jpg_file.specs.declared.strips.StripStep.TheVariants as step
+use Rattle.jpg_file.specs.Read.File.{EndsFile}
+use Rattle.jpg_file.specs.Read.ReadRows.{IsReadingRows, RowReaderState}
+use Rattle.jpg_file.specs.Read.RowPieces.{AfterRowsPiece, KeepsWork, ReadsRowPiece, RowsGive, RowsGo, RowsOpen}
+use Rattle.jpg_file.specs.Read.Strips.{AfterStrip, StripGoes, StripStands}
+use Rattle.jpg_file.specs.declared.read.file.FileWork.{FileWork}
+use Rattle.jpg_file.specs.declared.read.row_reader.FedRow.{FedRow}
+use Rattle.jpg_file.specs.declared.read.row_reader.FedRow.TheVariants as fed
+use Rattle.jpg_file.specs.declared.read.rows.RowWork.{RowWork}
+use Rattle.jpg_file.specs.declared.read.strip_work.StripWork.{StripWork}
+use Rattle.jpg_file.specs.declared.read.strips.StripStep.TheVariants as step
 use Rattle.jpg_file.proofs.Leaving.{whole_leaves}
 
 go_open : (limits : Limits) (bytes : List ℕ) (rows : Option RowWork) (w : FileWork) → RowsGo limits bytes rows w → RowsOpen limits bytes rows w
@@ -37,7 +37,7 @@ ends_plain limits bytes rows w none a = (let k = subst (λ (o : Option RowWork).
 abbrev pub with_work : RowReaderState → StripWork → RowReaderState
 with_work r work = record r { file = work.file; rows = work.rows; strip = work.strip }
 
-pub keeps_more_rows : (r : RowReaderState) (old new : StripWork) (piece : List ℕ) (result : Result FedRow Stop) → result ≡ Ok fed.More → r.done ≡ false → IsReadingRows (with_work r old) → KeepsWork old new → ReadsRows r.limits old piece result new → IsReadingRows (with_work r new)
+pub keeps_more_rows : (r : RowReaderState) (old new : StripWork) (piece : List ℕ) (result : Result FedRow Stop) → result ≡ Ok fed.More → r.done ≡ false → IsReadingRows (with_work r old) → KeepsWork old new → ReadsRowPiece r.limits old piece result new → IsReadingRows (with_work r new)
 keeps_more_rows r old new piece result e undone k kept reads = record {
   limited = k.limited;
   keeping = kept.keeping ∙ k.keeping;
@@ -49,7 +49,7 @@ keeps_more_rows r old new piece result e undone k kept reads = record {
   ended = λ done. absurd (clash r.done done undone);
 }
 
-pub keeps_given_rows : (r : RowReaderState) (old new : StripWork) (piece : List ℕ) (result : Result FedRow Stop) (used : ℕ) → result ≡ Ok (fed.Row used) → r.done ≡ false → IsReadingRows (with_work r old) → KeepsWork old new → ReadsRows r.limits old piece result new → IsReadingRows (with_work r new)
+pub keeps_given_rows : (r : RowReaderState) (old new : StripWork) (piece : List ℕ) (result : Result FedRow Stop) (used : ℕ) → result ≡ Ok (fed.Row used) → r.done ≡ false → IsReadingRows (with_work r old) → KeepsWork old new → ReadsRowPiece r.limits old piece result new → IsReadingRows (with_work r new)
 keeps_given_rows r old new piece result used e undone k kept reads = record {
   limited = k.limited;
   keeping = kept.keeping ∙ k.keeping;
@@ -61,7 +61,7 @@ keeps_given_rows r old new piece result used e undone k kept reads = record {
   ended = λ done. absurd (clash r.done done undone);
 }
 
-pub keeps_done_rows : (r : RowReaderState) (old new : StripWork) (piece : List ℕ) (result : Result FedRow Stop) (used : ℕ) → result ≡ Ok (fed.Done used) → r.done ≡ false → r.stop ≡ None → IsReadingRows (with_work r old) → KeepsWork old new → ReadsRows r.limits old piece result new
+pub keeps_done_rows : (r : RowReaderState) (old new : StripWork) (piece : List ℕ) (result : Result FedRow Stop) (used : ℕ) → result ≡ Ok (fed.Done used) → r.done ≡ false → r.stop ≡ None → IsReadingRows (with_work r old) → KeepsWork old new → ReadsRowPiece r.limits old piece result new
     → IsReadingRows (record (with_work r new) { done = true })
 keeps_done_rows r old new piece result used e undone going k kept reads =
     let o = k.open going undone in

@@ -1,9 +1,9 @@
--- No scan of all components begins in the bytes, where no MCU row is in work after them.
+-- No scan of all components begins in the bytes, if no MCU row is being read after them.
 use Rattle.std.proofs.Common.{◌≡◌, ◌⊎◌, ℕ, ◌+◌, ◌<◌, ◌≤◌, Bool, true, false, List, [], ◌∷◌, ◌++◌, length, take, drop, get_or, refl, sym, ap, ◌∙◌, subst, arith, inl, inr, Option, Some, None, Ok, Err}
 use Rattle.std.specs.Prelude.{Result, is_some, unwrap_or}
 use Rattle.std.proofs.lemmas.Bool.{cases_lt}
 use Rattle.std.proofs.lemmas.List.{append_assoc, append-nil, length-append, length-map, length-take-le, take_all, take-append-drop, take-append-le}
-use Rattle.jpg_spec.specs.FirstFault.{Shows}
+use Rattle.jpg_spec.specs.FirstFault.{Reveals}
 use Rattle.jpg_spec.specs.Geometry.{Frame, is_progressive}
 use Rattle.jpg_spec.specs.Header.{IsHeader}
 use Rattle.jpg_spec.specs.InForce.{frame_of, head_in, no_frame, no_head, told_or}
@@ -12,7 +12,7 @@ use Rattle.jpg_spec.specs.Markers.{Segment, code_fault, kept_rule}
 use Rattle.jpg_spec.specs.RowsTold.{BeginsScanOfAll, IsScanOfAll}
 use Rattle.jpg_spec.specs.Segments.{ScanHead, head_components}
 use Rattle.jpg_spec.specs.Faults.{Told}
-use Rattle.jpg_spec.specs.declared.answers.FaultAt.{FaultAt}
+use Rattle.jpg_spec.specs.declared.fault.FaultAt.{FaultAt}
 use Rattle.jpg_spec.specs.declared.fault.Fault.{Fault}
 use Rattle.jpg_spec.specs.declared.frame.Limits.{Limits}
 use Rattle.jpg_spec.specs.declared.frame.ScanPart.{ScanPart}
@@ -25,29 +25,29 @@ use Rattle.jpg_spec.proofs.OneHeader.{whole_once}
 use Rattle.jpg_base.specs.declared.stop.Stop.{Stop}
 use Rattle.jpg_base.specs.declared.stop.Stop.TheVariants as stop
 use Rattle.jpg_markers.specs.Reading.{reading_of}
-use Rattle.jpg_file.specs.File.{AfterFileByte, HeadStands, PassesFront, Stands, limits_of}
-use Rattle.jpg_file.specs.FirstHead.{HasNoHead, IsFirstHead, IsHeadOf}
-use Rattle.jpg_file.specs.Held.{told_by}
-use Rattle.jpg_file.specs.Items.{BehindSegment}
-use Rattle.jpg_file.specs.Judge.{JudgesHead}
-use Rattle.jpg_file.specs.RowsNone.{FindsNone, HasNoRows, NoRowsIn, NoneAfter}
-use Rattle.jpg_file.specs.Strips.{AfterBegin, contents_held, end_step}
-use Rattle.jpg_file.specs.declared.file.FileWork.{FileWork}
-use Rattle.jpg_file.specs.declared.head.Head.{Head}
-use Rattle.jpg_file.specs.declared.rows.RowWork.{RowWork}
-use Rattle.jpg_file.specs.declared.strips.StripStep.{StripStep}
-use Rattle.jpg_file.specs.declared.strips.StripStep.TheVariants as step
+use Rattle.jpg_file.specs.Read.File.{AfterFileByte, HeadStands, PassesFront, StandsForFile, limits_of}
+use Rattle.jpg_file.specs.Read.FirstHeader.{HasNoHead, IsFirstHeader, IsFirstHeaderOf}
+use Rattle.jpg_file.specs.Read.SegmentState.{told_by}
+use Rattle.jpg_file.specs.Read.Items.{AfterSegment}
+use Rattle.jpg_file.specs.Read.JudgedHeader.{JudgesHead}
+use Rattle.jpg_file.specs.Read.RowsNone.{FindsNone, HasNoRows, NoRowsIn, NoneAfter}
+use Rattle.jpg_file.specs.Read.Strips.{AfterScanBegins, contents_held, end_step}
+use Rattle.jpg_file.specs.declared.read.file.FileWork.{FileWork}
+use Rattle.jpg_file.specs.declared.read.first_header.Head.{Head}
+use Rattle.jpg_file.specs.declared.read.rows.RowWork.{RowWork}
+use Rattle.jpg_file.specs.declared.read.strips.StripStep.{StripStep}
+use Rattle.jpg_file.specs.declared.read.strips.StripStep.TheVariants as step
 use Rattle.jpg_file.proofs.FileSteps.{frame_held, head_is, head_left}
-use Rattle.jpg_file.proofs.FirstHeads.{heads_first}
+use Rattle.jpg_file.proofs.FirstHeaders.{heads_first}
 use Rattle.jpg_file.proofs.PieceSteps.{front_of, one_more}
 use Rattle.jpg_file.proofs.StripBegin.{first_of}
 
--- BYTES WITHOUT SUCH A SCAN: those without a whole header
+-- BYTES WITHOUT SUCH A SCAN: those without a complete header
 pub no_rows : (limits : Limits) (bytes : List ℕ) → HasNoHead limits bytes → HasNoRows limits bytes
 no_rows limits bytes none before contents b =
     none before contents (length b.front) (subst (λ l. IsHeader limits l before contents) (sym (front_of b.front b.rest bytes (length b.front) refl b.cut)) b.header)
 
--- a scan that begins in a front of the bytes
+-- a scan that begins in a prefix of the bytes
 begun_less : (limits : Limits) (bytes more : List ℕ) (before : List Segment) (contents : List ℕ) → (b : BeginsScanOfAll limits (bytes ++ more) before contents) → length b.front ≤ length bytes → BeginsScanOfAll limits bytes before contents
 begun_less limits bytes more before contents b few =
     let n = length b.front in
@@ -62,7 +62,7 @@ begun_less limits bytes more before contents b few =
     }
 
 -- After the first scan header none begins.
-none_more : (limits : Limits) (bytes more : List ℕ) (h : Head) → IsFirstHead limits bytes h → HasNoRows limits bytes → HasNoRows limits (bytes ++ more)
+none_more : (limits : Limits) (bytes more : List ℕ) (h : Head) → IsFirstHeader limits bytes h → HasNoRows limits bytes → HasNoRows limits (bytes ++ more)
 none_more limits bytes more h k none before contents b =
     let cut : take h.at bytes ++ (drop h.at bytes ++ more) ≡ b.front ++ b.rest = sym (append_assoc (take h.at bytes) (drop h.at bytes) more) ∙ ap (λ l. l ++ more) (take-append-drop h.at bytes) ∙ b.cut in
     let one = whole_once limits (take h.at bytes) b.front (drop h.at bytes ++ more) b.rest k.before before k.contents contents k.header b.header cut in
@@ -71,19 +71,19 @@ none_more limits bytes more h k none before contents b =
     let long = ap (λ l. length l) one.0 in
     none before contents (begun_less limits bytes more before contents b (omega (arith, within, size, long)))
 
-seen_head : (limits : Limits) (bytes : List ℕ) (o : Option Head) → is_some o ≡ true → IsHeadOf limits bytes o → (h : Head) × IsFirstHead limits bytes h
+seen_head : (limits : Limits) (bytes : List ℕ) (o : Option Head) → is_some o ≡ true → IsFirstHeaderOf limits bytes o → (h : Head) × IsFirstHeader limits bytes h
 seen_head limits bytes None some k = absurd cc
 seen_head limits bytes (Some h) some k = (h, k)
 
-pub none_seen : (limits : Limits) (bytes more : List ℕ) (w : FileWork) → Stands limits bytes w → is_some w.head ≡ true → HasNoRows limits bytes → HasNoRows limits (bytes ++ more)
+pub none_seen : (limits : Limits) (bytes more : List ℕ) (w : FileWork) → StandsForFile limits bytes w → is_some w.head ≡ true → HasNoRows limits bytes → HasNoRows limits (bytes ++ more)
 none_seen limits bytes more w s some none = (let k = seen_head limits bytes w.head some (head_is limits bytes w s) in none_more limits bytes more k.0 k.1 none)
 
 -- before it none did
-pub none_before : (limits : Limits) (bytes : List ℕ) (w : FileWork) → Stands limits bytes w → w.head ≡ None → HasNoRows limits bytes
-none_before limits bytes w s none = no_rows limits bytes (let k = subst (λ (o : Option Head). IsHeadOf limits bytes o) none (head_is limits bytes w s) in k)
+pub none_before : (limits : Limits) (bytes : List ℕ) (w : FileWork) → StandsForFile limits bytes w → w.head ≡ None → HasNoRows limits bytes
+none_before limits bytes w s none = no_rows limits bytes (let k = subst (λ (o : Option Head). IsFirstHeaderOf limits bytes o) none (head_is limits bytes w s) in k)
 
--- A byte that shows a fault begins none.
-none_at_fault : (limits : Limits) (front : List ℕ) (byte : ℕ) (fault : Fault) → Shows limits fault (front ++ byte ∷ []) → HasNoRows limits front → HasNoRows limits (front ++ byte ∷ [])
+-- A byte that reveals a fault begins none.
+none_at_fault : (limits : Limits) (front : List ℕ) (byte : ℕ) (fault : Fault) → Reveals limits fault (front ++ byte ∷ []) → HasNoRows limits front → HasNoRows limits (front ++ byte ∷ [])
 none_at_fault limits front byte fault shown none before contents b = by (cases_lt (length front) (length b.front))
   where
     all : List ℕ
@@ -98,7 +98,7 @@ none_at_fault limits front byte fault shown none before contents b = by (cases_l
 
 -- THE FIRST SCAN HEADER
 
--- the frame is held
+-- the frame is kept
 pub none_unheld : (limits : Limits) (bytes : List ℕ) (w : FileWork) → HeadStands limits bytes w → w.reading.items.held.frame ≡ None → ⊥
 none_unheld limits bytes w h none =
     let allowed = subst (λ n. code_fault (segments_of h.items) n ≡ None) h.code (h.at).allowed in
@@ -136,7 +136,7 @@ none_found limits front byte w h first finds none = by (contents_rule limits bef
     before : List Segment
     before = segments_of h.items
 
-    at : BehindSegment limits (front ++ byte ∷ []) h.items h.blocks w.reading.items
+    at : AfterSegment limits (front ++ byte ∷ []) h.items h.blocks w.reading.items
     at = h.at
 
     by : (o : Option Fault) → contents_rule limits (segments_of h.items) 0xda (contents_held w) ≡ o → HasNoRows limits (front ++ byte ∷ [])
@@ -149,7 +149,7 @@ none_found limits front byte w h first finds none = by (contents_rule limits bef
         let one = whole_once limits all b.front [] b.rest (segments_of h.items) others (contents_held w) contents k.header b.header (append-nil all ∙ b.cut) in
         finds limits all h e (subst (λ (c : List ℕ). IsScanOfAll limits (segments_of h.items) c) (sym one.2) (subst (λ (l : List Segment). IsScanOfAll limits l contents) (sym one.1) b.of_all)))
 
--- WHAT BYTES COME TO
+-- THE RESULT OF BYTES
 
 pub none_in : (limits : Limits) (bytes : List ℕ) (rows : Option RowWork) → HasNoRows limits bytes → NoRowsIn limits bytes rows
 none_in limits bytes None none = none
@@ -163,15 +163,15 @@ none_after limits bytes (step.Ended (stop.Fault f)) rows none = none_in limits b
 none_after limits bytes (step.Ended stop.NoMemory) rows none = tt
 
 -- a scan that doesn't begin
-pub none_begun : (limits : Limits) (front : List ℕ) (byte : ℕ) (w : FileWork) (e : Stop) (rows : Option RowWork) → AfterBegin limits (front ++ byte ∷ []) (Err e) w → HasNoRows limits front → NoneAfter limits (front ++ byte ∷ []) (step.Ended e) rows
+pub none_begun : (limits : Limits) (front : List ℕ) (byte : ℕ) (w : FileWork) (e : Stop) (rows : Option RowWork) → AfterScanBegins limits (front ++ byte ∷ []) (Err e) w → HasNoRows limits front → NoneAfter limits (front ++ byte ∷ []) (step.Ended e) rows
 none_begun limits front byte w (stop.Fault f) rows a none = none_in limits (front ++ byte ∷ []) rows (none_at_fault limits front byte f.fault a.1 none)
 none_begun limits front byte w stop.NoMemory rows a none = tt
 
 -- a fault
-pub none_fault : (limits : Limits) (front : List ℕ) (byte : ℕ) (f : FaultAt) (rows : Option RowWork) → Shows limits f.fault (front ++ byte ∷ []) → HasNoRows limits front → NoneAfter limits (front ++ byte ∷ []) (step.Ended (stop.Fault f)) rows
+pub none_fault : (limits : Limits) (front : List ℕ) (byte : ℕ) (f : FaultAt) (rows : Option RowWork) → Reveals limits f.fault (front ++ byte ∷ []) → HasNoRows limits front → NoneAfter limits (front ++ byte ∷ []) (step.Ended (stop.Fault f)) rows
 none_fault limits front byte f rows shown none = none_in limits (front ++ byte ∷ []) rows (none_at_fault limits front byte f.fault shown none)
 
--- before the first scan header, as of a file that is read whole
+-- before the first scan header, as of a file that is read in one go
 pub none_plain : (asks : Type 0) (limits : Limits) (front : List ℕ) (byte : ℕ) (w : FileWork) (answer : Result Bool Stop) (result : StripStep) (rows : Option RowWork) → result ≡ end_step answer → w.head ≡ None
     → AfterFileByte asks limits (front ++ byte ∷ []) answer w → HasNoRows limits front → NoneAfter limits (front ++ byte ∷ []) result rows
 none_plain asks limits front byte w answer result rows is first a none = subst (λ (s : StripStep). NoneAfter limits (front ++ byte ∷ []) s rows) (sym is) (by answer a)
@@ -181,16 +181,16 @@ none_plain asks limits front byte w answer result rows is first a none = subst (
 
     by : (answer : Result Bool Stop) → AfterFileByte asks limits (front ++ byte ∷ []) answer w → NoneAfter limits (front ++ byte ∷ []) (end_step answer) rows
     by (Ok false) a = none_in limits all rows (none_before limits all w a first)
-    by (Ok true) a = none_in limits all rows (no_rows limits all (let k = subst (λ (o : Option Head). IsHeadOf limits (front ++ byte ∷ []) o) first (head_left limits all w a) in k))
+    by (Ok true) a = none_in limits all rows (no_rows limits all (let k = subst (λ (o : Option Head). IsFirstHeaderOf limits (front ++ byte ∷ []) o) first (head_left limits all w a) in k))
     by (Err (stop.Fault f)) a = none_fault limits front byte f rows a.1 none
     by (Err stop.NoMemory) a = tt
 
 -- contents of a segment, and a byte
-pub none_first : (w mid : FileWork) (run : List ℕ) (n : ℕ) (answer : StripStep) (rows : Option RowWork) → PassesFront w run n mid → ((bytes : List ℕ) → Stands (limits_of mid) bytes mid → NoneAfter (limits_of mid) (bytes ++ get_or run n 0 ∷ []) answer rows)
-    → (bytes : List ℕ) → Stands (limits_of w) bytes w → NoneAfter (limits_of w) (bytes ++ take (n + 1) run) answer rows
+pub none_first : (w mid : FileWork) (run : List ℕ) (n : ℕ) (answer : StripStep) (rows : Option RowWork) → PassesFront w run n mid → ((bytes : List ℕ) → StandsForFile (limits_of mid) bytes mid → NoneAfter (limits_of mid) (bytes ++ get_or run n 0 ∷ []) answer rows)
+    → (bytes : List ℕ) → StandsForFile (limits_of w) bytes w → NoneAfter (limits_of w) (bytes ++ take (n + 1) run) answer rows
 none_first w mid run n answer rows p none bytes k =
     let limits = limits_of w in
     let front = bytes ++ take n run in
     let before = p.stands limits bytes k in
     subst (λ (l : List ℕ). NoneAfter limits l answer rows) (sym (one_more bytes run n p.within))
-    (subst (λ (l : Limits). NoneAfter l (front ++ get_or run n 0 ∷ []) answer rows) p.limits (none front (subst (λ (l : Limits). Stands l front mid) (sym p.limits) before)))
+    (subst (λ (l : Limits). NoneAfter l (front ++ get_or run n 0 ∷ []) answer rows) p.limits (none front (subst (λ (l : Limits). StandsForFile l front mid) (sym p.limits) before)))

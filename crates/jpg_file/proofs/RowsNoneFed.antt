@@ -1,4 +1,5 @@
--- A piece of a file that is read MCU row by MCU row: no scan of all components begins in it, where no MCU row is in work after it.
+-- A piece of a file that is read MCU row by MCU row: no scan of all components begins in it, if no MCU row is being
+-- read after it.
 use Rattle.std.proofs.Common.{◌≡◌, ℕ, ◌+◌, ◌-◌, ◌≤◌, false, List, ◌++◌, length, take, drop, refl, sym, ap, ◌∙◌, subst, arith, Some, None, Ok, Err}
 use Rattle.std.specs.Prelude.{Option, is_some}
 use Rattle.std.proofs.Math.Seq.{take-add}
@@ -7,19 +8,19 @@ use Rattle.jpg_spec.specs.declared.fault.Fault.TheVariants.{InputTooLong}
 use Rattle.jpg_spec.specs.declared.frame.Limits.{Limits}
 use Rattle.jpg_base.specs.declared.stop.Stop.{Stop}
 use Rattle.jpg_base.specs.declared.stop.Stop.TheVariants as stop
-use Rattle.jpg_file.specs.File.{Stands, limits_of}
-use Rattle.jpg_file.specs.RowPieces.{RowsGo}
-use Rattle.jpg_file.specs.RowsNone.{HasNoRows, NoRowsIn, NoneAfter, NoneFed, NoneSome}
-use Rattle.jpg_file.specs.Strips.{CountsStrip, StripGoes, TakesStrip}
-use Rattle.jpg_file.specs.declared.row_reader.FedRow.TheVariants as fed
-use Rattle.jpg_file.specs.declared.rows.RowWork.{RowWork}
-use Rattle.jpg_file.specs.declared.strip_work.StripWork.{StripWork}
-use Rattle.jpg_file.specs.declared.strips.StripStep.{StripStep}
-use Rattle.jpg_file.specs.declared.strips.StripStep.TheVariants as step
+use Rattle.jpg_file.specs.Read.File.{StandsForFile, limits_of}
+use Rattle.jpg_file.specs.Read.RowPieces.{RowsGo}
+use Rattle.jpg_file.specs.Read.RowsNone.{HasNoRows, NoRowsIn, NoneAfter, NoneFed, NoneSome}
+use Rattle.jpg_file.specs.Read.Strips.{CountsStrip, StripGoes, TakesStrip}
+use Rattle.jpg_file.specs.declared.read.row_reader.FedRow.TheVariants as fed
+use Rattle.jpg_file.specs.declared.read.rows.RowWork.{RowWork}
+use Rattle.jpg_file.specs.declared.read.strip_work.StripWork.{StripWork}
+use Rattle.jpg_file.specs.declared.read.strips.StripStep.{StripStep}
+use Rattle.jpg_file.specs.declared.read.strips.StripStep.TheVariants as step
 use Rattle.jpg_file.proofs.PieceSteps.{counted, front_of, joined, within}
 use Rattle.jpg_file.proofs.RowPieces.{came_at, last_row, stop_shown, strip_limits, strip_whole}
 
--- where an MCU row is in work nothing is said
+-- if an MCU row is being read, nothing is claimed
 some_after : (limits : Limits) (bytes : List ℕ) (answer : StripStep) (rows : RowWork) → NoneAfter limits bytes answer (Some rows)
 some_after limits bytes step.More rows = tt
 some_after limits bytes step.Row rows = tt
@@ -27,7 +28,7 @@ some_after limits bytes step.Whole rows = tt
 some_after limits bytes (step.Ended (stop.Fault f)) rows = tt
 some_after limits bytes (step.Ended stop.NoMemory) rows = tt
 
--- some bytes more
+-- some more bytes
 none_some : (limits : Limits) (bytes run : List ℕ) (n : ℕ) (answer : StripStep) (work new : StripWork) → RowsGo limits bytes work.rows work.file → NoRowsIn limits bytes work.rows → (work.rows ≡ None → NoneSome work run n answer new) → CountsStrip answer work.rows new.rows
     → NoneAfter limits (bytes ++ take n run) answer new.rows
 none_some limits bytes run n answer work new go none after counts = by work.rows refl none go.goes counts
@@ -40,7 +41,7 @@ none_some limits bytes run n answer work new go none after counts = by work.rows
     by None is k s c =
         let at : limits_of work.file ≡ limits = strip_limits limits bytes None work.file s in
         subst (λ (l : Limits). NoneAfter l (bytes ++ take n run) answer new.rows) at
-        (after is bytes (subst (λ (l : Limits). Stands l bytes work.file) (sym at) s) (subst (λ (l : Limits). HasNoRows l bytes) (sym at) k))
+        (after is bytes (subst (λ (l : Limits). StandsForFile l bytes work.file) (sym at) s) (subst (λ (l : Limits). HasNoRows l bytes) (sym at) k))
     by (Some rows) is k s c = later rows new.rows c
 
 -- of the rest of a piece
@@ -78,7 +79,7 @@ none_long limits bytes piece done work many go none =
     let is : take limits.input (bytes ++ piece) ≡ front = front_of front (drop done piece) (bytes ++ piece) limits.input (omega (arith, many, at, most, taken)) (joined bytes piece done) in
     subst (λ (l : List ℕ). NoRowsIn limits l work.rows) (sym is) none
 
--- more is wanted
+-- more is needed
 pub none_wanted : (limits : Limits) (bytes piece : List ℕ) (done : ℕ) (rows : Option RowWork) → length piece ≤ done → NoRowsIn limits (bytes ++ take done piece) rows → NoneFed limits bytes piece (Ok fed.More) rows
 none_wanted limits bytes piece done rows end none = subst (λ (l : List ℕ). NoRowsIn limits (bytes ++ l) rows) (take_all done piece end) none
 
@@ -86,6 +87,6 @@ none_wanted limits bytes piece done rows end none = subst (λ (l : List ℕ). No
 pub never_ended : (a : Option RowWork) (answer : StripStep) (e : Stop) → answer ≡ step.Ended e → (is_some a ≡ false → answer ≡ step.More) → a ≡ None → ⊥
 never_ended a answer e is plain none = (let x : step.Ended e ≡ step.More = sym is ∙ plain (ap is_some none) in cc)
 
--- WHERE NONE ARE in work after a piece
+-- IF NONE IS BEING READ after a piece
 pub no_rows_in : (limits : Limits) (bytes : List ℕ) (rows : Option RowWork) → NoRowsIn limits bytes rows → rows ≡ None → HasNoRows limits bytes
 no_rows_in limits bytes rows k none = (let x = subst (λ (o : Option RowWork). NoRowsIn limits bytes o) none k in x)

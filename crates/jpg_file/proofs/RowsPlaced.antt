@@ -1,4 +1,4 @@
--- What the bytes tell where a file in work stands inside the data of a scan of all components, and how many MCU rows they complete.
+-- What the bytes encode up to a place inside the data of a scan of all components, and how many MCU rows they complete.
 use Rattle.std.proofs.Common.{◌≡◌, ℕ, zero, suc, ◌+◌, ◌-◌, ◌*◌, ◌<◌, ◌≤◌, ◌==◌, Bool, true, false, cond, List, [], ◌∷◌, ◌++◌, length, take, drop, refl, sym, ap, ◌∙◌, subst, arith, inl, inr, ℤ}
 use Rattle.std.specs.Prelude.{flat_map, map, replicate}
 use Rattle.std.proofs.Math.Nat.{add-mul}
@@ -21,7 +21,7 @@ use Rattle.jpg_spec.specs.RowsTold.{BeginsScanOfAll, CompletesRows, IsScanOfAll}
 use Rattle.jpg_spec.specs.RowLaws.{HasNoMoreData, StopsInRows, TellsNoMore}
 use Rattle.jpg_spec.specs.declared.frame.Limits.{Limits}
 use Rattle.jpg_spec.specs.declared.frame.Place.{Place}
-use Rattle.jpg_spec.proofs.Bands.{covers_then}
+use Rattle.jpg_spec.proofs.Values.{covers_then}
 use Rattle.jpg_spec.proofs.DataFacts.{bits_join, completes_holds}
 use Rattle.jpg_spec.proofs.PictureInWork.{so_far_units}
 use Rattle.jpg_spec.proofs.PlacesDistinct.{units_distinct}
@@ -42,22 +42,22 @@ use Rattle.jpg_seq.specs.Stands.{standing_at, unit_in_work}
 use Rattle.jpg_seq.specs.declared.reader.SeqReader.{SeqReader}
 use Rattle.jpg_seq.proofs.Parts.{work_part}
 use Rattle.jpg_seq.proofs.ScanRows.{length_row, units_by_row}
-use Rattle.jpg_file.specs.InData.{AtWork, InData, IsInterval, IsReadable, frame_at}
-use Rattle.jpg_file.specs.Machine.{any_scan}
-use Rattle.jpg_file.specs.RowData.{HalfData}
-use Rattle.jpg_file.specs.RowPlaces.{IsRowAt, scan_left}
-use Rattle.jpg_file.specs.RowTurns.{unfinished}
-use Rattle.jpg_file.specs.Strips.{IsFirstScan, components_of, frame_behind}
-use Rattle.jpg_file.specs.declared.machine.ScanReader.{ScanReader}
-use Rattle.jpg_file.specs.declared.machine.ScanReader.TheVariants.{Sequential}
-use Rattle.jpg_file.specs.declared.rows.RowWork.{RowWork}
-use Rattle.jpg_file.specs.declared.scan.InScan.{InScan}
-use Rattle.jpg_file.specs.declared.scan.ScanWork.{ScanWork}
+use Rattle.jpg_file.specs.Read.InData.{AtWork, InData, IsInterval, IsReadable, frame_at}
+use Rattle.jpg_file.specs.Read.Machine.{any_scan}
+use Rattle.jpg_file.specs.Read.RowData.{HalfData}
+use Rattle.jpg_file.specs.Read.RowPlaces.{IsRowAt, scan_left}
+use Rattle.jpg_file.specs.Read.RowTurns.{unfinished}
+use Rattle.jpg_file.specs.Read.Strips.{IsFirstScan, components_of, frame_behind}
+use Rattle.jpg_file.specs.declared.read.machine.ScanReader.{ScanReader}
+use Rattle.jpg_file.specs.declared.read.machine.ScanReader.TheVariants.{Sequential}
+use Rattle.jpg_file.specs.declared.read.rows.RowWork.{RowWork}
+use Rattle.jpg_file.specs.declared.read.scan.InScan.{InScan}
+use Rattle.jpg_file.specs.declared.read.scan.ScanWork.{ScanWork}
 use Rattle.jpg_file.proofs.RowsTold.{TellsAt, front_within, told_first, units_at, whole_at}
 use Rattle.jpg_file.proofs.ScanBytes.{due_at, read_at}
 use Rattle.jpg_file.proofs.StripRows.{data_due, due_by, half_due}
 
--- THE PLACE, and what is told there; so many units are left
+-- THE PLACE, and what is decoded there; `left` units are left
 pub record PlaceTells (limits : Limits) (items : List Item) (contents bytes : List ℕ) (whole : Picture) (left : ℕ) : Type 0 where
   pub place : ScanPlace
   pub of : (place.items ≡ items) × (place.contents ≡ contents)
@@ -132,7 +132,7 @@ half_tells limits items contents bytes waiting s whole h first all =
     let left = left_due s.work m.machine m.is whole_is in
     record { place = q; of = h.of; tail = []; at = h.at; of_all = here; told = u.at; left_is = omega (arith, u.left_is, left, due, (h.work).due) }
 
--- NO MORE UNITS of the interval in work are told
+-- NO MORE UNITS of the current interval are decoded
 
 pub parts_stand : (m : SeqReader) (i : Interval) (bits : List Bool) (now : Picture) → (o : SeqStands m i bits now)
     → StandsInUnits i.scan.coding (units_of i) (o.whole ++ m.unit.values) (unit_in_work o.next.component m.unit.values ∷ new_units_at o.more) bits × (length m.unit.values < 64)
@@ -161,7 +161,7 @@ parts_stand m i bits now o =
       work.left,
     )
 
--- the values of whole blocks
+-- the values of complete blocks
 wide : (s : Scan) (block : List ℤ) → s.ss ≡ 0 → s.se ≡ 63 → length block ≡ 64 → length (band s block) ≡ 64
 wide s block ss se long =
     let is : band s block ≡ block = ap (λ n. take (s.se + 1 - n) (drop n block)) ss ∙ ap (λ n. take (n + 1 - 0) (drop 0 block)) se ∙ take_all (63 + 1 - 0) block (omega (arith, long)) in
@@ -173,7 +173,7 @@ bands_long s told (p ∷ places) ss se sizes =
     let here = wide s (block_at told p) ss se (sizes p.component p.x p.y) in
     omega (arith, length-append (band s (block_at told p)) (flat_map (λ p. band s (block_at told p)) places), here, bands_long s told places ss se sizes)
 
--- what stands in the next unit tells less than the unit
+-- what is after the complete units encodes less than the next unit
 no_more_units : (limits : Limits) (p : ScanPlace) (i : Interval) (m : SeqReader) (now : Picture) (count : ℕ) → IsReadable limits p → IsInterval limits p i → ScanSoFar (scan_at limits p) p.blocks (map_of i.before) p.done (p.places ∷ p.later)
     → SeqStands m i (bits_of_bytes p.coded) now → length p.places ≡ count + m.left → TellsNoMore (scan_at limits p) p.blocks p.places p.coded count
 no_more_units limits p i m now count readable is so_far o sum = inl (o.whole ++ m.unit.values, left, stands, few)
@@ -245,7 +245,7 @@ pub data_stops : (limits : Limits) (items : List Item) (contents bytes : List �
 data_stops limits items contents bytes s whole d first all =
     place_stops limits items contents bytes (replicate d.fill 255) d.place s.work whole d.of d.at d.work (inl (d.fill, refl)) first all
 
--- MCU ROWS of the places that are told
+-- MCU ROWS of the places that are decoded
 pub record RowCut (f : Frame) (ids : List ℕ) (rows : RowWork) (places : List Place) : Type 0 where
   pub m : ℕ
   pub count : m + unfinished rows ≡ scan_mcus_down f ids

@@ -1,4 +1,4 @@
--- The coefficients of the MCU row in work lie in the bounds of the file's precision (T.81, F.1.2).
+-- The coefficients of the current MCU row are in the bounds of the file's precision (T.81, F.1.2).
 use Rattle.std.proofs.Common.{◌≡◌, ℕ, zero, suc, ◌+◌, Bool, true, false, cond, ◌==◌, ◌&&◌, List, [], ◌∷◌, ◌++◌, length, get_or, refl, sym, ap, ◌∙◌, subst, arith, ℤ, pos}
 use Rattle.std.specs.Prelude.{◌||◌, flat_map, int_le, map, nat_abs, replicate}
 use Rattle.std.proofs.lemmas.Bool.Decides.{nat_tests}
@@ -28,14 +28,14 @@ use Rattle.jpg_coefs.proofs.Chains.{chain_stands}
 use Rattle.jpg_seq.specs.Reader.{SeqStands, new_units_at}
 use Rattle.jpg_seq.specs.Rows.{IsRowOf, top_of}
 use Rattle.jpg_seq.specs.declared.reader.SeqReader.{SeqReader}
-use Rattle.jpg_file.specs.InData.{InData, frame_at}
-use Rattle.jpg_file.specs.Machine.{any_scan}
-use Rattle.jpg_file.specs.RowData.{AfterRest, HalfData}
-use Rattle.jpg_file.specs.Strips.{IsFirstScan, RowIsWhole, RowsInside, frame_behind}
-use Rattle.jpg_file.specs.declared.file.FileWork.{FileWork}
-use Rattle.jpg_file.specs.declared.rows.RowWork.{RowWork}
-use Rattle.jpg_file.specs.declared.scan.InScan.{InScan}
-use Rattle.jpg_file.specs.declared.scan.ScanStep.TheVariants as answer
+use Rattle.jpg_file.specs.Read.InData.{InData, frame_at}
+use Rattle.jpg_file.specs.Read.Machine.{any_scan}
+use Rattle.jpg_file.specs.Read.RowData.{AfterRowBytes, HalfData}
+use Rattle.jpg_file.specs.Read.Strips.{IsFirstScan, RowIsWhole, RowsInside, frame_behind}
+use Rattle.jpg_file.specs.declared.read.file.FileWork.{FileWork}
+use Rattle.jpg_file.specs.declared.read.rows.RowWork.{RowWork}
+use Rattle.jpg_file.specs.declared.read.scan.InScan.{InScan}
+use Rattle.jpg_file.specs.declared.read.scan.ScanStep.TheVariants as answer
 use Rattle.jpg_file.proofs.RowsPlaced.{machine_stands}
 use Rattle.jpg_file.proofs.ScanBytes.{due_at, read_at}
 use Rattle.jpg_file.proofs.StripRows.{data_due, half_due}
@@ -56,7 +56,7 @@ zeros_within c (u ∷ units) e =
     let ok : are_in_bounds c.bounds u.has_dc (replicate n (pos 0)) ≡ true = ap (λ b. are_in_bounds b u.has_dc (replicate n (pos 0))) e ∙ zeros_bounded u.has_dc n in
     (replicate n (pos 0) ++ r.0, (replicate n (pos 0), r.0, refl, length-replicate n (pos 0), ok, r.1))
 
--- WHAT ELEMENTS TELL of first units lies in the bounds, where an end of a band ends one
+-- WHAT ELEMENTS ENCODE of first units is in the bounds, where an end of a band ends one
 
 covers_within : (c : Coding) (s t : Standing) (es : List Element) (told more : List ℤ) (bits : List Bool) → c.most_run ≡ 0 → Covers c s es told bits t → AreWithin c t.left more → AreWithin c s.left (told ++ more)
 covers_within c s t [] told more bits run k w = subst (λ l. AreWithin c s.left (l ++ more)) (sym k.0) (subst (λ (q : Standing). AreWithin c q.left more) k.2 w)
@@ -89,7 +89,7 @@ places_join : (s : Scan) (after : Blocks) (a b : List Place) → PlacesWithin s 
 places_join s after [] b w v = v
 places_join s after (p ∷ a) b w v = (w.0, places_join s after a b w.1 v)
 
--- of whole intervals
+-- of complete intervals
 intervals_told : (s : Scan) (before after : Blocks) (all : List (List Place)) (intervals : List (List ℕ)) → s.coding.most_run ≡ 0 → s.coding.bounds ≡ bounds_of 8 → ((i x y : ℕ) → length (before i x y) ≡ length (after i x y))
     → SpellsIntervals s before after all intervals → PlacesWithin s after (joined all)
 intervals_told s before after [] [] run range sizes k = tt
@@ -141,7 +141,7 @@ at_place s after (p ∷ places) i x y w h = by (is_at i x y p) refl h (at_place 
         (subst (λ n. are_in_bounds s.coding.bounds (s.ss == 0) (band s (after n p.x p.y)) ≡ true) (same_of p.component i v.0) w.0))
     by false e g later = later g
 
--- a scan of whole blocks
+-- a scan of complete blocks
 record IsWholeScan (s : Scan) : Type 0 where
   ss : s.ss ≡ 0
   se : s.se ≡ 63
@@ -158,7 +158,7 @@ place_in_range s after places i x y k w long in_places there =
     let b = subst (λ t. are_in_bounds s.coding.bounds t (after i x y) ≡ true) first a in
     block_in_range (after i x y) k (subst (λ r. are_in_bounds r true (after i x y) ≡ true) w.range b)
 
--- WHERE SOME BLOCKS CHANGE, and these are in the bounds, all are
+-- IF SOME BLOCKS CHANGE, and these are in the bounds, all are
 changes_in_range : (s : Scan) (places : List Place) (old new : Blocks) → IsWholeScan s → OnlyChanges s places old new → PlacesWithin s new places → AreInRange (bounds_of 8) old → AreInRange (bounds_of 8) new
 changes_in_range s places old new w c in_places before = record {
   sizes = c.sizes;
@@ -169,7 +169,7 @@ changes_in_range s places old new w c in_places before = record {
     by i x y k false e = subst (λ l. is_coefficient (bounds_of 8) k (get_or l k (pos 0)) ≡ true) (sym (c.elsewhere i x y e)) (before.values i x y k)
     by i x y k true e = place_in_range s new places i x y k w (c.sizes i x y) in_places e
 
--- THE PICTURE IN WORK
+-- THE CURRENT PICTURE
 
 whole_scan : (limits : Limits) (p : ScanPlace) → is_progressive (frame_at limits p).process ≡ false → IsWholeScan (scan_at limits p)
 whole_scan limits p e =
@@ -230,7 +230,7 @@ half_in_range limits items contents bytes waiting s whole h first =
     let w = subst (λ (t : Scan). IsWholeScan t) (sym (k.is).scan) (whole_scan limits p e) in
     units_in_range m.machine k.interval bits whole w o (so_far_in_range limits p (map_of (k.interval).before) p.done (p.places ∷ p.later) e (h.at).leads k.so_far)
 
-rest_in_range : (limits : Limits) (items : List Item) (contents bytes : List ℕ) (waiting : List Bool) (s : InScan) (whole : Picture) → AfterRest limits items contents bytes answer.More waiting s whole → IsFirstScan limits items → AreInRange (bounds_of 8) (map_of whole)
+rest_in_range : (limits : Limits) (items : List Item) (contents bytes : List ℕ) (waiting : List Bool) (s : InScan) (whole : Picture) → AfterRowBytes limits items contents bytes answer.More waiting s whole → IsFirstScan limits items → AreInRange (bounds_of 8) (map_of whole)
 rest_in_range limits items contents bytes [] s whole d first = data_in_range limits items contents bytes s whole d first
 rest_in_range limits items contents bytes (bit ∷ bits) s whole (more, h) first = half_in_range limits items contents bytes (bit ∷ bits) s whole h first
 
@@ -252,7 +252,7 @@ row_in_range tops whole row of range = record {
     value i x y k true e = subst (λ l. is_coefficient (bounds_of 8) k (get_or l k (pos 0)) ≡ true) (sym (of.blocks i x y e)) (range.values i x (top_of tops i + y) k)
     value i x y k false e = subst (λ l. is_coefficient (bounds_of 8) k (get_or l k (pos 0)) ≡ true) (sym (outside i x y e)) (block_in_range (zeros 64) k (zeros_bounded true 64))
 
--- where a file in work stands inside the scan, and where an MCU row is whole
+-- while a file is read inside the scan, and when an MCU row is complete
 pub inside_in_range : (limits : Limits) (bytes : List ℕ) (w : FileWork) (rows : RowWork) (whole : Picture) (f : Frame) → RowsInside limits bytes w rows whole → IsRowOf rows.tops whole rows.coefs → AreInRange (bounds f) (map_of rows.coefs)
 inside_in_range limits bytes w rows whole f r of = row_in_range rows.tops whole rows.coefs of (rest_in_range limits r.items r.contents bytes rows.waiting r.scan whole r.coded (r.held).of)
 

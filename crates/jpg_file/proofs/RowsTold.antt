@@ -1,4 +1,5 @@
--- What the bytes tell at a place inside the data of a scan of all components: the blocks of first places of the scan.
+-- What the bytes encode up to a place inside the data of a scan of all components: the blocks of first places of the
+-- scan.
 use Rattle.std.proofs.Common.{◌≡◌, ℕ, ◌≤◌, Bool, List, [], ◌∷◌, ◌++◌, length, take, drop, refl, sym, ap, ◌∙◌, subst, arith}
 use Rattle.std.specs.Prelude.{map}
 use Rattle.std.proofs.lemmas.List.{append_assoc, append-nil, append_cancel_left, length-append, take-append-drop, take-append-le, take_all}
@@ -25,9 +26,10 @@ use Rattle.jpg_coefs.specs.Picture.{Picture, map_of}
 use Rattle.jpg_coefs.specs.Machine.{Interval}
 use Rattle.jpg_seq.specs.Reader.{SeqStands, new_units_at}
 use Rattle.jpg_seq.specs.declared.reader.SeqReader.{SeqReader}
-use Rattle.jpg_file.specs.InData.{IsInterval, IsReadable, frame_at}
+use Rattle.jpg_file.specs.Read.InData.{IsInterval, IsReadable, frame_at}
 
--- The places whose blocks are told, those of the interval in work behind them, and that they are the scan's first ones.
+-- The places whose blocks are decoded, those of the current interval after them, and that they are the scan's first
+-- ones.
 pub record TellsAt (limits : Limits) (p : ScanPlace) (told : Blocks) : Type 0 where
   pub front : List (List Place)
   pub part : List Place
@@ -49,7 +51,7 @@ part_same s done coded front left part told t chunked size =
     let e = append_apart t.whole front ((t.part ++ t.rest) ∷ t.later) left (n ∙ sym size) (sym t.intervals ∙ chunked) in
     sym (append_cancel_left (joined front) part t.part (t.all ∙ ap (λ w. joined w ++ t.part) e.0))
 
--- UNITS of the interval in work
+-- UNITS of the current interval
 
 units_read : (limits : Limits) (p : ScanPlace) (i : Interval) (m : SeqReader) (bits more : List Bool) (now : Picture) → Leads limits p.items p.blocks → IsScanOfAll limits (segments_of p.items) p.contents → IsReadable limits p → IsInterval limits p i
     → ScanSoFar (scan_at limits p) p.blocks (map_of i.before) p.done (p.places ∷ p.later) → SeqStands m i bits now → bits_of_bytes p.coded ≡ bits ++ more → ReadsUnits limits p (map_of now)
@@ -78,7 +80,7 @@ units_read limits p i m bits more now leads all readable is so_far o cut = recor
         subst (λ (l : List Place). TellsFirst (scan_at limits p).coding (map (unit_at (scan_at limits p) (map_of i.before)) l) o.whole o.front) is.places
         (subst (λ (t : Scan). TellsFirst t.coding (map (unit_at t (map_of i.before)) i.places) o.whole o.front) is.scan first)
 
--- so many of its units are left
+-- `left` of its units are left
 pub record UnitsAt (limits : Limits) (p : ScanPlace) (told : Blocks) (left : ℕ) : Type 0 where
   pub at : TellsAt limits p told
   pub left_is : length at.rest ≡ left
@@ -103,7 +105,7 @@ units_at limits p i m bits more now leads all readable is so_far o cut =
       left_is = omega (arith, o.left);
     }
 
--- THE INTERVAL IN WORK, whole
+-- THE CURRENT INTERVAL, complete
 
 due_front : (s : Scan) (before : Blocks) (all : List (List Place)) (done : List (List ℕ)) (due : List (List Place)) → HoldsAll s before all done due → (front : List (List Place)) × (all ≡ front ++ due) × (length front ≡ length done)
 due_front s before all [] due h = ([], h, refl)
@@ -141,7 +143,7 @@ told_first limits p told t =
     sym (joined_chunks s.interval s.places) ∙ ap joined t.chunked ∙ joined_join t.front (p.places ∷ p.later) ∙ ap (λ l. joined t.front ++ (l ++ joined p.later)) t.cut
     ∙ ap (λ l. joined t.front ++ l) (append_assoc t.part t.rest (joined p.later)) ∙ sym (append_assoc (joined t.front) t.part (t.rest ++ joined p.later))
 
--- a shorter front of the same list
+-- a shorter prefix of the same list
 pub front_within : {A : Type 0} (a b x y : List A) → a ++ x ≡ b ++ y → length b ≤ length a → (more : List A) × (a ≡ b ++ more)
 front_within a b x y e few =
     let n = length b in

@@ -1,4 +1,4 @@
--- Some data bytes given to a machine at once: the last of them is given by itself, behind the bits of those before it.
+-- Some data bytes passed to a machine at once: the last of them is passed by itself, after the bits of those before it.
 use Rattle.std.proofs.Common.{◌≡◌, ℕ, ◌+◌, ◌-◌, ◌*◌, ◌/◌, ◌%◌, min, ◌<◌, ◌≤◌, Bool, List, [], ◌∷◌, ◌++◌, length, take, drop, get_or, refl, sym, ap, ◌∙◌, subst, arith, Ok, Err}
 use Rattle.std.specs.Prelude.{Result}
 use Rattle.std.proofs.Math.Seq.{take-append-add, take-append_seam}
@@ -13,11 +13,11 @@ use Rattle.jpg_coefs.specs.declared.machine.UnitStep.TheVariants as step
 use Rattle.jpg_coefs.specs.declared.machine.UnitFault.{UnitFault}
 use Rattle.jpg_coefs.specs.declared.machine.Taken.TheVariants as taken
 use Rattle.jpg_coefs.proofs.Chains.{chain_then, chain_stands, answer_to}
-use Rattle.jpg_file.specs.Data.{GivesBits, GivesRun}
-use Rattle.jpg_file.specs.declared.data.DataStep.{DataStep}
-use Rattle.jpg_file.specs.declared.data.DataStep.TheVariants as came
+use Rattle.jpg_file.specs.Read.Data.{GivesBits, GivesRun}
+use Rattle.jpg_file.specs.declared.read.data.DataStep.{DataStep}
+use Rattle.jpg_file.specs.declared.read.data.DataStep.TheVariants as came
 
--- A CHAIN of bits, cut in two
+-- A CHAIN of bits, split in two
 
 pub record ChainCut (M : Type 0) (k : Kind M) (m : M) (now : Picture) (xs ys : List Bool) (new : M) (after : Picture) : Type 0 where
   pub mid : M
@@ -87,7 +87,7 @@ last_byte bytes bits rest early e some count =
       some = (let size = length-take-le t y (omega (arith, few, eight, behind)) in omega (arith, size, behind));
     }
 
--- A CHAIN TO AN ANSWER, cut before its last byte
+-- A CHAIN TO AN ANSWER, split before its last byte
 
 record AnswerCut (M : Type 0) (k : Kind M) (m : M) (now : Picture) (xs front : List Bool) (answer : Result UnitStep UnitFault) (new : M) (after : Picture) : Type 0 where
   pub mid : M
@@ -119,7 +119,7 @@ answer_cut {M} k most m new now after bits xs front answer cut some (before, bit
       second = (g, bit, last, there, front_is, c.second, omega arith, ends);
     }
 
--- WHAT THE BITS OF ALL THE BYTES come to
+-- THE RESULT OF THE BITS OF ALL THE BYTES
 
 pub run_more : {M : Type 0} (k : Kind M) (most : ℕ) (m new : M) (now after : Picture) (bytes : List ℕ) (rest : List Bool) (n : ℕ) → 1 ≤ length bytes → n ≡ length bytes - length rest / 8
     → TakesBits k most m now (bits_of_bytes bytes) taken.More new after rest → GivesRun M k m now bytes n came.More new after
@@ -147,7 +147,7 @@ run_more {M} k most m new now after bytes rest n some count (bits, cut, (chain, 
     dropped : (xs : List ℕ) (i : ℕ) → length xs ≤ i → drop i xs ≡ []
     dropped xs i h = append_cancel_left xs (drop i xs) [] (ap (λ l. l ++ drop i xs) (sym (take_all i xs h)) ∙ take-append-drop i xs ∙ sym (append-nil xs))
 
--- the cut of the bytes where bits were left
+-- the split of the bytes where bits were left
 pub record RunCut (bytes : List ℕ) (bits : List Bool) (n : ℕ) : Type 0 where
   pub early : ℕ
   pub count : n ≡ early + 1
@@ -193,9 +193,9 @@ run_fault {M} k most m new now after bytes rest n f count (bits, cut, chain) =
       last = λ i so_far s. (l.front, l.rest, l.byte, (answer_to k a.most a.mid new a.between after i so_far l.front (Err f) a.second s).0);
     }
 
--- BEHIND BYTES that were given before
+-- AFTER BYTES that were passed before
 
--- bytes were given, and more are there
+-- bytes were passed, and more are there
 pub record HasRun (M : Type 0) (k : Kind M) (m : M) (now : Picture) (bytes : List ℕ) (new : M) (after : Picture) (rest : List ℕ) : Type 0 where
   pub done : List ℕ
   pub cut : bytes ≡ done ++ rest
@@ -214,9 +214,9 @@ taken_first n e rest low =
     let l = length-take n rest in
     (take-take e n rest (omega (arith, low, l)), get_or-take n rest e 0 (omega (arith, low, l)))
 
-pub run_behind : {M : Type 0} (k : Kind M) (m mid new : M) (now between after : Picture) (bytes rest : List ℕ) (n most given : ℕ) (answer : DataStep) → HasRun M k m now bytes mid between rest → GivesRun M k mid between (take most rest) n answer new after
+pub run_after : {M : Type 0} (k : Kind M) (m mid new : M) (now between after : Picture) (bytes rest : List ℕ) (n most given : ℕ) (answer : DataStep) → HasRun M k m now bytes mid between rest → GivesRun M k mid between (take most rest) n answer new after
     → given ≡ length bytes - length rest + n → GivesRun M k m now bytes given answer new after
-run_behind {M} k m mid new now between after bytes rest n most given answer h g count =
+run_after {M} k m mid new now between after bytes rest n most given answer h g count =
     let d = length h.done in
     let t = taken_first most g.early rest g.within in
     let all = ap length h.cut in

@@ -5,9 +5,9 @@ use Rattle.std.proofs.Math.Path.{fun_ext}
 use Rattle.std.proofs.lemmas.List.{length-map}
 use Rattle.jpg_spec.specs.Geometry.{Frame, component_at, div_up, greatest, h_max, v_max, mcu_units, scan_mcus_across, units}
 use Rattle.jpg_spec.specs.Lists.{below}
-use Rattle.jpg_spec.specs.Moved.{Grids, frame_grids}
+use Rattle.jpg_spec.specs.Grids.{Grids, frame_grids}
 use Rattle.jpg_spec.specs.declared.frame.Place.{Place}
-use Rattle.jpg_spec.proofs.MovedGrids.{real_side, factor_across, factor_down}
+use Rattle.jpg_spec.proofs.FrameFound.{real_side, factor_across, factor_down}
 
 -- the sides, the greatest factors, and those of each component
 record Sides : Type 0 where
@@ -50,7 +50,7 @@ same_units f g parts e = by_grids f parts ∙ ap (λ G. grid_units G parts) e �
 pub same_count : (f g : Frame) → frame_grids f ≡ frame_grids g → length f.components ≡ length g.components
 same_count f g e = sym (length-map f.components (λ c. c.h)) ∙ ap (λ (G : Grids). length G.across) e ∙ length-map g.components (λ c. c.h)
 
--- HOW MANY MCUs a row has, and units an MCU
+-- THE NUMBER OF MCUs of a row, and of units of an MCU
 
 abbrev mcus_by : Sides → (ℕ → ℕ) → List ℕ → ℕ
 mcus_by s hs [] = 0

@@ -1,15 +1,15 @@
--- Inside the data of a scan: what the machine's answers make of the place.
+-- Inside the data of a scan: the effect of the machine's answers on the place.
 use Rattle.std.proofs.Common.{◌≡◌, ℕ, suc, ◌+◌, ◌-◌, ◌%◌, ◌≤◌, min, Bool, true, false, List, [], ◌∷◌, ◌++◌, length, refl, sym, ap, ◌∙◌, subst, arith, ℤ}
 use Rattle.std.specs.Prelude.{flat_map, replicate}
 use Rattle.std.proofs.lemmas.List.{length-append}
 use Rattle.jpg_spec.specs.Bits.{bits_of, bits_of_bytes}
 use Rattle.jpg_spec.specs.Elements.{Coding, UnitLeft, SpellsUnits}
 use Rattle.jpg_spec.specs.Scan.{Scan, ScanMeans, band, block_at}
-use Rattle.jpg_spec.specs.ScanFaults.{DataShows}
+use Rattle.jpg_spec.specs.ScanFaults.{DataReveals}
 use Rattle.jpg_spec.specs.InForce.{frame_of}
 use Rattle.jpg_spec.specs.Items.{Item, segments_of}
-use Rattle.jpg_spec.specs.FirstFault.{Shows}
-use Rattle.jpg_spec.specs.FileStands.{FileStands}
+use Rattle.jpg_spec.specs.FirstFault.{Reveals}
+use Rattle.jpg_spec.specs.UnfinishedFile.{UnfinishedFile}
 use Rattle.jpg_spec.specs.ScanReading.{ScanPlace, scan_at, with_byte, with_interval, ScanAt}
 use Rattle.jpg_spec.specs.Parts.{StandsInUnits}
 use Rattle.jpg_spec.specs.PictureInWork.{IntervalRead, ScanSoFar}
@@ -23,16 +23,16 @@ use Rattle.jpg_spec.proofs.ScanAnswers.{units_at, bits_shown, bits_complete, int
 use Rattle.jpg_coefs.specs.Picture.{Picture, map_of}
 use Rattle.jpg_coefs.specs.Machine.{Interval, Follows, units_of, fault_of}
 use Rattle.jpg_coefs.specs.declared.machine.UnitFault.{UnitFault}
-use Rattle.jpg_file.specs.declared.machine.ScanReader.{ScanReader}
-use Rattle.jpg_file.specs.Machine.{any_scan}
-use Rattle.jpg_file.specs.Data.{EndsWhole, AfterBits}
-use Rattle.jpg_file.specs.declared.data.DataStep.TheVariants as came
-use Rattle.jpg_file.specs.declared.scan.ScanWork.{ScanWork}
+use Rattle.jpg_file.specs.declared.read.machine.ScanReader.{ScanReader}
+use Rattle.jpg_file.specs.Read.Machine.{any_scan}
+use Rattle.jpg_file.specs.Read.Data.{EndsInterval, AfterBits}
+use Rattle.jpg_file.specs.declared.read.data.DataStep.TheVariants as came
+use Rattle.jpg_file.specs.declared.read.scan.ScanWork.{ScanWork}
 use Rattle.jpg_huff.specs.Gate.{IsData}
-use Rattle.jpg_file.specs.declared.scan.InScan.{InScan}
-use Rattle.jpg_file.specs.declared.scan.ScanStep.{ScanStep}
-use Rattle.jpg_file.specs.declared.scan.ScanStep.TheVariants.{More, Marker, Fault as Stopped}
-use Rattle.jpg_file.specs.InData.{frame_at, IsReadable, IsInterval, IsDue, IsRead, AtInterval, AreIntervals, AtWork, MarkerAt, NextBegins, Waits, InData, AfterData, AfterMarker, AfterByte, Ended}
+use Rattle.jpg_file.specs.declared.read.scan.InScan.{InScan}
+use Rattle.jpg_file.specs.declared.read.scan.ScanStep.{ScanStep}
+use Rattle.jpg_file.specs.declared.read.scan.ScanStep.TheVariants.{More, Marker, Fault as Stopped}
+use Rattle.jpg_file.specs.Read.InData.{frame_at, IsReadable, IsInterval, IsDue, IsRead, AtInterval, AreIntervals, AtWork, MarkerAt, NextBegins, Waits, InData, AfterData, AfterMarker, AfterByte, EndsData}
 use Rattle.jpg_file.proofs.IntervalFits.{distinct_places, interval_fits, same_units}
 use Rattle.jpg_file.proofs.Machines.{scans_keep_units}
 
@@ -48,13 +48,13 @@ due_at limits p w now e k = subst (λ b. AtInterval limits p b w.machine now) e 
 pub read_at : (limits : Limits) (p : ScanPlace) (w : ScanWork) (now : Picture) → w.whole ≡ true → AtWork limits p w now → Read limits p w.machine now
 read_at limits p w now e k = subst (λ b. AtInterval limits p b w.machine now) e k.at
 
--- what is said of them
+-- what holds of the units of the current interval, as the machine has them, holds of those at the place
 pub of_place : (limits : Limits) (p : ScanPlace) (i : Interval) (P : Coding → List UnitLeft → Type 0) → IsReadable limits p → IsInterval limits p i → ScanSoFar (scan_at limits p) p.blocks (map_of i.before) p.done (p.places ∷ p.later)
     → P i.scan.coding (units_of i) → P (scan_at limits p).coding (units_at limits p)
 of_place limits p i P r is w k =
     subst (λ (q : Scan). P q.coding (units_at limits p)) is.scan (subst (λ us. P i.scan.coding us) (same_units limits p i r is w) k)
 
--- where units are due
+-- if units are left
 pub record AreDueUnits (limits : Limits) (p : ScanPlace) : Type 0 where
   pub told : List ℤ
   pub left : List UnitLeft
@@ -91,13 +91,13 @@ due_more limits p byte w m now after e k took =
     }
 
 pub due_fault : (limits : Limits) (bytes : List ℕ) (p : ScanPlace) (byte : ℕ) (w : ScanWork) (m : ScanReader) (now after : Picture) (f : UnitFault) → ScanAt limits bytes (with_byte p byte) [] → w.whole ≡ false → AtWork limits p w now
-    → ((i : Interval) (bits : List Bool) → any_scan.stands w.machine i bits now → AfterBits any_scan i bits (bits_of 8 byte) (came.Fault f) m after) → Shows limits (fault_of f) bytes
+    → ((i : Interval) (bits : List Bool) → any_scan.stands w.machine i bits now → AfterBits any_scan i bits (bits_of 8 byte) (came.Fault f) m after) → Reveals limits (fault_of f) bytes
 due_fault limits bytes p byte w m now after f at e k took =
     let d = due_at limits p w now e k in
     let i = d.interval in
     let t = took i (bits_of_bytes p.coded) d.stands in
     bits_shown limits bytes p byte (fault_of f) t.0 t.1 at t.2
-    (of_place limits p i (λ c us. DataShows c us (fault_of f) (bits_of_bytes p.coded ++ t.0)) k.readable d.is d.so_far t.3)
+    (of_place limits p i (λ c us. DataReveals c us (fault_of f) (bits_of_bytes p.coded ++ t.0)) k.readable d.is d.so_far t.3)
 
 pub due_whole : (limits : Limits) (p : ScanPlace) (byte : ℕ) (w : ScanWork) (m : ScanReader) (now after : Picture) → w.whole ≡ false → AtWork limits p w now
     → ((i : Interval) (bits : List Bool) → any_scan.stands w.machine i bits now → AfterBits any_scan i bits (bits_of 8 byte) came.Whole m after) → AtWork limits (with_byte p byte) (record w { machine = m; whole = true }) after
@@ -108,7 +108,7 @@ due_whole limits p byte w m now after e k took =
     let t = took i (bits_of_bytes p.coded) d.stands in
     let front : List Bool = t.0 in
     let bits = bits_of_bytes p.coded ++ front in
-    let ends : EndsWhole ScanReader any_scan i bits m after = t.4 in
+    let ends : EndsInterval ScanReader any_scan i bits m after = t.4 in
     let whole = ends.whole in
     let distinct = distinct_places limits p k.readable in
     let told : List ℤ = flat_map (λ q. band i.scan (block_at (map_of after) q)) i.places in
@@ -133,14 +133,14 @@ due_whole limits p byte w m now after e k took =
       later = k.later;
     }
 
--- behind a whole interval
-pub whole_extra : (limits : Limits) (bytes : List ℕ) (p : ScanPlace) (byte : ℕ) (w : ScanWork) (now : Picture) → ScanAt limits bytes (with_byte p byte) [] → w.whole ≡ true → AtWork limits p w now → Shows limits fault.ExtraData bytes
+-- after a complete interval
+pub whole_extra : (limits : Limits) (bytes : List ℕ) (p : ScanPlace) (byte : ℕ) (w : ScanWork) (now : Picture) → ScanAt limits bytes (with_byte p byte) [] → w.whole ≡ true → AtWork limits p w now → Reveals limits fault.ExtraData bytes
 whole_extra limits bytes p byte w now at e k = interval_extra limits bytes p byte at (read_at limits p w now e k).completes
 
 -- A MARKER
 
 pub short_marker : (limits : Limits) (bytes : List ℕ) (p : ScanPlace) (fill code : ℕ) (w : ScanWork) (now : Picture) → (code ≡ 0 → ⊥) → (code ≡ 255 → ⊥) → ScanAt limits bytes p (replicate (suc fill) 255 ++ code ∷ []) → w.whole ≡ false → AtWork limits p w now
-    → Shows limits fault.EntropyShort bytes
+    → Reveals limits fault.EntropyShort bytes
 short_marker limits bytes p fill code w now z f at e k =
     let u = due_units limits p w.machine now k.readable (due_at limits p w now e k) in
     units_short limits bytes p fill code u.told u.left z f at u.stands
@@ -161,7 +161,7 @@ last_marker limits p w now e none k =
     so_far_last s p.blocks (map_of now) (p.done ++ p.coded ∷ []) (subst (λ l. ScanSoFar s p.blocks (map_of now) (p.done ++ p.coded ∷ []) l) later r.so_far)
 
 pub wrong_marker : (limits : Limits) (bytes : List ℕ) (p : ScanPlace) (fill code : ℕ) (w : ScanWork) (now : Picture) → (code ≡ 0 → ⊥) → (code ≡ 255 → ⊥) → ScanAt limits bytes p (replicate (suc fill) 255 ++ code ∷ [])
-    → w.whole ≡ true → (w.due ≡ 0 → ⊥) → (code ≡ 0xd0 + w.turn → ⊥) → AtWork limits p w now → Shows limits fault.RestartWrong bytes
+    → w.whole ≡ true → (w.due ≡ 0 → ⊥) → (code ≡ 0xd0 + w.turn → ⊥) → AtWork limits p w now → Reveals limits fault.RestartWrong bytes
 wrong_marker limits bytes p fill code w now z f at e some wrong k =
     let r = read_at limits p w now e k in
     let l = some_later w.interval p.later (omega (arith, some, k.due)) in
@@ -264,7 +264,7 @@ data_byte limits items contents bytes p gate w now More of at g k = record { pla
 data_byte limits items contents bytes p gate w now (Marker code) of at g k = absurd k
 data_byte limits items contents bytes p gate w now (Stopped f) of at g k = k
 
--- behind FF bytes
+-- after FF bytes
 pub last_framed : (limits : Limits) (p : ScanPlace) (w : ScanWork) (now : Picture) → w.whole ≡ true → AtWork limits p w now → now.frame ≡ frame_at limits p
 last_framed limits p w now e k = (read_at limits p w now e k).framed
 
@@ -285,7 +285,7 @@ pub marker_byte : (limits : Limits) (items : List Item) (contents bytes : List �
 marker_byte limits items contents bytes p n code gate w now More of z f at g (next, others, begun, k) =
     record { place = with_interval p next others; of = of; fill = 0; at = begun; waits = subst (λ b. Waits b 0) (sym g) refl; work = k }
 marker_byte limits items contents bytes p n code gate w now (Marker c) of z f at g (is, framed, means) =
-    subst (λ k. Ended limits items contents bytes k now) (sym is) (record {
+    subst (λ k. EndsData limits items contents bytes k now) (sym is) (record {
       place = p;
       of = of;
       fill = n;
@@ -296,10 +296,10 @@ marker_byte limits items contents bytes p n code gate w now (Marker c) of z f at
     })
 marker_byte limits items contents bytes p n code gate w now (Stopped f) of z g at h k = k
 
--- INSIDE DATA a file stands
-pub data_stands : (limits : Limits) (items : List Item) (contents bytes : List ℕ) (s : InScan) (now : Picture) → InData limits items contents bytes s now → FileStands limits bytes
+-- INSIDE DATA the bytes have no fault
+pub data_stands : (limits : Limits) (items : List Item) (contents bytes : List ℕ) (s : InScan) (now : Picture) → InData limits items contents bytes s now → UnfinishedFile limits bytes
 data_stands limits items contents bytes s now d = by s.work.whole (d.work).at
   where
-    by : (b : Bool) → AtInterval limits d.place b s.work.machine now → FileStands limits bytes
+    by : (b : Bool) → AtInterval limits d.place b s.work.machine now → UnfinishedFile limits bytes
     by false k = (let u = due_units limits d.place s.work.machine now (d.work).readable k in units_due limits bytes d.place d.fill u.told u.left d.at u.stands)
     by true k = complete_stands limits bytes d.place d.fill d.at k.completes

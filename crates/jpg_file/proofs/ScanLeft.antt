@@ -1,4 +1,4 @@
--- The marker that ends a scan's data is an item's again.
+-- The marker that ends a scan's data belongs to an item again.
 use Rattle.std.proofs.Common.{◌≡◌, ℕ, suc, ◌+◌, ◌≤◌, true, List, [], ◌∷◌, ◌++◌, refl, sym, ap, ◌∙◌, subst, arith, length, Ok, Err, inl, inr}
 use Rattle.std.specs.Prelude.{replicate}
 use Rattle.std.specs.Int.{to_be_bytes, w16}
@@ -7,24 +7,24 @@ use Rattle.jpg_spec.specs.Scan.{Blocks}
 use Rattle.jpg_spec.specs.Markers.{Segment, SpellsMarker, SpellsSegment, kept_rule}
 use Rattle.jpg_spec.specs.Markers as markers
 use Rattle.jpg_spec.specs.Items.{Item, scan, segments_of}
-use Rattle.jpg_spec.specs.FirstFault.{Shows}
+use Rattle.jpg_spec.specs.FirstFault.{Reveals}
 use Rattle.jpg_spec.specs.declared.frame.Limits.{Limits}
-use Rattle.jpg_spec.specs.declared.answers.FaultAt.{FaultAt}
+use Rattle.jpg_spec.specs.declared.fault.FaultAt.{FaultAt}
 use Rattle.jpg_spec.proofs.ItemSteps.{same_tail, scan_left}
 use Rattle.jpg_coefs.specs.Picture.{Picture, map_of}
 use Rattle.jpg_base.specs.declared.stop.Stop.TheVariants as stop
 use Rattle.jpg_markers.specs.declared.segments.SegStep.TheVariants as step
 use Rattle.jpg_markers.specs.declared.segments.Phase.{Phase}
 use Rattle.jpg_markers.specs.declared.segments.Phase.TheVariants as phase
-use Rattle.jpg_markers.specs.Reading.{Reading, StandsFor, AtPhase, IsBetween, ShowsBehind, EndsBehind, Comes, reading_of}
-use Rattle.jpg_file.specs.InData.{Ended}
-use Rattle.jpg_file.specs.Held.{HeldTold, Holds, told_by}
-use Rattle.jpg_file.specs.declared.items.Items.{Items}
-use Rattle.jpg_file.specs.Items.{IsBeside, BetweenItems, BehindSegment, BehindEnd, BehindHead, AddsNoScan}
+use Rattle.jpg_markers.specs.Reading.{Reading, StandsForSegments, AtPhase, IsBetween, RevealsAfter, EndsAtEoi, Comes, reading_of}
+use Rattle.jpg_file.specs.Read.InData.{EndsData}
+use Rattle.jpg_file.specs.Read.SegmentState.{SegmentView, Holds, told_by}
+use Rattle.jpg_file.specs.declared.read.items.Items.{Items}
+use Rattle.jpg_file.specs.Read.Items.{IsBeside, BetweenItems, AfterSegment, BehindEnd, BehindHead, AddsNoScan}
 use Rattle.jpg_file.proofs.ItemBytes.{beside_fault}
 
--- A scan header changes nothing that is held, but that a scan began.
-pub head_held : (limits : Limits) (h : HeldTold) (before : List Segment) (contents : List ℕ) → Holds limits h before → Holds limits (record h { scanned = true }) ((0xda, contents) ∷ before)
+-- A scan header changes nothing that is kept, except that a scan began.
+pub head_held : (limits : Limits) (h : SegmentView) (before : List Segment) (contents : List ℕ) → Holds limits h before → Holds limits (record h { scanned = true }) ((0xda, contents) ∷ before)
 head_held limits h before contents k = record {
   frame = k.frame;
   dc_slots = k.dc_slots;
@@ -39,7 +39,7 @@ head_held limits h before contents k = record {
   jfif = k.jfif;
 }
 
--- what was sent with the marker stands beside the bytes
+-- what was sent, with the marker
 abbrev pub sent_with : List ℕ → ℕ → List ℕ
 sent_with sent code = sent ++ 255 ∷ code ∷ []
 
@@ -47,7 +47,7 @@ pub record Left (limits : Limits) (items : List Item) (contents bytes : List ℕ
   pub intervals : List (List ℕ)
   pub at : IsBeside limits bytes (sent_with k.sent code) (scan contents intervals ∷ items) (map_of now) (255 ∷ code ∷ [])
 
-pub left_at : (limits : Limits) (items : List Item) (contents bytes : List ℕ) (code : ℕ) (now : Picture) (w : Items) → (k : BehindHead limits items contents w) → Ended limits items contents bytes code now → Left limits items contents bytes code now w k
+pub left_at : (limits : Limits) (items : List Item) (contents bytes : List ℕ) (code : ℕ) (now : Picture) (w : Items) → (k : BehindHead limits items contents w) → EndsData limits items contents bytes code now → Left limits items contents bytes code now w k
 left_at limits items contents bytes code now w k e =
     let r = reading_of w.segments in
     let p = e.place in
@@ -64,7 +64,7 @@ left_at limits items contents bytes code now w k e =
 
 -- THE ANSWERS
 pub left_more : (limits : Limits) (items : List Item) (contents bytes : List ℕ) (code : ℕ) (now : Picture) (w new : Items) → (k : BehindHead limits items contents w) → (l : Left limits items contents bytes code now w k)
-    → StandsFor (sent_with k.sent code) (segments_of (scan contents l.intervals ∷ items)) (reading_of new.segments) → (reading_of new.segments).limits ≡ (reading_of w.segments).limits → new.limits ≡ w.limits → told_by new.held ≡ told_by w.held
+    → StandsForSegments (sent_with k.sent code) (segments_of (scan contents l.intervals ∷ items)) (reading_of new.segments) → (reading_of new.segments).limits ≡ (reading_of w.segments).limits → new.limits ≡ w.limits → told_by new.held ≡ told_by w.held
     → (more : List Item) × AddsNoScan (scan contents l.intervals ∷ items) more × BetweenItems limits bytes more (map_of now) new
 left_more limits items contents bytes code now w new k l stands e f same = (
   scan contents l.intervals ∷ items,
@@ -80,10 +80,10 @@ left_more limits items contents bytes code now w new k l stands e f same = (
 
 pub left_fault : (limits : Limits) (items : List Item) (contents bytes : List ℕ) (code : ℕ) (now : Picture) (w new : Items) (f : FaultAt) → (k : BehindHead limits items contents w) → (l : Left limits items contents bytes code now w k)
     → Comes (sent_with k.sent code) (segments_of (scan contents l.intervals ∷ items)) (Err (stop.Fault f)) (reading_of new.segments) → (reading_of new.segments).limits ≡ (reading_of w.segments).limits
-    → Shows limits f.fault bytes × (f.at ≡ (reading_of new.segments).taken)
+    → Reveals limits f.fault bytes × (f.at ≡ (reading_of new.segments).taken)
 left_fault limits items contents bytes code now w new f k l c e =
     let all : List Item = scan contents l.intervals ∷ items in
-    let shown = subst (λ (b : Limits). ShowsBehind (kept_rule b) (segments_of all) f.fault (sent_with k.sent code)) (e ∙ k.bounded.0) c.1 in
+    let shown = subst (λ (b : Limits). RevealsAfter (kept_rule b) (segments_of all) f.fault (sent_with k.sent code)) (e ∙ k.bounded.0) c.1 in
     (beside_fault limits bytes (sent_with k.sent code) all (map_of now) (255 ∷ code ∷ []) f.fault l.at shown, c.2)
 
 pub left_end : (limits : Limits) (items : List Item) (contents bytes : List ℕ) (code : ℕ) (now : Picture) (w new : Items) → (k : BehindHead limits items contents w) → (l : Left limits items contents bytes code now w k)
@@ -91,7 +91,7 @@ pub left_end : (limits : Limits) (items : List Item) (contents bytes : List ℕ)
     → BehindEnd limits bytes (scan contents l.intervals ∷ items) (map_of now) new
 left_end limits items contents bytes code now w new k l c e same =
     let all : List Item = scan contents l.intervals ∷ items in
-    let ends = subst (λ (b : Limits). EndsBehind (kept_rule b) (segments_of all) (sent_with k.sent code)) (e ∙ k.bounded.0) c.1 in
+    let ends = subst (λ (b : Limits). EndsAtEoi (kept_rule b) (segments_of all) (sent_with k.sent code)) (e ∙ k.bounded.0) c.1 in
     let t = same_tail (kept_rule limits) (sent_with k.sent code) (segments_of all) (255 ∷ code ∷ []) ends.0 ((l.at).beside).between ends.1 in
     record {
       sent = sent_with k.sent code;
@@ -102,7 +102,7 @@ left_end limits items contents bytes code now w new k l c e same =
       holds = subst (λ h. Holds limits h ((0xda, contents) ∷ segments_of items)) (sym same) k.holds;
     }
 
--- a marker alone is no whole segment
+-- a marker by itself is no complete segment
 segment_long : (code : ℕ) (contents bytes : List ℕ) → SpellsSegment code contents bytes → 4 ≤ length bytes
 segment_long code contents bytes s =
     let m = s.1 in
@@ -142,12 +142,12 @@ left_whole limits items contents bytes code now w new k l c e =
     let r = reading_of new.segments in
     no_whole_marker limits (sent_with k.sent code) (segments_of all) code r.code r.contents r (e ∙ k.bounded.0) ((l.at).beside).between r.phase c.1.1
 
-pub behind_head : (limits : Limits) (bytes : List ℕ) (items : List Item) (blocks : Blocks) (w new : Items) → BehindSegment limits bytes items blocks w → (reading_of w.segments).code ≡ 0xda
+pub after_head : (limits : Limits) (bytes : List ℕ) (items : List Item) (blocks : Blocks) (w new : Items) → AfterSegment limits bytes items blocks w → (reading_of w.segments).code ≡ 0xda
     → reading_of new.segments ≡ reading_of w.segments → new.limits ≡ w.limits → told_by new.held ≡ record (told_by w.held) { scanned = true } → BehindHead limits items (reading_of w.segments).contents new
-behind_head limits bytes items blocks w new k code same f held =
+after_head limits bytes items blocks w new k code same f held =
     let r = reading_of w.segments in
-    let S : Reading → Type 0 = λ q. StandsFor k.sent ((0xda, r.contents) ∷ segments_of items) q in
-    let stands = subst (λ (n : ℕ). StandsFor k.sent ((n, r.contents) ∷ segments_of items) r) code k.stands in
+    let S : Reading → Type 0 = λ q. StandsForSegments k.sent ((0xda, r.contents) ∷ segments_of items) q in
+    let stands = subst (λ (n : ℕ). StandsForSegments k.sent ((n, r.contents) ∷ segments_of items) r) code k.stands in
     record {
       sent = k.sent;
       stands = subst S (sym same) stands;

@@ -1,4 +1,4 @@
--- Plain bytes behind one another, inside the data of a scan.
+-- Plain bytes one after another, inside the data of a scan.
 use Rattle.std.proofs.Common.{◌≡◌, ℕ, zero, suc, ◌<◌, ◌≤◌, Bool, true, false, List, [], ◌∷◌, ◌++◌, length, take, get_or, refl, sym, ap, ◌∙◌, subst, arith}
 use Rattle.std.specs.Prelude.{replicate, Option, Some, None, ◌==◌}
 use Rattle.memchr.specs.Find.{IsFirstByte, Passes, is_byte}
@@ -13,22 +13,22 @@ use Rattle.jpg_coefs.specs.Picture.{Picture}
 use Rattle.jpg_coefs.specs.Machine.{Chain, fault_of}
 use Rattle.jpg_coefs.specs.declared.machine.UnitFault.{UnitFault}
 use Rattle.jpg_coefs.proofs.Chains.{chain_stands}
-use Rattle.jpg_file.specs.declared.machine.ScanReader.{ScanReader}
-use Rattle.jpg_file.specs.Machine.{any_scan}
-use Rattle.jpg_file.specs.Data.{GivesBits, GivesRun}
-use Rattle.jpg_file.specs.declared.data.DataStep.{DataStep}
-use Rattle.jpg_file.specs.declared.data.DataStep.TheVariants as came
-use Rattle.jpg_file.specs.declared.scan.InScan.{InScan}
-use Rattle.jpg_file.specs.declared.scan.ScanWork.{ScanWork}
-use Rattle.jpg_file.specs.declared.scan.ScanStep.{ScanStep}
-use Rattle.jpg_file.specs.declared.scan.ScanStep.TheVariants as step
-use Rattle.jpg_file.specs.InData.{ArePlain, AtInterval, AtWork, InData, TakesRun, TakesScanByte, Waits}
+use Rattle.jpg_file.specs.declared.read.machine.ScanReader.{ScanReader}
+use Rattle.jpg_file.specs.Read.Machine.{any_scan}
+use Rattle.jpg_file.specs.Read.Data.{GivesBits, GivesRun}
+use Rattle.jpg_file.specs.declared.read.data.DataStep.{DataStep}
+use Rattle.jpg_file.specs.declared.read.data.DataStep.TheVariants as came
+use Rattle.jpg_file.specs.declared.read.scan.InScan.{InScan}
+use Rattle.jpg_file.specs.declared.read.scan.ScanWork.{ScanWork}
+use Rattle.jpg_file.specs.declared.read.scan.ScanStep.{ScanStep}
+use Rattle.jpg_file.specs.declared.read.scan.ScanStep.TheVariants as step
+use Rattle.jpg_file.specs.Read.InData.{ArePlain, AtInterval, AtWork, InData, TakesRun, TakesScanByte, Waits}
 use Rattle.jpg_file.proofs.ScanBytes.{Due, data_byte, due_at, due_fault, due_more, due_whole}
 
 abbrev pub with_bytes : ScanPlace → List ℕ → ScanPlace
 with_bytes p more = record p { coded = p.coded ++ more }
 
--- THE PLACE behind plain bytes
+-- THE PLACE after plain bytes
 pub plain_at : (limits : Limits) (bytes : List ℕ) (p : ScanPlace) (run : List ℕ) → ArePlain run → ScanAt limits bytes p [] → ScanAt limits (bytes ++ run) (with_bytes p run) []
 plain_at limits bytes p [] plain w =
     subst (λ l. ScanAt limits l (with_bytes p []) []) (sym (append-nil bytes)) (subst (λ l. ScanAt limits bytes (record p { coded = l }) []) (sym (append-nil p.coded)) (same p w))
@@ -41,7 +41,7 @@ plain_at limits bytes p (b ∷ run) plain w =
     subst (λ l. ScanAt limits l (with_bytes p (b ∷ run)) []) (append_assoc bytes (b ∷ []) run)
     (subst (λ l. ScanAt limits ((bytes ++ b ∷ []) ++ run) (record p { coded = l }) []) (append_assoc p.coded (b ∷ []) run) others)
 
--- THE MACHINE behind a chain of their bits
+-- THE MACHINE after a chain of their bits
 due_chain : (limits : Limits) (p : ScanPlace) (run : List ℕ) (w : ScanWork) (m : ScanReader) (now after : Picture) → w.whole ≡ false → AtWork limits p w now → Chain any_scan w.machine now (bits_of_bytes run) m after
     → AtWork limits (with_bytes p run) (record w { machine = m }) after
 due_chain limits p run w m now after e k chain =
@@ -61,7 +61,7 @@ due_chain limits p run w m now after e k chain =
       later = k.later;
     }
 
--- a front of plain bytes is plain
+-- a prefix of plain bytes is plain
 pub front_plain : (run : List ℕ) (n : ℕ) → n ≤ length run → ArePlain run → ArePlain (take n run)
 front_plain run n few plain k low e =
     let size = length-take-le n run few in
@@ -133,7 +133,7 @@ pub last_fault : (s new : InScan) (m : ScanReader) (now after : Picture) (byte :
 last_fault s new m now after byte f gate whole plain took limits items contents bytes d =
     due_fault limits (bytes ++ byte ∷ []) d.place byte s.work m now after f (plain_data limits bytes d.place byte (open_at limits items contents bytes s now d gate) plain) whole d.work took
 
--- THE WHOLE RUN
+-- THE COMPLETE RUN
 pub run_takes : (s new : InScan) (m : ScanReader) (now after : Picture) (run : List ℕ) (n : ℕ) (came_to : DataStep) (answer : ScanStep) → s.gate ≡ false → s.work.whole ≡ false → ArePlain run
     → (g : GivesRun ScanReader any_scan s.work.machine now run n came_to m after) → TakesScanByte (mid_of s g.mid) g.between (get_or run g.early 0) answer new after → TakesRun s now run n answer new after
 run_takes s new m now after run n came_to answer gate whole plain g last = record {

@@ -6,28 +6,28 @@ use Rattle.jpg_spec.specs.declared.fault.Fault.{Fault as Named}
 use Rattle.jpg_spec.specs.declared.frame.Limits.{Limits}
 use Rattle.jpg_coefs.specs.Picture.{Picture, map_of}
 use Rattle.jpg_markers.specs.Reading.{reading_of}
-use Rattle.jpg_file.specs.InData.{InData, AfterByte, Ended, TakesRun}
-use Rattle.jpg_file.specs.Items.{BehindHead, AfterScan}
-use Rattle.jpg_file.specs.declared.scan.InScan.{InScan}
-use Rattle.jpg_file.specs.declared.scan.ScanStep.{ScanStep}
-use Rattle.jpg_file.specs.declared.scan.ScanStep.TheVariants as answer
-use Rattle.jpg_file.specs.declared.items.Items.{Items}
-use Rattle.jpg_file.specs.declared.items.ItemStep.{ItemStep}
-use Rattle.jpg_file.specs.declared.items.ItemStep.TheVariants as step
-use Rattle.jpg_file.specs.declared.reading.Reading.{Reading}
-use Rattle.jpg_file.specs.Reading.{waiting, Scanning, AfterScanByte, TakesRunOfScan}
+use Rattle.jpg_file.specs.Read.InData.{InData, AfterByte, EndsData, TakesRun}
+use Rattle.jpg_file.specs.Read.Items.{BehindHead, AfterScan}
+use Rattle.jpg_file.specs.declared.read.scan.InScan.{InScan}
+use Rattle.jpg_file.specs.declared.read.scan.ScanStep.{ScanStep}
+use Rattle.jpg_file.specs.declared.read.scan.ScanStep.TheVariants as answer
+use Rattle.jpg_file.specs.declared.read.items.Items.{Items}
+use Rattle.jpg_file.specs.declared.read.items.ItemStep.{ItemStep}
+use Rattle.jpg_file.specs.declared.read.items.ItemStep.TheVariants as step
+use Rattle.jpg_file.specs.declared.read.reading.Reading.{Reading}
+use Rattle.jpg_file.specs.Read.Reading.{waiting_bytes, Scanning, AfterScanByte, TakesRunOfScan}
 use Rattle.jpg_spec.proofs.Common.{some_once}
 
 pub none_some : {A : Type 0} (o : Option A) (a : A) → o ≡ Some a → o ≡ None → ⊥
 none_some o a e h = cc
 
--- what stands for the bytes is the picture and the scan that are held
+-- the bytes are represented by the picture and the scan that are kept
 pub data_of : (limits : Limits) (items : List Item) (contents bytes : List ℕ) (r : Reading) (coefs : Picture) (scan : InScan) → r.coefs ≡ Some coefs → r.scan ≡ Some scan → Scanning limits items contents bytes r → InData limits items contents bytes scan coefs
 data_of limits items contents bytes r coefs scan e f s =
     subst (λ (q : Picture). InData limits items contents bytes scan q) (some_once s.coefs coefs (sym s.has ∙ e))
     (subst (λ (q : InScan). InData limits items contents bytes q s.coefs) (some_once s.scan scan (sym s.inside ∙ f)) s.at)
 
-few_wait : (b : Bool) → waiting b ≤ 1
+few_wait : (b : Bool) → waiting_bytes b ≤ 1
 few_wait false = omega arith
 few_wait true = omega arith
 
@@ -58,12 +58,12 @@ pub scan_shows : (limits : Limits) (items : List Item) (contents bytes : List �
 scan_shows limits items contents bytes byte r new coefs after scan next fault e f took s =
     inr (inr (took limits items contents bytes (data_of limits items contents bytes r coefs scan e f s), counted bytes byte r.taken s.count))
 
-pub scan_left_behind : (limits : Limits) (items : List Item) (contents bytes : List ℕ) (byte code : ℕ) (r : Reading) (coefs after : Picture) (scan next : InScan) (held : Items) (came : ItemStep) → r.coefs ≡ Some coefs → r.scan ≡ Some scan
+pub scan_left_after : (limits : Limits) (items : List Item) (contents bytes : List ℕ) (byte code : ℕ) (r : Reading) (coefs after : Picture) (scan next : InScan) (held : Items) (came : ItemStep) → r.coefs ≡ Some coefs → r.scan ≡ Some scan
     → ((limits : Limits) (all : List Item) (contents bytes : List ℕ) → InData limits all contents bytes scan coefs → AfterByte limits all contents (bytes ++ byte ∷ []) (answer.Marker code) next after)
-    → ((all : List Item) (contents bytes : List ℕ) (now : Picture) → BehindHead limits all contents r.items → Ended limits all contents bytes code now → AfterScan limits all contents bytes (map_of now) came held)
+    → ((all : List Item) (contents bytes : List ℕ) (now : Picture) → BehindHead limits all contents r.items → EndsData limits all contents bytes code now → AfterScan limits all contents bytes (map_of now) came held)
     → (reading_of held.segments).taken ≡ r.taken + 1 → Scanning limits items contents bytes r
     → AfterScanByte limits items contents (bytes ++ byte ∷ []) came (record { items = held; coefs = Some after; scan = None; taken = r.taken + 1 })
-scan_left_behind limits items contents bytes byte code r coefs after scan next held came e f took marker taken s =
+scan_left_after limits items contents bytes byte code r coefs after scan next held came e f took marker taken s =
     let ended = took limits items contents bytes (data_of limits items contents bytes r coefs scan e f s) in
     inr (inl (record {
       coefs = after;
@@ -75,7 +75,7 @@ scan_left_behind limits items contents bytes byte code r coefs after scan next h
       same = taken;
     }))
 
--- SOME PLAIN BYTES behind one another
+-- SOME PLAIN BYTES one after another
 
 -- the state before the last of them
 abbrev pub reading_mid : Reading → InScan → Picture → ℕ → Reading
@@ -99,7 +99,7 @@ mid_scanning limits items contents bytes r coefs scan run n answer new after t e
       at = t.before limits items contents bytes (data_of limits items contents bytes r coefs scan e f s);
       head = s.head;
       count = omega (arith, count, size, all);
-      behind = (let none : waiting (t.mid).gate ≡ 0 = ap waiting t.open in omega (arith, few, none));
+      behind = (let none : waiting_bytes (t.mid).gate ≡ 0 = ap waiting_bytes t.open in omega (arith, few, none));
     }
 
 pub run_goes_on : (r : Reading) (coefs after : Picture) (scan new : InScan) (run : List ℕ) (n : ℕ) → r.coefs ≡ Some coefs → r.scan ≡ Some scan → TakesRun scan coefs run n answer.More new after

@@ -6,29 +6,32 @@ use Rattle.jpg_spec.specs.Bits.{data_of, stuffed}
 use Rattle.jpg_spec.specs.Elements.{zeros}
 use Rattle.jpg_spec.specs.Geometry.{Frame, is_progressive, is_real, mcu_units, units}
 use Rattle.jpg_spec.specs.Lists.{chunks}
-use Rattle.jpg_spec.specs.FileText.{frame_of_meaning}
+use Rattle.jpg_spec_write.specs.FileText.{frame_of_meaning}
 use Rattle.jpg_spec.specs.Meaning.{Meaning, real_blocks}
-use Rattle.jpg_spec.specs.Moved.{frame_grids}
+use Rattle.jpg_spec.specs.Grids.{frame_grids}
 use Rattle.jpg_spec.specs.Segments.{HuffmanTable, ScanHead, head_components}
 use Rattle.jpg_spec.specs.Scan.{Blocks, block_at, part_of}
-use Rattle.jpg_spec.specs.ScanText.{Owned, code_of, element_bits, interval_elements, intervals_text, is_dc, last_dc, scan_data, scan_elements, typical_table, units_due}
+use Rattle.jpg_spec_write.specs.ScanText.{Owned, element_bits, interval_elements, intervals_text, is_dc, last_dc, scan_data, scan_elements, typical_table, units_due}
+use Rattle.jpg_spec.specs.Codes.{code_of}
 use Rattle.jpg_spec.specs.declared.frame.Colour.{Colour}
 use Rattle.jpg_spec.specs.declared.frame.Place.{Place}
 use Rattle.jpg_spec.specs.Segments.{table_codes}
-use Rattle.jpg_spec.specs.Elements.{is_dc_bit, symbol_of, bits_behind}
-use Rattle.jpg_spec.proofs.PlacedBlocks.{Each, block_due}
+use Rattle.jpg_spec.specs.Elements.{is_dc_bit, symbol_of, bits_after}
+use Rattle.jpg_spec.proofs.Each.{Each}
+use Rattle.jpg_spec_write.proofs.PlacedBlocks.{block_due}
 use Rattle.jpg_spec.proofs.PlacesFound.{each_units}
 use Rattle.jpg_spec.proofs.Rows.{map_map}
-use Rattle.jpg_spec.proofs.WrittenScan.{each_rows, scan_rows, sequential_coded}
-use Rattle.jpg_spec.proofs.WrittenSequential.{among_below, plain_data}
+use Rattle.jpg_spec.proofs.Each.{each_rows}
+use Rattle.jpg_spec_write.proofs.WrittenScan.{scan_rows, sequential_coded}
+use Rattle.jpg_spec_write.proofs.WrittenSequential.{among_below, plain_data}
 use Rattle.jpg_spec.proofs.Common.{lt_yes}
 use Rattle.jpg_huff.specs.declared.set.TableSet.{TableSet}
 use Rattle.jpg_seq.specs.ScanWritten.{tables_in, written_data}
-use Rattle.jpg_file.specs.WriteTables.{IsTypicalSet}
-use Rattle.jpg_file.specs.WriteScan.{seq_head}
+use Rattle.jpg_file.specs.Write.WriteTables.{IsTypicalSet}
+use Rattle.jpg_file.specs.Write.WriteScan.{seq_head}
 use Rattle.jpg_file.proofs.SameUnits.{same_sizes, same_units}
 use Rattle.jpg_file.proofs.TypicalSet.{dc_given, ac_given}
-use Rattle.jpg_file.proofs.SeqHead.{slots_at}
+use Rattle.jpg_file.proofs.SequentialHeader.{slots_at}
 
 -- BY THE SET
 
@@ -38,7 +41,7 @@ place_by b dc ac = cond b (0, dc) (1, ac)
 pub bits_same : (T U : ℕ → ℕ → HuffmanTable) (head : ScanHead) → ((i : ℕ) → T 0 (part_of head i).dc ≡ U 0 (part_of head i).dc) → ((i : ℕ) → T 1 (part_of head i).ac ≡ U 1 (part_of head i).ac)
     → (e : Owned) → element_bits T head e ≡ element_bits U head e
 unfolding element_bits
-bits_same T U head dc ac e = ap (λ t. cond (is_dc_bit e.1) [] (code_of (table_codes t) (symbol_of e.1)) ++ bits_behind e.1) (by (is_dc e.1))
+bits_same T U head dc ac e = ap (λ t. cond (is_dc_bit e.1) [] (code_of (table_codes t) (symbol_of e.1)) ++ bits_after e.1) (by (is_dc e.1))
   where
     by : (b : Bool) → (let p = place_by b (part_of head e.0).dc (part_of head e.0).ac in T p.0 p.1 ≡ U p.0 p.1)
     by true = dc e.0
@@ -52,7 +55,7 @@ data_by_set set f blocks colour components n is =
     ap (λ (bits : Owned → List Bool). intervals_text 0 (map (λ elements. data_of (flat_map bits elements)) (scan_elements f head n blocks)))
     (fun_ext (bits_same (tables_in set) typical_table head (λ i. dc_given set (part_of head i).dc is (slots_at colour components i).dc) (λ i. ac_given set (part_of head i).ac is (slots_at colour components i).ac)))
 
--- BY THE REAL BLOCKS alone
+-- BY THE REAL BLOCKS only
 
 abbrev IsShown : Frame → Blocks → Place → Type 0
 IsShown f blocks p = p.real ≡ true → block_at blocks p ≡ block_at (real_blocks f blocks) p
@@ -78,7 +81,7 @@ rows_shown f b head blocks (row ∷ rows) h =
     ap (λ due. interval_elements b head due ∷ map (elements_by b head blocks) rows) (due_shown f blocks (λ i. pos 0) row h.0)
     ∙ ap (λ es. elements_by b head (real_blocks f blocks) row ∷ es) (rows_shown f b head blocks rows h.1)
 
--- the elements of a scan depend on the grids and the real blocks alone
+-- the elements of a scan depend only on the grids and the real blocks
 pub elements_same : (g f F : Frame) (head : ScanHead) (n : ℕ) (blocks : Blocks) → is_progressive f.process ≡ is_progressive F.process → frame_grids f ≡ frame_grids g → frame_grids F ≡ frame_grids g
     → Each (λ i. i < length g.components) (head_components head) → scan_elements f head n blocks ≡ scan_elements F head n (real_blocks g blocks)
 elements_same g f F head n blocks p ef eF there =

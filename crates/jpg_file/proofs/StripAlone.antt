@@ -1,4 +1,4 @@
--- After a scan of all components of a sequential frame each scan header shows a fault.
+-- After a scan of all components of a sequential frame each scan header has a fault.
 use Rattle.std.proofs.Common.{◌≡◌, ℕ, ◌<◌, ◌≤◌, Bool, true, false, not, ◌&&◌, List, [], ◌∷◌, length, sym, ap, ◌∙◌, subst, arith, Option, Some, None, Ok}
 use Rattle.std.specs.Prelude.{◌||◌, unwrap_or}
 use Rattle.std.proofs.lemmas.List.{length-map}
@@ -16,20 +16,20 @@ use Rattle.jpg_spec.proofs.AcceptedHeads.{accepted}
 use Rattle.jpg_spec.proofs.Common.{clash}
 use Rattle.jpg_spec.proofs.FirstPasses.{head_at}
 use Rattle.jpg_spec.proofs.FrameFound.{framed}
-use Rattle.jpg_spec.proofs.PlacedBlocks.{Each}
+use Rattle.jpg_spec.proofs.Each.{Each}
 use Rattle.jpg_spec.proofs.RowCounts.{head_below, head_names}
 use Rattle.jpg_scans.specs.declared.progress.Progress.{Progress}
-use Rattle.jpg_file.specs.Begun.{HasBegunAll, StandsForHeads}
-use Rattle.jpg_file.specs.File.{HeadStands}
-use Rattle.jpg_file.specs.Held.{told_by}
-use Rattle.jpg_file.specs.Judge.{JudgesHead}
-use Rattle.jpg_file.specs.declared.file.FileWork.{FileWork}
+use Rattle.jpg_file.specs.Read.ScanHistory.{HasBegunAll, StandsForHeads}
+use Rattle.jpg_file.specs.Read.File.{HeadStands}
+use Rattle.jpg_file.specs.Read.SegmentState.{told_by}
+use Rattle.jpg_file.specs.Read.JudgedHeader.{JudgesHead}
+use Rattle.jpg_file.specs.declared.read.file.FileWork.{FileWork}
 use Rattle.jpg_file.proofs.FileSteps.{frame_held}
 
 part_count : (head : ScanHead) → length (head_components head) ≡ length head.parts
 part_count head = length-map head.parts (λ (p : ScanPart). p.component)
 
--- BEHIND A SCAN of all components
+-- AFTER A SCAN of all components
 pub all_begun : (o : Option Progress) (f : Frame) (head : ScanHead) (heads : List ScanHead) → StandsForHeads o f (head ∷ heads) → IsHead f head → length (head_components head) ≡ length f.components → is_progressive f.process ≡ false → HasBegunAll o
 all_begun None f head heads s k all sequential = absurd cc
 all_begun (Some p) f head heads s k all sequential = λ g others t. (

@@ -18,33 +18,33 @@ use Rattle.jpg_spec.proofs.Common.{some_once}
 use Rattle.jpg_spec.proofs.FrameFound.{framed}
 use Rattle.jpg_coefs.specs.Picture.{Picture}
 use Rattle.jpg_coefs.proofs.Maps.{blank_is}
-use Rattle.jpg_markers.specs.Reading.{IsBehindScan, StandsFor, reading_of}
+use Rattle.jpg_markers.specs.Reading.{IsAfterScan, StandsForSegments, reading_of}
 use Rattle.jpg_markers.specs.declared.segments.SegmentReader.{SegmentReader}
 use Rattle.jpg_seq.specs.Rows.{IsRowOf}
-use Rattle.jpg_file.specs.Begin.{HasSizes}
-use Rattle.jpg_file.specs.Begun.{HasBegun, HasBegunAll, StandsForHeads}
-use Rattle.jpg_file.specs.Items.{BehindHead}
-use Rattle.jpg_file.specs.File.{HeadStands, NotesHead}
-use Rattle.jpg_file.specs.FirstHead.{HasHead}
-use Rattle.jpg_file.specs.Held.{told_by}
-use Rattle.jpg_file.specs.InData.{InData}
-use Rattle.jpg_file.specs.Judge.{JudgesHead}
-use Rattle.jpg_file.specs.Reading.{AfterHead, HeadWhole, waiting, with_coefs}
-use Rattle.jpg_file.specs.RowData.{AfterRest}
-use Rattle.jpg_file.specs.RowPlaces.{scan_left}
-use Rattle.jpg_file.specs.RowTurns.{IsRowIn, zero_picture}
-use Rattle.jpg_file.specs.Strips.{GoesByRow, IsHeadOfAll, components_of, contents_held, frame_behind}
-use Rattle.jpg_file.specs.declared.begun.Begun.{Begun}
-use Rattle.jpg_file.specs.declared.file.FileWork.{FileWork}
-use Rattle.jpg_file.specs.declared.items.Items.{Items}
-use Rattle.jpg_file.specs.declared.items.ItemStep.TheVariants as came
-use Rattle.jpg_file.specs.declared.reading.Reading.{Reading}
-use Rattle.jpg_file.specs.declared.rows.RowWork.{RowWork}
-use Rattle.jpg_file.specs.declared.scan.InScan.{InScan}
-use Rattle.jpg_file.specs.declared.scan.ScanStep.TheVariants as answer
+use Rattle.jpg_file.specs.Read.ScanStart.{HasSizes}
+use Rattle.jpg_file.specs.Read.ScanHistory.{HasBegun, HasBegunAll, StandsForHeads}
+use Rattle.jpg_file.specs.Read.Items.{BehindHead}
+use Rattle.jpg_file.specs.Read.File.{HeadStands, NotesHead}
+use Rattle.jpg_file.specs.Read.FirstHeader.{HasHead}
+use Rattle.jpg_file.specs.Read.SegmentState.{told_by}
+use Rattle.jpg_file.specs.Read.InData.{InData}
+use Rattle.jpg_file.specs.Read.JudgedHeader.{JudgesHead}
+use Rattle.jpg_file.specs.Read.Reading.{AfterHead, HeadWhole, waiting_bytes, with_coefs}
+use Rattle.jpg_file.specs.Read.RowData.{AfterRowBytes}
+use Rattle.jpg_file.specs.Read.RowPlaces.{scan_left}
+use Rattle.jpg_file.specs.Read.RowTurns.{IsRowIn, zero_picture}
+use Rattle.jpg_file.specs.Read.Strips.{GoesByRow, IsHeadOfAll, components_of, contents_held, frame_behind}
+use Rattle.jpg_file.specs.declared.read.scan_history.ScanHistory.{ScanHistory}
+use Rattle.jpg_file.specs.declared.read.file.FileWork.{FileWork}
+use Rattle.jpg_file.specs.declared.read.items.Items.{Items}
+use Rattle.jpg_file.specs.declared.read.items.ItemStep.TheVariants as came
+use Rattle.jpg_file.specs.declared.read.reading.Reading.{Reading}
+use Rattle.jpg_file.specs.declared.read.rows.RowWork.{RowWork}
+use Rattle.jpg_file.specs.declared.read.scan.InScan.{InScan}
+use Rattle.jpg_file.specs.declared.read.scan.ScanStep.TheVariants as answer
 use Rattle.jpg_file.proofs.FileSteps.{frame_held, unbroken}
-use Rattle.jpg_file.proofs.FirstHeads.{noted}
-use Rattle.jpg_file.proofs.RowBehind.{first_blocks}
+use Rattle.jpg_file.proofs.FirstHeaders.{noted}
+use Rattle.jpg_file.proofs.RowAfter.{first_blocks}
 use Rattle.jpg_file.proofs.StripAlone.{all_begun}
 
 -- THE HEADER
@@ -93,13 +93,13 @@ first_of limits bytes w h none = subst (λ o. HasHead limits bytes (segments_of 
 room_made : (limits : Limits) (items : List Item) (contents : List ℕ) (old : Items) (s : SegmentReader) → reading_of s ≡ reading_of old.segments → BehindHead limits items contents old → BehindHead limits items contents (record old { segments = s })
 room_made limits items contents old s e h = record {
   sent = h.sent;
-  stands = subst (λ r. StandsFor h.sent ((0xda, contents) ∷ segments_of items) r) (sym e) h.stands;
-  behind = subst (λ r. IsBehindScan r) (sym e) h.behind;
+  stands = subst (λ r. StandsForSegments h.sent ((0xda, contents) ∷ segments_of items) r) (sym e) h.stands;
+  behind = subst (λ r. IsAfterScan r) (sym e) h.behind;
   bounded = (ap (λ r. r.limits) e ∙ (h.bounded).0, (h.bounded).1);
   holds = h.holds;
 }
 
-pub head_room : (limits : Limits) (bytes : List ℕ) (items : List Item) (old : Items) (taken : Reading) (z : Picture) (b : Begun) (s : SegmentReader) → reading_of s ≡ reading_of (taken.items).segments → AfterHead limits bytes items old came.More (with_coefs taken z) b
+pub head_room : (limits : Limits) (bytes : List ℕ) (items : List Item) (old : Items) (taken : Reading) (z : Picture) (b : ScanHistory) (s : SegmentReader) → reading_of s ≡ reading_of (taken.items).segments → AfterHead limits bytes items old came.More (with_coefs taken z) b
     → AfterHead limits bytes items old came.More (with_coefs (record taken { items = record taken.items { segments = s } }) z) b
 head_room limits bytes items old taken z b s e a =
     let k = a.0 in (
@@ -111,14 +111,14 @@ head_room limits bytes items old taken z b s e a =
         at = k.at;
         head = room_made limits items (reading_of old.segments).contents taken.items s e k.head;
         count = k.count;
-        behind = subst (λ r. r.taken + waiting (k.scan).gate ≤ taken.taken) (sym e) k.behind;
+        behind = subst (λ r. r.taken + waiting_bytes (k.scan).gate ≤ taken.taken) (sym e) k.behind;
       },
       a.1,
     )
 
 -- THE FIRST ROW
 
--- as the header behind these items says
+-- as the header after these items requires
 row_as : (limits : Limits) (items : List Item) (contents : List ℕ) (f : Frame) (head : ScanHead) (rows : RowWork) (left : ℕ) → frame_behind limits items ≡ f → head_in f contents ≡ head → left ≡ length (scan_after limits (segments_of items) contents).places
     → IsRowIn f (head_components head) rows (length (units f (head_components head))) → IsRowIn (frame_behind limits items) (components_of limits items contents) rows left
 row_as limits items contents f head rows left is told all k =
@@ -133,7 +133,7 @@ some_left rows left whole sum some = ⊎_elim
     (cases_lt 0 rows.left)
 
 -- all components were in a scan
-pub begun_here : (limits : Limits) (items : List Item) (contents : List ℕ) (b : Begun) (f : Frame) (head : ScanHead) → IsHeadOfAll limits items contents f head → HasBegun limits b ((0xda, contents) ∷ segments_of items) → HasBegunAll b.progress
+pub begun_here : (limits : Limits) (items : List Item) (contents : List ℕ) (b : ScanHistory) (f : Frame) (head : ScanHead) → IsHeadOfAll limits items contents f head → HasBegun limits b ((0xda, contents) ∷ segments_of items) → HasBegunAll b.progress
 begun_here limits items contents b f head k h =
     let before = segments_of items in
     let g = frame_of limits before in
@@ -169,11 +169,11 @@ rows_begun limits bytes old taken new f head rows h k first a kept notes left ro
           contents = contents;
           scan = s.scan;
           inside = inside;
-          coded = subst (λ (l : List Bool). AfterRest limits h.items contents bytes answer.More l s.scan z) (sym empty) coded;
+          coded = subst (λ (l : List Bool). AfterRowBytes limits h.items contents bytes answer.More l s.scan z) (sym empty) coded;
           held = record {
             head = subst (λ (r : Reading). BehindHead limits h.items contents r.items) (sym notes.reading) s.head;
             count = ap (λ (r : Reading). r.taken) notes.reading ∙ s.count;
-            behind = subst (λ (r : Reading). (reading_of (r.items).segments).taken + waiting s.scan.gate ≤ r.taken) (sym notes.reading) s.behind;
+            behind = subst (λ (r : Reading). (reading_of (r.items).segments).taken + waiting_bytes s.scan.gate ≤ r.taken) (sym notes.reading) s.behind;
             begun = subst (λ b. HasBegun limits b before) (sym notes.begun) a.1;
             within = (h.beside).within;
             first_head = subst (λ o. HasHead limits bytes before o) (sym notes.head) now;

@@ -8,25 +8,25 @@ use Rattle.jpg_base.specs.declared.stop.Stop.TheVariants as stop
 use Rattle.jpg_coefs.specs.Picture.{Picture}
 use Rattle.jpg_markers.specs.Reading.{reading_of}
 use Rattle.jpg_seq.specs.Rows.{IsRowOf}
-use Rattle.jpg_file.specs.File.{IsStop, Stands, StandsInside, limits_of, with_picture}
-use Rattle.jpg_file.specs.InData.{Ended, InData}
-use Rattle.jpg_file.specs.Items.{IsOfMarker, TakesMarker}
-use Rattle.jpg_file.specs.Reading.{waiting}
-use Rattle.jpg_file.specs.RowData.{AfterRest, IsRowData, RunRest, TakesByteInRow, TakesRunInRow}
-use Rattle.jpg_file.specs.RowPlaces.{scan_left}
-use Rattle.jpg_file.specs.RowTurns.{CountsScan}
-use Rattle.jpg_file.specs.Strips.{AfterRows, PassesItem, RowsRun, ScanHeld, components_of, frame_behind}
-use Rattle.jpg_file.specs.declared.file.FileWork.{FileWork}
-use Rattle.jpg_file.specs.declared.items.Items.{Items}
-use Rattle.jpg_file.specs.declared.items.ItemStep.{ItemStep}
-use Rattle.jpg_file.specs.declared.rows.RowWork.{RowWork}
-use Rattle.jpg_file.specs.declared.scan.InScan.{InScan}
-use Rattle.jpg_file.specs.declared.scan.ScanStep.{ScanStep}
-use Rattle.jpg_file.specs.declared.scan.ScanStep.TheVariants as answer
-use Rattle.jpg_file.specs.declared.strips.StripStep.{StripStep}
-use Rattle.jpg_file.specs.declared.strips.StripStep.TheVariants as step
+use Rattle.jpg_file.specs.Read.File.{IsStop, StandsForFile, StandsInsideScan, limits_of, with_picture}
+use Rattle.jpg_file.specs.Read.InData.{EndsData, InData}
+use Rattle.jpg_file.specs.Read.Items.{IsOfMarker, TakesMarker}
+use Rattle.jpg_file.specs.Read.Reading.{waiting_bytes}
+use Rattle.jpg_file.specs.Read.RowData.{AfterRowBytes, IsRowData, RunRest, TakesByteInRow, TakesRunInRow}
+use Rattle.jpg_file.specs.Read.RowPlaces.{scan_left}
+use Rattle.jpg_file.specs.Read.RowTurns.{CountsScan}
+use Rattle.jpg_file.specs.Read.Strips.{AfterRows, PassesItem, RowsRun, ScanHeld, components_of, frame_behind}
+use Rattle.jpg_file.specs.declared.read.file.FileWork.{FileWork}
+use Rattle.jpg_file.specs.declared.read.items.Items.{Items}
+use Rattle.jpg_file.specs.declared.read.items.ItemStep.{ItemStep}
+use Rattle.jpg_file.specs.declared.read.rows.RowWork.{RowWork}
+use Rattle.jpg_file.specs.declared.read.scan.InScan.{InScan}
+use Rattle.jpg_file.specs.declared.read.scan.ScanStep.{ScanStep}
+use Rattle.jpg_file.specs.declared.read.scan.ScanStep.TheVariants as answer
+use Rattle.jpg_file.specs.declared.read.strips.StripStep.{StripStep}
+use Rattle.jpg_file.specs.declared.read.strips.StripStep.TheVariants as step
 use Rattle.jpg_file.proofs.FileSteps.{after_inside}
-use Rattle.jpg_file.proofs.FirstHeads.{has_longer}
+use Rattle.jpg_file.proofs.FirstHeaders.{has_longer}
 use Rattle.jpg_file.proofs.RowCounts.{counts_in}
 use Rattle.jpg_file.proofs.RowTurns.{none_unfinished}
 use Rattle.jpg_file.proofs.StripRows.{data_goes, row_data}
@@ -34,13 +34,13 @@ use Rattle.jpg_file.proofs.StripTurns.{RowReady, file_with, rest_shows}
 
 -- no bits wait
 pub ready_data : (limits : Limits) (bytes : List ℕ) (w : FileWork) (scan : InScan) (rows : RowWork) → (r : RowReady limits bytes w scan rows) → rows.waiting ≡ [] → InData limits r.items r.contents bytes scan r.whole
-ready_data limits bytes w scan rows r none = subst (λ (z : List Bool). AfterRest limits r.items r.contents bytes answer.More z scan r.whole) none r.coded
+ready_data limits bytes w scan rows r none = subst (λ (z : List Bool). AfterRowBytes limits r.items r.contents bytes answer.More z scan r.whole) none r.coded
 
 pub ready_row : (limits : Limits) (bytes : List ℕ) (w : FileWork) (scan : InScan) (rows : RowWork) → RowReady limits bytes w scan rows → rows.waiting ≡ [] → IsRowData scan rows
 ready_row limits bytes w scan rows r none = row_data limits r.items r.contents bytes scan r.whole rows (ready_data limits bytes w scan rows r none) (r.held).of r.at r.row r.turned
 
--- the file as it is read whole
-pub ready_inside : (limits : Limits) (bytes : List ℕ) (w : FileWork) (scan : InScan) (rows : RowWork) → (r : RowReady limits bytes w scan rows) → rows.waiting ≡ [] → w.reading.scan ≡ Some scan → StandsInside limits bytes (with_picture w r.whole)
+-- the file as it is read in one go
+pub ready_inside : (limits : Limits) (bytes : List ℕ) (w : FileWork) (scan : InScan) (rows : RowWork) → (r : RowReady limits bytes w scan rows) → rows.waiting ≡ [] → w.reading.scan ≡ Some scan → StandsInsideScan limits bytes (with_picture w r.whole)
 ready_inside limits bytes w scan rows r none is =
     let h = r.held in
     record {
@@ -52,12 +52,12 @@ ready_inside limits bytes w scan rows r none is =
       head = h.first_head;
     }
 
-few_wait : (b : Bool) → waiting b ≤ 1
+few_wait : (b : Bool) → waiting_bytes b ≤ 1
 few_wait false = omega arith
 few_wait true = omega arith
 
 -- with more bytes
-held_more : (limits : Limits) (items : List Item) (contents bytes more : List ℕ) (w : FileWork) (s : InScan) (gate now : Bool) (n : ℕ) → n ≡ length more → w.reading.taken + n ≤ limits.input → waiting now ≤ n → ScanHeld limits items contents bytes w gate
+held_more : (limits : Limits) (items : List Item) (contents bytes more : List ℕ) (w : FileWork) (s : InScan) (gate now : Bool) (n : ℕ) → n ≡ length more → w.reading.taken + n ≤ limits.input → waiting_bytes now ≤ n → ScanHeld limits items contents bytes w gate
     → ScanHeld limits items contents (bytes ++ more) (file_with w s (w.reading.taken + n)) now
 held_more limits items contents bytes more w s gate now n long room few h = record {
   head = h.head;
@@ -77,7 +77,7 @@ pub byte_goes : (limits : Limits) (bytes : List ℕ) (byte : ℕ) (w : FileWork)
 byte_goes limits bytes byte w scan new rows after row given result r none room took is c came =
     let all = bytes ++ byte ∷ [] in
     let t = took limits r.items r.contents bytes r.whole r.row (ready_data limits bytes w scan rows r none) in
-    let coded = subst (λ (a : ScanStep). AfterRest limits r.items r.contents all a after.waiting new t.0) is t.2 in
+    let coded = subst (λ (a : ScanStep). AfterRowBytes limits r.items r.contents all a after.waiting new t.0) is t.2 in
     let of = subst (λ (l : List ℕ). IsRowOf l t.0 after.coefs) (sym c.tops) t.1 in
     let held = held_more limits r.items r.contents bytes (byte ∷ []) w new scan.gate new.gate 1 refl (omega (arith, room)) (few_wait new.gate) r.held in
     subst (λ (a : StripStep). AfterRows limits all a (file_with w new (w.reading.taken + 1)) after) (sym came)
@@ -88,28 +88,28 @@ pub byte_stops : (limits : Limits) (bytes : List ℕ) (byte : ℕ) (w : FileWork
 byte_stops limits bytes byte w scan new rows after given fault r none took is =
     let all = bytes ++ byte ∷ [] in
     let t = took limits r.items r.contents bytes r.whole r.row (ready_data limits bytes w scan rows r none) in
-    let shown = rest_shows limits r.items r.contents all fault after.waiting new t.0 (subst (λ (a : ScanStep). AfterRest limits r.items r.contents all a after.waiting new t.0) is t.2) in
+    let shown = rest_shows limits r.items r.contents all fault after.waiting new t.0 (subst (λ (a : ScanStep). AfterRowBytes limits r.items r.contents all a after.waiting new t.0) is t.2) in
     (omega (arith, (r.held).count, length-append bytes (byte ∷ [])), shown)
 
 -- a marker ends the scan's data, and no bits wait
-marker_ends : (limits : Limits) (items : List Item) (contents bytes : List ℕ) (code : ℕ) (bits : List Bool) (s : InScan) (now : Picture) → AfterRest limits items contents bytes (answer.Marker code) bits s now → (bits ≡ []) × Ended limits items contents bytes code now
+marker_ends : (limits : Limits) (items : List Item) (contents bytes : List ℕ) (code : ℕ) (bits : List Bool) (s : InScan) (now : Picture) → AfterRowBytes limits items contents bytes (answer.Marker code) bits s now → (bits ≡ []) × EndsData limits items contents bytes code now
 marker_ends limits items contents bytes code [] s now a = (refl, a)
 marker_ends limits items contents bytes code (bit ∷ bits) s now (e, h) = (let z : (let a : ScanStep = answer.Marker code in a) ≡ answer.More = e in absurd cc)
 
-abbrev pub file_behind : FileWork → Items → ℕ → FileWork
-file_behind w held n = record w { reading = record w.reading { items = held; scan = None; taken = n } }
+abbrev pub file_after : FileWork → Items → ℕ → FileWork
+file_after w held n = record w { reading = record w.reading { items = held; scan = None; taken = n } }
 
 pub byte_leaves : (bytes : List ℕ) (byte code : ℕ) (w : FileWork) (scan new : InScan) (rows after : RowWork) (row : Bool) (given : ScanStep) (held : Items) (came : ItemStep) (result : StripStep) → RowReady (limits_of w) bytes w scan rows → rows.waiting ≡ [] → w.reading.scan ≡ Some scan
     → w.reading.taken < (limits_of w).input → TakesByteInRow scan rows byte given new after → given ≡ answer.Marker code → CountsScan scan.work rows row new.work after → TakesMarker w.reading.items code came held → (reading_of held.segments).taken ≡ w.reading.taken + 1
-    → scan_left new.work ≡ 0 → PassesItem (file_behind w held (w.reading.taken + 1)) came result → AfterRows (limits_of w) (bytes ++ byte ∷ []) result (file_behind w held (w.reading.taken + 1)) after
+    → scan_left new.work ≡ 0 → PassesItem (file_after w held (w.reading.taken + 1)) came result → AfterRows (limits_of w) (bytes ++ byte ∷ []) result (file_after w held (w.reading.taken + 1)) after
 unfolding ready_inside
 byte_leaves bytes byte code w scan new rows after row given held came result r none inside room took is c marker taken done passes =
     let limits = limits_of w in
     let all = bytes ++ byte ∷ [] in
-    let next = file_behind w held (w.reading.taken + 1) in
+    let next = file_after w held (w.reading.taken + 1) in
     let t = took limits r.items r.contents bytes r.whole r.row (ready_data limits bytes w scan rows r none) in
     let now = t.0 in
-    let e = marker_ends limits r.items r.contents all code after.waiting new now (subst (λ (a : ScanStep). AfterRest limits r.items r.contents all a after.waiting new now) is t.2) in
+    let e = marker_ends limits r.items r.contents all code after.waiting new now (subst (λ (a : ScanStep). AfterRowBytes limits r.items r.contents all a after.waiting new now) is t.2) in
     let of = subst (λ (l : List ℕ). IsRowOf l now after.coefs) (sym c.tops) t.1 in
     let count : w.reading.taken + 1 ≡ length all = omega (arith, (r.held).count, length-append bytes (byte ∷ [])) in
     let s = ready_inside limits bytes w scan rows r none inside in
@@ -118,17 +118,17 @@ byte_leaves bytes byte code w scan new rows after row given held came result r n
     passes limits w.reading.scan all now after came_to refl of e.0 (r.held).all
     (none_unfinished (frame_behind limits r.items) (components_of limits r.items r.contents) after (scan_left new.work) (counts_in (frame_behind limits r.items) (components_of limits r.items r.contents) scan.work new.work rows after row r.at c) done)
 
--- a marker alone asks for no memory
+-- a marker by itself needs no memory
 pub leaves_kind : (bytes : List ℕ) (byte code : ℕ) (w : FileWork) (scan new : InScan) (rows after : RowWork) (given : ScanStep) (held : Items) (came : ItemStep) → RowReady (limits_of w) bytes w scan rows → rows.waiting ≡ [] → TakesByteInRow scan rows byte given new after → given ≡ answer.Marker code
     → TakesMarker w.reading.items code came held → IsOfMarker came
 leaves_kind bytes byte code w scan new rows after given held came r none took is marker =
     let limits = limits_of w in
     let all = bytes ++ byte ∷ [] in
     let t = took limits r.items r.contents bytes r.whole r.row (ready_data limits bytes w scan rows r none) in
-    let e = marker_ends limits r.items r.contents all code after.waiting new t.0 (subst (λ (a : ScanStep). AfterRest limits r.items r.contents all a after.waiting new t.0) is t.2) in
+    let e = marker_ends limits r.items r.contents all code after.waiting new t.0 (subst (λ (a : ScanStep). AfterRowBytes limits r.items r.contents all a after.waiting new t.0) is t.2) in
     (marker r.items r.contents all t.0 (r.held).head e.1).2
 
--- SOME BYTES behind one another
+-- SOME BYTES one after another
 
 -- the file before the last of them
 pub run_mid : (limits : Limits) (bytes run : List ℕ) (n : ℕ) (w : FileWork) (scan new : InScan) (rows : RowWork) (given : ScanStep) (bits : List Bool) (now : Picture) → (r : RowReady limits bytes w scan rows) → w.reading.taken + length run ≤ limits.input
@@ -141,7 +141,7 @@ run_mid limits bytes run n w scan new rows given bits now r room t =
     record {
       head = h.head;
       count = omega (arith, h.count, size, all);
-      behind = omega (arith, h.behind, ap waiting t.open);
+      behind = omega (arith, h.behind, ap waiting_bytes t.open);
       begun = h.begun;
       within = omega (arith, h.count, size, all, room, low);
       first_head = has_longer limits bytes (take t.early run) (bytes ++ take t.early run) ((0xda, r.contents) ∷ segments_of r.items) w.head refl h.first_head;
@@ -150,7 +150,7 @@ run_mid limits bytes run n w scan new rows given bits now r room t =
     }
 
 pub run_stands : (limits : Limits) (bytes run : List ℕ) (n : ℕ) (w : FileWork) (scan new : InScan) (rows : RowWork) (given : ScanStep) (bits : List Bool) (now : Picture) → (r : RowReady limits bytes w scan rows) → w.reading.taken + length run ≤ limits.input
-    → (t : RunRest limits r.items r.contents bytes run n given bits new now) → Stands limits (bytes ++ take t.early run) (with_picture (file_with w t.mid (w.reading.taken + t.early)) t.between)
+    → (t : RunRest limits r.items r.contents bytes run n given bits new now) → StandsForFile limits (bytes ++ take t.early run) (with_picture (file_with w t.mid (w.reading.taken + t.early)) t.between)
 run_stands limits bytes run n w scan new rows given bits now r room t =
     let h = run_mid limits bytes run n w scan new rows given bits now r room t in
     inr (record {
@@ -162,7 +162,7 @@ run_stands limits bytes run n w scan new rows given bits now r room t =
       head = h.first_head;
     })
 
--- so many bytes are taken
+-- n bytes are taken
 run_count : (taken early n : ℕ) → n ≡ early + 1 → (taken + early) + 1 ≡ taken + n
 run_count taken early n e = omega (arith, e)
 
@@ -177,7 +177,7 @@ run_goes limits bytes run n w scan new rows after row given result r none room t
     let byte = get_or run t.early 0 in
     let all = front ++ byte ∷ [] in
     let mid = file_with w t.mid (w.reading.taken + t.early) in
-    let coded = subst (λ (a : ScanStep). AfterRest limits r.items r.contents all a after.waiting new now) is t.last in
+    let coded = subst (λ (a : ScanStep). AfterRowBytes limits r.items r.contents all a after.waiting new now) is t.last in
     let of = subst (λ (l : List ℕ). IsRowOf l now after.coefs) (sym c.tops) k.1 in
     let held = held_more limits r.items r.contents front (byte ∷ []) mid new (t.mid).gate new.gate 1 refl (omega (arith, room, low)) (few_wait new.gate) (run_mid limits bytes run n w scan new rows given after.waiting now r room t) in
     let one = run_count w.reading.taken t.early n t.count in
@@ -204,7 +204,7 @@ run_stops limits bytes run n w scan new rows after given fault result r none roo
     let front = bytes ++ take t.early run in
     let byte = get_or run t.early 0 in
     let all = front ++ byte ∷ [] in
-    let shown = rest_shows limits r.items r.contents all fault after.waiting new now (subst (λ (a : ScanStep). AfterRest limits r.items r.contents all a after.waiting new now) is t.last) in
+    let shown = rest_shows limits r.items r.contents all fault after.waiting new now (subst (λ (a : ScanStep). AfterRowBytes limits r.items r.contents all a after.waiting new now) is t.last) in
     let size = length-take-le t.early run (omega (arith, low)) in
     let long : w.reading.taken + n ≡ length all = omega (arith, (r.held).count, t.count, size, length-append front (byte ∷ []), length-append bytes (take t.early run)) in
     record {

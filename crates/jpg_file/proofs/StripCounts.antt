@@ -1,4 +1,4 @@
--- How many MCU rows the first scan of a file has, where it has all components.
+-- The number of MCU rows of the first scan of a file, if it has all components.
 use Rattle.std.proofs.Common.{◌≡◌, ℕ, ◌≤◌, ◌<◌, List, [], ◌∷◌, length, refl, sym, ap, ◌∙◌, subst, arith, Option, Some, None}
 use Rattle.std.proofs.lemmas.List.{length-map}
 use Rattle.jpg_spec.specs.Geometry.{Frame, mcus_down}
@@ -11,22 +11,22 @@ use Rattle.jpg_spec.specs.declared.frame.Limits.{Limits}
 use Rattle.jpg_spec.specs.declared.frame.ScanPart.{ScanPart}
 use Rattle.jpg_spec.proofs.Common.{length_below}
 use Rattle.jpg_spec.proofs.FrameFound.{framed}
-use Rattle.jpg_spec.proofs.PlacedBlocks.{Each}
+use Rattle.jpg_spec.proofs.Each.{Each}
 use Rattle.jpg_spec.proofs.RowCounts.{head_below}
 use Rattle.jpg_base.specs.Cursor.{scan_mcus_down}
-use Rattle.jpg_file.specs.File.{HeadStands, NotesHead, head_or}
-use Rattle.jpg_file.specs.FirstHead.{head_told}
-use Rattle.jpg_file.specs.Held.{HeldTold, told_by}
-use Rattle.jpg_file.specs.Reading.{AfterHead, with_coefs}
-use Rattle.jpg_file.specs.RowTurns.{zero_picture}
-use Rattle.jpg_file.specs.Strips.{IsHeadOfAll, contents_held, rows_of_all}
-use Rattle.jpg_file.specs.declared.file.FileWork.{FileWork}
-use Rattle.jpg_file.specs.declared.head.Head.{Head}
-use Rattle.jpg_file.specs.declared.items.ItemStep.TheVariants as came
+use Rattle.jpg_file.specs.Read.File.{HeadStands, NotesHead, head_or}
+use Rattle.jpg_file.specs.Read.FirstHeader.{first_header_of}
+use Rattle.jpg_file.specs.Read.SegmentState.{SegmentView, told_by}
+use Rattle.jpg_file.specs.Read.Reading.{AfterHead, with_coefs}
+use Rattle.jpg_file.specs.Read.RowTurns.{zero_picture}
+use Rattle.jpg_file.specs.Read.Strips.{IsHeadOfAll, contents_held, rows_of_all}
+use Rattle.jpg_file.specs.declared.read.file.FileWork.{FileWork}
+use Rattle.jpg_file.specs.declared.read.first_header.Head.{Head}
+use Rattle.jpg_file.specs.declared.read.items.ItemStep.TheVariants as came
 use Rattle.jpg_file.proofs.FileSteps.{frame_held}
 use Rattle.jpg_file.proofs.StripBegin.{components_all}
 
--- AS MANY as any list of all components says
+-- AS MANY as any list of all components gives
 
 many_down : (f : Frame) (ids : List ℕ) → 2 ≤ length ids → scan_mcus_down f ids ≡ mcus_down f
 many_down f [] some = absurd (omega (arith, some))
@@ -51,8 +51,8 @@ abbrev frame_or : Frame → Option Head → Frame
 frame_or f None = f
 frame_or f (Some h) = h.frame
 
-told_frame : (t : HeldTold) (n : ℕ) (f : Frame) (kept : Head) → t.frame ≡ Some f → head_told t n ≡ Some kept → kept.frame ≡ f
-told_frame t n f kept is e = ap (λ (o : Option Head). frame_or f o) (sym e) ∙ ap (λ (o : Option Frame). frame_or f (head_told (record t { frame = o }) n)) is
+told_frame : (t : SegmentView) (n : ℕ) (f : Frame) (kept : Head) → t.frame ≡ Some f → first_header_of t n ≡ Some kept → kept.frame ≡ f
+told_frame t n f kept is e = ap (λ (o : Option Head). frame_or f o) (sym e) ∙ ap (λ (o : Option Frame). frame_or f (first_header_of (record t { frame = o }) n)) is
 
 pub kept_frame : (limits : Limits) (bytes : List ℕ) (old taken new : FileWork) (f : Frame) (head : ScanHead) (kept : Head) → (h : HeadStands limits bytes old) → IsHeadOfAll limits h.items (contents_held old) f head
     → AfterHead limits bytes h.items old.reading.items came.More (with_coefs taken.reading (zero_picture f)) taken.begun → taken.head ≡ None → NotesHead taken new → new.head ≡ Some kept → kept.frame ≡ f
@@ -60,5 +60,5 @@ kept_frame limits bytes old taken new f head kept h k a none notes is =
     let allowed = subst (λ n. code_fault (segments_of h.items) n ≡ None) h.code (h.at).allowed in
     let held = frame_held limits bytes h.items h.blocks taken.reading.items.held.frame ((h.at).at).leads (((a.0).head).holds).frame (framed (segments_of h.items) allowed) in
     let has : taken.reading.items.held.frame ≡ Some f = held.has ∙ ap (λ (g : Frame). Some g) (sym held.is ∙ k.framed) in
-    let told = head_told (told_by taken.reading.items.held) taken.reading.taken in
+    let told = first_header_of (told_by taken.reading.items.held) taken.reading.taken in
     told_frame (told_by taken.reading.items.held) taken.reading.taken f kept has (sym (notes.head ∙ ap (λ (o : Option Head). head_or o told) none) ∙ is)

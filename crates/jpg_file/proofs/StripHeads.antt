@@ -1,4 +1,4 @@
--- The colours of a picture are some that its components may have.
+-- The colours of a picture are among those that its components may have.
 use Rattle.std.proofs.Common.{◌≡◌, [], ◌∷◌, ℕ, zero, suc, ◌≤◌, ◌<◌, Bool, true, false, if◌then◌else◌, List, length, map, Option, subst, sym, refl, ap, ◌∙◌, arith, slice_index_or}
 use Rattle.std.proofs.lemmas.List.{length-map}
 use Rattle.jpg_spec.specs.Lists.{below, are_equal}
@@ -8,11 +8,11 @@ use Rattle.jpg_spec.specs.FrameHeader.{IsFrame}
 use Rattle.jpg_spec.specs.Jfif.{jfif_of, adobe_transform}
 use Rattle.jpg_spec.specs.Meaning.{colour_of}
 use Rattle.jpg_spec.specs.declared.frame.Colour.TheVariants.{YCbCr, Rgb, Cmyk, Ycck}
-use Rattle.jpg_file.specs.PictureKept.{IsQuantTable, component_told}
-use Rattle.jpg_file.specs.PictureRead.{picture_meaning}
-use Rattle.jpg_file.specs.StripHead.{IsStripHead, may_have}
-use Rattle.jpg_file.specs.declared.strip_head.StripHead.{StripHead}
-use Rattle.jpg_file.specs.declared.picture.Picture.{Picture}
+use Rattle.jpg_file.specs.Read.PictureKept.{IsQuantTable, component_told}
+use Rattle.jpg_file.specs.Read.PictureRead.{picture_meaning}
+use Rattle.jpg_file.specs.Read.StripHead.{IsStripHead, may_have}
+use Rattle.jpg_file.specs.declared.read.strip_head.StripHead.{StripHead}
+use Rattle.jpg_file.specs.declared.read.picture.Picture.{Picture}
 
 four_by : (zero_told told : Bool) → may_have 4 (if zero_told then Cmyk else if told then Ycck else Cmyk) ≡ true
 four_by true told = refl

@@ -1,4 +1,4 @@
--- What stands behind the scan of a file that is read MCU row by MCU row.
+-- What follows the scan of a file that is read MCU row by MCU row.
 use Rattle.std.proofs.Common.{◌≡◌, ◌⊎◌, ◌<◌, ◌≤◌, ◌∷◌, ◌++◌, length, refl, arith, inl, ℕ, Bool, true, false, List, [], sym, ap, ◌∙◌, subst, Option, Some, None, Ok, Err, inr}
 use Rattle.std.specs.Prelude.{Result, is_some, unwrap_or}
 use Rattle.std.proofs.lemmas.List.{length-append}
@@ -13,24 +13,24 @@ use Rattle.jpg_base.specs.declared.stop.Stop.TheVariants as stop
 use Rattle.jpg_coefs.specs.Picture.{Picture}
 use Rattle.jpg_markers.specs.Reading.{reading_of}
 use Rattle.jpg_seq.specs.Rows.{IsRowOf}
-use Rattle.jpg_file.specs.Begun.{HasBegunAll}
-use Rattle.jpg_file.specs.File.{AfterFileByte, AfterFileStep, HeadStands, IsStop, Stands, StandsBetween, with_picture}
-use Rattle.jpg_file.specs.Held.{told_by}
-use Rattle.jpg_file.specs.Judge.{JudgesHead}
-use Rattle.jpg_file.specs.RowTurns.{unfinished}
-use Rattle.jpg_file.specs.Strips.{AfterRows, GoesByRow, HasLaterHead, PassesItem, RowsBehind, RowsInside, end_step}
-use Rattle.jpg_file.specs.Reading.{AfterItemByte, Itemising}
-use Rattle.jpg_file.specs.declared.file.FileWork.{FileWork}
-use Rattle.jpg_file.specs.declared.items.ItemStep.{ItemStep}
-use Rattle.jpg_file.specs.declared.items.ItemStep.TheVariants as step
-use Rattle.jpg_file.specs.declared.reading.Reading.{Reading}
-use Rattle.jpg_file.specs.declared.strips.StripStep.{StripStep}
-use Rattle.jpg_file.specs.declared.rows.RowWork.{RowWork}
+use Rattle.jpg_file.specs.Read.ScanHistory.{HasBegunAll}
+use Rattle.jpg_file.specs.Read.File.{AfterFileByte, AfterFileStep, HeadStands, IsStop, StandsForFile, StandsBetween, with_picture}
+use Rattle.jpg_file.specs.Read.SegmentState.{told_by}
+use Rattle.jpg_file.specs.Read.JudgedHeader.{JudgesHead}
+use Rattle.jpg_file.specs.Read.RowTurns.{unfinished}
+use Rattle.jpg_file.specs.Read.Strips.{AfterRows, GoesByRow, HasLaterHead, PassesItem, RowsAfter, RowsInside, end_step}
+use Rattle.jpg_file.specs.Read.Reading.{AfterItemByte, Itemising}
+use Rattle.jpg_file.specs.declared.read.file.FileWork.{FileWork}
+use Rattle.jpg_file.specs.declared.read.items.ItemStep.{ItemStep}
+use Rattle.jpg_file.specs.declared.read.items.ItemStep.TheVariants as step
+use Rattle.jpg_file.specs.declared.read.reading.Reading.{Reading}
+use Rattle.jpg_file.specs.declared.read.strips.StripStep.{StripStep}
+use Rattle.jpg_file.specs.declared.read.rows.RowWork.{RowWork}
 use Rattle.jpg_file.proofs.FileSteps.{after_between, between_of}
 use Rattle.jpg_file.proofs.ItemBytes.{segment_fault}
 use Rattle.jpg_file.proofs.Scannings.{none_some}
 
--- a header that shows a fault
+-- a header that has a fault
 pub head_stops : (limits : Limits) (bytes : List ℕ) (w : FileWork) (f : Frame) (contents : List ℕ) (fault : Fault) → HeadStands limits bytes w → w.reading.items.held.frame ≡ Some f → contents ≡ (reading_of w.reading.items.segments).contents
     → JudgesHead contents f (told_by w.reading.items.held) w.begun (Err fault) → IsStop limits bytes (record { fault = fault; at = w.reading.taken })
 head_stops limits bytes w f contents fault h is same judges =
@@ -40,8 +40,8 @@ head_stops limits bytes w f contents fault h is same judges =
     let rule = subst (λ c. contents_rule limits before 0xda c ≡ Some fault) same (judges limits before framed s.holds (h.beside).begun) in
     ((h.beside).count, segment_fault limits bytes h.items h.blocks w.reading.items fault s (subst (λ n. contents_rule limits before n (reading_of w.reading.items.segments).contents ≡ Some fault) (sym h.code) rule))
 
--- the file goes on behind the scan
-pub item_goes : (limits : Limits) (bytes : List ℕ) (w : FileWork) (whole : Picture) (rows : RowWork) → Stands limits bytes (with_picture w whole) → w.reading.scan ≡ None → IsRowOf rows.tops whole rows.coefs → rows.waiting ≡ [] → HasBegunAll w.begun.progress
+-- the file continues after the scan
+pub item_goes : (limits : Limits) (bytes : List ℕ) (w : FileWork) (whole : Picture) (rows : RowWork) → StandsForFile limits bytes (with_picture w whole) → w.reading.scan ≡ None → IsRowOf rows.tops whole rows.coefs → rows.waiting ≡ [] → HasBegunAll w.begun.progress
     → unfinished rows ≡ 0 → GoesByRow limits bytes w rows
 item_goes limits bytes w whole rows k none row empty begun done = record {
   stands = record { whole = whole; row = row; at = inr (record { between = between_of limits bytes (with_picture w whole) k (ap is_some none); none = empty; all = begun; done = done }) };
@@ -57,29 +57,29 @@ item_ends limits bytes w whole rows (Ok true) a none row empty begun done = reco
 item_ends limits bytes w whole rows (Err (stop.Fault f)) a none row empty begun done = a
 item_ends limits bytes w whole rows (Err stop.NoMemory) a none row empty begun done = tt
 
--- A BYTE behind the scan
+-- A BYTE after the scan
 
-pub record IsBehind (limits : Limits) (bytes : List ℕ) (w : FileWork) (rows : RowWork) : Type 0 where
+pub record IsAfter (limits : Limits) (bytes : List ℕ) (w : FileWork) (rows : RowWork) : Type 0 where
   pub whole : Picture
   pub row : IsRowOf rows.tops whole rows.coefs
   pub between : StandsBetween limits bytes (with_picture w whole)
   pub all : HasBegunAll w.begun.progress
   pub done : unfinished rows ≡ 0
 
-pub behind_of : (limits : Limits) (bytes : List ℕ) (w : FileWork) (rows : RowWork) → GoesByRow limits bytes w rows → is_some w.reading.scan ≡ false → IsBehind limits bytes w rows
-behind_of limits bytes w rows g none = by (g.stands).at
+pub after_of : (limits : Limits) (bytes : List ℕ) (w : FileWork) (rows : RowWork) → GoesByRow limits bytes w rows → is_some w.reading.scan ≡ false → IsAfter limits bytes w rows
+after_of limits bytes w rows g none = by (g.stands).at
   where
-    by : RowsInside limits bytes w rows (g.stands).whole ⊎ RowsBehind limits bytes w rows (g.stands).whole → IsBehind limits bytes w rows
+    by : RowsInside limits bytes w rows (g.stands).whole ⊎ RowsAfter limits bytes w rows (g.stands).whole → IsAfter limits bytes w rows
     by (inl r) = absurd (clash (is_some w.reading.scan) (ap is_some r.inside) none)
     by (inr b) = record { whole = (g.stands).whole; row = (g.stands).row; between = b.between; all = b.all; done = b.done }
 
-pub later_items : (limits : Limits) (bytes : List ℕ) (w : FileWork) (rows : RowWork) → (b : IsBehind limits bytes w rows) → Itemising limits bytes (b.between).items (b.between).blocks w.reading
+pub later_items : (limits : Limits) (bytes : List ℕ) (w : FileWork) (rows : RowWork) → (b : IsAfter limits bytes w rows) → Itemising limits bytes (b.between).items (b.between).blocks w.reading
 later_items limits bytes w rows b =
     let s = b.between in
     record { at = s.at; none = (s.beside).none; count = (s.beside).count; same = (s.beside).same }
 
--- what it comes to, whatever the picture
-later_step : (limits : Limits) (bytes : List ℕ) (byte : ℕ) (w : FileWork) (r : Reading) (rows : RowWork) (came : ItemStep) → (b : IsBehind limits bytes w rows) → AfterItemByte limits (bytes ++ byte ∷ []) (b.between).items (b.between).blocks came r → w.reading.taken < limits.input
+-- its result, whatever the picture
+later_step : (limits : Limits) (bytes : List ℕ) (byte : ℕ) (w : FileWork) (r : Reading) (rows : RowWork) (came : ItemStep) → (b : IsAfter limits bytes w rows) → AfterItemByte limits (bytes ++ byte ∷ []) (b.between).items (b.between).blocks came r → w.reading.taken < limits.input
     → AfterFileStep w.reading.scan limits (bytes ++ byte ∷ []) came (with_picture (record w { reading = r }) b.whole)
 later_step limits bytes byte w r rows came b a room =
     let all = bytes ++ byte ∷ [] in
@@ -89,13 +89,13 @@ later_step limits bytes byte w r rows came b a room =
     let ghost : AfterItemByte limits all s.items s.blocks came (with_picture new b.whole).reading = record { after = a.after; none = a.none; count = a.count; same = a.same } in
     after_between limits bytes (byte ∷ []) came (with_picture w b.whole) (with_picture new b.whole) s ghost refl refl refl within
 
-pub later_goes : (limits : Limits) (bytes : List ℕ) (byte : ℕ) (w : FileWork) (r : Reading) (rows : RowWork) (came : ItemStep) (result : StripStep) → GoesByRow limits bytes w rows → (b : IsBehind limits bytes w rows)
+pub later_goes : (limits : Limits) (bytes : List ℕ) (byte : ℕ) (w : FileWork) (r : Reading) (rows : RowWork) (came : ItemStep) (result : StripStep) → GoesByRow limits bytes w rows → (b : IsAfter limits bytes w rows)
     → AfterItemByte limits (bytes ++ byte ∷ []) (b.between).items (b.between).blocks came r → w.reading.taken < limits.input → PassesItem (record w { reading = r }) came result → AfterRows limits (bytes ++ byte ∷ []) result (record w { reading = r }) rows
 later_goes limits bytes byte w r rows came result g b a room passes =
     passes limits w.reading.scan (bytes ++ byte ∷ []) b.whole rows (later_step limits bytes byte w r rows came b a room) a.none b.row g.none b.all b.done
 
--- a scan header that is whole
-pub later_there : (limits : Limits) (bytes : List ℕ) (byte : ℕ) (w : FileWork) (r : Reading) (rows : RowWork) (came : ItemStep) → (b : IsBehind limits bytes w rows) → AfterItemByte limits (bytes ++ byte ∷ []) (b.between).items (b.between).blocks came r → w.reading.taken < limits.input
+-- a scan header that is complete
+pub later_there : (limits : Limits) (bytes : List ℕ) (byte : ℕ) (w : FileWork) (r : Reading) (rows : RowWork) (came : ItemStep) → (b : IsAfter limits bytes w rows) → AfterItemByte limits (bytes ++ byte ∷ []) (b.between).items (b.between).blocks came r → w.reading.taken < limits.input
     → came ≡ step.Head → HasLaterHead (record w { reading = r })
 later_there limits bytes byte w r rows came b a room is =
     let all = bytes ++ byte ∷ [] in

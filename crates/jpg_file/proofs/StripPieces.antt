@@ -3,19 +3,19 @@ use Rattle.std.proofs.Common.{◌≡◌, ◌⊎◌, ℕ, ◌≤◌, ◌<◌, Boo
 use Rattle.std.proofs.lemmas.List.{append-nil, get_or-take, length-take-le, take-take}
 use Rattle.jpg_spec.specs.declared.frame.Limits.{Limits}
 use Rattle.jpg_coefs.specs.Picture.{Picture}
-use Rattle.jpg_file.specs.File.{Stands, with_picture}
-use Rattle.jpg_file.specs.RowData.{AfterRest}
-use Rattle.jpg_file.specs.Strips.{AfterRows, GoesByRow, RowsBehind, RowsInside, RowsRun}
-use Rattle.jpg_file.specs.declared.file.FileWork.{FileWork}
-use Rattle.jpg_file.specs.declared.rows.RowWork.{RowWork}
-use Rattle.jpg_file.specs.declared.scan.ScanStep.TheVariants as answer
-use Rattle.jpg_file.specs.declared.strips.StripStep.{StripStep}
+use Rattle.jpg_file.specs.Read.File.{StandsForFile, with_picture}
+use Rattle.jpg_file.specs.Read.RowData.{AfterRowBytes}
+use Rattle.jpg_file.specs.Read.Strips.{AfterRows, GoesByRow, RowsAfter, RowsInside, RowsRun}
+use Rattle.jpg_file.specs.declared.read.file.FileWork.{FileWork}
+use Rattle.jpg_file.specs.declared.read.rows.RowWork.{RowWork}
+use Rattle.jpg_file.specs.declared.read.scan.ScanStep.TheVariants as answer
+use Rattle.jpg_file.specs.declared.read.strips.StripStep.{StripStep}
 
--- the file as it is read whole
-pub goes_with : (limits : Limits) (bytes : List ℕ) (w : FileWork) (rows : RowWork) → (g : GoesByRow limits bytes w rows) → Stands limits bytes (with_picture w (g.stands).whole)
+-- the file as it is read in one go
+pub goes_with : (limits : Limits) (bytes : List ℕ) (w : FileWork) (rows : RowWork) → (g : GoesByRow limits bytes w rows) → StandsForFile limits bytes (with_picture w (g.stands).whole)
 goes_with limits bytes w rows g = by (g.stands).at
   where
-    by : RowsInside limits bytes w rows (g.stands).whole ⊎ RowsBehind limits bytes w rows (g.stands).whole → Stands limits bytes (with_picture w (g.stands).whole)
+    by : RowsInside limits bytes w rows (g.stands).whole ⊎ RowsAfter limits bytes w rows (g.stands).whole → StandsForFile limits bytes (with_picture w (g.stands).whole)
     by (inl r) =
         let h = r.held in
         let z = (g.stands).whole in
@@ -27,7 +27,7 @@ goes_with limits bytes w rows g = by (g.stands).at
             has = refl;
             scan = r.scan;
             inside = r.inside;
-            at = subst (λ (l : List Bool). AfterRest limits r.items r.contents bytes answer.More l r.scan z) g.none r.coded;
+            at = subst (λ (l : List Bool). AfterRowBytes limits r.items r.contents bytes answer.More l r.scan z) g.none r.coded;
             head = h.head;
             count = h.count;
             behind = h.behind;
@@ -38,7 +38,7 @@ goes_with limits bytes w rows g = by (g.stands).at
         })
     by (inr b) = inl b.between
 
-pub goes_stands : (limits : Limits) (bytes : List ℕ) (w : FileWork) (rows : RowWork) → GoesByRow limits bytes w rows → (whole : Picture) × Stands limits bytes (with_picture w whole)
+pub goes_stands : (limits : Limits) (bytes : List ℕ) (w : FileWork) (rows : RowWork) → GoesByRow limits bytes w rows → (whole : Picture) × StandsForFile limits bytes (with_picture w whole)
 goes_stands limits bytes w rows g = ((g.stands).whole, goes_with limits bytes w rows g)
 
 -- a byte
@@ -52,13 +52,13 @@ one_row limits front bytes w new rows after result g room some head a =
       early = 0;
       count = refl;
       within = some;
-      before = subst (λ l. Stands limits l (with_picture w k.0)) (sym same) k.1;
+      before = subst (λ l. StandsForFile limits l (with_picture w k.0)) (sym same) k.1;
       room = room;
       head = sym head;
       last = subst (λ l. AfterRows limits (l ++ get_or bytes 0 0 ∷ []) result new after) (sym same) a;
     }
 
--- a stretch from their front
+-- a stretch from the first of them on
 pub front_rows : (limits : Limits) (front bytes : List ℕ) (size n : ℕ) (new : FileWork) (after : RowWork) (result : StripStep) → size ≤ length bytes → RowsRun limits front (take size bytes) n result new after → RowsRun limits front bytes n result new after
 front_rows limits front bytes size n new after result few t =
     let low = t.within in
@@ -70,7 +70,7 @@ front_rows limits front bytes size n new after result few t =
       early = t.early;
       count = t.count;
       within = omega (arith, low, long, few);
-      before = subst (λ l. Stands limits (front ++ l) t.mid) same t.before;
+      before = subst (λ l. StandsForFile limits (front ++ l) t.mid) same t.before;
       room = t.room;
       head = t.head;
       last = subst (λ b. AfterRows limits ((front ++ take t.early bytes) ++ b ∷ []) result new after) byte (subst (λ l. AfterRows limits ((front ++ l) ++ get_or (take size bytes) t.early 0 ∷ []) result new after) same t.last);

@@ -1,4 +1,4 @@
--- The MCU row in work, and the scan of a file that it is in.
+-- The current MCU row, and the scan of a file that it is in.
 use Rattle.std.proofs.Common.{◌≡◌, ℕ, ◌+◌, ◌-◌, ◌≤◌, ◌<◌, Bool, true, false, cond, List, [], ◌∷◌, ◌++◌, length, drop, refl, sym, ap, ◌∙◌, subst, arith, ⊎_elim, Some, inl}
 use Rattle.std.proofs.lemmas.Bool.{cases_lt}
 use Rattle.jpg_spec.specs.Bits.{bits_of_bytes}
@@ -17,26 +17,26 @@ use Rattle.jpg_coefs.specs.Machine.{Interval}
 use Rattle.jpg_coefs.proofs.Chains.{chain_stands}
 use Rattle.jpg_seq.specs.Rows.{IsRowOf}
 use Rattle.jpg_seq.specs.declared.reader.SeqReader.{SeqReader}
-use Rattle.jpg_file.specs.InData.{InData, IsInterval, frame_at}
-use Rattle.jpg_file.specs.Machine.{any_scan, ac_band, dc_first, dc_later, scan_kind, whole_blocks}
-use Rattle.jpg_file.specs.RowData.{AfterRest, HalfData, IsHalfRow, IsInsideRow, IsRowData}
-use Rattle.jpg_file.specs.RowPlaces.{scan_left}
-use Rattle.jpg_file.specs.RowTurns.{CountsScan, IsRowIn}
-use Rattle.jpg_file.specs.Strips.{AfterRows, IsFirstScan, RowsInside, ScanHeld, components_of, frame_behind}
-use Rattle.jpg_file.specs.declared.file.FileWork.{FileWork}
-use Rattle.jpg_file.specs.declared.machine.ScanReader.{ScanReader}
-use Rattle.jpg_file.specs.declared.machine.ScanReader.TheVariants.{Sequential, DcFirst, DcRefine, Ac}
-use Rattle.jpg_file.specs.declared.rows.RowWork.{RowWork}
-use Rattle.jpg_file.specs.declared.scan.InScan.{InScan}
-use Rattle.jpg_file.specs.declared.scan.ScanWork.{ScanWork}
-use Rattle.jpg_file.specs.declared.scan.ScanStep.TheVariants as answer
-use Rattle.jpg_file.specs.declared.strips.StripStep.TheVariants as step
+use Rattle.jpg_file.specs.Read.InData.{InData, IsInterval, frame_at}
+use Rattle.jpg_file.specs.Read.Machine.{any_scan, ac_band, dc_first, dc_later, scan_kind, whole_blocks}
+use Rattle.jpg_file.specs.Read.RowData.{AfterRowBytes, HalfData, IsHalfRow, IsInsideRow, IsRowData}
+use Rattle.jpg_file.specs.Read.RowPlaces.{scan_left}
+use Rattle.jpg_file.specs.Read.RowTurns.{CountsScan, IsRowIn}
+use Rattle.jpg_file.specs.Read.Strips.{AfterRows, IsFirstScan, RowsInside, ScanHeld, components_of, frame_behind}
+use Rattle.jpg_file.specs.declared.read.file.FileWork.{FileWork}
+use Rattle.jpg_file.specs.declared.read.machine.ScanReader.{ScanReader}
+use Rattle.jpg_file.specs.declared.read.machine.ScanReader.TheVariants.{Sequential, DcFirst, DcRefine, Ac}
+use Rattle.jpg_file.specs.declared.read.rows.RowWork.{RowWork}
+use Rattle.jpg_file.specs.declared.read.scan.InScan.{InScan}
+use Rattle.jpg_file.specs.declared.read.scan.ScanWork.{ScanWork}
+use Rattle.jpg_file.specs.declared.read.scan.ScanStep.TheVariants as answer
+use Rattle.jpg_file.specs.declared.read.strips.StripStep.TheVariants as step
 use Rattle.jpg_file.proofs.Machines.{head_kind, kind_of_coding, scans_keep_units}
 use Rattle.jpg_file.proofs.RowCounts.{counts_in}
 use Rattle.jpg_file.proofs.RowPlaces.{cursor_by, row_by}
 use Rattle.jpg_file.proofs.ScanBytes.{due_at}
 
--- THE MACHINE of a scan of whole blocks
+-- THE MACHINE of a scan of complete blocks
 pub seq_of : (m : ScanReader) (i : Interval) (bits : List Bool) (now : Picture) → any_scan.stands m i bits now → scan_kind i.scan ≡ whole_blocks → (n : SeqReader) × (m ≡ Sequential n)
 seq_of (Sequential n) i bits now s e = (n, refl)
 seq_of (DcFirst n) i bits now s e = (let z : dc_first ≡ whole_blocks = sym s.1 ∙ e in absurd cc)
@@ -49,7 +49,7 @@ kind_at limits items contents e =
     let head = head_in f contents in
     kind_of_coding f (huffman_in_force (segments_of items)) head (scan_after limits (segments_of items) contents) refl refl ∙ ap (λ b. head_kind b head) e
 
--- where units of such a scan are due
+-- if units of such a scan are left
 pub record RowDue (limits : Limits) (items : List Item) (contents : List ℕ) (w : ScanWork) (whole : Picture) : Type 0 where
   pub place : ScanPlace
   pub of : (place.items ≡ items) × (place.contents ≡ contents)
@@ -95,7 +95,7 @@ half_due limits items contents bytes waiting s whole h first =
     let stands = chain_stands any_scan (h.old).machine s.work.machine h.before whole k.interval (bits_of_bytes p.coded) b.0 b.2 k.stands in
     due_by limits items contents p k.interval s.work (bits_of_bytes p.coded ++ b.0) whole h.of k.is k.so_far stands k.framed (ap (λ (q : ScanWork). q.whole) h.same ∙ h.due) (ap (λ (q : ScanWork). q.due) h.same ∙ (h.work).due) first
 
--- the next ones lie in the row
+-- the next ones are in the row
 pub due_inside : (limits : Limits) (items : List Item) (contents : List ℕ) (w : ScanWork) (whole : Picture) (rows : RowWork) → RowDue limits items contents w whole → IsRowIn (frame_behind limits items) (components_of limits items contents) rows (scan_left w)
     → IsRowOf rows.tops whole rows.coefs → IsInsideRow rows w.machine
 due_inside limits items contents w whole rows d at row =
@@ -124,13 +124,13 @@ half_row limits items contents bytes s whole rows h first at row turned =
       due = (due_inside limits items contents s.work whole rows k at row, turned k.some);
     }
 
--- WHAT DATA COME TO that go on
+-- THE RESULT OF DATA without a fault
 
 no_bits : (bits : List Bool) → (1 ≤ length bits → false ≡ true) → bits ≡ []
 no_bits [] f = refl
 no_bits (bit ∷ bits) f = (let z : false ≡ true = f (omega arith) in absurd cc)
 
-pub data_goes : (limits : Limits) (items : List Item) (contents bytes : List ℕ) (new : FileWork) (old : ScanWork) (s : InScan) (now : Picture) (rows after : RowWork) (row : Bool) → new.reading.scan ≡ Some s → AfterRest limits items contents bytes answer.More after.waiting s now
+pub data_goes : (limits : Limits) (items : List Item) (contents bytes : List ℕ) (new : FileWork) (old : ScanWork) (s : InScan) (now : Picture) (rows after : RowWork) (row : Bool) → new.reading.scan ≡ Some s → AfterRowBytes limits items contents bytes answer.More after.waiting s now
     → ScanHeld limits items contents bytes new s.gate → IsRowIn (frame_behind limits items) (components_of limits items contents) rows (scan_left old) → IsRowOf after.tops now after.coefs → CountsScan old rows row s.work after → (1 ≤ scan_left old → 1 ≤ rows.left)
     → AfterRows limits bytes (cond row step.Row step.More) new after
 data_goes limits items contents bytes new old s now rows after row inside coded held at of c turned = by row c

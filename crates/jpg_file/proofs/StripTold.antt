@@ -1,4 +1,4 @@
--- The head of the picture whose MCU rows are read, as it stands where the first scan begins.
+-- The head of the picture whose MCU rows are read, as it is where the first scan begins.
 use Rattle.std.proofs.Common.{◌≡◌, ℕ, ◌+◌, ◌<◌, List, [], ◌∷◌, length, refl, sym, ap, ◌∙◌, subst, arith, Option, Some, None}
 use Rattle.std.specs.Prelude.{find, is_none, reverse, slice_index_or, unwrap_or, false, true}
 use Rattle.std.proofs.lemmas.List.{append-nil, reverse-reverse}
@@ -12,7 +12,7 @@ use Rattle.jpg_spec.specs.Items.{segments_of}
 use Rattle.jpg_spec.specs.Jfif.{adobe_transform, is_jfif, jfif_of, jfif_told}
 use Rattle.jpg_spec.specs.Markers.{Segment, code_fault, has_scan, kept_after}
 use Rattle.jpg_spec.specs.Meaning.{Meaning, PictureComponent}
-use Rattle.jpg_spec.specs.NotShown.{colours_behind}
+use Rattle.jpg_spec.specs.InForce.{colours_after}
 use Rattle.jpg_spec.specs.QuantContents.{quant_in}
 use Rattle.jpg_spec.specs.Scan.{Blocks}
 use Rattle.jpg_spec.specs.Segments.{QuantTable, ScanHead, head_components}
@@ -23,35 +23,35 @@ use Rattle.jpg_spec.proofs.ColoursKept.{picture_colours}
 use Rattle.jpg_spec.proofs.Common.{some_of}
 use Rattle.jpg_spec.proofs.FrameFound.{framed}
 use Rattle.jpg_base.specs.Cursor.{scan_mcus_down}
-use Rattle.jpg_file.specs.Begun.{HasBegun, HasBegunAll}
-use Rattle.jpg_file.specs.File.{HeadStands, NotesHead}
-use Rattle.jpg_file.specs.FirstHead.{colours_by}
-use Rattle.jpg_file.specs.Held.{Holds, HeldTold, told_by}
-use Rattle.jpg_file.specs.Keeping.{is_wanted}
-use Rattle.jpg_file.specs.PictureKept.{IsQuantTable, component_told}
-use Rattle.jpg_file.specs.Reading.{AfterHead, with_coefs}
-use Rattle.jpg_file.specs.RowTurns.{unfinished, zero_picture}
-use Rattle.jpg_file.specs.RowsKnown.{BeginsAll, HoldsScan, RowsKnown, TellsScan, TellsStrip}
-use Rattle.jpg_file.specs.StripHead.{IsHeadOfPicture, bare_picture, may_have}
-use Rattle.jpg_file.specs.Strips.{IsHeadOfAll, contents_held}
-use Rattle.jpg_file.specs.declared.file.FileWork.{FileWork}
-use Rattle.jpg_file.specs.declared.items.ItemStep.TheVariants as came
-use Rattle.jpg_file.specs.declared.reading.Reading.{Reading}
-use Rattle.jpg_file.specs.declared.rows.RowWork.{RowWork}
-use Rattle.jpg_file.specs.declared.strip_head.StripHead.{StripHead}
+use Rattle.jpg_file.specs.Read.ScanHistory.{HasBegun, HasBegunAll}
+use Rattle.jpg_file.specs.Read.File.{HeadStands, NotesHead}
+use Rattle.jpg_file.specs.Read.FirstHeader.{colours_by}
+use Rattle.jpg_file.specs.Read.SegmentState.{Holds, SegmentView, told_by}
+use Rattle.jpg_file.specs.Read.Keeping.{is_wanted}
+use Rattle.jpg_file.specs.Read.PictureKept.{IsQuantTable, component_told}
+use Rattle.jpg_file.specs.Read.Reading.{AfterHead, with_coefs}
+use Rattle.jpg_file.specs.Read.RowTurns.{unfinished, zero_picture}
+use Rattle.jpg_file.specs.Read.RowsKnown.{BeginsAll, HoldsScan, RowsKnown, TellsScan, TellsStrip}
+use Rattle.jpg_file.specs.Read.StripHead.{IsHeadOfPicture, bare_picture, may_have}
+use Rattle.jpg_file.specs.Read.Strips.{IsHeadOfAll, contents_held}
+use Rattle.jpg_file.specs.declared.read.file.FileWork.{FileWork}
+use Rattle.jpg_file.specs.declared.read.items.ItemStep.TheVariants as came
+use Rattle.jpg_file.specs.declared.read.reading.Reading.{Reading}
+use Rattle.jpg_file.specs.declared.read.rows.RowWork.{RowWork}
+use Rattle.jpg_file.specs.declared.read.strip_head.StripHead.{StripHead}
 use Rattle.jpg_file.proofs.FileSteps.{frame_held, unbroken}
-use Rattle.jpg_file.proofs.FirstHeads.{heads_first}
+use Rattle.jpg_file.proofs.FirstHeaders.{heads_first}
 use Rattle.jpg_file.proofs.Keeping.{adobe_same, filter_reverse}
 use Rattle.jpg_file.proofs.PictureSteps.{map_below, quant_sound}
 use Rattle.jpg_file.proofs.StripBegin.{begun_here, components_all}
 use Rattle.jpg_file.proofs.StripHeads.{colours_fit}
 
--- WHAT IS HELD there
+-- WHAT IS KEPT there
 
-held_jfif : (limits : Limits) (before : List Segment) (h : HeldTold) → Holds limits h before → h.jfif ≡ jfif_of (reverse (kept_after before))
+held_jfif : (limits : Limits) (before : List Segment) (h : SegmentView) → Holds limits h before → h.jfif ≡ jfif_of (reverse (kept_after before))
 held_jfif limits before h k = k.jfif ∙ ap (λ l. jfif_told (find is_jfif l)) (sym (reverse-reverse (kept_after before)))
 
-held_colour : (limits : Limits) (before : List Segment) (h : HeldTold) → Holds limits h before → colours_by (frame_of limits before) h.jfif h.kept ≡ colours_behind limits before
+held_colour : (limits : Limits) (before : List Segment) (h : SegmentView) → Holds limits h before → colours_by (frame_of limits before) h.jfif h.kept ≡ colours_after limits before
 held_colour limits before h k =
     let kept : List Segment = reverse (kept_after before) in
     let f = frame_of limits before in
@@ -157,7 +157,7 @@ begins_told limits bytes old taken new f head h k first a notes =
       };
     }
 
--- its MCU rows are counted, and the head of its picture is told
+-- its MCU rows are counted, and the head of its picture is known
 pub rows_known : (limits : Limits) (bytes : List ℕ) (old new : FileWork) (f : Frame) (head : ScanHead) (rows : RowWork) (strip : StripHead) → (h : HeadStands limits bytes old) → IsHeadOfAll limits h.items (contents_held old) f head
     → BeginsAll limits bytes (segments_of h.items) (contents_held old) new → unfinished rows ≡ scan_mcus_down f (head_components head) → TellsScan new strip → RowsKnown limits bytes 0 rows (Some strip)
 rows_known limits bytes old new f head rows strip h k b count tells =

@@ -1,6 +1,6 @@
 -- From one MCU row of a file to the next, and bits that waited.
 use Rattle.std.proofs.Common.{◌≡◌, ℕ, ◌≤◌, Bool, true, false, cond, List, [], ◌∷◌, length, refl, sym, ap, ◌∙◌, subst, arith, Some, inl, inr, ◌⊎◌}
-use Rattle.jpg_spec.specs.FirstFault.{Shows}
+use Rattle.jpg_spec.specs.FirstFault.{Reveals}
 use Rattle.jpg_spec.specs.Items.{Item}
 use Rattle.jpg_spec.specs.Scan.{Scan}
 use Rattle.jpg_spec.specs.declared.fault.Fault.{Fault}
@@ -8,26 +8,26 @@ use Rattle.jpg_spec.specs.declared.frame.Limits.{Limits}
 use Rattle.jpg_spec.proofs.Common.{some_once}
 use Rattle.jpg_coefs.specs.Picture.{Picture}
 use Rattle.jpg_seq.specs.Rows.{IsRowOf}
-use Rattle.jpg_file.specs.File.{IsStop}
-use Rattle.jpg_file.specs.InData.{InData}
-use Rattle.jpg_file.specs.Reading.{waiting}
-use Rattle.jpg_file.specs.RowData.{AfterRest, HalfData, IsHalfRow}
-use Rattle.jpg_file.specs.RowPlaces.{scan_left}
-use Rattle.jpg_file.specs.RowTurns.{CountsScan, IsBlankBehind, IsRowIn, KeepsRowIn, TurnsRow, unfinished}
-use Rattle.jpg_file.specs.Strips.{AfterRows, GoesByRow, IsFirstScan, RowsBehind, RowsInside, ScanHeld, StandsByRow, components_of, frame_behind}
-use Rattle.jpg_file.specs.declared.file.FileWork.{FileWork}
-use Rattle.jpg_file.specs.declared.rows.RowWork.{RowWork}
-use Rattle.jpg_file.specs.declared.scan.InScan.{InScan}
-use Rattle.jpg_file.specs.declared.scan.ScanStep.{ScanStep}
-use Rattle.jpg_file.specs.declared.scan.ScanStep.TheVariants as answer
-use Rattle.jpg_file.specs.declared.strips.StripStep.{StripStep}
-use Rattle.jpg_file.specs.declared.strips.StripStep.TheVariants as step
-use Rattle.jpg_file.proofs.RowBehind.{data_blank, half_blank}
+use Rattle.jpg_file.specs.Read.File.{IsStop}
+use Rattle.jpg_file.specs.Read.InData.{InData}
+use Rattle.jpg_file.specs.Read.Reading.{waiting_bytes}
+use Rattle.jpg_file.specs.Read.RowData.{AfterRowBytes, HalfData, IsHalfRow}
+use Rattle.jpg_file.specs.Read.RowPlaces.{scan_left}
+use Rattle.jpg_file.specs.Read.RowTurns.{CountsScan, IsBlankAfter, IsRowIn, KeepsRowIn, TurnsRow, unfinished}
+use Rattle.jpg_file.specs.Read.Strips.{AfterRows, GoesByRow, IsFirstScan, RowsAfter, RowsInside, ScanHeld, StandsByRow, components_of, frame_behind}
+use Rattle.jpg_file.specs.declared.read.file.FileWork.{FileWork}
+use Rattle.jpg_file.specs.declared.read.rows.RowWork.{RowWork}
+use Rattle.jpg_file.specs.declared.read.scan.InScan.{InScan}
+use Rattle.jpg_file.specs.declared.read.scan.ScanStep.{ScanStep}
+use Rattle.jpg_file.specs.declared.read.scan.ScanStep.TheVariants as answer
+use Rattle.jpg_file.specs.declared.read.strips.StripStep.{StripStep}
+use Rattle.jpg_file.specs.declared.read.strips.StripStep.TheVariants as step
+use Rattle.jpg_file.proofs.RowAfter.{data_blank, half_blank}
 use Rattle.jpg_file.proofs.ScanBytes.{read_at}
 use Rattle.jpg_file.proofs.Scannings.{none_some}
 use Rattle.jpg_file.proofs.StripRows.{data_due, data_goes, half_due, half_row, scan_of_place}
 
--- THE PICTURE is the file's, and blank behind the row
+-- THE PICTURE is the file's, and blank after the row
 
 pub data_framed : (limits : Limits) (items : List Item) (contents bytes : List ℕ) (s : InScan) (whole : Picture) → InData limits items contents bytes s whole → IsFirstScan limits items → whole.frame ≡ frame_behind limits items
 data_framed limits items contents bytes s whole d first = by s.work.whole refl
@@ -36,20 +36,20 @@ data_framed limits items contents bytes s whole d first = by s.work.whole refl
     by false e = (data_due limits items contents bytes s whole d e first).framed
     by true e = (read_at limits d.place s.work whole e d.work).framed ∙ ap (λ (l : List Item). frame_behind limits l) (d.of).0
 
-pub rest_blank : (limits : Limits) (items : List Item) (contents bytes : List ℕ) (waiting : List Bool) (s : InScan) (rows : RowWork) (whole : Picture) → AfterRest limits items contents bytes answer.More waiting s whole → IsFirstScan limits items
-    → IsRowIn (frame_behind limits items) (components_of limits items contents) rows (scan_left s.work) → IsBlankBehind rows whole
+pub rest_blank : (limits : Limits) (items : List Item) (contents bytes : List ℕ) (waiting_bytes : List Bool) (s : InScan) (rows : RowWork) (whole : Picture) → AfterRowBytes limits items contents bytes answer.More waiting_bytes s whole → IsFirstScan limits items
+    → IsRowIn (frame_behind limits items) (components_of limits items contents) rows (scan_left s.work) → IsBlankAfter rows whole
 rest_blank limits items contents bytes [] s rows whole d first at =
     data_blank limits items contents bytes s (frame_behind limits items) (components_of limits items contents) rows whole d first.first (ap (λ (t : Scan). t.places) (scan_of_place limits items contents d.place (d.of).0 (d.of).1)) (data_framed limits items contents bytes s whole d first) at
 rest_blank limits items contents bytes (bit ∷ bits) s rows whole (more, h) first at =
     half_blank limits items contents bytes (bit ∷ bits) s (frame_behind limits items) (components_of limits items contents) rows whole h first.first (ap (λ (t : Scan). t.places) (scan_of_place limits items contents h.place (h.of).0 (h.of).1))
     (half_due limits items contents bytes (bit ∷ bits) s whole h first).framed at
 
--- A ROW WITH UNITS that are due, inside the scan
+-- A ROW WITH UNITS that are left, inside the scan
 pub record RowReady (limits : Limits) (bytes : List ℕ) (w : FileWork) (scan : InScan) (rows : RowWork) : Type 0 where
   pub items : List Item
   pub contents : List ℕ
   pub whole : Picture
-  pub coded : AfterRest limits items contents bytes answer.More rows.waiting scan whole
+  pub coded : AfterRowBytes limits items contents bytes answer.More rows.waiting scan whole
   pub held : ScanHeld limits items contents bytes w scan.gate
   pub at : IsRowIn (frame_behind limits items) (components_of limits items contents) rows (scan_left scan.work)
   pub row : IsRowOf rows.tops whole rows.coefs
@@ -59,7 +59,7 @@ pub record RowReady (limits : Limits) (bytes : List ℕ) (w : FileWork) (scan : 
 pub next_ready : (limits : Limits) (bytes : List ℕ) (w : FileWork) (scan : InScan) (old new : RowWork) → StandsByRow limits bytes w old → w.reading.scan ≡ Some scan → KeepsRowIn old new → TurnsRow old new → new.waiting ≡ old.waiting → RowReady limits bytes w scan new
 next_ready limits bytes w scan old new k is keeps turns same = by k.at
   where
-    by : RowsInside limits bytes w old k.whole ⊎ RowsBehind limits bytes w old k.whole → RowReady limits bytes w scan new
+    by : RowsInside limits bytes w old k.whole ⊎ RowsAfter limits bytes w old k.whole → RowReady limits bytes w scan new
     by (inr b) = absurd (none_some w.reading.scan scan is ((b.between).beside).none)
     by (inl r) =
         let one : r.scan ≡ scan = some_once r.scan scan (sym r.inside ∙ is) in
@@ -70,18 +70,18 @@ next_ready limits bytes w scan old new k is keeps turns same = by k.at
           items = r.items;
           contents = r.contents;
           whole = k.whole;
-          coded = subst (λ z. AfterRest limits r.items r.contents bytes answer.More z r.scan k.whole) (sym same) r.coded;
+          coded = subst (λ z. AfterRowBytes limits r.items r.contents bytes answer.More z r.scan k.whole) (sym same) r.coded;
           held = r.held;
           at = at.0;
           row = row;
           turned = at.1;
         })
 
--- the one that goes on
+-- the one that continues
 pub row_ready : (limits : Limits) (bytes : List ℕ) (w : FileWork) (scan : InScan) (rows : RowWork) → GoesByRow limits bytes w rows → w.reading.scan ≡ Some scan → RowReady limits bytes w scan rows
 row_ready limits bytes w scan rows g is = by (g.stands).at
   where
-    by : RowsInside limits bytes w rows (g.stands).whole ⊎ RowsBehind limits bytes w rows (g.stands).whole → RowReady limits bytes w scan rows
+    by : RowsInside limits bytes w rows (g.stands).whole ⊎ RowsAfter limits bytes w rows (g.stands).whole → RowReady limits bytes w scan rows
     by (inr b) = absurd (none_some w.reading.scan scan is ((b.between).beside).none)
     by (inl r) =
         let one : r.scan ≡ scan = some_once r.scan scan (sym r.inside ∙ is) in
@@ -92,7 +92,7 @@ pub nothing : (bits : List Bool) → length bits ≡ 0 → bits ≡ []
 nothing [] e = refl
 nothing (bit ∷ bits) e = absurd (omega (arith, e))
 
--- THE FILE with a scan, and so many bytes taken
+-- THE FILE with a scan, and n bytes taken
 abbrev pub file_with : FileWork → InScan → ℕ → FileWork
 file_with w s n = record w { reading = record w.reading { scan = Some s; taken = n } }
 
@@ -100,7 +100,7 @@ pub held_rest : (limits : Limits) (items : List Item) (contents bytes : List ℕ
 held_rest limits items contents bytes w s gate now e h = record {
   head = h.head;
   count = h.count;
-  behind = omega (arith, h.behind, ap waiting e);
+  behind = omega (arith, h.behind, ap waiting_bytes e);
   begun = h.begun;
   within = h.within;
   first_head = h.first_head;
@@ -122,7 +122,7 @@ ready_goes limits bytes w scan rows r none = record {
 
 -- THE BITS that waited
 
-pub half_of : (limits : Limits) (items : List Item) (contents bytes : List ℕ) (waiting : List Bool) (s : InScan) (whole : Picture) → 1 ≤ length waiting → AfterRest limits items contents bytes answer.More waiting s whole → HalfData limits items contents bytes waiting s whole
+pub half_of : (limits : Limits) (items : List Item) (contents bytes : List ℕ) (waiting_bytes : List Bool) (s : InScan) (whole : Picture) → 1 ≤ length waiting_bytes → AfterRowBytes limits items contents bytes answer.More waiting_bytes s whole → HalfData limits items contents bytes waiting_bytes s whole
 half_of limits items contents bytes [] s whole some d = absurd (omega (arith, some))
 half_of limits items contents bytes (bit ∷ bits) s whole some (more, h) = h
 
@@ -130,22 +130,22 @@ pub ready_half : (limits : Limits) (bytes : List ℕ) (w : FileWork) (scan : InS
 ready_half limits bytes w scan rows r some =
     half_row limits r.items r.contents bytes scan r.whole rows (half_of limits r.items r.contents bytes rows.waiting scan r.whole some r.coded) (r.held).of r.at r.row r.turned
 
-pub rest_shows : (limits : Limits) (items : List Item) (contents bytes : List ℕ) (fault : Fault) (waiting : List Bool) (s : InScan) (now : Picture) → AfterRest limits items contents bytes (answer.Fault fault) waiting s now → Shows limits fault bytes
+pub rest_shows : (limits : Limits) (items : List Item) (contents bytes : List ℕ) (fault : Fault) (waiting_bytes : List Bool) (s : InScan) (now : Picture) → AfterRowBytes limits items contents bytes (answer.Fault fault) waiting_bytes s now → Reveals limits fault bytes
 rest_shows limits items contents bytes fault [] s now a = a
 rest_shows limits items contents bytes fault (bit ∷ bits) s now (e, h) = (let z : (let a : ScanStep = answer.Fault fault in a) ≡ answer.More = e in absurd cc)
 
--- what they came to
+-- their result
 abbrev pub RestTaken : InScan → RowWork → ScanStep → InScan → RowWork → Type 0
 RestTaken old w answer new after =
     (limits : Limits) (items : List Item) (contents bytes : List ℕ) (whole : Picture) → IsRowOf w.tops whole w.coefs → HalfData limits items contents bytes w.waiting old whole
-    → (now : Picture) × IsRowOf w.tops now after.coefs × AfterRest limits items contents bytes answer after.waiting new now
+    → (now : Picture) × IsRowOf w.tops now after.coefs × AfterRowBytes limits items contents bytes answer after.waiting new now
 
 pub rest_goes : (limits : Limits) (bytes : List ℕ) (w : FileWork) (scan new : InScan) (rows after : RowWork) (row : Bool) (given : ScanStep) (result : StripStep) → RowReady limits bytes w scan rows → 1 ≤ length rows.waiting → RestTaken scan rows given new after → given ≡ answer.More
     → CountsScan scan.work rows row new.work after → new.gate ≡ scan.gate → result ≡ cond row step.Row step.More → AfterRows limits bytes result (file_with w new w.reading.taken) after
 rest_goes limits bytes w scan new rows after row given result r some took is c gate came =
     let h = half_of limits r.items r.contents bytes rows.waiting scan r.whole some r.coded in
     let t = took limits r.items r.contents bytes r.whole r.row h in
-    let coded = subst (λ (a : ScanStep). AfterRest limits r.items r.contents bytes a after.waiting new t.0) is t.2 in
+    let coded = subst (λ (a : ScanStep). AfterRowBytes limits r.items r.contents bytes a after.waiting new t.0) is t.2 in
     let of = subst (λ (l : List ℕ). IsRowOf l t.0 after.coefs) (sym c.tops) t.1 in
     subst (λ (a : StripStep). AfterRows limits bytes a (file_with w new w.reading.taken) after) (sym came)
     (data_goes limits r.items r.contents bytes (file_with w new w.reading.taken) scan.work new t.0 rows after row refl coded (held_rest limits r.items r.contents bytes w new scan.gate new.gate gate r.held) r.at of c r.turned)
@@ -155,12 +155,12 @@ pub rest_stops : (limits : Limits) (bytes : List ℕ) (w : FileWork) (scan new :
 rest_stops limits bytes w scan new rows after given fault r some took is =
     let h = half_of limits r.items r.contents bytes rows.waiting scan r.whole some r.coded in
     let t = took limits r.items r.contents bytes r.whole r.row h in
-    ((r.held).count, rest_shows limits r.items r.contents bytes fault after.waiting new t.0 (subst (λ (a : ScanStep). AfterRest limits r.items r.contents bytes a after.waiting new t.0) is t.2))
+    ((r.held).count, rest_shows limits r.items r.contents bytes fault after.waiting new t.0 (subst (λ (a : ScanStep). AfterRowBytes limits r.items r.contents bytes a after.waiting new t.0) is t.2))
 
--- and no further row is whole
+-- and no further row is complete
 pub next_counts : (limits : Limits) (bytes : List ℕ) (w : FileWork) (scan : InScan) (old new : RowWork) → StandsByRow limits bytes w old → w.reading.scan ≡ Some scan → KeepsRowIn old new → unfinished new ≡ unfinished old
 next_counts limits bytes w scan old new k is keeps = by k.at
   where
-    by : RowsInside limits bytes w old k.whole ⊎ RowsBehind limits bytes w old k.whole → unfinished new ≡ unfinished old
+    by : RowsInside limits bytes w old k.whole ⊎ RowsAfter limits bytes w old k.whole → unfinished new ≡ unfinished old
     by (inr b) = absurd (none_some w.reading.scan scan is ((b.between).beside).none)
     by (inl r) = (keeps (frame_behind limits r.items) (components_of limits r.items r.contents) (scan_left r.scan.work) r.at).2

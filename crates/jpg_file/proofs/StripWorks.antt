@@ -1,34 +1,35 @@
--- A file in work that is read MCU row by MCU row, where it may be: before its first scan, and where its scans are read whole.
+-- A file that is read MCU row by MCU row, in its other states: before its first scan, and where its scans are read in
+-- one go.
 use Rattle.std.proofs.Common.{◌≡◌, ℕ, ◌+◌, Bool, true, false, List, [], ◌∷◌, ◌++◌, take, get_or, refl, sym, subst, Option, Some, None, Ok, Err}
 use Rattle.std.specs.Prelude.{IfErr, Result, is_none}
 use Rattle.jpg_spec.specs.declared.frame.Limits.{Limits}
 use Rattle.jpg_base.specs.declared.stop.Stop.{Stop}
 use Rattle.jpg_base.specs.declared.stop.Stop.TheVariants as stop
-use Rattle.jpg_file.specs.File.{AfterFileByte, KeepsBytes, PassesFront, Stands, TakesSome, limits_of}
-use Rattle.jpg_file.specs.RowsKnown.{KnowsRows}
-use Rattle.jpg_file.specs.declared.strip_head.StripHead.{StripHead}
+use Rattle.jpg_file.specs.Read.File.{AfterFileByte, KeepsBytes, PassesFront, StandsForFile, TakesSome, limits_of}
+use Rattle.jpg_file.specs.Read.RowsKnown.{KnowsRows}
+use Rattle.jpg_file.specs.declared.read.strip_head.StripHead.{StripHead}
 use Rattle.jpg_file.proofs.PieceSteps.{one_more}
-use Rattle.jpg_file.specs.Strips.{CountsStrip, AfterBegin, AfterFile, AfterStrip, IfStops, RowsRun, StripGoes, StripRun, end_step}
-use Rattle.jpg_file.specs.declared.file.FileWork.{FileWork}
-use Rattle.jpg_file.specs.declared.rows.RowWork.{RowWork}
-use Rattle.jpg_file.specs.declared.strips.StripStep.{StripStep}
-use Rattle.jpg_file.specs.declared.strips.StripStep.TheVariants as step
+use Rattle.jpg_file.specs.Read.Strips.{CountsStrip, AfterScanBegins, AfterFileBytes, AfterStrip, IfStops, RowsRun, StripGoes, StripRun, end_step}
+use Rattle.jpg_file.specs.declared.read.file.FileWork.{FileWork}
+use Rattle.jpg_file.specs.declared.read.rows.RowWork.{RowWork}
+use Rattle.jpg_file.specs.declared.read.strips.StripStep.{StripStep}
+use Rattle.jpg_file.specs.declared.read.strips.StripStep.TheVariants as step
 
--- what a file that is read whole comes to
+-- the result of a file that is read in one go
 pub plain_after : (asks : Type 0) (limits : Limits) (bytes : List ℕ) (rows : Option RowWork) (w : FileWork) (answer : Result Bool Stop) (result : StripStep) → rows ≡ None → result ≡ end_step answer → AfterFileByte asks limits bytes answer w → AfterStrip limits bytes result rows w
 plain_after asks limits bytes rows w answer result none is a = subst (λ (s : StripStep). AfterStrip limits bytes s rows w) (sym is) (subst (λ (r : Option RowWork). AfterStrip limits bytes (end_step answer) r w) (sym none) (by answer a))
   where
-    by : (answer : Result Bool Stop) → AfterFileByte asks limits bytes answer w → AfterFile limits bytes (end_step answer) w
+    by : (answer : Result Bool Stop) → AfterFileByte asks limits bytes answer w → AfterFileBytes limits bytes (end_step answer) w
     by (Ok false) a = a
     by (Ok true) a = a
     by (Err (stop.Fault f)) a = a
     by (Err stop.NoMemory) a = tt
 
 -- a scan that doesn't begin
-pub begin_stops : (limits : Limits) (bytes : List ℕ) (rows : Option RowWork) (w : FileWork) (e : Stop) → rows ≡ None → AfterBegin limits bytes (Err e) w → AfterStrip limits bytes (step.Ended e) rows w
+pub begin_stops : (limits : Limits) (bytes : List ℕ) (rows : Option RowWork) (w : FileWork) (e : Stop) → rows ≡ None → AfterScanBegins limits bytes (Err e) w → AfterStrip limits bytes (step.Ended e) rows w
 begin_stops limits bytes rows w e none a = subst (λ (r : Option RowWork). AfterStrip limits bytes (step.Ended e) r w) (sym none) (by e a)
   where
-    by : (e : Stop) → AfterBegin limits bytes (Err e) w → AfterFile limits bytes (step.Ended e) w
+    by : (e : Stop) → AfterScanBegins limits bytes (Err e) w → AfterFileBytes limits bytes (step.Ended e) w
     by (stop.Fault f) a = a
     by stop.NoMemory a = tt
 
@@ -45,7 +46,7 @@ end_stops (Ok false) holds h = tt
 end_stops (Ok true) holds h = tt
 end_stops (Err e) holds h = h
 
--- of a file that is read whole
+-- of a file that is read in one go
 pub some_plain : (w : FileWork) (rows : Option RowWork) (run : List ℕ) (n : ℕ) (answer : Result Bool Stop) (new : FileWork) (result : StripStep) → rows ≡ None → result ≡ end_step answer → TakesSome w run n answer new → (bytes : List ℕ) → StripGoes (limits_of w) bytes rows w
     → StripRun (limits_of w) bytes run n result rows new
 some_plain w rows run n answer new result none is t bytes g =
@@ -66,7 +67,7 @@ some_plain w rows run n answer new result none is t bytes g =
 
 -- before the first scan: contents of a segment, and a byte
 pub first_plain : (w mid : FileWork) (run : List ℕ) (n : ℕ) (old rows : Option RowWork) (new : FileWork) (result : StripStep) → old ≡ None → PassesFront w run n mid
-    → ((bytes : List ℕ) → Stands (limits_of mid) bytes mid → AfterStrip (limits_of mid) (bytes ++ get_or run n 0 ∷ []) result rows new) → IfStops result (new.head ≡ mid.head) → (bytes : List ℕ) → StripGoes (limits_of w) bytes old w
+    → ((bytes : List ℕ) → StandsForFile (limits_of mid) bytes mid → AfterStrip (limits_of mid) (bytes ++ get_or run n 0 ∷ []) result rows new) → IfStops result (new.head ≡ mid.head) → (bytes : List ℕ) → StripGoes (limits_of w) bytes old w
     → StripRun (limits_of w) bytes run (n + 1) result rows new
 first_plain w mid run n old rows new result none p after head bytes g =
     let limits = limits_of w in
@@ -81,7 +82,7 @@ first_plain w mid run n old rows new result none p after head bytes g =
       before = before;
       room = p.room;
       head = head;
-      last = subst (λ (l : Limits). AfterStrip l (front ++ get_or run n 0 ∷ []) result rows new) p.limits (after front (subst (λ (l : Limits). Stands l front mid) (sym p.limits) before));
+      last = subst (λ (l : Limits). AfterStrip l (front ++ get_or run n 0 ∷ []) result rows new) p.limits (after front (subst (λ (l : Limits). StandsForFile l front mid) (sym p.limits) before));
     }
 
 -- of one that is read MCU row by MCU row
@@ -98,14 +99,14 @@ some_rows limits bytes run n result new after t = record {
 }
 
 -- WHAT IS KNOWN of rows that begin
-pub first_known : (w mid : FileWork) (run : List ℕ) (n : ℕ) (rows : Option RowWork) (strip : Option StripHead) → PassesFront w run n mid → ((bytes : List ℕ) → Stands (limits_of mid) bytes mid → KnowsRows (limits_of mid) (bytes ++ get_or run n 0 ∷ []) 0 rows strip)
-    → (bytes : List ℕ) → Stands (limits_of w) bytes w → KnowsRows (limits_of w) (bytes ++ take (n + 1) run) 0 rows strip
+pub first_known : (w mid : FileWork) (run : List ℕ) (n : ℕ) (rows : Option RowWork) (strip : Option StripHead) → PassesFront w run n mid → ((bytes : List ℕ) → StandsForFile (limits_of mid) bytes mid → KnowsRows (limits_of mid) (bytes ++ get_or run n 0 ∷ []) 0 rows strip)
+    → (bytes : List ℕ) → StandsForFile (limits_of w) bytes w → KnowsRows (limits_of w) (bytes ++ take (n + 1) run) 0 rows strip
 first_known w mid run n rows strip p known bytes k =
     let limits = limits_of w in
     let front = bytes ++ take n run in
     let before = p.stands limits bytes k in
     subst (λ (l : List ℕ). KnowsRows limits l 0 rows strip) (sym (one_more bytes run n p.within))
-    (subst (λ (l : Limits). KnowsRows l (front ++ get_or run n 0 ∷ []) 0 rows strip) p.limits (known front (subst (λ (l : Limits). Stands l front mid) (sym p.limits) before)))
+    (subst (λ (l : Limits). KnowsRows l (front ++ get_or run n 0 ∷ []) 0 rows strip) p.limits (known front (subst (λ (l : Limits). StandsForFile l front mid) (sym p.limits) before)))
 
 pub none_counts : (answer : StripStep) (rows after : Option RowWork) → is_none rows ≡ true → CountsStrip answer rows after
 none_counts answer None after e = tt

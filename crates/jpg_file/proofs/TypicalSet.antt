@@ -3,14 +3,14 @@ use Rattle.std.proofs.Common.{◌≡◌, ℕ, zero, suc, ◌<◌, ◌≤◌, Boo
 use Rattle.std.specs.Prelude.{slice_set}
 use Rattle.std.specs.Option.{option_map}
 use Rattle.jpg_spec.specs.Segments.{HuffmanTable}
-use Rattle.jpg_spec.specs.ScanText.{typical_table}
+use Rattle.jpg_spec_write.specs.ScanText.{typical_table}
 use Rattle.jpg_huff.specs.declared.table.Table.{Table}
 use Rattle.jpg_huff.specs.declared.set.TableSet.{TableSet}
 use Rattle.jpg_huff.specs.Sets.{dc_tables, ac_tables, in_slot, no_tables}
 use Rattle.jpg_huff.specs.Tables.{table_of}
 use Rattle.jpg_seq.specs.ScanWritten.{tables_in, no_codes}
 use Rattle.std.specs.Prelude.{unwrap_or}
-use Rattle.jpg_file.specs.WriteTables.{IsInSlot, IsTypicalSet}
+use Rattle.jpg_file.specs.Write.WriteTables.{IsInSlot, IsTypicalSet}
 
 -- two tables put into the first two slots
 pub first_slot : (s0 s1 s2 : List (Option Table)) (a b : Table) (table : HuffmanTable) → s0 ≡ no_tables → s1 ≡ slice_set s0 0 (Some a) → s2 ≡ slice_set s1 1 (Some b) → table_of a ≡ table → IsInSlot s2 0 table

@@ -2,17 +2,17 @@
 use Rattle.std.proofs.Common.{◌≡◌, ℕ, Bool, true, false, cond, List, [], ◌++◌, refl, sym, ap, ◌∙◌}
 use Rattle.std.specs.List.{All}
 use Rattle.std.proofs.lemmas.List.{append_assoc}
-use Rattle.jpg_spec.specs.FileText.{file_text, frame_of_meaning, front_text, nothing_written, scans_text}
+use Rattle.jpg_spec_write.specs.FileText.{file_text, frame_of_meaning, front_text, nothing_written, scans_text}
 use Rattle.jpg_spec.specs.Geometry.{Frame, is_progressive}
 use Rattle.jpg_spec.specs.Markers.{eoi}
 use Rattle.jpg_spec.specs.Scan.{Blocks, TablesInForce}
-use Rattle.jpg_spec.specs.Script.{Entry}
-use Rattle.jpg_spec.specs.WrittenFile.{is_progressive_behind, is_script_behind}
+use Rattle.jpg_spec_write.specs.Script.{Entry}
+use Rattle.jpg_spec_write.specs.WrittenFile.{is_progressive_after, is_script_after}
 use Rattle.jpg_markers.specs.OutHead.{head_meaning}
-use Rattle.jpg_file.specs.Restarts.{restart_of}
-use Rattle.jpg_file.specs.WriteScan.{CanWriteScan, scans_bytes}
-use Rattle.jpg_file.specs.WriteProgScan.{CanWriteProgScan}
-use Rattle.jpg_file.specs.WriteFile.{CanWriteFile, file_bytes, file_meaning, prog_scans_due, scans_due, seq_scans_due}
+use Rattle.jpg_file.specs.Write.Restarts.{restart_of}
+use Rattle.jpg_file.specs.Write.WriteScan.{CanWriteScan, scans_bytes}
+use Rattle.jpg_file.specs.Write.WriteProgScan.{CanWriteProgScan}
+use Rattle.jpg_file.specs.Write.WriteFile.{CanWriteFile, file_bytes, file_meaning, prog_scans_due, scans_due, seq_scans_due}
 use Rattle.jpg_file.specs.declared.write.Plan.{Plan}
 use Rattle.jpg_file.proofs.GivenTables.{none_given}
 use Rattle.jpg_file.proofs.ProgText.{prog_are_text, prog_entries_can}
@@ -21,15 +21,15 @@ use Rattle.jpg_file.proofs.WrittenText.{entries_can, scans_are_text}
 -- THE SCRIPT passes the test of the process
 
 seq_passes : (plan : Plan) (kept : List (ℕ × List ℕ)) (f : Frame) (blocks : Blocks) → CanWriteFile plan kept f blocks → is_progressive plan.out.frame.process ≡ false
-    → is_script_behind (frame_of_meaning (file_meaning plan kept blocks)) [] plan.script ≡ true
+    → is_script_after (frame_of_meaning (file_meaning plan kept blocks)) [] plan.script ≡ true
 seq_passes plan kept f blocks can s =
     let H = file_meaning plan kept blocks in
-    sym (ap (λ b. cond b (is_progressive_behind H [] plan.script) (is_script_behind (frame_of_meaning H) [] plan.script)) s) ∙ can.passes
+    sym (ap (λ b. cond b (is_progressive_after H [] plan.script) (is_script_after (frame_of_meaning H) [] plan.script)) s) ∙ can.passes
 
-prog_passes : (plan : Plan) (kept : List (ℕ × List ℕ)) (f : Frame) (blocks : Blocks) → CanWriteFile plan kept f blocks → is_progressive plan.out.frame.process ≡ true → is_progressive_behind (file_meaning plan kept blocks) [] plan.script ≡ true
+prog_passes : (plan : Plan) (kept : List (ℕ × List ℕ)) (f : Frame) (blocks : Blocks) → CanWriteFile plan kept f blocks → is_progressive plan.out.frame.process ≡ true → is_progressive_after (file_meaning plan kept blocks) [] plan.script ≡ true
 prog_passes plan kept f blocks can p =
     let H = file_meaning plan kept blocks in
-    sym (ap (λ b. cond b (is_progressive_behind H [] plan.script) (is_script_behind (frame_of_meaning H) [] plan.script)) p) ∙ can.passes
+    sym (ap (λ b. cond b (is_progressive_after H [] plan.script) (is_script_after (frame_of_meaning H) [] plan.script)) p) ∙ can.passes
 
 pub seq_can : (plan : Plan) (kept : List (ℕ × List ℕ)) (f : Frame) (blocks : Blocks) → CanWriteFile plan kept f blocks → is_progressive plan.out.frame.process ≡ false
     → All (λ (e : Entry). CanWriteScan plan.out.frame f blocks e.components) plan.script

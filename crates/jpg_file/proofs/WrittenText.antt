@@ -5,27 +5,28 @@ use Rattle.std.specs.List.{All}
 use Rattle.std.proofs.lemmas.List.{append_assoc}
 use Rattle.std.proofs.lemmas.List.Elements.{All-nil, All-cons, All-get_or}
 use Rattle.std.proofs.lemmas.Option.{get_or_from_slice_get, slice_get_within}
-use Rattle.jpg_spec.specs.FileText.{Restart, off, rows, mcus, Written, frame_of_meaning, interval_of, scans_text, segment_text, tables_given, tables_text, distinct_quants, slot_in}
+use Rattle.jpg_spec_write.specs.FileText.{Restart, off, rows, mcus, Written, frame_of_meaning, interval_of, scans_text, segment_text, tables_given, tables_text, distinct_quants, slot_in}
 use Rattle.jpg_spec.specs.FrameHeader.{identifiers}
 use Rattle.jpg_spec.specs.Geometry.{Frame, is_progressive}
 use Rattle.jpg_spec.specs.Meaning.{PictureComponent, colour_of}
-use Rattle.jpg_spec.specs.Moved.{Grids, frame_grids}
+use Rattle.jpg_spec.specs.Grids.{Grids, frame_grids}
 use Rattle.jpg_spec.specs.Scan.{Blocks}
-use Rattle.jpg_spec.specs.ScanText.{scan_data, scan_elements, typical_table}
-use Rattle.jpg_spec.specs.Script.{Entry}
+use Rattle.jpg_spec_write.specs.ScanText.{scan_data, scan_elements, typical_table}
+use Rattle.jpg_spec_write.specs.Script.{Entry}
 use Rattle.jpg_spec.specs.Segments.{QuantTable, ScanHead, head_components}
-use Rattle.jpg_spec.specs.WrittenFile.{is_script_behind, is_sequential_entry}
+use Rattle.jpg_spec_write.specs.WrittenFile.{is_script_after, is_sequential_entry}
 use Rattle.jpg_spec.specs.declared.frame.Colour.{Colour}
 use Rattle.jpg_spec.specs.declared.frame.Component.{Component}
-use Rattle.jpg_spec.proofs.PlacedBlocks.{Each, each_all}
-use Rattle.jpg_spec.proofs.WrittenSequential.{entry_is, plain_components, plain_data, scans_are}
+use Rattle.jpg_spec.proofs.Each.{Each}
+use Rattle.jpg_spec_write.proofs.PlacedBlocks.{each_all}
+use Rattle.jpg_spec_write.proofs.WrittenSequential.{entry_is, plain_components, plain_data, scans_are}
 use Rattle.jpg_spec.proofs.Common.{both}
 use Rattle.jpg_markers.specs.OutHead.{with_tables}
 use Rattle.jpg_markers.proofs.Distinct.{left_at}
-use Rattle.jpg_file.specs.Restarts.{interval_text}
-use Rattle.jpg_file.specs.WriteTables.{tables_due}
-use Rattle.jpg_file.specs.WriteScan.{CanWriteScan, head_bytes, scan_bytes, scans_bytes, seq_head, written_behind}
-use Rattle.jpg_file.specs.WriteFile.{CanWriteFile, file_meaning}
+use Rattle.jpg_file.specs.Write.Restarts.{interval_text}
+use Rattle.jpg_file.specs.Write.WriteTables.{tables_due}
+use Rattle.jpg_file.specs.Write.WriteScan.{CanWriteScan, head_bytes, scan_bytes, scans_bytes, seq_head, written_after}
+use Rattle.jpg_file.specs.Write.WriteFile.{CanWriteFile, file_meaning}
 use Rattle.jpg_file.specs.declared.write.Plan.{Plan}
 use Rattle.jpg_file.proofs.SameUnits.{same_count, same_mcus}
 use Rattle.jpg_file.proofs.SeqData.{data_is, elements_same}
@@ -60,11 +61,11 @@ meaning_grids plan kept blocks l =
 -- THE SCRIPT
 
 pub entries_can : (plan : Plan) (kept : List (ℕ × List ℕ)) (f : Frame) (blocks : Blocks) (done : List ℕ) (script : List Entry) → CanWriteFile plan kept f blocks → is_progressive plan.out.frame.process ≡ false
-    → is_script_behind (frame_of_meaning (file_meaning plan kept blocks)) done script ≡ true → All (λ (e : Entry). CanWriteScan plan.out.frame f blocks e.components) script
+    → is_script_after (frame_of_meaning (file_meaning plan kept blocks)) done script ≡ true → All (λ (e : Entry). CanWriteScan plan.out.frame f blocks e.components) script
 entries_can plan kept f blocks done [] can s h = All-nil (λ (e : Entry). CanWriteScan plan.out.frame f blocks e.components)
 entries_can plan kept f blocks done (e ∷ script) can s h =
     let F = frame_of_meaning (file_meaning plan kept blocks) in
-    let k = both (is_sequential_entry F done e) (is_script_behind F (e.components ++ done) script) h in
+    let k = both (is_sequential_entry F done e) (is_script_after F (e.components ++ done) script) h in
     let is = entry_is F done e k.0 in
     let grids = meaning_grids plan kept blocks can.tables in
     let there : All (λ i. i < length F.components) e.components = each_all (λ i. i < length F.components) e.components is.known in
@@ -93,12 +94,12 @@ data_of_entry plan kept f blocks colour components n can s there =
     let named : Each (λ i. i < length g.components) (head_components head) = subst (λ c. Each (λ i. i < length g.components) c) (sym (plain_components colour components)) known in
     ap (scan_data typical_table head) (elements_same g f F head n blocks can.seen can.grids grids named) ∙ data_is H head n s
 
--- parts of a scan one behind another
+-- parts of a scan one after another
 pub in_order : (T I S D R : List ℕ) → (T ++ ((I ++ S) ++ D)) ++ R ≡ T ++ I ++ S ++ D ++ R
 in_order T I S D R = ap (λ x. x ++ R) (sym (append_assoc T (I ++ S) D) ∙ ap (λ x. x ++ D) (sym (append_assoc T I S)))
 
 pub scans_are_text : (plan : Plan) (kept : List (ℕ × List ℕ)) (f : Frame) (blocks : Blocks) (done : List ℕ) (restart : Restart) (w : Written) (script : List Entry) → CanWriteFile plan kept f blocks → is_progressive plan.out.frame.process ≡ false
-    → is_script_behind (frame_of_meaning (file_meaning plan kept blocks)) done script ≡ true
+    → is_script_after (frame_of_meaning (file_meaning plan kept blocks)) done script ≡ true
     → scans_bytes plan.out.frame plan.out.colour restart f blocks w script ≡ scans_text (file_meaning plan kept blocks) restart w script
 unfolding scans_text
 scans_are_text plan kept f blocks done restart w [] can s h = refl
@@ -106,7 +107,7 @@ scans_are_text plan kept f blocks done restart w (e ∷ script) can s h =
     let H = file_meaning plan kept blocks in
     let F = frame_of_meaning H in
     let g = plan.out.frame in
-    let k = both (is_sequential_entry F done e) (is_script_behind F (e.components ++ done) script) h in
+    let k = both (is_sequential_entry F done e) (is_script_after F (e.components ++ done) script) h in
     let is = entry_is F done e k.0 in
     let colour = colour_of H in
     let head = seq_head colour e.components in
@@ -118,7 +119,7 @@ scans_are_text plan kept f blocks done restart w (e ∷ script) can s h =
     let whole : ℕ → List ℕ → List ℕ → List ℕ → List ℕ = λ n ids coded rest. (T ++ ((interval_text w.interval n ++ segment_text 0xda (head_bytes ids head)) ++ coded)) ++ rest in
     let same = same_interval g F head restart (sym (meaning_grids plan kept blocks can.tables)) in
     let ids = map (λ c. c.id) H.components in
-    ap (λ c. scan_bytes g c restart f blocks w e.components ++ rest plan.out.colour (written_behind g c restart w e.components)) can.colour
+    ap (λ c. scan_bytes g c restart f blocks w e.components ++ rest plan.out.colour (written_after g c restart w e.components)) can.colour
     ∙ ap (λ n. whole n (identifiers g.components) (elements n) (rest plan.out.colour (after n))) same
     ∙ ap (λ i. whole N i (elements N) (rest plan.out.colour (after N))) (sym (meaning_ids plan kept blocks can.tables))
     ∙ ap (λ d. whole N ids d (rest plan.out.colour (after N))) (data_of_entry plan kept f blocks colour e.components N can s is.known)
@@ -126,11 +127,11 @@ scans_are_text plan kept f blocks done restart w (e ∷ script) can s h =
     ∙ in_order T (interval_text w.interval N) (segment_text 0xda (head_bytes ids head)) (plain_data H head N) (scans_text H restart (after N) script)
     ∙ sym (scans_are H restart w e script s can.precision)
 
--- A SCAN THAT IS LEFT, and the others
+-- A SCAN THAT IS LEFT, and the remaining ones
 
 pub scan_left : (file : Frame) (colour : Colour) (restart : Restart) (f : Frame) (blocks : Blocks) (w : Written) (script : List Entry) (i : ℕ) (e : Entry) → slice_get script i ≡ Some e
     → scans_bytes file colour restart f blocks w (drop i script)
-    ≡ scan_bytes file colour restart f blocks w e.components ++ scans_bytes file colour restart f blocks (written_behind file colour restart w e.components) (drop (i + 1) script)
+    ≡ scan_bytes file colour restart f blocks w e.components ++ scans_bytes file colour restart f blocks (written_after file colour restart w e.components) (drop (i + 1) script)
 scan_left file colour restart f blocks w script i e at =
     ap (scans_bytes file colour restart f blocks w) (left_at script i e (slice_get_within script i e at) (sym (get_or_from_slice_get script i e e at)))
 

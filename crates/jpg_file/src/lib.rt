@@ -1,61 +1,36 @@
-//! Whole files, read piece by piece and written (T.81, B.2.1).
+//! Complete files, read piece by piece and written (T.81, B.2.1).
 #![tactic(auto)]
 
-mod begin;
-mod begun;
-mod data;
-mod ends;
-mod file;
-mod head;
-mod held;
-mod items;
-mod judge;
 mod laws;
-mod machine;
-mod picture;
-mod picture_taken;
-mod reader;
-mod reading;
-mod restart;
-mod row_reader;
-mod rows;
-mod scan;
-mod scan_rows;
-mod strip_head;
-mod strip_work;
-mod strips;
+mod read;
 mod write;
-mod write_due;
-mod write_prog_scan;
-mod write_scan;
-mod write_tables;
 
-pub use begin::begin_scan;
-pub use begun::Begun;
-pub use data::{DataStep, take_data};
-pub use ends::End;
-pub use file::FileWork;
-pub use head::{Head, colours, head_of};
-pub use held::{Held, Took, lacks_table};
-pub use items::{ItemStep, Items};
 pub use jpg_base::{
     Colour, Desk, Fault, FaultAt, Fed, Frame, Limits, QuantTable, ScanHead, Stop, WriteFault,
 };
 pub use jpg_coefs::{BlockView, Coefs};
 pub use jpg_markers::{Jfif, Kept, KeptList, OutHead};
 pub use jpg_scans::Script;
-pub use judge::judge_head;
-pub use laws::{rows_are_due_in_order, unwanted_markers_are_not_missed};
-pub use machine::ScanReader;
-pub use picture::Picture;
-pub use picture_taken::picture_of;
-pub use reader::Reader;
-pub use reading::Reading;
-pub use restart::Restart;
-pub use row_reader::{FedRow, RowReader};
-pub use rows::{RowStep, RowWork};
-pub use scan::{InScan, ScanStep, ScanWork};
-pub use strip_head::StripHead;
-pub use strip_work::StripWork;
-pub use strips::StripStep;
+pub use laws::rows_are_due_in_order;
+pub use read::data::{DataStep, take_data};
+pub use read::ends::End;
+pub use read::file::FileWork;
+pub use read::first_header::{Head, colours, head_of};
+pub use read::items::{ItemStep, Items};
+pub use read::machine::ScanReader;
+pub use read::picture::Picture;
+pub use read::picture_taken::picture_of;
+pub use read::reader::Reader;
+pub use read::reading::Reading;
+pub use read::row_reader::{FedRow, RowReader};
+pub use read::rows::{RowStep, RowWork};
+pub use read::scan::{InScan, ScanStep, ScanWork};
+pub use read::scan_header::judge_head;
+pub use read::scan_history::ScanHistory;
+pub use read::scan_start::begin_scan;
+pub use read::segment_state::{SegmentState, SegmentTaken, lacks_table};
+pub use read::strip_head::StripHead;
+pub use read::strip_work::StripWork;
+pub use read::strips::StripStep;
+pub use write::restart::Restart;
 pub use write::{Plan, write_file};

@@ -1,25 +1,31 @@
-//! Whole files, written (T.81, B.2.1).
+//! Complete files, written (T.81, B.2.1).
 ghost use Rattle.std.specs.Prelude.{◌≡◌, [], true, false};
 ghost use Rattle.jpg_spec.specs.Geometry.{is_progressive};
 ghost use Rattle.jpg_spec.specs.Markers.{eoi};
 ghost use Rattle.jpg_huff.specs.BitOut.{CanSend, Sends};
-ghost use Rattle.jpg_file.specs.WriteScan.{CanWriteSeqScans};
-ghost use Rattle.jpg_file.specs.WriteProgScan.{CanWriteProgScans};
-ghost use Rattle.jpg_file.specs.WriteFile.{CanWriteFile, Writes, file_bytes, prog_scans_due, scans_due, seq_scans_due};
+ghost use Rattle.jpg_file.specs.Write.WriteScan.{CanWriteSeqScans};
+ghost use Rattle.jpg_file.specs.Write.WriteProgScan.{CanWriteProgScans};
+ghost use Rattle.jpg_file.specs.Write.WriteFile.{CanWriteFile, WritesDue, file_bytes, prog_scans_due, scans_due, seq_scans_due};
 
-use crate::held::is_progressive;
-use crate::restart::Restart;
-use crate::write_prog_scan::write_prog_scan;
-use crate::write_scan::write_scan;
-use crate::write_tables::{Given, typical_set};
+pub mod new_tables;
+pub mod prog_scan;
+pub mod restart;
+pub mod scan;
+pub mod tables;
+
+use crate::read::segment_state::is_progressive;
+use crate::write::prog_scan::write_prog_scan;
+use crate::write::restart::Restart;
+use crate::write::scan::write_scan;
+use crate::write::tables::{Given, typical_set};
 use jpg_base::{Desk, WriteFault};
 use jpg_coefs::BlockView;
 use jpg_huff::{BitOut, TableSet};
 use jpg_markers::{KeptList, OutHead, file_head};
 use jpg_scans::Script;
 
-/// What a file is written by: what its head is written from, the scans that it is written in, and where restart markers
-/// stand in them.
+/// How a file is written: what its head is written from, the scans that it is written in, and where restart markers are
+/// in them.
 #[derive(Drop)]
 pub struct Plan {
     pub out: OutHead,
@@ -27,12 +33,13 @@ pub struct Plan {
     pub restart: Restart,
 }
 
-/// Writes a whole file to the output that was created last: all up to the frame header as `file_head` does; for each entry
-/// of the script a DHT segment for each table that it needs and that isn't the last one of its class and slot, a DRI segment
-/// where its restart interval isn't the one before, the scan header, and the data of its scan; and EOI (T.81, B.2.1). Of a
-/// sequential file K.3 and K.5 stand in slot 0, K.4 and K.6 in slot 1, which components 2 and 3 of YCbCr and YCCK use; of a
-/// progressive one tables of codes of one length for what the scan writes. The blocks are those that are seen, in a frame of
-/// the same grids. It takes no memory. After WriteFault a first part of the file is written.
+/// Writes a complete file to the output that was created last: all up to the frame header as `file_head` does; for each
+/// entry of the script a DHT segment for each table that it needs and that isn't the last one of its class and slot, a
+/// DRI segment if its restart interval isn't the one before, the scan header, and the data of its scan; and EOI (T.81,
+/// B.2.1). In a sequential file slot 0 has K.3 and K.5, slot 1 K.4 and K.6, which components 2 and 3 of YCbCr and YCCK
+/// use; in a progressive one the slots have tables of codes of one length for what the scan writes. The blocks are
+/// those of the view, whose frame has the same grids. It takes no memory. After WriteFault a first part of the file is
+/// written.
 pub fn write_file<V: BlockView, D: Desk>(
     plan: &Plan,
     kept: &KeptList,
@@ -41,7 +48,7 @@ pub fn write_file<V: BlockView, D: Desk>(
 ) -> Result<(), WriteFault>
     requires created { (D.state desk.old).output_created ≡ true }
     requires plan { CanWriteFile plan.now kept.now (V.numbers view.now) (V.blocks view.now) }
-    ensures { Writes (D.state desk.old) (file_bytes plan.now kept.now (V.blocks view.now)) result (D.state desk.new) }
+    ensures { WritesDue (D.state desk.old) (file_bytes plan.now kept.now (V.blocks view.now)) result (D.state desk.new) }
 {
     let mut out = BitOut::new();
     file_head(&plan.out, kept, &mut out, desk)?;
@@ -49,7 +56,7 @@ pub fn write_file<V: BlockView, D: Desk>(
     write_end(&mut out, desk)
 }
 
-// All scans of the script.
+// Writes all scans of the script.
 fn write_scans<V: BlockView, D: Desk>(
     plan: &Plan,
     view: &V,
@@ -68,7 +75,7 @@ fn write_scans<V: BlockView, D: Desk>(
     }
 }
 
-// All scans of a progressive script.
+// Writes all scans of a progressive script.
 fn write_prog_scans<V: BlockView, D: Desk>(
     plan: &Plan,
     view: &V,
@@ -88,7 +95,7 @@ fn write_prog_scans<V: BlockView, D: Desk>(
     Ok(())
 }
 
-// All scans of a sequential script.
+// Writes all scans of a sequential script.
 fn write_seq_scans<V: BlockView, D: Desk>(
     plan: &Plan,
     view: &V,
@@ -118,7 +125,7 @@ fn write_seq_scans<V: BlockView, D: Desk>(
     Ok(())
 }
 
-// EOI, and all that waits.
+// Writes EOI, and all that waits.
 fn write_end<D: Desk>(out: &mut BitOut, desk: &mut D) -> Result<(), WriteFault>
     requires { CanSend (D.state desk.old) out.old }
     ensures sends { Sends (D.state desk.old) out.old eoi result out.new (D.state desk.new) }

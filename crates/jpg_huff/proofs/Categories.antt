@@ -21,14 +21,14 @@ digits_counted (suc n) h =
     let e = digits_high (suc t.0) (suc n) (omega arith) (subst (λ k. 2 ^ k ≤ suc n) (sym j) t.2) t.3 in
     omega (arith, e, t.1)
 
--- a number of 32 bits has at most so many digits, and lies below a power
+-- a number of 32 bits is below 2 to the number of its digits
 pub shifted_fits : (m d n : ℕ) → n ≡ m → d ≡ digits m → d ≤ 32 → n ≤ 1 * 2 ^ d % 18446744073709551616 - 1
 shifted_fits m d n e f l =
     let s : 1 * 2 ^ d % 18446744073709551616 ≡ 2 ^ d = one_shl d 64 (omega arith) in
     let b : m < 2 ^ d = subst (λ k. m < 2 ^ k) (sym f) (below_digits m) in
     omega (arith, s, b, e)
 
--- the lower half of the extra bits tells negative numbers
+-- the lower half of the extra bits encodes negative numbers
 pub digits_low : (s n : ℕ) → 1 ≤ s → n < 2 ^ (s - 1) → digits (2 ^ s - 1 - n) ≡ s
 digits_low s n some h =
     let q = double s some in
@@ -56,7 +56,7 @@ fits_more n have b h =
     let q : bit_value b ≤ 1 = bit_small b in
     omega arith
 
--- numbers less others
+-- differences of numbers
 pub lowered_by_none : (n : ℕ) → pos n -ℤ pos 0 ≡ pos n
 lowered_by_none n = omega (arith, ints)
 

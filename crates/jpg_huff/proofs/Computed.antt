@@ -44,7 +44,7 @@ ltb_is a b e = grind (arith, nat_tests)
 leb_is : (a b : ℕ) → leb a b ≡ true → a ≤ b
 leb_is a b e = grind (arith, nat_tests)
 
--- the test shows the fact
+-- the test proves the fact
 pub IsIndexed-from_test : (counts : List ℕ) (symbols : ℕ) (firsts starts limits : List ℕ) → is_indexed counts symbols firsts starts limits ≡ true → IsIndexed counts symbols firsts starts limits
 IsIndexed-from_test counts symbols firsts starts limits e =
     let h9 = both _ (all_below 16 (λ i. leb (get_or starts i 0 + sum (drop i counts)) symbols)) e in

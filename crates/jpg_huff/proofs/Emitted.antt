@@ -18,7 +18,7 @@ pub AppendsLast-nil : (a : Option (List (Name × List ℕ))) → AppendsLast a [
 AppendsLast-nil None = tt
 AppendsLast-nil (Some a) = sym (append_last-nil a)
 
--- nothing is due
+-- nothing is pending
 pub emits_nothing : (s : DeskState) (old : List ℕ) → Emits s old [] (Ok tt) old s
 emits_nothing s old = ([], AppendsLast-nil s.outputs, append-nil old)
 

@@ -1,4 +1,4 @@
--- Small values behind short runs, kept with their codes.
+-- Small values after short runs, kept with their codes.
 use Rattle.std.proofs.Common.{◌≡◌, ℕ, suc, ◌+◌, ◌*◌, ◌/◌, ◌%◌, ◌^◌, ◌<◌, ◌≤◌, List, ◌++◌, sym, ap, ◌∙◌, subst, arith, ℤ, pos, negsuc, ◌≤ℤ◌, lit<, get_or, set, length, ⊎_elim}
 use Rattle.std.specs.Prelude.{slice_index, ◌+ℤ◌, ◌-ℤ◌}
 use Rattle.std.proofs.lemmas.Bool.{cases_lt}
@@ -8,7 +8,7 @@ use Rattle.std.proofs.Math.Nat.{pow-le-pow_right}
 use Rattle.jpg_spec.specs.Bits.{bits_of}
 use Rattle.jpg_spec.specs.Codes.{Code}
 use Rattle.jpg_spec.specs.Numbers.{category, extra_bits}
-use Rattle.jpg_spec.specs.ScanText.{code_of}
+use Rattle.jpg_spec.specs.Codes.{code_of}
 use Rattle.jpg_spec.proofs.Small.{few_digits}
 use Rattle.jpg_huff.specs.Encoder.{IsValueEntry, AreValueEntries}
 
@@ -40,7 +40,7 @@ entry_at codes entries run n v all h k e =
     let entry = slice_index entries i in
     subst (λ w. IsValueEntry codes run w entry) (ap (λ m. pos m -ℤ pos 32) m ∙ b) (subst (λ r. IsValueEntry codes r (pos (i % 64) -ℤ pos 32) entry) d (all i (omega (arith, h, k))))
 
--- one entry more
+-- one more entry
 pub each_more : (P : ℕ → ℕ → Type 0) (entries : List ℕ) (i v : ℕ) → i < length entries → ((n : ℕ) → n < i → P n (get_or entries n 0)) → P i v → (n : ℕ) → n < i + 1 → P n (get_or (set entries i v) n 0)
 each_more P entries i v lt so_far here n h =
     ⊎_elim

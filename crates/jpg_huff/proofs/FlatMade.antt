@@ -6,7 +6,7 @@ use Rattle.std.proofs.lemmas.Bool.{cases_lt}
 use Rattle.std.proofs.lemmas.List.{length-take-le}
 use Rattle.jpg_spec.specs.Codes.{are_codes}
 use Rattle.jpg_spec.specs.Segments.{HuffmanTable}
-use Rattle.jpg_spec.specs.ScanText.{flat_length_from, flat_table}
+use Rattle.jpg_spec.specs.FlatTable.{flat_length_from, flat_table}
 use Rattle.jpg_spec.proofs.Common.{lt_no, clash}
 use Rattle.jpg_spec.proofs.FlatTables.{flat_valid}
 use Rattle.jpg_huff.specs.declared.table.Table.{Table}
@@ -15,7 +15,7 @@ use Rattle.jpg_huff.specs.declared.new.TableFault.TheVariants.{TooManyCodes, Sho
 use Rattle.jpg_huff.specs.Tables.{table_of}
 use Rattle.jpg_huff.specs.New.{IsTableOf, IsFault}
 
--- one length more
+-- one more length
 pub longer : (n size : ℕ) → 1 ≤ size → size ≤ 8 → 2 ^ size ≤ n → flat_length_from (9 - size) size n ≡ flat_length_from (9 - (size + 1)) (size + 1) n
 longer n size low high big =
     let e : 9 - size ≡ suc (9 - (size + 1)) = omega (arith, high) in

@@ -1,4 +1,5 @@
--- Fronts of the codes of valid tables: none is a whole code, and where one bit more begins no code the bits show it.
+-- Prefixes of the codes of valid tables: none is a complete code, and if one more bit begins no code, the bits have a
+-- fault.
 use Rattle.std.proofs.Common.{◌≡◌, ℕ, ◌≤◌, Bool, true, false, cond, List, [], ◌∷◌, ◌++◌, length, refl, sym, ap, ◌∙◌, arith, inl, inr}
 use Rattle.std.specs.List.{Contains}
 use Rattle.std.proofs.lemmas.List.{append_assoc, append-nil, length-append}
@@ -41,7 +42,7 @@ push_front (a ∷ walk) (b ∷ c) m next d e =
     let r = push_front walk c m next d t in
     (r.0, ap (λ z. a ∷ z) r.1 ∙ ap (λ (z : Bool). z ∷ (c ++ r.0)) h)
 
--- a walk holds no whole code
+-- a walk has no complete code
 pub walk_no_code : (table : List Code) (walk c k : List Bool) (s : ℕ) → IsPrefixCode table → IsFront table walk → Contains table (c, s) → walk ≡ c ++ k → ⊥
 walk_no_code table walk c k s apart (inl n) h e = omega (arith, apart.some (c, s) h, ap length n, ap length e, length-append c k)
 walk_no_code table walk c k s apart (inr g) h e =
@@ -49,7 +50,7 @@ walk_no_code table walk c k s apart (inr g) h e =
     let q = ap (λ (z : Code). length z.0) (apart.one g.0 (c, s) [] (k ++ g.1 ∷ g.2) g.3 h l) in
     omega (arith, q, ap length g.4, ap length e, length-append c k, length-append walk (g.1 ∷ g.2))
 
--- A walk that begins no code with one bit more shows it.
+-- A walk that begins no code with one more bit finds that fault.
 pub walk_shows : (table : List Code) (walk : List Bool) (next : Bool) → IsPrefixCode table → IsFront table walk → BeginsNoCode table (walk ++ next ∷ []) → BeginsNone table (walk ++ next ∷ [])
 walk_shows table walk next apart w none = (omega (arith, length-append walk (next ∷ [])), λ code more h e. none code more h e, λ code more h e. held code more h e)
   where

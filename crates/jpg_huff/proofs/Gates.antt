@@ -75,7 +75,7 @@ fed_marker fill byte last (answer ∷ answers) new at f =
 long : (fill byte : ℕ) → length (replicate (suc fill) 255 ++ byte ∷ []) - 1 ≡ suc fill
 long fill byte = let a = length-append (replicate (suc fill) 255) (byte ∷ []) in let b = length-replicate {A = ℕ} (suc fill) 255 in omega (arith, a, b)
 
--- a data byte as it stands in a file
+-- a data byte as it is in a file
 pub feeds_data : (byte : ℕ) (bytes : List ℕ) (answers : List Passed) (new : Bool) → SpellsByte byte bytes → PassesAll false bytes answers new → AtLast (Data byte) bytes answers × (new ≡ false)
 feeds_data byte bytes answers new (inl s) f =
     let P : List ℕ → Type 0 = λ l. PassesAll false l answers new → AtLast (Data byte) l answers × (new ≡ false) in
@@ -88,7 +88,7 @@ feeds_data byte bytes answers new (inr s) f =
     (λ g. let fed = fed_marker s.1.0 0 (Data 255) answers new at_zero g in
     subst R (sym s.0) (subst Q (sym (long s.1.0 0)) fed.0, fed.1)) f
 
--- a marker behind one or more FF
+-- a marker after one or more FF
 pub feeds_marker : (fill code : ℕ) (answers : List Passed) (new : Bool) → code ≢ 0 → code ≢ 255 → PassesAll false (replicate (suc fill) 255 ++ code ∷ []) answers new
     → AtLast (Marker code) (replicate (suc fill) 255 ++ code ∷ []) answers × (new ≡ false)
 feeds_marker fill code answers new m n f =

@@ -7,11 +7,11 @@ use Rattle.jpg_huff.specs.Waiting.{Waiting}
 use Rattle.jpg_huff.specs.BitOut.{Puts, Sends}
 use Rattle.jpg_huff.proofs.Together.{puts_then, puts_fault, sends_then, sends_fault}
 
--- what a call does with a list that is due
+-- the effect of a call on a list that is pending
 abbrev pub Effect : Type 0 → Type 1
 Effect A = DeskState → Waiting → List A → Result (Unit {0}) WriteFault → Waiting → DeskState → Type 0
 
--- such calls one after another do it with all that is due, and a fault comes before all the rest
+-- such calls one after another have that effect on all that is pending, and a fault comes before all the rest
 pub record Follows {A : Type 0} (R : Effect A) : Type 0 where
   pub next : (s0 s1 s2 : DeskState) (old mid new : Waiting) (xs ys : List A) (r : Result (Unit {0}) WriteFault) → R s0 old xs (Ok tt) mid s1 → R s1 mid ys r new s2 → R s0 old (xs ++ ys) r new s2
   pub fault : (s0 s1 : DeskState) (old new : Waiting) (xs ys : List A) (f : WriteFault) → R s0 old xs (Err f) new s1 → R s0 old (xs ++ ys) (Err f) new s1
@@ -22,7 +22,7 @@ of_bits = record { next = puts_then; fault = puts_fault }
 pub of_bytes : Follows Sends
 of_bytes = record { next = sends_then; fault = sends_fault }
 
--- it was done with a first part of all, but not with the rest
+-- it was done with a first part, but not with the rest
 pub record DoneButFor {A : Type 0} (R : Effect A) (s0 : DeskState) (old : Waiting) (all rest : List A) (new : Waiting) (s1 : DeskState) : Type 0 where
   pub front : List A
   pub joined : front ++ rest ≡ all

@@ -40,7 +40,7 @@ limit_not_below : (counts : List ℕ) (c : ℕ) → c ≤ limit_from c counts
 limit_not_below [] c = omega arith
 limit_not_below (k ∷ counts) c = omega (arith, limit_not_below counts (2 * (c + k)))
 
--- the front of a code is below the limit
+-- the prefix of a code is below the limit
 pub below_limit : (counts : List ℕ) (len c n : ℕ) (symbols : List ℕ) (code : Code) (more : List Bool) → AreCodes len c counts → n < 2 ^ len
     → Contains (codes_from len c counts symbols) code → code.0 ≡ bits_of len n ++ more → n < limit_from c counts
 below_limit [] len c n symbols code more are fits h e = absurd (contains_none code h)

@@ -8,7 +8,7 @@ pub mod Fronts
 pub mod Gates
 pub mod InParts
 pub mod Levels
-pub mod Looked
+pub mod LookedUp
 pub mod Made
 pub mod OneAnswer
 pub mod Packed

@@ -40,8 +40,8 @@ are_all counts i f h = ap (λ ks. are_codes (i + 1) f ks) (drop_all i counts h)
 same_or_before : (k i : ℕ) → k < i + 1 → (k ≡ i) ⊎ (k < i)
 same_or_before k i h = grind arith
 
-same_or_behind : (k i : ℕ) → i ≤ k → (k ≡ i) ⊎ (i + 1 ≤ k)
-same_or_behind k i h = grind arith
+same_or_after : (k i : ℕ) → i ≤ k → (k ≡ i) ⊎ (i + 1 ≤ k)
+same_or_after k i h = grind arith
 
 pub set_same : (l : List ℕ) (i k a : ℕ) → i < length l → k ≡ i → get_or (set l i a) k 0 ≡ a
 set_same l i k a h e = ap (λ n. get_or (set l i a) n 0) e ∙ get_or-set_same l i a 0 h
@@ -49,7 +49,7 @@ set_same l i k a h e = ap (λ n. get_or (set l i a) n 0) e ∙ get_or-set_same l
 pub set_other : (l : List ℕ) (i k a : ℕ) → (k ≡ i → ⊥) → get_or (set l i a) k 0 ≡ get_or l k 0
 set_other l i k a h = get_or-set_other l i k a 0 h
 
--- a list that is filled from its front
+-- a list that is filled from its beginning
 pub set_up : (l : List ℕ) (i a : ℕ) (F : ℕ → ℕ) → i < length l → a ≡ F i → ((k : ℕ) → k < i → get_or l k 0 ≡ F k) → (k : ℕ) → k < i + 1 → get_or (set l i a) k 0 ≡ F k
 set_up l i a F h e before k lt =
     ⊎_elim
@@ -63,7 +63,7 @@ set_down l i a n F h e behind k le lt =
     ⊎_elim
     (λ (s : k ≡ i). set_same l i k a h s ∙ e ∙ ap F (sym s))
     (λ (b : i + 1 ≤ k). set_other l i k a (λ s. omega arith) ∙ behind k b lt)
-    (same_or_behind k i le)
+    (same_or_after k i le)
 
 pub fits_up : (counts : List ℕ) (i : ℕ) → first_number counts i + get_or counts i 0 < 2 ^ (i + 1) → ((k : ℕ) → k < i → first_number counts k + get_or counts k 0 < 2 ^ (k + 1))
     → (k : ℕ) → k < i + 1 → first_number counts k + get_or counts k 0 < 2 ^ (k + 1)

@@ -7,10 +7,10 @@ use Rattle.jpg_huff.specs.declared.walk.WalkStep.{WalkStep}
 use Rattle.jpg_huff.specs.declared.walk.WalkStep.TheVariants.{More, Symbol, NoCode}
 use Rattle.jpg_spec.specs.Parts.{BeginsCode}
 use Rattle.jpg_huff.specs.Walk.{BeginsNoCode}
-use Rattle.jpg_huff.specs.Walk.{Answers}
+use Rattle.jpg_huff.specs.Walk.{WalkAnswers}
 use Rattle.jpg_huff.specs.Laws.{AreApart}
 
--- a code is no front of another
+-- no code is a prefix of another
 no_front : (table : List Code) (bits : List Bool) (s : ℕ) → AreApart table → BeginsCode table bits → Contains table (bits, s) → ⊥
 no_front table bits s apart b c =
     let e = apart b.0 (bits, s) [] (b.1 ∷ b.2) b.3 c (append-nil b.0.0 ∙ b.4) in
@@ -24,7 +24,7 @@ begun table bits b n = n b.0 (b.1 ∷ b.2) b.3 b.4
 whole : (table : List Code) (bits : List Bool) (s : ℕ) → Contains table (bits, s) → BeginsNoCode table bits → ⊥
 whole table bits s c n = n (bits, s) [] c (sym (append-nil bits))
 
-pub one_answer : (table : List Code) (bits new new' : List Bool) (step step' : WalkStep) → AreApart table → Answers table bits step new → Answers table bits step' new' → step ≡ step'
+pub one_answer : (table : List Code) (bits new new' : List Bool) (step step' : WalkStep) → AreApart table → WalkAnswers table bits step new → WalkAnswers table bits step' new' → step ≡ step'
 one_answer table bits new new' More More apart a b = refl
 one_answer table bits new new' More (Symbol s) apart a b = absurd (no_front table bits s apart a.0 b.0)
 one_answer table bits new new' More NoCode apart a b = absurd (begun table bits a.0 b.0)

@@ -1,4 +1,4 @@
--- Bits of numbers, cut into bytes.
+-- Bits of numbers, split into bytes.
 use Rattle.std.proofs.Common.{◌≡◌, ℕ, zero, suc, ◌+◌, ◌*◌, ◌/◌, ◌%◌, ◌^◌, ◌<◌, Bool, cond, List, [], ◌∷◌, ◌++◌, length, refl, ap, ◌∙◌, arith, add-one, ◌==◌}
 use Rattle.std.proofs.lemmas.Nat.{mod-pow-add}
 use Rattle.jpg_spec.specs.Bits.{bits_of, number_from, whole_bytes}

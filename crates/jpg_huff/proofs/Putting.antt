@@ -1,4 +1,4 @@
--- What putting bits comes to.
+-- What putting bits does.
 use Rattle.std.proofs.Common.{◌≡◌, ℕ, zero, suc, ◌+◌, ◌-◌, ◌*◌, ◌/◌, ◌%◌, ◌^◌, ◌<◌, ◌≤◌, Bool, true, List, [], ◌∷◌, ◌++◌, length, replicate, Result, Ok, Err, refl, sym, ap, ◌∙◌, subst, arith, ◌==◌}
 use Rattle.std.proofs.lemmas.List.{append-nil}
 use Rattle.std.proofs.lemmas.Nat.{shl_whole, one_shl, shr_split, mul-add-lt, pow-add, pow_pos}
@@ -14,7 +14,7 @@ use Rattle.jpg_huff.proofs.Emitted.{emits_nothing, OnlyWrites-same}
 use Rattle.jpg_base.proofs.BitsAt.{bits_of-add, bits_of-beside, bits_of-low, bits_of-mod}
 use Rattle.jpg_huff.proofs.Packed.{whole_bytes-front}
 
--- a byte of the low `left` bits, and those behind it
+-- a byte of the low `left` bits, and those after it
 pub whole_step : (left n : ℕ) → 8 ≤ left → stuffed (whole_bytes (bits_of left n)) ≡ stuffed_byte (n / 2 ^ (left - 8) % 256) ++ stuffed (whole_bytes (bits_of (left - 8) n))
 whole_step left n h =
     let e : left ≡ 8 + (left - 8) = omega arith in
@@ -37,7 +37,7 @@ low_bytes n = ap whole_bytes (sym (bits_of-mod 32 n)) ∙ word_bytes (n % 2 ^ 32
 pub number_is : (a c k b v : ℕ) → a < 2 ^ c → c < 32 → k ≤ 32 → v ≡ b → (a * 2 ^ k) % 2 ^ 64 + v ≡ a * 2 ^ k + b
 number_is a c k b v h1 h2 h3 e = ap (λ x. x + v) (shl_whole a c k 64 h1 (omega arith)) ∙ ap (λ x. a * 2 ^ k + x) e
 
--- that of a code and the bits behind it
+-- that of a code and the bits after it
 pub code_number : (a c k b v : ℕ) → c ≤ 16 → a < 2 ^ c → k ≤ 16 → v ≡ a → (v * 2 ^ k) % 2 ^ 32 + b ≡ a * 2 ^ k + b
 code_number a c k b v h1 h2 h3 e = ap (λ x. (x * 2 ^ k) % 2 ^ 32 + b) e ∙ ap (λ x. x + b) (shl_whole a c k 32 h2 (omega arith))
 
@@ -52,13 +52,13 @@ number_fits a c k b n h1 h4 e =
 pub all_bits : (a c k b n : ℕ) → b < 2 ^ k → n ≡ a * 2 ^ k + b → bits_of (c + k) n ≡ bits_of c a ++ bits_of k b
 all_bits a c k b n h e = ap (bits_of (c + k)) e ∙ bits_of-beside c k a b h
 
--- those that stay
+-- those that remain
 low_bits : (t n : ℕ) → t < 64 → bits_of t (n % ((1 * 2 ^ t) % 2 ^ 64)) ≡ bits_of t n
 low_bits t n l =
     let p : (1 * 2 ^ t) % 2 ^ 64 ≡ 2 ^ t = one_shl t 64 l in
     ap (λ m. bits_of t (n % m)) p ∙ sym (bits_of-low t (n / 2 ^ t) (n % 2 ^ t)) ∙ ap (bits_of t) (shr_split n t)
 
--- the first 32 bits and those behind them
+-- the first 32 bits and those after them
 cut_bits : (a c k b n : ℕ) → b < 2 ^ k → n ≡ a * 2 ^ k + b → 32 ≤ c + k → bits_of c a ++ bits_of k b ≡ bits_of 32 (n / 2 ^ (c + k - 32)) ++ bits_of (c + k - 32) n
 cut_bits a c k b n h e l =
     let t : c + k ≡ 32 + (c + k - 32) = omega arith in

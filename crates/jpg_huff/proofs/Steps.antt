@@ -146,7 +146,7 @@ begins_none counts symbols firsts starts limits i n x h fits le code more c e =
 next_bits : (i n v : ℕ) (old : List Bool) (bit : Bool) → bits_of i n ≡ old → v ≡ bit_value bit → bits_of (i + 1) (2 * n + v) ≡ old ++ bit ∷ []
 next_bits i n v old bit view e = ap (λ b. bits_of (i + 1) (2 * n + b)) e ∙ bits_of-more i n bit ∙ ap (λ s. s ++ bit ∷ []) view
 
--- what a walk may rest on before its next bit
+-- the state of a walk before its next bit
 pub lower : (counts symbols firsts starts limits : List ℕ) (i n : ℕ) (old : List Bool) → IsIndexed counts (length symbols) firsts starts limits → i < 16 → n < 2 ^ i → bits_of i n ≡ old
     → (old ≡ []) ⊎ BeginsCode (codes counts symbols) old → get_or firsts i 0 ≤ 2 * n
 lower counts symbols firsts starts limits i n old x h fits view (inl e) =

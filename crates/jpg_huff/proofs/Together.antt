@@ -10,7 +10,7 @@ use Rattle.jpg_huff.specs.Waiting.{Waiting}
 use Rattle.jpg_huff.specs.BitOut.{FillBytes, Puts, Pads, CanSend, Sends}
 use Rattle.jpg_huff.proofs.Emitted.{emits_then, emits_fault, emits_nothing, OnlyWrites-then, OnlyWrites-same}
 
--- the bytes of whole bytes and more
+-- the bytes of complete bytes and more
 whole_bytes-append : (front rest : List Bool) (n : ℕ) → length front ≡ 8 * n → whole_bytes (front ++ rest) ≡ whole_bytes front ++ whole_bytes rest
 unfolding whole_bytes
 whole_bytes-append [] rest n e = refl
@@ -24,11 +24,11 @@ whole_bytes-append (a ∷ b ∷ c ∷ d ∷ f ∷ g ∷ h ∷ []) rest n e = abs
 whole_bytes-append (a ∷ b ∷ c ∷ d ∷ f ∷ g ∷ h ∷ i ∷ front) rest zero e = absurd (omega arith)
 whole_bytes-append (a ∷ b ∷ c ∷ d ∷ f ∷ g ∷ h ∷ i ∷ front) rest (suc n) e = ap (λ (l : List ℕ). number_from 0 (a ∷ b ∷ c ∷ d ∷ f ∷ g ∷ h ∷ i ∷ []) ∷ l) (whole_bytes-append front rest n (omega arith))
 
--- and so the bytes as they stand in a file
+-- and so the bytes as they are in a file
 pub stuffed-append : (front rest : List Bool) → FillBytes front → stuffed (whole_bytes (front ++ rest)) ≡ stuffed (whole_bytes front) ++ stuffed (whole_bytes rest)
 stuffed-append front rest w = ap stuffed (whole_bytes-append front rest w.0 w.1) ∙ flat_map-append stuffed_byte (whole_bytes front) (whole_bytes rest)
 
--- the data of bits are those of whole bytes at their front, and of the rest
+-- the data of bits are those of complete bytes at their beginning, and of the rest
 pub data-append : (front rest : List Bool) → FillBytes front → data_of (front ++ rest) ≡ stuffed (whole_bytes front) ++ data_of rest
 data-append front rest w =
     let l : length (front ++ rest) ≡ length front + length rest = length-append front rest in
@@ -72,7 +72,7 @@ puts_then s0 s1 s2 old mid new xs ys r h k =
       behind = k.behind;
     }
 
--- bits that come after a fault are due too
+-- bits that come after a fault are pending too
 pub puts_fault : (s0 s1 : DeskState) (old new : Waiting) (xs ys : List Bool) (fault : WriteFault) → Puts s0 old xs (Err fault) new s1 → Puts s0 old (xs ++ ys) (Err fault) new s1
 puts_fault s0 s1 old new xs ys fault h =
     record {
@@ -89,7 +89,7 @@ puts_fault s0 s1 old new xs ys fault h =
 pub puts_same : (s0 s1 : DeskState) (old new : Waiting) (xs ys : List Bool) (r : Result (Unit {0}) WriteFault) → xs ≡ ys → Puts s0 old xs r new s1 → Puts s0 old ys r new s1
 puts_same s0 s1 old new xs ys r e h = subst (λ x. Puts s0 old x r new s1) e h
 
--- bits were put from where none waited, and the last byte was filled: their data were sent
+-- bits were put while none waited, and the last byte was filled: their data were sent
 pub puts_pad : (s0 s1 s2 : DeskState) (old mid new : Waiting) (xs : List Bool) (r : Result (Unit {0}) WriteFault) → old.bits ≡ [] → Puts s0 old xs (Ok tt) mid s1 → Pads s1 mid r new s2 → Sends s0 old (data_of xs) r new s2
 puts_pad s0 s1 s2 old mid new xs r none h k =
     let P : List ℕ → Type 0 = λ due. Emits s0 old.bytes due r new.bytes s2 in
@@ -123,7 +123,7 @@ pub sends_then : (s0 s1 s2 : DeskState) (old mid new : Waiting) (xs ys : List �
 sends_then s0 s1 s2 old mid new xs ys r h k =
     record { kept = OnlyWrites-then s0 s1 s2 h.kept k.kept; bytes = emits_then s0 s1 s2 old.bytes xs mid.bytes ys new.bytes r h.kept h.bytes k.bytes; none = k.none }
 
--- bytes that come after a fault are due too
+-- bytes that come after a fault are pending too
 pub sends_fault : (s0 s1 : DeskState) (old new : Waiting) (xs ys : List ℕ) (fault : WriteFault) → Sends s0 old xs (Err fault) new s1 → Sends s0 old (xs ++ ys) (Err fault) new s1
 sends_fault s0 s1 old new xs ys fault h = record { kept = h.kept; bytes = emits_fault s0 s1 old.bytes xs ys new.bytes fault h.bytes; none = h.none }
 
@@ -131,6 +131,6 @@ sends_fault s0 s1 old new xs ys fault h = record { kept = h.kept; bytes = emits_
 pub sends_same : (s0 s1 : DeskState) (old new : Waiting) (xs ys : List ℕ) (r : Result (Unit {0}) WriteFault) → xs ≡ ys → Sends s0 old xs r new s1 → Sends s0 old ys r new s1
 sends_same s0 s1 old new xs ys r e h = subst (λ x. Sends s0 old x r new s1) e h
 
--- behind bytes that were sent more can be
+-- after bytes that were sent, more can be sent
 pub can_after : (s0 s1 : DeskState) (old new : Waiting) (xs : List ℕ) → CanSend s0 old → Sends s0 old xs (Ok tt) new s1 → CanSend s1 new
 can_after s0 s1 old new xs c h = record { created = h.kept.output_created ∙ c.created; none = h.none }

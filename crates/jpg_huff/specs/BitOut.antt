@@ -1,4 +1,4 @@
--- Bits that go out. Each call changes nothing of the desk but the outputs and the counts.
+-- Bits that are written. Each call changes nothing of the desk but the outputs and the counts.
 use Rattle.std.specs.Prelude.{◌≡◌, ℕ, ◌*◌, Bool, true, List, [], ◌++◌, length, Result, Ok, Err}
 use Rattle.jpg_base.specs.Desk.{DeskState}
 use Rattle.jpg_spec.specs.Bits.{stuffed, whole_bytes, data_of}
@@ -12,7 +12,7 @@ nothing_waits = record { bytes = []; bits = [] }
 abbrev pub waiting : List ℕ → List Bool → Waiting
 waiting bytes bits = record { bytes = bytes; bits = bits }
 
--- the bytes that wait, with bits behind them that are in other hands
+-- the bytes that wait, followed by bits that the caller has
 abbrev pub holding : Waiting → List Bool → Waiting
 holding out bits = waiting out.bytes bits
 
@@ -21,16 +21,16 @@ pub record CanSend (s : DeskState) (out : Waiting) : Type 0 where
   pub created : s.output_created ≡ true
   pub none : out.bits ≡ []
 
--- bits fill whole bytes
+-- bits fill complete bytes
 abbrev pub FillBytes : List Bool → Type 0
 FillBytes bits = (n : ℕ) × (length bits ≡ 8 * n)
 
--- the bits that wait behind those that went out, none after a fault
-abbrev pub StayBehind : List Bool → Result (Unit {0}) WriteFault → List Bool → Type 0
-StayBehind rest (Ok u) new = new ≡ rest
-StayBehind rest (Err fault) new = new ≡ []
+-- the bits that wait after those that were written, none after a fault
+abbrev pub StayAfter : List Bool → Result (Unit {0}) WriteFault → List Bool → Type 0
+StayAfter rest (Ok u) new = new ≡ rest
+StayAfter rest (Err fault) new = new ≡ []
 
--- The bits join those that wait. Bytes of the first of them go out stuffed, and the others wait.
+-- The bits are appended to those that wait. Complete bytes of them are written stuffed, and the rest waits.
 pub record Puts (s0 : DeskState) (old : Waiting) (bits : List Bool) (result : Result (Unit {0}) WriteFault) (new : Waiting) (s1 : DeskState) : Type 0 where
   pub kept : OnlyWrites s0 s1
   pub front : List Bool
@@ -38,24 +38,24 @@ pub record Puts (s0 : DeskState) (old : Waiting) (bits : List Bool) (result : Re
   pub all : old.bits ++ bits ≡ front ++ rest
   pub whole : FillBytes front
   pub bytes : Emits s0 old.bytes (stuffed (whole_bytes front)) result new.bytes s1
-  pub behind : StayBehind rest result new.bits
+  pub behind : StayAfter rest result new.bits
 
--- The bits join those that are held, behind bytes that wait, and what waits then of them is held.
+-- The bits are appended to those that the caller has, after bytes that wait, and the caller has those that wait then.
 abbrev pub PutsInto : DeskState → List ℕ → List Bool → List Bool → Result (List Bool) WriteFault → List ℕ → DeskState → Type 0
 PutsInto s0 old held bits (Ok left) new s1 = Puts s0 (waiting old held) bits (Ok tt) (waiting new left) s1
 PutsInto s0 old held bits (Err fault) new s1 = Puts s0 (waiting old held) bits (Err fault) (waiting new []) s1
 
--- The same, where the bytes wait in what else has no bits.
-abbrev pub PutsBehind : DeskState → Waiting → List Bool → List Bool → Result (List Bool) WriteFault → Waiting → DeskState → Type 0
-PutsBehind s0 old held bits result new s1 = PutsInto s0 old.bytes held bits result new.bytes s1
+-- The same, where the bytes wait in a buffer without bits.
+abbrev pub PutsAfter : DeskState → Waiting → List Bool → List Bool → Result (List Bool) WriteFault → Waiting → DeskState → Type 0
+PutsAfter s0 old held bits result new s1 = PutsInto s0 old.bytes held bits result new.bytes s1
 
--- The bits that wait go out, with ones up to a whole byte.
+-- The bits that wait are written, with ones up to a complete byte.
 pub record Pads (s0 : DeskState) (old : Waiting) (result : Result (Unit {0}) WriteFault) (new : Waiting) (s1 : DeskState) : Type 0 where
   pub kept : OnlyWrites s0 s1
   pub bytes : Emits s0 old.bytes (data_of old.bits) result new.bytes s1
   pub none : new.bits ≡ []
 
--- Bytes go out as they are, where no bits wait.
+-- Bytes are written as they are, where no bits wait.
 pub record Sends (s0 : DeskState) (old : Waiting) (piece : List ℕ) (result : Result (Unit {0}) WriteFault) (new : Waiting) (s1 : DeskState) : Type 0 where
   pub kept : OnlyWrites s0 s1
   pub bytes : Emits s0 old.bytes piece result new.bytes s1

@@ -1,21 +1,21 @@
--- What is kept for small values behind short runs of zeros, and for the tables of a set.
+-- The entries for small values after short runs of zeros, and for the tables of a set.
 use Rattle.std.specs.Prelude.{◌≡◌, ℕ, ◌+◌, ◌*◌, ◌/◌, ◌%◌, ◌^◌, ◌<◌, List, ◌++◌, slice_index, slice_get, Option, ℤ, pos, ◌-ℤ◌}
 use Rattle.std.specs.Option.{option_map}
 use Rattle.jpg_spec.specs.Lists.{slot_value}
 use Rattle.jpg_spec.specs.Bits.{bits_of}
 use Rattle.jpg_spec.specs.Codes.{Code}
 use Rattle.jpg_spec.specs.Numbers.{category, extra_bits}
-use Rattle.jpg_spec.specs.ScanText.{code_of}
+use Rattle.jpg_spec.specs.Codes.{code_of}
 use Rattle.jpg_huff.specs.declared.set.TableSet.{TableSet}
 use Rattle.jpg_huff.specs.Sets.{dc_tables, ac_tables, in_slot}
 use Rattle.jpg_huff.specs.Tables.{symbol_codes}
 
--- 32 times the bits, and how many they are: the first code of the value's symbol, if any, and its extra bits
+-- 32 times the bits, plus how many they are: the first code of the value's symbol, if any, and its extra bits
 pub record IsValueEntry (codes : List Code) (run : ℕ) (value : ℤ) (entry : ℕ) : Type 0 where
   pub bits : bits_of (entry % 32) (entry / 32) ≡ code_of codes (16 * run + category value) ++ extra_bits value
   pub fits : entry / 32 < 2 ^ (entry % 32)
 
--- by 16 times the run, and the value and 8
+-- by 64 times the run, plus the value and 32
 abbrev pub AreValueEntries : List Code → List ℕ → Type 0
 AreValueEntries codes entries = (i : ℕ) → i < 1024 → IsValueEntry codes (i / 64) (pos (i % 64) -ℤ pos 32) (slice_index entries i)
 

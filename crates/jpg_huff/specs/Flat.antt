@@ -1,4 +1,4 @@
--- The symbols that are used, of which a table of codes of one length is made.
+-- The symbols that are used, for a table of codes of one length.
 use Rattle.std.specs.Prelude.{ℕ, Bool, false, List, filter, slice_index_or}
 use Rattle.jpg_spec.specs.Lists.{below}
 

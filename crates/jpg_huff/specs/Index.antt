@@ -1,9 +1,10 @@
--- What a table keeps beside its counts and symbols, so that a walk needs no search.
+-- What a table has in addition to its counts and symbols, so that a walk needs no search.
 use Rattle.std.specs.Prelude.{◌≡◌, ℕ, ◌+◌, ◌*◌, ◌/◌, ◌%◌, ◌^◌, Option, None, Some, ◌<◌, ◌≤◌, List, [], ◌∷◌, length, drop, sum, slice_index, Bool, ◌==◌, if◌then◌else◌}
 use Rattle.jpg_spec.specs.Bits.{bits_of}
 use Rattle.jpg_spec.specs.Codes.{Code, first_code}
 
--- Where c is the first number of a length: how many strings of that length begin a code of that length or of a longer one, or are before c.
+-- Where c is the first number of a length: how many strings of that length are a prefix of a code of that length or of
+-- a longer one, or are before c.
 abbrev pub limit_from : ℕ → List ℕ → ℕ
 limit_from c [] = c
 limit_from c (count ∷ counts) = (limit_from (2 * (c + count)) counts + 1) / 2
@@ -20,7 +21,7 @@ pub record IsIndexed (counts : List ℕ) (symbols : ℕ) (firsts starts limits :
   pub fits : (i : ℕ) → i < 16 → slice_index firsts i + slice_index counts i < 2 ^ (i + 1)
   pub enough : (i : ℕ) → i < 16 → slice_index starts i + sum (drop i counts) ≤ symbols
 
--- What a table keeps for writing: for a code 65536 times its length, and its number; 0 for none.
+-- The entry of a code in a table: 65536 times its length, plus its number; 0 for none.
 abbrev pub entry_code : ℕ → Option (List Bool)
 entry_code entry = if entry == 0 then None else Some (bits_of (entry / 65536) (entry % 65536))
 

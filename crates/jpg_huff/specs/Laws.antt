@@ -11,7 +11,7 @@ use Rattle.jpg_spec.specs.Bits.{data_of}
 use Rattle.jpg_huff.specs.declared.walk.WalkStep.{WalkStep}
 use Rattle.jpg_huff.specs.BitOut.{Puts, Pads, Sends}
 use Rattle.jpg_huff.specs.Waiting.{Waiting}
-use Rattle.jpg_huff.specs.Walk.{Answers}
+use Rattle.jpg_huff.specs.Walk.{WalkAnswers}
 
 -- counts for sixteen lengths and as many symbols, whose codes fit
 pub record IsTable (table : HuffmanTable) : Type 0 where
@@ -25,7 +25,7 @@ pub record IsTable (table : HuffmanTable) : Type 0 where
 abbrev pub HaveTables : List (Option HuffmanTable) → Type 0
 HaveTables slots = (slot : ℕ) (table : HuffmanTable) → slice_get slots slot ≡ Some (Some table) → IsTable table
 
--- of two codes that begin the same bits, neither is longer
+-- of two codes that the same bits begin with, neither is longer
 abbrev pub AreApart : List Code → Type 0
 AreApart table = (a b : Code) (x y : List Bool) → Contains table a → Contains table b → a.0 ++ x ≡ b.0 ++ y → a ≡ b
 
@@ -41,20 +41,20 @@ AtLast last bytes answers = answers ≡ replicate (length bytes - 1) More ++ las
 
 -- at the same bits one answer of a walk is right
 abbrev pub HasOneAnswer : List Code → Type 0
-HasOneAnswer table = (bits new other : List Bool) (a b : WalkStep) → Answers table bits a new → Answers table bits b other → a ≡ b
+HasOneAnswer table = (bits new other : List Bool) (a b : WalkStep) → WalkAnswers table bits a new → WalkAnswers table bits b other → a ≡ b
 
 -- the bytes that are fed pass as this, at the last of them
 abbrev pub PassAs : Passed → List ℕ → Type 0
 PassAs last bytes = (answers : List Passed) (new : Bool) → PassesAll false bytes answers new → AtLast last bytes answers × (new ≡ false)
 
--- what is put behind these bits is as put at once
+-- what is put after these bits is as put at once
 abbrev pub PutsGoOn : DeskState → Waiting → List Bool → Waiting → DeskState → Type 0
 PutsGoOn s0 old xs mid s1 = (s2 : DeskState) (new : Waiting) (ys : List Bool) (r : Result (Unit {0}) WriteFault) → Puts s1 mid ys r new s2 → Puts s0 old (xs ++ ys) r new s2
 
--- a pad behind these bits sends their data
+-- a pad after these bits sends their data
 abbrev pub PadSendsData : DeskState → Waiting → List Bool → Waiting → DeskState → Type 0
 PadSendsData s0 old xs mid s1 = (s2 : DeskState) (new : Waiting) (r : Result (Unit {0}) WriteFault) → Pads s1 mid r new s2 → Sends s0 old (data_of xs) r new s2
 
--- what is sent behind these bytes is as sent at once
+-- what is sent after these bytes is as sent at once
 abbrev pub SendsGoOn : DeskState → Waiting → List ℕ → Waiting → DeskState → Type 0
 SendsGoOn s0 old xs mid s1 = (s2 : DeskState) (new : Waiting) (ys : List ℕ) (r : Result (Unit {0}) WriteFault) → Sends s1 mid ys r new s2 → Sends s0 old (xs ++ ys) r new s2

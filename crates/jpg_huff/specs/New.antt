@@ -1,4 +1,4 @@
--- What a table made of counts and values is, and what it keeps beside them.
+-- The table of counts and values, and what it has in addition to them.
 use Rattle.std.specs.Prelude.{◌≡◌, ℕ, zero, suc, ◌+◌, ◌*◌, ◌/◌, ◌%◌, ◌^◌, ◌<◌, ◌≤◌, Bool, true, false, List, length, sum, take, drop, slice_index, Option, None, Some, Result, Ok, Err}
 use Rattle.jpg_spec.specs.Codes.{Code, are_codes, first_code}
 use Rattle.jpg_spec.specs.Segments.{HuffmanTable}
@@ -19,7 +19,7 @@ pub record IsTableOf (bits values : List ℕ) (t : Table) : Type 0 where
   pub many : sum bits ≤ length values
   pub fit : are_codes 1 0 bits ≡ true
 
--- what is wrong, and nothing that is asked before it
+-- what is wrong, and nothing that is checked before it
 abbrev pub IsFault : List ℕ → List ℕ → TableFault → Type 0
 IsFault bits values TooManyCodes = 256 < sum bits
 IsFault bits values ShortValues = (sum bits ≤ 256) × (length values < sum bits)
@@ -49,11 +49,11 @@ pub record AreEntries (entries : List ℕ) : Type 0 where
   pub short : (symbol : ℕ) → symbol < 256 → slice_index entries symbol / 65536 ≤ 16
   pub fits : (symbol : ℕ) → symbol < 256 → slice_index entries symbol % 65536 < 2 ^ (slice_index entries symbol / 65536)
 
--- the first of two that is there
+-- the first of two options that isn't None
 abbrev pub or_else : Option (List Bool) → Option (List Bool) → Option (List Bool)
 or_else None later = later
 or_else (Some bits) later = Some bits
 
--- entries with codes behind them have the same first codes as others with theirs
+-- entries followed by codes have the same first codes as others followed by theirs
 abbrev pub HaveFirstCodes : List ℕ → List Code → List ℕ → List Code → Type 0
 HaveFirstCodes old codes new more = (symbol : ℕ) → symbol < 256 → or_else (entry_code (slice_index new symbol)) (first_code more symbol) ≡ or_else (entry_code (slice_index old symbol)) (first_code codes symbol)

@@ -1,4 +1,4 @@
--- Bytes that go out, or wait to.
+-- Bytes that are written, or wait to be.
 use Rattle.std.specs.Prelude.{◌≡◌, ℕ, List, [], ◌++◌, Result, Ok, Err}
 use Rattle.jpg_base.specs.Desk.{DeskState, NoneFell, Rose, AppendsLast}
 use Rattle.jpg_base.specs.Laws.{AppendsPart}
@@ -14,7 +14,7 @@ pub record OnlyWrites (old new : DeskState) : Type 0 where
   pub input_open : new.input_open ≡ old.input_open
   pub output_created : new.output_created ≡ old.output_created
 
--- What waited and what is due has gone out or waits. After a fault a first part has gone out, and nothing waits.
+-- What waited and the new bytes are written or wait. After a fault a first part is written, and nothing waits.
 abbrev pub Emits : DeskState → List ℕ → List ℕ → Result (Unit {0}) WriteFault → List ℕ → DeskState → Type 0
 Emits s0 old due (Ok u) new s1 = (out : List ℕ) × AppendsLast s0.outputs out s1.outputs × (old ++ due ≡ out ++ new)
 Emits s0 old due (Err fault) new s1 = AppendsPart s0.outputs (old ++ due) s1.outputs × (new ≡ []) × Rose s0.counts.writes s1.counts.writes

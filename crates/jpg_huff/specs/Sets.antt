@@ -1,4 +1,4 @@
--- What is seen of a set of tables.
+-- What contracts see of a set of tables.
 use Rattle.std.specs.Prelude.{ℕ, List, [], ◌∷◌, map, Option, None, slice_get}
 use Rattle.std.specs.Option.{option_map}
 use Rattle.jpg_spec.specs.Lists.{slot_value}

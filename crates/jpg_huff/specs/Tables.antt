@@ -1,4 +1,4 @@
--- What is seen of a table.
+-- What contracts see of a table.
 use Rattle.std.specs.Prelude.{List, take}
 use Rattle.jpg_spec.specs.Codes.{Code}
 use Rattle.jpg_spec.specs.Segments.{HuffmanTable, table_codes}

@@ -9,8 +9,8 @@ use Rattle.jpg_spec.specs.Parts.{BeginsCode}
 abbrev pub BeginsNoCode : List Code → List Bool → Type 0
 BeginsNoCode table bits = (code : Code) (more : List Bool) → Contains table code → code.0 ≡ bits ++ more → ⊥
 
--- the answer at these bits, and what is kept of them
-abbrev pub Answers : List Code → List Bool → WalkStep → List Bool → Type 0
-Answers table bits More new = BeginsCode table bits × (new ≡ bits)
-Answers table bits (Symbol s) new = Contains table (bits, s) × (new ≡ [])
-Answers table bits NoCode new = BeginsNoCode table bits × (new ≡ [])
+-- the answer at these bits, and those that are kept
+abbrev pub WalkAnswers : List Code → List Bool → WalkStep → List Bool → Type 0
+WalkAnswers table bits More new = BeginsCode table bits × (new ≡ bits)
+WalkAnswers table bits (Symbol s) new = Contains table (bits, s) × (new ≡ [])
+WalkAnswers table bits NoCode new = BeginsNoCode table bits × (new ≡ [])

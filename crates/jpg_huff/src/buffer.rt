@@ -1,4 +1,4 @@
-// Bytes that wait to be written.
+//! The buffer of bytes that wait to be written.
 ghost use Rattle.std.specs.Prelude.{◌≡◌, ◌≤◌, ◌<◌, ◌+◌, [], ◌∷◌, ◌++◌, length, true};
 ghost use Rattle.jpg_spec.specs.Bits.{bits_of, stuffed, stuffed_byte, whole_bytes};
 ghost use Rattle.jpg_huff.specs.Out.{Emits, OnlyWrites};
@@ -32,7 +32,7 @@ impl Buffer {
         }
     }
 
-    // Writes all that waits. After a fault nothing waits.
+    // Writes all bytes that wait. After a fault nothing waits.
     #[cold]
     #[inline(never)]
     pub(crate) fn flush<D: Desk>(&mut self, desk: &mut D) -> Result<(), WriteFault>
@@ -49,7 +49,7 @@ impl Buffer {
         }
     }
 
-    // Writes what waits where fewer than this many bytes more fit.
+    // Writes the bytes that wait if there is no room for `room` more.
     #[inline(always)]
     fn make_room<D: Desk>(&mut self, room: usize, desk: &mut D) -> Result<(), WriteFault>
         requires created { (D.state desk.old).output_created ≡ true }
@@ -127,7 +127,7 @@ impl Buffer {
         }
     }
 
-    // The low 32 bits of a word.
+    // Adds the low 32 bits of a word as stuffed bytes.
     #[inline(always)]
     pub(crate) fn push_word<D: Desk>(&mut self, word: u64, desk: &mut D) -> Result<(), WriteFault>
         requires { (D.state desk.old).output_created ≡ true }
@@ -144,7 +144,7 @@ impl Buffer {
         Ok(())
     }
 
-    // The whole bytes of the low `count` bits, where there is room.
+    // Adds the complete bytes of the low `count` bits, stuffed, where there is room.
     fn add_bits(&mut self, word: u64, count: u8)
         requires count { count ≤ 32 }
         requires room { length self.old + 8 ≤ 4096 }
@@ -157,7 +157,7 @@ impl Buffer {
         }
     }
 
-    // The whole bytes of the low `count` bits.
+    // Adds the complete bytes of the low `count` bits, stuffed.
     pub(crate) fn push_bits<D: Desk>(
         &mut self,
         word: u64,
@@ -185,7 +185,7 @@ impl Buffer {
         self.used = end;
     }
 
-    // Bytes as they are. Those that are more than a buffer are written at once.
+    // Adds bytes as they are. A piece that doesn't fit into the buffer is written at once.
     pub(crate) fn push_piece<D: Desk>(
         &mut self,
         piece: &[u8],

@@ -1,8 +1,8 @@
-// What is written for symbols, and for small values behind short runs of zeros (T.81, F.1.2).
+//! What is written for symbols, and for small values after short runs of zeros (T.81, F.1.2).
 ghost use Rattle.std.specs.Prelude.{◌≡◌, ◌<◌, ◌≤◌, ◌+◌, ◌*◌, ◌^◌, ◌++◌, ◌≤ℤ◌, pos, negsuc, ◌+ℤ◌, ◌-ℤ◌};
 ghost use Rattle.jpg_spec.specs.Bits.{bits_of};
 ghost use Rattle.jpg_spec.specs.Numbers.{category as category_of, extra_bits as extra_of};
-ghost use Rattle.jpg_spec.specs.ScanText.{code_of};
+ghost use Rattle.jpg_spec.specs.Codes.{code_of};
 ghost use Rattle.jpg_huff.specs.Tables.{symbol_codes};
 ghost use Rattle.std.specs.Option.{option_map};
 ghost use Rattle.jpg_huff.specs.Encoder.{IsValueEntry, AreValueEntries};
@@ -12,11 +12,11 @@ use crate::out::joined;
 use crate::{Code, Table, TableSet, category, extra_bits};
 use std::marker::Model;
 
-/// A table, and what is written for values from -32 to 31 behind fewer than 16 zeros.
+/// A table, and what is written for values from -32 to 31 after fewer than 16 zeros.
 #[derive(Drop)]
 pub struct Encoder {
     table: Table,
-    // by 64 times the run, and the value and 32: 32 times the bits, and how many they are
+    // by 64 times the run, plus the value and 32: 32 times the bits, plus how many they are
     values: [u32; 1024],
 }
 
@@ -33,7 +33,7 @@ impl Model for Encoder {
     ghost invariant = { λ e. AreValueEntries (symbol_codes e.table) e.values };
 }
 
-// The value and 32.
+// The value plus 32.
 #[inline(always)]
 fn raised(value: i16) -> usize
     requires small { (negsuc 31 ≤ℤ value) × (value ≤ℤ pos 31) }
@@ -43,7 +43,7 @@ fn raised(value: i16) -> usize
     (value + 32) as usize
 }
 
-// The number less 32.
+// The number minus 32.
 fn lowered(number: usize) -> i32
     requires few { number < 64 }
     ensures value { result ≡ pos number -ℤ pos 32 }
@@ -52,7 +52,7 @@ fn lowered(number: usize) -> i32
     number as i32 - 32
 }
 
-// What is kept for a value.
+// The entry of a value.
 fn value_entry(table: &Table, run: u8, value: i32) -> u32
     requires run { run < 16 }
     requires small { (negsuc 31 ≤ℤ value) × (value ≤ℤ pos 31) }
@@ -63,7 +63,7 @@ fn value_entry(table: &Table, run: u8, value: i32) -> u32
     32 * joined(code, extra_bits(value), size) + u32::from(code.length + size)
 }
 
-// What is kept for all values.
+// The entries of all values.
 fn value_entries(table: &Table) -> [u32; 1024]
     ensures { AreValueEntries (symbol_codes table.now) result }
 {
@@ -75,7 +75,7 @@ fn value_entries(table: &Table) -> [u32; 1024]
 }
 
 impl Encoder {
-    /// For the codes of this table.
+    /// The encoder of this table's codes.
     pub fn new(table: &Table) -> Encoder
         ensures { result ≡ symbol_codes table.now }
     {
@@ -94,8 +94,8 @@ impl Encoder {
         self.table.written(symbol)
     }
 
-    /// What is written for a value from -32 to 31 behind fewer than 16 zeros: the first code of its symbol, if any, and its
-    /// extra bits (T.81, F.1.2.2). It is a number, and how many bits it has.
+    /// What is written for a value from -32 to 31 after fewer than 16 zeros: the first code of its symbol, if any, and
+    /// its extra bits (T.81, F.1.2.2). The answer is a number, and how many bits it has.
     #[inline(always)]
     pub fn value(&self, run: u8, value: i16) -> (u32, u8)
         requires run { run < 16 }
@@ -108,7 +108,7 @@ impl Encoder {
     }
 }
 
-// For the DC table in a slot.
+// The encoder of the DC table in a slot.
 fn dc_encoder(tables: &TableSet, slot: u8) -> Option<Encoder>
     ensures { result ≡ option_map symbol_codes (in_slot (dc_tables tables.now) slot) }
 {
@@ -118,7 +118,7 @@ fn dc_encoder(tables: &TableSet, slot: u8) -> Option<Encoder>
     }
 }
 
-// For the AC table in a slot.
+// The encoder of the AC table in a slot.
 fn ac_encoder(tables: &TableSet, slot: u8) -> Option<Encoder>
     ensures { result ≡ option_map symbol_codes (in_slot (ac_tables tables.now) slot) }
 {
@@ -148,7 +148,7 @@ impl<'a> Model for EncoderSet<'a> {
 }
 
 impl<'a> EncoderSet<'a> {
-    /// For the tables of this set.
+    /// The encoders of the tables of this set.
     pub fn new(tables: &'a TableSet) -> EncoderSet<'a>
         ensures { result ≡ tables.now }
     {
@@ -169,7 +169,7 @@ impl<'a> EncoderSet<'a> {
         }
     }
 
-    /// For the DC table in a slot, None where there is none, and for slots from 4 on.
+    /// The encoder of the DC table in a slot, None if there is none, and for slots from 4 on.
     #[inline(always)]
     pub fn dc(&self, slot: u8) -> Option<&Encoder>
         ensures { option_map (λ e. e.now) result ≡ option_map symbol_codes (in_slot (dc_tables self.now) slot) }
@@ -181,7 +181,7 @@ impl<'a> EncoderSet<'a> {
         }
     }
 
-    /// For the AC table in a slot, None where there is none, and for slots from 4 on.
+    /// The encoder of the AC table in a slot, None if there is none, and for slots from 4 on.
     #[inline(always)]
     pub fn ac(&self, slot: u8) -> Option<&Encoder>
         ensures { option_map (λ e. e.now) result ≡ option_map symbol_codes (in_slot (ac_tables self.now) slot) }

@@ -1,12 +1,12 @@
-// Tables of codes of one length.
+//! Tables of codes of one length.
 ghost use Rattle.std.specs.Prelude.{◌≡◌, ◌<◌, ◌≤◌, ◌+◌, ◌-◌, [], ◌∷◌, ◌++◌, if◌then◌else◌, length, take, replicate};
-ghost use Rattle.jpg_spec.specs.ScanText.{flat_length_from, flat_table};
+ghost use Rattle.jpg_spec.specs.FlatTable.{flat_length_from, flat_table};
 ghost use Rattle.jpg_huff.specs.Tables.{table_of};
 ghost use Rattle.jpg_huff.specs.Flat.{symbols_in};
 
 use crate::{Table, Typical, typical};
 
-// A symbol behind the first ones, if it is used. It gives how many there are then.
+// Adds a symbol to the first ones, if it is used. Answers how many there are then.
 fn keep(used: bool, symbol: u8, symbols: &mut [u8; 256], count: u16) -> u16
     requires { count < 256 }
     ensures kept { take result symbols.new ≡ take count symbols.old ++ (if used then symbol ∷ [] else []) }
@@ -20,7 +20,7 @@ fn keep(used: bool, symbol: u8, symbols: &mut [u8; 256], count: u16) -> u16
     }
 }
 
-// The symbols that are used first, and how many they are.
+// Puts the symbols that are used at the start of the list, and answers how many they are.
 fn gather(used: &[bool; 256], symbols: &mut [u8; 256]) -> u16
     ensures kept { take result symbols.new ≡ symbols_in used.now }
     ensures most { result ≤ 256 }
@@ -32,7 +32,7 @@ fn gather(used: &[bool; 256], symbols: &mut [u8; 256]) -> u16
     count
 }
 
-// The least length of which there are more codes than this many.
+// The least length that has more codes than `count`.
 fn flat_length(count: u8) -> u8
     ensures value { result ≡ flat_length_from 8 1 count }
     ensures within { (1 ≤ result) × (result ≤ 8) }
@@ -46,7 +46,7 @@ fn flat_length(count: u8) -> u8
     length
 }
 
-// So many codes, all of one length.
+// The counts of a table of `count` codes, all of one length.
 fn flat_counts(count: u8) -> [u8; 16]
     ensures { result ≡ replicate (flat_length_from 8 1 count - 1) 0 ++ count ∷ replicate (16 - flat_length_from 8 1 count) 0 }
 {
@@ -55,8 +55,8 @@ fn flat_counts(count: u8) -> [u8; 16]
     counts
 }
 
-/// The table of these symbols, at most 255, in ascending order with codes of one length: the least of which there are more
-/// codes than symbols, since none may be all ones (T.81, Annex C).
+/// The table of these symbols, at most 255, in ascending order with codes of one length: the least of which there are
+/// more codes than symbols, since none may be all ones (T.81, Annex C).
 pub fn flat(used: &[bool; 256]) -> Table
     requires { length (symbols_in used.now) ≤ 255 }
     ensures { table_of result ≡ flat_table (symbols_in used.now) }

@@ -1,10 +1,10 @@
-// Data bytes and markers, as they stand in a file (T.81, B.1.1.5).
+//! Data bytes and markers, separated by destuffing (T.81, B.1.1.5).
 ghost use Rattle.std.specs.Prelude.{◌≡◌, false};
 ghost use Rattle.jpg_huff.specs.Gate.{Passes};
 
 use std::marker::Model;
 
-/// What passes at a byte: nothing yet, a byte of data, or a marker's code, 1 to 254 (T.81, B.1.1.2).
+/// What passes the gate at a byte: nothing yet, a byte of data, or a marker's code, 1 to 254 (T.81, B.1.1.2).
 #[derive(Clone, Copy, Debug, PartialEq, Eq)]
 pub enum Passed {
     More,
@@ -27,7 +27,7 @@ impl Model for Gate {
 }
 
 impl Gate {
-    /// A gate at which nothing waits.
+    /// A gate at which no FF waits.
     pub fn new() -> Gate
         ensures { result ≡ false }
     {
@@ -42,8 +42,8 @@ impl Gate {
         self.waits
     }
 
-    /// Takes a byte. A byte other than FF passes as data; after one or more FF, 00 passes as one
-    /// data byte FF, and another byte as a marker. T.81 has one FF before 00; here any number may stand.
+    /// Takes a byte. A byte other than FF passes as data; after one or more FF, 00 passes as one data byte FF, and
+    /// another byte as a marker. T.81 has one FF before 00; here there may be any number.
     #[inline(always)]
     pub fn byte(&mut self, byte: u8) -> Passed
         ensures { Passes self.old byte result self.new }

@@ -1,4 +1,4 @@
-// Which of the typical tables.
+//! The names of the typical tables.
 
 /// A typical table: for DC or AC coefficients, of luminance or chrominance (T.81, Annex K.3).
 #[derive(Clone, Copy, Debug, PartialEq, Eq)]

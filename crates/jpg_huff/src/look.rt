@@ -1,4 +1,4 @@
-// Codes of up to eight bits in one look, and the code that stands first in bits (T.81, F.2.2.3).
+//! Codes of up to eight bits looked up at once, and the code that bits begin with (T.81, F.2.2.3).
 ghost use Rattle.std.specs.Prelude.{◌≡◌, ◌<◌, ◌≤◌, List, length, Contains, true};
 ghost use Rattle.jpg_spec.specs.Parts.{BeginsCode};
 ghost use Rattle.jpg_spec.specs.Codes.{Code};
@@ -18,25 +18,25 @@ pub struct Found {
     pub symbol: u8,
 }
 
-/// The codes of a table by the eight bits that are next.
+/// The codes of a table by the next eight bits.
 #[derive(Drop)]
 pub struct Look {
-    // 256 times the length of the code, and its symbol; 0 for none
+    // 256 times the length of the code, plus its symbol; 0 for none
     pub(crate) entries: [u16; 256],
 }
 
-/// What code stands first in bits.
+/// Which code bits begin with.
 #[derive(Clone, Copy, Debug, PartialEq, Eq)]
 pub enum Spotted {
     /// A code, by its length, and its symbol.
     Symbol { length: u8, symbol: u8 },
-    /// All the bits are the front of a code, or there are none.
+    /// All the bits are a proper prefix of a code, or there are none.
     Part,
-    /// No code begins with these first bits, and one with all of them but the last.
+    /// No code begins with the first `length` bits, but one begins with all of them except the last.
     NoCode { length: u8 },
 }
 
-// What is kept for these eight bits.
+// The entry of these eight bits.
 fn entry(table: &Table, byte: u8) -> u16
     ensures { LooksUp (symbol_codes table.now) (bits_of 8 byte) (found_of result) }
 {
@@ -53,7 +53,7 @@ fn entry(table: &Table, byte: u8) -> u16
 }
 
 impl Look {
-    /// The codes of this table.
+    /// The lookup of this table's codes.
     pub fn new(table: &Table) -> Look
         ensures { IsLookOf (symbol_codes table.now) result }
     {
@@ -64,7 +64,7 @@ impl Look {
         Look { entries }
     }
 
-    /// The code of at most eight bits that these eight begin with, None where there is none.
+    /// The code of at most eight bits that these eight begin with, None if there is none.
     #[inline(always)]
     pub fn at(&self, bits: u8) -> Option<Found>
         ensures { (codes : List Code) → IsLookOf codes self.now → LooksUp codes (bits_of 8 bits) result }
@@ -81,7 +81,7 @@ impl Look {
     }
 }
 
-/// A table, and what looks up its codes.
+/// A table, and the lookup of its codes.
 #[derive(Drop)]
 pub struct Decoder {
     table: Table,
@@ -103,7 +103,7 @@ impl Model for Decoder {
 }
 
 impl Decoder {
-    /// For the codes of this table.
+    /// The decoder of this table's codes.
     pub fn new(table: &Table) -> Decoder
         ensures { result ≡ symbol_codes table.now }
     {
@@ -113,7 +113,7 @@ impl Decoder {
         }
     }
 
-    // The same bit by bit.
+    // The answer of `spot`, found bit by bit.
     #[cold]
     #[inline(never)]
     fn walked(&self, bits: &BitStore) -> Spotted
@@ -133,7 +133,7 @@ impl Decoder {
         Spotted::Part
     }
 
-    // The same of at least sixteen bits, by the numbers of codes of more than eight.
+    // The answer of `spot` for at least sixteen bits; longer codes than eight bits are found by their numbers.
     #[cold]
     #[inline(never)]
     fn long(&self, bits: &BitStore) -> Spotted
@@ -156,7 +156,7 @@ impl Decoder {
         self.walked(bits)
     }
 
-    /// Tells that no code begins another, and none is empty. It does nothing.
+    /// States, for proofs, that no code is a prefix of another, and none is empty. It does nothing.
     pub fn apart(&self)
         ensures one { AreApart self.now }
         ensures some { (code : Code) → Contains self.now code → 1 ≤ length code.0 }
@@ -164,7 +164,7 @@ impl Decoder {
         let _ = &self.look;
     }
 
-    /// What code stands first in these bits.
+    /// Which code these bits begin with.
     #[inline(always)]
     pub fn spot(&self, bits: &BitStore) -> Spotted
         ensures { Spots self.now bits.now result }
@@ -183,7 +183,7 @@ impl Decoder {
         }
     }
 
-    // Whether a code is longer and begins with these few bits. Where it says no, a walk decides.
+    // Whether a longer code begins with these few bits. If the answer is no, a walk decides.
     fn begins(&self, number: u32, length: u8) -> bool
         requires some { 1 ≤ length }
         requires few { length < 8 }
@@ -194,7 +194,7 @@ impl Decoder {
         behind <= number && number < self.table.limits[at]
     }
 
-    // Where no code of all these bits or fewer stands first.
+    // The answer of `spot` where the bits don't begin with a complete code.
     fn front(&self, bits: &BitStore, have: u8, number: u32) -> Spotted
         requires few { (have ≡ length bits.now) × (have < 8) }
         requires number { bits_of have number ≡ bits.now }
@@ -209,7 +209,7 @@ impl Decoder {
         }
     }
 
-    // The same of fewer than eight bits.
+    // The answer of `spot` for fewer than eight bits.
     #[inline(always)]
     fn few(&self, bits: &BitStore) -> Spotted
         requires { length bits.now < 8 }

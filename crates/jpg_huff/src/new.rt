@@ -1,4 +1,4 @@
-// A table from its counts and symbols: the arrays that a table keeps are built here.
+//! A table from its counts and symbols: the arrays of a table are built here.
 ghost use Rattle.std.specs.Prelude.{◌≡◌, ◌<◌, ◌≤◌, ◌+◌, ◌^◌, true, false, IfSome, IfNone, [], ◌∷◌, length, sum, take, replicate};
 ghost use Rattle.jpg_spec.specs.Bits.{bits_of};
 ghost use Rattle.jpg_spec.specs.Codes.{are_codes, codes, codes_at};
@@ -12,16 +12,16 @@ use crate::Table;
 pub enum TableFault {
     /// The counts add up to more than 256.
     TooManyCodes,
-    /// There are fewer values than the counts ask for.
+    /// There are fewer values than codes.
     ShortValues,
     /// A code doesn't fit its length, or is all ones.
     OverfullCodes,
 }
 
 impl Table {
-    /// The table of so many codes of each length from 1 to 16, for the first of the values in their
-    /// order (T.81, B.2.4.2 and Annex C). Later values aren't looked at. A symbol may stand twice, and
-    /// a table may have no codes. Of several faults the first in the order of the variants is answered.
+    /// The table with these counts of codes by length, from 1 to 16, for the first of the values in their order (T.81,
+    /// B.2.4.2 and Annex C). Later values are ignored. A symbol may occur twice, and a table may have no codes. Of
+    /// several faults the first in the order of the variants is answered.
     pub fn new(bits: &[u8; 16], values: &[u8]) -> Result<Table, TableFault>
         ensures { IsNewTable bits.now values.now result }
     {
@@ -94,7 +94,8 @@ fn count_shorter(bits: &[u8; 16]) -> [u16; 16]
     starts
 }
 
-// By length, where the strings end that begin a code; the longest first.
+// By length, how many strings of that length begin a code of that length or of a longer one, or are before its first
+// number; computed from the longest length on.
 fn find_limits(bits: &[u8; 16], firsts: &[u32; 16]) -> [u32; 16]
     requires { AreFirsts bits.now firsts.now }
     ensures { AreCodeLimits bits.now firsts.now result }
@@ -110,7 +111,7 @@ fn find_limits(bits: &[u8; 16], firsts: &[u32; 16]) -> [u32; 16]
     limits
 }
 
-// The symbols, and 0 behind them.
+// The symbols, followed by zeros.
 fn keep_symbols(values: &[u8]) -> [u8; 256]
     requires { length values.now ≤ 256 }
     ensures { take (length values.now) result ≡ values.now }
@@ -141,14 +142,14 @@ fn encode(
     encoder
 }
 
-// No symbol has a code.
+// The entries of a table without codes.
 fn no_entries() -> [u32; 256]
     ensures { result ≡ replicate 256 0 }
 {
     [0; 256]
 }
 
-// The codes of one length in bits, from this number on.
+// Adds the codes of one length in bits, numbered from `first` on.
 fn add_level(encoder: &mut [u32; 256], symbols: &[u8], size: u32, first: u32)
     requires length { (1 ≤ size) × (size ≤ 16) }
     requires fits { first + length symbols.now < 2 ^ size }
@@ -163,7 +164,7 @@ fn add_level(encoder: &mut [u32; 256], symbols: &[u8], size: u32, first: u32)
     }
 }
 
-// One code of that many bits, where its symbol has none yet.
+// Adds one code of `size` bits, if its symbol has none yet.
 fn add(encoder: &mut [u32; 256], symbol: u8, size: u32, number: u32)
     requires length { (1 ≤ size) × (size ≤ 16) }
     requires fits { number < 2 ^ size }

@@ -1,5 +1,5 @@
-//! A number's category and its extra bits (T.81, F.1.2.1, F.1.2.2), and the number that they tell
-//! (F.2.2.1, Figure F.12).
+//! A number's category and its extra bits (T.81, F.1.2.1, F.1.2.2), and the number that these encode (F.2.2.1, Figure
+//! F.12).
 ghost use Rattle.std.specs.Prelude.{◌≡◌, ◌≤◌, ◌<◌, ◌^◌, nat_abs, pos, ◌-ℤ◌};
 ghost use Rattle.jpg_spec.specs.Bits.{bits_of};
 ghost use Rattle.jpg_spec.specs.Numbers.{digits, category as category_of, extra_bits as extra_of};
@@ -30,7 +30,7 @@ pub fn extra_bits(value: i32) -> u32
     if value >= 0 { magnitude } else { below }
 }
 
-// The number that is so much less.
+// The number minus another one.
 #[inline(always)]
 fn lowered(number: u32, less: u32) -> i16
     requires number { number < 2 ^ 15 }

@@ -1,21 +1,21 @@
-// Bits that go out as stuffed bytes.
+//! Bits written as stuffed bytes.
 ghost use Rattle.std.specs.Prelude.{◌≡◌, ◌≤◌, ◌<◌, ◌+◌, ◌^◌, [], ◌++◌, true};
 ghost use Rattle.jpg_spec.specs.Bits.{bits_of};
-ghost use Rattle.jpg_huff.specs.BitOut.{CanSend, Puts, PutsBehind, PutsInto, Pads, Sends, nothing_waits, waiting, holding};
+ghost use Rattle.jpg_huff.specs.BitOut.{CanSend, Puts, PutsAfter, PutsInto, Pads, Sends, nothing_waits, waiting, holding};
 
 use crate::Code;
 use crate::buffer::Buffer;
 use jpg_base::{Desk, WriteFault};
 use std::marker::Model;
 
-/// Fewer than 32 bits that wait, in the hands of who puts more of them.
+/// Fewer than 32 bits that wait, kept by the caller of `put_after` and `put_code_after`.
 #[derive(Drop)]
-pub struct Held {
+pub struct PendingBits {
     word: u64,
     count: u8,
 }
 
-impl Model for Held {
+impl Model for PendingBits {
     ghost use Rattle.std.specs.Prelude.{List, Bool, ◌<◌, ◌^◌};
     ghost use Rattle.jpg_spec.specs.Bits.{bits_of};
 
@@ -26,27 +26,27 @@ impl Model for Held {
     ghost invariant = { λ h. (h.count < 32) × (h.word < 2 ^ h.count) };
 }
 
-impl Held {
+impl PendingBits {
     // No bits.
     #[inline(always)]
-    fn none() -> Held
+    fn none() -> PendingBits
         ensures { result ≡ [] }
     {
-        Held { word: 0, count: 0 }
+        PendingBits { word: 0, count: 0 }
     }
 
-    // The same bits again.
+    // A copy of the bits.
     #[inline(always)]
-    fn copy(&self) -> Held
+    fn copy(&self) -> PendingBits
         ensures { result ≡ self.now }
     {
-        Held {
+        PendingBits {
             word: self.word,
             count: self.count,
         }
     }
 
-    // Adds a number below `2^count` as `count` bits, and gives those that wait then.
+    // Adds a number below `2^count` as `count` bits, and answers the bits that wait then.
     #[inline(always)]
     fn put<D: Desk>(
         self,
@@ -54,7 +54,7 @@ impl Held {
         count: u8,
         buffer: &mut Buffer,
         desk: &mut D,
-    ) -> Result<Held, WriteFault>
+    ) -> Result<PendingBits, WriteFault>
         requires created { (D.state desk.old).output_created ≡ true }
         requires count { count ≤ 32 }
         requires bits { bits < 2 ^ count }
@@ -63,14 +63,14 @@ impl Held {
         let total = self.count + count;
         let all = (self.word << count) + u64::from(bits);
         if total < 32 {
-            Ok(Held {
+            Ok(PendingBits {
                 word: all,
                 count: total,
             })
         } else {
             let left = total - 32;
             match buffer.push_word(all >> left, desk) {
-                Ok(()) => Ok(Held {
+                Ok(()) => Ok(PendingBits {
                     word: all % (1 << left),
                     count: left,
                 }),
@@ -90,11 +90,11 @@ impl Held {
     }
 }
 
-/// Bits and bytes that wait to be written: at most 4,096 bytes, and fewer than 32 bits behind them.
+/// Bits and bytes that wait to be written: at most 4,096 bytes, followed by fewer than 32 bits.
 #[derive(Drop)]
 pub struct BitOut {
     buffer: Buffer,
-    held: Held,
+    held: PendingBits,
 }
 
 impl Model for BitOut {
@@ -105,7 +105,7 @@ impl Model for BitOut {
     ghost view = { λ b. record { bytes = b.buffer; bits = b.held } };
 }
 
-// A code and the bits behind it as one number.
+// A code and the bits after it as one number.
 #[inline(always)]
 pub(crate) fn joined(code: Code, extra: u32, size: u8) -> u32
     requires code { (code.length ≤ 16) × (code.bits < 2 ^ code.length) }
@@ -117,59 +117,59 @@ pub(crate) fn joined(code: Code, extra: u32, size: u8) -> u32
 }
 
 impl BitOut {
-    /// Nothing waits.
+    /// A buffer in which nothing waits.
     pub fn new() -> BitOut
         ensures { result ≡ nothing_waits }
     {
         BitOut {
             buffer: Buffer::new(),
-            held: Held::none(),
+            held: PendingBits::none(),
         }
     }
 
-    /// Hands out the bits that wait, so that none wait here.
+    /// Hands the bits that wait to the caller, so that none wait here.
     #[inline(always)]
-    pub fn take(&mut self) -> Held
+    pub fn take(&mut self) -> PendingBits
         ensures held { result ≡ self.old.bits }
         ensures left { self.new ≡ holding self.old [] }
     {
         let held = self.held.copy();
-        self.held = Held::none();
+        self.held = PendingBits::none();
         held
     }
 
-    /// Takes bits back, where none wait.
+    /// Takes bits back from the caller, where none wait.
     #[inline(always)]
-    pub fn give(&mut self, held: Held)
+    pub fn give(&mut self, held: PendingBits)
         requires { self.old.bits ≡ [] }
         ensures { self.new ≡ holding self.old held }
     {
         self.held = held;
     }
 
-    /// Adds a number below `2^count` as `count` bits, 0 to 32, the most significant first, behind bits that were handed
-    /// out, and hands out those that wait then. No bits wait here, neither before nor afterwards. WriteFault is as in `put`.
+    /// Adds a number below `2^count` as `count` bits, 0 to 32, the most significant first, after the bits in `held`,
+    /// and answers those that wait then. No bits wait here, neither before nor afterwards. WriteFault is as in `put`.
     #[inline(always)]
-    pub fn put_behind<D: Desk>(
+    pub fn put_after<D: Desk>(
         &mut self,
-        held: Held,
+        held: PendingBits,
         bits: u32,
         count: u8,
         desk: &mut D,
-    ) -> Result<Held, WriteFault>
+    ) -> Result<PendingBits, WriteFault>
         requires created { (D.state desk.old).output_created ≡ true }
         requires none { self.old.bits ≡ [] }
         requires count { count ≤ 32 }
         requires bits { bits < 2 ^ count }
-        ensures puts { PutsBehind (D.state desk.old) self.old held (bits_of count bits) result self.new (D.state desk.new) }
+        ensures puts { PutsAfter (D.state desk.old) self.old held (bits_of count bits) result self.new (D.state desk.new) }
         ensures none { self.new.bits ≡ [] }
     {
         held.put(bits, count, &mut self.buffer, desk)
     }
 
-    /// Adds a number below `2^count` as `count` bits, 0 to 32, the most significant first.
-    /// After each byte FF that goes out stands 00 (T.81, B.1.1.5). After WriteFault a first
-    /// part of the bytes that were due is written, and nothing waits.
+    /// Adds a number below `2^count` as `count` bits, 0 to 32, the most significant first. Each byte FF that is written
+    /// is followed by 00 (T.81, B.1.1.5). After WriteFault a first part of the pending bytes is written, and nothing
+    /// waits.
     #[inline(always)]
     pub fn put<D: Desk>(&mut self, bits: u32, count: u8, desk: &mut D) -> Result<(), WriteFault>
         requires created { (D.state desk.old).output_created ≡ true }
@@ -187,30 +187,29 @@ impl BitOut {
         }
     }
 
-    /// Adds a code, or no bits where its length is 0, and behind it a number below `2^size` as `size` bits, 0 to 16, the
-    /// most significant first, behind bits that were handed out, and hands out those that wait then. All else is as in
-    /// `put_behind`.
+    /// Adds a code, or no bits if its length is 0, and then a number below `2^size` as `size` bits, 0 to 16, the most
+    /// significant first, after the bits in `held`, and answers those that wait then. All else is as in `put_after`.
     #[inline(always)]
-    pub fn put_code_behind<D: Desk>(
+    pub fn put_code_after<D: Desk>(
         &mut self,
-        held: Held,
+        held: PendingBits,
         code: Code,
         extra: u32,
         size: u8,
         desk: &mut D,
-    ) -> Result<Held, WriteFault>
+    ) -> Result<PendingBits, WriteFault>
         requires created { (D.state desk.old).output_created ≡ true }
         requires none { self.old.bits ≡ [] }
         requires code { (code.length ≤ 16) × (code.bits < 2 ^ code.length) }
         requires extra { (size ≤ 16) × (extra < 2 ^ size) }
-        ensures puts { PutsBehind (D.state desk.old) self.old held (bits_of code.length code.bits ++ bits_of size extra) result self.new (D.state desk.new) }
+        ensures puts { PutsAfter (D.state desk.old) self.old held (bits_of code.length code.bits ++ bits_of size extra) result self.new (D.state desk.new) }
         ensures none { self.new.bits ≡ [] }
     {
-        self.put_behind(held, joined(code, extra, size), code.length + size, desk)
+        self.put_after(held, joined(code, extra, size), code.length + size, desk)
     }
 
-    /// Adds a code, or no bits where its length is 0, and behind it a number below `2^size` as `size` bits, 0 to 16, the
-    /// most significant first. WriteFault is as in `put`.
+    /// Adds a code, or no bits if its length is 0, and then a number below `2^size` as `size` bits, 0 to 16, the most
+    /// significant first. WriteFault is as in `put`.
     #[inline(always)]
     pub fn put_code<D: Desk>(
         &mut self,

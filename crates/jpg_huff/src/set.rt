@@ -1,4 +1,4 @@
-// The tables in force: four slots for DC and four for AC tables (T.81, B.2.4.2).
+//! The tables in force: four slots for DC and four for AC tables (T.81, B.2.4.2).
 ghost use Rattle.std.specs.Prelude.{◌≡◌, ◌<◌, Some, slice_set};
 ghost use Rattle.std.specs.Option.{option_map};
 ghost use Rattle.jpg_huff.specs.Sets.{dc_tables, ac_tables, in_slot, no_tables};
@@ -24,7 +24,7 @@ impl TableSet {
         }
     }
 
-    /// The DC table in a slot, None where there is none, and for slots from 4 on.
+    /// The DC table in a slot, None if there is none, and for slots from 4 on.
     pub fn dc(&self, slot: u8) -> Option<&Table>
         ensures { option_map (λ t. t.now) result ≡ in_slot (dc_tables self.now) slot }
     {
@@ -35,7 +35,7 @@ impl TableSet {
         }
     }
 
-    /// The AC table in a slot, None where there is none, and for slots from 4 on.
+    /// The AC table in a slot, None if there is none, and for slots from 4 on.
     pub fn ac(&self, slot: u8) -> Option<&Table>
         ensures { option_map (λ t. t.now) result ≡ in_slot (ac_tables self.now) slot }
     {

@@ -1,5 +1,5 @@
-// A Huffman table. Beside its counts and symbols it has what a walk asks for each length, and what
-// is written for each symbol.
+//! A Huffman table. In addition to its counts and symbols it has what a walk needs for each length, and what is written
+//! for each symbol.
 ghost use Rattle.std.specs.Prelude.{◌≡◌, ◌<◌, ◌≤◌, ◌-◌, ◌^◌, length, sum, take};
 ghost use Rattle.jpg_spec.specs.Codes.{codes};
 ghost use Rattle.jpg_huff.specs.Index.{IsIndexed, IsEncoder};
@@ -9,21 +9,21 @@ ghost use Rattle.jpg_huff.specs.Index.{IsIndexed, IsEncoder};
 #[derive(Drop)]
 pub struct Table {
     pub(crate) counts: [u8; 16],
-    // those behind the last code are 0
+    // those after the last code are 0
     pub(crate) symbols: [u8; 256],
     pub(crate) total: u16,
     // by length, from 1 on: the first number, the symbols of shorter codes, and the limit
     pub(crate) firsts: [u32; 16],
     pub(crate) starts: [u16; 16],
     pub(crate) limits: [u32; 16],
-    // by symbol: 65536 times the length of its first code, and that code's number
+    // by symbol: 65536 times the length of its first code, plus that code's number
     pub(crate) encoder: [u32; 256],
     pub ghost indexed: { IsIndexed counts (length symbols) firsts starts limits },
     pub ghost summed: { total ≡ sum counts },
     pub ghost encoded: { IsEncoder (codes counts (take total symbols)) encoder },
 }
 
-/// A code: its length, 1 to 16, and its bits as a number. A length of 0 stands for no code.
+/// A code: its length, 1 to 16, and its bits as a number. A length of 0 means no code.
 #[derive(Clone, Copy, Debug, PartialEq, Eq)]
 pub struct Code {
     pub length: u8,
@@ -35,7 +35,7 @@ impl Table {
     ghost use Rattle.std.specs.Option.{option_map};
     ghost use Rattle.jpg_spec.specs.Bits.{bits_of};
     ghost use Rattle.jpg_spec.specs.Codes.{first_code};
-    ghost use Rattle.jpg_spec.specs.ScanText.{code_of};
+    ghost use Rattle.jpg_spec.specs.Codes.{code_of};
     ghost use Rattle.jpg_huff.specs.Tables.{table_of, symbol_codes};
 
     /// How many codes of a length, 1 to 16, there are.
@@ -53,7 +53,7 @@ impl Table {
         &self.symbols[..self.total as usize]
     }
 
-    /// The first code of a symbol, None where the table has none.
+    /// The first code of a symbol, None if the table has none.
     #[inline(always)]
     pub fn code(&self, symbol: u8) -> Option<Code>
         ensures first { option_map (λ c. bits_of c.length c.bits) result ≡ first_code (symbol_codes self.now) symbol }
@@ -70,7 +70,7 @@ impl Table {
         }
     }
 
-    /// What is written for a symbol: its first code, or no bits where the table has none.
+    /// What is written for a symbol: its first code, or no bits if the table has none.
     #[inline(always)]
     pub fn written(&self, symbol: u8) -> Code
         ensures first { bits_of result.length result.bits ≡ code_of (symbol_codes self.now) symbol }
@@ -84,7 +84,7 @@ impl Table {
         }
     }
 
-    // The same table.
+    // A copy of the table.
     pub(crate) fn copy(&self) -> Table
         ensures { result ≡ self.now }
     {

@@ -1,12 +1,12 @@
-// From bits to symbols.
+//! The walk from bits to symbols, bit by bit (T.81, F.2.2.3).
 ghost use Rattle.std.specs.Prelude.{◌≡◌, [], ◌∷◌, ◌++◌};
-ghost use Rattle.jpg_huff.specs.Walk.{Answers};
+ghost use Rattle.jpg_huff.specs.Walk.{WalkAnswers};
 ghost use Rattle.jpg_huff.specs.Tables.{symbol_codes};
 
 use crate::Table;
 use std::marker::Model;
 
-/// What the bits so far are: a proper front of a code, a code with its symbol, or the front of none.
+/// What the bits so far are: a proper prefix of a code, a code with its symbol, or a prefix of none.
 #[derive(Clone, Copy, Debug, PartialEq, Eq)]
 pub enum WalkStep {
     More,
@@ -43,9 +43,9 @@ impl Walk {
         }
     }
 
-    /// Takes one more bit. After a symbol, and where no code begins so, no bits are kept.
+    /// Takes one more bit. After a symbol, and where no code begins with the bits, none are kept.
     pub fn bit(&mut self, table: &Table, bit: bool) -> WalkStep
-        ensures { Answers (symbol_codes table.now) (self.old ++ bit ∷ []) result self.new }
+        ensures { WalkAnswers (symbol_codes table.now) (self.old ++ bit ∷ []) result self.new }
     {
         let at = self.length as usize;
         let number = 2 * self.number + u32::from(bit);

@@ -18,7 +18,7 @@ use Rattle.jpg_markers.specs.Huffmans.{definition_of, tables_judged}
 abbrev AllTold : Type 0
 AllTold = Told (List HuffmanDefinition)
 
--- the bound of the recursion is no bound where it is at least the length
+-- the bound of the recursion doesn't matter if it is at least the length
 enough : (m n : ℕ) (bytes : List ℕ) → length bytes ≤ m → length bytes ≤ n → huffman_tables_of m bytes ≡ huffman_tables_of n bytes
 unfolding huffman_tables_of
 enough zero zero [] low high = refl
@@ -34,7 +34,7 @@ enough (suc m) (suc n) (tc ∷ bytes) low high =
 abbrev with_first : HuffmanDefinition → AllTold → AllTold
 with_first d told = told >>= λ others. Ok (d ∷ others)
 
--- the tables that begin with one that is told
+-- the tables that begin with a valid one
 after : (tc : ℕ) (bytes : List ℕ) (d : HuffmanDefinition) → huffman_table_of tc bytes ≡ Ok d
     → huffman_tables (tc ∷ bytes) ≡ with_first d (huffman_tables (drop (definition_size bytes) bytes))
 unfolding huffman_tables_of
@@ -51,7 +51,7 @@ none_left : huffman_tables [] ≡ Ok []
 unfolding huffman_tables_of
 none_left = refl
 
--- the same where what is left is seen by its first byte and the n others
+-- the same if the rest is split into its first byte and the n others
 after_at : (rest : List ℕ) (n : ℕ) (d : HuffmanDefinition) → 1 ≤ length rest → n ≡ length rest - 1 → Ok d ≡ huffman_table_of (get_or rest 0 0) (take n (drop 1 rest))
     → huffman_tables rest ≡ with_first d (huffman_tables (drop (definition_size (take n (drop 1 rest))) (take n (drop 1 rest))))
 after_at [] n d low n-is told = absurd (omega (arith, low))
@@ -70,7 +70,7 @@ none_left_at : (rest : List ℕ) → length rest < 1 → huffman_tables rest ≡
 none_left_at [] high = none_left
 none_left_at (tc ∷ bytes) high = absurd (omega (arith, high))
 
--- JUDGED
+-- CHECKED
 
 abbrev judge : AllTold → Told (Unit {0})
 judge told = told >>= λ ds. Ok tt

@@ -6,7 +6,7 @@ use Rattle.jpg_huff.specs.BitOut.{Sends}
 use Rattle.jpg_huff.specs.Waiting.{Waiting}
 use Rattle.jpg_huff.proofs.InParts.{DoneButFor, of_bytes, part_start, part_then, part_last, part_fault}
 use Rattle.jpg_huff.proofs.Together.{sends_nothing}
-use Rattle.jpg_spec.specs.FileText.{distinct_after, front_text}
+use Rattle.jpg_spec_write.specs.FileText.{distinct_after, front_text}
 use Rattle.jpg_spec.specs.Segments.{QuantTable}
 use Rattle.jpg_markers.specs.OutHead.{head_meaning}
 use Rattle.jpg_markers.specs.declared.writing.head.OutHead.{OutHead}

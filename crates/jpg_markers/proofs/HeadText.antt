@@ -8,10 +8,10 @@ use Rattle.std.proofs.lemmas.List.Elements.{filter-append}
 use Rattle.std.proofs.lemmas.List.Folds.{flat_map-map}
 use Rattle.std.proofs.lemmas.Option.{get_or_from_slice_get, slice_get_within}
 use Rattle.std.proofs.lemmas.Slice.Zip.{get_or-zip, length-zip}
-use Rattle.jpg_spec.specs.FileText.{kept_text, segment_text, quant_text, slot_in, distinct_after, distinct_quants, component_bytes, front_text, sof_code}
+use Rattle.jpg_spec_write.specs.FileText.{kept_text, segment_text, quant_text, slot_in, distinct_after, distinct_quants, component_bytes, front_text, sof_code}
 use Rattle.jpg_spec.specs.Geometry.{Frame, component_at, no_component}
 use Rattle.jpg_spec.specs.Meaning.{Meaning, PictureComponent}
-use Rattle.jpg_spec.specs.Moves.{headed_kept, copied, jfif_contents}
+use Rattle.jpg_spec_write.specs.Headed.{headed_kept, copied, jfif_contents}
 use Rattle.jpg_spec.specs.Segments.{QuantTable}
 use Rattle.jpg_spec.specs.declared.frame.Component.{Component}
 use Rattle.jpg_spec.specs.declared.frame.Copying.{Copying}
@@ -66,13 +66,13 @@ headed_is Cmyk j copying kept = ap (λ l. own_header Cmyk j ++ l) (sym (passed_i
 headed_is Ycck j copying kept = ap (λ l. own_header Ycck j ++ l) (sym (passed_is copying Ycck kept))
 headed_is Unknown j copying kept = sym (passed_is copying Unknown kept) ∙ filter_all (copied copying kept)
 
--- the own header, and then those that are passed on
+-- the default header, and then those that are passed on
 pub headed_text : (colour : Colour) (j : Jfif) (copying : Copying) (kept : List (ℕ × List ℕ))
     → kept_text (own_header colour j) ++ kept_text (filter (is_passed copying colour) kept) ≡ kept_text (headed_kept colour j (copied copying kept))
 headed_text colour j copying kept =
     sym (flat_map-append (λ (s : ℕ × List ℕ). segment_text s.0 s.1) (own_header colour j) (filter (is_passed copying colour) kept)) ∙ ap kept_text (headed_is colour j copying kept)
 
--- one marker that is left, and the others
+-- one marker that is left, and the remaining ones
 pub passed_step : (p : ℕ × List ℕ → Bool) (kept : List (ℕ × List ℕ)) (i : ℕ) (s : ℕ × List ℕ) → slice_get kept i ≡ Some s
     → kept_text (filter p (drop i kept)) ≡ kept_text (filter p (s ∷ [])) ++ kept_text (filter p (drop (i + 1) kept))
 passed_step p kept i s e =
@@ -86,7 +86,7 @@ not_passed p s e = ap (λ (b : Bool). kept_text (cond b (s ∷ []) [])) (sym e)
 
 -- TABLES
 
--- one table that is left, and the others
+-- one table that is left, and the remaining ones
 pub tables_step : (f : QuantTable → List ℕ) (tables : List QuantTable) (i : ℕ) (t : QuantTable) → i < length tables → t ≡ get_or tables i t
     → flat_map f (drop i tables) ≡ f t ++ flat_map f (drop (i + 1) tables)
 tables_step f tables i t h at = ap (flat_map f) (left_at tables i t h at)
@@ -117,7 +117,7 @@ components_end distinct f tables i text h e =
     let parts : List (Component × QuantTable) = zip f.components tables in
     e ∙ ap (λ ps. front_contents f ++ component_texts distinct ps) (take_all i parts (omega (arith, h, length-zip f.components tables)))
 
--- THE WHOLE HEAD
+-- THE COMPLETE HEAD
 
 tables_of : (components : List Component) (tables : List QuantTable) → length tables ≡ length components → map (λ c. c.quants) (with_tables components tables) ≡ tables
 tables_of [] [] l = refl

@@ -1,4 +1,4 @@
--- Headers as their bytes tell them.
+-- Frame and scan headers, read from their bytes.
 use Rattle.std.proofs.Common.{◌≡◌, ℕ, ◌+◌, ◌-◌, ◌*◌, ◌≤◌, true, List, [], ◌∷◌, length, get_or, take, drop, refl, sym, ap, ◌∙◌, arith}
 use Rattle.std.specs.Prelude.{◌==◌, ◌&&◌}
 use lib.Pointwise.{pointwise}
@@ -12,7 +12,7 @@ use Rattle.jpg_spec.specs.FrameContents.{frame_told, frame_header}
 use Rattle.jpg_spec.specs.declared.frame.Process.{Process}
 use Rattle.jpg_spec.specs.declared.frame.Limits.{Limits}
 
--- a header of at least six bytes whose length is right, where n bytes stand behind these six
+-- a header of at least six bytes whose length is right, where n bytes follow these six
 pub frame_is : (limits : Limits) (process : Process) (contents : List ℕ) (n count height width : ℕ) → 6 ≤ length contents → n ≡ length contents - 6 → count ≡ get_or contents 5 0
     → length (take n (drop 6 contents)) ≡ 3 * count → height ≡ two_bytes (get_or contents 1 0) (get_or contents 2 0) → width ≡ two_bytes (get_or contents 3 0) (get_or contents 4 0)
     → checked_frame limits (frame_told process (get_or contents 0 0) height width (take n (drop 6 contents))) ≡ frame_header limits process contents
@@ -36,7 +36,7 @@ number_at bytes i =
     let second : get_or (drop i bytes) 1 0 ≡ get_or bytes (i + 1) 0 = grind (arith, get_or-drop) in
     ap (λ (xs : List ℕ). big_number 2 xs) whole ∙ omega (arith, first, second)
 
--- how the standard library says it
+-- the test for a prefix, as the standard library computes it
 pub starts_is : (front rest : List ℕ) → pointwise (λ a b. a == b) front (take (length front) rest) ≡ begins_with front rest
 starts_is [] rest = refl
 starts_is (b ∷ front) [] = refl

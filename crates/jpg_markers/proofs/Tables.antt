@@ -9,7 +9,7 @@ use Rattle.jpg_spec.specs.Segments.{QuantTable, two_bytes}
 use Rattle.jpg_spec.specs.QuantContents.{◌>>=◌, Slots, pairs_told, table_size, quant_table_of, quant_told, quant_tables_of, put_tables, quants_told}
 use Rattle.jpg_spec.specs.declared.fault.Fault.{Fault}
 
--- the bound of the recursion is no bound where it is at least the length
+-- the bound of the recursion doesn't matter if it is at least the length
 enough : (m n : ℕ) (bytes : List ℕ) → length bytes ≤ m → length bytes ≤ n → quant_tables_of m bytes ≡ quant_tables_of n bytes
 unfolding quant_tables_of
 enough zero zero [] low high = refl
@@ -39,7 +39,7 @@ after slots pt bytes x told =
 abbrev put_first : Slots → Told (ℕ × QuantTable) → Told Slots
 put_first slots told = told >>= λ table. Ok (slice_set slots table.0 (Some table.1))
 
--- after a table that is told
+-- after a valid table
 goes_on : (slots next : Slots) (pt : ℕ) (bytes : List ℕ) (told : Told (ℕ × QuantTable)) → quant_table_of pt bytes ≡ told → put_first slots told ≡ Ok next
     → quants_told slots (pt ∷ bytes) ≡ quants_told next (drop (table_size pt) bytes)
 goes_on slots next pt bytes (Ok x) is put =
@@ -59,7 +59,7 @@ none_left : (slots : Slots) → quants_told slots [] ≡ Ok slots
 unfolding quant_tables_of
 none_left slots = refl
 
--- the same where what is left is seen by its first byte and the n others
+-- the same if the rest is split into its first byte and the n others
 pub goes_on_at : (slots next : Slots) (rest : List ℕ) (n : ℕ) → 1 ≤ length rest → n ≡ length rest - 1 → quant_told slots (get_or rest 0 0) (take n (drop 1 rest)) ≡ Ok next
     → quants_told slots rest ≡ quants_told next (drop (table_size (get_or rest 0 0)) (take n (drop 1 rest)))
 goes_on_at slots next [] n low n-is told = absurd (omega (arith, low))

@@ -1,10 +1,10 @@
--- What each further byte makes of the bytes that a reader of segments stands for.
+-- The effect of each further byte on the bytes that a reader of segments represents.
 use Rattle.std.proofs.Common.{◌≡◌, ℕ, zero, suc, ◌+◌, ◌-◌, ◌/◌, ◌%◌, ◌<◌, ◌≤◌, Bool, true, false, List, [], ◌∷◌, ◌++◌, length, take, replicate, Option, Some, None, Ok, refl, sym, ap, ◌∙◌, subst, arith, inl, inr}
 use Rattle.std.proofs.lemmas.List.{append_assoc, append-nil, length-append, length-take-le}
 use Rattle.std.specs.Prelude.{min}
 use Rattle.std.specs.Int.{to_be_bytes, w16}
 use Rattle.jpg_spec.specs.Segments.{two_bytes}
-use Rattle.jpg_spec.specs.Markers.{Segment, Rule, soi, SpellsMarker, SpellsSegment, SpellsSegments, code_fault, code_fault_if, is_frame_code, kept_rule, Pass, Between, BeginsSegment, SegmentsShow, Reaches, at_eoi}
+use Rattle.jpg_spec.specs.Markers.{Segment, Rule, soi, SpellsMarker, SpellsSegment, SpellsSegments, code_fault, code_fault_if, is_frame_code, kept_rule, Pass, Between, BeginsSegment, SegmentsReveal, Reaches, at_eoi}
 use Rattle.jpg_spec.specs.declared.fault.Fault.{Fault}
 use Rattle.jpg_spec.specs.declared.fault.Fault.TheVariants.{NotJpeg, NoMarker, BadLength, MarkersTooLarge}
 use Rattle.jpg_markers.specs.declared.seen.Seen.{Seen}
@@ -12,15 +12,15 @@ use Rattle.jpg_markers.specs.declared.segments.Phase.{Phase}
 use Rattle.jpg_markers.specs.declared.segments.Phase.TheVariants as phase
 use Rattle.jpg_markers.specs.declared.segments.SegStep.TheVariants as step
 use Rattle.jpg_markers.specs.Seen.{HasSeen}
-use Rattle.jpg_markers.specs.Reading.{Reading, AtPhase, StandsFor, HasWholeSegment, ShowsBehind, EndsBehind, Comes, due_before_last, with_contents}
+use Rattle.jpg_markers.specs.Reading.{Reading, AtPhase, StandsForSegments, HasWholeSegment, RevealsAfter, EndsAtEoi, Comes, due_before_last, with_contents}
 
 -- BETWEEN segments
 
-pub at_is : (r : Reading) (p : Phase) (bytes : List ℕ) (before : List Segment) → r.phase ≡ p → StandsFor bytes before r → AtPhase r p bytes before
+pub at_is : (r : Reading) (p : Phase) (bytes : List ℕ) (before : List Segment) → r.phase ≡ p → StandsForSegments bytes before r → AtPhase r p bytes before
 at_is r p bytes before e s = subst (λ (q : Phase). AtPhase r q bytes before) e s.1
 
--- a fault behind these segments, and what shows it
-shown : (rule : Rule) (before : List Segment) (fault : Fault) (bytes : List ℕ) → ShowsBehind rule before fault bytes → SegmentsShow rule fault bytes × ShowsBehind rule before fault bytes
+-- a fault after these segments, and the bytes that have it
+shown : (rule : Rule) (before : List Segment) (fault : Fault) (bytes : List ℕ) → RevealsAfter rule before fault bytes → SegmentsReveal rule fault bytes × RevealsAfter rule before fault bytes
 shown rule before fault bytes (inl (is, none, x)) = (inl (is, x), inl (is, none, x))
 shown rule before fault bytes (inr (tail, between, x)) = (inr (before, tail, between, x), inr (tail, between, x))
 
@@ -42,47 +42,47 @@ same_more b (suc n) = ap (λ (xs : List ℕ). b ∷ xs) (same_more b n)
 
 -- AT THE START
 
-pub start_more : (r : Reading) (bytes : List ℕ) (before : List Segment) → r.phase ≡ phase.Empty → StandsFor bytes before r → Comes (bytes ++ 255 ∷ []) before (Ok step.More) (record r { phase = phase.HalfStart })
+pub start_more : (r : Reading) (bytes : List ℕ) (before : List Segment) → r.phase ≡ phase.Empty → StandsForSegments bytes before r → Comes (bytes ++ 255 ∷ []) before (Ok step.More) (record r { phase = phase.HalfStart })
 start_more r bytes before e s =
     let a = at_is r phase.Empty bytes before e s in
     let cut : bytes ++ 255 ∷ [] ≡ 255 ∷ [] = ap (λ (b : List ℕ). b ++ 255 ∷ []) a.0 in
     (inl (inr cut), (s.0, (cut, a.1, a.2)))
 
-pub start_fault : (r : Reading) (bytes : List ℕ) (before : List Segment) (byte : ℕ) → r.phase ≡ phase.Empty → StandsFor bytes before r → (byte ≡ 255 → ⊥) → SegmentsShow (kept_rule r.limits) NotJpeg (bytes ++ byte ∷ []) × ShowsBehind (kept_rule r.limits) before NotJpeg (bytes ++ byte ∷ [])
+pub start_fault : (r : Reading) (bytes : List ℕ) (before : List Segment) (byte : ℕ) → r.phase ≡ phase.Empty → StandsForSegments bytes before r → (byte ≡ 255 → ⊥) → SegmentsReveal (kept_rule r.limits) NotJpeg (bytes ++ byte ∷ []) × RevealsAfter (kept_rule r.limits) before NotJpeg (bytes ++ byte ∷ [])
 start_fault r bytes before byte e s ne =
     let a = at_is r phase.Empty bytes before e s in
     shown (kept_rule r.limits) before NotJpeg (bytes ++ byte ∷ []) (inl (refl, a.1, inl (byte, ap (λ (b : List ℕ). b ++ byte ∷ []) a.0, ne)))
 
-pub second_start : (r : Reading) (bytes : List ℕ) (before : List Segment) → r.phase ≡ phase.HalfStart → StandsFor bytes before r → Comes (bytes ++ 0xd8 ∷ []) before (Ok step.Start) (record r { phase = phase.Between })
+pub second_start : (r : Reading) (bytes : List ℕ) (before : List Segment) → r.phase ≡ phase.HalfStart → StandsForSegments bytes before r → Comes (bytes ++ 0xd8 ∷ []) before (Ok step.Start) (record r { phase = phase.Between })
 second_start r bytes before e s =
     let a = at_is r phase.HalfStart bytes before e s in
     let cut : bytes ++ 0xd8 ∷ [] ≡ soi = ap (λ (b : List ℕ). b ++ 0xd8 ∷ []) a.0 in
     let P : List Segment → Type 0 = λ b. AtPhase (record r { phase = phase.Between }) phase.Between (bytes ++ 0xd8 ∷ []) b in
     (cut, (s.0, subst P (sym a.1) ([], record { front = soi; cut = cut; spelled = refl; passed = tt }, a.2, refl)))
 
-pub second_fault : (r : Reading) (bytes : List ℕ) (before : List Segment) (byte : ℕ) → r.phase ≡ phase.HalfStart → StandsFor bytes before r → (byte ≡ 0xd8 → ⊥) → SegmentsShow (kept_rule r.limits) NotJpeg (bytes ++ byte ∷ []) × ShowsBehind (kept_rule r.limits) before NotJpeg (bytes ++ byte ∷ [])
+pub second_fault : (r : Reading) (bytes : List ℕ) (before : List Segment) (byte : ℕ) → r.phase ≡ phase.HalfStart → StandsForSegments bytes before r → (byte ≡ 0xd8 → ⊥) → SegmentsReveal (kept_rule r.limits) NotJpeg (bytes ++ byte ∷ []) × RevealsAfter (kept_rule r.limits) before NotJpeg (bytes ++ byte ∷ [])
 second_fault r bytes before byte e s ne =
     let a = at_is r phase.HalfStart bytes before e s in
     shown (kept_rule r.limits) before NotJpeg (bytes ++ byte ∷ []) (inl (refl, a.1, inr (byte, ap (λ (b : List ℕ). b ++ byte ∷ []) a.0, ne)))
 
--- BEHIND A SEGMENT
+-- AFTER A SEGMENT
 
-pub item_more : (r : Reading) (bytes : List ℕ) (before : List Segment) → r.phase ≡ phase.Between → StandsFor bytes before r → Comes (bytes ++ 255 ∷ []) before (Ok step.More) (record r { phase = phase.Fill })
+pub item_more : (r : Reading) (bytes : List ℕ) (before : List Segment) → r.phase ≡ phase.Between → StandsForSegments bytes before r → Comes (bytes ++ 255 ∷ []) before (Ok step.More) (record r { phase = phase.Fill })
 item_more r bytes before e s =
     let (tail, between, seen, none) = at_is r phase.Between bytes before e s in
     let next = further (kept_rule r.limits) bytes before tail (255 ∷ []) between in
     let is : tail ++ 255 ∷ [] ≡ 255 ∷ [] = ap (λ (t : List ℕ). t ++ 255 ∷ []) none in
     (inr (before, tail ++ 255 ∷ [], next, inl (1, is), not_nil tail 255), (s.0, (tail ++ 255 ∷ [], next, seen, (0, is))))
 
-pub item_fault : (r : Reading) (bytes : List ℕ) (before : List Segment) (byte : ℕ) → r.phase ≡ phase.Between → StandsFor bytes before r → (byte ≡ 255 → ⊥) → SegmentsShow (kept_rule r.limits) NoMarker (bytes ++ byte ∷ []) × ShowsBehind (kept_rule r.limits) before NoMarker (bytes ++ byte ∷ [])
+pub item_fault : (r : Reading) (bytes : List ℕ) (before : List Segment) (byte : ℕ) → r.phase ≡ phase.Between → StandsForSegments bytes before r → (byte ≡ 255 → ⊥) → SegmentsReveal (kept_rule r.limits) NoMarker (bytes ++ byte ∷ []) × RevealsAfter (kept_rule r.limits) before NoMarker (bytes ++ byte ∷ [])
 item_fault r bytes before byte e s ne =
     let (tail, between, seen, none) = at_is r phase.Between bytes before e s in
     let next = further (kept_rule r.limits) bytes before tail (byte ∷ []) between in
     shown (kept_rule r.limits) before NoMarker (bytes ++ byte ∷ []) (inr (tail ++ byte ∷ [], next, inl (refl, inl (byte, ap (λ (t : List ℕ). t ++ byte ∷ []) none, ne))))
 
--- BEHIND FF
+-- AFTER FF
 
-pub fill_again : (r : Reading) (bytes : List ℕ) (before : List Segment) → r.phase ≡ phase.Fill → StandsFor bytes before r → Comes (bytes ++ 255 ∷ []) before (Ok step.More) r
+pub fill_again : (r : Reading) (bytes : List ℕ) (before : List Segment) → r.phase ≡ phase.Fill → StandsForSegments bytes before r → Comes (bytes ++ 255 ∷ []) before (Ok step.More) r
 fill_again r bytes before e s =
     let (tail, between, seen, (fill, is)) = at_is r phase.Fill bytes before e s in
     let next = further (kept_rule r.limits) bytes before tail (255 ∷ []) between in
@@ -90,13 +90,13 @@ fill_again r bytes before e s =
     let P : Phase → Type 0 = λ p. AtPhase r p (bytes ++ 255 ∷ []) before in
     (inr (before, tail ++ 255 ∷ [], next, inl (suc (suc fill), more), not_nil tail 255), (s.0, subst P (sym e) (tail ++ 255 ∷ [], next, seen, (suc fill, more))))
 
-pub fill_stuffed : (r : Reading) (bytes : List ℕ) (before : List Segment) → r.phase ≡ phase.Fill → StandsFor bytes before r → SegmentsShow (kept_rule r.limits) NoMarker (bytes ++ 0 ∷ []) × ShowsBehind (kept_rule r.limits) before NoMarker (bytes ++ 0 ∷ [])
+pub fill_stuffed : (r : Reading) (bytes : List ℕ) (before : List Segment) → r.phase ≡ phase.Fill → StandsForSegments bytes before r → SegmentsReveal (kept_rule r.limits) NoMarker (bytes ++ 0 ∷ []) × RevealsAfter (kept_rule r.limits) before NoMarker (bytes ++ 0 ∷ [])
 fill_stuffed r bytes before e s =
     let (tail, between, seen, (fill, is)) = at_is r phase.Fill bytes before e s in
     let next = further (kept_rule r.limits) bytes before tail (0 ∷ []) between in
     shown (kept_rule r.limits) before NoMarker (bytes ++ 0 ∷ []) (inr (tail ++ 0 ∷ [], next, inl (refl, inr (fill, ap (λ (t : List ℕ). t ++ 0 ∷ []) is))))
 
--- the fault of a code, by what was seen
+-- the fault of a code, by what was read
 pub fault_from : (r : Reading) (code : ℕ) (result due : Option Fault) → result ≡ code_fault_if r.seen.framed code → result ≡ due
     → (before : List Segment) → HasSeen r.limits r.seen before → code_fault before code ≡ due
 fault_from r code result due e f before h = ap (λ (b : Bool). code_fault_if b code) (sym h.framed) ∙ sym e ∙ f
@@ -109,7 +109,7 @@ pub record Marks (r : Reading) (bytes : List ℕ) (before : List Segment) (code 
   pub marker : SpellsMarker code tail
   pub some : tail ≡ [] → ⊥
 
-marks : (r : Reading) (bytes : List ℕ) (before : List Segment) (code : ℕ) → r.phase ≡ phase.Fill → StandsFor bytes before r → (code ≡ 0 → ⊥) → (code ≡ 255 → ⊥) → Marks r bytes before code
+marks : (r : Reading) (bytes : List ℕ) (before : List Segment) (code : ℕ) → r.phase ≡ phase.Fill → StandsForSegments bytes before r → (code ≡ 0 → ⊥) → (code ≡ 255 → ⊥) → Marks r bytes before code
 marks r bytes before code e s low high =
     let (tail, between, seen, (fill, is)) = at_is r phase.Fill bytes before e s in
     record {
@@ -120,21 +120,21 @@ marks r bytes before code e s low high =
       some = not_nil tail code;
     }
 
-pub code_wrong : (r : Reading) (bytes : List ℕ) (before : List Segment) (code : ℕ) (fault : Fault) → r.phase ≡ phase.Fill → StandsFor bytes before r → (code ≡ 0 → ⊥) → (code ≡ 255 → ⊥)
-    → ((before : List Segment) → HasSeen r.limits r.seen before → code_fault before code ≡ Some fault) → SegmentsShow (kept_rule r.limits) fault (bytes ++ code ∷ []) × ShowsBehind (kept_rule r.limits) before fault (bytes ++ code ∷ [])
+pub code_wrong : (r : Reading) (bytes : List ℕ) (before : List Segment) (code : ℕ) (fault : Fault) → r.phase ≡ phase.Fill → StandsForSegments bytes before r → (code ≡ 0 → ⊥) → (code ≡ 255 → ⊥)
+    → ((before : List Segment) → HasSeen r.limits r.seen before → code_fault before code ≡ Some fault) → SegmentsReveal (kept_rule r.limits) fault (bytes ++ code ∷ []) × RevealsAfter (kept_rule r.limits) before fault (bytes ++ code ∷ [])
 code_wrong r bytes before code fault e s low high wrong =
     let m = marks r bytes before code e s low high in
     shown (kept_rule r.limits) before fault (bytes ++ code ∷ []) (inr (m.tail, m.between, inr (inl (code, m.marker, wrong before m.seen))))
 
-pub code_ends : (r : Reading) (bytes : List ℕ) (before : List Segment) (code : ℕ) → r.phase ≡ phase.Fill → StandsFor bytes before r → (code ≡ 0 → ⊥) → (code ≡ 255 → ⊥) → code ≡ 0xd9
-    → ((before : List Segment) → HasSeen r.limits r.seen before → code_fault before code ≡ None) → Reaches (kept_rule r.limits) (bytes ++ code ∷ []) at_eoi × EndsBehind (kept_rule r.limits) before (bytes ++ code ∷ [])
+pub code_ends : (r : Reading) (bytes : List ℕ) (before : List Segment) (code : ℕ) → r.phase ≡ phase.Fill → StandsForSegments bytes before r → (code ≡ 0 → ⊥) → (code ≡ 255 → ⊥) → code ≡ 0xd9
+    → ((before : List Segment) → HasSeen r.limits r.seen before → code_fault before code ≡ None) → Reaches (kept_rule r.limits) (bytes ++ code ∷ []) at_eoi × EndsAtEoi (kept_rule r.limits) before (bytes ++ code ∷ [])
 code_ends r bytes before code e s low high is good =
     let m = marks r bytes before code e s low high in
     let marker : SpellsMarker 0xd9 m.tail = subst (λ (k : ℕ). SpellsMarker k m.tail) is m.marker in
     let fine : code_fault before 0xd9 ≡ None = subst (λ (k : ℕ). code_fault before k ≡ None) is (good before m.seen) in
     ((before, m.tail, m.between, marker, fine), (m.tail, m.between, marker, fine))
 
-pub code_frame : (r : Reading) (bytes : List ℕ) (before : List Segment) (code : ℕ) → r.phase ≡ phase.Fill → StandsFor bytes before r → (code ≡ 0 → ⊥) → (code ≡ 255 → ⊥) → (code ≡ 0xd9 → ⊥)
+pub code_frame : (r : Reading) (bytes : List ℕ) (before : List Segment) (code : ℕ) → r.phase ≡ phase.Fill → StandsForSegments bytes before r → (code ≡ 0 → ⊥) → (code ≡ 255 → ⊥) → (code ≡ 0xd9 → ⊥)
     → ((before : List Segment) → HasSeen r.limits r.seen before → code_fault before code ≡ None) → is_frame_code code ≡ true
     → Comes (bytes ++ code ∷ []) before (Ok step.Frame) (record r { code = code; phase = phase.Coded })
 code_frame r bytes before code e s low high end good is =
@@ -142,7 +142,7 @@ code_frame r bytes before code e s low high end good is =
     let begins : BeginsSegment before code m.tail = (m.marker, good before m.seen, end) in
     ((before, m.tail, m.between, (code, begins, is)), (s.0, (m.tail, m.between, m.seen, begins)))
 
-pub code_more : (r : Reading) (bytes : List ℕ) (before : List Segment) (code : ℕ) → r.phase ≡ phase.Fill → StandsFor bytes before r → (code ≡ 0 → ⊥) → (code ≡ 255 → ⊥) → (code ≡ 0xd9 → ⊥)
+pub code_more : (r : Reading) (bytes : List ℕ) (before : List Segment) (code : ℕ) → r.phase ≡ phase.Fill → StandsForSegments bytes before r → (code ≡ 0 → ⊥) → (code ≡ 255 → ⊥) → (code ≡ 0xd9 → ⊥)
     → ((before : List Segment) → HasSeen r.limits r.seen before → code_fault before code ≡ None) → is_frame_code code ≡ false
     → Comes (bytes ++ code ∷ []) before (Ok step.More) (record r { code = code; phase = phase.Coded })
 code_more r bytes before code e s low high end good is =
@@ -152,7 +152,7 @@ code_more r bytes before code e s low high end good is =
 
 -- THE LENGTH
 
-pub high_more : (r : Reading) (bytes : List ℕ) (before : List Segment) (byte : ℕ) → r.phase ≡ phase.Coded → StandsFor bytes before r → byte < 256
+pub high_more : (r : Reading) (bytes : List ℕ) (before : List Segment) (byte : ℕ) → r.phase ≡ phase.Coded → StandsForSegments bytes before r → byte < 256
     → Comes (bytes ++ byte ∷ []) before (Ok step.More) (record r { high = byte; phase = phase.HalfLength })
 high_more r bytes before byte e s fits =
     let (tail, between, seen, begins) = at_is r phase.Coded bytes before e s in
@@ -161,14 +161,14 @@ high_more r bytes before byte e s fits =
       (s.0, (tail ++ byte ∷ [], next, seen, (tail, begins, refl, fits))),
     )
 
-pub low_fault : (r : Reading) (bytes : List ℕ) (before : List Segment) (byte : ℕ) → r.phase ≡ phase.HalfLength → StandsFor bytes before r → two_bytes r.high byte < 2 → SegmentsShow (kept_rule r.limits) BadLength (bytes ++ byte ∷ []) × ShowsBehind (kept_rule r.limits) before BadLength (bytes ++ byte ∷ [])
+pub low_fault : (r : Reading) (bytes : List ℕ) (before : List Segment) (byte : ℕ) → r.phase ≡ phase.HalfLength → StandsForSegments bytes before r → two_bytes r.high byte < 2 → SegmentsReveal (kept_rule r.limits) BadLength (bytes ++ byte ∷ []) × RevealsAfter (kept_rule r.limits) before BadLength (bytes ++ byte ∷ [])
 low_fault r bytes before byte e s short =
     let (tail, between, seen, (marker, begins, is, fits)) = at_is r phase.HalfLength bytes before e s in
     let next = further (kept_rule r.limits) bytes before tail (byte ∷ []) between in
     let cut : tail ++ byte ∷ [] ≡ marker ++ r.high ∷ byte ∷ [] = ap (λ (t : List ℕ). t ++ byte ∷ []) is ∙ append_assoc marker (r.high ∷ []) (byte ∷ []) in
     shown (kept_rule r.limits) before BadLength (bytes ++ byte ∷ []) (inr (tail ++ byte ∷ [], next, inr (inr (inl (refl, (r.code, marker, r.high, byte, begins, cut, short))))))
 
-pub low_more : (r : Reading) (bytes : List ℕ) (before : List Segment) (byte left : ℕ) → r.phase ≡ phase.HalfLength → StandsFor bytes before r → byte < 256 → left + 2 ≡ two_bytes r.high byte → 1 ≤ left
+pub low_more : (r : Reading) (bytes : List ℕ) (before : List Segment) (byte left : ℕ) → r.phase ≡ phase.HalfLength → StandsForSegments bytes before r → byte < 256 → left + 2 ≡ two_bytes r.high byte → 1 ≤ left
     → Comes (bytes ++ byte ∷ []) before (Ok step.More) (record r { left = left; contents = []; phase = phase.Contents })
 low_more r bytes before byte left e s small long some =
     let (tail, between, seen, (marker, begins, is, fits)) = at_is r phase.HalfLength bytes before e s in
@@ -190,7 +190,7 @@ spelled : (code high low : ℕ) (marker contents : List ℕ) → SpellsMarker co
 spelled code high low marker contents m h l e =
     (marker, m, omega (arith, h, l, e), sym (append_assoc marker (high ∷ low ∷ []) contents) ∙ ap (λ (bytes : List ℕ). (marker ++ bytes) ++ contents) (sym (length_is high low (length contents + 2) h l e)))
 
-pub low_whole : (r : Reading) (bytes : List ℕ) (before : List Segment) (byte : ℕ) → r.phase ≡ phase.HalfLength → StandsFor bytes before r → byte < 256 → two_bytes r.high byte ≡ 2
+pub low_whole : (r : Reading) (bytes : List ℕ) (before : List Segment) (byte : ℕ) → r.phase ≡ phase.HalfLength → StandsForSegments bytes before r → byte < 256 → two_bytes r.high byte ≡ 2
     → HasWholeSegment (bytes ++ byte ∷ []) before (record r { left = 0; contents = [] })
 low_whole r bytes before byte e s small two =
     let (tail, between, seen, (marker, begins, is, fits)) = at_is r phase.HalfLength bytes before e s in
@@ -207,8 +207,8 @@ grown_by high low marker contents tail more e = ap (λ (t : List ℕ). t ++ more
 grown : (high low byte : ℕ) (marker contents tail : List ℕ) → tail ≡ marker ++ high ∷ low ∷ contents → tail ++ byte ∷ [] ≡ marker ++ high ∷ low ∷ (contents ++ byte ∷ [])
 grown high low byte marker contents tail e = grown_by high low marker contents tail (byte ∷ []) e
 
--- some of them at once, the last one left out
-contents_more : (r : Reading) (bytes : List ℕ) (before : List Segment) (more : List ℕ) → r.phase ≡ phase.Contents → StandsFor bytes before r → length more + 1 ≤ r.left → StandsFor (bytes ++ more) before (with_contents r more)
+-- some of them at once, without the last one
+contents_more : (r : Reading) (bytes : List ℕ) (before : List Segment) (more : List ℕ) → r.phase ≡ phase.Contents → StandsForSegments bytes before r → length more + 1 ≤ r.left → StandsForSegments (bytes ++ more) before (with_contents r more)
 contents_more r bytes before more e s few =
     let (tail, between, seen, (marker, high, low, begins, is, h, l, long, least)) = at_is r phase.Contents bytes before e s in
     let next = further (kept_rule r.limits) bytes before tail more between in
@@ -220,26 +220,26 @@ contents_more r bytes before more e s few =
     (s.0, subst P (sym e) (tail ++ more, next, seen, (marker, high, low, begins, cut, h, l, all, some)))
 
 -- none of them
-none_more : (r : Reading) (bytes : List ℕ) (before : List Segment) → StandsFor bytes before r → StandsFor (bytes ++ []) before (with_contents r [])
+none_more : (r : Reading) (bytes : List ℕ) (before : List Segment) → StandsForSegments bytes before r → StandsForSegments (bytes ++ []) before (with_contents r [])
 none_more r bytes before s =
     let taken : r.taken ≡ r.taken + 0 = omega arith in
     let left : r.left ≡ r.left - 0 = omega arith in
-    subst (λ (b : List ℕ). StandsFor b before (with_contents r [])) (sym (append-nil bytes))
-    (subst (λ (n : ℕ). StandsFor bytes before (record r { taken = n; left = r.left - 0; contents = r.contents ++ [] })) taken
-    (subst (λ (n : ℕ). StandsFor bytes before (record r { left = n; contents = r.contents ++ [] })) left
-    (subst (λ (xs : List ℕ). StandsFor bytes before (record r { contents = xs })) (sym (append-nil r.contents)) s)))
+    subst (λ (b : List ℕ). StandsForSegments b before (with_contents r [])) (sym (append-nil bytes))
+    (subst (λ (n : ℕ). StandsForSegments bytes before (record r { taken = n; left = r.left - 0; contents = r.contents ++ [] })) taken
+    (subst (λ (n : ℕ). StandsForSegments bytes before (record r { left = n; contents = r.contents ++ [] })) left
+    (subst (λ (xs : List ℕ). StandsForSegments bytes before (record r { contents = xs })) (sym (append-nil r.contents)) s)))
 
--- as many as are due, at most all
-stretch_stands : (r : Reading) (bytes : List ℕ) (before : List Segment) (piece : List ℕ) (n : ℕ) → n ≡ min (due_before_last r.phase r.left) (length piece) → StandsFor bytes before r → StandsFor (bytes ++ take n piece) before (with_contents r (take n piece))
+-- as many as are left, at most all
+stretch_stands : (r : Reading) (bytes : List ℕ) (before : List Segment) (piece : List ℕ) (n : ℕ) → n ≡ min (due_before_last r.phase r.left) (length piece) → StandsForSegments bytes before r → StandsForSegments (bytes ++ take n piece) before (with_contents r (take n piece))
 stretch_stands r bytes before piece n is s = by r.phase refl
   where
-    idle : (p : Phase) → r.phase ≡ p → due_before_last p r.left ≡ 0 → StandsFor (bytes ++ take n piece) before (with_contents r (take n piece))
+    idle : (p : Phase) → r.phase ≡ p → due_before_last p r.left ≡ 0 → StandsForSegments (bytes ++ take n piece) before (with_contents r (take n piece))
     idle p e none =
         let m : n ≡ min 0 (length piece) = is ∙ ap (λ q. min (due_before_last q r.left) (length piece)) e ∙ ap (λ (m : ℕ). min m (length piece)) none in
         let z : n ≡ 0 = omega (arith, m) in
-        subst (λ (m : ℕ). StandsFor (bytes ++ take m piece) before (with_contents r (take m piece))) (sym z) (none_more r bytes before s)
+        subst (λ (m : ℕ). StandsForSegments (bytes ++ take m piece) before (with_contents r (take m piece))) (sym z) (none_more r bytes before s)
 
-    by : (p : Phase) → r.phase ≡ p → StandsFor (bytes ++ take n piece) before (with_contents r (take n piece))
+    by : (p : Phase) → r.phase ≡ p → StandsForSegments (bytes ++ take n piece) before (with_contents r (take n piece))
     by phase.Empty e = idle phase.Empty e refl
     by phase.HalfStart e = idle phase.HalfStart e refl
     by phase.Between e = idle phase.Between e refl
@@ -253,7 +253,7 @@ stretch_stands r bytes before piece n is s = by r.phase refl
         let size = length-take-le n piece (omega (arith, m)) in
         contents_more r bytes before (take n piece) e s (omega (arith, m, size, least))
 
-pub content_more : (r : Reading) (bytes : List ℕ) (before : List Segment) (byte left : ℕ) → r.phase ≡ phase.Contents → StandsFor bytes before r → left + 1 ≡ r.left → 1 ≤ left
+pub content_more : (r : Reading) (bytes : List ℕ) (before : List Segment) (byte left : ℕ) → r.phase ≡ phase.Contents → StandsForSegments bytes before r → left + 1 ≡ r.left → 1 ≤ left
     → Comes (bytes ++ byte ∷ []) before (Ok step.More) (record r { left = left; contents = r.contents ++ byte ∷ [] })
 content_more r bytes before byte left e s one some =
     let (tail, between, seen, (marker, high, low, begins, is, h, l, long, least)) = at_is r phase.Contents bytes before e s in
@@ -265,7 +265,7 @@ content_more r bytes before byte left e s one some =
       (s.0, subst P (sym e) (tail ++ byte ∷ [], next, seen, (marker, high, low, begins, cut, h, l, more, some))),
     )
 
-pub content_whole : (r : Reading) (bytes : List ℕ) (before : List Segment) (byte : ℕ) → r.phase ≡ phase.Contents → StandsFor bytes before r → r.left ≤ 1
+pub content_whole : (r : Reading) (bytes : List ℕ) (before : List Segment) (byte : ℕ) → r.phase ≡ phase.Contents → StandsForSegments bytes before r → r.left ≤ 1
     → HasWholeSegment (bytes ++ byte ∷ []) before (record r { contents = r.contents ++ byte ∷ [] })
 content_whole r bytes before byte e s last =
     let (tail, between, seen, (marker, high, low, begins, is, h, l, long, least)) = at_is r phase.Contents bytes before e s in
@@ -275,18 +275,18 @@ content_whole r bytes before byte e s last =
     let P : List ℕ → Type 0 = λ t. SpellsSegment r.code (r.contents ++ byte ∷ []) t in
     (tail ++ byte ∷ [], next, seen, subst P (sym cut) (spelled r.code high low marker (r.contents ++ byte ∷ []) begins.0 h l all), begins.1, begins.2)
 
-pub contents_short : (r : Reading) (bytes : List ℕ) (before : List Segment) → r.phase ≡ phase.Contents → StandsFor bytes before r → length r.contents < 65533
+pub contents_short : (r : Reading) (bytes : List ℕ) (before : List Segment) → r.phase ≡ phase.Contents → StandsForSegments bytes before r → length r.contents < 65533
 contents_short r bytes before e s =
     let (tail, between, seen, (marker, high, low, begins, is, h, l, long, least)) = at_is r phase.Contents bytes before e s in omega (arith, h, l, long, least)
 
-pub stretch_taken : (r : Reading) (bytes : List ℕ) (before : List Segment) (piece : List ℕ) (n : ℕ) (contents : List ℕ) → n ≡ min (due_before_last r.phase r.left) (length piece) → contents ≡ r.contents ++ take n piece → StandsFor bytes before r
-    → StandsFor (bytes ++ take n piece) before (record r { taken = r.taken + n; left = r.left - n; contents = contents })
+pub stretch_taken : (r : Reading) (bytes : List ℕ) (before : List Segment) (piece : List ℕ) (n : ℕ) (contents : List ℕ) → n ≡ min (due_before_last r.phase r.left) (length piece) → contents ≡ r.contents ++ take n piece → StandsForSegments bytes before r
+    → StandsForSegments (bytes ++ take n piece) before (record r { taken = r.taken + n; left = r.left - n; contents = contents })
 stretch_taken r bytes before piece n contents is grows s =
     let size : length (take n piece) ≡ n = length-take-le n piece (omega (arith, is)) in
-    subst (λ (xs : List ℕ). StandsFor (bytes ++ take n piece) before (record r { taken = r.taken + n; left = r.left - n; contents = xs })) (sym grows)
-    (subst (λ (m : ℕ). StandsFor (bytes ++ take n piece) before (record r { taken = r.taken + m; left = r.left - m; contents = r.contents ++ take n piece })) size (stretch_stands r bytes before piece n is s))
+    subst (λ (xs : List ℕ). StandsForSegments (bytes ++ take n piece) before (record r { taken = r.taken + n; left = r.left - n; contents = xs })) (sym grows)
+    (subst (λ (m : ℕ). StandsForSegments (bytes ++ take n piece) before (record r { taken = r.taken + m; left = r.left - m; contents = r.contents ++ take n piece })) size (stretch_stands r bytes before piece n is s))
 
--- A WHOLE SEGMENT
+-- A COMPLETE SEGMENT
 
 pub whole_passes : (r : Reading) (bytes : List ℕ) (before : List Segment) (next : Seen) → r.stop ≡ None → HasWholeSegment bytes before r
     → ((before : List Segment) → HasSeen r.limits r.seen before → (kept_rule r.limits before r.code r.contents ≡ None) × HasSeen r.limits next ((r.code, r.contents) ∷ before))
@@ -298,6 +298,6 @@ whole_passes r bytes before next going (tail, between, seen, segment, good, end)
     ((before, all, pass), (going, ([], record { front = bytes; cut = sym (append-nil bytes); spelled = all; passed = pass }, p.1, refl)))
 
 pub whole_fault : (r : Reading) (bytes : List ℕ) (before : List Segment) → HasWholeSegment bytes before r
-    → ((before : List Segment) → HasSeen r.limits r.seen before → kept_rule r.limits before r.code r.contents ≡ Some MarkersTooLarge) → SegmentsShow (kept_rule r.limits) MarkersTooLarge bytes × ShowsBehind (kept_rule r.limits) before MarkersTooLarge bytes
+    → ((before : List Segment) → HasSeen r.limits r.seen before → kept_rule r.limits before r.code r.contents ≡ Some MarkersTooLarge) → SegmentsReveal (kept_rule r.limits) MarkersTooLarge bytes × RevealsAfter (kept_rule r.limits) before MarkersTooLarge bytes
 whole_fault r bytes before (tail, between, seen, segment, good, end) wrong =
     shown (kept_rule r.limits) before MarkersTooLarge bytes (inr (tail, between, inr (inr (inr (r.code, r.contents, segment, good, end, wrong before seen)))))

@@ -1,4 +1,4 @@
--- What the contents of a segment of Huffman tables tell, of tables as they are kept (T.81, B.2.4.2).
+-- What the contents of a segment of Huffman tables mean, for tables as a reader keeps them (T.81, B.2.4.2).
 use Rattle.std.specs.Prelude.{ℕ, ◌+◌, ◌/◌, ◌%◌, List, length, Result, Ok, Err}
 use Rattle.jpg_spec.specs.Faults.{Told}
 use Rattle.jpg_spec.specs.QuantContents.{◌>>=◌}
@@ -7,7 +7,7 @@ use Rattle.jpg_spec.specs.declared.fault.Fault.{Fault}
 use Rattle.jpg_huff.specs.declared.table.Table.{Table}
 use Rattle.jpg_huff.specs.Tables.{table_of}
 
--- a table behind the byte of its class and slot
+-- a table after the byte of its class and slot
 abbrev pub definition_of : ℕ → Table → HuffmanDefinition
 definition_of tc t = record { class = tc / 16; slot = tc % 16; table = table_of t }
 

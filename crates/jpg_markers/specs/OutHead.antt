@@ -1,11 +1,11 @@
--- What the head of a file that is written tells (T.81, B.2.1, B.2.2).
+-- What the head of a written file means (T.81, B.2.1, B.2.2).
 use Rattle.std.specs.Prelude.{ℕ, ◌+◌, ◌*◌, List, [], ◌∷◌, ◌++◌, length, map, zip, flat_map}
 use Rattle.std.specs.Int.{to_be_bytes, w16}
 use Rattle.jpg_spec.specs.Elements.{zeros}
-use Rattle.jpg_spec.specs.FileText.{kept_text, segment_text, slot_in, sof_code}
+use Rattle.jpg_spec_write.specs.FileText.{kept_text, segment_text, slot_in, sof_code}
 use Rattle.jpg_spec.specs.Geometry.{Frame}
 use Rattle.jpg_spec.specs.Meaning.{Meaning, PictureComponent}
-use Rattle.jpg_spec.specs.Moves.{copied, headed_kept}
+use Rattle.jpg_spec_write.specs.Headed.{copied, headed_kept}
 use Rattle.jpg_spec.specs.Segments.{QuantTable}
 use Rattle.jpg_spec.specs.declared.frame.Component.{Component}
 use Rattle.jpg_markers.specs.declared.writing.head.OutHead.{OutHead}
@@ -14,7 +14,7 @@ use Rattle.jpg_markers.specs.declared.writing.head.OutHead.{OutHead}
 abbrev pub with_tables : List Component → List QuantTable → List PictureComponent
 with_tables components tables = map (λ p. record { id = p.0.id; h = p.0.h; v = p.0.v; quants = p.1 }) (zip components tables)
 
--- The meaning of a file with this head, whose blocks are left open: zeros. The kept markers are those that are written.
+-- The meaning of a file with this head, whose blocks are zeros. The kept markers are those that are written.
 abbrev pub head_meaning : OutHead → List (ℕ × List ℕ) → Meaning
 head_meaning head kept = record {
   process = head.frame.process;
@@ -45,6 +45,6 @@ frame_contents distinct f tables = front_contents f ++ component_texts distinct 
 abbrev pub frame_segment : List QuantTable → OutHead → List ℕ
 frame_segment distinct head = segment_text (sof_code head.frame.process) (frame_contents distinct head.frame head.quants.items)
 
--- THE MARKERS that are written: the own header, and the kept ones that are passed on
+-- THE MARKERS that are written: the JFIF header or Adobe segment, and the kept ones that are passed on
 abbrev pub markers_text : OutHead → List (ℕ × List ℕ) → List ℕ
 markers_text head kept = kept_text (headed_kept head.colour head.jfif (copied head.copying kept))

@@ -1,7 +1,8 @@
--- The own header of a file, and the kept markers that are passed on behind it (JFIF 1.02, Adobe's APP14, the manual of jpegtran).
+-- The JFIF header or Adobe segment of a file, and the kept markers that are passed on after it (JFIF 1.02, Adobe's
+-- APP14, the manual of jpegtran).
 use Rattle.std.specs.Prelude.{ℕ, Bool, true, false, not, ◌&&◌, ◌==◌, List, [], ◌∷◌}
 use Rattle.jpg_spec.specs.Jfif.{begins_jfif, begins_adobe}
-use Rattle.jpg_spec.specs.Moves.{jfif_contents, adobe_contents}
+use Rattle.jpg_spec_write.specs.Headed.{jfif_contents, adobe_contents}
 use Rattle.jpg_spec.specs.declared.frame.Copying.{Copying}
 use Rattle.jpg_spec.specs.declared.frame.Copying.TheVariants as copying
 use Rattle.jpg_spec.specs.declared.frame.Colour.{Colour}
@@ -16,7 +17,7 @@ own_header Cmyk j = (0xee, adobe_contents 0) ∷ []
 own_header Ycck j = (0xee, adobe_contents 2) ∷ []
 own_header Unknown j = []
 
--- whether the own header stands in the place of a marker
+-- whether the JFIF header or Adobe segment replaces a marker
 abbrev pub is_replaced : Colour → ℕ → List ℕ → Bool
 is_replaced Gray code contents = begins_jfif code contents
 is_replaced YCbCr code contents = begins_jfif code contents

@@ -1,7 +1,7 @@
--- What a reader of segments keeps of the bytes that it was given, and what they come to.
+-- What a reader of segments keeps of the bytes that it was given, and their result.
 use Rattle.std.specs.Prelude.{◌≡◌, ◌⊎◌, ℕ, suc, ◌+◌, ◌-◌, ◌<◌, ◌≤◌, min, take, List, [], ◌∷◌, ◌++◌, length, replicate, Option, None, Result, Ok, Err, vec_capacity}
 use Rattle.jpg_spec.specs.Segments.{two_bytes}
-use Rattle.jpg_spec.specs.Markers.{Segment, Rule, SpellsMarker, SpellsSegment, code_fault, kept_rule, Between, ShowsNoStart, NoMarkerBytes, TailShows, BeginsSegment, at_soi, at_frame, at_eoi, at_segment, at_fault, at_part, Reaches}
+use Rattle.jpg_spec.specs.Markers.{Segment, Rule, SpellsMarker, SpellsSegment, code_fault, kept_rule, Between, RevealsNoStart, NoMarkerBytes, TailReveals, BeginsSegment, at_soi, at_frame, at_eoi, at_segment, at_fault, at_part, Reaches}
 use Rattle.jpg_spec.specs.declared.frame.Limits.{Limits}
 use Rattle.jpg_spec.specs.declared.fault.Fault.{Fault}
 use Rattle.jpg_spec.specs.declared.fault.Fault.TheVariants.{NotJpeg, NoMarker}
@@ -18,7 +18,7 @@ use Rattle.jpg_markers.specs.declared.segments.SegStep.TheVariants as step
 use Rattle.jpg_markers.specs.declared.segments.SegmentReader.{SegmentReader}
 use Rattle.jpg_markers.specs.Seen.{HasSeen}
 
--- what is seen of a reader: the last whole segment's code and contents among it, and why it stopped, if it did
+-- what contracts see of a reader: also the last complete segment's code and contents, and why it stopped, if it did
 pub record Reading : Type 0 where
   pub limits : Limits
   pub taken : ℕ
@@ -61,7 +61,7 @@ PartRead r phase.Contents before tail =
     × (high < 256) × (low < 256) × (length r.contents + r.left + 2 ≡ two_bytes high low) × (1 ≤ r.left)
 PartRead r phase.Ended before tail = ⊥
 
--- whole segments that break no rule, what they leave behind, and a part of one more
+-- complete segments that break no rule, what is remembered of them, and a part of one more
 abbrev pub IsBetween : Reading → Phase → List ℕ → List Segment → Type 0
 IsBetween r p bytes before =
     (tail : List ℕ) × Between (kept_rule r.limits) bytes before tail × HasSeen r.limits r.seen before × PartRead r p before tail
@@ -76,69 +76,69 @@ AtPhase r phase.HalfLength bytes before = IsBetween r phase.HalfLength bytes bef
 AtPhase r phase.Contents bytes before = IsBetween r phase.Contents bytes before
 AtPhase r phase.Ended bytes before = ⊥
 
--- The reader stands for these bytes, which were given to it, scan data left out. The whole segments among them are these.
-abbrev pub StandsFor : List ℕ → List Segment → Reading → Type 0
-StandsFor bytes before r = (r.stop ≡ None) × AtPhase r r.phase bytes before
+-- The reader was given these bytes, scan data left out. The complete segments among them are these.
+abbrev pub StandsForSegments : List ℕ → List Segment → Reading → Type 0
+StandsForSegments bytes before r = (r.stop ≡ None) × AtPhase r r.phase bytes before
 
--- WHAT THE BYTES COME TO, behind these whole segments
+-- THE RESULT of the bytes, after these complete segments
 
--- the last segment is whole, and what it leaves behind isn't seen yet
+-- the last segment is complete, and not yet among what is remembered
 abbrev pub HasWholeSegment : List ℕ → List Segment → Reading → Type 0
 HasWholeSegment bytes before r =
     (tail : List ℕ) × Between (kept_rule r.limits) bytes before tail × HasSeen r.limits r.seen before
     × SpellsSegment r.code r.contents tail × (code_fault before r.code ≡ None) × (r.code ≡ 0xd9 → ⊥)
 
--- the fault that they show
-abbrev pub ShowsBehind : Rule → List Segment → Fault → List ℕ → Type 0
-ShowsBehind rule before fault bytes =
-    ((fault ≡ NotJpeg) × (before ≡ []) × ShowsNoStart bytes)
-    ⊎ ((tail : List ℕ) × Between rule bytes before tail × (((fault ≡ NoMarker) × NoMarkerBytes tail) ⊎ TailShows rule before fault tail))
+-- the fault of the bytes
+abbrev pub RevealsAfter : Rule → List Segment → Fault → List ℕ → Type 0
+RevealsAfter rule before fault bytes =
+    ((fault ≡ NotJpeg) × (before ≡ []) × RevealsNoStart bytes)
+    ⊎ ((tail : List ℕ) × Between rule bytes before tail × (((fault ≡ NoMarker) × NoMarkerBytes tail) ⊎ TailReveals rule before fault tail))
 
--- an EOI that may stand there
-abbrev pub EndsBehind : Rule → List Segment → List ℕ → Type 0
-EndsBehind rule before bytes = (tail : List ℕ) × Between rule bytes before tail × SpellsMarker 0xd9 tail × (code_fault before 0xd9 ≡ None)
+-- an EOI that may occur there
+abbrev pub EndsAtEoi : Rule → List Segment → List ℕ → Type 0
+EndsAtEoi rule before bytes = (tail : List ℕ) × Between rule bytes before tail × SpellsMarker 0xd9 tail × (code_fault before 0xd9 ≡ None)
 
 abbrev pub Comes : List ℕ → List Segment → Result SegStep Stop → Reading → Type 0
-Comes bytes before (Ok step.More) r = Reaches (kept_rule r.limits) bytes at_part × StandsFor bytes before r
-Comes bytes before (Ok step.Start) r = Reaches (kept_rule r.limits) bytes at_soi × StandsFor bytes before r
-Comes bytes before (Ok step.Frame) r = Reaches (kept_rule r.limits) bytes at_frame × StandsFor bytes before r
-Comes bytes before (Ok step.Eoi) r = Reaches (kept_rule r.limits) bytes at_eoi × EndsBehind (kept_rule r.limits) before bytes
-Comes bytes before (Ok step.Whole) r = Reaches (kept_rule r.limits) bytes (at_segment (r.code, r.contents)) × StandsFor bytes ((r.code, r.contents) ∷ before) r
+Comes bytes before (Ok step.More) r = Reaches (kept_rule r.limits) bytes at_part × StandsForSegments bytes before r
+Comes bytes before (Ok step.Start) r = Reaches (kept_rule r.limits) bytes at_soi × StandsForSegments bytes before r
+Comes bytes before (Ok step.Frame) r = Reaches (kept_rule r.limits) bytes at_frame × StandsForSegments bytes before r
+Comes bytes before (Ok step.Eoi) r = Reaches (kept_rule r.limits) bytes at_eoi × EndsAtEoi (kept_rule r.limits) before bytes
+Comes bytes before (Ok step.Whole) r = Reaches (kept_rule r.limits) bytes (at_segment (r.code, r.contents)) × StandsForSegments bytes ((r.code, r.contents) ∷ before) r
 Comes bytes before (Err (stop.Fault f)) r =
-    Reaches (kept_rule r.limits) bytes (at_fault f.fault) × ShowsBehind (kept_rule r.limits) before f.fault bytes × (f.at ≡ r.taken)
+    Reaches (kept_rule r.limits) bytes (at_fault f.fault) × RevealsAfter (kept_rule r.limits) before f.fault bytes × (f.at ≡ r.taken)
 Comes bytes before (Err stop.NoMemory) r = Unit {0}
 
 -- the same before a halt is kept as a stop
 abbrev pub Goes : List ℕ → List Segment → Result SegStep Halt → Reading → Type 0
 Goes bytes before (Ok s) r = Comes bytes before (Ok s) r
-Goes bytes before (Err (halt.Fault f)) r = Reaches (kept_rule r.limits) bytes (at_fault f) × ShowsBehind (kept_rule r.limits) before f bytes
+Goes bytes before (Err (halt.Fault f)) r = Reaches (kept_rule r.limits) bytes (at_fault f) × RevealsAfter (kept_rule r.limits) before f bytes
 Goes bytes before (Err halt.NoMemory) r = Unit {0}
 
--- For all bytes that a reader stands for, its answer is what these and further ones come to.
+-- For all bytes that a reader was given, its answer is the result of these and further ones.
 abbrev pub ComesWith : Reading → List ℕ → Result SegStep Stop → Reading → Type 0
-ComesWith old more answer new = (bytes : List ℕ) (before : List Segment) → StandsFor bytes before old → Comes (bytes ++ more) before answer new
+ComesWith old more answer new = (bytes : List ℕ) (before : List Segment) → StandsForSegments bytes before old → Comes (bytes ++ more) before answer new
 
 abbrev pub GoesWith : Reading → List ℕ → Result SegStep Halt → Reading → Type 0
-GoesWith old more answer new = (bytes : List ℕ) (before : List Segment) → StandsFor bytes before old → Goes (bytes ++ more) before answer new
+GoesWith old more answer new = (bytes : List ℕ) (before : List Segment) → StandsForSegments bytes before old → Goes (bytes ++ more) before answer new
 
--- Where a segment is whole, the answer is what the bytes come to.
+-- Where a segment is complete, the answer is the result of the bytes.
 abbrev pub GoesWhole : Reading → Result SegStep Halt → Reading → Type 0
 GoesWhole old answer new = (bytes : List ℕ) (before : List Segment) → old.stop ≡ None → HasWholeSegment bytes before old → Goes bytes before answer new
 
 -- the last answer was Whole for an SOS segment
-abbrev pub IsBehindScan : Reading → Type 0
-IsBehindScan r = (r.stop ≡ None) × (r.phase ≡ phase.Between) × (r.code ≡ 0xda)
+abbrev pub IsAfterScan : Reading → Type 0
+IsAfterScan r = (r.stop ≡ None) × (r.phase ≡ phase.Between) × (r.code ≡ 0xda)
 
--- behind a whole segment the bytes stand between two
-abbrev pub BehindWhole : {X : Type 0} → Result SegStep X → Reading → Type 0
-BehindWhole (Ok step.More) r = Unit {0}
-BehindWhole (Ok step.Start) r = Unit {0}
-BehindWhole (Ok step.Frame) r = Unit {0}
-BehindWhole (Ok step.Eoi) r = Unit {0}
-BehindWhole (Ok step.Whole) r = r.phase ≡ phase.Between
-BehindWhole (Err e) r = Unit {0}
+-- after a complete segment the next byte is between two
+abbrev pub AfterWhole : {X : Type 0} → Result SegStep X → Reading → Type 0
+AfterWhole (Ok step.More) r = Unit {0}
+AfterWhole (Ok step.Start) r = Unit {0}
+AfterWhole (Ok step.Frame) r = Unit {0}
+AfterWhole (Ok step.Eoi) r = Unit {0}
+AfterWhole (Ok step.Whole) r = r.phase ≡ phase.Between
+AfterWhole (Err e) r = Unit {0}
 
--- an answer that isn't want of memory
+-- an answer other than NoMemory
 abbrev pub NotWanting : Result SegStep Stop → Type 0
 NotWanting (Ok s) = Unit {0}
 NotWanting (Err (stop.Fault f)) = Unit {0}
@@ -149,14 +149,14 @@ HaltsNot (Ok s) = Unit {0}
 HaltsNot (Err (halt.Fault f)) = Unit {0}
 HaltsNot (Err halt.NoMemory) = ⊥
 
--- what a step leaves as it was
+-- what a step doesn't change
 pub record Stays (old new : SegmentReader) : Type 0 where
   pub limits : new.limits ≡ old.limits
   pub taken : new.taken ≡ old.taken
   pub stop : new.stop ≡ old.stop
   pub room : HasRoom old → HasRoom new
 
--- SOME BYTES of contents at once: how many are due before a segment's last one
+-- SOME BYTES of contents at once: how many are expected before a segment's last one
 abbrev pub due_before_last : Phase → ℕ → ℕ
 due_before_last phase.Empty left = 0
 due_before_last phase.HalfStart left = 0
@@ -167,19 +167,20 @@ due_before_last phase.HalfLength left = 0
 due_before_last phase.Contents left = left - 1
 due_before_last phase.Ended left = 0
 
--- the reader with these bytes of contents more
+-- the reader with further bytes of contents
 abbrev pub with_contents : Reading → List ℕ → Reading
 with_contents r more = record r { taken = r.taken + length more; left = r.left - length more; contents = r.contents ++ more }
 
--- all that are due and given, or none where they find no memory
+-- all that are expected and given, or none if there is no memory for them
 abbrev pub AddsContents : Reading → List ℕ → Result ℕ NoMemory → Reading → Type 0
 AddsContents old bytes (Ok n) new =
     (n ≡ min (due_before_last old.phase old.left) (length bytes)) × (new ≡ with_contents old (take n bytes))
 AddsContents old bytes (Err e) new = new ≡ old
 
--- For all bytes that it stood for it stands for these and those that were taken, as if `byte` had answered More to each.
+-- For all bytes that it was given before, it was given these and those that were taken, as if `byte` had answered More
+-- to each.
 abbrev pub PassesBytes : Reading → List ℕ → Reading → Type 0
-PassesBytes old more new = (bytes : List ℕ) (before : List Segment) → StandsFor bytes before old → StandsFor (bytes ++ more) before new
+PassesBytes old more new = (bytes : List ℕ) (before : List Segment) → StandsForSegments bytes before old → StandsForSegments (bytes ++ more) before new
 
 abbrev pub PassesContents : Reading → List ℕ → Result ℕ NoMemory → Reading → Type 0
 PassesContents old bytes (Ok n) new = PassesBytes old (take n bytes) new

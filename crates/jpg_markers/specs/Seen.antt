@@ -1,4 +1,4 @@
--- What segments leave behind for those after them.
+-- What is remembered of segments for those after them.
 use Rattle.std.specs.Prelude.{◌≡◌, ℕ, ◌+◌, List, ◌∷◌, None, Some}
 use Rattle.jpg_spec.specs.Lists.{any_of}
 use Rattle.jpg_spec.specs.Markers.{Segment, has_frame, has_scan, is_plain_jfif, is_plain_adobe, kept_after, kept_count, kept_rule}
@@ -13,13 +13,13 @@ pub record HasSeen (limits : Limits) (s : Seen) (before : List Segment) : Type 0
   pub adobe : s.adobe ≡ any_of is_plain_adobe (kept_after before)
   pub free : s.free + kept_count (kept_after before) ≡ limits.kept
 
--- Behind these segments one more is within the limit for kept markers, and leaves this behind.
+-- After these segments one more is within the limit for kept markers, and this is remembered then.
 abbrev pub Leaves : Seen → ℕ → List ℕ → Seen → Type 0
 Leaves s code contents next =
     (limits : Limits) (before : List Segment) → HasSeen limits s before → (kept_rule limits before code contents ≡ None)
     × HasSeen limits next ((code, contents) ∷ before)
 
--- Behind these segments one more exceeds it.
+-- After these segments one more exceeds it.
 abbrev pub Exceeds : Seen → ℕ → List ℕ → Type 0
 Exceeds s code contents = (limits : Limits) (before : List Segment) → HasSeen limits s before → kept_rule limits before code contents ≡ Some MarkersTooLarge
 

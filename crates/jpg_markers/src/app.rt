@@ -1,4 +1,4 @@
-// Application segments (JFIF 1.02, Adobe's APP14).
+//! Application segments, parsed (JFIF 1.02, Adobe's APP14).
 ghost use Rattle.std.specs.Prelude.{◌≡◌, ◌≤◌, ℕ, Some, length};
 ghost use Rattle.jpg_spec.specs.Lists.{begins_with};
 ghost use Rattle.jpg_spec.specs.Jfif.{is_jfif, is_adobe, jfif_told};
@@ -7,7 +7,7 @@ ghost use Rattle.jpg_markers.specs.Apps.{IsApp};
 use byteorder::{BigEndian, ByteOrder};
 use jpg_spec::Jfif;
 
-/// What an application segment tells.
+/// What an application segment means.
 #[derive(Clone, Copy, Debug, PartialEq, Eq)]
 pub enum App {
     Jfif(Jfif),
@@ -16,8 +16,8 @@ pub enum App {
     Other,
 }
 
-/// What the segment of this code tells: a JFIF header is APP0 with `JFIF`, 00 and at least 14 bytes
-/// (JFIF 1.02), an Adobe segment APP14 with `Adobe` and at least 12.
+/// What the segment of this code means: a JFIF header is APP0 with `JFIF`, 00 and at least 14 bytes (JFIF 1.02), an
+/// Adobe segment APP14 with `Adobe` and at least 12.
 pub fn read_app(code: u8, contents: &[u8]) -> App
     ensures { IsApp code contents.now result }
 {

@@ -1,4 +1,4 @@
-// The colours of a file (JFIF 1.02, Adobe's APP14).
+//! The colours of a file (JFIF 1.02, Adobe's APP14).
 ghost use Rattle.std.specs.Prelude.{◌≡◌, [], ◌∷◌, length};
 ghost use Rattle.jpg_spec.specs.FrameHeader.{identifiers};
 ghost use Rattle.jpg_spec.specs.Lists.{are_equal};
@@ -7,10 +7,10 @@ ghost use Rattle.jpg_spec.specs.Colours.{colours_of, three_colours, four_colours
 use jpg_base::Frame;
 use jpg_spec::{Colour, Jfif};
 
-/// The colours of a frame whose file has this JFIF header and this Adobe transform, if any: one
-/// component is gray; of three JFIF says YCbCr, transform 0 RGB and another YCbCr, and without both
-/// identifiers R, G and B say RGB and others YCbCr; of four transform 0 says CMYK and another YCCK,
-/// and without one it is CMYK; two are unknown (JFIF 1.02, Adobe's APP14).
+/// The colours of a frame whose file has this JFIF header and this Adobe transform, if any: one component is gray;
+/// three are YCbCr with JFIF, RGB with transform 0 and YCbCr with another, and with neither RGB if their identifiers
+/// are R, G and B, otherwise YCbCr; four are YCCK with a transform other than 0, otherwise CMYK; two are unknown (JFIF
+/// 1.02, Adobe's APP14).
 pub fn guess(frame: &Frame, jfif: &Jfif, adobe: Option<u8>) -> Colour
     ensures { result ≡ colours_of (length frame.now.components) (identifiers frame.now.components) jfif.now.seen adobe }
 {

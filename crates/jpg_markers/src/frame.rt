@@ -1,4 +1,4 @@
-// The frame header (T.81, B.2.2).
+//! The frame header, parsed (T.81, B.2.2).
 ghost use Rattle.std.specs.Prelude.{◌≡◌, ◌≤◌, length};
 ghost use Rattle.jpg_spec.specs.FrameHeader.{AreLimits};
 ghost use Rattle.jpg_spec.specs.FrameContents.{components_told, frame_header};
@@ -8,9 +8,8 @@ use byteorder::{BigEndian, ByteOrder};
 use jpg_base::Frame;
 use jpg_spec::{Component, Fault, Limits, Process};
 
-/// The frame of a frame header's contents, or the first fault that they show: BadLength (not six
-/// bytes and three for each component that they count), then those of `Frame::new` in its order
-/// (T.81, B.2.2). It takes no memory.
+/// The frame of a frame header's contents, or their first fault: BadLength (not six bytes and three for each component
+/// that they count), then those of `Frame::new` in its order (T.81, B.2.2). It takes no memory.
 pub fn read_sof(process: Process, contents: &[u8], limits: &Limits) -> Result<Frame, Fault>
     requires { AreLimits limits.now }
     ensures { result ≡ frame_header limits.now process contents.now }

@@ -1,4 +1,4 @@
-// Huffman tables (T.81, B.2.4.2).
+//! Huffman tables, parsed (T.81, B.2.4.2).
 ghost use Rattle.std.specs.Prelude.{◌≡◌, ◌%◌, ◌<◌, ◌≤◌, Ok, Err, length, drop, IfOk, IfErr};
 ghost use Rattle.jpg_spec.specs.HuffContents.{definition_size, huffman_table_of, huffmans_told, put_definition};
 ghost use Rattle.jpg_huff.specs.Sets.{slots_of};
@@ -7,12 +7,11 @@ ghost use Rattle.jpg_markers.specs.Huffmans.{definition_of, table_told, tables_j
 use jpg_huff::{Table, TableFault, TableSet};
 use jpg_spec::Fault;
 
-/// Puts the tables of a segment's contents into their slots, a later one of a slot in the place of
-/// an earlier one, or answers the first fault that they show, and then changes no table. Each table
-/// is judged in this order: BadHuffman (its class above 1 or its slot above 3), BadLength (fewer
-/// than 16 counts), BadHuffman (more than 256 codes), BadLength (the segment ends inside its
-/// values), BadHuffman (a code doesn't fit its length, or is all ones) (T.81, B.2.4.2 and Annex C).
-/// It takes no memory.
+/// Puts the tables of a segment's contents into their slots, where a later one replaces an earlier one of its slot, or
+/// answers the first fault of the contents and changes no table. Each table is judged in this order: BadHuffman (its
+/// class above 1 or its slot above 3), BadLength (fewer than 16 counts), BadHuffman (more than 256 codes), BadLength
+/// (the segment ends inside its values), BadHuffman (a code doesn't fit its length, or is all ones) (T.81, B.2.4.2 and
+/// Annex C). It takes no memory.
 pub fn read_dht(contents: &[u8], tables: &mut TableSet) -> Result<(), Fault>
     ensures accepted { IfOk result (λ _. huffmans_told (slots_of tables.old) contents.now ≡ Ok (slots_of tables.new)) }
     ensures refused { IfErr result (λ fault. huffmans_told (slots_of tables.old) contents.now ≡ Err fault) }
@@ -70,7 +69,7 @@ fn put(tables: &mut TableSet, head: u8, table: &Table)
     }
 }
 
-// The bytes behind a table.
+// The bytes after a table.
 fn behind<'a>(table: &Table, bytes: &'a [u8]) -> &'a [u8]
     requires { kept_size table.now ≤ length bytes.now }
     ensures { result.now ≡ drop (kept_size table.now) bytes.now }
@@ -78,7 +77,7 @@ fn behind<'a>(table: &Table, bytes: &'a [u8]) -> &'a [u8]
     &bytes[16 + table.symbols().len()..]
 }
 
-// The table that stands behind the byte of its class and slot.
+// The table after the byte of its class and slot.
 #[tactic(auto, unfolding(jpg_spec::specs::HuffContents::huffman_table_of))]
 fn table_at(head: u8, bytes: &[u8]) -> Result<Table, Fault>
     ensures value { table_told head result ≡ huffman_table_of head bytes.now }

@@ -1,12 +1,12 @@
-// The restart interval (T.81, B.2.4.4).
+//! The restart interval, parsed (T.81, B.2.4.4).
 ghost use Rattle.std.specs.Prelude.{◌≡◌};
 ghost use Rattle.jpg_spec.specs.ScanContents.{restart_interval};
 
 use byteorder::{BigEndian, ByteOrder};
 use jpg_spec::Fault;
 
-/// The MCUs of a restart interval, from the two bytes of its segment. Other contents are of a bad
-/// length (T.81, B.2.4.4).
+/// The MCUs of a restart interval, from the two bytes of its segment. Contents of any other length are BadLength (T.81,
+/// B.2.4.4).
 pub fn read_dri(contents: &[u8]) -> Result<u16, Fault>
     ensures { result ≡ restart_interval contents.now }
 {

@@ -1,4 +1,4 @@
-// The markers of a file that are kept (T.81, B.2.4.5, B.2.4.6).
+//! The markers of a file that are kept (T.81, B.2.4.5, B.2.4.6).
 ghost use Rattle.std.specs.Prelude.{◌≡◌, ◌<◌, [], ◌∷◌, ◌++◌, length, slice_get, Some, OnOk, OnErr};
 ghost use Rattle.jpg_markers.specs.Kept.{IsKeptSegment, kept_pair};
 
@@ -69,7 +69,7 @@ impl KeptList {
         self.members.len()
     }
 
-    /// The marker at place `i`, from 0.
+    /// The marker at index `i`, from 0.
     pub fn get(&self, i: usize) -> &Kept
         requires { i < length self.now }
         ensures value { slice_get self.now i ≡ Some (kept_pair result.now) }

@@ -1,4 +1,4 @@
-//! Marker segments: what their contents tell, and how they are written (T.81, B.2, JFIF 1.02).
+//! Marker segments: their contents parsed, and how they are written (T.81, B.2, JFIF 1.02).
 #![tactic(auto)]
 
 mod app;
@@ -29,6 +29,3 @@ pub use quants::{QuantSet, read_dqt};
 pub use scan::{accepted_heads_are_of_their_frames, read_sos};
 pub use segments::{SegStep, SegmentReader};
 pub use writing::{OutHead, file_head, is_wide, write_segment};
-
-#[cfg(test)]
-mod tests;

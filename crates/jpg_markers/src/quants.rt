@@ -1,4 +1,4 @@
-// Quantisation tables (T.81, B.2.4.1).
+//! Quantisation tables, parsed (T.81, B.2.4.1).
 ghost use Rattle.std.specs.Prelude.{◌≡◌, ◌<◌, ◌≤◌, Some, Ok, Err, length, slice_set, drop, IfOk, IfErr};
 ghost use Rattle.std.specs.Option.{option_map};
 ghost use Rattle.jpg_spec.specs.Lists.{any_of};
@@ -35,7 +35,7 @@ impl QuantSet {
         }
     }
 
-    /// The table in a slot, None where there is none, and for slots from 4 on.
+    /// The table in a slot, None if there is none, and for slots from 4 on.
     pub fn get(&self, slot: u8) -> Option<&QuantTable>
         ensures { option_map (λ t. t.now) result ≡ quant_in self.now slot }
     {
@@ -55,10 +55,10 @@ impl QuantSet {
     }
 }
 
-/// Puts the tables of a segment's contents into their slots, a later one of a slot in the place of
-/// an earlier one, or answers the first fault that they show, and then changes no table. Each table
-/// is judged in this order: BadQuant (its precision above 1 or its slot above 3), BadLength (the
-/// segment ends inside it), BadQuant (a quantiser 0) (T.81, B.2.4.1). It takes no memory.
+/// Puts the tables of a segment's contents into their slots, where a later one replaces an earlier one of its slot, or
+/// answers the first fault of the contents and changes no table. Each table is judged in this order: BadQuant (its
+/// precision above 1 or its slot above 3), BadLength (the segment ends inside it), BadQuant (a quantiser 0) (T.81,
+/// B.2.4.1). It takes no memory.
 pub fn read_dqt(contents: &[u8], quants: &mut QuantSet) -> Result<(), Fault>
     ensures accepted { IfOk result (λ _. quants_told quants.old contents.now ≡ Ok quants.new) }
     ensures refused { IfErr result (λ fault. quants_told quants.old contents.now ≡ Err fault) }
@@ -104,14 +104,14 @@ fn with_table(quants: &QuantSet, head: u8, bytes: &[u8]) -> Result<QuantSet, Fau
     }
 }
 
-// The bytes of a table behind the byte of its precision and slot.
+// How many bytes of a table follow the byte of its precision and slot.
 fn size_of(head: u8) -> usize
     ensures { result ≡ table_size head }
 {
     if head / 16 == 1 { 128 } else { 64 }
 }
 
-// The bytes behind a table.
+// The bytes after a table.
 fn behind(head: u8, bytes: &[u8]) -> &[u8]
     requires { table_size head ≤ length bytes.now }
     ensures { result.now ≡ drop (table_size head) bytes.now }

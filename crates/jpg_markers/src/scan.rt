@@ -1,4 +1,4 @@
-// The scan header (T.81, B.2.3, G.1.1.1).
+//! The scan header, parsed (T.81, B.2.3, G.1.1.1).
 ghost use Rattle.std.specs.Prelude.{◌≡◌, ◌*◌, ◌<◌, ◌≤◌, not, length, map, All, ℕ, List, Ok};
 ghost use Rattle.jpg_spec.specs.Geometry.{Frame as Numbers};
 ghost use Rattle.jpg_spec.specs.Segments.{ScanHead as Head};
@@ -11,11 +11,11 @@ use arrayvec::ArrayVec;
 use jpg_base::{Frame, ScanHead};
 use jpg_spec::{Fault, Process, ScanPart};
 
-/// The scan header of these contents in a frame, or the first fault that they show: BadLength (not
-/// four bytes and two for each component that they count), ScanComponent (not one to four
-/// components, or one that isn't in the frame or stands twice), McuTooLarge (several components of
-/// more than ten blocks an MCU), ScanParameters (in SOF2 alone: no band of DC or of one component's
-/// AC, or no bits of a first pass or a refinement) (T.81, B.2.3, G.1.1.1). It takes no memory.
+/// The scan header of these contents in a frame, or their first fault: BadLength (not four bytes and two for each
+/// component that they count), ScanComponent (not one to four components, or one that isn't in the frame or occurs
+/// twice), McuTooLarge (several components of more than ten blocks per MCU), ScanParameters (only in SOF2: the band
+/// isn't DC or AC of one component, or the bits aren't those of a first pass or a refinement) (T.81, B.2.3, G.1.1.1).
+/// It takes no memory.
 pub fn read_sos(contents: &[u8], frame: &Frame) -> Result<ScanHead, Fault>
     ensures { result ≡ scan_header frame.now contents.now }
 {
@@ -31,7 +31,7 @@ pub fn read_sos(contents: &[u8], frame: &Frame) -> Result<ScanHead, Fault>
     }
 }
 
-// The header of the bytes of its components and of its band.
+// The header made of the bytes of its components and of its band.
 #[tactic(auto, unfolding(jpg_spec::specs::ScanContents::checked_head))]
 fn head_of(frame: &Frame, count: u8, parts: &[u8], band: &[u8]) -> Result<ScanHead, Fault>
     requires parts { length parts.now ≡ 2 * count }
@@ -102,7 +102,7 @@ fn is_known(frame: &Frame, id: u8) -> bool
     false
 }
 
-// The place in the frame of the component of this identifier, or the number of components.
+// The index in the frame of the component of this identifier, or the number of components.
 fn place_of(frame: &Frame, id: u8) -> u8
     ensures { result ≡ index_of id (identifiers frame.now.components) }
 {
@@ -128,7 +128,7 @@ fn are_known(frame: &Frame, parts: &[u8]) -> bool
     true
 }
 
-// Whether the identifier stands in the scan's components.
+// Whether the identifier is one of the scan's components.
 fn stands(id: u8, parts: &[u8]) -> bool
     ensures { result ≡ is_among id (ids_told parts.now) }
 {
@@ -142,7 +142,7 @@ fn stands(id: u8, parts: &[u8]) -> bool
     false
 }
 
-// Whether a component stands twice in the scan.
+// Whether a component occurs twice in the scan.
 fn has_same(parts: &[u8]) -> bool
     ensures { result ≡ not (is_distinct (ids_told parts.now)) }
 {
@@ -156,7 +156,7 @@ fn has_same(parts: &[u8]) -> bool
     false
 }
 
-// The scan's components by their places in the frame.
+// The scan's components by their indexes in the frame.
 fn parts_of(frame: &Frame, parts: &[u8]) -> ArrayVec<ScanPart, 4>
     requires { length parts.now ≤ 8 }
     ensures { result.items ≡ parts_told frame.now parts.now }
@@ -188,8 +188,8 @@ fn blocks_of(frame: &Frame, parts: &[ScanPart]) -> u32
     blocks
 }
 
-/// A scan header that is accepted has one to four distinct components of the frame, and several
-/// have at most ten blocks an MCU (T.81, B.2.3).
+/// A scan header that is accepted has one to four distinct components of the frame, and several have at most ten blocks
+/// per MCU (T.81, B.2.3).
 pub fn accepted_heads_are_of_their_frames()
     ensures { (f : Numbers) (contents : List ℕ) (head : Head) → scan_header f contents ≡ Ok head → IsHead f head }
 {}

@@ -1,4 +1,4 @@
-// What segments leave behind for those after them (T.81, B.1.1, Table B.1).
+//! What is remembered of segments for those after them (T.81, B.1.1, Table B.1).
 ghost use Rattle.std.specs.Prelude.{◌≡◌, ◌||◌, ◌==◌, [], Some, None, IfSome, IfNone};
 ghost use Rattle.jpg_spec.specs.Jfif.{begins_jfif, begins_adobe};
 ghost use Rattle.jpg_spec.specs.Markers.{code_fault_if, is_frame_code, is_kept_if, is_plain_adobe, is_plain_jfif, is_unexpected, is_unsupported, counted_size};
@@ -8,8 +8,8 @@ ghost use Rattle.jpg_markers.specs.Seen.{Exceeds, HasSeen, Leaves};
 use crate::app::{begins_with, is_adobe, is_jfif};
 use jpg_spec::Fault;
 
-/// What the whole segments so far leave behind: whether a frame header, a scan header, a JFIF header of
-/// 14 bytes and an Adobe segment of 12 were among them, and how many bytes of kept markers may follow.
+/// What is remembered of the complete segments so far: whether a frame header, a scan header, a JFIF header of 14 bytes
+/// and an Adobe segment of 12 were among them, and how many bytes of kept markers may follow.
 #[derive(Clone, Copy, Debug, PartialEq, Eq)]
 pub struct Seen {
     pub framed: bool,
@@ -33,7 +33,7 @@ impl Seen {
         }
     }
 
-    /// The same with one segment more; None where its kept bytes exceed what is free.
+    /// The same with one more segment; None if its kept bytes exceed the rest of the limit.
     pub fn with(&self, code: u8, contents: &[u8]) -> Option<Seen>
         ensures some { IfSome result (Leaves self.now code contents.now) }
         ensures none { IfNone result (Exceeds self.now code contents.now) }
@@ -54,7 +54,7 @@ impl Seen {
         })
     }
 
-    // Behind a segment of this code, whatever is kept.
+    // After a segment of this code, whatever is kept.
     fn behind(&self, code: u8) -> Seen
         ensures { result ≡ record (self.now) { framed = is_frame_code code || self.now.framed; scanned = code == 0xda || self.now.scanned } }
     {
@@ -72,7 +72,7 @@ fn either(a: bool, b: bool) -> bool
     a || b
 }
 
-/// Why a code may not stand here, where a frame header was seen or none (T.81, Table B.1).
+/// Why a code may not occur here, by whether a frame header was seen (T.81, Table B.1).
 pub fn code_fault(framed: bool, code: u8) -> Option<Fault>
     ensures { result ≡ code_fault_if framed code }
 {
@@ -109,7 +109,7 @@ fn is_unsupported(code: u8) -> bool
         || (0xc5 <= code && code <= 0xcf || (code == 0xdc || (code == 0xde || code == 0xdf)))
 }
 
-/// Whether a segment is kept: APPn and COM, but behind a scan no JFIF and Adobe segments.
+/// Whether a segment is kept: APPn and COM, but after a scan no JFIF and Adobe segments.
 pub fn is_kept(scanned: bool, code: u8, contents: &[u8]) -> bool
     ensures { result ≡ is_kept_if scanned code contents.now }
 {
@@ -141,8 +141,8 @@ fn is_plain_adobe(code: u8, contents: &[u8]) -> bool
     is_adobe(code, contents) && contents.len() == 12
 }
 
-// What a kept segment counts: its contents and 4 bytes, but nothing where it is the first JFIF header
-// of 14 bytes or the first Adobe segment of 12.
+// How much a kept segment counts for the limit: its contents and 4 bytes, but nothing if it is the first JFIF header of
+// 14 bytes or the first Adobe segment of 12.
 fn counted_size(jfif: bool, adobe: bool, code: u8, contents: &[u8]) -> u64
     ensures { result ≡ counted_size jfif adobe (code, contents.now) }
 {

@@ -1,11 +1,11 @@
-// The segments of a file, read byte by byte (T.81, B.1.1).
+//! The segments of a file, read byte by byte (T.81, B.1.1).
 ghost use Rattle.std.specs.Prelude.{◌≡◌, ◌≤◌, ◌<◌, ◌+◌, ℕ, List, [], ◌∷◌, length, None, Some, Err, IfOk, IfErr};
 ghost use Rattle.jpg_spec.specs.FrameHeader.{AreLimits};
 ghost use Rattle.jpg_spec.specs.Markers.{Segment};
 ghost use Rattle.jpg_base.specs.declared.stop.Stop.{Stop as Stopped};
 ghost use Rattle.jpg_base.specs.declared.stop.Stop.TheVariants as stop;
 ghost use Rattle.jpg_markers.specs.declared.segments.Phase.TheVariants as phase;
-ghost use Rattle.jpg_markers.specs.Reading.{reading_of, BehindWhole, StandsFor, AddsContents, Comes, PassesContents, due_before_last, Goes, HasRoom, IsBehindScan, HaltsNot, NotWanting, Stays, ComesWith, GoesWith, GoesWhole};
+ghost use Rattle.jpg_markers.specs.Reading.{reading_of, AfterWhole, StandsForSegments, AddsContents, Comes, PassesContents, due_before_last, Goes, HasRoom, IsAfterScan, HaltsNot, NotWanting, Stays, ComesWith, GoesWith, GoesWhole};
 
 use crate::seen::{Seen, code_fault, is_frame_code};
 use byteorder::{BigEndian, ByteOrder};
@@ -13,8 +13,8 @@ use jpg_base::{NoMemory, Stop};
 use jpg_spec::{Fault, FaultAt, Limits};
 use std::alloc::Global;
 
-/// What a byte led to, where nothing was wrong: SOI is there, the marker of a frame header, EOI, the
-/// last byte of a segment, or none of these.
+/// The result of a byte, where nothing was wrong: SOI is there, the marker of a frame header, EOI, the last byte of a
+/// segment, or none of these.
 #[derive(Clone, Copy, Debug, PartialEq, Eq)]
 pub enum SegStep {
     More,
@@ -24,8 +24,8 @@ pub enum SegStep {
     Whole,
 }
 
-// Where the bytes stand: before SOI, inside it, behind a whole segment, behind FF, behind a code,
-// behind the first byte of a length, inside contents, behind EOI.
+// Where the next byte is: before SOI, inside it, after a complete segment, after FF, after a code, after the first byte
+// of a length, inside contents, after EOI.
 #[derive(Clone, Copy, Debug, PartialEq, Eq)]
 enum Phase {
     Empty,
@@ -48,8 +48,8 @@ enum Halt {
 // The most bytes of contents.
 const LONGEST: usize = 65533;
 
-/// Reads a file's segments byte by byte (T.81, B.1.1). It judges markers, lengths, and the size of the
-/// markers that are kept; what contents tell is for others to judge. Scan data aren't given to it.
+/// Reads a file's segments byte by byte (T.81, B.1.1). It judges markers, lengths, and the size of the markers that are
+/// kept, but not contents. Scan data aren't given to it.
 #[derive(Drop)]
 pub struct SegmentReader {
     limits: Limits,
@@ -67,7 +67,7 @@ impl SegmentReader {
     /// A reader that was given no bytes. It takes no memory yet.
     pub fn new(alloc: Global, limits: Limits) -> SegmentReader
         requires { AreLimits limits }
-        ensures stands { StandsFor [] [] (reading_of result) }
+        ensures stands { StandsForSegments [] [] (reading_of result) }
         ensures limits { (reading_of result).limits ≡ limits }
         ensures taken { (reading_of result).taken ≡ 0 }
     {
@@ -84,24 +84,23 @@ impl SegmentReader {
         }
     }
 
-    /// Takes a byte outside scan data. For all bytes that the reader stands for, its answer is what
-    /// these and the byte come to: Start behind SOI, Frame behind the marker of a frame header (SOF0,
-    /// SOF1 or SOF2), Eoi behind EOI, Whole with a segment's last byte, More where it is none of these,
-    /// and else the fault that they show, at the number of bytes taken: NotJpeg, NoMarker,
-    /// UnexpectedMarker, UnsupportedProcess, SecondFrame, SosBeforeSof, BadLength (a length below 2) or
-    /// MarkersTooLarge. NoMemory comes where the contents find none, and not after `reserve`. After a
-    /// stop it answers the same stop. Behind EOI it stands for no bytes, and what it answers isn't said.
+    /// Takes a byte outside scan data. The answer is that of all bytes so far: Start after SOI, Frame after the marker
+    /// of a frame header (SOF0, SOF1 or SOF2), Eoi after EOI, Whole with a segment's last byte, More if it is none of
+    /// these, and otherwise their fault, at the number of bytes taken: NotJpeg, NoMarker, UnexpectedMarker,
+    /// UnsupportedProcess, SecondFrame, SosBeforeSof, BadLength (a length below 2) or MarkersTooLarge. NoMemory is
+    /// answered if there is none for the contents, but not after `reserve`. After a stop it answers the same stop.
+    /// After EOI its answer is unspecified.
     pub fn byte(&mut self, byte: u8) -> Result<SegStep, Stop>
         requires { (reading_of self.old).taken < (reading_of self.old).limits.input }
         ensures answered { ComesWith (reading_of self.old) (byte ∷ []) result (reading_of self.new) }
         ensures taken { (reading_of self.old).stop ≡ None → (reading_of self.new).taken ≡ (reading_of self.old).taken + 1 }
         ensures again { (stop : Stopped) → (reading_of self.old).stop ≡ Some stop → (result ≡ Err stop) × (self.new ≡ self.old) }
-        ensures whole { BehindWhole result (reading_of self.new) }
+        ensures whole { AfterWhole result (reading_of self.new) }
         ensures going { IfOk result (λ _. (reading_of self.new).stop ≡ None) }
         ensures stopped { IfErr result (λ stop. (reading_of self.new).stop ≡ Some stop) }
         ensures limits { (reading_of self.new).limits ≡ (reading_of self.old).limits }
         ensures room { HasRoom self.old → HasRoom self.new }
-        ensures memory { (bytes : List ℕ) (before : List Segment) → StandsFor bytes before (reading_of self.old) → HasRoom self.old → NotWanting result }
+        ensures memory { (bytes : List ℕ) (before : List Segment) → StandsForSegments bytes before (reading_of self.old) → HasRoom self.old → NotWanting result }
     {
         if let Some(stop) = self.stop {
             return Err(stop);
@@ -113,10 +112,10 @@ impl SegmentReader {
         self.answer(next)
     }
 
-    /// Takes the marker that ended scan data, as if `byte` were given FF and its code, which is byte
-    /// number `at` of the input. The last answer was Whole for SOS.
+    /// Takes the marker that ended scan data, as if `byte` were given FF and its code, which is byte number `at` of the
+    /// input. The last answer was Whole, for SOS.
     pub fn marker(&mut self, code: u8, at: u64) -> Result<SegStep, Stop>
-        requires behind { IsBehindScan (reading_of self.old) }
+        requires behind { IsAfterScan (reading_of self.old) }
         requires later { (reading_of self.old).taken + 2 ≤ at }
         requires within { at ≤ (reading_of self.old).limits.input }
         ensures answered { ComesWith (reading_of self.old) (255 ∷ code ∷ []) result (reading_of self.new) }
@@ -133,9 +132,9 @@ impl SegmentReader {
         self.answer(next)
     }
 
-    /// Takes contents of the segment in work from the front of these bytes, all that are due before its last
-    /// byte, and reports how many they were: none where no contents are due. It is as if `byte` were given them
-    /// one by one, which would answer More to each. Out of memory it changes nothing.
+    /// Takes contents of the current segment from the start of these bytes, as many as are expected before its last
+    /// byte, and answers how many they were: none if no contents are expected. It is as if `byte` were given them one
+    /// by one, and answered More to each. If there is no memory, nothing has changed.
     pub fn stretch(&mut self, bytes: &[u8]) -> Result<usize, NoMemory>
         requires { (reading_of self.old).taken + length bytes.now ≤ (reading_of self.old).limits.input }
         ensures added { AddsContents (reading_of self.old) bytes.now result (reading_of self.new) }
@@ -153,7 +152,7 @@ impl SegmentReader {
         }
     }
 
-    // How many bytes of contents are due before the last one.
+    // How many bytes of contents are expected before the last one.
     fn due(&self) -> usize
         ensures is { result ≡ due_before_last self.now.phase self.now.left }
         ensures few { result ≤ self.now.left }
@@ -170,8 +169,8 @@ impl SegmentReader {
         }
     }
 
-    /// Makes room for the contents of one segment of any length. It changes nothing else, and after
-    /// Ok no call finds memory wanting.
+    /// Makes room for the contents of one segment of any length. It changes nothing else, and after Ok no call answers
+    /// NoMemory.
     pub fn reserve(&mut self) -> Result<(), NoMemory>
         ensures same { reading_of self.new ≡ reading_of self.old }
         ensures room { IfOk result (λ _. HasRoom self.new) }
@@ -184,32 +183,32 @@ impl SegmentReader {
         }
     }
 
-    /// The code of the last whole segment, where Whole was the last answer.
+    /// The code of the last complete segment, where Whole was the last answer.
     pub fn code(&self) -> u8
         ensures { result ≡ (reading_of self.now).code }
     {
         self.code
     }
 
-    /// The contents of the last whole segment, where Whole was the last answer: at most 65,533 bytes.
+    /// The contents of the last complete segment, where Whole was the last answer: at most 65,533 bytes.
     pub fn contents(&self) -> &[u8]
         ensures { result.now ≡ (reading_of self.now).contents }
     {
         self.contents.as_slice()
     }
 
-    /// How many bytes of the input were taken, those of scan data with them.
+    /// How many bytes of the input were taken, those of scan data among them.
     pub fn taken(&self) -> u64
         ensures { result ≡ (reading_of self.now).taken }
     {
         self.taken
     }
 
-    // Keeps a halt as the stop that every later call answers.
+    // Keeps a halt as the stop that all later calls answer.
     fn answer(&mut self, next: Result<SegStep, Halt>) -> Result<SegStep, Stop>
         requires { (reading_of self.old).stop ≡ None }
         ensures goes { (bytes : List ℕ) (before : List Segment) → Goes bytes before next (reading_of self.old) → Comes bytes before result (reading_of self.new) }
-        ensures whole { BehindWhole next (reading_of self.old) → BehindWhole result (reading_of self.new) }
+        ensures whole { AfterWhole next (reading_of self.old) → AfterWhole result (reading_of self.new) }
         ensures going { IfOk result (λ _. (reading_of self.new).stop ≡ None) }
         ensures stopped { IfErr result (λ stop. (reading_of self.new).stop ≡ Some stop) }
         ensures limits { (reading_of self.new).limits ≡ (reading_of self.old).limits }
@@ -234,12 +233,12 @@ impl SegmentReader {
         }
     }
 
-    // What a byte leads to, by where the bytes stand.
+    // The result of a byte, by the phase.
     fn next(&mut self, byte: u8) -> Result<SegStep, Halt>
         ensures goes { GoesWith (reading_of self.old) (byte ∷ []) result (reading_of self.new) }
         ensures stays { Stays self.old self.new }
-        ensures whole { BehindWhole result (reading_of self.new) }
-        ensures memory { (bytes : List ℕ) (before : List Segment) → StandsFor bytes before (reading_of self.old) → HasRoom self.old → HaltsNot result }
+        ensures whole { AfterWhole result (reading_of self.new) }
+        ensures memory { (bytes : List ℕ) (before : List Segment) → StandsForSegments bytes before (reading_of self.old) → HasRoom self.old → HaltsNot result }
     {
         match self.phase {
             Phase::Contents => self.content_byte(byte),
@@ -257,7 +256,7 @@ impl SegmentReader {
         requires { (reading_of self.old).phase ≡ phase.Empty }
         ensures goes { GoesWith (reading_of self.old) (byte ∷ []) result (reading_of self.new) }
         ensures stays { Stays self.old self.new }
-        ensures whole { BehindWhole result (reading_of self.new) }
+        ensures whole { AfterWhole result (reading_of self.new) }
         ensures memory { HaltsNot result }
     {
         if byte != 0xff {
@@ -271,7 +270,7 @@ impl SegmentReader {
         requires { (reading_of self.old).phase ≡ phase.HalfStart }
         ensures goes { GoesWith (reading_of self.old) (byte ∷ []) result (reading_of self.new) }
         ensures stays { Stays self.old self.new }
-        ensures whole { BehindWhole result (reading_of self.new) }
+        ensures whole { AfterWhole result (reading_of self.new) }
         ensures memory { HaltsNot result }
     {
         if byte != 0xd8 {
@@ -281,12 +280,12 @@ impl SegmentReader {
         Ok(SegStep::Start)
     }
 
-    // The first byte behind a whole segment.
+    // The first byte after a complete segment.
     fn item_byte(&mut self, byte: u8) -> Result<SegStep, Halt>
         requires { (reading_of self.old).phase ≡ phase.Between }
         ensures goes { GoesWith (reading_of self.old) (byte ∷ []) result (reading_of self.new) }
         ensures stays { Stays self.old self.new }
-        ensures whole { BehindWhole result (reading_of self.new) }
+        ensures whole { AfterWhole result (reading_of self.new) }
         ensures memory { HaltsNot result }
     {
         if byte != 0xff {
@@ -296,12 +295,12 @@ impl SegmentReader {
         Ok(SegStep::More)
     }
 
-    // A byte behind FF: a further fill byte, or a marker's code.
+    // A byte after FF: a further fill byte, or a marker's code.
     fn code_byte(&mut self, code: u8) -> Result<SegStep, Halt>
         requires { (reading_of self.old).phase ≡ phase.Fill }
         ensures goes { GoesWith (reading_of self.old) (code ∷ []) result (reading_of self.new) }
         ensures stays { Stays self.old self.new }
-        ensures whole { BehindWhole result (reading_of self.new) }
+        ensures whole { AfterWhole result (reading_of self.new) }
         ensures memory { HaltsNot result }
     {
         if code == 0xff {
@@ -331,7 +330,7 @@ impl SegmentReader {
         requires { (reading_of self.old).phase ≡ phase.Coded }
         ensures goes { GoesWith (reading_of self.old) (byte ∷ []) result (reading_of self.new) }
         ensures stays { Stays self.old self.new }
-        ensures whole { BehindWhole result (reading_of self.new) }
+        ensures whole { AfterWhole result (reading_of self.new) }
         ensures memory { HaltsNot result }
     {
         self.high = byte;
@@ -344,7 +343,7 @@ impl SegmentReader {
         requires { (reading_of self.old).phase ≡ phase.HalfLength }
         ensures goes { GoesWith (reading_of self.old) (byte ∷ []) result (reading_of self.new) }
         ensures stays { Stays self.old self.new }
-        ensures whole { BehindWhole result (reading_of self.new) }
+        ensures whole { AfterWhole result (reading_of self.new) }
         ensures memory { HaltsNot result }
     {
         let length = BigEndian::read_u16(&[self.high, byte]);
@@ -365,8 +364,8 @@ impl SegmentReader {
         requires { (reading_of self.old).phase ≡ phase.Contents }
         ensures goes { GoesWith (reading_of self.old) (byte ∷ []) result (reading_of self.new) }
         ensures stays { Stays self.old self.new }
-        ensures whole { BehindWhole result (reading_of self.new) }
-        ensures memory { (bytes : List ℕ) (before : List Segment) → StandsFor bytes before (reading_of self.old) → HasRoom self.old → HaltsNot result }
+        ensures whole { AfterWhole result (reading_of self.new) }
+        ensures memory { (bytes : List ℕ) (before : List Segment) → StandsForSegments bytes before (reading_of self.old) → HasRoom self.old → HaltsNot result }
     {
         match self.contents.push(byte) {
             Ok(()) => {
@@ -384,7 +383,7 @@ impl SegmentReader {
     fn whole(&mut self) -> Result<SegStep, Halt>
         ensures goes { GoesWhole (reading_of self.old) result (reading_of self.new) }
         ensures stays { Stays self.old self.new }
-        ensures whole { BehindWhole result (reading_of self.new) }
+        ensures whole { AfterWhole result (reading_of self.new) }
         ensures memory { HaltsNot result }
     {
         match self.seen.with(self.code, self.contents.as_slice()) {
@@ -397,6 +396,3 @@ impl SegmentReader {
         }
     }
 }
-
-#[cfg(test)]
-mod tests;

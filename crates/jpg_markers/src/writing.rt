@@ -1,8 +1,8 @@
-// What is written of a file before its scans (T.81, B.2.1).
+//! What is written of a file before its scans (T.81, B.2.1).
 ghost use Rattle.std.specs.Prelude.{◌≡◌, [], length, true};
 ghost use Rattle.arrayvec.specs.ArrayVec.{array_vec_len};
 ghost use Rattle.jpg_huff.specs.BitOut.{CanSend, Sends};
-ghost use Rattle.jpg_spec.specs.FileText.{front_text};
+ghost use Rattle.jpg_spec_write.specs.FileText.{front_text};
 ghost use Rattle.jpg_markers.specs.OutHead.{head_meaning};
 
 mod frame;
@@ -21,15 +21,13 @@ pub use quants::is_wide;
 use quants::{distinct_tables, write_tables};
 pub use segment::write_segment;
 
-/// Writes a file from SOI up to its frame header: SOI; for gray and YCbCr a JFIF header, for RGB,
-/// CMYK and YCCK an Adobe segment, for unknown colours neither; the kept markers that are copied,
-/// but for those in whose place the own header stands; a DQT segment for each distinct quantisation
-/// table; and the frame header of the frame's process. Equal tables share a slot, and slots count
-/// from 0 by first use. The JFIF header has version 1.01, or that of the input where its major
-/// number is 1, and the density of the input, or 1 by 1 without a unit (T.81, B.2.1 to B.2.4,
-/// JFIF 1.02). An output has to be created, no bits wait, and there is one table per component of
-/// the frame. It takes no memory. After WriteFault a first part of the bytes is written, and
-/// nothing waits.
+/// Writes a file from SOI up to its frame header: SOI; for gray and YCbCr a JFIF header, for RGB, CMYK and YCCK an
+/// Adobe segment, for unknown colours neither; the kept markers that are copied, except those that this header
+/// replaces; a DQT segment for each distinct quantisation table; and the frame header of the frame's process. Equal
+/// tables share a slot, and slots count from 0 by first use. The JFIF header has version 1.01, or that of the input if
+/// its major number is 1, and the density of the input, or 1 by 1 without a unit (T.81, B.2.1 to B.2.4, JFIF 1.02). An
+/// output must have been created, no bits wait, and there is one table per component of the frame. It takes no memory.
+/// After WriteFault a first part of the bytes is written, and nothing waits.
 pub fn file_head<D: Desk>(
     head: &OutHead,
     kept: &KeptList,
@@ -46,6 +44,3 @@ pub fn file_head<D: Desk>(
     write_tables(tables.as_slice(), out, desk)?;
     write_frame(head, tables.as_slice(), out, desk)
 }
-
-#[cfg(test)]
-mod tests;

@@ -1,36 +1,36 @@
--- What some bytes lead to, by where they begin.
+-- What reading some bytes leads to, by the state before them.
 use Rattle.std.proofs.Common.{◌≡◌, ℕ, ◌*◌, ◌≤◌, ◌==◌, Bool, true, false, cond, List, [], ◌∷◌, length, take, get_or, refl, sym, ap, ◌∙◌, subst, arith}
 use Rattle.std.specs.Prelude.{nat_le}
-use Rattle.jpg_spec.specs.Images.{is_side}
-use Rattle.jpg_spec.specs.PnmText.{is_number_due}
-use Rattle.jpg_spec.specs.BmpFile.{height, width, bmp_depth, used}
-use Rattle.jpg_spec.specs.ImageFaults.{Head, pnm, bmp, image_of, IsBodyFront}
-use Rattle.jpg_spec.specs.ImageSteps.{ImageState, in_number, in_body, whole, step, run}
-use Rattle.jpg_spec.specs.ImageReading.{StandsFor, InBody}
-use Rattle.jpg_spec.proofs.ImageBodyRuns.{ThreeNumbers, last_three, bmp_sides}
-use Rattle.jpg_spec.proofs.ImageStands.{stands}
+use Rattle.jpg_spec_image.specs.Images.{is_side}
+use Rattle.jpg_spec_image.specs.PnmText.{is_number_due}
+use Rattle.jpg_spec_image.specs.BmpFile.{height, width, bmp_depth, used}
+use Rattle.jpg_spec_image.specs.ImageFaults.{ImageHead, pnm, bmp, image_of, IsBodyFront}
+use Rattle.jpg_spec_image.specs.ImageSteps.{ImageState, in_number, in_body, whole, step, run}
+use Rattle.jpg_spec_image.specs.ImageReading.{StandsForImage, InBody}
+use Rattle.jpg_spec_image.proofs.ImageBodyRuns.{ThreeNumbers, last_three, bmp_sides}
+use Rattle.jpg_spec_image.proofs.ImageStands.{stands}
 use Rattle.jpg_spec.proofs.Common.{both, le_of}
 use Rattle.jpg_pnm_bmp.specs.Known.{list_of}
 use Rattle.jpg_pnm_bmp.specs.Reader.{standing, image_told, IsReached, Reaches, CanStretch, Stretches}
-use Rattle.jpg_pnm_bmp.specs.declared.numbers.Numbers.{Numbers}
-use Rattle.jpg_pnm_bmp.specs.declared.numbers.Numbers.TheVariants.{Nothing, Width, Sides, All}
-use Rattle.jpg_pnm_bmp.specs.declared.work.Answer.{Answer}
-use Rattle.jpg_pnm_bmp.specs.declared.work.Answer.TheVariants as answer
-use Rattle.jpg_pnm_bmp.specs.declared.work.Moved.{Moved}
-use Rattle.jpg_pnm_bmp.specs.declared.work.Work.{Work}
+use Rattle.jpg_pnm_bmp.specs.declared.read.numbers.Numbers.{Numbers}
+use Rattle.jpg_pnm_bmp.specs.declared.read.numbers.Numbers.TheVariants.{Nothing, Width, Sides, All}
+use Rattle.jpg_pnm_bmp.specs.declared.read.work.Answer.{Answer}
+use Rattle.jpg_pnm_bmp.specs.declared.read.work.Answer.TheVariants as answer
+use Rattle.jpg_pnm_bmp.specs.declared.read.work.Moved.{Moved}
+use Rattle.jpg_pnm_bmp.specs.declared.read.work.Work.{Work}
 use Rattle.jpg_pnm_bmp.proofs.Stretch.{first_run}
 
 pub one_led : (s : ImageState) (piece : List ℕ) (a : Answer) (w : Work) (m : Moved) → m ≡ record { used = 1; answer = a } → 1 ≤ length piece → Reaches (step s (get_or piece 0 0)) a w → Reaches (run s (take m.used piece)) m.answer w
 one_led s piece a w m e h r = subst (λ (x : Moved). Reaches (run s (take x.used piece)) x.answer w) (sym e) (subst (λ t. Reaches t a w) (sym (first_run s piece h)) r)
 
 pub due_reached : (format : ℕ) (numbers : List ℕ) (n : ℕ) → IsReached (in_number format numbers n) → is_number_due format numbers ≡ true
-due_reached format numbers n (bytes, e) = due bytes (subst (StandsFor bytes) e (stands bytes))
+due_reached format numbers n (bytes, e) = due bytes (subst (StandsForImage bytes) e (stands bytes))
   where
-    due : (bytes : List ℕ) → StandsFor bytes (in_number format numbers n) → is_number_due format numbers ≡ true
+    due : (bytes : List ℕ) → StandsForImage bytes (in_number format numbers n) → is_number_due format numbers ≡ true
     due bytes (m, r, c) = r.before.due
 
-pub body_reached : (head : Head) (body : List ℕ) → IsReached (in_body head body) → (bytes : List ℕ) × InBody bytes head body
-body_reached head body (bytes, e) = (bytes, subst (StandsFor bytes) e (stands bytes))
+pub body_reached : (head : ImageHead) (body : List ℕ) → IsReached (in_body head body) → (bytes : List ℕ) × InBody bytes head body
+body_reached head body (bytes, e) = (bytes, subst (StandsForImage bytes) e (stands bytes))
 
 side_some : (n : ℕ) → is_side n ≡ true → 1 ≤ n
 side_some n e = le_of 1 n (both (nat_le 1 n) (nat_le n 65500) e).0
@@ -44,7 +44,7 @@ used_some head w = by (bmp_depth head == 8)
 
 -- A PART OF A BODY
 
-pub stretch_led : (old : Work) (head : Head) (s : ImageState) (a : Answer) (w : Work) → ((x : List ℕ) → standing (record old { samples = x }) ≡ in_body head x) → ((x : List ℕ) → image_told (record old { samples = x }) ≡ image_of head x)
+pub stretch_led : (old : Work) (head : ImageHead) (s : ImageState) (a : Answer) (w : Work) → ((x : List ℕ) → standing (record old { samples = x }) ≡ in_body head x) → ((x : List ℕ) → image_told (record old { samples = x }) ≡ image_of head x)
     → Stretches head old s a w → Reaches s a w
 stretch_led old head s answer.More w g i (e, f) = ap standing f ∙ g w.samples ∙ sym e
 stretch_led old head s answer.Whole w g i (e, f) = e ∙ ap whole (sym (ap image_told f ∙ i w.samples))

@@ -1,10 +1,10 @@
--- The decimal digits of a number, in front of a text, from the last one on.
+-- The decimal digits of a number, before a text, from the last one on.
 use Rattle.std.proofs.Common.{◌≡◌, ℕ, ◌+◌, ◌/◌, ◌%◌, ◌^◌, ◌<◌, ◌≤◌, List, [], ◌∷◌, ◌++◌, length, sym, ap, ◌∙◌, arith, append_assoc}
 use Rattle.std.proofs.lemmas.List.{length-append}
 use Rattle.std.proofs.lemmas.Fmt.{decimal_digit, decimal_step, decimal_nonempty, length-decimal-le}
 use Rattle.std.specs.Fmt.{decimal}
 
--- a digit more
+-- one more digit
 pub digit_more : (n : ℕ) (text due : List ℕ) → 10 ≤ n → n < 2 ^ 64 → decimal n ++ text ≡ due → decimal (n / 10) ++ (48 + n % 10) ∷ text ≡ due
 digit_more n text due ten fits e =
     sym (append_assoc (decimal (n / 10)) ((48 + n % 10) ∷ []) text) ∙ ap (λ d. d ++ text) (sym (decimal_step n ten fits)) ∙ e

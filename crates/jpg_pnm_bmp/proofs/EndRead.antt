@@ -1,17 +1,17 @@
--- What is told where the bytes end.
+-- What a reader of images answers where the bytes end.
 use Rattle.std.proofs.Common.{◌≡◌, ℕ, ◌<◌, List, length, sym, subst, Ok, Err}
-use Rattle.jpg_spec.specs.Images.{Image}
-use Rattle.jpg_spec.specs.ImageFaults.{IsImage, IsImageFault, IsOpenImage}
-use Rattle.jpg_spec.specs.ImageSteps.{at_start, run, state_end}
-use Rattle.jpg_spec.proofs.ImageJudged.{IsLive, end_image, end_fault, live_shows_nothing}
+use Rattle.jpg_spec_image.specs.Images.{Image}
+use Rattle.jpg_spec_image.specs.ImageFaults.{IsImage, IsImageFault, IsOpenImage}
+use Rattle.jpg_spec_image.specs.ImageSteps.{at_start, run, state_end}
+use Rattle.jpg_spec_image.proofs.ImageJudged.{IsLive, end_image, end_fault, live_shows_nothing}
 use Rattle.jpg_spec.specs.declared.fault.Fault.{Fault}
 use Rattle.jpg_spec.specs.declared.frame.Limits.{Limits}
 use Rattle.jpg_pnm_bmp.specs.Reader.{standing, standing_of, IsReached}
-use Rattle.jpg_pnm_bmp.specs.PixelsRead.{HasFed}
-use Rattle.jpg_pnm_bmp.specs.declared.pixels.PixelReader.{PixelReader}
-use Rattle.jpg_pnm_bmp.specs.declared.work.Stage.{Stage}
-use Rattle.jpg_pnm_bmp.specs.declared.work.Stage.TheVariants as stage
-use Rattle.jpg_pnm_bmp.specs.declared.work.Work.{Work}
+use Rattle.jpg_pnm_bmp.specs.PixelsRead.{HasFedImage}
+use Rattle.jpg_pnm_bmp.specs.declared.read.pixels.PixelReader.{PixelReader}
+use Rattle.jpg_pnm_bmp.specs.declared.read.work.Stage.{Stage}
+use Rattle.jpg_pnm_bmp.specs.declared.read.work.Stage.TheVariants as stage
+use Rattle.jpg_pnm_bmp.specs.declared.read.work.Work.{Work}
 
 standing_live : (st : Stage) (w : Work) → IsLive (standing_of st w)
 standing_live stage.Start w = tt
@@ -23,7 +23,7 @@ standing_live (stage.BmpFront passed) w = tt
 standing_live stage.PnmBody w = tt
 standing_live stage.BmpBody w = tt
 
-pub fed_open : (bytes : List ℕ) (r : PixelReader) → HasFed bytes r → IsOpenImage bytes
+pub fed_open : (bytes : List ℕ) (r : PixelReader) → HasFedImage bytes r → IsOpenImage bytes
 fed_open bytes r h = live_shows_nothing bytes (subst IsLive h.3.stands (standing_live r.work.stage r.work))
 
 pub reached_at : (w : Work) (bytes : List ℕ) → standing w ≡ run at_start bytes → IsReached (standing w)

@@ -3,7 +3,7 @@ use Rattle.std.proofs.Common.{◌≡◌, ℕ, ◌+◌, ◌*◌, ◌≤◌, ◌�
 use Rattle.std.proofs.Math.Nat.{mul-add, mul_left_comm, mul_comm}
 use Rattle.std.proofs.lemmas.Nat.{mul-le}
 
--- w pixels a row of at most three bytes, and at most three bytes behind each row
+-- w pixels a row of at most three bytes, and at most three bytes after each row
 pub rows_fit : (w h long zeros : ℕ) → w * h ≤ 1073741824 → h ≤ 65500 → long ≤ 3 * w → zeros ≤ 3 → h * (long + zeros) ≤ 3221421972
 rows_fit w h long zeros pixels high line few =
     let most : h * (long + zeros) ≤ h * (3 * w + 3) = mul-le h (long + zeros) h (3 * w + 3) (omega arith) (omega (arith, line, few)) in

@@ -1,4 +1,4 @@
--- Rows of one length that stand one behind another.
+-- Rows of one length, stored one after another.
 use Rattle.std.proofs.Common.{◌≡◌, ℕ, zero, suc, ◌+◌, ◌-◌, ◌*◌, ◌<◌, ◌≤◌, List, [], ◌∷◌, ◌++◌, length, take, drop, get_or, refl, sym, add-one, ap, ◌∙◌, arith}
 use Rattle.std.proofs.Math.Nat.{add-mul, zero-mul}
 use Rattle.std.proofs.lemmas.List.{take_all, length-take-le, take-append-le, drop-append-le, drop-drop, length-drop}
@@ -11,7 +11,7 @@ length_rows (suc n) long bytes = ap suc (length_rows n long (drop long bytes))
 suc_times : (n long : ℕ) → suc n * long ≡ n * long + long
 suc_times n long = ap (λ m. m * long) (sym (add-one n)) ∙ add-mul n 1 long ∙ (let e : n * long + 1 * long ≡ n * long + long = omega arith in e)
 
--- one row more
+-- one more row
 pub rows_more : (n long : ℕ) (bytes row : List ℕ) → length bytes ≡ n * long → length row ≡ long → rows_of (suc n) long (bytes ++ row) ≡ rows_of n long bytes ++ row ∷ []
 rows_more zero long [] row whole is = ap (λ r. r ∷ []) (take_all long row (omega (arith, is)))
 rows_more zero long (b ∷ bytes) row whole is = absurd (let e : length (b ∷ bytes) ≡ 0 = whole ∙ zero-mul long in omega (arith, e))

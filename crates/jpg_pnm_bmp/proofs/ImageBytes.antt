@@ -9,13 +9,13 @@ use Rattle.std.proofs.lemmas.List.Elements.{All-nil, All-cons, All-head, All-tai
 use Rattle.std.proofs.lemmas.List.Concat.{flat_map-cons}
 use Rattle.std.proofs.lemmas.Nat.{div_below}
 use Rattle.jpg_spec.specs.Lists.{below}
-use Rattle.jpg_spec.specs.Images.{Image, sample_count, is_wrong, are_right}
-use Rattle.jpg_spec.specs.ImageText.{turned_round}
-use Rattle.jpg_spec.specs.PnmText.{pnm_info, greatest_sample, number_fault, are_right_numbers, scaled_sample, BehindLast}
-use Rattle.jpg_spec.specs.BmpFile.{bmp_depth, colour, colours, bmp_line, bmp_body_samples, used, line, height}
-use Rattle.jpg_spec.specs.ImageFaults.{pnm, bmp, one_line, IsPlainWhole, IsBodyWhole, IsImage}
+use Rattle.jpg_spec_image.specs.Images.{Image, sample_count, is_wrong, are_right}
+use Rattle.jpg_spec_image.specs.ImageText.{turned_round}
+use Rattle.jpg_spec_image.specs.PnmText.{pnm_info, greatest_sample, number_fault, are_right_numbers, scaled_sample, AfterLast}
+use Rattle.jpg_spec_image.specs.BmpFile.{bmp_depth, colour, colours, bmp_line, bmp_body_samples, used, line, height}
+use Rattle.jpg_spec_image.specs.ImageFaults.{pnm, bmp, one_line, IsPlainWhole, IsBodyWhole, IsImage}
 use Rattle.jpg_spec.proofs.Common.{both, negated, lt_yes, not_lt_of}
-use Rattle.jpg_spec.proofs.ImageTextRuns.{first_right}
+use Rattle.jpg_spec_image.proofs.ImageTextRuns.{first_right}
 use Rattle.jpg_spec.specs.declared.fault.Fault.TheVariants.{ImageValue}
 use Rattle.jpg_spec.specs.declared.frame.Limits.{Limits}
 use Rattle.jpg_pnm_bmp.specs.Made.{AreBytes}
@@ -56,7 +56,7 @@ up_to_right format before (n ∷ numbers) u e =
     let r = first_right format before n numbers e in
     subst AreUpTo (append_assoc before (n ∷ []) numbers) (up_to_right format (before ++ n ∷ []) numbers (up_to_more before n u r.right) r.others)
 
-up_to_last : (bytes : List ℕ) (format : ℕ) (numbers after : List ℕ) → BehindLast bytes format numbers after → AreUpTo numbers
+up_to_last : (bytes : List ℕ) (format : ℕ) (numbers after : List ℕ) → AfterLast bytes format numbers after → AreUpTo numbers
 up_to_last bytes format numbers after l =
     subst AreUpTo (sym l.all) (up_to_more l.before l.last (up_to_right format [] l.before (All-nil (λ s. s ≤ 0)) l.read.before.right) l.right)
 

@@ -3,25 +3,25 @@ use Rattle.std.proofs.Common.{◌≡◌, ℕ, ◌<◌, ◌≤◌, ◌+◌, List,
 use Rattle.std.proofs.lemmas.List.{length-append}
 use Rattle.std.proofs.lemmas.List.Elements.{All-nil, All-append, All-from_get_or}
 use Rattle.jpg_base.specs.declared.stop.Stop.{Stop}
-use Rattle.jpg_spec.specs.Images.{Image}
-use Rattle.jpg_spec.specs.ImageSteps.{at_start, run}
-use Rattle.jpg_spec.specs.ImageFaults.{IsImage}
+use Rattle.jpg_spec_image.specs.Images.{Image}
+use Rattle.jpg_spec_image.specs.ImageSteps.{at_start, run}
+use Rattle.jpg_spec_image.specs.ImageFaults.{IsImage}
 use Rattle.jpg_spec.specs.declared.frame.Limits.{Limits}
-use Rattle.jpg_spec.specs.declared.image.ImageInfo.{ImageInfo}
+use Rattle.jpg_spec_image.specs.declared.image.ImageInfo.{ImageInfo}
 use Rattle.jpg_pnm_bmp.specs.Made.{AreBytes, Makes}
 use Rattle.jpg_pnm_bmp.specs.Reader.{standing}
-use Rattle.jpg_pnm_bmp.specs.Pieces.{HasRead, AfterRead}
-use Rattle.jpg_pnm_bmp.specs.PixelsRead.{image_by_parts, image_read, HasFed, AfterFeed}
-use Rattle.jpg_pnm_bmp.specs.declared.piece.Fed2.{Fed2}
-use Rattle.jpg_pnm_bmp.specs.declared.piece.Fed2.TheVariants as fed
-use Rattle.jpg_pnm_bmp.specs.declared.pixels.PixelReader.{PixelReader}
-use Rattle.jpg_pnm_bmp.specs.declared.work.Work.{Work}
+use Rattle.jpg_pnm_bmp.specs.Pieces.{HasRead, AfterImageRead}
+use Rattle.jpg_pnm_bmp.specs.PixelsRead.{image_by_parts, image_read, HasFedImage, AfterFeed}
+use Rattle.jpg_pnm_bmp.specs.declared.read.piece.Fed2.{Fed2}
+use Rattle.jpg_pnm_bmp.specs.declared.read.piece.Fed2.TheVariants as fed
+use Rattle.jpg_pnm_bmp.specs.declared.read.pixels.PixelReader.{PixelReader}
+use Rattle.jpg_pnm_bmp.specs.declared.read.work.Work.{Work}
 use Rattle.jpg_pnm_bmp.proofs.ImageBytes.{image_bytes}
 
 made_is : (image : Image) (info : ImageInfo) (made : List ℕ) → Makes image (Ok info) made → AreBytes image.samples → image ≡ image_by_parts info made
 made_is image info made (told, samples) bytes = sym (ap (λ i. image_by_parts i made) told ∙ ap (image_by_parts image.info) (samples bytes))
 
--- limits of so many bytes
+-- limits of n bytes
 abbrev up_to : ℕ → Limits
 up_to n = record { side = 0; blocks = 0; kept = 0; input = n }
 
@@ -48,8 +48,8 @@ none_fed w e = record { stands = e; taken_is = refl }
 pub bytes_more : (bytes piece : List ℕ) → AreBytes bytes → ((k : ℕ) → k < length piece → get_or piece k 0 < 256) → AreBytes (bytes ++ piece)
 bytes_more bytes piece all more = All-append (λ b. b < 256) bytes piece all (All-from_get_or (λ b. b < 256) piece 0 more)
 
-pub fed_more : (old next : PixelReader) (bytes piece : List ℕ) (answer : Result Fed2 Stop) → answer ≡ Ok fed.More → HasFed bytes old → AreBytes (bytes ++ piece) → next.stop ≡ old.stop → next.done ≡ old.done → next.taken ≡ old.taken + length piece
-    → AfterRead bytes piece answer next.work (image_read next) → AfterFeed bytes piece answer next
+pub fed_more : (old next : PixelReader) (bytes piece : List ℕ) (answer : Result Fed2 Stop) → answer ≡ Ok fed.More → HasFedImage bytes old → AreBytes (bytes ++ piece) → next.stop ≡ old.stop → next.done ≡ old.done → next.taken ≡ old.taken + length piece
+    → AfterImageRead bytes piece answer next.work (image_read next) → AfterFeed bytes piece answer next
 fed_more old next bytes piece answer e h all stop done taken after =
     subst (λ x. AfterFeed bytes piece x next) (sym e)
-    (stop ∙ h.0, done ∙ h.1, all, record { stands = subst (λ x. AfterRead bytes piece x next.work (image_read next)) e after; taken_is = taken ∙ ap (λ n. n + length piece) h.3.taken_is ∙ sym (length-append bytes piece) })
+    (stop ∙ h.0, done ∙ h.1, all, record { stands = subst (λ x. AfterImageRead bytes piece x next.work (image_read next)) e after; taken_is = taken ∙ ap (λ n. n + length piece) h.3.taken_is ∙ sym (length-append bytes piece) })

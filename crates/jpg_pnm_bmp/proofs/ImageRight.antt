@@ -6,14 +6,14 @@ use Rattle.std.proofs.lemmas.List.Elements.{All-take}
 use Rattle.std.proofs.lemmas.List.Concat.{flat_map-cons}
 use Rattle.std.proofs.lemmas.Nat.{mul-le, rows}
 use Rattle.jpg_spec.specs.Lists.{below}
-use Rattle.jpg_spec.specs.Images.{Image, is_side, are_few_pixels, sample_count}
-use Rattle.jpg_spec.specs.ImageText.{turned_round}
-use Rattle.jpg_spec.specs.PnmText.{is_plain, pnm_info, is_number_due, number_fault, are_right_numbers, BehindLast, greatest_sample, scaled_sample}
-use Rattle.jpg_spec.specs.BmpFile.{bmp_depth, colour, colours, bmp_line, bmp_body_samples, used, line, height, width}
-use Rattle.jpg_spec.specs.ImageFaults.{pnm, bmp, image_of, IsPlainWhole, IsBodyWhole, IsImage}
+use Rattle.jpg_spec_image.specs.Images.{Image, is_side, are_few_pixels, sample_count}
+use Rattle.jpg_spec_image.specs.ImageText.{turned_round}
+use Rattle.jpg_spec_image.specs.PnmText.{is_plain, pnm_info, is_number_due, number_fault, are_right_numbers, AfterLast, greatest_sample, scaled_sample}
+use Rattle.jpg_spec_image.specs.BmpFile.{bmp_depth, colour, colours, bmp_line, bmp_body_samples, used, line, height, width}
+use Rattle.jpg_spec_image.specs.ImageFaults.{pnm, bmp, image_of, IsPlainWhole, IsBodyWhole, IsImage}
 use Rattle.jpg_spec.proofs.Common.{both, le_of, lt_of, not_lt_of, length_below}
-use Rattle.jpg_spec.proofs.ImageTextRuns.{first_right}
-use Rattle.jpg_spec.proofs.ImageBodyRuns.{last_three, bmp_sides}
+use Rattle.jpg_spec_image.proofs.ImageTextRuns.{first_right}
+use Rattle.jpg_spec_image.proofs.ImageBodyRuns.{last_three, bmp_sides}
 use Rattle.jpg_spec.specs.declared.fault.Fault.TheVariants.{ImageHeader}
 use Rattle.jpg_spec.specs.declared.frame.Limits.{Limits}
 use Rattle.jpg_pnm_bmp.specs.Made.{AreBytes, IsRightImage}
@@ -62,7 +62,7 @@ sides_right format before (n ∷ numbers) s e =
     let r = first_right format before n numbers e in
     subst SidesSoFar (append_assoc before (n ∷ []) numbers) (sides_right format (before ++ n ∷ []) numbers (sides_more before n s r.right) r.others)
 
-sides_last : (bytes : List ℕ) (format : ℕ) (numbers after : List ℕ) → BehindLast bytes format numbers after → SidesSoFar numbers
+sides_last : (bytes : List ℕ) (format : ℕ) (numbers after : List ℕ) → AfterLast bytes format numbers after → SidesSoFar numbers
 sides_last bytes format numbers after l =
     subst SidesSoFar (sym l.all) (sides_more l.before l.last (sides_right format [] l.before tt l.read.before.right) l.right)
 

@@ -1,4 +1,4 @@
--- Samples of an image, made one after another from those of its file.
+-- Samples of an image, made one by one from those of its file.
 use Rattle.std.proofs.Common.{◌≡◌, ℕ, suc, ◌+◌, ◌-◌, ◌/◌, ◌<◌, ◌≤◌, List, [], ◌∷◌, ◌++◌, length, take, drop, map, slice_index, flat_map, refl, sym, ap, ◌∙◌, subst, arith, append_assoc, Ok}
 use Rattle.std.proofs.Math.Nat.{mul_comm}
 use Rattle.std.proofs.lemmas.Nat.{div-mul-add}
@@ -6,17 +6,17 @@ use Rattle.std.proofs.lemmas.List.{get_or-map, length-map, map-append, take_more
 use Rattle.std.proofs.lemmas.List.Elements.{All-get_or}
 use Rattle.std.proofs.lemmas.Grind.{flat_map-append}
 use Rattle.jpg_spec.specs.Lists.{below}
-use Rattle.jpg_spec.specs.ImageText.{turned_round}
-use Rattle.jpg_spec.specs.PnmText.{pnm_info, scaled_sample}
-use Rattle.jpg_spec.specs.ImageFaults.{pnm, image_of}
-use Rattle.jpg_spec.specs.declared.image.ImageInfo.{ImageInfo}
+use Rattle.jpg_spec_image.specs.ImageText.{turned_round}
+use Rattle.jpg_spec_image.specs.PnmText.{pnm_info, scaled_sample}
+use Rattle.jpg_spec_image.specs.ImageFaults.{pnm, image_of}
+use Rattle.jpg_spec_image.specs.declared.image.ImageInfo.{ImageInfo}
 use Rattle.jpg_pnm_bmp.specs.Known.{list_of}
 use Rattle.jpg_pnm_bmp.specs.Made.{AreBytes, Makes}
-use Rattle.jpg_pnm_bmp.specs.declared.numbers.Numbers.{Numbers}
-use Rattle.jpg_pnm_bmp.specs.declared.numbers.Numbers.TheVariants.{All}
+use Rattle.jpg_pnm_bmp.specs.declared.read.numbers.Numbers.{Numbers}
+use Rattle.jpg_pnm_bmp.specs.declared.read.numbers.Numbers.TheVariants.{All}
 use Rattle.jpg_pnm_bmp.proofs.TurnedRound.{turned_few}
 
--- a sample of at most 255 stays
+-- a sample of at most 255 doesn't change
 full : (s : ℕ) → scaled_sample 255 s ≡ s
 full s = ap (λ n. (n + 127) / 255) (mul_comm 255 s) ∙ div-mul-add s 255 127 (omega arith)
 
@@ -37,7 +37,7 @@ scaled_more most samples old made new i got lt had is added bytes =
     ∙ append_assoc old (map f (take i samples)) (f (slice_index samples i) ∷ [])
     ∙ ap (λ l. old ++ l) (sym (map-append f (take i samples) (slice_index samples i ∷ [])) ∙ ap (map f) (sym (take_more samples i 0 lt)))
 
--- one pixel turned round
+-- one pixel reversed
 turned_here : (xs : List ℕ) → 3 ≤ length xs → turned_round xs ≡ slice_index xs 2 ∷ slice_index xs 1 ∷ slice_index xs 0 ∷ turned_round (drop 3 xs)
 turned_here [] h = absurd (omega (arith, h))
 turned_here (a ∷ []) h = absurd (omega (arith, h))
@@ -50,7 +50,7 @@ turned_rest row made due at few e =
     let d = length-drop at row in
     ap (λ l. made ++ l) (take_all (length row - at) (drop at row) (omega (arith, d)) ∙ sym (turned_few (drop at row) (omega (arith, d, few)))) ∙ e
 
--- one row more
+-- one more row
 pub rows_more : (row : ℕ → List ℕ) (old made new : List ℕ) (y : ℕ) → made ≡ old ++ flat_map row (below y) → new ≡ made ++ row y → new ≡ old ++ flat_map row (below (y + 1))
 rows_more row old made new y had added =
     added ∙ ap (λ (l : List ℕ). l ++ row y) had ∙ append_assoc old (flat_map row (below y)) (row y)

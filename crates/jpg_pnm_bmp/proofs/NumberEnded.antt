@@ -1,16 +1,16 @@
--- What stands behind the last number of a PNM text.
+-- What follows the last number of a PNM text.
 use Rattle.std.proofs.Common.{◌≡◌, ℕ, ◌+◌, ◌==◌, Bool, true, false, cond, List, [], ◌∷◌, ◌++◌, length, refl, sym, ap, ◌∙◌, arith}
 use Rattle.std.specs.Prelude.{nat_lt}
 use Rattle.jpg_spec.proofs.Common.{lt_yes, lt_no}
-use Rattle.jpg_spec.specs.Images.{sample_count}
-use Rattle.jpg_spec.specs.PnmText.{is_plain, pnm_info, is_number_due}
-use Rattle.jpg_spec.specs.ImageFaults.{pnm, image_of}
-use Rattle.jpg_spec.specs.ImageSteps.{in_gap, in_body, whole, plain_image, behind_number}
+use Rattle.jpg_spec_image.specs.Images.{sample_count}
+use Rattle.jpg_spec_image.specs.PnmText.{is_plain, pnm_info, is_number_due}
+use Rattle.jpg_spec_image.specs.ImageFaults.{pnm, image_of}
+use Rattle.jpg_spec_image.specs.ImageSteps.{in_gap, in_body, whole, plain_image, after_number}
 use Rattle.jpg_pnm_bmp.specs.Known.{list_of}
 use Rattle.jpg_pnm_bmp.specs.Reader.{numbers_list, AddsNumber}
-use Rattle.jpg_pnm_bmp.specs.declared.numbers.Numbers.{Numbers}
-use Rattle.jpg_pnm_bmp.specs.declared.numbers.Numbers.TheVariants.{Nothing, Width, Sides, All}
-use Rattle.jpg_pnm_bmp.specs.declared.work.Work.{Work}
+use Rattle.jpg_pnm_bmp.specs.declared.read.numbers.Numbers.{Numbers}
+use Rattle.jpg_pnm_bmp.specs.declared.read.numbers.Numbers.TheVariants.{Nothing, Width, Sides, All}
+use Rattle.jpg_pnm_bmp.specs.declared.read.work.Work.{Work}
 
 clash : (v : Bool) → v ≡ true → v ≡ false → ⊥
 clash v a b = cc
@@ -60,16 +60,16 @@ raw_ended format (All x y m) samples n w p before d a e =
     let far : is_number_due format (x ∷ y ∷ m ∷ samples) ≡ false = ap (λ (v : Bool). nat_lt (length (x ∷ y ∷ m ∷ samples)) (cond v (3 + sample_count (pnm_info format (x ∷ y ∷ m ∷ samples))) 3)) p ∙ lt_no (length (x ∷ y ∷ m ∷ samples)) 3 (omega arith) in
     absurd (clash (is_number_due format (x ∷ y ∷ m ∷ samples)) before far)
 
--- by whether a further one is due, and by the format
-pub behind_due : (format : ℕ) (numbers : List ℕ) (b : ℕ) → is_number_due format numbers ≡ true → behind_number format numbers b ≡ in_gap format numbers true (b == 35)
-behind_due format numbers b d = ap (λ (v : Bool). cond v (in_gap format numbers true (b == 35)) (cond (is_plain format) (whole (plain_image format numbers)) (in_body (pnm format numbers) []))) d
+-- by whether a further one is expected, and by the format
+pub after_due : (format : ℕ) (numbers : List ℕ) (b : ℕ) → is_number_due format numbers ≡ true → after_number format numbers b ≡ in_gap format numbers true (b == 35)
+after_due format numbers b d = ap (λ (v : Bool). cond v (in_gap format numbers true (b == 35)) (cond (is_plain format) (whole (plain_image format numbers)) (in_body (pnm format numbers) []))) d
 
-pub behind_plain : (format : ℕ) (numbers : List ℕ) (b : ℕ) → is_number_due format numbers ≡ false → is_plain format ≡ true → behind_number format numbers b ≡ whole (plain_image format numbers)
-behind_plain format numbers b d p =
+pub after_plain : (format : ℕ) (numbers : List ℕ) (b : ℕ) → is_number_due format numbers ≡ false → is_plain format ≡ true → after_number format numbers b ≡ whole (plain_image format numbers)
+after_plain format numbers b d p =
     ap (λ (v : Bool). cond v (in_gap format numbers true (b == 35)) (cond (is_plain format) (whole (plain_image format numbers)) (in_body (pnm format numbers) []))) d
     ∙ ap (λ (v : Bool). cond v (whole (plain_image format numbers)) (in_body (pnm format numbers) [])) p
 
-pub behind_raw : (format : ℕ) (numbers : List ℕ) (b : ℕ) → is_number_due format numbers ≡ false → is_plain format ≡ false → behind_number format numbers b ≡ in_body (pnm format numbers) []
-behind_raw format numbers b d p =
+pub after_raw : (format : ℕ) (numbers : List ℕ) (b : ℕ) → is_number_due format numbers ≡ false → is_plain format ≡ false → after_number format numbers b ≡ in_body (pnm format numbers) []
+after_raw format numbers b d p =
     ap (λ (v : Bool). cond v (in_gap format numbers true (b == 35)) (cond (is_plain format) (whole (plain_image format numbers)) (in_body (pnm format numbers) []))) d
     ∙ ap (λ (v : Bool). cond v (whole (plain_image format numbers)) (in_body (pnm format numbers) [])) p

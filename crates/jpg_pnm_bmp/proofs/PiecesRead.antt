@@ -2,15 +2,15 @@
 use Rattle.std.proofs.Common.{◌≡◌, ℕ, ◌+◌, ◌≤◌, List, ◌++◌, length, take, drop, sym, ap, ◌∙◌, subst, arith}
 use Rattle.std.proofs.lemmas.List.{append_assoc, append-nil, length-append, take-append-le, take_all}
 use Rattle.std.proofs.Math.Seq.{take-add, take-append-add}
-use Rattle.jpg_spec.specs.Images.{Image}
-use Rattle.jpg_spec.specs.ImageFaults.{IsImage, IsImageFault}
-use Rattle.jpg_spec.specs.ImageSteps.{ImageState, at_start, whole, failed, run}
-use Rattle.jpg_spec.proofs.ImageRuns.{run_join}
-use Rattle.jpg_spec.proofs.ImageJudged.{image_at, fault_at}
+use Rattle.jpg_spec_image.specs.Images.{Image}
+use Rattle.jpg_spec_image.specs.ImageFaults.{IsImage, IsImageFault}
+use Rattle.jpg_spec_image.specs.ImageSteps.{ImageState, at_start, whole, failed, run}
+use Rattle.jpg_spec_image.proofs.ImageRuns.{run_join}
+use Rattle.jpg_spec_image.proofs.ImageJudged.{image_at, fault_at}
 use Rattle.jpg_spec.specs.declared.fault.Fault.{Fault}
 use Rattle.jpg_spec.specs.declared.frame.Limits.{Limits}
 
--- a part more
+-- one more part
 pub part_on : (bytes piece : List ℕ) (at used : ℕ) (s : ImageState) → s ≡ run at_start (bytes ++ take at piece) → run s (take used (drop at piece)) ≡ run at_start (bytes ++ take (at + used) piece)
 part_on bytes piece at used s e =
     ap (λ t. run t (take used (drop at piece))) e

@@ -2,20 +2,20 @@
 use Rattle.std.proofs.Common.{◌≡◌, ℕ, zero, suc, ◌-◌, ◌*◌, ◌<◌, ◌≤◌, List, [], ◌∷◌, ◌++◌, length, get_or, replicate, sym, ap, ◌∙◌, subst, arith, Option}
 use Rattle.std.specs.Prelude.{nat_lt, false, map, flat_map, reverse}
 use Rattle.std.proofs.lemmas.List.{length-append}
-use Rattle.jpg_spec.specs.ImageText.{bmp_header, bmp_row, bmp_samples, end_text, padding, pnm_header, rest, row_bytes, row_piece, turned_round}
-use Rattle.jpg_spec.specs.declared.image.EndKind.{EndKind}
-use Rattle.jpg_spec.specs.declared.image.EndKind.TheVariants.{Pnm, Bmp}
-use Rattle.jpg_spec.specs.declared.image.ImageKind.{ImageKind}
-use Rattle.jpg_spec.specs.declared.image.ImageKind.TheVariants.{Gray, Rgb}
-use Rattle.jpg_spec.specs.declared.image.ImageInfo.{ImageInfo}
-use Rattle.jpg_pnm_bmp.specs.EndState.{next_part, told}
+use Rattle.jpg_spec_image.specs.ImageText.{bmp_header, bmp_row, bmp_samples, end_text, padding, pnm_header, rest, row_bytes, row_piece, turned_round}
+use Rattle.jpg_spec_image.specs.declared.image.EndKind.{EndKind}
+use Rattle.jpg_spec_image.specs.declared.image.EndKind.TheVariants.{Pnm, Bmp}
+use Rattle.jpg_spec_image.specs.declared.image.ImageKind.{ImageKind}
+use Rattle.jpg_spec_image.specs.declared.image.ImageKind.TheVariants.{Gray, Rgb}
+use Rattle.jpg_spec_image.specs.declared.image.ImageInfo.{ImageInfo}
+use Rattle.jpg_pnm_bmp.specs.EndState.{next_part, info_given}
 use Rattle.jpg_pnm_bmp.specs.Ends.{rows_of}
 use Rattle.jpg_pnm_bmp.proofs.BmpParts.{not_done, row_part, state_of}
 use Rattle.jpg_pnm_bmp.proofs.HeldRows.{row_at, row_long}
 
--- behind some bytes
-more_behind : (xs ys : List ℕ) → 0 < length xs → 0 < length (xs ++ ys)
-more_behind xs ys h = omega (arith, h, length-append xs ys)
+-- after some bytes
+more_after : (xs ys : List ℕ) → 0 < length xs → 0 < length (xs ++ ys)
+more_after xs ys h = omega (arith, h, length-append xs ys)
 
 -- HEADERS
 
@@ -34,11 +34,11 @@ bmp_header_some info = omega arith
 pub text_some : (kind : EndKind) (info : ImageInfo) (rows : List (List ℕ)) → 0 < length (end_text kind info rows)
 text_some Pnm info rows =
     let pieces = flat_map (row_piece Pnm info) rows in
-    more_behind (pnm_header info ++ pieces) [] (more_behind (pnm_header info) pieces (pnm_header_some info))
+    more_after (pnm_header info ++ pieces) [] (more_after (pnm_header info) pieces (pnm_header_some info))
 text_some Bmp info rows =
     let pieces = flat_map (row_piece Bmp info) rows in
     let others = flat_map (λ part. part) (map (bmp_row info) (reverse rows)) in
-    omega (arith, length-append pieces (bmp_header info ++ others), more_behind (bmp_header info) others (bmp_header_some info))
+    omega (arith, length-append pieces (bmp_header info ++ others), more_after (bmp_header info) others (bmp_header_some info))
 
 -- ROWS
 
@@ -60,7 +60,7 @@ samples_some Gray row h = h
 samples_some Rgb row h = turned_some row h
 
 bmp_row_some : (info : ImageInfo) (row : List ℕ) → 1 ≤ length row → 0 < length (bmp_row info row)
-bmp_row_some info row h = more_behind (bmp_samples info.kind row) (replicate (padding (length row)) 0) (samples_some info.kind row h)
+bmp_row_some info row h = more_after (bmp_samples info.kind row) (replicate (padding (length row)) 0) (samples_some info.kind row h)
 
 -- THE PARTS OF A BMP FILE
 
@@ -74,9 +74,9 @@ row_due info taken part bytes h whole some =
     subst (λ (r : List ℕ). 0 < length r) (sym (row_part info taken part bytes h))
     (bmp_row_some info _ (omega (arith, sym (ap length row_is) ∙ at, some)))
 
-pub part_some : (of : Option ImageInfo) (taken parts : ℕ) (bytes : List ℕ) → length bytes ≡ taken * row_bytes (told of) → taken ≤ (told of).height → (told of).height ≤ 65500 * (told of).width → nat_lt taken parts ≡ false
+pub part_some : (of : Option ImageInfo) (taken parts : ℕ) (bytes : List ℕ) → length bytes ≡ taken * row_bytes (info_given of) → taken ≤ (info_given of).height → (info_given of).height ≤ 65500 * (info_given of).width → nat_lt taken parts ≡ false
     → 0 < length (next_part (state_of of taken parts bytes))
-part_some of taken zero bytes whole few wide before = bmp_header_some (told of)
+part_some of taken zero bytes whole few wide before = bmp_header_some (info_given of)
 part_some of taken (suc part) bytes whole few wide before =
     let most : suc part ≤ taken = not_done taken (suc part) before in
-    row_due (told of) taken part bytes (omega (arith, most)) whole (row_some (told of) (omega (arith, most, few)) wide)
+    row_due (info_given of) taken part bytes (omega (arith, most)) whole (row_some (info_given of) (omega (arith, most, few)) wide)

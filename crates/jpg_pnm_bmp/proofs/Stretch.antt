@@ -6,16 +6,16 @@ use Rattle.std.proofs.lemmas.Bool.Decides.{nat_tests}
 use Rattle.std.proofs.lemmas.List.{length-append, length-take-le, take_more, take_all}
 use Rattle.std.proofs.lemmas.Nat.{mod-mul-add, div-add-mod'}
 use Rattle.jpg_spec.proofs.Common.{and_intro, lt_yes, lt_no}
-use Rattle.jpg_spec.specs.Images.{Body, is_wrong, are_right}
-use Rattle.jpg_spec.specs.ImageFaults.{Head, body_of, image_of}
-use Rattle.jpg_spec.specs.ImageSteps.{ImageState, in_body, whole, failed, step, run, body_so_far}
-use Rattle.jpg_spec.proofs.ImageBodyRuns.{count, body_run, body_all, not_yet, all_there, wrong_byte}
-use Rattle.jpg_spec.proofs.ImageRuns.{run_join}
+use Rattle.jpg_spec_image.specs.Images.{Body, is_wrong, are_right}
+use Rattle.jpg_spec_image.specs.ImageFaults.{ImageHead, body_of, image_of}
+use Rattle.jpg_spec_image.specs.ImageSteps.{ImageState, in_body, whole, failed, step, run, body_so_far}
+use Rattle.jpg_spec_image.proofs.ImageBodyRuns.{count, body_run, body_all, not_yet, all_there, wrong_byte}
+use Rattle.jpg_spec_image.proofs.ImageRuns.{run_join}
 use Rattle.jpg_pnm_bmp.specs.Shapes.{AreBelow}
-use Rattle.jpg_pnm_bmp.specs.Reader.{CanStretch, Holds, Stretches}
-use Rattle.jpg_pnm_bmp.specs.declared.work.Answer.{Answer}
-use Rattle.jpg_pnm_bmp.specs.declared.work.Answer.TheVariants as answer
-use Rattle.jpg_pnm_bmp.specs.declared.work.Work.{Work}
+use Rattle.jpg_pnm_bmp.specs.Reader.{CanStretch, HoldsBodyPart, Stretches}
+use Rattle.jpg_pnm_bmp.specs.declared.read.work.Answer.{Answer}
+use Rattle.jpg_pnm_bmp.specs.declared.read.work.Answer.TheVariants as answer
+use Rattle.jpg_pnm_bmp.specs.declared.read.work.Work.{Work}
 use Rattle.jpg_spec.specs.declared.fault.Fault.TheVariants.{ImageValue}
 
 -- places along a line
@@ -51,7 +51,7 @@ filling_right body place (b ∷ c ∷ part) u l =
 
 -- A PART OF A BODY
 
-pub part_run : (head : Head) (body part : List ℕ) → are_right (body_of head) (length body) part ≡ true → 1 ≤ length part → length (body ++ part) ≤ count head → run (in_body head body) part ≡ body_so_far head (body ++ part)
+pub part_run : (head : ImageHead) (body part : List ℕ) → are_right (body_of head) (length body) part ≡ true → 1 ≤ length part → length (body ++ part) ≤ count head → run (in_body head body) part ≡ body_so_far head (body ++ part)
 part_run head body part e some few =
     ⊎_elim
     (λ (a : length (body ++ part) < count head). body_run head body part e a ∙ sym (not_yet head (body ++ part) a))
@@ -59,7 +59,7 @@ part_run head body part e some few =
     (cases_lt (length (body ++ part)) (count head))
 
 -- a part whose sample k is the first above the limit
-pub wrong_run : (head : Head) (body part : List ℕ) (k : ℕ) → k < length part → AreBelow (body_of head).limit part k → (body_of head).limit ≤ get_or part k 0
+pub wrong_run : (head : ImageHead) (body part : List ℕ) (k : ℕ) → k < length part → AreBelow (body_of head).limit part k → (body_of head).limit ≤ get_or part k 0
     → length body % (body_of head).line + length part ≤ (body_of head).used → (body_of head).used ≤ (body_of head).line → length body + length part ≤ count head → run (in_body head body) (take (k + 1) part) ≡ failed ImageValue
 unfolding run
 wrong_run head body part k h below above line lined few =
@@ -74,22 +74,22 @@ wrong_run head body part k h below above line lined few =
     ∙ ap (λ s. run s (get_or part k 0 ∷ [])) (body_run head body (take k part) (below_right b (length body) part k below (omega (arith, h))) (omega (arith, l, long, h, few)))
     ∙ wrong_byte head (body ++ take k part) (get_or part k 0) (and_intro (nat_lt (length (body ++ take k part) % b.line) b.used) (nat_le b.limit (get_or part k 0)) used high)
 
--- what is known of a part that is taken behind so many bytes
+-- what is known of a part that is taken after `at` bytes
 pub record PartFits (b : Body) (at : ℕ) (part : List ℕ) : Type 0 where
   pub few : at < b.count → at + length part ≤ b.count
   pub along_samples : 0 < b.line → at % b.line < b.used → at % b.line + length part ≤ b.used
-  pub behind_samples : 0 < b.line → b.used ≤ at % b.line → at % b.line + length part ≤ b.line
+  pub after_samples : 0 < b.line → b.used ≤ at % b.line → at % b.line + length part ≤ b.line
 
 pub part_right : (b : Body) (at : ℕ) (part : List ℕ) → PartFits b at part → 0 < b.line → (0 < b.line → at % b.line < b.used → AreBelow b.limit part (length part)) → are_right b at part ≡ true
 part_right b at part f some below =
     ⊎_elim
     (λ (h : at % b.line < b.used). subst (λ x. are_right b at x ≡ true) (take_all (length part) part (omega arith)) (below_right b at part (length part) (below some h) (omega arith)))
-    (λ (h : b.used ≤ at % b.line). filling_right b at part h (f.behind_samples some h))
+    (λ (h : b.used ≤ at % b.line). filling_right b at part h (f.after_samples some h))
     (cases_lt (at % b.line) b.used)
 
-pub stretched : (head : Head) (old w : Work) (part : List ℕ) (a : Answer) → CanStretch head old.samples → PartFits (body_of head) (length old.samples) part → 1 ≤ length part
+pub stretched : (head : ImageHead) (old w : Work) (part : List ℕ) (a : Answer) → CanStretch head old.samples → PartFits (body_of head) (length old.samples) part → 1 ≤ length part
     → (0 < (body_of head).line → length old.samples % (body_of head).line < (body_of head).used → AreBelow (body_of head).limit part (length part))
-    → Holds old part (count head) a w → Stretches head old (run (in_body head old.samples) part) a w
+    → HoldsBodyPart old part (count head) a w → Stretches head old (run (in_body head old.samples) part) a w
 stretched head old w part answer.More can f some below (e, h) =
     let l = length-append old.samples part in
     let r = part_right (body_of head) (length old.samples) part f can.some below in (

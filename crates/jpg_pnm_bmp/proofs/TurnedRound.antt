@@ -1,20 +1,20 @@
--- A line whose pixels are turned round one after another, from the front.
+-- A line whose pixels are reversed one after another, from the first one on.
 use Rattle.std.proofs.Common.{◌≡◌, ℕ, ◌+◌, ◌-◌, ◌<◌, ◌≤◌, List, [], ◌∷◌, ◌++◌, length, take, drop, get_or, set, refl, sym, ap, ◌∙◌, arith, append_assoc}
 use Rattle.std.proofs.lemmas.List.{take-append-drop, length-take-le, length-drop, length-append, set_at, take_at, drop_at, get_or_at}
-use Rattle.jpg_spec.specs.ImageText.{turned_round}
+use Rattle.jpg_spec_image.specs.ImageText.{turned_round}
 
--- fewer than three bytes stay as they are
+-- fewer than three bytes don't change
 pub turned_few : (xs : List ℕ) → length xs < 3 → turned_round xs ≡ xs
 turned_few [] h = refl
 turned_few (a ∷ []) h = refl
 turned_few (a ∷ b ∷ []) h = refl
 turned_few (a ∷ b ∷ c ∷ xs) h = absurd (omega (arith, h))
 
--- the bytes at a place and two places behind it exchanged
+-- the bytes at a place and two places after it exchanged
 abbrev pub exchanged : List ℕ → ℕ → List ℕ
 exchanged xs at = set (set xs at (get_or xs (at + 2) 0)) (at + 2) (get_or xs at 0)
 
--- the front of a line, so far turned round, and the rest
+-- the prefix of a line, reversed so far, and the rest
 abbrev pub turned_from : List ℕ → ℕ → List ℕ
 turned_from line at = take at line ++ turned_round (drop at line)
 
@@ -31,7 +31,7 @@ exchanged_is front rest at r g b long =
     ap (λ n. set (set line at n) (at + 2) (get_or line at 0)) blue ∙ ap (λ n. set (set line at b) (at + 2) n) red
     ∙ ap (λ xs. set xs (at + 2) r) first ∙ set_at (front ++ b ∷ g ∷ []) b rest r (at + 2) (farther front at b g long) ∙ append_assoc front (b ∷ g ∷ []) (r ∷ rest)
 
--- one pixel more, where what is left begins with it
+-- one more pixel, where what is left begins with it
 pixel_more : (front xs : List ℕ) (at : ℕ) → length front ≡ at → 3 ≤ length xs → turned_from (exchanged (front ++ xs) at) (at + 3) ≡ front ++ turned_round xs
 pixel_more front [] at long three = absurd (omega (arith, three))
 pixel_more front (r ∷ []) at long three = absurd (omega (arith, three))

@@ -1,7 +1,7 @@
--- The parts of a BMP header before its palette, and the sides that its numbers can tell.
+-- The parts of a BMP header before its palette, and the sides that its numbers may encode.
 use Rattle.std.specs.Prelude.{ℕ, ◌*◌, ◌≤◌, List, ◌++◌, codes}
-use Rattle.jpg_spec.specs.ImageText.{long, short, file_size, offset, depth, palette_size}
-use Rattle.jpg_spec.specs.declared.image.ImageInfo.{ImageInfo}
+use Rattle.jpg_spec_image.specs.ImageText.{long, short, file_size, offset, depth, palette_size}
+use Rattle.jpg_spec_image.specs.declared.image.ImageInfo.{ImageInfo}
 
 unfoldable pub file_words : ImageInfo → List ℕ
 file_words info = codes "BM" ++ long (file_size info) ++ long 0 ++ long (offset info)

@@ -1,15 +1,16 @@
--- What an end of images has been told, and what its calls append (release 6b's image files).
+-- What an image writer was given, and what its calls append (release 6b's image files).
 use Rattle.std.specs.Prelude.{◌≡◌, ℕ, ◌+◌, ◌*◌, ◌<◌, ◌≤◌, min, Bool, true, false, nat_le, if◌then◌else◌, List, [], ◌∷◌, ◌++◌, length, slice_index_or, Option, None, Some, is_some, Result, Ok, Err}
-use Rattle.jpg_spec.specs.ImageText.{row_bytes, first_piece, row_piece, rest}
-use Rattle.jpg_spec.specs.declared.image.EndKind.{EndKind}
-use Rattle.jpg_spec.specs.declared.image.EndKind.TheVariants.{Pnm, Bmp}
-use Rattle.jpg_spec.specs.declared.image.ImageKind.TheVariants.{Gray}
-use Rattle.jpg_spec.specs.declared.image.ImageInfo.{ImageInfo}
+use Rattle.jpg_spec_image.specs.ImageText.{row_bytes, first_piece, row_piece, rest}
+use Rattle.jpg_spec_image.specs.declared.image.EndKind.{EndKind}
+use Rattle.jpg_spec_image.specs.declared.image.EndKind.TheVariants.{Pnm, Bmp}
+use Rattle.jpg_spec_image.specs.declared.image.ImageKind.TheVariants.{Gray}
+use Rattle.jpg_spec_image.specs.declared.image.ImageInfo.{ImageInfo}
 use Rattle.jpg_base.specs.declared.names.NoMemory.{NoMemory}
-use Rattle.jpg_pnm_bmp.specs.declared.end.Finish.{Finish}
-use Rattle.jpg_pnm_bmp.specs.declared.end.Finish.TheVariants.{More, Done}
+use Rattle.jpg_pnm_bmp.specs.declared.write.end.Finish.{Finish}
+use Rattle.jpg_pnm_bmp.specs.declared.write.end.Finish.TheVariants.{More, Done}
 
--- the kind of image, what was told of it, how many rows were taken, those that are held, the parts that `finish` appended, and whether it was the last
+-- the kind of image, its info, how many rows were taken, those that are kept, the parts that `finish` appended, and
+-- whether it was the last
 pub record EndState : Type 0 where
   pub kind : EndKind
   pub info : Option ImageInfo
@@ -21,13 +22,13 @@ pub record EndState : Type 0 where
 abbrev pub new_end : EndKind → EndState
 new_end kind = record { kind = kind; info = None; taken = 0; held = []; parts = 0; done = false }
 
--- the image's info, once it was told
-abbrev pub told : Option ImageInfo → ImageInfo
-told None = record { width = 0; height = 0; kind = Gray; x_metre = 0; y_metre = 0 }
-told (Some info) = info
+-- the image's info, once it is known
+abbrev pub info_given : Option ImageInfo → ImageInfo
+info_given None = record { width = 0; height = 0; kind = Gray; x_metre = 0; y_metre = 0 }
+info_given (Some info) = info
 
 abbrev pub info_of : EndState → ImageInfo
-info_of e = told e.info
+info_of e = info_given e.info
 
 -- sides and pixels that an image may have
 pub record IsImageInfo (info : ImageInfo) : Type 0 where
@@ -37,7 +38,7 @@ pub record IsImageInfo (info : ImageInfo) : Type 0 where
   pub height_high : info.height ≤ 65500
   pub pixels : info.width * info.height ≤ 1073741824
 
--- the rows that are held of those that are taken: all of a BMP, whose last row is written first
+-- the rows that are kept of those that were taken: all of a BMP, whose last row is written first
 abbrev pub held_of : EndKind → List (List ℕ) → List (List ℕ)
 held_of Pnm rows = []
 held_of Bmp rows = rows
@@ -56,8 +57,8 @@ pub record CanFinish (e : EndState) : Type 0 where
   pub all : e.taken ≡ (info_of e).height
   pub before : e.done ≡ false
 
--- WHAT THEY DO. Where memory is wanting all stays as it was. `row` and `finish` want it only where they have something to append, so that
--- something of the text is left then.
+-- WHAT THEY DO. Without memory all remains as it was. `row` and `finish` answer NoMemory only if they have something to
+-- append, so that something of the text is left then.
 
 abbrev pub started : EndState → ImageInfo → EndState
 started e info = record e { info = Some info }
@@ -80,7 +81,7 @@ abbrev pub TakesRow : EndState → List ℕ → List ℕ → Result (Unit {0}) N
 TakesRow e out row (Ok u) new grown = (new ≡ with_row e row) × (grown ≡ out ++ next_piece e row)
 TakesRow e out row (Err fault) new grown = HasNoRoom e out (next_piece e row) new grown
 
--- the parts that are due at the end, and the next of them
+-- the parts after the rows, and the next of them
 abbrev pub parts_due : EndState → List (List ℕ)
 parts_due e = rest e.kind (info_of e) e.held
 

@@ -1,9 +1,9 @@
 -- The numbers of a PNM text as a reader keeps them.
 use Rattle.std.specs.Prelude.{ℕ, List, [], ◌∷◌}
-use Rattle.jpg_pnm_bmp.specs.declared.numbers.Numbers.{Numbers}
-use Rattle.jpg_pnm_bmp.specs.declared.numbers.Numbers.TheVariants.{Nothing, Width, Sides, All}
+use Rattle.jpg_pnm_bmp.specs.declared.read.numbers.Numbers.{Numbers}
+use Rattle.jpg_pnm_bmp.specs.declared.read.numbers.Numbers.TheVariants.{Nothing, Width, Sides, All}
 
--- the numbers, and behind all three the samples
+-- the numbers, and after all three the samples
 abbrev pub list_of : Numbers → List ℕ → List ℕ
 list_of Nothing samples = []
 list_of (Width width) samples = width ∷ []

@@ -1,8 +1,8 @@
--- The image that is made of one whose last sample is known.
+-- The image made of one whose last sample is known.
 use Rattle.std.specs.Prelude.{◌≡◌, ℕ, ◌*◌, ◌<◌, ◌≤◌, List, length, All, Result, Ok, Err}
 use Rattle.jpg_base.specs.declared.names.NoMemory.{NoMemory}
-use Rattle.jpg_spec.specs.Images.{Image, sample_count}
-use Rattle.jpg_spec.specs.declared.image.ImageInfo.{ImageInfo}
+use Rattle.jpg_spec_image.specs.Images.{Image, sample_count}
+use Rattle.jpg_spec_image.specs.declared.image.ImageInfo.{ImageInfo}
 
 abbrev pub AreBytes : List ℕ → Type 0
 AreBytes xs = All (λ b. b < 256) xs

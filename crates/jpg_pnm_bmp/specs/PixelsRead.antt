@@ -1,19 +1,19 @@
 -- An image file that is fed to a reader piece by piece.
 use Rattle.std.specs.Prelude.{◌≡◌, ℕ, Bool, true, false, List, ◌++◌, Option, None, Result, Ok, Err}
 use Rattle.jpg_base.specs.declared.stop.Stop.{Stop}
-use Rattle.jpg_spec.specs.Images.{Image}
-use Rattle.jpg_spec.specs.declared.image.ImageInfo.{ImageInfo}
+use Rattle.jpg_spec_image.specs.Images.{Image}
+use Rattle.jpg_spec_image.specs.declared.image.ImageInfo.{ImageInfo}
 use Rattle.jpg_pnm_bmp.specs.Made.{AreBytes}
-use Rattle.jpg_pnm_bmp.specs.Pieces.{HasRead, AfterRead, Ended}
-use Rattle.jpg_pnm_bmp.specs.declared.piece.Fed2.{Fed2}
-use Rattle.jpg_pnm_bmp.specs.declared.piece.Fed2.TheVariants as fed
-use Rattle.jpg_pnm_bmp.specs.declared.pixels.PixelReader.{PixelReader}
-use Rattle.jpg_pnm_bmp.specs.declared.work.Work.{Work}
+use Rattle.jpg_pnm_bmp.specs.Pieces.{HasRead, AfterImageRead, EndsImage}
+use Rattle.jpg_pnm_bmp.specs.declared.read.piece.Fed2.{Fed2}
+use Rattle.jpg_pnm_bmp.specs.declared.read.piece.Fed2.TheVariants as fed
+use Rattle.jpg_pnm_bmp.specs.declared.read.pixels.PixelReader.{PixelReader}
+use Rattle.jpg_pnm_bmp.specs.declared.read.work.Work.{Work}
 
 abbrev pub image_by_parts : ImageInfo → List ℕ → Image
 image_by_parts info samples = record { info = info; samples = samples }
 
--- the image, once it is whole
+-- the image, once it is complete
 abbrev pub image_read : PixelReader → Image
 image_read r = image_by_parts r.info r.made
 
@@ -25,26 +25,26 @@ pixels_taken r = r.taken
 abbrev pub pixels_stop : PixelReader → Option Stop
 pixels_stop r = r.stop
 
--- The image is whole: neither `feed` nor `end` may be called any more, and `take` may be.
-abbrev pub is_read : PixelReader → Bool
-is_read r = r.done
+-- The image is complete: neither `feed` nor `end` may be called any more, and `take` may be.
+abbrev pub is_image_read : PixelReader → Bool
+is_image_read r = r.done
 
--- These bytes were fed. No front of them is whole or shows a fault, and more may come.
-abbrev pub HasFed : List ℕ → PixelReader → Type 0
-HasFed bytes r = (r.stop ≡ None) × (r.done ≡ false) × AreBytes bytes × HasRead bytes r.taken r.work
+-- These bytes were fed. No prefix of them is complete or has a fault, and more may follow.
+abbrev pub HasFedImage : List ℕ → PixelReader → Type 0
+HasFedImage bytes r = (r.stop ≡ None) × (r.done ≡ false) × AreBytes bytes × HasRead bytes r.taken r.work
 
--- THE ANSWER to a piece that is fed, by all bytes so far; where more is wanted, these were fed then
+-- THE ANSWER to a piece that is fed, by all bytes so far; where more is needed, these were fed then
 abbrev pub AfterFeed : List ℕ → List ℕ → Result Fed2 Stop → PixelReader → Type 0
-AfterFeed bytes piece (Ok fed.More) r = HasFed (bytes ++ piece) r
-AfterFeed bytes piece (Ok fed.Done) r = AfterRead bytes piece (Ok fed.Done) r.work (image_read r)
-AfterFeed bytes piece (Err stop) r = AfterRead bytes piece (Err stop) r.work (image_read r)
+AfterFeed bytes piece (Ok fed.More) r = HasFedImage (bytes ++ piece) r
+AfterFeed bytes piece (Ok fed.Done) r = AfterImageRead bytes piece (Ok fed.Done) r.work (image_read r)
+AfterFeed bytes piece (Err stop) r = AfterImageRead bytes piece (Err stop) r.work (image_read r)
 
 -- for all that was fed before
 abbrev pub Feeds : PixelReader → List ℕ → Result Fed2 Stop → PixelReader → Type 0
-Feeds old piece answer new = (bytes : List ℕ) → HasFed bytes old → AfterFeed bytes piece answer new
+Feeds old piece answer new = (bytes : List ℕ) → HasFedImage bytes old → AfterFeed bytes piece answer new
 
 abbrev pub Ends : PixelReader → Result (Unit {0}) Stop → PixelReader → Type 0
-Ends old answer new = (bytes : List ℕ) → HasFed bytes old → Ended bytes answer (image_read new)
+Ends old answer new = (bytes : List ℕ) → HasFedImage bytes old → EndsImage bytes answer (image_read new)
 
 -- the word that keeps `done`
 abbrev pub KeepsDone : Result Fed2 Stop → PixelReader → Type 0
@@ -59,7 +59,7 @@ EndsDone (Err stop) r = r.done ≡ false
 -- THE PARTS of it: for all that was read before
 
 abbrev pub Reads : Work → ℕ → List ℕ → Result Fed2 Stop → Work → Image → Type 0
-Reads old taken piece answer new image = (bytes : List ℕ) → HasRead bytes taken old → AreBytes bytes → AfterRead bytes piece answer new image
+Reads old taken piece answer new image = (bytes : List ℕ) → HasRead bytes taken old → AreBytes bytes → AfterImageRead bytes piece answer new image
 
 abbrev pub EndsRead : Work → ℕ → Result (Unit {0}) Stop → Image → Type 0
-EndsRead old taken answer image = (bytes : List ℕ) → HasRead bytes taken old → AreBytes bytes → Ended bytes answer image
+EndsRead old taken answer image = (bytes : List ℕ) → HasRead bytes taken old → AreBytes bytes → EndsImage bytes answer image

@@ -1,28 +1,28 @@
--- A reader of image files: what stands where the bytes end that it was given.
+-- A reader of image files: its state after the bytes that it was given.
 use Rattle.std.specs.Prelude.{◌≡◌, ℕ, ◌<◌, ◌≤◌, true, List, [], ◌++◌, length, take, Result, Ok, Err}
-use Rattle.jpg_spec.specs.Images.{Image, are_right}
-use Rattle.jpg_spec.specs.ImageFaults.{Head, pnm, bmp, body_of, image_of}
-use Rattle.jpg_spec.specs.ImageSteps.{ImageState, at_start, behind_first, in_gap, in_number, in_bmp_head, in_bmp_front, in_body, whole, failed, ended_by, run}
+use Rattle.jpg_spec_image.specs.Images.{Image, are_right}
+use Rattle.jpg_spec_image.specs.ImageFaults.{ImageHead, pnm, bmp, body_of, image_of}
+use Rattle.jpg_spec_image.specs.ImageSteps.{ImageState, at_start, behind_first, in_gap, in_number, in_bmp_head, in_bmp_front, in_body, whole, failed, ended_by, run}
 use Rattle.jpg_spec.specs.declared.fault.Fault.{Fault}
-use Rattle.jpg_spec.specs.PnmText.{number_fault}
+use Rattle.jpg_spec_image.specs.PnmText.{number_fault}
 use Rattle.jpg_pnm_bmp.specs.Known.{list_of}
-use Rattle.jpg_pnm_bmp.specs.declared.numbers.Numbers.{Numbers}
-use Rattle.jpg_pnm_bmp.specs.declared.numbers.Numbers.TheVariants.{Nothing, Width, Sides, All}
-use Rattle.jpg_pnm_bmp.specs.declared.work.Stage.{Stage}
-use Rattle.jpg_pnm_bmp.specs.declared.work.Stage.TheVariants as stage
-use Rattle.jpg_pnm_bmp.specs.declared.work.Answer.{Answer}
-use Rattle.jpg_pnm_bmp.specs.declared.work.Answer.TheVariants as answer
-use Rattle.jpg_pnm_bmp.specs.declared.work.Moved.{Moved}
-use Rattle.jpg_pnm_bmp.specs.declared.work.Work.{Work}
+use Rattle.jpg_pnm_bmp.specs.declared.read.numbers.Numbers.{Numbers}
+use Rattle.jpg_pnm_bmp.specs.declared.read.numbers.Numbers.TheVariants.{Nothing, Width, Sides, All}
+use Rattle.jpg_pnm_bmp.specs.declared.read.work.Stage.{Stage}
+use Rattle.jpg_pnm_bmp.specs.declared.read.work.Stage.TheVariants as stage
+use Rattle.jpg_pnm_bmp.specs.declared.read.work.Answer.{Answer}
+use Rattle.jpg_pnm_bmp.specs.declared.read.work.Answer.TheVariants as answer
+use Rattle.jpg_pnm_bmp.specs.declared.read.work.Moved.{Moved}
+use Rattle.jpg_pnm_bmp.specs.declared.read.work.Work.{Work}
 
 abbrev pub numbers_list : Work → List ℕ
 numbers_list w = list_of w.numbers w.samples
 
--- what stands before a body
-abbrev pub pnm_head : Work → Head
+-- what precedes a body
+abbrev pub pnm_head : Work → ImageHead
 pnm_head w = pnm w.format (list_of w.numbers [])
 
-abbrev pub bmp_head : Work → Head
+abbrev pub bmp_head : Work → ImageHead
 bmp_head w = bmp w.head w.palette
 
 abbrev pub standing_of : Stage → Work → ImageState
@@ -38,7 +38,7 @@ standing_of stage.BmpBody w = in_body (bmp_head w) w.samples
 abbrev pub standing : Work → ImageState
 standing w = standing_of w.stage w
 
--- what some bytes come to
+-- the result of some bytes
 abbrev pub IsReached : ImageState → Type 0
 IsReached s = (bytes : List ℕ) × (run at_start bytes ≡ s)
 
@@ -60,7 +60,7 @@ pub record KeepsStage (old new : Work) : Type 0 where
   pub stage : new.stage ≡ old.stage
   pub format : new.format ≡ old.format
 
--- with a number more all are known, where both sides were
+-- with one more number all are known, if both sides were
 abbrev pub AddsNumber : Numbers → Work → Type 0
 AddsNumber Nothing w = Unit {0}
 AddsNumber (Width a) w = Unit {0}
@@ -68,30 +68,30 @@ AddsNumber (Sides a b) w = (w.samples ≡ []) × ((m : ℕ) × (w.numbers ≡ Al
 AddsNumber (All a b m) w = w.numbers ≡ All a b m
 
 -- a body whose samples are right so far, and not all there
-pub record CanStretch (head : Head) (body : List ℕ) : Type 0 where
+pub record CanStretch (head : ImageHead) (body : List ℕ) : Type 0 where
   pub right : are_right (body_of head) 0 body ≡ true
   pub room : length body < (body_of head).count
   pub lined : (body_of head).used ≤ (body_of head).line
   pub some : 0 < (body_of head).line
 
--- a part of a body is held too
-abbrev pub Holds : Work → List ℕ → ℕ → Answer → Work → Type 0
-Holds old part count answer.More w = (w ≡ record old { samples = old.samples ++ part }) × (length (old.samples ++ part) < count)
-Holds old part count answer.Whole w = (w ≡ record old { samples = old.samples ++ part }) × (count ≤ length (old.samples ++ part))
-Holds old part count (answer.Fault fault) w = ⊥
-Holds old part count answer.NoMemory w = Unit {0}
+-- a part of a body is kept too
+abbrev pub HoldsBodyPart : Work → List ℕ → ℕ → Answer → Work → Type 0
+HoldsBodyPart old part count answer.More w = (w ≡ record old { samples = old.samples ++ part }) × (length (old.samples ++ part) < count)
+HoldsBodyPart old part count answer.Whole w = (w ≡ record old { samples = old.samples ++ part }) × (count ≤ length (old.samples ++ part))
+HoldsBodyPart old part count (answer.Fault fault) w = ⊥
+HoldsBodyPart old part count answer.NoMemory w = Unit {0}
 
--- what a part of a body comes to, by the samples that are held then
-abbrev pub Stretches : Head → Work → ImageState → Answer → Work → Type 0
+-- the result of a part of a body, by the samples that are kept then
+abbrev pub Stretches : ImageHead → Work → ImageState → Answer → Work → Type 0
 Stretches head old s answer.More w = (s ≡ in_body head w.samples) × (w ≡ record old { samples = w.samples })
 Stretches head old s answer.Whole w = (s ≡ whole (image_of head w.samples)) × (w ≡ record old { samples = w.samples })
 Stretches head old s (answer.Fault fault) w = s ≡ failed fault
 Stretches head old s answer.NoMemory w = Unit {0}
 
-abbrev pub StretchesBy : Head → Work → List ℕ → Moved → Work → Type 0
+abbrev pub StretchesBy : ImageHead → Work → List ℕ → Moved → Work → Type 0
 StretchesBy head old piece m w = Stretches head old (run (in_body head old.samples) (take m.used piece)) m.answer w
 
--- a number that stands where the bytes end
+-- a number at the end of the bytes
 abbrev pub number_ended_at : Work → ℕ → Result Image Fault
 number_ended_at w n = ended_by w.format (numbers_list w) n (number_fault (numbers_list w) n)
 

@@ -1,7 +1,7 @@
 -- Bodies as a reader sees them.
 use Rattle.std.specs.Prelude.{ℕ, ◌<◌, List, slice_index}
-use Rattle.jpg_spec.specs.Images.{Body}
-use Rattle.jpg_pnm_bmp.specs.declared.body.Shape.{Shape}
+use Rattle.jpg_spec_image.specs.Images.{Body}
+use Rattle.jpg_pnm_bmp.specs.declared.read.body.Shape.{Shape}
 
 abbrev pub body_told : Shape → Body
 body_told s = record { count = s.count; line = s.line; used = s.used; limit = s.limit }

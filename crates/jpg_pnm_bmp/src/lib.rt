@@ -1,26 +1,15 @@
-//! The formats that images are written in (release 6b's image files).
+//! Image files: PNM and BMP files written row by row and read in pieces (release 6b's image files).
 #![tactic(auto)]
 
-mod bmp;
-mod bmp_header;
-mod bmp_read;
-mod bmp_row;
-mod body;
-mod end;
 mod laws;
-mod make;
-mod numbers;
-mod piece;
-mod pixels;
-mod pnm;
-mod short;
-mod work;
+mod read;
+mod write;
 
-pub use bmp::BmpEnd;
-pub use end::{Finish, ImageEnd};
 pub use jpg_base::{Bytes, NoMemory};
-pub use jpg_spec::{EndKind, ImageInfo, ImageKind};
+pub use jpg_spec_image::{EndKind, ImageInfo, ImageKind};
 pub use laws::{fed_bytes_are_open, images_are_right, images_are_written_whole};
-pub use piece::Fed2;
-pub use pixels::{Image, PixelReader};
-pub use pnm::PnmEnd;
+pub use read::piece::Fed2;
+pub use read::pixels::{Image, PixelReader};
+pub use write::bmp::BmpEnd;
+pub use write::end::{Finish, ImageEnd};
+pub use write::pnm::PnmEnd;

@@ -1,4 +1,4 @@
--- Where the machine of a progressive AC scan stands, units are due: whole elements, and a part of one more.
+-- Where the machine of a progressive AC scan is, units are left: it has read complete elements, and a part of one more.
 use Rattle.std.proofs.Common.{◌≡◌, ◌≤◌, Bool, List, [], ◌∷◌, length, sym, ◌∙◌, subst, arith, inl, inr, ℤ}
 use Rattle.std.proofs.lemmas.List.{append-nil, length-map}
 use Rattle.jpg_spec.specs.Parts.{StandsInUnits}

@@ -1,4 +1,4 @@
--- Old values that take the next bit still do behind an interval before them.
+-- If old values take the next bit, they still do after an earlier interval.
 use Rattle.std.proofs.Common.{◌≡◌, ℕ, ◌≤◌, false, List, [], ◌∷◌, ◌++◌, sym, subst, ℤ}
 use Rattle.std.specs.List.{All}
 use Rattle.std.proofs.lemmas.List.Elements.{All-nil, All-cons, All-head, All-tail}
@@ -10,13 +10,13 @@ use Rattle.jpg_spec.proofs.PictureInWork.{AreApart, apart_of, apart_swap}
 use Rattle.jpg_spec.proofs.Rows.{all_back}
 use Rattle.jpg_coefs.specs.Picture.{Picture, map_of}
 use Rattle.jpg_coefs.specs.Machine.{Interval}
-use Rattle.jpg_prog_read.specs.AcStands.{HasRoom, BandHasRoom, IsAcInterval, NextIsAc}
+use Rattle.jpg_prog_read.specs.AcStands.{HasCorrectionRoom, BandHasRoom, IsAcInterval, NextIsAc}
 
 room_kept : (s : Scan) (old new : Blocks) (places later : List Place) → ((i x y : ℕ) → any_of (is_at i x y) places ≡ false → new i x y ≡ old i x y) → AreApart later places → All (BandHasRoom s old) later → All (BandHasRoom s new) later
 room_kept s old new places [] same apart room = All-nil (BandHasRoom s new)
 room_kept s old new places (p ∷ later) same apart room =
     let here : block_at new p ≡ block_at old p = same p.component p.x p.y apart.0 in
-    All-cons (BandHasRoom s new) p later (subst (λ (l : List ℤ). All (HasRoom s.coding) (band s l)) (sym here) (All-head (BandHasRoom s old) p later room))
+    All-cons (BandHasRoom s new) p later (subst (λ (l : List ℤ). All (HasCorrectionRoom s.coding) (band s l)) (sym here) (All-head (BandHasRoom s old) p later room))
     (room_kept s old new places later same apart.1 (All-tail (BandHasRoom s old) p later room))
 
 pub next_is_ac : (i : Interval) → AreDistinct (i.places ++ i.later) → IsAcInterval i → NextIsAc i

@@ -29,10 +29,10 @@ use Rattle.jpg_prog_read.specs.declared.stage.Stage.TheVariants as stage
 use Rattle.jpg_prog_read.specs.declared.scan.BandScan.{BandScan}
 use Rattle.jpg_prog_read.specs.declared.band.BandStep.{BandStep}
 use Rattle.jpg_prog_read.specs.declared.band.BandStep.TheVariants.{More, Done, Fault}
-use Rattle.jpg_prog_read.specs.InWork.{InWork, IsFresh, IsWholeUnit, IsEnd, IsRefinable, AreRefinable, band_values}
-use Rattle.jpg_prog_read.specs.Step.{AreSane, StaysOpen, KeepsOtherValues}
-use Rattle.jpg_prog_read.specs.Stands.{IsCodingOf, UnitPlace, BetweenUnits, IsRest, Answered, AnswersBit, AnswersBand, BeginsQuietly, ShowsNone}
-use Rattle.jpg_prog_read.specs.AcStands.{HasRoom, BandHasRoom, IsAcInterval, ReadsBy, IsReadable, units_at, HasDue, place_of, IsOfBlock, IsInUnit, HasWhole, IsBetween, IsBefore, AcStands, AcReady, UnitAnswered}
+use Rattle.jpg_prog_read.specs.InWork.{InWork, IsBeforeUnits, IsWholeUnit, IsEnd, IsRefinable, AreRefinable, band_values}
+use Rattle.jpg_prog_read.specs.ReaderSteps.{IsSaneBand, StaysOpen, KeepsOtherValues}
+use Rattle.jpg_prog_read.specs.Stands.{IsCodingOf, UnitPlace, BetweenUnits, IsRest, Answered, AnswersBit, AnswersBand, BeginsQuietly, IsNoFault}
+use Rattle.jpg_prog_read.specs.AcStands.{HasCorrectionRoom, BandHasRoom, IsAcInterval, ReadsBy, IsReadable, units_at, HasDue, place_of, IsOfBlock, IsInUnit, HasWhole, IsBetweenUnits, IsBefore, AcStands, AcReady, UnitAnswered}
 
 -- THE UNIT AT A PLACE
 
@@ -42,11 +42,11 @@ unit_is s before p some = ap (λ (b : Bool). (let u : UnitLeft = record { compon
 pub band_is : (b : BandScan) (s : Scan) (block : List ℤ) → ReadsBy b s → band_values b block ≡ band s block
 band_is b s block r = ap (λ n. take (n - b.start) (drop b.start block)) r.end ∙ ap (λ n. take (s.se + 1 - n) (drop n block)) r.start
 
-refinable_one : (b : BandScan) (codes : List Code) (c : Coding) (k : ℕ) (o : ℤ) → IsCodingOf b codes c k → HasRoom c o → IsRefinable b o
+refinable_one : (b : BandScan) (codes : List Code) (c : Coding) (k : ℕ) (o : ℤ) → IsCodingOf b codes c k → HasCorrectionRoom c o → IsRefinable b o
 refinable_one b codes c k o is (inl z) = inl z
 refinable_one b codes c k o is (inr h) = inr (omega (arith, h, is.scale, ap nat_abs is.bounds))
 
--- a place that is due isn't one of those before it
+-- a place that is left isn't one of those before it
 next_apart : (done : List Place) (next : Place) (more : List Place) → AreDistinct (done ++ next ∷ more) → any_of (is_at next.component next.x next.y) done ≡ false
 next_apart done next more d = (apart_swap done (next ∷ more) (apart_of done (next ∷ more) d)).0
 
@@ -69,11 +69,11 @@ coding_at m i now done p more whole d = (All-head (IsReadable m.scan m.codes i.b
 pub has_place : (m : AcReader) (i : Interval) (now : Picture) (done due : List Place) (whole : List ℤ) → HasDue m i now done due whole → 1 ≤ length due → 1 ≤ length m.cursor
 has_place m i now done due whole d some = omega (arith, ap length d.cursor, length-append due i.later, some)
 
--- with another unit in work
+-- with another current unit
 due_with : (m : AcReader) (n : InWork) (f : Bool) (i : Interval) (now : Picture) (done due : List Place) (whole : List ℤ) → HasDue m i now done due whole → HasDue (record m { unit = n; fresh = f }) i now done due whole
 due_with m n f i now done due whole d = record { reads = d.reads; kind = d.kind; distinct = d.distinct; all = d.all; cursor = d.cursor; left = d.left; spots = d.spots; frame = d.frame; read = d.read }
 
--- A BIT OF THE UNIT IN WORK
+-- A BIT OF THE CURRENT UNIT
 
 pub unit_read : (m : AcReader) (n : InWork) (i : Interval) (bits : List Bool) (bit : Bool) (now : Picture) (step : BandStep) → IsInUnit m i bits now → StaysOpen m.scan step n → KeepsOtherValues m.unit n
     → AnswersBit m.scan m.codes m.left m.unit bit step n → UnitAnswered (record m { unit = n }) i (bits ++ bit ∷ []) now step
@@ -121,10 +121,10 @@ due_is : (due later cursor : List Place) (p : Place) → cursor ≡ due ++ later
 due_is [] later cursor p e some f = absurd (omega arith)
 due_is (q ∷ more) later cursor p e some f = (more, ap (λ (x : Place). x ∷ more) (some_once q p (sym (ap (λ (l : List Place). slice_get l 0) e) ∙ f)))
 
-pub some_due : (m : AcReader) (i : Interval) (bits : List Bool) (now : Picture) → IsBetween m i bits now → 1 ≤ m.left → 1 ≤ length m.cursor
+pub some_due : (m : AcReader) (i : Interval) (bits : List Bool) (now : Picture) → IsBetweenUnits m i bits now → 1 ≤ m.left → 1 ≤ length m.cursor
 some_due m i bits now w some = has_place m i now w.done w.due w.whole w.has_due (omega (arith, (w.has_due).left, some))
 
-pub between_at : (m : AcReader) (i : Interval) (bits : List Bool) (now : Picture) (p : Place) → IsBetween m i bits now → 1 ≤ m.left → slice_get m.cursor 0 ≡ Some p → IsBetweenAt m i bits now p
+pub between_at : (m : AcReader) (i : Interval) (bits : List Bool) (now : Picture) (p : Place) → IsBetweenUnits m i bits now → 1 ≤ m.left → slice_get m.cursor 0 ≡ Some p → IsBetweenAt m i bits now p
 between_at m i bits now p w some first =
     let d = due_is w.due i.later m.cursor p (w.has_due).cursor (omega (arith, (w.has_due).left, some)) first in
     record {
@@ -151,9 +151,9 @@ takes_bits m i bits now p block t e =
     let places : i.places ++ i.later ≡ t.done ++ p ∷ (t.more ++ i.later) = ap (λ (l : List Place). l ++ i.later) d.all ∙ append_assoc t.done (p ∷ t.more) i.later in
     let P = BandHasRoom i.scan (map_of i.before) in
     let all : All P (p ∷ (t.more ++ i.later)) = all_back P t.done (p ∷ (t.more ++ i.later)) (subst (λ (l : List Place). All P l) places (d.kind).room) in
-    let room : All (HasRoom i.scan.coding) (band i.scan (block_at (map_of i.before) p)) = All-head P p (t.more ++ i.later) all in
+    let room : All (HasCorrectionRoom i.scan.coding) (band i.scan (block_at (map_of i.before) p)) = All-head P p (t.more ++ i.later) all in
     subst (λ (l : List ℤ). All (IsRefinable m.scan) l) (sym (old_band m i bits now p block t e))
-    (All-weaker (HasRoom i.scan.coding) (IsRefinable m.scan) (λ o h. refinable_one m.scan m.codes i.scan.coding p.component o (coding_at m i now t.done p t.more t.whole d) h) (band i.scan (block_at (map_of i.before) p)) room)
+    (All-weaker (HasCorrectionRoom i.scan.coding) (IsRefinable m.scan) (λ o h. refinable_one m.scan m.codes i.scan.coding p.component o (coding_at m i now t.done p t.more t.whole d) h) (band i.scan (block_at (map_of i.before) p)) room)
 
 pub unit_taken : (m : AcReader) (n : InWork) (i : Interval) (bits : List Bool) (now : Picture) (p : Place) (block : List ℤ) (step : BandStep) → IsBetweenAt m i bits now p → block ≡ block_in now p.component p.x p.y
     → StaysOpen m.scan step n → (n.front ≡ take m.scan.start block) × (n.behind ≡ drop m.scan.end block) → AnswersBand m.scan (band_values m.scan block) m.unit step n
@@ -197,7 +197,7 @@ unit_taken m n i bits now p block step t e open_ outside answers = by step open_
     by (Fault f) o a = a
 
 pub taken_quietly : (m : AcReader) (i : Interval) (bits : List Bool) (now : Picture) (p : Place) (block : List ℤ) (step : BandStep) → IsBetweenAt m i bits now p → block ≡ block_in now p.component p.x p.y
-    → BeginsQuietly m.scan (band_values m.scan block) m.unit step → ShowsNone step
+    → BeginsQuietly m.scan (band_values m.scan block) m.unit step → IsNoFault step
 taken_quietly m i bits now p block step t e quiet = quiet m.codes at bits (coding_at m i now t.done p t.more t.whole t.has_due) rest
   where
     at : UnitPlace
@@ -211,13 +211,13 @@ taken_quietly m i bits now p block step t e quiet = quiet m.codes at bits (codin
 
 -- A UNIT IS PUT AT ITS PLACE
 
--- a block of which the band is new
+-- a block with a new band
 pub record HasNewBand (b : BandScan) (old new done : List ℤ) : Type 0 where
   pub front : take b.start new ≡ take b.start old
   pub behind : drop b.end new ≡ drop b.end old
   pub values : band_values b new ≡ done
 
-new_band : (b : BandScan) (x front done behind r : List ℤ) → AreSane b → length x ≡ 64 → front ≡ take b.start x → behind ≡ drop b.end x → r ≡ front ++ (done ++ behind) → length r ≡ 64 → HasNewBand b x r done
+new_band : (b : BandScan) (x front done behind r : List ℤ) → IsSaneBand b → length x ≡ 64 → front ≡ take b.start x → behind ≡ drop b.end x → r ≡ front ++ (done ++ behind) → length r ≡ 64 → HasNewBand b x r done
 new_band b x front done behind r sane l f h e k =
     let lf : length front ≡ b.start = ap length f ∙ length-take-le b.start x (omega (arith, sane.begun, sane.inside, l)) in
     let lb : length behind ≡ 64 - b.end = ap length h ∙ length-drop b.end x ∙ ap (λ n. n - b.end) l in
@@ -252,7 +252,7 @@ whole_padded m i bits now p w first =
     subst (λ (q : Place). IsPadded now.frame q.component q.x q.y) (whole_place m i bits now p w first) (padded_at m i now w.done w.next w.more w.whole w.has_due)
 
 pub unit_put : (m : AcReader) (i : Interval) (bits : List Bool) (now : Picture) (p : Place) (r : List ℤ) → HasWhole m i bits now → slice_get m.cursor 0 ≡ Some p → length now.blocks ≡ padded_blocks now.frame
-    → r ≡ m.unit.front ++ (m.unit.done ++ m.unit.behind) → length r ≡ 64 → IsBetween (record m { cursor = drop 1 m.cursor; left = m.left - 1 }) i bits (with_block now p.component p.x p.y r)
+    → r ≡ m.unit.front ++ (m.unit.done ++ m.unit.behind) → length r ≡ 64 → IsBetweenUnits (record m { cursor = drop 1 m.cursor; left = m.left - 1 }) i bits (with_block now p.component p.x p.y r)
 unit_put m i bits now p r w first count e size =
     let at = whole_place m i bits now p w first in
     let d : HasDue m i now w.done (p ∷ w.more) w.whole = subst (λ (q : Place). HasDue m i now w.done (q ∷ w.more) w.whole) at w.has_due in
@@ -299,7 +299,7 @@ between_done c units told bits s stage.Ends e f =
     let p = subst (λ g. IsRest c f.mid [] f.here f.part s g) e f.is_rest in
     absurd (no_units p.0 p.1 (sym p.2))
 
-pub interval_done : (m : AcReader) (i : Interval) (bits : List Bool) (now : Picture) → m.left ≡ 0 → IsBetween m i bits now → IsWholeInterval i bits now × ((j : Interval) → Follows i now j → IsAcInterval j → AcReady m j)
+pub interval_done : (m : AcReader) (i : Interval) (bits : List Bool) (now : Picture) → m.left ≡ 0 → IsBetweenUnits m i bits now → IsWholeInterval i bits now × ((j : Interval) → Follows i now j → IsAcInterval j → AcReady m j)
 interval_done m i bits now none w =
     let nil : w.due ≡ [] = nil_from_length w.due (omega (arith, (w.has_due).left, none)) in
     let d : HasDue m i now w.done [] w.whole = subst (λ (l : List Place). HasDue m i now w.done l w.whole) nil w.has_due in
@@ -322,11 +322,11 @@ interval_done m i bits now none w =
 
 -- AN INTERVAL BEGINS
 
-fresh_between : (c : Coding) (units : List UnitLeft) (s : InWork) → IsFresh s → BetweenUnits c units [] units [] s
+fresh_between : (c : Coding) (units : List UnitLeft) (s : InWork) → IsBeforeUnits s → BetweenUnits c units [] units [] s
 fresh_between c units s f =
     record { elements = []; before = []; front = []; mid = at_start units; here = []; part = []; covers = (refl, refl, refl); split = refl; same = refl; in_bounds = refl; quiet = f.quiet; is_rest = subst (λ g. IsRest c (at_start units) units [] [] s g) (sym f.code) (refl, refl, refl) }
 
-pub begins : (m : AcReader) (n : InWork) (i : Interval) (units : ℕ) → AcReady m i → length i.places ≡ units → 1 ≤ units → IsFresh n → AcStands (record m { unit = n; left = units; fresh = true }) i [] i.before
+pub begins : (m : AcReader) (n : InWork) (i : Interval) (units : ℕ) → AcReady m i → length i.places ≡ units → 1 ≤ units → IsBeforeUnits n → AcStands (record m { unit = n; left = units; fresh = true }) i [] i.before
 begins m n i units r count some f =
     inl
     (record {

@@ -9,11 +9,11 @@ use Rattle.jpg_prog_read.specs.declared.stage.Stage.TheVariants as stage
 use Rattle.jpg_prog_read.specs.declared.scan.BandScan.{BandScan}
 use Rattle.jpg_prog_read.specs.declared.band.BandStep.{BandStep}
 use Rattle.jpg_prog_read.specs.declared.band.BandStep.TheVariants.{More, Done, Fault}
-use Rattle.jpg_prog_read.specs.InWork.{InWork, IsOpen, DoesWait}
-use Rattle.jpg_prog_read.specs.Step.{StaysOpen, KeepsOtherValues}
-use Rattle.jpg_prog_read.specs.Stands.{Stands, AnswersBit, AnswersStep}
+use Rattle.jpg_prog_read.specs.InWork.{InWork, IsOpenBand, DoesWait}
+use Rattle.jpg_prog_read.specs.ReaderSteps.{StaysOpen, KeepsOtherValues}
+use Rattle.jpg_prog_read.specs.Stands.{StandsInBand, AnswersBit, AnswersStep}
 use Rattle.jpg_prog_read.specs.BandBits.{AnswersSymbol, Through, EndsAt, BandComesTo, TakesBand}
-use Rattle.jpg_prog_read.proofs.Steps.{code_more, number_more}
+use Rattle.jpg_prog_read.proofs.BandSteps.{code_more, number_more}
 
 -- ONE AFTER ANOTHER
 
@@ -27,7 +27,7 @@ through_outside b ac left old (bit ∷ bits) new x =
     let more = through_outside b ac left x.0 bits new x.2 in
     (more.0 ∙ (x.1).outside.0, more.1 ∙ (x.1).outside.1)
 
--- what comes behind such bits
+-- what comes after such bits
 ends_then : (b : BandScan) (ac : List Code) (left : ℕ) (old : InWork) (xs : List Bool) (mid : InWork) (ys : List Bool) (step : BandStep) (new : InWork) → Through b ac left old xs mid → EndsAt b ac left mid ys step new → EndsAt b ac left old (xs ++ ys) step new
 ends_then b ac left old xs mid ys step new x y = record {
   front = xs ++ y.front;
@@ -44,15 +44,15 @@ comes_then b ac left old xs mid ys More new x y = through_then b ac left old xs 
 comes_then b ac left old xs mid ys Done new x y = ends_then b ac left old xs mid ys Done new x y
 comes_then b ac left old xs mid ys (Fault f) new x y = ends_then b ac left old xs mid ys (Fault f) new x y
 
--- bits behind which the unit goes on, and more are left
+-- bits after which the unit continues, and more are left
 pub record HasGone (b : BandScan) (ac : List Code) (left : ℕ) (old : InWork) (store : List Bool) (new : InWork) (rest : List Bool) : Type 0 where
   pub bits : List Bool
   pub split : store ≡ bits ++ rest
   pub more : 1 ≤ length rest
-  pub goes_on : IsOpen b new
+  pub goes_on : IsOpenBand b new
   pub through : Through b ac left old bits new
 
-pub none_gone : (b : BandScan) (ac : List Code) (left : ℕ) (old : InWork) (store : List Bool) → 1 ≤ length store → IsOpen b old → HasGone b ac left old store old store
+pub none_gone : (b : BandScan) (ac : List Code) (left : ℕ) (old : InWork) (store : List Bool) → 1 ≤ length store → IsOpenBand b old → HasGone b ac left old store old store
 none_gone b ac left old store more o = record { bits = []; split = refl; more = more; goes_on = o; through = refl }
 
 pub gone_then : (b : BandScan) (ac : List Code) (left : ℕ) (old : InWork) (store : List Bool) (mid : InWork) (here : List Bool) (step : BandStep) (new : InWork) (rest : List Bool) → HasGone b ac left old store mid here → TakesBand b ac left mid here step new rest
@@ -100,14 +100,14 @@ first_bit : (store : List Bool) → 1 ≤ length store → store ≡ slice_index
 first_bit [] some = absurd (omega (arith, some))
 first_bit (bit ∷ store) some = refl
 
--- one bit alone
+-- only one bit
 pub one_taken : (b : BandScan) (ac : List Code) (left : ℕ) (old : InWork) (store : List Bool) (bit : Bool) (step : BandStep) (new : InWork) (rest : List Bool) → 1 ≤ length store → bit ≡ slice_index_or store 0 false → rest ≡ drop 1 store → KeepsOtherValues old new
     → StaysOpen b step new → AnswersBit b ac left old bit step new → TakesBand b ac left old store step new rest
 one_taken b ac left old store bit step new rest some e r o s a =
     let f : store ≡ bit ∷ rest = first_bit store some ∙ ap (λ (x : Bool). x ∷ drop 1 store) (sym e) ∙ ap (λ (l : List Bool). bit ∷ l) (sym r) in
     takes_to b ac left old store [] bit old step new rest f refl o o s a
 
--- A WHOLE CODE
+-- A COMPLETE CODE
 
 -- bits with their last one
 pub last_of : (bits : List Bool) → 1 ≤ length bits → (front : List Bool) × (last : Bool) × (bits ≡ front ++ last ∷ [])
@@ -124,18 +124,18 @@ begins_more ac w (next ∷ rest) bit last symbol is = ((w ++ bit ∷ next ∷ (r
 abbrev pub walked : InWork → List Bool → InWork
 walked s w = record s { walked = w }
 
-pub walked_open : (b : BandScan) (s : InWork) (w : List Bool) → s.stage ≡ stage.Code → IsOpen b s → IsOpen b (walked s w)
+pub walked_open : (b : BandScan) (s : InWork) (w : List Bool) → s.stage ≡ stage.Code → IsOpenBand b s → IsOpenBand b (walked s w)
 walked_open b s w e o = record { left = o.left; fits = o.fits; waits = subst (λ g. DoesWait g (walked s w)) (sym e) tt }
 
 -- a state with its bits of a code again
 pub walked_back : (s mid : InWork) → mid ≡ record s { walked = mid.walked } → walked mid s.walked ≡ s
 walked_back s mid e = ap (λ (m : InWork). walked m s.walked) e
 
--- no bits of a code came
+-- no bits of a code were read
 pub quiet_of : (begun : Bool) (walk now : List Bool) → (begun ≡ false → walk ≡ []) → begun ≡ false → walk ≡ now → now ≡ []
 quiet_of begun walk now quiet h e = sym e ∙ quiet h
 
-code_through : (b : BandScan) (ac : List Code) (left : ℕ) (s : InWork) (w rest : List Bool) (last : Bool) (symbol : ℕ) → s.stage ≡ stage.Code → IsOpen b s → Contains ac (w ++ (rest ++ last ∷ []), symbol) → Through b ac left (walked s w) rest (walked s (w ++ rest))
+code_through : (b : BandScan) (ac : List Code) (left : ℕ) (s : InWork) (w rest : List Bool) (last : Bool) (symbol : ℕ) → s.stage ≡ stage.Code → IsOpenBand b s → Contains ac (w ++ (rest ++ last ∷ []), symbol) → Through b ac left (walked s w) rest (walked s (w ++ rest))
 code_through b ac left s w [] last symbol e o is = ap (λ (l : List Bool). walked s l) (append-nil w)
 code_through b ac left s w (bit ∷ rest) last symbol e o is =
     let join : (w ++ bit ∷ []) ++ rest ≡ w ++ bit ∷ rest = append_assoc w (bit ∷ []) rest in
@@ -154,7 +154,7 @@ code_through b ac left s w (bit ∷ rest) last symbol e o is =
 walked_none : (s : InWork) → s.walked ≡ [] → walked s [] ≡ s
 walked_none s e = ap (λ (l : List Bool). walked s l) (sym e)
 
-pub code_taken : (b : BandScan) (ac : List Code) (left : ℕ) (old : InWork) (store : List Bool) (n symbol : ℕ) (step : BandStep) (new : InWork) (rest : List Bool) → old.stage ≡ stage.Code → IsOpen b old → old.walked ≡ [] → 1 ≤ n → n ≤ length store → Contains ac (take n store, symbol)
+pub code_taken : (b : BandScan) (ac : List Code) (left : ℕ) (old : InWork) (store : List Bool) (n symbol : ℕ) (step : BandStep) (new : InWork) (rest : List Bool) → old.stage ≡ stage.Code → IsOpenBand b old → old.walked ≡ [] → 1 ≤ n → n ≤ length store → Contains ac (take n store, symbol)
     → rest ≡ drop n store → KeepsOtherValues old new → StaysOpen b step new → AnswersSymbol b old symbol step new → TakesBand b ac left old store step new rest
 code_taken b ac left old store n symbol step new rest e o quiet some fits is r keeps stays answers =
     let c = last_of (take n store) (omega (arith, length-take-le n store fits, some)) in
@@ -163,15 +163,15 @@ code_taken b ac left old store n symbol step new rest e o quiet some fits is r k
     let cut : store ≡ (c.0 ++ c.1 ∷ []) ++ rest = sym (take-append-drop n store) ∙ ap (λ (l : List Bool). l ++ drop n store) c.2 ∙ ap (λ (l : List Bool). (c.0 ++ c.1 ∷ []) ++ l) (sym r) in
     takes_to b ac left old store c.0 c.1 (walked old c.0) step new rest cut x keeps keeps stays (λ at bits k l f. answers ac at bits c.0 c.1 k code f)
 
--- A WHOLE NUMBER
+-- A COMPLETE NUMBER
 
-pub waits_for : (b : BandScan) (s : InWork) → s.stage ≡ stage.Number → IsOpen b s → length s.extra < s.size
+pub waits_for : (b : BandScan) (s : InWork) → s.stage ≡ stage.Number → IsOpenBand b s → length s.extra < s.size
 waits_for b s e o = subst (λ g. DoesWait g s) e o.waits
 
 abbrev pub taken : InWork → List Bool → InWork
 taken s x = record s { extra = x }
 
-number_through : (b : BandScan) (ac : List Code) (left : ℕ) (s : InWork) (w rest : List Bool) → s.stage ≡ stage.Number → IsOpen b s → length w + length rest < s.size → Through b ac left (taken s w) rest (taken s (w ++ rest))
+number_through : (b : BandScan) (ac : List Code) (left : ℕ) (s : InWork) (w rest : List Bool) → s.stage ≡ stage.Number → IsOpenBand b s → length w + length rest < s.size → Through b ac left (taken s w) rest (taken s (w ++ rest))
 number_through b ac left s w [] e o short = ap (λ (l : List Bool). taken s l) (append-nil w)
 number_through b ac left s w (bit ∷ rest) e o short =
     let long : length (w ++ bit ∷ []) ≡ length w + 1 = length-append w (bit ∷ []) in (
@@ -187,7 +187,7 @@ number_through b ac left s w (bit ∷ rest) e o short =
 taken_none : (s : InWork) → s.extra ≡ [] → taken s [] ≡ s
 taken_none s e = ap (λ (l : List Bool). taken s l) (sym e)
 
-pub number_taken : (b : BandScan) (ac : List Code) (left : ℕ) (old filled : InWork) (store : List Bool) (step : BandStep) (new : InWork) (rest : List Bool) → old.stage ≡ stage.Number → IsOpen b old → old.extra ≡ [] → 1 ≤ old.size → old.size ≤ length store → filled ≡ taken old (take old.size store)
+pub number_taken : (b : BandScan) (ac : List Code) (left : ℕ) (old filled : InWork) (store : List Bool) (step : BandStep) (new : InWork) (rest : List Bool) → old.stage ≡ stage.Number → IsOpenBand b old → old.extra ≡ [] → 1 ≤ old.size → old.size ≤ length store → filled ≡ taken old (take old.size store)
     → rest ≡ drop old.size store → KeepsOtherValues filled new → StaysOpen b step new → AnswersStep b filled step new → TakesBand b ac left old store step new rest
 number_taken b ac left old filled store step new rest e o none some fits whole r keeps stays answers =
     let long : length (take old.size store) ≡ old.size = length-take-le old.size store fits in
@@ -198,4 +198,4 @@ number_taken b ac left old filled store step new rest e o none some fits whole r
     let f : filled ≡ taken old (c.0 ++ c.1 ∷ []) = whole ∙ ap (λ (l : List Bool). taken old l) c.2 in
     let k : KeepsOtherValues old new = (keeps.0 ∙ ap (λ (s : InWork). s.front) whole, keeps.1 ∙ ap (λ (s : InWork). s.behind) whole) in
     takes_to b ac left old store c.0 c.1 (taken old c.0) step new rest cut x k k stays
-    (λ at bits coding l f'. answers ac at (bits ++ c.1 ∷ []) coding (subst (λ (s : InWork). Stands at (bits ++ c.1 ∷ []) s) (sym f) (number_more at bits (taken old c.0) c.1 e f')))
+    (λ at bits coding l f'. answers ac at (bits ++ c.1 ∷ []) coding (subst (λ (s : InWork). StandsInBand at (bits ++ c.1 ∷ []) s) (sym f) (number_more at bits (taken old c.0) c.1 e f')))

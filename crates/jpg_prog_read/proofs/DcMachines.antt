@@ -1,4 +1,4 @@
--- The machines of DC scans: one bit more, an interval that begins, and units that are due.
+-- The machines of DC scans: one more bit, an interval that begins, and units that are left.
 use Rattle.std.proofs.Common.{◌≡◌, ℕ, zero, suc, ◌<◌, ◌≤◌, Bool, cond, List, [], ◌∷◌, ◌++◌, length, refl, sym, ap, ◌∙◌, subst, arith, ℤ, pos, ◌+ℤ◌, ◌≤ℤ◌, ⊎_elim, ◌==◌}
 use Rattle.std.specs.Prelude.{slice_get, slice_set, slice_index_or, Some, Ok, Err}
 use Rattle.std.specs.List.{All}
@@ -25,9 +25,9 @@ use Rattle.jpg_prog_read.specs.DcPlaces.{IsSpot, with_dc, InInterval, next_of, o
 use Rattle.jpg_huff.specs.Tables.{symbol_codes}
 use Rattle.jpg_huff.specs.declared.table.Table.{Table}
 use Rattle.jpg_prog_read.specs.BitsTaken.{HurriesOn}
-use Rattle.jpg_prog_read.specs.DcLooked.{DcThrough}
+use Rattle.jpg_prog_read.specs.DcLookedUp.{DcThrough}
 use Rattle.jpg_prog_read.specs.DcFirstPass.{table_in, prediction_at, HurriesUnit, HasTable, ReadsBy, ReadsBit, CanRead, FirstStands, FirstReady, first_pass, with_unit, behind_unit}
-use Rattle.jpg_prog_read.specs.DcRefinement.{HasRoom, HasRoomAt, RefineStands, RefineReady, refinement, behind_bit}
+use Rattle.jpg_prog_read.specs.DcRefinement.{HasDcRoom, HasRoomAt, RefineStands, RefineReady, refinement, after_bit}
 use Rattle.jpg_prog_read.proofs.DcPlaces.{next_is, next_spot, old_still, on_to, within_next, whole_next, interval_read, next_ready, first_place, at_first, within_first, whole_first}
 use Rattle.jpg_prog_read.proofs.DcUnits.{dc_begins}
 use Rattle.jpg_prog_read.proofs.Due.{dc_due, dc_next_due}
@@ -137,7 +137,7 @@ next_room m p now x i bits first old o =
     let e : x ≡ old_dc i o.within = old ∙ ap (λ (q : Place). slice_index_or (block_in now q.component q.x q.y) 0 (pos 0)) (sym n) ∙ old_still m.cursor m.left i now o.within o.places in
     let c = i.scan.coding in
     let there = subst (λ (l : List Place). All (HasRoomAt c (map_of i.before)) l) (o.places).all (o.kind).room in
-    let r : HasRoom c (old_dc i o.within) = middle c i o.within.done o.within.next o.within.more there in
+    let r : HasDcRoom c (old_dc i o.within) = middle c i o.within.done o.within.next o.within.more there in
     let low : m.scan.low ≤ℤ old_dc i o.within = subst (λ (y : ℤ). y ≤ℤ old_dc i o.within) (o.coded).low r.low in
     let high : (old_dc i o.within +ℤ pos m.scan.scale) ≤ℤ m.scan.high =
     subst (λ (y : ℤ). (old_dc i o.within +ℤ pos m.scan.scale) ≤ℤ y) (o.coded).high (subst (λ (k : ℕ). (old_dc i o.within +ℤ pos k) ≤ℤ c.bounds.dc_high) (sym (o.coded).scale) r.high) in
@@ -148,12 +148,12 @@ next_room m p now x i bits first old o =
     middle c i (p ∷ done) next more h = middle c i done next more (λ k d lt. h (suc k) d (omega (arith, lt)))
 
 pub step_bit : (m : DcRefine) (p : Place) (now : Picture) (b : Bool) (x v : ℤ) → slice_get m.cursor 0 ≡ Some p → length now.blocks ≡ padded_blocks now.frame → x ≡ slice_index_or (block_in now p.component p.x p.y) 0 (pos 0)
-    → AnswersDcRefinement m.scan x b v → 2 ≤ m.left → Step refinement m now b (Ok step.More) (behind_bit m) (with_dc now p v)
+    → AnswersDcRefinement m.scan x b v → 2 ≤ m.left → Step refinement m now b (Ok step.More) (after_bit m) (with_dc now p v)
 step_bit m p now b x v first count old r many i bits o =
     let n = next_is m.cursor m.left i now o.within p first o.places in
     let a = refined m p now b x v first old r i bits o in
     let l = first_place o.within.more (omega (arith, (o.places).count, many)) in
-    let T : Place → Type 0 = λ s. RefineStands (behind_bit m) i (bits ++ b ∷ []) (with_dc now s v) in
+    let T : Place → Type 0 = λ s. RefineStands (after_bit m) i (bits ++ b ∷ []) (with_dc now s v) in
     subst T n (record {
       sane = o.sane;
       coded = o.coded;
@@ -165,12 +165,12 @@ step_bit m p now b x v first count old r many i bits o =
     })
 
 pub step_last_bit : (m : DcRefine) (p : Place) (now : Picture) (b : Bool) (x v : ℤ) → slice_get m.cursor 0 ≡ Some p → length now.blocks ≡ padded_blocks now.frame → x ≡ slice_index_or (block_in now p.component p.x p.y) 0 (pos 0)
-    → AnswersDcRefinement m.scan x b v → m.left ≡ 1 → Step refinement m now b (Ok step.IntervalDone) (behind_bit m) (with_dc now p v)
+    → AnswersDcRefinement m.scan x b v → m.left ≡ 1 → Step refinement m now b (Ok step.IntervalDone) (after_bit m) (with_dc now p v)
 step_last_bit m p now b x v first count old r one i bits o =
     let n = next_is m.cursor m.left i now o.within p first o.places in
     let a = refined m p now b x v first old r i bits o in
     let none = none_more o.within.more (omega (arith, (o.places).count, one)) in
-    let T : Place → Type 0 = λ s. Answered refinement i (bits ++ b ∷ []) (Ok step.IntervalDone) now (behind_bit m) (with_dc now s v) in
+    let T : Place → Type 0 = λ s. Answered refinement i (bits ++ b ∷ []) (Ok step.IntervalDone) now (after_bit m) (with_dc now s v) in
     subst T n (
       interval_read m.cursor m.left i now o.within v o.predictions (bits ++ b ∷ []) count o.places none a,
       λ j follows fits. record {
@@ -224,7 +224,7 @@ refine_begins m new i units r count some is =
       between = whole_first m.cursor m.left i l.0 l.1 r.places l.2;
     })
 
--- UNITS THAT ARE DUE
+-- UNITS THAT ARE LEFT
 
 unfinished : (places : List Place) (units : ℕ) (i : Interval) (bits : List Bool) (now : Picture) (w : InInterval) → IsWithin places units i now w
     → StandsInUnits i.scan.coding (units_of i) w.whole (dc_unit w.next.component (old_dc i w) ∷ (next_of i w).others) bits → IsUnfinished i bits now units

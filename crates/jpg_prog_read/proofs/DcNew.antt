@@ -32,16 +32,16 @@ use Rattle.jpg_prog_read.specs.declared.dc_refine.DcRefine.{DcRefine}
 use Rattle.jpg_prog_read.specs.declared.scan.DcScan.{DcScan}
 use Rattle.jpg_prog_read.specs.DcWork.{AreDcSane}
 use Rattle.jpg_prog_read.specs.DcStands.{IsDcCodingOf, IsDcRefinementOf}
-use Rattle.jpg_prog_read.specs.DcPlaces.{IsDcBand, IsSpot, IsNext}
+use Rattle.jpg_prog_read.specs.DcPlaces.{IsDcBand, IsSpot, IsNextInterval}
 use Rattle.jpg_prog_read.specs.DcFirstPass.{table_in, HasTable, ReadsBy, FirstReady}
 use Rattle.jpg_prog_read.specs.DcRefinement.{TakesOneBit, RefineReady}
 use Rattle.jpg_prog_read.proofs.Slots.{at_set, other_set}
-use Rattle.jpg_prog_read.specs.DcLooked.{AreLooked}
-use Rattle.jpg_prog_read.specs.DcNew.{IsDcHead, HasPartTable, IsFirstHead, IsRefineHead, AreInSet, IsOfScan, dc_scan_of, part_at, AreFilled}
+use Rattle.jpg_prog_read.specs.DcLookedUp.{AreDcLookedUp}
+use Rattle.jpg_prog_read.specs.DcNew.{IsDcHead, HasPartTable, IsFirstHead, IsRefineHead, AreInSet, IsOfScan, dc_scan_of, part_at, AreDcTablesFilled}
 
 -- TABLES IN THE SLOTS OF THEIR COMPONENTS
 
-pub none_filled : (own given : TableSet) (parts : List ScanPart) → dc_tables own ≡ no_tables → AreFilled given parts 0 own
+pub none_filled : (own given : TableSet) (parts : List ScanPart) → dc_tables own ≡ no_tables → AreDcTablesFilled given parts 0 own
 none_filled own given parts e = record { four = ap length e; found = λ k table f. absurd (none k table (ap (λ (l : List (Option Table)). in_slot l k) (sym e) ∙ f)); there = λ j h. absurd (omega (arith, h)) }
   where
     none : (k : ℕ) (table : Table) → in_slot no_tables k ≡ Some table → ⊥
@@ -51,8 +51,8 @@ none_filled own given parts e = record { four = ap length e; found = λ k table 
     none (suc (suc (suc zero))) table e = cc
     none (suc (suc (suc (suc k)))) table e = cc
 
-pub filled_more : (given : TableSet) (parts : List ScanPart) (n : ℕ) (own new : TableSet) → AreFilled given parts n own → (part_at parts n).component < 4 → HasPartTable given (part_at parts n)
-    → dc_tables new ≡ set (dc_tables own) (part_at parts n).component (table_in given (part_at parts n).dc) → AreFilled given parts (n + 1) new
+pub filled_more : (given : TableSet) (parts : List ScanPart) (n : ℕ) (own new : TableSet) → AreDcTablesFilled given parts n own → (part_at parts n).component < 4 → HasPartTable given (part_at parts n)
+    → dc_tables new ≡ set (dc_tables own) (part_at parts n).component (table_in given (part_at parts n).dc) → AreDcTablesFilled given parts (n + 1) new
 filled_more given parts n own new f small has e =
     let c = (part_at parts n).component in
     let o = table_in given (part_at parts n).dc in
@@ -83,7 +83,7 @@ filled_more given parts n own new f small has e =
 component_at_part : (parts : List ScanPart) (j : ℕ) → j < length parts → get_or (map (λ (p : ScanPart). p.component) parts) j 0 ≡ (part_at parts j).component
 component_at_part parts j h = get_or-map (λ (p : ScanPart). p.component) parts j (record { component = 0; dc = 0; ac = 0 }) 0 h
 
--- the default of a part that isn't there is of no account
+-- the default of a part that isn't there doesn't matter
 part_same : (parts : List ScanPart) (j : ℕ) (d e : ScanPart) → j < length parts → get_or parts j d ≡ get_or parts j e
 part_same [] j d e h = absurd (omega (arith, h))
 part_same (p ∷ parts) zero d e h = refl
@@ -96,7 +96,7 @@ part_found head j k d h e =
     let x : index_of k ids ≡ j = ap (λ (n : ℕ). index_of n ids) (sym here) ∙ index_at ids j d (omega (arith, h, length-map head.parts (λ (p : ScanPart). p.component))) in
     ap (λ (q : ℕ). slice_index_or head.parts q (record { component = k; dc = 0; ac = 0 })) x ∙ part_same head.parts j _ _ h
 
--- WHAT THE MACHINES GO BY
+-- WHAT THE MACHINES ARE BASED ON
 
 pub scan_sane : (f : Frame) (al : ℕ) → AreDcSane (dc_scan_of f al)
 scan_sane f al = record { low = omega (arith, ints); high = omega (arith, ints); some = pow_pos al; most = omega arith }
@@ -138,7 +138,7 @@ refine_coding f head all is =
 spots : (f : Frame) (ids : List ℕ) → IsFrame f → (p : Place) → IsOneOf f ids p → IsSpot f p
 spots f ids frame p o = record { small = omega (arith, o.place.component, frame.count_high); padded = o.place }
 
-places_next : (f : Frame) (head : ScanHead) (all : TablesInForce) (places : List Place) (i : Interval) → IsFrame f → IsDcHead f head → places ≡ units f (head_components head) → IsOfScan f all head i → IsDcBand i.scan → IsNext places 0 i
+places_next : (f : Frame) (head : ScanHead) (all : TablesInForce) (places : List Place) (i : Interval) → IsFrame f → IsDcHead f head → places ≡ units f (head_components head) → IsOfScan f all head i → IsDcBand i.scan → IsNextInterval places 0 i
 places_next f head all places i frame is cursor of band =
     let ids = head_components head in
     let there : All (IsSpot f) (units f ids) = All-weaker (IsOneOf f ids) (IsSpot f) (spots f ids frame) (units f ids) (units_in f ids frame is.components) in
@@ -151,7 +151,7 @@ places_next f head all places i frame is cursor of band =
       spots = subst (λ (g : Frame). All (IsSpot g) places) (sym of.frame) (subst (λ (l : List Place). All (IsSpot f) l) (sym cursor) there);
     }
 
-tables_there : (f : Frame) (head : ScanHead) (given own : TableSet) → IsFrame f → IsDcHead f head → AreFilled given head.parts (length head.parts) own → All (HasTable own) (units f (head_components head))
+tables_there : (f : Frame) (head : ScanHead) (given own : TableSet) → IsFrame f → IsDcHead f head → AreDcTablesFilled given head.parts (length head.parts) own → All (HasTable own) (units f (head_components head))
 tables_there f head given own frame is filled =
     let ids = head_components head in
     let n : length ids ≡ length head.parts = length-map head.parts (λ (p : ScanPart). p.component) in
@@ -163,7 +163,7 @@ tables_there f head given own frame is filled =
 
 -- THE NEW MACHINES
 
-pub first_ready : (f : Frame) (head : ScanHead) (given : TableSet) (m : DcFirst) → IsFrame f → IsFirstHead f head given → m.scan ≡ dc_scan_of f head.al → AreFilled given head.parts (length head.parts) m.tables → AreLooked m.tables m.looks → m.cursor ≡ units f (head_components head)
+pub first_ready : (f : Frame) (head : ScanHead) (given : TableSet) (m : DcFirst) → IsFrame f → IsFirstHead f head given → m.scan ≡ dc_scan_of f head.al → AreDcTablesFilled given head.parts (length head.parts) m.tables → AreDcLookedUp m.tables m.looks → m.cursor ≡ units f (head_components head)
     → length m.predictions ≡ 4 → m.left ≡ 0 → (i : Interval) (all : TablesInForce) → AreInSet given all → IsOfScan f all head i → IsDcBand i.scan → FirstReady m i
 first_ready f head given m frame is scan filled looks cursor four left i all set of band =
     let reads : ReadsBy (dc_scan_of f head.al) m.tables (scan_coding f all head) = record {
@@ -175,7 +175,7 @@ first_ready f head given m frame is scan filled looks cursor four left i all set
       looks = looks;
       tables = subst (λ (l : List Place). All (HasTable m.tables) l) (sym cursor) (tables_there f head given m.tables frame is.is_head filled);
       four = four;
-      places = subst (λ (n : ℕ). IsNext m.cursor n i) (sym left) (places_next f head all m.cursor i frame is.is_head cursor of band);
+      places = subst (λ (n : ℕ). IsNextInterval m.cursor n i) (sym left) (places_next f head all m.cursor i frame is.is_head cursor of band);
     }
 
 pub refine_ready : (f : Frame) (head : ScanHead) (m : DcRefine) → IsFrame f → IsRefineHead f head → m.scan ≡ dc_scan_of f head.al → m.cursor ≡ units f (head_components head) → m.left ≡ 0
@@ -184,5 +184,5 @@ refine_ready f head m frame is scan cursor left i all of kind = record {
   sane = subst (λ (b : DcScan). AreDcSane b) (sym scan) (scan_sane f head.al);
   coded = subst (λ (b : DcScan). IsDcRefinementOf b i.scan.coding) (sym scan) (subst (λ (c : Coding). IsDcRefinementOf (dc_scan_of f head.al) c) (sym of.coding) (refine_coding f head all is));
   kind = kind;
-  places = subst (λ (n : ℕ). IsNext m.cursor n i) (sym left) (places_next f head all m.cursor i frame is.is_head cursor of kind.band);
+  places = subst (λ (n : ℕ). IsNextInterval m.cursor n i) (sym left) (places_next f head all m.cursor i frame is.is_head cursor of kind.band);
 }

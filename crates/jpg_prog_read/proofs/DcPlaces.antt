@@ -18,7 +18,7 @@ use Rattle.jpg_coefs.specs.Picture.{Picture, block_in, map_of, HasPlace, KeepsOu
 use Rattle.jpg_coefs.specs.Machine.{Interval, units_of, IsWholeInterval, Follows}
 use Rattle.jpg_coefs.proofs.Maps.{map_at, put_here, put_changes}
 use Rattle.jpg_prog_read.specs.DcStands.{DcBetween, dc_unit}
-use Rattle.jpg_prog_read.specs.DcPlaces.{IsDcBand, IsSpot, dc_at, with_dc, InInterval, next_of, old_dc, AreWhole, IsWithin, IsNext}
+use Rattle.jpg_prog_read.specs.DcPlaces.{IsDcBand, IsSpot, dc_at, with_dc, InInterval, next_of, old_dc, AreCompleteUnits, IsWithin, IsNextInterval}
 
 -- THE BAND
 
@@ -34,9 +34,9 @@ unit_is s blocks p d sized =
     ap (λ (n : ℕ). (let u : UnitLeft = record { component = p.component; has_dc = n == 0; old = band s (block_at blocks p) } in u)) d.ss
     ∙ ap (λ (l : List ℤ). (let u : UnitLeft = record { component = p.component; has_dc = true; old = l } in u)) (band_is s (block_at blocks p) d (omega (arith, sized p.component p.x p.y)))
 
-behind_dc : (s : Scan) (k : ℕ) → IsDcBand s → is_in_band s k ≡ false → k ≡ 0 → ⊥
-behind_dc s (suc k) d e z = absurd (omega (arith, z))
-behind_dc s zero d e z =
+after_dc : (s : Scan) (k : ℕ) → IsDcBand s → is_in_band s k ≡ false → k ≡ 0 → ⊥
+after_dc s (suc k) d e z = absurd (omega (arith, z))
+after_dc s zero d e z =
     let a : nat_le s.ss 0 ≡ true = grind (arith, nat_tests, d.ss) in
     let b : nat_le 0 s.se ≡ true = grind (arith, nat_tests) in
     clash (is_in_band s 0) (and_intro (nat_le s.ss 0) (nat_le 0 s.se) a b) e
@@ -48,7 +48,7 @@ dc_keeps s q p v d h long =
     let block = block_in q p.component p.x p.y in
     record {
       size = length-set block 0 v ∙ long;
-      same = λ k e. get_or-set_other block 0 k v (pos 0) (behind_dc s k d e) ∙ ap (λ (b : List ℤ). slice_index_or b k (pos 0)) (sym (map_at q p.component p.x p.y h.place));
+      same = λ k e. get_or-set_other block 0 k v (pos 0) (after_dc s k d e) ∙ ap (λ (b : List ℤ). slice_index_or b k (pos 0)) (sym (map_at q p.component p.x p.y h.place));
     }
 
 dc_put : (s : Scan) (q : Picture) (p : Place) (v : ℤ) → IsDcBand s → HasPlace q p → length (block_in q p.component p.x p.y) ≡ 64 → band s (block_at (map_of (with_dc q p v)) p) ≡ v ∷ []
@@ -70,7 +70,7 @@ next_spot places units i now w o =
     let all = subst (λ (l : List Place). All (IsSpot i.before.frame) l) o.left o.spots in
     subst (λ (f : Frame). IsSpot f w.next) (sym o.frame) (All-head (IsSpot i.before.frame) w.next (w.more ++ i.later) all)
 
--- it isn't one of those whose units are whole
+-- it isn't one of those whose units are complete
 next_apart : (places : List Place) (units : ℕ) (i : Interval) (now : Picture) (w : InInterval) → IsWithin places units i now w → any_of (is_at w.next.component w.next.x w.next.y) w.done ≡ false
 next_apart places units i now w o =
     let e : i.places ++ i.later ≡ w.done ++ w.next ∷ (w.more ++ i.later) = ap (λ (l : List Place). l ++ i.later) o.all ∙ append_assoc w.done (w.next ∷ w.more) i.later in
@@ -82,7 +82,7 @@ old_still places units i now w o =
     let p = w.next in
     ap (λ (b : List ℤ). slice_index_or b 0 (pos 0)) (sym (map_at now p.component p.x p.y (next_spot places units i now w o).padded) ∙ (o.read.changes).elsewhere p.component p.x p.y (next_apart places units i now w o))
 
--- THE NEXT UNIT IS WHOLE
+-- THE NEXT UNIT IS COMPLETE
 
 pub unit_read : (places : List Place) (units : ℕ) (i : Interval) (now : Picture) (w : InInterval) (v : ℤ) → length now.blocks ≡ padded_blocks now.frame → IsWithin places units i now w
     → UnitsRead i.scan (w.done ++ w.next ∷ []) (map_of i.before) (map_of (with_dc now w.next v)) (w.whole ++ v ∷ [])
@@ -95,7 +95,7 @@ unit_read places units i now w v count o =
     let read = units_next i.scan w.done p (map_of i.before) (map_of now) (map_of after) w.whole (next_apart places units i now w o) o.read (put_changes i.scan now p block h (dc_keeps i.scan now p v o.band h long)) in
     subst (λ (l : List ℤ). UnitsRead i.scan (w.done ++ p ∷ []) (map_of i.before) (map_of after) (w.whole ++ l)) (dc_put i.scan now p v o.band h long) read
 
--- behind it, where one more is left
+-- after it, if one more is left
 abbrev pub on_to : InInterval → ℤ → Place → List Place → InInterval
 on_to w v next more = record { done = w.done ++ w.next ∷ []; whole = w.whole ++ v ∷ []; next = next; more = more }
 
@@ -114,13 +114,13 @@ within_next places units i now w v next more count o e = record {
 }
 
 pub whole_next : (i : Interval) (w : InInterval) (v : ℤ) (next : Place) (more : List Place) (p : ℕ → ℤ) (bits : List Bool) → IsDcBand i.scan → ((k x y : ℕ) → length (map_of i.before k x y) ≡ 64) → w.more ≡ next ∷ more
-    → DcBetween i.scan.coding (units_of i) (w.whole ++ v ∷ []) p (next_of i w).others bits → AreWhole i (on_to w v next more) p bits
+    → DcBetween i.scan.coding (units_of i) (w.whole ++ v ∷ []) p (next_of i w).others bits → AreCompleteUnits i (on_to w v next more) p bits
 whole_next i w v next more p bits d sized e b =
     let unit = unit_at i.scan (map_of i.before) in
     subst (λ (us : List UnitLeft). DcBetween i.scan.coding (units_of i) (w.whole ++ v ∷ []) p us bits)
     (ap (map unit) e ∙ ap (λ (u : UnitLeft). u ∷ map unit more) (unit_is i.scan (map_of i.before) next d sized)) b
 
--- and where it was the last one
+-- and if it was the last one
 pub interval_read : (places : List Place) (units : ℕ) (i : Interval) (now : Picture) (w : InInterval) (v : ℤ) (p : ℕ → ℤ) (bits : List Bool) → length now.blocks ≡ padded_blocks now.frame → IsWithin places units i now w → w.more ≡ []
     → DcBetween i.scan.coding (units_of i) (w.whole ++ v ∷ []) p (next_of i w).others bits → IsWholeInterval i bits (with_dc now w.next v)
 interval_read places units i now w v p bits count o none b =
@@ -133,7 +133,7 @@ interval_read places units i now w v p bits count o none b =
     }
 
 pub next_ready : (places : List Place) (units : ℕ) (i j : Interval) (now : Picture) (w : InInterval) (v : ℤ) → length now.blocks ≡ padded_blocks now.frame → IsWithin places units i now w → w.more ≡ []
-    → Follows i (with_dc now w.next v) j → IsDcBand j.scan → IsNext (drop 1 places) (units - 1) j
+    → Follows i (with_dc now w.next v) j → IsDcBand j.scan → IsNextInterval (drop 1 places) (units - 1) j
 next_ready places units i j now w v count o none follows d =
     let after = with_dc now w.next v in
     let sizes = ((unit_read places units i now w v count o).changes).sizes in
@@ -155,7 +155,7 @@ first_place (p ∷ more) h = (p, more, refl)
 abbrev pub at_first : Place → List Place → InInterval
 at_first next more = record { done = []; whole = []; next = next; more = more }
 
-pub within_first : (places : List Place) (old units : ℕ) (i : Interval) (next : Place) (more : List Place) → IsNext places old i → i.places ≡ next ∷ more → length i.places ≡ units → IsWithin places units i i.before (at_first next more)
+pub within_first : (places : List Place) (old units : ℕ) (i : Interval) (next : Place) (more : List Place) → IsNextInterval places old i → i.places ≡ next ∷ more → length i.places ≡ units → IsWithin places units i i.before (at_first next more)
 within_first places old units i next more r e count = record {
   band = r.band;
   distinct = r.distinct;
@@ -168,7 +168,7 @@ within_first places old units i next more r e count = record {
   read = units_first i.scan (map_of i.before) r.sized;
 }
 
-pub whole_first : (places : List Place) (units : ℕ) (i : Interval) (next : Place) (more : List Place) → IsNext places units i → i.places ≡ next ∷ more → AreWhole i (at_first next more) (λ k. pos 0) []
+pub whole_first : (places : List Place) (units : ℕ) (i : Interval) (next : Place) (more : List Place) → IsNextInterval places units i → i.places ≡ next ∷ more → AreCompleteUnits i (at_first next more) (λ k. pos 0) []
 whole_first places units i next more r e =
     let unit = unit_at i.scan (map_of i.before) in
     record {

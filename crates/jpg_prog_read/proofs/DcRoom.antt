@@ -7,7 +7,7 @@ use Rattle.jpg_spec.specs.Elements.{Coding}
 use Rattle.jpg_spec.specs.Geometry.{Frame, bounds}
 use Rattle.jpg_spec.specs.declared.frame.Bounds.{Bounds}
 use Rattle.jpg_prog_read.specs.Known.{IsMultiple}
-use Rattle.jpg_prog_read.specs.DcRefinement.{HasRoom, IsKnownDc}
+use Rattle.jpg_prog_read.specs.DcRefinement.{HasDcRoom, IsKnownDc}
 use Rattle.jpg_prog_read.proofs.Known.{known_refinable}
 
 -- the next bit of a negative value leaves it below 1
@@ -26,7 +26,7 @@ room_below al (negsuc n) le k high =
     let h = below_one n k.0 al k.1 in
     omega (arith, ints, h)
 
-pub room_known : (f : Frame) (c : Coding) (o : ℤ) → c.bounds ≡ bounds f → c.al + 1 ≤ 10 → IsKnownDc c o → HasRoom c o
+pub room_known : (f : Frame) (c : Coding) (o : ℤ) → c.bounds ≡ bounds f → c.al + 1 ≤ 10 → IsKnownDc c o → HasDcRoom c o
 room_known f c o e le k =
     let top : c.bounds.dc_high ≡ pos 1023 = ap (λ (b : Bounds). b.dc_high) e in
     record {

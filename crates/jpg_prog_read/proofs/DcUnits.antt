@@ -10,10 +10,10 @@ use Rattle.std.proofs.lemmas.List.{append-nil}
 use Rattle.jpg_spec.specs.Codes.{Code}
 use Rattle.jpg_spec.specs.Numbers.{category, extra_bits}
 use Rattle.jpg_spec.specs.Elements.{Element, difference, dc_bit, Coding, UnitLeft, Standing, Tells, SpellsElement, codes_due, predictions_after, predicted, at_start, scaled, are_in_bounds}
-use Rattle.jpg_spec.specs.ScanFaults.{BitsShow, DataShows}
+use Rattle.jpg_spec.specs.ScanFaults.{BitsShow, DataReveals}
 use Rattle.jpg_spec.specs.declared.fault.Fault.{Fault}
 use Rattle.jpg_spec.specs.declared.fault.Fault.TheVariants as fault
-use Rattle.jpg_spec.proofs.Bands.{covers_then}
+use Rattle.jpg_spec.proofs.Values.{covers_then}
 use Rattle.jpg_huff.specs.Walk.{BeginsNoCode}
 use Rattle.jpg_spec.specs.Parts.{BeginsCode, IsFront, InDifference}
 use Rattle.jpg_prog_read.specs.declared.scan.DcScan.{DcScan}
@@ -52,9 +52,9 @@ dc_beyond c low high v a b h =
     both_false (int_le c.bounds.dc_low v) (int_le v c.bounds.dc_high)
     (λ t. h (from_test low v (ap (λ (x : ℤ). int_le x v) (sym a) ∙ t.0), from_test v high (ap (λ (x : ℤ). int_le v x) (sym b) ∙ t.1)))
 
--- WHOLE UNITS
+-- COMPLETE UNITS
 
--- a unit more
+-- one more unit
 one_more : (at : UnitPlace) (p : ℕ → ℤ) (o v : ℤ) (front part : List Bool) (e : Element)
     → (b : DcBetween at.coding at.units at.told p (dc_unit at.component o ∷ at.others) front) → SpellsElement (codes_due at.coding (dc_unit at.component o)) e part → Tells at.coding (b.mid.predictions at.component) e (dc_unit at.component o) at.others (v ∷ []) at.others → are_in_bounds at.coding.bounds true (v ∷ []) ≡ true
     → (q : ℕ → ℤ) → ((j : ℕ) → predictions_after b.mid.predictions at.component e j ≡ q j) → DcBetween at.coding at.units (at.told ++ v ∷ []) q at.others (front ++ part)
@@ -77,7 +77,7 @@ predicted_same p q i w x h e j = ap (λ (y : ℤ). cond (j == i) y (p j)) e ∙ 
 difference_tells : (c : Coding) (b : DcScan) (dc : List Code) (i : ℕ) (o q d : ℤ) (others : List UnitLeft) → IsDcCodingOf b dc c i → category d ≤ c.bounds.dc_cat → Tells c q (difference d) (dc_unit i o) others (scaled c.al (q +ℤ d) ∷ []) others
 difference_tells c b dc i o q d others k few = (o, [], refl, k.first, few, refl, refl, refl)
 
--- a difference is whole
+-- a difference is complete
 pub difference_read : (b : DcScan) (dc : List Code) (at : UnitPlace) (p : ℕ → ℤ) (o : ℤ) (front part : List Bool) (d prediction w v : ℤ) → IsDcCodingOf b dc at.coding at.component → p at.component ≡ prediction
     → DcBetween at.coding at.units at.told p (dc_unit at.component o ∷ at.others) front → SpellsElement (at.coding.dc at.component) (difference d) part → category d ≤ at.coding.bounds.dc_cat
     → w ≡ prediction +ℤ d → v ≡ (prediction +ℤ d) *ℤ pos b.scale → InDcRange b ((prediction +ℤ d) *ℤ pos b.scale) → DcBetween at.coding at.units (at.told ++ v ∷ []) (predicted p at.component w) at.others (front ++ part)
@@ -93,7 +93,7 @@ difference_read b dc at p o front part d prediction w v k q f sp few ew ev range
 -- a value out of the bounds
 pub difference_beyond : (b : DcScan) (dc : List Code) (at : UnitPlace) (p : ℕ → ℤ) (o : ℤ) (bits front part : List Bool) (d prediction : ℤ) → IsDcCodingOf b dc at.coding at.component → p at.component ≡ prediction
     → DcBetween at.coding at.units at.told p (dc_unit at.component o ∷ at.others) front → bits ≡ front ++ part → SpellsElement (at.coding.dc at.component) (difference d) part → category d ≤ at.coding.bounds.dc_cat
-    → (InDcRange b ((prediction +ℤ d) *ℤ pos b.scale) → ⊥) → DataShows at.coding at.units fault.CoefRange bits
+    → (InDcRange b ((prediction +ℤ d) *ℤ pos b.scale) → ⊥) → DataReveals at.coding at.units fault.CoefRange bits
 difference_beyond b dc at p o bits front part d prediction k q f split sp few beyond =
     let x : f.mid.predictions at.component ≡ prediction = f.predicts at.component ∙ q in
     let y : scaled at.coding.al (f.mid.predictions at.component +ℤ d) ≡ (prediction +ℤ d) *ℤ pos b.scale = ap (λ (z : ℤ). scaled at.coding.al (z +ℤ d)) x ∙ ap (λ n. (prediction +ℤ d) *ℤ pos n) (sym k.scale) in
@@ -179,7 +179,7 @@ dc_more b dc at p o bits s mid next k z f same begins w =
     }
 
 dc_shows : (b : DcScan) (dc : List Code) (at : UnitPlace) (p : ℕ → ℤ) (o : ℤ) (bits : List Bool) (s : DcWork) (next : Bool) (shown : Fault) → IsDcCodingOf b dc at.coding at.component → s.size ≡ 0 → DcStands at p o bits s
-    → ((q : Standing) → BitsShow at.coding q (dc_unit at.component o) at.others shown (s.walked ++ next ∷ [])) → DataShows at.coding at.units shown (bits ++ next ∷ [])
+    → ((q : Standing) → BitsShow at.coding q (dc_unit at.component o) at.others shown (s.walked ++ next ∷ [])) → DataReveals at.coding at.units shown (bits ++ next ∷ [])
 dc_shows b dc at p o bits s next shown k z f h =
     let j = in_code at f.whole.mid o f.part s z f.is_part in
     record {
@@ -199,14 +199,14 @@ dc_shows b dc at p o bits s next shown k z f h =
     }
 
 pub dc_none : (b : DcScan) (dc : List Code) (at : UnitPlace) (p : ℕ → ℤ) (o : ℤ) (bits : List Bool) (s : DcWork) (next : Bool) → IsDcCodingOf b dc at.coding at.component → s.size ≡ 0 → DcStands at p o bits s
-    → BeginsNoCode dc (s.walked ++ next ∷ []) → DataShows at.coding at.units fault.NoCode (bits ++ next ∷ [])
+    → BeginsNoCode dc (s.walked ++ next ∷ []) → DataReveals at.coding at.units fault.NoCode (bits ++ next ∷ [])
 dc_none b dc at p o bits s next k z f h =
     let j = in_code at f.whole.mid o f.part s z f.is_part in
     let n : BeginsNoCode (at.coding.dc at.component) (s.walked ++ next ∷ []) = subst (λ t. BeginsNoCode t (s.walked ++ next ∷ [])) (sym k.dc_codes) h in
     dc_shows b dc at p o bits s next fault.NoCode k z f (λ q. inl (refl, walk_shows (at.coding.dc at.component) s.walked next (due_apart at.coding (dc_unit at.component o) k.sound) j.1 n))
 
 pub dc_bad : (b : DcScan) (dc : List Code) (at : UnitPlace) (p : ℕ → ℤ) (o : ℤ) (bits : List Bool) (s : DcWork) (next : Bool) (symbol : ℕ) → IsDcCodingOf b dc at.coding at.component → s.size ≡ 0 → DcStands at p o bits s
-    → Contains dc (s.walked ++ next ∷ [], symbol) → b.most_category < symbol → DataShows at.coding at.units fault.BadSymbol (bits ++ next ∷ [])
+    → Contains dc (s.walked ++ next ∷ [], symbol) → b.most_category < symbol → DataReveals at.coding at.units fault.BadSymbol (bits ++ next ∷ [])
 dc_bad b dc at p o bits s next symbol k z f h bad =
     let n : Contains (at.coding.dc at.component) (s.walked ++ next ∷ [], symbol) = subst (λ t. Contains t (s.walked ++ next ∷ [], symbol)) (sym k.dc_codes) h in
     let l : nat_le symbol at.coding.bounds.dc_cat ≡ false = ap (nat_le symbol) k.most ∙ grind (arith, nat_tests) in
@@ -266,7 +266,7 @@ dc_wanting at p o bits s new next z f e =
       );
     })
 
--- the part that a whole difference is
+-- the part that a complete difference is
 zero_part : (c : Coding) (b : DcScan) (dc : List Code) (i : ℕ) (s : DcWork) (next : Bool) (size : ℕ) → IsDcCodingOf b dc c i → Contains dc (s.walked ++ next ∷ [], size) → size ≡ 0 → SpellsElement (c.dc i) (difference (pos 0)) (s.walked ++ next ∷ [])
 zero_part c b dc i s next size k h z =
     let n : Contains (c.dc i) (s.walked ++ next ∷ [], category (pos 0)) = subst (λ t. Contains t (s.walked ++ next ∷ [], category (pos 0))) (sym k.dc_codes) (subst (λ (y : ℕ). Contains dc (s.walked ++ next ∷ [], y)) (z ∙ sym zero_category) h) in
@@ -276,7 +276,7 @@ number_part : (c : Coding) (i : ℕ) (s : DcWork) (code part : List Bool) (next 
 number_part c i s code part next d h e size extra =
     (code, subst (λ (y : ℕ). Contains (c.dc i) (code, y)) (sym size) h, part_more part code s.extra next e ∙ ap (λ x. code ++ x) (sym extra))
 
--- after a whole difference
+-- after a complete difference
 answered : (b : DcScan) (dc : List Code) (at : UnitPlace) (p : ℕ → ℤ) (o : ℤ) (bits front part : List Bool) (d prediction w v : ℤ) (s : DcWork) → IsDcCodingOf b dc at.coding at.component → p at.component ≡ prediction
     → DcBetween at.coding at.units at.told p (dc_unit at.component o ∷ at.others) front → bits ≡ front ++ part → SpellsElement (at.coding.dc at.component) (difference d) part → category d ≤ at.coding.bounds.dc_cat
     → IsDcValue b (prediction +ℤ d) (Within w v) → DcAnswered at p o bits (Done w v) s
@@ -291,7 +291,7 @@ zero_done b dc at p o bits s new next size prediction w v k q z f known is h =
     (zero_part at.coding b dc at.component s next size k known is) (omega (arith, zero_category)) h
 
 pub zero_beyond : (b : DcScan) (dc : List Code) (at : UnitPlace) (p : ℕ → ℤ) (o : ℤ) (bits : List Bool) (s : DcWork) (next : Bool) (size : ℕ) (prediction : ℤ) → IsDcCodingOf b dc at.coding at.component → p at.component ≡ prediction → s.size ≡ 0
-    → DcStands at p o bits s → Contains dc (s.walked ++ next ∷ [], size) → size ≡ 0 → IsDcValue b (prediction +ℤ pos 0) Beyond → DataShows at.coding at.units fault.CoefRange (bits ++ next ∷ [])
+    → DcStands at p o bits s → Contains dc (s.walked ++ next ∷ [], size) → size ≡ 0 → IsDcValue b (prediction +ℤ pos 0) Beyond → DataReveals at.coding at.units fault.CoefRange (bits ++ next ∷ [])
 zero_beyond b dc at p o bits s next size prediction k q z f known is h =
     let j = in_code at f.whole.mid o f.part s z f.is_part in
     difference_beyond b dc at p o (bits ++ next ∷ []) f.front (s.walked ++ next ∷ []) (pos 0) prediction k q f.whole (part_more bits f.front f.part next f.split ∙ ap (λ x. f.front ++ (x ++ next ∷ [])) j.0)
@@ -305,7 +305,7 @@ number_done b dc at p o bits s new next d prediction w v k q z f size extra h =
     (number_part at.coding at.component s j.1.code f.part next d j.1.coded j.1.split size extra) (omega (arith, size, j.1.most)) h
 
 pub number_beyond : (b : DcScan) (dc : List Code) (at : UnitPlace) (p : ℕ → ℤ) (o : ℤ) (bits : List Bool) (s : DcWork) (next : Bool) (d prediction : ℤ) → IsDcCodingOf b dc at.coding at.component → p at.component ≡ prediction → 1 ≤ s.size
-    → DcStands at p o bits s → category d ≡ s.size → extra_bits d ≡ s.extra ++ next ∷ [] → IsDcValue b (prediction +ℤ d) Beyond → DataShows at.coding at.units fault.CoefRange (bits ++ next ∷ [])
+    → DcStands at p o bits s → category d ≡ s.size → extra_bits d ≡ s.extra ++ next ∷ [] → IsDcValue b (prediction +ℤ d) Beyond → DataReveals at.coding at.units fault.CoefRange (bits ++ next ∷ [])
 number_beyond b dc at p o bits s next d prediction k q z f size extra h =
     let j = in_number at f.whole.mid o f.part s z f.is_part in
     difference_beyond b dc at p o (bits ++ next ∷ []) f.front (f.part ++ next ∷ []) d prediction k q f.whole (part_more bits f.front f.part next f.split)

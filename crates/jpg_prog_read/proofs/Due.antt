@@ -1,4 +1,4 @@
--- Where a machine waits for a bit, it stands for whole elements and a part of one more.
+-- When a machine waits for a bit, it represents complete elements and a part of one more.
 use Rattle.std.proofs.Common.{◌≡◌, ℕ, ◌≤◌, Bool, false, List, [], ◌∷◌, length, refl, sym, subst, arith, ℤ, pos, inl, inr}
 use Rattle.std.specs.Prelude.{slice_index_or}
 use Rattle.std.proofs.lemmas.List.{append-nil}
@@ -8,9 +8,9 @@ use Rattle.jpg_spec.specs.Parts.{InEnds, band_unit, WantsCorrection, PartOfEleme
 use Rattle.jpg_prog_read.specs.declared.stage.Stage.{Stage}
 use Rattle.jpg_prog_read.specs.declared.stage.Stage.TheVariants as stage
 use Rattle.jpg_prog_read.specs.declared.scan.BandScan.{BandScan}
-use Rattle.jpg_prog_read.specs.InWork.{InWork, IsOpen, DoesWait}
+use Rattle.jpg_prog_read.specs.InWork.{InWork, IsOpenBand, DoesWait}
 use Rattle.jpg_prog_read.specs.DcWork.{DcWork, IsDcOpen}
-use Rattle.jpg_prog_read.specs.Stands.{UnitPlace, unit_left, IsPart, IsRest}
+use Rattle.jpg_prog_read.specs.Stands.{UnitPlace, unit_left, IsElementPart, IsRest}
 use Rattle.jpg_prog_read.specs.DcStands.{IsDcPart, dc_unit}
 use Rattle.jpg_prog_read.specs.Due.{BandIsDue, NextIsDue, DcIsDue, NextDcIsDue}
 
@@ -18,7 +18,7 @@ wants : (i : ℕ) (rest : List ℤ) → 1 ≤ length rest → is_zero (slice_ind
 wants i [] some z = absurd (omega (arith, some))
 wants i (o ∷ rest) some z = (o, rest, refl, z)
 
-part_is : (at : UnitPlace) (mid : Standing) (here : List ℤ) (part : List Bool) (s : InWork) (g : Stage) → 1 ≤ length s.rest → DoesWait g s → IsPart at mid here part s g
+part_is : (at : UnitPlace) (mid : Standing) (here : List ℤ) (part : List Bool) (s : InWork) (g : Stage) → 1 ≤ length s.rest → DoesWait g s → IsElementPart at mid here part s g
     → PartOfElement at.coding mid (unit_left at s) at.others here part
 part_is at mid here part s stage.Code some w p = in_code p.1
 part_is at mid here part s stage.Number some w p = in_number s.run s.size s.extra p.1 w
@@ -27,7 +27,7 @@ part_is at mid here part s stage.Value some w p = in_value s.run s.due p.1 (want
 part_is at mid here part s stage.Long some w p = in_long s.run p.1 (wants at.component s.rest some w)
 part_is at mid here part s stage.Ends some w p = in_ends s.bands p.1 (wants at.component s.rest some w.0)
 
-pub band_due : (b : BandScan) (s : InWork) → IsOpen b s → BandIsDue s
+pub band_due : (b : BandScan) (s : InWork) → IsOpenBand b s → BandIsDue s
 band_due b s o at bits f = record {
   elements = f.elements;
   before = f.before;

@@ -1,4 +1,4 @@
--- Values that are known down to a bit, within bounds, stay within them when the next bit comes.
+-- Values that are known down to a bit, within bounds, remain within them when the next bit comes.
 use Rattle.std.proofs.Common.{◌≡◌, ℕ, ◌+◌, ◌-◌, ◌*◌, ◌^◌, ◌<◌, ◌≤◌, true, drop, sym, ap, ◌∙◌, subst, arith, add-one, ⊎_elim, ℤ, pos, nat_abs, inr}
 use Rattle.std.specs.Prelude.{slice_index_or, nat_le, ◌&&◌}
 use Rattle.std.proofs.Math.Nat.{pow-succ', mul-le-mul_right}
@@ -10,10 +10,10 @@ use Rattle.jpg_spec.specs.Elements.{Coding}
 use Rattle.jpg_spec.specs.Scan.{Blocks, Scan, band, block_at}
 use Rattle.jpg_spec.specs.PictureInWork.{is_in_band}
 use Rattle.jpg_spec.specs.declared.frame.Place.{Place}
-use Rattle.jpg_prog_read.specs.AcStands.{HasRoom, BandHasRoom}
+use Rattle.jpg_prog_read.specs.AcStands.{HasCorrectionRoom, BandHasRoom}
 use Rattle.jpg_prog_read.specs.Known.{GivesRoom, EachHasRoom}
 
--- a multiple of a power of two below a greater one leaves room for one more
+-- a multiple of a power of two below a greater one has room for one more
 pub room : (m low high : ℕ) → low ≤ high → m * 2 ^ low ≤ 2 ^ high - 1 → m * 2 ^ low + 2 ^ low ≤ 2 ^ high
 room m low high le h =
     let e : high ≡ (high - low) + low = omega arith in
@@ -54,4 +54,4 @@ band_room s before p each k d h =
     let lt : k < n = omega (arith, h, l) in
     let e : slice_index_or (band s block) k d ≡ slice_index_or block (s.ss + k) (pos 0) =
     get_or_default (band s block) k d (pos 0) h ∙ get_or-take n (drop s.ss block) k (pos 0) lt ∙ get_or-drop s.ss block k (pos 0) in
-    subst (λ (v : ℤ). HasRoom s.coding v) (sym e) (each (s.ss + k) (in_band s (s.ss + k) (omega arith) (omega (arith, lt))))
+    subst (λ (v : ℤ). HasCorrectionRoom s.coding v) (sym e) (each (s.ss + k) (in_band s (s.ss + k) (omega arith) (omega (arith, lt))))

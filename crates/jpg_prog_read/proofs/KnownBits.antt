@@ -1,4 +1,5 @@
--- In a progressive file, what the scans so far told down to a bit are multiples of that power of two, and what none told is zero.
+-- In a progressive file, what the scans so far encoded down to a bit are multiples of that power of two, and what none
+-- encoded is zero.
 use Rattle.std.proofs.Common.{◌≡◌, ℕ, zero, suc, ◌+◌, ◌-◌, ◌*◌, ◌<◌, ◌≤◌, Bool, true, false, cond, not, ◌==◌, ◌&&◌, List, [], ◌∷◌, length, take, drop, get_or, refl, sym, ap, ◌∙◌, subst, arith, ⊎_elim, Option, Some, None, Ok, ℤ, pos}
 use Rattle.std.specs.Prelude.{◌||◌, map, flat_map, nat_lt, nat_le}
 use Rattle.std.proofs.lemmas.Bool.{cases_lt}
@@ -23,13 +24,13 @@ use Rattle.jpg_spec.proofs.Common.{both, and_intro, le_of, same_of, or_right, re
 use Rattle.jpg_spec.proofs.FirstPasses.{head_at, all_among}
 use Rattle.jpg_spec.proofs.FrameFound.{framed}
 use Rattle.jpg_spec.proofs.PictureInWork.{leads_sizes}
-use Rattle.jpg_spec.proofs.PlacedBlocks.{Each, each_join}
+use Rattle.jpg_spec.proofs.Each.{Each, each_join}
 use Rattle.jpg_spec.proofs.PlacesFound.{each_units}
-use Rattle.jpg_spec.proofs.ProgressiveKnown.{band_next, known_new, known_old}
+use Rattle.jpg_spec.proofs.Known.{band_next, known_new, known_old}
 use Rattle.jpg_spec.proofs.TablesInForce.{affirmed}
 use Rattle.jpg_spec.proofs.Untouched.{frame_stays}
-use Rattle.jpg_spec.proofs.WrittenScan.{each_rows}
-use Rattle.jpg_prog_read.specs.Known.{IsMultiple, AreMultiples, IsProgressiveBehind, known_behind, LeadsToKnown}
+use Rattle.jpg_spec.proofs.Each.{each_rows}
+use Rattle.jpg_prog_read.specs.Known.{IsMultiple, AreMultiples, IsProgressiveAfter, known_after, LeadsToKnown}
 use Rattle.jpg_prog_read.proofs.Known.{in_band as is_inside}
 use Rattle.jpg_prog_read.proofs.Multiples.{multiple_down, multiples_join, multiples_split, covers_multiples}
 
@@ -125,7 +126,7 @@ old_known heads head i k v is has small h =
     by true e z = subst (λ (w : ℤ). IsMultiple (head.al + 1) w) (sym z) (zero_multiple (head.al + 1))
     by false e m = subst (λ n. IsMultiple n v) (is.bits e) m
 
--- so that a coefficient that stays is still known, whatever the band
+-- so that a coefficient that doesn't change is still known, whatever the band
 still_known : (heads : List ScanHead) (head : ScanHead) (i k : ℕ) (v : ℤ) → IsNextHead heads head → k < 64 → IsKnownTo (known_to heads i k) v → IsKnownTo (known_to (head ∷ heads) i k) v
 still_known heads head i k v is small h = by (has_coefficient head i k) refl
   where
@@ -133,7 +134,7 @@ still_known heads head i k v is small h = by (has_coefficient head i k) refl
     by true e = subst (λ o. IsKnownTo o v) (sym (known_new heads head i k e)) (multiple_down head.al v (old_known heads head i k v is e small h))
     by false e = subst (λ o. IsKnownTo o v) (sym (known_old heads head i k e)) h
 
--- ONE SCAN MORE
+-- ONE MORE SCAN
 
 -- the scan of a progressive header
 record IsScanOf (s : Scan) (head : ScanHead) : Type 0 where
@@ -230,7 +231,7 @@ scan_step heads head s before after intervals is means i x y k small = by (is_na
         let value = subst (λ (w : ℤ). IsMultiple s.coding.al w) (in_band s (after i x y) k (le_of s.ss k v.1) (le_of k s.se u.1)) here in
         subst (λ o. IsKnownTo o (coefficient after i x y k)) (sym (known_new heads head i k has)) (subst (λ n. IsMultiple n (coefficient after i x y k)) (is.scan).al value)
 
--- ALL ITEMS, of a frame that stays from its header on
+-- ALL ITEMS, of a frame that is in force from its header on
 
 item_head : (limits : Limits) (before : List Segment) (contents : List ℕ) (f : Frame) → frame_of limits before ≡ f → is_progressive f.process ≡ true → contents_rule limits before 0xda contents ≡ None → IsNextHead (heads_of f before) (head_in f contents)
 item_head limits before contents f e prog rule =
@@ -266,15 +267,15 @@ known_bits limits (scan contents intervals ∷ items) blocks f l same prog i x y
     }) l.4 i x y k small
 
 -- THE LAW
-pub are_known : (limits : Limits) (items : List Item) → IsProgressiveBehind limits items → LeadsToKnown limits items
+pub are_known : (limits : Limits) (items : List Item) → IsProgressiveAfter limits items → LeadsToKnown limits items
 are_known limits items prog blocks l = record {
   told = λ i x y k n e. subst (λ o. IsKnownTo o (coefficient blocks i x y k)) e (known i x y k);
   unsent = λ i x y k e. subst (λ o. IsKnownTo o (coefficient blocks i x y k)) e (known i x y k);
 }
   where
-    known : (i x y k : ℕ) → IsKnownTo (known_behind limits items i k) (coefficient blocks i x y k)
+    known : (i x y k : ℕ) → IsKnownTo (known_after limits items i k) (coefficient blocks i x y k)
     known i x y k =
         let size = leads_sizes limits items blocks l i x y in
         ⊎_elim (λ (small : k < 64). known_bits limits items blocks (frame_of limits (segments_of items)) l (λ h. refl) prog i x y k small)
-        (λ (large : 64 ≤ k). subst (λ v. IsKnownTo (known_behind limits items i k) v) (sym (get_or_past (blocks i x y) k (pos 0) (omega (arith, size, large)))) (zero_known (known_behind limits items i k)))
+        (λ (large : 64 ≤ k). subst (λ v. IsKnownTo (known_after limits items i k) v) (sym (get_or_past (blocks i x y) k (pos 0) (omega (arith, size, large)))) (zero_known (known_after limits items i k)))
         (cases_lt k 64)

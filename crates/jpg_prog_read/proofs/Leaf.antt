@@ -19,7 +19,7 @@ rest_next values at most l h = rest_more values at most l h ∙ ap (λ xs. get_o
 pub rest_value : (values : List ℤ) (at most : ℕ) (v : ℤ) → most ≤ length values → at < most → get_or values at (pos 0) ≡ v → take (most - at) (drop at values) ≡ v ∷ drop 1 (take (most - at) (drop at values))
 rest_value values at most v l h e = rest_next values at most l h ∙ ap (λ (x : ℤ). x ∷ drop 1 (take (most - at) (drop at values))) e
 
--- behind a place that is written
+-- after a place that is written
 pub drop_after : {X : Type 0} → (xs : List X) (i : ℕ) (y : X) → i < length xs → drop (i + 1) (set xs i y) ≡ drop (i + 1) xs
 drop_after [] i y h = absurd (omega arith)
 drop_after (x ∷ xs) zero y h = refl
@@ -47,16 +47,16 @@ put_done values start at v h le =
     drops (suc n) [] y h = absurd (omega arith)
     drops (suc n) (x ∷ xs) y h = drops n xs y (omega arith)
 
-pub put_behind : (values : List ℤ) (at most : ℕ) (v : ℤ) → at < most → drop most (set values at v) ≡ drop most values
-put_behind [] at most v h = ends at most v
+pub put_after : (values : List ℤ) (at most : ℕ) (v : ℤ) → at < most → drop most (set values at v) ≡ drop most values
+put_after [] at most v h = ends at most v
   where
     ends : (at most : ℕ) (v : ℤ) → drop most (set [] at v) ≡ drop most []
     ends zero most v = refl
     ends (suc at) most v = refl
-put_behind (x ∷ xs) zero zero v h = absurd (omega arith)
-put_behind (x ∷ xs) zero (suc most) v h = refl
-put_behind (x ∷ xs) (suc at) zero v h = absurd (omega arith)
-put_behind (x ∷ xs) (suc at) (suc most) v h = put_behind xs at most v (omega arith)
+put_after (x ∷ xs) zero zero v h = absurd (omega arith)
+put_after (x ∷ xs) zero (suc most) v h = refl
+put_after (x ∷ xs) (suc at) zero v h = absurd (omega arith)
+put_after (x ∷ xs) (suc at) (suc most) v h = put_after xs at most v (omega arith)
 
 pub zero_is : (v : ℤ) → v ≡ pos 0 → is_zero v ≡ true
 zero_is v e = ap is_zero e
@@ -66,7 +66,7 @@ zero_not (pos zero) h = absurd (h refl)
 zero_not (pos (suc n)) h = refl
 zero_not (negsuc n) h = refl
 
--- where something is left the place lies before the last one
+-- if something is left, the place is before the last one
 pub rest_short : (values : List ℤ) (at most : ℕ) → 1 ≤ length (take (most - at) (drop at values)) → at < most
 rest_short values at most h = ⊎_elim (λ (k : at < most). k) (λ (k : most ≤ at). absurd (none k)) (cases_lt at most)
   where
@@ -97,7 +97,7 @@ whole_values values start at most h k l z =
     some : at < most → ⊥
     some q = (let r = rest_more values at most l q in omega (arith, ap length r, z))
 
--- zeros that are passed
+-- zeros that are skipped
 pub passed_rest : (values : List ℤ) (at most n : ℕ) → at + n ≤ most → take (most - (at + n)) (drop (at + n) values) ≡ drop n (take (most - at) (drop at values))
 passed_rest values at most n h =
     let e : most - at ≡ n + (most - (at + n)) = omega (arith, h) in

@@ -4,7 +4,7 @@ pub mod AcFollows
 pub mod AcUnits
 pub mod BandBits
 pub mod Takings
-pub mod DcLooked
+pub mod DcLookedUp
 pub mod DcMachines
 pub mod DcNew
 pub mod DcPlaces
@@ -20,6 +20,6 @@ pub mod NewAcReaders
 pub mod Passing
 pub mod Reading
 pub mod Slots
-pub mod Steps
+pub mod BandSteps
 pub mod TableCopies
 pub mod ZerosPassed

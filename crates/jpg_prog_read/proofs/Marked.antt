@@ -14,7 +14,7 @@ use Rattle.jpg_base.specs.Marks.{is_some, marks}
 use Rattle.jpg_base.proofs.Marked.{zeros_first}
 use Rattle.jpg_prog_read.specs.ZerosPassed.{ZerosComeNext}
 
--- those of the first ones alone
+-- only those of the first ones
 spread : (c m q r : ℕ) → c + 2 * (m * q + r) ≡ 2 * m * q + (c + 2 * r)
 spread c m q r = grind arith
 
@@ -49,7 +49,7 @@ zeros_marked values at most olds long few is =
     let m : olds % 2 ^ (most - at) ≡ marks rest = ap (λ n. n % 2 ^ (most - at)) is ∙ marks_first (drop at values) (most - at) in
     omega (arith, zeros_counted rest, l, ap count_ones m)
 
--- THE ZEROS IN FRONT
+-- THE LEADING ZEROS
 
 one_more : (n : ℕ) (rest : List ℤ) → ZerosComeNext n rest → ZerosComeNext (suc n) (pos 0 ∷ rest)
 one_more n rest more = record { within = omega (arith, more.within); next = ap (λ (l : List ℤ). pos 0 ∷ l) more.next; last = λ h. more.last (omega (arith, h)) }
@@ -63,7 +63,7 @@ come_next (pos zero ∷ rest) =
 come_next (pos (suc n) ∷ rest) = record { within = omega arith; next = refl; last = λ h. refl }
 come_next (negsuc n ∷ rest) = record { within = omega arith; next = refl; last = λ h. refl }
 
--- as far as values are looked at
+-- up to the values that were examined
 first_taken : (values : List ℤ) (left : ℕ) → left ≤ length values → zeros_first (take left values) ≤ left × (zeros_first values < left → zeros_first (take left values) ≡ zeros_first values) × (left ≤ zeros_first values → zeros_first (take left values) ≡ left)
 first_taken values zero few = (omega arith, λ h. absurd (omega (arith, h)), λ h. omega arith)
 first_taken [] (suc left) few = absurd (omega (arith, few))

@@ -1,4 +1,4 @@
--- What the elements of a scan tell are multiples of 2 ^ al, where the values before it were multiples of 2 ^ (al + 1).
+-- What the elements of a scan encode are multiples of 2 ^ al, if the values before it were multiples of 2 ^ (al + 1).
 use Rattle.std.proofs.Common.{◌≡◌, ℕ, zero, suc, ◌+◌, ◌*◌, ◌^◌, Bool, true, false, cond, List, [], ◌∷◌, ◌++◌, take, drop, refl, sym, ap, ◌∙◌, subst, arith, add-one, ℤ, pos, negsuc, neg_ℤ, ◌+ℤ◌, ◌*ℤ◌, ⊎_elim}
 use Rattle.std.specs.Prelude.{nat_abs}
 use Rattle.std.proofs.lemmas.Int.{ints}

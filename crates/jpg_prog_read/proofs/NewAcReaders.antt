@@ -26,12 +26,12 @@ use Rattle.jpg_huff.specs.Tables.{table_of, symbol_codes}
 use Rattle.jpg_coefs.specs.Machine.{Interval}
 use Rattle.jpg_prog_read.specs.declared.ac_reader.AcReader.{AcReader}
 use Rattle.jpg_prog_read.specs.declared.scan.BandScan.{BandScan}
-use Rattle.jpg_prog_read.specs.Step.{AreSane}
+use Rattle.jpg_prog_read.specs.ReaderSteps.{IsSaneBand}
 use Rattle.jpg_prog_read.specs.Stands.{IsCodingOf}
 use Rattle.jpg_prog_read.specs.AcStands.{IsReadable, AcReady}
 use Rattle.jpg_prog_read.specs.NewAcReader.{IsAcScan, AreAcTables, IsOfAcScan, IsBandOf}
 
--- what the parameters of the header say of one that isn't a DC scan's
+-- the conditions on the parameters of the header of a scan that isn't a DC scan
 pub record IsAcBand (head : ScanHead) : Type 0 where
   pub one : length head.parts ≡ 1
   pub rise : head.ss ≤ head.se
@@ -58,7 +58,7 @@ few : (b : Bool) → cond b 1 10 ≤ 15
 few true = omega arith
 few false = omega arith
 
-band_sane : (f : Frame) (head : ScanHead) (b : BandScan) → 1 ≤ head.ss → IsAcBand head → IsBandOf f head b → AreSane b
+band_sane : (f : Frame) (head : ScanHead) (b : BandScan) → 1 ≤ head.ss → IsAcBand head → IsBandOf f head b → IsSaneBand b
 band_sane f head b some is of = record {
   some = omega (arith, of.start, some);
   begun = omega (arith, of.start, of.end, is.rise);

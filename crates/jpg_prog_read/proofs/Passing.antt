@@ -1,4 +1,4 @@
--- Values that are passed, and whole elements.
+-- Values that are skipped, and complete elements.
 use Rattle.std.proofs.Common.{◌≡◌, ℕ, ◌+◌, ◌-◌, ◌<◌, ◌≤◌, Bool, true, false, List, [], ◌∷◌, ◌++◌, length, take, drop, refl, sym, ap, ◌∙◌, subst, arith, ℤ, pos, inl, inr, ◌&&◌, ◌≤ℤ◌}
 use Rattle.std.proofs.lemmas.List.Elements.{All-tail}
 use Rattle.std.specs.Prelude.{int_le, nat_abs, slice_index_or, ◌*◌}
@@ -10,31 +10,31 @@ use Rattle.jpg_spec.specs.Bits.{bits_of}
 use Rattle.jpg_spec.specs.Numbers.{extra_bits, digits}
 use Rattle.jpg_spec.specs.Elements.{Element, value, long_run, ends, Coding, UnitLeft, Standing, Covers, Tells, SpellsElement, codes_due, predictions_after, at_start, is_zero, zeros_in, nonzeros_in, grown, corrected, scaled, old_values, going_on, are_in_bounds}
 use Rattle.jpg_spec.specs.Parts.{band_unit, InValue, InLong, InEnds}
-use Rattle.jpg_spec.specs.ScanFaults.{DataShows}
+use Rattle.jpg_spec.specs.ScanFaults.{DataReveals}
 use Rattle.jpg_spec.specs.declared.fault.Fault.TheVariants as fault
-use Rattle.jpg_spec.proofs.Bands.{covers_then}
+use Rattle.jpg_spec.proofs.Values.{covers_then}
 use Rattle.jpg_spec.proofs.Parts.{ac_due, ends_are, ends_fit}
-use Rattle.jpg_spec.proofs.Writing.{corrected_push, corrected_zero, going_same}
+use Rattle.jpg_spec.proofs.Values.{corrected_push, corrected_zero, going_same}
 use Rattle.jpg_spec.proofs.Common.{bounds_join, part_more, in_order, from_test}
 use Rattle.jpg_prog_read.specs.declared.stage.Stage.{Stage}
 use Rattle.jpg_prog_read.specs.declared.stage.Stage.TheVariants as stage
 use Rattle.jpg_prog_read.specs.declared.scan.BandScan.{BandScan}
 use Rattle.jpg_prog_read.specs.declared.band.BandStep.{BandStep}
 use Rattle.jpg_prog_read.specs.declared.band.BandStep.TheVariants.{More, Done, Fault as Shown}
-use Rattle.jpg_prog_read.specs.InWork.{InWork, IsPassing, IsOpen, IsEnd, DoesWait, AreRefinable, IsRefinable}
-use Rattle.jpg_prog_read.specs.Step.{AfterValue, StaysOpen, HasSkipped}
-use Rattle.jpg_prog_read.specs.Stands.{UnitPlace, unit_left, Stands, IsRest, Answered}
-use Rattle.jpg_prog_read.proofs.Steps.{same_more, join_more, zeros_zero, nonzeros_zero, zeros_old, nonzeros_old, zeros_skip, length_push, part_at, stands}
+use Rattle.jpg_prog_read.specs.InWork.{InWork, IsPassing, IsOpenBand, IsEnd, DoesWait, AreRefinable, IsRefinable}
+use Rattle.jpg_prog_read.specs.ReaderSteps.{AfterValue, StaysOpen, HasSkipped}
+use Rattle.jpg_prog_read.specs.Stands.{UnitPlace, unit_left, StandsInBand, IsRest, Answered}
+use Rattle.jpg_prog_read.proofs.BandSteps.{same_more, join_more, zeros_zero, nonzeros_zero, zeros_old, nonzeros_old, zeros_skip, length_push, part_at, stands}
 
--- a unit of which this is left, with its first value moved to those that are passed
+-- a unit of which this is left, with its first value moved to those that are skipped
 left_more : (mid : List UnitLeft) (i : ℕ) (others : List UnitLeft) (passed rest more : List ℤ) (o : ℤ) → rest ≡ o ∷ more → mid ≡ band_unit i (passed ++ rest) ∷ others → mid ≡ band_unit i ((passed ++ o ∷ []) ++ more) ∷ others
 left_more mid i others passed rest more o r e = e ∙ ap (λ (l : List ℤ). band_unit i l ∷ others) (ap (λ l. passed ++ l) r ∙ join_more passed o more)
 
--- the same behind units that are passed whole
+-- the same after units that are passed completely
 left_behind : (left whole : List UnitLeft) (i : ℕ) (others : List UnitLeft) (first rest more : List ℤ) (o : ℤ) → rest ≡ o ∷ more → left ≡ whole ++ band_unit i (first ++ rest) ∷ others → left ≡ whole ++ band_unit i ((first ++ o ∷ []) ++ more) ∷ others
 left_behind left whole i others first rest more o r e = e ∙ ap (λ (l : List ℤ). whole ++ band_unit i l ∷ others) (ap (λ l. first ++ l) r ∙ join_more first o more)
 
--- A ZERO IS PASSED
+-- A ZERO IS SKIPPED
 
 value_zero : (c : Coding) (mid : Standing) (i : ℕ) (others : List UnitLeft) (here : List ℤ) (bits : List Bool) (rest more : List ℤ) (run : ℕ) (v : ℤ) → rest ≡ pos 0 ∷ more → 1 ≤ run
     → InValue c mid (band_unit i rest) others here bits run v → InValue c mid (band_unit i more) others (here ++ pos 0 ∷ []) bits (run - 1) v
@@ -108,7 +108,7 @@ abbrev pub with_zero : InWork → InWork
 with_zero s = record s { done = s.done ++ pos 0 ∷ []; rest = drop 1 s.rest; run = s.run - 1 }
 
 pub zero_passed : (at : UnitPlace) (bits : List Bool) (s : InWork) (g : Stage) → s.stage ≡ g → s.rest ≡ pos 0 ∷ drop 1 s.rest → 1 ≤ s.run
-    → are_in_bounds at.coding.bounds false (pos 0 ∷ []) ≡ true → Stands at bits s → IsPassing g s → Stands at bits (with_zero s)
+    → are_in_bounds at.coding.bounds false (pos 0 ∷ []) ≡ true → StandsInBand at bits s → IsPassing g s → StandsInBand at bits (with_zero s)
 zero_passed at bits s stage.Code e r some ok f g = absurd g
 zero_passed at bits s stage.Number e r some ok f g = absurd g
 zero_passed at bits s stage.Count e r some ok f g = absurd g
@@ -193,7 +193,7 @@ ends_old c mid i others here bits rest more bands o b r z h =
     }
 
 pub old_corrected : (at : UnitPlace) (bits : List Bool) (s : InWork) (g : Stage) (o : ℤ) (b : Bool) → s.stage ≡ g → s.rest ≡ o ∷ drop 1 s.rest → is_zero o ≡ false
-    → are_in_bounds at.coding.bounds false (grown at.coding.al b o ∷ []) ≡ true → Stands at bits s → IsPassing g s → Stands at (bits ++ b ∷ []) (with_value s (grown at.coding.al b o))
+    → are_in_bounds at.coding.bounds false (grown at.coding.al b o ∷ []) ≡ true → StandsInBand at bits s → IsPassing g s → StandsInBand at (bits ++ b ∷ []) (with_value s (grown at.coding.al b o))
 old_corrected at bits s stage.Code o b e r z ok f g = absurd g
 old_corrected at bits s stage.Number o b e r z ok f g = absurd g
 old_corrected at bits s stage.Count o b e r z ok f g = absurd g
@@ -213,7 +213,7 @@ old_corrected at bits s stage.Ends o b e r z ok f g =
     (same_more f.before f.here at.told s.done (grown at.coding.al b o) f.same) (bounds_join at.coding f.here (grown at.coding.al b o ∷ []) f.in_bounds ok)
     (p.0, ends_old at.coding f.mid at.component at.others f.here f.part s.rest (drop 1 s.rest) s.bands o b r z p.1, omega (arith, p.2, ap zeros_in r, zeros_skip o (drop 1 s.rest) z))
 
--- WHOLE ELEMENTS
+-- COMPLETE ELEMENTS
 
 some_going : (i : ℕ) (rest : List ℤ) (others : List UnitLeft) → 1 ≤ length rest → going_on (band_unit i []) rest others ≡ band_unit i rest ∷ others
 some_going i [] others h = absurd (omega arith)
@@ -250,9 +250,9 @@ after_whole at bits Done s elements before front mid u us left e here part cover
     }
 after_whole at bits (Shown x) s elements before front mid u us left e here part covers l sp tells ok split same code quiet goes after = absurd after
 
--- the state behind a whole element that ends with this value
-abbrev pub behind_value : InWork → ℤ → InWork
-behind_value s v = record s { done = s.done ++ v ∷ []; rest = drop 1 s.rest; stage = stage.Code }
+-- the state after a complete element that ends with this value
+abbrev pub after_value : InWork → ℤ → InWork
+after_value s v = record s { done = s.done ++ v ∷ []; rest = drop 1 s.rest; stage = stage.Code }
 
 value_tells : (c : Coding) (mid : Standing) (i : ℕ) (others : List UnitLeft) (here : List ℤ) (bits : List Bool) (rest : List ℤ) (run : ℕ) (v q : ℤ) → rest ≡ pos 0 ∷ drop 1 rest → run ≡ 0
     → (h : InValue c mid (band_unit i rest) others here bits run v) → Tells c q (value h.zeros v h.corrections) (band_unit i (h.passed ++ rest)) others (here ++ scaled c.al v ∷ []) (going_on (band_unit i []) (drop 1 rest) others)
@@ -271,12 +271,12 @@ value_tells c mid i others here bits rest run v q r z h = (
 )
 
 pub value_whole : (at : UnitPlace) (bits : List Bool) (step : BandStep) (s : InWork) → s.stage ≡ stage.Value → s.rest ≡ pos 0 ∷ drop 1 s.rest → s.run ≡ 0
-    → are_in_bounds at.coding.bounds false (scaled at.coding.al s.due ∷ []) ≡ true → Stands at bits s → AfterValue step (behind_value s (scaled at.coding.al s.due)) → Answered at bits step (behind_value s (scaled at.coding.al s.due))
+    → are_in_bounds at.coding.bounds false (scaled at.coding.al s.due ∷ []) ≡ true → StandsInBand at bits s → AfterValue step (after_value s (scaled at.coding.al s.due)) → Answered at bits step (after_value s (scaled at.coding.al s.due))
 value_whole at bits step s e r z ok f after =
     let p = part_at at f.mid f.here f.part s stage.Value e f.is_part in
     let h = p.1 in
     let u = band_unit at.component (h.passed ++ s.rest) in
-    after_whole at bits step (behind_value s (scaled at.coding.al s.due)) f.elements f.before f.front f.mid u at.others (going_on (band_unit at.component []) (drop 1 s.rest) at.others) (value h.zeros s.due h.corrections) (f.here ++ scaled at.coding.al s.due ∷ []) f.part
+    after_whole at bits step (after_value s (scaled at.coding.al s.due)) f.elements f.before f.front f.mid u at.others (going_on (band_unit at.component []) (drop 1 s.rest) at.others) (value h.zeros s.due h.corrections) (f.here ++ scaled at.coding.al s.due ∷ []) f.part
     f.covers h.left (h.code, h.coded, h.split) (value_tells at.coding f.mid at.component at.others f.here f.part s.rest s.run s.due (f.mid.predictions at.component) r z h) (bounds_join at.coding f.here (scaled at.coding.al s.due ∷ []) f.in_bounds ok)
     f.split (same_more f.before f.here at.told s.done (scaled at.coding.al s.due) f.same) refl p.0 refl after
 
@@ -289,7 +289,7 @@ bounds_out c (x ∷ xs) v h = last (int_le (pos (nat_abs x)) c.bounds.ac) (are_i
     last false b e = refl
 
 pub value_out : (at : UnitPlace) (bits : List Bool) (s : InWork) → s.stage ≡ stage.Value → s.rest ≡ pos 0 ∷ drop 1 s.rest → s.run ≡ 0
-    → are_in_bounds at.coding.bounds false (scaled at.coding.al s.due ∷ []) ≡ false → Stands at bits s → DataShows at.coding at.units fault.CoefRange bits
+    → are_in_bounds at.coding.bounds false (scaled at.coding.al s.due ∷ []) ≡ false → StandsInBand at bits s → DataReveals at.coding at.units fault.CoefRange bits
 value_out at bits s e r z out f =
     let p = part_at at f.mid f.here f.part s stage.Value e f.is_part in
     let h = p.1 in
@@ -321,12 +321,12 @@ value_out at bits s e r z out f =
 
 -- the sixteenth zero
 pub long_whole : (at : UnitPlace) (bits : List Bool) (step : BandStep) (s : InWork) → s.stage ≡ stage.Long → s.rest ≡ pos 0 ∷ drop 1 s.rest → s.run ≡ 0
-    → are_in_bounds at.coding.bounds false (pos 0 ∷ []) ≡ true → Stands at bits s → AfterValue step (behind_value s (pos 0)) → Answered at bits step (behind_value s (pos 0))
+    → are_in_bounds at.coding.bounds false (pos 0 ∷ []) ≡ true → StandsInBand at bits s → AfterValue step (after_value s (pos 0)) → Answered at bits step (after_value s (pos 0))
 long_whole at bits step s e r z ok f after =
     let p = part_at at f.mid f.here f.part s stage.Long e f.is_part in
     let h = p.1 in
     let u = band_unit at.component (h.passed ++ s.rest) in
-    after_whole at bits step (behind_value s (pos 0)) f.elements f.before f.front f.mid u at.others (going_on (band_unit at.component []) (drop 1 s.rest) at.others) (long_run h.corrections) (f.here ++ pos 0 ∷ []) f.part
+    after_whole at bits step (after_value s (pos 0)) f.elements f.before f.front f.mid u at.others (going_on (band_unit at.component []) (drop 1 s.rest) at.others) (long_run h.corrections) (f.here ++ pos 0 ∷ []) f.part
     f.covers h.left (h.code, h.coded, h.split) (
       h.passed ++ pos 0 ∷ [],
       drop 1 s.rest,
@@ -340,7 +340,7 @@ long_whole at bits step s e r z ok f after =
 
 -- the end of the band before a sixteenth zero
 pub long_ended : (at : UnitPlace) (bits : List Bool) (s : InWork) → s.stage ≡ stage.Long → s.rest ≡ []
-    → Stands at bits s → Answered at bits Done (record s { stage = stage.Code })
+    → StandsInBand at bits s → Answered at bits Done (record s { stage = stage.Code })
 long_ended at bits s e r f =
     let p = part_at at f.mid f.here f.part s stage.Long e f.is_part in
     let h = p.1 in
@@ -350,29 +350,29 @@ long_ended at bits s e r f =
     f.covers h.left (h.code, h.coded, h.split) (h.passed, [], refl, inr (w, omega (arith, h.sum), refl), h.each, h.told, refl)
     f.in_bounds f.split f.same refl p.0 (sym (ap (λ l. going_on (band_unit at.component []) l at.others) r)) r
 
--- a value has a zero to stand on
-pub value_not_ended : (at : UnitPlace) (bits : List Bool) (s : InWork) → s.stage ≡ stage.Value → s.rest ≡ [] → Stands at bits s → ⊥
+-- a value is never expected with nothing left
+pub value_not_ended : (at : UnitPlace) (bits : List Bool) (s : InWork) → s.stage ≡ stage.Value → s.rest ≡ [] → StandsInBand at bits s → ⊥
 value_not_ended at bits s e r f =
     let p = part_at at f.mid f.here f.part s stage.Value e f.is_part in
     let h = p.1 in
     omega (arith, h.room, ap zeros_in r)
 
--- the run of ends never ends before the band
-pub ends_run : (at : UnitPlace) (bits : List Bool) (s : InWork) → s.stage ≡ stage.Ends → s.run ≡ 0 → Stands at bits s → ⊥
+-- while ends of bands are read, their run isn't 0
+pub ends_run : (at : UnitPlace) (bits : List Bool) (s : InWork) → s.stage ≡ stage.Ends → s.run ≡ 0 → StandsInBand at bits s → ⊥
 ends_run at bits s e z f =
     let p = part_at at f.mid f.here f.part s stage.Ends e f.is_part in
     omega (arith, p.2, z)
 
 -- THE END OF A BAND
 
--- the last band that ends is passed: all of them are
+-- if one band is left to end and is skipped, all its values are
 all_passed : (i bands : ℕ) (others whole : List UnitLeft) (first rest : List ℤ) → bands ≡ 1 → rest ≡ [] → old_values (whole ++ take bands (band_unit i (first ++ rest) ∷ others)) ≡ old_values whole ++ first
 all_passed i bands others whole first rest one r =
     ap (λ n. old_values (whole ++ take n (band_unit i (first ++ rest) ∷ others))) one ∙ flat_map-append (λ (v : UnitLeft). v.old) whole (band_unit i (first ++ rest) ∷ [])
     ∙ ap (λ l. old_values whole ++ l) (append-nil (first ++ rest) ∙ ap (λ l. first ++ l) r ∙ append-nil first)
 
 pub ends_ended : (at : UnitPlace) (bits : List Bool) (s : InWork) → s.stage ≡ stage.Ends → s.rest ≡ [] → s.bands ≡ 1
-    → Stands at bits s → Answered at bits Done (record s { bands = 0; stage = stage.Code })
+    → StandsInBand at bits s → Answered at bits Done (record s { bands = 0; stage = stage.Code })
 ends_ended at bits s e r one f =
     let p = part_at at f.mid f.here f.part s stage.Ends e f.is_part in
     let h = p.1 in
@@ -393,7 +393,7 @@ ends_ended at bits s e r one f =
     )
     ok f.split f.same refl p.0 (sym (ap (λ l. going_on (band_unit at.component []) l at.others) r)) r
 
--- one more unit is passed whole
+-- one more unit is passed completely
 unit_passed : (i : ℕ) (whole : List UnitLeft) (first rest : List ℤ) → rest ≡ [] → old_values (whole ++ band_unit i (first ++ rest) ∷ []) ++ [] ≡ old_values whole ++ first
 unit_passed i whole first rest r =
     append-nil (old_values (whole ++ band_unit i (first ++ rest) ∷ [])) ∙ flat_map-append (λ (v : UnitLeft). v.old) whole (band_unit i (first ++ rest) ∷ [])
@@ -427,7 +427,7 @@ next_begun c mid i next others here bits rest bands r some h =
     }
 
 pub ends_go_on : (at : UnitPlace) (bits : List Bool) (s : InWork) → s.stage ≡ stage.Ends → s.rest ≡ [] → 2 ≤ s.bands
-    → Stands at bits s → Answered at bits Done (record s { bands = s.bands - 1 })
+    → StandsInBand at bits s → Answered at bits Done (record s { bands = s.bands - 1 })
 ends_go_on at bits s e r some f =
     let p = part_at at f.mid f.here f.part s stage.Ends e f.is_part in
     let n : InWork = record s { bands = s.bands - 1 } in
@@ -471,7 +471,7 @@ out_limit c limit x e h = ap (λ (m : ℤ). int_le (pos (nat_abs x)) m && true) 
 pub zero_in : (c : Coding) (limit : ℕ) → c.bounds.ac ≡ pos limit → are_in_bounds c.bounds false (pos 0 ∷ []) ≡ true
 zero_in c limit e = in_limit c limit (pos 0) e (omega arith)
 
--- WHETHER THE UNIT GOES ON
+-- WHETHER THE UNIT CONTINUES
 
 pub opened : (b : BandScan) (step : BandStep) (s : InWork) → s.stage ≡ stage.Code → AreRefinable b s.rest → AfterValue step s → StaysOpen b step s
 opened b More s e fits after = record { left = after; fits = fits; waits = subst (λ g. DoesWait g s) (sym e) tt }
@@ -509,6 +509,6 @@ waits_old stage.Value s z p = z
 waits_old stage.Long s z p = z
 waits_old stage.Ends s z p = (z, p)
 
-pub old_opened : (b : BandScan) (o n : InWork) (v : ℤ) → HasSkipped o n → AreRefinable b o.rest → IsPassing o.stage o → 1 ≤ length n.rest → n.rest ≡ v ∷ drop 1 n.rest → is_zero v ≡ false → IsOpen b n
+pub old_opened : (b : BandScan) (o n : InWork) (v : ℤ) → HasSkipped o n → AreRefinable b o.rest → IsPassing o.stage o → 1 ≤ length n.rest → n.rest ≡ v ∷ drop 1 n.rest → is_zero v ≡ false → IsOpenBand b n
 old_opened b o n v h fits p some r z =
     record { left = some; fits = h.fits b fits; waits = waits_old n.stage n (ap (λ (l : List ℤ). is_zero (slice_index_or l 0 (pos 0))) r ∙ z) (still_passing o n h p) }

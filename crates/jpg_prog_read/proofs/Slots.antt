@@ -1,4 +1,4 @@
--- What stands in slots, some of which are empty, when one is written.
+-- The contents of slots, some of which are empty, when one is written.
 use Rattle.std.proofs.Common.{◌≡◌, ℕ, zero, suc, ◌<◌, List, [], ◌∷◌, length, set, refl, ap, arith}
 use Rattle.std.specs.Prelude.{Option, None, Some, slice_get}
 use Rattle.jpg_spec.specs.Lists.{slot_value}

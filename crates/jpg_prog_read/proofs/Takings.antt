@@ -14,12 +14,12 @@ use Rattle.jpg_prog_read.specs.BitsTaken.{TookSome, HurriesOn}
 pub took_none : {M : Type 0} (k : Kind M) (most : ℕ) (m : M) (now : Picture) (store : List Bool) → 1 ≤ most → (stands : (i : Interval) × (bits : List Bool) × k.stands m i bits now) → TookSome k most m now store m now store
 took_none k most m now store some o = record { taken = []; split = refl; chain = (refl, refl); few = omega (arith, some); interval = o.0; bits = o.1; standing = o.2 }
 
--- the first bit of a store, and the others
+-- the first bit of a store, and the remaining ones
 pub first_bit : (store : List Bool) (bit : Bool) (rest : List Bool) → 1 ≤ length store → bit ≡ slice_index_or store 0 false → rest ≡ drop 1 store → store ≡ bit ∷ rest
 first_bit [] bit rest some b r = absurd (omega (arith, some))
 first_bit (x ∷ store) bit rest some b r = ap (λ (y : Bool). y ∷ store) (sym b) ∙ ap (λ (l : List Bool). bit ∷ l) (sym r)
 
--- one more, behind which the interval goes on
+-- one more, after which the interval continues
 pub took_more : {M : Type 0} (k : Kind M) (most : ℕ) (m : M) (now : Picture) (store : List Bool) (mid : M) (between : Picture) (left : List Bool) (bit : Bool) (rest : List Bool) (new : M) (after : Picture) → TookSome k most m now store mid between left
     → left ≡ bit ∷ rest → Step k mid between bit (Ok step.More) new after → k.left m < k.left new + most → TookSome k most m now store new after rest
 took_more k most m now store mid between left bit rest new after s e one few = record {
@@ -71,7 +71,7 @@ takes_fault k most m now store mid between left bit rest f new after s e one =
     let t = took_to k most m now store mid between left bit rest (Err f) new after s e one in
     (t.bits, t.split, t.chain)
 
--- BITS AT ONCE, by which no unit is whole
+-- BITS AT ONCE, by which no unit is completed
 
 pub took_further : {M : Type 0} (k : Kind M) (most : ℕ) (m : M) (now : Picture) (store : List Bool) (mid : M) (between : Picture) (here : List Bool) (new : M) (rest : List Bool) → TookSome k most m now store mid between here → HurriesOn k mid between here new rest → TookSome k most m now store new between rest
 took_further k most m now store mid between here new rest s h = record {

@@ -4,19 +4,19 @@ use Rattle.jpg_spec.specs.Codes.{Code}
 use Rattle.jpg_prog_read.specs.declared.scan.BandScan.{BandScan}
 use Rattle.jpg_prog_read.specs.declared.band.BandStep.{BandStep}
 use Rattle.jpg_prog_read.specs.declared.band.BandStep.TheVariants.{More, Done, Fault}
-use Rattle.jpg_prog_read.specs.InWork.{InWork, IsOpen}
-use Rattle.jpg_prog_read.specs.Step.{StaysOpen, KeepsOtherValues}
-use Rattle.jpg_prog_read.specs.Stands.{IsCodingOf, UnitPlace, Stands, Answered, AnswersBit}
+use Rattle.jpg_prog_read.specs.InWork.{InWork, IsOpenBand}
+use Rattle.jpg_prog_read.specs.ReaderSteps.{StaysOpen, KeepsOtherValues}
+use Rattle.jpg_prog_read.specs.Stands.{IsCodingOf, UnitPlace, StandsInBand, Answered, AnswersBit}
 
--- The last bit of a code comes to this answer, whatever front of the code was walked before it.
+-- The last bit of a code has this answer, whatever proper prefix of the code was walked before it.
 abbrev pub AnswersSymbol : BandScan → InWork → ℕ → BandStep → InWork → Type 0
 AnswersSymbol b old symbol step new =
     (ac : List Code) (at : UnitPlace) (bits front : List Bool) (last : Bool) → IsCodingOf b ac at.coding at.component
-    → Contains ac (front ++ last ∷ [], symbol) → Stands at bits (record old { walked = front }) → Answered at (bits ++ last ∷ []) step new
+    → Contains ac (front ++ last ∷ [], symbol) → StandsInBand at bits (record old { walked = front }) → Answered at (bits ++ last ∷ []) step new
 
--- a bit behind which the unit goes on
+-- a bit after which the unit goes on
 pub record BandGoesOn (b : BandScan) (ac : List Code) (left : ℕ) (old : InWork) (bit : Bool) (new : InWork) : Type 0 where
-  pub goes_on : IsOpen b new
+  pub goes_on : IsOpenBand b new
   pub outside : KeepsOtherValues old new
   pub answered : AnswersBit b ac left old bit More new
 
@@ -35,13 +35,13 @@ pub record EndsAt (b : BandScan) (ac : List Code) (left : ℕ) (old : InWork) (b
   pub outside : KeepsOtherValues mid new
   pub answered : AnswersBit b ac left mid bit step new
 
--- what bits come to
+-- the result of bits
 abbrev pub BandComesTo : BandScan → List Code → ℕ → InWork → List Bool → BandStep → InWork → Type 0
 BandComesTo b ac left old bits More new = Through b ac left old bits new
 BandComesTo b ac left old bits Done new = EndsAt b ac left old bits Done new
 BandComesTo b ac left old bits (Fault f) new = EndsAt b ac left old bits (Fault f) new
 
--- Some bits are taken from the front of a store.
+-- Some bits are taken from the start of a store.
 pub record TakesBand (b : BandScan) (ac : List Code) (left : ℕ) (old : InWork) (store : List Bool) (step : BandStep) (new : InWork) (rest : List Bool) : Type 0 where
   pub bits : List Bool
   pub split : store ≡ bits ++ rest

@@ -1,4 +1,4 @@
--- What the machine of a first DC pass stands for (T.81, G.1.2.1).
+-- What the states of the machine of a first DC pass mean (T.81, G.1.2.1).
 use Rattle.std.specs.Prelude.{◌≡◌, ℕ, ◌-◌, ◌<◌, Bool, List, length, drop, slice_set, slice_index_or, Option, Some, ℤ, pos, All}
 use Rattle.jpg_spec.specs.Elements.{Coding}
 use Rattle.jpg_spec.specs.declared.frame.Place.{Place}
@@ -13,10 +13,10 @@ use Rattle.jpg_prog_read.specs.declared.dc.DcStep.{DcStep}
 use Rattle.jpg_prog_read.specs.declared.dc_first.DcFirst.{DcFirst}
 use Rattle.jpg_prog_read.specs.DcWork.{DcWork, AreDcSane, IsDcOpen, fresh}
 use Rattle.jpg_prog_read.specs.DcStands.{IsDcCodingOf, DcStands, AnswersDcBit}
-use Rattle.jpg_prog_read.specs.DcLooked.{AreLooked, Hurries}
-use Rattle.jpg_prog_read.specs.DcPlaces.{IsDcBand, InInterval, next_of, old_dc, IsWithin, IsNext}
+use Rattle.jpg_prog_read.specs.DcLookedUp.{AreDcLookedUp, Hurries}
+use Rattle.jpg_prog_read.specs.DcPlaces.{IsDcBand, InInterval, next_of, old_dc, IsWithin, IsNextInterval}
 
--- the table of a component, which stands in the slot of its number
+-- the table of a component, which is in the slot of its number
 abbrev pub table_in : TableSet → ℕ → Option Table
 table_in tables k = in_slot (dc_tables tables) k
 
@@ -28,15 +28,15 @@ pub record HasTable (tables : TableSet) (p : Place) : Type 0 where
   pub table : Table
   pub there : table_in tables p.component ≡ Some table
 
--- what the machine reads by is what the coding says
+-- the machine's parameters are those of the coding
 pub record ReadsBy (b : DcScan) (tables : TableSet) (c : Coding) : Type 0 where
   pub sane : AreDcSane b
   pub codes : (k : ℕ) (table : Table) → table_in tables k ≡ Some table → IsDcCodingOf b (symbol_codes table) c k
 
--- Whole units, and a part of the next.
+-- Complete units, and a part of the next.
 pub record FirstStands (m : DcFirst) (i : Interval) (bits : List Bool) (now : Picture) : Type 0 where
   pub reads : ReadsBy m.scan m.tables i.scan.coding
-  pub looks : AreLooked m.tables m.looks
+  pub looks : AreDcLookedUp m.tables m.looks
   pub tables : All (HasTable m.tables) m.cursor
   pub four : length m.predictions ≡ 4
   pub at_work : IsDcOpen m.unit
@@ -49,34 +49,34 @@ pub record FirstStands (m : DcFirst) (i : Interval) (bits : List Bool) (now : Pi
 -- an interval that it may begin
 pub record FirstReady (m : DcFirst) (i : Interval) : Type 0 where
   pub reads : ReadsBy m.scan m.tables i.scan.coding
-  pub looks : AreLooked m.tables m.looks
+  pub looks : AreDcLookedUp m.tables m.looks
   pub tables : All (HasTable m.tables) m.cursor
   pub four : length m.predictions ≡ 4
-  pub places : IsNext m.cursor m.left i
+  pub places : IsNextInterval m.cursor m.left i
 
 abbrev pub first_pass : Kind DcFirst
 first_pass = record { stands = FirstStands; ready = FirstReady; left = λ m. m.left; fits = λ i. IsDcBand i.scan }
 
--- WHAT ITS CALLS COME TO
+-- THE RESULTS OF ITS CALLS
 
--- the unit in work is of this component, whose table is there
+-- the current unit is of this component, whose table is there
 pub record CanRead (m : DcFirst) (k : ℕ) : Type 0 where
   pub small : k < 4
   pub sane : AreDcSane m.scan
   pub table : Table
   pub there : table_in m.tables k ≡ Some table
-  pub looks : AreLooked m.tables m.looks
+  pub looks : AreDcLookedUp m.tables m.looks
   pub at_work : IsDcOpen m.unit
 
 abbrev pub ReadsBit : DcFirst → ℕ → Bool → DcStep → DcWork → Type 0
 ReadsBit m k bit answer new =
     (table : Table) × (table_in m.tables k ≡ Some table) × AnswersDcBit m.scan (symbol_codes table) (prediction_at m k) m.unit bit answer new
 
--- bits are taken from a store, behind which the unit goes on
+-- bits are taken from a store, after which the unit goes on
 abbrev pub HurriesUnit : DcFirst → ℕ → List Bool → DcWork → List Bool → Type 0
 HurriesUnit m k store new rest = (table : Table) × (table_in m.tables k ≡ Some table) × Hurries m.scan (symbol_codes table) m.unit store new rest
 
--- with this unit in work; and behind a whole unit of a component, with its next prediction
+-- with this current unit; and after a complete unit of a component, with its next prediction
 abbrev pub with_unit : DcFirst → DcWork → DcFirst
 with_unit m unit = record m { unit = unit }
 

@@ -18,7 +18,7 @@ use Rattle.jpg_prog_read.specs.declared.scan.DcScan.{DcScan}
 use Rattle.jpg_prog_read.specs.declared.dc_first.DcFirst.{DcFirst}
 use Rattle.jpg_prog_read.specs.DcPlaces.{IsDcBand}
 use Rattle.jpg_prog_read.specs.DcFirstPass.{table_in}
-use Rattle.jpg_prog_read.specs.DcLooked.{no_looks}
+use Rattle.jpg_prog_read.specs.DcLookedUp.{no_looks}
 use Rattle.jpg_prog_read.specs.DcRefinement.{TakesOneBit}
 
 -- A scan header of a progressive frame.
@@ -43,7 +43,7 @@ pub record IsRefineHead (f : Frame) (head : ScanHead) : Type 0 where
   pub is_head : IsDcHead f head
   pub later : 1 ≤ head.ah
 
--- the valid tables in force, of which the DC tables are those of a set
+-- the valid tables in force, whose DC tables are those of a set
 pub record AreInSet (set : TableSet) (tables : TablesInForce) : Type 0 where
   pub valid : AreTables tables
   pub dc : (slot : ℕ) → tables 0 slot ≡ option_map table_of (in_slot (dc_tables set) slot)
@@ -67,15 +67,15 @@ pub record IsOfRefinement (f : Frame) (head : ScanHead) (i : Interval) : Type 0 
   pub of_scan : IsOfScan f tables head i
   pub kind : TakesOneBit i
 
--- what the machines go by
+-- the parameters of the machines
 abbrev pub dc_scan_of : Frame → ℕ → DcScan
 dc_scan_of f al = record { low = (bounds f).dc_low; high = (bounds f).dc_high; scale = 2 ^ al; most_category = (bounds f).dc_cat }
 
 abbrev pub part_at : List ScanPart → ℕ → ScanPart
 part_at parts j = slice_index_or parts j (record { component = 0; dc = 0; ac = 0 })
 
--- The tables of the first parts stand in the slots of their components.
-pub record AreFilled (set : TableSet) (parts : List ScanPart) (n : ℕ) (own : TableSet) : Type 0 where
+-- The tables of the first parts are in the slots of their components.
+pub record AreDcTablesFilled (set : TableSet) (parts : List ScanPart) (n : ℕ) (own : TableSet) : Type 0 where
   pub four : length (dc_tables own) ≡ 4
   pub found : (k : ℕ) (table : Table) → table_in own k ≡ Some table → (j : ℕ) × (j < n) × ((part_at parts j).component ≡ k) × (table_in set (part_at parts j).dc ≡ Some table)
   pub there : (j : ℕ) → j < n → (table : Table) × (table_in own (part_at parts j).component ≡ Some table)

@@ -1,4 +1,4 @@
--- The units of an interval of a DC scan: where they stand, and which are whole (T.81, A.2, G.1.2.1).
+-- The units of an interval of a DC scan: their places, and which are complete (T.81, A.2, G.1.2.1).
 use Rattle.std.specs.Prelude.{◌≡◌, ℕ, ◌+◌, ◌<◌, List, ◌∷◌, ◌++◌, Bool, length, map, slice_set, ℤ, All}
 use Rattle.jpg_spec.specs.Geometry.{Frame}
 use Rattle.jpg_spec.specs.Scan.{Blocks, Scan, unit_at, coefficient}
@@ -10,7 +10,7 @@ use Rattle.jpg_coefs.specs.Machine.{Interval, units_of}
 use Rattle.jpg_prog_read.specs.Stands.{UnitPlace}
 use Rattle.jpg_prog_read.specs.DcStands.{DcBetween, dc_unit}
 
--- the first coefficient of each block alone
+-- only the first coefficient of each block
 pub record IsDcBand (s : Scan) : Type 0 where
   pub ss : s.ss ≡ 0
   pub se : s.se ≡ 0
@@ -27,7 +27,7 @@ dc_at blocks p = coefficient blocks p.component p.x p.y 0
 abbrev pub with_dc : Picture → Place → ℤ → Picture
 with_dc q p v = put_at q p (slice_set (block_in q p.component p.x p.y) 0 v)
 
--- the places whose units are whole and what these told, the place of the next unit, and those behind it
+-- the places whose units are complete and what these decoded to, the place of the next unit, and those after it
 pub record InInterval : Type 0 where
   pub done : List Place
   pub whole : List ℤ
@@ -49,11 +49,11 @@ next_of i w =
 abbrev pub old_dc : Interval → InInterval → ℤ
 old_dc i w = dc_at (map_of i.before) w.next
 
--- the bits are its whole units, behind which the next one begins
-abbrev pub AreWhole : Interval → InInterval → (ℕ → ℤ) → List Bool → Type 0
-AreWhole i w p bits = DcBetween i.scan.coding (units_of i) w.whole p (dc_unit w.next.component (old_dc i w) ∷ (next_of i w).others) bits
+-- the bits are its complete units, after which the next one begins
+abbrev pub AreCompleteUnits : Interval → InInterval → (ℕ → ℤ) → List Bool → Type 0
+AreCompleteUnits i w p bits = DcBetween i.scan.coding (units_of i) w.whole p (dc_unit w.next.component (old_dc i w) ∷ (next_of i w).others) bits
 
--- What the units that are whole told stands in the picture; these places, and so many units of the interval, are left.
+-- The picture has the values of the complete units; these places, and this many units of the interval, are left.
 pub record IsWithin (places : List Place) (units : ℕ) (i : Interval) (now : Picture) (w : InInterval) : Type 0 where
   pub band : IsDcBand i.scan
   pub distinct : AreDistinct (i.places ++ i.later)
@@ -65,8 +65,8 @@ pub record IsWithin (places : List Place) (units : ℕ) (i : Interval) (now : Pi
   pub frame : now.frame ≡ i.before.frame
   pub read : UnitsRead i.scan w.done (map_of i.before) (map_of now) w.whole
 
--- The interval is the next of the scan, of which these places are left, and none is in work.
-pub record IsNext (places : List Place) (units : ℕ) (i : Interval) : Type 0 where
+-- The interval is the next of the scan, whose remaining places these are, and there is no current one.
+pub record IsNextInterval (places : List Place) (units : ℕ) (i : Interval) : Type 0 where
   pub band : IsDcBand i.scan
   pub distinct : AreDistinct (i.places ++ i.later)
   pub sized : (k x y : ℕ) → length (map_of i.before k x y) ≡ 64

@@ -1,9 +1,9 @@
--- What bits of an interval of a DC scan stand for, and what the reader of its units answers (T.81, G.1.2.1).
+-- What bits of an interval of a DC scan mean, and what the reader of its units answers (T.81, G.1.2.1).
 use Rattle.std.specs.Prelude.{◌≡◌, ◌⊎◌, ℕ, ◌^◌, ◌≤◌, true, false, Bool, List, [], ◌∷◌, ◌++◌, ℤ}
 use Rattle.jpg_spec.specs.Codes.{Code}
 use Rattle.jpg_spec.specs.Elements.{Element, Coding, UnitLeft, Standing, Covers, at_start, predicted}
 use Rattle.jpg_spec.specs.Parts.{InCode, InDifference}
-use Rattle.jpg_spec.specs.ScanFaults.{DataShows}
+use Rattle.jpg_spec.specs.ScanFaults.{DataReveals}
 use Rattle.jpg_spec.specs.Sound.{IsSound}
 use Rattle.jpg_coefs.specs.Machine.{fault_of}
 use Rattle.jpg_prog_read.specs.declared.scan.DcScan.{DcScan}
@@ -33,13 +33,13 @@ pub record IsDcRefinementOf (b : DcScan) (c : Coding) : Type 0 where
 abbrev pub dc_unit : ℕ → ℤ → UnitLeft
 dc_unit i o = record { component = i; has_dc = true; old = o ∷ [] }
 
--- which part of a difference the machine keeps, of which these are the bits
+-- which part of a difference the machine has, whose bits these are
 abbrev pub IsDcPart : UnitPlace → Standing → ℤ → List Bool → DcWork → Type 0
 IsDcPart at mid o bits s =
     ((s.size ≡ 0) × (s.walked ≡ bits) × InCode at.coding mid (dc_unit at.component o) at.others [] bits)
     ⊎ ((1 ≤ s.size) × (s.walked ≡ []) × InDifference at.coding mid (dc_unit at.component o) at.others [] bits s.size s.extra)
 
--- The bits are whole units, which told these values and left these predictions.
+-- The bits are complete units, which decode to these values and leave these predictions.
 pub record DcBetween (c : Coding) (units : List UnitLeft) (told : List ℤ) (p : ℕ → ℤ) (others : List UnitLeft) (bits : List Bool) : Type 0 where
   pub elements : List Element
   pub mid : Standing
@@ -47,7 +47,7 @@ pub record DcBetween (c : Coding) (units : List UnitLeft) (told : List ℤ) (p :
   pub left : mid.left ≡ others
   pub predicts : (j : ℕ) → mid.predictions j ≡ p j
 
--- The bits are whole units and a part of the next, of which this is the old value.
+-- The bits are complete units and a part of the next, whose old value this is.
 pub record DcStands (at : UnitPlace) (p : ℕ → ℤ) (o : ℤ) (bits : List Bool) (s : DcWork) : Type 0 where
   pub front : List Bool
   pub part : List Bool
@@ -59,11 +59,11 @@ pub record DcStands (at : UnitPlace) (p : ℕ → ℤ) (o : ℤ) (bits : List Bo
 abbrev pub DcAnswered : UnitPlace → (ℕ → ℤ) → ℤ → List Bool → DcStep → DcWork → Type 0
 DcAnswered at p o bits More s = DcStands at p o bits s
 DcAnswered at p o bits (Done w v) s = DcBetween at.coding at.units (at.told ++ v ∷ []) (predicted p at.component w) at.others bits
-DcAnswered at p o bits (Fault f) s = DataShows at.coding at.units (fault_of f) bits
+DcAnswered at p o bits (Fault f) s = DataReveals at.coding at.units (fault_of f) bits
 
--- WHAT CALLS COME TO, whatever bits the unit in work stands for
+-- THE RESULTS OF CALLS, whatever bits the current unit was given
 
--- a unit begins behind whole ones
+-- a unit begins after complete ones
 abbrev pub BeginsDc : DcWork → Type 0
 BeginsDc new =
     (at : UnitPlace) (p : ℕ → ℤ) (o : ℤ) (bits : List Bool)

@@ -1,4 +1,4 @@
--- A unit of a DC scan in work.
+-- The current unit of a DC scan.
 use Rattle.std.specs.Prelude.{◌≡◌, ℕ, ◌<◌, ◌≤◌, Bool, List, [], ◌∷◌, ◌++◌, length, ℤ, pos, negsuc, ◌≤ℤ◌, ◌*ℤ◌}
 use Rattle.jpg_spec.specs.Numbers.{category, extra_bits}
 use Rattle.jpg_prog_read.specs.declared.scan.DcScan.{DcScan}
@@ -13,7 +13,7 @@ use Rattle.jpg_prog_read.specs.declared.dc.DcExtra.TheVariants.{Wanting, Whole}
 use Rattle.jpg_prog_read.specs.declared.dc.DcStep.{DcStep}
 use Rattle.jpg_prog_read.specs.declared.dc.DcStep.TheVariants.{More, Done, Fault}
 
--- The bits of the code in work; and, where a size isn't 0, that of the number whose extra bits come in.
+-- The bits of the current code; and, if a size isn't 0, that of the number whose extra bits follow.
 pub record DcWork : Type 0 where
   pub walked : List Bool
   pub size : ℕ
@@ -23,11 +23,11 @@ pub record DcWork : Type 0 where
 abbrev pub fresh : DcWork
 fresh = record { walked = []; size = 0; extra = [] }
 
--- a number that is due wants bits
+-- a number that is begun needs bits
 abbrev pub IsDcOpen : DcWork → Type 0
 IsDcOpen s = 1 ≤ s.size → length s.extra < s.size
 
--- numbers that the reader can hold
+-- numbers that fit the reader's types
 pub record AreDcSane (b : DcScan) : Type 0 where
   pub low : negsuc 32766 ≤ℤ b.low
   pub high : b.high ≤ℤ pos 32767
@@ -43,12 +43,12 @@ abbrev pub IsDcValue : DcScan → ℤ → DcValue → Type 0
 IsDcValue b w (Within p v) = (p ≡ w) × (v ≡ w *ℤ pos b.scale) × InDcRange b (w *ℤ pos b.scale)
 IsDcValue b w Beyond = InDcRange b (w *ℤ pos b.scale) → ⊥
 
--- which part is in work
+-- the current part
 abbrev pub IsDcStage : DcStage → DcWork → Type 0
 IsDcStage Code s = s.size ≡ 0
 IsDcStage Number s = 1 ≤ s.size
 
--- an extra bit: whether more are wanted, or which number is whole
+-- an extra bit: whether more are needed, or which number is complete
 abbrev pub AfterDcExtra : DcWork → Bool → DcExtra → DcWork → Type 0
 AfterDcExtra old bit Wanting new = (new ≡ record old { extra = old.extra ++ bit ∷ [] }) × (length new.extra < new.size)
 AfterDcExtra old bit (Whole v) new = (category v ≡ old.size) × (extra_bits v ≡ old.extra ++ bit ∷ []) × (new ≡ record old { size = 0; extra = [] })
@@ -59,7 +59,7 @@ DcStaysOpen More s = IsDcOpen s
 DcStaysOpen (Done p v) s = s.size ≡ 0
 DcStaysOpen (Fault f) s = Unit {0}
 
--- whether a number lies between two others
+-- whether a number is between two others
 abbrev pub IsDcSide : ℤ → ℤ → ℤ → DcSide → Type 0
 IsDcSide low high x side.Within = (low ≤ℤ x) × (x ≤ℤ high)
 IsDcSide low high x side.Beyond = (low ≤ℤ x) × (x ≤ℤ high) → ⊥

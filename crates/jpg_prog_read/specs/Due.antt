@@ -1,20 +1,20 @@
--- UNITS THAT ARE DUE: a machine that waits for a bit stands for whole elements and a part of one more (T.81, G.1.2).
+-- COMPLETE ELEMENTS: a machine between two bits was given complete elements and a part of one more (T.81, G.1.2).
 use Rattle.std.specs.Prelude.{◌≡◌, ℕ, Bool, List, ◌∷◌, ◌++◌, ℤ}
 use Rattle.jpg_spec.specs.Elements.{Coding, UnitLeft}
 use Rattle.jpg_spec.specs.Parts.{WantsCorrection, StandsInUnits}
 use Rattle.jpg_prog_read.specs.declared.stage.Stage.TheVariants.{Ends}
 use Rattle.jpg_prog_read.specs.InWork.{InWork}
 use Rattle.jpg_prog_read.specs.DcWork.{DcWork}
-use Rattle.jpg_prog_read.specs.Stands.{UnitPlace, unit_left, Stands, BetweenUnits}
+use Rattle.jpg_prog_read.specs.Stands.{UnitPlace, unit_left, StandsInBand, BetweenUnits}
 use Rattle.jpg_prog_read.specs.DcStands.{DcStands, DcBetween, dc_unit}
 
--- in a unit of a band: it told what is done of it, and the rest of it is left
+-- in a unit of a band: the bits encode what is done of it, and the rest of it is left
 abbrev pub BandIsDue : InWork → Type 0
 BandIsDue s =
     (at : UnitPlace) (bits : List Bool)
-    → Stands at bits s → StandsInUnits at.coding at.units (at.told ++ s.done) (unit_left at s ∷ at.others) bits
+    → StandsInBand at bits s → StandsInUnits at.coding at.units (at.told ++ s.done) (unit_left at s ∷ at.others) bits
 
--- between two of them, where ends of bands that go on have a correction due
+-- between two of them, if an end-of-band run that goes on has a correction next
 abbrev pub NextIsDue : InWork → Type 0
 NextIsDue s =
     (c : Coding) (units : List UnitLeft) (told : List ℤ) (next : UnitLeft) (others : List UnitLeft) (bits : List Bool)

@@ -1,4 +1,4 @@
--- A unit of a band in work.
+-- The current unit of a band.
 use Rattle.std.specs.Prelude.{◌≡◌, ◌⊎◌, ℕ, ◌+◌, ◌-◌, ◌<◌, ◌≤◌, Bool, true, false, List, [], ℤ, pos, nat_abs, length, take, drop, slice_index_or, All}
 use Rattle.jpg_spec.specs.Elements.{is_zero}
 use Rattle.jpg_base.specs.Marks.{marks}
@@ -6,9 +6,9 @@ use Rattle.jpg_prog_read.specs.declared.stage.Stage.{Stage}
 use Rattle.jpg_prog_read.specs.declared.stage.Stage.TheVariants.{Code, Number, Count, Value, Long, Ends}
 use Rattle.jpg_prog_read.specs.declared.scan.BandScan.{BandScan}
 
--- The values of its block before the band, those of the band that are done, those that are left, and those behind the band;
--- the element in work: the bits of its code; its run (of zeros still to be passed), the size of its number and the bits of that so far,
--- its value, and how many bands it still ends.
+-- The values of its block before the band, those of the band that are done, those that are left, and those after the
+-- band; the current element: the bits of its code; its run (of zeros still to be skipped), the size of its number and
+-- the bits of that so far, its value, and how many bands it still ends.
 pub record InWork : Type 0 where
   pub front : List ℤ
   pub done : List ℤ
@@ -22,7 +22,7 @@ pub record InWork : Type 0 where
   pub due : ℤ
   pub bands : ℕ
 
--- what the reader keeps
+-- the invariant of the reader
 pub record IsKept (values : List ℤ) (start at end olds : ℕ) (begun : Bool) (walked : List Bool) : Type 0 where
   pub whole : length values ≡ 64
   pub begins : start ≤ at
@@ -40,7 +40,7 @@ IsRefinable b o = (is_zero o ≡ true) ⊎ (nat_abs o + b.scale ≤ b.most_magni
 abbrev pub AreRefinable : BandScan → List ℤ → Type 0
 AreRefinable b old = All (IsRefinable b) old
 
--- what the element in work waits for
+-- which bit the current element needs next
 abbrev pub DoesWait : Stage → InWork → Type 0
 DoesWait Code s = Unit {0}
 DoesWait Number s = length s.extra < s.size
@@ -49,13 +49,13 @@ DoesWait Value s = is_zero (slice_index_or s.rest 0 (pos 0)) ≡ false
 DoesWait Long s = is_zero (slice_index_or s.rest 0 (pos 0)) ≡ false
 DoesWait Ends s = (is_zero (slice_index_or s.rest 0 (pos 0)) ≡ false) × (1 ≤ s.bands)
 
--- values are left, and a bit is waited for
-pub record IsOpen (b : BandScan) (s : InWork) : Type 0 where
+-- values are left, and a bit is needed
+pub record IsOpenBand (b : BandScan) (s : InWork) : Type 0 where
   pub left : 1 ≤ length s.rest
   pub fits : AreRefinable b s.rest
   pub waits : DoesWait s.stage s
 
--- values are being passed
+-- values are being skipped
 abbrev pub IsPassing : Stage → InWork → Type 0
 IsPassing Code s = ⊥
 IsPassing Number s = ⊥
@@ -64,7 +64,7 @@ IsPassing Value s = Unit {0}
 IsPassing Long s = Unit {0}
 IsPassing Ends s = 1 ≤ s.bands
 
--- values are left or not, and are being passed
+-- values are left or not, and are being skipped
 pub record IsMoving (b : BandScan) (s : InWork) : Type 0 where
   pub fits : AreRefinable b s.rest
   pub passing : IsPassing s.stage s
@@ -78,7 +78,7 @@ IsEnd Value s = ⊥
 IsEnd Long s = ⊥
 IsEnd Ends s = 1 ≤ s.bands
 
--- the unit is whole
+-- the unit is complete
 pub record IsWholeUnit (s : InWork) : Type 0 where
   pub whole : s.rest ≡ []
   pub ended : IsEnd s.stage s
@@ -88,7 +88,7 @@ abbrev pub band_values : BandScan → List ℤ → List ℤ
 band_values b block = take (b.end - b.start) (drop b.start block)
 
 -- before the first unit
-pub record IsFresh (s : InWork) : Type 0 where
+pub record IsBeforeUnits (s : InWork) : Type 0 where
   pub whole : s.rest ≡ []
   pub code : s.stage ≡ Code
   pub quiet : s.walked ≡ []

@@ -1,9 +1,9 @@
--- What a symbol of an AC table says in a progressive scan (T.81, G.1.2.2, G.1.2.3).
+-- The meaning of a symbol of an AC table in a progressive scan (T.81, G.1.2.2, G.1.2.3).
 use Rattle.std.specs.Prelude.{◌≡◌, ℕ, ◌+◌, ◌*◌, ◌/◌, ◌%◌, ◌<◌, ◌≤◌}
-use Rattle.jpg_prog_read.specs.declared.symbols.Judged.{Judged}
-use Rattle.jpg_prog_read.specs.declared.symbols.Judged.TheVariants.{Value, Long, End, Count, BadSymbol, BadRun}
+use Rattle.jpg_prog_read.specs.declared.symbols.ProgressiveSymbol.{ProgressiveSymbol}
+use Rattle.jpg_prog_read.specs.declared.symbols.ProgressiveSymbol.TheVariants.{Value, Long, End, Count, BadSymbol, BadRun}
 
-abbrev pub Judges : ℕ → ℕ → ℕ → Judged → Type 0
+abbrev pub Judges : ℕ → ℕ → ℕ → ProgressiveSymbol → Type 0
 Judges most left symbol (Value run size) = (symbol ≡ 16 * run + size) × (1 ≤ size) × (size ≤ most) × (run < left) × (run ≤ 15) × (size ≤ 15)
 Judges most left symbol Long = symbol ≡ 0xf0
 Judges most left symbol End = symbol ≡ 0

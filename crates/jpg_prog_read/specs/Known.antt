@@ -11,7 +11,7 @@ use Rattle.jpg_spec.specs.PictureInWork.{is_in_band}
 use Rattle.jpg_spec.specs.Laws.{frame_of_items}
 use Rattle.jpg_spec.specs.declared.frame.Limits.{Limits}
 use Rattle.jpg_spec.specs.declared.frame.Place.{Place}
-use Rattle.jpg_prog_read.specs.AcStands.{HasRoom}
+use Rattle.jpg_prog_read.specs.AcStands.{HasCorrectionRoom}
 
 abbrev pub IsMultiple : ℕ → ℤ → Type 0
 IsMultiple al v = (m : ℕ) × (nat_abs v ≡ m * 2 ^ al)
@@ -20,37 +20,38 @@ abbrev pub AreMultiples : ℕ → List ℤ → Type 0
 AreMultiples al [] = Unit {0}
 AreMultiples al (v ∷ vs) = IsMultiple al v × AreMultiples al vs
 
--- Elements of this coding tell multiples of 2 ^ al, where the values before them were multiples of 2 ^ (al + 1).
+-- Elements of this coding decode to multiples of 2 ^ al, if the values before them were multiples of 2 ^ (al + 1).
 abbrev pub TellsMultiples : Coding → Type 0
 TellsMultiples c =
     (units : List UnitLeft) (told : List ℤ) (bits : List Bool)
     → AreMultiples (c.al + 1) (old_values units) → SpellsUnits c units told bits → AreMultiples c.al told
 
--- A magnitude below 2 ^ category that is a multiple of 2 ^ (al + 1) stays below it when bit al comes.
+-- A magnitude below 2 ^ category that is a multiple of 2 ^ (al + 1) remains below it with bit al added.
 abbrev pub LeavesRoom : ℕ → ℕ → Type 0
 LeavesRoom al category = (m n : ℕ) → n ≡ m * 2 ^ (al + 1) → n ≤ 2 ^ category - 1 → n + 2 ^ al ≤ 2 ^ category - 1
 
--- Old values that are known down to bit al + 1 and have at most this category take bit al.
+-- Old values that are known down to bit al + 1 and have at most this category have room for bit al.
 abbrev pub GivesRoom : Coding → ℕ → Type 0
-GivesRoom c category = (o : ℤ) → IsMultiple (c.al + 1) o → nat_abs o ≤ 2 ^ category - 1 → HasRoom c o
+GivesRoom c category = (o : ℤ) → IsMultiple (c.al + 1) o → nat_abs o ≤ 2 ^ category - 1 → HasCorrectionRoom c o
 
--- each coefficient of a scan's band at a place takes the next bit
+-- each coefficient of a scan's band at a place has room for the next bit
 abbrev pub EachHasRoom : Scan → Blocks → Place → Type 0
-EachHasRoom s before p = (k : ℕ) → is_in_band s k ≡ true → HasRoom s.coding (coefficient before p.component p.x p.y k)
+EachHasRoom s before p = (k : ℕ) → is_in_band s k ≡ true → HasCorrectionRoom s.coding (coefficient before p.component p.x p.y k)
 
--- the frame behind these items is progressive
-abbrev pub IsProgressiveBehind : Limits → List Item → Type 0
-IsProgressiveBehind limits items = is_progressive (frame_of_items limits items).process ≡ true
+-- the frame after these items is progressive
+abbrev pub IsProgressiveAfter : Limits → List Item → Type 0
+IsProgressiveAfter limits items = is_progressive (frame_of_items limits items).process ≡ true
 
--- the bit down to which the scans among these items tell coefficient k of component i
-abbrev pub known_behind : Limits → List Item → ℕ → ℕ → Option ℕ
-known_behind limits items i k = known_to (heads_of (frame_of_items limits items) (segments_of items)) i k
+-- the bit down to which the scans among these items send coefficient k of component i
+abbrev pub known_after : Limits → List Item → ℕ → ℕ → Option ℕ
+known_after limits items i k = known_to (heads_of (frame_of_items limits items) (segments_of items)) i k
 
--- Each coefficient that the scans among the items told down to a bit is a multiple of that power of two, and the others are zero.
+-- Each coefficient that the scans among the items sent down to a bit is a multiple of that power of two, and the others
+-- are zero.
 pub record AreKnown (limits : Limits) (items : List Item) (blocks : Blocks) : Type 0 where
-  pub told : (i x y k n : ℕ) → known_behind limits items i k ≡ Some n → IsMultiple n (coefficient blocks i x y k)
-  pub unsent : (i x y k : ℕ) → known_behind limits items i k ≡ None → coefficient blocks i x y k ≡ pos 0
+  pub told : (i x y k n : ℕ) → known_after limits items i k ≡ Some n → IsMultiple n (coefficient blocks i x y k)
+  pub unsent : (i x y k : ℕ) → known_after limits items i k ≡ None → coefficient blocks i x y k ≡ pos 0
 
--- and so they are in whatever blocks the items lead to
+-- this holds of all blocks that the items lead to
 abbrev pub LeadsToKnown : Limits → List Item → Type 0
 LeadsToKnown limits items = (blocks : Blocks) → Leads limits items blocks → AreKnown limits items blocks

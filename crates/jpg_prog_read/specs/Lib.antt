@@ -2,7 +2,7 @@ pub mod AcStands
 pub mod BandBits
 pub mod BitsTaken
 pub mod DcFirstPass
-pub mod DcLooked
+pub mod DcLookedUp
 pub mod DcNew
 pub mod DcPlaces
 pub mod DcRefinement
@@ -16,5 +16,5 @@ pub mod Known
 pub mod NewAcReader
 pub mod Scaled
 pub mod Stands
-pub mod Step
+pub mod ReaderSteps
 pub mod ZerosPassed

@@ -47,7 +47,7 @@ pub record IsOfAcScan (f : Frame) (head : ScanHead) (set : TableSet) (i : Interv
   pub places : i.places ++ i.later ≡ units f (head_components head)
   pub frame : i.before.frame ≡ f
 
--- what the machine goes by, of such a header
+-- the machine's parameters, from such a header
 pub record IsBandOf (f : Frame) (head : ScanHead) (b : BandScan) : Type 0 where
   pub start : b.start ≡ head.ss
   pub end : b.end ≡ head.se + 1

@@ -6,7 +6,7 @@ ghost use Rattle.jpg_huff.specs.Tables.{symbol_codes};
 ghost use Rattle.jpg_prog_read.specs.NewAcReader.{HasAcTable, IsAcScan, IsOfAcScan, IsBandOf};
 ghost use Rattle.jpg_coefs.specs.Machine.{Interval, TakesBits};
 ghost use Rattle.jpg_coefs.specs.Picture.{Picture};
-ghost use Rattle.jpg_prog_read.specs.AcStands.{IsInUnit, HasWhole, IsBetween, AcStands, ReadsBit, PutsUnit, TakesQuietly, TakesUnit, Settles, GoesOn, progressive_ac, with_band};
+ghost use Rattle.jpg_prog_read.specs.AcStands.{IsInUnit, HasWhole, IsBetweenUnits, AcStands, ReadsBit, PutsUnit, TakesQuietly, TakesUnit, Settles, BandsGoOn, progressive_ac, with_unit_of};
 ghost use Rattle.jpg_prog_read.specs.BandBits.{TakesBand};
 ghost use Rattle.jpg_prog_read.specs.declared.stage.Stage.TheVariants as stages;
 
@@ -17,8 +17,8 @@ use jpg_base::{BitStore, Cursor, Frame, ScanHead, ScanPart};
 use jpg_coefs::{Coefs, ScanMachine, Taken, UnitFault, UnitStep};
 use jpg_huff::TableSet;
 
-/// A machine that reads a progressive AC scan: what it reads by, the places that are left, the unit in
-/// work, how many units of the interval are left, and whether the first of them wasn't taken yet.
+/// A machine that reads a progressive AC scan: its parameters, the places that are left, the current unit, how many
+/// units of the interval are left, and whether the first of them wasn't begun yet.
 #[derive(Drop)]
 pub struct AcReader {
     scan: BandScan,
@@ -29,7 +29,7 @@ pub struct AcReader {
     fresh: bool,
 }
 
-// What the header says of the band.
+// The band of a header.
 fn band_of(frame: &Frame, head: &ScanHead) -> BandScan
     requires end { head.now.se ≤ 63 }
     requires scale { head.now.al ≤ 10 }
@@ -57,8 +57,8 @@ fn codes_in(tables: &TableSet, part: &ScanPart) -> Codes
 }
 
 impl AcReader {
-    /// Before the first unit of a scan, between intervals. The frame is progressive, the head names a
-    /// band of AC of one component of it, and that component's table is there.
+    /// A machine before the first unit of a scan, between intervals. The frame is progressive, the head names a band of
+    /// AC of one component of it, and that component's table is there.
     pub fn new(frame: &Frame, head: &ScanHead, tables: &TableSet) -> AcReader
         requires { IsAcScan frame.now head.now tables.now }
         ensures { (i : Interval) → IsOfAcScan frame.now head.now tables.now i → progressive_ac.ready result i }
@@ -74,7 +74,7 @@ impl AcReader {
         }
     }
 
-    // A bit of the unit in work.
+    // Takes a bit of the current unit.
     fn unit_bit(&mut self, bit: bool) -> BandStep
         requires { (i : Interval) × (bits : List Bool) × (now : Picture) × IsInUnit self.old i bits now }
         ensures { ReadsBit self.old bit result self.new }
@@ -82,7 +82,7 @@ impl AcReader {
         self.unit.bit(&self.scan, &self.codes, self.left, bit)
     }
 
-    // The block of a unit that is whole is put at its place.
+    // Puts the block of a complete unit at its place.
     fn put(&mut self, coefs: &mut Coefs)
         requires { (i : Interval) × (bits : List Bool) × HasWhole self.old i bits coefs.old }
         ensures count { self.new.left + 1 ≡ self.old.left }
@@ -96,9 +96,9 @@ impl AcReader {
         self.left -= 1;
     }
 
-    // The next unit is taken.
+    // Begins the next unit.
     fn take(&mut self, coefs: &Coefs) -> BandStep
-        requires between { (i : Interval) × (bits : List Bool) × IsBetween self.old i bits coefs.now }
+        requires between { (i : Interval) × (bits : List Bool) × IsBetweenUnits self.old i bits coefs.now }
         requires some { 1 ≤ self.old.left }
         ensures first { self.old.unit.stage ≡ stages.Code → result ≡ BandStep.More }
         ensures count { self.new.left ≡ self.old.left }
@@ -112,11 +112,11 @@ impl AcReader {
         self.unit.start(&self.scan, &block)
     }
 
-    // Behind a whole unit: the ends of bands may make further ones whole.
+    // Goes on after a complete unit: an end-of-band run may complete further ones.
     fn go_on(&mut self, coefs: &mut Coefs) -> Result<UnitStep, UnitFault>
         requires { (i : Interval) × (bits : List Bool) × HasWhole self.old i bits coefs.old }
         ensures begun { result ≡ Ok UnitStep.More → self.new.fresh ≡ false }
-        ensures goes { GoesOn self.old coefs.old result self.new coefs.new }
+        ensures goes { BandsGoOn self.old coefs.old result self.new coefs.new }
     {
         loop {
             self.put(coefs);
@@ -131,7 +131,7 @@ impl AcReader {
         }
     }
 
-    // The first unit is taken where it wasn't yet.
+    // Begins the first unit, if it wasn't begun yet.
     fn settle(&mut self, coefs: &Coefs)
         requires { (i : Interval) × (bits : List Bool) × AcStands self.old i bits coefs.now }
         ensures begun { self.new.fresh ≡ false }
@@ -145,11 +145,11 @@ impl AcReader {
 }
 
 impl AcReader {
-    // Bits of the unit in work, from the front of a store.
+    // Takes bits of the current unit from the start of a store.
     fn unit_bits(&mut self, store: &mut BitStore) -> BandStep
         requires unit { (i : Interval) × (bits : List Bool) × (now : Picture) × IsInUnit self.old i bits now }
         requires some { 1 ≤ length store.old }
-        ensures same { self.new ≡ with_band self.old self.new.unit }
+        ensures same { self.new ≡ with_unit_of self.old self.new.unit }
         ensures takes { TakesBand self.old.scan self.old.codes self.old.left self.old.unit store.old result self.new.unit store.new }
         ensures all { result ≡ BandStep.More → store.new ≡ [] }
     {
@@ -161,7 +161,7 @@ impl AcReader {
         step
     }
 
-    // Bits of a store, as `bits` takes them, where the first unit was taken.
+    // Takes bits of a store, as `bits` does, where the first unit was begun.
     fn read(&mut self, store: &mut BitStore, coefs: &mut Coefs, most: u64) -> Taken
         requires begun { self.old.fresh ≡ false }
         requires open { (i : Interval) × (bits : List Bool) × AcStands self.old i bits coefs.old }

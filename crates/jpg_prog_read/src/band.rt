@@ -4,61 +4,61 @@ ghost use Rattle.jpg_spec.specs.Bits.{bits_of};
 ghost use Rattle.jpg_spec.specs.Codes.{Code};
 ghost use Rattle.jpg_spec.specs.Numbers.{category, extra_bits, digits};
 ghost use Rattle.jpg_spec.specs.Elements.{zeros, zeros_in, is_zero};
-ghost use Rattle.jpg_huff.specs.Walk.{Answers};
-ghost use Rattle.jpg_prog_read.specs.InWork.{IsOpen, IsMoving, IsPassing, IsWholeUnit, IsFresh, AreRefinable, band_values, with_band};
-ghost use Rattle.jpg_prog_read.specs.Step.{AreSane, IsSkipped, AfterBandEnd, AfterValue, StaysOpen, KeepsOtherValues, HasSkipped, PassesZeros};
+ghost use Rattle.jpg_huff.specs.Walk.{WalkAnswers};
+ghost use Rattle.jpg_prog_read.specs.InWork.{IsOpenBand, IsMoving, IsPassing, IsWholeUnit, IsBeforeUnits, AreRefinable, band_values, with_band};
+ghost use Rattle.jpg_prog_read.specs.ReaderSteps.{IsSaneBand, IsSkipped, AfterBandEnd, AfterValue, StaysOpen, KeepsOtherValues, HasSkipped, PassesZeros};
 ghost use Rattle.jpg_prog_read.specs.ExtraWork.{IsWanting};
 ghost use Rattle.jpg_prog_read.specs.declared.scan.BandScan.{BandScan};
-ghost use Rattle.jpg_prog_read.specs.Stands.{UnitPlace, Stands, Answered, AnswersStep, AnswersBit, AnswersBand, PassesEnds, BeginsQuietly, ShowsNone};
+ghost use Rattle.jpg_prog_read.specs.Stands.{UnitPlace, StandsInBand, Answered, AnswersStep, AnswersBit, AnswersBand, PassesEnds, BeginsQuietly, IsNoFault};
 ghost use Rattle.jpg_prog_read.specs.BandBits.{AnswersSymbol, TakesBand};
-ghost use Rattle.jpg_prog_read.specs.ZerosPassed.{ZerosComeNext, behind_zeros};
+ghost use Rattle.jpg_prog_read.specs.ZerosPassed.{ZerosComeNext, after_zeros};
 
 use crate::codes::Codes;
 use crate::extra::{Extra, ExtraBits};
 use crate::numbers::{Scaled, corrected, scaled_within};
 use crate::scan::BandScan;
 use crate::stage::Stage;
-use crate::symbols::{Judged, judge};
+use crate::symbols::{ProgressiveSymbol, judge};
 use jpg_base::{BitStore, Block};
 use jpg_coefs::UnitFault;
 use jpg_huff::{Spotted, Walk, WalkStep};
 use std::marker::Model;
 
-/// What a bit of a unit of a band comes to.
+/// The result of a bit of a unit of a band.
 #[derive(Clone, Copy, Debug, PartialEq, Eq)]
 pub enum BandStep {
     /// The unit goes on.
     More,
-    /// It is whole.
+    /// It is complete.
     Done,
     Fault(UnitFault),
 }
 
-// Where passing zeros ends.
+// Where skipping zeros ends: at the end of the band, at a value that is not zero, or at a zero after the run.
 enum Skipped {
     AtEnd,
     AtOld,
     AtZero,
 }
 
-// Whether all ends of bands were met.
+// Whether the end-of-band run is over.
 enum Ended {
     All,
     Some,
 }
 
-/// A unit of a band in work.
+/// The current unit of a band.
 #[derive(Drop)]
 pub struct BandReader {
     values: Block,
     start: u8,
     at: u8,
     end: u8,
-    // bit 0 is 1 where the value at place `at` isn't 0, and so on
+    // bit 0 is 1 if the value at place `at` isn't 0, and so on
     olds: u64,
     stage: Stage,
     walk: Walk,
-    // whether bits of a code came
+    // whether bits of a code were taken
     begun: bool,
     run: u8,
     extra: ExtraBits,
@@ -91,9 +91,9 @@ impl Model for BandReader {
 }
 
 impl BandReader {
-    // a bit of a code
+    // Takes a bit of a code.
     fn walk_bit(&mut self, codes: &Codes, bit: bool) -> WalkStep
-        ensures answers { Answers codes.now (self.old.walked ++ bit ∷ []) result self.new.walked }
+        ensures answers { WalkAnswers codes.now (self.old.walked ++ bit ∷ []) result self.new.walked }
         ensures same { self.new ≡ record (self.old) { walked = self.new.walked } }
     {
         let step = codes.walk(&mut self.walk, bit);
@@ -105,7 +105,7 @@ impl BandReader {
         step
     }
 
-    // the next value of the band
+    // Puts the next value of the band.
     fn put(&mut self, value: i16)
         requires { 1 ≤ length self.old.rest }
         ensures { self.new ≡ record (self.old) { done = self.old.done ++ value ∷ []; rest = drop 1 self.old.rest } }
@@ -115,7 +115,7 @@ impl BandReader {
         self.olds = self.olds >> 1;
     }
 
-    // how many zeros are left
+    // How many zeros are left.
     fn zeros_left(&self) -> u8
         ensures { result ≡ zeros_in self.now.rest }
     {
@@ -124,7 +124,7 @@ impl BandReader {
         left - olds.count_ones() as u8
     }
 
-    // how many zeros come next
+    // How many zeros are next.
     fn zeros_next(&self) -> u8
         ensures next { ZerosComeNext result self.now.rest }
         ensures short { result ≤ 63 }
@@ -134,20 +134,20 @@ impl BandReader {
         if zeros < left { zeros } else { left }
     }
 
-    // past zeros
+    // Skips zeros.
     fn pass_zeros(&mut self, count: u8)
         requires some { count ≤ length self.old.rest }
         requires next { take count self.old.rest ≡ zeros count }
         requires short { count ≤ 63 }
         requires run { count ≤ self.old.run }
-        ensures { self.new ≡ behind_zeros self.old count }
+        ensures { self.new ≡ after_zeros self.old count }
     {
         self.at += count;
         self.olds = self.olds >> count;
         self.run -= count;
     }
 
-    // whether values are left
+    // Whether values are left.
     fn is_left(&self) -> bool
         ensures left { result ≡ true → 1 ≤ length self.now.rest }
         ensures none { result ≡ false → self.now.rest ≡ [] }
@@ -173,7 +173,7 @@ impl BandReader {
         self.due
     }
 
-    // a number of this category begins
+    // Begins a number of this category.
     fn begin(&mut self, stage: Stage, run: u8, size: u8)
         requires { size ≤ 15 }
         ensures { self.new ≡ record (self.old) { stage = stage; run = run; size = size; extra = [] } }
@@ -183,7 +183,7 @@ impl BandReader {
         self.extra = ExtraBits::new(size);
     }
 
-    // an extra bit, and whether more are wanted
+    // Takes an extra bit, and answers whether more are needed.
     fn extra_bit(&mut self, bit: bool) -> Extra
         requires { length self.old.extra < self.old.size }
         ensures new { self.new ≡ record (self.old) { extra = self.old.extra ++ bit ∷ [] } }
@@ -192,7 +192,7 @@ impl BandReader {
         self.extra.push(bit)
     }
 
-    // the number whose extra bits are whole
+    // The number whose extra bits are complete.
     fn whole_number(&self) -> i16
         requires { length self.now.extra ≡ self.now.size }
         ensures category { category result ≡ self.now.size }
@@ -201,7 +201,7 @@ impl BandReader {
         self.extra.value()
     }
 
-    // how many bands end
+    // How many bands the end-of-band run has.
     fn whole_count(&self) -> u32
         requires whole { length self.now.extra ≡ self.now.size }
         requires size { self.now.size ≤ 14 }
@@ -212,7 +212,7 @@ impl BandReader {
         self.extra.bands()
     }
 
-    // a value is due behind the run
+    // Begins the run before a value.
     fn begin_value(&mut self, value: i16)
         ensures { self.new ≡ record (self.old) { stage = Stage.Value; due = value } }
     {
@@ -242,7 +242,7 @@ impl BandReader {
         self.stage = Stage::Code;
     }
 
-    // one end of a band was met
+    // Counts one band of the end-of-band run.
     fn end_band(&mut self) -> Ended
         requires { 1 ≤ self.old.bands }
         ensures { AfterBandEnd self.old result self.new }
@@ -256,7 +256,7 @@ impl BandReader {
         }
     }
 
-    // whether values are left
+    // Whether values are left.
     fn covered(&self) -> BandStep
         ensures { AfterValue result self.now }
     {
@@ -267,7 +267,7 @@ impl BandReader {
         }
     }
 
-    // past the zeros that come next, as many as the run has
+    // Skips the zeros that are next, as many as the run has.
     fn skip(&mut self) -> Skipped
         requires passing { IsPassing self.old.stage self.old }
         ensures at { IsSkipped result self.new }
@@ -288,9 +288,9 @@ impl BandReader {
         }
     }
 
-    // the value that is due, at its place
+    // Puts the value after the run at its place.
     fn place(&mut self, scan: &BandScan) -> BandStep
-        requires sane { AreSane scan.now }
+        requires sane { IsSaneBand scan.now }
         requires zero { self.old.rest ≡ pos 0 ∷ drop 1 self.old.rest }
         requires stage { (self.old.stage ≡ Stage.Value) × (self.old.run ≡ 0) }
         requires fits { AreRefinable scan.now self.old.rest }
@@ -308,7 +308,7 @@ impl BandReader {
         }
     }
 
-    // the sixteenth zero
+    // Skips the sixteenth zero.
     fn pass_last(&mut self) -> BandStep
         requires zero { self.old.rest ≡ pos 0 ∷ drop 1 self.old.rest }
         requires stage { (self.old.stage ≡ Stage.Long) × (self.old.run ≡ 0) }
@@ -321,14 +321,14 @@ impl BandReader {
         self.covered()
     }
 
-    // the end of the band while ends are due
+    // Ends the band within an end-of-band run.
     fn leave(&mut self) -> BandStep
         requires end { self.old.rest ≡ [] }
         requires stage { (self.old.stage ≡ Stage.Ends) × (1 ≤ self.old.bands) }
         ensures open { (b : BandScan) → StaysOpen b result self.new }
         ensures outside { KeepsOtherValues self.old self.new }
-        ensures answered { (at : UnitPlace) (bits : List Bool) → Stands at bits self.old → Answered at bits result self.new }
-        ensures quiet { ShowsNone result }
+        ensures answered { (at : UnitPlace) (bits : List Bool) → StandsInBand at bits self.old → Answered at bits result self.new }
+        ensures quiet { IsNoFault result }
     {
         match self.end_band() {
             Ended::All => BandStep::Done,
@@ -336,9 +336,9 @@ impl BandReader {
         }
     }
 
-    // on to the next value that wants a correction, or to the end of the element
+    // Goes on to the next value that needs a correction, or to the end of the element.
     fn advance(&mut self, scan: &BandScan) -> BandStep
-        requires sane { AreSane scan.now }
+        requires sane { IsSaneBand scan.now }
         requires moving { IsMoving scan.now self.old }
         ensures open { StaysOpen scan.now result self.new }
         ensures outside { KeepsOtherValues self.old self.new }
@@ -350,7 +350,7 @@ impl BandReader {
             Skipped::AtZero => match self.stage() {
                 Stage::Value => self.place(scan),
                 Stage::Long => self.pass_last(),
-                // these don't come
+                // impossible stages
                 Stage::Code => BandStep::Fault(UnitFault::NoCode),
                 Stage::Number => BandStep::Fault(UnitFault::NoCode),
                 Stage::Count => BandStep::Fault(UnitFault::NoCode),
@@ -362,7 +362,7 @@ impl BandReader {
                     self.end_element();
                     BandStep::Done
                 }
-                // these don't come
+                // impossible stages
                 Stage::Code => BandStep::Fault(UnitFault::NoCode),
                 Stage::Number => BandStep::Fault(UnitFault::NoCode),
                 Stage::Count => BandStep::Fault(UnitFault::NoCode),
@@ -371,7 +371,7 @@ impl BandReader {
         }
     }
 
-    // the next old value
+    // The next old value.
     fn first(&self) -> i16
         requires { 1 ≤ length self.now.rest }
         ensures { self.now.rest ≡ result ∷ drop 1 self.now.rest }
@@ -379,10 +379,10 @@ impl BandReader {
         self.values.get(self.at)
     }
 
-    // behind a code
+    // Goes on after a code.
     fn symbol(&mut self, scan: &BandScan, symbol: u8) -> BandStep
-        requires sane { AreSane scan.now }
-        requires open { IsOpen scan.now self.old }
+        requires sane { IsSaneBand scan.now }
+        requires open { IsOpenBand scan.now self.old }
         requires stage { self.old.stage ≡ Stage.Code }
         requires walked { self.old.walked ≡ [] }
         ensures open { StaysOpen scan.now result self.new }
@@ -391,31 +391,31 @@ impl BandReader {
     {
         let zeros = self.zeros_left();
         match judge(scan.most_category, zeros, symbol) {
-            Judged::BadSymbol => BandStep::Fault(UnitFault::BadSymbol),
-            Judged::BadRun => BandStep::Fault(UnitFault::BadRun),
-            Judged::Value { run, size } => {
+            ProgressiveSymbol::BadSymbol => BandStep::Fault(UnitFault::BadSymbol),
+            ProgressiveSymbol::BadRun => BandStep::Fault(UnitFault::BadRun),
+            ProgressiveSymbol::Value { run, size } => {
                 self.begin(Stage::Number, run, size);
                 BandStep::More
             }
-            Judged::Count { size } => {
+            ProgressiveSymbol::Count { size } => {
                 self.begin(Stage::Count, 0, size);
                 BandStep::More
             }
-            Judged::Long => {
+            ProgressiveSymbol::Long => {
                 self.begin_long();
                 self.advance(scan)
             }
-            Judged::End => {
+            ProgressiveSymbol::End => {
                 self.begin_ends(1);
                 self.advance(scan)
             }
         }
     }
 
-    // a bit of a code
+    // Takes a bit of a code.
     fn code_bit(&mut self, scan: &BandScan, codes: &Codes, bit: bool) -> BandStep
-        requires sane { AreSane scan.now }
-        requires open { IsOpen scan.now self.old }
+        requires sane { IsSaneBand scan.now }
+        requires open { IsOpenBand scan.now self.old }
         requires stage { self.old.stage ≡ Stage.Code }
         ensures open { StaysOpen scan.now result self.new }
         ensures outside { KeepsOtherValues self.old self.new }
@@ -428,9 +428,9 @@ impl BandReader {
         }
     }
 
-    // behind the bits of a value's number
+    // Goes on after the bits of a value's number.
     fn number(&mut self, scan: &BandScan) -> BandStep
-        requires sane { AreSane scan.now }
+        requires sane { IsSaneBand scan.now }
         requires open { (1 ≤ length self.old.rest) × AreRefinable scan.now self.old.rest }
         requires stage { self.old.stage ≡ Stage.Number }
         requires whole { length self.old.extra ≡ self.old.size }
@@ -443,10 +443,10 @@ impl BandReader {
         self.advance(scan)
     }
 
-    // a bit of a value's number
+    // Takes a bit of a value's number.
     fn number_bit(&mut self, scan: &BandScan, bit: bool) -> BandStep
-        requires sane { AreSane scan.now }
-        requires open { IsOpen scan.now self.old }
+        requires sane { IsSaneBand scan.now }
+        requires open { IsOpenBand scan.now self.old }
         requires stage { self.old.stage ≡ Stage.Number }
         requires wants { length self.old.extra < self.old.size }
         ensures open { StaysOpen scan.now result self.new }
@@ -459,10 +459,10 @@ impl BandReader {
         }
     }
 
-    // a bit of the number of bands, of which `left` are left
+    // Takes a bit of the length of an end-of-band run, where `left` units are left.
     fn count_bit(&mut self, scan: &BandScan, left: u64, bit: bool) -> BandStep
-        requires sane { AreSane scan.now }
-        requires open { IsOpen scan.now self.old }
+        requires sane { IsSaneBand scan.now }
+        requires open { IsOpenBand scan.now self.old }
         requires stage { self.old.stage ≡ Stage.Count }
         requires wants { length self.old.extra < self.old.size }
         requires size { self.old.size ≤ 14 }
@@ -484,10 +484,10 @@ impl BandReader {
         }
     }
 
-    // the correction of an old value
+    // Takes the correction of an old value.
     fn correction_bit(&mut self, scan: &BandScan, bit: bool) -> BandStep
-        requires sane { AreSane scan.now }
-        requires open { IsOpen scan.now self.old }
+        requires sane { IsSaneBand scan.now }
+        requires open { IsOpenBand scan.now self.old }
         requires passing { IsPassing self.old.stage self.old }
         requires old { is_zero (slice_index_or self.old.rest 0 (pos 0)) ≡ false }
         ensures open { StaysOpen scan.now result self.new }
@@ -499,10 +499,10 @@ impl BandReader {
         self.advance(scan)
     }
 
-    /// Takes one more bit. `left` is the number of units that are left, this one included.
+    /// Takes one more bit. `left` is how many units are left, including this one.
     pub fn bit(&mut self, scan: &BandScan, codes: &Codes, left: u64, bit: bool) -> BandStep
-        requires sane { AreSane scan.now }
-        requires open { IsOpen scan.now self.old }
+        requires sane { IsSaneBand scan.now }
+        requires open { IsOpenBand scan.now self.old }
         ensures open { StaysOpen scan.now result self.new }
         ensures outside { KeepsOtherValues self.old self.new }
         ensures answered { AnswersBit scan.now codes.now left self.old bit result self.new }
@@ -517,7 +517,7 @@ impl BandReader {
         }
     }
 
-    // One more bit, from the front of a store.
+    // Takes one bit from the start of a store.
     fn take_bit(
         &mut self,
         scan: &BandScan,
@@ -525,8 +525,8 @@ impl BandReader {
         left: u64,
         store: &mut BitStore,
     ) -> BandStep
-        requires sane { AreSane scan.now }
-        requires open { IsOpen scan.now self.old }
+        requires sane { IsSaneBand scan.now }
+        requires open { IsOpenBand scan.now self.old }
         requires some { 1 ≤ length store.old }
         ensures { TakesBand scan.now codes.now left self.old store.old result self.new store.new }
     {
@@ -535,7 +535,7 @@ impl BandReader {
         self.bit(scan, codes, left, bit)
     }
 
-    // A whole code where one stands first and none is begun, or one bit.
+    // Takes a complete code if the bits begin with one and none is begun, or one bit.
     fn take_code(
         &mut self,
         scan: &BandScan,
@@ -543,8 +543,8 @@ impl BandReader {
         left: u64,
         store: &mut BitStore,
     ) -> BandStep
-        requires sane { AreSane scan.now }
-        requires open { IsOpen scan.now self.old }
+        requires sane { IsSaneBand scan.now }
+        requires open { IsOpenBand scan.now self.old }
         requires stage { self.old.stage ≡ Stage.Code }
         requires some { 1 ≤ length store.old }
         ensures { TakesBand scan.now codes.now left self.old store.old result self.new store.new }
@@ -562,7 +562,7 @@ impl BandReader {
         }
     }
 
-    // All bits of a number where they are there and none is taken, or one bit.
+    // Takes all bits of a number if they are there and none was taken, or one bit.
     fn take_number(
         &mut self,
         scan: &BandScan,
@@ -570,8 +570,8 @@ impl BandReader {
         left: u64,
         store: &mut BitStore,
     ) -> BandStep
-        requires sane { AreSane scan.now }
-        requires open { IsOpen scan.now self.old }
+        requires sane { IsSaneBand scan.now }
+        requires open { IsOpenBand scan.now self.old }
         requires stage { self.old.stage ≡ Stage.Number }
         requires some { 1 ≤ length store.old }
         ensures { TakesBand scan.now codes.now left self.old store.old result self.new store.new }
@@ -585,7 +585,7 @@ impl BandReader {
         self.take_bit(scan, codes, left, store)
     }
 
-    // Some bits from the front of a store.
+    // Takes some bits from the start of a store.
     fn take_some(
         &mut self,
         scan: &BandScan,
@@ -593,8 +593,8 @@ impl BandReader {
         left: u64,
         store: &mut BitStore,
     ) -> BandStep
-        requires sane { AreSane scan.now }
-        requires open { IsOpen scan.now self.old }
+        requires sane { IsSaneBand scan.now }
+        requires open { IsOpenBand scan.now self.old }
         requires some { 1 ≤ length store.old }
         ensures { TakesBand scan.now codes.now left self.old store.old result self.new store.new }
     {
@@ -608,8 +608,8 @@ impl BandReader {
         }
     }
 
-    /// Takes bits from the front of a store, up to the one that makes the unit whole or shows a fault, or all of them.
-    /// `left` is the number of units that are left, this one included.
+    /// Takes bits from the start of a store, up to the one that completes the unit or reveals a fault, or all of them.
+    /// `left` is how many units are left, including this one.
     pub fn take(
         &mut self,
         scan: &BandScan,
@@ -617,8 +617,8 @@ impl BandReader {
         left: u64,
         store: &mut BitStore,
     ) -> BandStep
-        requires sane { AreSane scan.now }
-        requires open { IsOpen scan.now self.old }
+        requires sane { IsSaneBand scan.now }
+        requires open { IsOpenBand scan.now self.old }
         requires some { 1 ≤ length store.old }
         ensures takes { TakesBand scan.now codes.now left self.old store.old result self.new store.new }
         ensures all { result ≡ BandStep.More → store.new ≡ [] }
@@ -636,9 +636,9 @@ impl BandReader {
         }
     }
 
-    // the block of the next unit
+    // Loads the block of the next unit.
     fn load(&mut self, scan: &BandScan, block: &Block)
-        requires sane { AreSane scan.now }
+        requires sane { IsSaneBand scan.now }
         ensures new { self.new ≡ with_band self.old (take scan.now.start block.now) (band_values scan.now block.now) (drop scan.now.end block.now) }
         ensures small { zeros_in (band_values scan.now block.now) < 255 }
         ensures long { length block.now ≡ 64 }
@@ -652,9 +652,9 @@ impl BandReader {
         self.run = 255;
     }
 
-    /// Begins the next unit, of which this is the block.
+    /// Begins the next unit, whose block this is.
     pub fn start(&mut self, scan: &BandScan, block: &Block) -> BandStep
-        requires sane { AreSane scan.now }
+        requires sane { IsSaneBand scan.now }
         requires some { scan.now.start < scan.now.end }
         requires between { IsWholeUnit self.old }
         requires fits { AreRefinable scan.now (band_values scan.now block.now) }
@@ -672,9 +672,9 @@ impl BandReader {
         }
     }
 
-    /// Before the first unit of an interval.
+    /// A reader before the first unit of an interval.
     pub fn new() -> BandReader
-        ensures { IsFresh result }
+        ensures { IsBeforeUnits result }
     {
         BandReader {
             values: Block::zero(),

@@ -1,15 +1,15 @@
-// The codes of a table, bit by bit and many bits at once (T.81, F.2.2.3).
+//! The codes of a table: the walk over them, and their lookup.
 ghost use Rattle.std.specs.Prelude.{◌≡◌, [], ◌∷◌, ◌++◌};
 ghost use Rattle.jpg_huff.specs.Look.{Spots};
 ghost use Rattle.jpg_huff.specs.Tables.{symbol_codes};
-ghost use Rattle.jpg_huff.specs.Walk.{Answers};
+ghost use Rattle.jpg_huff.specs.Walk.{WalkAnswers};
 
 use crate::table_copy::copy_of;
 use jpg_base::BitStore;
 use jpg_huff::{Decoder, Spotted, Table, Walk, WalkStep};
 use std::marker::Model;
 
-/// The codes of a table: what walks over them, and what looks them up.
+/// The codes of a table: the table for a walk, and its decoder for lookups.
 #[derive(Drop)]
 pub struct Codes {
     table: Table,
@@ -29,7 +29,7 @@ impl Model for Codes {
 }
 
 impl Codes {
-    /// Those of this table.
+    /// The codes of this table.
     pub fn new(table: &Table) -> Codes
         ensures { result ≡ symbol_codes table.now }
     {
@@ -38,14 +38,14 @@ impl Codes {
         Codes { table, decoder }
     }
 
-    /// One more bit of a code.
+    /// Takes one more bit of a code.
     pub fn walk(&self, walk: &mut Walk, bit: bool) -> WalkStep
-        ensures { Answers self.now (walk.old ++ bit ∷ []) result walk.new }
+        ensures { WalkAnswers self.now (walk.old ++ bit ∷ []) result walk.new }
     {
         walk.bit(&self.table, bit)
     }
 
-    /// What code stands first in these bits.
+    /// Which code these bits begin with.
     #[inline(always)]
     pub fn spot(&self, bits: &BitStore) -> Spotted
         ensures { Spots self.now bits.now result }

@@ -2,11 +2,11 @@
 ghost use Rattle.std.specs.Prelude.{◌≡◌, ◌<◌, ◌≤◌, ◌≤ℤ◌, ◌+ℤ◌, ◌*ℤ◌, ◌+◌, negsuc, pos, nat_abs, if◌then◌else◌, nat_lt, [], ◌∷◌, ◌++◌, length, ℕ, ℤ, Bool, List};
 ghost use Rattle.jpg_spec.specs.Codes.{Code};
 ghost use Rattle.jpg_spec.specs.Numbers.{category, extra_bits};
-ghost use Rattle.jpg_huff.specs.Walk.{Answers};
+ghost use Rattle.jpg_huff.specs.Walk.{WalkAnswers};
 ghost use Rattle.jpg_huff.specs.Tables.{symbol_codes};
 ghost use Rattle.jpg_prog_read.specs.DcWork.{DcWork, IsDcOpen, AreDcSane, IsDcValue, IsDcSide, DcStaysOpen, AfterDcExtra, IsDcStage, fresh};
 ghost use Rattle.jpg_prog_read.specs.DcStands.{AnswersDcBit, AnswersDcRefinement, BeginsDc};
-ghost use Rattle.jpg_prog_read.specs.DcLooked.{Hurries};
+ghost use Rattle.jpg_prog_read.specs.DcLookedUp.{Hurries};
 ghost use Rattle.jpg_prog_read.specs.declared.scan.DcScan.{DcScan};
 
 use crate::codes::Codes;
@@ -17,39 +17,39 @@ use jpg_coefs::UnitFault;
 use jpg_huff::{Spotted, Table, Walk, WalkStep};
 use std::marker::Model;
 
-// A value by its difference: the next prediction and the value, or one out of the bounds.
+// A value by its difference: the next prediction and the value, or one out of range.
 enum DcValue {
     Within { prediction: i16, value: i16 },
     Beyond,
 }
 
-/// What a bit of a unit of a first DC pass comes to.
+/// The result of a bit of a unit of a first DC pass.
 #[derive(Clone, Copy, Debug, PartialEq, Eq)]
 pub enum DcStep {
     /// The unit goes on.
     More,
-    /// It is whole, with the next prediction and its value.
+    /// It is complete, with the next prediction and its value.
     Done { prediction: i16, value: i16 },
     Fault(UnitFault),
 }
 
-// Which part is in work.
+// The current part of a unit.
 enum DcStage {
     Code,
     Number,
 }
 
-// After an extra bit: more are wanted, or the number is whole.
+// After an extra bit: more are needed, or the number is complete.
 enum DcExtra {
     Wanting,
     Whole(i16),
 }
 
-/// A unit of a first pass in work.
+/// The current unit of a first pass.
 #[derive(Drop)]
 pub struct DcUnit {
     walk: Walk,
-    // whether bits of a code came
+    // whether bits of a code were taken
     begun: bool,
     extra: ExtraBits,
 }
@@ -91,7 +91,7 @@ fn narrow_wide(x: i64) -> i16
     x as i16
 }
 
-// Whether a value lies between two numbers.
+// Whether a value is between two numbers.
 enum DcSide {
     Within,
     Beyond,
@@ -150,9 +150,9 @@ pub fn refine(scan: &DcScan, value: i16, bit: bool) -> i16
 }
 
 impl DcUnit {
-    // a bit of a code
+    // Takes a bit of a code.
     fn walk_bit(&mut self, table: &Table, bit: bool) -> WalkStep
-        ensures answers { Answers (symbol_codes table.now) (self.old.walked ++ bit ∷ []) result self.new.walked }
+        ensures answers { WalkAnswers (symbol_codes table.now) (self.old.walked ++ bit ∷ []) result self.new.walked }
         ensures same { self.new ≡ record (self.old) { walked = self.new.walked } }
     {
         let step = self.walk.bit(table, bit);
@@ -164,7 +164,7 @@ impl DcUnit {
         step
     }
 
-    // a number of this category begins, or none
+    // Begins a number of this category, or none.
     fn begin(&mut self, size: u8)
         requires { size ≤ 15 }
         ensures { self.new ≡ record (self.old) { size = size; extra = [] } }
@@ -182,7 +182,7 @@ impl DcUnit {
         }
     }
 
-    /// Before the first bit of a unit.
+    /// A unit before its first bit.
     pub fn new() -> DcUnit
         ensures fresh { result ≡ fresh }
         ensures open { IsDcOpen result }
@@ -195,7 +195,7 @@ impl DcUnit {
         }
     }
 
-    // A whole code of a difference that isn't 0, where one stands first in the store and none is begun.
+    // Takes the complete code of a difference that isn't 0, if the store begins with one and none is begun.
     fn hurry_code(&mut self, scan: &DcScan, codes: &Codes, store: &mut BitStore)
         requires sane { AreDcSane scan.now }
         requires open { IsDcOpen self.old }
@@ -216,7 +216,7 @@ impl DcUnit {
         }
     }
 
-    // All bits of a number but the last, where they are there and none is taken.
+    // Takes all bits of a number but the last, if they are there and none was taken.
     fn hurry_number(&mut self, store: &mut BitStore)
         requires open { IsDcOpen self.old }
         ensures { (b : DcScan) (dc : List Code) → Hurries b dc self.old store.old self.new store.new }
@@ -229,7 +229,7 @@ impl DcUnit {
         }
     }
 
-    /// Takes bits from the front of a store behind which the unit goes on, more than one at once, or none.
+    /// Takes bits from the start of a store after which the unit goes on, several at once, or none.
     pub fn hurry(&mut self, scan: &DcScan, codes: &Codes, store: &mut BitStore)
         requires sane { AreDcSane scan.now }
         requires open { IsDcOpen self.old }
@@ -239,7 +239,7 @@ impl DcUnit {
         self.hurry_number(store);
     }
 
-    // an extra bit, and the number where it is the last
+    // Takes an extra bit, and answers the number if it is the last one.
     fn extra_bit(&mut self, bit: bool) -> DcExtra
         requires { length self.old.extra < self.old.size }
         ensures { AfterDcExtra self.old bit result self.new }
@@ -254,7 +254,7 @@ impl DcUnit {
         }
     }
 
-    // a bit of a code
+    // Takes a bit of a code.
     fn code_bit(&mut self, scan: &DcScan, table: &Table, prediction: i16, bit: bool) -> DcStep
         requires sane { AreDcSane scan.now }
         requires stage { self.old.size ≡ 0 }
@@ -280,7 +280,7 @@ impl DcUnit {
         }
     }
 
-    // a bit of a difference
+    // Takes a bit of a difference.
     fn number_bit(&mut self, scan: &DcScan, prediction: i16, bit: bool) -> DcStep
         requires sane { AreDcSane scan.now }
         requires open { IsDcOpen self.old }
@@ -297,8 +297,9 @@ impl DcUnit {
         }
     }
 
-    /// Takes one more bit of a unit, whose value is told by its difference to `prediction` (T.81, G.1.2.1): the value of the
-    /// component's last unit before it is scaled, 0 at an interval's start. `table` is the component's DC table.
+    /// Takes one more bit of a unit, whose value is decoded from its difference to `prediction` (T.81, G.1.2.1): the
+    /// value of the component's last unit before it is scaled, 0 at an interval's start. `table` is the component's DC
+    /// table.
     pub fn bit(&mut self, scan: &DcScan, table: &Table, prediction: i16, bit: bool) -> DcStep
         requires sane { AreDcSane scan.now }
         requires open { IsDcOpen self.old }

@@ -1,4 +1,4 @@
-//! Bits of a store, taken one by one.
+//! Bits of a store taken one by one.
 ghost use Rattle.std.specs.Prelude.{◌≡◌, ◌≤◌, Bool, List};
 ghost use Rattle.jpg_coefs.specs.Machine.{Interval, Kind, Step, TakesBits};
 ghost use Rattle.jpg_prog_read.specs.BitsTaken.{HurriesOn, KeepsSome};
@@ -8,16 +8,16 @@ use jpg_coefs::{Coefs, Taken, UnitFault, UnitStep};
 
 /// A machine that takes the bits of an interval one by one.
 pub trait BitMachine {
-    /// What a machine of this kind stands for.
+    /// What the state of a machine of this kind means.
     ghost kind: { Kind Self };
 
-    /// Takes one more bit of the interval, of which units are left.
+    /// Takes one more bit of the interval, which has units left.
     fn one_bit(&mut self, bit: bool, coefs: &mut Coefs) -> Result<UnitStep, UnitFault>
         requires open { (i : Interval) × (bits : List Bool) × kind.stands self.old i bits coefs.old }
         ensures step { Step kind self.old coefs.old bit result self.new coefs.new }
         ensures some { KeepsSome result (kind.left self.new) };
 
-    /// Takes bits from the front of a store that complete no unit and show no fault, more than one at once, or none.
+    /// Takes bits from the start of a store that complete no unit and reveal no fault, several at once, or none.
     fn hurry(&mut self, store: &mut BitStore, coefs: &Coefs)
         requires open { (i : Interval) × (bits : List Bool) × kind.stands self.old i bits coefs.now }
         ensures { HurriesOn kind self.old coefs.now store.old self.new store.new };
@@ -27,8 +27,8 @@ pub trait BitMachine {
         ensures { result ≡ kind.left self.now };
 }
 
-/// Takes bits from the front of the store one by one, up to the first that ends the interval, shows a fault or completes
-/// the `most`th unit, or all of them.
+/// Takes bits from the start of the store one by one, up to the first that ends the interval, reveals a fault or
+/// completes unit number `most`, or all of them.
 pub fn take_bits<M: BitMachine>(
     machine: &mut M,
     store: &mut BitStore,

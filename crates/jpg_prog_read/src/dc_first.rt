@@ -5,7 +5,7 @@ ghost use Rattle.jpg_base.specs.Cursor.{IsPadded};
 ghost use Rattle.jpg_huff.specs.Sets.{dc_tables, no_tables};
 ghost use Rattle.jpg_coefs.specs.Machine.{Interval};
 ghost use Rattle.jpg_prog_read.specs.DcFirstPass.{CanRead, HurriesUnit, ReadsBit, first_pass, table_in, with_unit, behind_unit};
-ghost use Rattle.jpg_prog_read.specs.DcNew.{AreFilled, HasPartTable, IsBare, IsDcHead, IsFirstHead, IsOfFirst};
+ghost use Rattle.jpg_prog_read.specs.DcNew.{AreDcTablesFilled, HasPartTable, IsBare, IsDcHead, IsFirstHead, IsOfFirst};
 ghost use Rattle.jpg_prog_read.specs.DcPlaces.{with_dc};
 ghost use Rattle.jpg_prog_read.specs.DcWork.{DcStaysOpen};
 
@@ -18,8 +18,9 @@ use jpg_base::{BitStore, Cursor, Frame, Place, ScanHead, ScanPart};
 use jpg_coefs::{Coefs, ScanMachine, Taken, UnitFault, UnitStep};
 use jpg_huff::TableSet;
 
-/// A machine that reads a first DC pass: what it goes by, the DC tables in the slots of their components and what looks up their
-/// codes, the places that are left, the predictions by component, the unit in work, and how many units of the interval are left.
+/// A machine that reads a first DC pass: its parameters, the DC tables in the slots of their components and the lookup
+/// of their codes, the places that are left, the predictions by component, the current unit, and how many units of the
+/// interval are left.
 #[derive(Drop)]
 pub struct DcFirst {
     scan: DcScan,
@@ -31,7 +32,7 @@ pub struct DcFirst {
     left: u64,
 }
 
-// The table of a part goes into the slot of its component.
+// Puts the table of a part into the slot of its component.
 fn add_table(own: &mut TableSet, part: &ScanPart, tables: &TableSet)
     requires small { part.now.component < 4 }
     requires there { HasPartTable tables.now part.now }
@@ -43,14 +44,14 @@ fn add_table(own: &mut TableSet, part: &ScanPart, tables: &TableSet)
     }
 }
 
-// The tables of the parts are put in, in the slots of their components.
+// Puts the tables of the parts into the slots of their components.
 #[cold]
 #[inline(never)]
 fn add_tables(own: &mut TableSet, parts: &[ScanPart], tables: &TableSet)
     requires none { dc_tables own.old ≡ no_tables }
     requires there { All (HasPartTable tables.now) parts.now }
     requires small { All (λ p. p.component < 4) parts.now }
-    ensures { AreFilled tables.now parts.now (length parts.now) own.new }
+    ensures { AreDcTablesFilled tables.now parts.now (length parts.now) own.new }
 {
     for part in parts {
         add_table(own, part, tables);
@@ -58,8 +59,8 @@ fn add_tables(own: &mut TableSet, parts: &[ScanPart], tables: &TableSet)
 }
 
 impl DcFirst {
-    /// Before the first unit of a scan, between intervals. The frame is progressive, the head's components are distinct
-    /// ones of it, and the DC tables that it names are there.
+    /// A machine before the first unit of a scan, between intervals. The frame is progressive, the head's components
+    /// are distinct ones of it, and the DC tables that it names are there.
     pub fn new(frame: &Frame, head: &ScanHead, tables: &TableSet) -> DcFirst
         requires { IsFirstHead frame.now head.now tables.now }
         ensures { (i : Interval) → IsOfFirst frame.now head.now tables.now i → first_pass.ready result i }
@@ -69,7 +70,8 @@ impl DcFirst {
         reader
     }
 
-    /// The same without the tables. They take tens of kilobytes, so `put_tables` puts them in where the machine stays.
+    /// The same without the tables. They take tens of kilobytes, so `put_tables` builds them where the machine is
+    /// stored.
     #[inline(always)]
     pub fn bare(frame: &Frame, head: &ScanHead) -> DcFirst
         requires { IsDcHead frame.now head.now }
@@ -98,7 +100,7 @@ impl DcFirst {
         self.looks.look_up(&self.tables);
     }
 
-    // A bit of the unit in work.
+    // Takes a bit of the current unit.
     fn unit_bit(&mut self, component: u8, bit: bool) -> DcStep
         requires { CanRead self.old component }
         ensures same { self.new ≡ with_unit self.old self.new.unit }
@@ -116,7 +118,7 @@ impl DcFirst {
         }
     }
 
-    // Bits of the unit in work, behind which it goes on.
+    // Takes bits of the current unit after which it goes on.
     fn hurry_unit(&mut self, component: u8, store: &mut BitStore)
         requires { CanRead self.old component }
         ensures same { self.new ≡ with_unit self.old self.new.unit }
@@ -128,7 +130,7 @@ impl DcFirst {
         }
     }
 
-    // A unit that is whole: its value is put, and the next unit begins.
+    // Puts the value of a complete unit, and begins the next unit.
     fn put(&mut self, coefs: &mut Coefs, place: Place, prediction: i16, value: i16)
         requires small { place.component < 4 }
         requires padded { IsPadded coefs.old.frame place.component place.x place.y }

@@ -1,7 +1,7 @@
-// The codes of the components of a first DC pass, looked up many bits at once.
+//! The codes of the components of a first DC pass, looked up many bits at once.
 ghost use Rattle.std.specs.Prelude.{◌≡◌};
 ghost use Rattle.std.specs.Option.{option_map};
-ghost use Rattle.jpg_prog_read.specs.DcLooked.{AreLooked, IsOfSlot, codes_at, no_looks};
+ghost use Rattle.jpg_prog_read.specs.DcLookedUp.{AreDcLookedUp, IsOfSlot, dc_codes_at, no_looks};
 
 use crate::codes::Codes;
 use jpg_huff::TableSet;
@@ -12,7 +12,7 @@ pub struct DcLooks {
     each: [Option<Codes>; 4],
 }
 
-// Those of the DC table in a slot, if any.
+// The codes of the DC table in a slot, if any.
 #[cold]
 #[inline(never)]
 fn codes_of(tables: &TableSet, slot: u8) -> Option<Codes>
@@ -25,7 +25,7 @@ fn codes_of(tables: &TableSet, slot: u8) -> Option<Codes>
 }
 
 impl DcLooks {
-    /// Those of no table.
+    /// No codes.
     #[inline(always)]
     pub fn none() -> DcLooks
         ensures { result ≡ no_looks }
@@ -35,19 +35,19 @@ impl DcLooks {
         }
     }
 
-    /// Becomes those of the DC tables of a set.
+    /// Becomes the codes of the DC tables of a set.
     pub fn look_up(&mut self, tables: &TableSet)
         requires { self.old ≡ no_looks }
-        ensures { AreLooked tables.now self.new }
+        ensures { AreDcLookedUp tables.now self.new }
     {
         for slot in 0..4u8 {
             self.each[slot as usize] = codes_of(tables, slot);
         }
     }
 
-    /// Those of a slot, None where there is none, and for slots from 4 on.
+    /// The codes of a slot, None if there are none, and for slots from 4 on.
     pub fn at(&self, slot: u8) -> Option<&Codes>
-        ensures { option_map (λ c. c.now) result ≡ codes_at self.now slot }
+        ensures { option_map (λ c. c.now) result ≡ dc_codes_at self.now slot }
     {
         match self.each.get(slot as usize) {
             Some(Some(codes)) => Some(codes),

@@ -5,7 +5,7 @@ ghost use Rattle.jpg_base.specs.Cursor.{IsPadded};
 ghost use Rattle.jpg_coefs.specs.Machine.{Interval};
 ghost use Rattle.jpg_prog_read.specs.DcNew.{IsRefineHead, IsOfRefinement};
 ghost use Rattle.jpg_prog_read.specs.DcPlaces.{with_dc};
-ghost use Rattle.jpg_prog_read.specs.DcRefinement.{refinement, behind_bit};
+ghost use Rattle.jpg_prog_read.specs.DcRefinement.{refinement, after_bit};
 
 use crate::dc::refine;
 use crate::dc_bits::{BitMachine, take_bits};
@@ -14,7 +14,7 @@ use crate::scan::DcScan;
 use jpg_base::{BitStore, Cursor, Frame, Place, ScanHead};
 use jpg_coefs::{Coefs, ScanMachine, Taken, UnitFault, UnitStep};
 
-/// A machine that reads a DC refinement: what it goes by, the places that are left, and how many units of the interval
+/// A machine that reads a DC refinement: its parameters, the places that are left, and how many units of the interval
 /// are left. Each unit is one bit.
 #[derive(Drop)]
 pub struct DcRefine {
@@ -24,8 +24,8 @@ pub struct DcRefine {
 }
 
 impl DcRefine {
-    /// Before the first unit of a scan, between intervals. The frame is progressive, and the head's components are
-    /// distinct ones of it.
+    /// A machine before the first unit of a scan, between intervals. The frame is progressive, and the head's
+    /// components are distinct ones of it.
     pub fn new(frame: &Frame, head: &ScanHead) -> DcRefine
         requires { IsRefineHead frame.now head.now }
         ensures { (i : Interval) → IsOfRefinement frame.now head.now i → refinement.ready result i }
@@ -38,12 +38,12 @@ impl DcRefine {
         }
     }
 
-    // A unit that is whole: its value is put, and the next unit begins.
+    // Puts the value of a complete unit, and begins the next unit.
     fn put(&mut self, coefs: &mut Coefs, place: Place, value: i16)
         requires padded { IsPadded coefs.old.frame place.component place.x place.y }
         requires left { 1 ≤ self.old.left }
         requires place { 1 ≤ length self.old.cursor }
-        ensures machine { self.new ≡ behind_bit self.old }
+        ensures machine { self.new ≡ after_bit self.old }
         ensures count { length coefs.old.blocks ≡ padded_blocks coefs.old.frame }
         ensures block { coefs.new ≡ with_dc coefs.old place value }
     {

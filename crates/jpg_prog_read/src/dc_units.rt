@@ -11,7 +11,7 @@ use crate::scan::DcScan;
 use jpg_base::{Frame, Place};
 use jpg_coefs::Coefs;
 
-/// What a DC scan of the frame goes by, whose values are multiples of `2 ^ al`.
+/// The parameters of a DC scan of the frame, whose values are multiples of `2 ^ al`.
 pub fn dc_scan(frame: &Frame, al: u8) -> DcScan
     requires { al ≤ 10 }
     ensures { result ≡ dc_scan_of frame.now al }
@@ -33,7 +33,7 @@ pub fn dc_of(coefs: &Coefs, place: Place) -> i16
     coefs.block(place.component, place.x, place.y).get(0)
 }
 
-/// Puts a DC value into the block at a place. All else stays.
+/// Puts a DC value into the block at a place. All else remains.
 pub fn put_dc(coefs: &mut Coefs, place: Place, value: i16)
     requires { IsPadded coefs.old.frame place.component place.x place.y }
     ensures count { length coefs.old.blocks ≡ padded_blocks coefs.old.frame }

@@ -1,4 +1,4 @@
-//! Extra bits while they come in (T.81, F.2.2.1, G.1.2.2).
+//! The extra bits of a number, collected bit by bit (T.81, F.2.2.1, G.1.2.2).
 ghost use Rattle.std.specs.Prelude.{◌≡◌, ◌<◌, ◌≤◌, ◌+◌, ◌^◌, true, [], ◌∷◌, ◌++◌, length};
 ghost use Rattle.jpg_spec.specs.Bits.{bits_of};
 ghost use Rattle.jpg_spec.specs.Lists.{is_empty};
@@ -8,13 +8,13 @@ ghost use Rattle.jpg_prog_read.specs.ExtraWork.{IsWanting};
 use jpg_huff::extend;
 use std::marker::Model;
 
-/// Whether more bits are wanted.
+/// Whether more bits are needed.
 pub enum Extra {
     Wanting,
     Enough,
 }
 
-/// The extra bits of a number of some category, 0 to 15, while they come in.
+/// The extra bits of a number of some category, 0 to 15, that were taken so far.
 #[derive(Drop)]
 pub struct ExtraBits {
     size: u8,
@@ -34,7 +34,7 @@ impl Model for ExtraBits {
 }
 
 impl ExtraBits {
-    /// Before the first bit of a number of this category.
+    /// The state before the first bit of a number of this category.
     pub fn new(size: u8) -> ExtraBits
         requires { size ≤ 15 }
         ensures { result ≡ record { size = size; bits = [] } }
@@ -54,14 +54,14 @@ impl ExtraBits {
         self.size
     }
 
-    /// Whether none of its bits is there.
+    /// Whether none of its bits was taken.
     pub fn is_new(&self) -> bool
         ensures { result ≡ is_empty self.now.bits }
     {
         self.have == 0
     }
 
-    /// Its first bits at once, `count` of them, as a number.
+    /// Takes its first `count` bits at once, as a number.
     pub fn fill(&mut self, count: u8, number: u32)
         requires few { count ≤ self.old.size }
         requires fits { number < 2 ^ count }
@@ -71,7 +71,7 @@ impl ExtraBits {
         self.number = number;
     }
 
-    // one more bit
+    // Adds one more bit.
     fn add(&mut self, bit: bool)
         requires { length self.old.bits < self.old.size }
         ensures { self.new ≡ record (self.old) { bits = self.old.bits ++ bit ∷ [] } }
@@ -80,7 +80,7 @@ impl ExtraBits {
         self.have += 1;
     }
 
-    // whether more are wanted
+    // Whether more bits are needed.
     fn wants(&self) -> Extra
         requires { length self.now.bits ≤ self.now.size }
         ensures { IsWanting result self.now.size self.now.bits }
@@ -92,7 +92,7 @@ impl ExtraBits {
         }
     }
 
-    /// Takes one more bit, and tells whether more are wanted.
+    /// Takes one more bit, and answers whether more are needed.
     pub fn push(&mut self, bit: bool) -> Extra
         requires { length self.old.bits < self.old.size }
         ensures new { self.new ≡ record (self.old) { bits = self.old.bits ++ bit ∷ [] } }
@@ -102,7 +102,7 @@ impl ExtraBits {
         self.wants()
     }
 
-    /// The number that they tell (F.2.2.1, Figure F.12).
+    /// The number that they encode (F.2.2.1, Figure F.12).
     pub fn value(&self) -> i16
         requires { length self.now.bits ≡ self.now.size }
         ensures category { category result ≡ self.now.size }
@@ -111,7 +111,7 @@ impl ExtraBits {
         extend(self.size, self.number)
     }
 
-    /// How many bands end behind the code of EOBn where these are its n bits (G.1.2.2).
+    /// How many bands end after the code of EOBn if these are its n bits (G.1.2.2).
     pub fn bands(&self) -> u32
         requires whole { length self.now.bits ≡ self.now.size }
         requires size { self.now.size ≤ 14 }

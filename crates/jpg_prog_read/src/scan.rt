@@ -1,7 +1,7 @@
 //! The numbers of a progressive scan (T.81, G.1.1.1, G.1.2).
 
-/// What the readers of a band go by: its first place in zigzag order and the place behind its last one (0 to 64), the scale
-/// `2 ^ al`, the greatest category of a value, 1 in a refinement, and the greatest magnitude of a value.
+/// The parameters of the readers of a band: its first place in zigzag order and the place after its last one (0 to 64),
+/// the scale `2 ^ al`, the greatest category of a value, 1 in a refinement, and the greatest magnitude of a value.
 #[derive(Clone, Copy, Debug, PartialEq, Eq)]
 pub struct BandScan {
     pub start: u8,
@@ -11,8 +11,8 @@ pub struct BandScan {
     pub most_magnitude: u16,
 }
 
-/// What the readers of a DC scan go by: the least and the greatest value, the scale `2 ^ al`, and the greatest category of
-/// a difference.
+/// The parameters of the readers of a DC scan: the least and the greatest value, the scale `2 ^ al`, and the greatest
+/// category of a difference.
 #[derive(Clone, Copy, Debug, PartialEq, Eq)]
 pub struct DcScan {
     pub low: i32,

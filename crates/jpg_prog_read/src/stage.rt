@@ -1,18 +1,18 @@
-//! Which part of an element is in work.
+//! Which part of an element is read.
 
-/// The part of an element of a band that is in work.
+/// Which part of an element of a band is read.
 #[derive(Clone, Copy, Debug, PartialEq, Eq)]
 pub enum Stage {
     /// Its code.
     Code,
     /// The bits of a value.
     Number,
-    /// The bits of how many bands end.
+    /// The bits of the length of an end-of-band run.
     Count,
-    /// The way to a value's place.
+    /// The values before a value's place, or the corrections among them.
     Value,
-    /// The way past sixteen zeros.
+    /// The sixteen zeros of ZRL, or the corrections among them.
     Long,
-    /// The way to the ends of bands.
+    /// The bands of an end-of-band run.
     Ends,
 }

@@ -1,4 +1,4 @@
-// A table once more.
+//! A copy of a table.
 ghost use Rattle.std.specs.Prelude.{◌≡◌};
 ghost use Rattle.jpg_huff.specs.Tables.{symbol_codes};
 

@@ -9,19 +9,19 @@ use Rattle.jpg_spec.specs.Geometry.{Frame, bounds}
 use Rattle.jpg_spec.specs.Segments.{HuffmanTable, ScanHead, table_codes}
 use Rattle.jpg_spec.specs.ScanContents.{is_band, are_bits}
 use Rattle.jpg_spec.specs.Elements.{Element, difference, dc_bit, value, long_run, ends, are_in_bounds, IsBlockIn, is_zero, zeros}
-use Rattle.jpg_spec.specs.Sending.{Sent, correction, newly, sent, up_to_last, behind_last, corrections_of, value_elements, ended, band_elements}
+use Rattle.jpg_spec_write.specs.Sending.{Sent, correction, newly_significant, sent, up_to_last, after_last, corrections_of, value_elements, ended_bands, band_elements}
 use Rattle.jpg_spec.specs.Scan.{Blocks, block_at, part_of}
-use Rattle.jpg_spec.specs.ScanText.{UnitDue, Owned, units_due, last_dc, band_of, is_dc, interval_elements, unit_elements, element_bits}
-use Rattle.jpg_spec.specs.WrittenFile.{HasBlocksIn}
+use Rattle.jpg_spec_write.specs.ScanText.{UnitDue, Owned, units_due, last_dc, band_of, is_dc, interval_elements, unit_elements, element_bits}
+use Rattle.jpg_spec_write.specs.WrittenFile.{HasBlocksIn}
 use Rattle.jpg_spec.specs.declared.frame.Place.{Place}
 use Rattle.jpg_spec.specs.declared.frame.Bounds.{Bounds}
 use Rattle.jpg_spec.specs.declared.frame.ScanPart.{ScanPart}
 use Rattle.jpg_spec.proofs.Common.{both, le_of, same_of, lt_yes, not_same, from_test}
-use Rattle.jpg_spec.proofs.PlacedBlocks.{Each, each_join}
+use Rattle.jpg_spec.proofs.Each.{Each, each_join}
 use Rattle.jpg_huff.specs.declared.set.TableSet.{TableSet}
 use Rattle.jpg_prog_write.specs.Items.{spelled, texts}
 use Rattle.jpg_prog_write.specs.Bands.{IsBand, IsBandOf, IsShort, sents}
-use Rattle.jpg_prog_write.specs.Written.{IsProgScan, IsScanPlace, block_due, tables_in, codes_in, places_bits, no_part, first_slot}
+use Rattle.jpg_prog_write.specs.Written.{IsProgScan, IsScanPlace, block_due, tables_in, codes_in, places_bits, no_scan_part, first_slot}
 use Rattle.jpg_prog_write.specs.declared.band.Band.{Band}
 use Rattle.jpg_prog_write.proofs.Places.{found_part, part_here, is_real_place, taken}
 
@@ -66,7 +66,7 @@ one_part f head p one is = by head.parts one is.named
     first false e = e
 
     by : (parts : List ScanPart) → length parts ≡ 1 → is_among p.component (map (λ q. q.component) parts) ≡ true
-        → (found_part parts p.component).ac ≡ (slice_index_or parts 0 no_part).ac
+        → (found_part parts p.component).ac ≡ (slice_index_or parts 0 no_scan_part).ac
     by [] e n = absurd (omega (arith, e))
     by (q ∷ []) e n = ap (λ (r : ScanPart). r.ac) (part_here q [] p.component (first (q.component == p.component) n))
     by (q ∷ r ∷ parts) e n = absurd (omega (arith, e))
@@ -84,7 +84,7 @@ band_same head band block b =
     ∙ ap (λ n. map (sent (nat_lt 0 head.ah) head.al) (take (n - band.start) (drop band.start block))) b.end
     ∙ ap (λ n. map (sent (nat_lt 0 head.ah) head.al) (take (head.se + 1 - n) (drop n block))) b.start
 
--- a padding block's band doesn't hang on its DC value
+-- a padding block's band doesn't depend on its DC value
 band_padded : (head : ScanHead) (v w : ℤ) (values : List ℤ) → 1 ≤ head.ss → band_of head (v ∷ values) ≡ band_of head (w ∷ values)
 band_padded head v w values some = ap (λ xs. map (sent (nat_lt 0 head.ah) head.al) (take (head.se + 1 - head.ss) xs)) (by head.ss some)
   where
@@ -115,14 +115,14 @@ IsOfBand e = is_dc e ≡ false
 values_band : (run : ℕ) (bits : List Bool) (band : List Sent) → Each IsOfBand (value_elements run bits band)
 values_band run bits [] = tt
 values_band run bits (correction b ∷ band) = values_band run (bits ++ b ∷ []) band
-values_band run bits (newly v ∷ band) = by (is_zero v) (run == 15) (values_band 0 [] band) (values_band (run + 1) bits band)
+values_band run bits (newly_significant v ∷ band) = by (is_zero v) (run == 15) (values_band 0 [] band) (values_band (run + 1) bits band)
   where
     by : (z r : Bool) → Each IsOfBand (value_elements 0 [] band) → Each IsOfBand (value_elements (run + 1) bits band) → Each IsOfBand (cond z (cond r (long_run bits ∷ value_elements 0 [] band) (value_elements (run + 1) bits band)) (value run v bits ∷ value_elements 0 [] band))
     by true true none more = (refl, none)
     by true false none more = more
     by false r none more = (refl, none)
 
-ended_band : (bands : ℕ) (bits : List Bool) → Each IsOfBand (ended bands bits)
+ended_band : (bands : ℕ) (bits : List Bool) → Each IsOfBand (ended_bands bands bits)
 ended_band zero bits = tt
 ended_band (suc bands) bits = (refl, tt)
 
@@ -130,20 +130,20 @@ pub all_band : (bands : ℕ) (bits : List Bool) (later : List (List Sent)) → E
 all_band bands bits [] = ended_band bands bits
 all_band bands bits (band ∷ later) =
     let front = up_to_last band in
-    let rest = behind_last band in
+    let rest = after_last band in
     let waits = cond (is_empty front) bands 0 in
     let waiting = cond (is_empty front) bits [] ++ corrections_of rest in
-    each_join IsOfBand (cond (is_empty front) [] (ended bands bits ++ value_elements 0 [] front))
-    (cond (is_empty rest) (band_elements 32767 0 [] later) (cond (waits + 1 == 32767 || nat_lt 937 (length waiting)) (ended (waits + 1) waiting ++ band_elements 32767 0 [] later) (band_elements 32767 (waits + 1) waiting later)))
+    each_join IsOfBand (cond (is_empty front) [] (ended_bands bands bits ++ value_elements 0 [] front))
+    (cond (is_empty rest) (band_elements 32767 0 [] later) (cond (waits + 1 == 32767 || nat_lt 937 (length waiting)) (ended_bands (waits + 1) waiting ++ band_elements 32767 0 [] later) (band_elements 32767 (waits + 1) waiting later)))
     (first (is_empty front)) (second (is_empty rest) (waits + 1 == 32767 || nat_lt 937 (length waiting)) waits waiting (λ n bs. all_band n bs later))
   where
-    first : (b : Bool) → Each IsOfBand (cond b [] (ended bands bits ++ value_elements 0 [] (up_to_last band)))
+    first : (b : Bool) → Each IsOfBand (cond b [] (ended_bands bands bits ++ value_elements 0 [] (up_to_last band)))
     first true = tt
-    first false = each_join IsOfBand (ended bands bits) (value_elements 0 [] (up_to_last band)) (ended_band bands bits) (values_band 0 [] (up_to_last band))
+    first false = each_join IsOfBand (ended_bands bands bits) (value_elements 0 [] (up_to_last band)) (ended_band bands bits) (values_band 0 [] (up_to_last band))
 
-    second : (b full : Bool) (waits : ℕ) (waiting : List Bool) → ((n : ℕ) (bs : List Bool) → Each IsOfBand (band_elements 32767 n bs later)) → Each IsOfBand (cond b (band_elements 32767 0 [] later) (cond full (ended (waits + 1) waiting ++ band_elements 32767 0 [] later) (band_elements 32767 (waits + 1) waiting later)))
+    second : (b full : Bool) (waits : ℕ) (waiting : List Bool) → ((n : ℕ) (bs : List Bool) → Each IsOfBand (band_elements 32767 n bs later)) → Each IsOfBand (cond b (band_elements 32767 0 [] later) (cond full (ended_bands (waits + 1) waiting ++ band_elements 32767 0 [] later) (band_elements 32767 (waits + 1) waiting later)))
     second true full waits waiting go = go 0 []
-    second false true waits waiting go = each_join IsOfBand (ended (waits + 1) waiting) (band_elements 32767 0 [] later) (ended_band (waits + 1) waiting) (go 0 [])
+    second false true waits waiting go = each_join IsOfBand (ended_bands (waits + 1) waiting) (band_elements 32767 0 [] later) (ended_band (waits + 1) waiting) (go 0 [])
     second false false waits waiting go = go (waits + 1) waiting
 
 -- THEIR BITS
@@ -166,7 +166,7 @@ owned_all each plain u due (e ∷ es) same h =
     let rest = flat_map each (flat_map (λ e. map (λ (v : UnitDue). (let o : Owned = (v.0, e) in o)) (take 1 (u ∷ due))) es) in
     ap (λ x. x ++ rest) (same e h.0) ∙ ap (λ x. plain e ++ x) (owned_all each plain u due es same h.1)
 
--- what comes of the elements of bands is what comes of those of the units at their places
+-- the result of the elements of bands is that of the elements of the units at their places
 pub band_all : {X : Type 0} (each : Owned → List X) (plain : Element → List X) (f : Frame) (head : ScanHead) (band : Band) (blocks : Blocks) (places : List Place) → 1 ≤ head.ss → IsBandOf head band → All (IsScanPlace f head) places
     → ((p : Place) → IsScanPlace f head p → (e : Element) → IsOfBand e → each (p.component, e) ≡ plain e)
     → flat_map plain (band_elements 32767 0 [] (bands_at band blocks places)) ≡ flat_map each (interval_elements true head (units_due blocks (λ i. pos 0) places))
@@ -233,5 +233,5 @@ first_band of band blocks p cursor n bands bits block first some is =
     ap (λ ps. of (band_elements 32767 bands bits (bands_at band blocks ps))) (taken n cursor p first some)
     ∙ ap (λ b. of (band_elements 32767 bands bits (sents band band.start band.end b ∷ rest))) (sym is)
 
-pub no_band : {X : Type 0} (of : List Element → List X) (band : Band) (blocks : Blocks) (cursor : List Place) (n bands : ℕ) (bits : List Bool) → n ≡ 0 → of (band_elements 32767 bands bits (bands_at band blocks (take n cursor))) ≡ of (ended bands bits)
+pub no_band : {X : Type 0} (of : List Element → List X) (band : Band) (blocks : Blocks) (cursor : List Place) (n bands : ℕ) (bits : List Bool) → n ≡ 0 → of (band_elements 32767 bands bits (bands_at band blocks (take n cursor))) ≡ of (ended_bands bands bits)
 no_band of band blocks cursor n bands bits none = ap (λ k. of (band_elements 32767 bands bits (bands_at band blocks (take k cursor)))) none

@@ -8,9 +8,10 @@ use Rattle.std.proofs.lemmas.List.{get_or-set_same, get_or-set_other}
 use Rattle.jpg_spec.specs.Numbers.{category, extra_bits}
 use Rattle.jpg_spec.specs.Segments.{HuffmanTable, ScanHead}
 use Rattle.jpg_spec.specs.Elements.{predicted}
-use Rattle.jpg_spec.specs.Sending.{shifted, band_elements}
+use Rattle.jpg_spec_write.specs.Sending.{shifted, band_elements}
 use Rattle.jpg_spec.specs.Scan.{Blocks, part_of}
-use Rattle.jpg_spec.specs.ScanText.{UnitDue, Owned, units_due, last_dc, dc_element, band_of, unit_elements, interval_elements, element_bits, code_of}
+use Rattle.jpg_spec_write.specs.ScanText.{UnitDue, Owned, units_due, last_dc, dc_element, band_of, unit_elements, interval_elements, element_bits}
+use Rattle.jpg_spec.specs.Codes.{code_of}
 use Rattle.jpg_spec.specs.declared.frame.ScanPart.{ScanPart}
 use Rattle.jpg_spec.specs.declared.frame.Place.{Place}
 use Rattle.jpg_spec.proofs.Common.{not_same, same_itself}
@@ -24,7 +25,7 @@ pub apart_16 : (v : ℤ) → negsuc 65534 ≤ℤ v → v ≤ℤ pos 65535 → ca
 apart_16 (pos n) low high = few_digits 16 n (omega (arith, ints))
 apart_16 (negsuc n) low high = few_digits 16 (suc n) (omega (arith, ints))
 
--- UNITS behind DC values that are kept in a list
+-- UNITS after DC values that are kept in a list
 
 abbrev pub Tables : Type 0
 Tables = ℕ → ℕ → HuffmanTable
@@ -32,7 +33,7 @@ Tables = ℕ → ℕ → HuffmanTable
 abbrev pub at : List ℤ → ℕ → ℤ
 at xs j = slice_index_or xs j (pos 0)
 
--- what comes of the elements of units, one element after another
+-- the result of the elements of units, one element after another
 abbrev pub dc_all : {X : Type 0} → (Owned → List X) → ScanHead → (ℕ → ℤ) → List UnitDue → List X
 dc_all each head predictions due = flat_map each (unit_elements false (nat_lt 0 head.ah) head.al predictions due)
 
@@ -75,7 +76,7 @@ next_unit each head blocks last p places h =
     ap (λ q. front ++ dc_all each head q (units_due blocks (last_dc (at last) i block) places)) (shifted_at head.al last i v h)
     ∙ ap (λ l. front ++ dc_all each head (λ j. shifted head.al (at (slice_set last i v) j)) (units_due blocks l places)) (set_at last i v h)
 
--- what is left of so many places, the first of which has this value
+-- what is left of n places, the first of which has this value
 pub left_next : {X : Type 0} (each : Owned → List X) (head : ScanHead) (blocks : Blocks) (last : List ℤ) (p : Place) (cursor : List Place) (n : ℕ) (before value : ℤ) → p.component < length last → slice_get cursor 0 ≡ Some p → 1 ≤ n
     → before ≡ at last p.component → value ≡ slice_index_or (block_due blocks before p) 0 (pos 0)
     → left_all each head blocks last (take n cursor)

@@ -1,4 +1,4 @@
--- What is due of bands, element by element.
+-- The pending elements of bands, element by element.
 use Rattle.std.proofs.Common.{◌≡◌, ℕ, zero, suc, ◌+◌, ◌-◌, ◌^◌, ◌<◌, ◌≤◌, ◌==◌, ◌⊎◌, inl, inr, lit<, Bool, true, false, cond, List, [], ◌∷◌, ◌++◌, length, take, drop, refl, sym, ap, ◌∙◌, subst, arith, ℤ, pos, ◌||◌}
 use Rattle.std.specs.Prelude.{nat_lt, nat_abs}
 use Rattle.std.proofs.lemmas.Bool.{cases_lt}
@@ -8,11 +8,11 @@ use Rattle.std.proofs.lemmas.List.{append_assoc, get_or-replicate}
 use Rattle.arrayvec.specs.ArrayVec.{ArrayVec}
 use Rattle.jpg_spec.specs.Lists.{any_of}
 use Rattle.jpg_spec.specs.Elements.{Element, ends, is_zero, zeros}
-use Rattle.jpg_spec.specs.Sending.{Sent, is_new, up_to_last, behind_last, corrections_of, value_elements, ended, band_elements}
+use Rattle.jpg_spec_write.specs.Sending.{Sent, is_new, up_to_last, after_last, corrections_of, value_elements, ended_bands, band_elements}
 use Rattle.jpg_spec.proofs.Common.{neither, not_lt_of}
 use Rattle.jpg_prog_write.specs.Items.{IsItem}
-use Rattle.jpg_prog_write.specs.Bands.{IsBand, IsShort, AreMarks, IsReady, sents, elements_behind, elements_due, elements_left, ends_new, cleared}
-use Rattle.jpg_prog_write.specs.Steps.{IsFirst, IsWhole, Gives, Leaves}
+use Rattle.jpg_prog_write.specs.Bands.{IsBand, IsShort, AreMarks, IsReady, sents, elements_after, elements_due, elements_left, ends_new, cleared}
+use Rattle.jpg_prog_write.specs.Steps.{IsFirst, IsCompleteElement, GivesElement, LeavesBand}
 use Rattle.jpg_prog_write.specs.declared.band.Band.{Band}
 use Rattle.jpg_prog_write.specs.declared.bands.Bands.{Bands}
 use Rattle.jpg_prog_write.specs.declared.bands.Whole.{Whole}
@@ -21,35 +21,35 @@ use Rattle.jpg_prog_write.proofs.Fronts.{sents_step, sents_none, sents_cut, cut_
 
 -- LISTS
 
--- a band of a front and a rest
-pub due_begins : (bands : ℕ) (bits : List Bool) (band front rest : List Sent) (later : List (List Sent)) → up_to_last band ≡ front → behind_last band ≡ rest → 1 ≤ length front + length rest
+-- a band of a prefix and a rest
+pub due_begins : (bands : ℕ) (bits : List Bool) (band front rest : List Sent) (later : List (List Sent)) → up_to_last band ≡ front → after_last band ≡ rest → 1 ≤ length front + length rest
     → band_elements 32767 bands bits (band ∷ later) ≡ elements_due bands bits front rest later
-unfolding elements_due elements_behind
+unfolding elements_due elements_after
 due_begins bands bits band [] [] later e f some = absurd (omega (arith, some))
 due_begins bands bits band [] (s ∷ rest) later e f some = rw (e, f) refl
-due_begins bands bits band (t ∷ front) [] later e f some = rw (e, f) (append_assoc (ended bands bits) (value_elements 0 [] (t ∷ front)) (band_elements 32767 0 [] later))
+due_begins bands bits band (t ∷ front) [] later e f some = rw (e, f) (append_assoc (ended_bands bands bits) (value_elements 0 [] (t ∷ front)) (band_elements 32767 0 [] later))
 due_begins bands bits band (t ∷ front) (s ∷ rest) later e f some =
     let waiting = corrections_of (s ∷ rest) in
-    rw (e, f) (append_assoc (ended bands bits) (value_elements 0 [] (t ∷ front))
-    (cond (0 + 1 == 32767 || nat_lt 937 (length waiting)) (ended (0 + 1) waiting ++ band_elements 32767 0 [] later) (band_elements 32767 (0 + 1) waiting later)))
+    rw (e, f) (append_assoc (ended_bands bands bits) (value_elements 0 [] (t ∷ front))
+    (cond (0 + 1 == 32767 || nat_lt 937 (length waiting)) (ended_bands (0 + 1) waiting ++ band_elements 32767 0 [] later) (band_elements 32767 (0 + 1) waiting later)))
 
--- the EOB before a front
+-- the EOB before a prefix
 pub due_ends : (bands : ℕ) (bits : List Bool) (front rest : List Sent) (later : List (List Sent)) → 1 ≤ bands → 1 ≤ length front → elements_due bands bits front rest later ≡ ends bands bits ∷ elements_due 0 [] front rest later
 unfolding elements_due
 due_ends zero bits front rest later some more = absurd (omega (arith, some))
 due_ends (suc bands) bits [] rest later some more = absurd (omega (arith, more))
 due_ends (suc bands) bits (t ∷ front) rest later some more = refl
 
--- an element of the front
+-- an element of the prefix
 pub due_value : (e : Element) (front others rest : List Sent) (later : List (List Sent)) → 1 ≤ length front → value_elements 0 [] front ≡ e ∷ value_elements 0 [] others → elements_due 0 [] front rest later ≡ e ∷ elements_due 0 [] others rest later
 unfolding elements_due
 due_value e [] others rest later some h = absurd (omega (arith, some))
-due_value e (t ∷ front) [] rest later some h = ap (λ (es : List Element). es ++ elements_behind 0 [] rest later) h
-due_value e (t ∷ front) (o ∷ others) rest later some h = ap (λ (es : List Element). es ++ elements_behind 0 [] rest later) h
+due_value e (t ∷ front) [] rest later some h = ap (λ (es : List Element). es ++ elements_after 0 [] rest later) h
+due_value e (t ∷ front) (o ∷ others) rest later some h = ap (λ (es : List Element). es ++ elements_after 0 [] rest later) h
 
 -- nothing is left of the band
 pub due_none : (bands : ℕ) (bits : List Bool) (later : List (List Sent)) → elements_due bands bits [] [] later ≡ band_elements 32767 bands bits later
-unfolding elements_due elements_behind
+unfolding elements_due elements_after
 due_none bands bits later = refl
 
 abbrev pub is_full : ℕ → List Bool → Bool
@@ -58,28 +58,28 @@ is_full bands waiting = bands == 32767 || nat_lt 937 (length waiting)
 -- the rest joins the EOB that waits
 pub due_waits : (bands : ℕ) (bits : List Bool) (rest : List Sent) (later : List (List Sent)) → 1 ≤ length rest → is_full (bands + 1) (bits ++ corrections_of rest) ≡ false
     → elements_due bands bits [] rest later ≡ band_elements 32767 (bands + 1) (bits ++ corrections_of rest) later
-unfolding elements_due elements_behind
+unfolding elements_due elements_after
 due_waits bands bits [] later some e = absurd (omega (arith, some))
 due_waits bands bits (s ∷ rest) later some e =
     let waiting = bits ++ corrections_of (s ∷ rest) in
-    ap (λ b. (let es : List Element = cond b (ended (bands + 1) waiting ++ band_elements 32767 0 [] later) (band_elements 32767 (bands + 1) waiting later) in es)) e
+    ap (λ b. (let es : List Element = cond b (ended_bands (bands + 1) waiting ++ band_elements 32767 0 [] later) (band_elements 32767 (bands + 1) waiting later) in es)) e
 
--- and goes out
+-- and is sent
 pub due_full : (bands : ℕ) (bits : List Bool) (rest : List Sent) (later : List (List Sent)) → 1 ≤ length rest → is_full (bands + 1) (bits ++ corrections_of rest) ≡ true
     → elements_due bands bits [] rest later ≡ ends (bands + 1) (bits ++ corrections_of rest) ∷ elements_due 0 [] [] [] later
-unfolding elements_due elements_behind
+unfolding elements_due elements_after
 due_full bands bits [] later some e = absurd (omega (arith, some))
 due_full bands bits (s ∷ rest) later some e =
     let waiting = bits ++ corrections_of (s ∷ rest) in
-    ap (λ b. (let es : List Element = cond b (ended (bands + 1) waiting ++ band_elements 32767 0 [] later) (band_elements 32767 (bands + 1) waiting later) in es)) e
+    ap (λ b. (let es : List Element = cond b (ended_bands (bands + 1) waiting ++ band_elements 32767 0 [] later) (band_elements 32767 (bands + 1) waiting later) in es)) e
     ∙ ap (λ (es : List Element). es ++ band_elements 32767 0 [] later) (ended_some bands waiting)
   where
-    ended_some : (n : ℕ) (bs : List Bool) → ended (n + 1) bs ≡ ends (n + 1) bs ∷ []
+    ended_some : (n : ℕ) (bs : List Bool) → ended_bands (n + 1) bs ≡ ends (n + 1) bs ∷ []
     ended_some zero bs = refl
-    ended_some (suc n) bs = (let k : suc n + 1 ≡ suc (n + 1) = omega arith in ap (λ m. ended m bs) k ∙ ap (λ m. (let es : List Element = ends m bs ∷ [] in es)) (sym k))
+    ended_some (suc n) bs = (let k : suc n + 1 ≡ suc (n + 1) = omega arith in ap (λ m. ended_bands m bs) k ∙ ap (λ m. (let es : List Element = ends m bs ∷ [] in es)) (sym k))
 
 -- an EOB that waits
-pub ended_first : (bands : ℕ) (bits : List Bool) (item : Item) → 1 ≤ bands → IsItem (ends bands bits) item bits → IsFirst (ended bands bits) item bits []
+pub ended_first : (bands : ℕ) (bits : List Bool) (item : Item) → 1 ≤ bands → IsItem (ends bands bits) item bits → IsFirst (ended_bands bands bits) item bits []
 ended_first zero bits item some is = absurd (omega (arith, some))
 ended_first (suc bands) bits item some is = record { element = ends (suc bands) bits; is = is; first = refl }
 
@@ -126,7 +126,7 @@ begins band bands last bits block later is long low high new none =
     some (inl h) = (let a = some_sents band band.start last block h (omega (arith, high, is.most, long)) in omega (arith, a))
     some (inr h) = (let a = some_sents band last band.end block (omega (arith, h, is.order)) (omega (arith, is.most, long)) in omega (arith, a))
 
--- no corrections wait behind an item
+-- no corrections wait after an item
 pub ready_cleared : (b : Bands) → IsBand b.band → IsShort b.block → AreMarks b.marks b.block → 1 ≤ b.at → b.at ≤ b.last → b.last ≤ b.band.end → ends_new (sents b.band b.at b.last b.block) ≡ true → b.bands < 32767 → IsReady (cleared b)
 ready_cleared b band short marks at order most front few = record {
   band = band;
@@ -141,9 +141,9 @@ ready_cleared b band short marks at order most front few = record {
   none = λ z. refl;
 }
 
--- the EOB before a band's front
-pub gives_ends : (old new : Bands) (item : Item) → IsReady old → old.at < old.last → 1 ≤ old.bands → IsItem (ends old.bands old.waiting.items) item old.waiting.items → new ≡ record old { bands = 0 } → Gives old item new
-gives_ends old new item r some bands is e = subst (Gives old item) (sym e) (record {
+-- the EOB before a band's prefix
+pub gives_ends : (old new : Bands) (item : Item) → IsReady old → old.at < old.last → 1 ≤ old.bands → IsItem (ends old.bands old.waiting.items) item old.waiting.items → new ≡ record old { bands = 0 } → GivesElement old item new
+gives_ends old new item r some bands is e = subst (GivesElement old item) (sym e) (record {
   first = λ later. record {
     element = ends old.bands old.waiting.items;
     is = is;
@@ -156,8 +156,8 @@ gives_ends old new item r some bands is e = subst (Gives old item) (sym e) (reco
 })
 
 -- a value or a run of sixteen zeros
-pub gives_value : (old new : Bands) (whole : Whole) → IsReady old → old.at < old.last → old.bands ≡ 0 → IsWhole old.band old.at old.last old.block whole new.waiting.items → new ≡ record old { at = whole.at; waiting = new.waiting } → Gives old whole.item new
-gives_value old new whole r some none is e = subst (Gives old whole.item) (sym e) (record {
+pub gives_value : (old new : Bands) (whole : Whole) → IsReady old → old.at < old.last → old.bands ≡ 0 → IsCompleteElement old.band old.at old.last old.block whole new.waiting.items → new ≡ record old { at = whole.at; waiting = new.waiting } → GivesElement old whole.item new
+gives_value old new whole r some none is e = subst (GivesElement old whole.item) (sym e) (record {
   first = λ later.
       let front = sents old.band old.at old.last old.block in
       let others = sents old.band whole.at old.last old.block in
@@ -189,7 +189,7 @@ fewer : (n : ℕ) → n < 32767 → (n + 1 == 32767) ≡ false → n + 1 < 32767
 fewer n l t = grind (arith, nat_tests, l, t)
 
 pub leaves_rest : (old : Bands) (waiting : Waiting) → IsReady old → old.last ≤ old.at → old.last < old.band.end → waiting.items ≡ old.waiting.items ++ corrections_of (sents old.band old.last old.band.end old.block)
-    → is_full (old.bands + 1) waiting.items ≡ false → Leaves old (with_rest old waiting)
+    → is_full (old.bands + 1) waiting.items ≡ false → LeavesBand old (with_rest old waiting)
 leaves_rest old waiting r none some e h =
     let rest = sents old.band old.last old.band.end old.block in
     let n = neither (old.bands + 1 == 32767) (nat_lt 937 (length waiting.items)) h in
@@ -213,8 +213,8 @@ leaves_rest old waiting r none some e h =
     }
 
 pub gives_rest : (old new : Bands) (waiting : Waiting) (item : Item) → IsReady old → old.last ≤ old.at → old.last < old.band.end → waiting.items ≡ old.waiting.items ++ corrections_of (sents old.band old.last old.band.end old.block)
-    → is_full (old.bands + 1) waiting.items ≡ true → IsItem (ends (old.bands + 1) waiting.items) item waiting.items → new ≡ record (with_rest old waiting) { bands = 0 } → Gives old item new
-gives_rest old new waiting item r none some e h is k = subst (Gives old item) (sym k) (record {
+    → is_full (old.bands + 1) waiting.items ≡ true → IsItem (ends (old.bands + 1) waiting.items) item waiting.items → new ≡ record (with_rest old waiting) { bands = 0 } → GivesElement old item new
+gives_rest old new waiting item r none some e h is k = subst (GivesElement old item) (sym k) (record {
   first = λ later.
       let rest = sents old.band old.last old.band.end old.block in
       let nothing = sents_none old.band old.band.end old.band.end old.block (omega arith) in
@@ -233,7 +233,7 @@ gives_rest old new waiting item r none some e h is k = subst (Gives old item) (s
 })
 
 -- nothing is left of the band
-pub leaves_all : (old : Bands) → IsReady old → old.last ≤ old.at → old.band.end ≤ old.last → Leaves old old
+pub leaves_all : (old : Bands) → IsReady old → old.last ≤ old.at → old.band.end ≤ old.last → LeavesBand old old
 leaves_all old r none rest = record {
   left = λ later. rest_due old later none ∙ ap (λ xs. elements_due old.bands old.waiting.items [] xs later) (sents_none old.band old.last old.band.end old.block rest)
       ∙ due_none old.bands old.waiting.items later;

@@ -3,7 +3,7 @@ use Rattle.std.proofs.Common.{◌≡◌, ℕ, zero, suc, ◌+◌, ◌-◌, ◌<�
 use Rattle.std.specs.Prelude.{slice_index_or}
 use Rattle.std.proofs.Math.Seq.{drop-cons}
 use Rattle.jpg_spec.specs.Lists.{any_of}
-use Rattle.jpg_spec.specs.Sending.{Sent, sent, is_new, up_to_last, behind_last}
+use Rattle.jpg_spec_write.specs.Sending.{Sent, sent, is_new, up_to_last, after_last}
 use Rattle.jpg_spec.proofs.Common.{or_right}
 use Rattle.jpg_prog_write.specs.Bands.{sents, ends_new}
 use Rattle.jpg_prog_write.specs.declared.band.Band.{Band}
@@ -26,7 +26,7 @@ sents_none band from end block none =
     let m : end - from ≡ 0 = omega (arith, none) in
     ap (λ n. map (sent band.refines band.al) (take n (drop from block))) m
 
--- a part from the front on, and what is behind it
+-- a part from the first place on, and what is after it
 pub sents_cut : (band : Band) (k from end : ℕ) (block : List ℤ) → from + k ≤ end → end ≤ length block
     → (take k (sents band from end block) ≡ sents band from (from + k) block) × (drop k (sents band from end block) ≡ sents band (from + k) end block)
 sents_cut band zero from end block some inside =
@@ -47,7 +47,7 @@ pub ends_tail : (s : Sent) (xs : List Sent) → ends_new (s ∷ xs) ≡ true →
 ends_tail s [] e = refl
 ends_tail s (t ∷ xs) e = e
 
--- a last one that isn't newly sent is none
+-- a last one that isn't newly sent isn't the last newly sent one
 pub ends_some : (s : Sent) (xs : List Sent) → ends_new (s ∷ xs) ≡ true → is_new s ≡ false → 1 ≤ length xs
 ends_some s [] e n = cc
 ends_some s (t ∷ xs) e n = omega arith
@@ -62,21 +62,21 @@ up_true s band e = ap (λ b. (let r : List Sent = cond b (s ∷ up_to_last band)
 up_false : (s : Sent) (band : List Sent) → any_of is_new (s ∷ band) ≡ false → up_to_last (s ∷ band) ≡ []
 up_false s band e = ap (λ b. (let r : List Sent = cond b (s ∷ up_to_last band) [] in r)) e
 
-behind_true : (s : Sent) (band : List Sent) → any_of is_new (s ∷ band) ≡ true → behind_last (s ∷ band) ≡ behind_last band
-behind_true s band e = ap (λ b. (let r : List Sent = cond b (behind_last band) (s ∷ band) in r)) e
+after_true : (s : Sent) (band : List Sent) → any_of is_new (s ∷ band) ≡ true → after_last (s ∷ band) ≡ after_last band
+after_true s band e = ap (λ b. (let r : List Sent = cond b (after_last band) (s ∷ band) in r)) e
 
-behind_false : (s : Sent) (band : List Sent) → any_of is_new (s ∷ band) ≡ false → behind_last (s ∷ band) ≡ s ∷ band
-behind_false s band e = ap (λ b. (let r : List Sent = cond b (behind_last band) (s ∷ band) in r)) e
+after_false : (s : Sent) (band : List Sent) → any_of is_new (s ∷ band) ≡ false → after_last (s ∷ band) ≡ s ∷ band
+after_false s band e = ap (λ b. (let r : List Sent = cond b (after_last band) (s ∷ band) in r)) e
 
--- a cut behind the last newly sent value
-pub cut_is : (band : List Sent) (n : ℕ) → ends_new (take n band) ≡ true → any_of is_new (drop n band) ≡ false → (up_to_last band ≡ take n band) × (behind_last band ≡ drop n band)
+-- a cut after the last newly sent value
+pub cut_is : (band : List Sent) (n : ℕ) → ends_new (take n band) ≡ true → any_of is_new (drop n band) ≡ false → (up_to_last band ≡ take n band) × (after_last band ≡ drop n band)
 cut_is [] zero e h = (refl, refl)
 cut_is [] (suc n) e h = (refl, refl)
-cut_is (s ∷ band) zero e h = (up_false s band h, behind_false s band h)
+cut_is (s ∷ band) zero e h = (up_false s band h, after_false s band h)
 cut_is (s ∷ band) (suc n) e h =
     let some : any_of is_new (s ∷ band) ≡ true = ap (λ xs. any_of is_new (s ∷ xs)) (sym (take-append-drop n band)) ∙ ends_any s (take n band) (drop n band) e in
     let ih = cut_is band n (ends_tail s (take n band) e) h in
-    (up_true s band some ∙ ap (λ xs. s ∷ xs) ih.0, behind_true s band some ∙ ih.1)
+    (up_true s band some ∙ ap (λ xs. s ∷ xs) ih.0, after_true s band some ∙ ih.1)
 
 -- the place of one is the end of a part
 pub ends_at : (band : Band) (k from : ℕ) (block : List ℤ) → from + k < length block → is_new (sent_at band block (from + k)) ≡ true → ends_new (sents band from (from + k + 1) block) ≡ true
@@ -98,7 +98,7 @@ ends_before band start end block some inside new =
     let e : start + (end - 1 - start) + 1 ≡ end = omega (arith, some) in
     subst (λ n. ends_new (sents band start n block) ≡ true) e (ends_at band (end - 1 - start) start block (omega (arith, k, some, inside)) (subst (λ n. is_new (sent_at band block n) ≡ true) (sym k) new))
 
--- a value more that isn't newly sent
+-- one more value that isn't newly sent
 pub none_more : (band : Band) (end last : ℕ) (block : List ℤ) → 1 ≤ end → end ≤ last → last ≤ length block → is_new (sent_at band block (end - 1)) ≡ false → any_of is_new (sents band end last block) ≡ false → any_of is_new (sents band (end - 1) last block) ≡ false
 none_more band end last block some order inside none others =
     let e : end - 1 + 1 ≡ end = omega (arith, some) in

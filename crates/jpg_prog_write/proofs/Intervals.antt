@@ -10,7 +10,7 @@ use Rattle.jpg_spec.specs.Lists.{chunks, chunks_of}
 use Rattle.jpg_spec.specs.Geometry.{Frame, units, mcu_units, is_progressive}
 use Rattle.jpg_spec.specs.Segments.{ScanHead, head_components}
 use Rattle.jpg_spec.specs.Scan.{Blocks}
-use Rattle.jpg_spec.specs.ScanText.{Owned, units_due, interval_elements, element_bits, scan_data, intervals_text}
+use Rattle.jpg_spec_write.specs.ScanText.{Owned, units_due, interval_elements, element_bits, scan_data, intervals_text}
 use Rattle.jpg_spec.specs.declared.frame.Place.{Place}
 use Rattle.jpg_huff.specs.declared.set.TableSet.{TableSet}
 use Rattle.jpg_spec.proofs.Rows.{map_map}
@@ -25,7 +25,7 @@ Piece = List Place → List ℕ
 abbrev pub left_data : Piece → ℕ → ℕ → ℕ → List Place → List ℕ
 left_data piece turn most each places = intervals_text turn (map (piece) (chunks_of most each places))
 
--- what is due behind so many intervals: at least one more, in at most so many
+-- what is pending after `turn` intervals: at least one more, at most `most`
 pub record IsLeft (piece : Piece) (each turn : ℕ) (places : List Place) (rest : List ℕ) : Type 0 where
   pub most : ℕ
   pub number : ℕ
@@ -53,7 +53,7 @@ last_interval piece each turn (p ∷ places) rest l h = l.rest_is ∙ by l.most 
         ∙ ap (λ cs. intervals_text l.number (map (piece) (take each (p ∷ places) ∷ cs))) (none_left most each)
         ∙ ap (piece) (take_all each (p ∷ places) h)
 
--- an interval, a restart marker, and the others
+-- an interval, a restart marker, and the remaining ones
 pub next_interval : (piece : Piece) (each turn : ℕ) (places : List Place) (rest : List ℕ) → IsLeft piece each turn places rest → each < length places
     → (others : List ℕ) × (rest ≡ piece (take each places) ++ ((255 ∷ (0xd0 + turn) ∷ []) ++ others)) × IsLeft piece each ((turn + 1) % 8) (drop each places) others
 unfolding chunks_of
@@ -151,7 +151,7 @@ pub all_left : (piece : Piece) (each turn count : ℕ) (places : List Place) (re
 all_left piece each turn count places rest l e h =
     last_interval piece each turn places rest l (omega (arith, e, h)) ∙ ap (piece) (sym (take_all count places h))
 
--- and that of one behind which others are due
+-- and that of one after which others are pending
 pub more_left : (piece : Piece) (each turn count : ℕ) (places : List Place) (rest : List ℕ) → IsLeft piece each turn places rest → count ≡ min each (length places) → count < length places
     → (others : List ℕ) × (rest ≡ piece (take count places) ++ ((255 ∷ (0xd0 + turn) ∷ []) ++ others)) × IsLeft piece each ((turn + 1) % 8) (drop count places) others
 more_left piece each turn count places rest l e h =

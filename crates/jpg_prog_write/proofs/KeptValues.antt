@@ -3,7 +3,7 @@ use Rattle.std.proofs.Common.{◌≡◌, ℕ, suc, ◌+◌, ◌-◌, ◌/◌, �
 use Rattle.std.specs.Prelude.{nat_lt}
 use Rattle.std.proofs.Math.Path.{fun_ext}
 use Rattle.std.proofs.lemmas.List.{append-nil, append_assoc, drop-map, drop_all, drop_more, get_or-map, length-map, length-take-le, set_at, take-map, take_all, take_more}
-use Rattle.jpg_spec.specs.Sending.{Sent, correction, divided, newly, sent}
+use Rattle.jpg_spec_write.specs.Sending.{Sent, correction, divided, newly_significant, sent}
 use Rattle.jpg_spec.proofs.Common.{same_of}
 use Rattle.jpg_spec.proofs.Rows.{map_map}
 use Rattle.jpg_prog_write.specs.Bands.{IsShort, band_sents, kept_of, sents}
@@ -15,10 +15,10 @@ nothing : (v : ℤ) (al : ℕ) → nat_abs v / 2 ^ al ≡ 0 → divided al v ≡
 nothing (pos n) al e = ap pos e
 nothing (negsuc n) al e = (let s : n + 1 ≡ suc n = omega arith in ap (λ m. neg_ℤ (pos (m / 2 ^ al))) s ∙ ap (λ m. neg_ℤ (pos m)) e)
 
-sent_nothing : (r : Bool) (al : ℕ) (v : ℤ) → nat_abs v / 2 ^ al ≡ 0 → sent r al v ≡ newly (pos 0)
-sent_nothing false al v e = ap newly (nothing v al e)
+sent_nothing : (r : Bool) (al : ℕ) (v : ℤ) → nat_abs v / 2 ^ al ≡ 0 → sent r al v ≡ newly_significant (pos 0)
+sent_nothing false al v e = ap newly_significant (nothing v al e)
 sent_nothing true al v e =
-    ap (λ n. cond (nat_lt 1 n) (correction (n % 2 == 1)) (newly (divided al v))) e ∙ ap newly (nothing v al e)
+    ap (λ n. cond (nat_lt 1 n) (correction (n % 2 == 1)) (newly_significant (divided al v))) e ∙ ap newly_significant (nothing v al e)
 
 zero_over : (m : ℕ) → 0 / m ≡ 0
 zero_over m = omega arith
@@ -41,7 +41,7 @@ sents_kept b from end block =
 pub band_kept : (b : Band) (block kept : List ℤ) → kept ≡ map (kept_of b.al) block → band_sents b kept ≡ band_sents b block
 band_kept b block kept e = ap (band_sents b) e ∙ sents_kept b b.start b.end block
 
--- IT IS AS SHORT
+-- NO VALUE GROWS
 
 kept_less : (al : ℕ) (v : ℤ) → nat_abs (kept_of al v) ≤ nat_abs v
 kept_less al v = by (nat_abs v / 2 ^ al == 0)

@@ -6,12 +6,12 @@ use Rattle.jpg_spec.specs.Lists.{any_of}
 use Rattle.jpg_spec.specs.Geometry.{Frame}
 use Rattle.jpg_spec.specs.Segments.{ScanHead}
 use Rattle.jpg_spec.specs.Elements.{Element, difference, dc_bit, value, long_run, ends, symbol_of}
-use Rattle.jpg_spec.specs.Sending.{band_elements}
+use Rattle.jpg_spec_write.specs.Sending.{band_elements}
 use Rattle.jpg_spec.specs.Scan.{Blocks, part_of}
 use Rattle.jpg_spec.specs.declared.frame.Place.{Place}
 use Rattle.jpg_spec.proofs.Common.{any_append}
 use Rattle.jpg_prog_write.specs.Steps.{IsFirst}
-use Rattle.jpg_prog_write.specs.Counted.{Rows, Mark, is_mark, is_marked, AreRows, Notes, NotesBut, marks_of, owned_marks, places_marks}
+use Rattle.jpg_prog_write.specs.Counted.{Rows, Mark, is_mark, is_marked, AreCountedRows, Notes, NotesBut, marks_of, owned_marks, places_marks}
 use Rattle.jpg_prog_write.specs.Bands.{IsBandOf}
 use Rattle.jpg_prog_write.specs.Written.{IsScanPlace, first_slot}
 use Rattle.jpg_prog_write.specs.declared.band.Band.{Band}
@@ -27,7 +27,7 @@ or_assoc : (a b c : Bool) → ((a || b) || c) ≡ (a || (b || c))
 or_assoc true b c = refl
 or_assoc false b c = refl
 
-pub notes_nothing : (rows : Rows) → AreRows rows → Notes rows [] rows
+pub notes_nothing : (rows : Rows) → AreCountedRows rows → Notes rows [] rows
 notes_nothing rows are = record { rows = are; marked = λ slot symbol s few. or_none (is_marked rows slot symbol) }
 
 pub notes_then : (old mid new : Rows) (xs ys : List Mark) → Notes old xs mid → Notes mid ys new → Notes old (xs ++ ys) new
@@ -42,7 +42,7 @@ notes_then old mid new xs ys h k = record {
 pub notes_same : (old new : Rows) (xs ys : List Mark) → xs ≡ ys → Notes old xs new → Notes old ys new
 notes_same old new xs ys e h = subst (λ x. Notes old x new) e h
 
-pub but_start : (rows : Rows) (all rest : List Mark) → AreRows rows → rest ≡ all → NotesBut rows all rest rows
+pub but_start : (rows : Rows) (all rest : List Mark) → AreCountedRows rows → rest ≡ all → NotesBut rows all rest rows
 but_start rows all rest are e = record { front = []; joined = e; done = notes_nothing rows are }
 
 pub but_then : (old mid new : Rows) (all rest piece left : List Mark) → rest ≡ piece ++ left → NotesBut old all rest mid → Notes mid piece new → NotesBut old all left new

@@ -11,7 +11,7 @@ use Rattle.jpg_spec.specs.declared.frame.Place.{Place}
 use Rattle.jpg_spec.specs.declared.frame.ScanPart.{ScanPart}
 use Rattle.jpg_base.specs.Cursor.{AreIn}
 use Rattle.jpg_spec.proofs.Common.{both, lt_of, same_of}
-use Rattle.jpg_spec.proofs.PlacedBlocks.{Each}
+use Rattle.jpg_spec.proofs.Each.{Each}
 use Rattle.jpg_spec.proofs.PlacesSome.{units_some}
 use Rattle.jpg_spec.proofs.PlacesFound.{each_units}
 use Rattle.jpg_prog_write.specs.Written.{IsScanPlace}

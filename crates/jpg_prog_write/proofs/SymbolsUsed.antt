@@ -10,14 +10,14 @@ use Rattle.jpg_spec.specs.Lists.{any_of, is_among, below, chunks, chunks_of}
 use Rattle.jpg_spec.specs.Geometry.{Frame, is_progressive, units, mcu_units}
 use Rattle.jpg_spec.specs.Segments.{ScanHead, head_components}
 use Rattle.jpg_spec.specs.Elements.{Element, symbol_of, is_dc_bit, predicted}
-use Rattle.jpg_spec.specs.Sending.{shifted, band_elements}
+use Rattle.jpg_spec_write.specs.Sending.{shifted, band_elements}
 use Rattle.jpg_spec.specs.Scan.{Blocks, part_of}
-use Rattle.jpg_spec.specs.ScanText.{UnitDue, Owned, units_due, table_place, dc_element, unit_elements, band_of, interval_elements, scan_elements, symbols_used}
+use Rattle.jpg_spec_write.specs.ScanText.{UnitDue, Owned, units_due, table_place, dc_element, unit_elements, band_of, interval_elements, scan_elements, symbols_used}
 use Rattle.jpg_spec.specs.declared.frame.Place.{Place}
 use Rattle.jpg_spec.proofs.Common.{same_itself, lt_yes, any_append, length_below}
-use Rattle.jpg_spec.proofs.PlacedBlocks.{Each, each_join}
+use Rattle.jpg_spec.proofs.Each.{Each, each_join}
 use Rattle.jpg_huff.specs.Flat.{symbols_in}
-use Rattle.jpg_prog_write.specs.Counted.{row, Rows, Mark, is_mark, is_marked, AreRows, Notes, CountsClass, owned_marks, places_marks, no_rows, scan_marks}
+use Rattle.jpg_prog_write.specs.Counted.{row, Rows, Mark, is_mark, is_marked, AreCountedRows, Notes, CountsClass, owned_marks, places_marks, no_counted_rows, scan_marks}
 use Rattle.jpg_prog_write.proofs.BandUnits.{IsOfBand, all_band}
 use Rattle.jpg_prog_write.proofs.Intervals.{cut_all}
 
@@ -141,8 +141,8 @@ each_first P Q (x ∷ xs) h e = (h x e.0, each_first P Q xs h e.1)
 
 -- ROWS
 
-no_mark : (slot s : ℕ) → slot < 2 → s < 256 → is_marked no_rows slot s ≡ false
-unfolding no_rows
+no_mark : (slot s : ℕ) → slot < 2 → s < 256 → is_marked no_counted_rows slot s ≡ false
+unfolding no_counted_rows
 no_mark slot s h few = ap (λ r. slice_index_or r s false) (get_or-replicate 2 slot (replicate 256 false) [] h) ∙ get_or-replicate 256 s false false few
 
 filter_less : (test : ℕ → Bool) (xs : List ℕ) → length (filter test xs) ≤ length xs
@@ -164,7 +164,7 @@ few_symbols used e =
     omega (arith, l, filter_less test (below 255), length_below 255)
 
 -- those of the scan's class
-pub counted_class : (f : Frame) (head : ScanHead) (interval : ℕ) (blocks : Blocks) (class : ℕ) (rows : Rows) → is_progressive f.process ≡ true → Notes no_rows (scan_marks f head interval blocks) rows
+pub counted_class : (f : Frame) (head : ScanHead) (interval : ℕ) (blocks : Blocks) (class : ℕ) (rows : Rows) → is_progressive f.process ≡ true → Notes no_counted_rows (scan_marks f head interval blocks) rows
     → ((places : List Place) → Each (IsOfClass head class) (interval_elements true head (units_due blocks (λ i. pos 0) places))) → CountsClass f head interval blocks class rows
 unfolding scan_marks
 counted_class f head interval blocks class rows e notes of = record { used = by; few = few }
@@ -184,7 +184,7 @@ counted_class f head interval blocks class rows e notes of = record { used = by;
         ∙ ap (λ es. is_among s (symbols_of (is_own head class slot) es)) (sym (owned_is f head interval blocks e)))
 
 -- and those of a class that it writes nothing of
-pub counted_none : (f : Frame) (head : ScanHead) (interval : ℕ) (blocks : Blocks) (class : ℕ) (rows : Rows) → is_progressive f.process ≡ true → rows ≡ no_rows
+pub counted_none : (f : Frame) (head : ScanHead) (interval : ℕ) (blocks : Blocks) (class : ℕ) (rows : Rows) → is_progressive f.process ≡ true → rows ≡ no_counted_rows
     → ((slot : ℕ) (places : List Place) → Each (λ e. is_own head class slot e ≡ false) (interval_elements true head (units_due blocks (λ i. pos 0) places))) → CountsClass f head interval blocks class rows
 counted_none f head interval blocks class rows e none of = record { used = by; few = few }
   where
@@ -231,7 +231,7 @@ first_class head blocks dc places =
 abbrev pub left_marks : ScanHead → Blocks → ℕ → ℕ → List Place → List Mark
 left_marks head blocks most each places = flat_map (places_marks head blocks) (chunks_of most each places)
 
--- what is due of the places that are left
+-- the pending elements of the places that are left
 pub record AreLeft (head : ScanHead) (blocks : Blocks) (each : ℕ) (places : List Place) (rest : List Mark) : Type 0 where
   pub most : ℕ
   pub enough : length places ≤ most
@@ -282,8 +282,8 @@ all_left head f interval each blocks some size is = record {
       ∙ ap (λ n. left_marks head blocks (length (units f (head_components head))) n (units f (head_components head))) (sym is);
 }
 
-pub rows_none : AreRows no_rows
-unfolding no_rows
+pub rows_none : AreCountedRows no_counted_rows
+unfolding no_counted_rows
 rows_none = record { two = refl; long = at; last = λ slot h. no_mark slot 255 h (lit< tt) }
   where
     at : (slot : ℕ) → slot < 2 → length (row (replicate 2 (replicate 256 false)) slot) ≡ 256

@@ -7,8 +7,8 @@ use Rattle.std.proofs.lemmas.List.{append_assoc}
 use Rattle.jpg_spec.specs.Bits.{bits_of}
 use Rattle.jpg_spec.specs.Codes.{Code}
 use Rattle.jpg_spec.specs.Segments.{table_codes}
-use Rattle.jpg_spec.specs.Elements.{Element, bits_behind}
-use Rattle.jpg_spec.specs.ScanText.{code_of}
+use Rattle.jpg_spec.specs.Elements.{Element, bits_after}
+use Rattle.jpg_spec.specs.Codes.{code_of}
 use Rattle.jpg_huff.specs.declared.table.Table.{Table}
 use Rattle.jpg_huff.specs.Tables.{table_of}
 use Rattle.jpg_prog_write.specs.Items.{IsItem, spelled, texts}
@@ -24,7 +24,7 @@ none_code o symbol e = ap (λ t. code_of (table_codes (unwrap_or (option_map tab
 -- an item, and its corrections
 pub item_text : (codes : List Code) (e : Element) (item : Item) (bits code : List Bool) → IsItem e item bits → code ≡ code_of codes item.symbol → (code ++ bits_of item.size item.extra) ++ bits ≡ spelled codes e
 item_text codes e item bits code is same =
-    append_assoc code (bits_of item.size item.extra) bits ∙ ap (λ x. code ++ x) is.bits ∙ ap (λ x. x ++ bits_behind e) (same ∙ ap (code_of codes) is.symbol)
+    append_assoc code (bits_of item.size item.extra) bits ∙ ap (λ x. code ++ x) is.bits ∙ ap (λ x. x ++ bits_after e) (same ∙ ap (code_of codes) is.symbol)
 
 pub texts_first : (codes : List Code) (all : List Element) (item : Item) (bits : List Bool) (others : List Element) (f : IsFirst all item bits others) → texts codes all ≡ spelled codes f.element ++ texts codes others
 unfolding texts
@@ -57,7 +57,7 @@ fits_more i n m b e few = by b e
     by true h = (let p : 2 ^ (i + 1) ≡ 2 ^ i * 2 = pow_more 2 i in omega (arith, h, p, few))
     by false h = (let p : 2 ^ (i + 1) ≡ 2 ^ i * 2 = pow_more 2 i in omega (arith, h, p, few))
 
--- some of them, and the others
+-- some of them, and the remaining ones
 pub some_of : (bits : List Bool) (from end : ℕ) → from ≤ end → drop from bits ≡ take (end - from) (drop from bits) ++ drop end bits
 some_of bits from end order =
     let e : from + (end - from) ≡ end = omega (arith, order) in

@@ -6,41 +6,41 @@ use Rattle.std.proofs.lemmas.Bool.Decides.{nat_tests}
 use Rattle.std.proofs.lemmas.List.{append_assoc, append-nil}
 use Rattle.jpg_spec.specs.Numbers.{category}
 use Rattle.jpg_spec.specs.Elements.{Element, value, long_run}
-use Rattle.jpg_spec.specs.Sending.{Sent, correction, newly, sent, divided, corrections_of, value_elements}
+use Rattle.jpg_spec_write.specs.Sending.{Sent, correction, newly_significant, sent, divided, corrections_of, value_elements}
 use Rattle.jpg_spec.proofs.Small.{few_digits}
-use Rattle.jpg_spec.proofs.Shifts.{shifts_less, divided_is, abs_signed}
+use Rattle.jpg_spec_write.proofs.Shifts.{shifts_less, divided_is, abs_signed}
 use Rattle.jpg_prog_write.specs.Bands.{IsBand, IsShort, sents, ends_new}
-use Rattle.jpg_prog_write.specs.Steps.{IsFirst, IsStep, IsShortSending}
+use Rattle.jpg_prog_write.specs.Steps.{IsFirst, IsElementStep, IsShortSending}
 use Rattle.jpg_prog_write.specs.Items.{IsItem, sent_by}
 use Rattle.jpg_prog_write.specs.declared.band.Sending.{Sending}
-use Rattle.jpg_prog_write.specs.declared.band.Sending.TheVariants.{Correction, Newly}
+use Rattle.jpg_prog_write.specs.declared.band.Sending.TheVariants.{Correction, NewlySignificant}
 use Rattle.jpg_prog_write.specs.declared.bands.Step.TheVariants.{Goes, Gives}
 use Rattle.jpg_prog_write.specs.declared.band.Band.{Band}
 use Rattle.jpg_prog_write.specs.declared.item.Item.{Item}
 use Rattle.jpg_prog_write.proofs.Fronts.{sent_at, sents_step, sents_none, ends_some, ends_tail}
 
--- A VALUE that is newly sent, or stays zero
+-- A VALUE that is newly sent, or remains zero
 
-pub zero_next : (run : ℕ) (bits : List Bool) (later : List Sent) → run ≢ 15 → value_elements run bits (newly (pos 0) ∷ later) ≡ value_elements (run + 1) bits later
+pub zero_next : (run : ℕ) (bits : List Bool) (later : List Sent) → run ≢ 15 → value_elements run bits (newly_significant (pos 0) ∷ later) ≡ value_elements (run + 1) bits later
 zero_next run bits later n =
     let t : (run == 15) ≡ false = grind (arith, nat_tests) in
     ap (λ b. (let l : List Element = cond b (long_run bits ∷ value_elements 0 [] later) (value_elements (run + 1) bits later) in l)) t
 
-pub goes_on : (run : ℕ) (bits : List Bool) (v : ℤ) (later : List Sent) → v ≡ pos 0 → run ≤ 15 → run ≢ 15 → IsStep run bits (newly v ∷ later) (Goes (run + 1)) bits later
+pub goes_on : (run : ℕ) (bits : List Bool) (v : ℤ) (later : List Sent) → v ≡ pos 0 → run ≤ 15 → run ≢ 15 → IsElementStep run bits (newly_significant v ∷ later) (Goes (run + 1)) bits later
 goes_on run bits v later z few n =
-    subst (λ w. IsStep run bits (newly w ∷ later) (Goes (run + 1)) bits later) (sym z) (omega arith, zero_next run bits later n, (λ e. ends_some (newly (pos 0)) later e refl))
+    subst (λ w. IsElementStep run bits (newly_significant w ∷ later) (Goes (run + 1)) bits later) (sym z) (omega arith, zero_next run bits later n, (λ e. ends_some (newly_significant (pos 0)) later e refl))
 
-pub long_whole : (run : ℕ) (bits : List Bool) (v : ℤ) (later : List Sent) (item : Item) → v ≡ pos 0 → run ≡ 15 → IsItem (long_run bits) item bits → IsStep run bits (newly v ∷ later) (Gives item) bits later
+pub long_whole : (run : ℕ) (bits : List Bool) (v : ℤ) (later : List Sent) (item : Item) → v ≡ pos 0 → run ≡ 15 → IsItem (long_run bits) item bits → IsElementStep run bits (newly_significant v ∷ later) (Gives item) bits later
 long_whole run bits v later item z e is =
-    subst (λ w. IsStep run bits (newly w ∷ later) (Gives item) bits later) (sym z)
-    (record { element = long_run bits; is = is; first = ap (λ r. value_elements r bits (newly (pos 0) ∷ later)) e })
+    subst (λ w. IsElementStep run bits (newly_significant w ∷ later) (Gives item) bits later) (sym z)
+    (record { element = long_run bits; is = is; first = ap (λ r. value_elements r bits (newly_significant (pos 0) ∷ later)) e })
 
-pub value_whole : (run : ℕ) (bits : List Bool) (v : ℤ) (later : List Sent) (item : Item) → v ≢ pos 0 → IsItem (value run v bits) item bits → IsStep run bits (newly v ∷ later) (Gives item) bits later
+pub value_whole : (run : ℕ) (bits : List Bool) (v : ℤ) (later : List Sent) (item : Item) → v ≢ pos 0 → IsItem (value run v bits) item bits → IsElementStep run bits (newly_significant v ∷ later) (Gives item) bits later
 value_whole run bits (pos zero) later item n is = absurd (n refl)
 value_whole run bits (pos (suc m)) later item n is = record { element = value run (pos (suc m)) bits; is = is; first = refl }
 value_whole run bits (negsuc m) later item n is = record { element = value run (negsuc m) bits; is = is; first = refl }
 
-pub correction_goes : (run : ℕ) (bits : List Bool) (b : Bool) (later : List Sent) → run ≤ 15 → IsStep run bits (correction b ∷ later) (Goes run) (bits ++ b ∷ []) later
+pub correction_goes : (run : ℕ) (bits : List Bool) (b : Bool) (later : List Sent) → run ≤ 15 → IsElementStep run bits (correction b ∷ later) (Goes run) (bits ++ b ∷ []) later
 correction_goes run bits b later few = (few, refl, (λ e. ends_some (correction b) later e refl))
 
 -- ITS CATEGORY
@@ -55,7 +55,7 @@ short_divided al v l small =
 pub corrections_join : (xs ys : List Sent) → corrections_of (xs ++ ys) ≡ corrections_of xs ++ corrections_of ys
 corrections_join [] ys = refl
 corrections_join (correction b ∷ xs) ys = ap (λ bits. b ∷ bits) (corrections_join xs ys)
-corrections_join (newly v ∷ xs) ys = corrections_join xs ys
+corrections_join (newly_significant v ∷ xs) ys = corrections_join xs ys
 
 -- the next value's, and those of the others
 pub wait_next : (band : Band) (k : ℕ) (block : List ℤ) (all bits new : List Bool) (s : Sent) → k < band.end → band.end ≤ length block → s ≡ sent_at band block k → new ≡ bits ++ corrections_of (s ∷ [])
@@ -69,16 +69,16 @@ wait_next band k block all bits new s some inside is e h =
 
 pub short_sending : (band : Band) (block : List ℤ) (k : ℕ) (s : Sending) → IsBand band → IsShort block → 1 ≤ k → k < 64 → sent_by s ≡ sent_at band block k → IsShortSending s
 short_sending band block k (Correction b) is short some few e = tt
-short_sending band block k (Newly v) is short some few e = by band.refines refl
+short_sending band block k (NewlySignificant v) is short some few e = by band.refines refl
   where
     at : ℤ
     at = slice_index_or block k (pos 0)
 
-    once : (a b : ℤ) → newly a ≡ newly b → a ≡ b
+    once : (a b : ℤ) → newly_significant a ≡ newly_significant b → a ≡ b
     once a b h = ap value_of h
       where
         value_of : Sent → ℤ
-        value_of (newly w) = w
+        value_of (newly_significant w) = w
         value_of (correction b) = pos 0
 
     small : v ≡ divided band.al at → category v ≤ 14
@@ -88,14 +88,14 @@ short_sending band block k (Newly v) is short some few e = by band.refines refl
     by false h = small (once v (divided band.al at) (e ∙ ap (λ r. sent r band.al at) h))
     by true h = two (nat_lt 1 (nat_abs at / 2 ^ band.al)) refl
       where
-        whole : newly v ≡ sent true band.al at
+        whole : newly_significant v ≡ sent true band.al at
         whole = e ∙ ap (λ r. sent r band.al at) h
 
         two : (b : Bool) → nat_lt 1 (nat_abs at / 2 ^ band.al) ≡ b → category v ≤ 14
-        two false g = small (once v (divided band.al at) (whole ∙ ap (λ b. (let s : Sent = cond b (correction (nat_abs at / 2 ^ band.al % 2 == 1)) (newly (divided band.al at)) in s)) g))
-        two true g = absurd (apart v (nat_abs at / 2 ^ band.al % 2 == 1) (whole ∙ ap (λ b. (let s : Sent = cond b (correction (nat_abs at / 2 ^ band.al % 2 == 1)) (newly (divided band.al at)) in s)) g))
+        two false g = small (once v (divided band.al at) (whole ∙ ap (λ b. (let s : Sent = cond b (correction (nat_abs at / 2 ^ band.al % 2 == 1)) (newly_significant (divided band.al at)) in s)) g))
+        two true g = absurd (apart v (nat_abs at / 2 ^ band.al % 2 == 1) (whole ∙ ap (λ b. (let s : Sent = cond b (correction (nat_abs at / 2 ^ band.al % 2 == 1)) (newly_significant (divided band.al at)) in s)) g))
           where
-            apart : (a : ℤ) (b : Bool) → newly a ≡ correction b → ⊥
+            apart : (a : ℤ) (b : Bool) → newly_significant a ≡ correction b → ⊥
             apart a b h = cc
 
 pub record GoesOn (band : Band) (at last : ℕ) (block : List ℤ) (run more : ℕ) (bits new : List Bool) : Type 0 where
@@ -109,7 +109,7 @@ some_left : (band : Band) (from last : ℕ) (block : List ℤ) → 1 ≤ length 
 some_left band from last block some = ⊎_elim (λ h. h) (λ (h : last ≤ from). absurd (omega (arith, some, ap length (sents_none band from last block h)))) (cases_lt from last)
 
 pub step_on : (band : Band) (at last : ℕ) (block : List ℤ) (run more : ℕ) (bits new : List Bool) (s : Sent) → s ≡ sent_at band block at → sents band at last block ≡ sent_at band block at ∷ sents band (at + 1) last block
-    → ends_new (sents band at last block) ≡ true → IsStep run bits (s ∷ sents band (at + 1) last block) (Goes more) new (sents band (at + 1) last block) → GoesOn band at last block run more bits new
+    → ends_new (sents band at last block) ≡ true → IsElementStep run bits (s ∷ sents band (at + 1) last block) (Goes more) new (sents band (at + 1) last block) → GoesOn band at last block run more bits new
 step_on band at last block run more bits new s is one front step =
     let later = sents band (at + 1) last block in
     let whole : sents band at last block ≡ s ∷ later = one ∙ ap (λ t. t ∷ later) (sym is) in
@@ -122,7 +122,7 @@ step_on band at last block run more bits new s is one front step =
     }
 
 pub step_whole : (band : Band) (at last : ℕ) (block : List ℤ) (run : ℕ) (bits new : List Bool) (item : Item) (s : Sent) → s ≡ sent_at band block at → sents band at last block ≡ sent_at band block at ∷ sents band (at + 1) last block
-    → ends_new (sents band at last block) ≡ true → IsStep run bits (s ∷ sents band (at + 1) last block) (Gives item) new (sents band (at + 1) last block)
+    → ends_new (sents band at last block) ≡ true → IsElementStep run bits (s ∷ sents band (at + 1) last block) (Gives item) new (sents band (at + 1) last block)
     → (ends_new (sents band (at + 1) last block) ≡ true) × IsFirst (value_elements run bits (sents band at last block)) item new (value_elements 0 [] (sents band (at + 1) last block))
 step_whole band at last block run bits new item s is one front step =
     let later = sents band (at + 1) last block in

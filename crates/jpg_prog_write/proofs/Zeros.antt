@@ -1,4 +1,4 @@
--- The zeros behind the last value of a band that isn't 0, found by the bits of a word.
+-- The zeros after the last value of a band that isn't 0, found by the bits of a word.
 use Rattle.std.proofs.Common.{◌≡◌, ℕ, zero, suc, ◌+◌, ◌-◌, ◌/◌, ◌%◌, ◌==◌, ◌^◌, ◌<◌, ◌≤◌, Bool, true, false, cond, List, [], ◌∷◌, ◌++◌, length, refl, sym, ap, ◌∙◌, arith, ℤ, pos, negsuc, ◌||◌, ⊎_elim}
 use Rattle.std.specs.Prelude.{slice_index_or, nat_lt, if◌then◌else◌}
 use Rattle.std.specs.Int.{bit_at}
@@ -12,7 +12,7 @@ use Rattle.std.proofs.lemmas.Nat.{shr-shr, leading_top}
 use Rattle.std.proofs.lemmas.Nat.Bits.{bit_at-suc, bit_at-zero, bit_at_above, bit_at-trailing_zeros}
 use Rattle.jpg_spec.specs.Elements.{is_zero}
 use Rattle.jpg_spec.specs.Lists.{any_of}
-use Rattle.jpg_spec.specs.Sending.{Sent, correction, newly, sent, is_new, corrections_of, value_elements}
+use Rattle.jpg_spec_write.specs.Sending.{Sent, correction, newly_significant, sent, is_new, corrections_of, value_elements}
 use Rattle.jpg_prog_write.specs.Bands.{sents, ends_new}
 use Rattle.jpg_prog_write.specs.declared.band.Band.{Band}
 use Rattle.jpg_prog_write.proofs.Fronts.{sent_at, sents_step, sents_none, ends_tail}
@@ -30,16 +30,16 @@ shifted_bit (suc s) n i =
 div_less : (n d : ℕ) → n / d ≤ n
 div_less n d = div-le_self n d
 
-behind_top : (n i : ℕ) → n < 2 ^ 64 → 64 - count_leading_zeros 64 n ≤ i → bit_at n i ≡ 0
-behind_top zero i few h = bit_at-zero i
-behind_top (suc n) i few h =
+after_top : (n i : ℕ) → n < 2 ^ 64 → 64 - count_leading_zeros 64 n ≤ i → bit_at n i ≡ 0
+after_top zero i few h = bit_at-zero i
+after_top (suc n) i few h =
     let t = leading_top 64 (suc n) (omega arith) few in
     bit_at_above (suc n) (suc t.0) i t.3 (omega (arith, h, t.1))
 
 pub no_bit : (m start k : ℕ) → m < 2 ^ 64 → start + (64 - count_leading_zeros 64 (m / 2 ^ start)) ≤ k → bit_at m k ≡ 0
 no_bit m start k few h =
     let e : start + (k - start) ≡ k = omega (arith, h) in
-    ap (bit_at m) (sym e) ∙ shifted_bit start m (k - start) ∙ behind_top (m / 2 ^ start) (k - start) (omega (arith, few, div_less m (2 ^ start))) (omega (arith, h))
+    ap (bit_at m) (sym e) ∙ shifted_bit start m (k - start) ∙ after_top (m / 2 ^ start) (k - start) (omega (arith, few, div_less m (2 ^ start))) (omega (arith, h))
 
 -- no bit, no value
 pub no_value : (v : ℤ) (bit : ℕ) → bit ≡ (if is_zero v then 0 else 1) → bit ≡ 0 → is_zero v ≡ true
@@ -55,9 +55,9 @@ zero_over : (m : ℕ) → 0 / m ≡ 0
 zero_over m = omega arith
 
 zero_sent : (r : Bool) (al : ℕ) → is_new (sent r al (pos 0)) ≡ false
-zero_sent false al = ap (λ n. is_new (newly (pos n))) (zero_over (2 ^ al))
+zero_sent false al = ap (λ n. is_new (newly_significant (pos n))) (zero_over (2 ^ al))
 zero_sent true al =
-    ap (λ n. is_new (cond (nat_lt 1 n) (correction (n % 2 == 1)) (newly (pos n)))) (zero_over (2 ^ al))
+    ap (λ n. is_new (cond (nat_lt 1 n) (correction (n % 2 == 1)) (newly_significant (pos n)))) (zero_over (2 ^ al))
 
 is_null : (v : ℤ) → is_zero v ≡ true → v ≡ pos 0
 is_null (pos zero) e = refl
@@ -73,7 +73,7 @@ zeros_back band (suc n) from end block e inside h =
 
 zero_waits : (r : Bool) (al : ℕ) (later : List Sent) → corrections_of (sent r al (pos 0) ∷ later) ≡ corrections_of later
 zero_waits false al later = refl
-zero_waits true al later = ap (λ n. (let s : Sent = cond (nat_lt 1 n) (correction (n % 2 == 1)) (newly (pos n)) in corrections_of (s ∷ later))) (zero_over (2 ^ al))
+zero_waits true al later = ap (λ n. (let s : Sent = cond (nat_lt 1 n) (correction (n % 2 == 1)) (newly_significant (pos n)) in corrections_of (s ∷ later))) (zero_over (2 ^ al))
 
 waits_back : (band : Band) (n from end : ℕ) (block : List ℤ) → from + n ≡ end → end ≤ length block → ((k : ℕ) → from ≤ k → k < end → is_zero (slice_index_or block k (pos 0)) ≡ true) → corrections_of (sents band from end block) ≡ []
 waits_back band zero from end block e inside h = ap corrections_of (sents_none band from end block (omega (arith, e)))
@@ -91,7 +91,7 @@ none_wait band from end block bits inside h =
 pub none_new : (band : Band) (from end : ℕ) (block : List ℤ) → from ≤ end → end ≤ length block → ((k : ℕ) → from ≤ k → k < end → is_zero (slice_index_or block k (pos 0)) ≡ true) → any_of is_new (sents band from end block) ≡ false
 none_new band from end block order inside h = zeros_back band (end - from) from end block (omega (arith, order)) inside h
 
--- ZEROS that are passed at once
+-- ZEROS that are skipped at once
 
 pub marked_zero : (m at i : ℕ) → m < 2 ^ 64 → i < trailing_zeros w64 (m / 2 ^ at) → bit_at m (at + i) ≡ 0
 marked_zero m at i few h = shifted_bit at m i ∙ by (m / 2 ^ at) (omega (arith, few, div_less m (2 ^ at))) h
@@ -100,11 +100,11 @@ marked_zero m at i few h = shifted_bit at m i ∙ by (m / 2 ^ at) (omega (arith,
     by zero l t = bit_at-zero i
     by (suc n) l t = (bit_at-trailing_zeros w64 (suc n) (omega arith) l).2 i t
 
-zero_is_sent : (r : Bool) (al : ℕ) → sent r al (pos 0) ≡ newly (pos 0)
-zero_is_sent false al = ap (λ n. newly (pos n)) (zero_over (2 ^ al))
-zero_is_sent true al = ap (λ n. (let s : Sent = cond (nat_lt 1 n) (correction (n % 2 == 1)) (newly (pos n)) in s)) (zero_over (2 ^ al))
+zero_is_sent : (r : Bool) (al : ℕ) → sent r al (pos 0) ≡ newly_significant (pos 0)
+zero_is_sent false al = ap (λ n. newly_significant (pos n)) (zero_over (2 ^ al))
+zero_is_sent true al = ap (λ n. (let s : Sent = cond (nat_lt 1 n) (correction (n % 2 == 1)) (newly_significant (pos n)) in s)) (zero_over (2 ^ al))
 
-first_zero : (band : Band) (from : ℕ) (block : List ℤ) → is_zero (slice_index_or block from (pos 0)) ≡ true → sent_at band block from ≡ newly (pos 0)
+first_zero : (band : Band) (from : ℕ) (block : List ℤ) → is_zero (slice_index_or block from (pos 0)) ≡ true → sent_at band block from ≡ newly_significant (pos 0)
 first_zero band from block e = ap (sent band.refines band.al) (is_null (slice_index_or block from (pos 0)) e) ∙ zero_is_sent band.refines band.al
 
 pub record Passes (band : Band) (from next last : ℕ) (block : List ℤ) (run more : ℕ) (bits : List Bool) : Type 0 where
@@ -122,10 +122,10 @@ pass_zeros band zero from last block run bits some inside few front zeros =
     }
 pass_zeros band (suc n) from last block run bits some inside few front zeros =
     let later = sents band (from + 1) last block in
-    let one : sents band from last block ≡ newly (pos 0) ∷ later =
+    let one : sents band from last block ≡ newly_significant (pos 0) ∷ later =
     sents_step band from last block (omega (arith, some)) inside ∙ ap (λ s. s ∷ later) (first_zero band from block (zeros from (omega arith) (omega arith))) in
-    let f : ends_new (newly (pos 0) ∷ later) ≡ true = ap ends_new (sym one) ∙ front in
-    let ih = pass_zeros band n (from + 1) last block (run + 1) bits (omega (arith, some)) inside (omega (arith, few)) (ends_tail (newly (pos 0)) later f) (λ k low high. zeros k (omega (arith, low)) (omega (arith, high))) in
+    let f : ends_new (newly_significant (pos 0) ∷ later) ≡ true = ap ends_new (sym one) ∙ front in
+    let ih = pass_zeros band n (from + 1) last block (run + 1) bits (omega (arith, some)) inside (omega (arith, few)) (ends_tail (newly_significant (pos 0)) later f) (λ k low high. zeros k (omega (arith, low)) (omega (arith, high))) in
     let e : from + 1 + n ≡ from + suc n = omega arith in
     let r : run + 1 + n ≡ run + suc n = omega arith in
     record {

@@ -1,31 +1,31 @@
--- BANDS that are written one after another: what is due of them while one is in work and an EOB waits
--- (T.81, G.1.2.2, G.1.2.3; the choices are the writer's own).
+-- BANDS that are written one after another: what is left of them while there is a current one and an EOB run waits
+-- (T.81, G.1.2.2, G.1.2.3; the choices are this writer's).
 use Rattle.std.specs.Prelude.{◌≡◌, ℕ, ◌+◌, ◌-◌, ◌*◌, ◌/◌, min, ◌^◌, ◌<◌, ◌≤◌, Bool, true, nat_lt, ◌==◌, ◌||◌, if◌then◌else◌, List, [], ◌∷◌, ◌++◌, length, take, drop, map, slice_index_or, ℤ, pos, nat_abs}
 use Rattle.std.specs.Int.{bit_at}
 use Rattle.jpg_spec.specs.Lists.{is_empty}
 use Rattle.jpg_spec.specs.Segments.{ScanHead}
 use Rattle.jpg_spec.specs.Elements.{Element, is_zero}
-use Rattle.jpg_spec.specs.Sending.{Sent, sent, is_new, corrections_of, value_elements, ended, band_elements}
+use Rattle.jpg_spec_write.specs.Sending.{Sent, sent, is_new, corrections_of, value_elements, ended_bands, band_elements}
 use Rattle.jpg_prog_write.specs.declared.band.Band.{Band}
 use Rattle.jpg_prog_write.specs.declared.bands.Bands.{Bands}
 
 -- LISTS
 
--- what comes of the rest of a band where an EOB of so many bands waits, and of the bands behind it
-unfoldable pub elements_behind : ℕ → List Bool → List Sent → List (List Sent) → List Element
-elements_behind bands bits rest later =
+-- the elements of the rest of a band, where an EOB run of this many bands waits, and of the bands after it
+unfoldable pub elements_after : ℕ → List Bool → List Sent → List (List Sent) → List Element
+elements_after bands bits rest later =
     let waiting = bits ++ corrections_of rest in
     if is_empty rest then band_elements 32767 bands bits later
-    else if bands + 1 == 32767 || nat_lt 937 (length waiting) then ended (bands + 1) waiting ++ band_elements 32767 0 [] later
+    else if bands + 1 == 32767 || nat_lt 937 (length waiting) then ended_bands (bands + 1) waiting ++ band_elements 32767 0 [] later
     else band_elements 32767 (bands + 1) waiting later
 
--- the same where a part of the band up to its last newly sent value stands before the rest
+-- the same, where a part of the band up to its last newly sent value is before the rest
 unfoldable pub elements_due : ℕ → List Bool → List Sent → List Sent → List (List Sent) → List Element
 elements_due bands bits front rest later =
-    if is_empty front then elements_behind bands bits rest later
-    else ended bands bits ++ (value_elements 0 [] front ++ elements_behind 0 [] rest later)
+    if is_empty front then elements_after bands bits rest later
+    else ended_bands bands bits ++ (value_elements 0 [] front ++ elements_after 0 [] rest later)
 
--- the value, or 0 where nothing of it is sent
+-- the value, or 0 if nothing of it is sent
 abbrev pub kept_of : ℕ → ℤ → ℤ
 kept_of al v = if nat_abs v / 2 ^ al == 0 then pos 0 else v
 
@@ -60,11 +60,11 @@ pub record IsShort (block : List ℤ) : Type 0 where
 abbrev pub AreMarks : ℕ → List ℤ → Type 0
 AreMarks marks block = (k : ℕ) → k < 64 → bit_at marks k ≡ (if is_zero (slice_index_or block k (pos 0)) then 0 else 1)
 
--- what is due from here on
+-- what is left from here on
 abbrev pub elements_left : Bands → List (List Sent) → List Element
 elements_left b later = elements_due b.bands b.waiting.items (sents b.band b.at b.last b.block) (sents b.band b.last b.band.end b.block) later
 
--- what is due where no band is in work
+-- what is left between bands
 abbrev pub elements_waiting : Bands → List (List Sent) → List Element
 elements_waiting b later = band_elements 32767 b.bands b.waiting.items later
 

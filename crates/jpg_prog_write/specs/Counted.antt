@@ -5,7 +5,7 @@ use Rattle.jpg_spec.specs.Geometry.{Frame, units, mcu_units}
 use Rattle.jpg_spec.specs.Segments.{ScanHead, head_components}
 use Rattle.jpg_spec.specs.Elements.{Element, symbol_of, is_dc_bit}
 use Rattle.jpg_spec.specs.Scan.{Blocks}
-use Rattle.jpg_spec.specs.ScanText.{Owned, table_place, units_due, interval_elements, scan_elements, symbols_used}
+use Rattle.jpg_spec_write.specs.ScanText.{Owned, table_place, units_due, interval_elements, scan_elements, symbols_used}
 use Rattle.jpg_spec.specs.declared.frame.Place.{Place}
 use Rattle.jpg_spec.specs.declared.frame.ScanPart.{ScanPart}
 use Rattle.jpg_huff.specs.Flat.{symbols_in}
@@ -39,24 +39,24 @@ is_mark slot symbol m = m.0 == slot && m.1 == symbol
 abbrev pub is_marked : Rows → ℕ → ℕ → Bool
 is_marked rows slot symbol = slice_index_or (row rows slot) symbol false
 
-pub record AreRows (rows : Rows) : Type 0 where
+pub record AreCountedRows (rows : Rows) : Type 0 where
   pub two : length rows ≡ 2
   pub long : (slot : ℕ) → slot < 2 → length (row rows slot) ≡ 256
-  -- which no scan writes, so that there are 255 symbols at most
+  -- no scan writes these, so that there are 255 symbols at most
   pub last : (slot : ℕ) → slot < 2 → is_marked rows slot 255 ≡ false
 
 -- these are marked too
 pub record Notes (old : Rows) (marks : List Mark) (new : Rows) : Type 0 where
-  pub rows : AreRows new
+  pub rows : AreCountedRows new
   pub marked : (slot symbol : ℕ) → slot < 2 → symbol < 256 → is_marked new slot symbol ≡ (is_marked old slot symbol || any_of (is_mark slot symbol) marks)
 
--- all but those that are due later
+-- all but those that follow later
 pub record NotesBut (old : Rows) (all rest : List Mark) (new : Rows) : Type 0 where
   pub front : List Mark
   pub joined : front ++ rest ≡ all
   pub done : Notes old front new
 
--- what elements of one table mark, and those of a scan, of which bits alone have no symbol
+-- what elements of one table mark, and those of a scan; raw bits have no symbol
 unfoldable pub marks_of : ℕ → List Element → List Mark
 marks_of slot elements = flat_map (λ e. (slot, symbol_of e) ∷ []) elements
 
@@ -66,8 +66,8 @@ owned_marks head e = if is_dc_bit e.1 then [] else ((table_place head e).1, symb
 unfoldable pub places_marks : ScanHead → Blocks → List Place → List Mark
 places_marks head blocks places = flat_map (owned_marks head) (interval_elements true head (units_due blocks (λ i. pos 0) places))
 
-unfoldable pub no_rows : Rows
-no_rows = replicate 2 (replicate 256 false)
+unfoldable pub no_counted_rows : Rows
+no_counted_rows = replicate 2 (replicate 256 false)
 
 unfoldable pub scan_marks : Frame → ScanHead → ℕ → Blocks → List Mark
 scan_marks f head interval blocks = flat_map (places_marks head blocks) (chunks (interval * mcu_units f (head_components head)) (units f (head_components head)))

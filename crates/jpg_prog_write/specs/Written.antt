@@ -8,9 +8,9 @@ use Rattle.jpg_spec.specs.Geometry.{Frame, is_real, is_progressive}
 use Rattle.jpg_spec.specs.Segments.{HuffmanTable, ScanHead, head_components, table_codes}
 use Rattle.jpg_spec.specs.ScanContents.{are_parameters}
 use Rattle.jpg_spec.specs.Elements.{zeros}
-use Rattle.jpg_spec.specs.Sending.{shifted}
+use Rattle.jpg_spec_write.specs.Sending.{shifted}
 use Rattle.jpg_spec.specs.Scan.{Blocks, block_at}
-use Rattle.jpg_spec.specs.ScanText.{Owned, dc_element, units_due, interval_elements, element_bits, scan_elements, scan_data}
+use Rattle.jpg_spec_write.specs.ScanText.{Owned, dc_element, units_due, interval_elements, element_bits, scan_elements, scan_data}
 use Rattle.jpg_spec.specs.declared.frame.Place.{Place}
 use Rattle.jpg_spec.specs.declared.frame.ScanPart.{ScanPart}
 use Rattle.jpg_base.specs.Cursor.{AreIn}
@@ -28,7 +28,7 @@ tables_in set class slot = unwrap_or (option_map table_of (in_slot (if class == 
 abbrev pub codes_in : TableSet → ℕ → ℕ → List Code
 codes_in set class slot = table_codes (tables_in set class slot)
 
--- the data of the scan, with restart markers each so many MCUs (0: none)
+-- the data of the scan, with restart markers after each interval of MCUs (0: none)
 abbrev pub written_data : Frame → ScanHead → TableSet → ℕ → Blocks → List ℕ
 written_data f head set interval blocks = scan_data (tables_in set) head (scan_elements f head interval blocks)
 
@@ -46,11 +46,11 @@ pub record IsScanPlace (f : Frame) (head : ScanHead) (p : Place) : Type 0 where
   pub there : p.component < length f.components
   pub real : p.real ≡ is_real f p.component p.x p.y
 
--- the block that is written there: the picture's, or for a padding block the last DC value alone
+-- the block that is written there: the picture's, or for a padding block only the last DC value
 abbrev pub block_due : Blocks → ℤ → Place → List ℤ
 block_due blocks last p = if p.real then block_at blocks p else last ∷ zeros 63
 
--- the element of a unit of DC behind another of its component
+-- the element of a DC unit after another of its component
 abbrev pub dc_unit : ScanHead → ℕ → ℤ → ℤ → Owned
 dc_unit head i last v = (i, dc_element (nat_lt 0 head.ah) head.al (shifted head.al last) v)
 
@@ -62,8 +62,8 @@ unfoldable pub places_data : TableSet → ScanHead → Blocks → List Place →
 places_data set head blocks places = data_of (places_bits set head blocks places)
 
 -- the slot of a scan of one component
-abbrev pub no_part : ScanPart
-no_part = record { component = 0; dc = 0; ac = 0 }
+abbrev pub no_scan_part : ScanPart
+no_scan_part = record { component = 0; dc = 0; ac = 0 }
 
 abbrev pub first_slot : ScanHead → ℕ
-first_slot head = (slice_index_or head.parts 0 no_part).ac
+first_slot head = (slice_index_or head.parts 0 no_scan_part).ac

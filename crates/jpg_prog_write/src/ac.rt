@@ -1,6 +1,6 @@
-// The bands of a progressive AC scan, put block by block (T.81, G.1.2.2, G.1.2.3).
+//! The bands of a progressive AC scan, put block by block (T.81, G.1.2.2, G.1.2.3).
 ghost use Rattle.std.specs.Prelude.{◌≡◌, ◌≤◌, true, length, take, drop, Ok, All};
-ghost use Rattle.jpg_spec.specs.WrittenFile.{HasBlocksIn};
+ghost use Rattle.jpg_spec_write.specs.WrittenFile.{HasBlocksIn};
 ghost use Rattle.jpg_huff.specs.BitOut.{Puts};
 ghost use Rattle.jpg_prog_write.specs.Bands.{IsBand, IsBandOf};
 ghost use Rattle.jpg_prog_write.specs.Written.{IsScanPlace, IsProgScan, places_bits, first_slot as slot_of};
@@ -34,7 +34,7 @@ pub(crate) fn first_slot(head: &ScanHead) -> u8
     head.parts[0].ac
 }
 
-// The bands of so many places.
+// Writes the bands of a number of places.
 pub(crate) fn put_bands<V: BlockView, D: Desk>(
     view: &V,
     head: &ScanHead,

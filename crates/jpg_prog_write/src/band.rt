@@ -1,16 +1,16 @@
-// A band of a progressive scan, and what is sent of its values (T.81, G.1.2.2, G.1.2.3).
+//! A band of a progressive scan, and what is sent of its values (T.81, G.1.2.2, G.1.2.3).
 ghost use Rattle.std.specs.Prelude.{◌≡◌, ◌<◌, ◌≤◌, ℕ, true, false, length, slice_index_or, pos};
 ghost use Rattle.jpg_spec.specs.Elements.{is_zero};
 ghost use Rattle.jpg_spec.specs.Lists.{any_of};
-ghost use Rattle.jpg_spec.specs.Sending.{sent as sent_of, is_new};
+ghost use Rattle.jpg_spec_write.specs.Sending.{sent as sent_of, is_new};
 ghost use Rattle.jpg_prog_write.specs.Items.{sent_by};
 ghost use Rattle.jpg_prog_write.specs.Bands.{IsBand, IsShort, band_sents, sents, ends_new};
 
 use crate::numbers::{divided, kept_value};
 use jpg_base::Block;
 
-/// The places from `start` up to `end`, the bit `al` down to which their values are sent, and whether those that aren't
-/// 0 so far are refined.
+/// The places from `start` up to `end`, the bit `al` down to which their values are sent, and whether it is a
+/// refinement.
 #[derive(Clone, Copy, Debug, PartialEq, Eq)]
 pub(crate) struct Band {
     pub(crate) start: u8,
@@ -19,11 +19,11 @@ pub(crate) struct Band {
     pub(crate) refines: bool,
 }
 
-/// A correction of a value that isn't 0 so far, or a value that is newly sent, or stays 0.
+/// A correction of a value that was sent before, or a value that is newly sent, or remains 0.
 #[derive(Clone, Copy, Debug, PartialEq, Eq)]
 pub(crate) enum Sending {
     Correction(bool),
-    Newly(i32),
+    NewlySignificant(i32),
 }
 
 impl Band {
@@ -36,22 +36,22 @@ impl Band {
         if self.refines && sent.unsigned_abs() > 1 {
             Sending::Correction(sent.unsigned_abs() % 2 == 1)
         } else {
-            Sending::Newly(sent)
+            Sending::NewlySignificant(sent)
         }
     }
 
     #[inline(always)]
-    pub(crate) fn sends_new(self, value: i16) -> bool
+    pub(crate) fn is_newly_significant(self, value: i16) -> bool
         requires { self.al ≤ 10 }
         ensures { result ≡ is_new (sent_of self.refines self.al value) }
     {
         match self.sent(value) {
             Sending::Correction(_) => false,
-            Sending::Newly(value) => value != 0,
+            Sending::NewlySignificant(value) => value != 0,
         }
     }
 
-    // The block without the values of which nothing is sent: the same is sent of it.
+    // The block with 0 for the values of which nothing is sent: what is sent of it is the same.
     #[inline(always)]
     pub(crate) fn kept(self, block: &Block) -> Block
         requires { self.al ≤ 10 }
@@ -66,7 +66,7 @@ impl Band {
         kept
     }
 
-    // A place up to the end behind which the band has zeros alone.
+    // The place from which on the band has only zeros, at most its end.
     #[inline(always)]
     pub(crate) fn zeros_from(self, block: &Block) -> u8
         requires band { IsBand self }
@@ -78,7 +78,7 @@ impl Band {
         top.min(self.end)
     }
 
-    // The end of the part that ends by the last value that is newly sent, the start where none is.
+    // The place after the last value that is newly sent, the start if there is none.
     pub(crate) fn front_end(self, block: &Block) -> u8
         requires band { IsBand self }
         requires long { length block.now ≡ 64 }
@@ -87,7 +87,7 @@ impl Band {
         ensures none { any_of is_new (sents self result self.end block.now) ≡ false }
     {
         let mut end = self.zeros_from(block);
-        while end > self.start && !self.sends_new(block.get(end - 1)) {
+        while end > self.start && !self.is_newly_significant(block.get(end - 1)) {
             end -= 1;
         }
         end

@@ -1,22 +1,22 @@
-// Bands that are written one after another, element by element (T.81, G.1.2.2, G.1.2.3).
+//! Bands written one after another, element by element (T.81, G.1.2.2, G.1.2.3).
 ghost use Rattle.std.specs.Prelude.{◌≡◌, Bool, ℕ, pos, slice_index_or, ◌+◌, ◌-◌, ◌<◌, ◌≤◌, true, [], ◌++◌, ◌∷◌, List, length, nat_lt, ◌==◌, ◌||◌, IfSome, IfNone};
 ghost use Rattle.jpg_spec.specs.Numbers.{category as category_of};
 ghost use Rattle.jpg_spec.specs.Elements.{ends, is_zero};
-ghost use Rattle.jpg_spec.specs.Sending.{Sent, newly as newly_sent, corrections_of, ended};
+ghost use Rattle.jpg_spec_write.specs.Sending.{Sent, newly_significant as newly_sent, corrections_of, ended_bands};
 ghost use Rattle.jpg_prog_write.specs.Items.{IsItem, sent_by};
 ghost use Rattle.jpg_prog_write.specs.Bands.{IsBand, IsShort, AreMarks, IsReady, sents, ends_new, elements_left, elements_waiting, band_sents, cleared};
-ghost use Rattle.jpg_prog_write.specs.Steps.{IsShortSending, IsStep, IsWhole, IsFirst, Gives, Leaves};
+ghost use Rattle.jpg_prog_write.specs.Steps.{IsShortSending, IsElementStep, IsCompleteElement, IsFirst, GivesElement, LeavesBand};
 
 use crate::band::{Band, Sending};
 use crate::item::{Item, ends_item, long_item, value_item};
 use arrayvec::ArrayVec;
 use jpg_base::Block;
 
-/// Bits that wait for the code of an element.
+/// Correction bits that wait for the code of an element.
 pub(crate) type Waiting = ArrayVec<bool, 1000>;
 
-/// Bands in work: the values of a block from `at` up to `last`, the place behind its last newly sent one, are due, and an
-/// EOB of so many bands waits with its corrections.
+/// The current band and the EOB run before it: the values of a block from `at` up to `last`, the place after its last
+/// newly sent one, are to be written, and an EOB run of a number of bands waits with its corrections.
 #[derive(Drop)]
 pub(crate) struct Bands {
     pub(crate) band: Band,
@@ -29,26 +29,26 @@ pub(crate) struct Bands {
     pub(crate) waiting: Waiting,
 }
 
-// Behind a value, a longer run of zeros or a whole element.
+// The result of a value: a longer run of zeros, or a complete element.
 #[derive(Clone, Copy, Debug, PartialEq, Eq)]
 pub(crate) enum Step {
     Goes(u8),
     Gives(Item),
 }
 
-// An element, and the place behind it.
+// An element, and the place after it.
 #[derive(Clone, Copy, Debug, PartialEq, Eq)]
 pub(crate) struct Whole {
     pub(crate) item: Item,
     pub(crate) at: u8,
 }
 
-// A value that is newly sent, or stays 0, behind a run of zeros.
+// A value that is newly sent, or remains 0, after a run of zeros.
 #[inline(always)]
-fn newly(run: u8, value: i32) -> Step
+fn newly_significant(run: u8, value: i32) -> Step
     requires run { run ≤ 15 }
     requires short { category_of value ≤ 14 }
-    ensures { (bits : List Bool) (later : List Sent) → IsStep run bits (newly_sent value ∷ later) result bits later }
+    ensures { (bits : List Bool) (later : List Sent) → IsElementStep run bits (newly_sent value ∷ later) result bits later }
 {
     if value != 0 {
         Step::Gives(value_item(run, value))
@@ -59,13 +59,13 @@ fn newly(run: u8, value: i32) -> Step
     }
 }
 
-// A value behind a run of zeros and corrections.
+// A value after a run of zeros and corrections.
 #[inline(always)]
 fn pass_value(run: u8, sent: Sending, waiting: &mut Waiting) -> Step
     requires run { run ≤ 15 }
     requires short { IsShortSending sent }
     requires room { length waiting.old.items < 1000 }
-    ensures step { (later : List Sent) → IsStep run waiting.old.items (sent_by sent ∷ later) result waiting.new.items later }
+    ensures step { (later : List Sent) → IsElementStep run waiting.old.items (sent_by sent ∷ later) result waiting.new.items later }
     ensures waits { length waiting.new.items ≤ length waiting.old.items + 1 }
 {
     match sent {
@@ -73,11 +73,11 @@ fn pass_value(run: u8, sent: Sending, waiting: &mut Waiting) -> Step
             waiting.push(bit);
             Step::Goes(run)
         }
-        Sending::Newly(value) => newly(run, value),
+        Sending::NewlySignificant(value) => newly_significant(run, value),
     }
 }
 
-// How many zeros from a place on are passed at once: none at the last place, and up to a run of 15.
+// How many zeros from a place on are skipped at once: none at the last place, and up to a run of 15.
 #[inline(always)]
 fn zeros_ahead(block: &Block, marks: u64, at: u8, last: u8, run: u8) -> u8
     requires marks { AreMarks marks block.now }
@@ -107,7 +107,7 @@ fn value_from(
     requires places { (1 ≤ from) × (from < last) × (last ≤ band.end) }
     requires front { ends_new (sents band from last block.now) ≡ true }
     requires none { waiting.old.items ≡ [] }
-    ensures some { IfSome result (λ w. IsWhole band from last block.now w waiting.new.items) }
+    ensures some { IfSome result (λ w. IsCompleteElement band from last block.now w waiting.new.items) }
     ensures none { IfNone result ⊥ }
 {
     let mut run = 0;
@@ -126,7 +126,7 @@ fn value_from(
     None
 }
 
-// A correction waits.
+// Adds a correction to those that wait.
 #[inline(always)]
 fn wait(sent: Sending, waiting: &mut Waiting)
     requires { length waiting.old.items < 1000 }
@@ -135,11 +135,11 @@ fn wait(sent: Sending, waiting: &mut Waiting)
 {
     match sent {
         Sending::Correction(bit) => waiting.push(bit),
-        Sending::Newly(_) => {}
+        Sending::NewlySignificant(_) => {}
     }
 }
 
-// The corrections from a place up to the end of the band wait.
+// Adds the corrections from a place up to the end of the band to those that wait.
 fn wait_all(band: Band, block: &Block, from: u8, waiting: &mut Waiting)
     requires band { IsBand band }
     requires short { IsShort block.now }
@@ -155,7 +155,7 @@ fn wait_all(band: Band, block: &Block, from: u8, waiting: &mut Waiting)
     }
 }
 
-// The same, of which there are none where nothing is refined.
+// The same; there are none outside refinements.
 #[inline(always)]
 fn wait_rest(band: Band, block: &Block, from: u8, waiting: &mut Waiting)
     requires band { IsBand band }
@@ -169,7 +169,7 @@ fn wait_rest(band: Band, block: &Block, from: u8, waiting: &mut Waiting)
     }
 }
 
-// Whether an EOB of so many bands with so many corrections goes out at once.
+// Whether an EOB run of this many bands with this many corrections is written at once.
 #[inline(always)]
 fn is_full(bands: u16, waiting: usize) -> bool
     ensures { result ≡ (bands == 32767 || nat_lt 937 waiting) }
@@ -178,7 +178,7 @@ fn is_full(bands: u16, waiting: usize) -> bool
 }
 
 impl Bands {
-    /// No band, and no EOB that waits.
+    /// No band, and no EOB run.
     pub(crate) fn new(band: Band) -> Bands
         requires { IsBand band }
         ensures ready { IsReady result }
@@ -211,7 +211,7 @@ impl Bands {
         self.last = self.band.front_end(&kept);
     }
 
-    // The EOB that waits.
+    // The EOB run that waits.
     #[inline(always)]
     fn end_bands(&mut self) -> Item
         requires some { 1 ≤ self.old.bands }
@@ -224,13 +224,13 @@ impl Bands {
         item
     }
 
-    // The next element of the part up to the last newly sent value, where no EOB waits.
+    // The next element of the part up to the last newly sent value, where no EOB run waits.
     #[inline(always)]
     fn next_value(&mut self) -> Option<Item>
         requires ready { IsReady self.old }
         requires some { self.old.at < self.old.last }
         requires none { self.old.bands ≡ 0 }
-        ensures some { IfSome result (λ item. Gives self.old item self.new) }
+        ensures some { IfSome result (λ item. GivesElement self.old item self.new) }
         ensures none { IfNone result ⊥ }
     {
         match value_from(
@@ -249,14 +249,14 @@ impl Bands {
         }
     }
 
-    // The rest of the band joins the EOB that waits, which may be due then.
+    // Adds the rest of the band to the EOB run that waits, and answers the run if it is full then.
     #[inline(always)]
     fn join_rest(&mut self) -> Option<Item>
         requires ready { IsReady self.old }
         requires front { self.old.last ≤ self.old.at }
         requires rest { self.old.last < self.old.band.end }
-        ensures some { IfSome result (λ item. Gives self.old item self.new) }
-        ensures none { IfNone result (Leaves self.old self.new) }
+        ensures some { IfSome result (λ item. GivesElement self.old item self.new) }
+        ensures none { IfNone result (LeavesBand self.old self.new) }
     {
         wait_rest(self.band, &self.block, self.last, &mut self.waiting);
         self.at = self.band.end;
@@ -269,12 +269,13 @@ impl Bands {
         }
     }
 
-    /// The next element of the band and the EOB before it, whose corrections are those that wait now, None where nothing more is due of them.
+    /// The next element of the band, or the EOB run before it, whose corrections are those that wait now; None if
+    /// nothing more is to be written of them.
     #[inline(always)]
     pub(crate) fn next(&mut self) -> Option<Item>
         requires { IsReady self.old }
-        ensures some { IfSome result (λ item. Gives self.old item self.new) }
-        ensures none { IfNone result (Leaves self.old self.new) }
+        ensures some { IfSome result (λ item. GivesElement self.old item self.new) }
+        ensures none { IfNone result (LeavesBand self.old self.new) }
     {
         if self.at < self.last {
             if self.bands > 0 {
@@ -289,11 +290,11 @@ impl Bands {
         }
     }
 
-    /// The EOB that waits behind the last band.
+    /// The EOB run that waits after the last band.
     pub(crate) fn end(&mut self) -> Option<Item>
         requires { IsReady self.old }
-        ensures some { IfSome result (λ item. IsFirst (ended self.old.bands self.old.waiting.items) item self.new.waiting.items []) }
-        ensures none { IfNone result (ended self.old.bands self.old.waiting.items ≡ []) }
+        ensures some { IfSome result (λ item. IsFirst (ended_bands self.old.bands self.old.waiting.items) item self.new.waiting.items []) }
+        ensures none { IfNone result (ended_bands self.old.bands self.old.waiting.items ≡ []) }
     {
         if self.bands > 0 {
             Some(self.end_bands())
@@ -302,7 +303,7 @@ impl Bands {
         }
     }
 
-    /// No corrections wait.
+    /// Drops the corrections that wait.
     pub(crate) fn clear(&mut self)
         ensures { self.new ≡ cleared self.old }
     {

@@ -1,11 +1,11 @@
-// The symbols that a progressive scan writes, counted (T.81, G.1.2).
+//! The symbols that a progressive scan writes, counted (T.81, G.1.2).
 ghost use Rattle.std.specs.Prelude.{◌≡◌, ◌<◌, ◌≤◌, [], ◌∷◌, true, length, take, drop, List, All};
 ghost use Rattle.jpg_spec.specs.Scan.{part_of as part_in};
-ghost use Rattle.jpg_spec.specs.Sending.{Sent, ended};
-ghost use Rattle.jpg_spec.specs.WrittenFile.{HasBlocksIn};
+ghost use Rattle.jpg_spec_write.specs.Sending.{Sent, ended_bands};
+ghost use Rattle.jpg_spec_write.specs.WrittenFile.{HasBlocksIn};
 ghost use Rattle.jpg_prog_write.specs.Bands.{IsReady, elements_left, elements_waiting};
 ghost use Rattle.jpg_prog_write.specs.Written.{IsProgScan, IsScanPlace, dc_unit};
-ghost use Rattle.jpg_prog_write.specs.Counted.{HasSlots, CountsClass, AreRows, Notes, NotesBut, marks_of, owned_marks, places_marks, no_rows, scan_marks};
+ghost use Rattle.jpg_prog_write.specs.Counted.{HasSlots, CountsClass, AreCountedRows, Notes, NotesBut, marks_of, owned_marks, places_marks, no_counted_rows, scan_marks};
 
 use crate::ac::{band_of, first_slot};
 use crate::bands::Bands;
@@ -27,14 +27,14 @@ pub struct Used {
 type Rows = [[bool; 256]; 2];
 
 fn no_marks() -> Rows
-    ensures { result ≡ no_rows }
+    ensures { result ≡ no_counted_rows }
 {
     [[false; 256]; 2]
 }
 
 #[inline(always)]
 fn mark(rows: &mut Rows, slot: u8, symbol: u8)
-    requires rows { AreRows rows.old }
+    requires rows { AreCountedRows rows.old }
     requires slot { slot < 2 }
     requires small { symbol < 255 }
     ensures { Notes rows.old ((slot, symbol) ∷ []) rows.new }
@@ -42,10 +42,10 @@ fn mark(rows: &mut Rows, slot: u8, symbol: u8)
     rows[slot as usize][symbol as usize] = true;
 }
 
-// All of a band that is begun, but for the EOB that waits then.
+// Counts all of a band that is begun, except for the EOB run that waits then.
 fn count_band(bands: &mut Bands, slot: u8, rows: &mut Rows)
     requires ready { IsReady bands.old }
-    requires rows { AreRows rows.old }
+    requires rows { AreCountedRows rows.old }
     requires slot { slot < 2 }
     ensures ready { IsReady bands.new }
     ensures band { bands.new.band ≡ bands.old.band }
@@ -57,12 +57,12 @@ fn count_band(bands: &mut Bands, slot: u8, rows: &mut Rows)
     }
 }
 
-// The EOB that waits behind the last band.
+// Counts the EOB run that waits after the last band.
 fn count_end(bands: &mut Bands, slot: u8, rows: &mut Rows)
     requires ready { IsReady bands.old }
-    requires rows { AreRows rows.old }
+    requires rows { AreCountedRows rows.old }
     requires slot { slot < 2 }
-    ensures { Notes rows.old (marks_of slot (ended bands.old.bands bands.old.waiting.items)) rows.new }
+    ensures { Notes rows.old (marks_of slot (ended_bands bands.old.bands bands.old.waiting.items)) rows.new }
 {
     match bands.end() {
         Some(item) => mark(rows, slot, item.symbol),
@@ -70,7 +70,7 @@ fn count_end(bands: &mut Bands, slot: u8, rows: &mut Rows)
     }
 }
 
-// The bands of so many places.
+// Counts the bands of a number of places.
 fn count_bands<V: BlockView>(
     view: &V,
     head: &ScanHead,
@@ -84,7 +84,7 @@ fn count_bands<V: BlockView>(
     requires blocks { HasBlocksIn (V.numbers view.now) (V.blocks view.now) }
     requires places { All (IsScanPlace (V.numbers view.now) head.now) cursor.old }
     requires enough { count ≤ length cursor.old }
-    requires rows { AreRows rows.old }
+    requires rows { AreCountedRows rows.old }
     ensures notes { Notes rows.old (places_marks head.now (V.blocks view.now) (take count cursor.old)) rows.new }
     ensures left { cursor.new ≡ drop count cursor.old }
 {
@@ -99,13 +99,13 @@ fn count_bands<V: BlockView>(
     count_end(&mut bands, slot, rows);
 }
 
-// The DC difference of a unit behind another of its component, in a first pass.
+// Counts the DC difference of a unit after another of its component, in a first pass.
 #[inline(always)]
 fn count_unit(head: &ScanHead, component: u8, last: i16, value: i16, rows: &mut Rows)
     requires bits { head.now.al ≤ 10 }
     requires first { head.now.ah ≡ 0 }
     requires slot { (part_in head.now component).dc < 2 }
-    requires rows { AreRows rows.old }
+    requires rows { AreCountedRows rows.old }
     ensures { Notes rows.old (owned_marks head.now (dc_unit head.now component last value)) rows.new }
 {
     let part = part_of(head, component);
@@ -114,7 +114,7 @@ fn count_unit(head: &ScanHead, component: u8, last: i16, value: i16, rows: &mut 
     mark(rows, part.dc, category(difference(value, prediction)));
 }
 
-// The DC differences of so many places, in a first pass.
+// Counts the DC differences of a number of places, in a first pass.
 fn count_units<V: BlockView>(
     view: &V,
     head: &ScanHead,
@@ -129,7 +129,7 @@ fn count_units<V: BlockView>(
     requires four { length (V.numbers view.now).components ≤ 4 }
     requires places { All (IsScanPlace (V.numbers view.now) head.now) cursor.old }
     requires enough { count ≤ length cursor.old }
-    requires rows { AreRows rows.old }
+    requires rows { AreCountedRows rows.old }
     ensures notes { Notes rows.old (places_marks head.now (V.blocks view.now) (take count cursor.old)) rows.new }
     ensures left { cursor.new ≡ drop count cursor.old }
 {
@@ -144,7 +144,7 @@ fn count_units<V: BlockView>(
     }
 }
 
-// The units of so many places.
+// Counts the units of a number of places.
 fn count_places<V: BlockView>(
     view: &V,
     head: &ScanHead,
@@ -159,7 +159,7 @@ fn count_places<V: BlockView>(
     requires four { length (V.numbers view.now).components ≤ 4 }
     requires places { All (IsScanPlace (V.numbers view.now) head.now) cursor.old }
     requires enough { count ≤ length cursor.old }
-    requires rows { AreRows rows.old }
+    requires rows { AreCountedRows rows.old }
     ensures notes { Notes rows.old (places_marks head.now (V.blocks view.now) (take count cursor.old)) rows.new }
     ensures left { cursor.new ≡ drop count cursor.old }
 {
@@ -176,7 +176,7 @@ fn count_rows<V: BlockView>(view: &V, head: &ScanHead, interval: u16) -> Rows
     requires first { head.now.ss ≡ 0 → head.now.ah ≡ 0 }
     requires slots { All HasSlots head.now.parts }
     requires blocks { HasBlocksIn (V.numbers view.now) (V.blocks view.now) }
-    ensures { Notes no_rows (scan_marks (V.numbers view.now) head.now interval (V.blocks view.now)) result }
+    ensures { Notes no_counted_rows (scan_marks (V.numbers view.now) head.now interval (V.blocks view.now)) result }
 {
     let frame = view.frame();
     frame.checked();
@@ -192,9 +192,9 @@ fn count_rows<V: BlockView>(view: &V, head: &ScanHead, interval: u16) -> Rows
     rows
 }
 
-/// The symbols that `write_scan` writes of this scan, by class and slot: none of a class that the scan has no codes of. The
-/// header names one to four components of the frame, with a band and bits that are allowed and slots 0 or 1; all values lie
-/// in the bounds of precision 8. No memory is taken.
+/// The symbols that `write_scan` writes of this scan, by class and slot: none of a class that the scan has no codes of.
+/// The header names one to four components of the frame, with a band and bits that are allowed and slots 0 or 1; all
+/// values are in the range of precision 8. It takes no memory.
 pub fn count_scan<V: BlockView>(view: &V, head: &ScanHead, interval: u16) -> Used
     requires scan { IsProgScan (V.numbers view.now) head.now }
     requires slots { All HasSlots head.now.parts }

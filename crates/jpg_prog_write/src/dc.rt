@@ -1,9 +1,10 @@
-// DC values of a progressive scan, put unit by unit (T.81, G.1.2.1).
+//! DC values of a progressive scan, put unit by unit (T.81, G.1.2.1).
 ghost use Rattle.std.specs.Prelude.{◌≡◌, ◌≤◌, ◌≤ℤ◌, ◌++◌, true, length, take, drop, pos, negsuc, Ok, All, ◌-ℤ◌};
 ghost use Rattle.jpg_spec.specs.Geometry.{IsReal};
 ghost use Rattle.jpg_spec.specs.Numbers.{category as category_of, extra_bits as extra_of};
 ghost use Rattle.jpg_spec.specs.Scan.{part_of as part_in};
-ghost use Rattle.jpg_spec.specs.ScanText.{code_of, element_bits};
+ghost use Rattle.jpg_spec.specs.Codes.{code_of};
+ghost use Rattle.jpg_spec_write.specs.ScanText.{element_bits};
 ghost use Rattle.jpg_huff.specs.BitOut.{Puts};
 ghost use Rattle.jpg_prog_write.specs.Written.{IsScanPlace, IsProgScan, block_due, codes_in, tables_in, places_bits, dc_unit};
 
@@ -29,7 +30,7 @@ pub(crate) fn part_of(head: &ScanHead, component: u8) -> ScanPart
     }
 }
 
-// The block that is written at a place of the scan, behind this DC value of its component.
+// The block that is written at a place of the scan, after this DC value of its component.
 #[inline(always)]
 pub(crate) fn due<V: BlockView>(view: &V, place: Place, last: i16) -> Block
     requires { place.real ≡ true → IsReal (V.numbers view.now) place.component place.x place.y }
@@ -52,7 +53,7 @@ pub(crate) fn difference(value: i16, prediction: i16) -> i32
     i32::from(value) - i32::from(prediction)
 }
 
-// A difference, by the DC table in a slot.
+// Writes a difference, by the DC table in a slot.
 #[inline(always)]
 fn put_difference<D: Desk>(
     tables: &TableSet,
@@ -70,7 +71,7 @@ fn put_difference<D: Desk>(
     out.put_code(code, extra_bits(value), size, desk)
 }
 
-// The DC value of a unit behind another of its component.
+// Writes the DC value of a unit after another of its component.
 #[inline(always)]
 fn put_unit<D: Desk>(
     head: &ScanHead,
@@ -95,7 +96,7 @@ fn put_unit<D: Desk>(
     }
 }
 
-// The units of so many places, with predictions from 0.
+// Writes the units of a number of places, with predictions from 0.
 pub(crate) fn put_units<V: BlockView, D: Desk>(
     view: &V,
     head: &ScanHead,

@@ -1,4 +1,4 @@
-// What is written of an element of a band, before its corrections (T.81, G.1.2.2, G.1.2.3).
+//! What is written of an element of a band, before its corrections (T.81, G.1.2.2, G.1.2.3).
 ghost use Rattle.std.specs.Prelude.{◌≡◌, ◌≤◌, ◌<◌, List, Bool, pos};
 ghost use Rattle.jpg_spec.specs.Numbers.{category as category_of};
 ghost use Rattle.jpg_spec.specs.Elements.{value as value_element, long_run as long_element, ends as ends_element};
@@ -6,7 +6,7 @@ ghost use Rattle.jpg_prog_write.specs.Items.{IsItem};
 
 use jpg_huff::{category, extra_bits};
 
-/// A symbol, whose code stands first, and a number below `2^size` as so many bits behind it.
+/// A symbol, whose code is first, and a number below `2^size` as `size` bits after it.
 #[derive(Clone, Copy, Debug, PartialEq, Eq)]
 pub(crate) struct Item {
     pub(crate) symbol: u8,
@@ -14,7 +14,7 @@ pub(crate) struct Item {
     pub(crate) size: u8,
 }
 
-// A value behind a run of zeros.
+// A value after a run of zeros.
 #[inline(always)]
 pub(crate) fn value_item(run: u8, value: i32) -> Item
     requires run { run ≤ 15 }
@@ -41,7 +41,7 @@ pub(crate) fn long_item() -> Item
     }
 }
 
-// The end of so many bands.
+// The end of this many bands.
 pub(crate) fn ends_item(bands: u16) -> Item
     requires some { 1 ≤ bands }
     requires few { bands ≤ 32767 }

@@ -1,4 +1,4 @@
-//! Progressive scans, counted and written (T.81, G.1.2).
+//! Progressive scans: their symbols counted, and their data written (T.81, G.1.2).
 #![tactic(auto)]
 
 mod ac;

@@ -1,9 +1,9 @@
-// What is sent of a value down to a bit (T.81, G.1.2.1, G.1.2.2).
+//! What is sent of a value down to a bit (T.81, G.1.2.1, G.1.2.2).
 ghost use Rattle.std.specs.Prelude.{◌≡◌, ◌≤◌, ◌%◌, ◌==◌, nat_abs};
-ghost use Rattle.jpg_spec.specs.Sending.{shifted, divided};
+ghost use Rattle.jpg_spec_write.specs.Sending.{shifted, divided};
 ghost use Rattle.jpg_prog_write.specs.Bands.{kept_of};
 
-// A DC value without its low bits.
+// A DC value shifted right by `al` bits.
 #[inline(always)]
 pub(crate) fn shifted(value: i16, al: u8) -> i16
     requires { al ≤ 10 }
@@ -12,7 +12,7 @@ pub(crate) fn shifted(value: i16, al: u8) -> i16
     value >> al
 }
 
-// An AC value whose magnitude is without its low bits.
+// An AC value divided by `2 ^ al`, towards 0.
 #[inline(always)]
 pub(crate) fn divided(value: i16, al: u8) -> i32
     requires { al ≤ 10 }
@@ -22,7 +22,7 @@ pub(crate) fn divided(value: i16, al: u8) -> i32
     if value < 0 { -magnitude } else { magnitude }
 }
 
-// The value, or 0 where its magnitude is 0 without its low bits.
+// The value, or 0 if its magnitude is 0 without its low bits.
 #[inline(always)]
 pub(crate) fn kept_value(value: i16, al: u8) -> i16
     requires { al ≤ 10 }

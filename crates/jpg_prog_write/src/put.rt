@@ -1,9 +1,9 @@
-// The bits of elements, put one after another (T.81, G.1.2).
+//! The bits of elements, put one after another (T.81, G.1.2).
 ghost use Rattle.std.specs.Prelude.{◌≡◌, length, ◌<◌, ◌≤◌, ◌^◌, ◌∷◌, [], Ok, true};
 ghost use Rattle.jpg_spec.specs.Bits.{bits_of};
 ghost use Rattle.jpg_spec.specs.Elements.{Element};
-ghost use Rattle.jpg_spec.specs.ScanText.{code_of};
-ghost use Rattle.jpg_spec.specs.Sending.{ended};
+ghost use Rattle.jpg_spec.specs.Codes.{code_of};
+ghost use Rattle.jpg_spec_write.specs.Sending.{ended_bands};
 ghost use Rattle.jpg_huff.specs.BitOut.{Puts};
 ghost use Rattle.jpg_prog_write.specs.Items.{IsItem, spelled, texts};
 ghost use Rattle.jpg_prog_write.specs.Bands.{IsReady};
@@ -15,7 +15,7 @@ use crate::item::Item;
 use jpg_base::{Desk, WriteFault};
 use jpg_huff::{BitOut, Code, TableSet};
 
-// What is written for a symbol by the AC table in a slot, no bits where there is none.
+// What is written for a symbol by the AC table in a slot, no bits if there is none.
 #[inline(always)]
 fn ac_code(tables: &TableSet, slot: u8, symbol: u8) -> Code
     ensures first { bits_of result.length result.bits ≡ code_of (codes_in tables.now 1 slot) symbol }
@@ -39,7 +39,7 @@ pub(crate) fn dc_code(tables: &TableSet, slot: u8, symbol: u8) -> Code
     }
 }
 
-// One bit.
+// Writes one bit.
 #[inline(always)]
 pub(crate) fn put_bit<D: Desk>(bit: bool, out: &mut BitOut, desk: &mut D) -> Result<(), WriteFault>
     requires { (D.state desk.old).output_created ≡ true }
@@ -65,7 +65,7 @@ fn number_of(bits: &[bool]) -> u32
     number
 }
 
-// Bits, at most 16 at once.
+// Writes bits, at most 16 at once.
 fn put_bits<D: Desk>(bits: &[bool], out: &mut BitOut, desk: &mut D) -> Result<(), WriteFault>
     requires { (D.state desk.old).output_created ≡ true }
     ensures { Puts (D.state desk.old) out.old bits.now result out.new (D.state desk.new) }
@@ -80,7 +80,7 @@ fn put_bits<D: Desk>(bits: &[bool], out: &mut BitOut, desk: &mut D) -> Result<()
     Ok(())
 }
 
-// An element of a band with its corrections, by the AC table in a slot.
+// Writes an element of a band with its corrections, by the AC table in a slot.
 #[inline(always)]
 fn put_item<D: Desk>(
     tables: &TableSet,
@@ -99,7 +99,7 @@ fn put_item<D: Desk>(
     put_bits(bits, out, desk)
 }
 
-// All of a band that is begun, but for the EOB that waits then.
+// Writes all of a band that is begun, except for the EOB run that waits then.
 pub(crate) fn put_band<D: Desk>(
     bands: &mut Bands,
     tables: &TableSet,
@@ -124,7 +124,7 @@ pub(crate) fn put_band<D: Desk>(
     }
 }
 
-// The EOB that waits behind the last band.
+// Writes the EOB run that waits after the last band.
 pub(crate) fn put_end<D: Desk>(
     bands: &mut Bands,
     tables: &TableSet,
@@ -134,7 +134,7 @@ pub(crate) fn put_end<D: Desk>(
 ) -> Result<(), WriteFault>
     requires ready { IsReady bands.old }
     requires created { (D.state desk.old).output_created ≡ true }
-    ensures { Puts (D.state desk.old) out.old (texts (codes_in tables.now 1 slot) (ended bands.old.bands bands.old.waiting.items)) result out.new (D.state desk.new) }
+    ensures { Puts (D.state desk.old) out.old (texts (codes_in tables.now 1 slot) (ended_bands bands.old.bands bands.old.waiting.items)) result out.new (D.state desk.new) }
 {
     match bands.end() {
         Some(item) => put_item(tables, slot, item, bands.waiting.as_slice(), out, desk),

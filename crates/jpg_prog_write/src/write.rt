@@ -1,6 +1,6 @@
-// The data of a progressive scan, written (T.81, G.1.2, E.1.4).
+//! The data of a progressive scan, written (T.81, G.1.2, E.1.4).
 ghost use Rattle.std.specs.Prelude.{◌≡◌, ◌≤◌, ◌==◌, if◌then◌else◌, Ok, true, All, length, take, drop};
-ghost use Rattle.jpg_spec.specs.WrittenFile.{HasBlocksIn};
+ghost use Rattle.jpg_spec_write.specs.WrittenFile.{HasBlocksIn};
 ghost use Rattle.jpg_huff.specs.BitOut.{CanSend, Puts, Sends};
 ghost use Rattle.jpg_prog_write.specs.Written.{IsProgScan, IsScanPlace, places_bits, places_data, written_data};
 
@@ -10,7 +10,7 @@ use jpg_base::{Cursor, Desk, ScanHead, WriteFault};
 use jpg_coefs::BlockView;
 use jpg_huff::{BitOut, TableSet};
 
-// The units of so many places.
+// Writes the units of a number of places.
 fn put_places<V: BlockView, D: Desk>(
     view: &V,
     head: &ScanHead,
@@ -36,7 +36,7 @@ fn put_places<V: BlockView, D: Desk>(
     }
 }
 
-// An interval of so many units: their bits, padded with ones.
+// Writes an interval of a number of units: their bits, padded with ones.
 fn write_interval<V: BlockView, D: Desk>(
     view: &V,
     head: &ScanHead,
@@ -59,12 +59,12 @@ fn write_interval<V: BlockView, D: Desk>(
     out.pad(desk)
 }
 
-/// Writes the data of a progressive scan of a picture (T.81, G.1.2 and E.1.4): DC values or a band of one component, in a
-/// first pass or refined, by these tables, with a restart marker behind each `interval` MCUs (0: none), each interval padded
-/// with ones. A padding block has the DC value of the one before it of its component, and no other. The header names one to
-/// four components of the frame, with a band and bits that are allowed; a symbol without a code is written as no bits; all
-/// values lie in the bounds of precision 8; an output is created, and no bits wait, neither before nor afterwards. After a
-/// fault a first part of the data has gone out. No memory is taken.
+/// Writes the data of a progressive scan of a picture (T.81, G.1.2 and E.1.4): DC values or a band of one component, in
+/// a first pass or refined, by these tables, with a restart marker after each `interval` MCUs (0: none), each interval
+/// padded with ones. A padding block has the DC value of the block before it of its component, and no AC values. The
+/// header names one to four components of the frame, with a band and bits that are allowed; a symbol without a code is
+/// written as no bits; all values are in the range of precision 8; an output is created, and no bits wait, neither
+/// before nor afterwards. After a fault a first part of the data is written. It takes no memory.
 pub fn write_scan<V: BlockView, D: Desk>(
     view: &V,
     head: &ScanHead,
@@ -96,7 +96,7 @@ pub fn write_scan<V: BlockView, D: Desk>(
     }
 }
 
-// How many units an interval has, of which 0 are all of them.
+// How many units an interval has: all of them for 0.
 pub(crate) fn each_interval(units: u64, all: u64) -> u64
     requires { 1 ≤ all }
     ensures { (1 ≤ result) × (result ≡ (if units == 0 then all else units)) }

@@ -4,7 +4,7 @@ use Rattle.std.proofs.lemmas.Bool.Decides.{nat_tests}
 use Rattle.std.proofs.lemmas.List.{take_more_set, take_more, take_all, length-set, append_assoc, append-nil}
 use Rattle.std.proofs.lemmas.Grind.{flat_map-append}
 use Rattle.jpg_spec.specs.Lists.{below}
-use Rattle.jpg_spec.specs.Upsampling.{left_of, right_of, column_sum, left_of2, right_of2, repeat_row}
+use Rattle.jpg_spec_image.specs.Upsampling.{left_of, right_of, column_sum, left_of2, right_of2, repeat_row}
 
 pub two : {a b a' b' : ℕ} → a ≡ a' → b ≡ b' → ◌≡◌ {A = List ℕ} (a ∷ b ∷ []) (a' ∷ b' ∷ [])
 two {a} {b} {a'} {b'} ea eb = ap (λ (x : ℕ). (let l : List ℕ = x ∷ b ∷ [] in l)) ea ∙ ap (λ (x : ℕ). (let l : List ℕ = a' ∷ x ∷ [] in l)) eb
@@ -33,7 +33,7 @@ pub mixed_is : (near far : List ℕ) (i j c d m r : ℕ) → c ≡ column_sum ne
     → r ≡ (3 * column_sum near far i + column_sum near far j + m) / 16
 mixed_is near far i j c d m r ec ed e = e ∙ ap (λ x. (3 * x + d + m) / 16) ec ∙ ap (λ x. (3 * column_sum near far i + x + m) / 16) ed
 
--- the same number once and three times more
+-- 3c + c is 4c
 pub four_times : (c more : ℕ) → (3 * c + c + more) / 16 ≡ (4 * c + more) / 16
 four_times c more = ap (λ n. n / 16) (omega arith)
 

@@ -1,4 +1,4 @@
--- Sums that are added up one after another, and means of them.
+-- Sums that are accumulated, and means of them.
 use Rattle.std.proofs.Common.{◌≡◌, ℕ, zero, suc, ◌+◌, ◌-◌, ◌*◌, ◌/◌, ◌%◌, ◌<◌, ◌≤◌, min, List, [], ◌∷◌, ◌++◌, length, take, set, slice_index, map, add-one, refl, sym, ap, ◌∙◌, arith, ⊎_elim, Bool}
 use Rattle.std.specs.Prelude.{sum_by, nat_lt, if◌then◌else◌}
 use Rattle.std.proofs.lemmas.Bool.{cases_lt}
@@ -6,7 +6,7 @@ use Rattle.std.proofs.lemmas.Nat.{div_below, mul-le}
 use Rattle.std.proofs.lemmas.List.{take_more_set, take_all, map-append, length-take-le, get_or-take, get_or-map}
 use Rattle.std.proofs.lemmas.List.Sums.{sum_by-append}
 use Rattle.jpg_spec.specs.Lists.{below}
-use Rattle.jpg_spec.specs.Downsampling.{mean_of, edge_repeated, in_rows, sum_under, narrowed, down_rows}
+use Rattle.jpg_spec_image.specs.Downsampling.{mean_of, edge_repeated, in_rows, sum_under, downsampled, down_rows}
 use Rattle.jpg_spec.proofs.Common.{lt_yes, lt_no, length_below}
 use Rattle.jpg_spec.proofs.Rows.{by_items, at_below}
 use Rattle.jpg_sample.specs.Means.{row_part, block_part, quarter_at, quarter_of}
@@ -44,24 +44,24 @@ under_is rows width across down x some wide =
     ap (λ m. slice_index rows (v * width + m)) (first_alike x width across u some wide) ∙ ap (λ w. slice_index rows (w * width + min (across * x + u) (width - 1))) (sym e))))
 
 pub one_mean : (rows : List ℕ) (width across down x first sum r : ℕ) → 1 ≤ across → 1 ≤ width → first ≡ (if nat_lt x width then across * x else width)
-    → sum ≡ block_part rows width across down first → r ≡ mean_of across down x sum → r ≡ narrowed across down (edge_repeated width down (in_rows width rows)) x 0
+    → sum ≡ block_part rows width across down first → r ≡ mean_of across down x sum → r ≡ downsampled across down (edge_repeated width down (in_rows width rows)) x 0
 one_mean rows width across down x first sum r some wide ef es er =
     er ∙ ap (mean_of across down x) (es ∙ ap (block_part rows width across down) ef ∙ under_is rows width across down x some wide)
 
--- one sample more of the row
+-- one more sample of the row
 pub mean_more : (f : ℕ → ℕ) (out : List ℕ) (x r : ℕ) → x < length out → take x out ≡ map f (below x) → r ≡ f x → take (x + 1) (set out x r) ≡ map f (below (x + 1))
 mean_more f out x r lt e is =
     take_more_set out x r lt ∙ ap (λ ys. ys ++ r ∷ []) e ∙ ap (λ y. map f (below x) ++ y ∷ []) is ∙ sym (map-append f (below x) (x ∷ [])) ∙ ap (λ m. map f (below m)) (sym (add-one x))
 
 pub row_done : (across down width : ℕ) (rows out : List ℕ) (x n : ℕ) → length out ≡ n → x ≡ n
-    → take x out ≡ map (λ k. narrowed across down (edge_repeated width down (in_rows width rows)) k 0) (below x) → out ≡ down_rows across down width rows n
+    → take x out ≡ map (λ k. downsampled across down (edge_repeated width down (in_rows width rows)) k 0) (below x) → out ≡ down_rows across down width rows n
 unfolding down_rows
 row_done across down width rows out x n long is e =
-    sym (take_all x out (omega (arith, long, is))) ∙ e ∙ ap (λ m. map (λ k. narrowed across down (edge_repeated width down (in_rows width rows)) k 0) (below m)) is
+    sym (take_all x out (omega (arith, long, is))) ∙ e ∙ ap (λ m. map (λ k. downsampled across down (edge_repeated width down (in_rows width rows)) k 0) (below m)) is
 
 -- what was made of them before
 pub row_made : (across down width : ℕ) (rows out : List ℕ) (n : ℕ) → take n out ≡ down_rows across down width rows n
-    → take n out ≡ map (λ k. narrowed across down (edge_repeated width down (in_rows width rows)) k 0) (below n)
+    → take n out ≡ map (λ k. downsampled across down (edge_repeated width down (in_rows width rows)) k 0) (below n)
 unfolding down_rows
 row_made across down width rows out n e = e
 
@@ -84,7 +84,7 @@ all_count across down count e = (let m : 255 * across * down ≡ 255 * (across *
 -- the mean of four whose columns are there
 pub quarter_is : (rows : List ℕ) (width x r : ℕ) → 2 * x + 1 < width
     → r ≡ (slice_index rows (2 * x) + slice_index rows (2 * x + 1) + (slice_index rows (width + 2 * x) + slice_index rows (width + 2 * x + 1)) + (1 + x % 2)) / 4
-    → r ≡ narrowed 2 2 (edge_repeated width 2 (in_rows width rows)) x 0
+    → r ≡ downsampled 2 2 (edge_repeated width 2 (in_rows width rows)) x 0
 quarter_is rows width x r there er =
     let plane : ℕ → ℕ → ℕ = edge_repeated width 2 (in_rows width rows) in
     let e00 : plane (2 * x + 0) 0 ≡ slice_index rows (2 * x) = ap (slice_index rows) (omega (arith, there)) in
@@ -95,12 +95,12 @@ quarter_is rows width x r there er =
     er ∙ sym (ap (λ n. (n + (1 + x % 2)) / 4) s)
 
 pub quarter_as : (rows : List ℕ) (width x a b c d r : ℕ) → 2 * x + 1 < width → a ≡ slice_index rows (2 * x) → b ≡ slice_index rows (2 * x + 1) → c ≡ slice_index rows (width + 2 * x) → d ≡ slice_index rows (width + 2 * x + 1)
-    → r ≡ (a + b + (c + d) + (1 + x % 2)) / 4 → r ≡ narrowed 2 2 (edge_repeated width 2 (in_rows width rows)) x 0
+    → r ≡ (a + b + (c + d) + (1 + x % 2)) / 4 → r ≡ downsampled 2 2 (edge_repeated width 2 (in_rows width rows)) x 0
 quarter_as rows width x a b c d r there ea eb ec ed er =
     quarter_is rows width x r there (er ∙ ap (λ n. (n + (1 + x % 2)) / 4) (omega (arith, ea, eb, ec, ed)))
 
--- one sample alone
-single_is : (rows : List ℕ) (width x : ℕ) → x < width → narrowed 1 1 (edge_repeated width 1 (in_rows width rows)) x 0 ≡ slice_index rows x
+-- only one sample
+single_is : (rows : List ℕ) (width x : ℕ) → x < width → downsampled 1 1 (edge_repeated width 1 (in_rows width rows)) x 0 ≡ slice_index rows x
 single_is rows width x there =
     let plane : ℕ → ℕ → ℕ = edge_repeated width 1 (in_rows width rows) in
     let e : plane (1 * x + 0) 0 ≡ slice_index rows x = ap (slice_index rows) (omega (arith, there)) in
@@ -111,12 +111,12 @@ single_is rows width x there =
 pub copy_is : (rows : List ℕ) (width n : ℕ) → n ≤ width → length rows ≡ width → take n rows ≡ down_rows 1 1 width rows n
 unfolding down_rows
 copy_is rows width n few long =
-    sym (by_items n (λ x. narrowed 1 1 (edge_repeated width 1 (in_rows width rows)) x 0) (take n rows) 0 (length-take-le n rows (omega (arith, few, long)))
+    sym (by_items n (λ x. downsampled 1 1 (edge_repeated width 1 (in_rows width rows)) x 0) (take n rows) 0 (length-take-le n rows (omega (arith, few, long)))
     (λ i h. single_is rows width i (omega (arith, h, few)) ∙ sym (get_or-take n rows i 0 h)))
 
 -- the mean of two whose columns are there
 pub half_as : (rows : List ℕ) (width x a b r : ℕ) → 2 * x + 1 < width → a ≡ slice_index rows (2 * x) → b ≡ slice_index rows (2 * x + 1) → r ≡ (a + b + x % 2) / 2
-    → r ≡ narrowed 2 1 (edge_repeated width 1 (in_rows width rows)) x 0
+    → r ≡ downsampled 2 1 (edge_repeated width 1 (in_rows width rows)) x 0
 half_as rows width x a b r there ea eb er =
     let plane : ℕ → ℕ → ℕ = edge_repeated width 1 (in_rows width rows) in
     let e0 : plane (2 * x + 0) 0 ≡ slice_index rows (2 * x) = ap (slice_index rows) (omega (arith, there)) in

@@ -1,7 +1,7 @@
--- The samples that stand under one, by the first column under it.
+-- The samples that are averaged to one, by their first column.
 use Rattle.std.specs.Prelude.{ℕ, ◌+◌, ◌-◌, ◌*◌, ◌/◌, ◌%◌, min, List, sum_by, slice_index}
 use Rattle.jpg_spec.specs.Lists.{below}
-use Rattle.jpg_spec.specs.Downsampling.{edge_repeated, in_rows, narrowed}
+use Rattle.jpg_spec_image.specs.Downsampling.{edge_repeated, in_rows, downsampled}
 
 -- of row v, the last column repeated
 abbrev pub row_part : List ℕ → ℕ → ℕ → ℕ → ℕ → ℕ
@@ -18,4 +18,4 @@ quarter_at upper lower k =
 
 -- that of column x of two rows
 abbrev pub quarter_of : List ℕ → ℕ → ℕ → ℕ
-quarter_of rows width x = narrowed 2 2 (edge_repeated width 2 (in_rows width rows)) x 0
+quarter_of rows width x = downsampled 2 2 (edge_repeated width 2 (in_rows width rows)) x 0

@@ -1,4 +1,4 @@
-//! Rows of samples made wider (release 6b's upsampling).
+//! Rows of samples upsampled and downsampled (as by release 6b).
 #![tactic(auto)]
 
 mod narrow;

@@ -1,7 +1,7 @@
-// Rows of samples made narrower and lower: each sample is the mean of those that it stands for (release 6b's downsampling).
+//! Rows of samples downsampled: each sample is the mean of those in its place (release 6b's downsampling).
 ghost use Rattle.std.specs.Prelude.{◌≡◌, ◌+◌, ◌-◌, ◌*◌, ◌/◌, ◌≤◌, ◌<◌, ℕ, min, nat_lt, if◌then◌else◌, length, map, slice_index, take};
 ghost use Rattle.jpg_spec.specs.Lists.{below};
-ghost use Rattle.jpg_spec.specs.Downsampling.{mean_of, down_rows};
+ghost use Rattle.jpg_spec_image.specs.Downsampling.{mean_of, down_rows};
 ghost use Rattle.jpg_sample.specs.Means.{row_part, block_part, quarter_at, quarter_of};
 
 use crate::Ratio;
@@ -14,7 +14,7 @@ const ODDS: [usize; 8] = [1, 3, 5, 7, 9, 11, 13, 15];
 // What is added before the quarter is taken.
 const HALVES: [u16; 8] = [1, 2, 1, 2, 1, 2, 1, 2];
 
-// Tells that a sample fits its type. It does nothing.
+// States, for proofs, that a sample fits its type. It does nothing.
 #[inline(always)]
 fn fits(sample: u8)
     ensures { sample < 256 }
@@ -22,7 +22,7 @@ fn fits(sample: u8)
     let _ = sample;
 }
 
-// Tells that all samples fit their type. It does nothing.
+// States, for proofs, that all samples fit their type. It does nothing.
 #[inline(always)]
 fn all_fit(samples: &[u8])
     requires { length samples.now ≡ 16 }
@@ -33,7 +33,7 @@ fn all_fit(samples: &[u8])
     }
 }
 
-// The place of a column, or of the last one.
+// The index of a column, or of the last one for columns after it.
 #[inline(always)]
 fn column(x: usize, width: usize) -> usize
     requires { 1 ≤ width }
@@ -43,7 +43,7 @@ fn column(x: usize, width: usize) -> usize
     if x < width { x } else { width - 1 }
 }
 
-// Samples of row v from column `first` on, added up.
+// The sum of the samples of row v that are averaged, from column `first` on.
 #[inline(always)]
 fn row_sum(rows: &[u8], width: usize, across: usize, v: usize, first: usize) -> u32
     requires some { 1 ≤ width }
@@ -60,7 +60,7 @@ fn row_sum(rows: &[u8], width: usize, across: usize, v: usize, first: usize) -> 
     sum
 }
 
-// The samples that stand under one, added up.
+// The sum of the samples that are averaged to one.
 #[inline(always)]
 fn block_sum(rows: &[u8], width: usize, across: usize, down: usize, first: usize) -> u32
     requires some { 1 ≤ width }
@@ -76,7 +76,7 @@ fn block_sum(rows: &[u8], width: usize, across: usize, down: usize, first: usize
     sum
 }
 
-// Halves are rounded down and up by turns, and so are quarters.
+// Halves are rounded down and up alternately, and so are quarters.
 #[inline(always)]
 fn half(sum: u32, odd: u32) -> u8
     requires { (sum ≤ 510) × (odd ≤ 1) }
@@ -93,7 +93,7 @@ fn quarter(sum: u32, odd: u32) -> u8
     ((sum + (1 + odd)) / 4) as u8
 }
 
-// The nearest mean.
+// The mean, rounded to the nearest number.
 #[inline(always)]
 fn nearest(sum: u32, count: u32) -> u8
     requires count { (1 ≤ count) × (count ≤ 16) }
@@ -103,7 +103,7 @@ fn nearest(sum: u32, count: u32) -> u8
     ((sum + count / 2) / count) as u8
 }
 
-// How many samples stand under one.
+// How many samples are averaged to one.
 #[inline(always)]
 fn count_of(across: usize, down: usize) -> u32
     requires across { (1 ≤ across) × (across ≤ 4) }
@@ -115,7 +115,7 @@ fn count_of(across: usize, down: usize) -> u32
     (across * down) as u32
 }
 
-// Their mean.
+// The mean of these samples, whose sum is given.
 #[inline(always)]
 fn mean(across: usize, down: usize, x: usize, sum: u32) -> u8
     requires across { (1 ≤ across) × (across ≤ 4) }
@@ -134,7 +134,7 @@ fn mean(across: usize, down: usize, x: usize, sum: u32) -> u8
     }
 }
 
-// The first column under column x, or one behind the last.
+// The first column that is averaged to column x, or `width` where that is after the last one.
 #[inline(always)]
 fn first_of(x: usize, width: usize, across: usize) -> usize
     requires { (1 ≤ across) × (across ≤ 4) × (width < 4294967296) }
@@ -144,7 +144,7 @@ fn first_of(x: usize, width: usize, across: usize) -> usize
     if x < width { across * x } else { width }
 }
 
-// Those from column `from` on, by any ratio, and of columns after the last one.
+// The means from column `from` on, by any ratio; columns after the last one repeat it.
 #[inline(always)]
 fn means(rows: &[u8], width: usize, across: usize, down: usize, from: usize, out: &mut [u8])
     requires across { (1 ≤ across) × (across ≤ 4) }
@@ -200,7 +200,7 @@ fn part(row: &[u8], at: usize) -> &[u8]
     &row[at..at + 16]
 }
 
-// Puts those of columns 8 * c to 8 * c + 7 of two rows.
+// Puts the means of columns 8 * c to 8 * c + 7 of two rows.
 #[inline(always)]
 fn put_eight(rows: &[u8], width: usize, c: usize, out: &mut [u8])
     requires there { 8 * c + 8 ≤ length out.old }
@@ -215,7 +215,7 @@ fn put_eight(rows: &[u8], width: usize, c: usize, out: &mut [u8])
     put_samples(out, c, &eight_quarters(upper, lower));
 }
 
-// Puts all whole eights.
+// Puts all complete groups of eight means.
 #[inline(always)]
 fn put_eights(rows: &[u8], width: usize, out: &mut [u8])
     requires room { 2 * length out.old ≤ width }
@@ -228,7 +228,7 @@ fn put_eights(rows: &[u8], width: usize, out: &mut [u8])
     }
 }
 
-// 2 by 2, where all columns are there.
+// Means of 2 by 2 samples, where no column is repeated.
 #[inline(always)]
 fn quarters(rows: &[u8], width: usize, out: &mut [u8])
     requires there { 2 * length out.old ≤ width }
@@ -243,7 +243,7 @@ fn quarters(rows: &[u8], width: usize, out: &mut [u8])
     }
 }
 
-// 2 by 1, where all columns are there.
+// Means of 2 by 1 samples, where no column is repeated.
 #[inline(always)]
 fn halves(row: &[u8], width: usize, out: &mut [u8])
     requires there { 2 * length out.old ≤ width }
@@ -257,7 +257,7 @@ fn halves(row: &[u8], width: usize, out: &mut [u8])
     }
 }
 
-// 1 by 1, where all columns are there.
+// The samples themselves (1 by 1), where no column is repeated.
 #[inline(always)]
 fn copies(row: &[u8], width: usize, out: &mut [u8])
     requires there { length out.old ≤ width }
@@ -268,7 +268,7 @@ fn copies(row: &[u8], width: usize, out: &mut [u8])
     out.copy_from_slice(&row[..out.len()]);
 }
 
-// All of them, where all columns are there.
+// Means by any ratio, where no column is repeated.
 #[inline(always)]
 fn first_means(rows: &[u8], width: usize, across: usize, down: usize, out: &mut [u8])
     requires across { (1 ≤ across) × (across ≤ 4) }
@@ -289,7 +289,7 @@ fn first_means(rows: &[u8], width: usize, across: usize, down: usize, out: &mut 
     }
 }
 
-// How many of so many stand over columns that are all there.
+// How many of `count` means are of columns that are all there.
 #[inline(always)]
 fn whole(width: usize, across: usize, count: usize) -> usize
     requires { 1 ≤ across }
@@ -299,8 +299,8 @@ fn whole(width: usize, across: usize, count: usize) -> usize
     (width / across).min(count)
 }
 
-/// Rows of `width` samples, one after another, as many as the ratio says down, made one row: of those after the last column
-/// the last one stands for each.
+/// Makes one row of rows of `width` samples, one after another, as many as the ratio has down: each sample is the mean
+/// of those in its place, and the last column is repeated after itself.
 pub fn down_rows(rows: &[u8], width: u32, ratio: &Ratio, out: &mut [u8])
     requires across { (1 ≤ ratio.now.across) × (ratio.now.across ≤ 4) }
     requires down { (1 ≤ ratio.now.down) × (ratio.now.down ≤ 4) }

@@ -1,6 +1,6 @@
-// Samples repeated.
+//! Rows of samples upsampled by repeating samples.
 ghost use Rattle.std.specs.Prelude.{◌≡◌, ◌+◌, ◌*◌, ◌≤◌, ◌++◌, length, take, replicate};
-ghost use Rattle.jpg_spec.specs.Upsampling.{repeat_row};
+ghost use Rattle.jpg_spec_image.specs.Upsampling.{repeat_row};
 
 #[inline(always)]
 fn fill(out: &mut [u8], at: usize, times: usize, sample: u8)
@@ -13,7 +13,7 @@ fn fill(out: &mut [u8], at: usize, times: usize, sample: u8)
     }
 }
 
-// The same of two places.
+// Puts the same sample at two places.
 #[inline(always)]
 fn fill_two(out: &mut [u8], at: usize, sample: u8)
     requires { at + 2 ≤ length out.old }

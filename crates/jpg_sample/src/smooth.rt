@@ -1,6 +1,6 @@
-// Samples made twice as many, each nearer to the neighbour on its side.
+//! Rows upsampled to twice the width, each new sample weighted towards the neighbour on its side.
 ghost use Rattle.std.specs.Prelude.{◌≡◌, ◌+◌, ◌-◌, ◌*◌, ◌/◌, ◌≤◌, ◌<◌, length, slice_index, slice_set};
-ghost use Rattle.jpg_spec.specs.Upsampling.{left_of, right_of, up_row, column_sum, left_of2, right_of2, up_rows2};
+ghost use Rattle.jpg_spec_image.specs.Upsampling.{left_of, right_of, up_row, column_sum, left_of2, right_of2, up_rows2};
 
 #[inline(always)]
 fn put(out: &mut [u8], i: usize, left: u8, right: u8)
@@ -27,7 +27,7 @@ fn right(row: &[u8], i: usize) -> u8
     ((3 * u32::from(row[i]) + u32::from(row[i + 1]) + 2) / 4) as u8
 }
 
-/// A row twice as wide.
+/// A row upsampled to twice the width.
 pub fn up_row(row: &[u8], out: &mut [u8])
     requires some { 3 ≤ length row.now }
     requires room { length out.old ≡ 2 * length row.now }
@@ -41,7 +41,7 @@ pub fn up_row(row: &[u8], out: &mut [u8])
     put(out, last, left(row, last), row[last]);
 }
 
-// A column of two rows, of which the near one counts three times.
+// The weighted sum of a column of two rows: three times the near sample and the far one.
 #[inline(always)]
 fn sum(near: &[u8], far: &[u8], i: usize) -> u16
     requires { (i < length near.now) × (i < length far.now) }
@@ -51,7 +51,7 @@ fn sum(near: &[u8], far: &[u8], i: usize) -> u16
     3 * u16::from(near[i]) + u16::from(far[i])
 }
 
-// A sum, with more of itself or of a neighbour.
+// A sample from the sum of its column and that of a neighbour, or its own again.
 #[inline(always)]
 fn mixed(c: u16, other: u16, more: u16) -> u8
     requires { (c ≤ 1020) × (other ≤ 1020) × (more ≤ 8) }
@@ -60,7 +60,7 @@ fn mixed(c: u16, other: u16, more: u16) -> u8
     ((3 * c + other + more) / 16) as u8
 }
 
-/// Two rows made into one that is twice as wide.
+/// Two rows upsampled to one of twice the width.
 pub fn up_rows2(near: &[u8], far: &[u8], out: &mut [u8])
     requires some { 3 ≤ length near.now }
     requires same { length far.now ≡ length near.now }

@@ -10,16 +10,16 @@ use Rattle.jpg_spec.specs.Segments.{ScanHead, head_components}
 use Rattle.jpg_spec.specs.ScanContents.{are_parameters}
 use Rattle.jpg_spec.specs.InForce.{first_some}
 use Rattle.jpg_spec.specs.History.{has_begun, is_next, order_fault}
-use Rattle.jpg_spec.specs.Script.{Entry}
-use Rattle.jpg_spec.specs.ScriptFaults.{ascend, entry_head, has_wrong_component, has_large_mcu, is_whole_scan, is_due_scan, entry_fault, fault_behind}
+use Rattle.jpg_spec_write.specs.Script.{Entry}
+use Rattle.jpg_spec_write.specs.ScriptFaults.{ascend, entry_head, has_wrong_component, has_large_mcu, is_whole_scan, is_due_scan, entry_fault, fault_after}
 use Rattle.jpg_spec.specs.declared.fault.Fault.{Fault}
 use Rattle.jpg_spec.specs.declared.fault.Fault.TheVariants.{RepeatedScan, Progression}
 use Rattle.jpg_spec.specs.declared.frame.ScanPart.{ScanPart}
-use Rattle.jpg_spec.specs.declared.transform.PictureFault.{PictureFault}
-use Rattle.jpg_spec.specs.declared.transform.PictureFault.TheVariants.{ScriptComponent, ScriptMcu, ScriptBand}
+use Rattle.jpg_spec_write.specs.declared.picture_fault.PictureFault.{PictureFault}
+use Rattle.jpg_spec_write.specs.declared.picture_fault.PictureFault.TheVariants.{ScriptComponent, ScriptMcu, ScriptBand}
 use Rattle.jpg_spec.proofs.Common.{both, neither, lt_of}
 use Rattle.jpg_scans.specs.declared.progress.Progress.{Progress}
-use Rattle.jpg_scans.specs.Judged.{frame_due, has_numbers, IsEntryTaken}
+use Rattle.jpg_scans.specs.Judged.{script_frame, has_numbers, IsEntryTaken}
 use Rattle.jpg_scans.specs.Progress.{StandsForScans}
 
 -- COMPONENTS of an entry
@@ -63,7 +63,7 @@ sequential_order true = refl
 sequential_order false = refl
 
 due_is : (is_prog : Bool) (f : Frame) (heads : List ScanHead) (e : Entry)
-    → cond is_prog (is_due_scan f heads e) (is_whole_scan heads e) ≡ (has_numbers is_prog f (entry_head e) && is_none (order_fault (frame_due is_prog f) heads (entry_head e)))
+    → cond is_prog (is_due_scan f heads e) (is_whole_scan heads e) ≡ (has_numbers is_prog f (entry_head e) && is_none (order_fault (script_frame is_prog f) heads (entry_head e)))
 due_is true f heads e =
     ap (λ n. are_parameters f n (entry_head e) && all_of (is_next heads (entry_head e)) e.components) (sym (length-map e.components part_of))
     ∙ ap (λ xs. are_parameters f (length (entry_head e).parts) (entry_head e) && all_of (is_next heads (entry_head e)) xs) (sym (named e.components))
@@ -74,48 +74,48 @@ due_is false f heads e =
 
 -- the fault of an entry whose components are right
 entry_is : (is_prog : Bool) (f : Frame) (heads : List ScanHead) (n : ℕ) (e : Entry) → has_wrong_component f e ≡ false → has_large_mcu f e ≡ false
-    → entry_fault is_prog f heads n e ≡ cond (has_numbers is_prog f (entry_head e) && is_none (order_fault (frame_due is_prog f) heads (entry_head e))) None (Some (ScriptBand n))
+    → entry_fault is_prog f heads n e ≡ cond (has_numbers is_prog f (entry_head e) && is_none (order_fault (script_frame is_prog f) heads (entry_head e))) None (Some (ScriptBand n))
 entry_is is_prog f heads n e w l =
     ap (λ b. cond b (Some (ScriptComponent n)) (cond (has_large_mcu f e) (Some (ScriptMcu n)) (cond (cond is_prog (is_due_scan f heads e) (is_whole_scan heads e)) None (Some (ScriptBand n))))) w
     ∙ ap (λ b. cond b (Some (ScriptMcu n)) (cond (cond is_prog (is_due_scan f heads e) (is_whole_scan heads e)) None (Some (ScriptBand n)))) l
     ∙ ap (λ b. cond b None (Some (ScriptBand n))) (due_is is_prog f heads e)
 
 pub entry_taken : (is_prog : Bool) (f : Frame) (heads : List ScanHead) (n : ℕ) (e : Entry) (head : ScanHead) → head ≡ entry_head e → has_wrong_component f e ≡ false → has_large_mcu f e ≡ false
-    → has_numbers is_prog f head ≡ true → order_fault (frame_due is_prog f) heads head ≡ None → entry_fault is_prog f heads n e ≡ None
+    → has_numbers is_prog f head ≡ true → order_fault (script_frame is_prog f) heads head ≡ None → entry_fault is_prog f heads n e ≡ None
 entry_taken is_prog f heads n e head same w l numbers order =
     entry_is is_prog f heads n e w l
-    ∙ ap (λ (g : ScanHead). cond (has_numbers is_prog f g && is_none (order_fault (frame_due is_prog f) heads g)) None (Some (ScriptBand n))) (sym same)
-    ∙ ap (λ b. cond (b && is_none (order_fault (frame_due is_prog f) heads head)) None (Some (ScriptBand n))) numbers
+    ∙ ap (λ (g : ScanHead). cond (has_numbers is_prog f g && is_none (order_fault (script_frame is_prog f) heads g)) None (Some (ScriptBand n))) (sym same)
+    ∙ ap (λ b. cond (b && is_none (order_fault (script_frame is_prog f) heads head)) None (Some (ScriptBand n))) numbers
     ∙ ap (λ o. cond (is_none o) None (Some (ScriptBand n))) order
 
 pub entry_out_of_order : (is_prog : Bool) (f : Frame) (heads : List ScanHead) (n : ℕ) (e : Entry) (head : ScanHead) (fault : Fault) → head ≡ entry_head e → has_wrong_component f e ≡ false → has_large_mcu f e ≡ false
-    → has_numbers is_prog f head ≡ true → order_fault (frame_due is_prog f) heads head ≡ Some fault → entry_fault is_prog f heads n e ≡ Some (ScriptBand n)
+    → has_numbers is_prog f head ≡ true → order_fault (script_frame is_prog f) heads head ≡ Some fault → entry_fault is_prog f heads n e ≡ Some (ScriptBand n)
 entry_out_of_order is_prog f heads n e head fault same w l numbers order =
     entry_is is_prog f heads n e w l
-    ∙ ap (λ (g : ScanHead). cond (has_numbers is_prog f g && is_none (order_fault (frame_due is_prog f) heads g)) None (Some (ScriptBand n))) (sym same)
-    ∙ ap (λ b. cond (b && is_none (order_fault (frame_due is_prog f) heads head)) None (Some (ScriptBand n))) numbers
+    ∙ ap (λ (g : ScanHead). cond (has_numbers is_prog f g && is_none (order_fault (script_frame is_prog f) heads g)) None (Some (ScriptBand n))) (sym same)
+    ∙ ap (λ b. cond (b && is_none (order_fault (script_frame is_prog f) heads head)) None (Some (ScriptBand n))) numbers
     ∙ ap (λ o. cond (is_none o) None (Some (ScriptBand n))) order
 
--- ALL ENTRIES: the first n are taken, and the fault is that of the others behind them
+-- ALL ENTRIES: the first n are taken, and the fault is that of the remaining ones after them
 
 pub record HasTaken (is_prog : Bool) (f : Frame) (script : List Entry) (n : ℕ) (p : Progress) : Type 0 where
   pub heads : List ScanHead
-  pub stands : StandsForScans p (frame_due is_prog f) heads
-  pub same : fault_behind is_prog f [] 0 script ≡ fault_behind is_prog f heads n (drop n script)
+  pub stands : StandsForScans p (script_frame is_prog f) heads
+  pub same : fault_after is_prog f [] 0 script ≡ fault_after is_prog f heads n (drop n script)
 
--- entry n shows a fault, which is the script's
+-- entry n has a fault, which is the script's
 pub fault_shown : (is_prog : Bool) (f : Frame) (script : List Entry) (n : ℕ) (e : Entry) (old new : Progress) (answer : Option PictureFault) → (h : HasTaken is_prog f script n old)
-    → drop n script ≡ e ∷ drop (n + 1) script → IsEntryTaken is_prog f h.heads n e answer new → is_some answer ≡ true → answer ≡ fault_behind is_prog f [] 0 script
+    → drop n script ≡ e ∷ drop (n + 1) script → IsEntryTaken is_prog f h.heads n e answer new → is_some answer ≡ true → answer ≡ fault_after is_prog f [] 0 script
 fault_shown is_prog f script n e old new None h cut taken some = cc
 fault_shown is_prog f script n e old new (Some fault) h cut taken some =
-    sym (h.same ∙ ap (fault_behind is_prog f h.heads n) cut ∙ ap (λ o. first_some o (fault_behind is_prog f (entry_head e ∷ h.heads) (n + 1) (drop (n + 1) script))) taken)
+    sym (h.same ∙ ap (fault_after is_prog f h.heads n) cut ∙ ap (λ o. first_some o (fault_after is_prog f (entry_head e ∷ h.heads) (n + 1) (drop (n + 1) script))) taken)
 
--- it shows none and is taken
+-- it has none and is taken
 pub one_taken : (is_prog : Bool) (f : Frame) (script : List Entry) (n : ℕ) (e : Entry) (old new : Progress) (answer : Option PictureFault) → (h : HasTaken is_prog f script n old)
     → drop n script ≡ e ∷ drop (n + 1) script → IsEntryTaken is_prog f h.heads n e answer new → is_some answer ≡ false → HasTaken is_prog f script (n + 1) new
 one_taken is_prog f script n e old new (Some fault) h cut taken none = cc
 one_taken is_prog f script n e old new None h cut taken none = record {
   heads = entry_head e ∷ h.heads;
   stands = taken.1;
-  same = h.same ∙ ap (fault_behind is_prog f h.heads n) cut ∙ ap (λ o. first_some o (fault_behind is_prog f (entry_head e ∷ h.heads) (n + 1) (drop (n + 1) script))) taken.0;
+  same = h.same ∙ ap (fault_after is_prog f h.heads n) cut ∙ ap (λ o. first_some o (fault_after is_prog f (entry_head e ∷ h.heads) (n + 1) (drop (n + 1) script))) taken.0;
 }

@@ -1,4 +1,4 @@
--- What the history of scans stands for.
+-- What the history of scans represents.
 use Rattle.std.proofs.Common.{◌≡◌, ℕ, zero, suc, ◌+◌, ◌<◌, ◌≤◌, Bool, true, false, cond, not, ◌&&◌, ◌||◌, ◌==◌, List, [], ◌∷◌, length, map, get_or, set, add-one, refl, sym, ap, ◌∙◌, arith, Option, None, Some}
 use Rattle.std.specs.Prelude.{is_some, find, option_map, replicate, slice_set, unwrap_or, Ok, Err}
 use Rattle.std.specs.List.{All}
@@ -22,7 +22,7 @@ use Rattle.jpg_scans.specs.declared.sent.Sent.{Sent}
 use Rattle.jpg_scans.specs.Progress.{sent_of, begun_at, known_at, StandsForScans}
 use Rattle.jpg_scans.specs.Sent.{nothing_sent, known_in, has_in_band, is_due, are_due, is_next_in, IsNoted}
 
--- TESTS of the same answers
+-- TESTS with the same answers
 
 pub same_below : (p q : ℕ → Bool) (n : ℕ) → ((k : ℕ) → k < n → p k ≡ q k) → all_of p (below n) ≡ all_of q (below n)
 same_below p q zero e = refl
@@ -106,7 +106,7 @@ progressive_fault p f heads head s low e =
 
 -- ONE MORE SCAN
 
--- Of a scan with these components: with the parts that aren't noted yet it is a history after one scan more.
+-- Of a scan with these components: with the parts that aren't noted yet it is a history after one more scan.
 pub record IsLongerBy (old : Progress) (head : ScanHead) (rest : List ScanPart) (now : Progress) : Type 0 where
   pub process : now.is_progressive ≡ old.is_progressive
   pub count : now.count ≡ old.count

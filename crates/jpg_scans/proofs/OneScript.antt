@@ -1,11 +1,11 @@
--- A text tells one script, or is wrong at one place.
+-- A text encodes only one script, or is wrong at only one place.
 use Rattle.std.proofs.Common.{◌≡◌, ℕ, ◌<◌, ◌≤◌, Bool, true, false, List, [], ◌++◌, length, take, drop, refl, sym, ap, ◌∙◌, subst, arith, inl, inr}
 use Rattle.std.specs.Prelude.{◌⊎◌, nat_le, Result, Ok, Err}
 use Rattle.std.proofs.lemmas.Bool.Decides.{nat_tests}
 use Rattle.std.proofs.lemmas.List.{append_assoc, append-nil, take-append-drop}
-use Rattle.jpg_spec.specs.Script.{Entry}
-use Rattle.jpg_spec.specs.ScriptGrammar.{longest_script, BeginsScript, IsWrongByte, EndsTooEarly, IsTooLong, Spells}
-use Rattle.jpg_spec.specs.declared.answers.FaultAt.{FaultAt}
+use Rattle.jpg_spec_write.specs.Script.{Entry}
+use Rattle.jpg_spec_write.specs.ScriptGrammar.{longest_script, BeginsScript, IsWrongByte, EndsTooEarly, IsTooLong, Spells}
+use Rattle.jpg_spec.specs.declared.fault.FaultAt.{FaultAt}
 use Rattle.jpg_spec.specs.declared.fault.Fault.{Fault}
 use Rattle.jpg_spec.specs.declared.fault.Fault.TheVariants.{ScriptText}
 use Rattle.jpg_spec.proofs.Common.{le_of, some_once, take_shorter}
@@ -20,7 +20,7 @@ one_script text a b s t =
     let same : r.state ≡ q.state = some_once r.state q.state (sym r.run ∙ q.run) in
     some_once a b (sym r.told ∙ ap (λ (x : ReaderState). script_told x.text) same ∙ q.told)
 
--- a beginning of a text's beginning is one
+-- a prefix of a prefix of a text is one
 front_begins : (text : List ℕ) (n : ℕ) → BeginsScript text → BeginsScript (take n text)
 front_begins text n b =
     let whole : take n text ++ (drop n text ++ b.0) ≡ text ++ b.0 = sym (append_assoc (take n text) (drop n text) b.0) ∙ ap (λ x. x ++ b.0) (take-append-drop n text) in
@@ -51,7 +51,7 @@ wrong_once text p q w v = by (nat_le p q) refl
         let is = w.place_is in
         absurd (wrong_no text q w.before v w.begins (omega (arith, more, is)))
 
--- an answer that is a fault tells no script
+-- an answer that is a fault encodes no script
 no_script : (text : List ℕ) (script : List Entry) (place : ℕ) → length text ≤ longest_script → Spells text script → IsWrongByte text place ⊎ (EndsTooEarly text place ⊎ IsTooLong text place) → ⊥
 no_script text script place short s (inl w) = wrong_not_whole text place w (spelled_begins text script s)
 no_script text script place short s (inr (inl e)) = e.wrong script s

@@ -1,11 +1,11 @@
--- A text that is read byte by byte: where it is wrong, and what it tells.
+-- A text that is read byte by byte: where it is wrong, and what it encodes.
 use Rattle.std.proofs.Common.{◌≡◌, ℕ, ◌+◌, ◌<◌, ◌≤◌, List, [], ◌∷◌, ◌++◌, length, take, get_or, refl, sym, ap, ◌∙◌, subst, inl, inr, Option, None, Some}
 use Rattle.std.specs.Prelude.{option_and_then, Err, ◌⊎◌}
 use Rattle.std.proofs.lemmas.List.{take_more}
-use Rattle.jpg_spec.specs.ScriptGrammar.{BeginsScript, IsWrongByte, EndsTooEarly, IsTooLong, TellsScript}
-use Rattle.jpg_spec.specs.declared.answers.FaultAt.{FaultAt}
+use Rattle.jpg_spec_write.specs.ScriptGrammar.{BeginsScript, IsWrongByte, EndsTooEarly, IsTooLong, TellsScript}
+use Rattle.jpg_spec.specs.declared.fault.FaultAt.{FaultAt}
 use Rattle.jpg_spec.specs.declared.fault.Fault.TheVariants.{ScriptText}
-use Rattle.jpg_scans.specs.ReadText.{IsRead}
+use Rattle.jpg_scans.specs.ReadText.{IsReadScript}
 use Rattle.jpg_scans.specs.TextState.{ReaderState, script_told, reader_step, new_reader, run}
 use Rattle.jpg_scans.proofs.TextRuns.{run_two}
 use Rattle.jpg_scans.proofs.ScriptRuns.{spelled_run, begins_run}
@@ -56,8 +56,8 @@ ends_early text r l h none = record {
     some_of : (a b : ReaderState) → Some a ≡ Some b → a ≡ b
     some_of a b e = cc
 
-pub refused : (text : List ℕ) (place : ℕ) (f : FaultAt) → f ≡ record { fault = ScriptText; at = place } → IsWrongByte text place ⊎ IsTooLong text place → IsRead text (Err f)
-refused text place f e w = subst (λ (g : FaultAt). IsRead text (Err g)) (sym e) (refl, w)
+pub refused : (text : List ℕ) (place : ℕ) (f : FaultAt) → f ≡ record { fault = ScriptText; at = place } → IsWrongByte text place ⊎ IsTooLong text place → IsReadScript text (Err f)
+refused text place f e w = subst (λ (g : FaultAt). IsReadScript text (Err g)) (sym e) (refl, w)
 
 pub refused_at_end : (text : List ℕ) (place : ℕ) (f : FaultAt) → f ≡ record { fault = ScriptText; at = place } → EndsTooEarly text place → TellsScript text (Err f)
 refused_at_end text place f e w = subst (λ (g : FaultAt). TellsScript text (Err g)) (sym e) (refl, inr (inl w))

@@ -1,24 +1,25 @@
--- What the bytes of a script's text that were read stand for: entries that ended, and a front of one more.
+-- What the bytes of a script's text that were read represent: entries that ended, and a prefix of one more.
 use Rattle.std.proofs.Common.{◌≡◌, ℕ, ◌-◌, ◌<◌, ◌≤◌, Bool, true, false, cond, ◌&&◌, ◌==◌, List, [], ◌∷◌, ◌++◌, length, map, refl, sym, ap, ◌∙◌, subst, arith, Option, None, Some}
 use Rattle.std.specs.Prelude.{nat_lt, nat_le, option_map, option_and_then, flat_map}
 use Rattle.std.proofs.lemmas.Bool.Decides.{nat_tests}
 use Rattle.std.proofs.lemmas.List.{append_assoc, append-nil, length-append, length-map}
 use Rattle.std.proofs.lemmas.List.Concat.{flat_map-append}
 use Rattle.jpg_spec.specs.Lists.{all_of, is_empty}
-use Rattle.jpg_spec.specs.Requests.{is_digit, digits_from}
-use Rattle.jpg_spec.specs.Script.{Entry}
-use Rattle.jpg_spec.specs.ScriptGrammar.{is_space, is_joint, without_comments, NumbersWord, EntryWord, ScriptWord, numbers_text, entry_text, ended_text, script_text, are_numbers, is_entry, entries, is_script, numbers_told, banded, entry_told, Spells}
+use Rattle.jpg_spec.specs.NumberTexts.{is_digit, digits_from}
+use Rattle.jpg_spec_write.specs.Script.{Entry}
+use Rattle.jpg_spec.specs.NumberTexts.{is_space, without_comments, NumbersWord, numbers_text, numbers_told}
+use Rattle.jpg_spec_write.specs.ScriptGrammar.{is_joint, EntryWord, ScriptWord, entry_text, ended_text, script_text, are_numbers, is_entry, entries, is_script, banded, entry_told, Spells}
 use Rattle.jpg_spec.proofs.Common.{both, and_intro, same_of, lt_of, some_once}
 use Rattle.jpg_scans.specs.declared.standing.Standing.{Standing}
 use Rattle.jpg_scans.specs.declared.standing.Standing.TheVariants.{Before, InNumber, Behind, Joined}
-use Rattle.jpg_scans.specs.TextState.{NumbersState, ended_by, ended, digit_by, joint_by, number_step, EntryState, no_numbers, new_entry, is_before, is_behind, is_new, is_new_by, entry_by, whole_entry, colon_by, entry_step, TextState, one_more, text_step, script_told, ReaderState, reader_step, new_reader, run}
+use Rattle.jpg_scans.specs.TextState.{NumbersState, ended_by, ended, digit_by, joint_by, number_step, EntryState, no_numbers, new_entry, is_before, is_after, is_new_entry, is_new_by, entry_by, whole_entry, colon_by, entry_step, TextState, one_more, text_step, script_told, ReaderState, reader_step, new_reader, run}
 use Rattle.jpg_scans.proofs.ScriptRuns.{start, comments_read}
 use Rattle.jpg_scans.proofs.TextFronts.{Front, list_step, list_whole}
 
 -- AN ENTRY
 
--- components, a colon, and numbers behind it
-pub record IsBehindColon (t cs : List ℕ) (list : NumbersState) : Type 0 where
+-- components, a colon, and numbers after it
+pub record IsAfterColon (t cs : List ℕ) (list : NumbersState) : Type 0 where
   pub components : NumbersWord
   pub behind : List ℕ
   pub text : t ≡ numbers_text components ++ 58 ∷ behind
@@ -29,7 +30,7 @@ pub record IsBehindColon (t cs : List ℕ) (list : NumbersState) : Type 0 where
 
 abbrev pub EntryFront : List ℕ → Option (List ℕ) → NumbersState → Type 0
 EntryFront t None list = Front t list
-EntryFront t (Some cs) list = IsBehindColon t cs list
+EntryFront t (Some cs) list = IsAfterColon t cs list
 
 no_numbers_front : Front [] no_numbers
 no_numbers_front = record { none = refl; spaces = refl }
@@ -49,10 +50,10 @@ in_list t (Some cs) s u b f e = record {
 
 -- a colon
 at_colon : (t : List ℕ) (cs : Option (List ℕ)) (s : NumbersState) (u : EntryState) → EntryFront t cs s
-    → cond (is_behind (ended s).standing) (colon_by cs (ended s).numbers) None ≡ Some u → EntryFront (t ++ 58 ∷ []) u.components u.list
-at_colon t None s u f e = by (is_behind (ended s).standing) refl e
+    → cond (is_after (ended s).standing) (colon_by cs (ended s).numbers) None ≡ Some u → EntryFront (t ++ 58 ∷ []) u.components u.list
+at_colon t None s u f e = by (is_after (ended s).standing) refl e
   where
-    by : (v : Bool) → is_behind (ended s).standing ≡ v → cond v (Some (record { components = Some (ended s).numbers; list = no_numbers })) None ≡ Some u → EntryFront (t ++ 58 ∷ []) u.components u.list
+    by : (v : Bool) → is_after (ended s).standing ≡ v → cond v (Some (record { components = Some (ended s).numbers; list = no_numbers })) None ≡ Some u → EntryFront (t ++ 58 ∷ []) u.components u.list
     by true a e =
         let w = list_whole t s.numbers s.standing f a in
         subst (λ (x : EntryState). EntryFront (t ++ 58 ∷ []) x.components x.list) (some_once (record { components = Some (ended s).numbers; list = no_numbers }) u e) (record {
@@ -65,7 +66,7 @@ at_colon t None s u f e = by (is_behind (ended s).standing) refl e
           front = no_numbers_front;
         })
     by false a e = cc
-at_colon t (Some cs) s u f e = by (is_behind (ended s).standing) e
+at_colon t (Some cs) s u f e = by (is_after (ended s).standing) e
   where
     by : (v : Bool) → cond v None None ≡ Some u → EntryFront (t ++ 58 ∷ []) u.components u.list
     by true e = cc
@@ -79,7 +80,7 @@ entry_front_step : (t : List ℕ) (s u : EntryState) (b : ℕ) → EntryFront t 
 entry_front_step t s u b f e = by (b == 58) refl e
   where
     by : (v : Bool) → (b == 58) ≡ v
-        → cond v (cond (is_behind (ended s.list).standing) (colon_by s.components (ended s.list).numbers) None) (option_map (λ (list : NumbersState). record { components = s.components; list = list }) (number_step s.list b)) ≡ Some u
+        → cond v (cond (is_after (ended s.list).standing) (colon_by s.components (ended s.list).numbers) None) (option_map (λ (list : NumbersState). record { components = s.components; list = list }) (number_step s.list b)) ≡ Some u
         → EntryFront (t ++ b ∷ []) u.components u.list
     by true a e = subst (λ x. EntryFront (t ++ x ∷ []) u.components u.list) (sym (same_of b 58 a)) (at_colon t s.components s.list u f e)
     by false a e =
@@ -93,7 +94,7 @@ pub record IsEntryText (t : List ℕ) (e : Entry) : Type 0 where
   pub formed : is_entry word ≡ true
   pub told : entry_told word ≡ e
 
-entry_end_by : (t : List ℕ) (cs : Option (List ℕ)) (s : NumbersState) (e : Entry) → EntryFront t cs s → is_behind (ended s).standing ≡ true → entry_by cs (ended s).numbers ≡ Some e → IsEntryText t e
+entry_end_by : (t : List ℕ) (cs : Option (List ℕ)) (s : NumbersState) (e : Entry) → EntryFront t cs s → is_after (ended s).standing ≡ true → entry_by cs (ended s).numbers ≡ Some e → IsEntryText t e
 entry_end_by t None s e f a h =
     let w = list_whole t s.numbers s.standing f a in
     record {
@@ -118,9 +119,9 @@ entry_end_by t (Some cs) s e f a h = by (length (ended s).numbers == 4) refl h
     by false p h = cc
 
 entry_end : (t : List ℕ) (s : EntryState) (e : Entry) → EntryFront t s.components s.list → whole_entry s ≡ Some e → IsEntryText t e
-entry_end t s e f h = by (is_behind (ended s.list).standing) refl h
+entry_end t s e f h = by (is_after (ended s.list).standing) refl h
   where
-    by : (v : Bool) → is_behind (ended s.list).standing ≡ v → cond v (entry_by s.components (ended s.list).numbers) None ≡ Some e → IsEntryText t e
+    by : (v : Bool) → is_after (ended s.list).standing ≡ v → cond v (entry_by s.components (ended s.list).numbers) None ≡ Some e → IsEntryText t e
     by true a h = entry_end_by t s.components s.list e f a h
     by false a h = cc
 
@@ -134,12 +135,12 @@ pub record TextFront (t : List ℕ) (s : TextState) : Type 0 where
   pub told : map entry_told ended ≡ s.entries
   pub few : length ended ≤ 100
   pub entry : EntryFront behind s.entry.components s.entry.list
-  pub room : is_new s.entry ≡ false → length s.entries < 100
+  pub room : is_new_entry s.entry ≡ false → length s.entries < 100
 
 start_front : TextFront [] start
 start_front = record { ended = []; behind = []; text = refl; formed = refl; told = refl; few = omega arith; entry = no_numbers_front; room = λ e. cc }
 
--- one entry more
+-- one more entry
 one_told : (es : List Entry) (o : Option Entry) (all : List Entry) → one_more es o ≡ Some all → (e : Entry) × (length es < 100) × (o ≡ Some e) × (es ++ e ∷ [] ≡ all)
 one_told es o all h = by (nat_lt (length es) 100) o refl h
   where
@@ -194,38 +195,38 @@ stays_new s u b d n e = by s.numbers s.standing (is_space b) (is_joint b) n (sym
     by ns Behind y z n e = cc
     by ns Joined y z n e = cc
 
-entry_stays : (cs : Option (List ℕ)) (s : NumbersState) (u : EntryState) (b : ℕ) → is_digit b ≡ false → is_new_by cs s ≡ true → entry_step (record { components = cs; list = s }) b ≡ Some u → is_new u ≡ true
+entry_stays : (cs : Option (List ℕ)) (s : NumbersState) (u : EntryState) (b : ℕ) → is_digit b ≡ false → is_new_by cs s ≡ true → entry_step (record { components = cs; list = s }) b ≡ Some u → is_new_entry u ≡ true
 entry_stays (Some cs) s u b d n e = cc
 entry_stays None s u b d n e = by (b == 58) e
   where
-    behind_no : (ns : List ℕ) (st : Standing) → is_before st ≡ true → is_behind (ended_by ns st).standing ≡ false
-    behind_no ns Before n = refl
-    behind_no ns (InNumber m v) n = cc
-    behind_no ns Behind n = cc
-    behind_no ns Joined n = cc
+    after_no : (ns : List ℕ) (st : Standing) → is_before st ≡ true → is_after (ended_by ns st).standing ≡ false
+    after_no ns Before n = refl
+    after_no ns (InNumber m v) n = cc
+    after_no ns Behind n = cc
+    after_no ns Joined n = cc
 
-    none : (v : Bool) (o : Option EntryState) → v ≡ false → cond v o None ≡ Some u → is_new u ≡ true
+    none : (v : Bool) (o : Option EntryState) → v ≡ false → cond v o None ≡ Some u → is_new_entry u ≡ true
     none true o a e = cc
     none false o a e = cc
 
-    by : (v : Bool) → cond v (cond (is_behind (ended s).standing) (colon_by None (ended s).numbers) None) (option_map (λ (list : NumbersState). record { components = None; list = list }) (number_step s b)) ≡ Some u → is_new u ≡ true
-    by true e = none (is_behind (ended s).standing) (colon_by None (ended s).numbers) (behind_no s.numbers s.standing n) e
+    by : (v : Bool) → cond v (cond (is_after (ended s).standing) (colon_by None (ended s).numbers) None) (option_map (λ (list : NumbersState). record { components = None; list = list }) (number_step s b)) ≡ Some u → is_new_entry u ≡ true
+    by true e = none (is_after (ended s).standing) (colon_by None (ended s).numbers) (after_no s.numbers s.standing n) e
     by false e =
         let m = mapped (λ (list : NumbersState). record { components = None; list = list }) (number_step s b) u e in
-        ap is_new (sym m.2) ∙ stays_new s m.0 b d n m.1
+        ap is_new_entry (sym m.2) ∙ stays_new s m.0 b d n m.1
 
 -- an entry that has begun is one of 100 at most
-room_kept : (s : TextState) (u : EntryState) (b : ℕ) → (is_new s.entry ≡ false → length s.entries < 100) → (is_digit b && (is_new s.entry && nat_le 100 (length s.entries))) ≡ false
-    → entry_step s.entry b ≡ Some u → is_new u ≡ false → length s.entries < 100
-room_kept s u b room free e begun = by (is_digit b) (is_new s.entry) (nat_le 100 (length s.entries)) refl refl refl free
+room_kept : (s : TextState) (u : EntryState) (b : ℕ) → (is_new_entry s.entry ≡ false → length s.entries < 100) → (is_digit b && (is_new_entry s.entry && nat_le 100 (length s.entries))) ≡ false
+    → entry_step s.entry b ≡ Some u → is_new_entry u ≡ false → length s.entries < 100
+room_kept s u b room free e begun = by (is_digit b) (is_new_entry s.entry) (nat_le 100 (length s.entries)) refl refl refl free
   where
-    by : (x y z : Bool) → is_digit b ≡ x → is_new s.entry ≡ y → nat_le 100 (length s.entries) ≡ z → (x && (y && z)) ≡ false → length s.entries < 100
+    by : (x y z : Bool) → is_digit b ≡ x → is_new_entry s.entry ≡ y → nat_le 100 (length s.entries) ≡ z → (x && (y && z)) ≡ false → length s.entries < 100
     by x false z p q r h = room q
     by true true true p q r h = cc
     by true true false p q r h = grind (arith, nat_tests, r)
     by false true z p q r h = let new = entry_stays s.entry.components s.entry.list u b p q e in cc
 
-in_entry : (t : List ℕ) (s u : TextState) (b : ℕ) → TextFront t s → (is_digit b && (is_new s.entry && nat_le 100 (length s.entries))) ≡ false
+in_entry : (t : List ℕ) (s u : TextState) (b : ℕ) → TextFront t s → (is_digit b && (is_new_entry s.entry && nat_le 100 (length s.entries))) ≡ false
     → option_map (λ (entry : EntryState). record { entries = s.entries; entry = entry }) (entry_step s.entry b) ≡ Some u → TextFront (t ++ b ∷ []) u
 in_entry t s u b f free e =
     let m = mapped (λ (entry : EntryState). record { entries = s.entries; entry = entry }) (entry_step s.entry b) u e in
@@ -241,9 +242,9 @@ in_entry t s u b f free e =
     })
 
 text_front_step : (t : List ℕ) (s u : TextState) (b : ℕ) → TextFront t s → text_step s b ≡ Some u → TextFront (t ++ b ∷ []) u
-text_front_step t s u b f e = by (b == 59) (is_digit b && (is_new s.entry && nat_le 100 (length s.entries))) refl refl e
+text_front_step t s u b f e = by (b == 59) (is_digit b && (is_new_entry s.entry && nat_le 100 (length s.entries))) refl refl e
   where
-    by : (v w : Bool) → (b == 59) ≡ v → (is_digit b && (is_new s.entry && nat_le 100 (length s.entries))) ≡ w
+    by : (v w : Bool) → (b == 59) ≡ v → (is_digit b && (is_new_entry s.entry && nat_le 100 (length s.entries))) ≡ w
         → cond v (option_map (λ (all : List Entry). record { entries = all; entry = new_entry }) (one_more s.entries (whole_entry s.entry)))
         (cond w None (option_map (λ (entry : EntryState). record { entries = s.entries; entry = entry }) (entry_step s.entry b))) ≡ Some u
         → TextFront (t ++ b ∷ []) u
@@ -261,7 +262,7 @@ run_front t s u (b ∷ bytes) f e = by (text_step s b) refl e (λ v a. run_front
     by None a e more = cc
     by (Some v) a e more = subst (λ x. TextFront x u) (append_assoc t (b ∷ []) bytes) (more v a e)
 
--- bytes that are read stand for a front
+-- bytes that are read represent a prefix
 pub reader_front : (bytes : List ℕ) (r : ReaderState) → run reader_step new_reader bytes ≡ Some r → TextFront (without_comments false bytes) r.text
 reader_front bytes r e =
     run_front [] start r.text (without_comments false bytes) start_front (sym (comments_read false start bytes) ∙ ap (option_map (λ (r : ReaderState). r.text)) e)
@@ -288,8 +289,8 @@ formed_of ws after e some few a =
     let y : nat_le (length ws) 100 ≡ true = grind (arith, nat_tests, few) in
     and_intro (all_of is_entry ws) _ e (and_intro (nat_le 1 (length ws) && nat_le (length ws) 100) (all_of is_space after) (and_intro (nat_le 1 (length ws)) (nat_le (length ws) 100) x y) a)
 
--- behind a semicolon
-ends_new : (t : List ℕ) (s : TextState) (script : List Entry) → TextFront t s → is_new s.entry ≡ true → cond (is_empty s.entries) None (Some s.entries) ≡ Some script → IsScriptText t script
+-- after a semicolon
+ends_new : (t : List ℕ) (s : TextState) (script : List Entry) → TextFront t s → is_new_entry s.entry ≡ true → cond (is_empty s.entries) None (Some s.entries) ≡ Some script → IsScriptText t script
 ends_new t s script f new e = by s.entries refl e
   where
     by : (es : List Entry) → s.entries ≡ es → cond (is_empty es) None (Some es) ≡ Some script → IsScriptText t script
@@ -321,9 +322,9 @@ ends_open t s script f e =
     }
 
 ends : (t : List ℕ) (s : TextState) (script : List Entry) → TextFront t s → script_told s ≡ Some script → IsScriptText t script
-ends t s script f e = by (is_new s.entry) refl e
+ends t s script f e = by (is_new_entry s.entry) refl e
   where
-    by : (v : Bool) → is_new s.entry ≡ v → cond v (cond (is_empty s.entries) None (Some s.entries)) (one_more s.entries (whole_entry s.entry)) ≡ Some script → IsScriptText t script
+    by : (v : Bool) → is_new_entry s.entry ≡ v → cond v (cond (is_empty s.entries) None (Some s.entries)) (one_more s.entries (whole_entry s.entry)) ≡ Some script → IsScriptText t script
     by true a e = ends_new t s script f a e
     by false a e = ends_open t s script f e
 

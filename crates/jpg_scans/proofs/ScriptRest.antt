@@ -3,8 +3,9 @@ use Rattle.std.proofs.Common.{◌≡◌, ℕ, zero, suc, ◌<◌, ◌≤◌, Boo
 use Rattle.std.specs.Prelude.{option_map, option_and_then, nat_lt}
 use Rattle.std.proofs.lemmas.Bool.Decides.{nat_tests}
 use Rattle.std.proofs.lemmas.List.{length-append, length-map}
-use Rattle.jpg_spec.specs.Script.{Entry}
-use Rattle.jpg_spec.specs.ScriptGrammar.{NumberWord, are_joined, in_comment, without_comments, banded, BeginsScript}
+use Rattle.jpg_spec_write.specs.Script.{Entry}
+use Rattle.jpg_spec.specs.NumberTexts.{NumberWord, in_comment, without_comments}
+use Rattle.jpg_spec_write.specs.ScriptGrammar.{are_joined, banded, BeginsScript}
 use Rattle.jpg_spec.proofs.Common.{lt_yes}
 use Rattle.jpg_scans.specs.declared.standing.Standing.{Standing}
 use Rattle.jpg_scans.specs.declared.standing.Standing.TheVariants.{Before, InNumber, Behind, Joined}
@@ -14,7 +15,7 @@ use Rattle.jpg_scans.proofs.ScriptRuns.{more_yes, spaced, text_space}
 use Rattle.jpg_scans.proofs.TextFronts.{ListFront, value_of, told_long}
 use Rattle.jpg_scans.proofs.ScriptFronts.{TextFront, EntryFront, reader_front, told_spells}
 
--- NUMBERS that a space or a line's end stands behind: none; one to four; one to three and a comma
+-- NUMBERS followed by a space or a line's end: none; one to four; one to three and a comma
 
 IsOpenList : List ℕ → Standing → Type 0
 IsOpenList ns Before = ns ≡ []
@@ -44,7 +45,7 @@ open_list t ns Joined f =
     let some = some_joined f.list.words f.list.joined in
     (omega (arith, same, some), f.room)
 
--- WHAT MAY FOLLOW: nothing, or as many numbers 0 as are due
+-- WHAT MAY FOLLOW: nothing, or as many numbers 0 as are missing
 
 record Finishes (s : TextState) : Type 0 where
   rest : List ℕ
@@ -90,7 +91,7 @@ with_components es (a ∷ ns) Joined room o =
       told = more_yes es (banded ((a ∷ ns) ++ 0 ∷ []) (0 ∷ 63 ∷ 0 ∷ 0 ∷ [])) (room refl);
     }
 
--- behind a colon so many numbers are due
+-- after a colon this many numbers are missing
 abbrev due : ℕ → List ℕ
 due zero = []
 due (suc zero) = 48 ∷ []
@@ -102,30 +103,30 @@ four_told es cs ns v l three =
     let four : (length (ns ++ v ∷ []) == 4) ≡ true = grind (arith, nat_tests, long, three) in
     ap (λ b. one_more es (cond b (Some (banded cs (ns ++ v ∷ []))) None)) four ∙ more_yes es (banded cs (ns ++ v ∷ [])) l
 
--- from any standing but in a number
-behind_colon : (es : List Entry) (cs ns : List ℕ) (st : Standing) → length es < 100 → IsOpenList ns st → Finishes (at es (Some cs) ns st)
+-- from any state except in a number
+after_colon : (es : List Entry) (cs ns : List ℕ) (st : Standing) → length es < 100 → IsOpenList ns st → Finishes (at es (Some cs) ns st)
 unfolding IsOpenList run
-behind_colon es cs ns (InNumber n v) l o = absurd o
-behind_colon es cs ns Before l o = record {
+after_colon es cs ns (InNumber n v) l o = absurd o
+after_colon es cs ns Before l o = record {
   rest = due 4;
   state = reader (at es (Some cs) (0 ∷ 0 ∷ 0 ∷ []) (InNumber 1 0));
   script = es ++ banded cs (0 ∷ 0 ∷ 0 ∷ 0 ∷ []) ∷ [];
   run = ap (λ (l : List ℕ). run reader_step (reader (at es (Some cs) l Before)) (due 4)) o;
   told = four_told es cs (0 ∷ 0 ∷ 0 ∷ []) 0 l refl;
 }
-behind_colon es cs [] Behind l o = absurd (omega (arith, o.0))
-behind_colon es cs (a ∷ []) Behind l o = record { rest = due 3; state = reader (at es (Some cs) (a ∷ 0 ∷ 0 ∷ []) (InNumber 1 0)); script = es ++ banded cs (a ∷ 0 ∷ 0 ∷ 0 ∷ []) ∷ []; run = refl; told = four_told es cs (a ∷ 0 ∷ 0 ∷ []) 0 l refl }
-behind_colon es cs (a ∷ b ∷ []) Behind l o = record { rest = due 2; state = reader (at es (Some cs) (a ∷ b ∷ 0 ∷ []) (InNumber 1 0)); script = es ++ banded cs (a ∷ b ∷ 0 ∷ 0 ∷ []) ∷ []; run = refl; told = four_told es cs (a ∷ b ∷ 0 ∷ []) 0 l refl }
-behind_colon es cs (a ∷ b ∷ c ∷ []) Behind l o = record { rest = due 1; state = reader (at es (Some cs) (a ∷ b ∷ c ∷ []) (InNumber 1 0)); script = es ++ banded cs (a ∷ b ∷ c ∷ 0 ∷ []) ∷ []; run = refl; told = four_told es cs (a ∷ b ∷ c ∷ []) 0 l refl }
-behind_colon es cs (a ∷ b ∷ c ∷ d ∷ []) Behind l o = record { rest = []; state = reader (at es (Some cs) (a ∷ b ∷ c ∷ d ∷ []) Behind); script = es ++ banded cs (a ∷ b ∷ c ∷ d ∷ []) ∷ []; run = refl; told = more_yes es (banded cs (a ∷ b ∷ c ∷ d ∷ [])) l }
-behind_colon es cs (a ∷ b ∷ c ∷ d ∷ e ∷ ns) Behind l o = absurd (omega (arith, o.1))
-behind_colon es cs [] Joined l o = absurd (omega (arith, o.0))
-behind_colon es cs (a ∷ []) Joined l o = record { rest = due 3; state = reader (at es (Some cs) (a ∷ 0 ∷ 0 ∷ []) (InNumber 1 0)); script = es ++ banded cs (a ∷ 0 ∷ 0 ∷ 0 ∷ []) ∷ []; run = refl; told = four_told es cs (a ∷ 0 ∷ 0 ∷ []) 0 l refl }
-behind_colon es cs (a ∷ b ∷ []) Joined l o = record { rest = due 2; state = reader (at es (Some cs) (a ∷ b ∷ 0 ∷ []) (InNumber 1 0)); script = es ++ banded cs (a ∷ b ∷ 0 ∷ 0 ∷ []) ∷ []; run = refl; told = four_told es cs (a ∷ b ∷ 0 ∷ []) 0 l refl }
-behind_colon es cs (a ∷ b ∷ c ∷ []) Joined l o = record { rest = due 1; state = reader (at es (Some cs) (a ∷ b ∷ c ∷ []) (InNumber 1 0)); script = es ++ banded cs (a ∷ b ∷ c ∷ 0 ∷ []) ∷ []; run = refl; told = four_told es cs (a ∷ b ∷ c ∷ []) 0 l refl }
-behind_colon es cs (a ∷ b ∷ c ∷ d ∷ ns) Joined l o = absurd (omega (arith, o.1))
+after_colon es cs [] Behind l o = absurd (omega (arith, o.0))
+after_colon es cs (a ∷ []) Behind l o = record { rest = due 3; state = reader (at es (Some cs) (a ∷ 0 ∷ 0 ∷ []) (InNumber 1 0)); script = es ++ banded cs (a ∷ 0 ∷ 0 ∷ 0 ∷ []) ∷ []; run = refl; told = four_told es cs (a ∷ 0 ∷ 0 ∷ []) 0 l refl }
+after_colon es cs (a ∷ b ∷ []) Behind l o = record { rest = due 2; state = reader (at es (Some cs) (a ∷ b ∷ 0 ∷ []) (InNumber 1 0)); script = es ++ banded cs (a ∷ b ∷ 0 ∷ 0 ∷ []) ∷ []; run = refl; told = four_told es cs (a ∷ b ∷ 0 ∷ []) 0 l refl }
+after_colon es cs (a ∷ b ∷ c ∷ []) Behind l o = record { rest = due 1; state = reader (at es (Some cs) (a ∷ b ∷ c ∷ []) (InNumber 1 0)); script = es ++ banded cs (a ∷ b ∷ c ∷ 0 ∷ []) ∷ []; run = refl; told = four_told es cs (a ∷ b ∷ c ∷ []) 0 l refl }
+after_colon es cs (a ∷ b ∷ c ∷ d ∷ []) Behind l o = record { rest = []; state = reader (at es (Some cs) (a ∷ b ∷ c ∷ d ∷ []) Behind); script = es ++ banded cs (a ∷ b ∷ c ∷ d ∷ []) ∷ []; run = refl; told = more_yes es (banded cs (a ∷ b ∷ c ∷ d ∷ [])) l }
+after_colon es cs (a ∷ b ∷ c ∷ d ∷ e ∷ ns) Behind l o = absurd (omega (arith, o.1))
+after_colon es cs [] Joined l o = absurd (omega (arith, o.0))
+after_colon es cs (a ∷ []) Joined l o = record { rest = due 3; state = reader (at es (Some cs) (a ∷ 0 ∷ 0 ∷ []) (InNumber 1 0)); script = es ++ banded cs (a ∷ 0 ∷ 0 ∷ 0 ∷ []) ∷ []; run = refl; told = four_told es cs (a ∷ 0 ∷ 0 ∷ []) 0 l refl }
+after_colon es cs (a ∷ b ∷ []) Joined l o = record { rest = due 2; state = reader (at es (Some cs) (a ∷ b ∷ 0 ∷ []) (InNumber 1 0)); script = es ++ banded cs (a ∷ b ∷ 0 ∷ 0 ∷ []) ∷ []; run = refl; told = four_told es cs (a ∷ b ∷ 0 ∷ []) 0 l refl }
+after_colon es cs (a ∷ b ∷ c ∷ []) Joined l o = record { rest = due 1; state = reader (at es (Some cs) (a ∷ b ∷ c ∷ []) (InNumber 1 0)); script = es ++ banded cs (a ∷ b ∷ c ∷ 0 ∷ []) ∷ []; run = refl; told = four_told es cs (a ∷ b ∷ c ∷ []) 0 l refl }
+after_colon es cs (a ∷ b ∷ c ∷ d ∷ ns) Joined l o = absurd (omega (arith, o.1))
 
--- behind the end of a line
+-- after the end of a line
 finishes_by : (behind : List ℕ) (es : List Entry) (cs : Option (List ℕ)) (ns : List ℕ) (st : Standing) → EntryFront behind cs (record { numbers = ns; standing = st })
     → (is_new_by cs (record { numbers = ns; standing = st }) ≡ false → length es < 100) → Finishes (at es cs (ended_by ns st).numbers (ended_by ns st).standing)
 finishes_by behind es None ns st f room =
@@ -136,7 +137,7 @@ finishes_by behind es None ns st f room =
     still ns (InNumber n v) = refl
     still ns Behind = refl
     still ns Joined = refl
-finishes_by behind es (Some cs) ns st f room = behind_colon es cs (ended_by ns st).numbers (ended_by ns st).standing (room refl) (open_list f.behind ns st f.front)
+finishes_by behind es (Some cs) ns st f room = after_colon es cs (ended_by ns st).numbers (ended_by ns st).standing (room refl) (open_list f.behind ns st f.front)
 
 no_comment : (behind : Bool) → in_comment behind 10 ≡ false
 no_comment true = refl

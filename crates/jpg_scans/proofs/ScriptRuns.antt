@@ -1,19 +1,20 @@
--- The text of a script, spelled in any way, is read to the script that it tells; comments are read as spaces.
+-- Reading the text of a script, spelled in any way, gives the script that it encodes; comments are read as spaces.
 use Rattle.std.proofs.Common.{◌≡◌, ℕ, ◌+◌, ◌<◌, ◌≤◌, Bool, true, false, cond, ◌&&◌, ◌==◌, List, [], ◌∷◌, ◌++◌, length, map, refl, sym, ap, ◌∙◌, subst, arith, Option, None, Some}
 use Rattle.std.specs.Prelude.{nat_le, option_map, option_and_then, flat_map}
 use Rattle.std.proofs.lemmas.Bool.Decides.{nat_tests}
 use Rattle.std.proofs.lemmas.List.{append_assoc, append-nil, length-append, length-map}
 use Rattle.jpg_spec.specs.Lists.{all_of, is_empty}
-use Rattle.jpg_spec.specs.Requests.{is_digit, digits_from}
-use Rattle.jpg_spec.specs.Script.{Entry}
-use Rattle.jpg_spec.specs.ScriptGrammar.{in_comment, without_comments, is_space, NumbersWord, EntryWord, ScriptWord, numbers_text, entry_text, ended_text, last_text, script_text, are_numbers, is_entry, last_entry, entries, is_script, numbers_told, banded, entry_told, Spells, BeginsScript}
+use Rattle.jpg_spec.specs.NumberTexts.{is_digit, digits_from}
+use Rattle.jpg_spec_write.specs.Script.{Entry}
+use Rattle.jpg_spec.specs.NumberTexts.{in_comment, without_comments, is_space, NumbersWord, numbers_text, numbers_told}
+use Rattle.jpg_spec_write.specs.ScriptGrammar.{EntryWord, ScriptWord, entry_text, ended_text, last_text, script_text, are_numbers, is_entry, last_entry, entries, is_script, banded, entry_told, Spells, BeginsScript}
 use Rattle.jpg_spec.proofs.Common.{both, same_of, le_of, lt_yes, some_once}
 use Rattle.jpg_scans.specs.declared.standing.Standing.{Standing}
 use Rattle.jpg_scans.specs.declared.standing.Standing.TheVariants.{Before, InNumber, Behind, Joined}
-use Rattle.jpg_scans.specs.TextState.{NumbersState, ended_by, ended, number_step, EntryState, no_numbers, new_entry, is_before, is_behind, is_new, is_new_by, entry_by, whole_entry, colon_by, entry_step, TextState, one_more, text_step, script_told, ReaderState, reader_step, new_reader, run}
+use Rattle.jpg_scans.specs.TextState.{NumbersState, ended_by, ended, number_step, EntryState, no_numbers, new_entry, is_before, is_after, is_new_entry, is_new_by, entry_by, whole_entry, colon_by, entry_step, TextState, one_more, text_step, script_told, ReaderState, reader_step, new_reader, run}
 use Rattle.jpg_scans.proofs.TextRuns.{run_append, run_two, run_cons, run_nil, space_low, space_no_digit, number_space, list_run, ended_twice}
 
--- A BYTE OF NUMBERS in an entry in work
+-- A BYTE OF NUMBERS in the current entry
 
 -- a semicolon and a colon are none
 none_of : (s : NumbersState) (b c : ℕ) (t : NumbersState) → number_step s b ≡ Some t → number_step s c ≡ None → (b == c) ≡ false
@@ -36,10 +37,10 @@ lift_one : (es : List Entry) (cs : Option (List ℕ)) (s t : NumbersState) (b : 
 lift_one es cs s t b l e =
     let here : TextState = record { entries = es; entry = record { components = cs; list = s } } in
     let stepped : Option TextState = option_map (λ (entry : EntryState). record { entries = es; entry = entry }) (entry_step here.entry b) in
-    ap (λ v. cond v (option_map (λ (all : List Entry). record { entries = all; entry = new_entry }) (one_more es (whole_entry here.entry))) (cond (is_digit b && (is_new here.entry && nat_le 100 (length es))) None stepped)) (none_of s b 59 t e refl)
-    ∙ ap (λ v. cond (is_digit b && (is_new here.entry && v)) None stepped) (few_no (length es) l)
-    ∙ ap (λ v. cond v None stepped) (and_no (is_digit b) (is_new here.entry))
-    ∙ ap (λ v. option_map (λ (entry : EntryState). record { entries = es; entry = entry }) (cond v (cond (is_behind (ended s).standing) (colon_by cs (ended s).numbers) None) (option_map (λ (list : NumbersState). record { components = cs; list = list }) (number_step s b)))) (none_of s b 58 t e refl)
+    ap (λ v. cond v (option_map (λ (all : List Entry). record { entries = all; entry = new_entry }) (one_more es (whole_entry here.entry))) (cond (is_digit b && (is_new_entry here.entry && nat_le 100 (length es))) None stepped)) (none_of s b 59 t e refl)
+    ∙ ap (λ v. cond (is_digit b && (is_new_entry here.entry && v)) None stepped) (few_no (length es) l)
+    ∙ ap (λ v. cond v None stepped) (and_no (is_digit b) (is_new_entry here.entry))
+    ∙ ap (λ v. option_map (λ (entry : EntryState). record { entries = es; entry = entry }) (cond v (cond (is_after (ended s).standing) (colon_by cs (ended s).numbers) None) (option_map (λ (list : NumbersState). record { components = cs; list = list }) (number_step s b)))) (none_of s b 58 t e refl)
     ∙ ap (λ (o : Option NumbersState). option_map (λ (entry : EntryState). record { entries = es; entry = entry }) (option_map (λ (list : NumbersState). record { components = cs; list = list }) o)) e
 
 lift : (es : List Entry) (cs : Option (List ℕ)) (s t : NumbersState) (bytes : List ℕ) → length es < 100 → run number_step s bytes ≡ Some t
@@ -60,20 +61,20 @@ record EntryRun (es : List Entry) (bytes : List ℕ) (e : Entry) : Type 0 where
   state : EntryState
   run : run text_step (record { entries = es; entry = new_entry }) bytes ≡ Some (record { entries = es; entry = state })
   whole : whole_entry state ≡ Some e
-  begun : is_new state ≡ false
+  begun : is_new_entry state ≡ false
 
 whole_by : (cs : Option (List ℕ)) (s : NumbersState) (ns : List ℕ) → ended s ≡ record { numbers = ns; standing = Behind } → whole_entry (record { components = cs; list = s }) ≡ entry_by cs ns
-whole_by cs s ns e = ap (λ (t : NumbersState). cond (is_behind t.standing) (entry_by cs t.numbers) None) e
+whole_by cs s ns e = ap (λ (t : NumbersState). cond (is_after t.standing) (entry_by cs t.numbers) None) e
 
 begun_by : (ns : List ℕ) (st : Standing) (told : List ℕ) → ended_by ns st ≡ record { numbers = told; standing = Behind } → is_before st ≡ false
-begun_by ns Before told e = let z : is_behind Before ≡ is_behind Behind = ap (λ (t : NumbersState). is_behind t.standing) e in cc
+begun_by ns Before told e = let z : is_after Before ≡ is_after Behind = ap (λ (t : NumbersState). is_after t.standing) e in cc
 begun_by ns (InNumber n v) told e = refl
 begun_by ns Behind told e = refl
 begun_by ns Joined told e = refl
 
 colon_step : (es : List Entry) (s : NumbersState) (ns : List ℕ) → ended s ≡ record { numbers = ns; standing = Behind }
     → text_step (record { entries = es; entry = record { components = None; list = s } }) 58 ≡ Some (record { entries = es; entry = record { components = Some ns; list = no_numbers } })
-colon_step es s ns e = ap (λ (t : NumbersState). option_map (λ (entry : EntryState). record { entries = es; entry = entry }) (cond (is_behind t.standing) (colon_by None t.numbers) None)) e
+colon_step es s ns e = ap (λ (t : NumbersState). option_map (λ (entry : EntryState). record { entries = es; entry = entry }) (cond (is_after t.standing) (colon_by None t.numbers) None)) e
 
 entry_run : (es : List Entry) (c : NumbersWord) (band : Option NumbersWord) → length es < 100 → is_entry (record { components = c; band = band }) ≡ true
     → EntryRun es (entry_text (record { components = c; band = band })) (entry_told (record { components = c; band = band }))
@@ -135,7 +136,7 @@ ended_run es (w ∷ ws) l e =
 
 -- SPACE at the end
 
--- the state behind a space
+-- the state after a space
 unfoldable pub spaced : TextState → TextState
 spaced s = record { entries = s.entries; entry = record { components = s.entry.components; list = ended s.entry.list } }
 
@@ -146,9 +147,9 @@ pub text_space : (s : TextState) (b : ℕ) → is_space b ≡ true → text_step
 unfolding spaced
 text_space s b e =
     let stepped : Option TextState = option_map (λ (entry : EntryState). record { entries = s.entries; entry = entry }) (entry_step s.entry b) in
-    ap (λ v. cond v (option_map (λ (all : List Entry). record { entries = all; entry = new_entry }) (one_more s.entries (whole_entry s.entry))) (cond (is_digit b && (is_new s.entry && nat_le 100 (length s.entries))) None stepped)) (space_not b 59 e (omega arith))
-    ∙ ap (λ v. cond (v && (is_new s.entry && nat_le 100 (length s.entries))) None stepped) (space_no_digit b e)
-    ∙ ap (λ v. option_map (λ (entry : EntryState). record { entries = s.entries; entry = entry }) (cond v (cond (is_behind (ended s.entry.list).standing) (colon_by s.entry.components (ended s.entry.list).numbers) None) (option_map (λ (list : NumbersState). record { components = s.entry.components; list = list }) (number_step s.entry.list b)))) (space_not b 58 e (omega arith))
+    ap (λ v. cond v (option_map (λ (all : List Entry). record { entries = all; entry = new_entry }) (one_more s.entries (whole_entry s.entry))) (cond (is_digit b && (is_new_entry s.entry && nat_le 100 (length s.entries))) None stepped)) (space_not b 59 e (omega arith))
+    ∙ ap (λ v. cond (v && (is_new_entry s.entry && nat_le 100 (length s.entries))) None stepped) (space_no_digit b e)
+    ∙ ap (λ v. option_map (λ (entry : EntryState). record { entries = s.entries; entry = entry }) (cond v (cond (is_after (ended s.entry.list).standing) (colon_by s.entry.components (ended s.entry.list).numbers) None) (option_map (λ (list : NumbersState). record { components = s.entry.components; list = list }) (number_step s.entry.list b)))) (space_not b 58 e (omega arith))
     ∙ ap (λ (o : Option NumbersState). option_map (λ (entry : EntryState). record { entries = s.entries; entry = entry }) (option_map (λ (list : NumbersState). record { components = s.entry.components; list = list }) o)) (number_space s.entry.list b e)
 
 still_new : (cs : Option (List ℕ)) (ns : List ℕ) (st : Standing) → is_new_by cs (ended_by ns st) ≡ is_new_by cs (record { numbers = ns; standing = st })
@@ -163,7 +164,7 @@ unfolding spaced
 spaced_told s =
     let l = s.entry.list in
     ap (λ v. cond v (cond (is_empty s.entries) None (Some s.entries)) (one_more s.entries (whole_entry (spaced s).entry))) (still_new s.entry.components l.numbers l.standing)
-    ∙ ap (λ (t : NumbersState). cond (is_new s.entry) (cond (is_empty s.entries) None (Some s.entries)) (one_more s.entries (cond (is_behind t.standing) (entry_by s.entry.components t.numbers) None))) (ended_twice l.numbers l.standing)
+    ∙ ap (λ (t : NumbersState). cond (is_new_entry s.entry) (cond (is_empty s.entries) None (Some s.entries)) (one_more s.entries (cond (is_after t.standing) (entry_by s.entry.components t.numbers) None))) (ended_twice l.numbers l.standing)
 
 record TextRun (s : TextState) (bytes : List ℕ) (script : List Entry) : Type 0 where
   state : TextState
@@ -177,7 +178,7 @@ spaces_run s (b ∷ sp) script e h =
     let rest = spaces_run (spaced s) sp script p.1 (spaced_told s ∙ h) in
     record { state = rest.state; run = run_cons text_step s (spaced s) b sp (text_space s b p.0) ∙ rest.run; told = rest.told }
 
--- A WHOLE TEXT
+-- A COMPLETE TEXT
 
 abbrev pub start : TextState
 start = record { entries = []; entry = new_entry }
@@ -186,7 +187,7 @@ some_told : (es : List Entry) → 1 ≤ length es → script_told (record { entr
 some_told [] l = absurd (omega (arith, l))
 some_told (e ∷ es) l = refl
 
-last_told : (es : List Entry) (s : EntryState) (e : Entry) → length es < 100 → is_new s ≡ false → whole_entry s ≡ Some e → script_told (record { entries = es; entry = s }) ≡ Some (es ++ e ∷ [])
+last_told : (es : List Entry) (s : EntryState) (e : Entry) → length es < 100 → is_new_entry s ≡ false → whole_entry s ≡ Some e → script_told (record { entries = es; entry = s }) ≡ Some (es ++ e ∷ [])
 last_told es s e l new whole =
     ap (λ v. cond v (cond (is_empty es) None (Some es)) (one_more es (whole_entry s))) new ∙ ap (one_more es) whole ∙ more_yes es e l
 

@@ -1,16 +1,17 @@
--- What bytes that were read stand for: a front of a spelling.
+-- What bytes that were read represent: a prefix of a spelling.
 use Rattle.std.proofs.Common.{◌≡◌, ℕ, ◌+◌, ◌-◌, ◌*◌, ◌<◌, ◌≤◌, Bool, true, false, cond, not, ◌&&◌, List, [], ◌∷◌, ◌++◌, length, map, refl, sym, ap, ◌∙◌, subst, arith, None, Some}
 use Rattle.std.specs.Prelude.{◌||◌, nat_lt, nat_le, flat_map}
 use Rattle.std.proofs.lemmas.Bool.Decides.{nat_tests}
 use Rattle.std.proofs.lemmas.List.{append_assoc, append-nil, length-append, length-map}
 use Rattle.std.proofs.lemmas.List.Concat.{flat_map-append}
 use Rattle.jpg_spec.specs.Lists.{all_of, is_empty}
-use Rattle.jpg_spec.specs.Requests.{is_digit, digits_from}
-use Rattle.jpg_spec.specs.ScriptGrammar.{is_space, is_joint, is_between, is_number, NumberWord, NumbersWord, number_text, numbers_text, is_first, is_further, are_joined, are_numbers, numbers_told}
+use Rattle.jpg_spec.specs.NumberTexts.{is_digit, digits_from}
+use Rattle.jpg_spec.specs.NumberTexts.{is_space, NumberWord, NumbersWord, number_text, numbers_text, numbers_told}
+use Rattle.jpg_spec_write.specs.ScriptGrammar.{is_joint, is_between, is_script_number, is_first, is_further, are_joined, are_numbers}
 use Rattle.jpg_spec.proofs.Common.{both, and_intro, le_of, lt_of, some_once}
 use Rattle.jpg_scans.specs.declared.standing.Standing.{Standing}
 use Rattle.jpg_scans.specs.declared.standing.Standing.TheVariants.{Before, InNumber, Behind, Joined}
-use Rattle.jpg_scans.specs.TextState.{NumbersState, ended_by, ended, first_digit, further_digit, digit_by, joint_by, number_step, is_behind}
+use Rattle.jpg_scans.specs.TextState.{NumbersState, ended_by, ended, first_digit, further_digit, digit_by, joint_by, number_step, is_after}
 
 -- TESTS of lists
 
@@ -45,7 +46,7 @@ joint_between b e = by (is_space b)
 abbrev pub value_of : NumberWord → ℕ
 value_of w = digits_from 0 w.digits
 
--- what may stand before the next number
+-- what is allowed before the next number
 pub is_gap : List NumberWord → List ℕ → Bool
 is_gap [] gap = all_of is_space gap
 is_gap (w ∷ words) gap = not (is_empty gap) && all_of is_between gap
@@ -59,21 +60,21 @@ unfolding fits
 fit_of [] e = cc
 fit_of (w ∷ words) e = e
 
-joined_more : (words : List NumberWord) (gap digits : List ℕ) → fits words ≡ true → is_gap words gap ≡ true → is_number digits ≡ true → are_joined (words ++ record { gap = gap; digits = digits } ∷ []) ≡ true
+joined_more : (words : List NumberWord) (gap digits : List ℕ) → fits words ≡ true → is_gap words gap ≡ true → is_script_number digits ≡ true → are_joined (words ++ record { gap = gap; digits = digits } ∷ []) ≡ true
 unfolding fits is_gap
-joined_more [] gap digits f g d = and_intro (all_of is_space gap && is_number digits) true (and_intro (all_of is_space gap) (is_number digits) g d) refl
+joined_more [] gap digits f g d = and_intro (all_of is_space gap && is_script_number digits) true (and_intro (all_of is_space gap) (is_script_number digits) g d) refl
 joined_more (w ∷ words) gap digits f g d =
     let s = both (is_first w) (all_of is_further words) f in
     let word : NumberWord = record { gap = gap; digits = digits } in
     and_intro (is_first w) (all_of is_further (words ++ word ∷ [])) s.0
-    (all_join is_further words (word ∷ []) s.1 (one_of is_further word (and_intro (not (is_empty gap) && all_of is_between gap) (is_number digits) g d)))
+    (all_join is_further words (word ∷ []) s.1 (one_of is_further word (and_intro (not (is_empty gap) && all_of is_between gap) (is_script_number digits) g d)))
 
 gap_between : (words : List NumberWord) (gap : List ℕ) → are_joined words ≡ true → is_empty gap ≡ false → all_of is_between gap ≡ true → is_gap words gap ≡ true
 unfolding is_gap
 gap_between [] gap j n a = cc
 gap_between (w ∷ words) gap j n a = and_intro (not (is_empty gap)) (all_of is_between gap) (ap not n) a
 
--- numbers, and what stands behind them
+-- numbers, and what follows them
 pub record IsList (t ns tail : List ℕ) : Type 0 where
   pub words : List NumberWord
   pub text : t ≡ flat_map number_text words ++ tail
@@ -98,7 +99,7 @@ pub record IsInNumber (t ns : List ℕ) (n v : ℕ) : Type 0 where
   pub few : n ≤ 3
   pub small : v ≤ 255
 
-pub record IsBehind (t ns : List ℕ) : Type 0 where
+pub record IsAfter (t ns : List ℕ) : Type 0 where
   pub tail : List ℕ
   pub list : IsList t ns tail
   pub some : is_empty tail ≡ false
@@ -118,10 +119,10 @@ pub record IsBefore (t ns : List ℕ) : Type 0 where
 abbrev pub ListFront : List ℕ → List ℕ → Standing → Type 0
 ListFront t ns Before = IsBefore t ns
 ListFront t ns (InNumber n v) = IsInNumber t ns n v
-ListFront t ns Behind = IsBehind t ns
+ListFront t ns Behind = IsAfter t ns
 ListFront t ns Joined = IsJoined t ns
 
--- A NUMBER IS WHOLE
+-- A NUMBER IS COMPLETE
 
 closed : (t ns : List ℕ) (n v : ℕ) → IsInNumber t ns n v → IsList t (ns ++ v ∷ []) []
 closed t ns n v i =
@@ -131,7 +132,7 @@ closed t ns n v i =
     let low : nat_le 1 (length i.digits) ≡ true = ap (nat_le 1) i.count ∙ le_yes 1 n i.some in
     let high : nat_le (length i.digits) 3 ≡ true = ap (λ m. nat_le m 3) i.count ∙ le_yes n 3 i.few in
     let fit : nat_le (digits_from 0 i.digits) 255 ≡ true = ap (λ m. nat_le m 255) i.value ∙ le_yes v 255 i.small in
-    let number : is_number i.digits ≡ true = and_intro (nat_le 1 (length i.digits) && nat_le (length i.digits) 3) (all_of is_digit i.digits && nat_le (digits_from 0 i.digits) 255)
+    let number : is_script_number i.digits ≡ true = and_intro (nat_le 1 (length i.digits) && nat_le (length i.digits) 3) (all_of is_digit i.digits && nat_le (digits_from 0 i.digits) 255)
     (and_intro (nat_le 1 (length i.digits)) (nat_le (length i.digits) 3) low high) (and_intro (all_of is_digit i.digits) (nat_le (digits_from 0 i.digits) 255) i.all fit) in
     record {
       words = i.words ++ word ∷ [];
@@ -302,7 +303,7 @@ list_step t s u b f e = by (is_digit b) (is_space b) (is_joint b) refl refl refl
     by false false true p q r e = joint_front t s.numbers s.standing b u f r e
     by false false false p q r e = cc
 
--- A LIST IS WHOLE
+-- A LIST IS COMPLETE
 
 pub record IsWhole (t ns : List ℕ) : Type 0 where
   pub word : NumbersWord
@@ -322,7 +323,7 @@ whole_list t ns tail l e =
       told = l.told;
     }
 
-pub list_whole : (t ns : List ℕ) (st : Standing) → ListFront t ns st → is_behind (ended_by ns st).standing ≡ true → IsWhole t (ended_by ns st).numbers
+pub list_whole : (t ns : List ℕ) (st : Standing) → ListFront t ns st → is_after (ended_by ns st).standing ≡ true → IsWhole t (ended_by ns st).numbers
 list_whole t ns Before f e = cc
 list_whole t ns (InNumber n v) f e = whole_list t (ns ++ v ∷ []) [] (closed t ns n v f) refl
 list_whole t ns Behind f e = whole_list t ns f.tail f.list f.spaces

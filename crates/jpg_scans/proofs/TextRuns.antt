@@ -1,11 +1,12 @@
--- A spelling of a script is read byte by byte to the script that it tells.
+-- Reading a spelling of a script byte by byte gives the script that it encodes.
 use Rattle.std.proofs.Common.{◌≡◌, ℕ, ◌+◌, ◌-◌, ◌*◌, ◌<◌, ◌≤◌, Bool, true, false, cond, not, ◌&&◌, ◌==◌, List, [], ◌∷◌, ◌++◌, length, map, refl, sym, ap, ◌∙◌, subst, arith, Option, None, Some}
 use Rattle.std.specs.Prelude.{◌||◌, nat_lt, nat_le, option_and_then, flat_map}
 use Rattle.std.proofs.lemmas.Bool.Decides.{nat_tests}
 use Rattle.std.proofs.lemmas.List.{append_assoc, length-append}
 use Rattle.jpg_spec.specs.Lists.{all_of, is_empty}
-use Rattle.jpg_spec.specs.Requests.{is_digit, digits_from}
-use Rattle.jpg_spec.specs.ScriptGrammar.{is_space, is_joint, is_between, is_number, NumberWord, NumbersWord, number_text, numbers_text, is_first, is_further, are_joined, are_numbers, numbers_told}
+use Rattle.jpg_spec.specs.NumberTexts.{is_digit, digits_from}
+use Rattle.jpg_spec.specs.NumberTexts.{is_space, NumberWord, NumbersWord, number_text, numbers_text, numbers_told}
+use Rattle.jpg_spec_write.specs.ScriptGrammar.{is_joint, is_between, is_script_number, is_first, is_further, are_joined, are_numbers}
 use Rattle.jpg_spec.proofs.Common.{both, same_of, le_of, lt_yes}
 use Rattle.jpg_scans.specs.declared.standing.Standing.{Standing}
 use Rattle.jpg_scans.specs.declared.standing.Standing.TheVariants.{Before, InNumber, Behind, Joined}
@@ -96,7 +97,7 @@ digits_on ns n v (d ∷ ds) all few small =
     ∙ digits_on ns (n + 1) next ds s.1 (omega (arith, few)) small
     ∙ ap (λ m. Some (record { numbers = ns; standing = InNumber m (digits_from next ds) })) (omega arith)
 
--- no number is in work
+-- there is no current number
 is_open : Standing → Bool
 is_open Before = true
 is_open (InNumber n v) = false
@@ -110,7 +111,7 @@ open_digit ns (InNumber n v) d e = cc
 open_digit ns Behind d e = refl
 open_digit ns Joined d e = refl
 
-number_run : (ns : List ℕ) (st : Standing) (ds : List ℕ) → is_open st ≡ true → length ns < 4 → is_number ds ≡ true
+number_run : (ns : List ℕ) (st : Standing) (ds : List ℕ) → is_open st ≡ true → length ns < 4 → is_script_number ds ≡ true
     → run number_step (record { numbers = ns; standing = st }) ds ≡ Some (record { numbers = ns; standing = InNumber (length ds) (digits_from 0 ds) })
 number_run ns st [] o l e = cc
 number_run ns st (d ∷ ds) o l e =
@@ -127,7 +128,7 @@ number_run ns st (d ∷ ds) o l e =
     ∙ ap (λ m. Some (record { numbers = ns; standing = InNumber m (digits_from (d - 48) ds) })) (omega arith)
     ∙ ap (λ x. Some (record { numbers = ns; standing = InNumber (length (d ∷ ds)) (digits_from x ds) })) (sym first)
 
--- WHAT STANDS BETWEEN: spaces before all
+-- WHAT IS BETWEEN: spaces before all
 
 spaces_before : (sp : List ℕ) → all_of is_space sp ≡ true → run number_step no_numbers sp ≡ Some no_numbers
 spaces_before [] e = run_nil number_step no_numbers
@@ -135,7 +136,7 @@ spaces_before (b ∷ sp) e =
     let s = both (is_space b) (all_of is_space sp) e in
     run_cons number_step no_numbers no_numbers b sp (number_space no_numbers b s.0) ∙ spaces_before sp s.1
 
--- behind a number, with or without commas
+-- after a number, with or without commas
 is_past : Standing → Bool
 is_past Before = false
 is_past (InNumber n v) = false
@@ -172,9 +173,9 @@ joined_past : is_past Joined ≡ true
 unfolding is_past
 joined_past = refl
 
-behind_past : is_past Behind ≡ true
+after_past : is_past Behind ≡ true
 unfolding is_past
-behind_past = refl
+after_past = refl
 
 goes_cons : (s t : NumbersState) (b : ℕ) (bytes ns : List ℕ) → number_step s b ≡ Some t → GoesTo t bytes ns → GoesTo s (b ∷ bytes) ns
 goes_cons s t b bytes ns e g = record { standing = g.standing; past = g.past; run = run_cons number_step s t b bytes e ∙ g.run }
@@ -189,12 +190,12 @@ between_run ns st (b ∷ gap) p l e =
     by true a h same other = goes_cons (record { numbers = ns; standing = st }) (record { numbers = ns; standing = st }) b gap ns (past_space ns st b p a) same
     by false a h same other = goes_cons (record { numbers = ns; standing = st }) (record { numbers = ns; standing = Joined }) b gap ns (past_joint ns st b p l h) other
 
--- from a number in work
+-- from a current number
 gap_run : (ns : List ℕ) (n v : ℕ) (gap : List ℕ) → length (ns ++ v ∷ []) < 4 → (not (is_empty gap) && all_of is_between gap) ≡ true → GoesTo (record { numbers = ns; standing = InNumber n v }) gap (ns ++ v ∷ [])
 gap_run ns n v [] l e = cc
 gap_run ns n v (b ∷ gap) l e =
     let s = both (is_between b) (all_of is_between gap) e in
-    by (is_space b) refl s.0 (between_run (ns ++ v ∷ []) Behind gap behind_past l s.1) (between_run (ns ++ v ∷ []) Joined gap joined_past l s.1)
+    by (is_space b) refl s.0 (between_run (ns ++ v ∷ []) Behind gap after_past l s.1) (between_run (ns ++ v ∷ []) Joined gap joined_past l s.1)
   where
     by : (t : Bool) → is_space b ≡ t → (t || is_joint b) ≡ true → GoesTo (record { numbers = ns ++ v ∷ []; standing = Behind }) gap (ns ++ v ∷ []) → GoesTo (record { numbers = ns ++ v ∷ []; standing = Joined }) gap (ns ++ v ∷ [])
         → GoesTo (record { numbers = ns; standing = InNumber n v }) (b ∷ gap) (ns ++ v ∷ [])
@@ -216,7 +217,7 @@ further_run : (ns : List ℕ) (n v : ℕ) (ws : List NumberWord) → all_of is_f
 further_run ns n v [] e l = record { numbers = ns; digits = n; value = v; run = run_nil number_step (record { numbers = ns; standing = InNumber n v }); all = refl }
 further_run ns n v (w ∷ ws) e l =
     let s = both (is_further w) (all_of is_further ws) e in
-    let parts = both (not (is_empty w.gap) && all_of is_between w.gap) (is_number w.digits) s.0 in
+    let parts = both (not (is_empty w.gap) && all_of is_between w.gap) (is_script_number w.digits) s.0 in
     let more = length-append ns (v ∷ []) in
     let room : length (ns ++ v ∷ []) < 4 = omega (arith, l, more) in
     let g = gap_run ns n v w.gap room parts.0 in
@@ -232,7 +233,7 @@ further_run ns n v (w ∷ ws) e l =
       all = rest.all ∙ append_assoc ns (v ∷ []) (digits_from 0 w.digits ∷ map (λ w. digits_from 0 w.digits) ws);
     }
 
--- a list, where its last number is made whole
+-- a list, where its last number is completed
 pub record ListRun (bytes told : List ℕ) : Type 0 where
   pub state : NumbersState
   pub run : run number_step no_numbers bytes ≡ Some state
@@ -264,7 +265,7 @@ joined_run : (ws : List NumberWord) → are_joined ws ≡ true → length ws ≤
 joined_run [] e l = cc
 joined_run (w ∷ ws) e l =
     let s = both (is_first w) (all_of is_further ws) e in
-    let parts = both (all_of is_space w.gap) (is_number w.digits) s.0 in
+    let parts = both (all_of is_space w.gap) (is_script_number w.digits) s.0 in
     let g = spaces_before w.gap parts.0 in
     let d = number_run [] Before w.digits before_open (omega arith) parts.1 in
     let rest = further_run [] (length w.digits) (digits_from 0 w.digits) ws s.1 (omega (arith, l)) in

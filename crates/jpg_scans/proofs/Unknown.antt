@@ -8,9 +8,9 @@ use Rattle.jpg_spec.specs.Geometry.{Frame}
 use Rattle.jpg_spec.specs.Segments.{ScanHead}
 use Rattle.jpg_spec.specs.InForce.{first_some}
 use Rattle.jpg_spec.specs.History.{known_to, is_known_to}
-use Rattle.jpg_spec.specs.ScriptFaults.{incomplete}
-use Rattle.jpg_spec.specs.declared.transform.PictureFault.{PictureFault}
-use Rattle.jpg_spec.specs.declared.transform.PictureFault.TheVariants.{ScriptIncomplete}
+use Rattle.jpg_spec_write.specs.ScriptFaults.{incomplete}
+use Rattle.jpg_spec_write.specs.declared.picture_fault.PictureFault.{PictureFault}
+use Rattle.jpg_spec_write.specs.declared.picture_fault.PictureFault.TheVariants.{ScriptIncomplete}
 use Rattle.jpg_base.proofs.Places.{next_below, none_below}
 use Rattle.jpg_scans.specs.declared.progress.Progress.{Progress}
 use Rattle.jpg_scans.specs.declared.sent.Sent.{Sent}
@@ -27,7 +27,7 @@ pub end_unknown : (s : Sent) (k : ℕ) → 64 ≤ k → first_unknown s k ≡ No
 unfolding first_unknown
 end_unknown s k l = ap (find (is_unknown s)) (none_below 64 k l)
 
--- OF ALL: what is found first of these numbers, and what is told of it
+-- OF ALL: the first one of these numbers, and the answer for it
 
 abbrev found : {X Y : Type 0} → (X → Y) → (X → Bool) → List X → Option Y
 found g p xs = option_map g (find p xs)

@@ -1,12 +1,12 @@
--- The history of scans, and what it stands for (T.81 B.2.3, G.1.1.1).
+-- The history of scans, and what it means (T.81, B.2.3, G.1.1.1).
 use Rattle.std.specs.Prelude.{◌≡◌, ℕ, ◌<◌, Bool, not, find, flat_map, map, drop, option_map, None, Some, List, ◌∷◌, length, slice_index_or, Option, Result, Ok, Err}
 use Rattle.jpg_spec.specs.Geometry.{Frame, is_progressive}
 use Rattle.jpg_spec.specs.History.{has_begun, known_to, is_known_to, order_fault}
 use Rattle.jpg_spec.specs.Lists.{below}
 use Rattle.jpg_spec.specs.Segments.{ScanHead}
 use Rattle.jpg_spec.specs.declared.fault.Fault.{Fault}
-use Rattle.jpg_spec.specs.declared.transform.PictureFault.{PictureFault}
-use Rattle.jpg_spec.specs.declared.transform.PictureFault.TheVariants.{ScriptIncomplete}
+use Rattle.jpg_spec_write.specs.declared.picture_fault.PictureFault.{PictureFault}
+use Rattle.jpg_spec_write.specs.declared.picture_fault.PictureFault.TheVariants.{ScriptIncomplete}
 use Rattle.jpg_scans.specs.declared.progress.Progress.{Progress}
 use Rattle.jpg_scans.specs.declared.sent.Sent.{Sent}
 use Rattle.jpg_scans.specs.Sent.{known_in, nothing_sent}
@@ -29,7 +29,7 @@ pub record StandsForScans (p : Progress) (f : Frame) (heads : List ScanHead) : T
   pub begun : (i : ℕ) → i < 4 → begun_at p i ≡ has_begun heads i
   pub known : (i k : ℕ) → i < 4 → k < 64 → known_at p i k ≡ known_to heads i k
 
--- what an answer says of a head, and what stands afterwards
+-- what an answer says of a head, and the history afterwards
 abbrev pub IsJudged : Frame → List ScanHead → ScanHead → Result (Unit {0}) Fault → Progress → Type 0
 IsJudged f heads head (Ok done) new = (order_fault f heads head ≡ None) × StandsForScans new f (head ∷ heads)
 IsJudged f heads head (Err fault) new = order_fault f heads head ≡ Some fault

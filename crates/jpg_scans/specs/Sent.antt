@@ -1,4 +1,4 @@
--- What was sent of a component (T.81 G.1.1.1).
+-- What was sent of a component (T.81, G.1.1.1).
 use Rattle.std.specs.Prelude.{◌≡◌, ℕ, ◌<◌, Bool, true, false, replicate, find, drop, nat_le, not, ◌&&◌, ◌||◌, ◌==◌, if◌then◌else◌, Option, None, Some, is_some, is_none, slice_index_or}
 use Rattle.jpg_spec.specs.History.{is_known_to}
 use Rattle.jpg_spec.specs.Lists.{all_of, below}
@@ -29,7 +29,7 @@ has_in_band head k = nat_le head.ss k && nat_le k head.se
 abbrev pub is_due : ℕ → Option ℕ → Bool
 is_due ah known = if ah == 0 then is_none known else is_known_to known ah
 
--- those of the first coefficients that a scan has are due
+-- those of the first coefficients that a scan has may be sent next
 unfoldable pub are_due : Sent → ScanHead → ℕ → Bool
 are_due s head n = all_of (λ k. not (has_in_band head k) || is_due head.ah (known_in s k)) (below n)
 

@@ -1,19 +1,21 @@
--- What the bytes of a script's text come to, one by one: numbers, an entry, entries (release 6b's wizard.txt). What a text is stands in ScriptGrammar of jpg_spec.
+-- The result of the bytes of a script's text, one by one: numbers, an entry, entries (release 6b's wizard.txt).
+-- ScriptGrammar of jpg_spec defines what a text is.
 use Rattle.std.specs.Prelude.{ℕ, ◌+◌, ◌-◌, ◌*◌, ◌<◌, Bool, true, false, nat_lt, nat_le, ◌&&◌, ◌==◌, if◌then◌else◌, List, [], ◌∷◌, ◌++◌, length, Option, None, Some, option_map, option_and_then}
 use Rattle.jpg_spec.specs.Lists.{is_empty}
-use Rattle.jpg_spec.specs.Requests.{is_digit}
-use Rattle.jpg_spec.specs.Script.{Entry}
-use Rattle.jpg_spec.specs.ScriptGrammar.{in_comment, is_space, is_joint, banded}
+use Rattle.jpg_spec.specs.NumberTexts.{is_digit}
+use Rattle.jpg_spec_write.specs.Script.{Entry}
+use Rattle.jpg_spec.specs.NumberTexts.{in_comment, is_space}
+use Rattle.jpg_spec_write.specs.ScriptGrammar.{is_joint, banded}
 use Rattle.jpg_scans.specs.declared.standing.Standing.{Standing}
 use Rattle.jpg_scans.specs.declared.standing.Standing.TheVariants.{Before, InNumber, Behind, Joined}
 
--- NUMBERS: those that are whole, and where the bytes stand
+-- NUMBERS: the complete ones, and the position among them
 
 pub record NumbersState : Type 0 where
   pub numbers : List ℕ
   pub standing : Standing
 
--- a number in work is whole before a byte that is no digit
+-- the current number is complete before a byte that isn't a digit
 abbrev pub ended_by : List ℕ → Standing → NumbersState
 ended_by numbers Before = record { numbers = numbers; standing = Before }
 ended_by numbers (InNumber digits value) = record { numbers = numbers ++ value ∷ []; standing = Behind }
@@ -37,7 +39,7 @@ digit_by numbers (InNumber digits value) d = further_digit numbers digits value 
 digit_by numbers Behind d = first_digit numbers d
 digit_by numbers Joined d = first_digit numbers d
 
--- a comma or hyphen, behind a number that isn't the last that may stand
+-- a comma or hyphen, after a number that isn't the last one allowed
 abbrev pub joint_by : List ℕ → Standing → Option NumbersState
 joint_by numbers Before = None
 joint_by numbers (InNumber digits value) = None
@@ -51,14 +53,14 @@ number_step s b =
     else if is_joint b then joint_by (ended s).numbers (ended s).standing
     else None
 
--- a number in work is one of four at most
+-- the current number is one of four at most
 abbrev pub HasRoom : List ℕ → Standing → Type 0
 HasRoom numbers Before = Unit {0}
 HasRoom numbers (InNumber digits value) = length numbers < 4
 HasRoom numbers Behind = Unit {0}
 HasRoom numbers Joined = Unit {0}
 
--- AN ENTRY: its components, once a colon came, and the numbers in work
+-- AN ENTRY: its components, once a colon was read, and the current numbers
 
 pub record EntryState : Type 0 where
   pub components : Option (List ℕ)
@@ -76,27 +78,27 @@ is_before (InNumber digits value) = false
 is_before Behind = false
 is_before Joined = false
 
-abbrev pub is_behind : Standing → Bool
-is_behind Before = false
-is_behind (InNumber digits value) = false
-is_behind Behind = true
-is_behind Joined = false
+abbrev pub is_after : Standing → Bool
+is_after Before = false
+is_after (InNumber digits value) = false
+is_after Behind = true
+is_after Joined = false
 
 -- nothing of an entry but space
 abbrev pub is_new_by : Option (List ℕ) → NumbersState → Bool
 is_new_by None list = is_before list.standing
 is_new_by (Some components) list = false
 
-abbrev pub is_new : EntryState → Bool
-is_new s = is_new_by s.components s.list
+abbrev pub is_new_entry : EntryState → Bool
+is_new_entry s = is_new_by s.components s.list
 
 abbrev pub entry_by : Option (List ℕ) → List ℕ → Option Entry
 entry_by None numbers = Some (banded numbers (0 ∷ 63 ∷ 0 ∷ 0 ∷ []))
 entry_by (Some components) numbers = if length numbers == 4 then Some (banded components numbers) else None
 
--- the entry, where it may end here
+-- the entry, if it may end here
 abbrev pub whole_entry : EntryState → Option Entry
-whole_entry s = if is_behind (ended s.list).standing then entry_by s.components (ended s.list).numbers else None
+whole_entry s = if is_after (ended s.list).standing then entry_by s.components (ended s.list).numbers else None
 
 abbrev pub colon_by : Option (List ℕ) → List ℕ → Option EntryState
 colon_by None numbers = Some (record { components = Some numbers; list = no_numbers })
@@ -104,29 +106,29 @@ colon_by (Some components) numbers = None
 
 abbrev pub entry_step : EntryState → ℕ → Option EntryState
 entry_step s b =
-    if b == 58 then (if is_behind (ended s.list).standing then colon_by s.components (ended s.list).numbers else None)
+    if b == 58 then (if is_after (ended s.list).standing then colon_by s.components (ended s.list).numbers else None)
     else option_map (λ list. record { components = s.components; list = list }) (number_step s.list b)
 
--- ENTRIES: those that have ended, and the one in work
+-- ENTRIES: those that have ended, and the current one
 
 pub record TextState : Type 0 where
   pub entries : List Entry
   pub entry : EntryState
 
--- one entry more, of 100 at most
+-- one more entry, of 100 at most
 abbrev pub one_more : List Entry → Option Entry → Option (List Entry)
 one_more entries entry = if nat_lt (length entries) 100 then option_map (λ e. entries ++ e ∷ []) entry else None
 
 abbrev pub text_step : TextState → ℕ → Option TextState
 text_step s b =
     if b == 59 then option_map (λ entries. record { entries = entries; entry = new_entry }) (one_more s.entries (whole_entry s.entry))
-    else if is_digit b && (is_new s.entry && nat_le 100 (length s.entries)) then None
+    else if is_digit b && (is_new_entry s.entry && nat_le 100 (length s.entries)) then None
     else option_map (λ entry. record { entries = s.entries; entry = entry }) (entry_step s.entry b)
 
--- the script, where the text ends here
+-- the script, if the text ends here
 abbrev pub script_told : TextState → Option (List Entry)
 script_told s =
-    if is_new s.entry then (if is_empty s.entries then None else Some s.entries)
+    if is_new_entry s.entry then (if is_empty s.entries then None else Some s.entries)
     else one_more s.entries (whole_entry s.entry)
 
 -- BYTES, with comments
@@ -147,7 +149,7 @@ unfoldable pub run : {S : Type 0} → (S → ℕ → Option S) → S → List �
 run step s [] = Some s
 run step s (b ∷ bytes) = option_and_then (λ t. run step t bytes) (step s b)
 
--- an answer: whether the byte was taken, and what stands then
+-- an answer: whether the byte was taken, and the state then
 abbrev pub taken : {S : Type 0} → Bool → S → Option S
 taken true s = Some s
 taken false s = None

@@ -1,20 +1,20 @@
-// The check of a script on a frame (T.81 B.2.3, G.1.1.1).
+//! The check of a script on a frame (T.81, B.2.3, G.1.1.1).
 ghost use Rattle.std.specs.Prelude.{◌≡◌, ◌≤◌, [], nat_lt, true, false, length};
 ghost use Rattle.jpg_spec.specs.Geometry.{factor_sum};
 ghost use Rattle.jpg_spec.specs.Lists.{all_of};
 ghost use Rattle.jpg_spec.specs.ScanContents.{is_band, are_bits};
-ghost use Rattle.jpg_spec.specs.ScriptFaults.{ascend, entry_head, has_wrong_component, has_large_mcu, fault_behind};
-ghost use Rattle.jpg_scans.specs.Judged.{process_due, has_numbers, TakesEntry};
+ghost use Rattle.jpg_spec_write.specs.ScriptFaults.{ascend, entry_head, has_wrong_component, has_large_mcu, fault_after};
+ghost use Rattle.jpg_scans.specs.Judged.{script_process, has_numbers, TakesEntry};
 
 use crate::{Entry, Progress};
 use arrayvec::ArrayVec;
 use jpg_base::{Frame, Process, ScanHead, ScanPart};
-use jpg_spec::PictureFault;
+use jpg_spec_write::PictureFault;
 
-// The first fault that entries show on a frame.
+// The first fault of entries on a frame.
 pub fn fault_of(entries: &[Entry], is_progressive: bool, frame: &Frame) -> Option<PictureFault>
     requires { length entries.now ≤ 100 }
-    ensures { result ≡ fault_behind is_progressive frame.now [] 0 entries.now }
+    ensures { result ≡ fault_after is_progressive frame.now [] 0 entries.now }
 {
     let mut history = Progress::new(&frame.with_process(process_due(is_progressive)));
     let mut number = 0;
@@ -29,7 +29,7 @@ pub fn fault_of(entries: &[Entry], is_progressive: bool, frame: &Frame) -> Optio
 }
 
 fn process_due(is_progressive: bool) -> Process
-    ensures { result ≡ process_due is_progressive }
+    ensures { result ≡ script_process is_progressive }
 {
     if is_progressive {
         Process::Progressive
@@ -38,7 +38,7 @@ fn process_due(is_progressive: bool) -> Process
     }
 }
 
-// The fault of an entry; without one it is noted.
+// The fault of an entry; an entry without one is noted.
 fn take_entry(
     history: &mut Progress,
     frame: &Frame,
@@ -121,7 +121,7 @@ fn factor_sum(frame: &Frame, components: &[u8]) -> u32
     sum
 }
 
-// The scan header of an entry, whatever its tables.
+// The scan header of an entry, with table slots 0.
 fn head_of(entry: &Entry) -> ScanHead
     ensures { result ≡ entry_head entry.now }
 {
@@ -153,7 +153,7 @@ fn has_numbers(frame: &Frame, is_progressive: bool, head: &ScanHead) -> bool
     }
 }
 
-// DC alone, or a band of AC of one component.
+// The band is DC, or AC of one component.
 fn has_band(head: &ScanHead) -> bool
     ensures { result ≡ is_band (length head.now.parts) head.now }
 {

@@ -1,4 +1,4 @@
-// A scan of a script (T.81, B.2.3).
+//! A scan of a script (T.81, B.2.3).
 ghost use Rattle.std.specs.Prelude.{◌≡◌, []};
 
 use arrayvec::ArrayVec;
@@ -16,7 +16,7 @@ pub struct Entry {
 }
 
 impl Model for Entry {
-    ghost use Rattle.jpg_spec.specs.Script.{Entry as Scan};
+    ghost use Rattle.jpg_spec_write.specs.Script.{Entry as Scan};
 
     ghost Value = { Scan };
 
@@ -24,7 +24,7 @@ impl Model for Entry {
 }
 
 impl Entry {
-    /// The same entry again.
+    /// A copy of the entry.
     pub fn copy(&self) -> Entry
         ensures { result ≡ self.now }
     {
@@ -40,7 +40,7 @@ impl Entry {
     }
 }
 
-// No scan at all.
+// An entry without components.
 impl Default for Entry {
     fn default() -> Entry {
         Entry {

@@ -1,14 +1,14 @@
-// An entry of a script's text, byte by byte (the manual's wizard.txt).
+//! An entry of a script's text, byte by byte (the manual's wizard.txt).
 ghost use Rattle.std.specs.Prelude.{◌≡◌, ◌≤◌, [], ◌∷◌, length, IfSome};
-ghost use Rattle.jpg_spec.specs.ScriptGrammar.{banded};
-ghost use Rattle.jpg_scans.specs.TextState.{colon_by, ended, entry_by, entry_step, is_new, new_entry, taken, whole_entry};
+ghost use Rattle.jpg_spec_write.specs.ScriptGrammar.{banded};
+ghost use Rattle.jpg_scans.specs.TextState.{colon_by, ended, entry_by, entry_step, is_new_entry, new_entry, taken, whole_entry};
 
 use crate::Entry;
 use crate::numbers::Numbers;
 use arrayvec::ArrayVec;
 use std::marker::Model;
 
-// The components, once a colon came, and the numbers in work.
+// The components, once a colon was read, and the current numbers.
 #[derive(Drop)]
 pub struct EntryText {
     components: Option<ArrayVec<u8, 4>>,
@@ -34,9 +34,9 @@ impl EntryText {
         }
     }
 
-    // Nothing of an entry but space.
+    // Whether nothing but space of an entry was read.
     pub fn is_new(&self) -> bool
-        ensures { result ≡ is_new self.now }
+        ensures { result ≡ is_new_entry self.now }
     {
         match self.components {
             None => self.list.is_before(),
@@ -44,7 +44,7 @@ impl EntryText {
         }
     }
 
-    // Takes a byte, where it may stand there.
+    // Takes a byte, and answers whether it may occur there.
     pub fn byte(&mut self, byte: u8) -> bool
         ensures { taken result self.new ≡ entry_step self.old byte }
     {
@@ -58,7 +58,7 @@ impl EntryText {
         ensures { taken result self.new ≡ entry_step self.old 58 }
     {
         self.list.end();
-        if !self.list.is_behind() || self.components.is_some() {
+        if !self.list.is_after() || self.components.is_some() {
             return false;
         }
         self.components = Some(self.list.copy());
@@ -66,12 +66,12 @@ impl EntryText {
         true
     }
 
-    // The entry, where it may end here.
+    // The entry, if it may end here.
     pub fn whole(&mut self) -> Option<Entry>
         ensures { result ≡ whole_entry self.old }
     {
         self.list.end();
-        if !self.list.is_behind() {
+        if !self.list.is_after() {
             return None;
         }
         let numbers = self.list.copy();

@@ -1,4 +1,5 @@
-//! The scans of a file: scripts of scans that are written, and the history of scans that were read (T.81 B.2.3, G.1.1.1).
+//! The scans of a file: scripts of scans that are written, and the history of scans that were read (T.81, B.2.3,
+//! G.1.1.1).
 #![tactic(auto)]
 
 mod check;

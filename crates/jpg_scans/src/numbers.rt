@@ -1,15 +1,16 @@
-// The numbers of a script's text, byte by byte (the manual's wizard.txt).
+//! The numbers of a script's text, byte by byte (the manual's wizard.txt).
 ghost use Rattle.std.specs.Prelude.{◌≡◌, ◌<◌, ◌≤◌, length, true, false};
-ghost use Rattle.jpg_spec.specs.Requests.{is_digit};
-ghost use Rattle.jpg_spec.specs.ScriptGrammar.{is_space, is_joint};
-ghost use Rattle.jpg_scans.specs.TextState.{digit_by, ended, first_digit, further_digit, joint_by, no_numbers, number_step, is_before, is_behind, taken};
+ghost use Rattle.jpg_spec.specs.NumberTexts.{is_digit};
+ghost use Rattle.jpg_spec.specs.NumberTexts.{is_space};
+ghost use Rattle.jpg_spec_write.specs.ScriptGrammar.{is_joint};
+ghost use Rattle.jpg_scans.specs.TextState.{digit_by, ended, first_digit, further_digit, joint_by, no_numbers, number_step, is_before, is_after, taken};
 ghost use Rattle.jpg_scans.specs.declared.standing.Standing.TheVariants.{InNumber};
 
 use crate::standing::Standing;
 use arrayvec::ArrayVec;
 use std::marker::Model;
 
-// Up to four numbers that are whole, and where the bytes stand.
+// Up to four complete numbers, and the position among them.
 #[derive(Drop)]
 pub struct Numbers {
     whole: ArrayVec<u8, 4>,
@@ -45,8 +46,8 @@ impl Numbers {
         }
     }
 
-    pub fn is_behind(&self) -> bool
-        ensures { result ≡ is_behind self.now.standing }
+    pub fn is_after(&self) -> bool
+        ensures { result ≡ is_after self.now.standing }
     {
         match self.standing {
             Standing::Behind => true,
@@ -54,7 +55,7 @@ impl Numbers {
         }
     }
 
-    // The numbers that are whole.
+    // The complete numbers.
     pub fn copy(&self) -> ArrayVec<u8, 4>
         ensures { result.items ≡ self.now.numbers }
     {
@@ -63,7 +64,7 @@ impl Numbers {
         numbers
     }
 
-    // Takes a byte, where it may stand there.
+    // Takes a byte, and answers whether it may occur there.
     pub fn byte(&mut self, byte: u8) -> bool
         ensures { taken result self.new ≡ number_step self.old byte }
     {
@@ -77,7 +78,7 @@ impl Numbers {
         is_joint(byte) && self.join()
     }
 
-    // A number in work is whole.
+    // Completes the current number, if any.
     pub fn end(&mut self)
         ensures { self.new ≡ ended self.old }
     {
@@ -127,7 +128,7 @@ impl Numbers {
         true
     }
 
-    // A comma or hyphen.
+    // Takes a comma or hyphen.
     fn join(&mut self) -> bool
         ensures { taken result self.new ≡ joint_by self.old.numbers self.old.standing }
     {

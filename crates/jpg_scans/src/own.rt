@@ -1,9 +1,9 @@
-// Own scans put behind others: of all components, of each, of one.
+//! Default scans that are added to a script: of all components, of each, of one.
 ghost use Rattle.std.specs.Prelude.{◌≡◌, ◌<◌, ◌≤◌, ◌+◌, [], ◌∷◌, ◌++◌, length, map};
 ghost use Rattle.jpg_spec.specs.Geometry.{factor_sum};
 ghost use Rattle.jpg_spec.specs.Lists.{below};
-ghost use Rattle.jpg_spec.specs.Script.{of_all, all_components};
-ghost use Rattle.jpg_spec.specs.ScriptFaults.{of_one, of_each};
+ghost use Rattle.jpg_spec_write.specs.Script.{of_all, all_components};
+ghost use Rattle.jpg_spec_write.specs.ScriptFaults.{of_one, of_each};
 ghost use Rattle.jpg_scans.specs.Own.{with_band};
 
 use crate::Entry;
@@ -27,7 +27,7 @@ impl Band {
     }
 }
 
-// A scan of all components, or one of each where an MCU of all would have more than ten blocks.
+// Adds a scan of all components, or one of each if an MCU of all would have more than ten blocks.
 pub fn push_all(entries: &mut ArrayVec<Entry, 100>, frame: &Frame, band: Band)
     requires { length entries.old.items + 4 ≤ 100 }
     ensures items { entries.new.items ≡ entries.old.items ++ of_all frame.now band.ss band.se band.ah band.al }
@@ -42,7 +42,7 @@ pub fn push_all(entries: &mut ArrayVec<Entry, 100>, frame: &Frame, band: Band)
     }
 }
 
-// A scan of each component.
+// Adds a scan of each component.
 pub fn push_each(entries: &mut ArrayVec<Entry, 100>, frame: &Frame, band: Band)
     requires { length entries.old.items + 4 ≤ 100 }
     ensures items { entries.new.items ≡ entries.old.items ++ of_each frame.now band.ss band.se band.ah band.al }
@@ -53,7 +53,7 @@ pub fn push_each(entries: &mut ArrayVec<Entry, 100>, frame: &Frame, band: Band)
     }
 }
 
-// A scan of component `i`.
+// Adds a scan of component `i`.
 pub fn push_one(entries: &mut ArrayVec<Entry, 100>, i: u8, band: Band)
     requires { length entries.old.items < 100 }
     ensures items { entries.new.items ≡ entries.old.items ++ of_one i band.ss band.se band.ah band.al ∷ [] }
@@ -64,7 +64,7 @@ pub fn push_one(entries: &mut ArrayVec<Entry, 100>, i: u8, band: Band)
     entries.push(entry_of(components, band));
 }
 
-// One scan of the first `count` components.
+// Adds one scan of the first `count` components.
 fn push_together(entries: &mut ArrayVec<Entry, 100>, count: u8, band: Band)
     requires few { count ≤ 4 }
     requires room { length entries.old.items < 100 }

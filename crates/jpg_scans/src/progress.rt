@@ -1,18 +1,18 @@
-// The scans of a file so far, and which may follow (T.81 B.2.3, G.1.1.1).
+//! The scans of a file so far, and which may follow (T.81, B.2.3, G.1.1.1).
 ghost use Rattle.std.specs.Prelude.{◌≡◌, ◌<◌, ◌≤◌, ℕ, [], ◌∷◌, All, OnErr, List, length, option_map};
 ghost use Rattle.jpg_spec.specs.Geometry.{Frame as Numbers, is_progressive};
 ghost use Rattle.jpg_spec.specs.History.{has_begun, order_fault};
 ghost use Rattle.jpg_spec.specs.Lists.{all_of, any_of, below};
-ghost use Rattle.jpg_spec.specs.ScriptFaults.{incomplete};
-ghost use Rattle.jpg_spec.specs.declared.transform.PictureFault.TheVariants.{ScriptIncomplete};
+ghost use Rattle.jpg_spec_write.specs.ScriptFaults.{incomplete};
+ghost use Rattle.jpg_spec_write.specs.declared.picture_fault.PictureFault.TheVariants.{ScriptIncomplete};
 ghost use Rattle.jpg_spec.specs.Segments.{ScanHead as Head, head_components};
 
 use crate::sent::Sent;
 use jpg_base::{Fault, Frame, Process, ScanHead};
-use jpg_spec::PictureFault;
+use jpg_spec_write::PictureFault;
 
-/// The history of the scans of a file: of each component whether it was in a scan, and of each of its
-/// coefficients the bit down to which it is known.
+/// The history of the scans of a file: for each component whether it was in a scan, and for each of its coefficients
+/// the bit down to which it is known.
 #[derive(Drop)]
 pub struct Progress {
     is_progressive: bool,
@@ -37,9 +37,9 @@ impl Progress {
         }
     }
 
-    /// Takes the next scan, or answers the fault that it shows: RepeatedScan in a sequential frame, where
-    /// one of its components was in a scan, or Progression in a progressive one, where it isn't the next
-    /// of each of its components. Then nothing has changed.
+    /// Takes the next scan, or answers its fault: RepeatedScan in a sequential frame, if one of its components was in a
+    /// scan, or Progression in a progressive one, if it isn't the next of each of its components. After a fault nothing
+    /// has changed.
     pub fn admit(&mut self, head: &ScanHead) -> Result<(), Fault>
         requires { All (λ p. p.component < 4) head.now.parts }
         ensures exact { Admits self.old head.now result self.new }
@@ -54,7 +54,7 @@ impl Progress {
         }
     }
 
-    /// The fault that a scan shows behind those so far, as `admit` answers it.
+    /// The fault of a scan after those so far, as `admit` answers it.
     pub fn fault(&self, head: &ScanHead) -> Option<Fault>
         requires { All (λ p. p.component < 4) head.now.parts }
         ensures { (f : Numbers) (heads : List Head) → StandsForScans self.now f heads → result ≡ order_fault f heads head.now }
@@ -72,7 +72,7 @@ impl Progress {
         }
     }
 
-    /// Takes a scan that shows no fault.
+    /// Takes a scan that has no fault.
     pub fn note(&mut self, head: &ScanHead)
         requires { All (λ p. p.component < 4) head.now.parts }
         ensures { (f : Numbers) (heads : List Head) → StandsForScans self.old f heads → StandsForScans self.new f (head.now ∷ heads) }
@@ -93,8 +93,8 @@ impl Progress {
         all
     }
 
-    /// The first coefficient that isn't known down to bit 0, component by component in zigzag order, as a script's
-    /// check shows it.
+    /// The first coefficient that isn't known down to bit 0, component by component in zigzag order, as the fault that
+    /// a script's check answers.
     #[tactic(auto, using(crate::proofs::Unknown::next_component, crate::proofs::Unknown::no_component, crate::proofs::Unknown::incomplete_is))]
     pub fn first_unknown(&self) -> Option<PictureFault>
         ensures { (f : Numbers) (heads : List Head) → StandsForScans self.now f heads → result ≡ incomplete f heads }
@@ -108,7 +108,7 @@ impl Progress {
         None
     }
 
-    // The first of component `i`.
+    // The first such coefficient of component `i`.
     fn unknown_of(&self, i: u8) -> Option<PictureFault>
         requires { i < 4 }
         ensures { result ≡ option_map (λ k. ScriptIncomplete i k (known_at self.now i k)) (first_unknown (sent_of self.now i) 0) }
@@ -124,7 +124,7 @@ impl Progress {
         }
     }
 
-    // Whether one of a scan's components was in a scan.
+    // Whether one of a scan's components was in an earlier scan.
     fn has_any(&self, head: &ScanHead) -> bool
         requires { All (λ p. p.component < 4) head.now.parts }
         ensures { result ≡ any_of (begun_at self.now) (head_components head.now) }

@@ -1,9 +1,9 @@
-// Scan scripts.
+//! Scan scripts: parsed, made by default, and checked on a frame (T.81, B.2.3, G.1.1.1).
 ghost use Rattle.std.specs.Prelude.{◌≡◌, ◌<◌, ◌≤◌, length, slice_get, Some};
-ghost use Rattle.jpg_spec.specs.Script.{sequential_script, is_progressive_script};
-ghost use Rattle.jpg_spec.specs.ScriptGrammar.{TellsScript};
+ghost use Rattle.jpg_spec_write.specs.Script.{sequential_script, is_progressive_script};
+ghost use Rattle.jpg_spec_write.specs.ScriptGrammar.{TellsScript};
 ghost use Rattle.jpg_scans.specs.Judged.{judged};
-ghost use Rattle.jpg_spec.specs.ScriptFaults.{script_fault, standard_script, three_colours_script, any_colours_script};
+ghost use Rattle.jpg_spec_write.specs.ScriptFaults.{script_fault, standard_script, three_colours_script, any_colours_script};
 
 use crate::Entry;
 use crate::check::fault_of;
@@ -11,7 +11,7 @@ use crate::own::{Band, push_all, push_each, push_one};
 use crate::text_reader::{read, wrong_at};
 use arrayvec::ArrayVec;
 use jpg_base::{Colour, FaultAt, Frame};
-use jpg_spec::PictureFault;
+use jpg_spec_write::PictureFault;
 use std::marker::Model;
 
 /// The scans that a file is written in: 1 to 100 entries.
@@ -22,7 +22,7 @@ pub struct Script {
 
 impl Model for Script {
     ghost use Rattle.std.specs.Prelude.{◌≤◌, List, length};
-    ghost use Rattle.jpg_spec.specs.Script.{Entry as Scan};
+    ghost use Rattle.jpg_spec_write.specs.Script.{Entry as Scan};
 
     ghost Value = { List Scan };
 
@@ -32,9 +32,10 @@ impl Model for Script {
 }
 
 impl Script {
-    /// The script that a text tells, as files of scripts have it (the manual's wizard.txt): 1 to 100 entries of one to four
-    /// components, and perhaps a colon and Ss, Se, Ah and Al, with semicolons between. Or ScriptText at the first byte that no
-    /// such text has there, at the text's end where it ends too early, or at 65537 where it is longer than 65536 bytes.
+    /// The script that a text encodes, in the form of script files (the manual's wizard.txt): 1 to 100 entries of one
+    /// to four components, and perhaps a colon and Ss, Se, Ah and Al, with semicolons between. Otherwise ScriptText at
+    /// the first byte that no such text has there, at the text's end if it ends too early, or at 65537 if it is longer
+    /// than 65536 bytes.
     pub fn parse(text: &[u8]) -> Result<Script, FaultAt>
         ensures { TellsScript text.now result }
     {
@@ -47,8 +48,8 @@ impl Script {
         }
     }
 
-    /// One scan of all components, or one of each where they are several and an MCU of all would have
-    /// more than ten blocks (T.81, B.2.3).
+    /// One scan of all components, or one of each if there are several and an MCU of all would have more than ten
+    /// blocks (T.81, B.2.3).
     pub fn sequential(frame: &Frame) -> Script
         ensures { result ≡ sequential_script frame.now }
     {
@@ -57,8 +58,9 @@ impl Script {
         Script { entries }
     }
 
-    /// The scans of `-progressive`: DC down to bit 1 and then the low and the high AC down to bit 2, each known
-    /// whole in the end. Of YCbCr these are the ten scans of release 6b, which send all AC of the colours at once.
+    /// The scans of `-progressive`: DC down to bit 1 and then the low and the high AC down to bit 2, and then
+    /// refinements down to bit 0. For YCbCr these are the ten scans of release 6b, which send all AC of the chrominance
+    /// components at once.
     pub fn standard(frame: &Frame, colour: Colour) -> Script
         ensures { result ≡ standard_script frame.now colour }
     {
@@ -69,11 +71,12 @@ impl Script {
         Script { entries }
     }
 
-    /// Whether files of this frame may be written in it, or else its first fault, entry by entry: ScriptComponent (a component
-    /// that isn't in the frame, or they don't ascend), ScriptMcu (several of more than ten blocks an MCU), ScriptBand (the band,
-    /// Ah or Al may not stand there, or a sequential scan isn't one of all coefficients or repeats a component); and at the end
-    /// ScriptIncomplete with the first coefficient that isn't known down to bit 0. Its first entry tells whether it is progressive.
-    #[tactic(auto, unfolding(jpg_spec::specs::ScriptFaults::script_fault))]
+    /// Whether files of this frame may be written in it, or else its first fault, entry by entry: ScriptComponent (a
+    /// component that isn't in the frame, or they don't ascend), ScriptMcu (several of more than ten blocks an MCU),
+    /// ScriptBand (the band, Ah or Al isn't allowed there, or a sequential scan isn't one of all coefficients or
+    /// repeats a component); and at the end ScriptIncomplete with the first coefficient that isn't known down to bit 0.
+    /// Its first entry decides whether it is progressive.
+    #[tactic(auto, unfolding(jpg_spec_write::specs::ScriptFaults::script_fault))]
     pub fn check(&self, frame: &Frame) -> Result<(), PictureFault>
         ensures { result ≡ judged (script_fault frame.now self.now) }
     {
@@ -92,7 +95,7 @@ impl Script {
         self.entries.len() as u8
     }
 
-    /// The same script again.
+    /// A copy of the script.
     pub fn copy(&self) -> Script
         ensures { result ≡ self.now }
     {
@@ -103,7 +106,7 @@ impl Script {
         Script { entries }
     }
 
-    /// The entry of a number from 0.
+    /// The entry with index `i`, from 0.
     pub fn entry(&self, i: u8) -> Entry
         requires { i < length self.now }
         ensures { slice_get self.now i ≡ Some result }
@@ -122,7 +125,7 @@ impl Script {
     }
 }
 
-// Of the colours all AC at once.
+// The scans of YCbCr, with all AC of each chrominance component at once.
 fn three_colours(frame: &Frame) -> ArrayVec<Entry, 100>
     ensures items { result.items ≡ three_colours_script frame.now }
     ensures some { 1 ≤ length result.items }

@@ -1,11 +1,11 @@
-// What was sent of a component (T.81 G.1.1.1).
+//! What was sent of a component (T.81, G.1.1.1).
 ghost use Rattle.std.specs.Prelude.{◌≡◌, ◌<◌, IfSome};
 ghost use Rattle.jpg_spec.specs.History.{is_known_to};
 ghost use Rattle.jpg_scans.specs.Sent.{first_unknown, is_due, are_due, is_next_in, nothing_sent, IsNoted};
 
 use jpg_base::ScanHead;
 
-// Whether it was in a scan, and of each coefficient the bit down to which it is known.
+// Whether it was in a scan, and for each coefficient the bit down to which it is known.
 #[derive(Clone, Copy)]
 pub struct Sent {
     pub is_begun: bool,
@@ -13,7 +13,7 @@ pub struct Sent {
 }
 
 impl Sent {
-    // Nothing.
+    // A component that was in no scan.
     pub fn new() -> Sent
         ensures { result ≡ nothing_sent }
     {
@@ -30,7 +30,7 @@ impl Sent {
         (head.ss == 0 || self.known[0].is_some()) && self.has_due(head)
     }
 
-    // Whether each coefficient of the band is due.
+    // Whether each coefficient of the band may be sent next.
     #[tactic(auto, using(crate::proofs::Histories::due_none, crate::proofs::Histories::due_more))]
     fn has_due(&self, head: &ScanHead) -> bool
         ensures { result ≡ are_due self.now head.now 64 }
@@ -57,7 +57,7 @@ impl Sent {
         None
     }
 
-    // One more scan of it.
+    // Notes one more scan of it.
     pub fn note(&mut self, head: &ScanHead)
         ensures { IsNoted self.old head.now self.new }
     {
@@ -70,7 +70,7 @@ impl Sent {
     }
 }
 
-// A first pass finds a coefficient unsent, a refinement finds it known down to Ah.
+// Whether a coefficient may be sent next: a first pass finds it unsent, a refinement finds it known down to Ah.
 fn is_due(ah: u8, known: Option<u8>) -> bool
     ensures { result ≡ is_due ah known }
 {
@@ -80,7 +80,7 @@ fn is_due(ah: u8, known: Option<u8>) -> bool
     }
 }
 
-// Known down to bit 0.
+// Whether a coefficient is known down to bit 0.
 fn is_whole(known: Option<u8>) -> bool
     ensures { result ≡ is_known_to known 0 }
 {

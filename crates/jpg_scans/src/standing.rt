@@ -1,6 +1,7 @@
-// Where the bytes of a script's text stand.
+//! The position in a list of numbers of a script's text.
 
-// Before all numbers of a list, in one of so many digits so far, behind one, or behind one and a comma or hyphen.
+// Before all numbers of a list, in a number with this many digits so far, after a number, or after a number and a comma
+// or hyphen.
 #[derive(Clone, Copy, Debug, PartialEq, Eq)]
 pub enum Standing {
     Before,

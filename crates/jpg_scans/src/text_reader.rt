@@ -1,8 +1,8 @@
-// A script's text, byte by byte (the manual's wizard.txt).
+//! A script's text, byte by byte (the manual's wizard.txt).
 ghost use Rattle.std.specs.Prelude.{◌≡◌, option_map};
-ghost use Rattle.jpg_spec.specs.ScriptGrammar.{in_comment};
+ghost use Rattle.jpg_spec.specs.NumberTexts.{in_comment};
 ghost use Rattle.jpg_spec.specs.declared.fault.Fault.TheVariants.{ScriptText};
-ghost use Rattle.jpg_scans.specs.ReadText.{IsRead};
+ghost use Rattle.jpg_scans.specs.ReadText.{IsReadScript};
 ghost use Rattle.jpg_scans.specs.TextState.{new_reader, reader_step, script_told, taken, text_step};
 
 use crate::Entry;
@@ -12,7 +12,7 @@ use arrayvec::ArrayVec;
 use jpg_base::{Fault, FaultAt};
 use std::marker::Model;
 
-// The entries that have ended, the one in work, and whether the last byte was in a comment.
+// The entries that have ended, the current one, and whether the last byte was in a comment.
 #[derive(Drop)]
 pub struct TextReader {
     entries: ArrayVec<Entry, 100>,
@@ -22,7 +22,7 @@ pub struct TextReader {
 
 impl Model for TextReader {
     ghost use Rattle.jpg_spec.specs.declared.fault.Fault.TheVariants.{ScriptText};
-    ghost use Rattle.jpg_scans.specs.ReadText.{IsRead};
+    ghost use Rattle.jpg_scans.specs.ReadText.{IsReadScript};
     ghost use Rattle.jpg_scans.specs.TextState.{ReaderState as State};
 
     ghost Value = { State };
@@ -30,12 +30,12 @@ impl Model for TextReader {
     ghost view = { λ r. record { behind = r.in_comment; text = record { entries = r.entries.items; entry = r.entry } } };
 }
 
-// The bytes of a script's text at most.
+// The greatest length of a script's text in bytes.
 const LONGEST: u64 = 65536;
 
-// All bytes of a text, or the first that may not stand there.
+// All bytes of a text, or the first that may not occur there.
 pub fn read(text: &[u8]) -> Result<TextReader, FaultAt>
-    ensures { IsRead text.now result }
+    ensures { IsReadScript text.now result }
 {
     let mut reader = TextReader::new();
     let mut before = 0;
@@ -72,7 +72,7 @@ impl TextReader {
         }
     }
 
-    // Takes a byte, where it may stand there.
+    // Takes a byte, and answers whether it may occur there.
     pub fn byte(&mut self, byte: u8) -> bool
         ensures { taken result self.new ≡ reader_step self.old byte }
     {
@@ -84,7 +84,7 @@ impl TextReader {
         }
     }
 
-    // A byte of no comment, or a space in its place.
+    // A byte outside a comment, or a space in place of one inside.
     fn plain_byte(&mut self, byte: u8) -> bool
         ensures text { taken result self.new.text ≡ text_step self.old.text byte }
         ensures behind { self.new.behind ≡ self.old.behind }
@@ -115,7 +115,7 @@ impl TextReader {
         }
     }
 
-    // The script, where the text ends here.
+    // The script, if the text ends here.
     pub fn end(mut self) -> Option<ArrayVec<Entry, 100>>
         ensures { option_map (λ v. v.items) result ≡ script_told self.text }
     {
@@ -134,7 +134,7 @@ impl TextReader {
     }
 }
 
-// A byte of a comment: it begins with # and goes on up to LF.
+// Whether a byte is in a comment, which begins with # and goes on up to LF.
 fn in_comment(behind: bool, byte: u8) -> bool
     ensures { result ≡ in_comment behind byte }
 {

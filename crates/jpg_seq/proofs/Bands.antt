@@ -10,9 +10,9 @@ use Rattle.jpg_spec.specs.Codes.{Code}
 use Rattle.jpg_spec.specs.Lists.{any_of, is_empty}
 use Rattle.jpg_spec.specs.Numbers.{digits, category, extra_bits}
 use Rattle.jpg_spec.specs.Elements.{Element, value, long_run, ends, is_zero}
-use Rattle.jpg_spec.specs.Sending.{Sent, newly, sent, is_new, up_to_last, behind_last, corrections_of, value_elements, band_elements}
-use Rattle.jpg_spec.specs.ScanText.{code_of}
-use Rattle.jpg_spec.proofs.Small.{divided_none}
+use Rattle.jpg_spec_write.specs.Sending.{Sent, newly_significant, sent, is_new, up_to_last, after_last, corrections_of, value_elements, band_elements}
+use Rattle.jpg_spec.specs.Codes.{code_of}
+use Rattle.jpg_spec_write.proofs.Shifts.{divided_none}
 use Rattle.jpg_seq.specs.BlockBits.{spelled, run_bits, band_bits}
 
 -- zeros are left
@@ -25,11 +25,11 @@ abbrev pub plain_elements : List ℤ → ℕ → List Element
 plain_elements [] run = end_elements run
 plain_elements (v ∷ values) run = if is_zero v then plain_elements values (run + 1) else replicate (run / 16) (long_run []) ++ value (run % 16) v [] ∷ plain_elements values 0
 
--- WHAT A BAND SENDS
+-- THE VALUES OF A BAND as they are sent
 
-sent_newly : (values : List ℤ) → map (sent false 0) values ≡ map newly values
+sent_newly : (values : List ℤ) → map (sent false 0) values ≡ map newly_significant values
 sent_newly [] = refl
-sent_newly (v ∷ values) = ap (λ w. newly w ∷ map (sent false 0) values) (divided_none v) ∙ ap (λ band. newly v ∷ band) (sent_newly values)
+sent_newly (v ∷ values) = ap (λ w. newly_significant w ∷ map (sent false 0) values) (divided_none v) ∙ ap (λ band. newly_significant v ∷ band) (sent_newly values)
 
 up_true : (s : Sent) (band : List Sent) → any_of is_new (s ∷ band) ≡ true → up_to_last (s ∷ band) ≡ s ∷ up_to_last band
 up_true s band e = ap (λ b. (let r : List Sent = cond b (s ∷ up_to_last band) [] in r)) e
@@ -37,30 +37,30 @@ up_true s band e = ap (λ b. (let r : List Sent = cond b (s ∷ up_to_last band)
 up_false : (s : Sent) (band : List Sent) → any_of is_new (s ∷ band) ≡ false → up_to_last (s ∷ band) ≡ []
 up_false s band e = ap (λ b. (let r : List Sent = cond b (s ∷ up_to_last band) [] in r)) e
 
-behind_true : (s : Sent) (band : List Sent) → any_of is_new (s ∷ band) ≡ true → behind_last (s ∷ band) ≡ behind_last band
-behind_true s band e = ap (λ b. (let r : List Sent = cond b (behind_last band) (s ∷ band) in r)) e
+after_true : (s : Sent) (band : List Sent) → any_of is_new (s ∷ band) ≡ true → after_last (s ∷ band) ≡ after_last band
+after_true s band e = ap (λ b. (let r : List Sent = cond b (after_last band) (s ∷ band) in r)) e
 
-behind_false : (s : Sent) (band : List Sent) → any_of is_new (s ∷ band) ≡ false → behind_last (s ∷ band) ≡ s ∷ band
-behind_false s band e = ap (λ b. (let r : List Sent = cond b (behind_last band) (s ∷ band) in r)) e
+after_false : (s : Sent) (band : List Sent) → any_of is_new (s ∷ band) ≡ false → after_last (s ∷ band) ≡ s ∷ band
+after_false s band e = ap (λ b. (let r : List Sent = cond b (after_last band) (s ∷ band) in r)) e
 
 -- an EOB where anything is left
 abbrev pub tail : List Sent → List Element
 tail [] = []
 tail (s ∷ rest) = ends 1 [] ∷ []
 
-none_corrected : (values : List ℤ) → corrections_of (map newly values) ≡ []
+none_corrected : (values : List ℤ) → corrections_of (map newly_significant values) ≡ []
 none_corrected [] = refl
 none_corrected (v ∷ values) = none_corrected values
 
-none_behind : (values : List ℤ) → corrections_of (behind_last (map newly values)) ≡ []
+none_behind : (values : List ℤ) → corrections_of (after_last (map newly_significant values)) ≡ []
 none_behind [] = refl
-none_behind (v ∷ values) = by (none_behind values) (any_of is_new (map newly (v ∷ values))) refl
+none_behind (v ∷ values) = by (none_behind values) (any_of is_new (map newly_significant (v ∷ values))) refl
   where
-    by : corrections_of (behind_last (map newly values)) ≡ [] → (b : Bool) → any_of is_new (map newly (v ∷ values)) ≡ b → corrections_of (behind_last (map newly (v ∷ values))) ≡ []
-    by ih true e = ap corrections_of (behind_true (newly v) (map newly values) e) ∙ ih
-    by ih false e = ap corrections_of (behind_false (newly v) (map newly values) e) ∙ none_corrected values
+    by : corrections_of (after_last (map newly_significant values)) ≡ [] → (b : Bool) → any_of is_new (map newly_significant (v ∷ values)) ≡ b → corrections_of (after_last (map newly_significant (v ∷ values))) ≡ []
+    by ih true e = ap corrections_of (after_true (newly_significant v) (map newly_significant values) e) ∙ ih
+    by ih false e = ap corrections_of (after_false (newly_significant v) (map newly_significant values) e) ∙ none_corrected values
 
--- the elements of one band by its front and its rest
+-- the elements of one band by its prefix and its rest
 abbrev pub halves : List Sent → List Sent → List Element
 halves front rest =
     let waiting = (if is_empty front then [] else []) ++ corrections_of rest in
@@ -72,10 +72,10 @@ halves_are [] (s ∷ rest) e = ap (λ bits. (let r : List Element = ends 1 bits 
 halves_are (f ∷ front) [] e = refl
 halves_are (f ∷ front) (s ∷ rest) e = ap (λ bits. (let r : List Element = value_elements 0 [] (f ∷ front) ++ ends 1 bits ∷ [] in r)) e
 
-band_halves : (band : List Sent) → band_elements 1 0 [] (band ∷ []) ≡ halves (up_to_last band) (behind_last band)
-band_halves band = by (up_to_last band) (behind_last band) refl refl
+band_halves : (band : List Sent) → band_elements 1 0 [] (band ∷ []) ≡ halves (up_to_last band) (after_last band)
+band_halves band = by (up_to_last band) (after_last band) refl refl
   where
-    by : (front rest : List Sent) → up_to_last band ≡ front → behind_last band ≡ rest → band_elements 1 0 [] (band ∷ []) ≡ halves (up_to_last band) (behind_last band)
+    by : (front rest : List Sent) → up_to_last band ≡ front → after_last band ≡ rest → band_elements 1 0 [] (band ∷ []) ≡ halves (up_to_last band) (after_last band)
     by [] [] e f = rw (e, f) refl
     by [] (s ∷ rest) e f = rw (e, f) refl
     by (t ∷ front) [] e f = rw (e, f) refl
@@ -87,13 +87,13 @@ replicate_push : (q : ℕ) (x : Element) (xs : List Element) → replicate q x +
 replicate_push zero x xs = refl
 replicate_push (suc q) x xs = ap (λ (l : List Element). x ∷ l) (replicate_push q x xs)
 
-zero_less : (r : ℕ) (band : List Sent) → r ≢ 15 → value_elements r [] (newly (pos 0) ∷ band) ≡ value_elements (r + 1) [] band
+zero_less : (r : ℕ) (band : List Sent) → r ≢ 15 → value_elements r [] (newly_significant (pos 0) ∷ band) ≡ value_elements (r + 1) [] band
 zero_less r band n =
     let t : (r == 15) ≡ false = grind (arith, nat_tests) in
     ap (λ b. (let l : List Element = cond b (long_run [] ∷ value_elements 0 [] band) (value_elements (r + 1) [] band) in l)) t
 
 -- without a further value
-none_left : (values : List ℤ) (run : ℕ) → 1 ≤ run → any_of is_new (map newly values) ≡ false → plain_elements values run ≡ ends 1 [] ∷ []
+none_left : (values : List ℤ) (run : ℕ) → 1 ≤ run → any_of is_new (map newly_significant values) ≡ false → plain_elements values run ≡ ends 1 [] ∷ []
 none_left [] zero h e = absurd (omega arith)
 none_left [] (suc run) h e = refl
 none_left (pos zero ∷ values) run h e = none_left values (run + 1) (omega arith) e
@@ -102,29 +102,29 @@ none_left (negsuc n ∷ values) run h e = cc
 
 -- all of a band whose values are these
 abbrev pub whole : ℕ → List ℤ → List Element
-whole r values = value_elements r [] (up_to_last (map newly values)) ++ tail (behind_last (map newly values))
+whole r values = value_elements r [] (up_to_last (map newly_significant values)) ++ tail (after_last (map newly_significant values))
 
 abbrev pub IsPlain : List ℤ → Type 0
 IsPlain values =
-    ((q r : ℕ) → r ≤ 15 → any_of is_new (map newly values) ≡ true → replicate q (long_run []) ++ whole r values ≡ plain_elements values (16 * q + r))
+    ((q r : ℕ) → r ≤ 15 → any_of is_new (map newly_significant values) ≡ true → replicate q (long_run []) ++ whole r values ≡ plain_elements values (16 * q + r))
     × (whole 0 values ≡ plain_elements values 0)
 
-whole_none : (values : List ℤ) → any_of is_new (map newly values) ≡ false → whole 0 values ≡ plain_elements values 0
+whole_none : (values : List ℤ) → any_of is_new (map newly_significant values) ≡ false → whole 0 values ≡ plain_elements values 0
 whole_none [] e = refl
 whole_none (pos zero ∷ values) e =
-    rw (up_false (newly (pos 0)) (map newly values) e, behind_false (newly (pos 0)) (map newly values) e) (sym (none_left values 1 (lit≤ tt) e))
+    rw (up_false (newly_significant (pos 0)) (map newly_significant values) e, after_false (newly_significant (pos 0)) (map newly_significant values) e) (sym (none_left values 1 (lit≤ tt) e))
 whole_none (pos (suc n) ∷ values) e = cc
 whole_none (negsuc n ∷ values) e = cc
 
-zero_step : (values : List ℤ) (q r : ℕ) → IsPlain values → r ≤ 15 → any_of is_new (map newly values) ≡ true
-    → replicate q (long_run []) ++ (value_elements r [] (newly (pos 0) ∷ up_to_last (map newly values)) ++ tail (behind_last (map newly values))) ≡ plain_elements values (16 * q + r + 1)
+zero_step : (values : List ℤ) (q r : ℕ) → IsPlain values → r ≤ 15 → any_of is_new (map newly_significant values) ≡ true
+    → replicate q (long_run []) ++ (value_elements r [] (newly_significant (pos 0) ∷ up_to_last (map newly_significant values)) ++ tail (after_last (map newly_significant values))) ≡ plain_elements values (16 * q + r + 1)
 zero_step values q r ih h e =
-    let rest = tail (behind_last (map newly values)) in
-    let front = up_to_last (map newly values) in
+    let rest = tail (after_last (map newly_significant values)) in
+    let front = up_to_last (map newly_significant values) in
     ⊎_elim
     (λ (s : r ≡ 15).
     let n : 16 * suc q + 0 ≡ 16 * q + r + 1 = omega (arith, s) in
-    ap (λ k. replicate q (long_run []) ++ (value_elements k [] (newly (pos 0) ∷ front) ++ rest)) s
+    ap (λ k. replicate q (long_run []) ++ (value_elements k [] (newly_significant (pos 0) ∷ front) ++ rest)) s
     ∙ replicate_push q (long_run []) (value_elements 0 [] front ++ rest) ∙ ih.0 (suc q) 0 (lit≤ tt) e ∙ ap (plain_elements values) n)
     (λ (s : r ≢ 15).
     let n : 16 * q + (r + 1) ≡ 16 * q + r + 1 = omega arith in
@@ -132,7 +132,7 @@ zero_step values q r ih h e =
     (cases_eq r 15)
 
 value_step : (v : ℤ) (values : List ℤ) (q r : ℕ) → IsPlain values → r ≤ 15
-    → replicate q (long_run []) ++ ((value r v [] ∷ value_elements 0 [] (up_to_last (map newly values))) ++ tail (behind_last (map newly values)))
+    → replicate q (long_run []) ++ ((value r v [] ∷ value_elements 0 [] (up_to_last (map newly_significant values))) ++ tail (after_last (map newly_significant values)))
     ≡ replicate ((16 * q + r) / 16) (long_run []) ++ value ((16 * q + r) % 16) v [] ∷ plain_elements values 0
 value_step v values q r ih h =
     let m : q ≡ (16 * q + r) / 16 = omega arith in
@@ -141,29 +141,29 @@ value_step v values q r ih h =
     ∙ ap (λ k. replicate k (long_run []) ++ (value r v [] ∷ plain_elements values 0)) m
     ∙ ap (λ k. replicate ((16 * q + r) / 16) (long_run []) ++ (value k v [] ∷ plain_elements values 0)) n
 
-with_value : (s : Sent) (values : List ℤ) (r : ℕ) → any_of is_new (s ∷ map newly values) ≡ true
-    → value_elements r [] (up_to_last (s ∷ map newly values)) ++ tail (behind_last (s ∷ map newly values)) ≡ value_elements r [] (s ∷ up_to_last (map newly values)) ++ tail (behind_last (map newly values))
-with_value s values r e = ap (λ front. value_elements r [] front ++ tail (behind_last (s ∷ map newly values))) (up_true s (map newly values) e)
-    ∙ ap (λ rest. value_elements r [] (s ∷ up_to_last (map newly values)) ++ tail rest) (behind_true s (map newly values) e)
+with_value : (s : Sent) (values : List ℤ) (r : ℕ) → any_of is_new (s ∷ map newly_significant values) ≡ true
+    → value_elements r [] (up_to_last (s ∷ map newly_significant values)) ++ tail (after_last (s ∷ map newly_significant values)) ≡ value_elements r [] (s ∷ up_to_last (map newly_significant values)) ++ tail (after_last (map newly_significant values))
+with_value s values r e = ap (λ front. value_elements r [] front ++ tail (after_last (s ∷ map newly_significant values))) (up_true s (map newly_significant values) e)
+    ∙ ap (λ rest. value_elements r [] (s ∷ up_to_last (map newly_significant values)) ++ tail rest) (after_true s (map newly_significant values) e)
 
-plain_ahead : (v : ℤ) (values : List ℤ) → IsPlain values → (q r : ℕ) → r ≤ 15 → any_of is_new (map newly (v ∷ values)) ≡ true → replicate q (long_run []) ++ whole r (v ∷ values) ≡ plain_elements (v ∷ values) (16 * q + r)
-plain_ahead (pos zero) values ih q r h e = ap (λ es. replicate q (long_run []) ++ es) (with_value (newly (pos 0)) values r e) ∙ zero_step values q r ih h e
-plain_ahead (pos (suc n)) values ih q r h e = ap (λ es. replicate q (long_run []) ++ es) (with_value (newly (pos (suc n))) values r e) ∙ value_step (pos (suc n)) values q r ih h
-plain_ahead (negsuc n) values ih q r h e = ap (λ es. replicate q (long_run []) ++ es) (with_value (newly (negsuc n)) values r e) ∙ value_step (negsuc n) values q r ih h
+plain_ahead : (v : ℤ) (values : List ℤ) → IsPlain values → (q r : ℕ) → r ≤ 15 → any_of is_new (map newly_significant (v ∷ values)) ≡ true → replicate q (long_run []) ++ whole r (v ∷ values) ≡ plain_elements (v ∷ values) (16 * q + r)
+plain_ahead (pos zero) values ih q r h e = ap (λ es. replicate q (long_run []) ++ es) (with_value (newly_significant (pos 0)) values r e) ∙ zero_step values q r ih h e
+plain_ahead (pos (suc n)) values ih q r h e = ap (λ es. replicate q (long_run []) ++ es) (with_value (newly_significant (pos (suc n))) values r e) ∙ value_step (pos (suc n)) values q r ih h
+plain_ahead (negsuc n) values ih q r h e = ap (λ es. replicate q (long_run []) ++ es) (with_value (newly_significant (negsuc n)) values r e) ∙ value_step (negsuc n) values q r ih h
 
 all_plain : (values : List ℤ) → IsPlain values
 all_plain [] = ((λ q r h e. cc), refl)
-all_plain (v ∷ values) = by (all_plain values) (any_of is_new (map newly (v ∷ values))) refl
+all_plain (v ∷ values) = by (all_plain values) (any_of is_new (map newly_significant (v ∷ values))) refl
   where
-    by : IsPlain values → (b : Bool) → any_of is_new (map newly (v ∷ values)) ≡ b → IsPlain (v ∷ values)
+    by : IsPlain values → (b : Bool) → any_of is_new (map newly_significant (v ∷ values)) ≡ b → IsPlain (v ∷ values)
     by ih true e = (plain_ahead v values ih, plain_ahead v values ih 0 0 (lit≤ tt) e)
     by ih false e = (plain_ahead v values ih, whole_none (v ∷ values) e)
 
 pub band_plain : (values : List ℤ) → band_elements 1 0 [] (map (sent false 0) values ∷ []) ≡ plain_elements values 0
 band_plain values =
     ap (λ band. band_elements 1 0 [] (band ∷ [])) (sent_newly values)
-    ∙ band_halves (map newly values)
-    ∙ halves_are (up_to_last (map newly values)) (behind_last (map newly values)) (none_behind values)
+    ∙ band_halves (map newly_significant values)
+    ∙ halves_are (up_to_last (map newly_significant values)) (after_last (map newly_significant values)) (none_behind values)
     ∙ (all_plain values).1
 
 -- ITS BITS

@@ -14,7 +14,7 @@ use Rattle.jpg_spec.proofs.Common.{both}
 use Rattle.jpg_seq.specs.BlockBits.{IsShort}
 use Rattle.jpg_seq.proofs.Bands.{left_bits}
 
--- the value at a place, and those behind it
+-- the value at a place, and those after it
 pub left_at : (codes : List Code) (block : List ℤ) (k run : ℕ) → k < length block → left_bits codes (drop k block) run ≡ left_bits codes (slice_index_or block k (pos 0) ∷ drop (k + 1) block) run
 left_at codes block k run h = ap (λ values. left_bits codes values run) (drop-cons block k (pos 0) h ∙ ap (λ n. slice_index_or block k (pos 0) ∷ drop n block) (sym (add-one k)))
 

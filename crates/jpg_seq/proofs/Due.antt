@@ -1,10 +1,10 @@
--- Where the machine of a sequential scan stands, units are due: whole elements, and a part of one more.
+-- Where the machine of a sequential scan is, units are left: it has read complete elements, and a part of one more.
 use Rattle.std.proofs.Common.{Bool, List, [], ◌∷◌, ◌++◌, refl, sym, ap, ◌∙◌, arith, ℤ}
 use Rattle.std.proofs.lemmas.List.{append_assoc, append-nil, length-map}
 use Rattle.std.proofs.lemmas.List.Elements.{All-head}
 use Rattle.jpg_spec.specs.Elements.{Standing, at_start}
 use Rattle.jpg_spec.specs.Parts.{StandsInUnits}
-use Rattle.jpg_spec.proofs.Bands.{covers_then}
+use Rattle.jpg_spec.proofs.Values.{covers_then}
 use Rattle.jpg_coefs.specs.Picture.{Picture}
 use Rattle.jpg_coefs.specs.Machine.{Interval, units_of, IsUnfinished, KeepsUnits}
 use Rattle.jpg_seq.specs.declared.reader.SeqReader.{SeqReader}

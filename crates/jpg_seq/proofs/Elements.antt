@@ -1,4 +1,4 @@
--- The elements of a sequential unit, where its values were zeros so far.
+-- The elements of a sequential unit, whose values were zeros so far.
 use Rattle.std.proofs.Common.{◌≡◌, ℕ, zero, suc, ◌+◌, ◌-◌, ◌<◌, ◌≤◌, Bool, true, false, List, [], ◌∷◌, ◌++◌, length, refl, sym, ap, ◌∙◌, subst, arith, ℤ, pos, ◌*ℤ◌, ◌+ℤ◌, ⊎_elim, inl, inr, min}
 use Rattle.std.proofs.lemmas.List.{append-nil, length-append, length-replicate, replicate-append-replicate}
 use Rattle.std.proofs.lemmas.Int.{ints}
@@ -7,7 +7,7 @@ use Rattle.jpg_spec.specs.Codes.{Code}
 use Rattle.jpg_spec.specs.Numbers.{category}
 use Rattle.jpg_spec.specs.Elements.{Element, difference, value, long_run, ends, Coding, UnitLeft, Standing, Covers, Tells, SpellsElement, codes_due, going_on, predictions_after, zeros, zeros_in, nonzeros_in, corrected, scaled, are_in_bounds, new_unit}
 use Rattle.jpg_spec.specs.declared.frame.Bounds.{Bounds}
-use Rattle.jpg_spec.proofs.Writing.{going_same}
+use Rattle.jpg_spec.proofs.Values.{going_same}
 use Rattle.jpg_spec.proofs.Common.{bounds_join}
 use Rattle.jpg_spec.proofs.Small.{one_digit}
 use Rattle.jpg_seq.specs.Range.{AreSane}
@@ -54,7 +54,7 @@ pub one_element : (c : Coding) (s t : Standing) (u : UnitLeft) (units left : Lis
 one_element c s t u units left e here bits l sp told ok is =
     (u, units, here, left, [], bits, [], l, sym (append-nil here), sym (append-nil bits), sp, told, ok, (refl, refl, sym is))
 
--- where n values are left, the element tells these, all of them zero but the last
+-- where n values are left, the element encodes these, all of them zero except the last
 abbrev pub TellsHere : Coding → ℕ → ℕ → Element → List ℤ → Type 0
 TellsHere c i n e here =
     ((q : ℤ) (others : List UnitLeft) → Tells c q e (open_unit i (zeros n)) others here (going_on (open_unit i []) (zeros (n - length here)) others))

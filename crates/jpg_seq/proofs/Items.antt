@@ -1,4 +1,4 @@
--- What stands first in the bits of a unit.
+-- What comes first in the bits of a unit.
 use Rattle.std.proofs.Common.{◌≡◌, ℕ, ◌+◌, ◌-◌, ◌*◌, ◌%◌, ◌<◌, ◌≤◌, Bool, false, List, [], ◌∷◌, ◌++◌, length, take, drop, get_or, refl, sym, ap, ◌∙◌, subst, arith, ℤ, pos, ◌+ℤ◌, inl, inr, ⊎_elim, min}
 use Rattle.std.specs.List.{Contains}
 use Rattle.std.proofs.lemmas.List.{append_assoc, append-nil, length-append, length-replicate, length-take-le, length-drop, take-append-drop, take_more}
@@ -7,15 +7,15 @@ use Rattle.std.proofs.lemmas.Bool.{cases_lt}
 use Rattle.jpg_spec.specs.Bits.{bits_of}
 use Rattle.jpg_spec.specs.Codes.{Code}
 use Rattle.jpg_spec.specs.Numbers.{category, extra_bits, digits}
-use Rattle.jpg_spec.specs.Elements.{Element, difference, value, long_run, ends, Coding, Standing, Covers, SpellsElement, going_on, predicted, predictions_after, zeros, symbol_of, bits_behind, new_unit}
+use Rattle.jpg_spec.specs.Elements.{Element, difference, value, long_run, ends, Coding, Standing, Covers, SpellsElement, going_on, predicted, predictions_after, zeros, symbol_of, bits_after, new_unit}
 use Rattle.jpg_spec.specs.declared.frame.Bounds.{Bounds}
 use Rattle.jpg_huff.specs.Walk.{BeginsNoCode}
 use Rattle.jpg_spec.specs.Parts.{IsFront}
 use Rattle.jpg_huff.specs.Laws as huff_laws
 use Rattle.jpg_coefs.specs.declared.machine.UnitFault.{UnitFault}
 use Rattle.jpg_coefs.specs.declared.machine.UnitFault.TheVariants.{NoCode, BadSymbol, BadRun, CoefRange}
-use Rattle.jpg_seq.specs.declared.work.Next.{Next}
-use Rattle.jpg_seq.specs.declared.work.Next.TheVariants.{Part, Value, Zeros, Bad}
+use Rattle.jpg_seq.specs.declared.work.NextElement.{NextElement}
+use Rattle.jpg_seq.specs.declared.work.NextElement.TheVariants.{Part, Value, Zeros, Bad}
 use Rattle.jpg_seq.specs.Range.{AreSane, InRange}
 use Rattle.jpg_seq.specs.Judge.{IsBadSymbol, IsBadRun}
 use Rattle.jpg_seq.specs.Stands.{IsCodingOf, MayStand, standing_at, unit_in_work, open_unit, codes_next}
@@ -25,7 +25,7 @@ use Rattle.jpg_seq.proofs.Tests.{first_out, not_first_symbol, first_in_bounds}
 use Rattle.jpg_seq.proofs.Elements.{TellsHere, value_tells, run_tells, end_tells, first_tells, one_element, some_left}
 use Rattle.jpg_seq.proofs.Steps.{bad_shows, run_shows}
 
--- STRINGS CUT IN TWO WAYS
+-- STRINGS SPLIT IN TWO WAYS
 
 pub cut : (x y a b : List Bool) → x ++ y ≡ a ++ b → length x ≤ length a → (m : List Bool) × (a ≡ x ++ m) × (y ≡ m ++ b)
 cut [] y a b e h = (a, refl, e)
@@ -40,7 +40,7 @@ pub some_of : (y : List Bool) → 1 ≤ length y → (b : Bool) × (m : List Boo
 some_of [] h = absurd (omega arith)
 some_of (b ∷ m) h = (b, m, refl)
 
--- FRONTS
+-- PREFIXES
 
 code_front : (e : Env) (values : List ℤ) (code : Code) (x y : List Bool) → Contains (next_codes e values) code → code.0 ≡ x ++ y → 1 ≤ length y → IsPartOf e values x
 code_front e values code x y c s h =
@@ -76,13 +76,13 @@ front_fronts e values bits next f x y s h =
 
 -- NO PART BEGINS WITH
 
--- a code is no front of another one
+-- no code is a prefix of another one
 no_longer : (codes : List Code) (code other : Code) (x : List Bool) → huff_laws.AreApart codes → Contains codes code → Contains codes other → other.0 ≡ code.0 ++ x → 1 ≤ length x → ⊥
 no_longer codes code other x apart c d s h =
     let e = apart code other x [] c d (sym s ∙ sym (append-nil other.0)) in
     omega (arith, ap (λ (k : Code). length k.0) e, ap length s, length-append code.0 x)
 
--- with a code, and as many bits as its symbol wants
+-- with a code, and as many bits as its symbol needs
 pub code_ends : (e : Env) (values : List ℤ) (code ext : List Bool) (symbol : ℕ) → huff_laws.AreApart (next_codes e values) → Contains (next_codes e values) (code, symbol) → 1 ≤ length code
     → ((run size : ℕ) → symbol ≡ 16 * run + size → MayStand e.bounds values run size → size ≤ length ext) → NoPartBegins e values (code ++ ext)
 code_ends e values code ext symbol apart c some enough part z (inl n) s = omega (arith, ap length n, ap length s, length-append (code ++ ext) z, length-append code ext)
@@ -143,7 +143,7 @@ later_adds e (v ∷ vs) el here bits some less sp tells c i p others r =
           (some_left i n others (omega arith)) (subst P (sym k.ac_codes) sp) (w.0 (predicted p i v i) others) w.1 is,
     )
 
--- the codes behind the first value
+-- the codes for what follows the first value
 pub ac_codes : (e : Env) (values : List ℤ) → 1 ≤ length values → e.ac ≡ next_codes e values
 ac_codes e [] h = absurd (omega arith)
 ac_codes e (v ∷ values) h = refl
@@ -160,7 +160,7 @@ pub end_symbol : symbol_of (ends 1 []) ≡ 0
 unfolding digits
 end_symbol = refl
 
-pub end_bits : bits_behind (ends 1 []) ≡ []
+pub end_bits : bits_after (ends 1 []) ≡ []
 unfolding digits bits_of
 end_bits = refl
 
@@ -170,7 +170,7 @@ pub bare_ends : (e : Env) (values : List ℤ) (code : List Bool) (symbol : ℕ) 
 bare_ends e values code symbol apart c some none part z p s =
     code_ends e values code [] symbol apart c some none part z p (s ∙ ap (λ x. x ++ z) (sym (append-nil code)))
 
--- a value behind a run of zeros
+-- a value after a run of zeros
 pub value_element : (e : Env) (values : List ℤ) (code ext : List Bool) (run size : ℕ) (v : ℤ) → AreSane e.bounds → huff_laws.AreApart e.ac → 1 ≤ length values → length values < 64
     → Contains e.ac (code, 16 * run + size) → 1 ≤ length code → 1 ≤ size → size ≤ e.bounds.ac_cat → run + length values < 64 → run < 16 → category v ≡ size → extra_bits v ≡ ext → length ext ≡ size
     → IsElement e values (code ++ ext) (zeros run ++ v ∷ [])
@@ -190,7 +190,7 @@ value_element e values code ext run size v sane apart some less c long low high 
           (λ r n same m. let f = from_later e.bounds values r n some m in omega (arith, same, f.0, f.2, sane.ac_cat, high, l));
     }
 
--- zeros by their code alone
+-- zeros that consist only of their code
 pub zeros_element : (e : Env) (values : List ℤ) (code : List Bool) (symbol n : ℕ) (el : Element) → AreSane e.bounds → huff_laws.AreApart e.ac → 1 ≤ length values → length values < 64
     → Contains e.ac (code, symbol) → 1 ≤ length code → symbol % 16 ≡ 0 → 1 ≤ n → n ≤ 64 - length values → SpellsElement e.ac el code
     → ((c : Coding) (i : ℕ) → IsCodingOf e.bounds e.dc e.ac c i → TellsHere c i (64 - length values) el (zeros n)) → IsElement e values code (zeros n)
@@ -308,7 +308,7 @@ first_out_shown e code ext size d apart c long few cat x l out =
       ends = code_ends e [] code ext size apart c long (λ r n same m. omega (arith, same, m.0, l));
     }
 
--- BITS FROM THE FRONT
+-- BITS FROM THE FIRST ONE ON
 
 pub take_join : (m n : ℕ) (xs : List Bool) → m ≤ length xs → take (m + n) xs ≡ take m xs ++ take n (drop m xs)
 take_join m n xs h =
@@ -324,14 +324,14 @@ none_taken e values bits n apart some low high f none =
     let G : List Bool → Type 0 = λ b. IsShownFault e values b NoCode in
     subst G (sym t) (none_shown e values (take (n - 1) bits) (get_or bits (n - 1) false) apart some f (subst N t none))
 
--- a code whose bits behind it aren't all there
+-- a code whose bits after it aren't complete
 pub waits : (e : Env) (values : List ℤ) (bits : List Bool) (n run size : ℕ) → n ≤ 16 → n ≤ length bits → Contains (next_codes e values) (take n bits, 16 * run + size) → MayStand e.bounds values run size → size ≤ 15 → length bits < n + size
     → IsPartOf e values bits × (length bits < 32)
 waits e values bits n run size few there c may small short =
     (inr (inr (take n bits, drop n bits, run, size, c, sym (take-append-drop n bits), omega (arith, length-drop n bits), may)), omega arith)
 
--- what the first value comes to
-pub first_comes : (e : Env) (bits : List Bool) (n size number : ℕ) (d : ℤ) (next : Next) → huff_laws.AreApart e.dc → 1 ≤ n → n + size ≤ length bits → Contains e.dc (take n bits, size) → size ≤ e.bounds.dc_cat → category d ≡ size → extra_bits d ≡ take size (drop n bits)
+-- the result of the first value
+pub first_comes : (e : Env) (bits : List Bool) (n size number : ℕ) (d : ℤ) (next : NextElement) → huff_laws.AreApart e.dc → 1 ≤ n → n + size ≤ length bits → Contains e.dc (take n bits, size) → size ≤ e.bounds.dc_cat → category d ≡ size → extra_bits d ≡ take size (drop n bits)
     → number ≡ n + size → IsFirstValue e.bounds e.prediction d number next → StandsFirst e [] bits next
 first_comes e bits n size number d Part apart low there c few cat x m first = absurd first
 first_comes e bits n size number d (Zeros count k) apart low there c few cat x m first = absurd first

@@ -9,7 +9,7 @@ pub mod Machines
 pub mod Marked
 pub mod NewCoders
 pub mod Parts
-pub mod Readings
+pub mod StoreReadings
 pub mod RowReadings
 pub mod ScanIntervals
 pub mod ScanRows
@@ -18,5 +18,5 @@ pub mod Sources
 pub mod Steps
 pub mod Takings
 pub mod Tests
-pub mod Told
+pub mod ShortValue
 pub mod ToldTaken

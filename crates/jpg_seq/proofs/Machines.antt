@@ -9,7 +9,7 @@ use Rattle.std.proofs.lemmas.Bool.Decides.{nat_tests}
 use Rattle.jpg_spec.specs.Elements.{Element, UnitLeft, Standing, Covers, going_on, predicted, zeros, at_start}
 use Rattle.jpg_spec.specs.Geometry.{Frame, padded_blocks}
 use Rattle.jpg_spec.specs.declared.frame.Place.{Place}
-use Rattle.jpg_spec.proofs.Bands.{covers_then}
+use Rattle.jpg_spec.proofs.Values.{covers_then}
 use Rattle.jpg_spec.specs.Lists.{any_of, slot_value}
 use Rattle.jpg_spec.specs.Scan.{Scan, band, block_at, coefficient}
 use Rattle.jpg_spec.specs.PictureInWork.{is_at, is_in_band, AreDistinct, UnitsRead}
@@ -33,7 +33,7 @@ use Rattle.jpg_seq.proofs.Elements.{left_at}
 abbrev pub env_at : SeqReader → Coder → ℕ → Env
 env_at m coder k = env_in m.bounds coder (prediction_at m k)
 
--- the unit in work is of the cursor's place
+-- the current unit is of the cursor's place
 pub next_is : (m : SeqReader) (i : Interval) (bits : List Bool) (now : Picture) (p : Place) → slice_get m.cursor 0 ≡ Some p → (o : SeqStands m i bits now) → o.next ≡ p
 next_is m i bits now p e o = some_once o.next p (sym (ap (λ (l : List Place). slice_get l 0) o.cursor) ∙ e)
 
@@ -121,23 +121,23 @@ chain_within m p coder now [] s t first there h = (ap (λ (w : Work). (let r : S
 chain_within m p coder now (b ∷ bits) s t first there h =
     (record m { unit = h.0 }, now, step_within (record m { unit = s }) p coder now b h.0 first there h.1, chain_within m p coder now bits h.0 t first there h.2)
 
--- A WHOLE UNIT
+-- A COMPLETE UNIT
 
--- predictions behind a block
-pub behind_block : (ℕ → ℤ) → ℕ → List ℤ → ℕ → ℤ
-behind_block p k [] = p
-behind_block p k (v ∷ values) = predicted p k v
+-- predictions after a block
+pub after_block : (ℕ → ℤ) → ℕ → List ℤ → ℕ → ℤ
+after_block p k [] = p
+after_block p k (v ∷ values) = predicted p k v
 
-whole_standing : (p : ℕ → ℤ) (k : ℕ) (others : List UnitLeft) (block : List ℤ) → length block ≡ 64 → standing_at p k others block ≡ record { predictions = behind_block p k block; left = others }
-unfolding behind_block
+whole_standing : (p : ℕ → ℤ) (k : ℕ) (others : List UnitLeft) (block : List ℤ) → length block ≡ 64 → standing_at p k others block ≡ record { predictions = after_block p k block; left = others }
+unfolding after_block
 whole_standing p k others [] e = absurd (omega arith)
 whole_standing p k others (v ∷ values) e =
     let z : 63 - length values ≡ 0 = omega arith in
     ap (λ (n : ℕ). (let r : Standing = record { predictions = predicted p k v; left = going_on (open_unit k []) (zeros n) others } in r)) z
 
 predicts_more : (predictions : List ℤ) (q : ℕ → ℤ) (c k : ℕ) (block : List ℤ) → length block ≡ 64 → length predictions ≡ 4 → c < 4 → slice_index_or predictions k (pos 0) ≡ q k
-    → slice_index_or (slice_set predictions c (slice_index_or block 0 (pos 0))) k (pos 0) ≡ behind_block q c block k
-unfolding behind_block
+    → slice_index_or (slice_set predictions c (slice_index_or block 0 (pos 0))) k (pos 0) ≡ after_block q c block k
+unfolding after_block
 predicts_more predictions q c k [] whole four lt h = absurd (omega arith)
 predicts_more predictions q c k (v ∷ block) whole four lt h =
     ⊎_elim
@@ -147,12 +147,12 @@ predicts_more predictions q c k (v ∷ block) whole four lt h =
     s ∙ h ∙ ap (λ (b : Bool). cond b v (q k)) (sym (not_same k c n))))
     (cases_eq k c)
 
--- a band that is a whole block
+-- a band that is a complete block
 whole_band : (s : Scan) (block : List ℤ) → s.ss ≡ 0 → s.se ≡ 63 → length block ≡ 64 → band s block ≡ block
 whole_band s block ss se long = ap (λ n. take (n + 1 - s.ss) (drop s.ss block)) se ∙ ap (λ n. take (63 + 1 - n) (drop n block)) ss ∙ take_all 64 block (omega (arith, long))
 
-behind_band : (s : Scan) (k : ℕ) → s.ss ≡ 0 → s.se ≡ 63 → is_in_band s k ≡ false → 64 ≤ k
-behind_band s k ss se e = ⊎_elim (λ (h : k < 64). absurd (no h)) (λ (h : 64 ≤ k). h) (cases_lt k 64)
+after_band : (s : Scan) (k : ℕ) → s.ss ≡ 0 → s.se ≡ 63 → is_in_band s k ≡ false → 64 ≤ k
+after_band s k ss se e = ⊎_elim (λ (h : k < 64). absurd (no h)) (λ (h : 64 ≤ k). h) (cases_lt k 64)
   where
     test : (m n : ℕ) → m ≤ n → nat_le m n ≡ true
     test m n h = grind (arith, nat_tests, h)
@@ -164,14 +164,14 @@ behind_band s k ss se e = ⊎_elim (λ (h : k < 64). absurd (no h)) (λ (h : 64 
         let z : true ≡ false = sym (ap (λ t. t && nat_le k s.se) a ∙ b) ∙ e in
         cc
 
--- the place of the unit in work isn't behind
+-- the place of the current unit isn't among those done
 next_apart : (done : List Place) (next : Place) (more : List Place) → AreDistinct (done ++ next ∷ more) → any_of (is_at next.component next.x next.y) done ≡ false
 next_apart done next more d = (apart_swap done (next ∷ more) (apart_of done (next ∷ more) d)).0
 
--- what stands behind a whole unit
+-- what is true after a complete unit
 pub record UnitRead (m : SeqReader) (i : Interval) (bits : List Bool) (now : Picture) (p : Place) (block : List ℤ) (b : Bool) (o : SeqStands m i bits now) : Type 0 where
   pub elements : List Element
-  pub covers : Covers i.scan.coding (at_start (units_of i)) elements (o.whole ++ block) (bits ++ b ∷ []) (record { predictions = behind_block o.predictions p.component block; left = new_units_at o.more })
+  pub covers : Covers i.scan.coding (at_start (units_of i)) elements (o.whole ++ block) (bits ++ b ∷ []) (record { predictions = after_block o.predictions p.component block; left = new_units_at o.more })
   pub read : UnitsRead i.scan (o.done ++ p ∷ []) (map_of i.before) (map_of (put_at now p block)) (o.whole ++ block)
 
 unit_read : (m : SeqReader) (i : Interval) (bits : List Bool) (now : Picture) (p : Place) (coder : Coder) (block : List ℤ) (b : Bool) → (o : SeqStands m i bits now) → o.next ≡ p → coder_at m p.component ≡ Some coder
@@ -187,9 +187,9 @@ unit_read m i bits now p coder block b o n there count h =
     let unit : Covers i.scan.coding (st []) (o.unit_elements ++ adds.0) (s.values ++ h.0) (o.unit_front ++ (s.part ++ b ∷ [])) (st (s.values ++ h.0)) =
     covers_then i.scan.coding (st []) (st s.values) (st (s.values ++ h.0)) o.unit_elements adds.0 s.values h.0 o.unit_front (s.part ++ b ∷ []) o.unit_covers adds.1 in
     let C : List ℤ → Type 0 = λ v. Covers i.scan.coding (st []) (o.unit_elements ++ adds.0) v (o.unit_front ++ (s.part ++ b ∷ [])) (st v) in
-    let last : Standing = record { predictions = behind_block o.predictions k block; left = new_units_at o.more } in
+    let last : Standing = record { predictions = after_block o.predictions k block; left = new_units_at o.more } in
     let D : Standing → Type 0 = λ t. Covers i.scan.coding (st []) (o.unit_elements ++ adds.0) block (o.unit_front ++ (s.part ++ b ∷ [])) t in
-    let is : st block ≡ last = whole_standing o.predictions o.next.component (new_units_at o.more) block h.3 ∙ ap (λ (q : ℕ). (let r : Standing = record { predictions = behind_block o.predictions q block; left = new_units_at o.more } in r)) kk in
+    let is : st block ≡ last = whole_standing o.predictions o.next.component (new_units_at o.more) block h.3 ∙ ap (λ (q : ℕ). (let r : Standing = record { predictions = after_block o.predictions q block; left = new_units_at o.more } in r)) kk in
     let whole = subst D is (subst C (sym h.2) unit) in
     let all = covers_then i.scan.coding (at_start (units_of i)) (st []) last o.elements (o.unit_elements ++ adds.0) o.whole block o.front (o.unit_front ++ (s.part ++ b ∷ [])) o.covers whole in
     let text : o.front ++ (o.unit_front ++ (s.part ++ b ∷ [])) ≡ bits ++ b ∷ [] =
@@ -201,7 +201,7 @@ unit_read m i bits now p coder block b o n there count h =
     let apart : any_of (is_at p.component p.x p.y) o.done ≡ false =
     subst (λ (q : Place). any_of (is_at q.component q.x q.y) o.done ≡ false) n (next_apart o.done o.next (o.more ++ i.later) (subst (λ (l : List Place). AreDistinct l) places o.distinct)) in
     let short : (j : ℕ) → is_in_band i.scan j ≡ false → slice_index_or block j (pos 0) ≡ coefficient (map_of now) p.component p.x p.y j =
-    λ j e. (let far = behind_band i.scan j (o.kind).ss (o.kind).se e in
+    λ j e. (let far = after_band i.scan j (o.kind).ss (o.kind).se e in
     get_or_past block j (pos 0) (omega (arith, far, h.3)) ∙ sym (get_or_past (map_of now p.component p.x p.y) j (pos 0) (omega (arith, far, (o.read.changes).sizes p.component p.x p.y)))) in
     let there_is : HasPlace now p = record { place = pad; count = count } in
     let read = units_next i.scan o.done p (map_of i.before) (map_of now) (map_of (put_at now p block)) o.whole apart o.read (put_changes i.scan now p block there_is (record { size = h.3; same = short })) in
@@ -212,7 +212,7 @@ unit_read m i bits now p coder block b o n there count h =
       read = subst (λ (l : List ℤ). UnitsRead i.scan (o.done ++ p ∷ []) (map_of i.before) (map_of (put_at now p block)) (o.whole ++ l)) told read;
     }
 
--- the machine behind a whole unit
+-- the machine after a complete unit
 abbrev pub after_unit : SeqReader → Work → ℕ → SeqReader
 after_unit m whole k = behind (record m { unit = whole }) k
 
@@ -237,7 +237,7 @@ step_unit m p coder now b whole first there count h many i bits o =
     let l = some_places o.more (omega (arith, o.left, many)) in
     let small = (All-head (IsPlaceReadable m i.before.frame) o.next (o.more ++ i.later) o.spots).small in
     let more : o.more ++ i.later ≡ l.0 ∷ (l.1 ++ i.later) = ap (λ (z : List Place). z ++ i.later) l.2 in
-    let ps : ℕ → ℤ = behind_block o.predictions k block in
+    let ps : ℕ → ℤ = after_block o.predictions k block in
     let S : List Place → Type 0 = λ z. Covers i.scan.coding (at_start (units_of i)) u.elements (o.whole ++ block) (bits ++ b ∷ []) (record { predictions = ps; left = new_units_at z }) in
     let T : List Place → Type 0 = λ z. All (IsPlaceReadable new i.before.frame) z in
     let later = All-weaker (IsPlaceReadable m i.before.frame) (IsPlaceReadable new i.before.frame) (λ q r. record { small = r.small; padded = r.padded; coder = r.coder; there = r.there }) (o.more ++ i.later) (All-tail (IsPlaceReadable m i.before.frame) o.next (o.more ++ i.later) o.spots) in
@@ -289,7 +289,7 @@ step_last m p coder now b whole first there count h one i bits o =
       record {
         frame = o.frame;
         read = units_last i.scan i.places (map_of i.before) (map_of after) (o.whole ++ block) (bits ++ b ∷ []) read
-            (u.elements, record { predictions = behind_block o.predictions k block; left = new_units_at o.more }, u.covers, ap new_units_at none);
+            (u.elements, record { predictions = after_block o.predictions k block; left = new_units_at o.more }, u.covers, ap new_units_at none);
       },
       λ j follows fits. (let R : Picture → Type 0 = λ q. All (IsPlaceReadable new q.frame) i.later in
           let F : Frame → Type 0 = λ q. All (IsPlaceReadable new q) i.later in

@@ -14,7 +14,7 @@ use Rattle.jpg_seq.specs.BlockBits.{run_bits}
 use Rattle.jpg_seq.proofs.Bands.{left_bits, left_zero, left_value}
 use Rattle.jpg_seq.proofs.Blocks.{left_at}
 
--- THE ZEROS IN FRONT
+-- THE LEADING ZEROS
 
 left_run : (codes : List Code) (values : List ℤ) (run : ℕ) → left_bits codes values run ≡ left_bits codes (drop (zeros_first values) values) (run + zeros_first values)
 left_run codes [] run = (let e : run ≡ run + 0 = omega arith in ap (left_bits codes []) e)
@@ -35,7 +35,7 @@ first_some (pos zero ∷ values) h =
 first_some (pos (suc n) ∷ values) h = (omega arith, λ e. cc)
 first_some (negsuc n ∷ values) h = (omega arith, λ e. cc)
 
--- THE FIRST VALUES MADE ZEROS
+-- THE FIRST VALUES SET TO ZERO
 
 abbrev pub blank : ℕ → List ℤ → List ℤ
 blank zero values = values
@@ -54,7 +54,7 @@ blank_more (suc n) zero values h = absurd (omega (arith, h))
 blank_more (suc n) (suc m) [] h = refl
 blank_more (suc n) (suc m) (v ∷ values) h = ap (λ vs. pos 0 ∷ vs) (blank_more n m values (omega (arith, h)))
 
--- without a value behind them
+-- without a value after them
 none_blank : (n : ℕ) (values : List ℤ) → (marks (blank n values) ≡ 0 → marks (drop n values) ≡ 0) × (marks (drop n values) ≡ 0 → marks (blank n values) ≡ 0)
 none_blank zero values = ((λ e. e), (λ e. e))
 none_blank (suc n) [] = ((λ e. refl), (λ e. refl))
@@ -68,7 +68,7 @@ zeros_blank zero values h = omega arith
 zeros_blank (suc n) [] h = absurd (omega (arith, h))
 zeros_blank (suc n) (v ∷ values) h = (let ih = zeros_blank n values (omega (arith, h)) in omega (arith, ih))
 
--- the lowest bit that is 1 made 0
+-- the lowest bit that is 1 set to 0
 even_cleared : (m : ℕ) → 0 < m → bit_and (2 * m) (2 * m - 1) ≡ 2 * bit_and m (m - 1)
 even_cleared m h =
     let a : m * 2 ^ 1 + 0 ≡ 2 * m = omega arith in
@@ -101,7 +101,7 @@ first_cleared (pos zero ∷ values) h =
 first_cleared (pos (suc n) ∷ values) h = one_cleared values
 first_cleared (negsuc n ∷ values) h = one_cleared values
 
--- a value behind zeros, from a place of a block on
+-- a value after zeros, from a place of a block on
 pub next_value : (codes : List Code) (block : List ℤ) (next k rest : ℕ) → length block ≡ 64 → next ≤ 64 → rest ≡ marks (blank next block) → 0 < rest → k ≡ trailing_zeros w64 rest
     → (next ≤ k) × (k < 64)
     × (left_bits codes (drop next block) 0 ≡ run_bits codes (k - next) (get_or block k (pos 0)) ++ left_bits codes (drop (k + 1) block) 0)
@@ -145,7 +145,7 @@ no_value codes block next rest long is none =
     let f : 0 + zeros_first values ≡ 64 - next = omega (arith, e, size) in
     left_run codes values 0 ∙ ap (λ vs. left_bits codes vs (0 + zeros_first values)) (drop_all (zeros_first values) values (omega (arith, e))) ∙ ap (left_bits codes []) f
 
--- the bits of a whole block, of which the first is made 0
+-- the bits of a complete block, of which the first is set to 0
 pub first_blank : (block : List ℤ) (word : ℕ) → length block ≡ 64 → word ≡ marks block → word < 2 ^ 64 → word / 2 ^ 1 * 2 ^ 1 % 2 ^ 64 ≡ marks (blank 1 block)
 first_blank [] word long is small = absurd (omega (arith, long))
 first_blank (v ∷ values) word long is small = first_even (is_some v) (marks values) word is small

@@ -112,7 +112,7 @@ index_is (i ∷ ids) (suc j) k d h e =
 component_at_part : (parts : List ScanPart) (j : ℕ) → j < length parts → get_or (map (λ (p : ScanPart). p.component) parts) j 0 ≡ (part_at parts j).component
 component_at_part parts j h = get_or-map (λ (p : ScanPart). p.component) parts j (record { component = 0; dc = 0; ac = 0 }) 0 h
 
--- the default of a part that isn't there is of no account
+-- the default of a part that isn't there doesn't matter
 part_same : (parts : List ScanPart) (j : ℕ) (d e : ScanPart) → j < length parts → get_or parts j d ≡ get_or parts j e
 part_same [] j d e h = absurd (omega arith)
 part_same (p ∷ parts) zero d e h = refl

@@ -17,12 +17,12 @@ use Rattle.jpg_coefs.specs.declared.machine.Taken.{Taken}
 use Rattle.jpg_coefs.specs.declared.machine.Taken.TheVariants as taken
 use Rattle.jpg_coefs.proofs.Maps.{put_here, put_others}
 use Rattle.jpg_seq.specs.declared.reader.SeqReader.{SeqReader}
-use Rattle.jpg_seq.specs.declared.work.Took.TheVariants as took
+use Rattle.jpg_seq.specs.declared.work.UnitProgress.TheVariants as took
 use Rattle.jpg_seq.specs.Reader.{CanRead, ReadsOn, SeqStands, behind, with_work}
 use Rattle.jpg_seq.specs.Rows.{IsRowOf, IsInRow, AreInRow, lowered, top_of}
-use Rattle.jpg_seq.specs.RowTaken.{CanReadRow, IsCountOf, IsOpen, Passes, ReadsRow, TakesInRow}
+use Rattle.jpg_seq.specs.RowTaken.{CanReadRow, IsCountOf, IsOpenRow, PassesPlaces, ReadsRow, TakesInRow}
 use Rattle.jpg_seq.specs.Work.{Work}
-use Rattle.jpg_seq.proofs.Readings.{starts, can_read, can_put, some_left, has_place, empty_ends, fault_ends, interval_ends, units_end, goes_on}
+use Rattle.jpg_seq.proofs.StoreReadings.{starts, can_read, can_put, some_left, has_place, empty_ends, fault_ends, interval_ends, units_end, goes_on}
 
 same : (a b : ℕ) → (a == b) ≡ true → a ≡ b
 same a b e = grind (arith, nat_tests, e)
@@ -82,9 +82,9 @@ next_inside P [] (suc most) (suc done) p all few is = absurd cc
 next_inside P (q ∷ places) (suc most) zero p all few is = subst P (some_once q p is) (All-head P q (take most places) all)
 next_inside P (q ∷ places) (suc most) (suc done) p all few is = next_inside P places most done p (All-tail P q (take most places) all) (omega (arith, few)) is
 
--- the places behind one more
-pub one_behind : (places : List Place) (done : ℕ) → drop 1 (drop done places) ≡ drop (done + 1) places
-one_behind places done = drop-drop 1 done places
+-- the places after one more
+pub one_after : (places : List Place) (done : ℕ) → drop 1 (drop done places) ≡ drop (done + 1) places
+one_after places done = drop-drop 1 done places
 
 -- WHAT WAS READ SO FAR, and what ends it
 
@@ -122,10 +122,10 @@ row_fault most tops m0 row0 store0 m row store done p unit rest fault first r re
     (w.0, w.1, fault_ends most m0 whole store0 m w.0 store done p unit rest fault (with_work m unit) first w.2 reads))
 
 pub passes_here : (most : ℕ) (tops : List ℕ) (m0 : SeqReader) (row0 : Picture) (store0 : List Bool) (m : SeqReader) (row : Picture) (store : List Bool) (done : ℕ) (new : SeqReader) (answer : Taken) → ReadsRow most tops m0 row0 store0 m row store done
-    → new.cursor ≡ m.cursor → new.left ≡ m.left → IsCountOf most answer new done → Passes most m0 answer new
+    → new.cursor ≡ m.cursor → new.left ≡ m.left → IsCountOf most answer new done → PassesPlaces most m0 answer new
 passes_here most tops m0 row0 store0 m row store done new answer r cursor left few = record { units = done; few = few; cursor = cursor ∙ r.cursor; left = omega (arith, r.left, left) }
 
--- A whole unit: the picture of which the row is by then.
+-- A complete unit: the picture of which the row is by then.
 pub record PutInRow (tops : List ℕ) (now row after : Picture) (p : Place) (block : List ℤ) : Type 0 where
   pub count : length row.blocks ≡ padded_blocks row.frame
   pub here : IsInRow row.frame tops p
@@ -167,13 +167,13 @@ row_goes_on most tops m0 row0 store0 m row store done p unit rest new after put 
           (now, there, goes_on most m0 whole store0 m w.0 store done p unit rest new now w.1.count first w.2 reads is refl some few));
       framed = ap (λ (q : Picture). q.frame) (put row).put ∙ r.framed;
       few = few;
-      cursor = cursor ∙ ap (drop 1) r.cursor ∙ one_behind m0.cursor done;
+      cursor = cursor ∙ ap (drop 1) r.cursor ∙ one_after m0.cursor done;
       left = omega (arith, r.left, left, some);
     }
 
 pub passes_one : (most : ℕ) (tops : List ℕ) (m0 : SeqReader) (row0 : Picture) (store0 : List Bool) (m : SeqReader) (row : Picture) (store : List Bool) (done : ℕ) (new : SeqReader) (unit : Work) (k : ℕ) (answer : Taken)
-    → ReadsRow most tops m0 row0 store0 m row store done → 1 ≤ m.left → new ≡ behind (with_work m unit) k → IsCountOf most answer new (done + 1) → Passes most m0 answer new
+    → ReadsRow most tops m0 row0 store0 m row store done → 1 ≤ m.left → new ≡ behind (with_work m unit) k → IsCountOf most answer new (done + 1) → PassesPlaces most m0 answer new
 passes_one most tops m0 row0 store0 m row store done new unit k answer r some is few =
     let left : new.left ≡ m.left - 1 = ap (λ (q : SeqReader). q.left) is in
     let cursor : new.cursor ≡ drop 1 m.cursor = ap (λ (q : SeqReader). q.cursor) is in
-    record { units = done + 1; few = few; cursor = cursor ∙ ap (drop 1) r.cursor ∙ one_behind m0.cursor done; left = omega (arith, r.left, left, some) }
+    record { units = done + 1; few = few; cursor = cursor ∙ ap (drop 1) r.cursor ∙ one_after m0.cursor done; left = omega (arith, r.left, left, some) }

@@ -12,12 +12,12 @@ use Rattle.jpg_spec.specs.Lists.{chunks, chunks_of, is_among}
 use Rattle.jpg_spec.specs.Geometry.{Frame, units, mcu_units, is_progressive}
 use Rattle.jpg_spec.specs.Segments.{ScanHead, head_components}
 use Rattle.jpg_spec.specs.Scan.{Blocks}
-use Rattle.jpg_spec.specs.ScanText.{Owned, units_due, interval_elements, element_bits, scan_data, intervals_text}
+use Rattle.jpg_spec_write.specs.ScanText.{Owned, units_due, interval_elements, element_bits, scan_data, intervals_text}
 use Rattle.jpg_spec.specs.declared.frame.Place.{Place}
 use Rattle.jpg_huff.specs.declared.set.TableSet.{TableSet}
 use Rattle.jpg_base.specs.Cursor.{AreIn}
 use Rattle.jpg_spec.proofs.Rows.{map_map}
-use Rattle.jpg_spec.proofs.PlacedBlocks.{Each}
+use Rattle.jpg_spec.proofs.Each.{Each}
 use Rattle.jpg_spec.specs.FrameHeader.{IsFrame}
 use Rattle.jpg_spec.proofs.PlacesSome.{units_some}
 use Rattle.jpg_spec.proofs.PlacesFound.{each_units}
@@ -57,7 +57,7 @@ some_places f head frame is = by (head_components head) is.some is.there
 abbrev pub left_data : TableSet → ScanHead → Blocks → ℕ → ℕ → ℕ → List Place → List ℕ
 left_data set head blocks turn most each places = intervals_text turn (map (places_data set head blocks) (chunks_of most each places))
 
--- what is due behind so many intervals: at least one more, in at most so many
+-- what is pending after `turn` intervals: at least one more, at most `most`
 pub record IsLeft (set : TableSet) (head : ScanHead) (blocks : Blocks) (each turn : ℕ) (places : List Place) (rest : List ℕ) : Type 0 where
   pub most : ℕ
   pub number : ℕ
@@ -85,7 +85,7 @@ last_interval set head blocks each turn (p ∷ places) rest l h = l.rest_is ∙ 
         ∙ ap (λ cs. intervals_text l.number (map (places_data set head blocks) (take each (p ∷ places) ∷ cs))) (none_left most each)
         ∙ ap (places_data set head blocks) (take_all each (p ∷ places) h)
 
--- an interval, a restart marker, and the others
+-- an interval, a restart marker, and the remaining ones
 pub next_interval : (set : TableSet) (head : ScanHead) (blocks : Blocks) (each turn : ℕ) (places : List Place) (rest : List ℕ) → IsLeft set head blocks each turn places rest → each < length places
     → (others : List ℕ) × (rest ≡ places_data set head blocks (take each places) ++ ((255 ∷ (0xd0 + turn) ∷ []) ++ others)) × IsLeft set head blocks each ((turn + 1) % 8) (drop each places) others
 unfolding chunks_of
@@ -183,7 +183,7 @@ pub all_left : (set : TableSet) (head : ScanHead) (blocks : Blocks) (each turn c
 all_left set head blocks each turn count places rest l e h =
     last_interval set head blocks each turn places rest l (omega (arith, e, h)) ∙ ap (places_data set head blocks) (sym (take_all count places h))
 
--- and that of one behind which others are due
+-- and that of one after which others are pending
 pub more_left : (set : TableSet) (head : ScanHead) (blocks : Blocks) (each turn count : ℕ) (places : List Place) (rest : List ℕ) → IsLeft set head blocks each turn places rest → count ≡ min each (length places) → count < length places
     → (others : List ℕ) × (rest ≡ places_data set head blocks (take count places) ++ ((255 ∷ (0xd0 + turn) ∷ []) ++ others)) × IsLeft set head blocks each ((turn + 1) % 8) (drop count places) others
 more_left set head blocks each turn count places rest l e h =

@@ -1,4 +1,4 @@
--- The MCU rows of a scan of all components, and where their places lie.
+-- The MCU rows of a scan of all components, and where their places are.
 use Rattle.std.proofs.Common.{◌≡◌, ℕ, zero, suc, ◌+◌, ◌-◌, ◌*◌, ◌<◌, ◌≤◌, true, false, ◌==◌, cond, List, [], ◌∷◌, ◌++◌, length, take, drop, get_or, refl, sym, ap, ◌∙◌, subst, arith, ⊎_elim}
 use Rattle.std.specs.Prelude.{map, flat_map}
 use Rattle.std.specs.List.{All}
@@ -80,7 +80,7 @@ length_row f (i ∷ j ∷ more) k =
     let ids = i ∷ j ∷ more in
     length_rows (λ mx. flat_map (mcu_part f mx k) ids) (mcus_across f) (factor_sum f ids) (λ mx. length_mcu f mx k ids)
 
--- As many of the next places as are left of an MCU row lie in it.
+-- As many of the next places as are left of an MCU row are in it.
 pub row_next : (P : Place → Type 0) (f : Frame) (ids : List ℕ) (cursor : List Place) (k left : ℕ) → cursor ≡ drop (k * row_units f ids + (row_units f ids - left)) (units f ids) → k < scan_mcus_down f ids → left ≤ row_units f ids
     → All P (scan_row f ids k) → All P (take left cursor)
 row_next P f ids cursor k left is row few all = All-from_get_or P (take left cursor) none each
@@ -100,7 +100,7 @@ row_next P f ids cursor k left is row few all = All-from_get_or P (take left cur
         ∙ at_row (scan_row f ids) (scan_mcus_down f ids) m k ((m - left) + i) none (length_row f ids) row inside in
         subst P (sym found) (All-get_or P (scan_row f ids k) ((m - left) + i) none (omega (arith, inside, length_row f ids k)) all)
 
--- WHERE THE PLACES of an MCU row lie
+-- WHERE THE PLACES of an MCU row are
 
 in_grid : (a w b h : ℕ) → a < h → b < w → a * w + b < h * w
 in_grid a w b h x y = subst (λ n. a * w + b < n) (mul_comm w h) (mul-add-lt a w b h x y)
@@ -117,7 +117,7 @@ one_row f k =
     by false v low = (let a : div_up (8 * v) (8 * v) < 2 = (div-lt_iff_lt-mul (omega (arith, low))).1 (omega (arith, low)) in
         let b : 1 ≤ div_up (8 * v) (8 * v) = (le-div_iff_mul-le (omega (arith, low))).1 (omega (arith, low)) in omega (arith, a, b))
 
--- Those of a scan of all components lie in its MCU row.
+-- Those of a scan of all components are in its MCU row.
 pub row_inside : (f : Frame) (ids : List ℕ) (tops : List ℕ) (k : ℕ) → IsFrame f → AreIn f ids → length ids ≡ length f.components → BeginAt f tops k → AreInRow (mcu_row_frame f) tops (scan_row f ids k)
 row_inside f [] tops k frame there all begins = All-nil (IsInRow (mcu_row_frame f) tops)
 row_inside f (i ∷ []) tops k frame there all begins =

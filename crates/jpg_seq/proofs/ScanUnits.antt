@@ -14,10 +14,11 @@ use Rattle.jpg_spec.specs.Numbers.{category, extra_bits}
 use Rattle.jpg_spec.specs.Geometry.{Frame, IsReal, component_at, blocks_across, blocks_down}
 use Rattle.jpg_spec.specs.Segments.{HuffmanTable, ScanHead, head_components, table_codes}
 use Rattle.jpg_spec.specs.Elements.{Element, difference, value, long_run, is_zero, predicted, zeros}
-use Rattle.jpg_spec.specs.Sending.{sent, shifted, band_elements}
+use Rattle.jpg_spec_write.specs.Sending.{sent, shifted, band_elements}
 use Rattle.jpg_spec.specs.Scan.{Blocks, block_at, part_of}
-use Rattle.jpg_spec.specs.ScanText.{UnitDue, Owned, units_due, last_dc, unit_elements, element_bits, code_of}
-use Rattle.jpg_spec.specs.WrittenFile.{HasBlocksIn}
+use Rattle.jpg_spec_write.specs.ScanText.{UnitDue, Owned, units_due, last_dc, unit_elements, element_bits}
+use Rattle.jpg_spec.specs.Codes.{code_of}
+use Rattle.jpg_spec_write.specs.WrittenFile.{HasBlocksIn}
 use Rattle.jpg_spec.specs.declared.frame.Place.{Place}
 use Rattle.jpg_spec.specs.declared.frame.ScanPart.{ScanPart}
 use Rattle.jpg_huff.specs.declared.table.Table.{Table}
@@ -26,7 +27,7 @@ use Rattle.jpg_huff.specs.Sets.{dc_tables, ac_tables, in_slot}
 use Rattle.jpg_huff.specs.Tables.{table_of, symbol_codes}
 use Rattle.jpg_spec.proofs.Common.{lt_of}
 use Rattle.jpg_spec.proofs.Common.{both, some_once}
-use Rattle.jpg_spec.proofs.Small.{shifted_none}
+use Rattle.jpg_spec_write.proofs.Shifts.{shifted_none}
 use Rattle.jpg_seq.specs.NewReader.{HasTables}
 use Rattle.jpg_seq.specs.BlockBits.{spelled, band_bits, block_bits, IsShort}
 use Rattle.jpg_seq.specs.ScanWritten.{tables_in, no_codes, IsScanPlace, block_due, unit_bits, places_bits}
@@ -78,7 +79,7 @@ first_coded : (T : Tables) (head : ScanHead) (i : ℕ) (d : ℤ) → coded_at T 
 unfolding element_bits
 first_coded T head i d = refl
 
--- the units that are due behind these DC values
+-- the units that are left after these DC values
 abbrev pub due_bits : Tables → ScanHead → (ℕ → ℤ) → List UnitDue → List Bool
 due_bits T head last due = flat_map (element_bits T head) (unit_elements true false 0 last due)
 
@@ -100,7 +101,7 @@ one_unit T head last i block due =
     ∙ ap (λ w. front ++ (band_bits (ac_at T head i) (drop 1 block) ++ due_bits T head (predicted last i w) due)) (shifted_none v)
     ∙ sym (append_assoc front (band_bits (ac_at T head i) (drop 1 block)) (due_bits T head (predicted last i v) due))
 
--- THE UNITS OF PLACES, behind DC values that are kept in a list
+-- THE UNITS OF PLACES, after DC values that are kept in a list
 
 abbrev pub at : List ℤ → ℕ → ℤ
 at xs j = slice_index_or xs j (pos 0)
@@ -221,7 +222,7 @@ due_short f head blocks last p all is = by p.real refl
     by true e = block_short f (block_at blocks p) (all p.component p.x p.y (is_real_place f head p is e))
     by false e = zeros_short last
 
--- THE CODES of a part, as they were got for the set
+-- THE CODES of a part, as they were found for the set
 pub unit_by : (set : TableSet) (head : ScanHead) (i : ℕ) (last : ℤ) (block : List ℤ) (p : ScanPart) (dc ac : List Code) → p ≡ part_of head i
     → option_map symbol_codes (in_slot (dc_tables set) p.dc) ≡ Some dc → option_map symbol_codes (in_slot (ac_tables set) p.ac) ≡ Some ac
     → block_bits dc ac last block ≡ unit_bits set head i last block
@@ -230,7 +231,7 @@ unit_by set head i last block p dc ac is e h =
     ∙ ap (λ codes. block_bits (table_codes (tables_in set 0 p.dc)) codes last block) (sym (codes_are (in_slot (ac_tables set) p.ac) ac h))
     ∙ ap (λ (q : ScanPart). block_bits (table_codes (tables_in set 0 q.dc)) (table_codes (tables_in set 1 q.ac)) last block) is
 
--- what is left of so many places, the first of which has this block
+-- what is left of n places, the first of which has this block
 pub left_next : (set : TableSet) (head : ScanHead) (blocks : Blocks) (last : List ℤ) (p : Place) (cursor : List Place) (n : ℕ) (prediction : ℤ) (block : List ℤ) → p.component < length last → slice_get cursor 0 ≡ Some p → 1 ≤ n
     → prediction ≡ at last p.component → block ≡ block_due blocks prediction p
     → left_bits (tables_in set) head blocks last (take n cursor)

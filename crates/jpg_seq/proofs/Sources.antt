@@ -5,15 +5,15 @@ use Rattle.std.proofs.Math.Seq.{drop-append_seam}
 use Rattle.jpg_spec.specs.Bits.{bits_of, bits_of_bytes}
 use Rattle.jpg_spec.proofs.Strings.{length-bits_of}
 use Rattle.jpg_seq.specs.declared.source.Source.{Source}
-use Rattle.jpg_seq.specs.declared.work.Took.{Took}
-use Rattle.jpg_seq.specs.declared.work.Took.TheVariants.{More, Empty, Done, Fault}
+use Rattle.jpg_seq.specs.declared.work.UnitProgress.{UnitProgress}
+use Rattle.jpg_seq.specs.declared.work.UnitProgress.TheVariants.{More, Empty, Done, Fault}
 use Rattle.jpg_seq.specs.Source.{bits_in}
 use Rattle.jpg_seq.specs.SourceTaken.{TakesFrom}
 use Rattle.jpg_seq.specs.Work.{Work, Env, TakesFromStore}
 use Rattle.jpg_seq.proofs.Takings.{takes_then}
 
 -- what is taken of the bits at hand, is taken of all
-pub taken_at_hand : (e : Env) (s t : Work) (old filled new : Source) (answer : Took) → bits_in filled ≡ bits_in old → (length filled.store < 32 → filled.bytes.now ≡ [])
+pub taken_at_hand : (e : Env) (s t : Work) (old filled new : Source) (answer : UnitProgress) → bits_in filled ≡ bits_in old → (length filled.store < 32 → filled.bytes.now ≡ [])
     → TakesFromStore e s filled.store answer t new.store → new.bytes.now ≡ filled.bytes.now → (answer ≡ Empty → length filled.store < 32) → TakesFrom e s old answer t new
 taken_at_hand e s t old filled new answer same full k bytes few =
     let behind = bits_of_bytes filled.bytes.now in
@@ -31,11 +31,11 @@ source_long s = omega (arith, length-append s.store (bits_of_bytes s.bytes.now),
 pub pushed_long : (store new : List Bool) (byte : ℕ) → new ≡ store ++ bits_of 8 byte → length new ≡ length store + 8
 pushed_long store new byte is = omega (arith, ap length is, length-append store (bits_of 8 byte), length-bits_of 8 byte)
 
--- bytes alone
+-- only bytes
 pub new_source : (store : List Bool) (bytes : List ℕ) → store ≡ [] → store ++ bits_of_bytes bytes ≡ bits_of_bytes bytes
 new_source store bytes none = ap (λ (x : List Bool). x ++ bits_of_bytes bytes) none
 
--- a byte more at hand
+-- one more byte at hand
 pub byte_taken : (store now : List Bool) (items : List ℕ) (i byte : ℕ) → i < length items → byte ≡ get_or items i 0 → store ++ bits_of_bytes (drop i items) ≡ now → (store ++ bits_of 8 byte) ++ bits_of_bytes (drop (i + 1) items) ≡ now
 byte_taken store now items i byte h is all =
     append_assoc store (bits_of 8 byte) (bits_of_bytes (drop (i + 1) items)) ∙ ap (λ (b : ℕ). store ++ (bits_of 8 b ++ bits_of_bytes (drop (i + 1) items))) is
@@ -50,13 +50,13 @@ taken_count bytes taken rest n left split is count =
     let l : n ≡ length taken = omega (arith, is, count, ap length split, length-append taken rest) in
     sym (ap (drop n) split ∙ ap (λ k. drop k (taken ++ rest)) l ∙ drop-append_seam taken rest)
 
--- bits at hand, behind those that were taken before
-pub taken_then : (e : Env) (s mid t : Work) (source old filled new : Source) (answer : Took) → TakesFrom e s source More mid old → bits_in filled ≡ bits_in old → (length filled.store < 32 → filled.bytes.now ≡ [])
+-- bits at hand, after those that were taken before
+pub taken_then : (e : Env) (s mid t : Work) (source old filled new : Source) (answer : UnitProgress) → TakesFrom e s source More mid old → bits_in filled ≡ bits_in old → (length filled.store < 32 → filled.bytes.now ≡ [])
     → TakesFromStore e mid filled.store answer t new.store → new.bytes.now ≡ filled.bytes.now → (answer ≡ Empty → length filled.store < 32) → TakesFrom e s source answer t new
 taken_then e s mid t source old filled new answer before same full k bytes few =
     takes_then e s mid t (bits_in source) (bits_in old) (bits_in new) answer before (taken_at_hand e mid t old filled new answer same full k bytes few)
 
--- four bytes more at hand
+-- four more bytes at hand
 pub four_long : (A B C D four : List Bool) → length A ≡ 8 → length B ≡ 8 → length C ≡ 8 → length D ≡ 8 → four ≡ ((A ++ B) ++ C) ++ D → length four ≡ 32
 four_long A B C D four a b c d is = omega (arith, a, b, c, d, ap length is, length-append ((A ++ B) ++ C) D, length-append (A ++ B) C, length-append A B)
 

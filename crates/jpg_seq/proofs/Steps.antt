@@ -1,4 +1,4 @@
--- Symbols that no element has, and runs past the end of a block: the faults that they show.
+-- Symbols that no element has, and runs past the end of a block: their faults.
 use Rattle.std.proofs.Common.{◌≡◌, ℕ, ◌+◌, ◌-◌, ◌*◌, ◌/◌, ◌%◌, ◌≤◌, Bool, List, [], ◌∷◌, length, refl, subst, arith, ℤ, inl, inr}
 use Rattle.std.specs.List.{Contains}
 use Rattle.jpg_spec.specs.Codes.{Code}

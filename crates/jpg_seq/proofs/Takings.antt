@@ -5,9 +5,9 @@ use Rattle.std.proofs.lemmas.List.{take-take}
 use Rattle.std.proofs.Math.Seq.{take-append-add}
 use Rattle.std.proofs.lemmas.Bool.{cases_lt}
 use Rattle.jpg_coefs.specs.declared.machine.UnitFault.{UnitFault}
-use Rattle.jpg_seq.specs.declared.work.Took.{Took}
-use Rattle.jpg_seq.specs.declared.work.Took.TheVariants.{More, Empty, Done, Fault}
-use Rattle.jpg_seq.specs.Work.{Work, Env, IsPartOf, Adds, BitsShowBehind, FrontsAre, NoPartBegins, IsElement, IsShownFault, StepsTo, StepsThrough, ComesTo, IsAtWork, StaysAtWork, IsUnitCovered, GrowsOn, TakesFromStore}
+use Rattle.jpg_seq.specs.declared.work.UnitProgress.{UnitProgress}
+use Rattle.jpg_seq.specs.declared.work.UnitProgress.TheVariants.{More, Empty, Done, Fault}
+use Rattle.jpg_seq.specs.Work.{Work, Env, IsPartOf, Adds, BitsRevealAfter, FrontsAre, NoPartBegins, IsElement, IsShownFault, StepsTo, StepsThrough, BitsComeTo, IsAtWork, StaysAtWork, IsUnitCovered, GrowsOn, TakesFromStore}
 use Rattle.jpg_seq.proofs.Items.{cut, some_of}
 use Rattle.jpg_spec.proofs.Common.{last_split}
 
@@ -18,7 +18,7 @@ pub leads_then : (e : Env) (s mid t : Work) (xs ys : List Bool) → StepsThrough
 leads_then e s mid t [] ys h k = subst (λ m. StepsThrough e m ys t) h k
 leads_then e s mid t (b ∷ xs) ys h k = (h.0, h.1, leads_then e h.0 mid t xs ys h.2 k)
 
-pub comes_then : (e : Env) (s mid t : Work) (xs ys : List Bool) (answer : Took) → StepsThrough e s xs mid → ComesTo e mid ys answer t → ComesTo e s (xs ++ ys) answer t
+pub comes_then : (e : Env) (s mid t : Work) (xs ys : List Bool) (answer : UnitProgress) → StepsThrough e s xs mid → BitsComeTo e mid ys answer t → BitsComeTo e s (xs ++ ys) answer t
 comes_then e s mid t xs ys More h k = leads_then e s mid t xs ys h k
 comes_then e s mid t xs ys Empty h k = leads_then e s mid t xs ys h k
 comes_then e s mid t xs ys Done h k =
@@ -47,8 +47,8 @@ to_last e values w p (b ∷ d ∷ y) s h fronts =
     }
 
 -- an element whose first bits waited
-pub element_comes : (e : Env) (values : List ℤ) (w p y : List Bool) (here : List ℤ) (answer : Took) (t : Work) → w ≡ p ++ y → 1 ≤ length y → IsElement e values w here → t ≡ at (values ++ here) [] → IsUnitCovered t answer
-    → ComesTo e (at values p) y answer t
+pub element_comes : (e : Env) (values : List ℤ) (w p y : List Bool) (here : List ℤ) (answer : UnitProgress) (t : Work) → w ≡ p ++ y → 1 ≤ length y → IsElement e values w here → t ≡ at (values ++ here) [] → IsUnitCovered t answer
+    → BitsComeTo e (at values p) y answer t
 element_comes e values w p y here More t s h el is cov =
     let r = to_last e values w p y s h el.fronts in
     let A : List Bool → Type 0 = λ b. Adds e values b here in
@@ -63,17 +63,17 @@ element_comes e values w p y here Done t s h el is cov =
 element_comes e values w p y here Empty t s h el is cov = absurd cov
 element_comes e values w p y here (Fault fault) t s h el is cov = absurd cov
 
-pub shown_comes : (e : Env) (values : List ℤ) (w p y : List Bool) (fault : UnitFault) (t : Work) → w ≡ p ++ y → 1 ≤ length y → IsShownFault e values w fault → ComesTo e (at values p) y (Fault fault) t
+pub shown_comes : (e : Env) (values : List ℤ) (w p y : List Bool) (fault : UnitFault) (t : Work) → w ≡ p ++ y → 1 ≤ length y → IsShownFault e values w fault → BitsComeTo e (at values p) y (Fault fault) t
 shown_comes e values w p y fault t s h sh =
     let r = to_last e values w p y s h sh.fronts in
-    let A : List Bool → Type 0 = λ b. BitsShowBehind e values fault b in
+    let A : List Bool → Type 0 = λ b. BitsRevealAfter e values fault b in
     (r.front, r.bit, at values (p ++ r.front), r.split, r.leads, subst A (s ∙ sym (last_split p r.front y r.bit r.split)) sh.shows)
 
 -- all bits are a part of an element
 pub part_leads : (e : Env) (values : List ℤ) (p y : List Bool) → IsPartOf e values (p ++ y) → StepsThrough e (at values p) y (at values (p ++ y))
 part_leads e values p y part = more p y (fronts_of e values p y part)
   where
-    -- each front of a part is one
+    -- each prefix of a part is one
     part_front : (e : Env) (values : List ℤ) (x z : List Bool) → IsPartOf e values (x ++ z) → IsPartOf e values x
     part_front e values x z (inl n) = inl (nil x z n)
       where
@@ -105,9 +105,9 @@ part_leads e values p y part = more p y (fronts_of e values p y part)
 
 -- FROM A STORE
 
--- the bits that are taken behind those that waited
-pub behind_part : (p store : List Bool) (n : ℕ) → length p < n → n ≤ length (p ++ take 32 store) → take n (p ++ take 32 store) ≡ p ++ take (n - length p) store
-behind_part p store n lt le =
+-- the bits that are taken after those that waited
+pub after_part : (p store : List Bool) (n : ℕ) → length p < n → n ≤ length (p ++ take 32 store) → take n (p ++ take 32 store) ≡ p ++ take (n - length p) store
+after_part p store n lt le =
     let d : n ≡ length p + (n - length p) = omega arith in
     let k = n - length p in
     let few : k ≤ 32 = omega (arith, length-append p (take 32 store), length-take 32 store) in
@@ -121,25 +121,25 @@ part_shorter e values p more n part le ends =
     (λ (b : n ≤ length p). absurd (ends p (drop n p) part (sym (take-append-drop n p) ∙ ap (λ z. z ++ drop n p) (sym (take-append-le n p more b)))))
     (cases_lt (length p) n)
 
-covered_stays : (e : Env) (t : Work) (answer : Took) → IsUnitCovered t answer → t.part ≡ [] → StaysAtWork e answer t
+covered_stays : (e : Env) (t : Work) (answer : UnitProgress) → IsUnitCovered t answer → t.part ≡ [] → StaysAtWork e answer t
 covered_stays e t More cov none = (cov, none)
 covered_stays e t Done cov none = (cov, none)
 covered_stays e t Empty cov none = absurd cov
 covered_stays e t (Fault fault) cov none = absurd cov
 
-not_empty : (t : Work) (rest : List Bool) (answer : Took) → IsUnitCovered t answer → answer ≡ Empty → rest ≡ []
+not_empty : (t : Work) (rest : List Bool) (answer : UnitProgress) → IsUnitCovered t answer → answer ≡ Empty → rest ≡ []
 not_empty t rest More cov h = absurd cc
 not_empty t rest Done cov h = absurd cc
 not_empty t rest Empty cov h = absurd cov
 not_empty t rest (Fault fault) cov h = absurd cov
 
--- what waits, and bits of the store behind it
-pub element_takes : (e : Env) (s t : Work) (store rest : List Bool) (n : ℕ) (here : List ℤ) (answer : Took) → IsAtWork e s → n ≤ length (s.part ++ take 32 store) → IsElement e s.values (take n (s.part ++ take 32 store)) here
+-- what waits, and bits of the store after it
+pub element_takes : (e : Env) (s t : Work) (store rest : List Bool) (n : ℕ) (here : List ℤ) (answer : UnitProgress) → IsAtWork e s → n ≤ length (s.part ++ take 32 store) → IsElement e s.values (take n (s.part ++ take 32 store)) here
     → rest ≡ drop (n - length s.part) store → t ≡ at (s.values ++ here) [] → IsUnitCovered t answer → TakesFromStore e s store answer t rest
 element_takes e s t store rest n here answer w le el is to cov =
     let lt = part_shorter e s.values s.part (take 32 store) n w.part le el.ends in
     let y = take (n - length s.part) store in
-    let b = behind_part s.part store n lt le in
+    let b = after_part s.part store n lt le in
     let some : 1 ≤ length y = omega (arith, length-take (n - length s.part) store, length-append s.part (take 32 store), length-take 32 store) in (
       y,
       sym (take-append-drop (n - length s.part) store) ∙ ap (λ z. y ++ z) (sym is),
@@ -153,11 +153,11 @@ pub shown_takes : (e : Env) (s t : Work) (store rest : List Bool) (n : ℕ) (fau
 shown_takes e s t store rest n fault w le sh is =
     let lt = part_shorter e s.values s.part (take 32 store) n w.part le sh.ends in
     let y = take (n - length s.part) store in
-    let b = behind_part s.part store n lt le in
+    let b = after_part s.part store n lt le in
     let some : 1 ≤ length y = omega (arith, length-take (n - length s.part) store, length-append s.part (take 32 store), length-take 32 store) in
     (y, sym (take-append-drop (n - length s.part) store) ∙ ap (λ z. y ++ z) (sym is), shown_comes e s.values (take n (s.part ++ take 32 store)) s.part y fault t b some sh, tt, λ h. absurd cc)
 
--- where part and store are fewer than 32 bits, all of them are there
+-- if part and store are fewer than 32 bits, all of them are there
 pub all_there : (p store : List Bool) → length (p ++ take 32 store) < 32 → p ++ take 32 store ≡ p ++ store
 all_there p store h = ap (λ z. p ++ z) (take_all 32 store (omega (arith, length-append p (take 32 store), length-take 32 store)))
 
@@ -168,15 +168,15 @@ part_takes e s t store rest w part to none =
     (store, subst P (sym none) (sym (append-nil store)), subst (λ m. StepsThrough e s store m) (sym to) (part_leads e s.values s.part store part), subst W (sym to) (record { left = w.left; part = part }), λ h. none)
 
 -- further bits
-pub takes_then : (e : Env) (s mid t : Work) (store between rest : List Bool) (answer : Took) → TakesFromStore e s store More mid between → TakesFromStore e mid between answer t rest → TakesFromStore e s store answer t rest
+pub takes_then : (e : Env) (s mid t : Work) (store between rest : List Bool) (answer : UnitProgress) → TakesFromStore e s store More mid between → TakesFromStore e mid between answer t rest → TakesFromStore e s store answer t rest
 takes_then e s mid t store between rest answer h k =
     (h.0 ++ k.0, h.1 ∙ ap (λ z. h.0 ++ z) k.1 ∙ sym (append_assoc h.0 k.0 rest), comes_then e s mid t h.0 k.0 answer h.2 k.2, k.3, k.4)
 
 -- the same where nothing waited
-pub direct_element : (e : Env) (s t : Work) (store rest : List Bool) (n : ℕ) (here : List ℤ) (answer : Took) → s.part ≡ [] → 1 ≤ n → n ≤ length store → IsElement e s.values (take n store) here
+pub direct_element : (e : Env) (s t : Work) (store rest : List Bool) (n : ℕ) (here : List ℤ) (answer : UnitProgress) → s.part ≡ [] → 1 ≤ n → n ≤ length store → IsElement e s.values (take n store) here
     → rest ≡ drop n store → t ≡ at (s.values ++ here) [] → IsUnitCovered t answer → TakesFromStore e s store answer t rest
 direct_element e s t store rest n here answer none some le el is to cov =
-    let C : List Bool → Type 0 = λ p. ComesTo e (at s.values p) (take n store) answer t in (
+    let C : List Bool → Type 0 = λ p. BitsComeTo e (at s.values p) (take n store) answer t in (
       take n store,
       sym (take-append-drop n store) ∙ ap (λ z. take n store ++ z) (sym is),
       subst C (sym none) (element_comes e s.values (take n store) [] (take n store) here answer t refl (omega (arith, length-take-le n store le)) el to cov),
@@ -187,7 +187,7 @@ direct_element e s t store rest n here answer none some le el is to cov =
 pub direct_shown : (e : Env) (s t : Work) (store rest : List Bool) (n : ℕ) (fault : UnitFault) → s.part ≡ [] → 1 ≤ n → n ≤ length store → IsShownFault e s.values (take n store) fault
     → rest ≡ drop n store → TakesFromStore e s store (Fault fault) t rest
 direct_shown e s t store rest n fault none some le sh is =
-    let C : List Bool → Type 0 = λ p. ComesTo e (at s.values p) (take n store) (Fault fault) t in (
+    let C : List Bool → Type 0 = λ p. BitsComeTo e (at s.values p) (take n store) (Fault fault) t in (
       take n store,
       sym (take-append-drop n store) ∙ ap (λ z. take n store ++ z) (sym is),
       subst C (sym none) (shown_comes e s.values (take n store) [] (take n store) fault t refl (omega (arith, length-take-le n store le)) sh),
@@ -201,7 +201,7 @@ direct_part e s t store rest less none part to empty =
     let joined : store ≡ s.part ++ store = ap (λ p. p ++ store) (sym none) in
     part_takes e s t store rest (record { left = less; part = inl none }) (subst P joined part) to empty
 
-pub more_grows : (s t : Work) (here : List ℤ) (answer : Took) → 1 ≤ length here → t ≡ record s { values = s.values ++ here } → IsUnitCovered t answer → GrowsOn answer s t
+pub more_grows : (s t : Work) (here : List ℤ) (answer : UnitProgress) → 1 ≤ length here → t ≡ record s { values = s.values ++ here } → IsUnitCovered t answer → GrowsOn answer s t
 more_grows s t here More some is cov = omega (arith, ap (λ (x : Work). length x.values) is, length-append s.values here)
 more_grows s t here Done some is cov = tt
 more_grows s t here Empty some is cov = tt

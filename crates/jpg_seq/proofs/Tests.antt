@@ -33,7 +33,7 @@ zeros_in_bounds c b zero e sane = refl
 zeros_in_bounds c b (suc n) e sane =
     and_intro (int_le (pos 0) c.bounds.ac) (are_in_bounds c.bounds false (zeros n)) (ap (λ (x : Bounds). int_le (pos 0) x.ac) e ∙ in_order (pos 0) b.ac (most_positive b sane)) (zeros_in_bounds c b n e sane)
 
--- a value of an allowed category lies in the bounds
+-- a value of an allowed category is in the bounds
 pub value_in_bounds : (c : Coding) (b : Bounds) (v : ℤ) → c.bounds ≡ b → AreSane b → category v ≤ b.ac_cat → are_in_bounds c.bounds false (v ∷ []) ≡ true
 value_in_bounds c b v e sane few =
     let l = below_digits (nat_abs v) in
@@ -42,7 +42,7 @@ value_in_bounds c b v e sane few =
     let o : pos (nat_abs v) ≤ℤ b.ac = omega (arith, ints, n, sane.ac) in
     and_intro (int_le (pos (nat_abs v)) c.bounds.ac) true (ap (λ (x : Bounds). int_le (pos (nat_abs v)) x.ac) e ∙ in_order (pos (nat_abs v)) b.ac o) refl
 
--- symbols that may not stand there
+-- symbols that aren't allowed there
 pub not_first_symbol : (c : Coding) (b : Bounds) (symbol : ℕ) → c.bounds ≡ b → b.dc_cat < symbol → is_symbol c true symbol ≡ false
 not_first_symbol c b symbol e h = ap (λ (x : Bounds). nat_le symbol x.dc_cat) e ∙ grind (arith, nat_tests)
 

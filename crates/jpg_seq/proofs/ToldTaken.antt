@@ -1,4 +1,4 @@
--- Values that ten bits tell, taken one after another.
+-- Values that ten bits determine, taken one after another.
 use Rattle.std.proofs.Common.{◌≡◌, ℕ, ℤ, ◌+◌, ◌-◌, ◌<◌, ◌≤◌, Bool, List, [], ◌∷◌, ◌++◌, length, take, drop, refl, sym, ap, ◌∙◌, subst, arith}
 use Rattle.std.proofs.lemmas.List.{append_assoc, length-append}
 use Rattle.jpg_spec.specs.Bits.{bits_of_bytes}
@@ -6,9 +6,9 @@ use Rattle.jpg_spec.specs.Codes.{Code}
 use Rattle.jpg_spec.specs.Elements.{zeros}
 use Rattle.jpg_huff.specs.Laws.{AreApart}
 use Rattle.jpg_seq.specs.declared.source.Source.{Source}
-use Rattle.jpg_seq.specs.declared.values.Told.{Told}
-use Rattle.jpg_seq.specs.declared.work.Took.{Took}
-use Rattle.jpg_seq.specs.declared.work.Took.TheVariants.{More, Empty, Done, Fault}
+use Rattle.jpg_seq.specs.declared.values.ShortValue.{ShortValue}
+use Rattle.jpg_seq.specs.declared.work.UnitProgress.{UnitProgress}
+use Rattle.jpg_seq.specs.declared.work.UnitProgress.TheVariants.{More, Empty, Done, Fault}
 use Rattle.jpg_seq.specs.Source.{bits_in}
 use Rattle.jpg_seq.specs.Range.{AreSane}
 use Rattle.jpg_seq.specs.ToldTaken.{GoesTold, IsTaken, TakesTold, TakesToldFrom}
@@ -18,20 +18,20 @@ use Rattle.jpg_seq.proofs.Items.{value_taken}
 use Rattle.jpg_seq.proofs.Takings.{direct_element, takes_then}
 
 -- ONE VALUE
-told_element : (e : Env) (values : List ℤ) (bits : List Bool) (t : Told) → AreSane e.bounds → AreApart e.ac → 1 ≤ length values → length values < 64 → StandsToldFirst e.ac bits t → t.run + length values < 64
+told_element : (e : Env) (values : List ℤ) (bits : List Bool) (t : ShortValue) → AreSane e.bounds → AreApart e.ac → 1 ≤ length values → length values < 64 → StandsToldFirst e.ac bits t → t.run + length values < 64
     → IsElement e values (take t.length bits) (zeros t.run ++ t.value ∷ [])
 told_element e values bits t sane apart some less told room =
     let one = told.some in let few = told.few in let nine = sane.nine in
     let G : ℕ → Type 0 = λ n. IsElement e values (take n bits) (zeros t.run ++ t.value ∷ []) in
     subst G (sym told.sum) (value_taken e values bits told.code t.run told.size t.value sane apart some less one told.there told.in_codes told.sized (omega (arith, one, few, nine)) room told.run told.category told.extra)
 
-taken_by : (e : Env) (s t : Work) (store rest : List Bool) (answer : Took) → IsUnitCovered t answer → TakesFromStore e s store answer t rest → IsTaken e s store answer t rest
+taken_by : (e : Env) (s t : Work) (store rest : List Bool) (answer : UnitProgress) → IsUnitCovered t answer → TakesFromStore e s store answer t rest → IsTaken e s store answer t rest
 taken_by e s t store rest More u k = k
 taken_by e s t store rest Done u k = k
 taken_by e s t store rest Empty u k = absurd u
 taken_by e s t store rest (Fault fault) u k = absurd u
 
-pub value_told : (ac : List Code) (s t : Work) (store rest : List Bool) (told : Told) (answer : Took) → AreApart ac → 1 ≤ length s.values → length s.values < 64 → s.part ≡ [] → StandsToldFirst ac store told → told.run + length s.values < 64
+pub value_told : (ac : List Code) (s t : Work) (store rest : List Bool) (told : ShortValue) (answer : UnitProgress) → AreApart ac → 1 ≤ length s.values → length s.values < 64 → s.part ≡ [] → StandsToldFirst ac store told → told.run + length s.values < 64
     → rest ≡ drop told.length store → t ≡ record s { values = s.values ++ (zeros told.run ++ told.value ∷ []) } → IsUnitCovered t answer → TakesTold ac s store answer t rest
 value_told ac s t store rest told answer apart some less none first room left is covered = λ e sane same.
     (let sum = first.sum in let one = first.some in let there = first.there in
@@ -43,7 +43,7 @@ value_told ac s t store rest told answer apart some less none first room left is
     (told_element e s.values store told sane (subst A (sym same) apart) some less (subst S (sym same) first) room) left
     (is ∙ ap (λ (p : List Bool). (let n : Work = record { values = s.values ++ here; part = p } in n)) none) covered))
 
-pub value_goes : (s t : Work) (run : ℕ) (v : ℤ) (answer : Took) → s.part ≡ [] → t ≡ record s { values = s.values ++ (zeros run ++ v ∷ []) } → IsUnitCovered t answer → GoesTold answer s t
+pub value_goes : (s t : Work) (run : ℕ) (v : ℤ) (answer : UnitProgress) → s.part ≡ [] → t ≡ record s { values = s.values ++ (zeros run ++ v ∷ []) } → IsUnitCovered t answer → GoesTold answer s t
 value_goes s t run v More none is covered =
     let long = ap (λ (w : Work). length w.values) is in
     (omega (arith, long, length-append s.values (zeros run ++ v ∷ []), length-append (zeros run) (v ∷ [])), covered, ap (λ (w : Work). w.part) is ∙ none)
@@ -52,14 +52,14 @@ value_goes s t run v Empty none is covered = absurd covered
 value_goes s t run v (Fault fault) none is covered = absurd covered
 
 -- ONE AFTER ANOTHER
-told_at_hand : (e : Env) (s t : Work) (old filled new : Source) (answer : Took) → bits_in filled ≡ bits_in old → TakesFromStore e s filled.store answer t new.store → new.bytes.now ≡ filled.bytes.now → (answer ≡ Empty → ⊥)
+told_at_hand : (e : Env) (s t : Work) (old filled new : Source) (answer : UnitProgress) → bits_in filled ≡ bits_in old → TakesFromStore e s filled.store answer t new.store → new.bytes.now ≡ filled.bytes.now → (answer ≡ Empty → ⊥)
     → TakesFromStore e s (bits_in old) answer t (bits_in new)
 told_at_hand e s t old filled new answer same k bytes not =
     let behind = bits_of_bytes filled.bytes.now in
     let rest : bits_in new ≡ new.store ++ behind = ap (λ (b : List ℕ). new.store ++ bits_of_bytes b) bytes in
     (k.0, sym same ∙ ap (λ (x : List Bool). x ++ behind) k.1 ∙ append_assoc k.0 new.store behind ∙ ap (λ (x : List Bool). k.0 ++ x) (sym rest), k.2, k.3, λ is. absurd (not is))
 
-pub told_then : (ac : List Code) (s mid t : Work) (source here filled new : Source) (answer : Took) → TakesToldFrom ac s source More mid here → bits_in filled ≡ bits_in here
+pub told_then : (ac : List Code) (s mid t : Work) (source here filled new : Source) (answer : UnitProgress) → TakesToldFrom ac s source More mid here → bits_in filled ≡ bits_in here
     → ((e : Env) → AreSane e.bounds → e.ac ≡ ac → TakesFromStore e mid filled.store answer t new.store) → new.bytes.now ≡ filled.bytes.now → (answer ≡ Empty → ⊥) → TakesToldFrom ac s source answer t new
 told_then ac s mid t source here filled new answer before same k bytes not = λ e sane is.
     takes_then e s mid t (bits_in source) (bits_in here) (bits_in new) answer (before e sane is) (told_at_hand e mid t here filled new answer same (k e sane is) bytes not)

@@ -1,4 +1,4 @@
--- Bits of data bytes that are taken in one call.
+-- Bits of data bytes taken in one call.
 use Rattle.std.specs.Prelude.{ℕ, List, drop}
 use Rattle.jpg_spec.specs.Bits.{bits_of_bytes}
 use Rattle.jpg_coefs.specs.Machine.{TakesBits}

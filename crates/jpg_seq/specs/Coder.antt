@@ -1,4 +1,4 @@
--- What a unit is read by, from the tables of its component.
+-- What a unit is decoded with, from the tables of its component.
 use Rattle.std.specs.Prelude.{ℤ}
 use Rattle.jpg_spec.specs.declared.frame.Bounds.{Bounds}
 use Rattle.jpg_seq.specs.declared.work.Coder.{Coder}

@@ -43,7 +43,7 @@ pub record IsOfScan (f : Frame) (head : ScanHead) (set : TableSet) (i : Interval
   pub places : i.places ++ i.later ≡ units f (head_components head)
   pub frame : i.before.frame ≡ f
 
--- what is kept of a part's tables
+-- the decoders of a part's tables
 pub record IsCoderOf (set : TableSet) (p : ScanPart) (coder : Coder) : Type 0 where
   pub dc : Table
   pub in_dc : in_slot (dc_tables set) p.dc ≡ Some dc
@@ -55,7 +55,7 @@ pub record IsCoderOf (set : TableSet) (p : ScanPart) (coder : Coder) : Type 0 wh
 abbrev pub part_at : List ScanPart → ℕ → ScanPart
 part_at parts j = slice_index_or parts j (record { component = 0; dc = 0; ac = 0 })
 
--- where the first parts were filled in
+-- the first parts were filled in
 pub record AreFilled (set : TableSet) (parts : List ScanPart) (n : ℕ) (coders : List (Option Coder)) : Type 0 where
   pub four : length coders ≡ 4
   pub found : (k : ℕ) (coder : Coder) → slot_value (slice_get coders k) ≡ Some coder → (j : ℕ) × (j < n) × ((part_at parts j).component ≡ k) × IsCoderOf set (part_at parts j) coder

@@ -2,7 +2,7 @@
 use Rattle.std.specs.Prelude.{◌-◌, ◌^◌, ◌≤◌, ℤ, ◌≤ℤ◌, negsuc, pos}
 use Rattle.jpg_spec.specs.declared.frame.Bounds.{Bounds}
 
--- bounds of values that a word of 16 bits holds, and categories below sixteen, those of AC values up to nine at least
+-- bounds of values that fit into 16 bits, and categories below sixteen, those of AC values up to nine at least
 pub record AreSane (b : Bounds) : Type 0 where
   pub low : negsuc 32767 ≤ℤ b.dc_low
   pub high : b.dc_high ≤ℤ pos 32767

@@ -1,4 +1,4 @@
--- What the machine of a sequential scan stands for (T.81, F.2.2).
+-- What the states of the machine of a sequential scan mean (T.81, F.2.2).
 use Rattle.std.specs.Prelude.{◌≡◌, ℕ, ◌+◌, ◌-◌, ◌<◌, Bool, List, [], ◌∷◌, ◌++◌, length, map, drop, slice_get, slice_set, slice_index_or, Option, Some, ℤ, pos, All}
 use Rattle.jpg_spec.specs.Lists.{slot_value}
 use Rattle.jpg_spec.specs.Elements.{Element, Coding, UnitLeft, Covers, at_start, new_unit}
@@ -10,7 +10,7 @@ use Rattle.jpg_coefs.specs.Picture.{Picture, map_of}
 use Rattle.jpg_coefs.specs.Machine.{Interval, Kind, units_of}
 use Rattle.jpg_seq.specs.declared.reader.SeqReader.{SeqReader}
 use Rattle.jpg_seq.specs.declared.work.Coder.{Coder}
-use Rattle.jpg_seq.specs.declared.work.Took.{Took}
+use Rattle.jpg_seq.specs.declared.work.UnitProgress.{UnitProgress}
 use Rattle.jpg_seq.specs.Range.{AreSane}
 use Rattle.jpg_seq.specs.Stands.{IsCodingOf, standing_at}
 use Rattle.jpg_seq.specs.Work.{Work, IsAtWork, TakesFromStore, no_work}
@@ -23,7 +23,7 @@ coder_at m k = slot_value (slice_get m.coders k)
 abbrev pub prediction_at : SeqReader → ℕ → ℤ
 prediction_at m k = slice_index_or m.predictions k (pos 0)
 
--- behind a whole unit of a component
+-- after a complete unit of a component
 abbrev pub behind : SeqReader → ℕ → SeqReader
 behind m k = record m {
   predictions = slice_set m.predictions k (slice_index_or m.unit.values 0 (pos 0));
@@ -32,7 +32,7 @@ behind m k = record m {
   left = m.left - 1;
 }
 
--- the unit in work is of this component, whose tables are there
+-- the current unit is of this component, whose tables are there
 pub record CanRead (m : SeqReader) (k : ℕ) : Type 0 where
   pub small : k < 4
   pub sane : AreSane m.bounds
@@ -40,15 +40,15 @@ pub record CanRead (m : SeqReader) (k : ℕ) : Type 0 where
   pub there : coder_at m k ≡ Some coder
   pub at_work : IsAtWork (env_in m.bounds coder (prediction_at m k)) m.unit
 
-abbrev pub ReadsOn : SeqReader → ℕ → List Bool → Took → Work → List Bool → Type 0
+abbrev pub ReadsOn : SeqReader → ℕ → List Bool → UnitProgress → Work → List Bool → Type 0
 ReadsOn m k store answer new rest =
     (coder : Coder) × (coder_at m k ≡ Some coder) × TakesFromStore (env_in m.bounds coder (prediction_at m k)) m.unit store answer new rest
 
--- with this unit in work
+-- with this current unit
 abbrev pub with_work : SeqReader → Work → SeqReader
 with_work m unit = record m { unit = unit }
 
--- WHAT IT STANDS FOR
+-- THE MEANING OF ITS STATES
 
 abbrev pub new_at : Place → UnitLeft
 new_at p = new_unit p.component
@@ -63,18 +63,18 @@ pub record IsPlaceReadable (m : SeqReader) (f : Frame) (p : Place) : Type 0 wher
   pub coder : Coder
   pub there : coder_at m p.component ≡ Some coder
 
--- what the machine reads by is what the coding says
+-- the machine's parameters are those of the coding
 pub record ReadsBy (m : SeqReader) (c : Coding) : Type 0 where
   pub sane : AreSane m.bounds
   pub codes : (k : ℕ) (coder : Coder) → coder_at m k ≡ Some coder → IsCodingOf m.bounds coder.dc coder.ac c k
 
--- whole blocks of components that had no scan so far
+-- complete blocks of components that had no scan so far
 pub record IsSequential (i : Interval) : Type 0 where
   pub units : units_of i ≡ new_units_at i.places
   pub ss : i.scan.ss ≡ 0
   pub se : i.scan.se ≡ 63
 
--- Whole units, and a part of the next.
+-- Complete units, and a part of the next.
 pub record SeqStands (m : SeqReader) (i : Interval) (bits : List Bool) (now : Picture) : Type 0 where
   pub reads : ReadsBy m i.scan.coding
   pub kind : IsSequential i

@@ -1,4 +1,5 @@
--- Bits of a sequential scan that are taken while an MCU row is read, whose blocks stand alone.
+-- Bits of a sequential scan that are taken while an MCU row is read, whose blocks are stored without the rest of the
+-- picture.
 use Rattle.std.specs.Prelude.{◌≡◌, ℕ, ◌+◌, ◌<◌, ◌≤◌, Bool, List, drop}
 use Rattle.jpg_spec.specs.Bits.{bits_of_bytes}
 use Rattle.jpg_coefs.specs.Machine.{Interval, TakesBits}
@@ -11,40 +12,40 @@ use Rattle.jpg_seq.specs.SoFar.{SoFar}
 use Rattle.jpg_seq.specs.declared.reader.BytesTaken.{BytesTaken}
 use Rattle.jpg_seq.specs.declared.reader.SeqReader.{SeqReader}
 
--- The machine stands for some bits, and what they tell stands in the whole picture.
-abbrev pub IsOpen : SeqReader → Picture → Type 0
-IsOpen m whole = (i : Interval) × (bits : List Bool) × SeqStands m i bits whole
+-- The machine was given some bits, and the complete picture has what they encode.
+abbrev pub IsOpenRow : SeqReader → Picture → Type 0
+IsOpenRow m whole = (i : Interval) × (bits : List Bool) × SeqStands m i bits whole
 
 -- there is a picture of which these blocks are the MCU row
 abbrev pub CanReadRow : List ℕ → SeqReader → Picture → Type 0
-CanReadRow tops m row = (whole : Picture) × IsRowOf tops whole row × IsOpen m whole
+CanReadRow tops m row = (whole : Picture) × IsRowOf tops whole row × IsOpenRow m whole
 
--- Whatever picture the MCU row was of, the bits are taken into it, and the row is of what they make of it.
+-- Whatever picture the MCU row was of, the bits are taken into it, and the row is that of the picture after them.
 abbrev pub TakesInRow : ℕ → List ℕ → SeqReader → Picture → List Bool → Taken → SeqReader → Picture → List Bool → Type 0
 TakesInRow most tops m row store answer new after rest =
-    (whole : Picture) → IsRowOf tops whole row → IsOpen m whole
+    (whole : Picture) → IsRowOf tops whole row → IsOpenRow m whole
     → (now : Picture) × IsRowOf tops now after × TakesBits sequential most m whole store answer new now rest
 
 abbrev pub TakesBytesInRow : ℕ → List ℕ → SeqReader → Picture → List ℕ → BytesTaken → SeqReader → Picture → Type 0
 TakesBytesInRow most tops m row bytes result new after = TakesInRow most tops m row (bits_of_bytes bytes) result.taken new after (drop result.bits (bits_of_bytes bytes))
 
--- how many units an answer tells of: fewer than were asked for, or all of them, or all of the interval
+-- how many units an answer means: fewer than were asked for, or all of them, or all of the interval
 abbrev pub IsCountOf : ℕ → Taken → SeqReader → ℕ → Type 0
 IsCountOf most taken.More m units = units < most
 IsCountOf most taken.Units m units = (units ≡ most) × (1 ≤ m.left)
 IsCountOf most taken.IntervalDone m units = (units ≤ most) × (m.left ≡ 0)
 IsCountOf most (taken.Fault f) m units = units < most
 
--- so many places are behind
-pub record Passes (most : ℕ) (m : SeqReader) (answer : Taken) (new : SeqReader) : Type 0 where
+-- this many places were passed
+pub record PassesPlaces (most : ℕ) (m : SeqReader) (answer : Taken) (new : SeqReader) : Type 0 where
   pub units : ℕ
   pub few : IsCountOf most answer new units
   pub cursor : new.cursor ≡ drop units m.cursor
   pub left : m.left ≡ new.left + units
 
--- What was read in one call so far: units of which fewer are whole than were asked for.
+-- What was read in one call so far: fewer complete units than were asked for.
 pub record ReadsRow (most : ℕ) (tops : List ℕ) (m : SeqReader) (row : Picture) (store : List Bool) (new : SeqReader) (after : Picture) (rest : List Bool) (done : ℕ) : Type 0 where
-  pub so_far : (whole : Picture) → IsRowOf tops whole row → IsOpen m whole → (now : Picture) × IsRowOf tops now after × SoFar most m whole store new now rest done
+  pub so_far : (whole : Picture) → IsRowOf tops whole row → IsOpenRow m whole → (now : Picture) × IsRowOf tops now after × SoFar most m whole store new now rest done
   pub framed : after.frame ≡ row.frame
   pub few : done < most
   pub cursor : new.cursor ≡ drop done m.cursor

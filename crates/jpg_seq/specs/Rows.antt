@@ -1,4 +1,4 @@
--- One row of the MCUs of a picture, whose blocks stand alone (T.81, A.2.3).
+-- One row of the MCUs of a picture, whose blocks are stored without the rest of the picture (T.81, A.2.3).
 use Rattle.std.specs.Prelude.{◌≡◌, ℕ, ◌+◌, ◌-◌, ◌*◌, ◌≤◌, ◌<◌, ◌==◌, if◌then◌else◌, true, List, drop, length, slice_index_or, All}
 use Rattle.jpg_spec.specs.Geometry.{Frame, component_at, mcu_row_frame, mcu_units, padded_blocks, scan_mcus_across, units}
 use Rattle.jpg_spec.specs.declared.frame.Place.{Place}
@@ -16,11 +16,11 @@ pub record IsRowOf (tops : List ℕ) (whole row : Picture) : Type 0 where
   pub count : length whole.blocks ≡ padded_blocks whole.frame
   pub blocks : (i x y : ℕ) → is_padded row.frame i x y ≡ true → map_of row i x y ≡ map_of whole i x (top_of tops i + y)
 
--- a place of the picture as it is seen in the MCU row
+-- a place of the picture as a place in the MCU row
 abbrev pub lowered : List ℕ → Place → Place
 lowered tops p = record p { y = p.y - top_of tops p.component }
 
--- it lies in the MCU row
+-- it is in the MCU row
 pub record IsInRow (f : Frame) (tops : List ℕ) (p : Place) : Type 0 where
   pub below : top_of tops p.component ≤ p.y
   pub padded : IsPadded f p.component p.x (p.y - top_of tops p.component)
@@ -34,7 +34,7 @@ AreInRow f tops places = All (IsInRow f tops) places
 abbrev pub row_units : Frame → List ℕ → ℕ
 row_units f components = scan_mcus_across f components * mcu_units f components
 
--- the rows of blocks of component i in an MCU row: one, if it stands alone
+-- the rows of blocks of component i in an MCU row: one, if it is the only component
 abbrev pub rows_in_mcu : Frame → ℕ → ℕ
 rows_in_mcu f i = if length f.components == 1 then 1 else (component_at f i).v
 
@@ -42,7 +42,8 @@ rows_in_mcu f i = if length f.components == 1 then 1 else (component_at f i).v
 abbrev pub BeginAt : Frame → List ℕ → ℕ → Type 0
 BeginAt f tops k = (i : ℕ) → i < length f.components → top_of tops i ≡ k * rows_in_mcu f i
 
--- From a place of the scan of all components on: `left` of the places are those that are left of MCU row k, which begins at these rows.
+-- From a place of the scan of all components on: `left` of the places are those that are left of MCU row k, which
+-- begins at these rows.
 pub record IsNext (f : Frame) (components tops : List ℕ) (places : List Place) (k left : ℕ) : Type 0 where
   pub frame : IsFrame f
   pub there : AreIn f components

@@ -6,7 +6,7 @@ use Rattle.jpg_spec.specs.Geometry.{Frame, is_real}
 use Rattle.jpg_spec.specs.Segments.{HuffmanTable, ScanHead, head_components, table_codes}
 use Rattle.jpg_spec.specs.Elements.{zeros}
 use Rattle.jpg_spec.specs.Scan.{Blocks, block_at, part_of}
-use Rattle.jpg_spec.specs.ScanText.{units_due, interval_elements, element_bits, scan_elements, scan_data}
+use Rattle.jpg_spec_write.specs.ScanText.{units_due, interval_elements, element_bits, scan_elements, scan_data}
 use Rattle.jpg_spec.specs.declared.frame.Place.{Place}
 use Rattle.jpg_huff.specs.declared.set.TableSet.{TableSet}
 use Rattle.jpg_seq.specs.NewReader.{in_force}
@@ -19,7 +19,7 @@ no_codes = record { counts = []; symbols = [] }
 abbrev pub tables_in : TableSet → ℕ → ℕ → HuffmanTable
 tables_in set class slot = unwrap_or (in_force set class slot) no_codes
 
--- the data of the scan, with restart markers each so many MCUs (0: none)
+-- the data of the scan, with restart markers after each interval of MCUs (0: none)
 abbrev pub written_data : Frame → ScanHead → TableSet → ℕ → Blocks → List ℕ
 written_data f head set interval blocks = scan_data (tables_in set) head (scan_elements f head interval blocks)
 
@@ -31,7 +31,7 @@ pub record IsScanPlace (f : Frame) (head : ScanHead) (p : Place) : Type 0 where
   pub there : p.component < length f.components
   pub real : p.real ≡ is_real f p.component p.x p.y
 
--- the block that is written there: the picture's, or for a padding block the last DC value alone
+-- the block that is written there: the picture's, or for a padding block only the last DC value
 abbrev pub block_due : Blocks → ℤ → Place → List ℤ
 block_due blocks last p = if p.real then block_at blocks p else last ∷ zeros 63
 

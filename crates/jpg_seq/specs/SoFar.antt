@@ -5,7 +5,7 @@ use Rattle.jpg_coefs.specs.Machine.{Interval, Chain}
 use Rattle.jpg_seq.specs.declared.reader.SeqReader.{SeqReader}
 use Rattle.jpg_seq.specs.Reader.{SeqStands, sequential}
 
--- They are a chain, by which `done` units are whole, fewer than `most`.
+-- They are a chain, by which `done` units are complete, fewer than `most`.
 pub record SoFar (most : ℕ) (m : SeqReader) (now : Picture) (store : List Bool) (new : SeqReader) (after : Picture) (rest : List Bool) (done : ℕ) : Type 0 where
   pub taken : List Bool
   pub split : store ≡ taken ++ rest

@@ -1,4 +1,4 @@
--- Bits at hand, and bytes behind them.
+-- Bits in a store, followed by bytes.
 use Rattle.std.specs.Prelude.{◌++◌, Bool, List}
 use Rattle.jpg_spec.specs.Bits.{bits_of_bytes}
 use Rattle.jpg_seq.specs.declared.source.Source.{Source}

@@ -1,11 +1,11 @@
--- What bits of a sequential unit stand for, and what its reader answers (T.81, F.2.2).
+-- What bits of a sequential unit mean, and what its reader answers (T.81, F.2.2).
 use Rattle.std.specs.Prelude.{◌≡◌, ℕ, ◌+◌, ◌-◌, ◌<◌, ◌≤◌, false, List, [], ◌∷◌, length, ℤ}
 use Rattle.jpg_spec.specs.Codes.{Code}
 use Rattle.jpg_spec.specs.Elements.{Coding, UnitLeft, Standing, codes_due, going_on, predicted, zeros, new_unit}
 use Rattle.jpg_spec.specs.Sound.{IsSound}
 use Rattle.jpg_spec.specs.declared.frame.Bounds.{Bounds}
 
--- A sequential coding by these bounds, whose codes for a component are these.
+-- A sequential coding with these bounds, whose codes for a component are these.
 pub record IsCodingOf (b : Bounds) (dc ac : List Code) (c : Coding) (i : ℕ) : Type 0 where
   pub sound : IsSound c
   pub plain : c.al ≡ 0
@@ -25,16 +25,16 @@ abbrev pub unit_in_work : ℕ → List ℤ → UnitLeft
 unit_in_work i [] = new_unit i
 unit_in_work i (v ∷ values) = open_unit i (zeros (63 - length values))
 
--- behind these values of a unit that others follow
+-- after these values of a unit, with others after it
 abbrev pub standing_at : (ℕ → ℤ) → ℕ → List UnitLeft → List ℤ → Standing
 standing_at p i others [] = record { predictions = p; left = new_unit i ∷ others }
 standing_at p i others (v ∷ values) = record { predictions = predicted p i v; left = going_on (open_unit i []) (zeros (63 - length values)) others }
 
--- the codes for what stands next
+-- the codes for the next element
 abbrev pub codes_next : Coding → ℕ → List ℤ → List Code
 codes_next c i values = codes_due c (unit_in_work i values)
 
--- a size that may be due behind these values
+-- a size that is allowed after these values
 abbrev pub MayStand : Bounds → List ℤ → ℕ → ℕ → Type 0
 MayStand b [] run size = (run ≡ 0) × (size ≤ b.dc_cat)
 MayStand b (v ∷ values) run size = (size ≤ b.ac_cat) × (run + length values < 63) × (run ≤ 15)

@@ -1,12 +1,12 @@
--- Values that stand first in bits, by their code and its extra bits (T.81, F.1.2.2, F.2.2.2).
+-- Values that bits begin with, by their code and its extra bits (T.81, F.1.2.2, F.2.2.2).
 use Rattle.std.specs.Prelude.{◌≡◌, ◌⊎◌, ℕ, ◌+◌, ◌*◌, ◌<◌, ◌≤◌, Bool, List, length, take, drop, slice_index_or, Contains, pos, Option, None, Some}
 use Rattle.jpg_spec.specs.Bits.{bits_of}
 use Rattle.jpg_spec.specs.Codes.{Code}
 use Rattle.jpg_spec.specs.Numbers.{category, extra_bits}
-use Rattle.jpg_seq.specs.declared.values.Told.{Told}
+use Rattle.jpg_seq.specs.declared.values.ShortValue.{ShortValue}
 
--- a code, and as many extra bits as its symbol says, at most ten bits in all
-pub record StandsToldFirst (codes : List Code) (bits : List Bool) (t : Told) : Type 0 where
+-- a code, and as many extra bits as its symbol has, at most ten bits in all
+pub record StandsToldFirst (codes : List Code) (bits : List Bool) (t : ShortValue) : Type 0 where
   pub code : ℕ
   pub size : ℕ
   pub some : 1 ≤ code
@@ -19,23 +19,23 @@ pub record StandsToldFirst (codes : List Code) (bits : List Bool) (t : Told) : T
   pub category : category t.value ≡ size
   pub extra : extra_bits t.value ≡ take size (drop code bits)
 
--- no such value stands first
+-- the bits begin with no such value
 abbrev pub TellsNone : List Code → List Bool → Type 0
-TellsNone codes bits = (t : Told) → StandsToldFirst codes bits t → ⊥
+TellsNone codes bits = (t : ShortValue) → StandsToldFirst codes bits t → ⊥
 
--- nothing is told exactly where none does
-abbrev pub TellsOrNone : List Code → List Bool → Told → Type 0
+-- the answer is no value exactly if the bits begin with none
+abbrev pub TellsOrNone : List Code → List Bool → ShortValue → Type 0
 TellsOrNone codes bits t = ((t.length ≡ 0) × TellsNone codes bits) ⊎ StandsToldFirst codes bits t
 
--- what the first ten of the bits tell, where ten are there
-abbrev pub TellsFirst : List Code → List Bool → Option Told → Type 0
-TellsFirst codes bits None = (length bits < 10) ⊎ TellsNone codes bits
-TellsFirst codes bits (Some t) = StandsToldFirst codes bits t
+-- the value that the first ten of the bits encode, if there are ten
+abbrev pub TellsShortValue : List Code → List Bool → Option ShortValue → Type 0
+TellsShortValue codes bits None = (length bits < 10) ⊎ TellsNone codes bits
+TellsShortValue codes bits (Some t) = StandsToldFirst codes bits t
 
-abbrev pub told_none : Told
+abbrev pub told_none : ShortValue
 told_none = record { value = pos 0; run = 0; length = 0 }
 
--- what is kept for all ten bits
-pub record AreTold (codes : List Code) (told : List Told) : Type 0 where
+-- the entries of all ten bits
+pub record AreTold (codes : List Code) (told : List ShortValue) : Type 0 where
   pub long : length told ≡ 1024
   pub each : (n : ℕ) → n < 1024 → TellsOrNone codes (bits_of 10 n) (slice_index_or told n told_none)

@@ -1,4 +1,4 @@
-// Laws over the definitions of this crate, each on a function that does nothing.
+//! Laws over the definitions of this crate, each on a function that does nothing.
 ghost use Rattle.std.specs.Prelude.{◌≡◌, ℕ, List, length, take, flat_map};
 ghost use Rattle.jpg_spec.specs.Geometry.{Frame as Numbers, mcu_row_frame, units};
 ghost use Rattle.jpg_spec.specs.Lists.{below};
@@ -10,12 +10,14 @@ ghost use Rattle.jpg_coefs.specs.Machine.{KeepsUnits};
 ghost use Rattle.jpg_seq.specs.declared.reader.SeqReader.{SeqReader};
 ghost use Rattle.jpg_seq.specs.Reader.{sequential};
 
-/// Where the machine of a sequential scan stands, whole units are in the picture, and a part of one more is due (T.81, F.2.2).
+/// In each state of the machine of a sequential scan complete units are in the picture, and a part of one more may
+/// follow (T.81, F.2.2).
 pub fn sequential_machines_keep_units()
     ensures { KeepsUnits SeqReader sequential }
 {}
 
-/// The scan of all components of a frame has its places MCU row by MCU row, and those that are left of one lie in it.
+/// The scan of all components of a frame has its places MCU row by MCU row, and the remaining places of an MCU row are
+/// in it.
 pub fn scans_have_rows()
     ensures rows { (f : Numbers) (ids : List ℕ) → units f ids ≡ flat_map (scan_row f ids) (below (scan_mcus_down f ids)) }
     ensures long { (f : Numbers) (ids : List ℕ) (k : ℕ) → length (scan_row f ids k) ≡ row_units f ids }

@@ -12,18 +12,18 @@ ghost use Rattle.jpg_seq.specs.Work.{EndsUnit};
 ghost use Rattle.jpg_seq.specs.Source.{bits_in};
 ghost use Rattle.jpg_seq.specs.BytesTaken.{TakesBytes};
 ghost use Rattle.jpg_seq.specs.Rows.{AreInRow, IsInRow, lowered};
-ghost use Rattle.jpg_seq.specs.RowTaken.{CanReadRow, Passes, TakesBytesInRow, TakesInRow};
+ghost use Rattle.jpg_seq.specs.RowTaken.{CanReadRow, PassesPlaces, TakesBytesInRow, TakesInRow};
 ghost use Rattle.jpg_seq.specs.Reader.{CanRead, ReadsOn, SeqStands, behind, with_work, sequential};
 
 use crate::source::Source;
 use crate::values::ValueDecoder;
-use crate::work::{Coder, Took, UnitWork};
+use crate::work::{Coder, UnitProgress, UnitWork};
 use jpg_base::{BitStore, Bounds, Cursor, Frame, Place, ScanHead, ScanPart};
 use jpg_coefs::{Coefs, ScanMachine, Taken, UnitFault, UnitStep};
 use jpg_huff::{Decoder, TableSet};
 
-/// A machine that reads a sequential scan: what it reads by, the places that are left, the predictions
-/// by component, the unit in work, and how many units of the interval are left.
+/// A machine that reads a sequential scan: its parameters and tables, the places that are left, the predictions by
+/// component, the current unit, and how many units of the interval are left.
 #[derive(Drop)]
 pub struct SeqReader {
     bounds: Bounds,
@@ -34,7 +34,7 @@ pub struct SeqReader {
     left: u64,
 }
 
-// The tables of a part are put in a place.
+// Puts the decoders of a part's tables into a place.
 #[cold]
 #[inline(never)]
 fn put_coder(place: &mut Option<Coder>, part: &ScanPart, tables: &TableSet)
@@ -50,7 +50,7 @@ fn put_coder(place: &mut Option<Coder>, part: &ScanPart, tables: &TableSet)
     });
 }
 
-// The tables of the parts are put in, by component.
+// Puts the decoders of the parts' tables into places, by component.
 #[cold]
 #[inline(never)]
 fn put_coders(coders: &mut [Option<Coder>; 4], parts: &[ScanPart], tables: &TableSet)
@@ -65,8 +65,8 @@ fn put_coders(coders: &mut [Option<Coder>; 4], parts: &[ScanPart], tables: &Tabl
 }
 
 impl SeqReader {
-    /// Before the first unit of a scan, between intervals. The frame is sequential, the head's
-    /// components are distinct ones of it, and the tables that it names are there.
+    /// A machine before the first unit of a scan, between intervals. The frame is sequential, the head's components are
+    /// distinct ones of it, and the tables that it names are there.
     pub fn new(frame: &Frame, head: &ScanHead, tables: &TableSet) -> SeqReader
         requires { IsSeqScan frame.now head.now tables.now }
         ensures { (i : Interval) → IsOfScan frame.now head.now tables.now i → sequential.ready result i }
@@ -76,7 +76,8 @@ impl SeqReader {
         reader
     }
 
-    /// The same without the tables. They take tens of kilobytes, so `put_tables` puts them in where the machine stays.
+    /// The same without the tables. They take tens of kilobytes, so `put_tables` builds them where the machine is
+    /// stored.
     #[inline(always)]
     pub fn bare(frame: &Frame, head: &ScanHead) -> SeqReader
         requires { AreIn frame.now (head_components head.now) }
@@ -102,9 +103,9 @@ impl SeqReader {
         put_coders(&mut self.coders, head.parts.as_slice(), tables);
     }
 
-    // Takes bits of the unit in work.
+    // Takes bits of the current unit.
     #[inline(always)]
-    fn unit_bits(&self, component: u8, unit: &mut UnitWork, source: &mut Source<'_>) -> Took
+    fn unit_bits(&self, component: u8, unit: &mut UnitWork, source: &mut Source<'_>) -> UnitProgress
         requires { CanRead (with_work self.now unit.old) component }
         ensures reads { ReadsOn (with_work self.now unit.old) component (bits_in source.old) result unit.new (bits_in source.new) }
         ensures ends { EndsUnit result }
@@ -116,11 +117,11 @@ impl SeqReader {
                 self.predictions[component as usize],
                 source,
             ),
-            None => Took::Empty,
+            None => UnitProgress::Empty,
         }
     }
 
-    // A unit that is whole: its block is put, and the next unit begins.
+    // Puts the block of a complete unit, and begins the next unit.
     #[inline(always)]
     fn put(&mut self, unit: &mut UnitWork, coefs: &mut Coefs, place: Place)
         requires small { place.component < 4 }
@@ -141,7 +142,7 @@ impl SeqReader {
         self.left -= 1;
     }
 
-    // Bits of the source, as `bits` takes them.
+    // Takes bits of the source, as `bits` does.
     #[inline(always)]
     fn read(
         &mut self,
@@ -158,10 +159,10 @@ impl SeqReader {
         loop {
             let place = self.cursor.place();
             match self.unit_bits(place.component, unit, source) {
-                Took::More => return Taken::More,
-                Took::Empty => return Taken::More,
-                Took::Fault(fault) => return Taken::Fault(fault),
-                Took::Done => {
+                UnitProgress::More => return Taken::More,
+                UnitProgress::Empty => return Taken::More,
+                UnitProgress::Fault(fault) => return Taken::Fault(fault),
+                UnitProgress::Done => {
                     self.put(unit, coefs, place);
                     if self.left == 0 {
                         return Taken::IntervalDone;
@@ -177,7 +178,7 @@ impl SeqReader {
 }
 
 impl SeqReader {
-    // A unit that is whole, whose block is put into the blocks of an MCU row.
+    // Puts the block of a complete unit into the blocks of an MCU row.
     #[inline(always)]
     fn put_in_row(&mut self, unit: &mut UnitWork, row: &mut Coefs, tops: &[u32; 4], place: Place)
         requires small { place.component < 4 }
@@ -199,7 +200,7 @@ impl SeqReader {
         self.left -= 1;
     }
 
-    // Bits of the source, whose blocks are put into those of an MCU row.
+    // Takes bits of the source, and puts the blocks into those of an MCU row.
     #[inline(always)]
     fn read_in_row(
         &mut self,
@@ -213,16 +214,16 @@ impl SeqReader {
         requires inside { AreInRow row.old.frame tops.now (take most self.old.cursor) }
         requires some { 1 ≤ most }
         ensures takes { TakesInRow most tops.now (with_work self.old unit.old) row.old (bits_in source.old) result (with_work self.new unit.new) row.new (bits_in source.new) }
-        ensures passes { Passes most self.old result self.new }
+        ensures passes { PassesPlaces most self.old result self.new }
     {
         let mut done = 0;
         loop {
             let place = self.cursor.place();
             match self.unit_bits(place.component, unit, source) {
-                Took::More => return Taken::More,
-                Took::Empty => return Taken::More,
-                Took::Fault(fault) => return Taken::Fault(fault),
-                Took::Done => {
+                UnitProgress::More => return Taken::More,
+                UnitProgress::Empty => return Taken::More,
+                UnitProgress::Fault(fault) => return Taken::Fault(fault),
+                UnitProgress::Done => {
                     self.put_in_row(unit, row, tops, place);
                     if self.left == 0 {
                         return Taken::IntervalDone;
@@ -236,8 +237,8 @@ impl SeqReader {
         }
     }
 
-    /// Takes bits from the front of the store as `bits` does, while an MCU row is read: its blocks begin at these
-    /// rows of the components' grids, and the next `most` units lie in it.
+    /// Takes bits from the start of the store as `bits` does, while an MCU row is read: its blocks begin at these rows
+    /// of the components' grids, and the next `most` units are in it.
     pub fn bits_in_row(
         &mut self,
         store: &mut BitStore,
@@ -249,7 +250,7 @@ impl SeqReader {
         requires inside { AreInRow row.old.frame tops.now (take most self.old.cursor) }
         requires some { 1 ≤ most }
         ensures takes { TakesInRow most tops.now self.old row.old store.old result self.new row.new store.new }
-        ensures passes { Passes most self.old result self.new }
+        ensures passes { PassesPlaces most self.old result self.new }
     {
         let mut unit = self.unit.copy();
         let _ = store.len();
@@ -278,7 +279,7 @@ impl SeqReader {
         requires few { length bytes.now < 4294967296 }
         ensures takes { TakesBytesInRow most tops.now self.old row.old bytes.now result self.new row.new }
         ensures within { result.bits ≤ 8 * length bytes.now }
-        ensures passes { Passes most self.old result.taken self.new }
+        ensures passes { PassesPlaces most self.old result.taken self.new }
     {
         let mut unit = self.unit.copy();
         let mut source = Source {
@@ -295,7 +296,7 @@ impl SeqReader {
     }
 }
 
-/// What bytes came to, and how many of their bits were taken.
+/// The result of bytes, and how many of their bits were taken.
 #[derive(Clone, Copy, Debug, PartialEq, Eq)]
 pub struct BytesTaken {
     pub taken: Taken,

@@ -2,7 +2,7 @@
 ghost use Rattle.std.specs.Prelude.{◌≡◌, ◌≤◌, ◌==◌, if◌then◌else◌, Ok, true, All, length, take, drop};
 ghost use Rattle.jpg_spec.specs.Geometry.{IsReal};
 ghost use Rattle.jpg_spec.specs.Scan.{part_of};
-ghost use Rattle.jpg_spec.specs.WrittenFile.{HasBlocksIn};
+ghost use Rattle.jpg_spec_write.specs.WrittenFile.{HasBlocksIn};
 ghost use Rattle.jpg_huff.specs.BitOut.{CanSend, Puts, Sends};
 ghost use Rattle.jpg_seq.specs.NewReader.{HasTables, IsSeqScan};
 ghost use Rattle.jpg_seq.specs.BlockBits.{IsShort};
@@ -29,7 +29,7 @@ fn part_of(head: &ScanHead, component: u8) -> ScanPart
     }
 }
 
-// The block that is written at a place of the scan, behind this DC value of its component.
+// The block that is written at a place of the scan, after this DC value of its component.
 fn due<V: BlockView>(view: &V, place: Place, last: i16) -> Block
     requires { place.real ≡ true → IsReal (V.numbers view.now) place.component place.x place.y }
     ensures { result ≡ block_due (V.blocks view.now) last place }
@@ -43,7 +43,7 @@ fn due<V: BlockView>(view: &V, place: Place, last: i16) -> Block
     }
 }
 
-// A block of a component, by its tables, behind this DC value.
+// Writes a block of a component, by its tables, after this DC value.
 fn put_unit<D: Desk>(
     head: &ScanHead,
     encoders: &EncoderSet<'_>,
@@ -65,7 +65,7 @@ fn put_unit<D: Desk>(
     put_block(dc, ac, last, block, out, desk)
 }
 
-// The units of so many places, with predictions from 0.
+// Writes the units of a number of places, with predictions from 0.
 fn put_units<V: BlockView, D: Desk>(
     view: &V,
     head: &ScanHead,
@@ -104,7 +104,7 @@ fn put_units<V: BlockView, D: Desk>(
     Ok(())
 }
 
-// An interval of so many units: their bits, padded with ones.
+// Writes an interval of a number of units: their bits, padded with ones.
 fn write_interval<V: BlockView, D: Desk>(
     view: &V,
     head: &ScanHead,
@@ -127,11 +127,11 @@ fn write_interval<V: BlockView, D: Desk>(
     out.pad(desk)
 }
 
-/// Writes the data of a sequential scan of a picture: its units by these tables, with a restart marker behind each
-/// `interval` MCUs (0: none), each interval padded with ones (T.81, F.1.2 and E.1.4). A padding block has the DC value of
-/// the one before it of its component, and no other. The header names one to four distinct components of the frame,
-/// whose tables are there; all values lie in the bounds of precision 8; an output is created, and no bits wait, neither
-/// before nor afterwards. After a fault a first part of the data has gone out.
+/// Writes the data of a sequential scan of a picture: its units by these tables, with a restart marker after each
+/// `interval` MCUs (0: none), each interval padded with ones (T.81, F.1.2 and E.1.4). A padding block has the DC value
+/// of the block before it of its component, and no AC values. The header names one to four distinct components of the
+/// frame, whose tables are there; all values are in the range of precision 8; an output is created, and no bits wait,
+/// neither before nor afterwards. After a fault a first part of the data is written.
 pub fn write_seq_scan<V: BlockView, D: Desk>(
     view: &V,
     head: &ScanHead,
@@ -164,7 +164,7 @@ pub fn write_seq_scan<V: BlockView, D: Desk>(
     }
 }
 
-// How many units an interval has, of which 0 are all of them.
+// How many units an interval has: all of them for 0.
 fn each_interval(units: u64, all: u64) -> u64
     requires { 1 ≤ all }
     ensures { (1 ≤ result) × (result ≡ (if units == 0 then all else units)) }

@@ -1,11 +1,11 @@
-// The bits of a store, and those of whole bytes behind them.
+//! The bits of a store, followed by those of complete bytes.
 ghost use Rattle.std.specs.Prelude.{◌≡◌, ◌<◌, ◌≤◌, ◌*◌, ◌+◌, [], ◌++◌, length, true, false};
 ghost use Rattle.jpg_spec.specs.Bits.{bits_of};
 ghost use Rattle.jpg_seq.specs.Source.{bits_in};
 
 use jpg_base::BitStore;
 
-/// Bits at hand, and bytes behind them.
+/// Bits in a store, followed by bytes.
 #[derive(Drop)]
 pub struct Source<'a> {
     pub store: BitStore,
@@ -37,7 +37,7 @@ fn push_four(store: &mut BitStore, a: u8, b: u8, c: u8, d: u8)
 }
 
 impl<'a> Source<'a> {
-    /// The same again.
+    /// A copy of the source.
     #[inline(always)]
     pub fn copy(&self) -> Source<'a>
         ensures { result ≡ self.now }
@@ -48,7 +48,7 @@ impl<'a> Source<'a> {
         }
     }
 
-    /// Takes bytes up to 32 bits at hand, or all bytes.
+    /// Takes bytes until the store has 32 bits, or all bytes.
     #[inline(always)]
     pub fn fill(&mut self)
         ensures same { bits_in self.new ≡ bits_in self.old }
@@ -59,7 +59,7 @@ impl<'a> Source<'a> {
         }
     }
 
-    /// Takes four bytes up to 32 bits at hand, where there are four.
+    /// Takes four bytes if the store has fewer than 32 bits and there are four.
     #[inline(always)]
     pub fn more(&mut self)
         ensures { bits_in self.new ≡ bits_in self.old }
@@ -69,7 +69,7 @@ impl<'a> Source<'a> {
         }
     }
 
-    // Takes four bytes, or all that there are.
+    // Takes four bytes, or all that are left.
     #[inline(always)]
     fn refill(&mut self)
         requires room { length self.old.store < 32 }
@@ -81,7 +81,7 @@ impl<'a> Source<'a> {
         }
     }
 
-    // Takes four bytes, where there are four.
+    // Takes four bytes, if there are four.
     #[inline(always)]
     fn take_four(&mut self) -> bool
         requires room { length self.old.store < 32 }

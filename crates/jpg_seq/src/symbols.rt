@@ -1,12 +1,12 @@
-//! What a symbol of an AC table says in a sequential scan (T.81, F.1.2.2).
+//! The meaning of a symbol of an AC table in a sequential scan (T.81, F.1.2.2).
 ghost use Rattle.jpg_seq.specs.Judge.{Judges};
 
 use jpg_base::Bounds;
 
-/// What stands behind a code.
+/// What follows a code.
 #[derive(Clone, Copy, Debug, PartialEq, Eq)]
-pub enum Judged {
-    /// A value of this category behind a run of zeros.
+pub enum SequentialSymbol {
+    /// A value of this category after a run of zeros.
     Value { run: u8, size: u8 },
     /// Sixteen zeros.
     LongRun,
@@ -18,23 +18,23 @@ pub enum Judged {
     BadRun,
 }
 
-/// What the symbol says where `left` values are left.
-pub fn judge(bounds: &Bounds, left: u8, symbol: u8) -> Judged
+/// The meaning of the symbol where `left` values are left.
+pub fn judge(bounds: &Bounds, left: u8, symbol: u8) -> SequentialSymbol
     ensures { Judges bounds.now.ac_cat left symbol result }
 {
     let run = symbol / 16;
     let size = symbol % 16;
     if size > bounds.ac_cat {
-        Judged::BadSymbol
+        SequentialSymbol::BadSymbol
     } else if size == 0 {
         match run {
-            0 => Judged::End,
-            15 => Judged::LongRun,
-            _ => Judged::BadSymbol,
+            0 => SequentialSymbol::End,
+            15 => SequentialSymbol::LongRun,
+            _ => SequentialSymbol::BadSymbol,
         }
     } else if run >= left {
-        Judged::BadRun
+        SequentialSymbol::BadRun
     } else {
-        Judged::Value { run, size }
+        SequentialSymbol::Value { run, size }
     }
 }

@@ -1,30 +1,29 @@
-//! AC codes, and values that ten bits tell at once (T.81, F.2.2.2).
+//! AC codes, and values decoded by one lookup of ten bits (T.81, F.2.2.2).
 ghost use Rattle.std.specs.Prelude.{◌≡◌, ◌<◌, ◌≤◌, List, length, Contains};
 ghost use Rattle.jpg_spec.specs.Bits.{bits_of};
 ghost use Rattle.jpg_spec.specs.Codes.{Code};
 ghost use Rattle.jpg_huff.specs.Laws.{AreApart};
 ghost use Rattle.jpg_huff.specs.Look.{Spots};
 ghost use Rattle.jpg_huff.specs.Tables.{symbol_codes};
-ghost use Rattle.jpg_seq.specs.Values.{AreTold, TellsFirst, TellsOrNone};
+ghost use Rattle.jpg_seq.specs.Values.{AreTold, TellsShortValue, TellsOrNone};
 
 use jpg_base::BitStore;
 use jpg_huff::{Decoder, Spotted, Table, extend};
 use std::marker::Model;
 
-/// A value that stands first in bits: how many zeros stand before it, and how many bits tell it, 0 where
-/// none does.
+/// A value that bits begin with: how many zeros are before it, and how many bits encode it, 0 if there is none.
 #[derive(Clone, Copy)]
-pub struct Told {
+pub struct ShortValue {
     pub value: i16,
     pub run: u8,
     pub length: u8,
 }
 
-/// The codes of an AC table, and what the ten bits that are next tell.
+/// The codes of an AC table, and the values by the next ten bits.
 #[derive(Drop)]
 pub struct ValueDecoder {
     decoder: Decoder,
-    told: [Told; 1024],
+    told: [ShortValue; 1024],
 }
 
 impl Model for ValueDecoder {
@@ -52,18 +51,18 @@ fn ten_bits(ten: u16) -> BitStore
 }
 
 // No value.
-fn nothing() -> Told
+fn nothing() -> ShortValue
     ensures { result.length ≡ 0 }
 {
-    Told {
+    ShortValue {
         value: 0,
         run: 0,
         length: 0,
     }
 }
 
-// What is kept for these ten bits.
-fn told_by(codes: &Decoder, ten: u16) -> Told
+// The entry of these ten bits.
+fn told_by(codes: &Decoder, ten: u16) -> ShortValue
     requires { ten < 1024 }
     ensures { TellsOrNone codes.now (bits_of 10 ten) result }
 {
@@ -73,8 +72,8 @@ fn told_by(codes: &Decoder, ten: u16) -> Told
         Spotted::Symbol { length, symbol } => {
             let size = symbol % 16;
             if size > 0 && length + size <= 10 {
-                Told {
-                    value: extend(size, bits.peek_behind(length, size)),
+                ShortValue {
+                    value: extend(size, bits.peek_after(length, size)),
                     run: symbol / 16,
                     length: length + size,
                 }
@@ -88,7 +87,7 @@ fn told_by(codes: &Decoder, ten: u16) -> Told
 }
 
 impl ValueDecoder {
-    /// For the codes of this table.
+    /// The decoder of this table's codes.
     #[cold]
     #[inline(never)]
     pub fn new(table: &Table) -> ValueDecoder
@@ -102,7 +101,7 @@ impl ValueDecoder {
         ValueDecoder { decoder, told }
     }
 
-    /// Tells that no code begins another, and none is empty. It does nothing.
+    /// States, for proofs, that no code is a prefix of another, and none is empty. It does nothing.
     pub fn apart(&self)
         ensures one { AreApart self.now }
         ensures some { (code : Code) → Contains self.now code → 1 ≤ length code.0 }
@@ -110,7 +109,7 @@ impl ValueDecoder {
         self.decoder.apart();
     }
 
-    /// What code stands first in these bits.
+    /// Which code these bits begin with.
     #[inline(always)]
     pub fn spot(&self, bits: &BitStore) -> Spotted
         ensures { Spots self.now bits.now result }
@@ -118,10 +117,10 @@ impl ValueDecoder {
         self.decoder.spot(bits)
     }
 
-    /// A value that the first ten of these bits tell: None where they tell none, and where fewer are there.
+    /// The value that the first ten of these bits encode: None if they encode none, or if there are fewer.
     #[inline(always)]
-    pub fn told(&self, bits: &BitStore) -> Option<Told>
-        ensures { TellsFirst self.now bits.now result }
+    pub fn told(&self, bits: &BitStore) -> Option<ShortValue>
+        ensures { TellsShortValue self.now bits.now result }
     {
         if bits.len() < 10 {
             return None;

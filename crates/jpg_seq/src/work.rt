@@ -1,4 +1,4 @@
-//! A unit of a sequential scan, read from a store of bits, elements at once (T.81, F.2.2).
+//! A unit of a sequential scan, read from a store of bits, several elements at once (T.81, F.2.2).
 ghost use Rattle.std.specs.Prelude.{◌≡◌, ◌<◌, ◌≤◌, ◌≤ℤ◌, ◌+◌, ◌+ℤ◌, negsuc, pos, [], ◌∷◌, ◌++◌, length, take, List, ℤ};
 ghost use Rattle.jpg_spec.specs.Elements.{zeros};
 ghost use Rattle.jpg_seq.specs.Range.{AreSane};
@@ -6,30 +6,30 @@ ghost use Rattle.jpg_seq.specs.Work.{IsLaterNext, StandsFirst, TakesFromStore, I
 ghost use Rattle.jpg_seq.specs.Coder.{env_in};
 ghost use Rattle.jpg_seq.specs.SourceTaken.{TakesFrom};
 ghost use Rattle.jpg_seq.specs.ToldTaken.{GoesTold, KeepsOn, TakesTold, TakesToldFrom};
-ghost use Rattle.jpg_seq.specs.declared.work.Took.TheVariants.{Empty};
+ghost use Rattle.jpg_seq.specs.declared.work.UnitProgress.TheVariants.{Empty};
 ghost use Rattle.jpg_spec.specs.Codes.{Code};
 
 use crate::source::Source;
-use crate::symbols::{Judged, judge};
+use crate::symbols::{SequentialSymbol, judge};
 use crate::values::ValueDecoder;
 use jpg_base::{BitStore, Block, Bounds};
 use jpg_coefs::UnitFault;
 use jpg_huff::{Decoder, Spotted, extend};
 use std::marker::Model;
 
-/// What stands first in bits: a part of an element, or an element or bits that show a fault, by their
-/// number.
+/// What bits begin with: a part of an element, a complete element, or a fault, the latter two with the number of their
+/// bits.
 #[derive(Clone, Copy, Debug, PartialEq, Eq)]
-pub enum Next {
+pub enum NextElement {
     Part,
     Value { run: u8, value: i16, length: u8 },
     Zeros { count: u8, length: u8 },
     Bad { fault: UnitFault, length: u8 },
 }
 
-/// What taking bits came to: an element is whole, all bits were taken, the unit is whole, a fault.
+/// The result of taking bits: an element is complete, all bits were taken, the unit is complete, a fault.
 #[derive(Clone, Copy, Debug, PartialEq, Eq)]
-pub enum Took {
+pub enum UnitProgress {
     More,
     Empty,
     Done,
@@ -59,23 +59,23 @@ fn narrow(x: i32) -> i16
 
 // The first value by its difference.
 #[inline(always)]
-fn first_value(bounds: &Bounds, prediction: i16, difference: i16, length: u8) -> Next
+fn first_value(bounds: &Bounds, prediction: i16, difference: i16, length: u8) -> NextElement
     requires sane { AreSane bounds.now }
     ensures { IsFirstValue bounds.now prediction difference length result }
 {
     let first = sum(prediction, difference);
     if first < bounds.dc_low {
-        Next::Bad {
+        NextElement::Bad {
             fault: UnitFault::CoefRange,
             length,
         }
     } else if first > bounds.dc_high {
-        Next::Bad {
+        NextElement::Bad {
             fault: UnitFault::CoefRange,
             length,
         }
     } else {
-        Next::Value {
+        NextElement::Value {
             run: 0,
             value: narrow(first),
             length,
@@ -83,85 +83,85 @@ fn first_value(bounds: &Bounds, prediction: i16, difference: i16, length: u8) ->
     }
 }
 
-// What stands first in the bits of a unit.
+// What the bits of a unit begin with.
 #[inline(always)]
-fn first_next(bounds: &Bounds, dc: &Decoder, prediction: i16, bits: &BitStore) -> Next
+fn first_next(bounds: &Bounds, dc: &Decoder, prediction: i16, bits: &BitStore) -> NextElement
     requires sane { AreSane bounds.now }
     ensures { (ac : List Code) → StandsFirst (env_of bounds.now dc.now ac prediction) [] bits.now result }
 {
     dc.apart();
     match dc.spot(bits) {
-        Spotted::Part => Next::Part,
-        Spotted::NoCode { length } => Next::Bad {
+        Spotted::Part => NextElement::Part,
+        Spotted::NoCode { length } => NextElement::Bad {
             fault: UnitFault::NoCode,
             length,
         },
         Spotted::Symbol { length, symbol } => {
             if symbol > bounds.dc_cat {
-                Next::Bad {
+                NextElement::Bad {
                     fault: UnitFault::BadSymbol,
                     length,
                 }
             } else if symbol == 0 {
                 first_value(bounds, prediction, 0, length)
             } else if length + symbol <= bits.len() {
-                let difference = extend(symbol, bits.peek_behind(length, symbol));
+                let difference = extend(symbol, bits.peek_after(length, symbol));
                 first_value(bounds, prediction, difference, length + symbol)
             } else {
-                Next::Part
+                NextElement::Part
             }
         }
     }
 }
 
-// What stands first in bits behind the first value, where `left` values are left.
+// What bits after the first value begin with, where `left` values are left.
 #[inline(always)]
-fn later_next(bounds: &Bounds, ac: &ValueDecoder, left: u8, bits: &BitStore) -> Next
+fn later_next(bounds: &Bounds, ac: &ValueDecoder, left: u8, bits: &BitStore) -> NextElement
     requires sane { AreSane bounds.now }
     requires left { (1 ≤ left) × (left ≤ 63) }
     ensures { IsLaterNext bounds.now ac.now left bits.now result }
 {
     ac.apart();
     match ac.spot(bits) {
-        Spotted::Part => Next::Part,
-        Spotted::NoCode { length } => Next::Bad {
+        Spotted::Part => NextElement::Part,
+        Spotted::NoCode { length } => NextElement::Bad {
             fault: UnitFault::NoCode,
             length,
         },
         Spotted::Symbol { length, symbol } => match judge(bounds, left, symbol) {
-            Judged::BadSymbol => Next::Bad {
+            SequentialSymbol::BadSymbol => NextElement::Bad {
                 fault: UnitFault::BadSymbol,
                 length,
             },
-            Judged::BadRun => Next::Bad {
+            SequentialSymbol::BadRun => NextElement::Bad {
                 fault: UnitFault::BadRun,
                 length,
             },
-            Judged::LongRun => Next::Zeros {
+            SequentialSymbol::LongRun => NextElement::Zeros {
                 count: left.min(16),
                 length,
             },
-            Judged::End => Next::Zeros {
+            SequentialSymbol::End => NextElement::Zeros {
                 count: left,
                 length,
             },
-            Judged::Value { run, size } => {
+            SequentialSymbol::Value { run, size } => {
                 if length + size <= bits.len() {
-                    let value = extend(size, bits.peek_behind(length, size));
-                    Next::Value {
+                    let value = extend(size, bits.peek_after(length, size));
+                    NextElement::Value {
                         run,
                         value,
                         length: length + size,
                     }
                 } else {
-                    Next::Part
+                    NextElement::Part
                 }
             }
         },
     }
 }
 
-/// A unit in work: its values so far, and the bits of the element in work.
+/// The current unit: its values so far, and the bits of the current element.
 #[derive(Drop)]
 pub struct UnitWork {
     values: Block,
@@ -181,7 +181,7 @@ impl Model for UnitWork {
 }
 
 impl UnitWork {
-    /// Before the first bit of a unit.
+    /// A unit before its first bit.
     #[inline(always)]
     pub fn new() -> UnitWork
         ensures { result ≡ no_work }
@@ -193,7 +193,7 @@ impl UnitWork {
         }
     }
 
-    // zeros
+    // Adds zeros.
     #[inline(always)]
     fn cover(&mut self, count: u8)
         requires { length self.old.values + count ≤ 64 }
@@ -202,7 +202,7 @@ impl UnitWork {
         self.at += count;
     }
 
-    // zeros and a value
+    // Adds zeros and a value.
     #[inline(always)]
     fn place(&mut self, run: u8, value: i16)
         requires { length self.old.values + run < 64 }
@@ -213,7 +213,7 @@ impl UnitWork {
         self.at = at + 1;
     }
 
-    // how many values there are
+    // How many values there are.
     #[inline(always)]
     fn count(&self) -> u8
         ensures value { result ≡ length self.now.values }
@@ -222,19 +222,19 @@ impl UnitWork {
         self.at
     }
 
-    // whether values are left
+    // Whether values are left.
     #[inline(always)]
-    fn covered(&self) -> Took
+    fn covered(&self) -> UnitProgress
         ensures { IsUnitCovered self.now result }
     {
         if self.at == 64 {
-            Took::Done
+            UnitProgress::Done
         } else {
-            Took::More
+            UnitProgress::More
         }
     }
 
-    // all bits of the store behind the part
+    // Appends all bits of the store to the part.
     #[inline(always)]
     fn keep(&mut self, store: &mut BitStore)
         requires { length self.old.part + length store.old < 32 }
@@ -244,7 +244,7 @@ impl UnitWork {
         self.part.take_from(store);
     }
 
-    // no part
+    // Empties the part.
     #[inline(always)]
     fn clear(&mut self)
         ensures { self.new ≡ record (self.old) { part = [] } }
@@ -252,7 +252,7 @@ impl UnitWork {
         self.part = BitStore::new();
     }
 
-    // how many bits the part has
+    // How many bits the part has.
     #[inline(always)]
     fn waiting(&self) -> u8
         ensures { result ≡ length self.now.part }
@@ -260,7 +260,7 @@ impl UnitWork {
         self.part.len()
     }
 
-    // the part, and bits of the store
+    // The part followed by bits of the store.
     #[inline(always)]
     fn joined(&self, store: &BitStore) -> BitStore
         ensures { result ≡ self.now.part ++ take 32 store.now }
@@ -268,9 +268,9 @@ impl UnitWork {
         self.part.joined(store)
     }
 
-    // what stands first in bits
+    // What bits begin with.
     #[inline(always)]
-    fn next(&self, bounds: &Bounds, coder: &Coder, prediction: i16, bits: &BitStore) -> Next
+    fn next(&self, bounds: &Bounds, coder: &Coder, prediction: i16, bits: &BitStore) -> NextElement
         requires sane { AreSane bounds.now }
         requires left { length self.now.values < 64 }
         ensures { StandsFirst (env_in bounds.now coder.now prediction) self.now.values bits.now result }
@@ -283,7 +283,7 @@ impl UnitWork {
         }
     }
 
-    // An element's worth of bits where no part waits.
+    // Takes the bits of an element, where the part is empty.
     #[inline(always)]
     fn element(
         &mut self,
@@ -291,7 +291,7 @@ impl UnitWork {
         coder: &Coder,
         prediction: i16,
         store: &mut BitStore,
-    ) -> Took
+    ) -> UnitProgress
         requires sane { AreSane bounds.now }
         requires left { length self.old.values < 64 }
         requires none { self.old.part ≡ [] }
@@ -300,20 +300,20 @@ impl UnitWork {
         ensures few { result ≡ Empty → length store.old < 32 }
     {
         match self.next(bounds, coder, prediction, store) {
-            Next::Part => {
+            NextElement::Part => {
                 self.keep(store);
-                Took::Empty
+                UnitProgress::Empty
             }
-            Next::Bad { fault, length } => {
+            NextElement::Bad { fault, length } => {
                 store.skip(length);
-                Took::Fault(fault)
+                UnitProgress::Fault(fault)
             }
-            Next::Value { run, value, length } => {
+            NextElement::Value { run, value, length } => {
                 store.skip(length);
                 self.place(run, value);
                 self.covered()
             }
-            Next::Zeros { count, length } => {
+            NextElement::Zeros { count, length } => {
                 store.skip(length);
                 self.cover(count);
                 self.covered()
@@ -321,7 +321,7 @@ impl UnitWork {
         }
     }
 
-    // The same where a part waits.
+    // Takes the bits of an element, where the part isn't empty.
     #[inline(always)]
     fn waited_element(
         &mut self,
@@ -329,7 +329,7 @@ impl UnitWork {
         coder: &Coder,
         prediction: i16,
         store: &mut BitStore,
-    ) -> Took
+    ) -> UnitProgress
         requires sane { AreSane bounds.now }
         requires work { IsAtWork (env_in bounds.now coder.now prediction) self.old }
         ensures takes { TakesFromStore (env_in bounds.now coder.now prediction) self.old store.old result self.new store.new }
@@ -338,21 +338,21 @@ impl UnitWork {
         let bits = self.joined(store);
         let have = self.waiting();
         match self.next(bounds, coder, prediction, &bits) {
-            Next::Part => {
+            NextElement::Part => {
                 self.keep(store);
-                Took::Empty
+                UnitProgress::Empty
             }
-            Next::Bad { fault, length } => {
+            NextElement::Bad { fault, length } => {
                 store.skip(length - have);
-                Took::Fault(fault)
+                UnitProgress::Fault(fault)
             }
-            Next::Value { run, value, length } => {
+            NextElement::Value { run, value, length } => {
                 store.skip(length - have);
                 self.clear();
                 self.place(run, value);
                 self.covered()
             }
-            Next::Zeros { count, length } => {
+            NextElement::Zeros { count, length } => {
                 store.skip(length - have);
                 self.clear();
                 self.cover(count);
@@ -361,9 +361,9 @@ impl UnitWork {
         }
     }
 
-    // A value that ten bits tell: Empty where they tell none that has a place.
+    // Takes a value that ten bits encode: Empty if they encode none that has a place.
     #[inline(always)]
-    fn told_value(&mut self, ac: &ValueDecoder, store: &mut BitStore) -> Took
+    fn told_value(&mut self, ac: &ValueDecoder, store: &mut BitStore) -> UnitProgress
         requires left { (1 ≤ length self.old.values) × (length self.old.values < 64) }
         requires none { self.old.part ≡ [] }
         ensures takes { TakesTold ac.now self.old store.old result self.new store.new }
@@ -378,17 +378,17 @@ impl UnitWork {
                     self.place(told.run, told.value);
                     self.covered()
                 } else {
-                    Took::Empty
+                    UnitProgress::Empty
                 }
             }
-            None => Took::Empty,
+            None => UnitProgress::Empty,
         }
     }
 
-    // Values that ten bits tell, one after another, up to the end of the unit, or as far as bits are at hand
-    // and tell one.
+    // Takes values that ten bits encode, one after another, up to the end of the unit, or until there are too few bits
+    // or they encode none.
     #[inline(always)]
-    fn told_values(&mut self, ac: &ValueDecoder, source: &mut Source<'_>) -> Took
+    fn told_values(&mut self, ac: &ValueDecoder, source: &mut Source<'_>) -> UnitProgress
         requires left { (1 ≤ length self.old.values) × (length self.old.values < 64) }
         requires none { self.old.part ≡ [] }
         ensures takes { TakesToldFrom ac.now self.old source.old result self.new source.new }
@@ -398,21 +398,21 @@ impl UnitWork {
         loop {
             here.more();
             match self.told_value(ac, &mut here.store) {
-                Took::More => {}
-                Took::Done => {
+                UnitProgress::More => {}
+                UnitProgress::Done => {
                     *source = here;
-                    return Took::Done;
+                    return UnitProgress::Done;
                 }
-                Took::Empty => {
+                UnitProgress::Empty => {
                     *source = here;
-                    return Took::More;
+                    return UnitProgress::More;
                 }
-                Took::Fault(_) => unreachable!(),
+                UnitProgress::Fault(_) => unreachable!(),
             }
         }
     }
 
-    // An element where no part waits, and values behind it that ten bits tell.
+    // Takes an element where the part is empty, and values after it that ten bits encode.
     #[inline(always)]
     fn some_elements(
         &mut self,
@@ -420,7 +420,7 @@ impl UnitWork {
         coder: &Coder,
         prediction: i16,
         source: &mut Source<'_>,
-    ) -> Took
+    ) -> UnitProgress
         requires sane { AreSane bounds.now }
         requires left { length self.old.values < 64 }
         requires none { self.old.part ≡ [] }
@@ -429,14 +429,14 @@ impl UnitWork {
     {
         source.fill();
         match self.element(bounds, coder, prediction, &mut source.store) {
-            Took::More => self.told_values(&coder.ac, source),
-            Took::Empty => Took::Empty,
-            Took::Done => Took::Done,
-            Took::Fault(fault) => Took::Fault(fault),
+            UnitProgress::More => self.told_values(&coder.ac, source),
+            UnitProgress::Empty => UnitProgress::Empty,
+            UnitProgress::Done => UnitProgress::Done,
+            UnitProgress::Fault(fault) => UnitProgress::Fault(fault),
         }
     }
 
-    // Elements where no part waits, up to the end of the unit or of the source.
+    // Takes elements where the part is empty, up to the end of the unit or of the source.
     #[inline(always)]
     fn elements(
         &mut self,
@@ -444,7 +444,7 @@ impl UnitWork {
         coder: &Coder,
         prediction: i16,
         source: &mut Source<'_>,
-    ) -> Took
+    ) -> UnitProgress
         requires sane { AreSane bounds.now }
         requires left { length self.old.values < 64 }
         requires none { self.old.part ≡ [] }
@@ -453,15 +453,15 @@ impl UnitWork {
     {
         loop {
             match self.some_elements(bounds, coder, prediction, source) {
-                Took::More => {}
-                Took::Empty => return Took::Empty,
-                Took::Done => return Took::Done,
-                Took::Fault(fault) => return Took::Fault(fault),
+                UnitProgress::More => {}
+                UnitProgress::Empty => return UnitProgress::Empty,
+                UnitProgress::Done => return UnitProgress::Done,
+                UnitProgress::Fault(fault) => return UnitProgress::Fault(fault),
             }
         }
     }
 
-    /// Takes bits up to the end of the unit or of the source, or up to one that shows a fault.
+    /// Takes bits up to the end of the unit or of the source, or up to one that reveals a fault.
     #[inline(always)]
     pub fn take(
         &mut self,
@@ -469,7 +469,7 @@ impl UnitWork {
         coder: &Coder,
         prediction: i16,
         source: &mut Source<'_>,
-    ) -> Took
+    ) -> UnitProgress
         requires sane { AreSane bounds.now }
         requires work { IsAtWork (env_in bounds.now coder.now prediction) self.old }
         ensures takes { TakesFrom (env_in bounds.now coder.now prediction) self.old source.old result self.new source.new }
@@ -480,14 +480,14 @@ impl UnitWork {
         }
         source.fill();
         match self.waited_element(bounds, coder, prediction, &mut source.store) {
-            Took::More => self.elements(bounds, coder, prediction, source),
-            Took::Empty => Took::Empty,
-            Took::Done => Took::Done,
-            Took::Fault(fault) => Took::Fault(fault),
+            UnitProgress::More => self.elements(bounds, coder, prediction, source),
+            UnitProgress::Empty => UnitProgress::Empty,
+            UnitProgress::Done => UnitProgress::Done,
+            UnitProgress::Fault(fault) => UnitProgress::Fault(fault),
         }
     }
 
-    /// The same again.
+    /// A copy of the unit.
     #[inline(always)]
     pub fn copy(&self) -> UnitWork
         ensures { result ≡ self.now }
@@ -499,7 +499,7 @@ impl UnitWork {
         }
     }
 
-    /// The whole block.
+    /// The complete block.
     #[inline(always)]
     pub fn block(&self) -> Block
         requires { length self.now.values ≡ 64 }

@@ -1,14 +1,14 @@
 //! The bits of a block in a sequential scan, written (T.81, F.1.2).
 ghost use Rattle.std.specs.Prelude.{◌≡◌, ◌≤◌, ◌++◌, [], drop, true, pos, negsuc, ◌-ℤ◌, ◌≤ℤ◌};
 ghost use Rattle.jpg_spec.specs.Numbers.{category as category_of, extra_bits as extra_of};
-ghost use Rattle.jpg_spec.specs.ScanText.{code_of};
-ghost use Rattle.jpg_huff.specs.BitOut.{Puts, PutsBehind};
+ghost use Rattle.jpg_spec.specs.Codes.{code_of};
+ghost use Rattle.jpg_huff.specs.BitOut.{Puts, PutsAfter};
 ghost use Rattle.jpg_seq.specs.BlockBits.{IsShort, run_bits, band_bits, block_bits};
 
 use jpg_base::{Block, Desk, WriteFault};
-use jpg_huff::{BitOut, Encoder, Held, category, extra_bits};
+use jpg_huff::{BitOut, Encoder, PendingBits, category, extra_bits};
 
-// The first code of a symbol, if any.
+// Writes the first code of a symbol, if any.
 #[inline(always)]
 fn put_code<D: Desk>(
     encoder: &Encoder,
@@ -23,7 +23,7 @@ fn put_code<D: Desk>(
     out.put(u32::from(code.bits), code.length, desk)
 }
 
-// The first code of a symbol, and then the extra bits of a value.
+// Writes the first code of a symbol, and then the extra bits of a value.
 #[inline(always)]
 fn put_value<D: Desk>(
     encoder: &Encoder,
@@ -44,27 +44,27 @@ fn put_value<D: Desk>(
     )
 }
 
-// The same behind bits that are held.
+// The same after bits that were handed out.
 #[inline(always)]
-fn put_value_behind<D: Desk>(
+fn put_value_after<D: Desk>(
     encoder: &Encoder,
     symbol: u8,
     value: i32,
-    held: Held,
+    held: PendingBits,
     out: &mut BitOut,
     desk: &mut D,
-) -> Result<Held, WriteFault>
+) -> Result<PendingBits, WriteFault>
     requires created { (D.state desk.old).output_created ≡ true }
     requires short { category_of value ≤ 16 }
     requires none { out.old.bits ≡ [] }
-    ensures puts { PutsBehind (D.state desk.old) out.old held (code_of encoder.now symbol ++ extra_of value) result out.new (D.state desk.new) }
+    ensures puts { PutsAfter (D.state desk.old) out.old held (code_of encoder.now symbol ++ extra_of value) result out.new (D.state desk.new) }
     ensures none { out.new.bits ≡ [] }
 {
     let extra = extra_bits(value);
-    out.put_code_behind(held, encoder.code(symbol), extra, category(value), desk)
+    out.put_code_after(held, encoder.code(symbol), extra, category(value), desk)
 }
 
-// A value behind a run of zeros, of which each sixteen are a code of their own.
+// Writes a value after a run of zeros, of which each sixteen have a code of their own.
 #[inline(never)]
 fn put_any_run<D: Desk>(
     ac: &Encoder,
@@ -86,20 +86,20 @@ fn put_any_run<D: Desk>(
     put_value(ac, 16 * left + category(value), value, out, desk)
 }
 
-// The same behind bits that are held.
+// The same after bits that were handed out.
 #[inline(always)]
-fn put_any_behind<D: Desk>(
+fn put_any_after<D: Desk>(
     ac: &Encoder,
     run: u8,
     value: i16,
-    held: Held,
+    held: PendingBits,
     out: &mut BitOut,
     desk: &mut D,
-) -> Result<Held, WriteFault>
+) -> Result<PendingBits, WriteFault>
     requires created { (D.state desk.old).output_created ≡ true }
     requires short { category_of value ≤ 15 }
     requires none { out.old.bits ≡ [] }
-    ensures puts { PutsBehind (D.state desk.old) out.old held (run_bits ac.now run value) result out.new (D.state desk.new) }
+    ensures puts { PutsAfter (D.state desk.old) out.old held (run_bits ac.now run value) result out.new (D.state desk.new) }
     ensures none { out.new.bits ≡ [] }
 {
     out.give(held);
@@ -109,34 +109,34 @@ fn put_any_behind<D: Desk>(
     }
 }
 
-// The same, with the bits in hand where the run is short.
+// The same; a small value after a short run is looked up together with its code.
 #[inline(always)]
 fn put_run<D: Desk>(
     ac: &Encoder,
     run: u8,
     value: i16,
-    held: Held,
+    held: PendingBits,
     out: &mut BitOut,
     desk: &mut D,
-) -> Result<Held, WriteFault>
+) -> Result<PendingBits, WriteFault>
     requires created { (D.state desk.old).output_created ≡ true }
     requires short { category_of value ≤ 15 }
     requires none { out.old.bits ≡ [] }
-    ensures puts { PutsBehind (D.state desk.old) out.old held (run_bits ac.now run value) result out.new (D.state desk.new) }
+    ensures puts { PutsAfter (D.state desk.old) out.old held (run_bits ac.now run value) result out.new (D.state desk.new) }
     ensures none { out.new.bits ≡ [] }
 {
     if run >= 16 {
-        put_any_behind(ac, run, value, held, out, desk)
+        put_any_after(ac, run, value, held, out, desk)
     } else if value >= -32 && value < 32 {
         let (bits, count) = ac.value(run, value);
-        out.put_behind(held, bits, count, desk)
+        out.put_after(held, bits, count, desk)
     } else {
         let value = i32::from(value);
-        put_value_behind(ac, 16 * run + category(value), value, held, out, desk)
+        put_value_after(ac, 16 * run + category(value), value, held, out, desk)
     }
 }
 
-// The values behind the first, of which a bit tells which aren't 0, and the end of the block where zeros are left.
+// Writes the values after the first one, where a bit of a word says which aren't 0, and an EOB if zeros are left.
 #[inline(always)]
 fn put_band<D: Desk>(
     ac: &Encoder,

@@ -1,4 +1,5 @@
--- Segments with no scan among them: no scan header and no table of a component's first scan, and what they are as items.
+-- Segments with no scan among them: no scan header and no table of a component's first scan, and what they are as
+-- items.
 use Rattle.std.proofs.Common.{◌≡◌, ℕ, true, false, cond, List, [], ◌∷◌, refl, sym, ap, ◌∙◌, subst, None, ◌==◌}
 use Rattle.jpg_spec.specs.Geometry.{Frame, component_at}
 use Rattle.jpg_spec.specs.Markers.{Segment, SpellsSegments, Pass, code_fault, has_scan}

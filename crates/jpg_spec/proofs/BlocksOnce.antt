@@ -1,4 +1,4 @@
--- The items of a file lead to one picture: scans tell all coefficients that they name, and the others stay.
+-- The items of a file lead to one picture: scans encode all coefficients that they name, and the others don't change.
 use Rattle.std.proofs.Common.{◌≡◌, ℕ, zero, suc, ◌+◌, ◌-◌, ◌≤◌, Bool, true, false, ◌==◌, ◌&&◌, List, [], ◌∷◌, ◌++◌, length, take, drop, get_or, refl, sym, ap, ◌∙◌, subst, arith, ℤ, pos}
 use Rattle.std.specs.Prelude.{◌||◌, map, flat_map, nat_le, min}
 use Rattle.std.proofs.Math.Path.{fun_ext}
@@ -31,7 +31,7 @@ pub joined_chunks : {A : Type 0} (n : ℕ) (xs : List A) → joined (chunks n xs
 joined_chunks zero xs = append-nil xs
 joined_chunks (suc n) xs = joined_chunks_of (length xs) n xs (omega arith)
 
--- WHAT INTERVALS TELL of the picture behind them
+-- WHAT INTERVALS ENCODE of the picture after them
 
 abbrev pub band_of : Scan → Blocks → Place → List ℤ
 band_of s after p = band s (block_at after p)

@@ -1,4 +1,4 @@
--- What tests say, and what equal lists and answers have in common: for the proofs of all crates.
+-- Facts about tests, equal lists and answers, for the proofs of all crates.
 use Rattle.std.proofs.Common.{◌≡◌, ℕ, zero, suc, ◌%◌, ◌<◌, ◌≤◌, Bool, true, false, cond, not, List, [], ◌∷◌, ◌++◌, length, take, refl, sym, ap, ◌∙◌, subst, arith, ℤ, pos, Option, Some, None, Ok, Err, ◌==◌, ◌&&◌}
 use Rattle.std.specs.Prelude.{◌||◌, nat_lt, nat_le, int_le, nat_abs, is_none, ◌≤ℤ◌}
 use Rattle.std.proofs.lemmas.Bool.Decides.{nat_tests}
@@ -115,7 +115,7 @@ not_refused fault bad rest e = ap (λ b. cond b (Err fault) rest) e
 pub heads : {X : Type 0} (a b : X) (xs ys : List X) → a ∷ xs ≡ b ∷ ys → (a ≡ b) × (xs ≡ ys)
 heads a b xs ys e = (cc, cc)
 
--- fronts of one length are equal, and so is the rest
+-- prefixes of one length are equal, and so is the rest
 pub append_inj : (a b x y : List Bool) → length a ≡ length b → a ++ x ≡ b ++ y → (a ≡ b) × (x ≡ y)
 append_inj [] [] x y l e = (refl, e)
 append_inj [] (b ∷ bs) x y l e = let f : ⊥ = omega arith in absurd f
@@ -127,7 +127,7 @@ append_inj (a ∷ as') (b ∷ bs) x y l e =
     let r0 = r.0 in
     (cc, r.1)
 
--- one more behind two parts, and behind the last of them
+-- one more after two parts, and after the last of them
 pub part_more : (bits front part : List Bool) (next : Bool) → bits ≡ front ++ part → bits ++ next ∷ [] ≡ front ++ (part ++ next ∷ [])
 part_more bits front part next e = ap (λ x. x ++ next ∷ []) e ∙ append_assoc front part (next ∷ [])
 
@@ -137,7 +137,7 @@ last_split p front y bit s = append_assoc p front (bit ∷ []) ∙ ap (λ z. p +
 pub take_front : (n : ℕ) (xs ys : List Bool) → length xs ≡ n → take n (xs ++ ys) ≡ xs
 take_front n xs ys l = ap (λ k. take k (xs ++ ys)) (sym l) ∙ take-append_seam xs ys
 
--- a front of a front
+-- a prefix of a prefix
 pub take_shorter : (m n : ℕ) (xs : List ℕ) → m ≤ n → take m (take n xs) ≡ take m xs
 take_shorter zero n xs h = refl
 take_shorter (suc m) zero xs h = absurd (omega (arith, h))
@@ -166,3 +166,6 @@ bounds_join c [] ys h k = k
 bounds_join c (v ∷ xs) ys h k =
     let s = both (int_le (pos (nat_abs v)) c.bounds.ac) (are_in_bounds c.bounds false xs) h in
     and_intro (int_le (pos (nat_abs v)) c.bounds.ac) (are_in_bounds c.bounds false (xs ++ ys)) s.0 (bounds_join c xs ys s.1 k)
+
+pub eq_swap : (m n : ℕ) → (m == n) ≡ (n == m)
+eq_swap m n = grind (arith, nat_tests)

@@ -1,4 +1,4 @@
--- What the data bytes of an interval hold or show, with more bytes behind them.
+-- The contents or the faults of the data bytes of an interval, with more bytes after them.
 use Rattle.std.proofs.Common.{◌≡◌, ℕ, List, [], ◌∷◌, ◌++◌, length, refl, sym, ap, ◌∙◌, arith, Bool}
 use Rattle.std.specs.Prelude.{map}
 use Rattle.std.proofs.lemmas.List.{append_assoc, append_cancel_left, length-append}
@@ -6,14 +6,14 @@ use Rattle.std.proofs.lemmas.List.Concat.{flat_map-append}
 use Rattle.jpg_spec.specs.Bits.{bits_of, bits_of_bytes}
 use Rattle.jpg_spec.specs.Elements.{Coding, UnitLeft}
 use Rattle.jpg_spec.specs.Scan.{Blocks, Scan, unit_at}
-use Rattle.jpg_spec.specs.ScanFaults.{DataShows}
+use Rattle.jpg_spec.specs.ScanFaults.{DataReveals}
 use Rattle.jpg_spec.specs.Sound.{IsSound}
 use Rattle.jpg_spec.specs.FirstFault.{HoldsUnits}
 use Rattle.jpg_spec.specs.declared.fault.Fault.{Fault}
 use Rattle.jpg_spec.specs.declared.frame.Place.{Place}
 use Rattle.jpg_spec.proofs.Strings.{length-bits_of}
 use Rattle.jpg_spec.proofs.Sound.{spelled_once, fault_excludes}
-use Rattle.jpg_spec.specs.FileStands.{Completes}
+use Rattle.jpg_spec.specs.UnfinishedFile.{Completes}
 
 pub bits_join : (a b : List ℕ) → bits_of_bytes (a ++ b) ≡ bits_of_bytes a ++ bits_of_bytes b
 bits_join a b = flat_map-append (bits_of 8) a b
@@ -22,7 +22,7 @@ bits_join a b = flat_map-append (bits_of 8) a b
 bits_alike : (a b x y : List ℕ) → a ++ x ≡ b ++ y → bits_of_bytes a ++ bits_of_bytes x ≡ bits_of_bytes b ++ bits_of_bytes y
 bits_alike a b x y e = sym (bits_join a x) ∙ ap bits_of_bytes e ∙ bits_join b y
 
-pub shows_more : (c : Coding) (units : List UnitLeft) (fault : Fault) (bits more : List Bool) → DataShows c units fault bits → DataShows c units fault (bits ++ more)
+pub shows_more : (c : Coding) (units : List UnitLeft) (fault : Fault) (bits more : List Bool) → DataReveals c units fault bits → DataReveals c units fault (bits ++ more)
 shows_more c units fault bits more d = record {
   elements = d.elements;
   told = d.told;
@@ -46,21 +46,21 @@ holds_more s before places coded more h =
 pub completes_holds : (s : Scan) (before : Blocks) (places : List Place) (coded : List ℕ) → Completes s before places coded → HoldsUnits s before places coded
 completes_holds s before places coded c = (c.0, (c.1.0, c.1.1.0, c.1.1.2, c.1.2))
 
--- data that show a fault are no whole interval, whatever follows the ones or the others
+-- data that have a fault are no complete interval, whatever follows the ones or the others
 pub shown_not_complete : (s : Scan) (before : Blocks) (places : List Place) (fault : Fault) (a b x y : List ℕ) → IsSound s.coding
-    → DataShows s.coding (map (unit_at s before) places) fault (bits_of_bytes a) → Completes s before places b → a ++ x ≡ b ++ y → ⊥
+    → DataReveals s.coding (map (unit_at s before) places) fault (bits_of_bytes a) → Completes s before places b → a ++ x ≡ b ++ y → ⊥
 shown_not_complete s before places fault a b x y sound d c e =
     fault_excludes s.coding (map (unit_at s before) places) fault c.0 (bits_of_bytes a) c.1.0 (bits_of_bytes x) (c.1.1.0 ++ bits_of_bytes y) sound d c.1.2
     (bits_alike a b x y e ∙ ap (λ l. l ++ bits_of_bytes y) c.1.1.2 ∙ append_assoc c.1.0 c.1.1.0 (bits_of_bytes y))
 
--- nor do they hold all units
+-- nor do they have all units
 pub shown_not_held : (s : Scan) (before : Blocks) (places : List Place) (fault : Fault) (a b x y : List ℕ) → IsSound s.coding
-    → DataShows s.coding (map (unit_at s before) places) fault (bits_of_bytes a) → HoldsUnits s before places b → a ++ x ≡ b ++ y → ⊥
+    → DataReveals s.coding (map (unit_at s before) places) fault (bits_of_bytes a) → HoldsUnits s before places b → a ++ x ≡ b ++ y → ⊥
 shown_not_held s before places fault a b x y sound d h e =
     fault_excludes s.coding (map (unit_at s before) places) fault h.0 (bits_of_bytes a) h.1.0 (bits_of_bytes x) (h.1.1 ++ bits_of_bytes y) sound d h.1.3
     (bits_alike a b x y e ∙ ap (λ l. l ++ bits_of_bytes y) h.1.2 ∙ append_assoc h.1.0 h.1.1 (bits_of_bytes y))
 
--- behind data that hold all units no further byte belongs to the interval
+-- after data that have all units no further byte belongs to the interval
 pub too_long : (s : Scan) (before : Blocks) (places : List Place) (byte : ℕ) (coded more : List ℕ) → IsSound s.coding
     → HoldsUnits s before places coded → Completes s before places (coded ++ byte ∷ more) → ⊥
 too_long s before places byte coded more sound h c =
@@ -75,7 +75,7 @@ too_long s before places byte coded more sound h c =
     let few = c.1.1.1 in
     omega (arith, l1, l2, l3, l4, few)
 
--- of two whole intervals none begins the other
+-- of two complete intervals none begins the other
 pub completes_once : (s : Scan) (before : Blocks) (places : List Place) (coded more : List ℕ) → IsSound s.coding
     → Completes s before places coded → Completes s before places (coded ++ more) → more ≡ []
 completes_once s before places coded [] sound a b = refl

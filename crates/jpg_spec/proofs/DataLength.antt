@@ -1,4 +1,4 @@
--- How many bits elements take: at most 31 for each value that they tell. And how many bytes bits take on file.
+-- How many bits elements take: at most 31 for each value that they encode. And how many bytes bits take in a file.
 use Rattle.std.proofs.Common.{ℕ, zero, suc, ◌+◌, ◌-◌, ◌*◌, ◌%◌, ◌<◌, ◌≤◌, Bool, true, false, cond, List, [], ◌∷◌, ◌++◌, length, take, drop, sym, ap, subst, arith, ⊎_elim, ℤ, pos, ◌==◌}
 use Rattle.std.specs.Prelude.{replicate}
 use Rattle.std.specs.List.{Contains}
@@ -31,7 +31,7 @@ pub table_short : (counts symbols : List ℕ) → length counts ≤ 16 → AreSh
 unfolding codes
 table_short counts symbols few = λ code h. omega (arith, codes_short counts 1 0 symbols code h, few)
 
--- WHAT ELEMENTS TELL
+-- WHAT ELEMENTS ENCODE
 
 pub record IsBrief (c : Coding) : Type 0 where
   pub dc : (i : ℕ) → AreShort (c.dc i)
@@ -80,7 +80,7 @@ due_short c u brief = by u.has_dc
     by true = brief.dc u.component
     by false = brief.ac u.component
 
--- an element tells a value, and takes at most 31 bits for each
+-- an element encodes a value, and takes at most 31 bits for each
 element_few : (c : Coding) (p : ℤ) (e : Element) (u : UnitLeft) (units : List UnitLeft) (here : List ℤ) (left : List UnitLeft) (front : List Bool) → IsBrief c → 1 ≤ length u.old
     → SpellsElement (codes_due c u) e front → Tells c p e u units here left → length front ≤ 31 * length here
 element_few c p (difference d) u units here left front brief some s t =
@@ -118,7 +118,7 @@ covers_few c s t (e ∷ es) told bits brief a k =
     let later = covers_few c next t es k.4 k.6 brief (left_after c p e k.0 k.1 k.2 k.3 k.11 all) k.13 in
     omega (arith, ap length k.8, length-append k.2 k.4, ap length k.9, length-append k.5 k.6, here, later)
 
--- BYTES ON FILE
+-- BYTES IN A FILE
 
 pub stuffed_few : (bytes : List ℕ) → length (stuffed bytes) ≤ 2 * length bytes
 stuffed_few [] = omega arith

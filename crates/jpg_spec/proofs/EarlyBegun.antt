@@ -1,4 +1,4 @@
--- Where a file ends each component has begun exactly where the segments up to there name each.
+-- Where a file ends, each component has begun exactly if the segments up to there name each of them.
 use Rattle.std.proofs.Common.{◌≡◌, ℕ, zero, suc, ◌≤◌, Bool, true, false, cond, ◌==◌, ◌&&◌, List, [], ◌∷◌, ◌++◌, length, refl, sym, ap, ◌∙◌, subst, arith, inl, inr, None}
 use Rattle.std.specs.Prelude.{replicate}
 use Rattle.std.proofs.lemmas.List.{append_assoc, append-nil}
@@ -10,7 +10,7 @@ use Rattle.jpg_spec.specs.InForce.{frame_of, head_in, heads_of}
 use Rattle.jpg_spec.specs.History.{names, has_begun, is_complete}
 use Rattle.jpg_spec.specs.Items.{Item, segment, scan, segments_of, SpellsFront, SpellsItem}
 use Rattle.jpg_spec.specs.FileMeaning.{Leads}
-use Rattle.jpg_spec.specs.FirstFault.{BehindItems, InsideScan, HaveBegun}
+use Rattle.jpg_spec.specs.FirstFault.{AfterItems, InsideScan, HaveBegun}
 use Rattle.jpg_spec.specs.declared.frame.Limits.{Limits}
 use Rattle.jpg_spec.proofs.BeforeScans.{no_heads}
 use Rattle.jpg_spec.proofs.Common.{both, clash, or_right, not_same}
@@ -29,7 +29,7 @@ pub record AllNamed (limits : Limits) (before : List Segment) : Type 0 where
   pub found : has_frame before ≡ true
   pub complete : is_complete (frame_of limits before) before ≡ true
 
--- ONE SEGMENT MORE
+-- ONE MORE SEGMENT
 
 all_more : (p q : ℕ → Bool) (n : ℕ) → ((i : ℕ) → p i ≡ true → q i ≡ true) → all_of p (below n) ≡ true → (m : ℕ) → m ≤ n → all_of q (below m) ≡ true
 all_more p q n h all zero low = refl
@@ -100,7 +100,7 @@ begun_head limits bytes w u e = record {
 }
 
 -- AFTER ITEMS
-pub begun_behind : (limits : Limits) (bytes : List ℕ) (items : List Item) (tail : List ℕ) → BehindItems limits bytes items tail → Goes items tail → HaveBegun limits bytes → AllNamed limits (segments_of items)
+pub begun_behind : (limits : Limits) (bytes : List ℕ) (items : List Item) (tail : List ℕ) → AfterItems limits bytes items tail → Goes items tail → HaveBegun limits bytes → AllNamed limits (segments_of items)
 begun_behind limits bytes items tail b part w =
     by (meet limits w.items items w.front b.front u tail w.blocks b.blocks w.spelled b.spelled w.leads b.leads (sym (append_assoc w.front w.head w.rest) ∙ sym w.cut ∙ b.cut))
   where
@@ -137,7 +137,7 @@ begun_inside limits bytes tail n i fill w =
         absurd (ended_not_standing s i.blocks (chunks s.interval s.places) m.done m.last m.text (g.text ++ u) m.places [] i.done i.coded i.text (tail ++ []) i.places i.later n m.at (inside_at limits bytes tail i)
         (sym m.cut) refl (next_marker w.items g.later g.text u g.others (λ z. segment_marker 0xda w.contents w.head w.rest w.header)) (append-nil tail ∙ fill))
 
--- AND BACK
+-- THE CONVERSE
 
 begun_more : (limits : Limits) (front rest bytes : List ℕ) → bytes ≡ front ++ rest → HaveBegun limits front → HaveBegun limits bytes
 begun_more limits front rest bytes e w = record {
@@ -155,7 +155,7 @@ begun_more limits front rest bytes e w = record {
   complete = w.complete;
 }
 
--- no scan stands before a frame
+-- there is no scan before a frame
 none_named : (limits : Limits) (items : List Item) (blocks : Blocks) (f : Frame) → Leads limits items blocks → has_frame (segments_of items) ≡ false → 1 ≤ length f.components → is_complete f (segments_of items) ≡ true → ⊥
 none_named limits items blocks f l none some e =
     let heads = no_heads f (segments_of items) (no_scans limits (segments_of items) (leads_rules limits items blocks l) none) in
@@ -203,8 +203,8 @@ items_begun limits (scan contents intervals ∷ items) front blocks s l some e =
       complete = e;
     }
 
-pub behind_begun : (limits : Limits) (bytes : List ℕ) (items : List Item) (tail : List ℕ) → BehindItems limits bytes items tail → HasSome limits (segments_of items) → AllNamed limits (segments_of items) → HaveBegun limits bytes
-behind_begun limits bytes items tail b some w = begun_more limits b.front tail bytes b.cut (items_begun limits items b.front b.blocks b.spelled b.leads some w.complete)
+pub after_begun : (limits : Limits) (bytes : List ℕ) (items : List Item) (tail : List ℕ) → AfterItems limits bytes items tail → HasSome limits (segments_of items) → AllNamed limits (segments_of items) → HaveBegun limits bytes
+after_begun limits bytes items tail b some w = begun_more limits b.front tail bytes b.cut (items_begun limits items b.front b.blocks b.spelled b.leads some w.complete)
 
 pub inside_begun : (limits : Limits) (bytes tail : List ℕ) → (i : InsideScan limits bytes tail) → AllNamed limits ((0xda, i.contents) ∷ segments_of i.items) → HaveBegun limits bytes
 inside_begun limits bytes tail i w = record {

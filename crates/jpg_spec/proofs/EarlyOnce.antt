@@ -1,4 +1,4 @@
--- Bytes that end early mean one thing: they end at one place, and the units that are whole there tell one picture.
+-- Bytes that end early mean one thing: they end at one place, and the units that are complete there encode one picture.
 use Rattle.std.proofs.Common.{◌≡◌, ℕ, ◌+◌, ◌-◌, ◌%◌, Bool, true, false, List, [], ◌∷◌, ◌++◌, length, get_or, refl, sym, ap, ◌∙◌, subst, arith, inl, inr, ⊎_elim, pos}
 use Rattle.std.specs.Prelude.{◌⊎◌, map, flat_map, nat_le, replicate}
 use Rattle.std.proofs.Math.Path.{fun_ext}
@@ -11,7 +11,7 @@ use Rattle.jpg_spec.specs.InForce.{frame_of}
 use Rattle.jpg_spec.specs.Items.{Item, segments_of, ends_in_scan}
 use Rattle.jpg_spec.specs.FileMeaning.{Leads, Means, meaning_of}
 use Rattle.jpg_spec.specs.FirstFault.{InsideScan}
-use Rattle.jpg_spec.specs.Early.{UnitsWhole, ScanInPart, EndsBehind, segments_with, EndsInside, MeansEarly, IsMeaning}
+use Rattle.jpg_spec.specs.Early.{UnitsWhole, ScanInPart, EndsAfter, segments_with, EndsInside, MeansEarly, IsMeaning}
 use Rattle.jpg_spec.specs.PictureInWork.{is_at, is_in_band, OnlyChanges, ScanSoFar}
 use Rattle.jpg_spec.specs.ScanReading.{LeadingMarker}
 use Rattle.jpg_spec.specs.Sound.{IsSound}
@@ -32,7 +32,7 @@ use Rattle.jpg_spec.proofs.ScansOnce.{At, IsAhead, scan_once}
 use Rattle.jpg_spec.proofs.TablesInForce.{scan_sound}
 use Rattle.jpg_spec.proofs.TailsOnce.{HasHead, goes_not_head}
 
--- ONE PICTURE, where the same bands stand at the places that changed
+-- ONE PICTURE, if the same bands are at the places that changed
 pub changed_once : (s : Scan) (places : List Place) (old new new' : Blocks) → OnlyChanges s places old new → OnlyChanges s places old new' → flat_map (band_of s new) places ≡ flat_map (band_of s new') places → new ≡ new'
 changed_once s places old new new' a b told =
     fun_ext (λ i. fun_ext (λ x. fun_ext (λ y. ext_get_or (pos 0) (new i x y) (new' i x y) (sizes i x y) (λ k h. value i x y k (any_of (is_at i x y) places) refl (is_in_band s k) refl))))
@@ -58,7 +58,7 @@ so_far_once s before work work' done left sound v w =
     let changes = subst (λ f. OnlyChanges s (joined f) before work') same w.changes in
     changed_once s (joined v.front) before work work' v.changes changes (bands_told s before work work' v.front done sound v.spelled spelled)
 
--- THE WHOLE UNITS of an interval in work
+-- THE COMPLETE UNITS of a current interval
 
 bands_long : (s : Scan) (a b : Blocks) (places : List Place) → ((i x y : ℕ) → length (a i x y) ≡ length (b i x y)) → length (flat_map (band_of s a) places) ≡ length (flat_map (band_of s b) places)
 bands_long s a b [] sizes = refl
@@ -94,7 +94,7 @@ last_spelled s before work after [] (c ∷ done) places coded k h = absurd k
 last_spelled s before work after (p ∷ front) [] places coded k h = absurd k
 last_spelled s before work after (p ∷ front) (c ∷ done) places coded k h = last_spelled s before work after front done places coded k.1 h.1
 
--- is no interval in work
+-- isn't a current interval
 units_not_all : (s : Scan) (before : Blocks) (done : List (List ℕ)) (coded : List ℕ) (places : List Place) (later : List (List Place)) (after after' : Blocks) → IsSound s.coding
     → UnitsWhole s before done coded places later after → ScanSoFar s before after' (done ++ coded ∷ []) later → ⊥
 units_not_all s before done coded places later after after' sound v w =
@@ -208,8 +208,8 @@ inside_once limits bytes M N p q =
         (sym n.cut) refl (next_marker i.items g.later g.text u g.others (λ z. segment_marker 0xda i.contents i.head rest i.header)) fills')
 
 -- AFTER ITEMS
-behind_once : (limits : Limits) (bytes : List ℕ) (M N : Meaning) → EndsBehind limits bytes M → EndsBehind limits bytes N → M ≡ N
-behind_once limits bytes M N p q =
+after_once : (limits : Limits) (bytes : List ℕ) (M N : Meaning) → EndsAfter limits bytes M → EndsAfter limits bytes N → M ≡ N
+after_once limits bytes M N p q =
     let v = p.behind in
     let w = q.behind in
     by (meet limits p.items q.items v.front w.front p.tail q.tail v.blocks w.blocks v.spelled w.spelled v.leads w.leads (sym v.cut ∙ w.cut))
@@ -227,8 +227,8 @@ behind_once limits bytes M N p q =
     by (inr (inr g)) = absurd (goes_not_head limits q.items q.tail q.part (next_head limits q.items p.items q.tail p.tail g))
 
 -- never at both
-behind_not_inside : (limits : Limits) (bytes : List ℕ) (M N : Meaning) → EndsBehind limits bytes M → EndsInside limits bytes N → ⊥
-behind_not_inside limits bytes M N p q =
+after_not_inside : (limits : Limits) (bytes : List ℕ) (M N : Meaning) → EndsAfter limits bytes M → EndsInside limits bytes N → ⊥
+after_not_inside limits bytes M N p q =
     by (meet limits p.items i.items (p.behind).front i.front p.tail u (p.behind).blocks i.blocks (p.behind).spelled i.spelled (p.behind).leads i.leads
     (sym (p.behind).cut ∙ sym (append-nil bytes) ∙ inside_stream limits bytes [] q.tail i))
   where
@@ -258,9 +258,9 @@ behind_not_inside limits bytes M N p q =
 
 -- THE LAWS
 pub early_once : (limits : Limits) (bytes : List ℕ) (M N : Meaning) → MeansEarly limits bytes M → MeansEarly limits bytes N → M ≡ N
-early_once limits bytes M N (e, inl p) (f, inl q) = behind_once limits bytes M N p q
-early_once limits bytes M N (e, inl p) (f, inr q) = absurd (behind_not_inside limits bytes M N p q)
-early_once limits bytes M N (e, inr p) (f, inl q) = absurd (behind_not_inside limits bytes N M q p)
+early_once limits bytes M N (e, inl p) (f, inl q) = after_once limits bytes M N p q
+early_once limits bytes M N (e, inl p) (f, inr q) = absurd (after_not_inside limits bytes M N p q)
+early_once limits bytes M N (e, inr p) (f, inl q) = absurd (after_not_inside limits bytes N M q p)
 early_once limits bytes M N (e, inr p) (f, inr q) = inside_once limits bytes M N p q
 
 pub means_not_early : (limits : Limits) (bytes : List ℕ) (M N : Meaning) → Means limits bytes M → MeansEarly limits bytes N → ⊥

@@ -1,4 +1,4 @@
--- The coefficients of a file that ends early lie in the bounds of its precision.
+-- The coefficients of a file that ends early are in the bounds of its precision.
 use Rattle.std.proofs.Common.{◌≡◌, ℕ, zero, suc, ◌+◌, ◌-◌, ◌<◌, ◌≤◌, Bool, true, false, ◌==◌, List, [], ◌∷◌, ◌++◌, length, drop, get_or, refl, sym, ap, ◌∙◌, subst, arith, inl, inr, ⊎_elim, ℤ, pos, None}
 use Rattle.std.specs.Prelude.{◌⊎◌, map, flat_map, nat_le}
 use Rattle.std.proofs.lemmas.Bool.Decides.{nat_tests}
@@ -16,7 +16,7 @@ use Rattle.jpg_spec.specs.Meaning.{Meaning, picture_frame}
 use Rattle.jpg_spec.specs.FileMeaning.{scan_after, Leads}
 use Rattle.jpg_spec.specs.PictureInWork.{is_at, is_in_band, OnlyChanges, ScanSoFar}
 use Rattle.jpg_spec.specs.Ranges.{is_coefficient, AreInRange}
-use Rattle.jpg_spec.specs.Early.{ScanInPart, EndsBehind, EndsInside, segments_with, MeansEarly, IsMeaning}
+use Rattle.jpg_spec.specs.Early.{ScanInPart, EndsAfter, EndsInside, segments_with, MeansEarly, IsMeaning}
 use Rattle.jpg_spec.specs.declared.frame.Limits.{Limits}
 use Rattle.jpg_spec.specs.declared.frame.Place.{Place}
 use Rattle.jpg_spec.proofs.BlocksOnce.{band_of, length_band, in_band}
@@ -28,7 +28,7 @@ use Rattle.jpg_spec.proofs.Ranges.{NoDc, DcAlone, IsMode, flat_within, any_step,
 use Rattle.jpg_spec.proofs.Rows.{append_apart}
 use Rattle.jpg_spec.proofs.Within.{AreWithin, length_corrected, one_band}
 
--- ZEROS, which stand for what isn't told
+-- ZEROS, for what wasn't decoded
 
 abbrev pub ZerosFit : Coding → Type 0
 ZerosFit c = (b : Bool) (n : ℕ) → are_in_bounds c.bounds b (zeros n) ≡ true
@@ -47,7 +47,7 @@ zeros_within c (u ∷ units) fit = (
   zeros_within c units fit,
 )
 
--- WHOLE ELEMENTS AND A PART OF ONE MORE, with zeros after them
+-- COMPLETE ELEMENTS AND A PART OF ONE MORE, with zeros after them
 
 covers_within : (c : Coding) (s t : Standing) (es : List Element) (told more : List ℤ) (bits : List Bool) → IsMode c s.left → Covers c s es told bits t → AreWithin c t.left more → AreWithin c s.left (told ++ more)
 covers_within c s t [] told more bits mode k w = subst (λ l. AreWithin c s.left (l ++ more)) (sym k.0) (subst (λ (q : Standing). AreWithin c q.left more) k.2 w)
@@ -68,7 +68,7 @@ covers_mode c s t (e ∷ es) told bits mode k =
 abbrev with_passed : UnitLeft → List ℤ → UnitLeft
 with_passed u passed = record u { old = passed ++ u.old }
 
--- new values of what was passed of the first unit
+-- new values of what was skipped of the first unit
 first_within : (c : Coding) (u : UnitLeft) (others : List UnitLeft) (passed here : List ℤ) → ZerosFit c → u.has_dc ≡ false → length here ≡ length passed → are_in_bounds c.bounds false here ≡ true
     → AreWithin c (with_passed u passed ∷ others) (here ++ zeros (length (old_values (u ∷ others))))
 first_within c u others passed here fit none size ok =
@@ -85,7 +85,7 @@ first_within c u others passed here fit none size ok =
       zeros_within c others fit,
     )
 
--- of several units, where no DC is due
+-- of several units, where no DC is next
 no_dc_within : (c : Coding) (units left : List UnitLeft) (here : List ℤ) → ZerosFit c → NoDc units → length here + length (old_values left) ≡ length (old_values units) → are_in_bounds c.bounds false here ≡ true
     → AreWithin c units (here ++ zeros (length (old_values left)))
 no_dc_within c units left here fit n all ok =
@@ -108,7 +108,7 @@ no_units : (xs : List UnitLeft) → length xs ≡ 0 → xs ≡ []
 no_units [] e = refl
 no_units (x ∷ xs) e = absurd (omega (arith, e))
 
--- where EOBs end one band each, or DC values alone are due
+-- where EOBs end one band each, or only DC values are encoded
 part_rest : (c : Coding) (s : Standing) (u : UnitLeft) (others : List UnitLeft) (here : List ℤ) (bits : List Bool) → ZerosFit c → (c.most_run ≡ 0) ⊎ DcAlone s.left → PartOfElement c s u others here bits → are_in_bounds c.bounds false here ≡ true
     → AreWithin c s.left (here ++ zeros (length (old_values (u ∷ others))))
 part_rest c s u others here bits fit m (in_code h) ok = none_within c s.left u others here fit h.left h.none
@@ -149,7 +149,7 @@ stands_within c units told left bits fit mode w =
     subst (λ us. AreWithin c units (told ++ zeros (length (old_values us)))) (sym w.first)
     (subst (λ l. AreWithin c units (l ++ zeros n)) (sym w.same) (subst (λ l. AreWithin c units l) (sym (append_assoc w.before w.here (zeros n))) all))
 
--- THE PLACES of the units that are whole
+-- THE PLACES of the units that are complete
 front_within : (s : Scan) (before after : Blocks) (whole due : List Place) (rest : List ℤ) → ((i x y : ℕ) → length (before i x y) ≡ length (after i x y))
     → AreWithin s.coding (map (unit_at s before) (whole ++ due)) (flat_map (band_of s after) whole ++ rest) → PlacesWithin s after whole
 front_within s before after [] due rest sizes w = tt
@@ -160,7 +160,7 @@ front_within s before after (p ∷ whole) due rest sizes w =
     let r = append_apart (band_of s after p) w.0 (flat_map (band_of s after) whole ++ rest) w.1 (sym (l ∙ k)) split in
     (subst (λ b. are_in_bounds s.coding.bounds (s.ss == 0) b ≡ true) (sym r.0) w.4, front_within s before after whole due rest sizes (subst (λ t. AreWithin s.coding (map (unit_at s before) (whole ++ due)) t) (sym r.1) w.5))
 
--- WHAT CHANGED lies in the bounds
+-- WHAT CHANGED is in the bounds
 
 abbrev pub InBounds : Blocks → Type 0
 InBounds blocks = (i x y k : ℕ) → is_coefficient (bounds_of 8) k (coefficient blocks i x y k) ≡ true
@@ -229,8 +229,8 @@ in_part_in_range limits items contents before after done coded places later l ru
     (changed_in_range limits items contents w.whole w.work after (w.read).changes within (so_far_in_range limits items contents before w.work done (places ∷ later) l rule w.so_far), ((w.read).changes).sizes)
 
 -- THE LAW
-behind_in_range : (limits : Limits) (bytes : List ℕ) (M : Meaning) → EndsBehind limits bytes M → AreInRange (bounds (picture_frame M)) M.blocks
-behind_in_range limits bytes M p =
+after_in_range : (limits : Limits) (bytes : List ℕ) (M : Meaning) → EndsAfter limits bytes M → AreInRange (bounds (picture_frame M)) M.blocks
+after_in_range limits bytes M p =
     subst (λ (N : Meaning). AreInRange (bounds (picture_frame N)) N.blocks) (sym p.meaning)
     (real_in_range (frame_of limits (segments_of p.items)) (p.behind).blocks (leads_in_range limits p.items (p.behind).blocks (p.behind).leads))
 
@@ -242,7 +242,7 @@ inside_in_range limits bytes M p =
     (real_in_range (frame_of limits (segments_with i.items i.contents)) p.after (record { sizes = r.1; values = r.0 }))
 
 pub early_in_range : (limits : Limits) (bytes : List ℕ) (M : Meaning) → MeansEarly limits bytes M → AreInRange (bounds (picture_frame M)) M.blocks
-early_in_range limits bytes M (e, inl p) = behind_in_range limits bytes M p
+early_in_range limits bytes M (e, inl p) = after_in_range limits bytes M p
 early_in_range limits bytes M (e, inr p) = inside_in_range limits bytes M p
 
 pub meaning_in_range : (limits : Limits) (bytes : List ℕ) (M : Meaning) → IsMeaning limits bytes M → AreInRange (bounds (picture_frame M)) M.blocks

@@ -1,4 +1,5 @@
--- THE LAW: a file that ends early in a scan of all components, or after it, has the blocks of the MCU rows that it completes, and none after the next one.
+-- THE LAW: a file that ends early in a scan of all components, or after it, has the blocks of the MCU rows that it
+-- completes, and none after the next one.
 use Rattle.std.proofs.Common.{◌≡◌, ℕ, ◌+◌, ◌*◌, ◌/◌, ◌%◌, ◌<◌, ◌≤◌, Bool, true, false, cond, List, [], ◌∷◌, ◌++◌, length, map, take, drop, refl, sym, ap, ◌∙◌, subst, arith, inl, inr, ◌⊎◌, ⊎_elim, pos}
 use Rattle.std.specs.Prelude.{◌&&◌, nat_lt, replicate}
 use Rattle.std.proofs.Math.Path.{fun_ext}
@@ -19,8 +20,8 @@ use Rattle.jpg_spec.specs.Markers.{Segment}
 use Rattle.jpg_spec.specs.InForce.{frame_of, head_in}
 use Rattle.jpg_spec.specs.Items.{segments_of}
 use Rattle.jpg_spec.specs.FileMeaning.{no_blocks, scan_after}
-use Rattle.jpg_spec.specs.FirstFault.{BehindItems, InsideScan, HaveBegun}
-use Rattle.jpg_spec.specs.Early.{EndsBehind, EndsInside, ScanInPart, UnitsWhole}
+use Rattle.jpg_spec.specs.FirstFault.{AfterItems, InsideScan, HaveBegun}
+use Rattle.jpg_spec.specs.Early.{EndsAfter, EndsInside, ScanInPart, UnitsWhole}
 use Rattle.jpg_spec.specs.PictureInWork.{is_at, AreDistinct, ScanSoFar}
 use Rattle.jpg_spec.specs.ScanReading.{ScanAt, ScanPlace}
 use Rattle.jpg_spec.specs.ScanRows.{first_rows, scan_row}
@@ -49,7 +50,7 @@ use Rattle.jpg_spec.proofs.RowsStopped.{HasWholeBands, bands_size}
 use Rattle.jpg_spec.proofs.UnitsCut.{AreWhole, FirstUnits, few_told, first_units}
 use Rattle.jpg_spec.proofs.Untouched.{frame_stays}
 
--- PLACES that begin those of a scan: so many MCU rows of them are whole
+-- PLACES that begin those of a scan: this many MCU rows of them are complete
 
 pub shorter_front : {A : Type 0} (a b x y : List A) → a ++ x ≡ b ++ y → length b ≤ length a → (more : List A) × (a ≡ b ++ more)
 shorter_front a b x y e few =
@@ -117,7 +118,7 @@ row_fit f ids told rest cut some = record {
         let r = rows_more f ids (n + 1) (D + 1) (omega (arith, low)) in
         shorter_front (first_rows f ids (n + 1)) told r.0 (rest ++ up.0) (sym r.1 ∙ up.1 ∙ ap (λ l. l ++ up.0) (sym (units_by_row f ids) ∙ cut) ∙ append_assoc told rest up.0) (omega (arith, count, small, length_rows f ids (n + 1), next))
 
--- WHERE IT ENDS: its blocks, of which so many rows are complete
+-- WHERE IT ENDS: its blocks, of which this many rows are complete
 record EarlyAt (limits : Limits) (bytes : List ℕ) (before : List Segment) (contents : List ℕ) (M : Meaning) : Type 0 where
   pub all : Blocks
   pub rows : ℕ
@@ -130,7 +131,7 @@ named_there limits bytes before contents i begins lt =
     let f = frame_of limits before in head_names f (head_in f contents) i (head_there limits before contents begins.unbroken) begins.of_all.all lt
 
 -- AFTER THE SCAN all its rows are there
-behind_at : (limits : Limits) (bytes : List ℕ) (M : Meaning) (before : List Segment) (contents : List ℕ) → AreLimits limits → BeginsScanOfAll limits bytes before contents → HaveBegun limits bytes → EndsBehind limits bytes M → EarlyAt limits bytes before contents M
+behind_at : (limits : Limits) (bytes : List ℕ) (M : Meaning) (before : List Segment) (contents : List ℕ) → AreLimits limits → BeginsScanOfAll limits bytes before contents → HaveBegun limits bytes → EndsAfter limits bytes M → EarlyAt limits bytes before contents M
 behind_at limits bytes M before contents limited begins begun p = record {
   all = (p.behind).blocks;
   rows = D;
@@ -139,7 +140,7 @@ behind_at limits bytes M before contents limited begins begun p = record {
   none = λ i x y there real away. absurd (clash (any_of (is_at i x y) (row_places limits before contents (D + 1))) (found i x y there real) away);
 }
   where
-    b : BehindItems limits bytes p.items p.tail
+    b : AfterItems limits bytes p.items p.tail
     b = p.behind
 
     f : Frame
@@ -171,7 +172,7 @@ behind_at limits bytes M before contents limited begins begun p = record {
 
 -- INSIDE THE SCAN
 
--- a sequential scan of whole blocks
+-- a sequential scan of complete blocks
 units_whole : (s : Scan) (blocks : Blocks) (places : List Place) → HasWholeBands s → ((i x y : ℕ) → length (blocks i x y) ≡ 64) → AreWhole (map (unit_at s blocks) places)
 units_whole s blocks [] wide sizes = tt
 units_whole s blocks (p ∷ places) wide sizes = (wide (blocks p.component p.x p.y) (sizes p.component p.x p.y), units_whole s blocks places wide sizes)
@@ -208,7 +209,7 @@ not_among : (a b : Bool) → (a ≡ true → b ≡ true) → b ≡ false → a �
 not_among true b h e = absurd (clash b (h refl) e)
 not_among false b h e = refl
 
--- with units of the interval in work
+-- with units of the current interval
 module _ (limits : Limits) (bytes tail : List ℕ) (i : InsideScan limits bytes tail) (z : IsInAll limits bytes tail i) (fill : (n : ℕ) × (tail ≡ replicate n 255)) (now : Blocks) where
   abbrev f : Frame
   f = frame_of limits (segments_of i.items)
@@ -363,7 +364,7 @@ inside_at limits bytes M before contents limited begins p =
 early_at : (limits : Limits) (bytes : List ℕ) (M : Meaning) (rows : ℕ) → (w : EndsEarlyInRows limits bytes M rows) → EarlyAt limits bytes (w.ends).before (w.ends).contents M
 early_at limits bytes M rows w = by (w.ends).early.1
   where
-    by : EndsBehind limits bytes M ⊎ EndsInside limits bytes M → EarlyAt limits bytes (w.ends).before (w.ends).contents M
+    by : EndsAfter limits bytes M ⊎ EndsInside limits bytes M → EarlyAt limits bytes (w.ends).before (w.ends).contents M
     by (inl p) = behind_at limits bytes M (w.ends).before (w.ends).contents w.limited (w.ends).begins (w.ends).early.0.begun p
     by (inr p) = inside_at limits bytes M (w.ends).before (w.ends).contents w.limited (w.ends).begins p
 

@@ -1,4 +1,5 @@
--- THE LAW: a picture of a file that ends early in a scan of all components, or after it, is that of its blocks at the end of the scan header.
+-- THE LAW: a picture of a file that ends early in a scan of all components, or after it, is that of its blocks at the
+-- end of the scan header.
 use Rattle.std.proofs.Common.{◌≡◌, ℕ, ◌<◌, Bool, true, false, cond, List, ◌∷◌, ◌++◌, length, refl, sym, ap, ◌∙◌, subst, inl, inr, None}
 use Rattle.std.specs.Prelude.{◌⊎◌, ◌&&◌, nat_lt}
 use Rattle.std.proofs.Math.Path.{fun_ext}
@@ -13,15 +14,14 @@ use Rattle.jpg_spec.specs.History.{quant_of}
 use Rattle.jpg_spec.specs.Items.{Item, scan, segments_of, SpellsFront, contents_rule}
 use Rattle.jpg_spec.specs.FileMeaning.{Leads, meaning_of}
 use Rattle.jpg_spec.specs.FirstFault.{InsideScan, HaveBegun}
-use Rattle.jpg_spec.specs.Early.{EndsBehind, EndsInside, segments_with}
-use Rattle.jpg_spec.specs.RowsTold.{BeginsScanOfAll, IsScanOfAll}
-use Rattle.jpg_spec.specs.RowsShown.{picture_so_far}
+use Rattle.jpg_spec.specs.Early.{EndsAfter, EndsInside, segments_with}
+use Rattle.jpg_spec.specs.RowsTold.{BeginsScanOfAll, IsScanOfAll, picture_so_far}
 use Rattle.jpg_spec.specs.RowLaws.{EndsEarlyByRows, early_so_far}
 use Rattle.jpg_spec.specs.declared.frame.Limits.{Limits}
-use Rattle.jpg_spec.proofs.ColoursKept.{same_frame_behind}
+use Rattle.jpg_spec.proofs.ColoursKept.{same_frame_after}
 use Rattle.jpg_spec.proofs.EarlyBegun.{AllNamed, begun_behind}
 use Rattle.jpg_spec.proofs.FileHeader.{HasFirstScan, first_scan, items_header, no_scan_spelled}
-use Rattle.jpg_spec.proofs.FrameBehind.{leads_pass}
+use Rattle.jpg_spec.proofs.FrameAfter.{leads_pass}
 use Rattle.jpg_spec.proofs.FrameFound.{framed}
 use Rattle.jpg_spec.proofs.HeaderFirst.{AreOfHeader, scan_passed, with_scan}
 use Rattle.jpg_spec.proofs.OneHeader.{whole_once}
@@ -29,7 +29,7 @@ use Rattle.jpg_spec.proofs.Untouched.{frame_stays}
 use Rattle.jpg_spec.proofs.RowsLater.{HasAll, blocks_stay, head_there, none_later, quants_stay, second_refused}
 use Rattle.jpg_spec.proofs.RowsWhole.{same_meaning}
 
--- real blocks alone, once more
+-- only real blocks, once more
 pub real_twice : (f : Frame) (blocks : Blocks) → real_blocks f (real_blocks f blocks) ≡ real_blocks f blocks
 real_twice f blocks = fun_ext (λ i. fun_ext (λ x. fun_ext (λ y. by i x y (nat_lt i (length f.components) && is_real f i x y) refl)))
   where
@@ -77,8 +77,8 @@ items_scan limits bytes before contents items blocks front tail first begins cut
     }
 
 -- AFTER IT
-behind_so_far : (limits : Limits) (bytes : List ℕ) (M : Meaning) (before : List Segment) (contents : List ℕ) → BeginsScanOfAll limits bytes before contents → HaveBegun limits bytes → EndsBehind limits bytes M → IsSoFar limits before contents M
-behind_so_far limits bytes M before contents begins begun p =
+after_so_far : (limits : Limits) (bytes : List ℕ) (M : Meaning) (before : List Segment) (contents : List ℕ) → BeginsScanOfAll limits bytes before contents → HaveBegun limits bytes → EndsAfter limits bytes M → IsSoFar limits before contents M
+after_so_far limits bytes M before contents begins begun p =
     subst (λ c. IsSoFar limits before c M) at.of (subst (λ b. IsSoFar limits b first.contents M) at.same here)
   where
     named : AllNamed limits (segments_of p.items)
@@ -97,7 +97,7 @@ behind_so_far limits bytes M before contents begins begun p =
     leads = blocks_stay limits first.more (scan first.contents first.intervals ∷ first.before) p.behind.blocks at.none at.leads
 
     same_frame : frame_of limits segments ≡ frame_of limits (segments_of first.before)
-    same_frame = ap (λ (z : List Item). frame_of limits (segments_of z)) first.joined ∙ same_frame_behind limits first.more first.contents first.intervals first.before p.behind.blocks at.leads
+    same_frame = ap (λ (z : List Item). frame_of limits (segments_of z)) first.joined ∙ same_frame_after limits first.more first.contents first.intervals first.before p.behind.blocks at.leads
 
     quants : (i : ℕ) → i < length (frame_of limits segments).components → quant_of (frame_of limits segments) ((0xda, first.contents) ∷ segments_of first.before) i ≡ quant_of (frame_of limits segments) segments i
     quants i lt =
@@ -136,6 +136,6 @@ pub so_far_early : (limits : Limits) (bytes : List ℕ) (M : Meaning) → (w : E
 unfolding IsSoFar
 so_far_early limits bytes M w = by w.early.1
   where
-    by : EndsBehind limits bytes M ⊎ EndsInside limits bytes M → picture_so_far limits w.before w.contents M.blocks ≡ record M { kept = (picture_so_far limits w.before w.contents M.blocks).kept }
-    by (inl p) = behind_so_far limits bytes M w.before w.contents w.begins w.early.0.begun p
+    by : EndsAfter limits bytes M ⊎ EndsInside limits bytes M → picture_so_far limits w.before w.contents M.blocks ≡ record M { kept = (picture_so_far limits w.before w.contents M.blocks).kept }
+    by (inl p) = after_so_far limits bytes M w.before w.contents w.begins w.early.0.begun p
     by (inr p) = inside_so_far limits bytes M w.before w.contents w.begins p

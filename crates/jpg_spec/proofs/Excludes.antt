@@ -1,4 +1,4 @@
--- Bits that show a fault begin no element that may stand there.
+-- Bits that have a fault begin no element that is allowed there.
 use Rattle.std.proofs.Common.{◌≡◌, ℕ, ◌+◌, ◌-◌, ◌*◌, ◌/◌, ◌%◌, ◌^◌, ◌<◌, ◌≤◌, Bool, true, false, List, [], ◌∷◌, ◌++◌, length, refl, sym, ap, ◌∙◌, subst, arith, ℤ, ⊎_elim, inl, inr, ◌==◌, ◌&&◌}
 use Rattle.std.specs.Prelude.{◌⊎◌, nat_lt, nat_le, ◌||◌}
 use Rattle.std.specs.List.{Contains}
@@ -8,13 +8,13 @@ use Rattle.jpg_spec.specs.Bits.{bits_of}
 use Rattle.jpg_spec.specs.Codes.{Code}
 use Rattle.jpg_spec.specs.Numbers.{category, digits}
 use Rattle.jpg_spec.specs.declared.fault.Fault.{Fault}
-use Rattle.jpg_spec.specs.Elements.{Covers, SpellsUnits, at_start, Coding, UnitLeft, Standing, Element, difference, dc_bit, value, long_run, ends, Tells, SpellsElement, codes_due, zeros_in, symbol_of, bits_behind, are_in_bounds}
-use Rattle.jpg_spec.specs.ScanFaults.{BitsShow, DataShows, BeginsNone, is_symbol}
+use Rattle.jpg_spec.specs.Elements.{Covers, SpellsUnits, at_start, Coding, UnitLeft, Standing, Element, difference, dc_bit, value, long_run, ends, Tells, SpellsElement, codes_due, zeros_in, symbol_of, bits_after, are_in_bounds}
+use Rattle.jpg_spec.specs.ScanFaults.{BitsShow, DataReveals, BeginsNone, is_symbol}
 use Rattle.jpg_spec.proofs.Told.{values_told}
 use Rattle.jpg_spec.proofs.Once.{NumberFacts, IsCoding, OneWay, told_is, symbol_once, element_once, GoesOn, fronts_once, no_units, head_inj, pair_0, pair_1, zeros-append}
 use Rattle.jpg_spec.proofs.Common.{append_inj, clash}
 
--- one of two fronts of a list is a front of the other
+-- one of two prefixes of a list is a prefix of the other
 pub fronts : (a b x y : List Bool) → a ++ x ≡ b ++ y → ((more : List Bool) × (b ≡ a ++ more)) ⊎ ((more : List Bool) × (a ≡ b ++ more))
 fronts [] b x y e = inl (b, refl)
 fronts (a ∷ as') [] x y e = inr (a ∷ as', refl)
@@ -27,10 +27,10 @@ fronts (a ∷ as') (b ∷ bs) x y e =
 
 -- an element that isn't a bit of DC begins with a code of its symbol
 Coded : List Code → Element → List Bool → Type 0
-Coded codes e front = (code : List Bool) × Contains codes (code, symbol_of e) × (front ≡ code ++ bits_behind e)
+Coded codes e front = (code : List Bool) × Contains codes (code, symbol_of e) × (front ≡ code ++ bits_after e)
 
 pub codes_are_due : (c : Coding) (p : ℤ) (e : Element) (u : UnitLeft) (us : List UnitLeft) (here : List ℤ) (left : List UnitLeft) (codes : List Code) (front : List Bool)
-    → Tells c p e u us here left → ((u.has_dc ≡ true) × (c.refines ≡ true) → ⊥) → SpellsElement codes e front → (code : List Bool) × Contains codes (code, symbol_of e) × (front ≡ code ++ bits_behind e)
+    → Tells c p e u us here left → ((u.has_dc ≡ true) × (c.refines ≡ true) → ⊥) → SpellsElement codes e front → (code : List Bool) × Contains codes (code, symbol_of e) × (front ≡ code ++ bits_after e)
 codes_are_due c p (difference d) u us here left codes front t due s = s
 codes_are_due c p (dc_bit b) u us here left codes front t due s = absurd (due (t.2, t.3))
 codes_are_due c p (value run v bits) u us here left codes front t due s = s
@@ -48,7 +48,7 @@ pub or_true : (b : Bool) → (b || true) ≡ true
 or_true true = refl
 or_true false = refl
 
--- the symbol of an element that may stand there is a symbol there
+-- the symbol of an element that is allowed there is a symbol there
 pub right_symbol : (c : Coding) (p : ℤ) (e : Element) (u : UnitLeft) (us : List UnitLeft) (here : List ℤ) (left : List UnitLeft)
     → IsCoding c → ((u.has_dc ≡ true) × (c.refines ≡ true) → ⊥) → Tells c p e u us here left → is_symbol c u.has_dc (symbol_of e) ≡ true
 right_symbol c p (difference d) u us here left ic due t = ap (λ b. is_symbol c b (category d)) t.2 ∙ (let h = t.4 in grind (arith, nat_tests))
@@ -98,7 +98,7 @@ bad_run c p (ends bands bits) u us here left run size ic t dc low high few same 
 
 pub past_end : (c : Coding) (p : ℤ) (e : Element) (u : UnitLeft) (us : List UnitLeft) (here : List ℤ) (left : List UnitLeft) (n m : ℕ) (x b y z : List Bool)
     → NumberFacts → IsCoding c → Tells c p e u us here left → u.has_dc ≡ false → n ≤ c.most_run → m < 2 ^ n → 1 + length us < 2 ^ n + m → 16 * n ≡ symbol_of e
-    → bits_of n m ++ z ≡ bits_behind e ++ y → ⊥
+    → bits_of n m ++ z ≡ bits_after e ++ y → ⊥
 past_end c p (difference d) u us here left n m x b y z facts ic t dc most fits past same e = clash u.has_dc t.2 dc
 past_end c p (dc_bit b1) u us here left n m x b y z facts ic t dc most fits past same e = clash u.has_dc t.2 dc
 past_end c p (value r v bits) u us here left n m x b y z facts ic t dc most fits past same e =
@@ -122,15 +122,15 @@ pub shows_excludes : (c : Coding) (s : Standing) (u : UnitLeft) (us : List UnitL
     → BitsShow c s u us fault bits → SpellsElement (codes_due c u) e front → Tells c (s.predictions u.component) e u us here left → are_in_bounds c.bounds u.has_dc here ≡ true
     → bits ++ z ≡ front ++ y → ⊥
 shows_excludes c s u us fault e here left bits front y z facts ic one due (inl k) sp t ok same =
-    no_code (codes_due c u) (symbol_of e) (bits_behind e) front bits y z k.1 (codes_are_due c (s.predictions u.component) e u us here left (codes_due c u) front t due sp) same
+    no_code (codes_due c u) (symbol_of e) (bits_after e) front bits y z k.1 (codes_are_due c (s.predictions u.component) e u us here left (codes_due c u) front t due sp) same
 shows_excludes c s u us fault e here left bits front y z facts ic one due (inr (inl k)) sp t ok same =
     let d = codes_are_due c (s.predictions u.component) e u us here left (codes_due c u) front t due sp in
-    let f = first_code_once (codes_due c u) one bits d.0 k.1.0 (symbol_of e) (bits_behind e) y z front k.1.1 d.1 d.2 same in
+    let f = first_code_once (codes_due c u) one bits d.0 k.1.0 (symbol_of e) (bits_after e) y z front k.1.1 d.1 d.2 same in
     clash (is_symbol c u.has_dc k.1.0) (ap (λ n. is_symbol c u.has_dc n) f.1 ∙ right_symbol c (s.predictions u.component) e u us here left ic due t) k.1.2
 shows_excludes c s u us fault e here left bits front y z facts ic one due (inr (inr (inl k))) sp t ok same =
     let d = codes_are_due c (s.predictions u.component) e u us here left (codes_due c u) front t due sp in
     let q = k.1 in
-    let f = first_code_once (codes_due c u) one bits d.0 (16 * q.0 + q.1) (symbol_of e) (bits_behind e) y z front q.2 d.1 d.2 same in
+    let f = first_code_once (codes_due c u) one bits d.0 (16 * q.0 + q.1) (symbol_of e) (bits_after e) y z front q.2 d.1 d.2 same in
     bad_run c (s.predictions u.component) e u us here left q.0 q.1 ic t q.3 q.4 q.5 q.6 f.1
 shows_excludes c s u us fault e here left bits front y z facts ic one due (inr (inr (inr (inl k)))) sp t ok same =
     let q = k.1 in
@@ -142,13 +142,13 @@ shows_excludes c s u us fault e here left bits front y z facts ic one due (inr (
 shows_excludes c s u us fault e here left bits front y z facts ic one due (inr (inr (inr (inr k)))) sp t ok same =
     let q = k.1 in
     let d = codes_are_due c (s.predictions u.component) e u us here left (codes_due c u) front t due sp in
-    let r = symbol_once (codes_due c u) one q.2 d.0 (16 * q.0) (symbol_of e) (bits_of q.0 q.1) (bits_behind e) z y bits front q.3 d.1 q.6 d.2 same in
+    let r = symbol_once (codes_due c u) one q.2 d.0 (16 * q.0) (symbol_of e) (bits_of q.0 q.1) (bits_after e) z y bits front q.3 d.1 q.6 d.2 same in
     past_end c (s.predictions u.component) e u us here left q.0 q.1 [] [] y z facts ic t q.4 q.5 q.7 q.8 r.0 r.1
 
--- THE LAW: data that show a fault hold no whole interval, and no more than their whole elements
+-- THE LAW: data that have a fault have no complete interval, and no more than their complete elements
 pub data_excludes : (c : Coding) (units : List UnitLeft) (fault : Fault) (bits bits' more more' : List Bool) (told : List ℤ)
     → NumberFacts → IsCoding c → ((u : UnitLeft) → OneWay (codes_due c u))
-    → DataShows c units fault bits → SpellsUnits c units told bits' → bits ++ more ≡ bits' ++ more' → ⊥
+    → DataReveals c units fault bits → SpellsUnits c units told bits' → bits ++ more ≡ bits' ++ more' → ⊥
 data_excludes c units fault bits bits' more more' told facts ic one d w same =
     let e : d.front ++ (d.here ++ d.rest ++ more) ≡ bits' ++ more' = regroup d.front d.here d.rest more ∙ ap (λ f. f ++ more) (sym d.cut) ∙ same in
     ⊎_elim

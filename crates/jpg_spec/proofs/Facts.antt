@@ -1,4 +1,4 @@
--- Categories, extra_bits bits and EOB bits tell numbers apart.
+-- Categories, extra bits and EOB bits distinguish numbers.
 use Rattle.std.proofs.Common.{◌≡◌, ℕ, zero, suc, ◌+◌, ◌-◌, ◌*◌, ◌/◌, ◌%◌, ◌^◌, ◌<◌, ◌≤◌, Bool, true, false, [], ◌∷◌, ◌++◌, length, refl, sym, ap, ◌∙◌, subst, arith, add-one, ℤ, pos, negsuc, ⊎_elim, ◌==◌, ◌≢◌}
 use Rattle.std.proofs.lemmas.Bool.{cases_eq}
 use Rattle.std.proofs.lemmas.Bool.Decides.{nat_tests}
@@ -16,7 +16,7 @@ not_zero : (most n : ℕ) → n ≢ 0 → digits_of (suc most) n ≡ suc (digits
 not_zero most n h = let e : (n == 0) ≡ false = grind (arith, nat_tests) in
     ap (λ (b : Bool). (let r : ℕ = elim b [ true ↦ 0 | false ↦ suc (digits_of most (n / 2)) ] in r)) e
 
--- n has its digits: it lies below 2 to their number, and not below half of that
+-- n has its digits: it is below 2 to their number, and not below half of that
 bounds_of_digits : (most n : ℕ) → n ≤ most → (n < 2 ^ digits_of most n) × (1 ≤ n → 2 ^ digits_of most n ≤ 2 * n)
 bounds_of_digits zero n h = (omega arith, λ k. (let f : ⊥ = omega arith in absurd f))
 bounds_of_digits (suc most) n h =

@@ -1,12 +1,12 @@
--- Data show one fault at most.
+-- Data have at most one fault.
 use Rattle.std.proofs.Common.{◌≡◌, ℕ, ◌+◌, ◌*◌, ◌/◌, ◌%◌, ◌^◌, ◌<◌, ◌≤◌, Bool, true, false, ◌==◌, ◌&&◌, List, [], ◌∷◌, ◌++◌, length, sym, ap, ◌∙◌, subst, arith, inl, inr, ⊎_elim, ℤ}
 use Rattle.std.specs.Prelude.{◌||◌, nat_le, nat_lt}
 use Rattle.std.specs.List.{Contains}
 use Rattle.std.proofs.lemmas.Bool.Decides.{nat_tests}
 use Rattle.std.proofs.lemmas.List.{append_assoc, append-nil, append_cancel_left}
 use Rattle.jpg_spec.specs.Bits.{bits_of}
-use Rattle.jpg_spec.specs.Elements.{Coding, UnitLeft, Standing, Element, Covers, Tells, SpellsElement, codes_due, at_start, zeros_in, symbol_of, bits_behind, are_in_bounds}
-use Rattle.jpg_spec.specs.ScanFaults.{BeginsNone, BitsShow, DataShows, is_symbol}
+use Rattle.jpg_spec.specs.Elements.{Coding, UnitLeft, Standing, Element, Covers, Tells, SpellsElement, codes_due, at_start, zeros_in, symbol_of, bits_after, are_in_bounds}
+use Rattle.jpg_spec.specs.ScanFaults.{BeginsNone, BitsShow, DataReveals, is_symbol}
 use Rattle.jpg_spec.specs.Sound.{IsSound}
 use Rattle.jpg_spec.specs.declared.fault.Fault.{Fault}
 use Rattle.jpg_spec.proofs.Facts.{facts}
@@ -15,7 +15,7 @@ use Rattle.jpg_spec.proofs.Excludes.{codes_are_due, no_code, right_symbol, bad_r
 use Rattle.jpg_spec.proofs.PartStands.{coding_is, codes_one, eob_symbol}
 use Rattle.jpg_spec.proofs.Common.{clash}
 
--- the symbol of a value behind a run may stand in a band
+-- the symbol of a value after a run is allowed in a band
 run_symbol : (c : Coding) (run size : ℕ) → IsCoding c → 1 ≤ size → size ≤ c.most_category → is_symbol c false (16 * run + size) ≡ true
 run_symbol c run size ic low high =
     let most = ic.0 in
@@ -25,7 +25,7 @@ run_symbol c run size ic low high =
     ap (λ n. nat_le n c.most_category && (nat_lt 0 n || nat_le ((16 * run + size) / 16) c.most_run || (16 * run + size) == 0xf0)) m
     ∙ ap (λ k. k && (nat_lt 0 size || nat_le ((16 * run + size) / 16) c.most_run || (16 * run + size) == 0xf0)) a ∙ ap (λ k. k || nat_le ((16 * run + size) / 16) c.most_run || (16 * run + size) == 0xf0) b
 
--- What shows another fault than NoCode begins with a code.
+-- What has another fault than NoCode begins with a code.
 abbrev pub BeginsWithCode : Coding → UnitLeft → List Bool → Type 0
 BeginsWithCode c u bits = (symbol : ℕ) × (behind : List Bool) × ((code : List Bool) × Contains (codes_due c u) (code, symbol) × (bits ≡ code ++ behind))
 
@@ -37,7 +37,7 @@ module _ (c : Coding) (s : Standing) (u : UnitLeft) (us : List UnitLeft) (ic : I
   with_symbol bits symbol h = (symbol, [], (bits, h, sym (append-nil bits)))
 
   abbrev with_element : (bits : List Bool) (e : Element) (here : List ℤ) (left : List UnitLeft) → SpellsElement (codes_due c u) e bits → Tells c p e u us here left → BeginsWithCode c u bits
-  with_element bits e here left sp t = (symbol_of e, bits_behind e, codes_are_due c p e u us here left (codes_due c u) bits t due sp)
+  with_element bits e here left sp t = (symbol_of e, bits_after e, codes_are_due c p e u us here left (codes_due c u) bits t due sp)
 
   -- two that begin alike have one code
   codes_same : (a b x y : List Bool) → (k : BeginsWithCode c u a) (l : BeginsWithCode c u b) → a ++ x ≡ b ++ y → (k.0 ≡ l.0) × (k.1 ++ x ≡ l.1 ++ y)
@@ -46,7 +46,7 @@ module _ (c : Coding) (s : Standing) (u : UnitLeft) (us : List UnitLeft) (ic : I
   code_of_none : (a b x y : List Bool) → BeginsNone (codes_due c u) a → BeginsWithCode c u b → a ++ x ≡ b ++ y → ⊥
   code_of_none a b x y none l e = no_code (codes_due c u) l.0 l.1 b a y x none l.2 e
 
-  -- each pair of two
+  -- each combination of two
   symbol_run : (a b x y : List Bool) (fault : Fault) (symbol run size : ℕ) → Contains (codes_due c u) (a, symbol) → is_symbol c u.has_dc symbol ≡ false → Contains (codes_due c u) (b, 16 * run + size) → u.has_dc ≡ false → 1 ≤ size → size ≤ c.most_category
       → a ++ x ≡ b ++ y → ⊥
   symbol_run a b x y fault symbol run size h bad k dc low high e =
@@ -115,8 +115,8 @@ module _ (c : Coding) (s : Standing) (u : UnitLeft) (us : List UnitLeft) (ic : I
       absurd (eob_element a b x y k.1.0 k.1.1 k.1.2 l.1.0 l.1.1 l.1.2 k.1.3 k.1.4 k.1.5 k.1.6 k.1.7 k.1.8 l.1.3 l.1.4 e)
   bits_show_once f g a b x y (inr (inr (inr (inr k)))) (inr (inr (inr (inr l)))) e = k.0 ∙ sym l.0
 
--- whole elements behind those before the bits that show a fault
-no_element_there : (c : Coding) (units : List UnitLeft) (fault : Fault) (bits : List Bool) (d : DataShows c units fault bits) (e : Element) (es : List Element) (told : List ℤ) (spelling y : List Bool) (t : Standing) → IsSound c
+-- complete elements after those before the bits that have a fault
+no_element_there : (c : Coding) (units : List UnitLeft) (fault : Fault) (bits : List Bool) (d : DataReveals c units fault bits) (e : Element) (es : List Element) (told : List ℤ) (spelling y : List Bool) (t : Standing) → IsSound c
     → Covers c d.standing (e ∷ es) told spelling t → d.here ++ d.rest ≡ spelling ++ y → ⊥
 no_element_there c units fault bits d e es told spelling y t sound k cut =
     let h = head_inj d.unit k.0 d.others k.1 (sym d.left ∙ k.7) in
@@ -127,8 +127,8 @@ no_element_there c units fault bits d e es told spelling y t sound k cut =
     shows_excludes c d.standing d.unit d.others fault e k.2 k.3 d.here k.5 (k.6 ++ y) d.rest facts (coding_is c sound) (codes_one c sound d.unit) d.codes d.shows q.0 q.1 q.2
     (cut ∙ ap (λ l. l ++ y) k.9 ∙ append_assoc k.5 k.6 y)
 
--- THE LAW: data show one fault at most
-pub data_show_once : (c : Coding) (units : List UnitLeft) (f g : Fault) (bits : List Bool) → IsSound c → DataShows c units f bits → DataShows c units g bits → f ≡ g
+-- THE LAW: data have at most one fault
+pub data_show_once : (c : Coding) (units : List UnitLeft) (f g : Fault) (bits : List Bool) → IsSound c → DataReveals c units f bits → DataReveals c units g bits → f ≡ g
 data_show_once c units f g bits sound d w =
     ⊎_elim
     (λ (z : GoesOn c d.elements w.elements d.told w.told d.front w.front d.standing w.standing). longer f g d w z.elements z.values z.spelling z.covers
@@ -140,7 +140,7 @@ data_show_once c units f g bits sound d w =
     same : d.front ++ (d.here ++ d.rest) ≡ w.front ++ (w.here ++ w.rest)
     same = sym (append_assoc d.front d.here d.rest) ∙ sym d.cut ∙ w.cut ∙ append_assoc w.front w.here w.rest
 
-    longer : (f g : Fault) (d : DataShows c units f bits) (w : DataShows c units g bits) (es : List Element) (values : List ℤ) (spelling : List Bool) → Covers c d.standing es values spelling w.standing
+    longer : (f g : Fault) (d : DataReveals c units f bits) (w : DataReveals c units g bits) (es : List Element) (values : List ℤ) (spelling : List Bool) → Covers c d.standing es values spelling w.standing
         → d.here ++ d.rest ≡ spelling ++ (w.here ++ w.rest) → f ≡ g
     longer f g d w [] values spelling k cut =
         let h = head_inj w.unit d.unit w.others d.others (sym w.left ∙ ap (λ (t : Standing). t.left) k.2 ∙ d.left) in

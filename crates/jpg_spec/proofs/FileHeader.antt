@@ -1,4 +1,4 @@
--- A whole file begins with a header: its segments before its first scan, with the header of this scan.
+-- A complete file begins with a header: its segments before its first scan, with the header of this scan.
 use Rattle.std.proofs.Common.{◌≡◌, ℕ, Bool, true, false, ◌==◌, List, [], ◌∷◌, ◌++◌, refl, sym, ap, ◌∙◌, subst, None}
 use Rattle.std.specs.Prelude.{◌||◌}
 use Rattle.std.proofs.lemmas.List.{append_assoc}
@@ -12,12 +12,13 @@ use Rattle.jpg_spec.specs.FileMeaning.{Leads, Means}
 use Rattle.jpg_spec.specs.Header.{IsHeader}
 use Rattle.jpg_spec.specs.declared.frame.Limits.{Limits}
 use Rattle.jpg_spec.proofs.Common.{clash, neither, not_same}
-use Rattle.jpg_spec.proofs.FrameBehind.{leads_pass}
+use Rattle.jpg_spec.proofs.FrameAfter.{leads_pass}
 use Rattle.jpg_spec.proofs.HeaderFirst.{AreOfHeader, scan_passed, with_scan}
 use Rattle.jpg_spec.proofs.HeaderShown.{not_complete}
 use Rattle.jpg_spec.proofs.ReadPicture.{framed_end}
 
--- Some items are those before a first scan, this scan, and more. The bytes begin with the header that ends with the header of the scan.
+-- Some items are those before a first scan, this scan, and more. The bytes begin with the header that ends with the
+-- header of the scan.
 pub record HasFirstScan (limits : Limits) (items : List Item) (bytes : List ℕ) : Type 0 where
   pub before : List Item
   pub contents : List ℕ
@@ -30,7 +31,7 @@ pub record HasFirstScan (limits : Limits) (items : List Item) (bytes : List ℕ)
   pub header : IsHeader limits head (segments_of before) contents
   pub unbroken : contents_rule limits (segments_of before) 0xda contents ≡ None
 
--- with an item more
+-- with one more item
 with_item : (limits : Limits) (item : Item) (items : List Item) (bytes front text : List ℕ) → bytes ≡ front ++ text → HasFirstScan limits items front → HasFirstScan limits (item ∷ items) bytes
 with_item limits item items bytes front text cut w = record {
   before = w.before;
@@ -90,6 +91,6 @@ items_header limits items blocks bytes s l found complete = first_scan limits it
     by true some = refl
     by false none = absurd (clash (is_complete (frame_of limits (segments_of items)) (segments_of items)) complete (not_complete limits (segments_of items) (leads_pass limits items blocks l) none ends))
 
--- and so has a whole file
+-- and so has a complete file
 pub file_header : (limits : Limits) (bytes : List ℕ) (M : Meaning) → (w : Means limits bytes M) → HasFirstScan limits w.items w.front
 file_header limits bytes M w = items_header limits w.items w.blocks w.front w.spelled w.leads (framed_end (segments_of w.items) w.framed) w.complete

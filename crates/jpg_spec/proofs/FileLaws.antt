@@ -1,4 +1,5 @@
--- A file comes to one thing at most: it stands, or shows a fault, or is whole; and what it comes to is its meaning or its first fault.
+-- A file has at most one result: it is a faultless prefix, or has a fault, or is complete; and that result is its
+-- meaning or its first fault.
 use Rattle.std.proofs.Common.{◌≡◌, ℕ, ◌+◌, ◌-◌, ◌<◌, ◌≤◌, List, [], ◌∷◌, ◌++◌, length, take, drop, refl, sym, ap, ◌∙◌, subst, arith, inl, inr}
 use Rattle.std.specs.Prelude.{◌⊎◌}
 use Rattle.std.proofs.Math.Seq.{take-append_seam, take-append-add}
@@ -7,17 +8,17 @@ use Rattle.std.proofs.lemmas.Bool.{cases_lt}
 use Rattle.jpg_spec.specs.Faults.{number_of}
 use Rattle.jpg_spec.specs.Scan.{Blocks}
 use Rattle.jpg_spec.specs.Meaning.{Meaning}
-use Rattle.jpg_spec.specs.Markers.{soi, ShowsNoStart, IsLeast}
+use Rattle.jpg_spec.specs.Markers.{soi, RevealsNoStart, IsLeast}
 use Rattle.jpg_spec.specs.InForce.{frame_of}
 use Rattle.jpg_spec.specs.Items.{Item, segments_of}
 use Rattle.jpg_spec.specs.FileMeaning.{Leads, Means, meaning_of}
-use Rattle.jpg_spec.specs.FirstFault.{BehindItems, ItemShows, InsideScan, Shows, ShowsNone, HasMeaning, HaveBegun, IsEarly, IsFirstFault}
+use Rattle.jpg_spec.specs.FirstFault.{AfterItems, ItemReveals, InsideScan, Reveals, RevealsNone, HasMeaning, HaveBegun, IsEarly, IsFirstFault}
 use Rattle.jpg_spec.specs.declared.fault.Fault.{Fault}
 use Rattle.jpg_spec.specs.declared.fault.Fault.TheVariants.{Truncated, InputTooLong}
 use Rattle.jpg_spec.specs.declared.frame.Limits.{Limits}
 use Rattle.jpg_spec.proofs.MarkersOnce.{no_head}
-use Rattle.jpg_spec.proofs.HeadersOnce.{behind_front}
-use Rattle.jpg_spec.specs.FileStands.{FileStands, IsWholeFile}
+use Rattle.jpg_spec.proofs.HeadersOnce.{after_front}
+use Rattle.jpg_spec.specs.UnfinishedFile.{UnfinishedFile, IsWholeFile}
 use Rattle.jpg_spec.proofs.BlocksOnce.{blocks_once}
 use Rattle.jpg_spec.proofs.TailsOnce.{Ends, item_shows_once, shown_not_ended}
 use Rattle.jpg_spec.proofs.FilesOnce.{ends_apart, ends_not_inside_standing, ends_not_inside_closed, inside_closed_not_going, inside_closed_not_standing, inside_closed_once, items_end_once}
@@ -25,11 +26,11 @@ use Rattle.jpg_spec.proofs.Common.{heads}
 
 -- THE START
 
-no_start_soi : (a x y : List ℕ) → ShowsNoStart a → a ++ x ≡ soi ++ y → ⊥
+no_start_soi : (a x y : List ℕ) → RevealsNoStart a → a ++ x ≡ soi ++ y → ⊥
 no_start_soi a x y (inl s) e = s.2 (heads s.0 255 x (0xd8 ∷ y) (ap (λ l. l ++ x) (sym s.1) ∙ e)).0
 no_start_soi a x y (inr s) e = s.2 (heads s.0 0xd8 x y (heads 255 255 (s.0 ∷ x) (0xd8 ∷ y) (ap (λ l. l ++ x) (sym s.1) ∙ e)).1).0
 
-no_start_short : (a x b : List ℕ) → ShowsNoStart a → (b ≡ []) ⊎ (b ≡ 255 ∷ []) → a ++ x ≡ b → ⊥
+no_start_short : (a x b : List ℕ) → RevealsNoStart a → (b ≡ []) ⊎ (b ≡ 255 ∷ []) → a ++ x ≡ b → ⊥
 no_start_short a x b (inl s) (inl f) e = no_head s.0 x (sym (ap (λ l. l ++ x) (sym s.1) ∙ e ∙ f))
 no_start_short a x b (inl s) (inr f) e = s.2 (heads s.0 255 x [] (ap (λ l. l ++ x) (sym s.1) ∙ e ∙ f)).0
 no_start_short a x b (inr s) (inl f) e = no_head 255 (s.0 ∷ x) (sym (ap (λ l. l ++ x) (sym s.1) ∙ e ∙ f))
@@ -39,25 +40,25 @@ soi_short : (y b : List ℕ) → (b ≡ []) ⊎ (b ≡ 255 ∷ []) → soi ++ y 
 soi_short y b (inl f) e = no_head 255 (0xd8 ∷ y) (sym (e ∙ f))
 soi_short y b (inr f) e = no_head 0xd8 y (sym (heads 255 255 (0xd8 ∷ y) [] (e ∙ f)).1)
 
-behind_soi : (limits : Limits) (bytes : List ℕ) (items : List Item) (tail : List ℕ) → BehindItems limits bytes items tail → (y : List ℕ) × (bytes ≡ soi ++ y)
-behind_soi limits bytes items tail w =
-    let h = behind_front items w.front w.spelled in (h.0 ++ tail, w.cut ∙ ap (λ l. l ++ tail) h.1 ∙ append_assoc soi h.0 tail)
+after_soi : (limits : Limits) (bytes : List ℕ) (items : List Item) (tail : List ℕ) → AfterItems limits bytes items tail → (y : List ℕ) × (bytes ≡ soi ++ y)
+after_soi limits bytes items tail w =
+    let h = after_front items w.front w.spelled in (h.0 ++ tail, w.cut ∙ ap (λ l. l ++ tail) h.1 ∙ append_assoc soi h.0 tail)
 
 inside_soi : (limits : Limits) (bytes tail : List ℕ) → InsideScan limits bytes tail → (y : List ℕ) × (bytes ≡ soi ++ y)
 inside_soi limits bytes tail i =
-    let h = behind_front i.items i.front i.spelled in
+    let h = after_front i.items i.front i.spelled in
     (((h.0 ++ i.head) ++ i.text) ++ tail, i.cut ∙ ap (λ l. ((l ++ i.head) ++ i.text) ++ tail) h.1)
 
 with_more : (bytes x : List ℕ) → (y : List ℕ) × (bytes ≡ soi ++ y) → (y : List ℕ) × (bytes ++ x ≡ soi ++ y)
 with_more bytes x s = (s.0 ++ x, ap (λ l. l ++ x) s.1 ∙ append_assoc soi s.0 x)
 
--- BYTES THAT SHOW A FAULT don't stand, with any bytes behind them
-pub shown_not_standing : (limits : Limits) (fault : Fault) (a x b : List ℕ) → Shows limits fault a → FileStands limits b → a ++ x ≡ b → ⊥
+-- BYTES THAT HAVE A FAULT aren't a faultless prefix, with any bytes after them
+pub shown_not_standing : (limits : Limits) (fault : Fault) (a x b : List ℕ) → Reveals limits fault a → UnfinishedFile limits b → a ++ x ≡ b → ⊥
 shown_not_standing limits fault a x b (inl s) (inl t) e = no_start_short a x b s.1 t e
-shown_not_standing limits fault a x b (inl s) (inr (inl t)) e = let z = behind_soi limits b t.0 t.1 t.2 in no_start_soi a x z.0 s.1 (e ∙ z.1)
+shown_not_standing limits fault a x b (inl s) (inr (inl t)) e = let z = after_soi limits b t.0 t.1 t.2 in no_start_soi a x z.0 s.1 (e ∙ z.1)
 shown_not_standing limits fault a x b (inl s) (inr (inr t)) e = let z = inside_soi limits b t.0 t.1 in no_start_soi a x z.0 s.1 (e ∙ z.1)
 shown_not_standing limits fault a x b (inr (inl s)) (inl t) e =
-    let z = with_more a x (behind_soi limits a s.0 s.1 s.2) in soi_short z.0 b t (sym z.1 ∙ e)
+    let z = with_more a x (after_soi limits a s.0 s.1 s.2) in soi_short z.0 b t (sym z.1 ∙ e)
 shown_not_standing limits fault a x b (inr (inl s)) (inr (inl t)) e = ends_apart limits a b x s.0 t.0 s.1 t.1 s.2 (inl (fault, s.3)) t.2 t.3 e
 shown_not_standing limits fault a x b (inr (inl s)) (inr (inr t)) e = ends_not_inside_standing limits a b x s.0 s.1 t.0 s.2 (inl (fault, s.3)) t.1 t.2 e
 shown_not_standing limits fault a x b (inr (inr s)) (inl t) e =
@@ -65,44 +66,44 @@ shown_not_standing limits fault a x b (inr (inr s)) (inl t) e =
 shown_not_standing limits fault a x b (inr (inr s)) (inr (inl t)) e = inside_closed_not_going limits a b x s.0 fault t.0 t.1 s.1 s.2 t.2 t.3 e
 shown_not_standing limits fault a x b (inr (inr s)) (inr (inr t)) e = inside_closed_not_standing limits a b x s.0 fault t.0 s.1 s.2 t.1 t.2 e
 
--- A WHOLE FILE, up to its EOI
-whole_behind : (limits : Limits) (bytes : List ℕ) (M : Meaning) (w : Means limits bytes M) → BehindItems limits (w.front ++ w.marker) w.items w.marker
-whole_behind limits bytes M w = record { front = w.front; blocks = w.blocks; cut = refl; spelled = w.spelled; leads = w.leads }
+-- A COMPLETE FILE, up to its EOI
+whole_after : (limits : Limits) (bytes : List ℕ) (M : Meaning) (w : Means limits bytes M) → AfterItems limits (w.front ++ w.marker) w.items w.marker
+whole_after limits bytes M w = record { front = w.front; blocks = w.blocks; cut = refl; spelled = w.spelled; leads = w.leads }
 
 whole_ends : (limits : Limits) (bytes : List ℕ) (M : Meaning) (w : Means limits bytes M) → Ends limits w.items w.marker
 whole_ends limits bytes M w = inr (w.ended, w.framed)
 
--- it doesn't stand, with any bytes behind it
-pub whole_not_standing : (limits : Limits) (bytes : List ℕ) (M : Meaning) (x b : List ℕ) → (w : Means limits bytes M) → FileStands limits b → (w.front ++ w.marker) ++ x ≡ b → ⊥
+-- it isn't a faultless prefix, with any bytes after it
+pub whole_not_standing : (limits : Limits) (bytes : List ℕ) (M : Meaning) (x b : List ℕ) → (w : Means limits bytes M) → UnfinishedFile limits b → (w.front ++ w.marker) ++ x ≡ b → ⊥
 whole_not_standing limits bytes M x b w (inl t) e =
-    let z = with_more (w.front ++ w.marker) x (behind_soi limits (w.front ++ w.marker) w.items w.marker (whole_behind limits bytes M w)) in soi_short z.0 b t (sym z.1 ∙ e)
-whole_not_standing limits bytes M x b w (inr (inl t)) e = ends_apart limits (w.front ++ w.marker) b x w.items t.0 w.marker t.1 (whole_behind limits bytes M w) (whole_ends limits bytes M w) t.2 t.3 e
-whole_not_standing limits bytes M x b w (inr (inr t)) e = ends_not_inside_standing limits (w.front ++ w.marker) b x w.items w.marker t.0 (whole_behind limits bytes M w) (whole_ends limits bytes M w) t.1 t.2 e
+    let z = with_more (w.front ++ w.marker) x (after_soi limits (w.front ++ w.marker) w.items w.marker (whole_after limits bytes M w)) in soi_short z.0 b t (sym z.1 ∙ e)
+whole_not_standing limits bytes M x b w (inr (inl t)) e = ends_apart limits (w.front ++ w.marker) b x w.items t.0 w.marker t.1 (whole_after limits bytes M w) (whole_ends limits bytes M w) t.2 t.3 e
+whole_not_standing limits bytes M x b w (inr (inr t)) e = ends_not_inside_standing limits (w.front ++ w.marker) b x w.items w.marker t.0 (whole_after limits bytes M w) (whole_ends limits bytes M w) t.1 t.2 e
 
--- and shows no fault, with fewer bytes or with more
-pub shown_not_whole : (limits : Limits) (fault : Fault) (a x bytes : List ℕ) (M : Meaning) (y : List ℕ) → Shows limits fault a → (w : Means limits bytes M) → a ++ x ≡ (w.front ++ w.marker) ++ y → ⊥
+-- and has no fault, with fewer bytes or with more
+pub shown_not_whole : (limits : Limits) (fault : Fault) (a x bytes : List ℕ) (M : Meaning) (y : List ℕ) → Reveals limits fault a → (w : Means limits bytes M) → a ++ x ≡ (w.front ++ w.marker) ++ y → ⊥
 shown_not_whole limits fault a x bytes M y (inl s) w e =
-    let z = with_more (w.front ++ w.marker) y (behind_soi limits (w.front ++ w.marker) w.items w.marker (whole_behind limits bytes M w)) in no_start_soi a x z.0 s.1 (e ∙ z.1)
+    let z = with_more (w.front ++ w.marker) y (after_soi limits (w.front ++ w.marker) w.items w.marker (whole_after limits bytes M w)) in no_start_soi a x z.0 s.1 (e ∙ z.1)
 shown_not_whole limits fault a x bytes M y (inr (inl s)) w e =
-    let same = items_end_once limits a (w.front ++ w.marker) x y s.0 w.items s.1 w.marker s.2 (inl (fault, s.3)) (whole_behind limits bytes M w) (whole_ends limits bytes M w) e in
-    let shown1 : ItemShows limits w.items fault s.1 = subst (λ z. ItemShows limits z fault s.1) same.0 s.3 in
-    shown_not_ended limits w.items fault w.marker (subst (λ z. ItemShows limits w.items fault z) same.1 shown1) w.ended w.framed w.complete
+    let same = items_end_once limits a (w.front ++ w.marker) x y s.0 w.items s.1 w.marker s.2 (inl (fault, s.3)) (whole_after limits bytes M w) (whole_ends limits bytes M w) e in
+    let shown1 : ItemReveals limits w.items fault s.1 = subst (λ z. ItemReveals limits z fault s.1) same.0 s.3 in
+    shown_not_ended limits w.items fault w.marker (subst (λ z. ItemReveals limits w.items fault z) same.1 shown1) w.ended w.framed w.complete
 shown_not_whole limits fault a x bytes M y (inr (inr s)) w e =
-    ends_not_inside_closed limits (w.front ++ w.marker) a y x w.items fault w.marker s.0 (whole_behind limits bytes M w) (whole_ends limits bytes M w) s.1 s.2 (sym e)
+    ends_not_inside_closed limits (w.front ++ w.marker) a y x w.items fault w.marker s.0 (whole_after limits bytes M w) (whole_ends limits bytes M w) s.1 s.2 (sym e)
 
 -- ONE FAULT at one place
-pub shown_once : (limits : Limits) (f g : Fault) (bytes : List ℕ) → Shows limits f bytes → Shows limits g bytes → f ≡ g
+pub shown_once : (limits : Limits) (f g : Fault) (bytes : List ℕ) → Reveals limits f bytes → Reveals limits g bytes → f ≡ g
 shown_once limits f g bytes (inl s) (inl t) = s.0 ∙ sym t.0
 shown_once limits f g bytes (inl s) (inr (inl t)) =
-    let z = behind_soi limits bytes t.0 t.1 t.2 in absurd (no_start_soi bytes [] z.0 s.1 (append-nil bytes ∙ z.1))
+    let z = after_soi limits bytes t.0 t.1 t.2 in absurd (no_start_soi bytes [] z.0 s.1 (append-nil bytes ∙ z.1))
 shown_once limits f g bytes (inl s) (inr (inr t)) =
     let z = inside_soi limits bytes t.0 t.1 in absurd (no_start_soi bytes [] z.0 s.1 (append-nil bytes ∙ z.1))
 shown_once limits f g bytes (inr (inl s)) (inl t) =
-    let z = behind_soi limits bytes s.0 s.1 s.2 in absurd (no_start_soi bytes [] z.0 t.1 (append-nil bytes ∙ z.1))
+    let z = after_soi limits bytes s.0 s.1 s.2 in absurd (no_start_soi bytes [] z.0 t.1 (append-nil bytes ∙ z.1))
 shown_once limits f g bytes (inr (inl s)) (inr (inl t)) =
     let same = items_end_once limits bytes bytes [] [] s.0 t.0 s.1 t.1 s.2 (inl (f, s.3)) t.2 (inl (g, t.3)) refl in
-    let shown1 : ItemShows limits t.0 f s.1 = subst (λ z. ItemShows limits z f s.1) same.0 s.3 in
-    item_shows_once limits t.0 f g t.1 (subst (λ z. ItemShows limits t.0 f z) same.1 shown1) t.3
+    let shown1 : ItemReveals limits t.0 f s.1 = subst (λ z. ItemReveals limits z f s.1) same.0 s.3 in
+    item_shows_once limits t.0 f g t.1 (subst (λ z. ItemReveals limits t.0 f z) same.1 shown1) t.3
 shown_once limits f g bytes (inr (inl s)) (inr (inr t)) = absurd (ends_not_inside_closed limits bytes bytes [] [] s.0 g s.1 t.0 s.2 (inl (f, s.3)) t.1 t.2 refl)
 shown_once limits f g bytes (inr (inr s)) (inl t) =
     let z = inside_soi limits bytes s.0 s.1 in absurd (no_start_soi bytes [] z.0 t.1 (append-nil bytes ∙ z.1))
@@ -120,7 +121,7 @@ pub means_once : (limits : Limits) (bytes more : List ℕ) (M N : Meaning) → (
 means_once limits bytes more M N v w e =
     let all : (v.front ++ v.marker) ++ v.rest ≡ (w.front ++ w.marker) ++ w.rest = sym v.cut ∙ e ∙ w.cut in
     let same = items_end_once limits (v.front ++ v.marker) (w.front ++ w.marker) v.rest w.rest v.items w.items v.marker w.marker
-    (whole_behind limits bytes M v) (whole_ends limits bytes M v) (whole_behind limits more N w) (whole_ends limits more N w) all in
+    (whole_after limits bytes M v) (whole_ends limits bytes M v) (whole_after limits more N w) (whole_ends limits more N w) all in
     let blocks = blocks_once limits w.items v.blocks w.blocks (subst (λ z. Leads limits z v.blocks) same.0 v.leads) w.leads in
     let l0 = ap length all in
     let l1 = length-append (v.front ++ v.marker) v.rest in
@@ -130,12 +131,12 @@ means_once limits bytes more M N v w e =
 
 -- THE FIRST FAULT
 
--- where bytes stand, fewer bytes show nothing
-stands_shows_none : (limits : Limits) (bytes : List ℕ) → FileStands limits bytes → ShowsNone limits bytes
+-- of a faultless prefix no shorter one has a fault
+stands_shows_none : (limits : Limits) (bytes : List ℕ) → UnfinishedFile limits bytes → RevealsNone limits bytes
 stands_shows_none limits bytes s fault n long t = shown_not_standing limits fault (take n bytes) (drop n bytes) bytes t s (take-append-drop n bytes)
 
--- a fault that one byte more shows is the first
-pub next_shown : (limits : Limits) (front rest : List ℕ) (b : ℕ) (fault : Fault) → FileStands limits front → Shows limits fault (front ++ b ∷ []) → length front < limits.input
+-- a fault that one more byte reveals is the first
+pub next_shown : (limits : Limits) (front rest : List ℕ) (b : ℕ) (fault : Fault) → UnfinishedFile limits front → Reveals limits fault (front ++ b ∷ []) → length front < limits.input
     → IsFirstFault limits ((front ++ b ∷ []) ++ rest) fault (length (front ++ b ∷ []))
 next_shown limits front rest b fault s t within =
     let long = length-append front (b ∷ []) in
@@ -145,17 +146,17 @@ next_shown limits front rest b fault s t within =
       omega (arith, long, within),
       (
         omega (arith, all),
-        subst (λ l. Shows limits fault l) (sym here) t,
+        subst (λ l. Reveals limits fault l) (sym here) t,
         λ other m less k. (let few : m ≤ length front = omega (arith, long, less) in
             let cut : take m ((front ++ b ∷ []) ++ rest) ≡ take m front = ap (take m) (append_assoc front (b ∷ []) rest) ∙ take-append-le m front ((b ∷ []) ++ rest) few in
-            stands_shows_none limits front s other m few (subst (λ l. Shows limits other l) cut k)),
-        λ other less k. (let same = ap number_of (shown_once limits other fault (front ++ b ∷ []) (subst (λ l. Shows limits other l) here k) t) in
+            stands_shows_none limits front s other m few (subst (λ l. Reveals limits other l) cut k)),
+        λ other less k. (let same = ap number_of (shown_once limits other fault (front ++ b ∷ []) (subst (λ l. Reveals limits other l) here k) t) in
             let z : ⊥ = omega (arith, same, less) in z),
       ),
     )
 
--- bytes that stand at the input's end are truncated, where some component hasn't begun
-pub stands_truncated : (limits : Limits) (bytes : List ℕ) → FileStands limits bytes → length bytes < limits.input → (HaveBegun limits bytes → ⊥) → IsFirstFault limits bytes Truncated (length bytes)
+-- bytes without a fault at the input's end are truncated, if some component hasn't begun
+pub stands_truncated : (limits : Limits) (bytes : List ℕ) → UnfinishedFile limits bytes → length bytes < limits.input → (HaveBegun limits bytes → ⊥) → IsFirstFault limits bytes Truncated (length bytes)
 stands_truncated limits bytes s short none =
     inr (inr (
       refl,
@@ -166,8 +167,8 @@ stands_truncated limits bytes s short none =
       λ early. none early.begun,
     ))
 
--- else they end early
-pub stands_early : (limits : Limits) (bytes : List ℕ) → FileStands limits bytes → length bytes < limits.input → HaveBegun limits bytes → IsEarly limits bytes
+-- otherwise they end early
+pub stands_early : (limits : Limits) (bytes : List ℕ) → UnfinishedFile limits bytes → length bytes < limits.input → HaveBegun limits bytes → IsEarly limits bytes
 stands_early limits bytes s short begun = record {
   short = short;
   faultless = stands_shows_none limits bytes s;
@@ -175,8 +176,8 @@ stands_early limits bytes s short begun = record {
   begun = begun;
 }
 
--- bytes that stand at the limit are too many
-pub stands_too_long : (limits : Limits) (bytes : List ℕ) → FileStands limits (take limits.input bytes) → limits.input ≤ length bytes → IsFirstFault limits bytes InputTooLong limits.input
+-- bytes without a fault at the limit are too many
+pub stands_too_long : (limits : Limits) (bytes : List ℕ) → UnfinishedFile limits (take limits.input bytes) → limits.input ≤ length bytes → IsFirstFault limits bytes InputTooLong limits.input
 stands_too_long limits bytes s long =
     inr (inl (
       refl,
@@ -206,21 +207,21 @@ early_no_fault limits bytes fault n w (inr (inl k)) = let x = w.short in let y =
 early_no_fault limits bytes fault n w (inr (inr k)) = k.5 w
 
 -- and one first fault, at one place
-least_once : (limits : Limits) (bytes : List ℕ) (f g : Fault) (m n : ℕ) → IsLeast (Shows limits) bytes f m → IsLeast (Shows limits) bytes g n → (f ≡ g) × (m ≡ n)
+least_once : (limits : Limits) (bytes : List ℕ) (f g : Fault) (m n : ℕ) → IsLeast (Reveals limits) bytes f m → IsLeast (Reveals limits) bytes g n → (f ≡ g) × (m ≡ n)
 least_once limits bytes f g m n a b = by (cases_lt m n) (cases_lt n m)
   where
     by : (m < n) ⊎ (n ≤ m) → (n < m) ⊎ (m ≤ n) → (f ≡ g) × (m ≡ n)
     by (inl h) k = absurd (b.2 f m h a.1)
     by (inr h) (inl k) = absurd (a.2 g n k b.1)
-    by (inr h) (inr k) = let same : m ≡ n = omega (arith, h, k) in (shown_once limits f g (take n bytes) (subst (λ i. Shows limits f (take i bytes)) same a.1) b.1, same)
+    by (inr h) (inr k) = let same : m ≡ n = omega (arith, h, k) in (shown_once limits f g (take n bytes) (subst (λ i. Reveals limits f (take i bytes)) same a.1) b.1, same)
 
 abbrev pub AtLimit : Limits → List ℕ → Fault → ℕ → Type 0
-AtLimit limits bytes fault n = (fault ≡ InputTooLong) × (n ≡ limits.input) × (limits.input ≤ length bytes) × ShowsNone limits (take n bytes) × (HasMeaning limits bytes → ⊥)
+AtLimit limits bytes fault n = (fault ≡ InputTooLong) × (n ≡ limits.input) × (limits.input ≤ length bytes) × RevealsNone limits (take n bytes) × (HasMeaning limits bytes → ⊥)
 
 abbrev pub AtEnd : Limits → List ℕ → Fault → ℕ → Type 0
-AtEnd limits bytes fault n = (fault ≡ Truncated) × (n ≡ length bytes) × (length bytes < limits.input) × ShowsNone limits bytes × (HasMeaning limits bytes → ⊥) × (IsEarly limits bytes → ⊥)
+AtEnd limits bytes fault n = (fault ≡ Truncated) × (n ≡ length bytes) × (length bytes < limits.input) × RevealsNone limits bytes × (HasMeaning limits bytes → ⊥) × (IsEarly limits bytes → ⊥)
 
-shown_not_at_limit : (limits : Limits) (bytes : List ℕ) (f g : Fault) (m n : ℕ) → m ≤ limits.input → IsLeast (Shows limits) bytes f m → AtLimit limits bytes g n → ⊥
+shown_not_at_limit : (limits : Limits) (bytes : List ℕ) (f g : Fault) (m n : ℕ) → m ≤ limits.input → IsLeast (Reveals limits) bytes f m → AtLimit limits bytes g n → ⊥
 shown_not_at_limit limits bytes f g m n within a b =
     let place = b.1 in
     let long = b.2 in
@@ -228,9 +229,9 @@ shown_not_at_limit limits bytes f g m n within a b =
     let size = length-take-le n bytes (omega (arith, place, long)) in
     let cut : take m (take n bytes) ≡ take m bytes =
     sym (take-append-le m (take n bytes) (drop n bytes) (omega (arith, few, size))) ∙ ap (take m) (take-append-drop n bytes) in
-    b.3 f m (omega (arith, few, size)) (subst (λ l. Shows limits f l) (sym cut) a.1)
+    b.3 f m (omega (arith, few, size)) (subst (λ l. Reveals limits f l) (sym cut) a.1)
 
-shown_not_at_end : (limits : Limits) (bytes : List ℕ) (f g : Fault) (m n : ℕ) → IsLeast (Shows limits) bytes f m → AtEnd limits bytes g n → ⊥
+shown_not_at_end : (limits : Limits) (bytes : List ℕ) (f g : Fault) (m n : ℕ) → IsLeast (Reveals limits) bytes f m → AtEnd limits bytes g n → ⊥
 shown_not_at_end limits bytes f g m n a b = b.3 f m a.0 a.1
 
 pub first_fault_once : (limits : Limits) (bytes : List ℕ) (f g : Fault) (m n : ℕ) → IsFirstFault limits bytes f m → IsFirstFault limits bytes g n → (f ≡ g) × (m ≡ n)
@@ -244,7 +245,7 @@ first_fault_once limits bytes f g m n (inr (inr a)) (inl b) = absurd (shown_not_
 first_fault_once limits bytes f g m n (inr (inr a)) (inr (inl b)) = let x = a.2 in let y = b.2 in absurd (omega (arith, x, y))
 first_fault_once limits bytes f g m n (inr (inr a)) (inr (inr b)) = (a.0 ∙ sym b.0, a.1 ∙ sym b.1)
 
--- NOTHING BEHIND EOI matters
+-- NOTHING AFTER EOI matters
 pub means_more : (limits : Limits) (bytes more : List ℕ) (M : Meaning) → Means limits bytes M → Means limits (bytes ++ more) M
 means_more limits bytes more M w = record {
   items = w.items;
@@ -267,15 +268,15 @@ means_more limits bytes more M w = record {
 whole_cut : (limits : Limits) (bytes : List ℕ) (M : Meaning) → (k : IsWholeFile limits bytes M) → bytes ≡ (k.0).front ++ (k.0).marker
 whole_cut limits bytes M k = (k.0).cut ∙ ap (λ l. (k.0).front ++ (k.0).marker ++ l) k.1 ∙ append-nil ((k.0).front ++ (k.0).marker)
 
-pub whole_file_not_standing : (limits : Limits) (front rest : List ℕ) (M : Meaning) → IsWholeFile limits front M → FileStands limits (front ++ rest) → ⊥
+pub whole_file_not_standing : (limits : Limits) (front rest : List ℕ) (M : Meaning) → IsWholeFile limits front M → UnfinishedFile limits (front ++ rest) → ⊥
 whole_file_not_standing limits front rest M k s = whole_not_standing limits front M rest (front ++ rest) k.0 s (ap (λ l. l ++ rest) (sym (whole_cut limits front M k)))
 
-pub whole_file_not_shown : (limits : Limits) (front rest : List ℕ) (fault : Fault) (M : Meaning) → IsWholeFile limits front M → Shows limits fault (front ++ rest) → ⊥
+pub whole_file_not_shown : (limits : Limits) (front rest : List ℕ) (fault : Fault) (M : Meaning) → IsWholeFile limits front M → Reveals limits fault (front ++ rest) → ⊥
 whole_file_not_shown limits front rest fault M k s =
     shown_not_whole limits fault (front ++ rest) [] front M rest s k.0 (append-nil (front ++ rest) ∙ ap (λ l. l ++ rest) (whole_cut limits front M k))
 
 pub whole_last : (limits : Limits) (bytes more : List ℕ) (M N : Meaning) → IsWholeFile limits bytes M → IsWholeFile limits (bytes ++ more) N → more ≡ []
 whole_last limits bytes more M N k l =
     (items_end_once limits ((k.0).front ++ (k.0).marker) ((l.0).front ++ (l.0).marker) more [] (k.0).items (l.0).items (k.0).marker (l.0).marker
-    (whole_behind limits bytes M k.0) (whole_ends limits bytes M k.0) (whole_behind limits (bytes ++ more) N l.0) (whole_ends limits (bytes ++ more) N l.0)
+    (whole_after limits bytes M k.0) (whole_ends limits bytes M k.0) (whole_after limits (bytes ++ more) N l.0) (whole_ends limits (bytes ++ more) N l.0)
     (ap (λ z. z ++ more) (sym (whole_cut limits bytes M k)) ∙ whole_cut limits (bytes ++ more) N l ∙ sym (append-nil ((l.0).front ++ (l.0).marker)))).2

@@ -1,4 +1,4 @@
--- Bytes of a file come to one thing at most: behind items, or inside a scan's data.
+-- Bytes of a file have at most one result: after items, or inside a scan's data.
 use Rattle.std.proofs.Common.{◌≡◌, ℕ, ◌+◌, ◌<◌, true, false, List, [], ◌∷◌, ◌++◌, length, refl, sym, ap, ◌∙◌, subst, arith, inl, inr}
 use Rattle.std.specs.Prelude.{◌⊎◌, replicate}
 use Rattle.std.specs.Int.{to_be_bytes, w16}
@@ -9,13 +9,13 @@ use Rattle.jpg_spec.specs.Scan.{Blocks, Scan, ScanMeans}
 use Rattle.jpg_spec.specs.Markers.{SpellsMarker, SpellsSegment, is_frame_code}
 use Rattle.jpg_spec.specs.Items.{Item, segment, scan, segments_of, SpellsItem, ends_in_scan}
 use Rattle.jpg_spec.specs.FileMeaning.{scan_after, Leads}
-use Rattle.jpg_spec.specs.FirstFault.{BehindItems, InsideScan, ScanShows}
+use Rattle.jpg_spec.specs.FirstFault.{AfterItems, InsideScan, ScanReveals}
 use Rattle.jpg_spec.specs.declared.fault.Fault.{Fault}
 use Rattle.jpg_spec.specs.declared.frame.Place.{Place}
 use Rattle.jpg_spec.specs.declared.frame.Limits.{Limits}
 use Rattle.jpg_spec.proofs.MarkersOnce.{segment_once}
 use Rattle.jpg_spec.proofs.HeadersOnce.{SpellsItems}
-use Rattle.jpg_spec.specs.FileStands.{Completes, StandsInside}
+use Rattle.jpg_spec.specs.UnfinishedFile.{Completes, StandsInside}
 use Rattle.jpg_spec.specs.ScanReading.{LeadingMarker}
 use Rattle.jpg_spec.proofs.ScansOnce.{At}
 use Rattle.jpg_spec.proofs.ScansExclude.{Closes, IsCalm, closed_not_calm, ended_not_standing, closed_once}
@@ -62,7 +62,7 @@ inside_head limits bytes tail rest i = record {
   other = λ e. (let z : ⊥ = omega (arith, e) in z);
 }
 
--- WHAT STANDS BEHIND A WHOLE SCAN
+-- WHAT FOLLOWS A COMPLETE SCAN
 
 pub segment_marker : (code : ℕ) (contents bytes x : List ℕ) → SpellsSegment code contents bytes → LeadingMarker (bytes ++ x)
 segment_marker code contents bytes x s = record {
@@ -113,7 +113,7 @@ goes_quiet items tail (inr (inr k)) = let q = by k.3 in inr (record { code = k.0
     by (inr (inl h)) = (h.0 ∷ [], k.2.0, h.1)
     by (inr (inr h)) = (h.0 ∷ h.1 ∷ h.2, k.2.0, h.3)
 
--- The further item is this scan, whole.
+-- The further item is this scan, complete.
 pub record NextScan (limits : Limits) (items : List Item) (contents : List ℕ) (blocks : Blocks) (stream : List ℕ) (first : Item) (v : List ℕ) : Type 0 where
   pub intervals : List (List ℕ)
   pub is_scan : first ≡ scan contents intervals
@@ -148,7 +148,7 @@ next_scan limits items contents blocks head stream (scan xs m) here v after s l 
       completes = q.completes;
     }
 
--- behind the scan that is the further item
+-- after the scan that is the further item
 next_quiet : (items later : List Item) (text v : List ℕ) → SpellsItems later text → (later ≡ [] → IsQuiet v) → IsQuiet (text ++ v)
 next_quiet items [] text v s quiet = subst (λ l. IsQuiet (l ++ v)) (sym s) (quiet refl)
 next_quiet items (x ∷ later) text v s quiet = inr (items_marker x later text v s)
@@ -160,10 +160,10 @@ next_marker items (x ∷ later) text v s quiet = items_marker x later text v s
 pub scan_last : (first : Item) (items items' later : List Item) (contents : List ℕ) (intervals : List (List ℕ)) → first ≡ scan contents intervals → items' ≡ later ++ first ∷ items → later ≡ [] → ends_in_scan items' ≡ true
 scan_last first items items' later contents intervals e f g = ap ends_in_scan (f ∙ ap (λ l. l ++ first ∷ items) g ∙ ap (λ x. x ∷ items) e)
 
--- WITNESSES on one stream of bytes
+-- TWO DECOMPOSITIONS of one stream of bytes
 
-pub behind_stream : (limits : Limits) (bytes x : List ℕ) (items : List Item) (tail : List ℕ) → (w : BehindItems limits bytes items tail) → bytes ++ x ≡ w.front ++ (tail ++ x)
-behind_stream limits bytes x items tail w = ap (λ l. l ++ x) w.cut ∙ append_assoc w.front tail x
+pub after_stream : (limits : Limits) (bytes x : List ℕ) (items : List Item) (tail : List ℕ) → (w : AfterItems limits bytes items tail) → bytes ++ x ≡ w.front ++ (tail ++ x)
+after_stream limits bytes x items tail w = ap (λ l. l ++ x) w.cut ∙ append_assoc w.front tail x
 
 pub inside_stream : (limits : Limits) (bytes x tail : List ℕ) → (i : InsideScan limits bytes tail) → bytes ++ x ≡ i.front ++ (i.head ++ (i.text ++ (tail ++ x)))
 inside_stream limits bytes x tail i =
@@ -184,7 +184,7 @@ ClosesIn limits items contents blocks done coded places later fault tail = Close
 abbrev pub CalmIn : Limits → List Item → List ℕ → Blocks → List Place → List (List Place) → List ℕ → List ℕ → Type 0
 CalmIn limits items contents blocks places later coded u = IsCalm (scan_in limits items contents) blocks places later coded u
 
--- a scan with a marker or FF bytes behind it is calm
+-- a scan with a marker or FF bytes after it is calm
 next_calm : (limits : Limits) (items : List Item) (contents : List ℕ) (blocks : Blocks) (stream : List ℕ) (first : Item) (v : List ℕ) → (n : NextScan limits items contents blocks stream first v) → IsQuiet v → CalmIn limits items contents blocks n.places [] n.last v
 next_calm limits items contents blocks stream first v n (inl q) = inl (q, inr n.completes)
 next_calm limits items contents blocks stream first v n (inr q) = inr (n.completes, refl, q)
@@ -194,21 +194,21 @@ pub next_in : (limits : Limits) (bytes tail rest : List ℕ) (i : InsideScan lim
 next_in limits bytes tail rest i u items' v e g =
     next_scan limits i.items i.contents i.blocks i.head rest g.first g.here (g.text ++ v) g.blocks i.header i.leads g.spelled g.leads (sym e ∙ g.behind)
 
--- BEHIND ITEMS and behind items
-pub ends_apart : (limits : Limits) (a b x : List ℕ) (items items' : List Item) (tail tail' : List ℕ) → BehindItems limits a items tail → Ends limits items tail → BehindItems limits b items' tail' → Goes items' tail' → a ++ x ≡ b → ⊥
+-- AFTER ITEMS and after items
+pub ends_apart : (limits : Limits) (a b x : List ℕ) (items items' : List Item) (tail tail' : List ℕ) → AfterItems limits a items tail → Ends limits items tail → AfterItems limits b items' tail' → Goes items' tail' → a ++ x ≡ b → ⊥
 ends_apart limits a b x items items' tail tail' w k w' l e =
-    by (meet limits items items' w.front w'.front (tail ++ x) tail' w.blocks w'.blocks w.spelled w'.spelled w.leads w'.leads (sym (behind_stream limits a x items tail w) ∙ e ∙ w'.cut))
+    by (meet limits items items' w.front w'.front (tail ++ x) tail' w.blocks w'.blocks w.spelled w'.spelled w.leads w'.leads (sym (after_stream limits a x items tail w) ∙ e ∙ w'.cut))
   where
     by : Meets limits items (tail ++ x) items' tail' → ⊥
     by (inl s) = ends_not_goes limits items tail x tail' k (subst (λ z. Goes z tail') (sym s.0) l) s.1
     by (inr (inl g)) = ends_not_head limits items tail x (tail ++ x) k (next_head limits items items' (tail ++ x) tail' g) refl
     by (inr (inr g)) = goes_not_head limits items' tail' l (next_head limits items' items tail' (tail ++ x) g)
 
--- behind items, and inside a scan: what ends there goes on with no scan, and its items don't end inside one
-ends_meet_inside : (limits : Limits) (a b x y : List ℕ) (items : List Item) (tail tail' : List ℕ) → BehindItems limits a items tail → Ends limits items tail → (i : InsideScan limits b tail') → a ++ x ≡ b ++ y
+-- after items, and inside a scan: what ends there continues with no scan, and its items don't end inside one
+ends_meet_inside : (limits : Limits) (a b x y : List ℕ) (items : List Item) (tail tail' : List ℕ) → AfterItems limits a items tail → Ends limits items tail → (i : InsideScan limits b tail') → a ++ x ≡ b ++ y
     → (first : Item) × (v : List ℕ) × NextScan limits i.items i.contents i.blocks (i.text ++ (tail' ++ y)) first v × LeadingMarker v
 ends_meet_inside limits a b x y items tail tail' w k i e =
-    by (meet limits items i.items w.front i.front (tail ++ x) u w.blocks i.blocks w.spelled i.spelled w.leads i.leads (sym (behind_stream limits a x items tail w) ∙ e ∙ inside_stream limits b y tail' i))
+    by (meet limits items i.items w.front i.front (tail ++ x) u w.blocks i.blocks w.spelled i.spelled w.leads i.leads (sym (after_stream limits a x items tail w) ∙ e ∙ inside_stream limits b y tail' i))
   where
     rest : List ℕ
     rest = i.text ++ (tail' ++ y)
@@ -227,7 +227,7 @@ ends_meet_inside limits a b x y items tail tail' w k i e =
           next_marker items g.later g.text (tail ++ x) g.others (λ z. begins_more tail x (ends_marker limits items tail k (scan_last g.first i.items items g.later i.contents n.intervals n.is_scan g.joined z))),
         )
 
-pub ends_not_inside_standing : (limits : Limits) (a b x : List ℕ) (items : List Item) (tail tail' : List ℕ) → BehindItems limits a items tail → Ends limits items tail → (i : InsideScan limits b tail') → StandsInside limits b tail' i → a ++ x ≡ b → ⊥
+pub ends_not_inside_standing : (limits : Limits) (a b x : List ℕ) (items : List Item) (tail tail' : List ℕ) → AfterItems limits a items tail → Ends limits items tail → (i : InsideScan limits b tail') → StandsInside limits b tail' i → a ++ x ≡ b → ⊥
 ends_not_inside_standing limits a b x items tail tail' w k i st e =
     let m = ends_meet_inside limits a b x [] items tail tail' w k i (e ∙ sym (append-nil b)) in
     let n = m.2 in
@@ -235,7 +235,7 @@ ends_not_inside_standing limits a b x items tail tail' w k i st e =
     ended_not_standing s i.blocks (chunks s.interval s.places) n.done n.last n.text m.1 n.places [] i.done i.coded i.text tail' i.places i.later st.0.0 n.at (inside_at limits b tail' i)
     (sym n.cut ∙ ap (λ l. i.text ++ l) (append-nil tail')) refl m.3 st.0.1
 
-pub ends_not_inside_closed : (limits : Limits) (a b x y : List ℕ) (items : List Item) (fault : Fault) (tail tail' : List ℕ) → BehindItems limits a items tail → Ends limits items tail → (i : InsideScan limits b tail') → ScanShows limits b fault tail' i → a ++ x ≡ b ++ y → ⊥
+pub ends_not_inside_closed : (limits : Limits) (a b x y : List ℕ) (items : List Item) (fault : Fault) (tail tail' : List ℕ) → AfterItems limits a items tail → Ends limits items tail → (i : InsideScan limits b tail') → ScanReveals limits b fault tail' i → a ++ x ≡ b ++ y → ⊥
 ends_not_inside_closed limits a b x y items fault tail tail' w k i c e =
     let m = ends_meet_inside limits a b x y items tail tail' w k i e in
     let n = m.2 in
@@ -243,7 +243,7 @@ ends_not_inside_closed limits a b x y items fault tail tail' w k i c e =
     closed_not_calm s i.blocks (chunks s.interval s.places) i.done i.coded i.text i.places i.later fault tail' y n.done n.last n.text m.1 n.places [] (scan_sound limits (segments_of i.items) i.contents)
     (inside_at limits b tail' i) n.at n.cut c (inr (n.completes, refl, m.3))
 
-pub inside_closed_not_going : (limits : Limits) (a b x tail : List ℕ) (fault : Fault) (items' : List Item) (tail' : List ℕ) → (i : InsideScan limits a tail) → ScanShows limits a fault tail i → BehindItems limits b items' tail' → Goes items' tail' → a ++ x ≡ b → ⊥
+pub inside_closed_not_going : (limits : Limits) (a b x tail : List ℕ) (fault : Fault) (items' : List Item) (tail' : List ℕ) → (i : InsideScan limits a tail) → ScanReveals limits a fault tail i → AfterItems limits b items' tail' → Goes items' tail' → a ++ x ≡ b → ⊥
 inside_closed_not_going limits a b x tail fault items' tail' i c w l e =
     by (meet limits i.items items' i.front w.front u tail' i.blocks w.blocks i.spelled w.spelled i.leads w.leads (sym (inside_stream limits a x tail i) ∙ e ∙ w.cut))
   where
@@ -265,7 +265,7 @@ inside_closed_not_going limits a b x tail fault items' tail' i c w l e =
 
 -- INSIDE A SCAN, and inside a scan
 
--- what holds inside the second scan holds inside the first, where they have the same items before and the same header
+-- what holds inside the second scan holds inside the first, if they have the same items before and the same header
 pub in_one : (limits : Limits) (a b tail tail' : List ℕ) (i : InsideScan limits a tail) (j : InsideScan limits b tail') (P : List Item → List ℕ → Blocks → Type 0) → i.items ≡ j.items → i.contents ≡ j.contents
     → P j.items j.contents j.blocks → P i.items i.contents i.blocks
 in_one limits a b tail tail' i j P e f p =
@@ -276,8 +276,8 @@ in_one limits a b tail tail' i j P e f p =
 pub one_header : (limits : Limits) (a b tail tail' r r' : List ℕ) (i : InsideScan limits a tail) (j : InsideScan limits b tail') → i.head ++ r ≡ j.head ++ r' → (i.contents ≡ j.contents) × (r ≡ r')
 one_header limits a b tail tail' r r' i j e = let h = segment_once 0xda 0xda i.contents j.contents i.head j.head r r' i.header j.header e in (h.1, h.3)
 
--- a place that closes is met by no scan that goes on
-closed_meets_next : (limits : Limits) (a tail x : List ℕ) (fault : Fault) (i : InsideScan limits a tail) (items' : List Item) (v : List ℕ) → ScanShows limits a fault tail i
+-- a place that closes isn't one of a scan that continues
+closed_meets_next : (limits : Limits) (a tail x : List ℕ) (fault : Fault) (i : InsideScan limits a tail) (items' : List Item) (v : List ℕ) → ScanReveals limits a fault tail i
     → HasNext limits i.items (i.head ++ (i.text ++ (tail ++ x))) items' v → LeadingMarker v → ⊥
 closed_meets_next limits a tail x fault i items' v c g m =
     let rest = i.text ++ (tail ++ x) in
@@ -286,7 +286,7 @@ closed_meets_next limits a tail x fault i items' v c g m =
     closed_not_calm s i.blocks (chunks s.interval s.places) i.done i.coded i.text i.places i.later fault tail x n.done n.last n.text (g.text ++ v) n.places [] (scan_sound limits (segments_of i.items) i.contents)
     (inside_at limits a tail i) n.at n.cut c (inr (n.completes, refl, next_marker items' g.later g.text v g.others (λ z. m)))
 
-pub inside_closed_not_standing : (limits : Limits) (a b x tail : List ℕ) (fault : Fault) (tail' : List ℕ) → (i : InsideScan limits a tail) → ScanShows limits a fault tail i → (j : InsideScan limits b tail') → StandsInside limits b tail' j → a ++ x ≡ b → ⊥
+pub inside_closed_not_standing : (limits : Limits) (a b x tail : List ℕ) (fault : Fault) (tail' : List ℕ) → (i : InsideScan limits a tail) → ScanReveals limits a fault tail i → (j : InsideScan limits b tail') → StandsInside limits b tail' j → a ++ x ≡ b → ⊥
 inside_closed_not_standing limits a b x tail fault tail' i c j st e =
     by (meet limits i.items j.items i.front j.front u v i.blocks j.blocks i.spelled j.spelled i.leads j.leads
     (sym (inside_stream limits a x tail i) ∙ e ∙ sym (append-nil b) ∙ inside_stream limits b [] tail' j))
@@ -323,7 +323,7 @@ inside_closed_not_standing limits a b x tail fault tail' i c j st e =
         ended_not_standing s j.blocks (chunks s.interval s.places) n.done n.last n.text (g.text ++ u) n.places [] j.done j.coded j.text (tail' ++ []) j.places j.later st.0.0 n.at (inside_at limits b tail' j)
         (sym n.cut) refl (next_marker i.items g.later g.text u g.others (λ z. segment_marker 0xda i.contents i.head rest i.header)) fills
 
-pub inside_closed_once : (limits : Limits) (a tail tail' : List ℕ) (f g : Fault) → (i : InsideScan limits a tail) → ScanShows limits a f tail i → (j : InsideScan limits a tail') → ScanShows limits a g tail' j → f ≡ g
+pub inside_closed_once : (limits : Limits) (a tail tail' : List ℕ) (f g : Fault) → (i : InsideScan limits a tail) → ScanReveals limits a f tail i → (j : InsideScan limits a tail') → ScanReveals limits a g tail' j → f ≡ g
 inside_closed_once limits a tail tail' f g i c j d =
     by (meet limits i.items j.items i.front j.front u v i.blocks j.blocks i.spelled j.spelled i.leads j.leads (sym (inside_stream limits a [] tail i) ∙ inside_stream limits a [] tail' j))
   where
@@ -352,11 +352,11 @@ inside_closed_once limits a tail tail' f g i c j d =
     by (inr (inl g')) = absurd (closed_meets_next limits a tail [] f i j.items v c g' (segment_marker 0xda j.contents j.head rest' j.header))
     by (inr (inr g')) = absurd (closed_meets_next limits a tail' [] g j i.items u d g' (segment_marker 0xda i.contents i.head rest i.header))
 
--- what ends behind items does so once
-pub items_end_once : (limits : Limits) (a b x y : List ℕ) (items items' : List Item) (tail tail' : List ℕ) → BehindItems limits a items tail → Ends limits items tail → BehindItems limits b items' tail' → Ends limits items' tail' → a ++ x ≡ b ++ y
+-- what ends after items does so once
+pub items_end_once : (limits : Limits) (a b x y : List ℕ) (items items' : List Item) (tail tail' : List ℕ) → AfterItems limits a items tail → Ends limits items tail → AfterItems limits b items' tail' → Ends limits items' tail' → a ++ x ≡ b ++ y
     → (items ≡ items') × (tail ≡ tail') × (x ≡ y)
 items_end_once limits a b x y items items' tail tail' w k w' l e =
-    by (meet limits items items' w.front w'.front (tail ++ x) (tail' ++ y) w.blocks w'.blocks w.spelled w'.spelled w.leads w'.leads (sym (behind_stream limits a x items tail w) ∙ e ∙ behind_stream limits b y items' tail' w'))
+    by (meet limits items items' w.front w'.front (tail ++ x) (tail' ++ y) w.blocks w'.blocks w.spelled w'.spelled w.leads w'.leads (sym (after_stream limits a x items tail w) ∙ e ∙ after_stream limits b y items' tail' w'))
   where
     by : Meets limits items (tail ++ x) items' (tail' ++ y) → (items ≡ items') × (tail ≡ tail') × (x ≡ y)
     by (inl s) =

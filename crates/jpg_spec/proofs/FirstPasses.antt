@@ -24,7 +24,7 @@ use Rattle.jpg_spec.proofs.PictureInWork.{leads_sizes}
 use Rattle.jpg_spec.proofs.Untouched.{is_coded, untouched}
 use Rattle.jpg_spec.proofs.Common.{both, same_of, neither, refused}
 
--- A SCAN HEADER that breaks no rule is one that the scans before it admit
+-- A SCAN HEADER that breaks no rule is one that the scans before it allow
 
 pub record IsAdmitted (f : Frame) (before : List Segment) (head : ScanHead) : Type 0 where
   pub repeated : (not (is_progressive f.process) && any_of (has_begun (heads_of f before)) (head_components head)) ≡ false
@@ -110,7 +110,7 @@ weaker f i k (head ∷ heads) e =
     let n = neither (names head i) (any_of (λ head. names head i) heads) e in
     ap (λ b. b && (not (is_progressive f.process) || nat_le head.ss k && nat_le k head.se) || any_of (λ head. is_coded f head i k) heads) n.0 ∙ weaker f i k heads n.1
 
--- the blocks of a component that was in no scan
+-- the blocks of a component that had no scan
 pub new_component : (limits : Limits) (items : List Item) (blocks : Blocks) (i x y : ℕ) → Leads limits items blocks → has_begun (heads_of (frame_of limits (segments_of items)) (segments_of items)) i ≡ false → blocks i x y ≡ zeros 64
 new_component limits items blocks i x y l e =
     let f = frame_of limits (segments_of items) in

@@ -1,4 +1,4 @@
--- A header of a file whose scan header breaks no rule: its scan begins, so that its bytes stand.
+-- A header of a file whose scan header breaks no rule: its scan begins, so that its bytes have no fault.
 use Rattle.std.proofs.Common.{◌≡◌, ℕ, zero, suc, ◌+◌, ◌*◌, ◌≤◌, ◌==◌, false, not, List, [], ◌∷◌, length, take, drop, refl, sym, ap, subst, arith, None, Ok}
 use Rattle.std.specs.Prelude.{◌||◌, ◌&&◌, nat_lt, unwrap_or}
 use Rattle.std.proofs.lemmas.List.{length-take}
@@ -10,23 +10,22 @@ use Rattle.jpg_spec.specs.Markers.{Segment, code_fault}
 use Rattle.jpg_spec.specs.InForce.{no_frame, frame_of, head_in}
 use Rattle.jpg_spec.specs.Items.{segments_of, contents_rule}
 use Rattle.jpg_spec.specs.FileMeaning.{scan_after}
-use Rattle.jpg_spec.specs.FirstFault.{BehindItems}
-use Rattle.jpg_spec.specs.FileStands.{FileStands}
+use Rattle.jpg_spec.specs.FirstFault.{AfterItems}
+use Rattle.jpg_spec.specs.UnfinishedFile.{UnfinishedFile}
 use Rattle.jpg_spec.specs.Header.{IsHeader}
 use Rattle.jpg_spec.specs.declared.fault.Fault.TheVariants.{BadLength, ScanComponent, McuTooLarge, ScanParameters}
 use Rattle.jpg_spec.specs.declared.frame.Limits.{Limits}
 use Rattle.jpg_spec.proofs.Common.{neither, same_of, same_told, refused}
-use Rattle.jpg_spec.proofs.FrameFound.{IsChecked, frame_found, framed}
-use Rattle.jpg_spec.proofs.WrittenFront.{all_factors}
+use Rattle.jpg_spec.proofs.FrameFound.{IsChecked, frame_found, framed, all_factors}
 use Rattle.jpg_spec.proofs.HeadersOnce.{items_of, segments_of_items}
 use Rattle.jpg_spec.proofs.FirstPasses.{head_at}
-use Rattle.jpg_spec.proofs.HeaderShown.{behind_header}
+use Rattle.jpg_spec.proofs.HeaderShown.{after_header}
 use Rattle.jpg_spec.proofs.PlacesSome.{HasPlaces, AreSome, head_places_some, chunks_some}
 use Rattle.jpg_spec.proofs.ScanSteps.{first_place, scan_begins}
 use Rattle.jpg_spec.proofs.ScanAnswers.{begun_stands}
 use Rattle.jpg_spec.proofs.TablesInForce.{affirmed}
 
--- A SCAN HEADER that shows no fault names a component
+-- A SCAN HEADER that has no fault names a component
 
 parts_some : (f : Frame) (bytes : List ℕ) → 2 ≤ length bytes → 1 ≤ length (parts_told f bytes)
 parts_some f [] long = absurd (omega (arith, long))
@@ -81,12 +80,12 @@ first_some_places limits bytes before contents is unbroken =
     head_places_some (frame_of limits before) (head_in (frame_of limits before) contents) places some
 
 -- THE LAW
-pub header_stands : (limits : Limits) (bytes : List ℕ) (before : List Segment) (contents : List ℕ) → IsHeader limits bytes before contents → contents_rule limits before 0xda contents ≡ None → FileStands limits bytes
+pub header_stands : (limits : Limits) (bytes : List ℕ) (before : List Segment) (contents : List ℕ) → IsHeader limits bytes before contents → contents_rule limits before 0xda contents ≡ None → UnfinishedFile limits bytes
 header_stands limits bytes before contents is unbroken =
     let items = items_of before in
     let same = sym (segments_of_items before) in
     let s = is.spelled in
-    let w : BehindItems limits bytes items s.1 = behind_header limits bytes before s.1 (record { front = s.0; cut = s.2; spelled = s.3; passed = is.passed.2 }, is.first) in
+    let w : AfterItems limits bytes items s.1 = after_header limits bytes before s.1 (record { front = s.0; cut = s.2; spelled = s.3; passed = is.passed.2 }, is.first) in
     let scan = scan_after limits (segments_of items) contents in
     let cut = chunks_some scan.interval scan.places (subst (λ xs. 1 ≤ length (scan_after limits xs contents).places) same (first_some_places limits bytes before contents is unbroken)) in
     let begun = scan_begins limits bytes items contents s.1 cut.0 cut.1 w s.4 (subst (λ xs. code_fault xs 0xda ≡ None) same is.passed.0) (subst (λ xs. contents_rule limits xs 0xda contents ≡ None) same unbroken) cut.2 in

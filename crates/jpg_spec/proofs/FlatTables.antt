@@ -1,4 +1,4 @@
--- The flat table of some symbols: it is valid, its segment tells it, and each of the symbols has a code.
+-- The flat table of some symbols: it is valid, its segment encodes it, and each of the symbols has a code.
 use Rattle.std.proofs.Common.{◌≡◌, ℕ, zero, suc, ◌+◌, ◌-◌, ◌*◌, ◌/◌, ◌%◌, ◌^◌, ◌<◌, ◌≤◌, Bool, true, false, cond, not, List, [], ◌∷◌, ◌++◌, length, take, drop, refl, sym, ap, ◌∙◌, subst, arith, ◌==◌, ◌&&◌}
 use Rattle.std.specs.Prelude.{◌||◌, replicate, sum, nat_lt, Ok}
 use Rattle.std.specs.List.{fold}
@@ -14,13 +14,13 @@ use Rattle.jpg_spec.specs.Faults.{Told}
 use Rattle.jpg_spec.specs.Segments.{HuffmanTable, table_codes}
 use Rattle.jpg_spec.specs.QuantContents.{◌>>=◌}
 use Rattle.jpg_spec.specs.HuffContents.{HuffmanDefinition, symbols_size, definition_size, definition_told, huffman_table_of, huffman_tables_of}
-use Rattle.jpg_spec.specs.ScanText.{flat_length_from, flat_table}
+use Rattle.jpg_spec.specs.FlatTable.{flat_length_from, flat_table}
 use Rattle.jpg_spec.specs.declared.fault.Fault.TheVariants.{BadLength, BadHuffman}
 use Rattle.jpg_spec.proofs.Full.{Has}
 use Rattle.jpg_spec.proofs.WrittenState.{IsTellable}
 use Rattle.jpg_spec.proofs.Common.{lt_of, same_of, not_refused, lt_yes, lt_no}
 
--- A VALID TABLE is told by its segment
+-- A VALID TABLE is encoded by its segment
 
 pub record IsValid (table : HuffmanTable) : Type 0 where
   pub counts : length table.counts ≡ 16
@@ -115,12 +115,12 @@ some_power : (n : ℕ) → 1 ≤ 2 ^ n
 some_power zero = omega arith
 some_power (suc n) = let e : 2 ^ (n + 1) ≡ 2 ^ n * 2 = pow_more 2 n in let s : n + 1 ≡ suc n = omega arith in subst (λ m. 1 ≤ 2 ^ m) s (omega (arith, e, some_power n))
 
-zeros_behind : (r len c : ℕ) → c < 2 ^ len → are_codes len c (replicate r 0) ≡ true
+zeros_after : (r len c : ℕ) → c < 2 ^ len → are_codes len c (replicate r 0) ≡ true
 unfolding are_codes
-zeros_behind zero len c h = refl
-zeros_behind (suc r) len c h =
+zeros_after zero len c h = refl
+zeros_after (suc r) len c h =
     let e : 2 ^ (len + 1) ≡ 2 ^ len * 2 = pow_more 2 len in
-    ap (λ b. b && are_codes (len + 1) (2 * (c + 0)) (replicate r 0)) (lt_yes (c + 0) (2 ^ len) (omega (arith, h))) ∙ zeros_behind r (len + 1) (2 * (c + 0)) (omega (arith, h, e))
+    ap (λ b. b && are_codes (len + 1) (2 * (c + 0)) (replicate r 0)) (lt_yes (c + 0) (2 ^ len) (omega (arith, h))) ∙ zeros_after r (len + 1) (2 * (c + 0)) (omega (arith, h, e))
 
 zeros_first : (j len : ℕ) (rest : List ℕ) → are_codes (len + j) 0 rest ≡ true → are_codes len 0 (replicate j 0 ++ rest) ≡ true
 unfolding are_codes
@@ -161,5 +161,5 @@ flat_valid symbols few =
       few = few;
       fits = zeros_first (size - 1) 1 (n ∷ replicate (16 - size) 0)
           (subst (λ m. are_codes m 0 (n ∷ replicate (16 - size) 0) ≡ true) (sym e)
-          (ap (λ b. b && are_codes (size + 1) (2 * (0 + n)) (replicate (16 - size) 0)) (lt_yes (0 + n) (2 ^ size) (omega (arith, fits))) ∙ zeros_behind (16 - size) (size + 1) (2 * (0 + n)) (omega (arith, fits, p))));
+          (ap (λ b. b && are_codes (size + 1) (2 * (0 + n)) (replicate (16 - size) 0)) (lt_yes (0 + n) (2 ^ size) (omega (arith, fits))) ∙ zeros_after (16 - size) (size + 1) (2 * (0 + n)) (omega (arith, fits, p))));
     }

@@ -1,13 +1,13 @@
--- Behind a header that breaks no rule the frame is one that passed its checks.
-use Rattle.std.proofs.Common.{◌≡◌, ℕ, ◌*◌, Bool, true, false, cond, not, List, [], ◌∷◌, length, refl, sym, ap, ◌∙◌, subst, arith, inl, inr, Option, Some, None, ◌==◌, ◌≢◌, ⊎_elim}
+-- After a header that breaks no rule the frame is one that passed its checks.
+use Rattle.std.proofs.Common.{◌≡◌, ℕ, ◌*◌, Bool, true, false, cond, not, List, [], ◌∷◌, length, refl, sym, ap, ◌∙◌, subst, arith, inl, inr, Option, Some, None, ◌==◌, ◌≢◌, ⊎_elim, ◌-◌, get_or, map, zero, suc, ◌≤◌}
 use Rattle.std.specs.Prelude.{◌⊎◌, ◌||◌, nat_lt, Ok, Err, option_and_then}
 use Rattle.std.proofs.lemmas.Bool.{cases_eq}
 use Rattle.std.proofs.lemmas.Bool.Decides.{nat_tests}
 use Rattle.jpg_spec.specs.Lists.{any_of, is_distinct}
 use Rattle.jpg_spec.specs.Faults.{Told, refuse}
 use Rattle.jpg_spec.specs.Segments.{two_bytes}
-use Rattle.jpg_spec.specs.Geometry.{Frame, padded_blocks}
-use Rattle.jpg_spec.specs.FrameHeader.{has_bad_factor, has_bad_slot, identifiers, checked_frame}
+use Rattle.jpg_spec.specs.Geometry.{Frame, padded_blocks, div_up, component_at, no_component}
+use Rattle.jpg_spec.specs.FrameHeader.{has_bad_factor, has_bad_slot, identifiers, checked_frame, HasFactors}
 use Rattle.jpg_spec.specs.FrameContents.{frame_header, frame_told}
 use Rattle.jpg_spec.specs.Markers.{Segment, Pass, process_of_code, is_frame_code, has_frame, code_fault, code_fault_if}
 use Rattle.jpg_spec.specs.InForce.{told_some, first_some, frame_in, frame_after}
@@ -17,9 +17,13 @@ use Rattle.jpg_spec.specs.declared.fault.Fault.TheVariants.{EmptyImage, TooLarge
 use Rattle.jpg_spec.specs.declared.frame.Process.{Process}
 use Rattle.jpg_spec.specs.declared.frame.Process.TheVariants.{Baseline, Extended, Progressive}
 use Rattle.jpg_spec.specs.declared.frame.Limits.{Limits}
-use Rattle.jpg_spec.proofs.Common.{same_of, refused}
+use Rattle.jpg_spec.proofs.Common.{same_of, refused, not_lt_of, neither}
+use Rattle.std.proofs.Math.ListN as listn
+use Rattle.std.specs.List.{All}
+use Rattle.std.proofs.lemmas.List.Elements.{All-nil, All-cons}
+use Rattle.jpg_spec.specs.declared.frame.Component.{Component}
 
--- WHAT THE CHECKS SAY
+-- WHAT THE CHECKS GUARANTEE
 
 pub record IsChecked (limits : Limits) (f : Frame) : Type 0 where
   pub some : (f.width == 0 || f.height == 0) ≡ false
@@ -57,7 +61,7 @@ checks limits f g e =
     affirmed true e = refl
     affirmed false e = sym e
 
--- A FRAME HEADER that shows no fault tells a frame that passed
+-- A FRAME HEADER that has no fault gives a frame that passed
 
 told_checked : (limits : Limits) (process : Process) (contents : List ℕ) (f : Frame) → frame_header limits process contents ≡ Ok f → IsChecked limits f
 told_checked limits process [] f e = cc
@@ -154,3 +158,27 @@ framed before e = by (has_frame before) e
     by : (b : Bool) → code_fault_if b 0xda ≡ None → b ≡ true
     by true e = refl
     by false e = cc
+
+abbrev pub real_side : ℕ → ℕ → ℕ → ℕ
+real_side side factor most = div_up (div_up (side * factor) most) 8
+
+pub factor_across : (f : Frame) (i : ℕ) → (component_at f i).h ≡ get_or (map (λ c. c.h) f.components) i 1
+factor_across f i = sym (listn.get_or-map (λ c. c.h) f.components i no_component)
+
+pub factor_down : (f : Frame) (i : ℕ) → (component_at f i).v ≡ get_or (map (λ c. c.v) f.components) i 1
+factor_down f i = sym (listn.get_or-map (λ c. c.v) f.components i no_component)
+
+pub factors_ok : (c : Component) → has_bad_factor c ≡ false → HasFactors c
+factors_ok c e =
+    let a = neither (c.h == 0) (nat_lt 4 c.h || (c.v == 0 || nat_lt 4 c.v)) e in
+    let b = neither (nat_lt 4 c.h) (c.v == 0 || nat_lt 4 c.v) a.1 in
+    let k = neither (c.v == 0) (nat_lt 4 c.v) b.1 in
+    record { h_low = some c.h a.0; h_high = not_lt_of 4 c.h b.0; v_low = some c.v k.0; v_high = not_lt_of 4 c.v k.1 }
+  where
+    some : (n : ℕ) → (n == 0) ≡ false → 1 ≤ n
+    some zero e = cc
+    some (suc n) e = omega arith
+
+pub all_factors : (cs : List Component) → any_of has_bad_factor cs ≡ false → All HasFactors cs
+all_factors [] e = All-nil HasFactors
+all_factors (c ∷ cs) e = let n = neither (has_bad_factor c) (any_of has_bad_factor cs) e in All-cons HasFactors c cs (factors_ok c n.0) (all_factors cs n.1)

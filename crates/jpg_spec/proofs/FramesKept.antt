@@ -1,4 +1,5 @@
--- A frame's header once shown is kept by all items behind it, so that a file shows the header of one progressive frame at most.
+-- A frame's header remains in force for all items after it, so that a file has at most one header of a progressive
+-- frame.
 use Rattle.std.proofs.Common.{◌≡◌, ℕ, true, false, List, [], ◌∷◌, ◌++◌, refl, sym, ap, ◌∙◌, subst, None, Ok, Err, inl, inr}
 use Rattle.std.specs.Prelude.{unwrap_or}
 use Rattle.std.proofs.lemmas.List.{append_assoc}
@@ -20,7 +21,7 @@ use Rattle.jpg_spec.proofs.ItemsOnce.{HasNext, Meets, meet}
 use Rattle.jpg_spec.proofs.TailsOnce.{HasHead}
 use Rattle.jpg_spec.proofs.Untouched.{frame_stays}
 
--- THE FRAME of some items stays, with more of them
+-- THE FRAME of some items doesn't change with more of them
 
 pub record FrameKept (limits : Limits) (items all : List Item) : Type 0 where
   pub found : has_frame (segments_of all) ≡ true
@@ -41,7 +42,7 @@ kept_in : (limits : Limits) (more items all : List Item) (blocks : Blocks) → a
 kept_in limits more items all blocks e l found =
     subst (λ (z : List Item). FrameKept limits items z) (sym e) (frame_keeps limits more items blocks (subst (λ (z : List Item). Leads limits z blocks) e l) found)
 
--- A PROGRESSIVE FRAME'S HEADER, behind items without a frame
+-- A PROGRESSIVE FRAME'S HEADER, after items without a frame
 
 abbrev pub with_header : List ℕ → List Item → List Item
 with_header contents before = segment 0xc2 contents ∷ before
@@ -59,13 +60,13 @@ second_frame e = cc
 no_second : (limits : Limits) (contents : List ℕ) (before : List Item) (blocks : Blocks) → Leads limits (with_header contents before) blocks → has_frame (segments_of before) ≡ true → ⊥
 no_second limits contents before blocks l found = second_frame (subst (λ b. code_fault_if b 0xc2 ≡ None) found l.0)
 
--- items that are its own, or go on from it, have a progressive frame
+-- items that are its own, or continue it, have a progressive frame
 still_progressive : (limits : Limits) (contents : List ℕ) (more before items : List Item) (blocks other : Blocks) → Leads limits (with_header contents before) other → items ≡ more ++ with_header contents before → Leads limits items blocks
     → is_progressive (frame_of_items limits items).process ≡ true
 still_progressive limits contents more before items blocks other header e l =
     ap (λ (f : Frame). is_progressive f.process) (kept_in limits more (with_header contents before) items blocks e l refl).same ∙ progressive_is limits contents before other header
 
--- none comes behind items that have a frame
+-- none comes after items that have a frame
 none_later : (limits : Limits) (contents : List ℕ) (later before items : List Item) (first : Item) (blocks : Blocks) → Leads limits (with_header contents before) blocks → with_header contents before ≡ later ++ first ∷ items
     → has_frame (segments_of items) ≡ true → ⊥
 none_later limits contents [] before items first blocks l e found =
@@ -74,7 +75,7 @@ none_later limits contents (item ∷ later) before items first blocks l e found 
     no_second limits contents before blocks l
     (kept_in limits (later ++ first ∷ []) items before blocks ((heads (segment 0xc2 contents) item before (later ++ first ∷ items) e).1 ∙ sym (append_assoc later (first ∷ []) items)) l.2 found).found
 
--- THE LAW: no front of bytes that begin with items of a frame that isn't progressive ends with such a header
+-- THE LAW: no prefix of bytes that begin with items of a frame that isn't progressive ends with such a header
 
 -- the items themselves, and a header that bytes begin with
 pub record EndsInHeader (limits : Limits) (front : List ℕ) (contents : List ℕ) (before : List Item) : Type 0 where
@@ -100,12 +101,12 @@ not_shown limits items before contents front u a x s k none e =
     by (inr (inl next)) = shown (next.later ++ next.first ∷ []) (next.joined ∙ sym (append_assoc next.later (next.first ∷ []) (with_header contents before)))
     by (inr (inr next)) = none next
 
--- where no whole segment follows the items that breaks no rule
+-- if no complete segment follows the items that breaks no rule
 pub none_behind : (limits : Limits) (items before : List Item) (contents front u a x : List ℕ) → EndsInHeader limits a contents before → PlainItems limits items front → (HasHead limits (segments_of items) u → ⊥) → a ++ x ≡ front ++ u → ⊥
 none_behind limits items before contents front u a x s k none e =
     not_shown limits items before contents front u a x s k (λ next. none (next_head limits items (with_header contents before) u x next)) e
 
--- or where the items have a frame
+-- or if the items have a frame
 pub none_framed : (limits : Limits) (items before : List Item) (contents front u a x : List ℕ) → EndsInHeader limits a contents before → PlainItems limits items front → has_frame (segments_of items) ≡ true → a ++ x ≡ front ++ u → ⊥
 none_framed limits items before contents front u a x s k found e =
     not_shown limits items before contents front u a x s k (λ next. none_later limits contents next.later before items next.first s.blocks s.leads next.joined found) e

@@ -1,4 +1,5 @@
--- Data bytes on file are cut in one way: of two lists of them that begin the same bytes one goes on from the other, and no marker begins as they do.
+-- Data bytes in a file are split in one way: of two lists of them that begin the same bytes one continues the other,
+-- and no marker begins as they do.
 use Rattle.std.proofs.Common.{◌≡◌, ℕ, zero, suc, List, [], ◌∷◌, ◌++◌, refl, sym, ap, ◌∙◌, arith, inl, inr, ⊎_elim}
 use Rattle.std.specs.Prelude.{◌⊎◌, replicate}
 use Rattle.std.proofs.lemmas.List.{append_assoc, append-nil}
@@ -21,7 +22,7 @@ byte_once x y f g u v (inr s) (inr t) e =
     let r = fills_once (suc s.1.0) (suc t.1.0) 0 0 u v no no (ap (λ l. l ++ u) (sym s.1.1) ∙ e ∙ ap (λ l. l ++ v) t.1.1) in
     (s.0 ∙ sym t.0, s.1.1 ∙ ap (λ n. replicate n 255 ++ 0 ∷ []) r.0 ∙ sym t.1.1, r.2)
 
--- The data d on file as r, with v behind them, go on from the data c on file as t, with u behind them.
+-- The data d in a file as r, with v after them, continue the data c in a file as t, with u after them.
 pub record DataGoOn (c : List ℕ) (t u d r v : List ℕ) : Type 0 where
   pub more : List ℕ
   pub text : List ℕ
@@ -68,7 +69,7 @@ data_no_marker code (x ∷ m) t a u v s k e =
     by (inl h) f = byte_no_marker x code a (s.1 ++ u) v h.0 k (ap (λ l. l ++ (s.1 ++ u)) (sym h.1) ∙ f)
     by (inr h) f = stuffed_no_marker h.1.0 code a (s.1 ++ u) v k (ap (λ l. l ++ (s.1 ++ u)) (sym h.1.1) ∙ f)
 
--- nor do FF bytes alone
+-- nor do only FF bytes
 other_in_fill : (n k b : ℕ) (u : List ℕ) → (b ≡ 255 → ⊥) → (replicate k 255 ++ b ∷ []) ++ u ≡ replicate n 255 → ⊥
 other_in_fill zero zero b u h e = no_head b u (sym e)
 other_in_fill zero (suc k) b u h e = no_head 255 ((replicate k 255 ++ b ∷ []) ++ u) (sym e)

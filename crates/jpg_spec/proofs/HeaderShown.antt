@@ -1,19 +1,19 @@
--- What the header of a file shows with its last byte, the file shows with it.
+-- A fault that the last byte of a file's header reveals is one of the file.
 use Rattle.std.proofs.Common.{◌≡◌, ℕ, zero, suc, Bool, true, false, cond, ◌==◌, List, [], ◌∷◌, ◌++◌, length, refl, sym, ap, ◌∙◌, subst, inl, inr, Some, None}
 use Rattle.std.specs.Prelude.{◌⊎◌, nat_lt, Ok, Err, unwrap_or}
 use Rattle.jpg_spec.specs.Lists.{all_of, below}
 use Rattle.jpg_spec.specs.Faults.{Told}
 use Rattle.jpg_spec.specs.Geometry.{Frame}
 use Rattle.jpg_spec.specs.Segments.{ScanHead}
-use Rattle.jpg_spec.specs.Markers.{Segment, SpellsMarker, code_fault, code_fault_if, has_frame, has_scan, Pass, NoMarkerBytes, ShowsSegment, TailShows}
+use Rattle.jpg_spec.specs.Markers.{Segment, SpellsMarker, code_fault, code_fault_if, has_frame, has_scan, Pass, NoMarkerBytes, RevealsSegment, TailReveals}
 use Rattle.jpg_spec.specs.InForce.{no_frame, frame_of}
 use Rattle.jpg_spec.specs.History.{admitted, has_begun, is_complete}
 use Rattle.jpg_spec.specs.QuantContents.{◌>>=◌}
 use Rattle.jpg_spec.specs.ScanContents.{scan_header}
 use Rattle.jpg_spec.specs.Items.{ends_in_scan, segments_of, fault_in, contents_rule}
 use Rattle.jpg_spec.specs.FileMeaning.{no_blocks}
-use Rattle.jpg_spec.specs.FirstFault.{BehindItems, ItemShows, Shows}
-use Rattle.jpg_spec.specs.Header.{header_rule, InHeader, HeaderShows}
+use Rattle.jpg_spec.specs.FirstFault.{AfterItems, ItemReveals, Reveals}
+use Rattle.jpg_spec.specs.Header.{header_rule, InHeader, HeaderReveals}
 use Rattle.jpg_spec.specs.declared.fault.Fault.{Fault}
 use Rattle.jpg_spec.specs.declared.fault.Fault.TheVariants.{NoMarker, MissingComponent}
 use Rattle.jpg_spec.specs.declared.frame.Limits.{Limits}
@@ -22,7 +22,7 @@ use Rattle.jpg_spec.proofs.BeforeScans.{no_heads, front_items, header_leads}
 use Rattle.jpg_spec.proofs.FrameFound.{frame_found}
 use Rattle.jpg_spec.proofs.Common.{same_of, neither}
 
--- BEHIND SEGMENTS ALONE no component had a scan
+-- AFTER SEGMENTS ONLY no component had a scan
 
 none_begun : (count : ℕ) → (count == 0) ≡ false → all_of (has_begun []) (below count) ≡ false
 none_begun zero e = cc
@@ -55,7 +55,7 @@ scan_refused limits before contents fault e = by (scan_header (frame_of limits b
     by (Ok head) h k = cc
     by (Err other) h k = ap (λ r. fault_in (r >>= admitted (frame_of limits before) before)) h ∙ k
 
-segment_shown : (limits : Limits) (before : List Segment) (fault : Fault) (tail : List ℕ) → ShowsSegment (header_rule limits) before fault tail → ShowsSegment (contents_rule limits) before fault tail
+segment_shown : (limits : Limits) (before : List Segment) (fault : Fault) (tail : List ℕ) → RevealsSegment (header_rule limits) before fault tail → RevealsSegment (contents_rule limits) before fault tail
 segment_shown limits before fault tail s = (s.0, s.1, s.2, s.3, s.4, by (s.0 == 0xda) refl)
   where
     at : (b : Bool) → (s.0 == 0xda) ≡ b → cond b (fault_in (scan_header (frame_of limits before) s.1)) (contents_rule limits before s.0 s.1) ≡ Some fault
@@ -65,14 +65,14 @@ segment_shown limits before fault tail s = (s.0, s.1, s.2, s.3, s.4, by (s.0 == 
     by true h = subst (λ code. contents_rule limits before code s.1 ≡ Some fault) (sym (same_of s.0 0xda h)) (scan_refused limits before s.1 fault (at true h))
     by false h = at false h
 
-tail_shown : (limits : Limits) (before : List Segment) (fault : Fault) (tail : List ℕ) → TailShows (header_rule limits) before fault tail → TailShows (contents_rule limits) before fault tail
+tail_shown : (limits : Limits) (before : List Segment) (fault : Fault) (tail : List ℕ) → TailReveals (header_rule limits) before fault tail → TailReveals (contents_rule limits) before fault tail
 tail_shown limits before fault tail (inl s) = inl s
 tail_shown limits before fault tail (inr (inl s)) = inr (inl s)
 tail_shown limits before fault tail (inr (inr s)) = inr (inr (segment_shown limits before fault tail s))
 
 -- THE HEADER as items
-pub behind_header : (limits : Limits) (bytes : List ℕ) (before : List Segment) (tail : List ℕ) → InHeader limits bytes before tail → BehindItems limits bytes (items_of before) tail
-behind_header limits bytes before tail w = record {
+pub after_header : (limits : Limits) (bytes : List ℕ) (before : List Segment) (tail : List ℕ) → InHeader limits bytes before tail → AfterItems limits bytes (items_of before) tail
+after_header limits bytes before tail w = record {
   front = w.0.front;
   blocks = no_blocks;
   cut = w.0.cut;
@@ -85,16 +85,16 @@ no_data_last [] = refl
 no_data_last (s ∷ before) = refl
 
 -- THE LAW
-pub shown_in_file : (limits : Limits) (fault : Fault) (bytes : List ℕ) → HeaderShows limits fault bytes → Shows limits fault bytes
+pub shown_in_file : (limits : Limits) (fault : Fault) (bytes : List ℕ) → HeaderReveals limits fault bytes → Reveals limits fault bytes
 shown_in_file limits fault bytes (inl s) = inl s
-shown_in_file limits fault bytes (inr s) = inr (inl (items_of s.0, s.1, behind_header limits bytes s.0 s.1 s.2, by s.3))
+shown_in_file limits fault bytes (inr s) = inr (inl (items_of s.0, s.1, after_header limits bytes s.0 s.1 s.2, by s.3))
   where
     same : s.0 ≡ segments_of (items_of s.0)
     same = sym (segments_of_items s.0)
 
-    by : ((fault ≡ NoMarker) × NoMarkerBytes s.1) ⊎ (TailShows (header_rule limits) s.0 fault s.1 ⊎ ((fault ≡ MissingComponent) × SpellsMarker 0xd9 s.1 × (code_fault s.0 0xd9 ≡ None))) → ItemShows limits (items_of s.0) fault s.1
+    by : ((fault ≡ NoMarker) × NoMarkerBytes s.1) ⊎ (TailReveals (header_rule limits) s.0 fault s.1 ⊎ ((fault ≡ MissingComponent) × SpellsMarker 0xd9 s.1 × (code_fault s.0 0xd9 ≡ None))) → ItemReveals limits (items_of s.0) fault s.1
     by (inl h) = inl (h.0, no_data_last s.0, h.1)
-    by (inr (inl h)) = inr (inl (subst (λ xs. TailShows (contents_rule limits) xs fault s.1) same (tail_shown limits s.0 fault s.1 h)))
+    by (inr (inl h)) = inr (inl (subst (λ xs. TailReveals (contents_rule limits) xs fault s.1) same (tail_shown limits s.0 fault s.1 h)))
     by (inr (inr h)) =
         inr (inr (
           h.0,

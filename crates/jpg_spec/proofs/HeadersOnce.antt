@@ -1,4 +1,4 @@
--- Segments before the first scan, and the items of a file that begin the same bytes: the one goes on from the other.
+-- Segments before the first scan, and the items of a file that begin the same bytes: one continues the other.
 use Rattle.std.proofs.Common.{◌≡◌, ℕ, Bool, true, false, ◌||◌, ◌==◌, List, [], ◌∷◌, ◌++◌, map, refl, sym, ap, ◌∙◌, arith, inl, inr}
 use Rattle.std.specs.Prelude.{◌⊎◌}
 use Rattle.std.proofs.lemmas.List.{append_assoc, append-nil, append_cancel_left}
@@ -14,10 +14,10 @@ abbrev pub SpellsItems : List Item → List ℕ → Type 0
 SpellsItems [] bytes = bytes ≡ []
 SpellsItems (item ∷ before) bytes = (front : List ℕ) × (rest : List ℕ) × (bytes ≡ front ++ rest) × SpellsItems before front × SpellsItem item rest
 
-pub behind_front : (items : List Item) (bytes : List ℕ) → SpellsFront items bytes → (text : List ℕ) × (bytes ≡ soi ++ text) × SpellsItems items text
-behind_front [] bytes s = ([], s, refl)
-behind_front (item ∷ items) bytes s =
-    let h = behind_front items s.0 s.3 in
+pub after_front : (items : List Item) (bytes : List ℕ) → SpellsFront items bytes → (text : List ℕ) × (bytes ≡ soi ++ text) × SpellsItems items text
+after_front [] bytes s = ([], s, refl)
+after_front (item ∷ items) bytes s =
+    let h = after_front items s.0 s.3 in
     (h.0 ++ s.1, s.2 ∙ ap (λ l. l ++ s.1) h.1 ∙ append_assoc soi h.0 s.1, (h.0, s.1, refl, h.2, s.4))
 
 pub before_items : (items : List Item) (text : List ℕ) → SpellsItems items text → SpellsFront items (soi ++ text)
@@ -31,7 +31,7 @@ item_of s = segment s.0 s.1
 abbrev pub items_of : List Segment → List Item
 items_of xs = map item_of xs
 
--- whether they are segments alone
+-- whether they are only segments
 abbrev pub AreSegments : List Item → Type 0
 AreSegments items = items ≡ items_of (segments_of items)
 
@@ -39,16 +39,16 @@ pub segments_of_items : (xs : List Segment) → segments_of (items_of xs) ≡ xs
 segments_of_items [] = refl
 segments_of_items (x ∷ xs) = ap (λ l. x ∷ l) (segments_of_items xs)
 
--- items that are the segments alone are spelled as they are
+-- items that are only the segments are spelled as they are
 pub spelled_alone : (xs : List Segment) (bytes : List ℕ) → SpellsFront (items_of xs) bytes → SpellsSegments xs bytes
 spelled_alone [] bytes s = s
 spelled_alone (x ∷ xs) bytes s = (s.0, s.1, s.2, spelled_alone xs s.0 s.3, s.4.0, s.4.1)
 
--- The bytes b of the items go on from the bytes a of segments, by further items.
+-- The bytes b of the items continue the bytes a of segments, by further items.
 abbrev pub ItemsGoOn : List Segment → List ℕ → List Item → List ℕ → Type 0
 ItemsGoOn xs a items b = (more : List Item) × (text : List ℕ) × (items ≡ more ++ items_of xs) × (b ≡ a ++ text) × SpellsItems more text
 
--- The items are segments alone, and xs goes on from them; or the items go on from xs.
+-- The items are only segments, and xs continues them; or the items continue xs.
 abbrev pub OneGoesOn : List Segment → List ℕ → List Item → List ℕ → Type 0
 OneGoesOn xs a items b = (AreSegments items × GoesOn (segments_of items) b xs a) ⊎ ItemsGoOn xs a items b
 
@@ -64,7 +64,7 @@ no_scan (x ∷ xs) ys s e h = no_scan xs ys s (of (x.0 == 0xda) (has_scan (xs ++
     of true b f = grind arith
     of false b f = f
 
--- the item that stands where the next segment does
+-- the item that is at the place of the next segment
 next_item : (item : Item) (items : List Item) (xs later : List Segment) (s : Segment) (a b done here front rest u v : List ℕ)
     → has_scan xs ≡ false → xs ≡ later ++ s ∷ [] ++ segments_of items → a ≡ done ++ (front ++ rest) → b ≡ done ++ here → AreSegments items
     → SpellsSegment s.0 s.1 front → SpellsMore later rest → SpellsItem item here → front ++ (rest ++ u) ≡ here ++ v → OneGoesOn xs a (item ∷ items) b
@@ -84,11 +84,11 @@ next_item (scan contents intervals) items xs later s a b done here front rest u 
     let h = segment_once s.0 0xda s.1 contents front t.0 (rest ++ u) (t.1 ++ v) sp t.3 (e ∙ ap (λ l. l ++ v) t.2 ∙ append_assoc t.0 t.1 v) in
     absurd (no_scan later (segments_of items) s (ap has_scan (sym same) ∙ none) h.0)
 
--- of segments before the first scan and of items that begin the same bytes the one goes on from the other
-pub items_behind : (xs : List Segment) (items : List Item) (a b u v : List ℕ) → SpellsMore xs a → has_scan xs ≡ false → SpellsItems items b → a ++ u ≡ b ++ v → OneGoesOn xs a items b
-items_behind xs [] a b u v s none t e = inl (refl, (xs, a, sym (append-nil xs), ap (λ l. l ++ a) (sym t), s))
-items_behind xs (item ∷ items) a b u v s none t e =
-    by (items_behind xs items a t.0 u (t.1 ++ v) s none t.3 (e ∙ ap (λ l. l ++ v) t.2 ∙ append_assoc t.0 t.1 v))
+-- of segments before the first scan and of items that begin the same bytes one continues the other
+pub items_after : (xs : List Segment) (items : List Item) (a b u v : List ℕ) → SpellsMore xs a → has_scan xs ≡ false → SpellsItems items b → a ++ u ≡ b ++ v → OneGoesOn xs a items b
+items_after xs [] a b u v s none t e = inl (refl, (xs, a, sym (append-nil xs), ap (λ l. l ++ a) (sym t), s))
+items_after xs (item ∷ items) a b u v s none t e =
+    by (items_after xs items a t.0 u (t.1 ++ v) s none t.3 (e ∙ ap (λ l. l ++ v) t.2 ∙ append_assoc t.0 t.1 v))
   where
     further : (more : List Segment) (text : List ℕ) → AreSegments items → xs ≡ more ++ segments_of items → a ≡ t.0 ++ text → SpellsMore more text → OneGoesOn xs a (item ∷ items) b
     further [] text all same cut m =

@@ -1,4 +1,4 @@
--- Tables put into slots are those in force: the last told of a slot, and before any the older ones.
+-- Tables put into slots are those in force: the last one of a slot, and if there is none the older ones.
 use Rattle.std.proofs.Common.{◌≡◌, ℕ, zero, suc, ◌/◌, ◌%◌, ◌<◌, ◌≤◌, Bool, true, false, cond, not, List, [], ◌∷◌, ◌++◌, length, drop, refl, sym, ap, ◌∙◌, subst, arith, Option, Some, None, ◌==◌, ◌&&◌, Ok, Err}
 use Rattle.std.specs.Prelude.{◌||◌, reverse, find, nat_lt, option_map, slice_get, slice_set}
 use Rattle.std.specs.Option.{option_or}
@@ -64,7 +64,7 @@ found_append {D = D} test value xs ys = ap (option_map value) (find-append test 
     by None b = refl
     by (Some d) b = refl
 
--- one more definition before the others
+-- one more definition before the remaining ones
 found_first : {D X : Type 0} (test : D → Bool) (value : D → X) (d : D) (ds : List D) (old : Option X)
     → option_or (found test value (reverse ds)) (cond (test d) (Some (value d)) old) ≡ option_or (found test value (reverse (d ∷ ds))) old
 found_first {X = X} test value d ds old =
@@ -149,7 +149,7 @@ ac_after slots (d ∷ ds) j has are =
     ∙ ap (option_or (found (of_slot 1 j) of_huffman (reverse ds))) (ac_put slots d.class d.slot d.table j are.0.class (omega (arith, are.0.slot, has.ac)))
     ∙ found_first (of_slot 1 j) of_huffman d ds (huffman_in slots.ac j)
 
--- the tables that are told have class 0 or 1 and a slot below 4
+-- the tables of a segment have class 0 or 1 and a slot below 4
 one_due : (tc : ℕ) (bytes : List ℕ) (d : HuffmanDefinition) → huffman_table_of tc bytes ≡ Ok d → IsInSlot d
 unfolding huffman_table_of
 one_due tc bytes d e =
@@ -187,14 +187,14 @@ all_due (suc most) (tc ∷ bytes) ds e = first (huffman_table_of tc bytes) (λ d
     first (Ok d) is are h = others d (is d refl) rest are h
     first (Err fault) is are h = cc
 
--- The slots hold the Huffman tables that are in force behind these segments.
+-- The slots hold the Huffman tables that are in force after these segments.
 pub record HoldHuffmans (slots : HuffmanSlots) (before : List Segment) : Type 0 where
   pub dc_slots : length slots.dc ≡ 4
   pub ac_slots : length slots.ac ≡ 4
   pub dc : (slot : ℕ) → huffman_in slots.dc slot ≡ huffman_in_force before 0 slot
   pub ac : (slot : ℕ) → huffman_in slots.ac slot ≡ huffman_in_force before 1 slot
 
--- with a segment of tables more
+-- with one more segment of tables
 pub huffmans_put : (slots : HuffmanSlots) (before : List Segment) (contents : List ℕ) (new : HuffmanSlots) → told.huffmans_told slots contents ≡ Ok new → HoldHuffmans slots before
     → (fault_in (huffman_tables contents) ≡ None) × HoldHuffmans new ((0xc4, contents) ∷ before)
 huffmans_put slots before contents new e holds = by (huffman_tables contents) refl e
@@ -251,7 +251,7 @@ quants_after slots (d ∷ ds) j four are =
     ∙ ap (option_or (found (in_place j) of_quants (reverse ds))) (quant_put slots d.0 j d.1 (omega (arith, are.0, four)))
     ∙ found_first (in_place j) of_quants d ds (quant_in slots j)
 
--- the tables that are told have a slot below 4
+-- the tables of a segment have a slot below 4
 one_slot : (pt : ℕ) (bytes : List ℕ) (d : ℕ × QuantTable) → quant_table_of pt bytes ≡ Ok d → d.0 < 4
 unfolding quant_table_of
 one_slot pt bytes d e =
@@ -285,12 +285,12 @@ all_slots (suc most) (pt ∷ bytes) ds e = first (quant_table_of pt bytes) (λ d
     first (Ok d) is are h = others d (is d refl) rest are h
     first (Err fault) is are h = cc
 
--- The slots hold the quantisation tables that are in force behind these segments.
+-- The slots hold the quantisation tables that are in force after these segments.
 pub record HoldQuants (slots : Slots) (before : List Segment) : Type 0 where
   pub quant_slots : length slots ≡ 4
   pub quants : (slot : ℕ) → quant_in slots slot ≡ quant_in_force before slot
 
--- with a segment of tables more
+-- with one more segment of tables
 pub quants_put : (slots : Slots) (before : List Segment) (contents : List ℕ) (new : Slots) → quants.quants_told slots contents ≡ Ok new → HoldQuants slots before
     → (fault_in (quant_tables contents) ≡ None) × HoldQuants new ((0xdb, contents) ∷ before)
 quants_put slots before contents new e holds = by (quant_tables contents) refl e

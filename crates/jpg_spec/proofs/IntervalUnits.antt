@@ -1,8 +1,8 @@
--- The units of an interval in work: new ones in a sequential scan, of zero bands in a first pass.
+-- The units of the current interval: new ones in a sequential scan, and with zero bands in a first pass.
 use Rattle.std.proofs.Common.{◌≡◌, ℕ, ◌+◌, ◌-◌, ◌*◌, ◌≤◌, true, false, ◌==◌, List, [], ◌∷◌, ◌++◌, refl, sym, ap, ◌∙◌, subst, arith}
 use Rattle.std.specs.Prelude.{◌||◌, map, flat_map}
 use Rattle.std.proofs.lemmas.Bool.Decides.{nat_tests}
-use Rattle.jpg_spec.specs.Lists.{is_among, below, chunks, joined}
+use Rattle.jpg_spec.specs.Lists.{is_among, below, chunks, joined, is_distinct}
 use Rattle.jpg_spec.specs.Geometry.{Frame, is_progressive, component_at, blocks_across, blocks_down, mcus_across, mcus_down, place, mcu_part, units}
 use Rattle.jpg_spec.specs.Segments.{ScanHead, head_components}
 use Rattle.jpg_spec.specs.Elements.{UnitLeft, zeros, new_unit}
@@ -12,7 +12,6 @@ use Rattle.jpg_spec.specs.Items.{segments_of}
 use Rattle.jpg_spec.specs.FirstFault.{HoldsAll}
 use Rattle.jpg_spec.specs.ScanReading.{ScanPlace, scan_at, ScanAt}
 use Rattle.jpg_spec.specs.PictureInWork.{AreDistinct}
-use Rattle.jpg_spec.specs.Lists.{is_distinct}
 use Rattle.jpg_spec.specs.declared.frame.Limits.{Limits}
 use Rattle.jpg_spec.specs.declared.frame.Place.{Place}
 use Rattle.jpg_spec.proofs.BlocksOnce.{joined_chunks}
@@ -34,9 +33,9 @@ among_front : (parts : List ℕ) (a b : List Place) → AllAmong parts (a ++ b) 
 among_front parts [] b s = tt
 among_front parts (p ∷ a) b s = (s.0, among_front parts a b s.1)
 
-among_behind : (parts : List ℕ) (a b : List Place) → AllAmong parts (a ++ b) → AllAmong parts b
-among_behind parts [] b s = s
-among_behind parts (p ∷ a) b s = among_behind parts a b s.1
+among_after : (parts : List ℕ) (a b : List Place) → AllAmong parts (a ++ b) → AllAmong parts b
+among_after parts [] b s = s
+among_after parts (p ∷ a) b s = among_after parts a b s.1
 
 among_flat : (parts : List ℕ) (f : ℕ → List Place) (xs : List ℕ) → ((x : ℕ) → AllAmong parts (f x)) → AllAmong parts (flat_map f xs)
 among_flat parts f [] h = tt
@@ -68,7 +67,7 @@ units_among f (i ∷ j ∷ parts) =
     among_flat (i ∷ j ∷ parts) (λ my. flat_map (λ mx. flat_map (mcu_part f mx my) (i ∷ j ∷ parts)) (below (mcus_across f))) (below (mcus_down f))
     (λ my. among_flat (i ∷ j ∷ parts) (λ mx. flat_map (mcu_part f mx my) (i ∷ j ∷ parts)) (below (mcus_across f)) (λ mx. among_parts (i ∷ j ∷ parts) f mx my (i ∷ j ∷ parts) (λ k e. e)))
 
--- THE INTERVALS DUE are the last ones
+-- THE INTERVALS that are left are the last ones
 due_split : (s : Scan) (before : Blocks) (all : List (List Place)) (done : List (List ℕ)) (due : List (List Place)) → HoldsAll s before all done due → (front : List (List Place)) × (all ≡ front ++ due)
 due_split s before all [] due h = ([], h)
 due_split s before [] (c ∷ done) due h = absurd h
@@ -87,11 +86,11 @@ pub places_among : (limits : Limits) (bytes : List ℕ) (p : ScanPlace) (tail : 
 places_among limits bytes p tail w =
     let parts = head_components (head_of limits p) in
     let cut = places_cut limits bytes p tail w in
-    among_front parts p.places cut.1 (among_behind parts cut.0 (p.places ++ cut.1) (subst (λ l. AllAmong parts l) cut.2 (units_among (frame_of limits (segments_of p.items)) parts)))
+    among_front parts p.places cut.1 (among_after parts cut.0 (p.places ++ cut.1) (subst (λ l. AllAmong parts l) cut.2 (units_among (frame_of limits (segments_of p.items)) parts)))
 
 -- THE LAWS
 
--- no block stands twice in an interval
+-- no block is twice in an interval
 pub places_distinct : (limits : Limits) (bytes : List ℕ) (p : ScanPlace) (tail : List ℕ) → ScanAt limits bytes p tail → is_distinct (head_components (head_of limits p)) ≡ true → AreDistinct p.places
 places_distinct limits bytes p tail w e =
     let cut = places_cut limits bytes p tail w in
@@ -108,7 +107,7 @@ sequential_units limits bytes p tail w plain =
     map_same (head_components (head_of limits p)) (unit_at (scan_at limits p) p.blocks) (λ q. new_unit q.component) p.places (places_among limits bytes p tail w)
     (λ q e. sequential_unit limits p.items p.blocks p.contents q w.leads w.allowed.1 plain e)
 
--- those of a first pass have zeros alone
+-- those of a first pass have only zeros
 abbrev pub first_unit : Scan → ℕ → UnitLeft
 first_unit s i = record { component = i; has_dc = s.ss == 0; old = zeros (s.se + 1 - s.ss) }
 

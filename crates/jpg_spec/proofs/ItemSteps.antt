@@ -1,4 +1,5 @@
--- STEPS between items: what the bytes of a segment come to, where the reader of segments was sent them without the data of scans.
+-- STEPS between items: the result of the bytes of a segment, if the reader of segments was sent them without the data
+-- of scans.
 use Rattle.std.proofs.Common.{◌≡◌, ℕ, suc, ◌+◌, ◌<◌, ◌≤◌, Bool, true, false, List, [], ◌∷◌, ◌++◌, length, refl, sym, ap, ◌∙◌, subst, arith, inl, inr, ⊎_elim, Some, None, ◌==◌}
 use Rattle.std.specs.Prelude.{◌⊎◌, ◌||◌, replicate, nat_lt}
 use Rattle.std.specs.Int.{to_be_bytes, w16}
@@ -6,19 +7,19 @@ use Rattle.std.proofs.lemmas.Bool.Decides.{nat_tests}
 use Rattle.std.proofs.lemmas.List.{append_assoc, append-nil, append_cancel_left, replicate-append-replicate}
 use Rattle.jpg_spec.specs.Lists.{chunks}
 use Rattle.jpg_spec.specs.Scan.{Blocks, ScanMeans}
-use Rattle.jpg_spec.specs.Markers.{Segment, Rule, soi, SpellsMarker, SpellsSegment, SpellsSegments, code_fault, is_frame_code, is_within, kept_rule, Between, NoMarkerBytes, BeginsSegment, TailShows, PartOfSegment}
+use Rattle.jpg_spec.specs.Markers.{Segment, Rule, soi, SpellsMarker, SpellsSegment, SpellsSegments, code_fault, is_frame_code, is_within, kept_rule, Between, NoMarkerBytes, BeginsSegment, TailReveals, PartOfSegment}
 use Rattle.jpg_spec.specs.InForce.{frame_of}
 use Rattle.jpg_spec.specs.History.{is_complete}
 use Rattle.jpg_spec.specs.Segments.{two_bytes}
 use Rattle.jpg_spec.specs.Items.{Item, segment, segments_of, ends_in_scan, contents_rule}
 use Rattle.jpg_spec.specs.FileMeaning.{Leads, no_blocks, scan_after, meaning_of, Means}
-use Rattle.jpg_spec.specs.FirstFault.{Shows}
+use Rattle.jpg_spec.specs.FirstFault.{Reveals}
 use Rattle.jpg_spec.specs.declared.fault.Fault.{Fault}
 use Rattle.jpg_spec.specs.declared.fault.Fault.TheVariants.{NoMarker, MissingComponent}
 use Rattle.jpg_spec.specs.declared.frame.Limits.{Limits}
 use Rattle.jpg_spec.specs.declared.frame.Place.{Place}
 use Rattle.jpg_spec.proofs.MarkersOnce.{segment_once, byte_no_marker, stuffed_no_marker}
-use Rattle.jpg_spec.specs.FileStands.{FileStands}
+use Rattle.jpg_spec.specs.UnfinishedFile.{UnfinishedFile}
 use Rattle.jpg_spec.specs.ScanReading.{LeadingMarker, Beside, ScanPlace, scan_at, scan_item, ScanAt}
 use Rattle.jpg_spec.proofs.ScanSteps.{scan_ends, first_place}
 use Rattle.jpg_spec.proofs.Common.{same_of}
@@ -33,8 +34,8 @@ fill_marker fill code marker s =
     let z : fill + suc s.0 ≡ suc (fill + s.0) = omega arith in
     (fill + s.0, ap (λ l. replicate fill 255 ++ l) s.1 ∙ filled fill (suc s.0) (code ∷ []) ∙ ap (λ n. replicate n 255 ++ code ∷ []) z, s.2)
 
-behind_fill : (fill : ℕ) (tail marker more : List ℕ) → tail ≡ marker ++ more → replicate fill 255 ++ tail ≡ (replicate fill 255 ++ marker) ++ more
-behind_fill fill tail marker more e = ap (λ l. replicate fill 255 ++ l) e ∙ sym (append_assoc (replicate fill 255) marker more)
+after_fill : (fill : ℕ) (tail marker more : List ℕ) → tail ≡ marker ++ more → replicate fill 255 ++ tail ≡ (replicate fill 255 ++ marker) ++ more
+after_fill fill tail marker more e = ap (λ l. replicate fill 255 ++ l) e ∙ sym (append_assoc (replicate fill 255) marker more)
 
 pub fill_begin : (fill : ℕ) (before : List Segment) (code : ℕ) (marker : List ℕ) → BeginsSegment before code marker → BeginsSegment before code (replicate fill 255 ++ marker)
 fill_begin fill before code marker s = (fill_marker fill code marker s.0, s.1, s.2)
@@ -44,15 +45,15 @@ fill_segment fill code contents bytes s = (
   replicate fill 255 ++ s.0,
   fill_marker fill code s.0 s.1,
   s.2,
-  behind_fill fill bytes s.0 (to_be_bytes w16 (length contents + 2) ++ contents) (s.3 ∙ append_assoc s.0 (to_be_bytes w16 (length contents + 2)) contents)
+  after_fill fill bytes s.0 (to_be_bytes w16 (length contents + 2) ++ contents) (s.3 ∙ append_assoc s.0 (to_be_bytes w16 (length contents + 2)) contents)
       ∙ sym (append_assoc (replicate fill 255 ++ s.0) (to_be_bytes w16 (length contents + 2)) contents),
 )
 
-fill_shows : (fill : ℕ) (rule : Rule) (before : List Segment) (fault : Fault) (tail : List ℕ) → TailShows rule before fault tail → TailShows rule before fault (replicate fill 255 ++ tail)
+fill_shows : (fill : ℕ) (rule : Rule) (before : List Segment) (fault : Fault) (tail : List ℕ) → TailReveals rule before fault tail → TailReveals rule before fault (replicate fill 255 ++ tail)
 fill_shows fill rule before fault tail (inl s) = inl (s.0, fill_marker fill s.0 tail s.1, s.2)
 fill_shows fill rule before fault tail (inr (inl s)) =
     let k = s.1 in
-    inr (inl (s.0, (k.0, replicate fill 255 ++ k.1, k.2, k.3, fill_begin fill before k.0 k.1 k.4, behind_fill fill tail k.1 (k.2 ∷ k.3 ∷ []) k.5, k.6)))
+    inr (inl (s.0, (k.0, replicate fill 255 ++ k.1, k.2, k.3, fill_begin fill before k.0 k.1 k.4, after_fill fill tail k.1 (k.2 ∷ k.3 ∷ []) k.5, k.6)))
 fill_shows fill rule before fault tail (inr (inr s)) = inr (inr (s.0, s.1, fill_segment fill s.0 s.1 tail s.2, s.3, s.4, s.5))
 
 pub fill_part : (fill : ℕ) (before : List Segment) (tail : List ℕ) → PartOfSegment before tail → PartOfSegment before (replicate fill 255 ++ tail)
@@ -64,10 +65,10 @@ fill_part fill before tail (inr s) = inr (s.0, replicate fill 255 ++ s.1, fill_b
         → ((replicate fill 255 ++ tail ≡ replicate fill 255 ++ s.1) × (is_frame_code s.0 ≡ false)) ⊎ (((high : ℕ) × (replicate fill 255 ++ tail ≡ (replicate fill 255 ++ s.1) ++ high ∷ []) × (high < 256))
         ⊎ ((high : ℕ) × (low : ℕ) × (contents : List ℕ) × (replicate fill 255 ++ tail ≡ (replicate fill 255 ++ s.1) ++ high ∷ low ∷ contents) × (high < 256) × (low < 256) × (length contents + 2 < two_bytes high low)))
     by (inl h) = inl (ap (λ l. replicate fill 255 ++ l) h.0, h.1)
-    by (inr (inl h)) = inr (inl (h.0, behind_fill fill tail s.1 (h.0 ∷ []) h.1, h.2))
-    by (inr (inr h)) = inr (inr (h.0, h.1, h.2, behind_fill fill tail s.1 (h.0 ∷ h.1 ∷ h.2) h.3, h.4, h.5, h.6))
+    by (inr (inl h)) = inr (inl (h.0, after_fill fill tail s.1 (h.0 ∷ []) h.1, h.2))
+    by (inr (inr h)) = inr (inr (h.0, h.1, h.2, after_fill fill tail s.1 (h.0 ∷ h.1 ∷ h.2) h.3, h.4, h.5, h.6))
 
--- THE RULE for kept markers, which the reader of segments judges by, is one for contents
+-- THE RULE for kept markers, which the reader of segments checks, is one for contents
 
 pub not_this : (code n : ℕ) → (code == 0xfe || is_within 0xe0 0xef code) ≡ true → nat_lt n 0xe0 ≡ true → (code == n) ≡ false
 not_this code n kept low = by (code == n) refl
@@ -101,7 +102,7 @@ kept_is_rule limits before code contents fault e =
       not_this code 0xc2 (kept limits before code contents fault e) refl,
     ) e
 
-kept_shows : (limits : Limits) (before : List Segment) (fault : Fault) (tail : List ℕ) → TailShows (kept_rule limits) before fault tail → TailShows (contents_rule limits) before fault tail
+kept_shows : (limits : Limits) (before : List Segment) (fault : Fault) (tail : List ℕ) → TailReveals (kept_rule limits) before fault tail → TailReveals (contents_rule limits) before fault tail
 kept_shows limits before fault tail (inl s) = inl s
 kept_shows limits before fault tail (inr (inl s)) = inr (inl s)
 kept_shows limits before fault tail (inr (inr s)) = inr (inr (s.0, s.1, s.2, s.3, s.4, kept_is_rule limits before s.0 s.1 fault s.5))
@@ -115,11 +116,11 @@ same_front (x ∷ xs) a b u v s t e =
     let k = segment_once x.0 x.0 x.1 x.1 s.1 t.1 u v s.4 t.4 h.1 in
     (s.2 ∙ ap (λ l. l ++ s.1) h.0 ∙ ap (λ l. t.0 ++ l) k.2 ∙ sym t.2, k.3)
 
--- so what the reader of segments says of its tail is said of the tail that stands here
+-- so what the reader of segments finds of its tail is true of the tail here
 pub same_tail : (rule : Rule) (sent : List ℕ) (before : List Segment) (tail other : List ℕ) → Between rule sent before tail → Between rule sent before other → tail ≡ other
 same_tail rule sent before tail other v w = (same_front before v.front w.front tail other v.spelled w.spelled (sym v.cut ∙ w.cut)).1
 
--- BYTES MORE
+-- MORE BYTES
 
 pub beside_start : (limits : Limits) (rule : Rule) → Beside limits rule soi soi [] []
 beside_start limits rule = record {
@@ -158,28 +159,28 @@ no_marker_begins tail (inr s) b = stuffed_no_marker s.0 b.code b.marker [] b.res
 
 -- the fault that the reader of segments finds
 pub segment_shown : (limits : Limits) (sent bytes : List ℕ) (items : List Item) (fault : Fault) (tail : List ℕ) → Beside limits (kept_rule limits) sent bytes items tail
-    → ((fault ≡ NoMarker) × NoMarkerBytes tail) ⊎ TailShows (kept_rule limits) (segments_of items) fault tail → Shows limits fault bytes
+    → ((fault ≡ NoMarker) × NoMarkerBytes tail) ⊎ TailReveals (kept_rule limits) (segments_of items) fault tail → Reveals limits fault bytes
 segment_shown limits sent bytes items fault tail w (inl s) = by w.plain
   where
-    by : ((w.fill ≡ 0) × (ends_in_scan items ≡ false)) ⊎ LeadingMarker tail → Shows limits fault bytes
+    by : ((w.fill ≡ 0) × (ends_in_scan items ≡ false)) ⊎ LeadingMarker tail → Reveals limits fault bytes
     by (inl p) = inr (inl (items, replicate w.fill 255 ++ tail, w.behind, inl (s.0, p.1, subst (λ n. NoMarkerBytes (replicate n 255 ++ tail)) (sym p.0) s.1)))
     by (inr b) = absurd (no_marker_begins tail s.1 b)
 segment_shown limits sent bytes items fault tail w (inr s) =
     inr (inl (items, replicate w.fill 255 ++ tail, w.behind, inr (inl (fill_shows w.fill (contents_rule limits) (segments_of items) fault tail (kept_shows limits (segments_of items) fault tail s)))))
 
--- the fault of the contents of a whole segment
+-- the fault of the contents of a complete segment
 pub contents_shown : (limits : Limits) (rule : Rule) (sent bytes : List ℕ) (items : List Item) (code : ℕ) (contents : List ℕ) (fault : Fault) (tail : List ℕ) → Beside limits rule sent bytes items tail
-    → SpellsSegment code contents tail → code_fault (segments_of items) code ≡ None → (code ≡ 0xd9 → ⊥) → contents_rule limits (segments_of items) code contents ≡ Some fault → Shows limits fault bytes
+    → SpellsSegment code contents tail → code_fault (segments_of items) code ≡ None → (code ≡ 0xd9 → ⊥) → contents_rule limits (segments_of items) code contents ≡ Some fault → Reveals limits fault bytes
 contents_shown limits rule sent bytes items code contents fault tail w s allowed other broken =
     inr (inl (items, replicate w.fill 255 ++ tail, w.behind, inr (inl (inr (inr (code, contents, fill_segment w.fill code contents tail s, allowed, other, broken))))))
 
 -- a part of a segment
 pub part_stands : (limits : Limits) (rule : Rule) (sent bytes : List ℕ) (items : List Item) (tail : List ℕ) → Beside limits rule sent bytes items tail
-    → ((code : ℕ) × BeginsSegment (segments_of items) code tail) ⊎ PartOfSegment (segments_of items) tail → FileStands limits bytes
+    → ((code : ℕ) × BeginsSegment (segments_of items) code tail) ⊎ PartOfSegment (segments_of items) tail → UnfinishedFile limits bytes
 part_stands limits rule sent bytes items tail w (inl s) = inr (inl (items, replicate w.fill 255 ++ tail, w.behind, inl (s.0, fill_begin w.fill (segments_of items) s.0 tail s.1)))
 part_stands limits rule sent bytes items tail w (inr s) = inr (inl (items, replicate w.fill 255 ++ tail, w.behind, inr (fill_part w.fill (segments_of items) tail s)))
 
--- a whole segment that breaks no rule, and is no scan header
+-- a complete segment that breaks no rule, and is no scan header
 pub segment_passed : (limits : Limits) (rule : Rule) (sent bytes : List ℕ) (items : List Item) (code : ℕ) (contents tail : List ℕ) → Beside limits rule sent bytes items tail → SpellsSegment code contents tail
     → code_fault (segments_of items) code ≡ None → (code ≡ 0xd9 → ⊥) → (code ≡ 0xda → ⊥) → rule (segments_of items) code contents ≡ None → contents_rule limits (segments_of items) code contents ≡ None
     → Beside limits rule sent bytes (segment code contents ∷ items) []
@@ -221,7 +222,7 @@ scan_begun limits rule sent bytes items blocks contents tail places later w lead
       due = some;
     }
 
--- the marker behind a scan's last interval is sent without its fill bytes
+-- the marker after a scan's last interval is sent without its fill bytes
 pub scan_left : (limits : Limits) (rule : Rule) (sent bytes : List ℕ) (p : ScanPlace) (after : Blocks) (fill code : ℕ) → ScanAt limits bytes p (replicate (suc fill) 255 ++ code ∷ []) → SpellsMarker code (255 ∷ code ∷ [])
     → ScanMeans (scan_at limits p) (p.done ++ p.coded ∷ []) p.blocks after → Between rule sent ((0xda, p.contents) ∷ segments_of p.items) []
     → Beside limits rule (sent ++ 255 ∷ code ∷ []) bytes (scan_item p ∷ p.items) (255 ∷ code ∷ []) × Leads limits (scan_item p ∷ p.items) after
@@ -249,7 +250,7 @@ scan_left limits rule sent bytes p after fill code w marker means between =
       (p.blocks, w.allowed.0, w.allowed.1, w.leads, means),
     )
 
--- EOI, where each component was in a scan
+-- EOI, if each component was in a scan
 pub file_whole : (limits : Limits) (rule : Rule) (sent bytes : List ℕ) (items : List Item) (blocks : Blocks) (tail : List ℕ) → Beside limits rule sent bytes items tail → Leads limits items blocks
     → SpellsMarker 0xd9 tail → code_fault (segments_of items) 0xd9 ≡ None → is_complete (frame_of limits (segments_of items)) (segments_of items) ≡ true → length bytes ≤ limits.input
     → Means limits bytes (meaning_of (frame_of limits (segments_of items)) (segments_of items) blocks)
@@ -271,6 +272,6 @@ file_whole limits rule sent bytes items blocks tail w leads end framed complete 
 
 -- or not
 pub missing_shown : (limits : Limits) (rule : Rule) (sent bytes : List ℕ) (items : List Item) (tail : List ℕ) → Beside limits rule sent bytes items tail
-    → SpellsMarker 0xd9 tail → code_fault (segments_of items) 0xd9 ≡ None → is_complete (frame_of limits (segments_of items)) (segments_of items) ≡ false → Shows limits MissingComponent bytes
+    → SpellsMarker 0xd9 tail → code_fault (segments_of items) 0xd9 ≡ None → is_complete (frame_of limits (segments_of items)) (segments_of items) ≡ false → Reveals limits MissingComponent bytes
 missing_shown limits rule sent bytes items tail w end framed incomplete =
     inr (inl (items, replicate w.fill 255 ++ tail, w.behind, inr (inr (refl, fill_marker w.fill 0xd9 tail end, framed, incomplete))))

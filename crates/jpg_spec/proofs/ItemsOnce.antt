@@ -1,4 +1,4 @@
--- Of two lists of items that begin the same bytes and break no rule, one goes on from the other.
+-- Of two lists of items that begin the same bytes and break no rule, one continues the other.
 use Rattle.std.proofs.Common.{◌≡◌, ℕ, ◌+◌, List, [], ◌∷◌, ◌++◌, refl, sym, ap, ◌∙◌, subst, inl, inr, ⊎_elim}
 use Rattle.std.specs.Prelude.{◌⊎◌}
 use Rattle.std.proofs.lemmas.List.{append_assoc, append-nil, append_cancel_left, append_cancel_right}
@@ -11,14 +11,14 @@ use Rattle.jpg_spec.specs.FirstFault.{HoldsAll}
 use Rattle.jpg_spec.specs.declared.frame.Place.{Place}
 use Rattle.jpg_spec.specs.declared.frame.Limits.{Limits}
 use Rattle.jpg_spec.proofs.MarkersOnce.{segment_once}
-use Rattle.jpg_spec.proofs.HeadersOnce.{SpellsItems, behind_front}
-use Rattle.jpg_spec.specs.FileStands.{Completes}
+use Rattle.jpg_spec.proofs.HeadersOnce.{SpellsItems, after_front}
+use Rattle.jpg_spec.specs.UnfinishedFile.{Completes}
 use Rattle.jpg_spec.proofs.ScansOnce.{At}
 use Rattle.jpg_spec.proofs.ScansExclude.{ended_once}
 use Rattle.jpg_spec.proofs.TablesInForce.{scan_sound}
 use Rattle.jpg_spec.proofs.BlocksOnce.{blocks_once}
 
--- A WHOLE SCAN ends with its last interval, which is complete
+-- A COMPLETE SCAN ends with its last interval, which is complete
 
 pub record EndsAt (s : Scan) (before : Blocks) (all : List (List Place)) (intervals : List (List ℕ)) : Type 0 where
   pub done : List (List ℕ)
@@ -75,7 +75,7 @@ scans_once limits items contents m n text text' u v old blocks old' blocks' t t'
     (end_place s old blocks m text t k) (end_place s old blocks' n text' t' k1) e refl refl h.completes h'.completes in
     (h.are ∙ ap (λ d. d ++ h.last ∷ []) r.0 ∙ ap (λ c. h'.done ++ c ∷ []) r.1 ∙ sym h'.are, r.2)
 
--- bytes begin with one item at most, behind these items
+-- bytes begin with at most one item, after these items
 pub item_once : (limits : Limits) (x y : Item) (items : List Item) (front here u v : List ℕ) (blocks blocks' : Blocks) → SpellsItem x front → SpellsItem y here
     → Leads limits (x ∷ items) blocks → Leads limits (y ∷ items) blocks' → front ++ u ≡ here ++ v → (x ≡ y) × (u ≡ v)
 item_once limits (segment c xs) (segment d ys) items front here u v blocks blocks' s t l l' e =
@@ -92,7 +92,7 @@ item_once limits (scan xs m) (scan ys n) items front here u v blocks blocks' s t
 
 -- LISTS OF ITEMS, the newest first
 
--- The items' (spelled b, with v behind them) go on from the items (spelled a, with u behind them).
+-- The items' (spelled b, with v after them) continue the items (spelled a, with u after them).
 pub record ItemsGoOn (items : List Item) (a u : List ℕ) (items' : List Item) (b v : List ℕ) : Type 0 where
   pub more : List Item
   pub text : List ℕ
@@ -192,9 +192,9 @@ items_once limits items (y ∷ ys) a b u v blocks blocks' s t l l' e =
           behind = sym h.1;
         })
 
--- WHAT STANDS BEHIND ITEMS, of two lists of them that begin the same bytes
+-- WHAT FOLLOWS ITEMS, of two lists of them that begin the same bytes
 
--- Behind the items, with u behind them, the items' have a further one.
+-- After the items, with u after them, the items' have a further one.
 pub record HasNext (limits : Limits) (items : List Item) (u : List ℕ) (items' : List Item) (v : List ℕ) : Type 0 where
   pub first : Item
   pub later : List Item
@@ -237,8 +237,8 @@ next_of limits items a u items' b v blocks l g = by g.more g.joined g.text g.spe
 pub meet : (limits : Limits) (items items' : List Item) (a b u v : List ℕ) (blocks blocks' : Blocks) → SpellsFront items a → SpellsFront items' b → Leads limits items blocks → Leads limits items' blocks'
     → a ++ u ≡ b ++ v → Meets limits items u items' v
 meet limits items items' a b u v blocks blocks' s t l l' e =
-    let h = behind_front items a s in
-    let k = behind_front items' b t in
+    let h = after_front items a s in
+    let k = after_front items' b t in
     let from : h.0 ++ u ≡ k.0 ++ v = append_cancel_left soi (h.0 ++ u) (k.0 ++ v)
     (sym (append_assoc soi h.0 u) ∙ ap (λ z. z ++ u) (sym h.1) ∙ e ∙ ap (λ z. z ++ v) k.1 ∙ append_assoc soi k.0 v) in
     ⊎_elim

@@ -1,27 +1,16 @@
--- The markers that are passed on, a JFIF header and comments among them: their text, and that they break no rule. How many an input keeps.
-use Rattle.std.proofs.Common.{◌≡◌, ℕ, ◌+◌, ◌<◌, ◌≤◌, Bool, true, false, cond, not, List, [], ◌∷◌, ◌++◌, length, refl, sym, ap, ◌∙◌, subst, arith, None, Some, ◌==◌, ◌&&◌}
-use Rattle.std.specs.Prelude.{◌||◌, reverse, nat_lt}
-use Rattle.std.proofs.lemmas.List.{append_assoc, append-nil, reverse-append}
-use Rattle.std.proofs.lemmas.Grind.{flat_map-append}
+-- The markers that are passed on, including a JFIF header and comments: their text, and that they break no rule. The
+-- number that an input keeps.
+use Rattle.std.proofs.Common.{◌≡◌, ℕ, ◌+◌, ◌<◌, ◌≤◌, Bool, true, false, cond, not, List, [], ◌∷◌, length, refl, sym, ap, ◌∙◌, subst, arith, None, Some, ◌==◌, ◌&&◌}
+use Rattle.std.specs.Prelude.{◌||◌, nat_lt}
 use Rattle.jpg_spec.specs.Bits.{IsMarkerCode}
 use Rattle.jpg_spec.specs.Jfif.{begins_jfif, begins_adobe}
-use Rattle.jpg_spec.specs.FileText.{segment_text, kept_text}
-use Rattle.jpg_spec.specs.Markers.{Segment, soi, SpellsSegment, SpellsSegments, Pass, code_fault_if, is_frame_code, is_within, has_frame, has_scan, is_kept, is_kept_if, kept_after, kept_count, kept_rule}
+use Rattle.jpg_spec.specs.Markers.{Segment, Pass, code_fault_if, is_frame_code, is_within, has_frame, has_scan, is_kept, is_kept_if, kept_after, kept_count, kept_rule}
 use Rattle.jpg_spec.specs.InForce.{told_or, restart_in_force}
 use Rattle.jpg_spec.specs.ScanContents.{restart_interval}
 use Rattle.jpg_spec.specs.Header.{header_rule}
 use Rattle.jpg_spec.specs.declared.fault.Fault.TheVariants.{MarkersTooLarge}
 use Rattle.jpg_spec.specs.declared.frame.Limits.{Limits}
 use Rattle.jpg_spec.proofs.Common.{both, not_lt_of, same_of, lt_no}
-
--- A SEGMENT that is written spells itself
-pub text_spells : (code : ℕ) (contents : List ℕ) → IsMarkerCode code → length contents + 2 < 65536 → SpellsSegment code contents (segment_text code contents)
-text_spells code contents m l = (255 ∷ code ∷ [], (0, refl, m), l, refl)
-
--- behind other segments
-pub text_behind : (before : List Segment) (front : List ℕ) (code : ℕ) (contents : List ℕ) → SpellsSegments before front → IsMarkerCode code → (code ≡ 0xd9 → ⊥) → length contents + 2 < 65536
-    → SpellsSegments ((code, contents) ∷ before) (front ++ segment_text code contents)
-text_behind before front code contents s m n l = (front, segment_text code contents, refl, s, text_spells code contents m l, n)
 
 -- THE CODES of the markers that are passed on
 
@@ -35,7 +24,7 @@ pub record IsPassedOn (code : ℕ) : Type 0 where
   pub allowed : (b : Bool) → code_fault_if b code ≡ None
   pub rule : (limits : Limits) (before : List Segment) (contents : List ℕ) → header_rule limits before code contents ≡ kept_rule limits before code contents
 
--- SEGMENTS of such codes alone, none of them too long
+-- SEGMENTS of only such codes, none of them too long
 unfoldable pub ArePassedOn : List Segment → Type 0
 ArePassedOn [] = Unit {0}
 ArePassedOn (s ∷ before) = IsPassedOn s.0 × (length s.1 + 2 < 65536) × ArePassedOn before
@@ -63,17 +52,6 @@ all_kept (s ∷ before) are =
     ap (λ b. is_kept_if b s.0 s.1) (no_scan_in before are.2) ∙ ap (λ b. b && not (false && (begins_jfif s.0 s.1 || begins_adobe s.0 s.1))) are.0.kept in
     ap (λ b. cond b (s ∷ kept_after before) (kept_after before)) yes ∙ ap (λ xs. s ∷ xs) (all_kept before are.2)
 
--- their text, the oldest first
-pub kept_spelled : (before : List Segment) → ArePassedOn before → SpellsSegments before (soi ++ kept_text (reverse before))
-unfolding ArePassedOn
-kept_spelled [] are = refl
-kept_spelled (s ∷ before) are =
-    let text = soi ++ kept_text (reverse before) in
-    let joined : soi ++ kept_text (reverse (s ∷ before)) ≡ text ++ segment_text s.0 s.1 =
-    ap (λ xs. soi ++ kept_text xs) (reverse-append (s ∷ []) before) ∙ ap (λ t. soi ++ t) (flat_map-append (λ (x : Segment). segment_text x.0 x.1) (reverse before) (s ∷ []))
-    ∙ ap (λ t. soi ++ (kept_text (reverse before) ++ t)) (append-nil (segment_text s.0 s.1)) ∙ sym (append_assoc soi (kept_text (reverse before)) (segment_text s.0 s.1)) in
-    subst (λ t. SpellsSegments (s ∷ before) t) (sym joined) (text_behind before text s.0 s.1 (kept_spelled before are.2) are.0.marker are.0.eoi are.1)
-
 -- THE MARKERS PASSED ON, the newest first
 
 -- they break no rule
@@ -98,7 +76,7 @@ skipped b x y e = ap (λ t. cond t x y) e
 abbrev pub may_keep : ℕ → Bool
 may_keep code = code == 0xfe || is_within 0xe0 0xef code
 
--- kept markers are judged by their rule alone
+-- kept markers are checked only against their rule
 pub kept_alone : (limits : Limits) (before : List Segment) (code : ℕ) (contents : List ℕ) → may_keep code ≡ true → header_rule limits before code contents ≡ kept_rule limits before code contents
 kept_alone limits before code contents e =
     skipped (code == 0xda) _ _ (differs 0xda refl) ∙ skipped (code == 0xc4) _ _ (differs 0xc4 refl) ∙ skipped (code == 0xdb) _ _ (differs 0xdb refl) ∙ skipped (code == 0xdd) _ _ (differs 0xdd refl)

@@ -44,7 +44,7 @@ from_level (suc count) len c (s ∷ symbols) code h =
     (suc r.0, omega arith, r.2 ∙ ap (bits_of len) e))
     (contains_cons (bits_of len c, s) (codes_at count len (c + 1) symbols) code h)
 
--- each code is no shorter, and its front of this length is a number not below c
+-- each code is no shorter, and its prefix of this length is a number not below c
 pub front_not_below : (counts : List ℕ) (len c : ℕ) (symbols : List ℕ) (code : Code) → AreCodes len c counts → Contains (codes_from len c counts symbols) code
     → (n : ℕ) × (more : List Bool) × (c ≤ n) × (n < 2 ^ len) × (code.0 ≡ bits_of len n ++ more)
 front_not_below [] len c symbols code are h = absurd (contains_none code h)

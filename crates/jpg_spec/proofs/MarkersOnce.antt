@@ -1,4 +1,5 @@
--- Bytes begin with one marker at most, and with one segment at most; of two lists of segments that begin the same bytes one goes on from the other.
+-- Bytes begin with at most one marker, and with at most one segment; of two lists of segments that begin the same bytes
+-- one continues the other.
 use Rattle.std.proofs.Common.{◌≡◌, ℕ, zero, suc, ◌+◌, ◌/◌, ◌%◌, ◌<◌, List, [], ◌∷◌, ◌++◌, length, refl, sym, ap, ◌∙◌, arith, inl, inr, ⊎_elim}
 use Rattle.std.specs.Prelude.{◌⊎◌, replicate}
 use Rattle.std.specs.Int.{to_be_bytes, from_be_bytes, w16}
@@ -14,7 +15,7 @@ use Rattle.jpg_spec.proofs.Common.{heads}
 pub no_head : {X : Type 0} (a : X) (xs : List X) → [] ≡ a ∷ xs → ⊥
 no_head a xs e = cc
 
--- fill bytes end where another byte stands
+-- fill bytes end at another byte
 pub fills_once : (m n c d : ℕ) (x y : List ℕ) → (c ≡ 255 → ⊥) → (d ≡ 255 → ⊥) → (replicate m 255 ++ c ∷ []) ++ x ≡ (replicate n 255 ++ d ∷ []) ++ y → (m ≡ n) × (c ≡ d) × (x ≡ y)
 fills_once zero zero c d x y h k e = let s = heads c d x y e in (refl, s.0, s.1)
 fills_once zero (suc n) c d x y h k e = absurd (h (heads c 255 x ((replicate n 255 ++ d ∷ []) ++ y) e).0)
@@ -23,13 +24,13 @@ fills_once (suc m) (suc n) c d x y h k e =
     let r = fills_once m n c d x y h k (heads 255 255 ((replicate m 255 ++ c ∷ []) ++ x) ((replicate n 255 ++ d ∷ []) ++ y) e).1 in
     (ap suc r.0, r.1, r.2)
 
--- bytes begin with one marker at most
+-- bytes begin with at most one marker
 pub marker_once : (c d : ℕ) (a b x y : List ℕ) → SpellsMarker c a → SpellsMarker d b → a ++ x ≡ b ++ y → (c ≡ d) × (a ≡ b) × (x ≡ y)
 marker_once c d a b x y s t e =
     let r = fills_once (suc s.0) (suc t.0) c d x y s.2.1 t.2.1 (ap (λ l. l ++ x) (sym s.1) ∙ e ∙ ap (λ l. l ++ y) t.1) in
     (r.1, s.1 ∙ ap (λ n. replicate n 255 ++ c ∷ []) r.0 ∙ ap (λ n. replicate (suc t.0) 255 ++ n ∷ []) r.1 ∙ sym t.1, r.2)
 
--- fill bytes alone hold no whole marker
+-- only fill bytes are no complete marker
 pub fill_no_marker : (fill code : ℕ) (a x : List ℕ) → SpellsMarker code a → replicate fill 255 ≡ a ++ x → ⊥
 fill_no_marker fill code a x s e = within fill (suc s.0) (e ∙ ap (λ l. l ++ x) s.1)
   where
@@ -51,7 +52,7 @@ byte_no_marker byte code a x y n s e = n (heads byte 255 x ((replicate s.0 255 +
 
 -- SEGMENTS
 
--- the two bytes of a length are it
+-- the two bytes of a length determine it
 pub length_bytes : (n : ℕ) → n < 65536 → (high : ℕ) × (low : ℕ) × (to_be_bytes w16 n ≡ high ∷ low ∷ []) × (two_bytes high low ≡ n)
 length_bytes n h = (n / 256 % 256, n % 256, refl, omega (arith, h))
 
@@ -59,7 +60,7 @@ pub length_once : (m n : ℕ) → m < 65536 → n < 65536 → to_be_bytes w16 m 
 length_once m n a b e =
     sym (from_be_bytes-to_be_bytes_2 m (omega (arith, a))) ∙ ap (from_be_bytes w16) e ∙ from_be_bytes-to_be_bytes_2 n (omega (arith, b))
 
--- bytes begin with one segment at most
+-- bytes begin with at most one segment
 pub segment_once : (c d : ℕ) (xs ys a b u v : List ℕ) → SpellsSegment c xs a → SpellsSegment d ys b → a ++ u ≡ b ++ v → (c ≡ d) × (xs ≡ ys) × (a ≡ b) × (u ≡ v)
 segment_once c d xs ys a b u v s t e =
     let long = to_be_bytes w16 (length xs + 2) in
@@ -83,19 +84,19 @@ SpellsMore [] bytes = bytes ≡ []
 SpellsMore (s ∷ before) bytes =
     (front : List ℕ) × (rest : List ℕ) × (bytes ≡ front ++ rest) × SpellsMore before front × SpellsSegment s.0 s.1 rest × (s.0 ≡ 0xd9 → ⊥)
 
--- SOI goes before them
+-- SOI is before them
 pub with_start : (xs : List Segment) (text : List ℕ) → SpellsMore xs text → SpellsSegments xs (soi ++ text)
 with_start [] text s = ap (λ l. soi ++ l) s
 with_start (x ∷ xs) text s =
     (soi ++ s.0, s.1, ap (λ l. soi ++ l) s.2 ∙ sym (append_assoc soi s.0 s.1), with_start xs s.0 s.3, s.4, s.5)
 
-pub behind_start : (xs : List Segment) (bytes : List ℕ) → SpellsSegments xs bytes → (text : List ℕ) × (bytes ≡ soi ++ text) × SpellsMore xs text
-behind_start [] bytes s = ([], s, refl)
-behind_start (x ∷ xs) bytes s =
-    let h = behind_start xs s.0 s.3 in
+pub after_start : (xs : List Segment) (bytes : List ℕ) → SpellsSegments xs bytes → (text : List ℕ) × (bytes ≡ soi ++ text) × SpellsMore xs text
+after_start [] bytes s = ([], s, refl)
+after_start (x ∷ xs) bytes s =
+    let h = after_start xs s.0 s.3 in
     (h.0 ++ s.1, s.2 ∙ ap (λ l. l ++ s.1) h.1 ∙ append_assoc soi h.0 s.1, (h.0, s.1, refl, h.2, s.4, s.5))
 
--- The bytes b of ys go on from the bytes a of xs, by further segments.
+-- The bytes b of ys continue the bytes a of xs, by further segments.
 abbrev pub GoesOn : List Segment → List ℕ → List Segment → List ℕ → Type 0
 GoesOn xs a ys b = (more : List Segment) × (text : List ℕ) × (ys ≡ more ++ xs) × (b ≡ a ++ text) × SpellsMore more text
 
@@ -108,7 +109,7 @@ oldest x (y ∷ xs) text s =
     let h = oldest y xs s.0 s.3 in
     (x ∷ h.0, h.1, h.2, h.3 ++ s.1, ap (λ l. x ∷ l) h.4, s.2 ∙ ap (λ l. l ++ s.1) h.5 ∙ append_assoc h.2 h.3 s.1, h.6, h.7, (h.3, s.1, refl, h.8, s.4, s.5))
 
--- one segment more
+-- one more segment
 goes_more : (xs ys : List Segment) (a b front rest : List ℕ) (y : Segment) → b ≡ front ++ rest → SpellsSegment y.0 y.1 rest → (y.0 ≡ 0xd9 → ⊥) → GoesOn xs a ys front → GoesOn xs a (y ∷ ys) b
 goes_more xs ys a b front rest y cut s n g =
     (y ∷ g.0, g.1 ++ rest, ap (λ l. y ∷ l) g.2, cut ∙ ap (λ l. l ++ rest) g.3 ∙ append_assoc a g.1 rest, (g.1, rest, refl, g.4, s, n))
@@ -116,7 +117,7 @@ goes_more xs ys a b front rest y cut s n g =
 pub same_segment : (s t : Segment) → s.0 ≡ t.0 → s.1 ≡ t.1 → s ≡ t
 same_segment s t e f = ap (λ c. (let r : Segment = (c, s.1) in r)) e ∙ ap (λ xs. (let r : Segment = (t.0, xs) in r)) f
 
--- of two lists that begin the same bytes one goes on from the other
+-- of two lists that begin the same bytes one continues the other
 pub more_once : (xs ys : List Segment) (a b u v : List ℕ) → SpellsMore xs a → SpellsMore ys b → a ++ u ≡ b ++ v → GoesOn xs a ys b ⊎ GoesOn ys b xs a
 more_once xs [] a b u v s t e = inr (xs, a, sym (append-nil xs), ap (λ l. l ++ a) (sym t), s)
 more_once xs (y ∷ ys) a b u v s t e =
@@ -150,8 +151,8 @@ with_soi xs ys a b p q h k g = (g.0, g.1, g.2, k ∙ ap (λ l. soi ++ l) g.3 ∙
 -- with SOI before them
 pub segments_once : (xs ys : List Segment) (a b u v : List ℕ) → SpellsSegments xs a → SpellsSegments ys b → a ++ u ≡ b ++ v → GoesOn xs a ys b ⊎ GoesOn ys b xs a
 segments_once xs ys a b u v s t e =
-    let h = behind_start xs a s in
-    let k = behind_start ys b t in
+    let h = after_start xs a s in
+    let k = after_start ys b t in
     let from : h.0 ++ u ≡ k.0 ++ v = append_cancel_left soi (h.0 ++ u) (k.0 ++ v)
     (sym (append_assoc soi h.0 u) ∙ ap (λ l. l ++ u) (sym h.1) ∙ e ∙ ap (λ l. l ++ v) k.1 ∙ append_assoc soi k.0 v) in
     ⊎_elim (λ g. inl (with_soi xs ys h.0 k.0 a b h.1 k.1 g)) (λ g. inr (with_soi ys xs k.0 h.0 b a k.1 h.1 g)) (more_once xs ys h.0 k.0 u v h.2 k.2 from)

@@ -2,14 +2,9 @@
 use Rattle.std.proofs.Common.{◌≡◌, ℕ, suc, ◌%◌, ◌≤◌, Bool, true, false, cond, List, [], ◌∷◌, length, refl, ap, ◌∙◌, arith, ℤ, ◌==◌}
 use Rattle.std.specs.Prelude.{map, zip, neg_ℤ}
 use Rattle.std.proofs.Math.IntN.{neg_ℤ-neg_ℤ}
-use Rattle.jpg_spec.specs.Moves.{zigzag, mirrored}
 
 abbrev pub mirror_at : List ℕ → List ℤ → List ℤ
 mirror_at places block = map (λ p. cond (p.0 % 2 == 1) (neg_ℤ p.1) p.1) (zip places block)
-
-pub mirrored_is : (block : List ℤ) → mirrored block ≡ mirror_at zigzag block
-unfolding mirrored
-mirrored_is block = refl
 
 pub length_mirror : (places : List ℕ) (block : List ℤ) → length block ≤ length places → length (mirror_at places block) ≡ length block
 length_mirror [] [] h = refl
@@ -21,7 +16,7 @@ sign_twice : (b : Bool) (v : ℤ) → cond b (neg_ℤ (cond b (neg_ℤ v) v)) (c
 sign_twice true v = neg_ℤ-neg_ℤ v
 sign_twice false v = refl
 
-mirror_twice : (places : List ℕ) (block : List ℤ) → length block ≤ length places → mirror_at places (mirror_at places block) ≡ block
+pub mirror_twice : (places : List ℕ) (block : List ℤ) → length block ≤ length places → mirror_at places (mirror_at places block) ≡ block
 mirror_twice [] [] h = refl
 mirror_twice (n ∷ places) [] h = refl
 mirror_twice [] (v ∷ block) h = absurd (omega arith)
@@ -29,9 +24,3 @@ mirror_twice (n ∷ places) (v ∷ block) h = ap (λ t. t ∷ mirror_at places (
 
 abbrev pub IsBlock : List ℤ → Type 0
 IsBlock block = length block ≡ 64
-
-pub mirrored_block : (block : List ℤ) → IsBlock block → IsBlock (mirrored block)
-mirrored_block block l = ap length (mirrored_is block) ∙ length_mirror zigzag block (omega (arith, l)) ∙ l
-
-pub mirrored_twice : (block : List ℤ) → IsBlock block → mirrored (mirrored block) ≡ block
-mirrored_twice block l = ap mirrored (mirrored_is block) ∙ mirrored_is (mirror_at zigzag block) ∙ mirror_twice zigzag block (omega (arith, l))

@@ -1,4 +1,4 @@
--- The bits spell at most one element where a unit is in work.
+-- Bits spell at most one element of the current unit.
 use Rattle.std.proofs.Common.{◌≡◌, ℕ, zero, suc, ◌+◌, ◌-◌, ◌^◌, ◌<◌, ◌≤◌, Bool, true, false, cond, List, [], ◌∷◌, ◌++◌, length, take, drop, refl, sym, ap, ◌∙◌, subst, arith, ℤ, pos, negsuc, ⊎_elim, inl, inr}
 use Rattle.std.specs.Prelude.{◌⊎◌, nat_lt, ◌+ℤ◌, slice_index_or}
 use Rattle.std.specs.List.{Contains}
@@ -7,11 +7,11 @@ use Rattle.std.proofs.lemmas.Bool.Decides.{nat_tests}
 use Rattle.jpg_spec.specs.Bits.{bits_of}
 use Rattle.jpg_spec.specs.Codes.{Code}
 use Rattle.jpg_spec.specs.Numbers.{category, digits, extra_bits}
-use Rattle.jpg_spec.specs.Elements.{Coding, UnitLeft, Standing, Covers, predictions_after, Element, difference, dc_bit, value, long_run, ends, Tells, SpellsElement, codes_due, zeros_in, nonzeros_in, is_zero, scaled, corrected, going_on, old_values, bits_behind}
-use Rattle.jpg_spec.proofs.Told.{before_zero, behind_zero, long_passed, long_left, values_told, units_after}
+use Rattle.jpg_spec.specs.Elements.{Coding, UnitLeft, Standing, Covers, predictions_after, Element, difference, dc_bit, value, long_run, ends, Tells, SpellsElement, codes_due, zeros_in, nonzeros_in, is_zero, scaled, corrected, going_on, old_values, bits_after}
+use Rattle.jpg_spec.proofs.Told.{before_zero, after_zero, long_passed, long_left, values_told, units_after}
 use Rattle.jpg_spec.proofs.Common.{append_inj, clash}
 
--- WHAT IS PASSED is told by the run
+-- WHAT IS SKIPPED is determined by the run
 
 one_plus : (n : ℕ) → 1 + n ≡ suc n
 one_plus n = omega arith
@@ -40,8 +40,8 @@ drop_past : (passed old : List ℤ) → drop (length passed + 1) (passed ++ pos 
 drop_past [] old = refl
 drop_past (o ∷ passed) old = let e : suc (length passed) + 1 ≡ suc (length passed + 1) = omega arith in ap (λ k. drop k (o ∷ passed ++ pos 0 ∷ old)) e ∙ drop_past passed old
 
-behind_is : (run : ℕ) (passed old : List ℤ) → zeros_in passed ≡ run → behind_zero run (passed ++ pos 0 ∷ old) ≡ old
-behind_is run passed old e =
+after_is : (run : ℕ) (passed old : List ℤ) → zeros_in passed ≡ run → after_zero run (passed ++ pos 0 ∷ old) ≡ old
+after_is run passed old e =
     let b : before_zero run (passed ++ pos 0 ∷ old) ≡ passed = ap (λ k. before_zero k (passed ++ pos 0 ∷ old)) (sym e) ∙ before_is passed old in
     ap (λ xs. drop (length xs + 1) (passed ++ pos 0 ∷ old)) b ∙ drop_past passed old
 
@@ -57,22 +57,22 @@ passes u passed old (inl f) =
     let z : zeros_in u.old ≡ 15 + 1 + zeros_in old = ap zeros_in f.1 ∙ zeros-append f.0 old ∙ ap (λ k. k + 1 + zeros_in old) f.2 in
     let short : nat_lt (zeros_in u.old) 16 ≡ false = grind (arith, nat_tests) in
     let b : before_zero 15 u.old ≡ f.0 = ap (λ xs. before_zero 15 xs) f.1 ∙ ap (λ k. before_zero k (f.0 ++ pos 0 ∷ old)) (sym f.2) ∙ before_is f.0 old in
-    let r : behind_zero 15 u.old ≡ old = ap (λ xs. behind_zero 15 xs) f.1 ∙ behind_is 15 f.0 old f.2 in (
+    let r : after_zero 15 u.old ≡ old = ap (λ xs. after_zero 15 xs) f.1 ∙ after_is 15 f.0 old f.2 in (
       f.3 ∙ ap (λ xs. xs ++ pos 0 ∷ []) (sym b) ∙ sym (ap (λ s. cond s u.old (before_zero 15 u.old ++ pos 0 ∷ [])) short),
-      sym r ∙ sym (ap (λ s. cond s [] (behind_zero 15 u.old)) short),
+      sym r ∙ sym (ap (λ s. cond s [] (after_zero 15 u.old)) short),
     )
 passes u passed old (inr g) =
     let z : zeros_in u.old ≡ zeros_in passed = ap zeros_in g.0 in
     let few = g.1 in
     let short : nat_lt (zeros_in u.old) 16 ≡ true = grind (arith, nat_tests) in (
       sym g.0 ∙ sym (ap (λ s. cond s u.old (before_zero 15 u.old ++ pos 0 ∷ [])) short),
-      g.2 ∙ sym (ap (λ s. cond s [] (behind_zero 15 u.old)) short),
+      g.2 ∙ sym (ap (λ s. cond s [] (after_zero 15 u.old)) short),
     )
 
 value_passed : (run : ℕ) (u : UnitLeft) (passed old : List ℤ) → u.old ≡ passed ++ pos 0 ∷ old → zeros_in passed ≡ run → passed ≡ before_zero run u.old
 value_passed run u passed old e z = sym (ap (λ xs. before_zero run xs) e ∙ ap (λ k. before_zero k (passed ++ pos 0 ∷ old)) (sym z) ∙ before_is passed old)
 
--- WHAT IS TOLD is a function of the element
+-- WHAT IS ENCODED is a function of the element
 
 pub told_is : (c : Coding) (p : ℤ) (e : Element) (u : UnitLeft) (us : List UnitLeft) (told : List ℤ) (left : List UnitLeft) → Tells c p e u us told left
     → (told ≡ values_told c p e u us) × (left ≡ units_after e u us)
@@ -83,7 +83,7 @@ told_is c p (value run v bits) u us told left h =
     let passed = h.0 in
     let old = h.1 in
     let b : passed ≡ before_zero run u.old = sym (ap (λ xs. before_zero run xs) h.6 ∙ ap (λ k. before_zero k (passed ++ pos 0 ∷ old)) (sym h.7) ∙ before_is passed old) in
-    let r : old ≡ behind_zero run u.old = sym (ap (λ xs. behind_zero run xs) h.6 ∙ behind_is run passed old h.7) in
+    let r : old ≡ after_zero run u.old = sym (ap (λ xs. after_zero run xs) h.6 ∙ after_is run passed old h.7) in
     (h.9 ∙ ap (λ xs. corrected c.al xs bits ++ scaled c.al v ∷ []) b, h.10 ∙ ap (λ xs. going_on u xs us) r)
 told_is c p (long_run bits) u us told left h =
     let both = passes u h.0 h.1 h.3 in
@@ -240,14 +240,14 @@ coded_front codes one symbol b front front' x x' s s' same =
     let all : s.0 ++ (b ++ x) ≡ s'.0 ++ (b ++ x') = sym (append_assoc s.0 b x) ∙ ap (λ f. f ++ x) (sym s.2) ∙ same ∙ ap (λ f. f ++ x') s'.2 ∙ append_assoc s'.0 b x' in
     s.2 ∙ ap (λ k. k ++ b) (pair_0 s.0 s'.0 symbol symbol (one (s.0, symbol) (s'.0, symbol) (b ++ x) (b ++ x') s.1 s'.1 all)) ∙ sym s'.2
 
--- the code of an element is told by the bits too
+-- the code of an element is determined by the bits too
 pub front_once : (codes : List Code) → ((a b : Code) (x y : List Bool) → Contains codes a → Contains codes b → a.0 ++ x ≡ b.0 ++ y → a ≡ b)
     → (e : Element) (front front' x x' : List Bool) → SpellsElement codes e front → SpellsElement codes e front' → front ++ x ≡ front' ++ x' → front ≡ front'
 front_once codes one (dc_bit b) front front' x x' s s' same = s ∙ sym s'
-front_once codes one (difference d) front front' x x' s s' same = coded_front codes one _ (bits_behind (difference d)) front front' x x' s s' same
-front_once codes one (value run v bits) front front' x x' s s' same = coded_front codes one _ (bits_behind (value run v bits)) front front' x x' s s' same
-front_once codes one (long_run bits) front front' x x' s s' same = coded_front codes one _ (bits_behind (long_run bits)) front front' x x' s s' same
-front_once codes one (ends bands bits) front front' x x' s s' same = coded_front codes one _ (bits_behind (ends bands bits)) front front' x x' s s' same
+front_once codes one (difference d) front front' x x' s s' same = coded_front codes one _ (bits_after (difference d)) front front' x x' s s' same
+front_once codes one (value run v bits) front front' x x' s s' same = coded_front codes one _ (bits_after (value run v bits)) front front' x x' s s' same
+front_once codes one (long_run bits) front front' x x' s s' same = coded_front codes one _ (bits_after (long_run bits)) front front' x x' s s' same
+front_once codes one (ends bands bits) front front' x x' s s' same = coded_front codes one _ (bits_after (ends bands bits)) front front' x x' s s' same
 
 pub head_inj : (u u' : UnitLeft) (us us' : List UnitLeft) → u ∷ us ≡ u' ∷ us' → (u ≡ u') × (us ≡ us')
 head_inj u u' us us' e = (cc, cc)
@@ -255,7 +255,7 @@ head_inj u u' us us' e = (cc, cc)
 pub no_units : (u : UnitLeft) (us : List UnitLeft) → u ∷ us ≡ [] → ⊥
 no_units u us e = cc
 
--- two coverings that begin with an element each begin alike, and go on from one standing
+-- two coverings that begin with an element each begin alike, and continue from one state
 pub record SameStep (c : Coding) (s : Standing) (e e' : Element) (es' : List Element) (told told' : List ℤ) (bits bits' x x' : List Bool) (t' : Standing) (more more' : List ℤ) (rest : List Bool) (next : Standing) : Type 0 where
   pub here : List ℤ
   pub front : List Bool
@@ -298,7 +298,7 @@ covers_step c s e e' es es' told told' bits bits' x x' t t' facts ic one k k' sa
       later = subst (λ l. Covers c (record { predictions = predictions_after s.predictions u.component e; left = l }) es' k'.4 k'.6 t') el r.2;
     }
 
--- THE LAW: of two coverings of the same bits, one is the front of the other
+-- THE LAW: of two coverings of the same bits, one is the prefix of the other
 pub record GoesOn (c : Coding) (es es' : List Element) (told told' : List ℤ) (bits bits' : List Bool) (t t' : Standing) : Type 0 where
   pub elements : List Element
   pub values : List ℤ
@@ -354,7 +354,7 @@ fronts_once c s (e ∷ es) (e' ∷ es') told told' bits bits' x x' t t' facts ic
     }))
     ih
 
--- THE LAW: whole intervals are spelled in one way
+-- THE LAW: complete intervals are spelled in one way
 pub units_once : (c : Coding) (s : Standing) (es es' : List Element) (told told' : List ℤ) (bits bits' x x' : List Bool) (t t' : Standing)
     → NumberFacts → IsCoding c → ((u : UnitLeft) → OneWay (codes_due c u))
     → Covers c s es told bits t → t.left ≡ [] → Covers c s es' told' bits' t' → t'.left ≡ [] → bits ++ x ≡ bits' ++ x'

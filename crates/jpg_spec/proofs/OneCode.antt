@@ -1,4 +1,4 @@
--- No code begins another, so bits are cut into codes in one way.
+-- No code begins another, so bits are split into codes in one way.
 use Rattle.std.proofs.Common.{◌≡◌, ℕ, zero, suc, ◌+◌, ◌*◌, ◌/◌, ◌%◌, ◌^◌, ◌<◌, Bool, List, [], ◌∷◌, ◌++◌, drop, get_or, sym, ap, ◌∙◌, arith, add-one, add-zero, ⊎_elim, ◌==◌}
 use Rattle.std.specs.List.{Contains}
 use Rattle.std.proofs.lemmas.List.{append_assoc}
@@ -10,7 +10,7 @@ use Rattle.jpg_spec.proofs.Strings.{length-bits_of, bits_of-split, bits_of_inj}
 use Rattle.jpg_spec.proofs.Levels.{contains_none, contains_cons, front_not_below}
 use Rattle.jpg_spec.proofs.Common.{append_inj}
 
--- a code of a length, whole
+-- a code of a length, complete
 level_code : (count len c : ℕ) (symbols : List ℕ) (code : Code) → Contains (codes_at count len c symbols) code → (i : ℕ) × (i < count) × (code ≡ (bits_of len (c + i), get_or symbols i 0))
 level_code zero len c symbols code h = absurd (contains_none code h)
 level_code (suc count) len c [] code h = absurd (contains_none code h)
@@ -37,7 +37,7 @@ apart counts len c k n symbols b x y are lt fits h e =
     let q = bits_of_inj len n (f.0 / 2) (omega arith) (omega arith) same.0 in
     omega arith
 
--- the codes of a table are cut off in one way
+-- the codes of a table are split off in one way
 pub one_code : (counts : List ℕ) (len c : ℕ) (symbols : List ℕ) (a b : Code) (x y : List Bool) → AreCodes len c counts → Contains (codes_from len c counts symbols) a → Contains (codes_from len c counts symbols) b
     → a.0 ++ x ≡ b.0 ++ y → a ≡ b
 one_code [] len c symbols a b x y are h k e = absurd (contains_none a h)

@@ -1,4 +1,4 @@
--- A part of an element is a proper front of one, or of a code and a number behind it.
+-- A part of an element is a proper prefix of one, or of a code and a number after it.
 use Rattle.std.proofs.Common.{◌≡◌, ℕ, zero, suc, ◌+◌, ◌-◌, ◌*◌, ◌<◌, ◌≤◌, Bool, true, false, cond, List, [], ◌∷◌, ◌++◌, length, take, drop, refl, sym, ap, ◌∙◌, subst, arith, inl, inr, ℤ, pos}
 use Rattle.std.specs.Prelude.{◌⊎◌, replicate, ◌+ℤ◌, nat_lt}
 use Rattle.std.specs.List.{Contains}
@@ -9,15 +9,16 @@ use Rattle.jpg_spec.specs.Bits.{bits_of}
 use Rattle.jpg_spec.specs.Codes.{Code}
 use Rattle.jpg_spec.specs.Numbers.{category, extra_bits, digits}
 use Rattle.jpg_spec.specs.Elements.{Coding, UnitLeft, Standing, Element, difference, value, long_run, ends, Tells, SpellsElement, codes_due, is_zero, zeros_in, nonzeros_in, old_values, scaled, corrected, going_on}
-use Rattle.jpg_spec.proofs.Told.{before_zero, behind_zero, at_zero}
+use Rattle.jpg_spec.proofs.Told.{before_zero, after_zero, at_zero}
 use Rattle.jpg_spec.specs.Parts.{BeginsCode, IsFront, InCode, InDifference, InNumber, InCount, InValue, InLong, InEnds, WantsCorrection, PartOfElement, in_code, in_difference, in_number, in_count, in_value, in_long, in_ends}
 use Rattle.jpg_spec.proofs.Facts.{facts}
 use Rattle.jpg_spec.proofs.ExtraBits.{number_of_bits, value_of_bits}
 use Rattle.jpg_spec.proofs.MarkersOnce.{no_head}
-use Rattle.jpg_spec.proofs.Bands.{nonzeros-append}
+use Rattle.jpg_spec.proofs.Values.{nonzeros-append}
 use Rattle.jpg_spec.proofs.Common.{lt_of, not_lt_of, clash}
 
--- Nothing; some of the bits of a code; some of those of an element that may stand there; or a code of EOBn and fewer than n bits behind it.
+-- Nothing; some of the bits of a code; some of those of an element that is allowed there; or a code of EOBn and fewer
+-- than n bits after it.
 abbrev pub IsProperFront : Coding → Standing → UnitLeft → List UnitLeft → List Bool → Type 0
 IsProperFront c s u units part =
     (part ≡ [])
@@ -29,7 +30,7 @@ IsProperFront c s u units part =
 
 -- BITS THAT FOLLOW, of any kind, up to some length
 
--- some bits behind these, up to n
+-- some bits after these, up to n
 record FilledUp (got : List Bool) (n : ℕ) : Type 0 where
   next : Bool
   more : List Bool
@@ -42,17 +43,17 @@ filled_up got n few =
     let r = length-replicate k true in
     record { next = true; more = replicate k true; all = omega (arith, l, r, few) }
 
--- bits of a length, cut in two
+-- bits of a length, split in two
 cut_bits : (bits : List Bool) (m n : ℕ) → length bits ≡ m + n → (a : List Bool) × (b : List Bool) × (bits ≡ a ++ b) × (length a ≡ m) × (length b ≡ n)
 cut_bits bits m n e =
     let l = length-drop m bits in
     (take m bits, drop m bits, sym (take-append-drop m bits), length-take-le m bits (omega (arith, e)), omega (arith, l, e))
 
--- what stands behind a code
-behind_code : (code got more : List Bool) (next : Bool) → (code ++ got) ++ next ∷ more ≡ code ++ (got ++ next ∷ more)
-behind_code code got more next = append_assoc code got (next ∷ more)
+-- what follows a code
+after_code : (code got more : List Bool) (next : Bool) → (code ++ got) ++ next ∷ more ≡ code ++ (got ++ next ∷ more)
+after_code code got more next = append_assoc code got (next ∷ more)
 
--- the codes that are due
+-- the codes that are expected
 pub dc_due : (c : Coding) (u : UnitLeft) → u.has_dc ≡ true → codes_due c u ≡ c.dc u.component
 dc_due c u h = ap (λ b. cond b (c.dc u.component) (c.ac u.component)) h
 
@@ -81,11 +82,11 @@ front_of_difference c s u units code got size o old dc first left h most few =
       going_on u old units,
       f.next,
       f.more,
-      (code, subst (λ n. Contains (codes_due c u) (code, n)) (sym cat) h, behind_code code got f.more f.next ∙ ap (λ l. code ++ l) (sym v.2)),
+      (code, subst (λ n. Contains (codes_due c u) (code, n)) (sym cat) h, after_code code got f.more f.next ∙ ap (λ l. code ++ l) (sym v.2)),
       (o, old, dc, first, subst (λ n. n ≤ c.bounds.dc_cat) (sym cat) most, left, refl, refl),
     )))
 
--- the code of a value behind a run, and fewer bits than its own and the corrections of what it passes
+-- the code of a value after a run, and fewer bits than its extra bits and the corrections of what it skips
 front_of_value : (c : Coding) (s : Standing) (u : UnitLeft) (units : List UnitLeft) (code got : List Bool) (run size : ℕ) (passed old : List ℤ) → u.has_dc ≡ false
     → Contains (codes_due c u) (code, 16 * run + size) → 1 ≤ size → size ≤ c.most_category → run ≤ 15 → u.old ≡ passed ++ pos 0 ∷ old → zeros_in passed ≡ run → length got < size + nonzeros_in passed
     → IsProperFront c s u units (code ++ got)
@@ -100,11 +101,11 @@ front_of_value c s u units code got run size passed old dc h low high short left
       going_on u old units,
       f.next,
       f.more,
-      (code, subst (λ n. Contains (codes_due c u) (code, 16 * run + n)) (sym cat) h, behind_code code got f.more f.next ∙ ap (λ l. code ++ l) (q.2 ∙ ap (λ l. l ++ q.1) (sym v.2))),
+      (code, subst (λ n. Contains (codes_due c u) (code, 16 * run + n)) (sym cat) h, after_code code got f.more f.next ∙ ap (λ l. code ++ l) (q.2 ∙ ap (λ l. l ++ q.1) (sym v.2))),
       (passed, old, dc, subst (λ n. 1 ≤ n) (sym cat) low, subst (λ n. n ≤ c.most_category) (sym cat) high, short, left, zeros, sym q.4, refl, refl),
     )))
 
--- ZRL, and fewer corrections than it passes values
+-- ZRL, and fewer corrections than it skips values
 front_of_long_run : (c : Coding) (s : Standing) (u : UnitLeft) (units : List UnitLeft) (code got : List Bool) (passed old : List ℤ) → u.has_dc ≡ false → Contains (codes_due c u) (code, 0xf0)
     → ((front : List ℤ) × (u.old ≡ front ++ pos 0 ∷ old) × (zeros_in front ≡ 15) × (passed ≡ front ++ pos 0 ∷ [])) ⊎ ((u.old ≡ passed) × (zeros_in passed < 16) × (old ≡ []))
     → length got < nonzeros_in passed → IsProperFront c s u units (code ++ got)
@@ -116,7 +117,7 @@ front_of_long_run c s u units code got passed old dc h passes few =
       going_on u old units,
       f.next,
       f.more,
-      (code, h, behind_code code got f.more f.next),
+      (code, h, after_code code got f.more f.next),
       (passed, old, dc, passes, sym f.all, refl, refl),
     )))
 
@@ -126,7 +127,7 @@ front_of_count : (c : Coding) (s : Standing) (u : UnitLeft) (units : List UnitLe
 front_of_count c s u units code got n dc h most few =
     let f = filled_up got n few in
     let x = number_of_bits (got ++ f.next ∷ f.more) in
-    inr (inr (inr (n, x.0, code, f.next, f.more, h, dc, most, behind_code code got f.more f.next ∙ ap (λ l. code ++ l) (sym x.2 ∙ ap (λ k. bits_of k x.0) f.all))))
+    inr (inr (inr (n, x.0, code, f.next, f.more, h, dc, most, after_code code got f.more f.next ∙ ap (λ l. code ++ l) (sym x.2 ∙ ap (λ k. bits_of k x.0) f.all))))
 
 -- EOBn with its n bits, and fewer corrections than the bands have values for
 front_of_ends : (c : Coding) (s : Standing) (u : UnitLeft) (units : List UnitLeft) (code got : List Bool) (total : ℕ) → u.has_dc ≡ false → Contains (codes_due c u) (code, 16 * (digits total - 1)) → 1 ≤ total
@@ -141,11 +142,11 @@ front_of_ends c s u units code got total dc h some most fits few =
       drop total (u ∷ units),
       f.next,
       f.more,
-      (code, h, behind_code code (number ++ got) f.more f.next ∙ ap (λ l. code ++ l) (append_assoc number got (f.next ∷ f.more))),
+      (code, h, after_code code (number ++ got) f.more f.next ∙ ap (λ l. code ++ l) (append_assoc number got (f.next ∷ f.more))),
       (dc, some, most, fits, sym f.all, refl, refl),
     )))
 
--- A CORRECTION IS DUE
+-- A CORRECTION FOLLOWS
 
 pub some_old : (o : ℤ) (old : List ℤ) → is_zero o ≡ false → 1 ≤ nonzeros_in (o ∷ old)
 some_old o old z = let e : nonzeros_in (o ∷ old) ≡ 1 + nonzeros_in old = ap (λ b. cond b 0 1 + nonzeros_in old) z in omega (arith, e)
@@ -156,7 +157,7 @@ wants_old u w = subst (λ l. 1 ≤ nonzeros_in l) (sym w.2) (some_old w.0 w.1 w.
 pub same_head : (x y : ℤ) (xs ys : List ℤ) → x ∷ xs ≡ y ∷ ys → x ≡ y
 same_head x y xs ys e = cc
 
--- it is due before the next zero
+-- it comes before the next zero
 old_before : (u : UnitLeft) (passed behind : List ℤ) → WantsCorrection u → u.old ≡ passed ++ pos 0 ∷ behind → 1 ≤ nonzeros_in passed
 old_before u [] behind w e = absurd (clash (is_zero w.0) (ap is_zero (same_head w.0 (pos 0) w.1 behind (sym w.2 ∙ e))) w.3)
 old_before u (p ∷ passed) behind w e = some_old p passed (ap is_zero (same_head p w.0 (passed ++ pos 0 ∷ behind) w.1 (sym e ∙ w.2)) ∙ w.3)
@@ -165,7 +166,7 @@ zeros-join : (a b : List ℤ) → zeros_in (a ++ b) ≡ zeros_in a + zeros_in b
 zeros-join [] b = omega arith
 zeros-join (o ∷ a) b = omega (arith, zeros-join a b)
 
--- what was passed, and what is passed up to a later zero
+-- what was skipped, and what is skipped up to a later zero
 passed_to : (passed old before behind : List ℤ) → old ≡ before ++ pos 0 ∷ behind → passed ++ old ≡ (passed ++ before) ++ pos 0 ∷ behind
 passed_to passed old before behind e = ap (λ l. passed ++ l) e ∙ sym (append_assoc passed before (pos 0 ∷ behind))
 
@@ -175,12 +176,12 @@ value_front c s u others here bits run v h due =
     let w : UnitLeft = record u { old = h.passed ++ u.old } in
     let z = at_zero run u.old h.room in
     let before = before_zero run u.old in
-    let n = old_before u before (behind_zero run u.old) due z.0 in
+    let n = old_before u before (after_zero run u.old) due z.0 in
     let l : length (extra_bits v ++ h.corrections) < category v + nonzeros_in (h.passed ++ before) =
     omega (arith, length-append (extra_bits v) h.corrections, facts.size v, h.each, nonzeros-append h.passed before, n) in
     subst (λ b. IsProperFront c s w others b) (sym h.split) (
-    front_of_value c s w others h.code (extra_bits v ++ h.corrections) h.zeros (category v) (h.passed ++ before) (behind_zero run u.old) h.no_dc (in_ac c u (h.code, 16 * h.zeros + category v) h.no_dc h.coded)
-    h.some h.most h.short (passed_to h.passed u.old before (behind_zero run u.old) z.0) (omega (arith, zeros-join h.passed before, z.1, h.sum)) l
+    front_of_value c s w others h.code (extra_bits v ++ h.corrections) h.zeros (category v) (h.passed ++ before) (after_zero run u.old) h.no_dc (in_ac c u (h.code, 16 * h.zeros + category v) h.no_dc h.coded)
+    h.some h.most h.short (passed_to h.passed u.old before (after_zero run u.old) z.0) (omega (arith, zeros-join h.passed before, z.1, h.sum)) l
     )
 
 long_front : (c : Coding) (s : Standing) (u : UnitLeft) (others : List UnitLeft) (here : List ℤ) (bits : List Bool) (run : ℕ) → (h : InLong c s u others here bits run) → WantsCorrection u
@@ -197,9 +198,9 @@ long_front c s u others here bits run h due = subst (λ b. IsProperFront c s w o
     by true e =
         let z = at_zero run u.old (lt_of run (zeros_in u.old) e) in
         let before = before_zero run u.old in
-        let n = old_before u before (behind_zero run u.old) due z.0 in
-        front_of_long_run c s w others h.code h.corrections ((h.passed ++ before) ++ pos 0 ∷ []) (behind_zero run u.old) h.no_dc coded
-        (inl (h.passed ++ before, passed_to h.passed u.old before (behind_zero run u.old) z.0, omega (arith, zeros-join h.passed before, z.1, h.sum), refl))
+        let n = old_before u before (after_zero run u.old) due z.0 in
+        front_of_long_run c s w others h.code h.corrections ((h.passed ++ before) ++ pos 0 ∷ []) (after_zero run u.old) h.no_dc coded
+        (inl (h.passed ++ before, passed_to h.passed u.old before (after_zero run u.old) z.0, omega (arith, zeros-join h.passed before, z.1, h.sum), refl))
         (omega (arith, nonzeros-append (h.passed ++ before) (pos 0 ∷ []), nonzeros-append h.passed before, n, h.each))
     by false e =
         let few = not_lt_of run (zeros_in u.old) e in
@@ -264,7 +265,7 @@ number_front : (c : Coding) (s : Standing) (u : UnitLeft) (others : List UnitLef
 number_front c s u others here bits run size extra h few =
     let z = at_zero run u.old h.room in
     subst (λ b. IsProperFront c s u others b) (sym h.split) (
-    front_of_value c s u others h.code extra run size (before_zero run u.old) (behind_zero run u.old) h.no_dc (in_ac c u (h.code, 16 * run + size) h.no_dc h.coded) h.some h.most h.short z.0 z.1 (omega (arith, few))
+    front_of_value c s u others h.code extra run size (before_zero run u.old) (after_zero run u.old) h.no_dc (in_ac c u (h.code, 16 * run + size) h.no_dc h.coded) h.some h.most h.short z.0 z.1 (omega (arith, few))
     )
 
 count_front : (c : Coding) (s : Standing) (u : UnitLeft) (others : List UnitLeft) (here : List ℤ) (bits : List Bool) (n : ℕ) (extra : List Bool) → InCount c s u others here bits n extra → length extra < n
@@ -272,7 +273,7 @@ count_front : (c : Coding) (s : Standing) (u : UnitLeft) (others : List UnitLeft
 count_front c s u others here bits n extra h few =
     subst (λ b. IsProperFront c s u others b) (sym h.split) (front_of_count c s u others h.code extra n h.no_dc (in_ac c u (h.code, 16 * n) h.no_dc h.coded) h.most few)
 
--- THE LAW: a part of an element is a proper front, where its first unit stands
+-- THE LAW: a part of an element is a proper prefix, at the state before its first unit
 pub record FrontAt (c : Coding) (s : Standing) (bits : List Bool) : Type 0 where
   pub unit : UnitLeft
   pub units : List UnitLeft

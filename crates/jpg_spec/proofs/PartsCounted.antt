@@ -1,4 +1,4 @@
--- What whole elements and a part of one more told, and what they leave, are all values of the units.
+-- What complete elements and a part of one more encoded, and what they leave, are all values of the units.
 use Rattle.std.proofs.Common.{◌≡◌, ◌+◌, ◌<◌, Bool, List, [], ◌∷◌, ◌++◌, length, take, drop, ap, ◌∙◌, arith, inl, inr, ℤ, pos}
 use Rattle.std.specs.Prelude.{◌⊎◌}
 use Rattle.std.proofs.lemmas.Grind.{flat_map-append}
@@ -44,7 +44,7 @@ covers_all c s (e ∷ es) told bits t k =
     let r = covers_all c next es k.4 k.6 t k.13 in
     omega (arith, ap length k.8, length-append k.2 k.4, r, tells_all c (s.predictions (k.0).component) e k.0 k.1 k.2 k.3 k.11, ap (λ vs. length (old_values vs)) k.7)
 
--- values that were passed of a unit, and what is left of it and behind it
+-- values that were skipped of a unit, and what is left of it and after it
 passed_size : (u : UnitLeft) (others : List UnitLeft) (first : List ℤ) → (let v : UnitLeft = record u { old = first ++ u.old } in length (old_values (v ∷ others)) ≡ length first + length (old_values (u ∷ others)))
 passed_size u others first = omega (arith, length-append (first ++ u.old) (old_values others), length-append first u.old, unit_size u others)
 

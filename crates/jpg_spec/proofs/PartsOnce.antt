@@ -1,4 +1,4 @@
--- Bits that stand as whole elements and a part of one more do so in one way.
+-- Bits can be complete elements and a part of one more in only one way.
 use Rattle.std.proofs.Common.{◌≡◌, ℕ, ◌+◌, ◌-◌, ◌*◌, ◌/◌, ◌%◌, ◌<◌, ◌≤◌, Bool, true, false, cond, ◌==◌, List, [], ◌∷◌, ◌++◌, length, refl, sym, ap, ◌∙◌, subst, arith, inl, inr, ⊎_elim, ℤ}
 use Rattle.std.specs.Prelude.{◌⊎◌}
 use Rattle.std.specs.List.{Contains}
@@ -10,13 +10,13 @@ use Rattle.jpg_spec.specs.Elements.{Coding, UnitLeft, Standing, Element, Covers,
 use Rattle.jpg_spec.specs.Parts.{IsFront, WantsCorrection, PartOfElement, in_code, in_difference, in_number, in_count, in_value, in_long, in_ends, StandsInUnits, StandsInOneWay}
 use Rattle.jpg_spec.specs.Sound.{IsSound}
 use Rattle.jpg_spec.proofs.Facts.{facts}
-use Rattle.jpg_spec.proofs.Bands.{nonzeros-append}
+use Rattle.jpg_spec.proofs.Values.{nonzeros-append}
 use Rattle.jpg_spec.proofs.Once.{GoesOn, symbol_once, fronts_once, head_inj}
 use Rattle.jpg_spec.proofs.Parts.{in_ac, some_old, same_head, part_front}
 use Rattle.jpg_spec.proofs.PartStands.{coding_is, codes_one, codes_not_empty, no_further, part_no_code, empty_front}
 use Rattle.jpg_spec.proofs.Common.{append_inj, clash}
 
--- WHAT WAS PASSED is told by how many corrections it took
+-- WHAT WAS SKIPPED is determined by how many corrections it took
 
 abbrev old_one : ℤ → ℕ
 old_one o = cond (is_zero o) 0 1
@@ -55,7 +55,7 @@ unit_once first first' u u' e w w' n =
     let d : u.has_dc ≡ u'.has_dc = ap (λ (v : UnitLeft). v.has_dc) e in
     (r.0, ap (λ l. (let v : UnitLeft = record u { old = l } in v)) old ∙ ap (λ n. (let v : UnitLeft = record { component = n; has_dc = u.has_dc; old = u'.old } in v)) i ∙ ap (λ b. (let v : UnitLeft = record { component = u'.component; has_dc = b; old = u'.old } in v)) d)
 
--- a unit that is passed whole has one more correction than a part of it
+-- a unit that is passed completely has one more correction than a part of it
 more_old : (first : List ℤ) (u v : UnitLeft) → in_part first u ≡ v → WantsCorrection u → nonzeros_in first + 1 ≤ nonzeros_in v.old
 more_old first u v e w =
     let o : v.old ≡ first ++ w.0 ∷ w.1 = ap (λ (x : UnitLeft). x.old) (sym e) ∙ ap (λ l. first ++ l) w.2 in
@@ -82,9 +82,9 @@ passed_once (v ∷ whole) (v' ∷ whole') first first' u u' others others' e w w
     let r = passed_once whole whole' first first' u u' others others' h.1 w w' (omega (arith, n, o, flat_more v whole first, flat_more v' whole' first')) in
     record { whole_same = ap (λ x. x ∷ whole) h.0 ∙ ap (λ xs. v' ∷ xs) r.whole_same; first_same = r.first_same; unit_same = r.unit_same; others_same = r.others_same }
 
--- TWO SHAPES of parts, of which no bits have both
+-- TWO KINDS of parts, of which no bits have both
 
--- how many additional bits an AC symbol wants
+-- how many additional bits an AC symbol needs
 abbrev wanted : ℕ → ℕ
 wanted symbol = cond (symbol % 16 == 0) (cond (symbol == 0xf0) 0 (symbol / 16)) (symbol % 16)
 
@@ -102,14 +102,14 @@ wanted_ends n most =
     let q : (16 * n) / 16 ≡ n = omega arith in
     ap (λ b. cond b (cond (16 * n == 0xf0) 0 ((16 * n) / 16)) ((16 * n) % 16)) z ∙ ap (λ b. cond b 0 ((16 * n) / 16)) l ∙ q
 
--- before the additional bits are whole: nothing was passed
+-- before the additional bits are complete: nothing was skipped
 record Early (c : Coding) (s : Standing) (u : UnitLeft) (others : List UnitLeft) (here : List ℤ) (bits : List Bool) : Type 0 where
   left : s.left ≡ u ∷ others
   none : here ≡ []
   short : IsFront (codes_due c u) bits
       ⊎ ((u.has_dc ≡ true) ⊎ ((code : List Bool) × (symbol : ℕ) × (extra : List Bool) × Contains (codes_due c u) (code, symbol) × (bits ≡ code ++ extra) × (length extra < wanted symbol)))
 
--- behind them: as many corrections as what was passed takes, and a further one due
+-- after them: as many corrections as what was skipped takes, and a further one follows
 record Late (c : Coding) (s : Standing) (u : UnitLeft) (others : List UnitLeft) (here : List ℤ) (bits : List Bool) : Type 0 where
   unit : UnitLeft
   units : List UnitLeft
@@ -200,7 +200,7 @@ shape c s u others here bits sound (in_ends bands h due) =
       due = due;
     })
 
--- what two parts of the same bits have alike
+-- what two parts of the same bits have in common
 record Same (u u' : UnitLeft) (others others' : List UnitLeft) (here here' : List ℤ) : Type 0 where
   units : u ∷ others ≡ u' ∷ others'
   values : here ≡ here'

@@ -1,4 +1,4 @@
--- The picture in work: from the one before a scan, interval by interval, to what the scan means.
+-- The current picture: from the one before a scan, interval by interval, to what the scan means.
 use Rattle.std.proofs.Common.{◌≡◌, ℕ, ◌≤◌, Bool, true, false, ◌==◌, ◌&&◌, List, [], ◌∷◌, ◌++◌, length, refl, sym, ap, ◌∙◌, subst, arith, inl, ℤ, pos}
 use Rattle.std.specs.Prelude.{◌||◌, map, flat_map, nat_le, slice_index_or}
 use Rattle.std.proofs.lemmas.Bool.Decides.{nat_tests}
@@ -8,7 +8,7 @@ use Rattle.jpg_spec.specs.Bits.{Packs, bits_of, bits_of_bytes}
 use Rattle.jpg_spec.specs.Lists.{any_of, chunks, joined}
 use Rattle.jpg_spec.specs.Elements.{Coding, UnitLeft, SpellsUnits, at_start}
 use Rattle.jpg_spec.specs.Scan.{Blocks, Scan, unit_at, band, block_at, SpellsInterval, SpellsIntervals, coefficient, is_named, ScanMeans}
-use Rattle.jpg_spec.specs.ScanFaults.{DataShows}
+use Rattle.jpg_spec.specs.ScanFaults.{DataReveals}
 use Rattle.jpg_spec.specs.Items.{Item, segment, scan}
 use Rattle.jpg_spec.specs.FileMeaning.{Leads}
 use Rattle.jpg_spec.specs.declared.fault.Fault.{Fault}
@@ -113,7 +113,7 @@ same_units s old new others same (p ∷ places) d =
     ap (λ b. (let u : UnitLeft = record { component = p.component; has_dc = s.ss == 0; old = band s b } in u ∷ map (unit_at s new) places)) (same p.component p.x p.y d.0)
     ∙ ap (λ l. unit_at s old p ∷ l) (same_units s old new others same places d.1)
 
--- intervals that were read tell the same of a picture that changes behind them
+-- intervals that were read encode the same of a picture that changes after them
 pub spelled_still : (s : Scan) (before old new : Blocks) (others : List Place) → ((i x y : ℕ) → any_of (is_at i x y) others ≡ false → new i x y ≡ old i x y) → (front : List (List Place)) (done : List (List ℕ)) → AreApart (joined front) others
     → SpellsIntervals s before old front done → SpellsIntervals s before new front done
 spelled_still s before old new others same [] [] d k = k
@@ -145,7 +145,7 @@ pub due_apart : (s : Scan) (before work : Blocks) (done : List (List ℕ)) (plac
 due_apart s before work done places later distinct w =
     (apart_less (joined w.front) places (joined later) (apart_of (joined w.front) (places ++ joined later) (subst (λ l. AreDistinct l) (all_places s before work done places later w) distinct))).0
 
--- The units that are due stand in the picture in work as before the scan: so a machine may read them there.
+-- The units that are left are in the current picture as before the scan: so a machine may read them there.
 pub so_far_units : (s : Scan) (before work : Blocks) (done : List (List ℕ)) (places : List Place) (later : List (List Place)) → AreDistinct s.places → ScanSoFar s before work done (places ∷ later)
     → map (unit_at s work) places ≡ map (unit_at s before) places
 so_far_units s before work done places later distinct w =
@@ -172,7 +172,7 @@ so_far_next s before work new done coded bits places later distinct w packs r = 
     all_front : joined (w.front ++ places ∷ []) ≡ joined w.front ++ places
     all_front = joined_join w.front (places ∷ []) ∙ ap (λ l. joined w.front ++ l) (append-nil places)
 
--- behind the last interval the picture is what the scan means
+-- after the last interval the picture is what the scan means
 pub so_far_last : (s : Scan) (before work : Blocks) (intervals : List (List ℕ)) → ScanSoFar s before work intervals [] → ScanMeans s intervals before work
 so_far_last s before work intervals w = record {
   spelled = subst (λ q. SpellsIntervals s before work q intervals) (sym (w.cut ∙ append-nil w.front)) w.spelled;
@@ -192,7 +192,7 @@ so_far_last s before work intervals w = record {
 
 -- THE LAST BYTE of an interval's data: its bits are taken one by one
 
--- a part of an element with the whole byte
+-- a part of an element with all bits of the byte
 -- the last unit's last bit, and the rest of its byte
 pub byte_packs : (coded : List ℕ) (byte : ℕ) (bits rest : List Bool) → bits_of 8 byte ≡ bits ++ rest → 1 ≤ length bits → Packs (bits_of_bytes coded ++ bits) (coded ++ byte ∷ [])
 byte_packs coded byte bits rest e some =
@@ -202,17 +202,17 @@ byte_packs coded byte bits rest e some =
     (rest, omega (arith, l0, l1, l2, some), bits_join coded (byte ∷ []) ∙ ap (λ l. bits_of_bytes coded ++ l) (append-nil (bits_of 8 byte) ∙ e) ∙ sym (append_assoc (bits_of_bytes coded) bits rest))
 
 -- a fault with some bits of a byte is one of the byte
-pub byte_shows : (c : Coding) (units : List UnitLeft) (fault : Fault) (coded : List ℕ) (byte : ℕ) (bits rest : List Bool) → bits_of 8 byte ≡ bits ++ rest → DataShows c units fault (bits_of_bytes coded ++ bits)
-    → DataShows c units fault (bits_of_bytes (coded ++ byte ∷ []))
+pub byte_shows : (c : Coding) (units : List UnitLeft) (fault : Fault) (coded : List ℕ) (byte : ℕ) (bits rest : List Bool) → bits_of 8 byte ≡ bits ++ rest → DataReveals c units fault (bits_of_bytes coded ++ bits)
+    → DataReveals c units fault (bits_of_bytes (coded ++ byte ∷ []))
 byte_shows c units fault coded byte bits rest e d =
-    subst (λ l. DataShows c units fault l) (append_assoc (bits_of_bytes coded) bits rest ∙ ap (λ l. bits_of_bytes coded ++ l) (sym (append-nil (bits_of 8 byte) ∙ e)) ∙ sym (bits_join coded (byte ∷ [])))
+    subst (λ l. DataReveals c units fault l) (append_assoc (bits_of_bytes coded) bits rest ∙ ap (λ l. bits_of_bytes coded ++ l) (sym (append-nil (bits_of 8 byte) ∙ e)) ∙ sym (bits_join coded (byte ∷ [])))
     (shows_more c units fault (bits_of_bytes coded ++ bits) rest d)
 
 -- all bits of a byte
 pub byte_bits : (coded : List ℕ) (byte : ℕ) → bits_of_bytes (coded ++ byte ∷ []) ≡ bits_of_bytes coded ++ bits_of 8 byte
 byte_bits coded byte = bits_join coded (byte ∷ []) ∙ ap (λ l. bits_of_bytes coded ++ l) (append-nil (bits_of 8 byte))
 
--- before the first bit units are due, where there are any
+-- before the first bit units are left, if there are any
 pub starts_due : (c : Coding) (unit : UnitLeft) (units : List UnitLeft) → StandsInUnits c (unit ∷ units) [] (unit ∷ units) []
 starts_due c unit units = record {
   elements = [];

@@ -1,4 +1,4 @@
--- No block stands at two places of a scan.
+-- No block is at two places of a scan.
 use Rattle.std.proofs.Common.{◌≡◌, ◌≢◌, ℕ, zero, suc, ◌+◌, ◌-◌, ◌*◌, ◌/◌, ◌<◌, ◌≤◌, Bool, true, false, ◌==◌, ◌&&◌, not, List, [], ◌∷◌, ◌++◌, refl, sym, ap, ◌∙◌, subst, arith}
 use Rattle.std.specs.Prelude.{◌||◌, map, flat_map}
 use Rattle.std.proofs.lemmas.Bool.Decides.{nat_tests}

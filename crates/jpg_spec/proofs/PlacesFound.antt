@@ -12,7 +12,7 @@ use Rattle.jpg_spec.specs.PictureInWork.{is_at}
 use Rattle.jpg_spec.specs.declared.frame.Place.{Place}
 use Rattle.jpg_spec.proofs.PictureInWork.{any_join}
 use Rattle.jpg_spec.proofs.PlacesSome.{h_max_some, v_max_some, factors_at}
-use Rattle.jpg_spec.proofs.PlacedBlocks.{Each, each_join}
+use Rattle.jpg_spec.proofs.Each.{Each, each_join}
 use Rattle.jpg_spec.proofs.PlacesDistinct.{map_is_flat}
 use Rattle.jpg_spec.proofs.Common.{both, lt_of, same_of, and_intro, same_itself}
 
@@ -98,7 +98,7 @@ found_parts test f (j ∷ parts) i h e = any_join test (f j) (flat_map f parts) 
     by true s k later = or_first (any_of test (f j)) (any_of test (flat_map f parts)) (ap (λ m. any_of test (f m)) (same_of j i s) ∙ e)
     by false s k later = or_second (any_of test (f j)) (any_of test (flat_map f parts)) (later k)
 
--- REAL BLOCKS lie in the padded grid
+-- REAL BLOCKS are in the padded grid
 
 pub covers : (n d : ℕ) → 0 < d → n ≤ div_up n d * d
 covers n d some =

@@ -30,7 +30,7 @@ some_row : (g : ℕ → Place) (n : ℕ) → 1 ≤ n → 1 ≤ length (map g (be
 some_row g zero some = absurd (omega (arith, some))
 some_row g (suc n) some = let l = length-map (below (suc n)) g in let k = length-append (below n) (n ∷ []) in omega (arith, l, k)
 
--- WHAT GIVES PLACES: sides, components and factors, of which none is 0
+-- WHAT GIVES PLACES: sides, components and factors, all of them not 0
 pub record HasPlaces (f : Frame) : Type 0 where
   pub width : 1 ≤ f.width
   pub height : 1 ≤ f.height
@@ -47,7 +47,7 @@ one_at_least n d some low = le-div 1 (n + d - 1) d some (omega (arith, low))
 pub factors_at : (f : Frame) (i : ℕ) → IsFrame f → i < length f.components → HasFactors (component_at f i)
 factors_at f i is h = All-get_or HasFactors f.components i no_component h is.factors
 
--- also where the frame has no such component
+-- also if the frame has no such component
 factors_of : (f : Frame) (i : ℕ) → HasPlaces f → HasFactors (component_at f i)
 factors_of f i is =
     ⊎_elim
@@ -136,7 +136,7 @@ units_some f i parts is h = units_placed f i parts (frame_places f is)
 pub head_units_some : (f : Frame) (head : ScanHead) → IsFrame f → IsHead f head → 1 ≤ length (units f (head_components head))
 head_units_some f head is h = head_places_some f head (frame_places f is) h.some
 
--- INTERVALS of some places are some, and none is empty
+-- There are INTERVALS of some places, and none is empty
 abbrev pub AreSome : List (List Place) → Type 0
 AreSome [] = Unit {0}
 AreSome (places ∷ later) = (1 ≤ length places) × AreSome later

@@ -1,4 +1,5 @@
--- How often a coefficient can be sent: each scan that names it brings it a bit further down, so that the scans of a script are few.
+-- How often a coefficient can be sent: each scan that names it makes it known to a lower bit, so that the scans of a
+-- script are few.
 use Rattle.std.proofs.Common.{◌≡◌, ℕ, zero, suc, ◌+◌, ◌-◌, ◌*◌, ◌<◌, ◌≤◌, Bool, true, false, cond, List, [], ◌∷◌, refl, sym, ap, ◌∙◌, arith, ⊎_elim, Option, Some, None, ◌==◌, ◌&&◌}
 use Rattle.std.specs.Prelude.{◌||◌, nat_le}
 use Rattle.std.proofs.lemmas.Bool.{cases_lt}
@@ -6,10 +7,11 @@ use Rattle.std.proofs.lemmas.Bool.Decides.{nat_tests}
 use Rattle.jpg_spec.specs.Lists.{is_among}
 use Rattle.jpg_spec.specs.Segments.{ScanHead, head_components}
 use Rattle.jpg_spec.specs.History.{has_coefficient, known_to, is_next}
-use Rattle.jpg_spec.proofs.ProgressiveKnown.{was_known, band_next, known_new, known_old}
+use Rattle.jpg_spec.proofs.Known.{was_known, band_next, known_new, known_old}
 use Rattle.jpg_spec.proofs.Common.{same_of}
 
--- WHAT IS LEFT of a coefficient: the bits that aren't sent. An interleaved scan of DC has up to ten units for a block of each padded grid.
+-- WHAT IS LEFT of a coefficient: the bits that aren't sent. An interleaved scan of DC has up to ten units for a block
+-- of each padded grid.
 
 abbrev pub unsent : Option ℕ → ℕ
 unsent None = 11
@@ -73,7 +75,7 @@ share_one : (k a b : ℕ) → a + 1 ≤ b → share k a + share k 1 ≤ share k 
 share_one zero a b h = omega (arith, h)
 share_one (suc k) a b h = h
 
--- a component that the scan names has so much less
+-- a component that the scan names has this much less
 named_less : (heads : List ScanHead) (head : ScanHead) (i k : ℕ) → Descends heads head → k ≤ 64 → is_among i (head_components head) ≡ true → left_of_block (head ∷ heads) i k + sent_of head k ≤ left_of_block heads i k
 named_less heads head i zero d h among = omega arith
 named_less heads head i (suc k) d h among = by (is_in head k) refl (named_less heads head i k d (omega (arith, h)) among)

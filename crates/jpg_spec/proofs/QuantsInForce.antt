@@ -1,4 +1,4 @@
--- The quantisation tables that segments tell: their numbers, those in force, and a table from what is written of it.
+-- The quantisation tables of segments: their numbers, those in force, and a table from its bytes.
 use Rattle.std.proofs.Common.{◌≡◌, ℕ, zero, suc, ◌+◌, ◌/◌, ◌%◌, ◌<◌, ◌≤◌, Bool, true, false, cond, List, [], ◌∷◌, length, take, drop, get_or, refl, sym, ap, ◌∙◌, subst, arith, Option, Some, None, ◌==◌}
 use Rattle.std.specs.Prelude.{◌||◌, flat_map, reverse, find, nat_lt, Ok, Err, option_map}
 use Rattle.std.specs.Int.{to_be_bytes, w16}
@@ -33,7 +33,7 @@ length_entries : (wide : Bool) (bytes : List ℕ) → cond wide 128 64 ≤ lengt
 length_entries true bytes l = length_pairs 64 (take 128 bytes) (length-take-le 128 bytes l)
 length_entries false bytes l = length-take-le 64 bytes l
 
--- what holds of each table that is told, where it holds of a table of such bytes
+-- what holds of each table of a segment, if it holds of a table of such bytes
 unfoldable pub HoldsOfTables : (ℕ → Type 0) → (QuantTable → Type 0) → Type 0
 HoldsOfTables Q P = (pt : ℕ) (bytes : List ℕ) (d : ℕ × QuantTable) → All Q bytes → quant_table_of pt bytes ≡ Ok d → P d.1
 
@@ -164,7 +164,7 @@ pub length_pairs_written : (table : QuantTable) → length (flat_map (to_be_byte
 length_pairs_written [] = refl
 length_pairs_written (q ∷ table) = omega (arith, length-append (to_be_bytes w16 q) (flat_map (to_be_bytes w16) table), length_pairs_written table)
 
--- bytes of one table alone
+-- bytes of only one table
 pub one_table : (pt : ℕ) (bytes : List ℕ) (table : QuantTable) → IsQuants table → (nat_lt 1 (pt / 16) || nat_lt 3 (pt % 16)) ≡ false → length bytes ≡ table_size pt → table_entries pt bytes ≡ table
     → quant_tables (pt ∷ bytes) ≡ Ok ((pt % 16, table) ∷ [])
 unfolding quant_table_of quant_tables_of

@@ -1,4 +1,4 @@
--- The coefficients of a file lie in the bounds of its precision, after every scan.
+-- The coefficients of a file are in the bounds of its precision, after every scan.
 use Rattle.std.proofs.Common.{◌≡◌, ℕ, zero, suc, ◌+◌, ◌-◌, ◌*◌, ◌<◌, ◌≤◌, Bool, true, false, cond, not, ◌==◌, ◌&&◌, List, [], ◌∷◌, ◌++◌, length, take, drop, get_or, refl, sym, ap, ◌∙◌, subst, arith, inl, inr, ⊎_elim, ℤ, pos, None}
 use Rattle.std.specs.Prelude.{◌⊎◌, ◌||◌, map, flat_map, nat_le, nat_lt, int_le, nat_abs, Ok}
 use Rattle.std.proofs.lemmas.Bool.Decides.{nat_tests}
@@ -15,21 +15,20 @@ use Rattle.jpg_spec.specs.declared.fault.Fault.TheVariants.{BadLength, ScanCompo
 use Rattle.jpg_spec.proofs.FirstPasses.{IsHeadAt, head_at}
 use Rattle.jpg_spec.specs.InForce.{frame_of, head_in}
 use Rattle.jpg_spec.specs.Items.{Item, segment, scan, segments_of, contents_rule}
-use Rattle.jpg_spec.specs.FileMeaning.{scan_after, Leads}
+use Rattle.jpg_spec.specs.FileMeaning.{scan_after, Leads, Means}
 use Rattle.jpg_spec.specs.PictureInWork.{is_at}
 use Rattle.jpg_spec.specs.Ranges.{is_coefficient, AreInRange}
 use Rattle.jpg_spec.specs.Meaning.{Meaning, real_blocks, picture_frame}
-use Rattle.jpg_spec.specs.FileMeaning.{Means}
 use Rattle.jpg_spec.specs.declared.frame.Limits.{Limits}
 use Rattle.jpg_spec.specs.declared.frame.Place.{Place}
 use Rattle.jpg_spec.proofs.Rows.{append_apart}
 use Rattle.jpg_spec.proofs.Within.{AreWithin, ends_one, step, length_corrected}
 use Rattle.jpg_spec.proofs.BlocksOnce.{joined_chunks, length_band, in_band}
 use Rattle.jpg_spec.proofs.PictureInWork.{leads_sizes}
-use Rattle.jpg_spec.proofs.Writing.{bounds_split}
+use Rattle.jpg_spec.proofs.Values.{bounds_split}
 use Rattle.jpg_spec.proofs.Common.{both, le_of, same_of, refused, clash}
 
--- UNITS of a scan: EOBs end one band each; or no DC is due; or a DC value alone is due of each unit
+-- UNITS of a scan: EOBs end one band each; or no DC is next; or only a DC value of each unit is encoded
 
 abbrev pub NoDc : List UnitLeft → Type 0
 NoDc [] = Unit {0}
@@ -204,7 +203,7 @@ scan_mode limits items blocks contents places l rule = by (is_progressive (frame
         let h = head_band f contents at.head at.told e in
         banded e (head.ss == 0) refl h.0 (subst (λ (z : ScanHead). is_band h.0 z ≡ true) (sym at.is_head) h.1)
 
--- EACH PLACE's band lies in the bounds
+-- EACH PLACE's band is in the bounds
 
 abbrev pub PlacesWithin : Scan → Blocks → List Place → Type 0
 PlacesWithin s after [] = Unit {0}
@@ -322,7 +321,7 @@ in_range limits (scan contents intervals ∷ items) blocks l i x y k = by (is_na
 pub leads_in_range : (limits : Limits) (items : List Item) (blocks : Blocks) → Leads limits items blocks → AreInRange (bounds (frame_of limits (segments_of items))) blocks
 leads_in_range limits items blocks l = record { sizes = leads_sizes limits items blocks l; values = in_range limits items blocks l }
 
--- the real blocks alone
+-- only the real blocks
 pub real_in_range : (f : Frame) (blocks : Blocks) → AreInRange (bounds f) blocks → AreInRange (bounds f) (real_blocks f blocks)
 real_in_range f blocks w = record {
   sizes = λ i x y. size (nat_lt i (length f.components) && is_real f i x y) (blocks i x y) (w.sizes i x y);

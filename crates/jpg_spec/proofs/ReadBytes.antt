@@ -1,10 +1,10 @@
--- Bytes of segments, read byte by byte: what they come to is told by the state behind them.
+-- Bytes of segments, read byte by byte: their result is determined by the state after them.
 use Rattle.std.proofs.Common.{◌≡◌, ℕ, zero, suc, ◌+◌, ◌-◌, ◌<◌, true, false, cond, List, [], ◌∷◌, ◌++◌, length, refl, sym, ap, ◌∙◌, arith, inl, inr, Option, Some, None}
 use Rattle.std.specs.Prelude.{◌⊎◌, ◌==◌, nat_lt, replicate}
 use Rattle.std.proofs.lemmas.List.{append_assoc, append-nil}
 use Rattle.std.proofs.lemmas.Bool.Decides.{nat_tests}
 use Rattle.jpg_spec.specs.Segments.{two_bytes}
-use Rattle.jpg_spec.specs.Markers.{Segment, SpellsMarker, SpellsSegment, SpellsSegments, is_frame_code, code_fault, Rule, Pass, ShowsNoStart, Between, NoMarkerBytes, BeginsSegment, ShowsCode, ShowsLength, ShowsSegment, TailShows, SegmentsShow, PartOfSegment, Reached, at_soi, at_frame, at_eoi, at_segment, at_fault, at_part, Reaches}
+use Rattle.jpg_spec.specs.Markers.{Segment, SpellsMarker, SpellsSegment, SpellsSegments, is_frame_code, code_fault, Rule, Pass, RevealsNoStart, Between, NoMarkerBytes, BeginsSegment, RevealsCode, RevealsLength, RevealsSegment, TailReveals, SegmentsReveal, PartOfSegment, Reached, at_soi, at_frame, at_eoi, at_segment, at_fault, at_part, Reaches}
 use Rattle.jpg_spec.specs.declared.fault.Fault.{Fault}
 use Rattle.jpg_spec.specs.declared.fault.Fault.TheVariants.{NotJpeg, NoMarker, BadLength}
 use Rattle.jpg_spec.proofs.MarkersOnce.{length_bytes}
@@ -12,7 +12,8 @@ use Rattle.jpg_spec.proofs.Common.{not_same}
 
 -- STATES between bytes
 
--- nothing; the FF of SOI; whole segments; FF bytes behind them; a marker; a byte of its length; some contents, of which suc k bytes are left; a fault, EOI, and what is behind these
+-- nothing; the FF of SOI; complete segments; FF bytes after them; a marker; a byte of its length; some contents, of
+-- which suc k bytes are left; a fault, EOI, and what is after these
 pub data State : Type 0 where
   starts : State
   starting : State
@@ -25,7 +26,7 @@ pub data State : Type 0 where
   ended : State
   behind : State
 
--- behind a segment that is whole
+-- after a segment that is complete
 abbrev pub judged : List Segment → ℕ → List ℕ → Option Fault → State
 judged before code contents None = whole ((code, contents) ∷ before)
 judged before code contents (Some fault) = stopped fault
@@ -35,7 +36,7 @@ abbrev pub taken : Rule → List Segment → ℕ → ℕ → List ℕ → State
 taken rule before code zero contents = judged before code contents (rule before code contents)
 taken rule before code (suc left) contents = inside before code left contents
 
--- behind a code that no fault forbids, or a fault
+-- after a code that no fault forbids, or a fault
 abbrev pub allowed : List Segment → ℕ → Option Fault → State
 allowed before code None = cond (code == 0xd9) ended (marked before code)
 allowed before code (Some fault) = stopped fault
@@ -60,7 +61,7 @@ abbrev pub read : Rule → State → List ℕ → State
 read rule s [] = s
 read rule s (b ∷ bytes) = read rule (next rule s b) bytes
 
--- what a state is called
+-- the result of a state
 abbrev pub called : State → Option Reached
 called starts = Some at_part
 called starting = Some at_part
@@ -80,9 +81,9 @@ pub read_both : (rule : Rule) (s : State) (a b : List ℕ) → read rule s (a ++
 read_both rule s [] b = refl
 read_both rule s (x ∷ a) b = read_both rule (next rule s x) a b
 
-pub read_behind : (rule : Rule) (bytes : List ℕ) → read rule behind bytes ≡ behind
-read_behind rule [] = refl
-read_behind rule (b ∷ bytes) = read_behind rule bytes
+pub read_after : (rule : Rule) (bytes : List ℕ) → read rule behind bytes ≡ behind
+read_after rule [] = refl
+read_after rule (b ∷ bytes) = read_after rule bytes
 
 pub read_fills : (rule : Rule) (before : List Segment) (fill : ℕ) → read rule (filling before) (replicate fill 255) ≡ filling before
 read_fills rule before zero = refl
@@ -133,7 +134,7 @@ read_some rule before code high low left marker contents s n =
     ∙ ap (λ t. cond t (stopped BadLength) (taken rule before code (length contents + left + 2 - 2) [])) two ∙ ap (λ k. taken rule before code k []) less)
     ∙ read_contents rule before code left [] contents
 
--- a whole segment
+-- a complete segment
 pub read_segment : (rule : Rule) (before : List Segment) (code : ℕ) (contents bytes : List ℕ) → SpellsSegment code contents bytes → code_fault before code ≡ None → (code ≡ 0xd9 → ⊥)
     → read rule (whole before) bytes ≡ judged before code contents (rule before code contents)
 read_segment rule before code contents bytes s f n =
@@ -142,7 +143,7 @@ read_segment rule before code contents bytes s f n =
     let cut : bytes ≡ s.0 ++ l.0 ∷ l.1 ∷ contents = s.3 ∙ ap (λ k. s.0 ++ k ++ contents) l.2 ∙ append_assoc s.0 (l.0 ∷ l.1 ∷ []) contents in
     ap (λ k. read rule (whole before) k) cut ∙ read_some rule before code l.0 l.1 0 s.0 contents (s.1, f, n) z
 
--- whole segments that break no rule
+-- complete segments that break no rule
 pub read_segments : (rule : Rule) (before : List Segment) (bytes : List ℕ) → SpellsSegments before bytes → Pass rule before → read rule starts bytes ≡ whole before
 read_segments rule [] bytes s p = ap (λ l. read rule starts l) s
 read_segments rule (x ∷ before) bytes s p =
@@ -153,9 +154,9 @@ pub read_between : (rule : Rule) (bytes : List ℕ) (before : List Segment) (tai
 read_between rule bytes before tail w =
     ap (λ l. read rule starts l) w.cut ∙ read_both rule starts w.front tail ∙ ap (λ t. read rule t tail) (read_segments rule before w.front w.spelled w.passed)
 
--- WHAT SHOWS A FAULT is read as this fault
+-- WHAT HAS A FAULT is read as this fault
 
-pub read_no_start : (rule : Rule) (bytes : List ℕ) → ShowsNoStart bytes → read rule starts bytes ≡ stopped NotJpeg
+pub read_no_start : (rule : Rule) (bytes : List ℕ) → RevealsNoStart bytes → read rule starts bytes ≡ stopped NotJpeg
 read_no_start rule bytes (inl s) = ap (λ l. read rule starts l) s.1 ∙ ap (λ t. cond t starting (stopped NotJpeg)) (not_same s.0 255 s.2)
 read_no_start rule bytes (inr s) = ap (λ l. read rule starts l) s.1 ∙ ap (λ t. cond t (whole []) (stopped NotJpeg)) (not_same s.0 0xd8 s.2)
 
@@ -163,33 +164,33 @@ pub read_no_marker : (rule : Rule) (before : List Segment) (tail : List ℕ) →
 read_no_marker rule before tail (inl s) = ap (λ l. read rule (whole before) l) s.1 ∙ ap (λ t. cond t (filling before) (stopped NoMarker)) (not_same s.0 255 s.2)
 read_no_marker rule before tail (inr s) = ap (λ l. read rule (whole before) l) s.1 ∙ read_filled rule before s.0 0 (λ h. omega (arith, h))
 
-pub read_code : (rule : Rule) (before : List Segment) (fault : Fault) (tail : List ℕ) → ShowsCode before fault tail → read rule (whole before) tail ≡ stopped fault
+pub read_code : (rule : Rule) (before : List Segment) (fault : Fault) (tail : List ℕ) → RevealsCode before fault tail → read rule (whole before) tail ≡ stopped fault
 read_code rule before fault tail s = read_marker rule before s.0 tail s.1 ∙ ap (λ f. allowed before s.0 f) s.2
 
-pub read_short : (rule : Rule) (before : List Segment) (tail : List ℕ) → ShowsLength before tail → read rule (whole before) tail ≡ stopped BadLength
+pub read_short : (rule : Rule) (before : List Segment) (tail : List ℕ) → RevealsLength before tail → read rule (whole before) tail ≡ stopped BadLength
 read_short rule before tail s =
     let few = s.6 in
     let n = two_bytes s.2 s.3 in
     let two : nat_lt n 2 ≡ true = grind (arith, nat_tests) in
     ap (λ l. read rule (whole before) l) s.5 ∙ read_length rule before s.0 s.2 s.3 s.1 s.4 ∙ ap (λ t. cond t (stopped BadLength) (taken rule before s.0 (n - 2) [])) two
 
-pub read_broken : (rule : Rule) (before : List Segment) (fault : Fault) (tail : List ℕ) → ShowsSegment rule before fault tail → read rule (whole before) tail ≡ stopped fault
+pub read_broken : (rule : Rule) (before : List Segment) (fault : Fault) (tail : List ℕ) → RevealsSegment rule before fault tail → read rule (whole before) tail ≡ stopped fault
 read_broken rule before fault tail s = read_segment rule before s.0 s.1 tail s.2 s.3 s.4 ∙ ap (λ f. judged before s.0 s.1 f) s.5
 
-pub read_tail_fault : (rule : Rule) (before : List Segment) (fault : Fault) (tail : List ℕ) → TailShows rule before fault tail → read rule (whole before) tail ≡ stopped fault
+pub read_tail_fault : (rule : Rule) (before : List Segment) (fault : Fault) (tail : List ℕ) → TailReveals rule before fault tail → read rule (whole before) tail ≡ stopped fault
 read_tail_fault rule before fault tail (inl s) = read_code rule before fault tail s
 read_tail_fault rule before fault tail (inr (inl s)) = read_short rule before tail s.1 ∙ ap stopped (sym s.0)
 read_tail_fault rule before fault tail (inr (inr s)) = read_broken rule before fault tail s
 
-pub read_fault : (rule : Rule) (bytes : List ℕ) (fault : Fault) → SegmentsShow rule fault bytes → read rule starts bytes ≡ stopped fault
+pub read_fault : (rule : Rule) (bytes : List ℕ) (fault : Fault) → SegmentsReveal rule fault bytes → read rule starts bytes ≡ stopped fault
 read_fault rule bytes fault (inl s) = read_no_start rule bytes s.1 ∙ ap stopped (sym s.0)
 read_fault rule bytes fault (inr s) = read_between rule bytes s.0 s.1 s.2 ∙ by s.3
   where
-    by : ((fault ≡ NoMarker) × NoMarkerBytes s.1) ⊎ TailShows rule s.0 fault s.1 → read rule (whole s.0) s.1 ≡ stopped fault
+    by : ((fault ≡ NoMarker) × NoMarkerBytes s.1) ⊎ TailReveals rule s.0 fault s.1 → read rule (whole s.0) s.1 ≡ stopped fault
     by (inl h) = read_no_marker rule s.0 s.1 h.1 ∙ ap stopped (sym h.0)
     by (inr h) = read_tail_fault rule s.0 fault s.1 h
 
--- WHAT ELSE IS REACHED
+-- WHAT OTHER RESULTS THERE ARE
 
 pub read_eoi : (rule : Rule) (bytes : List ℕ) → Reaches rule bytes at_eoi → read rule starts bytes ≡ ended
 read_eoi rule bytes s = read_between rule bytes s.0 s.1 s.2 ∙ read_marker rule s.0 0xd9 s.1 s.3 ∙ ap (λ f. allowed s.0 0xd9 f) s.4
@@ -216,7 +217,7 @@ called_part rule before tail (inr s) n = by s.3
         let z : two_bytes h.0 h.1 ≡ length h.2 + suc left + 2 = omega (arith, less) in
         ap (λ l. called (read rule (whole before) l)) h.3 ∙ ap called (read_some rule before s.0 h.0 h.1 (suc left) s.1 h.2 s.2 z)
 
--- what is reached is what the bytes are called, when they are read
+-- the result is that of the bytes, when they are read
 pub reads : (rule : Rule) (bytes : List ℕ) (x : Reached) → Reaches rule bytes x → called (read rule starts bytes) ≡ Some x
 reads rule bytes at_soi s = ap (λ l. called (read rule starts l)) s
 reads rule bytes at_frame s =

@@ -1,46 +1,36 @@
 -- What a file means may be written.
 use Rattle.std.proofs.Common.{◌≡◌, ℕ, suc, ◌+◌, ◌<◌, ◌≤◌, Bool, true, false, cond, ◌&&◌, ◌==◌, List, [], ◌∷◌, ◌++◌, length, get_or, map, refl, sym, ap, ◌∙◌, subst, arith, ℤ, pos, Option, Some, None}
-use Rattle.std.specs.Prelude.{◌||◌, nat_lt, int_le, nat_abs, unwrap_or, is_none}
+use Rattle.std.specs.Prelude.{◌||◌, int_le, nat_abs, unwrap_or, is_none}
 use Rattle.std.specs.Int.{to_be_bytes, w16}
 use Rattle.std.specs.List.{All}
 use Rattle.std.proofs.lemmas.Bool.Decides.{nat_tests}
-use Rattle.std.proofs.lemmas.List.{get_or-map, length-map, reverse-reverse}
-use Rattle.std.proofs.lemmas.List.Elements.{All-head, All-tail, All-nil, All-cons, All-from_get_or}
-use Rattle.jpg_spec.specs.Lists.{any_of, is_among, below}
-use Rattle.jpg_spec.specs.Segments.{QuantTable, ScanHead}
+use Rattle.std.proofs.lemmas.List.Elements.{All-head, All-tail, All-nil, All-cons}
+use Rattle.jpg_spec.specs.Lists.{any_of, is_among}
+use Rattle.jpg_spec.specs.Segments.{QuantTable, ScanHead, IsQuantiser, AreQuantisers}
 use Rattle.jpg_spec.specs.declared.frame.ScanPart.{ScanPart}
-use Rattle.jpg_spec.specs.Geometry.{Frame, bounds, bounds_of, component_at, no_component, is_real}
+use Rattle.jpg_spec.specs.Geometry.{Frame, bounds, bounds_of, component_at}
 use Rattle.jpg_spec.specs.FrameHeader.{IsFrame, AreLimits}
-use Rattle.jpg_spec.specs.Elements.{zeros, are_in_bounds, IsBlockIn}
+use Rattle.jpg_spec.specs.Elements.{are_in_bounds, IsBlockIn}
 use Rattle.jpg_spec.specs.QuantContents.{is_zero_quant}
-use Rattle.jpg_spec.specs.Markers.{Segment, Pass, SpellsSegment, code_fault, code_fault_if, has_frame, has_scan, is_kept, kept_after, kept_count}
-use Rattle.jpg_spec.specs.InForce.{no_frame, frame_of, first_some, quant_in_force, head_in, heads_of}
+use Rattle.jpg_spec.specs.Markers.{Segment, Pass, SpellsSegment, code_fault, code_fault_if, has_frame, has_scan}
+use Rattle.jpg_spec.specs.InForce.{no_frame, frame_of, first_some, quant_in_force, head_in, heads_of, huffman_in_force}
 use Rattle.jpg_spec.specs.History.{names, has_begun, quant_of, lacks_table, is_complete, needs_dc_table, needs_ac_table}
-use Rattle.jpg_spec.specs.InForce.{huffman_in_force}
 use Rattle.jpg_spec.specs.Items.{Item, segment, scan, segments_of, SpellsFront, contents_rule}
 use Rattle.jpg_spec.specs.Header.{header_rule}
 use Rattle.jpg_spec.specs.Scan.{Blocks}
-use Rattle.jpg_spec.specs.Meaning.{Meaning, PictureComponent, picture_frame, real_blocks}
-use Rattle.jpg_spec.specs.FileMeaning.{Leads, picture_component, meaning_of}
+use Rattle.jpg_spec.specs.Meaning.{Meaning, PictureComponent}
+use Rattle.jpg_spec.specs.FileMeaning.{Leads, meaning_of}
 use Rattle.jpg_spec.specs.Ranges.{is_coefficient, AreInRange}
-use Rattle.jpg_spec.specs.WrittenFile.{IsQuantiser, AreQuantisers, HasQuants, IsKeptMarker}
 use Rattle.jpg_spec.specs.declared.frame.Component.{Component}
 use Rattle.jpg_spec.specs.declared.frame.Limits.{Limits}
-use Rattle.jpg_spec.proofs.Common.{same_of}
-use Rattle.jpg_spec.proofs.Common.{both}
-use Rattle.jpg_spec.proofs.Rows.{map_map, by_items, all_front, all_back, at_below, all_reverse}
-use Rattle.jpg_spec.proofs.Common.{length_below}
-use Rattle.jpg_spec.proofs.Common.{not_zero}
+use Rattle.jpg_spec.proofs.Common.{same_of, not_zero, neither}
+use Rattle.jpg_spec.proofs.Rows.{all_front, all_back}
 use Rattle.jpg_spec.proofs.FrameFound.{framed, frame_found}
-use Rattle.jpg_spec.proofs.FirstPasses.{head_at, all_below}
+use Rattle.jpg_spec.proofs.FirstPasses.{head_at}
 use Rattle.jpg_spec.proofs.Untouched.{frame_stays}
 use Rattle.jpg_spec.proofs.BeforeScans.{no_heads}
-use Rattle.jpg_spec.proofs.Common.{neither}
-use Rattle.jpg_spec.proofs.KeptMarkers.{may_keep, input_count}
 use Rattle.jpg_spec.proofs.QuantsInForce.{AllContents, IsByte, AreEntries, IsQuants, in_force_quants, in_force_entries}
 use Rattle.jpg_spec.proofs.WrittenFront.{frame_is}
-use Rattle.jpg_spec.proofs.SameNumbers.{numbers_of, SameNumbers, same_frame, is_place, same_places}
-use Rattle.jpg_spec.proofs.MovedWritten.{IsPicture}
 
 -- THE SEGMENTS of a file of bytes: of bytes, and none too long
 
@@ -69,16 +59,6 @@ segments_bytes (scan contents intervals ∷ items) front s all =
     let here = subst (λ bs. All IsByte bs) cut_here (all_back IsByte start rest split) in
     one_more 0xda contents head (segments_of items) spelled (all_front IsByte head coded here) (segments_bytes items start older (all_front IsByte start rest split))
 
--- KEPT MARKERS
-
-kept_markers : (before : List Segment) → AreShort before → All IsKeptMarker (kept_after before)
-kept_markers [] short = All-nil IsKeptMarker
-kept_markers (s ∷ before) short = by (is_kept before s.0 s.1) refl (kept_markers before short.1)
-  where
-    by : (b : Bool) → is_kept before s.0 s.1 ≡ b → All IsKeptMarker (kept_after before) → All IsKeptMarker (cond b (s ∷ kept_after before) (kept_after before))
-    by true e older = All-cons IsKeptMarker s (kept_after before) ((both (may_keep s.0) _ e).0, short.0) older
-    by false e older = older
-
 -- THE RULES of a file's segments
 
 pub leads_rules : (limits : Limits) (items : List Item) (blocks : Blocks) → Leads limits items blocks → Pass (contents_rule limits) (segments_of items)
@@ -88,7 +68,7 @@ leads_rules limits (scan contents intervals ∷ items) blocks l = (l.1, l.2, lea
 
 -- EACH COMPONENT HAS ITS TABLE: one of a scan that breaks no rule
 
-abbrev HasTable : Option QuantTable → Type 0
+abbrev pub HasTable : Option QuantTable → Type 0
 HasTable o = (table : QuantTable) × (o ≡ Some table)
 
 lacks_none : (o : Option QuantTable) → is_none o ≡ false → HasTable o
@@ -123,7 +103,7 @@ abbrev HasTables : Limits → Frame → List Segment → ℕ → Type 0
 HasTables limits f before i = frame_of limits before ≡ f → has_begun (heads_of f before) i ≡ true → HasTable (quant_of f before i)
 
 -- the table of a component that was in a scan
-has_table : (limits : Limits) (f : Frame) (before : List Segment) (i : ℕ) → Pass (contents_rule limits) before → frame_of limits before ≡ f → has_begun (heads_of f before) i ≡ true → HasTable (quant_of f before i)
+pub has_table : (limits : Limits) (f : Frame) (before : List Segment) (i : ℕ) → Pass (contents_rule limits) before → frame_of limits before ≡ f → has_begun (heads_of f before) i ≡ true → HasTable (quant_of f before i)
 has_table limits f [] i p e h = cc
 has_table limits f (s ∷ before) i p e h = by_frame (has_frame before) refl (λ g k. has_table limits f before i p.2 g k)
   where
@@ -178,7 +158,7 @@ quantisers_of table is entries = (is.long, each table is.some entries)
 in_force_is : (before : List Segment) (slot : ℕ) (table : QuantTable) → AllContents IsByte before → quant_in_force before slot ≡ Some table → AreQuantisers table
 in_force_is before slot table of e = quantisers_of table (in_force_quants before slot table e) (in_force_entries before slot table of e)
 
-table_is : (f : Frame) (before : List Segment) (i : ℕ) (table : QuantTable) → AllContents IsByte before → quant_of f before i ≡ Some table → AreQuantisers table
+pub table_is : (f : Frame) (before : List Segment) (i : ℕ) (table : QuantTable) → AllContents IsByte before → quant_of f before i ≡ Some table → AreQuantisers table
 table_is f [] i table of e = cc
 table_is f (s ∷ before) i table of e = by (s.0 == 0xda) e (λ k. table_is f before i table of.1 k)
   where
@@ -209,20 +189,7 @@ block_in [] l h = absurd (omega (arith, l))
 block_in (v ∷ block) l h =
     (l, ap (λ b. b && are_in_bounds (bounds_of 8) false block) (h 0) ∙ ac_in block (λ k. h (suc k)))
 
--- THE PICTURE of a file
-
-pub file_numbers : (f : Frame) (before : List Segment) (blocks : Blocks) → SameNumbers f (picture_frame (meaning_of f before blocks))
-file_numbers f before blocks = record {
-  width = refl;
-  height = refl;
-  precision = refl;
-  components =
-      sym (by_items (length f.components) (λ i. numbers_of (component_at f i)) (map numbers_of f.components) (0, 1, 1) (length-map f.components numbers_of)
-      (λ i h. sym (get_or-map numbers_of f.components i no_component (0, 1, 1) h)))
-      ∙ sym (map_map numbers_of _ (map (picture_component f before) (below (length f.components))) ∙ map_map _ (picture_component f before) (below (length f.components)));
-}
-
-zero_slots : (cs : List PictureComponent) → All (λ c. c.quant ≤ 3) (map (λ c. (let k : Component = record { id = c.id; h = c.h; v = c.v; quant = 0 } in k)) cs)
+pub zero_slots : (cs : List PictureComponent) → All (λ c. c.quant ≤ 3) (map (λ c. (let k : Component = record { id = c.id; h = c.h; v = c.v; quant = 0 } in k)) cs)
 zero_slots [] = All-nil (λ c. c.quant ≤ 3)
 zero_slots (c ∷ cs) = All-cons (λ c. c.quant ≤ 3) _ _ (omega arith) (zero_slots cs)
 
@@ -233,19 +200,6 @@ framed_end before e = by (has_frame before) e
     by true e = refl
     by false e = cc
 
-file_tables : (limits : Limits) (f : Frame) (before : List Segment) → AllContents IsByte before → Pass (contents_rule limits) before → frame_of limits before ≡ f → is_complete f before ≡ true
-    → All HasQuants (map (picture_component f before) (below (length f.components)))
-file_tables limits f before of pass e complete =
-    All-from_get_or HasQuants (map (picture_component f before) (below (length f.components))) (picture_component f before 0)
-    (λ i h. (let l = length-map (below (length f.components)) (picture_component f before) in
-    let j : i < length (below (length f.components)) = omega (arith, h, l) in
-    let k : i < length f.components = (let n = length_below (length f.components) in omega (arith, j, n)) in
-    subst HasQuants (sym (get_or-map (picture_component f before) (below (length f.components)) i 0 (picture_component f before 0) j ∙ ap (picture_component f before) (at_below (length f.components) i k)))
-    (table i (has_table limits f before i pass e (all_below (has_begun (heads_of f before)) (length f.components) i complete k)))))
-  where
-    table : (i : ℕ) → HasTable (quant_of f before i) → HasQuants (picture_component f before i)
-    table i (t, k) = subst (λ (o : Option QuantTable). AreQuantisers (unwrap_or o [])) (sym k) (table_is f before i t of k)
-
 -- WHAT BYTES LEAVE: segments that break no rule, with each component in a scan, and blocks in their range
 pub record IsLeft (limits : Limits) (segments : List Segment) (blocks : Blocks) (M : Meaning) : Type 0 where
   pub found : has_frame segments ≡ true
@@ -255,34 +209,8 @@ pub record IsLeft (limits : Limits) (segments : List Segment) (blocks : Blocks) 
   pub range : AreInRange (bounds (frame_of limits segments)) blocks
   pub meaning : M ≡ meaning_of (frame_of limits segments) segments blocks
 
-left_frame : (limits : Limits) (segments : List Segment) → AreLimits limits → Pass (header_rule limits) segments → has_frame segments ≡ true → IsFrame (frame_of limits segments)
+pub left_frame : (limits : Limits) (segments : List Segment) → AreLimits limits → Pass (header_rule limits) segments → has_frame segments ≡ true → IsFrame (frame_of limits segments)
 left_frame limits segments limited pass e =
     let found = frame_found limits segments pass e in
     let f = found.0 in
     subst (λ g. IsFrame g) (sym (ap (λ o. unwrap_or o no_frame) found.1)) (frame_is limits f f limited (found.2).passes)
-
-pub left_picture : (limits : Limits) (segments : List Segment) (blocks : Blocks) (M : Meaning) → AreLimits limits → AreOfBytes segments → IsLeft limits segments blocks M → IsPicture M
-left_picture limits segments blocks M limited of m =
-    let f = frame_of limits segments in
-    let range = m.range in
-    let same = file_numbers f segments blocks in
-    let here : IsPicture (meaning_of f segments blocks) = record {
-      frame = same_frame f (picture_frame (meaning_of f segments blocks)) same (zero_slots (map (picture_component f segments) (below (length f.components)))) (left_frame limits segments limited m.headers m.found);
-      quants = file_tables limits f segments of.1 m.rules refl m.complete;
-      markers = all_reverse IsKeptMarker (kept_after segments) (0, []) (kept_markers segments of.0);
-      count = subst (λ xs. kept_count xs ≤ 268435456) (sym (reverse-reverse (kept_after segments))) (let a = input_count limits segments m.headers in let b = limited.kept in omega (arith, a, b));
-      blocks = λ i x y. shown (nat_lt i (length f.components) && is_real f i x y) (blocks i x y) (block_in (blocks i x y) (range.sizes i x y) (λ k. range.values i x y k));
-      others = λ i x y. ap (λ b. cond b (blocks i x y) (zeros 64)) (twice (is_place f i x y)) ∙ outer (is_place f i x y) (blocks i x y) ∙ ap (λ b. cond b (real_blocks f blocks i x y) (zeros 64)) (same_places f (picture_frame (meaning_of f segments blocks)) i x y same);
-    } in
-    subst (λ N. IsPicture N) (sym m.meaning) here
-  where
-    shown : (b : Bool) (block : List ℤ) → IsBlockIn (bounds_of 8) block → IsBlockIn (bounds_of 8) (cond b block (zeros 64))
-    shown true block is = is
-    shown false block is = (refl, refl)
-
-    twice : (b : Bool) → b ≡ b
-    twice b = refl
-
-    outer : (b : Bool) (block : List ℤ) → cond b block (zeros 64) ≡ cond b (cond b block (zeros 64)) (zeros 64)
-    outer true block = refl
-    outer false block = refl

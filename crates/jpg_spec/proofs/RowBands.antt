@@ -1,4 +1,4 @@
--- Of two places in one scan's data that tell blocks, the blocks told by both are the same.
+-- If data of one scan encode blocks up to two places, the blocks that both encode are the same.
 use Rattle.std.proofs.Common.{◌≡◌, ℕ, ◌+◌, ◌%◌, Bool, true, false, ◌==◌, ◌&&◌, List, [], ◌∷◌, ◌++◌, length, refl, sym, ap, ◌∙◌, subst, inl, inr, ⊎_elim, ℤ}
 use Rattle.std.specs.Prelude.{◌⊎◌, ◌||◌, map, flat_map}
 use Rattle.std.proofs.lemmas.List.{append_assoc, append-nil}
@@ -26,7 +26,7 @@ use Rattle.jpg_spec.proofs.ScansOnce.{CutInterval, cut_interval, data_ends, no_p
 abbrev pub AreBlocks : Blocks → Type 0
 AreBlocks told = (i x y : ℕ) → length (told i x y) ≡ 64
 
--- both tell the same of a block at one of these places, and at one of those
+-- both encode the same of a block at one of these places, and at one of those
 abbrev pub AgreeAt : Scan → List Place → List Place → Blocks → Blocks → Type 0
 AgreeAt s a b told other = (i x y : ℕ) → any_of (is_at i x y) a ≡ true → any_of (is_at i x y) b ≡ true → band s (told i x y) ≡ band s (other i x y)
 
@@ -81,7 +81,8 @@ interval_agrees s told other places a r b q bits cits x y sound sizes others e f
 
 -- AT ANY PLACES
 
--- What the data of a scan tell whose first intervals have these places: the scan's text begins with `turn` intervals that aren't among them.
+-- What the data of a scan encode whose first intervals have these places: the scan's text begins with `turn` intervals
+-- that aren't among them.
 pub record TellsAt (s : Scan) (all : List (List Place)) (done : List (List ℕ)) (coded : List ℕ) (told : Blocks) (whole : List (List Place)) (part : List Place) : Type 0 where
   pub rest : List Place
   pub later : List (List Place)
@@ -92,7 +93,7 @@ pub record TellsAt (s : Scan) (all : List (List Place)) (done : List (List ℕ))
   pub cut : bits_of_bytes coded ≡ bits ++ behind
   pub first : TellsFirst s.coding (units_before s (part ++ rest)) (flat_map (band_of s told) part) bits
 
--- a whole interval tells all its units
+-- a complete interval encodes all its units
 pub whole_first : (s : Scan) (told : Blocks) (places : List Place) (coded : List ℕ) → (h : SpellsInterval s no_blocks told places coded) → TellsFirst s.coding (units_before s places) (flat_map (band_of s told) places) h.0
 whole_first s told places coded h = (h.2.0, h.2.1, h.2.2)
 

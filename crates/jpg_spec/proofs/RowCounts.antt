@@ -8,25 +8,22 @@ use Rattle.std.proofs.lemmas.List.{length-append, length-map}
 use Rattle.std.proofs.lemmas.List.Elements.{All-head, All-tail}
 use Rattle.jpg_spec.specs.Lists.{below, is_among, is_distinct}
 use Rattle.jpg_spec.specs.Geometry.{Frame, blocks_across, blocks_down, component_at, div_up, greatest, mcu_part, mcus_across, mcus_down, no_component, place, units, v_max}
-use Rattle.jpg_spec.specs.FrameHeader.{HasFactors, IsFrame}
+use Rattle.jpg_spec.specs.FrameHeader.{HasFactors}
 use Rattle.jpg_spec.specs.Segments.{ScanHead, head_components}
 use Rattle.jpg_spec.specs.ScanContents.{IsHead}
 use Rattle.jpg_spec.specs.Scan.{Blocks}
-use Rattle.jpg_spec.specs.Meaning.{picture_frame}
+use Rattle.jpg_spec.specs.Meaning.{picture_frame, most_down}
 use Rattle.jpg_spec.specs.Markers.{Segment}
 use Rattle.jpg_spec.specs.FileMeaning.{meaning_of}
-use Rattle.jpg_spec.specs.Moves.{most_down}
-use Rattle.jpg_spec.specs.Strips.{lines, mcu_rows}
 use Rattle.jpg_spec.specs.ScanRows.{first_rows, scan_row}
 use Rattle.jpg_spec.specs.declared.frame.Component.{Component}
 use Rattle.jpg_spec.specs.declared.frame.Place.{Place}
 use Rattle.jpg_spec.specs.declared.frame.ScanPart.{ScanPart}
-use Rattle.jpg_spec.proofs.Common.{both, length_below, negated, neither, same_of}
-use Rattle.jpg_spec.proofs.PlacedBlocks.{Each}
+use Rattle.jpg_spec.proofs.Common.{both, negated, neither, same_of}
+use Rattle.jpg_spec.proofs.Each.{Each}
 use Rattle.jpg_spec.proofs.PlacesFound.{flat_below}
-use Rattle.jpg_spec.proofs.ReadPicture.{file_numbers}
+use Rattle.jpg_spec.proofs.SameNumbers.{file_numbers, by_numbers}
 use Rattle.jpg_spec.proofs.Rows.{map_map}
-use Rattle.jpg_spec.proofs.SameNumbers.{by_numbers}
 
 -- DISTINCT NUMBERS below one are no more than it
 
@@ -52,7 +49,7 @@ without_distinct n (x ∷ xs) e =
     by true d none later = d
     by false d none later = ap (λ b. not b && is_distinct (without n xs)) none ∙ later
 
-abbrev AreBelow : ℕ → List ℕ → Type 0
+abbrev pub AreBelow : ℕ → List ℕ → Type 0
 AreBelow n xs = Each (λ x. x < n) xs
 
 none_last : (n : ℕ) (xs : List ℕ) → is_among n xs ≡ false → AreBelow (suc n) xs → AreBelow n xs
@@ -158,7 +155,7 @@ factor_out h v some =
     let high : (h * v + v - 1) / v < h + 1 = (div-lt_iff_lt-mul some).1 near in
     omega (arith, low, high)
 
-single_down : (height : ℕ) (cs : List Component) (i : ℕ) → length cs ≡ 1 → i < 1 → All HasFactors cs → div_up (div_up (height * (get_or cs i no_component).v) (greatest (map (λ c. c.v) cs))) 8 ≡ div_up height 8
+pub single_down : (height : ℕ) (cs : List Component) (i : ℕ) → length cs ≡ 1 → i < 1 → All HasFactors cs → div_up (div_up (height * (get_or cs i no_component).v) (greatest (map (λ c. c.v) cs))) 8 ≡ div_up height 8
 single_down height [] i one lt all = absurd (omega (arith, one))
 single_down height (c ∷ d ∷ cs) i one lt all = absurd (omega (arith, one))
 single_down height (c ∷ []) (suc i) one lt all = absurd (omega (arith, lt))
@@ -173,22 +170,5 @@ picture_down f before blocks =
     let same = file_numbers f before blocks in
     ap greatest (sym (by_numbers (λ n. n.2) f.components (picture_frame M).components same.components ∙ map_map (λ (c : Component). c.v) _ M.components))
 
-several : (n : ℕ) → 2 ≤ n → (n == 1) ≡ false
+pub several : (n : ℕ) → 2 ≤ n → (n == 1) ≡ false
 several n h = grind (arith, nat_tests)
-
-pub picture_rows : (f : Frame) (ids : List ℕ) (before : List Segment) (blocks : Blocks) → IsFrame f → AreBelow (length f.components) ids → length ids ≡ length f.components
-    → mcu_rows (meaning_of f before blocks) ≡ rows_down f ids
-picture_rows f ids before blocks is known all = by ids known all
-  where
-    count : length (meaning_of f before blocks).components ≡ length f.components
-    count = length-map (below (length f.components)) _ ∙ length_below (length f.components)
-
-    by : (ids : List ℕ) → AreBelow (length f.components) ids → length ids ≡ length f.components → div_up f.height (lines (meaning_of f before blocks)) ≡ rows_down f ids
-    by [] known all = absurd (omega (arith, all, is.count_low))
-    by (i ∷ []) known all =
-        let one : length (meaning_of f before blocks).components ≡ 1 = count ∙ sym all in
-        ap (λ n. div_up f.height (cond (n == 1) 8 (8 * most_down (meaning_of f before blocks)))) one
-        ∙ sym (single_down f.height f.components i (sym all) (omega (arith, known.0, all)) is.factors)
-    by (i ∷ j ∷ more) known all =
-        let none : (length (meaning_of f before blocks).components == 1) ≡ false = several (length (meaning_of f before blocks).components) (omega (arith, count, all)) in
-        ap (λ b. div_up f.height (cond b 8 (8 * most_down (meaning_of f before blocks)))) none ∙ ap (λ n. div_up f.height (8 * n)) (picture_down f before blocks)

@@ -1,4 +1,4 @@
--- Lists item by item: fronts of one length, maps, the numbers below one, and what holds of each item.
+-- Lists item by item: prefixes of one length, maps, the numbers below one, and what holds of each item.
 use Rattle.std.proofs.Common.{◌≡◌, ℕ, zero, suc, ◌+◌, ◌-◌, ◌<◌, ◌≤◌, List, [], ◌∷◌, ◌++◌, length, get_or, refl, sym, ap, ◌∙◌, subst, arith, ⊎_elim}
 use Rattle.std.proofs.lemmas.Bool.{cases_lt}
 use Rattle.std.specs.Prelude.{map, reverse}
@@ -8,7 +8,7 @@ use Rattle.std.proofs.lemmas.List.Elements.{All-head, All-tail, All-get_or, All-
 use Rattle.jpg_spec.specs.Lists.{below}
 use Rattle.jpg_spec.proofs.Common.{length_below}
 
--- fronts of one length are equal, and so is the rest
+-- prefixes of one length are equal, and so is the rest
 pub append_apart : {A : Type 0} (xs ys a b : List A) → length xs ≡ length ys → xs ++ a ≡ ys ++ b → (xs ≡ ys) × (a ≡ b)
 append_apart [] [] a b l e = (refl, e)
 append_apart [] (y ∷ ys) a b l e = absurd (omega arith)

@@ -1,4 +1,4 @@
--- Units that are told in their order begin with those of MCU rows.
+-- Units that are decoded in their order begin with those of MCU rows.
 use Rattle.std.proofs.Common.{◌≡◌, ℕ, ◌+◌, ◌*◌, ◌<◌, ◌≤◌, List, [], ◌∷◌, ◌++◌, length, refl, sym, ap, ◌∙◌, arith, ⊎_elim}
 use Rattle.std.proofs.lemmas.Bool.{cases_lt}
 use Rattle.std.proofs.lemmas.Nat.{mul-le}
@@ -20,7 +20,7 @@ use Rattle.jpg_spec.proofs.PictureInWork.{joined_join}
 use Rattle.jpg_spec.proofs.RowCounts.{length_rows}
 use Rattle.jpg_spec.proofs.RowsOnce.{rows_more}
 
--- of two fronts of a list the longer begins with the other
+-- of two prefixes of a list the longer begins with the other
 longer_front : (a e b o : List Place) → a ++ e ≡ b ++ o → length a ≤ length b → (more : List Place) × (b ≡ a ++ more)
 longer_front [] e b o same h = (b, refl)
 longer_front (x ∷ a) e [] o same h = absurd (omega (arith, h))

@@ -1,4 +1,4 @@
--- A real block in the first MCU rows of a scan stands at one of their places.
+-- A real block in the first MCU rows of a scan is at one of their places.
 use Rattle.std.proofs.Common.{◌≡◌, ℕ, ◌*◌, ◌<◌, Bool, true, false, cond, ◌==◌, List, [], ◌∷◌, length, refl, sym, subst, arith}
 use Rattle.std.specs.Prelude.{◌||◌, flat_map, nat_lt}
 use Rattle.std.proofs.lemmas.Bool.Decides.{nat_tests}

@@ -1,5 +1,5 @@
--- MCU rows that are told are of the scan that the file's header begins, and as many as its picture has.
-use Rattle.std.proofs.Common.{◌≡◌, ℕ, Bool, ◌+◌, ◌*◌, ◌<◌, ◌≤◌, false, List, [], ◌∷◌, ◌++◌, length, sym, ap, ◌∙◌, subst, arith, ⊎_elim, None}
+-- The MCU rows that are decoded belong to the scan that the file's header begins, which has as many as its picture.
+use Rattle.std.proofs.Common.{◌≡◌, ℕ, ◌+◌, ◌*◌, ◌<◌, ◌≤◌, false, List, [], ◌∷◌, ◌++◌, length, sym, ap, ◌∙◌, subst, arith, ⊎_elim, None}
 use Rattle.std.proofs.lemmas.Bool.{cases_lt}
 use Rattle.std.proofs.lemmas.Nat.{mul-le}
 use Rattle.std.proofs.lemmas.List.{append_assoc, append-nil, length-append}
@@ -11,41 +11,32 @@ use Rattle.jpg_spec.specs.Markers.{Segment, code_fault, has_scan}
 use Rattle.jpg_spec.specs.InForce.{frame_of, head_in}
 use Rattle.jpg_spec.specs.Header.{IsHeader}
 use Rattle.jpg_spec.specs.Items.{segments_of}
-use Rattle.jpg_spec.specs.FileMeaning.{meaning_of, no_blocks, scan_after}
+use Rattle.jpg_spec.specs.FileMeaning.{no_blocks, scan_after}
 use Rattle.jpg_spec.specs.FirstFault.{InsideScan}
-use Rattle.jpg_spec.specs.Pixels.{out_fault}
-use Rattle.jpg_spec.specs.Strips.{mcu_rows}
-use Rattle.jpg_spec.specs.ScanRows.{first_rows, scan_row}
+use Rattle.jpg_spec.specs.ScanRows.{scan_row}
 use Rattle.jpg_spec.specs.RowsTold.{BeginsScanOfAll, CompletesRows, TellsBlocks, TellsRows, row_places}
-use Rattle.jpg_spec.specs.RowsShown.{ShowsRows, picture_so_far, rows_text}
-use Rattle.jpg_spec.specs.RowLaws.{IsShownInRows}
-use Rattle.jpg_spec.specs.declared.image.EndKind.{EndKind}
 use Rattle.jpg_spec.specs.declared.frame.Limits.{Limits}
 use Rattle.jpg_spec.proofs.BeforeScans.{header_leads}
 use Rattle.jpg_spec.proofs.BlocksOnce.{joined_chunks}
 use Rattle.jpg_spec.proofs.FileHeader.{no_scan_spelled}
 use Rattle.jpg_spec.proofs.FirstScan.{first_some_places}
-use Rattle.jpg_spec.proofs.FrameBehind.{leads_pass}
-use Rattle.jpg_spec.proofs.FrameFound.{framed}
+use Rattle.jpg_spec.proofs.FrameAfter.{leads_pass}
 use Rattle.jpg_spec.proofs.HeaderFirst.{scan_passed, with_scan}
 use Rattle.jpg_spec.proofs.HeadersOnce.{items_of, segments_of_items}
 use Rattle.jpg_spec.proofs.OneHeader.{whole_once}
 use Rattle.jpg_spec.proofs.PictureInWork.{joined_join}
-use Rattle.jpg_spec.proofs.Untouched.{frame_stays}
-use Rattle.jpg_spec.proofs.RowCounts.{head_below, length_rows, picture_rows, units_by_row}
-use Rattle.jpg_spec.proofs.RowsCovered.{shown_covered}
-use Rattle.jpg_spec.proofs.RowsLater.{frame_there, head_there}
-use Rattle.jpg_spec.proofs.RowsOnce.{completed_once}
+use Rattle.jpg_spec.proofs.RowCounts.{length_rows}
+use Rattle.jpg_spec.proofs.RowsLater.{frame_there}
 use Rattle.jpg_spec.proofs.RowsWhole.{no_more_rows}
 
--- A PLACE INSIDE THE FIRST SCAN stands after the header of the file
+-- A PLACE INSIDE THE FIRST SCAN is after the header of the file
 
 pub place_header : (limits : Limits) (bytes tail : List ℕ) (i : InsideScan limits bytes tail) → has_scan (segments_of i.items) ≡ false → IsHeader limits (i.front ++ i.head) (segments_of i.items) i.contents
 place_header limits bytes tail i none =
     with_scan limits (segments_of i.items) i.front i.head i.contents (no_scan_spelled i.items i.front i.spelled none, leads_pass limits i.items i.blocks i.leads, none) i.header i.allowed.0
     (scan_passed limits (segments_of i.items) i.contents i.allowed.1)
 
--- so they are told with a scan of all components begun
+-- so they are decoded with a scan of all components begun
 pub rows_begin : (limits : Limits) (bytes : List ℕ) (rows : ℕ) (x : Blocks) (w : TellsRows limits bytes rows x) → BeginsScanOfAll limits bytes (segments_of (w.place).items) (w.place).contents
 rows_begin limits bytes rows x w =
     let i = w.place in
@@ -64,38 +55,16 @@ pub begun_once : (limits : Limits) (bytes : List ℕ) (before others : List Segm
 begun_once limits bytes before others contents more a b =
     let h = whole_once limits a.front b.front a.rest b.rest before others contents more a.header b.header (sym a.cut ∙ b.cut) in (h.1, h.2)
 
--- ITS PICTURE has as many MCU rows
-
 pub begun_frame : (limits : Limits) (bytes : List ℕ) (before : List Segment) (contents : List ℕ) → AreLimits limits → BeginsScanOfAll limits bytes before contents → IsFrame (frame_of limits before)
 begun_frame limits bytes before contents limited w =
     let same = segments_of_items before in
     subst (λ xs. IsFrame (frame_of limits xs)) same
     (frame_there limits (items_of before) no_blocks limited (header_leads limits before (w.of_all).first (w.header).passed.2) (subst (λ xs. code_fault xs 0xda ≡ None) (sym same) (w.header).passed.0))
 
-pub begun_rows : (limits : Limits) (bytes : List ℕ) (before : List Segment) (contents : List ℕ) (blocks : Blocks) → AreLimits limits → BeginsScanOfAll limits bytes before contents
-    → (scan_after limits before contents).places ≡ row_places limits before contents (mcu_rows (picture_so_far limits before contents blocks))
-begun_rows limits bytes before contents blocks limited w =
-    let f = frame_of limits before in
-    let head = head_in f contents in
-    let after = (0xda, contents) ∷ before in
-    let is = begun_frame limits bytes before contents limited w in
-    let stays : frame_of limits after ≡ f = frame_stays limits before 0xda contents (framed before (w.header).passed.0) (w.header).passed.0 in
-    units_by_row f (head_components head)
-    ∙ ap (first_rows f (head_components head))
-    (sym (ap (λ g. mcu_rows (meaning_of g after blocks)) stays ∙ picture_rows f (head_components head) after blocks is (head_below f head (head_there limits before contents w.unbroken)) (w.of_all).all))
-
 pub begun_places : (limits : Limits) (bytes : List ℕ) (before : List Segment) (contents : List ℕ) → BeginsScanOfAll limits bytes before contents → 1 ≤ length (scan_after limits before contents).places
 begun_places limits bytes before contents w = first_some_places limits w.front before contents w.header w.unbroken
 
--- and where it is shown, its components cover the image's rows
-pub begun_covered : (limits : Limits) (bytes : List ℕ) (before : List Segment) (contents : List ℕ) (blocks : Blocks) (gray smooth : Bool) → AreLimits limits → BeginsScanOfAll limits bytes before contents
-    → out_fault gray (picture_so_far limits before contents blocks) ≡ None → IsShownInRows (picture_so_far limits before contents blocks) gray smooth
-begun_covered limits bytes before contents blocks gray smooth limited w none =
-    let after = (0xda, contents) ∷ before in
-    let stays : frame_of limits after ≡ frame_of limits before = frame_stays limits before 0xda contents (framed before (w.header).passed.0) (w.header).passed.0 in
-    shown_covered (frame_of limits after) after blocks gray smooth (subst (λ g. IsFrame g) (sym stays) (begun_frame limits bytes before contents limited w)) none
-
--- ALL ROWS that are told are complete, whatever follows
+-- ALL ROWS that are decoded are complete, whatever follows
 
 pub told_here : (limits : Limits) (bytes : List ℕ) (rows : ℕ) (x : Blocks) (before : List Segment) (contents : List ℕ) → BeginsScanOfAll limits bytes before contents → (w : TellsRows limits bytes rows x)
     → TellsBlocks (scan_after limits before contents) (w.place).done (w.place).coded w.places w.told × (w.places ≡ row_places limits before contents rows ++ w.more)
@@ -113,7 +82,7 @@ all_complete limits bytes rows x before contents b all w = (
       no_more_rows limits before contents rows (v.place).done (v.place).coded v.places v.more v.told all (begun_places limits bytes before contents b) h.0 h.1),
 )
 
--- no more rows are told than there are
+-- no more rows are decoded than there are
 pub rows_few : (limits : Limits) (bytes : List ℕ) (rows all : ℕ) (x : Blocks) (before : List Segment) (contents : List ℕ) → BeginsScanOfAll limits bytes before contents
     → (scan_after limits before contents).places ≡ row_places limits before contents all → TellsRows limits bytes rows x → rows ≤ all
 rows_few limits bytes rows all x before contents b whole w =
@@ -142,15 +111,3 @@ rows_few limits bytes rows all x before contents b whole w =
         let short : row ≡ 0 = omega (arith, l1, l2, l3, l4, l5, l6, l7, l8, l9, more) in
         let none : all * row ≡ 0 = ap (λ n. all * n) short ∙ omega arith in
         omega (arith, some, l8, none)
-
--- BYTES SHOW ONE TEXT
-pub shown_once : (limits : Limits) (kind : EndKind) (gray smooth : Bool) (bytes a b : List ℕ) → ShowsRows limits kind gray smooth bytes a → ShowsRows limits kind gray smooth bytes b → a ≡ b
-shown_once limits kind gray smooth bytes a b v w =
-    let head = begun_once limits bytes v.before w.before v.contents w.contents v.begins w.begins in
-    let rows = completed_once limits bytes v.rows w.rows v.blocks w.blocks v.completed w.completed in
-    v.same
-    ∙ ap (λ s. rows_text kind (picture_so_far limits s v.contents v.blocks) gray smooth v.rows) head.0
-    ∙ ap (λ c. rows_text kind (picture_so_far limits w.before c v.blocks) gray smooth v.rows) head.1
-    ∙ ap (λ b. rows_text kind (picture_so_far limits w.before w.contents b) gray smooth v.rows) rows.1
-    ∙ ap (λ n. rows_text kind (picture_so_far limits w.before w.contents w.blocks) gray smooth n) rows.0
-    ∙ sym w.same

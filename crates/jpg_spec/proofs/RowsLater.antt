@@ -1,4 +1,5 @@
--- After a scan of all components of a sequential frame no other scan stands, and the picture's frame, tables and blocks are those of that scan.
+-- After a scan of all components of a sequential frame there is no other scan, and the picture's frame, tables and
+-- blocks are those of that scan.
 use Rattle.std.proofs.Common.{◌≡◌, ℕ, ◌<◌, ◌≤◌, Bool, true, false, cond, not, ◌==◌, ◌&&◌, List, [], ◌∷◌, ◌++◌, length, refl, sym, ap, ◌∙◌, subst, arith, None, Some, Ok, Err}
 use Rattle.std.specs.Prelude.{◌||◌, unwrap_or}
 use Rattle.std.proofs.lemmas.List.{append_assoc, append-nil, length-map}
@@ -20,13 +21,13 @@ use Rattle.jpg_spec.specs.declared.fault.Fault.{Fault}
 use Rattle.jpg_spec.specs.declared.fault.Fault.TheVariants.{RepeatedScan}
 use Rattle.jpg_spec.specs.declared.frame.Limits.{Limits}
 use Rattle.jpg_spec.proofs.AcceptedHeads.{accepted}
-use Rattle.jpg_spec.proofs.ColoursKept.{same_frame_behind}
+use Rattle.jpg_spec.proofs.ColoursKept.{same_frame_after}
 use Rattle.jpg_spec.proofs.Common.{clash, neither, not_same, or_right}
 use Rattle.jpg_spec.proofs.FirstPasses.{head_at}
-use Rattle.jpg_spec.proofs.FrameBehind.{frame_behind}
+use Rattle.jpg_spec.proofs.FrameAfter.{frame_behind}
 use Rattle.jpg_spec.proofs.FrameFound.{framed}
 use Rattle.jpg_spec.proofs.ItemsOnce.{leads_before}
-use Rattle.jpg_spec.proofs.PlacedBlocks.{Each}
+use Rattle.jpg_spec.proofs.Each.{Each}
 use Rattle.jpg_spec.proofs.WrittenFront.{frame_is}
 use Rattle.jpg_spec.proofs.RowCounts.{head_below, head_names}
 
@@ -92,7 +93,7 @@ named_again limits more contents intervals before blocks head l is k =
     f = frame_of limits after
 
     same : f ≡ frame_of limits (segments_of before)
-    same = same_frame_behind limits more contents intervals before blocks l
+    same = same_frame_after limits more contents intervals before blocks l
 
     some : 1 ≤ length (head_components head)
     some = let s = k.some in omega (arith, s, length-map head.parts (λ p. p.component))
@@ -114,7 +115,7 @@ none_later limits (segment code other ∷ more) contents intervals before blocks
     ap (λ b. b || has_scan (segments_of more)) (not_same code 0xda s.4.2) ∙ none_later limits more contents intervals before blocks s.0 l.2 s.3 is
 none_later limits (scan other ivs ∷ more) contents intervals before blocks front l s is = absurd (second_refused limits more contents intervals before l.0 other l.3 is l.2)
 
--- WHAT STAYS, where no scan follows
+-- WHAT DOESN'T CHANGE, if no scan follows
 
 pub blocks_stay : (limits : Limits) (more items : List Item) (blocks : Blocks) → has_scan (segments_of more) ≡ false → Leads limits (more ++ items) blocks → Leads limits items blocks
 blocks_stay limits [] items blocks none l = l

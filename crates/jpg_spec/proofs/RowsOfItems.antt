@@ -1,4 +1,4 @@
--- Items after a scan of all components tell its MCU rows, of the blocks that they lead to.
+-- Items after a scan of all components encode its MCU rows, of the blocks that they lead to.
 use Rattle.std.proofs.Common.{◌≡◌, ℕ, true, List, ◌∷◌, ◌++◌, sym, ap, ◌∙◌, subst}
 use Rattle.std.proofs.lemmas.List.{append_assoc}
 use Rattle.jpg_spec.specs.Scan.{Blocks}
@@ -8,7 +8,7 @@ use Rattle.jpg_spec.specs.Items.{Item, scan, segments_of, SpellsFront}
 use Rattle.jpg_spec.specs.FileMeaning.{Leads, scan_after}
 use Rattle.jpg_spec.specs.RowsTold.{BeginsScanOfAll, TellsRows, blocks_in, row_places}
 use Rattle.jpg_spec.specs.declared.frame.Limits.{Limits}
-use Rattle.jpg_spec.proofs.ColoursKept.{same_frame_behind}
+use Rattle.jpg_spec.proofs.ColoursKept.{same_frame_after}
 use Rattle.jpg_spec.proofs.EarlySoFar.{items_scan}
 use Rattle.jpg_spec.proofs.FileHeader.{HasFirstScan, first_scan}
 use Rattle.jpg_spec.proofs.RowsLater.{blocks_stay, front_cut}
@@ -30,7 +30,7 @@ rows_of_first limits bytes before contents items blocks front tail rows first be
     let told = scan_rows limits first.before first.contents first.intervals blocks k.front (k.rest ++ tail) rows (record { of_all = at.of_all; spelled = k.spelled; leads = alone }) places in
     let same : k.front ++ (k.rest ++ tail) ≡ bytes = sym (cut ∙ ap (λ l. l ++ tail) k.cut ∙ append_assoc k.front k.rest tail) in
     let framed : frame_of limits (segments_of items) ≡ frame_of limits there =
-    ap (λ (z : List Item). frame_of limits (segments_of z)) first.joined ∙ same_frame_behind limits first.more first.contents first.intervals first.before blocks at.leads in
+    ap (λ (z : List Item). frame_of limits (segments_of z)) first.joined ∙ same_frame_after limits first.more first.contents first.intervals first.before blocks at.leads in
     record {
       framed = framed ∙ ap (frame_of limits) at.same;
       told =

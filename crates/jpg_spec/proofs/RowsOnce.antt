@@ -1,4 +1,4 @@
--- The MCU rows that bytes tell are told in one way, and bytes complete one number of them.
+-- MCU rows can be decoded from bytes in only one way, and bytes complete only one number of them.
 use Rattle.std.proofs.Common.{◌≡◌, ℕ, zero, suc, ◌+◌, ◌-◌, ◌<◌, ◌≤◌, Bool, true, false, cond, ◌==◌, List, [], ◌∷◌, ◌++◌, length, take, drop, refl, sym, ap, ◌∙◌, subst, arith, inl, inr, ⊎_elim, ℤ}
 use Rattle.std.specs.Prelude.{◌||◌, flat_map}
 use Rattle.std.proofs.Math.Path.{fun_ext}
@@ -64,7 +64,7 @@ one_first_scan limits a b x y i j none none' e =
     by (inr (inl g)) = absurd (no_first limits a [] (i.text ++ x) i j.items v g none')
     by (inr (inr g)) = absurd (no_first limits b [] (j.text ++ y) j i.items u g none)
 
--- BLOCKS of a sequential scan are whole bands
+-- BLOCKS of a sequential scan are complete bands
 pub whole_band : (limits : Limits) (before : List Segment) (contents : List ℕ) (block : List ℤ) → is_progressive (frame_of limits before).process ≡ false → length block ≡ 64 → band (scan_after limits before contents) block ≡ block
 whole_band limits before contents block plain long =
     let head = head_in (frame_of limits before) contents in
@@ -90,7 +90,7 @@ abbrev pub tells_at : (limits : Limits) (before : List Segment) (contents : List
 tells_at limits before contents done coded places told w =
     record { rest = w.rest; later = w.later; bits = w.bits; behind = w.behind; intervals = w.intervals; spelled = w.spelled; cut = w.cut; first = w.first }
 
--- what the second tells, of the scan of the first
+-- what the second encodes, of the scan of the first
 record ToldAlso (limits : Limits) (before : List Segment) (contents : List ℕ) (done : List (List ℕ)) (coded : List ℕ) (places more : List Place) (told blocks : Blocks) (rows : ℕ) : Type 0 where
   tells : TellsBlocks (scan_after limits before contents) done coded places told
   first : places ≡ row_places limits before contents rows ++ more
@@ -126,7 +126,7 @@ rows_once limits bytes rows x y v w =
     (within_told limits before i.contents (row_places limits before i.contents rows) j.done j.coded w.places w.more w.told also.tells also.first) agree
     ∙ sym also.same
 
--- FEWER ROWS are told with more
+-- FEWER ROWS are decoded with more
 pub below_more : (m n : ℕ) → m ≤ n → (e : List ℕ) × (below n ≡ below m ++ e)
 below_more m zero h = ([], let z : m ≡ 0 = omega (arith, h) in ap below (sym z) ∙ sym (append-nil (below m)))
 below_more m (suc n) h =
@@ -199,6 +199,6 @@ completed_once limits bytes m n x y a b =
     let same : m ≡ n = ⊎_elim (λ (h : m < n). absurd (few m n x y a b.0 h)) (λ (h : n ≤ m). ⊎_elim (λ (k : n < m). absurd (few n m y x b a.0 k)) (λ (k : m ≤ n). (let z : m ≡ n = omega (arith, h, k) in z)) (cases_lt n m)) (cases_lt m n) in
     (same, rows_once limits bytes n x y (subst (λ k. TellsRows limits bytes k x) same a.0) b.0)
 
--- and no more are told than it
+-- and no more are decoded than it
 pub told_few : (limits : Limits) (bytes : List ℕ) (m n : ℕ) (x y : Blocks) → TellsRows limits bytes m x → CompletesRows limits bytes n y → m ≤ n
 told_few limits bytes m n x y w c = ⊎_elim (λ (h : n < m). absurd (c.1 _ (fewer_rows limits bytes (n + 1) m x (omega (arith, h)) w))) (λ (h : m ≤ n). h) (cases_lt n m)

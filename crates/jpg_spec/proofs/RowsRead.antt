@@ -1,4 +1,4 @@
--- THE LAW: a picture in work tells its blocks, at a place inside the data of a scan of all components.
+-- THE LAW: a current picture has the blocks that are encoded up to a place inside the data of a scan of all components.
 use Rattle.std.proofs.Common.{◌≡◌, ℕ, List, [], ◌∷◌, ◌++◌, refl, sym, ap, ◌∙◌, subst}
 use Rattle.std.specs.Prelude.{map, flat_map}
 use Rattle.std.proofs.lemmas.List.{append_assoc, append-nil}
@@ -16,7 +16,7 @@ use Rattle.jpg_spec.proofs.PictureInWork.{AreApart, apart_less, due_apart, joine
 use Rattle.jpg_spec.proofs.RowBands.{units_before, whole_first}
 use Rattle.jpg_spec.proofs.RowsLater.{blank}
 
--- UNITS of the interval in work
+-- UNITS of the current interval
 abbrev pub units_tell : (limits : Limits) (p : ScanPlace) (now : Blocks) (w : ReadsUnits limits p now) → TellsBlocks (scan_at limits p) p.done p.coded (joined (w.so_far).front ++ w.part) now
 units_tell limits p now w = record {
   whole = (w.so_far).front;
@@ -51,7 +51,7 @@ units_tell limits p now w = record {
         subst (λ (us : List UnitLeft). TellsFirst s.coding us (flat_map (band_of s now) w.part) w.bits) units
         (subst (λ told. TellsFirst s.coding (map (unit_at s w.old) p.places) told w.bits) (w.read).told_there w.spelled)
 
--- THE INTERVAL IN WORK, whole
+-- THE CURRENT INTERVAL, complete
 
 pub record LastOf (s : Scan) (before after : Blocks) (front : List (List Place)) (done : List (List ℕ)) (coded : List ℕ) : Type 0 where
   pub whole : List (List Place)

@@ -7,12 +7,12 @@ use Rattle.jpg_spec.specs.Lists.{chunks, joined}
 use Rattle.jpg_spec.specs.Elements.{UnitLeft}
 use Rattle.jpg_spec.specs.Parts.{StandsInUnits}
 use Rattle.jpg_spec.specs.Scan.{Blocks, Scan, unit_at}
-use Rattle.jpg_spec.specs.ScanFaults.{DataShows}
+use Rattle.jpg_spec.specs.ScanFaults.{DataReveals}
 use Rattle.jpg_spec.specs.Items.{segments_of}
 use Rattle.jpg_spec.specs.FirstFault.{HoldsUnits}
 use Rattle.jpg_spec.specs.ScanReading.{scan_at}
 use Rattle.jpg_spec.specs.RowsTold.{CompletesRows, TellsBlocks, TellsRows}
-use Rattle.jpg_spec.specs.RowLaws.{IsUnderWay, ReadsAtLeast, ReadsRows, ReadsWholeRows, StopsInRows, TellsNoMore, blocks_read}
+use Rattle.jpg_spec.specs.RowLaws.{IsUnderWay, ReadsAtLeast, ReadsUnitsOfRows, ReadsWholeRows, StopsInRows, TellsNoMore, blocks_read}
 use Rattle.jpg_spec.specs.declared.fault.Fault.{Fault}
 use Rattle.jpg_spec.specs.declared.frame.Limits.{Limits}
 use Rattle.jpg_spec.specs.declared.frame.Place.{Place}
@@ -23,18 +23,18 @@ use Rattle.jpg_spec.proofs.RowsRead.{interval_tells, last_of, units_tell}
 use Rattle.jpg_spec.proofs.RowsStop.{due_cut, place_at, stop_completes}
 use Rattle.jpg_spec.proofs.RowsStopped.{bands_size}
 
--- THE NEXT UNIT is under way
+-- THE NEXT UNIT has begun
 under_way : (s : Scan) (before old : Blocks) (places : List Place) (coded : List ℕ) (told : List ℤ) (count : ℕ) → map (unit_at s old) places ≡ map (unit_at s before) places → length told ≡ 64 * count
     → IsUnderWay s old places coded told count → TellsNoMore s before places coded count
 under_way s before old places coded told count same size (inl k) =
     let few = k.3 in
     inl (told ++ k.0, k.1, subst (λ (us : List UnitLeft). StandsInUnits s.coding us (told ++ k.0) k.1 (bits_of_bytes coded)) same k.2, omega (arith, few, size, length-append told k.0))
 under_way s before old places coded told count same size (inr k) =
-    let P : List UnitLeft → Type 0 = λ us. (fault : Fault) × (shown : DataShows s.coding us fault (bits_of_bytes coded)) × (length shown.told < 64 * (count + 1)) in
+    let P : List UnitLeft → Type 0 = λ us. (fault : Fault) × (shown : DataReveals s.coding us fault (bits_of_bytes coded)) × (length shown.told < 64 * (count + 1)) in
     let p : P (map (unit_at s old) places) = k in
     inr (inl (subst P same p))
 
-pub reads_complete : (limits : Limits) (bytes : List ℕ) (rows : ℕ) (w : ReadsRows limits bytes rows) → CompletesRows limits bytes rows (blocks_read limits w.place rows w.now)
+pub reads_complete : (limits : Limits) (bytes : List ℕ) (rows : ℕ) (w : ReadsUnitsOfRows limits bytes rows) → CompletesRows limits bytes rows (blocks_read limits w.place rows w.now)
 reads_complete limits bytes rows w =
     let p = w.place in
     let s = scan_at limits p in
@@ -58,7 +58,7 @@ reads_complete limits bytes rows w =
     } in
     stop_completes limits bytes rows stop
 
--- THE INTERVAL is whole
+-- THE INTERVAL is complete
 pub whole_completes : (limits : Limits) (bytes : List ℕ) (rows : ℕ) (w : ReadsWholeRows limits bytes rows) → CompletesRows limits bytes rows (blocks_read limits w.place rows w.now)
 whole_completes limits bytes rows w =
     let p = w.place in
@@ -84,7 +84,7 @@ whole_completes limits bytes rows w =
     } in
     stop_completes limits bytes rows stop
 
--- ROWS that are read are told
+-- ROWS that are read are decoded
 pub reads_tell : (limits : Limits) (bytes : List ℕ) (rows : ℕ) (w : ReadsAtLeast limits bytes rows) → TellsRows limits bytes rows (blocks_read limits w.place rows w.now)
 reads_tell limits bytes rows w = record {
   front = (w.at).front ++ (w.at).head ++ (w.at).text;

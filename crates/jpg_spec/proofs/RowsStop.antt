@@ -1,4 +1,4 @@
--- THE LAW: bytes that stop in the data of a scan of all components complete the MCU rows that are told.
+-- THE LAW: bytes that stop in the data of a scan of all components complete the MCU rows that are decoded.
 use Rattle.std.proofs.Common.{◌≡◌, ℕ, ◌+◌, ◌%◌, List, [], ◌∷◌, ◌++◌, length, refl, sym, ap, ◌∙◌, subst, arith, inl, inr}
 use Rattle.std.specs.Prelude.{◌⊎◌, replicate}
 use Rattle.std.proofs.lemmas.List.{append-nil, length-append}
@@ -19,7 +19,7 @@ use Rattle.jpg_spec.proofs.RowsLater.{blank}
 use Rattle.jpg_spec.proofs.RowsOnce.{one_first_scan, tells_at, whole_band}
 use Rattle.jpg_spec.proofs.RowsStopped.{HasWholeBands, StopsAt, no_more_told}
 
--- THE INTERVAL IN WORK is the one that is due
+-- THE CURRENT INTERVAL is the next one
 pub due_cut : (s : Scan) (before told : Blocks) (all whole : List (List Place)) (done : List (List ℕ)) (places part : List Place) (later rest : List (List Place)) → HoldsAll s before all done (places ∷ later)
     → SpellsIntervals s no_blocks told whole done → all ≡ whole ++ part ∷ rest → (places ≡ part) × (later ≡ rest)
 due_cut s before told all [] [] places part later rest h k e = places_apart places part later rest (sym h ∙ e)
@@ -29,7 +29,7 @@ due_cut s before told [] (q ∷ whole) (c ∷ done) places part later rest h k e
 due_cut s before told (p ∷ all) (q ∷ whole) (c ∷ done) places part later rest h k e =
     due_cut s before told all whole done places part later rest h.2 k.1 (places_apart p q all (whole ++ part ∷ rest) e).1
 
--- the place, with the bytes up to it alone
+-- the place, with only the bytes up to it
 abbrev pub place_at : (limits : Limits) → (bytes : List ℕ) → (p : ScanPlace) → (tail : List ℕ) → (at : ScanAt limits bytes p tail) → InsideScan limits (at.front ++ at.head ++ at.text) []
 place_at limits bytes p tail at = record {
   items = p.items;
@@ -51,7 +51,7 @@ place_at limits bytes p tail at = record {
   due = at.due;
 }
 
--- what stops there, of a scan that begins with no blocks, and of the interval as it is told
+-- what stops there, of a scan that begins with no blocks, and of the interval as it is encoded
 abbrev Stops : Scan → List (List ℕ) → List ℕ → List ℕ → ℕ → Blocks → List Place → List (List Place) → Type 0
 Stops s done coded tail count blocks places later =
     TellsNoMore s blocks places coded count

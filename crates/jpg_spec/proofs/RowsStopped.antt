@@ -1,4 +1,4 @@
--- Where no further unit and no further data byte follow, no more blocks are told.
+-- If no further unit and no further data byte follow, no more blocks are decoded.
 use Rattle.std.proofs.Common.{◌≡◌, ℕ, ◌+◌, ◌*◌, ◌%◌, ◌≤◌, Bool, true, List, [], ◌∷◌, ◌++◌, length, refl, sym, ap, ◌∙◌, subst, arith, inl, inr, ⊎_elim, ℤ}
 use Rattle.std.specs.Prelude.{◌⊎◌, flat_map, replicate}
 use Rattle.std.proofs.lemmas.List.{append_assoc, append-nil, append_cancel_left, length-append}
@@ -7,7 +7,7 @@ use Rattle.jpg_spec.specs.Lists.{joined}
 use Rattle.jpg_spec.specs.Elements.{Coding, Covers, Element, Tells, SpellsElement, UnitLeft, are_in_bounds, at_start, codes_due}
 use Rattle.jpg_spec.specs.Parts.{StandsInUnits}
 use Rattle.jpg_spec.specs.Scan.{Blocks, Scan, band, block_at}
-use Rattle.jpg_spec.specs.ScanFaults.{DataShows}
+use Rattle.jpg_spec.specs.ScanFaults.{DataReveals}
 use Rattle.jpg_spec.specs.Sound.{IsSound}
 use Rattle.jpg_spec.specs.Markers.{SpellsMarker}
 use Rattle.jpg_spec.specs.Items.{SpellsIntervalsText}
@@ -30,7 +30,7 @@ use Rattle.jpg_spec.proofs.PartStands.{codes_one, coding_is, no_further}
 use Rattle.jpg_spec.proofs.ScansOnce.{CutInterval, cut_interval, data_ends, no_places, places_apart}
 use Rattle.jpg_spec.proofs.RowBands.{AreBlocks, TellsAt, parts, tells_later, units_before}
 
--- BITS that stand in a unit, or show a fault in it, tell no more
+-- BITS that end in a unit, or have a fault in it, encode no more
 
 stands_most : (c : Coding) (units : List UnitLeft) (told : List ℤ) (left : List UnitLeft) (bits : List Bool) (other : List ℤ) (front rest : List Bool) → IsSound c → StandsInUnits c units told left bits
     → TellsFirst c units other front → bits ≡ front ++ rest → length other ≤ length told
@@ -51,7 +51,7 @@ stands_most c units told left bits other front rest sound w k e =
     longer [] values spelling h same cut = let l = ap length same ∙ length-append w.before values in let n = ap length h.0 in omega (arith, l, n, size)
     longer (d ∷ es) values spelling h same cut = absurd (no_further c w.standing at.unit at.units w.part rest d es values spelling k.1 sound at.left at.is_front h cut)
 
-shows_most : (c : Coding) (units : List UnitLeft) (fault : Fault) (bits : List Bool) (other : List ℤ) (front rest : List Bool) → IsSound c → (d : DataShows c units fault bits)
+shows_most : (c : Coding) (units : List UnitLeft) (fault : Fault) (bits : List Bool) (other : List ℤ) (front rest : List Bool) → IsSound c → (d : DataReveals c units fault bits)
     → TellsFirst c units other front → bits ≡ front ++ rest → length other ≤ length d.told
 shows_most c units fault bits other front rest sound d k e =
     ⊎_elim
@@ -85,7 +85,7 @@ bands_size s told (p ∷ places) wide sizes =
     let here = wide (block_at told p) (sizes p.component p.x p.y) in
     omega (arith, length-append (band_of s told p) (flat_map (band_of s told) places), here, bands_size s told places wide sizes)
 
--- as many places as are told at most
+-- at most as many places as are decoded
 few_told : (s : Scan) (places : List Place) (coded : List ℕ) (count : ℕ) (other : Blocks) (b q : List Place) (front rest : List Bool) → IsSound s.coding → HasWholeBands s → AreBlocks other → TellsNoMore s no_blocks places coded count
     → places ≡ b ++ q → TellsFirst s.coding (units_before s places) (flat_map (band_of s other) b) front → bits_of_bytes coded ≡ front ++ rest → length b ≤ count
 few_told s places coded count other b q front rest sound wide sizes (inl k) cut h e =
@@ -108,7 +108,7 @@ no_data : (s : Scan) (turn : ℕ) (places : List Place) (later : List (List Plac
 no_data s turn places later count coded u m t v (inl k) d e = data_no_fill k.0 m t v d (sym e ∙ k.1)
 no_data s turn places later count coded u m t v (inr k) d e = data_no_marker k.0.code m t k.0.marker v k.0.rest d k.0.spelled (sym e ∙ k.0.cut)
 
--- another interval doesn't begin behind it
+-- another interval doesn't begin after it
 no_interval : (s : Scan) (turn : ℕ) (places : List Place) (later : List (List Place)) (coded u marker x : List ℕ) → StopsAt s turn places later 0 coded u → HoldsUnits s no_blocks places coded
     → SpellsMarker (0xd0 + turn % 8) marker → u ≡ marker ++ x → later ≡ []
 no_interval s turn places later coded u marker x (inl k) h m e = absurd (fill_no_marker k.0 (0xd0 + turn % 8) marker x m (sym k.1 ∙ e))
@@ -177,7 +177,7 @@ never_later s turn p all c f d t r u v done told other a b q whole k l e w z sto
     none_left [] y ys e = no_places y ys (sym e)
     none_left (z ∷ xs) y ys e = no_places z (xs ++ y ∷ ys) (sym e)
 
--- with one done interval less before it
+-- with one fewer interval done before it
 later_stops : (s : Scan) (turn : ℕ) (places : List Place) (later : List (List Place)) (m n : ℕ) (coded u : List ℕ) → turn + m ≡ turn + 1 + n → StopsAt s turn places later m coded u → StopsAt s (turn + 1) places later n coded u
 later_stops s turn places later m n coded u e (inl k) = inl k
 later_stops s turn places later m n coded u e (inr k) = inr (k.0, λ h code. k.1 h (code ∙ ap (λ x. 0xd0 + x % 8) (sym e)))

@@ -1,4 +1,4 @@
--- A whole file's bytes complete all MCU rows of a scan of all components, with the blocks of its picture.
+-- A complete file's bytes complete all MCU rows of a scan of all components, with the blocks of its picture.
 use Rattle.std.proofs.Common.{◌≡◌, ℕ, zero, suc, ◌+◌, ◌*◌, ◌<◌, ◌≤◌, Bool, true, false, cond, ◌&&◌, List, [], ◌∷◌, ◌++◌, length, refl, sym, ap, ◌∙◌, subst, arith}
 use Rattle.std.specs.Prelude.{nat_lt, map, flat_map, unwrap_or}
 use Rattle.std.proofs.Math.Path.{fun_ext}
@@ -28,7 +28,7 @@ use Rattle.jpg_spec.proofs.RowCounts.{length_rows}
 use Rattle.jpg_spec.proofs.RowsLater.{blank}
 use Rattle.jpg_spec.proofs.RowsOnce.{one_first_scan}
 
--- A WHOLE SCAN is whole intervals, and then a last one
+-- A COMPLETE SCAN is complete intervals, and then a last one
 record EndsTold (s : Scan) (before after : Blocks) (all : List (List Place)) (intervals : List (List ℕ)) : Type 0 where
   done : List (List ℕ)
   last : List ℕ
@@ -64,7 +64,7 @@ holds_told s before after [] due (c ∷ done) k = absurd k
 holds_told s before after (p ∷ whole) due [] k = absurd k
 holds_told s before after (p ∷ whole) due (c ∷ done) k = (_, (k.0.0, k.0.1, k.0.2), holds_told s before after whole due done k.1)
 
--- NO MORE ROWS than the scan has are told
+-- NO MORE ROWS than the scan has are decoded
 pub no_more_rows : (limits : Limits) (before : List Segment) (contents : List ℕ) (rows : ℕ) (done : List (List ℕ)) (coded : List ℕ) (places more : List Place) (told : Blocks)
     → (scan_after limits before contents).places ≡ row_places limits before contents rows → 1 ≤ length (scan_after limits before contents).places
     → TellsBlocks (scan_after limits before contents) done coded places told → places ≡ row_places limits before contents (rows + 1) ++ more → ⊥
@@ -87,7 +87,7 @@ no_more_rows limits before contents rows done coded places more told all some w 
     let none : rows * row ≡ 0 = ap (λ n. rows * n) short ∙ omega arith in
     omega (arith, some, l8, none)
 
--- A SCAN AND WHAT STANDS BEFORE IT, at the front of some bytes
+-- A SCAN AND WHAT IS BEFORE IT, at the beginning of some bytes
 pub record WholeScan (limits : Limits) (before : List Item) (contents : List ℕ) (intervals : List (List ℕ)) (blocks : Blocks) (front : List ℕ) : Type 0 where
   pub of_all : IsScanOfAll limits (segments_of before) contents
   pub spelled : SpellsFront (scan contents intervals ∷ before) front
@@ -147,7 +147,7 @@ scan_tells limits before contents intervals blocks front w h =
       sizes = (w.leads).4.sizes;
     }
 
--- the first bytes tell all its rows
+-- the first bytes encode all its rows
 pub scan_rows : (limits : Limits) (before : List Item) (contents : List ℕ) (intervals : List (List ℕ)) (blocks : Blocks) (front rest : List ℕ) (rows : ℕ) → WholeScan limits before contents intervals blocks front
     → (scan_after limits (segments_of before) contents).places ≡ row_places limits (segments_of before) contents rows
     → TellsRows limits (front ++ rest) rows (blocks_in (row_places limits (segments_of before) contents rows) blocks)
@@ -192,7 +192,7 @@ map_below g h zero e = refl
 map_below g h (suc n) e =
     map-append g (below n) (n ∷ []) ∙ ap (λ l. l ++ g n ∷ []) (map_below g h n (λ i lt. e i (omega (arith, lt)))) ∙ ap (λ x. map h (below n) ++ x ∷ []) (e n (omega arith)) ∙ sym (map-append h (below n) (n ∷ []))
 
--- real blocks stand in the scan of all components
+-- real blocks are in the scan of all components
 pub real_in_rows : (f : Frame) (places : List Place) (told : Blocks) → ((i x y : ℕ) → i < length f.components → is_real f i x y ≡ true → any_of (is_at i x y) places ≡ true) → real_blocks f (blocks_in places told) ≡ real_blocks f told
 real_in_rows f places told found = fun_ext (λ i. fun_ext (λ x. fun_ext (λ y. by i x y (nat_lt i (length f.components) && is_real f i x y) refl)))
   where

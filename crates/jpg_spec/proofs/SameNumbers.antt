@@ -1,25 +1,28 @@
--- Frames with the same numbers, whatever their process and the slots of their tables: one passes its checks where the other does, and their
--- real grids are the same.
+-- Frames with the same numbers, whatever their process and the slots of their tables: one passes its checks if the
+-- other does, and their real grids are the same.
 use Rattle.std.proofs.Common.{◌≡◌, ℕ, ◌+◌, ◌*◌, ◌≤◌, Bool, false, not, ◌&&◌, ◌==◌, List, [], ◌∷◌, length, get_or, map, refl, sym, ap, ◌∙◌, subst, arith}
 use Rattle.std.specs.Prelude.{◌||◌, nat_lt, sum_by, Ok}
 use Rattle.std.specs.List.{All}
 use Rattle.std.proofs.lemmas.Bool.Decides.{nat_tests}
-use Rattle.std.proofs.lemmas.List.{length-map}
+use Rattle.std.proofs.lemmas.List.{length-map, get_or-map}
 use Rattle.std.proofs.lemmas.List.Sums.{sum_by-cons}
 use Rattle.std.proofs.lemmas.List.Elements.{All-head, All-tail, All-nil, All-cons}
-use Rattle.jpg_spec.specs.Lists.{any_of, is_distinct}
+use Rattle.jpg_spec.specs.Lists.{any_of, is_distinct, below}
 use Rattle.jpg_spec.specs.Segments.{standard_limits}
-use Rattle.jpg_spec.specs.Geometry.{Frame, greatest, div_up, mcus_across, mcus_down, padded_blocks, component_at, is_real}
+use Rattle.jpg_spec.specs.Geometry.{Frame, greatest, div_up, mcus_across, mcus_down, padded_blocks, component_at, is_real, no_component}
 use Rattle.jpg_spec.specs.FrameHeader.{checked_frame, IsFrame, HasFactors, identifiers, has_bad_factor, has_bad_slot}
-use Rattle.jpg_spec.specs.Moved.{Grids, frame_grids}
+use Rattle.jpg_spec.specs.Grids.{Grids, frame_grids}
 use Rattle.jpg_spec.specs.declared.fault.Fault.TheVariants.{EmptyImage, TooLarge, Precision, ComponentCount, Sampling, DuplicateComponent, QuantSlot, TooManyBlocks}
 use Rattle.jpg_spec.specs.declared.frame.Component.{Component}
-use Rattle.jpg_spec.proofs.Rows.{map_map}
-use Rattle.jpg_spec.proofs.Common.{lt_no}
-use Rattle.jpg_spec.proofs.Common.{not_refused}
-use Rattle.jpg_spec.proofs.MovedGrids.{real_side, factor_across, factor_down}
+use Rattle.jpg_spec.proofs.Rows.{map_map, by_items}
+use Rattle.jpg_spec.proofs.Common.{lt_no, not_refused}
+use Rattle.jpg_spec.proofs.FrameFound.{real_side, factor_across, factor_down}
+use Rattle.jpg_spec.specs.Markers.{Segment}
+use Rattle.jpg_spec.specs.Scan.{Blocks}
+use Rattle.jpg_spec.specs.Meaning.{picture_frame}
+use Rattle.jpg_spec.specs.FileMeaning.{picture_component, meaning_of}
 
--- what a component is, but for its slot
+-- what a component is, except for its slot
 abbrev pub numbers_of : Component → ℕ × ℕ × ℕ
 numbers_of c = (c.id, c.h, c.v)
 
@@ -29,7 +32,7 @@ pub record SameNumbers (f g : Frame) : Type 0 where
   pub precision : f.precision ≡ g.precision
   pub components : map numbers_of f.components ≡ map numbers_of g.components
 
--- WHAT THE NUMBERS TELL
+-- WHAT DEPENDS ON THE NUMBERS
 
 pub by_numbers : {A : Type 0} (f : ℕ × ℕ × ℕ → A) (a b : List Component) → map numbers_of a ≡ map numbers_of b → map (λ c. f (numbers_of c)) a ≡ map (λ c. f (numbers_of c)) b
 by_numbers f a b e = sym (map_map f numbers_of a) ∙ ap (map f) e ∙ map_map f numbers_of b
@@ -116,7 +119,7 @@ no_bad_slot (c ∷ cs) all =
 either_false : (a b : Bool) → a ≡ false → b ≡ false → (a || b) ≡ false
 either_false a b e h = ap (λ t. t || b) e ∙ h
 
--- a frame that has what the checks say passes them
+-- a frame that has the properties of the checks passes them
 pub frame_passes : (f : Frame) → IsFrame f → checked_frame standard_limits f ≡ Ok f
 unfolding checked_frame
 frame_passes f is =
@@ -154,3 +157,14 @@ same_grids f g s =
 
 pub same_places : (f g : Frame) (i x y : ℕ) → SameNumbers f g → is_place f i x y ≡ is_place g i x y
 same_places f g i x y s = place_by f i x y ∙ ap (λ G. place_in G i x y) (same_grids f g s) ∙ sym (place_by g i x y)
+
+pub file_numbers : (f : Frame) (before : List Segment) (blocks : Blocks) → SameNumbers f (picture_frame (meaning_of f before blocks))
+file_numbers f before blocks = record {
+  width = refl;
+  height = refl;
+  precision = refl;
+  components =
+      sym (by_items (length f.components) (λ i. numbers_of (component_at f i)) (map numbers_of f.components) (0, 1, 1) (length-map f.components numbers_of)
+      (λ i h. sym (get_or-map numbers_of f.components i no_component (0, 1, 1) h)))
+      ∙ sym (map_map numbers_of _ (map (picture_component f before) (below (length f.components))) ∙ map_map _ (picture_component f before) (below (length f.components)));
+}

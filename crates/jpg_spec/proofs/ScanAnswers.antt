@@ -1,13 +1,14 @@
--- THE ANSWERS of a reader inside scan data, a lemma for each: a machine has the bits of the interval in work, and the gate the bytes.
+-- THE ANSWERS of a reader inside scan data, a lemma for each: a machine has the bits of the current interval, and the
+-- gate the bytes.
 use Rattle.std.proofs.Common.{◌≡◌, ℕ, suc, ◌+◌, ◌%◌, ◌≤◌, List, [], ◌∷◌, ◌++◌, length, sym, subst, arith, Bool, ℤ}
 use Rattle.std.specs.Prelude.{map, replicate}
 use Rattle.jpg_spec.specs.Bits.{bits_of, bits_of_bytes}
 use Rattle.jpg_spec.specs.Elements.{UnitLeft, SpellsUnits}
 use Rattle.jpg_spec.specs.Scan.{unit_at}
-use Rattle.jpg_spec.specs.ScanFaults.{DataShows}
+use Rattle.jpg_spec.specs.ScanFaults.{DataReveals}
 use Rattle.jpg_spec.specs.Items.{segments_of}
-use Rattle.jpg_spec.specs.FirstFault.{Shows}
-use Rattle.jpg_spec.specs.FileStands.{FileStands}
+use Rattle.jpg_spec.specs.FirstFault.{Reveals}
+use Rattle.jpg_spec.specs.UnfinishedFile.{UnfinishedFile}
 use Rattle.jpg_spec.specs.Parts.{StandsInUnits}
 use Rattle.jpg_spec.specs.ScanReading.{ScanPlace, scan_at, with_byte, with_interval, ScanAt, CompletesAt}
 use Rattle.jpg_spec.specs.declared.fault.Fault.{Fault}
@@ -20,25 +21,25 @@ use Rattle.jpg_spec.proofs.PartStands.{part_due}
 use Rattle.jpg_spec.proofs.ScanSteps.{data_shown, extra_shown, short_shown, restart_shown, next_interval, due_stands, marker_code}
 use Rattle.jpg_spec.proofs.PictureInWork.{byte_packs, byte_shows, byte_bits, starts_due}
 
--- the units of the interval in work
+-- the units of the current interval
 abbrev pub units_at : Limits → ScanPlace → List UnitLeft
 units_at limits p = map (unit_at (scan_at limits p) p.blocks) p.places
 
 -- A DATA BYTE, whose bits the machine took
 
--- all of them, and units are due: the file stands, also with FF bytes behind
+-- all of them, and units are left: the file has no fault, also with FF bytes after them
 pub units_due : (limits : Limits) (bytes : List ℕ) (p : ScanPlace) (fill : ℕ) (told : List ℤ) (left : List UnitLeft) → ScanAt limits bytes p (replicate fill 255)
-    → StandsInUnits (scan_at limits p).coding (units_at limits p) told left (bits_of_bytes p.coded) → FileStands limits bytes
+    → StandsInUnits (scan_at limits p).coding (units_at limits p) told left (bits_of_bytes p.coded) → UnfinishedFile limits bytes
 units_due limits bytes p fill told left w s =
     due_stands limits bytes p fill w (part_due (scan_at limits p) p.blocks p.places told left p.coded (scan_sound limits (segments_of p.items) p.contents) s)
 
 pub bits_due : (limits : Limits) (bytes : List ℕ) (p : ScanPlace) (byte : ℕ) (told : List ℤ) (left : List UnitLeft) → ScanAt limits bytes (with_byte p byte) []
-    → StandsInUnits (scan_at limits p).coding (units_at limits p) told left (bits_of_bytes p.coded ++ bits_of 8 byte) → FileStands limits bytes
+    → StandsInUnits (scan_at limits p).coding (units_at limits p) told left (bits_of_bytes p.coded ++ bits_of 8 byte) → UnfinishedFile limits bytes
 bits_due limits bytes p byte told left w s =
     units_due limits bytes (with_byte p byte) 0 told left w (subst (λ l. StandsInUnits (scan_at limits p).coding (units_at limits p) told left l) (sym (byte_bits p.coded byte)) s)
 
--- an interval that begins stands
-pub begun_stands : (limits : Limits) (bytes : List ℕ) (p : ScanPlace) → ScanAt limits bytes p [] → p.coded ≡ [] → 1 ≤ length p.places → FileStands limits bytes
+-- an interval that begins has no fault
+pub begun_stands : (limits : Limits) (bytes : List ℕ) (p : ScanPlace) → ScanAt limits bytes p [] → p.coded ≡ [] → 1 ≤ length p.places → UnfinishedFile limits bytes
 begun_stands limits bytes p w none some =
     units_due limits bytes p 0 [] (units_at limits p) w (subst (λ l. StandsInUnits (scan_at limits p).coding (units_at limits p) [] (units_at limits p) (bits_of_bytes l)) (sym none) (by p.places some))
   where
@@ -51,29 +52,29 @@ pub bits_complete : (limits : Limits) (p : ScanPlace) (byte : ℕ) (bits rest : 
     → SpellsUnits (scan_at limits p).coding (units_at limits p) told (bits_of_bytes p.coded ++ bits) → CompletesAt limits (with_byte p byte)
 bits_complete limits p byte bits rest told e some k = (told, (bits_of_bytes p.coded ++ bits, byte_packs p.coded byte bits rest e some, k))
 
--- one of them shows a fault
+-- one of them has a fault
 pub bits_shown : (limits : Limits) (bytes : List ℕ) (p : ScanPlace) (byte : ℕ) (fault : Fault) (bits rest : List Bool) → ScanAt limits bytes (with_byte p byte) [] → bits_of 8 byte ≡ bits ++ rest
-    → DataShows (scan_at limits p).coding (units_at limits p) fault (bits_of_bytes p.coded ++ bits) → Shows limits fault bytes
+    → DataReveals (scan_at limits p).coding (units_at limits p) fault (bits_of_bytes p.coded ++ bits) → Reveals limits fault bytes
 bits_shown limits bytes p byte fault bits rest w e d = data_shown limits bytes (with_byte p byte) fault w (byte_shows (scan_at limits p).coding (units_at limits p) fault p.coded byte bits rest e d)
 
--- a data byte more
-pub interval_extra : (limits : Limits) (bytes : List ℕ) (p : ScanPlace) (byte : ℕ) → ScanAt limits bytes (with_byte p byte) [] → CompletesAt limits p → Shows limits ExtraData bytes
+-- one more data byte
+pub interval_extra : (limits : Limits) (bytes : List ℕ) (p : ScanPlace) (byte : ℕ) → ScanAt limits bytes (with_byte p byte) [] → CompletesAt limits p → Reveals limits ExtraData bytes
 interval_extra limits bytes p byte w k = extra_shown limits bytes p byte w (completes_holds (scan_at limits p) p.blocks p.places p.coded k)
 
--- A MARKER while units are due
+-- A MARKER while units are left
 pub units_short : (limits : Limits) (bytes : List ℕ) (p : ScanPlace) (fill code : ℕ) (told : List ℤ) (left : List UnitLeft) → (code ≡ 0 → ⊥) → (code ≡ 255 → ⊥) → ScanAt limits bytes p (replicate (suc fill) 255 ++ code ∷ [])
-    → StandsInUnits (scan_at limits p).coding (units_at limits p) told left (bits_of_bytes p.coded) → Shows limits EntropyShort bytes
+    → StandsInUnits (scan_at limits p).coding (units_at limits p) told left (bits_of_bytes p.coded) → Reveals limits EntropyShort bytes
 units_short limits bytes p fill code told left z f w s =
     short_shown limits bytes p code (replicate (suc fill) 255 ++ code ∷ []) w (marker_code fill code z f)
     (part_due (scan_at limits p) p.blocks p.places told left p.coded (scan_sound limits (segments_of p.items) p.contents) s).0
 
--- another marker than the one that is due
+-- another marker than the expected one
 pub interval_wrong : (limits : Limits) (bytes : List ℕ) (p : ScanPlace) (next : List Place) (others : List (List Place)) (fill code : ℕ) → (code ≡ 0 → ⊥) → (code ≡ 255 → ⊥) → ScanAt limits bytes p (replicate (suc fill) 255 ++ code ∷ [])
-    → CompletesAt limits p → p.later ≡ next ∷ others → (code ≡ 0xd0 + length p.done % 8 → ⊥) → Shows limits RestartWrong bytes
+    → CompletesAt limits p → p.later ≡ next ∷ others → (code ≡ 0xd0 + length p.done % 8 → ⊥) → Reveals limits RestartWrong bytes
 interval_wrong limits bytes p next others fill code z f w k due wrong =
     restart_shown limits bytes p next others code (replicate (suc fill) 255 ++ code ∷ []) w (completes_holds (scan_at limits p) p.blocks p.places p.coded k) due (marker_code fill code z f) wrong
 
--- the one that is due: the next interval begins
+-- the expected one: the next interval begins
 pub interval_begun : (limits : Limits) (bytes : List ℕ) (p : ScanPlace) (next : List Place) (others : List (List Place)) (fill : ℕ)
     → ScanAt limits bytes p (replicate (suc fill) 255 ++ (0xd0 + length p.done % 8) ∷ []) → CompletesAt limits p → p.later ≡ next ∷ others → ScanAt limits bytes (with_interval p next others) []
 interval_begun limits bytes p next others fill w k due =

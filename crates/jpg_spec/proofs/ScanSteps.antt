@@ -1,4 +1,4 @@
--- STEPS inside scan data: what a byte behind bytes that stand there leads to.
+-- STEPS inside scan data: the result of a byte after bytes that have no fault there.
 use Rattle.std.proofs.Common.{◌≡◌, ℕ, zero, suc, ◌+◌, ◌%◌, List, [], ◌∷◌, ◌++◌, length, refl, sym, ap, ◌∙◌, subst, arith, inl, inr, None}
 use Rattle.std.specs.Prelude.{replicate}
 use Rattle.std.proofs.lemmas.List.{append_assoc, append-nil}
@@ -8,19 +8,19 @@ use Rattle.jpg_spec.specs.Scan.{Blocks, Scan, ScanMeans}
 use Rattle.jpg_spec.specs.Markers.{SpellsMarker, SpellsSegment, code_fault}
 use Rattle.jpg_spec.specs.Items.{Item, segments_of, SpellsIntervalsText, contents_rule}
 use Rattle.jpg_spec.specs.FileMeaning.{scan_after}
-use Rattle.jpg_spec.specs.FirstFault.{BehindItems, HoldsAll, InsideScan, Shows}
+use Rattle.jpg_spec.specs.FirstFault.{AfterItems, HoldsAll, InsideScan, Reveals}
 use Rattle.jpg_spec.specs.declared.fault.Fault.{Fault}
 use Rattle.jpg_spec.specs.declared.fault.Fault.TheVariants.{EntropyShort, ExtraData, RestartWrong}
 use Rattle.jpg_spec.specs.declared.frame.Limits.{Limits}
 use Rattle.jpg_spec.specs.declared.frame.Place.{Place}
-use Rattle.jpg_spec.specs.FileStands.{Completes, FileStands}
-use Rattle.jpg_spec.specs.ScanReading.{ScanPlace, scan_at, with_byte, with_interval, scan_item, ScanAt, HoldsAt, CompletesAt, IsDueAt, ShowsAt}
+use Rattle.jpg_spec.specs.UnfinishedFile.{Completes, UnfinishedFile}
+use Rattle.jpg_spec.specs.ScanReading.{ScanPlace, scan_at, with_byte, with_interval, scan_item, ScanAt, HoldsAt, CompletesAt, IsDueAt, RevealsAt}
 use Rattle.jpg_spec.proofs.Gate.{data_join, one_data}
 use Rattle.jpg_spec.proofs.ScansOnce.{cut_interval, join_interval}
 
 -- MORE TEXT of intervals
 
--- data behind the last interval's
+-- data after the last interval's
 text_more : (turn : ℕ) (done : List (List ℕ)) (coded more text t : List ℕ) → SpellsIntervalsText turn (done ++ coded ∷ []) text → SpellsData more t → SpellsIntervalsText turn (done ++ (coded ++ more) ∷ []) (text ++ t)
 text_more turn [] coded more text t s k = data_join coded more text t s k
 text_more turn (c ∷ done) coded more text t s k =
@@ -35,7 +35,7 @@ text_more turn (c ∷ done) coded more text t s k =
       later = text_more (turn + 1) done coded more w.rest t w.later k;
     })
 
--- a marker behind it
+-- a marker after it
 text_next : (turn : ℕ) (done : List (List ℕ)) (coded text marker : List ℕ) → SpellsIntervalsText turn (done ++ coded ∷ []) text → SpellsMarker (0xd0 + (turn + length done) % 8) marker
     → SpellsIntervalsText turn ((done ++ coded ∷ []) ++ [] ∷ []) (text ++ marker)
 text_next turn [] coded text marker s k =
@@ -83,9 +83,9 @@ inside limits bytes p tail w = record {
   due = w.due;
 }
 
--- A BYTE MORE
+-- ONE MORE BYTE
 
--- bytes behind the data bytes, whatever they are: FF, or FF and a marker's code
+-- bytes after the data bytes, whatever they are: FF, or FF and a marker's code
 pub tail_more : (limits : Limits) (bytes : List ℕ) (p : ScanPlace) (tail more : List ℕ) → ScanAt limits bytes p tail → ScanAt limits (bytes ++ more) p (tail ++ more)
 tail_more limits bytes p tail more w = record {
   front = w.front;
@@ -100,7 +100,7 @@ tail_more limits bytes p tail more w = record {
   due = w.due;
 }
 
--- what stands behind the data bytes is a data byte
+-- what follows the data bytes is a data byte
 pub data_more : (limits : Limits) (bytes : List ℕ) (p : ScanPlace) (byte : ℕ) (tail : List ℕ) → ScanAt limits bytes p tail → SpellsByte byte tail → ScanAt limits bytes (with_byte p byte) []
 data_more limits bytes p byte tail w s = record {
   front = w.front;
@@ -115,7 +115,7 @@ data_more limits bytes p byte tail w s = record {
   due = w.due;
 }
 
--- the right marker behind a complete interval: the next one begins
+-- the right marker after a complete interval: the next one begins
 pub next_interval : (limits : Limits) (bytes : List ℕ) (p : ScanPlace) (next : List Place) (others : List (List Place)) (tail : List ℕ)
     → ScanAt limits bytes p tail → CompletesAt limits p → p.later ≡ next ∷ others → SpellsMarker (0xd0 + length p.done % 8) tail
     → ScanAt limits bytes (with_interval p next others) []
@@ -137,9 +137,9 @@ next_interval limits bytes p next others tail w k due m =
           (holds_next s p.blocks (chunks s.interval s.places) p.done p.coded p.places p.later w.due k);
     }
 
--- behind the last interval the scan is an item, once it is known what it means
+-- after the last interval the scan is an item, once it is known what it means
 pub scan_ends : (limits : Limits) (bytes : List ℕ) (p : ScanPlace) (after : Blocks) (tail : List ℕ)
-    → ScanAt limits bytes p tail → ScanMeans (scan_at limits p) (p.done ++ p.coded ∷ []) p.blocks after → BehindItems limits bytes (scan_item p ∷ p.items) tail
+    → ScanAt limits bytes p tail → ScanMeans (scan_at limits p) (p.done ++ p.coded ∷ []) p.blocks after → AfterItems limits bytes (scan_item p ∷ p.items) tail
 scan_ends limits bytes p after tail w m = record {
   front = w.front ++ (w.head ++ w.text);
   blocks = after;
@@ -152,7 +152,7 @@ scan_ends limits bytes p after tail w m = record {
 abbrev pub first_place : List Item → Blocks → List ℕ → List Place → List (List Place) → ScanPlace
 first_place items blocks contents places later = record { items = items; blocks = blocks; contents = contents; done = []; coded = []; places = places; later = later }
 
-pub scan_begins : (limits : Limits) (bytes : List ℕ) (items : List Item) (contents tail : List ℕ) (places : List Place) (later : List (List Place)) → (w : BehindItems limits bytes items tail)
+pub scan_begins : (limits : Limits) (bytes : List ℕ) (items : List Item) (contents tail : List ℕ) (places : List Place) (later : List (List Place)) → (w : AfterItems limits bytes items tail)
     → SpellsSegment 0xda contents tail → code_fault (segments_of items) 0xda ≡ None → contents_rule limits (segments_of items) 0xda contents ≡ None
     → (let s = scan_after limits (segments_of items) contents in chunks s.interval s.places ≡ places ∷ later)
     → ScanAt limits bytes (first_place items w.blocks contents places later) []
@@ -171,27 +171,28 @@ scan_begins limits bytes items contents tail places later w s allowed rule some 
 
 -- ANSWERS
 
-pub data_shown : (limits : Limits) (bytes : List ℕ) (p : ScanPlace) (fault : Fault) → ScanAt limits bytes p [] → ShowsAt limits p fault → Shows limits fault bytes
+pub data_shown : (limits : Limits) (bytes : List ℕ) (p : ScanPlace) (fault : Fault) → ScanAt limits bytes p [] → RevealsAt limits p fault → Reveals limits fault bytes
 data_shown limits bytes p fault w d = inr (inr ([], inside limits bytes p [] w, inl (refl, d)))
 
-pub extra_shown : (limits : Limits) (bytes : List ℕ) (p : ScanPlace) (byte : ℕ) → ScanAt limits bytes (with_byte p byte) [] → HoldsAt limits p → Shows limits ExtraData bytes
+pub extra_shown : (limits : Limits) (bytes : List ℕ) (p : ScanPlace) (byte : ℕ) → ScanAt limits bytes (with_byte p byte) [] → HoldsAt limits p → Reveals limits ExtraData bytes
 extra_shown limits bytes p byte w h = inr (inr ([], inside limits bytes (with_byte p byte) [] w, inr (inr (inl (refl, refl, (p.coded, byte, refl, h))))))
 
-pub short_shown : (limits : Limits) (bytes : List ℕ) (p : ScanPlace) (code : ℕ) (tail : List ℕ) → ScanAt limits bytes p tail → SpellsMarker code tail → (HoldsAt limits p → ⊥) → Shows limits EntropyShort bytes
+pub short_shown : (limits : Limits) (bytes : List ℕ) (p : ScanPlace) (code : ℕ) (tail : List ℕ) → ScanAt limits bytes p tail → SpellsMarker code tail → (HoldsAt limits p → ⊥) → Reveals limits EntropyShort bytes
 short_shown limits bytes p code tail w m h = inr (inr (tail, inside limits bytes p tail w, inr (inl (refl, (code, m), h))))
 
 pub restart_shown : (limits : Limits) (bytes : List ℕ) (p : ScanPlace) (next : List Place) (others : List (List Place)) (code : ℕ) (tail : List ℕ)
-    → ScanAt limits bytes p tail → HoldsAt limits p → p.later ≡ next ∷ others → SpellsMarker code tail → (code ≡ 0xd0 + length p.done % 8 → ⊥) → Shows limits RestartWrong bytes
+    → ScanAt limits bytes p tail → HoldsAt limits p → p.later ≡ next ∷ others → SpellsMarker code tail → (code ≡ 0xd0 + length p.done % 8 → ⊥) → Reveals limits RestartWrong bytes
 restart_shown limits bytes p next others code tail w h due m wrong =
     inr (inr (tail, inside limits bytes p tail w, inr (inr (inr (refl, h, (next, others, due), (code, m, wrong))))))
 
-pub due_stands : (limits : Limits) (bytes : List ℕ) (p : ScanPlace) (fill : ℕ) → ScanAt limits bytes p (replicate fill 255) → IsDueAt limits p → FileStands limits bytes
+pub due_stands : (limits : Limits) (bytes : List ℕ) (p : ScanPlace) (fill : ℕ) → ScanAt limits bytes p (replicate fill 255) → IsDueAt limits p → UnfinishedFile limits bytes
 due_stands limits bytes p fill w d = inr (inr (replicate fill 255, inside limits bytes p (replicate fill 255) w, ((fill, refl), inl d)))
 
-pub complete_stands : (limits : Limits) (bytes : List ℕ) (p : ScanPlace) (fill : ℕ) → ScanAt limits bytes p (replicate fill 255) → CompletesAt limits p → FileStands limits bytes
+pub complete_stands : (limits : Limits) (bytes : List ℕ) (p : ScanPlace) (fill : ℕ) → ScanAt limits bytes p (replicate fill 255) → CompletesAt limits p → UnfinishedFile limits bytes
 complete_stands limits bytes p fill w k = inr (inr (replicate fill 255, inside limits bytes p (replicate fill 255) w, ((fill, refl), inr k)))
 
--- THE BYTES of scan data, one by one: another byte than FF is a data byte, and behind FF bytes 00 is one and any other code but FF a marker
+-- THE BYTES of scan data, one by one: another byte than FF is a data byte, and after FF bytes 00 is one and any other
+-- code except FF a marker
 pub plain_byte : (b : ℕ) → (b ≡ 255 → ⊥) → SpellsByte b (b ∷ [])
 plain_byte b n = inl (n, refl)
 
@@ -205,7 +206,7 @@ pub fill_more : (fill : ℕ) → (let last : List ℕ = 255 ∷ [] in replicate 
 fill_more zero = refl
 fill_more (suc fill) = ap (λ l. 255 ∷ l) (fill_more fill)
 
--- so each byte behind the data bytes, and behind FF bytes, has its place
+-- so each byte after the data bytes, and after FF bytes, has its place
 pub plain_data : (limits : Limits) (bytes : List ℕ) (p : ScanPlace) (b : ℕ) → ScanAt limits bytes p [] → (b ≡ 255 → ⊥) → ScanAt limits (bytes ++ b ∷ []) (with_byte p b) []
 plain_data limits bytes p b w n = data_more limits (bytes ++ b ∷ []) p b (b ∷ []) (tail_more limits bytes p [] (b ∷ []) w) (plain_byte b n)
 

@@ -1,10 +1,10 @@
--- Bytes of a scan's data that show a fault don't stand, and are no whole scan with a marker behind it.
+-- Bytes of a scan's data that have a fault aren't a faultless prefix, and are no complete scan with a marker after it.
 use Rattle.std.proofs.Common.{◌≡◌, ℕ, suc, ◌+◌, ◌%◌, List, [], ◌∷◌, ◌++◌, length, refl, sym, ap, ◌∙◌, subst, arith, inl, inr, ⊎_elim}
 use Rattle.std.specs.Prelude.{◌⊎◌, map, replicate}
 use Rattle.std.proofs.lemmas.List.{append_assoc, append-nil}
 use Rattle.jpg_spec.specs.Bits.{SpellsData, bits_of_bytes}
 use Rattle.jpg_spec.specs.Scan.{Blocks, Scan, unit_at}
-use Rattle.jpg_spec.specs.ScanFaults.{DataShows}
+use Rattle.jpg_spec.specs.ScanFaults.{DataReveals}
 use Rattle.jpg_spec.specs.Sound.{IsSound}
 use Rattle.jpg_spec.specs.Markers.{SpellsMarker}
 use Rattle.jpg_spec.specs.FirstFault.{HoldsUnits}
@@ -12,23 +12,23 @@ use Rattle.jpg_spec.specs.declared.fault.Fault.{Fault}
 use Rattle.jpg_spec.specs.declared.fault.Fault.TheVariants.{EntropyShort, ExtraData, RestartWrong}
 use Rattle.jpg_spec.specs.declared.frame.Place.{Place}
 use Rattle.jpg_spec.proofs.MarkersOnce.{no_head, marker_once, fill_no_marker}
-use Rattle.jpg_spec.specs.FileStands.{Completes, AreDue}
+use Rattle.jpg_spec.specs.UnfinishedFile.{Completes, AreDue}
 use Rattle.jpg_spec.specs.ScanReading.{LeadingMarker}
 use Rattle.jpg_spec.proofs.Gate.{data_no_marker, data_no_fill}
 use Rattle.jpg_spec.proofs.ScansOnce.{At, InLater, IsAhead, scan_once, no_places}
 use Rattle.jpg_spec.proofs.FaultsOnce.{data_show_once}
 use Rattle.jpg_spec.proofs.DataFacts.{bits_join, shows_more, holds_more, completes_holds, shown_not_complete, shown_not_held, too_long, completes_once}
 
--- what ScanShows says, of a place in a scan's data
+-- what ScanReveals says, of a place in a scan's data
 abbrev pub Closes : Scan → Blocks → List (List ℕ) → List ℕ → List Place → List (List Place) → Fault → List ℕ → Type 0
 Closes s before done coded places later fault tail =
-    ((tail ≡ []) × DataShows s.coding (map (unit_at s before) places) fault (bits_of_bytes coded))
+    ((tail ≡ []) × DataReveals s.coding (map (unit_at s before) places) fault (bits_of_bytes coded))
     ⊎ (((fault ≡ EntropyShort) × ((code : ℕ) × SpellsMarker code tail) × (HoldsUnits s before places coded → ⊥))
     ⊎ (((fault ≡ ExtraData) × (tail ≡ []) × ((first : List ℕ) × (byte : ℕ) × (coded ≡ first ++ byte ∷ []) × HoldsUnits s before places first))
     ⊎ ((fault ≡ RestartWrong) × HoldsUnits s before places coded × ((next : List Place) × (others : List (List Place)) × (later ≡ next ∷ others))
     × ((code : ℕ) × SpellsMarker code tail × (code ≡ 0xd0 + length done % 8 → ⊥)))))
 
--- FF bytes behind data that stand, or a marker behind the last interval's
+-- FF bytes after data without a fault, or a marker after the last interval's
 abbrev pub IsCalm : Scan → Blocks → List Place → List (List Place) → List ℕ → List ℕ → Type 0
 IsCalm s before places later coded u =
     (((fill : ℕ) × (u ≡ replicate fill 255)) × (AreDue s before places coded ⊎ Completes s before places coded))
@@ -45,13 +45,13 @@ no_more (x ∷ m) t s e = absurd (by s.3 (sym s.2 ∙ e))
 marker_some : (code : ℕ) (a : List ℕ) → SpellsMarker code a → a ≡ [] → ⊥
 marker_some code a s e = no_head 255 (replicate s.0 255 ++ code ∷ []) (sym e ∙ s.1)
 
--- CALM data behind a place that closes
+-- CALM data after a place that closes
 
 closed_same : (s : Scan) (before : Blocks) (done : List (List ℕ)) (c : List ℕ) (places : List Place) (later : List (List Place)) (fault : Fault) (tail x v m t : List ℕ) → IsSound s.coding
     → SpellsData m t → tail ++ x ≡ t ++ v → Closes s before done c places later fault tail → IsCalm s before places later (c ++ m) v → ⊥
 closed_same s before done c places later fault tail x v m t sound d e (inl k) (inl calm) =
     ⊎_elim
-    (λ (z : AreDue s before places (c ++ m)). z.1 fault (subst (λ l. DataShows s.coding (map (unit_at s before) places) fault l) (sym (bits c m)) (shows_more s.coding (map (unit_at s before) places) fault (bits_of_bytes c) (bits_of_bytes m) k.1)))
+    (λ (z : AreDue s before places (c ++ m)). z.1 fault (subst (λ l. DataReveals s.coding (map (unit_at s before) places) fault l) (sym (bits c m)) (shows_more s.coding (map (unit_at s before) places) fault (bits_of_bytes c) (bits_of_bytes m) k.1)))
     (λ (z : Completes s before places (c ++ m)). shown_not_complete s before places fault c (c ++ m) m [] sound k.1 z (sym (append-nil (c ++ m)))) calm.1
   where
     bits : (a b : List ℕ) → bits_of_bytes (a ++ b) ≡ bits_of_bytes a ++ bits_of_bytes b
@@ -97,7 +97,7 @@ closed_later s before done c places later fault tail x sound g (inr (inr (inr k)
     let z : 0 + length done ≡ length done = omega arith in
     k.3.2 ((marker_once k.3.0 (0xd0 + (0 + length done) % 8) tail g.marker x g.rest k.3.1 g.code (g.behind ∙ ap (λ l. l ++ (g.marker ++ g.rest)) none.1)).0 ∙ ap (λ n. 0xd0 + n % 8) z)
 
--- nothing is missing where calm data go on with a place that closes
+-- nothing is missing where calm data continue with a place that closes
 calm_ends : (s : Scan) (before : Blocks) (places : List Place) (later : List (List Place)) (d m t u v : List ℕ) → IsCalm s before places later d v → SpellsData m t → v ≡ t ++ u → (m ≡ []) × (t ≡ [])
 calm_ends s before places later d m t u v (inl calm) k e = data_no_fill calm.0.0 m t u k (sym e ∙ calm.0.1)
 calm_ends s before places later d m t u v (inr calm) k e = data_no_marker calm.2.code m t calm.2.marker u calm.2.rest k calm.2.spelled (sym e ∙ calm.2.cut)
@@ -131,7 +131,7 @@ closed_not_calm s before all done c text places later fault tail x done' d text'
         (subst (λ l. IsCalm s before places later l v) same (calm_at s before places' places later' later d v g.same.1 g.same.2 calm))
     by (inr (inr g)) = calm_not_later s before places' later' done' d v calm g
 
--- TWO PLACES that close with the same bytes show one fault
+-- TWO PLACES that close with the same bytes have one fault
 empty_list : (a b : List ℕ) → a ++ b ≡ [] → (a ≡ []) × (b ≡ [])
 empty_list [] b e = (refl, e)
 empty_list (x ∷ a) b e = absurd (no_head x (a ++ b) (sym e))
@@ -147,7 +147,7 @@ same_closed s before done c places later f g tail tail' m t sound d e (inl k) l 
     same = ap (λ z. c ++ z) (no_more m t d none.0) ∙ append-nil c
 
     by : Closes s before done (c ++ m) places later g tail' → f ≡ g
-    by (inl h) = data_show_once s.coding (map (unit_at s before) places) f g (bits_of_bytes c) sound k.1 (subst (λ z. DataShows s.coding (map (unit_at s before) places) g (bits_of_bytes z)) same h.1)
+    by (inl h) = data_show_once s.coding (map (unit_at s before) places) f g (bits_of_bytes c) sound k.1 (subst (λ z. DataReveals s.coding (map (unit_at s before) places) g (bits_of_bytes z)) same h.1)
     by (inr (inl h)) = absurd (marker_some h.1.0 tail' h.1.1 none.1)
     by (inr (inr (inl h))) = absurd (shown_not_held s before places f c h.2.0 m (h.2.1 ∷ []) sound k.1 h.2.3 h.2.2)
     by (inr (inr (inr h))) = absurd (marker_some h.3.0 tail' h.3.1 none.1)
@@ -215,7 +215,7 @@ closed_once s before all done c text places later f tail done' d text' places' l
     (scan_once s before all 0 done c text (tail ++ []) places later done' d text' (tail' ++ []) places' later' a b
     (ap (λ w. text ++ w) (append-nil tail) ∙ e ∙ sym (ap (λ w. text' ++ w) (append-nil tail'))))
 
--- THE LAW: the last interval with a marker behind it doesn't stand
+-- THE LAW: the last interval with a marker after it isn't a faultless prefix of data
 pub ended_not_standing : (s : Scan) (before : Blocks) (all : List (List Place)) (done : List (List ℕ)) (c text u : List ℕ) (places : List Place) (later : List (List Place))
     → (done' : List (List ℕ)) (d text' v : List ℕ) (places' : List Place) (later' : List (List Place)) (fill : ℕ)
     → At s before all 0 done c places later text → At s before all 0 done' d places' later' text' → text ++ u ≡ text' ++ v
@@ -235,7 +235,7 @@ ended_not_standing s before all done c text u places later done' d text' v place
         let z = data_no_fill fill g.more g.text (g.marker ++ g.rest) g.spelled (sym g.behind ∙ f) in
         fill_no_marker fill (0xd0 + (0 + length done') % 8) g.marker g.rest g.code (sym f ∙ g.behind ∙ ap (λ l. l ++ (g.marker ++ g.rest)) z.1)
 
--- THE LAW: whole scans are cut in one way
+-- THE LAW: complete scans are split in one way
 pub ended_once : (s : Scan) (before : Blocks) (all : List (List Place)) (done : List (List ℕ)) (c text u : List ℕ) (places : List Place) (later : List (List Place))
     → (done' : List (List ℕ)) (d text' v : List ℕ) (places' : List Place) (later' : List (List Place)) → IsSound s.coding
     → At s before all 0 done c places later text → At s before all 0 done' d places' later' text' → text ++ u ≡ text' ++ v

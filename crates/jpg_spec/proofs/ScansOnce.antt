@@ -1,4 +1,4 @@
--- Of two places in one scan's data, where the bytes behind its header are the same, one is behind the other or they are one.
+-- Of two places in one scan's data, if the bytes after its header are the same, one is after the other or they are one.
 use Rattle.std.proofs.Common.{◌≡◌, ℕ, ◌+◌, ◌%◌, List, [], ◌∷◌, ◌++◌, length, refl, sym, ap, ◌∙◌, subst, arith, inl, inr, ⊎_elim}
 use Rattle.std.specs.Prelude.{◌⊎◌}
 use Rattle.std.proofs.lemmas.List.{append_assoc, append-nil}
@@ -9,7 +9,7 @@ use Rattle.jpg_spec.specs.Items.{SpellsIntervalsText}
 use Rattle.jpg_spec.specs.FirstFault.{HoldsAll}
 use Rattle.jpg_spec.specs.declared.frame.Place.{Place}
 use Rattle.jpg_spec.proofs.MarkersOnce.{marker_once}
-use Rattle.jpg_spec.specs.FileStands.{Completes}
+use Rattle.jpg_spec.specs.UnfinishedFile.{Completes}
 use Rattle.jpg_spec.proofs.Gate.{DataGoOn, data_once, data_no_marker}
 
 pub places_apart : (p q : List Place) (l m : List (List Place)) → p ∷ l ≡ q ∷ m → (p ≡ q) × (l ≡ m)
@@ -18,7 +18,7 @@ places_apart p q l m e = (cc, cc)
 pub no_places : (p : List Place) (l : List (List Place)) → [] ≡ p ∷ l → ⊥
 no_places p l e = cc
 
--- AN INTERVAL and others behind it
+-- AN INTERVAL and others after it
 pub record CutInterval (turn : ℕ) (coded : List ℕ) (others : List (List ℕ)) (text : List ℕ) : Type 0 where
   pub front : List ℕ
   pub marker : List ℕ
@@ -36,7 +36,7 @@ pub join_interval : (turn : ℕ) (c : List ℕ) (done : List (List ℕ)) (coded 
 join_interval turn c [] coded text w = (w.front, w.marker, w.rest, w.cut, w.spelled, w.code, w.later)
 join_interval turn c (d ∷ done) coded text w = (w.front, w.marker, w.rest, w.cut, w.spelled, w.code, w.later)
 
--- behind done intervals others are due
+-- after intervals that are done others are left
 pub some_due : (s : Scan) (before : Blocks) (q : List (List Place)) (done : List (List ℕ)) (places : List Place) (later : List (List Place)) → HoldsAll s before q done (places ∷ later)
     → (next : List Place) × (others : List (List Place)) × (q ≡ next ∷ others)
 some_due s before [] [] places later h = absurd (no_places places later h)
@@ -44,12 +44,12 @@ some_due s before (p ∷ q) [] places later h = (p, q, refl)
 some_due s before [] (c ∷ done) places later h = absurd h
 some_due s before (p ∷ q) (c ∷ done) places later h = (p, q, refl)
 
--- A PLACE in a scan's data: done intervals, the data bytes of the next, and the intervals that are due
+-- A PLACE in a scan's data: intervals that are done, the data bytes of the next, and the intervals that are left
 pub record At (s : Scan) (before : Blocks) (all : List (List Place)) (turn : ℕ) (done : List (List ℕ)) (coded : List ℕ) (places : List Place) (later : List (List Place)) (text : List ℕ) : Type 0 where
   pub spelled : SpellsIntervalsText turn (done ++ coded ∷ []) text
   pub holds : HoldsAll s before all done (places ∷ later)
 
--- The second place (d, with v behind it) lies in the interval of the first (c, with u behind it), and not before it.
+-- The second place (d, with v after it) is in the interval of the first (c, with u after it), and not before it.
 pub record InSame (turn : ℕ) (done : List (List ℕ)) (c u : List ℕ) (places : List Place) (later : List (List Place)) (done' : List (List ℕ)) (d v : List ℕ) (places' : List Place) (later' : List (List Place)) : Type 0 where
   pub more : List ℕ
   pub text : List ℕ
@@ -58,7 +58,7 @@ pub record InSame (turn : ℕ) (done : List (List ℕ)) (c u : List ℕ) (places
   pub spelled : SpellsData more text
   pub behind : u ≡ text ++ v
 
--- It lies in a later interval: the first interval is complete with some more data bytes, and the right marker follows.
+-- It is in a later interval: the first interval is complete with some more data bytes, and the right marker follows.
 pub record InLater (s : Scan) (before : Blocks) (turn : ℕ) (done : List (List ℕ)) (c u : List ℕ) (places : List Place) (later : List (List Place)) : Type 0 where
   pub more : List ℕ
   pub text : List ℕ
@@ -80,7 +80,7 @@ data_in_same : (turn : ℕ) (c t u d r v : List ℕ) (places places' : List Plac
     → InSame turn [] c u places later [] d v places' later'
 data_in_same turn c t u d r v places places' later later' e f g = record { more = g.more; text = g.text; same = (refl, e, f); joined = g.joined; spelled = g.spelled; behind = g.behind }
 
--- the first place is in the first interval, the second is behind it
+-- the first place is in the first interval, the second is after it
 first_later : (s : Scan) (before : Blocks) (turn : ℕ) (places : List Place) (later all : List (List Place)) (c text u d : List ℕ) (done' : List (List ℕ)) (d' text' v : List ℕ) (places' : List Place) (later' : List (List Place))
     → At s before all turn [] c places later text → At s before all turn (d ∷ done') d' places' later' text' → text ++ u ≡ text' ++ v → InLater s before turn [] c u places later
 first_later s before turn places later [] c text u d done' d' text' v places' later' a b e = absurd (no_places places later a.holds)
@@ -130,7 +130,7 @@ first_later s before turn places later (p ∷ all) c text u d done' d' text' v p
           others = due;
         }
 
--- one done interval more before both
+-- one more interval that is done before both
 pub more_done : (s : Scan) (before : Blocks) (turn : ℕ) (e f : List ℕ) (done : List (List ℕ)) (c u : List ℕ) (places : List Place) (later : List (List Place)) (done' : List (List ℕ)) (d v : List ℕ) (places' : List Place) (later' : List (List Place))
     → e ≡ f → IsAhead s before (turn + 1) done c u places later done' d v places' later' → IsAhead s before turn (e ∷ done) c u places later (f ∷ done') d v places' later'
 more_done s before turn e f done c u places later done' d v places' later' same (inl g) =
@@ -156,7 +156,7 @@ more_done s before turn e f done c u places later done' d v places' later' same 
       others = g.others;
     })
 
--- data with a marker behind them
+-- data with a marker after them
 pub data_ends : (code code' : ℕ) (c d t r a b u v : List ℕ) → SpellsData c t → SpellsData d r → SpellsMarker code a → SpellsMarker code' b → t ++ (a ++ u) ≡ r ++ (b ++ v) → (c ≡ d) × (u ≡ v)
 data_ends code code' c d t r a b u v s k m n e =
     ⊎_elim

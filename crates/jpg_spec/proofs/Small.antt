@@ -1,5 +1,5 @@
--- Numbers within bounds have few binary digits, and bit 0 up is all of a number.
-use Rattle.std.proofs.Common.{◌≡◌, ℕ, zero, suc, ◌+◌, ◌*◌, ◌/◌, ◌^◌, ◌<◌, ◌≤◌, true, false, sym, ap, subst, arith, ℤ, pos, negsuc, ⊎_elim, lit<, [], refl}
+-- Numbers within bounds have few binary digits, and a number consists of its bits from bit 0 up.
+use Rattle.std.proofs.Common.{◌≡◌, ℕ, zero, suc, ◌+◌, ◌*◌, ◌^◌, ◌<◌, ◌≤◌, true, false, sym, subst, arith, ℤ, pos, negsuc, ⊎_elim, lit<, [], refl}
 use Rattle.std.specs.Prelude.{nat_abs, neg_ℤ, ◌+ℤ◌, ◌-ℤ◌, ◌≤ℤ◌, int_le}
 use Rattle.std.proofs.lemmas.Bool.{cases_lt}
 use Rattle.std.proofs.lemmas.Bool.Decides.{nat_tests}
@@ -11,7 +11,6 @@ use Rattle.std.proofs.Math.Nat.{pow-le-pow_right}
 use Rattle.std.proofs.Math.IntN.{*ℤ-one}
 use Rattle.jpg_spec.specs.Numbers.{digits, category, extra_bits}
 use Rattle.jpg_spec.specs.Elements.{is_zero, scaled}
-use Rattle.jpg_spec.specs.Sending.{shifted, divided}
 use Rattle.jpg_spec.specs.Bits.{bits_of}
 use Rattle.jpg_spec.proofs.Facts.{above_digits, some_digits}
 
@@ -42,16 +41,6 @@ zero_category = refl
 pub zero_bits : extra_bits (pos 0) ≡ []
 unfolding digits bits_of
 zero_bits = refl
-
--- BIT 0 AND UP
-
-pub shifted_none : (v : ℤ) → shifted 0 v ≡ v
-shifted_none (pos n) = let e : n / 1 ≡ n = omega arith in ap pos e
-shifted_none (negsuc n) = let e : n / 1 ≡ n = omega arith in ap negsuc e
-
-pub divided_none : (v : ℤ) → divided 0 v ≡ v
-divided_none (pos n) = let e : n / 1 ≡ n = omega arith in ap pos e
-divided_none (negsuc n) = let e : (n + 1) / 1 ≡ suc n = omega arith in ap (λ k. neg_ℤ (pos k)) e
 
 pub scaled_none : (v : ℤ) → scaled 0 v ≡ v
 unfolding lib.IntN.one

@@ -1,5 +1,5 @@
 -- Sound codings: their data are spelled in one way.
-use Rattle.std.proofs.Common.{◌≡◌, ℕ, ◌+◌, ◌*◌, ◌^◌, ◌≤◌, Bool, true, false, cond, List, [], ◌∷◌, ◌++◌, length, Some, None, Option, refl, sym, ◌∙◌, subst, arith, lit≤, inl, inr, ◌&&◌, ◌==◌, ℤ}
+use Rattle.std.proofs.Common.{◌≡◌, ℕ, ◌+◌, ◌*◌, ◌^◌, ◌≤◌, Bool, true, false, cond, List, [], ◌∷◌, ◌++◌, length, Some, None, Option, refl, sym, ◌∙◌, subst, arith, lit≤, inl, inr, ◌&&◌, ℤ}
 use Rattle.std.specs.Prelude.{nat_lt}
 use Rattle.jpg_spec.specs.Bits.{Packs}
 use Rattle.jpg_spec.specs.Codes.{Code, codes, AreCodes, are_codes}
@@ -7,8 +7,7 @@ use Rattle.jpg_spec.specs.Geometry.{Frame, bounds, is_progressive}
 use Rattle.jpg_spec.specs.Segments.{HuffmanTable, ScanHead}
 use Rattle.jpg_spec.specs.Elements.{Coding, UnitLeft, SpellsUnits, at_start}
 use Rattle.jpg_spec.specs.Scan.{TablesInForce, codes_of, scan_coding, part_of}
-use Rattle.jpg_spec.specs.ScanFaults.{DataShows}
-use Rattle.jpg_spec.specs.ScanText.{typical_table, typical_tables}
+use Rattle.jpg_spec.specs.ScanFaults.{DataReveals}
 use Rattle.jpg_spec.specs.Typical.{dc_luma_counts, dc_luma_values, ac_luma_counts, ac_luma_values, dc_chroma_counts, dc_chroma_values, ac_chroma_counts, ac_chroma_values}
 use Rattle.jpg_spec.specs.Sound.{AreTableCodes, IsSound, AreTables}
 use Rattle.jpg_spec.specs.declared.fault.Fault.{Fault}
@@ -17,7 +16,7 @@ use Rattle.jpg_spec.proofs.OneCode.{one_code}
 use Rattle.jpg_spec.proofs.Once.{OneWay, units_once}
 use Rattle.jpg_spec.proofs.Excludes.{data_excludes}
 use Rattle.jpg_spec.proofs.Facts.{facts}
-use Rattle.jpg_spec.proofs.Common.{both, lt_of, some_once}
+use Rattle.jpg_spec.proofs.Common.{both, lt_of}
 
 -- what passes the test are codes
 pub tested_codes : (length c : ℕ) (counts : List ℕ) → are_codes length c counts ≡ true → AreCodes length c counts
@@ -47,7 +46,7 @@ spelled_once c units told told' bits cits x y s h k e =
     (r.1, r.2)
 
 pub fault_excludes : (c : Coding) (units : List UnitLeft) (fault : Fault) (told : List ℤ) (bits cits x y : List Bool) → IsSound c
-    → DataShows c units fault bits → SpellsUnits c units told cits → bits ++ x ≡ cits ++ y → ⊥
+    → DataReveals c units fault bits → SpellsUnits c units told cits → bits ++ x ≡ cits ++ y → ⊥
 fault_excludes c units fault told bits cits x y s d k e =
     data_excludes c units fault bits cits x y told facts (s.categories, s.runs) (λ u. one_due c u u.has_dc s) d k e
 
@@ -85,13 +84,9 @@ chosen is_dc is_first =
     cond is_dc (cond is_first (record { counts = dc_luma_counts; symbols = dc_luma_values }) (record { counts = dc_chroma_counts; symbols = dc_chroma_values }))
     (cond is_first (record { counts = ac_luma_counts; symbols = ac_luma_values }) (record { counts = ac_chroma_counts; symbols = ac_chroma_values }))
 
-typical_by : (is_dc is_first : Bool) → are_codes 1 0 (chosen is_dc is_first).counts ≡ true
+pub typical_by : (is_dc is_first : Bool) → are_codes 1 0 (chosen is_dc is_first).counts ≡ true
 unfolding are_codes
 typical_by true true = refl
 typical_by true false = refl
 typical_by false true = refl
 typical_by false false = refl
-
-pub typical_valid : AreTables typical_tables
-typical_valid class slot table e =
-    subst (λ (t : HuffmanTable). are_codes 1 0 t.counts ≡ true) (some_once (typical_table class slot) table e) (typical_by (class == 0) (slot == 0))

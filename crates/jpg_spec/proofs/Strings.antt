@@ -26,7 +26,7 @@ bits_of-more l n false =
     let r : (2 * n + 0) % 2 ≡ 0 = omega arith in
     ap (λ m. bits_of m (2 * n + 0)) (add-one l) ∙ rw (q, r) refl
 
--- the front of a longer string
+-- the prefix of a longer string
 pub front_of : (l d k : ℕ) → (more : List Bool) × (length more ≡ d) × (bits_of (l + d) k ≡ bits_of l (k / 2 ^ d) ++ more)
 unfolding bits_of
 front_of l zero k = ([], refl, let z : k / 1 ≡ k = omega arith in rw (add-zero, z, append-nil) refl)
@@ -56,7 +56,7 @@ push_inj (x ∷ xs) (y ∷ ys) a b e =
 odd_same : (m n : ℕ) → (m % 2 == 1) ≡ (n % 2 == 1) → m % 2 ≡ n % 2
 odd_same m n e = grind arith
 
--- strings of numbers that fit tell them apart
+-- strings of numbers that fit distinguish them
 pub bits_of_inj : (l m n : ℕ) → m < 2 ^ l → n < 2 ^ l → bits_of l m ≡ bits_of l n → m ≡ n
 unfolding bits_of
 bits_of_inj zero m n hm hn e = omega arith
@@ -69,7 +69,7 @@ bits_of_inj (suc l) m n hm hn e =
     let r = odd_same m n h.1 in
     omega arith
 
--- a string of one bit more is its front and its last bit
+-- a string of one more bit is its prefix and its last bit
 pub bits_of-split : (l n : ℕ) → bits_of (l + 1) n ≡ bits_of l (n / 2) ++ (n % 2 == 1) ∷ []
 unfolding bits_of
 bits_of-split l n = ap (λ m. bits_of m n) (add-one l)

@@ -1,4 +1,4 @@
--- The Huffman tables in force are valid, behind whatever segments; so the coding of each scan is sound.
+-- The Huffman tables in force are valid, after any segments; so the coding of each scan is sound.
 use Rattle.std.proofs.Common.{◌≡◌, ℕ, zero, suc, Bool, true, false, cond, not, ◌/◌, ◌%◌, List, [], ◌∷◌, length, drop, refl, sym, subst, Option, Some, None, ◌==◌}
 use Rattle.std.specs.Prelude.{◌||◌, ◌&&◌, reverse, find, nat_lt, Ok, Err, option_map}
 use Rattle.std.specs.List.{All}

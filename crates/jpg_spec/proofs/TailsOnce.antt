@@ -1,11 +1,11 @@
--- Behind items the bytes of a further one come to one thing at most: a fault, EOI, a whole segment, or a part of one.
+-- After items the bytes of a further one have at most one result: a fault, EOI, a complete segment, or a part of one.
 use Rattle.std.proofs.Common.{◌≡◌, ℕ, Bool, true, false, List, [], ◌∷◌, ◌++◌, refl, sym, ap, ◌∙◌, inl, inr, ⊎_elim, Option, Some, None}
 use Rattle.std.specs.Prelude.{◌⊎◌}
-use Rattle.jpg_spec.specs.Markers.{Segment, Rule, SpellsMarker, SpellsSegment, code_fault, BeginsSegment, TailShows, PartOfSegment}
+use Rattle.jpg_spec.specs.Markers.{Segment, Rule, SpellsMarker, SpellsSegment, code_fault, BeginsSegment, TailReveals, PartOfSegment}
 use Rattle.jpg_spec.specs.InForce.{frame_of}
 use Rattle.jpg_spec.specs.History.{is_complete}
 use Rattle.jpg_spec.specs.Items.{Item, segments_of, contents_rule}
-use Rattle.jpg_spec.specs.FirstFault.{ItemShows}
+use Rattle.jpg_spec.specs.FirstFault.{ItemReveals}
 use Rattle.jpg_spec.specs.declared.fault.Fault.{Fault}
 use Rattle.jpg_spec.specs.declared.fault.Fault.TheVariants.{NotBuilt, MissingComponent}
 use Rattle.jpg_spec.specs.declared.frame.Limits.{Limits}
@@ -13,7 +13,7 @@ use Rattle.jpg_spec.proofs.MarkersOnce.{no_head}
 use Rattle.jpg_spec.proofs.ReadBytes.{State, whole, stopped, ended, judged, allowed, read, read_marker, read_begin, read_segment, read_no_marker, read_tail_fault, called_part}
 use Rattle.jpg_spec.proofs.OneHeader.{phase, going, closed, closed_once, going_front, part_going}
 
--- a rule that no segment passes, so that one alone is read
+-- a rule that no segment passes, so that only one is read
 abbrev pub closes : Option Fault → Option Fault
 closes None = Some NotBuilt
 closes (Some fault) = Some fault
@@ -23,13 +23,13 @@ one_rule limits before code contents = closes (contents_rule limits before code 
 
 -- a fault, or EOI
 abbrev pub Ends : Limits → List Item → List ℕ → Type 0
-Ends limits items tail = ((fault : Fault) × ItemShows limits items fault tail) ⊎ (SpellsMarker 0xd9 tail × (code_fault (segments_of items) 0xd9 ≡ None))
+Ends limits items tail = ((fault : Fault) × ItemReveals limits items fault tail) ⊎ (SpellsMarker 0xd9 tail × (code_fault (segments_of items) 0xd9 ≡ None))
 
 -- a part of a segment
 abbrev pub Goes : List Item → List ℕ → Type 0
 Goes items tail = ((code : ℕ) × BeginsSegment (segments_of items) code tail) ⊎ PartOfSegment (segments_of items) tail
 
--- The bytes begin with a whole segment that breaks no rule.
+-- The bytes begin with a complete segment that breaks no rule.
 pub record HasHead (limits : Limits) (before : List Segment) (u : List ℕ) : Type 0 where
   pub code : ℕ
   pub contents : List ℕ
@@ -41,12 +41,12 @@ pub record HasHead (limits : Limits) (before : List Segment) (u : List ℕ) : Ty
   pub rule : contents_rule limits before code contents ≡ None
   pub other : code ≡ 0xd9 → ⊥
 
--- PHASES of what stands there
+-- PHASES of what is there
 
-fault_closed : (limits : Limits) (before : List Segment) (fault : Fault) (tail : List ℕ) → TailShows (contents_rule limits) before fault tail → phase (read (one_rule limits) (whole before) tail) ≡ closed
+fault_closed : (limits : Limits) (before : List Segment) (fault : Fault) (tail : List ℕ) → TailReveals (contents_rule limits) before fault tail → phase (read (one_rule limits) (whole before) tail) ≡ closed
 fault_closed limits before fault tail s = ap phase (read_tail_fault (one_rule limits) before fault tail (by s))
   where
-    by : TailShows (contents_rule limits) before fault tail → TailShows (one_rule limits) before fault tail
+    by : TailReveals (contents_rule limits) before fault tail → TailReveals (one_rule limits) before fault tail
     by (inl k) = inl k
     by (inr (inl k)) = inr (inl k)
     by (inr (inr k)) = inr (inr (k.0, k.1, k.2, k.3, k.4, ap closes k.5))
@@ -74,7 +74,7 @@ goes_going limits items (b ∷ tail) (inr k) =
 abbrev pub Missing : Limits → List Item → Fault → Type 0
 Missing limits items fault = (fault ≡ MissingComponent) × (is_complete (frame_of limits (segments_of items)) (segments_of items) ≡ false)
 
-shown_state : (limits : Limits) (items : List Item) (fault : Fault) (tail : List ℕ) → ItemShows limits items fault tail
+shown_state : (limits : Limits) (items : List Item) (fault : Fault) (tail : List ℕ) → ItemReveals limits items fault tail
     → (read (contents_rule limits) (whole (segments_of items)) tail ≡ stopped fault) ⊎ ((read (contents_rule limits) (whole (segments_of items)) tail ≡ ended) × Missing limits items fault)
 shown_state limits items fault tail (inl k) = inl (read_no_marker (contents_rule limits) (segments_of items) tail k.2 ∙ ap stopped (sym k.0))
 shown_state limits items fault tail (inr (inl k)) = inl (read_tail_fault (contents_rule limits) (segments_of items) fault tail k)
@@ -89,14 +89,14 @@ going_not_closed s e f = let z : going ≡ closed = sym e ∙ f in cc
 
 -- THE LAWS
 
--- what ends there is no front of a segment, nor does it go on from one
+-- what ends there is no prefix of a segment, nor does it continue one
 pub ends_not_head : (limits : Limits) (items : List Item) (tail x u : List ℕ) → Ends limits items tail → HasHead limits (segments_of items) u → tail ++ x ≡ u → ⊥
 ends_not_head limits items tail x u k h e =
     let same = closed_once (one_rule limits) (whole (segments_of items)) tail h.head x h.rest (ends_closed limits items tail k) (head_closed limits (segments_of items) u h) (e ∙ h.cut) in
     going_not_closed (read (contents_rule limits) (whole (segments_of items)) tail)
     (ap (λ l. phase (read (contents_rule limits) (whole (segments_of items)) l)) same ∙ ap phase (head_state limits (segments_of items) u h)) (by k)
   where
-    shown : (fault : Fault) → ItemShows limits items fault tail → phase (read (contents_rule limits) (whole (segments_of items)) tail) ≡ closed
+    shown : (fault : Fault) → ItemReveals limits items fault tail → phase (read (contents_rule limits) (whole (segments_of items)) tail) ≡ closed
     shown fault s = ⊎_elim
         (λ (z : read (contents_rule limits) (whole (segments_of items)) tail ≡ stopped fault). ap phase z)
         (λ (z : (read (contents_rule limits) (whole (segments_of items)) tail ≡ ended) × Missing limits items fault). ap phase z.0) (shown_state limits items fault tail s)
@@ -105,7 +105,7 @@ ends_not_head limits items tail x u k h e =
     by (inl s) = shown s.0 s.1
     by (inr s) = ap phase (eoi_state (contents_rule limits) (segments_of items) tail s.0 s.1)
 
--- a part holds no whole segment
+-- a part has no complete segment
 pub goes_not_head : (limits : Limits) (items : List Item) (tail : List ℕ) → Goes items tail → HasHead limits (segments_of items) tail → ⊥
 goes_not_head limits items tail k h =
     going_front (one_rule limits) (whole (segments_of items)) h.head h.rest (head_closed limits (segments_of items) tail h)
@@ -117,7 +117,7 @@ ends_not_goes limits items tail x u k g e =
     going_front (one_rule limits) (whole (segments_of items)) tail x (ends_closed limits items tail k)
     (ap (λ l. phase (read (one_rule limits) (whole (segments_of items)) l)) e ∙ goes_going limits items u g)
 
--- of the fronts of some bytes one at most ends there
+-- of the prefixes of some bytes at most one ends there
 pub ends_once : (limits : Limits) (items : List Item) (tail other x y : List ℕ) → Ends limits items tail → Ends limits items other → tail ++ x ≡ other ++ y → tail ≡ other
 ends_once limits items tail other x y k l e =
     closed_once (one_rule limits) (whole (segments_of items)) tail other x y (ends_closed limits items tail k) (ends_closed limits items other l) e
@@ -129,7 +129,7 @@ not_ended : (s : State) (f : Fault) → s ≡ stopped f → s ≡ ended → ⊥
 not_ended s f a b = let z : stopped f ≡ ended = sym a ∙ b in cc
 
 -- with one fault
-pub item_shows_once : (limits : Limits) (items : List Item) (f g : Fault) (tail : List ℕ) → ItemShows limits items f tail → ItemShows limits items g tail → f ≡ g
+pub item_shows_once : (limits : Limits) (items : List Item) (f g : Fault) (tail : List ℕ) → ItemReveals limits items f tail → ItemReveals limits items g tail → f ≡ g
 item_shows_once limits items f g tail k l = by (shown_state limits items f tail k) (shown_state limits items g tail l)
   where
     state : State
@@ -142,7 +142,7 @@ item_shows_once limits items f g tail k l = by (shown_state limits items f tail 
     by (inr a) (inr b) = a.1.0 ∙ sym b.1.0
 
 -- or EOI, which finds each component in a scan
-pub shown_not_ended : (limits : Limits) (items : List Item) (fault : Fault) (tail : List ℕ) → ItemShows limits items fault tail → SpellsMarker 0xd9 tail → code_fault (segments_of items) 0xd9 ≡ None
+pub shown_not_ended : (limits : Limits) (items : List Item) (fault : Fault) (tail : List ℕ) → ItemReveals limits items fault tail → SpellsMarker 0xd9 tail → code_fault (segments_of items) 0xd9 ≡ None
     → is_complete (frame_of limits (segments_of items)) (segments_of items) ≡ true → ⊥
 shown_not_ended limits items fault tail k m e all = by (shown_state limits items fault tail k)
   where

@@ -1,4 +1,4 @@
--- How many units a scan has, and how many intervals.
+-- The number of units and the number of intervals of a scan.
 use Rattle.std.proofs.Common.{◌≡◌, ℕ, zero, suc, ◌+◌, ◌*◌, ◌<◌, ◌≤◌, true, false, List, [], ◌∷◌, ◌++◌, length, drop, sym, ap, ◌∙◌, arith, ◌&&◌}
 use Rattle.std.specs.Prelude.{map, flat_map, nat_lt}
 use Rattle.std.proofs.Math.Nat.{suc-mul}
@@ -13,11 +13,11 @@ use Rattle.jpg_spec.specs.FrameHeader.{IsFrame}
 use Rattle.jpg_spec.specs.declared.frame.Component.{Component}
 use Rattle.jpg_spec.specs.declared.frame.Place.{Place}
 use Rattle.jpg_spec.proofs.PlacesSome.{factors_at, h_max_some, v_max_some}
-use Rattle.jpg_spec.proofs.PlacedBlocks.{Each}
+use Rattle.jpg_spec.proofs.Each.{Each}
 use Rattle.jpg_spec.proofs.PlacesFound.{real_in_padded}
 use Rattle.jpg_spec.proofs.Common.{length_below}
 
--- INTERVALS: no more than units, and one
+-- INTERVALS: at most as many as units, and one
 
 chunks_few : {A : Type 0} (most n : ℕ) (xs : List A) → length (chunks_of most (suc n) xs) ≤ length xs
 unfolding chunks_of
@@ -42,7 +42,7 @@ flat_few g (suc n) m h =
 row_few : (g : ℕ → Place) (n : ℕ) → length (map g (below n)) ≤ n
 row_few g n = omega (arith, length-map (below n) g, length_below n)
 
--- the real blocks of a component lie in its padded grid
+-- the real blocks of a component are in its padded grid
 
 abbrev padded_of : Frame → Component → ℕ
 padded_of f c = (mcus_across f * c.h) * (mcus_down f * c.v)
@@ -73,7 +73,7 @@ mcu_few f mx my (i ∷ parts) =
     let sum = sum_by-cons (λ i. (component_at f i).h * (component_at f i).v) i parts in
     omega (arith, here, later, sum, length-append (mcu_part f mx my i) (flat_map (mcu_part f mx my) parts))
 
--- an MCU is a block of the first component's padded grid at least
+-- an MCU is at least a block of the first component's padded grid
 mcus_few : (f : Frame) → IsFrame f → mcus_down f * mcus_across f ≤ padded_blocks f
 mcus_few f is =
     let c = component_at f 0 in

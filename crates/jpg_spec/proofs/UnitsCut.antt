@@ -1,4 +1,5 @@
--- Where the end of bands is the end of one, whole elements can be cut where a unit begins: those before it tell whole units (T.81, F.2.2).
+-- If each EOB ends one band, complete elements can be split where a unit begins: those before it encode complete units
+-- (T.81, F.2.2).
 use Rattle.std.proofs.Common.{◌≡◌, ℕ, ◌+◌, ◌*◌, ◌<◌, ◌≤◌, Bool, false, List, [], ◌∷◌, ◌++◌, length, take, drop, refl, sym, ap, ◌∙◌, subst, arith, inl, inr, ◌⊎◌, ℤ, pos}
 use Rattle.std.proofs.lemmas.List.{append_assoc, append-nil, length-append}
 use Rattle.jpg_spec.specs.Elements.{Coding, UnitLeft, Standing, Element, difference, dc_bit, value, long_run, ends, Covers, Tells, at_start, going_on, old_values, predictions_after, corrected, scaled, zeros_in}
@@ -8,7 +9,7 @@ use Rattle.jpg_spec.proofs.Common.{heads}
 use Rattle.jpg_spec.proofs.PartsCounted.{stands_all}
 use Rattle.jpg_spec.proofs.Within.{EndsOne, ends_one, length_corrected, one_band}
 
--- AN ELEMENT passes first values of the unit
+-- AN ELEMENT skips first values of the unit
 record PassesSome (u : UnitLeft) (units left : List UnitLeft) (here : List ℤ) : Type 0 where
   pub old : List ℤ
   pub left_is : left ≡ going_on u old units
@@ -38,12 +39,12 @@ passes_some c p (ends bands bits) u units here left one t =
     let l : length here ≡ length u.old = ap length told ∙ length_corrected c.al (u.old ++ []) bits ∙ ap length (append-nil u.old) in
     record { old = []; left_is = rest; size = omega (arith, l) }
 
--- WHOLE ELEMENTS, from a standing with a unit in work
+-- COMPLETE ELEMENTS, from a state with a current unit
 abbrev pub AreWhole : List UnitLeft → Type 0
 AreWhole [] = Unit {0}
 AreWhole (u ∷ units) = (length u.old ≡ 64) × AreWhole units
 
--- so many values and so many further units are passed, then elements tell some of the next one
+-- this many values and these further units are passed, then elements encode some of the next one
 record Passed (c : Coding) (s : Standing) (told : List ℤ) (bits : List Bool) (t : Standing) (values : ℕ) (units : List UnitLeft) : Type 0 where
   pub elements : List Element
   pub whole : List ℤ
@@ -61,7 +62,7 @@ record Passed (c : Coding) (s : Standing) (told : List ℤ) (bits : List Bool) (
 CutAt : Coding → Standing → List ℤ → List Bool → Standing → ℕ → List UnitLeft → Type 0
 CutAt c s told bits t values units = (length t.left ≡ 1 + length units) ⊎ Passed c s told bits t values units
 
--- the standing after its first element
+-- the state after its first element
 abbrev after_first : (c : Coding) (s t : Standing) (x : Element) (es : List Element) (told : List ℤ) (bits : List Bool) → Covers c s (x ∷ es) told bits t → Standing
 after_first c s t x es told bits k = record { predictions = predictions_after s.predictions (k.0).component x; left = k.3 }
 
@@ -100,7 +101,7 @@ more_passed c s t x es told bits values here more units others k q size left = r
   left = omega (arith, q.left, left);
 }
 
--- no element follows where no unit is left
+-- no element follows if no unit is left
 none_after : (c : Coding) (s t : Standing) (es : List Element) (told : List ℤ) (bits : List Bool) → s.left ≡ [] → Covers c s es told bits t → t.left ≡ []
 none_after c s t [] told bits e k = ap (λ (q : Standing). q.left) k.2 ∙ e
 none_after c s t (x ∷ es) told bits e k = absurd (no_unit k.0 k.1 (sym k.7 ∙ e))
@@ -163,7 +164,7 @@ part_left c s u others here bits run (in_ends bands h due) =
     let one = one_band h.total (omega (arith, n, a)) (omega (arith, d, run)) in
     omega (arith, ap length h.left, length-append h.whole (record u { old = h.first ++ u.old } ∷ others), n, a, one)
 
--- THE LAW: of whole elements and a part of one more, first bits tell the units that nothing is left of
+-- THE LAW: of complete elements and a part of one more, first bits encode the units of which nothing is left
 pub record FirstUnits (c : Coding) (units : List UnitLeft) (told : List ℤ) (left : List UnitLeft) (bits : List Bool) : Type 0 where
   pub whole : List ℤ
   pub rest : List ℤ
@@ -209,7 +210,7 @@ first_units c (u ∷ units) told left bits run w s = by (cut_at c s.elements (at
       size = omega (arith, n, m, q.left, q.size, w.0);
     }
 
--- WHAT IS LEFT: some of the first unit, and all of the others
+-- WHAT IS LEFT: some of the first unit, and all of the remaining ones
 AreLeft : List UnitLeft → Type 0
 AreLeft [] = Unit {0}
 AreLeft (u ∷ units) = (1 ≤ length u.old) × AreWhole units
@@ -266,7 +267,7 @@ whole_values : (units : List UnitLeft) → AreWhole units → length (old_values
 whole_values [] w = refl
 whole_values (u ∷ units) w = omega (arith, length-append u.old (old_values units), w.0, whole_values units w.1)
 
--- Fewer values are told than those of one unit more.
+-- Fewer values are encoded than those of one more unit.
 pub few_told : (c : Coding) (units : List UnitLeft) (told : List ℤ) (left : List UnitLeft) (bits : List Bool) → c.most_run ≡ 0 → AreWhole units → StandsInUnits c units told left bits → length told + 64 * length left < 64 * (length units + 1)
 unfolding AreLeft
 few_told c units told left bits run w s =

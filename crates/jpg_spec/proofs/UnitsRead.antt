@@ -6,11 +6,10 @@ use Rattle.std.proofs.lemmas.List.Concat.{flat_map-append}
 use Rattle.jpg_spec.specs.Lists.{any_of}
 use Rattle.jpg_spec.specs.Elements.{SpellsUnits}
 use Rattle.jpg_spec.specs.Scan.{Blocks, Scan, band, block_at, unit_at, coefficient}
-use Rattle.jpg_spec.specs.PictureInWork.{is_at, IntervalRead}
+use Rattle.jpg_spec.specs.PictureInWork.{is_at, IntervalRead, UnitsRead, OneChanges}
 use Rattle.jpg_spec.specs.declared.frame.Place.{Place}
 use Rattle.jpg_spec.proofs.PictureInWork.{AreApart, any_join, apart_swap, same_at}
 use Rattle.jpg_spec.proofs.Common.{both, same_of, neither}
-use Rattle.jpg_spec.specs.PictureInWork.{UnitsRead, OneChanges}
 
 pub units_first : (s : Scan) (old : Blocks) → ((i x y : ℕ) → length (old i x y) ≡ 64) → UnitsRead s [] old old []
 units_first s old sizes = record { told_there = refl; changes = record { elsewhere = λ i x y h. refl; outside = λ i x y k h. refl; sizes = sizes } }
@@ -26,7 +25,7 @@ by_place P p here others i x y = by (is_at i x y p) refl
         subst (λ n. P i x n) (same_of p.y y u.1) (subst (λ n. P i n p.y) (same_of p.x x v.1) (subst (λ n. P n p.x p.y) (same_of p.component i v.0) here))
     by false e = others i x y e
 
--- THE STEP: the next unit is whole, and its block has the values it told
+-- THE STEP: the next unit is complete, and its block has the values that it encodes
 pub units_next : (s : Scan) (places : List Place) (p : Place) (old mid new : Blocks) (told : List ℤ) → any_of (is_at p.component p.x p.y) places ≡ false → UnitsRead s places old mid told → OneChanges s p mid new
     → UnitsRead s (places ++ p ∷ []) old new (told ++ band s (block_at new p))
 units_next s places p old mid new told apart w c = record {
@@ -52,7 +51,7 @@ units_next s places p old mid new told apart w c = record {
     still : flat_map (λ q. band s (block_at new q)) places ≡ flat_map (λ q. band s (block_at mid q)) places
     still = same_at mid new (p ∷ []) one places away (λ b. band s b)
 
--- behind the last one the interval was read
+-- after the last one the interval was read
 pub units_last : (s : Scan) (places : List Place) (old new : Blocks) (told : List ℤ) (bits : List Bool) → UnitsRead s places old new told → SpellsUnits s.coding (map (unit_at s old) places) told bits → IntervalRead s places old new bits
 units_last s places old new told bits w k =
     record { spelled = subst (λ l. SpellsUnits s.coding (map (unit_at s old) places) l bits) w.told_there k; changes = w.changes }

@@ -1,4 +1,4 @@
--- What no scan named yet is zero: so units of a sequential scan, and bands of a first pass, begin with zeros.
+-- What no scan has named yet is zero: so units of a sequential scan, and bands of a first pass, begin with zeros.
 use Rattle.std.proofs.Common.{◌≡◌, ℕ, ◌+◌, ◌*◌, ◌<◌, ◌≤◌, Bool, true, false, cond, not, ◌==◌, ◌&&◌, List, [], ◌∷◌, get_or, refl, sym, ap, ◌∙◌, subst, ⊎_elim, Some, None, pos}
 use Rattle.std.specs.Prelude.{◌||◌, map, flat_map, nat_le, option_and_then, unwrap_or}
 use Rattle.std.proofs.lemmas.Bool.{cases_lt}
@@ -22,7 +22,7 @@ use Rattle.jpg_spec.proofs.PictureInWork.{any_join}
 use Rattle.jpg_spec.proofs.FrameFound.{no_process, framed}
 use Rattle.jpg_spec.proofs.Common.{neither}
 
--- THE FRAME stays the same behind its header
+-- THE FRAME remains the same after its header
 
 no_frame_code : (code : ℕ) → code_fault_if true code ≡ None → is_frame_code code ≡ false
 no_frame_code code e = by (is_unexpected code || code == 0xd9 && false) (is_unsupported code) (is_frame_code code) e

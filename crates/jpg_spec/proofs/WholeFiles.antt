@@ -1,4 +1,4 @@
--- A block of a picture that is shown or not has 64 numbers.
+-- A block of a picture, displayed or not, has 64 numbers.
 use Rattle.std.proofs.Common.{◌≡◌, Bool, true, false, cond, List, length, refl, ℤ}
 use Rattle.jpg_spec.specs.Elements.{zeros}
 

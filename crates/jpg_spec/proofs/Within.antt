@@ -1,14 +1,14 @@
--- An element tells as many values of a unit as it takes from it, all in the bounds; and so are blocks that are mirrored.
+-- An element encodes as many values of a unit as it takes from it, all in the bounds; and so are blocks that are
+-- mirrored.
 use Rattle.std.proofs.Common.{◌≡◌, ℕ, zero, suc, ◌+◌, ◌%◌, ◌^◌, ◌<◌, ◌≤◌, Bool, true, false, cond, List, [], ◌∷◌, ◌++◌, length, take, drop, refl, sym, ap, ◌∙◌, subst, arith, inl, inr, lit<, ℤ, pos, negsuc, ◌==◌, ◌&&◌}
 use Rattle.std.specs.Prelude.{◌⊎◌, int_le, nat_abs, neg_ℤ}
 use Rattle.std.proofs.Math.Nat.{pow-le-pow_right}
 use Rattle.std.proofs.lemmas.List.{append_assoc, append-nil, length-append}
 use Rattle.jpg_spec.specs.Numbers.{digits}
-use Rattle.jpg_spec.specs.Elements.{Coding, UnitLeft, Element, difference, dc_bit, value, long_run, ends, Tells, going_on, old_values, corrected, is_zero, grown, scaled, zeros_in, are_in_bounds, IsBlockIn}
-use Rattle.jpg_spec.specs.Moves.{zigzag, mirrored}
+use Rattle.jpg_spec.specs.Elements.{Coding, UnitLeft, Element, difference, dc_bit, value, long_run, ends, Tells, going_on, old_values, corrected, is_zero, grown, scaled, zeros_in, are_in_bounds}
 use Rattle.jpg_spec.specs.declared.frame.Bounds.{Bounds}
 use Rattle.jpg_spec.proofs.Facts.{below_digits}
-use Rattle.jpg_spec.proofs.MirroredBlocks.{mirror_at, mirrored_is, mirrored_block}
+use Rattle.jpg_spec.proofs.MirroredBlocks.{mirror_at}
 use Rattle.jpg_spec.proofs.Common.{both, and_intro, bounds_join}
 
 -- JOINED VALUES
@@ -18,7 +18,7 @@ join_dc c v more h k =
     let b = both (int_le c.bounds.dc_low v && int_le v c.bounds.dc_high) true h in
     and_intro (int_le c.bounds.dc_low v && int_le v c.bounds.dc_high) (are_in_bounds c.bounds false more) b.0 k
 
--- what is told of a unit so far may be followed by values in the bounds
+-- what is encoded of a unit so far may be followed by values in the bounds
 Joins : Coding → Bool → List ℤ → Type 0
 Joins c has_dc here = (more : List ℤ) → are_in_bounds c.bounds false more ≡ true → are_in_bounds c.bounds has_dc (here ++ more) ≡ true
 
@@ -68,7 +68,7 @@ EndsOne (value run v bits) = Unit {0}
 EndsOne (long_run bits) = Unit {0}
 EndsOne (ends bands bits) = bands ≡ 1
 
--- an element keeps it so
+-- an element preserves this
 pub step : (c : Coding) (p : ℤ) (e : Element) (u : UnitLeft) (units : List UnitLeft) (here : List ℤ) (left : List UnitLeft) (more : List ℤ) → EndsOne e
     → Tells c p e u units here left → are_in_bounds c.bounds u.has_dc here ≡ true → AreWithin c left more → AreWithin c (u ∷ units) (here ++ more)
 step c p (difference d) u units here left more run t ok w =
@@ -120,11 +120,8 @@ mirror_rest r (n ∷ places) (v ∷ block) ok =
     let w = cond (n % 2 == 1) (neg_ℤ v) v in
     and_intro (int_le (pos (nat_abs w)) r.ac) (are_in_bounds r false (mirror_at places block)) (ap (λ m. int_le (pos m) r.ac) (same_magnitude (n % 2 == 1) v) ∙ b.0) (mirror_rest r places block b.1)
 
-mirror_within : (r : Bounds) (places : List ℕ) (block : List ℤ) → are_in_bounds r true block ≡ true → are_in_bounds r true (mirror_at (0 ∷ places) block) ≡ true
+pub mirror_within : (r : Bounds) (places : List ℕ) (block : List ℤ) → are_in_bounds r true block ≡ true → are_in_bounds r true (mirror_at (0 ∷ places) block) ≡ true
 mirror_within r places [] ok = refl
 mirror_within r places (v ∷ block) ok =
     let b = both (int_le r.dc_low v && int_le v r.dc_high) (are_in_bounds r false block) ok in
     and_intro (int_le r.dc_low v && int_le v r.dc_high) (are_in_bounds r false (mirror_at places block)) b.0 (mirror_rest r places block b.1)
-
-pub mirrored_in : (r : Bounds) (block : List ℤ) → IsBlockIn r block → IsBlockIn r (mirrored block)
-mirrored_in r block h = (mirrored_block block h.0, subst (λ x. are_in_bounds r true x ≡ true) (sym (mirrored_is block)) (mirror_within r (drop 1 zigzag) block h.1))

@@ -1,48 +1,27 @@
--- The front of a file that is written: its markers, its quantisation tables and its frame header, and what is in force behind them.
-use Rattle.std.proofs.Common.{◌≡◌, ℕ, zero, suc, ◌+◌, ◌-◌, ◌*◌, ◌/◌, ◌%◌, ◌<◌, ◌≤◌, Bool, true, false, cond, not, List, [], ◌∷◌, ◌++◌, length, refl, sym, ap, ◌∙◌, arith, Option, Some, None, ◌==◌, ◌&&◌}
-use Rattle.std.specs.Prelude.{◌||◌, map, flat_map, reverse, nat_lt, nat_le, Ok, is_none}
-use Rattle.std.specs.Int.{to_be_bytes, w16}
+-- The beginning of a file that is written: its markers, its quantisation tables and its frame header, and what is in
+-- force after them.
+use Rattle.std.proofs.Common.{◌≡◌, ℕ, zero, suc, ◌+◌, ◌-◌, ◌≤◌, Bool, true, false, not, List, [], ◌∷◌, length, refl, sym, ap, ◌∙◌, arith, Option, Some, None, ◌==◌, ◌&&◌}
+use Rattle.std.specs.Prelude.{◌||◌, nat_lt, nat_le, Ok, is_none}
 use Rattle.std.specs.List.{All}
 use Rattle.std.proofs.lemmas.Bool.Decides.{nat_tests}
-use Rattle.std.proofs.lemmas.List.Elements.{All-head, All-tail, All-nil, All-cons}
+use Rattle.std.proofs.lemmas.List.Elements.{All-nil, All-cons}
 use Rattle.jpg_spec.specs.Lists.{any_of, is_distinct}
 use Rattle.jpg_spec.specs.Faults.{Told, refuse}
 use Rattle.jpg_spec.specs.Geometry.{Frame, padded_blocks}
-use Rattle.jpg_spec.specs.FrameHeader.{HasFactors, IsFrame, AreLimits, has_bad_factor, has_bad_slot, identifiers, checked_frame}
-use Rattle.jpg_spec.specs.FrameContents.{components_told, frame_header}
-use Rattle.jpg_spec.specs.Segments.{two_bytes, standard_limits}
-use Rattle.jpg_spec.specs.Meaning.{Meaning, PictureComponent}
-use Rattle.jpg_spec.specs.QuantContents.{quant_tables}
-use Rattle.jpg_spec.specs.HuffContents.{huffman_tables}
+use Rattle.jpg_spec.specs.FrameHeader.{IsFrame, AreLimits, has_bad_factor, has_bad_slot, identifiers, checked_frame}
+use Rattle.jpg_spec.specs.Segments.{standard_limits}
 use Rattle.jpg_spec.specs.Markers.{Segment, Pass, code_fault_if, is_frame_code, is_within, kept_count}
-use Rattle.jpg_spec.specs.InForce.{told_list, huffmans_defined, quants_defined}
 use Rattle.jpg_spec.specs.Header.{header_rule}
-use Rattle.jpg_spec.specs.FileText.{distinct_quants, slot_in, component_bytes, frame_of_meaning}
-use Rattle.jpg_spec.specs.WrittenFile.{IsKeptMarker}
-use Rattle.jpg_spec.specs.declared.fault.Fault.TheVariants.{EmptyImage, TooLarge, Precision, ComponentCount, Sampling, DuplicateComponent, QuantSlot, TooManyBlocks, BadLength}
+use Rattle.jpg_spec.specs.declared.fault.Fault.TheVariants.{EmptyImage, TooLarge, Precision, ComponentCount, Sampling, DuplicateComponent, QuantSlot, TooManyBlocks}
 use Rattle.jpg_spec.specs.declared.frame.Component.{Component}
 use Rattle.jpg_spec.specs.declared.frame.Limits.{Limits}
 use Rattle.jpg_spec.proofs.Full.{passed}
 use Rattle.jpg_spec.proofs.KeptMarkers.{IsPassedOn, ArePassedOn, passes_more, kept_alone, may_keep}
 use Rattle.jpg_spec.proofs.TablesInForce.{affirmed}
-use Rattle.jpg_spec.proofs.Common.{both, negated, le_of, not_lt_of, same_of, neither, same_itself, refused, not_refused}
+use Rattle.jpg_spec.proofs.Common.{both, negated, le_of, not_lt_of, same_of, neither, refused}
+use Rattle.jpg_spec.proofs.FrameFound.{all_factors}
 
 -- THE FRAME passes its checks
-
-pub factors_ok : (c : Component) → has_bad_factor c ≡ false → HasFactors c
-factors_ok c e =
-    let a = neither (c.h == 0) (nat_lt 4 c.h || (c.v == 0 || nat_lt 4 c.v)) e in
-    let b = neither (nat_lt 4 c.h) (c.v == 0 || nat_lt 4 c.v) a.1 in
-    let k = neither (c.v == 0) (nat_lt 4 c.v) b.1 in
-    record { h_low = some c.h a.0; h_high = not_lt_of 4 c.h b.0; v_low = some c.v k.0; v_high = not_lt_of 4 c.v k.1 }
-  where
-    some : (n : ℕ) → (n == 0) ≡ false → 1 ≤ n
-    some zero e = cc
-    some (suc n) e = omega arith
-
-pub all_factors : (cs : List Component) → any_of has_bad_factor cs ≡ false → All HasFactors cs
-all_factors [] e = All-nil HasFactors
-all_factors (c ∷ cs) e = let n = neither (has_bad_factor c) (any_of has_bad_factor cs) e in All-cons HasFactors c cs (factors_ok c n.0) (all_factors cs n.1)
 
 all_slots : (cs : List Component) → any_of has_bad_slot cs ≡ false → All (λ c. c.quant ≤ 3) cs
 all_slots [] e = All-nil (λ c. c.quant ≤ 3)
@@ -95,47 +74,6 @@ frame_is limits f g limited e =
     some zero e = cc
     some (suc n) e = omega arith
 
--- ITS HEADER tells it
-
-abbrev pub frame_component : Meaning → PictureComponent → Component
-frame_component H c = record { id = c.id; h = c.h; v = c.v; quant = slot_in (distinct_quants H) c.quants }
-
-abbrev pub frame_contents : Meaning → List ℕ
-frame_contents H = H.precision ∷ to_be_bytes w16 H.height ++ to_be_bytes w16 H.width ++ length H.components ∷ flat_map (component_bytes H) H.components
-
-components_again : (H : Meaning) (cs : List PictureComponent) → All HasFactors (map (frame_component H) cs) → components_told (flat_map (component_bytes H) cs) ≡ map (frame_component H) cs
-components_again H [] all = refl
-components_again H (c ∷ cs) all =
-    let f = All-head HasFactors (frame_component H c) (map (frame_component H) cs) all in
-    let h : (16 * c.h + c.v) / 16 ≡ c.h = omega (arith, f.v_high) in
-    let v : (16 * c.h + c.v) % 16 ≡ c.v = omega (arith, f.v_high) in
-    let slot = slot_in (distinct_quants H) c.quants in
-    let later = components_told (flat_map (component_bytes H) cs) in
-    ap (λ (n : ℕ). (let x : Component = record { id = c.id; h = n; v = (16 * c.h + c.v) % 16; quant = slot } in x ∷ later)) h
-    ∙ ap (λ (n : ℕ). (let x : Component = record { id = c.id; h = c.h; v = n; quant = slot } in x ∷ later)) v
-    ∙ ap (λ t. frame_component H c ∷ t) (components_again H cs (All-tail HasFactors (frame_component H c) (map (frame_component H) cs) all))
-
-pub length_components : (H : Meaning) (cs : List PictureComponent) → length (flat_map (component_bytes H) cs) ≡ 3 * length cs
-length_components H [] = refl
-length_components H (c ∷ cs) = omega (arith, length_components H cs)
-
-pub frame_told_is : (limits : Limits) (H : Meaning) → IsFrame (frame_of_meaning H) → checked_frame limits (frame_of_meaning H) ≡ Ok (frame_of_meaning H) → frame_header limits H.process (frame_contents H) ≡ Ok (frame_of_meaning H)
-frame_told_is limits H is checked =
-    let parts = flat_map (component_bytes H) H.components in
-    let wide = is.width_high in
-    let high = is.height_high in
-    let h : two_bytes (H.height / 256 % 256) (H.height % 256) ≡ H.height = omega (arith, high) in
-    let w : two_bytes (H.width / 256 % 256) (H.width % 256) ≡ H.width = omega (arith, wide) in
-    let l : (length parts == 3 * length H.components) ≡ true = ap (λ n. n == 3 * length H.components) (length_components H H.components) ∙ same_itself (3 * length H.components) in
-    let of : ℕ → ℕ → List Component → Frame = λ height width cs. record { process = H.process; precision = H.precision; width = width; height = height; components = cs } in
-    not_refused BadLength (not (length parts == 3 * length H.components)) _ (ap not l)
-    ∙ ap (λ n. checked_frame limits (of n (two_bytes (H.width / 256 % 256) (H.width % 256)) (components_told parts))) h
-    ∙ ap (λ n. checked_frame limits (of H.height n (components_told parts))) w
-    ∙ ap (λ cs. checked_frame limits (of H.height H.width cs)) (components_again H H.components is.factors) ∙ checked
-
-pub frame_short : (H : Meaning) → length H.components ≤ 4 → length (frame_contents H) + 2 < 65536
-frame_short H few = omega (arith, length_components H H.components, few)
-
 -- THE KEPT MARKERS
 
 abbrev pub is_plain_code : ℕ → Bool
@@ -143,7 +81,7 @@ is_plain_code code =
     not (is_frame_code code) && (not (code == 0xda) && (not (code == 0xdd) && (not (code == 0xdb) && (not (code == 0xc4) && (not (code == 0xd9) && (not (code == 0) && (not (code == 255)
     && (is_none (code_fault_if true code) && is_none (code_fault_if false code)))))))))
 
-marker_plain : (code : ℕ) → may_keep code ≡ true → is_plain_code code ≡ true
+pub marker_plain : (code : ℕ) → may_keep code ≡ true → is_plain_code code ≡ true
 marker_plain code e = by (code == 0xfe) refl e
   where
     by : (b : Bool) → (code == 0xfe) ≡ b → (b || is_within 0xe0 0xef code) ≡ true → is_plain_code code ≡ true
@@ -189,30 +127,7 @@ passed_on code e =
     allowed true x y = x
     allowed false x y = y
 
-pub markers_passed : (kept : List Segment) → All IsKeptMarker kept → ArePassedOn kept
-unfolding ArePassedOn
-markers_passed [] all = tt
-markers_passed (s ∷ kept) all =
-    let h = All-head IsKeptMarker s kept all in
-    (passed_on s.0 h.0, h.1, markers_passed kept (All-tail IsKeptMarker s kept all))
-
 pub markers_pass : (limits : Limits) (kept : List Segment) → ArePassedOn kept → kept_count kept ≤ limits.kept → Pass (header_rule limits) kept
 unfolding ArePassedOn
 markers_pass limits [] are few = tt
 markers_pass limits (s ∷ kept) are few = passes_more limits s kept are few (markers_pass limits kept are.2 (omega (arith, few)))
-
--- kept markers define no tables
-pub no_tables : (kept : List Segment) → All IsKeptMarker kept → (quants_defined kept ≡ []) × (huffmans_defined kept ≡ [])
-no_tables [] all = (refl, refl)
-no_tables (s ∷ kept) all =
-    let h = All-head IsKeptMarker s kept all in
-    let later = no_tables kept (All-tail IsKeptMarker s kept all) in
-    let p = marker_plain s.0 h.0 in
-    let a = both (not (is_frame_code s.0)) _ p in
-    let b = both (not (s.0 == 0xda)) _ a.1 in
-    let k = both (not (s.0 == 0xdd)) _ b.1 in
-    let m = both (not (s.0 == 0xdb)) _ k.1 in
-    let n = both (not (s.0 == 0xc4)) _ m.1 in (
-      ap (λ t. cond t (reverse (told_list (quant_tables s.1))) [] ++ quants_defined kept) (negated (s.0 == 0xdb) m.0) ∙ later.0,
-      ap (λ t. cond t (reverse (told_list (huffman_tables s.1))) [] ++ huffmans_defined kept) (negated (s.0 == 0xc4) n.0) ∙ later.1,
-    )

@@ -1,4 +1,4 @@
--- The scan header that is written tells the head that it was written of.
+-- The scan header that is written encodes the head that it was written from.
 use Rattle.std.proofs.Common.{◌≡◌, ℕ, zero, suc, ◌+◌, ◌*◌, ◌/◌, ◌%◌, ◌<◌, ◌≤◌, Bool, true, false, cond, not, List, [], ◌∷◌, ◌++◌, length, take, drop, get_or, refl, sym, ap, ◌∙◌, arith, ◌==◌, ◌&&◌}
 use Rattle.std.specs.Prelude.{◌||◌, map, flat_map, nat_lt, Ok}
 use Rattle.std.proofs.lemmas.Bool.Decides.{nat_tests}
@@ -13,9 +13,8 @@ use Rattle.jpg_spec.specs.ScanContents.{ids_told, part_told, parts_told, head_to
 use Rattle.jpg_spec.specs.declared.fault.Fault.TheVariants.{BadLength, ScanComponent, McuTooLarge, ScanParameters}
 use Rattle.jpg_spec.specs.declared.frame.ScanPart.{ScanPart}
 use Rattle.jpg_spec.proofs.Rows.{map_map}
-use Rattle.jpg_spec.proofs.PlacedBlocks.{Each}
-use Rattle.jpg_spec.proofs.WrittenState.{eq_swap}
-use Rattle.jpg_spec.proofs.Common.{both, negated, same_of, and_intro, neither, same_itself, not_refused, lt_no}
+use Rattle.jpg_spec.proofs.Each.{Each}
+use Rattle.jpg_spec.proofs.Common.{eq_swap, both, negated, same_of, and_intro, neither, same_itself, not_refused, lt_no}
 
 -- DISTINCT NUMBERS and their places
 

@@ -1,8 +1,8 @@
 -- Huffman codes (T.81, Annex C).
-use Rattle.std.specs.Prelude.{ℕ, zero, suc, drop, ◌+◌, ◌*◌, ◌^◌, ◌<◌, Bool, true, nat_lt, ◌&&◌, ◌==◌, if◌then◌else◌, List, [], ◌∷◌, ◌++◌, Option, Some, None}
+use Rattle.std.specs.Prelude.{ℕ, zero, suc, drop, ◌+◌, ◌*◌, ◌^◌, ◌<◌, Bool, true, nat_lt, ◌&&◌, ◌==◌, if◌then◌else◌, List, [], ◌∷◌, ◌++◌, Option, Some, None, unwrap_or}
 use Rattle.jpg_spec.specs.Bits.{bits_of}
 
--- a code: its bits, and the symbol that it stands for
+-- a code: its bits, and its symbol
 abbrev pub Code : Type 0
 Code = List Bool × ℕ
 
@@ -12,8 +12,8 @@ codes_at zero length c symbols = []
 codes_at (suc count) length c [] = []
 codes_at (suc count) length c (symbol ∷ symbols) = (bits_of length c, symbol) ∷ codes_at count length (c + 1) symbols
 
--- Codes of this length, of the next, and so on, by how many there are of each. The first one is numbered c.
--- A step to the next length doubles the number that is due.
+-- Codes of this length, of the next, and so on, by how many there are of each. The first one is numbered c. A step to
+-- the next length doubles the next number.
 abbrev pub codes_from : ℕ → ℕ → List ℕ → List ℕ → List Code
 codes_from length c [] symbols = []
 codes_from length c (count ∷ counts) symbols = codes_at count length c symbols ++ codes_from (length + 1) (2 * (c + count)) counts (drop count symbols)
@@ -36,3 +36,6 @@ are_codes length c (count ∷ counts) = nat_lt (c + count) (2 ^ length) && are_c
 abbrev pub first_code : List Code → ℕ → Option (List Bool)
 first_code [] symbol = None
 first_code (code ∷ rest) symbol = if code.1 == symbol then Some code.0 else first_code rest symbol
+
+abbrev pub code_of : List Code → ℕ → List Bool
+code_of codes symbol = unwrap_or (first_code codes symbol) []

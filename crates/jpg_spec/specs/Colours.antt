@@ -1,4 +1,4 @@
--- The colours that a frame's components, the JFIF header and Adobe's transform tell together (JFIF 1.02, Adobe's APP14).
+-- The colours determined by a frame's components, the JFIF header and Adobe's transform (JFIF 1.02, Adobe's APP14).
 use Rattle.std.specs.Prelude.{ℕ, Bool, true, false, ◌==◌, if◌then◌else◌, List, [], ◌∷◌, Option, Some, None}
 use Rattle.jpg_spec.specs.Lists.{are_equal}
 use Rattle.jpg_spec.specs.declared.frame.Colour.{Colour}

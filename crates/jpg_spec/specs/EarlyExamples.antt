@@ -1,10 +1,10 @@
--- WORKED EXAMPLES of data that end early: which units are whole there (T.81, F.2.2, G.1.2, K.3).
+-- WORKED EXAMPLES of data that end early: which units are complete there (T.81, F.2.2, G.1.2, K.3).
 use Rattle.std.specs.Prelude.{Bool, true, false, List, [], ◌∷◌, ◌++◌, ℤ, pos}
 use Rattle.jpg_spec.specs.Geometry.{bounds_of}
 use Rattle.jpg_spec.specs.Elements.{Coding, UnitLeft, new_unit, zeros}
 use Rattle.jpg_spec.specs.Parts.{band_unit}
 
--- SEQUENTIAL: of the typical tables for luminance the codes 00, a difference of category 0, and 1010, the end of a block
+-- SEQUENTIAL: of the typical tables for luminance the codes 00, a difference of category 0, and 1010, EOB
 abbrev pub short_coding : Coding
 short_coding = record {
   bounds = bounds_of 8;

@@ -1,28 +1,6 @@
--- Words of the laws on images encoded. No definition rests on them.
-use Rattle.std.specs.Prelude.{ℕ, ◌<◌, ◌≤◌, List, All}
-use Rattle.jpg_spec.specs.WrittenFile.{AreQuantisers, IsRestart}
-use Rattle.jpg_spec.specs.Encoded.{Encoding}
-use Rattle.jpg_spec.specs.Images.{Image}
+-- Terms of the laws on encoded images. No definition uses them.
+use Rattle.std.specs.Prelude.{ℕ, ◌<◌, List, All}
 
 -- samples of eight bits
 abbrev pub AreSamples : List ℕ → Type 0
 AreSamples samples = All (λ s. s < 256) samples
-
--- factors across and down
-pub record AreFactors (factors : ℕ × ℕ) : Type 0 where
-  pub h_low : 1 ≤ factors.0
-  pub h_high : factors.0 ≤ 4
-  pub v_low : 1 ≤ factors.1
-  pub v_high : factors.1 ≤ 4
-
--- An image with sides that a frame can have and samples of eight bits; factors from 1 to 4, tables, and restarts that are counted in two bytes.
-pub record IsEncodable (e : Encoding) (image : Image) : Type 0 where
-  pub width_low : 1 ≤ image.info.width
-  pub width_high : image.info.width ≤ 65500
-  pub height_low : 1 ≤ image.info.height
-  pub height_high : image.info.height ≤ 65500
-  pub samples : AreSamples image.samples
-  pub factors : All AreFactors e.factors
-  pub first : AreQuantisers e.first
-  pub others : AreQuantisers e.others
-  pub restart : IsRestart e.restart

@@ -1,13 +1,9 @@
--- FILES OF THE WORKED EXAMPLES: gray pictures with sides of whole blocks, what they mean, and the text before the data of their
--- baseline files (T.81, B.2, JFIF 1.02).
+-- FILES OF THE WORKED EXAMPLES: gray pictures with sides of complete blocks, what they mean, and the text before the
+-- data of their baseline files (T.81, B.2, JFIF 1.02).
 use Rattle.std.specs.Prelude.{ℕ, ◌+◌, ◌*◌, ◌/◌, nat_lt, ◌&&◌, ◌==◌, if◌then◌else◌, List, [], ◌∷◌, ◌++◌, slice_index_or, codes, ℤ}
 use Rattle.std.specs.Int.{to_be_bytes, w16}
-use Rattle.jpg_spec.specs.Typical.{dc_luma_counts, dc_luma_values, ac_luma_counts, ac_luma_values}
 use Rattle.jpg_spec.specs.Elements.{zeros}
-use Rattle.jpg_spec.specs.Markers.{soi}
 use Rattle.jpg_spec.specs.Meaning.{Meaning}
-use Rattle.jpg_spec.specs.Moves.{flip_h, headed}
-use Rattle.jpg_spec.specs.FileText.{segment_text, sequential_text}
 use Rattle.jpg_spec.specs.declared.frame.Process.TheVariants.{Baseline}
 
 -- a gray picture: its sides, its quantisers in zigzag order, and its blocks row by row
@@ -33,13 +29,6 @@ plain_jfif = codes "JFIF" ++ 0 ∷ 1 ∷ 1 ∷ 0 ∷ 0 ∷ 1 ∷ 0 ∷ 1 ∷ 0 �
 abbrev pub plain_frame : ℕ → ℕ → List ℕ
 plain_frame width height = 8 ∷ to_be_bytes w16 height ++ to_be_bytes w16 width ++ 1 ∷ 1 ∷ 0x11 ∷ 0 ∷ []
 
--- JFIF, the quantisation table, SOF0, K.3 and K.5 in slot 0, and the header of a scan of component 1 by these tables
-abbrev pub gray_front : ℕ → ℕ → List ℕ → List ℕ
-gray_front width height quants =
-    soi ++ segment_text 0xe0 plain_jfif ++ segment_text 0xdb (0 ∷ quants) ++ segment_text 0xc0 (plain_frame width height)
-    ++ segment_text 0xc4 (0 ∷ dc_luma_counts ++ dc_luma_values) ++ segment_text 0xc4 (0x10 ∷ ac_luma_counts ++ ac_luma_values)
-    ++ segment_text 0xda (1 ∷ 1 ∷ 0 ∷ 0 ∷ 63 ∷ 0 ∷ [])
-
 -- WHAT A PICTURE MEANS, and the file of the picture mirrored left to right
 
 abbrev pub gray_meaning : Gray → Meaning
@@ -52,6 +41,3 @@ gray_meaning g = record {
   blocks = λ i x y. if i == 0 && nat_lt x (across g) && nat_lt y (down g) then slice_index_or g.blocks (y * across g + x) (zeros 64) else zeros 64;
   kept = (0xe0, plain_jfif) ∷ [];
 }
-
-abbrev pub turned_text : Gray → List ℕ
-turned_text g = sequential_text (headed (flip_h (gray_meaning g)))

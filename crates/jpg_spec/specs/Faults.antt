@@ -1,9 +1,9 @@
--- THE FAULTS of an input: their order and their names, and what is told where there is none.
+-- THE FAULTS of an input: their order and their names, and values or faults.
 use Rattle.std.specs.Prelude.{ℕ, Bool, List, if◌then◌else◌, Result, Err, codes}
 use Rattle.jpg_spec.specs.declared.fault.Fault.{Fault}
 use Rattle.jpg_spec.specs.declared.fault.Fault.TheVariants.{NotBuilt, NotJpeg, Truncated, NoMarker, UnexpectedMarker, UnsupportedProcess, SecondFrame, SosBeforeSof, BadLength, MarkersTooLarge, EmptyImage, TooLarge, Precision, ComponentCount, Sampling, DuplicateComponent, QuantSlot, TooManyBlocks, BadQuant, BadHuffman, ScanComponent, McuTooLarge, ScanParameters, RepeatedScan, Progression, MissingTable, QuantChanged, NoCode, BadSymbol, BadRun, CoefRange, RunPastEnd, EntropyShort, ExtraData, RestartWrong, MissingComponent, InputTooLong, ColourOut, FractionalSampling, ScriptText, TableText, CommentTooLong, ImageText, ImageHeader, ImageUnsupported, ImageShort, ImageValue}
 
--- the order of faults that stand at one place
+-- the order of faults at one place
 abbrev pub number_of : Fault → ℕ
 number_of NotBuilt = 0
 number_of NotJpeg = 1
@@ -103,7 +103,8 @@ fault_name ImageUnsupported = codes "ImageUnsupported"
 fault_name ImageShort = codes "ImageShort"
 fault_name ImageValue = codes "ImageValue"
 
--- What is told, or the first fault that forbids it. `refuse f bad rest` reads: where the test holds the fault is f, else go on.
+-- A value, or the first fault instead of it. `refuse f bad rest` means: if the test holds the fault is f, otherwise go
+-- on.
 abbrev pub Told : Type 0 → Type 0
 Told X = Result X Fault
 

@@ -1,4 +1,5 @@
--- THE MEANING OF A FILE (T.81, B.2.1): items that break no rule, whose scans lead from blocks of zeros to the picture's.
+-- THE MEANING OF A FILE (T.81, B.2.1): items that break no rule, whose scans lead from blocks of zeros to the
+-- picture's.
 use Rattle.std.specs.Prelude.{◌≡◌, ℕ, ◌≤◌, true, List, [], ◌∷◌, ◌++◌, length, map, reverse, None, unwrap_or}
 use Rattle.jpg_spec.specs.Lists.{below}
 use Rattle.jpg_spec.specs.Geometry.{Frame, component_at}

@@ -1,4 +1,4 @@
--- What the contents of a frame header's segment tell, or the first fault that they show (T.81, B.2.2).
+-- What the contents of a frame header's segment mean, or their first fault (T.81, B.2.2).
 use Rattle.std.specs.Prelude.{ℕ, ◌*◌, ◌/◌, ◌%◌, not, ◌==◌, List, [], ◌∷◌, length, Err}
 use Rattle.jpg_spec.specs.Faults.{Told, refuse}
 use Rattle.jpg_spec.specs.Segments.{two_bytes}
@@ -9,7 +9,7 @@ use Rattle.jpg_spec.specs.declared.frame.Process.{Process}
 use Rattle.jpg_spec.specs.declared.frame.Component.{Component}
 use Rattle.jpg_spec.specs.declared.frame.Limits.{Limits}
 
--- three bytes a component
+-- three bytes per component
 abbrev pub components_told : List ℕ → List Component
 components_told [] = []
 components_told (id ∷ []) = []

@@ -1,4 +1,4 @@
--- What a frame header may say, and what it bounds (T.81, B.2.2): the checks in their order, and the padded grids.
+-- The checks of a frame header in their order, and the padded grids (T.81, B.2.2).
 use Rattle.std.specs.Prelude.{◌≡◌, ℕ, ◌*◌, ◌≤◌, Bool, true, nat_lt, not, ◌||◌, ◌==◌, List, length, map, All, Ok}
 use Rattle.jpg_spec.specs.Lists.{any_of, is_distinct}
 use Rattle.jpg_spec.specs.Faults.{Told, refuse}
@@ -32,7 +32,7 @@ checked_frame limits f =
     (refuse TooManyBlocks (nat_lt limits.blocks (padded_blocks f))
     (Ok f))))))))
 
--- WHAT THE CHECKS SAY for the limits of the profile
+-- WHAT THE CHECKS GUARANTEE for the standard limits
 
 pub record HasFactors (c : Component) : Type 0 where
   pub h_low : 1 ≤ c.h
@@ -53,7 +53,7 @@ pub record IsFrame (f : Frame) : Type 0 where
   pub slots : All (λ c. c.quant ≤ 3) f.components
   pub blocks : padded_blocks f ≤ 8388608
 
--- limits that don't exceed those of the profile, and admit a byte of input
+-- limits that don't exceed the standard ones, and admit a byte of input
 pub record AreLimits (limits : Limits) : Type 0 where
   pub side : limits.side ≤ standard_limits.side
   pub blocks : limits.blocks ≤ standard_limits.blocks

@@ -1,4 +1,4 @@
--- A frame's header, what its numbers bound, and where the blocks of a scan stand (T.81, A.1, A.2, B.2.2).
+-- A frame's header, what its numbers bound, and the places of the blocks of a scan (T.81, A.1, A.2, B.2.2).
 use Rattle.std.specs.Prelude.{◌<◌, length, ℕ, ◌+◌, ◌-◌, ◌*◌, ◌/◌, Bool, true, false, nat_lt, ◌&&◌, ◌==◌, if◌then◌else◌, List, [], ◌∷◌, slice_index_or, map, sum_by, max, flat_map, pos, neg_ℤ}
 use Rattle.jpg_spec.specs.Lists.{below}
 use Rattle.jpg_spec.specs.declared.frame.Process.{Process}
@@ -7,7 +7,7 @@ use Rattle.jpg_spec.specs.declared.frame.Component.{Component}
 use Rattle.jpg_spec.specs.declared.frame.Place.{Place}
 use Rattle.jpg_spec.specs.declared.frame.Bounds.{Bounds}
 
--- A frame header: what stands behind the code of SOF0, SOF1 or SOF2.
+-- A frame header: the contents after the code of SOF0, SOF1 or SOF2.
 pub record Frame : Type 0 where
   pub process : Process
   pub precision : ℕ
@@ -15,7 +15,7 @@ pub record Frame : Type 0 where
   pub height : ℕ
   pub components : List Component
 
--- What a precision allows. With 8 bits the DC lies in -1024 to 1023 and the AC in -1023 to 1023.
+-- What a precision allows. With 8 bits DC is from -1024 to 1023 and AC from -1023 to 1023.
 abbrev pub bounds_of : ℕ → Bounds
 bounds_of precision = record { dc_low = neg_ℤ (pos 1024); dc_high = pos 1023; ac = pos 1023; dc_cat = 11; ac_cat = 10; al = 10 }
 

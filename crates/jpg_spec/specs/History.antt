@@ -1,4 +1,5 @@
--- WHICH SCANS the scans before them admit, and with which tables (T.81, B.2.3, B.2.4, G.1.1.1). Lists have the newest first.
+-- WHICH SCANS the scans before them admit, and with which tables (T.81, B.2.3, B.2.4, G.1.1.1). Lists have the newest
+-- first.
 use Rattle.std.specs.Prelude.{ℕ, Bool, true, false, nat_le, not, ◌&&◌, ◌||◌, ◌==◌, if◌then◌else◌, List, [], ◌∷◌, length, Option, Some, None, Ok, find, is_some, is_none, option_map}
 use Rattle.jpg_spec.specs.Lists.{any_of, all_of, is_among, are_equal, below}
 use Rattle.jpg_spec.specs.Faults.{Told, refuse}
@@ -67,7 +68,7 @@ is_repeated f heads head = not (is_progressive f.process) && any_of (has_begun h
 abbrev pub is_out_of_order : Frame → List ScanHead → ScanHead → Bool
 is_out_of_order f heads head = is_progressive f.process && not (all_of (is_next heads head) (head_components head))
 
--- the fault of a scan behind those of these heads, whatever its tables
+-- the fault of a scan after those of these heads, whatever its tables
 abbrev pub order_fault : Frame → List ScanHead → ScanHead → Option Fault
 order_fault f heads head =
     if is_repeated f heads head then Some RepeatedScan else if is_out_of_order f heads head then Some Progression else None

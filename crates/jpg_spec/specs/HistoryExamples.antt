@@ -1,4 +1,4 @@
--- WORKED EXAMPLES of what scans the segments before them admit: small files so far, the newest segment first.
+-- WORKED EXAMPLES of the scans that the segments before them admit: small files so far, the newest segment first.
 use Rattle.std.specs.Prelude.{ℕ, List, [], ◌∷◌, ◌++◌}
 use Rattle.jpg_spec.specs.Typical.{dc_luma_counts, dc_luma_values, ac_luma_counts, ac_luma_values}
 use Rattle.jpg_spec.specs.Markers.{Segment}
@@ -20,7 +20,7 @@ ac_table = (0xc4, 0x10 ∷ ac_luma_counts ++ ac_luma_values)
 abbrev pub scan_contents : ℕ → ℕ → ℕ → List ℕ
 scan_contents ss se bits = 1 ∷ 1 ∷ 0 ∷ ss ∷ se ∷ bits ∷ []
 
--- three components of four blocks an MCU each, and a scan of them
+-- three components of four blocks each per MCU, and a scan of them
 abbrev pub large_frame : List ℕ
 large_frame = 8 ∷ 0 ∷ 8 ∷ 0 ∷ 8 ∷ 3 ∷ 1 ∷ 0x22 ∷ 0 ∷ 2 ∷ 0x22 ∷ 0 ∷ 3 ∷ 0x22 ∷ 0 ∷ []
 
@@ -35,10 +35,10 @@ sequential_start = dc_table ∷ (0xc0, plain_frame 8 8) ∷ ones_table ∷ []
 abbrev pub progressive_start : List Segment
 progressive_start = ac_table ∷ dc_table ∷ (0xc2, plain_frame 8 8) ∷ ones_table ∷ []
 
--- behind all of DC
-abbrev pub behind_dc : List Segment
-behind_dc = (0xda, scan_contents 0 0 0) ∷ progressive_start
+-- after all of DC
+abbrev pub after_dc : List Segment
+after_dc = (0xda, scan_contents 0 0 0) ∷ progressive_start
 
--- behind a first pass of AC down to bit 1
+-- after a first pass of AC down to bit 1
 abbrev pub behind_first : List Segment
-behind_first = (0xda, scan_contents 1 63 0x01) ∷ behind_dc
+behind_first = (0xda, scan_contents 1 63 0x01) ∷ after_dc

@@ -1,4 +1,4 @@
--- What the contents of a segment of Huffman tables tell, table by table, or the first fault that they show (T.81, B.2.4.2).
+-- What the contents of a segment of Huffman tables mean, table by table, or their first fault (T.81, B.2.4.2).
 use Rattle.std.specs.Prelude.{ℕ, zero, suc, ◌+◌, ◌/◌, ◌%◌, nat_lt, not, ◌||◌, ◌==◌, if◌then◌else◌, List, [], ◌∷◌, length, sum, take, drop, slice_get, slice_set, Option, Some, Ok, Err}
 use Rattle.jpg_spec.specs.Lists.{slot_value}
 use Rattle.jpg_spec.specs.Codes.{are_codes}
@@ -13,7 +13,7 @@ pub record HuffmanDefinition : Type 0 where
   pub slot : ℕ
   pub table : HuffmanTable
 
--- Behind the byte of class and slot stand 16 counts, of codes of 1 to 16 bits, and then the symbols.
+-- After the byte of class and slot follow 16 counts, of codes of 1 to 16 bits, and then the symbols.
 abbrev pub counts_of : List ℕ → List ℕ
 counts_of bytes = take 16 bytes
 
@@ -50,7 +50,7 @@ huffman_tables_of (suc most) (tc ∷ bytes) =
 abbrev pub huffman_tables : List ℕ → Told (List HuffmanDefinition)
 huffman_tables contents = huffman_tables_of (length contents) contents
 
--- The slots of both classes, and what they hold after a segment: a later table of a slot takes the place of an earlier one.
+-- The slots of both classes, and their tables after a segment: a later table of a slot replaces an earlier one.
 pub record HuffmanSlots : Type 0 where
   pub dc : List (Option HuffmanTable)
   pub ac : List (Option HuffmanTable)

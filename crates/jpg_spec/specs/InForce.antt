@@ -1,5 +1,6 @@
--- WHAT IS IN FORCE after segments: the last definitions among them (T.81, B.2.2, B.2.4). Lists of segments have the newest first.
-use Rattle.std.specs.Prelude.{ℕ, ◌&&◌, ◌==◌, if◌then◌else◌, List, [], ◌∷◌, ◌++◌, reverse, Option, Some, None, Ok, Err, find, option_map, option_and_then, unwrap_or}
+-- WHAT IS IN FORCE after segments: the last definitions among them (T.81, B.2.2, B.2.4). Lists of segments have the
+-- newest first.
+use Rattle.std.specs.Prelude.{ℕ, ◌&&◌, ◌==◌, if◌then◌else◌, List, [], ◌∷◌, ◌++◌, reverse, Option, Some, None, Ok, Err, find, option_map, option_and_then, unwrap_or, length, map}
 use Rattle.jpg_spec.specs.Faults.{Told}
 use Rattle.jpg_spec.specs.Geometry.{Frame}
 use Rattle.jpg_spec.specs.Segments.{HuffmanTable, QuantTable, ScanHead}
@@ -7,9 +8,13 @@ use Rattle.jpg_spec.specs.FrameContents.{frame_header}
 use Rattle.jpg_spec.specs.HuffContents.{HuffmanDefinition, huffman_tables}
 use Rattle.jpg_spec.specs.QuantContents.{quant_tables}
 use Rattle.jpg_spec.specs.ScanContents.{restart_interval, scan_header}
-use Rattle.jpg_spec.specs.Markers.{Segment, process_of_code}
+use Rattle.jpg_spec.specs.Markers.{Segment, process_of_code, kept_after}
 use Rattle.jpg_spec.specs.declared.frame.Process.TheVariants.{Baseline}
 use Rattle.jpg_spec.specs.declared.frame.Limits.{Limits}
+use Rattle.jpg_spec.specs.FrameHeader.{identifiers}
+use Rattle.jpg_spec.specs.Jfif.{adobe_transform, jfif_of}
+use Rattle.jpg_spec.specs.Colours.{colours_of}
+use Rattle.jpg_spec.specs.declared.frame.Colour.{Colour}
 
 abbrev pub told_list : {X : Type 0} → Told (List X) → List X
 told_list (Ok xs) = xs
@@ -57,7 +62,7 @@ quants_defined (s ∷ before) = (if s.0 == 0xdb then reverse (told_list (quant_t
 abbrev pub quant_in_force : List Segment → ℕ → Option QuantTable
 quant_in_force before slot = option_map (λ d. d.1) (find (λ d. d.0 == slot) (quants_defined before))
 
--- the restart interval, 0 where none was told
+-- the restart interval, 0 if none was defined
 abbrev pub restart_in_force : List Segment → ℕ
 restart_in_force [] = 0
 restart_in_force (s ∷ before) = if s.0 == 0xdd then told_or 0 (restart_interval s.1) else restart_in_force before
@@ -72,3 +77,13 @@ head_in f contents = told_or no_head (scan_header f contents)
 abbrev pub heads_of : Frame → List Segment → List ScanHead
 heads_of f [] = []
 heads_of f (s ∷ before) = if s.0 == 0xda then head_in f s.1 ∷ heads_of f before else heads_of f before
+
+-- the colours by the segments, and the factors of their frame
+abbrev pub colours_after : Limits → List Segment → Colour
+colours_after limits before =
+    let f = frame_of limits before in
+    let kept = reverse (kept_after before) in
+    colours_of (length f.components) (identifiers f.components) (jfif_of kept).seen (adobe_transform kept)
+
+abbrev pub factors_after : Limits → List Segment → List (ℕ × ℕ)
+factors_after limits before = map (λ c. (c.h, c.v)) (frame_of limits before).components

@@ -1,4 +1,5 @@
--- WHAT A FILE IS MADE OF (T.81, B.1.1, B.2.1): SOI, segments and scans, EOI; and the rules for all of them. Lists of items have the newest first.
+-- WHAT A FILE IS MADE OF (T.81, B.1.1, B.2.1): SOI, segments and scans, EOI; and the rules for all of them. Lists of
+-- items have the newest first.
 use Rattle.std.specs.Prelude.{◌≡◌, ℕ, ◌+◌, ◌%◌, Bool, true, false, ◌==◌, if◌then◌else◌, List, [], ◌∷◌, ◌++◌, map, Option, Some, None, Ok, Err}
 use Rattle.jpg_spec.specs.Bits.{SpellsData}
 use Rattle.jpg_spec.specs.Faults.{Told}
@@ -13,7 +14,8 @@ use Rattle.jpg_spec.specs.declared.fault.Fault.{Fault}
 use Rattle.jpg_spec.specs.declared.frame.Process.{Process}
 use Rattle.jpg_spec.specs.declared.frame.Limits.{Limits}
 
--- A marker segment that is neither SOS nor EOI, or a scan: the contents of its SOS segment, and the data bytes of its intervals.
+-- A marker segment that is neither SOS nor EOI, or a scan: the contents of its SOS segment, and the data bytes of its
+-- intervals.
 pub data Item : Type 0 where
   segment : ℕ → List ℕ → Item
   scan : List ℕ → List (List ℕ) → Item
@@ -39,7 +41,7 @@ SpellsItem (segment code contents) bytes = SpellsSegment code contents bytes × 
 SpellsItem (scan contents intervals) bytes =
     (front : List ℕ) × (rest : List ℕ) × (bytes ≡ front ++ rest) × SpellsSegment 0xda contents front × SpellsIntervalsText 0 intervals rest
 
--- SOI, and then the items
+-- SOI followed by the items
 abbrev pub SpellsFront : List Item → List ℕ → Type 0
 SpellsFront [] bytes = bytes ≡ soi
 SpellsFront (item ∷ before) bytes =
@@ -61,7 +63,7 @@ abbrev pub frame_fault : Limits → Option Process → List ℕ → Option Fault
 frame_fault limits None contents = None
 frame_fault limits (Some process) contents = fault_in (frame_header limits process contents)
 
--- the first fault of a whole segment after these segments
+-- the first fault of a complete segment after these segments
 abbrev pub contents_rule : Limits → Rule
 contents_rule limits before code contents =
     if code == 0xc4 then fault_in (huffman_tables contents)

@@ -1,5 +1,5 @@
--- MARKERS AND SEGMENTS, as they stand in a file (T.81, B.1.1.2 to B.1.1.4, Table B.1), and which of them may stand where.
--- Lists of segments have the newest first.
+-- MARKERS AND SEGMENTS in a file (T.81, B.1.1.2 to B.1.1.4, Table B.1), and where each is allowed. Lists of segments
+-- have the newest first.
 use Rattle.std.specs.Prelude.{◌≡◌, ◌⊎◌, ℕ, suc, ◌+◌, ◌<◌, ◌≤◌, Bool, true, false, nat_lt, nat_le, not, ◌&&◌, ◌||◌, ◌==◌, if◌then◌else◌, List, [], ◌∷◌, ◌++◌, length, take, replicate, Option, Some, None}
 use Rattle.std.specs.Int.{to_be_bytes, w16}
 use Rattle.jpg_spec.specs.Bits.{IsMarkerCode}
@@ -13,7 +13,7 @@ use Rattle.jpg_spec.specs.declared.frame.Process.{Process}
 use Rattle.jpg_spec.specs.declared.frame.Process.TheVariants.{Baseline, Extended, Progressive}
 use Rattle.jpg_spec.specs.declared.frame.Limits.{Limits}
 
--- HOW THEY ARE SPELLED
+-- THEIR BYTES
 
 -- a code and contents
 abbrev pub Segment : Type 0
@@ -34,13 +34,13 @@ abbrev pub SpellsSegment : ℕ → List ℕ → List ℕ → Type 0
 SpellsSegment code contents bytes =
     (marker : List ℕ) × SpellsMarker code marker × (length contents + 2 < 65536) × (bytes ≡ marker ++ to_be_bytes w16 (length contents + 2) ++ contents)
 
--- SOI, and then segments, of which none is an EOI. Behind an SOS segment the data of its scan are left out.
+-- SOI, and then segments, none of which is an EOI. The data of a scan after an SOS segment are left out.
 abbrev pub SpellsSegments : List Segment → List ℕ → Type 0
 SpellsSegments [] bytes = bytes ≡ soi
 SpellsSegments (s ∷ before) bytes =
     (front : List ℕ) × (rest : List ℕ) × (bytes ≡ front ++ rest) × SpellsSegments before front × SpellsSegment s.0 s.1 rest × (s.0 ≡ 0xd9 → ⊥)
 
--- WHICH CODES MAY STAND WHERE (Table B.1)
+-- WHICH CODES ARE ALLOWED WHERE (Table B.1)
 
 -- the process of a frame's code
 abbrev pub process_of_code : ℕ → Option Process
@@ -58,7 +58,7 @@ has_scan segments = any_of (λ s. s.0 == 0xda) segments
 abbrev pub is_within : ℕ → ℕ → ℕ → Bool
 is_within low high code = nat_le low code && nat_le code high
 
--- reserved codes, TEM, RST, SOI and JPGn, which stand alone or stand for nothing
+-- reserved codes, TEM, RST, SOI and JPGn, which have no segment or no meaning
 abbrev pub is_unexpected : ℕ → Bool
 is_unexpected code = is_within 0x01 0xbf code || (is_within 0xd0 0xd8 code || is_within 0xf0 0xfd code)
 
@@ -66,7 +66,7 @@ is_unexpected code = is_within 0x01 0xbf code || (is_within 0xd0 0xd8 code || is
 abbrev pub is_unsupported : ℕ → Bool
 is_unsupported code = code == 0xc3 || (is_within 0xc5 0xcf code || (code == 0xdc || (code == 0xde || code == 0xdf)))
 
--- what a marker's code may not be after these segments, where one was seen or none
+-- the fault of a marker's code after these segments, by whether a frame header was seen
 abbrev pub code_fault_if : Bool → ℕ → Option Fault
 code_fault_if framed code =
     if is_unexpected code || code == 0xd9 && not framed then Some UnexpectedMarker
@@ -92,7 +92,8 @@ abbrev pub kept_after : List Segment → List Segment
 kept_after [] = []
 kept_after (s ∷ before) = if is_kept before s.0 s.1 then s ∷ kept_after before else kept_after before
 
--- Each counts its contents and 4 more, but the first JFIF segment of exactly 14 bytes and the first Adobe segment of exactly 12 count nothing.
+-- Each counts as its contents and 4 more, but the first JFIF segment of exactly 14 bytes and the first Adobe segment of
+-- exactly 12 count as nothing.
 abbrev pub is_plain_jfif : Segment → Bool
 is_plain_jfif s = is_jfif s && length s.1 == 14
 
@@ -125,13 +126,13 @@ abbrev pub Pass : Rule → List Segment → Type 0
 Pass rule [] = Unit {0}
 Pass rule (s ∷ before) = (code_fault before s.0 ≡ None) × (rule before s.0 s.1 ≡ None) × Pass rule before
 
--- WHAT SHOWS A FAULT: how some first bytes are made, up to and with the one that shows it
+-- WHICH BYTES HAVE A FAULT: what some first bytes are, up to and with the one that reveals it
 
 -- byte 1 isn't FF, or byte 2 isn't D8
-abbrev pub ShowsNoStart : List ℕ → Type 0
-ShowsNoStart bytes = ((b : ℕ) × (bytes ≡ b ∷ []) × (b ≡ 255 → ⊥)) ⊎ ((b : ℕ) × (bytes ≡ 255 ∷ b ∷ []) × (b ≡ 0xd8 → ⊥))
+abbrev pub RevealsNoStart : List ℕ → Type 0
+RevealsNoStart bytes = ((b : ℕ) × (bytes ≡ b ∷ []) × (b ≡ 255 → ⊥)) ⊎ ((b : ℕ) × (bytes ≡ 255 ∷ b ∷ []) × (b ≡ 0xd8 → ⊥))
 
--- whole segments that break no rule, and then bytes of something more
+-- complete segments that break no rule, and then bytes of something more
 pub record Between (rule : Rule) (bytes : List ℕ) (before : List Segment) (tail : List ℕ) : Type 0 where
   pub front : List ℕ
   pub cut : bytes ≡ front ++ tail
@@ -142,35 +143,35 @@ pub record Between (rule : Rule) (bytes : List ℕ) (before : List Segment) (tai
 abbrev pub NoMarkerBytes : List ℕ → Type 0
 NoMarkerBytes tail = ((b : ℕ) × (tail ≡ b ∷ []) × (b ≡ 255 → ⊥)) ⊎ ((fill : ℕ) × (tail ≡ replicate (suc fill) 255 ++ 0 ∷ []))
 
--- a marker that begins a segment and may stand here
+-- a marker that begins a segment and is allowed here
 abbrev pub BeginsSegment : List Segment → ℕ → List ℕ → Type 0
 BeginsSegment before code marker = SpellsMarker code marker × (code_fault before code ≡ None) × (code ≡ 0xd9 → ⊥)
 
--- a marker that may not stand here
-abbrev pub ShowsCode : List Segment → Fault → List ℕ → Type 0
-ShowsCode before fault tail = (code : ℕ) × SpellsMarker code tail × (code_fault before code ≡ Some fault)
+-- a marker that isn't allowed here
+abbrev pub RevealsCode : List Segment → Fault → List ℕ → Type 0
+RevealsCode before fault tail = (code : ℕ) × SpellsMarker code tail × (code_fault before code ≡ Some fault)
 
 -- a length that doesn't count itself
-abbrev pub ShowsLength : List Segment → List ℕ → Type 0
-ShowsLength before tail =
+abbrev pub RevealsLength : List Segment → List ℕ → Type 0
+RevealsLength before tail =
     (code : ℕ) × (marker : List ℕ) × (high : ℕ) × (low : ℕ) × BeginsSegment before code marker × (tail ≡ marker ++ high ∷ low ∷ []) × (two_bytes high low < 2)
 
--- a whole segment that breaks the rule
-abbrev pub ShowsSegment : Rule → List Segment → Fault → List ℕ → Type 0
-ShowsSegment rule before fault tail =
+-- a complete segment that breaks the rule
+abbrev pub RevealsSegment : Rule → List Segment → Fault → List ℕ → Type 0
+RevealsSegment rule before fault tail =
     (code : ℕ) × (contents : List ℕ) × SpellsSegment code contents tail × (code_fault before code ≡ None) × (code ≡ 0xd9 → ⊥) × (rule before code contents ≡ Some fault)
 
--- what the bytes behind whole segments show
-abbrev pub TailShows : Rule → List Segment → Fault → List ℕ → Type 0
-TailShows rule before fault tail = ShowsCode before fault tail ⊎ (((fault ≡ BadLength) × ShowsLength before tail) ⊎ ShowsSegment rule before fault tail)
+-- the fault of the bytes after complete segments
+abbrev pub TailReveals : Rule → List Segment → Fault → List ℕ → Type 0
+TailReveals rule before fault tail = RevealsCode before fault tail ⊎ (((fault ≡ BadLength) × RevealsLength before tail) ⊎ RevealsSegment rule before fault tail)
 
--- what segments show, by a rule
-abbrev pub SegmentsShow : Rule → Fault → List ℕ → Type 0
-SegmentsShow rule fault bytes =
-    ((fault ≡ NotJpeg) × ShowsNoStart bytes)
-    ⊎ ((before : List Segment) × (tail : List ℕ) × Between rule bytes before tail × (((fault ≡ NoMarker) × NoMarkerBytes tail) ⊎ TailShows rule before fault tail))
+-- the fault of segments, by a rule
+abbrev pub SegmentsReveal : Rule → Fault → List ℕ → Type 0
+SegmentsReveal rule fault bytes =
+    ((fault ≡ NotJpeg) × RevealsNoStart bytes)
+    ⊎ ((before : List Segment) × (tail : List ℕ) × Between rule bytes before tail × (((fault ≡ NoMarker) × NoMarkerBytes tail) ⊎ TailReveals rule before fault tail))
 
--- WHAT THE BYTES COME TO with their last one
+-- THE RESULT OF THE BYTES at their last one
 
 -- fill bytes, a marker, a byte of the length, or fewer bytes than the length counts
 abbrev pub PartOfSegment : List Segment → List ℕ → Type 0
@@ -182,7 +183,7 @@ PartOfSegment before tail =
     ⊎ ((high : ℕ) × (low : ℕ) × (contents : List ℕ) × (tail ≡ marker ++ high ∷ low ∷ contents) × (high < 256) × (low < 256)
     × (length contents + 2 < two_bytes high low)))))
 
--- SOI; the marker of a frame header; EOI; a whole segment; a fault; or nothing of these yet
+-- SOI; the marker of a frame header; EOI; a complete segment; a fault; or none of these yet
 pub data Reached : Type 0 where
   at_soi : Reached
   at_frame : Reached
@@ -197,10 +198,10 @@ Reaches rule bytes at_frame =
     (before : List Segment) × (tail : List ℕ) × Between rule bytes before tail × ((code : ℕ) × BeginsSegment before code tail × (is_frame_code code ≡ true))
 Reaches rule bytes at_eoi = (before : List Segment) × (tail : List ℕ) × Between rule bytes before tail × SpellsMarker 0xd9 tail × (code_fault before 0xd9 ≡ None)
 Reaches rule bytes (at_segment s) = (before : List Segment) × SpellsSegments (s ∷ before) bytes × Pass rule (s ∷ before)
-Reaches rule bytes (at_fault f) = SegmentsShow rule f bytes
+Reaches rule bytes (at_fault f) = SegmentsReveal rule f bytes
 Reaches rule bytes at_part = ((bytes ≡ []) ⊎ (bytes ≡ 255 ∷ [])) ⊎ ((before : List Segment) × (tail : List ℕ) × Between rule bytes before tail × PartOfSegment before tail × (tail ≡ [] → ⊥))
 
--- THE LEAST FRONT that shows a fault, and the first that it shows
+-- THE SHORTEST PREFIX that has a fault, and its first fault
 
 abbrev pub IsLeast : (Fault → List ℕ → Type 0) → List ℕ → Fault → ℕ → Type 0
 IsLeast shows bytes fault n =

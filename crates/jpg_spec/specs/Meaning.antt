@@ -1,6 +1,7 @@
--- WHAT A FILE MEANS: its frame's numbers, its components with their quantisation tables, the real blocks, and the markers kept (T.81, B.2.1).
-use Rattle.std.specs.Prelude.{ℕ, nat_lt, ◌&&◌, if◌then◌else◌, List, length, map}
-use Rattle.jpg_spec.specs.Geometry.{Frame, is_real}
+-- WHAT A FILE MEANS: its frame's numbers, its components with their quantisation tables, the real blocks, and the
+-- markers kept (T.81, B.2.1).
+use Rattle.std.specs.Prelude.{ℕ, nat_lt, ◌&&◌, if◌then◌else◌, List, length, map, [], slice_index_or}
+use Rattle.jpg_spec.specs.Geometry.{Frame, is_real, greatest}
 use Rattle.jpg_spec.specs.Segments.{QuantTable}
 use Rattle.jpg_spec.specs.Elements.{zeros}
 use Rattle.jpg_spec.specs.Scan.{Blocks}
@@ -24,7 +25,7 @@ pub record Meaning : Type 0 where
   pub blocks : Blocks
   pub kept : List (ℕ × List ℕ)
 
--- the real blocks alone, and zeros elsewhere, so that equal pictures are equal meanings
+-- only the real blocks, and zeros elsewhere, so that equal pictures are equal meanings
 abbrev pub real_blocks : Frame → Blocks → Blocks
 real_blocks f blocks i x y = if nat_lt i (length f.components) && is_real f i x y then blocks i x y else zeros 64
 
@@ -41,3 +42,18 @@ picture_frame M = record {
   height = M.height;
   components = map (λ c. record { id = c.id; h = c.h; v = c.v; quant = 0 }) M.components;
 }
+
+-- GRAYSCALE: only component 1, with factors 1 by 1
+
+-- only the real blocks
+abbrev pub real_alone : Meaning → Meaning
+real_alone M = record M { blocks = real_blocks (picture_frame M) M.blocks }
+
+abbrev pub most_across : Meaning → ℕ
+most_across M = greatest (map (λ c. c.h) M.components)
+
+abbrev pub most_down : Meaning → ℕ
+most_down M = greatest (map (λ c. c.v) M.components)
+
+abbrev pub component_of : Meaning → ℕ → PictureComponent
+component_of M i = slice_index_or M.components i (record { id = 0; h = 1; v = 1; quants = [] })

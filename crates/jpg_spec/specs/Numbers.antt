@@ -1,6 +1,5 @@
 -- The category of a number, and its additional bits (T.81, F.1.2).
-use Rattle.std.specs.Prelude.{ℕ, zero, suc, ◌+◌, ◌-◌, ◌/◌, ◌^◌, Bool, true, false, ◌==◌, List}
-use Rattle.std.specs.Prelude.{ℤ, pos, negsuc, nat_abs}
+use Rattle.std.specs.Prelude.{ℕ, zero, suc, ◌+◌, ◌-◌, ◌/◌, ◌^◌, Bool, true, false, ◌==◌, List, ℤ, pos, negsuc, nat_abs}
 use Rattle.jpg_spec.specs.Bits.{bits_of}
 
 -- the number of binary digits, 0 for 0 (The first number only bounds the recursion.)
@@ -14,7 +13,7 @@ digits n = digits_of n n
 abbrev pub category : ℤ → ℕ
 category v = digits (nat_abs v)
 
--- the bits that tell v among the numbers of its category: those of v, or of v + 2 ^ s - 1 where v is negative
+-- the bits that encode v among the numbers of its category: those of v, or of v + 2 ^ s - 1 if v is negative
 abbrev pub extra_bits : ℤ → List Bool
 extra_bits (pos n) = bits_of (digits n) n
 extra_bits (negsuc n) = bits_of (digits (n + 1)) (2 ^ digits (n + 1) - 1 - (n + 1))

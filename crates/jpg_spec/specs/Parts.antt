@@ -1,14 +1,15 @@
--- WHOLE ELEMENTS AND A PART OF ONE MORE (T.81, F.2.2, G.1.2): bits of its code; its code and some of its additional bits; or these and
--- some of its corrections. What was passed has its new values, and the rest is left. Of several bands that end, those passed have changed.
+-- COMPLETE ELEMENTS AND A PART OF ONE MORE (T.81, F.2.2, G.1.2): bits of its code; its code and some of its additional
+-- bits; or these and some of its corrections. What was skipped has its new values, and the rest is left. Of several
+-- bands that end, those that were passed have changed.
 use Rattle.std.specs.Prelude.{◌≡◌, ◌⊎◌, ℕ, ◌+◌, ◌-◌, ◌*◌, ◌<◌, ◌≤◌, true, false, Bool, List, [], ◌∷◌, ◌++◌, length, ℤ, Contains}
 use Rattle.jpg_spec.specs.Bits.{bits_of}
 use Rattle.jpg_spec.specs.Codes.{Code}
 use Rattle.jpg_spec.specs.Numbers.{category, extra_bits, digits}
 use Rattle.jpg_spec.specs.Elements.{Element, Coding, UnitLeft, Standing, Covers, SpellsUnits, codes_due, at_start, is_zero, zeros_in, nonzeros_in, corrected, old_values, are_in_bounds}
-use Rattle.jpg_spec.specs.ScanFaults.{DataShows}
+use Rattle.jpg_spec.specs.ScanFaults.{DataReveals}
 use Rattle.jpg_spec.specs.declared.fault.Fault.{Fault}
 
--- a unit of a band, of which these values are left
+-- a unit of a band, whose remaining values these are
 abbrev pub band_unit : ℕ → List ℤ → UnitLeft
 band_unit i old = record { component = i; has_dc = false; old = old }
 
@@ -20,16 +21,16 @@ BeginsCode codes bits = (code : Code) × (next : Bool) × (more : List Bool) × 
 abbrev pub IsFront : List Code → List Bool → Type 0
 IsFront codes bits = (bits ≡ []) ⊎ BeginsCode codes bits
 
--- PARTS, where these units are left, and `here` are the new values of what was passed
+-- PARTS, where these units are left, and `here` are the new values of what was skipped
 
--- No bits, or some bits of a code. (No code is due where a DC bit stands.)
+-- No bits, or some bits of a code. (A DC bit has no code.)
 pub record InCode (c : Coding) (s : Standing) (u : UnitLeft) (others : List UnitLeft) (here : List ℤ) (bits : List Bool) : Type 0 where
   pub left : s.left ≡ u ∷ others
   pub none : here ≡ []
   pub front : IsFront (codes_due c u) bits
   pub no_code : u.has_dc ≡ true → c.refines ≡ true → bits ≡ []
 
--- The code of a difference of this category, and bits behind it.
+-- The code of a difference of this category, and bits after it.
 pub record InDifference (c : Coding) (s : Standing) (u : UnitLeft) (others : List UnitLeft) (here : List ℤ) (bits : List Bool) (size : ℕ) (extra : List Bool) : Type 0 where
   pub code : List Bool
   pub left : s.left ≡ u ∷ others
@@ -41,7 +42,7 @@ pub record InDifference (c : Coding) (s : Standing) (u : UnitLeft) (others : Lis
   pub split : bits ≡ code ++ extra
   pub most : size ≤ c.bounds.dc_cat
 
--- The code of a value of this category behind a run of zeros, and bits behind it.
+-- The code of a value of this category after a run of zeros, and bits after it.
 pub record InNumber (c : Coding) (s : Standing) (u : UnitLeft) (others : List UnitLeft) (here : List ℤ) (bits : List Bool) (run size : ℕ) (extra : List Bool) : Type 0 where
   pub code : List Bool
   pub left : s.left ≡ u ∷ others
@@ -54,7 +55,7 @@ pub record InNumber (c : Coding) (s : Standing) (u : UnitLeft) (others : List Un
   pub short : run ≤ 15
   pub room : run < zeros_in u.old
 
--- The code of EOBn, and bits behind it.
+-- The code of EOBn, and bits after it.
 pub record InCount (c : Coding) (s : Standing) (u : UnitLeft) (others : List UnitLeft) (here : List ℤ) (bits : List Bool) (n : ℕ) (extra : List Bool) : Type 0 where
   pub code : List Bool
   pub left : s.left ≡ u ∷ others
@@ -64,7 +65,7 @@ pub record InCount (c : Coding) (s : Standing) (u : UnitLeft) (others : List Uni
   pub split : bits ≡ code ++ extra
   pub most : n ≤ c.most_run
 
--- A value, which stands behind so many more zeros.
+-- A value after this many more zeros.
 pub record InValue (c : Coding) (s : Standing) (u : UnitLeft) (others : List UnitLeft) (here : List ℤ) (bits : List Bool) (run : ℕ) (v : ℤ) : Type 0 where
   pub passed : List ℤ
   pub code : List Bool
@@ -82,7 +83,7 @@ pub record InValue (c : Coding) (s : Standing) (u : UnitLeft) (others : List Uni
   pub each : nonzeros_in passed ≡ length corrections
   pub told : here ≡ corrected c.al passed corrections
 
--- Sixteen zeros (ZRL), of which so many are to be passed before the last one.
+-- Sixteen zeros (ZRL), of which this many are to be skipped before the last one.
 pub record InLong (c : Coding) (s : Standing) (u : UnitLeft) (others : List UnitLeft) (here : List ℤ) (bits : List Bool) (run : ℕ) : Type 0 where
   pub passed : List ℤ
   pub code : List Bool
@@ -95,7 +96,8 @@ pub record InLong (c : Coding) (s : Standing) (u : UnitLeft) (others : List Unit
   pub each : nonzeros_in passed ≡ length corrections
   pub told : here ≡ corrected c.al passed corrections
 
--- The ends of bands. Of these some units are passed whole, and some first values of the next; with that one so many bands still end.
+-- An end-of-band run. Some units of it were passed completely, and some first values of the next; including that one
+-- this many bands still end.
 pub record InEnds (c : Coding) (s : Standing) (u : UnitLeft) (others : List UnitLeft) (here : List ℤ) (bits : List Bool) (bands : ℕ) : Type 0 where
   pub unit : UnitLeft
   pub units : List UnitLeft
@@ -116,9 +118,10 @@ pub record InEnds (c : Coding) (s : Standing) (u : UnitLeft) (others : List Unit
   pub each : nonzeros_in (old_values whole ++ first) ≡ length corrections
   pub told : here ≡ corrected c.al (old_values whole ++ first) corrections
 
--- A PART OF AN ELEMENT: no bits of it or some of its code; fewer additional bits than are due; or all of them, where a correction is due
+-- A PART OF AN ELEMENT: no bits of it or some of its code; fewer additional bits than it has; or all of them, where a
+-- correction follows
 
--- the next value that is left isn't zero, and takes a correction
+-- the next value that is left isn't zero, and needs a correction
 abbrev pub WantsCorrection : UnitLeft → Type 0
 WantsCorrection u = (o : ℤ) × (rest : List ℤ) × (u.old ≡ o ∷ rest) × (is_zero o ≡ false)
 
@@ -134,7 +137,8 @@ pub data PartOfElement (c : Coding) (s : Standing) (u : UnitLeft) (others : List
   in_long : (run : ℕ) → InLong c s u others here bits run → WantsCorrection u → PartOfElement c s u others here bits
   in_ends : (bands : ℕ) → InEnds c s u others here bits bands → WantsCorrection u → PartOfElement c s u others here bits
 
--- WHOLE ELEMENTS, AND THEN A PART OF ONE MORE: what they told, and the units that are left, the first of them perhaps in part.
+-- COMPLETE ELEMENTS, AND THEN A PART OF ONE MORE: what they encode, and the units that are left, the first of them
+-- perhaps in part.
 pub record StandsInUnits (c : Coding) (units : List UnitLeft) (told : List ℤ) (left : List UnitLeft) (bits : List Bool) : Type 0 where
   pub elements : List Element
   pub before : List ℤ
@@ -151,23 +155,23 @@ pub record StandsInUnits (c : Coding) (units : List UnitLeft) (told : List ℤ) 
   pub is_part : PartOfElement c standing unit others here part
   pub in_bounds : are_in_bounds c.bounds false here ≡ true
 
--- whatever they told, and whatever they leave
+-- whatever they encode, and whatever they leave
 abbrev pub AreUnderWay : Coding → List UnitLeft → List Bool → Type 0
 AreUnderWay c units bits = (told : List ℤ) × (left : List UnitLeft) × StandsInUnits c units told left bits
 
--- no first bits of these are a whole interval of the units, or show a fault
+-- no first bits of these are a complete interval of the units, or have a fault
 abbrev pub HoldsNoInterval : Coding → List UnitLeft → List Bool → Type 0
 HoldsNoInterval c units bits = (told : List ℤ) (front rest : List Bool) → SpellsUnits c units told front → bits ≡ front ++ rest → ⊥
 
-abbrev pub ShowsNoFault : Coding → List UnitLeft → List Bool → Type 0
-ShowsNoFault c units bits = (fault : Fault) (front rest : List Bool) → DataShows c units fault front → bits ≡ front ++ rest → ⊥
+abbrev pub RevealsNoFault : Coding → List UnitLeft → List Bool → Type 0
+RevealsNoFault c units bits = (fault : Fault) (front rest : List Bool) → DataReveals c units fault front → bits ≡ front ++ rest → ⊥
 
--- what such bits told and what they leave are all values of the units
+-- what such bits encode and what they leave are all values of the units
 abbrev pub CountsAll : Coding → List UnitLeft → List Bool → Type 0
 CountsAll c units bits =
     (told : List ℤ) (left : List UnitLeft) → StandsInUnits c units told left bits → length told + length (old_values left) ≡ length (old_values units)
 
--- one list of values, and one list of units: what such bits told and leave
+-- one list of values, and one list of units: what such bits encode and leave
 abbrev pub StandsInOneWay : Coding → List UnitLeft → List Bool → Type 0
 StandsInOneWay c units bits =
     (told told' : List ℤ) (left left' : List UnitLeft) → StandsInUnits c units told left bits → StandsInUnits c units told' left' bits

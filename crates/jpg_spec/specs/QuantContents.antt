@@ -1,11 +1,11 @@
--- What the contents of a segment of quantisation tables tell, table by table, or the first fault that they show (T.81, B.2.4.1).
+-- What the contents of a segment of quantisation tables mean, table by table, or their first fault (T.81, B.2.4.1).
 use Rattle.std.specs.Prelude.{ℕ, zero, suc, ◌/◌, ◌%◌, Bool, nat_lt, ◌||◌, ◌==◌, if◌then◌else◌, List, [], ◌∷◌, length, take, drop, slice_get, slice_set, Option, None, Some, Ok, Err}
 use Rattle.jpg_spec.specs.Lists.{any_of, slot_value}
 use Rattle.jpg_spec.specs.Faults.{Told, refuse}
 use Rattle.jpg_spec.specs.Segments.{QuantTable, two_bytes}
 use Rattle.jpg_spec.specs.declared.fault.Fault.TheVariants.{BadLength, BadQuant}
 
--- what is told of what is told before it
+-- a value or fault from the value before it
 infixl 10 ◌>>=◌
 abbrev pub ◌>>=◌ : {X Y : Type 0} → Told X → (X → Told Y) → Told Y
 (Ok x) >>= next = next x
@@ -16,7 +16,7 @@ pairs_told [] = []
 pairs_told (high ∷ []) = []
 pairs_told (high ∷ low ∷ bytes) = two_bytes high low ∷ pairs_told bytes
 
--- Behind the byte of precision and slot stand 64 quantisers in zigzag order, of one byte or of two.
+-- After the byte of precision and slot follow 64 quantisers in zigzag order, of one byte or of two.
 abbrev pub table_size : ℕ → ℕ
 table_size pt = if pt / 16 == 1 then 128 else 64
 
@@ -47,7 +47,7 @@ quant_tables_of (suc most) (pt ∷ bytes) =
 abbrev pub quant_tables : List ℕ → Told (List (ℕ × QuantTable))
 quant_tables contents = quant_tables_of (length contents) contents
 
--- The four slots, and what they hold after a segment: a later table of a slot takes the place of an earlier one.
+-- The four slots, and their tables after a segment: a later table of a slot replaces an earlier one.
 abbrev pub Slots : Type 0
 Slots = List (Option QuantTable)
 

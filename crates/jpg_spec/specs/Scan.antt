@@ -45,8 +45,8 @@ scan_coding f tables head =
       ac = λ i. codes_of (tables 1 (part_of head i).ac);
     }
 
--- The scan that a header begins, with the tables and the restart interval (in MCUs, 0 for none) in force.
--- A sequential scan has the whole band, whatever its header says.
+-- The scan that a header begins, with the tables and the restart interval (in MCUs, 0 for none) in force. A sequential
+-- scan has the complete band, whatever its header says.
 abbrev pub scan_of : Frame → TablesInForce → ℕ → ScanHead → Scan
 scan_of f tables restart head = record {
   places = units f (head_components head);
@@ -85,7 +85,7 @@ coefficient blocks i x y k = slice_index_or (blocks i x y) k (pos 0)
 abbrev pub is_named : Scan → ℕ → ℕ → ℕ → ℕ → Bool
 is_named s i x y k = any_of (λ p. p.component == i && p.x == x && p.y == y) s.places && nat_le s.ss k && nat_le k s.se
 
--- The scan leads from the blocks before to those after. What it doesn't name stays.
+-- The scan leads from the blocks before to those after. What it doesn't send doesn't change.
 pub record ScanMeans (s : Scan) (intervals : List (List ℕ)) (before after : Blocks) : Type 0 where
   pub spelled : SpellsIntervals s before after (chunks s.interval s.places) intervals
   pub rest : (i x y k : ℕ) → is_named s i x y k ≡ false → coefficient after i x y k ≡ coefficient before i x y k

@@ -1,4 +1,5 @@
--- What the contents of a restart interval's segment and of a scan header's tell, or the first fault that they show (T.81, B.2.3, B.2.4.4).
+-- What the contents of a restart interval's segment and of a scan header's mean, or their first fault (T.81, B.2.3,
+-- B.2.4.4).
 use Rattle.std.specs.Prelude.{◌≡◌, ℕ, ◌<◌, ◌≤◌, ◌+◌, ◌*◌, ◌/◌, ◌%◌, Bool, true, nat_lt, nat_le, not, ◌&&◌, ◌||◌, ◌==◌, if◌then◌else◌, List, [], ◌∷◌, length, slice_index, take, drop, All, Ok, Err}
 use Rattle.jpg_spec.specs.Lists.{all_of, is_among, is_distinct, index_of}
 use Rattle.jpg_spec.specs.Faults.{Told, refuse}
@@ -16,7 +17,7 @@ restart_interval contents = Err BadLength
 
 -- SCAN HEADER
 
--- Two bytes a component: its identifier and its table slots.
+-- Two bytes per component: its identifier and its table slots.
 abbrev pub ids_told : List ℕ → List ℕ
 ids_told [] = []
 ids_told (id ∷ []) = []
@@ -30,7 +31,7 @@ parts_told f [] = []
 parts_told f (id ∷ []) = []
 parts_told f (id ∷ slots ∷ bytes) = part_told f id slots ∷ parts_told f bytes
 
--- DC alone, or a band of AC of one component; Ah is 0 or one more than Al (T.81, G.1.1.1)
+-- DC, or a band of AC of one component; Ah is 0 or one more than Al (T.81, G.1.1.1)
 abbrev pub is_band : ℕ → ScanHead → Bool
 is_band count head = if head.ss == 0 then head.se == 0 else count == 1 && (nat_le head.ss head.se && nat_le head.se 63)
 
@@ -63,7 +64,8 @@ scan_header f (count ∷ bytes) =
     refuse BadLength (not (length bytes == 2 * count + 3))
     (checked_head f count (ids_told (take (2 * count) bytes)) (head_told f (take (2 * count) bytes) (drop (2 * count) bytes)))
 
--- WHAT A SCAN HEADER THAT IS ACCEPTED SAYS: one to four distinct components of the frame, and several of at most ten blocks an MCU
+-- WHAT AN ACCEPTED SCAN HEADER IS: one to four distinct components of the frame, and several of at most ten blocks per
+-- MCU
 
 pub record IsHead (f : Frame) (head : ScanHead) : Type 0 where
   pub some : 1 ≤ length head.parts

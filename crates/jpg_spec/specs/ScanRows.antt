@@ -10,6 +10,6 @@ scan_row f [] k = []
 scan_row f (i ∷ []) k = map (λ x. place f i x k) (below (blocks_across f (component_at f i)))
 scan_row f (i ∷ j ∷ more) k = flat_map (λ mx. flat_map (mcu_part f mx k) (i ∷ j ∷ more)) (below (mcus_across f))
 
--- those of so many first MCU rows
+-- those of this many first MCU rows
 abbrev pub first_rows : Frame → List ℕ → ℕ → List Place
 first_rows f components rows = flat_map (scan_row f components) (below rows)

@@ -1,14 +1,14 @@
--- What marker segments hold: quantisation tables, Huffman tables and scan headers (T.81, B.2.3, B.2.4).
-use Rattle.std.specs.Prelude.{ℕ, ◌*◌, ◌+◌, ◌^◌, Bool, not, nat_lt, ◌==◌, ◌&&◌, ◌||◌, List, map}
+-- The contents of marker segments: quantisation tables, Huffman tables and scan headers (T.81, B.2.3, B.2.4).
+use Rattle.std.specs.Prelude.{ℕ, ◌*◌, ◌+◌, ◌^◌, Bool, not, nat_lt, ◌==◌, ◌&&◌, ◌||◌, List, map, ◌≡◌, ◌<◌, ◌≤◌, length, All}
 use Rattle.jpg_spec.specs.Codes.{Code, codes}
 use Rattle.jpg_spec.specs.declared.frame.ScanPart.{ScanPart}
 use Rattle.jpg_spec.specs.declared.frame.Limits.{Limits}
 
--- the limits of the profile
+-- the standard limits
 abbrev pub standard_limits : Limits
 standard_limits = record { side = 65500; blocks = 8388608; kept = 2 ^ 28; input = 2 ^ 40 }
 
--- the bytes of an input that are taken at most where it is held as a whole
+-- the limit of an input that is read completely into memory, in bytes
 abbrev pub taken_limit : ℕ
 taken_limit = 2 ^ 28
 
@@ -39,9 +39,17 @@ pub record ScanHead : Type 0 where
 abbrev pub head_components : ScanHead → List ℕ
 head_components head = map (λ p. p.component) head.parts
 
--- which tables a scan needs, by its process, ss and ah (G.1.2): DC tables in a first pass of DC, AC tables where its band begins behind DC
+-- which tables a scan needs, by its process, ss and ah (G.1.2): DC tables in a first pass of DC, AC tables if its band
+-- begins after DC
 abbrev pub needs_dc : Bool → ℕ → ℕ → Bool
 needs_dc is_prog ss ah = not is_prog || ss == 0 && ah == 0
 
 abbrev pub needs_ac : Bool → ℕ → Bool
 needs_ac is_prog ss = not is_prog || nat_lt 0 ss
+
+-- 64 quantisers of two bytes, none of them 0
+abbrev pub IsQuantiser : ℕ → Type 0
+IsQuantiser q = (1 ≤ q) × (q < 65536)
+
+abbrev pub AreQuantisers : List ℕ → Type 0
+AreQuantisers quants = (length quants ≡ 64) × All IsQuantiser quants

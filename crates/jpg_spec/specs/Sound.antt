@@ -1,4 +1,4 @@
--- CODINGS BY VALID TABLES (T.81, Annex C, F.1.2, G.1.2): what readers and writers of data may rest on.
+-- CODINGS BY VALID TABLES (T.81, Annex C, F.1.2, G.1.2): what readers and writers of data may rely on.
 use Rattle.std.specs.Prelude.{◌≡◌, ◌⊎◌, ℕ, ◌≤◌, true, List, [], Some}
 use Rattle.jpg_spec.specs.Codes.{Code, codes, AreCodes, are_codes}
 use Rattle.jpg_spec.specs.Segments.{HuffmanTable}

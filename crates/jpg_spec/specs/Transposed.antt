@@ -1,9 +1,10 @@
--- A block or a table with its frequencies exchanged (T.81, A.3.6 for the places).
+-- A block or a table with its axes exchanged (T.81, A.3.6 for the places).
 use Rattle.std.specs.Prelude.{ℕ, ◌+◌, ◌*◌, ◌/◌, ◌%◌, List, map, slice_index_or}
 use Rattle.jpg_spec.specs.Lists.{index_of}
-use Rattle.jpg_spec.specs.Moves.{zigzag}
+use Rattle.jpg_spec.specs.Zigzag.{zigzag}
 
--- the place in zigzag order of the frequencies exchanged, where the natural index is n = 8 * v + u
+-- the place in zigzag order with the horizontal and the vertical frequency exchanged, where the natural index is n = 8
+-- * v + u
 abbrev pub exchanged : ℕ → ℕ
 exchanged n = index_of (8 * (n % 8) + n / 8) zigzag
 

@@ -1,4 +1,5 @@
--- Pictures with 64 numbers in each block and in each quantisation table, as each file's picture has them (T.81, A.3.3, B.2.4.1).
+-- Pictures with 64 numbers in each block and in each quantisation table, as each file's picture has them (T.81, A.3.3,
+-- B.2.4.1).
 use Rattle.std.specs.Prelude.{◌≡◌, ℕ, length, All}
 use Rattle.jpg_spec.specs.Meaning.{Meaning}
 

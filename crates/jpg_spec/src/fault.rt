@@ -1,15 +1,15 @@
-//! The faults of an input, in the order in which they go before one another.
+//! The faults of an input, in the order of their priority.
 ghost use Rattle.std.specs.Prelude.{◌≡◌};
 ghost use Rattle.jpg_spec.specs.Faults.{fault_name};
 
-/// Why an input is refused. Of faults that stand at one place the first in this order is told.
+/// Why an input is refused. Of faults at one place the first in this order is reported.
 #[derive(Clone, Copy, Debug, PartialEq, Eq)]
 pub enum Fault {
-    /// What isn't built yet.
+    /// A command that isn't built yet.
     NotBuilt,
     /// Byte 1 isn't FF, or byte 2 isn't D8.
     NotJpeg,
-    /// The input ends before EOI is whole, and shows no other fault.
+    /// The input ends before EOI is complete, and has no other fault.
     Truncated,
     /// Where an item begins outside scan data, a byte other than FF, or 00 after FF bytes (B.1.1.2).
     NoMarker,
@@ -39,7 +39,7 @@ pub enum Fault {
     DuplicateComponent,
     /// A component's quantisation table slot is above 3.
     QuantSlot,
-    /// The padded grids hold too many blocks.
+    /// The padded grids have too many blocks.
     TooManyBlocks,
     /// A quantisation table's precision, slot or entry isn't allowed (B.2.4.1).
     BadQuant,
@@ -61,11 +61,11 @@ pub enum Fault {
     QuantChanged,
     /// Bits that begin no code of the table.
     NoCode,
-    /// A symbol that may not stand where it is.
+    /// A symbol that isn't allowed where it is.
     BadSymbol,
     /// A run of zeros past the end of the band.
     BadRun,
-    /// A value that leaves the range of the precision.
+    /// A value out of the range of the precision.
     CoefRange,
     /// An end-of-band run past the end of its interval.
     RunPastEnd,
@@ -73,23 +73,23 @@ pub enum Fault {
     EntropyShort,
     /// A data byte after the interval's last unit.
     ExtraData,
-    /// Another marker than the RST that is due (E.1.4).
+    /// A marker other than the expected RST (E.1.4).
     RestartWrong,
     /// EOI while a component was in no scan.
     MissingComponent,
-    /// The most bytes that may be taken hold no whole file, and show no fault.
+    /// The input reaches its limit without being a complete file, and has no other fault.
     InputTooLong,
-    /// Colours that can't be shown.
+    /// Colours that can't be displayed.
     ColourOut,
-    /// A component whose sampling ratio isn't whole.
+    /// A component whose sampling ratio isn't an integer.
     FractionalSampling,
-    /// The text of a script isn't one.
+    /// The text of a script is malformed.
     ScriptText,
-    /// The text of quantisation tables isn't one.
+    /// The text of quantisation tables is malformed.
     TableText,
     /// A comment above 65,000 bytes.
     CommentTooLong,
-    /// An image's text isn't one.
+    /// The text of an image is malformed.
     ImageText,
     /// An image's header isn't allowed.
     ImageHeader,
@@ -102,7 +102,7 @@ pub enum Fault {
 }
 
 impl Fault {
-    /// Its name, as messages give it.
+    /// Its name in messages.
     pub fn name(self) -> &'static str
         ensures { result.now ≡ fault_name self }
     {
@@ -156,4 +156,11 @@ impl Fault {
             Fault::ImageValue => "ImageValue",
         }
     }
+}
+
+/// A fault, and how many input bytes reveal it.
+#[derive(Clone, Copy, Debug, PartialEq, Eq)]
+pub struct FaultAt {
+    pub fault: Fault,
+    pub at: u64,
 }

@@ -29,14 +29,14 @@ pub enum Colour {
 pub enum Copying {
     /// None of them.
     None,
-    /// Comments alone.
+    /// Only comments.
     Comments,
     /// All of them.
     All,
 }
 
-/// A component of a frame: its identifier, its sampling factors `h` across and `v` down (1 to 4),
-/// and the slot of its quantisation table (0 to 3) (T.81, B.2.2).
+/// A component of a frame: its identifier, its sampling factors, `h` horizontal and `v` vertical (1 to 4), and the slot
+/// of its quantisation table (0 to 3) (T.81, B.2.2).
 #[derive(Clone, Copy, Debug, PartialEq, Eq, Default)]
 pub struct Component {
     pub id: u8,
@@ -52,8 +52,8 @@ pub struct Grid {
     pub high: u32,
 }
 
-/// The place of a block: the component's index in the frame, the block's column and row, and
-/// whether it lies in the component's real grid (else it is a padding block) (T.81, A.2.4).
+/// The place of a block: the component's index in the frame, the block's column and row, and whether it is in the
+/// component's real grid (otherwise it is a padding block) (T.81, A.2.4).
 #[derive(Clone, Copy, Debug, PartialEq, Eq)]
 pub struct Place {
     pub component: u8,
@@ -62,8 +62,8 @@ pub struct Place {
     pub real: bool,
 }
 
-/// What a precision allows: the least and greatest DC, the greatest magnitude of AC, the greatest
-/// categories of a DC difference and of an AC value, the greatest point transform `al` (T.81, F.1.2, G.1.2).
+/// What a precision allows: the least and the greatest DC, the greatest magnitude of AC, the greatest categories of a
+/// DC difference and of an AC value, and the greatest point transform `al` (T.81, F.1.2, G.1.2).
 #[derive(Clone, Copy, Debug, PartialEq, Eq)]
 pub struct Bounds {
     pub dc_low: i32,
@@ -74,8 +74,8 @@ pub struct Bounds {
     pub al: u8,
 }
 
-/// The limits of the profile: the greatest side in samples, the greatest number of blocks in all
-/// padded grids, of bytes of kept markers, and of bytes of input.
+/// The limits of an input: the greatest side in samples, the greatest number of blocks in all padded grids, of bytes of
+/// kept markers, and of bytes of input.
 #[derive(Clone, Copy, Debug, PartialEq, Eq)]
 pub struct Limits {
     pub side: u32,

@@ -1,4 +1,4 @@
-//! Laws over the definitions: bits mean one thing at most, and data that show a fault mean none.
+//! Laws over the definitions: bits have at most one meaning, and data with a fault have none.
 ghost use Rattle.std.specs.Prelude.{◌≡◌, ℕ, Bool, true, List, length, sum};
 ghost use Rattle.jpg_spec.specs.Bits.{Packs, SpellsData, whole_bytes, padded, data_of};
 ghost use Rattle.jpg_spec.specs.Codes.{codes, AreCodes, are_codes};
@@ -7,24 +7,17 @@ ghost use Rattle.jpg_spec.specs.Geometry.{Frame};
 ghost use Rattle.jpg_spec.specs.Segments.{ScanHead};
 ghost use Rattle.jpg_spec.specs.Elements.{Coding, UnitLeft};
 ghost use Rattle.jpg_spec.specs.Scan.{TablesInForce, scan_coding};
-ghost use Rattle.jpg_spec.specs.ScanText.{UnitDue, typical_tables};
-ghost use Rattle.jpg_spec.specs.Written.{sequential_bits, SpellsDue};
 ghost use Rattle.jpg_spec.specs.Sound.{IsSound, AreTables};
-ghost use Rattle.jpg_spec.specs.Laws.{LeadingCode, LeadingInterval, LeadingFault, PackedInterval, typical_coding, AreWritable};
+ghost use Rattle.jpg_spec.specs.Laws.{LeadingCode, LeadingInterval, LeadingFault, PackedInterval};
 
-/// Counts that pass the test give codes that fit their lengths, none of all ones.
+/// Counts that pass the test give codes that fit their lengths, and none is all ones.
 pub fn tested_counts_give_codes()
     ensures { (counts : List ℕ) → are_codes 1 0 counts ≡ true → AreCodes 1 0 counts }
 {}
 
-/// No code of a valid table begins another, so bits are cut into codes in one way.
+/// No code of a valid table is a prefix of another, so bits are split into codes in one way.
 pub fn no_code_begins_another()
     ensures { (counts symbols : List ℕ) (bits : List Bool) (a b : LeadingCode (codes counts symbols) bits) → AreCodes 1 0 counts → a.code ≡ b.code }
-{}
-
-/// The four typical tables are valid (T.81, K.3.3).
-pub fn typical_tables_are_valid()
-    ensures { AreTables typical_tables }
 {}
 
 /// The typical DC tables have 12 codes, and the typical AC tables 162 (T.81, K.3.3).
@@ -35,33 +28,27 @@ pub fn typical_tables_have_their_codes()
     ensures ac_chroma { (sum ac_chroma_counts ≡ 162) × (length ac_chroma_values ≡ 162) }
 {}
 
-/// A scan's coding is sound where the tables in force are valid.
+/// A scan's coding is sound if the tables in force are valid.
 pub fn codings_are_sound()
     ensures { (f : Frame) (tables : TablesInForce) (head : ScanHead) → AreTables tables → IsSound (scan_coding f tables head) }
 {}
 
-/// Of two whole intervals neither begins the other, unless they are the same bits and values.
+/// Of two complete intervals neither is a prefix of the other, unless they are the same bits and values.
 pub fn intervals_are_spelled_once()
     ensures { (c : Coding) (due : List UnitLeft) (bits : List Bool) (a b : LeadingInterval c due bits) → IsSound c → (a.told ≡ b.told) × (a.front ≡ b.front) }
 {}
 
-/// Data that show a fault begin no whole interval, and no whole interval begins them.
+/// Data with a fault are no prefix of a complete interval, nor is a complete interval a prefix of them.
 pub fn faults_exclude_intervals()
     ensures { (c : Coding) (units : List UnitLeft) (bits : List Bool) → IsSound c → LeadingFault c units bits → LeadingInterval c units bits → ⊥ }
 {}
 
-/// Bytes hold one interval at most: the same bits, and so the same pad bits.
+/// Bytes encode at most one interval: the same bits, and so the same pad bits.
 pub fn bytes_hold_one_interval()
     ensures { (c : Coding) (units : List UnitLeft) (coded : List ℕ) (a b : PackedInterval c units coded) → IsSound c → (a.told ≡ b.told) × (a.bits ≡ b.bits) }
 {}
 
-/// What a sequential scan of precision 8 writes of an interval, by the typical tables and their first codes,
-/// is a whole interval of its units, and tells their values.
-pub fn written_scans_are_in_the_grammar()
-    ensures { (f : Frame) (head : ScanHead) (due : List UnitDue) → AreWritable f head due → SpellsDue (typical_coding f head) due (sequential_bits head due) }
-{}
-
-/// The data that are written of bits hold these bits, with fewer than eight pad bits, and spell their bytes.
+/// The data that are written of bits are these bits, with fewer than eight pad bits, stuffed.
 pub fn written_data_hold_their_bits()
     ensures packs { (bits : List Bool) → Packs bits (whole_bytes (padded bits)) }
     ensures spells { (bits : List Bool) → SpellsData (whole_bytes (padded bits)) (data_of bits) }

@@ -1,17 +1,17 @@
--- The coefficients of a picture moved show what the job shows.
+-- The coefficients of a transformed picture have the view of its job.
 use Rattle.std.proofs.Common.{◌≡◌, ℕ, sym, ◌∙◌}
 use Rattle.std.specs.Prelude.{replicate}
 use Rattle.jpg_spec.specs.Elements.{zeros}
 use Rattle.jpg_spec.specs.Scan.{Blocks}
-use Rattle.jpg_coefs.specs.Copied.{Copies, in_grids}
+use Rattle.jpg_coefs.specs.Copied.{CopiesBlocks, in_grids}
 use Rattle.jpg_coefs.specs.Picture.{Picture, map_of}
 use Rattle.jpg_coefs.proofs.Copied.{all_real}
-use Rattle.jpg_file.specs.declared.picture.Picture.{Picture as Read}
+use Rattle.jpg_file.specs.declared.read.picture.Picture.{Picture as Read}
 use Rattle.jpg_transform.specs.MovedBlocks.{ShowsJob}
 use Rattle.jpg_transform.specs.declared.choice.Job.{Job}
 use Rattle.jpg_transform.proofs.Showing.{real_true}
 
-pub shows_all : (p : Read) (job : Job) (seen : Blocks) (old new : Picture) (n : ℕ) → ShowsJob p job seen → old.blocks ≡ replicate n (zeros 64) → Copies (in_grids job.plan.out.frame) seen old new → ShowsJob p job (map_of new)
+pub shows_all : (p : Read) (job : Job) (seen : Blocks) (old new : Picture) (n : ℕ) → ShowsJob p job seen → old.blocks ≡ replicate n (zeros 64) → CopiesBlocks (in_grids job.plan.out.frame) seen old new → ShowsJob p job (map_of new)
 shows_all p job seen old new n shows none all = λ choice is.
     (let s = shows choice is in
     record {

@@ -1,19 +1,20 @@
--- The fault of a picture that shall be gray, by its frame.
+-- The fault of a picture that is to be converted to grayscale, by its frame.
 use Rattle.std.proofs.Common.{◌≡◌, ◌≤◌, Bool, true, false, cond, not, ◌&&◌, ◌==◌, [], length, refl, sym, ap, ◌∙◌, arith, Option, None, Some}
 use Rattle.jpg_spec.specs.Geometry.{component_at, greatest, h_max, v_max}
-use Rattle.jpg_spec.specs.Laws.{FirstIsGreatest}
+use Rattle.jpg_spec_move.specs.Laws.{FirstIsGreatest}
 use Rattle.jpg_spec.specs.Lists.{below}
 use Rattle.jpg_spec.specs.Meaning.{PictureComponent}
-use Rattle.jpg_spec.specs.Moved.{Grids, gray_fault, is_gray_or_ycbcr}
-use Rattle.jpg_spec.specs.Moves.{component_of, most_across, most_down}
-use Rattle.jpg_spec.specs.declared.transform.PictureFault.{PictureFault}
-use Rattle.jpg_spec.specs.declared.transform.PictureFault.TheVariants.{GrayColour, GrayFactors}
+use Rattle.jpg_spec.specs.Grids.{Grids}
+use Rattle.jpg_spec_move.specs.Moved.{gray_fault, is_gray_or_ycbcr}
+use Rattle.jpg_spec.specs.Meaning.{component_of, most_across, most_down}
+use Rattle.jpg_spec_write.specs.declared.picture_fault.PictureFault.{PictureFault}
+use Rattle.jpg_spec_write.specs.declared.picture_fault.PictureFault.TheVariants.{GrayColour, GrayFactors}
 use Rattle.std.proofs.lemmas.List.{get_or-map}
 use Rattle.jpg_spec.proofs.Common.{length_below, same_of}
 use Rattle.jpg_spec.proofs.Rows.{at_below}
-use Rattle.jpg_file.specs.PictureKept.{component_told}
-use Rattle.jpg_file.specs.PictureRead.{picture_meaning}
-use Rattle.jpg_file.specs.declared.picture.Picture.{Picture}
+use Rattle.jpg_file.specs.Read.PictureKept.{component_told}
+use Rattle.jpg_file.specs.Read.PictureRead.{picture_meaning}
+use Rattle.jpg_file.specs.declared.read.picture.Picture.{Picture}
 use Rattle.jpg_transform.specs.Planned.{is_first_greatest}
 use Rattle.jpg_transform.proofs.SeenPicture.{seen_grids}
 
@@ -39,7 +40,7 @@ gray_by_frame gray p =
     ∙ ap (λ n. fault_by gray (is_gray_or_ycbcr p.colour) ((component_at f 0).h == n && (component_at f 0).v == most_down M)) across
     ∙ ap (λ n. fault_by gray (is_gray_or_ycbcr p.colour) ((component_at f 0).h == h_max f && (component_at f 0).v == n)) down
 
--- where there is none, the first component is whole
+-- if there is none, the first component has the greatest factors
 pub first_greatest : (gray : Bool) (p : Picture) → gray_fault gray (picture_meaning p) ≡ None → gray ≡ true → FirstIsGreatest p.frame
 first_greatest gray p none e = by (is_gray_or_ycbcr p.colour) ((component_at p.frame 0).h == h_max p.frame) ((component_at p.frame 0).v == v_max p.frame) refl refl
     (ap (λ b. fault_by b (is_gray_or_ycbcr p.colour) (is_first_greatest p.frame)) (sym e) ∙ sym (gray_by_frame gray p) ∙ none)

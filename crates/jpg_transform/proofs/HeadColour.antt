@@ -1,4 +1,4 @@
--- The colours that a headed meaning tells are those of the meaning that is headed, whatever is passed on.
+-- The colours of a picture with the output's head are those of the picture without, whatever markers are passed on.
 use Rattle.std.proofs.Common.{◌≡◌, ◌⊎◌, ℕ, Bool, true, false, cond, ◌==◌, ◌&&◌, List, [], ◌∷◌, ◌++◌, length, Option, Some, None, map, refl, sym, ap, ◌∙◌, subst, inl, inr}
 use Rattle.std.specs.Prelude.{◌||◌, nat_le, not, find, filter, reverse}
 use Rattle.std.proofs.lemmas.List.{reverse-append}
@@ -7,8 +7,8 @@ use Rattle.jpg_spec.specs.Jfif.{adobe_transform, begins_adobe, begins_jfif, is_a
 use Rattle.jpg_spec.specs.Lists.{any_of, are_equal}
 use Rattle.jpg_spec.specs.Markers.{Segment}
 use Rattle.jpg_spec.specs.Meaning.{Meaning, colour_of}
-use Rattle.jpg_spec.specs.Moved.{Choice, headed_as}
-use Rattle.jpg_spec.specs.Moves.{adobe_contents, copied, headed_kept, jfif_contents}
+use Rattle.jpg_spec_move.specs.Moved.{Choice, headed_as}
+use Rattle.jpg_spec_write.specs.Headed.{adobe_contents, copied, headed_kept, jfif_contents}
 use Rattle.jpg_spec.specs.declared.frame.Colour.{Colour}
 use Rattle.jpg_spec.specs.declared.frame.Colour.TheVariants.{Gray, YCbCr, Rgb, Cmyk, Ycck, Unknown}
 use Rattle.jpg_spec.specs.declared.frame.Copying.{Copying}
@@ -53,14 +53,14 @@ from_each : (t : Segment → Bool) (rest : List Segment) → any_of t rest ≡ f
 from_each t [] e = refl
 from_each t (x ∷ rest) e = (let n = neither (t x) (any_of t rest) e in last_one t x false rest n.0 (from_each t rest n.1))
 
-any_behind : (t : Segment → Bool) (a : List Segment) (x : Segment) → any_of t (a ++ x ∷ []) ≡ false → (any_of t a ≡ false) × (t x ≡ false)
-any_behind t [] x e = (refl, (neither (t x) false e).0)
-any_behind t (y ∷ a) x e = (let n = neither (t y) (any_of t (a ++ x ∷ [])) e in let h = any_behind t a x n.1 in (ap (λ b. b || any_of t a) n.0 ∙ h.0, h.1))
+any_after : (t : Segment → Bool) (a : List Segment) (x : Segment) → any_of t (a ++ x ∷ []) ≡ false → (any_of t a ≡ false) × (t x ≡ false)
+any_after t [] x e = (refl, (neither (t x) false e).0)
+any_after t (y ∷ a) x e = (let n = neither (t y) (any_of t (a ++ x ∷ [])) e in let h = any_after t a x n.1 in (ap (λ b. b || any_of t a) n.0 ∙ h.0, h.1))
 
 to_each : (t : Segment → Bool) (rest : List Segment) → any_of t (reverse rest) ≡ false → any_of t rest ≡ false
 to_each t [] e = refl
 to_each t (x ∷ rest) e =
-    let h = any_behind t (reverse rest) x (ap (any_of t) (sym (reverse-append (x ∷ []) rest)) ∙ e) in
+    let h = any_after t (reverse rest) x (ap (any_of t) (sym (reverse-append (x ∷ []) rest)) ∙ e) in
     ap (λ b. b || any_of t rest) h.1 ∙ to_each t rest h.0
 
 -- those that pass
@@ -89,7 +89,7 @@ no_adobe s e = ap (λ b. b && nat_le 12 (length s.1)) (negated (begins_adobe s.0
 comment_no_jfif : (s : Segment) → (s.0 == 0xfe) ≡ true → is_jfif s ≡ false
 comment_no_jfif s e = ap (λ c. begins_jfif c s.1 && nat_le 14 (length s.1)) (same_of s.0 0xfe e)
 
--- WHAT THE OWN HEADER TELLS
+-- WHAT THE DEFAULT HEADER SAYS
 
 abbrev others_than_jfif : List Segment → List Segment
 others_than_jfif rest = filter (λ s. not (begins_jfif s.0 s.1)) rest
@@ -105,7 +105,7 @@ own_transform : (n : ℕ) (rest : List Segment) → adobe_transform ((0xee, adob
 own_transform n rest =
     rw (last_one is_adobe (0xee, adobe_contents n) true (others_than_adobe rest) refl (from_each is_adobe (others_than_adobe rest) (left_out is_adobe (λ s. not (begins_adobe s.0 s.1)) no_adobe rest))) refl
 
--- a JFIF header isn't seen where none was
+-- a JFIF header isn't found if there was none
 own_unseen : (n : ℕ) (rest : List Segment) → any_of is_jfif rest ≡ false → (jfif_of ((0xee, adobe_contents n) ∷ others_than_adobe rest)).seen ≡ false
 own_unseen n rest none =
     ap (λ o. (jfif_told o).seen) (last_one is_jfif (0xee, adobe_contents n) false (others_than_adobe rest) refl (from_each is_jfif (others_than_adobe rest) (passed is_jfif (λ s. not (begins_adobe s.0 s.1)) rest none)))

@@ -1,4 +1,4 @@
--- The blocks of a picture moved lie in the bounds, and are zeros outside the real grids.
+-- The blocks of a transformed picture are in the bounds, and are zeros outside the real grids.
 use Rattle.std.proofs.Common.{◌≡◌, ℕ, ◌<◌, Bool, true, false, cond, List, [], ◌∷◌, length, refl, sym, ap, ◌∙◌, subst, arith, ℤ}
 use Rattle.std.specs.Prelude.{nat_lt}
 use Rattle.std.proofs.lemmas.List.{length-map}
@@ -7,22 +7,25 @@ use Rattle.jpg_spec.specs.FrameHeader.{IsFrame}
 use Rattle.jpg_spec.specs.Geometry.{Frame, bounds_of, greatest}
 use Rattle.jpg_spec.specs.Lists.{below}
 use Rattle.jpg_spec.specs.Meaning.{Meaning, picture_frame, real_blocks}
-use Rattle.jpg_spec.specs.Moved.{Choice, Grids, frame_grids, grayed, moved, picture_grids, trimmed}
-use Rattle.jpg_spec.specs.Moves.{component_of, flip_h, flip_v, whole_columns, whole_rows}
+use Rattle.jpg_spec_move.specs.Moved.{Choice, grayed, moved, trimmed}
+use Rattle.jpg_spec.specs.Grids.{Grids, frame_grids, picture_grids}
+use Rattle.jpg_spec.specs.Meaning.{component_of}
+use Rattle.jpg_spec_move.specs.Moves.{flip_h, flip_v, whole_columns, whole_rows}
 use Rattle.jpg_spec.specs.Scan.{Blocks}
-use Rattle.jpg_spec.specs.Transforms.{transformed, transpose}
-use Rattle.jpg_spec.specs.declared.transform.Transform.{Transform}
-use Rattle.jpg_spec.specs.declared.transform.Transform.TheVariants.{Keep, FlipH, FlipV, Transpose, Transverse, Rotate90, Rotate180, Rotate270}
+use Rattle.jpg_spec_move.specs.Transforms.{transformed, transpose}
+use Rattle.jpg_spec_move.specs.declared.transform.Transform.{Transform}
+use Rattle.jpg_spec_move.specs.declared.transform.Transform.TheVariants.{Keep, FlipH, FlipV, Transpose, Transverse, Rotate90, Rotate180, Rotate270}
 use Rattle.jpg_spec.proofs.Common.{length_below}
-use Rattle.jpg_spec.proofs.MovedBounds.{mirrored_down_in, transposed_in}
-use Rattle.jpg_spec.proofs.OutsideZeros.{HasRealBlocks, alone, transformed_real}
+use Rattle.jpg_spec_move.proofs.MovedBounds.{mirrored_down_in, transposed_in}
+use Rattle.jpg_spec.proofs.OutsideZeros.{HasRealBlocks, alone}
+use Rattle.jpg_spec_move.proofs.OutsideZeros.{transformed_real}
 use Rattle.jpg_spec.proofs.SameNumbers.{SameNumbers, is_place, same_places}
-use Rattle.jpg_spec.proofs.Within.{mirrored_in}
+use Rattle.jpg_spec_move.proofs.Within.{mirrored_in}
 use Rattle.jpg_spec.proofs.ReadPicture.{block_in}
 use Rattle.jpg_coefs.specs.Picture.{map_of}
-use Rattle.jpg_file.specs.PictureKept.{component_told}
-use Rattle.jpg_file.specs.PictureRead.{picture_meaning}
-use Rattle.jpg_file.specs.declared.picture.Picture.{Picture}
+use Rattle.jpg_file.specs.Read.PictureKept.{component_told}
+use Rattle.jpg_file.specs.Read.PictureRead.{picture_meaning}
+use Rattle.jpg_file.specs.declared.read.picture.Picture.{Picture}
 use Rattle.jpg_transform.proofs.Planned.{whole_picture}
 use Rattle.jpg_transform.proofs.Showing.{gray_whole, some_across, some_down}
 
@@ -65,7 +68,7 @@ cut_bounded : (trim : Bool) (t : Transform) (M : Meaning) → AreBounded M → A
 cut_bounded false t M are = are
 cut_bounded true t M are = real_bounded (picture_frame (trimmed true t M)) M.blocks are
 
--- those of a picture, moved
+-- those of a picture, transformed
 pub moved_bounded : (p : Picture) (c : Choice) (i x y : ℕ) → IsBlockIn (bounds_of 8) ((moved c (picture_meaning p)).blocks i x y)
 moved_bounded p c =
     let M = picture_meaning p in
@@ -98,7 +101,7 @@ cut_down : (trim : Bool) (t : Transform) (M : Meaning) → (picture_grids (trimm
 cut_down true t M = refl
 cut_down false t M = refl
 
--- those of a picture moved, in a frame of its grids
+-- those of a transformed picture, in a frame of its grids
 pub moved_real : (p : Picture) (c : Choice) (out : Frame) → SameNumbers p.frame (picture_frame (picture_meaning p)) → IsFrame out → picture_grids (moved c (picture_meaning p)) ≡ frame_grids out
     → HasRealBlocks (moved c (picture_meaning p))
 moved_real p c out same is grids =

@@ -1,4 +1,4 @@
--- The file of a picture moved: what is written of it means the picture moved.
+-- The file of a transformed picture: what is written of it means the transformed picture.
 use Rattle.std.proofs.Common.{◌≡◌, ℕ, Bool, true, false, cond, not, ◌==◌, List, [], ◌∷◌, length, get_or, map, refl, sym, ap, ◌∙◌, subst, arith, None}
 use Rattle.std.proofs.Math.Path.{fun_ext}
 use Rattle.std.proofs.Math.ListN as listn
@@ -8,18 +8,20 @@ use Rattle.std.proofs.lemmas.Slice.Zip.{get_or-zip, length-zip}
 use Rattle.jpg_spec.specs.Lists.{any_of, below}
 use Rattle.jpg_spec.specs.Geometry.{Frame, bounds, IsReal, is_progressive, blocks_across, blocks_down, component_at, is_real, no_component}
 use Rattle.jpg_spec.specs.Elements.{zeros, IsBlockIn}
-use Rattle.jpg_spec.specs.FileText.{file_text, frame_of_meaning}
+use Rattle.jpg_spec_write.specs.FileText.{file_text, frame_of_meaning}
 use Rattle.jpg_spec.specs.FrameHeader.{IsFrame}
 use Rattle.jpg_spec.specs.Jfif.{jfif_of}
 use Rattle.jpg_spec.specs.Meaning.{Meaning, PictureComponent, colour_of, picture_frame, real_blocks}
-use Rattle.jpg_spec.specs.Moved.{Choice, Grids, asks_progressive, moved, moved_frame, moved_script, moved_script_fault, moved_text, process_due, script_due}
-use Rattle.jpg_spec.specs.Moves.{copied, headed_kept, is_wide, sequential_process}
+use Rattle.jpg_spec_move.specs.Moved.{Choice, moved, moved_frame, moved_script, moved_script_fault, moved_text}
+use Rattle.jpg_spec.specs.Grids.{Grids}
+use Rattle.jpg_spec_write.specs.ScansAsked.{asks_progressive, process_due, script_due}
+use Rattle.jpg_spec_write.specs.Headed.{copied, headed_kept, is_wide, sequential_process}
 use Rattle.jpg_spec.specs.Scan.{Blocks}
-use Rattle.jpg_spec.specs.Script.{Entry, is_progressive_script}
-use Rattle.jpg_spec.specs.ScriptFaults.{script_fault}
-use Rattle.jpg_spec.specs.ScriptLaws.{HasStandardScript}
+use Rattle.jpg_spec_write.specs.Script.{Entry, is_progressive_script}
+use Rattle.jpg_spec_write.specs.ScriptFaults.{script_fault}
+use Rattle.jpg_spec_write.specs.ScriptLaws.{HasStandardScript}
 use Rattle.jpg_spec.specs.Segments.{QuantTable}
-use Rattle.jpg_spec.specs.WrittenFile.{HasBlocksIn}
+use Rattle.jpg_spec_write.specs.WrittenFile.{HasBlocksIn}
 use Rattle.jpg_spec.specs.declared.frame.Colour.{Colour}
 use Rattle.jpg_spec.specs.declared.frame.Copying.{Copying}
 use Rattle.jpg_spec.specs.declared.frame.Component.{Component}
@@ -27,17 +29,18 @@ use Rattle.jpg_spec.specs.declared.frame.Process.{Process}
 use Rattle.jpg_spec.specs.declared.frame.Process.TheVariants.{Baseline, Extended, Progressive}
 use Rattle.jpg_spec.specs.declared.jfif.Jfif.{Jfif}
 use Rattle.jpg_spec.proofs.Common.{both, lt_of}
-use Rattle.jpg_spec.proofs.MeaningLeft.{read_moved}
+use Rattle.jpg_spec_move.proofs.MeaningLeft.{read_moved}
 use Rattle.jpg_spec.proofs.Rows.{by_items, map_map}
 use Rattle.jpg_spec.proofs.SameNumbers.{SameNumbers, is_place, numbers_of, same_places}
-use Rattle.jpg_spec.proofs.MovedText.{moved_means, passes_by, same_kind}
+use Rattle.jpg_spec_move.proofs.MovedText.{moved_means}
+use Rattle.jpg_spec_write.proofs.MovedText.{passes_by, same_kind}
 use Rattle.jpg_spec.proofs.OutsideZeros.{HasRealBlocks}
-use Rattle.jpg_spec.proofs.StandardScripts.{meaning_has}
+use Rattle.jpg_spec_write.proofs.StandardScripts.{meaning_has}
 use Rattle.jpg_markers.specs.OutHead.{with_tables}
 use Rattle.jpg_markers.specs.declared.writing.head.OutHead.{OutHead}
-use Rattle.jpg_file.specs.PictureKept.{component_told}
-use Rattle.jpg_file.specs.PictureRead.{picture_meaning}
-use Rattle.jpg_file.specs.declared.picture.Picture.{Picture}
+use Rattle.jpg_file.specs.Read.PictureKept.{component_told}
+use Rattle.jpg_file.specs.Read.PictureRead.{picture_meaning}
+use Rattle.jpg_file.specs.declared.read.picture.Picture.{Picture}
 use Rattle.jpg_transform.specs.MovedBlocks.{IsWrittenAs}
 use Rattle.jpg_transform.specs.Places.{IsSeenAs}
 use Rattle.jpg_transform.specs.Planned.{IsJobFor, IsOutHeadOf, process_in, process_of}
@@ -45,8 +48,8 @@ use Rattle.jpg_transform.specs.declared.choice.Job.{Job}
 use Rattle.jpg_transform.proofs.MovedBlocks.{moved_bounded, moved_real}
 use Rattle.jpg_transform.proofs.MovedHead.{unheaded, numbers_with, moved_components, moved_count, meaning_numbers, precision_stays, frame_precision_stays, kept_stays}
 use Rattle.jpg_transform.proofs.MovedScript.{moved_colour_is, out_colour, script_none, script_same}
-use Rattle.jpg_file.specs.Restarts.{restart_of}
-use Rattle.jpg_file.specs.WriteFile.{CanWriteFile, does_pass, file_bytes, file_meaning}
+use Rattle.jpg_file.specs.Write.Restarts.{restart_of}
+use Rattle.jpg_file.specs.Write.WriteFile.{CanWriteFile, does_pass, file_bytes, file_meaning}
 use Rattle.jpg_file.specs.declared.write.Plan.{Plan}
 
 -- COMPONENTS
@@ -75,7 +78,7 @@ tables_of [] (t ∷ q) l = absurd (omega (arith, l))
 tables_of (c ∷ cs) [] l = absurd (omega (arith, l))
 tables_of (c ∷ cs) (t ∷ q) l = ap (λ ts. t ∷ ts) (tables_of cs q (omega (arith, l)))
 
--- THE PICTURE MOVED
+-- THE TRANSFORMED PICTURE
 
 abbrev out_meaning : Picture → Choice → Meaning
 out_meaning p c = moved c (picture_meaning p)

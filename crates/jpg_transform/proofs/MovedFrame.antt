@@ -13,7 +13,7 @@ use Rattle.jpg_base.specs.Frame.{numbers_of}
 no_fault : (f : Frame) (fault : Fault) → Err fault ≡ Ok f → ⊥
 no_fault f fault e = cc
 
--- a frame that has what the checks say has no fault
+-- a frame that has the properties of the checks has no fault
 pub has_none : (p q : Process) (n m w h : ℕ) (cs : List Component) (limits : Limits) (fault : Fault) → p ≡ q → n ≡ m → limits ≡ standard_limits → Err fault ≡ checked_frame limits (numbers_of p n w h cs) → IsFrame (numbers_of q m w h cs) → ⊥
 has_none p q n m w h cs limits fault a b e err is =
     let same : numbers_of p n w h cs ≡ numbers_of q m w h cs = ap (λ r. numbers_of r n w h cs) a ∙ ap (λ k. numbers_of q k w h cs) b in

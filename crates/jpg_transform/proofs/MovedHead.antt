@@ -1,26 +1,26 @@
--- The head of the output: its components, tables, sides, kept markers and colours are those of the picture moved.
+-- The head of the output: its components, tables, sides, kept markers and colours are those of the transformed picture.
 use Rattle.std.proofs.Common.{◌≡◌, ℕ, ◌≤◌, Bool, true, false, cond, List, [], ◌∷◌, length, get_or, map, refl, sym, ap, ◌∙◌, arith}
 use Rattle.std.proofs.lemmas.List.{length-map}
 use Rattle.jpg_spec.specs.Colours.{colours_of}
-use Rattle.jpg_spec.specs.FileText.{frame_of_meaning}
+use Rattle.jpg_spec_write.specs.FileText.{frame_of_meaning}
 use Rattle.jpg_spec.specs.Geometry.{Frame, component_at, no_component}
 use Rattle.jpg_spec.specs.Jfif.{adobe_transform, jfif_of}
 use Rattle.jpg_spec.specs.Meaning.{Meaning, PictureComponent, colour_of}
-use Rattle.jpg_spec.specs.Moved.{Choice, exchanged_factors, grayed, grayed_frame, moved, moved_frame, trimmed}
-use Rattle.jpg_spec.specs.Moves.{component_of}
+use Rattle.jpg_spec_move.specs.Moved.{Choice, exchanged_factors, grayed, grayed_frame, moved, moved_frame, trimmed}
+use Rattle.jpg_spec.specs.Meaning.{component_of}
 use Rattle.jpg_spec.specs.Segments.{QuantTable}
-use Rattle.jpg_spec.specs.Transforms.{exchanged_axes, transformed, transposes}
+use Rattle.jpg_spec_move.specs.Transforms.{exchanged_axes, transformed, transposes}
 use Rattle.jpg_spec.specs.Transposed.{transposed}
 use Rattle.jpg_spec.specs.declared.frame.Colour.{Colour}
 use Rattle.jpg_spec.specs.declared.frame.Component.{Component}
-use Rattle.jpg_spec.specs.declared.transform.Transform.{Transform}
-use Rattle.jpg_spec.specs.declared.transform.Transform.TheVariants.{Keep, FlipH, FlipV, Transpose, Transverse, Rotate90, Rotate180, Rotate270}
+use Rattle.jpg_spec_move.specs.declared.transform.Transform.{Transform}
+use Rattle.jpg_spec_move.specs.declared.transform.Transform.TheVariants.{Keep, FlipH, FlipV, Transpose, Transverse, Rotate90, Rotate180, Rotate270}
 use Rattle.jpg_spec.proofs.Rows.{map_map}
 use Rattle.jpg_spec.proofs.SameNumbers.{numbers_of}
 use Rattle.jpg_markers.specs.OutHead.{with_tables}
 use Rattle.jpg_transform.specs.Planned.{grayed_tables, moved_colour, moved_tables, turned_tables}
 
--- THE PICTURE before it is headed
+-- THE PICTURE before it gets its head
 abbrev pub unheaded : Choice → Meaning → Meaning
 unheaded choice M = trimmed choice.trim choice.transform (transformed choice.transform (grayed choice.gray M))
 
@@ -73,7 +73,7 @@ gray_with true [] q of e l some = absurd (omega (arith, some))
 gray_with true (c ∷ cs) [] of e l some = absurd (omega (arith, l))
 gray_with true (c ∷ cs) (t ∷ q) of e l some = ap (λ (of : List PictureComponent). record (get_or of 0 (record { id = 0; h = 1; v = 1; quants = [] })) { h = 1; v = 1 } ∷ []) (sym e)
 
--- the components of the picture moved
+-- the components of the transformed picture
 pub moved_components : (choice : Choice) (f : Frame) (q : List QuantTable) (M : Meaning) → M.components ≡ with_tables f.components q → length q ≡ length f.components → 1 ≤ length f.components
     → with_tables (moved_frame choice f).components (moved_tables choice q) ≡ (moved choice M).components
 moved_components choice f q M e l some =
@@ -112,7 +112,7 @@ numbers_with (c ∷ cs) (t ∷ q) l = ap (λ ns. (c.id, c.h, c.v) ∷ ns) (numbe
 pub meaning_numbers : (cs : List Component) (q : List QuantTable) (N : Meaning) → with_tables cs q ≡ N.components → length q ≡ length cs → map numbers_of cs ≡ map numbers_of (frame_of_meaning N).components
 meaning_numbers cs q N e l = sym (numbers_with cs q l) ∙ ap (map (λ (c : PictureComponent). (c.id, c.h, c.v))) e ∙ sym (map_map numbers_of _ N.components)
 
--- WHAT STAYS
+-- WHAT DOESN'T CHANGE
 
 gray_precision : (gray : Bool) (M : Meaning) → (grayed gray M).precision ≡ M.precision
 gray_precision true M = refl

@@ -1,22 +1,24 @@
--- The script of a picture moved: that of the output's frame and colours, with the same fault.
+-- The script of a transformed picture: that of the output's frame and colours, with the same fault.
 use Rattle.std.proofs.Common.{◌≡◌, ℕ, Bool, true, false, List, [], ◌∷◌, map, refl, sym, ap, ◌∙◌, Option, Some, None, Result, Ok, Err}
-use Rattle.jpg_spec.specs.FileText.{frame_of_meaning}
+use Rattle.jpg_spec_write.specs.FileText.{frame_of_meaning}
 use Rattle.jpg_spec.specs.Geometry.{Frame}
 use Rattle.jpg_spec.specs.InForce.{first_some}
 use Rattle.jpg_spec.specs.Meaning.{Meaning, colour_of}
-use Rattle.jpg_spec.specs.Moved.{Choice, Grids, Scans, sequential, standard, given, frame_grids, gray_fault, grayed, grayed_frame, moved, moved_frame, moved_script, moved_script_fault, picture_fault, picture_grids, script_due}
-use Rattle.jpg_spec.specs.Script.{Entry}
-use Rattle.jpg_spec.specs.ScriptFaults.{script_fault, standard_script}
-use Rattle.jpg_spec.specs.Transforms.{transformed, transposes}
+use Rattle.jpg_spec_move.specs.Moved.{Choice, gray_fault, grayed, grayed_frame, moved, moved_frame, moved_script, moved_script_fault, picture_fault}
+use Rattle.jpg_spec.specs.Grids.{Grids, frame_grids, picture_grids}
+use Rattle.jpg_spec_write.specs.ScansAsked.{Scans, sequential, standard, given, script_due}
+use Rattle.jpg_spec_write.specs.Script.{Entry}
+use Rattle.jpg_spec_write.specs.ScriptFaults.{script_fault, standard_script}
+use Rattle.jpg_spec_move.specs.Transforms.{transformed, transposes}
 use Rattle.jpg_spec.specs.declared.frame.Colour.{Colour}
-use Rattle.jpg_spec.specs.declared.transform.PictureFault.{PictureFault}
-use Rattle.jpg_spec.proofs.MovedGrids.{cut_picture, over_grids, trim_grids, turned_frame, turned_picture}
+use Rattle.jpg_spec_write.specs.declared.picture_fault.PictureFault.{PictureFault}
+use Rattle.jpg_spec_move.proofs.MovedGrids.{cut_picture, over_grids, trim_grids, turned_frame, turned_picture}
 use Rattle.jpg_spec.proofs.Rows.{map_map}
-use Rattle.jpg_spec.proofs.ScriptGrids.{same_script_fault, same_sequential, same_standard}
+use Rattle.jpg_spec_write.proofs.ScriptGrids.{same_script_fault, same_sequential, same_standard}
 use Rattle.jpg_scans.specs.Judged.{judged}
 use Rattle.jpg_markers.specs.declared.writing.head.OutHead.{OutHead}
-use Rattle.jpg_file.specs.PictureRead.{picture_meaning}
-use Rattle.jpg_file.specs.declared.picture.Picture.{Picture}
+use Rattle.jpg_file.specs.Read.PictureRead.{picture_meaning}
+use Rattle.jpg_file.specs.declared.read.picture.Picture.{Picture}
 use Rattle.jpg_transform.specs.Planned.{IsOutHeadOf, moved_colour}
 use Rattle.jpg_transform.proofs.HeadColour.{headed_colour}
 use Rattle.jpg_transform.proofs.MovedHead.{colour_moves, unheaded}
@@ -34,7 +36,7 @@ gray_none choice M none = (none_both (gray_fault choice.gray M) (moved_script_fa
 pub script_none : (choice : Choice) (M : Meaning) → picture_fault choice M ≡ None → moved_script_fault choice M ≡ None
 script_none choice M none = (none_both (gray_fault choice.gray M) (moved_script_fault choice M) none).1
 
--- THE GRIDS of the picture moved are those of the frame moved
+-- THE GRIDS of the transformed picture are those of the transformed frame
 
 meaning_grids : (H : Meaning) → frame_grids (frame_of_meaning H) ≡ picture_grids H
 meaning_grids H =
@@ -98,16 +100,16 @@ judged_err : (o : Option PictureFault) (fault : PictureFault) → Err fault ≡ 
 judged_err None fault e = absurd (no_fault fault (sym e))
 judged_err (Some other) fault e = ap Some (sym (err_same fault other e))
 
--- behind a picture that may be gray
-behind_gray : (choice : Choice) (M : Meaning) (fault : Option PictureFault) → gray_fault choice.gray M ≡ None → moved_script_fault choice M ≡ fault → picture_fault choice M ≡ fault
-behind_gray choice M fault none e = ap (λ g. first_some g (moved_script_fault choice M)) none ∙ e
+-- after a picture that may be converted to grayscale
+after_gray : (choice : Choice) (M : Meaning) (fault : Option PictureFault) → gray_fault choice.gray M ≡ None → moved_script_fault choice M ≡ fault → picture_fault choice M ≡ fault
+after_gray choice M fault none e = ap (λ g. first_some g (moved_script_fault choice M)) none ∙ e
 
 pub checked_none : (p : Picture) (choice : Choice) (out : OutHead) (script : List Entry) → IsOutHeadOf choice p out → script ≡ script_due choice.scans out.frame out.colour → gray_fault choice.gray (picture_meaning p) ≡ None
     → Ok tt ≡ judged (script_fault out.frame script) → picture_fault choice (picture_meaning p) ≡ None
 checked_none p choice out script h e none ok =
-    behind_gray choice (picture_meaning p) None none (sym (fault_same p choice out out.frame script h refl e) ∙ judged_ok (script_fault out.frame script) ok)
+    after_gray choice (picture_meaning p) None none (sym (fault_same p choice out out.frame script h refl e) ∙ judged_ok (script_fault out.frame script) ok)
 
 pub checked_fault : (p : Picture) (choice : Choice) (out : OutHead) (script : List Entry) (fault : PictureFault) → IsOutHeadOf choice p out → script ≡ script_due choice.scans out.frame out.colour → gray_fault choice.gray (picture_meaning p) ≡ None
     → Err fault ≡ judged (script_fault out.frame script) → picture_fault choice (picture_meaning p) ≡ Some fault
 checked_fault p choice out script fault h e none err =
-    behind_gray choice (picture_meaning p) (Some fault) none (sym (fault_same p choice out out.frame script h refl e) ∙ judged_err (script_fault out.frame script) fault err)
+    after_gray choice (picture_meaning p) (Some fault) none (sym (fault_same p choice out out.frame script h refl e) ∙ judged_err (script_fault out.frame script) fault err)

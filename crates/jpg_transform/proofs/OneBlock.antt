@@ -9,15 +9,17 @@ use Rattle.std.proofs.lemmas.Bool.{ltb-true}
 use Rattle.std.proofs.lemmas.List.Elements.{All-get_or, All-from_get_or}
 use Rattle.std.proofs.lemmas.List.Sums.{AllPass-from_list_all}
 use Rattle.std.proofs.lemmas.Slice.Zip.{get_or-zip, length-zip}
-use Rattle.jpg_spec.specs.Moves.{zigzag, mirrored, mirrored_down}
+use Rattle.jpg_spec.specs.Zigzag.{zigzag}
+use Rattle.jpg_spec_move.specs.Moves.{mirrored, mirrored_down}
 use Rattle.jpg_spec.specs.Transposed.{exchanged, transposed}
-use Rattle.jpg_spec.specs.Transforms.{signed}
+use Rattle.jpg_spec_move.specs.Transforms.{signed}
 use Rattle.jpg_transform.specs.Changed.{is_changed, AreMasks}
-use Rattle.jpg_spec.proofs.MirroredBlocks.{IsBlock, mirrored_block}
-use Rattle.jpg_spec.proofs.BlockLaws.{mirrored_down_block, length_transposed}
-use Rattle.jpg_spec.proofs.MovedBounds.{transposed_at}
+use Rattle.jpg_spec.proofs.MirroredBlocks.{IsBlock}
+use Rattle.jpg_spec_move.proofs.MirroredBlocks.{mirrored_block}
+use Rattle.jpg_spec_move.proofs.BlockLaws.{mirrored_down_block, length_transposed}
+use Rattle.jpg_spec_move.proofs.MovedBounds.{transposed_at}
 
--- ONE PLACE MORE of a block that is written in order
+-- ONE MORE PLACE of a block that is written in order
 
 pub step : (want rest values : List ℤ) (k : ℕ) (v : ℤ) → IsBlock want → IsBlock rest → k < 64 → values ≡ take k want ++ drop k rest → v ≡ get_or want k (pos 0)
     → set values k v ≡ take (k + 1) want ++ drop (k + 1) rest

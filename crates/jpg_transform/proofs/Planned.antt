@@ -1,25 +1,26 @@
--- The job of a picture: its frame is the output's, so its view shows the picture moved.
+-- The job of a picture: its frame is the output's, so its view is that of the transformed picture.
 use Rattle.std.proofs.Common.{◌≡◌, ℕ, ◌<◌, length, sym, ap, ◌∙◌, subst, arith}
 use Rattle.std.proofs.lemmas.List.{length-map, get_or-map}
 use Rattle.jpg_spec.specs.Lists.{below}
 use Rattle.jpg_spec.specs.Meaning.{PictureComponent}
-use Rattle.jpg_spec.specs.Moved.{Choice, frame_grids}
+use Rattle.jpg_spec_move.specs.Moved.{Choice}
+use Rattle.jpg_spec.specs.Grids.{frame_grids}
 use Rattle.jpg_spec.specs.WholeBlocks.{HasWholeBlocks}
 use Rattle.jpg_spec.proofs.Common.{length_below}
 use Rattle.jpg_spec.proofs.Rows.{at_below}
 use Rattle.jpg_spec.proofs.SameNumbers.{is_place}
 use Rattle.jpg_spec.proofs.WholeFiles.{shown_whole}
 use Rattle.jpg_coefs.specs.Picture.{map_of}
-use Rattle.jpg_file.specs.PictureKept.{component_told}
-use Rattle.jpg_file.specs.PictureRead.{picture_meaning}
-use Rattle.jpg_file.specs.declared.picture.Picture.{Picture}
+use Rattle.jpg_file.specs.Read.PictureKept.{component_told}
+use Rattle.jpg_file.specs.Read.PictureRead.{picture_meaning}
+use Rattle.jpg_file.specs.declared.read.picture.Picture.{Picture}
 use Rattle.jpg_transform.specs.Places.{IsOutput}
 use Rattle.jpg_transform.specs.Planned.{IsJobFor}
 use Rattle.jpg_transform.specs.declared.choice.Job.{Job}
 use Rattle.jpg_transform.proofs.GrayFaults.{first_greatest}
 use Rattle.jpg_transform.proofs.MovedScript.{gray_none}
 
--- the output's frame is due
+-- the output's frame is the expected one
 pub is_output : (p : Picture) (choice : Choice) (job : Job) → IsJobFor p choice job → IsOutput choice job.transform p.frame job.plan.out.frame
 is_output p choice job h = record {
   transform_is = sym h.transform;
@@ -28,7 +29,7 @@ is_output p choice job h = record {
   grids = ap frame_grids h.head.frame;
 }
 
--- its blocks and tables are whole
+-- its blocks and tables are complete
 long_quants : (p : Picture) → (k : ℕ) → k < length p.frame.components → length (component_told p.frame p.quants.items k).quants ≡ 64
 long_quants p k h = (p.keeps.quants k h).long
 

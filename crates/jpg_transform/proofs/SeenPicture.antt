@@ -1,15 +1,15 @@
--- What a picture that was read shows of its meaning.
+-- What contracts see of the meaning of a picture that was read.
 use Rattle.std.proofs.Common.{◌≡◌, ℕ, List, length, map, ap, ◌∙◌}
 use Rattle.std.proofs.lemmas.List.{length-map}
 use Rattle.jpg_spec.specs.Geometry.{component_at}
 use Rattle.jpg_spec.specs.Lists.{below}
-use Rattle.jpg_spec.specs.Moved.{Grids, frame_grids, picture_grids}
-use Rattle.jpg_spec.proofs.MovedGrids.{factor_across, factor_down}
+use Rattle.jpg_spec.specs.Grids.{Grids, frame_grids, picture_grids}
+use Rattle.jpg_spec.proofs.FrameFound.{factor_across, factor_down}
 use Rattle.jpg_spec.proofs.Rows.{by_items, map_map}
 use Rattle.jpg_coefs.specs.Picture.{map_of}
-use Rattle.jpg_file.specs.PictureKept.{component_told}
-use Rattle.jpg_file.specs.PictureRead.{picture_meaning}
-use Rattle.jpg_file.specs.declared.picture.Picture.{Picture}
+use Rattle.jpg_file.specs.Read.PictureKept.{component_told}
+use Rattle.jpg_file.specs.Read.PictureRead.{picture_meaning}
+use Rattle.jpg_file.specs.declared.read.picture.Picture.{Picture}
 use Rattle.jpg_transform.specs.Places.{IsSeenAs}
 use Rattle.jpg_transform.proofs.Showing.{real_true}
 

@@ -1,4 +1,4 @@
--- A view of a picture moved shows the meaning moved.
+-- A view of a transformed picture is that of the transformed meaning.
 use Rattle.std.proofs.Common.{◌≡◌, ℕ, ◌+◌, ◌-◌, ◌*◌, ◌/◌, ◌<◌, Bool, true, false, cond, ◌&&◌, List, [], ◌∷◌, length, get_or, map, refl, sym, ap, ◌∙◌, subst, arith, ℤ}
 use Rattle.std.specs.Prelude.{nat_lt}
 use Rattle.std.proofs.lemmas.List.{length-map}
@@ -9,20 +9,22 @@ use Rattle.jpg_spec.specs.Geometry.{Frame, IsReal, div_up, greatest, h_max, v_ma
 use Rattle.jpg_spec.specs.Elements.{zeros}
 use Rattle.jpg_spec.specs.FrameHeader.{IsFrame}
 use Rattle.jpg_spec.specs.Meaning.{Meaning, PictureComponent, picture_frame, real_blocks}
-use Rattle.jpg_spec.specs.Moves.{most_across, most_down, component_of}
-use Rattle.jpg_spec.specs.Transforms.{transformed, transposes, mirrors_across, mirrors_down, opposite, changed_columns, changed_rows, placed, signed, turned_over}
-use Rattle.jpg_spec.specs.Moved.{Grids, frame_grids, picture_grids, trimmed, whole_side, trimmed_frame, transformed_frame, grayed, grayed_frame, Choice, moved, headed_as, columns_in, rows_in}
+use Rattle.jpg_spec.specs.Meaning.{most_across, most_down, component_of}
+use Rattle.jpg_spec_move.specs.Transforms.{transformed, transposes, mirrors_across, mirrors_down, opposite, changed_columns, changed_rows, placed, signed, turned_over}
+use Rattle.jpg_spec.specs.Grids.{Grids, frame_grids, picture_grids}
+use Rattle.jpg_spec_move.specs.Moved.{trimmed, whole_side, trimmed_frame, transformed_frame, grayed, grayed_frame, Choice, moved, headed_as, columns_in, rows_in}
 use Rattle.jpg_spec.specs.WholeBlocks.{HasWholeBlocks}
-use Rattle.jpg_spec.specs.declared.transform.Transform.{Transform}
-use Rattle.jpg_spec.proofs.Transforming.{by_formula}
+use Rattle.jpg_spec_move.specs.declared.transform.Transform.{Transform}
+use Rattle.jpg_spec_move.proofs.Transforming.{by_formula}
 use Rattle.jpg_base.proofs.Grids.{across_low, down_low}
 use Rattle.jpg_spec.specs.Scan.{Blocks}
 use Rattle.jpg_transform.specs.Places.{IsOutput, IsSeenAs, ComesFrom}
-use Rattle.jpg_spec.proofs.MovedGrids.{real_side, over_grids, trim_grids, columns_by, rows_by, turned_frame, turned_picture, cut_picture, framed_picture, columns_picture, rows_picture, columns_frame, rows_frame, columns_cut, rows_cut, IsIn, to_grids, from_grids, untrimmed, opposite_in}
+use Rattle.jpg_spec.proofs.FrameFound.{real_side}
+use Rattle.jpg_spec_move.proofs.MovedGrids.{over_grids, trim_grids, columns_by, rows_by, turned_frame, turned_picture, cut_picture, framed_picture, columns_picture, rows_picture, columns_frame, rows_frame, columns_cut, rows_cut, IsIn, to_grids, from_grids, untrimmed, opposite_in}
 use Rattle.jpg_spec.proofs.Common.{lt_yes, clash}
 use Rattle.jpg_spec.proofs.WholeFiles.{shown_whole}
 
--- WHAT `new` IS GIVEN: the frame of the output, and the columns and rows that change places
+-- THE ARGUMENTS OF `new`: the frame of the output, and the columns and rows that change places
 
 pub record Given (g : Frame) (t : Transform) (over : Bool) (columns rows : ℕ → ℕ) : Type 0 where
   pub frame : IsFrame g
@@ -127,7 +129,7 @@ shown f g t over columns rows blocks M trim given w s m = record { grids = grids
         ∙ ap (λ b. placed b (columns i) (rows i) (M.blocks i) x y) (sym given.over_is)
         ∙ placed_same over (columns i) (rows i) (M.blocks i) (blocks i) x y (λ e. s.same i _ _ (from.turned e)) (λ e. s.same i _ _ (from.plain e))
 
--- GRAY: the first component, whole
+-- GRAYSCALE: the first component, with all its blocks
 
 whole_up : (w h : ℕ) → 0 < h → div_up (w * h) h ≡ w
 whole_up w h some =
@@ -137,7 +139,7 @@ whole_up w h some =
 first_side : (w k h : ℕ) → 0 < h → k ≡ h → real_side w 1 1 ≡ real_side w k h
 first_side w k h some e = ap (λ n. div_up n 8) (whole_up w 1 (omega arith) ∙ sym (whole_up w h some) ∙ ap (λ n. div_up (w * n) h) (sym e))
 
--- the facts of a source that may be grayed
+-- the facts of a source that may be converted to grayscale
 pub record MayGray (gray : Bool) (f : Frame) : Type 0 where
   pub across : gray ≡ true → (component_at f 0).h ≡ h_max f
   pub down : gray ≡ true → (component_at f 0).v ≡ v_max f
@@ -182,7 +184,7 @@ gray_whole true M some w = record {
   quants = All-cons (λ c. length c.quants ≡ 64) _ [] (first_quants M.components w.quants some) (All-nil (λ c. length c.quants ≡ 64));
 }
 
--- THE WHOLE CHOICE
+-- THE COMPLETE CHOICE
 
 may_gray : (choice : Choice) (t : Transform) (f g : Frame) → IsOutput choice t f g → MayGray choice.gray f
 may_gray choice t f g o = record { across = o.gray_across; down = o.gray_down }

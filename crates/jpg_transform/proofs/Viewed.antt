@@ -1,14 +1,14 @@
--- What is seen of a picture that was read.
+-- What contracts see of a picture that was read.
 use Rattle.std.proofs.Common.{◌≡◌, ℕ, ◌-◌, ◌≤◌, false, cond, sym, ap, subst, arith}
 use Rattle.std.specs.Prelude.{nat_lt}
 use Rattle.std.proofs.lemmas.Bool.Decides.{nat_tests}
 use Rattle.jpg_spec.specs.Geometry.{Frame, IsReal}
-use Rattle.jpg_spec.specs.Transforms.{opposite}
+use Rattle.jpg_spec_move.specs.Transforms.{opposite}
 use Rattle.jpg_base.specs.Cursor.{IsPadded}
 use Rattle.jpg_base.proofs.ScanPlaces.{padded_of}
 use Rattle.jpg_coefs.specs.Picture.{block_in, map_of}
 use Rattle.jpg_coefs.proofs.Maps.{map_at}
-use Rattle.jpg_file.specs.declared.picture.Picture.{Picture}
+use Rattle.jpg_file.specs.declared.read.picture.Picture.{Picture}
 
 pub padded_there : (p : Picture) (i x y : ℕ) → IsReal p.frame i x y → IsPadded p.coefs.frame i x y
 padded_there p i x y r = subst (λ (f : Frame). IsPadded f i x y) (sym p.keeps.grids) (padded_of p.frame i x y p.keeps.frame r)

@@ -1,6 +1,6 @@
 -- Which signs are changed (T.81, A.3.3).
 use Rattle.std.specs.Prelude.{◌≡◌, ℕ, ◌/◌, ◌%◌, Bool, true, false, not, ◌==◌, if◌then◌else◌, List, map, ℤ, pos, int_lt}
-use Rattle.jpg_spec.specs.Moves.{zigzag}
+use Rattle.jpg_spec.specs.Zigzag.{zigzag}
 
 -- of a natural index, where blocks are mirrored across, down or both
 abbrev pub is_changed : Bool → Bool → ℕ → Bool

@@ -1,16 +1,16 @@
--- The blocks and the frame that a view of a picture moved has, and the file that is written of it.
+-- The blocks and the frame of a view of a transformed picture, and the file that is written of it.
 use Rattle.std.specs.Prelude.{◌≡◌, slice_index}
 use Rattle.jpg_spec.specs.FileMeaning.{Means}
 use Rattle.jpg_spec.specs.Geometry.{Frame}
-use Rattle.jpg_spec.specs.Laws.{IsMovable}
-use Rattle.jpg_spec.specs.Moved.{Choice, moved, moved_text}
-use Rattle.jpg_spec.specs.Transforms.{placed}
+use Rattle.jpg_spec_move.specs.Laws.{IsMovable}
+use Rattle.jpg_spec_move.specs.Moved.{Choice, moved, moved_text}
+use Rattle.jpg_spec_move.specs.Transforms.{placed}
 use Rattle.jpg_spec.specs.Scan.{Blocks}
 use Rattle.jpg_spec.specs.Segments.{standard_limits}
 use Rattle.jpg_coefs.specs.Picture.{map_of}
-use Rattle.jpg_file.specs.PictureRead.{picture_meaning}
-use Rattle.jpg_file.specs.WriteFile.{CanWriteFile, file_bytes}
-use Rattle.jpg_file.specs.declared.picture.Picture.{Picture}
+use Rattle.jpg_file.specs.Read.PictureRead.{picture_meaning}
+use Rattle.jpg_file.specs.Write.WriteFile.{CanWriteFile, file_bytes}
+use Rattle.jpg_file.specs.declared.read.picture.Picture.{Picture}
 use Rattle.jpg_transform.specs.Places.{IsSeenAs}
 use Rattle.jpg_transform.specs.Planned.{IsJobFor}
 use Rattle.jpg_transform.specs.declared.choice.Job.{Job}
@@ -23,17 +23,17 @@ moved_blocks m i x y = placed m.over (slice_index m.columns i) (slice_index m.ro
 abbrev pub moved_numbers : Moved → Frame
 moved_numbers m = m.frame.now
 
--- In the output's frame these blocks show the picture moved, for whatever choice this is the job.
+-- In the output's frame these blocks are those of the transformed picture, for any choice that this job is for.
 abbrev pub ShowsJob : Picture → Job → Blocks → Type 0
 ShowsJob p job seen = (choice : Choice) → IsJobFor p choice job → IsSeenAs (moved choice (picture_meaning p)) job.plan.out.frame seen
 
--- The file of the job may be written in these blocks, and its text is that of the picture moved; where some bytes mean the picture,
--- the text means the picture moved.
+-- The file of the job may be written from these blocks, and its text is that of the transformed picture; if some bytes
+-- mean the picture, the text means the transformed picture.
 pub record IsWrittenAs (p : Picture) (choice : Choice) (job : Job) (f : Frame) (seen : Blocks) : Type 0 where
   pub can : CanWriteFile job.plan p.kept f seen
   pub text : file_bytes job.plan p.kept seen ≡ moved_text choice (picture_meaning p)
   pub means : IsMovable choice (picture_meaning p) → Means standard_limits (moved_text choice (picture_meaning p)) (moved choice (picture_meaning p))
 
--- So it is for whatever choice this is the job.
+-- The same for any choice that this job is for.
 abbrev pub WritesJob : Picture → Job → Frame → Blocks → Type 0
 WritesJob p job f seen = (choice : Choice) → IsJobFor p choice job → IsWrittenAs p choice job f seen

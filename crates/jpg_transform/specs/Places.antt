@@ -1,26 +1,27 @@
--- Places of the real grids, and a picture as it is seen block by block (T.81, A.2).
+-- Places of the real grids, and a picture as it is viewed block by block (T.81, A.2).
 use Rattle.std.specs.Prelude.{◌≡◌, ℕ, ◌≤◌, Bool, true, false, List, length, slice_index, ◌≤ℤ◌, negsuc, All}
 use Rattle.jpg_spec.specs.Geometry.{Frame, IsReal, component_at, h_max, v_max}
 use Rattle.jpg_spec.specs.Meaning.{Meaning}
 use Rattle.jpg_spec.specs.Scan.{Blocks}
-use Rattle.jpg_spec.specs.Moved.{Choice, frame_grids, picture_grids, moved_frame}
-use Rattle.jpg_spec.specs.Transforms.{opposite}
-use Rattle.jpg_spec.specs.declared.transform.Transform.{Transform}
+use Rattle.jpg_spec_move.specs.Moved.{Choice, moved_frame}
+use Rattle.jpg_spec.specs.Grids.{frame_grids, picture_grids}
+use Rattle.jpg_spec_move.specs.Transforms.{opposite}
+use Rattle.jpg_spec_move.specs.declared.transform.Transform.{Transform}
 
--- A meaning is seen so: it has these sides and factors, and at the real places these blocks.
+-- A view of a meaning: it has these sides and factors, and at the real places these blocks.
 pub record IsSeenAs (M : Meaning) (f : Frame) (blocks : Blocks) : Type 0 where
   pub grids : picture_grids M ≡ frame_grids f
   pub same : (i x y : ℕ) → IsReal f i x y → M.blocks i x y ≡ blocks i x y
 
--- The output's frame is due for this choice: its sides and factors are those of the source's frame moved, and a picture that
--- shall be gray has its first component whole.
+-- The output's frame for this choice: its sides and factors are those of the source's frame transformed, and a picture
+-- that is converted to grayscale has the first component untrimmed.
 pub record IsOutput (choice : Choice) (transform : Transform) (source out : Frame) : Type 0 where
   pub transform_is : choice.transform ≡ transform
   pub gray_across : choice.gray ≡ true → (component_at source 0).h ≡ h_max source
   pub gray_down : choice.gray ≡ true → (component_at source 0).v ≡ v_max source
   pub grids : frame_grids out ≡ frame_grids (moved_frame choice source)
 
--- A place of a picture, transposed where `over`, is a real one.
+-- A place of a picture, transposed if `over`, is a real one.
 pub record ComesFrom (over : Bool) (f : Frame) (i x y : ℕ) : Type 0 where
   pub turned : over ≡ true → IsReal f i y x
   pub plain : over ≡ false → IsReal f i x y

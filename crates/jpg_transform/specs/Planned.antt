@@ -1,22 +1,24 @@
--- HOW A PICTURE IS WRITTEN MOVED (the manual of jpegtran): what is asked for, what the head of the output is written from, and its scans.
+-- HOW A TRANSFORMED PICTURE IS WRITTEN (the manual of jpegtran): what is asked for, what the head of the output is
+-- written from, and its scans.
 use Rattle.std.specs.Prelude.{◌≡◌, ◌==◌, ◌&&◌, Bool, if◌then◌else◌, List, map, take, Result, Ok, Err, None, Some}
 use Rattle.jpg_spec.specs.Geometry.{Frame, component_at, h_max, v_max}
 use Rattle.jpg_spec.specs.Lists.{any_of}
-use Rattle.jpg_spec.specs.Moved.{Choice, Scans, sequential, standard, given, asks_progressive, moved_frame, picture_fault, script_due}
-use Rattle.jpg_spec.specs.Moves.{is_wide}
+use Rattle.jpg_spec_move.specs.Moved.{Choice, moved_frame, picture_fault}
+use Rattle.jpg_spec_write.specs.ScansAsked.{Scans, sequential, standard, given, asks_progressive, script_due}
+use Rattle.jpg_spec_write.specs.Headed.{is_wide}
 use Rattle.jpg_spec.specs.Segments.{QuantTable}
-use Rattle.jpg_spec.specs.Transforms.{transposes}
-use Rattle.jpg_spec.specs.WrittenFile.{IsRestart}
+use Rattle.jpg_spec_move.specs.Transforms.{transposes}
+use Rattle.jpg_spec_write.specs.WrittenFile.{IsRestart}
 use Rattle.jpg_spec.specs.Transposed.{transposed}
 use Rattle.jpg_spec.specs.declared.frame.Colour.{Colour}
 use Rattle.jpg_spec.specs.declared.frame.Colour.TheVariants.{Gray}
 use Rattle.jpg_spec.specs.declared.frame.Process.{Process}
 use Rattle.jpg_spec.specs.declared.frame.Process.TheVariants.{Baseline, Extended, Progressive}
-use Rattle.jpg_spec.specs.declared.transform.PictureFault.{PictureFault}
+use Rattle.jpg_spec_write.specs.declared.picture_fault.PictureFault.{PictureFault}
 use Rattle.jpg_markers.specs.declared.writing.head.OutHead.{OutHead}
-use Rattle.jpg_file.specs.PictureRead.{picture_meaning}
-use Rattle.jpg_file.specs.Restarts.{restart_of}
-use Rattle.jpg_file.specs.declared.picture.Picture.{Picture}
+use Rattle.jpg_file.specs.Read.PictureRead.{picture_meaning}
+use Rattle.jpg_file.specs.Write.Restarts.{restart_of}
+use Rattle.jpg_file.specs.declared.read.picture.Picture.{Picture}
 use Rattle.jpg_transform.specs.declared.choice.Choice.{Choice as Asked}
 use Rattle.jpg_transform.specs.declared.choice.Job.{Job}
 use Rattle.jpg_transform.specs.declared.choice.Scans.{Scans as AskedScans}
@@ -44,15 +46,15 @@ is_first_greatest f = (component_at f 0).h == h_max f && (component_at f 0).v ==
 
 -- THE HEAD of the output
 
--- SOF1 where a quantiser exceeds 255, else SOF0
+-- SOF1 if a quantiser exceeds 255, otherwise SOF0
 abbrev pub process_of : List QuantTable → Process
 process_of tables = if any_of is_wide tables then Extended else Baseline
 
--- SOF2 where the scans are those of a progressive file
+-- SOF2 if the scans are those of a progressive file
 abbrev pub process_in : Scans → List QuantTable → Process
 process_in scans tables = if asks_progressive scans then Progressive else process_of tables
 
--- the table of the first component alone, where a picture is grayed
+-- the table of only the first component, if a picture is converted to grayscale
 abbrev pub grayed_tables : Bool → List QuantTable → List QuantTable
 grayed_tables gray tables = if gray then take 1 tables else tables
 
@@ -66,7 +68,8 @@ moved_tables choice tables = turned_tables (transposes choice.transform) (grayed
 abbrev pub moved_colour : Bool → Colour → Colour
 moved_colour gray colour = if gray then Gray else colour
 
--- What the head of the output is written from: the picture's frame, tables and colours moved, its JFIF header, and the markers that are passed on.
+-- What the head of the output is written from: the frame, tables and colours of the transformed picture, its JFIF
+-- header, and the markers that are passed on.
 pub record IsOutHeadOf (choice : Choice) (p : Picture) (out : OutHead) : Type 0 where
   pub frame : out.frame ≡ record (moved_frame choice p.frame) { process = process_in choice.scans out.quants.items }
   pub tables : out.quants.items ≡ moved_tables choice p.quants.items
@@ -74,7 +77,7 @@ pub record IsOutHeadOf (choice : Choice) (p : Picture) (out : OutHead) : Type 0 
   pub jfif : out.jfif ≡ p.jfif
   pub copying : out.copying ≡ choice.copying
 
--- THE JOB: the picture has no fault for the choice, and is written so, with intervals that are counted in two bytes.
+-- THE JOB: the picture has no fault for the choice, and is written in this way, with intervals that fit into two bytes.
 pub record IsJobFor (p : Picture) (choice : Choice) (job : Job) : Type 0 where
   pub admitted : picture_fault choice (picture_meaning p) ≡ None
   pub head : IsOutHeadOf choice p job.plan.out

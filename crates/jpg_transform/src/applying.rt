@@ -1,10 +1,10 @@
-// The coefficients of a picture moved (the manual of jpegtran).
+//! The coefficients of a transformed picture (the manual of jpegtran).
 ghost use Rattle.std.specs.Prelude.{◌≡◌, ◌<◌, length, IfOk};
 ghost use Rattle.jpg_spec.specs.Geometry.{IsReal};
 ghost use Rattle.jpg_spec.specs.Meaning.{real_blocks};
-ghost use Rattle.jpg_spec.specs.Moved.{Choice};
+ghost use Rattle.jpg_spec_move.specs.Moved.{Choice};
 ghost use Rattle.jpg_coefs.specs.Picture.{map_of};
-ghost use Rattle.jpg_coefs.specs.Copied.{Copies, in_grids, in_grid, in_grid_row, is_place};
+ghost use Rattle.jpg_coefs.specs.Copied.{CopiesBlocks, in_grids, in_grid, in_grid_row, is_place};
 ghost use Rattle.jpg_transform.specs.MovedBlocks.{ShowsJob, moved_blocks, moved_numbers};
 ghost use Rattle.jpg_transform.specs.Planned.{IsJobFor};
 
@@ -14,9 +14,9 @@ use jpg_coefs::{BlockView, Coefs};
 use jpg_file::Picture;
 use std::alloc::Global;
 
-/// The coefficients of the picture grayed, transformed and trimmed, as the job that `plan` gave for it says: in the
-/// job's frame they show the picture moved, and all blocks outside the real grids are zero. It answers NoMemory where
-/// memory is wanting.
+/// The coefficients of the picture converted to grayscale, transformed and trimmed, as the job that `plan` gave for it
+/// says: in the job's frame they are those of the transformed picture, and all blocks outside the real grids are zero.
+/// It answers NoMemory if there is no memory for them.
 pub fn apply(alloc: Global, picture: &Picture, job: &Job) -> Result<Coefs, NoMemory>
     requires { (choice : Choice) × IsJobFor picture.now choice job.now }
     ensures frame { IfOk result (λ c. c.frame ≡ job.now.plan.out.frame) }
@@ -29,10 +29,10 @@ pub fn apply(alloc: Global, picture: &Picture, job: &Job) -> Result<Coefs, NoMem
     Ok(coefs)
 }
 
-// Puts all blocks of a picture moved.
+// Puts all blocks of a transformed picture.
 fn put_components(moved: &Moved, coefs: &mut Coefs)
     requires { coefs.old.frame ≡ moved_numbers moved.now }
-    ensures { Copies (in_grids (moved_numbers moved.now)) (moved_blocks moved.now) coefs.old coefs.new }
+    ensures { CopiesBlocks (in_grids (moved_numbers moved.now)) (moved_blocks moved.now) coefs.old coefs.new }
 {
     for i in 0..moved.frame().count() {
         put_rows(moved, i, coefs);
@@ -43,7 +43,7 @@ fn put_components(moved: &Moved, coefs: &mut Coefs)
 fn put_rows(moved: &Moved, i: u8, coefs: &mut Coefs)
     requires frame { coefs.old.frame ≡ moved_numbers moved.now }
     requires there { i < length (moved_numbers moved.now).components }
-    ensures { Copies (in_grid (moved_numbers moved.now) i) (moved_blocks moved.now) coefs.old coefs.new }
+    ensures { CopiesBlocks (in_grid (moved_numbers moved.now) i) (moved_blocks moved.now) coefs.old coefs.new }
 {
     let high = moved.frame().blocks(i).high;
     for y in 0..high {
@@ -55,7 +55,7 @@ fn put_rows(moved: &Moved, i: u8, coefs: &mut Coefs)
 fn put_row(moved: &Moved, i: u8, y: u32, coefs: &mut Coefs)
     requires frame { coefs.old.frame ≡ moved_numbers moved.now }
     requires there { IsReal (moved_numbers moved.now) i 0 y }
-    ensures { Copies (in_grid_row (moved_numbers moved.now) i y) (moved_blocks moved.now) coefs.old coefs.new }
+    ensures { CopiesBlocks (in_grid_row (moved_numbers moved.now) i y) (moved_blocks moved.now) coefs.old coefs.new }
 {
     let wide = moved.frame().blocks(i).wide;
     for x in 0..wide {
@@ -67,7 +67,7 @@ fn put_row(moved: &Moved, i: u8, y: u32, coefs: &mut Coefs)
 fn put_block(moved: &Moved, i: u8, x: u32, y: u32, coefs: &mut Coefs)
     requires frame { coefs.old.frame ≡ moved_numbers moved.now }
     requires there { IsReal (moved_numbers moved.now) i x y }
-    ensures { Copies (is_place i x y) (moved_blocks moved.now) coefs.old coefs.new }
+    ensures { CopiesBlocks (is_place i x y) (moved_blocks moved.now) coefs.old coefs.new }
 {
     moved.frame().checked();
     coefs.checked();

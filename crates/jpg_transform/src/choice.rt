@@ -1,13 +1,14 @@
-// What is asked of a picture (the manual of jpegtran), and how it is written then.
+//! What is asked for a picture (the manual of jpegtran), and how it is written then.
 ghost use Rattle.std.specs.Prelude.{◌≡◌};
-ghost use Rattle.jpg_spec.specs.Moved.{asks_progressive};
+ghost use Rattle.jpg_spec_write.specs.ScansAsked.{asks_progressive};
 ghost use Rattle.jpg_transform.specs.Planned.{scans_told};
 
 use jpg_file::{Plan, Restart};
 use jpg_scans::Script;
-use jpg_spec::{Copying, Transform};
+use jpg_spec::Copying;
+use jpg_spec_move::Transform;
 
-/// In which scans a picture is written.
+/// The scans that a picture is written in.
 #[derive(Drop)]
 pub enum Scans {
     /// One scan, or one of each component (`Script::sequential`).
@@ -30,21 +31,21 @@ impl Scans {
     }
 }
 
-/// What is asked of a picture: to be grayed, transformed and trimmed, in this order; which of its kept markers are passed
-/// on; in which scans it is written, and where restart markers stand in them.
+/// What is asked for a picture: whether it is converted to grayscale, transformed and trimmed, in this order; which of
+/// its kept markers are passed on; the scans that it is written in, and the restart interval.
 #[derive(Drop)]
 pub struct Choice {
     pub transform: Transform,
-    /// Partial iMCUs that would stay where they are, at the right and at the bottom, are left out.
+    /// Partial iMCUs that would remain in place, at the right and at the bottom, are left out.
     pub trim: bool,
-    /// The first component alone is kept, with factors 1 by 1.
+    /// Only the first component is kept, with factors 1 by 1.
     pub gray: bool,
     pub copying: Copying,
     pub scans: Scans,
     pub restart: Restart,
 }
 
-/// How a picture is written as it was asked for.
+/// How a picture is written for a choice.
 #[derive(Drop)]
 pub struct Job {
     pub plan: Plan,

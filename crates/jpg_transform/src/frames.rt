@@ -1,8 +1,8 @@
-// The frame of a picture moved (the manual of jpegtran).
+//! The frame of a transformed picture (the manual of jpegtran).
 ghost use Rattle.std.specs.Prelude.{◌≡◌, ◌<◌, map, true};
 ghost use Rattle.jpg_spec.specs.FrameHeader.{IsFrame};
-ghost use Rattle.jpg_spec.specs.Laws.{FirstIsGreatest};
-ghost use Rattle.jpg_spec.specs.Moved.{exchanged_factors, grayed_frame, moved_frame, transformed_frame, trimmed_frame, whole_side};
+ghost use Rattle.jpg_spec_move.specs.Laws.{FirstIsGreatest};
+ghost use Rattle.jpg_spec_move.specs.Moved.{exchanged_factors, grayed_frame, moved_frame, transformed_frame, trimmed_frame, whole_side};
 ghost use Rattle.jpg_base.specs.Frame.{numbers_of};
 ghost use Rattle.jpg_transform.specs.Planned.{choice_told};
 
@@ -10,9 +10,10 @@ use crate::Choice;
 use crate::table::{mirrors_across, mirrors_down, transposes};
 use arrayvec::ArrayVec;
 use jpg_base::Frame;
-use jpg_spec::{Component, Limits, Transform};
+use jpg_spec::{Component, Limits};
+use jpg_spec_move::Transform;
 
-// A frame of this process with these numbers, which pass the checks.
+// A frame of the process of `like` with these numbers, which pass the checks.
 fn made(like: &Frame, width: u32, height: u32, components: &[Component]) -> Frame
     requires { IsFrame (numbers_of like.now.process like.now.precision width height components.now) }
     ensures { result ≡ numbers_of like.now.process like.now.precision width height components.now }
@@ -43,7 +44,7 @@ fn components_of(frame: &Frame) -> ArrayVec<Component, 4>
     components
 }
 
-// The same with their factors exchanged.
+// The components with their factors exchanged.
 fn exchanged(frame: &Frame) -> ArrayVec<Component, 4>
     ensures { result.items ≡ map exchanged_factors frame.now.components }
 {
@@ -60,7 +61,7 @@ fn exchanged(frame: &Frame) -> ArrayVec<Component, 4>
     components
 }
 
-// The first component alone, whole.
+// The frame of only the first component, untrimmed, if it is converted to grayscale.
 fn grayed(frame: &Frame, gray: bool) -> Frame
     requires { gray ≡ true → FirstIsGreatest frame.now }
     ensures { result ≡ grayed_frame gray frame.now }
@@ -77,7 +78,7 @@ fn grayed(frame: &Frame, gray: bool) -> Frame
     made(frame, frame.width(), frame.height(), &[first])
 }
 
-// Sides and factors exchanged, where rows become columns.
+// The frame with sides and factors exchanged, where rows become columns.
 fn transformed(frame: &Frame, transform: Transform) -> Frame
     ensures { result ≡ transformed_frame transform frame.now }
 {
@@ -93,7 +94,7 @@ fn transformed(frame: &Frame, transform: Transform) -> Frame
     )
 }
 
-// A side of whole iMCUs of this size, if one is whole.
+// A side of complete iMCUs of this size, or the side as it is if there is none.
 fn whole_side(side: u32, mcu: u32) -> u32
     requires { 0 < mcu }
     ensures { result ≡ whole_side side mcu }
@@ -102,7 +103,7 @@ fn whole_side(side: u32, mcu: u32) -> u32
     if whole == 0 { side } else { mcu * whole }
 }
 
-// The width, of whole iMCUs where columns change places.
+// The width, of complete iMCUs where columns are mirrored.
 fn trimmed_width(frame: &Frame, trim: bool, transform: Transform) -> u32
     ensures { result ≡ (trimmed_frame trim transform frame.now).width }
 {
@@ -113,7 +114,7 @@ fn trimmed_width(frame: &Frame, trim: bool, transform: Transform) -> u32
     }
 }
 
-// The height, of whole iMCUs where rows change places.
+// The height, of complete iMCUs where rows are mirrored.
 fn trimmed_height(frame: &Frame, trim: bool, transform: Transform) -> u32
     ensures { result ≡ (trimmed_frame trim transform frame.now).height }
 {
@@ -133,7 +134,7 @@ fn trimmed(frame: &Frame, trim: bool, transform: Transform) -> Frame
     made(frame, width, height, components_of(frame).as_slice())
 }
 
-/// The frame of a picture that is grayed, transformed and trimmed.
+/// The frame of a picture converted to grayscale, transformed and trimmed.
 pub fn moved_frame(frame: &Frame, choice: &Choice) -> Frame
     requires { choice.now.gray ≡ true → FirstIsGreatest frame.now }
     ensures { result ≡ moved_frame (choice_told choice.now) frame.now }

@@ -1,11 +1,11 @@
-//! Pictures moved without loss: mirrored, transposed, rotated (the manual of jpegtran).
+//! Pictures transformed without loss: mirrored, transposed, rotated (the manual of jpegtran).
 #![tactic(auto)]
 
 mod applying;
 mod choice;
 mod frames;
 mod moved;
-mod moving;
+mod moved_block;
 mod planning;
 mod signs;
 mod table;
@@ -16,6 +16,8 @@ pub use jpg_base::{Block, Frame, NoMemory};
 pub use jpg_coefs::{BlockView, Coefs};
 pub use jpg_file::{Picture, Restart};
 pub use jpg_scans::Script;
-pub use jpg_spec::{Copying, PictureFault, Transform};
+pub use jpg_spec::Copying;
+pub use jpg_spec_move::Transform;
+pub use jpg_spec_write::PictureFault;
 pub use moved::Moved;
 pub use planning::{counted, plan};

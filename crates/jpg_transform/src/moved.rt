@@ -1,10 +1,10 @@
-// A picture moved, as a view of the picture that was read (the manual of jpegtran).
+//! A transformed picture, as a view of the picture that was read (the manual of jpegtran).
 ghost use Rattle.jpg_transform.specs.Places.{HasSources};
 
 use jpg_base::Frame;
 use jpg_file::Picture;
 
-/// A picture moved: a view of the picture that was read, over the output's frame. It takes no memory.
+/// A transformed picture: a view of the picture that was read, with the output's frame. It takes no memory.
 #[derive(Drop)]
 pub struct Moved<'a> {
     pub(crate) picture: &'a Picture,

@@ -1,10 +1,11 @@
-// How a picture is written as it was asked for (the manual of jpegtran).
+//! How a picture is written for a choice (the manual of jpegtran).
 ghost use Rattle.std.specs.Prelude.{◌≡◌, ◌≤◌, length, map, None};
 ghost use Rattle.jpg_spec.specs.Transposed.{transposed};
-ghost use Rattle.jpg_spec.specs.Moved.{gray_fault, is_gray_or_ycbcr, script_due};
-ghost use Rattle.jpg_spec.specs.WrittenFile.{IsRestart};
-ghost use Rattle.jpg_file.specs.PictureRead.{picture_meaning};
-ghost use Rattle.jpg_file.specs.Restarts.{restart_of};
+ghost use Rattle.jpg_spec_move.specs.Moved.{gray_fault, is_gray_or_ycbcr};
+ghost use Rattle.jpg_spec_write.specs.ScansAsked.{script_due};
+ghost use Rattle.jpg_spec_write.specs.WrittenFile.{IsRestart};
+ghost use Rattle.jpg_file.specs.Read.PictureRead.{picture_meaning};
+ghost use Rattle.jpg_file.specs.Write.Restarts.{restart_of};
 ghost use Rattle.jpg_transform.specs.Planned.{IsOutHeadOf, IsPlan, choice_told, is_first_greatest, moved_tables, process_in, process_of, scans_told};
 
 use crate::frames::moved_frame;
@@ -15,11 +16,13 @@ use jpg_base::{Frame, QuantTable};
 use jpg_file::{Picture, Plan, Restart};
 use jpg_markers::{OutHead, is_wide};
 use jpg_scans::Script;
-use jpg_spec::{Colour, PictureFault, Process};
+use jpg_spec::{Colour, Process};
+use jpg_spec_write::PictureFault;
 
-/// How a picture is written as it is asked for, or its first fault: GrayColour where other colours than gray and YCbCr
-/// shall be gray, GrayFactors where the first component of such a picture hasn't the greatest factors, and then those of
-/// the script on the output's frame (`Script::check`), of which the own scripts have none. It takes no memory.
+/// How a picture is written for a choice, or its first fault: GrayColour if colours other than gray and YCbCr are to be
+/// converted to grayscale, GrayFactors if the first component of such a picture doesn't have the greatest factors, and
+/// then those of the script on the output's frame (`Script::check`), of which the default scripts have none. It takes
+/// no memory.
 pub fn plan(picture: &Picture, choice: &Choice) -> Result<Job, PictureFault>
     ensures { IsPlan picture.now (choice_told choice.now) result }
 {
@@ -43,14 +46,14 @@ pub fn plan(picture: &Picture, choice: &Choice) -> Result<Job, PictureFault>
     }
 }
 
-/// Tells that an interval is counted in two bytes. It does nothing.
+/// States, for proofs, that an interval fits into two bytes. It does nothing.
 pub fn counted(restart: Restart)
     ensures { IsRestart (restart_of restart) }
 {
     let _ = restart;
 }
 
-// The scans of the output's frame and colours.
+// The scans for the output's frame and colours.
 fn script_due(scans: &Scans, frame: &Frame, colour: Colour) -> Script
     ensures { result ≡ script_due (scans_told scans.now) frame.now colour }
 {
@@ -61,14 +64,14 @@ fn script_due(scans: &Scans, frame: &Frame, colour: Colour) -> Script
     }
 }
 
-// Whether a picture of these colours can be gray.
+// Whether a picture of these colours can be converted to grayscale.
 fn is_gray_or_ycbcr(colour: Colour) -> bool
     ensures { result ≡ is_gray_or_ycbcr colour }
 {
     matches!(colour, Colour::Gray | Colour::YCbCr)
 }
 
-// The fault of a picture that shall be gray.
+// The fault of a picture that is to be converted to grayscale.
 fn gray_fault(picture: &Picture, gray: bool) -> Option<PictureFault>
     ensures { result ≡ gray_fault gray (picture_meaning picture.now) }
 {
@@ -127,7 +130,7 @@ fn moved_tables(tables: &[QuantTable], choice: &Choice) -> ArrayVec<QuantTable, 
     }
 }
 
-// The tables again.
+// A copy of the tables.
 fn copied(tables: &[QuantTable]) -> ArrayVec<QuantTable, 4>
     requires { length tables.now ≤ 4 }
     ensures { result.items ≡ tables.now }

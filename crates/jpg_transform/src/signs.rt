@@ -1,12 +1,12 @@
-// The signs and the frequencies of one block (T.81, A.3.3 and A.3.6).
+//! The signs and the order of the frequencies of one block (T.81, A.3.3 and A.3.6).
 ghost use Rattle.std.specs.Prelude.{◌≡◌, ◌≤ℤ◌, negsuc, neg_ℤ, All, pos, if◌then◌else◌, int_lt};
-ghost use Rattle.jpg_spec.specs.Transforms.{signed};
+ghost use Rattle.jpg_spec_move.specs.Transforms.{signed};
 ghost use Rattle.jpg_spec.specs.Transposed.{transposed};
 ghost use Rattle.jpg_transform.specs.Changed.{AreMasks};
 
 use jpg_base::Block;
 
-// -1 for each place in zigzag order whose sign is changed, else 0.
+// -1 for each place in zigzag order whose sign is changed, otherwise 0.
 static SIGNS: [[i16; 64]; 4] = [
     // no signs
     [
@@ -43,7 +43,7 @@ fn masked(mask: i16, value: i16) -> i16
     if mask < 0 { -value } else { value }
 }
 
-// The masks of a block that is mirrored so.
+// The masks of a block that is mirrored in these directions.
 #[inline(always)]
 fn masks(across: bool, down: bool) -> &'static [i16; 64]
     ensures { AreMasks across down result.now }
@@ -51,8 +51,8 @@ fn masks(across: bool, down: bool) -> &'static [i16; 64]
     &SIGNS[usize::from(across) + 2 * usize::from(down)]
 }
 
-/// The block with its signs changed: those of odd horizontal frequencies where `across`, those of odd
-/// vertical frequencies where `down`.
+/// The block with its signs changed: those of odd horizontal frequencies if `across`, those of odd vertical frequencies
+/// if `down`.
 pub fn signed(across: bool, down: bool, block: &Block) -> Block
     requires { All (λ v. negsuc 32766 ≤ℤ v) block.now }
     ensures { result ≡ signed across down block.now }
@@ -66,7 +66,7 @@ pub fn signed(across: bool, down: bool, block: &Block) -> Block
     turned
 }
 
-/// The same of the block with its frequencies exchanged.
+/// The same for the block with its axes exchanged.
 pub fn signed_over(across: bool, down: bool, block: &Block) -> Block
     requires { All (λ v. negsuc 32766 ≤ℤ v) block.now }
     ensures { result ≡ signed across down (transposed (pos 0) block.now) }

@@ -1,24 +1,25 @@
-// What each transform does to the blocks (the manual of jpegtran).
-//
-// With C columns and R rows of a component of the output that change places, the block at column x and row y comes from
-// column a and row b of the source, and these of its signs are changed:
-//
-//     transform   rows become columns   C        R        source (a, b)      signs of odd frequencies, where
-//     Keep        no                    0        0        (x, y)             none
-//     FlipH       no                    whole    0        (x', y)            horizontal, x < C
-//     FlipV       no                    0        whole    (x, y')            vertical, y < R
-//     Rotate180   no                    whole    whole    (x', y')           both of these
-//     Transpose   yes                   0        0        (y, x)             none
-//     Rotate90    yes                   whole    0        (y, x')            horizontal, x < C
-//     Rotate270   yes                   0        whole    (y', x)            vertical, y < R
-//     Transverse  yes                   whole    whole    (y', x')           both of these
-//
-// whole: the columns, or rows, of whole iMCUs of the output; x' is C - 1 - x where x < C, else x, and y' is R - 1 - y where
-// y < R, else y. Where rows become columns, the frequencies are exchanged first, and so are the axes of the tables.
+//! What each transform does to the blocks (the manual of jpegtran).
+//!
+//! With C columns and R rows of a component of the output that are mirrored, the block at column x and row y comes from
+//! column a and row b of the source, and these of its signs are changed:
+//!
+//!     transform   rows become columns   C        R        source (a, b)      signs of odd frequencies, where
+//!     Keep        no                    0        0        (x, y)             none
+//!     FlipH       no                    whole    0        (x', y)            horizontal, x < C
+//!     FlipV       no                    0        whole    (x, y')            vertical, y < R
+//!     Rotate180   no                    whole    whole    (x', y')           both of these
+//!     Transpose   yes                   0        0        (y, x)             none
+//!     Rotate90    yes                   whole    0        (y, x')            horizontal, x < C
+//!     Rotate270   yes                   0        whole    (y', x)            vertical, y < R
+//!     Transverse  yes                   whole    whole    (y', x')           both of these
+//!
+//! whole: the columns, or rows, of complete iMCUs of the output; x' is C - 1 - x if x < C, otherwise x, and y' is R - 1
+//! - y if y < R, otherwise y. Where rows become columns, the axes of the frequencies are exchanged first, and so are
+//! those of the tables.
 ghost use Rattle.std.specs.Prelude.{◌≡◌};
-ghost use Rattle.jpg_spec.specs.Transforms.{transposes, mirrors_across, mirrors_down};
+ghost use Rattle.jpg_spec_move.specs.Transforms.{transposes, mirrors_across, mirrors_down};
 
-use jpg_spec::Transform;
+use jpg_spec_move::Transform;
 
 /// Whether rows become columns.
 pub fn transposes(transform: Transform) -> bool
@@ -31,7 +32,7 @@ pub fn transposes(transform: Transform) -> bool
     }
 }
 
-/// Whether columns of the output change places.
+/// Whether columns of the output are mirrored.
 pub fn mirrors_across(transform: Transform) -> bool
     ensures { result ≡ mirrors_across transform }
 {
@@ -43,7 +44,7 @@ pub fn mirrors_across(transform: Transform) -> bool
     }
 }
 
-/// Whether rows of the output change places.
+/// Whether rows of the output are mirrored.
 pub fn mirrors_down(transform: Transform) -> bool
     ensures { result ≡ mirrors_down transform }
 {

@@ -1,9 +1,9 @@
 // What words ask for, part by part.
-use crate::bytes::Stop;
-use crate::runs::{Other, words_of};
+use crate::runs::words_of;
 use jpg_base::Name;
 use jpg_cli::{Asked, CommentFrom, Files, ScriptFrom, TransformWords, WriteWords, read_words};
 use std::alloc::{AllocError, Global};
+use test_rows::{Other, Stop};
 
 /// The first part that the words ask for in another way than is due. Each is `PART VALUE`, and commas part them.
 pub fn run_asked<'a>(alloc: Global, words: &str, due: &'a str) -> Result<Other, Stop<'a>> {

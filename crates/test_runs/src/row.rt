@@ -1,6 +1,6 @@
 // A row: its name, the words of a run, the files that it finds, how it is run, and what is due.
-use crate::bytes::{Stop, number};
 use std::alloc::Global;
+use test_rows::{Stop, number};
 
 // As many bytes a read as fit.
 const WHOLE: &str = "4294967295";
@@ -69,18 +69,6 @@ pub fn read_row(alloc: Global, line: &str) -> Result<Row<'_>, Stop<'_>> {
         }
     }
     Ok(row)
-}
-
-/// The numbers for which a row with the field `each FROM TO` is run, in place of each `@`.
-pub fn each(line: &str) -> Option<(u64, u64)> {
-    for field in line.split('|').skip(2) {
-        if let Some(range) = field.trim().strip_prefix("each ") {
-            let (from, to) = range.split_once(' ')?;
-            let (from, to) = (from.parse::<u64>().ok()?, to.parse::<u64>().ok()?);
-            return if from < to { Some((from, to)) } else { None };
-        }
-    }
-    None
 }
 
 fn take_field<'a>(row: &mut Row<'a>, field: &'a str) -> Result<(), Stop<'a>> {

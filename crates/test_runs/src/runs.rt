@@ -1,15 +1,12 @@
 // The runs of a row over a desk in memory, and what differs from what is due.
 use crate::asked::run_asked;
-use crate::bytes::{Named, Stop, spelled};
 use crate::cut_desk::CutDesk;
 use crate::row::{Ends, Row};
 use jpg_base::{Bytes, Desk, MemoryDesk, Name, NoMemory, Text};
 use jpg_cli::{Ended, run};
 use jpg_pnm_bmp::{BmpEnd, ImageEnd, PnmEnd};
 use std::alloc::{AllocError, Global};
-
-/// What came of a run, where it isn't what is due.
-pub type Other = Option<String>;
+use test_rows::{Named, Other, Stop, keep, spelled};
 
 /// Runs a row once for each number of bytes that a read gives at most, or reads its words alone.
 pub fn run_row<'a>(
@@ -60,22 +57,6 @@ fn judge<'a>(
     };
     let text = came(alloc, what, ended, desk, piece)?;
     Ok(Some(text))
-}
-
-/// Gives these bytes a name.
-pub fn keep(
-    alloc: Global,
-    names: &mut Vec<Named>,
-    name: &str,
-    bytes: &[u8],
-) -> Result<(), NoMemory> {
-    let name = Text::new(alloc, name)?;
-    let mut kept = Bytes::new(alloc);
-    kept.push_all(bytes)?;
-    match names.push(Named { name, bytes: kept }) {
-        Ok(()) => Ok(()),
-        Err(_) => Err(NoMemory),
-    }
 }
 
 // The desk with a row's files, which fails at the call that the row names.

@@ -1,4 +1,4 @@
-// The steps of the desk in memory, each over the parts that it changes.
+//! The steps of the desk in memory, each over the parts that it changes.
 ghost use Rattle.std.specs.Prelude.{◌≡◌, ◌≤◌, ◌<◌, length, map, true, IfSome, Some, None};
 ghost use Rattle.std.specs.Option.{option_copied};
 ghost use Rattle.jpg_base.specs.Desk.{raised, Rose, NotesName, AfterAddOutput, AfterAppendLast, AfterAppend};
@@ -11,7 +11,7 @@ use crate::input::Input;
 use crate::{Name, Put};
 use std::alloc::Global;
 
-/// Counts a call, and says whether it is one that fails. Calls after the last number are not.
+/// Counts a call, and answers whether it is one that fails. Calls after the last number don't fail.
 pub fn is_failing(calls: &mut u64, failing: &[u64]) -> bool
     ensures fails { result ≡ is_failing_next calls.old failing.now }
     ensures counted { calls.new ≡ raised calls.old }
@@ -42,7 +42,7 @@ fn find<'a>(files: &'a [Stored], name: &Name) -> Option<&'a [u8]>
     None
 }
 
-/// The input that the name gives, unless the call fails or there is no memory.
+/// The input with this name, unless the call fails, there is no such file or no memory.
 pub fn input_of(alloc: Global, fails: bool, files: &[Stored], name: &Name) -> Option<Input>
     ensures found { IfSome result (λ input. file_of (map named files.now) name.now ≡ Some (input_rest input)) }
     ensures fails { fails ≡ true → result ≡ None }

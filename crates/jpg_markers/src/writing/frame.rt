@@ -1,9 +1,9 @@
-// Frame headers as they are written (T.81, B.2.2).
+//! Frame headers as they are written (T.81, B.2.2).
 ghost use Rattle.std.specs.Prelude.{◌≡◌, ◌≤◌, ◌+◌, [], ◌++◌, length, true};
 ghost use Rattle.std.specs.Int.{to_be_bytes};
 ghost use Rattle.arrayvec.specs.ArrayVec.{array_vec_len};
 ghost use Rattle.jpg_huff.specs.BitOut.{CanSend, Sends};
-ghost use Rattle.jpg_spec.specs.FileText.{sof_code};
+ghost use Rattle.jpg_spec_write.specs.FileText.{sof_code};
 ghost use Rattle.jpg_spec.specs.FrameHeader.{HasFactors};
 ghost use Rattle.jpg_markers.specs.OutHead.{component_text, frame_contents, frame_segment, front_contents};
 
@@ -18,8 +18,7 @@ use jpg_spec::{Component, Process};
 // The contents of a frame header: 6 bytes, and 3 for each of its components.
 type Contents = ArrayVec<u8, 18>;
 
-/// A frame header, whose components have the places of their tables among the distinct ones as
-/// their slots.
+/// Writes a frame header; the slot of each component is the index of its table among the distinct ones.
 pub fn write_frame<D: Desk>(
     head: &OutHead,
     distinct: &[QuantTable],
@@ -63,7 +62,7 @@ fn contents_of(frame: &Frame, tables: &[QuantTable], distinct: &[QuantTable]) ->
     contents
 }
 
-// What stands before the components.
+// The contents before the components.
 fn sides_of(frame: &Frame) -> Contents
     ensures value { result.items ≡ front_contents frame.now }
     ensures long { array_vec_len result ≡ 6 }

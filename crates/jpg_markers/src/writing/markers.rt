@@ -1,8 +1,8 @@
-// The own header of a file, and the kept markers that are passed on (JFIF 1.02, Adobe's APP14).
+//! The JFIF header or Adobe segment of a file, and the kept markers that are passed on (JFIF 1.02, Adobe's APP14).
 ghost use Rattle.std.specs.Prelude.{◌≡◌, [], ◌∷◌, ◌==◌, if◌then◌else◌, filter, true};
 ghost use Rattle.jpg_huff.specs.BitOut.{CanSend, Sends};
-ghost use Rattle.jpg_spec.specs.FileText.{kept_text};
-ghost use Rattle.jpg_spec.specs.Moves.{adobe_contents, jfif_contents};
+ghost use Rattle.jpg_spec_write.specs.FileText.{kept_text};
+ghost use Rattle.jpg_spec_write.specs.Headed.{adobe_contents, jfif_contents};
 ghost use Rattle.jpg_markers.specs.Kept.{IsKeptSegment, kept_pair};
 ghost use Rattle.jpg_markers.specs.OutHead.{markers_text};
 ghost use Rattle.jpg_markers.specs.Passed.{is_copied, is_passed, is_replaced, own_header};
@@ -15,7 +15,7 @@ use jpg_base::{Desk, WriteFault};
 use jpg_huff::BitOut;
 use jpg_spec::{Colour, Copying, Jfif};
 
-/// Writes the own header, and then the kept markers that are passed on.
+/// Writes the JFIF header or Adobe segment, and then the kept markers that are passed on.
 pub fn write_markers<D: Desk>(
     head: &OutHead,
     kept: &KeptList,
@@ -29,7 +29,7 @@ pub fn write_markers<D: Desk>(
     write_passed(head.copying, head.colour, kept, out, desk)
 }
 
-// The own header of a file of these colours.
+// Writes the JFIF header or Adobe segment of a file of these colours.
 fn write_own<D: Desk>(
     colour: Colour,
     jfif: &Jfif,
@@ -47,8 +47,7 @@ fn write_own<D: Desk>(
     }
 }
 
-// Version 1.01, or that of the input where its major number is 1; the density of the input; and
-// no thumbnail (JFIF 1.02).
+// Version 1.01, or that of the input if its major number is 1; the density of the input; and no thumbnail (JFIF 1.02).
 fn jfif_contents(jfif: &Jfif) -> [u8; 14]
     ensures { result ≡ jfif_contents jfif.now }
 {
@@ -85,7 +84,7 @@ fn adobe_contents(transform: u8) -> [u8; 12]
     [b'A', b'd', b'o', b'b', b'e', 0, 100, 0, 0, 0, 0, transform]
 }
 
-// The kept markers that are passed on.
+// Writes the kept markers that are passed on.
 fn write_passed<D: Desk>(
     copying: Copying,
     colour: Colour,
@@ -102,7 +101,7 @@ fn write_passed<D: Desk>(
     Ok(())
 }
 
-// One kept marker, where it is passed on.
+// Writes one kept marker, if it is passed on.
 fn write_member<D: Desk>(
     copying: Copying,
     colour: Colour,
@@ -139,7 +138,7 @@ fn is_copied(copying: Copying, code: u8) -> bool
     }
 }
 
-// Whether the own header of a file of these colours stands in the place of this marker.
+// Whether the JFIF header or Adobe segment of a file of these colours replaces this marker.
 fn is_replaced(colour: Colour, code: u8, contents: &[u8]) -> bool
     ensures { result ≡ is_replaced colour code contents.now }
 {

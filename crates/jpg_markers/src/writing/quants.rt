@@ -1,11 +1,11 @@
-// Quantisation tables as they are written (T.81, B.2.4.1).
+//! Quantisation tables as they are written (T.81, B.2.4.1).
 ghost use Rattle.std.specs.Prelude.{◌≡◌, ◌≤◌, ◌<◌, ◌+◌, [], ◌∷◌, ◌++◌, length, flat_map, if◌then◌else◌, false, true};
 ghost use Rattle.std.specs.Int.{to_be_bytes, w16};
 ghost use Rattle.arrayvec.specs.ArrayVec.{array_vec_len};
 ghost use Rattle.jpg_huff.specs.BitOut.{CanSend, Sends};
 ghost use Rattle.jpg_spec.specs.Lists.{any_of, are_equal};
-ghost use Rattle.jpg_spec.specs.FileText.{distinct_after, quant_text, slot_in};
-ghost use Rattle.jpg_spec.specs.Moves.{is_wide};
+ghost use Rattle.jpg_spec_write.specs.FileText.{distinct_after, quant_text, slot_in};
+ghost use Rattle.jpg_spec_write.specs.Headed.{is_wide};
 
 use super::segment::write_segment;
 use arrayvec::ArrayVec;
@@ -49,7 +49,7 @@ fn holds(tables: &[QuantTable], table: &QuantTable) -> bool
     false
 }
 
-/// The place of the table among these, or their number.
+/// The index of the table among these, or their number.
 pub fn slot_of(tables: &[QuantTable], table: &QuantTable) -> u8
     requires { length tables.now ≤ 4 }
     ensures value { result ≡ slot_in tables.now table.now }
@@ -63,7 +63,7 @@ pub fn slot_of(tables: &[QuantTable], table: &QuantTable) -> u8
     tables.len() as u8
 }
 
-/// A DQT segment for each of these tables, with its place among them as its slot.
+/// Writes a DQT segment for each of these tables, with its index among them as its slot.
 pub fn write_tables<D: Desk>(
     tables: &[QuantTable],
     out: &mut BitOut,
@@ -79,7 +79,7 @@ pub fn write_tables<D: Desk>(
     Ok(())
 }
 
-// A DQT segment, with entries of two bytes where one exceeds 255 (Pq 1), else of one.
+// Writes a DQT segment, with entries of two bytes if one exceeds 255 (Pq 1), otherwise of one.
 fn write_table<D: Desk>(
     slot: u8,
     table: &QuantTable,
@@ -97,8 +97,8 @@ fn write_table<D: Desk>(
     }
 }
 
-/// Whether an entry exceeds 255, so that the table's entries have two bytes each (Pq of 1, T.81
-/// B.2.4.1) and its file isn't baseline.
+/// Whether an entry exceeds 255, so that the table's entries have two bytes each (Pq 1, T.81, B.2.4.1) and its file
+/// isn't baseline.
 pub fn is_wide(table: &QuantTable) -> bool
     ensures { result ≡ is_wide table.now }
 {

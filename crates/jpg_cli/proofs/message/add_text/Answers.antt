@@ -1,5 +1,5 @@
 use Rattle.std.proofs.Common.{◌++◌, sym, ap, ◌∙◌}
-use Rattle.jpg_spec.specs.Messages.{text_of}
+use Rattle.jpg_spec_words.specs.Messages.{text_of}
 use Rattle.jpg_cli.proofs.message.add_text.Goals as goal
 
 pub returns-in-WriteFault-clause-text : goal.returns-in-WriteFault-clause-text

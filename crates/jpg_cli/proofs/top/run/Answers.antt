@@ -1,7 +1,7 @@
 use Rattle.std.proofs.Common.{List, ℕ, map, subst}
 use Rattle.std.specs.Prelude.{string_bytes}
-use Rattle.jpg_spec.specs.Messages.{message}
-use Rattle.jpg_cli.specs.Ends.{formats_of}
+use Rattle.jpg_spec_words.specs.Messages.{message}
+use Rattle.jpg_cli.specs.Tools.Ends.{formats_of}
 use Rattle.jpg_cli.specs.Run.{SaysText}
 use Rattle.jpg_cli.proofs.Ending.{ran}
 use Rattle.jpg_cli.proofs.top.run.Goals as goal

@@ -1,6 +1,6 @@
 use Rattle.std.proofs.Common.{sym, subst, ◌∙◌}
-use Rattle.jpg_spec.specs.Pixels.{info, pixels}
-use Rattle.jpg_file.specs.PictureRead.{picture_meaning}
+use Rattle.jpg_spec_image.specs.Pixels.{info, pixels}
+use Rattle.jpg_file.specs.Read.PictureRead.{picture_meaning}
 use Rattle.jpg_pnm_bmp.specs.EndState.{EndState, IsImageInfo}
 use Rattle.jpg_color.proofs.Decoded.{decodes_none, decoded_end, decoded_text, image_info, told_of}
 use Rattle.jpg_color.proofs.decode.decode_rows.Goals as goal

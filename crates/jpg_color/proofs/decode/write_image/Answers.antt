@@ -1,6 +1,6 @@
 use Rattle.std.proofs.Common.{◌++◌, ap, ◌∙◌}
 use Rattle.std.proofs.lemmas.Result.{err_from_is_err_and}
-use Rattle.jpg_spec.specs.ImageText.{first_piece}
+use Rattle.jpg_spec_image.specs.ImageText.{first_piece}
 use Rattle.jpg_pnm_bmp.specs.EndState.{EndState}
 use Rattle.jpg_color.specs.DecodeRows.{rows_in_all}
 use Rattle.jpg_color.proofs.Decoded.{decodes_none, can_finish, rows_stop, end_stop, image_finished, image_sent}

@@ -1,5 +1,5 @@
 use Rattle.std.proofs.Common.{[], ◌∷◌, ap, ◌∙◌}
-use Rattle.jpg_spec.specs.Moves.{jfif_contents}
+use Rattle.jpg_spec_write.specs.Headed.{jfif_contents}
 use Rattle.jpg_spec.specs.declared.jfif.Jfif.{Jfif}
 use Rattle.jpg_color.proofs.EncodedPictures.{means_due, parts_due, put_together}
 use Rattle.jpg_color.proofs.encode.picture_of.Goals as goal

@@ -3,7 +3,7 @@ use Rattle.std.proofs.lemmas.Result.{err_from_is_err_and}
 use Rattle.jpg_spec.specs.Markers.{at_soi, at_frame, at_part}
 use Rattle.jpg_base.specs.declared.stop.Stop.{Stop}
 use Rattle.jpg_markers.specs.declared.segments.SegStep.{SegStep}
-use Rattle.jpg_markers.specs.Reading.{reading_of, Comes, BehindWhole}
+use Rattle.jpg_markers.specs.Reading.{reading_of, Comes, AfterWhole}
 use Rattle.jpg_comments.specs.Printing.{HasPrinted, AfterPrintedByte}
 use Rattle.jpg_comments.proofs.Taken.{appends_none}
 use Rattle.jpg_comments.proofs.ByByte.{printed_on, printed_stop, printed_whole}
@@ -25,7 +25,7 @@ returns-in-Whole-clause-answered c = λ bytes text h.
     let next = reading_of c.byte.new.self in
     let comes = c.in_ok-byte.ensures.answered bytes h.0 h.1.stands in
     printed_whole r.limits r next bytes text c.args.out.now c.print_segment.new.out c.args.byte c.print_segment.result h c.requires c.in_ok-byte.ensures.limits (c.in_ok-byte.ensures.taken h.1.stands.0)
-    (subst (λ (s : SegStep). BehindWhole {X = Stop} (Ok s) next) c.in-Whole.is c.in_ok-byte.ensures.whole)
+    (subst (λ (s : SegStep). AfterWhole {X = Stop} (Ok s) next) c.in-Whole.is c.in_ok-byte.ensures.whole)
     (subst (λ (s : SegStep). Comes (bytes ++ c.args.byte ∷ []) h.0 (Ok s) next) c.in-Whole.is comes) c.print_segment.ensures
 
 pub returns-in-More : goal.returns-in-More

@@ -3,7 +3,7 @@ use Rattle.std.proofs.lemmas.Result.{err_from_is_err_and}
 use Rattle.jpg_base.specs.declared.stop.Fed.TheVariants as fed
 use Rattle.jpg_base.specs.declared.stop.Stop.{Stop}
 use Rattle.jpg_markers.specs.Reading.{reading_of}
-use Rattle.jpg_comments.specs.Begun.{Appends}
+use Rattle.jpg_comments.specs.SegmentsSoFar.{Appends}
 use Rattle.jpg_comments.specs.Printing.{HasPrinted, AfterPrintedByte, AfterPrintedPiece}
 use Rattle.jpg_comments.proofs.Taken.{appends_then, appends_as}
 use Rattle.jpg_comments.proofs.ByPiece.{one_more, piece_stopped, piece_long, piece_whole, piece_more}

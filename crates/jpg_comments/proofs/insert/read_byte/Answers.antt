@@ -3,7 +3,7 @@ use Rattle.std.proofs.lemmas.Result.{err_from_is_err_and}
 use Rattle.jpg_spec.specs.Markers.{at_soi, at_part}
 use Rattle.jpg_base.specs.declared.stop.Stop.{Stop}
 use Rattle.jpg_markers.specs.declared.segments.SegStep.{SegStep}
-use Rattle.jpg_markers.specs.Reading.{reading_of, Comes, BehindWhole}
+use Rattle.jpg_markers.specs.Reading.{reading_of, Comes, AfterWhole}
 use Rattle.jpg_comments.proofs.HeadByBytes.{kept_on, kept_stop, kept_eoi, kept_frame, kept_whole}
 use Rattle.jpg_comments.proofs.insert.read_byte.Goals as goal
 
@@ -20,7 +20,7 @@ returns-in_ok-keep_segment-in-Whole-clause-answered c = λ bytes h.
     let next = reading_of c.byte.new.self in
     let comes = subst (λ (s : SegStep). Comes (bytes ++ c.args.byte ∷ []) h.0 (Ok s) next) c.in-Whole.is (c.in_ok-byte.ensures.answered bytes h.0 h.1.stands) in
     kept_whole r.limits c.args.replace r next bytes c.args.head.now c.keep_segment.new.head c.args.byte h c.requires c.in_ok-byte.ensures.limits (c.in_ok-byte.ensures.taken h.1.stands.0)
-    (subst (λ (s : SegStep). BehindWhole {X = Stop} (Ok s) next) c.in-Whole.is c.in_ok-byte.ensures.whole) comes (λ fits. c.in_ok-keep_segment-in-Whole.ensures fits)
+    (subst (λ (s : SegStep). AfterWhole {X = Stop} (Ok s) next) c.in-Whole.is c.in_ok-byte.ensures.whole) comes (λ fits. c.in_ok-keep_segment-in-Whole.ensures fits)
 
 pub returns-in-Frame-clause-answered : goal.returns-in-Frame-clause-answered
 returns-in-Frame-clause-answered c = λ bytes h.

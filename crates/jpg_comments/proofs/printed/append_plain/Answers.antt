@@ -1,7 +1,7 @@
 use Rattle.std.proofs.Common.{drop, ◌++◌, ◌∷◌, ap, sym, ◌∙◌}
 use Rattle.std.specs.Prelude.{slice_index}
 use Rattle.std.proofs.lemmas.List.{take_rest}
-use Rattle.jpg_spec.specs.CommentText.{octal}
+use Rattle.jpg_spec_write.specs.CommentText.{octal}
 use Rattle.jpg_comments.specs.Pieces.{plain_text}
 use Rattle.jpg_comments.proofs.Appended.{leaves_same, leaves_rest, leaves_none, leaves_still, at_exit, pushed}
 use Rattle.jpg_comments.proofs.Shown.{unprintable_first, unprintable_none}

@@ -1,5 +1,5 @@
 use Rattle.std.proofs.Common.{◌++◌, ◌∷◌, []}
-use Rattle.jpg_spec.specs.CommentText.{printed}
+use Rattle.jpg_spec_write.specs.CommentText.{printed}
 use Rattle.jpg_comments.specs.Pieces.{plain_text}
 use Rattle.jpg_comments.proofs.Appended.{leaves_same, leaves_rest, leaves_none, leaves_still, leaves_part, at_exit, pushed}
 use Rattle.jpg_comments.proofs.Shown.{found, found_none, printed_before, printed_text, printed_none}

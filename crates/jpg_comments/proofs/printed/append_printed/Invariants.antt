@@ -1,5 +1,5 @@
 use Rattle.std.proofs.Common.{length}
-use Rattle.jpg_spec.specs.CommentText.{printed}
+use Rattle.jpg_spec_write.specs.CommentText.{printed}
 use Rattle.jpg_comments.proofs.Appended.{Leaves}
 use Rattle.jpg_comments.proofs.printed.append_printed.Given as goal
 

@@ -1,6 +1,6 @@
 use Rattle.std.proofs.Common.{◌∙◌, ap, get_or, List, ℕ, length, ◌+◌, [], ◌∷◌, ◌++◌}
 use Rattle.std.specs.Int.{to_be_bytes, w16}
-use Rattle.jpg_spec.specs.FileText.{segment_text}
+use Rattle.jpg_spec_write.specs.FileText.{segment_text}
 use Rattle.jpg_comments.proofs.Appended.{leaves_all, leaves_rest, leaves_none, pushed}
 use Rattle.jpg_comments.proofs.segment.append_segment.Goals as goal
 

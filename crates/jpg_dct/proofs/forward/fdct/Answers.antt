@@ -2,8 +2,8 @@ use Rattle.std.proofs.Common.{◌≡◌, ◌<◌, ◌/◌, ◌%◌, length, ℕ,
 use Rattle.std.specs.Int.{w16, w32}
 use Rattle.std.proofs.lemmas.Int.{to_z-of_z}
 use Rattle.std.proofs.lemmas.List.{length-set}
-use Rattle.jpg_spec.specs.Dct.{column_at}
-use Rattle.jpg_spec.specs.ForwardDct.{forward_dct}
+use Rattle.jpg_spec_image.specs.Dct.{column_at}
+use Rattle.jpg_spec_image.specs.ForwardDct.{forward_dct}
 use Rattle.jpg_dct.proofs.Eights.{seen}
 use Rattle.jpg_dct.proofs.Natural.{number_set, rows_handed, number_fits, block_is, block_small}
 use Rattle.jpg_dct.proofs.forward.fdct.Goals as goal

@@ -1,5 +1,5 @@
 use Rattle.std.specs.Prelude.{◌≡◌, ℕ, ◌/◌, ◌%◌, ◌<◌, length}
-use Rattle.jpg_spec.specs.Dct.{number_at, column_at}
+use Rattle.jpg_spec_image.specs.Dct.{number_at, column_at}
 use Rattle.jpg_dct.proofs.forward.fdct.Given as goal
 
 abbrev pub invariant-loop-n : goal.invariant-loop-n

@@ -1,5 +1,5 @@
 use Rattle.std.proofs.Common.{[], ◌∷◌, refl, arith}
-use Rattle.jpg_spec.specs.Moves.{zigzag}
+use Rattle.jpg_spec.specs.Zigzag.{zigzag}
 use Rattle.jpg_dct.specs.OneAnswer.{counting_text}
 use Rattle.jpg_dct.specs.TableState.{run}
 use Rattle.jpg_dct.proofs.TableFronts.{told_spells}

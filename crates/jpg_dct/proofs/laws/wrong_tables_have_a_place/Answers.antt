@@ -1,6 +1,6 @@
 use Rattle.std.proofs.Common.{[], ◌++◌, refl, arith, inl, inr}
 use Rattle.std.specs.Prelude.{codes}
-use Rattle.jpg_dct.specs.OneAnswer.{ones}
+use Rattle.jpg_dct.specs.OneAnswer.{ones_text}
 use Rattle.jpg_dct.specs.TableState.{new_reader, run}
 use Rattle.jpg_dct.proofs.ReadTexts.{wrong_byte, ends_early}
 use Rattle.jpg_dct.proofs.laws.wrong_tables_have_a_place.Goals as goal
@@ -23,12 +23,12 @@ returns-clause-none c = (refl, inr (inl (ends_early [] new_reader (omega arith) 
 
 pub returns-clause-few : goal.returns-clause-few
 unfolding run
-returns-clause-few c = (refl, inr (inl (ends_early (ones 63) _ (omega arith) refl refl)))
+returns-clause-few c = (refl, inr (inl (ends_early (ones_text 63) _ (omega arith) refl refl)))
 
 pub returns-clause-between : goal.returns-clause-between
 unfolding run
-returns-clause-between c = (refl, inr (inl (ends_early (ones 65) _ (omega arith) refl refl)))
+returns-clause-between c = (refl, inr (inl (ends_early (ones_text 65) _ (omega arith) refl refl)))
 
 pub returns-clause-many : goal.returns-clause-many
 unfolding run
-returns-clause-many c = (refl, inl (wrong_byte (ones 256 ++ codes "1") 512 49 _ (omega arith) (omega arith) refl refl refl))
+returns-clause-many c = (refl, inl (wrong_byte (ones_text 256 ++ codes "1") 512 49 _ (omega arith) (omega arith) refl refl refl))

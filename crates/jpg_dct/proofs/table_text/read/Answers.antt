@@ -1,6 +1,6 @@
 use Rattle.std.proofs.Common.{◌≡◌, ◌<◌, ◌+◌, refl, sym, ap, ◌∙◌, arith, subst, get_or, Some, inl, inr}
 use Rattle.std.proofs.lemmas.Bool.Decides.{nat_tests}
-use Rattle.jpg_spec.specs.TableText.{HasWrongByte, HasManyBytes}
+use Rattle.jpg_spec_image.specs.TableText.{HasWrongByte, HasManyBytes}
 use Rattle.jpg_dct.specs.TableState.{ReaderState, reader_step, new_reader, taken}
 use Rattle.jpg_dct.proofs.TableRuns.{run_nil}
 use Rattle.jpg_dct.proofs.ReadTexts.{byte_read, wrong_byte, too_long, refused}

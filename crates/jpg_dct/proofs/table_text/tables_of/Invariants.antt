@@ -1,6 +1,6 @@
 use Rattle.std.specs.Prelude.{◌≡◌, map}
 use Rattle.jpg_spec.specs.Lists.{below}
-use Rattle.jpg_spec.specs.TableText.{table_at}
+use Rattle.jpg_spec_image.specs.TableText.{table_at}
 use Rattle.jpg_dct.proofs.table_text.tables_of.Given as goal
 
 abbrev pub invariant-loop-i : goal.invariant-loop-i

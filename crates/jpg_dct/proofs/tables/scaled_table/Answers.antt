@@ -1,5 +1,5 @@
 use Rattle.std.proofs.Common.{rules, sym, subst}
-use Rattle.jpg_spec.specs.WrittenFile.{AreQuantisers}
+use Rattle.jpg_spec.specs.Segments.{AreQuantisers}
 use Rattle.jpg_dct.proofs.Scaled.{scaled_all}
 use Rattle.jpg_dct.proofs.tables.scaled_table.Goals as goal
 

@@ -1,5 +1,5 @@
 use Rattle.std.specs.Prelude.{◌≡◌, take, length, map}
-use Rattle.jpg_spec.specs.Quality.{scaled_quantiser}
+use Rattle.jpg_spec_image.specs.Quality.{scaled_quantiser}
 use Rattle.jpg_dct.proofs.tables.scaled_table.Given as goal
 
 abbrev pub invariant-loop-k : goal.invariant-loop-k

@@ -1,12 +1,12 @@
 use Rattle.std.proofs.Common.{◌+◌, drop, refl, sym, ap, ◌∙◌, ℕ, length}
 use Rattle.std.proofs.lemmas.Result.{err_from_is_err_and}
-use Rattle.jpg_spec.specs.FileText.{Written, nothing_written}
+use Rattle.jpg_spec_write.specs.FileText.{Written, nothing_written}
 use Rattle.jpg_spec.specs.Scan.{TablesInForce}
 use Rattle.jpg_huff.specs.BitOut.{Sends}
 use Rattle.jpg_huff.proofs.InParts.{of_bytes, part_start, part_same, part_then, part_fault}
 use Rattle.jpg_huff.proofs.Together.{can_after, sends_nothing}
-use Rattle.jpg_file.specs.Restarts.{restart_of}
-use Rattle.jpg_file.specs.WriteProgScan.{CanWriteProgScan, prog_scans_bytes, prog_tables_behind, prog_written_in}
+use Rattle.jpg_file.specs.Write.Restarts.{restart_of}
+use Rattle.jpg_file.specs.Write.WriteProgScan.{CanWriteProgScan, prog_scans_bytes, prog_tables_after, prog_written_in}
 use Rattle.jpg_file.proofs.ProgText.{none_by, prog_scan_left}
 use Rattle.jpg_file.proofs.WrittenText.{entry_can}
 use Rattle.jpg_file.proofs.write.write_prog_scans.Goals as goal
@@ -47,7 +47,7 @@ loop-i-preserved g c =
     let blocks = g.V.BlockView.blocks c.args.view.now in
     let text = prog_scans_bytes plan.out.frame plan.out.colour (restart_of plan.restart) f blocks in
     let both : TablesInForce → ℕ → Written = λ tables n. record { tables = tables; interval = n } in
-    let now = ap (λ t. both t c.write_prog_scan.new.interval) (c.in_ok-write_prog_scan.ensures.given tt refl) ∙ ap (both (prog_tables_behind plan f blocks c.loop-i.given c.entry-entry.result)) c.in_ok-write_prog_scan.ensures.interval in
+    let now = ap (λ t. both t c.write_prog_scan.new.interval) (c.in_ok-write_prog_scan.ensures.given tt refl) ∙ ap (both (prog_tables_after plan f blocks c.loop-i.given c.entry-entry.result)) c.in_ok-write_prog_scan.ensures.interval in
     record {
       can = can_after (state c.loop-i.desk) (state c.write_prog_scan.new.desk) c.loop-i.out c.write_prog_scan.new.out _ c.loop-i.invariant.can c.in_ok-write_prog_scan.ensures.sends;
       four = c.in_ok-write_prog_scan.ensures.four;

@@ -1,10 +1,10 @@
 use Rattle.std.specs.Prelude.{drop}
-use Rattle.jpg_spec.specs.FileText.{nothing_written}
+use Rattle.jpg_spec_write.specs.FileText.{nothing_written}
 use Rattle.jpg_huff.specs.BitOut.{CanSend, Sends}
 use Rattle.jpg_huff.proofs.InParts.{DoneButFor}
-use Rattle.jpg_file.specs.Restarts.{restart_of}
-use Rattle.jpg_file.specs.WriteDue.{HasFour}
-use Rattle.jpg_file.specs.WriteProgScan.{prog_scans_bytes, prog_written_in}
+use Rattle.jpg_file.specs.Write.Restarts.{restart_of}
+use Rattle.jpg_file.specs.Write.NewTables.{HasFour}
+use Rattle.jpg_file.specs.Write.WriteProgScan.{prog_scans_bytes, prog_written_in}
 use Rattle.jpg_file.proofs.write.write_prog_scans.Given as goal
 
 abbrev pub invariant-loop-i : goal.invariant-loop-i

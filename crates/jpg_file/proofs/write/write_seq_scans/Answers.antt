@@ -1,15 +1,15 @@
 use Rattle.std.proofs.Common.{◌+◌, drop, refl, sym, ap, ◌∙◌, List, Bool, ℕ}
 use Rattle.std.proofs.lemmas.Result.{err_from_is_err_and}
-use Rattle.jpg_spec.specs.FileText.{Written}
+use Rattle.jpg_spec_write.specs.FileText.{Written}
 use Rattle.jpg_spec.specs.Scan.{TablesInForce}
-use Rattle.jpg_spec.specs.Script.{Entry}
+use Rattle.jpg_spec_write.specs.Script.{Entry}
 use Rattle.jpg_huff.specs.BitOut.{Sends}
 use Rattle.jpg_huff.proofs.InParts.{of_bytes, part_start, part_same, part_then, part_fault}
 use Rattle.jpg_huff.proofs.Together.{can_after, sends_nothing}
-use Rattle.jpg_file.specs.Restarts.{restart_of}
-use Rattle.jpg_file.specs.WriteTables.{given_in}
-use Rattle.jpg_file.specs.WriteScan.{CanWriteScan, given_behind, scans_bytes, written_in}
-use Rattle.jpg_file.specs.WriteFile.{nothing_given}
+use Rattle.jpg_file.specs.Write.Restarts.{restart_of}
+use Rattle.jpg_file.specs.Write.WriteTables.{given_in}
+use Rattle.jpg_file.specs.Write.WriteScan.{CanWriteScan, given_after, scans_bytes, written_in}
+use Rattle.jpg_file.specs.Write.WriteFile.{nothing_given}
 use Rattle.jpg_file.proofs.WrittenText.{entry_can, scan_left}
 use Rattle.jpg_file.proofs.write.write_seq_scans.Goals as goal
 
@@ -45,7 +45,7 @@ loop-i-preserved g c =
     let i = c.loop-i.i in
     let text = scans_bytes plan.out.frame plan.out.colour (restart_of plan.restart) (g.V.BlockView.numbers c.args.view.now) (g.V.BlockView.blocks c.args.view.now) in
     let both : TablesInForce → ℕ → Written = λ tables n. record { tables = tables; interval = n } in
-    let now = ap (λ t. both t c.write_scan.new.interval) (c.in_ok-write_scan.ensures.given tt refl) ∙ ap (both (given_behind plan c.loop-i.given c.entry-entry.result)) c.in_ok-write_scan.ensures.interval in
+    let now = ap (λ t. both t c.write_scan.new.interval) (c.in_ok-write_scan.ensures.given tt refl) ∙ ap (both (given_after plan c.loop-i.given c.entry-entry.result)) c.in_ok-write_scan.ensures.interval in
     record {
       can = can_after (state c.loop-i.desk) (state c.write_scan.new.desk) c.loop-i.out c.write_scan.new.out _ c.loop-i.invariant.can c.in_ok-write_scan.ensures.sends;
       typical = c.loop-i.invariant.typical;

@@ -1,10 +1,10 @@
 use Rattle.std.specs.Prelude.{drop}
 use Rattle.jpg_huff.specs.BitOut.{CanSend, Sends}
 use Rattle.jpg_huff.proofs.InParts.{DoneButFor}
-use Rattle.jpg_file.specs.Restarts.{restart_of}
-use Rattle.jpg_file.specs.WriteTables.{IsTypicalSet}
-use Rattle.jpg_file.specs.WriteScan.{scans_bytes, written_in}
-use Rattle.jpg_file.specs.WriteFile.{nothing_given}
+use Rattle.jpg_file.specs.Write.Restarts.{restart_of}
+use Rattle.jpg_file.specs.Write.WriteTables.{IsTypicalSet}
+use Rattle.jpg_file.specs.Write.WriteScan.{scans_bytes, written_in}
+use Rattle.jpg_file.specs.Write.WriteFile.{nothing_given}
 use Rattle.jpg_file.proofs.write.write_seq_scans.Given as goal
 
 abbrev pub invariant-loop-i : goal.invariant-loop-i

@@ -4,7 +4,7 @@ use mir.Val.{SFits}
 use Rattle.std.proofs.lemmas.Int.{to_z-of_z}
 use Rattle.jpg_spec.specs.Bits.{bits_of}
 use Rattle.jpg_spec.specs.Numbers.{category, extra_bits}
-use Rattle.jpg_spec.specs.ScanText.{code_of}
+use Rattle.jpg_spec.specs.Codes.{code_of}
 use Rattle.jpg_huff.specs.Tables.{symbol_codes}
 use Rattle.jpg_huff.proofs.Encoded.{small_category, below_22, entry_is}
 use Rattle.jpg_huff.proofs.encoder.value_entry.Goals as goal

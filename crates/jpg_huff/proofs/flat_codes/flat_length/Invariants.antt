@@ -1,5 +1,5 @@
 use Rattle.std.specs.Prelude.{◌≡◌, ◌≤◌, ◌^◌, ◌-◌}
-use Rattle.jpg_spec.specs.ScanText.{flat_length_from}
+use Rattle.jpg_spec.specs.FlatTable.{flat_length_from}
 use Rattle.jpg_huff.proofs.flat_codes.flat_length.Given as goal
 
 abbrev pub invariant-loop-room : goal.invariant-loop-room

@@ -2,7 +2,7 @@ use Rattle.std.proofs.Common.{rules, ◌≡◌, ◌⊎◌, ◌<◌, ◌≤◌, �
 use Rattle.jpg_spec.specs.Bits.{bits_of}
 use Rattle.jpg_huff.specs.Tables.{symbol_codes}
 use Rattle.jpg_huff.specs.Look.{LooksUp, found_of}
-use Rattle.jpg_huff.proofs.Looked.{none_at_first, none_further, none_in_eight, code_in_eight}
+use Rattle.jpg_huff.proofs.LookedUp.{none_at_first, none_further, none_in_eight, code_in_eight}
 use Rattle.jpg_huff.proofs.look.entry.Goals.{else-number-first-via-then-number-first+else-number-first-2, else-number-first-via-else-number-first}
 use Rattle.jpg_huff.proofs.look.entry.Goals as goal
 

@@ -1,4 +1,4 @@
-use Rattle.jpg_huff.proofs.Looked.{NoneUpTo}
+use Rattle.jpg_huff.proofs.LookedUp.{NoneUpTo}
 use Rattle.jpg_huff.proofs.look.entry.Given as goal
 
 abbrev pub invariant-loop-at : goal.invariant-loop-at

@@ -1,6 +1,6 @@
 use Rattle.std.proofs.Common.{◌≡◌, [], ap, ◌∙◌}
 use Rattle.std.proofs.lemmas.Result.{err_from_is_err_and}
-use Rattle.jpg_spec.specs.FileText.{distinct_after}
+use Rattle.jpg_spec_write.specs.FileText.{distinct_after}
 use Rattle.jpg_markers.proofs.HeadSent.{no_start, no_markers, no_tables, whole_head}
 use Rattle.jpg_markers.proofs.writing.file_head.Goals as goal
 

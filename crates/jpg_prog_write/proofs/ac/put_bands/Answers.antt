@@ -1,7 +1,7 @@
 use Rattle.std.proofs.Common.{ℕ, List, Bool, ◌≡◌, ◌-◌, ◌+◌, ◌++◌, Err, take, drop, drop-drop, refl, sym, ap, ◌∙◌, subst, arith}
 use Rattle.std.proofs.lemmas.Result.{err_from_is_err_and}
 use Rattle.std.proofs.lemmas.List.Elements.{All-drop, All-take, All-same}
-use Rattle.jpg_spec.specs.Sending.{ended, band_elements}
+use Rattle.jpg_spec_write.specs.Sending.{ended_bands, band_elements}
 use Rattle.jpg_spec.specs.declared.frame.Place.{Place}
 use Rattle.jpg_huff.specs.BitOut.{Puts}
 use Rattle.jpg_huff.proofs.InParts.{of_bits, part_start, part_same, part_then, part_last}
@@ -106,4 +106,4 @@ returns-clause-puts g c =
     let codes = codes_in c.args.tables.now 1 (first_slot head) in
     let e = no_band (texts codes) b.band blocks c.loop.cursor (c.args.count - c.loop.counter) b.bands b.waiting.items (omega (arith, c.loop-test.false)) in
     let slot : codes ≡ codes_in c.args.tables.now 1 c.first_slot-slot.result = ap (codes_in c.args.tables.now 1) (sym c.first_slot-slot.ensures) in
-    part_last Puts of_bits (state c.args.desk.now) (state c.loop.desk) (state c.put_end.new.desk) c.args.out.now c.loop.out c.put_end.new.out _ _ _ c.put_end.result (e ∙ ap (λ t. texts t (ended b.bands b.waiting.items)) slot) c.loop.invariant.part c.put_end.ensures
+    part_last Puts of_bits (state c.args.desk.now) (state c.loop.desk) (state c.put_end.new.desk) c.args.out.now c.loop.out c.put_end.new.out _ _ _ c.put_end.result (e ∙ ap (λ t. texts t (ended_bands b.bands b.waiting.items)) slot) c.loop.invariant.part c.put_end.ensures

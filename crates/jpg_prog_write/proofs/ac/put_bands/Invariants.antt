@@ -1,5 +1,5 @@
 use Rattle.std.specs.Prelude.{◌≡◌, ◌-◌, true, take, drop, All}
-use Rattle.jpg_spec.specs.Sending.{band_elements}
+use Rattle.jpg_spec_write.specs.Sending.{band_elements}
 use Rattle.jpg_huff.specs.BitOut.{Puts}
 use Rattle.jpg_huff.proofs.InParts.{DoneButFor}
 use Rattle.jpg_prog_write.specs.Items.{texts}

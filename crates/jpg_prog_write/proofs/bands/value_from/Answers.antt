@@ -3,7 +3,7 @@ use mir.Syntax.{w16}
 use mir.Val.{SFits, to_z, of_z}
 use Rattle.std.specs.Prelude.{slice_index_or}
 use Rattle.std.proofs.lemmas.Int.{to_z-of_z}
-use Rattle.jpg_spec.specs.Sending.{sent, value_elements}
+use Rattle.jpg_spec_write.specs.Sending.{sent, value_elements}
 use Rattle.jpg_prog_write.specs.Items.{sent_by}
 use Rattle.jpg_prog_write.specs.Bands.{sents}
 use Rattle.jpg_prog_write.specs.Steps.{IsFirst}

@@ -1,5 +1,5 @@
 use Rattle.std.specs.Prelude.{◌≡◌, ◌+◌, ◌-◌, ◌<◌, ◌≤◌, true, [], length}
-use Rattle.jpg_spec.specs.Sending.{value_elements}
+use Rattle.jpg_spec_write.specs.Sending.{value_elements}
 use Rattle.jpg_prog_write.specs.Bands.{sents, ends_new}
 use Rattle.jpg_prog_write.proofs.bands.value_from.Given as goal
 

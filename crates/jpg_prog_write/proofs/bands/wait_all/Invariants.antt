@@ -1,5 +1,5 @@
 use Rattle.std.specs.Prelude.{◌≡◌, ◌+◌, ◌-◌, ◌≤◌, ◌++◌, length}
-use Rattle.jpg_spec.specs.Sending.{corrections_of}
+use Rattle.jpg_spec_write.specs.Sending.{corrections_of}
 use Rattle.jpg_prog_write.specs.Bands.{sents}
 use Rattle.jpg_prog_write.proofs.bands.wait_all.Given as goal
 

@@ -1,6 +1,6 @@
 use Rattle.std.proofs.Common.{ℕ, List, ◌≡◌, ◌-◌, ◌+◌, ◌++◌, take, drop, drop-drop, refl, sym, ap, ◌∙◌, subst, arith}
 use Rattle.std.proofs.lemmas.List.Elements.{All-drop, All-take, All-same}
-use Rattle.jpg_spec.specs.Sending.{ended, band_elements}
+use Rattle.jpg_spec_write.specs.Sending.{ended_bands, band_elements}
 use Rattle.jpg_spec.specs.declared.frame.Place.{Place}
 use Rattle.jpg_prog_write.specs.Bands.{IsBandOf, elements_left}
 use Rattle.jpg_prog_write.specs.Written.{IsScanPlace, first_slot}
@@ -78,4 +78,4 @@ returns-clause-notes g c =
     let b = c.loop.bands in
     let of = marks_of (first_slot head) in
     let e = no_band of b.band blocks c.loop.cursor (c.args.count - c.loop.counter) b.bands b.waiting.items (omega (arith, c.loop-test.false)) in
-    but_last c.args.rows.now c.loop.rows c.count_end.new.rows _ _ _ (e ∙ ap (λ s. marks_of s (ended b.bands b.waiting.items)) (sym c.first_slot-slot.ensures)) c.loop.invariant.part c.count_end.ensures
+    but_last c.args.rows.now c.loop.rows c.count_end.new.rows _ _ _ (e ∙ ap (λ s. marks_of s (ended_bands b.bands b.waiting.items)) (sym c.first_slot-slot.ensures)) c.loop.invariant.part c.count_end.ensures

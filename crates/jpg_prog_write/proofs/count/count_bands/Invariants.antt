@@ -1,5 +1,5 @@
 use Rattle.std.specs.Prelude.{◌≡◌, ◌-◌, take, drop, All}
-use Rattle.jpg_spec.specs.Sending.{band_elements}
+use Rattle.jpg_spec_write.specs.Sending.{band_elements}
 use Rattle.jpg_prog_write.specs.Bands.{IsReady, IsBandOf}
 use Rattle.jpg_prog_write.specs.Written.{IsScanPlace, first_slot}
 use Rattle.jpg_prog_write.specs.Counted.{NotesBut, marks_of, places_marks}

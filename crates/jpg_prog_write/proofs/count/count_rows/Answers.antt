@@ -5,7 +5,7 @@ use Rattle.jpg_spec.specs.Geometry.{units, mcu_units}
 use Rattle.jpg_spec.specs.FrameHeader.{IsFrame}
 use Rattle.jpg_spec.specs.Segments.{head_components}
 use Rattle.jpg_prog_write.specs.Written.{IsScanPlace}
-use Rattle.jpg_prog_write.specs.Counted.{NotesBut, no_rows, scan_marks}
+use Rattle.jpg_prog_write.specs.Counted.{NotesBut, no_counted_rows, scan_marks}
 use Rattle.jpg_prog_write.proofs.Places.{scan_places, some_places}
 use Rattle.jpg_prog_write.proofs.Marks.{but_start, but_then, but_end}
 use Rattle.jpg_prog_write.proofs.SymbolsUsed.{AreLeft, rows_none, all_left, next_left, none_left}
@@ -38,7 +38,7 @@ loop-left-init g c =
         marks,
         subst (λ ps. AreLeft head blocks c.each_interval-each.result ps marks) (sym places)
             (all_left head f c.args.interval c.each_interval-each.result blocks (some_places f head is c.requires.scan.components) c.each_interval-each.ensures.0 each),
-        subst (λ rows. NotesBut no_rows marks marks rows) (sym c.no_marks-rows.ensures) (but_start no_rows marks marks rows_none refl),
+        subst (λ rows. NotesBut no_counted_rows marks marks rows) (sym c.no_marks-rows.ensures) (but_start no_counted_rows marks marks rows_none refl),
       );
       left = count ∙ ap length (sym places);
       places = All-same (IsScanPlace f head) c.new-cursor.result (units f (head_components head)) places (scan_places f head c.requires.scan.components);
@@ -57,7 +57,7 @@ loop-left-preserved g c =
       work = (
         n.0,
         subst (λ ps. AreLeft head blocks c.each_interval-each.result ps n.0) (sym left) n.2,
-        but_then no_rows c.loop-left.rows c.count_places.new.rows marks w.0 _ n.0 n.1 w.2 c.count_places.ensures.notes,
+        but_then no_counted_rows c.loop-left.rows c.count_places.new.rows marks w.0 _ n.0 n.1 w.2 c.count_places.ensures.notes,
       );
       left = (let a = ap length left in let b = length-drop c.min-count.result c.loop-left.cursor in omega (arith, a, b, c.loop-left.invariant.left));
       places = All-same (IsScanPlace f head) c.count_places.new.cursor _ left (All-drop (IsScanPlace f head) c.min-count.result c.loop-left.cursor c.loop-left.invariant.places);
@@ -69,4 +69,4 @@ returns g c =
     let head = c.args.head.now in
     let blocks = g.V.BlockView.blocks c.args.view.now in
     let w = c.loop-left.invariant.work in
-    but_end no_rows c.loop-left.rows (scan_marks f head c.args.interval blocks) w.0 (none_left head blocks c.each_interval-each.result c.loop-left.cursor w.0 w.1 (omega (arith, c.loop-left.invariant.left, c.loop-left-test.false))) w.2
+    but_end no_counted_rows c.loop-left.rows (scan_marks f head c.args.interval blocks) w.0 (none_left head blocks c.each_interval-each.result c.loop-left.cursor w.0 w.1 (omega (arith, c.loop-left.invariant.left, c.loop-left-test.false))) w.2

@@ -4,9 +4,9 @@ use mir.Val.{SFits, to_z, of_z}
 use Rattle.std.specs.Prelude.{◌-ℤ◌}
 use Rattle.std.proofs.lemmas.Int.{to_z-of_z}
 use Rattle.jpg_spec.specs.Numbers.{category, extra_bits}
-use Rattle.jpg_spec.specs.ScanText.{code_of}
+use Rattle.jpg_spec.specs.Codes.{code_of}
 use Rattle.jpg_spec.specs.Segments.{ScanHead}
-use Rattle.jpg_spec.specs.Sending.{shifted}
+use Rattle.jpg_spec_write.specs.Sending.{shifted}
 use Rattle.jpg_spec.proofs.Common.{lt_yes, lt_no}
 use Rattle.jpg_huff.proofs.Together.{puts_same}
 use Rattle.jpg_prog_write.specs.Written.{codes_in}

@@ -7,7 +7,7 @@ use Rattle.std.proofs.lemmas.Result.{err_from_is_err_and}
 use Rattle.std.proofs.lemmas.List.{length-set}
 use Rattle.std.proofs.lemmas.List.Elements.{All-drop, All-same}
 use Rattle.jpg_spec.specs.declared.frame.Place.{Place}
-use Rattle.jpg_spec.specs.ScanText.{element_bits}
+use Rattle.jpg_spec_write.specs.ScanText.{element_bits}
 use Rattle.jpg_huff.specs.BitOut.{Puts}
 use Rattle.jpg_huff.proofs.InParts.{of_bits, part_start, part_same, part_then, part_fault}
 use Rattle.jpg_huff.proofs.Together.{puts_nothing}

@@ -1,6 +1,6 @@
 use Rattle.std.proofs.Common.{◌++◌, [], Err, refl, sym, ap, ◌∙◌, subst}
 use Rattle.std.proofs.lemmas.Result.{err_from_is_err_and}
-use Rattle.jpg_spec.specs.Sending.{band_elements}
+use Rattle.jpg_spec_write.specs.Sending.{band_elements}
 use Rattle.jpg_huff.specs.BitOut.{Puts}
 use Rattle.jpg_huff.proofs.InParts.{of_bits, part_start, part_same, part_then, part_fault}
 use Rattle.jpg_huff.proofs.Together.{puts_nothing}

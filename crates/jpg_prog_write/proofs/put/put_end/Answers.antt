@@ -1,6 +1,6 @@
 use Rattle.std.proofs.Common.{◌++◌, [], sym, ap, ◌∙◌, subst}
 use Rattle.std.proofs.lemmas.List.{append-nil}
-use Rattle.jpg_spec.specs.Sending.{ended}
+use Rattle.jpg_spec_write.specs.Sending.{ended_bands}
 use Rattle.jpg_huff.proofs.Together.{puts_same, puts_nothing}
 use Rattle.jpg_prog_write.specs.Items.{IsItem, spelled, texts}
 use Rattle.jpg_prog_write.specs.Written.{codes_in}
@@ -12,7 +12,7 @@ returns-in-Some g c =
     let codes = codes_in c.args.tables.now 1 c.args.slot in
     let b = c.args.bands.now in
     let f = c.in-Some.ensures.some in
-    let e = texts_first codes (ended b.bands b.waiting.items) c.in-Some.item c.end.new.self.waiting.items [] f ∙ ap (λ x. spelled codes f.element ++ x) (texts_none codes) ∙ append-nil (spelled codes f.element) in
+    let e = texts_first codes (ended_bands b.bands b.waiting.items) c.in-Some.item c.end.new.self.waiting.items [] f ∙ ap (λ x. spelled codes f.element ++ x) (texts_none codes) ∙ append-nil (spelled codes f.element) in
     puts_same _ _ _ _ (spelled codes f.element) _ _ (sym e) (c.put_item.ensures f.element (subst (IsItem f.element c.in-Some.item) (sym c.as_slice.ensures.value) f.is))
 
 pub returns-in-None : goal.returns-in-None

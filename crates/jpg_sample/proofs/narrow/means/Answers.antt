@@ -1,6 +1,6 @@
 use Rattle.std.proofs.Common.{rules, ◌∙◌, refl}
 use Rattle.std.proofs.lemmas.List.{length-set}
-use Rattle.jpg_spec.specs.Downsampling.{edge_repeated, in_rows, narrowed}
+use Rattle.jpg_spec_image.specs.Downsampling.{edge_repeated, in_rows, downsampled}
 use Rattle.jpg_sample.proofs.Sums.{one_mean, mean_more, row_done, row_made}
 use Rattle.jpg_sample.proofs.narrow.means.Goals as goal
 
@@ -14,7 +14,7 @@ loop-x-preserved c =
     let width = c.args.width in
     let rows = c.args.rows.now in (
       length-set c.loop-x.out c.loop-x.x _ ∙ c.loop-x.invariant.0,
-      mean_more (λ k. narrowed across down (edge_repeated width down (in_rows width rows)) k 0) c.loop-x.out c.loop-x.x c.mean.result (search rules) c.loop-x.invariant.1
+      mean_more (λ k. downsampled across down (edge_repeated width down (in_rows width rows)) k 0) c.loop-x.out c.loop-x.x c.mean.result (search rules) c.loop-x.invariant.1
           (one_mean rows width across down c.loop-x.x c.first_of-first.result c.block_sum-sum.result c.mean.result c.requires.across.0 c.requires.some.0 c.first_of-first.ensures.value c.block_sum-sum.ensures.value c.mean.ensures),
     )
 

@@ -1,5 +1,5 @@
 use Rattle.std.specs.Prelude.{◌≡◌, ◌*◌, take, length}
-use Rattle.jpg_spec.specs.Upsampling.{repeat_row}
+use Rattle.jpg_spec_image.specs.Upsampling.{repeat_row}
 use Rattle.jpg_sample.proofs.repeat.often.Given as goal
 
 abbrev pub invariant-loop-i : goal.invariant-loop-i

@@ -1,5 +1,5 @@
 use Rattle.std.proofs.Common.{rules, ◌≡◌, ℕ, ◌+◌, ◌-◌, ◌*◌, ◌<◌, length, refl, ◌∙◌, arith}
-use Rattle.jpg_spec.specs.Upsampling.{pair_of, up_row}
+use Rattle.jpg_spec_image.specs.Upsampling.{pair_of, up_row}
 use Rattle.jpg_sample.proofs.Pairs.{two, left_is, right_is, right_end, pair_length, pair_step, pairs_done, moved_to}
 use Rattle.jpg_sample.proofs.smooth.up_row.Goals as goal
 

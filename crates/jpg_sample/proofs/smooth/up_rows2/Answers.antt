@@ -1,5 +1,5 @@
 use Rattle.std.proofs.Common.{rules, ◌≡◌, ℕ, ◌+◌, ◌-◌, ◌*◌, ◌<◌, length, refl, ◌∙◌, arith}
-use Rattle.jpg_spec.specs.Upsampling.{pair_of2, up_rows2, column_sum}
+use Rattle.jpg_spec_image.specs.Upsampling.{pair_of2, up_rows2, column_sum}
 use Rattle.jpg_sample.proofs.Pairs.{two, mixed_is, four_times, left_is2, right_is2, right_end2, pair_length, pair_step, pairs_done, moved_to}
 use Rattle.jpg_sample.proofs.smooth.up_rows2.Goals as goal
 

@@ -1,6 +1,6 @@
 use Rattle.std.specs.Prelude.{◌≡◌, ◌+◌, ◌++◌, length, map}
 use Rattle.jpg_spec.specs.Lists.{below}
-use Rattle.jpg_spec.specs.ScriptFaults.{of_one}
+use Rattle.jpg_spec_write.specs.ScriptFaults.{of_one}
 use Rattle.jpg_scans.proofs.own.push_each.Given as goal
 
 abbrev pub invariant-loop-i : goal.invariant-loop-i

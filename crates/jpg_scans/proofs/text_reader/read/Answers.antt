@@ -1,6 +1,6 @@
 use Rattle.std.proofs.Common.{◌≡◌, ◌<◌, ◌+◌, refl, sym, ap, ◌∙◌, arith, subst, get_or, Some, inl, inr}
 use Rattle.std.proofs.lemmas.Bool.Decides.{nat_tests}
-use Rattle.jpg_spec.specs.ScriptGrammar.{IsWrongByte, IsTooLong}
+use Rattle.jpg_spec_write.specs.ScriptGrammar.{IsWrongByte, IsTooLong}
 use Rattle.jpg_scans.specs.TextState.{ReaderState, reader_step, new_reader, taken}
 use Rattle.jpg_scans.proofs.TextRuns.{run_nil}
 use Rattle.jpg_scans.proofs.ReadTexts.{byte_read, wrong_byte, too_long, refused}

@@ -7,12 +7,12 @@ use Rattle.std.proofs.lemmas.Int.{to_z-of_z}
 use Rattle.jpg_spec.specs.Bits.{bits_of}
 use Rattle.jpg_spec.proofs.Strings.{length-bits_of}
 use Rattle.jpg_seq.specs.Values.{TellsOrNone}
-use Rattle.jpg_seq.proofs.Told.{kept_none, none_symbol, none_part, none_begins}
+use Rattle.jpg_seq.proofs.ShortValue.{kept_none, none_symbol, none_part, none_begins}
 use Rattle.jpg_seq.proofs.values.told_by.Goals as goal
 use Rattle.jpg_seq.proofs.values.told_by.Goals.{else-size-gt0-via-then-size-gt0+else-length-size-le10, else-size-gt0-via-else-size-gt0}
 
-pub peek_behind-requires-clause-there : goal.peek_behind-requires-clause-there
-peek_behind-requires-clause-there c = omega (arith, ap length c.ten_bits-bits.ensures, length-bits_of 10 c.args.ten, c.if-length-size-le10.true)
+pub peek_after-requires-clause-there : goal.peek_after-requires-clause-there
+peek_after-requires-clause-there c = omega (arith, ap length c.ten_bits-bits.ensures, length-bits_of 10 c.args.ten, c.if-length-size-le10.true)
 
 pub returns-then-length-size-le10 : goal.returns-then-length-size-le10
 returns-then-length-size-le10 c =
@@ -35,7 +35,7 @@ returns-then-length-size-le10 c =
       run = search rules;
       in_codes = subst C split s.3;
       category = c.extend.ensures.category;
-      extra = c.extend.ensures.extra ∙ c.peek_behind.ensures.value;
+      extra = c.extend.ensures.extra ∙ c.peek_after.ensures.value;
     })))
 
 pub returns-else-size-gt0 : goal.returns-else-size-gt0

@@ -39,7 +39,7 @@ returns-then-length-symbol c = λ ac.
     let there : c.in-Symbol.length + c.in-Symbol.symbol ≤ length bits = omega (arith, c.len.ensures.value) in
     let first = rw (to_z-of_z w16 c.args.prediction (search rules), to_z-of_z w16 d f) at c.first_value-then-length-symbol.ensures in
     first_comes e bits c.in-Symbol.length c.in-Symbol.symbol (c.in-Symbol.length + c.in-Symbol.symbol) d c.first_value-then-length-symbol.result c.apart.ensures.one s.0 there s.3 (omega arith)
-    c.extend-difference.ensures.category (c.extend-difference.ensures.extra ∙ c.peek_behind.ensures.value) refl first)
+    c.extend-difference.ensures.category (c.extend-difference.ensures.extra ∙ c.peek_after.ensures.value) refl first)
 
 pub returns-else-length-symbol : goal.returns-else-length-symbol
 returns-else-length-symbol c = λ ac.

@@ -75,7 +75,7 @@ returns-then-length-size c = λ dc prediction values l.
       there,
       subst G (sym (to_z-of_z w16 v f))
           (value_taken e values bits c.in-Symbol.length c.in-Value.run' c.in-Value.size v sane apart some less s.0 there (subst P h.0 s.3) h.1 h.2 (omega (arith, h.3, l)) h.4
-          c.extend-value.ensures.category (c.extend-value.ensures.extra ∙ c.peek_behind.ensures.value)),
+          c.extend-value.ensures.category (c.extend-value.ensures.extra ∙ c.peek_after.ensures.value)),
     ))
 
 pub returns-else-length-size : goal.returns-else-length-size

@@ -6,7 +6,7 @@ use Rattle.std.specs.Int.{trailing_zeros}
 use Rattle.std.proofs.lemmas.Int.{to_z-of_z}
 use Rattle.std.proofs.lemmas.Result.{err_from_is_err_and}
 use Rattle.jpg_spec.specs.Numbers.{category}
-use Rattle.jpg_spec.specs.ScanText.{code_of}
+use Rattle.jpg_spec.specs.Codes.{code_of}
 use Rattle.jpg_seq.specs.BlockBits.{run_bits, band_bits}
 use Rattle.jpg_seq.proofs.Bands.{left_bits, left_all, left_none, left_zeros}
 use Rattle.jpg_base.proofs.Marked.{marks_are}

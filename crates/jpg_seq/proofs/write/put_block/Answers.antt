@@ -5,7 +5,7 @@ use Rattle.std.specs.Prelude.{slice_index_or, ◌-ℤ◌}
 use Rattle.std.proofs.lemmas.Int.{to_z-of_z}
 use Rattle.std.proofs.lemmas.Result.{err_from_is_err_and}
 use Rattle.jpg_spec.specs.Numbers.{category, extra_bits}
-use Rattle.jpg_spec.specs.ScanText.{code_of}
+use Rattle.jpg_spec.specs.Codes.{code_of}
 use Rattle.jpg_seq.specs.BlockBits.{band_bits, block_bits}
 use Rattle.jpg_huff.proofs.Together.{puts_same, puts_then, puts_fault}
 use Rattle.jpg_seq.proofs.Blocks.{apart_16}

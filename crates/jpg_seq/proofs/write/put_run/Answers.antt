@@ -3,8 +3,8 @@ use mir.Syntax.{w16, w32}
 use mir.Val.{SFits, to_z, of_z}
 use Rattle.std.proofs.lemmas.Int.{to_z-of_z}
 use Rattle.jpg_spec.specs.Numbers.{category, extra_bits}
-use Rattle.jpg_spec.specs.ScanText.{code_of}
-use Rattle.jpg_huff.specs.BitOut.{PutsBehind}
+use Rattle.jpg_spec.specs.Codes.{code_of}
+use Rattle.jpg_huff.specs.BitOut.{PutsAfter}
 use Rattle.jpg_seq.proofs.Bands.{run_last}
 use Rattle.jpg_seq.proofs.write.put_run.Goals as goal
 
@@ -13,7 +13,7 @@ returns-then-value-lt32-clause-puts g c =
     let codes = c.args.ac.now in
     let f : SFits w16 c.args.value = search rules in
     let e = c.value-bits.ensures.bits ∙ ap (λ v. code_of codes (16 * c.args.run + category v) ++ extra_bits v) (to_z-of_z w16 c.args.value f) ∙ sym (run_last codes c.args.run c.args.value (omega (arith, c.if-run-ge16.false))) in
-    subst (λ bits. PutsBehind (g.D.Desk.state c.args.desk.now) c.args.out.now c.args.held bits c.put_behind.result c.put_behind.new.self (g.D.Desk.state c.put_behind.new.desk)) e c.put_behind.ensures.puts
+    subst (λ bits. PutsAfter (g.D.Desk.state c.args.desk.now) c.args.out.now c.args.held bits c.put_after.result c.put_after.new.self (g.D.Desk.state c.put_after.new.desk)) e c.put_after.ensures.puts
 
 pub returns-else-value-geminus32-clause-puts : goal.returns-else-value-geminus32-clause-puts
 returns-else-value-geminus32-clause-puts g c =
@@ -24,4 +24,4 @@ returns-else-value-geminus32-clause-puts g c =
     let fw : SFits w32 c.from-value.result = search rules in
     let same : w ≡ c.args.value = to_z-of_z w32 c.from-value.result fw ∙ c.from-value.ensures ∙ to_z-of_z w16 c.args.value f in
     let e = ap (λ n. code_of codes (16 * run + n) ++ extra_bits w) c.category.ensures.category ∙ ap (λ x. code_of codes (16 * run + category x) ++ extra_bits x) same ∙ sym (run_last codes run c.args.value (omega (arith, c.if-run-ge16.false))) in
-    subst (λ bits. PutsBehind (g.D.Desk.state c.args.desk.now) c.args.out.now c.args.held bits c.put_value_behind.result c.put_value_behind.new.out (g.D.Desk.state c.put_value_behind.new.desk)) e c.put_value_behind.ensures.puts
+    subst (λ bits. PutsAfter (g.D.Desk.state c.args.desk.now) c.args.out.now c.args.held bits c.put_value_after.result c.put_value_after.new.out (g.D.Desk.state c.put_value_after.new.desk)) e c.put_value_after.ensures.puts

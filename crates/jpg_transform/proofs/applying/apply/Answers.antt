@@ -1,6 +1,6 @@
 use Rattle.std.proofs.Common.{subst}
 use Rattle.jpg_spec.specs.Geometry.{Frame, padded_blocks}
-use Rattle.jpg_coefs.specs.Copied.{Copies, in_grids}
+use Rattle.jpg_coefs.specs.Copied.{CopiesBlocks, in_grids}
 use Rattle.jpg_transform.specs.MovedBlocks.{moved_blocks}
 use Rattle.jpg_coefs.proofs.Copied.{zero_outside}
 use Rattle.jpg_transform.proofs.Applied.{shows_all}
@@ -12,7 +12,7 @@ returns-clause-shows c =
     let old = c.in_ok-coefs.coefs in
     let new = c.put_components.new.coefs in
     shows_all c.args.picture.now c.args.job.now seen old new (padded_blocks c.frame.result.now) c.new-moved.ensures.shows c.in_ok-coefs.ensures.zero
-    (subst (λ (f : Frame). Copies (in_grids f) seen old new) c.new-moved.ensures.frame c.put_components.ensures)
+    (subst (λ (f : Frame). CopiesBlocks (in_grids f) seen old new) c.new-moved.ensures.frame c.put_components.ensures)
 
 pub returns-clause-zero : goal.returns-clause-zero
 returns-clause-zero c =
@@ -20,4 +20,4 @@ returns-clause-zero c =
     let old = c.in_ok-coefs.coefs in
     let new = c.put_components.new.coefs in
     zero_outside c.args.job.now.plan.out.frame seen old new (padded_blocks c.frame.result.now) c.in_ok-coefs.ensures.zero
-    (subst (λ (f : Frame). Copies (in_grids f) seen old new) c.new-moved.ensures.frame c.put_components.ensures)
+    (subst (λ (f : Frame). CopiesBlocks (in_grids f) seen old new) c.new-moved.ensures.frame c.put_components.ensures)

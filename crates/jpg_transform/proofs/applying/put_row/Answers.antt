@@ -1,6 +1,6 @@
 use Rattle.std.proofs.Common.{◌≡◌, ◌∙◌, ℕ, arith, subst, ap}
 use Rattle.jpg_spec.specs.Geometry.{Frame, blocks_across, component_at}
-use Rattle.jpg_coefs.specs.Copied.{Copies, in_row}
+use Rattle.jpg_coefs.specs.Copied.{CopiesBlocks, in_row}
 use Rattle.jpg_transform.specs.MovedBlocks.{moved_blocks, moved_numbers}
 use Rattle.jpg_coefs.proofs.Copied.{row_more}
 use Rattle.jpg_transform.proofs.applying.put_row.Goals as goal
@@ -15,4 +15,4 @@ returns c =
     let wide : c.blocks-wide.result.wide ≡ blocks_across f (component_at f i) =
     ap (λ g. g.wide) c.blocks-wide.ensures.value ∙ ap (λ (h : Frame). blocks_across h (component_at h i)) c.frame.ensures in
     let all : c.loop-x.x ≡ blocks_across f (component_at f i) = omega (arith, wide) in
-    subst (λ (n : ℕ). Copies (in_row i c.args.y n) (moved_blocks c.args.moved.now) c.args.coefs.now c.loop-x.coefs) all c.loop-x.invariant
+    subst (λ (n : ℕ). CopiesBlocks (in_row i c.args.y n) (moved_blocks c.args.moved.now) c.args.coefs.now c.loop-x.coefs) all c.loop-x.invariant

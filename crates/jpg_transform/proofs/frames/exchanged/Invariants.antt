@@ -1,5 +1,5 @@
 use Rattle.std.specs.Prelude.{◌≡◌, length, map, take}
-use Rattle.jpg_spec.specs.Moved.{exchanged_factors}
+use Rattle.jpg_spec_move.specs.Moved.{exchanged_factors}
 use Rattle.jpg_transform.proofs.frames.exchanged.Given as goal
 
 abbrev pub invariant-loop-i : goal.invariant-loop-i

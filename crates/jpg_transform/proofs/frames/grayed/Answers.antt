@@ -1,6 +1,6 @@
 use Rattle.std.proofs.Common.{true, [], ◌∷◌, List, ap}
 use Rattle.jpg_spec.specs.declared.frame.Component.{Component}
-use Rattle.jpg_spec.proofs.MovedFrames.{grayed_is}
+use Rattle.jpg_spec_move.proofs.MovedFrames.{grayed_is}
 use Rattle.jpg_transform.proofs.MovedFrame.{same_sides}
 use Rattle.jpg_transform.proofs.frames.grayed.Goals as goal
 

@@ -1,6 +1,6 @@
 use Rattle.std.proofs.Common.{◌∙◌}
-use Rattle.jpg_spec.specs.declared.transform.Transform.TheVariants.{Transpose}
-use Rattle.jpg_spec.proofs.MovedFrames.{transformed_is}
+use Rattle.jpg_spec_move.specs.declared.transform.Transform.TheVariants.{Transpose}
+use Rattle.jpg_spec_move.proofs.MovedFrames.{transformed_is}
 use Rattle.jpg_transform.proofs.MovedFrame.{same_sides}
 use Rattle.jpg_transform.proofs.frames.transformed.Goals as goal
 

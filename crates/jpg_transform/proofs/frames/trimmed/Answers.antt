@@ -1,5 +1,5 @@
 use Rattle.std.proofs.Common.{◌∙◌}
-use Rattle.jpg_spec.proofs.MovedFrames.{trimmed_is}
+use Rattle.jpg_spec_move.proofs.MovedFrames.{trimmed_is}
 use Rattle.jpg_transform.proofs.MovedFrame.{same_sides}
 use Rattle.jpg_transform.proofs.frames.trimmed.Goals as goal
 

@@ -3,7 +3,7 @@ use Rattle.std.specs.Prelude.{int_lt}
 use mir.Syntax.{w16}
 use mir.Val.{SFits, to_z, of_z}
 use Rattle.std.proofs.lemmas.Int.{to_z-of_z}
-use Rattle.jpg_spec.specs.Transforms.{signed}
+use Rattle.jpg_spec_move.specs.Transforms.{signed}
 use Rattle.jpg_transform.proofs.OneBlock.{step, all, value_at, changed, signed_block}
 use Rattle.jpg_transform.proofs.signs.signed.Goals as goal
 

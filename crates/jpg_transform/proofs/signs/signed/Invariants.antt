@@ -1,5 +1,5 @@
 use Rattle.std.proofs.Common.{◌≡◌, take, drop, ◌++◌}
-use Rattle.jpg_spec.specs.Transforms.{signed}
+use Rattle.jpg_spec_move.specs.Transforms.{signed}
 use Rattle.jpg_transform.proofs.signs.signed.Given as goal
 
 abbrev pub invariant-loop-k : goal.invariant-loop-k

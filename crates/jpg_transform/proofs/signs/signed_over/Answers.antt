@@ -1,5 +1,5 @@
 use Rattle.std.proofs.Common.{◌∙◌, ap, subst, sym, All, negsuc, ◌≤ℤ◌}
-use Rattle.jpg_spec.specs.Transforms.{signed}
+use Rattle.jpg_spec_move.specs.Transforms.{signed}
 use Rattle.jpg_transform.proofs.OneBlock.{all_transposed}
 use Rattle.jpg_transform.proofs.signs.signed_over.Goals as goal
 

@@ -9,7 +9,7 @@ use Rattle.jpg_spec.specs.declared.frame.Place.{Place}
 use Rattle.jpg_spec.specs.declared.frame.Grid.{Grid}
 use Rattle.jpg_base.specs.declared.cursor.CursorPart.{CursorPart}
 use Rattle.jpg_base.specs.Cursor.{cursor_part_of, lone_part, spot_of}
-use Rattle.jpg_base.proofs.UnitCounts.{mcu_from, in_part, behind_part}
+use Rattle.jpg_base.proofs.UnitCounts.{mcu_from, in_part, after_part}
 use Rattle.jpg_base.proofs.InMcu.{found_part, next_part, fewer_left, spot_same}
 use Rattle.jpg_base.proofs.frame.Frame.in_mcu.Goals as goal
 

@@ -6,7 +6,7 @@ use Rattle.jpg_comments.specs.Appending.{AppendsText}
 use Rattle.jpg_comments.specs.Inserting.{AfterHeadPiece, CopiesRest, InsertsUpTo}
 use Rattle.jpg_comments.proofs.Taken.{appends_none, appends_as}
 use Rattle.jpg_comments.proofs.HeadByPieces.{AfterCopy, whole_head}
-use Rattle.jpg_comments.proofs.InsertedPieces.{StandsWith, kept_of, by_limits, stops_before, goes_on_before, head_at, stops_at_head, copies_rest, goes_on_behind}
+use Rattle.jpg_comments.proofs.InsertedPieces.{StandsWith, kept_of, by_limits, stops_before, goes_on_before, head_at, stops_at_head, copies_rest, goes_on_after}
 use Rattle.jpg_comments.proofs.insert.Insert.begin.Goals as goal
 
 pub returns-in_err-used-clause-answered : goal.returns-in_err-used-clause-answered
@@ -78,4 +78,4 @@ returns-clause-answered c = λ comment bytes text h.
     appends_as (λ all. AfterCopy self.limits comment self.replace (bytes ++ piece) all (Ok c.in_ok-taken.taken)) (λ all. StandsWith self.limits comment self.replace self.stop self.segment (bytes ++ piece) all (Some c.in_ok-taken.taken) head next) text c.args.out.now c.copy.new.out
     (copies_rest self.limits comment self.replace bytes piece text head self.segment c.args.out.now c.write_head.new.out c.copy.new.out used c.taken.result self.limits.input next (Ok c.in_ok-taken.taken) refl k.1 h.2 after wrote c.taken.ensures
     (subst (λ l. CopiesRest c.taken.result self.limits.input l (Ok c.in_ok-taken.taken) c.write_head.new.out c.copy.new.out) (take_rest piece used) c.in_ok-taken.ensures))
-    (λ all done. goes_on_behind comment bytes piece all head c.in_ok-taken.taken self next h.0 h.2 done)
+    (λ all done. goes_on_after comment bytes piece all head c.in_ok-taken.taken self next h.0 h.2 done)

@@ -1,5 +1,5 @@
 use Rattle.std.proofs.Common.{ℕ, ◌∙◌, Err, sym, subst}
-use Rattle.jpg_spec.specs.CommentText.{IsHeadFault}
+use Rattle.jpg_spec_write.specs.CommentText.{IsHeadFault}
 use Rattle.jpg_spec.specs.declared.fault.Fault.TheVariants.{Truncated}
 use Rattle.jpg_base.specs.declared.stop.Stop.{Stop}
 use Rattle.jpg_comments.specs.Inserting.{HoldsHead}

@@ -3,7 +3,7 @@ use Rattle.std.proofs.lemmas.Result.{err_from_is_err_and}
 use Rattle.jpg_markers.specs.Reading.{reading_of}
 use Rattle.jpg_comments.proofs.Taken.{appends_as}
 use Rattle.jpg_comments.proofs.HeadByPieces.{AfterCopy}
-use Rattle.jpg_comments.proofs.InsertedPieces.{StandsWith, copies_more, goes_on_behind}
+use Rattle.jpg_comments.proofs.InsertedPieces.{StandsWith, copies_more, goes_on_after}
 use Rattle.jpg_comments.proofs.insert.Insert.take.Goals as goal
 
 pub returns-in_err-taken-in-Some-clause-answered : goal.returns-in_err-taken-in-Some-clause-answered
@@ -20,4 +20,4 @@ returns-in_ok-taken-in-Some-clause-answered c = λ comment bytes text h.
     let n = c.in_ok-taken-in-Some.taken in
     appends_as (λ all. AfterCopy self.limits comment self.replace (bytes ++ piece) all (Ok n)) (λ all. StandsWith self.limits comment self.replace self.stop self.segment (bytes ++ piece) all (Some n) self.head r) text c.args.out.now c.copy.new.out
     (copies_more comment bytes piece text c.args.out.now c.copy.new.out c.in-Some.taken self.limits.input self (Ok n) refl c.in-Some.is h c.in_ok-taken-in-Some.ensures)
-    (λ all done. goes_on_behind comment bytes piece all self.head n self r h.0 h.2 done)
+    (λ all done. goes_on_after comment bytes piece all self.head n self r h.0 h.2 done)

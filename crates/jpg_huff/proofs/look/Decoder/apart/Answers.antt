@@ -1,6 +1,6 @@
 use Rattle.std.proofs.Common.{subst, List, length, ◌≤◌}
 use Rattle.std.specs.List.{Contains}
-use Rattle.jpg_huff.proofs.Looked.{short_code}
+use Rattle.jpg_huff.proofs.LookedUp.{short_code}
 use Rattle.jpg_spec.specs.Codes.{Code}
 use Rattle.jpg_huff.specs.Laws.{AreApart}
 use Rattle.jpg_huff.proofs.Tables.{apart}

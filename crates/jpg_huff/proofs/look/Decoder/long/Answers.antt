@@ -2,7 +2,7 @@ use Rattle.std.proofs.Common.{ℕ, ◌+◌, ◌-◌, ◌/◌, ◌^◌, List, get
 use Rattle.jpg_spec.specs.Codes.{Code}
 use Rattle.jpg_huff.specs.Look.{Spots}
 use Rattle.jpg_huff.specs.declared.look.Spotted.TheVariants as spotted
-use Rattle.jpg_huff.proofs.Looked.{long_code}
+use Rattle.jpg_huff.proofs.LookedUp.{long_code}
 use Rattle.jpg_huff.proofs.look.Decoder.long.Goals as goal
 
 pub returns-then-number-first-2 : goal.returns-then-number-first-2

@@ -3,7 +3,7 @@ use Rattle.jpg_spec.specs.Codes.{Code}
 use Rattle.jpg_huff.specs.Tables.{symbol_codes}
 use Rattle.jpg_huff.specs.Look.{Spots}
 use Rattle.jpg_huff.specs.declared.look.Spotted.TheVariants as spotted
-use Rattle.jpg_huff.proofs.Looked.{look_eight}
+use Rattle.jpg_huff.proofs.LookedUp.{look_eight}
 use Rattle.jpg_huff.proofs.look.Decoder.spot.Goals as goal
 
 pub returns-in-Some : goal.returns-in-Some

@@ -5,7 +5,7 @@ use Rattle.jpg_spec.specs.Codes.{Code}
 use Rattle.jpg_huff.specs.Tables.{symbol_codes}
 use Rattle.jpg_huff.specs.Look.{Spots}
 use Rattle.jpg_huff.specs.declared.look.Spotted.TheVariants as spotted
-use Rattle.jpg_huff.proofs.Looked.{walk_symbol, walk_none, walk_part}
+use Rattle.jpg_huff.proofs.LookedUp.{walk_symbol, walk_none, walk_part}
 use Rattle.jpg_huff.proofs.look.Decoder.walked.Goals as goal
 
 pub returns-in-Symbol : goal.returns-in-Symbol

@@ -1,6 +1,6 @@
 use Rattle.std.proofs.Common.{rules, arith}
 use Rattle.jpg_huff.specs.Tables.{symbol_codes}
-use Rattle.jpg_huff.proofs.Looked.{look_more}
+use Rattle.jpg_huff.proofs.LookedUp.{look_more}
 use Rattle.jpg_huff.proofs.look.Look.new.Goals as goal
 
 pub returns : goal.returns

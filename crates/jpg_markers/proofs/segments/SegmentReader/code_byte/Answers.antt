@@ -1,8 +1,8 @@
 use Rattle.std.proofs.Common.{ℕ, [], ◌∷◌, ◌++◌, Ok, None, Some, sym, subst, ◌∙◌}
-use Rattle.jpg_spec.specs.Markers.{SegmentsShow, kept_rule}
+use Rattle.jpg_spec.specs.Markers.{SegmentsReveal, kept_rule}
 use Rattle.jpg_spec.specs.declared.fault.Fault.TheVariants.{NoMarker}
 use Rattle.jpg_markers.specs.declared.segments.SegStep.TheVariants as step
-use Rattle.jpg_markers.specs.Reading.{Comes, ShowsBehind, reading_of}
+use Rattle.jpg_markers.specs.Reading.{Comes, RevealsAfter, reading_of}
 use Rattle.jpg_markers.proofs.Taking.{fill_again, fill_stuffed, fault_from, code_wrong, code_ends, code_frame, code_more}
 use Rattle.jpg_markers.proofs.segments.SegmentReader.code_byte.Goals as goal
 
@@ -14,7 +14,7 @@ returns-then-code-eq255-clause-goes c = λ bytes before s.
 pub returns-then-code-eq0-clause-goes : goal.returns-then-code-eq0-clause-goes
 returns-then-code-eq0-clause-goes c = λ bytes before s.
     let r = reading_of c.args.self.now in
-    subst (λ (k : ℕ). SegmentsShow (kept_rule r.limits) NoMarker (bytes ++ k ∷ []) × ShowsBehind (kept_rule r.limits) before NoMarker (bytes ++ k ∷ [])) (sym c.if-code-eq0.true) (fill_stuffed r bytes before c.requires s)
+    subst (λ (k : ℕ). SegmentsReveal (kept_rule r.limits) NoMarker (bytes ++ k ∷ []) × RevealsAfter (kept_rule r.limits) before NoMarker (bytes ++ k ∷ [])) (sym c.if-code-eq0.true) (fill_stuffed r bytes before c.requires s)
 
 pub returns-in-Some-clause-goes : goal.returns-in-Some-clause-goes
 returns-in-Some-clause-goes c = λ bytes before s.

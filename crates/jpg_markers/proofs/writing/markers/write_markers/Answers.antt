@@ -1,6 +1,6 @@
 use Rattle.std.specs.Prelude.{filter}
 use Rattle.std.proofs.lemmas.Result.{err_from_is_err_and}
-use Rattle.jpg_spec.specs.FileText.{kept_text}
+use Rattle.jpg_spec_write.specs.FileText.{kept_text}
 use Rattle.jpg_markers.specs.Passed.{is_passed, own_header}
 use Rattle.jpg_huff.proofs.Together.{sends_same, sends_then, sends_fault}
 use Rattle.jpg_markers.proofs.HeadText.{headed_text}

@@ -1,7 +1,7 @@
 use Rattle.std.proofs.Common.{[], ◌∷◌, ◌+◌, drop, refl}
 use Rattle.std.specs.Prelude.{filter}
 use Rattle.std.proofs.lemmas.Result.{err_from_is_err_and}
-use Rattle.jpg_spec.specs.FileText.{kept_text}
+use Rattle.jpg_spec_write.specs.FileText.{kept_text}
 use Rattle.jpg_markers.specs.Kept.{kept_pair}
 use Rattle.jpg_markers.specs.Passed.{is_passed}
 use Rattle.jpg_huff.specs.BitOut.{Sends}

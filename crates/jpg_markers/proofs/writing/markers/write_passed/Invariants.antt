@@ -1,5 +1,5 @@
 use Rattle.std.specs.Prelude.{drop, filter}
-use Rattle.jpg_spec.specs.FileText.{kept_text}
+use Rattle.jpg_spec_write.specs.FileText.{kept_text}
 use Rattle.jpg_markers.specs.Passed.{is_passed}
 use Rattle.jpg_huff.specs.BitOut.{CanSend, Sends}
 use Rattle.jpg_huff.proofs.InParts.{DoneButFor}

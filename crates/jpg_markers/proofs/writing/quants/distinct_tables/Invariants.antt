@@ -1,5 +1,5 @@
 use Rattle.std.specs.Prelude.{◌≡◌, ◌≤◌, ◌++◌, [], drop, length, reverse}
-use Rattle.jpg_spec.specs.FileText.{distinct_after}
+use Rattle.jpg_spec_write.specs.FileText.{distinct_after}
 use Rattle.jpg_markers.proofs.writing.quants.distinct_tables.Given as goal
 
 abbrev pub invariant-loop-table : goal.invariant-loop-table

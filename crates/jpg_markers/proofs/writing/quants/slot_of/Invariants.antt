@@ -1,5 +1,5 @@
 use Rattle.std.specs.Prelude.{◌≡◌, ◌+◌, drop}
-use Rattle.jpg_spec.specs.FileText.{slot_in}
+use Rattle.jpg_spec_write.specs.FileText.{slot_in}
 use Rattle.jpg_markers.proofs.writing.quants.slot_of.Given as goal
 
 abbrev pub invariant-loop-i : goal.invariant-loop-i

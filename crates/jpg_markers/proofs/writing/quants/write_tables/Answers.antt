@@ -2,7 +2,7 @@ use Rattle.std.proofs.Common.{List, ℕ, ◌++◌, ◌+◌, ap, sym, ◌∙◌, 
 use Rattle.std.specs.Prelude.{flat_map}
 use Rattle.std.proofs.lemmas.Result.{err_from_is_err_and}
 use Rattle.jpg_spec.specs.Segments.{QuantTable}
-use Rattle.jpg_spec.specs.FileText.{quant_text, slot_in}
+use Rattle.jpg_spec_write.specs.FileText.{quant_text, slot_in}
 use Rattle.jpg_huff.specs.BitOut.{Sends}
 use Rattle.jpg_huff.proofs.InParts.{of_bytes, part_start, part_then, part_fault}
 use Rattle.jpg_huff.proofs.Together.{can_after, sends_nothing}

@@ -1,5 +1,5 @@
 use Rattle.std.specs.Prelude.{drop, flat_map}
-use Rattle.jpg_spec.specs.FileText.{quant_text, slot_in}
+use Rattle.jpg_spec_write.specs.FileText.{quant_text, slot_in}
 use Rattle.jpg_huff.specs.BitOut.{CanSend, Sends}
 use Rattle.jpg_huff.proofs.InParts.{DoneButFor}
 use Rattle.jpg_markers.proofs.writing.quants.write_tables.Given as goal

@@ -1,7 +1,7 @@
 use Rattle.std.proofs.Common.{length, sym, subst, ap, ◌∙◌, Err, Ok, List, ℕ}
 use Rattle.std.proofs.lemmas.Result.{err_from_is_err_and}
 use Rattle.jpg_huff.specs.BitOut.{Sends}
-use Rattle.jpg_spec.specs.FileText.{segment_text}
+use Rattle.jpg_spec_write.specs.FileText.{segment_text}
 use Rattle.jpg_huff.proofs.Together.{sends_then, sends_fault}
 use Rattle.jpg_markers.proofs.SegmentText.{segment_head, head_is}
 use Rattle.jpg_markers.proofs.writing.segment.write_segment.Goals as goal

@@ -1,7 +1,7 @@
 use Rattle.std.proofs.Common.{◌-◌, List, sym, subst}
 use Rattle.jpg_spec.specs.declared.frame.Place.{Place}
 use Rattle.jpg_coefs.specs.Picture.{Picture, with_block}
-use Rattle.jpg_prog_read.specs.AcStands.{IsBetween}
+use Rattle.jpg_prog_read.specs.AcStands.{IsBetweenUnits}
 use Rattle.jpg_prog_read.proofs.AcUnits.{whole_padded, unit_put}
 use Rattle.jpg_prog_read.proofs.ac_reader.AcReader.put.Goals as goal
 
@@ -12,6 +12,6 @@ pub returns-clause-puts : goal.returns-clause-puts
 returns-clause-puts c = λ i bits w.
     let m = c.args.self.now in
     let p = c.place-place.result in
-    let Q : Picture → Type 0 = λ q. IsBetween (record m { cursor = c.step.new.self; left = m.left - 1 }) i bits q in
-    let C : List Place → Type 0 = λ l. IsBetween (record m { cursor = l; left = m.left - 1 }) i bits (with_block c.args.coefs.now p.component p.x p.y c.block-block.result) in
+    let Q : Picture → Type 0 = λ q. IsBetweenUnits (record m { cursor = c.step.new.self; left = m.left - 1 }) i bits q in
+    let C : List Place → Type 0 = λ l. IsBetweenUnits (record m { cursor = l; left = m.left - 1 }) i bits (with_block c.args.coefs.now p.component p.x p.y c.block-block.result) in
     subst Q (sym c.set_block.ensures) (subst C (sym c.step.ensures) (unit_put m i bits c.args.coefs.now p c.block-block.result w c.place-place.ensures c.checked.ensures.count c.block-block.ensures.value c.block-block.ensures.long))

@@ -1,7 +1,7 @@
 use Rattle.std.proofs.Common.{sym, subst, []}
-use Rattle.jpg_prog_read.specs.InWork.{InWork, IsOpen}
-use Rattle.jpg_prog_read.specs.Stands.{Stands}
-use Rattle.jpg_prog_read.proofs.Steps.{code_none}
+use Rattle.jpg_prog_read.specs.InWork.{InWork, IsOpenBand}
+use Rattle.jpg_prog_read.specs.Stands.{StandsInBand}
+use Rattle.jpg_prog_read.proofs.BandSteps.{code_none}
 use Rattle.jpg_prog_read.proofs.Reading.{more_read, walked_is}
 use Rattle.jpg_prog_read.proofs.BandBits.{walked_open, walked_back}
 use Rattle.jpg_prog_read.proofs.band.BandReader.code_bit.Goals as goal
@@ -16,9 +16,9 @@ returns-in-NoCode-clause-answered c = λ left at bits k l f.
 
 pub symbol-requires-clause-open : goal.symbol-requires-clause-open
 symbol-requires-clause-open c =
-    subst (λ (s : InWork). IsOpen c.args.scan.now s) (sym (walked_is c.args.self.now c.walk_bit.new.self [] c.in-Symbol.ensures.same c.in-Symbol.ensures.answers.1)) (walked_open c.args.scan.now c.args.self.now [] c.requires.stage c.requires.open)
+    subst (λ (s : InWork). IsOpenBand c.args.scan.now s) (sym (walked_is c.args.self.now c.walk_bit.new.self [] c.in-Symbol.ensures.same c.in-Symbol.ensures.answers.1)) (walked_open c.args.scan.now c.args.self.now [] c.requires.stage c.requires.open)
 
 pub returns-in-Symbol-clause-answered : goal.returns-in-Symbol-clause-answered
 returns-in-Symbol-clause-answered c = λ left at bits k l f.
     c.symbol.ensures.answered c.args.codes.now at bits c.args.self.now.walked c.args.bit k c.in-Symbol.ensures.answers.0
-    (subst (λ (s : InWork). Stands at bits s) (sym (walked_back c.args.self.now c.walk_bit.new.self c.in-Symbol.ensures.same)) f)
+    (subst (λ (s : InWork). StandsInBand at bits s) (sym (walked_back c.args.self.now c.walk_bit.new.self c.in-Symbol.ensures.same)) f)

@@ -3,7 +3,7 @@ use mir.Syntax.{w16}
 use mir.Val.{SFits, to_z, of_z}
 use Rattle.std.proofs.lemmas.Int.{to_z-of_z}
 use Rattle.jpg_spec.specs.Elements.{is_zero, grown}
-use Rattle.jpg_prog_read.specs.Step.{IsWithin}
+use Rattle.jpg_prog_read.specs.ReaderSteps.{IsWithinBand}
 use Rattle.jpg_prog_read.proofs.Reading.{old_read, moving_put, grown_within, head_old}
 use Rattle.jpg_prog_read.proofs.band.BandReader.correction_bit.Goals as goal
 
@@ -23,4 +23,4 @@ returns-clause-answered c = λ ac left at bits k l f.
     let v : to_z w16 (of_z w16 c.corrected.result) ≡ grown at.coding.al c.args.bit o = to_z-of_z w16 c.corrected.result y ∙ g in
     c.advance.ensures.answered ac at (bits ++ c.args.bit ∷ []) k
     (old_read c.args.scan.now ac at bits s c.put.new.self o (to_z w16 (of_z w16 c.corrected.result)) c.args.bit c.requires.passing r z f
-    (subst (λ (v : ℤ). IsWithin at.coding v) (sym v) (grown_within at.coding c.args.scan.now ac at.component s.rest o c.args.bit k r z c.requires.open.fits)) v c.put.ensures)
+    (subst (λ (v : ℤ). IsWithinBand at.coding v) (sym v) (grown_within at.coding c.args.scan.now ac at.component s.rest o c.args.bit k r z c.requires.open.fits)) v c.put.ensures)

@@ -1,6 +1,6 @@
 use Rattle.std.proofs.Common.{rules, ◌∙◌, ap, arith, ◌-◌, ◌/◌, ◌^◌, ◌<◌, drop}
 use Rattle.jpg_prog_read.proofs.Reading.{zeros_take}
-use Rattle.jpg_base.proofs.Marked.{marks_are, marks_behind}
+use Rattle.jpg_base.proofs.Marked.{marks_are, marks_after}
 use Rattle.jpg_prog_read.proofs.band.BandReader.load.Goals as goal
 
 pub returns-clause-small : goal.returns-clause-small
@@ -22,6 +22,6 @@ invariant_of-self c =
       inside = omega (arith, s.begun);
       fits = s.inside;
       few = omega (arith, s.some, s.inside);
-      marked = ap (λ n. n / 2 ^ c.args.scan.now.start) (marks_are block c.nonzero.result c.long.ensures small c.nonzero.ensures) ∙ marks_behind block c.args.scan.now.start;
+      marked = ap (λ n. n / 2 ^ c.args.scan.now.start) (marks_are block c.nonzero.result c.long.ensures small c.nonzero.ensures) ∙ marks_after block c.args.scan.now.start;
       quiet = c.self.invariant.quiet;
     }

@@ -4,7 +4,7 @@ use Rattle.jpg_spec.specs.Elements.{zeros}
 use Rattle.jpg_prog_read.specs.InWork.{InWork}
 use Rattle.jpg_base.specs.Marks.{marks}
 use Rattle.jpg_prog_read.proofs.Leaf.{passed_rest, passed_done, rest_long}
-use Rattle.jpg_base.proofs.Marked.{marks_behind}
+use Rattle.jpg_base.proofs.Marked.{marks_after}
 use Rattle.jpg_prog_read.proofs.band.BandReader.pass_zeros.Goals as goal
 
 pub invariant_of-self : goal.invariant_of-self
@@ -18,7 +18,7 @@ invariant_of-self c =
       inside = omega (arith, long, k.inside);
       fits = k.fits;
       few = omega (arith, k.few);
-      marked = ap (λ m. m / 2 ^ n) k.marked ∙ marks_behind (drop i.at i.values) n ∙ ap marks (drop-drop n i.at i.values);
+      marked = ap (λ m. m / 2 ^ n) k.marked ∙ marks_after (drop i.at i.values) n ∙ ap marks (drop-drop n i.at i.values);
       quiet = k.quiet;
     }
 

@@ -4,9 +4,9 @@ use mir.Val.{SFits}
 use Rattle.std.proofs.lemmas.Int.{to_z-of_z}
 use Rattle.std.proofs.lemmas.List.{take-set-le, length-set}
 use Rattle.jpg_prog_read.specs.InWork.{InWork}
-use Rattle.jpg_prog_read.proofs.Leaf.{put_rest, put_done, put_behind, rest_short, drop_after}
+use Rattle.jpg_prog_read.proofs.Leaf.{put_rest, put_done, put_after, rest_short, drop_after}
 use Rattle.jpg_base.specs.Marks.{marks}
-use Rattle.jpg_base.proofs.Marked.{marks_behind}
+use Rattle.jpg_base.proofs.Marked.{marks_after}
 use Rattle.jpg_prog_read.proofs.band.BandReader.put.Goals as goal
 
 pub returns : goal.returns
@@ -23,7 +23,7 @@ returns c =
     ∙ ap (λ x. v x (take (i.at + 1 - i.start) (drop i.start s)) (take (i.end - (i.at + 1)) (drop (i.at + 1) s)) (drop i.end s)) (take-set-le i.start i.values i.at c.args.value k.begins)
     ∙ ap (λ x. v (take i.start i.values) x (take (i.end - (i.at + 1)) (drop (i.at + 1) s)) (drop i.end s)) (put_done i.values i.start i.at c.args.value (omega (arith, k.whole, k.fits)) k.begins)
     ∙ ap (λ x. v (take i.start i.values) (take (i.at - i.start) (drop i.start i.values) ++ c.args.value ∷ []) x (drop i.end s)) (put_rest i.values i.at i.end c.args.value (omega (arith, k.whole, k.fits)) h)
-    ∙ ap (λ x. v (take i.start i.values) (take (i.at - i.start) (drop i.start i.values) ++ c.args.value ∷ []) (drop 1 (take (i.end - i.at) (drop i.at i.values))) x) (put_behind i.values i.at i.end c.args.value h)
+    ∙ ap (λ x. v (take i.start i.values) (take (i.at - i.start) (drop i.start i.values) ++ c.args.value ∷ []) (drop 1 (take (i.end - i.at) (drop i.at i.values))) x) (put_after i.values i.at i.end c.args.value h)
     ∙ ap (λ (s : InWork). (let n : InWork = record s { done = s.done ++ c.args.value ∷ []; rest = drop 1 s.rest } in n)) c.self.view_is
 
 pub invariant_of-self : goal.invariant_of-self
@@ -39,6 +39,6 @@ invariant_of-self c =
       inside = omega (arith, h);
       fits = k.fits;
       few = omega (arith, k.few);
-      marked = ap (λ n. n / 2 ^ 1) k.marked ∙ marks_behind (drop i.at i.values) 1 ∙ ap marks (drop-drop 1 i.at i.values ∙ sym (drop_after i.values i.at c.args.value (omega (arith, k.whole, k.fits, h))) ∙ ap (λ (l : List ℤ). drop (i.at + 1) l) (sym e));
+      marked = ap (λ n. n / 2 ^ 1) k.marked ∙ marks_after (drop i.at i.values) 1 ∙ ap marks (drop-drop 1 i.at i.values ∙ sym (drop_after i.values i.at c.args.value (omega (arith, k.whole, k.fits, h))) ∙ ap (λ (l : List ℤ). drop (i.at + 1) l) (sym e));
       quiet = k.quiet;
     }

@@ -1,7 +1,7 @@
 use Rattle.std.proofs.Common.{◌≡◌, arith, sym, subst, ap, ◌∷◌, List, ℤ, pos, drop, length, ◌≤◌, false}
 use Rattle.jpg_spec.specs.Elements.{is_zero}
 use Rattle.jpg_prog_read.specs.InWork.{InWork}
-use Rattle.jpg_prog_read.proofs.ZerosPassed.{passes, fewer_come, old_behind, short_of}
+use Rattle.jpg_prog_read.proofs.ZerosPassed.{passes, fewer_come, old_after, short_of}
 use Rattle.jpg_prog_read.proofs.band.BandReader.skip.Goals as goal
 
 pub pass_zeros-requires-clause-next : goal.pass_zeros-requires-clause-next
@@ -34,7 +34,7 @@ returns-then-is_left-clause-at c =
     let some = c.is_left.ensures.left c.if-is_left.true in
     let P : List ℤ → Type 0 = λ l. (1 ≤ length l) × ((v : ℤ) × (l ≡ v ∷ drop 1 l) × (is_zero v ≡ false)) in
     let left : 1 ≤ length (drop n s.rest) = subst (λ (l : List ℤ). 1 ≤ length l) e some in
-    subst P (sym e) (left, old_behind n s.rest left (z.last (short_of n s.rest left)))
+    subst P (sym e) (left, old_after n s.rest left (z.last (short_of n s.rest left)))
 
 pub returns-then-is_left-clause-stands : goal.returns-then-is_left-clause-stands
 returns-then-is_left-clause-stands c =

@@ -1,6 +1,6 @@
 use Rattle.std.proofs.Common.{take, drop, sym}
 use Rattle.jpg_prog_read.specs.InWork.{band_values}
-use Rattle.jpg_prog_read.proofs.Steps.{ends_next}
+use Rattle.jpg_prog_read.proofs.BandSteps.{ends_next}
 use Rattle.jpg_prog_read.proofs.band.BandReader.start.Goals as goal
 
 pub returns-in-Ends-clause-quiet : goal.returns-in-Ends-clause-quiet

@@ -1,5 +1,5 @@
 use Rattle.std.proofs.Common.{refl, ◌∷◌, [], ◌++◌}
-use Rattle.jpg_prog_read.proofs.Steps.{code_bad, code_bad_run}
+use Rattle.jpg_prog_read.proofs.BandSteps.{code_bad, code_bad_run}
 use Rattle.jpg_prog_read.proofs.Reading.{number_read, count_read, number_opened, count_opened, long_read, end_read}
 use Rattle.jpg_prog_read.proofs.BandBits.{walked}
 use Rattle.jpg_prog_read.proofs.band.BandReader.symbol.Goals as goal

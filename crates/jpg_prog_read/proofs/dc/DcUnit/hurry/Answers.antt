@@ -1,4 +1,4 @@
-use Rattle.jpg_prog_read.proofs.DcLooked.{hurries_then}
+use Rattle.jpg_prog_read.proofs.DcLookedUp.{hurries_then}
 use Rattle.jpg_prog_read.proofs.dc.DcUnit.hurry.Goals as goal
 
 pub returns : goal.returns

@@ -1,7 +1,7 @@
 use Rattle.std.proofs.Common.{ap, arith}
 use Rattle.jpg_prog_read.specs.DcWork.{DcWork}
 use Rattle.jpg_prog_read.proofs.BandBits.{quiet_of}
-use Rattle.jpg_prog_read.proofs.DcLooked.{code_hurried}
+use Rattle.jpg_prog_read.proofs.DcLookedUp.{code_hurried}
 use Rattle.jpg_prog_read.proofs.dc.DcUnit.hurry_code.Goals as goal
 
 pub returns-then-symbol-scan : goal.returns-then-symbol-scan

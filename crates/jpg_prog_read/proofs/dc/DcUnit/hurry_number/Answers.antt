@@ -1,7 +1,7 @@
 use Rattle.std.proofs.Common.{◌≡◌, ◌∙◌, ap, sym, arith, ◌-◌, take}
 use Rattle.jpg_prog_read.specs.ExtraWork.{ExtraWork}
 use Rattle.jpg_prog_read.specs.DcWork.{DcWork}
-use Rattle.jpg_prog_read.proofs.DcLooked.{number_hurried, taken}
+use Rattle.jpg_prog_read.proofs.DcLookedUp.{number_hurried, taken}
 use Rattle.jpg_prog_read.proofs.Leaf.{empty_is}
 use Rattle.jpg_prog_read.proofs.dc.DcUnit.hurry_number.Goals as goal
 

@@ -1,7 +1,7 @@
 use Rattle.std.proofs.Common.{sym, subst, List}
 use Rattle.jpg_spec.specs.Codes.{Code}
-use Rattle.jpg_prog_read.specs.DcLooked.{Hurries}
-use Rattle.jpg_prog_read.proofs.DcLooked.{none_hurried}
+use Rattle.jpg_prog_read.specs.DcLookedUp.{Hurries}
+use Rattle.jpg_prog_read.proofs.DcLookedUp.{none_hurried}
 use Rattle.jpg_prog_read.proofs.dc_first.DcFirst.hurry_unit.Goals as goal
 
 pub returns-in-Some-clause-hurries : goal.returns-in-Some-clause-hurries

@@ -1,6 +1,6 @@
 use Rattle.std.proofs.Common.{subst, sym, ap, arith}
 use Rattle.jpg_prog_read.specs.declared.dc_looks.DcLooks.{DcLooks}
-use Rattle.jpg_prog_read.proofs.DcLooked.{AreOf, none_of, one_of, all_looked}
+use Rattle.jpg_prog_read.proofs.DcLookedUp.{AreOf, none_of, one_of, all_looked_up}
 use Rattle.jpg_prog_read.proofs.dc_looks.DcLooks.look_up.Goals as goal
 
 pub loop-slot-init : goal.loop-slot-init
@@ -10,4 +10,4 @@ pub loop-slot-preserved : goal.loop-slot-preserved
 loop-slot-preserved c = one_of c.args.tables.now c.loop-slot.self.each c.loop-slot.slot c.codes_of.result c.loop-slot.invariant (omega (arith, c.loop-slot-test.true)) c.codes_of.ensures
 
 pub returns : goal.returns
-returns c = all_looked c.args.tables.now _ c.loop-slot.invariant
+returns c = all_looked_up c.args.tables.now _ c.loop-slot.invariant

@@ -1,4 +1,4 @@
-use Rattle.jpg_prog_read.proofs.DcLooked.{AreOf}
+use Rattle.jpg_prog_read.proofs.DcLookedUp.{AreOf}
 use Rattle.jpg_prog_read.proofs.dc_looks.DcLooks.look_up.Given as goal
 
 abbrev pub invariant-loop-slot : goal.invariant-loop-slot

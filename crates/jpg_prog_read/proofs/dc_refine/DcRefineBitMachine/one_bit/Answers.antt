@@ -7,7 +7,7 @@ use Rattle.jpg_coefs.specs.Picture.{Picture}
 use Rattle.jpg_coefs.specs.declared.machine.UnitStep.TheVariants as step
 use Rattle.jpg_prog_read.specs.declared.dc_refine.DcRefine.{DcRefine}
 use Rattle.jpg_prog_read.specs.DcPlaces.{with_dc}
-use Rattle.jpg_prog_read.specs.DcRefinement.{refinement, behind_bit}
+use Rattle.jpg_prog_read.specs.DcRefinement.{refinement, after_bit}
 use Rattle.jpg_prog_read.specs.DcStands.{AnswersDcRefinement}
 use Rattle.jpg_prog_read.proofs.DcMachines.{next_room, refine_spot, step_bit, step_last_bit}
 use Rattle.jpg_prog_read.proofs.dc_refine.DcRefineBitMachine.one_bit.Goals as goal
@@ -40,7 +40,7 @@ returns-then-self-eq0-clause-step c =
     let after : c.put.new.coefs ≡ with_dc now p v = c.put.ensures.block ∙ ap (λ (y : ℤ). with_dc now p y) (to_z-of_z w16 v (search rules)) in
     let read = subst (λ (y : ℤ). AnswersDcRefinement m.scan y c.args.bit v) (to_z-of_z w16 x (search rules)) c.refine-value.ensures in
     let S : DcRefine → Type 0 = λ q. Step refinement m now c.args.bit (Ok step.IntervalDone) q c.put.new.coefs in
-    let Q : Picture → Type 0 = λ q. Step refinement m now c.args.bit (Ok step.IntervalDone) (behind_bit m) q in
+    let Q : Picture → Type 0 = λ q. Step refinement m now c.args.bit (Ok step.IntervalDone) (after_bit m) q in
     subst S (sym c.put.ensures.machine) (subst Q (sym after) (step_last_bit m p now c.args.bit x v c.place-place.ensures c.put.ensures.count c.dc_of.ensures read (omega (arith, left, some, c.if-self-eq0.true))))
 
 pub returns-else-self-eq0-clause-step : goal.returns-else-self-eq0-clause-step
@@ -55,5 +55,5 @@ returns-else-self-eq0-clause-step c =
     let after : c.put.new.coefs ≡ with_dc now p v = c.put.ensures.block ∙ ap (λ (y : ℤ). with_dc now p y) (to_z-of_z w16 v (search rules)) in
     let read = subst (λ (y : ℤ). AnswersDcRefinement m.scan y c.args.bit v) (to_z-of_z w16 x (search rules)) c.refine-value.ensures in
     let S : DcRefine → Type 0 = λ q. Step refinement m now c.args.bit (Ok step.More) q c.put.new.coefs in
-    let Q : Picture → Type 0 = λ q. Step refinement m now c.args.bit (Ok step.More) (behind_bit m) q in
+    let Q : Picture → Type 0 = λ q. Step refinement m now c.args.bit (Ok step.More) (after_bit m) q in
     subst S (sym c.put.ensures.machine) (subst Q (sym after) (step_bit m p now c.args.bit x v c.place-place.ensures c.put.ensures.count c.dc_of.ensures read (omega (arith, left, some, c.if-self-eq0.false))))

@@ -1,6 +1,6 @@
 use Rattle.std.specs.Prelude.{◌≡◌, ◌≤◌, false}
 use Rattle.jpg_spec.specs.Lists.{any_of}
-use Rattle.jpg_spec.specs.Sending.{is_new}
+use Rattle.jpg_spec_write.specs.Sending.{is_new}
 use Rattle.jpg_prog_write.specs.Bands.{sents}
 use Rattle.jpg_prog_write.proofs.band.Band.front_end.Given as goal
 

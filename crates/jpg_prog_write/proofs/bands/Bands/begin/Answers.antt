@@ -1,5 +1,5 @@
 use Rattle.std.proofs.Common.{List, ◌∷◌, ap, sym, ◌∙◌}
-use Rattle.jpg_spec.specs.Sending.{Sent}
+use Rattle.jpg_spec_write.specs.Sending.{Sent}
 use Rattle.jpg_prog_write.specs.Bands.{elements_waiting}
 use Rattle.jpg_prog_write.proofs.ElementsDue.{begins}
 use Rattle.jpg_prog_write.proofs.bands.Bands.begin.Goals as goal

@@ -1,7 +1,7 @@
 use Rattle.std.proofs.Common.{arith}
 use Rattle.jpg_seq.specs.Reader.{with_work}
 use Rattle.jpg_seq.specs.Source.{bits_in}
-use Rattle.jpg_seq.proofs.Readings.{starts, can_read, can_put, empty_ends, fault_ends, interval_ends, units_end, goes_on}
+use Rattle.jpg_seq.proofs.StoreReadings.{starts, can_read, can_put, empty_ends, fault_ends, interval_ends, units_end, goes_on}
 use Rattle.jpg_seq.proofs.reader.SeqReader.read.Goals as goal
 
 pub loop-fault-init : goal.loop-fault-init

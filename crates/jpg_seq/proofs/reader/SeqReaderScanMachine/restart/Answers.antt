@@ -1,7 +1,7 @@
 use Rattle.std.proofs.Common.{ap, pos, ◌∷◌, []}
 use Rattle.jpg_seq.specs.Work.{Work}
 use Rattle.jpg_seq.specs.declared.reader.SeqReader.{SeqReader}
-use Rattle.jpg_seq.proofs.Readings.{begins}
+use Rattle.jpg_seq.proofs.StoreReadings.{begins}
 use Rattle.jpg_seq.proofs.reader.SeqReaderScanMachine.restart.Goals as goal
 
 pub returns-clause-begun : goal.returns-clause-begun

@@ -1,5 +1,5 @@
 use Rattle.std.proofs.Common.{rules, arith}
-use Rattle.jpg_seq.proofs.Told.{told_more}
+use Rattle.jpg_seq.proofs.ShortValue.{told_more}
 use Rattle.jpg_seq.proofs.values.ValueDecoder.new.Goals as goal
 
 pub loop-ten-preserved : goal.loop-ten-preserved

@@ -1,7 +1,7 @@
 use Rattle.std.proofs.Common.{List, subst, slice_index_or, arith, inl, inr}
 use Rattle.jpg_spec.specs.Codes.{Code}
 use Rattle.jpg_seq.specs.Values.{StandsToldFirst, TellsNone, told_none}
-use Rattle.jpg_seq.proofs.Told.{told_first, told_not}
+use Rattle.jpg_seq.proofs.ShortValue.{told_first, told_not}
 use Rattle.jpg_seq.proofs.values.ValueDecoder.told.Goals as goal
 
 pub returns-else-told-eq0 : goal.returns-else-told-eq0

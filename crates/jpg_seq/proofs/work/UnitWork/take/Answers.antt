@@ -3,7 +3,7 @@ use mir.Syntax.{w16}
 use Rattle.std.proofs.lemmas.Int.{to_z-of_z}
 use Rattle.jpg_seq.specs.Coder.{env_in}
 use Rattle.jpg_seq.specs.declared.source.Source.{Source}
-use Rattle.jpg_seq.specs.declared.work.Took.TheVariants.{More, Empty, Done, Fault}
+use Rattle.jpg_seq.specs.declared.work.UnitProgress.TheVariants.{More, Empty, Done, Fault}
 use Rattle.jpg_seq.specs.Source.{bits_in}
 use Rattle.jpg_seq.specs.Work.{Env}
 use Rattle.jpg_seq.proofs.Sources.{taken_at_hand}

@@ -1,6 +1,6 @@
 use Rattle.std.proofs.Common.{refl, arith, ap, length, ◌∙◌, subst, sym}
 use Rattle.jpg_seq.specs.declared.source.Source.{Source}
-use Rattle.jpg_seq.specs.declared.work.Took.TheVariants.{More, Done}
+use Rattle.jpg_seq.specs.declared.work.UnitProgress.TheVariants.{More, Done}
 use Rattle.jpg_seq.specs.Work.{Work}
 use Rattle.jpg_seq.proofs.ToldTaken.{told_no_more, told_then}
 use Rattle.jpg_seq.proofs.work.UnitWork.told_values.Goals as goal

@@ -1,5 +1,5 @@
 use Rattle.std.specs.Prelude.{◌≡◌, ◌<◌, ◌≤◌, ◌-◌, [], length}
-use Rattle.jpg_seq.specs.declared.work.Took.TheVariants.{More}
+use Rattle.jpg_seq.specs.declared.work.UnitProgress.TheVariants.{More}
 use Rattle.jpg_seq.specs.ToldTaken.{TakesToldFrom}
 use Rattle.jpg_seq.proofs.work.UnitWork.told_values.Given as goal
 

@@ -1,7 +1,7 @@
 use Rattle.std.proofs.Common.{refl}
 use Rattle.std.specs.Prelude.{ℕ, slice_index}
 use Rattle.jpg_coefs.specs.Picture.{map_of}
-use Rattle.jpg_file.specs.PictureRead.{picture_meaning}
+use Rattle.jpg_file.specs.Read.PictureRead.{picture_meaning}
 use Rattle.jpg_transform.proofs.MovedFile.{writes_job}
 use Rattle.jpg_transform.proofs.Planned.{is_output, whole_picture}
 use Rattle.jpg_transform.proofs.SeenPicture.{seen_meaning}
@@ -23,7 +23,7 @@ invariant_of-result c =
       };
     }
 
--- what is shown, for whatever choice
+-- what is viewed, for any choice
 pub returns-clause-shows : goal.returns-clause-shows
 returns-clause-shows c = λ choice h.
     (let p = c.args.picture.now in

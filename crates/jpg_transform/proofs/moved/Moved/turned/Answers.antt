@@ -1,6 +1,6 @@
 use Rattle.std.proofs.Common.{subst, sym, List, ℤ, ◌≡◌}
 use Rattle.std.specs.Prelude.{slice_index, All, ◌≤ℤ◌, negsuc}
-use Rattle.jpg_spec.specs.Transforms.{opposite}
+use Rattle.jpg_spec_move.specs.Transforms.{opposite}
 use Rattle.jpg_coefs.specs.Picture.{map_of}
 use Rattle.jpg_transform.proofs.Viewed.{real_at}
 use Rattle.jpg_transform.proofs.moved.Moved.turned.Goals as goal

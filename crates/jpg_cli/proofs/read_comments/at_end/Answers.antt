@@ -1,5 +1,0 @@
-use Rattle.jpg_cli.proofs.CommentsRead.{end_text}
-use Rattle.jpg_cli.proofs.read_comments.at_end.Goals as goal
-
-pub returns-in-Fault-clause-ended : goal.returns-in-Fault-clause-ended
-returns-in-Fault-clause-ended c = λ bytes text h. end_text bytes text c.args.comments.now c.in-Fault.fault c.requires.limits h (c.in-Fault.ensures.answered bytes text h)

@@ -1,8 +1,0 @@
-use Rattle.std.proofs.Common.{◌≡◌, map, drop}
-use Rattle.std.specs.Prelude.{find}
-use Rattle.jpg_spec.specs.Switches.{is_match}
-use Rattle.jpg_cli.specs.Switches.{told_switch}
-use Rattle.jpg_cli.proofs.switches.purpose_of.Given as goal
-
-abbrev pub invariant-loop-switch : goal.invariant-loop-switch
-invariant-loop-switch l = find (is_match (drop 1 l.word)) (map told_switch (drop l.switch-index l.switches)) ≡ find (is_match (drop 1 l.word)) (map told_switch l.switches)

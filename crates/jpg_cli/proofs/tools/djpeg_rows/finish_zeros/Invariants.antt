@@ -1,0 +1,23 @@
+use Rattle.std.specs.Prelude.{◌-◌, ℕ, List}
+use Rattle.jpg_base.specs.Desk.{DeskState}
+use Rattle.jpg_color.specs.Shown.{all_rows}
+use Rattle.jpg_cli.specs.Tools.Showing.{showing_told}
+use Rattle.jpg_cli.specs.Tools.ShowingRows.{Head, IsEnding}
+use Rattle.jpg_cli.specs.Stays.{OnlyWorks}
+use Rattle.jpg_cli.proofs.tools.djpeg_rows.finish_zeros.Given as goal
+
+-- Whatever was read and drawn before, some zero rows were drawn since.
+abbrev pub invariant-loop-image : goal.invariant-loop-image
+invariant-loop-image g l =
+    let state = g.D.Desk.state in
+    let s = showing_told l.words in
+    let first = (goal.ImageEnd-dyn g (l.initial.end.vtable, l.initial.end.value)).progress l.initial.end.value in
+    let now = (goal.ImageEnd-dyn g (l.end.vtable, l.end.value)).progress l.end.value in
+    record {
+      kept : OnlyWorks (state l.initial.desk) (state l.desk);
+      shows : (old start : DeskState) (h : Head) (all : List ℕ) → IsEnding s old start h all l.count 0 l.initial.image first (state l.initial.desk)
+          → IsEnding s old start h all l.count 0 l.image now (state l.desk);
+    }
+
+abbrev pub decreases-loop-image : goal.decreases-loop-image
+decreases-loop-image g l = all_rows l.image.strips.display - l.image.strips.pushed

@@ -1,0 +1,15 @@
+use Rattle.std.proofs.Common.{[], ◌∙◌, refl, arith}
+use Rattle.jpg_cli.proofs.CommentsCopied.{copies_none, none_read, none_written}
+use Rattle.jpg_cli.proofs.tools.rdjpgcom.copy_comments.Goals as goal
+
+pub loop-why-init : goal.loop-why-init
+loop-why-init g c =
+    let s = g.D.Desk.state c.args.desk.now in
+    record {
+      kept = copies_none s;
+      read = ([], [], c.new-comments.ensures.read, record { most = omega arith; read = none_read s.left; written = none_written s.outputs });
+      opened = c.requires.open;
+      limits = c.new-comments.ensures.limits ∙ c.standard.ensures;
+      empty = c.new-out.ensures;
+      room = refl;
+    }

@@ -1,0 +1,9 @@
+pub mod CommentTaken
+pub mod FileTaken
+pub mod ImageWritten
+pub mod ReadImage
+pub mod ReadPicture
+pub mod Reading
+pub mod ScriptTaken
+pub mod TablesTaken
+pub mod Writing

@@ -1,0 +1,9 @@
+pub mod CommentInserted
+pub mod EncodeDue
+pub mod Ends
+pub mod ImageEncoded
+pub mod InsertComment
+pub mod ReadComments
+pub mod Showing
+pub mod ShowingRows
+pub mod Turned

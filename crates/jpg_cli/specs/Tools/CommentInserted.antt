@@ -1,0 +1,219 @@
+-- WHAT INSERTING A COMMENT into a file does to a desk (T.81, B.2.4.5, the manual of wrjpgcom in release 6b), by why it
+-- ended.
+use Rattle.std.specs.Prelude.{◌≡◌, ◌⊎◌, ℕ, ◌<◌, ◌≤◌, Bool, false, List, [], ◌∷◌, ◌++◌, length, take, Option, None, Some, ◌+◌}
+use Rattle.std.specs.Io.KnownBytes.{Consumes, IsAtEnd}
+use Rattle.jpg_base.specs.declared.names.Name.{Name}
+use Rattle.jpg_base.specs.declared.names.Name.TheVariants as name
+use Rattle.jpg_base.specs.declared.names.Put.TheVariants as put
+use Rattle.jpg_base.specs.Desk.{AddsOutput, AppendsLast, DeskState, NoneFell, OpensFile, Rose}
+use Rattle.jpg_spec.specs.Segments.{standard_limits}
+use Rattle.jpg_spec_write.specs.CommentText.{IsInsertFault, longest_comment}
+use Rattle.jpg_spec_words.specs.CommentWords.{CommentSource, from_input, from_words, from_file, is_given}
+use Rattle.jpg_spec.specs.declared.fault.Fault.TheVariants.{CommentTooLong}
+use Rattle.jpg_spec.specs.declared.fault.FaultAt.{FaultAt}
+use Rattle.jpg_spec_words.specs.declared.answers.Why.{Why}
+use Rattle.jpg_spec_words.specs.declared.answers.Why.TheVariants as why
+use Rattle.jpg_spec_words.specs.declared.answers.Which.TheVariants as which
+use Rattle.jpg_comments.specs.WriteInserted.{insert_limits, is_replacing, HasInserted}
+use Rattle.jpg_comments.specs.declared.insert.Insert.{Insert}
+use Rattle.jpg_cli.specs.Words.CommentWords.{comment_told}
+use Rattle.jpg_cli.specs.declared.words.comments.WriteWords.{WriteWords}
+use Rattle.jpg_cli.specs.Tools.InsertComment.{AfterFed, IsAtHead, IsFaultBefore, IsFilePart, IsLongFile, IsNoHead, IsInsertedWhole}
+use Rattle.jpg_cli.specs.Endings.{Asks, Copied, Stopped, Unopened, Unread}
+use Rattle.jpg_cli.specs.Desk.Reading.{IsFile, IsReadTo, ReadsBytes, ReadsPart, rest_of}
+
+-- which comment is inserted into which file, and where the result goes; whether it replaces the comments before the
+-- frame header
+pub record Task : Type 0 where
+  pub comment : CommentSource
+  pub input : Name
+  pub output : Name
+  pub replace : Bool
+
+abbrev pub task_told : WriteWords → Task
+task_told words = record { comment = comment_told words.comment; input = words.files.input; output = words.files.output; replace = words.replace }
+
+-- THE NAMES that are opened or created: the comment's file if it comes from one, the input, and then the output
+
+abbrev pub names_of : CommentSource → List Name
+names_of from_input = name.In ∷ []
+names_of (from_words text) = []
+names_of (from_file file) = name.File file ∷ []
+
+abbrev pub names_to_input : Task → List Name
+names_to_input task = names_of task.comment ++ task.input ∷ []
+
+abbrev pub names_to_output : Task → List Name
+names_to_output task = names_to_input task ++ task.output ∷ []
+
+-- THE COMMENT
+
+-- If the files are known, it is this one.
+abbrev pub IsComment : DeskState → CommentSource → List ℕ → Type 0
+IsComment old from_input comment = IsFile old.files name.In comment
+IsComment old (from_words text) comment = comment ≡ text
+IsComment old (from_file file) comment = IsFile old.files (name.File file) comment
+
+-- It is no longer than a comment may be.
+abbrev pub IsShortComment : DeskState → CommentSource → List ℕ → Type 0
+IsShortComment old source comment = IsComment old source comment × (length comment ≤ longest_comment)
+
+-- The bytes are a prefix of it, no longer than a comment may be, followed by those that are left.
+abbrev pub IsShortFront : DeskState → CommentSource → List ℕ → DeskState → Type 0
+IsShortFront old source bytes new = (length bytes ≤ longest_comment) × IsComment old source (bytes ++ rest_of new.left)
+
+-- the fault of a longer one
+abbrev pub too_long : FaultAt
+too_long = record { fault = CommentTooLong; at = longest_comment + 1 }
+
+-- If it comes from a file, that was read up to one byte more than a comment may have, and the others are left.
+abbrev pub IsCommentRead : CommentSource → List ℕ → DeskState → Type 0
+IsCommentRead from_input comment new = IsReadTo (longest_comment + 1) comment new
+IsCommentRead (from_words text) comment new = Unit {0}
+IsCommentRead (from_file file) comment new = IsReadTo (longest_comment + 1) comment new
+
+-- Bytes of the file that it comes from were read, no more than that.
+abbrev pub ReadsComment : CommentSource → DeskState → DeskState → Type 0
+ReadsComment from_input old new = ReadsPart (longest_comment + 1) name.In old new
+ReadsComment (from_words text) old new = ⊥
+ReadsComment (from_file file) old new = ReadsPart (longest_comment + 1) (name.File file) old new
+
+-- THE STATE when the run ended
+
+-- The comment was taken, and these bytes of the input, no more than may be, were read; this holds of them.
+pub record ReadsInput (task : Task) (Is : List ℕ → Type 0) (old new : DeskState) : Type 0 where
+  pub comment : List ℕ
+  pub bytes : List ℕ
+  pub source : IsShortComment old task.comment comment
+  pub read : ReadsBytes standard_limits.input task.input bytes old new
+  pub is : Is bytes
+
+-- No output was created.
+abbrev pub ReadsAlone : Task → (List ℕ → Type 0) → DeskState → DeskState → Type 0
+ReadsAlone task Is old new = Stopped (names_to_input task) put.Done old new × ReadsInput task Is old new
+
+-- The output has a text, and this holds of the comment, the bytes of the input that were read, and the text.
+pub record WritesText (task : Task) (Is : List ℕ → List ℕ → List ℕ → Type 0) (old new : DeskState) : Type 0 where
+  pub comment : List ℕ
+  pub source : IsShortComment old task.comment comment
+  pub copied : Copied (names_of task.comment) task.input task.output (Is comment) old new
+
+-- the comment is too long; the input wasn't opened
+pub record IsCommentLong (task : Task) (f : FaultAt) (old new : DeskState) : Type 0 where
+  pub comment : List ℕ
+  pub stopped : Stopped (names_of task.comment) put.Done old new
+  pub source : IsComment old task.comment comment
+  pub read : IsCommentRead task.comment comment new
+  pub long : longest_comment < length comment
+  pub fault : f ≡ too_long
+
+-- the comment, which comes from a file, wasn't read after these bytes of it, which are no more than a comment may have
+pub record IsCommentUnread (task : Task) (old new : DeskState) : Type 0 where
+  pub bytes : List ℕ
+  pub unread : Unread (names_of task.comment) old new
+  pub from : is_given task.comment ≡ false
+  pub source : IsShortFront old task.comment bytes new
+
+-- No file was opened; or of the one that was opened last, no more bytes were read than may be.
+abbrev pub ReadsLast : Task → DeskState → DeskState → Type 0
+ReadsLast task old new = (new.left ≡ old.left) ⊎ (ReadsComment task.comment old new ⊎ ReadsPart standard_limits.input task.input old new)
+
+-- there was no memory before an output was created; the names that were opened are the first of those in the list
+pub record IsOutOfMemory (task : Task) (old new : DeskState) : Type 0 where
+  pub count : ℕ
+  pub stopped : Stopped (take count (names_to_input task)) put.Done old new
+  pub read : ReadsLast task old new
+
+-- THE ANSWERS
+abbrev pub Inserted : Task → DeskState → Why → DeskState → Type 0
+Inserted task old why.Done new = WritesText task (λ comment. IsInsertedWhole comment task.replace) old new × IsAtEnd new.left
+Inserted task old (why.Refused f) new =
+    IsCommentLong task f old new
+    ⊎ (ReadsAlone task (IsFaultBefore f (rest_of new.left)) old new ⊎ WritesText task (λ comment. IsLongFile comment task.replace f (rest_of new.left)) old new)
+Inserted task old (why.OpenFault which.Comment) new = Unopened (names_of task.comment) old new × (is_given task.comment ≡ false)
+Inserted task old (why.OpenFault which.Input) new =
+    Unopened (names_to_input task) old new × ((comment : List ℕ) × IsShortComment old task.comment comment)
+Inserted task old (why.OpenFault which.Output) new = Unopened (names_to_output task) old new × ReadsInput task IsAtHead old new
+Inserted task old (why.ReadFault which.Comment) new = IsCommentUnread task old new
+Inserted task old (why.ReadFault which.Input) new =
+    (ReadsAlone task IsNoHead old new ⊎ WritesText task (λ comment. IsInsertedWhole comment task.replace) old new) × Rose old.counts.reads new.counts.reads
+Inserted task old why.WriteFault new = WritesText task (λ comment. IsFilePart comment task.replace) old new × Rose old.counts.writes new.counts.writes
+Inserted task old why.NoMemory new = IsOutOfMemory task old new ⊎ WritesText task (λ comment. IsFilePart comment task.replace) old new
+Inserted task old other new = ⊥
+
+-- If no count of open, read or write rose, the answer is that of the comment and the input, or NoMemory.
+
+abbrev pub HasLongComment : Task → FaultAt → DeskState → Type 0
+HasLongComment task f old = (comment : List ℕ) × IsComment old task.comment comment × (longest_comment < length comment) × (f ≡ too_long)
+
+abbrev pub HasInputFault : Task → FaultAt → DeskState → Type 0
+HasInputFault task f old =
+    (comment : List ℕ) × (bytes : List ℕ) × IsShortComment old task.comment comment × IsFile old.files task.input bytes
+    × IsInsertFault standard_limits bytes f.fault f.at
+
+abbrev pub IsInsertDue : Task → DeskState → Why → Type 0
+IsInsertDue task old why.Done =
+    (comment : List ℕ) × (bytes : List ℕ) × (text : List ℕ) × IsShortComment old task.comment comment × IsFile old.files task.input bytes
+    × IsInsertedWhole comment task.replace bytes text
+IsInsertDue task old (why.Refused f) = HasLongComment task f old ⊎ HasInputFault task f old
+IsInsertDue task old why.NoMemory = Unit {0}
+IsInsertDue task old other = ⊥
+
+-- STEP BY STEP, from a desk as it was when the run began
+
+-- The comment was taken, the input is open, and these bytes of it were read; no output was created.
+pub record IsReading (task : Task) (comment bytes : List ℕ) (old now : DeskState) : Type 0 where
+  pub left : Option (List ℕ)
+  pub names : Asks (names_to_input task) put.Done old now
+  pub source : IsShortComment old task.comment comment
+  pub opened : OpensFile old.files task.input left
+  pub read : Consumes left now.left bytes
+  pub most : length bytes ≤ standard_limits.input
+  pub outputs : now.outputs ≡ old.outputs
+  pub counts : NoneFell old.counts now.counts
+
+-- The output was created too, and has this text.
+pub record IsWriting (task : Task) (comment bytes text : List ℕ) (old now : DeskState) : Type 0 where
+  pub left : Option (List ℕ)
+  pub created : Option (List (Name × List ℕ))
+  pub names : Asks (names_to_output task) put.Done old now
+  pub source : IsShortComment old task.comment comment
+  pub opened : OpensFile old.files task.input left
+  pub read : Consumes left now.left bytes
+  pub most : length bytes ≤ standard_limits.input
+  pub adds : AddsOutput old.outputs task.output created
+  pub written : AppendsLast created text now.outputs
+  pub counts : NoneFell old.counts now.counts
+
+-- From the marker of the frame header on: the pending text was written, or why the writing ended.
+abbrev pub AfterFrameMarker : Task → List ℕ → DeskState → Option Why → Insert → DeskState → Type 0
+AfterFrameMarker task comment old None c now =
+    (bytes : List ℕ) × (text : List ℕ) × (0 < length text) × HasInserted comment bytes text c × IsWriting task comment bytes text old now
+AfterFrameMarker task comment old (Some ended) c now = Inserted task old ended now
+
+-- FOR ALL TASKS of this output and kind, comments and desks as they were when the run began
+
+-- the input was opened, and none of it read
+abbrev pub EndsTask : Name → Insert → DeskState → Why → DeskState → Type 0
+EndsTask output had old ended now =
+    (task : Task) (comment : List ℕ) (start : DeskState) → task.output ≡ output → task.replace ≡ is_replacing had → HasInserted comment [] [] had
+    → IsReading task comment [] start old → Inserted task start ended now
+
+abbrev pub BeginsTask : Name → Insert → DeskState → Option Why → Insert → DeskState → Type 0
+BeginsTask output had old due c now =
+    (task : Task) (comment : List ℕ) (start : DeskState) → task.output ≡ output → task.replace ≡ is_replacing had → HasInserted comment [] [] had
+    → IsReading task comment [] start old → AfterFrameMarker task comment start due c now
+
+-- The marker is in the bytes that were read, and this text is pending.
+abbrev pub WritesFirst : Name → Option Why → List ℕ → DeskState → Option Why → DeskState → Type 0
+WritesFirst output due text old ended now =
+    (task : Task) (comment bytes : List ℕ) (start : DeskState) (c : Insert) → task.output ≡ output → 0 < length text → IsAtHead bytes
+    → IsReading task comment bytes start old → AfterFed comment task.replace bytes text due c → insert_limits c ≡ standard_limits
+    → is_replacing c ≡ task.replace
+    → AfterFrameMarker task comment start ended c now
+
+-- The bytes that were read were written.
+abbrev pub WritesRest : Insert → DeskState → Why → DeskState → Type 0
+WritesRest had old ended now =
+    (task : Task) (comment bytes text : List ℕ) (start : DeskState) → task.replace ≡ is_replacing had → HasInserted comment bytes text had → 0 < length text
+    → IsWriting task comment bytes text start old → Inserted task start ended now

@@ -1,0 +1,130 @@
+-- HOW A FILE WITH A COMMENT INSERTED is written piece by piece (T.81, B.2.4.5, the manual of wrjpgcom in release 6b).
+use Rattle.std.specs.Prelude.{◌≡◌, ℕ, ◌<◌, ◌≤◌, ◌+◌, Bool, true, List, [], ◌++◌, length, take, Option, None, Some, Result, Ok, Err}
+use Rattle.std.specs.Io.KnownBytes.{Consumes, IsAtEnd}
+use Rattle.jpg_base.specs.Desk.{DeskState, Rose}
+use Rattle.jpg_base.specs.declared.stop.Stop.TheVariants as stop
+use Rattle.jpg_spec.specs.Segments.{standard_limits}
+use Rattle.jpg_spec_write.specs.CommentText.{IsHeadFault, IsInsertFault, IsInserted, RevealsNothing, longest_comment}
+use Rattle.jpg_spec.specs.declared.fault.Fault.TheVariants.{CommentTooLong, InputTooLong}
+use Rattle.jpg_spec.specs.declared.fault.FaultAt.{FaultAt}
+use Rattle.jpg_spec_words.specs.declared.answers.Why.{Why}
+use Rattle.jpg_spec_words.specs.declared.answers.Why.TheVariants as why
+use Rattle.jpg_spec_words.specs.declared.answers.Which.TheVariants as which
+use Rattle.jpg_comments.specs.Inserting.{HoldsHead, InsertsPart, InsertsUpTo}
+use Rattle.jpg_comments.specs.SegmentsSoFar.{Appends}
+use Rattle.jpg_comments.specs.WriteInserted.{is_replacing, HasInserted}
+use Rattle.jpg_comments.specs.declared.insert.Insert.{Insert}
+use Rattle.jpg_cli.specs.declared.tools.wrjpgcom.AtHead.{AtHead}
+use Rattle.jpg_cli.specs.declared.tools.wrjpgcom.AtHead.TheVariants as at_head
+use Rattle.jpg_cli.specs.Tools.ReadComments.{CopiesText, HasCopied}
+use Rattle.jpg_cli.specs.Stays.{OnlyCopies}
+use Rattle.jpg_cli.specs.Desk.Reading.{rest_of}
+
+-- A new inserter, with a comment that isn't too long; or there is none.
+abbrev pub IsBegunWith : List ℕ → Bool → Result Insert Why → Type 0
+IsBegunWith comment replace (Ok c) = (length comment ≤ longest_comment) × HasInserted comment [] [] c × (c.limits ≡ standard_limits) × (c.replace ≡ replace)
+IsBegunWith comment replace (Err (why.Refused f)) = (f.fault ≡ CommentTooLong) × (f.at ≡ longest_comment + 1) × (longest_comment < length comment)
+IsBegunWith comment replace (Err why.NoMemory) = Unit {0}
+IsBegunWith comment replace (Err other) = ⊥
+
+-- A piece was taken: the text for all the bytes so far, or why the writing ends.
+abbrev pub AfterFed : List ℕ → Bool → List ℕ → List ℕ → Option Why → Insert → Type 0
+AfterFed comment replace bytes text None c = HasInserted comment bytes text c
+AfterFed comment replace bytes text (Some (why.Refused f)) c = InsertsUpTo standard_limits comment replace bytes text (stop.Fault f)
+AfterFed comment replace bytes text (Some why.NoMemory) c = InsertsPart standard_limits comment replace bytes text
+AfterFed comment replace bytes text (Some other) c = ⊥
+
+-- the bytes end: the complete file was written, or it has a fault before the frame header
+abbrev pub AfterAll : List ℕ → Bool → List ℕ → List ℕ → Why → Type 0
+AfterAll comment replace bytes text why.Done = IsInserted standard_limits bytes comment replace text × (length bytes < standard_limits.input)
+AfterAll comment replace bytes text (why.Refused f) = IsHeadFault standard_limits bytes f.fault f.at × (text ≡ [])
+AfterAll comment replace bytes text other = ⊥
+
+-- THE TEXT after the frame header's marker, by the bytes that were read
+
+-- the complete file with the comment inserted, from fewer bytes than may be taken
+abbrev pub IsInsertedWhole : List ℕ → Bool → List ℕ → List ℕ → Type 0
+IsInsertedWhole comment replace bytes text = IsInserted standard_limits bytes comment replace text × (length bytes < standard_limits.input)
+
+-- a first part of the file with the comment inserted, from a prefix of the bytes that has the frame header's marker
+abbrev pub IsFilePart : List ℕ → Bool → List ℕ → List ℕ → Type 0
+IsFilePart comment replace bytes text =
+    (n : ℕ) × (front : ℕ) × (whole : List ℕ) × IsInserted standard_limits (take front bytes) comment replace whole × (text ≡ take n whole)
+
+-- the file of as many bytes as may be taken with the comment inserted, where this rest follows the bytes
+abbrev pub IsLongFile : List ℕ → Bool → FaultAt → List ℕ → List ℕ → List ℕ → Type 0
+IsLongFile comment replace f rest bytes text =
+    IsInsertFault standard_limits (bytes ++ rest) f.fault f.at × (f.fault ≡ InputTooLong)
+    × IsInserted standard_limits (take f.at (bytes ++ rest)) comment replace text
+
+abbrev pub EndsInserting : List ℕ → Bool → DeskState → Why → DeskState → Type 0
+EndsInserting comment replace old why.Done new = CopiesText (IsInsertedWhole comment replace) old new × IsAtEnd new.left
+EndsInserting comment replace old (why.Refused f) new = CopiesText (IsLongFile comment replace f (rest_of new.left)) old new
+EndsInserting comment replace old (why.ReadFault which.Input) new = CopiesText (IsInsertedWhole comment replace) old new × Rose old.counts.reads new.counts.reads
+EndsInserting comment replace old why.WriteFault new = CopiesText (IsFilePart comment replace) old new × Rose old.counts.writes new.counts.writes
+EndsInserting comment replace old why.NoMemory new = CopiesText (IsFilePart comment replace) old new
+EndsInserting comment replace old other new = ⊥
+
+-- From these bytes on: one more piece was read and written, or why the writing ends.
+abbrev pub AfterRest : List ℕ → Bool → DeskState → List ℕ → Option Why → Insert → DeskState → Type 0
+AfterRest comment replace old bytes None c new =
+    (piece : List ℕ) × (text : List ℕ) × (0 < length piece) × (0 < length text) × HasInserted comment (bytes ++ piece) text c
+    × HasCopied old (bytes ++ piece) text new
+AfterRest comment replace old bytes (Some ended) c new = EndsInserting comment replace old ended new
+
+-- UP TO THAT MARKER, where nothing is written
+
+-- The file, which has this rest after the bytes, has this fault before its frame header. It is in the bytes, and fewer
+-- than 65,536 of them are after it.
+abbrev pub IsFaultBefore : FaultAt → List ℕ → List ℕ → Type 0
+IsFaultBefore f rest bytes = IsHeadFault standard_limits (bytes ++ rest) f.fault f.at × (f.at ≤ length bytes) × (length bytes < f.at + 65536)
+
+-- a prefix of the bytes ends with the marker, and fewer than 65,536 bytes are after it
+abbrev pub IsAtHead : List ℕ → Type 0
+IsAtHead bytes = (count : ℕ) × (count ≤ length bytes) × (length bytes < count + 65536) × HoldsHead standard_limits (take count bytes)
+
+-- no fault and no such marker, in fewer bytes than may be taken
+abbrev pub IsNoHead : List ℕ → Type 0
+IsNoHead bytes = RevealsNothing standard_limits (HoldsHead standard_limits) bytes × (length bytes < standard_limits.input)
+
+-- from these bytes on, why the reading ended
+abbrev pub EndsBefore : List ℕ → DeskState → Why → DeskState → Type 0
+EndsBefore bytes old (why.Refused f) new =
+    (piece : List ℕ) × Consumes old.left new.left piece × (length (bytes ++ piece) ≤ standard_limits.input)
+    × IsFaultBefore f (rest_of new.left) (bytes ++ piece)
+EndsBefore bytes old (why.ReadFault which.Input) new = (new.left ≡ old.left) × IsNoHead bytes × Rose old.counts.reads new.counts.reads
+EndsBefore bytes old why.NoMemory new = (piece : List ℕ) × Consumes old.left new.left piece × (length (bytes ++ piece) ≤ standard_limits.input)
+EndsBefore bytes old other new = ⊥
+
+-- From these bytes on one more piece was read: the marker isn't complete yet, or the text that is pending with it, or
+-- why the reading ended.
+abbrev pub AfterHeadRead : List ℕ → Bool → List ℕ → DeskState → AtHead → Insert → List ℕ → DeskState → Type 0
+AfterHeadRead comment replace bytes old at_head.Before c out new =
+    (piece : List ℕ) × (0 < length piece) × (out ≡ []) × Consumes old.left new.left piece × HasInserted comment (bytes ++ piece) [] c
+AfterHeadRead comment replace bytes old (at_head.Begun due) c out new =
+    (piece : List ℕ) × (0 < length out) × Consumes old.left new.left piece × (length (bytes ++ piece) ≤ standard_limits.input) × IsAtHead (bytes ++ piece)
+    × AfterFed comment replace (bytes ++ piece) out due c
+AfterHeadRead comment replace bytes old (at_head.Ended ended) c out new = EndsBefore bytes old ended new
+
+-- If more of the input may be read, it is open.
+abbrev pub IsOpenAfter : AtHead → DeskState → Type 0
+IsOpenAfter at_head.Before now = now.input_open ≡ true
+IsOpenAfter (at_head.Begun due) now = now.input_open ≡ true
+IsOpenAfter (at_head.Ended ended) now = Unit {0}
+
+-- FOR ALL BYTES that were read before, and the text that was written or appended for them
+
+abbrev pub ReadsHead : Insert → DeskState → AtHead → Insert → List ℕ → DeskState → Type 0
+ReadsHead had old answer c out new =
+    (comment bytes : List ℕ) → HasInserted comment bytes [] had → AfterHeadRead comment (is_replacing had) bytes old answer c out new
+
+abbrev pub InsertsNext : Insert → DeskState → Option Why → Insert → DeskState → Type 0
+InsertsNext had old due c new =
+    (start : DeskState) (comment bytes text : List ℕ) → HasInserted comment bytes text had → 0 < length text → OnlyCopies start old
+    → HasCopied start bytes text old
+    → AfterRest comment (is_replacing had) start bytes due c new
+
+abbrev pub InsertsPiece : Insert → List ℕ → List ℕ → Option Why → List ℕ → Insert → Type 0
+InsertsPiece had piece old due out c =
+    (comment bytes text : List ℕ) → HasInserted comment bytes text had
+    → Appends (λ all. AfterFed comment (is_replacing had) (bytes ++ piece) all due c) text old out

@@ -1,0 +1,133 @@
+-- WHAT PRINTING THE COMMENTS of a file does to a desk (T.81, B.2.4.5, the manual of rdjpgcom in release 6b), by why it
+-- ended.
+use Rattle.std.specs.Prelude.{◌≡◌, ◌⊎◌, ℕ, ◌+◌, ◌<◌, ◌≤◌, List, [], ◌∷◌, ◌++◌, length, take, Option, None, Some}
+use Rattle.std.specs.Io.KnownBytes.{Consumes}
+use Rattle.jpg_base.specs.declared.names.Name.{Name}
+use Rattle.jpg_base.specs.Desk.{DeskState, Rose, AppendsLast}
+use Rattle.jpg_spec.specs.Segments.{standard_limits}
+use Rattle.jpg_spec.specs.Markers.{Segment, kept_rule}
+use Rattle.jpg_spec_write.specs.CommentText.{comments_text, IsReadWhole, IsReadFault, RevealsNothing}
+use Rattle.jpg_spec.specs.declared.fault.Fault.{Fault}
+use Rattle.jpg_spec.specs.declared.fault.FaultAt.{FaultAt}
+use Rattle.jpg_spec_words.specs.declared.answers.Why.{Why}
+use Rattle.jpg_spec_words.specs.declared.answers.Why.TheVariants as why
+use Rattle.jpg_spec_words.specs.declared.answers.Which.TheVariants as which
+use Rattle.jpg_comments.specs.SegmentsSoFar.{Appends, IsBegun, AreWholeBefore}
+use Rattle.jpg_comments.specs.Printing.{HoldsWhole}
+use Rattle.jpg_comments.specs.ReadComments.{HasRead}
+use Rattle.jpg_comments.specs.declared.comments.Comments.{Comments}
+use Rattle.jpg_cli.specs.Endings.{Copied, Unopened}
+use Rattle.jpg_cli.specs.Desk.Reading.{IsFile, rest_of}
+use Rattle.jpg_cli.specs.Stays.{OnlyCopies}
+
+-- THE TEXT that was printed, by the bytes that were read
+
+-- the complete segments of bytes: of those of a complete file, of those whose last one reveals a fault, or of others
+abbrev pub AreCompleteSegments : List ℕ → List Segment → Type 0
+AreCompleteSegments bytes before = IsReadWhole standard_limits bytes before ⊎ ((fault : Fault) × AreWholeBefore standard_limits bytes fault before)
+
+-- A prefix of the bytes is a complete file, and fewer than 65,536 bytes were read after it. The text is that of its
+-- comments.
+pub record IsWholeText (bytes text : List ℕ) : Type 0 where
+  pub count : ℕ
+  pub before : List Segment
+  pub within : count ≤ length bytes
+  pub last : length bytes < count + 65536
+  pub whole : IsReadWhole standard_limits (take count bytes) before
+  pub is : text ≡ comments_text before
+
+-- The file, which has this rest after the bytes, has this fault. It is in the bytes, and fewer than 65,536 of them are
+-- after it. The text is that of the comments that are complete before it.
+pub record IsFaultText (f : FaultAt) (rest bytes text : List ℕ) : Type 0 where
+  pub before : List Segment
+  pub fault : IsReadFault standard_limits (bytes ++ rest) f.fault f.at
+  pub within : f.at ≤ length bytes
+  pub last : length bytes < f.at + 65536
+  pub whole : AreWholeBefore standard_limits (take f.at bytes) f.fault before
+  pub is : text ≡ comments_text before
+
+-- The bytes are fewer than may be taken, have no fault and no complete file. The text is that of the comments that are
+-- complete in them.
+pub record IsTextSoFar (bytes text : List ℕ) : Type 0 where
+  pub before : List Segment
+  pub short : length bytes < standard_limits.input
+  pub nothing : RevealsNothing standard_limits (HoldsWhole standard_limits) bytes
+  pub begun : IsBegun (kept_rule standard_limits) bytes before
+  pub is : text ≡ comments_text before
+
+-- The text is a first part of that of the comments that are complete in a prefix of the bytes.
+pub record IsTextPart (bytes text : List ℕ) : Type 0 where
+  pub front : ℕ
+  pub count : ℕ
+  pub before : List Segment
+  pub whole : AreCompleteSegments (take front bytes) before
+  pub is : text ≡ take count (comments_text before)
+
+-- BY WHY IT ENDED
+
+-- THE ANSWERS: the comments of the input were printed to the output, or some of them, by the answer
+abbrev pub Printed : Name → Name → DeskState → Why → DeskState → Type 0
+Printed input output old why.Done new = Copied [] input output IsWholeText old new
+Printed input output old (why.Refused f) new = Copied [] input output (IsFaultText f (rest_of new.left)) old new
+Printed input output old (why.OpenFault which.Input) new = Unopened (input ∷ []) old new
+Printed input output old (why.OpenFault which.Output) new = Unopened (input ∷ output ∷ []) old new
+Printed input output old (why.ReadFault which.Input) new = Copied [] input output IsTextSoFar old new × Rose old.counts.reads new.counts.reads
+Printed input output old why.WriteFault new = Copied [] input output IsTextPart old new × Rose old.counts.writes new.counts.writes
+Printed input output old why.NoMemory new = Copied [] input output IsTextPart old new
+Printed input output old other new = ⊥
+
+-- If no count of open, read or write rose, the answer is that of the input, or NoMemory.
+abbrev pub IsPrintDue : Name → DeskState → Why → Type 0
+IsPrintDue input old why.Done =
+    (bytes : List ℕ) × (n : ℕ) × (before : List Segment) × IsFile old.files input bytes × (n ≤ length bytes) × (n ≤ standard_limits.input)
+    × IsReadWhole standard_limits (take n bytes) before
+IsPrintDue input old (why.Refused f) = (bytes : List ℕ) × IsFile old.files input bytes × IsReadFault standard_limits bytes f.fault f.at
+IsPrintDue input old why.NoMemory = Unit {0}
+IsPrintDue input old other = ⊥
+
+-- STEP BY STEP, from a desk whose input is open and whose output is created
+
+-- These bytes were read, no more than may be, and this text was written.
+pub record HasCopied (old : DeskState) (bytes text : List ℕ) (new : DeskState) : Type 0 where
+  pub most : length bytes ≤ standard_limits.input
+  pub read : Consumes old.left new.left bytes
+  pub written : AppendsLast old.outputs text new.outputs
+
+abbrev pub CopiesText : (List ℕ → List ℕ → Type 0) → DeskState → DeskState → Type 0
+CopiesText Is old new = (bytes : List ℕ) × (text : List ℕ) × HasCopied old bytes text new × Is bytes text
+
+abbrev pub EndsCopying : DeskState → Why → DeskState → Type 0
+EndsCopying old why.Done new = CopiesText IsWholeText old new
+EndsCopying old (why.Refused f) new = CopiesText (IsFaultText f (rest_of new.left)) old new
+EndsCopying old (why.ReadFault which.Input) new = CopiesText IsTextSoFar old new × Rose old.counts.reads new.counts.reads
+EndsCopying old why.WriteFault new = CopiesText IsTextPart old new × Rose old.counts.writes new.counts.writes
+EndsCopying old why.NoMemory new = CopiesText IsTextPart old new
+EndsCopying old other new = ⊥
+
+-- The result of a piece: the text for all the bytes so far, or why the reading ends.
+abbrev pub AfterTaking : List ℕ → List ℕ → Option Why → Comments → Type 0
+AfterTaking bytes text None c = HasRead bytes text c
+AfterTaking bytes text (Some why.Done) c = IsWholeText bytes text
+AfterTaking bytes text (Some (why.Refused f)) c = (rest : List ℕ) → IsFaultText f rest bytes text
+AfterTaking bytes text (Some why.NoMemory) c = IsTextPart bytes text
+AfterTaking bytes text (Some other) c = ⊥
+
+-- the result of bytes where the input ends
+abbrev pub AfterEnd : List ℕ → List ℕ → Why → Type 0
+AfterEnd bytes text (why.Refused f) = IsFaultText f [] bytes text
+AfterEnd bytes text other = ⊥
+
+-- From these bytes on: one more piece was read and its text written, or why the reading ends.
+abbrev pub AfterNext : DeskState → List ℕ → Option Why → Comments → DeskState → Type 0
+AfterNext old bytes None c new =
+    (piece : List ℕ) × (text : List ℕ) × (0 < length piece) × HasRead (bytes ++ piece) text c × HasCopied old (bytes ++ piece) text new
+AfterNext old bytes (Some ended) c new = EndsCopying old ended new
+
+-- FOR ALL BYTES that were read before, and the text that was written or appended for them
+
+abbrev pub CopiesNext : Comments → DeskState → Option Why → Comments → DeskState → Type 0
+CopiesNext had old due c new =
+    (start : DeskState) (bytes text : List ℕ) → HasRead bytes text had → OnlyCopies start old → HasCopied start bytes text old → AfterNext start bytes due c new
+
+abbrev pub TakesPiece : Comments → List ℕ → List ℕ → Option Why → List ℕ → Comments → Type 0
+TakesPiece had piece old due out c = (bytes text : List ℕ) → HasRead bytes text had → Appends (λ all. AfterTaking (bytes ++ piece) all due c) text old out

@@ -1,0 +1,6 @@
+pub mod CommentWords
+pub mod EncodeWords
+pub mod Requests
+pub mod ShowWords
+pub mod Switches
+pub mod TransformWords

@@ -1,0 +1,9 @@
+//! What the commands read from the desk and write to it: files, scripts, comments, pictures, images.
+
+pub mod comment;
+pub mod file;
+pub mod image;
+pub mod moved;
+pub mod picture;
+pub mod script;
+pub mod tables;

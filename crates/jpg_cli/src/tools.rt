@@ -1,0 +1,10 @@
+//! The commands.
+
+pub mod cjpeg;
+pub mod cjpeg_encoding;
+pub mod djpeg;
+pub mod djpeg_rows;
+pub mod image_writer;
+pub mod jpegtran;
+pub mod rdjpgcom;
+pub mod wrjpgcom;

@@ -1,0 +1,59 @@
+//! A picture decoded by the image writers that a call is given.
+ghost use Rattle.std.specs.Prelude.{◌≡◌, map};
+ghost use Rattle.jpg_cli.specs.Tools.Ends.{AreNewEnds, formats_of, has_format, is_same_format};
+ghost use Rattle.jpg_cli.specs.Tools.Showing.{ShownBy};
+ghost use Rattle.jpg_cli.specs.Stays.{OnlyWorks};
+
+use crate::tools::djpeg::show_picture;
+use crate::words::djpeg::ShowWords;
+use jpg_base::Desk;
+use jpg_pnm_bmp::ImageEnd;
+use jpg_spec_image::EndKind;
+use jpg_spec_words::{Usage, UsageFault, Why};
+use std::alloc::Global;
+
+fn is_same_format(a: EndKind, b: EndKind) -> bool
+    ensures { result ≡ is_same_format a b }
+{
+    match a {
+        EndKind::Pnm => match b {
+            EndKind::Pnm => true,
+            EndKind::Bmp => false,
+        },
+        EndKind::Bmp => match b {
+            EndKind::Pnm => false,
+            EndKind::Bmp => true,
+        },
+    }
+}
+
+fn is_of(end: &Box<dyn ImageEnd>, kind: EndKind) -> bool
+    ensures { result ≡ is_same_format kind (progress end.now).kind }
+{
+    is_same_format(kind, end.kind())
+}
+
+/// Decodes the picture with the first image writer of the format that is asked for. If there is none, the words are
+/// wrong, and no file is opened or created.
+#[inline(never)]
+pub fn show_by<D: Desk>(
+    alloc: Global,
+    words: &ShowWords,
+    desk: &mut D,
+    ends: Vec<Box<dyn ImageEnd>>,
+) -> Why
+    requires { AreNewEnds (map (λ e. progress e) ends.items) }
+    ensures kept { OnlyWorks (D.state desk.old) (D.state desk.new) }
+    ensures shown { ShownBy (has_format words.now.kind (formats_of (map (λ e. progress e) ends.items))) words.now (D.state desk.old) result (D.state desk.new) }
+{
+    for end in ends {
+        if is_of(&end, words.kind) {
+            let mut end = end;
+            return show_picture(alloc, words, &mut end, desk);
+        }
+    }
+    Why::Usage(Usage {
+        fault: UsageFault::NoEnd,
+        word: words.kind_word,
+    })
+}

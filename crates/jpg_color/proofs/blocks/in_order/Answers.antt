@@ -1,8 +1,0 @@
-use Rattle.std.proofs.Common.{rules, ◌≡◌, length}
-use Rattle.jpg_color.proofs.Swizzled.{swizzled}
-use Rattle.jpg_color.proofs.blocks.in_order.Goals as goal
-
-pub returns : goal.returns
-returns c =
-    let l : length c.args.values.now ≡ 64 = search rules in
-    swizzled c.args.values.now l c.requires

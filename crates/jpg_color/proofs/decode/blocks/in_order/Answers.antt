@@ -1,0 +1,8 @@
+use Rattle.std.proofs.Common.{rules, ◌≡◌, length}
+use Rattle.jpg_color.proofs.Swizzled.{swizzled}
+use Rattle.jpg_color.proofs.decode.blocks.in_order.Goals as goal
+
+pub returns : goal.returns
+returns c =
+    let l : length c.args.values.now ≡ 64 = search rules in
+    swizzled c.args.values.now l c.requires

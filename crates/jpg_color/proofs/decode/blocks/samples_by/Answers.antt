@@ -1,0 +1,15 @@
+use Rattle.std.proofs.Common.{rules, ◌≡◌, pos, ◌*ℤ◌, slice_index, to_z, of_z, FitsSigned, sym, ap, ◌∙◌}
+use Rattle.std.specs.Int.{w32}
+use Rattle.std.proofs.lemmas.Int.{to_z-of_z}
+use Rattle.jpg_spec_image.specs.Dct.{number_at, inverse_dct}
+use Rattle.jpg_color.proofs.OnlyFirst.{only_first, flat_dequantised}
+use Rattle.jpg_color.proofs.decode.blocks.samples_by.Goals as goal
+
+pub returns-then-nonzero-lt2 : goal.returns-then-nonzero-lt2
+returns-then-nonzero-lt2 c =
+    let block = c.args.block.now in
+    let quants = c.args.quants.now in
+    let f : FitsSigned w32 c.first.result = search rules in
+    let d : to_z w32 (of_z w32 c.first.result) ≡ number_at block 0 *ℤ pos (slice_index quants 0) = to_z-of_z w32 c.first.result f ∙ c.first.ensures.value in
+    c.flat_block.ensures
+    ∙ sym (ap inverse_dct (flat_dequantised quants block (to_z w32 (of_z w32 c.first.result)) d (only_first c.nonzero.result block c.if-nonzero-lt2.true c.nonzero.ensures)))

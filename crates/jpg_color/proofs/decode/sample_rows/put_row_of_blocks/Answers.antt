@@ -1,0 +1,28 @@
+use Rattle.std.proofs.Common.{rules, subst, arith}
+use Rattle.jpg_coefs.specs.Picture.{map_of}
+use Rattle.jpg_color.specs.KeptRows.{stride, sample_in}
+use Rattle.jpg_color.specs.RowBytes.{PutsBlock}
+use Rattle.jpg_color.proofs.RowsPut.{columns_step}
+use Rattle.jpg_color.proofs.SamplesRead.{first_there, block_is, read_small, told_by}
+use Rattle.jpg_color.proofs.decode.sample_rows.put_row_of_blocks.Goals as goal
+
+pub samples_by-block-requires-clause-small : goal.samples_by-block-requires-clause-small
+samples_by-block-requires-clause-small c =
+    let q = c.args.coefs.now in
+    let there = first_there q c.args.i c.args.at c.args.wide c.args.rows c.loop-x.x c.requires.blocks (search rules) (c.requires.rows.0) in
+    read_small q c.args.i c.args.at c.args.wide c.args.rows c.loop-x.x c.block.result c.requires.blocks
+    (block_is q c.args.i c.loop-x.x c.args.at c.block.result there c.block.ensures)
+
+pub loop-x-preserved : goal.loop-x-preserved
+loop-x-preserved c =
+    let q = c.args.coefs.now in
+    let x = c.loop-x.x in
+    let there = first_there q c.args.i c.args.at c.args.wide c.args.rows x c.requires.blocks (search rules) (c.requires.rows.0) in
+    let samples = c.samples_by-block.result in
+    let put : PutsBlock (stride c.args.wide) c.args.row x c.args.rows samples c.loop-x.samples c.put_block.new.samples =
+    subst (λ line. PutsBlock line c.args.row x c.args.rows samples c.loop-x.samples c.put_block.new.samples) c.line_of-line.ensures.value c.put_block.ensures
+    in
+    columns_step (stride c.args.wide) c.args.row c.args.rows x (sample_in c.args.quants.now (map_of q) c.args.i c.args.at) samples
+    c.args.samples.now c.loop-x.samples c.put_block.new.samples (search rules) c.loop-x.invariant put
+    (λ y k hy hk. told_by c.args.quants.now (map_of q) c.args.i c.args.at x c.block.result samples
+    (block_is q c.args.i x c.args.at c.block.result there c.block.ensures) c.samples_by-block.ensures y k (omega (arith, hy, c.requires.rows)) hk)

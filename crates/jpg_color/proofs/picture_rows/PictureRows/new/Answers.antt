@@ -1,6 +1,0 @@
-use Rattle.jpg_color.proofs.Looking.{first_rows}
-use Rattle.jpg_color.proofs.picture_rows.PictureRows.new.Goals as goal
-
-pub invariant_of-result : goal.invariant_of-result
-invariant_of-result c =
-    first_rows c.args.picture.now c.of-head.result c.args.gray c.args.smooth c.in_ok-strips.strips c.of-head.ensures.frame c.in_ok-strips.ensures

@@ -1,7 +1,0 @@
-use Rattle.std.specs.Prelude.{◌≡◌, ◌<◌, ℕ, length, slice_index}
-use Rattle.jpg_spec.specs.Encoded.{pixel_component}
-use Rattle.jpg_spec.specs.declared.image.ImageKind.TheVariants.{Rgb}
-use Rattle.jpg_color.proofs.ycc.blue_row.Given as goal
-
-abbrev pub invariant-loop-x : goal.invariant-loop-x
-invariant-loop-x l = (length l.bs ≡ length l.fn.bs) × ((k : ℕ) → k < l.x → slice_index l.bs k ≡ pixel_component Rgb l.pixels 1 k)

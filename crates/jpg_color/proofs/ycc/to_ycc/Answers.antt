@@ -1,7 +1,0 @@
-use Rattle.jpg_spec.specs.Luminance.{to_ycc}
-use Rattle.jpg_color.proofs.ColourRows.{three}
-use Rattle.jpg_color.proofs.ycc.to_ycc.Goals as goal
-
-pub returns : goal.returns
-unfolding to_ycc
-returns c = three c.luminance.ensures c.blue_difference.ensures c.red_difference.ensures

@@ -1,0 +1,5 @@
+use Rattle.jpg_dct.proofs.EightQuotients.{zigzag_is}
+use Rattle.jpg_dct.proofs.forward.eight_quotients.in_zigzag.Goals as goal
+
+pub returns : goal.returns
+returns c = zigzag_is c.args.d c.requires

@@ -1,0 +1,29 @@
+use Rattle.std.proofs.Common.{◌∙◌, rules, sym, ap, subst}
+use Rattle.jpg_base.specs.declared.stop.Stop.{Stop}
+use Rattle.jpg_spec.specs.FirstFault.{IsFirstFault}
+use Rattle.jpg_spec.specs.declared.fault.Fault.TheVariants.{Truncated}
+use Rattle.jpg_spec.proofs.FileLaws.{stands_truncated}
+use Rattle.jpg_file.specs.Read.ReadFile.{StopsAt, TellsBegun}
+use Rattle.jpg_file.specs.Read.ReadRows.{HasReadAll, RowReaderState}
+use Rattle.jpg_file.proofs.RowsEnd.{all_told, early_answered, keeps_early_rows}
+use Rattle.jpg_file.proofs.RowsRead.{read_all}
+use Rattle.jpg_file.proofs.read.row_reader.RowReader.end.Goals as goal
+
+pub invariant_of-self : goal.invariant_of-self
+invariant_of-self c =
+    keeps_early_rows _ c.is_complete.result (ap (λ (r : RowReaderState). r.done) c.self.view_is ∙ c.requires) (search rules) c.self.invariant c.is_complete.ensures c.if-is_complete.true
+
+pub returns-then-is_complete-clause-answered : goal.returns-then-is_complete-clause-answered
+returns-then-is_complete-clause-answered c = λ bytes m h.
+    let k = subst (λ (r : RowReaderState). HasReadAll bytes m r) (sym c.self.view_is) h in
+    ((read_all bytes m _ k).taken, early_answered bytes m _ c.is_complete.result c.self.invariant.limited k c.is_complete.ensures c.if-is_complete.true)
+
+pub returns-clause-answered : goal.returns-clause-answered
+returns-clause-answered c = λ bytes m h.
+    let k = subst (λ (r : RowReaderState). HasReadAll bytes m r) (sym c.self.view_is) h in
+    let a = read_all bytes m _ k in
+    let limits = c.self.inside.limits in
+    let told : TellsBegun limits bytes c.is_complete.result = all_told bytes m _ c.is_complete.result k c.is_complete.ensures in
+    let none = subst (λ b. TellsBegun limits bytes b) c.if-is_complete.false told in
+    let fault = subst (λ n. IsFirstFault limits bytes Truncated n) (sym a.taken) (stands_truncated limits bytes a.stands a.short none) in
+    subst (λ (s : Stop). StopsAt limits bytes s) (sym c.truncated-stop.ensures) fault

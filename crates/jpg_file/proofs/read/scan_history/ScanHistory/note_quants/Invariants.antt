@@ -1,0 +1,14 @@
+use Rattle.std.specs.Prelude.{◌≡◌, ◌<◌, ℕ, All, length}
+use Rattle.jpg_spec.specs.InForce.{first_some}
+use Rattle.jpg_spec.specs.QuantContents.{quant_in}
+use Rattle.jpg_file.specs.Read.ScanHistory.{quant_named}
+use Rattle.jpg_file.proofs.read.scan_history.ScanHistory.note_quants.Given as goal
+
+abbrev pub invariant-loop-rest : goal.invariant-loop-rest
+invariant-loop-rest l =
+    (l.self.progress ≡ l.fn.self.progress)
+    × ((i : ℕ) → first_some (quant_in l.self.quants i) (quant_named l.frame l.quants l.rest i) ≡ first_some (quant_in l.fn.self.quants i) (quant_named l.frame l.quants l.parts i))
+    × All (λ p. p.component < length l.frame.components) l.rest
+
+abbrev pub decreases-loop-rest : goal.decreases-loop-rest
+decreases-loop-rest l = length l.rest

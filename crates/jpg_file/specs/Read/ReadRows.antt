@@ -1,0 +1,209 @@
+-- A file that is fed piece by piece, and read MCU row by MCU row if its first scan has all components of a sequential
+-- frame (T.81, A.2.3, B.2.1).
+use Rattle.std.specs.Prelude.{◌≡◌, ◌⊎◌, ℕ, ◌+◌, ◌*◌, ◌<◌, ◌≤◌, Bool, true, false, List, ◌++◌, length, take, Option, Some, None, Result, Ok, Err}
+use Rattle.jpg_spec.specs.Geometry.{Frame, blocks_across, blocks_down, bounds, component_at, mcu_row_frame}
+use Rattle.jpg_spec.specs.FrameHeader.{AreLimits}
+use Rattle.jpg_spec.specs.Scan.{Blocks}
+use Rattle.jpg_spec.specs.Ranges.{AreInRange}
+use Rattle.jpg_spec.specs.Markers.{Segment}
+use Rattle.jpg_spec.specs.InForce.{frame_of}
+use Rattle.jpg_spec.specs.Meaning.{Meaning}
+use Rattle.jpg_spec.specs.Elements.{zeros}
+use Rattle.jpg_spec.specs.Early.{MeansEarly}
+use Rattle.jpg_spec.specs.UnfinishedFile.{UnfinishedFile, IsWholeFile}
+use Rattle.jpg_spec.specs.RowsTold.{BeginsScanOfAll, CompletesRows, TellsRows}
+use Rattle.jpg_spec.specs.RowsTold.{picture_so_far}
+use Rattle.jpg_spec.specs.declared.frame.Copying.TheVariants as copying
+use Rattle.jpg_spec.specs.declared.frame.Limits.{Limits}
+use Rattle.jpg_base.specs.declared.stop.Stop.{Stop}
+use Rattle.jpg_base.specs.declared.stop.Stop.TheVariants as stop
+use Rattle.jpg_coefs.specs.Picture.{Picture, map_of}
+use Rattle.jpg_seq.specs.Rows.{rows_in_mcu}
+use Rattle.jpg_file.specs.Read.File.{keeping_of}
+use Rattle.jpg_file.specs.Read.FirstHeader.{IsFirstHeaderOf}
+use Rattle.jpg_file.specs.Read.Left.{LeavesPicture}
+use Rattle.jpg_file.specs.Read.ReadFile.{HasRead, IsDone, IsEarlyEnd, IsStopOf, KeepsHead, KeepsHeadAt, ReaderState, StopsAt}
+use Rattle.jpg_file.specs.Read.RowPieces.{HasLastByte, RowsOpen}
+use Rattle.jpg_file.specs.Read.RowTurns.{unfinished}
+use Rattle.jpg_file.specs.Read.RowsKnown.{TellsStrip, rows_of_scan}
+use Rattle.jpg_file.specs.Read.RowsNone.{HasNoRows}
+use Rattle.jpg_file.specs.Read.Strips.{GoesByRow, SparesRows, StandsByRow}
+use Rattle.jpg_file.specs.declared.read.ends.End.{End}
+use Rattle.jpg_file.specs.declared.read.ends.End.TheVariants as ends
+use Rattle.jpg_file.specs.declared.read.file.FileWork.{FileWork}
+use Rattle.jpg_file.specs.declared.read.row_reader.FedRow.{FedRow}
+use Rattle.jpg_file.specs.declared.read.row_reader.FedRow.TheVariants as fed
+use Rattle.jpg_file.specs.declared.read.rows.RowWork.{RowWork}
+use Rattle.jpg_file.specs.declared.read.strip_head.StripHead.{StripHead}
+
+-- what contracts see of it: the state of the file, the current MCU row and the head of its picture once there is one,
+-- whether the file is complete, and why it stopped, if it did
+pub record RowReaderState : Type 0 where
+  pub limits : Limits
+  pub file : FileWork
+  pub rows : Option RowWork
+  pub strip : Option StripHead
+  pub done : Bool
+  pub stop : Option Stop
+
+-- the same as the state of a reader of complete files
+abbrev pub whole_reader : RowReaderState → ReaderState
+whole_reader r = record { limits = r.limits; file = r.file; done = r.done; stop = r.stop }
+
+-- the invariant: it was given some bytes, or has a picture, and with a current MCU row it asks for no memory
+pub record IsReadingRows (r : RowReaderState) : Type 0 where
+  pub limited : AreLimits r.limits
+  pub keeping : keeping_of r.file ≡ copying.None
+  pub sparing : SparesRows r.rows r.file
+  pub «open» : r.stop ≡ None → r.done ≡ false → (bytes : List ℕ) × RowsOpen r.limits bytes r.rows r.file
+  pub ended : r.done ≡ true → r.rows ≡ None → LeavesPicture r.limits r.file
+
+-- THE HEAD of the picture whose rows are read, when the scan began in the bytes
+pub record HasBegunRows (bytes : List ℕ) (r : RowReaderState) : Type 0 where
+  pub before : List Segment
+  pub contents : List ℕ
+  pub begins : BeginsScanOfAll r.limits bytes before contents
+  pub rows : RowWork
+  pub has : r.rows ≡ Some rows
+  pub head : IsFirstHeaderOf r.limits bytes r.file.head
+  pub told : TellsStrip r.strip (frame_of r.limits before) (picture_so_far r.limits before contents)
+
+-- the picture of these blocks, with what is in force at the end of that scan header
+abbrev pub picture_read : (bytes : List ℕ) → (r : RowReaderState) → HasBegunRows bytes r → Blocks → Meaning
+picture_read bytes r b blocks = picture_so_far r.limits b.before b.contents blocks
+
+-- THE BYTES SO FAR
+
+-- No such scan began in them, and they have no fault and aren't a complete file.
+pub record HasReadPlainly (bytes : List ℕ) (r : RowReaderState) : Type 0 where
+  pub none : r.rows ≡ None
+  pub plain : HasNoRows r.limits bytes
+  pub read : HasRead bytes (whole_reader r)
+
+-- It began. This many MCU rows were given, and no further one is complete.
+pub record HasReadRows (bytes : List ℕ) (m : ℕ) (r : RowReaderState) : Type 0 where
+  pub going : r.stop ≡ None
+  pub undone : r.done ≡ false
+  pub short : length bytes < r.limits.input
+  pub stands : UnfinishedFile r.limits bytes
+  pub begun : HasBegunRows bytes r
+  pub «open» : GoesByRow r.limits bytes r.file begun.rows
+  pub byte : HasLastByte r.limits bytes
+  pub rows : m + unfinished begun.rows ≡ rows_of_scan r.limits begun.before begun.contents
+  pub blocks : Blocks
+  pub completed : CompletesRows r.limits bytes m blocks
+
+-- these coefficients are those of MCU row k
+pub record AreOfRow (f : Frame) (k : ℕ) (row : Picture) (blocks : Blocks) : Type 0 where
+  pub same : (i x y : ℕ) → i < length f.components → x < blocks_across f (component_at f i) → y < rows_in_mcu f i
+      → k * rows_in_mcu f i + y < blocks_down f (component_at f i) → map_of row i x y ≡ blocks i x (k * rows_in_mcu f i + y)
+
+-- Of the last byte some bits may be left, which aren't judged yet. The last of the MCU rows that were given is lent.
+pub record HasGivenRow (bytes : List ℕ) (m : ℕ) (r : RowReaderState) : Type 0 where
+  pub going : r.stop ≡ None
+  pub undone : r.done ≡ false
+  pub within : length bytes ≤ r.limits.input
+  pub begun : HasBegunRows bytes r
+  pub «open» : StandsByRow r.limits bytes r.file begun.rows
+  pub byte : HasLastByte r.limits bytes
+  pub rows : m + unfinished begun.rows ≡ rows_of_scan r.limits begun.before begun.contents
+  pub blocks : Blocks
+  pub told : TellsRows r.limits bytes m blocks
+  pub last : ℕ
+  pub count : m ≡ last + 1
+  pub framed : ((begun.rows).coefs).frame ≡ mcu_row_frame (frame_of r.limits begun.before)
+  pub range : AreInRange (bounds (frame_of r.limits begun.before)) (map_of (begun.rows).coefs)
+  pub row : AreOfRow (frame_of r.limits begun.before) last (begun.rows).coefs blocks
+
+abbrev pub HasReadSoFar : List ℕ → ℕ → RowReaderState → Type 0
+HasReadSoFar bytes m r = (HasReadPlainly bytes r × (m ≡ 0)) ⊎ (HasReadRows bytes m r ⊎ HasGivenRow bytes m r)
+
+-- no bits are left that aren't judged
+abbrev pub HasReadAll : List ℕ → ℕ → RowReaderState → Type 0
+HasReadAll bytes m r = (HasReadPlainly bytes r × (m ≡ 0)) ⊎ HasReadRows bytes m r
+
+-- A complete file, all whose MCU rows were given.
+pub record IsDoneByRows (bytes : List ℕ) (m : ℕ) (r : RowReaderState) : Type 0 where
+  pub done : r.done ≡ true
+  pub meaning : Meaning
+  pub whole : IsWholeFile r.limits bytes meaning
+  pub begun : HasBegunRows bytes r
+  pub blocks : Blocks
+  pub completed : CompletesRows r.limits bytes m blocks
+
+-- a complete file without such a scan
+pub record IsDonePlainly (bytes : List ℕ) (r : RowReaderState) : Type 0 where
+  pub none : r.rows ≡ None
+  pub plain : HasNoRows r.limits bytes
+  pub done : IsDone bytes (whole_reader r)
+
+-- AT AN EARLY END
+
+-- Without such a scan, what is left is a picture.
+pub record IsEarlyPlainly (bytes : List ℕ) (r : RowReaderState) : Type 0 where
+  pub none : r.rows ≡ None
+  pub plain : HasNoRows r.limits bytes
+  pub early : IsEarlyEnd bytes (whole_reader r)
+
+-- the real blocks of this many first MCU rows are the same
+pub record AgreeInRows (f : Frame) (rows : ℕ) (blocks others : Blocks) : Type 0 where
+  pub same : (i x y : ℕ) → i < length f.components → x < blocks_across f (component_at f i) → y < blocks_down f (component_at f i)
+      → y < rows * rows_in_mcu f i → blocks i x y ≡ others i x y
+
+-- MCU row k is lent: in a frame's bounds, and with these blocks
+pub record LendsRow (f : Frame) (k : ℕ) (lent : Picture) (blocks : Blocks) : Type 0 where
+  pub framed : lent.frame ≡ mcu_row_frame f
+  pub range : AreInRange (bounds f) (map_of lent)
+  pub row : AreOfRow f k lent blocks
+
+-- With such a scan, this many MCU rows were given. The current row, if one is missing, is lent as it is; all blocks of
+-- later rows are zero.
+pub record IsEarlyByRows (bytes : List ℕ) (m : ℕ) (r : RowReaderState) : Type 0 where
+  pub done : r.done ≡ true
+  pub begun : HasBegunRows bytes r
+  pub meaning : Meaning
+  pub early : MeansEarly r.limits bytes meaning
+  pub rows : m + unfinished begun.rows ≡ rows_of_scan r.limits begun.before begun.contents
+  pub blocks : Blocks
+  pub completed : CompletesRows r.limits bytes m blocks
+  pub given : AgreeInRows (frame_of r.limits begun.before) m blocks meaning.blocks
+  pub work : 1 ≤ unfinished begun.rows → LendsRow (frame_of r.limits begun.before) m (begun.rows).coefs meaning.blocks
+  pub later : (i x y : ℕ) → (m + 1) * rows_in_mcu (frame_of r.limits begun.before) i ≤ y → meaning.blocks i x y ≡ zeros 64
+
+abbrev pub AfterEndRow : List ℕ → ℕ → End → RowReaderState → Type 0
+AfterEndRow bytes m (ends.Early n) r = (n ≡ length bytes) × ((IsEarlyPlainly bytes r × (m ≡ 0)) ⊎ IsEarlyByRows bytes m r)
+AfterEndRow bytes m (ends.Stop stop) r = StopsAt r.limits bytes stop
+
+-- for all bytes that were fed before, by which this many MCU rows were given
+abbrev pub EndsRow : RowReaderState → End → RowReaderState → Type 0
+EndsRow old answer new = (bytes : List ℕ) (m : ℕ) → HasReadAll bytes m old → AfterEndRow bytes m answer new
+
+-- THE ANSWER to a piece that is fed, by all bytes so far: for a fault, which MCU rows are complete before it
+
+pub record StopsRows (bytes : List ℕ) (m : ℕ) (r : RowReaderState) : Type 0 where
+  pub begun : HasBegunRows bytes r
+  pub blocks : Blocks
+  pub completed : CompletesRows r.limits bytes m blocks
+
+abbrev pub StopsSoFar : List ℕ → ℕ → RowReaderState → Type 0
+StopsSoFar bytes m r = ((r.rows ≡ None) × HasNoRows r.limits bytes × (m ≡ 0)) ⊎ StopsRows bytes m r
+
+abbrev pub AfterFeedRow : List ℕ → ℕ → List ℕ → Result FedRow Stop → RowReaderState → Type 0
+AfterFeedRow bytes m piece (Ok fed.More) r = (HasReadPlainly (bytes ++ piece) r × (m ≡ 0)) ⊎ HasReadRows (bytes ++ piece) m r
+AfterFeedRow bytes m piece (Ok (fed.Row used)) r = HasGivenRow (bytes ++ take used piece) (m + 1) r × (used ≤ length piece)
+AfterFeedRow bytes m piece (Ok (fed.Done used)) r =
+    (IsDonePlainly (bytes ++ take used piece) r ⊎ IsDoneByRows (bytes ++ take used piece) m r) × (1 ≤ used) × (used ≤ length piece)
+AfterFeedRow bytes m piece (Err (stop.Fault f)) r =
+    IsStopOf r.limits (bytes ++ piece) f × (length bytes ≤ f.at) × KeepsHeadAt r.limits (bytes ++ piece) f r.file.head × StopsSoFar (take f.at (bytes ++ piece)) m r
+AfterFeedRow bytes m piece (Err stop.NoMemory) r = KeepsHead r.limits (length bytes) (bytes ++ piece) r.file.head × (r.rows ≡ None) × HasNoRows r.limits bytes
+
+-- for all bytes that were fed before, by which this many MCU rows were given
+abbrev pub FeedsRow : RowReaderState → List ℕ → Result FedRow Stop → RowReaderState → Type 0
+FeedsRow old piece answer new = (bytes : List ℕ) (m : ℕ) → HasReadSoFar bytes m old → AfterFeedRow bytes m piece answer new
+
+-- the word that keeps `done`
+abbrev pub EndsDoneRow : Result FedRow Stop → RowReaderState → Type 0
+EndsDoneRow (Ok fed.More) r = r.done ≡ false
+EndsDoneRow (Ok (fed.Row used)) r = r.done ≡ false
+EndsDoneRow (Ok (fed.Done used)) r = r.done ≡ true
+EndsDoneRow (Err e) r = r.done ≡ false

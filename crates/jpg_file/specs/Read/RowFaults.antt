@@ -1,0 +1,60 @@
+-- A fault that a piece reveals, in a file that is read MCU row by MCU row: which MCU rows the bytes up to it complete
+-- (T.81, A.2.3, B.2.1).
+use Rattle.std.specs.Prelude.{◌≡◌, ℕ, List, ◌++◌, take, Option, Some, None, Result, Ok, Err}
+use Rattle.jpg_spec.specs.Markers.{Segment}
+use Rattle.jpg_spec.specs.RowsTold.{BeginsScanOfAll}
+use Rattle.jpg_spec.specs.declared.fault.FaultAt.{FaultAt}
+use Rattle.jpg_spec.specs.declared.frame.Limits.{Limits}
+use Rattle.jpg_base.specs.declared.stop.Stop.{Stop}
+use Rattle.jpg_base.specs.declared.stop.Stop.TheVariants as stop
+use Rattle.jpg_file.specs.Read.File.{limits_of}
+use Rattle.jpg_file.specs.Read.FirstHeader.{IsFirstHeaderOf}
+use Rattle.jpg_file.specs.Read.RowPieces.{RowsGo, RowsOpen}
+use Rattle.jpg_file.specs.Read.RowStops.{RowsAtFault}
+use Rattle.jpg_file.specs.Read.RowsKnown.{RowsKnown}
+use Rattle.jpg_file.specs.Read.Strips.{GoesByRow, StandsByRow}
+use Rattle.jpg_file.specs.declared.read.file.FileWork.{FileWork}
+use Rattle.jpg_file.specs.declared.read.row_reader.FedRow.{FedRow}
+use Rattle.jpg_file.specs.declared.read.rows.RowWork.{RowWork}
+use Rattle.jpg_file.specs.declared.read.strip_head.StripHead.{StripHead}
+use Rattle.jpg_file.specs.declared.read.strip_work.StripWork.{StripWork}
+use Rattle.jpg_file.specs.declared.read.strips.StripStep.{StripStep}
+use Rattle.jpg_file.specs.declared.read.strips.StripStep.TheVariants as step
+
+-- WITH A CURRENT MCU ROW before: bits that waited, and some bytes
+abbrev pub FaultsResumed : StripWork → StripStep → Type 0
+FaultsResumed old answer =
+    (rows : RowWork) (f : FaultAt) (bytes : List ℕ) → old.rows ≡ Some rows → answer ≡ step.Ended (stop.Fault f) → StandsByRow (limits_of old.file) bytes old.file rows → RowsAtFault (limits_of old.file) bytes rows
+
+abbrev pub FaultsSome : StripWork → List ℕ → ℕ → StripStep → Type 0
+FaultsSome old run n answer =
+    (rows : RowWork) (f : FaultAt) (bytes : List ℕ) → old.rows ≡ Some rows → answer ≡ step.Ended (stop.Fault f) → GoesByRow (limits_of old.file) bytes old.file rows → RowsAtFault (limits_of old.file) (bytes ++ take n run) rows
+
+-- A PIECE. The header of the scan, if it began in the bytes before, is the one that is kept at the fault.
+abbrev pub HeadAtFault : Limits → List ℕ → List ℕ → FileWork → Type 0
+HeadAtFault limits bytes all w = (before : List Segment) (contents : List ℕ) → BeginsScanOfAll limits bytes before contents → IsFirstHeaderOf limits all w.head
+
+-- if its first MCU row began in the piece: with a current one, of which none were given
+pub record BeganAtFault (limits : Limits) (all : List ℕ) (strip : Option StripHead) (w : FileWork) : Type 0 where
+  pub mid : RowWork
+  pub known : RowsKnown limits all 0 mid strip
+  pub rows : RowsAtFault limits all mid
+  pub head : IsFirstHeaderOf limits all w.head
+
+-- by the current MCU row before the piece, if there was one, and the current one after it
+abbrev pub RowsFault : Limits → List ℕ → List ℕ → Option RowWork → StripWork → Option RowWork → Type 0
+RowsFault limits bytes all (Some rows) new after = RowsAtFault limits all rows × HeadAtFault limits bytes all new.file
+RowsFault limits bytes all None new (Some after) = BeganAtFault limits all new.strip new.file
+RowsFault limits bytes all None new None = Unit {0}
+
+abbrev pub FaultsFed : Limits → List ℕ → List ℕ → Result FedRow Stop → Option RowWork → StripWork → Type 0
+FaultsFed limits bytes piece (Ok x) rows new = Unit {0}
+FaultsFed limits bytes piece (Err (stop.Fault f)) rows new = RowsFault limits bytes (take f.at (bytes ++ piece)) rows new new.rows
+FaultsFed limits bytes piece (Err stop.NoMemory) rows new = Unit {0}
+
+-- whatever it was given
+abbrev pub FaultsRead : Limits → StripWork → List ℕ → Result FedRow Stop → StripWork → Type 0
+FaultsRead limits old piece answer new = (bytes : List ℕ) → RowsOpen limits bytes old.rows old.file → FaultsFed limits bytes piece answer old.rows new
+
+abbrev pub FaultsOn : Limits → StripWork → List ℕ → Result FedRow Stop → StripWork → Type 0
+FaultsOn limits old piece answer new = (bytes : List ℕ) → RowsGo limits bytes old.rows old.file → FaultsFed limits bytes piece answer old.rows new

@@ -1,0 +1,71 @@
+-- Bytes in which no scan of all components begins, after which there is no current MCU row (T.81, A.2.3, B.2.1).
+use Rattle.std.specs.Prelude.{◌≡◌, ℕ, List, [], ◌∷◌, ◌++◌, take, Option, Some, None, Result, Ok, Err}
+use Rattle.jpg_spec.specs.Items.{contents_rule, segments_of}
+use Rattle.jpg_spec.specs.Geometry.{Frame}
+use Rattle.jpg_spec.specs.Markers.{Segment}
+use Rattle.jpg_spec.specs.RowsTold.{BeginsScanOfAll, IsScanOfAll}
+use Rattle.jpg_spec.specs.Segments.{ScanHead}
+use Rattle.jpg_spec.specs.declared.frame.Limits.{Limits}
+use Rattle.jpg_base.specs.declared.stop.Stop.{Stop}
+use Rattle.jpg_base.specs.declared.stop.Stop.TheVariants as stop
+use Rattle.jpg_file.specs.Read.File.{HeadStands, StandsForFile, limits_of}
+use Rattle.jpg_file.specs.Read.RowPieces.{RowsGo, RowsOpen}
+use Rattle.jpg_file.specs.Read.Strips.{contents_held}
+use Rattle.jpg_file.specs.declared.read.file.FileWork.{FileWork}
+use Rattle.jpg_file.specs.declared.read.row_reader.FedRow.{FedRow}
+use Rattle.jpg_file.specs.declared.read.row_reader.FedRow.TheVariants as fed
+use Rattle.jpg_file.specs.declared.read.rows.RowWork.{RowWork}
+use Rattle.jpg_file.specs.declared.read.strip_work.StripWork.{StripWork}
+use Rattle.jpg_file.specs.declared.read.strips.StripStep.{StripStep}
+use Rattle.jpg_file.specs.declared.read.strips.StripStep.TheVariants as step
+
+-- No such scan began in them.
+abbrev pub HasNoRows : Limits → List ℕ → Type 0
+HasNoRows limits bytes = (before : List Segment) (contents : List ℕ) → BeginsScanOfAll limits bytes before contents → ⊥
+
+-- with no current MCU row
+abbrev pub NoRowsIn : Limits → List ℕ → Option RowWork → Type 0
+NoRowsIn limits bytes None = HasNoRows limits bytes
+NoRowsIn limits bytes (Some rows) = Unit {0}
+
+-- THE SCAN HEADER that is complete isn't of such a scan, whatever bytes were given.
+abbrev pub FindsNone : FileWork → Option (Frame × ScanHead) → Type 0
+FindsNone w (Some x) = Unit {0}
+FindsNone w None =
+    (limits : Limits) (bytes : List ℕ) → (h : HeadStands limits bytes w) → contents_rule limits (segments_of h.items) 0xda (contents_held w) ≡ None → IsScanOfAll limits (segments_of h.items) (contents_held w) → ⊥
+
+-- THE RESULT OF BYTES; nothing is known for NoMemory
+abbrev pub NoneAfter : Limits → List ℕ → StripStep → Option RowWork → Type 0
+NoneAfter limits bytes step.More rows = NoRowsIn limits bytes rows
+NoneAfter limits bytes step.Row rows = NoRowsIn limits bytes rows
+NoneAfter limits bytes step.Whole rows = NoRowsIn limits bytes rows
+NoneAfter limits bytes (step.Ended (stop.Fault f)) rows = NoRowsIn limits bytes rows
+NoneAfter limits bytes (step.Ended stop.NoMemory) rows = Unit {0}
+
+-- the first scan header, with this last byte
+abbrev pub NoneHead : StripWork → StripStep → StripWork → Type 0
+NoneHead old answer new =
+    (front : List ℕ) (byte : ℕ) → HasNoRows (limits_of old.file) front → HeadStands (limits_of old.file) (front ++ byte ∷ []) old.file → NoneAfter (limits_of old.file) (front ++ byte ∷ []) answer new.rows
+
+-- a byte before it
+abbrev pub NoneByte : StripWork → ℕ → StripStep → StripWork → Type 0
+NoneByte old byte answer new = (bytes : List ℕ) → StandsForFile (limits_of old.file) bytes old.file → NoneAfter (limits_of old.file) (bytes ++ byte ∷ []) answer new.rows
+
+-- some bytes
+abbrev pub NoneSome : StripWork → List ℕ → ℕ → StripStep → StripWork → Type 0
+NoneSome old run n answer new =
+    (bytes : List ℕ) → StandsForFile (limits_of old.file) bytes old.file → HasNoRows (limits_of old.file) bytes → NoneAfter (limits_of old.file) (bytes ++ take n run) answer new.rows
+
+-- A PIECE: for a fault, the bytes with the one that reveals it
+abbrev pub NoneFed : Limits → List ℕ → List ℕ → Result FedRow Stop → Option RowWork → Type 0
+NoneFed limits bytes piece (Ok fed.More) rows = NoRowsIn limits (bytes ++ piece) rows
+NoneFed limits bytes piece (Ok (fed.Row used)) rows = Unit {0}
+NoneFed limits bytes piece (Ok (fed.Done used)) rows = NoRowsIn limits (bytes ++ take used piece) rows
+NoneFed limits bytes piece (Err (stop.Fault f)) rows = NoRowsIn limits (take f.at (bytes ++ piece)) rows
+NoneFed limits bytes piece (Err stop.NoMemory) rows = Unit {0}
+
+abbrev pub NoneRead : Limits → StripWork → List ℕ → Result FedRow Stop → StripWork → Type 0
+NoneRead limits old piece answer new = (bytes : List ℕ) → RowsOpen limits bytes old.rows old.file → HasNoRows limits bytes → NoneFed limits bytes piece answer new.rows
+
+abbrev pub NoneOn : Limits → StripWork → List ℕ → Result FedRow Stop → StripWork → Type 0
+NoneOn limits old piece answer new = (bytes : List ℕ) → RowsGo limits bytes old.rows old.file → HasNoRows limits bytes → NoneFed limits bytes piece answer new.rows

@@ -1,0 +1,66 @@
+-- A WRITTEN FILE (T.81, B.2): what it means, when it may be written, and what writing does.
+use Rattle.std.specs.Prelude.{◌≡◌, ℕ, Bool, true, false, if◌then◌else◌, List, [], length, replicate, Result, Ok, Err}
+use Rattle.jpg_spec_write.specs.FileText.{Written, file_text, frame_of_meaning, nothing_written}
+use Rattle.jpg_spec.specs.Geometry.{Frame, is_progressive}
+use Rattle.jpg_spec.specs.Meaning.{Meaning, colour_of, real_blocks}
+use Rattle.jpg_spec_write.specs.Script.{Entry}
+use Rattle.jpg_spec.specs.Grids.{frame_grids}
+use Rattle.jpg_spec.specs.Scan.{Blocks}
+use Rattle.jpg_spec_write.specs.WrittenFile.{HasBlocksIn, is_progressive_after, is_script_after}
+use Rattle.jpg_base.specs.Desk.{DeskState, Rose, AppendsLast}
+use Rattle.jpg_base.specs.Laws.{AppendsPart}
+use Rattle.jpg_base.specs.declared.stop.WriteFault.{WriteFault}
+use Rattle.jpg_huff.specs.Out.{OnlyWrites}
+use Rattle.jpg_markers.specs.OutHead.{head_meaning}
+use Rattle.jpg_file.specs.Write.Restarts.{restart_of}
+use Rattle.jpg_file.specs.Write.WriteTables.{given_in}
+use Rattle.jpg_file.specs.Write.WriteScan.{scans_bytes}
+use Rattle.jpg_file.specs.Write.WriteProgScan.{prog_scans_bytes}
+use Rattle.jpg_file.specs.declared.write.Plan.{Plan}
+
+-- what the file means: its head, and the real blocks of the view
+abbrev pub file_meaning : Plan → List (ℕ × List ℕ) → Blocks → Meaning
+file_meaning plan kept blocks = record (head_meaning plan.out kept) { blocks = real_blocks plan.out.frame blocks }
+
+-- its text
+abbrev pub file_bytes : Plan → List (ℕ × List ℕ) → Blocks → List ℕ
+file_bytes plan kept blocks = file_text (file_meaning plan kept blocks) plan.script (restart_of plan.restart)
+
+-- no typical table was written yet, and no interval
+abbrev pub nothing_given : Written
+nothing_given = record { tables = given_in (replicate 4 false); interval = 0 }
+
+-- its scans
+abbrev pub seq_scans_due : Plan → Frame → Blocks → List ℕ
+seq_scans_due plan f blocks = scans_bytes plan.out.frame plan.out.colour (restart_of plan.restart) f blocks nothing_given plan.script
+
+abbrev pub prog_scans_due : Plan → Frame → Blocks → List ℕ
+prog_scans_due plan f blocks = prog_scans_bytes plan.out.frame plan.out.colour (restart_of plan.restart) f blocks nothing_written plan.script
+
+abbrev pub scans_due : Plan → Frame → Blocks → List ℕ
+scans_due plan f blocks = if is_progressive plan.out.frame.process then prog_scans_due plan f blocks else seq_scans_due plan f blocks
+
+-- the test of a script for files of this meaning's process
+abbrev pub does_pass : Meaning → List Entry → Bool
+does_pass H script = if is_progressive H.process then is_progressive_after H [] script else is_script_after (frame_of_meaning H) [] script
+
+-- A plan of precision 8, with a table for each component and the colours that the file means, whose script passes; and
+-- blocks viewed in a frame of the same grids, which is progressive if the file's is, and that can be written.
+pub record CanWriteFile (plan : Plan) (kept : List (ℕ × List ℕ)) (f : Frame) (blocks : Blocks) : Type 0 where
+  pub precision : plan.out.frame.precision ≡ 8
+  pub tables : length plan.out.quants.items ≡ length plan.out.frame.components
+  pub colour : plan.out.colour ≡ colour_of (file_meaning plan kept blocks)
+  pub passes : does_pass (file_meaning plan kept blocks) plan.script ≡ true
+  pub seen : is_progressive f.process ≡ is_progressive plan.out.frame.process
+  pub grids : frame_grids f ≡ frame_grids plan.out.frame
+  pub writable : HasBlocksIn f blocks
+
+-- all of these bytes were written, or after a fault a first part of them
+abbrev pub AreAppended : DeskState → List ℕ → Result (Unit {0}) WriteFault → DeskState → Type 0
+AreAppended old due (Ok u) new = AppendsLast old.outputs due new.outputs
+AreAppended old due (Err fault) new = AppendsPart old.outputs due new.outputs × Rose old.counts.writes new.counts.writes
+
+-- and nothing else changed
+pub record WritesDue (old : DeskState) (due : List ℕ) (result : Result (Unit {0}) WriteFault) (new : DeskState) : Type 0 where
+  pub only : OnlyWrites old new
+  pub bytes : AreAppended old due result new

@@ -1,0 +1,225 @@
+//! A file, read byte by byte (T.81, B.2.1).
+ghost use Rattle.std.specs.Prelude.{◌≡◌, ◌<◌, ◌+◌, ◌++◌, ℕ, List, [], ◌∷◌, ◌≤◌, length, slice_index, IfErr, Err};
+ghost use Rattle.jpg_spec.specs.FrameHeader.{AreLimits};
+ghost use Rattle.jpg_base.specs.declared.stop.Stop.TheVariants as stop;
+ghost use Rattle.jpg_coefs.specs.Picture.{Picture};
+ghost use Rattle.jpg_file.specs.Read.File.{HeadStands, NotesHead, PassesFront, RoomMade, StandsForFile, TakesFileByte, TakesFileEnd, TakesFileHead, TakesFileStep, TakesSome, keeping_of, limits_of, with_picture};
+ghost use Rattle.jpg_file.specs.Read.InData.{ArePlain};
+ghost use Rattle.jpg_file.specs.Read.Reading.{IsOpenScan};
+
+use crate::read::first_header::{Head, head_of};
+use crate::read::items::{ItemStep, Items};
+use crate::read::reading::Reading;
+use crate::read::scan_history::ScanHistory;
+use jpg_base::{Limits, NoMemory, Stop};
+use jpg_coefs::Coefs;
+use jpg_spec::{Copying, Fault, FaultAt};
+use memchr::memchr;
+use std::alloc::Global;
+
+/// The state of a file that is read: its items, the current scan, and what the scans so far define.
+#[derive(Drop)]
+pub struct FileWork {
+    pub alloc: Global,
+    pub reading: Reading,
+    pub begun: ScanHistory,
+    pub head: Option<Head>,
+}
+
+impl FileWork {
+    /// A file before any byte, with the markers that are to be kept. It takes no memory yet.
+    pub fn new(alloc: Global, limits: Limits, keeping: Copying) -> FileWork
+        requires { AreLimits limits }
+        ensures stands { StandsForFile limits [] result }
+        ensures keeping { keeping_of result ≡ keeping }
+    {
+        FileWork {
+            alloc,
+            reading: Reading {
+                items: Items::new(alloc, limits, keeping),
+                coefs: None,
+                scan: None,
+                taken: 0,
+            },
+            begun: ScanHistory::new(),
+            head: None,
+        }
+    }
+
+    /// Takes a further byte, and answers whether the file is complete with it, or the fault that the byte reveals.
+    pub fn byte(&mut self, byte: u8) -> Result<bool, Stop>
+        requires stands { (bytes : List ℕ) × StandsForFile (limits_of self.old) bytes self.old }
+        requires limits { AreLimits (limits_of self.old) }
+        requires room { self.old.reading.taken < (limits_of self.old).input }
+        ensures after { TakesFileByte self.old byte result self.new }
+        ensures head { IfErr result (λ stop. self.new.head ≡ self.old.head) }
+        ensures keeping { keeping_of self.new ≡ keeping_of self.old }
+    {
+        match self.step(byte) {
+            ItemStep::More => Ok(false),
+            ItemStep::Head => self.take_head(),
+            ItemStep::Eoi => self.take_end(),
+            ItemStep::Fault(fault) => Err(Stop::Fault(fault)),
+            ItemStep::NoMemory => Err(Stop::NoMemory),
+        }
+    }
+
+    /// Takes some of these bytes, perhaps not all at once, and answers how many these were and the result of the last
+    /// one.
+    pub fn some(&mut self, bytes: &[u8]) -> (usize, Result<bool, Stop>)
+        requires stands { (bytes : List ℕ) × StandsForFile (limits_of self.old) bytes self.old }
+        requires limits { AreLimits (limits_of self.old) }
+        requires room { self.old.reading.taken < (limits_of self.old).input }
+        requires some { 1 ≤ length bytes.now }
+        ensures after { TakesSome self.old bytes.now result.0 result.1 self.new }
+        ensures keeping { keeping_of self.new ≡ keeping_of self.old }
+    {
+        if self.reading.is_open() {
+            let most = self.reading.items.limits.input - self.reading.taken;
+            let n = plain_length(bytes, most);
+            if n > 0 {
+                return self.run(&bytes[..n]);
+            }
+        }
+        let n = self.front(bytes);
+        (n + 1, self.byte(bytes[n]))
+    }
+
+    /// Takes contents of the current segment from the start of these bytes, except for the last of them and the
+    /// segment's last byte, and answers how many they were.
+    pub fn front(&mut self, bytes: &[u8]) -> usize
+        requires stands { (bytes : List ℕ) × StandsForFile (limits_of self.old) bytes self.old }
+        requires limits { AreLimits (limits_of self.old) }
+        requires room { self.old.reading.taken < (limits_of self.old).input }
+        requires some { 1 ≤ length bytes.now }
+        ensures after { PassesFront self.old bytes.now result self.new }
+        ensures head { self.new.head ≡ self.old.head }
+        ensures keeping { keeping_of self.new ≡ keeping_of self.old }
+    {
+        if self.reading.scan.is_some() {
+            return 0;
+        }
+        let room = self.reading.items.limits.input - self.reading.taken;
+        let most = (bytes.len() as u64).min(room) as usize;
+        self.reading.contents(&bytes[..most - 1])
+    }
+
+    // Takes plain bytes inside the data of a scan.
+    fn run(&mut self, run: &[u8]) -> (usize, Result<bool, Stop>)
+        requires stands { (bytes : List ℕ) × StandsForFile (limits_of self.old) bytes self.old }
+        requires limits { AreLimits (limits_of self.old) }
+        requires opened { IsOpenScan self.old.reading }
+        requires room { self.old.reading.taken + length run.now ≤ (limits_of self.old).input }
+        requires some { 1 ≤ length run.now }
+        requires few { length run.now < 4294967296 }
+        requires plain { ArePlain run.now }
+        ensures after { TakesSome self.old run.now result.0 result.1 self.new }
+        ensures keeping { keeping_of self.new ≡ keeping_of self.old }
+    {
+        let (n, step) = self.reading.scan_run(run);
+        match step {
+            ItemStep::More => (n, Ok(false)),
+            ItemStep::Fault(fault) => (n, Err(Stop::Fault(fault))),
+            ItemStep::Head => unreachable!(),
+            ItemStep::Eoi => unreachable!(),
+            ItemStep::NoMemory => unreachable!(),
+        }
+    }
+
+    /// Takes a byte, inside the data of a scan or between items.
+    pub fn step(&mut self, byte: u8) -> ItemStep
+        requires stands { (bytes : List ℕ) × StandsForFile (limits_of self.old) bytes self.old }
+        requires limits { AreLimits (limits_of self.old) }
+        requires room { self.old.reading.taken < (limits_of self.old).input }
+        ensures after { TakesFileStep self.old byte result self.new }
+        ensures head { self.new.head ≡ self.old.head }
+        ensures keeping { keeping_of self.new ≡ keeping_of self.old }
+    {
+        if self.reading.scan.is_some() {
+            self.reading.scan_byte(byte)
+        } else {
+            self.reading.item_byte(byte)
+        }
+    }
+
+    /// Takes a complete scan header.
+    #[cold]
+    #[inline(never)]
+    pub fn take_head(&mut self) -> Result<bool, Stop>
+        requires stands { (bytes : List ℕ) × HeadStands (limits_of self.old) bytes self.old }
+        ensures after { TakesFileHead self.old result self.new }
+        ensures head { IfErr result (λ stop. self.new.head ≡ self.old.head) }
+        ensures keeping { keeping_of self.new ≡ keeping_of self.old }
+    {
+        if self.make_room().is_err() {
+            return Err(Stop::NoMemory);
+        }
+        match self.reading.take_head(&mut self.begun) {
+            ItemStep::More => {
+                self.note_head();
+                Ok(false)
+            }
+            ItemStep::Fault(fault) => Err(Stop::Fault(fault)),
+            ItemStep::Head => unreachable!(),
+            ItemStep::Eoi => unreachable!(),
+            ItemStep::NoMemory => unreachable!(),
+        }
+    }
+
+    /// Keeps the first scan header.
+    pub fn note_head(&mut self)
+        ensures { NotesHead self.old self.new }
+    {
+        if self.head.is_none() {
+            self.head = head_of(&self.reading.items.held, self.reading.taken);
+        }
+    }
+
+    // Makes the picture before the first scan.
+    fn make_room(&mut self) -> Result<(), NoMemory>
+        ensures made { RoomMade self.old result self.new }
+        ensures head { self.new.head ≡ self.old.head }
+        ensures keeping { keeping_of self.new ≡ keeping_of self.old }
+    {
+        let Some(frame) = &self.reading.items.held.frame else {
+            return Ok(());
+        };
+        frame.checked();
+        if self.reading.coefs.is_some() {
+            return Ok(());
+        }
+        let coefs = Coefs::new(self.alloc, frame)?;
+        self.reading.coefs = Some(coefs);
+        Ok(())
+    }
+
+    /// Takes EOI, whatever picture there is: the file is complete if each component was in a scan.
+    pub fn take_end(&self) -> Result<bool, Stop>
+        ensures end { TakesFileEnd self.now result }
+        ensures any { (whole : Picture) → TakesFileEnd (with_picture self.now whole) result }
+        ensures memory { result ≡ Err stop.NoMemory → ⊥ }
+    {
+        if self.begun.is_complete() {
+            return Ok(true);
+        }
+        Err(Stop::Fault(FaultAt {
+            fault: Fault::MissingComponent,
+            at: self.reading.taken,
+        }))
+    }
+}
+
+/// How many bytes there are before the first FF, at most `most`.
+pub fn plain_length(bytes: &[u8], most: u64) -> usize
+    ensures within { result ≤ length bytes.now }
+    ensures few { result < 4294967296 }
+    ensures room { result ≤ most }
+    ensures plain { (k : ℕ) → k < result → slice_index bytes.now k ≡ 255 → ⊥ }
+    ensures stops { result < length bytes.now → result < most → result < 4294967295 → slice_index bytes.now result ≡ 255 }
+{
+    let most = most.min(0xffff_ffff).min(bytes.len() as u64) as usize;
+    match memchr(0xff, &bytes[..most]) {
+        Some(n) => n,
+        None => most,
+    }
+}

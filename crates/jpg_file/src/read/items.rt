@@ -1,0 +1,153 @@
+//! The items of a file, byte by byte, scan data left out (T.81, B.1.1, B.2.1).
+ghost use Rattle.std.specs.Prelude.{◌≡◌, ◌<◌, ◌+◌, ◌++◌, ◌≤◌, ℕ, List, [], ◌∷◌, length, None, true};
+ghost use Rattle.jpg_spec.specs.FrameHeader.{AreLimits};
+ghost use Rattle.jpg_spec.specs.Scan.{Blocks};
+ghost use Rattle.jpg_spec.specs.Items.{Item};
+ghost use Rattle.jpg_spec.specs.FileMeaning.{no_blocks};
+ghost use Rattle.jpg_spec.specs.declared.frame.Limits.{Limits as Bounded};
+ghost use Rattle.jpg_markers.specs.Reading.{HasRoom, reading_of};
+ghost use Rattle.jpg_file.specs.Read.Items.{BetweenItems, BehindHead, AfterSegment, JudgesSegment, PassesHead, PassesItems, TakesItemByte, TakesMarker};
+
+use crate::read::segment_state::{SegmentState, SegmentTaken};
+use jpg_base::{Limits, NoMemory, Stop};
+use jpg_markers::{SegStep, SegmentReader};
+use jpg_spec::{Copying, FaultAt};
+use std::alloc::Global;
+
+/// The reader of segments, and what they define.
+#[derive(Drop)]
+pub struct Items {
+    pub limits: Limits,
+    pub segments: SegmentReader,
+    pub held: SegmentState,
+}
+
+/// The result of a byte.
+#[derive(Clone, Copy, Debug, PartialEq, Eq)]
+pub enum ItemStep {
+    /// The file goes on.
+    More,
+    /// A scan header is complete, and not yet judged.
+    Head,
+    /// EOI is there.
+    Eoi,
+    /// The byte reveals this fault, at the number of bytes taken.
+    Fault(FaultAt),
+    /// There is no memory.
+    NoMemory,
+}
+
+impl Items {
+    /// The state before any byte.
+    pub fn new(alloc: Global, limits: Limits, keeping: Copying) -> Items
+        requires { AreLimits limits }
+        ensures between { BetweenItems limits [] [] no_blocks result }
+        ensures taken { (reading_of result.segments).taken ≡ 0 }
+        ensures keeping { result.held.keeping ≡ keeping }
+    {
+        Items {
+            limits,
+            segments: SegmentReader::new(alloc, limits),
+            held: SegmentState::new(alloc, keeping),
+        }
+    }
+
+    /// Takes a byte outside scan data.
+    pub fn byte(&mut self, byte: u8) -> ItemStep
+        requires stands { (bytes : List ℕ) × (items : List Item) × (blocks : Blocks) × BetweenItems self.old.limits bytes items blocks self.old }
+        requires limits { AreLimits self.old.limits }
+        requires room { (reading_of self.old.segments).taken < self.old.limits.input }
+        ensures after { TakesItemByte self.old byte result self.new }
+        ensures taken { (reading_of self.new.segments).taken ≡ (reading_of self.old.segments).taken + 1 }
+        ensures memory { self.old.held.keeping ≡ Copying.None → self.old.held.scanned ≡ true → HasRoom self.old.segments → result ≡ ItemStep.NoMemory → ⊥ }
+        ensures room { HasRoom self.old.segments → HasRoom self.new.segments }
+        ensures scanned { self.new.held.scanned ≡ self.old.held.scanned }
+        ensures keeping { self.new.held.keeping ≡ self.old.held.keeping }
+    {
+        match self.segments.byte(byte) {
+            Err(Stop::Fault(fault)) => ItemStep::Fault(fault),
+            Err(Stop::NoMemory) => ItemStep::NoMemory,
+            Ok(SegStep::Whole) => self.segment(),
+            Ok(SegStep::Eoi) => ItemStep::Eoi,
+            Ok(SegStep::More) => ItemStep::More,
+            Ok(SegStep::Start) => ItemStep::More,
+            Ok(SegStep::Frame) => ItemStep::More,
+        }
+    }
+
+    /// Takes contents of the current segment from the start of these bytes, as many as are expected before its last
+    /// byte, and answers how many they were: none if no contents are expected, or if there is no memory for them.
+    pub fn contents(&mut self, bytes: &[u8]) -> usize
+        requires same { (reading_of self.old.segments).limits ≡ self.old.limits }
+        requires room { (reading_of self.old.segments).taken + length bytes.now ≤ self.old.limits.input }
+        ensures few { result ≤ length bytes.now }
+        ensures after { PassesItems self.old bytes.now result self.new }
+        ensures keeping { self.new.held.keeping ≡ self.old.held.keeping }
+    {
+        match self.segments.stretch(bytes) {
+            Ok(n) => n,
+            Err(NoMemory) => 0,
+        }
+    }
+
+    /// Takes the marker that ended a scan's data, whose code is byte number `at` of the file.
+    pub fn marker(&mut self, code: u8, at: u64) -> ItemStep
+        requires stands { (items : List Item) × (contents : List ℕ) × BehindHead self.old.limits items contents self.old }
+        requires limits { AreLimits self.old.limits }
+        requires later { (reading_of self.old.segments).taken + 2 ≤ at }
+        requires within { at ≤ self.old.limits.input }
+        ensures after { TakesMarker self.old code result self.new }
+        ensures taken { (reading_of self.new.segments).taken ≡ at }
+        ensures scanned { self.new.held.scanned ≡ self.old.held.scanned }
+        ensures room { HasRoom self.old.segments → HasRoom self.new.segments }
+        ensures keeping { self.new.held.keeping ≡ self.old.held.keeping }
+    {
+        match self.segments.marker(code, at) {
+            Err(Stop::Fault(fault)) => ItemStep::Fault(fault),
+            Err(Stop::NoMemory) => ItemStep::NoMemory,
+            Ok(SegStep::Whole) => self.segment(),
+            Ok(SegStep::Eoi) => ItemStep::Eoi,
+            Ok(SegStep::More) => ItemStep::More,
+            Ok(SegStep::Start) => ItemStep::More,
+            Ok(SegStep::Frame) => ItemStep::More,
+        }
+    }
+
+    /// Notes that the scan header was judged.
+    pub fn head_done(&mut self)
+        requires { (bytes : List ℕ) × (items : List Item) × (blocks : Blocks) × AfterSegment self.old.limits bytes items blocks self.old }
+        ensures behind { PassesHead self.old self.new }
+        ensures scanned { self.new.held.scanned ≡ true }
+        ensures limits { self.new.limits ≡ self.old.limits }
+        ensures same { (reading_of self.new.segments).taken ≡ (reading_of self.old.segments).taken }
+        ensures keeping { self.new.held.keeping ≡ self.old.held.keeping }
+    {
+        self.held.scanned = true;
+    }
+
+    // Judges a complete segment.
+    #[cold]
+    #[inline(never)]
+    fn segment(&mut self) -> ItemStep
+        requires limits { AreLimits self.old.limits }
+        requires short { length (reading_of self.old.segments).contents ≤ 65533 }
+        ensures after { JudgesSegment self.old result self.new }
+        ensures same { self.new.segments ≡ self.old.segments }
+        ensures memory { self.old.held.keeping ≡ Copying.None → self.old.held.scanned ≡ true → result ≡ ItemStep.NoMemory → ⊥ }
+        ensures scanned { self.new.held.scanned ≡ self.old.held.scanned }
+        ensures keeping { self.new.held.keeping ≡ self.old.held.keeping }
+    {
+        let code = self.segments.code();
+        if code == 0xda {
+            return ItemStep::Head;
+        }
+        match self.held.take(self.limits, code, self.segments.contents()) {
+            SegmentTaken::Done => ItemStep::More,
+            SegmentTaken::Fault(fault) => ItemStep::Fault(FaultAt {
+                fault,
+                at: self.segments.taken(),
+            }),
+            SegmentTaken::NoMemory => ItemStep::NoMemory,
+        }
+    }
+}

@@ -1,0 +1,179 @@
+//! A file that is being read: between items, or inside the data of a scan (T.81, B.2.1).
+ghost use Rattle.std.specs.Prelude.{◌≡◌, ◌<◌, ◌≤◌, ◌+◌, ◌++◌, ℕ, List, [], ◌∷◌, length, true};
+ghost use Rattle.jpg_spec.specs.FrameHeader.{AreLimits};
+ghost use Rattle.jpg_spec.specs.Scan.{Blocks};
+ghost use Rattle.jpg_spec.specs.Items.{Item};
+ghost use Rattle.jpg_spec.specs.declared.frame.Limits.{Limits as Bounded};
+ghost use Rattle.jpg_markers.specs.Reading.{reading_of};
+ghost use Rattle.jpg_coefs.specs.Picture.{Picture};
+ghost use Rattle.jpg_file.specs.Read.ScanStart.{HasSizes};
+ghost use Rattle.jpg_file.specs.Read.Reading.{CanBeginHead, IsPlainStep, HeadWhole, IsOpenScan, IsSparing, Itemising, LeavesAll, PassesReading, Scanning, TakesByteOfItems, TakesByteOfScan, TakesHead, TakesRunOfScan, has_open, with_coefs};
+ghost use Rattle.jpg_file.specs.Read.InData.{ArePlain};
+
+use crate::read::items::{ItemStep, Items};
+use crate::read::scan::{InScan, ScanStep};
+use crate::read::scan_header::judge_head;
+use crate::read::scan_history::ScanHistory;
+use crate::read::scan_start::begin_data;
+use jpg_coefs::Coefs;
+use jpg_spec::FaultAt;
+
+/// The items so far, the picture from the first scan on, the current scan, and how many bytes were taken.
+#[derive(Drop)]
+pub struct Reading {
+    pub items: Items,
+    pub coefs: Option<Coefs>,
+    pub scan: Option<InScan>,
+    pub taken: u64,
+}
+
+impl Reading {
+    /// Takes a complete scan header: its scan begins, or it has a fault.
+    pub fn take_head(&mut self, begun: &mut ScanHistory) -> ItemStep
+        requires stands { (bytes : List ℕ) × (items : List Item) × (blocks : Blocks) × HeadWhole self.old.items.limits bytes items blocks self.old begun.old }
+        ensures after { TakesHead self.old begun.old result self.new begun.new }
+        ensures keeping { self.new.items.held.keeping ≡ self.old.items.held.keeping }
+    {
+        let Some(coefs) = &self.coefs else {
+            return ItemStep::NoMemory;
+        };
+        coefs.checked();
+        self.begin_head(begun)
+    }
+
+    /// The same whatever picture there is.
+    pub fn begin_head(&mut self, begun: &mut ScanHistory) -> ItemStep
+        requires stands { CanBeginHead self.old begun.old }
+        ensures after { (now : Picture) → HasSizes now → TakesHead (with_coefs self.old now) begun.old result (with_coefs self.new now) begun.new }
+        ensures coefs { self.new.coefs ≡ self.old.coefs }
+        ensures left { LeavesAll self.old begun.old result self.new }
+        ensures scanned { result ≡ ItemStep.More → self.new.items.held.scanned ≡ true }
+        ensures keeping { self.new.items.held.keeping ≡ self.old.items.held.keeping }
+    {
+        let at = self.taken;
+        let Some(held) = &self.items.held.frame else {
+            return ItemStep::NoMemory;
+        };
+        let frame = held.copy();
+        match judge_head(
+            self.items.segments.contents(),
+            &frame,
+            &self.items.held,
+            begun,
+        ) {
+            Err(fault) => ItemStep::Fault(FaultAt { fault, at }),
+            Ok(head) => {
+                frame.checked();
+                begin_data(
+                    &mut self.scan,
+                    &frame,
+                    &head,
+                    &self.items.held.tables,
+                    self.items.held.interval,
+                );
+                let parts = head.parts.as_slice();
+                begun.note_quants(parts, &frame, &self.items.held.quants);
+                begun.note(&frame, &head);
+                self.items.head_done();
+                ItemStep::More
+            }
+        }
+    }
+
+    /// Takes a byte between items.
+    pub fn item_byte(&mut self, byte: u8) -> ItemStep
+        requires stands { (bytes : List ℕ) × (items : List Item) × (blocks : Blocks) × Itemising self.old.items.limits bytes items blocks self.old }
+        requires limits { AreLimits self.old.items.limits }
+        requires room { self.old.taken < self.old.items.limits.input }
+        ensures after { TakesByteOfItems self.old byte result self.new }
+        ensures coefs { self.new.coefs ≡ self.old.coefs }
+        ensures memory { IsSparing self.old → result ≡ ItemStep.NoMemory → ⊥ }
+        ensures sparing { IsSparing self.old → IsSparing self.new }
+        ensures keeping { self.new.items.held.keeping ≡ self.old.items.held.keeping }
+    {
+        self.taken += 1;
+        self.items.byte(byte)
+    }
+
+    /// Takes contents of the current segment from the start of these bytes, as many as are expected before its last
+    /// byte, and answers how many they were.
+    pub fn contents(&mut self, bytes: &[u8]) -> usize
+        requires same { (reading_of self.old.items.segments).limits ≡ self.old.items.limits }
+        requires count { (reading_of self.old.items.segments).taken ≡ self.old.taken }
+        requires room { self.old.taken + length bytes.now ≤ self.old.items.limits.input }
+        requires limits { AreLimits self.old.items.limits }
+        ensures after { PassesReading self.old bytes.now result self.new }
+        ensures keeping { self.new.items.held.keeping ≡ self.old.items.held.keeping }
+    {
+        let n = self.items.contents(bytes);
+        self.taken += n as u64;
+        n
+    }
+
+    /// Takes a byte inside the data of a scan.
+    pub fn scan_byte(&mut self, byte: u8) -> ItemStep
+        requires stands { (items : List Item) × (contents : List ℕ) × (bytes : List ℕ) × Scanning self.old.items.limits items contents bytes self.old }
+        requires limits { AreLimits self.old.items.limits }
+        requires room { self.old.taken < self.old.items.limits.input }
+        ensures after { TakesByteOfScan self.old byte result self.new }
+        ensures keeping { self.new.items.held.keeping ≡ self.old.items.held.keeping }
+    {
+        let Some(coefs) = &mut self.coefs else {
+            return ItemStep::NoMemory;
+        };
+        let Some(scan) = &mut self.scan else {
+            return ItemStep::NoMemory;
+        };
+        let at = self.taken + 1;
+        self.taken = at;
+        match scan.byte(coefs, byte) {
+            ScanStep::More => ItemStep::More,
+            ScanStep::Fault(fault) => ItemStep::Fault(FaultAt { fault, at }),
+            ScanStep::Marker(code) => {
+                self.scan = None;
+                self.items.marker(code, at)
+            }
+        }
+    }
+
+    /// Whether plain bytes of a scan may be taken together.
+    pub fn is_open(&self) -> bool
+        ensures is { result ≡ has_open self.now.scan }
+        ensures opened { result ≡ true → IsOpenScan self.now }
+    {
+        match &self.scan {
+            Some(scan) => scan.is_open(),
+            None => false,
+        }
+    }
+
+    /// Takes plain bytes inside the data of a scan, and answers how many were taken: up to the one that ends an
+    /// interval or reveals a fault.
+    pub fn scan_run(&mut self, run: &[u8]) -> (usize, ItemStep)
+        requires stands { (items : List Item) × (contents : List ℕ) × (bytes : List ℕ) × Scanning self.old.items.limits items contents bytes self.old }
+        requires room { self.old.taken + length run.now ≤ self.old.items.limits.input }
+        requires limits { AreLimits self.old.items.limits }
+        requires opened { IsOpenScan self.old }
+        requires some { 1 ≤ length run.now }
+        requires few { length run.now < 4294967296 }
+        requires plain { ArePlain run.now }
+        ensures after { TakesRunOfScan self.old run.now result.0 result.1 self.new }
+        ensures goes { IsPlainStep result.1 }
+        ensures keeping { self.new.items.held.keeping ≡ self.old.items.held.keeping }
+    {
+        let Some(coefs) = &mut self.coefs else {
+            unreachable!();
+        };
+        let Some(scan) = &mut self.scan else {
+            unreachable!();
+        };
+        let (n, step) = scan.run(coefs, run);
+        let at = self.taken + n as u64;
+        self.taken = at;
+        match step {
+            ScanStep::More => (n, ItemStep::More),
+            ScanStep::Fault(fault) => (n, ItemStep::Fault(FaultAt { fault, at })),
+            ScanStep::Marker(_) => unreachable!(),
+        }
+    }
+}

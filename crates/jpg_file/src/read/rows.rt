@@ -1,0 +1,213 @@
+//! The current MCU row of a scan of all components (T.81, A.2.3).
+ghost use Rattle.std.specs.Prelude.{◌≡◌, ◌<◌, ◌≤◌, ◌+◌, ◌-◌, ◌==◌, IfOk, ℕ, List, [], length, drop};
+ghost use Rattle.jpg_spec.specs.Bits.{bits_of};
+ghost use Rattle.jpg_spec.specs.Geometry.{Frame as Numbers, units};
+ghost use Rattle.jpg_spec.specs.Segments.{head_components};
+ghost use Rattle.jpg_base.specs.Cursor.{AreIn, scan_mcus_down};
+ghost use Rattle.jpg_seq.specs.Rows.{IsRowOf, top_of};
+ghost use Rattle.jpg_file.specs.Read.RowCounts.{CountsRow, counted};
+ghost use Rattle.jpg_file.specs.Read.RowData.{CanTakeData, IsInsideRow, TakesRowData, TakesRowRun};
+ghost use Rattle.jpg_file.specs.Read.RowStops.{StopsRowData, StopsRowRun};
+ghost use Rattle.jpg_file.specs.Read.RowTurns.{IsRowIn, KeepsRowIn, TurnsRow, block_rows_of, unfinished, zero_picture};
+
+use crate::read::data::DataStep;
+use crate::read::machine::ScanReader;
+use jpg_base::{BitStore, Frame, NoMemory, ScanHead};
+use jpg_coefs::{Coefs, ScanMachine, Taken};
+use std::alloc::Global;
+
+/// The blocks of the current MCU row, the rows of the components' grids at which it begins and how many rows of each it
+/// has, the units of an MCU row, those that are left of this one, the MCU rows after it, and bits that wait after its
+/// last one.
+#[derive(Drop)]
+pub struct RowWork {
+    pub coefs: Coefs,
+    pub tops: [u32; 4],
+    pub steps: [u32; 4],
+    pub units: u64,
+    pub left: u64,
+    pub later: u32,
+    pub waiting: BitStore,
+}
+
+/// The result of data, and whether the MCU row is complete with them.
+#[derive(Clone, Copy, Debug, PartialEq, Eq)]
+pub struct RowStep {
+    pub step: DataStep,
+    pub row: bool,
+}
+
+// The rows of blocks of component `i` in an MCU row: one if it is the only component, none if there is no such
+// component.
+fn rows_of(frame: &Frame, i: u8) -> u32
+    ensures { result ≡ block_rows_of frame.now i }
+{
+    if i >= frame.count() {
+        0
+    } else if frame.count() == 1 {
+        1
+    } else {
+        u32::from(frame.component(i).v)
+    }
+}
+
+// The same of each component.
+fn steps_of(frame: &Frame) -> [u32; 4]
+    ensures { (i : ℕ) → top_of result i ≡ block_rows_of frame.now i }
+{
+    frame.checked();
+    [
+        rows_of(frame, 0),
+        rows_of(frame, 1),
+        rows_of(frame, 2),
+        rows_of(frame, 3),
+    ]
+}
+
+// The rows at which the next MCU row begins.
+fn next_tops(tops: &[u32; 4], steps: &[u32; 4]) -> [u32; 4]
+    requires { (i : ℕ) → top_of tops.now i + top_of steps.now i < 4294967296 }
+    ensures { (i : ℕ) → top_of result i ≡ top_of tops.now i + top_of steps.now i }
+{
+    [
+        tops[0] + steps[0],
+        tops[1] + steps[1],
+        tops[2] + steps[2],
+        tops[3] + steps[3],
+    ]
+}
+
+impl RowWork {
+    /// The first MCU row of a scan of all components of a frame.
+    pub fn new(alloc: Global, frame: &Frame, head: &ScanHead) -> Result<RowWork, NoMemory>
+        requires there { AreIn frame.now (head_components head.now) }
+        requires all { length (head_components head.now) ≡ length frame.now.components }
+        ensures zero { IfOk result (λ w. IsRowOf w.tops (zero_picture frame.now) w.coefs) }
+        ensures at { IfOk result (λ w. IsRowIn frame.now (head_components head.now) w (length (units frame.now (head_components head.now)))) }
+        ensures waiting { IfOk result (λ w. w.waiting ≡ []) }
+        ensures first { IfOk result (λ w. w.left ≡ w.units) }
+        ensures count { IfOk result (λ w. unfinished w ≡ scan_mcus_down frame.now (head_components head.now)) }
+    {
+        frame.checked();
+        let mcus = frame.scan_mcus(head);
+        let units = u64::from(mcus.wide) * u64::from(frame.mcu_units(head));
+        let coefs = Coefs::new(alloc, &frame.row())?;
+        Ok(RowWork {
+            coefs,
+            tops: [0; 4],
+            steps: steps_of(frame),
+            units,
+            left: units,
+            later: mcus.high - 1,
+            waiting: BitStore::new(),
+        })
+    }
+
+    /// Goes to the next MCU row, if this one is complete and there is one.
+    pub fn next(&mut self)
+        requires { (f : Numbers) × (components : List ℕ) × (left : ℕ) × IsRowIn f components self.old left }
+        ensures at { KeepsRowIn self.old self.new }
+        ensures of { TurnsRow self.old self.new }
+        ensures waiting { self.new.waiting ≡ self.old.waiting }
+    {
+        if self.left > 0 || self.later == 0 {
+            return;
+        }
+        self.coefs.clear();
+        self.tops = next_tops(&self.tops, &self.steps);
+        self.left = self.units;
+        self.later -= 1;
+    }
+
+    // Counts complete units.
+    fn count(&mut self, units: u64, step: DataStep) -> RowStep
+        requires { units ≤ self.old.left }
+        ensures answer { result ≡ record { step = step; row = (self.old.left - units) == 0 } }
+        ensures counted { self.new ≡ counted self.old units }
+    {
+        self.left -= units;
+        RowStep {
+            step,
+            row: self.left == 0,
+        }
+    }
+
+    /// Gives the machine bits up to the last one of the MCU row. Those after it wait.
+    pub fn take(&mut self, machine: &mut ScanReader, store: BitStore) -> RowStep
+        requires open { CanTakeData self.old machine.old }
+        requires inside { IsInsideRow self.old machine.old }
+        requires some { 1 ≤ self.old.left }
+        requires none { self.old.waiting ≡ [] }
+        ensures takes { TakesRowData self.old machine.old store result.step self.new machine.new }
+        ensures stops { StopsRowData self.old machine.old store result.step }
+        ensures counts { CountsRow self.old machine.old result self.new machine.new }
+    {
+        let mut store = store;
+        let before = machine.units_left();
+        let taken = machine.bits_in_row(&mut store, &mut self.coefs, &self.tops, self.left);
+        let units = before - machine.units_left();
+        match taken {
+            Taken::More => self.count(units, DataStep::More),
+            Taken::Units => {
+                self.waiting = store;
+                self.count(units, DataStep::More)
+            }
+            Taken::IntervalDone => self.count(units, DataStep::Whole),
+            Taken::Fault(fault) => self.count(units, DataStep::Fault(fault)),
+        }
+    }
+
+    /// Gives it the bits of plain bytes in the same way, and answers how many bytes were given.
+    pub fn take_bytes(&mut self, machine: &mut ScanReader, bytes: &[u8]) -> (usize, RowStep)
+        requires open { CanTakeData self.old machine.old }
+        requires inside { IsInsideRow self.old machine.old }
+        requires left { 1 ≤ self.old.left }
+        requires none { self.old.waiting ≡ [] }
+        requires some { 1 ≤ length bytes.now }
+        requires few { length bytes.now < 4294967296 }
+        ensures takes { TakesRowRun self.old machine.old bytes.now result.0 result.1.step self.new machine.new }
+        ensures stops { StopsRowRun self.old machine.old bytes.now result.0 result.1.step }
+        ensures counts { CountsRow self.old machine.old result.1 self.new machine.new }
+    {
+        let before = machine.units_left();
+        let got = machine.bytes_in_row(bytes, &mut self.coefs, &self.tops, self.left);
+        let units = before - machine.units_left();
+        let given = got.bits.div_ceil(8) as usize;
+        match got.taken {
+            Taken::More => (given, self.count(units, DataStep::More)),
+            Taken::Units => {
+                self.waiting = last_bits(bytes[given - 1], got.bits - 8 * (given as u64 - 1));
+                (given, self.count(units, DataStep::More))
+            }
+            Taken::IntervalDone => (given, self.count(units, DataStep::Whole)),
+            Taken::Fault(fault) => (given, self.count(units, DataStep::Fault(fault))),
+        }
+    }
+}
+
+impl RowWork {
+    /// Takes the bits that wait.
+    pub fn take_waiting(&mut self, machine: &mut ScanReader) -> RowStep
+        requires open { CanTakeData self.old machine.old }
+        requires inside { IsInsideRow self.old machine.old }
+        requires some { 1 ≤ self.old.left }
+        ensures takes { TakesRowData self.old machine.old self.old.waiting result.step self.new machine.new }
+        ensures stops { StopsRowData self.old machine.old self.old.waiting result.step }
+        ensures counts { CountsRow self.old machine.old result self.new machine.new }
+    {
+        let store = self.waiting.copy();
+        self.waiting = BitStore::new();
+        self.take(machine, store)
+    }
+}
+
+// The bits of a byte after the first `n`.
+fn last_bits(byte: u8, n: u64) -> BitStore
+    requires { n ≤ 8 }
+    ensures { result ≡ drop n (bits_of 8 byte) }
+{
+    let mut store = BitStore::new();
+    store.push(byte);
+    store.skip(n as u8);
+    store
+}

@@ -1,0 +1,118 @@
+//! The start of a scan: its machine, its tables and its first interval (T.81, A.2, E.1.4).
+ghost use Rattle.std.specs.Prelude.{◌≡◌, ◌≤◌, ◌==◌, if◌then◌else◌, min, false, ℕ, List, Some};
+ghost use Rattle.jpg_spec.specs.Items.{Item};
+ghost use Rattle.jpg_spec.specs.Scan.{Blocks};
+ghost use Rattle.jpg_spec.specs.declared.frame.Limits.{Limits};
+ghost use Rattle.jpg_coefs.specs.Picture.{Picture};
+ghost use Rattle.jpg_file.specs.Read.ScanStart.{IsAtFirstByte, CanBegin, HasSizes, IsBareIn, IsBegun, before_data};
+ghost use Rattle.jpg_file.specs.Read.NewScan.{IsScanHeader};
+
+use crate::read::machine::ScanReader;
+use crate::read::scan::{InScan, ScanWork};
+use crate::read::segment_state::is_progressive;
+use jpg_base::{Frame, ScanHead};
+use jpg_coefs::{Coefs, ScanMachine};
+use jpg_huff::{Gate, TableSet};
+use jpg_prog_read::{AcReader, DcFirst, DcRefine};
+use jpg_seq::SeqReader;
+
+/// The scan of a header that breaks no rule, before its first data byte, with the tables and the restart
+/// interval in force (in MCUs, 0 for none) and the picture so far.
+pub fn begin_scan(
+    frame: &Frame,
+    head: &ScanHead,
+    tables: &TableSet,
+    interval: u16,
+    coefs: &Coefs,
+) -> InScan
+    requires { CanBegin frame.now head.now tables.now interval coefs.now }
+    ensures gate { result.gate ≡ false }
+    ensures begun { IsAtFirstByte frame.now head.now tables.now interval coefs.now result }
+{
+    coefs.checked();
+    let mut place = None;
+    begin_data(&mut place, frame, head, tables, interval);
+    let Some(scan) = place else {
+        unreachable!();
+    };
+    scan
+}
+
+/// The same, put into a place, whatever picture there is. The tables of its machine are built there.
+#[cold]
+#[inline(never)]
+pub fn begin_data(
+    place: &mut Option<InScan>,
+    frame: &Frame,
+    head: &ScanHead,
+    tables: &TableSet,
+    interval: u16,
+)
+    requires { (now : Picture) × HasSizes now × CanBegin frame.now head.now tables.now interval now }
+    ensures { IsBegun frame.now head.now tables.now interval place.new }
+{
+    let all = frame.scan_units(head);
+    let units = u64::from(interval) * u64::from(frame.mcu_units(head));
+    let first = first_units(units, all);
+    put_bare(place, frame, head, tables, units, all - first);
+    let Some(scan) = place else {
+        unreachable!();
+    };
+    scan.work.machine.put_tables(frame, head, tables);
+    scan.work.machine.restart(first);
+}
+
+// Puts the scan of this machine into the place.
+#[inline(always)]
+fn put_scan(place: &mut Option<InScan>, machine: ScanReader, interval: u64, due: u64)
+    ensures { place.new ≡ Some (before_data machine interval due) }
+{
+    *place = Some(InScan {
+        gate: Gate::new(),
+        work: ScanWork {
+            machine,
+            whole: false,
+            interval,
+            due,
+            turn: 0,
+        },
+    });
+}
+
+// Puts the scan without its tables into the place, by the kind of the scan.
+#[cold]
+#[inline(never)]
+fn put_bare(
+    place: &mut Option<InScan>,
+    frame: &Frame,
+    head: &ScanHead,
+    tables: &TableSet,
+    interval: u64,
+    due: u64,
+)
+    requires { IsScanHeader frame.now head.now tables.now }
+    ensures { IsBareIn frame.now head.now tables.now interval due place.new }
+{
+    if !is_progressive(frame) {
+        let machine = SeqReader::bare(frame, head);
+        put_scan(place, ScanReader::Sequential(machine), interval, due);
+    } else if head.ss > 0 {
+        let machine = AcReader::new(frame, head, tables);
+        put_scan(place, ScanReader::Ac(machine), interval, due);
+    } else if head.ah > 0 {
+        let machine = DcRefine::new(frame, head);
+        put_scan(place, ScanReader::DcRefine(machine), interval, due);
+    } else {
+        let machine = DcFirst::bare(frame, head);
+        put_scan(place, ScanReader::DcFirst(machine), interval, due);
+    }
+}
+
+// How many units the first interval has, where each has `all` (0: all units of the scan).
+fn first_units(units: u64, all: u64) -> u64
+    ensures value { result ≡ (if units == 0 then all else min units all) }
+    ensures most { result ≤ all }
+    ensures some { 1 ≤ all → 1 ≤ result }
+{
+    if units == 0 { all } else { units.min(all) }
+}

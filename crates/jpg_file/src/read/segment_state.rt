@@ -1,0 +1,253 @@
+//! What the segments of a file define (T.81, B.2).
+ghost use Rattle.std.specs.Prelude.{◌≡◌, ◌≤◌, ◌==◌, ◌&&◌, ◌||◌, ◌<◌, All, is_none, not, true, List, [], ◌∷◌, length, Some, None};
+ghost use Rattle.jpg_spec.specs.FrameHeader.{AreLimits};
+ghost use Rattle.jpg_spec.specs.Geometry.{is_progressive};
+ghost use Rattle.jpg_spec.specs.HuffContents.{huffman_in};
+ghost use Rattle.jpg_spec.specs.History.{needs_ac_table, needs_dc_table};
+ghost use Rattle.jpg_spec.specs.Jfif.{begins_jfif, begins_adobe};
+ghost use Rattle.jpg_spec.specs.Markers.{Segment, is_kept_if, is_within, kept_rule, process_of_code};
+ghost use Rattle.jpg_spec.specs.declared.frame.Limits.{Limits as Bounded};
+ghost use Rattle.jpg_file.specs.Read.Keeping.{is_wanted};
+ghost use Rattle.jpg_file.specs.Read.SegmentState.{Holds, HoldsSegment, TakesSegment, lacks_any, lacks_part, told_by};
+ghost use Rattle.jpg_markers.specs.Seen.{IsOther};
+
+use jpg_base::{Frame, Limits, NoMemory, ScanHead};
+use jpg_huff::TableSet;
+use jpg_markers::{
+    App, Jfif, KeptList, QuantSet, read_app, read_dht, read_dqt, read_dri, read_sof,
+};
+use jpg_spec::{Copying, Fault, Process, ScanPart};
+use std::alloc::Global;
+
+/// What the segments so far define: the frame, the tables in force, the restart interval (in MCUs, 0 for none), whether
+/// a scan began, which markers are to be kept, those that are kept, and the last JFIF header.
+#[derive(Drop)]
+pub struct SegmentState {
+    pub frame: Option<Frame>,
+    pub tables: TableSet,
+    pub quants: QuantSet,
+    pub interval: u16,
+    pub scanned: bool,
+    pub keeping: Copying,
+    pub kept: KeptList,
+    pub jfif: Jfif,
+}
+
+/// The result of a segment.
+pub enum SegmentTaken {
+    /// Its definitions are in force.
+    Done,
+    /// Its contents break this rule.
+    Fault(Fault),
+    /// There is no memory for what is kept of it.
+    NoMemory,
+}
+
+impl SegmentState {
+    /// The state before any segment.
+    pub fn new(alloc: Global, keeping: Copying) -> SegmentState
+        ensures holds { (limits : Bounded) → Holds limits (told_by result) [] }
+        ensures keeping { result.keeping ≡ keeping }
+    {
+        SegmentState {
+            frame: None,
+            tables: TableSet::new(),
+            quants: QuantSet::new(),
+            interval: 0,
+            scanned: false,
+            keeping,
+            kept: KeptList::new(alloc),
+            jfif: Jfif {
+                seen: false,
+                major: 1,
+                minor: 1,
+                unit: 0,
+                x: 1,
+                y: 1,
+            },
+        }
+    }
+
+    /// Takes a complete segment of this marker code that isn't a scan header and whose kept bytes are within their
+    /// limit.
+    pub fn take(&mut self, limits: Limits, code: u8, contents: &[u8]) -> SegmentTaken
+        requires limits { AreLimits limits }
+        requires other { code ≡ 0xda → ⊥ }
+        requires short { length contents.now ≤ 65533 }
+        ensures held { HoldsSegment (told_by self.old) limits code contents.now result (told_by self.new) }
+        ensures memory { self.old.keeping ≡ Copying.None → self.old.scanned ≡ true → result ≡ SegmentTaken.NoMemory → ⊥ }
+        ensures scanned { self.new.scanned ≡ self.old.scanned }
+        ensures keeping { self.new.keeping ≡ self.old.keeping }
+    {
+        match code {
+            0xc4 => self.take_huffmans(limits, contents),
+            0xdb => self.take_quants(limits, contents),
+            0xdd => self.take_interval(limits, contents),
+            0xc0 => self.take_frame(limits, 0xc0, Process::Baseline, contents),
+            0xc1 => self.take_frame(limits, 0xc1, Process::Extended, contents),
+            0xc2 => self.take_frame(limits, 0xc2, Process::Progressive, contents),
+            _ => self.take_other(limits, code, contents),
+        }
+    }
+
+    fn take_huffmans(&mut self, limits: Limits, contents: &[u8]) -> SegmentTaken
+        ensures held { (before : List Segment) → Holds limits (told_by self.old) before → TakesSegment limits before 0xc4 contents.now result (told_by self.new) }
+        ensures memory { result ≡ SegmentTaken.NoMemory → ⊥ }
+        ensures scanned { self.new.scanned ≡ self.old.scanned }
+        ensures keeping { self.new.keeping ≡ self.old.keeping }
+    {
+        match read_dht(contents, &mut self.tables) {
+            Ok(()) => SegmentTaken::Done,
+            Err(fault) => SegmentTaken::Fault(fault),
+        }
+    }
+
+    fn take_quants(&mut self, limits: Limits, contents: &[u8]) -> SegmentTaken
+        ensures held { (before : List Segment) → Holds limits (told_by self.old) before → TakesSegment limits before 0xdb contents.now result (told_by self.new) }
+        ensures memory { result ≡ SegmentTaken.NoMemory → ⊥ }
+        ensures scanned { self.new.scanned ≡ self.old.scanned }
+        ensures keeping { self.new.keeping ≡ self.old.keeping }
+    {
+        match read_dqt(contents, &mut self.quants) {
+            Ok(()) => SegmentTaken::Done,
+            Err(fault) => SegmentTaken::Fault(fault),
+        }
+    }
+
+    fn take_interval(&mut self, limits: Limits, contents: &[u8]) -> SegmentTaken
+        ensures held { (before : List Segment) → Holds limits (told_by self.old) before → TakesSegment limits before 0xdd contents.now result (told_by self.new) }
+        ensures memory { result ≡ SegmentTaken.NoMemory → ⊥ }
+        ensures scanned { self.new.scanned ≡ self.old.scanned }
+        ensures keeping { self.new.keeping ≡ self.old.keeping }
+    {
+        match read_dri(contents) {
+            Ok(interval) => {
+                self.interval = interval;
+                SegmentTaken::Done
+            }
+            Err(fault) => SegmentTaken::Fault(fault),
+        }
+    }
+
+    fn take_frame(
+        &mut self,
+        limits: Limits,
+        code: u8,
+        process: Process,
+        contents: &[u8],
+    ) -> SegmentTaken
+        requires limits { AreLimits limits }
+        requires process { process_of_code code ≡ Some process }
+        ensures held { (before : List Segment) → Holds limits (told_by self.old) before → TakesSegment limits before code contents.now result (told_by self.new) }
+        ensures memory { result ≡ SegmentTaken.NoMemory → ⊥ }
+        ensures scanned { self.new.scanned ≡ self.old.scanned }
+        ensures keeping { self.new.keeping ≡ self.old.keeping }
+    {
+        match read_sof(process, contents, &limits) {
+            Ok(frame) => {
+                self.frame = Some(frame);
+                SegmentTaken::Done
+            }
+            Err(fault) => SegmentTaken::Fault(fault),
+        }
+    }
+
+    // Keeps application segments and comments that are to be kept. Other segments define nothing.
+    fn take_other(&mut self, limits: Limits, code: u8, contents: &[u8]) -> SegmentTaken
+        requires other { IsOther code }
+        requires short { length contents.now ≤ 65533 }
+        ensures held { HoldsSegment (told_by self.old) limits code contents.now result (told_by self.new) }
+        ensures memory { self.old.keeping ≡ Copying.None → self.old.scanned ≡ true → result ≡ SegmentTaken.NoMemory → ⊥ }
+        ensures scanned { self.new.scanned ≡ self.old.scanned }
+        ensures keeping { self.new.keeping ≡ self.old.keeping }
+    {
+        if !is_kept(self.scanned, code, contents) {
+            return SegmentTaken::Done;
+        }
+        if !is_wanted(self.keeping, code, contents) {
+            return SegmentTaken::Done;
+        }
+        match self.kept.push(code, contents) {
+            Err(NoMemory) => SegmentTaken::NoMemory,
+            Ok(()) => {
+                if let App::Jfif(jfif) = read_app(code, contents) {
+                    self.jfif = jfif;
+                }
+                SegmentTaken::Done
+            }
+        }
+    }
+}
+
+// Whether the scan with this header needs a DC table that isn't there, in this slot.
+fn lacks_dc(frame: &Frame, head: &ScanHead, held: &SegmentState, slot: u8) -> bool
+    ensures { result ≡ (needs_dc_table frame.now head.now && is_none (huffman_in (told_by held.now).tables.dc slot)) }
+{
+    let first = head.ss == 0 && head.ah == 0;
+    (!is_progressive(frame) || first) && held.tables.dc(slot).is_none()
+}
+
+// Whether it needs an AC table that isn't there.
+fn lacks_ac(frame: &Frame, head: &ScanHead, held: &SegmentState, slot: u8) -> bool
+    ensures { result ≡ (needs_ac_table frame.now head.now && is_none (huffman_in (told_by held.now).tables.ac slot)) }
+{
+    (!is_progressive(frame) || 0 < head.ss) && held.tables.ac(slot).is_none()
+}
+
+/// Whether the frame's process is progressive.
+pub fn is_progressive(frame: &Frame) -> bool
+    ensures { result ≡ is_progressive frame.now.process }
+{
+    matches!(frame.process(), Process::Progressive)
+}
+
+// Whether a table that this part of a scan needs isn't there.
+fn lacks_one(frame: &Frame, head: &ScanHead, held: &SegmentState, part: ScanPart) -> bool
+    requires { part.component < length frame.now.components }
+    ensures { result ≡ lacks_part (told_by held.now) frame.now head.now part }
+{
+    let quant = frame.component(part.component).quant;
+    held.quants.get(quant).is_none()
+        || lacks_dc(frame, head, held, part.dc)
+        || lacks_ac(frame, head, held, part.ac)
+}
+
+/// Whether a table that a scan with this header needs isn't there.
+pub fn lacks_table(frame: &Frame, head: &ScanHead, held: &SegmentState) -> bool
+    requires { All (λ p. p.component < length frame.now.components) head.now.parts }
+    ensures { result ≡ lacks_any (told_by held.now) frame.now head.now }
+{
+    let mut rest = head.parts.as_slice();
+    while let [part, tail @ ..] = rest {
+        if lacks_one(frame, head, held, *part) {
+            return true;
+        }
+        rest = tail;
+    }
+    false
+}
+
+// Whether a marker is kept: APPn and COM, but after the first scan header no JFIF and Adobe segments.
+fn is_kept(scanned: bool, code: u8, contents: &[u8]) -> bool
+    ensures { result ≡ is_kept_if scanned code contents.now }
+{
+    (code == 0xfe || 0xe0 <= code && code <= 0xef) && !(scanned && is_header(code, contents))
+}
+
+// Whether a marker is passed on, or begins as one that determines the colours or the density.
+fn is_wanted(keeping: Copying, code: u8, contents: &[u8]) -> bool
+    ensures { result ≡ is_wanted keeping (code, contents.now) }
+{
+    match keeping {
+        Copying::None => is_header(code, contents),
+        Copying::Comments => code == 0xfe || is_header(code, contents),
+        Copying::All => true,
+    }
+}
+
+fn is_header(code: u8, contents: &[u8]) -> bool
+    ensures { result ≡ (begins_jfif code contents.now || begins_adobe code contents.now) }
+{
+    code == 0xe0 && contents.starts_with(b"JFIF\0")
+        || code == 0xee && contents.starts_with(b"Adobe")
+}

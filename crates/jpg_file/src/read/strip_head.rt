@@ -1,0 +1,88 @@
+//! What the rows of a picture are made from, in addition to blocks (T.81, B.2.2, B.2.4.1; JFIF 1.02).
+ghost use Rattle.std.specs.Prelude.{◌≡◌, ◌≤◌, List, length};
+ghost use Rattle.jpg_spec.specs.Markers.{Segment};
+ghost use Rattle.jpg_spec.specs.declared.frame.Limits.{Limits as Bounds};
+ghost use Rattle.jpg_file.specs.Read.RowsKnown.{HoldsScan, TellsScan};
+ghost use Rattle.jpg_file.specs.Read.StripHead.{IsStripHead};
+
+use crate::read::file::FileWork;
+use crate::read::first_header::colours;
+use crate::read::picture::Picture;
+use crate::read::picture_taken::tables_of;
+use arrayvec::ArrayVec;
+use jpg_base::{Frame, QuantTable};
+use jpg_markers::Jfif;
+use jpg_spec::Colour;
+
+/// A picture except for its blocks: its frame and colours, the quantisation table of each component, and the last JFIF
+/// header.
+#[derive(Drop)]
+pub struct StripHead {
+    pub frame: Frame,
+    pub colour: Colour,
+    pub quants: ArrayVec<QuantTable, 4>,
+    pub jfif: Jfif,
+}
+
+impl StripHead {
+    /// That of a picture.
+    pub fn of(picture: &Picture) -> StripHead
+        ensures head { IsStripHead result }
+        ensures frame { result.frame ≡ picture.now.frame }
+        ensures colour { result.colour ≡ picture.now.colour }
+        ensures quants { result.quants.items ≡ picture.now.quants.items }
+        ensures jfif { result.jfif ≡ picture.now.jfif }
+    {
+        StripHead {
+            frame: picture.frame.copy(),
+            colour: picture.colour,
+            quants: copied(picture.quants.as_slice()),
+            jfif: picture.jfif,
+        }
+    }
+
+    /// A copy.
+    pub fn copy(&self) -> StripHead
+        ensures frame { result.frame ≡ self.now.frame }
+        ensures colour { result.colour ≡ self.now.colour }
+        ensures quants { result.quants.items ≡ self.now.quants.items }
+        ensures jfif { result.jfif ≡ self.now.jfif }
+    {
+        StripHead {
+            frame: self.frame.copy(),
+            colour: self.colour,
+            quants: copied(self.quants.as_slice()),
+            jfif: self.jfif,
+        }
+    }
+}
+
+/// That of the picture whose first scan begins, after the scan's header.
+pub fn strip_of(file: &FileWork) -> StripHead
+    requires { (limits : Bounds) × (before : List Segment) × HoldsScan limits before file.now }
+    ensures { TellsScan file.now result }
+{
+    let held = &file.reading.items.held;
+    let Some(frame) = &held.frame else {
+        unreachable!();
+    };
+    let frame = frame.copy();
+    frame.checked();
+    let colour = colours(&frame, &held.jfif, &held.kept);
+    let quants = tables_of(&frame, &file.begun);
+    StripHead {
+        frame,
+        colour,
+        quants,
+        jfif: held.jfif,
+    }
+}
+
+fn copied(tables: &[QuantTable]) -> ArrayVec<QuantTable, 4>
+    requires { length tables.now ≤ 4 }
+    ensures { result.items ≡ tables.now }
+{
+    let mut list = ArrayVec::new();
+    let _ = list.try_extend_from_slice(tables);
+    list
+}

@@ -1,0 +1,297 @@
+//! Reading a file MCU row by MCU row, when its first scan has all components (T.81, A.2.3, B.2.1).
+ghost use Rattle.std.specs.Prelude.{◌≡◌, ◌<◌, ◌≤◌, ◌+◌, ℕ, List, Some, length, if◌then◌else◌, is_some, true, false, None, IfErr, IfOk, Err};
+ghost use Rattle.jpg_spec.specs.FrameHeader.{AreLimits};
+ghost use Rattle.jpg_spec.specs.Segments.{head_components};
+ghost use Rattle.jpg_spec.specs.declared.frame.Copying.TheVariants as copying;
+ghost use Rattle.jpg_base.specs.Cursor.{scan_mcus_down};
+ghost use Rattle.jpg_base.specs.declared.stop.Stop.TheVariants as stop;
+ghost use Rattle.jpg_file.specs.Read.File.{keeping_of, limits_of};
+ghost use Rattle.jpg_file.specs.Read.InData.{ArePlain};
+ghost use Rattle.jpg_file.specs.Read.Reading.{IsOpenScan, IsSparing};
+ghost use Rattle.jpg_file.specs.Read.Strips.{BeginsRows, CountsRowsOfScan, CountsRows, IsNoRow, NotWanting, FindsHead, GoesByRow, GoesOnRest, HasHeadOfAll, HasLaterHead, end_step, PassesItem, PassesLaterHead, StandsByRow, TakesLaterByte, TakesRest, TakesRowByte, TakesRunOfRows};
+ghost use Rattle.jpg_file.specs.Read.RowStops.{StopsByte, StopsRest, StopsRun};
+ghost use Rattle.jpg_file.specs.Read.RowTurns.{unfinished};
+ghost use Rattle.jpg_file.specs.Read.RowsNone.{FindsNone};
+ghost use Rattle.jpg_file.specs.Read.RowsKnown.{BeginsTold};
+ghost use Rattle.jpg_file.specs.declared.read.rows.RowWork.{RowWork as Row};
+
+use crate::read::file::{FileWork, plain_length};
+use crate::read::items::ItemStep;
+use crate::read::rows::RowWork;
+use crate::read::scan::ScanStep;
+use crate::read::scan_header::judge_head;
+use crate::read::segment_state::is_progressive;
+use jpg_base::{Frame, ScanHead, Stop};
+use jpg_spec::{Fault, FaultAt};
+
+/// The result of bytes.
+#[derive(Clone, Copy, Debug, PartialEq, Eq)]
+pub enum StripStep {
+    /// The file goes on.
+    More,
+    /// A further MCU row is complete.
+    Row,
+    /// The file is complete.
+    Whole,
+    /// It stops.
+    Ended(Stop),
+}
+
+// A fault at this number of bytes.
+fn fault_at(fault: Fault, at: u64) -> StripStep
+    ensures { result ≡ StripStep.Ended (stop.Fault (record { fault = fault; at = at })) }
+{
+    StripStep::Ended(Stop::Fault(FaultAt { fault, at }))
+}
+
+// The result of data that go on.
+fn row_step(row: bool) -> StripStep
+    ensures { result ≡ (if row then StripStep.Row else StripStep.More) }
+{
+    if row { StripStep::Row } else { StripStep::More }
+}
+
+impl FileWork {
+    /// Goes to the next MCU row if one is complete, and takes the bits that wait after it.
+    pub fn row_rest(&mut self, rows: &mut RowWork) -> StripStep
+        requires { (bytes : List ℕ) × StandsByRow (limits_of self.old) bytes self.old rows.old }
+        ensures after { TakesRest self.old rows.old result self.new rows.new }
+        ensures stops { StopsRest self.old rows.old result }
+        ensures goes { GoesOnRest result }
+        ensures rows { CountsRows result rows.old rows.new }
+        ensures memory { NotWanting result }
+        ensures same { self.new.reading.items ≡ self.old.reading.items }
+        ensures head { self.new.head ≡ self.old.head }
+    {
+        let at = self.reading.taken;
+        let Some(scan) = &mut self.reading.scan else {
+            return StripStep::More;
+        };
+        rows.next();
+        if rows.waiting.len() == 0 {
+            return StripStep::More;
+        }
+        let (step, row) = scan.rest_in_row(rows);
+        match step {
+            ScanStep::More => row_step(row),
+            ScanStep::Fault(fault) => fault_at(fault, at),
+            ScanStep::Marker(_) => unreachable!(),
+        }
+    }
+}
+
+impl FileWork {
+    /// Takes a byte inside the data of the scan.
+    pub fn row_byte(&mut self, rows: &mut RowWork, byte: u8) -> StripStep
+        requires stands { (bytes : List ℕ) × GoesByRow (limits_of self.old) bytes self.old rows.old }
+        requires inside { is_some self.old.reading.scan ≡ true }
+        requires limits { AreLimits (limits_of self.old) }
+        requires room { self.old.reading.taken < (limits_of self.old).input }
+        ensures after { TakesRowByte self.old rows.old byte result self.new rows.new }
+        ensures stops { StopsByte self.old rows.old byte result }
+        ensures rows { CountsRows result rows.old rows.new }
+        ensures memory { NotWanting result }
+        ensures sparing { IsSparing self.old.reading → IsSparing self.new.reading }
+        ensures head { self.new.head ≡ self.old.head }
+        ensures keeping { keeping_of self.new ≡ keeping_of self.old }
+    {
+        let Some(scan) = &mut self.reading.scan else {
+            unreachable!();
+        };
+        let at = self.reading.taken + 1;
+        self.reading.taken = at;
+        let (step, row) = scan.byte_in_row(rows, byte);
+        match step {
+            ScanStep::More => row_step(row),
+            ScanStep::Fault(fault) => fault_at(fault, at),
+            ScanStep::Marker(code) => {
+                self.reading.scan = None;
+                let came = self.reading.items.marker(code, at);
+                self.later_item(came)
+            }
+        }
+    }
+
+    /// Takes plain bytes inside the data of the scan, and answers how many.
+    pub fn row_run(&mut self, rows: &mut RowWork, run: &[u8]) -> (usize, StripStep)
+        requires stands { (bytes : List ℕ) × GoesByRow (limits_of self.old) bytes self.old rows.old }
+        requires limits { AreLimits (limits_of self.old) }
+        requires opened { IsOpenScan self.old.reading }
+        requires room { self.old.reading.taken + length run.now ≤ (limits_of self.old).input }
+        requires some { 1 ≤ length run.now }
+        requires few { length run.now < 4294967296 }
+        requires plain { ArePlain run.now }
+        ensures after { TakesRunOfRows self.old rows.old run.now result.0 result.1 self.new rows.new }
+        ensures stops { StopsRun self.old rows.old run.now result.0 result.1 }
+        ensures rows { CountsRows result.1 rows.old rows.new }
+        ensures memory { NotWanting result.1 }
+        ensures same { self.new.reading.items ≡ self.old.reading.items }
+        ensures head { self.new.head ≡ self.old.head }
+    {
+        let Some(scan) = &mut self.reading.scan else {
+            unreachable!();
+        };
+        let (n, step, row) = scan.run_in_row(rows, run);
+        let at = self.reading.taken + n as u64;
+        self.reading.taken = at;
+        match step {
+            ScanStep::More => (n, row_step(row)),
+            ScanStep::Fault(fault) => (n, fault_at(fault, at)),
+            ScanStep::Marker(_) => unreachable!(),
+        }
+    }
+}
+
+impl FileWork {
+    /// Takes some of these bytes, and answers how many these were and the result of the last one.
+    pub fn row_some(&mut self, rows: &mut RowWork, bytes: &[u8]) -> (usize, StripStep)
+        requires stands { (front : List ℕ) × GoesByRow (limits_of self.old) front self.old rows.old }
+        requires limits { AreLimits (limits_of self.old) }
+        requires room { self.old.reading.taken < (limits_of self.old).input }
+        requires some { 1 ≤ length bytes.now }
+        ensures after { TakesRunOfRows self.old rows.old bytes.now result.0 result.1 self.new rows.new }
+        ensures stops { StopsRun self.old rows.old bytes.now result.0 result.1 }
+        ensures rows { CountsRows result.1 rows.old rows.new }
+        ensures memory { IsSparing self.old.reading → NotWanting result.1 }
+        ensures sparing { IsSparing self.old.reading → IsSparing self.new.reading }
+        ensures head { self.new.head ≡ self.old.head }
+        ensures keeping { keeping_of self.new ≡ keeping_of self.old }
+    {
+        if self.reading.is_open() {
+            let most = self.reading.items.limits.input - self.reading.taken;
+            let n = plain_length(bytes, most);
+            if n > 0 {
+                return self.row_run(rows, &bytes[..n]);
+            }
+        }
+        if self.reading.scan.is_some() {
+            (1, self.row_byte(rows, bytes[0]))
+        } else {
+            (1, self.later_byte(bytes[0]))
+        }
+    }
+}
+
+impl FileWork {
+    /// Takes a byte after the scan.
+    pub fn later_byte(&mut self, byte: u8) -> StripStep
+        requires stands { (bytes : List ℕ) × (rows : Row) × GoesByRow (limits_of self.old) bytes self.old rows }
+        requires none { is_some self.old.reading.scan ≡ false }
+        requires limits { AreLimits (limits_of self.old) }
+        requires room { self.old.reading.taken < (limits_of self.old).input }
+        ensures after { TakesLaterByte self.old byte result self.new }
+        ensures no { IsNoRow result }
+        ensures memory { IsSparing self.old.reading → NotWanting result }
+        ensures sparing { IsSparing self.old.reading → IsSparing self.new.reading }
+        ensures head { self.new.head ≡ self.old.head }
+        ensures keeping { keeping_of self.new ≡ keeping_of self.old }
+    {
+        let came = self.reading.item_byte(byte);
+        self.later_item(came)
+    }
+
+    // The result of an item after the scan.
+    fn later_item(&self, came: ItemStep) -> StripStep
+        requires { came ≡ ItemStep.Head → HasLaterHead self.now }
+        ensures after { PassesItem self.now came result }
+        ensures memory { (came ≡ ItemStep.NoMemory → ⊥) → NotWanting result }
+        ensures no { IsNoRow result }
+    {
+        match came {
+            ItemStep::More => StripStep::More,
+            ItemStep::Head => self.later_head(),
+            ItemStep::Eoi => end_step(self.take_end()),
+            ItemStep::Fault(fault) => StripStep::Ended(Stop::Fault(fault)),
+            ItemStep::NoMemory => StripStep::Ended(Stop::NoMemory),
+        }
+    }
+
+    // The fault of a scan header after a scan of all components.
+    fn later_head(&self) -> StripStep
+        requires { HasLaterHead self.now }
+        ensures after { PassesLaterHead self.now result }
+        ensures memory { NotWanting result }
+        ensures no { IsNoRow result }
+    {
+        let Some(frame) = &self.reading.items.held.frame else {
+            unreachable!();
+        };
+        match judge_head(
+            self.reading.items.segments.contents(),
+            frame,
+            &self.reading.items.held,
+            &self.begun,
+        ) {
+            Err(fault) => fault_at(fault, self.reading.taken),
+            Ok(_) => unreachable!(),
+        }
+    }
+}
+
+/// The result of a byte of a file that isn't read by MCU rows.
+pub fn end_step(answer: Result<bool, Stop>) -> StripStep
+    ensures is { result ≡ end_step answer }
+    ensures no { IsNoRow result }
+    ensures memory { (answer ≡ Err stop.NoMemory → ⊥) → NotWanting result }
+{
+    match answer {
+        Ok(false) => StripStep::More,
+        Ok(true) => StripStep::Whole,
+        Err(stop) => StripStep::Ended(stop),
+    }
+}
+
+impl FileWork {
+    /// The frame and the complete scan header, if it is of a sequential scan of all components and breaks no rule.
+    pub fn head_of_all(&self) -> Option<(Frame, ScanHead)>
+        ensures head { FindsHead self.now result }
+        ensures none { FindsNone self.now result }
+    {
+        let Some(frame) = &self.reading.items.held.frame else {
+            return None;
+        };
+        let Ok(head) = judge_head(
+            self.reading.items.segments.contents(),
+            frame,
+            &self.reading.items.held,
+            &self.begun,
+        ) else {
+            return None;
+        };
+        if is_progressive(frame) || head.parts.len() != frame.count() as usize {
+            return None;
+        }
+        Some((frame.copy(), head))
+    }
+
+    /// Begins a scan with such a header, with its first MCU row, and with room for each segment after it.
+    pub fn begin_rows(&mut self, frame: &Frame, head: &ScanHead) -> Result<RowWork, Stop>
+        requires of { HasHeadOfAll self.old frame.now head.now }
+        requires first { self.old.head ≡ None }
+        ensures after { BeginsRows self.old frame.now head.now result self.new }
+        ensures told { IfOk result (λ rows. BeginsTold self.old frame.now head.now self.new) }
+        ensures count { IfOk result (λ rows. unfinished rows ≡ scan_mcus_down frame.now (head_components head.now)) }
+        ensures all { IfOk result (λ rows. CountsRowsOfScan (Some rows) self.new) }
+        ensures sparing { IfOk result (λ rows. keeping_of self.old ≡ copying.None → IsSparing self.new.reading) }
+        ensures head { IfErr result (λ stop. self.new.head ≡ self.old.head) }
+        ensures keeping { keeping_of self.new ≡ keeping_of self.old }
+    {
+        frame.checked();
+        let Ok(rows) = RowWork::new(self.alloc, frame, head) else {
+            return Err(Stop::NoMemory);
+        };
+        match self.reading.begin_head(&mut self.begun) {
+            ItemStep::More => {
+                if self.reading.items.segments.reserve().is_err() {
+                    return Err(Stop::NoMemory);
+                }
+                self.note_head();
+                Ok(rows)
+            }
+            ItemStep::Fault(fault) => Err(Stop::Fault(fault)),
+            ItemStep::Head => unreachable!(),
+            ItemStep::Eoi => unreachable!(),
+            ItemStep::NoMemory => unreachable!(),
+        }
+    }
+}

@@ -1,7 +1,0 @@
-use Rattle.std.proofs.Common.{refl}
-use Rattle.jpg_spec.specs.Bits.{bits_of}
-use Rattle.jpg_huff.proofs.out.Held.none.Goals as goal
-
-pub returns : goal.returns
-unfolding bits_of
-returns c = refl

@@ -1,0 +1,7 @@
+use Rattle.std.proofs.Common.{refl}
+use Rattle.jpg_spec.specs.Bits.{bits_of}
+use Rattle.jpg_huff.proofs.out.PendingBits.none.Goals as goal
+
+pub returns : goal.returns
+unfolding bits_of
+returns c = refl

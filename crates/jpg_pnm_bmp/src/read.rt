@@ -1,0 +1,9 @@
+//! Images read piece by piece.
+
+pub mod bmp;
+pub mod body;
+pub mod make;
+pub mod numbers;
+pub mod piece;
+pub mod pixels;
+pub mod work;

@@ -1,0 +1,181 @@
+//! The samples of an image, from those of its file (release 6b's image files).
+ghost use Rattle.std.specs.Prelude.{◌≡◌, ◌<◌, ◌≤◌, ◌+◌, ◌*◌, ◌-◌, ◌++◌, [], ℕ, List, length, map, flat_map, take, drop, OnOk, IfSome};
+ghost use Rattle.jpg_spec_image.specs.ImageText.{turned_round};
+ghost use Rattle.jpg_spec_image.specs.PnmText.{scaled_sample};
+ghost use Rattle.jpg_spec_image.specs.BmpFile.{colour, colours, bmp_line, bmp_body_samples};
+ghost use Rattle.jpg_spec_image.specs.ImageFaults.{image_of};
+ghost use Rattle.jpg_pnm_bmp.specs.Made.{AreBytes, Makes};
+ghost use Rattle.jpg_pnm_bmp.specs.Reader.{pnm_head, bmp_head, image_told};
+
+use crate::read::bmp::{bmp_height, bmp_info, is_indexed, line, used};
+use crate::read::numbers::{Numbers, pnm_info};
+use crate::read::work::{Stage, Work};
+use jpg_base::{Bytes, NoMemory};
+use jpg_spec_image::ImageInfo;
+use std::mem;
+
+// A sample from 0 to the greatest one as 0 to 255.
+fn scaled(most: u8, sample: u8) -> u8
+    requires { 1 ≤ most }
+    ensures { scaled_sample most sample < 256 → result ≡ scaled_sample most sample }
+{
+    let most = u32::from(most);
+    ((255 * u32::from(sample) + most / 2) / most).min(255) as u8
+}
+
+// Appends samples, scaled.
+fn add_scaled(samples: &[u8], most: u8, made: &mut Bytes) -> Result<(), NoMemory>
+    requires { 1 ≤ most }
+    ensures { OnOk result (AreBytes (map (scaled_sample most) samples.now) → made.new ≡ made.old ++ map (scaled_sample most) samples.now) }
+{
+    for sample in samples {
+        match made.push_all(&[scaled(most, *sample)]) {
+            Ok(()) => {}
+            Err(fault) => return Err(fault),
+        }
+    }
+    Ok(())
+}
+
+// Appends a row with red and blue of each pixel exchanged.
+fn add_turned(row: &[u8], made: &mut Bytes) -> Result<(), NoMemory>
+    ensures { OnOk result (made.new ≡ made.old ++ turned_round row.now) }
+{
+    let mut at: usize = 0;
+    while row.len() - at >= 3 {
+        match made.push_all(&[row[at + 2], row[at + 1], row[at]]) {
+            Ok(()) => {}
+            Err(fault) => return Err(fault),
+        }
+        at += 3;
+    }
+    match made.push_all(&row[at..]) {
+        Ok(()) => Ok(()),
+        Err(fault) => Err(fault),
+    }
+}
+
+// Appends a row by a palette. The indexes of an image that was read are within it; NoMemory is answered if one isn't.
+fn add_coloured(row: &[u8], palette: &[u8], made: &mut Bytes) -> Result<(), NoMemory>
+    ensures { OnOk result (made.new ≡ made.old ++ flat_map (colour palette.now) row.now) }
+{
+    for index in row {
+        let at = 4 * usize::from(*index);
+        if at + 2 >= palette.len() {
+            return Err(NoMemory);
+        }
+        match made.push_all(&[palette[at + 2], palette[at + 1], palette[at]]) {
+            Ok(()) => {}
+            Err(fault) => return Err(fault),
+        }
+    }
+    Ok(())
+}
+
+// Appends a row of a BMP as red, green and blue.
+fn add_row(head: &[u8], palette: &[u8], row: &[u8], made: &mut Bytes) -> Result<(), NoMemory>
+    requires { 54 ≤ length head.now }
+    ensures { OnOk result (made.new ≡ made.old ++ colours head.now palette.now row.now) }
+{
+    if is_indexed(head) {
+        return add_coloured(row, palette, made);
+    }
+    add_turned(row, made)
+}
+
+// Row y from the top, if the bytes have it: those of a complete image do, and its sides are no more than 65500.
+fn bmp_line<'a>(head: &[u8], body: &'a [u8], y: u32) -> Option<&'a [u8]>
+    requires { 54 ≤ length head.now }
+    ensures { IfSome result (λ row. row.now ≡ bmp_line head.now body.now y) }
+{
+    let rows = u64::from(bmp_height(head));
+    if rows > 65500 {
+        return None;
+    }
+    let start = line(head) * rows.saturating_sub(1).saturating_sub(u64::from(y));
+    let end = start + used(head);
+    if end > body.len() as u64 {
+        return None;
+    }
+    Some(&body[start as usize..end as usize])
+}
+
+// Appends the rows of a BMP from the top, which are its lines in reverse order.
+fn add_rows(head: &[u8], palette: &[u8], body: &[u8], made: &mut Bytes) -> Result<(), NoMemory>
+    requires { 54 ≤ length head.now }
+    ensures { OnOk result (made.new ≡ made.old ++ bmp_body_samples head.now palette.now body.now) }
+{
+    let mut y: u32 = 0;
+    while y < bmp_height(head) {
+        match bmp_line(head, body, y) {
+            Some(row) => match add_row(head, palette, row, made) {
+                Ok(()) => {}
+                Err(fault) => return Err(fault),
+            },
+            None => return Err(NoMemory),
+        }
+        y += 1;
+    }
+    Ok(())
+}
+
+// Appends the samples of a PNM image. The greatest one of such an image isn't 0.
+fn add_samples(samples: &[u8], most: u8, made: &mut Bytes) -> Result<(), NoMemory>
+    ensures { OnOk result (AreBytes (map (scaled_sample most) samples.now) → made.new ≡ made.old ++ map (scaled_sample most) samples.now) }
+{
+    if most == 0 {
+        return Err(NoMemory);
+    }
+    add_scaled(samples, most, made)
+}
+
+// Where the greatest sample is 255 the samples are those of the file, and are moved instead of copied.
+fn make_pnm(work: &mut Work, made: &mut Bytes) -> Result<ImageInfo, NoMemory>
+    requires { made.old ≡ [] }
+    ensures { Makes (image_of (pnm_head work.old) work.old.samples) result made.new }
+{
+    match work.numbers {
+        Numbers::All(width, height, most) => {
+            let info = pnm_info(work.format, width, height);
+            if most == 255 {
+                mem::swap(&mut work.samples, made);
+                return Ok(info);
+            }
+            match add_samples(work.samples.as_slice(), most, made) {
+                Ok(()) => Ok(info),
+                Err(fault) => Err(fault),
+            }
+        }
+        Numbers::Nothing => Err(NoMemory),
+        Numbers::Width(_) => Err(NoMemory),
+        Numbers::Sides(_, _) => Err(NoMemory),
+    }
+}
+
+fn make_bmp(work: &Work, made: &mut Bytes) -> Result<ImageInfo, NoMemory>
+    requires { made.old ≡ [] }
+    ensures { Makes (image_of (bmp_head work.now) work.now.samples) result made.new }
+{
+    let head = work.head.as_slice();
+    if head.len() < 54 {
+        return Err(NoMemory);
+    }
+    let info = bmp_info(head);
+    match add_rows(head, work.palette.as_slice(), work.samples.as_slice(), made) {
+        Ok(()) => Ok(info),
+        Err(fault) => Err(fault),
+    }
+}
+
+// Makes the image whose last sample is known, and answers its sides and kind. A state that isn't that of a body, or has
+// no numbers or too few bytes, isn't one of such an image: the answer is NoMemory then.
+pub(crate) fn make_image(work: &mut Work, made: &mut Bytes) -> Result<ImageInfo, NoMemory>
+    ensures { Makes (image_told work.old) result made.new }
+{
+    made.clear();
+    match work.stage {
+        Stage::PnmBody => make_pnm(work, made),
+        Stage::BmpBody => make_bmp(work, made),
+        _ => Err(NoMemory),
+    }
+}

@@ -1,0 +1,171 @@
+//! The numbers of a PNM text that are known so far, and what is wrong with a further one.
+ghost use Rattle.std.specs.Prelude.{◌≡◌, ◌≤◌, ◌-◌, ◌++◌, ◌∷◌, ◌||◌, [], ℕ, List, length, codes, if◌then◌else◌};
+ghost use Rattle.jpg_spec.specs.Lists.{is_among};
+ghost use Rattle.jpg_spec.specs.NumberTexts.{is_digit};
+ghost use Rattle.jpg_spec_image.specs.Images.{is_side, sample_count, are_few_pixels};
+ghost use Rattle.jpg_spec_image.specs.PnmText.{is_plain, is_read, is_left_out, is_pnm_space, begins_gap, pnm_info, is_number_due, number_fault};
+ghost use Rattle.jpg_pnm_bmp.specs.Known.{list_of};
+
+use jpg_spec::Fault;
+use jpg_spec_image::{ImageInfo, ImageKind};
+
+// None, the width, both sides, or also the greatest sample.
+#[derive(Clone, Copy, Debug, PartialEq, Eq)]
+pub enum Numbers {
+    Nothing,
+    Width(u16),
+    Sides(u16, u16),
+    All(u16, u16, u8),
+}
+
+pub(crate) fn is_plain(format: u8) -> bool
+    ensures { result ≡ is_plain format }
+{
+    50 == format || 51 == format
+}
+
+pub(crate) fn is_read(format: u8) -> bool
+    ensures { result ≡ is_read format }
+{
+    is_plain(format) || (53 == format || 54 == format)
+}
+
+pub(crate) fn is_left_out(format: u8) -> bool
+    ensures { result ≡ is_left_out format }
+{
+    49 == format || (52 == format || 55 == format)
+}
+
+pub(crate) fn is_gray(format: u8) -> bool
+    ensures { result ≡ is_among format (codes "25") }
+{
+    50 == format || 53 == format
+}
+
+pub(crate) fn is_space(byte: u8) -> bool
+    ensures { result ≡ is_pnm_space byte }
+{
+    32 == byte || (9 == byte || (10 == byte || 13 == byte))
+}
+
+pub(crate) fn begins_gap(byte: u8) -> bool
+    ensures { result ≡ begins_gap byte }
+{
+    is_space(byte) || byte == 35
+}
+
+pub(crate) fn is_digit(byte: u8) -> bool
+    ensures { result ≡ is_digit byte }
+{
+    48 <= byte && byte <= 57
+}
+
+fn is_side(n: u32) -> bool
+    ensures { result ≡ is_side n }
+{
+    1 <= n && n <= 65500
+}
+
+fn are_few_pixels(width: u16, height: u32) -> bool
+    ensures { result ≡ are_few_pixels width height }
+{
+    u64::from(width) * u64::from(height) <= 268_435_456
+}
+
+// How many samples an image of these sides has.
+pub(crate) fn sample_count(format: u8, width: u16, height: u16) -> u64
+    ensures count { (rest : List ℕ) → result ≡ sample_count (pnm_info format (width ∷ height ∷ rest)) }
+    ensures most { result ≤ 12884901888 }
+{
+    let row = if is_gray(format) {
+        u64::from(width)
+    } else {
+        3 * u64::from(width)
+    };
+    u64::from(height) * row
+}
+
+// What is wrong with a number that follows those that are known, and any samples.
+pub(crate) fn number_fault(numbers: Numbers, n: u32) -> Option<Fault>
+    ensures { (samples : List ℕ) → result ≡ number_fault (list_of numbers samples) n }
+{
+    match numbers {
+        Numbers::Nothing => {
+            if is_side(n) {
+                return None;
+            }
+            Some(Fault::ImageHeader)
+        }
+        Numbers::Width(width) => {
+            if is_side(n) && are_few_pixels(width, n) {
+                return None;
+            }
+            Some(Fault::ImageHeader)
+        }
+        Numbers::Sides(_, _) => {
+            if n == 0 {
+                return Some(Fault::ImageHeader);
+            }
+            if 255 < n {
+                return Some(Fault::ImageUnsupported);
+            }
+            None
+        }
+        Numbers::All(_, _, most) => {
+            if u32::from(most) < n {
+                return Some(Fault::ImageValue);
+            }
+            None
+        }
+    }
+}
+
+fn one_less(count: u64) -> u64
+    ensures { result ≡ count - 1 }
+{
+    count.saturating_sub(1)
+}
+
+// Whether a number is expected after these, `samples` samples among them, and one more.
+pub(crate) fn is_due_after(format: u8, numbers: Numbers, samples: u64) -> bool
+    ensures { (list : List ℕ) (n : ℕ) → length list ≡ samples → result ≡ is_number_due format (list_of numbers list ++ n ∷ []) }
+{
+    match numbers {
+        Numbers::Nothing => true,
+        Numbers::Width(_) => true,
+        Numbers::Sides(width, height) => {
+            is_plain(format) && 0 < sample_count(format, width, height)
+        }
+        Numbers::All(width, height, _) => {
+            is_plain(format) && samples < one_less(sample_count(format, width, height))
+        }
+    }
+}
+
+// Whether a byte may follow a number, where a further one is expected or not.
+pub(crate) fn may_follow(format: u8, due: bool, byte: u8) -> bool
+    ensures { result ≡ (if due then begins_gap byte else is_plain format || is_pnm_space byte) }
+{
+    if due {
+        begins_gap(byte)
+    } else {
+        is_plain(format) || is_space(byte)
+    }
+}
+
+pub(crate) fn pnm_info(format: u8, width: u16, height: u16) -> ImageInfo
+    ensures { (rest : List ℕ) → result ≡ pnm_info format (width ∷ height ∷ rest) }
+{
+    let kind = if is_gray(format) {
+        ImageKind::Gray
+    } else {
+        ImageKind::Rgb
+    };
+    ImageInfo {
+        width: u32::from(width),
+        height: u32::from(height),
+        kind,
+        x_metre: 0,
+        y_metre: 0,
+    }
+}

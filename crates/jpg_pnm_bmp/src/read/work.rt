@@ -1,0 +1,389 @@
+//! The state of an image file that is read.
+ghost use Rattle.std.specs.Prelude.{◌≡◌, ◌<◌, ◌≤◌, ◌++◌, ◌∷◌, [], ℕ, List, length, take, true, false, None, Ok, OnOk};
+ghost use Rattle.jpg_spec_image.specs.PnmText.{is_number_due, number_fault};
+ghost use Rattle.jpg_spec_image.specs.ImageFaults.{ImageHead, body_of};
+ghost use Rattle.jpg_spec_image.specs.ImageSteps.{at_start, in_body, first_byte, second_byte, gap_byte, number_byte, after_number, head_so_far, bmp_front, front_byte, state_end, ended_by, plain_image, run};
+ghost use Rattle.jpg_pnm_bmp.specs.Known.{list_of};
+ghost use Rattle.jpg_pnm_bmp.specs.Reader.{standing, numbers_list, IsReached, KeepsStage, Reaches, AddsNumber, CanStretch, HoldsBodyPart, StretchesBy, EndsAs, number_ended_at};
+ghost use Rattle.jpg_pnm_bmp.specs.Shapes.{body_told};
+
+use crate::read::bmp::{bmp_offset, bmp_shape, head_fault, palette_bytes};
+use crate::read::body::{Shape, part_long, pnm_shape, wrong_in};
+use crate::read::numbers::{
+    Numbers, begins_gap, is_digit, is_due_after, is_left_out, is_plain, is_read, may_follow,
+    number_fault,
+};
+use jpg_base::{Bytes, NoMemory};
+use jpg_spec::Fault;
+use std::alloc::Global;
+
+// The state after the bytes so far: see ImageState of the definitions.
+#[derive(Clone, Copy, Debug, PartialEq, Eq)]
+pub enum Stage {
+    Start,
+    First(u8),
+    Gap { some: bool, commented: bool },
+    Number(u32),
+    BmpHead,
+    BmpFront(u32),
+    PnmBody,
+    BmpBody,
+}
+
+// The result of a byte, or of some bytes.
+#[derive(Clone, Copy, Debug, PartialEq, Eq)]
+pub enum Answer {
+    More,
+    Whole,
+    Fault(Fault),
+    NoMemory,
+}
+
+// How many bytes were taken, and their result.
+#[derive(Clone, Copy, Debug, PartialEq, Eq)]
+pub struct Moved {
+    pub used: usize,
+    pub answer: Answer,
+}
+
+#[derive(Drop)]
+pub struct Work {
+    pub stage: Stage,
+    pub format: u8,
+    pub numbers: Numbers,
+    pub head: Bytes,
+    pub palette: Bytes,
+    pub samples: Bytes,
+}
+
+fn one_byte(answer: Answer) -> Moved
+    ensures { result ≡ record { used = 1; answer = answer } }
+{
+    Moved { used: 1, answer }
+}
+
+// A sample that isn't above the greatest one, as a byte.
+fn sample_byte(n: u32, most: u8) -> u8
+    requires { n ≤ most }
+    ensures { result ≡ n }
+{
+    n.min(u32::from(most)) as u8
+}
+
+impl Work {
+    pub fn new(alloc: Global) -> Work
+        ensures { standing result ≡ at_start }
+    {
+        Work {
+            stage: Stage::Start,
+            format: 0,
+            numbers: Numbers::Nothing,
+            head: Bytes::new(alloc),
+            palette: Bytes::new(alloc),
+            samples: Bytes::new(alloc),
+        }
+    }
+
+    fn first_byte(&mut self, byte: u8) -> Answer
+        ensures { Reaches (first_byte byte) result self.new }
+    {
+        if byte == 80 || byte == 66 {
+            self.stage = Stage::First(byte);
+            return Answer::More;
+        }
+        Answer::Fault(Fault::ImageText)
+    }
+
+    fn second_byte(&mut self, first: u8, byte: u8) -> Answer
+        ensures { Reaches (second_byte first byte) result self.new }
+    {
+        if first == 66 {
+            return self.bmp_begun(byte);
+        }
+        if is_read(byte) {
+            self.stage = Stage::Gap {
+                some: false,
+                commented: false,
+            };
+            self.format = byte;
+            self.numbers = Numbers::Nothing;
+            return Answer::More;
+        }
+        if is_left_out(byte) {
+            return Answer::Fault(Fault::ImageUnsupported);
+        }
+        Answer::Fault(Fault::ImageText)
+    }
+
+    fn bmp_begun(&mut self, byte: u8) -> Answer
+        ensures { Reaches (second_byte 66 byte) result self.new }
+    {
+        if byte == 77 {
+            self.head.clear();
+            if self.head.push_all(&[66, 77]).is_err() {
+                return Answer::NoMemory;
+            }
+            self.stage = Stage::BmpHead;
+            return Answer::More;
+        }
+        Answer::Fault(Fault::ImageText)
+    }
+
+    fn gap_byte(&mut self, some: bool, commented: bool, byte: u8) -> Answer
+        ensures { Reaches (gap_byte self.old.format (numbers_list self.old) some commented byte) result self.new }
+    {
+        if commented || begins_gap(byte) {
+            let commented = if commented { byte != 10 } else { byte == 35 };
+            self.stage = Stage::Gap {
+                some: true,
+                commented,
+            };
+            return Answer::More;
+        }
+        if some && is_digit(byte) {
+            self.stage = Stage::Number(u32::from(byte - 48));
+            return Answer::More;
+        }
+        Answer::Fault(Fault::ImageText)
+    }
+
+    fn number_byte(&mut self, n: u32, byte: u8) -> Answer
+        ensures { is_number_due self.old.format (numbers_list self.old) ≡ true → Reaches (number_byte self.old.format (numbers_list self.old) n byte) result self.new }
+    {
+        if is_digit(byte) {
+            self.stage = Stage::Number((10 * n.min(100_000) + u32::from(byte - 48)).min(100_000));
+            return Answer::More;
+        }
+        let samples = self.samples.as_slice().len() as u64;
+        let due = is_due_after(self.format, self.numbers, samples);
+        if !may_follow(self.format, due, byte) {
+            return Answer::Fault(Fault::ImageText);
+        }
+        match number_fault(self.numbers, n) {
+            Some(fault) => Answer::Fault(fault),
+            None => self.number_ended(n, due, byte),
+        }
+    }
+
+    // A number has ended; `due` is whether a further one is expected.
+    fn number_ended(&mut self, n: u32, due: bool, byte: u8) -> Answer
+        requires right { number_fault (numbers_list self.old) n ≡ None }
+        requires due { due ≡ is_number_due self.old.format (numbers_list self.old ++ n ∷ []) }
+        ensures { is_number_due self.old.format (numbers_list self.old) ≡ true → Reaches (after_number self.old.format (numbers_list self.old ++ n ∷ []) byte) result self.new }
+    {
+        match self.add_number(n) {
+            Ok(()) => {}
+            Err(_) => return Answer::NoMemory,
+        }
+        if due {
+            self.stage = Stage::Gap {
+                some: true,
+                commented: byte == 35,
+            };
+            return Answer::More;
+        }
+        self.stage = Stage::PnmBody;
+        if is_plain(self.format) {
+            return Answer::Whole;
+        }
+        Answer::More
+    }
+
+    fn add_number(&mut self, n: u32) -> Result<(), NoMemory>
+        requires { number_fault (numbers_list self.old) n ≡ None }
+        ensures added { OnOk result (numbers_list self.new ≡ numbers_list self.old ++ n ∷ []) }
+        ensures kept { KeepsStage self.old self.new }
+        ensures all { AddsNumber self.old.numbers self.new }
+    {
+        match self.numbers {
+            Numbers::Nothing => self.numbers = Numbers::Width(n.min(65535) as u16),
+            Numbers::Width(width) => self.numbers = Numbers::Sides(width, n.min(65535) as u16),
+            Numbers::Sides(width, height) => {
+                self.numbers = Numbers::All(width, height, n.min(255) as u8);
+                self.samples.clear();
+            }
+            Numbers::All(_, _, most) => {
+                return self.samples.push_all(&[sample_byte(n, most)]);
+            }
+        }
+        Ok(())
+    }
+
+    fn head_byte(&mut self, byte: u8) -> Answer
+        ensures { Reaches (head_so_far (self.old.head ++ byte ∷ [])) result self.new }
+    {
+        match self.head.push_all(&[byte]) {
+            Ok(()) => self.head_grown(),
+            Err(_) => Answer::NoMemory,
+        }
+    }
+
+    fn head_grown(&mut self) -> Answer
+        ensures { Reaches (head_so_far self.old.head) result self.new }
+    {
+        if self.head.as_slice().len() < 54 {
+            self.stage = Stage::BmpHead;
+            return Answer::More;
+        }
+        match head_fault(self.head.as_slice()) {
+            Some(fault) => Answer::Fault(fault),
+            None => {
+                self.palette.clear();
+                self.front_so_far(0)
+            }
+        }
+    }
+
+    fn front_so_far(&mut self, passed: u32) -> Answer
+        requires { 54 ≤ length self.old.head }
+        ensures { Reaches (bmp_front self.old.head self.old.palette passed) result self.new }
+    {
+        if 54 + u64::from(passed) < u64::from(bmp_offset(self.head.as_slice())) {
+            self.stage = Stage::BmpFront(passed);
+            return Answer::More;
+        }
+        self.samples.clear();
+        self.stage = Stage::BmpBody;
+        Answer::More
+    }
+
+    fn front_byte(&mut self, passed: u32, byte: u8) -> Answer
+        requires { 54 ≤ length self.old.head }
+        ensures { Reaches (front_byte self.old.head self.old.palette passed byte) result self.new }
+    {
+        if passed == 4_294_967_295 {
+            return Answer::NoMemory;
+        }
+        if u64::from(passed) < palette_bytes(self.head.as_slice()) {
+            if self.palette.push_all(&[byte]).is_err() {
+                return Answer::NoMemory;
+            }
+        }
+        self.front_so_far(passed + 1)
+    }
+
+    fn held(&self) -> u64
+        ensures { result ≡ length self.now.samples }
+    {
+        self.samples.as_slice().len() as u64
+    }
+
+    // Keeps a part of a body too, and answers whether it is complete then.
+    fn hold(&mut self, count: u64, part: &[u8]) -> Answer
+        ensures { HoldsBodyPart self.old part.now count result self.new }
+    {
+        match self.samples.push_all(part) {
+            Ok(()) => {
+                if self.held() < count {
+                    return Answer::More;
+                }
+                Answer::Whole
+            }
+            Err(_) => Answer::NoMemory,
+        }
+    }
+
+    // Takes bytes of a body, up to the end of a line's samples, or of a line.
+    fn stretch(&mut self, shape: Shape, piece: &[u8]) -> Moved
+        requires { 1 ≤ length piece.now }
+        ensures some { 1 ≤ result.used }
+        ensures within { result.used ≤ length piece.now }
+        ensures led { (head : ImageHead) → body_told shape ≡ body_of head → CanStretch head self.old.samples → StretchesBy head self.old piece.now result self.new }
+    {
+        let at = self.held();
+        let long = part_long(shape, at, piece.len());
+        match wrong_in(shape, at, &piece[..long]) {
+            Some(wrong) => Moved {
+                used: wrong + 1,
+                answer: Answer::Fault(Fault::ImageValue),
+            },
+            None => {
+                let answer = self.hold(shape.count, &piece[..long]);
+                Moved { used: long, answer }
+            }
+        }
+    }
+
+    // Takes some of the bytes, at least one.
+    pub fn advance(&mut self, piece: &[u8]) -> Moved
+        requires { 1 ≤ length piece.now }
+        ensures some { 1 ≤ result.used }
+        ensures within { result.used ≤ length piece.now }
+        ensures led { IsReached (standing self.old) → Reaches (run (standing self.old) (take result.used piece.now)) result.answer self.new }
+    {
+        let byte = piece[0];
+        match self.stage {
+            Stage::Start => one_byte(self.first_byte(byte)),
+            Stage::First(first) => one_byte(self.second_byte(first, byte)),
+            Stage::Gap { some, commented } => one_byte(self.gap_byte(some, commented, byte)),
+            Stage::Number(n) => one_byte(self.number_byte(n, byte)),
+            Stage::BmpHead => one_byte(self.head_byte(byte)),
+            Stage::BmpFront(passed) => {
+                if self.head.as_slice().len() < 54 {
+                    return one_byte(Answer::NoMemory);
+                }
+                one_byte(self.front_byte(passed, byte))
+            }
+            Stage::PnmBody => {
+                let shape = pnm_shape(self.format, self.numbers);
+                self.stretch(shape, piece)
+            }
+            Stage::BmpBody => {
+                if self.head.as_slice().len() < 54 {
+                    return one_byte(Answer::NoMemory);
+                }
+                let shape = bmp_shape(self.head.as_slice());
+                self.stretch(shape, piece)
+            }
+        }
+    }
+
+    // The bytes end here: a number at their end is judged.
+    pub fn end(&mut self) -> Answer
+        ensures { IsReached (standing self.old) → EndsAs (state_end (standing self.old)) result self.new }
+    {
+        match self.stage {
+            Stage::Start => Answer::Fault(Fault::ImageShort),
+            Stage::First(_) => Answer::Fault(Fault::ImageShort),
+            Stage::Gap { .. } => Answer::Fault(Fault::ImageShort),
+            Stage::Number(n) => self.number_end(n),
+            Stage::BmpHead => Answer::Fault(Fault::ImageShort),
+            Stage::BmpFront(_) => Answer::Fault(Fault::ImageShort),
+            Stage::PnmBody => Answer::Fault(Fault::ImageShort),
+            Stage::BmpBody => Answer::Fault(Fault::ImageShort),
+        }
+    }
+
+    fn number_end(&mut self, n: u32) -> Answer
+        ensures { is_number_due self.old.format (numbers_list self.old) ≡ true → EndsAs (number_ended_at self.old n) result self.new }
+    {
+        match number_fault(self.numbers, n) {
+            Some(fault) => Answer::Fault(fault),
+            None => self.right_end(n),
+        }
+    }
+
+    fn right_end(&mut self, n: u32) -> Answer
+        requires right { number_fault (numbers_list self.old) n ≡ None }
+        ensures { EndsAs (ended_by self.old.format (numbers_list self.old) n None) result self.new }
+    {
+        let due = is_due_after(self.format, self.numbers, self.held());
+        if is_plain(self.format) && !due {
+            return self.last_end(n);
+        }
+        Answer::Fault(Fault::ImageShort)
+    }
+
+    fn last_end(&mut self, n: u32) -> Answer
+        requires right { number_fault (numbers_list self.old) n ≡ None }
+        requires last { is_number_due self.old.format (numbers_list self.old ++ n ∷ []) ≡ false }
+        ensures { EndsAs (Ok (plain_image self.old.format (numbers_list self.old ++ n ∷ []))) result self.new }
+    {
+        match self.add_number(n) {
+            Ok(()) => {}
+            Err(_) => return Answer::NoMemory,
+        }
+        self.stage = Stage::PnmBody;
+        Answer::Whole
+    }
+}

@@ -1,0 +1,8 @@
+//! Images written row by row.
+
+pub mod bmp;
+pub mod bmp_header;
+pub mod bmp_row;
+pub mod end;
+pub mod pnm;
+pub mod short;

@@ -1,0 +1,119 @@
+-- Values that ten bits determine at once.
+use Rattle.std.proofs.Common.{◌≡◌, ◌⊎◌, ℕ, ◌+◌, ◌-◌, ◌*◌, ◌/◌, ◌%◌, ◌<◌, ◌≤◌, Bool, List, [], ◌∷◌, ◌++◌, length, take, drop, get_or, set, sym, ap, ◌∙◌, subst, arith, ⊎_elim, inl, inr}
+use Rattle.std.specs.Prelude.{◌==◌}
+use Rattle.std.specs.List.{Contains}
+use Rattle.std.proofs.lemmas.Bool.{cases_lt}
+use Rattle.std.proofs.lemmas.Grind.{elements}
+use Rattle.std.proofs.lemmas.List.{append_assoc, append-nil, drop-take, length-append, length-take-le, take-append-drop, take-take, take_all}
+use Rattle.jpg_spec.specs.Bits.{bits_of}
+use Rattle.jpg_spec.specs.Codes.{Code}
+use Rattle.jpg_spec.specs.Parts.{IsFront}
+use Rattle.jpg_spec.proofs.Strings.{bits_of-split, length-bits_of}
+use Rattle.jpg_huff.specs.Laws.{AreApart}
+use Rattle.jpg_huff.specs.Walk.{BeginsNoCode}
+use Rattle.jpg_seq.specs.Values.{StandsToldFirst, TellsNone, TellsOrNone, told_none}
+use Rattle.jpg_seq.specs.declared.values.ShortValue.{ShortValue}
+
+-- the bits of a number below 1024, and those of its parts
+pub ten_split : (ten : ℕ) (store first second third : List Bool) → store ≡ [] → first ≡ store ++ bits_of 8 (ten / 4) → second ≡ first ++ (ten / 2 % 2 == 1) ∷ [] → third ≡ second ++ (ten % 2 == 1) ∷ [] → third ≡ bits_of 10 ten
+ten_split ten store first second third none a b c =
+    let half : ten / 2 / 2 ≡ ten / 4 = omega arith in
+    c ∙ ap (λ l. l ++ (ten % 2 == 1) ∷ []) (b ∙ ap (λ l. l ++ (ten / 2 % 2 == 1) ∷ []) (a ∙ ap (λ l. l ++ bits_of 8 (ten / 4)) none ∙ ap (bits_of 8) (sym half)) ∙ sym (bits_of-split 8 (ten / 2)))
+    ∙ sym (bits_of-split 9 ten)
+
+-- a further entry
+pub told_more : (codes : List Code) (told : List ShortValue) (i : ℕ) (t : ShortValue) → i < length told → ((n : ℕ) → n < i → TellsOrNone codes (bits_of 10 n) (get_or told n told_none)) → TellsOrNone codes (bits_of 10 i) t
+    → (n : ℕ) → n < i + 1 → TellsOrNone codes (bits_of 10 n) (get_or (set told i t) n told_none)
+told_more codes told i t lt so_far here n h =
+    ⊎_elim
+    (λ (a : n < i). let e : get_or (set told i t) n told_none ≡ get_or told n told_none = grind (arith, elements) in subst (λ x. TellsOrNone codes (bits_of 10 n) x) (sym e) (so_far n a))
+    (λ (b : i ≤ n). (let e : i ≡ n = omega arith in
+    let w : get_or (set told i t) i told_none ≡ t = grind (arith, elements) in
+    let P : ℕ → Type 0 = λ m. TellsOrNone codes (bits_of 10 m) (get_or (set told i t) m told_none) in
+    subst P e (subst (λ x. TellsOrNone codes (bits_of 10 i) x) (sym w) here)))
+    (cases_lt n i)
+
+-- the first ten bits are enough to determine it
+same_ten : (codes : List Code) (a b : List Bool) (t : ShortValue) → take 10 a ≡ take 10 b → 10 ≤ length b → StandsToldFirst codes a t → StandsToldFirst codes b t
+same_ten codes a b t is long f =
+    let k = f.code in let size = f.size in
+    let few = f.few in
+    let C : List Bool → Type 0 = λ x. Contains codes (x, 16 * t.run + size) in
+    let low : k ≤ 10 = omega (arith, few) in
+    let front : take k a ≡ take k b = sym (take-take k 10 a low) ∙ ap (take k) is ∙ take-take k 10 b low in
+    let ten_is : k + (10 - k) ≡ 10 = omega (arith, few) in
+    let part = λ (x : List Bool).
+    ap (λ n. take size (drop k (take n x))) (sym ten_is) ∙ ap (take size) (drop-take k (10 - k) x) ∙ take-take size (10 - k) (drop k x) (omega (arith, few)) in
+    let behind : take size (drop k a) ≡ take size (drop k b) = sym (part a) ∙ ap (λ x. take size (drop k x)) is ∙ part b in
+    record {
+      code = k;
+      size = size;
+      some = f.some;
+      sized = f.sized;
+      sum = f.sum;
+      few = few;
+      there = omega (arith, few, long);
+      run = f.run;
+      in_codes = subst C front f.in_codes;
+      category = f.category;
+      extra = f.extra ∙ behind;
+    }
+
+first_ten : (bits : List Bool) (ten : ℕ) → bits_of 10 ten ≡ take 10 bits → take 10 (bits_of 10 ten) ≡ take 10 bits
+first_ten bits ten is = take_all 10 (bits_of 10 ten) (omega (arith, length-bits_of 10 ten)) ∙ is
+
+-- the first ten bits determine it, so all do
+pub told_first : (codes : List Code) (bits : List Bool) (ten : ℕ) (t : ShortValue) → 10 ≤ length bits → bits_of 10 ten ≡ take 10 bits → TellsOrNone codes (bits_of 10 ten) t → (t.length ≡ 0 → ⊥) → StandsToldFirst codes bits t
+told_first codes bits ten t long is (inl none) some = absurd (some none.0)
+told_first codes bits ten t long is (inr f) some = same_ten codes (bits_of 10 ten) bits t (first_ten bits ten is) long f
+
+-- they determine none
+pub told_not : (codes : List Code) (bits : List Bool) (ten : ℕ) (t : ShortValue) → bits_of 10 ten ≡ take 10 bits → TellsOrNone codes (bits_of 10 ten) t → t.length ≡ 0 → TellsNone codes bits
+told_not codes bits ten t is (inl none) e = λ u f. none.1 u (same_ten codes bits (bits_of 10 ten) u (sym (first_ten bits ten is)) (omega (arith, length-bits_of 10 ten)) f)
+told_not codes bits ten t is (inr f) e = absurd (omega (arith, f.sum, f.some, e))
+
+-- WHERE NONE COMES FIRST
+
+-- two codes that come first
+code_apart : (codes : List Code) → AreApart codes → (bits : List Bool) (k n s t : ℕ) → k ≤ length bits → n ≤ length bits → Contains codes (take k bits, s) → Contains codes (take n bits, t) → (k ≡ n) × (s ≡ t)
+code_apart codes apart bits k n s t a b h g =
+    let e = apart (take k bits, s) (take n bits, t) (drop k bits) (drop n bits) h g (take-append-drop k bits ∙ sym (take-append-drop n bits)) in
+    let l = ap (λ (c : Code). length c.0) e in
+    (omega (arith, l, length-take-le k bits a, length-take-le n bits b), ap (λ (c : Code). c.1) e)
+
+-- another code comes first, whose symbol gives no value that short
+pub none_symbol : (codes : List Code) (bits : List Bool) (n symbol : ℕ) → AreApart codes → n ≤ length bits → Contains codes (take n bits, symbol) → ((1 ≤ symbol % 16) × (n + symbol % 16 ≤ 10) → ⊥) → TellsNone codes bits
+none_symbol codes bits n symbol apart l h not = λ u f.
+    let e = code_apart codes apart bits f.code n (16 * u.run + f.size) symbol (omega (arith, f.there)) l f.in_codes h in
+    let m : (16 * u.run + f.size) % 16 ≡ f.size = omega (arith, f.few, f.some) in
+    let z : f.size ≡ symbol % 16 = sym m ∙ ap (λ q. q % 16) e.1 in
+    not (omega (arith, f.sized, z), omega (arith, f.few, e.0, z))
+
+-- the bits are a part of a code
+front_apart : (codes : List Code) (bits : List Bool) (k symbol : ℕ) → AreApart codes → IsFront codes bits → 1 ≤ k → k ≤ length bits → Contains codes (take k bits, symbol) → ⊥
+front_apart codes bits k symbol apart (inl nil) some low h = omega (arith, some, low, ap length nil)
+front_apart codes bits k symbol apart (inr b) some low h =
+    let more = b.1 ∷ b.2 in
+    let joined : take k bits ++ (drop k bits ++ more) ≡ b.0.0 ++ [] =
+    sym (append_assoc (take k bits) (drop k bits) more) ∙ ap (λ l. l ++ more) (take-append-drop k bits) ∙ sym b.4 ∙ sym (append-nil b.0.0) in
+    let l = ap (λ (c : Code). length c.0) (apart (take k bits, symbol) b.0 (drop k bits ++ more) [] h b.3 joined) in
+    omega (arith, l, ap length b.4, length-append bits more, length-take-le k bits low, low)
+
+pub none_part : (codes : List Code) (bits : List Bool) → AreApart codes → IsFront codes bits → TellsNone codes bits
+none_part codes bits apart front = λ u f. front_apart codes bits f.code (16 * u.run + f.size) apart front f.some (omega (arith, f.there)) f.in_codes
+
+-- they begin none with their nth bit
+pub none_begins : (codes : List Code) (bits : List Bool) (n : ℕ) → AreApart codes → 1 ≤ n → n ≤ length bits → IsFront codes (take (n - 1) bits) → BeginsNoCode codes (take n bits) → TellsNone codes bits
+none_begins codes bits n apart some low front none = λ u f.
+    let k = f.code in
+    let C : List Bool → Type 0 = λ x. Contains codes (x, 16 * u.run + f.size) in
+    ⊎_elim
+    (λ (a : k < n). (let le : k ≤ n - 1 = omega (arith, a) in
+    front_apart codes (take (n - 1) bits) k (16 * u.run + f.size) apart front f.some (omega (arith, le, low, length-take-le (n - 1) bits (omega (arith, low))))
+    (subst C (sym (take-take k (n - 1) bits le)) f.in_codes)))
+    (λ (b : n ≤ k). none (take k bits, 16 * u.run + f.size) (drop n (take k bits)) f.in_codes (sym (take-append-drop n (take k bits)) ∙ ap (λ x. x ++ drop n (take k bits)) (take-take n k bits b)))
+    (cases_lt k n)
+
+-- nothing is kept for bits that determine none
+pub kept_none : (codes : List Code) (bits ten : List Bool) (t : ShortValue) → bits ≡ ten → t.length ≡ 0 → TellsNone codes bits → TellsOrNone codes ten t
+kept_none codes bits ten t is zero none = inl (zero, subst (λ b. TellsNone codes b) is none)

@@ -1,9 +1,0 @@
-use Rattle.std.proofs.Common.{List, ℕ, ◌++◌, length, sym, subst}
-use Rattle.jpg_spec.specs.FirstFault.{Shows, IsFirstFault}
-use Rattle.jpg_spec.proofs.FileLaws.{next_shown}
-use Rattle.jpg_spec.proofs.file_meaning_laws.faults_behind_standing_bytes_are_first.Goals as goal
-
-pub returns : goal.returns
-returns c = λ limits bytes rest fault w.
-    subst (λ (l : List ℕ). IsFirstFault limits (l ++ rest) fault (length l)) (sym w.cut)
-    (next_shown limits w.front rest w.byte fault w.stands (subst (λ (l : List ℕ). Shows limits fault l) w.cut w.shown) w.within)

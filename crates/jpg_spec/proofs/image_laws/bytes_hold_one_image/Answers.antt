@@ -1,5 +1,0 @@
-use Rattle.jpg_spec.proofs.OneImage.{one_image}
-use Rattle.jpg_spec.proofs.image_laws.bytes_hold_one_image.Goals as goal
-
-pub returns : goal.returns
-returns c = one_image

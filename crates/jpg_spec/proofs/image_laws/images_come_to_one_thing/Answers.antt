@@ -1,5 +1,0 @@
-use Rattle.jpg_spec.proofs.OneImage.{comes_once}
-use Rattle.jpg_spec.proofs.image_laws.images_come_to_one_thing.Goals as goal
-
-pub returns : goal.returns
-returns c = comes_once

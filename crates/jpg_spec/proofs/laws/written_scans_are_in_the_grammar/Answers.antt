@@ -1,5 +1,0 @@
-use Rattle.jpg_spec.proofs.Sequential.{written_spells}
-use Rattle.jpg_spec.proofs.laws.written_scans_are_in_the_grammar.Goals as goal
-
-pub returns : goal.returns
-returns c = λ f head due w. written_spells f head due w.sequential w.precision w.each

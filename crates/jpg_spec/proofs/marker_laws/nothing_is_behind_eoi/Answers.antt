@@ -1,5 +1,0 @@
-use Rattle.jpg_spec.proofs.Reached.{ended_first}
-use Rattle.jpg_spec.proofs.marker_laws.nothing_is_behind_eoi.Goals as goal
-
-pub returns : goal.returns
-returns c = λ rule front rest b x s t. ended_first rule front rest b x s t

@@ -1,5 +1,0 @@
-use Rattle.jpg_spec.proofs.ShownAlike.{shown_alike}
-use Rattle.jpg_spec.proofs.shown_laws.pictures_are_not_shown_for_their_own_reason.Goals as goal
-
-pub returns : goal.returns
-returns c = shown_alike

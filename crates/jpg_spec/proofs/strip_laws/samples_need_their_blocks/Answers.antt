@@ -1,5 +1,0 @@
-use Rattle.jpg_spec.proofs.Strips.{same_samples}
-use Rattle.jpg_spec.proofs.strip_laws.samples_need_their_blocks.Goals as goal
-
-pub returns : goal.returns
-returns c = same_samples

@@ -1,5 +1,0 @@
-use Rattle.jpg_spec.proofs.Transforming.{by_formula}
-use Rattle.jpg_spec.proofs.transform_laws.one_formula_tells_all_blocks.Goals as goal
-
-pub returns : goal.returns
-returns c = λ M t i x y w. by_formula M t w i x y

@@ -1,5 +1,0 @@
-use Rattle.jpg_spec.proofs.MovedBack.{moved_back}
-use Rattle.jpg_spec.proofs.transform_laws.pictures_are_moved_back.Goals as goal
-
-pub returns : goal.returns
-returns c = λ M N t choice w undoes. moved_back N M t choice w.whole undoes.transform undoes.untrimmed undoes.ungrayed w.same

@@ -1,6 +1,0 @@
-use Rattle.jpg_spec.proofs.MovedText.{own_fault}
-use Rattle.jpg_spec.proofs.MeaningLeft.{read_moved}
-use Rattle.jpg_spec.proofs.written_laws.own_scans_of_pictures_have_no_fault.Goals as goal
-
-pub returns : goal.returns
-returns c = λ choice M is own. own_fault choice M (read_moved is.limits is.bytes M choice is.limited is.are_bytes is.means is.admitted) own

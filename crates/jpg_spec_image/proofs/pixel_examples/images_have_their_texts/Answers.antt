@@ -1,0 +1,12 @@
+use Rattle.std.proofs.Common.{refl}
+use Rattle.std.specs.Fmt.{digits}
+use Rattle.jpg_spec_image.specs.ImageText.{pnm_header, bmp_header, palette}
+use Rattle.jpg_spec_image.proofs.pixel_examples.images_have_their_texts.Goals as goal
+
+pub returns-clause-pnm : goal.returns-clause-pnm
+unfolding pnm_header digits
+returns-clause-pnm c = refl
+
+pub returns-clause-bmp : goal.returns-clause-bmp
+unfolding bmp_header palette
+returns-clause-bmp c = refl

@@ -1,0 +1,12 @@
+pub mod BlockLaws
+pub mod MeaningLeft
+pub mod MirroredBlocks
+pub mod MovedBack
+pub mod MovedBounds
+pub mod MovedFrames
+pub mod MovedGrids
+pub mod MovedText
+pub mod MovedWritten
+pub mod OutsideZeros
+pub mod Transforming
+pub mod Within

@@ -1,0 +1,121 @@
+//! Worked examples of words: what the words of jpegtran, djpeg and cjpeg ask for, by computation.
+#![tactic(auto, unfolding(jpg_spec::specs::Codes::are_codes, jpg_spec::specs::HuffContents::huffman_table_of, jpg_spec::specs::HuffContents::huffman_tables_of, jpg_spec::specs::QuantContents::quant_tables_of))]
+
+ghost use Rattle.std.specs.Prelude.{◌≡◌, [], ◌∷◌, true, false, Some, codes};
+ghost use Rattle.jpg_spec_words.specs.CommentWords.{usage_at, words_right, read_asked, write_asked, from_to, named};
+ghost use Rattle.jpg_spec_words.specs.EncodeWords.{encode_asked, encode_of, factors_due};
+ghost use Rattle.jpg_spec_words.specs.Requests.{nothing_said, with_input, with_output};
+ghost use Rattle.jpg_spec_words.specs.ShowWords.{show_asked, show_of};
+ghost use Rattle.jpg_spec_write.specs.FileText.{rows, mcus};
+ghost use Rattle.jpg_spec_words.specs.TransformWords.{transform_asked, transform_of, own_progressive, in_file};
+ghost use Rattle.jpg_spec_words.specs.declared.answers.UsageFault.TheVariants.{BadValue, LeftOutSwitch, MissingValue, TooManyFiles, TwoTransforms, UnknownSwitch};
+ghost use Rattle.jpg_spec.specs.declared.frame.Copying.TheVariants as copying;
+ghost use Rattle.jpg_spec_image.specs.declared.image.EndKind.TheVariants.{Pnm, Bmp};
+ghost use Rattle.jpg_spec_move.specs.declared.transform.Transform.TheVariants.{FlipH, Rotate90, Transpose, Transverse};
+ghost use Rattle.jpg_spec_words.specs.declared.answers.UsageFault.TheVariants as usage;
+
+/// Prefixes of names are enough, in any case, and a number may have leading zeros.
+pub fn beginnings_are_enough()
+    ensures none { transform_asked [] ≡ words_right (transform_of nothing_said) }
+    ensures flip { transform_asked (codes "-f" ∷ codes "H" ∷ []) ≡ words_right (record (transform_of nothing_said) { transform = FlipH }) }
+    ensures rotate { transform_asked (codes "-RO" ∷ codes "090" ∷ []) ≡ words_right (record (transform_of nothing_said) { transform = Rotate90 }) }
+    ensures transpose { transform_asked (codes "-tr" ∷ []) ≡ words_right (record (transform_of nothing_said) { transform = Transpose }) }
+    ensures transverse { transform_asked (codes "-transv" ∷ []) ≡ words_right (record (transform_of nothing_said) { transform = Transverse }) }
+    ensures trim { transform_asked (codes "-tri" ∷ []) ≡ words_right (record (transform_of nothing_said) { trim = true }) }
+    ensures gray { transform_asked (codes "-grey" ∷ []) ≡ words_right (record (transform_of nothing_said) { gray = true }) }
+    ensures copy { transform_asked (codes "-c" ∷ codes "al" ∷ []) ≡ words_right (record (transform_of nothing_said) { copying = copying.All }) }
+    ensures progressive { transform_asked (codes "-P" ∷ []) ≡ words_right (record (transform_of nothing_said) { scans = own_progressive }) }
+    ensures script { transform_asked (codes "-s" ∷ codes "a" ∷ []) ≡ words_right (record (transform_of nothing_said) { scans = in_file (codes "a") }) }
+    ensures rows { transform_asked (codes "-r" ∷ codes "65535" ∷ []) ≡ words_right (record (transform_of nothing_said) { restart = rows 65535 }) }
+    ensures mcus { transform_asked (codes "-r" ∷ codes "7b" ∷ []) ≡ words_right (record (transform_of nothing_said) { restart = mcus 7 }) }
+    ensures off { transform_asked (codes "-restart" ∷ codes "0B" ∷ []) ≡ words_right (transform_of nothing_said) }
+{}
+
+/// A switch that is repeated takes its last value, the word after `-outfile` is a name whatever it is, and the last
+/// word may name the input.
+pub fn last_values_count()
+    ensures again { transform_asked (codes "-copy" ∷ codes "all" ∷ codes "-copy" ∷ codes "none" ∷ []) ≡ words_right (record (transform_of nothing_said) { copying = copying.None }) }
+    ensures output { transform_asked (codes "-outf" ∷ codes "-trim" ∷ []) ≡ words_right (transform_of (with_output (codes "-trim") nothing_said)) }
+    ensures input { transform_asked (codes "-trim" ∷ codes "a" ∷ []) ≡ words_right (transform_of (with_input (codes "a") (record nothing_said { trim = true }))) }
+    ensures script { transform_asked (codes "-s" ∷ codes "a" ∷ codes "-p" ∷ []) ≡ words_right (record (transform_of nothing_said) { scans = in_file (codes "a") }) }
+    ensures none { transform_asked (codes "-restart" ∷ codes "3" ∷ codes "-restart" ∷ codes "0" ∷ []) ≡ words_right (transform_of nothing_said) }
+    ensures same { transform_asked (codes "-flip" ∷ codes "h" ∷ codes "-flip" ∷ codes "h" ∷ []) ≡ words_right (record (transform_of nothing_said) { transform = FlipH }) }
+{}
+
+/// The first wrong word is reported.
+pub fn wrong_words_have_their_places()
+    ensures two { transform_asked (codes "-flip" ∷ codes "horizontal" ∷ codes "-rotate" ∷ codes "90" ∷ []) ≡ usage_at TwoTransforms 3 }
+    ensures left_out { transform_asked (codes "-optimize" ∷ []) ≡ usage_at LeftOutSwitch 1 }
+    ensures unknown { transform_asked (codes "-out" ∷ codes "x" ∷ []) ≡ usage_at UnknownSwitch 1 }
+    ensures short { transform_asked (codes "-" ∷ []) ≡ usage_at UnknownSwitch 1 }
+    ensures missing { transform_asked (codes "-flip" ∷ codes "h" ∷ codes "-rotate" ∷ []) ≡ usage_at MissingValue 3 }
+    ensures bad { transform_asked (codes "-flip" ∷ codes "h" ∷ codes "-rotate" ∷ codes "77" ∷ []) ≡ usage_at BadValue 4 }
+    ensures empty { transform_asked (codes "-copy" ∷ codes "" ∷ []) ≡ usage_at BadValue 2 }
+    ensures large { transform_asked (codes "-restart" ∷ codes "65536" ∷ []) ≡ usage_at BadValue 2 }
+    ensures letter { transform_asked (codes "-restart" ∷ codes "B" ∷ []) ≡ usage_at BadValue 2 }
+    ensures long { transform_asked (codes "-rotate" ∷ codes "000090" ∷ []) ≡ usage_at BadValue 2 }
+    ensures files { transform_asked (codes "a" ∷ codes "-trim" ∷ []) ≡ usage_at TooManyFiles 2 }
+{}
+
+/// A picture is decoded to PNM if no word asks for a format, otherwise to the last one; its fault is at that word, or
+/// after all words.
+pub fn the_last_format_counts()
+    ensures none { show_asked [] ≡ words_right (show_of 1 nothing_said) }
+    ensures pnm { (show_of 1 nothing_said).kind ≡ Pnm }
+    ensures place { (show_of 1 nothing_said).kind_word ≡ 1 }
+    ensures bmp { show_asked (codes "-B" ∷ []) ≡ words_right (record (show_of 2 nothing_said) { kind = Bmp; kind_word = 1 }) }
+    ensures last { show_asked (codes "-bmp" ∷ codes "-ppm" ∷ []) ≡ words_right (record (show_of 3 nothing_said) { kind_word = 2 }) }
+    ensures gray { show_asked (codes "-gr" ∷ []) ≡ words_right (record (show_of 2 nothing_said) { gray = true }) }
+    ensures smooth { show_asked (codes "-nos" ∷ []) ≡ words_right (record (show_of 2 nothing_said) { smooth = false }) }
+    ensures int { show_asked (codes "-dct" ∷ codes "INT" ∷ []) ≡ words_right (show_of 3 nothing_said) }
+    ensures scale { show_asked (codes "-s" ∷ codes "1/1" ∷ []) ≡ words_right (show_of 3 nothing_said) }
+{}
+
+/// The first wrong word of djpeg is reported.
+pub fn wrong_words_of_djpeg_have_their_places()
+    ensures fast { show_asked (codes "-dct" ∷ codes "fast" ∷ []) ≡ usage_at BadValue 2 }
+    ensures half { show_asked (codes "-bmp" ∷ codes "-scale" ∷ codes "1/2" ∷ []) ≡ usage_at BadValue 3 }
+    ensures debug { show_asked (codes "-d" ∷ []) ≡ usage_at LeftOutSwitch 1 }
+    ensures targa { show_asked (codes "-t" ∷ []) ≡ usage_at LeftOutSwitch 1 }
+    ensures flip { show_asked (codes "-flip" ∷ codes "h" ∷ []) ≡ usage_at UnknownSwitch 1 }
+    ensures files { show_asked (codes "a" ∷ codes "b" ∷ []) ≡ usage_at TooManyFiles 2 }
+{}
+
+/// The values of cjpeg: a quality of 0 is 1, and factors are pairs of digits, of which those that aren't given are 1 by
+/// 1.
+pub fn values_of_cjpeg_are_numbers()
+    ensures none { encode_asked [] ≡ words_right (encode_of nothing_said) }
+    ensures quality { encode_asked (codes "-q" ∷ codes "095" ∷ []) ≡ words_right (record (encode_of nothing_said) { quality = Some 95 }) }
+    ensures least { encode_asked (codes "-quality" ∷ codes "0" ∷ []) ≡ words_right (record (encode_of nothing_said) { quality = Some 1 }) }
+    ensures one { encode_asked (codes "-sa" ∷ codes "2x1" ∷ []) ≡ words_right (record (encode_of nothing_said) { factors = (2, 1) ∷ [] }) }
+    ensures two { encode_asked (codes "-sa" ∷ codes "4x3,1x2" ∷ []) ≡ words_right (record (encode_of nothing_said) { factors = (4, 3) ∷ (1, 2) ∷ [] }) }
+    ensures more { factors_due ((2, 1) ∷ []) 3 ≡ (2, 1) ∷ (1, 1) ∷ (1, 1) ∷ [] }
+    ensures gray { factors_due ((4, 3) ∷ (1, 2) ∷ []) 1 ≡ (4, 3) ∷ [] }
+    ensures own { factors_due [] 3 ≡ (2, 2) ∷ (1, 1) ∷ (1, 1) ∷ [] }
+    ensures tables { encode_asked (codes "-QT" ∷ codes "t" ∷ []) ≡ words_right (record (encode_of nothing_said) { tables = Some (codes "t") }) }
+    ensures baseline { encode_asked (codes "-b" ∷ []) ≡ words_right (record (encode_of nothing_said) { baseline = true }) }
+    ensures script { encode_asked (codes "-scan" ∷ codes "a" ∷ codes "-p" ∷ []) ≡ words_right (record (encode_of nothing_said) { scans = in_file (codes "a") }) }
+{}
+
+/// The first wrong word of cjpeg is reported.
+pub fn wrong_words_of_cjpeg_have_their_places()
+    ensures quality { encode_asked (codes "-q" ∷ codes "101" ∷ []) ≡ usage_at BadValue 2 }
+    ensures capital { encode_asked (codes "-sample" ∷ codes "2X1" ∷ []) ≡ usage_at BadValue 2 }
+    ensures five { encode_asked (codes "-sa" ∷ codes "1x1,1x1,1x1,1x1,1x1" ∷ []) ≡ usage_at BadValue 2 }
+    ensures comma { encode_asked (codes "-sa" ∷ codes "1x1," ∷ []) ≡ usage_at BadValue 2 }
+    ensures large { encode_asked (codes "-sa" ∷ codes "5x1" ∷ []) ≡ usage_at BadValue 2 }
+    ensures short { encode_asked (codes "-s" ∷ codes "a" ∷ []) ≡ usage_at UnknownSwitch 1 }
+    ensures smooth { encode_asked (codes "-sm" ∷ codes "10" ∷ []) ≡ usage_at LeftOutSwitch 1 }
+    ensures slots { encode_asked (codes "-qslots" ∷ codes "0" ∷ []) ≡ usage_at LeftOutSwitch 1 }
+    ensures copy { encode_asked (codes "-copy" ∷ codes "all" ∷ []) ≡ usage_at UnknownSwitch 1 }
+    ensures missing { encode_asked (codes "-b" ∷ codes "-qtables" ∷ []) ≡ usage_at MissingValue 2 }
+    ensures bmp { encode_asked (codes "-bmp" ∷ []) ≡ usage_at UnknownSwitch 1 }
+{}
+
+/// wrjpgcom without a comment needs an input; `-cfile a -comment b` names two comments; rdjpgcom takes one file.
+pub fn words_are_told()
+    ensures needs { write_asked 1 [] ≡ usage_at usage.NeedsInput 1 }
+    ensures two { write_asked 1 (codes "-cfile" ∷ codes "a" ∷ codes "-comment" ∷ codes "b" ∷ []) ≡ usage_at usage.TwoComments 3 }
+    ensures file { read_asked 1 (codes "x" ∷ []) ≡ words_right (from_to (named (codes "x"))) }
+    ensures left_out { read_asked 1 (codes "-V" ∷ []) ≡ usage_at usage.LeftOutSwitch 1 }
+{}

@@ -1,0 +1,183 @@
+-- The flat tables of a progressive scan have codes for all that the scan writes.
+use Rattle.std.proofs.Common.{◌≡◌, ◌≢◌, ℕ, zero, suc, ◌+◌, ◌<◌, ◌≤◌, Bool, true, false, cond, not, List, [], ◌∷◌, ◌++◌, length, refl, sym, ap, ◌∙◌, subst, arith, lit<, lit≤, ⊎_elim, ℤ, pos, negsuc, ◌==◌, ◌&&◌}
+use Rattle.std.specs.Prelude.{◌||◌, map, flat_map, filter, nat_lt, slice_index_or}
+use Rattle.std.proofs.lemmas.Bool.{cases_eq}
+use Rattle.std.proofs.lemmas.Bool.Decides.{nat_tests}
+use Rattle.jpg_spec.specs.Lists.{is_empty, is_among, below}
+use Rattle.jpg_spec.specs.Segments.{ScanHead, table_codes}
+use Rattle.jpg_spec.specs.Elements.{Coding, Element, long_run, is_dc_bit, symbol_of, predicted}
+use Rattle.jpg_spec_write.specs.Sending.{Sent, correction, newly_significant, shifted, up_to_last, after_last, corrections_of, value_elements, ended_bands, band_elements}
+use Rattle.jpg_spec_write.specs.ScanText.{UnitDue, Owned, unit_elements, is_dc, table_place, symbols_used}
+use Rattle.jpg_spec.specs.FlatTable.{flat_table}
+use Rattle.jpg_spec.proofs.Common.{same_of, length_below}
+use Rattle.jpg_spec.proofs.Rows.{at_below}
+use Rattle.jpg_spec.proofs.Small.{few_digits, IsDc, dc_category}
+use Rattle.jpg_spec_write.proofs.Writing.{AllSent}
+use Rattle.jpg_spec_write.proofs.Bands.{AllBands, split}
+use Rattle.jpg_spec.proofs.Full.{Has}
+use Rattle.jpg_spec.proofs.FlatTables.{flat_has}
+use Rattle.jpg_spec.proofs.Each.{Each, each_map, each_join, each_flat}
+use Rattle.jpg_spec_write.proofs.Shifts.{dc_shifted}
+use Rattle.jpg_spec.proofs.WrittenHead.{at_among}
+use Rattle.jpg_spec.proofs.PlacesFound.{or_second}
+
+-- SYMBOLS THAT ARE USED
+
+abbrev pub is_own : ScanHead → ℕ → ℕ → Owned → Bool
+is_own head class slot e = not (is_dc_bit e.1) && (table_place head e).0 == class && (table_place head e).1 == slot
+
+abbrev pub symbols_of : (Owned → Bool) → List Owned → List ℕ
+symbols_of own all = map (λ (e : Owned). symbol_of e.1) (filter own all)
+
+IsUsed : (Owned → Bool) → List Owned → Owned → Type 0
+IsUsed own all e = own e ≡ true → is_among (symbol_of e.1) (symbols_of own all) ≡ true
+
+used_on : (own : Owned → Bool) (x : Owned) (all : List Owned) (e : Owned) → IsUsed own all e → IsUsed own (x ∷ all) e
+unfolding IsUsed
+used_on own x all e h o = by (own x) (h o)
+  where
+    by : (b : Bool) → is_among (symbol_of e.1) (map (λ (e : Owned). symbol_of e.1) (filter own all)) ≡ true → is_among (symbol_of e.1) (map (λ (e : Owned). symbol_of e.1) (cond b (x ∷ filter own all) (filter own all))) ≡ true
+    by true k = or_second (symbol_of x.1 == symbol_of e.1) (is_among (symbol_of e.1) (map (λ (e : Owned). symbol_of e.1) (filter own all))) k
+    by false k = k
+
+used_here : (own : Owned → Bool) (x : Owned) (all : List Owned) → IsUsed own (x ∷ all) x
+unfolding IsUsed
+used_here own x all o =
+    let same : (symbol_of x.1 == symbol_of x.1) ≡ true = grind (arith, nat_tests) in
+    ap (λ b. is_among (symbol_of x.1) (map (λ (e : Owned). symbol_of e.1) (cond b (x ∷ filter own all) (filter own all)))) o
+    ∙ ap (λ b. b || is_among (symbol_of x.1) (map (λ (e : Owned). symbol_of e.1) (filter own all))) same
+
+used_each : (own : Owned → Bool) (all : List Owned) → Each (IsUsed own all) all
+used_each own [] = tt
+used_each own (x ∷ all) = (used_here own x all, each_map (IsUsed own all) (IsUsed own (x ∷ all)) all (λ e h. used_on own x all e h) (used_each own all))
+
+among_filter : (test : ℕ → Bool) (s : ℕ) (xs : List ℕ) → is_among s xs ≡ true → test s ≡ true → is_among s (filter test xs) ≡ true
+among_filter test s [] h t = cc
+among_filter test s (x ∷ xs) h t = by (x == s) refl h (λ k. among_filter test s xs k t)
+  where
+    keeps : (b : Bool) → is_among s (filter test xs) ≡ true → is_among s (cond b (x ∷ filter test xs) (filter test xs)) ≡ true
+    keeps true k = or_second (x == s) (is_among s (filter test xs)) k
+    keeps false k = k
+
+    by : (b : Bool) → (x == s) ≡ b → (b || is_among s xs) ≡ true → (is_among s xs ≡ true → is_among s (filter test xs) ≡ true) → is_among s (cond (test x) (x ∷ filter test xs) (filter test xs)) ≡ true
+    by true e k later = ap (λ b. is_among s (cond b (x ∷ filter test xs) (filter test xs))) (ap test (same_of x s e) ∙ t) ∙ ap (λ b. b || is_among s (filter test xs)) e
+    by false e k later = keeps (test x) (later k)
+
+among_all : (n s : ℕ) → s < n → is_among s (below n) ≡ true
+among_all n s h = subst (λ k. is_among k (below n) ≡ true) (at_below n s h) (at_among (below n) s (subst (λ m. s < m) (sym (length_below n)) h))
+
+-- an element that the scan writes by a table has a code in the flat table
+abbrev pub IsCoded : ScanHead → List (List Owned) → ℕ → ℕ → Owned → Type 0
+IsCoded head intervals class slot e = is_own head class slot e ≡ true → symbol_of e.1 < 256 → Has (table_codes (flat_table (symbols_used head intervals class slot))) (symbol_of e.1)
+
+pub all_coded : (head : ScanHead) (intervals : List (List Owned)) (class slot : ℕ) → Each (λ (es : List Owned). Each (IsCoded head intervals class slot) es) intervals
+unfolding IsUsed symbols_used
+all_coded head intervals class slot =
+    let own = is_own head class slot in
+    let all = flat_map (λ (es : List Owned). es) intervals in
+    each_flat (IsCoded head intervals class slot) (λ (es : List Owned). es) intervals
+    (each_map (IsUsed own all) (IsCoded head intervals class slot) all
+    (λ e h o l. flat_has (symbols_used head intervals class slot) (symbol_of e.1) (among_filter (λ s. is_among s (symbols_of own all)) (symbol_of e.1) (below 256) (among_all 256 (symbol_of e.1) l) (h o)))
+    (used_each own all))
+
+filter_less : (test : ℕ → Bool) (xs : List ℕ) → length (filter test xs) ≤ length xs
+filter_less test [] = omega arith
+filter_less test (x ∷ xs) = by (test x) (filter_less test xs)
+  where
+    by : (b : Bool) → length (filter test xs) ≤ length xs → length (cond b (x ∷ filter test xs) (filter test xs)) ≤ length (x ∷ xs)
+    by true h = omega (arith, h)
+    by false h = omega (arith, h)
+
+pub symbols_few : (head : ScanHead) (intervals : List (List Owned)) (class slot : ℕ) → length (symbols_used head intervals class slot) ≤ 256
+unfolding symbols_used
+symbols_few head intervals class slot =
+    let k = filter_less (λ symbol. is_among symbol (symbols_of (is_own head class slot) (flat_map (λ (es : List Owned). es) intervals))) (below 256) in
+    omega (arith, k, length_below 256)
+
+-- THE ELEMENTS of bands are those of AC, with symbols of a byte
+
+pub record IsAc (e : Element) : Type 0 where
+  pub ac : is_dc e ≡ false
+  pub coded : is_dc_bit e ≡ false
+  pub byte : symbol_of e < 256
+
+value_ac : (c : Coding) (run : ℕ) (bits : List Bool) (sents : List Sent) (olds news : List ℤ) → c.most_category ≤ 10 → run ≤ 15 → AllSent c sents olds news → Each IsAc (value_elements run bits sents)
+value_ac c run bits [] olds news most small h = tt
+value_ac c run bits (correction b ∷ sents) olds news most small h = value_ac c run (bits ++ b ∷ []) sents h.1 h.3 most small h.7
+value_ac c run bits (newly_significant (pos zero) ∷ sents) olds news most small h =
+    ⊎_elim
+    (λ (s : run ≡ 15).
+    let t : (run == 15) ≡ true = grind (arith, nat_tests) in
+    subst (λ b. Each IsAc (cond b (long_run bits ∷ value_elements 0 [] sents) (value_elements (run + 1) bits sents))) (sym t)
+    (record { ac = refl; coded = refl; byte = lit< tt }, value_ac c 0 [] sents h.1 h.3 most (lit≤ tt) h.7))
+    (λ (s : run ≢ 15).
+    let t : (run == 15) ≡ false = grind (arith, nat_tests) in
+    subst (λ b. Each IsAc (cond b (long_run bits ∷ value_elements 0 [] sents) (value_elements (run + 1) bits sents))) (sym t)
+    (value_ac c (run + 1) bits sents h.1 h.3 most (omega arith) h.7))
+    (cases_eq run 15)
+value_ac c run bits (newly_significant (pos (suc m)) ∷ sents) olds news most small h =
+    let k = ((h.6).2 refl).1 in
+    (record { ac = refl; coded = refl; byte = omega (arith, k, most, small) }, value_ac c 0 [] sents h.1 h.3 most (lit≤ tt) h.7)
+value_ac c run bits (newly_significant (negsuc m) ∷ sents) olds news most small h =
+    let k = ((h.6).2 refl).1 in
+    (record { ac = refl; coded = refl; byte = omega (arith, k, most, small) }, value_ac c 0 [] sents h.1 h.3 most (lit≤ tt) h.7)
+
+ended_ac : (n : ℕ) (bits : List Bool) → n ≤ 32767 → Each IsAc (ended_bands n bits)
+ended_ac zero bits h = tt
+ended_ac (suc n) bits h = let k = few_digits 15 (suc n) (omega (arith, h)) in (record { ac = refl; coded = refl; byte = omega (arith, k) }, tt)
+
+pub bands_ac : (c : Coding) (n : ℕ) (bits : List Bool) (bands : List (List Sent)) (olds news : List (List ℤ)) → c.most_category ≤ 10 → n < 32767 → AllBands c bands olds news → Each IsAc (band_elements 32767 n bits bands)
+bands_ac c n bits [] olds news most small h = ended_ac n bits (omega (arith, small))
+bands_ac c n bits (band ∷ later) olds news most small h =
+    let s = split c band h.0 h.2 h.7 in
+    let front = up_to_last band in
+    let rest = after_last band in
+    let waits = cond (is_empty front) n 0 in
+    let waiting = cond (is_empty front) bits [] ++ corrections_of rest in
+    each_join IsAc (cond (is_empty front) [] (ended_bands n bits ++ value_elements 0 [] front))
+    (cond (is_empty rest) (band_elements 32767 0 [] later) (cond (waits + 1 == 32767 || nat_lt 937 (length waiting)) (ended_bands (waits + 1) waiting ++ band_elements 32767 0 [] later) (band_elements 32767 (waits + 1) waiting later)))
+    (first (is_empty front) (value_ac c 0 [] front s.o1 s.n1 most (lit≤ tt) s.front))
+    (second (is_empty rest) waits waiting (fewer (is_empty front)) (λ m bs l. bands_ac c m bs later h.1 h.3 most l h.8))
+  where
+    first : (b : Bool) → Each IsAc (value_elements 0 [] (up_to_last band)) → Each IsAc (cond b [] (ended_bands n bits ++ value_elements 0 [] (up_to_last band)))
+    first true k = tt
+    first false k = each_join IsAc (ended_bands n bits) (value_elements 0 [] (up_to_last band)) (ended_ac n bits (omega (arith, small))) k
+
+    fewer : (b : Bool) → cond b n 0 < 32767
+    fewer true = small
+    fewer false = lit< tt
+
+    second : (b : Bool) (w : ℕ) (bs : List Bool) → w < 32767 → ((m : ℕ) (xs : List Bool) → m < 32767 → Each IsAc (band_elements 32767 m xs later))
+        → Each IsAc (cond b (band_elements 32767 0 [] later) (cond (w + 1 == 32767 || nat_lt 937 (length bs)) (ended_bands (w + 1) bs ++ band_elements 32767 0 [] later) (band_elements 32767 (w + 1) bs later)))
+    second true w bs l go = go 0 [] (lit< tt)
+    second false w bs l go = by (w + 1 == 32767) refl
+      where
+        out : Each IsAc (ended_bands (w + 1) bs ++ band_elements 32767 0 [] later)
+        out = each_join IsAc (ended_bands (w + 1) bs) (band_elements 32767 0 [] later) (ended_ac (w + 1) bs (omega (arith, l))) (go 0 [] (lit< tt))
+
+        inner : (d : Bool) → w + 1 ≢ 32767 → Each IsAc (cond d (ended_bands (w + 1) bs ++ band_elements 32767 0 [] later) (band_elements 32767 (w + 1) bs later))
+        inner true k = out
+        inner false k = go (w + 1) bs (omega (arith, l, k))
+
+        by : (d : Bool) → (w + 1 == 32767) ≡ d → Each IsAc (cond (d || nat_lt 937 (length bs)) (ended_bands (w + 1) bs ++ band_elements 32767 0 [] later) (band_elements 32767 (w + 1) bs later))
+        by true e = out
+        by false e = inner (nat_lt 937 (length bs)) (λ k. (let z : (w + 1 == 32767) ≡ true = grind (arith, nat_tests, k) in (let f : true ≡ false = sym z ∙ e in cc)))
+
+-- THE ELEMENTS of a DC first pass are differences, with symbols of a byte
+
+pub record IsDifference (e : Element) : Type 0 where
+  pub dc : is_dc e ≡ true
+  pub coded : is_dc_bit e ≡ false
+  pub byte : symbol_of e < 256
+
+pub differences : (al : ℕ) (p : ℕ → ℤ) (due : List UnitDue) → al ≤ 10 → ((j : ℕ) → IsDc (p j)) → Each (λ (u : UnitDue). IsDc (slice_index_or u.1 0 (pos 0))) due → Each (λ (o : Owned). IsDifference o.1) (unit_elements false false al p due)
+differences al p [] l dcs h = tt
+differences al p (u ∷ due) l dcs h =
+    let w = shifted al (slice_index_or u.1 0 (pos 0)) in
+    let d = dc_shifted al (slice_index_or u.1 0 (pos 0)) l h.0 in
+    let few = dc_category w (p u.0) d (dcs u.0) in
+    (record { dc = refl; coded = refl; byte = omega (arith, few) }, differences al (predicted p u.0 w) due l (λ j. on j (j == u.0) d) h.1)
+  where
+    on : (j : ℕ) (b : Bool) → IsDc (shifted al (slice_index_or u.1 0 (pos 0))) → IsDc (cond b (shifted al (slice_index_or u.1 0 (pos 0))) (p j))
+    on j true d = d
+    on j false d = dcs j

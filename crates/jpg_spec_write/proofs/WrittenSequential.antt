@@ -1,0 +1,264 @@
+-- A scan of a sequential script: its header, its tables, its text, and what it adds.
+use Rattle.std.proofs.Common.{◌≡◌, ℕ, suc, ◌+◌, ◌<◌, ◌≤◌, Bool, true, false, cond, not, List, [], ◌∷◌, ◌++◌, length, get_or, refl, sym, ap, ◌∙◌, subst, arith, lit<, lit≤, Option, Some, None, ℤ, pos, ◌==◌, ◌&&◌}
+use Rattle.std.specs.Prelude.{◌||◌, map, flat_map, nat_lt, nat_le, Ok, is_none}
+use Rattle.std.specs.Int.{to_be_bytes, w16}
+use Rattle.std.proofs.lemmas.List.{length-map}
+use Rattle.jpg_spec.specs.Bits.{data_of, stuffed}
+use Rattle.jpg_spec.specs.Codes.{are_codes}
+use Rattle.jpg_spec.specs.Lists.{any_of, all_of, is_among, is_distinct, index_of}
+use Rattle.jpg_spec.specs.Geometry.{Frame, component_at, factor_sum, is_progressive}
+use Rattle.jpg_spec.specs.FrameHeader.{identifiers}
+use Rattle.jpg_spec.specs.Segments.{HuffmanTable, QuantTable, ScanHead, head_components, needs_dc, needs_ac}
+use Rattle.jpg_spec.specs.Scan.{TablesInForce}
+use Rattle.jpg_spec_write.specs.ScanText.{Owned, units_due, interval_elements, scan_elements, element_bits, intervals_text, scan_data, typical_table, scan_tables, symbols_used}
+use Rattle.jpg_spec.specs.FlatTable.{flat_table}
+use Rattle.jpg_spec.specs.Meaning.{Meaning, colour_of}
+use Rattle.jpg_spec_write.specs.Script.{Entry}
+use Rattle.jpg_spec.specs.HuffContents.{huffman_table_of, huffman_tables_of}
+use Rattle.jpg_spec.specs.ScanContents.{are_parameters}
+use Rattle.jpg_spec.specs.Markers.{Segment}
+use Rattle.jpg_spec.specs.InForce.{huffman_in_force, quant_in_force, heads_of}
+use Rattle.jpg_spec.specs.History.{has_begun, is_next, needs_dc_table, needs_ac_table, lacks_table, quant_of, is_same_table, admitted}
+use Rattle.jpg_spec_write.specs.FileText.{Written, segment_text, frame_of_meaning, slot_for, has_chroma, written_head, head_text, tables_needed, with_table, tables_text, tables_given, Restart, interval_of, scans_text}
+use Rattle.jpg_spec_write.specs.WrittenFile.{is_sequential_entry}
+use Rattle.jpg_spec.specs.declared.fault.Fault.TheVariants.{RepeatedScan, Progression, MissingTable, QuantChanged}
+use Rattle.jpg_spec.specs.declared.frame.Colour.{Colour}
+use Rattle.jpg_spec.specs.declared.frame.Place.{Place}
+use Rattle.jpg_spec.specs.declared.frame.ScanPart.{ScanPart}
+use Rattle.jpg_spec.proofs.Rows.{map_map}
+use Rattle.jpg_spec.proofs.Each.{Each}
+use Rattle.jpg_spec_write.proofs.WrittenCoding.{GivesTypical}
+use Rattle.jpg_spec_write.proofs.WrittenScan.{sequential_coded, scan_rows}
+use Rattle.jpg_spec.proofs.WrittenHead.{IsPartOf, IsSpoken}
+use Rattle.jpg_spec.proofs.WrittenState.{IsTellable}
+use Rattle.jpg_spec.proofs.Common.{both, negated, le_of, lt_of, same_of, same_itself, not_refused}
+
+-- THE HEAD
+
+abbrev pub plain_part : Colour → ℕ → ScanPart
+plain_part colour i = record { component = i; dc = slot_for colour i; ac = slot_for colour i }
+
+abbrev pub plain_head : Colour → List ℕ → ScanHead
+plain_head colour components = record { parts = map (plain_part colour) components; ss = 0; se = 63; ah = 0; al = 0 }
+
+pub head_is_plain : (H : Meaning) (e : Entry) → is_progressive H.process ≡ false → written_head H e ≡ plain_head (colour_of H) e.components
+head_is_plain H e s =
+    ap (λ is_prog. (let h : ScanHead = record {
+      parts = map (λ i. record { component = i; dc = cond (needs_dc is_prog e.ss e.ah) (slot_for (colour_of H) i) 0; ac = cond (needs_ac is_prog e.ss) (slot_for (colour_of H) i) 0 }) e.components;
+      ss = cond is_prog e.ss 0;
+      se = cond is_prog e.se 63;
+      ah = cond is_prog e.ah 0;
+      al = cond is_prog e.al 0;
+    } in h)) s
+
+pub plain_components : (colour : Colour) (components : List ℕ) → head_components (plain_head colour components) ≡ components
+plain_components colour [] = refl
+plain_components colour (i ∷ components) = ap (λ l. i ∷ l) (plain_components colour components)
+
+pub slot_few : (colour : Colour) (i : ℕ) → slot_for colour i ≤ 1
+slot_few colour i = by (has_chroma colour && (i == 1 || i == 2))
+  where
+    by : (b : Bool) → cond b 1 0 ≤ 1
+    by true = lit≤ tt
+    by false = lit≤ tt
+
+-- THE CONDITIONS OF AN ENTRY
+
+pub record IsEntry (f : Frame) (done : List ℕ) (components : List ℕ) : Type 0 where
+  pub some : 1 ≤ length components
+  pub few : length components ≤ 4
+  pub known : Each (λ i. i < length f.components) components
+  pub distinct : is_distinct components ≡ true
+  pub small : (nat_lt 1 (length components) && nat_lt 10 (factor_sum f components)) ≡ false
+  pub new : any_of (λ i. is_among i done) components ≡ false
+
+pub each_below : (n : ℕ) (xs : List ℕ) → all_of (λ i. nat_lt i n) xs ≡ true → Each (λ i. i < n) xs
+each_below n [] e = tt
+each_below n (x ∷ xs) e = let b = both (nat_lt x n) (all_of (λ i. nat_lt i n) xs) e in (lt_of x n b.0, each_below n xs b.1)
+
+pub entry_is : (f : Frame) (done : List ℕ) (e : Entry) → is_sequential_entry f done e ≡ true → IsEntry f done e.components
+entry_is f done e h =
+    let n = length e.components in
+    let size = nat_le 1 n && nat_le n 4 in
+    let known = all_of (λ i. nat_lt i (length f.components)) e.components in
+    let d = is_distinct e.components in
+    let big = nat_lt 1 n && nat_lt 10 (factor_sum f e.components) in
+    let old = any_of (λ i. is_among i done) e.components in
+    let a = both size (known && (d && (not big && not old))) h in
+    let b = both (nat_le 1 n) (nat_le n 4) a.0 in
+    let k = both known (d && (not big && not old)) a.1 in
+    let m = both d (not big && not old) k.1 in
+    let o = both (not big) (not old) m.1 in
+    record { some = le_of 1 n b.0; few = le_of n 4 b.1; known = each_below (length f.components) e.components k.0; distinct = m.0; small = negated big o.0; new = negated old o.1 }
+
+pub among_below : (n i : ℕ) (xs : List ℕ) → Each (λ i. i < n) xs → is_among i xs ≡ true → i < n
+among_below n i [] h e = cc
+among_below n i (x ∷ xs) h e = by (x == i) refl e (among_below n i xs h.1)
+  where
+    by : (b : Bool) → (x == i) ≡ b → (b || is_among i xs) ≡ true → (is_among i xs ≡ true → i < n) → i < n
+    by true s k later = subst (λ m. m < n) (same_of x i s) h.0
+    by false s k later = later k
+
+-- the head may be written
+pub length_ids : (f : Frame) → length (identifiers f.components) ≡ length f.components
+length_ids f = length-map f.components (λ c. c.id)
+
+parts_of : (f : Frame) (colour : Colour) (components : List ℕ) → Each (λ i. i < length f.components) components → Each (IsPartOf f) (map (plain_part colour) components)
+parts_of f colour [] h = tt
+parts_of f colour (i ∷ components) h =
+    let few = slot_few colour i in
+    ((subst (λ n. i < n) (sym (length_ids f)) h.0, omega (arith, few), omega (arith, few)), parts_of f colour components h.1)
+
+pub plain_spoken : (f : Frame) (colour : Colour) (done components : List ℕ) → is_progressive f.process ≡ false → IsEntry f done components → IsSpoken f (plain_head colour components)
+plain_spoken f colour done components p e =
+    let head = plain_head colour components in
+    let l : length head.parts ≡ length components = length-map components (plain_part colour) in
+    let c = plain_components colour components in
+    record {
+      some = subst (λ n. 1 ≤ n) (sym l) e.some;
+      few = subst (λ n. n ≤ 4) (sym l) e.few;
+      parts = parts_of f colour components e.known;
+      distinct = ap is_distinct c ∙ e.distinct;
+      small = ap (λ n. nat_lt 1 n && nat_lt 10 (factor_sum f (head_components head))) l ∙ ap (λ cs. nat_lt 1 (length components) && nat_lt 10 (factor_sum f cs)) c ∙ e.small;
+      al = lit< tt;
+      allowed = ap (λ b. b && not (are_parameters f (length head.parts) head)) p;
+    }
+
+-- THE TABLES
+
+typical_tellable : (a b : Bool) → IsTellable (cond a 1 0) (cond b 1 0) (typical_table (cond a 1 0) (cond b 1 0))
+unfolding huffman_tables_of huffman_table_of are_codes
+typical_tellable false false = record { told = refl; short = lit< tt }
+typical_tellable false true = record { told = refl; short = lit< tt }
+typical_tellable true false = record { told = refl; short = lit< tt }
+typical_tellable true true = record { told = refl; short = lit< tt }
+
+abbrev pub plain_needed : List ScanPart → List (ℕ × ℕ)
+plain_needed parts = flat_map (λ (p : ScanPart). (0, p.dc) ∷ (1, p.ac) ∷ []) parts
+
+pub needed_tellable : (colour : Colour) (components : List ℕ) → Each (λ (n : ℕ × ℕ). IsTellable n.0 n.1 (typical_table n.0 n.1)) (plain_needed (map (plain_part colour) components))
+needed_tellable colour [] = tt
+needed_tellable colour (i ∷ components) =
+    (typical_tellable false (has_chroma colour && (i == 1 || i == 2)), (typical_tellable true (has_chroma colour && (i == 1 || i == 2)), needed_tellable colour components))
+
+-- a table that was given remains
+pub given_stays : (due : ℕ → ℕ → HuffmanTable) (needed : List (ℕ × ℕ)) (given : ℕ → ℕ → Option HuffmanTable) (c n : ℕ) → given c n ≡ Some (due c n) → tables_given given due needed c n ≡ Some (due c n)
+given_stays due [] given c n e = e
+given_stays due (k ∷ needed) given c n e = given_stays due needed (with_table given k.0 k.1 (due k.0 k.1)) c n (by (c == k.0 && n == k.1) refl)
+  where
+    by : (b : Bool) → (c == k.0 && n == k.1) ≡ b → cond b (Some (due k.0 k.1)) (given c n) ≡ Some (due c n)
+    by true h =
+        let m = both (c == k.0) (n == k.1) h in
+        ap (λ (x : ℕ). (let r : Option HuffmanTable = Some (due x k.1) in r)) (sym (same_of c k.0 m.0)) ∙ ap (λ (x : ℕ). (let r : Option HuffmanTable = Some (due c x) in r)) (sym (same_of n k.1 m.1))
+    by false h = e
+
+pub given_now : (due : ℕ → ℕ → HuffmanTable) (given : ℕ → ℕ → Option HuffmanTable) (c n : ℕ) → with_table given c n (due c n) c n ≡ Some (due c n)
+given_now due given c n = ap (λ b. cond (b && n == n) (Some (due c n)) (given c n)) (same_itself c) ∙ ap (λ b. cond b (Some (due c n)) (given c n)) (same_itself n)
+
+abbrev pub IsGiven : (ℕ → ℕ → Option HuffmanTable) → (ℕ → ℕ → HuffmanTable) → ScanPart → Type 0
+IsGiven tables due p = (tables 0 p.dc ≡ Some (due 0 p.dc)) × (tables 1 p.ac ≡ Some (due 1 p.ac))
+
+pub all_given : (due : ℕ → ℕ → HuffmanTable) (parts : List ScanPart) (given : ℕ → ℕ → Option HuffmanTable) → Each (IsGiven (tables_given given due (plain_needed parts)) due) parts
+all_given due [] given = tt
+all_given due (p ∷ parts) given =
+    let g = with_table given 0 p.dc (due 0 p.dc) in
+    let h = with_table g 1 p.ac (due 1 p.ac) in (
+      (given_stays due (plain_needed parts) h 0 p.dc (given_now due given 0 p.dc), given_stays due (plain_needed parts) h 1 p.ac (given_now due g 1 p.ac)),
+      all_given due parts h,
+    )
+
+-- the part of a component that is named is among the parts
+pub part_holds : (P : ScanPart → Type 0) (i : ℕ) (d : ScanPart) (parts : List ScanPart) → Each P parts → is_among i (map (λ (p : ScanPart). p.component) parts) ≡ true
+    → P (get_or parts (index_of i (map (λ (p : ScanPart). p.component) parts)) d)
+part_holds P i d [] h e = cc
+part_holds P i d (p ∷ parts) h e = by (p.component == i) e (λ k. part_holds P i d parts h.1 k)
+  where
+    next : (n : ℕ) → P (get_or parts n d) → P (get_or (p ∷ parts) (1 + n) d)
+    next n k = let e : suc n ≡ 1 + n = omega arith in subst (λ m. P (get_or (p ∷ parts) m d)) e k
+
+    by : (b : Bool) → (b || is_among i (map (λ (p : ScanPart). p.component) parts)) ≡ true
+        → (is_among i (map (λ (p : ScanPart). p.component) parts) ≡ true → P (get_or parts (index_of i (map (λ (p : ScanPart). p.component) parts)) d))
+        → P (get_or (p ∷ parts) (cond b 0 (1 + index_of i (map (λ (p : ScanPart). p.component) parts))) d)
+    by true k later = h.0
+    by false k later = next (index_of i (map (λ (p : ScanPart). p.component) parts)) (later k)
+
+pub typical_given : (tables : TablesInForce) (head : ScanHead) → Each (IsGiven tables typical_table) head.parts → GivesTypical tables head
+typical_given tables head h = λ i e. part_holds (IsGiven tables typical_table) i (record { component = i; dc = 0; ac = 0 }) head.parts h e
+
+-- THE SCAN IS ALLOWED
+
+none_begun : (heads : List ScanHead) (done components : List ℕ) → ((i : ℕ) → has_begun heads i ≡ is_among i done) → any_of (has_begun heads) components ≡ any_of (λ i. is_among i done) components
+none_begun heads done [] h = refl
+none_begun heads done (i ∷ components) h = ap (λ b. b || any_of (has_begun heads) components) (h i) ∙ ap (λ b. is_among i done || b) (none_begun heads done components h)
+
+lacks_none : (f : Frame) (before : List Segment) (head : ScanHead) (parts : List ScanPart) → Each (λ (p : ScanPart). (q : QuantTable) × (quant_in_force before (component_at f p.component).quant ≡ Some q)) parts → Each (IsGiven (huffman_in_force before) typical_table) parts
+    → any_of (λ (p : ScanPart). is_none (quant_in_force before (component_at f p.component).quant) || (needs_dc_table f head && is_none (huffman_in_force before 0 p.dc) || needs_ac_table f head && is_none (huffman_in_force before 1 p.ac))) parts ≡ false
+lacks_none f before head [] q g = refl
+lacks_none f before head (p ∷ parts) q g =
+    let rest = any_of (λ (p : ScanPart). is_none (quant_in_force before (component_at f p.component).quant) || (needs_dc_table f head && is_none (huffman_in_force before 0 p.dc) || needs_ac_table f head && is_none (huffman_in_force before 1 p.ac))) parts in
+    ap (λ o. (is_none o || (needs_dc_table f head && is_none (huffman_in_force before 0 p.dc) || needs_ac_table f head && is_none (huffman_in_force before 1 p.ac))) || rest) (q.0).1
+    ∙ ap (λ o. (needs_dc_table f head && is_none o || needs_ac_table f head && is_none (huffman_in_force before 1 p.ac)) || rest) (g.0).0
+    ∙ ap (λ o. (needs_dc_table f head && false || needs_ac_table f head && is_none o) || rest) (g.0).1
+    ∙ ap (λ b. b || rest) (none (needs_dc_table f head) (needs_ac_table f head)) ∙ lacks_none f before head parts q.1 g.1
+  where
+    none : (a b : Bool) → (a && false || b && false) ≡ false
+    none true true = refl
+    none true false = refl
+    none false true = refl
+    none false false = refl
+
+same_quants : (f : Frame) (before : List Segment) (components : List ℕ) → Each (λ i. quant_of f before i ≡ None) components → all_of (λ i. is_same_table (quant_of f before i) (quant_in_force before (component_at f i).quant)) components ≡ true
+same_quants f before [] h = refl
+same_quants f before (i ∷ components) h = ap (λ o. is_same_table o (quant_in_force before (component_at f i).quant) && all_of (λ i. is_same_table (quant_of f before i) (quant_in_force before (component_at f i).quant)) components) h.0 ∙ same_quants f before components h.1
+
+pub sequential_admitted : (f : Frame) (before : List Segment) (heads : List ScanHead) (done : List ℕ) (head : ScanHead) → is_progressive f.process ≡ false → heads_of f before ≡ heads
+    → ((i : ℕ) → has_begun heads i ≡ is_among i done) → any_of (λ i. is_among i done) (head_components head) ≡ false
+    → Each (λ (p : ScanPart). (q : QuantTable) × (quant_in_force before (component_at f p.component).quant ≡ Some q)) head.parts → Each (IsGiven (huffman_in_force before) typical_table) head.parts
+    → Each (λ i. quant_of f before i ≡ None) (head_components head) → admitted f before head ≡ Ok head
+sequential_admitted f before heads done head p h begun new q g unsent =
+    let a : (not (is_progressive f.process) && any_of (has_begun (heads_of f before)) (head_components head)) ≡ false =
+    ap (λ b. not b && any_of (has_begun (heads_of f before)) (head_components head)) p ∙ ap (λ hs. any_of (has_begun hs) (head_components head)) h ∙ none_begun heads done (head_components head) begun ∙ new in
+    not_refused RepeatedScan _ _ a ∙ not_refused Progression _ _ (ap (λ b. b && not (all_of (is_next (heads_of f before) head) (head_components head))) p)
+    ∙ not_refused MissingTable (lacks_table f before head) _ (lacks_none f before head head.parts q g) ∙ not_refused QuantChanged _ _ (ap not (same_quants f before (head_components head) unsent))
+
+-- ITS TEXT
+
+abbrev pub rows_of : Meaning → ScanHead → ℕ → List (List Place)
+rows_of H head interval = scan_rows (frame_of_meaning H) head interval
+
+abbrev pub plain_data : Meaning → ScanHead → ℕ → List ℕ
+plain_data H head interval = intervals_text 0 (map stuffed (map (sequential_coded head H.blocks) (rows_of H head interval)))
+
+data_is : (H : Meaning) (head : ScanHead) (interval : ℕ) → is_progressive H.process ≡ false → scan_data typical_table head (scan_elements (frame_of_meaning H) head interval H.blocks) ≡ plain_data H head interval
+unfolding scan_data
+data_is H head interval e =
+    let rows = rows_of H head interval in
+    let first : ℕ → ℤ = λ i. pos 0 in
+    let coded : Bool → List Place → List ℕ = λ b places. data_of (flat_map (element_bits typical_table head) (interval_elements b head (units_due H.blocks first places))) in
+    ap (intervals_text 0) (map_map (λ (es : List Owned). data_of (flat_map (element_bits typical_table head) es)) (λ (places : List Place). interval_elements (is_progressive H.process) head (units_due H.blocks first places)) rows
+    ∙ ap (λ b. map (coded b) rows) e ∙ sym (map_map stuffed (sequential_coded head H.blocks) rows))
+
+pub scans_are : (H : Meaning) (restart : Restart) (w : Written) (e : Entry) (script : List Entry) → is_progressive H.process ≡ false → H.precision ≡ 8
+    → (let head = plain_head (colour_of H) e.components in let n = interval_of (frame_of_meaning H) head restart in let needed = plain_needed head.parts in
+    scans_text H restart w (e ∷ script)
+    ≡ tables_text w.tables typical_table needed ++ cond (n == w.interval) [] (segment_text 0xdd (to_be_bytes w16 n)) ++ head_text H head ++ plain_data H head n
+    ++ scans_text H restart (record { tables = tables_given w.tables typical_table needed; interval = n }) script)
+unfolding scans_text
+scans_are H restart w e script s p =
+    let f = frame_of_meaning H in
+    let head = plain_head (colour_of H) e.components in
+    let n = interval_of f head restart in
+    let whole : ScanHead → (ℕ → ℕ → HuffmanTable) → List (ℕ × ℕ) → List ℕ → List ℕ = λ head tables needed coded.
+    tables_text w.tables tables needed ++ cond (interval_of f head restart == w.interval) [] (segment_text 0xdd (to_be_bytes w16 (interval_of f head restart))) ++ head_text H head ++ coded
+    ++ scans_text H restart (record { tables = tables_given w.tables tables needed; interval = interval_of f head restart }) script in
+    let elements : ScanHead → List (List Owned) = λ head. scan_elements f head (interval_of f head restart) H.blocks in
+    let typical : scan_tables f head (elements head) ≡ typical_table =
+    ap (λ (b : Bool). (let t : ℕ → ℕ → HuffmanTable = λ class slot. cond (not b && H.precision == 8) (typical_table class slot) (flat_of class slot) in t)) s
+    ∙ ap (λ (b : Bool). (let t : ℕ → ℕ → HuffmanTable = λ class slot. cond b (typical_table class slot) (flat_of class slot) in t)) (ap (λ m. m == 8) p) in
+    ap (λ h. whole h (scan_tables f h (elements h)) (tables_needed (is_progressive H.process) e h) (scan_data (scan_tables f h (elements h)) h (elements h))) (head_is_plain H e s)
+    ∙ ap (λ t. whole head t (tables_needed (is_progressive H.process) e head) (scan_data t head (elements head))) typical
+    ∙ ap (λ b. whole head typical_table (tables_needed b e head) (scan_data typical_table head (elements head))) s
+    ∙ ap (λ d. whole head typical_table (plain_needed head.parts) d) (data_is H head n s)
+  where
+    flat_of : ℕ → ℕ → HuffmanTable
+    flat_of class slot = flat_table (symbols_used (plain_head (colour_of H) e.components) (scan_elements (frame_of_meaning H) (plain_head (colour_of H) e.components) (interval_of (frame_of_meaning H) (plain_head (colour_of H) e.components) restart) H.blocks) class slot)

@@ -1,0 +1,66 @@
+-- TERMS OF THE LAWS: what holds together in their premises, and what they conclude. No definition uses them.
+use Rattle.std.specs.Prelude.{◌≡◌, ℕ, ◌≤◌, false, List, length, All}
+use Rattle.jpg_spec.specs.Geometry.{Frame, is_progressive}
+use Rattle.jpg_spec.specs.Segments.{ScanHead}
+use Rattle.jpg_spec.specs.FrameHeader.{AreLimits}
+use Rattle.jpg_spec.specs.Elements.{Coding}
+use Rattle.jpg_spec.specs.Scan.{scan_coding}
+use Rattle.jpg_spec_write.specs.ScanText.{UnitDue, typical_tables}
+use Rattle.jpg_spec_write.specs.Written.{IsWritable}
+use Rattle.jpg_spec.specs.Meaning.{Meaning}
+use Rattle.jpg_spec_write.specs.Script.{Entry, sequential_script}
+use Rattle.jpg_spec_write.specs.FileText.{Restart, frame_of_meaning, file_text}
+use Rattle.jpg_spec_write.specs.WrittenFile.{IsHeaded, IsRestart, IsSequentialFile, IsProgressiveFile}
+use Rattle.jpg_spec_write.specs.ScansAsked.{Scans, sequential, standard, given}
+use Rattle.jpg_spec.specs.declared.frame.Limits.{Limits}
+
+-- the coding of a scan by the typical tables
+abbrev pub typical_coding : Frame → ScanHead → Coding
+typical_coding f head = scan_coding f typical_tables head
+
+-- Units that a sequential scan of precision 8 can write by the typical tables.
+pub record AreWritable (f : Frame) (head : ScanHead) (due : List UnitDue) : Type 0 where
+  pub sequential : is_progressive f.process ≡ false
+  pub precision : f.precision ≡ 8
+  pub each : All (λ u. IsWritable (typical_coding f head) u) due
+
+-- WRITTEN FILES (T.81, B.2.1)
+
+-- the file of a meaning in some sequential script, with any restarts
+pub record HasSequentialScript (limits : Limits) (H : Meaning) (bytes : List ℕ) : Type 0 where
+  pub script : List Entry
+  pub restart : Restart
+  pub file : IsSequentialFile limits H script
+  pub text : bytes ≡ file_text H script restart
+
+-- with restarts whose MCUs fit into two bytes
+pub record IsSequentialText (limits : Limits) (H : Meaning) (bytes : List ℕ) : Type 0 where
+  pub written : HasSequentialScript limits H bytes
+  pub small : IsRestart written.restart
+
+-- the same in the script of one scan, or of one for each component
+pub record IsOwnText (limits : Limits) (H : Meaning) (bytes : List ℕ) : Type 0 where
+  pub restart : Restart
+  pub headed : IsHeaded limits H
+  pub sequential : is_progressive H.process ≡ false
+  pub small : IsRestart restart
+  pub text : bytes ≡ file_text H (sequential_script (frame_of_meaning H)) restart
+
+-- and in some progressive script
+pub record IsProgressiveText (limits : Limits) (H : Meaning) (bytes : List ℕ) : Type 0 where
+  pub script : List Entry
+  pub restart : Restart
+  pub file : IsProgressiveFile limits H script
+  pub small : IsRestart restart
+  pub text : bytes ≡ file_text H script restart
+
+-- the bytes are within the input's limit
+pub record Fits (limits : Limits) (bytes : List ℕ) : Type 0 where
+  pub limited : AreLimits limits
+  pub long : length bytes ≤ limits.input
+
+-- the default scans, sequential or progressive
+abbrev pub AreOwn : Scans → Type 0
+AreOwn sequential = Unit {0}
+AreOwn standard = Unit {0}
+AreOwn (given script) = ⊥

@@ -1,0 +1,17 @@
+pub mod CommentText
+pub mod Examples
+pub mod FileExamples
+pub mod FileText
+pub mod Headed
+pub mod Laws
+pub mod PictureFaults
+pub mod ScanText
+pub mod ScansAsked
+pub mod Script
+pub mod ScriptExamples
+pub mod ScriptFaults
+pub mod ScriptGrammar
+pub mod ScriptLaws
+pub mod Sending
+pub mod Written
+pub mod WrittenFile

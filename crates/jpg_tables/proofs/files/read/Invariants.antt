@@ -1,5 +1,0 @@
-use Rattle.std.specs.Prelude.{◌≡◌, false}
-use Rattle.jpg_tables.proofs.files.read.Given as goal
-
-abbrev pub invariant-loop-piece : goal.invariant-loop-piece
-invariant-loop-piece l = l.reader.done ≡ false

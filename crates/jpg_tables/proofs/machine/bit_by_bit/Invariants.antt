@@ -1,5 +1,0 @@
-use Rattle.jpg_tables.specs.Open.{IsOpen}
-use Rattle.jpg_tables.proofs.machine.bit_by_bit.Given as goal
-
-abbrev pub invariant-loop-i : goal.invariant-loop-i
-invariant-loop-i l = IsOpen l.machine l.coefs

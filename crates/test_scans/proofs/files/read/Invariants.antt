@@ -1,0 +1,5 @@
+use Rattle.std.specs.Prelude.{◌≡◌, false}
+use Rattle.test_scans.proofs.files.read.Given as goal
+
+abbrev pub invariant-loop-piece : goal.invariant-loop-piece
+invariant-loop-piece l = l.reader.done ≡ false
