@@ -3,6 +3,7 @@ use Rattle.std.proofs.Common.{◌≡◌, ℕ, Bool, true, false, List, [], ◌�
 use Rattle.std.proofs.lemmas.List.{append_assoc, append-nil, take-append-drop}
 use Rattle.std.specs.Io.KnownBytes.{Appends}
 use Rattle.jpg_base.specs.declared.names.Name.{Name}
+use Rattle.jpg_base.specs.declared.names.Name.TheVariants as name
 use Rattle.jpg_base.specs.declared.names.Put.TheVariants as put
 use Rattle.jpg_base.specs.Desk.{DeskState, NoneFell}
 use Rattle.jpg_base.specs.Laws.{NoneFell-then}
@@ -11,10 +12,12 @@ use Rattle.jpg_spec_words.specs.declared.answers.Why.TheVariants as why
 use Rattle.jpg_spec_words.specs.declared.answers.Which.TheVariants as which
 use Rattle.jpg_spec_words.specs.ShowWords.{ShowAsked}
 use Rattle.jpg_spec_image.specs.declared.image.EndKind.{EndKind}
+use Rattle.jpg_spec_image.specs.declared.image.EndKind.TheVariants.{Pnm}
+use Rattle.jpg_spec_words.specs.Work.{work_text}
 use Rattle.jpg_spec_write.specs.declared.picture_fault.PictureFault.{PictureFault}
 use Rattle.jpg_spec_words.specs.Words.{tool_of}
 use Rattle.jpg_spec_words.specs.CommentWords.{WordsTold, words_right, words_wrong}
-use Rattle.jpg_cli.specs.Commands.{encode_image, Command, not_built, transform_picture, show_picture, print_comments, insert_comment, command_asked, name_of}
+use Rattle.jpg_cli.specs.Commands.{encode_image, Command, transform_picture, show_picture, print_comments, insert_comment, do_work, command_asked, name_of}
 use Rattle.jpg_cli.proofs.CommentsPrinted.{printed_then}
 use Rattle.jpg_cli.proofs.InsertedThen.{inserted_then}
 use Rattle.jpg_cli.proofs.PictureTaken.{all_still, from_still}
@@ -34,6 +37,7 @@ use Rattle.jpg_spec_words.specs.Messages.{message, status_of}
 use Rattle.jpg_cli.proofs.Endings.{stopped_then, unopened_then, unread_then, untouched_then, wrote_then}
 use Rattle.jpg_cli.specs.Run.{PictureDue, PictureInput, SaysText, task_of, showing_of, RanShow, Worked, Works, Ran, IsAnswerDue, IsShowDue, NoneRose}
 use Rattle.jpg_cli.specs.Tools.Ends.{has_format}
+use Rattle.jpg_cli.specs.Tools.Worked.{DidWork, ReportEnds}
 use Rattle.jpg_cli.specs.Tools.Showing.{Showing, Shown, bytes_before}
 use Rattle.jpg_cli.specs.declared.desk.picture.Wanted.{Wanted}
 use Rattle.jpg_cli.specs.declared.desk.picture.Wanted.TheVariants.{Coefficients, Image}
@@ -83,15 +87,34 @@ show_then true a s0 s1 s2 w k (inl t) = inl (shown_then (showing_of a) s0 s1 s2 
 show_then true a s0 s1 s2 w k (inr t) = inr (t.0, untouched_then s0 s1 s2 k t.1)
 show_then false a s0 s1 s2 w k t = (t.0, untouched_then s0 s1 s2 k t.1)
 
+report_then : (text : List ℕ) (s0 s1 s2 : DeskState) (w : Why) → OnlySays s1 s2 → ReportEnds text s0 w s1 → ReportEnds text s0 w s2
+report_then text s0 s1 s2 why.Done k h = wrote_then s0 s1 s2 [] name.Out text k h
+report_then text s0 s1 s2 (why.Warned n) k h = absurd h
+report_then text s0 s1 s2 (why.Usage u) k h = absurd h
+report_then text s0 s1 s2 (why.Refused f) k h = absurd h
+report_then text s0 s1 s2 (why.Picture p) k h = absurd h
+report_then text s0 s1 s2 (why.OpenFault which.Input) k h = absurd h
+report_then text s0 s1 s2 (why.OpenFault which.Script) k h = absurd h
+report_then text s0 s1 s2 (why.OpenFault which.Tables) k h = absurd h
+report_then text s0 s1 s2 (why.OpenFault which.Comment) k h = absurd h
+report_then text s0 s1 s2 (why.OpenFault which.Output) k h = unopened_then s0 s1 s2 (name.Out ∷ []) k h
+report_then text s0 s1 s2 (why.ReadFault u) k h = absurd h
+report_then text s0 s1 s2 why.WriteFault k h = ((let rose = h.0 in let f = k.stays.counts.writes in omega (arith, rose, f)), (h.1.0, wrote_then s0 s1 s2 [] name.Out (take h.1.0 text) k h.1.1))
+report_then text s0 s1 s2 why.NoMemory k h = untouched_then s0 s1 s2 k h
+
+work_then : (has : Bool) (n : ℕ) (s0 s1 s2 : DeskState) (w : Why) → OnlySays s1 s2 → DidWork has n s0 w s1 → DidWork has n s0 w s2
+work_then true n s0 s1 s2 w k t = report_then (work_text n) s0 s1 s2 w k t
+work_then false n s0 s1 s2 w k t = (t.0, untouched_then s0 s1 s2 k t.1)
+
 worked_then : (formats : List EndKind) (a : WordsTold Command) (s0 s1 s2 : DeskState) (w : Why) → OnlySays s1 s2 → Worked formats a s0 w s1 → Worked formats a s0 w s2
 worked_then formats (words_wrong u) s0 s1 s2 w k t = (t.0, untouched_then s0 s1 s2 k t.1)
-worked_then formats (words_right not_built) s0 s1 s2 w k t = (t.0, untouched_then s0 s1 s2 k t.1)
 worked_then formats (words_right (transform_picture asked)) s0 s1 s2 w k t = transformed_then asked s0 s1 s2 w k t
 worked_then formats (words_right (show_picture asked)) s0 s1 s2 w k t = show_then (has_format asked.kind formats) asked s0 s1 s2 w k t
 worked_then formats (words_right (encode_image asked)) s0 s1 s2 w k t = encoding_then asked s0 s1 s2 w k t
 worked_then formats (words_right (print_comments files)) s0 s1 s2 w k (inl t) = inl (printed_then s0 s1 s2 (name_of files.input) (name_of files.output) w k t)
 worked_then formats (words_right (print_comments files)) s0 s1 s2 w k (inr t) = inr (t.0, untouched_then s0 s1 s2 k t.1)
 worked_then formats (words_right (insert_comment asked)) s0 s1 s2 w k t = inserted_then s0 s1 s2 (task_of asked) w k t
+worked_then formats (words_right (do_work n)) s0 s1 s2 w k t = work_then (has_format Pnm formats) n s0 s1 s2 w k t
 
 said_still : (a : Option (List ℕ)) (b c : Option (List ℕ)) (t : List ℕ) → b ≡ a → Appends b c t → Appends a c t
 said_still a b c t e h = let P : Option (List ℕ) → Type 0 = λ m. Appends m c t in subst P e h
@@ -131,6 +154,11 @@ picture_due wanted input s0 s1 M None h all =
       file = h.read;
       means = subst (λ (b : List ℕ). Means standard_limits b M) cut (means_more standard_limits (take h.is.count h.bytes) (drop h.is.count h.bytes ++ rest) M h.is.whole.0);
     }
+
+-- a complete file that was read
+pub whole_file : (wanted : Wanted) (input : Name) (s0 s1 : DeskState) (M : Meaning) → ReadsFrom input (IsReadPicture wanted M None) s0 s1 → (bytes : List ℕ) × IsFile s0.files input bytes × Means standard_limits bytes M
+unfolding picture_due
+whole_file wanted input s0 s1 M read = let due = picture_due wanted input s0 s1 M None read tt in (due.bytes, due.file, due.means)
 
 picture_of_scans : (a : TransformAsked) (scans : Scans) (fault : Option PictureFault) (s0 s1 : DeskState) (M : Meaning) (early : Option ℕ) → HasScans a.scans s0 scans → ReadsFrom (name_of a.files.input) (IsReadPicture Coefficients M early) s0 s1
     → IsAllRead early s1 → picture_fault (choice_asked a scans) M ≡ fault → PictureDue a fault early s0

@@ -53,3 +53,5 @@ pub mod ScriptTaken
 pub mod Shown
 pub mod TablesTaken
 pub mod Unwanted
+pub mod WorkImage
+pub mod Worked

@@ -1,5 +1,5 @@
 -- WHAT THE WORDS OF A CALL ASK FOR: the first names the command, the others are its switches and files.
-use Rattle.std.specs.Prelude.{◌≡◌, ◌⊎◌, ℕ, if◌then◌else◌, List, [], ◌∷◌, codes, Result, Ok, Err}
+use Rattle.std.specs.Prelude.{◌≡◌, ◌⊎◌, ℕ, ◌≤◌, if◌then◌else◌, List, [], ◌∷◌, codes, Result, Ok, Err}
 use Rattle.std.specs.Str.{bytes_eq}
 use Rattle.jpg_base.specs.declared.names.Name.{Name}
 use Rattle.jpg_base.specs.declared.names.Name.TheVariants as name
@@ -8,6 +8,7 @@ use Rattle.jpg_spec_words.specs.EncodeWords.{EncodeAsked, encode_asked}
 use Rattle.jpg_spec_words.specs.ShowWords.{ShowAsked, show_asked}
 use Rattle.jpg_spec_words.specs.TransformWords.{TransformAsked, transform_asked}
 use Rattle.jpg_spec_words.specs.CommentWords.{FileName, standard_input, standard_output, named, FilesAsked, WordsTold, WriteAsked, words_right, words_wrong, usage_at, read_asked, write_asked}
+use Rattle.jpg_spec_words.specs.WorkWords.{work_asked}
 use Rattle.jpg_spec_words.specs.declared.answers.UsageFault.TheVariants.{NoTool, UnknownTool}
 use Rattle.jpg_cli.specs.Words.CommentWords.{files_view, write_told}
 use Rattle.jpg_cli.specs.Words.EncodeWords.{encode_told}
@@ -18,14 +19,14 @@ use Rattle.jpg_cli.specs.declared.words.Asked.TheVariants as asked
 use Rattle.jpg_cli.specs.declared.words.comments.WordsStop.{WordsStop}
 use Rattle.jpg_cli.specs.declared.words.comments.WordsStop.TheVariants as stop
 
--- a command that isn't built yet; jpegtran; djpeg; cjpeg; rdjpgcom; wrjpgcom
+-- jpegtran; djpeg; cjpeg; rdjpgcom; wrjpgcom; jpgwork, with its number
 pub data Command : Type 0 where
-  not_built : Command
   transform_picture : TransformAsked → Command
   show_picture : ShowAsked → Command
   encode_image : EncodeAsked → Command
   print_comments : FilesAsked → Command
   insert_comment : WriteAsked → Command
+  do_work : ℕ → Command
 
 -- what the files of rdjpgcom ask for, as a command
 abbrev pub read_command : WordsTold FilesAsked → WordsTold Command
@@ -52,6 +53,11 @@ abbrev pub encode_command : WordsTold EncodeAsked → WordsTold Command
 encode_command (words_wrong usage) = words_wrong usage
 encode_command (words_right asked) = words_right (encode_image asked)
 
+-- and for jpgwork
+abbrev pub work_command : WordsTold ℕ → WordsTold Command
+work_command (words_wrong usage) = words_wrong usage
+work_command (words_right n) = words_right (do_work n)
+
 abbrev pub known_command : List ℕ → List (List ℕ) → WordsTold Command
 known_command tool words =
     if bytes_eq tool (codes "jpegtran") then transform_command (transform_asked words)
@@ -59,7 +65,7 @@ known_command tool words =
     else if bytes_eq tool (codes "cjpeg") then encode_command (encode_asked words)
     else if bytes_eq tool (codes "rdjpgcom") then read_command (read_asked 1 words)
     else if bytes_eq tool (codes "wrjpgcom") then write_command (write_asked 1 words)
-    else words_right not_built
+    else work_command (work_asked words)
 
 abbrev pub command_asked : List (List ℕ) → WordsTold Command
 command_asked [] = usage_at NoTool 0
@@ -74,12 +80,17 @@ name_of (named text) = name.File text
 -- ANSWERS
 
 abbrev pub command_told : Asked → Command
-command_told asked.NotBuilt = not_built
 command_told (asked.Jpegtran words) = transform_picture (transform_told words)
 command_told (asked.Djpeg words) = show_picture (show_told words)
 command_told (asked.Cjpeg words) = encode_image (encode_told words)
 command_told (asked.Rdjpgcom files) = print_comments (files_view files)
 command_told (asked.Wrjpgcom words) = insert_comment (write_told words)
+command_told (asked.Jpgwork n) = do_work n
+
+-- a number of jpgwork is one from 1 to 400
+abbrev pub IsSized : Asked → Type 0
+IsSized (asked.Jpgwork n) = (1 ≤ n) × (n ≤ 400)
+IsSized other = Unit {0}
 
 -- If the words are right, what they ask for; if they aren't, what is wrong. NoMemory is possible if a file is named, or
 -- a comment given.

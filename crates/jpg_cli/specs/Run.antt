@@ -7,7 +7,6 @@ use Rattle.jpg_base.specs.Desk.{DeskState, Rose}
 use Rattle.jpg_spec.specs.declared.fault.FaultAt.{FaultAt}
 use Rattle.jpg_spec_words.specs.declared.answers.Why.{Why}
 use Rattle.jpg_spec_words.specs.declared.answers.Why.TheVariants as why
-use Rattle.jpg_spec.specs.declared.fault.Fault.TheVariants.{NotBuilt}
 use Rattle.jpg_spec_write.specs.declared.picture_fault.PictureFault.{PictureFault}
 use Rattle.jpg_spec_words.specs.CommentWords.{FilesAsked, WordsTold, WriteAsked, words_right, words_wrong}
 use Rattle.jpg_spec.specs.Early.{MeansAs}
@@ -20,9 +19,10 @@ use Rattle.jpg_spec.specs.Segments.{standard_limits}
 use Rattle.jpg_spec_words.specs.ShowWords.{ShowAsked}
 use Rattle.jpg_spec_words.specs.declared.answers.UsageFault.TheVariants.{NoEnd}
 use Rattle.jpg_spec_image.specs.declared.image.EndKind.{EndKind}
+use Rattle.jpg_spec_image.specs.declared.image.EndKind.TheVariants.{Pnm}
 use Rattle.jpg_spec_words.specs.TransformWords.{TransformAsked, choice_asked}
 use Rattle.jpg_spec_words.specs.Words.{tool_of}
-use Rattle.jpg_cli.specs.Commands.{Command, not_built as unbuilt, transform_picture, show_picture, encode_image, print_comments, insert_comment, command_asked, name_of}
+use Rattle.jpg_cli.specs.Commands.{Command, transform_picture, show_picture, encode_image, print_comments, insert_comment, do_work, command_asked, name_of}
 use Rattle.jpg_cli.specs.Tools.CommentInserted.{Inserted, Task}
 use Rattle.jpg_cli.specs.Tools.ImageEncoded.{EncodedAsAsked}
 use Rattle.jpg_cli.specs.Tools.ReadComments.{Printed}
@@ -35,6 +35,7 @@ use Rattle.jpg_cli.specs.Tools.Showing.{Showing, Shown}
 use Rattle.jpg_cli.specs.Stays.{FilesStay, OnlyWorks, Untouched}
 use Rattle.jpg_cli.specs.Desk.ScriptTaken.{HasScans, HasScansFault}
 use Rattle.jpg_cli.specs.Tools.Turned.{Transformed}
+use Rattle.jpg_cli.specs.Tools.Worked.{DidWork}
 use Rattle.jpg_cli.specs.declared.top.Ended.{Ended}
 
 -- The text was said. If the count of failed messages rose, perhaps only a first part of it.
@@ -111,12 +112,12 @@ task_of asked = record { comment = asked.comment; input = name_of asked.files.in
 -- by the formats of the image writers, and what the words ask for
 abbrev pub Worked : List EndKind → WordsTold Command → DeskState → Why → DeskState → Type 0
 Worked formats (words_wrong usage) old ended new = (ended ≡ why.Usage usage) × Untouched old new
-Worked formats (words_right unbuilt) old ended new = (ended ≡ why.Refused (record { fault = NotBuilt; at = 0 })) × Untouched old new
 Worked formats (words_right (transform_picture asked)) old ended new = Transformed asked old ended new
 Worked formats (words_right (show_picture asked)) old ended new = RanShow (has_format asked.kind formats) asked old ended new
 Worked formats (words_right (encode_image asked)) old ended new = EncodedAsAsked asked old ended new
 Worked formats (words_right (print_comments files)) old ended new = RanRead files old ended new
 Worked formats (words_right (insert_comment asked)) old ended new = Inserted (task_of asked) old ended new
+Worked formats (words_right (do_work n)) old ended new = DidWork (has_format Pnm formats) n old ended new
 
 -- the work of a run, before its message
 pub record Works (formats : List EndKind) (words : List (List ℕ)) (old : DeskState) (ended : Why) (new : DeskState) : Type 0 where

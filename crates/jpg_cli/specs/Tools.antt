@@ -7,3 +7,4 @@ pub mod ReadComments
 pub mod Showing
 pub mod ShowingRows
 pub mod Turned
+pub mod Worked

@@ -13,8 +13,8 @@ use jpg_spec_write::PictureFault;
 /// A message that is being built; each has fewer than 128 bytes.
 pub type Message = ArrayVec<u8, 128>;
 
-// Appends a text.
-fn add(message: &mut Message, text: &str)
+/// Appends a text.
+pub fn add(message: &mut Message, text: &str)
     requires room { array_vec_len message.old + length text.now ≤ 128 }
     ensures text { message.new.items ≡ message.old.items ++ text.now }
     ensures more { array_vec_len message.new ≡ array_vec_len message.old + length text.now }
@@ -49,8 +49,8 @@ fn decimal_digits(number: u64) -> Digits
     Digits { places, free }
 }
 
-// Appends a number in decimal digits.
-fn add_number(message: &mut Message, number: u64)
+/// Appends a number in decimal digits.
+pub fn add_number(message: &mut Message, number: u64)
     requires room { array_vec_len message.old + 20 ≤ 128 }
     ensures text { message.new.items ≡ message.old.items ++ decimal number }
     ensures most { array_vec_len message.new ≤ array_vec_len message.old + 20 }

@@ -6,5 +6,8 @@ pub mod djpeg;
 pub mod djpeg_rows;
 pub mod image_writer;
 pub mod jpegtran;
+pub mod jpgwork;
 pub mod rdjpgcom;
+pub mod work_image;
+pub mod work_lines;
 pub mod wrjpgcom;

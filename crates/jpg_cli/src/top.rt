@@ -9,13 +9,13 @@ use crate::message::message_of;
 use crate::tools::cjpeg::encode;
 use crate::tools::image_writer::show_by;
 use crate::tools::jpegtran::transform;
+use crate::tools::jpgwork::do_work;
 use crate::tools::rdjpgcom::print_comments;
 use crate::tools::wrjpgcom::insert_comment;
 use crate::words::comments::WordsStop;
 use crate::words::{Asked, read_words, tool_name};
 use jpg_base::{Desk, Put};
 use jpg_pnm_bmp::ImageEnd;
-use jpg_spec::{Fault, FaultAt};
 use jpg_spec_words::Why;
 use std::alloc::Global;
 
@@ -50,15 +50,12 @@ fn work<D: Desk>(alloc: Global, words: &[String], desk: &mut D, ends: Vec<Box<dy
     match read_words(alloc, words) {
         Err(WordsStop::Usage(usage)) => Why::Usage(usage),
         Err(WordsStop::NoMemory) => Why::NoMemory,
-        Ok(Asked::NotBuilt) => Why::Refused(FaultAt {
-            fault: Fault::NotBuilt,
-            at: 0,
-        }),
         Ok(Asked::Jpegtran(words)) => transform(alloc, &words, desk),
         Ok(Asked::Djpeg(words)) => show_by(alloc, &words, desk, ends),
         Ok(Asked::Cjpeg(words)) => encode(alloc, words, desk),
         Ok(Asked::Rdjpgcom(files)) => print_comments(alloc, &files, desk),
         Ok(Asked::Wrjpgcom(words)) => insert_comment(alloc, &words, desk),
+        Ok(Asked::Jpgwork(number)) => do_work(alloc, number, desk, ends),
     }
 }
 
@@ -69,7 +66,8 @@ fn work<D: Desk>(alloc: Global, words: &[String], desk: &mut D, ends: Vec<Box<dy
 /// first of the image writers `ends` that has the format; if none has it, the words are wrong at the one that asks for
 /// it. `cjpeg` writes the file of an image, PNM or BMP, encoded as its switches say. `rdjpgcom [FILE]` prints the
 /// comments of a file, or of standard input, to standard output. `wrjpgcom` writes a file, or standard input, with a
-/// comment inserted before its frame header to standard output. What is wrong or refused is named in a message.
+/// comment inserted before its frame header to standard output. `jpgwork N` makes an image from its number, encodes,
+/// rotates, rotates back and decodes it, and writes to standard output what came of it. What is wrong or refused is named in a message.
 pub fn run<D: Desk>(
     alloc: Global,
     words: &[String],

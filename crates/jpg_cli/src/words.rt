@@ -1,12 +1,13 @@
 //! The words of a call: which command they name, and what they ask for.
-ghost use Rattle.std.specs.Prelude.{◌≡◌, ◌≤◌, IfSome, IfNone, drop, length, map, true, false, string_bytes};
+ghost use Rattle.std.specs.Prelude.{◌≡◌, ◌≤◌, IfOk, IfSome, IfNone, drop, length, map, true, false, string_bytes};
 ghost use Rattle.jpg_spec_words.specs.CommentWords.{read_asked, write_asked};
 ghost use Rattle.jpg_spec_words.specs.EncodeWords.{encode_asked};
 ghost use Rattle.jpg_spec_words.specs.ShowWords.{show_asked};
 ghost use Rattle.jpg_spec_words.specs.TransformWords.{transform_asked};
 ghost use Rattle.jpg_spec_words.specs.Words.{is_tool, tool_of};
+ghost use Rattle.jpg_spec_words.specs.WorkWords.{work_asked};
 ghost use Rattle.jpg_cli.specs.declared.words.comments.WordsStop.TheVariants.{Usage as wrong};
-ghost use Rattle.jpg_cli.specs.Commands.{IsCommand, command_asked, encode_command, known_command, read_command, show_command, transform_command, write_command};
+ghost use Rattle.jpg_cli.specs.Commands.{IsCommand, command_asked, encode_command, known_command, read_command, show_command, transform_command, work_command, write_command, IsSized};
 
 pub mod cjpeg;
 pub mod cjpeg_request;
@@ -14,6 +15,7 @@ pub mod cjpeg_values;
 pub mod comments;
 pub mod djpeg;
 pub mod jpegtran;
+pub mod jpgwork;
 pub mod requests;
 pub mod switches;
 
@@ -22,14 +24,13 @@ use crate::words::cjpeg_request::EncodeWords;
 use crate::words::comments::{Files, WordsStop, WriteWords, rdjpgcom_words, wrjpgcom_words};
 use crate::words::djpeg::{ShowWords, djpeg_words};
 use crate::words::jpegtran::{TransformWords, jpegtran_words};
+use crate::words::jpgwork::jpgwork_words;
 use jpg_spec_words::{Usage, UsageFault};
 use std::alloc::Global;
 
 /// What the words of a call ask for.
 #[derive(Drop)]
 pub enum Asked {
-    /// A command that isn't built yet.
-    NotBuilt,
     /// `jpegtran`, with its files and what is asked for the picture.
     Jpegtran(TransformWords),
     /// `djpeg`, with its files and how the picture is decoded.
@@ -40,6 +41,8 @@ pub enum Asked {
     Rdjpgcom(Files),
     /// `wrjpgcom`, with its files, the comment's source and whether it replaces others.
     Wrjpgcom(WriteWords),
+    /// `jpgwork`, with its number, from 1 to 400.
+    Jpgwork(u16),
 }
 
 // The command of this name.
@@ -75,7 +78,8 @@ pub fn tool_name(words: &[String]) -> &'static str
 /// What the words ask for. Words that are wrong give their first fault: `NoTool`, `UnknownTool` at the
 /// command, or those of the command's own words; they take no memory.
 pub fn read_words(alloc: Global, words: &[String]) -> Result<Asked, WordsStop>
-    ensures { IsCommand (command_asked (map string_bytes words.now)) result }
+    ensures asked { IsCommand (command_asked (map string_bytes words.now)) result }
+    ensures sized { IfOk result IsSized }
 {
     match words {
         [] => Err(first_word(UsageFault::NoTool)),
@@ -88,7 +92,8 @@ pub fn read_words(alloc: Global, words: &[String]) -> Result<Asked, WordsStop>
 
 // What the words of this command ask for.
 fn known_words(alloc: Global, tool: &str, words: &[String]) -> Result<Asked, WordsStop>
-    ensures { IsCommand (known_command tool.now (drop 1 (map string_bytes words.now))) result }
+    ensures asked { IsCommand (known_command tool.now (drop 1 (map string_bytes words.now))) result }
+    ensures sized { IfOk result IsSized }
 {
     if tool == "jpegtran" {
         transform_command(alloc, words)
@@ -101,12 +106,13 @@ fn known_words(alloc: Global, tool: &str, words: &[String]) -> Result<Asked, Wor
     } else if tool == "wrjpgcom" {
         write_command(alloc, words)
     } else {
-        Ok(Asked::NotBuilt)
+        work_command(words)
     }
 }
 
 fn transform_command(alloc: Global, words: &[String]) -> Result<Asked, WordsStop>
-    ensures { IsCommand (transform_command (transform_asked (drop 1 (map string_bytes words.now)))) result }
+    ensures asked { IsCommand (transform_command (transform_asked (drop 1 (map string_bytes words.now)))) result }
+    ensures sized { IfOk result IsSized }
 {
     match jpegtran_words(alloc, words) {
         Ok(asked) => Ok(Asked::Jpegtran(asked)),
@@ -115,7 +121,8 @@ fn transform_command(alloc: Global, words: &[String]) -> Result<Asked, WordsStop
 }
 
 fn show_command(alloc: Global, words: &[String]) -> Result<Asked, WordsStop>
-    ensures { IsCommand (show_command (show_asked (drop 1 (map string_bytes words.now)))) result }
+    ensures asked { IsCommand (show_command (show_asked (drop 1 (map string_bytes words.now)))) result }
+    ensures sized { IfOk result IsSized }
 {
     match djpeg_words(alloc, words) {
         Ok(asked) => Ok(Asked::Djpeg(asked)),
@@ -124,7 +131,8 @@ fn show_command(alloc: Global, words: &[String]) -> Result<Asked, WordsStop>
 }
 
 fn encode_command(alloc: Global, words: &[String]) -> Result<Asked, WordsStop>
-    ensures { IsCommand (encode_command (encode_asked (drop 1 (map string_bytes words.now)))) result }
+    ensures asked { IsCommand (encode_command (encode_asked (drop 1 (map string_bytes words.now)))) result }
+    ensures sized { IfOk result IsSized }
 {
     match cjpeg_words(alloc, words) {
         Ok(asked) => Ok(Asked::Cjpeg(asked)),
@@ -133,7 +141,8 @@ fn encode_command(alloc: Global, words: &[String]) -> Result<Asked, WordsStop>
 }
 
 fn read_command(alloc: Global, words: &[String]) -> Result<Asked, WordsStop>
-    ensures { IsCommand (read_command (read_asked 1 (drop 1 (map string_bytes words.now)))) result }
+    ensures asked { IsCommand (read_command (read_asked 1 (drop 1 (map string_bytes words.now)))) result }
+    ensures sized { IfOk result IsSized }
 {
     match rdjpgcom_words(alloc, words) {
         Ok(files) => Ok(Asked::Rdjpgcom(files)),
@@ -142,11 +151,22 @@ fn read_command(alloc: Global, words: &[String]) -> Result<Asked, WordsStop>
 }
 
 fn write_command(alloc: Global, words: &[String]) -> Result<Asked, WordsStop>
-    ensures { IsCommand (write_command (write_asked 1 (drop 1 (map string_bytes words.now)))) result }
+    ensures asked { IsCommand (write_command (write_asked 1 (drop 1 (map string_bytes words.now)))) result }
+    ensures sized { IfOk result IsSized }
 {
     match wrjpgcom_words(alloc, words) {
         Ok(asked) => Ok(Asked::Wrjpgcom(asked)),
         Err(stop) => Err(stop),
+    }
+}
+
+fn work_command(words: &[String]) -> Result<Asked, WordsStop>
+    ensures asked { IsCommand (work_command (work_asked (drop 1 (map string_bytes words.now)))) result }
+    ensures sized { IfOk result IsSized }
+{
+    match jpgwork_words(words) {
+        Ok(number) => Ok(Asked::Jpgwork(number)),
+        Err(usage) => Err(WordsStop::Usage(usage)),
     }
 }
 

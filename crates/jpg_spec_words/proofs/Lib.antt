@@ -1,1 +1,2 @@
 pub mod EncodedKept
+pub mod WorkedBack

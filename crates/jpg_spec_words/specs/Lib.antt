@@ -6,3 +6,5 @@ pub mod ShowWords
 pub mod Switches
 pub mod TransformWords
 pub mod Words
+pub mod Work
+pub mod WorkWords

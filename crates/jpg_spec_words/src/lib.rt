@@ -6,6 +6,7 @@ mod answers;
 pub mod encoding_laws;
 mod switch;
 pub mod word_examples;
+pub mod work_laws;
 
 pub use answers::{Usage, UsageFault, Which, Why};
 pub use switch::Purpose;

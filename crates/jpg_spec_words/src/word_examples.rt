@@ -1,13 +1,15 @@
 //! Worked examples of words: what the words of jpegtran, djpeg and cjpeg ask for, by computation.
 #![tactic(auto, unfolding(jpg_spec::specs::Codes::are_codes, jpg_spec::specs::HuffContents::huffman_table_of, jpg_spec::specs::HuffContents::huffman_tables_of, jpg_spec::specs::QuantContents::quant_tables_of))]
 
-ghost use Rattle.std.specs.Prelude.{◌≡◌, [], ◌∷◌, true, false, Some, codes};
+ghost use Rattle.std.specs.Prelude.{◌≡◌, [], ◌∷◌, ◌++◌, true, false, Some, codes};
 ghost use Rattle.jpg_spec_words.specs.CommentWords.{usage_at, words_right, read_asked, write_asked, from_to, named};
 ghost use Rattle.jpg_spec_words.specs.EncodeWords.{encode_asked, encode_of, factors_due};
 ghost use Rattle.jpg_spec_words.specs.Requests.{nothing_said, with_input, with_output};
 ghost use Rattle.jpg_spec_words.specs.ShowWords.{show_asked, show_of};
 ghost use Rattle.jpg_spec_write.specs.FileText.{rows, mcus};
 ghost use Rattle.jpg_spec_words.specs.TransformWords.{transform_asked, transform_of, own_progressive, in_file};
+ghost use Rattle.jpg_spec_words.specs.Work.{back_asked, first_asked, sides_line, turned_asked, work_info};
+ghost use Rattle.jpg_spec_words.specs.WorkWords.{work_asked};
 ghost use Rattle.jpg_spec_words.specs.declared.answers.UsageFault.TheVariants.{BadValue, LeftOutSwitch, MissingValue, TooManyFiles, TwoTransforms, UnknownSwitch};
 ghost use Rattle.jpg_spec.specs.declared.frame.Copying.TheVariants as copying;
 ghost use Rattle.jpg_spec_image.specs.declared.image.EndKind.TheVariants.{Pnm, Bmp};
@@ -118,4 +120,24 @@ pub fn words_are_told()
     ensures two { write_asked 1 (codes "-cfile" ∷ codes "a" ∷ codes "-comment" ∷ codes "b" ∷ []) ≡ usage_at usage.TwoComments 3 }
     ensures file { read_asked 1 (codes "x" ∷ []) ≡ words_right (from_to (named (codes "x"))) }
     ensures left_out { read_asked 1 (codes "-V" ∷ []) ≡ usage_at usage.LeftOutSwitch 1 }
+{}
+
+/// jpgwork takes one number from 1 to 400.
+pub fn the_number_of_jpgwork_is_bounded()
+    ensures one { work_asked (codes "1" ∷ []) ≡ words_right 1 }
+    ensures most { work_asked (codes "0400" ∷ []) ≡ words_right 400 }
+    ensures missing { work_asked [] ≡ usage_at MissingValue 1 }
+    ensures zero { work_asked (codes "0" ∷ []) ≡ usage_at BadValue 1 }
+    ensures large { work_asked (codes "401" ∷ []) ≡ usage_at BadValue 1 }
+    ensures letter { work_asked (codes "1a" ∷ codes "2" ∷ []) ≡ usage_at BadValue 1 }
+    ensures switch { work_asked (codes "-1" ∷ []) ≡ usage_at BadValue 1 }
+    ensures more { work_asked (codes "1" ∷ codes "2" ∷ []) ≡ usage_at TooManyFiles 2 }
+{}
+
+/// The steps of jpgwork are what these words ask for; the image of number 1 has 13 by 7 pixels.
+pub fn the_steps_of_jpgwork_are_asked_for()
+    ensures first { encode_asked (codes "-progressive" ∷ []) ≡ words_right first_asked }
+    ensures turned { transform_asked (codes "-rotate" ∷ codes "90" ∷ []) ≡ words_right turned_asked }
+    ensures back { transform_asked (codes "-rotate" ∷ codes "270" ∷ codes "-progressive" ∷ []) ≡ words_right back_asked }
+    ensures sides { sides_line (work_info 1) ≡ codes "image 13 7" ++ 10 ∷ [] }
 {}

@@ -69,8 +69,8 @@ fn encode_by<D: Desk>(
     }
 }
 
-// Makes the picture of the image, and writes it to the output.
-fn write_encoded<D: Desk>(
+/// Makes the picture of the image, and writes it to the output.
+pub fn write_encoded<D: Desk>(
     alloc: Global,
     image: &Image,
     words: &EncodeWords,

@@ -16,7 +16,7 @@ pub returns-in-Ok-Jpegtran : goal.returns-in-Ok-Jpegtran
 returns-in-Ok-Jpegtran g c =
     let state = g.D.Desk.state in
     let asked = command_asked (map string_bytes c.args.words.now) in
-    let told = subst (λ (a : Asked). IsCommand asked (Ok a)) c.in-Ok-Jpegtran.field-0-is c.in-Ok-Jpegtran.ensures in
+    let told = subst (λ (a : Asked). IsCommand asked (Ok a)) c.in-Ok-Jpegtran.field-0-is c.in-Ok-Jpegtran.ensures.asked in
     record {
       worked =
           (let P : WordsTold Command → Type 0 = λ a. Worked (formats_of (map (λ e. (goal.ImageEnd-dyn g (e.vtable, e.value)).progress e.value) c.args.ends.items)) a (state c.args.desk.now) c.transform.result (state c.transform.new.desk) in
@@ -24,11 +24,11 @@ returns-in-Ok-Jpegtran g c =
       kept = c.transform.ensures.kept;
     }
 
-pub returns : goal.returns
-returns g c =
+pub returns-in-Ok-Wrjpgcom : goal.returns-in-Ok-Wrjpgcom
+returns-in-Ok-Wrjpgcom g c =
     let state = g.D.Desk.state in
     let asked = command_asked (map string_bytes c.args.words.now) in
-    let told = subst (λ (a : Asked). IsCommand asked (Ok a)) c.in-Ok-Wrjpgcom.field-0-is c.in-Ok-Wrjpgcom.ensures in
+    let told = subst (λ (a : Asked). IsCommand asked (Ok a)) c.in-Ok-Wrjpgcom.field-0-is c.in-Ok-Wrjpgcom.ensures.asked in
     let done = c.insert_comment.ensures in
     record {
       worked =
@@ -41,7 +41,7 @@ pub returns-in-Ok-Djpeg : goal.returns-in-Ok-Djpeg
 returns-in-Ok-Djpeg g c =
     let state = g.D.Desk.state in
     let asked = command_asked (map string_bytes c.args.words.now) in
-    let told = subst (λ (a : Asked). IsCommand asked (Ok a)) c.in-Ok-Djpeg.field-0-is c.in-Ok-Djpeg.ensures in
+    let told = subst (λ (a : Asked). IsCommand asked (Ok a)) c.in-Ok-Djpeg.field-0-is c.in-Ok-Djpeg.ensures.asked in
     record {
       worked =
           (let P : WordsTold Command → Type 0 = λ a. Worked (formats_of (map (λ e. (goal.ImageEnd-dyn g (e.vtable, e.value)).progress e.value) c.args.ends.items)) a (state c.args.desk.now) c.show_by.result (state c.show_by.new.desk) in
@@ -53,5 +53,17 @@ pub returns-in-Err-NoMemory : goal.returns-in-Err-NoMemory
 returns-in-Err-NoMemory g c =
     let state = g.D.Desk.state in
     let s = state c.args.desk.now in
-    let told = subst (λ (x : WordsStop). IsCommand (command_asked (map string_bytes c.args.words.now)) (Err x)) c.in-Err-NoMemory.field-0-is c.in-Err-NoMemory.ensures in
+    let told = subst (λ (x : WordsStop). IsCommand (command_asked (map string_bytes c.args.words.now)) (Err x)) c.in-Err-NoMemory.field-0-is c.in-Err-NoMemory.ensures.asked in
     record { worked = names_wanting (formats_of (map (λ e. (goal.ImageEnd-dyn g (e.vtable, e.value)).progress e.value) c.args.ends.items)) _ s told; kept = (reads_none s).copies.works }
+
+pub returns : goal.returns
+returns g c =
+    let state = g.D.Desk.state in
+    let asked = command_asked (map string_bytes c.args.words.now) in
+    let told = subst (λ (a : Asked). IsCommand asked (Ok a)) c.in-Ok-Jpgwork.field-0-is c.in-Ok-Jpgwork.ensures.asked in
+    record {
+      worked =
+          (let P : WordsTold Command → Type 0 = λ a. Worked (formats_of (map (λ e. (goal.ImageEnd-dyn g (e.vtable, e.value)).progress e.value) c.args.ends.items)) a (state c.args.desk.now) c.do_work.result (state c.do_work.new.desk) in
+          subst P (sym told) c.do_work.ensures.worked);
+      kept = c.do_work.ensures.kept;
+    }

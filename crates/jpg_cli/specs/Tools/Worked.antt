@@ -1,0 +1,92 @@
+-- HOW THE WORK OF jpgwork ENDS, by why it ended; and its steps, each over a desk in memory of its own.
+use Rattle.std.specs.Prelude.{◌≡◌, ◌⊎◌, ℕ, Bool, true, false, List, [], ◌∷◌, drop, length, sum, take, if◌then◌else◌, Option, Some, IfSome, Result, Ok, Err}
+use Rattle.std.specs.Str.{bytes_eq}
+use Rattle.jpg_base.specs.declared.memory.MemoryDesk.{MemoryDesk}
+use Rattle.jpg_base.specs.declared.names.Name.TheVariants as name
+use Rattle.jpg_base.specs.Desk.{DeskState, Rose}
+use Rattle.jpg_base.specs.Memory.{memory_outputs, memory_state}
+use Rattle.jpg_spec.specs.FileMeaning.{Means}
+use Rattle.jpg_spec.specs.Meaning.{Meaning}
+use Rattle.jpg_spec.specs.Segments.{standard_limits}
+use Rattle.jpg_spec_image.specs.ImageText.{end_text, pnm_header}
+use Rattle.jpg_spec_image.specs.Pixels.{info, pixels}
+use Rattle.jpg_spec_image.specs.declared.image.EndKind.TheVariants.{Pnm}
+use Rattle.jpg_spec_move.specs.Moved.{Choice, moved, moved_text}
+use Rattle.jpg_spec_move.specs.declared.transform.Transform.{Transform}
+use Rattle.jpg_spec_write.specs.ScansAsked.{sequential, standard}
+use Rattle.jpg_cli.specs.Certain.{IsTold}
+use Rattle.jpg_spec_words.specs.Requests.{nothing_said}
+use Rattle.jpg_spec_words.specs.TransformWords.{choice_asked, transform_of}
+use Rattle.jpg_spec_words.specs.Work.{lines, work_info, work_text}
+use Rattle.jpg_spec_words.specs.declared.answers.Usage.{Usage}
+use Rattle.jpg_spec_words.specs.declared.answers.UsageFault.TheVariants.{NoEnd}
+use Rattle.jpg_spec_words.specs.declared.answers.Why.{Why}
+use Rattle.jpg_spec_words.specs.declared.answers.Why.TheVariants as why
+use Rattle.jpg_spec_words.specs.declared.answers.Which.TheVariants as which
+use Rattle.jpg_cli.specs.Endings.{Added, Unopened}
+use Rattle.jpg_cli.specs.Stays.{Untouched}
+
+-- A text is written to standard output, or a first part of it; or the output wasn't created. Without memory nothing is
+-- opened or created.
+abbrev pub ReportEnds : List ℕ → DeskState → Why → DeskState → Type 0
+ReportEnds text old why.Done new = Added [] name.Out text old new
+ReportEnds text old (why.OpenFault which.Output) new = Unopened (name.Out ∷ []) old new
+ReportEnds text old why.WriteFault new = Rose old.counts.writes new.counts.writes × ((count : ℕ) × Added [] name.Out (take count text) old new)
+ReportEnds text old why.NoMemory new = Untouched old new
+ReportEnds text old other new = ⊥
+
+-- no image writer has the format; this is after the two words
+abbrev pub no_end : Usage
+no_end = record { fault = NoEnd; word = 2 }
+
+-- THE WORK by this number: its five lines are written, if one of the image writers makes PNM.
+abbrev pub DidWork : Bool → ℕ → DeskState → Why → DeskState → Type 0
+DidWork true n old ended new = ReportEnds (work_text n) old ended new
+DidWork false n old ended new = ((ended ≡ why.Usage no_end) ⊎ (ended ≡ why.NoMemory)) × Untouched old new
+
+-- ITS STEPS, which answer nothing if there was no memory
+
+-- Standard input has these bytes, and there is no output.
+pub record HoldsInput (input : List ℕ) (desk : MemoryDesk) : Type 0 where
+  pub told : IsTold (memory_state desk).files name.In input
+  pub outputs : (memory_state desk).outputs ≡ Some []
+
+-- the only output has this text
+abbrev pub HasOutput : List ℕ → MemoryDesk → Type 0
+HasOutput text desk = memory_outputs desk ≡ (name.Out, text) ∷ []
+
+-- which means this picture
+pub record HasFile (M : Meaning) (text : List ℕ) (desk : MemoryDesk) : Type 0 where
+  pub output : HasOutput text desk
+  pub means : Means standard_limits text M
+
+-- `jpegtran` without other words than a transform and perhaps `-progressive`
+abbrev pub work_choice : Transform → Bool → Choice
+work_choice t progressive =
+    choice_asked (transform_of (record nothing_said { transform = t; progressive = progressive })) (if progressive then standard else sequential)
+
+abbrev pub TurnsFile : Choice → List ℕ → Option MemoryDesk → Type 0
+TurnsFile choice input result = (M : Meaning) → Means standard_limits input M → IfSome result (λ desk. HasFile (moved choice M) (moved_text choice M) desk)
+
+-- the text of the image, or why there is none
+abbrev pub IsShown : Bool → Meaning → Result MemoryDesk Why → Type 0
+IsShown has M (Ok desk) = (has ≡ true) × HasOutput (end_text Pnm (info M false) (pixels M false true)) desk
+IsShown has M (Err (why.Usage usage)) = (has ≡ false) × (usage ≡ no_end)
+IsShown has M (Err why.NoMemory) = Unit {0}
+IsShown has M (Err other) = ⊥
+
+abbrev pub ShowsFile : Bool → List ℕ → Result MemoryDesk Why → Type 0
+ShowsFile has input result = (M : Meaning) → Means standard_limits input M → IsShown has M result
+
+-- the five lines, by the texts of the three files and of an image of these sides; or there was no memory
+abbrev pub ReportsShown : ℕ → List ℕ → List ℕ → List ℕ → List ℕ → Result (List ℕ) Why → Type 0
+ReportsShown n first turned back image (Ok text) =
+    text ≡ lines (work_info n) (length first) (length turned) (bytes_eq back first) (sum (drop (length (pnm_header (work_info n))) image))
+ReportsShown n first turned back image (Err ended) = ended ≡ why.NoMemory
+
+-- the five lines, or why there are none
+abbrev pub IsReport : Bool → ℕ → Result (List ℕ) Why → Type 0
+IsReport has n (Ok text) = (has ≡ true) × (text ≡ work_text n)
+IsReport has n (Err (why.Usage usage)) = (has ≡ false) × (usage ≡ no_end)
+IsReport has n (Err why.NoMemory) = Unit {0}
+IsReport has n (Err other) = ⊥

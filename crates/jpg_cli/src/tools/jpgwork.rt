@@ -1,0 +1,218 @@
+//! An image made from a number, encoded, rotated, rotated back and decoded; and what is reported of it.
+ghost use Rattle.std.specs.Prelude.{◌≡◌, ◌≤◌, IfSome, None, length, map};
+ghost use Rattle.jpg_spec_image.specs.declared.image.EndKind.TheVariants as kind;
+ghost use Rattle.jpg_spec_image.specs.ImageText.{pnm_header};
+ghost use Rattle.jpg_spec_words.specs.Work.{first_picture, first_text, work_info};
+ghost use Rattle.jpg_spec_words.specs.TransformWords.{scans_source};
+ghost use Rattle.jpg_cli.specs.Stays.{OnlyWorks};
+ghost use Rattle.jpg_cli.specs.Words.TransformWords.{script_told};
+ghost use Rattle.jpg_cli.specs.Tools.Ends.{AreNewEnds, formats_of, has_format};
+ghost use Rattle.jpg_cli.specs.Tools.Worked.{DidWork, HasFile, HoldsInput, IsReport, ReportEnds, ReportsShown, ShowsFile, TurnsFile, work_choice};
+
+use crate::tools::cjpeg::write_encoded;
+use crate::tools::image_writer::show_by;
+use crate::tools::jpegtran::transform;
+use crate::tools::work_image::image_of;
+use crate::tools::work_lines::{lines_of, samples_sum};
+use crate::words::cjpeg_request::EncodeWords;
+use crate::words::cjpeg_values::Factors;
+use crate::words::comments::Files;
+use crate::words::djpeg::ShowWords;
+use crate::words::jpegtran::{ScriptFrom, TransformWords};
+use jpg_base::{Bytes, Desk, MemoryDesk, Name, Put};
+use jpg_pnm_bmp::ImageEnd;
+use jpg_spec::Copying;
+use jpg_spec_image::EndKind;
+use jpg_spec_move::Transform;
+use jpg_spec_words::{Which, Why};
+use jpg_transform::{Restart, Scans};
+use std::alloc::Global;
+
+// The most bytes that a desk in memory gives in a read.
+const PIECE: u32 = 16384;
+
+/// Does the work of this number, and writes its five lines to standard output. The steps are those of the commands,
+/// each over a desk in memory of its own, on which a call fails only if there is no memory. The decoded image goes
+/// through the first of the image writers that makes PNM; if there is none, the words are wrong. The output is created
+/// when the lines are known; from then on no memory is asked for.
+#[inline(never)]
+pub fn do_work<D: Desk>(alloc: Global, size: u16, desk: &mut D, ends: Vec<Box<dyn ImageEnd>>) -> Why
+    requires small { size ≤ 400 }
+    requires ends { AreNewEnds (map (λ e. progress e) ends.items) }
+    ensures kept { OnlyWorks (D.state desk.old) (D.state desk.new) }
+    ensures worked { DidWork (has_format kind.Pnm (formats_of (map (λ e. progress e) ends.items))) size (D.state desk.old) result (D.state desk.new) }
+{
+    match report_of(alloc, size, ends) {
+        Err(why) => why,
+        Ok(report) => write_report(report.as_slice(), desk),
+    }
+}
+
+// Writes a text to standard output.
+fn write_report<D: Desk>(report: &[u8], desk: &mut D) -> Why
+    ensures kept { OnlyWorks (D.state desk.old) (D.state desk.new) }
+    ensures wrote { ReportEnds report.now (D.state desk.old) result (D.state desk.new) }
+{
+    match desk.create(&Name::Out) {
+        Put::Failed => Why::OpenFault(Which::Output),
+        Put::Done => match desk.write(report) {
+            Put::Done => Why::Done,
+            Put::Failed => Why::WriteFault,
+        },
+    }
+}
+
+// The five lines of this number, or why there are none.
+fn report_of(alloc: Global, size: u16, ends: Vec<Box<dyn ImageEnd>>) -> Result<Bytes, Why>
+    requires small { size ≤ 400 }
+    requires ends { AreNewEnds (map (λ e. progress e) ends.items) }
+    ensures { IsReport (has_format kind.Pnm (formats_of (map (λ e. progress e) ends.items))) size result }
+{
+    let Some(first) = first_file(alloc, size) else {
+        return Err(Why::NoMemory);
+    };
+    let Some(turned) = turned_file(alloc, first.output(0), Transform::Rotate90, false) else {
+        return Err(Why::NoMemory);
+    };
+    let Some(back) = turned_file(alloc, turned.output(0), Transform::Rotate270, true) else {
+        return Err(Why::NoMemory);
+    };
+    match shown_file(alloc, back.output(0), ends) {
+        Err(why) => Err(why),
+        Ok(shown) => report_shown(
+            alloc,
+            size,
+            first.output(0),
+            turned.output(0),
+            back.output(0),
+            shown.output(0),
+        ),
+    }
+}
+
+// The same, by the texts of the three files and of the image.
+fn report_shown(
+    alloc: Global,
+    size: u16,
+    first: &[u8],
+    turned: &[u8],
+    back: &[u8],
+    image: &[u8],
+) -> Result<Bytes, Why>
+    requires small { size ≤ 400 }
+    requires header { length (pnm_header (work_info size)) ≤ length image.now }
+    ensures { ReportsShown size first.now turned.now back.now image.now result }
+{
+    let Some(samples) = samples_sum(size, image) else {
+        return Err(Why::NoMemory);
+    };
+    match lines_of(alloc, size, first, turned, back, samples) {
+        Ok(lines) => Ok(lines),
+        Err(_) => Err(Why::NoMemory),
+    }
+}
+
+// A desk whose output is the first file; none if there is no memory.
+fn first_file(alloc: Global, size: u16) -> Option<MemoryDesk>
+    requires { size ≤ 400 }
+    ensures { IfSome result (HasFile (first_picture size) (first_text size)) }
+{
+    let Some(image) = image_of(alloc, size) else {
+        return None;
+    };
+    let words = EncodeWords {
+        files: Files {
+            input: Name::In,
+            output: Name::Out,
+        },
+        quality: None,
+        gray: false,
+        baseline: false,
+        script: ScriptFrom::Standard,
+        restart: Restart::Off,
+        factors: Factors::new(),
+        tables: None,
+    };
+    let mut desk = MemoryDesk::new(alloc, PIECE);
+    match write_encoded(alloc, &image, &words, Scans::Standard, None, &mut desk) {
+        Why::Done => Some(desk),
+        _ => None,
+    }
+}
+
+// A desk that has these bytes as standard input; none if there is no memory.
+fn desk_of(alloc: Global, input: &[u8]) -> Option<MemoryDesk>
+    ensures { IfSome result (HoldsInput input.now) }
+{
+    let mut desk = MemoryDesk::new(alloc, PIECE);
+    match desk.add_file(&Name::In, input) {
+        Ok(()) => Some(desk),
+        Err(_) => None,
+    }
+}
+
+// The default scans of a kind.
+fn scans_from(progressive: bool) -> ScriptFrom
+    ensures { script_told result ≡ scans_source progressive None }
+{
+    if progressive {
+        ScriptFrom::Standard
+    } else {
+        ScriptFrom::Sequential
+    }
+}
+
+// A desk whose output is the file of the transformed picture of another file; none if there is no memory.
+fn turned_file(
+    alloc: Global,
+    input: &[u8],
+    transformed: Transform,
+    progressive: bool,
+) -> Option<MemoryDesk>
+    ensures { TurnsFile (work_choice transformed progressive) input.now result }
+{
+    let Some(mut desk) = desk_of(alloc, input) else {
+        return None;
+    };
+    let words = TransformWords {
+        files: Files {
+            input: Name::In,
+            output: Name::Out,
+        },
+        transform: transformed,
+        trim: false,
+        gray: false,
+        copying: Copying::Comments,
+        script: scans_from(progressive),
+        restart: Restart::Off,
+    };
+    match transform(alloc, &words, &mut desk) {
+        Why::Done => Some(desk),
+        _ => None,
+    }
+}
+
+// A desk whose output is the image of a file, or why there is none.
+fn shown_file(alloc: Global, input: &[u8], ends: Vec<Box<dyn ImageEnd>>) -> Result<MemoryDesk, Why>
+    requires { AreNewEnds (map (λ e. progress e) ends.items) }
+    ensures { ShowsFile (has_format kind.Pnm (formats_of (map (λ e. progress e) ends.items))) input.now result }
+{
+    let Some(mut desk) = desk_of(alloc, input) else {
+        return Err(Why::NoMemory);
+    };
+    let words = ShowWords {
+        files: Files {
+            input: Name::In,
+            output: Name::Out,
+        },
+        kind: EndKind::Pnm,
+        kind_word: 2,
+        gray: false,
+        smooth: true,
+    };
+    match show_by(alloc, &words, &mut desk, ends) {
+        Why::Done => Ok(desk),
+        Why::Usage(usage) => Err(Why::Usage(usage)),
+        _ => Err(Why::NoMemory),
+    }
+}
