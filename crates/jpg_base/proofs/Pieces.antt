@@ -1,14 +1,15 @@
 -- Pieces of lists that a desk in memory copies.
-use Rattle.std.proofs.Common.{◌≡◌, ℕ, ◌+◌, ◌-◌, ◌<◌, ◌≤◌, List, [], ◌∷◌, ◌++◌, length, map, take, drop, get_or, set, min, refl, sym, add-one, ap, ◌∙◌, arith, Vec}
+use Rattle.std.proofs.Common.{◌≡◌, ℕ, ◌+◌, ◌-◌, ◌<◌, ◌≤◌, List, [], ◌∷◌, ◌++◌, length, map, take, drop, get_or, set, min, Option, None, Some, refl, sym, add-one, ap, ◌∙◌, arith, Vec}
 use Rattle.std.specs.declared.alloc.Global.{Global}
 use Rattle.std.proofs.lemmas.List.{take-append-drop, take_at, drop-drop, length-take-le, map-append, take_all, set_at, take_more}
 use Rattle.jpg_base.specs.declared.names.Put.{Put}
 use Rattle.jpg_base.specs.declared.names.Put.TheVariants.{Done, Failed}
 use Rattle.jpg_base.specs.declared.names.Got.TheVariants as got
 use Rattle.jpg_base.specs.declared.memory.Stored.{Stored}
+use Rattle.jpg_base.specs.declared.memory.Part.{Part}
 use Rattle.jpg_base.specs.Desk.{AfterAppend, AfterAppendLast, append_last, append_last-push}
 use Rattle.jpg_base.specs.Input.{given}
-use Rattle.jpg_base.specs.Memory.{named}
+use Rattle.jpg_base.specs.Memory.{named, appended_length, FailsWith}
 
 -- the bytes that were copied to the beginning of a buffer, and those that are left after them
 pub given_front : (bytes copied buf : List ℕ) (at most : ℕ) → copied ≡ take most (drop at bytes) → most ≤ length (drop at bytes) → drop at bytes ≡ take most (copied ++ drop most buf) ++ drop (at + most) bytes
@@ -54,3 +55,15 @@ pub appends_at : (xs : List Stored) (last : ℕ) (s : Stored) (piece : List ℕ)
     → AfterAppendLast (map named xs) piece answer (map named (set xs last (record { name = s.name; bytes = bytes })))
 appends_at xs last s piece answer bytes e h is a =
     rw e (appends_last xs s piece answer bytes h (is ∙ ap (λ n. get_or xs n s) e) a)
+
+fails_last : (xs : List Stored) (s : Stored) (piece : List ℕ) (failure : Option Part) (answer : Put) (bytes : Vec ℕ Global) → 0 < length xs → s ≡ get_or xs (length xs - 1) s → FailsWith failure piece answer (λ part. bytes.items ≡ s.bytes.items ++ part)
+    → FailsWith failure piece answer (λ part. map named (set xs (length xs - 1) (record { name = s.name; bytes = bytes })) ≡ append_last (map named xs) part)
+fails_last xs s piece None answer bytes h is f = tt
+fails_last xs s piece (Some part) answer bytes h is f =
+    (f.0, (f.1.0, appended_last xs s (take (appended_length f.1.0 part (length piece)) piece) bytes h is f.1.1))
+
+-- the same of a call that fails
+pub fails_at : (xs : List Stored) (last : ℕ) (s : Stored) (piece : List ℕ) (failure : Option Part) (answer : Put) (bytes : Vec ℕ Global) → last ≡ length xs - 1 → 0 < length xs → s ≡ get_or xs last s → FailsWith failure piece answer (λ part. bytes.items ≡ s.bytes.items ++ part)
+    → FailsWith failure piece answer (λ part. map named (set xs last (record { name = s.name; bytes = bytes })) ≡ append_last (map named xs) part)
+fails_at xs last s piece failure answer bytes e h is f =
+    rw e (fails_last xs s piece failure answer bytes h (is ∙ ap (λ n. get_or xs n s) e) f)

@@ -1,15 +1,18 @@
 -- What contracts see of a desk in memory, and what its calls do in addition to those of any desk.
-use Rattle.std.specs.Prelude.{◌≡◌, ◌+◌, ◌-◌, ◌^◌, ◌&&◌, None, [], ◌∷◌, ℕ, List, Bool, false, Option, Some, if◌then◌else◌, map, min, drop, is_some, nat_lt, nat_eq, length, Vec}
+use Rattle.std.specs.Prelude.{◌≡◌, ◌+◌, ◌-◌, ◌/◌, ◌^◌, ◌==◌, None, [], ◌∷◌, ℕ, List, Bool, true, false, Option, Some, if◌then◌else◌, map, min, take, is_some, nat_lt, length, Vec}
 use Rattle.std.specs.declared.alloc.Global.{Global}
-use Rattle.std.specs.List.{list_any}
 use Rattle.std.specs.Option.{option_map}
 use Rattle.jpg_base.specs.declared.names.Name.{Name}
 use Rattle.jpg_base.specs.declared.names.Put.{Put}
+use Rattle.jpg_base.specs.declared.names.Put.TheVariants as put
 use Rattle.jpg_base.specs.declared.names.Got.{Got}
 use Rattle.jpg_base.specs.declared.names.Got.TheVariants as got
 use Rattle.jpg_base.specs.declared.names.Counts.{Counts}
 use Rattle.jpg_base.specs.declared.memory.Stored.{Stored}
 use Rattle.jpg_base.specs.declared.memory.Asked.{Asked}
+use Rattle.jpg_base.specs.declared.memory.Failure.{Failure}
+use Rattle.jpg_base.specs.declared.memory.Part.{Part}
+use Rattle.jpg_base.specs.declared.memory.Part.TheVariants.{Half, First}
 use Rattle.jpg_base.specs.declared.memory.MemoryDesk.{MemoryDesk}
 use Rattle.jpg_base.specs.Desk.{DeskState, raised}
 use Rattle.jpg_base.specs.Input.{input_rest, given_of}
@@ -46,21 +49,49 @@ memory_said d = d.said.items
 abbrev pub memory_calls : MemoryDesk → ℕ
 memory_calls d = d.calls
 
--- the numbers of the calls that fail, counted from 1
-abbrev pub memory_failing : MemoryDesk → List ℕ
-memory_failing d = d.failing.items
+abbrev pub chosen : Failure → ℕ × Part
+chosen f = (f.call, f.part)
+
+-- the numbers of the calls that fail, counted from 1, each with the part of its piece that a write appends; the newest first
+abbrev pub memory_failing : MemoryDesk → List (ℕ × Part)
+memory_failing d = map chosen d.failing.items
 
 -- the most bytes that a read gives
 abbrev pub memory_piece : MemoryDesk → ℕ
 memory_piece d = d.piece
 
--- whether the call after this many calls is among these. Calls after the last number aren't.
-abbrev pub is_failing_next : ℕ → List ℕ → Bool
-is_failing_next calls failing = nat_lt calls (2 ^ 64 - 1) && list_any (λ call. nat_eq call (calls + 1)) failing
+-- how many bytes of a piece of this length are its part
+abbrev pub part_length : Part → ℕ → ℕ
+part_length Half length = length / 2
+part_length (First count) length = min length count
+
+-- the part that was chosen last for the call of this number, where it is one that fails
+abbrev pub part_of : List (ℕ × Part) → ℕ → Option Part
+part_of [] call = None
+part_of (failure ∷ failing) call = if failure.0 == call then Some failure.1 else part_of failing call
+
+-- the part of the call after this many calls, where it is one that fails. Calls after the last number don't fail.
+abbrev pub next_part : ℕ → List (ℕ × Part) → Option Part
+next_part calls failing = if nat_lt calls (2 ^ 64 - 1) then part_of failing (calls + 1) else None
+
+-- the part of the next call, where it is one that fails
+abbrev pub part_of_next : MemoryDesk → Option Part
+part_of_next d = next_part d.calls (memory_failing d)
 
 -- whether the next call is one that fails
 abbrev pub fails_next : MemoryDesk → Bool
-fails_next d = is_failing_next d.calls d.failing.items
+fails_next d = is_some (part_of_next d)
+
+-- how many bytes of a piece of this length a failing call appends: its part, or none where there was no memory
+abbrev pub appended_length : Bool → Part → ℕ → ℕ
+appended_length true part length = part_length part length
+appended_length false part length = 0
+
+-- A call that was chosen to fail does so, and these bytes were appended: its part of the piece, or nothing without memory.
+abbrev pub FailsWith : Option Part → List ℕ → Put → (List ℕ → Type 0) → Type 0
+FailsWith None piece answer Appended = Unit {0}
+FailsWith (Some part) piece answer Appended =
+    (answer ≡ put.Failed) × ((memory : Bool) × Appended (take (appended_length memory part (length piece)) piece))
 
 -- a state with one more file, or with that of this name replaced
 abbrev pub with_file : Name → List ℕ → DeskState → DeskState
@@ -72,10 +103,16 @@ with_file name bytes state = record state {
 abbrev pub read_answer : MemoryDesk → ℕ → Got
 read_answer d room = if fails_next d then got.Failed else given_of (min d.piece room) (option_map input_rest d.input)
 
--- the number of calls, the numbers of those that fail and the most bytes of a read don't change
+-- the number of calls, those that fail and the most bytes of a read don't change
 pub record SameNumbers (old new : MemoryDesk) : Type 0 where
   pub calls : memory_calls new ≡ memory_calls old
   pub failing : memory_failing new ≡ memory_failing old
+  pub piece : memory_piece new ≡ memory_piece old
+
+-- the call of this number fails from now on, with this part
+pub record Chosen (old : MemoryDesk) (call : ℕ) (part : Part) (new : MemoryDesk) : Type 0 where
+  pub failing : memory_failing new ≡ (call, part) ∷ memory_failing old
+  pub calls : memory_calls new ≡ memory_calls old
   pub piece : memory_piece new ≡ memory_piece old
 
 -- a call took the next number, and left these counts

@@ -6,7 +6,9 @@ mod parts;
 
 use crate::input::Input;
 use crate::{Counts, Desk, Got, Name, NoMemory, Put};
-use parts::{add_output, append, input_of, is_failing, raise, with_name, write_last};
+use parts::{
+    add_output, append, choose, failure_of, input_of, is_failing, raise, with_name, write_last,
+};
 use std::alloc::Global;
 
 #[derive(Drop)]
@@ -19,6 +21,19 @@ pub struct Stored {
 pub struct Asked {
     pub name: Name,
     pub answer: Put,
+}
+
+/// What a write or a message that fails appends before: half of its piece, or so many of its first bytes, where it has them.
+#[derive(Clone, Copy, Debug, PartialEq, Eq)]
+pub enum Part {
+    Half,
+    First(u32),
+}
+
+#[derive(Drop)]
+pub struct Failure {
+    pub call: u64,
+    pub part: Part,
 }
 
 /// A desk whose files, outputs and messages are in memory, for tests. A call fails if a test chose it, if it opens an
@@ -35,14 +50,15 @@ pub struct MemoryDesk {
     said: Vec<u8>,
     // none once there was no memory for a name
     asked: Option<Vec<Asked>>,
-    failing: Vec<u64>,
+    // the newest first
+    failing: Vec<Failure>,
     calls: u64,
     counts: Counts,
     ghost piece_is_some: { 1 ≤ piece },
 }
 
 impl MemoryDesk {
-    ghost use Rattle.jpg_base.specs.Memory.{memory_state, memory_said, memory_outputs, memory_failing, memory_calls, memory_piece, SameNumbers, IsNew, with_file};
+    ghost use Rattle.jpg_base.specs.Memory.{memory_state, memory_said, memory_outputs, memory_calls, SameNumbers, Chosen, IsNew, with_file};
 
     /// A desk with no files and no failures, which gives at most `piece` bytes per read. `piece` is at least 1.
     pub fn new(alloc: Global, piece: u32) -> MemoryDesk
@@ -87,18 +103,31 @@ impl MemoryDesk {
 
     /// Makes the call of this number fail; all calls of `open`, `read`, `create`, `write` and `say` are counted
     /// together, from 1. The number 0 and those of earlier calls change nothing. A `write` or `say` that fails in this
-    /// way appends a first part, perhaps nothing. At `NoMemory` nothing has changed.
+    /// way appends the first half of its bytes before. Of two choices for one call the later one counts. At `NoMemory`
+    /// nothing has changed.
     pub fn fail(&mut self, call: u64) -> Result<(), NoMemory>
-        ensures ok { OnOk result (memory_failing self.new ≡ memory_failing self.old ++ call ∷ []) }
-        ensures err { OnErr result (memory_failing self.new ≡ memory_failing self.old) }
-        ensures calls { memory_calls self.new ≡ memory_calls self.old }
-        ensures piece { memory_piece self.new ≡ memory_piece self.old }
+        ensures ok { OnOk result (Chosen self.old call Part.Half self.new) }
+        ensures err { OnErr result (SameNumbers self.old self.new) }
         ensures state { memory_state self.new ≡ memory_state self.old }
     {
-        match self.failing.push(call) {
-            Ok(()) => Ok(()),
-            Err(_) => Err(NoMemory),
-        }
+        choose(&mut self.failing, call, Part::Half)
+    }
+
+    /// Makes the call of this number fail as `fail` does, but a `write` or `say` appends the first `bytes` of its bytes
+    /// before, or all of them where they are fewer. At `NoMemory` nothing has changed.
+    pub fn fail_after(&mut self, call: u64, bytes: u32) -> Result<(), NoMemory>
+        ensures ok { OnOk result (Chosen self.old call (Part.First bytes) self.new) }
+        ensures err { OnErr result (SameNumbers self.old self.new) }
+        ensures state { memory_state self.new ≡ memory_state self.old }
+    {
+        choose(&mut self.failing, call, Part::First(bytes))
+    }
+
+    /// How many calls of `open`, `read`, `create`, `write` and `say` were made so far, or `u64::MAX` if there are more.
+    pub fn calls(&self) -> u64
+        ensures { result ≡ memory_calls self.now }
+    {
+        self.calls
     }
 
     /// How many outputs were created, or `u32::MAX` if there are more.
@@ -125,8 +154,8 @@ impl MemoryDesk {
 }
 
 impl Desk for MemoryDesk {
-    ghost use Rattle.jpg_base.specs.Desk.{Opens, Reads, Creates, Writes, Says, counted_open, counted_read, counted_write, counted_say};
-    ghost use Rattle.jpg_base.specs.Memory.{memory_state, fails_next, read_answer, Called};
+    ghost use Rattle.jpg_base.specs.Desk.{append_last, Opens, Reads, Creates, Writes, Says, counted_open, counted_read, counted_write, counted_say};
+    ghost use Rattle.jpg_base.specs.Memory.{memory_state, memory_outputs, memory_said, part_of_next, fails_next, read_answer, FailsWith, Called};
 
     ghost state = { memory_state };
 
@@ -192,10 +221,10 @@ impl Desk for MemoryDesk {
         requires { (memory_state self.old).output_created ≡ true }
         ensures desk { Writes (memory_state self.old) piece.now result (memory_state self.new) }
         ensures called { Called self.old (counted_write result (memory_state self.old).counts) self.new }
-        ensures fails { fails_next self.old ≡ true → result ≡ Put.Failed }
+        ensures fails { FailsWith (part_of_next self.old) piece.now result (λ part. memory_outputs self.new ≡ append_last (memory_outputs self.old) part) }
     {
-        let fails = is_failing(&mut self.calls, &self.failing);
-        match write_last(fails, &mut self.outputs, piece) {
+        let failure = failure_of(&mut self.calls, &self.failing);
+        match write_last(failure, &mut self.outputs, piece) {
             Put::Done => Put::Done,
             Put::Failed => {
                 raise(&mut self.counts.writes);
@@ -207,10 +236,10 @@ impl Desk for MemoryDesk {
     fn say(&mut self, text: &[u8]) -> Put
         ensures desk { Says (memory_state self.old) text.now result (memory_state self.new) }
         ensures called { Called self.old (counted_say result (memory_state self.old).counts) self.new }
-        ensures fails { fails_next self.old ≡ true → result ≡ Put.Failed }
+        ensures fails { FailsWith (part_of_next self.old) text.now result (λ part. memory_said self.new ≡ memory_said self.old ++ part) }
     {
-        let fails = is_failing(&mut self.calls, &self.failing);
-        match append(fails, &mut self.said, text) {
+        let failure = failure_of(&mut self.calls, &self.failing);
+        match append(failure, &mut self.said, text) {
             Put::Done => Put::Done,
             Put::Failed => {
                 raise(&mut self.counts.says);

@@ -13,7 +13,6 @@ use Rattle.jpg_spec_write.specs.declared.picture_fault.PictureFault.{PictureFaul
 use Rattle.jpg_spec_write.specs.declared.picture_fault.PictureFault.TheVariants as picture
 
 pub fault_short : (f : Fault) → length (fault_name f) ≤ 20
-fault_short fault.NotBuilt = lit≤ tt
 fault_short fault.NotJpeg = lit≤ tt
 fault_short fault.Truncated = lit≤ tt
 fault_short fault.NoMarker = lit≤ tt

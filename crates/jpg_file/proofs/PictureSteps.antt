@@ -1,8 +1,7 @@
 -- The picture of a file, part by part.
 use Rattle.std.proofs.Common.{◌≡◌, ℕ, zero, suc, ◌+◌, ◌<◌, ◌≤◌, Bool, true, false, cond, ◌==◌, List, [], ◌∷◌, ◌++◌, length, map, take, get_or, refl, sym, ap, ◌∙◌, subst, arith, Option, Some, None}
-use Rattle.std.specs.Prelude.{is_none, filter, find, unwrap_or, slice_get, slice_index, slice_index_or}
+use Rattle.std.specs.Prelude.{is_none, filter, find, unwrap_or, slice_index, slice_index_or}
 use Rattle.std.proofs.lemmas.List.{length-map, map-append, reverse-append, reverse-reverse, take_all, take_more}
-use Rattle.std.proofs.lemmas.Option.{get_or_from_slice_get, slice_get_within}
 use Rattle.jpg_spec.proofs.QuantsInForce.{IsQuants, in_force_quants}
 use Rattle.jpg_spec.specs.Lists.{below}
 use Rattle.jpg_spec.specs.Geometry.{Frame, bounds, component_at, no_component}
@@ -33,16 +32,12 @@ use Rattle.jpg_file.proofs.Keeping.{filter_reverse, jfif_found}
 
 -- ADOBE'S SEGMENTS, one by one
 
-adobe_more : (kept : List Segment) (s : Segment) → adobe_transform (kept ++ s ∷ []) ≡ cond (is_adobe s) (Some (slice_index s.1 11)) (adobe_transform kept)
+pub adobe_more : (kept : List Segment) (s : Segment) → adobe_transform (kept ++ s ∷ []) ≡ cond (is_adobe s) (Some (slice_index s.1 11)) (adobe_transform kept)
 adobe_more kept s = by (is_adobe s) refl
   where
     by : (b : Bool) → is_adobe s ≡ b → adobe_transform (kept ++ s ∷ []) ≡ cond b (Some (slice_index s.1 11)) (adobe_transform kept)
     by true e = rw (reverse-append kept (s ∷ []), e) refl
     by false e = rw (reverse-append kept (s ∷ []), e) refl
-
-pub told_more : (kept : List Segment) (i : ℕ) (s : Segment) → slice_get kept i ≡ Some s → adobe_transform (take (i + 1) kept) ≡ cond (is_adobe s) (Some (slice_index s.1 11)) (adobe_transform (take i kept))
-told_more kept i s e =
-    ap adobe_transform (take_more kept i s (slice_get_within kept i s e) ∙ ap (λ x. take i kept ++ x ∷ []) (get_or_from_slice_get kept i s s e)) ∙ adobe_more (take i kept) s
 
 pub jfif_no_adobe : (s : Segment) → is_jfif s ≡ true → is_adobe s ≡ false
 jfif_no_adobe s e = by (s.0 == 0xe0) refl

@@ -9,7 +9,7 @@ pub use jpg_base::{
     Colour, Desk, Fault, FaultAt, Fed, Frame, Limits, QuantTable, ScanHead, Stop, WriteFault,
 };
 pub use jpg_coefs::{BlockView, Coefs};
-pub use jpg_markers::{Jfif, Kept, KeptList, OutHead};
+pub use jpg_markers::{Jfif, Kept, KeptList, KeptRest, OutHead};
 pub use jpg_scans::Script;
 pub use laws::rows_are_due_in_order;
 pub use read::data::{DataStep, take_data};

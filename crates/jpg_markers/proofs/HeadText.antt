@@ -1,12 +1,11 @@
 -- The text of a head in its parts, as it is written.
-use Rattle.std.proofs.Common.{◌≡◌, ℕ, suc, ◌+◌, ◌<◌, ◌≤◌, Bool, true, false, List, [], ◌∷◌, ◌++◌, length, map, take, drop, get_or, Some, refl, sym, ap, ◌∙◌, cond, inl, inr, ◌⊎◌, arith}
-use Rattle.std.specs.Prelude.{zip, filter, flat_map, ◌&&◌, ◌==◌, not, slice_get}
+use Rattle.std.proofs.Common.{◌≡◌, ℕ, suc, ◌+◌, ◌<◌, ◌≤◌, Bool, true, false, List, [], ◌∷◌, ◌++◌, length, map, take, drop, get_or, refl, sym, ap, ◌∙◌, cond, inl, inr, ◌⊎◌, arith}
+use Rattle.std.specs.Prelude.{zip, filter, flat_map, ◌&&◌, ◌==◌, not}
 use Rattle.std.specs.Int.{to_be_bytes, w16}
 use Rattle.std.proofs.lemmas.List.{append-nil, take_more, take_all, append_assoc}
 use Rattle.std.proofs.lemmas.List.Concat.{flat_map-append}
 use Rattle.std.proofs.lemmas.List.Elements.{filter-append}
 use Rattle.std.proofs.lemmas.List.Folds.{flat_map-map}
-use Rattle.std.proofs.lemmas.Option.{get_or_from_slice_get, slice_get_within}
 use Rattle.std.proofs.lemmas.Slice.Zip.{get_or-zip, length-zip}
 use Rattle.jpg_spec_write.specs.FileText.{kept_text, segment_text, quant_text, slot_in, distinct_after, distinct_quants, component_bytes, front_text, sof_code}
 use Rattle.jpg_spec.specs.Geometry.{Frame, component_at, no_component}
@@ -73,13 +72,12 @@ headed_text colour j copying kept =
     sym (flat_map-append (λ (s : ℕ × List ℕ). segment_text s.0 s.1) (own_header colour j) (filter (is_passed copying colour) kept)) ∙ ap kept_text (headed_is colour j copying kept)
 
 -- one marker that is left, and the remaining ones
-pub passed_step : (p : ℕ × List ℕ → Bool) (kept : List (ℕ × List ℕ)) (i : ℕ) (s : ℕ × List ℕ) → slice_get kept i ≡ Some s
-    → kept_text (filter p (drop i kept)) ≡ kept_text (filter p (s ∷ [])) ++ kept_text (filter p (drop (i + 1) kept))
-passed_step p kept i s e =
-    let left : drop i kept ≡ s ∷ drop (i + 1) kept = left_at kept i s (slice_get_within kept i s e) (sym (get_or_from_slice_get kept i s s e)) in
-    ap (λ l. kept_text (filter p l)) left
-    ∙ ap kept_text (filter-append p (s ∷ []) (drop (i + 1) kept))
-    ∙ flat_map-append (λ (t : ℕ × List ℕ). segment_text t.0 t.1) (filter p (s ∷ [])) (filter p (drop (i + 1) kept))
+pub passed_step : (p : ℕ × List ℕ → Bool) (old new : List (ℕ × List ℕ)) (s : ℕ × List ℕ) → old ≡ s ∷ new
+    → kept_text (filter p old) ≡ kept_text (filter p (s ∷ [])) ++ kept_text (filter p new)
+passed_step p old new s e =
+    ap (λ l. kept_text (filter p l)) e
+    ∙ ap kept_text (filter-append p (s ∷ []) new)
+    ∙ flat_map-append (λ (t : ℕ × List ℕ). segment_text t.0 t.1) (filter p (s ∷ [])) (filter p new)
 
 pub not_passed : (p : ℕ × List ℕ → Bool) (s : ℕ × List ℕ) → p s ≡ false → [] ≡ kept_text (filter p (s ∷ []))
 not_passed p s e = ap (λ (b : Bool). kept_text (cond b (s ∷ []) [])) (sym e)

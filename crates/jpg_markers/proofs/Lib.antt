@@ -3,6 +3,7 @@ pub mod Distinct
 pub mod HeadSent
 pub mod HeadText
 pub mod Headers
+pub mod KeptBytes
 pub mod SegmentText
 pub mod Tables
 pub mod Taking

@@ -1,5 +1,7 @@
 -- Markers that are kept: application data and comments (T.81, B.2.4.5, B.2.4.6).
-use Rattle.std.specs.Prelude.{◌≡◌, ◌⊎◌, ℕ, ◌≤◌, List, length}
+use Rattle.std.specs.Prelude.{◌≡◌, ◌⊎◌, ℕ, zero, suc, ◌≤◌, ◌-◌, All, List, [], ◌∷◌, take, drop, length}
+use Rattle.jpg_spec.specs.Segments.{two_bytes}
+use Rattle.jpg_spec_write.specs.FileText.{kept_text}
 use Rattle.jpg_markers.specs.declared.kept.Kept.{Kept}
 
 -- APPn or COM
@@ -13,4 +15,25 @@ pub record IsKeptSegment (code : ℕ) (contents : List ℕ) : Type 0 where
 
 -- a member's code and contents
 abbrev pub kept_pair : Kept → ℕ × List ℕ
-kept_pair k = (k.code, k.contents)
+kept_pair k = (k.code, k.contents.now)
+
+-- KEPT MARKERS IN MEMORY are the bytes of their segments, one after another.
+
+-- the segments that bytes begin with, at most n
+abbrev pub segments_in : ℕ → List ℕ → List (ℕ × List ℕ)
+segments_in zero bytes = []
+segments_in (suc n) [] = []
+segments_in (suc n) (mark ∷ []) = []
+segments_in (suc n) (mark ∷ code ∷ []) = []
+segments_in (suc n) (mark ∷ code ∷ high ∷ []) = []
+segments_in (suc n) (mark ∷ code ∷ high ∷ low ∷ bytes) =
+    let size = two_bytes high low - 2 in
+    (code, take size bytes) ∷ segments_in n (drop size bytes)
+
+abbrev pub segments_of : List ℕ → List (ℕ × List ℕ)
+segments_of bytes = segments_in (length bytes) bytes
+
+-- the bytes are those of segments that can be kept
+pub record AreSegments (bytes : List ℕ) : Type 0 where
+  pub spelled : kept_text (segments_of bytes) ≡ bytes
+  pub kept : All (λ s. IsKeptSegment s.0 s.1) (segments_of bytes)

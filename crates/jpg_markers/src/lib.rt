@@ -24,7 +24,7 @@ pub use jpg_base::{
 };
 pub use jpg_huff::{BitOut, TableSet};
 pub use jpg_spec::{Copying, Jfif};
-pub use kept::{Kept, KeptList};
+pub use kept::{Kept, KeptList, KeptRest};
 pub use quants::{QuantSet, read_dqt};
 pub use scan::{accepted_heads_are_of_their_frames, read_sos};
 pub use segments::{SegStep, SegmentReader};

@@ -4,7 +4,7 @@ use Rattle.std.specs.Prelude.{◌⊎◌}
 use Rattle.jpg_spec.specs.Markers.{Segment, Rule, SpellsMarker, code_fault, has_scan, Pass, Between, NoMarkerBytes, BeginsSegment, RevealsSegment, TailReveals, SegmentsReveal, PartOfSegment, at_part}
 use Rattle.jpg_spec.specs.Header.{header_rule, InHeader, HeaderReveals, UnfinishedHeader, IsHeader}
 use Rattle.jpg_spec.specs.declared.fault.Fault.{Fault}
-use Rattle.jpg_spec.specs.declared.fault.Fault.TheVariants.{NotBuilt, NoMarker, MissingComponent}
+use Rattle.jpg_spec.specs.declared.fault.Fault.TheVariants.{NotJpeg, NoMarker, MissingComponent}
 use Rattle.jpg_spec.specs.declared.frame.Limits.{Limits}
 use Rattle.jpg_spec.proofs.ReadBytes.{State, starts, starting, whole, filling, marked, half, inside, stopped, ended, behind, next, read, called, read_both, read_after, read_begin, read_segments, read_between, read_fault, read_eoi, reads}
 use Rattle.jpg_spec.proofs.Common.{neither, heads}
@@ -79,13 +79,13 @@ part_going behind e = cc
 
 -- A RULE that no scan header passes
 abbrev pub closing_rule : Limits → Rule
-closing_rule limits before code contents = cond (code == 0xda) (Some NotBuilt) (header_rule limits before code contents)
+closing_rule limits before code contents = cond (code == 0xda) (Some NotJpeg) (header_rule limits before code contents)
 
 pass_closing : (limits : Limits) (before : List Segment) → has_scan before ≡ false → Pass (header_rule limits) before → Pass (closing_rule limits) before
 pass_closing limits [] none p = p
 pass_closing limits (s ∷ before) none p =
     let k = neither (s.0 == 0xda) (has_scan before) none in
-    (p.0, ap (λ b. cond b (Some NotBuilt) (header_rule limits before s.0 s.1)) k.0 ∙ p.1, pass_closing limits before k.1 p.2)
+    (p.0, ap (λ b. cond b (Some NotJpeg) (header_rule limits before s.0 s.1)) k.0 ∙ p.1, pass_closing limits before k.1 p.2)
 
 between_closing : (limits : Limits) (bytes : List ℕ) (before : List Segment) (tail : List ℕ) → InHeader limits bytes before tail → Between (closing_rule limits) bytes before tail
 between_closing limits bytes before tail w =
@@ -94,11 +94,11 @@ between_closing limits bytes before tail w =
 segment_closing : (limits : Limits) (before : List Segment) (fault : Fault) (tail : List ℕ) → RevealsSegment (header_rule limits) before fault tail → (other : Fault) × RevealsSegment (closing_rule limits) before other tail
 segment_closing limits before fault tail s = by (s.0 == 0xda) refl
   where
-    at : (b : Bool) → (s.0 == 0xda) ≡ b → closing_rule limits before s.0 s.1 ≡ cond b (Some NotBuilt) (header_rule limits before s.0 s.1)
-    at b h = ap (λ b. cond b (Some NotBuilt) (header_rule limits before s.0 s.1)) h
+    at : (b : Bool) → (s.0 == 0xda) ≡ b → closing_rule limits before s.0 s.1 ≡ cond b (Some NotJpeg) (header_rule limits before s.0 s.1)
+    at b h = ap (λ b. cond b (Some NotJpeg) (header_rule limits before s.0 s.1)) h
 
     by : (b : Bool) → (s.0 == 0xda) ≡ b → (other : Fault) × RevealsSegment (closing_rule limits) before other tail
-    by true h = (NotBuilt, (s.0, s.1, s.2, s.3, s.4, at true h))
+    by true h = (NotJpeg, (s.0, s.1, s.2, s.3, s.4, at true h))
     by false h = (fault, (s.0, s.1, s.2, s.3, s.4, at false h ∙ s.5))
 
 -- THE RESULT OF A HEADER, when it is read by this rule
@@ -127,7 +127,7 @@ whole_closed : (limits : Limits) (bytes : List ℕ) (before : List Segment) (con
 whole_closed limits bytes before contents is =
     let s = is.spelled in
     let between : Between (closing_rule limits) bytes before s.1 = record { front = s.0; cut = s.2; spelled = s.3; passed = pass_closing limits before is.first is.passed.2 } in
-    fault_closed (closing_rule limits) bytes NotBuilt (inr (before, s.1, between, inr (inr (inr (0xda, contents, s.4, is.passed.0, s.5, refl)))))
+    fault_closed (closing_rule limits) bytes NotJpeg (inr (before, s.1, between, inr (inr (inr (0xda, contents, s.4, is.passed.0, s.5, refl)))))
 
 standing_going : (limits : Limits) (bytes : List ℕ) → UnfinishedHeader limits bytes → phase (read (closing_rule limits) starts bytes) ≡ going
 standing_going limits bytes (inl (inl s)) = ap (λ l. phase (read (closing_rule limits) starts l)) s

@@ -7,7 +7,7 @@ use Rattle.jpg_spec.specs.History.{is_complete}
 use Rattle.jpg_spec.specs.Items.{Item, segments_of, contents_rule}
 use Rattle.jpg_spec.specs.FirstFault.{ItemReveals}
 use Rattle.jpg_spec.specs.declared.fault.Fault.{Fault}
-use Rattle.jpg_spec.specs.declared.fault.Fault.TheVariants.{NotBuilt, MissingComponent}
+use Rattle.jpg_spec.specs.declared.fault.Fault.TheVariants.{NotJpeg, MissingComponent}
 use Rattle.jpg_spec.specs.declared.frame.Limits.{Limits}
 use Rattle.jpg_spec.proofs.MarkersOnce.{no_head}
 use Rattle.jpg_spec.proofs.ReadBytes.{State, whole, stopped, ended, judged, allowed, read, read_marker, read_begin, read_segment, read_no_marker, read_tail_fault, called_part}
@@ -15,7 +15,7 @@ use Rattle.jpg_spec.proofs.OneHeader.{phase, going, closed, closed_once, going_f
 
 -- a rule that no segment passes, so that only one is read
 abbrev pub closes : Option Fault → Option Fault
-closes None = Some NotBuilt
+closes None = Some NotJpeg
 closes (Some fault) = Some fault
 
 abbrev pub one_rule : Limits → Rule

@@ -1,11 +1,10 @@
 -- THE FAULTS of an input: their order and their names, and values or faults.
 use Rattle.std.specs.Prelude.{ℕ, Bool, List, if◌then◌else◌, Result, Err, codes}
 use Rattle.jpg_spec.specs.declared.fault.Fault.{Fault}
-use Rattle.jpg_spec.specs.declared.fault.Fault.TheVariants.{NotBuilt, NotJpeg, Truncated, NoMarker, UnexpectedMarker, UnsupportedProcess, SecondFrame, SosBeforeSof, BadLength, MarkersTooLarge, EmptyImage, TooLarge, Precision, ComponentCount, Sampling, DuplicateComponent, QuantSlot, TooManyBlocks, BadQuant, BadHuffman, ScanComponent, McuTooLarge, ScanParameters, RepeatedScan, Progression, MissingTable, QuantChanged, NoCode, BadSymbol, BadRun, CoefRange, RunPastEnd, EntropyShort, ExtraData, RestartWrong, MissingComponent, InputTooLong, ColourOut, FractionalSampling, ScriptText, TableText, CommentTooLong, ImageText, ImageHeader, ImageUnsupported, ImageShort, ImageValue}
+use Rattle.jpg_spec.specs.declared.fault.Fault.TheVariants.{NotJpeg, Truncated, NoMarker, UnexpectedMarker, UnsupportedProcess, SecondFrame, SosBeforeSof, BadLength, MarkersTooLarge, EmptyImage, TooLarge, Precision, ComponentCount, Sampling, DuplicateComponent, QuantSlot, TooManyBlocks, BadQuant, BadHuffman, ScanComponent, McuTooLarge, ScanParameters, RepeatedScan, Progression, MissingTable, QuantChanged, NoCode, BadSymbol, BadRun, CoefRange, RunPastEnd, EntropyShort, ExtraData, RestartWrong, MissingComponent, InputTooLong, ColourOut, FractionalSampling, ScriptText, TableText, CommentTooLong, ImageText, ImageHeader, ImageUnsupported, ImageShort, ImageValue}
 
 -- the order of faults at one place
 abbrev pub number_of : Fault → ℕ
-number_of NotBuilt = 0
 number_of NotJpeg = 1
 number_of Truncated = 2
 number_of NoMarker = 3
@@ -55,7 +54,6 @@ number_of ImageValue = 46
 
 -- as messages name them
 abbrev pub fault_name : Fault → List ℕ
-fault_name NotBuilt = codes "NotBuilt"
 fault_name NotJpeg = codes "NotJpeg"
 fault_name Truncated = codes "Truncated"
 fault_name NoMarker = codes "NoMarker"

@@ -5,8 +5,6 @@ ghost use Rattle.jpg_spec.specs.Faults.{fault_name};
 /// Why an input is refused. Of faults at one place the first in this order is reported.
 #[derive(Clone, Copy, Debug, PartialEq, Eq)]
 pub enum Fault {
-    /// A command that isn't built yet.
-    NotBuilt,
     /// Byte 1 isn't FF, or byte 2 isn't D8.
     NotJpeg,
     /// The input ends before EOI is complete, and has no other fault.
@@ -107,7 +105,6 @@ impl Fault {
         ensures { result.now ≡ fault_name self }
     {
         match self {
-            Fault::NotBuilt => "NotBuilt",
             Fault::NotJpeg => "NotJpeg",
             Fault::Truncated => "Truncated",
             Fault::NoMarker => "NoMarker",

@@ -27,6 +27,8 @@ pub struct Row<'a> {
     pub first: usize,
     /// The number of the call that fails.
     pub fail: u64,
+    /// How many bytes it appends before, where it isn't half of them.
+    pub after: Option<u32>,
     pub ends: Ends,
     /// The exit status that is due, and the message, without the end of its line.
     pub due: Option<(u64, &'a str)>,
@@ -36,6 +38,8 @@ pub struct Row<'a> {
     pub out: Option<&'a str>,
     /// How many calls fail.
     pub failed: Option<u64>,
+    /// How many calls are made.
+    pub calls: Option<u64>,
     /// What the words ask for, in place of a run.
     pub asks: Option<&'a str>,
     /// The name that the output gets, for rows after this one.
@@ -52,11 +56,13 @@ pub fn read_row(alloc: Global, line: &str) -> Result<Row<'_>, Stop<'_>> {
         pieces: WHOLE,
         first: usize::MAX,
         fail: 0,
+        after: None,
         ends: Ends::Both,
         due: None,
         why: None,
         out: None,
         failed: None,
+        calls: None,
         asks: None,
         keep: None,
     };
@@ -84,7 +90,7 @@ fn take_field<'a>(row: &mut Row<'a>, field: &'a str) -> Result<(), Stop<'a>> {
         }
         "piece" if !value.is_empty() => row.pieces = value,
         "first" => row.first = number(value)? as usize,
-        "fail" => row.fail = number(value)?,
+        "fail" => take_fail(row, value)?,
         "ends" => row.ends = ends_of(value).ok_or(unread)?,
         "=>" => {
             let (code, said) = value.split_once(' ').unwrap_or((value, ""));
@@ -93,11 +99,26 @@ fn take_field<'a>(row: &mut Row<'a>, field: &'a str) -> Result<(), Stop<'a>> {
         "why" => row.why = Some(value),
         "out" => row.out = Some(value),
         "failed" => row.failed = Some(number(value)?),
+        "calls" => row.calls = Some(number(value)?),
         "asks" => row.asks = Some(value),
         "keep" => row.keep = Some(value),
         "each" => {}
         _ => return Err(unread),
     }
+    Ok(())
+}
+
+// `CALL`, or `CALL after BYTES`.
+fn take_fail<'a>(row: &mut Row<'a>, text: &'a str) -> Result<(), Stop<'a>> {
+    let Some((call, bytes)) = text.split_once(" after ") else {
+        row.fail = number(text)?;
+        return Ok(());
+    };
+    let Ok(bytes) = bytes.parse::<u32>() else {
+        return Err(Stop::Unread(text));
+    };
+    row.fail = number(call)?;
+    row.after = Some(bytes);
     Ok(())
 }
 

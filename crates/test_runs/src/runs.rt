@@ -74,7 +74,10 @@ fn desk_of<'a>(
         let name = Name::File(Text::new(alloc, name)?);
         desk.add_file(&name, spelled(alloc, names, text)?.as_slice())?;
     }
-    desk.fail(row.fail)?;
+    match row.after {
+        None => desk.fail(row.fail)?,
+        Some(bytes) => desk.fail_after(row.fail, bytes)?,
+    }
     Ok(desk)
 }
 
@@ -179,7 +182,10 @@ fn difference<'a>(
         }
     }
     if row.failed.is_some_and(|failed| failed != failures(desk)) {
-        return Ok(Some("failed calls"));
+        return Ok(Some("number of failed calls"));
+    }
+    if row.calls.is_some_and(|calls| calls != desk.calls()) {
+        return Ok(Some("number of calls"));
     }
     match row.out {
         Some(out) if !is_output(alloc, names, out, desk)? => Ok(Some("output")),
@@ -297,9 +303,10 @@ fn came(
     let said = String::from_utf8_lossy(alloc, desk.said())?;
     let output = written(desk).unwrap_or(&[]);
     format!(in alloc;
-        "another {what} by {piece}: => {} {:?} | {} outputs, length {} sum {} fnv {:016x}",
+        "another {what} by {piece}: => {} {:?} | {} calls, {} outputs, length {} sum {} fnv {:016x}",
         ended.code,
         said.as_str(),
+        desk.calls(),
         desk.outputs(),
         output.len(),
         sum_of(output),

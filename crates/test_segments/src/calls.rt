@@ -70,13 +70,25 @@ fn step<'a>(
     match key {
         "file" => add_file(alloc, names, rest, desk)?,
         "read" if ready.input => read_memory(alloc, rest, desk, answer)?,
-        "fail" => desk.fail(number(rest)?)?,
+        "fail" => fail(rest, desk)?,
+        "calls" => answer.say_number(desk.calls())?,
         "outputs" => answer.say_number(u64::from(desk.outputs()))?,
         "output" => say_output(large(rest)?, desk, answer)?,
         "said" => answer.bytes.push_all(desk.said())?,
         _ => return call(alloc, names, field, ready, desk, answer),
     }
     Ok(ready)
+}
+
+// Makes a call fail: `CALL`, or `CALL after BYTES`.
+fn fail<'a>(text: &'a str, desk: &mut MemoryDesk) -> Result<(), Stop<'a>>
+    ensures { memory_state desk.new ≡ memory_state desk.old }
+{
+    match text.split_once(" after ") {
+        Some((call, bytes)) => desk.fail_after(number(call)?, large(bytes)?)?,
+        None => desk.fail(number(text)?)?,
+    }
+    Ok(())
 }
 
 // Adds the file of `NAME BYTES`.

@@ -266,7 +266,7 @@ pub fn kept<'a>(
     for i in 0..kept.len() {
         let member = kept.get(i);
         answer.bytes.push_all(&[member.code])?;
-        answer.bytes.push_all(member.contents.as_slice())?;
+        answer.bytes.push_all(member.contents)?;
     }
     Ok(answer.say_number(kept.len() as u64)?)
 }

@@ -42,17 +42,18 @@ fn adobe_of(kept: &KeptList) -> Option<u8>
     ensures { result ≡ adobe_transform kept.now }
 {
     let mut last = None;
-    for i in 0..kept.len() {
-        last = told_with(kept.get(i), last);
+    let mut rest = kept.markers();
+    while let Some(marker) = rest.next() {
+        last = told_with(&marker, last);
     }
     last
 }
 
 // The same with one more marker.
 fn told_with(marker: &Kept, last: Option<u8>) -> Option<u8>
-    ensures { result ≡ (if is_adobe (kept_pair marker.now) then Some (slice_index marker.now.contents 11) else last) }
+    ensures { result ≡ (if is_adobe (kept_pair marker.now) then Some (slice_index marker.now.contents.now 11) else last) }
 {
-    match read_app(marker.code, marker.contents.as_slice()) {
+    match read_app(marker.code, marker.contents) {
         App::Adobe(transform) => Some(transform),
         App::Jfif(_) => last,
         App::Other => last,

@@ -95,8 +95,9 @@ fn write_passed<D: Desk>(
     requires { CanSend (D.state desk.old) out.old }
     ensures { Sends (D.state desk.old) out.old (kept_text (filter (is_passed copying colour) kept.now)) result out.new (D.state desk.new) }
 {
-    for i in 0..kept.len() {
-        write_member(copying, colour, kept.get(i), out, desk)?;
+    let mut rest = kept.markers();
+    while let Some(member) = rest.next() {
+        write_member(copying, colour, &member, out, desk)?;
     }
     Ok(())
 }
@@ -110,11 +111,11 @@ fn write_member<D: Desk>(
     desk: &mut D,
 ) -> Result<(), WriteFault>
     requires can { CanSend (D.state desk.old) out.old }
-    requires member { IsKeptSegment member.now.code member.now.contents }
+    requires member { IsKeptSegment member.now.code member.now.contents.now }
     ensures { Sends (D.state desk.old) out.old (kept_text (filter (is_passed copying colour) (kept_pair member.now ∷ []))) result out.new (D.state desk.new) }
 {
     if is_passed(copying, colour, member) {
-        write_segment(member.code, member.contents.as_slice(), out, desk)
+        write_segment(member.code, member.contents, out, desk)
     } else {
         Ok(())
     }
@@ -124,7 +125,7 @@ fn write_member<D: Desk>(
 fn is_passed(copying: Copying, colour: Colour, member: &Kept) -> bool
     ensures { result ≡ is_passed copying colour (kept_pair member.now) }
 {
-    is_copied(copying, member.code) && !is_replaced(colour, member.code, member.contents.as_slice())
+    is_copied(copying, member.code) && !is_replaced(colour, member.code, member.contents)
 }
 
 // Whether markers of this code are copied.

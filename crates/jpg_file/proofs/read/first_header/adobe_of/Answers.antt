@@ -1,11 +1,25 @@
-use Rattle.std.proofs.Common.{◌∙◌, Option, sym, ap, cond, Some}
+use Rattle.std.proofs.Common.{List, [], ◌∷◌, ◌++◌, ◌∙◌, Option, refl, sym, ap, cond, Some}
 use Rattle.std.specs.Prelude.{ℕ, slice_index}
-use Rattle.jpg_spec.specs.Jfif.{is_adobe}
+use Rattle.std.proofs.lemmas.List.{append-nil, append_assoc}
+use Rattle.jpg_spec.specs.Jfif.{adobe_transform, is_adobe}
+use Rattle.jpg_spec.specs.Markers.{Segment}
 use Rattle.jpg_markers.specs.Kept.{kept_pair}
-use Rattle.jpg_file.proofs.PictureSteps.{told_more}
+use Rattle.jpg_file.proofs.PictureSteps.{adobe_more}
 use Rattle.jpg_file.proofs.read.first_header.adobe_of.Goals as goal
 
-pub loop-i-preserved : goal.loop-i-preserved
-loop-i-preserved c =
-    c.told_with-last.ensures ∙ ap (λ (o : Option ℕ). cond (is_adobe (kept_pair c.get.result.now)) (Some (slice_index c.get.result.now.contents 11)) o) c.loop-i.invariant
-    ∙ sym (told_more c.args.kept.now c.loop-i.i (kept_pair c.get.result.now) c.get.ensures.value)
+pub loop-marker-init : goal.loop-marker-init
+loop-marker-init c = ([], c.markers-rest.ensures, refl)
+
+pub loop-marker-preserved : goal.loop-marker-preserved
+loop-marker-preserved c =
+    let (before, joined, told) = c.loop-marker.invariant in
+    let s = kept_pair c.in-Some.marker in (
+      before ++ s ∷ [],
+      append_assoc before (s ∷ []) c.next.new.self ∙ ap (λ (l : List Segment). before ++ l) (sym c.in-Some.ensures.next) ∙ joined,
+      c.told_with-last.ensures ∙ ap (λ (o : Option ℕ). cond (is_adobe s) (Some (slice_index s.1 11)) o) told ∙ sym (adobe_more before s),
+    )
+
+pub returns : goal.returns
+returns c =
+    let (before, joined, told) = c.loop-marker.invariant in
+    told ∙ ap adobe_transform (sym (append-nil before) ∙ ap (λ (l : List Segment). before ++ l) (sym c.in_default.ensures.end) ∙ joined)
