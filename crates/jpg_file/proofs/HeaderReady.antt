@@ -17,6 +17,9 @@ use Rattle.jpg_spec.specs.declared.frame.Limits.{Limits}
 use Rattle.jpg_spec.specs.declared.frame.ScanPart.{ScanPart}
 use Rattle.jpg_base.specs.Cursor.{AreIn}
 use Rattle.jpg_coefs.specs.Picture.{Picture, map_of}
+use Rattle.jpg_huff.specs.declared.set.TableSet.{TableSet}
+use Rattle.jpg_huff.specs.Definitions.{definitions_of}
+use Rattle.jpg_huff.specs.Sets.{slots_of}
 use Rattle.jpg_markers.specs.Reading.{reading_of}
 use Rattle.jpg_file.specs.Read.SegmentState.{told_by, lacks_any}
 use Rattle.jpg_file.specs.Read.ScanStart.{Begins}
@@ -35,10 +38,10 @@ are_in f head h =
     let n = length-map head.parts (λ (p : ScanPart). p.component) in
     record { some = omega (arith, n, h.some); few = omega (arith, n, h.few); there = there f head.parts h.known }
 
-pub begins_of : (limits : Limits) (bytes : List ℕ) (items : List Item) (blocks : Blocks) (w : Items) (f : Frame) (head : ScanHead) (q : Picture) → AfterSegment limits bytes items blocks w → (reading_of w.segments).code ≡ 0xda
+pub begins_of : (limits : Limits) (bytes : List ℕ) (items : List Item) (blocks : Blocks) (w : Items) (f : Frame) (head : ScanHead) (set : TableSet) (q : Picture) → slots_of set ≡ definitions_of w.held.tables → AfterSegment limits bytes items blocks w → (reading_of w.segments).code ≡ 0xda
     → w.held.frame ≡ Some f → IsFrame f → contents_rule limits (segments_of items) 0xda (reading_of w.segments).contents ≡ None → scan_header f (reading_of w.segments).contents ≡ Ok head → IsHead f head
-    → lacks_any (told_by w.held) f head ≡ false → q.frame ≡ f → blocks ≡ map_of q → Begins limits items blocks (reading_of w.segments).contents bytes f head w.held.tables w.held.interval q
-begins_of limits bytes items blocks w f head q k code framed is_frame rule told is_head lacks pictured as_map =
+    → lacks_any (told_by w.held) f head ≡ false → q.frame ≡ f → blocks ≡ map_of q → Begins limits items blocks (reading_of w.segments).contents bytes f head set w.held.interval q
+begins_of limits bytes items blocks w f head set q built k code framed is_frame rule told is_head lacks pictured as_map =
     let r = reading_of w.segments in
     let h = told_by w.held in
     record {
@@ -57,9 +60,9 @@ begins_of limits bytes items blocks w f head q k code framed is_frame rule told 
           components = are_in f head is_head;
           distinct = is_head.distinct;
           parameters = head_parameters f r.contents head told;
-          tables = tables_there h f head w.held.tables refl lacks;
+          tables = tables_there h f head set (sym built) lacks;
         };
-        codings = codings_same limits h (segments_of items) w.held.tables k.holds refl f head;
+        codings = codings_same limits h (segments_of items) set k.holds (sym built) f head;
         restart = (k.holds).interval;
         pictured = pictured;
         as_map = as_map;

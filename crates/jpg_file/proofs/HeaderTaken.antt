@@ -12,6 +12,9 @@ use Rattle.jpg_spec.specs.FirstFault.{Reveals}
 use Rattle.jpg_spec.specs.declared.fault.Fault.{Fault}
 use Rattle.jpg_spec.specs.declared.frame.Limits.{Limits}
 use Rattle.jpg_coefs.specs.Picture.{Picture, map_of}
+use Rattle.jpg_huff.specs.declared.set.TableSet.{TableSet}
+use Rattle.jpg_huff.specs.Definitions.{definitions_of}
+use Rattle.jpg_huff.specs.Sets.{slots_of}
 use Rattle.jpg_markers.specs.Reading.{reading_of}
 use Rattle.jpg_file.specs.Read.SegmentState.{Holds, told_by}
 use Rattle.jpg_file.specs.Read.ScanHistory.{HasBegun}
@@ -44,11 +47,11 @@ judged limits bytes items blocks r b f q k answer w same j =
     let framed : frame_of limits (segments_of items) ≡ f = ap (λ (o : Option Frame). unwrap_or o no_frame) (sym (s.holds).frame ∙ (w.whole).framed) ∙ w.framed in
     subst (λ c. Judged limits (segments_of items) c f (told_by r.items.held) answer) same (j limits (segments_of items) framed s.holds (w.whole).begun)
 
-pub head_begins : (limits : Limits) (bytes : List ℕ) (items : List Item) (blocks : Blocks) (r : Reading) (b : ScanHistory) (f : Frame) (q : Picture) (head : ScanHead) → (w : Found limits bytes items blocks r b f q)
-    → Judged limits (segments_of items) (reading_of (r.items).segments).contents f (told_by r.items.held) (Ok head) → Begins limits items blocks (reading_of (r.items).segments).contents bytes f head r.items.held.tables r.items.held.interval q
-head_begins limits bytes items blocks r b f q head w j =
+pub head_begins : (limits : Limits) (bytes : List ℕ) (items : List Item) (blocks : Blocks) (r : Reading) (b : ScanHistory) (f : Frame) (q : Picture) (head : ScanHead) (set : TableSet) → slots_of set ≡ definitions_of r.items.held.tables → (w : Found limits bytes items blocks r b f q)
+    → Judged limits (segments_of items) (reading_of (r.items).segments).contents f (told_by r.items.held) (Ok head) → Begins limits items blocks (reading_of (r.items).segments).contents bytes f head set r.items.held.interval q
+head_begins limits bytes items blocks r b f q head set built w j =
     let h = w.whole in
-    begins_of limits bytes items blocks r.items f head q h.segment h.code (h.framed ∙ ap (λ (g : Frame). Some g) w.framed) (subst (λ g. IsFrame g) w.framed h.is_frame)
+    begins_of limits bytes items blocks r.items f head set q built h.segment h.code (h.framed ∙ ap (λ (g : Frame). Some g) w.framed) (subst (λ g. IsFrame g) w.framed h.is_frame)
     j.0 j.1 j.2 j.3 (sym (ap (λ (c : Picture). c.frame) w.pictured) ∙ h.pictured ∙ w.framed) (h.as_map ∙ ap (λ c. map_of c) w.pictured)
 
 pub head_shows : (limits : Limits) (bytes : List ℕ) (items : List Item) (blocks : Blocks) (r : Reading) (b : ScanHistory) (f : Frame) (q : Picture) (fault : Fault) → (w : Found limits bytes items blocks r b f q)

@@ -23,10 +23,12 @@ use Rattle.jpg_markers.specs.declared.segments.SegStep.TheVariants as step
 use Rattle.jpg_markers.specs.declared.segments.SegmentReader.{SegmentReader}
 use Rattle.jpg_markers.specs.declared.segments.Phase.{Phase}
 use Rattle.jpg_markers.specs.declared.segments.Phase.TheVariants as phase
-use Rattle.jpg_markers.specs.Reading.{Reading, StandsForSegments, AtPhase, IsBetween, PartRead, RevealsAfter, EndsAtEoi, Comes, AddsContents, PassesContents, reading_of}
-use Rattle.jpg_file.specs.Read.SegmentState.{Holds, told_by}
+use Rattle.jpg_markers.specs.Reading.{Reading, StandsForSegments, AtPhase, IsBetween, PartRead, RevealsAfter, EndsAtEoi, Comes, Continues, PassesSegment, PassesSome, continued, reading_of}
+use Rattle.jpg_file.specs.Read.SegmentState.{Holds, HoldsSegment, told_by}
+use Rattle.jpg_file.specs.declared.read.segment_state.SegmentTaken.TheVariants as took
 use Rattle.jpg_file.specs.declared.read.items.Items.{Items}
-use Rattle.jpg_file.specs.Read.Items.{IsBeside, AtPlace, BetweenItems, AfterSegment, BehindEnd, AddsNoScan, PassesItems}
+use Rattle.jpg_file.specs.declared.read.items.ItemStep.TheVariants.{More}
+use Rattle.jpg_file.specs.Read.Items.{IsBeside, AtPlace, BetweenItems, AfterSegment, AfterItem, BehindEnd, AddsNoScan, PassesItems}
 
 -- THE START
 
@@ -97,25 +99,54 @@ pub goes_on : (limits : Limits) (bytes : List ℕ) (b : ℕ) (items : List Item)
     → (reading_of new.segments).limits ≡ (reading_of w.segments).limits → new.limits ≡ w.limits → told_by new.held ≡ told_by w.held → (more : List Item) × AddsNoScan items more × BetweenItems limits (bytes ++ b ∷ []) more blocks new
 goes_on limits bytes b items blocks w new k stands e f same = (items, inl refl, passes_on limits bytes (b ∷ []) items blocks w new k stands e f same)
 
--- CONTENTS of a segment
-pub stretch_passes : (w : Items) (r : SegmentReader) (bytes : List ℕ) (n : ℕ) → AddsContents (reading_of w.segments) bytes (Ok n) (reading_of r) → PassesContents (reading_of w.segments) bytes (Ok n) (reading_of r) → PassesItems w bytes n (record w { segments = r })
-stretch_passes w r bytes n (is, added) stands =
-    let few : n ≤ length bytes = omega (arith, is) in
+-- BYTES that only continue
+limits_continue : (p : Phase) (r : Reading) (more : List ℕ) → (continued p r more).limits ≡ r.limits
+limits_continue phase.Empty r more = refl
+limits_continue phase.HalfStart r more = refl
+limits_continue phase.Between r more = refl
+limits_continue phase.Fill r more = refl
+limits_continue phase.Coded r more = refl
+limits_continue phase.HalfLength r more = refl
+limits_continue phase.Contents r more = refl
+limits_continue phase.Ended r more = refl
+
+taken_continue : (p : Phase) (r : Reading) (more : List ℕ) → (continued p r more).taken ≡ r.taken + length more
+taken_continue phase.Empty r more = refl
+taken_continue phase.HalfStart r more = refl
+taken_continue phase.Between r more = refl
+taken_continue phase.Fill r more = refl
+taken_continue phase.Coded r more = refl
+taken_continue phase.HalfLength r more = refl
+taken_continue phase.Contents r more = refl
+taken_continue phase.Ended r more = refl
+
+pub stretch_passes : (w : Items) (r : SegmentReader) (bytes : List ℕ) (n : ℕ) → Continues (reading_of w.segments) bytes (Ok n) (reading_of r) → PassesSome (reading_of w.segments) bytes (Ok n) (reading_of r) → PassesItems w bytes n (record w { segments = r })
+stretch_passes w r bytes n (is, added) (few, stands) =
+    let old = reading_of w.segments in
     let size = length-take-le n bytes few in
+    let limits = ap (λ (q : Reading). q.limits) added ∙ limits_continue old.phase old (take n bytes) in
     record {
       within = few;
       limits = refl;
-      taken = ap (λ (q : Reading). q.taken) added ∙ ap (λ (m : ℕ). (reading_of w.segments).taken + m) size;
-      stands = λ limits front items blocks k. passes_on limits front (take n bytes) items blocks w (record w { segments = r }) k (stands k.sent (segments_of items) k.stands) (ap (λ (q : Reading). q.limits) added) refl refl;
+      same = limits;
+      taken = ap (λ (q : Reading). q.taken) added ∙ taken_continue old.phase old (take n bytes) ∙ ap (λ (m : ℕ). old.taken + m) size;
+      stands = λ here front items blocks k.
+          (items, inl refl, passes_on here front (take n bytes) items blocks w (record w { segments = r }) k (stands k.sent (segments_of items) k.stands) limits refl refl);
     }
 
-pub stretch_stops : (w : Items) (r : SegmentReader) (bytes : List ℕ) → reading_of r ≡ reading_of w.segments → PassesItems w bytes 0 (record w { segments = r })
-stretch_stops w r bytes same = record {
+-- NOTHING that was taken
+pub nothing_passes : (w new : Items) (bytes : List ℕ) → reading_of new.segments ≡ reading_of w.segments → new.limits ≡ w.limits → told_by new.held ≡ told_by w.held → PassesItems w bytes 0 new
+nothing_passes w new bytes same limits held = record {
   within = omega arith;
-  limits = refl;
+  limits = limits;
+  same = ap (λ (q : Reading). q.limits) same;
   taken = omega (arith, ap (λ (q : Reading). q.taken) same);
-  stands = λ limits front items blocks k.
-      passes_on limits front [] items blocks w (record w { segments = r }) k (subst (λ b. StandsForSegments b (segments_of items) (reading_of r)) (sym (append-nil k.sent)) (subst (λ (q : Reading). StandsForSegments k.sent (segments_of items) q) (sym same) k.stands)) (ap (λ (q : Reading). q.limits) same) refl refl;
+  stands = λ here front items blocks k. (
+    items,
+    inl refl,
+    passes_on here front [] items blocks w new k (subst (λ b. StandsForSegments b (segments_of items) (reading_of new.segments)) (sym (append-nil k.sent)) (subst (λ (q : Reading). StandsForSegments k.sent (segments_of items) q) (sym same) k.stands))
+        (ap (λ (q : Reading). q.limits) same) limits held,
+  );
 }
 
 -- A FAULT of markers and lengths
@@ -154,10 +185,11 @@ pub record LastSegment (limits : Limits) (sent : List ℕ) (before : List Segmen
   pub allowed : code_fault before code ≡ None
   pub kept : kept_rule limits before code contents ≡ None
 
-pub last_segment : (limits : Limits) (sent : List ℕ) (before : List Segment) (r : Reading) → r.limits ≡ limits → r.phase ≡ phase.Between → StandsForSegments sent ((r.code, r.contents) ∷ before) r → LastSegment limits sent before r.code r.contents
-last_segment limits sent before r e p stands =
-    let (tail, between, seen, none) = subst (λ (q : Phase). AtPhase r q sent ((r.code, r.contents) ∷ before)) p stands.1 in
-    let b = subst (λ (l : Limits). markers.Between (kept_rule l) sent ((r.code, r.contents) ∷ before) tail) e between in
+pub last_segment : (limits : Limits) (sent : List ℕ) (before : List Segment) (code : ℕ) (contents : List ℕ) (r : Reading) → r.limits ≡ limits → r.phase ≡ phase.Between → StandsForSegments sent ((code, contents) ∷ before) r
+    → LastSegment limits sent before code contents
+last_segment limits sent before code contents r e p stands =
+    let (tail, between, seen, none) = subst (λ (q : Phase). AtPhase r q sent ((code, contents) ∷ before)) p stands.1 in
+    let b = subst (λ (l : Limits). markers.Between (kept_rule l) sent ((code, contents) ∷ before) tail) e between in
     let s = b.spelled in
     record {
       rest = s.1;
@@ -201,7 +233,7 @@ after_segment limits bytes b items blocks w new k c p e f same = by k.at
     r = reading_of new.segments
 
     last : LastSegment limits (k.sent ++ b ∷ []) (segments_of items) r.code r.contents
-    last = last_segment limits (k.sent ++ b ∷ []) (segments_of items) r (e ∙ k.bounded.0) p c.1
+    last = last_segment limits (k.sent ++ b ∷ []) (segments_of items) r.code r.contents r (e ∙ k.bounded.0) p c.1
 
     by : AtPlace limits bytes k.sent items blocks → AfterSegment limits (bytes ++ b ∷ []) items blocks new
     by (inl s) =
@@ -253,6 +285,70 @@ pub segment_fault : (limits : Limits) (bytes : List ℕ) (items : List Item) (bl
     → contents_rule limits (segments_of items) (reading_of w.segments).code (reading_of w.segments).contents ≡ Some fault → Reveals limits fault bytes
 segment_fault limits bytes items blocks w fault k broken =
     contents_shown limits (kept_rule limits) k.sent bytes items (reading_of w.segments).code (reading_of w.segments).contents fault k.tail (k.at).beside k.spelled k.allowed k.no_end broken
+
+-- A COMPLETE SEGMENT at once
+past_start : (limits : Limits) (sent : List ℕ) (before : List Segment) (r : Reading) → r.phase ≡ phase.Between → StandsForSegments sent before r → (sent ≡ []) ⊎ (sent ≡ 255 ∷ []) → before ≡ [] → ⊥
+past_start limits sent before r p stands short none =
+    let (tail, between, seen, nothing) = subst (λ (q : Phase). AtPhase r q sent before) p stands.1 in
+    let spelled = subst (λ (l : List Segment). SpellsSegments l between.front) none between.spelled in
+    let a = ap length between.cut in
+    let d = length-append between.front tail in
+    let f = ap length spelled in
+    omega (arith, a, d, f, few short)
+  where
+    few : (sent ≡ []) ⊎ (sent ≡ 255 ∷ []) → length sent ≤ 1
+    few (inl e) = omega (arith, ap length e)
+    few (inr e) = omega (arith, ap length e)
+
+whole_at : (limits : Limits) (bytes more : List ℕ) (items : List Item) (blocks : Blocks) (code : ℕ) (contents : List ℕ) (w new : Items) → (k : BetweenItems limits bytes items blocks w) → (reading_of w.segments).phase ≡ phase.Between → (reading_of new.segments).phase ≡ phase.Between
+    → (reading_of new.segments).limits ≡ limits → new.limits ≡ limits → StandsForSegments (k.sent ++ more) ((code, contents) ∷ segments_of items) (reading_of new.segments) → (code ≡ 0xda → ⊥)
+    → contents_rule limits (segments_of items) code contents ≡ None → Holds limits (told_by new.held) ((code, contents) ∷ segments_of items) → AfterItem limits (bytes ++ more) items blocks More new
+whole_at limits bytes more items blocks code contents w new k p q e f stands other rule holds = by k.at
+  where
+    r : Reading
+    r = reading_of new.segments
+
+    last : LastSegment limits (k.sent ++ more) (segments_of items) code contents
+    last = last_segment limits (k.sent ++ more) (segments_of items) code contents r e q stands
+
+    by : AtPlace limits bytes k.sent items blocks → AfterItem limits (bytes ++ more) items blocks More new
+    by (inl s) = absurd (past_start limits k.sent (segments_of items) (reading_of w.segments) p k.stands s.short (ap segments_of s.no_items))
+    by (inr (tail, at)) =
+        let beside = beside_more limits (kept_rule limits) k.sent bytes items tail more at.beside in
+        let t = same_tail (kept_rule limits) (k.sent ++ more) (segments_of items) (tail ++ more) last.rest beside.between last.between in
+        let spelled = subst (λ z. SpellsSegment code contents z) (sym t) last.spelled in (
+          segment code contents ∷ items,
+          inr (code, contents, refl, other),
+          record {
+            sent = k.sent ++ more;
+            stands = stands;
+            at = inr (
+              [],
+              record {
+                beside = segment_passed limits (kept_rule limits) (k.sent ++ more) (bytes ++ more) items code contents (tail ++ more) beside spelled last.allowed last.no_end other last.kept rule;
+                leads = (last.allowed, rule, at.leads);
+              },
+            );
+            bounded = (e, f);
+            holds = holds;
+          },
+        )
+
+pub whole_passes : (w new : Items) (bytes : List ℕ) (code : ℕ) (contents : List ℕ) (n : ℕ) → PassesSegment (reading_of w.segments) code contents n (reading_of new.segments) → SpellsSegment code contents (take n bytes) → n ≤ length bytes → (code ≡ 0xda → ⊥)
+    → HoldsSegment (told_by w.held) w.limits code contents took.Done (told_by new.held) → new.limits ≡ w.limits → PassesItems w bytes n new
+whole_passes w new bytes code contents n p spelled few other takes same = record {
+  within = few;
+  limits = same;
+  same = p.limits;
+  taken = p.taken;
+  stands = λ limits front items blocks k.
+      (let within = k.bounded.0 in
+      let here = k.bounded.1 in
+      let kept = subst (λ (l : Limits). kept_rule l (segments_of items) code contents ≡ None) (within ∙ sym here) (p.kept k.sent (segments_of items) k.stands) in
+      let t = takes (segments_of items) (subst (λ (l : Limits). Holds l (told_by w.held) (segments_of items)) (sym here) k.holds) kept in
+      whole_at limits front (take n bytes) items blocks code contents w new k p.was p.between (p.limits ∙ within) (same ∙ here) (p.stands k.sent (take n bytes) (segments_of items) k.stands spelled) other
+      (subst (λ (l : Limits). contents_rule l (segments_of items) code contents ≡ None) here t.0) (subst (λ (l : Limits). Holds l (told_by new.held) ((code, contents) ∷ segments_of items)) here t.1));
+}
 
 -- EOI
 no_first_end : code_fault [] 0xd9 ≡ None → ⊥

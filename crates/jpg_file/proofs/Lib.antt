@@ -22,6 +22,7 @@ pub mod HeaderReady
 pub mod HeaderTaken
 pub mod FileSteps
 pub mod PieceSteps
+pub mod Going
 pub mod RowPieces
 pub mod RowsTold
 pub mod FaultsTold

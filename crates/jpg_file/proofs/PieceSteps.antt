@@ -1,9 +1,9 @@
 -- A file that is being read, piece by piece.
-use Rattle.std.proofs.Common.{◌-◌, Bool, ◌≡◌, ℕ, ◌+◌, ◌<◌, ◌≤◌, true, List, [], ◌∷◌, ◌++◌, length, take, drop, get_or, refl, false, Some, None, Ok, Err, Result, sym, ap, ◌∙◌, subst, arith, inl, inr}
-use Rattle.std.proofs.lemmas.List.{take-take, append-nil, get_or-take, get_or-drop, length-drop, length-take-le, append_assoc, length-append, take_all, take_more, take-append-drop, take-append-le}
+use Rattle.std.proofs.Common.{◌-◌, Bool, ◌≡◌, ℕ, zero, suc, replicate, ◌+◌, ◌<◌, ◌≤◌, true, List, [], ◌∷◌, ◌++◌, length, take, drop, get_or, refl, false, Some, None, Ok, Err, Result, sym, ap, ◌∙◌, subst, arith, inl, inr}
+use Rattle.std.proofs.lemmas.List.{take-take, append-nil, get_or-take, get_or-drop, length-drop, length-take-le, append_assoc, length-append, length-replicate, take_all, take_more, take-append-drop, take-append-le}
 use Rattle.std.proofs.Math.Seq.{take-append-add}
 use Rattle.std.specs.Prelude.{IfErr, Option, is_some}
-use Rattle.jpg_spec.specs.Items.{segments_of}
+use Rattle.jpg_spec.specs.Items.{Item, segments_of}
 use Rattle.jpg_spec.specs.FileMeaning.{meaning_of}
 use Rattle.jpg_spec.specs.FirstFault.{IsFirstFault}
 use Rattle.jpg_spec.specs.UnfinishedFile.{UnfinishedFile, IsWholeFile}
@@ -17,19 +17,20 @@ use Rattle.jpg_base.specs.declared.stop.Fed.{Fed}
 use Rattle.jpg_base.specs.declared.stop.Fed.TheVariants as fed
 use Rattle.jpg_base.specs.declared.stop.Stop.{Stop}
 use Rattle.jpg_base.specs.declared.stop.Stop.TheVariants as stop
-use Rattle.jpg_file.specs.Read.File.{AfterFileByte, KeepsBytes, PassesFront, PictureSoFar, TakesFileByte, TakesSome, EndsFile, IsStop, StandsForFile, limits_of}
+use Rattle.jpg_file.specs.Read.File.{AfterFileByte, KeepsBytes, PassesFront, TakesFileByte, TakesSome, EndsFile, IsStop, StandsForFile, limits_of}
 use Rattle.jpg_file.specs.Read.FirstHeader.{IsFirstHeaderOf}
 use Rattle.jpg_file.specs.Read.ReadFile.{AfterFeed, AfterFilePiece, HasRead, IsReading, IsRefusal, IsStopOf, ReaderState, ReadsPiece}
 use Rattle.jpg_coefs.specs.Picture.{Picture}
-use Rattle.jpg_file.specs.Read.Items.{BetweenItems}
-use Rattle.jpg_file.specs.Read.Reading.{PassesReading}
+use Rattle.jpg_file.specs.Read.Going.{FillsScan, GoesOn, has_waiting}
+use Rattle.jpg_file.specs.Read.Reading.{Scanning}
+use Rattle.jpg_file.specs.declared.read.scan.InScan.{InScan}
+use Rattle.jpg_file.specs.declared.read.items.ItemStep.TheVariants as step
 use Rattle.jpg_file.specs.declared.read.reading.Reading.{Reading}
 use Rattle.jpg_file.specs.declared.read.file.FileWork.{FileWork}
 use Rattle.jpg_file.proofs.Ending.{file_ends}
-use Rattle.jpg_file.proofs.FileSteps.{asked, between_of, head_is, head_left}
-use Rattle.jpg_file.proofs.FirstHeaders.{has_longer}
+use Rattle.jpg_file.proofs.FileSteps.{after_inside, asked, between_of, inside_of, head_is, head_left}
 use Rattle.jpg_file.proofs.ItemBytes.{between_stands}
-use Rattle.jpg_file.proofs.ScanBytes.{data_stands}
+use Rattle.jpg_file.proofs.ScanBytes.{data_stands, ff_bytes}
 
 -- WHAT A STATE ENCODES
 
@@ -234,40 +235,15 @@ some_within limits bytes piece done n answer new l = let count = l.count in let 
 
 -- THE PREFIX of some bytes, and the one after it
 
--- with contents of a segment
-pub front_passes : (w : FileWork) (r : Reading) (bytes : List ℕ) (most n : ℕ) → w.reading.scan ≡ None → most < length bytes → w.reading.taken + most < (limits_of w).input → PassesReading w.reading (take most bytes) n r
-    → PassesFront w bytes n (record w { reading = r })
-front_passes w r bytes most n none less room p =
-    let size = length-take-le most bytes (omega (arith, less)) in
-    let few = p.within in
-    let taken = p.taken in
-    record {
-      within = omega (arith, less, size, few);
-      limits = (p.items).limits;
-      room = omega (arith, room, size, few, taken);
-      scan = p.scan;
-      stands = λ limits front k.
-          (let s = between_of limits front w k (ap is_some none) in
-          let same : take n (take most bytes) ≡ take n bytes = take-take n most bytes (omega (arith, size, few)) in
-          let long = length-take-le n bytes (omega (arith, less, size, few)) in
-          let all = length-append front (take n bytes) in
-          let count = (s.beside).count in
-          let input : (limits_of w).input ≡ limits.input = ap (λ (l : Limits). l.input) (limits_are limits front w k) in
-          inl (record {
-            items = s.items;
-            blocks = s.blocks;
-            at = subst (λ l. BetweenItems limits (front ++ l) s.items s.blocks r.items) same ((p.items).stands limits front s.items s.blocks s.at);
-            beside = record {
-              picture = subst (λ (q : Option Picture). PictureSoFar limits s.items s.blocks q) (sym p.coefs) (s.beside).picture;
-              begun = (s.beside).begun;
-              none = p.scan ∙ none;
-              count = omega (arith, taken, count, long, all);
-              same = (p.items).taken ∙ ap (λ (m : ℕ). m + n) (s.beside).same ∙ sym p.taken;
-              within = omega (arith, room, size, few, taken, count, long, all, input);
-              head = has_longer limits front (take n bytes) (front ++ take n bytes) (segments_of s.items) w.head refl (s.beside).head;
-            };
-          }));
-    }
+-- with some
+pub front_passes : (w : FileWork) (r : Reading) (bytes : List ℕ) (n : ℕ) → GoesOn w.reading bytes n r → n < length bytes → r.taken < (limits_of w).input → PassesFront w bytes n (record w { reading = r })
+front_passes w r bytes n p less room = record {
+  within = less;
+  limits = p.limits;
+  room = room;
+  scan = p.scan;
+  stands = λ limits front k. subst (λ (q : Option Picture). StandsForFile limits (front ++ take n bytes) (record w { reading = record r { coefs = q } })) (sym p.coefs) (p.stands w w.reading.coefs limits front k);
+}
 
 -- with none
 pub front_none : (w : FileWork) (bytes : List ℕ) → 1 ≤ length bytes → w.reading.taken < (limits_of w).input → PassesFront w bytes 0 w
@@ -278,6 +254,55 @@ front_none w bytes some room = record {
   scan = refl;
   stands = λ limits front k. subst (λ l. StandsForFile limits l w) (sym (append-nil front)) k;
 }
+
+-- with fill bytes inside the data of a scan
+pub waiting_scan : (scan : Option InScan) (one : InScan) → has_waiting scan ≡ true → scan ≡ Some one → one.gate ≡ true
+waiting_scan None one waits is = cc
+waiting_scan (Some scan) one waits is = subst (λ (o : Option InScan). has_waiting o ≡ true) is waits
+
+fills_scanning : (limits : Limits) (items : List Item) (contents bytes : List ℕ) (n : ℕ) (r : Reading) → Scanning limits items contents bytes r → has_waiting r.scan ≡ true → Scanning limits items contents (bytes ++ replicate n 255) (record r { taken = r.taken + n })
+fills_scanning limits items contents bytes n r k waits =
+    let behind = k.behind in
+    let size = length-append bytes (replicate {A = ℕ} n 255) in
+    let all = length-replicate {A = ℕ} n 255 in
+    record {
+      coefs = k.coefs;
+      has = k.has;
+      scan = k.scan;
+      inside = k.inside;
+      at = ff_bytes limits items contents bytes n k.scan k.coefs k.at (waiting_scan r.scan k.scan waits k.inside);
+      head = k.head;
+      count = omega (arith, k.count, size, all);
+      behind = omega (arith, behind);
+    }
+
+pub front_fills : (w : FileWork) (r : Reading) (bytes : List ℕ) (n : ℕ) → is_some w.reading.scan ≡ true → FillsScan w.reading bytes n r → PassesFront w bytes n (record w { reading = r })
+front_fills w r bytes zero some p =
+    let same : r ≡ w.reading = p.is ∙ ap (λ (t : ℕ). record w.reading { taken = t }) (omega arith) in
+    let less = p.less in
+    let room = p.room in
+    subst (λ (q : Reading). PassesFront w bytes 0 (record w { reading = q })) (sym same) (front_none w bytes (omega (arith, less)) (omega (arith, room)))
+front_fills w r bytes (suc m) some p =
+    let n = suc m in
+    let old = w.reading in
+    let next : Reading = record old { taken = old.taken + n } in
+    let room = p.room in
+    subst (λ (q : Reading). PassesFront w bytes n (record w { reading = q })) (sym p.is) (record {
+      within = p.less;
+      limits = refl;
+      room = room;
+      scan = refl;
+      stands = λ limits front k.
+          (let s = inside_of limits front w k some in
+          let waits = p.waits (λ e. omega (arith, e)) in
+          let input : (limits_of w).input ≡ limits.input = ap (λ (l : Limits). l.input) (limits_are limits front w k) in
+          let size = length-append front (replicate {A = ℕ} n 255) in
+          let all = length-replicate {A = ℕ} n 255 in
+          let count = (s.at).count in
+          let after : StandsForFile limits (front ++ replicate n 255) (record w { reading = next }) =
+          after_inside limits front (replicate n 255) step.More w (record w { reading = next }) s (inl (refl, fills_scanning limits s.items s.contents front n old s.at waits)) refl refl (omega (arith, room, input, size, all, count)) in
+          subst (λ (l : List ℕ). StandsForFile limits (front ++ l) (record w { reading = next })) (sym p.fill) after);
+    })
 
 pub one_taken : (w mid : FileWork) (bytes : List ℕ) (n : ℕ) (answer : Result Bool Stop) (new : FileWork) → PassesFront w bytes n mid → TakesFileByte mid (get_or bytes n 0) answer new → IfErr answer (λ stop. new.head ≡ mid.head)
     → TakesSome w bytes (n + 1) answer new

@@ -1,7 +1,7 @@
 -- Inside the data of a scan: the effect of the machine's answers on the place.
-use Rattle.std.proofs.Common.{◌≡◌, ℕ, suc, ◌+◌, ◌-◌, ◌%◌, ◌≤◌, min, Bool, true, false, List, [], ◌∷◌, ◌++◌, length, refl, sym, ap, ◌∙◌, subst, arith, ℤ}
+use Rattle.std.proofs.Common.{◌≡◌, ℕ, zero, suc, ◌+◌, ◌-◌, ◌%◌, ◌≤◌, min, Bool, true, false, List, [], ◌∷◌, ◌++◌, length, refl, sym, ap, ◌∙◌, subst, arith, ℤ}
 use Rattle.std.specs.Prelude.{flat_map, replicate}
-use Rattle.std.proofs.lemmas.List.{length-append}
+use Rattle.std.proofs.lemmas.List.{append-nil, append_assoc, length-append}
 use Rattle.jpg_spec.specs.Bits.{bits_of, bits_of_bytes}
 use Rattle.jpg_spec.specs.Elements.{Coding, UnitLeft, SpellsUnits}
 use Rattle.jpg_spec.specs.Scan.{Scan, ScanMeans, band, block_at}
@@ -246,6 +246,14 @@ ff_byte limits items contents bytes byte s gate now d e g = record {
   waits = subst (λ b. Waits b (suc d.fill)) (sym g) (d.fill, refl);
   work = d.work;
 }
+
+-- some FF after the first
+pub ff_bytes : (limits : Limits) (items : List Item) (contents bytes : List ℕ) (n : ℕ) (s : InScan) (now : Picture) → InData limits items contents bytes s now → s.gate ≡ true → InData limits items contents (bytes ++ replicate n 255) s now
+ff_bytes limits items contents bytes zero s now d g = subst (λ (b : List ℕ). InData limits items contents b s now) (sym (append-nil bytes)) d
+ff_bytes limits items contents bytes (suc n) s now d g =
+    let one = ff_byte limits items contents bytes 255 s true now d refl refl in
+    let same = subst (λ (b : Bool). InData limits items contents (bytes ++ 255 ∷ []) (record s { gate = b }) now) (sym g) one in
+    subst (λ (b : List ℕ). InData limits items contents b s now) (append_assoc bytes (255 ∷ []) (replicate n 255)) (ff_bytes limits items contents (bytes ++ 255 ∷ []) n s now same g)
 
 pub data_at : (limits : Limits) (items : List Item) (contents bytes : List ℕ) (byte passed : ℕ) (s : InScan) (now : Picture) → (d : InData limits items contents bytes s now) → IsData s.gate byte passed
     → ScanAt limits (bytes ++ byte ∷ []) (with_byte d.place passed) []

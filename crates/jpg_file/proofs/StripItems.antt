@@ -1,5 +1,5 @@
 -- What follows the scan of a file that is read MCU row by MCU row.
-use Rattle.std.proofs.Common.{◌≡◌, ◌⊎◌, ◌<◌, ◌≤◌, ◌∷◌, ◌++◌, length, refl, arith, inl, ℕ, Bool, true, false, List, [], sym, ap, ◌∙◌, subst, Option, Some, None, Ok, Err, inr}
+use Rattle.std.proofs.Common.{◌≡◌, ◌⊎◌, ◌<◌, ◌≤◌, ◌∷◌, ◌++◌, length, take, refl, arith, inl, ℕ, Bool, true, false, List, [], sym, ap, ◌∙◌, subst, Option, Some, None, Ok, Err, inr}
 use Rattle.std.specs.Prelude.{Result, is_some, unwrap_or}
 use Rattle.std.proofs.lemmas.List.{length-append}
 use Rattle.jpg_spec.proofs.Common.{clash}
@@ -17,6 +17,7 @@ use Rattle.jpg_file.specs.Read.ScanHistory.{HasBegunAll}
 use Rattle.jpg_file.specs.Read.File.{AfterFileByte, AfterFileStep, HeadStands, IsStop, StandsForFile, StandsBetween, with_picture}
 use Rattle.jpg_file.specs.Read.SegmentState.{told_by}
 use Rattle.jpg_file.specs.Read.JudgedHeader.{JudgesHead}
+use Rattle.jpg_file.specs.Read.Going.{GoesOn}
 use Rattle.jpg_file.specs.Read.RowTurns.{unfinished}
 use Rattle.jpg_file.specs.Read.Strips.{AfterRows, GoesByRow, HasLaterHead, PassesItem, RowsAfter, RowsInside, end_step}
 use Rattle.jpg_file.specs.Read.Reading.{AfterItemByte, Itemising}
@@ -24,6 +25,7 @@ use Rattle.jpg_file.specs.declared.read.file.FileWork.{FileWork}
 use Rattle.jpg_file.specs.declared.read.items.ItemStep.{ItemStep}
 use Rattle.jpg_file.specs.declared.read.items.ItemStep.TheVariants as step
 use Rattle.jpg_file.specs.declared.read.reading.Reading.{Reading}
+use Rattle.jpg_file.specs.declared.read.scan.InScan.{InScan}
 use Rattle.jpg_file.specs.declared.read.strips.StripStep.{StripStep}
 use Rattle.jpg_file.specs.declared.read.rows.RowWork.{RowWork}
 use Rattle.jpg_file.proofs.FileSteps.{after_between, between_of}
@@ -77,6 +79,27 @@ pub later_items : (limits : Limits) (bytes : List ℕ) (w : FileWork) (rows : Ro
 later_items limits bytes w rows b =
     let s = b.between in
     record { at = s.at; none = (s.beside).none; count = (s.beside).count; same = (s.beside).same }
+
+-- and after some bytes that are taken together
+pub later_passed : (limits : Limits) (bytes more : List ℕ) (w : FileWork) (r : Reading) (rows : RowWork) (n : ℕ) → (b : IsAfter limits bytes w rows) → rows.waiting ≡ [] → GoesOn w.reading more n r → GoesByRow limits (bytes ++ take n more) (record w { reading = r }) rows
+later_passed limits bytes more w r rows n b nothing p =
+    let old = with_picture w b.whole in
+    let none = (b.between).beside.none in
+    let new : FileWork = record w { reading = r } in
+    let k = p.stands w (Some b.whole) limits bytes (inl b.between) in
+    let left = p.scan ∙ none in
+    record {
+      stands = record {
+        whole = b.whole;
+        row = b.row;
+        at = inr (record { between = between_of limits (bytes ++ take n more) (with_picture new b.whole) k (ap is_some left); none = nothing; all = b.all; done = b.done });
+      };
+      none = nothing;
+      turned = λ scan is some. absurd (clash_none scan (sym is ∙ left));
+    }
+  where
+    clash_none : (scan : InScan) → Some scan ≡ None → ⊥
+    clash_none scan e = cc
 
 -- its result, whatever the picture
 later_step : (limits : Limits) (bytes : List ℕ) (byte : ℕ) (w : FileWork) (r : Reading) (rows : RowWork) (came : ItemStep) → (b : IsAfter limits bytes w rows) → AfterItemByte limits (bytes ++ byte ∷ []) (b.between).items (b.between).blocks came r → w.reading.taken < limits.input

@@ -1,15 +1,24 @@
 -- Some bytes of a file that is read MCU row by MCU row.
-use Rattle.std.proofs.Common.{◌≡◌, ◌⊎◌, ℕ, ◌≤◌, ◌<◌, Bool, List, [], ◌∷◌, ◌++◌, length, take, get_or, refl, sym, subst, arith, inl, inr}
-use Rattle.std.proofs.lemmas.List.{append-nil, get_or-take, length-take-le, take-take}
+use Rattle.std.proofs.Common.{◌≡◌, ◌⊎◌, ℕ, zero, suc, true, ap, ◌∙◌, ◌+◌, ◌≤◌, ◌<◌, Bool, List, [], ◌∷◌, ◌++◌, length, take, get_or, refl, sym, subst, arith, inl, inr}
+use Rattle.std.proofs.lemmas.List.{append-nil, get_or-take, length-append, length-replicate, length-take-le, take-take}
+use Rattle.std.specs.Prelude.{is_some, replicate}
+use Rattle.jpg_spec.specs.Items.{segments_of}
 use Rattle.jpg_spec.specs.declared.frame.Limits.{Limits}
 use Rattle.jpg_coefs.specs.Picture.{Picture}
-use Rattle.jpg_file.specs.Read.File.{StandsForFile, with_picture}
+use Rattle.jpg_file.specs.Read.File.{StandsForFile, limits_of, with_picture}
 use Rattle.jpg_file.specs.Read.RowData.{AfterRowBytes}
 use Rattle.jpg_file.specs.Read.Strips.{AfterRows, GoesByRow, RowsAfter, RowsInside, RowsRun}
+use Rattle.jpg_file.specs.Read.Going.{FillsScan, has_waiting}
+use Rattle.jpg_file.specs.Read.Reading.{IsSparing}
+use Rattle.jpg_file.specs.declared.read.reading.Reading.{Reading}
 use Rattle.jpg_file.specs.declared.read.file.FileWork.{FileWork}
 use Rattle.jpg_file.specs.declared.read.rows.RowWork.{RowWork}
 use Rattle.jpg_file.specs.declared.read.scan.ScanStep.TheVariants as answer
 use Rattle.jpg_file.specs.declared.read.strips.StripStep.{StripStep}
+use Rattle.jpg_spec.proofs.Common.{clash}
+use Rattle.jpg_file.proofs.FirstHeaders.{has_longer}
+use Rattle.jpg_file.proofs.PieceSteps.{waiting_scan}
+use Rattle.jpg_file.proofs.ScanBytes.{ff_bytes}
 
 -- the file as it is read in one go
 pub goes_with : (limits : Limits) (bytes : List ℕ) (w : FileWork) (rows : RowWork) → (g : GoesByRow limits bytes w rows) → StandsForFile limits bytes (with_picture w (g.stands).whole)
@@ -41,6 +50,13 @@ goes_with limits bytes w rows g = by (g.stands).at
 pub goes_stands : (limits : Limits) (bytes : List ℕ) (w : FileWork) (rows : RowWork) → GoesByRow limits bytes w rows → (whole : Picture) × StandsForFile limits bytes (with_picture w whole)
 goes_stands limits bytes w rows g = ((g.stands).whole, goes_with limits bytes w rows g)
 
+inside_rows : (limits : Limits) (bytes : List ℕ) (w : FileWork) (rows : RowWork) → (g : GoesByRow limits bytes w rows) → is_some w.reading.scan ≡ true → RowsInside limits bytes w rows (g.stands).whole
+inside_rows limits bytes w rows g some = by (g.stands).at
+  where
+    by : RowsInside limits bytes w rows (g.stands).whole ⊎ RowsAfter limits bytes w rows (g.stands).whole → RowsInside limits bytes w rows (g.stands).whole
+    by (inl r) = r
+    by (inr b) = absurd (clash (is_some w.reading.scan) some (ap is_some ((b.between).beside).none))
+
 -- a byte
 pub one_row : (limits : Limits) (front bytes : List ℕ) (w new : FileWork) (rows after : RowWork) (result : StripStep) → GoesByRow limits front w rows → w.reading.taken < limits.input → 1 ≤ length bytes → new.head ≡ w.head → AfterRows limits (front ++ get_or bytes 0 0 ∷ []) result new after
     → RowsRun limits front bytes 1 result new after
@@ -57,6 +73,65 @@ one_row limits front bytes w new rows after result g room some head a =
       head = sym head;
       last = subst (λ l. AfterRows limits (l ++ get_or bytes 0 0 ∷ []) result new after) (sym same) a;
     }
+
+-- a byte after some that were taken together
+pub later_row : (limits : Limits) (front bytes : List ℕ) (n : ℕ) (mid new : FileWork) (rows after : RowWork) (result : StripStep) → GoesByRow limits (front ++ take n bytes) mid rows → mid.reading.taken < limits.input → n < length bytes → new.head ≡ mid.head
+    → AfterRows limits ((front ++ take n bytes) ++ get_or bytes n 0 ∷ []) result new after → RowsRun limits front bytes (n + 1) result new after
+later_row limits front bytes n mid new rows after result g room less head a =
+    let k = goes_stands limits (front ++ take n bytes) mid rows g in
+    record { mid = with_picture mid k.0; early = n; count = refl; within = less; before = k.1; room = room; head = sym head; last = a }
+
+-- FILL BYTES inside the data of the scan
+rows_stay : (limits : Limits) (bytes run : List ℕ) (n : ℕ) (w : FileWork) (rows : RowWork) → (g : GoesByRow limits bytes w rows) → (r : RowsInside limits bytes w rows (g.stands).whole) → has_waiting w.reading.scan ≡ true → limits_of w ≡ limits
+    → w.reading.taken + n < (limits_of w).input → GoesByRow limits (bytes ++ replicate n 255) (record w { reading = record w.reading { taken = w.reading.taken + n } }) rows
+rows_stay limits bytes run n w rows g r waits same room =
+    let h = r.held in
+    let z = (g.stands).whole in
+    let gate = waiting_scan w.reading.scan r.scan waits r.inside in
+    let inside = subst (λ (l : List Bool). AfterRowBytes limits r.items r.contents bytes answer.More l r.scan z) g.none r.coded in
+    let more : AfterRowBytes limits r.items r.contents (bytes ++ replicate n 255) answer.More [] r.scan z = ff_bytes limits r.items r.contents bytes n r.scan z inside gate in
+    let behind = h.behind in
+    let count = h.count in
+    let size = length-append bytes (replicate {A = ℕ} n 255) in
+    let all = length-replicate {A = ℕ} n 255 in
+    let input : (limits_of w).input ≡ limits.input = ap (λ (l : Limits). l.input) same in
+    record {
+      stands = record {
+        whole = z;
+        row = (g.stands).row;
+        at = inl (record {
+          items = r.items;
+          contents = r.contents;
+          scan = r.scan;
+          inside = r.inside;
+          coded = subst (λ (l : List Bool). AfterRowBytes limits r.items r.contents (bytes ++ replicate n 255) answer.More l r.scan z) (sym g.none) more;
+          held = record {
+            head = h.head;
+            count = omega (arith, count, size, all);
+            behind = omega (arith, behind);
+            begun = h.begun;
+            within = omega (arith, room, input, count, size, all);
+            first_head = has_longer limits bytes (replicate n 255) (bytes ++ replicate n 255) ((0xda, r.contents) ∷ segments_of r.items) w.head refl h.first_head;
+            of = h.of;
+            all = h.all;
+          };
+          at = r.at;
+        });
+      };
+      none = g.none;
+      turned = g.turned;
+    }
+
+pub rows_filled : (limits : Limits) (bytes run : List ℕ) (n : ℕ) (w : FileWork) (q : Reading) (rows : RowWork) → GoesByRow limits bytes w rows → is_some w.reading.scan ≡ true → limits_of w ≡ limits → FillsScan w.reading run n q
+    → GoesByRow limits (bytes ++ take n run) (record w { reading = q }) rows
+rows_filled limits bytes run zero w q rows g some same p =
+    let is : q ≡ w.reading = p.is ∙ ap (λ (t : ℕ). record w.reading { taken = t }) (omega arith) in
+    subst (λ (o : Reading). GoesByRow limits (bytes ++ []) (record w { reading = o }) rows) (sym is) (subst (λ (l : List ℕ). GoesByRow limits l w rows) (sym (append-nil bytes)) g)
+rows_filled limits bytes run (suc m) w q rows g some same p =
+    let n = suc m in
+    let waits = p.waits (λ e. omega (arith, e)) in
+    subst (λ (o : Reading). GoesByRow limits (bytes ++ take n run) (record w { reading = o }) rows) (sym p.is)
+    (subst (λ (l : List ℕ). GoesByRow limits (bytes ++ l) (record w { reading = record w.reading { taken = w.reading.taken + n } }) rows) (sym p.fill) (rows_stay limits bytes run n w rows g (inside_rows limits bytes w rows g some) waits same p.room))
 
 -- a stretch from the first of them on
 pub front_rows : (limits : Limits) (front bytes : List ℕ) (size n : ℕ) (new : FileWork) (after : RowWork) (result : StripStep) → size ≤ length bytes → RowsRun limits front (take size bytes) n result new after → RowsRun limits front bytes n result new after
@@ -75,3 +150,13 @@ front_rows limits front bytes size n new after result few t =
       head = t.head;
       last = subst (λ b. AfterRows limits ((front ++ take t.early bytes) ++ b ∷ []) result new after) byte (subst (λ l. AfterRows limits ((front ++ l) ++ get_or (take size bytes) t.early 0 ∷ []) result new after) same t.last);
     }
+
+-- what they don't change
+pub filled_limits : (r : Reading) (run : List ℕ) (n : ℕ) (q : Reading) → FillsScan r run n q → q.items.limits ≡ r.items.limits
+filled_limits r run n q p = ap (λ (o : Reading). o.items.limits) p.is
+
+pub filled_scan : (r : Reading) (run : List ℕ) (n : ℕ) (q : Reading) → FillsScan r run n q → is_some r.scan ≡ true → is_some q.scan ≡ true
+filled_scan r run n q p some = ap (λ (o : Reading). is_some o.scan) p.is ∙ some
+
+pub filled_sparing : (r : Reading) (run : List ℕ) (n : ℕ) (q : Reading) → FillsScan r run n q → IsSparing r → IsSparing q
+filled_sparing r run n q p s = subst (λ (o : Reading). IsSparing o) (sym p.is) (record { keeping = s.keeping; scanned = s.scanned; room = s.room })

@@ -12,6 +12,7 @@ pub mod PictureKept
 pub mod PictureRead
 pub mod ReadFile
 pub mod ReadRows
+pub mod Going
 pub mod Reading
 pub mod RowCounts
 pub mod RowData

@@ -12,12 +12,21 @@ use Rattle.jpg_huff.specs.declared.new.TableFault.TheVariants.{TooManyCodes, Sho
 abbrev pub table_from : List ℕ → List ℕ → HuffmanTable
 table_from bits values = record { counts = bits; symbols = take (sum bits) values }
 
--- a table of them, where they are right
-pub record IsTableOf (bits values : List ℕ) (t : Table) : Type 0 where
-  pub table : table_of t ≡ table_from bits values
+-- counts and values of a table: at least as many values as codes, each of which fits its length and none of which is all ones
+pub record AreRight (bits values : List ℕ) : Type 0 where
   pub most : sum bits ≤ 256
   pub many : sum bits ≤ length values
   pub fit : are_codes 1 0 bits ≡ true
+
+-- a table of them, where they are right
+pub record IsTableOf (bits values : List ℕ) (t : Table) : Type 0 where
+  pub table : table_of t ≡ table_from bits values
+  pub right : AreRight bits values
+
+-- how many codes there are, where they are right
+pub record IsTotalOf (bits values : List ℕ) (total : ℕ) : Type 0 where
+  pub is : total ≡ sum bits
+  pub right : AreRight bits values
 
 -- what is wrong, and nothing that is checked before it
 abbrev pub IsFault : List ℕ → List ℕ → TableFault → Type 0
@@ -28,6 +37,10 @@ IsFault bits values OverfullCodes = (sum bits ≤ 256) × (sum bits ≤ length v
 abbrev pub IsNewTable : List ℕ → List ℕ → Result Table TableFault → Type 0
 IsNewTable bits values (Ok t) = IsTableOf bits values t
 IsNewTable bits values (Err fault) = IsFault bits values fault
+
+abbrev pub IsTotal : List ℕ → List ℕ → Result ℕ TableFault → Type 0
+IsTotal bits values (Ok total) = IsTotalOf bits values total
+IsTotal bits values (Err fault) = IsFault bits values fault
 
 -- the first number of a length, which is one more than this
 unfoldable pub first_number : List ℕ → ℕ → ℕ

@@ -3,7 +3,8 @@ ghost use Rattle.std.specs.Prelude.{◌≡◌, ◌<◌, ◌≤◌, ◌+◌, ◌^
 ghost use Rattle.jpg_spec.specs.Bits.{bits_of};
 ghost use Rattle.jpg_spec.specs.Codes.{are_codes, codes, codes_at};
 ghost use Rattle.jpg_huff.specs.Index.{IsEncoder};
-ghost use Rattle.jpg_huff.specs.New.{IsNewTable, AreFirsts, AreStarts, AreCodeLimits, AreEntries, HaveFirstCodes};
+ghost use Rattle.jpg_huff.specs.New.{IsNewTable, IsTotal, AreRight, AreFirsts, AreStarts, AreCodeLimits, AreEntries, HaveFirstCodes, table_from};
+ghost use Rattle.jpg_huff.specs.Tables.{table_of};
 
 use crate::Table;
 
@@ -25,19 +26,24 @@ impl Table {
     pub fn new(bits: &[u8; 16], values: &[u8]) -> Result<Table, TableFault>
         ensures { IsNewTable bits.now values.now result }
     {
-        let total = count_all(bits);
-        if total > 256 {
-            return Err(TableFault::TooManyCodes);
+        match judged_total(bits, values) {
+            Ok(_) => Ok(Table::of_right(bits, values)),
+            Err(fault) => Err(fault),
         }
-        if values.len() < total as usize {
-            return Err(TableFault::ShortValues);
-        }
+    }
+
+    // The same where the counts and values are right.
+    pub(crate) fn of_right(bits: &[u8; 16], values: &[u8]) -> Table
+        requires { AreRight bits.now values.now }
+        ensures { table_of result ≡ table_from bits.now values.now }
+    {
         let Some(firsts) = number_firsts(bits) else {
-            return Err(TableFault::OverfullCodes);
+            unreachable!();
         };
+        let total = count_all(bits);
         let symbols = keep_symbols(&values[..total as usize]);
         let starts = count_shorter(bits);
-        Ok(Table {
+        Table {
             counts: *bits,
             symbols,
             total,
@@ -45,12 +51,30 @@ impl Table {
             starts,
             limits: find_limits(bits, &firsts),
             encoder: encode(bits, &symbols, &firsts, &starts),
-        })
+        }
     }
 }
 
+/// How many codes a table with these counts has, for the first of the values; the fault of `Table::new` where there is
+/// no such table (T.81, B.2.4.2 and Annex C).
+pub fn judged_total(bits: &[u8; 16], values: &[u8]) -> Result<u16, TableFault>
+    ensures { IsTotal bits.now values.now result }
+{
+    let total = count_all(bits);
+    if total > 256 {
+        return Err(TableFault::TooManyCodes);
+    }
+    if values.len() < total as usize {
+        return Err(TableFault::ShortValues);
+    }
+    if number_firsts(bits).is_none() {
+        return Err(TableFault::OverfullCodes);
+    }
+    Ok(total)
+}
+
 // How many codes there are.
-fn count_all(bits: &[u8; 16]) -> u16
+pub(crate) fn count_all(bits: &[u8; 16]) -> u16
     ensures { result ≡ sum bits.now }
 {
     let mut total = 0;
@@ -112,7 +136,7 @@ fn find_limits(bits: &[u8; 16], firsts: &[u32; 16]) -> [u32; 16]
 }
 
 // The symbols, followed by zeros.
-fn keep_symbols(values: &[u8]) -> [u8; 256]
+pub(crate) fn keep_symbols(values: &[u8]) -> [u8; 256]
     requires { length values.now ≤ 256 }
     ensures { take (length values.now) result ≡ values.now }
 {

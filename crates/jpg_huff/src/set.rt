@@ -8,8 +8,8 @@ use crate::Table;
 /// Four optional DC tables and four optional AC tables, by slots 0 to 3 (T.81, B.2.4.2).
 #[derive(Drop)]
 pub struct TableSet {
-    dc: [Option<Table>; 4],
-    ac: [Option<Table>; 4],
+    pub(crate) dc: [Option<Table>; 4],
+    pub(crate) ac: [Option<Table>; 4],
 }
 
 impl TableSet {

@@ -1,19 +1,14 @@
 -- Huffman tables as loops read them, one after the other.
 use Rattle.std.proofs.Common.{◌≡◌, ℕ, zero, suc, ◌-◌, ◌≤◌, ◌<◌, true, false, List, [], ◌∷◌, length, get_or, take, drop, slice_set, Some, Ok, Err, refl, sym, ap, subst, ◌∙◌, arith}
 use Rattle.std.specs.Prelude.{◌/◌, ◌%◌, ◌==◌, Option}
-use Rattle.std.specs.Option.{option_map}
 use Rattle.std.proofs.lemmas.Bool.{eq-eqb, ne_eqb}
-use Rattle.std.proofs.lemmas.List.{length-drop, take_all, map-set}
+use Rattle.std.proofs.lemmas.List.{length-drop, take_all}
 use Rattle.jpg_spec.specs.Faults.{Told}
 use Rattle.jpg_spec.specs.Segments.{HuffmanTable}
 use Rattle.jpg_spec.specs.QuantContents.{◌>>=◌}
 use Rattle.jpg_spec.specs.HuffContents.{HuffmanDefinition, HuffmanSlots, definition_size, huffman_table_of, huffman_tables_of, huffman_tables, put_definition, put_definitions, huffmans_told}
 use Rattle.jpg_spec.specs.declared.fault.Fault.{Fault}
-use Rattle.jpg_huff.specs.declared.table.Table.{Table}
-use Rattle.jpg_huff.specs.declared.set.TableSet.{TableSet}
-use Rattle.jpg_huff.specs.Sets.{dc_tables, ac_tables, slots_of}
-use Rattle.jpg_huff.specs.Tables.{table_of}
-use Rattle.jpg_markers.specs.Huffmans.{definition_of, tables_judged}
+use Rattle.jpg_markers.specs.Huffmans.{tables_judged}
 
 abbrev AllTold : Type 0
 AllTold = Told (List HuffmanDefinition)
@@ -116,17 +111,21 @@ put_none slots rest high = ap (put slots) (none_left_at rest high)
 
 -- ONE SLOT
 
-abbrev seen : Option Table → Option HuffmanTable
-seen = option_map table_of
+abbrev slots : List (Option HuffmanTable) → List (Option HuffmanTable) → HuffmanSlots
+slots dc ac = record { dc = dc; ac = ac }
 
-pub put_dc : (old new : TableSet) (tc : ℕ) (t : Table) → tc / 16 ≡ 0 → dc_tables new ≡ slice_set (dc_tables old) (tc % 16) (Some t) → ac_tables new ≡ ac_tables old
-    → slots_of new ≡ put_definition (slots_of old) (definition_of tc t)
+slots_same : (a b : HuffmanSlots) → a.dc ≡ b.dc → a.ac ≡ b.ac → a ≡ b
+slots_same a b dc ac = ap (λ (xs : List (Option HuffmanTable)). slots xs a.ac) dc ∙ ap (slots b.dc) ac
+
+abbrev put_in : HuffmanSlots → ℕ → HuffmanTable → HuffmanSlots
+put_in slots tc t = put_definition slots (record { class = tc / 16; slot = tc % 16; table = t })
+
+pub put_dc : (old new : HuffmanSlots) (tc : ℕ) (t : HuffmanTable) → tc / 16 ≡ 0 → new.dc ≡ slice_set old.dc (tc % 16) (Some t) → new.ac ≡ old.ac → new ≡ put_in old tc t
 put_dc old new tc t zero-is dc ac =
     let b : (tc / 16 == 0) ≡ true = eq-eqb (tc / 16) 0 zero-is in
-    rw (dc, ac, b) (ap (λ (xs : List (Option HuffmanTable)). (let s : HuffmanSlots = record { dc = xs; ac = (slots_of old).ac } in s)) (map-set seen (dc_tables old) (tc % 16) (Some t)))
+    rw b (slots_same new (record { dc = slice_set old.dc (tc % 16) (Some t); ac = old.ac }) dc ac)
 
-pub put_ac : (old new : TableSet) (tc : ℕ) (t : Table) → (tc / 16 ≡ 0 → ⊥) → ac_tables new ≡ slice_set (ac_tables old) (tc % 16) (Some t) → dc_tables new ≡ dc_tables old
-    → slots_of new ≡ put_definition (slots_of old) (definition_of tc t)
+pub put_ac : (old new : HuffmanSlots) (tc : ℕ) (t : HuffmanTable) → (tc / 16 ≡ 0 → ⊥) → new.ac ≡ slice_set old.ac (tc % 16) (Some t) → new.dc ≡ old.dc → new ≡ put_in old tc t
 put_ac old new tc t not-zero ac dc =
     let b : (tc / 16 == 0) ≡ false = ne_eqb (tc / 16) 0 not-zero in
-    rw (dc, ac, b) (ap (λ (xs : List (Option HuffmanTable)). (let s : HuffmanSlots = record { dc = (slots_of old).dc; ac = xs } in s)) (map-set seen (ac_tables old) (tc % 16) (Some t)))
+    rw b (slots_same new (record { dc = old.dc; ac = slice_set old.ac (tc % 16) (Some t) }) dc ac)

@@ -1,3 +1,4 @@
+pub mod Continuing
 pub mod Definitions
 pub mod Distinct
 pub mod HeadSent

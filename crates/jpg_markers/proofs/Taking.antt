@@ -12,7 +12,7 @@ use Rattle.jpg_markers.specs.declared.segments.Phase.{Phase}
 use Rattle.jpg_markers.specs.declared.segments.Phase.TheVariants as phase
 use Rattle.jpg_markers.specs.declared.segments.SegStep.TheVariants as step
 use Rattle.jpg_markers.specs.Seen.{HasSeen}
-use Rattle.jpg_markers.specs.Reading.{Reading, AtPhase, StandsForSegments, HasWholeSegment, RevealsAfter, EndsAtEoi, Comes, due_before_last, with_contents}
+use Rattle.jpg_markers.specs.Reading.{Reading, AtPhase, StandsForSegments, HasWholeSegment, RevealsAfter, EndsAtEoi, Comes, with_contents}
 
 -- BETWEEN segments
 
@@ -24,7 +24,7 @@ shown : (rule : Rule) (before : List Segment) (fault : Fault) (bytes : List ℕ)
 shown rule before fault bytes (inl (is, none, x)) = (inl (is, x), inl (is, none, x))
 shown rule before fault bytes (inr (tail, between, x)) = (inr (before, tail, between, x), inr (tail, between, x))
 
-further : (rule : Rule) (bytes : List ℕ) (before : List Segment) (tail more : List ℕ) → Between rule bytes before tail → Between rule (bytes ++ more) before (tail ++ more)
+pub further : (rule : Rule) (bytes : List ℕ) (before : List Segment) (tail more : List ℕ) → Between rule bytes before tail → Between rule (bytes ++ more) before (tail ++ more)
 further rule bytes before tail more b = record {
   front = b.front;
   cut = ap (λ (x : List ℕ). x ++ more) b.cut ∙ append_assoc b.front tail more;
@@ -185,7 +185,7 @@ length_is high low n h l e =
     let b : n % 256 ≡ low = omega (arith, h, l, e) in
     ap (λ (x : ℕ). (let bytes : List ℕ = x ∷ n % 256 ∷ [] in bytes)) a ∙ ap (λ (x : ℕ). (let bytes : List ℕ = high ∷ x ∷ [] in bytes)) b
 
-spelled : (code high low : ℕ) (marker contents : List ℕ) → SpellsMarker code marker → high < 256 → low < 256 → length contents + 2 ≡ two_bytes high low
+pub spelled : (code high low : ℕ) (marker contents : List ℕ) → SpellsMarker code marker → high < 256 → low < 256 → length contents + 2 ≡ two_bytes high low
     → SpellsSegment code contents (marker ++ high ∷ low ∷ contents)
 spelled code high low marker contents m h l e =
     (marker, m, omega (arith, h, l, e), sym (append_assoc marker (high ∷ low ∷ []) contents) ∙ ap (λ (bytes : List ℕ). (marker ++ bytes) ++ contents) (sym (length_is high low (length contents + 2) h l e)))
@@ -208,7 +208,7 @@ grown : (high low byte : ℕ) (marker contents tail : List ℕ) → tail ≡ mar
 grown high low byte marker contents tail e = grown_by high low marker contents tail (byte ∷ []) e
 
 -- some of them at once, without the last one
-contents_more : (r : Reading) (bytes : List ℕ) (before : List Segment) (more : List ℕ) → r.phase ≡ phase.Contents → StandsForSegments bytes before r → length more + 1 ≤ r.left → StandsForSegments (bytes ++ more) before (with_contents r more)
+pub contents_more : (r : Reading) (bytes : List ℕ) (before : List Segment) (more : List ℕ) → r.phase ≡ phase.Contents → StandsForSegments bytes before r → length more + 1 ≤ r.left → StandsForSegments (bytes ++ more) before (with_contents r more)
 contents_more r bytes before more e s few =
     let (tail, between, seen, (marker, high, low, begins, is, h, l, long, least)) = at_is r phase.Contents bytes before e s in
     let next = further (kept_rule r.limits) bytes before tail more between in
@@ -218,40 +218,6 @@ contents_more r bytes before more e s few =
     let some : 1 ≤ r.left - length more = omega (arith, few) in
     let P : Phase → Type 0 = λ p. AtPhase (with_contents r more) p (bytes ++ more) before in
     (s.0, subst P (sym e) (tail ++ more, next, seen, (marker, high, low, begins, cut, h, l, all, some)))
-
--- none of them
-none_more : (r : Reading) (bytes : List ℕ) (before : List Segment) → StandsForSegments bytes before r → StandsForSegments (bytes ++ []) before (with_contents r [])
-none_more r bytes before s =
-    let taken : r.taken ≡ r.taken + 0 = omega arith in
-    let left : r.left ≡ r.left - 0 = omega arith in
-    subst (λ (b : List ℕ). StandsForSegments b before (with_contents r [])) (sym (append-nil bytes))
-    (subst (λ (n : ℕ). StandsForSegments bytes before (record r { taken = n; left = r.left - 0; contents = r.contents ++ [] })) taken
-    (subst (λ (n : ℕ). StandsForSegments bytes before (record r { left = n; contents = r.contents ++ [] })) left
-    (subst (λ (xs : List ℕ). StandsForSegments bytes before (record r { contents = xs })) (sym (append-nil r.contents)) s)))
-
--- as many as are left, at most all
-stretch_stands : (r : Reading) (bytes : List ℕ) (before : List Segment) (piece : List ℕ) (n : ℕ) → n ≡ min (due_before_last r.phase r.left) (length piece) → StandsForSegments bytes before r → StandsForSegments (bytes ++ take n piece) before (with_contents r (take n piece))
-stretch_stands r bytes before piece n is s = by r.phase refl
-  where
-    idle : (p : Phase) → r.phase ≡ p → due_before_last p r.left ≡ 0 → StandsForSegments (bytes ++ take n piece) before (with_contents r (take n piece))
-    idle p e none =
-        let m : n ≡ min 0 (length piece) = is ∙ ap (λ q. min (due_before_last q r.left) (length piece)) e ∙ ap (λ (m : ℕ). min m (length piece)) none in
-        let z : n ≡ 0 = omega (arith, m) in
-        subst (λ (m : ℕ). StandsForSegments (bytes ++ take m piece) before (with_contents r (take m piece))) (sym z) (none_more r bytes before s)
-
-    by : (p : Phase) → r.phase ≡ p → StandsForSegments (bytes ++ take n piece) before (with_contents r (take n piece))
-    by phase.Empty e = idle phase.Empty e refl
-    by phase.HalfStart e = idle phase.HalfStart e refl
-    by phase.Between e = idle phase.Between e refl
-    by phase.Fill e = idle phase.Fill e refl
-    by phase.Coded e = idle phase.Coded e refl
-    by phase.HalfLength e = idle phase.HalfLength e refl
-    by phase.Ended e = idle phase.Ended e refl
-    by phase.Contents e =
-        let (tail, between, seen, (marker, high, low, begins, cut, h, l, long, least)) = at_is r phase.Contents bytes before e s in
-        let m : n ≡ min (r.left - 1) (length piece) = is ∙ ap (λ q. min (due_before_last q r.left) (length piece)) e in
-        let size = length-take-le n piece (omega (arith, m)) in
-        contents_more r bytes before (take n piece) e s (omega (arith, m, size, least))
 
 pub content_more : (r : Reading) (bytes : List ℕ) (before : List Segment) (byte left : ℕ) → r.phase ≡ phase.Contents → StandsForSegments bytes before r → left + 1 ≡ r.left → 1 ≤ left
     → Comes (bytes ++ byte ∷ []) before (Ok step.More) (record r { left = left; contents = r.contents ++ byte ∷ [] })
@@ -278,13 +244,6 @@ content_whole r bytes before byte e s last =
 pub contents_short : (r : Reading) (bytes : List ℕ) (before : List Segment) → r.phase ≡ phase.Contents → StandsForSegments bytes before r → length r.contents < 65533
 contents_short r bytes before e s =
     let (tail, between, seen, (marker, high, low, begins, is, h, l, long, least)) = at_is r phase.Contents bytes before e s in omega (arith, h, l, long, least)
-
-pub stretch_taken : (r : Reading) (bytes : List ℕ) (before : List Segment) (piece : List ℕ) (n : ℕ) (contents : List ℕ) → n ≡ min (due_before_last r.phase r.left) (length piece) → contents ≡ r.contents ++ take n piece → StandsForSegments bytes before r
-    → StandsForSegments (bytes ++ take n piece) before (record r { taken = r.taken + n; left = r.left - n; contents = contents })
-stretch_taken r bytes before piece n contents is grows s =
-    let size : length (take n piece) ≡ n = length-take-le n piece (omega (arith, is)) in
-    subst (λ (xs : List ℕ). StandsForSegments (bytes ++ take n piece) before (record r { taken = r.taken + n; left = r.left - n; contents = xs })) (sym grows)
-    (subst (λ (m : ℕ). StandsForSegments (bytes ++ take n piece) before (record r { taken = r.taken + m; left = r.left - m; contents = r.contents ++ take n piece })) size (stretch_stands r bytes before piece n is s))
 
 -- A COMPLETE SEGMENT
 

@@ -1,7 +1,7 @@
 -- What a reader of segments keeps of the bytes that it was given, and their result.
-use Rattle.std.specs.Prelude.{◌≡◌, ◌⊎◌, ℕ, suc, ◌+◌, ◌-◌, ◌<◌, ◌≤◌, min, take, List, [], ◌∷◌, ◌++◌, length, replicate, Option, None, Result, Ok, Err, vec_capacity}
+use Rattle.std.specs.Prelude.{if◌then◌else◌, ◌==◌, ◌≡◌, ◌⊎◌, ℕ, suc, ◌+◌, ◌-◌, ◌<◌, ◌≤◌, true, min, take, List, [], ◌∷◌, ◌++◌, length, replicate, Option, None, Result, Ok, Err, vec_capacity}
 use Rattle.jpg_spec.specs.Segments.{two_bytes}
-use Rattle.jpg_spec.specs.Markers.{Segment, Rule, SpellsMarker, SpellsSegment, code_fault, kept_rule, Between, RevealsNoStart, NoMarkerBytes, TailReveals, BeginsSegment, at_soi, at_frame, at_eoi, at_segment, at_fault, at_part, Reaches}
+use Rattle.jpg_spec.specs.Markers.{Segment, Rule, SpellsMarker, SpellsSegment, code_fault, code_fault_if, kept_rule, Between, RevealsNoStart, NoMarkerBytes, TailReveals, BeginsSegment, at_soi, at_frame, at_eoi, at_segment, at_fault, at_part, Reaches}
 use Rattle.jpg_spec.specs.declared.frame.Limits.{Limits}
 use Rattle.jpg_spec.specs.declared.fault.Fault.{Fault}
 use Rattle.jpg_spec.specs.declared.fault.Fault.TheVariants.{NotJpeg, NoMarker}
@@ -16,7 +16,7 @@ use Rattle.jpg_markers.specs.declared.segments.Phase.TheVariants as phase
 use Rattle.jpg_markers.specs.declared.segments.SegStep.{SegStep}
 use Rattle.jpg_markers.specs.declared.segments.SegStep.TheVariants as step
 use Rattle.jpg_markers.specs.declared.segments.SegmentReader.{SegmentReader}
-use Rattle.jpg_markers.specs.Seen.{HasSeen}
+use Rattle.jpg_markers.specs.Seen.{HasSeen, allows}
 
 -- what contracts see of a reader: also the last complete segment's code and contents, and why it stopped, if it did
 pub record Reading : Type 0 where
@@ -156,32 +156,72 @@ pub record Stays (old new : SegmentReader) : Type 0 where
   pub stop : new.stop ≡ old.stop
   pub room : HasRoom old → HasRoom new
 
--- SOME BYTES of contents at once: how many are expected before a segment's last one
-abbrev pub due_before_last : Phase → ℕ → ℕ
-due_before_last phase.Empty left = 0
-due_before_last phase.HalfStart left = 0
-due_before_last phase.Between left = 0
-due_before_last phase.Fill left = 0
-due_before_last phase.Coded left = 0
-due_before_last phase.HalfLength left = 0
-due_before_last phase.Contents left = left - 1
-due_before_last phase.Ended left = 0
+-- SOME BYTES at once that only continue what is there: how many of these bytes, from the first on, are fill bytes
+unfoldable pub filled : List ℕ → ℕ
+filled [] = 0
+filled (b ∷ bytes) = if b == 255 then suc (filled bytes) else 0
+
+-- fill bytes after FF, or contents before a segment's last one
+abbrev pub due_of : Phase → ℕ → List ℕ → ℕ
+due_of phase.Empty left bytes = 0
+due_of phase.HalfStart left bytes = 0
+due_of phase.Between left bytes = 0
+due_of phase.Fill left bytes = filled bytes
+due_of phase.Coded left bytes = 0
+due_of phase.HalfLength left bytes = 0
+due_of phase.Contents left bytes = min (left - 1) (length bytes)
+due_of phase.Ended left bytes = 0
+
+-- the reader with so many more bytes taken
+abbrev pub with_taken : Reading → ℕ → Reading
+with_taken r n = record r { taken = r.taken + n }
 
 -- the reader with further bytes of contents
 abbrev pub with_contents : Reading → List ℕ → Reading
 with_contents r more = record r { taken = r.taken + length more; left = r.left - length more; contents = r.contents ++ more }
 
--- all that are expected and given, or none if there is no memory for them
-abbrev pub AddsContents : Reading → List ℕ → Result ℕ NoMemory → Reading → Type 0
-AddsContents old bytes (Ok n) new =
-    (n ≡ min (due_before_last old.phase old.left) (length bytes)) × (new ≡ with_contents old (take n bytes))
-AddsContents old bytes (Err e) new = new ≡ old
+abbrev pub continued : Phase → Reading → List ℕ → Reading
+continued phase.Empty r more = with_taken r (length more)
+continued phase.HalfStart r more = with_taken r (length more)
+continued phase.Between r more = with_taken r (length more)
+continued phase.Fill r more = with_taken r (length more)
+continued phase.Coded r more = with_taken r (length more)
+continued phase.HalfLength r more = with_taken r (length more)
+continued phase.Contents r more = with_contents r more
+continued phase.Ended r more = with_taken r (length more)
+
+-- all of them that are given, or none if there is no memory for them
+abbrev pub Continues : Reading → List ℕ → Result ℕ NoMemory → Reading → Type 0
+Continues old bytes (Ok n) new = (n ≡ due_of old.phase old.left bytes) × (new ≡ continued old.phase old (take n bytes))
+Continues old bytes (Err e) new = new ≡ old
 
 -- For all bytes that it was given before, it was given these and those that were taken, as if `byte` had answered More
 -- to each.
 abbrev pub PassesBytes : Reading → List ℕ → Reading → Type 0
 PassesBytes old more new = (bytes : List ℕ) (before : List Segment) → StandsForSegments bytes before old → StandsForSegments (bytes ++ more) before new
 
-abbrev pub PassesContents : Reading → List ℕ → Result ℕ NoMemory → Reading → Type 0
-PassesContents old bytes (Ok n) new = PassesBytes old (take n bytes) new
-PassesContents old bytes (Err e) new = Unit {0}
+abbrev pub PassesSome : Reading → List ℕ → Result ℕ NoMemory → Reading → Type 0
+PassesSome old bytes (Ok n) new = (n ≤ length bytes) × PassesBytes old (take n bytes) new
+PassesSome old bytes (Err e) new = Unit {0}
+
+-- a code, a length and contents, and perhaps further bytes
+abbrev pub IsSized : ℕ → List ℕ → List ℕ → Type 0
+IsSized code contents bytes =
+    (high : ℕ) × (low : ℕ) × (rest : List ℕ) × (bytes ≡ code ∷ high ∷ low ∷ (contents ++ rest)) × (high < 256) × (low < 256)
+    × (length contents + 2 ≡ two_bytes high low)
+
+-- A COMPLETE SEGMENT at once: it may follow what the reader was given, which is between segments
+pub record MayFollow (r : Reading) (code : ℕ) (contents : List ℕ) : Type 0 where
+  pub between : r.phase ≡ phase.Between
+  pub no_end : code ≡ 0xd9 → ⊥
+  pub allowed : code_fault_if r.seen.framed code ≡ None
+  pub within : allows r.seen code contents ≡ true
+
+-- and is taken, in so many bytes
+pub record PassesSegment (old : Reading) (code : ℕ) (contents : List ℕ) (n : ℕ) (new : Reading) : Type 0 where
+  pub was : old.phase ≡ phase.Between
+  pub between : new.phase ≡ phase.Between
+  pub limits : new.limits ≡ old.limits
+  pub taken : new.taken ≡ old.taken + n
+  pub kept : (bytes : List ℕ) (before : List Segment) → StandsForSegments bytes before old → kept_rule old.limits before code contents ≡ None
+  pub stands : (bytes tail : List ℕ) (before : List Segment) → StandsForSegments bytes before old → SpellsSegment code contents tail → StandsForSegments (bytes ++ tail) ((code, contents) ∷ before) new

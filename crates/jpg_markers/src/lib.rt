@@ -11,6 +11,7 @@ mod quants;
 mod scan;
 mod seen;
 mod segments;
+mod whole;
 mod writing;
 
 pub use app::{App, read_app};
@@ -22,10 +23,11 @@ pub use jpg_base::{
     Bytes, Colour, Desk, Fault, FaultAt, Frame, Limits, NoMemory, Process, QuantTable, ScanHead,
     Stop, WriteFault,
 };
-pub use jpg_huff::{BitOut, TableSet};
+pub use jpg_huff::{BitOut, DefinitionSet, TableSet};
 pub use jpg_spec::{Copying, Jfif};
 pub use kept::{Kept, KeptList, KeptRest};
 pub use quants::{QuantSet, read_dqt};
 pub use scan::{accepted_heads_are_of_their_frames, read_sos};
 pub use segments::{SegStep, SegmentReader};
+pub use whole::{WholeSegment, fill_length, segment_at};
 pub use writing::{OutHead, file_head, is_wide, write_segment};

@@ -1,9 +1,9 @@
 //! What is remembered of segments for those after them (T.81, B.1.1, Table B.1).
-ghost use Rattle.std.specs.Prelude.{◌≡◌, ◌||◌, ◌==◌, [], Some, None, IfSome, IfNone};
+ghost use Rattle.std.specs.Prelude.{◌≡◌, ◌||◌, ◌==◌, [], true, false};
 ghost use Rattle.jpg_spec.specs.Jfif.{begins_jfif, begins_adobe};
 ghost use Rattle.jpg_spec.specs.Markers.{code_fault_if, is_frame_code, is_kept_if, is_plain_adobe, is_plain_jfif, is_unexpected, is_unsupported, counted_size};
 ghost use Rattle.jpg_spec.specs.declared.frame.Limits.{Limits};
-ghost use Rattle.jpg_markers.specs.Seen.{Exceeds, HasSeen, Leaves};
+ghost use Rattle.jpg_markers.specs.Seen.{Exceeds, HasSeen, Leaves, allows};
 
 use crate::app::{begins_with, is_adobe, is_jfif};
 use jpg_spec::Fault;
@@ -33,36 +33,27 @@ impl Seen {
         }
     }
 
-    /// The same with one more segment; None if its kept bytes exceed the rest of the limit.
-    pub fn with(&self, code: u8, contents: &[u8]) -> Option<Seen>
-        ensures some { IfSome result (Leaves self.now code contents.now) }
-        ensures none { IfNone result (Exceeds self.now code contents.now) }
+    /// Whether the kept bytes of one more segment are within the rest of the limit.
+    pub fn allows(&self, code: u8, contents: &[u8]) -> bool
+        ensures is { result ≡ allows self.now code contents.now }
+        ensures none { result ≡ false → Exceeds self.now code contents.now }
     {
-        let next = self.behind(code);
-        if !is_kept(self.scanned, code, contents) {
-            return Some(next);
-        }
-        let size = counted_size(self.jfif, self.adobe, code, contents);
-        if self.free < size {
-            return None;
-        }
-        Some(Seen {
-            free: self.free - size,
-            jfif: either(is_plain_jfif(code, contents), self.jfif),
-            adobe: either(is_plain_adobe(code, contents), self.adobe),
-            ..next
-        })
+        !is_kept(self.scanned, code, contents)
+            || counted_size(self.jfif, self.adobe, code, contents) <= self.free
     }
 
-    // After a segment of this code, whatever is kept.
-    fn behind(&self, code: u8) -> Seen
-        ensures { result ≡ record (self.now) { framed = is_frame_code code || self.now.framed; scanned = code == 0xda || self.now.scanned } }
+    /// Remembers one more segment.
+    pub fn note(&mut self, code: u8, contents: &[u8])
+        requires { allows self.old code contents.now ≡ true }
+        ensures { Leaves self.old code contents.now self.new }
     {
-        Seen {
-            framed: either(is_frame_code(code), self.framed),
-            scanned: either(code == 0xda, self.scanned),
-            ..*self
+        if is_kept(self.scanned, code, contents) {
+            self.free -= counted_size(self.jfif, self.adobe, code, contents);
+            self.jfif = either(is_plain_jfif(code, contents), self.jfif);
+            self.adobe = either(is_plain_adobe(code, contents), self.adobe);
         }
+        self.framed = either(is_frame_code(code), self.framed);
+        self.scanned = either(code == 0xda, self.scanned);
     }
 }
 

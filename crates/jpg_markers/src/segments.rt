@@ -1,13 +1,14 @@
 //! The segments of a file, read byte by byte (T.81, B.1.1).
-ghost use Rattle.std.specs.Prelude.{◌≡◌, ◌≤◌, ◌<◌, ◌+◌, ℕ, List, [], ◌∷◌, length, None, Some, Err, IfOk, IfErr};
+ghost use Rattle.std.specs.Prelude.{◌≡◌, ◌≤◌, ◌<◌, ◌+◌, ℕ, List, [], ◌∷◌, length, None, Some, Ok, Err, IfOk, IfErr, true};
 ghost use Rattle.jpg_spec.specs.FrameHeader.{AreLimits};
 ghost use Rattle.jpg_spec.specs.Markers.{Segment};
 ghost use Rattle.jpg_base.specs.declared.stop.Stop.{Stop as Stopped};
 ghost use Rattle.jpg_base.specs.declared.stop.Stop.TheVariants as stop;
 ghost use Rattle.jpg_markers.specs.declared.segments.Phase.TheVariants as phase;
-ghost use Rattle.jpg_markers.specs.Reading.{reading_of, AfterWhole, StandsForSegments, AddsContents, Comes, PassesContents, due_before_last, Goes, HasRoom, IsAfterScan, HaltsNot, NotWanting, Stays, ComesWith, GoesWith, GoesWhole};
+ghost use Rattle.jpg_markers.specs.Reading.{reading_of, AfterWhole, StandsForSegments, Continues, Comes, PassesSome, MayFollow, PassesSegment, Goes, HasRoom, IsAfterScan, HaltsNot, NotWanting, Stays, ComesWith, GoesWith, GoesWhole};
 
 use crate::seen::{Seen, code_fault, is_frame_code};
+use crate::whole::{WholeSegment, fill_length};
 use byteorder::{BigEndian, ByteOrder};
 use jpg_base::{NoMemory, Stop};
 use jpg_spec::{Fault, FaultAt, Limits};
@@ -132,16 +133,37 @@ impl SegmentReader {
         self.answer(next)
     }
 
-    /// Takes contents of the current segment from the start of these bytes, as many as are expected before its last
-    /// byte, and answers how many they were: none if no contents are expected. It is as if `byte` were given them one
-    /// by one, and answered More to each. If there is no memory, nothing has changed.
+    /// Takes bytes from the start of these that only continue what is there, and answers how many they were: fill bytes
+    /// after FF, or contents of the current segment, as many as are expected before its last byte, and otherwise none.
+    /// It is as if `byte` were given them one by one, and answered More to each. If there is no memory, nothing has
+    /// changed.
     pub fn stretch(&mut self, bytes: &[u8]) -> Result<usize, NoMemory>
         requires { (reading_of self.old).taken + length bytes.now ≤ (reading_of self.old).limits.input }
-        ensures added { AddsContents (reading_of self.old) bytes.now result (reading_of self.new) }
-        ensures stands { PassesContents (reading_of self.old) bytes.now result (reading_of self.new) }
+        ensures continues { Continues (reading_of self.old) bytes.now result (reading_of self.new) }
+        ensures stands { PassesSome (reading_of self.old) bytes.now result (reading_of self.new) }
         ensures room { HasRoom self.old → HasRoom self.new }
     {
-        let n = self.due().min(bytes.len());
+        match self.phase {
+            Phase::Contents => self.take_contents(bytes),
+            Phase::Fill => Ok(self.take_fill(bytes)),
+            Phase::Empty => Ok(0),
+            Phase::HalfStart => Ok(0),
+            Phase::Between => Ok(0),
+            Phase::Coded => Ok(0),
+            Phase::HalfLength => Ok(0),
+            Phase::Ended => Ok(0),
+        }
+    }
+
+    // Takes contents of the current segment, as many as are given and expected before its last byte.
+    fn take_contents(&mut self, bytes: &[u8]) -> Result<usize, NoMemory>
+        requires inside { (reading_of self.old).phase ≡ phase.Contents }
+        requires room { (reading_of self.old).taken + length bytes.now ≤ (reading_of self.old).limits.input }
+        ensures continues { Continues (reading_of self.old) bytes.now result (reading_of self.new) }
+        ensures room { HasRoom self.old → HasRoom self.new }
+    {
+        let due = self.left.saturating_sub(1) as usize;
+        let n = due.min(bytes.len());
         match self.contents.extend_from_slice(&bytes[..n]) {
             Ok(()) => {
                 self.left -= n as u16;
@@ -152,21 +174,54 @@ impl SegmentReader {
         }
     }
 
-    // How many bytes of contents are expected before the last one.
-    fn due(&self) -> usize
-        ensures is { result ≡ due_before_last self.now.phase self.now.left }
-        ensures few { result ≤ self.now.left }
+    // Takes the fill bytes at the start of these, and answers how many they were.
+    fn take_fill(&mut self, bytes: &[u8]) -> usize
+        requires inside { (reading_of self.old).phase ≡ phase.Fill }
+        requires room { (reading_of self.old).taken + length bytes.now ≤ (reading_of self.old).limits.input }
+        ensures continues { Continues (reading_of self.old) bytes.now (Ok result) (reading_of self.new) }
+        ensures room { HasRoom self.old → HasRoom self.new }
     {
-        match self.phase {
-            Phase::Contents => self.left.saturating_sub(1) as usize,
-            Phase::Empty => 0,
-            Phase::HalfStart => 0,
-            Phase::Between => 0,
-            Phase::Fill => 0,
-            Phase::Coded => 0,
-            Phase::HalfLength => 0,
-            Phase::Ended => 0,
+        let within = self.taken <= self.limits.input;
+        prove!(within);
+        let n = fill_length(bytes);
+        self.taken += n as u64;
+        n
+    }
+
+    /// Whether this segment may follow: the reader is between segments, the segment's code may occur here and isn't EOI,
+    /// and the kept markers are within their limit with it.
+    pub fn allows(&self, segment: &WholeSegment<'_>) -> bool
+        ensures { result ≡ true → MayFollow (reading_of self.now) segment.now.code segment.now.contents.now }
+    {
+        if self.stop.is_some() || segment.code == 0xd9 {
+            return false;
         }
+        if code_fault(self.seen.framed, segment.code).is_some() {
+            return false;
+        }
+        match self.phase {
+            Phase::Between => self.seen.allows(segment.code, segment.contents),
+            Phase::Empty => false,
+            Phase::HalfStart => false,
+            Phase::Fill => false,
+            Phase::Coded => false,
+            Phase::HalfLength => false,
+            Phase::Contents => false,
+            Phase::Ended => false,
+        }
+    }
+
+    /// Takes a segment that may follow. Neither `code` nor `contents` change.
+    pub fn pass(&mut self, segment: &WholeSegment<'_>)
+        requires may { MayFollow (reading_of self.old) segment.now.code segment.now.contents.now }
+        requires room { (reading_of self.old).taken + segment.now.length ≤ (reading_of self.old).limits.input }
+        ensures passed { PassesSegment (reading_of self.old) segment.now.code segment.now.contents.now segment.now.length (reading_of self.new) }
+        ensures room { HasRoom self.old → HasRoom self.new }
+    {
+        let within = self.taken <= self.limits.input;
+        prove!(within);
+        self.seen.note(segment.code, segment.contents);
+        self.taken += segment.length as u64;
     }
 
     /// Makes room for the contents of one segment of any length. It changes nothing else, and after Ok no call answers
@@ -386,13 +441,11 @@ impl SegmentReader {
         ensures whole { AfterWhole result (reading_of self.new) }
         ensures memory { HaltsNot result }
     {
-        match self.seen.with(self.code, self.contents.as_slice()) {
-            None => Err(Halt::Fault(Fault::MarkersTooLarge)),
-            Some(seen) => {
-                self.seen = seen;
-                self.phase = Phase::Between;
-                Ok(SegStep::Whole)
-            }
+        if !self.seen.allows(self.code, self.contents.as_slice()) {
+            return Err(Halt::Fault(Fault::MarkersTooLarge));
         }
+        self.seen.note(self.code, self.contents.as_slice());
+        self.phase = Phase::Between;
+        Ok(SegStep::Whole)
     }
 }

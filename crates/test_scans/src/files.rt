@@ -1,5 +1,6 @@
 // Complete files through `Reader`: whether they are complete and what their pictures have, or what stops them (T.81, B.2, F.2.2).
 ghost use Rattle.std.specs.Prelude.{◌≡◌, ◌≤◌, false};
+ghost use Rattle.jpg_spec.specs.FrameHeader.{AreLimits};
 
 use crate::blocks::add_firsts;
 use crate::row::Row;
@@ -29,12 +30,36 @@ fn read(reader: &mut Reader, bytes: &[u8], size: usize) -> Result<u64, Stop>
     }
 }
 
-// How many bytes may be taken: as many as the text says, or by the standard limits.
-fn most_of(text: &str) -> Result<u64, Unread<'_>> {
+// The limits that a row asks for: the standard ones, but for one that the text names, with its number.
+fn asked_limits(text: &str) -> Result<Limits, Unread<'_>> {
+    let mut asked = Limits::standard();
     if text.is_empty() {
-        Ok(u64::MAX)
-    } else {
-        number(text)
+        return Ok(asked);
+    }
+    let Some((name, value)) = text.split_once(' ') else {
+        return Err(Unread::Unread(text));
+    };
+    let most = number(value)?;
+    match name {
+        "side" => asked.side = u32::try_from(most).unwrap_or(u32::MAX),
+        "blocks" => asked.blocks = u32::try_from(most).unwrap_or(u32::MAX),
+        "kept" => asked.kept = most,
+        "input" => asked.input = most,
+        _ => return Err(Unread::Unread(text)),
+    }
+    Ok(asked)
+}
+
+// The same, each at most the standard one.
+fn lowered(asked: Limits) -> Limits
+    ensures { AreLimits result }
+{
+    let standard = Limits::standard();
+    Limits {
+        side: asked.side.min(standard.side),
+        blocks: asked.blocks.min(standard.blocks),
+        kept: asked.kept.min(standard.kept),
+        input: asked.input.min(standard.input).max(1),
     }
 }
 
@@ -45,13 +70,13 @@ fn stop_text(alloc: Global, stop: Stop) -> Result<String, AllocError> {
     }
 }
 
-fn file_text(alloc: Global, bytes: &[u8], most: u64, size: usize) -> Result<String, AllocError> {
-    let standard = Limits::standard();
-    let limits = Limits {
-        input: most.min(standard.input).max(1),
-        ..standard
-    };
-    let mut reader = Reader::new(alloc, limits);
+fn file_text(
+    alloc: Global,
+    bytes: &[u8],
+    asked: Limits,
+    size: usize,
+) -> Result<String, AllocError> {
+    let mut reader = Reader::new(alloc, lowered(asked));
     match read(&mut reader, bytes, size.max(1)) {
         Ok(taken) => format!(in alloc; "{taken}"),
         Err(stop) => stop_text(alloc, stop),
@@ -61,9 +86,9 @@ fn file_text(alloc: Global, bytes: &[u8], most: u64, size: usize) -> Result<Stri
 /// How many bytes a file has, or why it is refused, in pieces of 1 and of 1000 bytes.
 pub fn file<'a>(alloc: Global, names: &[Named], row: &Row<'a>) -> Result<String, Unread<'a>> {
     let bytes = spelled(alloc, names, row.fields[0])?;
-    let most = most_of(row.fields[1])?;
-    let first = file_text(alloc, bytes.as_slice(), most, 1)?;
-    let second = file_text(alloc, bytes.as_slice(), most, 1000)?;
+    let asked = asked_limits(row.fields[1])?;
+    let first = file_text(alloc, bytes.as_slice(), asked, 1)?;
+    let second = file_text(alloc, bytes.as_slice(), asked, 1000)?;
     both(alloc, first, second)
 }
 

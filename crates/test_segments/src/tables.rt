@@ -1,7 +1,7 @@
 // Contents of DQT and DHT segments, one after another: what their readers answer, and the tables that they leave.
 use crate::answer::Answer;
 use crate::row::{Row, small, word};
-use jpg_huff::{Table, TableSet};
+use jpg_huff::{DefinitionSet, Table};
 use jpg_markers::{QuantSet, read_dht, read_dqt};
 use std::alloc::{AllocError, Global};
 use test_rows::{Named, Stop, number, spelled};
@@ -9,7 +9,7 @@ use test_rows::{Named, Stop, number, spelled};
 #[derive(Drop)]
 struct Defined {
     quants: QuantSet,
-    huffmans: TableSet,
+    huffmans: DefinitionSet,
 }
 
 /// Segments and questions, one for each field.
@@ -21,7 +21,7 @@ pub fn tables<'a>(
 ) -> Result<(), Stop<'a>> {
     let mut tables = Defined {
         quants: QuantSet::new(),
-        huffmans: TableSet::new(),
+        huffmans: DefinitionSet::new(),
     };
     for field in row.fields.iter() {
         step(alloc, names, field, &mut tables, answer)?;
@@ -50,11 +50,13 @@ fn step<'a>(
         "quantiser" => say_quantiser(rest, &tables.quants, answer)?,
         "dc" => {
             let (slot, what) = word(rest);
-            say_table(alloc, what, tables.huffmans.dc(small(slot)?), answer)?;
+            let set = tables.huffmans.tables();
+            say_table(alloc, what, set.dc(small(slot)?), answer)?;
         }
         "ac" => {
             let (slot, what) = word(rest);
-            say_table(alloc, what, tables.huffmans.ac(small(slot)?), answer)?;
+            let set = tables.huffmans.tables();
+            say_table(alloc, what, set.ac(small(slot)?), answer)?;
         }
         _ => return Err(Stop::Unread(field)),
     }

@@ -179,7 +179,7 @@ pub record TakesSome (old : FileWork) (bytes : List ℕ) (n : ℕ) (answer : Res
   pub before : (limits : Limits) (front : List ℕ) → StandsForFile limits front old → limits_of old ≡ limits → StandsForFile limits (front ++ take early bytes) mid
   pub last : (limits : Limits) (front : List ℕ) → StandsForFile limits front mid → limits_of old ≡ limits → AfterFileByte (KeepsBytes old) limits (front ++ slice_index bytes early ∷ []) answer new
 
--- CONTENTS of a segment before the last of some bytes: the file was given the first n of them too.
+-- SOME BYTES between items, or inside a segment, but not the last of these: the file was given the first n of them too.
 pub record PassesFront (old : FileWork) (bytes : List ℕ) (n : ℕ) (mid : FileWork) : Type 0 where
   pub within : n < length bytes
   pub limits : limits_of mid ≡ limits_of old

@@ -80,12 +80,13 @@ abbrev pub TakesItemByte : Items → ℕ → ItemStep → Items → Type 0
 TakesItemByte old byte answer new =
     (bytes : List ℕ) (items : List Item) (blocks : Blocks) → BetweenItems old.limits bytes items blocks old → AfterItem old.limits (bytes ++ byte ∷ []) items blocks answer new
 
--- Contents of a segment one after another, the last one left out: the first n of these bytes.
+-- The first n of these bytes: fill bytes, contents of a segment before its last byte, a complete segment, or none.
 pub record PassesItems (old : Items) (bytes : List ℕ) (n : ℕ) (new : Items) : Type 0 where
   pub within : n ≤ length bytes
   pub limits : new.limits ≡ old.limits
+  pub same : (reading_of new.segments).limits ≡ (reading_of old.segments).limits
   pub taken : (reading_of new.segments).taken ≡ (reading_of old.segments).taken + n
-  pub stands : (limits : Limits) (front : List ℕ) (items : List Item) (blocks : Blocks) → BetweenItems limits front items blocks old → BetweenItems limits (front ++ take n bytes) items blocks new
+  pub stands : (limits : Limits) (front : List ℕ) (items : List Item) (blocks : Blocks) → BetweenItems limits front items blocks old → AfterItem limits (front ++ take n bytes) items blocks More new
 
 abbrev pub JudgesSegment : Items → ItemStep → Items → Type 0
 JudgesSegment old answer new =

@@ -16,7 +16,7 @@ use Rattle.jpg_file.specs.Read.InData.{InData}
 use Rattle.jpg_file.specs.Read.ScanHistory.{HasBegun}
 use Rattle.jpg_file.specs.declared.read.scan_history.ScanHistory.{ScanHistory}
 use Rattle.jpg_file.specs.declared.read.items.Items.{Items}
-use Rattle.jpg_file.specs.Read.Items.{BetweenItems, AfterSegment, BehindHead, AfterItem, AfterScan, PassesItems}
+use Rattle.jpg_file.specs.Read.Items.{BetweenItems, AfterSegment, BehindHead, AfterItem, AfterScan}
 use Rattle.jpg_file.specs.Read.RowPlaces.{scan_left}
 use Rattle.jpg_file.specs.declared.read.scan.InScan.{InScan}
 use Rattle.jpg_file.specs.declared.read.items.ItemStep.{ItemStep}
@@ -153,14 +153,6 @@ pub record TakesRunOfScan (old : Reading) (run : List ℕ) (n : ℕ) (answer : I
   pub taken : mid.taken ≡ old.taken + early
   pub before : (limits : Limits) (items : List Item) (contents bytes : List ℕ) → Scanning limits items contents bytes old → Scanning limits items contents (bytes ++ take early run) mid
   pub last : (limits : Limits) (items : List Item) (contents bytes : List ℕ) → Scanning limits items contents bytes mid → AfterScanByte limits items contents (bytes ++ slice_index run early ∷ []) answer new
-
--- Contents of a segment one after another, the last one left out: the first n of these bytes.
-pub record PassesReading (old : Reading) (bytes : List ℕ) (n : ℕ) (new : Reading) : Type 0 where
-  pub within : n ≤ length bytes
-  pub coefs : new.coefs ≡ old.coefs
-  pub scan : new.scan ≡ old.scan
-  pub taken : new.taken ≡ old.taken + n
-  pub items : PassesItems old.items bytes n new.items
 
 -- A scan began, there is room for the contents of a segment, and no further marker is kept: only JFIF and Adobe
 -- segments are to be kept, and after the first scan header there are none.

@@ -14,7 +14,7 @@ use Rattle.jpg_spec.specs.declared.frame.Copying.{Copying}
 use Rattle.jpg_spec.specs.declared.frame.Limits.{Limits}
 use Rattle.jpg_spec.specs.declared.frame.ScanPart.{ScanPart}
 use Rattle.jpg_spec.specs.declared.jfif.Jfif.{Jfif}
-use Rattle.jpg_huff.specs.Sets.{slots_of}
+use Rattle.jpg_huff.specs.Definitions.{definitions_of}
 use Rattle.jpg_file.specs.Read.Keeping.{is_wanted}
 use Rattle.jpg_file.specs.declared.read.segment_state.SegmentState.{SegmentState}
 use Rattle.jpg_file.specs.declared.read.segment_state.SegmentTaken.{SegmentTaken}
@@ -32,7 +32,7 @@ pub record SegmentView : Type 0 where
   pub jfif : Jfif
 
 abbrev pub told_by : SegmentState → SegmentView
-told_by h = record { frame = h.frame; tables = slots_of h.tables; quants = h.quants; interval = h.interval; scanned = h.scanned; keeping = h.keeping; kept = h.kept; jfif = h.jfif }
+told_by h = record { frame = h.frame; tables = definitions_of h.tables; quants = h.quants; interval = h.interval; scanned = h.scanned; keeping = h.keeping; kept = h.kept; jfif = h.jfif }
 
 -- It is what is in force after these segments, with those of the kept markers that are to be kept.
 pub record Holds (limits : Limits) (h : SegmentView) (before : List Segment) : Type 0 where
@@ -68,3 +68,9 @@ TakesSegment limits before code contents took.NoMemory h = Unit {0}
 abbrev pub HoldsSegment : SegmentView → Limits → ℕ → List ℕ → SegmentTaken → SegmentView → Type 0
 HoldsSegment old limits code contents answer new =
     (before : List Segment) → Holds limits old before → kept_rule limits before code contents ≡ None → TakesSegment limits before code contents answer new
+
+-- A segment that isn't taken changes nothing.
+abbrev pub ChangesNothing : SegmentView → SegmentTaken → SegmentView → Type 0
+ChangesNothing old took.Done new = Unit {0}
+ChangesNothing old (took.Fault fault) new = new ≡ old
+ChangesNothing old took.NoMemory new = new ≡ old

@@ -85,8 +85,9 @@ impl FileWork {
         (n + 1, self.byte(bytes[n]))
     }
 
-    /// Takes contents of the current segment from the start of these bytes, except for the last of them and the
-    /// segment's last byte, and answers how many they were.
+    /// Takes bytes from the start of these, and answers how many they were, which is fewer than are given: between items
+    /// complete segments that break no rule, and then fill bytes or contents before a segment's last byte; inside the
+    /// data of a scan fill bytes after FF.
     pub fn front(&mut self, bytes: &[u8]) -> usize
         requires stands { (bytes : List ℕ) × StandsForFile (limits_of self.old) bytes self.old }
         requires limits { AreLimits (limits_of self.old) }
@@ -97,11 +98,10 @@ impl FileWork {
         ensures keeping { keeping_of self.new ≡ keeping_of self.old }
     {
         if self.reading.scan.is_some() {
-            return 0;
+            self.reading.fill_in_scan(bytes)
+        } else {
+            self.reading.front(bytes)
         }
-        let room = self.reading.items.limits.input - self.reading.taken;
-        let most = (bytes.len() as u64).min(room) as usize;
-        self.reading.contents(&bytes[..most - 1])
     }
 
     // Takes plain bytes inside the data of a scan.

@@ -10,7 +10,7 @@ ghost use Rattle.jpg_file.specs.Read.Items.{BetweenItems, BehindHead, AfterSegme
 
 use crate::read::segment_state::{SegmentState, SegmentTaken};
 use jpg_base::{Limits, NoMemory, Stop};
-use jpg_markers::{SegStep, SegmentReader};
+use jpg_markers::{SegStep, SegmentReader, segment_at};
 use jpg_spec::{Copying, FaultAt};
 use std::alloc::Global;
 
@@ -75,18 +75,48 @@ impl Items {
         }
     }
 
-    /// Takes contents of the current segment from the start of these bytes, as many as are expected before its last
-    /// byte, and answers how many they were: none if no contents are expected, or if there is no memory for them.
+    /// Takes bytes from the start of these that only continue what is there, and answers how many they were: fill bytes
+    /// after FF, or contents of the current segment before its last byte, and otherwise none, as if there is no memory.
     pub fn contents(&mut self, bytes: &[u8]) -> usize
         requires same { (reading_of self.old.segments).limits ≡ self.old.limits }
         requires room { (reading_of self.old.segments).taken + length bytes.now ≤ self.old.limits.input }
         ensures few { result ≤ length bytes.now }
         ensures after { PassesItems self.old bytes.now result self.new }
         ensures keeping { self.new.held.keeping ≡ self.old.held.keeping }
+        ensures scanned { self.new.held.scanned ≡ self.old.held.scanned }
+        ensures room { HasRoom self.old.segments → HasRoom self.new.segments }
     {
         match self.segments.stretch(bytes) {
             Ok(n) => n,
             Err(NoMemory) => 0,
+        }
+    }
+
+    /// Takes the segment at the start of these bytes, if one is complete there, may follow what is there, breaks no rule
+    /// and isn't a scan header, and answers how many bytes it takes, fill bytes before it among them. Otherwise, as if
+    /// there is no memory, it answers 0, and nothing has changed.
+    pub fn whole(&mut self, bytes: &[u8]) -> usize
+        requires same { (reading_of self.old.segments).limits ≡ self.old.limits }
+        requires limits { AreLimits self.old.limits }
+        requires room { (reading_of self.old.segments).taken + length bytes.now ≤ self.old.limits.input }
+        ensures after { PassesItems self.old bytes.now result self.new }
+        ensures keeping { self.new.held.keeping ≡ self.old.held.keeping }
+        ensures scanned { self.new.held.scanned ≡ self.old.held.scanned }
+        ensures room { HasRoom self.old.segments → HasRoom self.new.segments }
+    {
+        let Some(segment) = segment_at(bytes) else {
+            return 0;
+        };
+        if segment.code == 0xda || !self.segments.allows(&segment) {
+            return 0;
+        }
+        match self.held.take(self.limits, segment.code, segment.contents) {
+            SegmentTaken::Done => {
+                self.segments.pass(&segment);
+                segment.length
+            }
+            SegmentTaken::Fault(_) => 0,
+            SegmentTaken::NoMemory => 0,
         }
     }
 

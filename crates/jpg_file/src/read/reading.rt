@@ -4,11 +4,11 @@ ghost use Rattle.jpg_spec.specs.FrameHeader.{AreLimits};
 ghost use Rattle.jpg_spec.specs.Scan.{Blocks};
 ghost use Rattle.jpg_spec.specs.Items.{Item};
 ghost use Rattle.jpg_spec.specs.declared.frame.Limits.{Limits as Bounded};
-ghost use Rattle.jpg_markers.specs.Reading.{reading_of};
 ghost use Rattle.jpg_coefs.specs.Picture.{Picture};
 ghost use Rattle.jpg_file.specs.Read.ScanStart.{HasSizes};
-ghost use Rattle.jpg_file.specs.Read.Reading.{CanBeginHead, IsPlainStep, HeadWhole, IsOpenScan, IsSparing, Itemising, LeavesAll, PassesReading, Scanning, TakesByteOfItems, TakesByteOfScan, TakesHead, TakesRunOfScan, has_open, with_coefs};
+ghost use Rattle.jpg_file.specs.Read.Reading.{CanBeginHead, IsPlainStep, HeadWhole, IsOpenScan, IsSparing, Itemising, LeavesAll, Scanning, TakesByteOfItems, TakesByteOfScan, TakesHead, TakesRunOfScan, has_open, with_coefs};
 ghost use Rattle.jpg_file.specs.Read.InData.{ArePlain};
+ghost use Rattle.jpg_file.specs.Read.Going.{CanGoOn, FillsScan, GoesOn, has_waiting};
 
 use crate::read::items::{ItemStep, Items};
 use crate::read::scan::{InScan, ScanStep};
@@ -16,6 +16,7 @@ use crate::read::scan_header::judge_head;
 use crate::read::scan_history::ScanHistory;
 use crate::read::scan_start::begin_data;
 use jpg_coefs::Coefs;
+use jpg_markers::fill_length;
 use jpg_spec::FaultAt;
 
 /// The items so far, the picture from the first scan on, the current scan, and how many bytes were taken.
@@ -64,11 +65,12 @@ impl Reading {
             Err(fault) => ItemStep::Fault(FaultAt { fault, at }),
             Ok(head) => {
                 frame.checked();
+                let tables = self.items.held.tables.tables();
                 begin_data(
                     &mut self.scan,
                     &frame,
                     &head,
-                    &self.items.held.tables,
+                    &tables,
                     self.items.held.interval,
                 );
                 let parts = head.parts.as_slice();
@@ -93,21 +95,6 @@ impl Reading {
     {
         self.taken += 1;
         self.items.byte(byte)
-    }
-
-    /// Takes contents of the current segment from the start of these bytes, as many as are expected before its last
-    /// byte, and answers how many they were.
-    pub fn contents(&mut self, bytes: &[u8]) -> usize
-        requires same { (reading_of self.old.items.segments).limits ≡ self.old.items.limits }
-        requires count { (reading_of self.old.items.segments).taken ≡ self.old.taken }
-        requires room { self.old.taken + length bytes.now ≤ self.old.items.limits.input }
-        requires limits { AreLimits self.old.items.limits }
-        ensures after { PassesReading self.old bytes.now result self.new }
-        ensures keeping { self.new.items.held.keeping ≡ self.old.items.held.keeping }
-    {
-        let n = self.items.contents(bytes);
-        self.taken += n as u64;
-        n
     }
 
     /// Takes a byte inside the data of a scan.
@@ -175,5 +162,106 @@ impl Reading {
             ScanStep::Fault(fault) => (n, ItemStep::Fault(FaultAt { fault, at })),
             ScanStep::Marker(_) => unreachable!(),
         }
+    }
+}
+
+impl Reading {
+    /// Takes bytes from the start of these between items, and answers how many they were, which is fewer than are given:
+    /// complete segments that break no rule, and then fill bytes or contents before a segment's last byte.
+    pub fn front(&mut self, bytes: &[u8]) -> usize
+        requires can { CanGoOn self.old [] }
+        requires room { self.old.taken < self.old.items.limits.input }
+        requires some { 1 ≤ length bytes.now }
+        ensures after { GoesOn self.old bytes.now result self.new }
+        ensures less { result < length bytes.now }
+        ensures left { self.new.taken < self.old.items.limits.input }
+        ensures sparing { IsSparing self.old → IsSparing self.new }
+        ensures keeping { self.new.items.held.keeping ≡ self.old.items.held.keeping }
+    {
+        let room = self.items.limits.input - self.taken;
+        let most = (bytes.len() as u64).min(room) as usize;
+        self.going(&bytes[..most - 1])
+    }
+
+    /// Takes fill bytes from the start of these after FF inside the data of a scan, and answers how many they were, which
+    /// is fewer than are given; none if no FF waits.
+    pub fn fill_in_scan(&mut self, bytes: &[u8]) -> usize
+        requires room { self.old.taken < self.old.items.limits.input }
+        requires some { 1 ≤ length bytes.now }
+        ensures after { FillsScan self.old bytes.now result self.new }
+        ensures keeping { self.new.items.held.keeping ≡ self.old.items.held.keeping }
+    {
+        if !self.is_waiting() {
+            return 0;
+        }
+        let room = self.items.limits.input - self.taken;
+        let most = (bytes.len() as u64).min(room) as usize;
+        let n = fill_length(&bytes[..most - 1]);
+        self.taken += n as u64;
+        n
+    }
+
+    // Whether FF waits inside the data of a scan.
+    fn is_waiting(&self) -> bool
+        ensures { result ≡ has_waiting self.now.scan }
+    {
+        match &self.scan {
+            Some(scan) => scan.gate.is_waiting(),
+            None => false,
+        }
+    }
+
+    // Takes complete segments at the start of these bytes, and then bytes that only continue what is there.
+    fn going(&mut self, bytes: &[u8]) -> usize
+        requires { CanGoOn self.old bytes.now }
+        ensures after { GoesOn self.old bytes.now result self.new }
+        ensures sparing { IsSparing self.old → IsSparing self.new }
+        ensures keeping { self.new.items.held.keeping ≡ self.old.items.held.keeping }
+    {
+        let done = self.segments(bytes);
+        done + self.contents(&bytes[done..])
+    }
+
+    // Takes complete segments at the start of these bytes, as many as can be taken so.
+    fn segments(&mut self, bytes: &[u8]) -> usize
+        requires { CanGoOn self.old bytes.now }
+        ensures after { GoesOn self.old bytes.now result self.new }
+        ensures sparing { IsSparing self.old → IsSparing self.new }
+        ensures keeping { self.new.items.held.keeping ≡ self.old.items.held.keeping }
+    {
+        let mut done = 0usize;
+        loop {
+            let n = self.whole(&bytes[done..]);
+            if n == 0 {
+                return done;
+            }
+            done += n;
+        }
+    }
+
+    // Takes the complete segment at the start of these bytes, if it is one that can be taken so, and answers how many
+    // bytes it takes, or 0.
+    fn whole(&mut self, bytes: &[u8]) -> usize
+        requires { CanGoOn self.old bytes.now }
+        ensures after { GoesOn self.old bytes.now result self.new }
+        ensures sparing { IsSparing self.old → IsSparing self.new }
+        ensures keeping { self.new.items.held.keeping ≡ self.old.items.held.keeping }
+    {
+        let n = self.items.whole(bytes);
+        self.taken += n as u64;
+        n
+    }
+
+    // Takes bytes from the start of these that only continue what is there, fill bytes or contents of the current
+    // segment before its last byte, and answers how many they were.
+    fn contents(&mut self, bytes: &[u8]) -> usize
+        requires { CanGoOn self.old bytes.now }
+        ensures after { GoesOn self.old bytes.now result self.new }
+        ensures sparing { IsSparing self.old → IsSparing self.new }
+        ensures keeping { self.new.items.held.keeping ≡ self.old.items.held.keeping }
+    {
+        let n = self.items.contents(bytes);
+        self.taken += n as u64;
+        n
     }
 }

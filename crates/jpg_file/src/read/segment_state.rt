@@ -8,11 +8,11 @@ ghost use Rattle.jpg_spec.specs.Jfif.{begins_jfif, begins_adobe};
 ghost use Rattle.jpg_spec.specs.Markers.{Segment, is_kept_if, is_within, kept_rule, process_of_code};
 ghost use Rattle.jpg_spec.specs.declared.frame.Limits.{Limits as Bounded};
 ghost use Rattle.jpg_file.specs.Read.Keeping.{is_wanted};
-ghost use Rattle.jpg_file.specs.Read.SegmentState.{Holds, HoldsSegment, TakesSegment, lacks_any, lacks_part, told_by};
+ghost use Rattle.jpg_file.specs.Read.SegmentState.{ChangesNothing, Holds, HoldsSegment, TakesSegment, lacks_any, lacks_part, told_by};
 ghost use Rattle.jpg_markers.specs.Seen.{IsOther};
 
 use jpg_base::{Frame, Limits, NoMemory, ScanHead};
-use jpg_huff::TableSet;
+use jpg_huff::DefinitionSet;
 use jpg_markers::{
     App, Jfif, KeptList, QuantSet, read_app, read_dht, read_dqt, read_dri, read_sof,
 };
@@ -24,7 +24,7 @@ use std::alloc::Global;
 #[derive(Drop)]
 pub struct SegmentState {
     pub frame: Option<Frame>,
-    pub tables: TableSet,
+    pub tables: DefinitionSet,
     pub quants: QuantSet,
     pub interval: u16,
     pub scanned: bool,
@@ -51,7 +51,7 @@ impl SegmentState {
     {
         SegmentState {
             frame: None,
-            tables: TableSet::new(),
+            tables: DefinitionSet::new(),
             quants: QuantSet::new(),
             interval: 0,
             scanned: false,
@@ -69,12 +69,13 @@ impl SegmentState {
     }
 
     /// Takes a complete segment of this marker code that isn't a scan header and whose kept bytes are within their
-    /// limit.
+    /// limit. After a fault, and if there is no memory, nothing has changed.
     pub fn take(&mut self, limits: Limits, code: u8, contents: &[u8]) -> SegmentTaken
         requires limits { AreLimits limits }
         requires other { code ≡ 0xda → ⊥ }
         requires short { length contents.now ≤ 65533 }
         ensures held { HoldsSegment (told_by self.old) limits code contents.now result (told_by self.new) }
+        ensures same { ChangesNothing (told_by self.old) result (told_by self.new) }
         ensures memory { self.old.keeping ≡ Copying.None → self.old.scanned ≡ true → result ≡ SegmentTaken.NoMemory → ⊥ }
         ensures scanned { self.new.scanned ≡ self.old.scanned }
         ensures keeping { self.new.keeping ≡ self.old.keeping }
@@ -92,6 +93,7 @@ impl SegmentState {
 
     fn take_huffmans(&mut self, limits: Limits, contents: &[u8]) -> SegmentTaken
         ensures held { (before : List Segment) → Holds limits (told_by self.old) before → TakesSegment limits before 0xc4 contents.now result (told_by self.new) }
+        ensures same { ChangesNothing (told_by self.old) result (told_by self.new) }
         ensures memory { result ≡ SegmentTaken.NoMemory → ⊥ }
         ensures scanned { self.new.scanned ≡ self.old.scanned }
         ensures keeping { self.new.keeping ≡ self.old.keeping }
@@ -104,6 +106,7 @@ impl SegmentState {
 
     fn take_quants(&mut self, limits: Limits, contents: &[u8]) -> SegmentTaken
         ensures held { (before : List Segment) → Holds limits (told_by self.old) before → TakesSegment limits before 0xdb contents.now result (told_by self.new) }
+        ensures same { ChangesNothing (told_by self.old) result (told_by self.new) }
         ensures memory { result ≡ SegmentTaken.NoMemory → ⊥ }
         ensures scanned { self.new.scanned ≡ self.old.scanned }
         ensures keeping { self.new.keeping ≡ self.old.keeping }
@@ -116,6 +119,7 @@ impl SegmentState {
 
     fn take_interval(&mut self, limits: Limits, contents: &[u8]) -> SegmentTaken
         ensures held { (before : List Segment) → Holds limits (told_by self.old) before → TakesSegment limits before 0xdd contents.now result (told_by self.new) }
+        ensures same { ChangesNothing (told_by self.old) result (told_by self.new) }
         ensures memory { result ≡ SegmentTaken.NoMemory → ⊥ }
         ensures scanned { self.new.scanned ≡ self.old.scanned }
         ensures keeping { self.new.keeping ≡ self.old.keeping }
@@ -139,6 +143,7 @@ impl SegmentState {
         requires limits { AreLimits limits }
         requires process { process_of_code code ≡ Some process }
         ensures held { (before : List Segment) → Holds limits (told_by self.old) before → TakesSegment limits before code contents.now result (told_by self.new) }
+        ensures same { ChangesNothing (told_by self.old) result (told_by self.new) }
         ensures memory { result ≡ SegmentTaken.NoMemory → ⊥ }
         ensures scanned { self.new.scanned ≡ self.old.scanned }
         ensures keeping { self.new.keeping ≡ self.old.keeping }
@@ -157,6 +162,7 @@ impl SegmentState {
         requires other { IsOther code }
         requires short { length contents.now ≤ 65533 }
         ensures held { HoldsSegment (told_by self.old) limits code contents.now result (told_by self.new) }
+        ensures same { ChangesNothing (told_by self.old) result (told_by self.new) }
         ensures memory { self.old.keeping ≡ Copying.None → self.old.scanned ≡ true → result ≡ SegmentTaken.NoMemory → ⊥ }
         ensures scanned { self.new.scanned ≡ self.old.scanned }
         ensures keeping { self.new.keeping ≡ self.old.keeping }
@@ -184,14 +190,14 @@ fn lacks_dc(frame: &Frame, head: &ScanHead, held: &SegmentState, slot: u8) -> bo
     ensures { result ≡ (needs_dc_table frame.now head.now && is_none (huffman_in (told_by held.now).tables.dc slot)) }
 {
     let first = head.ss == 0 && head.ah == 0;
-    (!is_progressive(frame) || first) && held.tables.dc(slot).is_none()
+    (!is_progressive(frame) || first) && !held.tables.has_dc(slot)
 }
 
 // Whether it needs an AC table that isn't there.
 fn lacks_ac(frame: &Frame, head: &ScanHead, held: &SegmentState, slot: u8) -> bool
     ensures { result ≡ (needs_ac_table frame.now head.now && is_none (huffman_in (told_by held.now).tables.ac slot)) }
 {
-    (!is_progressive(frame) || 0 < head.ss) && held.tables.ac(slot).is_none()
+    (!is_progressive(frame) || 0 < head.ss) && !held.tables.has_ac(slot)
 }
 
 /// Whether the frame's process is progressive.

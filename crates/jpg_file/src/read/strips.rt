@@ -165,14 +165,51 @@ impl FileWork {
             }
         }
         if self.reading.scan.is_some() {
-            (1, self.row_byte(rows, bytes[0]))
+            self.scan_some(rows, bytes)
         } else {
-            (1, self.later_byte(bytes[0]))
+            self.later_some(bytes)
         }
+    }
+
+    // Takes a byte inside the data of the scan, perhaps after fill bytes, and answers how many these were and its result.
+    fn scan_some(&mut self, rows: &mut RowWork, bytes: &[u8]) -> (usize, StripStep)
+        requires stands { (front : List ℕ) × GoesByRow (limits_of self.old) front self.old rows.old }
+        requires inside { is_some self.old.reading.scan ≡ true }
+        requires limits { AreLimits (limits_of self.old) }
+        requires room { self.old.reading.taken < (limits_of self.old).input }
+        requires some { 1 ≤ length bytes.now }
+        ensures after { TakesRunOfRows self.old rows.old bytes.now result.0 result.1 self.new rows.new }
+        ensures stops { StopsRun self.old rows.old bytes.now result.0 result.1 }
+        ensures rows { CountsRows result.1 rows.old rows.new }
+        ensures memory { NotWanting result.1 }
+        ensures sparing { IsSparing self.old.reading → IsSparing self.new.reading }
+        ensures head { self.new.head ≡ self.old.head }
+        ensures keeping { keeping_of self.new ≡ keeping_of self.old }
+    {
+        let n = self.reading.fill_in_scan(bytes);
+        (n + 1, self.row_byte(rows, bytes[n]))
     }
 }
 
 impl FileWork {
+    // Takes some of these bytes after the scan, and answers how many these were and the result of the last one.
+    fn later_some(&mut self, bytes: &[u8]) -> (usize, StripStep)
+        requires stands { (front : List ℕ) × (rows : Row) × GoesByRow (limits_of self.old) front self.old rows }
+        requires none { is_some self.old.reading.scan ≡ false }
+        requires limits { AreLimits (limits_of self.old) }
+        requires room { self.old.reading.taken < (limits_of self.old).input }
+        requires some { 1 ≤ length bytes.now }
+        ensures after { (rows : Row) → TakesRunOfRows self.old rows bytes.now result.0 result.1 self.new rows }
+        ensures no { IsNoRow result.1 }
+        ensures memory { IsSparing self.old.reading → NotWanting result.1 }
+        ensures sparing { IsSparing self.old.reading → IsSparing self.new.reading }
+        ensures head { self.new.head ≡ self.old.head }
+        ensures keeping { keeping_of self.new ≡ keeping_of self.old }
+    {
+        let n = self.reading.front(bytes);
+        (n + 1, self.later_byte(bytes[n]))
+    }
+
     /// Takes a byte after the scan.
     pub fn later_byte(&mut self, byte: u8) -> StripStep
         requires stands { (bytes : List ℕ) × (rows : Row) × GoesByRow (limits_of self.old) bytes self.old rows }

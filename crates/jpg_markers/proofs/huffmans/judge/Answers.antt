@@ -3,7 +3,7 @@ use Rattle.jpg_markers.proofs.Definitions.{judged_on, judged_bad, judged_all}
 use Rattle.jpg_markers.proofs.huffmans.judge.Goals as goal
 
 pub loop-rest-preserved : goal.loop-rest-preserved
-loop-rest-preserved c = rw (c.behind-rest.ensures, c.in-Ok.ensures.size) (sym (judged_on c.loop-rest.rest.now _ _ c.in-len1-up.len_at_least refl c.in-Ok.ensures.value) ∙ c.loop-rest.invariant)
+loop-rest-preserved c = rw c.in-Ok.ensures.rest (sym (judged_on c.loop-rest.rest.now _ _ c.in-len1-up.len_at_least refl c.in-Ok.ensures.value) ∙ c.loop-rest.invariant)
 
 pub returns-in-Err : goal.returns-in-Err
 returns-in-Err c = sym (judged_bad c.loop-rest.rest.now _ c.in-Err.fault c.in-len1-up.len_at_least refl c.in-Err.ensures.value) ∙ c.loop-rest.invariant

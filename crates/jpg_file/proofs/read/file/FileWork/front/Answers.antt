@@ -1,26 +1,19 @@
-use Rattle.std.proofs.Common.{◌-◌, ◌∙◌, sym, arith}
-use Rattle.jpg_file.proofs.PieceSteps.{front_none, front_passes}
+use Rattle.std.proofs.Common.{◌∙◌, sym, arith}
+use Rattle.jpg_file.proofs.PieceSteps.{front_fills, front_passes}
 use Rattle.jpg_file.proofs.FileSteps.{between_of, none_is}
 use Rattle.jpg_file.specs.Read.File.{limits_of}
 use Rattle.jpg_file.proofs.read.file.FileWork.front.Goals as goal
 
 pub returns-then-is_some-clause-after : goal.returns-then-is_some-clause-after
-returns-then-is_some-clause-after c = front_none c.args.self.now c.args.bytes.now c.requires.some c.requires.room
+returns-then-is_some-clause-after c =
+    front_fills c.args.self.now c.fill_in_scan.new.self c.args.bytes.now c.fill_in_scan.result (sym c.is_some.ensures ∙ c.if-is_some.true) c.fill_in_scan.ensures.after
 
-pub contents-requires-clause-same : goal.contents-requires-clause-same
-contents-requires-clause-same c =
+pub front-requires-clause-can : goal.front-requires-clause-can
+front-requires-clause-can c =
     let w = c.args.self.now in
     let o = c.requires.stands in
-    (between_of (limits_of w) o.0 w o.1 (sym c.is_some.ensures ∙ c.if-is_some.false)).at.bounded.0
+    let s = between_of (limits_of w) o.0 w o.1 (sym c.is_some.ensures ∙ c.if-is_some.false) in
+    record { none = none_is w.reading.scan (sym c.is_some.ensures ∙ c.if-is_some.false); same = s.at.bounded.0; count = s.beside.same; limits = c.requires.limits; room = omega (arith, c.requires.room) }
 
-pub contents-requires-clause-count : goal.contents-requires-clause-count
-contents-requires-clause-count c =
-    let w = c.args.self.now in
-    let o = c.requires.stands in
-    (between_of (limits_of w) o.0 w o.1 (sym c.is_some.ensures ∙ c.if-is_some.false)).beside.same
-
-pub returns-clause-after : goal.returns-clause-after
-returns-clause-after c =
-    let most = c.min-most.ensures in
-    front_passes c.args.self.now c.contents.new.self c.args.bytes.now (c.min-most.result - 1) c.contents.result (none_is c.args.self.now.reading.scan (sym c.is_some.ensures ∙ c.if-is_some.false)) (omega (arith, most, c.requires.some, c.requires.room))
-    (omega (arith, most, c.requires.some, c.requires.room)) c.contents.ensures.after
+pub returns-else-is_some-clause-after : goal.returns-else-is_some-clause-after
+returns-else-is_some-clause-after c = front_passes c.args.self.now c.front.new.self c.args.bytes.now c.front.result c.front.ensures.after c.front.ensures.less c.front.ensures.left

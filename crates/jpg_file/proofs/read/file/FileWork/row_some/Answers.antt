@@ -8,25 +8,14 @@ use Rattle.jpg_file.proofs.read.file.FileWork.row_some.Goals as goal
 pub returns-then-n-gt0-clause-after : goal.returns-then-n-gt0-clause-after
 returns-then-n-gt0-clause-after c = λ front g. front_rows (limits_of c.args.self.now) front c.args.bytes.now c.plain_length-n.result c.row_run.result.0 c.row_run.new.self c.row_run.new.rows c.row_run.result.1 c.plain_length-n.ensures.within (c.row_run.ensures.after front g)
 
-pub returns-then-is_some-clause-after : goal.returns-then-is_some-clause-after
-returns-then-is_some-clause-after c = λ front g.
-    let w = c.args.self.now in
-    one_row (limits_of w) front c.args.bytes.now w c.row_byte.new.self c.args.rows.now c.row_byte.new.rows c.row_byte.result g c.requires.room c.requires.some c.row_byte.ensures.head (c.row_byte.ensures.after front g)
-
 pub returns-else-is_some-clause-after : goal.returns-else-is_some-clause-after
-returns-else-is_some-clause-after c = λ front g.
-    let w = c.args.self.now in
-    let rows = c.args.rows.now in
-    one_row (limits_of w) front c.args.bytes.now w c.later_byte.new.self rows rows c.later_byte.result g c.requires.room c.requires.some c.later_byte.ensures.head (c.later_byte.ensures.after front rows g)
+returns-else-is_some-clause-after c = λ front g. c.later_some.ensures.after c.args.rows.now front g
 
 pub returns-then-n-gt0-clause-stops : goal.returns-then-n-gt0-clause-stops
 returns-then-n-gt0-clause-stops c = λ f front e g.
     let k = c.row_run in
     let all = c.args.bytes.now in
     front_at_fault (limits_of c.args.self.now) front all c.plain_length-n.result k.result.0 c.args.rows.now k.new.rows k.new.self k.result.1 c.plain_length-n.ensures.within (k.ensures.after front g) (k.ensures.stops f front e g)
-
-pub returns-then-is_some-clause-stops : goal.returns-then-is_some-clause-stops
-returns-then-is_some-clause-stops c = λ f front e g. one_at_fault (limits_of c.args.self.now) front c.args.bytes.now c.args.rows.now c.requires.some (c.row_byte.ensures.stops f front e g)
 
 pub returns-else-is_some-clause-stops : goal.returns-else-is_some-clause-stops
 returns-else-is_some-clause-stops c = λ f front e g. inl (after_of (limits_of c.args.self.now) front c.args.self.now c.args.rows.now g (sym c.is_some.ensures ∙ c.if-is_some.false)).done

@@ -29,7 +29,7 @@ begin_data-requires c =
     let f = c.copy-frame.result in
     let w = found r.items.limits o.0 o.1 o.2 r b f c.in-Some.held q o.3 c.in-Some.is c.copy-frame.ensures refl in
     let j = judged r.items.limits o.0 o.1 o.2 r b f q c.contents.result.now (Ok c.in-Ok.head) w c.contents.ensures c.in-Ok.ensures in
-    (q, c.requires.stands.1, (r.items.limits, o.1, o.2, (reading_of r.items.segments).contents, o.0, head_begins r.items.limits o.0 o.1 o.2 r b f q c.in-Ok.head w j))
+    (q, c.requires.stands.1, (r.items.limits, o.1, o.2, (reading_of r.items.segments).contents, o.0, head_begins r.items.limits o.0 o.1 o.2 r b f q c.in-Ok.head c.tables-tables.result c.tables-tables.ensures w j))
 
 pub returns-in-Err-clause-after : goal.returns-in-Err-clause-after
 returns-in-Err-clause-after c = λ q sizes bytes items blocks k.
@@ -46,7 +46,7 @@ returns-in-Ok-clause-left c = λ bytes items blocks q scan k has more.
     let f = c.copy-frame.result in
     let w = found r.items.limits bytes items blocks r b f c.in-Some.held q k c.in-Some.is c.copy-frame.ensures refl in
     let j = judged r.items.limits bytes items blocks r b f q c.contents.result.now (Ok c.in-Ok.head) w c.contents.ensures c.in-Ok.ensures in
-    let begins = head_begins r.items.limits bytes items blocks r b f q c.in-Ok.head w j in
+    let begins = head_begins r.items.limits bytes items blocks r b f q c.in-Ok.head c.tables-tables.result c.tables-tables.ensures w j in
     let begun = c.begin_data.ensures in
     let one = some_once begun.0 scan (sym begun.1 ∙ has) in
     ap (λ (s : InScan). scan_left s.work) (sym one) ∙ begun.3 ∙ sym (begun_places r.items.limits items (reading_of r.items.segments).contents f c.in-Ok.head (begins.header).framed (begins.header).header)
@@ -60,7 +60,7 @@ returns-in-Ok-clause-after c = λ q sizes bytes items blocks k.
     let contents = (reading_of r.items.segments).contents in
     let w = found r.items.limits bytes items blocks r b f c.in-Some.held q k c.in-Some.is c.copy-frame.ensures refl in
     let j = judged r.items.limits bytes items blocks r b f q c.contents.result.now (Ok head) w c.contents.ensures c.in-Ok.ensures in
-    let begins = head_begins r.items.limits bytes items blocks r b f q head w j in
+    let begins = head_begins r.items.limits bytes items blocks r b f q head c.tables-tables.result c.tables-tables.ensures w j in
     let begun = c.begin_data.ensures in
     let slots : Slots = (told_by r.items.held).quants in
     let same = c.as_slice-parts.ensures.value ∙ ap (λ (h : ScanHead). h.parts) c.head.view_is in (

@@ -44,6 +44,7 @@ returns-in_default c = record {
           jfif = search (rules, holds, none);
         },
       ));
+  same = tt;
   memory = λ wanted scanned e. absurd cc;
   scanned = refl;
   keeping = refl;

@@ -3,7 +3,7 @@ use Rattle.jpg_spec.specs.Codes.{codes}
 use Rattle.jpg_huff.specs.Index.{IsEncoder, IsIndexed}
 use Rattle.jpg_huff.proofs.Made.{made_indexed}
 use Rattle.jpg_huff.proofs.Tables.{codes_take}
-use Rattle.jpg_huff.proofs.table.Table.new.Goals as goal
+use Rattle.jpg_huff.proofs.table.Table.of_right.Goals as goal
 
 pub invariant_of-result : goal.invariant_of-result
 invariant_of-result c =

@@ -1,0 +1,247 @@
+-- Bytes that only continue what a reader of segments was given, and a complete segment at once.
+use Rattle.std.proofs.Common.{◌≡◌, ℕ, zero, suc, ◌+◌, ◌-◌, ◌<◌, ◌≤◌, Bool, true, false, cond, ◌==◌, List, [], ◌∷◌, ◌++◌, length, take, drop, get_or, replicate, Option, None, Some, Result, Ok, Err, ◌&&◌, refl, sym, ap, ◌∙◌, subst, arith}
+use Rattle.std.proofs.lemmas.List.{append_assoc, append-nil, length-append, length-drop, length-take-le, replicate-append-replicate, take-append-drop, take_all}
+use Rattle.std.proofs.lemmas.Bool.{eq-eqb, eqb-true}
+use Rattle.std.proofs.Math.Dec.{eqb}
+use Rattle.std.proofs.Math.Seq.{take-append_seam}
+use lib.Pointwise.{pointwise}
+use Rattle.std.specs.Prelude.{min, not, is_some, IfSome}
+use Rattle.jpg_spec.proofs.Common.{both, clash, heads, same_of}
+use Rattle.jpg_spec.specs.Segments.{two_bytes}
+use Rattle.jpg_spec.specs.Markers.{Segment, SpellsMarker, SpellsSegment, SpellsSegments, code_fault, code_fault_if, kept_rule, Pass}
+use Rattle.jpg_base.specs.declared.names.NoMemory.{NoMemory}
+use Rattle.jpg_markers.specs.declared.seen.Seen.{Seen}
+use Rattle.jpg_markers.specs.declared.segments.Phase.{Phase}
+use Rattle.jpg_markers.specs.declared.segments.Phase.TheVariants as phase
+use Rattle.jpg_markers.specs.Seen.{HasSeen, Leaves}
+use Rattle.jpg_markers.specs.Reading.{Reading, AtPhase, StandsForSegments, Continues, IsSized, MayFollow, PassesSegment, PassesSome, continued, due_of, filled, with_taken}
+use Rattle.jpg_markers.proofs.Taking.{at_is, contents_more, further, spelled}
+
+-- FILL BYTES
+
+pub filled_within : (xs : List ℕ) → filled xs ≤ length xs
+unfolding filled
+filled_within [] = omega arith
+filled_within (x ∷ xs) = by (x == 255) refl (filled_within xs)
+  where
+    by : (b : Bool) → (x == 255) ≡ b → filled xs ≤ length xs → filled (x ∷ xs) ≤ length (x ∷ xs)
+    by true e h = rw e (omega (arith, h))
+    by false e h = rw e (omega arith)
+
+pub filled_front : (xs : List ℕ) → take (filled xs) xs ≡ replicate (filled xs) 255
+unfolding filled
+filled_front [] = refl
+filled_front (x ∷ xs) = by (x == 255) refl (filled_front xs)
+  where
+    by : (b : Bool) → (x == 255) ≡ b → take (filled xs) xs ≡ replicate (filled xs) 255 → take (filled (x ∷ xs)) (x ∷ xs) ≡ replicate (filled (x ∷ xs)) 255
+    by true e h =
+        let is : x ≡ 255 = same_of x 255 e in
+        rw e (ap (λ (y : ℕ). y ∷ take (filled xs) xs) is ∙ ap (λ (l : List ℕ). 255 ∷ l) h)
+    by false e h = rw e refl
+
+-- after so many of them, those of the rest
+pub filled_after : (n : ℕ) (xs : List ℕ) → n ≤ length xs → take n xs ≡ replicate n 255 → filled xs ≡ n + filled (drop n xs)
+unfolding filled
+filled_after zero xs h e = omega arith
+filled_after (suc n) [] h e = absurd (omega (arith, h))
+filled_after (suc n) (x ∷ xs) h e =
+    let k = heads x 255 (take n xs) (replicate n 255) e in
+    let rest = filled_after n xs (omega (arith, h)) k.1 in
+    let one : suc n + filled (drop n xs) ≡ suc (filled xs) = omega (arith, rest) in
+    rw k.0 (sym one)
+
+-- at a byte that isn't FF, and at the end, none
+pub filled_end : (xs : List ℕ) (n : ℕ) → n ≤ length xs → (n < length xs → get_or xs n 0 ≡ 255 → ⊥) → filled (drop n xs) ≡ 0
+unfolding filled
+filled_end [] zero h stops = refl
+filled_end [] (suc n) h stops = absurd (omega (arith, h))
+filled_end (x ∷ xs) (suc n) h stops = filled_end xs n (omega (arith, h)) (λ less is. stops (omega (arith, less)) is)
+filled_end (x ∷ xs) zero h stops = by (x == 255) refl
+  where
+    by : (b : Bool) → (x == 255) ≡ b → filled (x ∷ xs) ≡ 0
+    by true e = absurd (stops (omega arith) (same_of x 255 e))
+    by false e = rw e refl
+
+pub filled_whole : (n : ℕ) (xs : List ℕ) → n ≤ length xs → take n xs ≡ replicate n 255 → (n < length xs → get_or xs n 0 ≡ 255 → ⊥) → n ≡ filled xs
+filled_whole n xs h e stops =
+    let rest = filled_after n xs h e in
+    let none = filled_end xs n h stops in
+    omega (arith, rest, none)
+
+-- The byte after them isn't FF.
+pub filled_stops : (xs : List ℕ) (b : ℕ) (rest : List ℕ) → drop (filled xs) xs ≡ b ∷ rest → b ≡ 255 → ⊥
+unfolding filled
+filled_stops [] b rest e is = cc
+filled_stops (x ∷ xs) b rest e is = by (x == 255) refl (filled_stops xs b rest)
+  where
+    by : (c : Bool) → (x == 255) ≡ c → (drop (filled xs) xs ≡ b ∷ rest → b ≡ 255 → ⊥) → ⊥
+    by true f more = more (sym (ap (λ (k : ℕ). drop k (x ∷ xs)) (ap (λ (c : Bool). cond c (suc (filled xs)) 0) f)) ∙ e) is
+    by false f more =
+        let k = heads x b xs rest (sym (ap (λ (k : ℕ). drop k (x ∷ xs)) (ap (λ (c : Bool). cond c (suc (filled xs)) 0) f)) ∙ e) in
+        clash (x == 255) (eq-eqb x 255 (k.0 ∙ is)) f
+
+fills_more : (r : Reading) (bytes : List ℕ) (before : List Segment) (n m : ℕ) → r.phase ≡ phase.Fill → StandsForSegments bytes before r → StandsForSegments (bytes ++ replicate n 255) before (with_taken r m)
+fills_more r bytes before n m e s =
+    let (tail, between, seen, (fill, is)) = at_is r phase.Fill bytes before e s in
+    let next = further (kept_rule r.limits) bytes before tail (replicate n 255) between in
+    let one : suc fill + n ≡ suc (fill + n) = omega arith in
+    let cut : tail ++ replicate n 255 ≡ replicate (suc (fill + n)) 255 =
+    ap (λ (t : List ℕ). t ++ replicate n 255) is ∙ replicate-append-replicate {A = ℕ} (suc fill) n 255 ∙ ap (λ (k : ℕ). replicate {A = ℕ} k 255) one in
+    let P : Phase → Type 0 = λ p. AtPhase (with_taken r m) p (bytes ++ replicate n 255) before in
+    (s.0, subst P (sym e) (tail ++ replicate n 255, next, seen, (fill + n, cut)))
+
+-- none of them
+none_more : (r : Reading) (bytes : List ℕ) (before : List Segment) (m : ℕ) → StandsForSegments bytes before r → StandsForSegments (bytes ++ []) before (with_taken r m)
+none_more r bytes before m s = subst (λ (b : List ℕ). StandsForSegments b before (with_taken r m)) (sym (append-nil bytes)) s
+
+-- SOME BYTES that only continue
+pub some_stands : (r : Reading) (bytes : List ℕ) (before : List Segment) (piece : List ℕ) (n : ℕ) → n ≡ due_of r.phase r.left piece → StandsForSegments bytes before r → StandsForSegments (bytes ++ take n piece) before (continued r.phase r (take n piece))
+some_stands r bytes before piece n is s = by r.phase refl
+  where
+    idle : (p : Phase) → r.phase ≡ p → due_of p r.left piece ≡ 0 → StandsForSegments (bytes ++ take n piece) before (with_taken r (length (take n piece)))
+    idle p e none =
+        let z : n ≡ 0 = is ∙ ap (λ q. due_of q r.left piece) e ∙ none in
+        rw z (none_more r bytes before 0 s)
+
+    by : (p : Phase) → r.phase ≡ p → StandsForSegments (bytes ++ take n piece) before (continued p r (take n piece))
+    by phase.Empty e = idle phase.Empty e refl
+    by phase.HalfStart e = idle phase.HalfStart e refl
+    by phase.Between e = idle phase.Between e refl
+    by phase.Coded e = idle phase.Coded e refl
+    by phase.HalfLength e = idle phase.HalfLength e refl
+    by phase.Ended e = idle phase.Ended e refl
+    by phase.Fill e =
+        let m : n ≡ filled piece = is ∙ ap (λ q. due_of q r.left piece) e in
+        let front : take n piece ≡ replicate n 255 = rw m (filled_front piece) in
+        subst (λ (l : List ℕ). StandsForSegments (bytes ++ l) before (with_taken r (length l))) (sym front) (fills_more r bytes before n (length (replicate {A = ℕ} n 255)) e s)
+    by phase.Contents e =
+        let (tail, between, seen, (marker, high, low, begins, cut, h, l, long, least)) = at_is r phase.Contents bytes before e s in
+        let m : n ≡ min (r.left - 1) (length piece) = is ∙ ap (λ q. due_of q r.left piece) e in
+        let size = length-take-le n piece (omega (arith, m)) in
+        contents_more r bytes before (take n piece) e s (omega (arith, m, size, least))
+
+pub some_within : (p : Phase) (left n : ℕ) (piece : List ℕ) → n ≡ due_of p left piece → n ≤ length piece
+some_within phase.Empty left n piece is = omega (arith, is)
+some_within phase.HalfStart left n piece is = omega (arith, is)
+some_within phase.Between left n piece is = omega (arith, is)
+some_within phase.Coded left n piece is = omega (arith, is)
+some_within phase.HalfLength left n piece is = omega (arith, is)
+some_within phase.Ended left n piece is = omega (arith, is)
+some_within phase.Fill left n piece is = let h = filled_within piece in omega (arith, is, h)
+some_within phase.Contents left n piece is = omega (arith, is)
+
+-- A COMPLETE SEGMENT at once
+pub passes_segment : (r : Reading) (code : ℕ) (contents : List ℕ) (seen : Seen) (n : ℕ) → MayFollow r code contents → Leaves r.seen code contents seen → PassesSegment r code contents n (record r { seen = seen; taken = r.taken + n })
+passes_segment r code contents seen n may leaves =
+    let e = may.between in
+    record {
+      was = e;
+      between = e;
+      limits = refl;
+      taken = refl;
+      kept = λ bytes before s. (let (none, between, has, nothing) = at_is r phase.Between bytes before e s in (leaves r.limits before has).0);
+      stands = λ bytes tail before s spelled.
+          (let (none, between, has, nothing) = at_is r phase.Between bytes before e s in
+          let left = leaves r.limits before has in
+          let next : Reading = record r { seen = seen; taken = r.taken + n } in
+          let front : bytes ≡ between.front = between.cut ∙ ap (λ (t : List ℕ). between.front ++ t) nothing ∙ append-nil between.front in
+          let allowed : code_fault before code ≡ None = ap (λ (b : Bool). code_fault_if b code) (sym has.framed) ∙ may.allowed in
+          let all : SpellsSegments ((code, contents) ∷ before) (bytes ++ tail) = (bytes, tail, refl, subst (λ (b : List ℕ). SpellsSegments before b) (sym front) between.spelled, spelled, may.no_end) in
+          let pass : Pass (kept_rule r.limits) ((code, contents) ∷ before) = (allowed, left.0, between.passed) in
+          let P : Phase → Type 0 = λ p. AtPhase next p (bytes ++ tail) ((code, contents) ∷ before) in
+          (s.0, subst P (sym e) ([], record { front = bytes ++ tail; cut = sym (append-nil (bytes ++ tail)); spelled = all; passed = pass }, left.1, refl)));
+    }
+
+-- GROUPS OF BYTES that are equal
+pub same_bytes : (xs ys : List ℕ) → pointwise eqb xs ys ≡ true → xs ≡ ys
+same_bytes [] [] e = refl
+same_bytes [] (y ∷ ys) e = cc
+same_bytes (x ∷ xs) [] e = cc
+same_bytes (x ∷ xs) (y ∷ ys) e =
+    let k = both (eqb x y) (pointwise eqb xs ys) e in
+    rw (eqb-true x y k.0) (ap (λ (l : List ℕ). y ∷ l) (same_bytes xs ys k.1))
+
+take_add : (n m : ℕ) (xs : List ℕ) → n ≤ length xs → take (n + m) xs ≡ take n xs ++ take m (drop n xs)
+take_add zero m xs h = ap (λ (k : ℕ). take k xs) (omega arith)
+take_add (suc n) m [] h = absurd (omega (arith, h))
+take_add (suc n) m (x ∷ xs) h =
+    let k : suc n + m ≡ suc (n + m) = omega arith in
+    ap (λ (i : ℕ). take i (x ∷ xs)) k ∙ ap (λ (l : List ℕ). x ∷ l) (take_add n m xs (omega (arith, h)))
+
+pub eight_more : (n : ℕ) (bytes group : List ℕ) → take n bytes ≡ replicate n 255 → n ≤ length bytes → group ≡ take 8 (drop n bytes) → group ≡ replicate 8 255 → take (n + 8) bytes ≡ replicate (n + 8) 255
+eight_more n bytes group e h g f =
+    take_add n 8 bytes h ∙ ap (λ (l : List ℕ). take n bytes ++ l) (sym g ∙ f) ∙ ap (λ (l : List ℕ). l ++ replicate 8 255) e ∙ replicate-append-replicate {A = ℕ} n 8 255
+
+pub was_same : (b : Bool) → not b ≡ false → b ≡ true
+was_same true e = refl
+was_same false e = cc
+
+pub rest_long : (n : ℕ) (bytes rest tail : List ℕ) → n ≤ length bytes → rest ≡ drop n bytes → length tail + 8 ≡ length rest → n + 8 ≤ length bytes
+rest_long n bytes rest tail few is size = let l = length-drop n bytes in let m = ap length is in omega (arith, few, size, l, m)
+
+-- A SEGMENT at the front of some bytes
+three_first : (bytes : List ℕ) → 3 ≤ length bytes → bytes ≡ get_or bytes 0 0 ∷ get_or bytes 1 0 ∷ get_or bytes 2 0 ∷ take (length bytes - 3) (drop 3 bytes)
+three_first [] h = absurd (omega (arith, h))
+three_first (a ∷ []) h = absurd (omega (arith, h))
+three_first (a ∷ b ∷ []) h = absurd (omega (arith, h))
+three_first (a ∷ b ∷ c ∷ xs) h = ap (λ (l : List ℕ). a ∷ b ∷ c ∷ l) (sym (take_all (length (a ∷ b ∷ c ∷ xs) - 3) xs (omega arith)))
+
+pub is_sized : (bytes : List ℕ) (size : ℕ) → 3 ≤ length bytes → get_or bytes 1 0 < 256 → get_or bytes 2 0 < 256 → size ≡ two_bytes (get_or bytes 1 0) (get_or bytes 2 0) → 2 ≤ size → size - 2 ≤ length bytes - 3
+    → IsSized (get_or bytes 0 0) (take (size - 2) (take (length bytes - 3) (drop 3 bytes))) bytes
+is_sized bytes size long h l sized least few =
+    let rest : List ℕ = take (length bytes - 3) (drop 3 bytes) in
+    let left = length-drop 3 bytes in
+    let all = length-take-le (length bytes - 3) (drop 3 bytes) (omega (arith, left)) in
+    let count = length-take-le (size - 2) rest (omega (arith, all, few)) in (
+      get_or bytes 1 0,
+      get_or bytes 2 0,
+      drop (size - 2) rest,
+      three_first bytes long ∙ ap (λ (r : List ℕ). get_or bytes 0 0 ∷ get_or bytes 1 0 ∷ get_or bytes 2 0 ∷ r) (sym (take-append-drop (size - 2) rest)),
+      h,
+      l,
+      omega (arith, count, sized, least),
+    )
+
+pub front_spelled : (bytes : List ℕ) (fill code : ℕ) (contents : List ℕ) → fill ≡ filled bytes → (fill ≡ 0 → ⊥) → (code ≡ 0 → ⊥) → IsSized code contents (drop fill bytes) → SpellsSegment code contents (take (fill + 3 + length contents) bytes)
+front_spelled bytes fill code contents is some good (high, low, rest, cut, h, l, sized) =
+    let within = filled_within bytes in
+    let one : fill ≡ suc (fill - 1) = omega (arith, some) in
+    let front : take fill bytes ≡ replicate {A = ℕ} (suc (fill - 1)) 255 =
+    ap (λ (k : ℕ). take k bytes) is ∙ filled_front bytes ∙ ap (λ (k : ℕ). replicate {A = ℕ} k 255) (sym is ∙ one) in
+    let marker : List ℕ = replicate {A = ℕ} (suc (fill - 1)) 255 ++ code ∷ [] in
+    let spells : SpellsMarker code marker = (fill - 1, refl, (good, filled_stops bytes code (high ∷ low ∷ (contents ++ rest)) (ap (λ (k : ℕ). drop k bytes) (sym is) ∙ cut))) in
+    let sum : fill + 3 + length contents ≡ fill + suc (suc (suc (length contents))) = omega arith in
+    let last : take (suc (suc (suc (length contents)))) (drop fill bytes) ≡ code ∷ high ∷ low ∷ contents =
+    ap (λ (xs : List ℕ). take (suc (suc (suc (length contents)))) xs) cut ∙ ap (λ (xs : List ℕ). code ∷ high ∷ low ∷ xs) (take-append_seam contents rest) in
+    let all : take (fill + 3 + length contents) bytes ≡ marker ++ high ∷ low ∷ contents =
+    ap (λ (k : ℕ). take k bytes) sum ∙ take_add fill (suc (suc (suc (length contents)))) bytes (omega (arith, is, within))
+    ∙ ap (λ (xs : List ℕ). take fill bytes ++ xs) last ∙ ap (λ (xs : List ℕ). xs ++ code ∷ high ∷ low ∷ contents) front ∙ sym (append_assoc (replicate {A = ℕ} (suc (fill - 1)) 255) (code ∷ []) (high ∷ low ∷ contents)) in
+    subst (λ (b : List ℕ). SpellsSegment code contents b) (sym all) (spelled code high low marker contents spells h l sized)
+
+pub front_within : (bytes : List ℕ) (fill code : ℕ) (contents : List ℕ) → fill ≡ filled bytes → IsSized code contents (drop fill bytes) → fill + 3 + length contents ≤ length bytes
+front_within bytes fill code contents is (high, low, rest, cut, h, l, sized) =
+    let within = filled_within bytes in
+    let left = length-drop fill bytes in
+    let all = ap length cut in
+    let sum = length-append contents rest in
+    omega (arith, is, within, left, all, sum)
+
+pub rest_sized : (bytes : List ℕ) (fill code : ℕ) (contents : List ℕ) → IsSized code contents (take (length bytes - fill) (drop fill bytes)) → IsSized code contents (drop fill bytes)
+rest_sized bytes fill code contents is =
+    let left = length-drop fill bytes in
+    subst (λ (b : List ℕ). IsSized code contents b) (take_all (length bytes - fill) (drop fill bytes) (omega (arith, left))) is
+
+pub fills_continue : (r : Reading) (piece : List ℕ) (n : ℕ) → r.phase ≡ phase.Fill → n ≡ filled piece → Continues r piece (Ok n) (with_taken r n)
+fills_continue r piece n e is =
+    let within = filled_within piece in
+    let size = length-take-le n piece (omega (arith, is, within)) in
+    (is ∙ ap (λ (p : Phase). due_of p r.left piece) (sym e), ap (λ (m : ℕ). with_taken r m) (sym size) ∙ ap (λ (p : Phase). continued p r (take n piece)) (sym e))
+
+pub continues_stands : (old : Reading) (piece : List ℕ) (answer : Result ℕ NoMemory) (new : Reading) → Continues old piece answer new → PassesSome old piece answer new
+continues_stands old piece (Err e) new is = tt
+continues_stands old piece (Ok n) new is =
+    (some_within old.phase old.left n piece is.0, λ bytes before s. subst (λ (r : Reading). StandsForSegments (bytes ++ take n piece) before r) (sym is.1) (some_stands old bytes before piece n is.0 s))
+
+pub not_some : {X : Type 0} → (o : Option X) → is_some o ≡ false → o ≡ None
+not_some None e = refl
+not_some (Some x) e = cc
