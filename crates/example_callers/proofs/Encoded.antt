@@ -101,7 +101,3 @@ encoded_from file quality image (Ok desk) is h = (image, is, h)
 encoded_from file quality image (Err (unturned.Picture fault)) is h = (image, is, h)
 encoded_from file quality image (Err (unturned.Stop (stop.Fault f))) is h = absurd h
 encoded_from file quality image (Err (unturned.Stop stop.NoMemory)) is h = tt
-
-pub none_from : (file : List ℕ) (quality : ℕ) (s : Stop) → IsImageOf file (Err s) → IsEncodedFrom file quality (Err (unturned.Stop s))
-none_from file quality (stop.Fault f) h = h
-none_from file quality stop.NoMemory h = tt

@@ -1,6 +1,7 @@
 //! All segments of a file, by `jpg_markers` (T.81, B.1.1).
 ghost use Rattle.std.specs.Prelude.{◌≤◌, ◌+◌, length, IfSome};
 
+use jpg_base::codes::SOS;
 use jpg_markers::{Fault, FaultAt, Limits, SegStep, SegmentReader, Stop};
 use std::alloc::Global;
 
@@ -33,7 +34,7 @@ pub fn list_segments(alloc: Global, file: &[u8]) -> Result<Vec<Listed>, Stop> {
             let Ok(()) = list.push(last(&reader)) else {
                 return Err(Stop::NoMemory);
             };
-            if reader.code() == 0xda {
+            if reader.code() == SOS {
                 let Some((code, behind)) = after_data(rest) else {
                     return Err(fault(Fault::Truncated, size));
                 };

@@ -1,11 +1,11 @@
 //! The header of a frame, and the grids that it bounds (T.81, A.1, A.2, B.2.2).
 ghost use Rattle.std.specs.Prelude.{◌≡◌, ◌*◌, ◌<◌, ◌≤◌, length, IfOk};
-ghost use Rattle.jpg_spec.specs.Geometry.{h_max, v_max, bounds, component_at, padded_blocks, mcu_row_frame};
+ghost use Rattle.jpg_spec.specs.Geometry.{h_max, v_max, bounds, is_progressive, component_at, padded_blocks, mcu_row_frame};
 ghost use Rattle.jpg_spec.specs.FrameHeader.{AreLimits, HasFactors, IsFrame, checked_frame, mcu_grid, real_grid, padded_grid, padded_across, padded_down};
 ghost use Rattle.jpg_base.specs.Frame.{numbers_of};
 
 use crate::frame_checks::{
-    greatest_h, greatest_v, has_more_blocks, has_same_ids, has_wrong_count, has_wrong_factors,
+    greatest_factors, has_more_blocks, has_same_ids, has_wrong_count, has_wrong_factors,
     has_wrong_slots, is_empty, is_larger, is_unread, mcu_side, padded_side, real_side,
 };
 use arrayvec::ArrayVec;
@@ -79,14 +79,15 @@ impl Frame {
         if has_more_blocks(width, height, components, limits.blocks) {
             return Err(Fault::TooManyBlocks);
         }
+        let (h_max, v_max) = greatest_factors(components);
         Ok(Frame {
             process,
             precision,
             width,
             height,
             components: kept(components),
-            h_max: greatest_h(components),
-            v_max: greatest_v(components),
+            h_max,
+            v_max,
         })
     }
 
@@ -161,6 +162,17 @@ impl Frame {
         ensures { result ≡ self.now.process }
     {
         self.process
+    }
+
+    /// Whether the process is progressive, SOF2 (T.81, Table B.1).
+    pub fn is_progressive(&self) -> bool
+        ensures { result ≡ is_progressive self.now.process }
+    {
+        match self.process {
+            Process::Baseline => false,
+            Process::Extended => false,
+            Process::Progressive => true,
+        }
     }
 
     /// Bits per sample.

@@ -90,30 +90,19 @@ pub(crate) fn has_same_ids(components: &[Component]) -> bool
     false
 }
 
-/// The greatest horizontal factor.
-pub(crate) fn greatest_h(components: &[Component]) -> u8
-    ensures value { result ≡ greatest_across components.now }
-    ensures low { All HasFactors components.now → 1 ≤ length components.now → 1 ≤ result }
-    ensures high { All HasFactors components.now → result ≤ 4 }
+/// The greatest horizontal and the greatest vertical factor of these components, 0 if there are none (T.81, A.1.1).
+pub fn greatest_factors(components: &[Component]) -> (u8, u8)
+    ensures value { (result.0 ≡ greatest_across components.now) × (result.1 ≡ greatest_down components.now) }
+    ensures low { All HasFactors components.now → 1 ≤ length components.now → (1 ≤ result.0) × (1 ≤ result.1) }
+    ensures high { All HasFactors components.now → (result.0 ≤ 4) × (result.1 ≤ 4) }
 {
-    let mut most = 0;
+    let mut h_max = 0;
+    let mut v_max = 0;
     for component in components {
-        most = most.max(component.h);
+        h_max = h_max.max(component.h);
+        v_max = v_max.max(component.v);
     }
-    most
-}
-
-/// The greatest vertical factor.
-pub(crate) fn greatest_v(components: &[Component]) -> u8
-    ensures value { result ≡ greatest_down components.now }
-    ensures low { All HasFactors components.now → 1 ≤ length components.now → 1 ≤ result }
-    ensures high { All HasFactors components.now → result ≤ 4 }
-{
-    let mut most = 0;
-    for component in components {
-        most = most.max(component.v);
-    }
-    most
+    (h_max, v_max)
 }
 
 /// The quotient rounded up.
@@ -159,8 +148,9 @@ pub(crate) fn has_more_blocks(width: u32, height: u32, components: &[Component],
     requires factors { All HasFactors components.now }
     ensures { result ≡ nat_lt most (blocks_of (div_up width (8 * greatest_across components.now)) (div_up height (8 * greatest_down components.now)) components.now) }
 {
-    let wide = mcu_side(width, greatest_h(components));
-    let high = mcu_side(height, greatest_v(components));
+    let (h_max, v_max) = greatest_factors(components);
+    let wide = mcu_side(width, h_max);
+    let high = mcu_side(height, v_max);
     all_blocks(wide, high, components) > u64::from(most)
 }
 

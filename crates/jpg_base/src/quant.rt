@@ -1,8 +1,9 @@
 //! A quantisation table (T.81, B.2.4.1).
-ghost use Rattle.std.specs.Prelude.{◌≡◌, ◌<◌, replicate, slice_index, slice_set, length, IsTrue, ◌↔◌};
+ghost use Rattle.std.specs.Prelude.{◌≡◌, ◌<◌, ◌≤◌, replicate, slice_index, slice_set, length, IsTrue, ◌↔◌};
 ghost use Rattle.jpg_spec.specs.Lists.{are_equal};
 ghost use Rattle.jpg_spec.specs.Transposed.{transposed};
 
+use arrayvec::ArrayVec;
 use std::marker::Model;
 
 // For each place in zigzag order, the place with the horizontal and the vertical frequency exchanged.
@@ -48,6 +49,16 @@ impl QuantTable {
         ensures { result ≡ values }
     {
         QuantTable { values }
+    }
+
+    /// A copy of the tables of up to four components.
+    pub fn copied(tables: &[QuantTable]) -> ArrayVec<QuantTable, 4>
+        requires { length tables.now ≤ 4 }
+        ensures { result.items ≡ tables.now }
+    {
+        let mut list = ArrayVec::new();
+        let _ = list.try_extend_from_slice(tables);
+        list
     }
 
     /// Its quantisers.

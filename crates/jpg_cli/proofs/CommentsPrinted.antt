@@ -14,7 +14,7 @@ use Rattle.jpg_cli.specs.Desk.Reading.{rest_of}
 use Rattle.jpg_spec.specs.Segments.{standard_limits}
 use Rattle.jpg_spec_write.specs.CommentText.{IsReadWhole}
 use Rattle.jpg_cli.specs.Stays.{OnlyCopies, OnlySays}
-use Rattle.jpg_cli.specs.Run.{NoneRose}
+use Rattle.jpg_cli.specs.Due.{NoneRose}
 use Rattle.jpg_cli.specs.Tools.ReadComments.{CopiesText, EndsCopying, IsFaultText, IsPrintDue, IsTextPart, IsTextSoFar, IsWholeText, Printed}
 use Rattle.jpg_cli.specs.Endings.{Asks, Copied}
 use Rattle.jpg_cli.proofs.Endings.{copied_then, asks_next, asks_still, unopened_then}

@@ -283,7 +283,11 @@ pub record IsEarlyText (s : Showing) (M : Meaning) (n : ℕ) (all written due ot
 
 abbrev reads_early : (s : Showing) (old start : DeskState) (M : Meaning) (n : ℕ) (all written due others had : List ℕ) (s0 s1 : DeskState) → IsEarlyText s M n all written due others s0 → OnlyWrites s0 s1 → HasCreated s old start all had s1 → ReadsShown s M (Some n) old s1
 reads_early s old start M n all written due others had s0 s1 h only desk =
-    (let short = h.short in created_read s old start all had s1 (IsEarlyRead (Image s.gray) M n) desk (omega (arith, short)) h.read, ap rest_of only.left ∙ h.ended)
+    record {
+      read = (let short = h.short in created_read s old start all had s1 (IsEarlyRead (Image s.gray) M n) desk (omega (arith, short)) h.read);
+      all = ap rest_of only.left ∙ h.ended;
+      is = refl;
+    }
 
 abbrev early_part : (s : Showing) (old start : DeskState) (M : Meaning) (n : ℕ) (all written due others : List ℕ) (i : ℕ) (s0 s1 : DeskState) → IsEarlyText s M n all written due others s0 → HasCreated s old start all written s0 → OnlyWrites s0 s1
     → AppendsLast s0.outputs (take i due) s1.outputs → ReadsShown s M (Some n) old s1 × Added (s.input ∷ []) s.output (take (length (written ++ take i due)) (shown_text s M)) old s1
@@ -301,7 +305,7 @@ early_stopped s old start M n all written out due others new stop.NoMemory s0 s1
     let part = early_part s old start M n all written (out ++ due) others i s0 s1 h desk sent.only (sent.bytes).2 in
     let size = ap length h.same in
     inr (inl (record {
-      part = record { meaning = M; early = Some n; count = length (written ++ take i (out ++ due)); read = part.0; wrote = part.1 };
+      part = record { value = M; early = Some n; count = length (written ++ take i (out ++ due)); read = part.0; wrote = part.1 };
       left = omega (
         arith,
         less,
@@ -317,7 +321,7 @@ early_stopped s old start M n all written out due others new stop.WriteFault s0 
     let part = early_part s old start M n all written (out ++ due) others i s0 s1 h desk sent.only (sent.bytes).0.1 in (
       rose_since s old start all written s0 s1 desk (sent.bytes).1,
       inl (record {
-        part = record { meaning = M; early = Some n; count = length (written ++ take i (out ++ due)); read = part.0; wrote = part.1 };
+        part = record { value = M; early = Some n; count = length (written ++ take i (out ++ due)); read = part.0; wrote = part.1 };
         early = λ front rest other cut many k.
             (let l = h.early front rest other cut many k in
             let size = ap length (part_text written (out ++ due) others (shown_text s M) i h.same) in omega (arith, l, size, length-append written (take i (out ++ due))));
@@ -408,8 +412,11 @@ early_ended s old start M n all written out due new (Ok u) s0 s1 h desk sent non
     let text : written ++ gone ≡ shown_text s M = ap (λ l. written ++ l) (same ∙ sym (append-nil (out ++ due))) ∙ h.same in
     let ended = created_more s old start all written gone s0 s1 desk sent.only (sent.bytes).1 in (
       M,
-      reads_early s old start M n all written (out ++ due) [] (written ++ gone) s0 s1 h sent.only ended,
-      subst (λ t. Added (s.input ∷ []) s.output t old s1) text (created_added s old start all (written ++ gone) s1 ended),
+      (
+        reads_early s old start M n all written (out ++ due) [] (written ++ gone) s0 s1 h sent.only ended,
+        subst (λ t. Added (s.input ∷ []) s.output t old s1) text (created_added s old start all (written ++ gone) s1 ended),
+        tt,
+      ),
     )
 early_ended s old start M n all written out due new (Err ended) s0 s1 h desk sent none = early_stopped s old start M n all written out due [] new ended s0 s1 h desk sent
 

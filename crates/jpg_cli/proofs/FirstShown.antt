@@ -21,8 +21,11 @@ use Rattle.jpg_file.specs.Read.ReadRows.{RowReaderState, whole_reader}
 use Rattle.jpg_file.specs.Read.RowsNone.{HasNoRows}
 use Rattle.jpg_file.specs.declared.read.picture.Picture.{Picture}
 use Rattle.jpg_cli.specs.Desk.Reading.{rest_of}
-use Rattle.jpg_cli.specs.Desk.ReadPicture.{HoldsFile, IsAllRead, IsOpenRead, IsReadPicture, IsRefusedRead, IsShortRead, IsWholeRead, ReadsFrom, TakesPieces, unwanted_for}
-use Rattle.jpg_cli.specs.Tools.Showing.{AfterImage, IsPlain, Shown, Showing, all_bytes, bytes_before, shown_text}
+use Rattle.jpg_cli.specs.Desk.Judging.{IsAllRead, ReadsFrom}
+use Rattle.jpg_cli.specs.Desk.Judging.{TakesPieces}
+use Rattle.jpg_cli.specs.Desk.ReadPicture.{HoldsFile, IsOpenRead, IsReadPicture, IsRefusedRead, IsShortRead, IsWholeRead, unwanted_for}
+use Rattle.jpg_cli.specs.Outcome.{all_bytes, bytes_before}
+use Rattle.jpg_cli.specs.Tools.Showing.{AfterImage, IsPlain, Shown, Showing, shown_text}
 use Rattle.jpg_cli.specs.Tools.ShowingRows.{EndsPlainly, HoldsEarlyPlainly, HoldsPlainly}
 use Rattle.jpg_cli.specs.Stays.{Keeps, OnlyReads}
 use Rattle.jpg_cli.specs.declared.desk.picture.Wanted.{Wanted}
@@ -135,5 +138,5 @@ pub taken_shown : (s : Showing) (early : Option ℕ) (old start now new : DeskSt
 taken_shown s early old start now new r p ended h k t left wrote =
     let read : ReadsFrom s.input (IsReadPicture (Image s.gray) t.meaning early) old now = record { bytes = t.bytes; read = file_read old.files s.input start.left now.left t.bytes h.after.2 t.read; most = t.most; is = t.is } in
     shown_written s t.meaning early old now new ended
-    (record { kept = keeps_after old start now s.input h k; asked = noted old start now s.input h k; read = (read, t.all); left = left; plain = t.plain })
+    (record { value = record { kept = keeps_after old start now s.input h k; asked = noted old start now s.input h k; read = read; all = t.all; left = left }; plain = t.plain })
     (subst (λ (due : List ℕ). AfterImage s.output early now due ended new) (ap (shown_text s) t.means ∙ text_shown s (keeping_of r.file) t.meaning) wrote)

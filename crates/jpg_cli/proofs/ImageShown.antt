@@ -25,19 +25,17 @@ use Rattle.jpg_pnm_bmp.specs.EndState.{EndState, new_end}
 use Rattle.jpg_huff.specs.Out.{OnlyWrites}
 use Rattle.jpg_cli.specs.Words.CommentWords.{file_told}
 use Rattle.jpg_cli.specs.Commands.{name_of}
-use Rattle.jpg_cli.specs.Endings.{Added, Asks}
-use Rattle.jpg_cli.specs.Desk.ReadPicture.{IsOpenRead, IsReadPicture, IsShortRead, done_as}
+use Rattle.jpg_cli.specs.Endings.{Added}
+use Rattle.jpg_cli.specs.Desk.Judging.{done_as}
 use Rattle.jpg_cli.specs.Run.{RanShow}
 use Rattle.jpg_cli.specs.Words.ShowWords.{show_told}
-use Rattle.jpg_cli.specs.Tools.Showing.{AfterImage, IsInTime, ReadsShown, Shown, ShownBy, ShownInPart, Showing, all_bytes, shown_text}
-use Rattle.jpg_cli.specs.Stays.{Keeps, OnlySays}
-use Rattle.jpg_cli.specs.declared.desk.picture.Wanted.TheVariants.{Image}
+use Rattle.jpg_cli.specs.Outcome.{WritesPart}
+use Rattle.jpg_cli.specs.Tools.Showing.{AfterImage, IsInTime, ReadsShown, Shown, ShownBy, Showing, showing_conversion, shown_text}
 use Rattle.jpg_cli.specs.declared.words.djpeg.ShowWords.{ShowWords}
-use Rattle.jpg_cli.proofs.Endings.{asks_next, stopped_then, unopened_then, wrote_then}
+use Rattle.jpg_cli.proofs.Endings.{asks_next}
 use Rattle.jpg_cli.proofs.InsertedThen.{same_name}
-use Rattle.jpg_cli.proofs.PictureTaken.{all_still, from_still}
+use Rattle.jpg_cli.proofs.Outcome.{HasValueRead, value_on, wrote_on}
 use Rattle.jpg_cli.proofs.RowHeads.{begins_still}
-use Rattle.jpg_cli.proofs.RowsStand.{refused_then, rows_then, stands_then, still_read}
 
 -- CREATED AND WRITTEN
 
@@ -88,36 +86,27 @@ text_shown s keeping M =
 -- A PICTURE, and its image written
 
 pub record HasImageRead (s : Showing) (M : Meaning) (early : Option ℕ) (s0 s1 s2 : DeskState) : Type 0 where
-  pub kept : Keeps s0 s1
-  pub asked : Asks (s.input ∷ []) put.Done s0 s1
-  pub read : ReadsShown s M early s0 s1
-  pub left : s2.left ≡ s1.left
-  pub plain : HasNoRows standard_limits (read.0).bytes
+  pub value : HasValueRead Meaning (showing_conversion s) M early s0 s1 s2
+  pub plain : HasNoRows standard_limits ((value.read).bytes)
 
 -- no rows are written before
 none_early : (s : Showing) (bytes written : List ℕ) → HasNoRows standard_limits bytes → IsInTime s bytes written
 none_early s bytes written none front rest text cut many k = absurd (none k.before k.contents (begins_still front rest bytes k.before k.contents cut k.begins))
 
-abbrev shown_still : (s : Showing) (M : Meaning) (early : Option ℕ) (s0 s1 s2 : DeskState) → s2.left ≡ s1.left → ReadsShown s M early s0 s1 → ReadsShown s M early s0 s2
-shown_still s M early s0 s1 s2 e h = (still_read s0 s1 s2 s.input (IsReadPicture (Image s.gray) M early) e h.0, all_still early s1 s2 e h.1)
-
 abbrev image_on : (s : Showing) (M : Meaning) (early : Option ℕ) (s0 s1 s2 : DeskState) → HasImageRead s M early s0 s1 s2 → ReadsShown s M early s0 s2
-image_on s M early s0 s1 s2 h = shown_still s M early s0 s1 s2 h.left h.read
+image_on s M early s0 s1 s2 h = value_on Meaning (showing_conversion s) M early s0 s1 s2 h.value None refl
 
 wrote_image : (s : Showing) (M : Meaning) (early : Option ℕ) (s0 s1 s2 : DeskState) (text : List ℕ) → HasImageRead s M early s0 s1 s2 → NotesName s1.asked (s.output, put.Done) s2.asked → Grows s1.outputs (s.output, text) s2.outputs → Added (s.input ∷ []) s.output text s0 s2
-wrote_image s M early s0 s1 s2 text h o grows = record {
-  asked = asks_next s0 s1 s2 (s.input ∷ []) s.output put.Done h.asked o;
-  outputs = (let P : Option (List (Name × List ℕ)) → Type 0 = λ a. Grows a (s.output, text) s2.outputs in subst P h.kept.outputs grows);
-}
+wrote_image s M early s0 s1 s2 text h o grows = wrote_on Meaning (showing_conversion s) M early s0 s1 s2 h.value text o grows
 
-abbrev in_part : (s : Showing) (M : Meaning) (early : Option ℕ) (s0 s1 s2 : DeskState) (n : ℕ) → HasImageRead s M early s0 s1 s2 → NotesName s1.asked (s.output, put.Done) s2.asked → Grows s1.outputs (s.output, take n (shown_text s M)) s2.outputs → ShownInPart s s0 s2
-in_part s M early s0 s1 s2 n h o grows = record { meaning = M; early = early; count = n; read = image_on s M early s0 s1 s2 h; wrote = wrote_image s M early s0 s1 s2 (take n (shown_text s M)) h o grows }
+abbrev in_part : (s : Showing) (M : Meaning) (early : Option ℕ) (s0 s1 s2 : DeskState) (n : ℕ) → HasImageRead s M early s0 s1 s2 → NotesName s1.asked (s.output, put.Done) s2.asked → Grows s1.outputs (s.output, take n (shown_text s M)) s2.outputs → WritesPart Meaning (showing_conversion s) s0 s2
+in_part s M early s0 s1 s2 n h o grows = record { value = M; early = early; count = n; read = image_on s M early s0 s1 s2 h; wrote = wrote_image s M early s0 s1 s2 (take n (shown_text s M)) h o grows }
 
 pub shown_written : (s : Showing) (M : Meaning) (early : Option ℕ) (s0 s1 s2 : DeskState) (w : Why) → HasImageRead s M early s0 s1 s2 → AfterImage s.output early s1 (shown_text s M) w s2 → Shown s s0 w s2
 shown_written s M early s0 s1 s2 why.Done h (whole, asked, grows) =
-    (M, subst (λ (o : Option ℕ). ReadsShown s M o s0 s2) whole (image_on s M early s0 s1 s2 h), wrote_image s M early s0 s1 s2 (shown_text s M) h asked grows)
+    (M, (subst (λ (o : Option ℕ). ReadsShown s M o s0 s2) whole (image_on s M early s0 s1 s2 h), wrote_image s M early s0 s1 s2 (shown_text s M) h asked grows, tt))
 shown_written s M early s0 s1 s2 (why.Warned n) h (cut, asked, grows) =
-    (M, subst (λ (o : Option ℕ). ReadsShown s M o s0 s2) cut (image_on s M early s0 s1 s2 h), wrote_image s M early s0 s1 s2 (shown_text s M) h asked grows)
+    (M, (subst (λ (o : Option ℕ). ReadsShown s M o s0 s2) cut (image_on s M early s0 s1 s2 h), wrote_image s M early s0 s1 s2 (shown_text s M) h asked grows, tt))
 shown_written s M early s0 s1 s2 (why.Usage u) h k = absurd k
 shown_written s M early s0 s1 s2 (why.Refused f) h k = absurd k
 shown_written s M early s0 s1 s2 (why.Picture p) h k = absurd k
@@ -127,58 +116,17 @@ shown_written s M early s0 s1 s2 (why.OpenFault which.Tables) h k = absurd k
 shown_written s M early s0 s1 s2 (why.OpenFault which.Comment) h k = absurd k
 shown_written s M early s0 s1 s2 (why.OpenFault which.Output) h (asked, rose, same) = (
   record {
-    stopped = record { asked = asks_next s0 s1 s2 (s.input ∷ []) s.output put.Failed h.asked asked; outputs = same ∙ h.kept.outputs };
-    opens = (let f = h.kept.works.stays.counts.opens in omega (arith, rose, f));
+    stopped = record { asked = asks_next s0 s1 s2 (s.input ∷ []) s.output put.Failed (h.value).asked asked; outputs = same ∙ (h.value).kept.outputs };
+    opens = (let f = (h.value).kept.works.stays.counts.opens in omega (arith, rose, f));
   },
   inl (M, early, image_on s M early s0 s1 s2 h),
 )
 shown_written s M early s0 s1 s2 (why.ReadFault file) h k = absurd k
 shown_written s M early s0 s1 s2 why.WriteFault h (asked, rose, (n, grows)) = (
-  (let f = h.kept.works.stays.counts.writes in omega (arith, rose, f)),
-  inl (record { part = in_part s M early s0 s1 s2 n h asked grows; early = none_early s ((h.read).0).bytes (take n (shown_text s M)) h.plain }),
+  (let f = (h.value).kept.works.stays.counts.writes in omega (arith, rose, f)),
+  inl (record { part = in_part s M early s0 s1 s2 n h asked grows; early = none_early s ((h.value).read).bytes (take n (shown_text s M)) h.plain }),
 )
 shown_written s M early s0 s1 s2 why.NoMemory h (asked, (n, less, grows)) = inr (inl (record { part = in_part s M early s0 s1 s2 n h asked grows; left = less }))
-
--- A MESSAGE THEN
-
-abbrev part_then : (s : Showing) (s0 s1 s2 : DeskState) → OnlySays s1 s2 → ShownInPart s s0 s1 → ShownInPart s s0 s2
-part_then s s0 s1 s2 k h = record {
-  meaning = h.meaning;
-  early = h.early;
-  count = h.count;
-  read = shown_still s h.meaning h.early s0 s1 s2 k.same.left h.read;
-  wrote = wrote_then s0 s1 s2 (s.input ∷ []) s.output (take h.count (shown_text s h.meaning)) k h.wrote;
-}
-
-pub shown_then : (s : Showing) (s0 s1 s2 : DeskState) (w : Why) → OnlySays s1 s2 → Shown s s0 w s1 → Shown s s0 w s2
-shown_then s s0 s1 s2 why.Done k (M, read, wrote) =
-    (M, shown_still s M None s0 s1 s2 k.same.left read, wrote_then s0 s1 s2 (s.input ∷ []) s.output (shown_text s M) k wrote)
-shown_then s s0 s1 s2 (why.Warned n) k (M, read, wrote) =
-    (M, shown_still s M (Some n) s0 s1 s2 k.same.left read, wrote_then s0 s1 s2 (s.input ∷ []) s.output (shown_text s M) k wrote)
-shown_then s s0 s1 s2 (why.Usage u) k h = absurd h
-shown_then s s0 s1 s2 (why.Refused f) k h = refused_then s f s0 s1 s2 k h
-shown_then s s0 s1 s2 (why.Picture p) k h = absurd h
-shown_then s s0 s1 s2 (why.OpenFault which.Input) k h = unopened_then s0 s1 s2 (s.input ∷ []) k h
-shown_then s s0 s1 s2 (why.OpenFault which.Script) k h = absurd h
-shown_then s s0 s1 s2 (why.OpenFault which.Tables) k h = absurd h
-shown_then s s0 s1 s2 (why.OpenFault which.Comment) k h = absurd h
-shown_then s s0 s1 s2 (why.OpenFault which.Output) k (unopened, inl h) =
-    (unopened_then s0 s1 s2 (s.input ∷ s.output ∷ []) k unopened, inl (h.0, h.1, shown_still s h.0 h.1 s0 s1 s2 k.same.left h.2))
-shown_then s s0 s1 s2 (why.OpenFault which.Output) k (unopened, inr h) =
-    (unopened_then s0 s1 s2 (s.input ∷ s.output ∷ []) k unopened, inr (still_read s0 s1 s2 s.input _ k.same.left h))
-shown_then s s0 s1 s2 (why.ReadFault which.Input) k h =
-    ((let rose = h.0 in let f = k.stays.counts.reads in omega (arith, rose, f)), stands_then s all_bytes (IsOpenRead (Image s.gray)) s0 s1 s2 k h.1)
-shown_then s s0 s1 s2 (why.ReadFault which.Script) k h = absurd h
-shown_then s s0 s1 s2 (why.ReadFault which.Tables) k h = absurd h
-shown_then s s0 s1 s2 (why.ReadFault which.Comment) k h = absurd h
-shown_then s s0 s1 s2 (why.ReadFault which.Output) k h = absurd h
-shown_then s s0 s1 s2 why.WriteFault k (rose, inl h) =
-    ((let f = k.stays.counts.writes in omega (arith, rose, f)), inl (record { part = part_then s s0 s1 s2 k h.part; early = h.early }))
-shown_then s s0 s1 s2 why.WriteFault k (rose, inr h) =
-    ((let f = k.stays.counts.writes in omega (arith, rose, f)), inr (record { part = rows_then s s0 s1 s2 k h.part; early = h.early }))
-shown_then s s0 s1 s2 why.NoMemory k (inl h) = inl (stopped_then s0 s1 s2 (s.input ∷ []) put.Done k h.0, from_still s0 s1 s2 s.input (IsShortRead (Image s.gray)) k.same.left h.1)
-shown_then s s0 s1 s2 why.NoMemory k (inr (inl h)) = inr (inl (record { part = part_then s s0 s1 s2 k h.part; left = h.left }))
-shown_then s s0 s1 s2 why.NoMemory k (inr (inr h)) = inr (inr (record { part = rows_then s s0 s1 s2 k h.part; left = h.left }))
 
 -- AS THE WORDS ASK FOR IT
 

@@ -26,14 +26,14 @@ use Rattle.jpg_pnm_bmp.specs.declared.read.pixels.PixelReader.{PixelReader}
 use Rattle.jpg_pnm_bmp.proofs.EndRead.{fed_open}
 use Rattle.jpg_pnm_bmp.proofs.ImageRight.{image_right}
 use Rattle.jpg_cli.specs.Desk.Reading.{rest_of}
-use Rattle.jpg_cli.specs.Desk.ReadImage.{AfterImageEnd, AfterNextImagePiece, AfterTakingImagePiece, EndDone, EndsEarly, EndsImageReading, ImageGoesOn, HoldsImage, ImageRead, IsFaultRead, IsImageRead, IsOpenImageRead, IsShortImageRead}
-use Rattle.jpg_cli.specs.Desk.ReadPicture.{TakesPieces}
+use Rattle.jpg_cli.specs.Desk.ReadImage.{AfterImageEnd, AfterNextImagePiece, AfterTakingImagePiece, EndDone, EndsEarly, EndsImageReading, ImageGoesOn, HoldsImage, ImageRead, IsFaultRead, IsImageRead, IsOpenImageRead, IsShortImageRead, image_judging}
+use Rattle.jpg_cli.specs.Desk.Judging.{TakesPieces}
 use Rattle.jpg_cli.specs.Stays.{OnlyReads}
 use Rattle.jpg_cli.specs.declared.desk.image.ImageStep.{ImageStep}
 use Rattle.jpg_cli.specs.declared.desk.image.ImageStep.TheVariants as step
 use Rattle.jpg_cli.proofs.CommentsCopied.{left_still, some_taken}
 use Rattle.jpg_cli.proofs.Input.{none_left, noted}
-use Rattle.jpg_cli.proofs.PictureTaken.{reads_from, stopped_there}
+use Rattle.jpg_cli.proofs.PictureTaken.{none_taken, reads_from}
 
 -- BYTES THAT WERE FED
 
@@ -147,27 +147,9 @@ goes_on_end (step.Ended ended) r now h = tt
 
 -- FROM THE NAME
 
-ends_early : (s0 s1 s2 : DeskState) (file : Name) (ended : Why) → Opens s0 file put.Done s1 → OnlyReads s1 s2 → EndsEarly s1 ended s2 → ImageRead file s0 (Err ended) s2
-ends_early s0 s1 s2 file why.Done h k e = absurd e
-ends_early s0 s1 s2 file (why.Warned m) h k e = absurd e
-ends_early s0 s1 s2 file (why.Usage u) h k e = absurd e
-ends_early s0 s1 s2 file (why.Picture p) h k e = absurd e
-ends_early s0 s1 s2 file (why.Refused f) h k e = (stopped_there s0 s1 s2 file h k, reads_from s0 s1 s2 file (IsFaultRead f (rest_of s2.left)) h e)
-ends_early s0 s1 s2 file (why.OpenFault other) h k e = absurd e
-ends_early s0 s1 s2 file (why.ReadFault which.Input) h k e = (
-  record { stopped = stopped_there s0 s1 s2 file h k; reads = (let r = e.1 in let f = h.counts.reads in omega arith) },
-  reads_from s0 s1 s2 file IsOpenImageRead h e.0,
-)
-ends_early s0 s1 s2 file (why.ReadFault which.Script) h k e = absurd e
-ends_early s0 s1 s2 file (why.ReadFault which.Tables) h k e = absurd e
-ends_early s0 s1 s2 file (why.ReadFault which.Comment) h k e = absurd e
-ends_early s0 s1 s2 file (why.ReadFault which.Output) h k e = absurd e
-ends_early s0 s1 s2 file why.WriteFault h k e = absurd e
-ends_early s0 s1 s2 file why.NoMemory h k e = (stopped_there s0 s1 s2 file h k, reads_from s0 s1 s2 file IsShortImageRead h e)
-
 pub image_read_from : (s0 s1 s2 : DeskState) (file : Name) (answer : Result Read Why) → Opens s0 file put.Done s1 → OnlyReads s1 s2 → EndsImageReading s1 answer s2 → ImageRead file s0 answer s2
 image_read_from s0 s1 s2 file (Ok i) h k e = (noted s0 s1 s2 file h k, reads_from s0 s1 s2 file (IsImageRead (image_told i) (rest_of s2.left)) h e.0)
-image_read_from s0 s1 s2 file (Err ended) h k e = ends_early s0 s1 s2 file ended h k e
+image_read_from s0 s1 s2 file (Err ended) h k e = none_taken Image image_judging s0 s1 s2 file ended h k e
 
 pub right_of : (s0 s1 : DeskState) (answer : Result Read Why) → EndsImageReading s0 answer s1 → IfOk answer (λ i. IsRightImage (image_told i))
 right_of s0 s1 (Ok i) h = h.1

@@ -19,7 +19,8 @@ use Rattle.jpg_cli.specs.Tools.CommentInserted.{Inserted, IsComment, IsCommentRe
 use Rattle.jpg_cli.specs.Words.CommentWords.{comment_told, file_told, write_told}
 use Rattle.jpg_cli.specs.declared.words.comments.WriteWords.{WriteWords}
 use Rattle.jpg_cli.specs.Commands.{name_of}
-use Rattle.jpg_cli.specs.Run.{NoneRose, task_of}
+use Rattle.jpg_cli.specs.Due.{NoneRose}
+use Rattle.jpg_cli.specs.Run.{task_of}
 use Rattle.jpg_cli.proofs.Endings.{bytes_then, copied_then, stopped_then, unopened_then, unread_then}
 use Rattle.jpg_cli.proofs.Input.{none_left, part_still, read_still}
 

@@ -8,7 +8,8 @@ pub mod Decimal
 pub mod EarlyEnding
 pub mod EarlyImage
 pub mod EarlyRows
-pub mod EncodeDue
+pub mod Due
+pub mod DueCommands
 pub mod Ending
 pub mod Endings
 pub mod FactorsNamed
@@ -24,11 +25,14 @@ pub mod ImageTaken
 pub mod Input
 pub mod InsertedCopied
 pub mod InsertedThen
+pub mod Judged
 pub mod KeepingLaws
 pub mod Matching
 pub mod Names
+pub mod NamesBefore
 pub mod Naming
 pub mod OneRefusal
+pub mod Outcome
 pub mod Output
 pub mod PictureBytes
 pub mod PictureTaken
@@ -43,7 +47,6 @@ pub mod RowsFinished
 pub mod RowsLoop
 pub mod RowsPushed
 pub mod RowsRead
-pub mod RowsStand
 pub mod RowsStarted
 pub mod RowsStopped
 pub mod RowsWhole
@@ -52,6 +55,8 @@ pub mod Saying
 pub mod ScriptTaken
 pub mod Shown
 pub mod TablesTaken
+pub mod TakenOnce
+pub mod TextTaken
 pub mod Unwanted
 pub mod WorkImage
 pub mod Worked

@@ -1,55 +1,36 @@
 -- Whatever is asked for, an input is refused with at most one fault, at one place; and a file that means a picture with
 -- none.
-use Rattle.std.proofs.Common.{◌≡◌, ℕ, Bool, List, ◌++◌, refl, sym, subst, arith, inl, inr}
+use Rattle.std.proofs.Common.{◌≡◌, ℕ, Bool, List, refl, sym, subst, inl, inr}
 use Rattle.jpg_base.specs.Desk.{DeskState}
-use Rattle.jpg_spec.specs.Segments.{standard_limits}
 use Rattle.jpg_spec.specs.declared.fault.FaultAt.{FaultAt}
 use Rattle.jpg_spec_words.specs.declared.answers.Why.{Why}
 use Rattle.jpg_spec_words.specs.declared.answers.Why.TheVariants as why
-use Rattle.jpg_spec_image.proofs.OneReason.{one_reason}
+use Rattle.jpg_spec.specs.Meaning.{Meaning}
+use Rattle.jpg_cli.specs.Commands.{name_of}
 use Rattle.jpg_cli.specs.Certain.{HasFile, HasSomeMeaning, IsNotRefused, IsTold}
 use Rattle.jpg_cli.specs.Laws.{MeanShown, WasRefused, WasRefusedShown}
-use Rattle.jpg_cli.specs.Desk.ReadPicture.{IsRefused, IsRefusedFor, IsRefusedRead, IsUnwanted}
-use Rattle.jpg_cli.specs.declared.desk.picture.Wanted.{Wanted}
+use Rattle.jpg_cli.specs.Desk.ReadPicture.{IsRefused, IsRefusedFor}
 use Rattle.jpg_cli.specs.declared.desk.picture.Wanted.TheVariants.{Coefficients, Image}
-use Rattle.jpg_cli.specs.Desk.Reading.{rest_of}
-use Rattle.jpg_cli.specs.Tools.Showing.{Showing, Shown, bytes_before}
+use Rattle.jpg_cli.specs.Tools.Showing.{showing_conversion}
 use Rattle.jpg_spec_write.specs.ScansAsked.{Scans}
 use Rattle.jpg_spec_words.specs.TransformWords.{ScansSource, own_sequential, own_progressive, in_file, TransformAsked}
 use Rattle.jpg_cli.specs.Desk.ScriptTaken.{HasScansFault, StopsAtScans}
-use Rattle.jpg_cli.specs.Tools.Turned.{Transformed, Turned, Turning, turning_of}
+use Rattle.jpg_cli.specs.Tools.Turned.{Transformed, Turned, Turning, turning_conversion, turning_of}
 use Rattle.jpg_cli.proofs.RefusedOnce.{one_refusal}
-use Rattle.jpg_cli.proofs.RowsStand.{so_read}
-use Rattle.jpg_cli.proofs.Certain.{no_scans_fault, none_faulty, none_unshown, one_file, refused_alone}
-
--- WHATEVER IS ASKED FOR
-
-one_unwanted : (w : Wanted) (input : List ℕ) (f g : FaultAt) → IsUnwanted w input f → IsUnwanted w input g → f ≡ g
-one_unwanted Coefficients input f g a b = absurd a
-one_unwanted (Image gray) input f g a b = one_reason standard_limits gray input f g a b
-
-pub refused_for_one : (w : Wanted) (input : List ℕ) (f g : FaultAt) → IsRefusedFor w input f → IsRefusedFor w input g → f ≡ g
-refused_for_one w input f g (inl a) (inl b) = one_refusal input f g a.0 b.0
-refused_for_one w input f g (inl a) (inr b) = absurd (let less = a.1 g b.0 in let few = b.1 f a.0 in omega (arith, less, few))
-refused_for_one w input f g (inr a) (inl b) = absurd (let less = b.1 f a.0 in let few = a.1 g b.0 in omega (arith, less, few))
-refused_for_one w input f g (inr a) (inr b) = one_unwanted w input f g a.0 b.0
+use Rattle.jpg_cli.proofs.Due.{refuses_told, tells_files}
+use Rattle.jpg_cli.proofs.Judged.{none_faulty, none_refused_for, picture_judged, refused_alone, refused_for_one}
+use Rattle.jpg_cli.proofs.TakenOnce.{scans_or_fault, told_scans}
 
 -- OF RUNS
 
 run_refused : (t : Turning) (old new : DeskState) (bytes : List ℕ) (f : FaultAt) → IsTold old.files t.input bytes → Turned t old (why.Refused f) new → IsRefused bytes f
-run_refused t old new bytes f told h =
-    subst (λ (b : List ℕ). IsRefused b f) (one_file old.files t.input bytes (h.1.bytes ++ rest_of new.left) told h.1.read) (refused_alone (h.1.bytes ++ rest_of new.left) f h.1.is.refused)
+run_refused t old new bytes f told h = refused_alone bytes f (refuses_told Meaning (turning_conversion t) (picture_judged Coefficients) old new bytes f told h)
 
 pub runs_refuse_once : (input : List ℕ) (f g : FaultAt) → WasRefused input f → WasRefused input g → f ≡ g
 runs_refuse_once input f g a b = one_refusal input f g (run_refused a.turning a.old a.new input f a.told a.turned) (run_refused b.turning b.old b.new input g b.told b.turned)
 
-run_not_shown : (s : Showing) (old new : DeskState) (bytes : List ℕ) (f : FaultAt) → IsTold old.files s.input bytes → Shown s old (why.Refused f) new → IsRefusedFor (Image s.gray) bytes f
-run_not_shown s old new bytes f told h =
-    let k = so_read s (bytes_before f) (IsRefusedRead (Image s.gray) f (rest_of new.left)) old new h in
-    subst (λ (b : List ℕ). IsRefusedFor (Image s.gray) b f) (one_file old.files s.input bytes (k.bytes ++ rest_of new.left) told k.read) k.is.refused
-
 shown_refusal : (gray : Bool) (input : List ℕ) (f : FaultAt) → WasRefusedShown gray input f → IsRefusedFor (Image gray) input f
-shown_refusal gray input f a = subst (λ (g : Bool). IsRefusedFor (Image g) input f) a.grayed (run_not_shown a.showing a.old a.new input f a.told a.shown)
+shown_refusal gray input f a = subst (λ (g : Bool). IsRefusedFor (Image g) input f) a.grayed (refuses_told Meaning (showing_conversion a.showing) (picture_judged (Image a.showing.gray)) a.old a.new input f a.told a.shown)
 
 pub runs_show_once : (gray : Bool) (input : List ℕ) (f g : FaultAt) → WasRefusedShown gray input f → WasRefusedShown gray input g → f ≡ g
 runs_show_once gray input f g a b = refused_for_one (Image gray) input f g (shown_refusal gray input f a) (shown_refusal gray input g b)
@@ -57,7 +38,7 @@ runs_show_once gray input f g a b = refused_for_one (Image gray) input f g (show
 -- A FILE THAT MEANS A PICTURE
 
 pub none_refused_shown : (gray : Bool) (input : List ℕ) (f : FaultAt) → IsRefusedFor (Image gray) input f → MeanShown gray input → ⊥
-none_refused_shown gray input f refused (M, means, shown) = none_unshown gray input M f means shown refused
+none_refused_shown gray input f refused (M, means, shown) = none_refused_for (Image gray) input M f means shown refused
 
 pub none_refused : (input : List ℕ) (f : FaultAt) → IsRefused input f → HasSomeMeaning input → ⊥
 none_refused input f a (M, means) = none_faulty input M f means a
@@ -81,7 +62,8 @@ told_script a (in_file file) old new (why.Warned n) e has h = absurd h
 told_script a (in_file file) old new (why.Usage u) e has h = absurd h
 told_script a (in_file file) old new (why.Picture p) e has h = tt
 told_script a (in_file file) old new (why.Refused f) e has h =
-    absurd (no_scans_fault old a.scans has.scans f has.asked (subst (λ (source : ScansSource). HasScansFault source old f) e h.fault))
+    absurd (scans_or_fault old a.scans (tells_files old (name_of a.files.input) has.bytes has.told) has.scans f (told_scans old a.scans has.scans has.asked)
+    (subst (λ (source : ScansSource). HasScansFault source old f) e h.fault))
 told_script a (in_file file) old new (why.OpenFault which) e has h = tt
 told_script a (in_file file) old new (why.ReadFault which) e has h = tt
 told_script a (in_file file) old new why.WriteFault e has h = tt

@@ -22,8 +22,9 @@ use Rattle.jpg_file.specs.Read.PictureRead.{MeansFor, TakesEarly, TakesPicture}
 use Rattle.jpg_file.specs.Read.ReadFile.{ReaderState}
 use Rattle.jpg_file.specs.declared.read.picture.Picture.{Picture}
 use Rattle.jpg_cli.specs.Endings.{Stopped}
-use Rattle.jpg_cli.specs.Desk.Reading.{IsFile, rest_of}
-use Rattle.jpg_cli.specs.Desk.ReadPicture.{AfterFileEnd, AfterNextPiece, AfterPictureEnd, AfterTakingPiece, EndDone, EndsEarly, EndsReading, PictureGoesOn, HasFed, HoldsPicture, HoldsEarly, HoldsFile, IsAllRead, IsEarlyRead, IsOpenRead, IsReadPicture, IsRefusedRead, IsShortRead, IsWholeRead, PictureRead, ReadsFrom, TakesPieces}
+use Rattle.jpg_cli.specs.Desk.Reading.{rest_of}
+use Rattle.jpg_cli.specs.Desk.Judging.{IsAllRead, Judging, NoValueRead, NoValueTaken, ReadsFrom, TakesPieces}
+use Rattle.jpg_cli.specs.Desk.ReadPicture.{AfterFileEnd, AfterNextPiece, AfterPictureEnd, AfterTakingPiece, EndDone, EndsEarly, EndsReading, PictureGoesOn, HasFed, HoldsPicture, HoldsEarly, HoldsFile, IsEarlyRead, IsReadPicture, IsRefusedRead, IsWholeRead, PictureRead, picture_judging}
 use Rattle.jpg_cli.specs.Stays.{OnlyReads}
 use Rattle.jpg_cli.specs.declared.desk.picture.PictureStep.{PictureStep}
 use Rattle.jpg_cli.specs.declared.desk.picture.Wanted.{Wanted}
@@ -133,37 +134,24 @@ reads_from s0 s1 s2 file Is h (bytes, read, most, is) = record { bytes = bytes; 
 pub stopped_there : (s0 s1 s2 : DeskState) (file : Name) → Opens s0 file put.Done s1 → OnlyReads s1 s2 → Stopped (file ∷ []) put.Done s0 s2
 stopped_there s0 s1 s2 file h k = record { asked = noted s0 s1 s2 file h k; outputs = k.outputs ∙ h.outputs }
 
-ends_early : (w : Wanted) (keeping : Copying) (s0 s1 s2 : DeskState) (file : Name) (ended : Why) → Opens s0 file put.Done s1 → OnlyReads s1 s2 → EndsEarly w s1 ended s2 → PictureRead w keeping file s0 (Err ended) s2
-ends_early w keeping s0 s1 s2 file why.Done h k e = absurd e
-ends_early w keeping s0 s1 s2 file (why.Warned n) h k e = absurd e
-ends_early w keeping s0 s1 s2 file (why.Usage u) h k e = absurd e
-ends_early w keeping s0 s1 s2 file (why.Picture p) h k e = absurd e
-ends_early w keeping s0 s1 s2 file (why.Refused f) h k e = (stopped_there s0 s1 s2 file h k, reads_from s0 s1 s2 file (IsRefusedRead w f (rest_of s2.left)) h e)
-ends_early w keeping s0 s1 s2 file (why.OpenFault other) h k e = absurd e
-ends_early w keeping s0 s1 s2 file (why.ReadFault which.Input) h k e = (
+pub none_taken : (V : Type 0) (j : Judging V) (s0 s1 s2 : DeskState) (file : Name) (ended : Why) → Opens s0 file put.Done s1 → OnlyReads s1 s2 → NoValueTaken j s1 ended s2 → NoValueRead j file s0 ended s2
+none_taken V j s0 s1 s2 file why.Done h k e = absurd e
+none_taken V j s0 s1 s2 file (why.Warned n) h k e = absurd e
+none_taken V j s0 s1 s2 file (why.Usage u) h k e = absurd e
+none_taken V j s0 s1 s2 file (why.Picture p) h k e = absurd e
+none_taken V j s0 s1 s2 file (why.Refused f) h k e = (stopped_there s0 s1 s2 file h k, reads_from s0 s1 s2 file (j.refused f (rest_of s2.left)) h e)
+none_taken V j s0 s1 s2 file (why.OpenFault other) h k e = absurd e
+none_taken V j s0 s1 s2 file (why.ReadFault which.Input) h k e = (
   record { stopped = stopped_there s0 s1 s2 file h k; reads = (let r = e.1 in let f = h.counts.reads in omega arith) },
-  reads_from s0 s1 s2 file (IsOpenRead w) h e.0,
+  reads_from s0 s1 s2 file j.unfinished h e.0,
 )
-ends_early w keeping s0 s1 s2 file (why.ReadFault which.Script) h k e = absurd e
-ends_early w keeping s0 s1 s2 file (why.ReadFault which.Tables) h k e = absurd e
-ends_early w keeping s0 s1 s2 file (why.ReadFault which.Comment) h k e = absurd e
-ends_early w keeping s0 s1 s2 file (why.ReadFault which.Output) h k e = absurd e
-ends_early w keeping s0 s1 s2 file why.WriteFault h k e = absurd e
-ends_early w keeping s0 s1 s2 file why.NoMemory h k e = (stopped_there s0 s1 s2 file h k, reads_from s0 s1 s2 file (IsShortRead w) h e)
+none_taken V j s0 s1 s2 file (why.ReadFault which.Script) h k e = absurd e
+none_taken V j s0 s1 s2 file (why.ReadFault which.Tables) h k e = absurd e
+none_taken V j s0 s1 s2 file (why.ReadFault which.Comment) h k e = absurd e
+none_taken V j s0 s1 s2 file (why.ReadFault which.Output) h k e = absurd e
+none_taken V j s0 s1 s2 file why.WriteFault h k e = absurd e
+none_taken V j s0 s1 s2 file why.NoMemory h k e = (stopped_there s0 s1 s2 file h k, reads_from s0 s1 s2 file j.short h e)
 
 pub picture_read : (w : Wanted) (keeping : Copying) (s0 s1 s2 : DeskState) (file : Name) (answer : Result (Picture × Option ℕ) Why) → Opens s0 file put.Done s1 → OnlyReads s1 s2 → EndsReading w keeping s1 answer s2 → PictureRead w keeping file s0 answer s2
 picture_read w keeping s0 s1 s2 file (Ok found) h k ((M, means, e), all) = (noted s0 s1 s2 file h k, (M, means, reads_from s0 s1 s2 file (IsReadPicture w M found.1) h e), all)
-picture_read w keeping s0 s1 s2 file (Err ended) h k e = ends_early w keeping s0 s1 s2 file ended h k e
-
--- what was read of a file is the same if no more of it is read
-pub from_still : (s0 s1 s2 : DeskState) (file : Name) (Is : List ℕ → Type 0) → s2.left ≡ s1.left → ReadsFrom file Is s0 s1 → ReadsFrom file Is s0 s2
-from_still s0 s1 s2 file Is e h = record {
-  bytes = h.bytes;
-  read = (let P : Option (List ℕ) → Type 0 = λ l. IsFile s0.files file (h.bytes ++ rest_of l) in subst P (sym e) h.read);
-  most = h.most;
-  is = h.is;
-}
-
-pub all_still : (early : Option ℕ) (s1 s2 : DeskState) → s2.left ≡ s1.left → IsAllRead early s1 → IsAllRead early s2
-all_still None s1 s2 e h = tt
-all_still (Some n) s1 s2 e h = ap rest_of e ∙ h
+picture_read w keeping s0 s1 s2 file (Err ended) h k e = none_taken Meaning (picture_judging w) s0 s1 s2 file ended h k e

@@ -6,7 +6,7 @@ use Rattle.jpg_spec.specs.declared.fault.Fault.{Fault}
 use Rattle.jpg_spec.proofs.FileLaws.{first_fault_once}
 use Rattle.jpg_cli.specs.Desk.ReadPicture.{IsRefused}
 
-same_refusal : (f g : FaultAt) → f.fault ≡ g.fault → f.at ≡ g.at → f ≡ g
+pub same_refusal : (f g : FaultAt) → f.fault ≡ g.fault → f.at ≡ g.at → f ≡ g
 same_refusal f g e h = ap (λ (k : Fault). let x : FaultAt = record { fault = k; at = f.at } in x) e ∙ ap (λ n. let x : FaultAt = record { fault = g.fault; at = n } in x) h
 
 pub one_refusal : (input : List ℕ) (f g : FaultAt) → IsRefused input f → IsRefused input g → f ≡ g

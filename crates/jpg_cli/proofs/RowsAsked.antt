@@ -25,7 +25,9 @@ use Rattle.jpg_color.specs.StripImage.{Drawing}
 use Rattle.jpg_cli.specs.Endings.{Added}
 use Rattle.jpg_cli.specs.Desk.Reading.{rest_of}
 use Rattle.jpg_cli.specs.Desk.ReadPicture.{IsOpenRead, IsRefusedRead}
-use Rattle.jpg_cli.specs.Tools.Showing.{IsInTime, IsRowsText, IsShownByRows, IsShownUpTo, Showing, Shown, ShowsSoFar, all_bytes, bytes_before}
+use Rattle.jpg_spec.specs.Meaning.{Meaning}
+use Rattle.jpg_cli.specs.Outcome.{WritesRows, all_bytes, bytes_before}
+use Rattle.jpg_cli.specs.Tools.Showing.{IsInTime, IsRowsText, IsShownByRows, IsShownUpTo, Showing, Shown, row_texts, showing_conversion}
 use Rattle.jpg_cli.specs.Tools.ShowingRows.{AfterShownPiece, AfterRowsEnd, GoesLater, GoesOnRows, HasCreated, HasShown, HasShownEarly, Head, StopsWith, at_work}
 use Rattle.jpg_cli.specs.declared.desk.picture.Wanted.TheVariants.{Image}
 use Rattle.jpg_cli.specs.declared.tools.djpeg_rows.RowsStep.{RowsStep}
@@ -50,7 +52,7 @@ created_still s old start all written answer buf s0 s1 read left h = record {
 
 -- the output has the text of all MCU rows that are complete
 so_far : (s : Showing) (old start : DeskState) (h : Head) (all : List ℕ) (m : ℕ) (r : RowReaderState) (d : Drawing) (e : EndState) (s0 s1 : DeskState) (upto : List ℕ → List ℕ) (Is : List ℕ → Type 0) → upto all ≡ all → (k : HasShown s old start h all m (at_work r d e s0)) → HasCreated s old start all k.written s1
-    → Is all → ShowsSoFar s upto Is old s1
+    → Is all → WritesRows Meaning (showing_conversion s) (row_texts s) upto Is old s1
 so_far s old start h all m r d e s0 s1 upto Is whole k desk is =
     let text : List ℕ = rows_text s.kind (picture_so_far standard_limits h.before h.contents (k.drawing).blocks) s.gray s.smooth m in
     let same : k.written ≡ text = sym (append-nil k.written) ∙ ap (λ l. k.written ++ l) (sym k.out) ∙ (k.drawing).text in

@@ -7,7 +7,8 @@ use Rattle.jpg_spec_words.specs.declared.answers.Why.TheVariants as why
 use Rattle.jpg_spec_words.specs.declared.answers.Which.TheVariants as which
 use Rattle.jpg_file.specs.Read.ReadRows.{RowReaderState}
 use Rattle.jpg_file.specs.declared.read.row_reader.FedRow.{FedRow}
-use Rattle.jpg_cli.specs.Desk.ReadPicture.{IsShortRead, ReadsFrom}
+use Rattle.jpg_cli.specs.Desk.Judging.{ReadsFrom}
+use Rattle.jpg_cli.specs.Desk.ReadPicture.{IsShortRead}
 use Rattle.jpg_cli.specs.Tools.Showing.{IsShownByRows, Showing, Shown}
 use Rattle.jpg_cli.specs.Tools.ShowingRows.{BeginsShownRows, HasOpened}
 use Rattle.jpg_cli.specs.declared.desk.picture.Wanted.TheVariants.{Image}
@@ -15,7 +16,7 @@ use Rattle.jpg_cli.proofs.Endings.{asks_next}
 use Rattle.jpg_cli.proofs.Input.{file_read, noted}
 use Rattle.jpg_cli.proofs.PictureTaken.{stopped_there}
 use Rattle.jpg_cli.proofs.RowsEnd.{shown_head}
-use Rattle.jpg_cli.proofs.RowsStand.{still_read}
+use Rattle.jpg_cli.proofs.Outcome.{reads_still}
 
 -- what was read
 abbrev opened_read : (s : Showing) (old start : DeskState) (all : List ℕ) (piece : List ℕ) (answer : Result FedRow Stop) (r : RowReaderState) (now : DeskState) (Is : List ℕ → Type 0) → BeginsShownRows s.gray all piece answer r → HasOpened s old start all now → Is all
@@ -37,6 +38,6 @@ no_output s old start all piece answer r now new k h made = (
     };
     opens = (let rose = made.after.0 in let a = (h.opened).counts.opens in let b = ((h.reads).copies).works.stays.counts.opens in omega (arith, rose, a, b));
   },
-  inr (still_read old now new s.input (λ bytes. IsShortRead (Image s.gray) bytes × IsShownByRows s.gray bytes) made.left
+  inr (reads_still old now new s.input (λ rest bytes. IsShortRead (Image s.gray) bytes × IsShownByRows s.gray bytes) made.left
       (opened_read s old start all piece answer r now (λ bytes. IsShortRead (Image s.gray) bytes × IsShownByRows s.gray bytes) k h ((k.rows).short, shown_head s.gray k.head all (k.rows).head))),
 )

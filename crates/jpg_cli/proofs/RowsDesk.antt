@@ -8,7 +8,7 @@ use Rattle.jpg_base.specs.Laws.{Grows}
 use Rattle.jpg_huff.specs.Out.{OnlyWrites}
 use Rattle.jpg_spec.specs.Segments.{standard_limits}
 use Rattle.jpg_cli.specs.Endings.{Added}
-use Rattle.jpg_cli.specs.Desk.ReadPicture.{ReadsFrom}
+use Rattle.jpg_cli.specs.Desk.Judging.{ReadsFrom}
 use Rattle.jpg_cli.specs.Tools.Showing.{Showing}
 use Rattle.jpg_cli.specs.Tools.ShowingRows.{HasCreated}
 use Rattle.jpg_cli.specs.Stays.{OnlyWorks}

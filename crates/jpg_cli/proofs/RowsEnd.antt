@@ -32,7 +32,8 @@ use Rattle.jpg_color.specs.StripImage.{Drawing, IsDrawnTo, IsEndOf}
 use Rattle.jpg_cli.specs.Endings.{Added}
 use Rattle.jpg_cli.specs.Desk.Reading.{rest_of}
 use Rattle.jpg_cli.specs.Desk.ReadPicture.{IsRefusedRead, IsUnwanted}
-use Rattle.jpg_cli.specs.Tools.Showing.{IsInTime, IsRowsText, IsShownByRows, IsShownUpTo, Showing, Shown, bytes_before}
+use Rattle.jpg_cli.specs.Outcome.{bytes_before}
+use Rattle.jpg_cli.specs.Tools.Showing.{IsInTime, IsRowsText, IsShownByRows, IsShownUpTo, Showing, Shown}
 use Rattle.jpg_cli.specs.Tools.ShowingRows.{AfterShownPiece, HasCreated, HasFedRows, HasShown, HasShownAll, Head, IsDrawing, IsHeadIn, IsLastPiece, IsShowing, last_step, why_of, at_work}
 use Rattle.jpg_cli.specs.declared.desk.picture.Wanted.TheVariants.{Image}
 use Rattle.jpg_cli.proofs.FirstRead.{HasBegun, not_shown, plain_whole}

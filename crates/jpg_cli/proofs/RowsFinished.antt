@@ -121,7 +121,7 @@ pub record IsEndOfText (s : Showing) (M : Meaning) (all written due : List ℕ) 
   pub same : written ++ due ≡ shown_text s M
 
 abbrev reads_whole : (s : Showing) (old start : DeskState) (M : Meaning) (all written due : List ℕ) (now : DeskState) (had : List ℕ) → IsEndOfText s M all written due → HasCreated s old start all had now → ReadsShown s M None old now
-reads_whole s old start M all written due now had h desk = (created_read s old start all had now (IsWholeRead (Image s.gray) M) desk h.most h.whole, tt)
+reads_whole s old start M all written due now had h desk = record { read = created_read s old start all had now (IsWholeRead (Image s.gray) M) desk h.most h.whole; all = tt; is = refl }
 
 abbrev image_part : (s : Showing) (old start : DeskState) (M : Meaning) (all written due : List ℕ) (n : ℕ) (s0 s1 : DeskState) → IsEndOfText s M all written due → HasCreated s old start all written s0 → OnlyWrites s0 s1
     → AppendsLast s0.outputs (take n due) s1.outputs → Added (s.input ∷ []) s.output (take (length written + n) (shown_text s M)) old s1 × ReadsShown s M None old s1
@@ -138,19 +138,19 @@ image_ended s old start M all written out due (Ok u) new s0 s1 h early desk sent
     let same : gone ≡ out ++ due = sym (append-nil gone) ∙ ap (λ l. gone ++ l) (sym none) ∙ sym (sent.bytes).2 in
     let text : written ++ gone ≡ shown_text s M = ap (λ l. written ++ l) same ∙ h.same in
     let ended = created_more s old start all written gone s0 s1 desk sent.only (sent.bytes).1 in
-    (M, reads_whole s old start M all written (out ++ due) s1 (written ++ gone) h ended, subst (λ t. Added (s.input ∷ []) s.output t old s1) text (created_added s old start all (written ++ gone) s1 ended))
+    (M, (reads_whole s old start M all written (out ++ due) s1 (written ++ gone) h ended, subst (λ t. Added (s.input ∷ []) s.output t old s1) text (created_added s old start all (written ++ gone) s1 ended), tt))
 image_ended s old start M all written out due (Err stop.NoMemory) new s0 s1 h early desk sent none =
     let n = (sent.bytes).0 in
     let less = (sent.bytes).1 in
     let part = image_part s old start M all written (out ++ due) n s0 s1 h desk sent.only (sent.bytes).2 in
     let size : length written + length (out ++ due) ≡ length (shown_text s M) = sym (length-append written (out ++ due)) ∙ ap length h.same in
-    inr (inl (record { part = record { meaning = M; early = None; count = length written + n; read = part.1; wrote = part.0 }; left = omega (arith, less, size) }))
+    inr (inl (record { part = record { value = M; early = None; count = length written + n; read = part.1; wrote = part.0 }; left = omega (arith, less, size) }))
 image_ended s old start M all written out due (Err stop.WriteFault) new s0 s1 h early desk sent none =
     let n = (sent.bytes).0.0 in
     let part = image_part s old start M all written (out ++ due) n s0 s1 h desk sent.only (sent.bytes).0.1 in (
       rose_since s old start all written s0 s1 desk (sent.bytes).1,
       inl (record {
-        part = record { meaning = M; early = None; count = length written + n; read = part.1; wrote = part.0 };
+        part = record { value = M; early = None; count = length written + n; read = part.1; wrote = part.0 };
         early = λ front rest other cut many k.
             (let l = early front rest other cut many k in
             let size = ap length (first_part written (out ++ due) (shown_text s M) n h.same) in omega (arith, l, size, length-append written (take n (out ++ due))));

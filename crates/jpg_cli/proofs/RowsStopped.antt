@@ -13,7 +13,8 @@ use Rattle.jpg_color.specs.declared.decode.DecodeStop.{DecodeStop}
 use Rattle.jpg_color.specs.declared.decode.DecodeStop.TheVariants as stop
 use Rattle.jpg_cli.specs.Endings.{Added}
 use Rattle.jpg_cli.specs.Desk.ReadPicture.{IsShortRead, IsWholeRead}
-use Rattle.jpg_cli.specs.Tools.Showing.{IsInTime, IsToldText, RowsInPart, Showing, Shown, shown_text}
+use Rattle.jpg_cli.specs.Outcome.{WritesRowsInPart}
+use Rattle.jpg_cli.specs.Tools.Showing.{IsInTime, IsToldText, Showing, Shown, row_texts, showing_conversion, shown_text}
 use Rattle.jpg_cli.specs.Tools.ShowingRows.{HasCreated, why_of}
 use Rattle.jpg_cli.specs.declared.desk.picture.Wanted.TheVariants.{Image}
 use Rattle.jpg_cli.proofs.RowsDesk.{created_added, created_more, created_read}
@@ -34,7 +35,7 @@ pub first_part : (written due text : List ℕ) (n : ℕ) → written ++ due ≡ 
 first_part written due text n same = sym (take-append-add written due n) ∙ ap (take (length written + n)) same
 
 abbrev in_part : (s : Showing) (old start : DeskState) (all written due text : List ℕ) (n : ℕ) (s0 s1 : DeskState) → IsDueText s all written due text → HasCreated s old start all written s0 → OnlyWrites s0 s1 → AppendsLast s0.outputs (take n due) s1.outputs
-    → RowsInPart s old s1
+    → WritesRowsInPart Meaning (showing_conversion s) (row_texts s) old s1
 in_part s old start all written due text n s0 s1 h desk only gone =
     let new = created_more s old start all written (take n due) s0 s1 desk only gone in
     record {

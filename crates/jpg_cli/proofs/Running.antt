@@ -2,9 +2,7 @@
 use Rattle.std.proofs.Common.{◌≡◌, ◌⊎◌, ℕ, ◌<◌, Bool, true, false, List, [], ◌∷◌, take, Option, Err, Some, None, refl, sym, ap, ◌∙◌, subst, arith, zero, suc, inl, inr}
 use Rattle.std.specs.List.{All}
 use Rattle.jpg_base.specs.declared.names.Name.{Name}
-use Rattle.jpg_base.specs.declared.names.Put.TheVariants as put
-use Rattle.jpg_base.specs.Desk.{DeskState, NotesName}
-use Rattle.jpg_base.specs.Laws.{Grows}
+use Rattle.jpg_base.specs.Desk.{DeskState}
 use Rattle.jpg_spec_move.specs.Laws.{IsMovable}
 use Rattle.jpg_spec.specs.Meaning.{Meaning}
 use Rattle.jpg_spec_move.specs.Moved.{Choice, moved_text, picture_fault}
@@ -14,18 +12,16 @@ use Rattle.jpg_spec_write.specs.WrittenFile.{IsRestart}
 use Rattle.jpg_spec.specs.Segments.{standard_limits}
 use Rattle.jpg_spec_words.specs.declared.answers.Why.{Why}
 use Rattle.jpg_spec_words.specs.declared.answers.Why.TheVariants as why
-use Rattle.jpg_spec_words.specs.declared.answers.Which.TheVariants as which
-use Rattle.jpg_spec_write.specs.declared.picture_fault.PictureFault.{PictureFault}
 use Rattle.jpg_spec_move.proofs.MeaningLeft.{read_moved}
 use Rattle.jpg_spec_move.proofs.MovedText.{moved_means}
 use Rattle.jpg_spec.proofs.WrittenFront.{standard_are_limits}
 use Rattle.jpg_file.specs.Read.Keeping.{kept_for}
 use Rattle.jpg_cli.proofs.KeepingLaws.{fault_same, text_same}
 use Rattle.jpg_transform.proofs.MovedScript.{gray_none, script_none}
-use Rattle.jpg_cli.specs.Endings.{Added, Asks, GoesOnAfter}
+use Rattle.jpg_cli.specs.Endings.{GoesOnAfter}
 use Rattle.jpg_cli.specs.declared.desk.picture.Wanted.TheVariants.{Coefficients}
-use Rattle.jpg_cli.specs.Desk.ReadPicture.{IsAllRead, IsReadPicture, PictureRead, ReadsFrom, done_as}
-use Rattle.jpg_cli.specs.Stays.{Keeps, Untouched}
+use Rattle.jpg_cli.specs.Desk.ReadPicture.{IsReadPicture}
+use Rattle.jpg_cli.specs.Stays.{Untouched}
 use Rattle.jpg_cli.specs.Commands.{Command, IsCommand, name_of}
 use Rattle.jpg_cli.specs.Words.CommentWords.{file_told}
 use Rattle.jpg_cli.specs.Run.{RanShow, Worked}
@@ -36,16 +32,15 @@ use Rattle.jpg_spec_image.specs.declared.image.EndKind.{EndKind}
 use Rattle.jpg_cli.specs.declared.words.comments.WordsStop.TheVariants as words
 use Rattle.jpg_cli.specs.Desk.ScriptTaken.{HasScans, StopsAtScans, names_before}
 use Rattle.jpg_cli.specs.Words.TransformWords.{script_told, transform_told}
-use Rattle.jpg_cli.specs.Tools.Turned.{ReadsPicture, Transformed, Turned, TurnedWith, Turning}
+use Rattle.jpg_cli.specs.Outcome.{Converted}
+use Rattle.jpg_cli.specs.Tools.Turned.{Transformed, Turned, Turning, turning_conversion}
 use Rattle.jpg_cli.specs.declared.words.jpegtran.TransformWords.{TransformWords}
-use Rattle.jpg_cli.specs.Desk.Writing.{AfterMoved, AfterOutput, IsMeant, MeansMoved}
+use Rattle.jpg_cli.specs.Desk.Writing.{AfterMade, AfterMoved, AfterOutput, IsMeant, MeansMoved, as_early, why_wrote}
 use Rattle.jpg_cli.specs.declared.desk.moved.Wrote.{Wrote}
 use Rattle.jpg_cli.specs.declared.desk.moved.Wrote.TheVariants as wrote
 use Rattle.jpg_cli.proofs.CommentInserted.{none_noted}
-use Rattle.jpg_cli.proofs.Endings.{asks_next, asks_still}
 use Rattle.jpg_cli.proofs.InsertedThen.{same_name}
-use Rattle.jpg_cli.proofs.PictureTaken.{all_still, from_still}
-use Rattle.jpg_cli.proofs.ScriptTaken.{turned_after}
+use Rattle.jpg_cli.proofs.Outcome.{HasValueRead, after_names, converted_after, converted_made}
 
 -- WHAT IS READ is what the file means
 
@@ -85,93 +80,26 @@ wrote_for c N M output s0 s1 w shows none h means = by w (subst (λ (due : List 
     by wrote.OpenFault k = (fine, k)
     by wrote.WriteFault k = (fine, k)
 
--- NO PICTURE
+-- A PICTURE that was read, written
 
-abbrev turning_by : Name → Name → Choice → Turning
-turning_by input output c = record { before = []; input = input; output = output; choice = c }
-
-pub turned_unread : (input output : Name) (c : Choice) (s0 s1 : DeskState) (w : Why) → PictureRead Coefficients c.copying input s0 (Err w) s1 → Turned (turning_by input output c) s0 w s1
-turned_unread input output c s0 s1 why.Done h = absurd h
-turned_unread input output c s0 s1 (why.Warned n) h = absurd h
-turned_unread input output c s0 s1 (why.Usage u) h = absurd h
-turned_unread input output c s0 s1 (why.Refused f) h = h
-turned_unread input output c s0 s1 (why.Picture p) h = absurd h
-turned_unread input output c s0 s1 (why.OpenFault which.Input) h = h
-turned_unread input output c s0 s1 (why.OpenFault which.Script) h = absurd h
-turned_unread input output c s0 s1 (why.OpenFault which.Tables) h = absurd h
-turned_unread input output c s0 s1 (why.OpenFault which.Comment) h = absurd h
-turned_unread input output c s0 s1 (why.OpenFault which.Output) h = absurd h
-turned_unread input output c s0 s1 (why.ReadFault which.Input) h = h
-turned_unread input output c s0 s1 (why.ReadFault which.Script) h = absurd h
-turned_unread input output c s0 s1 (why.ReadFault which.Tables) h = absurd h
-turned_unread input output c s0 s1 (why.ReadFault which.Comment) h = absurd h
-turned_unread input output c s0 s1 (why.ReadFault which.Output) h = absurd h
-turned_unread input output c s0 s1 why.WriteFault h = absurd h
-turned_unread input output c s0 s1 why.NoMemory h = h
-
--- A PICTURE, written
-
--- a picture was read from the input, and its desk is used further
-pub record HasPictureRead (t : Turning) (M : Meaning) (early : Option ℕ) (s0 s1 s2 : DeskState) : Type 0 where
-  pub kept : Keeps s0 s1
-  pub asked : Asks (t.input ∷ []) put.Done s0 s1
-  pub read : ReadsFrom t.input (IsReadPicture Coefficients M early) s0 s1
-  pub all : IsAllRead early s1
-  pub left : s2.left ≡ s1.left
-
-read_on : (t : Turning) (M : Meaning) (early : Option ℕ) (s0 s1 s2 : DeskState) → HasPictureRead t M early s0 s1 s2 → ReadsFrom t.input (IsReadPicture Coefficients M early) s0 s2
-read_on t M early s0 s1 s2 h = from_still s0 s1 s2 t.input (IsReadPicture Coefficients M early) h.left h.read
-
-reads_on : (t : Turning) (M : Meaning) (early : Option ℕ) (s0 s1 s2 : DeskState) → HasPictureRead t M early s0 s1 s2 → picture_fault t.choice M ≡ None → ReadsPicture t M early s0 s2
-reads_on t M early s0 s1 s2 h none = record { read = read_on t M early s0 s1 s2 h; all = all_still early s1 s2 h.left h.all; admitted = none }
-
-wrote_text : (t : Turning) (M : Meaning) (early : Option ℕ) (s0 s1 s2 : DeskState) (text : List ℕ) → HasPictureRead t M early s0 s1 s2 → NotesName s1.asked (t.output, put.Done) s2.asked → Grows s1.outputs (t.output, text) s2.outputs → Added (t.input ∷ []) t.output text s0 s2
-wrote_text t M early s0 s1 s2 text h o grows = record {
-  asked = asks_next s0 s1 s2 (t.input ∷ []) t.output put.Done h.asked o;
-  outputs = (let P : Option (List (Name × List ℕ)) → Type 0 = λ a. Grows a (t.output, text) s2.outputs in subst P h.kept.outputs grows);
-}
-
-turned_with : (input output : Name) (c : Choice) (M : Meaning) (early : Option ℕ) (s0 s1 s2 : DeskState) → HasPictureRead (turning_by input output c) M early s0 s1 s2 → AfterMoved c M output s1 wrote.Done s2
-    → TurnedWith (turning_by input output c) M early s0 s2
-turned_with input output c M early s0 s1 s2 h (none, (asked, grows), means) =
-    let t = turning_by input output c in
-    (reads_on t M early s0 s1 s2 h none, wrote_text t M early s0 s1 s2 (moved_text c M) h asked grows, means (meant M early h.read.bytes h.read.is))
-
-pub turned_done : (input output : Name) (c : Choice) (M : Meaning) (early : Option ℕ) (s0 s1 s2 : DeskState) → HasPictureRead (turning_by input output c) M early s0 s1 s2 → AfterMoved c M output s1 wrote.Done s2
-    → Turned (turning_by input output c) s0 (done_as early) s2
-turned_done input output c M None s0 s1 s2 h k = (M, turned_with input output c M None s0 s1 s2 h k)
-turned_done input output c M (Some n) s0 s1 s2 h k = (M, turned_with input output c M (Some n) s0 s1 s2 h k)
-
-pub turned_fault : (input output : Name) (c : Choice) (M : Meaning) (early : Option ℕ) (fault : PictureFault) (s0 s1 s2 : DeskState) → HasPictureRead (turning_by input output c) M early s0 s1 s2 → AfterMoved c M output s1 (wrote.Picture fault) s2 → Turned (turning_by input output c) s0 (why.Picture fault) s2
-turned_fault input output c M early fault s0 s1 s2 h (is, same) =
-    let t = turning_by input output c in
-    (record { asked = asks_still s0 s1 s2 (input ∷ []) put.Done same.asked h.asked; outputs = same.outputs ∙ h.kept.outputs }, (M, early, read_on t M early s0 s1 s2 h, all_still early s1 s2 h.left h.all, is))
-
-pub turned_unopened : (input output : Name) (c : Choice) (M : Meaning) (early : Option ℕ) (s0 s1 s2 : DeskState) → HasPictureRead (turning_by input output c) M early s0 s1 s2 → AfterMoved c M output s1 wrote.OpenFault s2 → Turned (turning_by input output c) s0 (why.OpenFault which.Output) s2
-turned_unopened input output c M early s0 s1 s2 h (none, (asked, rose, same)) =
-    let t = turning_by input output c in (
-      record {
-        stopped = record { asked = asks_next s0 s1 s2 (input ∷ []) output put.Failed h.asked asked; outputs = same ∙ h.kept.outputs };
-        opens = (let f = h.kept.works.stays.counts.opens in omega (arith, rose, f));
-      },
-      (M, early, reads_on t M early s0 s1 s2 h none),
-    )
-
-pub turned_unwritten : (input output : Name) (c : Choice) (M : Meaning) (early : Option ℕ) (s0 s1 s2 : DeskState) → HasPictureRead (turning_by input output c) M early s0 s1 s2 → AfterMoved c M output s1 wrote.WriteFault s2 → Turned (turning_by input output c) s0 why.WriteFault s2
-turned_unwritten input output c M early s0 s1 s2 h (none, (asked, rose, (n, grows))) =
-    let t = turning_by input output c in (
-      (let f = h.kept.works.stays.counts.writes in omega (arith, rose, f)),
-      (M, early, n, reads_on t M early s0 s1 s2 h none, wrote_text t M early s0 s1 s2 (take n (moved_text c M)) h asked grows),
-    )
+pub turned_made : (t : Turning) (M : Meaning) (early : Option ℕ) (s0 s1 s2 : DeskState) (w : Wrote) → HasValueRead Meaning (turning_conversion t) M early s0 s1 s2 → AfterMoved t.choice M t.output s1 w s2
+    → Converted (after_names Meaning [] (turning_conversion t)) s0 (as_early early (why_wrote w)) s2
+turned_made t M early s0 s1 s2 w h k = converted_made Meaning (turning_conversion t) M early s0 s1 s2 h (why_wrote w) (by w k)
+  where
+    by : (v : Wrote) → AfterMoved t.choice M t.output s1 v s2 → AfterMade (picture_fault t.choice M) (moved_text t.choice M) (MeansMoved t.choice M) t.output s1 (why_wrote v) s2
+    by wrote.Done (none, out, means) = (none, out, means (meant M early (h.read).bytes (h.read).is))
+    by (wrote.Picture fault) r = r
+    by wrote.OpenFault r = r
+    by wrote.WriteFault r = r
 
 -- AS THE WORDS ASK FOR IT
 
 pub transformed_in : (w : TransformWords) (scans : Scans) (choice : Choice) (s0 s1 s2 : DeskState) (ended : Why) → choice ≡ choice_asked (transform_told w) scans → GoesOnAfter (names_before (script_told w.script)) s0 s1 → HasScans (script_told w.script) s0 scans
-    → Turned (turning_by w.files.input w.files.output choice) s1 ended s2 → Transformed (transform_told w) s0 ended s2
+    → Turned (record { before = []; input = w.files.input; output = w.files.output; choice = choice }) s1 ended s2 → Transformed (transform_told w) s0 ended s2
 transformed_in w scans choice s0 s1 s2 ended same behind has turned =
     let of : Name → Name → Choice → Turning = λ i o c. record { before = names_before (script_told w.script); input = i; output = o; choice = c } in
     let asked = choice_asked (transform_told w) scans in
-    let there = turned_after (names_before (script_told w.script)) w.files.input w.files.output choice s0 s1 s2 ended behind turned in
+    let there = converted_after Meaning (turning_conversion (of w.files.input w.files.output choice)) (names_before (script_told w.script)) s0 s1 s2 behind ended turned in
     inr (inl (
       scans,
       has,

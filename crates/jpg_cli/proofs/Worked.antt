@@ -40,7 +40,9 @@ use Rattle.jpg_spec_words.specs.declared.answers.Which.TheVariants as which
 use Rattle.jpg_spec_words.proofs.WorkedBack.{picture_back}
 use Rattle.jpg_cli.specs.Certain.{IsTold}
 use Rattle.jpg_cli.specs.Desk.ImageWritten.{AfterEncoding}
-use Rattle.jpg_cli.specs.Desk.ReadPicture.{IsReadPicture, ReadsFrom}
+use Rattle.jpg_cli.specs.Desk.Judging.{ReadsFrom}
+use Rattle.jpg_cli.specs.Desk.Reading.{rest_of}
+use Rattle.jpg_cli.specs.Desk.ReadPicture.{IsReadPicture}
 use Rattle.jpg_cli.specs.Endings.{Added}
 use Rattle.jpg_cli.specs.Stays.{Untouched}
 use Rattle.jpg_cli.specs.Tools.Showing.{Showing, Shown, ShownBy, showing_told}
@@ -49,8 +51,8 @@ use Rattle.jpg_cli.specs.Tools.Worked.{DidWork, HasFile, HasOutput, HoldsInput, 
 use Rattle.jpg_cli.specs.declared.desk.picture.Wanted.{Wanted}
 use Rattle.jpg_cli.specs.declared.desk.picture.Wanted.TheVariants.{Coefficients, Image}
 use Rattle.jpg_cli.specs.declared.words.djpeg.ShowWords.{ShowWords}
-use Rattle.jpg_cli.proofs.Certain.{one_file}
-use Rattle.jpg_cli.proofs.Ending.{whole_file}
+use Rattle.jpg_cli.proofs.Due.{one_file}
+use Rattle.jpg_cli.proofs.Judged.{picture_judged}
 use Rattle.jpg_cli.proofs.Input.{some_inj}
 
 -- THE ONLY OUTPUT of a desk without outputs
@@ -89,9 +91,13 @@ holds_input input desk now nothing e =
 
 read_once : (w : Wanted) (input : List ℕ) (s0 s1 : DeskState) (M N : Meaning) → IsTold s0.files name.In input → Means standard_limits input M → ReadsFrom name.In (IsReadPicture w N None) s0 s1 → M ≡ N
 read_once w input s0 s1 M N told means read =
-    let file = whole_file w name.In s0 s1 N read in
-    let same : file.0 ≡ input = one_file s0.files name.In input file.0 told file.1 in
-    meaning_once standard_limits input M N (inl means) (inl (subst (λ (b : List ℕ). Means standard_limits b N) same file.2))
+    let bytes = read.bytes ++ rest_of s1.left in
+    let same : bytes ≡ input = one_file s0.files name.In input bytes told read.read in
+    let meant = (picture_judged w).read N None read.bytes s1 read.is tt in
+    meaning_once standard_limits input M N (inl means) (inl (subst (λ (b : List ℕ). Means standard_limits b N) same meant.0))
+
+not_wanting : (why.Done ≡ why.NoMemory) → ⊥
+not_wanting e = cc
 
 -- THE FIRST FILE
 
@@ -100,10 +106,14 @@ encoding_by factors I = encoding_asked (record first_asked { factors = factors }
 
 pub first_done : (n : ℕ) (factors : List (ℕ × ℕ)) (I : Picture) (desk now : MemoryDesk) → factors ≡ [] → I ≡ work_image n → (memory_state desk).outputs ≡ Some []
     → AfterEncoding (encoding_by factors I) I name.Out (memory_state desk) why.Done (memory_state now) → HasFile (first_picture n) (first_text n) now
-first_done n factors I desk now own same none h =
-    let P : List (ℕ × ℕ) → Picture → Type 0 = λ f J. AfterEncoding (encoding_by f J) J name.Out (memory_state desk) why.Done (memory_state now) in
-    let k : P [] (work_image n) = subst (λ f. P f (work_image n)) own (subst (λ J. P factors J) same h) in
-    record { output = grown (memory_state desk).outputs (memory_outputs now) (first_text n) none k.1.1; means = k.2 }
+first_done n factors I desk now own same none h = by (subst (λ f. P f (work_image n)) own (subst (λ J. P factors J) same h))
+  where
+    P : List (ℕ × ℕ) → Picture → Type 0
+    P f J = AfterEncoding (encoding_by f J) J name.Out (memory_state desk) why.Done (memory_state now)
+
+    by : AfterEncoding (encoding_by [] (work_image n)) (work_image n) name.Out (memory_state desk) why.Done (memory_state now) → HasFile (first_picture n) (first_text n) now
+    by (inl k) = record { output = grown (memory_state desk).outputs (memory_outputs now) (first_text n) none k.1.1; means = k.2 }
+    by (inr k) = absurd (not_wanting k.0)
 
 -- A FILE TRANSFORMED
 
@@ -112,9 +122,6 @@ asked_by t progressive = transform_of (record nothing_said { transform = t; prog
 
 abbrev turning_by : Choice → Turning
 turning_by c = record { before = []; input = name.In; output = name.Out; choice = c }
-
-not_wanting : (why.Done ≡ why.NoMemory) → ⊥
-not_wanting e = cc
 
 by_choice : (c : Choice) (input : List ℕ) (desk now : MemoryDesk) (M : Meaning) → HoldsInput input desk → Means standard_limits input M → Turned (turning_by c) (memory_state desk) why.Done (memory_state now) → HasFile (moved c M) (moved_text c M) now
 by_choice c input desk now M holds means (N, (reads, wrote, so)) =
@@ -164,9 +171,9 @@ shown_done false w input desk now is holds shown M means = absurd (not_usage _ s
 shown_done true w input desk now is holds shown M means =
     let done : Shown showing (memory_state desk) why.Done (memory_state now) = subst (λ (s : Showing). Shown s (memory_state desk) why.Done (memory_state now)) is shown in
     let N : Meaning = done.0 in
-    let same : M ≡ N = read_once (Image false) input (memory_state desk) (memory_state now) M N holds.told means done.1.0 in
+    let same : M ≡ N = read_once (Image false) input (memory_state desk) (memory_state now) M N holds.told means done.1.0.read in
     let here : HasOutput (end_text Pnm (info N false) (pixels N false true)) now =
-    grown (memory_state desk).outputs (memory_outputs now) (end_text Pnm (info N false) (pixels N false true)) holds.outputs done.2.outputs in
+    grown (memory_state desk).outputs (memory_outputs now) (end_text Pnm (info N false) (pixels N false true)) holds.outputs done.1.1.outputs in
     (refl, subst (λ (K : Meaning). HasOutput (end_text Pnm (info K false) (pixels K false true)) now) (sym same) here)
 
 pub shown_wrong : (has : Bool) (w : ShowWords) (u : Usage) (input : List ℕ) (s0 s1 : DeskState) → w.kind_word ≡ 2 → ShownBy has w s0 (why.Usage u) s1 → ShowsFile has input (Err (why.Usage u))

@@ -1,9 +1,11 @@
 pub mod CommentTaken
 pub mod FileTaken
 pub mod ImageWritten
+pub mod Judging
 pub mod ReadImage
 pub mod ReadPicture
 pub mod Reading
 pub mod ScriptTaken
 pub mod TablesTaken
+pub mod TextTaken
 pub mod Writing

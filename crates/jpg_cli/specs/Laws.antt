@@ -13,7 +13,7 @@ use Rattle.jpg_spec.specs.declared.fault.FaultAt.{FaultAt}
 use Rattle.jpg_spec_words.specs.declared.answers.Why.{Why}
 use Rattle.jpg_spec_words.specs.declared.answers.Why.TheVariants as why
 use Rattle.jpg_cli.specs.Certain.{IsOrNoMemory, IsTold}
-use Rattle.jpg_cli.specs.Run.{NoneRose}
+use Rattle.jpg_cli.specs.Due.{NoneRose}
 use Rattle.jpg_cli.specs.Tools.Showing.{Showing, Shown}
 use Rattle.jpg_cli.specs.Tools.Turned.{Turned, TurnedWith, Turning}
 

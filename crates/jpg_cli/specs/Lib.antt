@@ -1,9 +1,11 @@
 pub mod Certain
 pub mod Commands
 pub mod Desk
+pub mod Due
 pub mod Endings
 pub mod KeepingLaws
 pub mod Laws
+pub mod Outcome
 pub mod Run
 pub mod Stays
 pub mod Tools

@@ -1,5 +1,4 @@
 pub mod CommentInserted
-pub mod EncodeDue
 pub mod Ends
 pub mod ImageEncoded
 pub mod InsertComment

@@ -85,16 +85,6 @@ rows_of_picture p gray smooth r first =
           ∙ ap (λ c. if shows_gray c gray then p.frame.width else 3 * p.frame.width) (sym p.keeps.colour) ∙ sym (ap row_length first.display);
     }
 
-pub end_fits : (i : ImageInfo) (e e1 : EndState) (r : RowsLeft) → AreRowsOf i r → e ≡ new_end e.kind → e1 ≡ started e i → IsEndFor e1 r
-end_fits i e e1 r rows new now =
-    let at : e1 ≡ end_at e.kind i [] = now ∙ started_end e i new in
-    let said : info_of e1 ≡ i = ap info_of at in
-    let kinds : e1.kind ≡ e.kind = ap (λ (x : EndState). x.kind) at in
-    record {
-      started = at ∙ ap (λ k. end_at k i []) (sym kinds) ∙ ap (λ j. end_at e1.kind j []) (sym said);
-      rows = subst (λ (j : ImageInfo). AreRowsOf j r) (sym said) rows;
-    }
-
 -- THE TEXT
 
 same_row : (p : Picture) (gray smooth : Bool) (y : ℕ) → row_of_blocks (display_in p gray smooth) (shown_blocks (display_in p gray smooth) p.coefs) y ≡ pixel_row (picture_meaning p) gray smooth y

@@ -47,9 +47,6 @@ few_by : (b : Bool) (n : ℕ) → n ≡ cond b 1 3 → n ≤ 4
 few_by true n e = omega (arith, e)
 few_by false n e = omega (arith, e)
 
-pub few_asked : (i : Read) (a : Asked) → CanEncode i a → length a.factors.items ≤ 4
-few_asked i a can = few_by _ (length a.factors.items) can.pairs
-
 -- THE NUMBERS
 
 pub components_are : (i : Read) (a : Asked) → CanEncode i a → components_asked a ≡ (encoded_frame i a).components
@@ -75,19 +72,11 @@ all_made P f zero each = All-nil P
 all_made P f (suc n) each =
     subst (All P) (sym (map-append f (below n) (n ∷ []))) (All-append P (map f (below n)) (f n ∷ []) (all_made P f n (λ k h. each k (omega (arith, h)))) (All-cons P (f n) [] (each n (omega arith)) (All-nil P)))
 
-pub factors_are : (a : Asked) → All AreFactors a.factors.items → All HasFactors (components_asked a)
-factors_are a all =
-    all_made HasFactors (component_asked a) (length a.factors.items)
-    (λ k h. (let f = All-get_or AreFactors a.factors.items k (1, 1) h all in record { h_low = f.h_low; h_high = f.h_high; v_low = f.v_low; v_high = f.v_high }))
-
 -- THE FAULT
 
 found_due : (i : Read) (a : Asked) (cs : List Component) → CanEncode i a → cs ≡ components_asked a
     → find (fraction_at cs) (below (length cs)) ≡ find (has_fraction (encoded_parts i a)) (below (length (encoded_parts i a).components))
 found_due i a cs can e = ap (λ ds. find (fraction_at ds) (below (length ds))) (e ∙ components_are i a can) ∙ fractions_same (encoded_parts i a)
-
-pub fraction_due : (i : Read) (a : Asked) (cs : List Component) (k : ℕ) → CanEncode i a → cs ≡ components_asked a → find (fraction_at cs) (below (length cs)) ≡ Some k → fault_due i a ≡ Some (FractionalFactors k)
-fraction_due i a cs k can e found = fault_of_fraction (encoded_parts i a) k (sym (found_due i a cs can e) ∙ found)
 
 pub none_due : (i : Read) (a : Asked) (cs : List Component) → CanEncode i a → cs ≡ components_asked a → find (fraction_at cs) (below (length cs)) ≡ None → padded_blocks (encoded_frame i a) ≤ 8388608 → fault_due i a ≡ None
 none_due i a cs can e none few = fault_of_grids (encoded_parts i a) (sym (found_due i a cs can e) ∙ none) ∙ few_grids (encoded_parts i a) few

@@ -33,6 +33,3 @@ first_below p (suc n) i none e h =
     (λ (ge : n ≤ i).
     (let is : i ≡ n = omega (arith, h, ge) in
     find_after p (below n) n (none_below p n (λ k lt. none k (omega (arith, lt, ge)))) ∙ ap (λ b. cond b (Some n) None) (ap p (sym is) ∙ e) ∙ ap (λ k. Some k) (sym is))) (cases_lt i n)
-
-pub map_next : {X : Type 0} (f : ℕ → X) (n : ℕ) → map f (below (n + 1)) ≡ map f (below n) ++ f n ∷ []
-map_next f n = (let one : n + 1 ≡ suc n = omega arith in ap (λ m. map f (below m)) one ∙ map-append f (below n) (n ∷ []))

@@ -172,19 +172,6 @@ given_stands s blocks h lt =
     later : (a b : ℕ) → a ≤ b → a ≤ b + 1
     later a b l = omega (arith, l)
 
--- each row that is passed is one of the image
-pub given_low : (s : ShownState) (blocks : Blocks) → IsShowable s.display → StandsForPicture s blocks → s.given < rows_made_ready s.display s.pushed → s.given < s.display.frame.height
-given_low s blocks shown h lt = below_most s.given (rows_made_ready s.display s.pushed) s.display.frame.height lt (ready_high s.display s.pushed shown h.some)
-  where
-    below_most : (a b c : ℕ) → a < b → b ≤ c → a < c
-    below_most a b c l m = omega (arith, l, m)
-
-pub given_high : (s : ShownState) (blocks : Blocks) → IsShowable s.display → StandsForPicture s blocks → s.given ≤ s.display.frame.height
-given_high s blocks shown h = within_most s.given (rows_made_ready s.display s.pushed) s.display.frame.height h.early (ready_high s.display s.pushed shown h.some)
-  where
-    within_most : (a b c : ℕ) → a ≤ b → b ≤ c → a ≤ c
-    within_most a b c l m = omega (arith, l, m)
-
 pub fresh_stands : (d : Display) (blocks : Blocks) (held : ℕ → List (List ℕ)) → IsShowable d → ((i : ℕ) → i < parts d → held i ≡ [])
     → IsHeld (picture_of d blocks) (parts d) d.smooth (all_rows d) 0 0 held
 fresh_stands d blocks held s none =

@@ -34,12 +34,6 @@ missing s0 s s1 q0 q h a unfinished =
     in
     subst IsNextRowDue (sym same) (record { given = a.0; missing = few })
 
-pub frame_same : (s0 s s1 : ShownState) (q0 q : Coefs) → IsLooking s0 q0 s q → Advances s false s1 → q.frame ≡ s1.display.frame
-frame_same s0 s s1 q0 q h a = subst (λ (x : ShownState). q.frame ≡ x.display.frame) (sym a.1) h.rows.frame
-
-pub range_same : (s0 s s1 : ShownState) (q0 q : Coefs) → IsLooking s0 q0 s q → Advances s false s1 → AreInRange (bounds s1.display.frame) (map_of q)
-range_same s0 s s1 q0 q h a = subst (λ (x : ShownState). AreInRange (bounds x.display.frame) (map_of q)) (sym a.1) h.rows.range
-
 -- what an MCU row of the complete picture adds
 real_same : (d : Display) (q : Coefs) (i x y : ℕ) → IsShowable d → i < parts d → x < blocks_across d.frame (component_at d.frame i) → y < blocks_down d.frame (component_at d.frame i)
     → map_of q i x y ≡ shown_blocks d q i x y
@@ -65,21 +59,6 @@ goes_looking s0 s s1 s2 q0 q h a p =
       given = p.given ∙ ap (λ (x : ShownState). x.given) a.1 ∙ h.given;
       coefs = h.coefs;
       rows = rows_pushed s1 s2 q (subst IsShowable (sym (ap (λ (x : ShownState). x.display) a.1 ∙ h.display)) h.shown) rows p;
-    }
-
-pub fewer_missing : (s s1 s2 : ShownState) (q : Coefs) → Advances s false s1 → IsNextRowDue s1 → IsPushed s1 (at_due s1) q s2 → all_rows s2.display - s2.pushed < all_rows s.display - s.pushed
-fewer_missing s s1 s2 q a due p =
-    let d : all_rows s2.display ≡ all_rows s1.display = ap all_rows p.display in
-    let e : all_rows s1.display ≡ all_rows s.display = ap (λ (x : ShownState). all_rows x.display) a.1 in
-    let n : s1.pushed ≡ s.pushed = ap (λ (x : ShownState). x.pushed) a.1 in
-    omega (arith, d, e, n, p.pushed, due.missing)
-
-pub rows_given : (s s1 : ShownState) (q : Coefs) → ArePictureRows s q → IsGiven s s1.last s1 → ArePictureRows s1 q
-rows_given s s1 q h g =
-    record {
-      frame = subst (λ (d : Display). q.frame ≡ d.frame) (sym g.display) h.frame;
-      range = subst (λ (d : Display). AreInRange (bounds d.frame) (map_of q)) (sym g.display) h.range;
-      stands = subst (λ (d : Display). StandsForPicture s1 (shown_blocks d q)) (sym g.display) (g.stands (shown_blocks s.display q) h.stands);
     }
 
 pub goes_on : (s0 s s1 : ShownState) (q0 q : Coefs) → IsLooking s0 q0 s q → IsGiven s s1.last s1 → RowGoesOn (record { strips = s0; coefs = q0 }) (record { strips = s1; coefs = q })

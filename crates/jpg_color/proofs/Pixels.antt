@@ -9,9 +9,6 @@ three_items (a ∷ []) e = absurd (omega (arith, e))
 three_items (a ∷ b ∷ []) e = absurd (omega (arith, e))
 three_items (a ∷ b ∷ c ∷ d ∷ xs) e = absurd (omega (arith, e))
 
-pub put_length : (out : List ℕ) (i j k a b c : ℕ) → length (set (set (set out i a) j b) k c) ≡ length out
-put_length out i j k a b c = length-set (set (set out i a) j b) k c ∙ length-set (set out i a) j b ∙ length-set out i a
-
 pub put_three : (out pixel : List ℕ) (n : ℕ) → n + 2 < length out → length pixel ≡ 3
     → take (n + 3) (set (set (set out n (get_or pixel 0 0)) (n + 1) (get_or pixel 1 0)) (n + 2) (get_or pixel 2 0)) ≡ take n out ++ pixel
 put_three out pixel n lt long =

@@ -48,15 +48,3 @@ pub told_admitted : (colour : Colour) (gray alone : Bool) (f : Frame) (out bad :
 told_admitted colour gray alone f out bad o a e b is =
     ap (λ (x : Option Fault). kind_or x (kind_of colour gray)) is
     ∙ admitted_is colour gray f out bad e (b ∙ ap (λ (x : Bool). any_of (is_fractional (h_max f) (v_max f)) (needed_factors x (factors_of f))) a)
-
--- the answer if there is no fault
-pub no_fault_told : (o : Option Fault) (shown other : ImageKind) → kind_or o shown ≡ Ok other → (o ≡ None) × (other ≡ shown)
-no_fault_told None shown other e = (refl, ok_once shown other e)
-  where
-    ok_once : (x y : ImageKind) → (let r : Result ImageKind Fault = Ok x in r) ≡ Ok y → y ≡ x
-    ok_once x y e = cc
-no_fault_told (Some fault) shown other e = cc
-
-pub admitted_showable : (colour : Colour) (gray : Bool) (factors : List (ℕ × ℕ)) (shown : ImageKind) → admitted_kind colour gray factors ≡ Ok shown
-    → (out_fault_of colour gray factors ≡ None) × (shown ≡ kind_of colour gray)
-admitted_showable colour gray factors shown e = no_fault_told (out_fault_of colour gray factors) (kind_of colour gray) shown e

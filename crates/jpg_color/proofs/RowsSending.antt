@@ -186,11 +186,3 @@ ready_stopped s0 s1 s2 e0 e e2 out0 out new r0 r r1 f h g k =
 
     within : (g g1 n end : ℕ) → g < n → g1 ≡ g + 1 → n ≡ end → g1 ≤ end
     within g g1 n end l e f = omega (arith, l, e, f)
-
-pub fewer_ready : (r r1 : ShownState) → IsGiven r r1.last r1 → rows_made_ready r1.display r1.pushed - r1.given < rows_made_ready r.display r.pushed - r.given
-fewer_ready r r1 g =
-    let same : rows_made_ready r1.display r1.pushed ≡ rows_made_ready r.display r.pushed = ap (λ (d : Display). rows_made_ready d r1.pushed) g.display ∙ ap (λ n. rows_made_ready r.display n) g.pushed in
-    less r.given r1.given (rows_made_ready r.display r.pushed) (rows_made_ready r1.display r1.pushed) g.early g.given same
-  where
-    less : (g g1 n n1 : ℕ) → g < n → g1 ≡ g + 1 → n1 ≡ n → n1 - g1 < n - g
-    less g g1 n n1 l e f = omega (arith, l, e, f)

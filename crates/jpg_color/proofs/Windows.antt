@@ -117,9 +117,6 @@ count_fits d i m s h lt =
       row = row_blocks (told_rows d i m) (rows_in d i) (component_at d.frame i).v (mcus_down (mcu_row_frame d.frame)) c.few (rows_in_few d i s h) (one_mcu_row (length d.frame.components == 1) (v_max d.frame) pos);
     }
 
-pub row_frame_across : (f : Frame) (c : Component) → blocks_across (mcu_row_frame f) c ≡ blocks_across f c
-row_frame_across f c = refl
-
 pub across_padded : (d : Display) (i : ℕ) → IsShowable d → i < parts d → div_up (samples_across (picture_of d no_blocks) i) 8 ≤ padded_across d.frame (component_at d.frame i)
 across_padded d i s h =
     let there = in_frame d i s h in
@@ -134,36 +131,6 @@ side_of side factor most ratio r e some f pos =
     let b : side * factor ≤ side * most = mul-le side factor side most (omega arith) (omega (arith, a, e)) in
     let c : 1 * 1 ≤ side * factor = mul-le 1 1 side factor some f in
     ((le-div_iff_mul-le pos).1 (omega (arith, c, pos)), up_least (side * factor) most side pos b)
-
-pub across_fits : (d : Display) (i : ℕ) → IsShowable d → i < parts d
-    → (1 ≤ samples_across (picture_of d no_blocks) i) × (samples_across (picture_of d no_blocks) i ≤ d.frame.width)
-across_fits d i s h =
-    let there = in_frame d i s h in
-    let c = factors_at d i s there in
-    let r = whole_ratios d no_blocks i s h in
-    let pos = across_low d.frame.components s.frame.factors s.frame.count_low in
-    subst (λ n. (1 ≤ n) × (n ≤ d.frame.width)) (sym (samples_across_is d no_blocks i there))
-    (side_of d.frame.width (component_at d.frame i).h (h_max d.frame) (stretch_of (picture_of d no_blocks) d.smooth i).across r.across_low r.across s.frame.width_low c.h_low pos)
-
-pub down_fits : (d : Display) (i : ℕ) → IsShowable d → i < parts d
-    → (1 ≤ samples_down (picture_of d no_blocks) i) × (samples_down (picture_of d no_blocks) i ≤ d.frame.height)
-down_fits d i s h =
-    let there = in_frame d i s h in
-    let c = factors_at d i s there in
-    let r = whole_ratios d no_blocks i s h in
-    let pos = down_low d.frame.components s.frame.factors s.frame.count_low in
-    subst (λ n. (1 ≤ n) × (n ≤ d.frame.height)) (sym (samples_down_is d no_blocks i there))
-    (side_of d.frame.height (component_at d.frame i).v (v_max d.frame) (stretch_of (picture_of d no_blocks) d.smooth i).down r.down_low r.down s.frame.height_low c.v_low pos)
-
-pub rows_in_most : (d : Display) (i : ℕ) → IsShowable d → i < parts d → rows_in d i ≤ 4
-rows_in_most d i s h =
-    let there = in_frame d i s h in
-    let c = factors_at d i s there in
-    let f = rows_in_few d i s h in
-    four (rows_in d i) (component_at d.frame i).v f c.v_high
-  where
-    four : (a b : ℕ) → a ≤ b → b ≤ 4 → a ≤ 4
-    four a b l m = omega (arith, l, m)
 
 pub rows_there : (d : Display) (i m : ℕ) (q : Picture) → IsShowable d → i < parts d → m < all_rows d → q.frame ≡ d.frame → AreInRange (bounds d.frame) (map_of q)
     → HasRows q i (m * rows_in d i) (samples_across (picture_of d no_blocks) i) (told_rows d i m)
@@ -282,16 +249,3 @@ ready_more d m s lt = more_by d m s lt (cases_lt (m + 1) (all_rows d))
 whole_by : (d : Display) (m : ℕ) → IsShowable d → m ≤ all_rows d → (m < all_rows d) ⊎ (all_rows d ≤ m) → d.frame.height ≤ rows_made_ready d m → m ≡ all_rows d
 whole_by d m s le (inl lt) tall = let h = ready_missing d m s lt in absurd (omega (arith, h, tall))
 whole_by d m s le (inr ge) tall = omega (arith, le, ge)
-
-pub ready_whole : (d : Display) (m : ℕ) → IsShowable d → m ≤ all_rows d → d.frame.height ≤ rows_made_ready d m → m ≡ all_rows d
-ready_whole d m s le tall = whole_by d m s le (cases_lt m (all_rows d)) tall
-
-part_by : (d : Display) (m : ℕ) → m ≤ all_rows d → (m < all_rows d) ⊎ (all_rows d ≤ m) → rows_made_ready d m < d.frame.height → m < all_rows d
-part_by d m le (inl lt) short = lt
-part_by d m le (inr ge) short =
-    let e : m ≡ all_rows d = omega (arith, le, ge) in
-    let h : rows_made_ready d m ≡ d.frame.height = ap (rows_made_ready d) e ∙ ready_end d in
-    absurd (omega (arith, h, short))
-
-pub ready_part : (d : Display) (m : ℕ) → m ≤ all_rows d → rows_made_ready d m < d.frame.height → m < all_rows d
-ready_part d m le short = part_by d m le (cases_lt m (all_rows d)) short

@@ -10,10 +10,10 @@ use Rattle.jpg_base.specs.declared.stop.Stop.{Stop}
 use Rattle.jpg_base.specs.declared.stop.Stop.TheVariants as stop
 use Rattle.jpg_markers.specs.declared.segments.Phase.TheVariants as phase
 use Rattle.jpg_markers.specs.declared.segments.SegStep.TheVariants as step
-use Rattle.jpg_markers.specs.Reading.{Reading, AtPhase, StandsForSegments, RevealsAfter, EndsAtEoi, Comes}
+use Rattle.jpg_markers.specs.Reading.{Reading, AtPhase, StandsForSegments, RevealsAfter, Comes, PassesSome}
 use Rattle.jpg_comments.specs.SegmentsSoFar.{IsBegun, Appends}
-use Rattle.jpg_comments.specs.Printing.{HoldsWhole, HasPrinted, PrintsWhole, PrintsSegment, due_text, AfterPrintedByte}
-use Rattle.jpg_comments.proofs.Taken.{Tells, nothing_first, taken_on, shows_first, begun, whole_front}
+use Rattle.jpg_comments.specs.Printing.{HoldsWhole, HasPrinted, PrintsSegment, due_text, AfterPrintedByte}
+use Rattle.jpg_comments.proofs.Taken.{Tells, nothing_first, taken_on, taken_some, shows_first, begun, whole_front}
 
 -- WHERE A FILE IS COMPLETE: at EOI, and at the end of a scan header
 
@@ -41,6 +41,12 @@ printed_start limits r stands same none = (
   refl,
 )
 
+-- SOME BYTES that complete nothing
+pub printed_some : (limits : Limits) (r next : Reading) (bytes text piece : List ℕ) (n : ℕ) → HasPrinted limits bytes text r → next.taken < limits.input → next.limits ≡ r.limits → next.taken ≡ r.taken + n → PassesSome r piece (Ok n) next
+    → HasPrinted limits (bytes ++ take n piece) text next
+printed_some limits r next bytes text piece n h room same some passes =
+    (h.0, taken_some limits (HoldsWhole limits) (reading_tells limits) r next bytes piece n h.0 refl h.1 (omega (arith, room, some)) same some passes, h.2, h.3)
+
 -- A BYTE
 
 -- nothing is complete with it
@@ -50,14 +56,6 @@ printed_on limits r next bytes text byte x h short same one going reaches stands
     (h.0, taken_on limits (HoldsWhole limits) (reading_tells limits) r next bytes byte h.0 h.0 x h.1 short same one going reaches stands, h.2, h.3)
 
 -- EOI
-pub printed_eoi : (limits : Limits) (r next : Reading) (bytes text : List ℕ) (byte : ℕ) (h : HasPrinted limits bytes text r) → r.taken < limits.input → next.limits ≡ r.limits
-    → EndsAtEoi (kept_rule next.limits) h.0 (bytes ++ byte ∷ []) → PrintsWhole limits (bytes ++ byte ∷ []) text
-printed_eoi limits r next bytes text byte h short same ends =
-    let e : next.limits ≡ limits = same ∙ h.1.limited in
-    let k = subst (λ l. EndsAtEoi (kept_rule l) h.0 (bytes ++ byte ∷ [])) e ends in
-    let was = h.1.taken in
-    (h.0, inr (k.0, k.1, k.2, k.3, h.2), h.3, omega (arith, was, short, length-append bytes (byte ∷ [])))
-
 -- a fault, or no memory
 pub printed_stop : (limits : Limits) (r next : Reading) (bytes text : List ℕ) (byte : ℕ) (e : Stop) (h : HasPrinted limits bytes text r) → r.taken < limits.input → next.limits ≡ r.limits → next.taken ≡ r.taken + 1
     → Comes (bytes ++ byte ∷ []) h.0 (Err e) next → AfterPrintedByte limits (bytes ++ byte ∷ []) text (Err e) next

@@ -1,6 +1,7 @@
 -- The text of the comments, piece by piece.
-use Rattle.std.proofs.Common.{◌≡◌, ℕ, ◌+◌, ◌<◌, ◌≤◌, true, List, [], ◌∷◌, ◌++◌, length, take, drop, min, get_or, Ok, Err, sym, ap, ◌∙◌, subst, arith, inr, Result}
-use Rattle.std.proofs.lemmas.List.{append_assoc, take_all, take_min, take_more, take-append-drop, take-append-le}
+use Rattle.std.proofs.Common.{◌≡◌, ℕ, ◌+◌, ◌-◌, ◌<◌, ◌≤◌, true, List, [], ◌∷◌, ◌++◌, length, take, drop, min, get_or, Ok, Err, sym, ap, ◌∙◌, subst, arith, inr, Result}
+use Rattle.std.proofs.lemmas.List.{append_assoc, length-drop, length-take-le, take_all, take_min, take_more, take-append-drop, take-append-le}
+use Rattle.std.proofs.Math.Seq.{take-append-add}
 use Rattle.jpg_spec.specs.Markers.{kept_rule}
 use Rattle.jpg_spec_write.specs.CommentText.{IsReadFault}
 use Rattle.jpg_spec.specs.declared.frame.Limits.{Limits}
@@ -9,11 +10,12 @@ use Rattle.jpg_base.specs.declared.stop.Fed.{Fed}
 use Rattle.jpg_base.specs.declared.stop.Fed.TheVariants as fed
 use Rattle.jpg_base.specs.declared.stop.Stop.{Stop}
 use Rattle.jpg_base.specs.declared.stop.Stop.TheVariants as stop
-use Rattle.jpg_markers.specs.Reading.{Reading, reading_of}
+use Rattle.jpg_markers.specs.Reading.{PassesSome, Reading, reading_of}
 use Rattle.jpg_comments.specs.SegmentsSoFar.{IsBegun, AreWholeBefore, Appends}
 use Rattle.jpg_comments.specs.Printing.{HoldsWhole, HasPrinted, PrintsWhole, PrintsBefore, PrintsPart, AfterPrintedByte, AfterPrintedPiece}
 use Rattle.jpg_comments.specs.ReadComments.{HasRead, AfterFeed}
 use Rattle.jpg_comments.specs.declared.comments.Comments.{Comments}
+use Rattle.jpg_comments.proofs.ByByte.{printed_some}
 use Rattle.jpg_comments.proofs.Taken.{whole_front, first_fault, long_fault, begun}
 
 -- A PIECE, and a prefix of it
@@ -34,6 +36,27 @@ front_longer n all rest = take-append-le (min n (length all)) all rest (omega ar
 -- what follows a piece follows the rest of it
 pub followed : (bytes front rest more : List ℕ) → bytes ≡ front ++ rest → bytes ++ more ≡ front ++ (rest ++ more)
 followed bytes front rest more e = ap (λ l. l ++ more) e ∙ append_assoc front rest more
+
+-- SOME BYTES of the rest of a piece
+take_both : (n m : ℕ) (xs : List ℕ) → n ≤ length xs → take (n + m) xs ≡ take n xs ++ take m (drop n xs)
+take_both n m xs h =
+    let size = length-take-le n xs h in
+    ap (λ (l : List ℕ). take (n + m) l) (sym (take-append-drop n xs)) ∙ ap (λ (k : ℕ). take (k + m) (take n xs ++ drop n xs)) (sym size) ∙ take-append-add (take n xs) (drop n xs) m
+
+rest_of : (used : ℕ) (piece : List ℕ) → take (length piece - used) (drop used piece) ≡ drop used piece
+rest_of used piece = let size = length-drop used piece in take_all (length piece - used) (drop used piece) (omega (arith, size))
+
+pub passed_within : (used n : ℕ) (piece : List ℕ) → used ≤ length piece → n < length (take (length piece - used) (drop used piece)) → used + n < length piece
+passed_within used n piece few less = let size = length-drop used piece in let same = ap length (rest_of used piece) in omega (arith, few, less, size, same)
+
+pub passed_front : (bytes piece : List ℕ) (used n : ℕ) → used ≤ length piece → (bytes ++ take used piece) ++ take n (take (length piece - used) (drop used piece)) ≡ bytes ++ take (used + n) piece
+passed_front bytes piece used n few =
+    append_assoc bytes (take used piece) (take n (take (length piece - used) (drop used piece))) ∙ ap (λ l. bytes ++ l) (ap (λ l. take used piece ++ take n l) (rest_of used piece) ∙ sym (take_both used n piece few))
+
+pub passed_printed : (limits : Limits) (r mid : Reading) (bytes text piece : List ℕ) (used n most : ℕ) → used ≤ length piece → limits.input ≡ most → mid.taken < most → mid.limits ≡ r.limits → mid.taken ≡ r.taken + n
+    → PassesSome r (take (length piece - used) (drop used piece)) (Ok n) mid → HasPrinted limits (bytes ++ take used piece) text r → HasPrinted limits (bytes ++ take (used + n) piece) text mid
+passed_printed limits r mid bytes text piece used n most few same room limited some passes h =
+    subst (λ l. HasPrinted limits l text mid) (passed_front bytes piece used n few) (printed_some limits r mid (bytes ++ take used piece) text (take (length piece - used) (drop used piece)) n h (omega (arith, room, same)) limited some passes)
 
 -- THE ANSWERS
 

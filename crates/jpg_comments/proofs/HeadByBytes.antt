@@ -17,9 +17,9 @@ use Rattle.jpg_base.specs.declared.stop.Stop.TheVariants as stop
 use Rattle.jpg_markers.specs.declared.segments.Phase.{Phase}
 use Rattle.jpg_markers.specs.declared.segments.Phase.TheVariants as phase
 use Rattle.jpg_markers.specs.declared.segments.SegStep.TheVariants as step
-use Rattle.jpg_markers.specs.Reading.{Reading, AtPhase, StandsForSegments, EndsAtEoi, Comes}
+use Rattle.jpg_markers.specs.Reading.{Reading, AtPhase, StandsForSegments, EndsAtEoi, Comes, PassesSome}
 use Rattle.jpg_comments.specs.Inserting.{HoldsHead, copied_head, copied_segment, HasKept, IsAtFrame, AfterHeadByte}
-use Rattle.jpg_comments.proofs.Taken.{Tells, nothing_first, taken_on, shows_first, whole_front}
+use Rattle.jpg_comments.proofs.Taken.{Tells, taken_on, taken_some, shows_first, whole_front}
 
 -- WHERE A HEAD IS COMPLETE: at the marker of the frame header
 
@@ -34,18 +34,11 @@ heads_on at_part = true
 abbrev pub head_tells : (limits : Limits) → Tells limits (HoldsHead limits)
 head_tells limits = record { goes = heads_on; faulty = λ f. refl; wholes = λ bytes w. (at_frame, (w.1.0, w.1.1.0, w.1.1.1, (w.0, w.1.1.2, w.1.1.3)), refl) }
 
--- at the start
-pub kept_start : (limits : Limits) (replace : Bool) (r : Reading) → StandsForSegments [] [] r → r.limits ≡ limits → r.taken ≡ 0 → HasKept limits replace [] (255 ∷ 0xd8 ∷ []) r
-kept_start limits replace r stands same none = (
-  [],
-  record { stands = stands; limited = same; taken = none; most = omega (arith, none); nothing = nothing_first limits (HoldsHead limits) (head_tells limits) refl },
-  refl,
-  by replace,
-)
-  where
-    by : (b : Bool) → 255 ∷ 0xd8 ∷ [] ≡ copied_head b []
-    by true = refl
-    by false = refl
+-- SOME BYTES that complete nothing
+pub kept_some : (limits : Limits) (replace : Bool) (r next : Reading) (bytes head piece : List ℕ) (n : ℕ) → HasKept limits replace bytes head r → next.taken < limits.input → next.limits ≡ r.limits → next.taken ≡ r.taken + n → PassesSome r piece (Ok n) next
+    → HasKept limits replace (bytes ++ take n piece) head next
+kept_some limits replace r next bytes head piece n h room same some passes =
+    (h.0, taken_some limits (HoldsHead limits) (head_tells limits) r next bytes piece n h.0 refl h.1 (omega (arith, room, some)) same some passes, h.2, h.3)
 
 -- A BYTE
 

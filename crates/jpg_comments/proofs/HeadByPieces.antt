@@ -9,14 +9,21 @@ use Rattle.jpg_spec.specs.declared.fault.Fault.TheVariants.{InputTooLong}
 use Rattle.jpg_base.specs.declared.names.NoMemory.{NoMemory}
 use Rattle.jpg_base.specs.declared.stop.Stop.{Stop}
 use Rattle.jpg_base.specs.declared.stop.Stop.TheVariants as stop
-use Rattle.jpg_markers.specs.Reading.{Reading}
+use Rattle.jpg_markers.specs.Reading.{PassesSome, Reading}
 use Rattle.jpg_comments.specs.Appending.{AppendsText}
 use Rattle.jpg_comments.specs.SegmentsSoFar.{Appends}
 use Rattle.jpg_comments.specs.Inserting.{HoldsHead, copied_head, HasKept, IsAtFrame, AfterHeadByte, AfterHeadPiece, CopiesRest, InsertsPart, InsertsUpTo}
 use Rattle.jpg_comments.proofs.Taken.{whole_front, first_fault, long_fault}
-use Rattle.jpg_comments.proofs.ByPiece.{joined, one_more, all_of_it, followed}
+use Rattle.jpg_comments.proofs.ByPiece.{joined, one_more, all_of_it, followed, passed_front}
+use Rattle.jpg_comments.proofs.HeadByBytes.{kept_some}
 
 -- UP TO THE MARKER
+
+-- some bytes that complete nothing
+pub passed_kept : (limits : Limits) (replace : Bool) (r mid : Reading) (bytes head piece : List ℕ) (used n most : ℕ) → used ≤ length piece → limits.input ≡ most → mid.taken < most → mid.limits ≡ r.limits → mid.taken ≡ r.taken + n
+    → PassesSome r (take (length piece - used) (drop used piece)) (Ok n) mid → HasKept limits replace (bytes ++ take used piece) head r → HasKept limits replace (bytes ++ take (used + n) piece) head mid
+passed_kept limits replace r mid bytes head piece used n most few same room limited some passes h =
+    subst (λ l. HasKept limits replace l head mid) (passed_front bytes piece used n few) (kept_some limits replace r mid (bytes ++ take used piece) head (take (length piece - used) (drop used piece)) n h (omega (arith, room, same)) limited some passes)
 
 -- a fault at a byte, or no memory
 pub head_stopped : (limits : Limits) (replace : Bool) (bytes piece head new : List ℕ) (i : ℕ) (e : Stop) (r next : Reading) → i < length piece

@@ -1,6 +1,6 @@
 -- The effect of each further byte on the bytes that a reader was given, and the faults of marker segments that follow.
-use Rattle.std.proofs.Common.{◌≡◌, ℕ, zero, suc, ◌+◌, ◌<◌, ◌≤◌, Bool, true, false, List, [], ◌∷◌, ◌++◌, length, take, refl, sym, ap, ◌∙◌, subst, arith, inl, inr, ◌⊎◌}
-use Rattle.std.proofs.lemmas.List.{append_assoc, append-nil, length-append, take-append-le, take_all}
+use Rattle.std.proofs.Common.{◌≡◌, ℕ, zero, suc, ◌+◌, ◌<◌, ◌≤◌, Bool, true, false, List, [], ◌∷◌, ◌++◌, length, take, get_or, Ok, refl, sym, ap, ◌∙◌, subst, arith, inl, inr, ◌⊎◌}
+use Rattle.std.proofs.lemmas.List.{append_assoc, append-nil, length-append, length-take-le, take-append-le, take-take, take_all, take_more}
 use Rattle.jpg_spec.specs.Markers.{Segment, Rule, kept_rule, is_frame_code, SegmentsReveal, IsLeast, Reached, at_fault, at_part, Reaches}
 use Rattle.jpg_spec_write.specs.CommentText.{RevealsNothing, IsMarkerFault}
 use Rattle.jpg_spec.specs.declared.fault.Fault.{Fault}
@@ -10,7 +10,7 @@ use Rattle.jpg_spec.proofs.Reached.{reached_once, least}
 use Rattle.jpg_spec.proofs.Common.{clash}
 use Rattle.jpg_markers.specs.declared.segments.Phase.{Phase}
 use Rattle.jpg_markers.specs.declared.segments.Phase.TheVariants as phase
-use Rattle.jpg_markers.specs.Reading.{Reading, AtPhase, StandsForSegments}
+use Rattle.jpg_markers.specs.Reading.{Reading, AtPhase, PassesSome, StandsForSegments}
 use Rattle.jpg_comments.specs.SegmentsSoFar.{IsBegun, HasTaken, RevealsFirst, Appends}
 
 -- APPENDING
@@ -92,6 +92,48 @@ taken_on limits is_whole t r next bytes byte before more x h short same one goin
       taken = omega (arith, one, was, length-append bytes (byte ∷ []));
       most = omega (arith, one, short);
       nothing = nothing_more limits is_whole t bytes byte x going (subst (λ l. Reaches (kept_rule l) (bytes ++ byte ∷ []) x) e reaches) h.nothing;
+    }
+
+-- the same bytes of longer ones, and no bytes
+pub some_pass : (r next : Reading) (piece : List ℕ) (most n : ℕ) → most ≤ length piece → PassesSome r (take most piece) (Ok n) next → PassesSome r piece (Ok n) next
+some_pass r next piece most n few (low, stands, parts) =
+    let size = length-take-le most piece few in
+    let same : (m : ℕ) → m ≤ n → take m (take most piece) ≡ take m piece = λ m less. take-take m most piece (omega (arith, size, low, less)) in (
+      omega (arith, few, size, low),
+      λ bytes before s. subst (λ l. StandsForSegments (bytes ++ l) before next) (same n (omega arith)) (stands bytes before s),
+      λ front before m s some less. subst (λ l. Reaches (kept_rule r.limits) (front ++ l) at_part) (same m less) (parts front before m s some less),
+    )
+
+pub none_pass : (r next : Reading) (piece : List ℕ) → next ≡ r → PassesSome r piece (Ok 0) next
+none_pass r next piece same = (
+  omega arith,
+  λ bytes before s. subst (λ (q : Reading). StandsForSegments (bytes ++ []) before q) (sym same) (subst (λ l. StandsForSegments l before r) (sym (append-nil bytes)) s),
+  λ front before m s some less. absurd (omega (arith, some, less)),
+)
+
+-- some bytes that complete nothing
+nothing_some : (limits : Limits) (is_whole : List ℕ → Type 0) (t : Tells limits is_whole) (bytes piece : List ℕ) (n m : ℕ) → t.goes at_part ≡ true → ((m : ℕ) → 1 ≤ m → m ≤ n → Reaches (kept_rule limits) (bytes ++ take m piece) at_part) → n ≤ length piece → m ≤ n
+    → RevealsNothing limits is_whole bytes → RevealsNothing limits is_whole (bytes ++ take m piece)
+nothing_some limits is_whole t bytes piece n zero going reaches few less before = subst (λ l. RevealsNothing limits is_whole l) (sym (append-nil bytes)) before
+nothing_some limits is_whole t bytes piece n (suc m) going reaches few less before =
+    let one : suc m ≡ m + 1 = omega arith in
+    let last : bytes ++ take (suc m) piece ≡ (bytes ++ take m piece) ++ get_or piece m 0 ∷ [] =
+    ap (λ l. bytes ++ l) (ap (λ k. take k piece) one ∙ take_more piece m 0 (omega (arith, few, less))) ∙ sym (append_assoc bytes (take m piece) (get_or piece m 0 ∷ [])) in
+    let old = nothing_some limits is_whole t bytes piece n m going reaches few (omega (arith, less)) before in
+    subst (λ l. RevealsNothing limits is_whole l) (sym last)
+    (nothing_more limits is_whole t (bytes ++ take m piece) (get_or piece m 0) at_part going (subst (λ l. Reaches (kept_rule limits) l at_part) last (reaches (suc m) (omega arith) less)) old)
+
+pub taken_some : (limits : Limits) (is_whole : List ℕ → Type 0) (t : Tells limits is_whole) (r next : Reading) (bytes piece : List ℕ) (n : ℕ) (before : List Segment) → t.goes at_part ≡ true → HasTaken limits is_whole bytes before r → r.taken + n ≤ limits.input
+    → next.limits ≡ r.limits → next.taken ≡ r.taken + n → PassesSome r piece (Ok n) next → HasTaken limits is_whole (bytes ++ take n piece) before next
+taken_some limits is_whole t r next bytes piece n before going h room same some (few, stands, parts) =
+    let was = h.taken in
+    let size = length-take-le n piece few in
+    record {
+      stands = stands bytes before h.stands;
+      limited = same ∙ h.limited;
+      taken = omega (arith, some, was, size, length-append bytes (take n piece));
+      most = omega (arith, some, room);
+      nothing = nothing_some limits is_whole t bytes piece n n going (λ m one few. subst (λ l. Reaches (kept_rule l) (bytes ++ take m piece) at_part) h.limited (parts bytes before m h.stands one few)) few (omega arith) h.nothing;
     }
 
 -- FAULTS

@@ -6,7 +6,8 @@ ghost use Rattle.jpg_markers.specs.Reading.{reading_of};
 ghost use Rattle.jpg_comments.specs.Printing.{PrintsByte, PrintsPiece, PrintsSegment};
 
 use crate::append_printed;
-use crate::ends::{too_long, truncated};
+use crate::quiet::pass_some;
+use jpg_base::codes::{COM, SOS};
 use jpg_base::{Bytes, Fed, Stop};
 use jpg_markers::{SegStep, SegmentReader};
 use jpg_spec::Limits;
@@ -95,7 +96,7 @@ impl Comments {
         if let Some(stop) = self.stop {
             return stop;
         }
-        let stop = truncated(self.reader.taken());
+        let stop = Stop::truncated(self.reader.taken());
         self.stop = Some(stop);
         stop
     }
@@ -112,18 +113,20 @@ fn read_piece(
     ensures answered { PrintsPiece (reading_of reader.old) piece.now out.old result out.new (reading_of reader.new) }
     ensures limits { (reading_of reader.new).limits ≡ (reading_of reader.old).limits }
 {
-    let mut used = 0;
-    for byte in piece {
+    let mut used = 0usize;
+    while used < piece.len() {
         if reader.taken() >= most {
-            return Err(too_long(most));
+            return Err(Stop::too_long(most));
         }
+        used += pass_some(reader, most, &piece[used..]);
+        let done = read_byte(reader, piece[used], out)?;
         used += 1;
-        if read_byte(reader, *byte, out)? {
-            return Ok(Fed::Done { used });
+        if done {
+            return Ok(Fed::Done { used: used as u64 });
         }
     }
     if reader.taken() >= most {
-        return Err(too_long(most));
+        return Err(Stop::too_long(most));
     }
     Ok(Fed::More)
 }
@@ -148,8 +151,8 @@ fn print_segment(reader: &SegmentReader, out: &mut Bytes) -> Result<bool, Stop>
     ensures { PrintsSegment (reading_of reader.now).code (reading_of reader.now).contents result out.old out.new }
 {
     let code = reader.code();
-    if code == 0xfe {
+    if code == COM {
         append_printed(reader.contents(), out)?;
     }
-    Ok(code == 0xda)
+    Ok(code == SOS)
 }

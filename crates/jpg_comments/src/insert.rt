@@ -8,7 +8,8 @@ ghost use Rattle.jpg_comments.specs.Appending.{AppendsText};
 ghost use Rattle.jpg_comments.specs.Inserting.{CopiesRest, KeepsByte, KeepsPiece, KeepsSegment};
 
 use crate::append_segment;
-use crate::ends::{too_long, truncated};
+use crate::quiet::pass_some;
+use jpg_base::codes::{COM, SOI};
 use jpg_base::{Bytes, Fed, NoMemory, Stop};
 use jpg_markers::{SegStep, SegmentReader};
 use jpg_spec::{Fault, FaultAt, Limits};
@@ -52,10 +53,10 @@ impl Insert {
             }));
         }
         let mut head = Bytes::new(alloc);
-        head.push_all(&[0xff, 0xd8])?;
+        head.push_all(&[0xff, SOI])?;
         let mut segment = Bytes::new(alloc);
         if !comment.is_empty() {
-            append_segment(0xfe, comment, &mut segment)?;
+            append_segment(COM, comment, &mut segment)?;
         }
         Ok(Insert {
             limits,
@@ -122,7 +123,7 @@ impl Insert {
         if let Some(_) = self.taken {
             return Ok(());
         }
-        let stop = truncated(self.reader.taken());
+        let stop = Stop::truncated(self.reader.taken());
         self.stop = Some(stop);
         Err(stop)
     }
@@ -180,18 +181,20 @@ fn read_head(
     ensures limits { (reading_of reader.new).limits ≡ (reading_of reader.old).limits }
     ensures within { IfOk result (λ answer. IfSome answer (λ used. used ≤ length piece.now)) }
 {
-    let mut used = 0;
-    for byte in piece {
+    let mut used = 0usize;
+    while used < piece.len() {
         if reader.taken() >= most {
-            return Err(too_long(most));
+            return Err(Stop::too_long(most));
         }
+        used += pass_some(reader, most, &piece[used..]);
+        let there = read_byte(reader, head, replace, piece[used])?;
         used += 1;
-        if read_byte(reader, head, replace, *byte)? {
+        if there {
             return Ok(Some(used));
         }
     }
     if reader.taken() >= most {
-        return Err(too_long(most));
+        return Err(Stop::too_long(most));
     }
     Ok(None)
 }
@@ -224,7 +227,7 @@ fn keep_segment(reader: &SegmentReader, head: &mut Bytes, replace: bool) -> Resu
     ensures { KeepsSegment replace (reading_of reader.now) head.old result head.new }
 {
     let code = reader.code();
-    if replace && code == 0xfe {
+    if replace && code == COM {
         return Ok(());
     }
     let contents = reader.contents();
@@ -252,5 +255,5 @@ fn copy(taken: u64, most: u64, rest: &[u8], out: &mut Bytes) -> Result<u64, Stop
         return Ok(taken + length);
     }
     out.push_all(&rest[..room as usize])?;
-    Err(too_long(most))
+    Err(Stop::too_long(most))
 }

@@ -3,10 +3,10 @@
 #![tactic(auto)]
 
 mod comments;
-mod ends;
 mod insert;
 pub mod laws;
 mod printed;
+mod quiet;
 mod segment;
 
 pub use comments::Comments;

@@ -1,17 +1,14 @@
 -- Bytes between items, or inside a segment, that are taken together.
-use Rattle.std.proofs.Common.{◌≡◌, ℕ, ◌+◌, ◌-◌, ◌<◌, ◌≤◌, List, [], ◌++◌, length, take, drop, Option, None, refl, sym, ap, ◌∙◌, subst, arith}
+use Rattle.std.proofs.Common.{◌≡◌, ℕ, ◌+◌, ◌-◌, ◌≤◌, List, [], ◌++◌, length, take, drop, refl, sym, ap, ◌∙◌, subst, arith}
 use Rattle.std.proofs.lemmas.List.{append_assoc, append-nil, length-append, length-drop, length-take-le, take-append-drop, take-take, take_all}
 use Rattle.std.proofs.Math.Seq.{take-append-add}
 use Rattle.std.specs.Prelude.{is_some}
 use Rattle.jpg_spec.specs.FrameHeader.{AreLimits}
 use Rattle.jpg_spec.specs.declared.frame.Limits.{Limits}
-use Rattle.jpg_markers.specs.Reading.{reading_of}
-use Rattle.jpg_coefs.specs.Picture.{Picture}
 use Rattle.jpg_file.specs.declared.read.items.Items.{Items}
 use Rattle.jpg_file.specs.declared.read.items.ItemStep.TheVariants as step
 use Rattle.jpg_file.specs.declared.read.reading.Reading.{Reading}
-use Rattle.jpg_file.specs.declared.read.file.FileWork.{FileWork}
-use Rattle.jpg_file.specs.Read.File.{StandsForFile, limits_of}
+use Rattle.jpg_file.specs.Read.File.{StandsForFile}
 use Rattle.jpg_file.specs.Read.Going.{CanGoOn, GoesOn, file_with}
 use Rattle.jpg_file.specs.Read.Items.{PassesItems}
 use Rattle.jpg_file.proofs.FileSteps.{after_between, between_of}

@@ -2,7 +2,7 @@
 use Rattle.std.proofs.Common.{◌≡◌, ℕ, suc, ◌+◌, ◌≤◌, List, [], ◌∷◌, ◌++◌, length, take, refl, sym, ap, ◌∙◌, subst, arith, Some, None, Ok, Err, inl, inr, ◌⊎◌}
 use Rattle.std.specs.Prelude.{replicate}
 use Rattle.std.specs.Int.{to_be_bytes, w16}
-use Rattle.std.proofs.lemmas.List.{append_assoc, append-nil, length-append, length-replicate, length-take-le}
+use Rattle.std.proofs.lemmas.List.{append_assoc, append-nil, length-append, length-replicate}
 use Rattle.jpg_spec.specs.Scan.{Blocks}
 use Rattle.jpg_spec.specs.Markers.{Segment, Rule, soi, SpellsMarker, SpellsSegment, SpellsSegments, BeginsSegment, PartOfSegment, NoMarkerBytes, TailReveals, RevealsNoStart, code_fault, kept_rule}
 use Rattle.jpg_spec.specs.Markers as markers
@@ -23,7 +23,7 @@ use Rattle.jpg_markers.specs.declared.segments.SegStep.TheVariants as step
 use Rattle.jpg_markers.specs.declared.segments.SegmentReader.{SegmentReader}
 use Rattle.jpg_markers.specs.declared.segments.Phase.{Phase}
 use Rattle.jpg_markers.specs.declared.segments.Phase.TheVariants as phase
-use Rattle.jpg_markers.specs.Reading.{Reading, StandsForSegments, AtPhase, IsBetween, PartRead, RevealsAfter, EndsAtEoi, Comes, Continues, PassesSegment, PassesSome, continued, reading_of}
+use Rattle.jpg_markers.specs.Reading.{Reading, StandsForSegments, AtPhase, IsBetween, PartRead, RevealsAfter, EndsAtEoi, Comes, PassesSegment, PassesSome, reading_of}
 use Rattle.jpg_file.specs.Read.SegmentState.{Holds, HoldsSegment, told_by}
 use Rattle.jpg_file.specs.declared.read.segment_state.SegmentTaken.TheVariants as took
 use Rattle.jpg_file.specs.declared.read.items.Items.{Items}
@@ -100,39 +100,16 @@ pub goes_on : (limits : Limits) (bytes : List ℕ) (b : ℕ) (items : List Item)
 goes_on limits bytes b items blocks w new k stands e f same = (items, inl refl, passes_on limits bytes (b ∷ []) items blocks w new k stands e f same)
 
 -- BYTES that only continue
-limits_continue : (p : Phase) (r : Reading) (more : List ℕ) → (continued p r more).limits ≡ r.limits
-limits_continue phase.Empty r more = refl
-limits_continue phase.HalfStart r more = refl
-limits_continue phase.Between r more = refl
-limits_continue phase.Fill r more = refl
-limits_continue phase.Coded r more = refl
-limits_continue phase.HalfLength r more = refl
-limits_continue phase.Contents r more = refl
-limits_continue phase.Ended r more = refl
-
-taken_continue : (p : Phase) (r : Reading) (more : List ℕ) → (continued p r more).taken ≡ r.taken + length more
-taken_continue phase.Empty r more = refl
-taken_continue phase.HalfStart r more = refl
-taken_continue phase.Between r more = refl
-taken_continue phase.Fill r more = refl
-taken_continue phase.Coded r more = refl
-taken_continue phase.HalfLength r more = refl
-taken_continue phase.Contents r more = refl
-taken_continue phase.Ended r more = refl
-
-pub stretch_passes : (w : Items) (r : SegmentReader) (bytes : List ℕ) (n : ℕ) → Continues (reading_of w.segments) bytes (Ok n) (reading_of r) → PassesSome (reading_of w.segments) bytes (Ok n) (reading_of r) → PassesItems w bytes n (record w { segments = r })
-stretch_passes w r bytes n (is, added) (few, stands) =
-    let old = reading_of w.segments in
-    let size = length-take-le n bytes few in
-    let limits = ap (λ (q : Reading). q.limits) added ∙ limits_continue old.phase old (take n bytes) in
-    record {
-      within = few;
-      limits = refl;
-      same = limits;
-      taken = ap (λ (q : Reading). q.taken) added ∙ taken_continue old.phase old (take n bytes) ∙ ap (λ (m : ℕ). old.taken + m) size;
-      stands = λ here front items blocks k.
-          (items, inl refl, passes_on here front (take n bytes) items blocks w (record w { segments = r }) k (stands k.sent (segments_of items) k.stands) limits refl refl);
-    }
+pub stretch_passes : (w : Items) (r : SegmentReader) (bytes : List ℕ) (n : ℕ) → PassesSome (reading_of w.segments) bytes (Ok n) (reading_of r) → (reading_of r).taken ≡ (reading_of w.segments).taken + n
+    → (reading_of r).limits ≡ (reading_of w.segments).limits → PassesItems w bytes n (record w { segments = r })
+stretch_passes w r bytes n (few, stands, parts) taken limits = record {
+  within = few;
+  limits = refl;
+  same = limits;
+  taken = taken;
+  stands = λ here front items blocks k.
+      (items, inl refl, passes_on here front (take n bytes) items blocks w (record w { segments = r }) k (stands k.sent (segments_of items) k.stands) limits refl refl);
+}
 
 -- NOTHING that was taken
 pub nothing_passes : (w new : Items) (bytes : List ℕ) → reading_of new.segments ≡ reading_of w.segments → new.limits ≡ w.limits → told_by new.held ≡ told_by w.held → PassesItems w bytes 0 new

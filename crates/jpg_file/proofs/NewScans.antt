@@ -4,18 +4,18 @@ use Rattle.std.specs.Prelude.{◌||◌, nat_lt, nat_le}
 use Rattle.std.proofs.lemmas.Bool.Decides.{nat_tests}
 use Rattle.std.proofs.lemmas.List.Elements.{All-weaker}
 use Rattle.jpg_spec.specs.Geometry.{Frame, bounds, is_progressive}
-use Rattle.jpg_spec.specs.History.{needs_ac_table, needs_dc_table}
+use Rattle.jpg_spec.specs.History.{needs_dc_table}
 use Rattle.jpg_spec.specs.Segments.{ScanHead}
 use Rattle.jpg_spec.specs.ScanContents.{are_bits, is_band}
 use Rattle.jpg_spec.specs.declared.frame.ScanPart.{ScanPart}
 use Rattle.jpg_spec.proofs.Common.{both}
 use Rattle.jpg_coefs.specs.Machine.{Interval}
 use Rattle.jpg_huff.specs.declared.set.TableSet.{TableSet}
-use Rattle.jpg_seq.specs.NewReader.{HasTables, IsOfScan, IsSeqScan, in_force}
+use Rattle.jpg_seq.specs.NewReader.{HasTables, IsSeqScan, in_force}
 use Rattle.jpg_seq.proofs.Forced.{valid}
-use Rattle.jpg_prog_read.specs.DcNew.{HasPartTable, IsDcHead, IsFirstHead, IsOfFirst, IsOfRefinement, IsRefineHead}
-use Rattle.jpg_prog_read.specs.NewAcReader.{HasAcTable, IsAcScan, IsOfAcScan}
-use Rattle.jpg_file.specs.Read.Machine.{FitsKind, ScanKind, scan_kind, whole_blocks, dc_first, dc_later, ac_band}
+use Rattle.jpg_prog_read.specs.DcNew.{HasPartTable, IsDcHead, IsFirstHead, IsOfFirst, IsOfRefinement}
+use Rattle.jpg_prog_read.specs.NewAcReader.{IsOfAcScan}
+use Rattle.jpg_file.specs.Read.Machine.{FitsKind, ScanKind, scan_kind, dc_first, dc_later, ac_band}
 use Rattle.jpg_file.specs.Read.NewScan.{HasNeeded, IsOfHeader, IsScanHeader}
 use Rattle.jpg_file.proofs.Machines.{head_kind, kind_of_coding}
 
@@ -23,9 +23,6 @@ use Rattle.jpg_file.proofs.Machines.{head_kind, kind_of_coding}
 
 pub kind_of : (f : Frame) (head : ScanHead) (set : TableSet) (i : Interval) (k : ScanKind) → IsOfHeader f head set i → head_kind (is_progressive f.process) head ≡ k → scan_kind i.scan ≡ k
 kind_of f head set i k of e = kind_of_coding f (in_force set) head i.scan of.coding of.ss ∙ e
-
-pub plain_kind : (b : Bool) (head : ScanHead) → b ≡ false → head_kind b head ≡ whole_blocks
-plain_kind b head e = ap (λ t. head_kind t head) e
 
 pub band_kind : (b : Bool) (head : ScanHead) → b ≡ true → 0 < head.ss → head_kind b head ≡ ac_band
 band_kind b head e some =
@@ -60,28 +57,11 @@ as_plain f head set h plain = record {
         let a = n.ac (ap (λ b. not b || nat_lt 0 head.ss) plain) in
         record { dc = d.table; in_dc = d.there; ac = a.ac; in_ac = a.in_ac }
 
-pub as_band : (f : Frame) (head : ScanHead) (set : TableSet) → IsScanHeader f head set → is_progressive f.process ≡ true → 0 < head.ss → IsAcScan f head set
-as_band f head set h progressive some = record {
-  progressive = progressive;
-  components = h.components;
-  parameters = h.parameters progressive;
-  some = omega (arith, some);
-  tables = All-weaker (HasNeeded f head set) (HasAcTable set) (λ p n. n.ac needs) head.parts h.tables;
-}
-  where
-    needs : needs_ac_table f head ≡ true
-    needs =
-        let t : nat_lt 0 head.ss ≡ true = grind (arith, nat_tests, some) in
-        ap (λ b. not b || nat_lt 0 head.ss) progressive ∙ t
-
 as_dc : (f : Frame) (head : ScanHead) (set : TableSet) → IsScanHeader f head set → is_progressive f.process ≡ true → IsDcHead f head
 as_dc f head set h progressive =
     let bits = (both (is_band (length head.parts) head) (are_bits f head) (h.parameters progressive)).1 in
     let low : nat_le head.al (bounds f).al ≡ true = (both (head.ah == 0 || head.ah == head.al + 1) (nat_le head.al (bounds f).al) bits).1 in
     record { progressive = progressive; components = h.components; distinct = h.distinct; al = grind (arith, nat_tests, low) }
-
-pub as_later : (f : Frame) (head : ScanHead) (set : TableSet) → IsScanHeader f head set → is_progressive f.process ≡ true → 0 < head.ah → IsRefineHead f head
-as_later f head set h progressive some = record { is_head = as_dc f head set h progressive; later = omega (arith, some) }
 
 pub as_first : (f : Frame) (head : ScanHead) (set : TableSet) → IsScanHeader f head set → is_progressive f.process ≡ true → head.ss ≡ 0 → head.ah ≡ 0 → IsFirstHead f head set
 as_first f head set h progressive none zero = record {
@@ -97,9 +77,6 @@ as_first f head set h progressive none zero = record {
         ap (λ b. not b || head.ss == 0 && head.ah == 0) progressive ∙ ap (λ b. b && head.ah == 0) t ∙ u
 
 -- AN INTERVAL as each machine needs it
-
-pub of_plain : (f : Frame) (head : ScanHead) (set : TableSet) (i : Interval) → IsOfHeader f head set i → scan_kind i.scan ≡ whole_blocks → IsOfScan f head set i
-of_plain f head set i of k = record { coding = of.coding; kind = subst (λ q. FitsKind q i) k of.kind; sized = of.sized; places = of.places; frame = of.frame }
 
 pub of_band : (f : Frame) (head : ScanHead) (set : TableSet) (i : Interval) → IsOfHeader f head set i → is_progressive f.process ≡ true → scan_kind i.scan ≡ ac_band → IsOfAcScan f head set i
 of_band f head set i of progressive k = record {

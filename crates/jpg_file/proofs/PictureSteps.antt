@@ -20,7 +20,7 @@ use Rattle.jpg_spec.specs.Ranges.{AreInRange}
 use Rattle.jpg_spec.specs.declared.frame.Component.{Component}
 use Rattle.jpg_spec.specs.declared.frame.Limits.{Limits}
 use Rattle.jpg_spec.proofs.FirstPasses.{all_below}
-use Rattle.jpg_spec.proofs.Common.{clash, some_once, same_of, length_below, some_of}
+use Rattle.jpg_spec.proofs.Common.{some_once, length_below, some_of}
 use Rattle.jpg_coefs.specs.Picture.{Picture as Made, map_of}
 use Rattle.jpg_file.specs.Read.File.{keeping_of}
 use Rattle.jpg_file.specs.Read.Keeping.{is_wanted, kept_for}
@@ -38,16 +38,6 @@ adobe_more kept s = by (is_adobe s) refl
     by : (b : Bool) → is_adobe s ≡ b → adobe_transform (kept ++ s ∷ []) ≡ cond b (Some (slice_index s.1 11)) (adobe_transform kept)
     by true e = rw (reverse-append kept (s ∷ []), e) refl
     by false e = rw (reverse-append kept (s ∷ []), e) refl
-
-pub jfif_no_adobe : (s : Segment) → is_jfif s ≡ true → is_adobe s ≡ false
-jfif_no_adobe s e = by (s.0 == 0xe0) refl
-  where
-    code : (n : ℕ) → s.0 ≡ n → (n == 0xee) ≡ false → is_adobe s ≡ false
-    code n h differs = rw (h, differs) refl
-
-    by : (b : Bool) → (s.0 == 0xe0) ≡ b → is_adobe s ≡ false
-    by true h = code 0xe0 (same_of s.0 0xe0 h) refl
-    by false h = absurd (clash (is_jfif s) e (rw (h) refl))
 
 -- THE COMPONENTS by their places
 

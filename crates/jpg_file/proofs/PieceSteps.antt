@@ -28,7 +28,7 @@ use Rattle.jpg_file.specs.declared.read.items.ItemStep.TheVariants as step
 use Rattle.jpg_file.specs.declared.read.reading.Reading.{Reading}
 use Rattle.jpg_file.specs.declared.read.file.FileWork.{FileWork}
 use Rattle.jpg_file.proofs.Ending.{file_ends}
-use Rattle.jpg_file.proofs.FileSteps.{after_inside, asked, between_of, inside_of, head_is, head_left}
+use Rattle.jpg_file.proofs.FileSteps.{after_inside, asked, inside_of, head_is, head_left}
 use Rattle.jpg_file.proofs.ItemBytes.{between_stands}
 use Rattle.jpg_file.proofs.ScanBytes.{data_stands, ff_bytes}
 

@@ -165,13 +165,6 @@ next_in old new none some left units steps later tops = λ f ids n k.
       part_counted new (omega (arith, left, k.some)) ∙ omega (arith, one) ∙ sym (whole_counted old none),
     ))
 
--- nothing is done
-pub stays_in : (w : RowWork) → 1 ≤ w.left → KeepsRowIn w w
-stays_in w some = λ f ids n k. (k, λ more. some, refl)
-
-pub last_in : (w : RowWork) → w.later ≡ 0 → KeepsRowIn w w
-last_in w none = λ f ids n k. (k, (λ more. omega (arith, (k.at).sum, ap (λ l. l * w.units) none, more)), refl)
-
 -- the additions don't overflow
 rows_few : (f : Frame) (i : ℕ) → IsFrame f → block_rows_of f i ≤ 4
 rows_few f i k = by (nat_lt i (length f.components)) refl

@@ -108,9 +108,3 @@ units_run most m new whole now bytes n count rest waiting within is given waits 
     run_rest any_scan m new whole now bytes bits rest waiting n cut (some_taken any_scan most m new whole now bits (Ok step.More) chain) given
     (λ byte at. waits ∙ ap (λ k. drop (k - 8 * (n - 1)) (bits_of 8 (get_or bytes (n - 1) 0))) (sym long) ∙ ap (λ b. drop (length bits - 8 * (n - 1)) (bits_of 8 b)) (sym at))
     (chain_all any_scan most m new whole now bits chain)
-
--- the bits of the last byte that were passed
-pub last_given : (bytes : List ℕ) (n count : ℕ) (rest : List Bool) → 1 ≤ length bytes → count ≤ 8 * length bytes → rest ≡ drop count (bits_of_bytes bytes) → n ≡ length bytes - length rest / 8 → 1 ≤ count → (1 ≤ n) × (n ≤ length bytes) × (8 * (n - 1) ≤ count) × (count - 8 * (n - 1) ≤ 8)
-last_given bytes n count rest some within is given more =
-    let l : length rest ≡ 8 * length bytes - count = omega (arith, ap length is, length-drop count (bits_of_bytes bytes), bytes_long bytes) in
-    (omega (arith, l, given, within, more), omega (arith, given), omega (arith, l, given, within, more), omega (arith, l, given, within, more))

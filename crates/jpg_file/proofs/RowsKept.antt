@@ -73,12 +73,3 @@ keeps_done_rows r old new piece result used e undone going k kept reads =
       «open» = λ none undone_now. absurd (clash true refl undone_now);
       ended = λ done none. whole_leaves r.limits (o.0 ++ take used piece) new.file (ends_plain r.limits (o.0 ++ take used piece) new.rows new.file none a.0);
     }
-
-pub keeps_stopped_rows : (r : RowReaderState) (old new : StripWork) (s : Stop) → r.done ≡ false → IsReadingRows (with_work r old) → KeepsWork old new → IsReadingRows (record (with_work r new) { stop = Some s })
-keeps_stopped_rows r old new s undone k kept = record {
-  limited = k.limited;
-  keeping = kept.keeping ∙ k.keeping;
-  sparing = kept.sparing k.keeping k.sparing;
-  «open» = λ none. absurd cc;
-  ended = λ done. absurd (clash r.done done undone);
-}

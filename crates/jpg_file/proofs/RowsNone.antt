@@ -105,14 +105,6 @@ none_unheld limits bytes w h none =
     let held = frame_held limits bytes h.items h.blocks w.reading.items.held.frame ((h.at).at).leads ((h.at).holds).frame (framed (segments_of h.items) allowed) in
     clash (is_some w.reading.items.held.frame) (ap is_some held.has) (ap is_some none)
 
-pub none_broken : (limits : Limits) (bytes : List ℕ) (w : FileWork) (f : Frame) (contents : List ℕ) (fault : Fault) → (h : HeadStands limits bytes w) → w.reading.items.held.frame ≡ Some f → contents ≡ contents_held w
-    → JudgesHead contents f (told_by w.reading.items.held) w.begun (Err fault) → contents_rule limits (segments_of h.items) 0xda (contents_held w) ≡ None → ⊥
-none_broken limits bytes w f contents fault h is same judges rule =
-    let before = segments_of h.items in
-    let framed : frame_of limits before ≡ f = ap (λ (o : Option Frame). unwrap_or o no_frame) (sym ((h.at).holds).frame ∙ is) in
-    let broken = judges limits before framed (h.at).holds (h.beside).begun in
-    clash (is_some (contents_rule limits before 0xda contents)) (ap is_some broken) (ap is_some (ap (contents_rule limits before 0xda) same ∙ rule))
-
 -- it is of another scan
 pub none_other : (limits : Limits) (bytes : List ℕ) (w : FileWork) (f : Frame) (head : ScanHead) (contents : List ℕ) → (h : HeadStands limits bytes w) → w.reading.items.held.frame ≡ Some f → contents ≡ contents_held w
     → JudgesHead contents f (told_by w.reading.items.held) w.begun (Ok head) → (is_progressive f.process ≡ false → length head.parts ≡ length f.components → ⊥) → IsScanOfAll limits (segments_of h.items) (contents_held w) → ⊥

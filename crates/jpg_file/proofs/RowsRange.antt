@@ -10,7 +10,7 @@ use Rattle.jpg_spec.specs.InForce.{head_in}
 use Rattle.jpg_spec.specs.Elements.{Coding, Covers, Element, Standing, UnitLeft, are_in_bounds, at_start, predictions_after, zeros}
 use Rattle.jpg_spec.specs.Scan.{Blocks, Scan, SpellsIntervals, band, block_at, unit_at}
 use Rattle.jpg_spec.specs.Items.{Item}
-use Rattle.jpg_spec.specs.FileMeaning.{Leads, no_blocks}
+use Rattle.jpg_spec.specs.FileMeaning.{Leads}
 use Rattle.jpg_spec.specs.PictureInWork.{OnlyChanges, ScanSoFar, is_at}
 use Rattle.jpg_spec.specs.Ranges.{AreInRange, is_coefficient}
 use Rattle.jpg_spec.specs.RowsTold.{TellsFirst}
@@ -258,10 +258,3 @@ inside_in_range limits bytes w rows whole f r of = row_in_range rows.tops whole 
 
 pub given_in_range : (limits : Limits) (bytes : List ℕ) (w : FileWork) (rows : RowWork) (f : Frame) → RowIsWhole limits bytes w rows → AreInRange (bounds f) (map_of rows.coefs)
 given_in_range limits bytes w rows f k = inside_in_range limits bytes w rows k.whole f k.inside k.row
-
--- zeros
-pub zeros_in_range : (f : Frame) (row : Picture) → map_of row ≡ no_blocks → AreInRange (bounds f) (map_of row)
-zeros_in_range f row blank = record {
-  sizes = λ i x y. ap (λ (b : Blocks). length (b i x y)) blank ∙ length-replicate 64 (pos 0);
-  values = λ i x y k. subst (λ (b : Blocks). is_coefficient (bounds_of 8) k (get_or (b i x y) k (pos 0)) ≡ true) (sym blank) (block_in_range (zeros 64) k (zeros_bounded true 64));
-}

@@ -86,11 +86,6 @@ plain_all bytes most found first is within k h e =
     let size = length-take-le most bytes within in
     f k (omega arith) (omega (arith, h, size)) (ff_passes (take most bytes) k (get_or-take most bytes k 0 h ∙ e))
 
-pub plain_front : (bytes : List ℕ) (n : ℕ) → n ≤ length bytes → ((k : ℕ) → k < n → get_or bytes k 0 ≡ 255 → ⊥) → ArePlain (take n bytes)
-plain_front bytes n few plain k low e =
-    let size = length-take-le n bytes few in
-    plain k (omega (arith, low, size)) (sym (get_or-take n bytes k 0 (omega (arith, low, size))) ∙ e)
-
 -- no FF waits
 none_waits : (gate : Bool) (fill : ℕ) → gate ≡ false → Waits gate fill → fill ≡ 0
 none_waits false fill e w = w

@@ -1,14 +1,13 @@
 -- The header of a sequential scan.
-use Rattle.std.proofs.Common.{◌≡◌, ℕ, zero, suc, ◌<◌, Bool, true, false, cond, List, [], ◌∷◌, length, get_or, refl, sym, ap, ◌∙◌, subst, arith, lit<, lit≤, ◌==◌, ◌&&◌}
-use Rattle.std.specs.Prelude.{map, ◌||◌, slice_index_or}
+use Rattle.std.proofs.Common.{◌≡◌, ℕ, zero, suc, ◌<◌, Bool, true, false, cond, List, [], ◌∷◌, length, get_or, sym, ap, ◌∙◌, subst, arith, lit<, lit≤, ◌==◌, ◌&&◌}
+use Rattle.std.specs.Prelude.{map, ◌||◌}
 use Rattle.std.specs.Int.{to_be_bytes, w16}
 use Rattle.std.specs.List.{All}
 use Rattle.std.proofs.lemmas.List.{length-map}
 use Rattle.std.proofs.lemmas.List.Elements.{All-nil, All-cons, All-head, All-tail}
 use Rattle.jpg_spec.specs.Lists.{is_distinct}
 use Rattle.jpg_spec_write.specs.FileText.{has_chroma, segment_text}
-use Rattle.jpg_spec.specs.Geometry.{Frame, no_component, component_at}
-use Rattle.jpg_spec.specs.FrameHeader.{identifiers}
+use Rattle.jpg_spec.specs.Geometry.{Frame}
 use Rattle.jpg_spec.specs.Segments.{head_components}
 use Rattle.jpg_spec.specs.Scan.{Blocks, part_of}
 use Rattle.jpg_spec.specs.declared.frame.Colour.{Colour}
@@ -81,15 +80,6 @@ seq_scan set file f blocks colour components is can =
       distinct = ap is_distinct (sym same) ∙ can.distinct;
       tables = over (HasTables set) colour components (λ i. has_typical set i (has_chroma colour && (i == 1 || i == 2)) is);
     }
-
--- the identifier of a component
-pub id_at : (f : Frame) (i : ℕ) → (component_at f i).id ≡ get_or (identifiers f.components) i 0
-id_at f i = at f.components i
-  where
-    at : (cs : List _) (i : ℕ) → (slice_index_or cs i no_component).id ≡ get_or (identifiers cs) i 0
-    at [] i = refl
-    at (c ∷ cs) zero = refl
-    at (c ∷ cs) (suc i) = at cs i
 
 -- the interval is the one before
 pub no_interval : (last n : ℕ) → n ≡ last → [] ≡ interval_text last n

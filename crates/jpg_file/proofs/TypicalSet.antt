@@ -30,9 +30,6 @@ sizes true false = (refl, lit≤ tt)
 sizes false true = (refl, lit≤ tt)
 sizes false false = (refl, lit≤ tt)
 
-pub counts_size : (class slot : ℕ) → length (typical_table class slot).counts ≡ 16
-counts_size class slot = (sizes (class == 0) (slot == 0)).0
-
 pub symbols_size : (class slot : ℕ) → length (typical_table class slot).symbols ≤ 256
 symbols_size class slot = (sizes (class == 0) (slot == 0)).1
 

@@ -13,11 +13,11 @@ pub mod restart;
 pub mod scan;
 pub mod tables;
 
-use crate::read::segment_state::is_progressive;
 use crate::write::prog_scan::write_prog_scan;
 use crate::write::restart::Restart;
 use crate::write::scan::write_scan;
 use crate::write::tables::{Given, typical_set};
+use jpg_base::codes::EOI;
 use jpg_base::{Desk, WriteFault};
 use jpg_coefs::BlockView;
 use jpg_huff::{BitOut, TableSet};
@@ -68,7 +68,7 @@ fn write_scans<V: BlockView, D: Desk>(
     requires prog { is_progressive plan.now.out.frame.process ≡ true → CanWriteProgScans plan.now (V.numbers view.now) (V.blocks view.now) }
     ensures { Sends (D.state desk.old) out.old (scans_due plan.now (V.numbers view.now) (V.blocks view.now)) result out.new (D.state desk.new) }
 {
-    if is_progressive(&plan.out.frame) {
+    if plan.out.frame.is_progressive() {
         write_prog_scans(plan, view, out, desk)
     } else {
         write_seq_scans(plan, view, out, desk)
@@ -131,6 +131,6 @@ fn write_end<D: Desk>(out: &mut BitOut, desk: &mut D) -> Result<(), WriteFault>
     ensures sends { Sends (D.state desk.old) out.old eoi result out.new (D.state desk.new) }
     ensures nothing { out.new.bytes ≡ [] }
 {
-    out.raw(&[0xff, 0xd9], desk)?;
+    out.raw(&[0xff, EOI], desk)?;
     out.flush(desk)
 }

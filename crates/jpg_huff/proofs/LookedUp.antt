@@ -142,13 +142,6 @@ look_more codes entries i v lt so_far here n h =
 front_more : (codes : List Code) (bits old : List Bool) (i : ℕ) → i < length bits → old ≡ take i bits → old ++ get_or bits i false ∷ [] ≡ take (i + 1) bits
 front_more codes bits old i h e = ap (λ x. x ++ get_or bits i false ∷ []) e ∙ sym (take_more bits i false h)
 
-pub walk_more : (codes : List Code) (bits old new : List Bool) (i : ℕ) → i < length bits → old ≡ take i bits → BeginsCode codes (old ++ get_or bits i false ∷ []) → new ≡ old ++ get_or bits i false ∷ []
-    → (new ≡ take (i + 1) bits) × IsFront codes (take (i + 1) bits)
-walk_more codes bits old new i h e b w =
-    let t = front_more codes bits old i h e in
-    let P : List Bool → Type 0 = λ x. BeginsCode codes x in
-    (w ∙ t, inr (subst P t b))
-
 pub walk_symbol : (t : Table) (bits old : List Bool) (i symbol : ℕ) → i < length bits → old ≡ take i bits → Contains (symbol_codes t) (old ++ get_or bits i false ∷ [], symbol) → Spots (symbol_codes t) bits (spotted.Symbol (i + 1) symbol)
 walk_symbol t bits old i symbol h e c =
     let P : List Bool → Type 0 = λ x. Contains (symbol_codes t) (x, symbol) in

@@ -1,21 +1,21 @@
 -- Bytes that only continue what a reader of segments was given, and a complete segment at once.
-use Rattle.std.proofs.Common.{◌≡◌, ℕ, zero, suc, ◌+◌, ◌-◌, ◌<◌, ◌≤◌, Bool, true, false, cond, ◌==◌, List, [], ◌∷◌, ◌++◌, length, take, drop, get_or, replicate, Option, None, Some, Result, Ok, Err, ◌&&◌, refl, sym, ap, ◌∙◌, subst, arith}
-use Rattle.std.proofs.lemmas.List.{append_assoc, append-nil, length-append, length-drop, length-take-le, replicate-append-replicate, take-append-drop, take_all}
+use Rattle.std.proofs.Common.{◌≡◌, ℕ, zero, suc, ◌+◌, ◌-◌, ◌<◌, ◌≤◌, Bool, true, false, cond, ◌==◌, List, [], ◌∷◌, ◌++◌, length, take, drop, get_or, replicate, Option, None, Some, Result, Ok, Err, refl, sym, ap, ◌∙◌, subst, arith}
+use Rattle.std.proofs.lemmas.List.{append_assoc, append-nil, length-append, length-drop, length-take-le, replicate-append-replicate, take-append-drop, take-replicate, take_all, take_more}
 use Rattle.std.proofs.lemmas.Bool.{eq-eqb, eqb-true}
 use Rattle.std.proofs.Math.Dec.{eqb}
 use Rattle.std.proofs.Math.Seq.{take-append_seam}
 use lib.Pointwise.{pointwise}
-use Rattle.std.specs.Prelude.{min, not, is_some, IfSome}
-use Rattle.jpg_spec.proofs.Common.{both, clash, heads, same_of}
+use Rattle.std.specs.Prelude.{min, not, is_some}
+use Rattle.jpg_spec.proofs.Common.{both, clash, heads, same_of, take_shorter}
 use Rattle.jpg_spec.specs.Segments.{two_bytes}
-use Rattle.jpg_spec.specs.Markers.{Segment, SpellsMarker, SpellsSegment, SpellsSegments, code_fault, code_fault_if, kept_rule, Pass}
+use Rattle.jpg_spec.specs.Markers.{Segment, SpellsMarker, SpellsSegment, SpellsSegments, code_fault, code_fault_if, kept_rule, Pass, Reaches, at_part}
 use Rattle.jpg_base.specs.declared.names.NoMemory.{NoMemory}
 use Rattle.jpg_markers.specs.declared.seen.Seen.{Seen}
 use Rattle.jpg_markers.specs.declared.segments.Phase.{Phase}
 use Rattle.jpg_markers.specs.declared.segments.Phase.TheVariants as phase
-use Rattle.jpg_markers.specs.Seen.{HasSeen, Leaves}
-use Rattle.jpg_markers.specs.Reading.{Reading, AtPhase, StandsForSegments, Continues, IsSized, MayFollow, PassesSegment, PassesSome, continued, due_of, filled, with_taken}
-use Rattle.jpg_markers.proofs.Taking.{at_is, contents_more, further, spelled}
+use Rattle.jpg_markers.specs.Seen.{Leaves}
+use Rattle.jpg_markers.specs.Reading.{Reading, AtPhase, StandsForSegments, Continues, IsSized, MayFollow, PassesParts, PassesSegment, PassesSome, continued, due_of, filled, with_contents, with_taken}
+use Rattle.jpg_markers.proofs.Taking.{at_is, content_more, contents_more, fill_again, further, spelled}
 
 -- FILL BYTES
 
@@ -237,10 +237,62 @@ fills_continue r piece n e is =
     let size = length-take-le n piece (omega (arith, is, within)) in
     (is ∙ ap (λ (p : Phase). due_of p r.left piece) (sym e), ap (λ (m : ℕ). with_taken r m) (sym size) ∙ ap (λ (p : Phase). continued p r (take n piece)) (sym e))
 
+-- each of them completes nothing
+last_of_take : (m : ℕ) (xs : List ℕ) → m < length xs → take (suc m) xs ≡ take m xs ++ get_or xs m 0 ∷ []
+last_of_take m xs h = let one : suc m ≡ m + 1 = omega arith in ap (λ (k : ℕ). take k xs) one ∙ take_more xs m 0 h
+
+fill_reached : (r : Reading) (front : List ℕ) (before : List Segment) (piece : List ℕ) (m : ℕ) → r.phase ≡ phase.Fill → StandsForSegments front before r → suc m ≤ filled piece → Reaches (kept_rule r.limits) (front ++ take (suc m) piece) at_part
+fill_reached r front before piece m e s few =
+    let within = filled_within piece in
+    let some = take_shorter (suc m) (filled piece) piece few in
+    let one : take (suc m) piece ≡ replicate {A = ℕ} (suc m) 255 =
+    sym some ∙ ap (λ (l : List ℕ). take (suc m) l) (filled_front piece) ∙ take-replicate (suc m) (filled piece) 255 few in
+    let before_last = fills_more r front before m r.taken e s in
+    let reached = (fill_again (with_taken r r.taken) (front ++ replicate m 255) before e before_last).0 in
+    let up : m + 1 ≡ suc m = omega arith in
+    let joined : (front ++ replicate m 255) ++ 255 ∷ [] ≡ front ++ take (suc m) piece =
+    append_assoc front (replicate m 255) (255 ∷ []) ∙ ap (λ (l : List ℕ). front ++ l) (replicate-append-replicate {A = ℕ} m 1 255 ∙ ap (λ (k : ℕ). replicate {A = ℕ} k 255) up ∙ sym one) in
+    subst (λ (l : List ℕ). Reaches (kept_rule r.limits) l at_part) joined reached
+
+content_reached : (r : Reading) (front : List ℕ) (before : List Segment) (piece : List ℕ) (m : ℕ) → r.phase ≡ phase.Contents → StandsForSegments front before r → suc m ≤ min (r.left - 1) (length piece)
+    → Reaches (kept_rule r.limits) (front ++ take (suc m) piece) at_part
+content_reached r front before piece m e s few =
+    let size = length-take-le m piece (omega (arith, few)) in
+    let mid = with_contents r (take m piece) in
+    let inside = contents_more r front before (take m piece) e s (omega (arith, few, size)) in
+    let next = content_more mid (front ++ take m piece) before (get_or piece m 0) (mid.left - 1) e inside (omega (arith, few, size)) (omega (arith, few, size)) in
+    subst (λ (l : List ℕ). Reaches (kept_rule r.limits) l at_part) (append_assoc front (take m piece) (get_or piece m 0 ∷ []) ∙ ap (λ (l : List ℕ). front ++ l) (sym (last_of_take m piece (omega (arith, few))))) next.0
+
+parts_reached : (r : Reading) (piece : List ℕ) (n : ℕ) → n ≡ due_of r.phase r.left piece → PassesParts r piece n
+parts_reached r piece n is front before zero s some few = absurd (omega (arith, some))
+parts_reached r piece n is front before (suc m) s some few = by r.phase refl
+  where
+    idle : (p : Phase) → r.phase ≡ p → due_of p r.left piece ≡ 0 → Reaches (kept_rule r.limits) (front ++ take (suc m) piece) at_part
+    idle p e none =
+        let z : n ≡ 0 = is ∙ ap (λ q. due_of q r.left piece) e ∙ none in
+        absurd (omega (arith, few, z))
+
+    by : (p : Phase) → r.phase ≡ p → Reaches (kept_rule r.limits) (front ++ take (suc m) piece) at_part
+    by phase.Empty e = idle phase.Empty e refl
+    by phase.HalfStart e = idle phase.HalfStart e refl
+    by phase.Between e = idle phase.Between e refl
+    by phase.Coded e = idle phase.Coded e refl
+    by phase.HalfLength e = idle phase.HalfLength e refl
+    by phase.Ended e = idle phase.Ended e refl
+    by phase.Fill e =
+        let due : n ≡ filled piece = is ∙ ap (λ q. due_of q r.left piece) e in
+        fill_reached r front before piece m e s (omega (arith, few, due))
+    by phase.Contents e =
+        let due : n ≡ min (r.left - 1) (length piece) = is ∙ ap (λ q. due_of q r.left piece) e in
+        content_reached r front before piece m e s (omega (arith, few, due))
+
 pub continues_stands : (old : Reading) (piece : List ℕ) (answer : Result ℕ NoMemory) (new : Reading) → Continues old piece answer new → PassesSome old piece answer new
 continues_stands old piece (Err e) new is = tt
-continues_stands old piece (Ok n) new is =
-    (some_within old.phase old.left n piece is.0, λ bytes before s. subst (λ (r : Reading). StandsForSegments (bytes ++ take n piece) before r) (sym is.1) (some_stands old bytes before piece n is.0 s))
+continues_stands old piece (Ok n) new is = (
+  some_within old.phase old.left n piece is.0,
+  λ bytes before s. subst (λ (r : Reading). StandsForSegments (bytes ++ take n piece) before r) (sym is.1) (some_stands old bytes before piece n is.0 s),
+  parts_reached old piece n is.0,
+)
 
 pub not_some : {X : Type 0} → (o : Option X) → is_some o ≡ false → o ≡ None
 not_some None e = refl

@@ -18,10 +18,6 @@ or_last true false = refl
 or_last false true = refl
 or_last false false = refl
 
-or_ends : (a b c : Bool) → (a || (b || c)) ≡ ((a || b) || c)
-or_ends true b c = refl
-or_ends false b c = refl
-
 any_of-reverse : {X : Type 0} (f : X → Bool) (xs : List X) → any_of f (reverse xs) ≡ any_of f xs
 any_of-reverse f [] = refl
 any_of-reverse f (x ∷ xs) =

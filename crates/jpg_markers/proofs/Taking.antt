@@ -1,7 +1,6 @@
 -- The effect of each further byte on the bytes that a reader of segments represents.
-use Rattle.std.proofs.Common.{◌≡◌, ℕ, zero, suc, ◌+◌, ◌-◌, ◌/◌, ◌%◌, ◌<◌, ◌≤◌, Bool, true, false, List, [], ◌∷◌, ◌++◌, length, take, replicate, Option, Some, None, Ok, refl, sym, ap, ◌∙◌, subst, arith, inl, inr}
-use Rattle.std.proofs.lemmas.List.{append_assoc, append-nil, length-append, length-take-le}
-use Rattle.std.specs.Prelude.{min}
+use Rattle.std.proofs.Common.{◌≡◌, ℕ, zero, suc, ◌+◌, ◌-◌, ◌/◌, ◌%◌, ◌<◌, ◌≤◌, Bool, true, false, List, [], ◌∷◌, ◌++◌, length, replicate, Option, Some, None, Ok, refl, sym, ap, ◌∙◌, subst, arith, inl, inr}
+use Rattle.std.proofs.lemmas.List.{append_assoc, append-nil, length-append}
 use Rattle.std.specs.Int.{to_be_bytes, w16}
 use Rattle.jpg_spec.specs.Segments.{two_bytes}
 use Rattle.jpg_spec.specs.Markers.{Segment, Rule, soi, SpellsMarker, SpellsSegment, SpellsSegments, code_fault, code_fault_if, is_frame_code, kept_rule, Pass, Between, BeginsSegment, SegmentsReveal, Reaches, at_eoi}
@@ -73,12 +72,6 @@ item_more r bytes before e s =
     let next = further (kept_rule r.limits) bytes before tail (255 ∷ []) between in
     let is : tail ++ 255 ∷ [] ≡ 255 ∷ [] = ap (λ (t : List ℕ). t ++ 255 ∷ []) none in
     (inr (before, tail ++ 255 ∷ [], next, inl (1, is), not_nil tail 255), (s.0, (tail ++ 255 ∷ [], next, seen, (0, is))))
-
-pub item_fault : (r : Reading) (bytes : List ℕ) (before : List Segment) (byte : ℕ) → r.phase ≡ phase.Between → StandsForSegments bytes before r → (byte ≡ 255 → ⊥) → SegmentsReveal (kept_rule r.limits) NoMarker (bytes ++ byte ∷ []) × RevealsAfter (kept_rule r.limits) before NoMarker (bytes ++ byte ∷ [])
-item_fault r bytes before byte e s ne =
-    let (tail, between, seen, none) = at_is r phase.Between bytes before e s in
-    let next = further (kept_rule r.limits) bytes before tail (byte ∷ []) between in
-    shown (kept_rule r.limits) before NoMarker (bytes ++ byte ∷ []) (inr (tail ++ byte ∷ [], next, inl (refl, inl (byte, ap (λ (t : List ℕ). t ++ byte ∷ []) none, ne))))
 
 -- AFTER FF
 
@@ -240,10 +233,6 @@ content_whole r bytes before byte e s last =
     let all : length (r.contents ++ byte ∷ []) + 2 ≡ two_bytes high low = omega (arith, long, last, least, length-append r.contents (byte ∷ [])) in
     let P : List ℕ → Type 0 = λ t. SpellsSegment r.code (r.contents ++ byte ∷ []) t in
     (tail ++ byte ∷ [], next, seen, subst P (sym cut) (spelled r.code high low marker (r.contents ++ byte ∷ []) begins.0 h l all), begins.1, begins.2)
-
-pub contents_short : (r : Reading) (bytes : List ℕ) (before : List Segment) → r.phase ≡ phase.Contents → StandsForSegments bytes before r → length r.contents < 65533
-contents_short r bytes before e s =
-    let (tail, between, seen, (marker, high, low, begins, is, h, l, long, least)) = at_is r phase.Contents bytes before e s in omega (arith, h, l, long, least)
 
 -- A COMPLETE SEGMENT
 

@@ -200,8 +200,13 @@ Continues old bytes (Err e) new = new ≡ old
 abbrev pub PassesBytes : Reading → List ℕ → Reading → Type 0
 PassesBytes old more new = (bytes : List ℕ) (before : List Segment) → StandsForSegments bytes before old → StandsForSegments (bytes ++ more) before new
 
+-- and none of them completed anything
+abbrev pub PassesParts : Reading → List ℕ → ℕ → Type 0
+PassesParts old bytes n =
+    (front : List ℕ) (before : List Segment) (m : ℕ) → StandsForSegments front before old → 1 ≤ m → m ≤ n → Reaches (kept_rule old.limits) (front ++ take m bytes) at_part
+
 abbrev pub PassesSome : Reading → List ℕ → Result ℕ NoMemory → Reading → Type 0
-PassesSome old bytes (Ok n) new = (n ≤ length bytes) × PassesBytes old (take n bytes) new
+PassesSome old bytes (Ok n) new = (n ≤ length bytes) × PassesBytes old (take n bytes) new × PassesParts old bytes n
 PassesSome old bytes (Err e) new = Unit {0}
 
 -- a code, a length and contents, and perhaps further bytes

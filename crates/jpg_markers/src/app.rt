@@ -1,10 +1,11 @@
 //! Application segments, parsed (JFIF 1.02, Adobe's APP14).
 ghost use Rattle.std.specs.Prelude.{◌≡◌, ◌≤◌, ℕ, Some, length};
 ghost use Rattle.jpg_spec.specs.Lists.{begins_with};
-ghost use Rattle.jpg_spec.specs.Jfif.{is_jfif, is_adobe, jfif_told};
+ghost use Rattle.jpg_spec.specs.Jfif.{begins_adobe, begins_jfif, is_jfif, is_adobe, jfif_told};
 ghost use Rattle.jpg_markers.specs.Apps.{IsApp};
 
 use byteorder::{BigEndian, ByteOrder};
+use jpg_base::codes::{APP0, APP14};
 use jpg_spec::Jfif;
 
 /// What an application segment means.
@@ -45,20 +46,34 @@ fn header_of(contents: &[u8]) -> Jfif
     }
 }
 
+/// Whether a segment begins as a JFIF header (JFIF 1.02).
+pub(crate) fn begins_jfif(code: u8, contents: &[u8]) -> bool
+    ensures { result ≡ begins_jfif code contents.now }
+{
+    code == APP0 && begins_with(contents, b"JFIF\0")
+}
+
+/// Whether a segment begins as Adobe's APP14.
+pub(crate) fn begins_adobe(code: u8, contents: &[u8]) -> bool
+    ensures { result ≡ begins_adobe code contents.now }
+{
+    code == APP14 && begins_with(contents, b"Adobe")
+}
+
 pub(crate) fn is_jfif(code: u8, contents: &[u8]) -> bool
     ensures { result ≡ is_jfif (code, contents.now) }
 {
-    code == 0xe0 && begins_with(contents, b"JFIF\0") && 14 <= contents.len()
+    begins_jfif(code, contents) && 14 <= contents.len()
 }
 
 pub(crate) fn is_adobe(code: u8, contents: &[u8]) -> bool
     ensures { result ≡ is_adobe (code, contents.now) }
 {
-    code == 0xee && begins_with(contents, b"Adobe") && 12 <= contents.len()
+    begins_adobe(code, contents) && 12 <= contents.len()
 }
 
-/// Whether the contents begin with these bytes.
-pub(crate) fn begins_with(contents: &[u8], front: &[u8]) -> bool
+// Whether the contents begin with these bytes.
+fn begins_with(contents: &[u8], front: &[u8]) -> bool
     ensures { result ≡ begins_with front.now contents.now }
 {
     contents.starts_with(front)

@@ -28,6 +28,7 @@ pub use jpg_spec::{Copying, Jfif};
 pub use kept::{Kept, KeptList, KeptRest};
 pub use quants::{QuantSet, read_dqt};
 pub use scan::{accepted_heads_are_of_their_frames, read_sos};
+pub use seen::{is_header, is_kept};
 pub use segments::{SegStep, SegmentReader};
 pub use whole::{WholeSegment, fill_length, segment_at};
 pub use writing::{OutHead, file_head, is_wide, write_segment};

@@ -3,13 +3,13 @@ ghost use Rattle.std.specs.Prelude.{◌≡◌, ◌*◌, ◌<◌, ◌≤◌, not,
 ghost use Rattle.jpg_spec.specs.Geometry.{Frame as Numbers};
 ghost use Rattle.jpg_spec.specs.Segments.{ScanHead as Head};
 ghost use Rattle.jpg_spec.specs.Lists.{index_of, is_among, is_distinct};
-ghost use Rattle.jpg_spec.specs.Geometry.{factor_sum, is_progressive};
+ghost use Rattle.jpg_spec.specs.Geometry.{factor_sum};
 ghost use Rattle.jpg_spec.specs.FrameHeader.{identifiers};
 ghost use Rattle.jpg_spec.specs.ScanContents.{IsHead, are_among, are_bits, are_parameters, checked_head, head_told, ids_told, is_band, parts_told, scan_header};
 
 use arrayvec::ArrayVec;
 use jpg_base::{Frame, ScanHead};
-use jpg_spec::{Fault, Process, ScanPart};
+use jpg_spec::{Fault, ScanPart};
 
 /// The scan header of these contents in a frame, or their first fault: BadLength (not four bytes and two for each
 /// component that they count), ScanComponent (not one to four components, or one that isn't in the frame or occurs
@@ -51,20 +51,10 @@ fn head_of(frame: &Frame, count: u8, parts: &[u8], band: &[u8]) -> Result<ScanHe
     if count > 1 && blocks_of(frame, head.parts.as_slice()) > 10 {
         return Err(Fault::McuTooLarge);
     }
-    if is_progressive(frame.process()) && !are_parameters(frame, count, &head) {
+    if frame.is_progressive() && !are_parameters(frame, count, &head) {
         return Err(Fault::ScanParameters);
     }
     Ok(head)
-}
-
-fn is_progressive(process: Process) -> bool
-    ensures { result ≡ is_progressive process }
-{
-    match process {
-        Process::Baseline => false,
-        Process::Extended => false,
-        Process::Progressive => true,
-    }
 }
 
 // Whether a progressive scan of this many components may have the header's band and bits.

@@ -5,7 +5,8 @@ ghost use Rattle.jpg_spec.specs.Markers.{code_fault_if, is_frame_code, is_kept_i
 ghost use Rattle.jpg_spec.specs.declared.frame.Limits.{Limits};
 ghost use Rattle.jpg_markers.specs.Seen.{Exceeds, HasSeen, Leaves, allows};
 
-use crate::app::{begins_with, is_adobe, is_jfif};
+use crate::app::{begins_adobe, begins_jfif, is_adobe, is_jfif};
+use jpg_base::codes::{APP0, APP15, COM, EOI, RST0, SOF0, SOF2, SOI, SOS};
 use jpg_spec::Fault;
 
 /// What is remembered of the complete segments so far: whether a frame header, a scan header, a JFIF header of 14 bytes
@@ -53,7 +54,7 @@ impl Seen {
             self.adobe = either(is_plain_adobe(code, contents), self.adobe);
         }
         self.framed = either(is_frame_code(code), self.framed);
-        self.scanned = either(code == 0xda, self.scanned);
+        self.scanned = either(code == SOS, self.scanned);
     }
 }
 
@@ -67,13 +68,13 @@ fn either(a: bool, b: bool) -> bool
 pub fn code_fault(framed: bool, code: u8) -> Option<Fault>
     ensures { result ≡ code_fault_if framed code }
 {
-    if is_unexpected(code) || code == 0xd9 && !framed {
+    if is_unexpected(code) || code == EOI && !framed {
         Some(Fault::UnexpectedMarker)
     } else if is_unsupported(code) {
         Some(Fault::UnsupportedProcess)
     } else if is_frame_code(code) && framed {
         Some(Fault::SecondFrame)
-    } else if code == 0xda && !framed {
+    } else if code == SOS && !framed {
         Some(Fault::SosBeforeSof)
     } else {
         None
@@ -84,15 +85,17 @@ pub fn code_fault(framed: bool, code: u8) -> Option<Fault>
 pub fn is_frame_code(code: u8) -> bool
     ensures { result ≡ is_frame_code code }
 {
-    0xc0 <= code && code <= 0xc2
+    SOF0 <= code && code <= SOF2
 }
 
+// RES and TEM, then RST0 to SOI, and JPG0 to JPG13.
 fn is_unexpected(code: u8) -> bool
     ensures { result ≡ is_unexpected code }
 {
-    0x01 <= code && code <= 0xbf || (0xd0 <= code && code <= 0xd8 || 0xf0 <= code && code <= 0xfd)
+    0x01 <= code && code <= 0xbf || (RST0 <= code && code <= SOI || 0xf0 <= code && code <= 0xfd)
 }
 
+// SOF3, SOF5 to SOF15 with JPG and DAC among them, DNL, DHP and EXP.
 fn is_unsupported(code: u8) -> bool
     ensures { result ≡ is_unsupported code }
 {
@@ -100,24 +103,20 @@ fn is_unsupported(code: u8) -> bool
         || (0xc5 <= code && code <= 0xcf || (code == 0xdc || (code == 0xde || code == 0xdf)))
 }
 
-/// Whether a segment is kept: APPn and COM, but after a scan no JFIF and Adobe segments.
+/// Whether a segment is kept, by whether a scan header was before it: APPn and COM, but after a scan no JFIF header and
+/// no Adobe segment (JFIF 1.02, Adobe's APP14).
 pub fn is_kept(scanned: bool, code: u8, contents: &[u8]) -> bool
     ensures { result ≡ is_kept_if scanned code contents.now }
 {
-    (code == 0xfe || 0xe0 <= code && code <= 0xef)
-        && !(scanned && (begins_jfif(code, contents) || begins_adobe(code, contents)))
+    (code == COM || APP0 <= code && code <= APP15) && !(scanned && is_header(code, contents))
 }
 
-fn begins_jfif(code: u8, contents: &[u8]) -> bool
-    ensures { result ≡ begins_jfif code contents.now }
+/// Whether a segment begins as one that determines the colours or the density of a file: a JFIF header or an Adobe
+/// segment (JFIF 1.02, Adobe's APP14).
+pub fn is_header(code: u8, contents: &[u8]) -> bool
+    ensures { result ≡ (begins_jfif code contents.now || begins_adobe code contents.now) }
 {
-    code == 0xe0 && begins_with(contents, b"JFIF\0")
-}
-
-fn begins_adobe(code: u8, contents: &[u8]) -> bool
-    ensures { result ≡ begins_adobe code contents.now }
-{
-    code == 0xee && begins_with(contents, b"Adobe")
+    begins_jfif(code, contents) || begins_adobe(code, contents)
 }
 
 fn is_plain_jfif(code: u8, contents: &[u8]) -> bool

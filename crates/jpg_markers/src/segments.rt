@@ -10,6 +10,7 @@ ghost use Rattle.jpg_markers.specs.Reading.{reading_of, AfterWhole, StandsForSeg
 use crate::seen::{Seen, code_fault, is_frame_code};
 use crate::whole::{WholeSegment, fill_length};
 use byteorder::{BigEndian, ByteOrder};
+use jpg_base::codes::{EOI, SOI};
 use jpg_base::{NoMemory, Stop};
 use jpg_spec::{Fault, FaultAt, Limits};
 use std::alloc::Global;
@@ -141,6 +142,8 @@ impl SegmentReader {
         requires { (reading_of self.old).taken + length bytes.now ≤ (reading_of self.old).limits.input }
         ensures continues { Continues (reading_of self.old) bytes.now result (reading_of self.new) }
         ensures stands { PassesSome (reading_of self.old) bytes.now result (reading_of self.new) }
+        ensures taken { IfOk result (λ n. (reading_of self.new).taken ≡ (reading_of self.old).taken + n) }
+        ensures limits { (reading_of self.new).limits ≡ (reading_of self.old).limits }
         ensures room { HasRoom self.old → HasRoom self.new }
     {
         match self.phase {
@@ -161,6 +164,8 @@ impl SegmentReader {
         requires room { (reading_of self.old).taken + length bytes.now ≤ (reading_of self.old).limits.input }
         ensures continues { Continues (reading_of self.old) bytes.now result (reading_of self.new) }
         ensures room { HasRoom self.old → HasRoom self.new }
+        ensures taken { IfOk result (λ n. (reading_of self.new).taken ≡ (reading_of self.old).taken + n) }
+        ensures limits { (reading_of self.new).limits ≡ (reading_of self.old).limits }
     {
         let due = self.left.saturating_sub(1) as usize;
         let n = due.min(bytes.len());
@@ -180,6 +185,8 @@ impl SegmentReader {
         requires room { (reading_of self.old).taken + length bytes.now ≤ (reading_of self.old).limits.input }
         ensures continues { Continues (reading_of self.old) bytes.now (Ok result) (reading_of self.new) }
         ensures room { HasRoom self.old → HasRoom self.new }
+        ensures taken { (reading_of self.new).taken ≡ (reading_of self.old).taken + result }
+        ensures limits { (reading_of self.new).limits ≡ (reading_of self.old).limits }
     {
         let within = self.taken <= self.limits.input;
         prove!(within);
@@ -193,7 +200,7 @@ impl SegmentReader {
     pub fn allows(&self, segment: &WholeSegment<'_>) -> bool
         ensures { result ≡ true → MayFollow (reading_of self.now) segment.now.code segment.now.contents.now }
     {
-        if self.stop.is_some() || segment.code == 0xd9 {
+        if self.stop.is_some() || segment.code == EOI {
             return false;
         }
         if code_fault(self.seen.framed, segment.code).is_some() {
@@ -328,7 +335,7 @@ impl SegmentReader {
         ensures whole { AfterWhole result (reading_of self.new) }
         ensures memory { HaltsNot result }
     {
-        if byte != 0xd8 {
+        if byte != SOI {
             return Err(Halt::Fault(Fault::NotJpeg));
         }
         self.phase = Phase::Between;
@@ -367,7 +374,7 @@ impl SegmentReader {
         if let Some(fault) = code_fault(self.seen.framed, code) {
             return Err(Halt::Fault(fault));
         }
-        if code == 0xd9 {
+        if code == EOI {
             self.phase = Phase::Ended;
             return Ok(SegStep::Eoi);
         }

@@ -14,6 +14,7 @@ mod segment;
 use crate::kept::KeptList;
 use frame::write_frame;
 pub use head::OutHead;
+use jpg_base::codes::SOI;
 use jpg_base::{Desk, WriteFault};
 use jpg_huff::BitOut;
 use markers::write_markers;
@@ -39,7 +40,7 @@ pub fn file_head<D: Desk>(
     ensures { Sends (D.state desk.old) out.old (front_text (head_meaning head.now kept.now)) result out.new (D.state desk.new) }
 {
     let tables = distinct_tables(head.quants.as_slice());
-    out.raw(&[0xff, 0xd8], desk)?;
+    out.raw(&[0xff, SOI], desk)?;
     write_markers(head, kept, out, desk)?;
     write_tables(tables.as_slice(), out, desk)?;
     write_frame(head, tables.as_slice(), out, desk)

@@ -20,9 +20,6 @@ part_on bytes piece at used s e =
 pub none_yet : (bytes piece : List ℕ) → run at_start (bytes ++ take 0 piece) ≡ run at_start bytes
 none_yet bytes piece = ap (run at_start) (append-nil bytes)
 
-pub all_read : (bytes piece : List ℕ) (at : ℕ) → length piece ≤ at → run at_start (bytes ++ take at piece) ≡ run at_start (bytes ++ piece)
-all_read bytes piece at h = ap (λ x. run at_start (bytes ++ x)) (take_all at piece h)
-
 front : (bytes piece rest : List ℕ) (n : ℕ) → n ≤ length piece → take (length bytes + n) ((bytes ++ piece) ++ rest) ≡ bytes ++ take n piece
 front bytes piece rest n h = ap (take (length bytes + n)) (append_assoc bytes piece rest) ∙ take-append-add bytes (piece ++ rest) n ∙ ap (λ x. bytes ++ x) (take-append-le n piece rest h)
 

@@ -52,9 +52,6 @@ pub record HasGone (b : BandScan) (ac : List Code) (left : ℕ) (old : InWork) (
   pub goes_on : IsOpenBand b new
   pub through : Through b ac left old bits new
 
-pub none_gone : (b : BandScan) (ac : List Code) (left : ℕ) (old : InWork) (store : List Bool) → 1 ≤ length store → IsOpenBand b old → HasGone b ac left old store old store
-none_gone b ac left old store more o = record { bits = []; split = refl; more = more; goes_on = o; through = refl }
-
 pub gone_then : (b : BandScan) (ac : List Code) (left : ℕ) (old : InWork) (store : List Bool) (mid : InWork) (here : List Bool) (step : BandStep) (new : InWork) (rest : List Bool) → HasGone b ac left old store mid here → TakesBand b ac left mid here step new rest
     → TakesBand b ac left old store step new rest
 gone_then b ac left old store mid here step new rest x y =

@@ -13,12 +13,6 @@ rest_more values at most l h =
     let e : most - at ≡ suc (most - (at + 1)) = omega arith in
     ap (λ n. take n (drop at values)) e ∙ ap (take (suc (most - (at + 1)))) (drop_more values at (pos 0) (omega arith))
 
-pub rest_next : (values : List ℤ) (at most : ℕ) → most ≤ length values → at < most → take (most - at) (drop at values) ≡ get_or values at (pos 0) ∷ drop 1 (take (most - at) (drop at values))
-rest_next values at most l h = rest_more values at most l h ∙ ap (λ xs. get_or values at (pos 0) ∷ xs) (sym (ap (drop 1) (rest_more values at most l h)))
-
-pub rest_value : (values : List ℤ) (at most : ℕ) (v : ℤ) → most ≤ length values → at < most → get_or values at (pos 0) ≡ v → take (most - at) (drop at values) ≡ v ∷ drop 1 (take (most - at) (drop at values))
-rest_value values at most v l h e = rest_next values at most l h ∙ ap (λ (x : ℤ). x ∷ drop 1 (take (most - at) (drop at values))) e
-
 -- after a place that is written
 pub drop_after : {X : Type 0} → (xs : List X) (i : ℕ) (y : X) → i < length xs → drop (i + 1) (set xs i y) ≡ drop (i + 1) xs
 drop_after [] i y h = absurd (omega arith)
@@ -61,11 +55,6 @@ put_after (x ∷ xs) (suc at) (suc most) v h = put_after xs at most v (omega ari
 pub zero_is : (v : ℤ) → v ≡ pos 0 → is_zero v ≡ true
 zero_is v e = ap is_zero e
 
-pub zero_not : (v : ℤ) → (v ≡ pos 0 → ⊥) → is_zero v ≡ false
-zero_not (pos zero) h = absurd (h refl)
-zero_not (pos (suc n)) h = refl
-zero_not (negsuc n) h = refl
-
 -- if something is left, the place is before the last one
 pub rest_short : (values : List ℤ) (at most : ℕ) → 1 ≤ length (take (most - at) (drop at values)) → at < most
 rest_short values at most h = ⊎_elim (λ (k : at < most). k) (λ (k : most ≤ at). absurd (none k)) (cases_lt at most)
@@ -78,11 +67,6 @@ pub counted_more : (values : List ℤ) (at most count one total : ℕ) → most 
 counted_more values at most count one total l h e o =
     let r : zeros_in (take (most - at) (drop at values)) ≡ cond (is_zero (get_or values at (pos 0))) 1 0 + zeros_in (take (most - (at + 1)) (drop (at + 1) values)) = ap zeros_in (rest_more values at most l h) in
     omega (arith, r, o, e)
-
-pub one_most : (v : ℤ) (one : ℕ) → one ≡ cond (is_zero v) 1 0 → one ≤ 1
-one_most (pos zero) one e = omega (arith, e)
-one_most (pos (suc n)) one e = omega (arith, e)
-one_most (negsuc n) one e = omega (arith, e)
 
 -- a block whose band is done
 pub whole_values : (values : List ℤ) (start at most : ℕ) → start ≤ at → at ≤ most → most ≤ length values → length (take (most - at) (drop at values)) ≡ 0

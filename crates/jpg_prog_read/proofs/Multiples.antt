@@ -13,10 +13,6 @@ double al = ap (λ k. 2 ^ k) (add-one al) ∙ pow-succ' 2 al
 pub multiple_down : (al : ℕ) (v : ℤ) → IsMultiple (al + 1) v → IsMultiple al v
 multiple_down al v (m, e) = (2 * m, e ∙ ap (λ p. m * p) (double al) ∙ omega arith)
 
-pub multiples_down : (al : ℕ) (vs : List ℤ) → AreMultiples (al + 1) vs → AreMultiples al vs
-multiples_down al [] h = h
-multiples_down al (v ∷ vs) h = (multiple_down al v h.0, multiples_down al vs h.1)
-
 grown_size : (al : ℕ) (o : ℤ) → nat_abs (grown al true o) ≡ nat_abs o + 2 ^ al
 grown_size al (pos n) = refl
 grown_size al (negsuc n) = omega arith

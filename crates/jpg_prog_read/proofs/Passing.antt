@@ -491,9 +491,6 @@ passing_same stage.Value s n e h = h
 passing_same stage.Long s n e h = h
 passing_same stage.Ends s n e h = omega (arith, e, h)
 
-pub skipped_more : (o s n : InWork) → HasSkipped o s → n ≡ with_zero s → HasSkipped o n
-skipped_more o s n h e = subst (λ (x : InWork). HasSkipped o x) (sym e) (record { stage = h.stage; bands = h.bands; front = h.front; behind = h.behind; fits = λ b f. fits_more b s.rest (h.fits b f) })
-
 pub passing_more : (s n : InWork) → n ≡ with_zero s → IsPassing s.stage s → IsPassing n.stage n
 passing_more s n e h = subst (λ (x : InWork). IsPassing x.stage x) (sym e) (passing_same s.stage s (with_zero s) refl h)
 

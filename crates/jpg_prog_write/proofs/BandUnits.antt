@@ -36,9 +36,6 @@ pub record IsAcHead (head : ScanHead) : Type 0 where
 few_bits : (f : Frame) (head : ScanHead) → are_bits f head ≡ true → head.al ≤ 10
 few_bits f head e = le_of head.al 10 (both (head.ah == 0 || head.ah == head.al + 1) (nat_le head.al 10) e).1
 
-pub bits_of_head : (f : Frame) (head : ScanHead) → IsProgScan f head → head.al ≤ 10
-bits_of_head f head is = few_bits f head (both (is_band (length head.parts) head) (are_bits f head) is.parameters).1
-
 pub ac_head : (f : Frame) (head : ScanHead) → IsProgScan f head → 1 ≤ head.ss → IsAcHead head
 ac_head f head is some =
     let p = both (is_band (length head.parts) head) (are_bits f head) is.parameters in
@@ -48,14 +45,6 @@ ac_head f head is some =
     let q = both (n == 1) (nat_le head.ss head.se && nat_le head.se 63) e in
     let r = both (nat_le head.ss head.se) (nat_le head.se 63) q.1 in
     record { one = same_of n 1 q.0; order = le_of head.ss head.se r.0; most = le_of head.se 63 r.1; bits = few_bits f head p.1 }
-
-pub is_band_of : (head : ScanHead) (band : Band) → IsAcHead head → 1 ≤ head.ss → IsBandOf head band → IsBand band
-is_band_of head band is some b = record {
-  some = omega (arith, b.start, some);
-  order = omega (arith, b.start, b.end, is.order);
-  most = omega (arith, b.end, is.most);
-  bits = omega (arith, b.al, is.bits);
-}
 
 -- the one part is that of each place
 pub one_part : (f : Frame) (head : ScanHead) (p : Place) → length head.parts ≡ 1 → IsScanPlace f head p → (part_of head p.component).ac ≡ first_slot head

@@ -40,9 +40,6 @@ value_whole run bits (pos zero) later item n is = absurd (n refl)
 value_whole run bits (pos (suc m)) later item n is = record { element = value run (pos (suc m)) bits; is = is; first = refl }
 value_whole run bits (negsuc m) later item n is = record { element = value run (negsuc m) bits; is = is; first = refl }
 
-pub correction_goes : (run : ℕ) (bits : List Bool) (b : Bool) (later : List Sent) → run ≤ 15 → IsElementStep run bits (correction b ∷ later) (Goes run) (bits ++ b ∷ []) later
-correction_goes run bits b later few = (few, refl, (λ e. ends_some (correction b) later e refl))
-
 -- ITS CATEGORY
 
 pub short_divided : (al : ℕ) (v : ℤ) → al ≤ 10 → nat_abs v < 2 ^ 14 → category (divided al v) ≤ 14

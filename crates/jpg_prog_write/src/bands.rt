@@ -12,6 +12,12 @@ use crate::item::{Item, ends_item, long_item, value_item};
 use arrayvec::ArrayVec;
 use jpg_base::Block;
 
+// The most bands of an EOB run, which the code EOB14 with 14 bits counts (T.81, G.1.2.2).
+const LONGEST_RUN: u16 = 32767;
+
+// The most correction bits after which a band is still added to a run: its own are at most 63, which makes 1000.
+const MOST_WAITING: usize = 937;
+
 /// Correction bits that wait for the code of an element.
 pub(crate) type Waiting = ArrayVec<bool, 1000>;
 
@@ -174,7 +180,7 @@ fn wait_rest(band: Band, block: &Block, from: u8, waiting: &mut Waiting)
 fn is_full(bands: u16, waiting: usize) -> bool
     ensures { result ≡ (bands == 32767 || nat_lt 937 waiting) }
 {
-    bands == 32767 || waiting > 937
+    bands == LONGEST_RUN || waiting > MOST_WAITING
 }
 
 impl Bands {

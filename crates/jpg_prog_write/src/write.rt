@@ -6,6 +6,7 @@ ghost use Rattle.jpg_prog_write.specs.Written.{IsProgScan, IsScanPlace, places_b
 
 use crate::ac::put_bands;
 use crate::dc::put_units;
+use jpg_base::codes::RST0;
 use jpg_base::{Cursor, Desk, ScanHead, WriteFault};
 use jpg_coefs::BlockView;
 use jpg_huff::{BitOut, TableSet};
@@ -91,7 +92,7 @@ pub fn write_scan<V: BlockView, D: Desk>(
         if left == 0 {
             return Ok(());
         }
-        out.raw(&[0xff, 0xd0 + turn], desk)?;
+        out.raw(&[0xff, RST0 + turn], desk)?;
         turn = (turn + 1) % 8;
     }
 }

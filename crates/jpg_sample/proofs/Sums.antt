@@ -78,9 +78,6 @@ sum_added f n sum more e is = ap (λ s. s + more) e ∙ ap (λ m. sum_by f (belo
 pub sum_bound : (across v sum more : ℕ) → sum ≤ 255 * across * v → more ≤ 255 * across → sum + more ≤ 255 * across * (v + 1)
 sum_bound across v sum more h m = (let e : 255 * across * (v + 1) ≡ 255 * across * v + 255 * across = grind arith in omega (arith, h, m, e))
 
-pub all_count : (across down count : ℕ) → count ≡ across * down → 255 * across * down ≡ 255 * count
-all_count across down count e = (let m : 255 * across * down ≡ 255 * (across * down) = grind arith in m ∙ ap (λ n. 255 * n) (sym e))
-
 -- the mean of four whose columns are there
 pub quarter_is : (rows : List ℕ) (width x r : ℕ) → 2 * x + 1 < width
     → r ≡ (slice_index rows (2 * x) + slice_index rows (2 * x + 1) + (slice_index rows (width + 2 * x) + slice_index rows (width + 2 * x + 1)) + (1 + x % 2)) / 4

@@ -127,21 +127,6 @@ longer old new f heads head l s = record {
   known = λ i k h j. l.known i k h j ∙ ap (λ (t : Option ℕ). cond (has_coefficient head i k) (Some head.al) t) (s.known i k h j) ∙ found_is head heads i k (has_coefficient head i k);
 }
 
--- the places of a component, and of the others, once one more scan of it is noted
-noted_here : (xs : List Sent) (c i : ℕ) (s : Sent) → length xs ≡ 4 → c < 4 → (c == i) ≡ true → get_or (set xs c s) i nothing_sent ≡ s
-noted_here xs c i s four low e =
-    let same : c ≡ i = same_of c i e in
-    ap (λ j. get_or (set xs c s) j nothing_sent) (sym same) ∙ get_or-set_same xs c s nothing_sent (omega (arith, low, four))
-
-noted_elsewhere : (xs : List Sent) (c i : ℕ) (s : Sent) → (c == i) ≡ false → get_or (set xs c s) i nothing_sent ≡ get_or xs i nothing_sent
-noted_elsewhere xs c i s e =
-    get_or-set_other xs c i s nothing_sent (λ same. (let z : true ≡ false = sym (self_test c) ∙ ap (λ j. c == j) (sym same) ∙ e in
-    let no : ⊥ = cc in no))
-
-begun_step : (among result b : Bool) (was now : Bool) → (b ≡ true → now ≡ true) → (b ≡ false → now ≡ was) → ((b || among) || was) ≡ result → (among || now) ≡ result
-begun_step among result true was now here other e = ap (λ t. among || t) (here refl) ∙ or_true among ∙ e
-begun_step among result false was now here other e = ap (λ t. among || t) (other refl) ∙ e
-
 known_step : (among band b : Bool) (new was now result : Option ℕ) → (b ≡ true → now ≡ cond band new was) → (b ≡ false → now ≡ was) → cond ((b || among) && band) new was ≡ result → cond (among && band) new now ≡ result
 known_step among band true new was now result here other e = ap (cond (among && band) new) (here refl) ∙ twice among band ∙ e
   where
@@ -150,32 +135,6 @@ known_step among band true new was now result here other e = ap (cond (among && 
     twice true false = refl
     twice false d = refl
 known_step among band false new was now result here other e = ap (cond (among && band) new) (other refl) ∙ e
-
--- a part is noted
-pub longer_step : (old now new : Progress) (head : ScanHead) (part : ScanPart) (rest : List ScanPart) (s : Sent) → IsLongerBy old head (part ∷ rest) now → part.component < 4 → IsNoted (sent_of now part.component) head s
-    → new.is_progressive ≡ now.is_progressive → new.count ≡ now.count → new.components ≡ slice_set now.components part.component s → IsLongerBy old head rest new
-longer_step old now new head part rest s l low noted process count parts = record {
-  process = process ∙ l.process;
-  count = count ∙ l.count;
-  four = ap length parts ∙ length-set now.components part.component s ∙ l.four;
-  begun = λ i h. begun_step (is_among i (map (λ (p : ScanPart). p.component) rest)) (names head i || begun_at old i) (part.component == i) (begun_at now i) (begun_at new i)
-      (λ e. ap (λ (x : Sent). x.is_begun) (here i e) ∙ noted.begun)
-      (λ e. ap (λ (x : Sent). x.is_begun) (other i e))
-      (l.begun i h);
-  known = λ i k h j. known_step (is_among i (map (λ (p : ScanPart). p.component) rest)) (has_in_band head k) (part.component == i) (Some head.al) (known_at now i k) (known_at new i k) (cond (names head i && has_in_band head k) (Some head.al) (known_at old i k))
-      (λ e. ap (λ (x : Sent). known_in x k) (here i e) ∙ noted.known k j ∙ ap (λ n. cond (has_in_band head k) (Some head.al) (known_at now n k)) (same_of part.component i e))
-      (λ e. ap (λ (x : Sent). known_in x k) (other i e))
-      (l.known i k h j);
-}
-  where
-    here : (i : ℕ) → (part.component == i) ≡ true → sent_of new i ≡ s
-    here i e = ap (λ (xs : List Sent). get_or xs i nothing_sent) parts ∙ noted_here now.components part.component i s l.four low e
-
-    other : (i : ℕ) → (part.component == i) ≡ false → sent_of new i ≡ sent_of now i
-    other i e = ap (λ (xs : List Sent). get_or xs i nothing_sent) parts ∙ noted_elsewhere now.components part.component i s e
-
-pub longer_none : (p : Progress) (head : ScanHead) → length p.components ≡ 4 → IsLongerBy p head head.parts p
-longer_none p head four = record { process = refl; count = refl; four = four; begun = λ i h. refl; known = λ i k h j. refl }
 
 -- BEFORE ANY SCAN
 

@@ -1,6 +1,6 @@
 //! The scans of a file so far, and which may follow (T.81, B.2.3, G.1.1.1).
 ghost use Rattle.std.specs.Prelude.{◌≡◌, ◌<◌, ◌≤◌, ℕ, [], ◌∷◌, All, OnErr, List, length, option_map};
-ghost use Rattle.jpg_spec.specs.Geometry.{Frame as Numbers, is_progressive};
+ghost use Rattle.jpg_spec.specs.Geometry.{Frame as Numbers};
 ghost use Rattle.jpg_spec.specs.History.{has_begun, order_fault};
 ghost use Rattle.jpg_spec.specs.Lists.{all_of, any_of, below};
 ghost use Rattle.jpg_spec_write.specs.ScriptFaults.{incomplete};
@@ -8,7 +8,7 @@ ghost use Rattle.jpg_spec_write.specs.declared.picture_fault.PictureFault.TheVar
 ghost use Rattle.jpg_spec.specs.Segments.{ScanHead as Head, head_components};
 
 use crate::sent::Sent;
-use jpg_base::{Fault, Frame, Process, ScanHead};
+use jpg_base::{Fault, Frame, ScanHead};
 use jpg_spec_write::PictureFault;
 
 /// The history of the scans of a file: for each component whether it was in a scan, and for each of its coefficients
@@ -31,7 +31,7 @@ impl Progress {
     {
         frame.checked();
         Progress {
-            is_progressive: is_progressive(frame.process()),
+            is_progressive: frame.is_progressive(),
             count: frame.count(),
             components: [Sent::new(); 4],
         }
@@ -148,15 +148,5 @@ impl Progress {
             }
         }
         true
-    }
-}
-
-fn is_progressive(process: Process) -> bool
-    ensures { result ≡ is_progressive process }
-{
-    match process {
-        Process::Baseline => false,
-        Process::Extended => false,
-        Process::Progressive => true,
     }
 }

@@ -35,12 +35,6 @@ pushed_long store new byte is = omega (arith, ap length is, length-append store 
 pub new_source : (store : List Bool) (bytes : List ℕ) → store ≡ [] → store ++ bits_of_bytes bytes ≡ bits_of_bytes bytes
 new_source store bytes none = ap (λ (x : List Bool). x ++ bits_of_bytes bytes) none
 
--- one more byte at hand
-pub byte_taken : (store now : List Bool) (items : List ℕ) (i byte : ℕ) → i < length items → byte ≡ get_or items i 0 → store ++ bits_of_bytes (drop i items) ≡ now → (store ++ bits_of 8 byte) ++ bits_of_bytes (drop (i + 1) items) ≡ now
-byte_taken store now items i byte h is all =
-    append_assoc store (bits_of 8 byte) (bits_of_bytes (drop (i + 1) items)) ∙ ap (λ (b : ℕ). store ++ (bits_of 8 b ++ bits_of_bytes (drop (i + 1) items))) is
-    ∙ ap (λ (b : List ℕ). store ++ bits_of_bytes b) (sym (drop_more items i 0 h)) ∙ all
-
 pub byte_fits : (store now : List Bool) (items : List ℕ) (i : ℕ) → i < length items → store ++ bits_of_bytes (drop i items) ≡ now → length store + 8 ≤ length now
 byte_fits store now items i h all = omega (arith, ap length all, length-append store (bits_of_bytes (drop i items)), bytes_long (drop i items), length-drop i items)
 
@@ -49,12 +43,6 @@ pub taken_count : (bytes : List ℕ) (taken rest : List Bool) (n left : ℕ) →
 taken_count bytes taken rest n left split is count =
     let l : n ≡ length taken = omega (arith, is, count, ap length split, length-append taken rest) in
     sym (ap (drop n) split ∙ ap (λ k. drop k (taken ++ rest)) l ∙ drop-append_seam taken rest)
-
--- bits at hand, after those that were taken before
-pub taken_then : (e : Env) (s mid t : Work) (source old filled new : Source) (answer : UnitProgress) → TakesFrom e s source More mid old → bits_in filled ≡ bits_in old → (length filled.store < 32 → filled.bytes.now ≡ [])
-    → TakesFromStore e mid filled.store answer t new.store → new.bytes.now ≡ filled.bytes.now → (answer ≡ Empty → length filled.store < 32) → TakesFrom e s source answer t new
-taken_then e s mid t source old filled new answer before same full k bytes few =
-    takes_then e s mid t (bits_in source) (bits_in old) (bits_in new) answer before (taken_at_hand e mid t old filled new answer same full k bytes few)
 
 -- four more bytes at hand
 pub four_long : (A B C D four : List Bool) → length A ≡ 8 → length B ≡ 8 → length C ≡ 8 → length D ≡ 8 → four ≡ ((A ++ B) ++ C) ++ D → length four ≡ 32

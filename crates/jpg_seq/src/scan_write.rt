@@ -9,6 +9,7 @@ ghost use Rattle.jpg_seq.specs.BlockBits.{IsShort};
 ghost use Rattle.jpg_seq.specs.ScanWritten.{IsScanPlace, block_due, unit_bits, places_bits, places_data, written_data};
 
 use crate::write::put_block;
+use jpg_base::codes::RST0;
 use jpg_base::{Block, Cursor, Desk, Place, ScanHead, ScanPart, WriteFault};
 use jpg_coefs::BlockView;
 use jpg_huff::{BitOut, EncoderSet, TableSet};
@@ -159,7 +160,7 @@ pub fn write_seq_scan<V: BlockView, D: Desk>(
         if left == 0 {
             return Ok(());
         }
-        out.raw(&[0xff, 0xd0 + turn], desk)?;
+        out.raw(&[0xff, RST0 + turn], desk)?;
         turn = (turn + 1) % 8;
     }
 }

@@ -105,8 +105,3 @@ not_shown limits items before contents front u a x s k none e =
 pub none_behind : (limits : Limits) (items before : List Item) (contents front u a x : List ℕ) → EndsInHeader limits a contents before → PlainItems limits items front → (HasHead limits (segments_of items) u → ⊥) → a ++ x ≡ front ++ u → ⊥
 none_behind limits items before contents front u a x s k none e =
     not_shown limits items before contents front u a x s k (λ next. none (next_head limits items (with_header contents before) u x next)) e
-
--- or if the items have a frame
-pub none_framed : (limits : Limits) (items before : List Item) (contents front u a x : List ℕ) → EndsInHeader limits a contents before → PlainItems limits items front → has_frame (segments_of items) ≡ true → a ++ x ≡ front ++ u → ⊥
-none_framed limits items before contents front u a x s k found e =
-    not_shown limits items before contents front u a x s k (λ next. none_later limits contents next.later before items next.first s.blocks s.leads next.joined found) e

@@ -90,12 +90,6 @@ places_among limits bytes p tail w =
 
 -- THE LAWS
 
--- no block is twice in an interval
-pub places_distinct : (limits : Limits) (bytes : List ℕ) (p : ScanPlace) (tail : List ℕ) → ScanAt limits bytes p tail → is_distinct (head_components (head_of limits p)) ≡ true → AreDistinct p.places
-places_distinct limits bytes p tail w e =
-    let cut = places_cut limits bytes p tail w in
-    distinct_front p.places cut.1 (distinct_behind cut.0 (p.places ++ cut.1) (subst (λ l. AreDistinct l) cut.2 (units_distinct (frame_of limits (segments_of p.items)) (head_components (head_of limits p)) e)))
-
 map_same : (parts : List ℕ) (f g : Place → UnitLeft) (places : List Place) → AllAmong parts places → ((q : Place) → is_among q.component parts ≡ true → f q ≡ g q) → map f places ≡ map g places
 map_same parts f g [] a h = refl
 map_same parts f g (q ∷ places) a h = ap (λ u. u ∷ map f places) (h q a.0) ∙ ap (λ l. g q ∷ l) (map_same parts f g places a.1 h)

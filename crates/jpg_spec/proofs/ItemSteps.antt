@@ -122,14 +122,6 @@ same_tail rule sent before tail other v w = (same_front before v.front w.front t
 
 -- MORE BYTES
 
-pub beside_start : (limits : Limits) (rule : Rule) → Beside limits rule soi soi [] []
-beside_start limits rule = record {
-  fill = 0;
-  between = record { front = soi; cut = refl; spelled = refl; passed = tt };
-  behind = record { front = soi; blocks = no_blocks; cut = refl; spelled = refl; leads = refl };
-  plain = inl (refl, refl);
-}
-
 pub beside_more : (limits : Limits) (rule : Rule) (sent bytes : List ℕ) (items : List Item) (tail more : List ℕ) → Beside limits rule sent bytes items tail → Beside limits rule (sent ++ more) (bytes ++ more) items (tail ++ more)
 beside_more limits rule sent bytes items tail more w = record {
   fill = w.fill;
@@ -251,25 +243,6 @@ scan_left limits rule sent bytes p after fill code w marker means between =
     )
 
 -- EOI, if each component was in a scan
-pub file_whole : (limits : Limits) (rule : Rule) (sent bytes : List ℕ) (items : List Item) (blocks : Blocks) (tail : List ℕ) → Beside limits rule sent bytes items tail → Leads limits items blocks
-    → SpellsMarker 0xd9 tail → code_fault (segments_of items) 0xd9 ≡ None → is_complete (frame_of limits (segments_of items)) (segments_of items) ≡ true → length bytes ≤ limits.input
-    → Means limits bytes (meaning_of (frame_of limits (segments_of items)) (segments_of items) blocks)
-file_whole limits rule sent bytes items blocks tail w leads end framed complete long = record {
-  items = items;
-  blocks = blocks;
-  front = (w.behind).front;
-  marker = replicate w.fill 255 ++ tail;
-  rest = [];
-  cut = (w.behind).cut ∙ sym (append-nil ((w.behind).front ++ (replicate w.fill 255 ++ tail)));
-  spelled = (w.behind).spelled;
-  ended = fill_marker w.fill 0xd9 tail end;
-  long = subst (λ l. length l ≤ limits.input) (w.behind).cut long;
-  leads = leads;
-  framed = framed;
-  complete = complete;
-  meaning = refl;
-}
-
 -- or not
 pub missing_shown : (limits : Limits) (rule : Rule) (sent bytes : List ℕ) (items : List Item) (tail : List ℕ) → Beside limits rule sent bytes items tail
     → SpellsMarker 0xd9 tail → code_fault (segments_of items) 0xd9 ≡ None → is_complete (frame_of limits (segments_of items)) (segments_of items) ≡ false → Reveals limits MissingComponent bytes

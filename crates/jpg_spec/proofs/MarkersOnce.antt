@@ -85,11 +85,6 @@ SpellsMore (s ∷ before) bytes =
     (front : List ℕ) × (rest : List ℕ) × (bytes ≡ front ++ rest) × SpellsMore before front × SpellsSegment s.0 s.1 rest × (s.0 ≡ 0xd9 → ⊥)
 
 -- SOI is before them
-pub with_start : (xs : List Segment) (text : List ℕ) → SpellsMore xs text → SpellsSegments xs (soi ++ text)
-with_start [] text s = ap (λ l. soi ++ l) s
-with_start (x ∷ xs) text s =
-    (soi ++ s.0, s.1, ap (λ l. soi ++ l) s.2 ∙ sym (append_assoc soi s.0 s.1), with_start xs s.0 s.3, s.4, s.5)
-
 pub after_start : (xs : List Segment) (bytes : List ℕ) → SpellsSegments xs bytes → (text : List ℕ) × (bytes ≡ soi ++ text) × SpellsMore xs text
 after_start [] bytes s = ([], s, refl)
 after_start (x ∷ xs) bytes s =

@@ -83,9 +83,6 @@ band_spelled c s p i vs chosen us l ok is =
 
 -- ELEMENTS with their components
 
-elements_of : List Owned → List Element
-elements_of owned = map (λ (o : Owned). o.1) owned
-
 owned_elements : (i : ℕ) (es : List Element) (rest : List Owned) → map (λ (o : Owned). o.1) (map (λ e. (let o : Owned = (i, e) in o)) es ++ rest) ≡ es ++ map (λ (o : Owned). o.1) rest
 owned_elements i [] rest = refl
 owned_elements i (e ∷ es) rest = ap (λ t. e ∷ t) (owned_elements i es rest)

@@ -54,10 +54,6 @@ use Rattle.jpg_file.specs.declared.write.Plan.{Plan}
 
 -- COMPONENTS
 
--- the numbers of a component of a frame
-numbers_at : (f : Frame) (i : ℕ) → numbers_of (component_at f i) ≡ get_or (map numbers_of f.components) i (numbers_of no_component)
-numbers_at f i = sym (listn.get_or-map numbers_of f.components i no_component)
-
 any_map : {A B : Type 0} (t : B → Bool) (f : A → B) (xs : List A) → any_of (λ x. t (f x)) xs ≡ any_of t (map f xs)
 any_map t f [] = refl
 any_map t f (x ∷ xs) = ap (λ b. t (f x) || b) (any_map t f xs)

@@ -180,9 +180,6 @@ turned_ids t M = ap (map (λ (c : PictureComponent). c.id)) (transformed_compone
     by true = map_map (λ (c : PictureComponent). c.id) exchanged_axes M.components
     by false = refl
 
-colour_with : (count : ℕ) (ids : List ℕ) (kept : List (ℕ × List ℕ)) → Colour
-colour_with count ids kept = colours_of count ids (jfif_of kept).seen (adobe_transform kept)
-
 same_colour : (M N : Meaning) → map (λ c. c.id) M.components ≡ map (λ c. c.id) N.components → M.kept ≡ N.kept → colour_of M ≡ colour_of N
 same_colour M N ids kept =
     let count : length M.components ≡ length N.components = sym (length-map M.components (λ c. c.id)) ∙ ap length ids ∙ length-map N.components (λ c. c.id) in

@@ -126,18 +126,8 @@ fn moved_tables(tables: &[QuantTable], choice: &Choice) -> ArrayVec<QuantTable, 
     if transposes(choice.transform) {
         turned(kept)
     } else {
-        copied(kept)
+        QuantTable::copied(kept)
     }
-}
-
-// A copy of the tables.
-fn copied(tables: &[QuantTable]) -> ArrayVec<QuantTable, 4>
-    requires { length tables.now ≤ 4 }
-    ensures { result.items ≡ tables.now }
-{
-    let mut list = ArrayVec::new();
-    let _ = list.try_extend_from_slice(tables);
-    list
 }
 
 // The tables with their axes exchanged.

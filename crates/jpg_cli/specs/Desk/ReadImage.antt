@@ -1,24 +1,23 @@
 -- WHAT READING AN IMAGE does to a desk (release 6b's image files), by its result.
-use Rattle.std.specs.Prelude.{◌≡◌, ℕ, ◌<◌, ◌≤◌, true, false, List, [], ◌∷◌, ◌++◌, length, Result, Ok, Err}
+use Rattle.std.specs.Prelude.{◌≡◌, ℕ, ◌<◌, ◌≤◌, true, false, List, [], ◌∷◌, ◌++◌, length, Option, None, Some, Result, Ok, Err}
 use Rattle.std.specs.Io.KnownBytes.{Consumes}
 use Rattle.jpg_base.specs.declared.names.Name.{Name}
 use Rattle.jpg_base.specs.declared.names.Put.TheVariants as put
-use Rattle.jpg_base.specs.Desk.{DeskState, Rose}
+use Rattle.jpg_base.specs.Desk.{DeskState}
 use Rattle.jpg_spec_image.specs.Images.{Image}
 use Rattle.jpg_spec_image.specs.ImageFaults.{IsImage, IsImageFault, IsOpenImage}
 use Rattle.jpg_spec.specs.Segments.{standard_limits}
 use Rattle.jpg_spec.specs.declared.fault.FaultAt.{FaultAt}
 use Rattle.jpg_spec_words.specs.declared.answers.Why.{Why}
 use Rattle.jpg_spec_words.specs.declared.answers.Why.TheVariants as why
-use Rattle.jpg_spec_words.specs.declared.answers.Which.TheVariants as which
 use Rattle.jpg_color.specs.Encode.{image_told}
 use Rattle.jpg_pnm_bmp.specs.Made.{IsRightImage}
 use Rattle.jpg_pnm_bmp.specs.PixelsRead.{HasFedImage, image_read, is_image_read}
 use Rattle.jpg_pnm_bmp.specs.declared.read.pixels.Image.{Image as Read}
 use Rattle.jpg_pnm_bmp.specs.declared.read.pixels.PixelReader.{PixelReader}
-use Rattle.jpg_cli.specs.Endings.{Asks, Stopped, Unopened, Unread}
+use Rattle.jpg_cli.specs.Endings.{Asks}
 use Rattle.jpg_cli.specs.Desk.Reading.{rest_of}
-use Rattle.jpg_cli.specs.Desk.ReadPicture.{ReadsFrom, TakesPieces}
+use Rattle.jpg_cli.specs.Desk.Judging.{Judging, NoValueRead, NoValueTaken, ReadsFrom, TakesPieces}
 use Rattle.jpg_cli.specs.Stays.{OnlyReads}
 use Rattle.jpg_cli.specs.declared.desk.image.ImageStep.{ImageStep}
 use Rattle.jpg_cli.specs.declared.desk.image.ImageStep.TheVariants as step
@@ -49,22 +48,34 @@ pub record IsFaultRead (f : FaultAt) (rest bytes : List ℕ) : Type 0 where
   pub is : IsImageFault standard_limits (bytes ++ rest) f.fault f.at
   pub read : IsShortImageRead bytes
 
+-- ALL THAT IS JUDGED of them, and of the file; one that ends early is a fault
+abbrev pub has_image : Image → Option ℕ → List ℕ → List ℕ → Type 0
+has_image image None rest bytes = IsImageRead image rest bytes
+has_image image (Some n) rest bytes = ⊥
+
+abbrev pub means_image : Option ℕ → Image → List ℕ → Type 0
+means_image None image bytes = IsImage standard_limits bytes image
+means_image (Some n) image bytes = ⊥
+
+abbrev pub image_judging : Judging Image
+image_judging = record {
+  means = means_image;
+  refuses = λ f bytes. IsImageFault standard_limits bytes f.fault f.at;
+  has = has_image;
+  refused = IsFaultRead;
+  unfinished = IsOpenImageRead;
+  short = IsShortImageRead;
+}
+
 -- THE ANSWERS: the image of the file, or why there is none
 abbrev pub ImageRead : Name → DeskState → Result Read Why → DeskState → Type 0
 ImageRead file old (Ok i) new = Asks (file ∷ []) put.Done old new × ReadsFrom file (IsImageRead (image_told i) (rest_of new.left)) old new
-ImageRead file old (Err (why.Refused f)) new = Stopped (file ∷ []) put.Done old new × ReadsFrom file (IsFaultRead f (rest_of new.left)) old new
-ImageRead file old (Err (why.OpenFault which.Input)) new = Unopened (file ∷ []) old new
-ImageRead file old (Err (why.ReadFault which.Input)) new = Unread (file ∷ []) old new × ReadsFrom file IsOpenImageRead old new
-ImageRead file old (Err why.NoMemory) new = Stopped (file ∷ []) put.Done old new × ReadsFrom file IsShortImageRead old new
-ImageRead file old (Err other) new = ⊥
+ImageRead file old (Err ended) new = NoValueRead image_judging file old ended new
 
 -- STEP BY STEP, from a desk whose input is open
 
 abbrev pub EndsEarly : DeskState → Why → DeskState → Type 0
-EndsEarly old (why.Refused f) new = TakesPieces (IsFaultRead f (rest_of new.left)) old new
-EndsEarly old (why.ReadFault which.Input) new = TakesPieces IsOpenImageRead old new × Rose old.counts.reads new.counts.reads
-EndsEarly old why.NoMemory new = TakesPieces IsShortImageRead old new
-EndsEarly old other new = ⊥
+EndsEarly old ended new = NoValueTaken image_judging old ended new
 
 abbrev pub EndsImageReading : DeskState → Result Read Why → DeskState → Type 0
 EndsImageReading old (Ok i) new = TakesPieces (IsImageRead (image_told i) (rest_of new.left)) old new × IsRightImage (image_told i)

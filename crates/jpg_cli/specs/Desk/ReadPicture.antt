@@ -3,20 +3,19 @@ use Rattle.std.specs.Prelude.{◌≡◌, ◌⊎◌, ℕ, ◌+◌, ◌<◌, ◌�
 use Rattle.std.specs.Io.KnownBytes.{Consumes}
 use Rattle.jpg_base.specs.declared.names.Name.{Name}
 use Rattle.jpg_base.specs.declared.names.Put.TheVariants as put
-use Rattle.jpg_base.specs.Desk.{DeskState, Rose}
+use Rattle.jpg_base.specs.Desk.{DeskState}
 use Rattle.jpg_spec.specs.Geometry.{Frame}
 use Rattle.jpg_spec_image.specs.NotShown.{IsNotShown}
 use Rattle.jpg_spec_image.specs.Pixels.{out_fault}
 use Rattle.jpg_spec.specs.Segments.{standard_limits}
 use Rattle.jpg_spec.specs.Meaning.{Meaning}
 use Rattle.jpg_spec.specs.UnfinishedFile.{UnfinishedFile, IsWholeFile}
-use Rattle.jpg_spec.specs.Early.{MeansEarly}
+use Rattle.jpg_spec.specs.Early.{MeansAs, MeansEarly}
 use Rattle.jpg_spec.specs.FileMeaning.{meaning_of}
 use Rattle.jpg_spec.specs.InForce.{frame_of}
 use Rattle.jpg_spec.specs.declared.fault.FaultAt.{FaultAt}
 use Rattle.jpg_spec_words.specs.declared.answers.Why.{Why}
 use Rattle.jpg_spec_words.specs.declared.answers.Why.TheVariants as why
-use Rattle.jpg_spec_words.specs.declared.answers.Which.TheVariants as which
 use Rattle.jpg_spec.specs.declared.fault.Fault.{Fault}
 use Rattle.jpg_spec.specs.declared.frame.Colour.{Colour}
 use Rattle.jpg_spec.specs.declared.frame.Copying.{Copying}
@@ -26,8 +25,9 @@ use Rattle.jpg_color.specs.Shown.{factors_of}
 use Rattle.jpg_file.specs.Read.PictureRead.{MeansFor}
 use Rattle.jpg_file.specs.Read.ReadFile.{HasRead, IsDone, IsEarlyEnd, IsRefusal, ReaderState}
 use Rattle.jpg_file.specs.declared.read.picture.Picture.{Picture}
-use Rattle.jpg_cli.specs.Endings.{Asks, Stopped, Unopened, Unread}
-use Rattle.jpg_cli.specs.Desk.Reading.{IsFile, rest_of}
+use Rattle.jpg_cli.specs.Endings.{Asks}
+use Rattle.jpg_cli.specs.Desk.Judging.{IsAllRead, Judging, NoValueRead, NoValueTaken, ReadsFrom, TakesPieces}
+use Rattle.jpg_cli.specs.Desk.Reading.{rest_of}
 use Rattle.jpg_cli.specs.Stays.{OnlyReads}
 use Rattle.jpg_cli.specs.declared.desk.picture.PictureStep.{PictureStep}
 use Rattle.jpg_cli.specs.declared.desk.picture.PictureStep.TheVariants as step
@@ -77,16 +77,6 @@ abbrev pub IsReadPicture : Wanted → Meaning → Option ℕ → List ℕ → Ty
 IsReadPicture w M None bytes = IsWholeRead w M bytes
 IsReadPicture w M (Some n) bytes = IsEarlyRead w M n bytes
 
--- if they end early, they are all of the file
-abbrev pub IsAllRead : Option ℕ → DeskState → Type 0
-IsAllRead None new = Unit {0}
-IsAllRead (Some n) new = rest_of new.left ≡ []
-
--- the answer when the complete output was written
-abbrev pub done_as : Option ℕ → Why
-done_as None = why.Done
-done_as (Some n) = why.Warned n
-
 -- The file, which has this rest after the bytes, is refused with this fault. The bytes reveal it, and fewer than 65,536
 -- of them are after it.
 pub record IsRefusedRead (w : Wanted) (f : FaultAt) (rest bytes : List ℕ) : Type 0 where
@@ -109,36 +99,28 @@ pub record IsShortRead (w : Wanted) (bytes : List ℕ) : Type 0 where
   pub few : length piece ≤ 65536
   pub before : IsOpenRead w front
 
--- BY ITS RESULT
-
--- Bytes of the file of this name, no more than may be, were read; this holds of them, and the others are left.
-pub record ReadsFrom (file : Name) (Is : List ℕ → Type 0) (old new : DeskState) : Type 0 where
-  pub bytes : List ℕ
-  pub read : IsFile old.files file (bytes ++ rest_of new.left)
-  pub most : length bytes ≤ standard_limits.input
-  pub is : Is bytes
+-- ALL THAT IS JUDGED of them, and of the file
+abbrev pub picture_judging : Wanted → Judging Meaning
+picture_judging w = record {
+  means = λ early M bytes. MeansAs standard_limits early bytes M × (unwanted_for w M ≡ None);
+  refuses = λ f bytes. IsRefusedFor w bytes f;
+  has = λ M early rest. IsReadPicture w M early;
+  refused = λ f rest. IsRefusedRead w f rest;
+  unfinished = IsOpenRead w;
+  short = IsShortRead w;
+}
 
 -- THE ANSWERS: the picture means what the file means, except for markers that aren't kept when these are passed on; or
 -- why there is none
 abbrev pub PictureRead : Wanted → Copying → Name → DeskState → Result (Picture × Option ℕ) Why → DeskState → Type 0
 PictureRead w keeping file old (Ok found) new =
     Asks (file ∷ []) put.Done old new × ((M : Meaning) × MeansFor keeping found.0 M × ReadsFrom file (IsReadPicture w M found.1) old new) × IsAllRead found.1 new
-PictureRead w keeping file old (Err (why.Refused f)) new = Stopped (file ∷ []) put.Done old new × ReadsFrom file (IsRefusedRead w f (rest_of new.left)) old new
-PictureRead w keeping file old (Err (why.OpenFault which.Input)) new = Unopened (file ∷ []) old new
-PictureRead w keeping file old (Err (why.ReadFault which.Input)) new = Unread (file ∷ []) old new × ReadsFrom file (IsOpenRead w) old new
-PictureRead w keeping file old (Err why.NoMemory) new = Stopped (file ∷ []) put.Done old new × ReadsFrom file (IsShortRead w) old new
-PictureRead w keeping file old (Err other) new = ⊥
+PictureRead w keeping file old (Err ended) new = NoValueRead (picture_judging w) file old ended new
 
 -- STEP BY STEP, from a desk whose input is open
 
-abbrev pub TakesPieces : (List ℕ → Type 0) → DeskState → DeskState → Type 0
-TakesPieces Is old new = (bytes : List ℕ) × Consumes old.left new.left bytes × (length bytes ≤ standard_limits.input) × Is bytes
-
 abbrev pub EndsEarly : Wanted → DeskState → Why → DeskState → Type 0
-EndsEarly w old (why.Refused f) new = TakesPieces (IsRefusedRead w f (rest_of new.left)) old new
-EndsEarly w old (why.ReadFault which.Input) new = TakesPieces (IsOpenRead w) old new × Rose old.counts.reads new.counts.reads
-EndsEarly w old why.NoMemory new = TakesPieces (IsShortRead w) old new
-EndsEarly w old other new = ⊥
+EndsEarly w old ended new = NoValueTaken (picture_judging w) old ended new
 
 abbrev pub EndsReading : Wanted → Copying → DeskState → Result (Picture × Option ℕ) Why → DeskState → Type 0
 EndsReading w keeping old (Ok found) new = ((M : Meaning) × MeansFor keeping found.0 M × TakesPieces (IsReadPicture w M found.1) old new) × IsAllRead found.1 new

@@ -1,5 +1,5 @@
 -- WHAT WRITING A TRANSFORMED PICTURE does to a desk, by its result (the manual of jpegtran).
-use Rattle.std.specs.Prelude.{◌≡◌, ℕ, ◌<◌, List, All, take, None, Some}
+use Rattle.std.specs.Prelude.{◌≡◌, ℕ, ◌<◌, List, All, take, Option, None, Some}
 use Rattle.jpg_base.specs.declared.names.Name.{Name}
 use Rattle.jpg_base.specs.declared.names.Put.TheVariants as put
 use Rattle.jpg_base.specs.Desk.{DeskState, Rose, NotesName}
@@ -7,10 +7,15 @@ use Rattle.jpg_base.specs.Laws.{Grows}
 use Rattle.jpg_spec.specs.FileMeaning.{Means}
 use Rattle.jpg_spec.specs.Early.{IsMeaning}
 use Rattle.jpg_spec.specs.Meaning.{Meaning}
+use Rattle.jpg_spec_words.specs.declared.answers.Why.{Why}
+use Rattle.jpg_spec_words.specs.declared.answers.Why.TheVariants as why
+use Rattle.jpg_spec_words.specs.declared.answers.Which.TheVariants as which
+use Rattle.jpg_spec_write.specs.declared.picture_fault.PictureFault.{PictureFault}
 use Rattle.jpg_spec_move.specs.Moved.{Choice, moved, moved_text, picture_fault}
 use Rattle.jpg_spec.specs.Segments.{standard_limits}
 use Rattle.jpg_file.specs.Read.PictureRead.{MeansFor}
 use Rattle.jpg_file.specs.declared.read.picture.Picture.{Picture}
+use Rattle.jpg_cli.specs.Desk.Judging.{done_as}
 use Rattle.jpg_cli.specs.Stays.{Untouched}
 use Rattle.jpg_cli.specs.declared.desk.moved.Wrote.{Wrote}
 use Rattle.jpg_cli.specs.declared.desk.moved.Wrote.TheVariants as wrote
@@ -36,14 +41,30 @@ AfterOutput output old due wrote.OpenFault new =
 AfterOutput output old due wrote.WriteFault new =
     NotesName old.asked (output, put.Done) new.asked × Rose old.counts.writes new.counts.writes × GrowsInPart output old due new
 
--- THE ANSWERS: the picture has a fault for this choice, and nothing was created; or it has none, and its text is
--- written, which means the transformed picture if some bytes mean the picture
+-- WHAT WAS MADE of an input, which has this fault or none, and this text, is written, by why that ended: it has a fault,
+-- and nothing was created; or it has none, and its text is written, of which this holds.
+abbrev pub AfterMade : Option PictureFault → List ℕ → Type 0 → Name → DeskState → Why → DeskState → Type 0
+AfterMade fault text Right output old why.Done new = (fault ≡ None) × AfterOutput output old text wrote.Done new × Right
+AfterMade fault text Right output old (why.Picture p) new = (fault ≡ Some p) × Untouched old new
+AfterMade fault text Right output old (why.OpenFault which.Output) new = (fault ≡ None) × AfterOutput output old text wrote.OpenFault new
+AfterMade fault text Right output old why.WriteFault new = (fault ≡ None) × AfterOutput output old text wrote.WriteFault new
+AfterMade fault text Right output old other new = ⊥
+
+-- the answer of a conversion then, if the input ended early after this many bytes
+abbrev pub as_early : Option ℕ → Why → Why
+as_early early why.Done = done_as early
+as_early early other = other
+
+abbrev pub why_wrote : Wrote → Why
+why_wrote wrote.Done = why.Done
+why_wrote (wrote.Picture fault) = why.Picture fault
+why_wrote wrote.OpenFault = why.OpenFault which.Output
+why_wrote wrote.WriteFault = why.WriteFault
+
+-- THE ANSWERS for a transformed picture, whose text means it if some bytes mean the picture
 abbrev pub AfterMoved : Choice → Meaning → Name → DeskState → Wrote → DeskState → Type 0
-AfterMoved choice M output old (wrote.Picture fault) new = (picture_fault choice M ≡ Some fault) × Untouched old new
-AfterMoved choice M output old wrote.Done new =
-    (picture_fault choice M ≡ None) × AfterOutput output old (moved_text choice M) wrote.Done new × (IsMeant M → MeansMoved choice M)
-AfterMoved choice M output old wrote.OpenFault new = (picture_fault choice M ≡ None) × AfterOutput output old (moved_text choice M) wrote.OpenFault new
-AfterMoved choice M output old wrote.WriteFault new = (picture_fault choice M ≡ None) × AfterOutput output old (moved_text choice M) wrote.WriteFault new
+AfterMoved choice M output old answer new =
+    AfterMade (picture_fault choice M) (moved_text choice M) (IsMeant M → MeansMoved choice M) output old (why_wrote answer) new
 
 -- Whatever picture this one means, except for markers that the choice doesn't pass on.
 abbrev pub WritesMoved : Choice → Picture → Name → DeskState → Wrote → DeskState → Type 0

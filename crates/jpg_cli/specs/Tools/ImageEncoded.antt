@@ -1,8 +1,7 @@
 -- HOW ENCODING AN IMAGE ENDS (the manual of cjpeg), by why it ended.
-use Rattle.std.specs.Prelude.{◌≡◌, ◌⊎◌, ℕ, List, [], ◌∷◌, ◌++◌, take, Option, None, Some}
+use Rattle.std.specs.Prelude.{◌≡◌, ◌⊎◌, List, ◌++◌, Option}
 use Rattle.jpg_base.specs.declared.names.Name.{Name}
-use Rattle.jpg_base.specs.declared.names.Put.TheVariants as put
-use Rattle.jpg_base.specs.Desk.{DeskState, Rose}
+use Rattle.jpg_base.specs.Desk.{DeskState}
 use Rattle.jpg_spec_encode.specs.Encoded.{Encoding, encode_fault, encoded, encoded_text}
 use Rattle.jpg_spec_words.specs.EncodeWords.{EncodeAsked, encoding_asked}
 use Rattle.jpg_spec.specs.FileMeaning.{Means}
@@ -11,12 +10,10 @@ use Rattle.jpg_spec_write.specs.ScansAsked.{Scans}
 use Rattle.jpg_spec.specs.Segments.{QuantTable, standard_limits}
 use Rattle.jpg_spec_words.specs.declared.answers.Why.{Why}
 use Rattle.jpg_spec_words.specs.declared.answers.Why.TheVariants as why
-use Rattle.jpg_spec_words.specs.declared.answers.Which.TheVariants as which
 use Rattle.jpg_cli.specs.Commands.{name_of}
-use Rattle.jpg_cli.specs.Endings.{Added, GoesOnAfter, Stopped, Unopened, Unread}
-use Rattle.jpg_cli.specs.Desk.Reading.{rest_of}
-use Rattle.jpg_cli.specs.Desk.ReadImage.{IsFaultRead, IsImageRead, IsOpenImageRead, IsShortImageRead}
-use Rattle.jpg_cli.specs.Desk.ReadPicture.{ReadsFrom}
+use Rattle.jpg_cli.specs.Endings.{GoesOnAfter}
+use Rattle.jpg_cli.specs.Desk.ReadImage.{image_judging}
+use Rattle.jpg_cli.specs.Outcome.{Conversion, Converted, at_end}
 use Rattle.jpg_cli.specs.Desk.ScriptTaken.{HasScans, StopsAtScans, names_before}
 use Rattle.jpg_cli.specs.Stays.{Untouched}
 use Rattle.jpg_cli.specs.Desk.TablesTaken.{HasTables, StopsAtTables, tables_names}
@@ -28,42 +25,26 @@ pub record EncodeTask : Type 0 where
   pub output : Name
   pub encoding : Image → Encoding
 
-abbrev pub to_image : EncodeTask → List Name
-to_image t = t.before ++ t.input ∷ []
-
--- The image of the input was read.
-abbrev pub ReadsImage : EncodeTask → Image → DeskState → DeskState → Type 0
-ReadsImage t I old new = ReadsFrom t.input (IsImageRead I (rest_of new.left)) old new
-
--- And its picture has no fault.
-pub record ReadsEncodable (t : EncodeTask) (I : Image) (old new : DeskState) : Type 0 where
-  pub read : ReadsImage t I old new
-  pub admitted : encode_fault (t.encoding I) I ≡ None
-
--- This text was written to the output.
-abbrev pub WroteFile : EncodeTask → List ℕ → DeskState → DeskState → Type 0
-WroteFile t text old new = Added (to_image t) t.output text old new
-
 -- The text of the file of an encoded image means the picture of it.
 abbrev pub MeansEncoded : EncodeTask → Image → Type 0
 MeansEncoded t I = Means standard_limits (encoded_text (t.encoding I) I) (encoded (t.encoding I) I)
 
--- Done: the output has the text of the file of the image encoded as it is asked for, which means its picture. If the
--- output wasn't written to its end, it has a first part of that text. The output is created only after an image was
--- read whose picture has no fault.
+-- THE CONVERSION: the image's picture has no fault; the text is that of the file of the image encoded as it is asked
+-- for, which means its picture
+abbrev pub encoding_conversion : EncodeTask → Conversion Image
+encoding_conversion t = record {
+  before = t.before;
+  input = t.input;
+  output = t.output;
+  judging = image_judging;
+  fault = λ I. encode_fault (t.encoding I) I;
+  text = λ I. encoded_text (t.encoding I) I;
+  right = MeansEncoded t;
+  writing = at_end;
+}
+
 abbrev pub Encoded : EncodeTask → DeskState → Why → DeskState → Type 0
-Encoded t old why.Done new = (I : Image) × ReadsEncodable t I old new × WroteFile t (encoded_text (t.encoding I) I) old new × MeansEncoded t I
-Encoded t old (why.Refused f) new = Stopped (to_image t) put.Done old new × ReadsFrom t.input (IsFaultRead f (rest_of new.left)) old new
-Encoded t old (why.Picture fault) new =
-    Stopped (to_image t) put.Done old new × ((I : Image) × ReadsImage t I old new × (encode_fault (t.encoding I) I ≡ Some fault))
-Encoded t old (why.OpenFault which.Input) new = Unopened (to_image t) old new
-Encoded t old (why.OpenFault which.Output) new = Unopened (to_image t ++ t.output ∷ []) old new × ((I : Image) × ReadsEncodable t I old new)
-Encoded t old (why.ReadFault which.Input) new = Unread (to_image t) old new × ReadsFrom t.input IsOpenImageRead old new
-Encoded t old why.WriteFault new =
-    Rose old.counts.writes new.counts.writes
-    × ((I : Image) × (count : ℕ) × ReadsEncodable t I old new × WroteFile t (take count (encoded_text (t.encoding I) I)) old new)
-Encoded t old why.NoMemory new = Stopped (to_image t) put.Done old new × ReadsFrom t.input IsShortImageRead old new
-Encoded t old other new = ⊥
+Encoded t old ended new = Converted (encoding_conversion t) old ended new
 
 -- what is encoded as the words ask for it, in these scans and by these tables, after these names
 abbrev pub task_after : List Name → EncodeAsked → Scans → Option (List QuantTable) → EncodeTask

@@ -1,5 +1,5 @@
 -- HOW DECODING A PICTURE ENDS (the manual of djpeg), by why it ended.
-use Rattle.std.specs.Prelude.{◌≡◌, ◌⊎◌, ◌<◌, ◌≤◌, ℕ, Bool, true, false, List, [], ◌∷◌, ◌++◌, length, take, Option, None, Some}
+use Rattle.std.specs.Prelude.{◌≡◌, ◌<◌, ℕ, Bool, true, false, List, [], length, take, Option, None, Some}
 use Rattle.jpg_base.specs.declared.names.Name.{Name}
 use Rattle.jpg_base.specs.declared.names.Put.TheVariants as put
 use Rattle.jpg_base.specs.Desk.{DeskState, NotesName, Rose}
@@ -14,7 +14,6 @@ use Rattle.jpg_spec.specs.RowsTold.{picture_so_far}
 use Rattle.jpg_spec.specs.RowsTold.{BeginsScanOfAll, TellsRows}
 use Rattle.jpg_spec.specs.Scan.{Blocks}
 use Rattle.jpg_spec.specs.Segments.{standard_limits}
-use Rattle.jpg_spec.specs.declared.fault.FaultAt.{FaultAt}
 use Rattle.jpg_spec_words.specs.declared.answers.Why.{Why}
 use Rattle.jpg_spec_words.specs.declared.answers.Why.TheVariants as why
 use Rattle.jpg_spec_words.specs.declared.answers.UsageFault.TheVariants.{NoEnd}
@@ -24,9 +23,8 @@ use Rattle.jpg_color.specs.DecodeRows.{picture_text}
 use Rattle.jpg_file.specs.declared.read.picture.Picture.{Picture}
 use Rattle.jpg_cli.specs.declared.desk.picture.Wanted.TheVariants.{Image}
 use Rattle.jpg_cli.specs.declared.words.djpeg.ShowWords.{ShowWords}
-use Rattle.jpg_cli.specs.Endings.{Added, Stopped, Unopened}
-use Rattle.jpg_cli.specs.Desk.Reading.{rest_of}
-use Rattle.jpg_cli.specs.Desk.ReadPicture.{IsAllRead, IsOpenRead, IsReadPicture, IsRefusedRead, IsShortRead, IsWholeRead, ReadsFrom}
+use Rattle.jpg_cli.specs.Desk.ReadPicture.{picture_judging}
+use Rattle.jpg_cli.specs.Outcome.{Conversion, Converted, IsSoFar, IsWrittenInTime, ReadsValue, RowTexts, by_rows}
 use Rattle.jpg_cli.specs.Stays.{Untouched}
 use Rattle.jpg_cli.specs.Desk.Writing.{GrowsInPart}
 
@@ -46,23 +44,6 @@ showing_told w = record { input = w.files.input; output = w.files.output; kind =
 -- the text of the image
 abbrev pub shown_text : Showing → Meaning → List ℕ
 shown_text s M = end_text s.kind (info M s.gray) (pixels M s.gray s.smooth)
-
--- The picture of the input was read, also if it ended early after this many bytes. It can be displayed.
-abbrev pub ReadsShown : Showing → Meaning → Option ℕ → DeskState → DeskState → Type 0
-ReadsShown s M early old new = ReadsFrom s.input (IsReadPicture (Image s.gray) M early) old new × IsAllRead early new
-
--- Such a picture was read, and a first part of its text was written to the output.
-pub record ShownInPart (s : Showing) (old new : DeskState) : Type 0 where
-  pub meaning : Meaning
-  pub early : Option ℕ
-  pub count : ℕ
-  pub read : ReadsShown s meaning early old new
-  pub wrote : Added (s.input ∷ []) s.output (take count (shown_text s meaning)) old new
-
--- and something of it is left
-pub record ShownNotWhole (s : Showing) (old new : DeskState) : Type 0 where
-  pub part : ShownInPart s old new
-  pub left : part.count < length (shown_text s part.meaning)
 
 -- OF A PICTURE WHOSE MCU ROWS ARE DECODED while it is read
 
@@ -86,80 +67,38 @@ pub record IsToldText (s : Showing) (bytes text : List ℕ) : Type 0 where
   pub told : TellsRows standard_limits bytes rows blocks
   pub same : text ≡ rows_text s.kind (picture_so_far standard_limits begun.before begun.contents blocks) s.gray s.smooth rows
 
--- which of the bytes that were read are decoded: all, or those before the place of a fault
-abbrev pub all_bytes : List ℕ → List ℕ
-all_bytes bytes = bytes
+abbrev pub row_texts : Showing → RowTexts
+row_texts s = record { begin = IsShownByRows s.gray; complete = IsRowsText s; determine = IsToldText s }
 
-abbrev pub bytes_before : FaultAt → List ℕ → List ℕ
-bytes_before f bytes = take f.at bytes
+-- THE CONVERSION: the text of the image of the picture that the input means, which can be displayed. A sequential file
+-- whose first scan has all components is decoded while it is read, another one when it was read completely.
+abbrev pub showing_conversion : Showing → Conversion Meaning
+showing_conversion s = record {
+  before = [];
+  input = s.input;
+  output = s.output;
+  judging = picture_judging (Image s.gray);
+  fault = λ M. None;
+  text = shown_text s;
+  right = λ M. Unit {0};
+  writing = by_rows (row_texts s);
+}
 
--- Bytes were read of which this holds, and no such scan began in those that are decoded. No output was added.
+abbrev pub Shown : Showing → DeskState → Why → DeskState → Type 0
+Shown s old ended new = Converted (showing_conversion s) old ended new
+
+-- its parts
+abbrev pub ReadsShown : Showing → Meaning → Option ℕ → DeskState → DeskState → Type 0
+ReadsShown s M early old new = ReadsValue Meaning (showing_conversion s) M early None old new
+
 abbrev pub IsPlain : Bool → (List ℕ → List ℕ) → (List ℕ → Type 0) → List ℕ → Type 0
 IsPlain gray upto Is bytes = Is bytes × (IsShownByRows gray (upto bytes) → ⊥)
 
-abbrev pub WritesNoImage : Showing → (List ℕ → List ℕ) → (List ℕ → Type 0) → DeskState → DeskState → Type 0
-WritesNoImage s upto Is old new = Stopped (s.input ∷ []) put.Done old new × ReadsFrom s.input (IsPlain s.gray upto Is) old new
-
--- It began in them, and this is the text of all MCU rows that they complete.
 abbrev pub IsShownUpTo : Showing → (List ℕ → List ℕ) → (List ℕ → Type 0) → List ℕ → List ℕ → Type 0
-IsShownUpTo s upto Is text bytes = Is bytes × IsShownByRows s.gray (upto bytes) × IsRowsText s (upto bytes) text
+IsShownUpTo s upto Is text bytes = IsSoFar (row_texts s) upto Is text bytes
 
--- The output has it.
-pub record ShowsSoFar (s : Showing) (upto : List ℕ → List ℕ) (Is : List ℕ → Type 0) (old new : DeskState) : Type 0 where
-  pub text : List ℕ
-  pub read : ReadsFrom s.input (IsShownUpTo s upto Is text) old new
-  pub wrote : Added (s.input ∷ []) s.output text old new
-
-abbrev pub StandsAfter : Showing → (List ℕ → List ℕ) → (List ℕ → Type 0) → DeskState → DeskState → Type 0
-StandsAfter s upto Is old new = WritesNoImage s upto Is old new ⊎ ShowsSoFar s upto Is old new
-
--- It began, and nothing was added. Fewer than 65,536 bytes were read after the end of a complete file or what it is
--- refused for.
-abbrev pub ReadsBegun : Showing → DeskState → DeskState → Type 0
-ReadsBegun s old new = ReadsFrom s.input (λ bytes. IsShortRead (Image s.gray) bytes × IsShownByRows s.gray bytes) old new
-
--- It began, and the output has a first part of the text of MCU rows that the bytes determine.
-pub record RowsInPart (s : Showing) (old new : DeskState) : Type 0 where
-  pub text : List ℕ
-  pub count : ℕ
-  pub read : ReadsFrom s.input (λ bytes. IsShortRead (Image s.gray) bytes × IsToldText s bytes text) old new
-  pub wrote : Added (s.input ∷ []) s.output (take count text) old new
-
--- and not all of the image, if the bytes have the complete file
-pub record RowsNotWhole (s : Showing) (old new : DeskState) : Type 0 where
-  pub part : RowsInPart s old new
-  pub left : (M : Meaning) → IsWholeRead (Image s.gray) M (part.read).bytes → length (take part.count part.text) < length (shown_text s M)
-
--- What was written is at least the text of these bytes without their last 65,536.
 abbrev pub IsInTime : Showing → List ℕ → List ℕ → Type 0
-IsInTime s bytes written =
-    (front rest text : List ℕ) → bytes ≡ front ++ rest → 65536 ≤ length rest → IsRowsText s front text → length text ≤ length written
-
-pub record ShownInTime (s : Showing) (old new : DeskState) : Type 0 where
-  pub part : ShownInPart s old new
-  pub early : IsInTime s ((part.read).0).bytes (take part.count (shown_text s part.meaning))
-
-pub record RowsInTime (s : Showing) (old new : DeskState) : Type 0 where
-  pub part : RowsInPart s old new
-  pub early : IsInTime s (part.read).bytes (take part.count part.text)
-
--- Done, or Warned if the input ended early: the output has the text of the image of the picture that the input means. A
--- sequential file whose first scan has all components is decoded while it is read: if it is refused, the output has the
--- rows that are ready before the fault's place, and if reading fails, those of all bytes that were read. Another one is
--- decoded when it was read completely, and if it wasn't, nothing is created. If the output wasn't written to its end,
--- it has a first part of that text, after NoMemory not all of it.
-abbrev pub Shown : Showing → DeskState → Why → DeskState → Type 0
-Shown s old why.Done new = (M : Meaning) × ReadsShown s M None old new × Added (s.input ∷ []) s.output (shown_text s M) old new
-Shown s old (why.Warned n) new = (M : Meaning) × ReadsShown s M (Some n) old new × Added (s.input ∷ []) s.output (shown_text s M) old new
-Shown s old (why.Refused f) new = StandsAfter s (bytes_before f) (IsRefusedRead (Image s.gray) f (rest_of new.left)) old new
-Shown s old (why.OpenFault which.Input) new = Unopened (s.input ∷ []) old new
-Shown s old (why.OpenFault which.Output) new =
-    Unopened (s.input ∷ s.output ∷ []) old new × (((M : Meaning) × (early : Option ℕ) × ReadsShown s M early old new) ⊎ ReadsBegun s old new)
-Shown s old (why.ReadFault which.Input) new = Rose old.counts.reads new.counts.reads × StandsAfter s all_bytes (IsOpenRead (Image s.gray)) old new
-Shown s old why.WriteFault new = Rose old.counts.writes new.counts.writes × (ShownInTime s old new ⊎ RowsInTime s old new)
-Shown s old why.NoMemory new =
-    (Stopped (s.input ∷ []) put.Done old new × ReadsFrom s.input (IsShortRead (Image s.gray)) old new) ⊎ (ShownNotWhole s old new ⊎ RowsNotWhole s old new)
-Shown s old other new = ⊥
+IsInTime s bytes written = IsWrittenInTime (row_texts s) bytes written
 
 -- with an image writer of the format that the words ask for, or none
 abbrev pub ShownBy : Bool → ShowWords → DeskState → Why → DeskState → Type 0

@@ -4,7 +4,8 @@ ghost use Rattle.jpg_spec.specs.Segments.{standard_limits};
 ghost use Rattle.jpg_file.specs.Read.File.{keeping_of};
 ghost use Rattle.jpg_file.specs.Read.ReadFile.{HasRead, head_seen};
 ghost use Rattle.jpg_cli.specs.Stays.{Keeps, OnlyReads};
-ghost use Rattle.jpg_cli.specs.Desk.ReadPicture.{AfterPictureEnd, EndDone, EndsReading, EndsCompletePicture, PictureGoesOn, HasFed, PictureRead, ReadsNext, ReadsPictureBytes, StepDone, done_as, step_unless, unwanted_in};
+ghost use Rattle.jpg_cli.specs.Desk.Judging.{done_as};
+ghost use Rattle.jpg_cli.specs.Desk.ReadPicture.{AfterPictureEnd, EndDone, EndsReading, EndsCompletePicture, PictureGoesOn, HasFed, PictureRead, ReadsNext, ReadsPictureBytes, StepDone, step_unless, unwanted_in};
 
 use crate::desk::file::read_within;
 use jpg_base::{Desk, Fed, Got, Name, Put, Stop};

@@ -95,15 +95,6 @@ fn mcu_rows(height: u32, lines: u32) -> u32
     (height + lines - 1) / lines
 }
 
-fn copied(tables: &[QuantTable]) -> ArrayVec<QuantTable, 4>
-    requires { length tables.now ≤ 4 }
-    ensures { result.items ≡ tables.now }
-{
-    let mut list = ArrayVec::new();
-    let _ = list.try_extend_from_slice(tables);
-    list
-}
-
 // The first components of a picture, without rows.
 fn new_parts(
     alloc: Global,
@@ -211,7 +202,7 @@ impl Strips {
         Ok(Strips {
             frame,
             colour: head.colour,
-            quants: copied(head.quants.as_slice()),
+            quants: QuantTable::copied(head.quants.as_slice()),
             gray,
             smooth,
             pushed: 0,

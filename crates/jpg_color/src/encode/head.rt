@@ -11,7 +11,8 @@ ghost use Rattle.jpg_color.specs.EncodeHead.{components_asked, component_asked, 
 
 use crate::encode::Encoding;
 use arrayvec::ArrayVec;
-use jpg_base::{Frame, NoMemory, QuantTable};
+use jpg_base::codes::APP0;
+use jpg_base::{Frame, NoMemory, QuantTable, greatest_factors};
 use jpg_markers::{KeptList, is_wide};
 use jpg_pnm_bmp::Image;
 use jpg_spec::{Colour, Component, Jfif, Limits, Process};
@@ -73,26 +74,6 @@ fn component_of(encoding: &Encoding, i: u8) -> Component
     }
 }
 
-fn greatest_h(components: &[Component]) -> u8
-    ensures { result ≡ greatest_across components.now }
-{
-    let mut most = 0;
-    for component in components {
-        most = most.max(component.h);
-    }
-    most
-}
-
-fn greatest_v(components: &[Component]) -> u8
-    ensures { result ≡ greatest_down components.now }
-{
-    let mut most = 0;
-    for component in components {
-        most = most.max(component.v);
-    }
-    most
-}
-
 // Whether one of the greatest factors isn't a multiple of component i's.
 fn has_fraction(components: &[Component], i: usize, across: u8, down: u8) -> bool
     requires factors { All HasFactors components.now }
@@ -112,8 +93,7 @@ fn first_fraction(components: &[Component]) -> Option<u8>
     ensures some { IfSome result (λ i. find (fraction_at components.now) (below (length components.now)) ≡ Some i) }
     ensures none { IfNone result (find (fraction_at components.now) (below (length components.now)) ≡ None) }
 {
-    let across = greatest_h(components);
-    let down = greatest_v(components);
+    let (across, down) = greatest_factors(components);
     for i in 0..components.len() {
         if has_fraction(components, i, across, down) {
             return Some(i as u8);
@@ -211,6 +191,6 @@ pub(crate) fn kept_of(alloc: Global, jfif: &Jfif) -> Result<KeptList, NoMemory>
     ensures { IfOk result (λ k. k ≡ (0xe0, jfif_contents jfif.now) ∷ []) }
 {
     let mut kept = KeptList::new(alloc);
-    kept.push(0xe0, &header_of(jfif))?;
+    kept.push(APP0, &header_of(jfif))?;
     Ok(kept)
 }

@@ -9,6 +9,7 @@ ghost use Rattle.jpg_markers.specs.Reading.{HasRoom, reading_of};
 ghost use Rattle.jpg_file.specs.Read.Items.{BetweenItems, BehindHead, AfterSegment, JudgesSegment, PassesHead, PassesItems, TakesItemByte, TakesMarker};
 
 use crate::read::segment_state::{SegmentState, SegmentTaken};
+use jpg_base::codes::SOS;
 use jpg_base::{Limits, NoMemory, Stop};
 use jpg_markers::{SegStep, SegmentReader, segment_at};
 use jpg_spec::{Copying, FaultAt};
@@ -107,7 +108,7 @@ impl Items {
         let Some(segment) = segment_at(bytes) else {
             return 0;
         };
-        if segment.code == 0xda || !self.segments.allows(&segment) {
+        if segment.code == SOS || !self.segments.allows(&segment) {
             return 0;
         }
         match self.held.take(self.limits, segment.code, segment.contents) {
@@ -168,7 +169,7 @@ impl Items {
         ensures keeping { self.new.held.keeping ≡ self.old.held.keeping }
     {
         let code = self.segments.code();
-        if code == 0xda {
+        if code == SOS {
             return ItemStep::Head;
         }
         match self.held.take(self.limits, code, self.segments.contents()) {

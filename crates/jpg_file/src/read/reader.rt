@@ -8,7 +8,7 @@ ghost use Rattle.jpg_file.specs.Read.PictureRead.{TakesEarly, TakesPicture};
 ghost use Rattle.jpg_file.specs.Read.ReadFile.{AfterEnd, EndsDone, EndsWith, FeedsFile, HasRead, ReadsPiece, TellsBegun, head_seen};
 ghost use Rattle.jpg_file.specs.declared.read.ends.End.TheVariants as ends;
 
-use crate::read::ends::{End, too_long, truncated};
+use crate::read::ends::End;
 use crate::read::file::FileWork;
 use crate::read::picture::Picture;
 use crate::read::picture_taken::picture_of;
@@ -130,7 +130,7 @@ impl Reader {
             self.done = true;
             return End::Early(taken);
         }
-        let stop = truncated(taken);
+        let stop = Stop::truncated(taken);
         self.stop = Some(stop);
         End::Stop(stop)
     }
@@ -167,7 +167,7 @@ fn read_piece(file: &mut FileWork, limits: Limits, piece: &[u8]) -> Result<Fed, 
     let mut done = 0usize;
     while done < piece.len() {
         if file.reading.taken >= limits.input {
-            return Err(too_long(limits.input));
+            return Err(Stop::too_long(limits.input));
         }
         let (n, answer) = file.some(&piece[done..]);
         done += n;
@@ -176,7 +176,7 @@ fn read_piece(file: &mut FileWork, limits: Limits, piece: &[u8]) -> Result<Fed, 
         }
     }
     if file.reading.taken >= limits.input {
-        return Err(too_long(limits.input));
+        return Err(Stop::too_long(limits.input));
     }
     Ok(Fed::More)
 }

@@ -15,7 +15,7 @@ ghost use Rattle.jpg_file.specs.Read.RowsNone.{NoneOn, NoneRead};
 ghost use Rattle.jpg_file.specs.Read.RowFaults.{FaultsOn, FaultsRead};
 ghost use Rattle.jpg_file.specs.Read.ReadRows.{EndsDoneRow, EndsRow, FeedsRow, HasBegunRows, HasReadPlainly, picture_read, whole_reader};
 
-use crate::read::ends::{End, too_long, truncated};
+use crate::read::ends::End;
 use crate::read::file::FileWork;
 use crate::read::picture::Picture;
 use crate::read::picture_taken::picture_of;
@@ -134,7 +134,7 @@ impl RowReader {
             self.done = true;
             return End::Early(taken);
         }
-        let stop = truncated(taken);
+        let stop = Stop::truncated(taken);
         self.stop = Some(stop);
         End::Stop(stop)
     }
@@ -224,7 +224,7 @@ fn read_on(work: &mut StripWork, limits: Limits, piece: &[u8]) -> Result<FedRow,
     let mut done = 0usize;
     while done < piece.len() {
         if work.file.reading.taken >= limits.input {
-            return Err(too_long(limits.input));
+            return Err(Stop::too_long(limits.input));
         }
         let (n, step) = work.some(&piece[done..]);
         done += n;
@@ -236,7 +236,7 @@ fn read_on(work: &mut StripWork, limits: Limits, piece: &[u8]) -> Result<FedRow,
         }
     }
     if work.file.reading.taken >= limits.input {
-        return Err(too_long(limits.input));
+        return Err(Stop::too_long(limits.input));
     }
     Ok(FedRow::More)
 }

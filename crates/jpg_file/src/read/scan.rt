@@ -11,6 +11,7 @@ ghost use Rattle.jpg_file.specs.Read.InData.{ArePlain, AtWork, GoesInside, IsIns
 
 use crate::read::data::{DataStep, take_data};
 use crate::read::machine::ScanReader;
+use jpg_base::codes::RST0;
 use jpg_coefs::{Coefs, ScanMachine, UnitFault};
 use jpg_huff::{Gate, Passed};
 use jpg_spec::Fault;
@@ -147,7 +148,7 @@ impl ScanWork {
             ScanStep::Fault(Fault::EntropyShort)
         } else if self.due == 0 {
             ScanStep::Marker(code)
-        } else if code != 0xd0 + self.turn {
+        } else if code != RST0 + self.turn {
             ScanStep::Fault(Fault::RestartWrong)
         } else {
             self.next_interval();

@@ -9,7 +9,6 @@ ghost use Rattle.jpg_file.specs.Read.NewScan.{IsScanHeader};
 
 use crate::read::machine::ScanReader;
 use crate::read::scan::{InScan, ScanWork};
-use crate::read::segment_state::is_progressive;
 use jpg_base::{Frame, ScanHead};
 use jpg_coefs::{Coefs, ScanMachine};
 use jpg_huff::{Gate, TableSet};
@@ -93,7 +92,7 @@ fn put_bare(
     requires { IsScanHeader frame.now head.now tables.now }
     ensures { IsBareIn frame.now head.now tables.now interval due place.new }
 {
-    if !is_progressive(frame) {
+    if !frame.is_progressive() {
         let machine = SeqReader::bare(frame, head);
         put_scan(place, ScanReader::Sequential(machine), interval, due);
     } else if head.ss > 0 {

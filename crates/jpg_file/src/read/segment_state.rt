@@ -1,20 +1,20 @@
 //! What the segments of a file define (T.81, B.2).
-ghost use Rattle.std.specs.Prelude.{◌≡◌, ◌≤◌, ◌==◌, ◌&&◌, ◌||◌, ◌<◌, All, is_none, not, true, List, [], ◌∷◌, length, Some, None};
+ghost use Rattle.std.specs.Prelude.{◌≡◌, ◌≤◌, ◌==◌, ◌&&◌, ◌<◌, All, is_none, not, true, List, [], ◌∷◌, length, Some, None};
 ghost use Rattle.jpg_spec.specs.FrameHeader.{AreLimits};
-ghost use Rattle.jpg_spec.specs.Geometry.{is_progressive};
 ghost use Rattle.jpg_spec.specs.HuffContents.{huffman_in};
 ghost use Rattle.jpg_spec.specs.History.{needs_ac_table, needs_dc_table};
-ghost use Rattle.jpg_spec.specs.Jfif.{begins_jfif, begins_adobe};
-ghost use Rattle.jpg_spec.specs.Markers.{Segment, is_kept_if, is_within, kept_rule, process_of_code};
+ghost use Rattle.jpg_spec.specs.Markers.{Segment, is_within, kept_rule, process_of_code};
 ghost use Rattle.jpg_spec.specs.declared.frame.Limits.{Limits as Bounded};
 ghost use Rattle.jpg_file.specs.Read.Keeping.{is_wanted};
 ghost use Rattle.jpg_file.specs.Read.SegmentState.{ChangesNothing, Holds, HoldsSegment, TakesSegment, lacks_any, lacks_part, told_by};
 ghost use Rattle.jpg_markers.specs.Seen.{IsOther};
 
+use jpg_base::codes::{COM, DHT, DQT, DRI, SOF0, SOF1, SOF2};
 use jpg_base::{Frame, Limits, NoMemory, ScanHead};
 use jpg_huff::DefinitionSet;
 use jpg_markers::{
-    App, Jfif, KeptList, QuantSet, read_app, read_dht, read_dqt, read_dri, read_sof,
+    App, Jfif, KeptList, QuantSet, is_header, is_kept, read_app, read_dht, read_dqt, read_dri,
+    read_sof,
 };
 use jpg_spec::{Copying, Fault, Process, ScanPart};
 use std::alloc::Global;
@@ -81,12 +81,12 @@ impl SegmentState {
         ensures keeping { self.new.keeping ≡ self.old.keeping }
     {
         match code {
-            0xc4 => self.take_huffmans(limits, contents),
-            0xdb => self.take_quants(limits, contents),
-            0xdd => self.take_interval(limits, contents),
-            0xc0 => self.take_frame(limits, 0xc0, Process::Baseline, contents),
-            0xc1 => self.take_frame(limits, 0xc1, Process::Extended, contents),
-            0xc2 => self.take_frame(limits, 0xc2, Process::Progressive, contents),
+            DHT => self.take_huffmans(limits, contents),
+            DQT => self.take_quants(limits, contents),
+            DRI => self.take_interval(limits, contents),
+            SOF0 => self.take_frame(limits, SOF0, Process::Baseline, contents),
+            SOF1 => self.take_frame(limits, SOF1, Process::Extended, contents),
+            SOF2 => self.take_frame(limits, SOF2, Process::Progressive, contents),
             _ => self.take_other(limits, code, contents),
         }
     }
@@ -190,21 +190,14 @@ fn lacks_dc(frame: &Frame, head: &ScanHead, held: &SegmentState, slot: u8) -> bo
     ensures { result ≡ (needs_dc_table frame.now head.now && is_none (huffman_in (told_by held.now).tables.dc slot)) }
 {
     let first = head.ss == 0 && head.ah == 0;
-    (!is_progressive(frame) || first) && !held.tables.has_dc(slot)
+    (!frame.is_progressive() || first) && !held.tables.has_dc(slot)
 }
 
 // Whether it needs an AC table that isn't there.
 fn lacks_ac(frame: &Frame, head: &ScanHead, held: &SegmentState, slot: u8) -> bool
     ensures { result ≡ (needs_ac_table frame.now head.now && is_none (huffman_in (told_by held.now).tables.ac slot)) }
 {
-    (!is_progressive(frame) || 0 < head.ss) && !held.tables.has_ac(slot)
-}
-
-/// Whether the frame's process is progressive.
-pub fn is_progressive(frame: &Frame) -> bool
-    ensures { result ≡ is_progressive frame.now.process }
-{
-    matches!(frame.process(), Process::Progressive)
+    (!frame.is_progressive() || 0 < head.ss) && !held.tables.has_ac(slot)
 }
 
 // Whether a table that this part of a scan needs isn't there.
@@ -233,27 +226,13 @@ pub fn lacks_table(frame: &Frame, head: &ScanHead, held: &SegmentState) -> bool
     false
 }
 
-// Whether a marker is kept: APPn and COM, but after the first scan header no JFIF and Adobe segments.
-fn is_kept(scanned: bool, code: u8, contents: &[u8]) -> bool
-    ensures { result ≡ is_kept_if scanned code contents.now }
-{
-    (code == 0xfe || 0xe0 <= code && code <= 0xef) && !(scanned && is_header(code, contents))
-}
-
 // Whether a marker is passed on, or begins as one that determines the colours or the density.
 fn is_wanted(keeping: Copying, code: u8, contents: &[u8]) -> bool
     ensures { result ≡ is_wanted keeping (code, contents.now) }
 {
     match keeping {
         Copying::None => is_header(code, contents),
-        Copying::Comments => code == 0xfe || is_header(code, contents),
+        Copying::Comments => code == COM || is_header(code, contents),
         Copying::All => true,
     }
-}
-
-fn is_header(code: u8, contents: &[u8]) -> bool
-    ensures { result ≡ (begins_jfif code contents.now || begins_adobe code contents.now) }
-{
-    code == 0xe0 && contents.starts_with(b"JFIF\0")
-        || code == 0xee && contents.starts_with(b"Adobe")
 }

@@ -1,5 +1,5 @@
 //! What the rows of a picture are made from, in addition to blocks (T.81, B.2.2, B.2.4.1; JFIF 1.02).
-ghost use Rattle.std.specs.Prelude.{◌≡◌, ◌≤◌, List, length};
+ghost use Rattle.std.specs.Prelude.{◌≡◌, List};
 ghost use Rattle.jpg_spec.specs.Markers.{Segment};
 ghost use Rattle.jpg_spec.specs.declared.frame.Limits.{Limits as Bounds};
 ghost use Rattle.jpg_file.specs.Read.RowsKnown.{HoldsScan, TellsScan};
@@ -36,7 +36,7 @@ impl StripHead {
         StripHead {
             frame: picture.frame.copy(),
             colour: picture.colour,
-            quants: copied(picture.quants.as_slice()),
+            quants: QuantTable::copied(picture.quants.as_slice()),
             jfif: picture.jfif,
         }
     }
@@ -51,7 +51,7 @@ impl StripHead {
         StripHead {
             frame: self.frame.copy(),
             colour: self.colour,
-            quants: copied(self.quants.as_slice()),
+            quants: QuantTable::copied(self.quants.as_slice()),
             jfif: self.jfif,
         }
     }
@@ -76,13 +76,4 @@ pub fn strip_of(file: &FileWork) -> StripHead
         quants,
         jfif: held.jfif,
     }
-}
-
-fn copied(tables: &[QuantTable]) -> ArrayVec<QuantTable, 4>
-    requires { length tables.now ≤ 4 }
-    ensures { result.items ≡ tables.now }
-{
-    let mut list = ArrayVec::new();
-    let _ = list.try_extend_from_slice(tables);
-    list
 }

@@ -20,7 +20,6 @@ use crate::read::items::ItemStep;
 use crate::read::rows::RowWork;
 use crate::read::scan::ScanStep;
 use crate::read::scan_header::judge_head;
-use crate::read::segment_state::is_progressive;
 use jpg_base::{Frame, ScanHead, Stop};
 use jpg_spec::{Fault, FaultAt};
 
@@ -295,7 +294,7 @@ impl FileWork {
         ) else {
             return None;
         };
-        if is_progressive(frame) || head.parts.len() != frame.count() as usize {
+        if frame.is_progressive() || head.parts.len() != frame.count() as usize {
             return None;
         }
         Some((frame.copy(), head))

@@ -12,6 +12,7 @@ ghost use Rattle.jpg_file.specs.Write.WriteTables.{HasSlots};
 ghost use Rattle.jpg_file.specs.Write.NewTables.{HasFirstSlots, HasFour, class_needed, given_by, needed_tables, slot_of};
 
 use crate::write::tables::{contents_of, counted};
+use jpg_base::codes::DHT;
 use jpg_base::{Desk, ScanHead, WriteFault};
 use jpg_huff::{BitOut, Table, TableSet};
 use jpg_markers::write_segment;
@@ -91,7 +92,7 @@ fn write_table<D: Desk>(
         return Ok(());
     }
     let contents = contents_of(16 * class + slot, table);
-    write_segment(0xc4, contents.as_slice(), out, desk)
+    write_segment(DHT, contents.as_slice(), out, desk)
 }
 
 // The slot of one class.

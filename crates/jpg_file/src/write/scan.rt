@@ -11,6 +11,7 @@ use crate::write::Plan;
 use crate::write::restart::interval_of;
 use crate::write::tables::{Given, write_tables};
 use arrayvec::ArrayVec;
+use jpg_base::codes::{DRI, SOS};
 use jpg_base::{Desk, Frame, ScanHead, WriteFault};
 use jpg_coefs::BlockView;
 use jpg_huff::{BitOut, TableSet};
@@ -60,7 +61,7 @@ fn write_interval<D: Desk>(
     if now == last {
         return Ok(());
     }
-    write_segment(0xdd, &now.to_be_bytes(), out, desk)
+    write_segment(DRI, &now.to_be_bytes(), out, desk)
 }
 
 /// Writes a DRI segment, if the interval isn't the one before, and the header of a scan.
@@ -77,7 +78,7 @@ pub fn write_head<D: Desk>(
     ensures { Sends (D.state desk.old) out.old (head_due (identifiers frame.now.components) head.now last now) result out.new (D.state desk.new) }
 {
     write_interval(last, now, out, desk)?;
-    write_segment(0xda, contents_of(frame, head).as_slice(), out, desk)
+    write_segment(SOS, contents_of(frame, head).as_slice(), out, desk)
 }
 
 // The header of a sequential scan of these components.

@@ -7,6 +7,7 @@ ghost use Rattle.jpg_huff.specs.Typical.{annex_table};
 ghost use Rattle.jpg_file.specs.Write.WriteTables.{HasSlots, IsTypicalSet, given_in, part_due, part_given, part_tables_due, parts_given, table_due};
 
 use arrayvec::ArrayVec;
+use jpg_base::codes::DHT;
 use jpg_base::{Desk, WriteFault};
 use jpg_huff::{BitOut, Table, TableSet, Typical, typical};
 use jpg_markers::write_segment;
@@ -113,7 +114,7 @@ fn write_table<D: Desk>(
     }
     let table = table_in(class, slot);
     let contents = contents_of(16 * class + slot, &table);
-    write_segment(0xc4, contents.as_slice(), out, desk)
+    write_segment(DHT, contents.as_slice(), out, desk)
 }
 
 // Writes the tables of a component, DC and then AC.

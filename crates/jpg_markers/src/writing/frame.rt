@@ -11,6 +11,7 @@ use super::head::OutHead;
 use super::quants::slot_of;
 use super::segment::write_segment;
 use arrayvec::ArrayVec;
+use jpg_base::codes::{SOF0, SOF1, SOF2};
 use jpg_base::{Desk, Frame, QuantTable, WriteFault};
 use jpg_huff::BitOut;
 use jpg_spec::{Component, Process};
@@ -43,9 +44,9 @@ fn sof_code(process: Process) -> u8
     ensures { result ≡ sof_code process }
 {
     match process {
-        Process::Baseline => 0xc0,
-        Process::Extended => 0xc1,
-        Process::Progressive => 0xc2,
+        Process::Baseline => SOF0,
+        Process::Extended => SOF1,
+        Process::Progressive => SOF2,
     }
 }
 

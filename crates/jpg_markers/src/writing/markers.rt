@@ -9,8 +9,9 @@ ghost use Rattle.jpg_markers.specs.Passed.{is_copied, is_passed, is_replaced, ow
 
 use super::head::OutHead;
 use super::segment::write_segment;
-use crate::app::begins_with;
+use crate::app::{begins_adobe, begins_jfif};
 use crate::kept::{Kept, KeptList};
+use jpg_base::codes::{APP0, APP14, COM};
 use jpg_base::{Desk, WriteFault};
 use jpg_huff::BitOut;
 use jpg_spec::{Colour, Copying, Jfif};
@@ -40,9 +41,9 @@ fn write_own<D: Desk>(
     ensures { Sends (D.state desk.old) out.old (kept_text (own_header colour jfif.now)) result out.new (D.state desk.new) }
 {
     match colour {
-        Colour::Gray | Colour::YCbCr => write_segment(0xe0, &jfif_contents(jfif), out, desk),
-        Colour::Rgb | Colour::Cmyk => write_segment(0xee, &adobe_contents(0), out, desk),
-        Colour::Ycck => write_segment(0xee, &adobe_contents(2), out, desk),
+        Colour::Gray | Colour::YCbCr => write_segment(APP0, &jfif_contents(jfif), out, desk),
+        Colour::Rgb | Colour::Cmyk => write_segment(APP14, &adobe_contents(0), out, desk),
+        Colour::Ycck => write_segment(APP14, &adobe_contents(2), out, desk),
         Colour::Unknown => Ok(()),
     }
 }
@@ -134,7 +135,7 @@ fn is_copied(copying: Copying, code: u8) -> bool
 {
     match copying {
         Copying::None => false,
-        Copying::Comments => code == 0xfe,
+        Copying::Comments => code == COM,
         Copying::All => true,
     }
 }
@@ -144,10 +145,8 @@ fn is_replaced(colour: Colour, code: u8, contents: &[u8]) -> bool
     ensures { result ≡ is_replaced colour code contents.now }
 {
     match colour {
-        Colour::Gray | Colour::YCbCr => code == 0xe0 && begins_with(contents, b"JFIF\0"),
-        Colour::Rgb | Colour::Cmyk | Colour::Ycck => {
-            code == 0xee && begins_with(contents, b"Adobe")
-        }
+        Colour::Gray | Colour::YCbCr => begins_jfif(code, contents),
+        Colour::Rgb | Colour::Cmyk | Colour::Ycck => begins_adobe(code, contents),
         Colour::Unknown => false,
     }
 }

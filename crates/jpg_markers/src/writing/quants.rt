@@ -9,6 +9,7 @@ ghost use Rattle.jpg_spec_write.specs.Headed.{is_wide};
 
 use super::segment::write_segment;
 use arrayvec::ArrayVec;
+use jpg_base::codes::DQT;
 use jpg_base::{Desk, QuantTable, WriteFault};
 use jpg_huff::BitOut;
 
@@ -91,9 +92,9 @@ fn write_table<D: Desk>(
     ensures { Sends (D.state desk.old) out.old (quant_text slot table.now) result out.new (D.state desk.new) }
 {
     if is_wide(table) {
-        write_segment(0xdb, wide_contents(slot, table).as_slice(), out, desk)
+        write_segment(DQT, wide_contents(slot, table).as_slice(), out, desk)
     } else {
-        write_segment(0xdb, &narrow_contents(slot, table), out, desk)
+        write_segment(DQT, &narrow_contents(slot, table), out, desk)
     }
 }
 

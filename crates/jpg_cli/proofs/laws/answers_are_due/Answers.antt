@@ -1,5 +1,5 @@
-use Rattle.jpg_cli.proofs.Ending.{due_answer}
+use Rattle.jpg_cli.proofs.DueCommands.{answer_due}
 use Rattle.jpg_cli.proofs.laws.answers_are_due.Goals as goal
 
 pub returns : goal.returns
-returns c = λ asked old new why none done. due_answer asked old new why none done
+returns c = λ asked old new why none done. answer_due asked old new why none done

@@ -1,4 +1,4 @@
-use Rattle.std.proofs.Common.{◌∙◌, arith, sym}
+use Rattle.std.proofs.Common.{arith}
 use Rattle.jpg_markers.proofs.Continuing.{filled_whole}
 use Rattle.jpg_markers.proofs.whole.fill_length.Goals as goal
 

@@ -1,5 +1,4 @@
 use Rattle.std.proofs.Common.{◌∙◌, ap, drop, sym, replicate, take}
-use Rattle.std.specs.Prelude.{not}
 use Rattle.std.proofs.lemmas.List.{drop-drop}
 use Rattle.jpg_markers.proofs.Continuing.{eight_more, rest_long, same_bytes, was_same}
 use Rattle.jpg_markers.proofs.whole.filled_groups.Goals as goal

@@ -1,6 +1,4 @@
-use Rattle.std.proofs.Common.{◌∙◌, ◌≡◌, ℕ, List, arith, length, take, drop, sym, ap, subst}
-use Rattle.std.proofs.lemmas.List.{length-drop, take_all}
-use Rattle.jpg_markers.specs.Reading.{IsSized}
+use Rattle.std.proofs.Common.{arith}
 use Rattle.jpg_markers.proofs.Continuing.{filled_within, front_spelled, front_within, rest_sized}
 use Rattle.jpg_markers.proofs.whole.segment_at.Goals as goal
 

@@ -21,20 +21,20 @@ returns-in-Some-clause-goes c = λ bytes before s.
     let r = reading_of c.args.self.now in
     code_wrong r bytes before c.args.code c.in-Some.fault c.requires s c.if-code-eq0.false c.if-code-eq255.false (fault_from r c.args.code c.code_fault.result (Some c.in-Some.fault) c.code_fault.ensures c.in-Some.is)
 
-pub returns-then-code-eq217-clause-goes : goal.returns-then-code-eq217-clause-goes
-returns-then-code-eq217-clause-goes c = λ bytes before s.
+pub returns-then-code-eq-EOI-clause-goes : goal.returns-then-code-eq-EOI-clause-goes
+returns-then-code-eq-EOI-clause-goes c = λ bytes before s.
     let r = reading_of c.args.self.now in
-    code_ends r bytes before c.args.code c.requires s c.if-code-eq0.false c.if-code-eq255.false c.if-code-eq217.true
+    code_ends r bytes before c.args.code c.requires s c.if-code-eq0.false c.if-code-eq255.false c.if-code-eq-EOI.true
     (fault_from r c.args.code c.code_fault.result None c.code_fault.ensures c.in_default.is)
 
 pub returns-then-is_frame_code-clause-goes : goal.returns-then-is_frame_code-clause-goes
 returns-then-is_frame_code-clause-goes c = λ bytes before s.
     let r = reading_of c.args.self.now in
-    code_frame r bytes before c.args.code c.requires s c.if-code-eq0.false c.if-code-eq255.false c.if-code-eq217.false
+    code_frame r bytes before c.args.code c.requires s c.if-code-eq0.false c.if-code-eq255.false c.if-code-eq-EOI.false
     (fault_from r c.args.code c.code_fault.result None c.code_fault.ensures c.in_default.is) (sym c.is_frame_code.ensures ∙ c.if-is_frame_code.true)
 
 pub returns-else-is_frame_code-clause-goes : goal.returns-else-is_frame_code-clause-goes
 returns-else-is_frame_code-clause-goes c = λ bytes before s.
     let r = reading_of c.args.self.now in
-    code_more r bytes before c.args.code c.requires s c.if-code-eq0.false c.if-code-eq255.false c.if-code-eq217.false
+    code_more r bytes before c.args.code c.requires s c.if-code-eq0.false c.if-code-eq255.false c.if-code-eq-EOI.false
     (fault_from r c.args.code c.code_fault.result None c.code_fault.ensures c.in_default.is) (sym c.is_frame_code.ensures ∙ c.if-is_frame_code.false)

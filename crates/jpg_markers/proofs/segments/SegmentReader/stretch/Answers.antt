@@ -1,5 +1,5 @@
-use Rattle.std.proofs.Common.{ℕ, Ok, Result, subst}
-use Rattle.jpg_markers.specs.Reading.{PassesSome, reading_of}
+use Rattle.std.proofs.Common.{Ok}
+use Rattle.jpg_markers.specs.Reading.{reading_of}
 use Rattle.jpg_markers.proofs.Continuing.{continues_stands}
 use Rattle.jpg_markers.proofs.segments.SegmentReader.stretch.Goals as goal
 

@@ -1,5 +1,4 @@
-use Rattle.std.proofs.Common.{◌≡◌, ◌∙◌, ◌<◌, ◌++◌, ◌∷◌, [], take, get_or, sym, subst, arith}
-use Rattle.jpg_spec.specs.FrameHeader.{AreLimits}
+use Rattle.std.proofs.Common.{◌++◌, ◌∷◌, [], take, get_or, sym, subst, arith}
 use Rattle.jpg_spec.specs.declared.frame.Limits.{Limits}
 use Rattle.jpg_file.specs.Read.File.{limits_of}
 use Rattle.jpg_file.specs.Read.Strips.{AfterRows, GoesByRow}

@@ -1,8 +1,8 @@
 use Rattle.jpg_file.specs.Read.File.{limits_of}
 use Rattle.std.proofs.Common.{◌∙◌, inl, sym}
-use Rattle.jpg_file.proofs.FaultsRows.{front_at_fault, one_at_fault}
+use Rattle.jpg_file.proofs.FaultsRows.{front_at_fault}
 use Rattle.jpg_file.proofs.StripItems.{after_of}
-use Rattle.jpg_file.proofs.StripPieces.{front_rows, one_row}
+use Rattle.jpg_file.proofs.StripPieces.{front_rows}
 use Rattle.jpg_file.proofs.read.file.FileWork.row_some.Goals as goal
 
 pub returns-then-n-gt0-clause-after : goal.returns-then-n-gt0-clause-after

@@ -1,13 +1,11 @@
-use Rattle.std.proofs.Common.{◌≡◌, ◌∙◌, ◌<◌, ◌+◌, ◌++◌, ◌∷◌, [], ℕ, ap, take, get_or, refl, sym, subst}
-use Rattle.std.specs.Prelude.{is_some, true}
-use Rattle.jpg_spec.specs.FrameHeader.{AreLimits}
+use Rattle.std.proofs.Common.{◌<◌, ◌++◌, ◌∷◌, [], ℕ, ap, take, get_or, refl, sym, subst}
 use Rattle.jpg_spec.specs.declared.frame.Limits.{Limits}
 use Rattle.jpg_file.specs.Read.File.{limits_of}
 use Rattle.jpg_file.specs.Read.RowStops.{RowsAtFault}
 use Rattle.jpg_file.specs.Read.Strips.{AfterRows, GoesByRow}
 use Rattle.jpg_file.specs.declared.read.reading.Reading.{Reading}
 use Rattle.jpg_file.proofs.PieceSteps.{one_more}
-use Rattle.jpg_file.proofs.StripPieces.{filled_limits, filled_scan, filled_sparing, later_row, rows_filled}
+use Rattle.jpg_file.proofs.StripPieces.{filled_limits, filled_scan, later_row, rows_filled}
 use Rattle.jpg_file.proofs.read.file.FileWork.scan_some.Goals as goal
 
 pub row_byte-requires-clause-stands : goal.row_byte-requires-clause-stands
