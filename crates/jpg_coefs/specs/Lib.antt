@@ -1,3 +1,5 @@
+pub mod BitSinks
 pub mod Copied
 pub mod Machine
 pub mod Picture
+pub mod Sinks

@@ -1,9 +1,12 @@
 -- The bits of an AC scan's units: those of the elements of its bands.
-use Rattle.std.proofs.Common.{◌≡◌, ℕ, zero, suc, ◌+◌, ◌-◌, ◌^◌, ◌<◌, ◌≤◌, ◌==◌, ◌&&◌, ◌||◌, Bool, true, false, cond, List, [], ◌∷◌, ◌++◌, length, take, drop, Some, refl, sym, ap, ◌∙◌, subst, arith, ℤ, pos, nat_abs, lit<}
-use Rattle.std.specs.Prelude.{map, flat_map, slice_get, slice_index_or, nat_lt, nat_le, int_le, ◌≤ℤ◌}
+use Rattle.std.proofs.Common.{◌≡◌, ℕ, zero, suc, ◌+◌, ◌-◌, ◌^◌, ◌<◌, ◌≤◌, ◌==◌, ◌&&◌, ◌||◌, Bool, true, false, cond, List, [], ◌∷◌, ◌++◌, length, take, drop, refl, sym, ap, ◌∙◌, subst, arith, ℤ, pos, nat_abs, lit<, Result, Ok, Err}
+use Rattle.std.specs.Prelude.{map, flat_map, slice_index_or, nat_lt, nat_le, int_le, ◌≤ℤ◌}
 use Rattle.std.specs.List.{All}
 use Rattle.std.proofs.lemmas.Int.{ints}
-use Rattle.std.proofs.lemmas.List.{get_or-replicate}
+use Rattle.std.proofs.Math.Path.{fun_ext}
+use Rattle.std.proofs.lemmas.List.{append-nil, get_or-replicate}
+use Rattle.std.proofs.lemmas.List.Elements.{All-head}
+use Rattle.jpg_spec.specs.Codes.{Code}
 use Rattle.jpg_spec.specs.Lists.{is_empty, is_among}
 use Rattle.jpg_spec.specs.Geometry.{Frame, bounds}
 use Rattle.jpg_spec.specs.Segments.{HuffmanTable, ScanHead, table_codes}
@@ -11,7 +14,7 @@ use Rattle.jpg_spec.specs.ScanContents.{is_band, are_bits}
 use Rattle.jpg_spec.specs.Elements.{Element, difference, dc_bit, value, long_run, ends, are_in_bounds, IsBlockIn, is_zero, zeros}
 use Rattle.jpg_spec_write.specs.Sending.{Sent, correction, newly_significant, sent, up_to_last, after_last, corrections_of, value_elements, ended_bands, band_elements}
 use Rattle.jpg_spec.specs.Scan.{Blocks, block_at, part_of}
-use Rattle.jpg_spec_write.specs.ScanText.{UnitDue, Owned, units_due, last_dc, band_of, is_dc, interval_elements, unit_elements, element_bits}
+use Rattle.jpg_spec_write.specs.ScanText.{UnitDue, Owned, band_of, is_dc, interval_elements, unit_elements, element_bits}
 use Rattle.jpg_spec_write.specs.WrittenFile.{HasBlocksIn}
 use Rattle.jpg_spec.specs.declared.frame.Place.{Place}
 use Rattle.jpg_spec.specs.declared.frame.Bounds.{Bounds}
@@ -19,22 +22,27 @@ use Rattle.jpg_spec.specs.declared.frame.ScanPart.{ScanPart}
 use Rattle.jpg_spec.proofs.Common.{both, le_of, same_of, lt_yes, not_same, from_test}
 use Rattle.jpg_spec.proofs.Each.{Each, each_join}
 use Rattle.jpg_huff.specs.declared.set.TableSet.{TableSet}
+use Rattle.jpg_base.specs.Desk.{DeskState}
+use Rattle.jpg_base.specs.declared.stop.WriteFault.{WriteFault}
+use Rattle.jpg_huff.specs.Waiting.{Waiting}
+use Rattle.jpg_coefs.specs.Sinks.{IsScanPlace, block_due}
+use Rattle.jpg_coefs.specs.BitSinks.{interval_bits, PutsUpTo}
+use Rattle.jpg_coefs.proofs.Places.{found_part, part_here, is_real_place}
 use Rattle.jpg_prog_write.specs.Items.{spelled, texts}
-use Rattle.jpg_prog_write.specs.Bands.{IsBand, IsBandOf, IsShort, sents}
-use Rattle.jpg_prog_write.specs.Written.{IsProgScan, IsScanPlace, block_due, tables_in, codes_in, places_bits, no_scan_part, first_slot}
+use Rattle.jpg_prog_write.specs.Bands.{IsBand, IsBandOf, IsReady, IsShort, sents, band_sents, elements_left, elements_waiting}
+use Rattle.jpg_prog_write.specs.Putting.{PutsBand}
+use Rattle.jpg_prog_write.specs.ScanSinks.{IsAcHead, IsBandUnit, AreBandsOf, bands_left}
+use Rattle.jpg_prog_write.specs.Written.{IsProgScan, tables_in, codes_in, no_scan_part, first_slot}
 use Rattle.jpg_prog_write.specs.declared.band.Band.{Band}
-use Rattle.jpg_prog_write.proofs.Places.{found_part, part_here, is_real_place, taken}
+use Rattle.jpg_prog_write.specs.declared.bands.Bands.{Bands}
 
 -- THE HEADER of an AC scan
 
-pub record IsAcHead (head : ScanHead) : Type 0 where
-  pub one : length head.parts ≡ 1
-  pub order : head.ss ≤ head.se
-  pub most : head.se ≤ 63
-  pub bits : head.al ≤ 10
-
 few_bits : (f : Frame) (head : ScanHead) → are_bits f head ≡ true → head.al ≤ 10
 few_bits f head e = le_of head.al 10 (both (head.ah == 0 || head.ah == head.al + 1) (nat_le head.al 10) e).1
+
+pub bits_of_head : (f : Frame) (head : ScanHead) → IsProgScan f head → head.al ≤ 10
+bits_of_head f head is = few_bits f head (both (is_band (length head.parts) head) (are_bits f head) is.parameters).1
 
 pub ac_head : (f : Frame) (head : ScanHead) → IsProgScan f head → 1 ≤ head.ss → IsAcHead head
 ac_head f head is some =
@@ -44,10 +52,18 @@ ac_head f head is some =
     sym (ap (λ b. cond b (head.se == 0) (n == 1 && (nat_le head.ss head.se && nat_le head.se 63))) (not_same head.ss 0 (λ z. omega (arith, z, some)))) ∙ p.0 in
     let q = both (n == 1) (nat_le head.ss head.se && nat_le head.se 63) e in
     let r = both (nat_le head.ss head.se) (nat_le head.se 63) q.1 in
-    record { one = same_of n 1 q.0; order = le_of head.ss head.se r.0; most = le_of head.se 63 r.1; bits = few_bits f head p.1 }
+    record { one = same_of n 1 q.0; some = some; order = le_of head.ss head.se r.0; most = le_of head.se 63 r.1; bits = few_bits f head p.1 }
+
+pub is_band_of : (head : ScanHead) (band : Band) → IsAcHead head → IsBandOf head band → IsBand band
+is_band_of head band is b = record {
+  some = omega (arith, b.start, is.some);
+  order = omega (arith, b.start, b.end, is.order);
+  most = omega (arith, b.end, is.most);
+  bits = omega (arith, b.al, is.bits);
+}
 
 -- the one part is that of each place
-pub one_part : (f : Frame) (head : ScanHead) (p : Place) → length head.parts ≡ 1 → IsScanPlace f head p → (part_of head p.component).ac ≡ first_slot head
+one_part : (f : Frame) (head : ScanHead) (p : Place) → length head.parts ≡ 1 → IsScanPlace f head p → (part_of head p.component).ac ≡ first_slot head
 one_part f head p one is = by head.parts one is.named
   where
     first : (b : Bool) → (b || false) ≡ true → b ≡ true
@@ -62,9 +78,6 @@ one_part f head p one is = by head.parts one is.named
 
 -- BANDS
 
-abbrev pub bands_at : Band → Blocks → List Place → List (List Sent)
-bands_at band blocks places = map (λ p. sents band band.start band.end (block_due blocks (pos 0) p)) places
-
 band_same : (head : ScanHead) (band : Band) (block : List ℤ) → IsBandOf head band → sents band band.start band.end block ≡ band_of head block
 unfolding sents
 band_same head band block b =
@@ -72,29 +85,6 @@ band_same head band block b =
     ∙ ap (λ a. map (sent (nat_lt 0 head.ah) a) (take (band.end - band.start) (drop band.start block))) b.al
     ∙ ap (λ n. map (sent (nat_lt 0 head.ah) head.al) (take (n - band.start) (drop band.start block))) b.end
     ∙ ap (λ n. map (sent (nat_lt 0 head.ah) head.al) (take (head.se + 1 - n) (drop n block))) b.start
-
--- a padding block's band doesn't depend on its DC value
-band_padded : (head : ScanHead) (v w : ℤ) (values : List ℤ) → 1 ≤ head.ss → band_of head (v ∷ values) ≡ band_of head (w ∷ values)
-band_padded head v w values some = ap (λ xs. map (sent (nat_lt 0 head.ah) head.al) (take (head.se + 1 - head.ss) xs)) (by head.ss some)
-  where
-    by : (n : ℕ) → 1 ≤ n → drop n (v ∷ values) ≡ drop n (w ∷ values)
-    by zero h = absurd (omega (arith, h))
-    by (suc n) h = refl
-
-band_due : (head : ScanHead) (blocks : Blocks) (last : ℤ) (p : Place) → 1 ≤ head.ss → band_of head (block_due blocks last p) ≡ band_of head (block_due blocks (pos 0) p)
-band_due head blocks last p some = by p.real
-  where
-    by : (b : Bool) → band_of head (cond b (block_at blocks p) (last ∷ zeros 63)) ≡ band_of head (cond b (block_at blocks p) (pos 0 ∷ zeros 63))
-    by true = refl
-    by false = band_padded head last (pos 0) (zeros 63) some
-
-pub due_bands : (head : ScanHead) (band : Band) (blocks : Blocks) (last : ℕ → ℤ) (places : List Place) → 1 ≤ head.ss → IsBandOf head band → map (λ (u : UnitDue). band_of head u.1) (units_due blocks last places) ≡ bands_at band blocks places
-due_bands head band blocks last [] some b = refl
-due_bands head band blocks last (p ∷ places) some b =
-    let block = block_due blocks (last p.component) p in
-    let later = units_due blocks (last_dc last p.component block) places in
-    ap (λ x. x ∷ map (λ (u : UnitDue). band_of head u.1) later) (band_due head blocks (last p.component) p some ∙ sym (band_same head band (block_due blocks (pos 0) p) b))
-    ∙ ap (λ xs. sents band band.start band.end (block_due blocks (pos 0) p) ∷ xs) (due_bands head band blocks (last_dc last p.component block) places some b)
 
 -- ALL ELEMENTS ARE OF BANDS
 
@@ -155,30 +145,46 @@ owned_all each plain u due (e ∷ es) same h =
     let rest = flat_map each (flat_map (λ e. map (λ (v : UnitDue). (let o : Owned = (v.0, e) in o)) (take 1 (u ∷ due))) es) in
     ap (λ x. x ++ rest) (same e h.0) ∙ ap (λ x. plain e ++ x) (owned_all each plain u due es same h.1)
 
--- the result of the elements of bands is that of the elements of the units at their places
-pub band_all : {X : Type 0} (each : Owned → List X) (plain : Element → List X) (f : Frame) (head : ScanHead) (band : Band) (blocks : Blocks) (places : List Place) → 1 ≤ head.ss → IsBandOf head band → All (IsScanPlace f head) places
-    → ((p : Place) → IsScanPlace f head p → (e : Element) → IsOfBand e → each (p.component, e) ≡ plain e)
-    → flat_map plain (band_elements 32767 0 [] (bands_at band blocks places)) ≡ flat_map each (interval_elements true head (units_due blocks (λ i. pos 0) places))
-band_all {X} each plain f head band blocks [] some b all same = by (nat_lt 0 head.ss)
+-- the results of the elements of the bands of an interval
+pub band_all : {X : Type 0} (each : Owned → List X) (plain : Element → List X) (head : ScanHead) (band : Band) (due : List UnitDue) → 1 ≤ head.ss → IsBandOf head band → All (IsBandUnit head) due
+    → ((u : UnitDue) → IsBandUnit head u → (e : Element) → IsOfBand e → each (u.0, e) ≡ plain e)
+    → flat_map plain (band_elements 32767 0 [] (map (λ (u : UnitDue). band_sents band u.1) due)) ≡ flat_map each (interval_elements true head due)
+band_all {X} each plain head band [] some b all same = by (nat_lt 0 head.ss)
   where
     by : (r : Bool) → (let nothing : List X = [] in nothing) ≡ flat_map each (cond r (flat_map (λ e. map (λ (v : UnitDue). (let o : Owned = (v.0, e) in o)) []) []) (unit_elements false (nat_lt 0 head.ah) head.al (λ i. pos 0) []))
     by true = refl
     by false = refl
-band_all each plain f head band blocks (p ∷ places) some b all same =
-    let block = block_due blocks (pos 0) p in
-    let u : UnitDue = (p.component, block) in
-    let due = units_due blocks (last_dc (λ i. pos 0) p.component block) places in
+band_all each plain head band (u ∷ due) some b all same =
     let es = band_elements 32767 0 [] (map (λ (v : UnitDue). band_of head v.1) (u ∷ due)) in
-    ap (λ bs. flat_map plain (band_elements 32767 0 [] bs)) (sym (due_bands head band blocks (λ i. pos 0) (p ∷ places) some b))
-    ∙ sym (owned_all each plain u due es (same p (all 0 p (omega arith))) (all_band 0 [] (map (λ (v : UnitDue). band_of head v.1) (u ∷ due))))
+    ap (λ (of : List ℤ → List Sent). flat_map plain (band_elements 32767 0 [] (map (λ (v : UnitDue). of v.1) (u ∷ due)))) (fun_ext (λ block. band_same head band block b))
+    ∙ sym (owned_all each plain u due es (same u (All-head (IsBandUnit head) u due all)) (all_band 0 [] (map (λ (v : UnitDue). band_of head v.1) (u ∷ due))))
     ∙ ap (λ r. flat_map each (cond r (flat_map (λ e. map (λ (v : UnitDue). (let o : Owned = (v.0, e) in o)) (take 1 (u ∷ due))) es) (unit_elements false (nat_lt 0 head.ah) head.al (λ i. pos 0) (u ∷ due)))) (sym (lt_yes 0 head.ss some))
 
-pub band_texts : (set : TableSet) (f : Frame) (head : ScanHead) (band : Band) (blocks : Blocks) (places : List Place) → IsAcHead head → 1 ≤ head.ss → IsBandOf head band → All (IsScanPlace f head) places
-    → texts (codes_in set 1 (first_slot head)) (band_elements 32767 0 [] (bands_at band blocks places)) ≡ places_bits set head blocks places
-unfolding places_bits texts
-band_texts set f head band blocks places is some b all =
-    band_all (element_bits (tables_in set) head) (spelled (codes_in set 1 (first_slot head))) f head band blocks places some b all
-    (λ p at e of. one_spelled (tables_in set) head p.component e of ∙ ap (λ n. spelled (codes_in set 1 n) e) (one_part f head p is.one at))
+-- where no EOB run waits, the bands of an interval
+pub none_waits : {X : Type 0} (of : List Element → List X) (b : Bands) (due : List UnitDue) → IsReady b → b.bands ≡ 0 → of (bands_left b due) ≡ of (band_elements 32767 0 [] (map (λ (u : UnitDue). band_sents b.band u.1) due))
+none_waits of b due ready none =
+    let later = map (λ (u : UnitDue). band_sents b.band u.1) due in
+    ap (λ n. of (band_elements 32767 n b.waiting.items later)) none ∙ ap (λ bits. of (band_elements 32767 0 bits later)) (ready.none none)
+
+pub band_texts : (set : TableSet) (head : ScanHead) (b : Bands) (due : List UnitDue) → AreBandsOf head b → b.bands ≡ 0 → All (IsBandUnit head) due
+    → texts (codes_in set 1 (first_slot head)) (bands_left b due) ≡ interval_bits true (tables_in set) head due
+unfolding texts
+band_texts set head b due are none all =
+    none_waits (texts (codes_in set 1 (first_slot head))) b due are.ready none
+    ∙ band_all (element_bits (tables_in set) head) (spelled (codes_in set 1 (first_slot head))) head b.band due are.ac.some are.band all
+    (λ u is e of. one_spelled (tables_in set) head u.0 e of ∙ ap (λ n. spelled (codes_in set 1 n) e) is.slot)
+
+-- the bands of a unit, and of those after it
+pub band_puts : (s0 s1 : DeskState) (o0 o1 : Waiting) (codes : List Code) (old mid new : Bands) (u : UnitDue) (due : List UnitDue) (result : Result (Unit {0}) WriteFault) → new.band ≡ mid.band → mid.band ≡ old.band
+    → ((later : List (List Sent)) → elements_waiting old (band_sents old.band u.1 ∷ later) ≡ elements_left mid later) → PutsBand s0 o0 codes mid result new o1 s1
+    → PutsUpTo s0 o0 (texts codes (bands_left old (u ∷ due))) (texts codes (bands_left new due)) result o1 s1
+band_puts s0 s1 o0 o1 codes old mid new u due (Ok tt) same begun e puts =
+    let later = map (λ (v : UnitDue). band_sents old.band v.1) due in
+    let p = puts later in
+    (p.0, ap (texts codes) (e later) ∙ sym p.1 ∙ ap (λ band. p.0 ++ texts codes (elements_waiting new (map (λ (v : UnitDue). band_sents band v.1) due))) (sym (same ∙ begun)), p.2)
+band_puts s0 s1 o0 o1 codes old mid new u due (Err f) same begun e puts =
+    let later = map (λ (v : UnitDue). band_sents old.band v.1) due in
+    (texts codes (elements_left mid later), [], ap (texts codes) (e later) ∙ sym (append-nil (texts codes (elements_left mid later))), puts later)
 
 -- BLOCKS
 
@@ -207,20 +213,12 @@ padded_short last = record { long = refl; short = at }
     at zero one few = absurd (omega (arith, one))
     at (suc k) one few = (let e = get_or-replicate 63 k (pos 0) (pos 0) (omega (arith, few)) in subst (λ v. nat_abs v < 2 ^ 14) (sym e) (lit< tt))
 
-pub due_short : (f : Frame) (head : ScanHead) (blocks : Blocks) (last : ℤ) (p : Place) → HasBlocksIn f blocks → IsScanPlace f head p → IsShort (block_due blocks last p)
+due_short : (f : Frame) (head : ScanHead) (blocks : Blocks) (last : ℤ) (p : Place) → HasBlocksIn f blocks → IsScanPlace f head p → IsShort (block_due blocks last p)
 due_short f head blocks last p all is = by p.real refl
   where
     by : (b : Bool) → p.real ≡ b → IsShort (cond b (block_at blocks p) (last ∷ zeros 63))
     by true e = block_short f (block_at blocks p) (all p.component p.x p.y (is_real_place f head p is e))
     by false e = padded_short last
 
--- the first band of those that are left
-pub first_band : {X : Type 0} (of : List Element → List X) (band : Band) (blocks : Blocks) (p : Place) (cursor : List Place) (n bands : ℕ) (bits : List Bool) (block : List ℤ) → slice_get cursor 0 ≡ Some p → 1 ≤ n → block ≡ block_due blocks (pos 0) p
-    → of (band_elements 32767 bands bits (bands_at band blocks (take n cursor))) ≡ of (band_elements 32767 bands bits (sents band band.start band.end block ∷ bands_at band blocks (take (n - 1) (drop 1 cursor))))
-first_band of band blocks p cursor n bands bits block first some is =
-    let rest = bands_at band blocks (take (n - 1) (drop 1 cursor)) in
-    ap (λ ps. of (band_elements 32767 bands bits (bands_at band blocks ps))) (taken n cursor p first some)
-    ∙ ap (λ b. of (band_elements 32767 bands bits (sents band band.start band.end b ∷ rest))) (sym is)
-
-pub no_band : {X : Type 0} (of : List Element → List X) (band : Band) (blocks : Blocks) (cursor : List Place) (n bands : ℕ) (bits : List Bool) → n ≡ 0 → of (band_elements 32767 bands bits (bands_at band blocks (take n cursor))) ≡ of (ended_bands bands bits)
-no_band of band blocks cursor n bands bits none = ap (λ k. of (band_elements 32767 bands bits (bands_at band blocks (take k cursor)))) none
+pub unit_fits : (f : Frame) (head : ScanHead) (blocks : Blocks) (last : ℤ) (p : Place) → HasBlocksIn f blocks → length head.parts ≡ 1 → IsScanPlace f head p → IsBandUnit head (p.component, block_due blocks last p)
+unit_fits f head blocks last p all one is = record { slot = one_part f head p one is; short = due_short f head blocks last p all is }

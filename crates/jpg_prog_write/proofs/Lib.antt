@@ -1,12 +1,11 @@
 pub mod BandUnits
+pub mod Counting
 pub mod DcUnits
 pub mod ElementsDue
 pub mod EndsItems
 pub mod Fronts
-pub mod Intervals
 pub mod KeptValues
 pub mod Marks
-pub mod Places
 pub mod SymbolsUsed
 pub mod Texts
 pub mod Values

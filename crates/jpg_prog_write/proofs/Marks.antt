@@ -1,22 +1,19 @@
 -- Marks of elements, one after another.
-use Rattle.std.proofs.Common.{◌≡◌, ℕ, ◌≤◌, ◌||◌, Bool, true, false, List, [], ◌∷◌, ◌++◌, refl, sym, ap, ◌∙◌, subst}
+use Rattle.std.proofs.Common.{◌≡◌, ℕ, ◌||◌, Bool, true, false, List, [], ◌∷◌, ◌++◌, refl, sym, ap, ◌∙◌, subst}
 use Rattle.std.specs.List.{All}
 use Rattle.std.proofs.lemmas.List.{append_assoc, append-nil}
 use Rattle.jpg_spec.specs.Lists.{any_of}
-use Rattle.jpg_spec.specs.Geometry.{Frame}
 use Rattle.jpg_spec.specs.Segments.{ScanHead}
 use Rattle.jpg_spec.specs.Elements.{Element, difference, dc_bit, value, long_run, ends, symbol_of}
-use Rattle.jpg_spec_write.specs.Sending.{band_elements}
-use Rattle.jpg_spec.specs.Scan.{Blocks, part_of}
-use Rattle.jpg_spec.specs.declared.frame.Place.{Place}
+use Rattle.jpg_spec.specs.Scan.{part_of}
 use Rattle.jpg_spec.proofs.Common.{any_append}
 use Rattle.jpg_prog_write.specs.Steps.{IsFirst}
-use Rattle.jpg_prog_write.specs.Counted.{Rows, Mark, is_mark, is_marked, AreCountedRows, Notes, NotesBut, marks_of, owned_marks, places_marks}
-use Rattle.jpg_prog_write.specs.Bands.{IsBandOf}
-use Rattle.jpg_prog_write.specs.Written.{IsScanPlace, first_slot}
-use Rattle.jpg_prog_write.specs.declared.band.Band.{Band}
-use Rattle.jpg_prog_write.proofs.BandUnits.{IsAcHead, IsOfBand, bands_at, band_all, one_part}
-use Rattle.jpg_prog_write.proofs.DcUnits.{no_last, left_all, first_all}
+use Rattle.jpg_prog_write.specs.Counted.{Rows, Mark, is_mark, is_marked, AreCountedRows, Notes, NotesBut, marks_of, owned_marks, interval_marks}
+use Rattle.jpg_spec_write.specs.ScanText.{UnitDue}
+use Rattle.jpg_prog_write.specs.Written.{first_slot}
+use Rattle.jpg_prog_write.specs.ScanSinks.{IsBandUnit, AreBandsOf, bands_left}
+use Rattle.jpg_prog_write.specs.declared.bands.Bands.{Bands}
+use Rattle.jpg_prog_write.proofs.BandUnits.{IsOfBand, band_all, none_waits}
 use Rattle.jpg_prog_write.specs.declared.item.Item.{Item}
 
 or_none : (b : Bool) → b ≡ (b || false)
@@ -80,13 +77,9 @@ one_mark head i (value run v bits) h = refl
 one_mark head i (long_run bits) h = refl
 one_mark head i (ends bands bits) h = refl
 
-pub band_marks : (f : Frame) (head : ScanHead) (band : Band) (blocks : Blocks) (places : List Place) → IsAcHead head → 1 ≤ head.ss → IsBandOf head band → All (IsScanPlace f head) places
-    → marks_of (first_slot head) (band_elements 32767 0 [] (bands_at band blocks places)) ≡ places_marks head blocks places
-unfolding places_marks marks_of
-band_marks f head band blocks places is some b all =
-    band_all (owned_marks head) (λ e. (first_slot head, symbol_of e) ∷ []) f head band blocks places some b all
-    (λ p at e of. one_mark head p.component e of ∙ ap (λ n. (n, symbol_of e) ∷ []) (one_part f head p is.one at))
-
-pub first_marks : (head : ScanHead) (blocks : Blocks) (places : List Place) → head.ss ≡ 0 → left_all (owned_marks head) head blocks no_last places ≡ places_marks head blocks places
-unfolding places_marks
-first_marks head blocks places dc = first_all (owned_marks head) head blocks places dc
+pub band_marks : (head : ScanHead) (b : Bands) (due : List UnitDue) → AreBandsOf head b → b.bands ≡ 0 → All (IsBandUnit head) due → marks_of (first_slot head) (bands_left b due) ≡ interval_marks head due
+unfolding marks_of
+band_marks head b due are none all =
+    none_waits (marks_of (first_slot head)) b due are.ready none
+    ∙ band_all (owned_marks head) (λ e. (first_slot head, symbol_of e) ∷ []) head b.band due are.ac.some are.band all
+    (λ u is e of. one_mark head u.0 e of ∙ ap (λ n. (n, symbol_of e) ∷ []) is.slot)

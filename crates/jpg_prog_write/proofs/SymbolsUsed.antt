@@ -1,12 +1,10 @@
 -- The symbols that a scan uses are those that are marked.
-use Rattle.std.proofs.Common.{◌≡◌, ℕ, zero, suc, ◌*◌, ◌<◌, ◌≤◌, ◌==◌, ◌&&◌, ◌||◌, Bool, true, false, not, cond, List, [], ◌∷◌, ◌++◌, length, take, drop, refl, sym, ap, ◌∙◌, subst, arith, lit<, ℤ, pos, min, ⊎_elim}
+use Rattle.std.proofs.Common.{◌≡◌, ℕ, zero, suc, ◌*◌, ◌<◌, ◌≤◌, ◌==◌, ◌&&◌, ◌||◌, Bool, true, false, not, cond, List, [], ◌∷◌, ◌++◌, length, take, refl, sym, ap, ◌∙◌, subst, arith, lit<, ℤ, pos}
 use Rattle.std.specs.Prelude.{map, flat_map, filter, replicate, slice_index_or, nat_lt}
-use Rattle.std.proofs.lemmas.List.{append-nil, get_or-replicate, length-drop, drop_all}
-use Rattle.std.proofs.Math.Seq.{take_all}
-use Rattle.std.proofs.lemmas.Bool.{cases_lt}
+use Rattle.std.proofs.lemmas.List.{append-nil, get_or-replicate}
 use Rattle.std.proofs.lemmas.List.Concat.{flat_map-append}
 use Rattle.std.proofs.lemmas.List.Elements.{filter-append}
-use Rattle.jpg_spec.specs.Lists.{any_of, is_among, below, chunks, chunks_of}
+use Rattle.jpg_spec.specs.Lists.{any_of, is_among, below, chunks}
 use Rattle.jpg_spec.specs.Geometry.{Frame, is_progressive, units, mcu_units}
 use Rattle.jpg_spec.specs.Segments.{ScanHead, head_components}
 use Rattle.jpg_spec.specs.Elements.{Element, symbol_of, is_dc_bit, predicted}
@@ -17,9 +15,9 @@ use Rattle.jpg_spec.specs.declared.frame.Place.{Place}
 use Rattle.jpg_spec.proofs.Common.{same_itself, lt_yes, any_append, length_below}
 use Rattle.jpg_spec.proofs.Each.{Each, each_join}
 use Rattle.jpg_huff.specs.Flat.{symbols_in}
-use Rattle.jpg_prog_write.specs.Counted.{row, Rows, Mark, is_mark, is_marked, AreCountedRows, Notes, CountsClass, owned_marks, places_marks, no_counted_rows, scan_marks}
+use Rattle.jpg_prog_write.specs.Counted.{row, Rows, is_mark, is_marked, AreCountedRows, Notes, CountsClass, owned_marks, interval_marks, no_counted_rows, scan_marks}
 use Rattle.jpg_prog_write.proofs.BandUnits.{IsOfBand, all_band}
-use Rattle.jpg_prog_write.proofs.Intervals.{cut_all}
+use Rattle.jpg_coefs.specs.Sinks.{no_last}
 
 -- SYMBOLS
 
@@ -124,8 +122,7 @@ owned_in head blocks cs = flat_map (λ (es : List Owned). es) (map (λ places. i
 owned_is : (f : Frame) (head : ScanHead) (interval : ℕ) (blocks : Blocks) → is_progressive f.process ≡ true → flat_map (λ (es : List Owned). es) (scan_elements f head interval blocks) ≡ owned_in head blocks (all_chunks f head interval)
 owned_is f head interval blocks e = ap (λ b. flat_map (λ (es : List Owned). es) (map (λ places. interval_elements b head (units_due blocks (λ i. pos 0) places)) (all_chunks f head interval))) e
 
-marks_join : (head : ScanHead) (blocks : Blocks) (cs : List (List Place)) → flat_map (places_marks head blocks) cs ≡ flat_map (owned_marks head) (owned_in head blocks cs)
-unfolding places_marks
+marks_join : (head : ScanHead) (blocks : Blocks) (cs : List (List Place)) → flat_map (interval_marks head) (map (units_due blocks no_last) cs) ≡ flat_map (owned_marks head) (owned_in head blocks cs)
 marks_join head blocks [] = refl
 marks_join head blocks (c ∷ cs) =
     let here = interval_elements true head (units_due blocks (λ i. pos 0) c) in
@@ -178,7 +175,7 @@ counted_class f head interval blocks class rows e notes of = record { used = by;
         (λ s few.
         let cs = all_chunks f head interval in
         let owned = owned_in head blocks cs in
-        notes.marked slot s h few ∙ ap (λ b. b || any_of (is_mark slot s) (flat_map (places_marks head blocks) cs)) (no_mark slot s h few)
+        notes.marked slot s h few ∙ ap (λ b. b || any_of (is_mark slot s) (flat_map (interval_marks head) (map (units_due blocks no_last) cs))) (no_mark slot s h few)
         ∙ ap (any_of (is_mark slot s)) (marks_join head blocks cs)
         ∙ marked_own head class slot s owned (each_in (IsOfClass head class) head blocks cs of)
         ∙ ap (λ es. is_among s (symbols_of (is_own head class slot) es)) (sym (owned_is f head interval blocks e)))
@@ -225,62 +222,6 @@ no_bits head blocks dc refines class slot places =
 pub first_class : (head : ScanHead) (blocks : Blocks) → head.ss ≡ 0 → (places : List Place) → Each (IsOfClass head 0) (interval_elements true head (units_due blocks (λ i. pos 0) places))
 first_class head blocks dc places =
     each_first (λ (e : Owned). (IsOfClass head 0 e) × (is_dc_bit e.1 ≡ nat_lt 0 head.ah)) (IsOfClass head 0) (interval_elements true head (units_due blocks (λ i. pos 0) places)) (λ e of. of.0) (dc_class head blocks places dc)
-
--- INTERVALS, one after another
-
-abbrev pub left_marks : ScanHead → Blocks → ℕ → ℕ → List Place → List Mark
-left_marks head blocks most each places = flat_map (places_marks head blocks) (chunks_of most each places)
-
--- the pending elements of the places that are left
-pub record AreLeft (head : ScanHead) (blocks : Blocks) (each : ℕ) (places : List Place) (rest : List Mark) : Type 0 where
-  pub most : ℕ
-  pub enough : length places ≤ most
-  pub size : 1 ≤ each
-  pub is : rest ≡ left_marks head blocks most each places
-
-pub none_left : (head : ScanHead) (blocks : Blocks) (each : ℕ) (places : List Place) (rest : List Mark) → AreLeft head blocks each places rest → length places ≡ 0 → rest ≡ []
-unfolding chunks_of
-none_left head blocks each [] rest l e = l.is ∙ by l.most
-  where
-    by : (most : ℕ) → left_marks head blocks most each [] ≡ []
-    by zero = refl
-    by (suc most) = refl
-none_left head blocks each (p ∷ places) rest l e = absurd (omega (arith, e))
-
-pub next_left : (head : ScanHead) (blocks : Blocks) (each count : ℕ) (places : List Place) (rest : List Mark) → AreLeft head blocks each places rest → 1 ≤ length places → count ≡ min each (length places)
-    → (others : List Mark) × (rest ≡ places_marks head blocks (take count places) ++ others) × AreLeft head blocks each (drop count places) others
-unfolding chunks_of
-next_left head blocks each count [] rest l some e = absurd (omega (arith, some))
-next_left head blocks each count (p ∷ places) rest l some e = by l.most l.enough l.is
-  where
-    all : List Place
-    all = p ∷ places
-
-    same_take : take each all ≡ take count all
-    same_take = ⊎_elim (λ (h : each < length all). ap (λ n. take n all) (let q : each ≡ count = omega (arith, e, h) in q)) (λ (h : length all ≤ each). take_all each all h ∙ sym (take_all count all (omega (arith, e, h)))) (cases_lt each (length all))
-
-    same_drop : drop each all ≡ drop count all
-    same_drop = ⊎_elim (λ (h : each < length all). ap (λ n. drop n all) (let q : each ≡ count = omega (arith, e, h) in q)) (λ (h : length all ≤ each). drop_all each all h ∙ sym (drop_all count all (omega (arith, e, h)))) (cases_lt each (length all))
-
-    by : (most : ℕ) → length all ≤ most → rest ≡ left_marks head blocks most each all → (others : List Mark) × (rest ≡ places_marks head blocks (take count all) ++ others) × AreLeft head blocks each (drop count all) others
-    by zero h r = absurd (omega (arith, h))
-    by (suc most) h r = (
-      left_marks head blocks most each (drop count all),
-      r ∙ ap (λ ps. places_marks head blocks ps ++ left_marks head blocks most each (drop each all)) same_take ∙ ap (λ ps. places_marks head blocks (take count all) ++ left_marks head blocks most each ps) same_drop,
-      record { most = most; enough = omega (arith, length-drop count all, h, l.size, e); size = l.size; is = refl },
-    )
-
-pub all_left : (head : ScanHead) (f : Frame) (interval each : ℕ) (blocks : Blocks) → 1 ≤ length (units f (head_components head)) → 1 ≤ each
-    → each ≡ cond (interval * mcu_units f (head_components head) == 0) (length (units f (head_components head))) (interval * mcu_units f (head_components head))
-    → AreLeft head blocks each (units f (head_components head)) (scan_marks f head interval blocks)
-unfolding scan_marks
-all_left head f interval each blocks some size is = record {
-  most = length (units f (head_components head));
-  enough = omega arith;
-  size = size;
-  is = ap (flat_map (places_marks head blocks)) (cut_all (interval * mcu_units f (head_components head)) (units f (head_components head)) some)
-      ∙ ap (λ n. left_marks head blocks (length (units f (head_components head))) n (units f (head_components head))) (sym is);
-}
 
 pub rows_none : AreCountedRows no_counted_rows
 unfolding no_counted_rows

@@ -1,12 +1,12 @@
 -- THE SYMBOLS THAT A SCAN WRITES, counted by the slots of the tables (T.81, G.1.2).
-use Rattle.std.specs.Prelude.{◌≡◌, ℕ, ◌*◌, ◌<◌, ◌≤◌, ◌==◌, Bool, true, false, ◌&&◌, ◌||◌, if◌then◌else◌, List, [], ◌∷◌, ◌++◌, length, flat_map, replicate, slice_index_or, pos}
-use Rattle.jpg_spec.specs.Lists.{any_of, chunks}
-use Rattle.jpg_spec.specs.Geometry.{Frame, units, mcu_units}
-use Rattle.jpg_spec.specs.Segments.{ScanHead, head_components}
+use Rattle.std.specs.Prelude.{◌≡◌, ℕ, ◌<◌, ◌≤◌, ◌==◌, Bool, true, false, ◌&&◌, ◌||◌, if◌then◌else◌, List, [], ◌∷◌, ◌++◌, length, flat_map, replicate, slice_index_or}
+use Rattle.jpg_spec.specs.Lists.{any_of}
+use Rattle.jpg_spec.specs.Geometry.{Frame}
+use Rattle.jpg_spec.specs.Segments.{ScanHead}
 use Rattle.jpg_spec.specs.Elements.{Element, symbol_of, is_dc_bit}
 use Rattle.jpg_spec.specs.Scan.{Blocks}
-use Rattle.jpg_spec_write.specs.ScanText.{Owned, table_place, units_due, interval_elements, scan_elements, symbols_used}
-use Rattle.jpg_spec.specs.declared.frame.Place.{Place}
+use Rattle.jpg_spec_write.specs.ScanText.{UnitDue, Owned, table_place, interval_elements, scan_elements, symbols_used}
+use Rattle.jpg_coefs.specs.Sinks.{intervals_due}
 use Rattle.jpg_spec.specs.declared.frame.ScanPart.{ScanPart}
 use Rattle.jpg_huff.specs.Flat.{symbols_in}
 
@@ -63,11 +63,12 @@ marks_of slot elements = flat_map (λ e. (slot, symbol_of e) ∷ []) elements
 abbrev pub owned_marks : ScanHead → Owned → List Mark
 owned_marks head e = if is_dc_bit e.1 then [] else ((table_place head e).1, symbol_of e.1) ∷ []
 
-unfoldable pub places_marks : ScanHead → Blocks → List Place → List Mark
-places_marks head blocks places = flat_map (owned_marks head) (interval_elements true head (units_due blocks (λ i. pos 0) places))
+-- those of an interval
+abbrev pub interval_marks : ScanHead → List UnitDue → List Mark
+interval_marks head due = flat_map (owned_marks head) (interval_elements true head due)
 
 unfoldable pub no_counted_rows : Rows
 no_counted_rows = replicate 2 (replicate 256 false)
 
 unfoldable pub scan_marks : Frame → ScanHead → ℕ → Blocks → List Mark
-scan_marks f head interval blocks = flat_map (places_marks head blocks) (chunks (interval * mcu_units f (head_components head)) (units f (head_components head)))
+scan_marks f head interval blocks = flat_map (interval_marks head) (intervals_due f head interval blocks)

@@ -1,17 +1,13 @@
 -- WHAT A PROGRESSIVE SCAN IS WRITTEN AS by given tables, and what can be written so (T.81, G.1.2, E.1.4).
-use Rattle.std.specs.Prelude.{◌≡◌, ℕ, ◌<◌, nat_lt, ◌==◌, Bool, true, if◌then◌else◌, List, [], ◌∷◌, length, flat_map, slice_index_or, unwrap_or, ℤ, pos}
+use Rattle.std.specs.Prelude.{◌≡◌, ℕ, nat_lt, ◌==◌, true, if◌then◌else◌, List, [], length, slice_index_or, unwrap_or, ℤ}
 use Rattle.std.specs.Option.{option_map}
-use Rattle.jpg_spec.specs.Bits.{data_of}
 use Rattle.jpg_spec.specs.Codes.{Code}
-use Rattle.jpg_spec.specs.Lists.{is_among}
-use Rattle.jpg_spec.specs.Geometry.{Frame, is_real, is_progressive}
+use Rattle.jpg_spec.specs.Geometry.{Frame, is_progressive}
 use Rattle.jpg_spec.specs.Segments.{HuffmanTable, ScanHead, head_components, table_codes}
 use Rattle.jpg_spec.specs.ScanContents.{are_parameters}
-use Rattle.jpg_spec.specs.Elements.{zeros}
 use Rattle.jpg_spec_write.specs.Sending.{shifted}
-use Rattle.jpg_spec.specs.Scan.{Blocks, block_at}
-use Rattle.jpg_spec_write.specs.ScanText.{Owned, dc_element, units_due, interval_elements, element_bits, scan_elements, scan_data}
-use Rattle.jpg_spec.specs.declared.frame.Place.{Place}
+use Rattle.jpg_spec.specs.Scan.{Blocks}
+use Rattle.jpg_spec_write.specs.ScanText.{Owned, dc_element, scan_elements, scan_data}
 use Rattle.jpg_spec.specs.declared.frame.ScanPart.{ScanPart}
 use Rattle.jpg_base.specs.Cursor.{AreIn}
 use Rattle.jpg_huff.specs.declared.set.TableSet.{TableSet}
@@ -40,26 +36,9 @@ pub record IsProgScan (f : Frame) (head : ScanHead) : Type 0 where
 
 -- UNITS
 
--- a place of a scan of this head
-pub record IsScanPlace (f : Frame) (head : ScanHead) (p : Place) : Type 0 where
-  pub named : is_among p.component (head_components head) ≡ true
-  pub there : p.component < length f.components
-  pub real : p.real ≡ is_real f p.component p.x p.y
-
--- the block that is written there: the picture's, or for a padding block only the last DC value
-abbrev pub block_due : Blocks → ℤ → Place → List ℤ
-block_due blocks last p = if p.real then block_at blocks p else last ∷ zeros 63
-
 -- the element of a DC unit after another of its component
 abbrev pub dc_unit : ScanHead → ℕ → ℤ → ℤ → Owned
 dc_unit head i last v = (i, dc_element (nat_lt 0 head.ah) head.al (shifted head.al last) v)
-
--- the bits and the data of the units at some places
-unfoldable pub places_bits : TableSet → ScanHead → Blocks → List Place → List Bool
-places_bits set head blocks places = flat_map (element_bits (tables_in set) head) (interval_elements true head (units_due blocks (λ i. pos 0) places))
-
-unfoldable pub places_data : TableSet → ScanHead → Blocks → List Place → List ℕ
-places_data set head blocks places = data_of (places_bits set head blocks places)
 
 -- the slot of a scan of one component
 abbrev pub no_scan_part : ScanPart

@@ -1,20 +1,19 @@
 //! The bands of a progressive AC scan, put block by block (T.81, G.1.2.2, G.1.2.3).
-ghost use Rattle.std.specs.Prelude.{◌≡◌, ◌≤◌, true, length, take, drop, Ok, All};
-ghost use Rattle.jpg_spec_write.specs.WrittenFile.{HasBlocksIn};
-ghost use Rattle.jpg_huff.specs.BitOut.{Puts};
-ghost use Rattle.jpg_prog_write.specs.Bands.{IsBand, IsBandOf};
-ghost use Rattle.jpg_prog_write.specs.Written.{IsScanPlace, IsProgScan, places_bits, first_slot as slot_of};
+ghost use Rattle.std.specs.Prelude.{◌≡◌, ◌≤◌, length};
+ghost use Rattle.jpg_coefs.specs.BitSinks.{bit_kind};
+ghost use Rattle.jpg_prog_write.specs.Bands.{IsBandOf};
+ghost use Rattle.jpg_prog_write.specs.Written.{first_slot as slot_of};
+ghost use Rattle.jpg_prog_write.specs.ScanSinks.{IsAcHead, AreBandsOf, ac_units};
 
 use crate::band::Band;
 use crate::bands::Bands;
-use crate::dc::due;
 use crate::put::{put_band, put_end};
-use jpg_base::{Cursor, Desk, ScanHead, WriteFault};
-use jpg_coefs::BlockView;
+use jpg_base::{Block, Desk, ScanHead, WriteFault};
+use jpg_coefs::{UnitSink, end_interval};
 use jpg_huff::{BitOut, TableSet};
 
 // The band of a scan.
-pub(crate) fn band_of(head: &ScanHead) -> Band
+fn band_of(head: &ScanHead) -> Band
     requires { head.now.se ≤ 63 }
     ensures { IsBandOf head.now result }
 {
@@ -34,32 +33,51 @@ pub(crate) fn first_slot(head: &ScanHead) -> u8
     head.parts[0].ac
 }
 
-// Writes the bands of a number of places.
-pub(crate) fn put_bands<V: BlockView, D: Desk>(
-    view: &V,
-    head: &ScanHead,
-    tables: &TableSet,
-    cursor: &mut Cursor,
-    count: u64,
-    out: &mut BitOut,
-    desk: &mut D,
-) -> Result<(), WriteFault>
-    requires created { (D.state desk.old).output_created ≡ true }
-    requires scan { IsProgScan (V.numbers view.now) head.now }
-    requires ac { 1 ≤ head.now.ss }
-    requires blocks { HasBlocksIn (V.numbers view.now) (V.blocks view.now) }
-    requires places { All (IsScanPlace (V.numbers view.now) head.now) cursor.old }
-    requires enough { count ≤ length cursor.old }
-    ensures puts { Puts (D.state desk.old) out.old (places_bits tables.now head.now (V.blocks view.now) (take count cursor.old)) result out.new (D.state desk.new) }
-    ensures left { (u : Unit {0}) → result ≡ Ok u → cursor.new ≡ drop count cursor.old }
+/// No band of a scan, and no EOB run.
+pub(crate) fn no_bands(head: &ScanHead) -> Bands
+    requires { IsAcHead head.now }
+    ensures bands { AreBandsOf head.now result }
+    ensures none { result.bands ≡ 0 }
 {
-    let slot = first_slot(head);
-    let mut bands = Bands::new(band_of(head));
-    for _ in 0..count {
-        let block = due(view, cursor.place(), 0);
-        cursor.step();
-        bands.begin(&block);
-        put_band(&mut bands, tables, slot, out, desk)?;
+    Bands::new(band_of(head))
+}
+
+/// What writes the bands of a scan.
+#[derive(Drop)]
+pub(crate) struct AcUnits<'a> {
+    pub(crate) head: &'a ScanHead,
+    pub(crate) tables: &'a TableSet,
+    pub(crate) bands: Bands,
+}
+
+impl<'a, D: Desk> UnitSink<BitOut, D> for AcUnits<'a> {
+    ghost kind = { bit_kind ac_units D.state };
+
+    #[inline(always)]
+    fn unit(
+        &mut self,
+        component: u8,
+        last: i16,
+        block: &Block,
+        out: &mut BitOut,
+        desk: &mut D,
+    ) -> Result<(), WriteFault> {
+        let slot = first_slot(self.head);
+        let tables = self.tables;
+        self.bands.begin(block);
+        put_band(&mut self.bands, tables, slot, out, desk)
     }
-    put_end(&mut bands, tables, slot, out, desk)
+
+    fn end(
+        &mut self,
+        marker: Option<u8>,
+        out: &mut BitOut,
+        desk: &mut D,
+    ) -> Result<(), WriteFault> {
+        let slot = first_slot(self.head);
+        let tables = self.tables;
+        put_end(&mut self.bands, tables, slot, out, desk)?;
+        self.bands = no_bands(self.head);
+        end_interval(marker, out, desk)
+    }
 }

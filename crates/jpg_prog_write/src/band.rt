@@ -53,6 +53,7 @@ impl Band {
 
     // The block with 0 for the values of which nothing is sent: what is sent of it is the same.
     #[inline(always)]
+    #[inline(always)]
     pub(crate) fn kept(self, block: &Block) -> Block
         requires { self.al ≤ 10 }
         ensures short { IsShort block.now → IsShort result }
@@ -79,6 +80,7 @@ impl Band {
     }
 
     // The place after the last value that is newly sent, the start if there is none.
+    #[inline(always)]
     pub(crate) fn front_end(self, block: &Block) -> u8
         requires band { IsBand self }
         requires long { length block.now ≡ 64 }

@@ -146,6 +146,7 @@ fn wait(sent: Sending, waiting: &mut Waiting)
 }
 
 // Adds the corrections from a place up to the end of the band to those that wait.
+#[inline(always)]
 fn wait_all(band: Band, block: &Block, from: u8, waiting: &mut Waiting)
     requires band { IsBand band }
     requires short { IsShort block.now }
@@ -203,6 +204,7 @@ impl Bands {
     }
 
     /// Begins the band of a block.
+    #[inline(always)]
     pub(crate) fn begin(&mut self, block: &Block)
         requires ready { IsReady self.old }
         requires short { IsShort block.now }

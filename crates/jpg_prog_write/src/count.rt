@@ -1,19 +1,19 @@
 //! The symbols that a progressive scan writes, counted (T.81, G.1.2).
-ghost use Rattle.std.specs.Prelude.{◌≡◌, ◌<◌, ◌≤◌, [], ◌∷◌, true, length, take, drop, List, All};
+ghost use Rattle.std.specs.Prelude.{◌≡◌, ◌<◌, ◌≤◌, [], ◌∷◌, List, All};
 ghost use Rattle.jpg_spec.specs.Scan.{part_of as part_in};
 ghost use Rattle.jpg_spec_write.specs.Sending.{Sent, ended_bands};
 ghost use Rattle.jpg_spec_write.specs.WrittenFile.{HasBlocksIn};
 ghost use Rattle.jpg_prog_write.specs.Bands.{IsReady, elements_left, elements_waiting};
-ghost use Rattle.jpg_prog_write.specs.Written.{IsProgScan, IsScanPlace, dc_unit};
-ghost use Rattle.jpg_prog_write.specs.Counted.{HasSlots, CountsClass, AreCountedRows, Notes, NotesBut, marks_of, owned_marks, places_marks, no_counted_rows, scan_marks};
+ghost use Rattle.jpg_prog_write.specs.Written.{IsProgScan, dc_unit};
+ghost use Rattle.jpg_prog_write.specs.Counted.{HasSlots, CountsClass, AreCountedRows, Notes, NotesBut, marks_of, owned_marks, no_counted_rows, scan_marks};
+ghost use Rattle.jpg_prog_write.specs.ScanSinks.{mark_kind, dc_counter, ac_counter};
 
-use crate::ac::{band_of, first_slot};
+use crate::ac::{first_slot, no_bands};
 use crate::bands::Bands;
-use crate::dc::{difference, due, part_of};
+use crate::dc::difference;
 use crate::numbers::shifted;
-use crate::write::each_interval;
-use jpg_base::{Cursor, ScanHead};
-use jpg_coefs::BlockView;
+use jpg_base::{Block, ScanHead, WriteFault};
+use jpg_coefs::{BlockView, UnitSink, part_of, put_scan};
 use jpg_huff::category;
 
 /// By slot 0 or 1, which symbols of DC tables and of AC tables are used.
@@ -70,35 +70,6 @@ fn count_end(bands: &mut Bands, slot: u8, rows: &mut Rows)
     }
 }
 
-// Counts the bands of a number of places.
-fn count_bands<V: BlockView>(
-    view: &V,
-    head: &ScanHead,
-    cursor: &mut Cursor,
-    count: u64,
-    rows: &mut Rows,
-)
-    requires scan { IsProgScan (V.numbers view.now) head.now }
-    requires ac { 1 ≤ head.now.ss }
-    requires slots { All HasSlots head.now.parts }
-    requires blocks { HasBlocksIn (V.numbers view.now) (V.blocks view.now) }
-    requires places { All (IsScanPlace (V.numbers view.now) head.now) cursor.old }
-    requires enough { count ≤ length cursor.old }
-    requires rows { AreCountedRows rows.old }
-    ensures notes { Notes rows.old (places_marks head.now (V.blocks view.now) (take count cursor.old)) rows.new }
-    ensures left { cursor.new ≡ drop count cursor.old }
-{
-    let slot = first_slot(head);
-    let mut bands = Bands::new(band_of(head));
-    for _ in 0..count {
-        let block = due(view, cursor.place(), 0);
-        cursor.step();
-        bands.begin(&block);
-        count_band(&mut bands, slot, rows);
-    }
-    count_end(&mut bands, slot, rows);
-}
-
 // Counts the DC difference of a unit after another of its component, in a first pass.
 #[inline(always)]
 fn count_unit(head: &ScanHead, component: u8, last: i16, value: i16, rows: &mut Rows)
@@ -114,59 +85,73 @@ fn count_unit(head: &ScanHead, component: u8, last: i16, value: i16, rows: &mut 
     mark(rows, part.dc, category(difference(value, prediction)));
 }
 
-// Counts the DC differences of a number of places, in a first pass.
-fn count_units<V: BlockView>(
-    view: &V,
-    head: &ScanHead,
-    cursor: &mut Cursor,
-    count: u64,
-    rows: &mut Rows,
-)
-    requires scan { IsProgScan (V.numbers view.now) head.now }
-    requires dc { head.now.ss ≡ 0 }
-    requires first { head.now.ah ≡ 0 }
-    requires slots { All HasSlots head.now.parts }
-    requires four { length (V.numbers view.now).components ≤ 4 }
-    requires places { All (IsScanPlace (V.numbers view.now) head.now) cursor.old }
-    requires enough { count ≤ length cursor.old }
-    requires rows { AreCountedRows rows.old }
-    ensures notes { Notes rows.old (places_marks head.now (V.blocks view.now) (take count cursor.old)) rows.new }
-    ensures left { cursor.new ≡ drop count cursor.old }
-{
-    let mut last = [0i16; 4];
-    for _ in 0..count {
-        let place = cursor.place();
-        let before = last[place.component as usize];
-        let value = due(view, place, before).get(0);
-        count_unit(head, place.component, before, value, rows);
-        last[place.component as usize] = value;
-        cursor.step();
+/// What counts the DC values of a scan, in a first pass.
+#[derive(Drop)]
+pub(crate) struct DcCounter<'a> {
+    pub(crate) head: &'a ScanHead,
+}
+
+impl<'a> UnitSink<Rows, ()> for DcCounter<'a> {
+    ghost kind = { mark_kind dc_counter };
+
+    #[inline(always)]
+    fn unit(
+        &mut self,
+        component: u8,
+        last: i16,
+        block: &Block,
+        rows: &mut Rows,
+        desk: &mut (),
+    ) -> Result<(), WriteFault> {
+        count_unit(self.head, component, last, block.get(0), rows);
+        Ok(())
+    }
+
+    fn end(
+        &mut self,
+        marker: Option<u8>,
+        rows: &mut Rows,
+        desk: &mut (),
+    ) -> Result<(), WriteFault> {
+        Ok(())
     }
 }
 
-// Counts the units of a number of places.
-fn count_places<V: BlockView>(
-    view: &V,
-    head: &ScanHead,
-    cursor: &mut Cursor,
-    count: u64,
-    rows: &mut Rows,
-)
-    requires scan { IsProgScan (V.numbers view.now) head.now }
-    requires first { head.now.ss ≡ 0 → head.now.ah ≡ 0 }
-    requires slots { All HasSlots head.now.parts }
-    requires blocks { HasBlocksIn (V.numbers view.now) (V.blocks view.now) }
-    requires four { length (V.numbers view.now).components ≤ 4 }
-    requires places { All (IsScanPlace (V.numbers view.now) head.now) cursor.old }
-    requires enough { count ≤ length cursor.old }
-    requires rows { AreCountedRows rows.old }
-    ensures notes { Notes rows.old (places_marks head.now (V.blocks view.now) (take count cursor.old)) rows.new }
-    ensures left { cursor.new ≡ drop count cursor.old }
-{
-    if head.ss > 0 {
-        count_bands(view, head, cursor, count, rows)
-    } else {
-        count_units(view, head, cursor, count, rows)
+/// What counts the bands of a scan.
+#[derive(Drop)]
+pub(crate) struct AcCounter<'a> {
+    pub(crate) head: &'a ScanHead,
+    pub(crate) bands: Bands,
+}
+
+impl<'a> UnitSink<Rows, ()> for AcCounter<'a> {
+    ghost kind = { mark_kind ac_counter };
+
+    #[inline(always)]
+    fn unit(
+        &mut self,
+        component: u8,
+        last: i16,
+        block: &Block,
+        rows: &mut Rows,
+        desk: &mut (),
+    ) -> Result<(), WriteFault> {
+        let slot = first_slot(self.head);
+        self.bands.begin(block);
+        count_band(&mut self.bands, slot, rows);
+        Ok(())
+    }
+
+    fn end(
+        &mut self,
+        marker: Option<u8>,
+        rows: &mut Rows,
+        desk: &mut (),
+    ) -> Result<(), WriteFault> {
+        let slot = first_slot(self.head);
+        count_end(&mut self.bands, slot, rows);
+        self.bands = no_bands(self.head);
+        Ok(())
     }
 }
 
@@ -178,17 +163,16 @@ fn count_rows<V: BlockView>(view: &V, head: &ScanHead, interval: u16) -> Rows
     requires blocks { HasBlocksIn (V.numbers view.now) (V.blocks view.now) }
     ensures { Notes no_counted_rows (scan_marks (V.numbers view.now) head.now interval (V.blocks view.now)) result }
 {
-    let frame = view.frame();
-    frame.checked();
     let mut rows = no_marks();
-    let mut cursor = Cursor::new(frame, head);
-    let mut left = frame.scan_units(head);
-    let each = each_interval(u64::from(interval) * u64::from(frame.mcu_units(head)), left);
-    while left > 0 {
-        let count = each.min(left);
-        count_places(view, head, &mut cursor, count, &mut rows);
-        left -= count;
-    }
+    let counted = if head.ss > 0 {
+        let bands = no_bands(head);
+        let mut units = AcCounter { head, bands };
+        put_scan(view, head, interval, &mut units, &mut rows, &mut ())
+    } else {
+        let mut units = DcCounter { head };
+        put_scan(view, head, interval, &mut units, &mut rows, &mut ())
+    };
+    let _ = counted;
     rows
 }
 

@@ -11,7 +11,6 @@ pub mod NewCoders
 pub mod Parts
 pub mod StoreReadings
 pub mod RowReadings
-pub mod ScanIntervals
 pub mod ScanRows
 pub mod ScanUnits
 pub mod Sources

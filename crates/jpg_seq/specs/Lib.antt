@@ -11,6 +11,7 @@ pub mod Values
 pub mod Work
 pub mod Reader
 pub mod ScanWritten
+pub mod SeqUnits
 pub mod SoFar
 pub mod Rows
 pub mod RowTaken

@@ -1,72 +1,53 @@
-use Rattle.std.proofs.Common.{◌≡◌, ◌*◌, ◌==◌, cond, ℕ, length, min, refl, sym, ap, ◌∙◌, subst, arith}
-use Rattle.std.proofs.lemmas.List.{length-drop}
-use Rattle.std.proofs.lemmas.List.Elements.{All-drop, All-same}
-use Rattle.jpg_spec.specs.Geometry.{units, mcu_units}
-use Rattle.jpg_spec.specs.FrameHeader.{IsFrame}
-use Rattle.jpg_spec.specs.Segments.{head_components}
-use Rattle.jpg_prog_write.specs.Written.{IsScanPlace}
-use Rattle.jpg_prog_write.specs.Counted.{NotesBut, no_counted_rows, scan_marks}
-use Rattle.jpg_prog_write.proofs.Places.{scan_places, some_places}
-use Rattle.jpg_prog_write.proofs.Marks.{but_start, but_then, but_end}
-use Rattle.jpg_prog_write.proofs.SymbolsUsed.{AreLeft, rows_none, all_left, next_left, none_left}
+use Rattle.std.proofs.Common.{◌≡◌, ◌<◌, refl, sym, ap, subst, arith}
+use Rattle.jpg_spec.specs.Segments.{ScanHead}
+use Rattle.jpg_spec.specs.Scan.{part_of}
+use Rattle.jpg_coefs.specs.Sinks.{intervals_due}
+use Rattle.jpg_coefs.proofs.BitSinks.{all_units}
+use Rattle.jpg_prog_write.specs.Counted.{AreCountedRows, Notes, owned_marks, scan_marks}
+use Rattle.jpg_prog_write.specs.ScanSinks.{IsBandUnit, dc_counter, ac_counter}
+use Rattle.jpg_prog_write.proofs.DcUnits.{first_all}
+use Rattle.jpg_prog_write.proofs.BandUnits.{ac_head, bits_of_head, unit_fits}
+use Rattle.jpg_prog_write.proofs.Marks.{band_marks}
+use Rattle.jpg_prog_write.proofs.SymbolsUsed.{rows_none}
+use Rattle.jpg_prog_write.proofs.Counting.{begins, slots_of, small_slot}
 use Rattle.jpg_prog_write.proofs.count.count_rows.Goals as goal
 
-pub each_interval-each-requires : goal.each_interval-each-requires
-each_interval-each-requires g c =
-    let f = g.V.BlockView.numbers c.args.view.now in
-    let is : IsFrame f = subst (λ f. IsFrame f) c.frame-frame.ensures c.checked.ensures in
-    let some = some_places f c.args.head.now is c.requires.scan.components in
-    let e = c.scan_units-left.ensures ∙ ap (λ f. length (units f (head_components c.args.head.now))) c.frame-frame.ensures in
-    omega (arith, some, e)
+pub no_bands-bands-requires : goal.no_bands-bands-requires
+no_bands-bands-requires g c =
+    let head = c.args.head.now in
+    let ss = ap (λ (h : ScanHead). h.ss) c.head.view_is in
+    ac_head (g.V.BlockView.numbers c.args.view.now) head c.requires.scan (omega (arith, ss, c.if-head-gt0.true))
 
-pub loop-left-init : goal.loop-left-init
-loop-left-init g c =
+pub put_scan-counted-requires-clause-begins : goal.put_scan-counted-requires-clause-begins
+put_scan-counted-requires-clause-begins g c =
     let f = g.V.BlockView.numbers c.args.view.now in
     let head = c.args.head.now in
     let blocks = g.V.BlockView.blocks c.args.view.now in
-    let is : IsFrame f = subst (λ f. IsFrame f) c.frame-frame.ensures c.checked.ensures in
-    let places : c.new-cursor.result ≡ units f (head_components head) = c.new-cursor.ensures ∙ ap (λ f. units f (head_components head)) c.frame-frame.ensures in
-    let count : c.scan_units-left.result ≡ length (units f (head_components head)) = c.scan_units-left.ensures ∙ ap (λ f. length (units f (head_components head))) c.frame-frame.ensures in
-    let all = length (units f (head_components head)) in
-    let mcu : c.mcu_units.result ≡ mcu_units f (head_components head) = c.mcu_units.ensures.value ∙ ap (λ f. mcu_units f (head_components head)) c.frame-frame.ensures in
-    let product : c.from.result * c.from-2.result ≡ c.args.interval * mcu_units f (head_components head) = ap (λ a. a * c.from-2.result) c.from.ensures ∙ ap (λ b. c.args.interval * b) (c.from-2.ensures ∙ mcu) in
-    let of : ℕ → ℕ → ℕ = λ m n. cond (m == 0) n m in
-    let each : c.each_interval-each.result ≡ of (c.args.interval * mcu_units f (head_components head)) all = c.each_interval-each.ensures.1 ∙ ap (λ m. of m c.scan_units-left.result) product ∙ ap (of (c.args.interval * mcu_units f (head_components head))) count in
-    let marks = scan_marks f head c.args.interval blocks in
-    record {
-      work = (
-        marks,
-        subst (λ ps. AreLeft head blocks c.each_interval-each.result ps marks) (sym places)
-            (all_left head f c.args.interval c.each_interval-each.result blocks (some_places f head is c.requires.scan.components) c.each_interval-each.ensures.0 each),
-        subst (λ rows. NotesBut no_counted_rows marks marks rows) (sym c.no_marks-rows.ensures) (but_start no_counted_rows marks marks rows_none refl),
-      );
-      left = count ∙ ap length (sym places);
-      places = All-same (IsScanPlace f head) c.new-cursor.result (units f (head_components head)) places (scan_places f head c.requires.scan.components);
-    }
+    let are = c.no_bands-bands.ensures.bands in
+    let rows = subst AreCountedRows (sym c.no_marks-rows.ensures) rows_none in
+    begins ac_counter _ (intervals_due f head c.args.interval blocks) (refl, are, small_slot head c.requires.slots) rows
+    (all_units (IsBandUnit head) f head c.args.interval blocks c.requires.scan.components (λ p last is. unit_fits f head blocks last p c.requires.blocks are.ac.one is))
+    (λ due fits. band_marks head c.no_bands-bands.result due are c.no_bands-bands.ensures.none fits)
 
-pub loop-left-preserved : goal.loop-left-preserved
-loop-left-preserved g c =
+pub returns-then-head-gt0 : goal.returns-then-head-gt0
+unfolding scan_marks
+returns-then-head-gt0 g c =
+    let f = g.V.BlockView.numbers c.args.view.now in
+    subst (λ rows. Notes rows (scan_marks f c.args.head.now c.args.interval (g.V.BlockView.blocks c.args.view.now)) c.put_scan-counted.new.out) c.no_marks-rows.ensures c.put_scan-counted.ensures.1
+
+pub put_scan-counted-requires-else-head-gt0-clause-begins : goal.put_scan-counted-requires-else-head-gt0-clause-begins
+put_scan-counted-requires-else-head-gt0-clause-begins g c =
     let f = g.V.BlockView.numbers c.args.view.now in
     let head = c.args.head.now in
     let blocks = g.V.BlockView.blocks c.args.view.now in
-    let w = c.loop-left.invariant.work in
-    let marks = scan_marks f head c.args.interval blocks in
-    let n = next_left head blocks c.each_interval-each.result c.min-count.result c.loop-left.cursor w.0 w.1 (omega (arith, c.loop-left.invariant.left, c.loop-left-test.true)) (c.min-count.ensures ∙ ap (min c.each_interval-each.result) c.loop-left.invariant.left) in
-    let left = c.count_places.ensures.left in
-    record {
-      work = (
-        n.0,
-        subst (λ ps. AreLeft head blocks c.each_interval-each.result ps n.0) (sym left) n.2,
-        but_then no_counted_rows c.loop-left.rows c.count_places.new.rows marks w.0 _ n.0 n.1 w.2 c.count_places.ensures.notes,
-      );
-      left = (let a = ap length left in let b = length-drop c.min-count.result c.loop-left.cursor in omega (arith, a, b, c.loop-left.invariant.left));
-      places = All-same (IsScanPlace f head) c.count_places.new.cursor _ left (All-drop (IsScanPlace f head) c.min-count.result c.loop-left.cursor c.loop-left.invariant.places);
-    }
+    let ss = ap (λ (h : ScanHead). h.ss) c.head.view_is in
+    let dc : head.ss ≡ 0 = omega (arith, ss, c.if-head-gt0.false) in
+    let rows = subst AreCountedRows (sym c.no_marks-rows.ensures) rows_none in
+    begins dc_counter _ (intervals_due f head c.args.interval blocks) (refl, record { dc = dc; bits = bits_of_head f head c.requires.scan }, c.requires.first dc) rows
+    (all_units (λ u. (part_of head u.0).dc < 2) f head c.args.interval blocks c.requires.scan.components (λ p last is. (slots_of head p.component c.requires.slots).dc)) (λ due fits. first_all (owned_marks head) head due dc)
 
-pub returns : goal.returns
-returns g c =
+pub returns-else-head-gt0 : goal.returns-else-head-gt0
+unfolding scan_marks
+returns-else-head-gt0 g c =
     let f = g.V.BlockView.numbers c.args.view.now in
-    let head = c.args.head.now in
-    let blocks = g.V.BlockView.blocks c.args.view.now in
-    let w = c.loop-left.invariant.work in
-    but_end no_counted_rows c.loop-left.rows (scan_marks f head c.args.interval blocks) w.0 (none_left head blocks c.each_interval-each.result c.loop-left.cursor w.0 w.1 (omega (arith, c.loop-left.invariant.left, c.loop-left-test.false))) w.2
+    subst (λ rows. Notes rows (scan_marks f c.args.head.now c.args.interval (g.V.BlockView.blocks c.args.view.now)) c.put_scan-counted-else-head-gt0.new.out) c.no_marks-rows.ensures c.put_scan-counted-else-head-gt0.ensures.1

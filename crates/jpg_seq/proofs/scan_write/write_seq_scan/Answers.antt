@@ -1,102 +1,35 @@
-use Rattle.std.proofs.Common.{◌≡◌, ◌≤◌, ◌<◌, ◌+◌, ◌*◌, ◌%◌, ◌==◌, cond, ℕ, length, drop, min, refl, sym, ap, ◌∙◌, subst, arith}
-use Rattle.std.proofs.lemmas.Result.{err_from_is_err_and}
-use Rattle.std.proofs.lemmas.List.{length-drop}
-use Rattle.std.proofs.lemmas.List.Elements.{All-drop, All-same}
-use Rattle.jpg_spec.specs.Geometry.{units, mcu_units}
-use Rattle.jpg_spec.specs.FrameHeader.{IsFrame}
-use Rattle.jpg_spec.specs.Segments.{head_components}
-use Rattle.jpg_huff.specs.BitOut.{Sends}
-use Rattle.jpg_huff.proofs.InParts.{of_bytes, part_start, part_then, part_last, part_fault}
-use Rattle.jpg_huff.proofs.Together.{sends_nothing, can_after}
-use Rattle.jpg_seq.specs.ScanWritten.{IsScanPlace, written_data}
-use Rattle.jpg_seq.proofs.ScanIntervals.{IsLeft, scan_places, some_places, first_left, some_left, all_left, more_left}
+use Rattle.std.proofs.Common.{◌∙◌, refl, sym, ap, subst, false}
+use Rattle.std.specs.List.{All}
+use Rattle.jpg_spec.specs.Scan.{part_of}
+use Rattle.jpg_seq.specs.BlockBits.{IsShort}
+use Rattle.jpg_huff.proofs.Together.{sends_same}
+use Rattle.jpg_coefs.specs.Sinks.{intervals_due}
+use Rattle.jpg_coefs.proofs.BitSinks.{begins, all_units, written_text}
+use Rattle.jpg_seq.specs.NewReader.{HasTables}
+use Rattle.jpg_seq.specs.ScanWritten.{tables_in, written_data}
+use Rattle.jpg_seq.specs.SeqUnits.{seq_units}
+use Rattle.jpg_seq.proofs.ScanUnits.{unit_fits}
 use Rattle.jpg_seq.proofs.scan_write.write_seq_scan.Goals as goal
 
-pub each_interval-each-requires : goal.each_interval-each-requires
-each_interval-each-requires g c =
-    let f = g.V.BlockView.numbers c.args.view.now in
-    let is : IsFrame f = subst (λ f. IsFrame f) c.frame-frame.ensures c.checked.ensures in
-    let some = some_places f c.args.head.now is c.requires.scan.components in
-    let e = c.scan_units-left.ensures ∙ ap (λ f. length (units f (head_components c.args.head.now))) c.frame-frame.ensures in
-    omega (arith, some, e)
+pub put_scan-requires-clause-scan : goal.put_scan-requires-clause-scan
+put_scan-requires-clause-scan g c = c.requires.scan.components
 
-pub loop-left-init : goal.loop-left-init
-loop-left-init g c =
+pub put_scan-requires-clause-begins : goal.put_scan-requires-clause-begins
+put_scan-requires-clause-begins g c =
     let f = g.V.BlockView.numbers c.args.view.now in
     let head = c.args.head.now in
     let blocks = g.V.BlockView.blocks c.args.view.now in
-    let s = g.D.Desk.state c.args.desk.now in
-    let is : IsFrame f = subst (λ f. IsFrame f) c.frame-frame.ensures c.checked.ensures in
-    let places : c.new-cursor.result ≡ units f (head_components head) = c.new-cursor.ensures ∙ ap (λ f. units f (head_components head)) c.frame-frame.ensures in
-    let count : c.scan_units-left.result ≡ length (units f (head_components head)) = c.scan_units-left.ensures ∙ ap (λ f. length (units f (head_components head))) c.frame-frame.ensures in
-    let all = length (units f (head_components head)) in
-    let mcu : c.mcu_units.result ≡ mcu_units f (head_components head) = c.mcu_units.ensures.value ∙ ap (λ f. mcu_units f (head_components head)) c.frame-frame.ensures in
-    let product : c.from.result * c.from-2.result ≡ c.args.interval * mcu_units f (head_components head) = ap (λ a. a * c.from-2.result) c.from.ensures ∙ ap (λ b. c.args.interval * b) (c.from-2.ensures ∙ mcu) in
-    let of : ℕ → ℕ → ℕ = λ m n. cond (m == 0) n m in
-    let each : c.each_interval-each.result ≡ of (c.args.interval * mcu_units f (head_components head)) all = c.each_interval-each.ensures.1 ∙ ap (λ m. of m c.scan_units-left.result) product ∙ ap (of (c.args.interval * mcu_units f (head_components head))) count in
-    record {
-      can = c.requires.can;
-      work = (
-        written_data f head c.args.tables.now c.args.interval blocks,
-        subst (λ t. IsLeft t head blocks c.each_interval-each.result 0 c.new-cursor.result (written_data f head c.args.tables.now c.args.interval blocks)) (sym c.new-encoders.ensures)
-            (subst (λ ps. IsLeft c.args.tables.now head blocks c.each_interval-each.result 0 ps (written_data f head c.args.tables.now c.args.interval blocks)) (sym places)
-            (first_left c.args.tables.now f head c.args.interval c.each_interval-each.result blocks c.requires.scan.sequential (some_places f head is c.requires.scan.components) c.each_interval-each.ensures.0 each)),
-        part_start Sends s c.args.out.now _ _ (sends_nothing s c.args.out.now c.requires.can.none) refl,
-      );
-      left = count ∙ ap length (sym places);
-      places = All-same (IsScanPlace f head) c.new-cursor.result (units f (head_components head)) places (scan_places f head c.requires.scan.components);
-      turn = omega arith;
-    }
+    let all = intervals_due f head c.args.interval blocks in
+    let set = c.new-encoders.result in
+    let tables = subst (λ t. All (HasTables t) head.parts) (sym c.new-encoders.ensures) c.requires.scan.tables in
+    begins seq_units g.D.Desk.state _ all refl c.requires.can
+    (all_units (λ u. HasTables set (part_of head u.0) × IsShort u.1) f head c.args.interval blocks c.requires.scan.components (λ p last is. unit_fits f head set blocks last p c.requires.blocks tables is)) (λ due fits. refl)
 
-pub returns-in_err-write_interval : goal.returns-in_err-write_interval
-returns-in_err-write_interval g c =
-    let state = g.D.Desk.state in
-    let blocks = g.V.BlockView.blocks c.args.view.now in
-    let w = c.loop-left.invariant.work in
-    let n = some_left c.new-encoders.result c.args.head.now blocks c.each_interval-each.result c.loop-left.turn c.min-count.result c.loop-left.cursor w.0 w.1 (c.min-count.ensures ∙ ap (min c.each_interval-each.result) c.loop-left.invariant.left) in
-    let back = err_from_is_err_and c.from_residual.result c.from_residual.ensures.1 in
-    rw (back.1, back.2) (part_fault Sends of_bytes (state c.args.desk.now) (state c.loop-left.desk) (state c.write_interval.new.desk) c.args.out.now c.loop-left.out c.write_interval.new.out _ w.0 _ n.0 c.in_err-write_interval.field-0.0 n.1 w.2
-    c.in_err-write_interval.ensures.sends)
-
-pub returns-then-left-eq0 : goal.returns-then-left-eq0
-returns-then-left-eq0 g c =
-    let state = g.D.Desk.state in
-    let blocks = g.V.BlockView.blocks c.args.view.now in
-    let w = c.loop-left.invariant.work in
-    let small : length c.loop-left.cursor ≤ c.min-count.result = omega (arith, c.loop-left.invariant.left, c.if-left-eq0.true) in
-    let e = all_left c.new-encoders.result c.args.head.now blocks c.each_interval-each.result c.loop-left.turn c.min-count.result c.loop-left.cursor w.0 w.1 (c.min-count.ensures ∙ ap (min c.each_interval-each.result) c.loop-left.invariant.left) small in
-    part_last Sends of_bytes (state c.args.desk.now) (state c.loop-left.desk) (state c.write_interval.new.desk) c.args.out.now c.loop-left.out c.write_interval.new.out _ w.0 _ _ e w.2 c.in_ok-write_interval.ensures.sends
-
-pub returns-in_err-raw : goal.returns-in_err-raw
-returns-in_err-raw g c =
-    let state = g.D.Desk.state in
-    let blocks = g.V.BlockView.blocks c.args.view.now in
-    let w = c.loop-left.invariant.work in
-    let some : c.min-count.result < length c.loop-left.cursor = omega (arith, c.loop-left.invariant.left, c.if-left-eq0.false) in
-    let n = more_left c.new-encoders.result c.args.head.now blocks c.each_interval-each.result c.loop-left.turn c.min-count.result c.loop-left.cursor w.0 w.1 (c.min-count.ensures ∙ ap (min c.each_interval-each.result) c.loop-left.invariant.left) some in
-    let behind = part_then Sends of_bytes (state c.args.desk.now) (state c.loop-left.desk) (state c.write_interval.new.desk) c.args.out.now c.loop-left.out c.write_interval.new.out _ w.0 _ _ n.1 w.2 c.in_ok-write_interval.ensures.sends in
-    let back = err_from_is_err_and c.from_residual-in_err-raw.result c.from_residual-in_err-raw.ensures.1 in
-    rw (back.1, back.2) (part_fault Sends of_bytes (state c.args.desk.now) (state c.write_interval.new.desk) (state c.raw.new.desk) c.args.out.now c.write_interval.new.out c.raw.new.self _ _ _ n.0 c.in_err-raw.field-0.0 refl behind c.in_err-raw.ensures)
-
-pub loop-left-preserved : goal.loop-left-preserved
-loop-left-preserved g c =
+pub returns : goal.returns
+returns g c =
     let state = g.D.Desk.state in
     let f = g.V.BlockView.numbers c.args.view.now in
+    let head = c.args.head.now in
     let blocks = g.V.BlockView.blocks c.args.view.now in
-    let w = c.loop-left.invariant.work in
-    let some : c.min-count.result < length c.loop-left.cursor = omega (arith, c.loop-left.invariant.left, c.if-left-eq0.false) in
-    let n = more_left c.new-encoders.result c.args.head.now blocks c.each_interval-each.result c.loop-left.turn c.min-count.result c.loop-left.cursor w.0 w.1 (c.min-count.ensures ∙ ap (min c.each_interval-each.result) c.loop-left.invariant.left) some in
-    let behind = part_then Sends of_bytes (state c.args.desk.now) (state c.loop-left.desk) (state c.write_interval.new.desk) c.args.out.now c.loop-left.out c.write_interval.new.out _ w.0 _ _ n.1 w.2 c.in_ok-write_interval.ensures.sends in
-    let can = can_after (state c.loop-left.desk) (state c.write_interval.new.desk) c.loop-left.out c.write_interval.new.out _ c.loop-left.invariant.can c.in_ok-write_interval.ensures.sends in
-    let left : c.write_interval.new.cursor ≡ drop c.min-count.result c.loop-left.cursor = c.in_ok-write_interval.ensures.left _ refl in
-    record {
-      can = can_after (state c.write_interval.new.desk) (state c.raw.new.desk) c.write_interval.new.out c.raw.new.self _ can c.in_ok-raw.ensures;
-      work = (
-        n.0,
-        subst (λ ps. IsLeft c.new-encoders.result c.args.head.now blocks c.each_interval-each.result ((c.loop-left.turn + 1) % 8) ps n.0) (sym left) n.2,
-        part_then Sends of_bytes (state c.args.desk.now) (state c.write_interval.new.desk) (state c.raw.new.desk) c.args.out.now c.write_interval.new.out c.raw.new.self _ _ _ n.0 refl behind c.in_ok-raw.ensures,
-      );
-      left = (let a = ap length left in let b = length-drop c.min-count.result c.loop-left.cursor in omega (arith, a, b, c.loop-left.invariant.left));
-      places = All-same (IsScanPlace f c.args.head.now) c.write_interval.new.cursor _ left (All-drop (IsScanPlace f c.args.head.now) c.min-count.result c.loop-left.cursor c.loop-left.invariant.places);
-      turn = omega arith;
-    }
+    sends_same (state c.args.desk.now) (state c.put_scan.new.desk) c.args.out.now c.put_scan.new.out _ _ c.put_scan.result
+    (written_text (tables_in c.new-encoders.result) f head c.args.interval blocks false c.requires.scan.sequential ∙ ap (λ t. written_data f head t c.args.interval blocks) c.new-encoders.ensures) c.put_scan.ensures

@@ -1,0 +1,35 @@
+use Rattle.std.proofs.Common.{rules, ◌≡◌, pos, sym, ap, ◌∙◌, subst, arith}
+use mir.Syntax.{w16}
+use mir.Val.{SFits, to_z, of_z}
+use Rattle.std.specs.Prelude.{slice_index_or}
+use Rattle.std.proofs.lemmas.Int.{to_z-of_z}
+use Rattle.jpg_coefs.specs.Sinks.{block_due, last_in, at, with_unit, of_places}
+use Rattle.jpg_spec_write.specs.ScanText.{units_due, last_dc}
+use Rattle.jpg_coefs.proofs.ScanDue.{goes_place}
+use Rattle.jpg_coefs.proofs.intervals.put_place.Goals as goal
+
+pub unit-requires : goal.unit-requires
+unit-requires g c =
+    let k = g.S.UnitSink.kind in
+    let blocks = g.V.BlockView.blocks c.args.view.now in
+    let p = c.args.place in
+    let i = p.component in
+    let last = c.args.last.now in
+    let q = to_z w16 (of_z w16 (slice_index_or last i (pos 0))) in
+    let same : q ≡ last_in last i = to_z-of_z w16 _ (search rules) in
+    let e : c.due-block.result ≡ block_due blocks (last_in last i) p = c.due-block.ensures ∙ ap (λ q. block_due blocks q p) same in
+    let n = c.requires.next in
+    let due = record (of_places n.0 blocks last n.1) { rest = units_due blocks (last_dc (last_in last) i (block_due blocks (last_in last i) p)) n.1 } in
+    (due, sym same, subst (λ b. k.due (with_unit due (i, b)) (at c.args.sink.now c.args.out.now c.args.desk.now)) (sym e) n.2)
+
+pub returns : goal.returns
+returns g c d places h =
+    let blocks = g.V.BlockView.blocks c.args.view.now in
+    let p = c.args.place in
+    let last = c.args.last.now in
+    let q = to_z w16 (of_z w16 (slice_index_or last p.component (pos 0))) in
+    let same : q ≡ last_in last p.component = to_z-of_z w16 _ (search rules) in
+    let fits : SFits w16 c.get.result = search rules in
+    let value : to_z w16 (of_z w16 c.get.result) ≡ slice_index_or c.due-block.result 0 (pos 0) = to_z-of_z w16 c.get.result fits ∙ c.get.ensures.value in
+    goes_place g.S.UnitSink.kind d blocks last p places q (to_z w16 (of_z w16 c.get.result)) c.due-block.result (at c.args.sink.now c.args.out.now c.args.desk.now) (at c.unit.new.self c.unit.new.out c.unit.new.desk) c.unit.result
+    (omega (arith, c.told-last, c.requires.four)) same c.due-block.ensures value c.unit.ensures h

@@ -1,0 +1,135 @@
+//! The units of a scan, given one after another to what writes or counts them (T.81, A.2, E.1.4).
+ghost use Rattle.std.specs.Prelude.{◌≡◌, ◌≤◌, ◌<◌, ◌==◌, if◌then◌else◌, true, length, IfSome};
+ghost use Rattle.jpg_spec.specs.Geometry.{IsReal};
+ghost use Rattle.jpg_spec.specs.Scan.{part_of as part_in};
+ghost use Rattle.jpg_spec.specs.Segments.{head_components};
+ghost use Rattle.jpg_base.specs.Cursor.{AreIn};
+ghost use Rattle.jpg_coefs.specs.Sinks.{SinkKind, at, block_due, intervals_due, IsNext, TakesUnit, IsOpen, Ends, Begins, IsNextPlace, TakesPlace};
+
+use crate::BlockView;
+use jpg_base::{Block, Cursor, Place, ScanHead, ScanPart, WriteFault};
+
+/// What takes the units of a scan, interval by interval: it writes or counts them. The results go to `out`, and from
+/// there to `desk`. After a fault nothing more is given to it.
+pub trait UnitSink<O, D> {
+    /// What its states mean.
+    ghost kind: { SinkKind Self O D };
+
+    /// Takes the next unit of the interval: a block of a component, after one with this DC value (0 if there was none).
+    fn unit(
+        &mut self,
+        component: u8,
+        last: i16,
+        block: &Block,
+        out: &mut O,
+        desk: &mut D,
+    ) -> Result<(), WriteFault>
+        requires { IsNext kind (component, block.now) last (at self.old out.old desk.old) }
+        ensures { TakesUnit kind (component, block.now) last (at self.old out.old desk.old) result (at self.new out.new desk.new) };
+
+    /// Ends an interval: the last one, or before the next one, with the restart marker of this number, 0 to 7.
+    fn end(&mut self, marker: Option<u8>, out: &mut O, desk: &mut D) -> Result<(), WriteFault>
+        requires marker { IfSome marker (λ n. n < 8) }
+        requires open { IsOpen kind (at self.old out.old desk.old) }
+        ensures { Ends kind marker (at self.old out.old desk.old) result (at self.new out.new desk.new) };
+}
+
+/// The part of a scan's header for a component, by its index in the frame.
+pub fn part_of(head: &ScanHead, component: u8) -> ScanPart
+    ensures { result ≡ part_in head.now component }
+{
+    for part in head.parts.as_slice() {
+        if part.component == component {
+            return *part;
+        }
+    }
+    ScanPart {
+        component,
+        dc: 0,
+        ac: 0,
+    }
+}
+
+// The block that is written at a place of the scan, after this DC value of its component.
+#[inline(always)]
+fn due<V: BlockView>(view: &V, place: Place, last: i16) -> Block
+    requires { place.real ≡ true → IsReal (V.numbers view.now) place.component place.x place.y }
+    ensures { result ≡ block_due (V.blocks view.now) last place }
+{
+    if place.real {
+        view.block(place.component, place.x, place.y)
+    } else {
+        let mut block = Block::zero();
+        block.set(0, last);
+        block
+    }
+}
+
+// Gives the unit at a place to a sink, after these DC values of the components.
+#[inline(always)]
+fn put_place<V: BlockView, O, D, S: UnitSink<O, D>>(
+    view: &V,
+    place: Place,
+    last: &mut [i16; 4],
+    sink: &mut S,
+    out: &mut O,
+    desk: &mut D,
+) -> Result<(), WriteFault>
+    requires real { place.real ≡ true → IsReal (V.numbers view.now) place.component place.x place.y }
+    requires four { place.component < 4 }
+    requires next { IsNextPlace S.kind (V.blocks view.now) last.old place (at sink.old out.old desk.old) }
+    ensures { TakesPlace S.kind (V.blocks view.now) last.old place (at sink.old out.old desk.old) result last.new (at sink.new out.new desk.new) }
+{
+    let before = last[place.component as usize];
+    let block = due(view, place, before);
+    last[place.component as usize] = block.get(0);
+    sink.unit(place.component, before, &block, out, desk)
+}
+
+/// Gives all units of a scan to a sink, with an end of an interval after each `interval` MCUs (0: none). A padding block
+/// has the DC value of the block before it of its component, and no AC values. The header names one to four components of
+/// the frame.
+pub fn put_scan<V: BlockView, O, D, S: UnitSink<O, D>>(
+    view: &V,
+    head: &ScanHead,
+    interval: u16,
+    sink: &mut S,
+    out: &mut O,
+    desk: &mut D,
+) -> Result<(), WriteFault>
+    requires scan { AreIn (V.numbers view.now) (head_components head.now) }
+    requires begins { Begins S.kind (intervals_due (V.numbers view.now) head.now interval (V.blocks view.now)) (at sink.old out.old desk.old) }
+    ensures { S.kind.ended (at sink.old out.old desk.old) (intervals_due (V.numbers view.now) head.now interval (V.blocks view.now)) result out.new desk.new }
+{
+    let frame = view.frame();
+    frame.checked();
+    let mut cursor = Cursor::new(frame, head);
+    let mut left = frame.scan_units(head);
+    let each = each_interval(u64::from(interval) * u64::from(frame.mcu_units(head)), left);
+    let mut due = each;
+    let mut turn = 0;
+    let mut last = [0i16; 4];
+    loop {
+        put_place(view, cursor.place(), &mut last, sink, out, desk)?;
+        cursor.step();
+        left -= 1;
+        due -= 1;
+        if left == 0 {
+            return sink.end(None, out, desk);
+        }
+        if due == 0 {
+            sink.end(Some(turn), out, desk)?;
+            due = each;
+            turn = (turn + 1) % 8;
+            last = [0i16; 4];
+        }
+    }
+}
+
+// How many units an interval has: all of them for 0.
+fn each_interval(units: u64, all: u64) -> u64
+    requires { 1 ≤ all }
+    ensures { (1 ≤ result) × (result ≡ (if units == 0 then all else units)) }
+{
+    if units == 0 { all } else { units }
+}
