@@ -32,7 +32,8 @@ use Rattle.jpg_spec_image.proofs.ShownAlike.{shown_alike}
 use Rattle.jpg_coefs.specs.Picture.{Picture as Coefs, map_of}
 use Rattle.jpg_coefs.proofs.Maps.{blank_is}
 use Rattle.jpg_seq.specs.Rows.{rows_in_mcu}
-use Rattle.jpg_file.specs.Read.ReadRows.{AgreeInRows, LendsRow, RowReaderState}
+use Rattle.jpg_file.specs.Read.ReadFile.{ReaderState}
+use Rattle.jpg_file.specs.Read.ReadRows.{AgreeInRows, LendsRow}
 use Rattle.jpg_file.specs.Read.RowTurns.{unfinished, zero_picture}
 use Rattle.jpg_file.specs.Read.RowsKnown.{rows_of_scan}
 use Rattle.jpg_file.specs.declared.read.rows.RowWork.{RowWork}
@@ -62,18 +63,18 @@ use Rattle.jpg_cli.proofs.RowsWhole.{few_told, so_far}
 -- AT ITS BEGINNING all MCU rows that were passed have been drawn
 
 -- it is the scan of that header
-early_head : (s : Showing) (old start : DeskState) (h : Head) (all : List ℕ) (m n : ℕ) (r : RowReaderState) (d : Drawing) (e : EndState) (now : DeskState) → (k : HasShownEarly s old start h all m n (at_work r d e now))
+early_head : (s : Showing) (old start : DeskState) (h : Head) (all : List ℕ) (m n : ℕ) (r : ReaderState) (d : Drawing) (e : EndState) (now : DeskState) → (k : HasShownEarly s old start h all m n (at_work r d e now))
     → (((k.done).begun).before ≡ h.before) × (((k.done).begun).contents ≡ h.contents)
 early_head s old start h all m n r d e now k =
     let b = (k.done).begun in
     begun_once standard_limits all b.before h.before b.contents h.contents (subst (λ (l : Limits). BeginsScanOfAll l all b.before b.contents) k.limits b.begins) (k.head).begins
 
-early_frame : (s : Showing) (old start : DeskState) (h : Head) (all : List ℕ) (m n : ℕ) (r : RowReaderState) (d : Drawing) (e : EndState) (now : DeskState) → (k : HasShownEarly s old start h all m n (at_work r d e now))
+early_frame : (s : Showing) (old start : DeskState) (h : Head) (all : List ℕ) (m n : ℕ) (r : ReaderState) (d : Drawing) (e : EndState) (now : DeskState) → (k : HasShownEarly s old start h all m n (at_work r d e now))
     → frame_of r.limits ((k.done).begun).before ≡ frame_of standard_limits h.before
 early_frame s old start h all m n r d e now k =
     ap (λ (l : Limits). frame_of l ((k.done).begun).before) k.limits ∙ ap (frame_of standard_limits) (early_head s old start h all m n r d e now k).0
 
-early_count : (s : Showing) (old start : DeskState) (h : Head) (all : List ℕ) (m n : ℕ) (r : RowReaderState) (d : Drawing) (e : EndState) (now : DeskState) → (k : HasShownEarly s old start h all m n (at_work r d e now))
+early_count : (s : Showing) (old start : DeskState) (h : Head) (all : List ℕ) (m n : ℕ) (r : ReaderState) (d : Drawing) (e : EndState) (now : DeskState) → (k : HasShownEarly s old start h all m n (at_work r d e now))
     → rows_of_scan r.limits ((k.done).begun).before ((k.done).begun).contents ≡ mcu_rows (so_far h ((k.done).meaning).blocks)
 early_count s old start h all m n r d e now k =
     let b = (k.done).begun in
@@ -81,7 +82,7 @@ early_count s old start h all m n r d e now k =
     ap (λ (l : Limits). rows_of_scan l b.before b.contents) k.limits ∙ ap (λ (x : List Segment). rows_of_scan standard_limits x b.contents) one.0 ∙ ap (rows_of_scan standard_limits h.before) one.1
     ∙ sym (rows_of_picture h all ((k.done).meaning).blocks (k.head).begins)
 
-pub ending_begins : (s : Showing) (old start : DeskState) (h : Head) (all : List ℕ) (m n : ℕ) (r : RowReaderState) (d : Drawing) (e : EndState) (now : DeskState) → HasShownEarly s old start h all m n (at_work r d e now)
+pub ending_begins : (s : Showing) (old start : DeskState) (h : Head) (all : List ℕ) (m n : ℕ) (r : ReaderState) (d : Drawing) (e : EndState) (now : DeskState) → HasShownEarly s old start h all m n (at_work r d e now)
     → IsEnding s old start h all n 1 d e now
 ending_begins s old start h all m n r d e now k = record {
   rows = m;
@@ -159,7 +160,7 @@ ending_whole s old start h all n gap d e now k none = record { given = k.given; 
 one_left : (m u all n p full : ℕ) → all ≡ n → m + u ≡ all → p ≡ m → full ≡ n → p < full → 1 ≤ u
 one_left m u all n p full same count drawn whole lt = omega (arith, same, count, drawn, whole, lt)
 
-pub work_lends : (s : Showing) (old start : DeskState) (h : Head) (all : List ℕ) (m n : ℕ) (r : RowReaderState) (d : Drawing) (e : EndState) (now : DeskState) (q : Coefs) → (k : HasShownEarly s old start h all m n (at_work r d e now)) → IsNextRowDue d.strips
+pub work_lends : (s : Showing) (old start : DeskState) (h : Head) (all : List ℕ) (m n : ℕ) (r : ReaderState) (d : Drawing) (e : EndState) (now : DeskState) (q : Coefs) → (k : HasShownEarly s old start h all m n (at_work r d e now)) → IsNextRowDue d.strips
     → ((rows : RowWork) → r.rows ≡ Some rows → q ≡ rows.coefs) → LendsRow (frame_of standard_limits h.before) m q ((k.done).meaning).blocks
 unfolding ending_begins
 work_lends s old start h all m n r d e now q k due lent =
@@ -172,7 +173,7 @@ work_lends s old start h all m n r d e now q k due lent =
     subst (λ (c : Coefs). LendsRow (frame_of standard_limits h.before) m c ((k.done).meaning).blocks) (sym (lent b.rows b.has))
     (subst (λ (x : Frame). LendsRow x m (b.rows).coefs ((k.done).meaning).blocks) (early_frame s old start h all m n r d e now k) ((k.done).work some))
 
-pub work_has : (s : Showing) (old start : DeskState) (h : Head) (all : List ℕ) (m n : ℕ) (r : RowReaderState) (d : Drawing) (e : EndState) (now : DeskState) → HasShownEarly s old start h all m n (at_work r d e now) → (rows : RowWork) × (r.rows ≡ Some rows)
+pub work_has : (s : Showing) (old start : DeskState) (h : Head) (all : List ℕ) (m n : ℕ) (r : ReaderState) (d : Drawing) (e : EndState) (now : DeskState) → HasShownEarly s old start h all m n (at_work r d e now) → (rows : RowWork) × (r.rows ≡ Some rows)
 work_has s old start h all m n r d e now k = (((k.done).begun).rows, ((k.done).begun).has)
 
 pub ending_framed : (s : Showing) (old start : DeskState) (h : Head) (all : List ℕ) (n gap : ℕ) (d : Drawing) (e : EndState) (now : DeskState) (q : Coefs) → (k : IsEnding s old start h all n gap d e now)
@@ -182,7 +183,7 @@ ending_framed s old start h all n gap d e now q k lent = record {
   range = subst (λ (x : Frame). AreInRange (bounds x) (map_of q)) (sym k.framed) lent.range;
 }
 
-pub work_framed : (s : Showing) (old start : DeskState) (h : Head) (all : List ℕ) (m n : ℕ) (r : RowReaderState) (d : Drawing) (e : EndState) (now : DeskState) (q : Coefs) → HasShownEarly s old start h all m n (at_work r d e now) → IsNextRowDue d.strips
+pub work_framed : (s : Showing) (old start : DeskState) (h : Head) (all : List ℕ) (m n : ℕ) (r : ReaderState) (d : Drawing) (e : EndState) (now : DeskState) (q : Coefs) → HasShownEarly s old start h all m n (at_work r d e now) → IsNextRowDue d.strips
     → ((rows : RowWork) → r.rows ≡ Some rows → q ≡ rows.coefs) → IsMcuRow d.strips.display.frame q
 unfolding ending_begins
 work_framed s old start h all m n r d e now q k due lent =
@@ -377,7 +378,7 @@ ending_drawn s old start h all n gap d new e new_end s0 s1 q k due lent zero dra
     gap_gone m b y l = omega (arith, l)
 
 -- by the answer: after the current row, and after one of zero blocks
-pub work_then : (s : Showing) (old start : DeskState) (h : Head) (all : List ℕ) (m n : ℕ) (r : RowReaderState) (d : Drawing) (e : EndState) (now : DeskState) (new : Drawing) (new_end : EndState) (s1 : DeskState) (q : Coefs) (result : Result (Unit {0}) DecodeStop) (u : Unit {0}) → result ≡ Ok u
+pub work_then : (s : Showing) (old start : DeskState) (h : Head) (all : List ℕ) (m n : ℕ) (r : ReaderState) (d : Drawing) (e : EndState) (now : DeskState) (new : Drawing) (new_end : EndState) (s1 : DeskState) (q : Coefs) (result : Result (Unit {0}) DecodeStop) (u : Unit {0}) → result ≡ Ok u
     → (k : HasShownEarly s old start h all m n (at_work r d e now)) → IsNextRowDue d.strips → ((rows : RowWork) → r.rows ≡ Some rows → q ≡ rows.coefs) → DrawsRow now d e q result new new_end s1 → IsEnding s old start h all n 0 new new_end s1
 unfolding ending_begins
 work_then s old start h all m n r d e now new new_end s1 q result u done k due lent draws =
@@ -385,7 +386,7 @@ work_then s old start h all m n r d e now new new_end s1 q result u done k due l
     ending_drawn s old start h all n 1 d new e new_end now s1 q begins due (work_lends s old start h all m n r d e now q k due lent) begins.later
     (subst (λ (x : Result (Unit {0}) DecodeStop). DrawsRow now d e q x new new_end s1) done draws)
 
-pub work_stopped : (s : Showing) (old start : DeskState) (h : Head) (all : List ℕ) (m n : ℕ) (r : RowReaderState) (d : Drawing) (e : EndState) (now : DeskState) (new : Drawing) (new_end : EndState) (s1 : DeskState) (q : Coefs) (ended : DecodeStop)
+pub work_stopped : (s : Showing) (old start : DeskState) (h : Head) (all : List ℕ) (m n : ℕ) (r : ReaderState) (d : Drawing) (e : EndState) (now : DeskState) (new : Drawing) (new_end : EndState) (s1 : DeskState) (q : Coefs) (ended : DecodeStop)
     → HasShownEarly s old start h all m n (at_work r d e now) → IsNextRowDue d.strips → ((rows : RowWork) → r.rows ≡ Some rows → q ≡ rows.coefs) → DrawsRow now d e q (Err ended) new new_end s1
     → Shown s old (why_of (Err ended)) s1
 unfolding ending_begins

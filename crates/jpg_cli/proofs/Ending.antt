@@ -12,7 +12,7 @@ use Rattle.jpg_spec_image.specs.declared.image.EndKind.{EndKind}
 use Rattle.jpg_spec_image.specs.declared.image.EndKind.TheVariants.{Pnm}
 use Rattle.jpg_spec_words.specs.Work.{work_text}
 use Rattle.jpg_spec_words.specs.Words.{tool_of}
-use Rattle.jpg_spec_words.specs.CommentWords.{WordsTold, words_right, words_wrong}
+use Rattle.jpg_spec_words.specs.Requests.{WordsTold, words_right, words_wrong}
 use Rattle.jpg_cli.specs.Commands.{encode_image, Command, transform_picture, show_picture, print_comments, insert_comment, do_work, command_asked, name_of}
 use Rattle.jpg_cli.proofs.CommentsPrinted.{printed_then}
 use Rattle.jpg_cli.proofs.InsertedThen.{inserted_then}

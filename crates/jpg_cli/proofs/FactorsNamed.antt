@@ -5,7 +5,7 @@ use Rattle.std.proofs.lemmas.List.{append_assoc, length-append}
 use Rattle.std.specs.Prelude.{nat_le}
 use Rattle.jpg_spec.specs.Markers.{is_within}
 use Rattle.jpg_spec_encode.specs.EncodingLaws.{AreFactors}
-use Rattle.jpg_spec_words.specs.Requests.{are_factors, factors_from, is_factor}
+use Rattle.jpg_spec_words.specs.EncodeWords.{are_factors, factors_from, is_factor}
 use Rattle.jpg_spec.proofs.Common.{both, le_of}
 
 abbrev Pairs : Type 0

@@ -17,7 +17,6 @@ use Rattle.jpg_file.specs.Read.File.{keeping_of}
 use Rattle.jpg_file.specs.Read.PictureRead.{MeansFor, TakesEarly, TakesPicture, picture_meaning}
 use Rattle.jpg_file.specs.Read.ReadFile.{ReaderState}
 use Rattle.jpg_cli.proofs.KeepingLaws.{out_same}
-use Rattle.jpg_file.specs.Read.ReadRows.{RowReaderState, whole_reader}
 use Rattle.jpg_file.specs.Read.RowsNone.{HasNoRows}
 use Rattle.jpg_file.specs.declared.read.picture.Picture.{Picture}
 use Rattle.jpg_cli.specs.Desk.Reading.{rest_of}
@@ -82,7 +81,7 @@ whole_read w bytes r e h = record {
 }
 
 -- the picture that was taken of it means what the file means, except for markers that weren't kept
-pub record IsTaken (s : Showing) (early : Option ℕ) (start now : DeskState) (r : RowReaderState) (p : Picture) : Type 0 where
+pub record IsTaken (s : Showing) (early : Option ℕ) (start now : DeskState) (r : ReaderState) (p : Picture) : Type 0 where
   pub meaning : Meaning
   pub means : MeansFor (keeping_of r.file) p meaning
   pub bytes : List ℕ
@@ -92,7 +91,7 @@ pub record IsTaken (s : Showing) (early : Option ℕ) (start now : DeskState) (r
   pub all : IsAllRead early now
   pub plain : HasNoRows standard_limits bytes
 
-pub whole_taken : (s : Showing) (start now : DeskState) (r : RowReaderState) (p : Picture) → r.limits ≡ standard_limits → TakesPicture (whole_reader r) p → TakesPieces (HoldsPlainly s.gray r) start now → IsTaken s None start now r p
+pub whole_taken : (s : Showing) (start now : DeskState) (r : ReaderState) (p : Picture) → r.limits ≡ standard_limits → TakesPicture r p → TakesPieces (HoldsPlainly s.gray r) start now → IsTaken s None start now r p
 whole_taken s start now r p e takes (bytes, read, most, h) =
     let done = (h.holds).done in
     record {
@@ -101,20 +100,20 @@ whole_taken s start now r p e takes (bytes, read, most, h) =
       bytes = bytes;
       read = read;
       most = most;
-      is = whole_read (Image s.gray) bytes (whole_reader r) e h.holds;
+      is = whole_read (Image s.gray) bytes r e h.holds;
       all = tt;
       plain = h.plain;
     }
 
 -- and so does what was taken of one that ended early
-pub cut_taken : (s : Showing) (n : ℕ) (start now : DeskState) (r : RowReaderState) (p : Picture) → r.limits ≡ standard_limits → TakesEarly (whole_reader r) p → TakesPieces (HoldsEarlyPlainly s.gray r n) start now → rest_of now.left ≡ [] → IsTaken s (Some n) start now r p
+pub cut_taken : (s : Showing) (n : ℕ) (start now : DeskState) (r : ReaderState) (p : Picture) → r.limits ≡ standard_limits → TakesEarly r p → TakesPieces (HoldsEarlyPlainly s.gray r n) start now → rest_of now.left ≡ [] → IsTaken s (Some n) start now r p
 cut_taken s n start now r p e takes (bytes, read, most, h) all = record {
   meaning = early_meaning h.holds;
   means = takes bytes (h.holds).ended;
   bytes = bytes;
   read = read;
   most = most;
-  is = early_taken (Image s.gray) bytes n (whole_reader r) e h.holds;
+  is = early_taken (Image s.gray) bytes n r e h.holds;
   all = all;
   plain = h.plain;
 }
@@ -123,7 +122,7 @@ read_wanted : (w : Wanted) (M : Meaning) (early : Option ℕ) (bytes : List ℕ)
 read_wanted w M None bytes h = h.wanted
 read_wanted w M (Some n) bytes h = h.wanted
 
-pub taken_admitted : (s : Showing) (early : Option ℕ) (start now : DeskState) (r : RowReaderState) (p : Picture) → IsTaken s early start now r p → out_fault s.gray (picture_meaning p) ≡ None
+pub taken_admitted : (s : Showing) (early : Option ℕ) (start now : DeskState) (r : ReaderState) (p : Picture) → IsTaken s early start now r p → out_fault s.gray (picture_meaning p) ≡ None
 taken_admitted s early start now r p h = ap (out_fault s.gray) h.means ∙ out_same (keeping_of r.file) s.gray h.meaning ∙ read_wanted (Image s.gray) h.meaning early h.bytes h.is
 
 pub keeps_after : (old start now : DeskState) (file : Name) → Opens old file put.Done start → OnlyReads start now → Keeps old now
@@ -133,7 +132,7 @@ keeps_after old start now file h k = record {
 }
 
 -- and its image was written
-pub taken_shown : (s : Showing) (early : Option ℕ) (old start now new : DeskState) (r : RowReaderState) (p : Picture) (ended : Why) → Opens old s.input put.Done start → OnlyReads start now → IsTaken s early start now r p → new.left ≡ now.left
+pub taken_shown : (s : Showing) (early : Option ℕ) (old start now new : DeskState) (r : ReaderState) (p : Picture) (ended : Why) → Opens old s.input put.Done start → OnlyReads start now → IsTaken s early start now r p → new.left ≡ now.left
     → AfterImage s.output early now (end_text s.kind (info (picture_meaning p) s.gray) (pixels (picture_meaning p) s.gray s.smooth)) ended new → Shown s old ended new
 taken_shown s early old start now new r p ended h k t left wrote =
     let read : ReadsFrom s.input (IsReadPicture (Image s.gray) t.meaning early) old now = record { bytes = t.bytes; read = file_read old.files s.input start.left now.left t.bytes h.after.2 t.read; most = t.most; is = t.is } in

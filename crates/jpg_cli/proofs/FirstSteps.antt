@@ -10,7 +10,8 @@ use Rattle.jpg_spec_words.specs.declared.answers.Why.{Why}
 use Rattle.jpg_spec_words.specs.declared.answers.Why.TheVariants as why
 use Rattle.jpg_spec_words.specs.declared.answers.Which.TheVariants as which
 use Rattle.jpg_spec.specs.declared.frame.Limits.{Limits}
-use Rattle.jpg_file.specs.Read.ReadRows.{HasReadPlainly, RowReaderState, whole_reader}
+use Rattle.jpg_file.specs.Read.ReadFile.{ReaderState}
+use Rattle.jpg_file.specs.Read.ReadRows.{HasReadPlainly}
 use Rattle.jpg_file.specs.Read.RowsNone.{HasNoRows}
 use Rattle.jpg_cli.specs.Desk.Reading.{rest_of}
 use Rattle.jpg_cli.specs.Desk.ReadPicture.{AfterFileEnd, IsRefusedRead}
@@ -26,7 +27,7 @@ use Rattle.jpg_cli.proofs.PictureBytes.{fed_none, open_so_far}
 use Rattle.jpg_cli.proofs.RowHeads.{shown_before}
 
 -- the room that is left for more
-pub room_left : (gray : Bool) (bytes : List ℕ) (r : RowReaderState) (room : ℕ) → r.limits ≡ standard_limits → HasFedPlainly gray r bytes → room ≡ r.limits.input - r.file.reading.taken → room + length bytes ≡ standard_limits.input
+pub room_left : (gray : Bool) (bytes : List ℕ) (r : ReaderState) (room : ℕ) → r.limits ≡ standard_limits → HasFedPlainly gray r bytes → room ≡ r.limits.input - r.file.reading.taken → room + length bytes ≡ standard_limits.input
 room_left gray bytes r room e k is =
     let same = is ∙ ap (λ (l : Limits). l.input - r.file.reading.taken) e ∙ ap (λ n. standard_limits.input - n) (k.fed).taken in let short = (k.fed).short in omega (arith, same, short)
 
@@ -35,15 +36,15 @@ pub none_shown : (gray : Bool) (bytes : List ℕ) → HasNoRows standard_limits 
 none_shown gray bytes none h = none h.before h.contents h.begins
 
 -- A READ that failed
-pub first_unread : (gray : Bool) (start s0 s1 : DeskState) (bytes : List ℕ) (r : RowReaderState) → r.limits ≡ standard_limits → HasFedPlainly gray r bytes → OnlyReads start s0 → Consumes start.left s0.left bytes → Rose s0.counts.reads s1.counts.reads
+pub first_unread : (gray : Bool) (start s0 s1 : DeskState) (bytes : List ℕ) (r : ReaderState) → r.limits ≡ standard_limits → HasFedPlainly gray r bytes → OnlyReads start s0 → Consumes start.left s0.left bytes → Rose s0.counts.reads s1.counts.reads
     → s1.left ≡ s0.left → EndsPlainly gray start (why.ReadFault which.Input) s1
 first_unread gray start s0 s1 bytes r e k still had rose left = (
-  (bytes, left_still s0 s1 bytes start left had, (let short = (k.fed).short in omega (arith, short)), (open_so_far (Image gray) bytes (whole_reader r) e k.fed, λ h. none_shown gray bytes k.plain h)),
+  (bytes, left_still s0 s1 bytes start left had, (let short = (k.fed).short in omega (arith, short)), (open_so_far (Image gray) bytes r e k.fed, λ h. none_shown gray bytes k.plain h)),
   (let f = still.copies.works.stays.counts.reads in omega (arith, rose, f)),
 )
 
 -- THE END
-first_end : (gray : Bool) (start s0 s1 : DeskState) (bytes : List ℕ) (r : RowReaderState) (ended : Why) → HasFedPlainly gray r bytes → IsAtEnd s0.left → s1.left ≡ s0.left → Consumes start.left s0.left bytes → AfterFileEnd (Image gray) bytes ended
+first_end : (gray : Bool) (start s0 s1 : DeskState) (bytes : List ℕ) (r : ReaderState) (ended : Why) → HasFedPlainly gray r bytes → IsAtEnd s0.left → s1.left ≡ s0.left → Consumes start.left s0.left bytes → AfterFileEnd (Image gray) bytes ended
     → EndsPlainly gray start ended s1
 first_end gray start s0 s1 bytes r why.Done k end left had h = absurd h
 first_end gray start s0 s1 bytes r (why.Warned n) k end left had h = absurd h
@@ -58,7 +59,7 @@ first_end gray start s0 s1 bytes r (why.ReadFault file) k end left had h = absur
 first_end gray start s0 s1 bytes r why.WriteFault k end left had h = absurd h
 first_end gray start s0 s1 bytes r why.NoMemory k end left had h = absurd h
 
-pub first_ends : (gray : Bool) (start s0 s1 : DeskState) (bytes buf : List ℕ) (r after : RowReaderState) (st : FirstStep) → HasFedPlainly gray r bytes → IsAtEnd s0.left → s1.left ≡ s0.left → Consumes start.left s0.left bytes → AfterFirstEnd gray bytes st after
+pub first_ends : (gray : Bool) (start s0 s1 : DeskState) (bytes buf : List ℕ) (r after : ReaderState) (st : FirstStep) → HasFedPlainly gray r bytes → IsAtEnd s0.left → s1.left ≡ s0.left → Consumes start.left s0.left bytes → AfterFirstEnd gray bytes st after
     → AfterFirstRead gray start bytes st buf after s1
 first_ends gray start s0 s1 bytes buf r after first.More k end left had h = absurd h
 first_ends gray start s0 s1 bytes buf r after first.Whole k end left had h = absurd h
@@ -70,7 +71,7 @@ first_ends gray start s0 s1 bytes buf r after (first.Ended w) k end left had h =
 
 -- A PIECE
 
-after_piece : (gray : Bool) (start s0 s1 : DeskState) (n : ℕ) (buf bytes : List ℕ) (answer : FirstStep) (r : RowReaderState) → length (bytes ++ take n buf) ≤ standard_limits.input → 0 < length (take n buf) → length (take n buf) ≤ length buf → length (take n buf) ≡ n
+after_piece : (gray : Bool) (start s0 s1 : DeskState) (n : ℕ) (buf bytes : List ℕ) (answer : FirstStep) (r : ReaderState) → length (bytes ++ take n buf) ≤ standard_limits.input → 0 < length (take n buf) → length (take n buf) ≤ length buf → length (take n buf) ≡ n
     → s1.input_open ≡ true → Consumes start.left s1.left (bytes ++ take n buf) → AfterFirst gray bytes (take n buf) answer r → AfterFirstRead gray start bytes answer buf r s1
 after_piece gray start s0 s1 n buf bytes first.More r most some within size opened read h = (take n buf, some, h, read)
 after_piece gray start s0 s1 n buf bytes first.Whole r most some within size opened read h = (((h.holds).done).done, h.none, (bytes ++ take n buf, read, most, h))
@@ -91,7 +92,7 @@ after_piece gray start s0 s1 n buf bytes (first.Ended (why.ReadFault file)) r mo
 after_piece gray start s0 s1 n buf bytes (first.Ended why.WriteFault) r most some within size opened read h = absurd h
 after_piece gray start s0 s1 n buf bytes (first.Ended why.NoMemory) r most some within size opened read h = (bytes ++ take n buf, read, most, h)
 
-pub first_piece : (gray : Bool) (start s0 s1 : DeskState) (n : ℕ) (buf bytes : List ℕ) (answer : FirstStep) (r : RowReaderState) → length (bytes ++ take n buf) ≤ standard_limits.input → Reads s0 (got.Bytes n) buf s1 → s0.input_open ≡ true
+pub first_piece : (gray : Bool) (start s0 s1 : DeskState) (n : ℕ) (buf bytes : List ℕ) (answer : FirstStep) (r : ReaderState) → length (bytes ++ take n buf) ≤ standard_limits.input → Reads s0 (got.Bytes n) buf s1 → s0.input_open ≡ true
     → Consumes start.left s0.left bytes → AfterFirst gray bytes (take n buf) answer r → AfterFirstRead gray start bytes answer buf r s1
 first_piece gray start s0 s1 n buf bytes answer r most read opened had h =
     let size = length-take-le n buf read.after.1 in
@@ -100,5 +101,5 @@ first_piece gray start s0 s1 n buf bytes answer r most read opened had h =
     (Consumes-then start.left s0.left s1.left bytes (take n buf) had read.after.2) h
 
 -- before any byte
-pub fed_nothing : (gray : Bool) (r : RowReaderState) → r.limits ≡ standard_limits → HasReadPlainly [] r → HasFedPlainly gray r []
-fed_nothing gray r e h = record { none = h.none; plain = subst (λ (l : Limits). HasNoRows l []) e h.plain; fed = fed_none (Image gray) (whole_reader r) e h.read }
+pub fed_nothing : (gray : Bool) (r : ReaderState) → r.limits ≡ standard_limits → HasReadPlainly [] r → HasFedPlainly gray r []
+fed_nothing gray r e h = record { none = h.none; plain = subst (λ (l : Limits). HasNoRows l []) e h.plain; fed = fed_none (Image gray) r e h.read }

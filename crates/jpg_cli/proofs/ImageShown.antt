@@ -23,7 +23,7 @@ use Rattle.jpg_file.specs.Read.RowsNone.{HasNoRows}
 use Rattle.jpg_cli.proofs.KeepingLaws.{info_same, pixels_same}
 use Rattle.jpg_pnm_bmp.specs.EndState.{EndState, new_end}
 use Rattle.jpg_huff.specs.Out.{OnlyWrites}
-use Rattle.jpg_cli.specs.Words.CommentWords.{file_told}
+use Rattle.jpg_cli.specs.Words.Files.{file_told}
 use Rattle.jpg_cli.specs.Commands.{name_of}
 use Rattle.jpg_cli.specs.Endings.{Added}
 use Rattle.jpg_cli.specs.Desk.Judging.{done_as}

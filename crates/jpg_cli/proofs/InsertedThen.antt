@@ -16,7 +16,8 @@ use Rattle.jpg_cli.specs.Stays.{OnlySays}
 use Rattle.jpg_cli.specs.Desk.Reading.{IsFile, rest_of}
 use Rattle.jpg_cli.specs.Tools.InsertComment.{IsAtHead, IsFaultBefore, IsFilePart, IsLongFile, IsNoHead, IsInsertedWhole}
 use Rattle.jpg_cli.specs.Tools.CommentInserted.{Inserted, IsComment, IsCommentRead, IsInsertDue, ReadsAlone, ReadsComment, ReadsInput, ReadsLast, Task, WritesText, names_of, names_to_input, names_to_output, task_told}
-use Rattle.jpg_cli.specs.Words.CommentWords.{comment_told, file_told, write_told}
+use Rattle.jpg_cli.specs.Words.CommentWords.{comment_told, write_told}
+use Rattle.jpg_cli.specs.Words.Files.{file_told}
 use Rattle.jpg_cli.specs.declared.words.comments.WriteWords.{WriteWords}
 use Rattle.jpg_cli.specs.Commands.{name_of}
 use Rattle.jpg_cli.specs.Due.{NoneRose}

@@ -37,6 +37,7 @@ pub mod Output
 pub mod PictureBytes
 pub mod PictureTaken
 pub mod RefusedOnce
+pub mod RestartNamed
 pub mod RowHeads
 pub mod RowsAgree
 pub mod RowsAsked
@@ -51,9 +52,7 @@ pub mod RowsStarted
 pub mod RowsStopped
 pub mod RowsWhole
 pub mod Running
-pub mod Saying
 pub mod ScriptTaken
-pub mod Shown
 pub mod TablesTaken
 pub mod TakenOnce
 pub mod TextTaken

@@ -1,10 +1,10 @@
 -- The first word names the command.
 use Rattle.std.proofs.Common.{◌≡◌, ◌≤◌, ◌∙◌, ℕ, true, cond, List, [], ◌∷◌, length, map, drop, get_or, ap, sym, subst, arith, Result}
-use Rattle.jpg_spec_words.specs.CommentWords.{WordsTold, usage_at}
+use Rattle.jpg_spec_words.specs.Requests.{WordsTold, usage_at}
 use Rattle.jpg_spec_words.specs.Words.{is_tool}
 use Rattle.jpg_spec_words.specs.declared.answers.UsageFault.TheVariants.{UnknownTool}
 use Rattle.jpg_cli.specs.Commands.{Command, IsCommand, command_asked, known_command}
-use Rattle.jpg_cli.specs.declared.words.comments.WordsStop.{WordsStop}
+use Rattle.jpg_cli.specs.declared.words.files.WordsStop.{WordsStop}
 use Rattle.jpg_cli.specs.declared.words.Asked.{Asked}
 
 pub named_command : {S : Type 0} (text : S → List ℕ) (words : List S) (tool : S) (name : List ℕ) (r : Result Asked WordsStop) → 1 ≤ length words → tool ≡ get_or words 0 tool → name ≡ text tool → is_tool (text tool) ≡ true

@@ -17,8 +17,8 @@ use Rattle.jpg_spec_words.specs.declared.answers.Why.{Why}
 use Rattle.jpg_spec_words.specs.declared.answers.Why.TheVariants as why
 use Rattle.jpg_spec_words.specs.declared.answers.Which.TheVariants as which
 use Rattle.jpg_spec.specs.declared.frame.Limits.{Limits}
-use Rattle.jpg_file.specs.Read.ReadFile.{IsRefusal}
-use Rattle.jpg_file.specs.Read.ReadRows.{AfterEndRow, HasReadAll, IsEarlyByRows, IsEarlyPlainly, RowReaderState}
+use Rattle.jpg_file.specs.Read.ReadFile.{IsRefusal, ReaderState}
+use Rattle.jpg_file.specs.Read.ReadRows.{AfterEndRow, HasReadAll, IsEarlyByRows, IsEarlyPlainly}
 use Rattle.jpg_file.specs.declared.read.ends.End.TheVariants as ends
 use Rattle.jpg_pnm_bmp.specs.EndState.{EndState}
 use Rattle.jpg_color.specs.StripImage.{Drawing}
@@ -51,7 +51,7 @@ created_still s old start all written answer buf s0 s1 read left h = record {
 }
 
 -- the output has the text of all MCU rows that are complete
-so_far : (s : Showing) (old start : DeskState) (h : Head) (all : List ℕ) (m : ℕ) (r : RowReaderState) (d : Drawing) (e : EndState) (s0 s1 : DeskState) (upto : List ℕ → List ℕ) (Is : List ℕ → Type 0) → upto all ≡ all → (k : HasShown s old start h all m (at_work r d e s0)) → HasCreated s old start all k.written s1
+so_far : (s : Showing) (old start : DeskState) (h : Head) (all : List ℕ) (m : ℕ) (r : ReaderState) (d : Drawing) (e : EndState) (s0 s1 : DeskState) (upto : List ℕ → List ℕ) (Is : List ℕ → Type 0) → upto all ≡ all → (k : HasShown s old start h all m (at_work r d e s0)) → HasCreated s old start all k.written s1
     → Is all → WritesRows Meaning (showing_conversion s) (row_texts s) upto Is old s1
 so_far s old start h all m r d e s0 s1 upto Is whole k desk is =
     let text : List ℕ = rows_text s.kind (picture_so_far standard_limits h.before h.contents (k.drawing).blocks) s.gray s.smooth m in
@@ -66,7 +66,7 @@ so_far s old start h all m r d e s0 s1 upto Is whole k desk is =
       wrote = subst (λ t. Added (s.input ∷ []) s.output t old s1) same (created_added s old start all k.written s1 desk);
     }
 
-pub rows_unread : (s : Showing) (old start : DeskState) (h : Head) (all : List ℕ) (m : ℕ) (r : RowReaderState) (d : Drawing) (e : EndState) (buf : List ℕ) (s0 s1 : DeskState) → Reads s0 got.Failed buf s1 → HasShown s old start h all m (at_work r d e s0)
+pub rows_unread : (s : Showing) (old start : DeskState) (h : Head) (all : List ℕ) (m : ℕ) (r : ReaderState) (d : Drawing) (e : EndState) (buf : List ℕ) (s0 s1 : DeskState) → Reads s0 got.Failed buf s1 → HasShown s old start h all m (at_work r d e s0)
     → Shown s old (why.ReadFault which.Input) s1
 rows_unread s old start h all m r d e buf s0 s1 read k = (
   (let rose = read.after.0 in let a = ((k.desk).opened).counts.reads in let b = (((k.desk).works).stays).counts.reads in omega (arith, rose, a, b)),
@@ -74,19 +74,19 @@ rows_unread s old start h all m r d e buf s0 s1 read k = (
 )
 
 -- THE END
-pub rows_read_all : (s : Showing) (old start : DeskState) (h : Head) (all : List ℕ) (m : ℕ) (r : RowReaderState) (d : Drawing) (e : EndState) (now : DeskState) → HasShown s old start h all m (at_work r d e now) → HasReadAll all m r
+pub rows_read_all : (s : Showing) (old start : DeskState) (h : Head) (all : List ℕ) (m : ℕ) (r : ReaderState) (d : Drawing) (e : EndState) (now : DeskState) → HasShown s old start h all m (at_work r d e now) → HasReadAll all m r
 rows_read_all s old start h all m r d e now k = inr k.read
 
-end_place : (s : Showing) (old start : DeskState) (h : Head) (all : List ℕ) (m : ℕ) (r : RowReaderState) (d : Drawing) (e : EndState) (now : DeskState) (f : FaultAt) → HasShown s old start h all m (at_work r d e now) → IsRefusal r.limits all f → f.at ≡ length all
+end_place : (s : Showing) (old start : DeskState) (h : Head) (all : List ℕ) (m : ℕ) (r : ReaderState) (d : Drawing) (e : EndState) (now : DeskState) (f : FaultAt) → HasShown s old start h all m (at_work r d e now) → IsRefusal r.limits all f → f.at ≡ length all
 end_place s old start h all m r d e now f k stops =
     let so = open_rows s.gray h all m r k.limits k.head k.read in
     fault_at_end all f.fault f.at so.stands so.short (subst (λ (l : Limits). IsRefusal l all f) k.limits stops)
 
-end_whole : (s : Showing) (old start : DeskState) (h : Head) (all : List ℕ) (m : ℕ) (r : RowReaderState) (d : Drawing) (e : EndState) (now : DeskState) (f : FaultAt) → HasShown s old start h all m (at_work r d e now) → IsRefusal r.limits all f
+end_whole : (s : Showing) (old start : DeskState) (h : Head) (all : List ℕ) (m : ℕ) (r : ReaderState) (d : Drawing) (e : EndState) (now : DeskState) (f : FaultAt) → HasShown s old start h all m (at_work r d e now) → IsRefusal r.limits all f
     → take f.at all ≡ all
 end_whole s old start h all m r d e now f k stops = let at = end_place s old start h all m r d e now f k stops in take_all f.at all (omega (arith, at))
 
-end_refused : (s : Showing) (old start : DeskState) (h : Head) (all : List ℕ) (m : ℕ) (r : RowReaderState) (d : Drawing) (e : EndState) (now : DeskState) (f : FaultAt) → HasShown s old start h all m (at_work r d e now) → IsRefusal r.limits all f → IsRefusedRead (Image s.gray) f [] all
+end_refused : (s : Showing) (old start : DeskState) (h : Head) (all : List ℕ) (m : ℕ) (r : ReaderState) (d : Drawing) (e : EndState) (now : DeskState) (f : FaultAt) → HasShown s old start h all m (at_work r d e now) → IsRefusal r.limits all f → IsRefusedRead (Image s.gray) f [] all
 end_refused s old start h all m r d e now f k stops =
     let first = subst (λ (l : Limits). IsRefusal l all f) k.limits stops in
     let at = end_place s old start h all m r d e now f k stops in
@@ -96,7 +96,7 @@ end_refused s old start h all m r d e now f k stops =
       last = omega (arith, at);
     }
 
-rows_at_end : (s : Showing) (old start : DeskState) (h : Head) (all : List ℕ) (m : ℕ) (r : RowReaderState) (d : Drawing) (e : EndState) (buf : List ℕ) (ended : Why) (s0 s1 : DeskState) → Reads s0 got.End buf s1 → StopsWith r.limits all ended
+rows_at_end : (s : Showing) (old start : DeskState) (h : Head) (all : List ℕ) (m : ℕ) (r : ReaderState) (d : Drawing) (e : EndState) (buf : List ℕ) (ended : Why) (s0 s1 : DeskState) → Reads s0 got.End buf s1 → StopsWith r.limits all ended
     → HasShown s old start h all m (at_work r d e s0) → Shown s old ended s1
 rows_at_end s old start h all m r d e buf why.Done s0 s1 read stops k = absurd stops
 rows_at_end s old start h all m r d e buf (why.Warned n) s0 s1 read stops k = absurd stops
@@ -112,7 +112,7 @@ rows_at_end s old start h all m r d e buf why.WriteFault s0 s1 read stops k = ab
 rows_at_end s old start h all m r d e buf why.NoMemory s0 s1 read stops k = absurd stops
 
 -- or all MCU rows that are complete were drawn and written, if the input ended early
-ended_early : (s : Showing) (old start : DeskState) (h : Head) (all : List ℕ) (m n : ℕ) (r after : RowReaderState) (d : Drawing) (e : EndState) (buf : List ℕ) (s0 s1 : DeskState) → Reads s0 got.End buf s1 → after.limits ≡ r.limits
+ended_early : (s : Showing) (old start : DeskState) (h : Head) (all : List ℕ) (m n : ℕ) (r after : ReaderState) (d : Drawing) (e : EndState) (buf : List ℕ) (s0 s1 : DeskState) → Reads s0 got.End buf s1 → after.limits ≡ r.limits
     → AfterEndRow all m (ends.Early n) after → HasShown s old start h all m (at_work r d e s0) → HasShownEarly s old start h all m n (at_work after d e s1)
 ended_early s old start h all m n r after d e buf s0 s1 read limits ended k = record {
   written = k.written;
@@ -132,7 +132,7 @@ ended_early s old start h all m n r after d e buf s0 s1 read limits ended k = re
     by (inl plain) = absurd ((plain.0).plain h.before h.contents (subst (λ (l : Limits). BeginsScanOfAll l all h.before h.contents) (sym (limits ∙ k.limits)) (k.head).begins))
     by (inr rows) = rows
 
-pub rows_end : (s : Showing) (old start : DeskState) (h : Head) (all : List ℕ) (m : ℕ) (r after : RowReaderState) (d : Drawing) (e : EndState) (buf : List ℕ) (st : RowsStep) (s0 s1 : DeskState) → Reads s0 got.End buf s1 → after.limits ≡ r.limits
+pub rows_end : (s : Showing) (old start : DeskState) (h : Head) (all : List ℕ) (m : ℕ) (r after : ReaderState) (d : Drawing) (e : EndState) (buf : List ℕ) (st : RowsStep) (s0 s1 : DeskState) → Reads s0 got.End buf s1 → after.limits ≡ r.limits
     → AfterRowsEnd all m st after → HasShown s old start h all m (at_work r d e s0) → AfterShownPiece s old start h (all ++ []) st (at_work after d e s1)
 rows_end s old start h all m r after d e buf step.More s0 s1 read limits ended k = absurd ended
 rows_end s old start h all m r after d e buf step.Whole s0 s1 read limits ended k = absurd ended
@@ -141,20 +141,20 @@ rows_end s old start h all m r after d e buf (step.Early n) s0 s1 read limits en
 rows_end s old start h all m r after d e buf (step.Ended w) s0 s1 read limits ended k =
     rows_at_end s old start h all m r d e buf w s0 s1 read (subst (λ (l : Limits). StopsWith l all w) limits ended) k
 
-pub end_goes_on : (all : List ℕ) (m : ℕ) (st : RowsStep) (r : RowReaderState) (now : DeskState) → now.output_created ≡ true → AfterRowsEnd all m st r → GoesOnRows st r now
+pub end_goes_on : (all : List ℕ) (m : ℕ) (st : RowsStep) (r : ReaderState) (now : DeskState) → now.output_created ≡ true → AfterRowsEnd all m st r → GoesOnRows st r now
 end_goes_on all m step.More r now created ended = absurd ended
 end_goes_on all m step.Whole r now created ended = absurd ended
 end_goes_on all m (step.Early n) r now created ended = created
 end_goes_on all m (step.Ended w) r now created ended = tt
 
-pub end_later : (all : List ℕ) (m : ℕ) (st : RowsStep) (r : RowReaderState) (before now : ℕ) → AfterRowsEnd all m st r → GoesLater before st now
+pub end_later : (all : List ℕ) (m : ℕ) (st : RowsStep) (r : ReaderState) (before now : ℕ) → AfterRowsEnd all m st r → GoesLater before st now
 end_later all m step.More r before now ended = absurd ended
 end_later all m step.Whole r before now ended = absurd ended
 end_later all m (step.Early n) r before now ended = tt
 end_later all m (step.Ended w) r before now ended = tt
 
 -- the room that is left for more
-pub rows_room : (s : Showing) (old start : DeskState) (h : Head) (all : List ℕ) (m : ℕ) (r : RowReaderState) (d : Drawing) (e : EndState) (now : DeskState) (room : ℕ) → room ≡ r.limits.input - r.file.reading.taken → HasShown s old start h all m (at_work r d e now)
+pub rows_room : (s : Showing) (old start : DeskState) (h : Head) (all : List ℕ) (m : ℕ) (r : ReaderState) (d : Drawing) (e : EndState) (now : DeskState) (room : ℕ) → room ≡ r.limits.input - r.file.reading.taken → HasShown s old start h all m (at_work r d e now)
     → (room + length all ≡ standard_limits.input) × (length all < standard_limits.input)
 rows_room s old start h all m r d e now room is k =
     let taken = taken_by_row r.limits all r.file (k.read).begun.rows ((k.read).«open»).stands in
@@ -163,7 +163,7 @@ rows_room s old start h all m r d e now room is k =
     (omega (arith, same, short), short)
 
 -- more was taken
-pub goes_later : (s : Showing) (old start : DeskState) (h : Head) (all piece : List ℕ) (st : RowsStep) (r : RowReaderState) (d : Drawing) (e : EndState) (now : DeskState) (t : ℕ) → t ≡ length all → length all < standard_limits.input → 0 < length piece
+pub goes_later : (s : Showing) (old start : DeskState) (h : Head) (all piece : List ℕ) (st : RowsStep) (r : ReaderState) (d : Drawing) (e : EndState) (now : DeskState) (t : ℕ) → t ≡ length all → length all < standard_limits.input → 0 < length piece
     → AfterShownPiece s old start h (all ++ piece) st (at_work r d e now) → GoesLater t st r.file.reading.taken
 goes_later s old start h all piece step.More r d e now t is short some (m, k) =
     let taken = taken_by_row r.limits (all ++ piece) r.file (k.read).begun.rows ((k.read).«open»).stands in (omega (arith, is, taken, some, length-append all piece), omega (arith, is, short))
@@ -171,5 +171,5 @@ goes_later s old start h all piece step.Whole r d e now t is short some k = tt
 goes_later s old start h all piece (step.Early n) r d e now t is short some k = tt
 goes_later s old start h all piece (step.Ended w) r d e now t is short some k = tt
 
-pub rows_taken : (s : Showing) (old start : DeskState) (h : Head) (all : List ℕ) (m : ℕ) (r : RowReaderState) (d : Drawing) (e : EndState) (now : DeskState) → HasShown s old start h all m (at_work r d e now) → r.file.reading.taken ≡ length all
+pub rows_taken : (s : Showing) (old start : DeskState) (h : Head) (all : List ℕ) (m : ℕ) (r : ReaderState) (d : Drawing) (e : EndState) (now : DeskState) → HasShown s old start h all m (at_work r d e now) → r.file.reading.taken ≡ length all
 rows_taken s old start h all m r d e now k = taken_by_row r.limits all r.file (k.read).begun.rows ((k.read).«open»).stands

@@ -5,8 +5,8 @@ use Rattle.jpg_base.specs.declared.stop.Stop.{Stop}
 use Rattle.jpg_base.specs.Desk.{Creates, DeskState}
 use Rattle.jpg_spec_words.specs.declared.answers.Why.TheVariants as why
 use Rattle.jpg_spec_words.specs.declared.answers.Which.TheVariants as which
-use Rattle.jpg_file.specs.Read.ReadRows.{RowReaderState}
-use Rattle.jpg_file.specs.declared.read.row_reader.FedRow.{FedRow}
+use Rattle.jpg_file.specs.Read.ReadFile.{ReaderState}
+use Rattle.jpg_file.specs.declared.read.row_pieces.FedRow.{FedRow}
 use Rattle.jpg_cli.specs.Desk.Judging.{ReadsFrom}
 use Rattle.jpg_cli.specs.Desk.ReadPicture.{IsShortRead}
 use Rattle.jpg_cli.specs.Tools.Showing.{IsShownByRows, Showing, Shown}
@@ -19,16 +19,16 @@ use Rattle.jpg_cli.proofs.RowsEnd.{shown_head}
 use Rattle.jpg_cli.proofs.Outcome.{reads_still}
 
 -- what was read
-abbrev opened_read : (s : Showing) (old start : DeskState) (all : List ℕ) (piece : List ℕ) (answer : Result FedRow Stop) (r : RowReaderState) (now : DeskState) (Is : List ℕ → Type 0) → BeginsShownRows s.gray all piece answer r → HasOpened s old start all now → Is all
+abbrev opened_read : (s : Showing) (old start : DeskState) (all : List ℕ) (piece : List ℕ) (answer : Result FedRow Stop) (r : ReaderState) (now : DeskState) (Is : List ℕ → Type 0) → BeginsShownRows s.gray all piece answer r → HasOpened s old start all now → Is all
     → ReadsFrom s.input Is old now
 opened_read s old start all piece answer r now Is k h is = record { bytes = all; read = file_read old.files s.input start.left now.left all (h.opened).after.2 h.left; most = (k.rows).most; is = is }
 
 -- NO MEMORY for an image
-pub no_image : (s : Showing) (old start : DeskState) (all : List ℕ) (piece : List ℕ) (answer : Result FedRow Stop) (r : RowReaderState) (now : DeskState) → BeginsShownRows s.gray all piece answer r → HasOpened s old start all now → Shown s old why.NoMemory now
+pub no_image : (s : Showing) (old start : DeskState) (all : List ℕ) (piece : List ℕ) (answer : Result FedRow Stop) (r : ReaderState) (now : DeskState) → BeginsShownRows s.gray all piece answer r → HasOpened s old start all now → Shown s old why.NoMemory now
 no_image s old start all piece answer r now k h = inl (stopped_there old start now s.input h.opened h.reads, opened_read s old start all piece answer r now (IsShortRead (Image s.gray)) k h (k.rows).short)
 
 -- NO OUTPUT
-pub no_output : (s : Showing) (old start : DeskState) (all : List ℕ) (piece : List ℕ) (answer : Result FedRow Stop) (r : RowReaderState) (now new : DeskState) → BeginsShownRows s.gray all piece answer r → HasOpened s old start all now → Creates now s.output put.Failed new
+pub no_output : (s : Showing) (old start : DeskState) (all : List ℕ) (piece : List ℕ) (answer : Result FedRow Stop) (r : ReaderState) (now new : DeskState) → BeginsShownRows s.gray all piece answer r → HasOpened s old start all now → Creates now s.output put.Failed new
     → Shown s old (why.OpenFault which.Output) new
 no_output s old start all piece answer r now new k h made = (
   record {

@@ -19,11 +19,11 @@ use Rattle.jpg_spec.specs.declared.fault.FaultAt.{FaultAt}
 use Rattle.jpg_spec_words.specs.declared.answers.Why.TheVariants as why
 use Rattle.jpg_spec.specs.declared.frame.Limits.{Limits}
 use Rattle.jpg_spec_image.specs.declared.image.ImageInfo.{ImageInfo}
-use Rattle.jpg_file.specs.Read.ReadFile.{IsStopOf}
-use Rattle.jpg_file.specs.Read.ReadRows.{AfterFeedRow, HasReadRows, RowReaderState, StopsRows}
+use Rattle.jpg_file.specs.Read.ReadFile.{IsStopOf, ReaderState}
+use Rattle.jpg_file.specs.Read.ReadRows.{AfterFeedRow, HasReadRows, StopsRows}
 use Rattle.jpg_file.specs.Read.RowsNone.{HasNoRows}
-use Rattle.jpg_file.specs.declared.read.row_reader.FedRow.{FedRow}
-use Rattle.jpg_file.specs.declared.read.row_reader.FedRow.TheVariants as fed
+use Rattle.jpg_file.specs.declared.read.row_pieces.FedRow.{FedRow}
+use Rattle.jpg_file.specs.declared.read.row_pieces.FedRow.TheVariants as fed
 use Rattle.jpg_pnm_bmp.specs.EndState.{EndState}
 use Rattle.jpg_color.specs.DecodeRows.{SendsImage}
 use Rattle.jpg_color.specs.declared.decode.DecodeStop.{DecodeStop}
@@ -114,7 +114,7 @@ record CompletesFront (bytes : List ℕ) (m : ℕ) : Type 0 where
   pub blocks : Blocks
   pub completed : CompletesRows standard_limits bytes m blocks
 
-stopped_front : (bytes : List ℕ) (m : ℕ) (r : RowReaderState) → r.limits ≡ standard_limits → StopsRows bytes m r → CompletesFront bytes m
+stopped_front : (bytes : List ℕ) (m : ℕ) (r : ReaderState) → r.limits ≡ standard_limits → StopsRows bytes m r → CompletesFront bytes m
 stopped_front bytes m r e k = record {
   before = (k.begun).before;
   contents = (k.begun).contents;
@@ -152,7 +152,7 @@ shown_front s h all n m blocks head told k =
       },
     )
 
-pub rows_ended : (s : Showing) (old start : DeskState) (h : Head) (all : List ℕ) (m : ℕ) (piece : List ℕ) (answer : Result FedRow Stop) (r : RowReaderState) (d : Drawing) (e : EndState) (written : List ℕ) (now : DeskState)
+pub rows_ended : (s : Showing) (old start : DeskState) (h : Head) (all : List ℕ) (m : ℕ) (piece : List ℕ) (answer : Result FedRow Stop) (r : ReaderState) (d : Drawing) (e : EndState) (written : List ℕ) (now : DeskState)
     → IsLastPiece answer → HasFedRows s.gray h all m piece answer r → IsDrawing s h all m written d e → d.out ≡ [] → HasCreated s old start all written now → IsInTime s all written → AfterShownPiece s old start h all (last_step answer) (at_work r d e now)
 rows_ended s old start h all m piece (Ok fed.More) r d e written now last k drawing out desk early = by k.after
   where
@@ -233,7 +233,7 @@ rows_ended s old start h all m piece (Err stop.NoMemory) r d e written now last 
 all_gone : (out gone rest : List ℕ) → rest ≡ [] → out ++ [] ≡ gone ++ rest → gone ≡ out
 all_gone out gone rest none e = sym (append-nil gone) ∙ ap (λ l. gone ++ l) (sym none) ∙ sym e ∙ append-nil out
 
-pub rows_written : (s : Showing) (old start : DeskState) (h : Head) (all : List ℕ) (m : ℕ) (piece : List ℕ) (answer : Result FedRow Stop) (r : RowReaderState) (d new : Drawing) (e : EndState) (s0 s1 : DeskState)
+pub rows_written : (s : Showing) (old start : DeskState) (h : Head) (all : List ℕ) (m : ℕ) (piece : List ℕ) (answer : Result FedRow Stop) (r : ReaderState) (d new : Drawing) (e : EndState) (s0 s1 : DeskState)
     → IsLastPiece answer → new.strips ≡ d.strips → new.info ≡ d.info → new.out ≡ [] → SendsImage s0 d.out [] (Ok tt) new.out s1 → IsShowing s old start h all m piece answer (at_work r d e s0) → AfterShownPiece s old start h all (last_step answer) (at_work r new e s1)
 rows_written s old start h all m piece answer r d new e s0 s1 last x i none sent k =
     let gone = (sent.bytes).0 in
@@ -244,7 +244,7 @@ rows_written s old start h all m piece answer r d new e s0 s1 last x i none sent
     (λ front rest text cut many due. (let l = k.early front rest text cut many due in omega (arith, l, length-append k.written d.out)))
 
 -- or it isn't all
-pub rows_unwritten : (s : Showing) (old start : DeskState) (h : Head) (all : List ℕ) (m : ℕ) (piece : List ℕ) (answer : Result FedRow Stop) (r : RowReaderState) (d : Drawing) (e : EndState) (new : List ℕ) (ended : DecodeStop) (s0 s1 : DeskState)
+pub rows_unwritten : (s : Showing) (old start : DeskState) (h : Head) (all : List ℕ) (m : ℕ) (piece : List ℕ) (answer : Result FedRow Stop) (r : ReaderState) (d : Drawing) (e : EndState) (new : List ℕ) (ended : DecodeStop) (s0 s1 : DeskState)
     → SendsImage s0 d.out [] (Err ended) new s1 → IsShowing s old start h all m piece answer (at_work r d e s0) → Shown s old (why_of (Err ended)) s1
 rows_unwritten s old start h all m piece answer r d e new ended s0 s1 sent k =
     let picture = picture_so_far standard_limits h.before h.contents (k.drawing).blocks in
@@ -260,7 +260,7 @@ rows_unwritten s old start h all m piece answer r d e new ended s0 s1 sent k =
     rows_stopped s old start all k.written d.out [] text new ended s0 s1 due (fits_whole s h all m (k.drawing).blocks (k.read).head (k.drawing).told) k.desk sent
 
 -- THE SCAN that began in the bytes, whatever the answer
-pub rows_begun : (gray : Bool) (h : Head) (all : List ℕ) (m : ℕ) (piece : List ℕ) (answer : Result FedRow Stop) (r : RowReaderState) → HasFedRows gray h all m piece answer r → HasBegun all r
+pub rows_begun : (gray : Bool) (h : Head) (all : List ℕ) (m : ℕ) (piece : List ℕ) (answer : Result FedRow Stop) (r : ReaderState) → HasFedRows gray h all m piece answer r → HasBegun all r
 rows_begun gray h all m piece (Ok fed.More) r k = by k.after
   where
     by : AfterFeedRow k.fed m piece (Ok fed.More) r → HasBegun all r

@@ -22,7 +22,7 @@ use Rattle.jpg_spec_image.proofs.RowsCompleted.{complete_all}
 use Rattle.jpg_spec_image.proofs.RowsImage.{image_so_far}
 use Rattle.jpg_spec.proofs.RowsOnce.{completed_once, rows_once, rows_stay}
 use Rattle.jpg_spec_image.proofs.ShownAlike.{shown_alike}
-use Rattle.jpg_file.specs.Read.ReadRows.{RowReaderState}
+use Rattle.jpg_file.specs.Read.ReadFile.{ReaderState}
 use Rattle.jpg_pnm_bmp.specs.EndState.{EndState}
 use Rattle.jpg_color.specs.DecodeRows.{SendsImage}
 use Rattle.jpg_color.specs.StripImage.{Drawing, EndsDrawing, IsDrawnTo, IsAllGiven, rest_text}
@@ -47,7 +47,7 @@ pub record IsShownWhole (s : Showing) (h : Head) (all : List ℕ) (m : ℕ) (blo
   pub rows : m ≡ mcu_rows (so_far h blocks)
   pub text : end_text s.kind (info (so_far h blocks) s.gray) (pixels (so_far h blocks) s.gray s.smooth) ≡ shown_text s M
 
-pub shown_whole : (s : Showing) (old start : DeskState) (h : Head) (all : List ℕ) (m : ℕ) (r : RowReaderState) (d : Drawing) (e : EndState) (now : DeskState) → (k : HasShownAll s old start h all m (at_work r d e now))
+pub shown_whole : (s : Showing) (old start : DeskState) (h : Head) (all : List ℕ) (m : ℕ) (r : ReaderState) (d : Drawing) (e : EndState) (now : DeskState) → (k : HasShownAll s old start h all m (at_work r d e now))
     → IsShownWhole s h all m (k.drawing).blocks (k.done).meaning
 shown_whole s old start h all m r d e now k = record {
   whole = record {
@@ -104,7 +104,7 @@ shown_whole s old start h all m r d e now k = record {
         let t = (shown_alike standard_limits s.gray k.front M (inl whole.0)).told fault is in
         absurd (not_shown s.gray k.front t.0 t.1 (record { before = h.before; contents = h.contents; begins = begins; shown = (k.head).shown }))
 
-pub all_told : (s : Showing) (old start : DeskState) (h : Head) (all : List ℕ) (m : ℕ) (r : RowReaderState) (d : Drawing) (e : EndState) (now : DeskState) → HasShownAll s old start h all m (at_work r d e now) → IsAllGiven d.strips
+pub all_told : (s : Showing) (old start : DeskState) (h : Head) (all : List ℕ) (m : ℕ) (r : ReaderState) (d : Drawing) (e : EndState) (now : DeskState) → HasShownAll s old start h all m (at_work r d e now) → IsAllGiven d.strips
 all_told s old start h all m r d e now k = record {
   given = (k.drawing).given;
   all =
@@ -157,7 +157,7 @@ image_ended s old start M all written out due (Err stop.WriteFault) new s0 s1 h 
       }),
     )
 
-pub rows_finished : (s : Showing) (old start : DeskState) (h : Head) (all : List ℕ) (m : ℕ) (r : RowReaderState) (d : Drawing) (e : EndState) (now : DeskState) (result : Result (Unit {0}) DecodeStop) (new : Drawing) (new_end : EndState) (s1 : DeskState)
+pub rows_finished : (s : Showing) (old start : DeskState) (h : Head) (all : List ℕ) (m : ℕ) (r : ReaderState) (d : Drawing) (e : EndState) (now : DeskState) (result : Result (Unit {0}) DecodeStop) (new : Drawing) (new_end : EndState) (s1 : DeskState)
     → EndsDrawing now d e result new new_end s1 → HasShownAll s old start h all m (at_work r d e now) → Shown s old (why_of result) s1
 rows_finished s old start h all m r d e now result new new_end s1 ends k =
     let P = so_far h (k.drawing).blocks in

@@ -16,9 +16,10 @@ use Rattle.jpg_spec.specs.declared.frame.Limits.{Limits}
 use Rattle.jpg_spec_image.specs.declared.image.EndKind.{EndKind}
 use Rattle.jpg_spec.proofs.RowsOnce.{rows_stay}
 use Rattle.jpg_coefs.specs.Picture.{Picture as Coefs, map_of}
-use Rattle.jpg_file.specs.Read.ReadRows.{AfterFeedRow, AreOfRow, FeedsRow, HasGivenRow, RowReaderState}
-use Rattle.jpg_file.specs.declared.read.row_reader.FedRow.{FedRow}
-use Rattle.jpg_file.specs.declared.read.row_reader.FedRow.TheVariants as fed
+use Rattle.jpg_file.specs.Read.ReadFile.{ReaderState}
+use Rattle.jpg_file.specs.Read.ReadRows.{AfterFeedRow, AreOfRow, FeedsRow, HasGivenRow}
+use Rattle.jpg_file.specs.declared.read.row_pieces.FedRow.{FedRow}
+use Rattle.jpg_file.specs.declared.read.row_pieces.FedRow.TheVariants as fed
 use Rattle.jpg_file.specs.declared.read.rows.RowWork.{RowWork}
 use Rattle.jpg_pnm_bmp.specs.EndState.{EndState}
 use Rattle.jpg_color.specs.DecodeRows.{SendsImage}
@@ -53,14 +54,11 @@ up_to before piece used = before ++ take used piece
 rest_cut : (all before piece : List ℕ) (used : ℕ) → all ≡ before ++ piece → all ≡ up_to before piece used ++ drop used piece
 rest_cut all before piece used cut = cut ∙ ap (λ l. before ++ l) (sym (take-append-drop used piece)) ∙ sym (append_assoc before (take used piece) (drop used piece))
 
-given_row : (gray : Bool) (h : Head) (all : List ℕ) (m : ℕ) (piece : List ℕ) (used : ℕ) (r : RowReaderState) → (k : HasFedRows gray h all m piece (Ok (fed.Row used)) r) → HasGivenRow (up_to k.fed piece used) (m + 1) r
-given_row gray h all m piece used r k = (k.after).0
-
-pub begun_row : (gray : Bool) (h : Head) (all : List ℕ) (m : ℕ) (piece : List ℕ) (used : ℕ) (r : RowReaderState) → HasFedRows gray h all m piece (Ok (fed.Row used)) r → (rows : RowWork) × (r.rows ≡ Some rows)
+pub begun_row : (gray : Bool) (h : Head) (all : List ℕ) (m : ℕ) (piece : List ℕ) (used : ℕ) (r : ReaderState) → HasFedRows gray h all m piece (Ok (fed.Row used)) r → (rows : RowWork) × (r.rows ≡ Some rows)
 begun_row gray h all m piece used r k = (((k.after).0).begun.rows, ((k.after).0).begun.has)
 
 -- its scan began before the end of the row
-begins_row : (gray : Bool) (h : Head) (all : List ℕ) (m : ℕ) (piece : List ℕ) (used : ℕ) (r : RowReaderState) → (k : HasFedRows gray h all m piece (Ok (fed.Row used)) r)
+begins_row : (gray : Bool) (h : Head) (all : List ℕ) (m : ℕ) (piece : List ℕ) (used : ℕ) (r : ReaderState) → (k : HasFedRows gray h all m piece (Ok (fed.Row used)) r)
     → BeginsScanOfAll standard_limits (up_to k.fed piece used) h.before h.contents
 begins_row gray h all m piece used r k =
     let b = ((k.after).0).begun in
@@ -69,7 +67,7 @@ begins_row gray h all m piece used r k =
     let one = one_head front all (drop used piece) [] b.before h.before b.contents h.contents (sym (rest_cut all k.fed piece used k.cut) ∙ sym (append-nil all)) begins (k.head).begins in
     subst (λ c. BeginsScanOfAll standard_limits front h.before c) one.1 (subst (λ s. BeginsScanOfAll standard_limits front s b.contents) one.0 begins)
 
-pub next_row : (gray : Bool) (h : Head) (all : List ℕ) (m : ℕ) (piece : List ℕ) (used : ℕ) (r : RowReaderState) (q : Coefs) → (k : HasFedRows gray h all m piece (Ok (fed.Row used)) r)
+pub next_row : (gray : Bool) (h : Head) (all : List ℕ) (m : ℕ) (piece : List ℕ) (used : ℕ) (r : ReaderState) (q : Coefs) → (k : HasFedRows gray h all m piece (Ok (fed.Row used)) r)
     → ((rows : RowWork) → r.rows ≡ Some rows → q ≡ rows.coefs) → IsNextRow h all m q
 next_row gray h all m piece used r q k lent =
     let g : HasGivenRow (up_to k.fed piece used) (m + 1) r = (k.after).0 in
@@ -148,7 +146,7 @@ more_drawn s h all m written q d e s0 result new new_end s1 head k w draws = rec
         ∙ (texts_join d P s.gray s.smooth s.kind drawn.image).more m (omega (arith, few))
 
 -- IT WASN'T WRITTEN
-pub row_stopped : (s : Showing) (old start : DeskState) (h : Head) (all : List ℕ) (m : ℕ) (piece : List ℕ) (used : ℕ) (r : RowReaderState) (q : Coefs) (d new : Drawing) (e new_end : EndState) (ended : DecodeStop) (s0 s1 : DeskState)
+pub row_stopped : (s : Showing) (old start : DeskState) (h : Head) (all : List ℕ) (m : ℕ) (piece : List ℕ) (used : ℕ) (r : ReaderState) (q : Coefs) (d new : Drawing) (e new_end : EndState) (ended : DecodeStop) (s0 s1 : DeskState)
     → ((rows : RowWork) → r.rows ≡ Some rows → q ≡ rows.coefs) → DrawsRow s0 d e q (Err ended) new new_end s1 → IsShowing s old start h all m piece (Ok (fed.Row used)) (at_work r d e s0) → Shown s old (why_of (Err ended)) s1
 row_stopped s old start h all m piece used r q d new e new_end ended s0 s1 lent draws k =
     let next = next_row s.gray h all m piece used r q k.read lent in
@@ -165,7 +163,7 @@ row_stopped s old start h all m piece used r q d new e new_end ended s0 s1 lent 
     rows_stopped s old start all k.written d.out w.due text new.out ended s0 s1 due (fits_whole s h all (m + 1) (w.next).blocks (k.read).head (w.next).told) k.desk w.sent
 
 -- IT WAS DRAWN, and the reader was asked for the next one
-pub row_drawn : (s : Showing) (old start : DeskState) (h : Head) (all : List ℕ) (m : ℕ) (piece : List ℕ) (used : ℕ) (answer : Result FedRow Stop) (r after : RowReaderState) (q : Coefs) (d new : Drawing) (e new_end : EndState) (s0 s1 : DeskState)
+pub row_drawn : (s : Showing) (old start : DeskState) (h : Head) (all : List ℕ) (m : ℕ) (piece : List ℕ) (used : ℕ) (answer : Result FedRow Stop) (r after : ReaderState) (q : Coefs) (d new : Drawing) (e new_end : EndState) (s0 s1 : DeskState)
     → ((rows : RowWork) → r.rows ≡ Some rows → q ≡ rows.coefs) → DrawsRow s0 d e q (Ok tt) new new_end s1 → FeedsRow r (drop used piece) answer after → after.limits ≡ r.limits → IsShowing s old start h all m piece (Ok (fed.Row used)) (at_work r d e s0)
     → IsShowing s old start h all (m + 1) (drop used piece) answer (at_work after new new_end s1)
 row_drawn s old start h all m piece used answer r after q d new e new_end s0 s1 lent draws feeds limits k = record {
@@ -217,17 +215,17 @@ row_drawn s old start h all m piece used answer r after q d new e new_end s0 s1 
     fed_next = feeds (up_to (k.read).fed piece used) (m + 1) (inr (inr ((k.read).after).0))
 
 -- BY THE ANSWER
-pub row_here : (s : Showing) (old start : DeskState) (h : Head) (all : List ℕ) (m : ℕ) (piece : List ℕ) (answer : Result FedRow Stop) (used : ℕ) (r : RowReaderState) (d : Drawing) (e : EndState) (now : DeskState) → answer ≡ Ok (fed.Row used)
+pub row_here : (s : Showing) (old start : DeskState) (h : Head) (all : List ℕ) (m : ℕ) (piece : List ℕ) (answer : Result FedRow Stop) (used : ℕ) (r : ReaderState) (d : Drawing) (e : EndState) (now : DeskState) → answer ≡ Ok (fed.Row used)
     → IsShowing s old start h all m piece answer (at_work r d e now) → IsShowing s old start h all m piece (Ok (fed.Row used)) (at_work r d e now)
 row_here s old start h all m piece answer used r d e now is k = subst (λ (a : Result FedRow Stop). IsShowing s old start h all m piece a (at_work r d e now)) is k
 
 -- a row that waits at this answer, and its place in the piece
-pub record IsAtRow (s : Showing) (h : Head) (piece : List ℕ) (used : ℕ) (r : RowReaderState) (q : Coefs) (d : Drawing) (e : EndState) (now : DeskState) : Type 0 where
+pub record IsAtRow (s : Showing) (h : Head) (piece : List ℕ) (used : ℕ) (r : ReaderState) (q : Coefs) (d : Drawing) (e : EndState) (now : DeskState) : Type 0 where
   pub due : IsNextRowDue d.strips
   pub row : IsMcuRow d.strips.display.frame q
   pub within : used ≤ length piece
 
-pub at_row : (s : Showing) (old start : DeskState) (h : Head) (all : List ℕ) (m : ℕ) (piece : List ℕ) (used : ℕ) (r : RowReaderState) (q : Coefs) (d : Drawing) (e : EndState) (now : DeskState) → ((rows : RowWork) → r.rows ≡ Some rows → q ≡ rows.coefs)
+pub at_row : (s : Showing) (old start : DeskState) (h : Head) (all : List ℕ) (m : ℕ) (piece : List ℕ) (used : ℕ) (r : ReaderState) (q : Coefs) (d : Drawing) (e : EndState) (now : DeskState) → ((rows : RowWork) → r.rows ≡ Some rows → q ≡ rows.coefs)
     → IsShowing s old start h all m piece (Ok (fed.Row used)) (at_work r d e now) → IsAtRow s h piece used r q d e now
 at_row s old start h all m piece used r q d e now lent k =
     let next = next_row s.gray h all m piece used r q k.read lent in
@@ -241,7 +239,7 @@ at_row s old start h all m piece used r q d e now lent k =
 pub rest_of_piece : (piece : List ℕ) (used : ℕ) → take (length piece - used) (drop used piece) ≡ drop used piece
 rest_of_piece piece used = take_all (length piece - used) (drop used piece) (omega (arith, length-drop used piece))
 
-pub row_then : (s : Showing) (old start : DeskState) (h : Head) (all : List ℕ) (m : ℕ) (piece : List ℕ) (used : ℕ) (rest : List ℕ) (result : Result (Unit {0}) DecodeStop) (u : Unit {0}) (answer : Result FedRow Stop) (r after : RowReaderState) (q : Coefs) (d new : Drawing) (e new_end : EndState) (s0 s1 : DeskState)
+pub row_then : (s : Showing) (old start : DeskState) (h : Head) (all : List ℕ) (m : ℕ) (piece : List ℕ) (used : ℕ) (rest : List ℕ) (result : Result (Unit {0}) DecodeStop) (u : Unit {0}) (answer : Result FedRow Stop) (r after : ReaderState) (q : Coefs) (d new : Drawing) (e new_end : EndState) (s0 s1 : DeskState)
     → rest ≡ drop used piece → result ≡ Ok u → ((rows : RowWork) → r.rows ≡ Some rows → q ≡ rows.coefs) → DrawsRow s0 d e q result new new_end s1 → FeedsRow r rest answer after → after.limits ≡ r.limits
     → IsShowing s old start h all m piece (Ok (fed.Row used)) (at_work r d e s0) → IsShowing s old start h all (m + 1) rest answer (at_work after new new_end s1)
 row_then s old start h all m piece used rest result u answer r after q d new e new_end s0 s1 same done lent draws feeds limits k =

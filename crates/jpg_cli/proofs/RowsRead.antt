@@ -22,12 +22,13 @@ use Rattle.jpg_spec.specs.Scan.{Blocks}
 use Rattle.jpg_spec.specs.Segments.{standard_limits}
 use Rattle.jpg_spec.specs.declared.frame.Limits.{Limits}
 use Rattle.jpg_spec.proofs.RowsOnce.{first_told, rows_once, rows_stay}
-use Rattle.jpg_file.specs.Read.ReadRows.{AfterFeedRow, FeedsRow, HasReadRows, RowReaderState}
+use Rattle.jpg_file.specs.Read.ReadFile.{ReaderState}
+use Rattle.jpg_file.specs.Read.ReadRows.{AfterFeedRow, FeedsRow, HasReadRows}
 use Rattle.jpg_file.specs.Read.RowsNone.{HasNoRows}
 use Rattle.jpg_file.specs.Read.Strips.{RowsAfter, RowsInside, StandsByRow}
 use Rattle.jpg_file.specs.declared.read.file.FileWork.{FileWork}
-use Rattle.jpg_file.specs.declared.read.row_reader.FedRow.{FedRow}
-use Rattle.jpg_file.specs.declared.read.row_reader.FedRow.TheVariants as fed
+use Rattle.jpg_file.specs.declared.read.row_pieces.FedRow.{FedRow}
+use Rattle.jpg_file.specs.declared.read.row_pieces.FedRow.TheVariants as fed
 use Rattle.jpg_file.specs.declared.read.rows.RowWork.{RowWork}
 use Rattle.jpg_pnm_bmp.specs.EndState.{EndState}
 use Rattle.jpg_color.specs.StripImage.{Drawing}
@@ -73,7 +74,7 @@ no_more_told bytes k m blocks x completed told = by (cases_lt m k)
 no_plain : (bytes : List ℕ) (before : List Segment) (contents : List ℕ) (limits : Limits) → limits ≡ standard_limits → BeginsScanOfAll standard_limits bytes before contents → HasNoRows limits bytes → ⊥
 no_plain bytes before contents limits e k none = none before contents (subst (λ (l : Limits). BeginsScanOfAll l bytes before contents) (sym e) k)
 
-pub work_stays : (bytes piece : List ℕ) (before : List Segment) (contents : List ℕ) (m : ℕ) (answer : Result FedRow Stop) (r : RowReaderState) → r.limits ≡ standard_limits → BeginsScanOfAll standard_limits bytes before contents → AfterFeedRow bytes m piece answer r
+pub work_stays : (bytes piece : List ℕ) (before : List Segment) (contents : List ℕ) (m : ℕ) (answer : Result FedRow Stop) (r : ReaderState) → r.limits ≡ standard_limits → BeginsScanOfAll standard_limits bytes before contents → AfterFeedRow bytes m piece answer r
     → r.rows ≡ None → ⊥
 work_stays bytes piece before contents m (Ok fed.More) r e k (inl h) none = no_plain (bytes ++ piece) before contents r.limits e (begins_more bytes piece before contents k) (h.0).plain
 work_stays bytes piece before contents m (Ok fed.More) r e k (inr h) none = not_none r (bytes ++ piece) h.begun none
@@ -111,7 +112,7 @@ created_on s old start all piece written n buf s0 s1 same read h = record {
   created = read.output_created ∙ h.created;
 }
 
-pub open_rows : (gray : Bool) (h : Head) (all : List ℕ) (m : ℕ) (r : RowReaderState) → r.limits ≡ standard_limits → IsHeadIn gray h all → HasReadRows all m r → IsOpenRead (Image gray) all
+pub open_rows : (gray : Bool) (h : Head) (all : List ℕ) (m : ℕ) (r : ReaderState) → r.limits ≡ standard_limits → IsHeadIn gray h all → HasReadRows all m r → IsOpenRead (Image gray) all
 open_rows gray h all m r e head k = record {
   short = subst (λ (l : Limits). length all < l.input) e k.short;
   stands = subst (λ (l : Limits). UnfinishedFile l all) e k.stands;
@@ -119,7 +120,7 @@ open_rows gray h all m r e head k = record {
 }
 
 -- the text that was pending before the piece was written before it
-pub early_more : (s : Showing) (old start : DeskState) (h : Head) (all piece : List ℕ) (m : ℕ) (r : RowReaderState) (d : Drawing) (e : EndState) (now : DeskState) → length piece ≤ 16384 → (k : HasShown s old start h all m (at_work r d e now)) → IsInTime s (all ++ piece) k.written
+pub early_more : (s : Showing) (old start : DeskState) (h : Head) (all piece : List ℕ) (m : ℕ) (r : ReaderState) (d : Drawing) (e : EndState) (now : DeskState) → length piece ≤ 16384 → (k : HasShown s old start h all m (at_work r d e now)) → IsInTime s (all ++ piece) k.written
 early_more s old start h all piece m r d e now few k front rest text cut many due =
     let size = ap length cut in
     let short : length front ≤ length all = omega (arith, size, few, many, length-append all piece, length-append front rest) in
@@ -137,7 +138,7 @@ early_more s old start h all piece m r d e now few k front rest text cut many du
     let none = ap length k.out in
     omega (arith, fits, ap length text_is, none, length-append k.written d.out)
 
-pub fed_more : (s : Showing) (old start : DeskState) (h : Head) (all piece : List ℕ) (m n : ℕ) (buf : List ℕ) (answer : Result FedRow Stop) (r new : RowReaderState) (d : Drawing) (e : EndState) (s0 s1 : DeskState) → piece ≡ take n buf → length piece ≤ 16384
+pub fed_more : (s : Showing) (old start : DeskState) (h : Head) (all piece : List ℕ) (m n : ℕ) (buf : List ℕ) (answer : Result FedRow Stop) (r new : ReaderState) (d : Drawing) (e : EndState) (s0 s1 : DeskState) → piece ≡ take n buf → length piece ≤ 16384
     → length (all ++ piece) ≤ standard_limits.input → All (λ b. b < 256) (all ++ piece) → Reads s0 (got.Bytes n) buf s1 → FeedsRow r piece answer new → new.limits ≡ r.limits → HasShown s old start h all m (at_work r d e s0)
     → IsShowing s old start h (all ++ piece) m piece answer (at_work new d e s1)
 fed_more s old start h all piece m n buf answer r new d e s0 s1 same few most small read feeds limits k = record {

@@ -30,11 +30,12 @@ use Rattle.jpg_spec_image.specs.declared.image.ImageInfo.{ImageInfo}
 use Rattle.jpg_spec.proofs.ColoursKept.{picture_colours}
 use Rattle.jpg_spec_image.proofs.RowsAlike.{colours_stay}
 use Rattle.jpg_spec.proofs.RowsOnce.{first_told, rows_stay}
-use Rattle.jpg_file.specs.Read.ReadRows.{AfterFeedRow, HasBegunRows, RowReaderState, picture_read}
+use Rattle.jpg_file.specs.Read.ReadFile.{ReaderState}
+use Rattle.jpg_file.specs.Read.ReadRows.{AfterFeedRow, HasBegunRows, picture_read}
 use Rattle.jpg_file.specs.Read.RowsKnown.{TellsStrip}
 use Rattle.jpg_file.specs.Read.StripHead.{IsHeadOfPicture}
-use Rattle.jpg_file.specs.declared.read.row_reader.FedRow.{FedRow}
-use Rattle.jpg_file.specs.declared.read.row_reader.FedRow.TheVariants as fed
+use Rattle.jpg_file.specs.declared.read.row_pieces.FedRow.{FedRow}
+use Rattle.jpg_file.specs.declared.read.row_pieces.FedRow.TheVariants as fed
 use Rattle.jpg_file.specs.declared.read.strip_head.StripHead.{StripHead}
 use Rattle.jpg_pnm_bmp.specs.EndState.{EndState, new_end}
 use Rattle.jpg_pnm_bmp.proofs.SomeBytes.{text_some}
@@ -58,7 +59,7 @@ pub record IsStripOf (h : Head) (x : StripHead) : Type 0 where
   pub frame : x.frame ≡ frame_of standard_limits h.before
   pub picture : (blocks : Blocks) → IsHeadOfPicture x (so_far h blocks)
 
-pub strip_told : (gray : Bool) (h : Head) (all : List ℕ) (m : ℕ) (piece : List ℕ) (answer : Result FedRow Stop) (r : RowReaderState) (o : Option StripHead) (x : StripHead) → HasFedRows gray h all m piece answer r → o ≡ Some x
+pub strip_told : (gray : Bool) (h : Head) (all : List ℕ) (m : ℕ) (piece : List ℕ) (answer : Result FedRow Stop) (r : ReaderState) (o : Option StripHead) (x : StripHead) → HasFedRows gray h all m piece answer r → o ≡ Some x
     → ((bytes : List ℕ) (b : HasBegunRows bytes r) → TellsStrip o (frame_of r.limits b.before) (picture_read bytes r b)) → IsStripOf h x
 strip_told gray h all m piece answer r o x k is tells = record { frame = told.0; picture = told.1 }
   where
@@ -109,7 +110,7 @@ created_first s old start all now new h made = record {
 
 -- NOTHING IS PENDING YET: before the piece in which the scan began there was nothing to write
 
-none_due : (s : Showing) (all : List ℕ) (piece : List ℕ) (answer : Result FedRow Stop) (r : RowReaderState) → BeginsShownRows s.gray all piece answer r → IsInTime s all []
+none_due : (s : Showing) (all : List ℕ) (piece : List ℕ) (answer : Result FedRow Stop) (r : ReaderState) → BeginsShownRows s.gray all piece answer r → IsInTime s all []
 none_due s all piece answer r k front rest text cut many due =
     let bytes = (k.rows).fed in
     let few = (k.rows).few in
@@ -133,7 +134,7 @@ told_at limits all front rest m blocks e cut told =
     let w : TellsMore standard_limits all 0 = record { all = m; blocks = blocks; enough = omega arith; told = more } in
     (first_blocks standard_limits all 0 w, first_told standard_limits all 0 w)
 
-pub none_told_yet : (gray : Bool) (h : Head) (all : List ℕ) (m : ℕ) (piece : List ℕ) (answer : Result FedRow Stop) (r : RowReaderState) → HasFedRows gray h all m piece answer r → (x : Blocks) × TellsRows standard_limits all 0 x
+pub none_told_yet : (gray : Bool) (h : Head) (all : List ℕ) (m : ℕ) (piece : List ℕ) (answer : Result FedRow Stop) (r : ReaderState) → HasFedRows gray h all m piece answer r → (x : Blocks) × TellsRows standard_limits all 0 x
 none_told_yet gray h all m piece (Ok fed.More) r k = by k.after
   where
     by : AfterFeedRow k.fed m piece (Ok fed.More) r → (x : Blocks) × TellsRows standard_limits all 0 x
@@ -155,7 +156,7 @@ none_told_yet gray h all m piece (Err (stop.Fault f)) r k = by k.after
 none_told_yet gray h all m piece (Err stop.NoMemory) r k = absurd (k.begun (k.after).1)
 
 -- NO MEMORY for what its text begins with
-pub not_started : (s : Showing) (old start : DeskState) (all : List ℕ) (piece : List ℕ) (answer : Result FedRow Stop) (r : RowReaderState) (now new : DeskState) → BeginsShownRows s.gray all piece answer r → HasOpened s old start all now → Creates now s.output put.Done new
+pub not_started : (s : Showing) (old start : DeskState) (all : List ℕ) (piece : List ℕ) (answer : Result FedRow Stop) (r : ReaderState) (now new : DeskState) → BeginsShownRows s.gray all piece answer r → HasOpened s old start all now → Creates now s.output put.Done new
     → Shown s old why.NoMemory new
 not_started s old start all piece answer r now new k h made =
     let desk = created_first s old start all now new h made in
@@ -174,7 +175,7 @@ not_started s old start all piece answer r now new k h made =
     }))
 
 -- IT IS BEGUN
-pub rows_started : (s : Showing) (old start : DeskState) (all : List ℕ) (piece : List ℕ) (answer : Result FedRow Stop) (r : RowReaderState) (x : StripHead) (image d : Drawing) (first e : EndState) (now new : DeskState) → (k : BeginsShownRows s.gray all piece answer r)
+pub rows_started : (s : Showing) (old start : DeskState) (all : List ℕ) (piece : List ℕ) (answer : Result FedRow Stop) (r : ReaderState) (x : StripHead) (image d : Drawing) (first e : EndState) (now new : DeskState) → (k : BeginsShownRows s.gray all piece answer r)
     → HasOpened s old start all now → Creates now s.output put.Done new → IsStripOf k.head x → IsNewOf x s.gray s.smooth image → first ≡ new_end s.kind → BeginsDrawing image first d e → IsShowing s old start k.head all 0 piece answer (at_work r d e new)
 rows_started s old start all piece answer r x image d first e now new k h made strip made_image first_is begins = record {
   written = [];

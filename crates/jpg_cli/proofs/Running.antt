@@ -23,13 +23,13 @@ use Rattle.jpg_cli.specs.declared.desk.picture.Wanted.TheVariants.{Coefficients}
 use Rattle.jpg_cli.specs.Desk.ReadPicture.{IsReadPicture}
 use Rattle.jpg_cli.specs.Stays.{Untouched}
 use Rattle.jpg_cli.specs.Commands.{Command, IsCommand, name_of}
-use Rattle.jpg_cli.specs.Words.CommentWords.{file_told}
+use Rattle.jpg_cli.specs.Words.Files.{file_told}
 use Rattle.jpg_cli.specs.Run.{RanShow, Worked}
 use Rattle.jpg_cli.specs.Tools.Ends.{has_format}
-use Rattle.jpg_spec_words.specs.CommentWords.{WordsTold}
+use Rattle.jpg_spec_words.specs.Requests.{WordsTold}
 use Rattle.jpg_spec_words.specs.ShowWords.{ShowAsked}
 use Rattle.jpg_spec_image.specs.declared.image.EndKind.{EndKind}
-use Rattle.jpg_cli.specs.declared.words.comments.WordsStop.TheVariants as words
+use Rattle.jpg_cli.specs.declared.words.files.WordsStop.TheVariants as words
 use Rattle.jpg_cli.specs.Desk.ScriptTaken.{HasScans, StopsAtScans, names_before}
 use Rattle.jpg_cli.specs.Words.TransformWords.{script_told, transform_told}
 use Rattle.jpg_cli.specs.Outcome.{Converted}

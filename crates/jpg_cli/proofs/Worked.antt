@@ -29,8 +29,7 @@ use Rattle.jpg_spec_move.specs.Moved.{Choice, moved, moved_text}
 use Rattle.jpg_spec_move.specs.declared.transform.Transform.{Transform}
 use Rattle.jpg_spec_write.specs.ScansAsked.{Scans, standard}
 use Rattle.jpg_spec_words.specs.EncodeWords.{encoding_asked}
-use Rattle.jpg_spec_words.specs.Requests.{nothing_said}
-use Rattle.jpg_spec_words.specs.TransformWords.{ScansSource, TransformAsked, choice_asked, scans_source, transform_of}
+use Rattle.jpg_spec_words.specs.TransformWords.{ScansSource, TransformAsked, choice_asked, transform_default}
 use Rattle.jpg_spec_words.specs.Work.{back_picture, back_text, first_asked, first_picture, first_text, lines, samples_sum, turned_text, work_image, work_info}
 use Rattle.jpg_spec_words.specs.declared.answers.Usage.{Usage}
 use Rattle.jpg_spec_words.specs.declared.answers.UsageFault.TheVariants.{NoEnd}
@@ -47,7 +46,7 @@ use Rattle.jpg_cli.specs.Endings.{Added}
 use Rattle.jpg_cli.specs.Stays.{Untouched}
 use Rattle.jpg_cli.specs.Tools.Showing.{Showing, Shown, ShownBy, showing_told}
 use Rattle.jpg_cli.specs.Tools.Turned.{Transformed, Turned, Turning}
-use Rattle.jpg_cli.specs.Tools.Worked.{DidWork, HasFile, HasOutput, HoldsInput, IsReport, IsShown, ReportEnds, ReportsShown, ShowsFile, TurnsFile, work_choice}
+use Rattle.jpg_cli.specs.Tools.Worked.{DidWork, HasFile, HasOutput, HoldsInput, IsReport, IsShown, ReportEnds, ReportsShown, ShowsFile, TurnsFile, work_choice, scans_by}
 use Rattle.jpg_cli.specs.declared.desk.picture.Wanted.{Wanted}
 use Rattle.jpg_cli.specs.declared.desk.picture.Wanted.TheVariants.{Coefficients, Image}
 use Rattle.jpg_cli.specs.declared.words.djpeg.ShowWords.{ShowWords}
@@ -118,7 +117,7 @@ first_done n factors I desk now own same none h = by (subst (λ f. P f (work_ima
 -- A FILE TRANSFORMED
 
 abbrev asked_by : Transform → Bool → TransformAsked
-asked_by t progressive = transform_of (record nothing_said { transform = t; progressive = progressive })
+asked_by t progressive = record transform_default { transform = t; scans = scans_by progressive }
 
 abbrev turning_by : Choice → Turning
 turning_by c = record { before = []; input = name.In; output = name.Out; choice = c }
@@ -144,10 +143,10 @@ turned_here t progressive input desk now M holds means (inr (inr h)) = absurd (n
 abbrev asked_in : Transform → ScansSource → TransformAsked
 asked_in t scans = record (asked_by t false) { scans = scans }
 
-pub turned_done : (t : Transform) (progressive : Bool) (scans : ScansSource) (input : List ℕ) (desk now : MemoryDesk) → scans ≡ scans_source progressive None → HoldsInput input desk
+pub turned_done : (t : Transform) (progressive : Bool) (scans : ScansSource) (input : List ℕ) (desk now : MemoryDesk) → scans ≡ scans_by progressive → HoldsInput input desk
     → Transformed (asked_in t scans) (memory_state desk) why.Done (memory_state now) → TurnsFile (work_choice t progressive) input (Some now)
 turned_done t progressive scans input desk now is holds turned M means =
-    let here : Transformed (asked_in t (scans_source progressive None)) (memory_state desk) why.Done (memory_state now) =
+    let here : Transformed (asked_in t (scans_by progressive)) (memory_state desk) why.Done (memory_state now) =
     subst (λ (s : ScansSource). Transformed (asked_in t s) (memory_state desk) why.Done (memory_state now)) is turned in
     turned_here t progressive input desk now M holds means here
 
@@ -175,11 +174,6 @@ shown_done true w input desk now is holds shown M means =
     let here : HasOutput (end_text Pnm (info N false) (pixels N false true)) now =
     grown (memory_state desk).outputs (memory_outputs now) (end_text Pnm (info N false) (pixels N false true)) holds.outputs done.1.1.outputs in
     (refl, subst (λ (K : Meaning). HasOutput (end_text Pnm (info K false) (pixels K false true)) now) (sym same) here)
-
-pub shown_wrong : (has : Bool) (w : ShowWords) (u : Usage) (input : List ℕ) (s0 s1 : DeskState) → w.kind_word ≡ 2 → ShownBy has w s0 (why.Usage u) s1 → ShowsFile has input (Err (why.Usage u))
-shown_wrong true w u input s0 s1 is shown M means = absurd shown
-shown_wrong false w u input s0 s1 is shown M means =
-    (refl, same_usage u (record { fault = NoEnd; word = w.kind_word }) shown.0 ∙ ap (λ n. (let v : Usage = record { fault = NoEnd; word = n } in v)) is)
 
 pub shown_after : (has : Bool) (M : Meaning) (text input : List ℕ) (desk : MemoryDesk) (r : Result MemoryDesk Why) → HasFile M text desk → option_map (λ p. p.1) (slice_get (memory_outputs desk) 0) ≡ Some input → ShowsFile has input r → IsShown has M r
 shown_after has M text input desk r h e shows = shows M (subst (λ (b : List ℕ). Means standard_limits b M) (sym (output_is text desk input h.output e)) h.means)
@@ -219,18 +213,6 @@ report_done has n first turned back image (Ok text) so f t b i is =
     )
 report_done has n first turned back image (Err ended) so f t b i is = subst (λ (w : Why). IsReport has n (Err w)) (sym is) tt
 
--- what isn't shown isn't reported
-pub report_none : (has : Bool) (n : ℕ) (M : Meaning) (ended : Why) → IsShown has M (Err ended) → IsReport has n (Err ended)
-report_none has n M why.Done h = absurd h
-report_none has n M (why.Warned m) h = absurd h
-report_none has n M (why.Usage u) h = h
-report_none has n M (why.Refused f) h = absurd h
-report_none has n M (why.Picture p) h = absurd h
-report_none has n M (why.OpenFault w) h = absurd h
-report_none has n M (why.ReadFault w) h = absurd h
-report_none has n M why.WriteFault h = absurd h
-report_none has n M why.NoMemory h = tt
-
 -- WRITTEN
 
 untouched : (s : DeskState) → Untouched s s
@@ -252,9 +234,6 @@ work_none false n why.NoMemory s h = (inr refl, untouched s)
 pub work_done : (has : Bool) (n : ℕ) (text : List ℕ) (ended : Why) (s0 s1 : DeskState) → IsReport has n (Ok text) → ReportEnds text s0 ended s1 → DidWork has n s0 ended s1
 work_done true n text ended s0 s1 h wrote = subst (λ t. ReportEnds t s0 ended s1) h.1 wrote
 work_done false n text ended s0 s1 h wrote = absurd (let e : false ≡ true = h.0 in cc)
-
-pub report_unopened : (text : List ℕ) (s0 s1 : DeskState) → Creates s0 name.Out put.Failed s1 → ReportEnds text s0 (why.OpenFault which.Output) s1
-report_unopened text s0 s1 h = record { stopped = record { asked = noted_one s0.asked s1.asked put.Failed h.asked; outputs = h.after.1 }; opens = h.after.0 }
 
 pub report_written : (text : List ℕ) (s0 s1 s2 : DeskState) → Creates s0 name.Out put.Done s1 → Writes s1 text put.Done s2 → ReportEnds text s0 why.Done s2
 report_written text s0 s1 s2 h k = added s0 s1 s2 text h k.asked k.after

@@ -7,17 +7,19 @@ use Rattle.jpg_spec_words.specs.Words.{is_tool}
 use Rattle.jpg_spec_words.specs.EncodeWords.{EncodeAsked, encode_asked}
 use Rattle.jpg_spec_words.specs.ShowWords.{ShowAsked, show_asked}
 use Rattle.jpg_spec_words.specs.TransformWords.{TransformAsked, transform_asked}
-use Rattle.jpg_spec_words.specs.CommentWords.{FileName, standard_input, standard_output, named, FilesAsked, WordsTold, WriteAsked, words_right, words_wrong, usage_at, read_asked, write_asked}
+use Rattle.jpg_spec_words.specs.Requests.{FileName, standard_input, standard_output, named, FilesAsked, WordsTold, words_right, words_wrong, usage_at}
+use Rattle.jpg_spec_words.specs.CommentWords.{WriteAsked, read_asked, write_asked}
 use Rattle.jpg_spec_words.specs.WorkWords.{work_asked}
 use Rattle.jpg_spec_words.specs.declared.answers.UsageFault.TheVariants.{NoTool, UnknownTool}
-use Rattle.jpg_cli.specs.Words.CommentWords.{files_view, write_told}
+use Rattle.jpg_cli.specs.Words.Files.{files_view}
+use Rattle.jpg_cli.specs.Words.CommentWords.{write_told}
 use Rattle.jpg_cli.specs.Words.EncodeWords.{encode_told}
 use Rattle.jpg_cli.specs.Words.ShowWords.{show_told}
 use Rattle.jpg_cli.specs.Words.TransformWords.{transform_told}
 use Rattle.jpg_cli.specs.declared.words.Asked.{Asked}
 use Rattle.jpg_cli.specs.declared.words.Asked.TheVariants as asked
-use Rattle.jpg_cli.specs.declared.words.comments.WordsStop.{WordsStop}
-use Rattle.jpg_cli.specs.declared.words.comments.WordsStop.TheVariants as stop
+use Rattle.jpg_cli.specs.declared.words.files.WordsStop.{WordsStop}
+use Rattle.jpg_cli.specs.declared.words.files.WordsStop.TheVariants as stop
 
 -- jpegtran; djpeg; cjpeg; rdjpgcom; wrjpgcom; jpgwork, with its number
 pub data Command : Type 0 where
@@ -28,44 +30,19 @@ pub data Command : Type 0 where
   insert_comment : WriteAsked → Command
   do_work : ℕ → Command
 
--- what the files of rdjpgcom ask for, as a command
-abbrev pub read_command : WordsTold FilesAsked → WordsTold Command
-read_command (words_wrong usage) = words_wrong usage
-read_command (words_right files) = words_right (print_comments files)
-
--- and for wrjpgcom
-abbrev pub write_command : WordsTold WriteAsked → WordsTold Command
-write_command (words_wrong usage) = words_wrong usage
-write_command (words_right asked) = words_right (insert_comment asked)
-
--- and for djpeg
-abbrev pub show_command : WordsTold ShowAsked → WordsTold Command
-show_command (words_wrong usage) = words_wrong usage
-show_command (words_right asked) = words_right (show_picture asked)
-
--- and for jpegtran
-abbrev pub transform_command : WordsTold TransformAsked → WordsTold Command
-transform_command (words_wrong usage) = words_wrong usage
-transform_command (words_right asked) = words_right (transform_picture asked)
-
--- and for cjpeg
-abbrev pub encode_command : WordsTold EncodeAsked → WordsTold Command
-encode_command (words_wrong usage) = words_wrong usage
-encode_command (words_right asked) = words_right (encode_image asked)
-
--- and for jpgwork
-abbrev pub work_command : WordsTold ℕ → WordsTold Command
-work_command (words_wrong usage) = words_wrong usage
-work_command (words_right n) = words_right (do_work n)
+-- what words ask for, as a command
+abbrev pub as_command : {X : Type 0} → (X → Command) → WordsTold X → WordsTold Command
+as_command command (words_wrong usage) = words_wrong usage
+as_command command (words_right asked) = words_right (command asked)
 
 abbrev pub known_command : List ℕ → List (List ℕ) → WordsTold Command
 known_command tool words =
-    if bytes_eq tool (codes "jpegtran") then transform_command (transform_asked words)
-    else if bytes_eq tool (codes "djpeg") then show_command (show_asked words)
-    else if bytes_eq tool (codes "cjpeg") then encode_command (encode_asked words)
-    else if bytes_eq tool (codes "rdjpgcom") then read_command (read_asked 1 words)
-    else if bytes_eq tool (codes "wrjpgcom") then write_command (write_asked 1 words)
-    else work_command (work_asked words)
+    if bytes_eq tool (codes "jpegtran") then as_command transform_picture (transform_asked words)
+    else if bytes_eq tool (codes "djpeg") then as_command show_picture (show_asked words)
+    else if bytes_eq tool (codes "cjpeg") then as_command encode_image (encode_asked words)
+    else if bytes_eq tool (codes "rdjpgcom") then as_command print_comments (read_asked words)
+    else if bytes_eq tool (codes "wrjpgcom") then as_command insert_comment (write_asked words)
+    else as_command do_work (work_asked words)
 
 abbrev pub command_asked : List (List ℕ) → WordsTold Command
 command_asked [] = usage_at NoTool 0

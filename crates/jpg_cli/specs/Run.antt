@@ -4,7 +4,8 @@ use Rattle.std.specs.Io.KnownBytes.{Appends}
 use Rattle.jpg_base.specs.Desk.{DeskState, Rose}
 use Rattle.jpg_spec_words.specs.declared.answers.Why.{Why}
 use Rattle.jpg_spec_words.specs.declared.answers.Why.TheVariants as why
-use Rattle.jpg_spec_words.specs.CommentWords.{FilesAsked, WordsTold, WriteAsked, words_right, words_wrong}
+use Rattle.jpg_spec_words.specs.Requests.{FilesAsked, WordsTold, words_right, words_wrong}
+use Rattle.jpg_spec_words.specs.CommentWords.{WriteAsked}
 use Rattle.jpg_spec_words.specs.Messages.{message, status_of}
 use Rattle.jpg_spec_words.specs.ShowWords.{ShowAsked}
 use Rattle.jpg_spec_words.specs.declared.answers.UsageFault.TheVariants.{NoEnd}

@@ -1,5 +1,6 @@
 pub mod CommentWords
 pub mod EncodeWords
+pub mod Files
 pub mod Requests
 pub mod ShowWords
 pub mod Switches

@@ -20,7 +20,8 @@ pub use laws::{
 pub use program::run_program;
 pub use top::{Ended, run};
 pub use words::cjpeg_request::EncodeWords;
-pub use words::comments::{CommentFrom, Files, WordsStop, WriteWords};
+pub use words::comments::{CommentFrom, WriteWords};
 pub use words::djpeg::ShowWords;
+pub use words::files::{Files, WordsStop};
 pub use words::jpegtran::{ScriptFrom, TransformWords};
 pub use words::{Asked, read_words};

@@ -12,7 +12,7 @@ use crate::tools::jpegtran::transform;
 use crate::tools::jpgwork::do_work;
 use crate::tools::rdjpgcom::print_comments;
 use crate::tools::wrjpgcom::insert_comment;
-use crate::words::comments::WordsStop;
+use crate::words::files::WordsStop;
 use crate::words::{Asked, read_words, tool_name};
 use jpg_base::{Desk, Put};
 use jpg_pnm_bmp::ImageEnd;

@@ -1,28 +1,26 @@
 //! The words of a call: which command they name, and what they ask for.
 ghost use Rattle.std.specs.Prelude.{◌≡◌, ◌≤◌, IfOk, IfSome, IfNone, drop, length, map, true, false, string_bytes};
-ghost use Rattle.jpg_spec_words.specs.CommentWords.{read_asked, write_asked};
-ghost use Rattle.jpg_spec_words.specs.EncodeWords.{encode_asked};
-ghost use Rattle.jpg_spec_words.specs.ShowWords.{show_asked};
-ghost use Rattle.jpg_spec_words.specs.TransformWords.{transform_asked};
 ghost use Rattle.jpg_spec_words.specs.Words.{is_tool, tool_of};
-ghost use Rattle.jpg_spec_words.specs.WorkWords.{work_asked};
-ghost use Rattle.jpg_cli.specs.declared.words.comments.WordsStop.TheVariants.{Usage as wrong};
-ghost use Rattle.jpg_cli.specs.Commands.{IsCommand, command_asked, encode_command, known_command, read_command, show_command, transform_command, work_command, write_command, IsSized};
+ghost use Rattle.jpg_cli.specs.declared.words.files.WordsStop.TheVariants.{Usage as wrong};
+ghost use Rattle.jpg_cli.specs.Commands.{IsCommand, IsSized, command_asked, known_command};
 
 pub mod cjpeg;
 pub mod cjpeg_request;
 pub mod cjpeg_values;
 pub mod comments;
 pub mod djpeg;
+pub mod files;
 pub mod jpegtran;
 pub mod jpgwork;
 pub mod requests;
 pub mod switches;
+pub mod values;
 
 use crate::words::cjpeg::cjpeg_words;
 use crate::words::cjpeg_request::EncodeWords;
-use crate::words::comments::{Files, WordsStop, WriteWords, rdjpgcom_words, wrjpgcom_words};
+use crate::words::comments::{WriteWords, rdjpgcom_words, wrjpgcom_words};
 use crate::words::djpeg::{ShowWords, djpeg_words};
+use crate::words::files::{Files, WordsStop};
 use crate::words::jpegtran::{TransformWords, jpegtran_words};
 use crate::words::jpgwork::jpgwork_words;
 use jpg_spec_words::{Usage, UsageFault};
@@ -95,78 +93,15 @@ fn known_words(alloc: Global, tool: &str, words: &[String]) -> Result<Asked, Wor
     ensures asked { IsCommand (known_command tool.now (drop 1 (map string_bytes words.now))) result }
     ensures sized { IfOk result IsSized }
 {
-    if tool == "jpegtran" {
-        transform_command(alloc, words)
-    } else if tool == "djpeg" {
-        show_command(alloc, words)
-    } else if tool == "cjpeg" {
-        encode_command(alloc, words)
-    } else if tool == "rdjpgcom" {
-        read_command(alloc, words)
-    } else if tool == "wrjpgcom" {
-        write_command(alloc, words)
-    } else {
-        work_command(words)
-    }
-}
-
-fn transform_command(alloc: Global, words: &[String]) -> Result<Asked, WordsStop>
-    ensures asked { IsCommand (transform_command (transform_asked (drop 1 (map string_bytes words.now)))) result }
-    ensures sized { IfOk result IsSized }
-{
-    match jpegtran_words(alloc, words) {
-        Ok(asked) => Ok(Asked::Jpegtran(asked)),
-        Err(stop) => Err(stop),
-    }
-}
-
-fn show_command(alloc: Global, words: &[String]) -> Result<Asked, WordsStop>
-    ensures asked { IsCommand (show_command (show_asked (drop 1 (map string_bytes words.now)))) result }
-    ensures sized { IfOk result IsSized }
-{
-    match djpeg_words(alloc, words) {
-        Ok(asked) => Ok(Asked::Djpeg(asked)),
-        Err(stop) => Err(stop),
-    }
-}
-
-fn encode_command(alloc: Global, words: &[String]) -> Result<Asked, WordsStop>
-    ensures asked { IsCommand (encode_command (encode_asked (drop 1 (map string_bytes words.now)))) result }
-    ensures sized { IfOk result IsSized }
-{
-    match cjpeg_words(alloc, words) {
-        Ok(asked) => Ok(Asked::Cjpeg(asked)),
-        Err(stop) => Err(stop),
-    }
-}
-
-fn read_command(alloc: Global, words: &[String]) -> Result<Asked, WordsStop>
-    ensures asked { IsCommand (read_command (read_asked 1 (drop 1 (map string_bytes words.now)))) result }
-    ensures sized { IfOk result IsSized }
-{
-    match rdjpgcom_words(alloc, words) {
-        Ok(files) => Ok(Asked::Rdjpgcom(files)),
-        Err(stop) => Err(stop),
-    }
-}
-
-fn write_command(alloc: Global, words: &[String]) -> Result<Asked, WordsStop>
-    ensures asked { IsCommand (write_command (write_asked 1 (drop 1 (map string_bytes words.now)))) result }
-    ensures sized { IfOk result IsSized }
-{
-    match wrjpgcom_words(alloc, words) {
-        Ok(asked) => Ok(Asked::Wrjpgcom(asked)),
-        Err(stop) => Err(stop),
-    }
-}
-
-fn work_command(words: &[String]) -> Result<Asked, WordsStop>
-    ensures asked { IsCommand (work_command (work_asked (drop 1 (map string_bytes words.now)))) result }
-    ensures sized { IfOk result IsSized }
-{
-    match jpgwork_words(words) {
-        Ok(number) => Ok(Asked::Jpgwork(number)),
-        Err(usage) => Err(WordsStop::Usage(usage)),
+    match tool {
+        "jpegtran" => jpegtran_words(alloc, words).map(Asked::Jpegtran),
+        "djpeg" => djpeg_words(alloc, words).map(Asked::Djpeg),
+        "cjpeg" => cjpeg_words(alloc, words).map(Asked::Cjpeg),
+        "rdjpgcom" => rdjpgcom_words(alloc, words).map(Asked::Rdjpgcom),
+        "wrjpgcom" => wrjpgcom_words(alloc, words).map(Asked::Wrjpgcom),
+        _ => jpgwork_words(words)
+            .map(Asked::Jpgwork)
+            .map_err(WordsStop::Usage),
     }
 }
 

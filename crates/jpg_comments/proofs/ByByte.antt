@@ -3,7 +3,7 @@ use Rattle.std.proofs.Common.{◌≡◌, ℕ, ◌+◌, ◌<◌, Bool, true, fals
 use Rattle.std.proofs.lemmas.Bool.Decides.{nat_tests}
 use Rattle.std.proofs.lemmas.List.{append-nil, length-append, take_all}
 use Rattle.std.proofs.Math.Seq.{take-append-add}
-use Rattle.jpg_spec.specs.Markers.{Segment, kept_rule, has_scan, SpellsSegments, Pass, SegmentsReveal, Reached, at_soi, at_frame, at_eoi, at_segment, at_fault, at_part, Reaches}
+use Rattle.jpg_spec.specs.Markers.{Segment, kept_rule, has_scan, SpellsSegments, Pass, Reached, at_soi, at_frame, at_eoi, at_segment, at_fault, at_part, Reaches}
 use Rattle.jpg_spec_write.specs.CommentText.{comments_text, IsReadWhole}
 use Rattle.jpg_spec.specs.declared.frame.Limits.{Limits}
 use Rattle.jpg_base.specs.declared.stop.Stop.{Stop}
@@ -12,8 +12,8 @@ use Rattle.jpg_markers.specs.declared.segments.Phase.TheVariants as phase
 use Rattle.jpg_markers.specs.declared.segments.SegStep.TheVariants as step
 use Rattle.jpg_markers.specs.Reading.{Reading, AtPhase, StandsForSegments, RevealsAfter, Comes, PassesSome}
 use Rattle.jpg_comments.specs.SegmentsSoFar.{IsBegun, Appends}
-use Rattle.jpg_comments.specs.Printing.{HoldsWhole, HasPrinted, PrintsSegment, due_text, AfterPrintedByte}
-use Rattle.jpg_comments.proofs.Taken.{Tells, nothing_first, taken_on, taken_some, shows_first, begun, whole_front}
+use Rattle.jpg_comments.specs.Printing.{HoldsWhole, HasPrinted, PrintsSegment, due_text, StopsPrinting, AfterPrinted}
+use Rattle.jpg_comments.proofs.Taken.{Tells, nothing_first, taken_on, taken_some, fault_shown, within, begun, whole_front}
 
 -- WHERE A FILE IS COMPLETE: at EOI, and at the end of a scan header
 
@@ -42,33 +42,28 @@ printed_start limits r stands same none = (
 )
 
 -- SOME BYTES that complete nothing
-pub printed_some : (limits : Limits) (r next : Reading) (bytes text piece : List ℕ) (n : ℕ) → HasPrinted limits bytes text r → next.taken < limits.input → next.limits ≡ r.limits → next.taken ≡ r.taken + n → PassesSome r piece (Ok n) next
+pub printed_some : (limits : Limits) (r next : Reading) (bytes text piece : List ℕ) (n : ℕ) → HasPrinted limits bytes text r → next.taken < r.limits.input → next.limits ≡ r.limits → next.taken ≡ r.taken + n → PassesSome r piece (Ok n) next
     → HasPrinted limits (bytes ++ take n piece) text next
 printed_some limits r next bytes text piece n h room same some passes =
-    (h.0, taken_some limits (HoldsWhole limits) (reading_tells limits) r next bytes piece n h.0 refl h.1 (omega (arith, room, some)) same some passes, h.2, h.3)
+    (h.0, taken_some limits (HoldsWhole limits) (reading_tells limits) r next bytes piece n h.0 refl h.1 (let is = ap (λ (l : Limits). l.input) h.1.limited in omega (arith, room, some, is)) same some passes, h.2, h.3)
 
 -- A BYTE
 
 -- nothing is complete with it
-pub printed_on : (limits : Limits) (r next : Reading) (bytes text : List ℕ) (byte : ℕ) (x : Reached) (h : HasPrinted limits bytes text r) → r.taken < limits.input → next.limits ≡ r.limits → next.taken ≡ r.taken + 1
+pub printed_on : (limits : Limits) (r next : Reading) (bytes text : List ℕ) (byte : ℕ) (x : Reached) (h : HasPrinted limits bytes text r) → r.taken < r.limits.input → next.limits ≡ r.limits → next.taken ≡ r.taken + 1
     → reads_on x ≡ true → Reaches (kept_rule next.limits) (bytes ++ byte ∷ []) x → StandsForSegments (bytes ++ byte ∷ []) h.0 next → HasPrinted limits (bytes ++ byte ∷ []) text next
 printed_on limits r next bytes text byte x h short same one going reaches stands =
     (h.0, taken_on limits (HoldsWhole limits) (reading_tells limits) r next bytes byte h.0 h.0 x h.1 short same one going reaches stands, h.2, h.3)
 
--- EOI
 -- a fault, or no memory
-pub printed_stop : (limits : Limits) (r next : Reading) (bytes text : List ℕ) (byte : ℕ) (e : Stop) (h : HasPrinted limits bytes text r) → r.taken < limits.input → next.limits ≡ r.limits → next.taken ≡ r.taken + 1
-    → Comes (bytes ++ byte ∷ []) h.0 (Err e) next → AfterPrintedByte limits (bytes ++ byte ∷ []) text (Err e) next
+pub printed_stop : (limits : Limits) (r next : Reading) (bytes text : List ℕ) (byte : ℕ) (e : Stop) (h : HasPrinted limits bytes text r) → r.taken < r.limits.input → next.limits ≡ r.limits → next.taken ≡ r.taken + 1
+    → Comes (bytes ++ byte ∷ []) h.0 (Err e) next → StopsPrinting limits (bytes ++ byte ∷ []) text e
 printed_stop limits r next bytes text byte (stop.Fault f) h short same one comes =
-    let e : next.limits ≡ limits = same ∙ h.1.limited in
-    let was = h.1.taken in
-    let at = comes.2 in
     let all = bytes ++ byte ∷ [] in
-    let k = subst (λ l. SegmentsReveal (kept_rule l) f.fault all) e comes.0 in (
-      shows_first limits (HoldsWhole limits) bytes byte f.fault h.1.nothing (omega (arith, was, short)) k,
-      omega (arith, at, one, was, length-append bytes (byte ∷ [])),
-      (h.0, inl (subst (λ l. RevealsAfter (kept_rule l) h.0 f.fault all) e comes.1), h.3),
-    )
+    let shown = fault_shown limits (HoldsWhole limits) r next bytes byte h.0 f h.1 short same one comes.0 comes.2 in
+    let at = shown.0 in
+    let reveals = subst (λ l. RevealsAfter (kept_rule l) h.0 f.fault all) (same ∙ h.1.limited) comes.1 in
+    (shown.1, (h.0, inl (subst (λ l. RevealsAfter (kept_rule limits) h.0 f.fault l) (sym (take_all f.at all (omega (arith, at)))) reveals), h.3))
 printed_stop limits r next bytes text byte stop.NoMemory h short same one comes =
     let all = comments_text h.0 in (
       length all,
@@ -82,12 +77,13 @@ printed_stop limits r next bytes text byte stop.NoMemory h short same one comes 
 
 -- with the bytes of a segment that is complete
 pub printed_whole : (limits : Limits) (r next : Reading) (bytes text old new : List ℕ) (byte : ℕ) (result : Result Bool Stop) (h : HasPrinted limits bytes text r)
-    → r.taken < limits.input → next.limits ≡ r.limits → next.taken ≡ r.taken + 1 → next.phase ≡ phase.Between
+    → r.taken < r.limits.input → next.limits ≡ r.limits → next.taken ≡ r.taken + 1 → next.phase ≡ phase.Between
     → Comes (bytes ++ byte ∷ []) h.0 (Ok step.Whole) next → PrintsSegment next.code next.contents result old new
-    → Appends (λ all. AfterPrintedByte limits (bytes ++ byte ∷ []) all result next) text old new
+    → Appends (λ all. AfterPrinted limits (bytes ++ byte ∷ []) all result next) text old new
 printed_whole limits r next bytes text old new byte (Ok true) h short same one between comes prints =
     let e : next.limits ≡ limits = same ∙ h.1.limited in
     let was = h.1.taken in
+    let room = within h.1 short in
     let all = bytes ++ byte ∷ [] in
     let code : next.code ≡ 0xda = grind (arith, nat_tests, prints) in
     let none : due_text next.code next.contents ≡ [] = ap (λ k. due_text k next.contents) code in
@@ -100,7 +96,7 @@ printed_whole limits r next bytes text old new byte (Ok true) h short same one b
         h.0,
         inl (next.contents, subst (λ k. SpellsSegments ((k, next.contents) ∷ h.0) all) code spelled, subst (λ k. Pass (kept_rule limits) ((k, next.contents) ∷ h.0)) code passed, h.2),
         append-nil text ∙ h.3,
-        omega (arith, was, short, length-append bytes (byte ∷ [])),
+        omega (arith, was, room, length-append bytes (byte ∷ [])),
       ),
     )
 printed_whole limits r next bytes text old new byte (Ok false) h short same one between comes prints =

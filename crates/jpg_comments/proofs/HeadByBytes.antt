@@ -6,7 +6,7 @@ use Rattle.std.proofs.lemmas.Grind.{flat_map-append}
 use Rattle.std.proofs.lemmas.List.{append_assoc, append-nil, length-append, reverse-append}
 use Rattle.std.proofs.lemmas.List.Elements.{filter-append}
 use Rattle.jpg_spec_write.specs.FileText.{segment_text}
-use Rattle.jpg_spec.specs.Markers.{Segment, Rule, kept_rule, soi, has_frame, is_frame_code, code_fault_if, SpellsSegments, Pass, Between, PartOfSegment, SegmentsReveal, Reached, at_soi, at_frame, at_eoi, at_segment, at_fault, at_part, Reaches}
+use Rattle.jpg_spec.specs.Markers.{Segment, Rule, kept_rule, soi, has_frame, is_frame_code, code_fault_if, SpellsSegments, Pass, Between, PartOfSegment, Reached, at_soi, at_frame, at_eoi, at_segment, at_fault, at_part, Reaches}
 use Rattle.jpg_spec_write.specs.CommentText.{RevealsNothing, IsFileFront}
 use Rattle.jpg_spec.specs.declared.frame.Limits.{Limits}
 use Rattle.jpg_spec.specs.declared.fault.Fault.TheVariants.{UnexpectedMarker}
@@ -18,8 +18,8 @@ use Rattle.jpg_markers.specs.declared.segments.Phase.{Phase}
 use Rattle.jpg_markers.specs.declared.segments.Phase.TheVariants as phase
 use Rattle.jpg_markers.specs.declared.segments.SegStep.TheVariants as step
 use Rattle.jpg_markers.specs.Reading.{Reading, AtPhase, StandsForSegments, EndsAtEoi, Comes, PassesSome}
-use Rattle.jpg_comments.specs.Inserting.{HoldsHead, copied_head, copied_segment, HasKept, IsAtFrame, AfterHeadByte}
-use Rattle.jpg_comments.proofs.Taken.{Tells, taken_on, taken_some, shows_first, whole_front}
+use Rattle.jpg_comments.specs.Inserting.{HoldsHead, copied_head, copied_segment, HasKept, IsAtFrame, StopsHead}
+use Rattle.jpg_comments.proofs.Taken.{Tells, taken_on, taken_some, fault_shown, within, whole_front}
 
 -- WHERE A HEAD IS COMPLETE: at the marker of the frame header
 
@@ -35,29 +35,24 @@ abbrev pub head_tells : (limits : Limits) → Tells limits (HoldsHead limits)
 head_tells limits = record { goes = heads_on; faulty = λ f. refl; wholes = λ bytes w. (at_frame, (w.1.0, w.1.1.0, w.1.1.1, (w.0, w.1.1.2, w.1.1.3)), refl) }
 
 -- SOME BYTES that complete nothing
-pub kept_some : (limits : Limits) (replace : Bool) (r next : Reading) (bytes head piece : List ℕ) (n : ℕ) → HasKept limits replace bytes head r → next.taken < limits.input → next.limits ≡ r.limits → next.taken ≡ r.taken + n → PassesSome r piece (Ok n) next
+pub kept_some : (limits : Limits) (replace : Bool) (r next : Reading) (bytes head piece : List ℕ) (n : ℕ) → HasKept limits replace bytes head r → next.taken < r.limits.input → next.limits ≡ r.limits → next.taken ≡ r.taken + n → PassesSome r piece (Ok n) next
     → HasKept limits replace (bytes ++ take n piece) head next
 kept_some limits replace r next bytes head piece n h room same some passes =
-    (h.0, taken_some limits (HoldsHead limits) (head_tells limits) r next bytes piece n h.0 refl h.1 (omega (arith, room, some)) same some passes, h.2, h.3)
+    (h.0, taken_some limits (HoldsHead limits) (head_tells limits) r next bytes piece n h.0 refl h.1 (let is = ap (λ (l : Limits). l.input) h.1.limited in omega (arith, room, some, is)) same some passes, h.2, h.3)
 
 -- A BYTE
 
 -- nothing is complete with it
-pub kept_on : (limits : Limits) (replace : Bool) (r next : Reading) (bytes head : List ℕ) (byte : ℕ) (x : Reached) (h : HasKept limits replace bytes head r) → r.taken < limits.input → next.limits ≡ r.limits → next.taken ≡ r.taken + 1
+pub kept_on : (limits : Limits) (replace : Bool) (r next : Reading) (bytes head : List ℕ) (byte : ℕ) (x : Reached) (h : HasKept limits replace bytes head r) → r.taken < r.limits.input → next.limits ≡ r.limits → next.taken ≡ r.taken + 1
     → heads_on x ≡ true → Reaches (kept_rule next.limits) (bytes ++ byte ∷ []) x → StandsForSegments (bytes ++ byte ∷ []) h.0 next → HasKept limits replace (bytes ++ byte ∷ []) head next
 kept_on limits replace r next bytes head byte x h short same one going reaches stands =
     (h.0, taken_on limits (HoldsHead limits) (head_tells limits) r next bytes byte h.0 h.0 x h.1 short same one going reaches stands, h.2, h.3)
 
 -- a fault, or no memory
-pub kept_stop : (limits : Limits) (replace : Bool) (r next : Reading) (bytes head new : List ℕ) (byte : ℕ) (e : Stop) (h : HasKept limits replace bytes head r) → r.taken < limits.input → next.limits ≡ r.limits → next.taken ≡ r.taken + 1
-    → Comes (bytes ++ byte ∷ []) h.0 (Err e) next → AfterHeadByte limits replace (bytes ++ byte ∷ []) (Err e) new next
-kept_stop limits replace r next bytes head new byte (stop.Fault f) h short same one comes =
-    let was = h.1.taken in
-    let at = comes.2 in (
-      shows_first limits (HoldsHead limits) bytes byte f.fault h.1.nothing (omega (arith, was, short)) (subst (λ l. SegmentsReveal (kept_rule l) f.fault (bytes ++ byte ∷ [])) (same ∙ h.1.limited) comes.0),
-      omega (arith, at, one, was, length-append bytes (byte ∷ [])),
-    )
-kept_stop limits replace r next bytes head new byte stop.NoMemory h short same one comes = tt
+pub kept_stop : (limits : Limits) (replace : Bool) (r next : Reading) (bytes head : List ℕ) (byte : ℕ) (e : Stop) (h : HasKept limits replace bytes head r) → r.taken < r.limits.input → next.limits ≡ r.limits → next.taken ≡ r.taken + 1
+    → Comes (bytes ++ byte ∷ []) h.0 (Err e) next → StopsHead limits (bytes ++ byte ∷ []) e
+kept_stop limits replace r next bytes head byte (stop.Fault f) h short same one comes = (fault_shown limits (HoldsHead limits) r next bytes byte h.0 f h.1 short same one comes.0 comes.2).1
+kept_stop limits replace r next bytes head byte stop.NoMemory h short same one comes = tt
 
 -- EOI isn't allowed before the frame
 pub kept_eoi : (limits : Limits) (replace : Bool) (r next : Reading) (bytes all head : List ℕ) (h : HasKept limits replace bytes head r) → EndsAtEoi (kept_rule next.limits) h.0 all → ⊥
@@ -105,16 +100,17 @@ frame_at r phase.Contents bytes before h reaches =
     absurd (no_frame_part (kept_rule r.limits) bytes before h.0 h.1 (inr (r.code, k.0, k.3, inr (inr (k.1, k.2, r.contents, k.4, k.5, k.6, omega (arith, long, some))))) reaches)
 frame_at r phase.Ended bytes before h reaches = absurd h
 
-pub kept_frame : (limits : Limits) (replace : Bool) (r next : Reading) (bytes head : List ℕ) (byte : ℕ) (h : HasKept limits replace bytes head r) → r.taken < limits.input → next.limits ≡ r.limits → next.taken ≡ r.taken + 1
+pub kept_frame : (limits : Limits) (replace : Bool) (r next : Reading) (bytes head : List ℕ) (byte : ℕ) (h : HasKept limits replace bytes head r) → r.taken < r.limits.input → next.limits ≡ r.limits → next.taken ≡ r.taken + 1
     → Comes (bytes ++ byte ∷ []) h.0 (Ok step.Frame) next → IsAtFrame limits replace (bytes ++ byte ∷ []) head next
 kept_frame limits replace r next bytes head byte h short same one comes =
     let was = h.1.taken in
+    let room = within h.1 short in
     let all = bytes ++ byte ∷ [] in (
       h.0,
       subst (λ l. IsFileFront l all h.0 next.code) (same ∙ h.1.limited) (frame_at next next.phase all h.0 comes.1.1 comes.0),
       h.3,
       omega (arith, one, was, length-append bytes (byte ∷ [])),
-      omega (arith, was, short, length-append bytes (byte ∷ [])),
+      omega (arith, was, room, length-append bytes (byte ∷ [])),
     )
 
 -- A SEGMENT
@@ -185,7 +181,7 @@ whole_at r bytes before between s =
 
 -- with the last byte of a segment
 pub kept_whole : (limits : Limits) (replace : Bool) (r next : Reading) (bytes head new : List ℕ) (byte : ℕ) (h : HasKept limits replace bytes head r)
-    → r.taken < limits.input → next.limits ≡ r.limits → next.taken ≡ r.taken + 1 → next.phase ≡ phase.Between → Comes (bytes ++ byte ∷ []) h.0 (Ok step.Whole) next
+    → r.taken < r.limits.input → next.limits ≡ r.limits → next.taken ≡ r.taken + 1 → next.phase ≡ phase.Between → Comes (bytes ++ byte ∷ []) h.0 (Ok step.Whole) next
     → (length next.contents ≤ 65533 → new ≡ head ++ copied_segment replace next.code next.contents) → HasKept limits replace (bytes ++ byte ∷ []) new next
 kept_whole limits replace r next bytes head new byte h short same one between comes grows =
     let all = bytes ++ byte ∷ [] in

@@ -1,69 +1,24 @@
 -- The head of a file that gets a comment, piece by piece, and what is written after it.
-use Rattle.std.proofs.Common.{◌≡◌, ℕ, ◌+◌, ◌-◌, ◌<◌, ◌≤◌, Bool, true, List, [], ◌∷◌, ◌++◌, length, take, drop, get_or, Some, None, Ok, Err, refl, sym, ap, ◌∙◌, subst, arith, inr, Result}
+use Rattle.std.proofs.Common.{◌≡◌, ℕ, ◌+◌, ◌-◌, ◌<◌, ◌≤◌, Bool, List, [], ◌∷◌, ◌++◌, length, take, drop, Ok, Err, refl, sym, ap, ◌∙◌, subst, arith, inr, Result}
 use Rattle.std.proofs.lemmas.List.{append_assoc, append-nil, length-append, length-take-le, take_all, take-append-drop, take-append-le}
 use Rattle.std.proofs.Math.Seq.{take-append-add}
-use Rattle.jpg_spec_write.specs.CommentText.{IsHeadFault, IsInsertFault, IsInserted, inserted_head, comment_segment, IsFileFront}
+use Rattle.jpg_spec_write.specs.CommentText.{IsInsertFault, IsInserted, inserted_head, comment_segment, IsFileFront}
 use Rattle.jpg_spec.specs.declared.frame.Limits.{Limits}
 use Rattle.jpg_spec.specs.declared.fault.FaultAt.{FaultAt}
 use Rattle.jpg_spec.specs.declared.fault.Fault.TheVariants.{InputTooLong}
 use Rattle.jpg_base.specs.declared.names.NoMemory.{NoMemory}
 use Rattle.jpg_base.specs.declared.stop.Stop.{Stop}
 use Rattle.jpg_base.specs.declared.stop.Stop.TheVariants as stop
-use Rattle.jpg_markers.specs.Reading.{PassesSome, Reading}
+use Rattle.jpg_markers.specs.Reading.{Reading}
 use Rattle.jpg_comments.specs.Appending.{AppendsText}
 use Rattle.jpg_comments.specs.SegmentsSoFar.{Appends}
-use Rattle.jpg_comments.specs.Inserting.{HoldsHead, copied_head, HasKept, IsAtFrame, AfterHeadByte, AfterHeadPiece, CopiesRest, InsertsPart, InsertsUpTo}
-use Rattle.jpg_comments.proofs.Taken.{whole_front, first_fault, long_fault}
-use Rattle.jpg_comments.proofs.ByPiece.{joined, one_more, all_of_it, followed, passed_front}
-use Rattle.jpg_comments.proofs.HeadByBytes.{kept_some}
+use Rattle.jpg_comments.specs.Inserting.{HoldsHead, copied_head, IsAtFrame, StopsHead, CopiesRest, InsertsPart, InsertsUpTo}
+use Rattle.jpg_comments.proofs.Taken.{whole_front, fault_remains}
 
--- UP TO THE MARKER
-
--- some bytes that complete nothing
-pub passed_kept : (limits : Limits) (replace : Bool) (r mid : Reading) (bytes head piece : List ℕ) (used n most : ℕ) → used ≤ length piece → limits.input ≡ most → mid.taken < most → mid.limits ≡ r.limits → mid.taken ≡ r.taken + n
-    → PassesSome r (take (length piece - used) (drop used piece)) (Ok n) mid → HasKept limits replace (bytes ++ take used piece) head r → HasKept limits replace (bytes ++ take (used + n) piece) head mid
-passed_kept limits replace r mid bytes head piece used n most few same room limited some passes h =
-    subst (λ l. HasKept limits replace l head mid) (passed_front bytes piece used n few) (kept_some limits replace r mid (bytes ++ take used piece) head (take (length piece - used) (drop used piece)) n h (omega (arith, room, same)) limited some passes)
-
--- a fault at a byte, or no memory
-pub head_stopped : (limits : Limits) (replace : Bool) (bytes piece head new : List ℕ) (i : ℕ) (e : Stop) (r next : Reading) → i < length piece
-    → AfterHeadByte limits replace ((bytes ++ take i piece) ++ get_or piece i 0 ∷ []) (Err e) head r → AfterHeadPiece limits replace bytes piece (Err e) new next
-head_stopped limits replace bytes piece head new i (stop.Fault f) r next less h =
-    let all = (bytes ++ take i piece) ++ get_or piece i 0 ∷ [] in
-    let rest = drop (i + 1) piece in
-    let cut : bytes ++ piece ≡ all ++ rest = joined bytes piece (i + 1) ∙ ap (λ l. l ++ rest) (one_more bytes piece i less) in
-    let n = h.1 in
-    λ more.
-    subst (λ l. IsHeadFault limits l f.fault (f.at)) (sym (followed (bytes ++ piece) all rest more cut))
-    (subst (λ k. IsHeadFault limits (all ++ (rest ++ more)) f.fault k) (sym n) (first_fault limits (HoldsHead limits) all (rest ++ more) f.fault h.0))
-head_stopped limits replace bytes piece head new i stop.NoMemory r next less h = tt
-
--- as many bytes as may be taken
-pub head_long : (limits : Limits) (replace : Bool) (bytes piece head new : List ℕ) (i most : ℕ) (r next : Reading) → limits.input ≡ most → most ≤ r.taken → HasKept limits replace (bytes ++ take i piece) head r
-    → AfterHeadPiece limits replace bytes piece (Err (stop.Fault (record { fault = InputTooLong; at = most }))) new next
-head_long limits replace bytes piece head new i most r next same many h =
-    let taken = h.1.taken in let least = h.1.most in
-    let front = bytes ++ take i piece in
-    let rest = drop i piece in
-    let long : length front ≡ limits.input = omega (arith, taken, least, many, same) in
-    λ more.
-    subst (λ l. IsHeadFault limits l InputTooLong most) (sym (followed (bytes ++ piece) front rest more (joined bytes piece i)))
-    (subst (λ k. IsHeadFault limits (front ++ (rest ++ more)) InputTooLong k) same (long_fault limits (HoldsHead limits) front (rest ++ more) long h.1.nothing))
-
--- the marker is there
-pub head_there : (limits : Limits) (replace : Bool) (bytes piece head : List ℕ) (i used : ℕ) (r : Reading) → i < length piece → used ≡ i + 1
-    → AfterHeadByte limits replace ((bytes ++ take i piece) ++ get_or piece i 0 ∷ []) (Ok true) head r → AfterHeadPiece limits replace bytes piece (Ok (Some used)) head r
-head_there limits replace bytes piece head i used r less same h =
-    let is : bytes ++ take used piece ≡ (bytes ++ take i piece) ++ get_or piece i 0 ∷ [] = ap (λ n. bytes ++ take n piece) same ∙ one_more bytes piece i less in
-    (subst (λ l. IsAtFrame limits replace l head r) (sym is) h, omega (arith, same, less))
-
--- more is needed
-pub head_more : (limits : Limits) (replace : Bool) (bytes piece head : List ℕ) (i : ℕ) (r : Reading) → length piece ≤ i → r.taken < limits.input → HasKept limits replace (bytes ++ take i piece) head r
-    → AfterHeadPiece limits replace bytes piece (Ok None) head r
-head_more limits replace bytes piece head i r end short h =
-    let k = subst (λ l. HasKept limits replace l head r) (all_of_it bytes piece i end) h in
-    let taken = k.1.taken in
-    (k, omega (arith, taken, short))
+-- a stop before the marker remains, whatever follows
+pub head_stop_remains : (limits : Limits) (bytes rest : List ℕ) (e : Stop) → StopsHead limits bytes e → StopsHead limits (bytes ++ rest) e
+head_stop_remains limits bytes rest (stop.Fault f) shown = fault_remains limits (HoldsHead limits) bytes rest f shown
+head_stop_remains limits bytes rest stop.NoMemory shown = tt
 
 -- AFTER IT
 

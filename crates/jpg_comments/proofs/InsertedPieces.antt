@@ -1,19 +1,25 @@
 -- A file with a comment inserted, piece by piece.
-use Rattle.std.proofs.Common.{◌≡◌, ℕ, ◌<◌, ◌≤◌, Bool, List, [], ◌++◌, length, take, drop, Option, Some, None, Ok, Err, refl, sym, ◌∙◌, subst, arith, inl, Result}
+use Rattle.std.proofs.Common.{◌≡◌, ℕ, ◌<◌, ◌≤◌, Bool, List, [], ◌++◌, length, take, drop, Option, Some, None, Ok, Err, refl, sym, ap, ◌∙◌, subst, arith, inl, inr, Result}
 use Rattle.jpg_spec_write.specs.CommentText.{IsInserted, comment_segment}
 use Rattle.jpg_spec.specs.declared.frame.Limits.{Limits}
 use Rattle.jpg_base.specs.declared.names.NoMemory.{NoMemory}
+use Rattle.jpg_base.specs.declared.stop.Fed.{Fed}
+use Rattle.jpg_base.specs.declared.stop.Fed.TheVariants as fed
 use Rattle.jpg_base.specs.declared.stop.Stop.{Stop}
 use Rattle.jpg_base.specs.declared.stop.Stop.TheVariants as stop
 use Rattle.jpg_markers.specs.Reading.{Reading, reading_of}
 use Rattle.jpg_comments.specs.Appending.{AppendsText}
 use Rattle.jpg_comments.specs.SegmentsSoFar.{Appends}
-use Rattle.jpg_comments.specs.Inserting.{HasKept, AfterHeadPiece, CopiesRest, InsertsUpTo}
+use Rattle.jpg_comments.specs.Inserting.{HoldsHead, HasKept, StopsHead, KeepsPiece, keeping, AfterHeadPiece, CopiesRest, InsertsUpTo}
 use Rattle.jpg_comments.specs.WriteInserted.{StandsAt, HasInserted}
 use Rattle.jpg_comments.specs.declared.insert.Insert.{Insert}
-use Rattle.jpg_comments.proofs.Taken.{appends_then}
+use Rattle.jpg_comments.specs.declared.insert.Keeping.{Keeping}
+use Rattle.jpg_markers.specs.declared.segments.SegmentReader.{SegmentReader}
+use Rattle.jpg_spec.specs.declared.fault.Fault.TheVariants.{InputTooLong}
+use Rattle.jpg_base.specs.Intake.{FeedsPiece}
+use Rattle.jpg_comments.proofs.Taken.{long_shown, appends_then}
 use Rattle.jpg_comments.proofs.ByPiece.{joined}
-use Rattle.jpg_comments.proofs.HeadByPieces.{AfterCopy, copied, whole_head, head_inserted, head_part}
+use Rattle.jpg_comments.proofs.HeadByPieces.{head_stop_remains, AfterCopy, copied, whole_head, head_inserted, head_part}
 
 -- the invariant of a state, by its parts
 abbrev pub StandsWith : Limits → List ℕ → Bool → Option Stop → List ℕ → List ℕ → List ℕ → Option ℕ → List ℕ → Reading → Type 0
@@ -25,13 +31,33 @@ StandsWith limits comment replace stop segment bytes text taken head r =
 pub kept_of : (comment bytes text : List ℕ) (c : Insert) → c.taken ≡ None → HasInserted comment bytes text c → HasKept c.limits c.replace bytes c.head (reading_of c.reader) × (text ≡ [])
 kept_of comment bytes text c none h = subst (λ o. StandsAt c.limits comment c.replace bytes text o c.head (reading_of c.reader)) none h.3
 
--- what the reader's part of a state answers to a piece
-pub by_limits : (c : Insert) (bytes piece new : List ℕ) (result : Result (Option ℕ) Stop) (next : Reading) → HasKept c.limits c.replace bytes c.head (reading_of c.reader)
-    → (HasKept (reading_of c.reader).limits c.replace bytes c.head (reading_of c.reader) → AfterHeadPiece (reading_of c.reader).limits c.replace bytes piece result new next)
-    → AfterHeadPiece c.limits c.replace bytes piece result new next
-by_limits c bytes piece new result next h answered =
-    let same = h.1.limited in
-    subst (λ l. AfterHeadPiece l c.replace bytes piece result new next) same (answered (subst (λ l. HasKept l c.replace bytes c.head (reading_of c.reader)) (sym same) h))
+-- the answer to a piece
+abbrev pub head_answer : Result Fed Stop → Result (Option ℕ) Stop
+head_answer (Ok fed.More) = Ok None
+head_answer (Ok (fed.Done used)) = Ok (Some used)
+head_answer (Err e) = Err e
+
+pub head_fed : (k : Keeping) (old new : SegmentReader) (piece had head : List ℕ) (result answer : Result Fed Stop) → result ≡ answer → FeedsPiece (keeping k) (old, had) piece result (new, head)
+    → KeepsPiece k.replace (reading_of old) piece had (head_answer answer) head (reading_of new)
+head_fed k old new piece had head result answer is feeds limits bytes h = by answer (subst (λ r. FeedsPiece (keeping k) (old, had) piece r (new, head)) is feeds)
+  where
+    front_stops : (n : ℕ) (e : Stop) → StopsHead limits (bytes ++ take n piece) e → StopsHead limits (bytes ++ piece) e
+    front_stops n e f = subst (λ l. StopsHead limits l e) (sym (joined bytes piece n)) (head_stop_remains limits (bytes ++ take n piece) (drop n piece) e f)
+
+    by : (a : Result Fed Stop) → FeedsPiece (keeping k) (old, had) piece a (new, head) → AfterHeadPiece limits k.replace bytes piece (head_answer a) head (reading_of new)
+    by (Ok fed.More) ((same, most, now), room) =
+        let s = now limits bytes h in
+        let taken = s.1.taken in
+        let is = ap (λ (l : Limits). l.input) s.1.limited in
+        (s, omega (arith, taken, room, most, is))
+    by (Ok (fed.Done used)) ((same, most, now), some, few) = now limits bytes h
+    by (Err e) (n, few, inl (same, most, now)) = front_stops n e (now limits bytes h)
+    by (Err e) (n, few, inr ((same, most, now), full)) =
+        let s = now limits bytes h in
+        let is = sym most ∙ ap (λ (l : Limits). l.input) s.1.limited in
+        front_stops n e
+        (subst (λ x. StopsHead limits (bytes ++ take n piece) x) (sym (full.1 ∙ ap (λ m. stop.Fault (record { fault = InputTooLong; at = m })) is))
+        (long_shown limits (HoldsHead limits) (reading_of new) (bytes ++ take n piece) s.0 s.1 (subst (λ m. m ≤ (reading_of new).taken) is full.0)).1)
 
 -- a fault there, or no memory
 pub stops_before : (limits : Limits) (comment : List ℕ) (replace : Bool) (bytes piece text new : List ℕ) (e : Stop) (next : Reading) → text ≡ [] → AfterHeadPiece limits replace bytes piece (Err e) new next
@@ -51,7 +77,7 @@ goes_on_before comment bytes piece text head c next none h after =
 -- a head that is there
 pub head_at : (limits : Limits) (comment : List ℕ) (replace : Bool) (bytes piece head segment : List ℕ) (used : ℕ) (r : Reading) → segment ≡ comment_segment comment → AfterHeadPiece limits replace bytes piece (Ok (Some used)) head r
     → IsInserted limits (bytes ++ take used piece) comment replace (whole_head head segment r.code)
-head_at limits comment replace bytes piece head segment used r same h = head_inserted limits comment replace (bytes ++ take used piece) head segment r same h.0
+head_at limits comment replace bytes piece head segment used r same h = head_inserted limits comment replace (bytes ++ take used piece) head segment r same h
 
 -- if there is no memory for it
 pub stops_at_head : (limits : Limits) (comment : List ℕ) (replace : Bool) (bytes piece text whole old new : List ℕ) (used : ℕ) (e : NoMemory) → text ≡ [] → IsInserted limits (bytes ++ take used piece) comment replace whole → AppendsText whole (Err e) old new
@@ -68,9 +94,8 @@ pub copies_rest : (limits : Limits) (comment : List ℕ) (replace : Bool) (bytes
 copies_rest limits comment replace bytes piece text head segment old mid new used taken most r result same none is h wrote count copies =
     let whole = whole_head head segment r.code in
     let front = bytes ++ take used piece in
-    let at = h.0 in
     let Q : List ℕ → Type 0 = λ all. AfterCopy limits comment replace (bytes ++ piece) all result in
-    let more = copied limits comment replace front whole (drop used piece) mid new taken most result same (count ∙ at.3) at.4 (head_at limits comment replace bytes piece head segment used r is h) copies in
+    let more = copied limits comment replace front whole (drop used piece) mid new taken most result same (count ∙ h.3) h.4 (head_at limits comment replace bytes piece head segment used r is h) copies in
     let all = subst (λ l. Appends (λ t. AfterCopy limits comment replace l t result) whole mid new) (sym (joined bytes piece used)) more in
     subst (λ t. Appends Q t old new) (sym none) (appends_then (λ t. t ≡ whole) Q [] old mid new (whole, wrote, refl) (λ t e. subst (λ u. Appends Q u mid new) (sym e) all))
 

@@ -4,6 +4,7 @@ use Rattle.std.proofs.lemmas.List.{append_assoc, append-nil, length-append, leng
 use Rattle.jpg_spec.specs.Markers.{Segment, Rule, kept_rule, is_frame_code, SegmentsReveal, IsLeast, Reached, at_fault, at_part, Reaches}
 use Rattle.jpg_spec_write.specs.CommentText.{RevealsNothing, IsMarkerFault}
 use Rattle.jpg_spec.specs.declared.fault.Fault.{Fault}
+use Rattle.jpg_spec.specs.declared.fault.FaultAt.{FaultAt}
 use Rattle.jpg_spec.specs.declared.fault.Fault.TheVariants.{Truncated, InputTooLong}
 use Rattle.jpg_spec.specs.declared.frame.Limits.{Limits}
 use Rattle.jpg_spec.proofs.Reached.{reached_once, least}
@@ -11,7 +12,7 @@ use Rattle.jpg_spec.proofs.Common.{clash}
 use Rattle.jpg_markers.specs.declared.segments.Phase.{Phase}
 use Rattle.jpg_markers.specs.declared.segments.Phase.TheVariants as phase
 use Rattle.jpg_markers.specs.Reading.{Reading, AtPhase, PassesSome, StandsForSegments}
-use Rattle.jpg_comments.specs.SegmentsSoFar.{IsBegun, HasTaken, RevealsFirst, Appends}
+use Rattle.jpg_comments.specs.SegmentsSoFar.{IsBegun, HasTaken, ShowsFault, Appends}
 
 -- APPENDING
 
@@ -79,18 +80,23 @@ nothing_first limits is_whole t going = λ n long.
     let new = goes_on limits is_whole t [] at_part going (inl (inl refl)) in
     (λ fault s. new.0 fault (subst (λ l. SegmentsReveal (kept_rule limits) fault l) e s), λ w. new.1 (subst is_whole e w))
 
+-- the limit of the reader is that of the bytes
+pub within : {limits : Limits} {is_whole : List ℕ → Type 0} {bytes : List ℕ} {before : List Segment} {r : Reading} → HasTaken limits is_whole bytes before r → r.taken < r.limits.input → r.taken < limits.input
+within {limits} {is_whole} {bytes} {before} {r} h short = subst (λ (l : Limits). r.taken < l.input) h.limited short
+
 -- one more byte is taken
 pub taken_on : (limits : Limits) (is_whole : List ℕ → Type 0) (t : Tells limits is_whole) (r next : Reading) (bytes : List ℕ) (byte : ℕ) (before more : List Segment) (x : Reached)
-    → HasTaken limits is_whole bytes before r → r.taken < limits.input → next.limits ≡ r.limits → next.taken ≡ r.taken + 1
+    → HasTaken limits is_whole bytes before r → r.taken < r.limits.input → next.limits ≡ r.limits → next.taken ≡ r.taken + 1
     → t.goes x ≡ true → Reaches (kept_rule next.limits) (bytes ++ byte ∷ []) x → StandsForSegments (bytes ++ byte ∷ []) more next → HasTaken limits is_whole (bytes ++ byte ∷ []) more next
 taken_on limits is_whole t r next bytes byte before more x h short same one going reaches stands =
     let e : next.limits ≡ limits = same ∙ h.limited in
     let was = h.taken in
+    let room = within h short in
     record {
       stands = stands;
       limited = e;
       taken = omega (arith, one, was, length-append bytes (byte ∷ []));
-      most = omega (arith, one, short);
+      most = omega (arith, one, room);
       nothing = nothing_more limits is_whole t bytes byte x going (subst (λ l. Reaches (kept_rule l) (bytes ++ byte ∷ []) x) e reaches) h.nothing;
     }
 
@@ -146,21 +152,51 @@ least_longer rule front rest f h = (
   λ other less s. h.3 other less (subst (λ l. SegmentsReveal rule other l) (take-append-le (length front) front rest (omega arith)) s),
 )
 
--- the first bytes that have a fault are the first ones with it in all bytes that begin with them
-pub first_fault : (limits : Limits) (is_whole : List ℕ → Type 0) (front rest : List ℕ) (f : Fault) → RevealsFirst limits is_whole front f
-    → IsMarkerFault limits is_whole (front ++ rest) f (length front)
-first_fault limits is_whole front rest f s = (
-  λ m less w. s.0 m less (subst is_whole (take-append-le m front rest (omega (arith, less))) w),
-  inl (s.1, least_longer (kept_rule limits) front rest f (least (kept_rule limits) front f s.2)),
-)
+-- a byte that reveals a fault, whatever follows it
+pub fault_shown : (limits : Limits) (is_whole : List ℕ → Type 0) (r next : Reading) (bytes : List ℕ) (byte : ℕ) (before : List Segment) (f : FaultAt) → HasTaken limits is_whole bytes before r → r.taken < r.limits.input
+    → next.limits ≡ r.limits → next.taken ≡ r.taken + 1 → SegmentsReveal (kept_rule next.limits) f.fault (bytes ++ byte ∷ []) → f.at ≡ next.taken
+    → (f.at ≡ length (bytes ++ byte ∷ [])) × ShowsFault limits is_whole (bytes ++ byte ∷ []) f
+fault_shown limits is_whole r next bytes byte before f h short same one shown at =
+    let all = bytes ++ byte ∷ [] in
+    let was = h.taken in
+    let room = within h short in
+    let size = length-append bytes (byte ∷ []) in
+    let is : f.at ≡ length all = omega (arith, at, one, was, size) in
+    let s = subst (λ l. SegmentsReveal (kept_rule l) f.fault all) (same ∙ h.limited) shown in (
+      is,
+      λ rest.
+          subst (λ n. IsMarkerFault limits is_whole (all ++ rest) f.fault n) (sym is) (
+            λ m less w.
+                (let small : m ≤ length bytes = omega (arith, less, size) in
+                (h.nothing m small).1 (subst is_whole (take-append-le m all rest (omega (arith, less)) ∙ take-append-le m bytes (byte ∷ []) small) w)),
+            inl (omega (arith, room, was, size), least_longer (kept_rule limits) all rest f.fault (least (kept_rule limits) all f.fault s)),
+          ),
+    )
+
+-- It remains, and its place is among the bytes.
+pub fault_remains : (limits : Limits) (is_whole : List ℕ → Type 0) (bytes rest : List ℕ) (f : FaultAt) → ShowsFault limits is_whole bytes f → ShowsFault limits is_whole (bytes ++ rest) f
+fault_remains limits is_whole bytes rest f h = λ more. subst (λ l. IsMarkerFault limits is_whole l f.fault f.at) (sym (append_assoc bytes rest more)) (h (rest ++ more))
+
+pub fault_within : (limits : Limits) (is_whole : List ℕ → Type 0) (bytes : List ℕ) (f : FaultAt) → ShowsFault limits is_whole bytes f → f.at ≤ length bytes
+fault_within limits is_whole bytes f h = subst (λ l. f.at ≤ length l) (append-nil bytes) (by (bytes ++ []) (h []))
+  where
+    by : (all : List ℕ) → IsMarkerFault limits is_whole all f.fault f.at → f.at ≤ length all
+    by all (none, inl k) = k.1.0
+    by all (none, inr (inl k)) = let at = k.1 in let long = k.2 in omega (arith, at, long)
+    by all (none, inr (inr k)) = let at = k.1 in omega (arith, at)
 
 -- the most bytes that may be taken
-pub long_fault : (limits : Limits) (is_whole : List ℕ → Type 0) (front rest : List ℕ) → length front ≡ limits.input → RevealsNothing limits is_whole front
-    → IsMarkerFault limits is_whole (front ++ rest) InputTooLong (limits.input)
-long_fault limits is_whole front rest long nothing =
-    let e : take (limits.input) (front ++ rest) ≡ front = ap (λ n. take n (front ++ rest)) (sym long) ∙ whole_front front rest in (
-      λ m less w. (nothing m (omega (arith, long, less))).1 (subst is_whole (take-append-le m front rest (omega (arith, long, less))) w),
-      inr (inl (refl, refl, omega (arith, long, length-append front rest), subst (λ l. RevealsNothing limits is_whole l) (sym e) nothing)),
+pub long_shown : (limits : Limits) (is_whole : List ℕ → Type 0) (r : Reading) (bytes : List ℕ) (before : List Segment) → HasTaken limits is_whole bytes before r → limits.input ≤ r.taken
+    → (length bytes ≡ limits.input) × ShowsFault limits is_whole bytes (record { fault = InputTooLong; at = limits.input })
+long_shown limits is_whole r bytes before h many =
+    let taken = h.taken in let least = h.most in
+    let long : length bytes ≡ limits.input = omega (arith, taken, least, many) in (
+      long,
+      λ rest.
+          (let e : take limits.input (bytes ++ rest) ≡ bytes = ap (λ n. take n (bytes ++ rest)) (sym long) ∙ whole_front bytes rest in (
+            λ m less w. (h.nothing m (omega (arith, long, less))).1 (subst is_whole (take-append-le m bytes rest (omega (arith, long, less))) w),
+            inr (inl (refl, refl, omega (arith, long, length-append bytes rest), subst (λ l. RevealsNothing limits is_whole l) (sym e) h.nothing)),
+          )),
     )
 
 -- bytes that end
@@ -169,17 +205,6 @@ pub ends_fault : (limits : Limits) (is_whole : List ℕ → Type 0) (bytes : Lis
 ends_fault limits is_whole bytes short nothing = (
   λ m less w. (nothing m (omega (arith, less))).1 w,
   inr (inr (refl, refl, short, nothing)),
-)
-
--- a byte that reveals a fault
-pub shows_first : (limits : Limits) (is_whole : List ℕ → Type 0) (bytes : List ℕ) (byte : ℕ) (f : Fault) → RevealsNothing limits is_whole bytes → length bytes < limits.input → SegmentsReveal (kept_rule limits) f (bytes ++ byte ∷ [])
-    → RevealsFirst limits is_whole (bytes ++ byte ∷ []) f
-shows_first limits is_whole bytes byte f nothing short s = (
-  λ m less w.
-      (let small : m ≤ length bytes = omega (arith, less, length-append bytes (byte ∷ [])) in
-      (nothing m small).1 (subst is_whole (take-append-le m bytes (byte ∷ []) small) w)),
-  omega (arith, short, length-append bytes (byte ∷ [])),
-  s,
 )
 
 -- WHAT IS BEGUN

@@ -7,10 +7,13 @@ use Rattle.jpg_spec.specs.declared.fault.Fault.TheVariants.{InputTooLong}
 use Rattle.jpg_spec.specs.declared.frame.Limits.{Limits}
 use Rattle.jpg_base.specs.declared.stop.Stop.{Stop}
 use Rattle.jpg_base.specs.declared.stop.Stop.TheVariants as stop
-use Rattle.jpg_markers.specs.Reading.{Reading}
+use Rattle.jpg_markers.specs.Reading.{Reading, reading_of}
+use Rattle.jpg_markers.specs.declared.segments.SegmentReader.{SegmentReader}
+use Rattle.jpg_base.specs.Intake.{IntakeKind}
+use Rattle.jpg_comments.specs.declared.insert.Keeping.{Keeping}
 use Rattle.jpg_base.specs.declared.names.NoMemory.{NoMemory}
 use Rattle.jpg_comments.specs.Appending.{AppendsText}
-use Rattle.jpg_comments.specs.SegmentsSoFar.{HasTaken, RevealsFirst}
+use Rattle.jpg_comments.specs.SegmentsSoFar.{HasTaken, ShowsFault}
 
 -- THE HEAD
 
@@ -36,29 +39,40 @@ abbrev pub IsAtFrame : Limits → Bool → List ℕ → List ℕ → Reading →
 IsAtFrame limits replace bytes head r =
     (before : List Segment) × IsFileFront limits bytes before r.code × (head ≡ copied_head replace before) × (r.taken ≡ length bytes) × (length bytes ≤ limits.input)
 
--- with one more byte
-abbrev pub AfterHeadByte : Limits → Bool → List ℕ → Result Bool Stop → List ℕ → Reading → Type 0
-AfterHeadByte limits replace bytes (Ok false) head r = HasKept limits replace bytes head r
-AfterHeadByte limits replace bytes (Ok true) head r = IsAtFrame limits replace bytes head r
-AfterHeadByte limits replace bytes (Err (stop.Fault f)) head r = RevealsFirst limits (HoldsHead limits) bytes f.fault × (f.at ≡ length bytes)
-AfterHeadByte limits replace bytes (Err stop.NoMemory) head r = Unit {0}
+-- why it stops, whatever follows the bytes
+abbrev pub StopsHead : Limits → List ℕ → Stop → Type 0
+StopsHead limits bytes (stop.Fault f) = ShowsFault limits (HoldsHead limits) bytes f
+StopsHead limits bytes stop.NoMemory = Unit {0}
+
+-- by the answer to the last byte: whether the marker is there
+abbrev pub AfterHead : Limits → Bool → List ℕ → Result Bool Stop → List ℕ → Reading → Type 0
+AfterHead limits replace bytes (Ok false) head r = HasKept limits replace bytes head r
+AfterHead limits replace bytes (Ok true) head r = IsAtFrame limits replace bytes head r
+AfterHead limits replace bytes (Err s) head r = StopsHead limits bytes s
 
 -- with one more piece, of which this many bytes are used if the marker is there
 abbrev pub AfterHeadPiece : Limits → Bool → List ℕ → List ℕ → Result (Option ℕ) Stop → List ℕ → Reading → Type 0
 AfterHeadPiece limits replace bytes piece (Ok None) head r = HasKept limits replace (bytes ++ piece) head r × (length (bytes ++ piece) < limits.input)
-AfterHeadPiece limits replace bytes piece (Ok (Some used)) head r = IsAtFrame limits replace (bytes ++ take used piece) head r × (used ≤ length piece)
-AfterHeadPiece limits replace bytes piece (Err (stop.Fault f)) head r = (rest : List ℕ) → IsHeadFault limits (bytes ++ piece ++ rest) f.fault f.at
-AfterHeadPiece limits replace bytes piece (Err stop.NoMemory) head r = Unit {0}
+AfterHeadPiece limits replace bytes piece (Ok (Some used)) head r = IsAtFrame limits replace (bytes ++ take used piece) head r
+AfterHeadPiece limits replace bytes piece (Err s) head r = StopsHead limits (bytes ++ piece) s
 
 -- FOR ALL BYTES that a reader was given, of which this head was kept
-
 abbrev pub KeepsByte : Bool → Reading → ℕ → List ℕ → Result Bool Stop → List ℕ → Reading → Type 0
 KeepsByte replace old byte had answer head new =
-    (bytes : List ℕ) → HasKept old.limits replace bytes had old → AfterHeadByte old.limits replace (bytes ++ byte ∷ []) answer head new
+    (limits : Limits) (bytes : List ℕ) → HasKept limits replace bytes had old → AfterHead limits replace (bytes ++ byte ∷ []) answer head new
 
 abbrev pub KeepsPiece : Bool → Reading → List ℕ → List ℕ → Result (Option ℕ) Stop → List ℕ → Reading → Type 0
 KeepsPiece replace old piece had answer head new =
-    (bytes : List ℕ) → HasKept old.limits replace bytes had old → AfterHeadPiece old.limits replace bytes piece answer head new
+    (limits : Limits) (bytes : List ℕ) → HasKept limits replace bytes had old → AfterHeadPiece limits replace bytes piece answer head new
+
+abbrev pub keeping : Keeping → IntakeKind SegmentReader (List ℕ)
+keeping k = record {
+  after = λ from bytes answer now.
+      ((reading_of now.0).limits ≡ (reading_of from.0).limits) × ((reading_of now.0).limits.input ≡ k.most)
+      × ((limits : Limits) (before : List ℕ) → HasKept limits k.replace before from.1 (reading_of from.0) → AfterHead limits k.replace (before ++ bytes) answer now.1 (reading_of now.0));
+  taken = λ r. (reading_of r).taken;
+  most = λ r. k.most;
+}
 
 -- the last segment, whose contents a segment can have
 abbrev pub KeepsSegment : Bool → Reading → List ℕ → Result (Unit {0}) NoMemory → List ℕ → Type 0

@@ -1,15 +1,16 @@
 -- The comments of a file, printed in their order (T.81, B.2.4.5, the manual of rdjpgcom in release 6b).
-use Rattle.std.specs.Prelude.{◌≡◌, ℕ, ◌<◌, ◌≤◌, Bool, true, false, List, [], ◌∷◌, ◌++◌, length, take, Result, Ok, Err, ◌==◌, if◌then◌else◌}
+use Rattle.std.specs.Prelude.{◌≡◌, ℕ, ◌≤◌, Bool, true, false, List, [], ◌∷◌, ◌++◌, length, take, Result, Ok, Err, ◌==◌, if◌then◌else◌}
 use Rattle.jpg_spec.specs.Markers.{Segment, kept_rule, has_scan}
-use Rattle.jpg_spec_write.specs.CommentText.{printed, comments_text, IsReadWhole, SomeSegments, IsReadFault}
+use Rattle.jpg_spec_write.specs.CommentText.{printed, comments_text, IsReadWhole, SomeSegments}
 use Rattle.jpg_spec.specs.declared.fault.Fault.{Fault}
 use Rattle.jpg_spec.specs.declared.frame.Limits.{Limits}
-use Rattle.jpg_base.specs.declared.stop.Fed.{Fed}
-use Rattle.jpg_base.specs.declared.stop.Fed.TheVariants as fed
 use Rattle.jpg_base.specs.declared.stop.Stop.{Stop}
 use Rattle.jpg_base.specs.declared.stop.Stop.TheVariants as stop
-use Rattle.jpg_markers.specs.Reading.{Reading}
-use Rattle.jpg_comments.specs.SegmentsSoFar.{Appends, IsBegun, AreWholeBefore, HasTaken, RevealsFirst}
+use Rattle.jpg_markers.specs.Reading.{Reading, reading_of}
+use Rattle.jpg_markers.specs.declared.segments.SegmentReader.{SegmentReader}
+use Rattle.jpg_base.specs.Intake.{IntakeKind}
+use Rattle.jpg_comments.specs.declared.comments.Printing.{Printing}
+use Rattle.jpg_comments.specs.SegmentsSoFar.{Appends, IsBegun, AreWholeBefore, HasTaken, ShowsFault}
 
 -- these bytes begin with a complete file, as rdjpgcom reads it
 abbrev pub HoldsWhole : Limits → List ℕ → Type 0
@@ -35,31 +36,30 @@ abbrev pub PrintsPart : Limits → List ℕ → List ℕ → Type 0
 PrintsPart limits bytes text =
     (n : ℕ) × (front : ℕ) × (before : List Segment) × IsBegun (kept_rule limits) (take front bytes) before × (text ≡ take n (comments_text before))
 
--- with one more byte
-abbrev pub AfterPrintedByte : Limits → List ℕ → List ℕ → Result Bool Stop → Reading → Type 0
-AfterPrintedByte limits bytes text (Ok false) r = HasPrinted limits bytes text r
-AfterPrintedByte limits bytes text (Ok true) r = PrintsWhole limits bytes text
-AfterPrintedByte limits bytes text (Err (stop.Fault f)) r =
-    RevealsFirst limits (HoldsWhole limits) bytes f.fault × (f.at ≡ length bytes) × PrintsBefore limits bytes f.fault text
-AfterPrintedByte limits bytes text (Err stop.NoMemory) r = PrintsPart limits bytes text
+-- why it stops, whatever follows the bytes
+abbrev pub StopsPrinting : Limits → List ℕ → List ℕ → Stop → Type 0
+StopsPrinting limits bytes text (stop.Fault f) = ShowsFault limits (HoldsWhole limits) bytes f × PrintsBefore limits (take f.at bytes) f.fault text
+StopsPrinting limits bytes text stop.NoMemory = PrintsPart limits bytes text
 
--- with one more piece, whatever follows it, by the reader's state after it
-abbrev pub AfterPrintedPiece : Limits → List ℕ → List ℕ → List ℕ → Result Fed Stop → Reading → Type 0
-AfterPrintedPiece limits bytes piece text (Ok fed.More) r = HasPrinted limits (bytes ++ piece) text r × (length (bytes ++ piece) < limits.input)
-AfterPrintedPiece limits bytes piece text (Ok (fed.Done used)) r = PrintsWhole limits (bytes ++ take used piece) text × (1 ≤ used) × (used ≤ length piece)
-AfterPrintedPiece limits bytes piece text (Err (stop.Fault f)) r =
-    ((rest : List ℕ) → IsReadFault limits (bytes ++ piece ++ rest) f.fault f.at) × PrintsBefore limits (take f.at (bytes ++ piece)) f.fault text
-AfterPrintedPiece limits bytes piece text (Err stop.NoMemory) r = PrintsPart limits (bytes ++ piece) text
+-- by the answer to the last byte
+abbrev pub AfterPrinted : Limits → List ℕ → List ℕ → Result Bool Stop → Reading → Type 0
+AfterPrinted limits bytes text (Ok false) r = HasPrinted limits bytes text r
+AfterPrinted limits bytes text (Ok true) r = PrintsWhole limits bytes text
+AfterPrinted limits bytes text (Err s) r = StopsPrinting limits bytes text s
 
 -- FOR ALL BYTES that a reader was given, and the text that was appended for them
-
 abbrev pub PrintsByte : Reading → ℕ → List ℕ → Result Bool Stop → List ℕ → Reading → Type 0
 PrintsByte old byte had answer out new =
-    (bytes text : List ℕ) → HasPrinted old.limits bytes text old → Appends (λ all. AfterPrintedByte old.limits (bytes ++ byte ∷ []) all answer new) text had out
+    (limits : Limits) (bytes text : List ℕ) → HasPrinted limits bytes text old → Appends (λ all. AfterPrinted limits (bytes ++ byte ∷ []) all answer new) text had out
 
-abbrev pub PrintsPiece : Reading → List ℕ → List ℕ → Result Fed Stop → List ℕ → Reading → Type 0
-PrintsPiece old piece had answer out new =
-    (bytes text : List ℕ) → HasPrinted old.limits bytes text old → Appends (λ all. AfterPrintedPiece old.limits bytes piece all answer new) text had out
+abbrev pub printing : Printing → IntakeKind SegmentReader (List ℕ)
+printing p = record {
+  after = λ from bytes answer now.
+      ((reading_of now.0).limits ≡ (reading_of from.0).limits) × ((reading_of now.0).limits.input ≡ p.most)
+      × ((limits : Limits) (before text : List ℕ) → HasPrinted limits before text (reading_of from.0) → Appends (λ all. AfterPrinted limits (before ++ bytes) all answer (reading_of now.0)) text from.1 now.1);
+  taken = λ r. (reading_of r).taken;
+  most = λ r. p.most;
+}
 
 -- A SEGMENT
 

@@ -8,7 +8,7 @@ use Rattle.jpg_base.specs.declared.stop.Stop.{Stop}
 use Rattle.jpg_base.specs.declared.stop.Stop.TheVariants as stop
 use Rattle.jpg_markers.specs.Reading.{reading_of}
 use Rattle.jpg_comments.specs.SegmentsSoFar.{Appends}
-use Rattle.jpg_comments.specs.Printing.{HasPrinted, PrintsWhole, PrintsBefore, PrintsPart}
+use Rattle.jpg_comments.specs.Printing.{HasPrinted, PrintsWhole, StopsPrinting}
 use Rattle.jpg_comments.specs.declared.comments.Comments.{Comments}
 
 -- its limits
@@ -37,9 +37,7 @@ HasRead bytes text c = (c.stop ≡ None) × (c.done ≡ false) × (length bytes 
 abbrev pub AfterFeed : List ℕ → List ℕ → List ℕ → Result Fed Stop → Comments → Type 0
 AfterFeed bytes piece text (Ok fed.More) c = HasRead (bytes ++ piece) text c
 AfterFeed bytes piece text (Ok (fed.Done used)) c = PrintsWhole c.limits (bytes ++ take used piece) text × (1 ≤ used) × (used ≤ length piece)
-AfterFeed bytes piece text (Err (stop.Fault f)) c =
-    ((rest : List ℕ) → IsReadFault c.limits (bytes ++ piece ++ rest) f.fault f.at) × PrintsBefore c.limits (take f.at (bytes ++ piece)) f.fault text
-AfterFeed bytes piece text (Err stop.NoMemory) c = PrintsPart c.limits (bytes ++ piece) text
+AfterFeed bytes piece text (Err e) c = StopsPrinting c.limits (bytes ++ piece) text e
 
 -- for all bytes that were fed before, and the text that was appended for them
 abbrev pub Feeds : Comments → List ℕ → List ℕ → Result Fed Stop → List ℕ → Comments → Type 0

@@ -1,8 +1,9 @@
 -- A file in part: the segments read so far (T.81, B.1.1.2 to B.1.1.4).
-use Rattle.std.specs.Prelude.{◌≡◌, ◌⊎◌, ℕ, ◌<◌, ◌≤◌, true, List, [], ◌∷◌, ◌++◌, length, take}
-use Rattle.jpg_spec.specs.Markers.{Segment, Rule, kept_rule, is_frame_code, Between, BeginsSegment, PartOfSegment, SegmentsReveal}
-use Rattle.jpg_spec_write.specs.CommentText.{RevealsNothing}
+use Rattle.std.specs.Prelude.{◌≡◌, ◌⊎◌, ℕ, ◌≤◌, true, List, [], ◌∷◌, ◌++◌, length}
+use Rattle.jpg_spec.specs.Markers.{Segment, Rule, kept_rule, is_frame_code, Between, BeginsSegment, PartOfSegment}
+use Rattle.jpg_spec_write.specs.CommentText.{RevealsNothing, IsMarkerFault}
 use Rattle.jpg_spec.specs.declared.fault.Fault.{Fault}
+use Rattle.jpg_spec.specs.declared.fault.FaultAt.{FaultAt}
 use Rattle.jpg_spec.specs.declared.frame.Limits.{Limits}
 use Rattle.jpg_markers.specs.Reading.{Reading, StandsForSegments, RevealsAfter}
 
@@ -30,7 +31,6 @@ pub record HasTaken (limits : Limits) (is_whole : List ℕ → Type 0) (bytes : 
 abbrev pub Appends : (List ℕ → Type 0) → List ℕ → List ℕ → List ℕ → Type 0
 Appends P text old new = (more : List ℕ) × (new ≡ old ++ more) × P (text ++ more)
 
--- Of bytes that a reader takes one by one the last reveals this fault, and no prefix is complete.
-abbrev pub RevealsFirst : Limits → (List ℕ → Type 0) → List ℕ → Fault → Type 0
-RevealsFirst limits is_whole bytes fault =
-    ((m : ℕ) → m < length bytes → is_whole (take m bytes) → ⊥) × (length bytes ≤ limits.input) × SegmentsReveal (kept_rule limits) fault bytes
+-- The bytes show this fault, whatever follows them.
+abbrev pub ShowsFault : Limits → (List ℕ → Type 0) → List ℕ → FaultAt → Type 0
+ShowsFault limits is_whole bytes f = (rest : List ℕ) → IsMarkerFault limits is_whole (bytes ++ rest) f.fault f.at

@@ -3,12 +3,12 @@ ghost use Rattle.std.specs.Prelude.{◌≡◌, ◌<◌, ◌+◌, ◌-◌, length
 ghost use Rattle.jpg_spec.specs.FrameHeader.{AreLimits};
 ghost use Rattle.jpg_base.specs.declared.stop.Stop.{Stop as Stopped};
 ghost use Rattle.jpg_markers.specs.Reading.{reading_of};
-ghost use Rattle.jpg_comments.specs.Printing.{PrintsByte, PrintsPiece, PrintsSegment};
+ghost use Rattle.jpg_comments.specs.Printing.{PrintsByte, PrintsSegment, printing};
 
 use crate::append_printed;
 use crate::quiet::pass_some;
 use jpg_base::codes::{COM, SOS};
-use jpg_base::{Bytes, Fed, Stop};
+use jpg_base::{Bytes, Fed, Intake, Stop, check_limit, feed_piece};
 use jpg_markers::{SegStep, SegmentReader};
 use jpg_spec::Limits;
 use std::alloc::Global;
@@ -59,7 +59,10 @@ impl Comments {
         if let Some(stop) = self.stop {
             return Err(stop);
         }
-        let answer = read_piece(&mut self.reader, self.limits.input, piece, out);
+        let printing = Printing {
+            most: self.limits.input,
+        };
+        let answer = feed_piece(&printing, piece, &mut self.reader, out);
         match answer {
             Ok(Fed::More) => {}
             Ok(Fed::Done { .. }) => self.done = true,
@@ -102,33 +105,30 @@ impl Comments {
     }
 }
 
-// Reads the bytes of a piece up to the one that completes the file.
-fn read_piece(
-    reader: &mut SegmentReader,
+// How a reader takes bytes whose comments are printed, at most so many.
+#[derive(Drop)]
+struct Printing {
     most: u64,
-    piece: &[u8],
-    out: &mut Bytes,
-) -> Result<Fed, Stop>
-    requires { (reading_of reader.old).limits.input ≡ most }
-    ensures answered { PrintsPiece (reading_of reader.old) piece.now out.old result out.new (reading_of reader.new) }
-    ensures limits { (reading_of reader.new).limits ≡ (reading_of reader.old).limits }
-{
-    let mut used = 0usize;
-    while used < piece.len() {
-        if reader.taken() >= most {
-            return Err(Stop::too_long(most));
-        }
-        used += pass_some(reader, most, &piece[used..]);
-        let done = read_byte(reader, piece[used], out)?;
-        used += 1;
-        if done {
-            return Ok(Fed::Done { used: used as u64 });
-        }
+}
+
+impl Intake<SegmentReader, Bytes> for Printing {
+    ghost kind = { printing };
+
+    #[inline]
+    fn check_room(&self, reader: &SegmentReader) -> Result<(), Stop> {
+        check_limit(reader.taken(), self.most)
     }
-    if reader.taken() >= most {
-        return Err(Stop::too_long(most));
+
+    #[inline]
+    fn take_some(
+        &self,
+        bytes: &[u8],
+        reader: &mut SegmentReader,
+        out: &mut Bytes,
+    ) -> (usize, Result<bool, Stop>) {
+        let n = pass_some(reader, self.most, bytes);
+        (n + 1, read_byte(reader, bytes[n], out))
     }
-    Ok(Fed::More)
 }
 
 // Reads a byte, and answers whether the file is complete with it.

@@ -5,12 +5,12 @@ ghost use Rattle.jpg_base.specs.declared.stop.Stop.{Stop as Stopped};
 ghost use Rattle.jpg_base.specs.declared.stop.Fed.TheVariants as fed;
 ghost use Rattle.jpg_markers.specs.Reading.{reading_of};
 ghost use Rattle.jpg_comments.specs.Appending.{AppendsText};
-ghost use Rattle.jpg_comments.specs.Inserting.{CopiesRest, KeepsByte, KeepsPiece, KeepsSegment};
+ghost use Rattle.jpg_comments.specs.Inserting.{CopiesRest, KeepsByte, KeepsPiece, KeepsSegment, keeping};
 
 use crate::append_segment;
 use crate::quiet::pass_some;
 use jpg_base::codes::{COM, SOI};
-use jpg_base::{Bytes, Fed, NoMemory, Stop};
+use jpg_base::{Bytes, Fed, Intake, NoMemory, Stop, check_limit, feed_piece};
 use jpg_markers::{SegStep, SegmentReader};
 use jpg_spec::{Fault, FaultAt, Limits};
 use std::alloc::Global;
@@ -181,22 +181,38 @@ fn read_head(
     ensures limits { (reading_of reader.new).limits ≡ (reading_of reader.old).limits }
     ensures within { IfOk result (λ answer. IfSome answer (λ used. used ≤ length piece.now)) }
 {
-    let mut used = 0usize;
-    while used < piece.len() {
-        if reader.taken() >= most {
-            return Err(Stop::too_long(most));
-        }
-        used += pass_some(reader, most, &piece[used..]);
-        let there = read_byte(reader, head, replace, piece[used])?;
-        used += 1;
-        if there {
-            return Ok(Some(used));
-        }
+    match feed_piece(&Keeping { most, replace }, piece, reader, head) {
+        Ok(Fed::More) => Ok(None),
+        Ok(Fed::Done { used }) => Ok(Some(used as usize)),
+        Err(stop) => Err(stop),
     }
-    if reader.taken() >= most {
-        return Err(Stop::too_long(most));
+}
+
+// How a reader takes bytes whose segments are kept, at most so many.
+#[derive(Drop)]
+struct Keeping {
+    most: u64,
+    replace: bool,
+}
+
+impl Intake<SegmentReader, Bytes> for Keeping {
+    ghost kind = { keeping };
+
+    #[inline]
+    fn check_room(&self, reader: &SegmentReader) -> Result<(), Stop> {
+        check_limit(reader.taken(), self.most)
     }
-    Ok(None)
+
+    #[inline]
+    fn take_some(
+        &self,
+        bytes: &[u8],
+        reader: &mut SegmentReader,
+        head: &mut Bytes,
+    ) -> (usize, Result<bool, Stop>) {
+        let n = pass_some(reader, self.most, bytes);
+        (n + 1, read_byte(reader, head, self.replace, bytes[n]))
+    }
 }
 
 // Reads a byte, and answers whether the frame header's marker is complete.

@@ -9,9 +9,10 @@ use Rattle.jpg_spec.specs.declared.fault.FaultAt.{FaultAt}
 use Rattle.jpg_spec.proofs.RowsHeader.{begun_once}
 use Rattle.jpg_base.specs.declared.stop.Stop.{Stop}
 use Rattle.jpg_base.specs.declared.stop.Stop.TheVariants as stop
-use Rattle.jpg_file.specs.Read.ReadRows.{AfterFeedRow, HasReadPlainly, HasReadSoFar, IsReadingRows, RowReaderState, StopsRows, StopsSoFar}
+use Rattle.jpg_file.specs.Read.ReadFile.{ReaderState}
+use Rattle.jpg_file.specs.Read.ReadRows.{AfterFeedRow, HasReadPlainly, HasReadSoFar, StopsRows, StopsSoFar}
 use Rattle.jpg_file.specs.Read.RowFaults.{BeganAtFault, FaultsRead, RowsFault}
-use Rattle.jpg_file.specs.Read.RowPieces.{IfSparing, KeepsWork, ReadsRowPiece, RowsOpen}
+use Rattle.jpg_file.specs.Read.RowPieces.{KeepsWork, ReadsRowPiece, RowsOpen, WantsNone}
 use Rattle.jpg_file.specs.Read.RowStops.{RowsAtFault}
 use Rattle.jpg_file.specs.Read.RowsNone.{NoRowsIn, NoneRead}
 use Rattle.jpg_file.specs.Read.RowsKnown.{RowsKnown, rows_of_scan}
@@ -19,15 +20,15 @@ use Rattle.jpg_file.specs.declared.read.rows.RowWork.{RowWork}
 use Rattle.jpg_file.specs.declared.read.strip_work.StripWork.{StripWork}
 use Rattle.jpg_file.proofs.FaultsFed.{fault_rows, up_to_fault}
 use Rattle.jpg_file.proofs.RowsAnswered.{RowsBefore, before_given, before_read, some_rows}
-use Rattle.jpg_file.proofs.RowsAnswers.{plain_open, wanting_answered}
-use Rattle.jpg_file.proofs.RowsKept.{with_work}
+use Rattle.jpg_file.proofs.RowsAnswers.{wanting_answered}
+use Rattle.jpg_file.proofs.RowsKept.{plain_open, with_work}
 
 -- as the reader is seen after a fault
-abbrev pub stopped_by : RowReaderState → StripWork → FaultAt → RowReaderState
+abbrev pub stopped_by : ReaderState → StripWork → FaultAt → ReaderState
 stopped_by r work f = record (with_work r work) { stop = Some (stop.Fault f) }
 
 -- IF MCU ROWS WERE BEING READ before the piece
-rows_stopped : (r : RowReaderState) (old new : StripWork) (bytes piece : List ℕ) (m n : ℕ) (f : FaultAt) → f.at ≡ length bytes + n → RowsBefore bytes m (with_work r old) → FaultsRead r.limits old piece (Err (stop.Fault f)) new → KeepsWork old new
+rows_stopped : (r : ReaderState) (old new : StripWork) (bytes piece : List ℕ) (m n : ℕ) (f : FaultAt) → f.at ≡ length bytes + n → RowsBefore bytes m (with_work r old) → FaultsRead r.limits old piece (Err (stop.Fault f)) new → KeepsWork old new
     → StopsRows (take f.at (bytes ++ piece)) m (stopped_by r new f)
 rows_stopped r old new bytes piece m n f there b faults kept = by new.rows refl (kept.some some)
   where
@@ -47,7 +48,7 @@ rows_stopped r old new bytes piece m n f there b faults kept = by new.rows refl 
         (fault_rows (with_work r old) (stopped_by r new f) bytes (take n piece) m (b.begun).rows after b.told b.begun b.count b.tells k.0 refl has (kept.strip some) (k.1 (b.begun).before (b.begun).contents (b.begun).begins))
 
 -- IF THEY BEGAN in it, none were passed
-began_stopped : (r : RowReaderState) (new : StripWork) (bytes : List ℕ) (f : FaultAt) (after : RowWork) → new.rows ≡ Some after → BeganAtFault r.limits bytes new.strip new.file → StopsRows bytes 0 (stopped_by r new f)
+began_stopped : (r : ReaderState) (new : StripWork) (bytes : List ℕ) (f : FaultAt) (after : RowWork) → new.rows ≡ Some after → BeganAtFault r.limits bytes new.strip new.file → StopsRows bytes 0 (stopped_by r new f)
 began_stopped r new bytes f after has b = record {
   begun = record {
     before = (b.known).before;
@@ -79,7 +80,7 @@ began_stopped r new bytes f after has b = record {
             (c.blocks, subst (λ n. CompletesRows r.limits bytes n c.blocks) is c.completed)
 
 -- THE ANSWER
-pub fault_answered : (r : RowReaderState) (old new : StripWork) (bytes piece : List ℕ) (m : ℕ) (f : FaultAt) → (old.rows ≡ None → NoneRead r.limits old piece (Err (stop.Fault f)) new) → ReadsRowPiece r.limits old piece (Err (stop.Fault f)) new
+pub fault_answered : (r : ReaderState) (old new : StripWork) (bytes piece : List ℕ) (m : ℕ) (f : FaultAt) → (old.rows ≡ None → NoneRead r.limits old piece (Err (stop.Fault f)) new) → ReadsRowPiece r.limits old piece (Err (stop.Fault f)) new
     → FaultsRead r.limits old piece (Err (stop.Fault f)) new → KeepsWork old new → HasReadSoFar bytes m (with_work r old) → AfterFeedRow bytes m piece (Err (stop.Fault f)) (stopped_by r new f)
 fault_answered r old new bytes piece m f plain reads faults kept s = by s
   where
@@ -116,7 +117,7 @@ fault_answered r old new bytes piece m f plain reads faults kept s = by s
     by (inr (inr h)) = later (before_given bytes m (with_work r old) h)
 
 -- and of any stop
-pub stop_answered : (r : RowReaderState) (old new : StripWork) (bytes piece : List ℕ) (m : ℕ) (e : Stop) → IsReadingRows (with_work r old) → (old.rows ≡ None → NoneRead r.limits old piece (Err e) new) → ReadsRowPiece r.limits old piece (Err e) new
-    → FaultsRead r.limits old piece (Err e) new → IfSparing old (Err e) new → KeepsWork old new → HasReadSoFar bytes m (with_work r old) → AfterFeedRow bytes m piece (Err e) (record (with_work r new) { stop = Some e })
-stop_answered r old new bytes piece m (stop.Fault f) k plain reads faults wants kept s = fault_answered r old new bytes piece m f plain reads faults kept s
-stop_answered r old new bytes piece m stop.NoMemory k plain reads faults wants kept s = wanting_answered r old new bytes piece m k reads wants kept s
+pub stop_answered : (r : ReaderState) (old new : StripWork) (bytes piece : List ℕ) (m : ℕ) (e : Stop) → (old.rows ≡ None → NoneRead r.limits old piece (Err e) new) → ReadsRowPiece r.limits old piece (Err e) new
+    → FaultsRead r.limits old piece (Err e) new → WantsNone (Err e) new.rows → KeepsWork old new → HasReadSoFar bytes m (with_work r old) → AfterFeedRow bytes m piece (Err e) (record (with_work r new) { stop = Some e })
+stop_answered r old new bytes piece m (stop.Fault f) plain reads faults wants kept s = fault_answered r old new bytes piece m f plain reads faults kept s
+stop_answered r old new bytes piece m stop.NoMemory plain reads faults wants kept s = wanting_answered r old new bytes piece m reads wants kept s

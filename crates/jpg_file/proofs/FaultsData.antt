@@ -1,6 +1,6 @@
 -- Bits and bytes that have a fault while an MCU row is read.
-use Rattle.std.proofs.Common.{◌≡◌, ℕ, suc, ◌+◌, ◌-◌, ◌/◌, ◌%◌, ◌≤◌, Bool, true, false, cond, List, [], ◌∷◌, ◌++◌, length, take, get_or, refl, sym, ap, ◌∙◌, subst, arith, inl, inr, Err}
-use Rattle.std.specs.Prelude.{replicate}
+use Rattle.std.proofs.Common.{◌≡◌, ℕ, suc, ◌+◌, ◌-◌, ◌/◌, ◌%◌, ◌≤◌, Bool, true, false, cond, List, [], ◌∷◌, ◌++◌, length, take, get_or, refl, sym, ap, ◌∙◌, subst, arith, inl, inr, Err, Ok}
+use Rattle.std.specs.Prelude.{replicate, Result}
 use Rattle.std.proofs.lemmas.List.{append_assoc, append-nil, length-append, take_more}
 use Rattle.jpg_spec.specs.Bits.{bits_of, bits_of_bytes}
 use Rattle.jpg_spec.specs.Lists.{joined}
@@ -18,46 +18,34 @@ use Rattle.jpg_spec.proofs.TablesInForce.{scan_sound}
 use Rattle.jpg_huff.specs.Gate.{IsData}
 use Rattle.jpg_coefs.specs.Picture.{Picture, map_of}
 use Rattle.jpg_coefs.specs.Machine.{TakesBits}
+use Rattle.jpg_coefs.specs.declared.machine.Taken.{Taken}
 use Rattle.jpg_coefs.specs.declared.machine.Taken.TheVariants as taken
 use Rattle.jpg_coefs.specs.declared.machine.UnitFault.{UnitFault}
 use Rattle.jpg_coefs.proofs.Chains.{chain_stands, some_taken}
-use Rattle.jpg_file.specs.Read.InData.{ArePlain, AtWork, IsInterval, IsReadable}
+use Rattle.jpg_file.specs.Read.InData.{ArePlain, AtWork, IsInterval, IsReadable, byte_answer, scan_answer}
 use Rattle.jpg_file.specs.Read.Machine.{any_scan}
-use Rattle.jpg_file.specs.Read.RowData.{HalfData, scan_answer}
+use Rattle.jpg_file.specs.Read.RowData.{HalfData}
 use Rattle.jpg_file.specs.Read.RowMachine.{TakesRowBits}
 use Rattle.jpg_file.specs.Read.RowPlaces.{IsRowAt, scan_left}
 use Rattle.jpg_file.specs.Read.RowStops.{CompletesBefore, ShowsInRow, StopsByteInRow, StopsRestInRow, StopsRowData, StopsRowRun, StopsRunInRow}
 use Rattle.jpg_file.specs.Read.Strips.{IsFirstScan, components_of, frame_behind}
-use Rattle.jpg_file.specs.declared.read.data.DataStep.{DataStep}
-use Rattle.jpg_file.specs.declared.read.data.DataStep.TheVariants as came
 use Rattle.jpg_file.specs.declared.read.machine.ScanReader.{ScanReader}
 use Rattle.jpg_file.specs.declared.read.rows.RowWork.{RowWork}
 use Rattle.jpg_file.specs.declared.read.scan.InScan.{InScan}
-use Rattle.jpg_file.specs.declared.read.scan.ScanStep.{ScanStep}
-use Rattle.jpg_file.specs.declared.read.scan.ScanStep.TheVariants as answer
 use Rattle.jpg_file.specs.declared.read.scan.ScanWork.{ScanWork}
 use Rattle.jpg_file.proofs.FaultsPlaced.{fault_completes, fault_stops}
 use Rattle.jpg_file.proofs.RowsPlaced.{CompletesDue, PlaceStops, all_at, left_whole, place_stops, scan_of_all, stops_complete}
 use Rattle.jpg_file.proofs.RowsTold.{TellsAt, whole_at}
 use Rattle.jpg_file.proofs.Runs.{run_cut}
 use Rattle.jpg_file.proofs.RowScans.{open_half, open_scan}
-use Rattle.jpg_file.proofs.ScanBytes.{data_at, due_at, due_units, marker_at, read_at}
-use Rattle.jpg_file.proofs.ScanRuns.{front_plain, open_at, plain_at, with_bytes}
+use Rattle.jpg_file.proofs.ScanBytes.{data_at, due_at, due_units, marker_at, read_at, with_bytes}
+use Rattle.jpg_file.proofs.ScanRuns.{front_plain, open_at, plain_at}
 
 -- BITS of the current MCU row
 
-same_fault : (came_to : DataStep) (g f : UnitFault) → came_to ≡ came.Fault g → came_to ≡ came.Fault f → g ≡ f
-same_fault came_to g f a b = (let z : (let s : DataStep = came.Fault g in s) ≡ came.Fault f = sym a ∙ b in cc)
-
-pub row_stops : (w : RowWork) (m after : ScanReader) (row : Picture) (bits rest : List Bool) (g : UnitFault) (came_to : DataStep) → TakesRowBits w.left w.tops m w.coefs bits (taken.Fault g) after row rest → came_to ≡ came.Fault g → StopsRowData w m bits came_to
-row_stops w m after row bits rest g came_to t is = λ f whole e of o.
-    (let k = t whole of o in (after, k.0, rest, subst (λ (h : UnitFault). TakesBits any_scan w.left m whole bits (taken.Fault h) after k.0 rest) (same_fault came_to g f is e) k.2))
-
-pub row_goes : (w : RowWork) (m : ScanReader) (bits : List Bool) (came_to : DataStep) → came_to ≡ came.More → StopsRowData w m bits came_to
-row_goes w m bits came_to is = λ f whole e of o. absurd (let z : (let s : DataStep = came.More in s) ≡ came.Fault f = sym is ∙ e in cc)
-
-pub row_ends : (w : RowWork) (m : ScanReader) (bits : List Bool) (came_to : DataStep) → came_to ≡ came.Whole → StopsRowData w m bits came_to
-row_ends w m bits came_to is = λ f whole e of o. absurd (let z : (let s : DataStep = came.Whole in s) ≡ came.Fault f = sym is ∙ e in cc)
+pub row_stops : (w : RowWork) (m after : ScanReader) (row : Picture) (bits rest : List Bool) (answer : Taken) → TakesRowBits w.left w.tops m w.coefs bits answer after row rest → StopsRowData w m bits answer
+row_stops w m after row bits rest answer t = λ f whole e of o.
+    (let k = t whole of o in (after, k.0, rest, subst (λ (a : Taken). TakesBits any_scan w.left m whole bits a after k.0 rest) e k.2))
 
 -- of the bytes up to the one that has the fault
 first_taken : (most : ℕ) (m new : ScanReader) (now after : Picture) (bytes : List ℕ) (rest : List Bool) (n : ℕ) (f : UnitFault) → n ≡ length bytes - length rest / 8 → TakesBits any_scan most m now (bits_of_bytes bytes) (taken.Fault f) new after rest
@@ -71,10 +59,10 @@ first_taken most m new now after bytes rest n f count (bits, cut, chain) =
     ∙ sym (append_assoc (bits_of_bytes (take c.early bytes)) l.front l.rest) ∙ ap (λ z. z ++ l.rest) (sym l.cut) in
     (new, after, l.rest, (bits, is, chain))
 
-pub run_stops_row : (w : RowWork) (m after : ScanReader) (row : Picture) (bytes : List ℕ) (rest : List Bool) (n : ℕ) (g : UnitFault) (came_to : DataStep) → n ≡ length bytes - length rest / 8
-    → TakesRowBits w.left w.tops m w.coefs (bits_of_bytes bytes) (taken.Fault g) after row rest → came_to ≡ came.Fault g → StopsRowRun w m bytes n came_to
-run_stops_row w m after row bytes rest n g came_to count t is = λ f whole e of o.
-    (let k = t whole of o in first_taken w.left m after whole k.0 bytes rest n f count (subst (λ (h : UnitFault). TakesBits any_scan w.left m whole (bits_of_bytes bytes) (taken.Fault h) after k.0 rest) (same_fault came_to g f is e) k.2))
+pub run_stops_row : (w : RowWork) (m after : ScanReader) (row : Picture) (bytes : List ℕ) (rest : List Bool) (n : ℕ) (answer : Taken) → n ≡ length bytes - length rest / 8
+    → TakesRowBits w.left w.tops m w.coefs (bits_of_bytes bytes) answer after row rest → StopsRowRun w m bytes n answer
+run_stops_row w m after row bytes rest n answer count t = λ f whole e of o.
+    (let k = t whole of o in first_taken w.left m after whole k.0 bytes rest n f count (subst (λ (a : Taken). TakesBits any_scan w.left m whole (bits_of_bytes bytes) a after k.0 rest) e k.2))
 
 -- DATA BYTES of the scan
 
@@ -201,40 +189,45 @@ marker_stops limits items contents bytes p fill code w now rows of z f at work w
 
 -- WHAT THE SCAN ANSWERS: only a fault stops it
 
-pub faulty : (given : ScanStep) (came_to : DataStep) (fault : Fault) → given ≡ scan_answer came_to → given ≡ answer.Fault fault → (f : UnitFault) × (came_to ≡ came.Fault f)
-faulty given came.More fault is e = absurd (let z : (let s : ScanStep = answer.More in s) ≡ answer.Fault fault = sym is ∙ e in cc)
-faulty given came.Whole fault is e = absurd (let z : (let s : ScanStep = answer.More in s) ≡ answer.Fault fault = sym is ∙ e in cc)
-faulty given (came.Fault f) fault is e = (f, refl)
+faulty : (given : Result (Unit {0}) Fault) (came_to : Taken) (fault : Fault) → given ≡ scan_answer came_to → given ≡ Err fault → (f : UnitFault) × (came_to ≡ taken.Fault f)
+faulty given taken.More fault is e = absurd (let z : (let s : Result (Unit {0}) Fault = Ok tt in s) ≡ Err fault = sym is ∙ e in cc)
+faulty given taken.Units fault is e = absurd (let z : (let s : Result (Unit {0}) Fault = Ok tt in s) ≡ Err fault = sym is ∙ e in cc)
+faulty given taken.IntervalDone fault is e = absurd (let z : (let s : Result (Unit {0}) Fault = Ok tt in s) ≡ Err fault = sym is ∙ e in cc)
+faulty given (taken.Fault f) fault is e = (f, refl)
 
-pub goes_on : (old : InScan) (w : RowWork) (byte : ℕ) (given : ScanStep) → given ≡ answer.More → StopsByteInRow old w byte given
-goes_on old w byte given is fault limits items contents bytes whole e row d at = absurd (let z : (let s : ScanStep = answer.More in s) ≡ answer.Fault fault = sym is ∙ e in cc)
+byte_faulty : (a : Result (Unit {0}) Fault) (fault : Fault) → byte_answer a ≡ Err fault → a ≡ Err fault
+byte_faulty (Ok u) fault e = absurd cc
+byte_faulty (Err f) fault e = ap (λ (z : Fault). Err z) (let z : (let s : Result Bool Fault = Err f in s) ≡ Err fault = e in cc)
 
-pub byte_faults : (old : InScan) (w : RowWork) (byte passed : ℕ) (store : List Bool) (given : ScanStep) (came_to : DataStep) → IsData old.gate byte passed → old.work.whole ≡ false → store ≡ bits_of 8 passed → given ≡ scan_answer came_to
+pub goes_on : (old : InScan) (w : RowWork) (byte : ℕ) (given : Result Bool Fault) → given ≡ Ok false → StopsByteInRow old w byte given
+goes_on old w byte given is fault limits items contents bytes whole e row d at = absurd (let z : (let s : Result Bool Fault = Ok false in s) ≡ Err fault = sym is ∙ e in cc)
+
+pub byte_faults : (old : InScan) (w : RowWork) (byte passed : ℕ) (store : List Bool) (came : Result (Unit {0}) Fault) (given : Result Bool Fault) (came_to : Taken) → IsData old.gate byte passed → old.work.whole ≡ false → store ≡ bits_of 8 passed → came ≡ scan_answer came_to → given ≡ byte_answer came
     → StopsRowData w old.work.machine store came_to → StopsByteInRow old w byte given
-byte_faults old w byte passed store given came_to is_data due bits is stops fault limits items contents bytes whole e row d at =
-    let g = faulty given came_to fault is e in
+byte_faults old w byte passed store came given came_to is_data due bits is by stops fault limits items contents bytes whole e row d at =
+    let g = faulty came came_to fault is (byte_faulty came fault (sym by ∙ e)) in
     let shows = stops g.0 whole g.1 row (open_scan limits items contents bytes old whole d due) in
     let one : store ≡ bits_of_bytes (passed ∷ []) = bits ∙ sym (append-nil (bits_of 8 passed)) in
     bytes_stop limits items contents (bytes ++ byte ∷ []) d.place (passed ∷ []) old.work whole w g.0 d.of (data_at limits items contents bytes byte passed old whole d is_data) d.work due
     (subst (λ z. ShowsInRow w.left old.work.machine whole z g.0) one shows) at.0 at.1
 
-pub byte_extra : (old : InScan) (w : RowWork) (byte passed : ℕ) (given : ScanStep) → IsData old.gate byte passed → old.work.whole ≡ true → StopsByteInRow old w byte given
+pub byte_extra : (old : InScan) (w : RowWork) (byte passed : ℕ) (given : Result Bool Fault) → IsData old.gate byte passed → old.work.whole ≡ true → StopsByteInRow old w byte given
 byte_extra old w byte passed given is_data whole_is fault limits items contents bytes whole e row d at =
     extra_stops limits items contents (bytes ++ byte ∷ []) bytes (replicate d.fill 255) d.place passed old.work whole w d.of d.at (data_at limits items contents bytes byte passed old whole d is_data) d.work whole_is at.0 at.1
 
-pub byte_wrong : (old : InScan) (w : RowWork) (byte code : ℕ) (given : ScanStep) → old.gate ≡ true → (code ≡ 0 → ⊥) → (code ≡ 255 → ⊥) → code ≡ byte → ((fault : Fault) → given ≡ answer.Fault fault → old.work.whole ≡ true → code ≡ 0xd0 + old.work.turn → ⊥)
+pub byte_wrong : (old : InScan) (w : RowWork) (byte code : ℕ) (given : Result Bool Fault) → old.gate ≡ true → (code ≡ 0 → ⊥) → (code ≡ 255 → ⊥) → code ≡ byte → ((fault : Fault) → given ≡ Err fault → old.work.whole ≡ true → code ≡ 0xd0 + old.work.turn → ⊥)
     → StopsByteInRow old w byte given
 byte_wrong old w byte code given gate z f same wrong fault limits items contents bytes whole e row d at =
     let m = marker_at limits items contents bytes code old whole d gate z f in
     let k = marker_stops limits items contents (bytes ++ code ∷ []) d.place m.fill code old.work whole w d.of z f m.at m.work (wrong fault e) at.0 at.1 in
     subst (λ n. CompletesBefore limits (bytes ++ n ∷ []) (segments_of items) contents w) same k
 
-pub rest_faults : (old : InScan) (w : RowWork) (given : ScanStep) (came_to : DataStep) → given ≡ scan_answer came_to → StopsRowData w old.work.machine w.waiting came_to → StopsRestInRow old w given
+pub rest_faults : (old : InScan) (w : RowWork) (given : Result (Unit {0}) Fault) (came_to : Taken) → given ≡ scan_answer came_to → StopsRowData w old.work.machine w.waiting came_to → StopsRestInRow old w given
 rest_faults old w given came_to is stops fault limits items contents bytes whole e row h at =
     let g = faulty given came_to fault is e in
     half_stops limits items contents bytes w.waiting old whole w g.0 h (stops g.0 whole g.1 row (open_half limits items contents bytes w.waiting old whole h)) at.0 at.1
 
-pub run_faults : (old : InScan) (w : RowWork) (run : List ℕ) (n : ℕ) (given : ScanStep) (came_to : DataStep) → n ≤ length run → old.gate ≡ false → old.work.whole ≡ false → ArePlain run → given ≡ scan_answer came_to
+pub run_faults : (old : InScan) (w : RowWork) (run : List ℕ) (n : ℕ) (given : Result (Unit {0}) Fault) (came_to : Taken) → n ≤ length run → old.gate ≡ false → old.work.whole ≡ false → ArePlain run → given ≡ scan_answer came_to
     → StopsRowRun w old.work.machine run n came_to → StopsRunInRow old w run n given
 run_faults old w run n given came_to few gate due plain is stops fault limits items contents bytes whole e row d at =
     let g = faulty given came_to fault is e in

@@ -11,7 +11,8 @@ use Rattle.jpg_spec.specs.RowsTold.{picture_so_far}
 use Rattle.jpg_spec.specs.declared.frame.Limits.{Limits}
 use Rattle.jpg_spec.proofs.RowsHeader.{begun_once}
 use Rattle.jpg_file.specs.Read.FirstHeader.{IsFirstHeaderOf}
-use Rattle.jpg_file.specs.Read.ReadRows.{HasBegunRows, RowReaderState, StopsRows}
+use Rattle.jpg_file.specs.Read.ReadFile.{ReaderState}
+use Rattle.jpg_file.specs.Read.ReadRows.{HasBegunRows, StopsRows}
 use Rattle.jpg_file.specs.Read.RowsKnown.{TellsStrip, rows_of_scan}
 use Rattle.jpg_file.specs.Read.RowStops.{RowsAtFault}
 use Rattle.jpg_file.specs.Read.RowTurns.{unfinished}
@@ -37,7 +38,7 @@ fault_given limits bytes more before contents m rows told begins count tells (in
 
 -- so a reader stops that had begun to pass them; `rows` is the current MCU row before the fault, and `r` the reader
 -- after it
-pub fault_rows : (old r : RowReaderState) (bytes more : List ℕ) (m : ℕ) (rows after : RowWork) (told : Blocks) → (b : HasBegunRows bytes old) → m + unfinished rows ≡ rows_of_scan old.limits b.before b.contents → TellsRows old.limits bytes m told
+pub fault_rows : (old r : ReaderState) (bytes more : List ℕ) (m : ℕ) (rows after : RowWork) (told : Blocks) → (b : HasBegunRows bytes old) → m + unfinished rows ≡ rows_of_scan old.limits b.before b.contents → TellsRows old.limits bytes m told
     → RowsAtFault old.limits (bytes ++ more) rows → r.limits ≡ old.limits → r.rows ≡ Some after → r.strip ≡ old.strip → IsFirstHeaderOf old.limits (bytes ++ more) r.file.head → StopsRows (bytes ++ more) m r
 fault_rows old r bytes more m rows after told b count tells k same has strip head =
     let c = fault_given old.limits bytes more b.before b.contents m rows told b.begins count tells k in

@@ -15,15 +15,16 @@ use Rattle.jpg_file.specs.Read.RowPieces.{RowsGo, RowsOpen}
 use Rattle.jpg_file.specs.Read.RowStops.{RowsAtFault, StopsRest, StopsRun}
 use Rattle.jpg_file.specs.Read.RowTurns.{unfinished}
 use Rattle.jpg_file.specs.Read.RowsKnown.{KnowsRows, RowsKnown}
-use Rattle.jpg_file.specs.Read.Strips.{CountsStrip, GoesByRow, IfStops, StandsByRow, StripGoes, StripStands, TakesResumed, TakesStrip}
+use Rattle.jpg_file.specs.Read.Step.{IfStops}
+use Rattle.jpg_file.specs.Read.Strips.{CountsStrip, GoesByRow, StandsByRow, StripGoes, StripStands, TakesResumed, TakesStrip}
 use Rattle.jpg_file.specs.declared.read.file.FileWork.{FileWork}
 use Rattle.jpg_file.specs.declared.read.first_header.Head.{Head}
-use Rattle.jpg_file.specs.declared.read.row_reader.FedRow.{FedRow}
+use Rattle.jpg_file.specs.declared.read.row_pieces.FedRow.{FedRow}
 use Rattle.jpg_file.specs.declared.read.rows.RowWork.{RowWork}
 use Rattle.jpg_file.specs.declared.read.strip_head.StripHead.{StripHead}
 use Rattle.jpg_file.specs.declared.read.strip_work.StripWork.{StripWork}
-use Rattle.jpg_file.specs.declared.read.strips.StripStep.{StripStep}
-use Rattle.jpg_file.specs.declared.read.strips.StripStep.TheVariants as step
+use Rattle.jpg_file.specs.declared.read.step.Step.{Step}
+use Rattle.jpg_file.specs.declared.read.step.Step.TheVariants as step
 use Rattle.jpg_file.proofs.FaultsFed.{goes_completes}
 use Rattle.jpg_file.proofs.FirstHeaders.{has_longer}
 use Rattle.jpg_file.proofs.PieceSteps.{counted, front_is, front_of, joined, within}
@@ -146,7 +147,7 @@ long_faulted limits bytes piece done old work many go counts known = subst (λ (
         (rows_fault limits bytes (take done piece) [] old mid work.strip work.file work c (open_head limits front (Some mid) work.file g.stands) knows here (ap is_some has) refl refl)
 
 -- BITS that waited have the fault
-pub resumed_fault : (limits : Limits) (bytes piece : List ℕ) (e : Stop) (old new : StripWork) → TakesResumed old (step.Ended e) new → (is_some old.rows ≡ false → (let a : StripStep = step.Ended e in a) ≡ step.More) → new.file.head ≡ old.file.head
+pub resumed_fault : (limits : Limits) (bytes piece : List ℕ) (e : Stop) (old new : StripWork) → TakesResumed old (step.Ended e) new → (is_some old.rows ≡ false → (let a : Step = step.Ended e in a) ≡ step.More) → new.file.head ≡ old.file.head
     → FaultsResumed old (step.Ended e) → RowsOpen limits bytes old.rows old.file → FaultsFed limits bytes piece (Err e) old.rows new
 resumed_fault limits bytes piece stop.NoMemory old new took plain head faults h = tt
 resumed_fault limits bytes piece (stop.Fault f) old new took plain head faults h = subst (λ (x : List ℕ). RowsFault limits bytes x old.rows new new.rows) (sym is) (by old.rows refl h.stands)
@@ -158,7 +159,7 @@ resumed_fault limits bytes piece (stop.Fault f) old new took plain head faults h
     is = front_of bytes piece (bytes ++ piece) f.at shown.0 refl
 
     by : (o : Option RowWork) → old.rows ≡ o → StripStands limits bytes o old.file → RowsFault limits bytes bytes o new new.rows
-    by None none g = (let z : (let a : StripStep = step.Ended (stop.Fault f) in a) ≡ step.More = plain (ap is_some none) in absurd cc)
+    by None none g = (let z : (let a : Step = step.Ended (stop.Fault f) in a) ≡ step.More = plain (ap is_some none) in absurd cc)
     by (Some rows) has g =
         let at : limits_of old.file ≡ limits = open_limits limits bytes (Some rows) old.file g in
         let k = faults rows f bytes has refl (subst (λ (l : Limits). StandsByRow l bytes old.file rows) (sym at) g) in (
@@ -185,12 +186,12 @@ faults_then limits bytes piece (Err (stop.Fault f)) a b new stays counts k = by 
 some_same : (a b : RowWork) → Some a ≡ Some b → a ≡ b
 some_same a b e = cc
 
-pub resumed_rows : (old : StripWork) (given : RowWork) (answer : StripStep) → old.rows ≡ Some given → StopsRest old.file given answer → FaultsResumed old answer
+pub resumed_rows : (old : StripWork) (given : RowWork) (answer : Step) → old.rows ≡ Some given → StopsRest old.file given answer → FaultsResumed old answer
 resumed_rows old given answer has stops = λ rows f bytes is shows g.
     let same : given ≡ rows = some_same given rows (sym has ∙ is) in
     subst (λ (w : RowWork). RowsAtFault (limits_of old.file) bytes w) same (stops f bytes shows (subst (λ (w : RowWork). StandsByRow (limits_of old.file) bytes old.file w) (sym same) g))
 
-pub some_faults : (old : StripWork) (given : RowWork) (run : List ℕ) (n : ℕ) (answer : StripStep) → old.rows ≡ Some given → StopsRun old.file given run n answer → FaultsSome old run n answer
+pub some_faults : (old : StripWork) (given : RowWork) (run : List ℕ) (n : ℕ) (answer : Step) → old.rows ≡ Some given → StopsRun old.file given run n answer → FaultsSome old run n answer
 some_faults old given run n answer has stops = λ rows f bytes is shows g.
     let same : given ≡ rows = some_same given rows (sym has ∙ is) in
     subst (λ (w : RowWork). RowsAtFault (limits_of old.file) (bytes ++ take n run) w) same (stops f bytes shows (subst (λ (w : RowWork). GoesByRow (limits_of old.file) bytes old.file w) (sym same) g))

@@ -29,13 +29,15 @@ use Rattle.jpg_file.specs.Read.FirstHeader.{HasHead, HasNoHead, IsFirstHeaderOf}
 use Rattle.jpg_file.specs.declared.read.first_header.Head.{Head}
 use Rattle.jpg_file.specs.Read.SegmentState.{told_by}
 use Rattle.jpg_file.specs.Read.Items.{AddsNoScan, AfterItem, AtPlace, AfterSegment, BetweenItems, IsOfMarker}
-use Rattle.jpg_file.specs.Read.Reading.{AfterHead, AfterItemByte, AfterScanByte, HeadWhole, Itemising, Scanning, TakesHead, TakesRunOfScan}
+use Rattle.jpg_file.specs.Read.Reading.{AfterHead, AfterItemByte, AfterScanByte, HeadWhole, Itemising, Scanning, TakesHead, TakesRunOfScan, item_answer}
 use Rattle.jpg_file.specs.declared.read.scan.InScan.{InScan}
 use Rattle.jpg_file.specs.Read.File.{AfterFileByte, AfterFileStep, BesideItems, KeepsBytes, MakesPicture, TakesSome, EndsFile, EndStands, HasRoom, NotesHead, RoomMade, limits_of, HeadStands, PictureMade, PictureSoFar, StandsForFile, StandsBetween, StandsInsideScan}
 use Rattle.jpg_file.specs.declared.read.scan_history.ScanHistory.{ScanHistory}
 use Rattle.jpg_file.specs.declared.read.reading.Reading.{Reading}
 use Rattle.jpg_file.specs.declared.read.items.ItemStep.{ItemStep}
 use Rattle.jpg_file.specs.declared.read.items.ItemStep.TheVariants as step
+use Rattle.jpg_file.specs.declared.read.step.Step.{Step}
+use Rattle.jpg_file.specs.declared.read.step.Step.TheVariants as came
 use Rattle.jpg_file.specs.declared.read.file.FileWork.{FileWork}
 use Rattle.jpg_file.proofs.ScanHistories.{begun_goes_on}
 use Rattle.jpg_file.proofs.FirstHeaders.{between_header, has_longer, has_more, no_head, noted}
@@ -204,7 +206,7 @@ head_whole limits bytes old new h room =
     }
 
 -- the header is taken with the room that was made
-pub head_after : (limits : Limits) (bytes : List ℕ) (old room : FileWork) (answer : ItemStep) (r : Reading) (b : ScanHistory) → (h : HeadStands limits bytes old) → HasRoom old room → TakesHead room.reading room.begun answer r b
+pub head_after : (limits : Limits) (bytes : List ℕ) (old room : FileWork) (answer : Result (Unit {0}) FaultAt) (r : Reading) (b : ScanHistory) → (h : HeadStands limits bytes old) → HasRoom old room → TakesHead room.reading room.begun answer r b
     → AfterHead limits bytes h.items room.reading.items answer r b
 head_after limits bytes old room answer r b h made takes =
     let same : limits_of room ≡ limits = ap (λ i. i.limits) made.items ∙ (h.at).bounded.1 in
@@ -219,10 +221,10 @@ unbroken limits items contents bytes r s =
     let rule = (((s.at).at).allowed).1 in
     subst (λ c. contents_rule limits (segments_of items) 0xda c ≡ None) of.1 (subst (λ (l : List Item). contents_rule limits (segments_of l) 0xda place.contents ≡ None) of.0 rule)
 
-pub head_goes : (limits : Limits) (bytes : List ℕ) (old room taken new : FileWork) → (h : HeadStands limits bytes old) → HasRoom old room → room.head ≡ old.head → TakesHead room.reading room.begun step.More taken.reading taken.begun → taken.head ≡ room.head → NotesHead taken new
+pub head_goes : (limits : Limits) (bytes : List ℕ) (old room taken new : FileWork) → (h : HeadStands limits bytes old) → HasRoom old room → room.head ≡ old.head → TakesHead room.reading room.begun (Ok tt) taken.reading taken.begun → taken.head ≡ room.head → NotesHead taken new
     → StandsForFile limits bytes new
 head_goes limits bytes old room taken new h made unchanged takes kept notes =
-    let a = head_after limits bytes old room step.More taken.reading taken.begun h made takes in
+    let a = head_after limits bytes old room (Ok tt) taken.reading taken.begun h made takes in
     let contents = (reading_of room.reading.items.segments).contents in
     let same : (reading_of old.reading.items.segments).contents ≡ contents = ap (λ i. (reading_of i.segments).contents) (sym made.items) in
     let before : List Segment = (0xda, contents) ∷ segments_of h.items in
@@ -250,11 +252,12 @@ no_room old new (Ok done) made e = cc
 no_room old new (Err w) made e = made
 
 -- if more is known of what needs memory
-pub asked : (a b : Type 0) → (a → b) → (limits : Limits) (bytes : List ℕ) (answer : Result Bool Stop) (w : FileWork) → AfterFileByte a limits bytes answer w → AfterFileByte b limits bytes answer w
-asked a b f limits bytes (Ok false) w k = k
-asked a b f limits bytes (Ok true) w k = k
-asked a b f limits bytes (Err (stop.Fault e)) w k = k
-asked a b f limits bytes (Err stop.NoMemory) w k = f k
+pub asked : (a b : Type 0) → (a → b) → (limits : Limits) (bytes : List ℕ) (answer : Step) (w : FileWork) → AfterFileByte a limits bytes answer w → AfterFileByte b limits bytes answer w
+asked a b f limits bytes came.More w k = k
+asked a b f limits bytes came.Row w k = k
+asked a b f limits bytes came.Whole w k = k
+asked a b f limits bytes (came.Ended (stop.Fault e)) w k = k
+asked a b f limits bytes (came.Ended stop.NoMemory) w k = f k
 
 -- if a scan is being read, and if none is
 pub inside_of : (limits : Limits) (bytes : List ℕ) (w : FileWork) → StandsForFile limits bytes w → is_some w.reading.scan ≡ true → StandsInsideScan limits bytes w
@@ -318,7 +321,7 @@ head_left limits bytes w e = head_by limits bytes (segments_of (e.ends).items) w
 abbrev pub file_mid : FileWork → Reading → FileWork
 file_mid w r = record w { reading = r }
 
-run_before : (limits : Limits) (front : List ℕ) (w : FileWork) (run : List ℕ) (n : ℕ) (answer : ItemStep) (r : Reading) → (t : TakesRunOfScan w.reading run n answer r) → is_some w.reading.scan ≡ true → w.reading.taken + length run ≤ limits.input
+run_before : (limits : Limits) (front : List ℕ) (w : FileWork) (run : List ℕ) (n : ℕ) (answer : Result (Unit {0}) FaultAt) (r : Reading) → (t : TakesRunOfScan w.reading run n answer r) → is_some w.reading.scan ≡ true → w.reading.taken + length run ≤ limits.input
     → StandsForFile limits front w → StandsForFile limits (front ++ take t.early run) (file_mid w t.mid)
 run_before limits front w run n answer r t some room k =
     let s = inside_of limits front w k some in
@@ -335,46 +338,46 @@ run_before limits front w run n answer r t some room k =
       head = has_longer limits front (take t.early run) (front ++ take t.early run) before w.head refl s.head;
     })
 
-run_last : (limits : Limits) (front : List ℕ) (w : FileWork) (run : List ℕ) (n : ℕ) (answer : ItemStep) (r : Reading) → (t : TakesRunOfScan w.reading run n answer r) → w.reading.taken + length run ≤ limits.input
-    → StandsForFile limits front (file_mid w t.mid) → AfterFileStep (t.mid).scan limits (front ++ slice_index run t.early ∷ []) answer (file_mid w r)
+run_last : (limits : Limits) (front : List ℕ) (w : FileWork) (run : List ℕ) (n : ℕ) (answer : Result (Unit {0}) FaultAt) (r : Reading) → (t : TakesRunOfScan w.reading run n answer r) → w.reading.taken + length run ≤ limits.input
+    → StandsForFile limits front (file_mid w t.mid) → AfterFileStep (t.mid).scan limits (front ++ slice_index run t.early ∷ []) (item_answer answer) (file_mid w r)
 run_last limits front w run n answer r t room k =
     let s = inside_of limits front (file_mid w t.mid) k t.inside in
     let low = t.within in
     let taken = t.taken in
     let count = (s.at).count in
-    after_inside limits front (slice_index run t.early ∷ []) answer (file_mid w t.mid) (file_mid w r) s (t.last limits s.items s.contents front s.at) refl refl
+    after_inside limits front (slice_index run t.early ∷ []) (item_answer answer) (file_mid w t.mid) (file_mid w r) s (t.last limits s.items s.contents front s.at) refl refl
     (omega (arith, room, low, taken, count, length-append front (slice_index run t.early ∷ [])))
 
 room_by : (limits : Limits) (w : FileWork) (run : List ℕ) → limits_of w ≡ limits → w.reading.taken + length run ≤ (limits_of w).input → w.reading.taken + length run ≤ limits.input
 room_by limits w run same room = subst (λ (l : Limits). w.reading.taken + length run ≤ l.input) same room
 
-room_left : (limits : Limits) (w : FileWork) (run : List ℕ) (n : ℕ) (answer : ItemStep) (r : Reading) → (t : TakesRunOfScan w.reading run n answer r) → w.reading.taken + length run ≤ limits.input → (t.mid).taken < limits.input
+room_left : (limits : Limits) (w : FileWork) (run : List ℕ) (n : ℕ) (answer : Result (Unit {0}) FaultAt) (r : Reading) → (t : TakesRunOfScan w.reading run n answer r) → w.reading.taken + length run ≤ limits.input → (t.mid).taken < limits.input
 room_left limits w run n answer r t room = let low = t.within in let taken = t.taken in omega (arith, room, low, taken)
 
-byte_of : (before : Option InScan) (asks : Type 0) (limits : Limits) (bytes : List ℕ) (w : FileWork) (f : FaultAt) → AfterFileStep before limits bytes (step.Fault f) w → AfterFileByte asks limits bytes (Err (stop.Fault f)) w
+byte_of : (before : Option InScan) (asks : Type 0) (limits : Limits) (bytes : List ℕ) (w : FileWork) (f : FaultAt) → AfterFileStep before limits bytes (step.Fault f) w → AfterFileByte asks limits bytes (came.Ended (stop.Fault f)) w
 byte_of before asks limits bytes w f (shown, at) = (at, shown)
 
-pub run_more : (w : FileWork) (run : List ℕ) (n : ℕ) (r : Reading) → is_some w.reading.scan ≡ true → w.reading.taken + length run ≤ (limits_of w).input → TakesRunOfScan w.reading run n step.More r → TakesSome w run n (Ok false) (file_mid w r)
+pub run_more : (w : FileWork) (run : List ℕ) (n : ℕ) (r : Reading) → is_some w.reading.scan ≡ true → w.reading.taken + length run ≤ (limits_of w).input → TakesRunOfScan w.reading run n (Ok tt) r → TakesSome w run n came.More (file_mid w r)
 run_more w run n r some room t = record {
   mid = file_mid w t.mid;
   early = t.early;
   count = t.count;
   within = t.within;
   head = tt;
-  room = λ limits front k same. room_left limits w run n step.More r t (room_by limits w run same room);
-  before = λ limits front k same. run_before limits front w run n step.More r t some (room_by limits w run same room) k;
-  last = λ limits front k same. run_last limits front w run n step.More r t (room_by limits w run same room) k;
+  room = λ limits front k same. room_left limits w run n (Ok tt) r t (room_by limits w run same room);
+  before = λ limits front k same. run_before limits front w run n (Ok tt) r t some (room_by limits w run same room) k;
+  last = λ limits front k same. run_last limits front w run n (Ok tt) r t (room_by limits w run same room) k;
 }
 
-pub run_fault : (w : FileWork) (run : List ℕ) (n : ℕ) (r : Reading) (f : FaultAt) → is_some w.reading.scan ≡ true → w.reading.taken + length run ≤ (limits_of w).input → TakesRunOfScan w.reading run n (step.Fault f) r
-    → TakesSome w run n (Err (stop.Fault f)) (file_mid w r)
+pub run_fault : (w : FileWork) (run : List ℕ) (n : ℕ) (r : Reading) (f : FaultAt) → is_some w.reading.scan ≡ true → w.reading.taken + length run ≤ (limits_of w).input → TakesRunOfScan w.reading run n (Err f) r
+    → TakesSome w run n (came.Ended (stop.Fault f)) (file_mid w r)
 run_fault w run n r f some room t = record {
   mid = file_mid w t.mid;
   early = t.early;
   count = t.count;
   within = t.within;
   head = refl;
-  room = λ limits front k same. room_left limits w run n (step.Fault f) r t (room_by limits w run same room);
-  before = λ limits front k same. run_before limits front w run n (step.Fault f) r t some (room_by limits w run same room) k;
-  last = λ limits front k same. byte_of (t.mid).scan (KeepsBytes w) limits (front ++ slice_index run t.early ∷ []) (file_mid w r) f (run_last limits front w run n (step.Fault f) r t (room_by limits w run same room) k);
+  room = λ limits front k same. room_left limits w run n (Err f) r t (room_by limits w run same room);
+  before = λ limits front k same. run_before limits front w run n (Err f) r t some (room_by limits w run same room) k;
+  last = λ limits front k same. byte_of (t.mid).scan (KeepsBytes w) limits (front ++ slice_index run t.early ∷ []) (file_mid w r) f (run_last limits front w run n (Err f) r t (room_by limits w run same room) k);
 }

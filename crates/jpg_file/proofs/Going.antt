@@ -44,19 +44,6 @@ goes r items bytes n g p = record {
       refl refl refl (omega (arith, room, few, count, long, all, input)));
 }
 
--- none of them, and some after some
-pub goes_none : (r : Reading) (bytes : List ℕ) → GoesOn r bytes 0 r
-goes_none r bytes = record {
-  within = omega arith;
-  limits = refl;
-  same = refl;
-  taken = omega arith;
-  count = omega arith;
-  scan = refl;
-  coefs = refl;
-  stands = λ w coefs limits front k. subst (λ l. StandsForFile limits l (file_with w r coefs)) (sym (append-nil front)) k;
-}
-
 take_both : (n m : ℕ) (xs : List ℕ) → n ≤ length xs → take (n + m) xs ≡ take n xs ++ take m (drop n xs)
 take_both n m xs h =
     let size = length-take-le n xs h in

@@ -45,7 +45,7 @@ use Rattle.jpg_file.specs.Read.Items.{AtPlace, IsBeside}
 use Rattle.jpg_file.specs.Read.Keeping.{kept_for}
 use Rattle.jpg_file.specs.Read.Left.{Leaves, LeavesPicture}
 use Rattle.jpg_file.specs.Read.PictureRead.{MeansFor, RevealsFile}
-use Rattle.jpg_file.specs.Read.ReadFile.{AfterFilePiece, HasRead, IsDone, IsEarlyEnd, IsReading, ReaderState, ReadsPiece, TellsBegun}
+use Rattle.jpg_file.specs.Read.ReadFile.{HasRead, IsDone, IsEarlyEnd, ReaderState, TellsBegun}
 use Rattle.jpg_scans.specs.declared.progress.Progress.{Progress}
 use Rattle.jpg_file.specs.declared.read.scan_history.ScanHistory.{ScanHistory}
 use Rattle.jpg_file.specs.declared.read.file.FileWork.{FileWork}
@@ -404,26 +404,4 @@ ends_early r bytes all h told e =
       early = (stands_early r.limits bytes h.stands h.short here.have, here.ends);
       left = leaves_at r.limits bytes r.file a named;
       head = h.head;
-    }
-
--- WHAT A READER KEEPS
-
-pub keeps_done : (r : ReaderState) (w : FileWork) (piece : List ℕ) (result : Result Fed Stop) (used : ℕ) → result ≡ Ok (fed.Done used) → r.done ≡ false → r.stop ≡ None → IsReading r → ReadsPiece r.limits r.file piece result w
-    → IsReading (record r { file = w; done = true })
-keeps_done r w piece result used e undone none k reads =
-    let o = k.open none undone in
-    let a = subst (λ x. AfterFilePiece r.limits o.0 piece x w) e (reads o.0 o.1) in
-    record {
-      limited = k.limited;
-      «open» = λ stop undone_now. absurd (clash true refl undone_now);
-      ended = λ done. whole_leaves r.limits (o.0 ++ take used piece) w a.0;
-    }
-
-pub keeps_early : (r : ReaderState) (all : Bool) → r.done ≡ false → r.stop ≡ None → IsReading r → IsComplete r.file.begun.progress all → all ≡ true → IsReading (record r { done = true })
-keeps_early r all undone none k told e =
-    let o = k.open none undone in
-    record {
-      limited = k.limited;
-      «open» = λ stop undone_now. absurd (clash true refl undone_now);
-      ended = λ done. early_leaves r.limits o.0 r.file all o.1 told e;
     }

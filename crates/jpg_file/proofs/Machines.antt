@@ -23,9 +23,7 @@ use Rattle.jpg_prog_read.specs.DcFirstPass.{first_pass}
 use Rattle.jpg_prog_read.specs.DcRefinement.{refinement}
 use Rattle.jpg_prog_read.proofs.AcDue as ac
 use Rattle.jpg_prog_read.proofs.DcMachines.{first_keeps_units, refine_keeps_units}
-use Rattle.jpg_file.specs.Read.Data.{AfterBits, GivesRun}
-use Rattle.jpg_file.specs.declared.read.data.DataStep.{DataStep}
-use Rattle.jpg_file.specs.declared.read.data.DataStep.TheVariants as came
+use Rattle.jpg_file.specs.Read.Data.{AnswersIn, GivesBits, GivesRun}
 use Rattle.jpg_file.specs.Read.Machine.{any_scan, scan_kind, FitsKind, ScanKind, whole_blocks, dc_first, dc_later, ac_band}
 use Rattle.jpg_file.specs.declared.read.machine.ScanReader.{ScanReader}
 use Rattle.jpg_file.specs.declared.read.machine.ScanReader.TheVariants.{Sequential, DcFirst, DcRefine, Ac}
@@ -83,28 +81,26 @@ takes_of e k all o most m new now after store rest answer (bits, cut, ends) = (b
 
 -- A STRETCH of bytes
 
-after_bits : {M N : Type 0} (e : M → N) (k : Kind M) (all : Kind N) (o : IsOneOf M N e k all) (m new : M) (i : Interval) (so_far bits : List Bool) (now after : Picture) (answer : DataStep) → all.stands (e m) i so_far now
-    → AfterBits k i so_far bits answer new after → AfterBits all i so_far bits answer (e new) after
-after_bits e k all o m new i so_far bits now after came.More s a = o.stands m new i so_far (so_far ++ bits) now after s a
-after_bits e k all o m new i so_far bits now after came.Whole s (front, rest, cut, some, ends) = (
-  front,
-  rest,
-  cut,
-  some,
-  record { whole = ends.whole; ready = λ j follows fits. o.ready m new i j so_far now s (follows.scan) (ends.ready j follows (o.fits m i j so_far now s (follows.scan) fits)) },
-)
-after_bits e k all o m new i so_far bits now after (came.Fault f) s a = a
+answers_of : {M N : Type 0} (e : M → N) (k : Kind M) (all : Kind N) (o : IsOneOf M N e k all) (m new : M) (now after : Picture) (bits : List Bool) (answer : Result UnitStep UnitFault) → AnswersIn k m now bits answer new after → AnswersIn all (e m) now bits answer (e new) after
+answers_of e k all o m new now after bits answer (most, front, rest, cut, chain) = (most, front, rest, cut, chain_to_of e k all o most m new now after front answer chain)
 
-pub run_of : {M N : Type 0} (e : M → N) (k : Kind M) (all : Kind N) (o : IsOneOf M N e k all) (m new : M) (now after : Picture) (bytes : List ℕ) (n : ℕ) (answer : DataStep) → GivesRun M k m now bytes n answer new after
-    → GivesRun N all (e m) now bytes n answer (e new) after
-run_of {M} {N} e k all o m new now after bytes n answer g = record {
+gives_of : {M N : Type 0} (e : M → N) (k : Kind M) (all : Kind N) (o : IsOneOf M N e k all) (m new : M) (now after : Picture) (bits waiting : List Bool) (answer : Taken) → GivesBits k m now bits answer waiting new after
+    → GivesBits all (e m) now bits answer waiting (e new) after
+gives_of e k all o m new now after bits waiting taken.More (none, chain) = (none, chain_of e k all o m new now after bits chain)
+gives_of e k all o m new now after bits waiting taken.Units (front, cut, chain) = (front, cut, chain_of e k all o m new now after front chain)
+gives_of e k all o m new now after bits waiting taken.IntervalDone (none, a) = (none, answers_of e k all o m new now after bits (Ok IntervalDone) a)
+gives_of e k all o m new now after bits waiting (taken.Fault f) (none, a) = (none, answers_of e k all o m new now after bits (Err f) a)
+
+pub run_of : {M N : Type 0} (e : M → N) (k : Kind M) (all : Kind N) (o : IsOneOf M N e k all) (m new : M) (now after : Picture) (bytes : List ℕ) (n : ℕ) (answer : Taken) (waiting : List Bool) → GivesRun M k m now bytes n answer waiting new after
+    → GivesRun N all (e m) now bytes n answer waiting (e new) after
+run_of {M} {N} e k all o m new now after bytes n answer waiting g = record {
   mid = e g.mid;
   between = g.between;
   early = g.early;
   count = g.count;
   within = g.within;
   chain = chain_of e k all o m g.mid now g.between _ g.chain;
-  last = λ i so_far s. after_bits e k all o g.mid new i so_far _ g.between after answer s (g.last i so_far (o.own g.mid i so_far g.between s));
+  last = gives_of e k all o g.mid new g.between after _ waiting answer g.last;
 }
 
 -- THE KINDS OF SCAN

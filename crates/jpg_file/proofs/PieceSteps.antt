@@ -2,7 +2,7 @@
 use Rattle.std.proofs.Common.{◌-◌, Bool, ◌≡◌, ℕ, zero, suc, replicate, ◌+◌, ◌<◌, ◌≤◌, true, List, [], ◌∷◌, ◌++◌, length, take, drop, get_or, refl, false, Some, None, Ok, Err, Result, sym, ap, ◌∙◌, subst, arith, inl, inr}
 use Rattle.std.proofs.lemmas.List.{take-take, append-nil, get_or-take, get_or-drop, length-drop, length-take-le, append_assoc, length-append, length-replicate, take_all, take_more, take-append-drop, take-append-le}
 use Rattle.std.proofs.Math.Seq.{take-append-add}
-use Rattle.std.specs.Prelude.{IfErr, Option, is_some}
+use Rattle.std.specs.Prelude.{Option, is_some}
 use Rattle.jpg_spec.specs.Items.{Item, segments_of}
 use Rattle.jpg_spec.specs.FileMeaning.{meaning_of}
 use Rattle.jpg_spec.specs.FirstFault.{IsFirstFault}
@@ -11,7 +11,6 @@ use Rattle.jpg_spec.specs.Laws.{frame_of_items}
 use Rattle.jpg_spec.specs.declared.fault.FaultAt.{FaultAt}
 use Rattle.jpg_spec.specs.declared.frame.Limits.{Limits}
 use Rattle.jpg_spec.specs.declared.fault.Fault.TheVariants.{InputTooLong}
-use Rattle.jpg_spec.proofs.Common.{clash}
 use Rattle.jpg_spec.proofs.FileLaws.{next_shown, stands_too_long}
 use Rattle.jpg_base.specs.declared.stop.Fed.{Fed}
 use Rattle.jpg_base.specs.declared.stop.Fed.TheVariants as fed
@@ -19,12 +18,15 @@ use Rattle.jpg_base.specs.declared.stop.Stop.{Stop}
 use Rattle.jpg_base.specs.declared.stop.Stop.TheVariants as stop
 use Rattle.jpg_file.specs.Read.File.{AfterFileByte, KeepsBytes, PassesFront, TakesFileByte, TakesSome, EndsFile, IsStop, StandsForFile, limits_of}
 use Rattle.jpg_file.specs.Read.FirstHeader.{IsFirstHeaderOf}
-use Rattle.jpg_file.specs.Read.ReadFile.{AfterFeed, AfterFilePiece, HasRead, IsReading, IsRefusal, IsStopOf, ReaderState, ReadsPiece}
+use Rattle.jpg_file.specs.Read.ReadFile.{AfterFeed, AfterFilePiece, HasRead, IsRefusal, IsStopOf}
 use Rattle.jpg_coefs.specs.Picture.{Picture}
 use Rattle.jpg_file.specs.Read.Going.{FillsScan, GoesOn, has_waiting}
 use Rattle.jpg_file.specs.Read.Reading.{Scanning}
 use Rattle.jpg_file.specs.declared.read.scan.InScan.{InScan}
 use Rattle.jpg_file.specs.declared.read.items.ItemStep.TheVariants as step
+use Rattle.jpg_file.specs.Read.Step.{IfStops}
+use Rattle.jpg_file.specs.declared.read.step.Step.{Step}
+use Rattle.jpg_file.specs.declared.read.step.Step.TheVariants as came
 use Rattle.jpg_file.specs.declared.read.reading.Reading.{Reading}
 use Rattle.jpg_file.specs.declared.read.file.FileWork.{FileWork}
 use Rattle.jpg_file.proofs.Ending.{file_ends}
@@ -80,7 +82,7 @@ pub front_of : (front rest all : List ℕ) (n : ℕ) → n ≡ length front → 
 front_of front rest all n long cut = ap (λ m. take m all) long ∙ ap (take (length front)) cut ∙ whole_front front rest
 
 pub piece_stopped : (limits : Limits) (bytes piece : List ℕ) (i : ℕ) (e : Stop) (old w next : FileWork) → i < length piece → StandsForFile limits (bytes ++ take i piece) old → old.reading.taken < limits.input
-    → next.head ≡ old.head → AfterFileByte (Unit {0}) limits ((bytes ++ take i piece) ++ get_or piece i 0 ∷ []) (Err e) w → AfterFilePiece limits bytes piece (Err e) next
+    → next.head ≡ old.head → AfterFileByte (Unit {0}) limits ((bytes ++ take i piece) ++ get_or piece i 0 ∷ []) (came.Ended e) w → AfterFilePiece limits bytes piece (Err e) next
 piece_stopped limits bytes piece i (stop.Fault f) old w next less stands short same h =
     let front = bytes ++ take i piece in
     let cut = joined bytes piece (i + 1) ∙ ap (λ l. l ++ drop (i + 1) piece) (one_more bytes piece i less) in
@@ -113,66 +115,11 @@ piece_long limits bytes piece i w many h =
       inl (subst (λ n. IsFirstHeaderOf limits (take n (bytes ++ piece)) w.head) long (head_kept limits bytes piece i w w h refl)),
     )
 
--- a complete file
-pub piece_whole : (limits : Limits) (bytes piece : List ℕ) (i used : ℕ) (w : FileWork) → i < length piece → used ≡ i + 1
-    → AfterFileByte (Unit {0}) limits ((bytes ++ take i piece) ++ get_or piece i 0 ∷ []) (Ok true) w → AfterFilePiece limits bytes piece (Ok (fed.Done used)) w
-piece_whole limits bytes piece i used w less same h =
-    let is : bytes ++ take used piece ≡ (bytes ++ take i piece) ++ get_or piece i 0 ∷ [] = ap (λ n. bytes ++ take n piece) same ∙ one_more bytes piece i less in
-    (subst (λ l. EndsFile limits l w) (sym is) h, omega (arith, same), omega (arith, same, less))
-
--- more is needed
-pub piece_more : (limits : Limits) (bytes piece : List ℕ) (i : ℕ) (w : FileWork) → length piece ≤ i → w.reading.taken < limits.input → StandsForFile limits (bytes ++ take i piece) w → AfterFilePiece limits bytes piece (Ok fed.More) w
-piece_more limits bytes piece i w end short h =
-    let is : bytes ++ take i piece ≡ bytes ++ piece = ap (λ l. bytes ++ l) (take_all i piece end) in
-    let k = subst (λ l. StandsForFile limits l w) is h in
-    let few = counted limits (bytes ++ piece) w k in
-    (k, omega (arith, few, short))
-
 -- THE COMPLETE FILE means something
 pub file_means : (limits : Limits) (bytes : List ℕ) (w : FileWork) → (e : EndsFile limits bytes w) → IsWholeFile limits bytes (meaning_of (frame_of_items limits (e.ends).items) (segments_of (e.ends).items) (e.ends).blocks)
 file_means limits bytes w e =
     let k = e.ends in
     file_ends limits bytes k.items k.blocks w.reading.items k.at e.complete (k.beside).within
-
--- BY THE COMPLETE STATE
-
-pub fed_more : (r : ReaderState) (w : FileWork) (bytes piece : List ℕ) (result : Result Fed Stop) → result ≡ Ok fed.More → HasRead bytes r → ReadsPiece r.limits r.file piece result w → AfterFeed bytes piece result (record r { file = w })
-fed_more r w bytes piece result e h reads =
-    let k = subst (λ x. AfterFilePiece r.limits bytes piece x w) e (reads bytes h.open) in
-    subst (λ x. AfterFeed bytes piece x (record r { file = w })) (sym e)
-    (record { going = h.going; undone = h.undone; short = k.1; stands = stands_file r.limits (bytes ++ piece) w k.0; «open» = k.0; head = head_is r.limits (bytes ++ piece) w k.0 })
-
-pub fed_done : (r : ReaderState) (w : FileWork) (bytes piece : List ℕ) (result : Result Fed Stop) (used : ℕ) → result ≡ Ok (fed.Done used) → HasRead bytes r → ReadsPiece r.limits r.file piece result w
-    → AfterFeed bytes piece result (record r { file = w; done = true })
-fed_done r w bytes piece result used e h reads =
-    let k = subst (λ x. AfterFilePiece r.limits bytes piece x w) e (reads bytes h.open) in
-    subst (λ x. AfterFeed bytes piece x (record r { file = w; done = true })) (sym e)
-    (record { done = refl; meaning = _; whole = file_means r.limits (bytes ++ take used piece) w k.0; ended = k.0; head = head_left r.limits (bytes ++ take used piece) w k.0 }, k.1, k.2)
-
-pub fed_stop : (r : ReaderState) (w : FileWork) (bytes piece : List ℕ) (result : Result Fed Stop) (s : Stop) → result ≡ Err s → HasRead bytes r → ReadsPiece r.limits r.file piece result w
-    → AfterFeed bytes piece result (record r { file = w; stop = Some s })
-fed_stop r w bytes piece result s e h reads =
-    let k = subst (λ x. AfterFilePiece r.limits bytes piece x w) e (reads bytes h.open) in
-    subst (λ x. AfterFeed bytes piece x (record r { file = w; stop = Some s })) (sym e) (by s k)
-  where
-    by : (t : Stop) → AfterFilePiece r.limits bytes piece (Err t) w → AfterFeed bytes piece (Err t) (record r { file = w; stop = Some s })
-    by (stop.Fault f) a = (a.0, a.1 h.short, a.2)
-    by stop.NoMemory a = a
-
--- what it keeps
-pub keeps_more : (r : ReaderState) (w : FileWork) (piece : List ℕ) (result : Result Fed Stop) → result ≡ Ok fed.More → r.done ≡ false → IsReading r → ReadsPiece r.limits r.file piece result w → IsReading (record r { file = w })
-keeps_more r w piece result e undone k reads = record {
-  limited = k.limited;
-  «open» = λ none false_is.
-      (let o = k.open none false_is in
-      let a = subst (λ x. AfterFilePiece r.limits o.0 piece x w) e (reads o.0 o.1) in
-      (o.0 ++ piece, a.0));
-  ended = λ done. absurd (clash r.done done undone);
-}
-
--- what a reader with room requires of its file
-pub room_of : (limits : Limits) (bytes : List ℕ) (w : FileWork) → StandsForFile limits bytes w → w.reading.taken < limits.input → w.reading.taken < (limits_of w).input
-room_of limits bytes w s room = subst (λ (l : Limits). w.reading.taken < l.input) (sym (limits_are limits bytes w s)) room
 
 -- SOME BYTES of the rest of a piece
 
@@ -186,52 +133,6 @@ front_is bytes piece done early few = append_assoc bytes (take done piece) (take
 
 pub rest_less : (piece : List ℕ) (done early : ℕ) → done ≤ length piece → early < length (drop done piece) → done + early < length piece
 rest_less piece done early few low = let size = length-drop done piece in omega (arith, few, low, size)
-
--- the state before the last of them, and the result of that one
-pub record LastOf (limits : Limits) (bytes piece : List ℕ) (done n : ℕ) (answer : Result Bool Stop) (new : FileWork) : Type 0 where
-  pub i : ℕ
-  pub count : done + n ≡ i + 1
-  pub less : i < length piece
-  pub mid : FileWork
-  pub stands : StandsForFile limits (bytes ++ take i piece) mid
-  pub room : mid.reading.taken < limits.input
-  pub head : IfErr answer (λ stop. new.head ≡ mid.head)
-  pub after : AfterFileByte (Unit {0}) limits ((bytes ++ take i piece) ++ get_or piece i 0 ∷ []) answer new
-
-pub last_of : (limits : Limits) (bytes piece : List ℕ) (done n : ℕ) (answer : Result Bool Stop) (w new : FileWork) → done ≤ length piece → StandsForFile limits (bytes ++ take done piece) w
-    → TakesSome w (take (length piece - done) (drop done piece)) n answer new → LastOf limits bytes piece done n answer new
-last_of limits bytes piece done n answer w new few k taken =
-    let size = length-drop done piece in
-    let t = subst (λ l. TakesSome w l n answer new) (take_all (length piece - done) (drop done piece) (omega (arith, size))) taken in
-    let front = bytes ++ take done piece in
-    let same = limits_are limits front w k in
-    let i = done + t.early in
-    let is = front_is bytes piece done t.early few in
-    let stands = subst (λ l. StandsForFile limits l t.mid) is (t.before limits front k same) in
-    let count = t.count in
-    record {
-      i = i;
-      count = omega (arith, count);
-      less = rest_less piece done t.early few t.within;
-      mid = t.mid;
-      stands = stands;
-      room = t.room limits front k same;
-      head = t.head;
-      after = asked (KeepsBytes w) (Unit {0}) (λ k. tt) limits ((bytes ++ take i piece) ++ get_or piece i 0 ∷ []) answer new
-          (subst (λ b. AfterFileByte (KeepsBytes w) limits ((bytes ++ take i piece) ++ b ∷ []) answer new) (get_or-drop done piece t.early 0) (t.last limits (bytes ++ take i piece) stands same));
-    }
-
-pub some_stopped : (limits : Limits) (bytes piece : List ℕ) (done n : ℕ) (e : Stop) (new : FileWork) → LastOf limits bytes piece done n (Err e) new → AfterFilePiece limits bytes piece (Err e) new
-some_stopped limits bytes piece done n e new l = piece_stopped limits bytes piece l.i e l.mid new new l.less l.stands l.room l.head l.after
-
-pub some_whole : (limits : Limits) (bytes piece : List ℕ) (done n used : ℕ) (new : FileWork) → used ≡ done + n → LastOf limits bytes piece done n (Ok true) new → AfterFilePiece limits bytes piece (Ok (fed.Done used)) new
-some_whole limits bytes piece done n used new is l = piece_whole limits bytes piece l.i used new l.less (is ∙ l.count) l.after
-
-pub some_more : (limits : Limits) (bytes piece : List ℕ) (done n : ℕ) (new : FileWork) → LastOf limits bytes piece done n (Ok false) new → StandsForFile limits (bytes ++ take (done + n) piece) new
-some_more limits bytes piece done n new l = subst (λ m. StandsForFile limits (bytes ++ take m piece) new) (sym l.count) (subst (λ x. StandsForFile limits x new) (sym (one_more bytes piece l.i l.less)) l.after)
-
-pub some_within : (limits : Limits) (bytes piece : List ℕ) (done n : ℕ) (answer : Result Bool Stop) (new : FileWork) → LastOf limits bytes piece done n answer new → done + n ≤ length piece
-some_within limits bytes piece done n answer new l = let count = l.count in let less = l.less in omega (arith, count, less)
 
 -- THE PREFIX of some bytes, and the one after it
 
@@ -304,7 +205,7 @@ front_fills w r bytes (suc m) some p =
           subst (λ (l : List ℕ). StandsForFile limits (front ++ l) (record w { reading = next })) (sym p.fill) after);
     })
 
-pub one_taken : (w mid : FileWork) (bytes : List ℕ) (n : ℕ) (answer : Result Bool Stop) (new : FileWork) → PassesFront w bytes n mid → TakesFileByte mid (get_or bytes n 0) answer new → IfErr answer (λ stop. new.head ≡ mid.head)
+pub one_taken : (w mid : FileWork) (bytes : List ℕ) (n : ℕ) (answer : Step) (new : FileWork) → PassesFront w bytes n mid → TakesFileByte mid (get_or bytes n 0) answer new → IfStops answer (new.head ≡ mid.head)
     → TakesSome w bytes (n + 1) answer new
 one_taken w mid bytes n answer new front took head = record {
   mid = mid;
@@ -320,7 +221,7 @@ one_taken w mid bytes n answer new front took head = record {
       (subst (λ l. AfterFileByte (KeepsBytes mid) l (before ++ get_or bytes n 0 ∷ []) answer new) is (took before (subst (λ l. StandsForFile l before mid) (sym is) k))));
 }
 
-pub front_taken : (w : FileWork) (bytes : List ℕ) (size n : ℕ) (answer : Result Bool Stop) (new : FileWork) → size ≤ length bytes → TakesSome w (take size bytes) n answer new → TakesSome w bytes n answer new
+pub front_taken : (w : FileWork) (bytes : List ℕ) (size n : ℕ) (answer : Step) (new : FileWork) → size ≤ length bytes → TakesSome w (take size bytes) n answer new → TakesSome w bytes n answer new
 front_taken w bytes size n answer new few t =
     let low = t.within in
     let long = length-take-le size bytes few in

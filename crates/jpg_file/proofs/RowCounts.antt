@@ -9,21 +9,21 @@ use Rattle.jpg_spec.specs.Items.{Item, segments_of}
 use Rattle.jpg_spec.specs.Segments.{ScanHead, head_components}
 use Rattle.jpg_spec.specs.declared.frame.Limits.{Limits}
 use Rattle.jpg_spec.proofs.Common.{clash, same_of}
+use Rattle.jpg_coefs.specs.declared.machine.Taken.{Taken}
+use Rattle.jpg_coefs.specs.declared.machine.Taken.TheVariants as taken
 use Rattle.jpg_file.specs.Read.Machine.{any_scan}
 use Rattle.jpg_file.specs.Read.RowCounts.{CountsRow}
-use Rattle.jpg_file.specs.Read.RowData.{work_after}
+use Rattle.jpg_file.specs.Read.InData.{work_after}
 use Rattle.jpg_file.specs.Read.RowPlaces.{scan_left}
 use Rattle.jpg_file.specs.Read.RowTurns.{CountsScan, IsRowIn, unfinished}
-use Rattle.jpg_file.specs.Read.Strips.{CountsRows, IsNoRow}
-use Rattle.jpg_file.specs.declared.read.strips.StripStep.{StripStep}
-use Rattle.jpg_file.specs.declared.read.strips.StripStep.TheVariants as step
+use Rattle.jpg_file.specs.Read.Step.{IsNoRow}
+use Rattle.jpg_file.specs.Read.Strips.{CountsRows}
+use Rattle.jpg_file.specs.declared.read.step.Step.{Step}
+use Rattle.jpg_file.specs.declared.read.step.Step.TheVariants as step
 use Rattle.jpg_file.proofs.RowTurns.{part_counted, whole_counted}
 use Rattle.std.proofs.lemmas.Bool.{cases_lt}
 use Rattle.jpg_seq.specs.Rows.{top_of}
-use Rattle.jpg_file.specs.declared.read.data.DataStep.{DataStep}
-use Rattle.jpg_file.specs.declared.read.data.DataStep.TheVariants as came
 use Rattle.jpg_file.specs.declared.read.machine.ScanReader.{ScanReader}
-use Rattle.jpg_file.specs.declared.read.rows.RowStep.{RowStep}
 use Rattle.jpg_file.specs.declared.read.rows.RowWork.{RowWork}
 use Rattle.jpg_file.specs.declared.read.scan.ScanWork.{ScanWork}
 
@@ -58,36 +58,34 @@ none_counted old new w left none = record {
   wait = λ some. absurd (omega (arith, some, ap length none));
 }
 
-data_left : (step : DataStep) (old : ScanWork) (m : ScanReader) (passed : ℕ) → old.whole ≡ false → any_scan.left old.machine ≡ any_scan.left m + passed → (step ≡ came.Whole → any_scan.left m ≡ 0) → scan_left old ≡ scan_left (work_after old m step) + passed
-data_left came.More old m passed due left ended =
+data_left : (answer : Taken) (old : ScanWork) (m : ScanReader) (passed : ℕ) → old.whole ≡ false → any_scan.left old.machine ≡ any_scan.left m + passed → (answer ≡ taken.IntervalDone → any_scan.left m ≡ 0) → scan_left old ≡ scan_left (work_after old m answer) + passed
+data_left answer old m passed due left ended =
     let a : scan_left old ≡ old.due + any_scan.left old.machine = ap (λ b. old.due + cond b 0 (any_scan.left old.machine)) due in
-    let b : old.due + cond old.whole 0 (any_scan.left m) ≡ old.due + any_scan.left m = ap (λ b. old.due + cond b 0 (any_scan.left m)) due in
-    omega (arith, a, b, left)
-data_left came.Whole old m passed due left ended =
-    let a : scan_left old ≡ old.due + any_scan.left old.machine = ap (λ b. old.due + cond b 0 (any_scan.left old.machine)) due in
-    omega (arith, a, left, ended refl)
-data_left (came.Fault f) old m passed due left ended =
-    let a : scan_left old ≡ old.due + any_scan.left old.machine = ap (λ b. old.due + cond b 0 (any_scan.left old.machine)) due in
-    let b : old.due + cond old.whole 0 (any_scan.left m) ≡ old.due + any_scan.left m = ap (λ b. old.due + cond b 0 (any_scan.left m)) due in
-    omega (arith, a, b, left)
+    omega (arith, a, left, by answer ended)
+  where
+    by : (answer : Taken) → (answer ≡ taken.IntervalDone → any_scan.left m ≡ 0) → scan_left (work_after old m answer) ≡ old.due + any_scan.left m
+    by taken.More ended = refl
+    by taken.Units ended = refl
+    by taken.IntervalDone ended = omega (arith, ended refl)
+    by (taken.Fault f) ended = refl
 
 zero_is : (n : ℕ) → n ≡ 0 → (n == 0) ≡ true
 zero_is n e = grind (arith, nat_tests)
 
 -- data of the current scan
-pub counts_scan : (old : ScanWork) (w : RowWork) (result : RowStep) (new : ScanWork) (after : RowWork) (m : ScanReader) → old.whole ≡ false → 1 ≤ w.left → CountsRow w old.machine result after m → new ≡ work_after old m result.step
-    → CountsScan old w result.row new after
-counts_scan old w result new after m due some c is = record {
+pub counts_scan : (old : ScanWork) (w : RowWork) (answer : Taken) (new : ScanWork) (after : RowWork) (m : ScanReader) → old.whole ≡ false → 1 ≤ w.left → CountsRow w old.machine answer after m → new ≡ work_after old m answer
+    → CountsScan old w (after.left == 0) new after
+counts_scan old w answer new after m due some c is = record {
   tops = c.tops;
   steps = c.steps;
   units = c.units;
   later = c.later;
   passed = c.passed;
   left = c.left;
-  scan = data_left result.step old m c.passed due c.interval c.ended ∙ ap (λ (s : ScanWork). scan_left s + c.passed) (sym is);
-  whole = λ e. (some, same_of after.left 0 (sym c.whole ∙ e));
-  goes = λ e z. absurd (clash result.row (c.whole ∙ zero_is after.left z) e);
-  wait = λ more. c.whole ∙ zero_is after.left (c.wait more);
+  scan = data_left answer old m c.passed due c.interval c.ended ∙ ap (λ (s : ScanWork). scan_left s + c.passed) (sym is);
+  whole = λ e. (some, same_of after.left 0 e);
+  goes = λ e z. absurd (clash (after.left == 0) (zero_is after.left z) e);
+  wait = λ more. zero_is after.left (c.wait more);
 }
 
 -- So the row remains in its scan.
@@ -113,8 +111,8 @@ counts_in f ids old new w after row k c =
     }
 
 -- AND A FURTHER ROW IS COMPLETE, or none
-pub counts_rows : (old new : ScanWork) (w after : RowWork) (row : Bool) (result : StripStep) → CountsScan old w row new after → result ≡ cond row step.Row step.More → CountsRows result w after
-counts_rows old new w after row result c is = subst (λ (s : StripStep). CountsRows s w after) (sym is) (by row c)
+pub counts_rows : (old new : ScanWork) (w after : RowWork) (row : Bool) (result : Step) → CountsScan old w row new after → result ≡ cond row step.Row step.More → CountsRows result w after
+counts_rows old new w after row result c is = subst (λ (s : Step). CountsRows s w after) (sym is) (by row c)
   where
     by : (row : Bool) → CountsScan old w row new after → CountsRows (cond row step.Row step.More) w after
     by true c = let e = c.whole refl in part_counted w e.0 ∙ omega (arith, c.later, whole_counted after e.1)
@@ -124,14 +122,14 @@ counts_rows old new w after row result c is = subst (λ (s : StripStep). CountsR
         (cases_lt 0 after.left)
 
 -- none
-pub same_rows : (w after : RowWork) (result : StripStep) → IsNoRow result → unfinished after ≡ unfinished w → CountsRows result w after
+pub same_rows : (w after : RowWork) (result : Step) → IsNoRow result → unfinished after ≡ unfinished w → CountsRows result w after
 same_rows w after step.More k e = e
 same_rows w after step.Row k e = absurd k
 same_rows w after step.Whole k e = e
 same_rows w after (step.Ended s) k e = tt
 
 -- after another row, of which none was complete
-pub rows_then : (old w after : RowWork) (result : StripStep) → unfinished w ≡ unfinished old → CountsRows result w after → CountsRows result old after
+pub rows_then : (old w after : RowWork) (result : Step) → unfinished w ≡ unfinished old → CountsRows result w after → CountsRows result old after
 rows_then old w after step.More e c = c ∙ e
 rows_then old w after step.Row e c = sym e ∙ c
 rows_then old w after step.Whole e c = c ∙ e

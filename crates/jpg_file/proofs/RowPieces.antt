@@ -13,14 +13,15 @@ use Rattle.jpg_file.specs.Read.File.{AfterFileByte, IsStop, StandsForFile, limit
 use Rattle.jpg_file.specs.Read.FirstHeader.{IsFirstHeaderOf}
 use Rattle.jpg_file.specs.Read.ReadFile.{AfterFilePiece, KeepsHeadAt}
 use Rattle.jpg_file.specs.Read.RowPieces.{AfterRowsPiece, CountsFed, HasLastByte, RowsGo, RowsGive, RowsOpen}
-use Rattle.jpg_file.specs.Read.Strips.{AfterStrip, CountsStrip, GoesOnRest, IfStops, RowsAfter, RowsInside, StripGoes, StripRun, StripStands, TakesResumed, TakesStrip}
+use Rattle.jpg_file.specs.Read.Step.{IfStops}
+use Rattle.jpg_file.specs.Read.Strips.{AfterStrip, CountsStrip, GoesOnRest, RowsAfter, RowsInside, StripGoes, StripRun, StripStands, TakesResumed, TakesStrip}
 use Rattle.jpg_file.specs.declared.read.file.FileWork.{FileWork}
-use Rattle.jpg_file.specs.declared.read.row_reader.FedRow.{FedRow}
-use Rattle.jpg_file.specs.declared.read.row_reader.FedRow.TheVariants as fed
+use Rattle.jpg_file.specs.declared.read.row_pieces.FedRow.{FedRow}
+use Rattle.jpg_file.specs.declared.read.row_pieces.FedRow.TheVariants as fed
 use Rattle.jpg_file.specs.declared.read.rows.RowWork.{RowWork}
 use Rattle.jpg_file.specs.declared.read.strip_work.StripWork.{StripWork}
-use Rattle.jpg_file.specs.declared.read.strips.StripStep.{StripStep}
-use Rattle.jpg_file.specs.declared.read.strips.StripStep.TheVariants as step
+use Rattle.jpg_file.specs.declared.read.step.Step.{Step}
+use Rattle.jpg_file.specs.declared.read.step.Step.TheVariants as step
 use Rattle.jpg_file.proofs.FileSteps.{head_by, head_is}
 use Rattle.jpg_file.proofs.PieceSteps.{counted, front_is, front_of, limits_are, one_more, piece_long, piece_stopped, rest_less, stands_file, stop_longer}
 use Rattle.jpg_file.proofs.StripPieces.{goes_stands}
@@ -67,7 +68,7 @@ goes_on : (limits : Limits) (bytes : List ℕ) (rows : Option RowWork) (w : File
 goes_on limits bytes None w a = a
 goes_on limits bytes (Some rows) w a = a
 
-pub resumed : (limits : Limits) (bytes : List ℕ) (old new : StripWork) (answer : StripStep) → TakesResumed old answer new → RowsOpen limits bytes old.rows old.file → AfterStrip limits bytes answer new.rows new.file
+pub resumed : (limits : Limits) (bytes : List ℕ) (old new : StripWork) (answer : Step) → TakesResumed old answer new → RowsOpen limits bytes old.rows old.file → AfterStrip limits bytes answer new.rows new.file
 resumed limits bytes old new answer took h =
     let same = open_limits limits bytes old.rows old.file h.stands in
     subst (λ (l : Limits). AfterStrip l bytes answer new.rows new.file) same (took bytes (subst (λ (l : Limits). StripStands l bytes old.rows old.file) (sym same) h.stands))
@@ -94,7 +95,7 @@ some_or_none true = inl refl
 some_or_none false = inr refl
 
 -- a fault that they have
-pub resumed_stop : (limits : Limits) (bytes piece : List ℕ) (e : Stop) (old new : StripWork) → TakesResumed old (step.Ended e) new → GoesOnRest (step.Ended e) → (is_some old.rows ≡ false → (let a : StripStep = step.Ended e in a) ≡ step.More) → new.file.head ≡ old.file.head
+pub resumed_stop : (limits : Limits) (bytes piece : List ℕ) (e : Stop) (old new : StripWork) → TakesResumed old (step.Ended e) new → GoesOnRest (step.Ended e) → (is_some old.rows ≡ false → (let a : Step = step.Ended e in a) ≡ step.More) → new.file.head ≡ old.file.head
     → RowsOpen limits bytes old.rows old.file → AfterRowsPiece limits bytes piece (Err e) new.rows new.file
 resumed_stop limits bytes piece stop.NoMemory old new took goes plain head h = absurd goes
 resumed_stop limits bytes piece (stop.Fault f) old new took goes plain head h = by (some_or_none (is_some old.rows))
@@ -103,7 +104,7 @@ resumed_stop limits bytes piece (stop.Fault f) old new took goes plain head h = 
     shown = stop_shown limits bytes new.rows new.file f (resumed limits bytes old new (step.Ended (stop.Fault f)) took h)
 
     by : (is_some old.rows ≡ true) ⊎ (is_some old.rows ≡ false) → AfterRowsPiece limits bytes piece (Err (stop.Fault f)) new.rows new.file
-    by (inr none) = (let z : (let a : StripStep = step.Ended (stop.Fault f) in a) ≡ step.More = plain none in absurd cc)
+    by (inr none) = (let z : (let a : Step = step.Ended (stop.Fault f) in a) ≡ step.More = plain none in absurd cc)
     by (inl some) =
         let l = h.last some in
         let is : take f.at (bytes ++ piece) ≡ bytes = front_of bytes piece (bytes ++ piece) f.at shown.0 refl in (
@@ -113,7 +114,7 @@ resumed_stop limits bytes piece (stop.Fault f) old new took goes plain head h = 
         )
 
 -- SOME BYTES of the rest of a piece: the state before the last of them, and the result of that one
-pub record LastRow (limits : Limits) (bytes piece : List ℕ) (done n : ℕ) (answer : StripStep) (rows : Option RowWork) (new : FileWork) : Type 0 where
+pub record LastRow (limits : Limits) (bytes piece : List ℕ) (done n : ℕ) (answer : Step) (rows : Option RowWork) (new : FileWork) : Type 0 where
   pub i : ℕ
   pub count : done + n ≡ i + 1
   pub less : i < length piece
@@ -123,7 +124,7 @@ pub record LastRow (limits : Limits) (bytes piece : List ℕ) (done n : ℕ) (an
   pub head : IfStops answer (new.head ≡ mid.head)
   pub after : AfterStrip limits ((bytes ++ take i piece) ++ get_or piece i 0 ∷ []) answer rows new
 
-pub last_row : (limits : Limits) (bytes piece : List ℕ) (done n : ℕ) (answer : StripStep) (work new : StripWork) → done ≤ length piece → RowsGo limits (bytes ++ take done piece) work.rows work.file
+pub last_row : (limits : Limits) (bytes piece : List ℕ) (done n : ℕ) (answer : Step) (work new : StripWork) → done ≤ length piece → RowsGo limits (bytes ++ take done piece) work.rows work.file
     → TakesStrip work (take (length piece - done) (drop done piece)) n answer new → LastRow limits bytes piece done n answer new.rows new.file
 last_row limits bytes piece done n answer work new few k taken =
     let size = length-drop done piece in
@@ -147,7 +148,7 @@ last_row limits bytes piece done n answer work new few k taken =
     }
 
 -- the bytes before the last one had no fault
-pub last_byte : (limits : Limits) (bytes piece : List ℕ) (done n : ℕ) (answer : StripStep) (rows : Option RowWork) (new : FileWork) → LastRow limits bytes piece done n answer rows new → HasLastByte limits (bytes ++ take (done + n) piece)
+pub last_byte : (limits : Limits) (bytes piece : List ℕ) (done n : ℕ) (answer : Step) (rows : Option RowWork) (new : FileWork) → LastRow limits bytes piece done n answer rows new → HasLastByte limits (bytes ++ take (done + n) piece)
 last_byte limits bytes piece done n answer rows new l =
     let front = bytes ++ take l.i piece in
     record {
@@ -158,14 +159,14 @@ last_byte limits bytes piece done n answer rows new l =
       short = omega (arith, counted limits front l.mid l.stands, l.room);
     }
 
-pub came_at : (limits : Limits) (bytes piece : List ℕ) (done n : ℕ) (answer : StripStep) (rows : Option RowWork) (new : FileWork) → (l : LastRow limits bytes piece done n answer rows new) → AfterStrip limits (bytes ++ take (done + n) piece) answer rows new
+pub came_at : (limits : Limits) (bytes piece : List ℕ) (done n : ℕ) (answer : Step) (rows : Option RowWork) (new : FileWork) → (l : LastRow limits bytes piece done n answer rows new) → AfterStrip limits (bytes ++ take (done + n) piece) answer rows new
 came_at limits bytes piece done n answer rows new l =
     subst (λ (x : List ℕ). AfterStrip limits x answer rows new) (sym (ap (λ m. bytes ++ take m piece) l.count ∙ one_more bytes piece l.i l.less)) l.after
 
-few_taken : (limits : Limits) (bytes piece : List ℕ) (done n : ℕ) (answer : StripStep) (rows : Option RowWork) (new : FileWork) → LastRow limits bytes piece done n answer rows new → done + n ≤ length piece
+few_taken : (limits : Limits) (bytes piece : List ℕ) (done n : ℕ) (answer : Step) (rows : Option RowWork) (new : FileWork) → LastRow limits bytes piece done n answer rows new → done + n ≤ length piece
 few_taken limits bytes piece done n answer rows new l = omega (arith, l.count, l.less)
 
-pub row_within : (limits : Limits) (bytes piece : List ℕ) (done n : ℕ) (answer : StripStep) (work new : StripWork) → done ≤ length piece → RowsGo limits (bytes ++ take done piece) work.rows work.file
+pub row_within : (limits : Limits) (bytes piece : List ℕ) (done n : ℕ) (answer : Step) (work new : StripWork) → done ≤ length piece → RowsGo limits (bytes ++ take done piece) work.rows work.file
     → TakesStrip work (take (length piece - done) (drop done piece)) n answer new → done + n ≤ length piece
 row_within limits bytes piece done n answer work new few k taken = few_taken limits bytes piece done n answer new.rows new.file (last_row limits bytes piece done n answer work new few k taken)
 
@@ -197,7 +198,7 @@ row_whole limits bytes piece done n work new few k taken =
       few_taken limits bytes piece done n step.Whole new.rows new.file l,
     )
 
-ended_as : (limits : Limits) (bytes : List ℕ) (e : Stop) (rows : Option RowWork) (w : FileWork) → AfterStrip limits bytes (step.Ended e) rows w → AfterFileByte (Unit {0}) limits bytes (Err e) w
+ended_as : (limits : Limits) (bytes : List ℕ) (e : Stop) (rows : Option RowWork) (w : FileWork) → AfterStrip limits bytes (step.Ended e) rows w → AfterFileByte (Unit {0}) limits bytes (step.Ended e) w
 ended_as limits bytes (stop.Fault f) None w a = a
 ended_as limits bytes stop.NoMemory None w a = tt
 ended_as limits bytes (stop.Fault f) (Some rows) w a = a
@@ -247,7 +248,7 @@ pub counts_same : (rows : Option RowWork) → CountsStrip step.More rows rows
 counts_same None = tt
 counts_same (Some rows) = refl
 
-pub counts_then : (answer : StripStep) (a b c : Option RowWork) → CountsStrip step.More a b → CountsStrip answer b c → CountsStrip answer a c
+pub counts_then : (answer : Step) (a b c : Option RowWork) → CountsStrip step.More a b → CountsStrip answer b c → CountsStrip answer a c
 counts_then answer None b c k l = tt
 counts_then answer (Some x) None c k l = absurd k
 counts_then answer (Some x) (Some y) None k l = absurd l

@@ -1,27 +1,18 @@
 -- The current MCU row: the result of its data, and how many of its units are left.
-use Rattle.std.proofs.Common.{◌≡◌, ℕ, ◌+◌, ◌-◌, ◌*◌, ◌/◌, ◌≤◌, ◌==◌, Bool, List, [], ◌++◌, length, drop, get_or, sym, ap, ◌∙◌, subst, arith, Ok}
-use Rattle.std.proofs.lemmas.List.{append_cancel_left, append-nil, length-append, length-drop, take-append-drop, take_all}
+use Rattle.std.proofs.Common.{◌≡◌, ℕ, ◌+◌, ◌-◌, ◌*◌, ◌/◌, ◌≤◌, Bool, List, length, drop, get_or, refl, sym, ap, ◌∙◌, subst, arith}
 use Rattle.jpg_spec.specs.Bits.{bits_of, bits_of_bytes}
-use Rattle.jpg_spec.proofs.Strings.{length-bits_of}
 use Rattle.jpg_coefs.specs.Picture.{Picture}
-use Rattle.jpg_coefs.specs.Machine.{TakesBits}
-use Rattle.jpg_coefs.specs.declared.machine.UnitFault.{UnitFault}
 use Rattle.jpg_coefs.specs.declared.machine.Taken.{Taken}
 use Rattle.jpg_coefs.specs.declared.machine.Taken.TheVariants as taken
-use Rattle.jpg_coefs.specs.declared.machine.UnitStep.TheVariants as step
-use Rattle.jpg_coefs.proofs.Chains.{some_taken}
-use Rattle.jpg_seq.specs.Rows.{IsRowOf}
+use Rattle.jpg_file.specs.Read.Data.{GivesBits, GivesRun, waits_of}
 use Rattle.jpg_file.specs.Read.Machine.{any_scan, reader_left}
-use Rattle.jpg_file.specs.Read.RowMachine.{PassesRow, TakesRowBits}
-use Rattle.jpg_file.specs.Read.RowCounts.{CountsRow, counted}
-use Rattle.jpg_file.specs.Read.RowData.{RowBits, RowRun, TakesRowData, TakesRowRun}
-use Rattle.jpg_file.specs.declared.read.data.DataStep.{DataStep}
-use Rattle.jpg_file.specs.declared.read.data.DataStep.TheVariants as came
+use Rattle.jpg_file.specs.Read.RowMachine.{CanReadMcuRow, PassesRow, TakesRowBits}
+use Rattle.jpg_file.specs.Read.RowCounts.{CountsRow}
+use Rattle.jpg_file.specs.Read.RowData.{TakesRowData, TakesRowRun}
 use Rattle.jpg_file.specs.declared.read.machine.ScanReader.{ScanReader}
-use Rattle.jpg_file.specs.declared.read.rows.RowStep.{RowStep}
 use Rattle.jpg_file.specs.declared.read.rows.RowWork.{RowWork}
-use Rattle.jpg_file.proofs.RowBits.{chain_all, run_rest}
-use Rattle.jpg_file.proofs.Runs.{bytes_long}
+use Rattle.jpg_file.proofs.Chains.{given}
+use Rattle.jpg_file.proofs.Runs.{run_given, some_given}
 
 -- as many units as the machine passed
 pub units_passed : (most : ℕ) (m new : ScanReader) (answer : Taken) → (p : PassesRow most m answer new) → any_scan.left m ≡ any_scan.left new + p.passes.units
@@ -33,78 +24,57 @@ few_passed most m new taken.Units p = omega (arith, p.passes.few.0)
 few_passed most m new taken.IntervalDone p = p.passes.few.0
 few_passed most m new (taken.Fault f) p = omega (arith, p.passes.few)
 
--- bits that end no interval
-pub more_goes : (n : ℕ) → (let s : DataStep = came.More in s) ≡ came.Whole → n ≡ 0
-more_goes n e = absurd cc
+-- all of the interval at its end, and all that were asked for if bits wait
+all_passed : (most : ℕ) (m new : ScanReader) (answer : Taken) → PassesRow most m answer new → answer ≡ taken.IntervalDone → any_scan.left new ≡ 0
+all_passed most m new answer p e = (let q = subst (λ a. PassesRow most m a new) e p in ap reader_left q.new_is ∙ q.passes.few.1)
 
-pub fault_goes : (n : ℕ) (f : UnitFault) → (let s : DataStep = came.Fault f in s) ≡ came.Whole → n ≡ 0
-fault_goes n f e = absurd cc
+waits_all : (most : ℕ) (m new : ScanReader) (answer : Taken) (rest : List Bool) → (p : PassesRow most m answer new) → 1 ≤ length (waits_of answer rest) → p.passes.units ≡ most
+waits_all most m new taken.More rest p some = absurd (omega (arith, some))
+waits_all most m new taken.Units rest p some = p.passes.few.0
+waits_all most m new taken.IntervalDone rest p some = absurd (omega (arith, some))
+waits_all most m new (taken.Fault f) rest p some = absurd (omega (arith, some))
 
-pub counts_row : (w mid new : RowWork) (m after : ScanReader) (answered : Taken) (came_to : DataStep) (units : ℕ) (result : RowStep) → (p : PassesRow w.left m answered after) → units ≡ p.passes.units → mid.tops ≡ w.tops → mid.steps ≡ w.steps → mid.units ≡ w.units → mid.later ≡ w.later
-    → mid.left ≡ w.left → new ≡ counted mid units → result ≡ record { step = came_to; row = (mid.left - units) == 0 } → (1 ≤ length mid.waiting → units ≡ w.left) → (came_to ≡ came.Whole → any_scan.left after ≡ 0)
-    → CountsRow w m result new after
-counts_row w mid new m after answered came_to units result p count tops steps size later left is answer waits ended =
-    let n : new.left ≡ mid.left - units = ap (λ (q : RowWork). q.left) is in
-    let few = few_passed w.left m after answered p in
-    let W : List Bool → Type 0 = λ z. 1 ≤ length z → units ≡ w.left in
-    let all : W new.waiting = subst W (sym (ap (λ (q : RowWork). q.waiting) is)) waits in
+pub counts_row : (w : RowWork) (m after : ScanReader) (row : Picture) (units : ℕ) (waiting rest : List Bool) (answer : Taken) → (p : PassesRow w.left m answer after) → any_scan.left m ≡ any_scan.left after + units → waiting ≡ waits_of answer rest
+    → CountsRow w m answer (record w { coefs = row; left = w.left - units; waiting = waiting }) after
+counts_row w m after row units waiting rest answer p count waits =
+    let few = few_passed w.left m after answer p in
+    let passed = units_passed w.left m after answer p in
     record {
-      tops = ap (λ (q : RowWork). q.tops) is ∙ tops;
-      steps = ap (λ (q : RowWork). q.steps) is ∙ steps;
-      units = ap (λ (q : RowWork). q.units) is ∙ size;
-      later = ap (λ (q : RowWork). q.later) is ∙ later;
+      tops = refl;
+      steps = refl;
+      units = refl;
+      later = refl;
       passed = p.passes.units;
-      left = omega (arith, n, left, count, few);
+      left = omega (arith, passed, count, few);
       old_machine = p.old_machine;
       new_machine = p.new_machine;
       old_is = p.old_is;
       new_is = p.new_is;
       cursor = p.passes.cursor;
-      interval = units_passed w.left m after answered p;
-      ended = λ e. ended (sym (ap (λ (q : RowStep). q.step) answer) ∙ e);
-      whole = ap (λ (q : RowStep). q.row) answer ∙ ap (λ k. k == 0) (sym n);
-      wait = λ some. omega (arith, n, left, all some);
+      interval = passed;
+      ended = all_passed w.left m after answer p;
+      wait = λ some. omega (arith, passed, count, waits_all w.left m after answer rest p (subst (λ z. 1 ≤ length z) waits some));
     }
 
-pub data_takes : (w new : RowWork) (m after : ScanReader) (row : Picture) (bits rest waiting : List Bool) (answer : Taken) (came_to : DataStep) (result : RowStep) → TakesRowBits w.left w.tops m w.coefs bits answer after row rest → new.coefs ≡ row → new.waiting ≡ waiting → result.step ≡ came_to
-    → ((whole now : Picture) → TakesBits any_scan w.left m whole bits answer after now rest → RowBits any_scan m whole bits came_to waiting after now) → TakesRowData w m bits result.step new after
-data_takes w new m after row bits rest waiting answer came_to result t coefs waits is turn = λ whole at o.
+-- DATA of the row
+
+pub data_takes : (w : RowWork) (m after : ScanReader) (row : Picture) (left : ℕ) (bits rest waiting : List Bool) (answer : Taken) → waiting ≡ waits_of answer rest → TakesRowBits w.left w.tops m w.coefs bits answer after row rest
+    → TakesRowData w m bits answer (record w { coefs = row; left = left; waiting = waiting }) after
+data_takes w m after row left bits rest waiting answer waits t = λ whole at o.
+    (let k = t whole at o in (k.0, k.1, subst (λ (z : List Bool). GivesBits any_scan m whole bits answer z after k.0) (sym waits) (given any_scan w.left m after whole k.0 bits rest answer k.2)))
+
+pub run_takes_row : (w : RowWork) (m after : ScanReader) (row : Picture) (left : ℕ) (bytes : List ℕ) (count n : ℕ) (last waiting : List Bool) (answer : Taken) → 1 ≤ length bytes → count ≤ 8 * length bytes → n ≡ length bytes - length (drop count (bits_of_bytes bytes)) / 8
+    → last ≡ drop (count - 8 * (n - 1)) (bits_of 8 (get_or bytes (n - 1) 0)) → waiting ≡ waits_of answer last → TakesRowBits w.left w.tops m w.coefs (bits_of_bytes bytes) answer after row (drop count (bits_of_bytes bytes))
+    → TakesRowRun w m bytes n answer (record w { coefs = row; left = left; waiting = waiting }) after
+run_takes_row w m after row left bytes count n last waiting answer some within size is waits t = λ whole at o.
     (let k = t whole at o in (
       k.0,
-      subst (λ (q : Picture). IsRowOf w.tops k.0 q) (sym coefs) k.1,
-      subst (λ (d : DataStep). RowBits any_scan m whole bits d new.waiting after k.0) (sym is) (subst (λ (z : List Bool). RowBits any_scan m whole bits came_to z after k.0) (sym waits) (turn whole k.0 k.2)),
+      k.1,
+      subst (λ (z : List Bool). GivesRun ScanReader any_scan m whole bytes n answer z after k.0) (sym waits) (run_given any_scan w.left m after whole k.0 bytes count n last answer some within size is k.2),
     ))
 
-pub run_takes_row : (w new : RowWork) (m after : ScanReader) (row : Picture) (bytes : List ℕ) (n : ℕ) (rest waiting : List Bool) (answer : Taken) (came_to : DataStep) (result : RowStep) → TakesRowBits w.left w.tops m w.coefs (bits_of_bytes bytes) answer after row rest → new.coefs ≡ row → new.waiting ≡ waiting → result.step ≡ came_to
-    → ((whole now : Picture) → TakesBits any_scan w.left m whole (bits_of_bytes bytes) answer after now rest → RowRun ScanReader any_scan m whole bytes n came_to waiting after now) → TakesRowRun w m bytes n result.step new after
-run_takes_row w new m after row bytes n rest waiting answer came_to result t coefs waits is turn = λ whole at o.
-    (let k = t whole at o in (
-      k.0,
-      subst (λ (q : Picture). IsRowOf w.tops k.0 q) (sym coefs) k.1,
-      subst (λ (d : DataStep). RowRun ScanReader any_scan m whole bytes n d new.waiting after k.0) (sym is) (subst (λ (z : List Bool). RowRun ScanReader any_scan m whole bytes n came_to z after k.0) (sym waits) (turn whole k.0 k.2)),
-    ))
-
--- THE BYTES that are passed
-
-dropped : (xs : List Bool) (i : ℕ) → length xs ≤ i → drop i xs ≡ []
-dropped xs i h = append_cancel_left xs (drop i xs) [] (ap (λ l. l ++ drop i xs) (sym (take_all i xs h)) ∙ take-append-drop i xs ∙ sym (append-nil xs))
-
--- how many bits they are
-bits_given : (bytes : List ℕ) (bits rest : List Bool) (count : ℕ) → count ≤ 8 * length bytes → rest ≡ drop count (bits_of_bytes bytes) → bits_of_bytes bytes ≡ bits ++ rest → length bits ≡ count
-bits_given bytes bits rest count within is cut = omega (arith, within, ap length is, length-drop count (bits_of_bytes bytes), bytes_long bytes, ap length cut, length-append bits rest)
-
-pub more_run : (most : ℕ) (m new : ScanReader) (whole now : Picture) (bytes : List ℕ) (n : ℕ) (rest : List Bool) → 1 ≤ length bytes → n ≡ length bytes - length rest / 8 → TakesBits any_scan most m whole (bits_of_bytes bytes) taken.More new now rest
-    → RowRun ScanReader any_scan m whole bytes n came.More [] new now
-more_run most m new whole now bytes n rest some count (bits, cut, (chain, few, none)) =
-    let long : length bits ≡ 8 * length bytes = omega (arith, ap length cut, length-append bits rest, ap length none, bytes_long bytes) in
-    let all : n ≡ length bytes = omega (arith, count, ap length none) in
-    run_rest any_scan m new whole now bytes bits rest [] n cut (omega (arith, long, some)) count
-    (λ byte is. sym (dropped (bits_of 8 byte) (length bits - 8 * (n - 1)) (omega (arith, length-bits_of 8 byte, long, all, some)))) chain
-
-pub units_run : (most : ℕ) (m new : ScanReader) (whole now : Picture) (bytes : List ℕ) (n count : ℕ) (rest waiting : List Bool) → count ≤ 8 * length bytes → rest ≡ drop count (bits_of_bytes bytes) → n ≡ length bytes - length rest / 8
-    → waiting ≡ drop (count - 8 * (n - 1)) (bits_of 8 (get_or bytes (n - 1) 0)) → TakesBits any_scan most m whole (bits_of_bytes bytes) taken.Units new now rest → RowRun ScanReader any_scan m whole bytes n came.More waiting new now
-units_run most m new whole now bytes n count rest waiting within is given waits (bits, cut, (chain, many, some)) =
-    let long = bits_given bytes bits rest count within is cut in
-    run_rest any_scan m new whole now bytes bits rest waiting n cut (some_taken any_scan most m new whole now bits (Ok step.More) chain) given
-    (λ byte at. waits ∙ ap (λ k. drop (k - 8 * (n - 1)) (bits_of 8 (get_or bytes (n - 1) 0))) (sym long) ∙ ap (λ b. drop (length bits - 8 * (n - 1)) (bits_of 8 b)) (sym at))
-    (chain_all any_scan most m new whole now bits chain)
+-- at least one bit is taken
+pub some_in_row : (w : RowWork) (m after : ScanReader) (row : Picture) (bytes : List ℕ) (count : ℕ) (answer : Taken) → CanReadMcuRow w.tops m w.coefs → 1 ≤ length bytes → count ≤ 8 * length bytes
+    → TakesRowBits w.left w.tops m w.coefs (bits_of_bytes bytes) answer after row (drop count (bits_of_bytes bytes)) → 1 ≤ count
+some_in_row w m after row bytes count answer can some within t =
+    (let k = t can.0 can.1 can.2 in some_given any_scan w.left m after can.0 k.0 bytes count answer some within k.2)

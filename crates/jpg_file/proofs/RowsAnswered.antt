@@ -13,17 +13,17 @@ use Rattle.jpg_spec.specs.declared.frame.Place.{Place}
 use Rattle.jpg_spec.proofs.RowsHeader.{begun_places}
 use Rattle.jpg_base.specs.declared.stop.Stop.TheVariants as stop
 use Rattle.jpg_seq.proofs.ScanRows.{units_by_row}
-use Rattle.jpg_file.specs.Read.ReadFile.{KeepsHead}
-use Rattle.jpg_file.specs.Read.ReadRows.{HasBegunRows, HasGivenRow, HasReadRows, IsDoneByRows, IsReadingRows, RowReaderState}
-use Rattle.jpg_file.specs.Read.RowPieces.{CountsFed, HasLastByte, IfSparing, KeepsWork, KnowsRead, ReadsRowPiece, RowsGive, RowsGo, RowsOpen}
+use Rattle.jpg_file.specs.Read.ReadFile.{KeepsHead, ReaderState}
+use Rattle.jpg_file.specs.Read.ReadRows.{HasBegunRows, HasGivenRow, HasReadRows, IsDoneByRows}
+use Rattle.jpg_file.specs.Read.RowPieces.{CountsFed, HasLastByte, KeepsWork, KnowsRead, ReadsRowPiece, RowsGive, RowsGo, RowsOpen}
 use Rattle.jpg_file.specs.Read.RowTurns.{unfinished}
 use Rattle.jpg_file.specs.Read.RowsKnown.{KnowsRows, RowsKnown, rows_of_scan}
 use Rattle.jpg_file.specs.Read.Strips.{AfterStrip, CountsStrip, EndsByRow, RowsAfter, RowsInside, StandsByRow}
 use Rattle.jpg_file.specs.declared.read.file.FileWork.{FileWork}
-use Rattle.jpg_file.specs.declared.read.row_reader.FedRow.TheVariants as fed
+use Rattle.jpg_file.specs.declared.read.row_pieces.FedRow.TheVariants as fed
 use Rattle.jpg_file.specs.declared.read.rows.RowWork.{RowWork}
 use Rattle.jpg_file.specs.declared.read.strip_work.StripWork.{StripWork}
-use Rattle.jpg_file.specs.declared.read.strips.StripStep.TheVariants as step
+use Rattle.jpg_file.specs.declared.read.step.Step.TheVariants as step
 use Rattle.jpg_file.proofs.PieceSteps.{stands_file}
 use Rattle.jpg_file.proofs.RowPieces.{open_head, strip_whole}
 use Rattle.jpg_file.proofs.RowsFed.{row_fed, rows_completed}
@@ -32,7 +32,7 @@ use Rattle.jpg_file.proofs.RowsKept.{with_work}
 use Rattle.jpg_file.proofs.RowsRange.{given_in_range}
 
 -- IF MCU ROWS ARE BEING READ: what holds before the piece
-pub record RowsBefore (bytes : List ℕ) (m : ℕ) (r : RowReaderState) : Type 0 where
+pub record RowsBefore (bytes : List ℕ) (m : ℕ) (r : ReaderState) : Type 0 where
   pub going : r.stop ≡ None
   pub undone : r.done ≡ false
   pub begun : HasBegunRows bytes r
@@ -44,7 +44,7 @@ pub record RowsBefore (bytes : List ℕ) (m : ℕ) (r : RowReaderState) : Type 0
 open_by : (limits : Limits) (bytes : List ℕ) (o : Option RowWork) (w : FileWork) (rows : RowWork) → o ≡ Some rows → StandsByRow limits bytes w rows → HasLastByte limits bytes → RowsOpen limits bytes o w
 open_by limits bytes o w rows has s last = subst (λ (x : Option RowWork). RowsOpen limits bytes x w) (sym has) (record { stands = s; last = λ some. last })
 
-pub before_read : (bytes : List ℕ) (m : ℕ) (r : RowReaderState) → HasReadRows bytes m r → RowsBefore bytes m r
+pub before_read : (bytes : List ℕ) (m : ℕ) (r : ReaderState) → HasReadRows bytes m r → RowsBefore bytes m r
 before_read bytes m r h = record {
   going = h.going;
   undone = h.undone;
@@ -55,7 +55,7 @@ before_read bytes m r h = record {
   tells = h.completed.0;
 }
 
-pub before_given : (bytes : List ℕ) (m : ℕ) (r : RowReaderState) → HasGivenRow bytes m r → RowsBefore bytes m r
+pub before_given : (bytes : List ℕ) (m : ℕ) (r : ReaderState) → HasGivenRow bytes m r → RowsBefore bytes m r
 before_given bytes m r h = record {
   going = h.going;
   undone = h.undone;
@@ -70,7 +70,7 @@ last_within : (limits : Limits) (bytes : List ℕ) → HasLastByte limits bytes 
 last_within limits bytes l = (let short = l.short in let one = length-append l.front (l.byte ∷ []) in omega (arith, ap (λ x. length x) l.cut, one, short))
 
 -- More
-pub more_rows : (r : RowReaderState) (old new : StripWork) (bytes piece : List ℕ) (m : ℕ) → RowsBefore bytes m (with_work r old) → ReadsRowPiece r.limits old piece (Ok fed.More) new → CountsFed (Ok fed.More) old.rows new.rows → KeepsWork old new
+pub more_rows : (r : ReaderState) (old new : StripWork) (bytes piece : List ℕ) (m : ℕ) → RowsBefore bytes m (with_work r old) → ReadsRowPiece r.limits old piece (Ok fed.More) new → CountsFed (Ok fed.More) old.rows new.rows → KeepsWork old new
     → HasReadRows (bytes ++ piece) m (with_work r new)
 more_rows r old new bytes piece m b reads counts kept = by new.rows refl (subst (λ (o : Option RowWork). CountsStrip step.More o new.rows) (b.begun).has counts) a.0
   where
@@ -82,7 +82,7 @@ more_rows r old new bytes piece m b reads counts kept = by new.rows refl (subst 
     by (Some rows) is c g = fed_more_rows (with_work r old) new bytes piece m rows b.told b.going b.undone b.begun b.count b.tells is (kept.strip (ap is_some (b.begun).has)) c g.goes (g.last refl) a.1
 
 -- Done
-pub done_rows : (r : RowReaderState) (old new : StripWork) (bytes piece : List ℕ) (m used : ℕ) → RowsBefore bytes m (with_work r old) → ReadsRowPiece r.limits old piece (Ok (fed.Done used)) new → CountsFed (Ok (fed.Done used)) old.rows new.rows → KeepsWork old new
+pub done_rows : (r : ReaderState) (old new : StripWork) (bytes piece : List ℕ) (m used : ℕ) → RowsBefore bytes m (with_work r old) → ReadsRowPiece r.limits old piece (Ok (fed.Done used)) new → CountsFed (Ok (fed.Done used)) old.rows new.rows → KeepsWork old new
     → IsDoneByRows (bytes ++ take used piece) m (record (with_work r new) { done = true })
 done_rows r old new bytes piece m used b reads counts kept = by new.rows refl (subst (λ (o : Option RowWork). CountsStrip step.Whole o new.rows) (b.begun).has counts) (reads bytes b.open).0
   where
@@ -91,7 +91,7 @@ done_rows r old new bytes piece m used b reads counts kept = by new.rows refl (s
     by (Some rows) is c k = fed_done_rows (with_work r old) new bytes (take used piece) m rows b.told b.begun b.count b.tells is (kept.strip (ap is_some (b.begun).has)) c k
 
 -- Row
-pub given_rows : (r : RowReaderState) (old new : StripWork) (bytes piece : List ℕ) (m used : ℕ) → (b : RowsBefore bytes m (with_work r old)) → ReadsRowPiece r.limits old piece (Ok (fed.Row used)) new → CountsFed (Ok (fed.Row used)) old.rows new.rows → KeepsWork old new
+pub given_rows : (r : ReaderState) (old new : StripWork) (bytes piece : List ℕ) (m used : ℕ) → (b : RowsBefore bytes m (with_work r old)) → ReadsRowPiece r.limits old piece (Ok (fed.Row used)) new → CountsFed (Ok (fed.Row used)) old.rows new.rows → KeepsWork old new
     → HasGivenRow (bytes ++ take used piece) (m + 1) (with_work r new)
 given_rows r old new bytes piece m used b reads counts kept = by new.rows refl (subst (λ (o : Option RowWork). CountsStrip step.Row o new.rows) (b.begun).has counts) (reads bytes b.open).0
   where
@@ -101,9 +101,9 @@ given_rows r old new bytes piece m used b reads counts kept = by new.rows refl (
         fed_given_row (with_work r old) new bytes (take used piece) m rows b.going b.undone b.begun b.count is (kept.strip (ap is_some (b.begun).has)) c g.row g.last (last_within r.limits (bytes ++ take used piece) g.last) (given_in_range r.limits (bytes ++ take used piece) new.file rows (frame_of r.limits (b.begun).before) g.row)
 
 -- IF THERE IS NO MEMORY, none are
-pub wanting_rows : (r : RowReaderState) (old new : StripWork) (bytes piece : List ℕ) → IsReadingRows (with_work r old) → RowsOpen r.limits bytes old.rows old.file → ReadsRowPiece r.limits old piece (Err stop.NoMemory) new → IfSparing old (Err stop.NoMemory) new
+pub wanting_rows : (r : ReaderState) (old new : StripWork) (bytes piece : List ℕ) → RowsOpen r.limits bytes old.rows old.file → ReadsRowPiece r.limits old piece (Err stop.NoMemory) new → new.rows ≡ None
     → KeepsHead r.limits (length bytes) (bytes ++ piece) new.file.head × (new.rows ≡ None)
-wanting_rows r old new bytes piece k h reads wants = (reads bytes h, wants k.keeping k.sparing)
+wanting_rows r old new bytes piece h reads wants = (reads bytes h, wants)
 
 -- IF THEY BEGIN in the piece: there is at least one
 pub some_rows : (limits : Limits) (bytes : List ℕ) (before : List Segment) (contents : List ℕ) → BeginsScanOfAll limits bytes before contents → rows_of_scan limits before contents ≡ 0 → ⊥
@@ -114,13 +114,13 @@ some_rows limits bytes before contents begins none =
     let empty = ap (λ (l : List Place). length l) (units_by_row f ids ∙ ap (λ n. first_rows f ids n) none) in
     omega (arith, some, empty)
 
-abbrev begun_here : (r : RowReaderState) (new : StripWork) (bytes : List ℕ) (m : ℕ) (rows : RowWork) → RowsKnown r.limits bytes m rows new.strip → new.rows ≡ Some rows → StandsByRow r.limits bytes new.file rows → HasBegunRows bytes (with_work r new)
+abbrev begun_here : (r : ReaderState) (new : StripWork) (bytes : List ℕ) (m : ℕ) (rows : RowWork) → RowsKnown r.limits bytes m rows new.strip → new.rows ≡ Some rows → StandsByRow r.limits bytes new.file rows → HasBegunRows bytes (with_work r new)
 begun_here r new bytes m rows k has s = record { before = k.before; contents = k.contents; begins = k.begins; rows = rows; has = has; head = open_head r.limits bytes (Some rows) new.file s; told = k.told }
 
 known_in : (limits : Limits) (bytes : List ℕ) (m : ℕ) (new : StripWork) (rows : RowWork) → new.rows ≡ Some rows → KnowsRows limits bytes m new.rows new.strip → RowsKnown limits bytes m rows new.strip
 known_in limits bytes m new rows has k = (let x = subst (λ (o : Option RowWork). KnowsRows limits bytes m o new.strip) has k in x)
 
-pub more_begun : (r : RowReaderState) (old new : StripWork) (bytes piece : List ℕ) (rows : RowWork) → r.stop ≡ None → r.done ≡ false → RowsOpen r.limits bytes old.rows old.file → ReadsRowPiece r.limits old piece (Ok fed.More) new → KnowsRead r.limits old piece (Ok fed.More) new
+pub more_begun : (r : ReaderState) (old new : StripWork) (bytes piece : List ℕ) (rows : RowWork) → r.stop ≡ None → r.done ≡ false → RowsOpen r.limits bytes old.rows old.file → ReadsRowPiece r.limits old piece (Ok fed.More) new → KnowsRead r.limits old piece (Ok fed.More) new
     → new.rows ≡ Some rows → HasReadRows (bytes ++ piece) 0 (with_work r new)
 more_begun r old new bytes piece rows going undone h reads knows has = record {
   going = going;
@@ -155,7 +155,7 @@ more_begun r old new bytes piece rows going undone h reads knows has = record {
         by (inr d) = absurd (some_rows r.limits (bytes ++ piece) k.before k.contents k.begins (let n = k.count in let z = d.done in omega (arith, n, z)))
 
 -- and it isn't after all of them if the file is complete
-pub none_done : (r : RowReaderState) (old new : StripWork) (bytes piece : List ℕ) (used : ℕ) (rows : RowWork) → RowsOpen r.limits bytes old.rows old.file → ReadsRowPiece r.limits old piece (Ok (fed.Done used)) new → KnowsRead r.limits old piece (Ok (fed.Done used)) new → new.rows ≡ Some rows → ⊥
+pub none_done : (r : ReaderState) (old new : StripWork) (bytes piece : List ℕ) (used : ℕ) (rows : RowWork) → RowsOpen r.limits bytes old.rows old.file → ReadsRowPiece r.limits old piece (Ok (fed.Done used)) new → KnowsRead r.limits old piece (Ok (fed.Done used)) new → new.rows ≡ Some rows → ⊥
 none_done r old new bytes piece used rows h reads knows has =
     let all = bytes ++ take used piece in
     let k = known_in r.limits all 0 new rows has (knows bytes h) in
@@ -163,7 +163,7 @@ none_done r old new bytes piece used rows h reads knows has =
     some_rows r.limits all k.before k.contents k.begins (let n = k.count in let z = e.done in omega (arith, n, z))
 
 -- the first one is complete
-pub given_begun : (r : RowReaderState) (old new : StripWork) (bytes piece : List ℕ) (used : ℕ) (rows : RowWork) → r.stop ≡ None → r.done ≡ false → RowsOpen r.limits bytes old.rows old.file → ReadsRowPiece r.limits old piece (Ok (fed.Row used)) new
+pub given_begun : (r : ReaderState) (old new : StripWork) (bytes piece : List ℕ) (used : ℕ) (rows : RowWork) → r.stop ≡ None → r.done ≡ false → RowsOpen r.limits bytes old.rows old.file → ReadsRowPiece r.limits old piece (Ok (fed.Row used)) new
     → (knows : KnowsRead r.limits old piece (Ok (fed.Row used)) new) → (has : new.rows ≡ Some rows)
     → HasGivenRow (bytes ++ take used piece) 1 (with_work r new)
 given_begun r old new bytes piece used rows going undone h reads knows has =

@@ -5,26 +5,23 @@ use Rattle.jpg_spec.specs.declared.frame.Limits.{Limits}
 use Rattle.jpg_spec.proofs.Common.{clash}
 use Rattle.jpg_base.specs.declared.stop.Stop.TheVariants as stop
 use Rattle.jpg_file.specs.Read.File.{EndsFile, StandsForFile}
-use Rattle.jpg_file.specs.Read.ReadRows.{AfterFeedRow, HasGivenRow, HasReadPlainly, HasReadRows, HasReadSoFar, IsDonePlainly, IsReadingRows, RowReaderState}
-use Rattle.jpg_file.specs.Read.RowPieces.{CountsFed, IfSparing, KeepsWork, KnowsRead, ReadsRowPiece, RowsGive, RowsGo, RowsOpen}
+use Rattle.jpg_file.specs.Read.ReadFile.{ReaderState}
+use Rattle.jpg_file.specs.Read.ReadRows.{AfterFeedRow, HasGivenRow, HasReadPlainly, HasReadRows, HasReadSoFar, IsDonePlainly}
+use Rattle.jpg_file.specs.Read.RowPieces.{CountsFed, KeepsWork, KnowsRead, ReadsRowPiece, RowsGive, RowsGo, RowsOpen}
 use Rattle.jpg_file.specs.Read.RowsNone.{HasNoRows, NoneRead}
 use Rattle.jpg_file.specs.Read.Strips.{AfterStrip}
 use Rattle.jpg_file.specs.declared.read.file.FileWork.{FileWork}
-use Rattle.jpg_file.specs.declared.read.row_reader.FedRow.TheVariants as fed
+use Rattle.jpg_file.specs.declared.read.row_pieces.FedRow.TheVariants as fed
 use Rattle.jpg_file.specs.declared.read.rows.RowWork.{RowWork}
 use Rattle.jpg_file.specs.declared.read.strip_work.StripWork.{StripWork}
-use Rattle.jpg_file.specs.declared.read.strips.StripStep.TheVariants as step
+use Rattle.jpg_file.specs.declared.read.step.Step.TheVariants as step
 use Rattle.jpg_file.proofs.FileSteps.{head_is, head_left}
 use Rattle.jpg_file.proofs.PieceSteps.{file_means, stands_file}
 use Rattle.jpg_file.proofs.RowsAnswered.{RowsBefore, before_given, before_read, done_rows, given_begun, given_rows, more_begun, more_rows, none_done, wanting_rows}
-use Rattle.jpg_file.proofs.RowsKept.{with_work}
+use Rattle.jpg_file.proofs.RowsKept.{plain_open, with_work}
 use Rattle.jpg_file.proofs.RowsNoneFed.{no_rows_in}
 
--- before any MCU row
-pub plain_open : (limits : Limits) (bytes : List ℕ) (o : Option RowWork) (w : FileWork) → o ≡ None → StandsForFile limits bytes w → RowsOpen limits bytes o w
-plain_open limits bytes o w none s = subst (λ (x : Option RowWork). RowsOpen limits bytes x w) (sym none) (record { stands = s; last = λ some. absurd cc })
-
-plain_go : (r : RowReaderState) (new : StripWork) (bytes : List ℕ) → r.stop ≡ None → r.done ≡ false → new.rows ≡ None → HasNoRows r.limits bytes → RowsGo r.limits bytes new.rows new.file → length bytes < r.limits.input → HasReadPlainly bytes (with_work r new)
+plain_go : (r : ReaderState) (new : StripWork) (bytes : List ℕ) → r.stop ≡ None → r.done ≡ false → new.rows ≡ None → HasNoRows r.limits bytes → RowsGo r.limits bytes new.rows new.file → length bytes < r.limits.input → HasReadPlainly bytes (with_work r new)
 plain_go r new bytes going undone none plain go short =
     let g = subst (λ (o : Option RowWork). RowsGo r.limits bytes o new.file) none go in
     record {
@@ -34,7 +31,7 @@ plain_go r new bytes going undone none plain go short =
     }
 
 -- More
-pub more_answered : (r : RowReaderState) (old new : StripWork) (bytes piece : List ℕ) (m : ℕ) → (old.rows ≡ None → NoneRead r.limits old piece (Ok fed.More) new) → ReadsRowPiece r.limits old piece (Ok fed.More) new → CountsFed (Ok fed.More) old.rows new.rows
+pub more_answered : (r : ReaderState) (old new : StripWork) (bytes piece : List ℕ) (m : ℕ) → (old.rows ≡ None → NoneRead r.limits old piece (Ok fed.More) new) → ReadsRowPiece r.limits old piece (Ok fed.More) new → CountsFed (Ok fed.More) old.rows new.rows
     → (old.rows ≡ None → KnowsRead r.limits old piece (Ok fed.More) new) → KeepsWork old new → HasReadSoFar bytes m (with_work r old) → AfterFeedRow bytes m piece (Ok fed.More) (with_work r new)
 more_answered r old new bytes piece m plain reads counts knows kept (inr (inl h)) = inr (more_rows r old new bytes piece m (before_read bytes m (with_work r old) h) reads counts kept)
 more_answered r old new bytes piece m plain reads counts knows kept (inr (inr h)) = inr (more_rows r old new bytes piece m (before_given bytes m (with_work r old) h) reads counts kept)
@@ -48,12 +45,12 @@ more_answered r old new bytes piece m plain reads counts knows kept (inl (p, z))
     by (Some rows) is = inr (subst (λ (n : ℕ). HasReadRows (bytes ++ piece) n (with_work r new)) (sym z) (more_begun r old new bytes piece rows (p.read).going (p.read).undone here reads (knows p.none) is))
 
 -- Done
-plain_done : (r : RowReaderState) (new : StripWork) (bytes : List ℕ) → new.rows ≡ None → HasNoRows r.limits bytes → AfterStrip r.limits bytes step.Whole new.rows new.file → IsDonePlainly bytes (record (with_work r new) { done = true })
+plain_done : (r : ReaderState) (new : StripWork) (bytes : List ℕ) → new.rows ≡ None → HasNoRows r.limits bytes → AfterStrip r.limits bytes step.Whole new.rows new.file → IsDonePlainly bytes (record (with_work r new) { done = true })
 plain_done r new bytes none plain a =
     let e : EndsFile r.limits bytes new.file = subst (λ (o : Option RowWork). AfterStrip r.limits bytes step.Whole o new.file) none a in
     record { none = none; plain = plain; done = record { done = refl; meaning = _; whole = file_means r.limits bytes new.file e; ended = e; head = head_left r.limits bytes new.file e } }
 
-pub done_answered : (r : RowReaderState) (old new : StripWork) (bytes piece : List ℕ) (m used : ℕ) → (old.rows ≡ None → NoneRead r.limits old piece (Ok (fed.Done used)) new) → ReadsRowPiece r.limits old piece (Ok (fed.Done used)) new → CountsFed (Ok (fed.Done used)) old.rows new.rows
+pub done_answered : (r : ReaderState) (old new : StripWork) (bytes piece : List ℕ) (m used : ℕ) → (old.rows ≡ None → NoneRead r.limits old piece (Ok (fed.Done used)) new) → ReadsRowPiece r.limits old piece (Ok (fed.Done used)) new → CountsFed (Ok (fed.Done used)) old.rows new.rows
     → (old.rows ≡ None → KnowsRead r.limits old piece (Ok (fed.Done used)) new) → KeepsWork old new → HasReadSoFar bytes m (with_work r old) → AfterFeedRow bytes m piece (Ok (fed.Done used)) (record (with_work r new) { done = true })
 done_answered r old new bytes piece m used plain reads counts knows kept (inr (inl h)) =
     let b = before_read bytes m (with_work r old) h in
@@ -73,7 +70,7 @@ done_answered r old new bytes piece m used plain reads counts knows kept (inl (p
     by (Some rows) is = absurd (none_done r old new bytes piece used rows here reads (knows p.none) is)
 
 -- Row
-pub row_answered : (r : RowReaderState) (old new : StripWork) (bytes piece : List ℕ) (m used : ℕ) → ReadsRowPiece r.limits old piece (Ok (fed.Row used)) new → CountsFed (Ok (fed.Row used)) old.rows new.rows
+pub row_answered : (r : ReaderState) (old new : StripWork) (bytes piece : List ℕ) (m used : ℕ) → ReadsRowPiece r.limits old piece (Ok (fed.Row used)) new → CountsFed (Ok (fed.Row used)) old.rows new.rows
     → (old.rows ≡ None → KnowsRead r.limits old piece (Ok (fed.Row used)) new) → KeepsWork old new → HasReadSoFar bytes m (with_work r old) → AfterFeedRow bytes m piece (Ok (fed.Row used)) (with_work r new)
 row_answered r old new bytes piece m used reads counts knows kept s = by s
   where
@@ -100,24 +97,18 @@ row_answered r old new bytes piece m used reads counts knows kept s = by s
     by (inr (inr h)) = later (before_given bytes m (with_work r old) h)
 
 -- NO MEMORY
-pub wanting_answered : (r : RowReaderState) (old new : StripWork) (bytes piece : List ℕ) (m : ℕ) → IsReadingRows (with_work r old) → ReadsRowPiece r.limits old piece (Err stop.NoMemory) new → IfSparing old (Err stop.NoMemory) new → KeepsWork old new → HasReadSoFar bytes m (with_work r old)
+pub wanting_answered : (r : ReaderState) (old new : StripWork) (bytes piece : List ℕ) (m : ℕ) → ReadsRowPiece r.limits old piece (Err stop.NoMemory) new → new.rows ≡ None → KeepsWork old new → HasReadSoFar bytes m (with_work r old)
     → AfterFeedRow bytes m piece (Err stop.NoMemory) (record (with_work r new) { stop = Some stop.NoMemory })
-wanting_answered r old new bytes piece m k reads wants kept s = by s
+wanting_answered r old new bytes piece m reads wants kept s = by s
   where
     later : (b : RowsBefore bytes m (with_work r old)) → AfterFeedRow bytes m piece (Err stop.NoMemory) (record (with_work r new) { stop = Some stop.NoMemory })
     later b =
-        let w = wanting_rows r old new bytes piece k b.open reads wants in
+        let w = wanting_rows r old new bytes piece b.open reads wants in
         absurd (clash (is_some new.rows) (kept.some (ap is_some (b.begun).has)) (ap is_some w.1))
 
     by : HasReadSoFar bytes m (with_work r old) → AfterFeedRow bytes m piece (Err stop.NoMemory) (record (with_work r new) { stop = Some stop.NoMemory })
     by (inl (p, z)) =
-        let w = wanting_rows r old new bytes piece k (plain_open r.limits bytes old.rows old.file p.none (p.read).open) reads wants in
+        let w = wanting_rows r old new bytes piece (plain_open r.limits bytes old.rows old.file p.none (p.read).open) reads wants in
         (w.0, w.1, p.plain)
     by (inr (inl h)) = later (before_read bytes m (with_work r old) h)
     by (inr (inr h)) = later (before_given bytes m (with_work r old) h)
-
--- It continues.
-pub still_going : (bytes : List ℕ) (m : ℕ) (r : RowReaderState) → HasReadSoFar bytes m r → r.stop ≡ None
-still_going bytes m r (inl (p, z)) = (p.read).going
-still_going bytes m r (inr (inl h)) = h.going
-still_going bytes m r (inr (inr h)) = h.going

@@ -42,7 +42,8 @@ use Rattle.jpg_seq.proofs.ScanRows.{units_by_row}
 use Rattle.jpg_file.specs.Read.ScanHistory.{HasBegun, HasBegunAll, IsComplete}
 use Rattle.jpg_file.specs.Read.File.{StandsForFile, StandsBetween, with_picture}
 use Rattle.jpg_file.specs.Read.Items.{AtPlace}
-use Rattle.jpg_file.specs.Read.ReadRows.{AgreeInRows, AreOfRow, HasBegunRows, HasReadRows, IsEarlyByRows, LendsRow, RowReaderState}
+use Rattle.jpg_file.specs.Read.ReadFile.{ReaderState}
+use Rattle.jpg_file.specs.Read.ReadRows.{AgreeInRows, AreOfRow, HasBegunRows, HasReadRows, IsEarlyByRows, LendsRow}
 use Rattle.jpg_file.specs.Read.RowPlaces.{IsRowAt, scan_left}
 use Rattle.jpg_file.specs.Read.RowTurns.{IsBlankAfter, unfinished}
 use Rattle.jpg_file.specs.Read.RowsKnown.{rows_of_scan}
@@ -304,7 +305,7 @@ rows_left limits bytes w rows m before contents g is begins count = by (g.stands
     by (inr r) = after_left limits bytes w rows (g.stands).whole m before contents r is begins count
 
 -- THE ANSWER
-pub rows_early : (bytes : List ℕ) (m : ℕ) (r : RowReaderState) (all : Bool) → AreLimits r.limits → HasReadRows bytes m r → IsComplete r.file.begun.progress all → all ≡ true → IsEarlyByRows bytes m (record r { done = true })
+pub rows_early : (bytes : List ℕ) (m : ℕ) (r : ReaderState) (all : Bool) → AreLimits r.limits → HasReadRows bytes m r → IsComplete r.file.begun.progress all → all ≡ true → IsEarlyByRows bytes m (record r { done = true })
 rows_early bytes m r all limited h told e = record {
   done = refl;
   begun = record { before = b.before; contents = b.contents; begins = b.begins; rows = b.rows; has = b.has; head = b.head; told = b.told };

@@ -5,31 +5,29 @@ use Rattle.jpg_spec.specs.declared.frame.Limits.{Limits}
 use Rattle.jpg_spec.proofs.Common.{clash}
 use Rattle.jpg_file.specs.Read.ScanHistory.{IsComplete}
 use Rattle.jpg_file.specs.Read.File.{StandsForFile, with_picture}
-use Rattle.jpg_file.specs.Read.ReadFile.{TellsBegun}
-use Rattle.jpg_file.specs.Read.ReadRows.{HasReadAll, IsEarlyByRows, IsEarlyPlainly, IsReadingRows, RowReaderState, whole_reader}
+use Rattle.jpg_file.specs.Read.ReadFile.{TellsBegun, ReaderState}
+use Rattle.jpg_file.specs.Read.ReadRows.{HasReadAll, IsEarlyByRows, IsEarlyPlainly, IsReading}
 use Rattle.jpg_file.specs.Read.Strips.{StripStands}
 use Rattle.jpg_file.specs.declared.read.file.FileWork.{FileWork}
 use Rattle.jpg_file.specs.declared.read.rows.RowWork.{RowWork}
 use Rattle.jpg_file.proofs.Leaving.{early_leaves, ends_early, tells_begun}
 use Rattle.jpg_file.proofs.RowsEarly.{rows_early}
+use Rattle.jpg_file.proofs.RowsKept.{plain_stands}
 use Rattle.jpg_file.proofs.StripPieces.{goes_with}
 
 -- whether each component has begun
-pub all_told : (bytes : List ℕ) (m : ℕ) (r : RowReaderState) (all : Bool) → HasReadAll bytes m r → IsComplete r.file.begun.progress all → TellsBegun r.limits bytes all
+pub all_told : (bytes : List ℕ) (m : ℕ) (r : ReaderState) (all : Bool) → HasReadAll bytes m r → IsComplete r.file.begun.progress all → TellsBegun r.limits bytes all
 all_told bytes m r all (inl (h, none)) told = tells_begun r.limits bytes r.file all h.read.open told
 all_told bytes m r all (inr h) told = tells_begun r.limits bytes (with_picture r.file ((h.open).stands).whole) all (goes_with r.limits bytes r.file (h.begun).rows h.open) told
 
-pub early_answered : (bytes : List ℕ) (m : ℕ) (r : RowReaderState) (all : Bool) → AreLimits r.limits → HasReadAll bytes m r → IsComplete r.file.begun.progress all → all ≡ true
-    → (let new : RowReaderState = record r { done = true } in (IsEarlyPlainly bytes new × (m ≡ 0)) ⊎ IsEarlyByRows bytes m new)
-early_answered bytes m r all limited (inl (h, none)) told e = inl (record { none = h.none; plain = h.plain; early = ends_early (whole_reader r) bytes all h.read told e }, none)
+pub early_answered : (bytes : List ℕ) (m : ℕ) (r : ReaderState) (all : Bool) → AreLimits r.limits → HasReadAll bytes m r → IsComplete r.file.begun.progress all → all ≡ true
+    → (let new : ReaderState = record r { done = true } in (IsEarlyPlainly bytes new × (m ≡ 0)) ⊎ IsEarlyByRows bytes m new)
+early_answered bytes m r all limited (inl (h, none)) told e = inl (record { none = h.none; plain = h.plain; early = ends_early r bytes all h.read told e }, none)
 early_answered bytes m r all limited (inr h) told e = inr (rows_early bytes m r all limited h told e)
 
 -- what it keeps
-plain_stands : (limits : Limits) (bytes : List ℕ) (o : Option RowWork) (w : FileWork) → o ≡ None → StripStands limits bytes o w → StandsForFile limits bytes w
-plain_stands limits bytes o w none s = (let k = subst (λ (x : Option RowWork). StripStands limits bytes x w) none s in k)
-
-pub keeps_early_rows : (r : RowReaderState) (all : Bool) → r.done ≡ false → r.stop ≡ None → IsReadingRows r → IsComplete r.file.begun.progress all → all ≡ true → IsReadingRows (record r { done = true })
-keeps_early_rows r all undone going k told e =
+pub keeps_early : (r : ReaderState) (all : Bool) → r.done ≡ false → r.stop ≡ None → IsReading r → IsComplete r.file.begun.progress all → all ≡ true → IsReading (record r { done = true })
+keeps_early r all undone going k told e =
     let o = k.open going undone in
     record {
       limited = k.limited;

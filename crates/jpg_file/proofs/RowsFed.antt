@@ -14,14 +14,13 @@ use Rattle.jpg_spec.proofs.RowsLater.{head_there}
 use Rattle.jpg_coefs.specs.Picture.{Picture, map_of}
 use Rattle.jpg_file.specs.Read.ReadRows.{AreOfRow}
 use Rattle.jpg_file.specs.Read.RowsKnown.{rows_of_scan}
-use Rattle.jpg_file.specs.Read.RowData.{AfterRowBytes}
+use Rattle.jpg_file.specs.Read.RowData.{InRowData}
 use Rattle.jpg_file.specs.Read.RowPlaces.{scan_left}
 use Rattle.jpg_file.specs.Read.RowTurns.{unfinished}
 use Rattle.jpg_file.specs.Read.Strips.{IsFirstScan, RowIsWhole, RowsInside, frame_behind}
 use Rattle.jpg_file.specs.declared.read.file.FileWork.{FileWork}
 use Rattle.jpg_file.specs.declared.read.rows.RowWork.{RowWork}
 use Rattle.jpg_file.specs.declared.read.scan.InScan.{InScan}
-use Rattle.jpg_file.specs.declared.read.scan.ScanStep.TheVariants as answer
 use Rattle.jpg_file.proofs.RowsGiven.{inside_completes, inside_tells, place_tells, row_blocks}
 use Rattle.jpg_file.proofs.StripRows.{half_due}
 use Rattle.jpg_file.proofs.StripTurns.{data_framed}
@@ -49,9 +48,9 @@ rows_completed limits bytes before contents w rows whole m begins r none count =
 
 -- A FURTHER ONE is complete
 
-pub rest_framed : (limits : Limits) (items : List Item) (contents bytes : List ℕ) (waiting : List Bool) (s : InScan) (whole : Picture) → AfterRowBytes limits items contents bytes answer.More waiting s whole → IsFirstScan limits items → whole.frame ≡ frame_behind limits items
+pub rest_framed : (limits : Limits) (items : List Item) (contents bytes : List ℕ) (waiting : List Bool) (s : InScan) (whole : Picture) → InRowData limits items contents bytes waiting s whole → IsFirstScan limits items → whole.frame ≡ frame_behind limits items
 rest_framed limits items contents bytes [] s whole d first = data_framed limits items contents bytes s whole d first
-rest_framed limits items contents bytes (bit ∷ bits) s whole (more, h) first = (half_due limits items contents bytes (bit ∷ bits) s whole h first).framed
+rest_framed limits items contents bytes (bit ∷ bits) s whole h first = (half_due limits items contents bytes (bit ∷ bits) s whole h first).framed
 
 pub record RowFed (limits : Limits) (bytes : List ℕ) (before : List Segment) (contents : List ℕ) (m : ℕ) (rows : RowWork) : Type 0 where
   pub blocks : Blocks

@@ -18,7 +18,8 @@ use Rattle.jpg_coefs.specs.Picture.{map_of}
 use Rattle.jpg_seq.proofs.ScanRows.{units_by_row}
 use Rattle.jpg_file.specs.Read.File.{with_picture}
 use Rattle.jpg_file.specs.Read.FirstHeader.{IsFirstHeaderOf}
-use Rattle.jpg_file.specs.Read.ReadRows.{HasBegunRows, HasGivenRow, HasReadRows, IsDoneByRows, RowReaderState}
+use Rattle.jpg_file.specs.Read.ReadFile.{ReaderState}
+use Rattle.jpg_file.specs.Read.ReadRows.{HasBegunRows, HasGivenRow, HasReadRows, IsDoneByRows}
 use Rattle.jpg_file.specs.Read.RowsKnown.{TellsStrip, rows_of_scan}
 use Rattle.jpg_file.specs.Read.RowPieces.{HasLastByte}
 use Rattle.jpg_file.specs.Read.RowTurns.{unfinished}
@@ -32,7 +33,7 @@ use Rattle.jpg_file.proofs.RowsFed.{begun_on, row_fed, rows_completed}
 use Rattle.jpg_file.proofs.RowsKept.{with_work}
 
 -- the scan remains begun
-abbrev begun_with : (r : RowReaderState) (new : StripWork) (bytes more : List ℕ) (rows : RowWork) → (b : HasBegunRows bytes r) → new.rows ≡ Some rows → new.strip ≡ r.strip → IsFirstHeaderOf r.limits (bytes ++ more) new.file.head → HasBegunRows (bytes ++ more) (with_work r new)
+abbrev begun_with : (r : ReaderState) (new : StripWork) (bytes more : List ℕ) (rows : RowWork) → (b : HasBegunRows bytes r) → new.rows ≡ Some rows → new.strip ≡ r.strip → IsFirstHeaderOf r.limits (bytes ++ more) new.file.head → HasBegunRows (bytes ++ more) (with_work r new)
 begun_with r new bytes more rows b has same head = record {
   before = b.before;
   contents = b.contents;
@@ -52,7 +53,7 @@ all_given limits bytes more before contents m blocks begins told all =
     all_complete limits (bytes ++ more) m blocks before contents (begun_on limits bytes more before contents begins) (units_by_row f ids ∙ ap (λ n. first_rows f ids n) (sym all)) (rows_stay limits bytes more m blocks told)
 
 -- NO FURTHER ONE is complete with a piece
-pub fed_more_rows : (r : RowReaderState) (new : StripWork) (bytes piece : List ℕ) (m : ℕ) (rows : RowWork) (told : Blocks) → r.stop ≡ None → r.done ≡ false → (b : HasBegunRows bytes r) → m + unfinished b.rows ≡ rows_of_scan r.limits b.before b.contents
+pub fed_more_rows : (r : ReaderState) (new : StripWork) (bytes piece : List ℕ) (m : ℕ) (rows : RowWork) (told : Blocks) → r.stop ≡ None → r.done ≡ false → (b : HasBegunRows bytes r) → m + unfinished b.rows ≡ rows_of_scan r.limits b.before b.contents
     → TellsRows r.limits bytes m told → new.rows ≡ Some rows → new.strip ≡ r.strip → unfinished rows ≡ unfinished b.rows → GoesByRow r.limits (bytes ++ piece) new.file rows
     → HasLastByte r.limits (bytes ++ piece) → length (bytes ++ piece) < r.limits.input
     → HasReadRows (bytes ++ piece) m (with_work r new)
@@ -80,7 +81,7 @@ fed_more_rows r new bytes piece m rows told going undone b count tells has strip
         by (inr k) = (told, all_given r.limits bytes piece b.before b.contents m told b.begins tells (omega (arith, count, same, k.done)))
 
 -- A FURTHER ONE is complete
-pub fed_given_row : (r : RowReaderState) (new : StripWork) (bytes piece : List ℕ) (m : ℕ) (rows : RowWork) → r.stop ≡ None → r.done ≡ false → (b : HasBegunRows bytes r) → m + unfinished b.rows ≡ rows_of_scan r.limits b.before b.contents
+pub fed_given_row : (r : ReaderState) (new : StripWork) (bytes piece : List ℕ) (m : ℕ) (rows : RowWork) → r.stop ≡ None → r.done ≡ false → (b : HasBegunRows bytes r) → m + unfinished b.rows ≡ rows_of_scan r.limits b.before b.contents
     → new.rows ≡ Some rows → new.strip ≡ r.strip → unfinished b.rows ≡ unfinished rows + 1 → (k : RowIsWhole r.limits (bytes ++ piece) new.file rows) → HasLastByte r.limits (bytes ++ piece) → length (bytes ++ piece) ≤ r.limits.input
     → AreInRange (bounds (frame_of r.limits b.before)) (map_of rows.coefs) → HasGivenRow (bytes ++ piece) (m + 1) (with_work r new)
 fed_given_row r new bytes piece m rows going undone b count has strip fewer k last within range =
@@ -104,7 +105,7 @@ fed_given_row r new bytes piece m rows going undone b count has strip fewer k la
     }
 
 -- THE FILE is complete
-pub fed_done_rows : (r : RowReaderState) (new : StripWork) (bytes piece : List ℕ) (m : ℕ) (rows : RowWork) (told : Blocks) → (b : HasBegunRows bytes r) → m + unfinished b.rows ≡ rows_of_scan r.limits b.before b.contents → TellsRows r.limits bytes m told
+pub fed_done_rows : (r : ReaderState) (new : StripWork) (bytes piece : List ℕ) (m : ℕ) (rows : RowWork) (told : Blocks) → (b : HasBegunRows bytes r) → m + unfinished b.rows ≡ rows_of_scan r.limits b.before b.contents → TellsRows r.limits bytes m told
     → new.rows ≡ Some rows → new.strip ≡ r.strip → unfinished rows ≡ unfinished b.rows → EndsByRow r.limits (bytes ++ piece) new.file rows → IsDoneByRows (bytes ++ piece) m (record (with_work r new) { done = true })
 fed_done_rows r new bytes piece m rows told b count tells has strip same k =
     let all = bytes ++ piece in

@@ -24,7 +24,7 @@ use Rattle.jpg_base.specs.Cursor.{scan_mcus_down}
 use Rattle.jpg_base.proofs.Grids.{down_low}
 use Rattle.jpg_coefs.specs.Picture.{Picture, is_padded, map_of}
 use Rattle.jpg_seq.specs.Rows.{IsRowOf, rows_in_mcu, top_of}
-use Rattle.jpg_file.specs.Read.RowData.{AfterRowBytes}
+use Rattle.jpg_file.specs.Read.RowData.{InRowData}
 use Rattle.jpg_file.specs.Read.RowPlaces.{IsRowAt, scan_left}
 use Rattle.jpg_file.specs.Read.RowTurns.{unfinished}
 use Rattle.jpg_file.specs.Read.ReadRows.{AreOfRow}
@@ -32,7 +32,6 @@ use Rattle.jpg_file.specs.Read.Strips.{IsFirstScan, RowsInside, components_of, f
 use Rattle.jpg_file.specs.declared.read.file.FileWork.{FileWork}
 use Rattle.jpg_file.specs.declared.read.rows.RowWork.{RowWork}
 use Rattle.jpg_file.specs.declared.read.scan.InScan.{InScan}
-use Rattle.jpg_file.specs.declared.read.scan.ScanStep.TheVariants as answer
 use Rattle.jpg_file.proofs.RowsTold.{told_first}
 use Rattle.jpg_file.proofs.RowsPlaced.{CompletesDue, PlaceTells, begins_at, data_stops, data_tells, half_tells, rows_cut, scan_of_all, stops_complete}
 
@@ -40,17 +39,17 @@ use Rattle.jpg_file.proofs.RowsPlaced.{CompletesDue, PlaceTells, begins_at, data
 -- is left
 pub inside_completes : (limits : Limits) (bytes : List ℕ) (w : FileWork) (rows : RowWork) (whole : Picture) → (r : RowsInside limits bytes w rows whole) → rows.waiting ≡ [] → CompletesDue limits bytes r.items r.contents rows
 inside_completes limits bytes w rows whole r none =
-    let d = subst (λ (l : List Bool). AfterRowBytes limits r.items r.contents bytes answer.More l r.scan whole) none r.coded in
+    let d = subst (λ (l : List Bool). InRowData limits r.items r.contents bytes l r.scan whole) none r.coded in
     let first = (r.held).of in
     let all = scan_of_all limits r.items r.contents rows (scan_left r.scan.work) first (r.at).at in
     stops_complete limits r.items r.contents bytes whole rows (scan_left r.scan.work) (data_stops limits r.items r.contents bytes r.scan whole d first all) (r.at).at
 
 -- WHERE BITS MAY WAIT
 
-rest_tells : (limits : Limits) (items : List Item) (contents bytes : List ℕ) (waiting : List Bool) (s : InScan) (whole : Picture) → AfterRowBytes limits items contents bytes answer.More waiting s whole → IsFirstScan limits items
+rest_tells : (limits : Limits) (items : List Item) (contents bytes : List ℕ) (waiting : List Bool) (s : InScan) (whole : Picture) → InRowData limits items contents bytes waiting s whole → IsFirstScan limits items
     → IsScanOfAll limits (segments_of items) contents → PlaceTells limits items contents bytes whole (scan_left s.work)
 rest_tells limits items contents bytes [] s whole d first all = data_tells limits items contents bytes s whole d first all
-rest_tells limits items contents bytes (bit ∷ bits) s whole (more, h) first all = half_tells limits items contents bytes (bit ∷ bits) s whole h first all
+rest_tells limits items contents bytes (bit ∷ bits) s whole h first all = half_tells limits items contents bytes (bit ∷ bits) s whole h first all
 
 pub inside_tells : (limits : Limits) (bytes : List ℕ) (w : FileWork) (rows : RowWork) (whole : Picture) → (r : RowsInside limits bytes w rows whole) → PlaceTells limits r.items r.contents bytes whole (scan_left r.scan.work)
 inside_tells limits bytes w rows whole r =

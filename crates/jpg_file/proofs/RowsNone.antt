@@ -31,12 +31,12 @@ use Rattle.jpg_file.specs.Read.SegmentState.{told_by}
 use Rattle.jpg_file.specs.Read.Items.{AfterSegment}
 use Rattle.jpg_file.specs.Read.JudgedHeader.{JudgesHead}
 use Rattle.jpg_file.specs.Read.RowsNone.{FindsNone, HasNoRows, NoRowsIn, NoneAfter}
-use Rattle.jpg_file.specs.Read.Strips.{AfterScanBegins, contents_held, end_step}
+use Rattle.jpg_file.specs.Read.Strips.{AfterScanBegins, contents_held}
 use Rattle.jpg_file.specs.declared.read.file.FileWork.{FileWork}
 use Rattle.jpg_file.specs.declared.read.first_header.Head.{Head}
 use Rattle.jpg_file.specs.declared.read.rows.RowWork.{RowWork}
-use Rattle.jpg_file.specs.declared.read.strips.StripStep.{StripStep}
-use Rattle.jpg_file.specs.declared.read.strips.StripStep.TheVariants as step
+use Rattle.jpg_file.specs.declared.read.step.Step.{Step}
+use Rattle.jpg_file.specs.declared.read.step.Step.TheVariants as step
 use Rattle.jpg_file.proofs.FileSteps.{frame_held, head_is, head_left}
 use Rattle.jpg_file.proofs.FirstHeaders.{heads_first}
 use Rattle.jpg_file.proofs.PieceSteps.{front_of, one_more}
@@ -147,7 +147,7 @@ pub none_in : (limits : Limits) (bytes : List ℕ) (rows : Option RowWork) → H
 none_in limits bytes None none = none
 none_in limits bytes (Some rows) none = tt
 
-pub none_after : (limits : Limits) (bytes : List ℕ) (answer : StripStep) (rows : Option RowWork) → HasNoRows limits bytes → NoneAfter limits bytes answer rows
+pub none_after : (limits : Limits) (bytes : List ℕ) (answer : Step) (rows : Option RowWork) → HasNoRows limits bytes → NoneAfter limits bytes answer rows
 none_after limits bytes step.More rows none = none_in limits bytes rows none
 none_after limits bytes step.Row rows none = none_in limits bytes rows none
 none_after limits bytes step.Whole rows none = none_in limits bytes rows none
@@ -164,21 +164,18 @@ pub none_fault : (limits : Limits) (front : List ℕ) (byte : ℕ) (f : FaultAt)
 none_fault limits front byte f rows shown none = none_in limits (front ++ byte ∷ []) rows (none_at_fault limits front byte f.fault shown none)
 
 -- before the first scan header, as of a file that is read in one go
-pub none_plain : (asks : Type 0) (limits : Limits) (front : List ℕ) (byte : ℕ) (w : FileWork) (answer : Result Bool Stop) (result : StripStep) (rows : Option RowWork) → result ≡ end_step answer → w.head ≡ None
-    → AfterFileByte asks limits (front ++ byte ∷ []) answer w → HasNoRows limits front → NoneAfter limits (front ++ byte ∷ []) result rows
-none_plain asks limits front byte w answer result rows is first a none = subst (λ (s : StripStep). NoneAfter limits (front ++ byte ∷ []) s rows) (sym is) (by answer a)
-  where
-    all : List ℕ
-    all = front ++ byte ∷ []
-
-    by : (answer : Result Bool Stop) → AfterFileByte asks limits (front ++ byte ∷ []) answer w → NoneAfter limits (front ++ byte ∷ []) (end_step answer) rows
-    by (Ok false) a = none_in limits all rows (none_before limits all w a first)
-    by (Ok true) a = none_in limits all rows (no_rows limits all (let k = subst (λ (o : Option Head). IsFirstHeaderOf limits (front ++ byte ∷ []) o) first (head_left limits all w a) in k))
-    by (Err (stop.Fault f)) a = none_fault limits front byte f rows a.1 none
-    by (Err stop.NoMemory) a = tt
+pub none_plain : (asks : Type 0) (limits : Limits) (front : List ℕ) (byte : ℕ) (w : FileWork) (answer : Step) (rows : Option RowWork) → w.head ≡ None
+    → AfterFileByte asks limits (front ++ byte ∷ []) answer w → HasNoRows limits front → NoneAfter limits (front ++ byte ∷ []) answer rows
+none_plain asks limits front byte w step.More rows first a none = (let all = front ++ byte ∷ [] in none_in limits all rows (none_before limits all w a first))
+none_plain asks limits front byte w step.Row rows first a none = absurd a
+none_plain asks limits front byte w step.Whole rows first a none =
+    let all = front ++ byte ∷ [] in
+    none_in limits all rows (no_rows limits all (let k = subst (λ (o : Option Head). IsFirstHeaderOf limits all o) first (head_left limits all w a) in k))
+none_plain asks limits front byte w (step.Ended (stop.Fault f)) rows first a none = none_fault limits front byte f rows a.1 none
+none_plain asks limits front byte w (step.Ended stop.NoMemory) rows first a none = tt
 
 -- contents of a segment, and a byte
-pub none_first : (w mid : FileWork) (run : List ℕ) (n : ℕ) (answer : StripStep) (rows : Option RowWork) → PassesFront w run n mid → ((bytes : List ℕ) → StandsForFile (limits_of mid) bytes mid → NoneAfter (limits_of mid) (bytes ++ get_or run n 0 ∷ []) answer rows)
+pub none_first : (w mid : FileWork) (run : List ℕ) (n : ℕ) (answer : Step) (rows : Option RowWork) → PassesFront w run n mid → ((bytes : List ℕ) → StandsForFile (limits_of mid) bytes mid → NoneAfter (limits_of mid) (bytes ++ get_or run n 0 ∷ []) answer rows)
     → (bytes : List ℕ) → StandsForFile (limits_of w) bytes w → NoneAfter (limits_of w) (bytes ++ take (n + 1) run) answer rows
 none_first w mid run n answer rows p none bytes k =
     let limits = limits_of w in

@@ -12,16 +12,16 @@ use Rattle.jpg_file.specs.Read.File.{StandsForFile, limits_of}
 use Rattle.jpg_file.specs.Read.RowPieces.{RowsGo}
 use Rattle.jpg_file.specs.Read.RowsNone.{HasNoRows, NoRowsIn, NoneAfter, NoneFed, NoneSome}
 use Rattle.jpg_file.specs.Read.Strips.{CountsStrip, StripGoes, TakesStrip}
-use Rattle.jpg_file.specs.declared.read.row_reader.FedRow.TheVariants as fed
+use Rattle.jpg_file.specs.declared.read.row_pieces.FedRow.TheVariants as fed
 use Rattle.jpg_file.specs.declared.read.rows.RowWork.{RowWork}
 use Rattle.jpg_file.specs.declared.read.strip_work.StripWork.{StripWork}
-use Rattle.jpg_file.specs.declared.read.strips.StripStep.{StripStep}
-use Rattle.jpg_file.specs.declared.read.strips.StripStep.TheVariants as step
+use Rattle.jpg_file.specs.declared.read.step.Step.{Step}
+use Rattle.jpg_file.specs.declared.read.step.Step.TheVariants as step
 use Rattle.jpg_file.proofs.PieceSteps.{counted, front_of, joined, within}
 use Rattle.jpg_file.proofs.RowPieces.{came_at, last_row, stop_shown, strip_limits, strip_whole}
 
 -- if an MCU row is being read, nothing is claimed
-some_after : (limits : Limits) (bytes : List ℕ) (answer : StripStep) (rows : RowWork) → NoneAfter limits bytes answer (Some rows)
+some_after : (limits : Limits) (bytes : List ℕ) (answer : Step) (rows : RowWork) → NoneAfter limits bytes answer (Some rows)
 some_after limits bytes step.More rows = tt
 some_after limits bytes step.Row rows = tt
 some_after limits bytes step.Whole rows = tt
@@ -29,7 +29,7 @@ some_after limits bytes (step.Ended (stop.Fault f)) rows = tt
 some_after limits bytes (step.Ended stop.NoMemory) rows = tt
 
 -- some more bytes
-none_some : (limits : Limits) (bytes run : List ℕ) (n : ℕ) (answer : StripStep) (work new : StripWork) → RowsGo limits bytes work.rows work.file → NoRowsIn limits bytes work.rows → (work.rows ≡ None → NoneSome work run n answer new) → CountsStrip answer work.rows new.rows
+none_some : (limits : Limits) (bytes run : List ℕ) (n : ℕ) (answer : Step) (work new : StripWork) → RowsGo limits bytes work.rows work.file → NoRowsIn limits bytes work.rows → (work.rows ≡ None → NoneSome work run n answer new) → CountsStrip answer work.rows new.rows
     → NoneAfter limits (bytes ++ take n run) answer new.rows
 none_some limits bytes run n answer work new go none after counts = by work.rows refl none go.goes counts
   where
@@ -45,7 +45,7 @@ none_some limits bytes run n answer work new go none after counts = by work.rows
     by (Some rows) is k s c = later rows new.rows c
 
 -- of the rest of a piece
-pub none_piece : (limits : Limits) (bytes piece : List ℕ) (done n : ℕ) (answer : StripStep) (work new : StripWork) → done ≤ length piece → RowsGo limits (bytes ++ take done piece) work.rows work.file → NoRowsIn limits (bytes ++ take done piece) work.rows
+pub none_piece : (limits : Limits) (bytes piece : List ℕ) (done n : ℕ) (answer : Step) (work new : StripWork) → done ≤ length piece → RowsGo limits (bytes ++ take done piece) work.rows work.file → NoRowsIn limits (bytes ++ take done piece) work.rows
     → (work.rows ≡ None → NoneSome work (take (length piece - done) (drop done piece)) n answer new) → CountsStrip answer work.rows new.rows → NoneAfter limits (bytes ++ take (done + n) piece) answer new.rows
 none_piece limits bytes piece done n answer work new few go none after counts =
     let front = bytes ++ take done piece in
@@ -84,7 +84,7 @@ pub none_wanted : (limits : Limits) (bytes piece : List ℕ) (done : ℕ) (rows 
 none_wanted limits bytes piece done rows end none = subst (λ (l : List ℕ). NoRowsIn limits (bytes ++ l) rows) (take_all done piece end) none
 
 -- THE BITS that waited
-pub never_ended : (a : Option RowWork) (answer : StripStep) (e : Stop) → answer ≡ step.Ended e → (is_some a ≡ false → answer ≡ step.More) → a ≡ None → ⊥
+pub never_ended : (a : Option RowWork) (answer : Step) (e : Stop) → answer ≡ step.Ended e → (is_some a ≡ false → answer ≡ step.More) → a ≡ None → ⊥
 never_ended a answer e is plain none = (let x : step.Ended e ≡ step.More = sym is ∙ plain (ap is_some none) in cc)
 
 -- IF NONE IS BEING READ after a piece

@@ -30,12 +30,11 @@ use Rattle.jpg_seq.specs.Rows.{IsRowOf, top_of}
 use Rattle.jpg_seq.specs.declared.reader.SeqReader.{SeqReader}
 use Rattle.jpg_file.specs.Read.InData.{InData, frame_at}
 use Rattle.jpg_file.specs.Read.Machine.{any_scan}
-use Rattle.jpg_file.specs.Read.RowData.{AfterRowBytes, HalfData}
+use Rattle.jpg_file.specs.Read.RowData.{HalfData, InRowData}
 use Rattle.jpg_file.specs.Read.Strips.{IsFirstScan, RowIsWhole, RowsInside, frame_behind}
 use Rattle.jpg_file.specs.declared.read.file.FileWork.{FileWork}
 use Rattle.jpg_file.specs.declared.read.rows.RowWork.{RowWork}
 use Rattle.jpg_file.specs.declared.read.scan.InScan.{InScan}
-use Rattle.jpg_file.specs.declared.read.scan.ScanStep.TheVariants as answer
 use Rattle.jpg_file.proofs.RowsPlaced.{machine_stands}
 use Rattle.jpg_file.proofs.ScanBytes.{due_at, read_at}
 use Rattle.jpg_file.proofs.StripRows.{data_due, half_due}
@@ -230,9 +229,9 @@ half_in_range limits items contents bytes waiting s whole h first =
     let w = subst (λ (t : Scan). IsWholeScan t) (sym (k.is).scan) (whole_scan limits p e) in
     units_in_range m.machine k.interval bits whole w o (so_far_in_range limits p (map_of (k.interval).before) p.done (p.places ∷ p.later) e (h.at).leads k.so_far)
 
-rest_in_range : (limits : Limits) (items : List Item) (contents bytes : List ℕ) (waiting : List Bool) (s : InScan) (whole : Picture) → AfterRowBytes limits items contents bytes answer.More waiting s whole → IsFirstScan limits items → AreInRange (bounds_of 8) (map_of whole)
+rest_in_range : (limits : Limits) (items : List Item) (contents bytes : List ℕ) (waiting : List Bool) (s : InScan) (whole : Picture) → InRowData limits items contents bytes waiting s whole → IsFirstScan limits items → AreInRange (bounds_of 8) (map_of whole)
 rest_in_range limits items contents bytes [] s whole d first = data_in_range limits items contents bytes s whole d first
-rest_in_range limits items contents bytes (bit ∷ bits) s whole (more, h) first = half_in_range limits items contents bytes (bit ∷ bits) s whole h first
+rest_in_range limits items contents bytes (bit ∷ bits) s whole h first = half_in_range limits items contents bytes (bit ∷ bits) s whole h first
 
 -- THE MCU ROW: the blocks of its padded grids are those of the picture, and all others are zero
 row_in_range : (tops : List ℕ) (whole row : Picture) → IsRowOf tops whole row → AreInRange (bounds_of 8) (map_of whole) → AreInRange (bounds_of 8) (map_of row)

@@ -5,7 +5,8 @@ use Rattle.jpg_spec.specs.UnfinishedFile.{UnfinishedFile}
 use Rattle.jpg_spec.specs.declared.frame.Limits.{Limits}
 use Rattle.jpg_file.specs.Read.File.{StandsForFile}
 use Rattle.jpg_file.specs.Read.FirstHeader.{IsFirstHeaderOf}
-use Rattle.jpg_file.specs.Read.ReadRows.{HasReadAll, HasReadPlainly, RowReaderState}
+use Rattle.jpg_file.specs.Read.ReadFile.{ReaderState}
+use Rattle.jpg_file.specs.Read.ReadRows.{HasReadAll, HasReadPlainly}
 use Rattle.jpg_file.specs.Read.Strips.{RowsAfter, RowsInside, StandsByRow}
 use Rattle.jpg_file.specs.declared.read.file.FileWork.{FileWork}
 use Rattle.jpg_file.specs.declared.read.rows.RowWork.{RowWork}
@@ -14,7 +15,7 @@ use Rattle.jpg_file.proofs.FirstHeaders.{no_head}
 use Rattle.jpg_file.proofs.PieceSteps.{counted, stands_file}
 use Rattle.jpg_file.proofs.RowsNone.{no_rows}
 
-pub record ReadAll (bytes : List ℕ) (r : RowReaderState) : Type 0 where
+pub record ReadAll (bytes : List ℕ) (r : ReaderState) : Type 0 where
   pub stands : UnfinishedFile r.limits bytes
   pub short : length bytes < r.limits.input
   pub taken : r.file.reading.taken ≡ length bytes
@@ -26,12 +27,12 @@ by_row_counted limits bytes w rows s = by s.at
     by (inl r) = (r.held).count
     by (inr b) = ((b.between).beside).count
 
-pub read_all : (bytes : List ℕ) (m : ℕ) (r : RowReaderState) → HasReadAll bytes m r → ReadAll bytes r
+pub read_all : (bytes : List ℕ) (m : ℕ) (r : ReaderState) → HasReadAll bytes m r → ReadAll bytes r
 read_all bytes m r (inl (h, none)) = record { stands = h.read.stands; short = h.read.short; taken = counted r.limits bytes r.file h.read.open }
 read_all bytes m r (inr h) = record { stands = h.stands; short = h.short; taken = by_row_counted r.limits bytes r.file (h.begun).rows (h.open).stands }
 
 -- the state before any byte
-pub read_nothing : (limits : Limits) (r : RowReaderState) → AreLimits limits → r.limits ≡ limits → r.rows ≡ None → r.stop ≡ None → r.done ≡ false → StandsForFile limits [] r.file → HasReadPlainly [] r
+pub read_nothing : (limits : Limits) (r : ReaderState) → AreLimits limits → r.limits ≡ limits → r.rows ≡ None → r.stop ≡ None → r.done ≡ false → StandsForFile limits [] r.file → HasReadPlainly [] r
 read_nothing limits r is same none stop done stands = record {
   none = none;
   plain = no_rows r.limits [] (no_head r.limits [] (inl (inl refl)));

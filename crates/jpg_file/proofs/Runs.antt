@@ -1,7 +1,7 @@
 -- Some data bytes passed to a machine at once: the last of them is passed by itself, after the bits of those before it.
 use Rattle.std.proofs.Common.{◌≡◌, ℕ, ◌+◌, ◌-◌, ◌*◌, ◌/◌, ◌%◌, min, ◌<◌, ◌≤◌, Bool, List, [], ◌∷◌, ◌++◌, length, take, drop, get_or, refl, sym, ap, ◌∙◌, subst, arith, Ok, Err}
 use Rattle.std.specs.Prelude.{Result}
-use Rattle.std.proofs.Math.Seq.{take-append-add, take-append_seam}
+use Rattle.std.proofs.Math.Seq.{drop-append_seam, take-append-add, take-append_seam}
 use Rattle.std.proofs.lemmas.List.{append_assoc, append-nil, append_cancel_left, length-append, length-drop, length-take-le, take_all, take_more, take-append-drop, take-append-le, take-take, get_or-take, get_or-append-add, length-take}
 use Rattle.jpg_spec.specs.Bits.{bits_of, bits_of_bytes}
 use Rattle.jpg_spec.proofs.DataFacts.{bits_join}
@@ -11,11 +11,11 @@ use Rattle.jpg_coefs.specs.Machine.{Interval, Kind, Chain, ChainTo, TakesBits}
 use Rattle.jpg_coefs.specs.declared.machine.UnitStep.{UnitStep}
 use Rattle.jpg_coefs.specs.declared.machine.UnitStep.TheVariants as step
 use Rattle.jpg_coefs.specs.declared.machine.UnitFault.{UnitFault}
+use Rattle.jpg_coefs.specs.declared.machine.Taken.{Taken}
 use Rattle.jpg_coefs.specs.declared.machine.Taken.TheVariants as taken
-use Rattle.jpg_coefs.proofs.Chains.{chain_then, chain_stands, answer_to}
-use Rattle.jpg_file.specs.Read.Data.{GivesBits, GivesRun}
-use Rattle.jpg_file.specs.declared.read.data.DataStep.{DataStep}
-use Rattle.jpg_file.specs.declared.read.data.DataStep.TheVariants as came
+use Rattle.jpg_coefs.proofs.Chains.{chain_then, chain_stands, some_taken}
+use Rattle.jpg_file.specs.Read.Data.{AnswersIn, GivesBits, GivesRun, waits_of}
+use Rattle.jpg_file.proofs.Chains.{chain_all, no_units}
 
 -- A CHAIN of bits, split in two
 
@@ -122,7 +122,7 @@ answer_cut {M} k most m new now after bits xs front answer cut some (before, bit
 -- THE RESULT OF THE BITS OF ALL THE BYTES
 
 pub run_more : {M : Type 0} (k : Kind M) (most : ℕ) (m new : M) (now after : Picture) (bytes : List ℕ) (rest : List Bool) (n : ℕ) → 1 ≤ length bytes → n ≡ length bytes - length rest / 8
-    → TakesBits k most m now (bits_of_bytes bytes) taken.More new after rest → GivesRun M k m now bytes n came.More new after
+    → TakesBits k most m now (bits_of_bytes bytes) taken.More new after rest → GivesRun M k m now bytes n taken.More [] new after
 run_more {M} k most m new now after bytes rest n some count (bits, cut, (chain, few, none)) =
     let early = length bytes - 1 in
     let no_rest : length rest ≡ 0 = ap length none in
@@ -141,7 +141,7 @@ run_more {M} k most m new now after bytes rest n some count (bits, cut, (chain, 
       count = omega (arith, count, no_rest, some);
       within = omega (arith, some);
       chain = c.first;
-      last = λ i so_far s. chain_stands k c.mid new c.between after i so_far (bits_of 8 last) c.second s;
+      last = (refl, c.second);
     }
   where
     dropped : (xs : List ℕ) (i : ℕ) → length xs ≤ i → drop i xs ≡ []
@@ -160,12 +160,13 @@ run_cut bytes bits rest n e some count =
     let low : length rest / 8 < length bytes = omega (arith, sum, long, some) in
     record { early = n - 1; count = omega (arith, count, low); last = last_byte bytes bits rest (n - 1) e some (omega (arith, count, low)) }
 
-pub run_whole : {M : Type 0} (k : Kind M) (most : ℕ) (m new : M) (now after : Picture) (bytes : List ℕ) (rest : List Bool) (n : ℕ) → n ≡ length bytes - length rest / 8
-    → TakesBits k most m now (bits_of_bytes bytes) taken.IntervalDone new after rest → GivesRun M k m now bytes n came.Whole new after
-run_whole {M} k most m new now after bytes rest n count (bits, cut, chain) =
-    let c = run_cut bytes bits rest n cut (omega (arith, ap length chain.4, length-append chain.0 (chain.1 ∷ []))) count in
+run_ends : {M : Type 0} (k : Kind M) (most : ℕ) (m new : M) (now after : Picture) (bytes : List ℕ) (bits rest : List Bool) (n : ℕ) (answer : Result UnitStep UnitFault) (came : Taken)
+    → ((mid : M) (between : Picture) (z : List Bool) → AnswersIn k mid between z answer new after → GivesBits k mid between z came [] new after) → n ≡ length bytes - length rest / 8 → bits_of_bytes bytes ≡ bits ++ rest → ChainTo k most m now bits answer new after
+    → GivesRun M k m now bytes n came [] new after
+run_ends {M} k most m new now after bytes bits rest n answer came turn count cut chain =
+    let c = run_cut bytes bits rest n cut (some_taken k most m new now after bits answer chain) count in
     let l = c.last in
-    let a = answer_cut k most m new now after bits (bits_of_bytes (take c.early bytes)) l.front (Ok step.IntervalDone) l.cut l.some chain in
+    let a = answer_cut k most m new now after bits (bits_of_bytes (take c.early bytes)) l.front answer l.cut l.some chain in
     record {
       mid = a.mid;
       between = a.between;
@@ -173,25 +174,68 @@ run_whole {M} k most m new now after bytes rest n count (bits, cut, chain) =
       count = c.count;
       within = l.within;
       chain = a.first;
-      last = λ i so_far s. (let z = answer_to k a.most a.mid new a.between after i so_far l.front (Ok step.IntervalDone) a.second s in
-          (l.front, l.rest, l.byte, l.some, record { whole = z.0; ready = z.1 }));
+      last = turn a.mid a.between (bits_of 8 (get_or bytes c.early 0)) (a.most, l.front, l.rest, l.byte, a.second);
     }
 
-pub run_fault : {M : Type 0} (k : Kind M) (most : ℕ) (m new : M) (now after : Picture) (bytes : List ℕ) (rest : List Bool) (n : ℕ) (f : UnitFault) → n ≡ length bytes - length rest / 8
-    → TakesBits k most m now (bits_of_bytes bytes) (taken.Fault f) new after rest → GivesRun M k m now bytes n (came.Fault f) new after
-run_fault {M} k most m new now after bytes rest n f count (bits, cut, chain) =
-    let c = run_cut bytes bits rest n cut (omega (arith, ap length chain.4, length-append chain.0 (chain.1 ∷ []))) count in
+-- where all units that are left were asked for
+pub run_all : {M : Type 0} (k : Kind M) (most : ℕ) (m new : M) (now after : Picture) (bytes : List ℕ) (rest : List Bool) (n : ℕ) (answer : Taken) → 1 ≤ length bytes → (answer ≡ taken.Units → most ≡ k.left m) → n ≡ length bytes - length rest / 8
+    → TakesBits k most m now (bits_of_bytes bytes) answer new after rest → GivesRun M k m now bytes n answer [] new after
+run_all k most m new now after bytes rest n taken.More some all count t = run_more k most m new now after bytes rest n some count t
+run_all k most m new now after bytes rest n taken.Units some all count t = absurd (no_units k most m new now after (bits_of_bytes bytes) rest (all refl) t)
+run_all k most m new now after bytes rest n taken.IntervalDone some all count (bits, cut, chain) =
+    run_ends k most m new now after bytes bits rest n (Ok step.IntervalDone) taken.IntervalDone (λ mid between z a. (refl, a)) count cut chain
+run_all k most m new now after bytes rest n (taken.Fault f) some all count (bits, cut, chain) =
+    run_ends k most m new now after bytes bits rest n (Err f) (taken.Fault f) (λ mid between z a. (refl, a)) count cut chain
+
+-- where some may wait: these are those of the last byte after the bits that were taken
+run_part : {M : Type 0} (k : Kind M) (m new : M) (now after : Picture) (bytes : List ℕ) (bits rest waiting : List Bool) (n : ℕ) → bits_of_bytes bytes ≡ bits ++ rest → 1 ≤ length bits → n ≡ length bytes - length rest / 8
+    → waiting ≡ drop (length bits - 8 * (n - 1)) (bits_of 8 (get_or bytes (n - 1) 0)) → Chain k m now bits new after → GivesRun M k m now bytes n taken.Units waiting new after
+run_part {M} k m new now after bytes bits rest waiting n cut some count waits chain =
+    let c = run_cut bytes bits rest n cut some count in
     let l = c.last in
-    let a = answer_cut k most m new now after bits (bits_of_bytes (take c.early bytes)) l.front (Err f) l.cut l.some chain in
+    let C : List Bool → Type 0 = λ z. Chain k m now z new after in
+    let two = chain_cut k m new now after (bits_of_bytes (take c.early bytes)) l.front (subst C l.cut chain) in
+    let long : length bits ≡ 8 * c.early + length l.front = omega (arith, ap length l.cut, length-append (bits_of_bytes (take c.early bytes)) l.front, bytes_long (take c.early bytes), length-take-le c.early bytes (omega (arith, l.within))) in
+    let early : n - 1 ≡ c.early = omega (arith, c.count) in
+    let byte = get_or bytes c.early 0 in
+    let size : length bits - 8 * (n - 1) ≡ length l.front = omega (arith, long, early) in
+    let is : waiting ≡ l.rest =
+    waits ∙ ap (λ e. drop (length bits - 8 * (n - 1)) (bits_of 8 (get_or bytes e 0))) early ∙ ap (λ z. drop z (bits_of 8 byte)) size ∙ ap (drop (length l.front)) l.byte ∙ drop-append_seam l.front l.rest in
     record {
-      mid = a.mid;
-      between = a.between;
+      mid = two.mid;
+      between = two.between;
       early = c.early;
       count = c.count;
       within = l.within;
-      chain = a.first;
-      last = λ i so_far s. (l.front, l.rest, l.byte, (answer_to k a.most a.mid new a.between after i so_far l.front (Err f) a.second s).0);
+      chain = two.first;
+      last = (l.front, l.byte ∙ ap (λ z. l.front ++ z) (sym is), two.second);
     }
+
+-- how many bits they are
+bits_given : (bytes : List ℕ) (bits rest : List Bool) (count : ℕ) → count ≤ 8 * length bytes → rest ≡ drop count (bits_of_bytes bytes) → bits_of_bytes bytes ≡ bits ++ rest → length bits ≡ count
+bits_given bytes bits rest count within is cut = omega (arith, within, ap length is, length-drop count (bits_of_bytes bytes), bytes_long bytes, ap length cut, length-append bits rest)
+
+pub run_given : {M : Type 0} (k : Kind M) (most : ℕ) (m new : M) (now after : Picture) (bytes : List ℕ) (count n : ℕ) (last : List Bool) (answer : Taken) → 1 ≤ length bytes → count ≤ 8 * length bytes → n ≡ length bytes - length (drop count (bits_of_bytes bytes)) / 8
+    → last ≡ drop (count - 8 * (n - 1)) (bits_of 8 (get_or bytes (n - 1) 0)) → TakesBits k most m now (bits_of_bytes bytes) answer new after (drop count (bits_of_bytes bytes)) → GivesRun M k m now bytes n answer (waits_of answer last) new after
+run_given k most m new now after bytes count n last taken.More some within given is t = run_all k most m new now after bytes _ n taken.More some (λ e. absurd cc) given t
+run_given k most m new now after bytes count n last taken.Units some within given is (bits, cut, (chain, many, more)) =
+    let rest = drop count (bits_of_bytes bytes) in
+    let long = bits_given bytes bits rest count within refl cut in
+    run_part k m new now after bytes bits rest last n cut (some_taken k most m new now after bits (Ok step.More) chain) given (is ∙ ap (λ z. drop (z - 8 * (n - 1)) (bits_of 8 (get_or bytes (n - 1) 0))) (sym long))
+    (chain_all k most m new now after bits chain)
+run_given k most m new now after bytes count n last taken.IntervalDone some within given is t = run_all k most m new now after bytes _ n taken.IntervalDone some (λ e. absurd cc) given t
+run_given k most m new now after bytes count n last (taken.Fault f) some within given is t = run_all k most m new now after bytes _ n (taken.Fault f) some (λ e. absurd cc) given t
+
+-- at least one bit is taken
+pub some_given : {M : Type 0} (k : Kind M) (most : ℕ) (m new : M) (now after : Picture) (bytes : List ℕ) (count : ℕ) (answer : Taken) → 1 ≤ length bytes → count ≤ 8 * length bytes
+    → TakesBits k most m now (bits_of_bytes bytes) answer new after (drop count (bits_of_bytes bytes)) → 1 ≤ count
+some_given k most m new now after bytes count taken.More some within (bits, cut, (chain, few, none)) = omega (arith, ap length none, length-drop count (bits_of_bytes bytes), bytes_long bytes, some)
+some_given k most m new now after bytes count taken.Units some within (bits, cut, (chain, many, more)) =
+    omega (arith, bits_given bytes bits _ count within refl cut, some_taken k most m new now after bits (Ok step.More) chain)
+some_given k most m new now after bytes count taken.IntervalDone some within (bits, cut, chain) =
+    omega (arith, bits_given bytes bits _ count within refl cut, some_taken k most m new now after bits (Ok step.IntervalDone) chain)
+some_given k most m new now after bytes count (taken.Fault f) some within (bits, cut, chain) =
+    omega (arith, bits_given bytes bits _ count within refl cut, some_taken k most m new now after bits (Err f) chain)
 
 -- AFTER BYTES that were passed before
 
@@ -214,8 +258,8 @@ taken_first n e rest low =
     let l = length-take n rest in
     (take-take e n rest (omega (arith, low, l)), get_or-take n rest e 0 (omega (arith, low, l)))
 
-pub run_after : {M : Type 0} (k : Kind M) (m mid new : M) (now between after : Picture) (bytes rest : List ℕ) (n most given : ℕ) (answer : DataStep) → HasRun M k m now bytes mid between rest → GivesRun M k mid between (take most rest) n answer new after
-    → given ≡ length bytes - length rest + n → GivesRun M k m now bytes given answer new after
+pub run_after : {M : Type 0} (k : Kind M) (m mid new : M) (now between after : Picture) (bytes rest : List ℕ) (n most given : ℕ) (answer : Taken) → HasRun M k m now bytes mid between rest → GivesRun M k mid between (take most rest) n answer [] new after
+    → given ≡ length bytes - length rest + n → GivesRun M k m now bytes given answer [] new after
 run_after {M} k m mid new now between after bytes rest n most given answer h g count =
     let d = length h.done in
     let t = taken_first most g.early rest g.within in
@@ -233,7 +277,7 @@ run_after {M} k m mid new now between after bytes rest n most given answer h g c
       count = omega (arith, count, g.count, all, long);
       within = omega (arith, low, all, long);
       chain = subst C (sym b) (chain_then k m mid g.mid now between g.between (bits_of_bytes h.done) (bits_of_bytes (take g.early (take most rest))) h.chain g.chain);
-      last = subst (λ (x : ℕ). GivesBits k g.mid g.between (bits_of 8 x) answer new after) at g.last;
+      last = subst (λ (x : ℕ). GivesBits k g.mid g.between (bits_of 8 x) answer [] new after) at g.last;
     }
 
 pub run_on : {M : Type 0} (k : Kind M) (m mid new : M) (now between after : Picture) (bytes rest : List ℕ) (left : List Bool) → HasRun M k m now bytes mid between rest → 8 < length rest

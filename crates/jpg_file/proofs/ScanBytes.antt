@@ -1,6 +1,6 @@
 -- Inside the data of a scan: the effect of the machine's answers on the place.
-use Rattle.std.proofs.Common.{◌≡◌, ℕ, zero, suc, ◌+◌, ◌-◌, ◌%◌, ◌≤◌, min, Bool, true, false, List, [], ◌∷◌, ◌++◌, length, refl, sym, ap, ◌∙◌, subst, arith, ℤ}
-use Rattle.std.specs.Prelude.{flat_map, replicate}
+use Rattle.std.proofs.Common.{◌≡◌, ℕ, zero, suc, ◌+◌, ◌-◌, ◌%◌, ◌≤◌, min, Bool, true, false, List, [], ◌∷◌, ◌++◌, length, refl, sym, ap, ◌∙◌, subst, arith, ℤ, Ok, Err}
+use Rattle.std.specs.Prelude.{flat_map, replicate, Result}
 use Rattle.std.proofs.lemmas.List.{append-nil, append_assoc, length-append}
 use Rattle.jpg_spec.specs.Bits.{bits_of, bits_of_bytes}
 use Rattle.jpg_spec.specs.Elements.{Coding, UnitLeft, SpellsUnits}
@@ -14,25 +14,28 @@ use Rattle.jpg_spec.specs.ScanReading.{ScanPlace, scan_at, with_byte, with_inter
 use Rattle.jpg_spec.specs.Parts.{StandsInUnits}
 use Rattle.jpg_spec.specs.PictureInWork.{IntervalRead, ScanSoFar}
 use Rattle.jpg_spec.specs.Lists.{joined}
+use Rattle.jpg_spec.specs.declared.fault.Fault.{Fault}
 use Rattle.jpg_spec.specs.declared.fault.Fault.TheVariants as fault
 use Rattle.jpg_spec.specs.declared.frame.Limits.{Limits}
 use Rattle.jpg_spec.specs.declared.frame.Place.{Place}
-use Rattle.jpg_spec.proofs.PictureInWork.{byte_bits, byte_packs, so_far_next, so_far_last}
+use Rattle.jpg_spec.proofs.DataFacts.{bits_join}
+use Rattle.jpg_spec.proofs.PictureInWork.{byte_packs, so_far_next, so_far_last}
 use Rattle.jpg_spec.proofs.ScanSteps.{plain_data, stuffed_data, filled_data, marker_data, marker_code, complete_stands}
 use Rattle.jpg_spec.proofs.ScanAnswers.{units_at, bits_shown, bits_complete, interval_extra, units_due, units_short, interval_wrong, interval_begun}
 use Rattle.jpg_coefs.specs.Picture.{Picture, map_of}
-use Rattle.jpg_coefs.specs.Machine.{Interval, Follows, units_of, fault_of}
+use Rattle.jpg_coefs.specs.Machine.{Chain, Interval, IsWholeInterval, Follows, units_of, fault_of}
 use Rattle.jpg_coefs.specs.declared.machine.UnitFault.{UnitFault}
+use Rattle.jpg_coefs.specs.declared.machine.UnitStep.TheVariants.{IntervalDone}
+use Rattle.jpg_coefs.specs.declared.machine.Taken.{Taken}
+use Rattle.jpg_coefs.specs.declared.machine.Taken.TheVariants as taken
+use Rattle.jpg_coefs.proofs.Chains.{answer_to, chain_stands, some_taken}
 use Rattle.jpg_file.specs.declared.read.machine.ScanReader.{ScanReader}
 use Rattle.jpg_file.specs.Read.Machine.{any_scan}
-use Rattle.jpg_file.specs.Read.Data.{EndsInterval, AfterBits}
-use Rattle.jpg_file.specs.declared.read.data.DataStep.TheVariants as came
+use Rattle.jpg_file.specs.Read.Data.{AnswersIn, GivesBits}
 use Rattle.jpg_file.specs.declared.read.scan.ScanWork.{ScanWork}
 use Rattle.jpg_huff.specs.Gate.{IsData}
 use Rattle.jpg_file.specs.declared.read.scan.InScan.{InScan}
-use Rattle.jpg_file.specs.declared.read.scan.ScanStep.{ScanStep}
-use Rattle.jpg_file.specs.declared.read.scan.ScanStep.TheVariants.{More, Marker, Fault as Stopped}
-use Rattle.jpg_file.specs.Read.InData.{frame_at, IsReadable, IsInterval, IsDue, IsRead, AtInterval, AreIntervals, AtWork, MarkerAt, NextBegins, Waits, InData, AfterData, AfterMarker, AfterByte, EndsData}
+use Rattle.jpg_file.specs.Read.InData.{frame_at, IsReadable, IsInterval, IsDue, IsRead, AtInterval, AreIntervals, AtWork, MarkerAt, NextBegins, Waits, InData, AfterData, AfterMarker, AfterByte, AfterBytes, byte_answer, scan_answer, work_after}
 use Rattle.jpg_file.proofs.IntervalFits.{distinct_places, interval_fits, same_units}
 use Rattle.jpg_file.proofs.Machines.{scans_keep_units}
 
@@ -69,61 +72,70 @@ due_units limits p m now r d =
       stands = of_place limits p d.interval (λ c us. StandsInUnits c us (u.whole ++ u.part) u.left (bits_of_bytes p.coded)) r d.is d.so_far u.stands;
     }
 
--- A DATA BYTE whose bits the machine took
+-- DATA whose bits the machine took
 
-pub due_more : (limits : Limits) (p : ScanPlace) (byte : ℕ) (w : ScanWork) (m : ScanReader) (now after : Picture) → w.whole ≡ false → AtWork limits p w now
-    → ((i : Interval) (bits : List Bool) → any_scan.stands w.machine i bits now → AfterBits any_scan i bits (bits_of 8 byte) came.More m after) → AtWork limits (with_byte p byte) (record w { machine = m }) after
-due_more limits p byte w m now after e k took =
+abbrev pub with_bytes : ScanPlace → List ℕ → ScanPlace
+with_bytes p more = record p { coded = p.coded ++ more }
+
+-- a chain of their bits
+pub due_chain : (limits : Limits) (p : ScanPlace) (run : List ℕ) (w : ScanWork) (m : ScanReader) (now after : Picture) → w.whole ≡ false → AtWork limits p w now → Chain any_scan w.machine now (bits_of_bytes run) m after
+    → AtWork limits (with_bytes p run) (record w { machine = m; whole = false }) after
+due_chain limits p run w m now after e k chain =
     let d = due_at limits p w now e k in
-    let due : Due limits (with_byte p byte) m after = record {
+    let due : Due limits (with_bytes p run) m after = record {
       interval = d.interval;
       is = record { scan = (d.is).scan; places = (d.is).places; later = (d.is).later };
       framed = d.framed;
-      stands = subst (λ l. any_scan.stands m d.interval l after) (sym (byte_bits p.coded byte)) (took d.interval (bits_of_bytes p.coded) d.stands);
+      stands = subst (λ l. any_scan.stands m d.interval l after) (sym (bits_join p.coded run)) (chain_stands any_scan w.machine m now after d.interval (bits_of_bytes p.coded) (bits_of_bytes run) chain d.stands);
       so_far = d.so_far;
     } in
     record {
       readable = record { distinct = (k.readable).distinct };
-      at = subst (λ b. AtInterval limits (with_byte p byte) b m after) (sym e) due;
+      at = due;
       turn = k.turn;
       due = k.due;
       later = k.later;
     }
 
-pub due_fault : (limits : Limits) (bytes : List ℕ) (p : ScanPlace) (byte : ℕ) (w : ScanWork) (m : ScanReader) (now after : Picture) (f : UnitFault) → ScanAt limits bytes (with_byte p byte) [] → w.whole ≡ false → AtWork limits p w now
-    → ((i : Interval) (bits : List Bool) → any_scan.stands w.machine i bits now → AfterBits any_scan i bits (bits_of 8 byte) (came.Fault f) m after) → Reveals limits (fault_of f) bytes
-due_fault limits bytes p byte w m now after f at e k took =
+-- a byte
+due_more : (limits : Limits) (p : ScanPlace) (byte : ℕ) (w : ScanWork) (m : ScanReader) (now after : Picture) → w.whole ≡ false → AtWork limits p w now → Chain any_scan w.machine now (bits_of 8 byte) m after
+    → AtWork limits (with_byte p byte) (record w { machine = m; whole = false }) after
+due_more limits p byte w m now after e k chain =
+    due_chain limits p (byte ∷ []) w m now after e k (subst (λ z. Chain any_scan w.machine now z m after) (sym (append-nil (bits_of 8 byte))) chain)
+
+due_fault : (limits : Limits) (bytes : List ℕ) (p : ScanPlace) (byte : ℕ) (w : ScanWork) (m : ScanReader) (now after : Picture) (f : UnitFault) → ScanAt limits bytes (with_byte p byte) [] → w.whole ≡ false → AtWork limits p w now
+    → AnswersIn any_scan w.machine now (bits_of 8 byte) (Err f) m after → Reveals limits (fault_of f) bytes
+due_fault limits bytes p byte w m now after f at e k (most, front, rest, cut, chain) =
     let d = due_at limits p w now e k in
     let i = d.interval in
-    let t = took i (bits_of_bytes p.coded) d.stands in
-    bits_shown limits bytes p byte (fault_of f) t.0 t.1 at t.2
-    (of_place limits p i (λ c us. DataReveals c us (fault_of f) (bits_of_bytes p.coded ++ t.0)) k.readable d.is d.so_far t.3)
+    let t = answer_to any_scan most w.machine m now after i (bits_of_bytes p.coded) front (Err f) chain d.stands in
+    bits_shown limits bytes p byte (fault_of f) front rest at cut
+    (of_place limits p i (λ c us. DataReveals c us (fault_of f) (bits_of_bytes p.coded ++ front)) k.readable d.is d.so_far t.0)
 
-pub due_whole : (limits : Limits) (p : ScanPlace) (byte : ℕ) (w : ScanWork) (m : ScanReader) (now after : Picture) → w.whole ≡ false → AtWork limits p w now
-    → ((i : Interval) (bits : List Bool) → any_scan.stands w.machine i bits now → AfterBits any_scan i bits (bits_of 8 byte) came.Whole m after) → AtWork limits (with_byte p byte) (record w { machine = m; whole = true }) after
-due_whole limits p byte w m now after e k took =
+due_whole : (limits : Limits) (p : ScanPlace) (byte : ℕ) (w : ScanWork) (m : ScanReader) (now after : Picture) → w.whole ≡ false → AtWork limits p w now
+    → AnswersIn any_scan w.machine now (bits_of 8 byte) (Ok IntervalDone) m after → AtWork limits (with_byte p byte) (record w { machine = m; whole = true }) after
+due_whole limits p byte w m now after e k (most, front, rest, cut, chain) =
     let d = due_at limits p w now e k in
     let i = d.interval in
     let s = scan_at limits p in
-    let t = took i (bits_of_bytes p.coded) d.stands in
-    let front : List Bool = t.0 in
     let bits = bits_of_bytes p.coded ++ front in
-    let ends : EndsInterval ScanReader any_scan i bits m after = t.4 in
-    let whole = ends.whole in
+    let some = some_taken any_scan most w.machine m now after front (Ok IntervalDone) chain in
+    let ends = answer_to any_scan most w.machine m now after i (bits_of_bytes p.coded) front (Ok IntervalDone) chain d.stands in
+    let whole : IsWholeInterval i bits after = ends.0 in
     let distinct = distinct_places limits p k.readable in
     let told : List ℤ = flat_map (λ q. band i.scan (block_at (map_of after) q)) i.places in
     let spelled = of_place limits p i (λ c us. SpellsUnits c us told bits) k.readable d.is d.so_far (whole.read).spelled in
     let read : IntervalRead s p.places (map_of i.before) (map_of after) bits =
     subst (λ (q : Scan). IntervalRead q p.places (map_of i.before) (map_of after) bits) (d.is).scan (subst (λ l. IntervalRead i.scan l (map_of i.before) (map_of after) bits) (d.is).places whole.read) in
-    let packs = byte_packs p.coded byte front t.1 t.2 t.3 in
+    let packs = byte_packs p.coded byte front rest cut some in
     let is_read : Read limits (with_byte p byte) m after = record {
       interval = i;
       is = record { scan = (d.is).scan; places = (d.is).places; later = (d.is).later };
       fits = scans_keep_units.fits w.machine i (bits_of_bytes p.coded) now d.stands;
       framed = whole.frame ∙ d.framed;
-      completes = bits_complete limits p byte front t.1 told t.2 t.3 spelled;
+      completes = bits_complete limits p byte front rest told cut some spelled;
       so_far = so_far_next s p.blocks (map_of i.before) (map_of after) p.done (p.coded ++ byte ∷ []) bits p.places p.later distinct d.so_far packs read;
-      ready = ends.ready;
+      ready = ends.1;
     } in
     record {
       readable = record { distinct = (k.readable).distinct };
@@ -132,6 +144,19 @@ due_whole limits p byte w m now after e k took =
       due = k.due;
       later = k.later;
     }
+
+pub due_data : (limits : Limits) (bytes : List ℕ) (p : ScanPlace) (byte : ℕ) (w : ScanWork) (m : ScanReader) (now after : Picture) (answer : Taken) → ScanAt limits bytes (with_byte p byte) [] → w.whole ≡ false → AtWork limits p w now
+    → GivesBits any_scan w.machine now (bits_of 8 byte) answer [] m after → AfterData limits bytes (with_byte p byte) (scan_answer answer) (work_after w m answer) after
+due_data limits bytes p byte w m now after taken.More at e k (none, chain) = due_more limits p byte w m now after e k chain
+due_data limits bytes p byte w m now after taken.Units at e k (front, cut, chain) =
+    due_more limits p byte w m now after e k (subst (λ z. Chain any_scan w.machine now z m after) (sym (append-nil front) ∙ sym cut) chain)
+due_data limits bytes p byte w m now after taken.IntervalDone at e k (none, a) = due_whole limits p byte w m now after e k a
+due_data limits bytes p byte w m now after (taken.Fault f) at e k (none, a) = due_fault limits bytes p byte w m now after f at e k a
+
+-- by what the machine's answer means
+pub as_stepped : (w new : ScanWork) (m : ScanReader) (taken : Taken) (answer : Result (Unit {0}) Fault) (P : Result (Unit {0}) Fault → ScanWork → Type 0) → answer ≡ scan_answer taken → new ≡ work_after w m taken
+    → P (scan_answer taken) (work_after w m taken) → P answer new
+as_stepped w new m taken answer P is work k = subst (λ (a : Result (Unit {0}) Fault). P a new) (sym is) (subst (λ (v : ScanWork). P (scan_answer taken) v) (sym work) k)
 
 -- after a complete interval
 pub whole_extra : (limits : Limits) (bytes : List ℕ) (p : ScanPlace) (byte : ℕ) (w : ScanWork) (now : Picture) → ScanAt limits bytes (with_byte p byte) [] → w.whole ≡ true → AtWork limits p w now → Reveals limits fault.ExtraData bytes
@@ -266,11 +291,18 @@ data_at limits items contents bytes byte passed s now d k = by s.gate d.waits k
         subst (λ m. ScanAt limits (bytes ++ byte ∷ []) (with_byte d.place m) []) (sym is)
         (subst (λ m. ScanAt limits (bytes ++ m ∷ []) (with_byte d.place 255) []) (sym zero_byte) (stuffed_data limits bytes d.place n (subst (λ m. ScanAt limits bytes d.place (replicate m 255)) some d.at)))
 
-pub data_byte : (limits : Limits) (items : List Item) (contents bytes : List ℕ) (p : ScanPlace) (gate : Bool) (w : ScanWork) (now : Picture) (answer : ScanStep) → (p.items ≡ items) × (p.contents ≡ contents) → ScanAt limits bytes p [] → gate ≡ false
-    → AfterData limits bytes p answer w now → AfterByte limits items contents bytes answer (record { gate = gate; work = w }) now
-data_byte limits items contents bytes p gate w now More of at g k = record { place = p; of = of; fill = 0; at = at; waits = subst (λ b. Waits b 0) (sym g) refl; work = k }
-data_byte limits items contents bytes p gate w now (Marker code) of at g k = absurd k
-data_byte limits items contents bytes p gate w now (Stopped f) of at g k = k
+pub data_byte : (limits : Limits) (items : List Item) (contents bytes : List ℕ) (p : ScanPlace) (gate : Bool) (w : ScanWork) (now : Picture) (answer : Result (Unit {0}) Fault) → (p.items ≡ items) × (p.contents ≡ contents) → ScanAt limits bytes p [] → gate ≡ false
+    → AfterData limits bytes p answer w now → AfterBytes limits items contents bytes answer (record { gate = gate; work = w }) now
+data_byte limits items contents bytes p gate w now (Ok u) of at g k = record { place = p; of = of; fill = 0; at = at; waits = subst (λ b. Waits b 0) (sym g) refl; work = k }
+data_byte limits items contents bytes p gate w now (Err f) of at g k = k
+
+pub by_data : (limits : Limits) (items : List Item) (contents bytes : List ℕ) (byte : ℕ) (answer : Result (Unit {0}) Fault) (s : InScan) (now : Picture) → AfterBytes limits items contents bytes answer s now → AfterByte limits items contents bytes byte (byte_answer answer) s now
+by_data limits items contents bytes byte (Ok u) s now k = k
+by_data limits items contents bytes byte (Err f) s now k = k
+
+pub never_over : (answer : Result (Unit {0}) Fault) → byte_answer answer ≡ Ok true → ⊥
+never_over (Ok u) e = cc
+never_over (Err f) e = cc
 
 -- after FF bytes
 pub last_framed : (limits : Limits) (p : ScanPlace) (w : ScanWork) (now : Picture) → w.whole ≡ true → AtWork limits p w now → now.frame ≡ frame_at limits p
@@ -288,21 +320,20 @@ marker_at limits items contents bytes code s now d g z f =
       work = d.work;
     }
 
-pub marker_byte : (limits : Limits) (items : List Item) (contents bytes : List ℕ) (p : ScanPlace) (n code : ℕ) (gate : Bool) (w : ScanWork) (now : Picture) (answer : ScanStep) → (p.items ≡ items) × (p.contents ≡ contents) → (code ≡ 0 → ⊥) → (code ≡ 255 → ⊥)
-    → ScanAt limits bytes p (replicate (suc n) 255 ++ code ∷ []) → gate ≡ false → AfterMarker limits bytes p code answer w now → AfterByte limits items contents bytes answer (record { gate = gate; work = w }) now
-marker_byte limits items contents bytes p n code gate w now More of z f at g (next, others, begun, k) =
+pub marker_byte : (limits : Limits) (items : List Item) (contents bytes : List ℕ) (p : ScanPlace) (n code : ℕ) (gate : Bool) (w : ScanWork) (now : Picture) (answer : Result Bool Fault) → (p.items ≡ items) × (p.contents ≡ contents) → (code ≡ 0 → ⊥) → (code ≡ 255 → ⊥)
+    → ScanAt limits bytes p (replicate (suc n) 255 ++ code ∷ []) → gate ≡ false → AfterMarker limits bytes p answer w now → AfterByte limits items contents bytes code answer (record { gate = gate; work = w }) now
+marker_byte limits items contents bytes p n code gate w now (Ok false) of z f at g (next, others, begun, k) =
     record { place = with_interval p next others; of = of; fill = 0; at = begun; waits = subst (λ b. Waits b 0) (sym g) refl; work = k }
-marker_byte limits items contents bytes p n code gate w now (Marker c) of z f at g (is, framed, means) =
-    subst (λ k. EndsData limits items contents bytes k now) (sym is) (record {
-      place = p;
-      of = of;
-      fill = n;
-      at = at;
-      marker = marker_code 0 code z f;
-      framed = framed ∙ ap (λ (i : List Item). frame_of limits (segments_of i)) of.0;
-      means = means;
-    })
-marker_byte limits items contents bytes p n code gate w now (Stopped f) of z g at h k = k
+marker_byte limits items contents bytes p n code gate w now (Ok true) of z f at g (framed, means) = record {
+  place = p;
+  of = of;
+  fill = n;
+  at = at;
+  marker = marker_code 0 code z f;
+  framed = framed ∙ ap (λ (i : List Item). frame_of limits (segments_of i)) of.0;
+  means = means;
+}
+marker_byte limits items contents bytes p n code gate w now (Err f) of z g at h k = k
 
 -- INSIDE DATA the bytes have no fault
 pub data_stands : (limits : Limits) (items : List Item) (contents bytes : List ℕ) (s : InScan) (now : Picture) → InData limits items contents bytes s now → UnfinishedFile limits bytes

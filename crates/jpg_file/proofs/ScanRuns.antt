@@ -7,26 +7,16 @@ use Rattle.jpg_spec.specs.Bits.{bits_of, bits_of_bytes}
 use Rattle.jpg_spec.specs.Items.{Item}
 use Rattle.jpg_spec.specs.ScanReading.{ScanPlace, ScanAt, with_byte}
 use Rattle.jpg_spec.specs.declared.frame.Limits.{Limits}
-use Rattle.jpg_spec.proofs.DataFacts.{bits_join}
 use Rattle.jpg_spec.proofs.ScanSteps.{plain_data}
 use Rattle.jpg_coefs.specs.Picture.{Picture}
-use Rattle.jpg_coefs.specs.Machine.{Chain, fault_of}
-use Rattle.jpg_coefs.specs.declared.machine.UnitFault.{UnitFault}
-use Rattle.jpg_coefs.proofs.Chains.{chain_stands}
+use Rattle.jpg_coefs.specs.Machine.{Chain}
+use Rattle.jpg_coefs.specs.declared.machine.Taken.{Taken}
 use Rattle.jpg_file.specs.declared.read.machine.ScanReader.{ScanReader}
 use Rattle.jpg_file.specs.Read.Machine.{any_scan}
 use Rattle.jpg_file.specs.Read.Data.{GivesBits, GivesRun}
-use Rattle.jpg_file.specs.declared.read.data.DataStep.{DataStep}
-use Rattle.jpg_file.specs.declared.read.data.DataStep.TheVariants as came
 use Rattle.jpg_file.specs.declared.read.scan.InScan.{InScan}
-use Rattle.jpg_file.specs.declared.read.scan.ScanWork.{ScanWork}
-use Rattle.jpg_file.specs.declared.read.scan.ScanStep.{ScanStep}
-use Rattle.jpg_file.specs.declared.read.scan.ScanStep.TheVariants as step
-use Rattle.jpg_file.specs.Read.InData.{ArePlain, AtInterval, AtWork, InData, TakesRun, TakesScanByte, Waits}
-use Rattle.jpg_file.proofs.ScanBytes.{Due, data_byte, due_at, due_fault, due_more, due_whole}
-
-abbrev pub with_bytes : ScanPlace → List ℕ → ScanPlace
-with_bytes p more = record p { coded = p.coded ++ more }
+use Rattle.jpg_file.specs.Read.InData.{AfterBytes, ArePlain, InData, TakesRun, Waits, scan_answer, work_after}
+use Rattle.jpg_file.proofs.ScanBytes.{data_byte, due_chain, due_data, with_bytes}
 
 -- THE PLACE after plain bytes
 pub plain_at : (limits : Limits) (bytes : List ℕ) (p : ScanPlace) (run : List ℕ) → ArePlain run → ScanAt limits bytes p [] → ScanAt limits (bytes ++ run) (with_bytes p run) []
@@ -40,26 +30,6 @@ plain_at limits bytes p (b ∷ run) plain w =
     let others = plain_at limits (bytes ++ b ∷ []) (with_byte p b) run (λ k low e. plain (suc k) (omega (arith, low)) e) first in
     subst (λ l. ScanAt limits l (with_bytes p (b ∷ run)) []) (append_assoc bytes (b ∷ []) run)
     (subst (λ l. ScanAt limits ((bytes ++ b ∷ []) ++ run) (record p { coded = l }) []) (append_assoc p.coded (b ∷ []) run) others)
-
--- THE MACHINE after a chain of their bits
-due_chain : (limits : Limits) (p : ScanPlace) (run : List ℕ) (w : ScanWork) (m : ScanReader) (now after : Picture) → w.whole ≡ false → AtWork limits p w now → Chain any_scan w.machine now (bits_of_bytes run) m after
-    → AtWork limits (with_bytes p run) (record w { machine = m }) after
-due_chain limits p run w m now after e k chain =
-    let d = due_at limits p w now e k in
-    let due : Due limits (with_bytes p run) m after = record {
-      interval = d.interval;
-      is = record { scan = (d.is).scan; places = (d.is).places; later = (d.is).later };
-      framed = d.framed;
-      stands = subst (λ l. any_scan.stands m d.interval l after) (sym (bits_join p.coded run)) (chain_stands any_scan w.machine m now after d.interval (bits_of_bytes p.coded) (bits_of_bytes run) chain d.stands);
-      so_far = d.so_far;
-    } in
-    record {
-      readable = record { distinct = (k.readable).distinct };
-      at = subst (λ b. AtInterval limits (with_bytes p run) b m after) (sym e) due;
-      turn = k.turn;
-      due = k.due;
-      later = k.later;
-    }
 
 -- a prefix of plain bytes is plain
 pub front_plain : (run : List ℕ) (n : ℕ) → n ≤ length run → ArePlain run → ArePlain (take n run)
@@ -96,7 +66,7 @@ open_at limits items contents bytes s now d e = subst (λ n. ScanAt limits bytes
 
 -- THE STATE before the last of the bytes
 abbrev pub mid_of : InScan → ScanReader → InScan
-mid_of s m = record s { work = record (s.work) { machine = m } }
+mid_of s m = record s { work = record (s.work) { machine = m; whole = false } }
 
 pub before_last : (s : InScan) (m : ScanReader) (now between : Picture) (run : List ℕ) (early : ℕ) → s.gate ≡ false → s.work.whole ≡ false → early ≤ length run → ArePlain run → Chain any_scan s.work.machine now (bits_of_bytes (take early run)) m between
     → (limits : Limits) (items : List Item) (contents bytes : List ℕ) → InData limits items contents bytes s now → InData limits items contents (bytes ++ take early run) (mid_of s m) between
@@ -111,27 +81,16 @@ before_last s m now between run early gate whole few plain chain limits items co
     }
 
 -- THE LAST of them
-pub last_more : (s : InScan) (m : ScanReader) (now after : Picture) (byte : ℕ) → s.gate ≡ false → s.work.whole ≡ false → (byte ≡ 255 → ⊥) → GivesBits any_scan s.work.machine now (bits_of 8 byte) came.More m after
-    → TakesScanByte s now byte step.More (mid_of s m) after
-last_more s m now after byte gate whole plain took limits items contents bytes d =
-    data_byte limits items contents (bytes ++ byte ∷ []) (with_byte d.place byte) s.gate (record (s.work) { machine = m }) after step.More d.of (plain_data limits bytes d.place byte (open_at limits items contents bytes s now d gate) plain) gate
-    (due_more limits d.place byte s.work m now after whole d.work took)
-
-pub last_whole : (s : InScan) (m : ScanReader) (now after : Picture) (byte : ℕ) → s.gate ≡ false → s.work.whole ≡ false → (byte ≡ 255 → ⊥) → GivesBits any_scan s.work.machine now (bits_of 8 byte) came.Whole m after
-    → TakesScanByte s now byte step.More (record s { work = record (s.work) { machine = m; whole = true } }) after
-last_whole s m now after byte gate whole plain took limits items contents bytes d =
-    data_byte limits items contents (bytes ++ byte ∷ []) (with_byte d.place byte) s.gate (record (s.work) { machine = m; whole = true }) after step.More d.of (plain_data limits bytes d.place byte (open_at limits items contents bytes s now d gate) plain) gate
-    (due_whole limits d.place byte s.work m now after whole d.work took)
-
-pub last_fault : (s new : InScan) (m : ScanReader) (now after : Picture) (byte : ℕ) (f : UnitFault) → s.gate ≡ false → s.work.whole ≡ false → (byte ≡ 255 → ⊥) → GivesBits any_scan s.work.machine now (bits_of 8 byte) (came.Fault f) m after
-    → TakesScanByte s now byte (step.Fault (fault_of f)) new after
-last_fault s new m now after byte f gate whole plain took limits items contents bytes d =
-    due_fault limits (bytes ++ byte ∷ []) d.place byte s.work m now after f (plain_data limits bytes d.place byte (open_at limits items contents bytes s now d gate) plain) whole d.work took
+last_takes : (s : InScan) (m : ScanReader) (now after : Picture) (byte : ℕ) (answer : Taken) → s.gate ≡ false → s.work.whole ≡ false → (byte ≡ 255 → ⊥) → GivesBits any_scan s.work.machine now (bits_of 8 byte) answer [] m after
+    → (limits : Limits) (items : List Item) (contents bytes : List ℕ) → InData limits items contents bytes s now → AfterBytes limits items contents (bytes ++ byte ∷ []) (scan_answer answer) (record s { work = work_after (s.work) m answer }) after
+last_takes s m now after byte answer gate whole plain took limits items contents bytes d =
+    let at = plain_data limits bytes d.place byte (open_at limits items contents bytes s now d gate) plain in
+    data_byte limits items contents (bytes ++ byte ∷ []) (with_byte d.place byte) s.gate (work_after (s.work) m answer) after (scan_answer answer) d.of at gate (due_data limits (bytes ++ byte ∷ []) d.place byte s.work m now after answer at whole d.work took)
 
 -- THE COMPLETE RUN
-pub run_takes : (s new : InScan) (m : ScanReader) (now after : Picture) (run : List ℕ) (n : ℕ) (came_to : DataStep) (answer : ScanStep) → s.gate ≡ false → s.work.whole ≡ false → ArePlain run
-    → (g : GivesRun ScanReader any_scan s.work.machine now run n came_to m after) → TakesScanByte (mid_of s g.mid) g.between (get_or run g.early 0) answer new after → TakesRun s now run n answer new after
-run_takes s new m now after run n came_to answer gate whole plain g last = record {
+pub run_takes : (s : InScan) (m : ScanReader) (now after : Picture) (run : List ℕ) (n : ℕ) (answer : Taken) → s.gate ≡ false → s.work.whole ≡ false → ArePlain run
+    → GivesRun ScanReader any_scan s.work.machine now run n answer [] m after → TakesRun s now run n (scan_answer answer) (record s { work = work_after (s.work) m answer }) after
+run_takes s m now after run n answer gate whole plain g = record {
   mid = mid_of s g.mid;
   between = g.between;
   early = g.early;
@@ -139,5 +98,5 @@ run_takes s new m now after run n came_to answer gate whole plain g last = recor
   within = g.within;
   «open» = gate;
   before = (let low = g.within in before_last s g.mid now g.between run g.early gate whole (omega (arith, low)) plain g.chain);
-  last = last;
+  last = last_takes (mid_of s g.mid) m g.between after (get_or run g.early 0) answer gate refl (plain g.early g.within) g.last;
 }

@@ -1,16 +1,16 @@
 -- A byte inside the data of a scan, for the reader of a file.
-use Rattle.std.proofs.Common.{ap, Option, get_or, take, ◌<◌, ◌≡◌, ℕ, ◌+◌, ◌≤◌, Bool, true, false, List, [], ◌∷◌, ◌++◌, length, refl, sym, ◌∙◌, subst, arith, Some, None, inl, inr}
+use Rattle.std.proofs.Common.{ap, Option, get_or, take, ◌<◌, ◌≡◌, ℕ, ◌+◌, ◌≤◌, Bool, true, false, List, [], ◌∷◌, ◌++◌, length, refl, sym, ◌∙◌, subst, arith, Some, None, Ok, Err, inl, inr}
+use Rattle.std.specs.Prelude.{Result}
 use Rattle.std.proofs.lemmas.List.{length-append, length-take-le}
 use Rattle.jpg_spec.specs.Items.{Item}
+use Rattle.jpg_spec.specs.FirstFault.{Reveals}
 use Rattle.jpg_spec.specs.declared.fault.Fault.{Fault as Named}
 use Rattle.jpg_spec.specs.declared.frame.Limits.{Limits}
 use Rattle.jpg_coefs.specs.Picture.{Picture, map_of}
 use Rattle.jpg_markers.specs.Reading.{reading_of}
-use Rattle.jpg_file.specs.Read.InData.{InData, AfterByte, EndsData, TakesRun}
+use Rattle.jpg_file.specs.Read.InData.{InData, EndsData, TakesRun}
 use Rattle.jpg_file.specs.Read.Items.{BehindHead, AfterScan}
 use Rattle.jpg_file.specs.declared.read.scan.InScan.{InScan}
-use Rattle.jpg_file.specs.declared.read.scan.ScanStep.{ScanStep}
-use Rattle.jpg_file.specs.declared.read.scan.ScanStep.TheVariants as answer
 use Rattle.jpg_file.specs.declared.read.items.Items.{Items}
 use Rattle.jpg_file.specs.declared.read.items.ItemStep.{ItemStep}
 use Rattle.jpg_file.specs.declared.read.items.ItemStep.TheVariants as step
@@ -35,7 +35,7 @@ counted : (bytes : List ℕ) (byte n : ℕ) → n ≡ length bytes → n + 1 ≡
 counted bytes byte n e = omega (arith, e, length-append bytes (byte ∷ []))
 
 pub scan_goes_on : (limits : Limits) (items : List Item) (contents bytes : List ℕ) (byte : ℕ) (r : Reading) (coefs after : Picture) (scan new : InScan) → r.coefs ≡ Some coefs → r.scan ≡ Some scan
-    → ((limits : Limits) (items : List Item) (contents bytes : List ℕ) → InData limits items contents bytes scan coefs → AfterByte limits items contents (bytes ++ byte ∷ []) answer.More new after) → Scanning limits items contents bytes r
+    → ((limits : Limits) (items : List Item) (contents bytes : List ℕ) → InData limits items contents bytes scan coefs → InData limits items contents (bytes ++ byte ∷ []) new after) → Scanning limits items contents bytes r
     → AfterScanByte limits items contents (bytes ++ byte ∷ []) step.More (record r { coefs = Some after; scan = Some new; taken = r.taken + 1 })
 scan_goes_on limits items contents bytes byte r coefs after scan new e f took s =
     inl (
@@ -52,18 +52,18 @@ scan_goes_on limits items contents bytes byte r coefs after scan new e f took s 
       },
     )
 
-pub scan_shows : (limits : Limits) (items : List Item) (contents bytes : List ℕ) (byte : ℕ) (r new : Reading) (coefs after : Picture) (scan next : InScan) (fault : Named) → r.coefs ≡ Some coefs → r.scan ≡ Some scan
-    → ((limits : Limits) (items : List Item) (contents bytes : List ℕ) → InData limits items contents bytes scan coefs → AfterByte limits items contents (bytes ++ byte ∷ []) (answer.Fault fault) next after) → Scanning limits items contents bytes r
+pub scan_shows : (limits : Limits) (items : List Item) (contents bytes : List ℕ) (byte : ℕ) (r new : Reading) (coefs : Picture) (scan : InScan) (fault : Named) → r.coefs ≡ Some coefs → r.scan ≡ Some scan
+    → ((limits : Limits) (items : List Item) (contents bytes : List ℕ) → InData limits items contents bytes scan coefs → Reveals limits fault (bytes ++ byte ∷ [])) → Scanning limits items contents bytes r
     → AfterScanByte limits items contents (bytes ++ byte ∷ []) (step.Fault (record { fault = fault; at = r.taken + 1 })) new
-scan_shows limits items contents bytes byte r new coefs after scan next fault e f took s =
+scan_shows limits items contents bytes byte r new coefs scan fault e f took s =
     inr (inr (took limits items contents bytes (data_of limits items contents bytes r coefs scan e f s), counted bytes byte r.taken s.count))
 
-pub scan_left_after : (limits : Limits) (items : List Item) (contents bytes : List ℕ) (byte code : ℕ) (r : Reading) (coefs after : Picture) (scan next : InScan) (held : Items) (came : ItemStep) → r.coefs ≡ Some coefs → r.scan ≡ Some scan
-    → ((limits : Limits) (all : List Item) (contents bytes : List ℕ) → InData limits all contents bytes scan coefs → AfterByte limits all contents (bytes ++ byte ∷ []) (answer.Marker code) next after)
-    → ((all : List Item) (contents bytes : List ℕ) (now : Picture) → BehindHead limits all contents r.items → EndsData limits all contents bytes code now → AfterScan limits all contents bytes (map_of now) came held)
+pub scan_left_after : (limits : Limits) (items : List Item) (contents bytes : List ℕ) (byte : ℕ) (r : Reading) (coefs after : Picture) (scan : InScan) (held : Items) (came : ItemStep) → r.coefs ≡ Some coefs → r.scan ≡ Some scan
+    → ((limits : Limits) (all : List Item) (contents bytes : List ℕ) → InData limits all contents bytes scan coefs → EndsData limits all contents (bytes ++ byte ∷ []) byte after)
+    → ((all : List Item) (contents bytes : List ℕ) (now : Picture) → BehindHead limits all contents r.items → EndsData limits all contents bytes byte now → AfterScan limits all contents bytes (map_of now) came held)
     → (reading_of held.segments).taken ≡ r.taken + 1 → Scanning limits items contents bytes r
     → AfterScanByte limits items contents (bytes ++ byte ∷ []) came (record { items = held; coefs = Some after; scan = None; taken = r.taken + 1 })
-scan_left_after limits items contents bytes byte code r coefs after scan next held came e f took marker taken s =
+scan_left_after limits items contents bytes byte r coefs after scan held came e f took marker taken s =
     let ended = took limits items contents bytes (data_of limits items contents bytes r coefs scan e f s) in
     inr (inl (record {
       coefs = after;
@@ -84,7 +84,7 @@ reading_mid r scan coefs early = record r { coefs = Some coefs; scan = Some scan
 front_long : (run : List ℕ) (early : ℕ) → early < length run → length (take early run) ≡ early
 front_long run early low = length-take-le early run (omega (arith, low))
 
-mid_scanning : (limits : Limits) (items : List Item) (contents bytes : List ℕ) (r : Reading) (coefs : Picture) (scan : InScan) (run : List ℕ) (n : ℕ) (answer : ScanStep) (new : InScan) (after : Picture) → (t : TakesRun scan coefs run n answer new after)
+mid_scanning : (limits : Limits) (items : List Item) (contents bytes : List ℕ) (r : Reading) (coefs : Picture) (scan : InScan) (run : List ℕ) (n : ℕ) (answer : Result (Unit {0}) Named) (new : InScan) (after : Picture) → (t : TakesRun scan coefs run n answer new after)
     → r.coefs ≡ Some coefs → r.scan ≡ Some scan → Scanning limits items contents bytes r → Scanning limits items contents (bytes ++ take t.early run) (reading_mid r t.mid t.between t.early)
 mid_scanning limits items contents bytes r coefs scan run n answer new after t e f s =
     let size = front_long run t.early t.within in
@@ -102,8 +102,8 @@ mid_scanning limits items contents bytes r coefs scan run n answer new after t e
       behind = (let none : waiting_bytes (t.mid).gate ≡ 0 = ap waiting_bytes t.open in omega (arith, few, none));
     }
 
-pub run_goes_on : (r : Reading) (coefs after : Picture) (scan new : InScan) (run : List ℕ) (n : ℕ) → r.coefs ≡ Some coefs → r.scan ≡ Some scan → TakesRun scan coefs run n answer.More new after
-    → TakesRunOfScan r run n step.More (record r { coefs = Some after; scan = Some new; taken = r.taken + n })
+pub run_goes_on : (r : Reading) (coefs after : Picture) (scan new : InScan) (run : List ℕ) (n : ℕ) → r.coefs ≡ Some coefs → r.scan ≡ Some scan → TakesRun scan coefs run n (Ok tt) new after
+    → TakesRunOfScan r run n (Ok tt) (record r { coefs = Some after; scan = Some new; taken = r.taken + n })
 run_goes_on r coefs after scan new run n e f t =
     let count = t.count in
     record {
@@ -114,15 +114,15 @@ run_goes_on r coefs after scan new run n e f t =
       inside = refl;
       items = refl;
       taken = refl;
-      before = λ limits items contents bytes s. mid_scanning limits items contents bytes r coefs scan run n answer.More new after t e f s;
+      before = λ limits items contents bytes s. mid_scanning limits items contents bytes r coefs scan run n (Ok tt) new after t e f s;
       last = λ limits items contents bytes s.
           (let one : (r.taken + t.early) + 1 ≡ r.taken + n = omega (arith, count) in
           subst (λ m. AfterScanByte limits items contents (bytes ++ get_or run t.early 0 ∷ []) step.More (record r { coefs = Some after; scan = Some new; taken = m })) one
           (scan_goes_on limits items contents bytes (get_or run t.early 0) (reading_mid r t.mid t.between t.early) t.between after t.mid new refl refl (λ l i c b d. t.last l i c b d) s));
     }
 
-pub run_shows : (r next : Reading) (coefs after : Picture) (scan new : InScan) (run : List ℕ) (n : ℕ) (fault : Named) → r.coefs ≡ Some coefs → r.scan ≡ Some scan → TakesRun scan coefs run n (answer.Fault fault) new after
-    → TakesRunOfScan r run n (step.Fault (record { fault = fault; at = r.taken + n })) next
+pub run_shows : (r next : Reading) (coefs after : Picture) (scan new : InScan) (run : List ℕ) (n : ℕ) (fault : Named) → r.coefs ≡ Some coefs → r.scan ≡ Some scan → TakesRun scan coefs run n (Err fault) new after
+    → TakesRunOfScan r run n (Err (record { fault = fault; at = r.taken + n })) next
 run_shows r next coefs after scan new run n fault e f t =
     let count = t.count in
     record {
@@ -133,9 +133,9 @@ run_shows r next coefs after scan new run n fault e f t =
       inside = refl;
       items = refl;
       taken = refl;
-      before = λ limits items contents bytes s. mid_scanning limits items contents bytes r coefs scan run n (answer.Fault fault) new after t e f s;
+      before = λ limits items contents bytes s. mid_scanning limits items contents bytes r coefs scan run n (Err fault) new after t e f s;
       last = λ limits items contents bytes s.
           (let one : (r.taken + t.early) + 1 ≡ r.taken + n = omega (arith, count) in
           subst (λ m. AfterScanByte limits items contents (bytes ++ get_or run t.early 0 ∷ []) (step.Fault (record { fault = fault; at = m })) next) one
-          (scan_shows limits items contents bytes (get_or run t.early 0) (reading_mid r t.mid t.between t.early) next t.between after t.mid new fault refl refl (λ l i c b d. t.last l i c b d) s));
+          (scan_shows limits items contents bytes (get_or run t.early 0) (reading_mid r t.mid t.between t.early) next t.between t.mid fault refl refl (λ l i c b d. t.last l i c b d) s));
     }

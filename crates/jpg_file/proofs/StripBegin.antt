@@ -30,18 +30,16 @@ use Rattle.jpg_file.specs.Read.SegmentState.{told_by}
 use Rattle.jpg_file.specs.Read.InData.{InData}
 use Rattle.jpg_file.specs.Read.JudgedHeader.{JudgesHead}
 use Rattle.jpg_file.specs.Read.Reading.{AfterHead, HeadWhole, waiting_bytes, with_coefs}
-use Rattle.jpg_file.specs.Read.RowData.{AfterRowBytes}
+use Rattle.jpg_file.specs.Read.RowData.{InRowData}
 use Rattle.jpg_file.specs.Read.RowPlaces.{scan_left}
 use Rattle.jpg_file.specs.Read.RowTurns.{IsRowIn, zero_picture}
 use Rattle.jpg_file.specs.Read.Strips.{GoesByRow, IsHeadOfAll, components_of, contents_held, frame_behind}
 use Rattle.jpg_file.specs.declared.read.scan_history.ScanHistory.{ScanHistory}
 use Rattle.jpg_file.specs.declared.read.file.FileWork.{FileWork}
 use Rattle.jpg_file.specs.declared.read.items.Items.{Items}
-use Rattle.jpg_file.specs.declared.read.items.ItemStep.TheVariants as came
 use Rattle.jpg_file.specs.declared.read.reading.Reading.{Reading}
 use Rattle.jpg_file.specs.declared.read.rows.RowWork.{RowWork}
 use Rattle.jpg_file.specs.declared.read.scan.InScan.{InScan}
-use Rattle.jpg_file.specs.declared.read.scan.ScanStep.TheVariants as answer
 use Rattle.jpg_file.proofs.FileSteps.{frame_held, unbroken}
 use Rattle.jpg_file.proofs.FirstHeaders.{noted}
 use Rattle.jpg_file.proofs.RowAfter.{first_blocks}
@@ -99,8 +97,8 @@ room_made limits items contents old s e h = record {
   holds = h.holds;
 }
 
-pub head_room : (limits : Limits) (bytes : List ℕ) (items : List Item) (old : Items) (taken : Reading) (z : Picture) (b : ScanHistory) (s : SegmentReader) → reading_of s ≡ reading_of (taken.items).segments → AfterHead limits bytes items old came.More (with_coefs taken z) b
-    → AfterHead limits bytes items old came.More (with_coefs (record taken { items = record taken.items { segments = s } }) z) b
+pub head_room : (limits : Limits) (bytes : List ℕ) (items : List Item) (old : Items) (taken : Reading) (z : Picture) (b : ScanHistory) (s : SegmentReader) → reading_of s ≡ reading_of (taken.items).segments → AfterHead limits bytes items old (Ok tt) (with_coefs taken z) b
+    → AfterHead limits bytes items old (Ok tt) (with_coefs (record taken { items = record taken.items { segments = s } }) z) b
 head_room limits bytes items old taken z b s e a =
     let k = a.0 in (
       record {
@@ -143,7 +141,7 @@ begun_here limits items contents b f head k h =
     (components_all f head k.all) k.sequential
 
 pub rows_begun : (limits : Limits) (bytes : List ℕ) (old taken new : FileWork) (f : Frame) (head : ScanHead) (rows : RowWork) → (h : HeadStands limits bytes old) → IsHeadOfAll limits h.items (contents_held old) f head → has_scan (segments_of h.items) ≡ false
-    → AfterHead limits bytes h.items old.reading.items came.More (with_coefs taken.reading (zero_picture f)) taken.begun → taken.head ≡ old.head → NotesHead taken new
+    → AfterHead limits bytes h.items old.reading.items (Ok tt) (with_coefs taken.reading (zero_picture f)) taken.begun → taken.head ≡ old.head → NotesHead taken new
     → ((scan : InScan) → taken.reading.scan ≡ Some scan → scan_left scan.work ≡ length (scan_after limits (segments_of h.items) (contents_held old)).places) → IsRowOf rows.tops (zero_picture f) rows.coefs → IsRowIn f (head_components head) rows (length (units f (head_components head)))
     → rows.waiting ≡ [] → rows.left ≡ rows.units → GoesByRow limits bytes new rows
 rows_begun limits bytes old taken new f head rows h k first a kept notes left row at empty whole =
@@ -169,7 +167,7 @@ rows_begun limits bytes old taken new f head rows h k first a kept notes left ro
           contents = contents;
           scan = s.scan;
           inside = inside;
-          coded = subst (λ (l : List Bool). AfterRowBytes limits h.items contents bytes answer.More l s.scan z) (sym empty) coded;
+          coded = subst (λ (l : List Bool). InRowData limits h.items contents bytes l s.scan z) (sym empty) coded;
           held = record {
             head = subst (λ (r : Reading). BehindHead limits h.items contents r.items) (sym notes.reading) s.head;
             count = ap (λ (r : Reading). r.taken) notes.reading ∙ s.count;

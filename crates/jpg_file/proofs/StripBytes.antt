@@ -1,5 +1,6 @@
 -- Bytes inside the data of a scan that is read MCU row by MCU row.
-use Rattle.std.proofs.Common.{◌≡◌, ℕ, ◌+◌, ◌≤◌, ◌<◌, Bool, true, false, cond, List, [], ◌∷◌, ◌++◌, length, take, get_or, refl, sym, ap, subst, arith, Some, None, inl, inr}
+use Rattle.std.proofs.Common.{◌≡◌, ℕ, ◌+◌, ◌≤◌, ◌<◌, Bool, true, false, cond, List, [], ◌∷◌, ◌++◌, length, take, get_or, refl, sym, ap, subst, arith, Some, None, inl, inr, Ok, Err}
+use Rattle.std.specs.Prelude.{Result}
 use Rattle.std.proofs.lemmas.List.{length-append, length-take-le}
 use Rattle.jpg_spec.specs.Items.{Item, segments_of}
 use Rattle.jpg_spec.specs.declared.fault.Fault.{Fault}
@@ -9,10 +10,10 @@ use Rattle.jpg_coefs.specs.Picture.{Picture}
 use Rattle.jpg_markers.specs.Reading.{reading_of}
 use Rattle.jpg_seq.specs.Rows.{IsRowOf}
 use Rattle.jpg_file.specs.Read.File.{IsStop, StandsForFile, StandsInsideScan, limits_of, with_picture}
-use Rattle.jpg_file.specs.Read.InData.{EndsData, InData}
+use Rattle.jpg_file.specs.Read.InData.{InData}
 use Rattle.jpg_file.specs.Read.Items.{IsOfMarker, TakesMarker}
 use Rattle.jpg_file.specs.Read.Reading.{waiting_bytes}
-use Rattle.jpg_file.specs.Read.RowData.{AfterRowBytes, IsRowData, RunRest, TakesByteInRow, TakesRunInRow}
+use Rattle.jpg_file.specs.Read.RowData.{AfterRowByte, AfterRowBytes, InRowData, IsRowData, RunRest, TakesByteInRow, TakesRunInRow}
 use Rattle.jpg_file.specs.Read.RowPlaces.{scan_left}
 use Rattle.jpg_file.specs.Read.RowTurns.{CountsScan}
 use Rattle.jpg_file.specs.Read.Strips.{AfterRows, PassesItem, RowsRun, ScanHeld, components_of, frame_behind}
@@ -21,20 +22,18 @@ use Rattle.jpg_file.specs.declared.read.items.Items.{Items}
 use Rattle.jpg_file.specs.declared.read.items.ItemStep.{ItemStep}
 use Rattle.jpg_file.specs.declared.read.rows.RowWork.{RowWork}
 use Rattle.jpg_file.specs.declared.read.scan.InScan.{InScan}
-use Rattle.jpg_file.specs.declared.read.scan.ScanStep.{ScanStep}
-use Rattle.jpg_file.specs.declared.read.scan.ScanStep.TheVariants as answer
-use Rattle.jpg_file.specs.declared.read.strips.StripStep.{StripStep}
-use Rattle.jpg_file.specs.declared.read.strips.StripStep.TheVariants as step
+use Rattle.jpg_file.specs.declared.read.step.Step.{Step}
+use Rattle.jpg_file.specs.declared.read.step.Step.TheVariants as step
 use Rattle.jpg_file.proofs.FileSteps.{after_inside}
 use Rattle.jpg_file.proofs.FirstHeaders.{has_longer}
 use Rattle.jpg_file.proofs.RowCounts.{counts_in}
 use Rattle.jpg_file.proofs.RowTurns.{none_unfinished}
 use Rattle.jpg_file.proofs.StripRows.{data_goes, row_data}
-use Rattle.jpg_file.proofs.StripTurns.{RowReady, file_with, rest_shows}
+use Rattle.jpg_file.proofs.StripTurns.{RowReady, file_with}
 
 -- no bits wait
 pub ready_data : (limits : Limits) (bytes : List ℕ) (w : FileWork) (scan : InScan) (rows : RowWork) → (r : RowReady limits bytes w scan rows) → rows.waiting ≡ [] → InData limits r.items r.contents bytes scan r.whole
-ready_data limits bytes w scan rows r none = subst (λ (z : List Bool). AfterRowBytes limits r.items r.contents bytes answer.More z scan r.whole) none r.coded
+ready_data limits bytes w scan rows r none = subst (λ (z : List Bool). InRowData limits r.items r.contents bytes z scan r.whole) none r.coded
 
 pub ready_row : (limits : Limits) (bytes : List ℕ) (w : FileWork) (scan : InScan) (rows : RowWork) → RowReady limits bytes w scan rows → rows.waiting ≡ [] → IsRowData scan rows
 ready_row limits bytes w scan rows r none = row_data limits r.items r.contents bytes scan r.whole rows (ready_data limits bytes w scan rows r none) (r.held).of r.at r.row r.turned
@@ -72,44 +71,39 @@ held_more limits items contents bytes more w s gate now n long room few h = reco
 
 -- A BYTE
 
-pub byte_goes : (limits : Limits) (bytes : List ℕ) (byte : ℕ) (w : FileWork) (scan new : InScan) (rows after : RowWork) (row : Bool) (given : ScanStep) (result : StripStep) → RowReady limits bytes w scan rows → rows.waiting ≡ [] → w.reading.taken < limits.input
-    → TakesByteInRow scan rows byte given new after → given ≡ answer.More → CountsScan scan.work rows row new.work after → result ≡ cond row step.Row step.More → AfterRows limits (bytes ++ byte ∷ []) result (file_with w new (w.reading.taken + 1)) after
+pub byte_goes : (limits : Limits) (bytes : List ℕ) (byte : ℕ) (w : FileWork) (scan new : InScan) (rows after : RowWork) (row : Bool) (given : Result Bool Fault) (result : Step) → RowReady limits bytes w scan rows → rows.waiting ≡ [] → w.reading.taken < limits.input
+    → TakesByteInRow scan rows byte given new after → given ≡ Ok false → CountsScan scan.work rows row new.work after → result ≡ cond row step.Row step.More → AfterRows limits (bytes ++ byte ∷ []) result (file_with w new (w.reading.taken + 1)) after
 byte_goes limits bytes byte w scan new rows after row given result r none room took is c came =
     let all = bytes ++ byte ∷ [] in
     let t = took limits r.items r.contents bytes r.whole r.row (ready_data limits bytes w scan rows r none) in
-    let coded = subst (λ (a : ScanStep). AfterRowBytes limits r.items r.contents all a after.waiting new t.0) is t.2 in
+    let coded = subst (λ (a : Result Bool Fault). AfterRowByte limits r.items r.contents all byte a after.waiting new t.0) is t.2 in
     let of = subst (λ (l : List ℕ). IsRowOf l t.0 after.coefs) (sym c.tops) t.1 in
     let held = held_more limits r.items r.contents bytes (byte ∷ []) w new scan.gate new.gate 1 refl (omega (arith, room)) (few_wait new.gate) r.held in
-    subst (λ (a : StripStep). AfterRows limits all a (file_with w new (w.reading.taken + 1)) after) (sym came)
+    subst (λ (a : Step). AfterRows limits all a (file_with w new (w.reading.taken + 1)) after) (sym came)
     (data_goes limits r.items r.contents all (file_with w new (w.reading.taken + 1)) scan.work new t.0 rows after row refl coded held r.at of c r.turned)
 
-pub byte_stops : (limits : Limits) (bytes : List ℕ) (byte : ℕ) (w : FileWork) (scan new : InScan) (rows after : RowWork) (given : ScanStep) (fault : Fault) → RowReady limits bytes w scan rows → rows.waiting ≡ []
-    → TakesByteInRow scan rows byte given new after → given ≡ answer.Fault fault → IsStop limits (bytes ++ byte ∷ []) (record { fault = fault; at = w.reading.taken + 1 })
+pub byte_stops : (limits : Limits) (bytes : List ℕ) (byte : ℕ) (w : FileWork) (scan new : InScan) (rows after : RowWork) (given : Result Bool Fault) (fault : Fault) → RowReady limits bytes w scan rows → rows.waiting ≡ []
+    → TakesByteInRow scan rows byte given new after → given ≡ Err fault → IsStop limits (bytes ++ byte ∷ []) (record { fault = fault; at = w.reading.taken + 1 })
 byte_stops limits bytes byte w scan new rows after given fault r none took is =
     let all = bytes ++ byte ∷ [] in
     let t = took limits r.items r.contents bytes r.whole r.row (ready_data limits bytes w scan rows r none) in
-    let shown = rest_shows limits r.items r.contents all fault after.waiting new t.0 (subst (λ (a : ScanStep). AfterRowBytes limits r.items r.contents all a after.waiting new t.0) is t.2) in
+    let shown = (subst (λ (a : Result Bool Fault). AfterRowByte limits r.items r.contents all byte a after.waiting new t.0) is t.2) in
     (omega (arith, (r.held).count, length-append bytes (byte ∷ [])), shown)
-
--- a marker ends the scan's data, and no bits wait
-marker_ends : (limits : Limits) (items : List Item) (contents bytes : List ℕ) (code : ℕ) (bits : List Bool) (s : InScan) (now : Picture) → AfterRowBytes limits items contents bytes (answer.Marker code) bits s now → (bits ≡ []) × EndsData limits items contents bytes code now
-marker_ends limits items contents bytes code [] s now a = (refl, a)
-marker_ends limits items contents bytes code (bit ∷ bits) s now (e, h) = (let z : (let a : ScanStep = answer.Marker code in a) ≡ answer.More = e in absurd cc)
 
 abbrev pub file_after : FileWork → Items → ℕ → FileWork
 file_after w held n = record w { reading = record w.reading { items = held; scan = None; taken = n } }
 
-pub byte_leaves : (bytes : List ℕ) (byte code : ℕ) (w : FileWork) (scan new : InScan) (rows after : RowWork) (row : Bool) (given : ScanStep) (held : Items) (came : ItemStep) (result : StripStep) → RowReady (limits_of w) bytes w scan rows → rows.waiting ≡ [] → w.reading.scan ≡ Some scan
-    → w.reading.taken < (limits_of w).input → TakesByteInRow scan rows byte given new after → given ≡ answer.Marker code → CountsScan scan.work rows row new.work after → TakesMarker w.reading.items code came held → (reading_of held.segments).taken ≡ w.reading.taken + 1
+pub byte_leaves : (bytes : List ℕ) (byte : ℕ) (w : FileWork) (scan new : InScan) (rows after : RowWork) (row : Bool) (given : Result Bool Fault) (held : Items) (came : ItemStep) (result : Step) → RowReady (limits_of w) bytes w scan rows → rows.waiting ≡ [] → w.reading.scan ≡ Some scan
+    → w.reading.taken < (limits_of w).input → TakesByteInRow scan rows byte given new after → given ≡ Ok true → CountsScan scan.work rows row new.work after → TakesMarker w.reading.items byte came held → (reading_of held.segments).taken ≡ w.reading.taken + 1
     → scan_left new.work ≡ 0 → PassesItem (file_after w held (w.reading.taken + 1)) came result → AfterRows (limits_of w) (bytes ++ byte ∷ []) result (file_after w held (w.reading.taken + 1)) after
 unfolding ready_inside
-byte_leaves bytes byte code w scan new rows after row given held came result r none inside room took is c marker taken done passes =
+byte_leaves bytes byte w scan new rows after row given held came result r none inside room took is c marker taken done passes =
     let limits = limits_of w in
     let all = bytes ++ byte ∷ [] in
     let next = file_after w held (w.reading.taken + 1) in
     let t = took limits r.items r.contents bytes r.whole r.row (ready_data limits bytes w scan rows r none) in
     let now = t.0 in
-    let e = marker_ends limits r.items r.contents all code after.waiting new now (subst (λ (a : ScanStep). AfterRowBytes limits r.items r.contents all a after.waiting new now) is t.2) in
+    let e = subst (λ (a : Result Bool Fault). AfterRowByte limits r.items r.contents all byte a after.waiting new now) is t.2 in
     let of = subst (λ (l : List ℕ). IsRowOf l now after.coefs) (sym c.tops) t.1 in
     let count : w.reading.taken + 1 ≡ length all = omega (arith, (r.held).count, length-append bytes (byte ∷ [])) in
     let s = ready_inside limits bytes w scan rows r none inside in
@@ -119,19 +113,19 @@ byte_leaves bytes byte code w scan new rows after row given held came result r n
     (none_unfinished (frame_behind limits r.items) (components_of limits r.items r.contents) after (scan_left new.work) (counts_in (frame_behind limits r.items) (components_of limits r.items r.contents) scan.work new.work rows after row r.at c) done)
 
 -- a marker by itself needs no memory
-pub leaves_kind : (bytes : List ℕ) (byte code : ℕ) (w : FileWork) (scan new : InScan) (rows after : RowWork) (given : ScanStep) (held : Items) (came : ItemStep) → RowReady (limits_of w) bytes w scan rows → rows.waiting ≡ [] → TakesByteInRow scan rows byte given new after → given ≡ answer.Marker code
-    → TakesMarker w.reading.items code came held → IsOfMarker came
-leaves_kind bytes byte code w scan new rows after given held came r none took is marker =
+pub leaves_kind : (bytes : List ℕ) (byte : ℕ) (w : FileWork) (scan new : InScan) (rows after : RowWork) (given : Result Bool Fault) (held : Items) (came : ItemStep) → RowReady (limits_of w) bytes w scan rows → rows.waiting ≡ [] → TakesByteInRow scan rows byte given new after → given ≡ Ok true
+    → TakesMarker w.reading.items byte came held → IsOfMarker came
+leaves_kind bytes byte w scan new rows after given held came r none took is marker =
     let limits = limits_of w in
     let all = bytes ++ byte ∷ [] in
     let t = took limits r.items r.contents bytes r.whole r.row (ready_data limits bytes w scan rows r none) in
-    let e = marker_ends limits r.items r.contents all code after.waiting new t.0 (subst (λ (a : ScanStep). AfterRowBytes limits r.items r.contents all a after.waiting new t.0) is t.2) in
+    let e = subst (λ (a : Result Bool Fault). AfterRowByte limits r.items r.contents all byte a after.waiting new t.0) is t.2 in
     (marker r.items r.contents all t.0 (r.held).head e.1).2
 
 -- SOME BYTES one after another
 
 -- the file before the last of them
-pub run_mid : (limits : Limits) (bytes run : List ℕ) (n : ℕ) (w : FileWork) (scan new : InScan) (rows : RowWork) (given : ScanStep) (bits : List Bool) (now : Picture) → (r : RowReady limits bytes w scan rows) → w.reading.taken + length run ≤ limits.input
+pub run_mid : (limits : Limits) (bytes run : List ℕ) (n : ℕ) (w : FileWork) (scan new : InScan) (rows : RowWork) (given : Result (Unit {0}) Fault) (bits : List Bool) (now : Picture) → (r : RowReady limits bytes w scan rows) → w.reading.taken + length run ≤ limits.input
     → (t : RunRest limits r.items r.contents bytes run n given bits new now) → ScanHeld limits r.items r.contents (bytes ++ take t.early run) (file_with w t.mid (w.reading.taken + t.early)) (t.mid).gate
 run_mid limits bytes run n w scan new rows given bits now r room t =
     let h = r.held in
@@ -149,7 +143,7 @@ run_mid limits bytes run n w scan new rows given bits now r room t =
       all = h.all;
     }
 
-pub run_stands : (limits : Limits) (bytes run : List ℕ) (n : ℕ) (w : FileWork) (scan new : InScan) (rows : RowWork) (given : ScanStep) (bits : List Bool) (now : Picture) → (r : RowReady limits bytes w scan rows) → w.reading.taken + length run ≤ limits.input
+pub run_stands : (limits : Limits) (bytes run : List ℕ) (n : ℕ) (w : FileWork) (scan new : InScan) (rows : RowWork) (given : Result (Unit {0}) Fault) (bits : List Bool) (now : Picture) → (r : RowReady limits bytes w scan rows) → w.reading.taken + length run ≤ limits.input
     → (t : RunRest limits r.items r.contents bytes run n given bits new now) → StandsForFile limits (bytes ++ take t.early run) (with_picture (file_with w t.mid (w.reading.taken + t.early)) t.between)
 run_stands limits bytes run n w scan new rows given bits now r room t =
     let h = run_mid limits bytes run n w scan new rows given bits now r room t in
@@ -166,8 +160,8 @@ run_stands limits bytes run n w scan new rows given bits now r room t =
 run_count : (taken early n : ℕ) → n ≡ early + 1 → (taken + early) + 1 ≡ taken + n
 run_count taken early n e = omega (arith, e)
 
-pub run_goes : (limits : Limits) (bytes run : List ℕ) (n : ℕ) (w : FileWork) (scan new : InScan) (rows after : RowWork) (row : Bool) (given : ScanStep) (result : StripStep) → RowReady limits bytes w scan rows → rows.waiting ≡ [] → w.reading.taken + length run ≤ limits.input
-    → TakesRunInRow scan rows run n given new after → given ≡ answer.More → CountsScan scan.work rows row new.work after → result ≡ cond row step.Row step.More → RowsRun limits bytes run n result (file_with w new (w.reading.taken + n)) after
+pub run_goes : (limits : Limits) (bytes run : List ℕ) (n : ℕ) (w : FileWork) (scan new : InScan) (rows after : RowWork) (row : Bool) (given : Result (Unit {0}) Fault) (result : Step) → RowReady limits bytes w scan rows → rows.waiting ≡ [] → w.reading.taken + length run ≤ limits.input
+    → TakesRunInRow scan rows run n given new after → given ≡ Ok tt → CountsScan scan.work rows row new.work after → result ≡ cond row step.Row step.More → RowsRun limits bytes run n result (file_with w new (w.reading.taken + n)) after
 run_goes limits bytes run n w scan new rows after row given result r none room took is c came =
     let k = took limits r.items r.contents bytes r.whole r.row (ready_data limits bytes w scan rows r none) in
     let now = k.0 in
@@ -177,7 +171,7 @@ run_goes limits bytes run n w scan new rows after row given result r none room t
     let byte = get_or run t.early 0 in
     let all = front ++ byte ∷ [] in
     let mid = file_with w t.mid (w.reading.taken + t.early) in
-    let coded = subst (λ (a : ScanStep). AfterRowBytes limits r.items r.contents all a after.waiting new now) is t.last in
+    let coded = subst (λ (a : Result (Unit {0}) Fault). AfterRowBytes limits r.items r.contents all a after.waiting new now) is t.last in
     let of = subst (λ (l : List ℕ). IsRowOf l now after.coefs) (sym c.tops) k.1 in
     let held = held_more limits r.items r.contents front (byte ∷ []) mid new (t.mid).gate new.gate 1 refl (omega (arith, room, low)) (few_wait new.gate) (run_mid limits bytes run n w scan new rows given after.waiting now r room t) in
     let one = run_count w.reading.taken t.early n t.count in
@@ -191,11 +185,11 @@ run_goes limits bytes run n w scan new rows after row given result r none room t
       before = run_stands limits bytes run n w scan new rows given after.waiting now r room t;
       room = omega (arith, room, low);
       head = refl;
-      last = subst (λ (a : StripStep). AfterRows limits all a (file_with w new (w.reading.taken + n)) after) (sym came) (subst (λ m. AfterRows limits all (cond row step.Row step.More) (file_with w new m) after) one last);
+      last = subst (λ (a : Step). AfterRows limits all a (file_with w new (w.reading.taken + n)) after) (sym came) (subst (λ m. AfterRows limits all (cond row step.Row step.More) (file_with w new m) after) one last);
     }
 
-pub run_stops : (limits : Limits) (bytes run : List ℕ) (n : ℕ) (w : FileWork) (scan new : InScan) (rows after : RowWork) (given : ScanStep) (fault : Fault) (result : StripStep) → RowReady limits bytes w scan rows → rows.waiting ≡ [] → w.reading.taken + length run ≤ limits.input
-    → TakesRunInRow scan rows run n given new after → given ≡ answer.Fault fault → result ≡ step.Ended (stop.Fault (record { fault = fault; at = w.reading.taken + n })) → RowsRun limits bytes run n result (file_with w new (w.reading.taken + n)) after
+pub run_stops : (limits : Limits) (bytes run : List ℕ) (n : ℕ) (w : FileWork) (scan new : InScan) (rows after : RowWork) (given : Result (Unit {0}) Fault) (fault : Fault) (result : Step) → RowReady limits bytes w scan rows → rows.waiting ≡ [] → w.reading.taken + length run ≤ limits.input
+    → TakesRunInRow scan rows run n given new after → given ≡ Err fault → result ≡ step.Ended (stop.Fault (record { fault = fault; at = w.reading.taken + n })) → RowsRun limits bytes run n result (file_with w new (w.reading.taken + n)) after
 run_stops limits bytes run n w scan new rows after given fault result r none room took is came =
     let k = took limits r.items r.contents bytes r.whole r.row (ready_data limits bytes w scan rows r none) in
     let now = k.0 in
@@ -204,7 +198,7 @@ run_stops limits bytes run n w scan new rows after given fault result r none roo
     let front = bytes ++ take t.early run in
     let byte = get_or run t.early 0 in
     let all = front ++ byte ∷ [] in
-    let shown = rest_shows limits r.items r.contents all fault after.waiting new now (subst (λ (a : ScanStep). AfterRowBytes limits r.items r.contents all a after.waiting new now) is t.last) in
+    let shown = (subst (λ (a : Result (Unit {0}) Fault). AfterRowBytes limits r.items r.contents all a after.waiting new now) is t.last) in
     let size = length-take-le t.early run (omega (arith, low)) in
     let long : w.reading.taken + n ≡ length all = omega (arith, (r.held).count, t.count, size, length-append front (byte ∷ []), length-append bytes (take t.early run)) in
     record {
@@ -215,11 +209,11 @@ run_stops limits bytes run n w scan new rows after given fault result r none roo
       before = run_stands limits bytes run n w scan new rows given after.waiting now r room t;
       room = omega (arith, room, low);
       head = refl;
-      last = subst (λ (a : StripStep). AfterRows limits all a (file_with w new (w.reading.taken + n)) after) (sym came) (long, shown);
+      last = subst (λ (a : Step). AfterRows limits all a (file_with w new (w.reading.taken + n)) after) (sym came) (long, shown);
     }
 
 -- at most as many as there are
-pub run_few : (limits : Limits) (bytes run : List ℕ) (n : ℕ) (w : FileWork) (scan new : InScan) (rows after : RowWork) (given : ScanStep) → RowReady limits bytes w scan rows → rows.waiting ≡ [] → TakesRunInRow scan rows run n given new after → n ≤ length run
+pub run_few : (limits : Limits) (bytes run : List ℕ) (n : ℕ) (w : FileWork) (scan new : InScan) (rows after : RowWork) (given : Result (Unit {0}) Fault) → RowReady limits bytes w scan rows → rows.waiting ≡ [] → TakesRunInRow scan rows run n given new after → n ≤ length run
 run_few limits bytes run n w scan new rows after given r none took =
     let k = took limits r.items r.contents bytes r.whole r.row (ready_data limits bytes w scan rows r none) in
     let t = k.2 in

@@ -1,5 +1,5 @@
 -- The number of MCU rows of the first scan of a file, if it has all components.
-use Rattle.std.proofs.Common.{◌≡◌, ℕ, ◌≤◌, ◌<◌, List, [], ◌∷◌, length, refl, sym, ap, ◌∙◌, subst, arith, Option, Some, None}
+use Rattle.std.proofs.Common.{◌≡◌, ℕ, ◌≤◌, ◌<◌, List, [], ◌∷◌, length, refl, sym, ap, ◌∙◌, subst, arith, Option, Some, None, Ok}
 use Rattle.std.proofs.lemmas.List.{length-map}
 use Rattle.jpg_spec.specs.Geometry.{Frame, mcus_down}
 use Rattle.jpg_spec.specs.Items.{segments_of}
@@ -22,7 +22,6 @@ use Rattle.jpg_file.specs.Read.RowTurns.{zero_picture}
 use Rattle.jpg_file.specs.Read.Strips.{IsHeadOfAll, contents_held, rows_of_all}
 use Rattle.jpg_file.specs.declared.read.file.FileWork.{FileWork}
 use Rattle.jpg_file.specs.declared.read.first_header.Head.{Head}
-use Rattle.jpg_file.specs.declared.read.items.ItemStep.TheVariants as came
 use Rattle.jpg_file.proofs.FileSteps.{frame_held}
 use Rattle.jpg_file.proofs.StripBegin.{components_all}
 
@@ -55,7 +54,7 @@ told_frame : (t : SegmentView) (n : ℕ) (f : Frame) (kept : Head) → t.frame �
 told_frame t n f kept is e = ap (λ (o : Option Head). frame_or f o) (sym e) ∙ ap (λ (o : Option Frame). frame_or f (first_header_of (record t { frame = o }) n)) is
 
 pub kept_frame : (limits : Limits) (bytes : List ℕ) (old taken new : FileWork) (f : Frame) (head : ScanHead) (kept : Head) → (h : HeadStands limits bytes old) → IsHeadOfAll limits h.items (contents_held old) f head
-    → AfterHead limits bytes h.items old.reading.items came.More (with_coefs taken.reading (zero_picture f)) taken.begun → taken.head ≡ None → NotesHead taken new → new.head ≡ Some kept → kept.frame ≡ f
+    → AfterHead limits bytes h.items old.reading.items (Ok tt) (with_coefs taken.reading (zero_picture f)) taken.begun → taken.head ≡ None → NotesHead taken new → new.head ≡ Some kept → kept.frame ≡ f
 kept_frame limits bytes old taken new f head kept h k a none notes is =
     let allowed = subst (λ n. code_fault (segments_of h.items) n ≡ None) h.code (h.at).allowed in
     let held = frame_held limits bytes h.items h.blocks taken.reading.items.held.frame ((h.at).at).leads (((a.0).head).holds).frame (framed (segments_of h.items) allowed) in

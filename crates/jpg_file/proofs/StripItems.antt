@@ -19,14 +19,15 @@ use Rattle.jpg_file.specs.Read.SegmentState.{told_by}
 use Rattle.jpg_file.specs.Read.JudgedHeader.{JudgesHead}
 use Rattle.jpg_file.specs.Read.Going.{GoesOn}
 use Rattle.jpg_file.specs.Read.RowTurns.{unfinished}
-use Rattle.jpg_file.specs.Read.Strips.{AfterRows, GoesByRow, HasLaterHead, PassesItem, RowsAfter, RowsInside, end_step}
+use Rattle.jpg_file.specs.Read.Strips.{AfterRows, GoesByRow, HasLaterHead, PassesItem, RowsAfter, RowsInside}
 use Rattle.jpg_file.specs.Read.Reading.{AfterItemByte, Itemising}
 use Rattle.jpg_file.specs.declared.read.file.FileWork.{FileWork}
 use Rattle.jpg_file.specs.declared.read.items.ItemStep.{ItemStep}
 use Rattle.jpg_file.specs.declared.read.items.ItemStep.TheVariants as step
 use Rattle.jpg_file.specs.declared.read.reading.Reading.{Reading}
 use Rattle.jpg_file.specs.declared.read.scan.InScan.{InScan}
-use Rattle.jpg_file.specs.declared.read.strips.StripStep.{StripStep}
+use Rattle.jpg_file.specs.declared.read.step.Step.{Step}
+use Rattle.jpg_file.specs.declared.read.step.Step.TheVariants as came
 use Rattle.jpg_file.specs.declared.read.rows.RowWork.{RowWork}
 use Rattle.jpg_file.proofs.FileSteps.{after_between, between_of}
 use Rattle.jpg_file.proofs.ItemBytes.{segment_fault}
@@ -52,12 +53,13 @@ item_goes limits bytes w whole rows k none row empty begun done = record {
 }
 
 -- EOI
-pub item_ends : (limits : Limits) (bytes : List ℕ) (w : FileWork) (whole : Picture) (rows : RowWork) (answer : Result Bool Stop) → AfterFileByte ⊥ limits bytes answer (with_picture w whole) → w.reading.scan ≡ None → IsRowOf rows.tops whole rows.coefs → rows.waiting ≡ []
-    → HasBegunAll w.begun.progress → unfinished rows ≡ 0 → AfterRows limits bytes (end_step answer) w rows
-item_ends limits bytes w whole rows (Ok false) a none row empty begun done = item_goes limits bytes w whole rows a none row empty begun done
-item_ends limits bytes w whole rows (Ok true) a none row empty begun done = record { whole = whole; row = row; ends = a; done = done }
-item_ends limits bytes w whole rows (Err (stop.Fault f)) a none row empty begun done = a
-item_ends limits bytes w whole rows (Err stop.NoMemory) a none row empty begun done = tt
+pub item_ends : (limits : Limits) (bytes : List ℕ) (w : FileWork) (whole : Picture) (rows : RowWork) (answer : Step) → AfterFileByte ⊥ limits bytes answer (with_picture w whole) → w.reading.scan ≡ None → IsRowOf rows.tops whole rows.coefs → rows.waiting ≡ []
+    → HasBegunAll w.begun.progress → unfinished rows ≡ 0 → AfterRows limits bytes answer w rows
+item_ends limits bytes w whole rows came.More a none row empty begun done = item_goes limits bytes w whole rows a none row empty begun done
+item_ends limits bytes w whole rows came.Row a none row empty begun done = absurd a
+item_ends limits bytes w whole rows came.Whole a none row empty begun done = record { whole = whole; row = row; ends = a; done = done }
+item_ends limits bytes w whole rows (came.Ended (stop.Fault f)) a none row empty begun done = a
+item_ends limits bytes w whole rows (came.Ended stop.NoMemory) a none row empty begun done = tt
 
 -- A BYTE after the scan
 
@@ -112,7 +114,7 @@ later_step limits bytes byte w r rows came b a room =
     let ghost : AfterItemByte limits all s.items s.blocks came (with_picture new b.whole).reading = record { after = a.after; none = a.none; count = a.count; same = a.same } in
     after_between limits bytes (byte ∷ []) came (with_picture w b.whole) (with_picture new b.whole) s ghost refl refl refl within
 
-pub later_goes : (limits : Limits) (bytes : List ℕ) (byte : ℕ) (w : FileWork) (r : Reading) (rows : RowWork) (came : ItemStep) (result : StripStep) → GoesByRow limits bytes w rows → (b : IsAfter limits bytes w rows)
+pub later_goes : (limits : Limits) (bytes : List ℕ) (byte : ℕ) (w : FileWork) (r : Reading) (rows : RowWork) (came : ItemStep) (result : Step) → GoesByRow limits bytes w rows → (b : IsAfter limits bytes w rows)
     → AfterItemByte limits (bytes ++ byte ∷ []) (b.between).items (b.between).blocks came r → w.reading.taken < limits.input → PassesItem (record w { reading = r }) came result → AfterRows limits (bytes ++ byte ∷ []) result (record w { reading = r }) rows
 later_goes limits bytes byte w r rows came result g b a room passes =
     passes limits w.reading.scan (bytes ++ byte ∷ []) b.whole rows (later_step limits bytes byte w r rows came b a room) a.none b.row g.none b.all b.done

@@ -6,15 +6,14 @@ use Rattle.jpg_spec.specs.Items.{segments_of}
 use Rattle.jpg_spec.specs.declared.frame.Limits.{Limits}
 use Rattle.jpg_coefs.specs.Picture.{Picture}
 use Rattle.jpg_file.specs.Read.File.{StandsForFile, limits_of, with_picture}
-use Rattle.jpg_file.specs.Read.RowData.{AfterRowBytes}
+use Rattle.jpg_file.specs.Read.RowData.{InRowData}
 use Rattle.jpg_file.specs.Read.Strips.{AfterRows, GoesByRow, RowsAfter, RowsInside, RowsRun}
 use Rattle.jpg_file.specs.Read.Going.{FillsScan, has_waiting}
 use Rattle.jpg_file.specs.Read.Reading.{IsSparing}
 use Rattle.jpg_file.specs.declared.read.reading.Reading.{Reading}
 use Rattle.jpg_file.specs.declared.read.file.FileWork.{FileWork}
 use Rattle.jpg_file.specs.declared.read.rows.RowWork.{RowWork}
-use Rattle.jpg_file.specs.declared.read.scan.ScanStep.TheVariants as answer
-use Rattle.jpg_file.specs.declared.read.strips.StripStep.{StripStep}
+use Rattle.jpg_file.specs.declared.read.step.Step.{Step}
 use Rattle.jpg_spec.proofs.Common.{clash}
 use Rattle.jpg_file.proofs.FirstHeaders.{has_longer}
 use Rattle.jpg_file.proofs.PieceSteps.{waiting_scan}
@@ -36,7 +35,7 @@ goes_with limits bytes w rows g = by (g.stands).at
             has = refl;
             scan = r.scan;
             inside = r.inside;
-            at = subst (λ (l : List Bool). AfterRowBytes limits r.items r.contents bytes answer.More l r.scan z) g.none r.coded;
+            at = subst (λ (l : List Bool). InRowData limits r.items r.contents bytes l r.scan z) g.none r.coded;
             head = h.head;
             count = h.count;
             behind = h.behind;
@@ -58,7 +57,7 @@ inside_rows limits bytes w rows g some = by (g.stands).at
     by (inr b) = absurd (clash (is_some w.reading.scan) some (ap is_some ((b.between).beside).none))
 
 -- a byte
-pub one_row : (limits : Limits) (front bytes : List ℕ) (w new : FileWork) (rows after : RowWork) (result : StripStep) → GoesByRow limits front w rows → w.reading.taken < limits.input → 1 ≤ length bytes → new.head ≡ w.head → AfterRows limits (front ++ get_or bytes 0 0 ∷ []) result new after
+pub one_row : (limits : Limits) (front bytes : List ℕ) (w new : FileWork) (rows after : RowWork) (result : Step) → GoesByRow limits front w rows → w.reading.taken < limits.input → 1 ≤ length bytes → new.head ≡ w.head → AfterRows limits (front ++ get_or bytes 0 0 ∷ []) result new after
     → RowsRun limits front bytes 1 result new after
 one_row limits front bytes w new rows after result g room some head a =
     let k = goes_stands limits front w rows g in
@@ -75,7 +74,7 @@ one_row limits front bytes w new rows after result g room some head a =
     }
 
 -- a byte after some that were taken together
-pub later_row : (limits : Limits) (front bytes : List ℕ) (n : ℕ) (mid new : FileWork) (rows after : RowWork) (result : StripStep) → GoesByRow limits (front ++ take n bytes) mid rows → mid.reading.taken < limits.input → n < length bytes → new.head ≡ mid.head
+pub later_row : (limits : Limits) (front bytes : List ℕ) (n : ℕ) (mid new : FileWork) (rows after : RowWork) (result : Step) → GoesByRow limits (front ++ take n bytes) mid rows → mid.reading.taken < limits.input → n < length bytes → new.head ≡ mid.head
     → AfterRows limits ((front ++ take n bytes) ++ get_or bytes n 0 ∷ []) result new after → RowsRun limits front bytes (n + 1) result new after
 later_row limits front bytes n mid new rows after result g room less head a =
     let k = goes_stands limits (front ++ take n bytes) mid rows g in
@@ -88,8 +87,8 @@ rows_stay limits bytes run n w rows g r waits same room =
     let h = r.held in
     let z = (g.stands).whole in
     let gate = waiting_scan w.reading.scan r.scan waits r.inside in
-    let inside = subst (λ (l : List Bool). AfterRowBytes limits r.items r.contents bytes answer.More l r.scan z) g.none r.coded in
-    let more : AfterRowBytes limits r.items r.contents (bytes ++ replicate n 255) answer.More [] r.scan z = ff_bytes limits r.items r.contents bytes n r.scan z inside gate in
+    let inside = subst (λ (l : List Bool). InRowData limits r.items r.contents bytes l r.scan z) g.none r.coded in
+    let more : InRowData limits r.items r.contents (bytes ++ replicate n 255) [] r.scan z = ff_bytes limits r.items r.contents bytes n r.scan z inside gate in
     let behind = h.behind in
     let count = h.count in
     let size = length-append bytes (replicate {A = ℕ} n 255) in
@@ -104,7 +103,7 @@ rows_stay limits bytes run n w rows g r waits same room =
           contents = r.contents;
           scan = r.scan;
           inside = r.inside;
-          coded = subst (λ (l : List Bool). AfterRowBytes limits r.items r.contents (bytes ++ replicate n 255) answer.More l r.scan z) (sym g.none) more;
+          coded = subst (λ (l : List Bool). InRowData limits r.items r.contents (bytes ++ replicate n 255) l r.scan z) (sym g.none) more;
           held = record {
             head = h.head;
             count = omega (arith, count, size, all);
@@ -134,7 +133,7 @@ rows_filled limits bytes run (suc m) w q rows g some same p =
     (subst (λ (l : List ℕ). GoesByRow limits (bytes ++ l) (record w { reading = record w.reading { taken = w.reading.taken + n } }) rows) (sym p.fill) (rows_stay limits bytes run n w rows g (inside_rows limits bytes w rows g some) waits same p.room))
 
 -- a stretch from the first of them on
-pub front_rows : (limits : Limits) (front bytes : List ℕ) (size n : ℕ) (new : FileWork) (after : RowWork) (result : StripStep) → size ≤ length bytes → RowsRun limits front (take size bytes) n result new after → RowsRun limits front bytes n result new after
+pub front_rows : (limits : Limits) (front bytes : List ℕ) (size n : ℕ) (new : FileWork) (after : RowWork) (result : Step) → size ≤ length bytes → RowsRun limits front (take size bytes) n result new after → RowsRun limits front bytes n result new after
 front_rows limits front bytes size n new after result few t =
     let low = t.within in
     let long = length-take-le size bytes few in
@@ -157,6 +156,3 @@ filled_limits r run n q p = ap (λ (o : Reading). o.items.limits) p.is
 
 pub filled_scan : (r : Reading) (run : List ℕ) (n : ℕ) (q : Reading) → FillsScan r run n q → is_some r.scan ≡ true → is_some q.scan ≡ true
 filled_scan r run n q p some = ap (λ (o : Reading). is_some o.scan) p.is ∙ some
-
-pub filled_sparing : (r : Reading) (run : List ℕ) (n : ℕ) (q : Reading) → FillsScan r run n q → IsSparing r → IsSparing q
-filled_sparing r run n q p s = subst (λ (o : Reading). IsSparing o) (sym p.is) (record { keeping = s.keeping; scanned = s.scanned; room = s.room })

@@ -19,7 +19,7 @@ use Rattle.jpg_seq.specs.Rows.{IsRowOf}
 use Rattle.jpg_seq.specs.declared.reader.SeqReader.{SeqReader}
 use Rattle.jpg_file.specs.Read.InData.{InData, IsInterval, frame_at}
 use Rattle.jpg_file.specs.Read.Machine.{any_scan, ac_band, dc_first, dc_later, scan_kind, whole_blocks}
-use Rattle.jpg_file.specs.Read.RowData.{AfterRowBytes, HalfData, IsHalfRow, IsInsideRow, IsRowData}
+use Rattle.jpg_file.specs.Read.RowData.{HalfData, InRowData, IsHalfRow, IsInsideRow, IsRowData}
 use Rattle.jpg_file.specs.Read.RowPlaces.{scan_left}
 use Rattle.jpg_file.specs.Read.RowTurns.{CountsScan, IsRowIn}
 use Rattle.jpg_file.specs.Read.Strips.{AfterRows, IsFirstScan, RowsInside, ScanHeld, components_of, frame_behind}
@@ -29,8 +29,7 @@ use Rattle.jpg_file.specs.declared.read.machine.ScanReader.TheVariants.{Sequenti
 use Rattle.jpg_file.specs.declared.read.rows.RowWork.{RowWork}
 use Rattle.jpg_file.specs.declared.read.scan.InScan.{InScan}
 use Rattle.jpg_file.specs.declared.read.scan.ScanWork.{ScanWork}
-use Rattle.jpg_file.specs.declared.read.scan.ScanStep.TheVariants as answer
-use Rattle.jpg_file.specs.declared.read.strips.StripStep.TheVariants as step
+use Rattle.jpg_file.specs.declared.read.step.Step.TheVariants as step
 use Rattle.jpg_file.proofs.Machines.{head_kind, kind_of_coding, scans_keep_units}
 use Rattle.jpg_file.proofs.RowCounts.{counts_in}
 use Rattle.jpg_file.proofs.RowPlaces.{cursor_by, row_by}
@@ -130,7 +129,7 @@ no_bits : (bits : List Bool) → (1 ≤ length bits → false ≡ true) → bits
 no_bits [] f = refl
 no_bits (bit ∷ bits) f = (let z : false ≡ true = f (omega arith) in absurd cc)
 
-pub data_goes : (limits : Limits) (items : List Item) (contents bytes : List ℕ) (new : FileWork) (old : ScanWork) (s : InScan) (now : Picture) (rows after : RowWork) (row : Bool) → new.reading.scan ≡ Some s → AfterRowBytes limits items contents bytes answer.More after.waiting s now
+pub data_goes : (limits : Limits) (items : List Item) (contents bytes : List ℕ) (new : FileWork) (old : ScanWork) (s : InScan) (now : Picture) (rows after : RowWork) (row : Bool) → new.reading.scan ≡ Some s → InRowData limits items contents bytes after.waiting s now
     → ScanHeld limits items contents bytes new s.gate → IsRowIn (frame_behind limits items) (components_of limits items contents) rows (scan_left old) → IsRowOf after.tops now after.coefs → CountsScan old rows row s.work after → (1 ≤ scan_left old → 1 ≤ rows.left)
     → AfterRows limits bytes (cond row step.Row step.More) new after
 data_goes limits items contents bytes new old s now rows after row inside coded held at of c turned = by row c

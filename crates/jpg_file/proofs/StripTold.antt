@@ -1,5 +1,5 @@
 -- The head of the picture whose MCU rows are read, as it is where the first scan begins.
-use Rattle.std.proofs.Common.{◌≡◌, ℕ, ◌+◌, ◌<◌, List, [], ◌∷◌, length, refl, sym, ap, ◌∙◌, subst, arith, Option, Some, None}
+use Rattle.std.proofs.Common.{◌≡◌, ℕ, ◌+◌, ◌<◌, List, [], ◌∷◌, length, refl, sym, ap, ◌∙◌, subst, arith, Option, Some, None, Ok}
 use Rattle.std.specs.Prelude.{find, is_none, reverse, slice_index_or, unwrap_or, false, true}
 use Rattle.std.proofs.lemmas.List.{append-nil, reverse-reverse}
 use Rattle.jpg_spec.specs.Colours.{colours_of}
@@ -35,7 +35,6 @@ use Rattle.jpg_file.specs.Read.RowsKnown.{BeginsAll, HoldsScan, RowsKnown, Tells
 use Rattle.jpg_file.specs.Read.StripHead.{IsHeadOfPicture, bare_picture, may_have}
 use Rattle.jpg_file.specs.Read.Strips.{IsHeadOfAll, contents_held}
 use Rattle.jpg_file.specs.declared.read.file.FileWork.{FileWork}
-use Rattle.jpg_file.specs.declared.read.items.ItemStep.TheVariants as came
 use Rattle.jpg_file.specs.declared.read.reading.Reading.{Reading}
 use Rattle.jpg_file.specs.declared.read.rows.RowWork.{RowWork}
 use Rattle.jpg_file.specs.declared.read.strip_head.StripHead.{StripHead}
@@ -123,7 +122,7 @@ strip_tells w h l limits before k = (
 
 -- WHERE THE SCAN BEGINS
 pub begins_told : (limits : Limits) (bytes : List ℕ) (old taken new : FileWork) (f : Frame) (head : ScanHead) → (h : HeadStands limits bytes old) → IsHeadOfAll limits h.items (contents_held old) f head → has_scan (segments_of h.items) ≡ false
-    → AfterHead limits bytes h.items old.reading.items came.More (with_coefs taken.reading (zero_picture f)) taken.begun → NotesHead taken new → BeginsAll limits bytes (segments_of h.items) (contents_held old) new
+    → AfterHead limits bytes h.items old.reading.items (Ok tt) (with_coefs taken.reading (zero_picture f)) taken.begun → NotesHead taken new → BeginsAll limits bytes (segments_of h.items) (contents_held old) new
 begins_told limits bytes old taken new f head h k first a notes =
     let contents = contents_held old in
     let before = segments_of h.items in

@@ -1,6 +1,6 @@
 -- From one MCU row of a file to the next, and bits that waited.
-use Rattle.std.proofs.Common.{◌≡◌, ℕ, ◌≤◌, Bool, true, false, cond, List, [], ◌∷◌, length, refl, sym, ap, ◌∙◌, subst, arith, Some, inl, inr, ◌⊎◌}
-use Rattle.jpg_spec.specs.FirstFault.{Reveals}
+use Rattle.std.proofs.Common.{◌≡◌, ℕ, ◌≤◌, Bool, true, false, cond, List, [], ◌∷◌, length, refl, sym, ap, ◌∙◌, subst, arith, Some, inl, inr, ◌⊎◌, Ok, Err}
+use Rattle.std.specs.Prelude.{Result}
 use Rattle.jpg_spec.specs.Items.{Item}
 use Rattle.jpg_spec.specs.Scan.{Scan}
 use Rattle.jpg_spec.specs.declared.fault.Fault.{Fault}
@@ -11,17 +11,15 @@ use Rattle.jpg_seq.specs.Rows.{IsRowOf}
 use Rattle.jpg_file.specs.Read.File.{IsStop}
 use Rattle.jpg_file.specs.Read.InData.{InData}
 use Rattle.jpg_file.specs.Read.Reading.{waiting_bytes}
-use Rattle.jpg_file.specs.Read.RowData.{AfterRowBytes, HalfData, IsHalfRow}
+use Rattle.jpg_file.specs.Read.RowData.{AfterRowBytes, HalfData, InRowData, IsHalfRow}
 use Rattle.jpg_file.specs.Read.RowPlaces.{scan_left}
 use Rattle.jpg_file.specs.Read.RowTurns.{CountsScan, IsBlankAfter, IsRowIn, KeepsRowIn, TurnsRow, unfinished}
 use Rattle.jpg_file.specs.Read.Strips.{AfterRows, GoesByRow, IsFirstScan, RowsAfter, RowsInside, ScanHeld, StandsByRow, components_of, frame_behind}
 use Rattle.jpg_file.specs.declared.read.file.FileWork.{FileWork}
 use Rattle.jpg_file.specs.declared.read.rows.RowWork.{RowWork}
 use Rattle.jpg_file.specs.declared.read.scan.InScan.{InScan}
-use Rattle.jpg_file.specs.declared.read.scan.ScanStep.{ScanStep}
-use Rattle.jpg_file.specs.declared.read.scan.ScanStep.TheVariants as answer
-use Rattle.jpg_file.specs.declared.read.strips.StripStep.{StripStep}
-use Rattle.jpg_file.specs.declared.read.strips.StripStep.TheVariants as step
+use Rattle.jpg_file.specs.declared.read.step.Step.{Step}
+use Rattle.jpg_file.specs.declared.read.step.Step.TheVariants as step
 use Rattle.jpg_file.proofs.RowAfter.{data_blank, half_blank}
 use Rattle.jpg_file.proofs.ScanBytes.{read_at}
 use Rattle.jpg_file.proofs.Scannings.{none_some}
@@ -36,11 +34,11 @@ data_framed limits items contents bytes s whole d first = by s.work.whole refl
     by false e = (data_due limits items contents bytes s whole d e first).framed
     by true e = (read_at limits d.place s.work whole e d.work).framed ∙ ap (λ (l : List Item). frame_behind limits l) (d.of).0
 
-pub rest_blank : (limits : Limits) (items : List Item) (contents bytes : List ℕ) (waiting_bytes : List Bool) (s : InScan) (rows : RowWork) (whole : Picture) → AfterRowBytes limits items contents bytes answer.More waiting_bytes s whole → IsFirstScan limits items
+pub rest_blank : (limits : Limits) (items : List Item) (contents bytes : List ℕ) (waiting_bytes : List Bool) (s : InScan) (rows : RowWork) (whole : Picture) → InRowData limits items contents bytes waiting_bytes s whole → IsFirstScan limits items
     → IsRowIn (frame_behind limits items) (components_of limits items contents) rows (scan_left s.work) → IsBlankAfter rows whole
 rest_blank limits items contents bytes [] s rows whole d first at =
     data_blank limits items contents bytes s (frame_behind limits items) (components_of limits items contents) rows whole d first.first (ap (λ (t : Scan). t.places) (scan_of_place limits items contents d.place (d.of).0 (d.of).1)) (data_framed limits items contents bytes s whole d first) at
-rest_blank limits items contents bytes (bit ∷ bits) s rows whole (more, h) first at =
+rest_blank limits items contents bytes (bit ∷ bits) s rows whole h first at =
     half_blank limits items contents bytes (bit ∷ bits) s (frame_behind limits items) (components_of limits items contents) rows whole h first.first (ap (λ (t : Scan). t.places) (scan_of_place limits items contents h.place (h.of).0 (h.of).1))
     (half_due limits items contents bytes (bit ∷ bits) s whole h first).framed at
 
@@ -49,7 +47,7 @@ pub record RowReady (limits : Limits) (bytes : List ℕ) (w : FileWork) (scan : 
   pub items : List Item
   pub contents : List ℕ
   pub whole : Picture
-  pub coded : AfterRowBytes limits items contents bytes answer.More rows.waiting scan whole
+  pub coded : InRowData limits items contents bytes rows.waiting scan whole
   pub held : ScanHeld limits items contents bytes w scan.gate
   pub at : IsRowIn (frame_behind limits items) (components_of limits items contents) rows (scan_left scan.work)
   pub row : IsRowOf rows.tops whole rows.coefs
@@ -70,7 +68,7 @@ next_ready limits bytes w scan old new k is keeps turns same = by k.at
           items = r.items;
           contents = r.contents;
           whole = k.whole;
-          coded = subst (λ z. AfterRowBytes limits r.items r.contents bytes answer.More z r.scan k.whole) (sym same) r.coded;
+          coded = subst (λ z. InRowData limits r.items r.contents bytes z r.scan k.whole) (sym same) r.coded;
           held = r.held;
           at = at.0;
           row = row;
@@ -122,40 +120,36 @@ ready_goes limits bytes w scan rows r none = record {
 
 -- THE BITS that waited
 
-pub half_of : (limits : Limits) (items : List Item) (contents bytes : List ℕ) (waiting_bytes : List Bool) (s : InScan) (whole : Picture) → 1 ≤ length waiting_bytes → AfterRowBytes limits items contents bytes answer.More waiting_bytes s whole → HalfData limits items contents bytes waiting_bytes s whole
+pub half_of : (limits : Limits) (items : List Item) (contents bytes : List ℕ) (waiting_bytes : List Bool) (s : InScan) (whole : Picture) → 1 ≤ length waiting_bytes → InRowData limits items contents bytes waiting_bytes s whole → HalfData limits items contents bytes waiting_bytes s whole
 half_of limits items contents bytes [] s whole some d = absurd (omega (arith, some))
-half_of limits items contents bytes (bit ∷ bits) s whole some (more, h) = h
+half_of limits items contents bytes (bit ∷ bits) s whole some h = h
 
 pub ready_half : (limits : Limits) (bytes : List ℕ) (w : FileWork) (scan : InScan) (rows : RowWork) → RowReady limits bytes w scan rows → 1 ≤ length rows.waiting → IsHalfRow scan rows
 ready_half limits bytes w scan rows r some =
     half_row limits r.items r.contents bytes scan r.whole rows (half_of limits r.items r.contents bytes rows.waiting scan r.whole some r.coded) (r.held).of r.at r.row r.turned
 
-pub rest_shows : (limits : Limits) (items : List Item) (contents bytes : List ℕ) (fault : Fault) (waiting_bytes : List Bool) (s : InScan) (now : Picture) → AfterRowBytes limits items contents bytes (answer.Fault fault) waiting_bytes s now → Reveals limits fault bytes
-rest_shows limits items contents bytes fault [] s now a = a
-rest_shows limits items contents bytes fault (bit ∷ bits) s now (e, h) = (let z : (let a : ScanStep = answer.Fault fault in a) ≡ answer.More = e in absurd cc)
-
 -- their result
-abbrev pub RestTaken : InScan → RowWork → ScanStep → InScan → RowWork → Type 0
+abbrev pub RestTaken : InScan → RowWork → Result (Unit {0}) Fault → InScan → RowWork → Type 0
 RestTaken old w answer new after =
     (limits : Limits) (items : List Item) (contents bytes : List ℕ) (whole : Picture) → IsRowOf w.tops whole w.coefs → HalfData limits items contents bytes w.waiting old whole
     → (now : Picture) × IsRowOf w.tops now after.coefs × AfterRowBytes limits items contents bytes answer after.waiting new now
 
-pub rest_goes : (limits : Limits) (bytes : List ℕ) (w : FileWork) (scan new : InScan) (rows after : RowWork) (row : Bool) (given : ScanStep) (result : StripStep) → RowReady limits bytes w scan rows → 1 ≤ length rows.waiting → RestTaken scan rows given new after → given ≡ answer.More
+pub rest_goes : (limits : Limits) (bytes : List ℕ) (w : FileWork) (scan new : InScan) (rows after : RowWork) (row : Bool) (given : Result (Unit {0}) Fault) (result : Step) → RowReady limits bytes w scan rows → 1 ≤ length rows.waiting → RestTaken scan rows given new after → given ≡ Ok tt
     → CountsScan scan.work rows row new.work after → new.gate ≡ scan.gate → result ≡ cond row step.Row step.More → AfterRows limits bytes result (file_with w new w.reading.taken) after
 rest_goes limits bytes w scan new rows after row given result r some took is c gate came =
     let h = half_of limits r.items r.contents bytes rows.waiting scan r.whole some r.coded in
     let t = took limits r.items r.contents bytes r.whole r.row h in
-    let coded = subst (λ (a : ScanStep). AfterRowBytes limits r.items r.contents bytes a after.waiting new t.0) is t.2 in
+    let coded = subst (λ (a : Result (Unit {0}) Fault). AfterRowBytes limits r.items r.contents bytes a after.waiting new t.0) is t.2 in
     let of = subst (λ (l : List ℕ). IsRowOf l t.0 after.coefs) (sym c.tops) t.1 in
-    subst (λ (a : StripStep). AfterRows limits bytes a (file_with w new w.reading.taken) after) (sym came)
+    subst (λ (a : Step). AfterRows limits bytes a (file_with w new w.reading.taken) after) (sym came)
     (data_goes limits r.items r.contents bytes (file_with w new w.reading.taken) scan.work new t.0 rows after row refl coded (held_rest limits r.items r.contents bytes w new scan.gate new.gate gate r.held) r.at of c r.turned)
 
-pub rest_stops : (limits : Limits) (bytes : List ℕ) (w : FileWork) (scan new : InScan) (rows after : RowWork) (given : ScanStep) (fault : Fault) → RowReady limits bytes w scan rows → 1 ≤ length rows.waiting → RestTaken scan rows given new after → given ≡ answer.Fault fault
+pub rest_stops : (limits : Limits) (bytes : List ℕ) (w : FileWork) (scan new : InScan) (rows after : RowWork) (given : Result (Unit {0}) Fault) (fault : Fault) → RowReady limits bytes w scan rows → 1 ≤ length rows.waiting → RestTaken scan rows given new after → given ≡ Err fault
     → IsStop limits bytes (record { fault = fault; at = w.reading.taken })
 rest_stops limits bytes w scan new rows after given fault r some took is =
     let h = half_of limits r.items r.contents bytes rows.waiting scan r.whole some r.coded in
     let t = took limits r.items r.contents bytes r.whole r.row h in
-    ((r.held).count, rest_shows limits r.items r.contents bytes fault after.waiting new t.0 (subst (λ (a : ScanStep). AfterRowBytes limits r.items r.contents bytes a after.waiting new t.0) is t.2))
+    ((r.held).count, subst (λ (a : Result (Unit {0}) Fault). AfterRowBytes limits r.items r.contents bytes a after.waiting new t.0) is t.2)
 
 -- and no further row is complete
 pub next_counts : (limits : Limits) (bytes : List ℕ) (w : FileWork) (scan : InScan) (old new : RowWork) → StandsByRow limits bytes w old → w.reading.scan ≡ Some scan → KeepsRowIn old new → unfinished new ≡ unfinished old

@@ -8,48 +8,39 @@ use Rattle.jpg_base.specs.declared.stop.Stop.TheVariants as stop
 use Rattle.jpg_file.specs.Read.File.{AfterFileByte, KeepsBytes, PassesFront, StandsForFile, TakesSome, limits_of}
 use Rattle.jpg_file.specs.Read.RowsKnown.{KnowsRows}
 use Rattle.jpg_file.specs.declared.read.strip_head.StripHead.{StripHead}
+use Rattle.jpg_file.proofs.FileSteps.{asked}
 use Rattle.jpg_file.proofs.PieceSteps.{one_more}
-use Rattle.jpg_file.specs.Read.Strips.{CountsStrip, AfterScanBegins, AfterFileBytes, AfterStrip, IfStops, RowsRun, StripGoes, StripRun, end_step}
+use Rattle.jpg_file.specs.Read.Step.{IfStops}
+use Rattle.jpg_file.specs.Read.Strips.{CountsStrip, AfterScanBegins, AfterStrip, RowsRun, StripGoes, StripRun}
 use Rattle.jpg_file.specs.declared.read.file.FileWork.{FileWork}
 use Rattle.jpg_file.specs.declared.read.rows.RowWork.{RowWork}
-use Rattle.jpg_file.specs.declared.read.strips.StripStep.{StripStep}
-use Rattle.jpg_file.specs.declared.read.strips.StripStep.TheVariants as step
+use Rattle.jpg_file.specs.declared.read.step.Step.{Step}
+use Rattle.jpg_file.specs.declared.read.step.Step.TheVariants as step
 
 -- the result of a file that is read in one go
-pub plain_after : (asks : Type 0) (limits : Limits) (bytes : List ℕ) (rows : Option RowWork) (w : FileWork) (answer : Result Bool Stop) (result : StripStep) → rows ≡ None → result ≡ end_step answer → AfterFileByte asks limits bytes answer w → AfterStrip limits bytes result rows w
-plain_after asks limits bytes rows w answer result none is a = subst (λ (s : StripStep). AfterStrip limits bytes s rows w) (sym is) (subst (λ (r : Option RowWork). AfterStrip limits bytes (end_step answer) r w) (sym none) (by answer a))
-  where
-    by : (answer : Result Bool Stop) → AfterFileByte asks limits bytes answer w → AfterFileBytes limits bytes (end_step answer) w
-    by (Ok false) a = a
-    by (Ok true) a = a
-    by (Err (stop.Fault f)) a = a
-    by (Err stop.NoMemory) a = tt
+pub plain_after : (asks : Type 0) (limits : Limits) (bytes : List ℕ) (rows : Option RowWork) (w : FileWork) (answer : Step) → rows ≡ None → AfterFileByte asks limits bytes answer w → AfterStrip limits bytes answer rows w
+plain_after asks limits bytes rows w answer none a = subst (λ (r : Option RowWork). AfterStrip limits bytes answer r w) (sym none) (asked asks (Unit {0}) (λ h. tt) limits bytes answer w a)
 
 -- a scan that doesn't begin
 pub begin_stops : (limits : Limits) (bytes : List ℕ) (rows : Option RowWork) (w : FileWork) (e : Stop) → rows ≡ None → AfterScanBegins limits bytes (Err e) w → AfterStrip limits bytes (step.Ended e) rows w
 begin_stops limits bytes rows w e none a = subst (λ (r : Option RowWork). AfterStrip limits bytes (step.Ended e) r w) (sym none) (by e a)
   where
-    by : (e : Stop) → AfterScanBegins limits bytes (Err e) w → AfterFileBytes limits bytes (step.Ended e) w
+    by : (e : Stop) → AfterScanBegins limits bytes (Err e) w → AfterFileByte (Unit {0}) limits bytes (step.Ended e) w
     by (stop.Fault f) a = a
     by stop.NoMemory a = tt
 
 -- SOME BYTES
 
-pub stops : (result : StripStep) (holds : Type 0) → holds → IfStops result holds
+pub stops : (result : Step) (holds : Type 0) → holds → IfStops result holds
 stops step.More holds h = tt
 stops step.Row holds h = tt
 stops step.Whole holds h = tt
 stops (step.Ended e) holds h = h
 
-end_stops : (answer : Result Bool Stop) (holds : Type 0) → IfErr answer (λ e. holds) → IfStops (end_step answer) holds
-end_stops (Ok false) holds h = tt
-end_stops (Ok true) holds h = tt
-end_stops (Err e) holds h = h
-
 -- of a file that is read in one go
-pub some_plain : (w : FileWork) (rows : Option RowWork) (run : List ℕ) (n : ℕ) (answer : Result Bool Stop) (new : FileWork) (result : StripStep) → rows ≡ None → result ≡ end_step answer → TakesSome w run n answer new → (bytes : List ℕ) → StripGoes (limits_of w) bytes rows w
-    → StripRun (limits_of w) bytes run n result rows new
-some_plain w rows run n answer new result none is t bytes g =
+pub some_plain : (w : FileWork) (rows : Option RowWork) (run : List ℕ) (n : ℕ) (answer : Step) (new : FileWork) → rows ≡ None → TakesSome w run n answer new → (bytes : List ℕ) → StripGoes (limits_of w) bytes rows w
+    → StripRun (limits_of w) bytes run n answer rows new
+some_plain w rows run n answer new none t bytes g =
     let limits = limits_of w in
     let k = subst (λ (r : Option RowWork). StripGoes limits bytes r w) none g in
     let front = bytes ++ take t.early run in
@@ -61,12 +52,12 @@ some_plain w rows run n answer new result none is t bytes g =
       within = t.within;
       before = before;
       room = t.room limits bytes k refl;
-      head = subst (λ (s : StripStep). IfStops s (new.head ≡ (t.mid).head)) (sym is) (end_stops answer (new.head ≡ (t.mid).head) t.head);
-      last = plain_after (KeepsBytes w) limits (front ++ get_or run t.early 0 ∷ []) rows new answer result none is (t.last limits front before refl);
+      head = t.head;
+      last = plain_after (KeepsBytes w) limits (front ++ get_or run t.early 0 ∷ []) rows new answer none (t.last limits front before refl);
     }
 
 -- before the first scan: contents of a segment, and a byte
-pub first_plain : (w mid : FileWork) (run : List ℕ) (n : ℕ) (old rows : Option RowWork) (new : FileWork) (result : StripStep) → old ≡ None → PassesFront w run n mid
+pub first_plain : (w mid : FileWork) (run : List ℕ) (n : ℕ) (old rows : Option RowWork) (new : FileWork) (result : Step) → old ≡ None → PassesFront w run n mid
     → ((bytes : List ℕ) → StandsForFile (limits_of mid) bytes mid → AfterStrip (limits_of mid) (bytes ++ get_or run n 0 ∷ []) result rows new) → IfStops result (new.head ≡ mid.head) → (bytes : List ℕ) → StripGoes (limits_of w) bytes old w
     → StripRun (limits_of w) bytes run (n + 1) result rows new
 first_plain w mid run n old rows new result none p after head bytes g =
@@ -86,7 +77,7 @@ first_plain w mid run n old rows new result none p after head bytes g =
     }
 
 -- of one that is read MCU row by MCU row
-pub some_rows : (limits : Limits) (bytes run : List ℕ) (n : ℕ) (result : StripStep) (new : FileWork) (after : RowWork) → RowsRun limits bytes run n result new after → StripRun limits bytes run n result (Some after) new
+pub some_rows : (limits : Limits) (bytes run : List ℕ) (n : ℕ) (result : Step) (new : FileWork) (after : RowWork) → RowsRun limits bytes run n result new after → StripRun limits bytes run n result (Some after) new
 some_rows limits bytes run n result new after t = record {
   mid = t.mid;
   early = t.early;
@@ -108,6 +99,6 @@ first_known w mid run n rows strip p known bytes k =
     subst (λ (l : List ℕ). KnowsRows limits l 0 rows strip) (sym (one_more bytes run n p.within))
     (subst (λ (l : Limits). KnowsRows l (front ++ get_or run n 0 ∷ []) 0 rows strip) p.limits (known front (subst (λ (l : Limits). StandsForFile l front mid) (sym p.limits) before)))
 
-pub none_counts : (answer : StripStep) (rows after : Option RowWork) → is_none rows ≡ true → CountsStrip answer rows after
+pub none_counts : (answer : Step) (rows after : Option RowWork) → is_none rows ≡ true → CountsStrip answer rows after
 none_counts answer None after e = tt
 none_counts answer (Some rows) after e = absurd cc

@@ -27,5 +27,6 @@ pub mod RowsNone
 pub mod ScanHistory
 pub mod ScanStart
 pub mod SegmentState
+pub mod Step
 pub mod StripHead
 pub mod Strips

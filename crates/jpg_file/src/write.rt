@@ -1,26 +1,22 @@
 //! Complete files, written (T.81, B.2.1).
-ghost use Rattle.std.specs.Prelude.{◌≡◌, [], true, false};
-ghost use Rattle.jpg_spec.specs.Geometry.{is_progressive};
+ghost use Rattle.std.specs.Prelude.{◌≡◌, [], true};
 ghost use Rattle.jpg_spec.specs.Markers.{eoi};
 ghost use Rattle.jpg_huff.specs.BitOut.{CanSend, Sends};
-ghost use Rattle.jpg_file.specs.Write.WriteScan.{CanWriteSeqScans};
-ghost use Rattle.jpg_file.specs.Write.WriteProgScan.{CanWriteProgScans};
-ghost use Rattle.jpg_file.specs.Write.WriteFile.{CanWriteFile, WritesDue, file_bytes, prog_scans_due, scans_due, seq_scans_due};
+ghost use Rattle.jpg_file.specs.Write.WriteScan.{CanWriteScans, scans_due};
+ghost use Rattle.jpg_file.specs.Write.WriteFile.{CanWriteFile, WritesDue, file_bytes};
 
-pub mod new_tables;
-pub mod prog_scan;
+mod head;
 pub mod restart;
-pub mod scan;
-pub mod tables;
+mod scan;
+mod sets;
+mod tables;
 
-use crate::write::prog_scan::write_prog_scan;
 use crate::write::restart::Restart;
-use crate::write::scan::write_scan;
-use crate::write::tables::{Given, typical_set};
+use crate::write::scan::{Given, write_scan};
 use jpg_base::codes::EOI;
 use jpg_base::{Desk, WriteFault};
 use jpg_coefs::BlockView;
-use jpg_huff::{BitOut, TableSet};
+use jpg_huff::BitOut;
 use jpg_markers::{KeptList, OutHead, file_head};
 use jpg_scans::Script;
 
@@ -64,63 +60,13 @@ fn write_scans<V: BlockView, D: Desk>(
     desk: &mut D,
 ) -> Result<(), WriteFault>
     requires can { CanSend (D.state desk.old) out.old }
-    requires seq { is_progressive plan.now.out.frame.process ≡ false → CanWriteSeqScans plan.now (V.numbers view.now) (V.blocks view.now) }
-    requires prog { is_progressive plan.now.out.frame.process ≡ true → CanWriteProgScans plan.now (V.numbers view.now) (V.blocks view.now) }
+    requires scans { CanWriteScans plan.now (V.numbers view.now) (V.blocks view.now) }
     ensures { Sends (D.state desk.old) out.old (scans_due plan.now (V.numbers view.now) (V.blocks view.now)) result out.new (D.state desk.new) }
 {
-    if plan.out.frame.is_progressive() {
-        write_prog_scans(plan, view, out, desk)
-    } else {
-        write_seq_scans(plan, view, out, desk)
-    }
-}
-
-// Writes all scans of a progressive script.
-fn write_prog_scans<V: BlockView, D: Desk>(
-    plan: &Plan,
-    view: &V,
-    out: &mut BitOut,
-    desk: &mut D,
-) -> Result<(), WriteFault>
-    requires can { CanSend (D.state desk.old) out.old }
-    requires scans { CanWriteProgScans plan.now (V.numbers view.now) (V.blocks view.now) }
-    ensures { Sends (D.state desk.old) out.old (prog_scans_due plan.now (V.numbers view.now) (V.blocks view.now)) result out.new (D.state desk.new) }
-{
-    let mut given = TableSet::new();
-    let mut interval = 0;
-    for i in 0..plan.script.len() {
-        let entry = plan.script.entry(i);
-        write_prog_scan(plan, &entry, &mut given, &mut interval, view, out, desk)?;
-    }
-    Ok(())
-}
-
-// Writes all scans of a sequential script.
-fn write_seq_scans<V: BlockView, D: Desk>(
-    plan: &Plan,
-    view: &V,
-    out: &mut BitOut,
-    desk: &mut D,
-) -> Result<(), WriteFault>
-    requires can { CanSend (D.state desk.old) out.old }
-    requires scans { CanWriteSeqScans plan.now (V.numbers view.now) (V.blocks view.now) }
-    ensures { Sends (D.state desk.old) out.old (seq_scans_due plan.now (V.numbers view.now) (V.blocks view.now)) result out.new (D.state desk.new) }
-{
-    let tables = typical_set();
     let mut given = Given::new();
-    let mut interval = 0;
     for i in 0..plan.script.len() {
         let entry = plan.script.entry(i);
-        write_scan(
-            plan,
-            &entry,
-            &tables,
-            &mut given,
-            &mut interval,
-            view,
-            out,
-            desk,
-        )?;
+        write_scan(plan, &entry, &mut given, view, out, desk)?;
     }
     Ok(())
 }

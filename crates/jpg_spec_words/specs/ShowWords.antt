@@ -1,10 +1,42 @@
 -- WHAT THE WORDS of djpeg ask for, after the command's own (its manual in release 6b).
-use Rattle.std.specs.Prelude.{ℕ, ◌+◌, Bool, List, length, Option, None, Some}
-use Rattle.jpg_spec_words.specs.CommentWords.{FilesAsked, WordsTold, words_right}
-use Rattle.jpg_spec_words.specs.Requests.{Request, request, then_asks}
-use Rattle.jpg_spec_words.specs.Switches.{djpeg_switches}
+use Rattle.std.specs.Prelude.{ℕ, ◌+◌, Bool, true, false, List, [], ◌∷◌, length, codes}
+use Rattle.std.specs.Str.{bytes_eq}
+use Rattle.jpg_spec_words.specs.Requests.{FilesAsked, Tool, WordsTold, from_to, is_int, request, standard_input, usage_at, where_good, with_input, with_output, words_right}
+use Rattle.jpg_spec_words.specs.Switches.{Switch}
 use Rattle.jpg_spec_image.specs.declared.image.EndKind.{EndKind}
-use Rattle.jpg_spec_image.specs.declared.image.EndKind.TheVariants.{Pnm}
+use Rattle.jpg_spec_image.specs.declared.image.EndKind.TheVariants.{Pnm, Bmp}
+use Rattle.jpg_spec_words.specs.declared.answers.UsageFault.TheVariants.{UnknownSwitch}
+use Rattle.jpg_spec_words.specs.declared.switch.Flag.{Flag}
+use Rattle.jpg_spec_words.specs.declared.switch.Flag.TheVariants as flag
+use Rattle.jpg_spec_words.specs.declared.switch.Purpose.TheVariants.{LeftOut, Alone, Valued}
+use Rattle.jpg_spec_words.specs.declared.switch.Setting.{Setting}
+use Rattle.jpg_spec_words.specs.declared.switch.Setting.TheVariants as setting
+
+abbrev pub djpeg_switches : List Switch
+djpeg_switches =
+    record { name = codes "pnm"; shortest = 1; purpose = Alone flag.Pnm }
+    ∷ record { name = codes "ppm"; shortest = 1; purpose = Alone flag.Pnm }
+    ∷ record { name = codes "bmp"; shortest = 1; purpose = Alone flag.Bmp }
+    ∷ record { name = codes "grayscale"; shortest = 2; purpose = Alone flag.Gray }
+    ∷ record { name = codes "greyscale"; shortest = 2; purpose = Alone flag.Gray }
+    ∷ record { name = codes "nosmooth"; shortest = 3; purpose = Alone flag.NoSmooth }
+    ∷ record { name = codes "dct"; shortest = 2; purpose = Valued setting.Dct }
+    ∷ record { name = codes "scale"; shortest = 1; purpose = Valued setting.Scale }
+    ∷ record { name = codes "outfile"; shortest = 4; purpose = Valued setting.Output }
+    ∷ record { name = codes "colors"; shortest = 1; purpose = LeftOut }
+    ∷ record { name = codes "colours"; shortest = 1; purpose = LeftOut }
+    ∷ record { name = codes "quantize"; shortest = 1; purpose = LeftOut }
+    ∷ record { name = codes "dither"; shortest = 2; purpose = LeftOut }
+    ∷ record { name = codes "fast"; shortest = 1; purpose = LeftOut }
+    ∷ record { name = codes "gif"; shortest = 1; purpose = LeftOut }
+    ∷ record { name = codes "map"; shortest = 3; purpose = LeftOut }
+    ∷ record { name = codes "maxmemory"; shortest = 3; purpose = LeftOut }
+    ∷ record { name = codes "onepass"; shortest = 3; purpose = LeftOut }
+    ∷ record { name = codes "os2"; shortest = 3; purpose = LeftOut }
+    ∷ record { name = codes "rle"; shortest = 1; purpose = LeftOut }
+    ∷ record { name = codes "verbose"; shortest = 1; purpose = LeftOut }
+    ∷ record { name = codes "debug"; shortest = 1; purpose = LeftOut }
+    ∷ record { name = codes "targa"; shortest = 1; purpose = LeftOut } ∷ []
 
 -- files; the format of the image, and the index of the word that a fault of it has; whether it is in grayscale, and
 -- whether samples are smoothed
@@ -15,20 +47,34 @@ pub record ShowAsked : Type 0 where
   pub gray : Bool
   pub smooth : Bool
 
--- PNM if no word asks for a format; a fault of it is after all words then
-abbrev pub format_of : ℕ → Option (EndKind × ℕ) → EndKind × ℕ
-format_of count None = (Pnm, count)
-format_of count (Some format) = format
+-- If no switch is given, it is PNM, and a fault of it is after all words: this many, the command's own among them.
+abbrev pub show_default : ℕ → ShowAsked
+show_default count = record { files = from_to standard_input; kind = Pnm; kind_word = count; gray = false; smooth = true }
 
--- with this many words, the command's own among them
-abbrev pub show_of : ℕ → Request → ShowAsked
-show_of count r = record {
-  files = r.files;
-  kind = (format_of count r.format).0;
-  kind_word = (format_of count r.format).1;
-  gray = r.gray;
-  smooth = r.smooth;
+-- no scale but one
+abbrev pub is_whole_scale : List ℕ → Bool
+is_whole_scale value = bytes_eq value (codes "1/1")
+
+abbrev pub show_flag : Flag → ℕ → ShowAsked → WordsTold ShowAsked
+show_flag flag.Pnm index a = words_right (record a { kind = Pnm; kind_word = index })
+show_flag flag.Bmp index a = words_right (record a { kind = Bmp; kind_word = index })
+show_flag flag.Gray index a = words_right (record a { gray = true })
+show_flag flag.NoSmooth index a = words_right (record a { smooth = false })
+show_flag other index a = usage_at UnknownSwitch index
+
+abbrev pub show_setting : Setting → ℕ → List ℕ → ShowAsked → WordsTold ShowAsked
+show_setting setting.Output index value a = words_right (record a { files = with_output value a.files })
+show_setting setting.Dct index value a = where_good index (is_int value) a
+show_setting setting.Scale index value a = where_good index (is_whole_scale value) a
+show_setting other index value a = usage_at UnknownSwitch index
+
+abbrev pub djpeg : Tool ShowAsked
+djpeg = record {
+  switches = djpeg_switches;
+  named = λ name a. record a { files = with_input name a.files };
+  flag = show_flag;
+  setting = show_setting;
 }
 
 abbrev pub show_asked : List (List ℕ) → WordsTold ShowAsked
-show_asked words = then_asks (request djpeg_switches words) (λ r. words_right (show_of (length words + 1) r))
+show_asked words = request djpeg (show_default (length words + 1)) words

@@ -1,13 +1,41 @@
 -- WHAT THE WORDS of jpegtran ask for, after the command's own (its manual in release 6b).
-use Rattle.std.specs.Prelude.{ℕ, Bool, true, false, List, Option, None, Some}
-use Rattle.jpg_spec_words.specs.CommentWords.{FilesAsked, WordsTold, words_right}
-use Rattle.jpg_spec_write.specs.FileText.{Restart}
-use Rattle.jpg_spec_move.specs.Moved.{Choice}
+use Rattle.std.specs.Prelude.{ℕ, Bool, true, false, ◌||◌, ◌==◌, if◌then◌else◌, List, [], ◌∷◌, Option, None, Some, option_and_then, codes}
+use Rattle.jpg_spec_write.specs.FileText.{Restart, off}
 use Rattle.jpg_spec_write.specs.ScansAsked.{Scans}
-use Rattle.jpg_spec_words.specs.Requests.{Request, request, then_asks}
-use Rattle.jpg_spec_words.specs.Switches.{jpegtran_switches}
+use Rattle.jpg_spec_move.specs.Moved.{Choice}
+use Rattle.jpg_spec_words.specs.Requests.{FilesAsked, Tool, WordsTold, from_to, number_of, request, restart_named, standard_input, usage_at, with_input, with_output, with_value, words_right}
+use Rattle.jpg_spec_words.specs.Switches.{Switch, stands_for}
 use Rattle.jpg_spec.specs.declared.frame.Copying.{Copying}
+use Rattle.jpg_spec.specs.declared.frame.Copying.TheVariants as copying
 use Rattle.jpg_spec_move.specs.declared.transform.Transform.{Transform}
+use Rattle.jpg_spec_move.specs.declared.transform.Transform.TheVariants.{Keep, FlipH, FlipV, Transpose, Transverse, Rotate90, Rotate180, Rotate270}
+use Rattle.jpg_spec_words.specs.declared.answers.UsageFault.TheVariants.{TwoTransforms, UnknownSwitch}
+use Rattle.jpg_spec_words.specs.declared.switch.Flag.{Flag}
+use Rattle.jpg_spec_words.specs.declared.switch.Flag.TheVariants as flag
+use Rattle.jpg_spec_words.specs.declared.switch.Purpose.TheVariants.{LeftOut, Alone, Valued}
+use Rattle.jpg_spec_words.specs.declared.switch.Setting.{Setting}
+use Rattle.jpg_spec_words.specs.declared.switch.Setting.TheVariants as setting
+
+abbrev pub jpegtran_switches : List Switch
+jpegtran_switches =
+    record { name = codes "copy"; shortest = 1; purpose = Valued setting.Copy }
+    ∷ record { name = codes "flip"; shortest = 1; purpose = Valued setting.Flip }
+    ∷ record { name = codes "grayscale"; shortest = 1; purpose = Alone flag.Gray }
+    ∷ record { name = codes "greyscale"; shortest = 1; purpose = Alone flag.Gray }
+    ∷ record { name = codes "outfile"; shortest = 4; purpose = Valued setting.Output }
+    ∷ record { name = codes "progressive"; shortest = 1; purpose = Alone flag.Progressive }
+    ∷ record { name = codes "restart"; shortest = 1; purpose = Valued setting.Restart }
+    ∷ record { name = codes "rotate"; shortest = 2; purpose = Valued setting.Rotate }
+    ∷ record { name = codes "scans"; shortest = 1; purpose = Valued setting.Scans }
+    ∷ record { name = codes "transpose"; shortest = 1; purpose = Alone flag.Transpose }
+    ∷ record { name = codes "transverse"; shortest = 6; purpose = Alone flag.Transverse }
+    ∷ record { name = codes "trim"; shortest = 3; purpose = Alone flag.Trim }
+    ∷ record { name = codes "optimize"; shortest = 1; purpose = LeftOut }
+    ∷ record { name = codes "optimise"; shortest = 1; purpose = LeftOut }
+    ∷ record { name = codes "arithmetic"; shortest = 1; purpose = LeftOut }
+    ∷ record { name = codes "verbose"; shortest = 1; purpose = LeftOut }
+    ∷ record { name = codes "debug"; shortest = 1; purpose = LeftOut }
+    ∷ record { name = codes "maxmemory"; shortest = 3; purpose = LeftOut } ∷ []
 
 -- the source of the output's scans: the default sequential ones, the default progressive ones, or those of a script's
 -- file
@@ -17,10 +45,9 @@ pub data ScansSource : Type 0 where
   in_file : List ℕ → ScansSource
 
 -- -scans has priority over -progressive
-abbrev pub scans_source : Bool → Option (List ℕ) → ScansSource
-scans_source progressive (Some name) = in_file name
-scans_source true None = own_progressive
-scans_source false None = own_sequential
+abbrev pub with_progressive : ScansSource → ScansSource
+with_progressive (in_file name) = in_file name
+with_progressive other = own_progressive
 
 -- files, a transform, trimming, conversion to grayscale, which kept markers are passed on, and in which scans and with
 -- which restart intervals it is written
@@ -37,16 +64,83 @@ pub record TransformAsked : Type 0 where
 abbrev pub choice_asked : TransformAsked → Scans → Choice
 choice_asked a scans = record { transform = a.transform; trim = a.trim; gray = a.gray; copying = a.copying; scans = scans; restart = a.restart }
 
-abbrev pub transform_of : Request → TransformAsked
-transform_of r = record {
-  files = r.files;
-  transform = r.transform;
-  trim = r.trim;
-  gray = r.gray;
-  copying = r.copying;
-  scans = scans_source r.progressive r.script;
-  restart = r.restart;
+-- if no switch is given
+abbrev pub transform_default : TransformAsked
+transform_default = record {
+  files = from_to standard_input;
+  transform = Keep;
+  trim = false;
+  gray = false;
+  copying = copying.Comments;
+  scans = own_sequential;
+  restart = off;
+}
+
+-- VALUES
+
+-- names, of which a prefix is enough
+abbrev pub copying_named : List ℕ → Option Copying
+copying_named value =
+    if stands_for 1 (codes "none") value then Some copying.None
+    else if stands_for 1 (codes "comments") value then Some copying.Comments
+    else if stands_for 1 (codes "all") value then Some copying.All
+    else None
+
+abbrev pub flip_named : List ℕ → Option Transform
+flip_named value =
+    if stands_for 1 (codes "horizontal") value then Some FlipH
+    else if stands_for 1 (codes "vertical") value then Some FlipV
+    else None
+
+abbrev pub rotation_of : ℕ → Option Transform
+rotation_of degrees = if degrees == 90 then Some Rotate90 else if degrees == 180 then Some Rotate180 else if degrees == 270 then Some Rotate270 else None
+
+abbrev pub rotation_named : List ℕ → Option Transform
+rotation_named value = option_and_then rotation_of (number_of value)
+
+-- which of the eight transforms this is
+abbrev pub transform_number : Transform → ℕ
+transform_number Keep = 0
+transform_number FlipH = 1
+transform_number FlipV = 2
+transform_number Transpose = 3
+transform_number Transverse = 4
+transform_number Rotate90 = 5
+transform_number Rotate180 = 6
+transform_number Rotate270 = 7
+
+-- SWITCHES
+
+-- a transform may be asked for again, and no other one
+abbrev pub with_transform : ℕ → Transform → TransformAsked → WordsTold TransformAsked
+with_transform index t a =
+    if transform_number a.transform == 0 || transform_number a.transform == transform_number t then words_right (record a { transform = t })
+    else usage_at TwoTransforms index
+
+abbrev pub transform_flag : Flag → ℕ → TransformAsked → WordsTold TransformAsked
+transform_flag flag.Transpose index a = with_transform index Transpose a
+transform_flag flag.Transverse index a = with_transform index Transverse a
+transform_flag flag.Trim index a = words_right (record a { trim = true })
+transform_flag flag.Gray index a = words_right (record a { gray = true })
+transform_flag flag.Progressive index a = words_right (record a { scans = with_progressive a.scans })
+transform_flag other index a = usage_at UnknownSwitch index
+
+abbrev pub transform_setting : Setting → ℕ → List ℕ → TransformAsked → WordsTold TransformAsked
+transform_setting setting.Copy index value a = with_value index (copying_named value) (λ c. words_right (record a { copying = c }))
+transform_setting setting.Flip index value a = with_value index (flip_named value) (λ t. with_transform index t a)
+transform_setting setting.Rotate index value a = with_value index (rotation_named value) (λ t. with_transform index t a)
+transform_setting setting.Output index value a = words_right (record a { files = with_output value a.files })
+transform_setting setting.Scans index value a = words_right (record a { scans = in_file value })
+transform_setting setting.Restart index value a = with_value index (restart_named value) (λ r. words_right (record a { restart = r }))
+transform_setting other index value a = usage_at UnknownSwitch index
+
+abbrev pub jpegtran : Tool TransformAsked
+jpegtran = record {
+  switches = jpegtran_switches;
+  named = λ name a. record a { files = with_input name a.files };
+  flag = transform_flag;
+  setting = transform_setting;
 }
 
 abbrev pub transform_asked : List (List ℕ) → WordsTold TransformAsked
-transform_asked words = then_asks (request jpegtran_switches words) (λ r. words_right (transform_of r))
+transform_asked words = request jpegtran transform_default words

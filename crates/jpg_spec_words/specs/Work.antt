@@ -12,10 +12,9 @@ use Rattle.jpg_spec_image.specs.declared.image.ImageKind.TheVariants.{Rgb}
 use Rattle.jpg_spec_encode.specs.Encoded.{Encoding, encoded, encoded_text}
 use Rattle.jpg_spec_move.specs.Moved.{Choice, moved, moved_text}
 use Rattle.jpg_spec_move.specs.declared.transform.Transform.TheVariants.{Rotate90, Rotate270}
-use Rattle.jpg_spec_words.specs.EncodeWords.{EncodeAsked, encode_of, encoding_asked}
+use Rattle.jpg_spec_words.specs.EncodeWords.{EncodeAsked, encode_default, encoding_asked}
 use Rattle.jpg_spec_words.specs.Messages.{then_number}
-use Rattle.jpg_spec_words.specs.Requests.{nothing_said}
-use Rattle.jpg_spec_words.specs.TransformWords.{TransformAsked, choice_asked, transform_of}
+use Rattle.jpg_spec_words.specs.TransformWords.{TransformAsked, choice_asked, own_progressive, transform_default}
 
 -- THE IMAGE, of 8 n + 5 by 4 n + 3 pixels without a density
 
@@ -36,13 +35,13 @@ work_image n = record { info = work_info n; samples = flat_map (work_row n) (bel
 -- -progressive`, and `djpeg` without switches
 
 abbrev pub first_asked : EncodeAsked
-first_asked = encode_of (record nothing_said { progressive = true })
+first_asked = record encode_default { scans = own_progressive }
 
 abbrev pub turned_asked : TransformAsked
-turned_asked = transform_of (record nothing_said { transform = Rotate90 })
+turned_asked = record transform_default { transform = Rotate90 }
 
 abbrev pub back_asked : TransformAsked
-back_asked = transform_of (record nothing_said { transform = Rotate270; progressive = true })
+back_asked = record transform_default { transform = Rotate270; scans = own_progressive }
 
 abbrev pub first_encoding : ℕ → Encoding
 first_encoding n = encoding_asked first_asked standard None (work_image n)

@@ -9,4 +9,4 @@ pub mod word_examples;
 pub mod work_laws;
 
 pub use answers::{Usage, UsageFault, Which, Why};
-pub use switch::Purpose;
+pub use switch::{Flag, Purpose, Setting};

@@ -5,50 +5,64 @@
 pub enum Purpose {
     /// A switch of release 6b that the suite leaves out.
     LeftOut,
+    /// A switch without a value.
+    Alone(Flag),
+    /// A switch whose value is the next word.
+    Valued(Setting),
+}
+
+/// The switches without a value.
+#[derive(Clone, Copy, Debug, PartialEq, Eq)]
+pub enum Flag {
     /// `-replace`: the comments of the input are left out.
-    Replacing,
-    /// `-comment`: the next word is the comment.
-    CommentGiven,
-    /// `-cfile`: the next word names the file that has the comment.
-    CommentInFile,
-    /// `-copy`: the next word says which kept markers are passed on.
-    CopyingGiven,
-    /// `-flip`: the next word is the direction.
-    FlipGiven,
-    /// `-rotate`: the next word is the number of degrees.
-    RotationGiven,
+    Replace,
     /// `-transpose`
-    Transposing,
+    Transpose,
     /// `-transverse`
-    TransposingAcross,
+    Transverse,
     /// `-trim`: partial iMCUs that would remain in place are left out.
-    Trimming,
+    Trim,
     /// `-grayscale`: only the first component.
-    Graying,
-    /// `-outfile`: the next word names the output.
-    OutputNamed,
+    Gray,
     /// `-progressive`
-    ProgressiveAsked,
-    /// `-scans`: the next word names the file that has the script.
-    ScriptInFile,
-    /// `-restart`: the next word is how many MCUs or rows of them an interval has.
-    RestartGiven,
+    Progressive,
     /// `-pnm`, `-ppm`: the image is written as PNM.
-    PnmAsked,
+    Pnm,
     /// `-bmp`: the image is written as BMP.
-    BmpAsked,
+    Bmp,
     /// `-nosmooth`: rows of samples are repeated when they are upsampled.
-    NotSmoothed,
-    /// `-dct`: the next word names the arithmetic, only `int`.
-    DctGiven,
-    /// `-scale`: the next word is the size, only `1/1`.
-    ScaleGiven,
-    /// `-quality`: the next word is the quality of the quantisers.
-    QualityGiven,
+    NoSmooth,
     /// `-baseline`: no quantiser of more than one byte.
-    BaselineAsked,
-    /// `-sample`: the next word has the factors of the components.
-    FactorsGiven,
-    /// `-qtables`: the next word names the file that has tables of quantisers.
-    TablesInFile,
+    Baseline,
+}
+
+/// The switches with a value.
+#[derive(Clone, Copy, Debug, PartialEq, Eq)]
+pub enum Setting {
+    /// `-comment`: the comment.
+    Comment,
+    /// `-cfile`: the name of the file that has the comment.
+    CommentFile,
+    /// `-copy`: which kept markers are passed on.
+    Copy,
+    /// `-flip`: the direction.
+    Flip,
+    /// `-rotate`: the number of degrees.
+    Rotate,
+    /// `-outfile`: the name of the output.
+    Output,
+    /// `-scans`: the name of the file that has the script.
+    Scans,
+    /// `-restart`: how many MCUs or rows of them an interval has.
+    Restart,
+    /// `-dct`: the arithmetic, only `int`.
+    Dct,
+    /// `-scale`: the size, only `1/1`.
+    Scale,
+    /// `-quality`: the quality of the quantisers.
+    Quality,
+    /// `-sample`: the factors of the components.
+    Sample,
+    /// `-qtables`: the name of the file that has tables of quantisers.
+    Tables,
 }

@@ -2,12 +2,12 @@
 #![tactic(auto, unfolding(jpg_spec::specs::Codes::are_codes, jpg_spec::specs::HuffContents::huffman_table_of, jpg_spec::specs::HuffContents::huffman_tables_of, jpg_spec::specs::QuantContents::quant_tables_of))]
 
 ghost use Rattle.std.specs.Prelude.{◌≡◌, [], ◌∷◌, ◌++◌, true, false, Some, codes};
-ghost use Rattle.jpg_spec_words.specs.CommentWords.{usage_at, words_right, read_asked, write_asked, from_to, named};
-ghost use Rattle.jpg_spec_words.specs.EncodeWords.{encode_asked, encode_of, factors_due};
-ghost use Rattle.jpg_spec_words.specs.Requests.{nothing_said, with_input, with_output};
-ghost use Rattle.jpg_spec_words.specs.ShowWords.{show_asked, show_of};
+ghost use Rattle.jpg_spec_words.specs.CommentWords.{read_asked, write_asked};
+ghost use Rattle.jpg_spec_words.specs.EncodeWords.{encode_asked, encode_default, factors_due};
+ghost use Rattle.jpg_spec_words.specs.Requests.{from_to, named, standard_input, usage_at, with_output, words_right};
+ghost use Rattle.jpg_spec_words.specs.ShowWords.{show_asked, show_default};
 ghost use Rattle.jpg_spec_write.specs.FileText.{rows, mcus};
-ghost use Rattle.jpg_spec_words.specs.TransformWords.{transform_asked, transform_of, own_progressive, in_file};
+ghost use Rattle.jpg_spec_words.specs.TransformWords.{transform_asked, transform_default, own_progressive, in_file};
 ghost use Rattle.jpg_spec_words.specs.Work.{back_asked, first_asked, sides_line, turned_asked, work_info};
 ghost use Rattle.jpg_spec_words.specs.WorkWords.{work_asked};
 ghost use Rattle.jpg_spec_words.specs.declared.answers.UsageFault.TheVariants.{BadValue, LeftOutSwitch, MissingValue, TooManyFiles, TwoTransforms, UnknownSwitch};
@@ -18,30 +18,30 @@ ghost use Rattle.jpg_spec_words.specs.declared.answers.UsageFault.TheVariants as
 
 /// Prefixes of names are enough, in any case, and a number may have leading zeros.
 pub fn beginnings_are_enough()
-    ensures none { transform_asked [] ≡ words_right (transform_of nothing_said) }
-    ensures flip { transform_asked (codes "-f" ∷ codes "H" ∷ []) ≡ words_right (record (transform_of nothing_said) { transform = FlipH }) }
-    ensures rotate { transform_asked (codes "-RO" ∷ codes "090" ∷ []) ≡ words_right (record (transform_of nothing_said) { transform = Rotate90 }) }
-    ensures transpose { transform_asked (codes "-tr" ∷ []) ≡ words_right (record (transform_of nothing_said) { transform = Transpose }) }
-    ensures transverse { transform_asked (codes "-transv" ∷ []) ≡ words_right (record (transform_of nothing_said) { transform = Transverse }) }
-    ensures trim { transform_asked (codes "-tri" ∷ []) ≡ words_right (record (transform_of nothing_said) { trim = true }) }
-    ensures gray { transform_asked (codes "-grey" ∷ []) ≡ words_right (record (transform_of nothing_said) { gray = true }) }
-    ensures copy { transform_asked (codes "-c" ∷ codes "al" ∷ []) ≡ words_right (record (transform_of nothing_said) { copying = copying.All }) }
-    ensures progressive { transform_asked (codes "-P" ∷ []) ≡ words_right (record (transform_of nothing_said) { scans = own_progressive }) }
-    ensures script { transform_asked (codes "-s" ∷ codes "a" ∷ []) ≡ words_right (record (transform_of nothing_said) { scans = in_file (codes "a") }) }
-    ensures rows { transform_asked (codes "-r" ∷ codes "65535" ∷ []) ≡ words_right (record (transform_of nothing_said) { restart = rows 65535 }) }
-    ensures mcus { transform_asked (codes "-r" ∷ codes "7b" ∷ []) ≡ words_right (record (transform_of nothing_said) { restart = mcus 7 }) }
-    ensures off { transform_asked (codes "-restart" ∷ codes "0B" ∷ []) ≡ words_right (transform_of nothing_said) }
+    ensures none { transform_asked [] ≡ words_right transform_default }
+    ensures flip { transform_asked (codes "-f" ∷ codes "H" ∷ []) ≡ words_right (record transform_default { transform = FlipH }) }
+    ensures rotate { transform_asked (codes "-RO" ∷ codes "090" ∷ []) ≡ words_right (record transform_default { transform = Rotate90 }) }
+    ensures transpose { transform_asked (codes "-tr" ∷ []) ≡ words_right (record transform_default { transform = Transpose }) }
+    ensures transverse { transform_asked (codes "-transv" ∷ []) ≡ words_right (record transform_default { transform = Transverse }) }
+    ensures trim { transform_asked (codes "-tri" ∷ []) ≡ words_right (record transform_default { trim = true }) }
+    ensures gray { transform_asked (codes "-grey" ∷ []) ≡ words_right (record transform_default { gray = true }) }
+    ensures copy { transform_asked (codes "-c" ∷ codes "al" ∷ []) ≡ words_right (record transform_default { copying = copying.All }) }
+    ensures progressive { transform_asked (codes "-P" ∷ []) ≡ words_right (record transform_default { scans = own_progressive }) }
+    ensures script { transform_asked (codes "-s" ∷ codes "a" ∷ []) ≡ words_right (record transform_default { scans = in_file (codes "a") }) }
+    ensures rows { transform_asked (codes "-r" ∷ codes "65535" ∷ []) ≡ words_right (record transform_default { restart = rows 65535 }) }
+    ensures mcus { transform_asked (codes "-r" ∷ codes "7b" ∷ []) ≡ words_right (record transform_default { restart = mcus 7 }) }
+    ensures off { transform_asked (codes "-restart" ∷ codes "0B" ∷ []) ≡ words_right transform_default }
 {}
 
 /// A switch that is repeated takes its last value, the word after `-outfile` is a name whatever it is, and the last
 /// word may name the input.
 pub fn last_values_count()
-    ensures again { transform_asked (codes "-copy" ∷ codes "all" ∷ codes "-copy" ∷ codes "none" ∷ []) ≡ words_right (record (transform_of nothing_said) { copying = copying.None }) }
-    ensures output { transform_asked (codes "-outf" ∷ codes "-trim" ∷ []) ≡ words_right (transform_of (with_output (codes "-trim") nothing_said)) }
-    ensures input { transform_asked (codes "-trim" ∷ codes "a" ∷ []) ≡ words_right (transform_of (with_input (codes "a") (record nothing_said { trim = true }))) }
-    ensures script { transform_asked (codes "-s" ∷ codes "a" ∷ codes "-p" ∷ []) ≡ words_right (record (transform_of nothing_said) { scans = in_file (codes "a") }) }
-    ensures none { transform_asked (codes "-restart" ∷ codes "3" ∷ codes "-restart" ∷ codes "0" ∷ []) ≡ words_right (transform_of nothing_said) }
-    ensures same { transform_asked (codes "-flip" ∷ codes "h" ∷ codes "-flip" ∷ codes "h" ∷ []) ≡ words_right (record (transform_of nothing_said) { transform = FlipH }) }
+    ensures again { transform_asked (codes "-copy" ∷ codes "all" ∷ codes "-copy" ∷ codes "none" ∷ []) ≡ words_right (record transform_default { copying = copying.None }) }
+    ensures output { transform_asked (codes "-outf" ∷ codes "-trim" ∷ []) ≡ words_right (record transform_default { files = with_output (codes "-trim") (from_to standard_input) }) }
+    ensures input { transform_asked (codes "-trim" ∷ codes "a" ∷ []) ≡ words_right (record transform_default { files = from_to (named (codes "a")); trim = true }) }
+    ensures script { transform_asked (codes "-s" ∷ codes "a" ∷ codes "-p" ∷ []) ≡ words_right (record transform_default { scans = in_file (codes "a") }) }
+    ensures none { transform_asked (codes "-restart" ∷ codes "3" ∷ codes "-restart" ∷ codes "0" ∷ []) ≡ words_right transform_default }
+    ensures same { transform_asked (codes "-flip" ∷ codes "h" ∷ codes "-flip" ∷ codes "h" ∷ []) ≡ words_right (record transform_default { transform = FlipH }) }
 {}
 
 /// The first wrong word is reported.
@@ -62,15 +62,15 @@ pub fn wrong_words_have_their_places()
 /// A picture is decoded to PNM if no word asks for a format, otherwise to the last one; its fault is at that word, or
 /// after all words.
 pub fn the_last_format_counts()
-    ensures none { show_asked [] ≡ words_right (show_of 1 nothing_said) }
-    ensures pnm { (show_of 1 nothing_said).kind ≡ Pnm }
-    ensures place { (show_of 1 nothing_said).kind_word ≡ 1 }
-    ensures bmp { show_asked (codes "-B" ∷ []) ≡ words_right (record (show_of 2 nothing_said) { kind = Bmp; kind_word = 1 }) }
-    ensures last { show_asked (codes "-bmp" ∷ codes "-ppm" ∷ []) ≡ words_right (record (show_of 3 nothing_said) { kind_word = 2 }) }
-    ensures gray { show_asked (codes "-gr" ∷ []) ≡ words_right (record (show_of 2 nothing_said) { gray = true }) }
-    ensures smooth { show_asked (codes "-nos" ∷ []) ≡ words_right (record (show_of 2 nothing_said) { smooth = false }) }
-    ensures int { show_asked (codes "-dct" ∷ codes "INT" ∷ []) ≡ words_right (show_of 3 nothing_said) }
-    ensures scale { show_asked (codes "-s" ∷ codes "1/1" ∷ []) ≡ words_right (show_of 3 nothing_said) }
+    ensures none { show_asked [] ≡ words_right (show_default 1) }
+    ensures pnm { (show_default 1).kind ≡ Pnm }
+    ensures place { (show_default 1).kind_word ≡ 1 }
+    ensures bmp { show_asked (codes "-B" ∷ []) ≡ words_right (record (show_default 2) { kind = Bmp; kind_word = 1 }) }
+    ensures last { show_asked (codes "-bmp" ∷ codes "-ppm" ∷ []) ≡ words_right (record (show_default 3) { kind_word = 2 }) }
+    ensures gray { show_asked (codes "-gr" ∷ []) ≡ words_right (record (show_default 2) { gray = true }) }
+    ensures smooth { show_asked (codes "-nos" ∷ []) ≡ words_right (record (show_default 2) { smooth = false }) }
+    ensures int { show_asked (codes "-dct" ∷ codes "INT" ∷ []) ≡ words_right (show_default 3) }
+    ensures scale { show_asked (codes "-s" ∷ codes "1/1" ∷ []) ≡ words_right (show_default 3) }
 {}
 
 /// The first wrong word of djpeg is reported.
@@ -86,17 +86,17 @@ pub fn wrong_words_of_djpeg_have_their_places()
 /// The values of cjpeg: a quality of 0 is 1, and factors are pairs of digits, of which those that aren't given are 1 by
 /// 1.
 pub fn values_of_cjpeg_are_numbers()
-    ensures none { encode_asked [] ≡ words_right (encode_of nothing_said) }
-    ensures quality { encode_asked (codes "-q" ∷ codes "095" ∷ []) ≡ words_right (record (encode_of nothing_said) { quality = Some 95 }) }
-    ensures least { encode_asked (codes "-quality" ∷ codes "0" ∷ []) ≡ words_right (record (encode_of nothing_said) { quality = Some 1 }) }
-    ensures one { encode_asked (codes "-sa" ∷ codes "2x1" ∷ []) ≡ words_right (record (encode_of nothing_said) { factors = (2, 1) ∷ [] }) }
-    ensures two { encode_asked (codes "-sa" ∷ codes "4x3,1x2" ∷ []) ≡ words_right (record (encode_of nothing_said) { factors = (4, 3) ∷ (1, 2) ∷ [] }) }
+    ensures none { encode_asked [] ≡ words_right encode_default }
+    ensures quality { encode_asked (codes "-q" ∷ codes "095" ∷ []) ≡ words_right (record encode_default { quality = Some 95 }) }
+    ensures least { encode_asked (codes "-quality" ∷ codes "0" ∷ []) ≡ words_right (record encode_default { quality = Some 1 }) }
+    ensures one { encode_asked (codes "-sa" ∷ codes "2x1" ∷ []) ≡ words_right (record encode_default { factors = (2, 1) ∷ [] }) }
+    ensures two { encode_asked (codes "-sa" ∷ codes "4x3,1x2" ∷ []) ≡ words_right (record encode_default { factors = (4, 3) ∷ (1, 2) ∷ [] }) }
     ensures more { factors_due ((2, 1) ∷ []) 3 ≡ (2, 1) ∷ (1, 1) ∷ (1, 1) ∷ [] }
     ensures gray { factors_due ((4, 3) ∷ (1, 2) ∷ []) 1 ≡ (4, 3) ∷ [] }
     ensures own { factors_due [] 3 ≡ (2, 2) ∷ (1, 1) ∷ (1, 1) ∷ [] }
-    ensures tables { encode_asked (codes "-QT" ∷ codes "t" ∷ []) ≡ words_right (record (encode_of nothing_said) { tables = Some (codes "t") }) }
-    ensures baseline { encode_asked (codes "-b" ∷ []) ≡ words_right (record (encode_of nothing_said) { baseline = true }) }
-    ensures script { encode_asked (codes "-scan" ∷ codes "a" ∷ codes "-p" ∷ []) ≡ words_right (record (encode_of nothing_said) { scans = in_file (codes "a") }) }
+    ensures tables { encode_asked (codes "-QT" ∷ codes "t" ∷ []) ≡ words_right (record encode_default { tables = Some (codes "t") }) }
+    ensures baseline { encode_asked (codes "-b" ∷ []) ≡ words_right (record encode_default { baseline = true }) }
+    ensures script { encode_asked (codes "-scan" ∷ codes "a" ∷ codes "-p" ∷ []) ≡ words_right (record encode_default { scans = in_file (codes "a") }) }
 {}
 
 /// The first wrong word of cjpeg is reported.
@@ -116,10 +116,10 @@ pub fn wrong_words_of_cjpeg_have_their_places()
 
 /// wrjpgcom without a comment needs an input; `-cfile a -comment b` names two comments; rdjpgcom takes one file.
 pub fn words_are_told()
-    ensures needs { write_asked 1 [] ≡ usage_at usage.NeedsInput 1 }
-    ensures two { write_asked 1 (codes "-cfile" ∷ codes "a" ∷ codes "-comment" ∷ codes "b" ∷ []) ≡ usage_at usage.TwoComments 3 }
-    ensures file { read_asked 1 (codes "x" ∷ []) ≡ words_right (from_to (named (codes "x"))) }
-    ensures left_out { read_asked 1 (codes "-V" ∷ []) ≡ usage_at usage.LeftOutSwitch 1 }
+    ensures needs { write_asked [] ≡ usage_at usage.NeedsInput 1 }
+    ensures two { write_asked (codes "-cfile" ∷ codes "a" ∷ codes "-comment" ∷ codes "b" ∷ []) ≡ usage_at usage.TwoComments 3 }
+    ensures file { read_asked (codes "x" ∷ []) ≡ words_right (from_to (named (codes "x"))) }
+    ensures left_out { read_asked (codes "-V" ∷ []) ≡ usage_at usage.LeftOutSwitch 1 }
 {}
 
 /// jpgwork takes one number from 1 to 400.

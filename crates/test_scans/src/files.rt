@@ -1,6 +1,7 @@
 // Complete files through `Reader`: whether they are complete and what their pictures have, or what stops them (T.81, B.2, F.2.2).
 ghost use Rattle.std.specs.Prelude.{◌≡◌, ◌≤◌, false};
 ghost use Rattle.jpg_spec.specs.FrameHeader.{AreLimits};
+ghost use Rattle.jpg_file.specs.Read.ReadRows.{IsPlain};
 
 use crate::blocks::add_firsts;
 use crate::row::Row;
@@ -16,6 +17,8 @@ use test_rows::{Named, Stop as Unread, number, spelled};
 fn read(reader: &mut Reader, bytes: &[u8], size: usize) -> Result<u64, Stop>
     requires some { 1 ≤ size }
     requires more { reader.old.done ≡ false }
+    requires plain { IsPlain reader.old }
+    ensures plain { IsPlain reader.new }
 {
     let mut taken = 0u64;
     for piece in bytes.chunks(size) {
@@ -130,7 +133,10 @@ pub fn feed<'a>(alloc: Global, names: &[Named], row: &Row<'a>) -> Result<String,
     Ok(without_comma(alloc, &text)?)
 }
 
-fn fed(alloc: Global, reader: &mut Reader, piece: &[u8]) -> Result<String, AllocError> {
+fn fed(alloc: Global, reader: &mut Reader, piece: &[u8]) -> Result<String, AllocError>
+    requires plain { IsPlain reader.old }
+    ensures plain { IsPlain reader.new }
+{
     if reader.is_done() {
         return format!(in alloc; "done before");
     }

@@ -23,12 +23,12 @@ use Rattle.jpg_spec_image.specs.Strips.{mcu_rows}
 use Rattle.jpg_spec_words.specs.declared.answers.Why.{Why}
 use Rattle.jpg_spec_words.specs.declared.answers.Why.TheVariants as why
 use Rattle.jpg_spec_words.specs.declared.answers.Which.TheVariants as which
-use Rattle.jpg_file.specs.Read.ReadRows.{AfterEndRow, AfterFeedRow, EndsDoneRow, HasReadRows, IsDoneByRows, IsEarlyByRows, RowReaderState, whole_reader}
+use Rattle.jpg_file.specs.Read.ReadRows.{AfterEndRow, AfterFeedRow, EndsDoneRow, HasReadRows, IsDoneByRows, IsEarlyByRows}
 use Rattle.jpg_file.specs.Read.RowsNone.{HasNoRows}
 use Rattle.jpg_file.specs.declared.read.ends.End.TheVariants as ends
-use Rattle.jpg_file.specs.declared.read.row_reader.FedRow.{FedRow}
-use Rattle.jpg_file.specs.declared.read.row_reader.FedRow.TheVariants as fed
-use Rattle.jpg_file.specs.Read.ReadFile.{IsRefusal}
+use Rattle.jpg_file.specs.declared.read.row_pieces.FedRow.{FedRow}
+use Rattle.jpg_file.specs.declared.read.row_pieces.FedRow.TheVariants as fed
+use Rattle.jpg_file.specs.Read.ReadFile.{IsRefusal, ReaderState}
 use Rattle.jpg_spec.specs.declared.frame.Limits.{Limits}
 use Rattle.jpg_pnm_bmp.specs.EndState.{EndState}
 use Rattle.jpg_seq.specs.Rows.{rows_in_mcu}
@@ -53,22 +53,22 @@ use Rattle.jpg_cli.specs.declared.words.djpeg.ShowWords.{ShowWords}
 
 -- The reader was fed these bytes, in which no scan of all components began and whose picture isn't unwanted, and goes
 -- on.
-pub record HasFedPlainly (gray : Bool) (r : RowReaderState) (bytes : List ℕ) : Type 0 where
+pub record HasFedPlainly (gray : Bool) (r : ReaderState) (bytes : List ℕ) : Type 0 where
   pub none : r.rows ≡ None
   pub plain : HasNoRows standard_limits bytes
-  pub fed : HasFed (Image gray) (whole_reader r) bytes
+  pub fed : HasFed (Image gray) r bytes
 
 -- It has the complete file, in which none began.
-pub record HoldsPlainly (gray : Bool) (r : RowReaderState) (bytes : List ℕ) : Type 0 where
+pub record HoldsPlainly (gray : Bool) (r : ReaderState) (bytes : List ℕ) : Type 0 where
   pub none : r.rows ≡ None
   pub plain : HasNoRows standard_limits bytes
-  pub holds : HoldsFile (Image gray) (whole_reader r) bytes
+  pub holds : HoldsFile (Image gray) r bytes
 
 -- The bytes, this many, ended early, and none began in them. The reader has what they mean.
-pub record HoldsEarlyPlainly (gray : Bool) (r : RowReaderState) (n : ℕ) (bytes : List ℕ) : Type 0 where
+pub record HoldsEarlyPlainly (gray : Bool) (r : ReaderState) (n : ℕ) (bytes : List ℕ) : Type 0 where
   pub none : r.rows ≡ None
   pub plain : HasNoRows standard_limits bytes
-  pub holds : HoldsEarly (Image gray) (whole_reader r) n bytes
+  pub holds : HoldsEarly (Image gray) r n bytes
 
 -- THE HEAD of a picture that is decoded while it is read
 pub record Head : Type 0 where
@@ -81,7 +81,7 @@ pub record IsHeadIn (gray : Bool) (h : Head) (bytes : List ℕ) : Type 0 where
 
 -- A reader was fed bytes, of whose scan this many MCU rows were given, and then a piece, with this answer. That is all
 -- that was read.
-pub record HasFedRows (gray : Bool) (h : Head) (all : List ℕ) (m : ℕ) (piece : List ℕ) (answer : Result FedRow Stop) (r : RowReaderState) : Type 0 where
+pub record HasFedRows (gray : Bool) (h : Head) (all : List ℕ) (m : ℕ) (piece : List ℕ) (answer : Result FedRow Stop) (r : ReaderState) : Type 0 where
   pub fed : List ℕ
   pub cut : all ≡ fed ++ piece
   pub few : length piece ≤ 16384
@@ -94,13 +94,13 @@ pub record HasFedRows (gray : Bool) (h : Head) (all : List ℕ) (m : ℕ) (piece
   pub head : IsHeadIn gray h all
 
 -- the result of the first one, before which no such scan began
-pub record BeginsShownRows (gray : Bool) (all piece : List ℕ) (answer : Result FedRow Stop) (r : RowReaderState) : Type 0 where
+pub record BeginsShownRows (gray : Bool) (all piece : List ℕ) (answer : Result FedRow Stop) (r : ReaderState) : Type 0 where
   pub head : Head
   pub rows : HasFedRows gray head all 0 piece answer r
   pub none : HasNoRows standard_limits rows.fed
   pub done : EndsDoneRow answer r
 
-abbrev pub AfterFirst : Bool → List ℕ → List ℕ → FirstStep → RowReaderState → Type 0
+abbrev pub AfterFirst : Bool → List ℕ → List ℕ → FirstStep → ReaderState → Type 0
 AfterFirst gray bytes piece first.More r = HasFedPlainly gray r (bytes ++ piece)
 AfterFirst gray bytes piece first.Whole r = HoldsPlainly gray r (bytes ++ piece)
 AfterFirst gray bytes piece (first.Early n) r = ⊥
@@ -110,7 +110,7 @@ AfterFirst gray bytes piece (first.Ended (why.Refused f)) r =
 AfterFirst gray bytes piece (first.Ended why.NoMemory) r = IsShortRead (Image gray) (bytes ++ piece)
 AfterFirst gray bytes piece (first.Ended other) r = ⊥
 
-abbrev pub TakesFirst : Bool → RowReaderState → List ℕ → FirstStep → RowReaderState → Type 0
+abbrev pub TakesFirst : Bool → ReaderState → List ℕ → FirstStep → ReaderState → Type 0
 TakesFirst gray had piece answer r =
     (bytes : List ℕ) → HasFedPlainly gray had bytes → length (bytes ++ piece) ≤ standard_limits.input
     → AfterFirst gray bytes piece answer r
@@ -124,7 +124,7 @@ step_of (Err (stop.Fault f)) = first.Ended (why.Refused f)
 step_of (Err stop.NoMemory) = first.Ended why.NoMemory
 
 -- whether the reader goes on then
-abbrev pub StaysFirst : FirstStep → RowReaderState → Type 0
+abbrev pub StaysFirst : FirstStep → ReaderState → Type 0
 StaysFirst first.More r = r.done ≡ false
 StaysFirst first.Whole r = r.done ≡ true
 StaysFirst (first.Early n) r = Unit {0}
@@ -132,7 +132,7 @@ StaysFirst (first.Rows count answer) r = EndsDoneRow answer r
 StaysFirst (first.Ended ended) r = Unit {0}
 
 -- the result of bytes where the input ends
-abbrev pub AfterFirstEnd : Bool → List ℕ → FirstStep → RowReaderState → Type 0
+abbrev pub AfterFirstEnd : Bool → List ℕ → FirstStep → ReaderState → Type 0
 AfterFirstEnd gray bytes (first.Early n) r = HoldsEarlyPlainly gray r n bytes
 AfterFirstEnd gray bytes (first.Ended ended) r = AfterFileEnd (Image gray) bytes ended
 AfterFirstEnd gray bytes other r = ⊥
@@ -145,7 +145,7 @@ EndsPlainly gray old (why.ReadFault which.Input) new = TakesPieces (IsPlain gray
 EndsPlainly gray old why.NoMemory new = TakesPieces (IsShortRead (Image gray)) old new
 EndsPlainly gray old other new = ⊥
 
-abbrev pub EndsFirst : Bool → DeskState → FirstStep → List ℕ → RowReaderState → DeskState → Type 0
+abbrev pub EndsFirst : Bool → DeskState → FirstStep → List ℕ → ReaderState → DeskState → Type 0
 EndsFirst gray old first.More buffer r new = ⊥
 EndsFirst gray old first.Whole buffer r new = (r.done ≡ true) × (r.rows ≡ None) × TakesPieces (HoldsPlainly gray r) old new
 EndsFirst gray old (first.Early n) buffer r new =
@@ -155,18 +155,18 @@ EndsFirst gray old (first.Rows count answer) buffer r new =
 EndsFirst gray old (first.Ended ended) buffer r new = EndsPlainly gray old ended new
 
 -- one more piece
-abbrev pub AfterFirstRead : Bool → DeskState → List ℕ → FirstStep → List ℕ → RowReaderState → DeskState → Type 0
+abbrev pub AfterFirstRead : Bool → DeskState → List ℕ → FirstStep → List ℕ → ReaderState → DeskState → Type 0
 AfterFirstRead gray old bytes first.More buffer r new =
     (piece : List ℕ) × (0 < length piece) × HasFedPlainly gray r (bytes ++ piece) × Consumes old.left new.left (bytes ++ piece)
 AfterFirstRead gray old bytes step buffer r new = EndsFirst gray old step buffer r new
 
-abbrev pub ReadsFirst : Bool → RowReaderState → DeskState → FirstStep → List ℕ → RowReaderState → DeskState → Type 0
+abbrev pub ReadsFirst : Bool → ReaderState → DeskState → FirstStep → List ℕ → ReaderState → DeskState → Type 0
 ReadsFirst gray had old answer buffer r new =
     (s : DeskState) (bytes : List ℕ) → HasFedPlainly gray had bytes → OnlyReads s old → Consumes s.left old.left bytes
     → AfterFirstRead gray s bytes answer buffer r new
 
 -- if more of the input may be read, it is open, and the reader goes on
-abbrev pub GoesOnFirst : FirstStep → RowReaderState → DeskState → Type 0
+abbrev pub GoesOnFirst : FirstStep → ReaderState → DeskState → Type 0
 GoesOnFirst first.More r now = (r.done ≡ false) × (now.input_open ≡ true)
 GoesOnFirst step r now = Unit {0}
 
@@ -203,12 +203,12 @@ pub record IsDrawing (s : Showing) (h : Head) (all : List ℕ) (m : ℕ) (writte
 
 -- THE STATE meanwhile: the reader, the image and its writer, and the desk
 pub record Work : Type 0 where
-  pub reader : RowReaderState
+  pub reader : ReaderState
   pub image : Drawing
   pub end : EndState
   pub now : DeskState
 
-abbrev pub at_work : RowReaderState → Drawing → EndState → DeskState → Work
+abbrev pub at_work : ReaderState → Drawing → EndState → DeskState → Work
 at_work r d e desk = record { reader = r; image = d; end = e; now = desk }
 
 -- the picture has the image of this one
@@ -296,7 +296,7 @@ AfterShownPiece s old start h all (step.Early n) w = (m : ℕ) × HasShownEarly 
 AfterShownPiece s old start h all (step.Ended ended) w = Shown s old ended w.now
 
 -- Something was read and drawn before.
-pub record CanBeginRows (s : Showing) (piece : List ℕ) (answer : Result FedRow Stop) (r : RowReaderState) (now : DeskState) : Type 0 where
+pub record CanBeginRows (s : Showing) (piece : List ℕ) (answer : Result FedRow Stop) (r : ReaderState) (now : DeskState) : Type 0 where
   pub old : DeskState
   pub start : DeskState
   pub all : List ℕ
@@ -345,33 +345,33 @@ pub record CanEndInZeros (s : Showing) (n : ℕ) (d : Drawing) (e : EndState) (n
 
 -- WHATEVER the state was
 
-abbrev pub Draws : ShowWords → List ℕ → Result FedRow Stop → RowReaderState → Drawing → EndState → DeskState
-    → RowsStep → RowReaderState → Drawing → EndState → DeskState → Type 0
+abbrev pub Draws : ShowWords → List ℕ → Result FedRow Stop → ReaderState → Drawing → EndState → DeskState
+    → RowsStep → ReaderState → Drawing → EndState → DeskState → Type 0
 Draws words piece answer r d e s0 result new_r new_d new_e s1 =
     (old start : DeskState) (h : Head) (all : List ℕ) (m : ℕ) → IsShowing (showing_told words) old start h all m piece answer (at_work r d e s0)
     → AfterShownPiece (showing_told words) old start h all result (at_work new_r new_d new_e s1)
 
-abbrev pub ReadsRows : Showing → RowReaderState → Drawing → EndState → DeskState → RowsStep → RowReaderState → Drawing → EndState → DeskState → Type 0
+abbrev pub ReadsRows : Showing → ReaderState → Drawing → EndState → DeskState → RowsStep → ReaderState → Drawing → EndState → DeskState → Type 0
 ReadsRows s r d e s0 result new_r new_d new_e s1 =
     (old start : DeskState) (h : Head) (all : List ℕ) (m : ℕ) → HasShown s old start h all m (at_work r d e s0)
     → (more : List ℕ) × AfterShownPiece s old start h (all ++ more) result (at_work new_r new_d new_e s1)
 
-abbrev pub FinishesRows : Showing → RowReaderState → Drawing → EndState → DeskState → Why → DeskState → Type 0
+abbrev pub FinishesRows : Showing → ReaderState → Drawing → EndState → DeskState → Why → DeskState → Type 0
 FinishesRows s r d e s0 ended s1 =
     (old start : DeskState) (h : Head) (all : List ℕ) (m : ℕ) → HasShownAll s old start h all m (at_work r d e s0) → Shown s old ended s1
 
-abbrev pub FinishesEarly : Showing → ℕ → RowReaderState → Drawing → EndState → DeskState → Why → DeskState → Type 0
+abbrev pub FinishesEarly : Showing → ℕ → ReaderState → Drawing → EndState → DeskState → Why → DeskState → Type 0
 FinishesEarly s n r d e s0 ended s1 =
     (old start : DeskState) (h : Head) (all : List ℕ) (m : ℕ) → HasShownEarly s old start h all m n (at_work r d e s0) → Shown s old ended s1
 
 abbrev pub EndsInZeros : Showing → ℕ → Drawing → EndState → DeskState → Why → DeskState → Type 0
 EndsInZeros s n d e s0 ended s1 = (old start : DeskState) (h : Head) (all : List ℕ) → IsEnding s old start h all n 0 d e s0 → Shown s old ended s1
 
-abbrev pub ShowsFrom : Showing → List ℕ → Result FedRow Stop → RowReaderState → DeskState → Why → DeskState → Type 0
+abbrev pub ShowsFrom : Showing → List ℕ → Result FedRow Stop → ReaderState → DeskState → Why → DeskState → Type 0
 ShowsFrom s piece answer r s0 ended s1 =
     (old start : DeskState) (all : List ℕ) → BeginsShownRows s.gray all piece answer r → HasOpened s old start all s0 → Shown s old ended s1
 
-abbrev pub DrawsFrom : Showing → List ℕ → Result FedRow Stop → RowReaderState → Drawing → EndState → DeskState → Why → DeskState → Type 0
+abbrev pub DrawsFrom : Showing → List ℕ → Result FedRow Stop → ReaderState → Drawing → EndState → DeskState → Why → DeskState → Type 0
 DrawsFrom s piece answer r d e s0 ended s1 =
     (old start : DeskState) (h : Head) (all : List ℕ) (m : ℕ) → IsShowing s old start h all m piece answer (at_work r d e s0) → Shown s old ended s1
 
@@ -424,13 +424,13 @@ StopsWith limits bytes (why.Refused f) = IsRefusal limits bytes f
 StopsWith limits bytes other = ⊥
 
 -- the result of bytes where the input ends, of which this many MCU rows were given
-abbrev pub AfterRowsEnd : List ℕ → ℕ → RowsStep → RowReaderState → Type 0
+abbrev pub AfterRowsEnd : List ℕ → ℕ → RowsStep → ReaderState → Type 0
 AfterRowsEnd bytes m (step.Early n) r = AfterEndRow bytes m (ends.Early n) r
 AfterRowsEnd bytes m (step.Ended ended) r = StopsWith r.limits bytes ended
 AfterRowsEnd bytes m other r = ⊥
 
 -- if more may be read, the input is open, and so is the output
-abbrev pub GoesOnRows : RowsStep → RowReaderState → DeskState → Type 0
+abbrev pub GoesOnRows : RowsStep → ReaderState → DeskState → Type 0
 GoesOnRows step.More r now = (r.done ≡ false) × (now.input_open ≡ true) × (now.output_created ≡ true)
 GoesOnRows step.Whole r now = now.output_created ≡ true
 GoesOnRows (step.Early n) r now = now.output_created ≡ true

@@ -15,8 +15,7 @@ use Rattle.jpg_spec_move.specs.Moved.{Choice, moved, moved_text}
 use Rattle.jpg_spec_move.specs.declared.transform.Transform.{Transform}
 use Rattle.jpg_spec_write.specs.ScansAsked.{sequential, standard}
 use Rattle.jpg_cli.specs.Certain.{IsTold}
-use Rattle.jpg_spec_words.specs.Requests.{nothing_said}
-use Rattle.jpg_spec_words.specs.TransformWords.{choice_asked, transform_of}
+use Rattle.jpg_spec_words.specs.TransformWords.{ScansSource, choice_asked, transform_default, own_progressive, own_sequential}
 use Rattle.jpg_spec_words.specs.Work.{lines, work_info, work_text}
 use Rattle.jpg_spec_words.specs.declared.answers.Usage.{Usage}
 use Rattle.jpg_spec_words.specs.declared.answers.UsageFault.TheVariants.{NoEnd}
@@ -60,10 +59,14 @@ pub record HasFile (M : Meaning) (text : List ℕ) (desk : MemoryDesk) : Type 0 
   pub output : HasOutput text desk
   pub means : Means standard_limits text M
 
+-- the default scans of a kind
+abbrev pub scans_by : Bool → ScansSource
+scans_by progressive = if progressive then own_progressive else own_sequential
+
 -- `jpegtran` without other words than a transform and perhaps `-progressive`
 abbrev pub work_choice : Transform → Bool → Choice
 work_choice t progressive =
-    choice_asked (transform_of (record nothing_said { transform = t; progressive = progressive })) (if progressive then standard else sequential)
+    choice_asked (record transform_default { transform = t }) (if progressive then standard else sequential)
 
 abbrev pub TurnsFile : Choice → List ℕ → Option MemoryDesk → Type 0
 TurnsFile choice input result = (M : Meaning) → Means standard_limits input M → IfSome result (λ desk. HasFile (moved choice M) (moved_text choice M) desk)

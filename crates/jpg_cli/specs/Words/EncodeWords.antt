@@ -1,18 +1,17 @@
 -- What the words of cjpeg ask for, as the functions answer it.
-use Rattle.std.specs.Prelude.{List, Option, option_copied, option_map, Result}
+use Rattle.std.specs.Prelude.{◌≡◌, ℕ, ◌-◌, true, List, [], ◌∷◌, Option, None, Some, option_and_then, option_copied, option_map, unwrap_or}
 use Rattle.std.specs.Borrow.{Bor}
 use Rattle.arrayvec.specs.ArrayVec.{ArrayVec}
-use Rattle.jpg_spec_words.specs.CommentWords.{WordsTold}
-use Rattle.jpg_spec_words.specs.EncodeWords.{EncodeAsked, encoding_asked}
+use Rattle.jpg_spec_words.specs.EncodeWords.{EncodeAsked, are_factors, encoding_asked, factors_from, factors_named, quality_named}
 use Rattle.jpg_spec_encode.specs.Encoded.{Encoding}
 use Rattle.jpg_spec_write.specs.ScansAsked.{Scans}
 use Rattle.jpg_spec.specs.Segments.{QuantTable}
 use Rattle.jpg_color.specs.Encode.{image_told}
 use Rattle.jpg_pnm_bmp.specs.declared.read.pixels.Image.{Image as Read}
 use Rattle.jpg_file.specs.Write.Restarts.{restart_of}
-use Rattle.jpg_cli.specs.Words.CommentWords.{IsAnswer, files_view}
-use Rattle.jpg_cli.specs.Words.TransformWords.{script_told}
-use Rattle.jpg_cli.specs.declared.words.comments.WordsStop.{WordsStop}
+use Rattle.jpg_cli.specs.Words.Files.{files_said, files_view, text_told}
+use Rattle.jpg_cli.specs.Words.TransformWords.{script_said, script_told}
+use Rattle.jpg_cli.specs.declared.words.cjpeg.EncodeSaid.{EncodeSaid}
 use Rattle.jpg_cli.specs.declared.words.cjpeg_request.EncodeWords.{EncodeWords}
 
 -- words with their files, as they ask for an image to be encoded
@@ -28,6 +27,30 @@ encode_told w = record {
   tables = w.tables;
 }
 
+-- the same by the words so far; quality and factors are those of these texts
+abbrev pub quality_said : Option (List ℕ) → Option ℕ
+quality_said text = option_and_then quality_named text
+
+abbrev pub factors_said : Option (List ℕ) → List (ℕ × ℕ)
+factors_said text = unwrap_or (option_and_then factors_named text) []
+
+abbrev pub encode_said : EncodeSaid → EncodeAsked
+encode_said s = record {
+  files = files_said s.files;
+  quality = quality_said (text_told s.quality);
+  gray = s.gray;
+  baseline = s.baseline;
+  scans = script_said s.script;
+  restart = restart_of s.restart;
+  factors = factors_said (text_told s.factors);
+  tables = text_told s.tables;
+}
+
+-- The pair of factors that a text begins with, and the rest of the text; or none, and the text has no factors.
+abbrev pub IsFirstPair : List ℕ → Option ((ℕ × ℕ) × Bor (List ℕ)) → Type 0
+IsFirstPair text None = (most : ℕ) → factors_from most text ≡ None
+IsFirstPair text (Some found) = (a x d : ℕ) × (text ≡ a ∷ x ∷ d ∷ found.1.now) × (are_factors a x d ≡ true) × (found.0 ≡ (a - 48, d - 48))
+
 -- tables that are lent, if there are some
 abbrev pub lent_tables : Option (Bor (ArrayVec QuantTable)) → Option (List QuantTable)
 lent_tables tables = option_map (λ v. v.items) (option_copied tables)
@@ -35,7 +58,3 @@ lent_tables tables = option_map (λ v. v.items) (option_copied tables)
 -- how an image that was read is encoded then
 abbrev pub asked_of : EncodeWords → Scans → Option (Bor (ArrayVec QuantTable)) → Read → Encoding
 asked_of w scans tables i = encoding_asked (encode_told w) scans (lent_tables tables) (image_told i)
-
--- What the words ask for; if they are wrong, what is wrong. NoMemory is possible for the names of files.
-abbrev pub IsEncode : WordsTold EncodeAsked → Result EncodeWords WordsStop → Type 0
-IsEncode told result = IsAnswer encode_told told result

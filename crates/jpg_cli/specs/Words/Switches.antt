@@ -1,6 +1,8 @@
 -- Switches as their definitions have them.
+use Rattle.std.specs.Prelude.{ℕ, List}
+use Rattle.std.specs.Borrow.{Bor}
 use Rattle.jpg_spec_words.specs.Switches.{Switch}
-use Rattle.jpg_cli.specs.declared.words.switches.Switch.{Switch as RustSwitch}
+use Rattle.jpg_spec_words.specs.declared.switch.Purpose.{Purpose}
 
-abbrev pub told_switch : RustSwitch → Switch
-told_switch s = record { name = s.name.now; shortest = s.shortest; purpose = s.purpose }
+abbrev pub told_switch : Bor (List ℕ) × ℕ × Purpose → Switch
+told_switch s = record { name = s.0.now; shortest = s.1; purpose = s.2 }

@@ -1,12 +1,12 @@
 -- What the words of jpegtran ask for, as the functions answer it.
-use Rattle.std.specs.Prelude.{Result}
-use Rattle.jpg_spec_words.specs.CommentWords.{WordsTold}
 use Rattle.jpg_spec_words.specs.TransformWords.{ScansSource, own_sequential, own_progressive, in_file, TransformAsked}
 use Rattle.jpg_file.specs.Write.Restarts.{restart_of}
-use Rattle.jpg_cli.specs.Words.CommentWords.{IsAnswer, files_view}
-use Rattle.jpg_cli.specs.declared.words.comments.WordsStop.{WordsStop}
+use Rattle.jpg_cli.specs.Words.Files.{files_said, files_view}
 use Rattle.jpg_cli.specs.declared.words.jpegtran.ScriptFrom.{ScriptFrom}
 use Rattle.jpg_cli.specs.declared.words.jpegtran.ScriptFrom.TheVariants as from
+use Rattle.jpg_cli.specs.declared.words.jpegtran.ScriptSaid.{ScriptSaid}
+use Rattle.jpg_cli.specs.declared.words.jpegtran.ScriptSaid.TheVariants as said
+use Rattle.jpg_cli.specs.declared.words.jpegtran.TransformSaid.{TransformSaid}
 use Rattle.jpg_cli.specs.declared.words.jpegtran.TransformWords.{TransformWords}
 
 -- the source of the scans
@@ -27,6 +27,19 @@ transform_told w = record {
   restart = restart_of w.restart;
 }
 
--- What the words ask for; if they are wrong, what is wrong. NoMemory is possible for the names of files.
-abbrev pub IsTransform : WordsTold TransformAsked → Result TransformWords WordsStop → Type 0
-IsTransform told result = IsAnswer transform_told told result
+-- the same by the words so far
+abbrev pub script_said : ScriptSaid → ScansSource
+script_said said.Sequential = own_sequential
+script_said said.Standard = own_progressive
+script_said (said.File name) = in_file name.now
+
+abbrev pub transform_said : TransformSaid → TransformAsked
+transform_said s = record {
+  files = files_said s.files;
+  transform = s.transform;
+  trim = s.trim;
+  gray = s.gray;
+  copying = s.copying;
+  scans = script_said s.script;
+  restart = restart_of s.restart;
+}

@@ -3,6 +3,7 @@ ghost use Rattle.std.specs.Prelude.{◌≡◌, ◌≤◌, [], List, ℕ, length,
 ghost use Rattle.jpg_spec.specs.Segments.{standard_limits};
 ghost use Rattle.jpg_file.specs.Read.File.{keeping_of};
 ghost use Rattle.jpg_file.specs.Read.ReadFile.{HasRead, head_seen};
+ghost use Rattle.jpg_file.specs.Read.ReadRows.{IsPlain};
 ghost use Rattle.jpg_cli.specs.Stays.{Keeps, OnlyReads};
 ghost use Rattle.jpg_cli.specs.Desk.Judging.{done_as};
 ghost use Rattle.jpg_cli.specs.Desk.ReadPicture.{AfterPictureEnd, EndDone, EndsReading, EndsCompletePicture, PictureGoesOn, HasFed, PictureRead, ReadsNext, ReadsPictureBytes, StepDone, step_unless, unwanted_in};
@@ -78,10 +79,12 @@ fn read_whole<D: Desk>(
     requires open { (D.state desk.old).input_open ≡ true }
     requires none { HasRead [] reader.old }
     requires limits { reader.old.limits ≡ standard_limits }
+    requires plain { IsPlain reader.old }
     ensures kept { OnlyReads (D.state desk.old) (D.state desk.new) }
     ensures ended { EndsCompletePicture wanted (D.state desk.old) result reader.new (D.state desk.new) }
     ensures limits { reader.new.limits ≡ standard_limits }
     ensures keeping { keeping_of reader.new.file ≡ keeping_of reader.old.file }
+    ensures plain { IsPlain reader.new }
 {
     let mut buffer = [0u8; 16384];
     loop {
@@ -104,11 +107,13 @@ fn next_piece<D: Desk>(
     requires open { (D.state desk.old).input_open ≡ true }
     requires more { reader.old.done ≡ false }
     requires limits { reader.old.limits ≡ standard_limits }
+    requires plain { IsPlain reader.old }
     ensures kept { OnlyReads (D.state desk.old) (D.state desk.new) }
     ensures goes_on { PictureGoesOn result reader.new (D.state desk.new) }
     ensures after { ReadsNext wanted reader.old (D.state desk.old) result reader.new (D.state desk.new) }
     ensures limits { reader.new.limits ≡ standard_limits }
     ensures keeping { keeping_of reader.new.file ≡ keeping_of reader.old.file }
+    ensures plain { IsPlain reader.new }
 {
     match read_within(desk, reader.room(), buffer) {
         Got::Failed => PictureStep::Ended(Why::ReadFault(Which::Input)),
@@ -158,10 +163,12 @@ fn take_piece(reader: &mut Reader, wanted: Wanted, piece: &[u8]) -> PictureStep
     requires more { reader.old.done ≡ false }
     requires limits { reader.old.limits ≡ standard_limits }
     requires short { length piece.now ≤ 65536 }
+    requires plain { IsPlain reader.old }
     ensures taken { ReadsPictureBytes wanted reader.old piece.now result reader.new }
     ensures done { StepDone result reader.new }
     ensures limits { reader.new.limits ≡ standard_limits }
     ensures keeping { keeping_of reader.new.file ≡ keeping_of reader.old.file }
+    ensures plain { IsPlain reader.new }
 {
     match reader.feed(piece) {
         Ok(Fed::More) => step_unless(unwanted(reader, wanted), PictureStep::More),
@@ -178,10 +185,12 @@ fn take_piece(reader: &mut Reader, wanted: Wanted, piece: &[u8]) -> PictureStep
 fn at_end(reader: &mut Reader, wanted: Wanted) -> PictureStep
     requires more { reader.old.done ≡ false }
     requires limits { reader.old.limits ≡ standard_limits }
+    requires plain { IsPlain reader.old }
     ensures ended { (bytes : List ℕ) → HasFed wanted reader.old bytes → AfterPictureEnd wanted bytes result reader.new }
     ensures done { EndDone result reader.new }
     ensures limits { reader.new.limits ≡ standard_limits }
     ensures keeping { keeping_of reader.new.file ≡ keeping_of reader.old.file }
+    ensures plain { IsPlain reader.new }
 {
     match reader.end() {
         End::Early(at) => PictureStep::Early(at),

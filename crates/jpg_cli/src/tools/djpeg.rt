@@ -6,7 +6,7 @@ ghost use Rattle.jpg_spec_image.specs.Pixels.{out_fault};
 ghost use Rattle.jpg_spec.specs.Segments.{standard_limits};
 ghost use Rattle.jpg_file.specs.Read.PictureRead.{picture_meaning};
 ghost use Rattle.jpg_file.specs.Read.ReadFile.{head_seen};
-ghost use Rattle.jpg_file.specs.Read.ReadRows.{HasReadPlainly, whole_reader};
+ghost use Rattle.jpg_file.specs.Read.ReadRows.{HasReadPlainly};
 ghost use Rattle.jpg_pnm_bmp.specs.EndState.{new_end};
 ghost use Rattle.jpg_cli.specs.Desk.ReadPicture.{unwanted_in};
 ghost use Rattle.jpg_cli.specs.Tools.Showing.{AfterPicture, Shown, showing_told};
@@ -20,7 +20,7 @@ use crate::tools::djpeg_rows::show_rows;
 use crate::words::djpeg::ShowWords;
 use jpg_base::{Desk, Got, Put, Stop};
 use jpg_color::{DecodeStop, admits, decode_rows};
-use jpg_file::{End, FedRow, Picture, RowReader};
+use jpg_file::{End, FedRow, Picture, Reader};
 use jpg_pnm_bmp::ImageEnd;
 use jpg_spec::{FaultAt, Limits};
 use jpg_spec_words::{Which, Why};
@@ -75,7 +75,7 @@ fn show_input<D: Desk>(
     ensures kept { OnlyWorks (D.state desk.old) (D.state desk.new) }
     ensures shown { (old : DeskState) → Opens old words.now.files.input put.Done (D.state desk.old) → Shown (showing_told words.now) old result (D.state desk.new) }
 {
-    let Ok(mut reader) = RowReader::new(alloc, Limits::standard()) else {
+    let Ok(mut reader) = Reader::strips(alloc, Limits::standard()) else {
         return Why::NoMemory;
     };
     let mut buffer = [0u8; 16384];
@@ -103,7 +103,7 @@ fn show_input<D: Desk>(
 
 // Reads the open input until rows begin or the file is complete, or answers why the reading ends.
 fn read_first<D: Desk>(
-    reader: &mut RowReader,
+    reader: &mut Reader,
     gray: bool,
     buffer: &mut [u8; 16384],
     desk: &mut D,
@@ -111,9 +111,11 @@ fn read_first<D: Desk>(
     requires open { (D.state desk.old).input_open ≡ true }
     requires none { HasReadPlainly [] reader.old }
     requires limits { reader.old.limits ≡ standard_limits }
+    requires by_row { reader.old.by_row ≡ true }
     ensures kept { OnlyReads (D.state desk.old) (D.state desk.new) }
     ensures read { EndsFirst gray (D.state desk.old) result buffer.new reader.new (D.state desk.new) }
     ensures limits { reader.new.limits ≡ standard_limits }
+    ensures by_row { reader.new.by_row ≡ true }
 {
     loop {
         match next_first(reader, gray, buffer, desk) {
@@ -125,7 +127,7 @@ fn read_first<D: Desk>(
 
 // Reads a piece.
 fn next_first<D: Desk>(
-    reader: &mut RowReader,
+    reader: &mut Reader,
     gray: bool,
     buffer: &mut [u8; 16384],
     desk: &mut D,
@@ -133,10 +135,12 @@ fn next_first<D: Desk>(
     requires open { (D.state desk.old).input_open ≡ true }
     requires more { reader.old.done ≡ false }
     requires limits { reader.old.limits ≡ standard_limits }
+    requires by_row { reader.old.by_row ≡ true }
     ensures kept { OnlyReads (D.state desk.old) (D.state desk.new) }
     ensures goes_on { GoesOnFirst result reader.new (D.state desk.new) }
     ensures after { ReadsFirst gray reader.old (D.state desk.old) result buffer.new reader.new (D.state desk.new) }
     ensures limits { reader.new.limits ≡ standard_limits }
+    ensures by_row { reader.new.by_row ≡ true }
 {
     match read_within(desk, reader.room(), buffer) {
         Got::Failed => FirstStep::Ended(Why::ReadFault(Which::Input)),
@@ -146,13 +150,15 @@ fn next_first<D: Desk>(
 }
 
 // Takes a piece.
-fn take_first(reader: &mut RowReader, gray: bool, piece: &[u8]) -> FirstStep
+fn take_first(reader: &mut Reader, gray: bool, piece: &[u8]) -> FirstStep
     requires more { reader.old.done ≡ false }
     requires short { length piece.now ≤ 16384 }
     requires limits { reader.old.limits ≡ standard_limits }
+    requires by_row { reader.old.by_row ≡ true }
     ensures goes_on { StaysFirst result reader.new }
     ensures taken { TakesFirst gray reader.old piece.now result reader.new }
     ensures limits { reader.new.limits ≡ standard_limits }
+    ensures by_row { reader.new.by_row ≡ true }
 {
     let answer = reader.feed_row(piece);
     if let Some(fault) = unwanted(reader, gray) {
@@ -179,8 +185,8 @@ fn step_of(answer: Result<FedRow, Stop>) -> FirstStep
 }
 
 // Why the picture can't be displayed, once the first scan header was read.
-fn unwanted(reader: &RowReader, gray: bool) -> Option<FaultAt>
-    ensures { result ≡ unwanted_in (Image gray) (head_seen (whole_reader reader.now)) }
+fn unwanted(reader: &Reader, gray: bool) -> Option<FaultAt>
+    ensures { result ≡ unwanted_in (Image gray) (head_seen reader.now) }
 {
     match reader.head() {
         None => None,
@@ -192,12 +198,14 @@ fn unwanted(reader: &RowReader, gray: bool) -> Option<FaultAt>
 }
 
 // The result of the end of the input, before rows are read.
-fn at_first_end(reader: &mut RowReader, gray: bool) -> FirstStep
+fn at_first_end(reader: &mut Reader, gray: bool) -> FirstStep
     requires more { reader.old.done ≡ false }
     requires limits { reader.old.limits ≡ standard_limits }
+    requires by_row { reader.old.by_row ≡ true }
     ensures ended { (bytes : List ℕ) → HasFedPlainly gray reader.old bytes → AfterFirstEnd gray bytes result reader.new }
     ensures goes_on { (now : DeskState) → GoesOnFirst result reader.new now }
     ensures limits { reader.new.limits ≡ standard_limits }
+    ensures by_row { reader.new.by_row ≡ true }
 {
     match reader.end() {
         End::Early(count) => FirstStep::Early(count),

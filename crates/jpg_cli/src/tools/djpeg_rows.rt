@@ -11,7 +11,7 @@ use crate::desk::file::read_within;
 use crate::words::djpeg::ShowWords;
 use jpg_base::{Desk, Got, Put, Stop};
 use jpg_color::{DecodeStop, StripImage};
-use jpg_file::{End, FedRow, RowReader};
+use jpg_file::{End, FedRow, Reader};
 use jpg_pnm_bmp::ImageEnd;
 use jpg_spec_words::{Which, Why};
 use std::alloc::Global;
@@ -31,7 +31,7 @@ enum RowsStep {
 #[inline(never)]
 pub fn show_rows<D: Desk>(
     alloc: Global,
-    reader: &mut RowReader,
+    reader: &mut Reader,
     words: &ShowWords,
     answer: Result<FedRow, Stop>,
     count: u64,
@@ -43,6 +43,7 @@ pub fn show_rows<D: Desk>(
     requires end { progress end.old ≡ new_end words.now.kind }
     requires within { count ≤ 16384 }
     requires begun { CanBeginRows (showing_told words.now) (take count buffer.old) answer reader.old (D.state desk.old) }
+    requires by_row { reader.old.by_row ≡ true }
     ensures kept { OnlyWorks (D.state desk.old) (D.state desk.new) }
     ensures shown { ShowsFrom (showing_told words.now) (take count buffer.old) answer reader.old (D.state desk.old) result (D.state desk.new) }
 {
@@ -64,7 +65,7 @@ pub fn show_rows<D: Desk>(
 // Draws the MCU rows of this piece and of those that are read next, and ends the image.
 #[inline(never)]
 fn draw_rows<D: Desk>(
-    reader: &mut RowReader,
+    reader: &mut Reader,
     words: &ShowWords,
     image: &mut StripImage,
     answer: Result<FedRow, Stop>,
@@ -77,6 +78,7 @@ fn draw_rows<D: Desk>(
     requires within { count ≤ 16384 }
     requires draws { CanDrawPiece (showing_told words.now) (take count buffer.old) answer (at_work reader.old image.old (progress end.old) (D.state desk.old)) }
     requires done { EndsDoneRow answer reader.old }
+    requires by_row { reader.old.by_row ≡ true }
     ensures kept { OnlyWorks (D.state desk.old) (D.state desk.new) }
     ensures shown { DrawsFrom (showing_told words.now) (take count buffer.old) answer reader.old image.old (progress end.old) (D.state desk.old) result (D.state desk.new) }
 {
@@ -102,7 +104,7 @@ fn draw_rows<D: Desk>(
 
 // Ends the image of a complete file.
 fn finish_rows<D: Desk>(
-    reader: &RowReader,
+    reader: &Reader,
     words: &ShowWords,
     image: &mut StripImage,
     end: &mut Box<dyn ImageEnd>,
@@ -118,7 +120,7 @@ fn finish_rows<D: Desk>(
 // Ends the image of a file that ended early after this many bytes: with the current MCU row, if one is missing, and
 // zero rows after it.
 fn finish_early<D: Desk>(
-    reader: &RowReader,
+    reader: &Reader,
     words: &ShowWords,
     image: &mut StripImage,
     count: u64,
@@ -170,7 +172,7 @@ fn warned_of(answer: Result<(), DecodeStop>, count: u64) -> Why
 
 // Reads a piece, and draws the MCU rows that are complete in it.
 fn next_rows<D: Desk>(
-    reader: &mut RowReader,
+    reader: &mut Reader,
     words: &ShowWords,
     image: &mut StripImage,
     buffer: &mut [u8; 16384],
@@ -179,10 +181,12 @@ fn next_rows<D: Desk>(
 ) -> RowsStep
     requires open { (D.state desk.old).input_open ≡ true }
     requires reads { CanReadRows (showing_told words.now) (at_work reader.old image.old (progress end.old) (D.state desk.old)) }
+    requires by_row { reader.old.by_row ≡ true }
     ensures kept { OnlyWorks (D.state desk.old) (D.state desk.new) }
     ensures goes_on { GoesOnRows result reader.new (D.state desk.new) }
     ensures later { GoesLater reader.old.file.reading.taken result reader.new.file.reading.taken }
     ensures shown { ReadsRows (showing_told words.now) reader.old image.old (progress end.old) (D.state desk.old) result reader.new image.new (progress end.new) (D.state desk.new) }
+    ensures by_row { reader.new.by_row ≡ true }
 {
     match read_within(desk, reader.room(), buffer) {
         Got::Failed => RowsStep::Ended(Why::ReadFault(Which::Input)),
@@ -205,7 +209,7 @@ fn are_bytes(piece: &[u8])
 
 // Draws the MCU rows that are complete in the piece, for which this is the reader's answer.
 fn draw_piece<D: Desk>(
-    reader: &mut RowReader,
+    reader: &mut Reader,
     words: &ShowWords,
     image: &mut StripImage,
     answer: Result<FedRow, Stop>,
@@ -216,9 +220,11 @@ fn draw_piece<D: Desk>(
     requires open { (D.state desk.old).input_open ≡ true }
     requires draws { CanDrawPiece (showing_told words.now) piece.now answer (at_work reader.old image.old (progress end.old) (D.state desk.old)) }
     requires done { EndsDoneRow answer reader.old }
+    requires by_row { reader.old.by_row ≡ true }
     ensures kept { OnlyWorks (D.state desk.old) (D.state desk.new) }
     ensures goes_on { GoesOnRows result reader.new (D.state desk.new) }
     ensures drawn { Draws words.now piece.now answer reader.old image.old (progress end.old) (D.state desk.old) result reader.new image.new (progress end.new) (D.state desk.new) }
+    ensures by_row { reader.new.by_row ≡ true }
 {
     let mut answer = answer;
     let mut rest = piece;
@@ -248,7 +254,7 @@ fn row_end(answer: Result<FedRow, Stop>) -> Option<u64>
 
 // Writes all text that waits, if no further MCU row is complete.
 fn end_piece<D: Desk>(
-    reader: &RowReader,
+    reader: &Reader,
     words: &ShowWords,
     image: &mut StripImage,
     answer: Result<FedRow, Stop>,
@@ -284,11 +290,12 @@ fn last_step(answer: Result<FedRow, Stop>) -> RowsStep
 }
 
 // The result of the end of the input.
-fn at_end(reader: &mut RowReader) -> RowsStep
+fn at_end(reader: &mut Reader) -> RowsStep
     requires more { reader.old.done ≡ false }
     ensures ended { (bytes : List ℕ) (m : ℕ) → HasReadAll bytes m reader.old → AfterRowsEnd bytes m result reader.new }
     ensures file { reader.new.file ≡ reader.old.file }
     ensures limits { reader.new.limits ≡ reader.old.limits }
+    ensures by_row { reader.new.by_row ≡ reader.old.by_row }
 {
     match reader.end() {
         End::Early(count) => RowsStep::Early(count),

@@ -9,7 +9,7 @@ ghost use Rattle.jpg_spec_words.specs.TransformWords.{choice_asked};
 use crate::desk::moved::{Wrote, write_moved};
 use crate::desk::picture::{Wanted, done_as, read_picture};
 use crate::desk::script::take_scans;
-use crate::words::comments::Files;
+use crate::words::files::Files;
 use crate::words::jpegtran::TransformWords;
 use jpg_base::Desk;
 use jpg_spec_words::{Which, Why};

@@ -3,11 +3,10 @@ ghost use Rattle.std.specs.Prelude.{◌≡◌, ◌≤◌, IfSome, None, length, 
 ghost use Rattle.jpg_spec_image.specs.declared.image.EndKind.TheVariants as kind;
 ghost use Rattle.jpg_spec_image.specs.ImageText.{pnm_header};
 ghost use Rattle.jpg_spec_words.specs.Work.{first_picture, first_text, work_info};
-ghost use Rattle.jpg_spec_words.specs.TransformWords.{scans_source};
 ghost use Rattle.jpg_cli.specs.Stays.{OnlyWorks};
 ghost use Rattle.jpg_cli.specs.Words.TransformWords.{script_told};
 ghost use Rattle.jpg_cli.specs.Tools.Ends.{AreNewEnds, formats_of, has_format};
-ghost use Rattle.jpg_cli.specs.Tools.Worked.{DidWork, HasFile, HoldsInput, IsReport, ReportEnds, ReportsShown, ShowsFile, TurnsFile, work_choice};
+ghost use Rattle.jpg_cli.specs.Tools.Worked.{DidWork, HasFile, HoldsInput, IsReport, ReportEnds, ReportsShown, ShowsFile, TurnsFile, work_choice, scans_by};
 
 use crate::tools::cjpeg::write_encoded;
 use crate::tools::image_writer::show_by;
@@ -16,8 +15,8 @@ use crate::tools::work_image::image_of;
 use crate::tools::work_lines::{lines_of, samples_sum};
 use crate::words::cjpeg_request::EncodeWords;
 use crate::words::cjpeg_values::Factors;
-use crate::words::comments::Files;
 use crate::words::djpeg::ShowWords;
+use crate::words::files::Files;
 use crate::words::jpegtran::{ScriptFrom, TransformWords};
 use jpg_base::{Bytes, Desk, MemoryDesk, Name, Put};
 use jpg_pnm_bmp::ImageEnd;
@@ -153,7 +152,7 @@ fn desk_of(alloc: Global, input: &[u8]) -> Option<MemoryDesk>
 
 // The default scans of a kind.
 fn scans_from(progressive: bool) -> ScriptFrom
-    ensures { script_told result ≡ scans_source progressive None }
+    ensures { script_told result ≡ scans_by progressive }
 {
     if progressive {
         ScriptFrom::Standard

@@ -9,7 +9,7 @@ ghost use Rattle.jpg_cli.specs.Stays.{OnlyCopies, OnlyWorks};
 ghost use Rattle.jpg_cli.specs.Tools.ReadComments.{AfterEnd, EndsCopying, Printed, CopiesNext, TakesPiece};
 
 use crate::desk::file::read_within;
-use crate::words::comments::Files;
+use crate::words::files::Files;
 use jpg_base::{Bytes, Desk, Fed, Got, Put, Stop};
 use jpg_comments::Comments;
 use jpg_spec::Limits;

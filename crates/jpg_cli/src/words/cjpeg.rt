@@ -1,39 +1,164 @@
 //! The words of cjpeg (its manual in release 6b).
 ghost use Rattle.std.specs.Prelude.{◌≡◌, ◌≤◌, All, IfOk, IfSome, map, drop, string_bytes};
-ghost use Rattle.jpg_spec_words.specs.EncodeWords.{encode_asked};
+ghost use Rattle.jpg_spec_words.specs.EncodeWords.{EncodeAsked, cjpeg, encode_asked};
 ghost use Rattle.jpg_spec_encode.specs.EncodingLaws.{AreFactors};
-ghost use Rattle.jpg_cli.specs.Words.CommentWords.{text_told};
-ghost use Rattle.jpg_cli.specs.Words.EncodeWords.{IsEncode};
-ghost use Rattle.jpg_cli.specs.Words.Requests.{factors_said, quality_said};
+ghost use Rattle.jpg_cli.specs.Words.EncodeWords.{encode_said, encode_told, factors_said, quality_said};
+ghost use Rattle.jpg_cli.specs.Words.Files.{text_told};
+ghost use Rattle.jpg_cli.specs.Words.Requests.{IsAnswer};
 
 use crate::words::cjpeg_request::EncodeWords;
 use crate::words::cjpeg_values::{Factors, factors_named, quality_named};
-use crate::words::comments::WordsStop;
-use crate::words::jpegtran::script_from;
-use crate::words::requests::read_said;
-use crate::words::switches::CJPEG_SWITCHES;
+use crate::words::files::{FilesSaid, NO_FILES, WordsStop};
+use crate::words::jpegtran::ScriptSaid;
+use crate::words::requests::{Asks, bad_value, read_words, usage};
+use crate::words::switches::Switch;
+use crate::words::values::{is_int, restart_named};
 use arrayvec::ArrayVec;
 use jpg_base::{NoMemory, Text};
+use jpg_spec_words::Purpose::{Alone, LeftOut, Valued};
+use jpg_spec_words::{Flag, Setting, Usage, UsageFault};
+use jpg_transform::Restart;
 use std::alloc::Global;
+
+static CJPEG_SWITCHES: [Switch<'static>; 20] = [
+    ("quality", 1, Valued(Setting::Quality)),
+    ("grayscale", 2, Alone(Flag::Gray)),
+    ("greyscale", 2, Alone(Flag::Gray)),
+    ("baseline", 1, Alone(Flag::Baseline)),
+    ("progressive", 1, Alone(Flag::Progressive)),
+    ("scans", 4, Valued(Setting::Scans)),
+    ("restart", 1, Valued(Setting::Restart)),
+    ("sample", 2, Valued(Setting::Sample)),
+    ("qtables", 2, Valued(Setting::Tables)),
+    ("dct", 2, Valued(Setting::Dct)),
+    ("outfile", 4, Valued(Setting::Output)),
+    ("optimize", 1, LeftOut),
+    ("optimise", 1, LeftOut),
+    ("arithmetic", 1, LeftOut),
+    ("verbose", 1, LeftOut),
+    ("debug", 1, LeftOut),
+    ("maxmemory", 3, LeftOut),
+    ("smooth", 2, LeftOut),
+    ("qslots", 2, LeftOut),
+    ("targa", 1, LeftOut),
+];
 
 /// What the words of cjpeg ask for; the word with index 0 is the command. Words that are wrong give their first fault
 /// and take no memory.
 pub fn cjpeg_words(alloc: Global, words: &[String]) -> Result<EncodeWords, WordsStop>
-    ensures { IsEncode (encode_asked (drop 1 (map string_bytes words.now))) result }
+    ensures { IsAnswer encode_told (encode_asked (drop 1 (map string_bytes words.now))) result }
 {
-    let (said, input) = read_said(&CJPEG_SWITCHES, words)?;
-    let script = script_from(alloc, said.progressive, said.script)?;
-    let tables = tables_from(alloc, said.tables)?;
-    Ok(EncodeWords {
-        files: said.files(alloc, input)?,
-        quality: quality_of(said.quality),
-        gray: said.gray,
-        baseline: said.baseline,
-        script,
-        restart: said.restart,
-        factors: factors_of(said.factors),
-        tables,
-    })
+    let start = EncodeSaid {
+        files: NO_FILES,
+        quality: None,
+        gray: false,
+        baseline: false,
+        script: ScriptSaid::Sequential,
+        restart: Restart::Off,
+        factors: None,
+        tables: None,
+    };
+    read_words(alloc, start, &CJPEG_SWITCHES, words)
+}
+
+// The same by the words so far; the quality and the factors as they are written.
+#[derive(Clone, Copy)]
+struct EncodeSaid<'a> {
+    files: FilesSaid<'a>,
+    quality: Option<&'a str>,
+    gray: bool,
+    baseline: bool,
+    script: ScriptSaid<'a>,
+    restart: Restart,
+    factors: Option<&'a str>,
+    tables: Option<&'a str>,
+}
+
+impl<'a> Asks<'a> for EncodeSaid<'a> {
+    type Words = EncodeWords;
+
+    ghost Asked = { EncodeAsked };
+
+    ghost tool = { cjpeg };
+
+    ghost said = { encode_said };
+
+    ghost told = { encode_told };
+
+    fn named(self, name: &'a str) -> Self {
+        EncodeSaid {
+            files: self.files.from(name),
+            ..self
+        }
+    }
+
+    fn flag(self, flag: Flag, index: usize) -> Result<Self, Usage> {
+        match flag {
+            Flag::Gray => Ok(EncodeSaid { gray: true, ..self }),
+            Flag::Baseline => Ok(EncodeSaid {
+                baseline: true,
+                ..self
+            }),
+            Flag::Progressive => Ok(EncodeSaid {
+                script: self.script.progressive(),
+                ..self
+            }),
+            _ => Err(usage(UsageFault::UnknownSwitch, index)),
+        }
+    }
+
+    fn setting(self, setting: Setting, value: &'a str, index: usize) -> Result<Self, Usage> {
+        match setting {
+            Setting::Quality => match quality_named(value.as_bytes()) {
+                Some(_) => Ok(EncodeSaid {
+                    quality: Some(value),
+                    ..self
+                }),
+                None => Err(bad_value(index)),
+            },
+            Setting::Scans => Ok(EncodeSaid {
+                script: ScriptSaid::File(value),
+                ..self
+            }),
+            Setting::Restart => match restart_named(value.as_bytes()) {
+                Some(restart) => Ok(EncodeSaid { restart, ..self }),
+                None => Err(bad_value(index)),
+            },
+            Setting::Sample => match factors_named(value.as_bytes()) {
+                Some(_) => Ok(EncodeSaid {
+                    factors: Some(value),
+                    ..self
+                }),
+                None => Err(bad_value(index)),
+            },
+            Setting::Tables => Ok(EncodeSaid {
+                tables: Some(value),
+                ..self
+            }),
+            Setting::Dct => match is_int(value) {
+                true => Ok(self),
+                false => Err(bad_value(index)),
+            },
+            Setting::Output => Ok(EncodeSaid {
+                files: self.files.to(value),
+                ..self
+            }),
+            _ => Err(usage(UsageFault::UnknownSwitch, index)),
+        }
+    }
+
+    fn to_words(self, alloc: Global) -> Result<EncodeWords, NoMemory> {
+        Ok(EncodeWords {
+            files: self.files.to_files(alloc)?,
+            quality: quality_of(self.quality),
+            gray: self.gray,
+            baseline: self.baseline,
+            script: self.script.to_script(alloc)?,
+            restart: self.restart,
+            factors: factors_of(self.factors),
+            tables: tables_from(alloc, self.tables)?,
+        })
+    }
 }
 
 // The name of a file of tables, if there is one.

@@ -3,7 +3,7 @@ ghost use Rattle.std.specs.Prelude.{◌≤◌, All, unwrap_or};
 ghost use Rattle.jpg_spec_encode.specs.EncodingLaws.{AreFactors};
 
 use crate::words::cjpeg_values::Factors;
-use crate::words::comments::Files;
+use crate::words::files::Files;
 use crate::words::jpegtran::ScriptFrom;
 use jpg_base::Text;
 use jpg_transform::Restart;

@@ -1,10 +1,10 @@
 //! Values of the switches of cjpeg (its manual in release 6b).
 ghost use Rattle.std.specs.Prelude.{◌≡◌, ◌≤◌, All, IfSome, option_map};
 ghost use Rattle.jpg_spec_encode.specs.EncodingLaws.{AreFactors};
-ghost use Rattle.jpg_spec_words.specs.Requests.{are_factors, factors_named, quality_named};
-ghost use Rattle.jpg_cli.specs.Words.Requests.{IsFirstPair};
+ghost use Rattle.jpg_spec_words.specs.EncodeWords.{are_factors, factors_named, quality_named};
+ghost use Rattle.jpg_cli.specs.Words.EncodeWords.{IsFirstPair};
 
-use crate::words::requests::number_of;
+use crate::words::values::number_of;
 use arrayvec::ArrayVec;
 
 /// Horizontal and vertical factors of the first components, of four at most.

@@ -1,13 +1,44 @@
 //! The words of djpeg (its manual in release 6b).
-ghost use Rattle.std.specs.Prelude.{◌≡◌, map, drop, length, string_bytes};
-ghost use Rattle.jpg_spec_words.specs.ShowWords.{format_of, show_asked};
-ghost use Rattle.jpg_cli.specs.Words.ShowWords.{IsShow};
+ghost use Rattle.std.specs.Prelude.{◌≡◌, map, drop, string_bytes};
+ghost use Rattle.jpg_spec_words.specs.ShowWords.{ShowAsked, djpeg, is_whole_scale, show_asked};
+ghost use Rattle.jpg_cli.specs.Words.Requests.{IsAnswer};
+ghost use Rattle.jpg_cli.specs.Words.ShowWords.{show_said, show_told};
 
-use crate::words::comments::{Files, WordsStop};
-use crate::words::requests::read_said;
-use crate::words::switches::DJPEG_SWITCHES;
+use crate::words::files::{Files, FilesSaid, NO_FILES, WordsStop};
+use crate::words::requests::{Asks, bad_value, read_words, usage};
+use crate::words::switches::Switch;
+use crate::words::values::is_int;
+use jpg_base::NoMemory;
 use jpg_spec_image::EndKind;
+use jpg_spec_words::Purpose::{Alone, LeftOut, Valued};
+use jpg_spec_words::{Flag, Setting, Usage, UsageFault};
 use std::alloc::Global;
+
+static DJPEG_SWITCHES: [Switch<'static>; 23] = [
+    ("pnm", 1, Alone(Flag::Pnm)),
+    ("ppm", 1, Alone(Flag::Pnm)),
+    ("bmp", 1, Alone(Flag::Bmp)),
+    ("grayscale", 2, Alone(Flag::Gray)),
+    ("greyscale", 2, Alone(Flag::Gray)),
+    ("nosmooth", 3, Alone(Flag::NoSmooth)),
+    ("dct", 2, Valued(Setting::Dct)),
+    ("scale", 1, Valued(Setting::Scale)),
+    ("outfile", 4, Valued(Setting::Output)),
+    ("colors", 1, LeftOut),
+    ("colours", 1, LeftOut),
+    ("quantize", 1, LeftOut),
+    ("dither", 2, LeftOut),
+    ("fast", 1, LeftOut),
+    ("gif", 1, LeftOut),
+    ("map", 3, LeftOut),
+    ("maxmemory", 3, LeftOut),
+    ("onepass", 3, LeftOut),
+    ("os2", 3, LeftOut),
+    ("rle", 1, LeftOut),
+    ("verbose", 1, LeftOut),
+    ("debug", 1, LeftOut),
+    ("targa", 1, LeftOut),
+];
 
 /// What the words of djpeg ask for.
 #[derive(Drop)]
@@ -26,25 +57,99 @@ pub struct ShowWords {
 /// What the words of djpeg ask for; the word with index 0 is the command. Words that are wrong give their first fault
 /// and take no memory.
 pub fn djpeg_words(alloc: Global, words: &[String]) -> Result<ShowWords, WordsStop>
-    ensures { IsShow (show_asked (drop 1 (map string_bytes words.now))) result }
+    ensures { IsAnswer show_told (show_asked (drop 1 (map string_bytes words.now))) result }
 {
-    let (said, input) = read_said(&DJPEG_SWITCHES, words)?;
-    let (kind, kind_word) = format_of(said.format, words.len().max(1));
-    Ok(ShowWords {
-        files: said.files(alloc, input)?,
-        kind,
-        kind_word,
-        gray: said.gray,
-        smooth: said.smooth,
-    })
+    let start = ShowSaid {
+        files: NO_FILES,
+        kind: EndKind::Pnm,
+        kind_word: words.len().max(1) as u64,
+        gray: false,
+        smooth: true,
+    };
+    read_words(alloc, start, &DJPEG_SWITCHES, words)
 }
 
-// The format that was asked for, with its word, or PNM with the number of words.
-fn format_of(format: Option<(EndKind, u64)>, count: usize) -> (EndKind, u64)
-    ensures { result ≡ format_of count format }
-{
-    match format {
-        Some(format) => format,
-        None => (EndKind::Pnm, count as u64),
+// The same by the words so far.
+#[derive(Clone, Copy)]
+struct ShowSaid<'a> {
+    files: FilesSaid<'a>,
+    kind: EndKind,
+    kind_word: u64,
+    gray: bool,
+    smooth: bool,
+}
+
+impl<'a> Asks<'a> for ShowSaid<'a> {
+    type Words = ShowWords;
+
+    ghost Asked = { ShowAsked };
+
+    ghost tool = { djpeg };
+
+    ghost said = { show_said };
+
+    ghost told = { show_told };
+
+    fn named(self, name: &'a str) -> Self {
+        ShowSaid {
+            files: self.files.from(name),
+            ..self
+        }
     }
+
+    fn flag(self, flag: Flag, index: usize) -> Result<Self, Usage> {
+        match flag {
+            Flag::Pnm => Ok(ShowSaid {
+                kind: EndKind::Pnm,
+                kind_word: index as u64,
+                ..self
+            }),
+            Flag::Bmp => Ok(ShowSaid {
+                kind: EndKind::Bmp,
+                kind_word: index as u64,
+                ..self
+            }),
+            Flag::Gray => Ok(ShowSaid { gray: true, ..self }),
+            Flag::NoSmooth => Ok(ShowSaid {
+                smooth: false,
+                ..self
+            }),
+            _ => Err(usage(UsageFault::UnknownSwitch, index)),
+        }
+    }
+
+    fn setting(self, setting: Setting, value: &'a str, index: usize) -> Result<Self, Usage> {
+        match setting {
+            Setting::Output => Ok(ShowSaid {
+                files: self.files.to(value),
+                ..self
+            }),
+            Setting::Dct => match is_int(value) {
+                true => Ok(self),
+                false => Err(bad_value(index)),
+            },
+            Setting::Scale => match is_whole_scale(value) {
+                true => Ok(self),
+                false => Err(bad_value(index)),
+            },
+            _ => Err(usage(UsageFault::UnknownSwitch, index)),
+        }
+    }
+
+    fn to_words(self, alloc: Global) -> Result<ShowWords, NoMemory> {
+        Ok(ShowWords {
+            files: self.files.to_files(alloc)?,
+            kind: self.kind,
+            kind_word: self.kind_word,
+            gray: self.gray,
+            smooth: self.smooth,
+        })
+    }
+}
+
+// Whether the value of -scale is right: only a scale of one is.
+fn is_whole_scale(value: &str) -> bool
+    ensures { result ≡ is_whole_scale value.now }
+{
+    value == "1/1"
 }

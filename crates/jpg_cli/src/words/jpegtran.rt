@@ -1,17 +1,42 @@
 //! The words of jpegtran (its manual in release 6b).
-ghost use Rattle.std.specs.Prelude.{◌≡◌, IfOk, map, drop, string_bytes};
-ghost use Rattle.jpg_spec_words.specs.TransformWords.{scans_source, transform_asked};
-ghost use Rattle.jpg_cli.specs.Words.CommentWords.{text_told};
-ghost use Rattle.jpg_cli.specs.Words.TransformWords.{IsTransform, script_told};
+ghost use Rattle.std.specs.Prelude.{◌≡◌, ◌<◌, IfOk, map, drop, string_bytes};
+ghost use Rattle.jpg_spec_words.specs.Requests.{with_value};
+ghost use Rattle.jpg_spec_words.specs.TransformWords.{TransformAsked, copying_named, flip_named, jpegtran, rotation_named, transform_asked, transform_number, with_progressive, with_transform};
+ghost use Rattle.jpg_cli.specs.Words.Requests.{AnswersWords, IsAnswer};
+ghost use Rattle.jpg_cli.specs.Words.TransformWords.{script_said, script_told, transform_said, transform_told};
 
-use crate::words::comments::{Files, WordsStop};
-use crate::words::requests::read_said;
-use crate::words::switches::JPEGTRAN_SWITCHES;
+use crate::words::files::{Files, FilesSaid, NO_FILES, WordsStop};
+use crate::words::requests::{Asks, bad_value, read_words, usage};
+use crate::words::switches::{Switch, stands_for};
+use crate::words::values::{number_of, restart_named};
 use jpg_base::{NoMemory, Text};
 use jpg_spec::Copying;
 use jpg_spec_move::Transform;
+use jpg_spec_words::Purpose::{Alone, LeftOut, Valued};
+use jpg_spec_words::{Flag, Setting, Usage, UsageFault};
 use jpg_transform::Restart;
 use std::alloc::Global;
+
+static JPEGTRAN_SWITCHES: [Switch<'static>; 18] = [
+    ("copy", 1, Valued(Setting::Copy)),
+    ("flip", 1, Valued(Setting::Flip)),
+    ("grayscale", 1, Alone(Flag::Gray)),
+    ("greyscale", 1, Alone(Flag::Gray)),
+    ("outfile", 4, Valued(Setting::Output)),
+    ("progressive", 1, Alone(Flag::Progressive)),
+    ("restart", 1, Valued(Setting::Restart)),
+    ("rotate", 2, Valued(Setting::Rotate)),
+    ("scans", 1, Valued(Setting::Scans)),
+    ("transpose", 1, Alone(Flag::Transpose)),
+    ("transverse", 6, Alone(Flag::Transverse)),
+    ("trim", 3, Alone(Flag::Trim)),
+    ("optimize", 1, LeftOut),
+    ("optimise", 1, LeftOut),
+    ("arithmetic", 1, LeftOut),
+    ("verbose", 1, LeftOut),
+    ("debug", 1, LeftOut),
+    ("maxmemory", 3, LeftOut),
+];
 
 /// The source of the scans that a picture is written in: the default sequential or progressive ones, or the script in
 /// the file of this name.
@@ -39,32 +64,208 @@ pub struct TransformWords {
 /// What the words of jpegtran ask for; the word with index 0 is the command. Words that are wrong give their first
 /// fault and take no memory.
 pub fn jpegtran_words(alloc: Global, words: &[String]) -> Result<TransformWords, WordsStop>
-    ensures { IsTransform (transform_asked (drop 1 (map string_bytes words.now))) result }
+    ensures { IsAnswer transform_told (transform_asked (drop 1 (map string_bytes words.now))) result }
 {
-    let (said, input) = read_said(&JPEGTRAN_SWITCHES, words)?;
-    let script = script_from(alloc, said.progressive, said.script)?;
-    Ok(TransformWords {
-        files: said.files(alloc, input)?,
-        transform: said.transform,
-        trim: said.trim,
-        gray: said.gray,
-        copying: said.copying,
-        script,
-        restart: said.restart,
-    })
+    let start = TransformSaid {
+        files: NO_FILES,
+        transform: Transform::Keep,
+        trim: false,
+        gray: false,
+        copying: Copying::Comments,
+        script: ScriptSaid::Sequential,
+        restart: Restart::Off,
+    };
+    read_words(alloc, start, &JPEGTRAN_SWITCHES, words)
 }
 
-/// The source of the scans; a file of this name has priority over the default scans.
-pub(crate) fn script_from(
-    alloc: Global,
-    progressive: bool,
-    name: Option<&str>,
-) -> Result<ScriptFrom, NoMemory>
-    ensures { IfOk result (λ script. script_told script ≡ scans_source progressive (text_told name.entry)) }
+// The same by the words so far.
+#[derive(Clone, Copy)]
+struct TransformSaid<'a> {
+    files: FilesSaid<'a>,
+    transform: Transform,
+    trim: bool,
+    gray: bool,
+    copying: Copying,
+    script: ScriptSaid<'a>,
+    restart: Restart,
+}
+
+impl<'a> Asks<'a> for TransformSaid<'a> {
+    type Words = TransformWords;
+
+    ghost Asked = { TransformAsked };
+
+    ghost tool = { jpegtran };
+
+    ghost said = { transform_said };
+
+    ghost told = { transform_told };
+
+    fn named(self, name: &'a str) -> Self {
+        TransformSaid {
+            files: self.files.from(name),
+            ..self
+        }
+    }
+
+    fn flag(self, flag: Flag, index: usize) -> Result<Self, Usage> {
+        match flag {
+            Flag::Transpose => self.turned(Transform::Transpose, index),
+            Flag::Transverse => self.turned(Transform::Transverse, index),
+            Flag::Trim => Ok(TransformSaid { trim: true, ..self }),
+            Flag::Gray => Ok(TransformSaid { gray: true, ..self }),
+            Flag::Progressive => Ok(TransformSaid {
+                script: self.script.progressive(),
+                ..self
+            }),
+            _ => Err(usage(UsageFault::UnknownSwitch, index)),
+        }
+    }
+
+    fn setting(self, setting: Setting, value: &'a str, index: usize) -> Result<Self, Usage> {
+        match setting {
+            Setting::Copy => match copying_named(value) {
+                Some(copying) => Ok(TransformSaid { copying, ..self }),
+                None => Err(bad_value(index)),
+            },
+            Setting::Flip => self.turned_by(flip_named(value), index),
+            Setting::Rotate => self.turned_by(rotation_named(value.as_bytes()), index),
+            Setting::Output => Ok(TransformSaid {
+                files: self.files.to(value),
+                ..self
+            }),
+            Setting::Scans => Ok(TransformSaid {
+                script: ScriptSaid::File(value),
+                ..self
+            }),
+            Setting::Restart => match restart_named(value.as_bytes()) {
+                Some(restart) => Ok(TransformSaid { restart, ..self }),
+                None => Err(bad_value(index)),
+            },
+            _ => Err(usage(UsageFault::UnknownSwitch, index)),
+        }
+    }
+
+    fn to_words(self, alloc: Global) -> Result<TransformWords, NoMemory> {
+        Ok(TransformWords {
+            files: self.files.to_files(alloc)?,
+            transform: self.transform,
+            trim: self.trim,
+            gray: self.gray,
+            copying: self.copying,
+            script: self.script.to_script(alloc)?,
+            restart: self.restart,
+        })
+    }
+}
+
+impl<'a> TransformSaid<'a> {
+    // What is asked for with this transform too. Two different ones may not be asked for.
+    fn turned(self, transform: Transform, index: usize) -> Result<Self, Usage>
+        ensures { AnswersWords transform_said (with_transform index transform (transform_said self.entry)) result }
+    {
+        let before = transform_number(self.transform);
+        if before == 0 || before == transform_number(transform) {
+            Ok(TransformSaid { transform, ..self })
+        } else {
+            Err(usage(UsageFault::TwoTransforms, index))
+        }
+    }
+
+    // The same with the transform that the value after the switch names, if it names one.
+    fn turned_by(self, transform: Option<Transform>, index: usize) -> Result<Self, Usage>
+        requires { index < 18446744073709551615 }
+        ensures { AnswersWords transform_said (with_value index transform (λ t. with_transform index t (transform_said self.entry))) result }
+    {
+        match transform {
+            Some(transform) => self.turned(transform, index),
+            None => Err(bad_value(index)),
+        }
+    }
+}
+
+// The source of the scans by the words so far.
+#[derive(Clone, Copy)]
+pub(crate) enum ScriptSaid<'a> {
+    Sequential,
+    Standard,
+    File(&'a str),
+}
+
+impl<'a> ScriptSaid<'a> {
+    // The default progressive scans, unless a file has priority over them.
+    pub(crate) fn progressive(self) -> Self
+        ensures { script_said result ≡ with_progressive (script_said self.entry) }
+    {
+        match self {
+            ScriptSaid::File(name) => ScriptSaid::File(name),
+            _ => ScriptSaid::Standard,
+        }
+    }
+
+    // The same with a copy of the name.
+    pub(crate) fn to_script(self, alloc: Global) -> Result<ScriptFrom, NoMemory>
+        ensures { IfOk result (λ script. script_told script ≡ script_said self.entry) }
+    {
+        Ok(match self {
+            ScriptSaid::Sequential => ScriptFrom::Sequential,
+            ScriptSaid::Standard => ScriptFrom::Standard,
+            ScriptSaid::File(name) => ScriptFrom::File(Text::new(alloc, name)?),
+        })
+    }
+}
+
+// Which of the eight transforms this is.
+fn transform_number(transform: Transform) -> u8
+    ensures { result ≡ transform_number transform }
 {
-    match name {
-        Some(name) => Ok(ScriptFrom::File(Text::new(alloc, name)?)),
-        None if progressive => Ok(ScriptFrom::Standard),
-        None => Ok(ScriptFrom::Sequential),
+    match transform {
+        Transform::Keep => 0,
+        Transform::FlipH => 1,
+        Transform::FlipV => 2,
+        Transform::Transpose => 3,
+        Transform::Transverse => 4,
+        Transform::Rotate90 => 5,
+        Transform::Rotate180 => 6,
+        Transform::Rotate270 => 7,
+    }
+}
+
+fn copying_named(value: &str) -> Option<Copying>
+    ensures { result ≡ copying_named value.now }
+{
+    let letters = value.as_bytes();
+    if stands_for(1, b"none", letters) {
+        Some(Copying::None)
+    } else if stands_for(1, b"comments", letters) {
+        Some(Copying::Comments)
+    } else if stands_for(1, b"all", letters) {
+        Some(Copying::All)
+    } else {
+        None
+    }
+}
+
+fn flip_named(value: &str) -> Option<Transform>
+    ensures { result ≡ flip_named value.now }
+{
+    let letters = value.as_bytes();
+    if stands_for(1, b"horizontal", letters) {
+        Some(Transform::FlipH)
+    } else if stands_for(1, b"vertical", letters) {
+        Some(Transform::FlipV)
+    } else {
+        None
+    }
+}
+
+fn rotation_named(value: &[u8]) -> Option<Transform>
+    ensures { result ≡ rotation_named value.now }
+{
+    match number_of(value) {
+        Some(90) => Some(Transform::Rotate90),
+        Some(180) => Some(Transform::Rotate180),
+        Some(270) => Some(Transform::Rotate270),
+        _ => None,
     }
 }

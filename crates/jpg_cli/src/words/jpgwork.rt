@@ -3,9 +3,9 @@ ghost use Rattle.std.specs.Prelude.{◌≤◌, IfOk, IfSome, drop, map, string_b
 ghost use Rattle.jpg_spec_words.specs.Requests.{number_of};
 ghost use Rattle.jpg_spec_words.specs.WorkWords.{with_size, work_asked, work_size};
 ghost use Rattle.std.specs.Prelude.{option_and_then};
-ghost use Rattle.jpg_cli.specs.Words.CommentWords.{AnswersWords};
+ghost use Rattle.jpg_cli.specs.Words.Requests.{AnswersWords};
 
-use crate::words::requests::number_of;
+use crate::words::values::number_of;
 use jpg_spec_words::{Usage, UsageFault};
 
 // The number that a word says, from 1 to 400.

@@ -1,5 +1,5 @@
 -- A file that is being read: the meaning of its states, and the result of a further byte (T.81, B.2.1).
-use Rattle.std.specs.Prelude.{◌≡◌, ◌⊎◌, ℕ, ◌≤◌, true, false, List, [], ◌∷◌, ◌++◌, length, take, slice_index, IfErr, ◌+◌, ◌<◌, Option, Some, None, Result, Ok, Err, Bool}
+use Rattle.std.specs.Prelude.{◌≡◌, ◌⊎◌, ℕ, ◌≤◌, true, false, List, [], ◌∷◌, ◌++◌, length, take, slice_index, ◌+◌, ◌<◌, Option, Some, None, Result, Ok, Err}
 use Rattle.jpg_spec.specs.Geometry.{Frame}
 use Rattle.jpg_spec.specs.FrameHeader.{IsFrame}
 use Rattle.jpg_spec.specs.Scan.{Blocks}
@@ -13,13 +13,15 @@ use Rattle.jpg_spec.specs.declared.fault.FaultAt.{FaultAt}
 use Rattle.jpg_spec.specs.declared.frame.Copying.{Copying}
 use Rattle.jpg_spec.specs.declared.frame.Limits.{Limits}
 use Rattle.jpg_base.specs.declared.names.NoMemory.{NoMemory}
-use Rattle.jpg_base.specs.declared.stop.Stop.{Stop}
 use Rattle.jpg_base.specs.declared.stop.Stop.TheVariants as stop
 use Rattle.jpg_coefs.specs.Picture.{Picture, map_of}
 use Rattle.jpg_markers.specs.Reading.{reading_of}
 use Rattle.jpg_file.specs.Read.ScanHistory.{HasBegun}
 use Rattle.jpg_file.specs.Read.FirstHeader.{HasHead, first_header_of}
 use Rattle.jpg_file.specs.Read.SegmentState.{told_by}
+use Rattle.jpg_file.specs.Read.Step.{IfStops}
+use Rattle.jpg_file.specs.declared.read.step.Step.{Step}
+use Rattle.jpg_file.specs.declared.read.step.Step.TheVariants as came
 use Rattle.jpg_file.specs.declared.read.first_header.Head.{Head}
 use Rattle.jpg_file.specs.Read.Items.{BetweenItems, AfterSegment, BehindEnd}
 use Rattle.jpg_file.specs.Read.Reading.{Scanning}
@@ -109,11 +111,12 @@ abbrev pub IsStop : Limits → List ℕ → FaultAt → Type 0
 IsStop limits bytes f = (f.at ≡ length bytes) × Reveals limits f.fault bytes
 
 -- the same for a complete file, with what holds where memory is asked for
-abbrev pub AfterFileByte : Type 0 → Limits → List ℕ → Result Bool Stop → FileWork → Type 0
-AfterFileByte asks limits bytes (Ok false) w = StandsForFile limits bytes w
-AfterFileByte asks limits bytes (Ok true) w = EndsFile limits bytes w
-AfterFileByte asks limits bytes (Err (stop.Fault f)) w = IsStop limits bytes f
-AfterFileByte asks limits bytes (Err stop.NoMemory) w = asks
+abbrev pub AfterFileByte : Type 0 → Limits → List ℕ → Step → FileWork → Type 0
+AfterFileByte asks limits bytes came.More w = StandsForFile limits bytes w
+AfterFileByte asks limits bytes came.Row w = ⊥
+AfterFileByte asks limits bytes came.Whole w = EndsFile limits bytes w
+AfterFileByte asks limits bytes (came.Ended (stop.Fault f)) w = IsStop limits bytes f
+AfterFileByte asks limits bytes (came.Ended stop.NoMemory) w = asks
 
 -- a segment's bytes are kept, or its definitions: there is no current scan
 abbrev pub KeepsBytes : FileWork → Type 0
@@ -124,16 +127,16 @@ abbrev pub MakesPicture : FileWork → Type 0
 MakesPicture w = w.reading.coefs ≡ None
 
 -- WHATEVER it was given, this holds afterwards.
-abbrev pub TakesFileByte : FileWork → ℕ → Result Bool Stop → FileWork → Type 0
+abbrev pub TakesFileByte : FileWork → ℕ → Step → FileWork → Type 0
 TakesFileByte old byte answer new = (bytes : List ℕ) → StandsForFile (limits_of old) bytes old → AfterFileByte (KeepsBytes old) (limits_of old) (bytes ++ byte ∷ []) answer new
 
 abbrev pub TakesFileStep : FileWork → ℕ → ItemStep → FileWork → Type 0
 TakesFileStep old byte answer new = (bytes : List ℕ) → StandsForFile (limits_of old) bytes old → AfterFileStep old.reading.scan (limits_of old) (bytes ++ byte ∷ []) answer new
 
-abbrev pub TakesFileHead : FileWork → Result Bool Stop → FileWork → Type 0
+abbrev pub TakesFileHead : FileWork → Step → FileWork → Type 0
 TakesFileHead old answer new = (bytes : List ℕ) → HeadStands (limits_of old) bytes old → AfterFileByte (MakesPicture old) (limits_of old) bytes answer new
 
-abbrev pub TakesFileEnd : FileWork → Result Bool Stop → Type 0
+abbrev pub TakesFileEnd : FileWork → Step → Type 0
 TakesFileEnd w answer = (limits : Limits) (bytes : List ℕ) → EndStands limits bytes w → AfterFileByte ⊥ limits bytes answer w
 
 -- THE FIRST SCAN HEADER is the current one if there was none
@@ -169,12 +172,12 @@ RoomMade old (Ok done) new = HasRoom old new
 RoomMade old (Err e) new = MakesPicture old
 
 -- SOME BYTES together: a state before the last of those that were taken, and the result of that one.
-pub record TakesSome (old : FileWork) (bytes : List ℕ) (n : ℕ) (answer : Result Bool Stop) (new : FileWork) : Type 0 where
+pub record TakesSome (old : FileWork) (bytes : List ℕ) (n : ℕ) (answer : Step) (new : FileWork) : Type 0 where
   pub mid : FileWork
   pub early : ℕ
   pub count : n ≡ early + 1
   pub within : early < length bytes
-  pub head : IfErr answer (λ stop. new.head ≡ mid.head)
+  pub head : IfStops answer (new.head ≡ mid.head)
   pub room : (limits : Limits) (front : List ℕ) → StandsForFile limits front old → limits_of old ≡ limits → mid.reading.taken < limits.input
   pub before : (limits : Limits) (front : List ℕ) → StandsForFile limits front old → limits_of old ≡ limits → StandsForFile limits (front ++ take early bytes) mid
   pub last : (limits : Limits) (front : List ℕ) → StandsForFile limits front mid → limits_of old ≡ limits → AfterFileByte (KeepsBytes old) limits (front ++ slice_index bytes early ∷ []) answer new

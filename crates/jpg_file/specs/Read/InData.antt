@@ -1,6 +1,6 @@
 -- Inside the data of a scan: the meaning of its machine's states, and the result of a further byte (T.81, B.1.1.5,
 -- E.1.4).
-use Rattle.std.specs.Prelude.{◌≡◌, ℕ, suc, ◌+◌, ◌%◌, ◌≤◌, min, Bool, true, false, List, [], ◌∷◌, ◌++◌, ◌<◌, length, replicate, slice_index, take}
+use Rattle.std.specs.Prelude.{◌≡◌, ℕ, suc, ◌+◌, ◌%◌, ◌≤◌, min, Bool, true, false, List, [], ◌∷◌, ◌++◌, ◌<◌, length, replicate, slice_index, take, Result, Ok, Err}
 use Rattle.jpg_spec.specs.Bits.{bits_of_bytes}
 use Rattle.jpg_spec.specs.Lists.{is_distinct, joined}
 use Rattle.jpg_spec.specs.Geometry.{Frame}
@@ -12,16 +12,17 @@ use Rattle.jpg_spec.specs.Items.{Item, segments_of}
 use Rattle.jpg_spec.specs.FirstFault.{Reveals}
 use Rattle.jpg_spec.specs.ScanReading.{ScanPlace, scan_at, ScanAt, CompletesAt, with_byte, with_interval}
 use Rattle.jpg_spec.specs.PictureInWork.{ScanSoFar}
+use Rattle.jpg_spec.specs.declared.fault.Fault.{Fault}
 use Rattle.jpg_spec.specs.declared.frame.Limits.{Limits}
 use Rattle.jpg_spec.specs.declared.frame.Place.{Place}
 use Rattle.jpg_coefs.specs.Picture.{Picture, map_of}
-use Rattle.jpg_coefs.specs.Machine.{Interval, Kind, Follows}
+use Rattle.jpg_coefs.specs.Machine.{Interval, Kind, Follows, fault_of}
+use Rattle.jpg_coefs.specs.declared.machine.Taken.{Taken}
+use Rattle.jpg_coefs.specs.declared.machine.Taken.TheVariants as taken
 use Rattle.jpg_file.specs.Read.Machine.{any_scan}
 use Rattle.jpg_file.specs.declared.read.machine.ScanReader.{ScanReader}
 use Rattle.jpg_file.specs.declared.read.scan.ScanWork.{ScanWork}
 use Rattle.jpg_file.specs.declared.read.scan.InScan.{InScan}
-use Rattle.jpg_file.specs.declared.read.scan.ScanStep.{ScanStep}
-use Rattle.jpg_file.specs.declared.read.scan.ScanStep.TheVariants.{More, Marker, Fault}
 
 -- the frame before a scan
 abbrev pub frame_at : Limits → ScanPlace → Frame
@@ -88,10 +89,25 @@ pub record InData (limits : Limits) (items : List Item) (contents : List ℕ) (b
 
 -- A DATA BYTE
 
-abbrev pub AfterData : Limits → List ℕ → ScanPlace → ScanStep → ScanWork → Picture → Type 0
-AfterData limits bytes p More w now = AtWork limits p w now
-AfterData limits bytes p (Marker code) w now = ⊥
-AfterData limits bytes p (Fault fault) w now = Reveals limits fault bytes
+-- the answer to what a machine answers, and the scan's work after it
+abbrev pub scan_answer : Taken → Result (Unit {0}) Fault
+scan_answer taken.More = Ok tt
+scan_answer taken.Units = Ok tt
+scan_answer taken.IntervalDone = Ok tt
+scan_answer (taken.Fault f) = Err (fault_of f)
+
+abbrev pub ends_interval : Taken → Bool
+ends_interval taken.More = false
+ends_interval taken.Units = false
+ends_interval taken.IntervalDone = true
+ends_interval (taken.Fault f) = false
+
+abbrev pub work_after : ScanWork → ScanReader → Taken → ScanWork
+work_after w m answer = record w { machine = m; whole = ends_interval answer }
+
+abbrev pub AfterData : Limits → List ℕ → ScanPlace → Result (Unit {0}) Fault → ScanWork → Picture → Type 0
+AfterData limits bytes p (Ok u) w now = AtWork limits p w now
+AfterData limits bytes p (Err fault) w now = Reveals limits fault bytes
 
 -- A MARKER
 
@@ -114,10 +130,11 @@ pub record NextBegins (limits : Limits) (bytes : List ℕ) (p : ScanPlace) (w : 
   pub whole : w.whole ≡ true
   pub work : AtWork limits old w now
 
-abbrev pub AfterMarker : Limits → List ℕ → ScanPlace → ℕ → ScanStep → ScanWork → Picture → Type 0
-AfterMarker limits bytes p code More w now = (next : List Place) × (others : List (List Place)) × ScanAt limits bytes (with_interval p next others) [] × AtWork limits (with_interval p next others) w now
-AfterMarker limits bytes p code (Marker c) w now = (c ≡ code) × (now.frame ≡ frame_at limits p) × ScanMeans (scan_at limits p) (p.done ++ p.coded ∷ []) p.blocks (map_of now)
-AfterMarker limits bytes p code (Fault fault) w now = Reveals limits fault bytes
+-- the next interval began, or the data of the scan are over
+abbrev pub AfterMarker : Limits → List ℕ → ScanPlace → Result Bool Fault → ScanWork → Picture → Type 0
+AfterMarker limits bytes p (Ok false) w now = (next : List Place) × (others : List (List Place)) × ScanAt limits bytes (with_interval p next others) [] × AtWork limits (with_interval p next others) w now
+AfterMarker limits bytes p (Ok true) w now = (now.frame ≡ frame_at limits p) × ScanMeans (scan_at limits p) (p.done ++ p.coded ∷ []) p.blocks (map_of now)
+AfterMarker limits bytes p (Err fault) w now = Reveals limits fault bytes
 
 -- A BYTE
 
@@ -131,26 +148,36 @@ pub record EndsData (limits : Limits) (items : List Item) (contents bytes : List
   pub framed : now.frame ≡ frame_of limits (segments_of items)
   pub means : ScanMeans (scan_at limits place) (place.done ++ place.coded ∷ []) place.blocks (map_of now)
 
-abbrev pub AfterByte : Limits → List Item → List ℕ → List ℕ → ScanStep → InScan → Picture → Type 0
-AfterByte limits items contents bytes More s now = InData limits items contents bytes s now
-AfterByte limits items contents bytes (Marker code) s now = EndsData limits items contents bytes code now
-AfterByte limits items contents bytes (Fault fault) s now = Reveals limits fault bytes
+-- the result of data, and of the last byte, which is the code of a marker if the data of the scan are over
+abbrev pub AfterBytes : Limits → List Item → List ℕ → List ℕ → Result (Unit {0}) Fault → InScan → Picture → Type 0
+AfterBytes limits items contents bytes (Ok u) s now = InData limits items contents bytes s now
+AfterBytes limits items contents bytes (Err fault) s now = Reveals limits fault bytes
+
+abbrev pub AfterByte : Limits → List Item → List ℕ → List ℕ → ℕ → Result Bool Fault → InScan → Picture → Type 0
+AfterByte limits items contents bytes byte (Ok false) s now = InData limits items contents bytes s now
+AfterByte limits items contents bytes byte (Ok true) s now = EndsData limits items contents bytes byte now
+AfterByte limits items contents bytes byte (Err fault) s now = Reveals limits fault bytes
+
+-- a byte that may be a marker's, by the result of its data
+abbrev pub byte_answer : Result (Unit {0}) Fault → Result Bool Fault
+byte_answer (Ok u) = Ok false
+byte_answer (Err fault) = Err fault
 
 -- WHEREVER it was, this holds after a data byte, a marker and a byte.
-abbrev pub TakesData : ScanWork → Picture → ℕ → ScanStep → ScanWork → Picture → Type 0
+abbrev pub TakesData : ScanWork → Picture → ℕ → Result (Unit {0}) Fault → ScanWork → Picture → Type 0
 TakesData old now byte answer new after =
     (limits : Limits) (p : ScanPlace) (bytes : List ℕ) → ScanAt limits bytes (with_byte p byte) [] → AtWork limits p old now → AfterData limits bytes (with_byte p byte) answer new after
 
-abbrev pub TakesCode : ScanWork → Picture → ℕ → ScanStep → ScanWork → Type 0
+abbrev pub TakesCode : ScanWork → Picture → ℕ → Result Bool Fault → ScanWork → Type 0
 TakesCode old now code answer new =
-    (limits : Limits) (p : ScanPlace) (bytes : List ℕ) → MarkerAt limits bytes p code old now → AfterMarker limits bytes p code answer new now
+    (limits : Limits) (p : ScanPlace) (bytes : List ℕ) → MarkerAt limits bytes p code old now → AfterMarker limits bytes p answer new now
 
-abbrev pub TakesScanByte : InScan → Picture → ℕ → ScanStep → InScan → Picture → Type 0
+abbrev pub TakesScanByte : InScan → Picture → ℕ → Result Bool Fault → InScan → Picture → Type 0
 TakesScanByte old now byte answer new after =
-    (limits : Limits) (items : List Item) (contents bytes : List ℕ) → InData limits items contents bytes old now → AfterByte limits items contents (bytes ++ byte ∷ []) answer new after
+    (limits : Limits) (items : List Item) (contents bytes : List ℕ) → InData limits items contents bytes old now → AfterByte limits items contents (bytes ++ byte ∷ []) byte answer new after
 
 -- Some bytes together: a state before the last of those that were taken, and the result of that one.
-pub record TakesRun (old : InScan) (now : Picture) (run : List ℕ) (n : ℕ) (answer : ScanStep) (new : InScan) (after : Picture) : Type 0 where
+pub record TakesRun (old : InScan) (now : Picture) (run : List ℕ) (n : ℕ) (answer : Result (Unit {0}) Fault) (new : InScan) (after : Picture) : Type 0 where
   pub mid : InScan
   pub between : Picture
   pub early : ℕ
@@ -158,7 +185,7 @@ pub record TakesRun (old : InScan) (now : Picture) (run : List ℕ) (n : ℕ) (a
   pub within : early < length run
   pub «open» : mid.gate ≡ false
   pub before : (limits : Limits) (items : List Item) (contents bytes : List ℕ) → InData limits items contents bytes old now → InData limits items contents (bytes ++ take early run) mid between
-  pub last : TakesScanByte mid between (slice_index run early) answer new after
+  pub last : (limits : Limits) (items : List Item) (contents bytes : List ℕ) → InData limits items contents bytes mid between → AfterBytes limits items contents (bytes ++ slice_index run early ∷ []) answer new after
 
 -- no byte of the list is FF
 abbrev pub ArePlain : List ℕ → Type 0
@@ -167,9 +194,3 @@ ArePlain bytes = (k : ℕ) → k < length bytes → slice_index bytes k ≡ 255 
 -- somewhere inside data
 abbrev pub IsInside : InScan → Picture → Type 0
 IsInside s now = (limits : Limits) × (items : List Item) × (contents : List ℕ) × (bytes : List ℕ) × InData limits items contents bytes s now
-
--- an answer that ends no scan
-abbrev pub GoesInside : ScanStep → Type 0
-GoesInside More = Unit {0}
-GoesInside (Marker code) = ⊥
-GoesInside (Fault fault) = Unit {0}

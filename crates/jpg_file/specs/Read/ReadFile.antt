@@ -24,20 +24,20 @@ use Rattle.jpg_file.specs.declared.read.ends.End.TheVariants as ends
 use Rattle.jpg_file.specs.Read.File.{EndsFile, IsStop, StandsForFile}
 use Rattle.jpg_file.specs.declared.read.first_header.Head.{Head}
 use Rattle.jpg_file.specs.declared.read.file.FileWork.{FileWork}
+use Rattle.jpg_file.specs.declared.read.rows.RowWork.{RowWork}
+use Rattle.jpg_file.specs.declared.read.strip_head.StripHead.{StripHead}
 
--- what contracts see of a reader: the state of its file, whether it is done (it is complete or ended early, so that
--- neither `feed` nor `end` may be called any more), and why it stopped, if it did
+-- what contracts see of a reader: the state of its file, whether it is read MCU row by MCU row, the current MCU row and the head of its picture once there is
+-- one, whether it is done (it is complete or ended early, so that nothing may be fed any more), and why it stopped, if it
+-- did
 pub record ReaderState : Type 0 where
   pub limits : Limits
   pub file : FileWork
+  pub by_row : Bool
+  pub rows : Option RowWork
+  pub strip : Option StripHead
   pub done : Bool
   pub stop : Option Stop
-
--- the invariant of a reader: it was given some bytes, or has a picture
-pub record IsReading (r : ReaderState) : Type 0 where
-  pub limited : AreLimits r.limits
-  pub «open» : r.stop ≡ None → r.done ≡ false → (bytes : List ℕ) × StandsForFile r.limits bytes r.file
-  pub ended : r.done ≡ true → LeavesPicture r.limits r.file
 
 -- The bytes were fed. They have no fault and aren't a complete file, and more may follow.
 pub record HasRead (bytes : List ℕ) (r : ReaderState) : Type 0 where
@@ -129,6 +129,3 @@ AfterFilePiece limits bytes piece (Ok (fed.Done used)) w = EndsFile limits (byte
 AfterFilePiece limits bytes piece (Err (stop.Fault f)) w =
     IsStopOf limits (bytes ++ piece) f × (length bytes < limits.input → length bytes < f.at) × KeepsHeadAt limits (bytes ++ piece) f w.head
 AfterFilePiece limits bytes piece (Err stop.NoMemory) w = KeepsHead limits (length bytes) (bytes ++ piece) w.head
-
-abbrev pub ReadsPiece : Limits → FileWork → List ℕ → Result Fed Stop → FileWork → Type 0
-ReadsPiece limits old piece answer new = (bytes : List ℕ) → StandsForFile limits bytes old → AfterFilePiece limits bytes piece answer new

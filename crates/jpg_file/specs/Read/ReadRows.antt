@@ -31,35 +31,26 @@ use Rattle.jpg_file.specs.Read.Strips.{GoesByRow, SparesRows, StandsByRow}
 use Rattle.jpg_file.specs.declared.read.ends.End.{End}
 use Rattle.jpg_file.specs.declared.read.ends.End.TheVariants as ends
 use Rattle.jpg_file.specs.declared.read.file.FileWork.{FileWork}
-use Rattle.jpg_file.specs.declared.read.row_reader.FedRow.{FedRow}
-use Rattle.jpg_file.specs.declared.read.row_reader.FedRow.TheVariants as fed
+use Rattle.jpg_file.specs.declared.read.row_pieces.FedRow.{FedRow}
+use Rattle.jpg_file.specs.declared.read.row_pieces.FedRow.TheVariants as fed
 use Rattle.jpg_file.specs.declared.read.rows.RowWork.{RowWork}
 use Rattle.jpg_file.specs.declared.read.strip_head.StripHead.{StripHead}
 
--- what contracts see of it: the state of the file, the current MCU row and the head of its picture once there is one,
--- whether the file is complete, and why it stopped, if it did
-pub record RowReaderState : Type 0 where
-  pub limits : Limits
-  pub file : FileWork
-  pub rows : Option RowWork
-  pub strip : Option StripHead
-  pub done : Bool
-  pub stop : Option Stop
-
--- the same as the state of a reader of complete files
-abbrev pub whole_reader : RowReaderState → ReaderState
-whole_reader r = record { limits = r.limits; file = r.file; done = r.done; stop = r.stop }
-
--- the invariant: it was given some bytes, or has a picture, and with a current MCU row it asks for no memory
-pub record IsReadingRows (r : RowReaderState) : Type 0 where
+-- the invariant of a reader: it was given some bytes, or has a picture; where MCU rows are to be read, no markers are
+-- kept, and with a current row it asks for no memory
+pub record IsReading (r : ReaderState) : Type 0 where
   pub limited : AreLimits r.limits
-  pub keeping : keeping_of r.file ≡ copying.None
-  pub sparing : SparesRows r.rows r.file
+  pub keeping : r.by_row ≡ true → keeping_of r.file ≡ copying.None
+  pub sparing : r.by_row ≡ true → SparesRows r.rows r.file
   pub «open» : r.stop ≡ None → r.done ≡ false → (bytes : List ℕ) × RowsOpen r.limits bytes r.rows r.file
   pub ended : r.done ≡ true → r.rows ≡ None → LeavesPicture r.limits r.file
 
+-- no MCU rows are to be read, nor is there a current one
+abbrev pub IsPlain : ReaderState → Type 0
+IsPlain r = (r.by_row ≡ false) × (r.rows ≡ None)
+
 -- THE HEAD of the picture whose rows are read, when the scan began in the bytes
-pub record HasBegunRows (bytes : List ℕ) (r : RowReaderState) : Type 0 where
+pub record HasBegunRows (bytes : List ℕ) (r : ReaderState) : Type 0 where
   pub before : List Segment
   pub contents : List ℕ
   pub begins : BeginsScanOfAll r.limits bytes before contents
@@ -69,19 +60,19 @@ pub record HasBegunRows (bytes : List ℕ) (r : RowReaderState) : Type 0 where
   pub told : TellsStrip r.strip (frame_of r.limits before) (picture_so_far r.limits before contents)
 
 -- the picture of these blocks, with what is in force at the end of that scan header
-abbrev pub picture_read : (bytes : List ℕ) → (r : RowReaderState) → HasBegunRows bytes r → Blocks → Meaning
+abbrev pub picture_read : (bytes : List ℕ) → (r : ReaderState) → HasBegunRows bytes r → Blocks → Meaning
 picture_read bytes r b blocks = picture_so_far r.limits b.before b.contents blocks
 
 -- THE BYTES SO FAR
 
 -- No such scan began in them, and they have no fault and aren't a complete file.
-pub record HasReadPlainly (bytes : List ℕ) (r : RowReaderState) : Type 0 where
+pub record HasReadPlainly (bytes : List ℕ) (r : ReaderState) : Type 0 where
   pub none : r.rows ≡ None
   pub plain : HasNoRows r.limits bytes
-  pub read : HasRead bytes (whole_reader r)
+  pub read : HasRead bytes r
 
 -- It began. This many MCU rows were given, and no further one is complete.
-pub record HasReadRows (bytes : List ℕ) (m : ℕ) (r : RowReaderState) : Type 0 where
+pub record HasReadRows (bytes : List ℕ) (m : ℕ) (r : ReaderState) : Type 0 where
   pub going : r.stop ≡ None
   pub undone : r.done ≡ false
   pub short : length bytes < r.limits.input
@@ -99,7 +90,7 @@ pub record AreOfRow (f : Frame) (k : ℕ) (row : Picture) (blocks : Blocks) : Ty
       → k * rows_in_mcu f i + y < blocks_down f (component_at f i) → map_of row i x y ≡ blocks i x (k * rows_in_mcu f i + y)
 
 -- Of the last byte some bits may be left, which aren't judged yet. The last of the MCU rows that were given is lent.
-pub record HasGivenRow (bytes : List ℕ) (m : ℕ) (r : RowReaderState) : Type 0 where
+pub record HasGivenRow (bytes : List ℕ) (m : ℕ) (r : ReaderState) : Type 0 where
   pub going : r.stop ≡ None
   pub undone : r.done ≡ false
   pub within : length bytes ≤ r.limits.input
@@ -115,15 +106,15 @@ pub record HasGivenRow (bytes : List ℕ) (m : ℕ) (r : RowReaderState) : Type 
   pub range : AreInRange (bounds (frame_of r.limits begun.before)) (map_of (begun.rows).coefs)
   pub row : AreOfRow (frame_of r.limits begun.before) last (begun.rows).coefs blocks
 
-abbrev pub HasReadSoFar : List ℕ → ℕ → RowReaderState → Type 0
+abbrev pub HasReadSoFar : List ℕ → ℕ → ReaderState → Type 0
 HasReadSoFar bytes m r = (HasReadPlainly bytes r × (m ≡ 0)) ⊎ (HasReadRows bytes m r ⊎ HasGivenRow bytes m r)
 
 -- no bits are left that aren't judged
-abbrev pub HasReadAll : List ℕ → ℕ → RowReaderState → Type 0
+abbrev pub HasReadAll : List ℕ → ℕ → ReaderState → Type 0
 HasReadAll bytes m r = (HasReadPlainly bytes r × (m ≡ 0)) ⊎ HasReadRows bytes m r
 
 -- A complete file, all whose MCU rows were given.
-pub record IsDoneByRows (bytes : List ℕ) (m : ℕ) (r : RowReaderState) : Type 0 where
+pub record IsDoneByRows (bytes : List ℕ) (m : ℕ) (r : ReaderState) : Type 0 where
   pub done : r.done ≡ true
   pub meaning : Meaning
   pub whole : IsWholeFile r.limits bytes meaning
@@ -132,18 +123,18 @@ pub record IsDoneByRows (bytes : List ℕ) (m : ℕ) (r : RowReaderState) : Type
   pub completed : CompletesRows r.limits bytes m blocks
 
 -- a complete file without such a scan
-pub record IsDonePlainly (bytes : List ℕ) (r : RowReaderState) : Type 0 where
+pub record IsDonePlainly (bytes : List ℕ) (r : ReaderState) : Type 0 where
   pub none : r.rows ≡ None
   pub plain : HasNoRows r.limits bytes
-  pub done : IsDone bytes (whole_reader r)
+  pub done : IsDone bytes r
 
 -- AT AN EARLY END
 
 -- Without such a scan, what is left is a picture.
-pub record IsEarlyPlainly (bytes : List ℕ) (r : RowReaderState) : Type 0 where
+pub record IsEarlyPlainly (bytes : List ℕ) (r : ReaderState) : Type 0 where
   pub none : r.rows ≡ None
   pub plain : HasNoRows r.limits bytes
-  pub early : IsEarlyEnd bytes (whole_reader r)
+  pub early : IsEarlyEnd bytes r
 
 -- the real blocks of this many first MCU rows are the same
 pub record AgreeInRows (f : Frame) (rows : ℕ) (blocks others : Blocks) : Type 0 where
@@ -158,7 +149,7 @@ pub record LendsRow (f : Frame) (k : ℕ) (lent : Picture) (blocks : Blocks) : T
 
 -- With such a scan, this many MCU rows were given. The current row, if one is missing, is lent as it is; all blocks of
 -- later rows are zero.
-pub record IsEarlyByRows (bytes : List ℕ) (m : ℕ) (r : RowReaderState) : Type 0 where
+pub record IsEarlyByRows (bytes : List ℕ) (m : ℕ) (r : ReaderState) : Type 0 where
   pub done : r.done ≡ true
   pub begun : HasBegunRows bytes r
   pub meaning : Meaning
@@ -170,25 +161,25 @@ pub record IsEarlyByRows (bytes : List ℕ) (m : ℕ) (r : RowReaderState) : Typ
   pub work : 1 ≤ unfinished begun.rows → LendsRow (frame_of r.limits begun.before) m (begun.rows).coefs meaning.blocks
   pub later : (i x y : ℕ) → (m + 1) * rows_in_mcu (frame_of r.limits begun.before) i ≤ y → meaning.blocks i x y ≡ zeros 64
 
-abbrev pub AfterEndRow : List ℕ → ℕ → End → RowReaderState → Type 0
+abbrev pub AfterEndRow : List ℕ → ℕ → End → ReaderState → Type 0
 AfterEndRow bytes m (ends.Early n) r = (n ≡ length bytes) × ((IsEarlyPlainly bytes r × (m ≡ 0)) ⊎ IsEarlyByRows bytes m r)
 AfterEndRow bytes m (ends.Stop stop) r = StopsAt r.limits bytes stop
 
 -- for all bytes that were fed before, by which this many MCU rows were given
-abbrev pub EndsRow : RowReaderState → End → RowReaderState → Type 0
+abbrev pub EndsRow : ReaderState → End → ReaderState → Type 0
 EndsRow old answer new = (bytes : List ℕ) (m : ℕ) → HasReadAll bytes m old → AfterEndRow bytes m answer new
 
 -- THE ANSWER to a piece that is fed, by all bytes so far: for a fault, which MCU rows are complete before it
 
-pub record StopsRows (bytes : List ℕ) (m : ℕ) (r : RowReaderState) : Type 0 where
+pub record StopsRows (bytes : List ℕ) (m : ℕ) (r : ReaderState) : Type 0 where
   pub begun : HasBegunRows bytes r
   pub blocks : Blocks
   pub completed : CompletesRows r.limits bytes m blocks
 
-abbrev pub StopsSoFar : List ℕ → ℕ → RowReaderState → Type 0
+abbrev pub StopsSoFar : List ℕ → ℕ → ReaderState → Type 0
 StopsSoFar bytes m r = ((r.rows ≡ None) × HasNoRows r.limits bytes × (m ≡ 0)) ⊎ StopsRows bytes m r
 
-abbrev pub AfterFeedRow : List ℕ → ℕ → List ℕ → Result FedRow Stop → RowReaderState → Type 0
+abbrev pub AfterFeedRow : List ℕ → ℕ → List ℕ → Result FedRow Stop → ReaderState → Type 0
 AfterFeedRow bytes m piece (Ok fed.More) r = (HasReadPlainly (bytes ++ piece) r × (m ≡ 0)) ⊎ HasReadRows (bytes ++ piece) m r
 AfterFeedRow bytes m piece (Ok (fed.Row used)) r = HasGivenRow (bytes ++ take used piece) (m + 1) r × (used ≤ length piece)
 AfterFeedRow bytes m piece (Ok (fed.Done used)) r =
@@ -198,11 +189,11 @@ AfterFeedRow bytes m piece (Err (stop.Fault f)) r =
 AfterFeedRow bytes m piece (Err stop.NoMemory) r = KeepsHead r.limits (length bytes) (bytes ++ piece) r.file.head × (r.rows ≡ None) × HasNoRows r.limits bytes
 
 -- for all bytes that were fed before, by which this many MCU rows were given
-abbrev pub FeedsRow : RowReaderState → List ℕ → Result FedRow Stop → RowReaderState → Type 0
+abbrev pub FeedsRow : ReaderState → List ℕ → Result FedRow Stop → ReaderState → Type 0
 FeedsRow old piece answer new = (bytes : List ℕ) (m : ℕ) → HasReadSoFar bytes m old → AfterFeedRow bytes m piece answer new
 
 -- the word that keeps `done`
-abbrev pub EndsDoneRow : Result FedRow Stop → RowReaderState → Type 0
+abbrev pub EndsDoneRow : Result FedRow Stop → ReaderState → Type 0
 EndsDoneRow (Ok fed.More) r = r.done ≡ false
 EndsDoneRow (Ok (fed.Row used)) r = r.done ≡ false
 EndsDoneRow (Ok (fed.Done used)) r = r.done ≡ true

@@ -1,5 +1,5 @@
 -- A file that is being read: the meaning of its reader's states (T.81, B.2.1).
-use Rattle.std.specs.Prelude.{◌≡◌, ◌⊎◌, ℕ, ◌+◌, ◌<◌, ◌≤◌, take, slice_index, is_some, not, ◌&&◌, Bool, true, false, List, [], ◌∷◌, ◌++◌, length, Option, Some, None}
+use Rattle.std.specs.Prelude.{◌≡◌, ◌⊎◌, ℕ, ◌+◌, ◌<◌, ◌≤◌, take, slice_index, is_some, not, ◌&&◌, Bool, true, false, List, [], ◌∷◌, ◌++◌, length, Option, Some, None, Result, Ok, Err}
 use Rattle.jpg_spec.specs.Items.{Item, segments_of}
 use Rattle.jpg_spec.specs.InForce.{frame_of}
 use Rattle.jpg_spec.specs.Geometry.{Frame}
@@ -7,6 +7,7 @@ use Rattle.jpg_spec.specs.FrameHeader.{IsFrame}
 use Rattle.jpg_spec.specs.Scan.{Blocks}
 use Rattle.jpg_spec.specs.FileMeaning.{scan_after}
 use Rattle.jpg_spec.specs.FirstFault.{Reveals}
+use Rattle.jpg_spec.specs.declared.fault.FaultAt.{FaultAt}
 use Rattle.jpg_spec.specs.declared.frame.Limits.{Limits}
 use Rattle.jpg_coefs.specs.Picture.{Picture, map_of}
 use Rattle.jpg_markers.specs.Reading.{HasRoom, reading_of}
@@ -93,15 +94,12 @@ pub record HeadWhole (limits : Limits) (bytes : List ℕ) (items : List Item) (b
 abbrev pub with_coefs : Reading → Picture → Reading
 with_coefs r now = record r { coefs = Some now }
 
-abbrev pub AfterHead : Limits → List ℕ → List Item → Items → ItemStep → Reading → ScanHistory → Type 0
-AfterHead limits bytes items old More r b = Scanning limits items (reading_of old.segments).contents bytes r × HasBegun limits b ((0xda, (reading_of old.segments).contents) ∷ segments_of items)
-AfterHead limits bytes items old Head r b = ⊥
-AfterHead limits bytes items old Eoi r b = ⊥
-AfterHead limits bytes items old (Fault f) r b = Reveals limits f.fault bytes × (f.at ≡ length bytes)
-AfterHead limits bytes items old NoMemory r b = ⊥
+abbrev pub AfterHead : Limits → List ℕ → List Item → Items → Result (Unit {0}) FaultAt → Reading → ScanHistory → Type 0
+AfterHead limits bytes items old (Ok u) r b = Scanning limits items (reading_of old.segments).contents bytes r × HasBegun limits b ((0xda, (reading_of old.segments).contents) ∷ segments_of items)
+AfterHead limits bytes items old (Err f) r b = Reveals limits f.fault bytes × (f.at ≡ length bytes)
 
 -- WHATEVER the state was, this holds after a header and a byte.
-abbrev pub TakesHead : Reading → ScanHistory → ItemStep → Reading → ScanHistory → Type 0
+abbrev pub TakesHead : Reading → ScanHistory → Result (Unit {0}) FaultAt → Reading → ScanHistory → Type 0
 TakesHead old before answer new b =
     (bytes : List ℕ) (items : List Item) (blocks : Blocks) → HeadWhole old.items.limits bytes items blocks old before → AfterHead old.items.limits bytes items old.items answer new b
 
@@ -110,9 +108,9 @@ abbrev pub CanBeginHead : Reading → ScanHistory → Type 0
 CanBeginHead r b = (now : Picture) × HasSizes now × ((bytes : List ℕ) × (items : List Item) × (blocks : Blocks) × HeadWhole r.items.limits bytes items blocks (with_coefs r now) b)
 
 -- all units of the scan that begins are left
-abbrev pub LeavesAll : Reading → ScanHistory → ItemStep → Reading → Type 0
+abbrev pub LeavesAll : Reading → ScanHistory → Result (Unit {0}) FaultAt → Reading → Type 0
 LeavesAll old before answer new =
-    (bytes : List ℕ) (items : List Item) (blocks : Blocks) (now : Picture) (scan : InScan) → HeadWhole old.items.limits bytes items blocks (with_coefs old now) before → new.scan ≡ Some scan → answer ≡ More
+    (bytes : List ℕ) (items : List Item) (blocks : Blocks) (now : Picture) (scan : InScan) → HeadWhole old.items.limits bytes items blocks (with_coefs old now) before → new.scan ≡ Some scan → answer ≡ Ok tt
     → scan_left scan.work ≡ length (scan_after old.items.limits (segments_of items) (reading_of old.items.segments).contents).places
 
 abbrev pub TakesByteOfItems : Reading → ℕ → ItemStep → Reading → Type 0
@@ -134,16 +132,13 @@ pub record IsOpenScan (r : Reading) : Type 0 where
   pub gate : scan.gate ≡ false
   pub due : scan.work.whole ≡ false
 
--- an answer that ends no data and asks for no memory
-abbrev pub IsPlainStep : ItemStep → Type 0
-IsPlainStep More = Unit {0}
-IsPlainStep Head = ⊥
-IsPlainStep Eoi = ⊥
-IsPlainStep (Fault f) = Unit {0}
-IsPlainStep NoMemory = ⊥
+-- the answer to a byte that is no marker's
+abbrev pub item_answer : Result (Unit {0}) FaultAt → ItemStep
+item_answer (Ok u) = More
+item_answer (Err f) = Fault f
 
 -- Some plain bytes of a scan: a state before the last of those that were taken, and the result of that one.
-pub record TakesRunOfScan (old : Reading) (run : List ℕ) (n : ℕ) (answer : ItemStep) (new : Reading) : Type 0 where
+pub record TakesRunOfScan (old : Reading) (run : List ℕ) (n : ℕ) (answer : Result (Unit {0}) FaultAt) (new : Reading) : Type 0 where
   pub mid : Reading
   pub early : ℕ
   pub count : n ≡ early + 1
@@ -152,7 +147,7 @@ pub record TakesRunOfScan (old : Reading) (run : List ℕ) (n : ℕ) (answer : I
   pub items : mid.items ≡ old.items
   pub taken : mid.taken ≡ old.taken + early
   pub before : (limits : Limits) (items : List Item) (contents bytes : List ℕ) → Scanning limits items contents bytes old → Scanning limits items contents (bytes ++ take early run) mid
-  pub last : (limits : Limits) (items : List Item) (contents bytes : List ℕ) → Scanning limits items contents bytes mid → AfterScanByte limits items contents (bytes ++ slice_index run early ∷ []) answer new
+  pub last : (limits : Limits) (items : List Item) (contents bytes : List ℕ) → Scanning limits items contents bytes mid → AfterScanByte limits items contents (bytes ++ slice_index run early ∷ []) (item_answer answer) new
 
 -- A scan began, there is room for the contents of a segment, and no further marker is kept: only JFIF and Adobe
 -- segments are to be kept, and after the first scan header there are none.

@@ -14,19 +14,19 @@ use Rattle.jpg_file.specs.Read.RowStops.{RowsAtFault}
 use Rattle.jpg_file.specs.Read.RowsKnown.{RowsKnown}
 use Rattle.jpg_file.specs.Read.Strips.{GoesByRow, StandsByRow}
 use Rattle.jpg_file.specs.declared.read.file.FileWork.{FileWork}
-use Rattle.jpg_file.specs.declared.read.row_reader.FedRow.{FedRow}
+use Rattle.jpg_file.specs.declared.read.row_pieces.FedRow.{FedRow}
 use Rattle.jpg_file.specs.declared.read.rows.RowWork.{RowWork}
 use Rattle.jpg_file.specs.declared.read.strip_head.StripHead.{StripHead}
 use Rattle.jpg_file.specs.declared.read.strip_work.StripWork.{StripWork}
-use Rattle.jpg_file.specs.declared.read.strips.StripStep.{StripStep}
-use Rattle.jpg_file.specs.declared.read.strips.StripStep.TheVariants as step
+use Rattle.jpg_file.specs.declared.read.step.Step.{Step}
+use Rattle.jpg_file.specs.declared.read.step.Step.TheVariants as step
 
 -- WITH A CURRENT MCU ROW before: bits that waited, and some bytes
-abbrev pub FaultsResumed : StripWork → StripStep → Type 0
+abbrev pub FaultsResumed : StripWork → Step → Type 0
 FaultsResumed old answer =
     (rows : RowWork) (f : FaultAt) (bytes : List ℕ) → old.rows ≡ Some rows → answer ≡ step.Ended (stop.Fault f) → StandsByRow (limits_of old.file) bytes old.file rows → RowsAtFault (limits_of old.file) bytes rows
 
-abbrev pub FaultsSome : StripWork → List ℕ → ℕ → StripStep → Type 0
+abbrev pub FaultsSome : StripWork → List ℕ → ℕ → Step → Type 0
 FaultsSome old run n answer =
     (rows : RowWork) (f : FaultAt) (bytes : List ℕ) → old.rows ≡ Some rows → answer ≡ step.Ended (stop.Fault f) → GoesByRow (limits_of old.file) bytes old.file rows → RowsAtFault (limits_of old.file) (bytes ++ take n run) rows
 

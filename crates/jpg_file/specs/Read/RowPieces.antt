@@ -1,5 +1,5 @@
 -- A file that is being read MCU row by MCU row, and a piece of it (T.81, A.2.3, B.2.1).
-use Rattle.std.specs.Prelude.{◌≡◌, ℕ, ◌<◌, ◌≤◌, List, [], ◌∷◌, ◌++◌, length, take, Option, None, is_some, true, Result, Ok, Err}
+use Rattle.std.specs.Prelude.{◌≡◌, ℕ, ◌<◌, ◌≤◌, List, [], ◌∷◌, ◌++◌, length, take, Option, None, is_some, true, false, Result, Ok, Err}
 use Rattle.jpg_spec.specs.UnfinishedFile.{UnfinishedFile}
 use Rattle.jpg_spec.specs.declared.frame.Limits.{Limits}
 use Rattle.jpg_spec.specs.declared.frame.Copying.TheVariants as copying
@@ -10,12 +10,12 @@ use Rattle.jpg_file.specs.Read.File.{keeping_of}
 use Rattle.jpg_file.specs.Read.RowsKnown.{KnowsRows}
 use Rattle.jpg_file.specs.Read.Strips.{AfterStrip, CountsStrip, SparesRows, StripGoes, StripStands}
 use Rattle.jpg_file.specs.declared.read.file.FileWork.{FileWork}
-use Rattle.jpg_file.specs.declared.read.row_reader.FedRow.{FedRow}
-use Rattle.jpg_file.specs.declared.read.row_reader.FedRow.TheVariants as fed
+use Rattle.jpg_file.specs.declared.read.row_pieces.FedRow.{FedRow}
+use Rattle.jpg_file.specs.declared.read.row_pieces.FedRow.TheVariants as fed
 use Rattle.jpg_file.specs.declared.read.rows.RowWork.{RowWork}
 use Rattle.jpg_file.specs.declared.read.strip_head.StripHead.{StripHead}
 use Rattle.jpg_file.specs.declared.read.strip_work.StripWork.{StripWork}
-use Rattle.jpg_file.specs.declared.read.strips.StripStep.TheVariants as step
+use Rattle.jpg_file.specs.declared.read.step.Step.TheVariants as step
 
 -- The bytes before the last one are a file so far, so that a fault that the bits of the last one reveal isn't revealed
 -- by fewer bytes.
@@ -80,9 +80,11 @@ KnowsRead limits old piece answer new = (bytes : List ℕ) → RowsOpen limits b
 abbrev pub KnowsOn : Limits → StripWork → List ℕ → Result FedRow Stop → StripWork → Type 0
 KnowsOn limits old piece answer new = (bytes : List ℕ) → RowsGo limits bytes old.rows old.file → KnowsFed limits bytes piece answer new.rows new.strip
 
--- WHAT DOESN'T CHANGE: the current MCU row, the head of its picture, which markers are to be kept, and that no memory
--- is asked for
+-- WHAT DOESN'T CHANGE: whether MCU rows are read, the current one, the head of its picture, which markers are to be kept,
+-- and that no memory is asked for
 pub record KeepsWork (old new : StripWork) : Type 0 where
+  pub by_row : new.by_row ≡ old.by_row
+  pub plain : old.rows ≡ None → old.by_row ≡ false → new.rows ≡ None
   pub some : is_some old.rows ≡ true → is_some new.rows ≡ true
   pub strip : is_some old.rows ≡ true → new.strip ≡ old.strip
   pub keeping : keeping_of new.file ≡ keeping_of old.file

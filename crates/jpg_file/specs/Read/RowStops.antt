@@ -1,6 +1,6 @@
 -- A fault in the data of a scan that is read MCU row by MCU row: which MCU rows the bytes up to it complete (T.81,
 -- A.2.3, F.2.2).
-use Rattle.std.specs.Prelude.{◌≡◌, ◌⊎◌, ℕ, ◌+◌, Bool, List, [], ◌∷◌, ◌++◌, take}
+use Rattle.std.specs.Prelude.{◌≡◌, ◌⊎◌, ℕ, ◌+◌, Bool, List, [], ◌∷◌, ◌++◌, take, Result, Err}
 use Rattle.jpg_spec.specs.Bits.{bits_of_bytes}
 use Rattle.jpg_spec.specs.Segments.{head_components}
 use Rattle.jpg_spec.specs.Scan.{Blocks}
@@ -15,6 +15,7 @@ use Rattle.jpg_base.specs.Cursor.{scan_mcus_down}
 use Rattle.jpg_base.specs.declared.stop.Stop.TheVariants as stop
 use Rattle.jpg_coefs.specs.Picture.{Picture}
 use Rattle.jpg_coefs.specs.Machine.{TakesBits}
+use Rattle.jpg_coefs.specs.declared.machine.Taken.{Taken}
 use Rattle.jpg_coefs.specs.declared.machine.Taken.TheVariants as taken
 use Rattle.jpg_coefs.specs.declared.machine.UnitFault.{UnitFault}
 use Rattle.jpg_seq.specs.Rows.{IsRowOf}
@@ -26,26 +27,22 @@ use Rattle.jpg_file.specs.Read.RowMachine.{IsOpenRowScan}
 use Rattle.jpg_file.specs.Read.RowPlaces.{IsRowAt, scan_left}
 use Rattle.jpg_file.specs.Read.RowTurns.{unfinished}
 use Rattle.jpg_file.specs.Read.Strips.{GoesByRow, IsFirstScan, StandsByRow, components_of, frame_behind}
-use Rattle.jpg_file.specs.declared.read.data.DataStep.{DataStep}
-use Rattle.jpg_file.specs.declared.read.data.DataStep.TheVariants as came
 use Rattle.jpg_file.specs.declared.read.file.FileWork.{FileWork}
 use Rattle.jpg_file.specs.declared.read.machine.ScanReader.{ScanReader}
 use Rattle.jpg_file.specs.declared.read.rows.RowWork.{RowWork}
 use Rattle.jpg_file.specs.declared.read.scan.InScan.{InScan}
-use Rattle.jpg_file.specs.declared.read.scan.ScanStep.{ScanStep}
-use Rattle.jpg_file.specs.declared.read.scan.ScanStep.TheVariants as answer
-use Rattle.jpg_file.specs.declared.read.strips.StripStep.{StripStep}
-use Rattle.jpg_file.specs.declared.read.strips.StripStep.TheVariants as step
+use Rattle.jpg_file.specs.declared.read.step.Step.{Step}
+use Rattle.jpg_file.specs.declared.read.step.Step.TheVariants as step
 
 -- BITS, some first ones of which reveal a fault, before this many further units are complete
 abbrev pub ShowsInRow : ℕ → ScanReader → Picture → List Bool → UnitFault → Type 0
 ShowsInRow most m now bits f = (new : ScanReader) × (after : Picture) × (rest : List Bool) × TakesBits any_scan most m now bits (taken.Fault f) new after rest
 
 -- THE CURRENT MCU ROW isn't complete before the fault, whatever picture it is of.
-abbrev pub StopsRowData : RowWork → ScanReader → List Bool → DataStep → Type 0
-StopsRowData w m bits came_to = (f : UnitFault) (whole : Picture) → came_to ≡ came.Fault f → IsRowOf w.tops whole w.coefs → IsOpenRowScan m whole → ShowsInRow w.left m whole bits f
+abbrev pub StopsRowData : RowWork → ScanReader → List Bool → Taken → Type 0
+StopsRowData w m bits came_to = (f : UnitFault) (whole : Picture) → came_to ≡ taken.Fault f → IsRowOf w.tops whole w.coefs → IsOpenRowScan m whole → ShowsInRow w.left m whole bits f
 
-abbrev pub StopsRowRun : RowWork → ScanReader → List ℕ → ℕ → DataStep → Type 0
+abbrev pub StopsRowRun : RowWork → ScanReader → List ℕ → ℕ → Taken → Type 0
 StopsRowRun w m bytes n came_to = StopsRowData w m (bits_of_bytes (take n bytes)) came_to
 
 -- BYTES complete as many MCU rows of such a scan as aren't among those that are left, the first of which is the current
@@ -62,30 +59,30 @@ pub record CompletesBefore (limits : Limits) (bytes : List ℕ) (before : List S
 abbrev pub IsRowInScan : Limits → List Item → List ℕ → InScan → RowWork → Type 0
 IsRowInScan limits items contents s w = IsFirstScan limits items × IsRowAt (frame_behind limits items) (components_of limits items contents) w (scan_left s.work)
 
-abbrev pub StopsByteInRow : InScan → RowWork → ℕ → ScanStep → Type 0
+abbrev pub StopsByteInRow : InScan → RowWork → ℕ → Result Bool Fault → Type 0
 StopsByteInRow old w byte given =
-    (fault : Fault) (limits : Limits) (items : List Item) (contents bytes : List ℕ) (whole : Picture) → given ≡ answer.Fault fault → IsRowOf w.tops whole w.coefs → InData limits items contents bytes old whole → IsRowInScan limits items contents old w
+    (fault : Fault) (limits : Limits) (items : List Item) (contents bytes : List ℕ) (whole : Picture) → given ≡ Err fault → IsRowOf w.tops whole w.coefs → InData limits items contents bytes old whole → IsRowInScan limits items contents old w
     → CompletesBefore limits (bytes ++ byte ∷ []) (segments_of items) contents w
 
-abbrev pub StopsRestInRow : InScan → RowWork → ScanStep → Type 0
+abbrev pub StopsRestInRow : InScan → RowWork → Result (Unit {0}) Fault → Type 0
 StopsRestInRow old w given =
-    (fault : Fault) (limits : Limits) (items : List Item) (contents bytes : List ℕ) (whole : Picture) → given ≡ answer.Fault fault → IsRowOf w.tops whole w.coefs → HalfData limits items contents bytes w.waiting old whole → IsRowInScan limits items contents old w
+    (fault : Fault) (limits : Limits) (items : List Item) (contents bytes : List ℕ) (whole : Picture) → given ≡ Err fault → IsRowOf w.tops whole w.coefs → HalfData limits items contents bytes w.waiting old whole → IsRowInScan limits items contents old w
     → CompletesBefore limits bytes (segments_of items) contents w
 
-abbrev pub StopsRunInRow : InScan → RowWork → List ℕ → ℕ → ScanStep → Type 0
+abbrev pub StopsRunInRow : InScan → RowWork → List ℕ → ℕ → Result (Unit {0}) Fault → Type 0
 StopsRunInRow old w run n given =
-    (fault : Fault) (limits : Limits) (items : List Item) (contents bytes : List ℕ) (whole : Picture) → given ≡ answer.Fault fault → IsRowOf w.tops whole w.coefs → InData limits items contents bytes old whole → IsRowInScan limits items contents old w
+    (fault : Fault) (limits : Limits) (items : List Item) (contents bytes : List ℕ) (whole : Picture) → given ≡ Err fault → IsRowOf w.tops whole w.coefs → InData limits items contents bytes old whole → IsRowInScan limits items contents old w
     → CompletesBefore limits (bytes ++ take n run) (segments_of items) contents w
 
 -- THE FILE: at a fault all MCU rows were complete before it, or the bytes complete those before the current one.
 abbrev pub RowsAtFault : Limits → List ℕ → RowWork → Type 0
 RowsAtFault limits bytes rows = (unfinished rows ≡ 0) ⊎ ((before : List Segment) × (contents : List ℕ) × CompletesBefore limits bytes before contents rows)
 
-abbrev pub StopsRest : FileWork → RowWork → StripStep → Type 0
+abbrev pub StopsRest : FileWork → RowWork → Step → Type 0
 StopsRest old rows came_to = (f : FaultAt) (bytes : List ℕ) → came_to ≡ step.Ended (stop.Fault f) → StandsByRow (limits_of old) bytes old rows → RowsAtFault (limits_of old) bytes rows
 
-abbrev pub StopsByte : FileWork → RowWork → ℕ → StripStep → Type 0
+abbrev pub StopsByte : FileWork → RowWork → ℕ → Step → Type 0
 StopsByte old rows byte came_to = (f : FaultAt) (bytes : List ℕ) → came_to ≡ step.Ended (stop.Fault f) → GoesByRow (limits_of old) bytes old rows → RowsAtFault (limits_of old) (bytes ++ byte ∷ []) rows
 
-abbrev pub StopsRun : FileWork → RowWork → List ℕ → ℕ → StripStep → Type 0
+abbrev pub StopsRun : FileWork → RowWork → List ℕ → ℕ → Step → Type 0
 StopsRun old rows run n came_to = (f : FaultAt) (bytes : List ℕ) → came_to ≡ step.Ended (stop.Fault f) → GoesByRow (limits_of old) bytes old rows → RowsAtFault (limits_of old) (bytes ++ take n run) rows

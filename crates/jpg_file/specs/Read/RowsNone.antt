@@ -12,12 +12,12 @@ use Rattle.jpg_file.specs.Read.File.{HeadStands, StandsForFile, limits_of}
 use Rattle.jpg_file.specs.Read.RowPieces.{RowsGo, RowsOpen}
 use Rattle.jpg_file.specs.Read.Strips.{contents_held}
 use Rattle.jpg_file.specs.declared.read.file.FileWork.{FileWork}
-use Rattle.jpg_file.specs.declared.read.row_reader.FedRow.{FedRow}
-use Rattle.jpg_file.specs.declared.read.row_reader.FedRow.TheVariants as fed
+use Rattle.jpg_file.specs.declared.read.row_pieces.FedRow.{FedRow}
+use Rattle.jpg_file.specs.declared.read.row_pieces.FedRow.TheVariants as fed
 use Rattle.jpg_file.specs.declared.read.rows.RowWork.{RowWork}
 use Rattle.jpg_file.specs.declared.read.strip_work.StripWork.{StripWork}
-use Rattle.jpg_file.specs.declared.read.strips.StripStep.{StripStep}
-use Rattle.jpg_file.specs.declared.read.strips.StripStep.TheVariants as step
+use Rattle.jpg_file.specs.declared.read.step.Step.{Step}
+use Rattle.jpg_file.specs.declared.read.step.Step.TheVariants as step
 
 -- No such scan began in them.
 abbrev pub HasNoRows : Limits → List ℕ → Type 0
@@ -35,7 +35,7 @@ FindsNone w None =
     (limits : Limits) (bytes : List ℕ) → (h : HeadStands limits bytes w) → contents_rule limits (segments_of h.items) 0xda (contents_held w) ≡ None → IsScanOfAll limits (segments_of h.items) (contents_held w) → ⊥
 
 -- THE RESULT OF BYTES; nothing is known for NoMemory
-abbrev pub NoneAfter : Limits → List ℕ → StripStep → Option RowWork → Type 0
+abbrev pub NoneAfter : Limits → List ℕ → Step → Option RowWork → Type 0
 NoneAfter limits bytes step.More rows = NoRowsIn limits bytes rows
 NoneAfter limits bytes step.Row rows = NoRowsIn limits bytes rows
 NoneAfter limits bytes step.Whole rows = NoRowsIn limits bytes rows
@@ -43,16 +43,16 @@ NoneAfter limits bytes (step.Ended (stop.Fault f)) rows = NoRowsIn limits bytes 
 NoneAfter limits bytes (step.Ended stop.NoMemory) rows = Unit {0}
 
 -- the first scan header, with this last byte
-abbrev pub NoneHead : StripWork → StripStep → StripWork → Type 0
+abbrev pub NoneHead : StripWork → Step → StripWork → Type 0
 NoneHead old answer new =
     (front : List ℕ) (byte : ℕ) → HasNoRows (limits_of old.file) front → HeadStands (limits_of old.file) (front ++ byte ∷ []) old.file → NoneAfter (limits_of old.file) (front ++ byte ∷ []) answer new.rows
 
 -- a byte before it
-abbrev pub NoneByte : StripWork → ℕ → StripStep → StripWork → Type 0
+abbrev pub NoneByte : StripWork → ℕ → Step → StripWork → Type 0
 NoneByte old byte answer new = (bytes : List ℕ) → StandsForFile (limits_of old.file) bytes old.file → NoneAfter (limits_of old.file) (bytes ++ byte ∷ []) answer new.rows
 
 -- some bytes
-abbrev pub NoneSome : StripWork → List ℕ → ℕ → StripStep → StripWork → Type 0
+abbrev pub NoneSome : StripWork → List ℕ → ℕ → Step → StripWork → Type 0
 NoneSome old run n answer new =
     (bytes : List ℕ) → StandsForFile (limits_of old.file) bytes old.file → HasNoRows (limits_of old.file) bytes → NoneAfter (limits_of old.file) (bytes ++ take n run) answer new.rows
 

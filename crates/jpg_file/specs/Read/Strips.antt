@@ -15,22 +15,22 @@ use Rattle.jpg_coefs.specs.Picture.{Picture}
 use Rattle.jpg_markers.specs.Reading.{reading_of}
 use Rattle.jpg_seq.specs.Rows.{IsRowOf}
 use Rattle.jpg_file.specs.Read.ScanHistory.{HasBegun, HasBegunAll}
-use Rattle.jpg_file.specs.Read.File.{EndsFile, IsStop, HeadStands, StandsForFile, StandsBetween, AfterFileStep, limits_of, with_picture}
+use Rattle.jpg_file.specs.Read.File.{AfterFileByte, EndsFile, IsStop, HeadStands, StandsForFile, StandsBetween, AfterFileStep, limits_of, with_picture}
 use Rattle.jpg_file.specs.Read.FirstHeader.{HasHead}
 use Rattle.jpg_file.specs.Read.Items.{BehindHead}
 use Rattle.jpg_file.specs.Read.Reading.{IsSparing, waiting_bytes}
-use Rattle.jpg_file.specs.Read.RowData.{AfterRowBytes}
+use Rattle.jpg_file.specs.Read.RowData.{InRowData}
 use Rattle.jpg_file.specs.Read.RowPlaces.{scan_left}
 use Rattle.jpg_file.specs.Read.RowTurns.{IsRowIn, unfinished}
+use Rattle.jpg_file.specs.Read.Step.{IfStops}
 use Rattle.jpg_file.specs.declared.read.file.FileWork.{FileWork}
 use Rattle.jpg_file.specs.declared.read.first_header.Head.{Head}
 use Rattle.jpg_file.specs.declared.read.items.ItemStep.{ItemStep}
 use Rattle.jpg_file.specs.declared.read.rows.RowWork.{RowWork}
 use Rattle.jpg_file.specs.declared.read.scan.InScan.{InScan}
-use Rattle.jpg_file.specs.declared.read.scan.ScanStep.TheVariants as answer
 use Rattle.jpg_file.specs.declared.read.strip_work.StripWork.{StripWork}
-use Rattle.jpg_file.specs.declared.read.strips.StripStep.{StripStep}
-use Rattle.jpg_file.specs.declared.read.strips.StripStep.TheVariants as step
+use Rattle.jpg_file.specs.declared.read.step.Step.{Step}
+use Rattle.jpg_file.specs.declared.read.step.Step.TheVariants as step
 
 -- the frame before a scan, and the components of the scan
 abbrev pub frame_behind : Limits → List Item → Frame
@@ -61,7 +61,7 @@ pub record RowsInside (limits : Limits) (bytes : List ℕ) (w : FileWork) (rows 
   pub contents : List ℕ
   pub scan : InScan
   pub inside : w.reading.scan ≡ Some scan
-  pub coded : AfterRowBytes limits items contents bytes answer.More rows.waiting scan whole
+  pub coded : InRowData limits items contents bytes rows.waiting scan whole
   pub held : ScanHeld limits items contents bytes w scan.gate
   pub at : IsRowIn (frame_behind limits items) (components_of limits items contents) rows (scan_left scan.work)
 
@@ -98,14 +98,8 @@ pub record EndsByRow (limits : Limits) (bytes : List ℕ) (w : FileWork) (rows :
   pub ends : EndsFile limits bytes (with_picture w whole)
   pub done : unfinished rows ≡ 0
 
--- the answer of a file that isn't read by MCU rows
-abbrev pub end_step : Result Bool Stop → StripStep
-end_step (Ok false) = step.More
-end_step (Ok true) = step.Whole
-end_step (Err e) = step.Ended e
-
 -- THE RESULT OF BYTES
-abbrev pub AfterRows : Limits → List ℕ → StripStep → FileWork → RowWork → Type 0
+abbrev pub AfterRows : Limits → List ℕ → Step → FileWork → RowWork → Type 0
 AfterRows limits bytes step.More w rows = GoesByRow limits bytes w rows
 AfterRows limits bytes step.Row w rows = RowIsWhole limits bytes w rows
 AfterRows limits bytes step.Whole w rows = EndsByRow limits bytes w rows
@@ -113,7 +107,7 @@ AfterRows limits bytes (step.Ended (stop.Fault f)) w rows = IsStop limits bytes 
 AfterRows limits bytes (step.Ended stop.NoMemory) w rows = Unit {0}
 
 -- bits that wait end no file, and ask for no memory
-abbrev pub GoesOnRest : StripStep → Type 0
+abbrev pub GoesOnRest : Step → Type 0
 GoesOnRest step.More = Unit {0}
 GoesOnRest step.Row = Unit {0}
 GoesOnRest step.Whole = ⊥
@@ -121,7 +115,7 @@ GoesOnRest (step.Ended (stop.Fault f)) = Unit {0}
 GoesOnRest (step.Ended stop.NoMemory) = ⊥
 
 -- A FURTHER MCU ROW is complete if the answer is Row, and none if it is More.
-abbrev pub CountsRows : StripStep → RowWork → RowWork → Type 0
+abbrev pub CountsRows : Step → RowWork → RowWork → Type 0
 CountsRows step.More rows after = unfinished after ≡ unfinished rows
 CountsRows step.Row rows after = unfinished rows ≡ unfinished after + 1
 CountsRows step.Whole rows after = unfinished after ≡ unfinished rows
@@ -131,32 +125,18 @@ CountsRows (step.Ended e) rows after = Unit {0}
 abbrev pub rows_of_all : Frame → ℕ
 rows_of_all f = scan_mcus_down f (below (length f.components))
 
-abbrev pub IsNoRow : StripStep → Type 0
-IsNoRow step.More = Unit {0}
-IsNoRow step.Row = ⊥
-IsNoRow step.Whole = Unit {0}
-IsNoRow (step.Ended e) = Unit {0}
-
--- not NoMemory
-abbrev pub NotWanting : StripStep → Type 0
-NotWanting step.More = Unit {0}
-NotWanting step.Row = Unit {0}
-NotWanting step.Whole = Unit {0}
-NotWanting (step.Ended (stop.Fault f)) = Unit {0}
-NotWanting (step.Ended stop.NoMemory) = ⊥
-
 -- bits that wait, whatever bytes were given
-abbrev pub TakesRest : FileWork → RowWork → StripStep → FileWork → RowWork → Type 0
+abbrev pub TakesRest : FileWork → RowWork → Step → FileWork → RowWork → Type 0
 TakesRest old rows answer new after =
     (bytes : List ℕ) → StandsByRow (limits_of old) bytes old rows → AfterRows (limits_of old) bytes answer new after
 
 -- a byte
-abbrev pub TakesRowByte : FileWork → RowWork → ℕ → StripStep → FileWork → RowWork → Type 0
+abbrev pub TakesRowByte : FileWork → RowWork → ℕ → Step → FileWork → RowWork → Type 0
 TakesRowByte old rows byte answer new after =
     (bytes : List ℕ) → GoesByRow (limits_of old) bytes old rows → AfterRows (limits_of old) (bytes ++ byte ∷ []) answer new after
 
 -- some bytes of which the last one may be taken in part: the file's state before that one, and its result
-pub record RowsRun (limits : Limits) (bytes run : List ℕ) (n : ℕ) (answer : StripStep) (new : FileWork) (after : RowWork) : Type 0 where
+pub record RowsRun (limits : Limits) (bytes run : List ℕ) (n : ℕ) (answer : Step) (new : FileWork) (after : RowWork) : Type 0 where
   pub mid : FileWork
   pub early : ℕ
   pub count : n ≡ early + 1
@@ -166,17 +146,17 @@ pub record RowsRun (limits : Limits) (bytes run : List ℕ) (n : ℕ) (answer : 
   pub head : mid.head ≡ new.head
   pub last : AfterRows limits ((bytes ++ take early run) ++ slice_index run early ∷ []) answer new after
 
-abbrev pub TakesRunOfRows : FileWork → RowWork → List ℕ → ℕ → StripStep → FileWork → RowWork → Type 0
+abbrev pub TakesRunOfRows : FileWork → RowWork → List ℕ → ℕ → Step → FileWork → RowWork → Type 0
 TakesRunOfRows old rows run n answer new after =
     (bytes : List ℕ) → GoesByRow (limits_of old) bytes old rows → RowsRun (limits_of old) bytes run n answer new after
 
 -- AFTER THE SCAN: an item, whatever picture there is, and a complete scan header
-abbrev pub PassesItem : FileWork → ItemStep → StripStep → Type 0
+abbrev pub PassesItem : FileWork → ItemStep → Step → Type 0
 PassesItem w came answer =
     (limits : Limits) (before : Option InScan) (bytes : List ℕ) (whole : Picture) (rows : RowWork) → AfterFileStep before limits bytes came (with_picture w whole) → w.reading.scan ≡ None → IsRowOf rows.tops whole rows.coefs → rows.waiting ≡ []
     → HasBegunAll w.begun.progress → unfinished rows ≡ 0 → AfterRows limits bytes answer w rows
 
-abbrev pub PassesLaterHead : FileWork → StripStep → Type 0
+abbrev pub PassesLaterHead : FileWork → Step → Type 0
 PassesLaterHead w answer =
     (limits : Limits) (bytes : List ℕ) (whole : Picture) (rows : RowWork) → HeadStands limits bytes (with_picture w whole) → AfterRows limits bytes answer w rows
 
@@ -215,14 +195,14 @@ BeginsRows old f head answer new =
     (bytes : List ℕ) → (h : HeadStands (limits_of old) bytes old) → IsHeadOfAll (limits_of old) h.items (contents_held old) f head → AfterScanBegins (limits_of old) bytes answer new
 
 -- AFTER THE SCAN, whichever row was the last
-abbrev pub TakesLaterByte : FileWork → ℕ → StripStep → FileWork → Type 0
+abbrev pub TakesLaterByte : FileWork → ℕ → Step → FileWork → Type 0
 TakesLaterByte old byte answer new =
     (bytes : List ℕ) (rows : RowWork) → GoesByRow (limits_of old) bytes old rows → AfterRows (limits_of old) (bytes ++ byte ∷ []) answer new rows
 
 -- ALL STATES: with a current MCU row, or without one
 
 -- where there was one
-abbrev pub CountsStrip : StripStep → Option RowWork → Option RowWork → Type 0
+abbrev pub CountsStrip : Step → Option RowWork → Option RowWork → Type 0
 CountsStrip answer None after = Unit {0}
 CountsStrip answer (Some rows) None = ⊥
 CountsStrip answer (Some rows) (Some after) = CountsRows answer rows after
@@ -246,39 +226,25 @@ abbrev pub StripGoes : Limits → List ℕ → Option RowWork → FileWork → T
 StripGoes limits bytes None w = StandsForFile limits bytes w
 StripGoes limits bytes (Some rows) w = GoesByRow limits bytes w rows
 
--- the result of bytes of a file that isn't read by MCU rows
-abbrev pub AfterFileBytes : Limits → List ℕ → StripStep → FileWork → Type 0
-AfterFileBytes limits bytes step.More w = StandsForFile limits bytes w
-AfterFileBytes limits bytes step.Row w = ⊥
-AfterFileBytes limits bytes step.Whole w = EndsFile limits bytes w
-AfterFileBytes limits bytes (step.Ended (stop.Fault f)) w = IsStop limits bytes f
-AfterFileBytes limits bytes (step.Ended stop.NoMemory) w = Unit {0}
-
-abbrev pub AfterStrip : Limits → List ℕ → StripStep → Option RowWork → FileWork → Type 0
-AfterStrip limits bytes answer None w = AfterFileBytes limits bytes answer w
+-- for a file that isn't read by MCU rows the result of a byte
+abbrev pub AfterStrip : Limits → List ℕ → Step → Option RowWork → FileWork → Type 0
+AfterStrip limits bytes answer None w = AfterFileByte (Unit {0}) limits bytes answer w
 AfterStrip limits bytes answer (Some rows) w = AfterRows limits bytes answer w rows
 
--- where it stops
-abbrev pub IfStops : StripStep → Type 0 → Type 0
-IfStops step.More holds = Unit {0}
-IfStops step.Row holds = Unit {0}
-IfStops step.Whole holds = Unit {0}
-IfStops (step.Ended e) holds = holds
-
-abbrev pub TakesResumed : StripWork → StripStep → StripWork → Type 0
+abbrev pub TakesResumed : StripWork → Step → StripWork → Type 0
 TakesResumed old answer new =
     (bytes : List ℕ) → StripStands (limits_of old.file) bytes old.rows old.file → AfterStrip (limits_of old.file) bytes answer new.rows new.file
 
-abbrev pub TakesFirstByte : StripWork → ℕ → StripStep → StripWork → Type 0
+abbrev pub TakesFirstByte : StripWork → ℕ → Step → StripWork → Type 0
 TakesFirstByte old byte answer new =
     (bytes : List ℕ) → StandsForFile (limits_of old.file) bytes old.file → AfterStrip (limits_of old.file) (bytes ++ byte ∷ []) answer new.rows new.file
 
-abbrev pub TakesFirstHead : StripWork → StripStep → StripWork → Type 0
+abbrev pub TakesFirstHead : StripWork → Step → StripWork → Type 0
 TakesFirstHead old answer new =
     (bytes : List ℕ) → HeadStands (limits_of old.file) bytes old.file → AfterStrip (limits_of old.file) bytes answer new.rows new.file
 
 -- some bytes: the file's state before the last of those that were taken, and the result of that one
-pub record StripRun (limits : Limits) (bytes run : List ℕ) (n : ℕ) (answer : StripStep) (rows : Option RowWork) (new : FileWork) : Type 0 where
+pub record StripRun (limits : Limits) (bytes run : List ℕ) (n : ℕ) (answer : Step) (rows : Option RowWork) (new : FileWork) : Type 0 where
   pub mid : FileWork
   pub early : ℕ
   pub count : n ≡ early + 1
@@ -288,6 +254,6 @@ pub record StripRun (limits : Limits) (bytes run : List ℕ) (n : ℕ) (answer :
   pub head : IfStops answer (new.head ≡ mid.head)
   pub last : AfterStrip limits ((bytes ++ take early run) ++ slice_index run early ∷ []) answer rows new
 
-abbrev pub TakesStrip : StripWork → List ℕ → ℕ → StripStep → StripWork → Type 0
+abbrev pub TakesStrip : StripWork → List ℕ → ℕ → Step → StripWork → Type 0
 TakesStrip old run n answer new =
     (bytes : List ℕ) → StripGoes (limits_of old.file) bytes old.rows old.file → StripRun (limits_of old.file) bytes run n answer new.rows new.file

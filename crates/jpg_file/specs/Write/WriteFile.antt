@@ -1,6 +1,6 @@
 -- A WRITTEN FILE (T.81, B.2): what it means, when it may be written, and what writing does.
-use Rattle.std.specs.Prelude.{◌≡◌, ℕ, Bool, true, false, if◌then◌else◌, List, [], length, replicate, Result, Ok, Err}
-use Rattle.jpg_spec_write.specs.FileText.{Written, file_text, frame_of_meaning, nothing_written}
+use Rattle.std.specs.Prelude.{◌≡◌, ℕ, Bool, true, if◌then◌else◌, List, [], length, Result, Ok, Err}
+use Rattle.jpg_spec_write.specs.FileText.{file_text, frame_of_meaning}
 use Rattle.jpg_spec.specs.Geometry.{Frame, is_progressive}
 use Rattle.jpg_spec.specs.Meaning.{Meaning, colour_of, real_blocks}
 use Rattle.jpg_spec_write.specs.Script.{Entry}
@@ -13,9 +13,6 @@ use Rattle.jpg_base.specs.declared.stop.WriteFault.{WriteFault}
 use Rattle.jpg_huff.specs.Out.{OnlyWrites}
 use Rattle.jpg_markers.specs.OutHead.{head_meaning}
 use Rattle.jpg_file.specs.Write.Restarts.{restart_of}
-use Rattle.jpg_file.specs.Write.WriteTables.{given_in}
-use Rattle.jpg_file.specs.Write.WriteScan.{scans_bytes}
-use Rattle.jpg_file.specs.Write.WriteProgScan.{prog_scans_bytes}
 use Rattle.jpg_file.specs.declared.write.Plan.{Plan}
 
 -- what the file means: its head, and the real blocks of the view
@@ -25,20 +22,6 @@ file_meaning plan kept blocks = record (head_meaning plan.out kept) { blocks = r
 -- its text
 abbrev pub file_bytes : Plan → List (ℕ × List ℕ) → Blocks → List ℕ
 file_bytes plan kept blocks = file_text (file_meaning plan kept blocks) plan.script (restart_of plan.restart)
-
--- no typical table was written yet, and no interval
-abbrev pub nothing_given : Written
-nothing_given = record { tables = given_in (replicate 4 false); interval = 0 }
-
--- its scans
-abbrev pub seq_scans_due : Plan → Frame → Blocks → List ℕ
-seq_scans_due plan f blocks = scans_bytes plan.out.frame plan.out.colour (restart_of plan.restart) f blocks nothing_given plan.script
-
-abbrev pub prog_scans_due : Plan → Frame → Blocks → List ℕ
-prog_scans_due plan f blocks = prog_scans_bytes plan.out.frame plan.out.colour (restart_of plan.restart) f blocks nothing_written plan.script
-
-abbrev pub scans_due : Plan → Frame → Blocks → List ℕ
-scans_due plan f blocks = if is_progressive plan.out.frame.process then prog_scans_due plan f blocks else seq_scans_due plan f blocks
 
 -- the test of a script for files of this meaning's process
 abbrev pub does_pass : Meaning → List Entry → Bool

@@ -1,28 +1,40 @@
--- A sequential scan of a file that is written (T.81, B.2.3).
-use Rattle.std.specs.Prelude.{◌≡◌, ℕ, ◌+◌, ◌*◌, ◌<◌, ◌≤◌, true, false, List, [], ◌∷◌, ◌++◌, length, map, flat_map, slice_index_or, All}
+-- A scan of a file that is written (T.81, B.2.3).
+use Rattle.std.specs.Prelude.{◌≡◌, ℕ, ◌+◌, ◌*◌, ◌<◌, ◌≤◌, Bool, true, false, if◌then◌else◌, List, [], ◌∷◌, ◌++◌, length, map, flat_map, slice_index_or, All}
 use Rattle.jpg_spec.specs.Lists.{is_distinct}
-use Rattle.jpg_spec_write.specs.FileText.{Restart as Restarts, Written, interval_of, segment_text, slot_for, tables_given, tables_text}
 use Rattle.jpg_spec.specs.FrameHeader.{identifiers}
 use Rattle.jpg_spec.specs.Geometry.{Frame, is_progressive}
-use Rattle.jpg_spec.specs.Scan.{Blocks, TablesInForce}
-use Rattle.jpg_spec_write.specs.ScanText.{scan_data, scan_elements, typical_table}
-use Rattle.jpg_spec_write.specs.Script.{Entry}
-use Rattle.jpg_spec.specs.Segments.{ScanHead}
-use Rattle.jpg_spec_write.specs.WrittenFile.{HasBlocksIn}
+use Rattle.jpg_spec.specs.Scan.{Blocks}
+use Rattle.jpg_spec.specs.ScanContents.{are_parameters}
+use Rattle.jpg_spec.specs.Segments.{HuffmanTable, ScanHead, needs_dc, needs_ac}
 use Rattle.jpg_spec.specs.declared.frame.Colour.{Colour}
 use Rattle.jpg_spec.specs.declared.frame.ScanPart.{ScanPart}
+use Rattle.jpg_spec_write.specs.FileText.{Written, interval_of, nothing_written, segment_text, slot_for, tables_given, tables_needed, tables_text}
+use Rattle.jpg_spec_write.specs.ScanText.{Owned, scan_data, scan_elements, scan_tables}
+use Rattle.jpg_spec_write.specs.Script.{Entry}
+use Rattle.jpg_spec_write.specs.WrittenFile.{HasBlocksIn}
 use Rattle.jpg_base.specs.Cursor.{AreIn}
-use Rattle.jpg_file.specs.Write.WriteTables.{HasSlots, given_in, parts_given, tables_due}
-use Rattle.jpg_file.specs.declared.write.tables.Given.{Given}
+use Rattle.jpg_seq.specs.NewReader.{IsSeqScan}
+use Rattle.jpg_prog_write.specs.Counted.{HasSlots}
+use Rattle.jpg_prog_write.specs.Written.{IsProgScan, tables_in, written_data}
 use Rattle.jpg_file.specs.Write.Restarts.{interval_text, restart_of}
+use Rattle.jpg_file.specs.Write.WriteTables.{GivesTables, IsTablePlace, given_by}
 use Rattle.jpg_file.specs.declared.write.Plan.{Plan}
+use Rattle.jpg_file.specs.declared.write.scan.Given.{Given}
+use Rattle.jpg_file.specs.declared.write.scan.ScanDue.{ScanDue}
 
--- the header of a scan of these components
-abbrev pub seq_part : Colour → ℕ → ScanPart
-seq_part colour i = record { component = i; dc = slot_for colour i; ac = slot_for colour i }
+-- THE HEADER of a scan. A slot that isn't needed is 0.
 
-abbrev pub seq_head : Colour → List ℕ → ScanHead
-seq_head colour components = record { parts = map (seq_part colour) components; ss = 0; se = 63; ah = 0; al = 0 }
+abbrev pub scan_part : Colour → Bool → Bool → ℕ → ScanPart
+scan_part colour has_dc has_ac i = record { component = i; dc = if has_dc then slot_for colour i else 0; ac = if has_ac then slot_for colour i else 0 }
+
+abbrev pub scan_head : Bool → Colour → Entry → ScanHead
+scan_head is_prog colour e = record {
+  parts = map (scan_part colour (needs_dc is_prog e.ss e.ah) (needs_ac is_prog e.ss)) e.components;
+  ss = if is_prog then e.ss else 0;
+  se = if is_prog then e.se else 63;
+  ah = if is_prog then e.ah else 0;
+  al = if is_prog then e.al else 0;
+}
 
 -- a header of few components of the frame, whose numbers fit
 pub record IsHeadOf (f : Frame) (head : ScanHead) : Type 0 where
@@ -44,52 +56,86 @@ head_bytes ids head =
 abbrev pub head_due : List ℕ → ScanHead → ℕ → ℕ → List ℕ
 head_due ids head last n = interval_text last n ++ segment_text 0xda (head_bytes ids head)
 
--- the restart interval of a scan of these components of the file's frame
-abbrev pub seq_interval : Frame → Colour → Restarts → List ℕ → ℕ
-seq_interval file colour restart components = interval_of file (seq_head colour components) restart
+-- A SCAN BY A PLAN, of the blocks of a view
 
--- its tables, its header and its data
-abbrev pub scan_bytes : Frame → Colour → Restarts → Frame → Blocks → Written → List ℕ → List ℕ
-scan_bytes file colour restart f blocks w components =
-    let head = seq_head colour components in
-    let n = seq_interval file colour restart components in
-    tables_text w.tables typical_table (tables_due head.parts)
-    ++ (head_due (identifiers file.components) head w.interval n ++ scan_data typical_table head (scan_elements f head n blocks))
-
--- what was written with it
-abbrev pub written_after : Frame → Colour → Restarts → Written → List ℕ → Written
-written_after file colour restart w components =
-    record { tables = tables_given w.tables typical_table (tables_due (seq_head colour components).parts); interval = seq_interval file colour restart components }
-
--- of all scans of a script
-abbrev pub scans_bytes : Frame → Colour → Restarts → Frame → Blocks → Written → List Entry → List ℕ
-scans_bytes file colour restart f blocks w [] = []
-scans_bytes file colour restart f blocks w (e ∷ script) =
-    scan_bytes file colour restart f blocks w e.components
-    ++ scans_bytes file colour restart f blocks (written_after file colour restart w e.components) script
-
--- BY A PLAN
-
-abbrev pub written_in : Given → ℕ → Written
-written_in given interval = record { tables = given_in given.flags; interval = interval }
-
-abbrev pub scan_due : Plan → Frame → Blocks → Given → ℕ → Entry → List ℕ
-scan_due plan f blocks given interval e = scan_bytes plan.out.frame plan.out.colour (restart_of plan.restart) f blocks (written_in given interval) e.components
-
--- the tables that were written with it, and its interval
-abbrev pub given_after : Plan → Given → Entry → TablesInForce
-given_after plan given e = parts_given given.flags (seq_head plan.out.colour e.components).parts
+abbrev pub head_for : Plan → Entry → ScanHead
+head_for plan e = scan_head (is_progressive plan.out.frame.process) plan.out.colour e
 
 abbrev pub interval_for : Plan → Entry → ℕ
-interval_for plan e = seq_interval plan.out.frame plan.out.colour (restart_of plan.restart) e.components
+interval_for plan e = interval_of plan.out.frame (head_for plan e) (restart_of plan.restart)
 
--- Components of the file's frame and of the view's, which have one scan.
-pub record CanWriteScan (file f : Frame) (blocks : Blocks) (components : List ℕ) : Type 0 where
-  pub seen : AreIn f components
-  pub there : All (λ i. i < length file.components) components
-  pub distinct : is_distinct components ≡ true
-  pub sequential : is_progressive f.process ≡ false
+abbrev pub needed_for : Plan → Entry → List (ℕ × ℕ)
+needed_for plan e = tables_needed (is_progressive plan.out.frame.process) e (head_for plan e)
+
+abbrev pub elements_for : Plan → Frame → Blocks → Entry → List (List Owned)
+elements_for plan f blocks e = scan_elements f (head_for plan e) (interval_for plan e) blocks
+
+abbrev pub tables_for : Plan → Frame → Blocks → Entry → ℕ → ℕ → HuffmanTable
+tables_for plan f blocks e = scan_tables plan.out.frame (head_for plan e) (elements_for plan f blocks e)
+
+-- its tables, its header and its data
+abbrev pub scan_bytes : Plan → Frame → Blocks → Written → Entry → List ℕ
+scan_bytes plan f blocks w e =
+    tables_text w.tables (tables_for plan f blocks e) (needed_for plan e)
+    ++ (head_due (identifiers plan.out.frame.components) (head_for plan e) w.interval (interval_for plan e)
+    ++ scan_data (tables_for plan f blocks e) (head_for plan e) (elements_for plan f blocks e))
+
+-- what was written with it
+abbrev pub written_after : Plan → Frame → Blocks → Written → Entry → Written
+written_after plan f blocks w e = record { tables = tables_given w.tables (tables_for plan f blocks e) (needed_for plan e); interval = interval_for plan e }
+
+-- of all scans of a script
+abbrev pub scans_bytes : Plan → Frame → Blocks → Written → List Entry → List ℕ
+scans_bytes plan f blocks w [] = []
+scans_bytes plan f blocks w (e ∷ script) = scan_bytes plan f blocks w e ++ scans_bytes plan f blocks (written_after plan f blocks w e) script
+
+abbrev pub scans_due : Plan → Frame → Blocks → List ℕ
+scans_due plan f blocks = scans_bytes plan f blocks nothing_written plan.script
+
+-- Components of the file's frame and of the view's, which have one scan, and in a progressive file a band and bits that
+-- are allowed.
+pub record CanWriteScan (plan : Plan) (f : Frame) (blocks : Blocks) (e : Entry) : Type 0 where
+  pub precision : plan.out.frame.precision ≡ 8
+  pub kind : is_progressive f.process ≡ is_progressive plan.out.frame.process
+  pub seen : AreIn f e.components
+  pub there : All (λ i. i < length plan.out.frame.components) e.components
+  pub distinct : is_distinct e.components ≡ true
+  pub parameters : is_progressive f.process ≡ true → are_parameters f (length e.components) (head_for plan e) ≡ true
   pub writable : HasBlocksIn f blocks
 
-abbrev pub CanWriteSeqScans : Plan → Frame → Blocks → Type 0
-CanWriteSeqScans plan f blocks = All (λ e. CanWriteScan plan.out.frame f blocks e.components) plan.script
+abbrev pub CanWriteScans : Plan → Frame → Blocks → Type 0
+CanWriteScans plan f blocks = All (CanWriteScan plan f blocks) plan.script
+
+-- WHAT IT IS WRITTEN WITH
+
+-- what was written so far
+abbrev pub so_far : Given → Written
+so_far given = record { tables = given_by given.tables; interval = given.interval }
+
+-- it is what the entry asks for
+pub record IsDue (plan : Plan) (f : Frame) (blocks : Blocks) (e : Entry) (due : ScanDue) : Type 0 where
+  pub head : due.head ≡ head_for plan e
+  pub interval : due.interval ≡ interval_of plan.out.frame due.head (restart_of plan.restart)
+  pub needed : due.needed.items ≡ tables_needed (is_progressive plan.out.frame.process) e due.head
+  pub tables : GivesTables due.tables (scan_tables plan.out.frame due.head (scan_elements f due.head due.interval blocks))
+
+-- it can be written
+pub record CanWriteDue (file f : Frame) (blocks : Blocks) (due : ScanDue) : Type 0 where
+  pub head : IsHeadOf file due.head
+  pub needed : All IsTablePlace due.needed.items
+  pub tables : GivesTables due.tables (tables_in due.tables)
+  pub sequential : is_progressive file.process ≡ false → IsSeqScan f due.head due.tables
+  pub progressive : is_progressive file.process ≡ true → IsProgScan f due.head
+  pub writable : HasBlocksIn f blocks
+
+-- its data, its text, and what was written with it
+abbrev pub due_data : Frame → Blocks → ScanDue → List ℕ
+due_data f blocks due = written_data f due.head due.tables due.interval blocks
+
+abbrev pub due_text : Frame → Frame → Blocks → Written → ScanDue → List ℕ
+due_text file f blocks w due =
+    tables_text w.tables (tables_in due.tables) due.needed.items
+    ++ (head_due (identifiers file.components) due.head w.interval due.interval ++ due_data f blocks due)
+
+abbrev pub due_written : Written → ScanDue → Written
+due_written w due = record { tables = tables_given w.tables (tables_in due.tables) due.needed.items; interval = due.interval }

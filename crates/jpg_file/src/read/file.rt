@@ -1,16 +1,17 @@
 //! A file, read byte by byte (T.81, B.2.1).
-ghost use Rattle.std.specs.Prelude.{◌≡◌, ◌<◌, ◌+◌, ◌++◌, ℕ, List, [], ◌∷◌, ◌≤◌, length, slice_index, IfErr, Err};
+ghost use Rattle.std.specs.Prelude.{◌≡◌, ◌<◌, ◌+◌, ◌++◌, ℕ, List, [], ◌∷◌, ◌≤◌, length, slice_index};
 ghost use Rattle.jpg_spec.specs.FrameHeader.{AreLimits};
-ghost use Rattle.jpg_base.specs.declared.stop.Stop.TheVariants as stop;
 ghost use Rattle.jpg_coefs.specs.Picture.{Picture};
 ghost use Rattle.jpg_file.specs.Read.File.{HeadStands, NotesHead, PassesFront, RoomMade, StandsForFile, TakesFileByte, TakesFileEnd, TakesFileHead, TakesFileStep, TakesSome, keeping_of, limits_of, with_picture};
 ghost use Rattle.jpg_file.specs.Read.InData.{ArePlain};
 ghost use Rattle.jpg_file.specs.Read.Reading.{IsOpenScan};
+ghost use Rattle.jpg_file.specs.Read.Step.{IfStops, IsNoRow, NotWanting};
 
 use crate::read::first_header::{Head, head_of};
 use crate::read::items::{ItemStep, Items};
 use crate::read::reading::Reading;
 use crate::read::scan_history::ScanHistory;
+use crate::read::step::Step;
 use jpg_base::{Limits, NoMemory, Stop};
 use jpg_coefs::Coefs;
 use jpg_spec::{Copying, Fault, FaultAt};
@@ -46,33 +47,35 @@ impl FileWork {
         }
     }
 
-    /// Takes a further byte, and answers whether the file is complete with it, or the fault that the byte reveals.
-    pub fn byte(&mut self, byte: u8) -> Result<bool, Stop>
+    /// Takes a further byte. It answers whether the file goes on or is complete with it, or the fault that it reveals.
+    pub fn byte(&mut self, byte: u8) -> Step
         requires stands { (bytes : List ℕ) × StandsForFile (limits_of self.old) bytes self.old }
         requires limits { AreLimits (limits_of self.old) }
         requires room { self.old.reading.taken < (limits_of self.old).input }
         ensures after { TakesFileByte self.old byte result self.new }
-        ensures head { IfErr result (λ stop. self.new.head ≡ self.old.head) }
+        ensures head { IfStops result (self.new.head ≡ self.old.head) }
         ensures keeping { keeping_of self.new ≡ keeping_of self.old }
+        ensures no { IsNoRow result }
     {
         match self.step(byte) {
-            ItemStep::More => Ok(false),
+            ItemStep::More => Step::More,
             ItemStep::Head => self.take_head(),
             ItemStep::Eoi => self.take_end(),
-            ItemStep::Fault(fault) => Err(Stop::Fault(fault)),
-            ItemStep::NoMemory => Err(Stop::NoMemory),
+            ItemStep::Fault(fault) => Step::Ended(Stop::Fault(fault)),
+            ItemStep::NoMemory => Step::Ended(Stop::NoMemory),
         }
     }
 
     /// Takes some of these bytes, perhaps not all at once, and answers how many these were and the result of the last
     /// one.
-    pub fn some(&mut self, bytes: &[u8]) -> (usize, Result<bool, Stop>)
+    pub fn some(&mut self, bytes: &[u8]) -> (usize, Step)
         requires stands { (bytes : List ℕ) × StandsForFile (limits_of self.old) bytes self.old }
         requires limits { AreLimits (limits_of self.old) }
         requires room { self.old.reading.taken < (limits_of self.old).input }
         requires some { 1 ≤ length bytes.now }
         ensures after { TakesSome self.old bytes.now result.0 result.1 self.new }
         ensures keeping { keeping_of self.new ≡ keeping_of self.old }
+        ensures no { IsNoRow result.1 }
     {
         if self.reading.is_open() {
             let most = self.reading.items.limits.input - self.reading.taken;
@@ -105,7 +108,7 @@ impl FileWork {
     }
 
     // Takes plain bytes inside the data of a scan.
-    fn run(&mut self, run: &[u8]) -> (usize, Result<bool, Stop>)
+    fn run(&mut self, run: &[u8]) -> (usize, Step)
         requires stands { (bytes : List ℕ) × StandsForFile (limits_of self.old) bytes self.old }
         requires limits { AreLimits (limits_of self.old) }
         requires opened { IsOpenScan self.old.reading }
@@ -115,14 +118,12 @@ impl FileWork {
         requires plain { ArePlain run.now }
         ensures after { TakesSome self.old run.now result.0 result.1 self.new }
         ensures keeping { keeping_of self.new ≡ keeping_of self.old }
+        ensures no { IsNoRow result.1 }
     {
-        let (n, step) = self.reading.scan_run(run);
-        match step {
-            ItemStep::More => (n, Ok(false)),
-            ItemStep::Fault(fault) => (n, Err(Stop::Fault(fault))),
-            ItemStep::Head => unreachable!(),
-            ItemStep::Eoi => unreachable!(),
-            ItemStep::NoMemory => unreachable!(),
+        let (n, answer) = self.reading.scan_run(run);
+        match answer {
+            Ok(()) => (n, Step::More),
+            Err(fault) => (n, Step::Ended(Stop::Fault(fault))),
         }
     }
 
@@ -145,24 +146,22 @@ impl FileWork {
     /// Takes a complete scan header.
     #[cold]
     #[inline(never)]
-    pub fn take_head(&mut self) -> Result<bool, Stop>
+    pub fn take_head(&mut self) -> Step
         requires stands { (bytes : List ℕ) × HeadStands (limits_of self.old) bytes self.old }
         ensures after { TakesFileHead self.old result self.new }
-        ensures head { IfErr result (λ stop. self.new.head ≡ self.old.head) }
+        ensures head { IfStops result (self.new.head ≡ self.old.head) }
         ensures keeping { keeping_of self.new ≡ keeping_of self.old }
+        ensures no { IsNoRow result }
     {
         if self.make_room().is_err() {
-            return Err(Stop::NoMemory);
+            return Step::Ended(Stop::NoMemory);
         }
         match self.reading.take_head(&mut self.begun) {
-            ItemStep::More => {
+            Ok(()) => {
                 self.note_head();
-                Ok(false)
+                Step::More
             }
-            ItemStep::Fault(fault) => Err(Stop::Fault(fault)),
-            ItemStep::Head => unreachable!(),
-            ItemStep::Eoi => unreachable!(),
-            ItemStep::NoMemory => unreachable!(),
+            Err(fault) => Step::Ended(Stop::Fault(fault)),
         }
     }
 
@@ -194,15 +193,16 @@ impl FileWork {
     }
 
     /// Takes EOI, whatever picture there is: the file is complete if each component was in a scan.
-    pub fn take_end(&self) -> Result<bool, Stop>
+    pub fn take_end(&self) -> Step
         ensures end { TakesFileEnd self.now result }
         ensures any { (whole : Picture) → TakesFileEnd (with_picture self.now whole) result }
-        ensures memory { result ≡ Err stop.NoMemory → ⊥ }
+        ensures memory { NotWanting result }
+        ensures no { IsNoRow result }
     {
         if self.begun.is_complete() {
-            return Ok(true);
+            return Step::Whole;
         }
-        Err(Stop::Fault(FaultAt {
+        Step::Ended(Stop::Fault(FaultAt {
             fault: Fault::MissingComponent,
             at: self.reading.taken,
         }))

@@ -1,5 +1,5 @@
 //! The machine that reads a scan, of whatever kind it is (T.81, F.2.2, G.2).
-ghost use Rattle.std.specs.Prelude.{◌≡◌, ◌<◌, ◌≤◌, ◌*◌, Bool, List, length, drop};
+ghost use Rattle.std.specs.Prelude.{◌<◌, ◌≤◌, ◌*◌, Bool, List, [], length, drop};
 ghost use Rattle.jpg_spec.specs.Bits.{bits_of_bytes};
 ghost use Rattle.jpg_coefs.specs.Machine.{Interval};
 ghost use Rattle.jpg_file.specs.Read.Data.{GivesRun};
@@ -7,7 +7,7 @@ ghost use Rattle.jpg_file.specs.Read.Machine.{any_scan};
 ghost use Rattle.jpg_file.specs.Read.NewScan.{IsBareScan, IsOfHeader, IsScanHeader};
 ghost use Rattle.jpg_file.specs.Read.RowMachine.{CanReadMcuRow, IsInsideMcuRow, PassesRow, TakesRowBits};
 
-use crate::read::data::{DataStep, take_bytes, take_run};
+use crate::read::data::{take_bytes, take_run};
 use jpg_base::{BitStore, Frame, ScanHead};
 use jpg_coefs::{Coefs, ScanMachine, Taken, UnitFault, UnitStep};
 use jpg_huff::TableSet;
@@ -47,12 +47,12 @@ impl ScanReader {
     /// Takes the bits of some data bytes, and answers how many bytes were taken: up to the one whose bits end the
     /// interval or reveal a fault. Bits after the interval's last one are dropped.
     #[inline]
-    pub fn run(&mut self, coefs: &mut Coefs, bytes: &[u8]) -> (usize, DataStep)
+    pub fn run(&mut self, coefs: &mut Coefs, bytes: &[u8]) -> (usize, Taken)
         requires open { (i : Interval) × (bits : List Bool) × any_scan.stands self.old i bits coefs.old }
         requires left { 1 ≤ any_scan.left self.old }
         requires some { 1 ≤ length bytes.now }
         requires few { length bytes.now < 4294967296 }
-        ensures { GivesRun _ any_scan self.old coefs.old bytes.now result.0 result.1 self.new coefs.new }
+        ensures { GivesRun _ any_scan self.old coefs.old bytes.now result.0 result.1 [] self.new coefs.new }
     {
         match self {
             ScanReader::Sequential(machine) => take_bytes(machine, coefs, bytes),

@@ -1,39 +1,49 @@
-//! A file, fed in pieces of any length (T.81, B.2.1).
-ghost use Rattle.std.specs.Prelude.{◌≡◌, ◌<◌, ◌+◌, ◌-◌, length, [], ℕ, List, Some, None, true, false, Ok, Err};
+//! A file, fed in pieces of any length; read into a picture, or MCU row by MCU row (T.81, A.2.3, B.2.1).
+ghost use Rattle.std.specs.Prelude.{◌≡◌, ◌+◌, ◌-◌, length, [], ℕ, List, Some, None, true, false, Err, IfOk};
 ghost use Rattle.jpg_spec.specs.FrameHeader.{AreLimits};
-ghost use Rattle.jpg_spec.specs.declared.frame.Copying.TheVariants.{All};
+ghost use Rattle.jpg_spec.specs.InForce.{frame_of};
+ghost use Rattle.jpg_spec.specs.declared.frame.Copying.TheVariants.{All, None as NoMarkers};
 ghost use Rattle.jpg_base.specs.declared.stop.Stop.{Stop as Stopped};
-ghost use Rattle.jpg_file.specs.Read.File.{StandsForFile, keeping_of};
+ghost use Rattle.jpg_file.specs.Read.File.{keeping_of};
 ghost use Rattle.jpg_file.specs.Read.PictureRead.{TakesEarly, TakesPicture};
-ghost use Rattle.jpg_file.specs.Read.ReadFile.{AfterEnd, EndsDone, EndsWith, FeedsFile, HasRead, ReadsPiece, TellsBegun, head_seen};
+ghost use Rattle.jpg_file.specs.Read.ReadFile.{AfterEnd, EndsDone, EndsWith, FeedsFile, HasRead, TellsBegun, head_seen};
+ghost use Rattle.jpg_file.specs.Read.ReadRows.{IsPlain, EndsDoneRow, EndsRow, FeedsRow, HasBegunRows, HasReadPlainly, picture_read};
+ghost use Rattle.jpg_file.specs.Read.RowsKnown.{TellsStrip};
 ghost use Rattle.jpg_file.specs.declared.read.ends.End.TheVariants as ends;
 
 use crate::read::ends::End;
 use crate::read::file::FileWork;
 use crate::read::picture::Picture;
 use crate::read::picture_taken::picture_of;
-use jpg_base::{Fed, Frame, Limits, Stop};
+use crate::read::row_pieces::{FedRow, read_rows};
+use crate::read::rows::RowWork;
+use crate::read::strip_head::StripHead;
+use crate::read::strip_work::StripWork;
+use jpg_base::{Fed, Frame, Limits, NoMemory, Stop};
+use jpg_coefs::Coefs;
 use jpg_spec::{Colour, Copying};
 use std::alloc::Global;
 use std::marker::Model;
 
-/// Reads a file into a picture.
+/// Reads a file into a picture (`feed`); or (`feed_row`) MCU row by MCU row, if its first scan has all components of a
+/// sequential frame, and otherwise into a picture too.
 #[derive(Drop)]
 pub struct Reader {
     limits: Limits,
-    file: FileWork,
+    work: StripWork,
     done: bool,
     stop: Option<Stop>,
 }
 
 impl Model for Reader {
-    ghost use Rattle.jpg_file.specs.Read.ReadFile.{IsReading, ReaderState};
+    ghost use Rattle.jpg_file.specs.Read.ReadFile.{ReaderState};
+    ghost use Rattle.jpg_file.specs.Read.ReadRows.{IsReading};
 
     ghost Value = { ReaderState };
 
-    ghost view = { λ r. record { limits = r.limits; file = r.file; done = r.done; stop = r.stop } };
+    ghost view = { λ r. record { limits = r.limits; file = r.work.file; by_row = r.work.by_row; rows = r.work.rows; strip = r.work.strip; done = r.done; stop = r.stop } };
 
-    ghost invariant = { λ r. IsReading (record { limits = r.limits; file = r.file; done = r.done; stop = r.stop }) };
+    ghost invariant = { λ r. IsReading (record { limits = r.limits; file = r.work.file; by_row = r.work.by_row; rows = r.work.rows; strip = r.work.strip; done = r.done; stop = r.stop }) };
 }
 
 impl Reader {
@@ -43,6 +53,7 @@ impl Reader {
         ensures read { HasRead [] result }
         ensures limits { result.limits ≡ limits }
         ensures keeping { keeping_of result.file ≡ All }
+        ensures plain { IsPlain result }
     {
         Reader::for_copying(alloc, limits, Copying::All)
     }
@@ -54,35 +65,98 @@ impl Reader {
         ensures read { HasRead [] result }
         ensures limits { result.limits ≡ limits }
         ensures keeping { keeping_of result.file ≡ copying }
+        ensures plain { IsPlain result }
     {
         Reader {
             limits,
-            file: FileWork::new(alloc, limits, copying),
+            work: StripWork {
+                file: FileWork::new(alloc, limits, copying),
+                by_row: false,
+                rows: None,
+                strip: None,
+            },
             done: false,
             stop: None,
         }
     }
 
+    /// A reader for `feed_row` in place of `feed`, which keeps no markers but JFIF and Adobe segments.
+    pub fn strips(alloc: Global, limits: Limits) -> Result<Reader, NoMemory>
+        requires { AreLimits limits }
+        ensures read { IfOk result (λ r. HasReadPlainly [] r) }
+        ensures limits { IfOk result (λ r. r.limits ≡ limits) }
+        ensures keeping { IfOk result (λ r. keeping_of r.file ≡ NoMarkers) }
+        ensures by_row { IfOk result (λ r. r.by_row ≡ true) }
+    {
+        Ok(Reader {
+            limits,
+            work: StripWork {
+                file: FileWork::new(alloc, limits, Copying::None),
+                by_row: true,
+                rows: None,
+                strip: None,
+            },
+            done: false,
+            stop: None,
+        })
+    }
+
     /// Takes a further piece of the file, of any length. It answers Done if the file is complete then, and how many
     /// bytes of the piece were used, its EOI among them. Otherwise it answers the first fault of the bytes so far, at
     /// its place, InputTooLong if the limit was reached, or NoMemory. Otherwise it answers More. After a stop it
-    /// answers the same stop. It may not be called once the file is done (`is_done`).
+    /// answers the same stop. It may not be called once the file is done (`is_done`), nor where MCU rows are to be read.
     pub fn feed(&mut self, piece: &[u8]) -> Result<Fed, Stop>
-        requires { self.old.done ≡ false }
+        requires undone { self.old.done ≡ false }
+        requires plain { IsPlain self.old }
         ensures answered { FeedsFile self.old piece.now result self.new }
         ensures done { EndsDone result self.new }
         ensures stopped { (stop : Stopped) → result ≡ Err stop → self.new.stop ≡ Some stop }
         ensures again { (stop : Stopped) → self.old.stop ≡ Some stop → (result ≡ Err stop) × (self.new ≡ self.old) }
         ensures limits { self.new.limits ≡ self.old.limits }
         ensures keeping { keeping_of self.new.file ≡ keeping_of self.old.file }
+        ensures plain { IsPlain self.new }
     {
         if let Some(stop) = self.stop {
             return Err(stop);
         }
-        let answer = read_piece(&mut self.file, self.limits, piece);
+        match read_rows(&mut self.work, self.limits, piece) {
+            Ok(FedRow::More) => Ok(Fed::More),
+            Ok(FedRow::Row { .. }) => unreachable!(),
+            Ok(FedRow::Done { used }) => {
+                self.done = true;
+                Ok(Fed::Done { used })
+            }
+            Err(stop) => {
+                self.stop = Some(stop);
+                Err(stop)
+            }
+        }
+    }
+
+    /// Takes a further piece of the file, up to the byte with the last bit of the next MCU row. It answers Row if one
+    /// more is complete; the bits after its last one wait for the next call, which judges them first, and whose piece
+    /// may be empty. It answers Done if the file is complete, the first fault of the bytes so far, at its place,
+    /// NoMemory only before rows are read, and otherwise More. After a stop it answers the same stop. It may not be
+    /// called once the file is complete, and only of a reader of `strips`.
+    pub fn feed_row(&mut self, piece: &[u8]) -> Result<FedRow, Stop>
+        requires undone { self.old.done ≡ false }
+        requires by_row { self.old.by_row ≡ true }
+        ensures answered { FeedsRow self.old piece.now result self.new }
+        ensures done { EndsDoneRow result self.new }
+        ensures stopped { (stop : Stopped) → result ≡ Err stop → self.new.stop ≡ Some stop }
+        ensures again { (stop : Stopped) → self.old.stop ≡ Some stop → (result ≡ Err stop) × (self.new ≡ self.old) }
+        ensures limits { self.new.limits ≡ self.old.limits }
+        ensures keeping { keeping_of self.new.file ≡ keeping_of self.old.file }
+        ensures by_row { self.new.by_row ≡ true }
+    {
+        if let Some(stop) = self.stop {
+            return Err(stop);
+        }
+        let answer = read_rows(&mut self.work, self.limits, piece);
         match answer {
-            Ok(Fed::More) => {}
-            Ok(Fed::Done { .. }) => self.done = true,
+            Ok(FedRow::More) => {}
+            Ok(FedRow::Row { .. }) => {}
+            Ok(FedRow::Done { .. }) => self.done = true,
             Err(stop) => self.stop = Some(stop),
         }
         answer
@@ -93,7 +167,9 @@ impl Reader {
         ensures is { result ≡ self.now.limits.input - self.now.file.reading.taken }
         ensures left { (bytes : List ℕ) → HasRead bytes self.now → result + length bytes ≡ self.now.limits.input }
     {
-        self.limits.input.saturating_sub(self.file.reading.taken)
+        self.limits
+            .input
+            .saturating_sub(self.work.file.reading.taken)
     }
 
     /// Whether the file is complete or ended early, so that neither `feed` nor `end` may be called any more.
@@ -107,17 +183,20 @@ impl Reader {
     pub fn begun(&self) -> bool
         ensures { (bytes : List ℕ) → HasRead bytes self.now → TellsBegun self.now.limits bytes result }
     {
-        self.file.begun.is_complete()
+        self.work.file.begun.is_complete()
     }
 
-    /// The file ends here. It answers Early with the number of bytes taken if each component has begun, and its picture
-    /// may be taken then. Otherwise it answers Truncated at the number of bytes taken, or the earlier stop. It may not
-    /// be called once the file is done (`is_done`).
+    /// The file ends here. It answers Early with the number of bytes taken if each component has begun: its picture may
+    /// be taken then, or `row_coefs` lends the current MCU row, with zeros where units are missing. Otherwise it
+    /// answers Truncated at the number of bytes taken, or the earlier stop. It may not be called once the file is done
+    /// (`is_done`), nor if `feed_row` answered Row last.
     pub fn end(&mut self) -> End
         requires { self.old.done ≡ false }
         ensures answered { (bytes : List ℕ) → HasRead bytes self.old → AfterEnd bytes result self.new }
+        ensures rows_answered { EndsRow self.old result self.new }
         ensures done { EndsWith result self.new }
         ensures file { self.new.file ≡ self.old.file }
+        ensures rows { (self.new.rows ≡ self.old.rows) × (self.new.strip ≡ self.old.strip) × (self.new.by_row ≡ self.old.by_row) }
         ensures again { (stop : Stopped) → self.old.stop ≡ Some stop → (result ≡ ends.Stop stop) × (self.new ≡ self.old) }
         ensures limits { self.new.limits ≡ self.old.limits }
         ensures keeping { keeping_of self.new.file ≡ keeping_of self.old.file }
@@ -125,8 +204,8 @@ impl Reader {
         if let Some(stop) = self.stop {
             return End::Stop(stop);
         }
-        let taken = self.file.reading.taken;
-        if self.file.begun.is_complete() {
+        let taken = self.work.file.reading.taken;
+        if self.work.file.begun.is_complete() {
             self.done = true;
             return End::Early(taken);
         }
@@ -140,43 +219,46 @@ impl Reader {
     pub fn head(&self) -> Option<(Frame, Colour, u64)>
         ensures { result ≡ head_seen self.now }
     {
-        match &self.file.head {
+        match &self.work.file.head {
             Some(head) => Some((head.frame.copy(), head.colour, head.at)),
             None => None,
         }
     }
 
+    /// The picture except for its blocks, once its first scan began and is read MCU row by MCU row.
+    pub fn strip(&self) -> Option<StripHead>
+        ensures some { (bytes : List ℕ) (b : HasBegunRows bytes self.now) → TellsStrip result (frame_of self.now.limits b.before) (picture_read bytes self.now b) }
+        ensures none { self.now.rows ≡ None → result ≡ None }
+    {
+        if self.work.rows.is_none() {
+            return None;
+        }
+        match &self.work.strip {
+            Some(strip) => Some(strip.copy()),
+            None => None,
+        }
+    }
+
+    /// The blocks of the complete MCU row, after `feed_row` answered Row. If `end` answered Early and MCU rows are
+    /// missing, those of the current row.
+    pub fn row_coefs(&self) -> &Coefs
+        requires { (rows : RowWork) × (self.now.rows ≡ Some rows) }
+        ensures { (rows : RowWork) → self.now.rows ≡ Some rows → result.now ≡ rows.coefs }
+    {
+        match &self.work.rows {
+            Some(rows) => &rows.coefs,
+            None => unreachable!(),
+        }
+    }
+
     /// The picture of the complete file, or of one that ended early, with the markers that were kept. It may be called
-    /// only after `feed` answered Done or `end` answered Early (`is_done`).
+    /// only after `feed` or `feed_row` answered Done or `end` answered Early (`is_done`), and if no MCU rows are read.
     pub fn take(self) -> Picture
-        requires { self.done ≡ true }
+        requires done { self.done ≡ true }
+        requires plain { self.rows ≡ None }
         ensures meaning { TakesPicture self result }
         ensures early { TakesEarly self result }
     {
-        picture_of(self.file)
+        picture_of(self.work.file)
     }
-}
-
-// Reads the bytes of a piece up to the one that completes the file.
-fn read_piece(file: &mut FileWork, limits: Limits, piece: &[u8]) -> Result<Fed, Stop>
-    requires limits { AreLimits limits }
-    requires stands { (bytes : List ℕ) × StandsForFile limits bytes file.old }
-    ensures after { ReadsPiece limits file.old piece.now result file.new }
-    ensures keeping { keeping_of file.new ≡ keeping_of file.old }
-{
-    let mut done = 0usize;
-    while done < piece.len() {
-        if file.reading.taken >= limits.input {
-            return Err(Stop::too_long(limits.input));
-        }
-        let (n, answer) = file.some(&piece[done..]);
-        done += n;
-        if answer? {
-            return Ok(Fed::Done { used: done as u64 });
-        }
-    }
-    if file.reading.taken >= limits.input {
-        return Err(Stop::too_long(limits.input));
-    }
-    Ok(Fed::More)
 }

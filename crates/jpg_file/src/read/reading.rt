@@ -1,17 +1,16 @@
 //! A file that is being read: between items, or inside the data of a scan (T.81, B.2.1).
-ghost use Rattle.std.specs.Prelude.{◌≡◌, ◌<◌, ◌≤◌, ◌+◌, ◌++◌, ℕ, List, [], ◌∷◌, length, true};
+ghost use Rattle.std.specs.Prelude.{◌≡◌, ◌<◌, ◌≤◌, ◌+◌, ℕ, List, [], length, true, Ok};
 ghost use Rattle.jpg_spec.specs.FrameHeader.{AreLimits};
 ghost use Rattle.jpg_spec.specs.Scan.{Blocks};
 ghost use Rattle.jpg_spec.specs.Items.{Item};
-ghost use Rattle.jpg_spec.specs.declared.frame.Limits.{Limits as Bounded};
 ghost use Rattle.jpg_coefs.specs.Picture.{Picture};
 ghost use Rattle.jpg_file.specs.Read.ScanStart.{HasSizes};
-ghost use Rattle.jpg_file.specs.Read.Reading.{CanBeginHead, IsPlainStep, HeadWhole, IsOpenScan, IsSparing, Itemising, LeavesAll, Scanning, TakesByteOfItems, TakesByteOfScan, TakesHead, TakesRunOfScan, has_open, with_coefs};
+ghost use Rattle.jpg_file.specs.Read.Reading.{CanBeginHead, HeadWhole, IsOpenScan, IsSparing, Itemising, LeavesAll, Scanning, TakesByteOfItems, TakesByteOfScan, TakesHead, TakesRunOfScan, has_open, with_coefs};
 ghost use Rattle.jpg_file.specs.Read.InData.{ArePlain};
 ghost use Rattle.jpg_file.specs.Read.Going.{CanGoOn, FillsScan, GoesOn, has_waiting};
 
 use crate::read::items::{ItemStep, Items};
-use crate::read::scan::{InScan, ScanStep};
+use crate::read::scan::InScan;
 use crate::read::scan_header::judge_head;
 use crate::read::scan_history::ScanHistory;
 use crate::read::scan_start::begin_data;
@@ -30,30 +29,30 @@ pub struct Reading {
 
 impl Reading {
     /// Takes a complete scan header: its scan begins, or it has a fault.
-    pub fn take_head(&mut self, begun: &mut ScanHistory) -> ItemStep
+    pub fn take_head(&mut self, begun: &mut ScanHistory) -> Result<(), FaultAt>
         requires stands { (bytes : List ℕ) × (items : List Item) × (blocks : Blocks) × HeadWhole self.old.items.limits bytes items blocks self.old begun.old }
         ensures after { TakesHead self.old begun.old result self.new begun.new }
         ensures keeping { self.new.items.held.keeping ≡ self.old.items.held.keeping }
     {
         let Some(coefs) = &self.coefs else {
-            return ItemStep::NoMemory;
+            unreachable!();
         };
         coefs.checked();
         self.begin_head(begun)
     }
 
     /// The same whatever picture there is.
-    pub fn begin_head(&mut self, begun: &mut ScanHistory) -> ItemStep
+    pub fn begin_head(&mut self, begun: &mut ScanHistory) -> Result<(), FaultAt>
         requires stands { CanBeginHead self.old begun.old }
         ensures after { (now : Picture) → HasSizes now → TakesHead (with_coefs self.old now) begun.old result (with_coefs self.new now) begun.new }
         ensures coefs { self.new.coefs ≡ self.old.coefs }
         ensures left { LeavesAll self.old begun.old result self.new }
-        ensures scanned { result ≡ ItemStep.More → self.new.items.held.scanned ≡ true }
+        ensures scanned { result ≡ Ok tt → self.new.items.held.scanned ≡ true }
         ensures keeping { self.new.items.held.keeping ≡ self.old.items.held.keeping }
     {
         let at = self.taken;
         let Some(held) = &self.items.held.frame else {
-            return ItemStep::NoMemory;
+            unreachable!();
         };
         let frame = held.copy();
         match judge_head(
@@ -62,7 +61,7 @@ impl Reading {
             &self.items.held,
             begun,
         ) {
-            Err(fault) => ItemStep::Fault(FaultAt { fault, at }),
+            Err(fault) => Err(FaultAt { fault, at }),
             Ok(head) => {
                 frame.checked();
                 let tables = self.items.held.tables.tables();
@@ -77,7 +76,7 @@ impl Reading {
                 begun.note_quants(parts, &frame, &self.items.held.quants);
                 begun.note(&frame, &head);
                 self.items.head_done();
-                ItemStep::More
+                Ok(())
             }
         }
     }
@@ -114,12 +113,12 @@ impl Reading {
         let at = self.taken + 1;
         self.taken = at;
         match scan.byte(coefs, byte) {
-            ScanStep::More => ItemStep::More,
-            ScanStep::Fault(fault) => ItemStep::Fault(FaultAt { fault, at }),
-            ScanStep::Marker(code) => {
+            Ok(false) => ItemStep::More,
+            Ok(true) => {
                 self.scan = None;
-                self.items.marker(code, at)
+                self.items.marker(byte, at)
             }
+            Err(fault) => ItemStep::Fault(FaultAt { fault, at }),
         }
     }
 
@@ -136,7 +135,7 @@ impl Reading {
 
     /// Takes plain bytes inside the data of a scan, and answers how many were taken: up to the one that ends an
     /// interval or reveals a fault.
-    pub fn scan_run(&mut self, run: &[u8]) -> (usize, ItemStep)
+    pub fn scan_run(&mut self, run: &[u8]) -> (usize, Result<(), FaultAt>)
         requires stands { (items : List Item) × (contents : List ℕ) × (bytes : List ℕ) × Scanning self.old.items.limits items contents bytes self.old }
         requires room { self.old.taken + length run.now ≤ self.old.items.limits.input }
         requires limits { AreLimits self.old.items.limits }
@@ -145,7 +144,6 @@ impl Reading {
         requires few { length run.now < 4294967296 }
         requires plain { ArePlain run.now }
         ensures after { TakesRunOfScan self.old run.now result.0 result.1 self.new }
-        ensures goes { IsPlainStep result.1 }
         ensures keeping { self.new.items.held.keeping ≡ self.old.items.held.keeping }
     {
         let Some(coefs) = &mut self.coefs else {
@@ -158,9 +156,8 @@ impl Reading {
         let at = self.taken + n as u64;
         self.taken = at;
         match step {
-            ScanStep::More => (n, ItemStep::More),
-            ScanStep::Fault(fault) => (n, ItemStep::Fault(FaultAt { fault, at })),
-            ScanStep::Marker(_) => unreachable!(),
+            Ok(()) => (n, Ok(())),
+            Err(fault) => (n, Err(FaultAt { fault, at })),
         }
     }
 }

@@ -1,16 +1,16 @@
 //! The current MCU row of a scan of all components (T.81, A.2.3).
-ghost use Rattle.std.specs.Prelude.{◌≡◌, ◌<◌, ◌≤◌, ◌+◌, ◌-◌, ◌==◌, IfOk, ℕ, List, [], length, drop};
+ghost use Rattle.std.specs.Prelude.{◌≡◌, ◌<◌, ◌≤◌, ◌+◌, IfOk, ℕ, List, [], length, drop};
 ghost use Rattle.jpg_spec.specs.Bits.{bits_of};
 ghost use Rattle.jpg_spec.specs.Geometry.{Frame as Numbers, units};
 ghost use Rattle.jpg_spec.specs.Segments.{head_components};
 ghost use Rattle.jpg_base.specs.Cursor.{AreIn, scan_mcus_down};
 ghost use Rattle.jpg_seq.specs.Rows.{IsRowOf, top_of};
-ghost use Rattle.jpg_file.specs.Read.RowCounts.{CountsRow, counted};
+ghost use Rattle.jpg_file.specs.Read.Data.{waits_of};
+ghost use Rattle.jpg_file.specs.Read.RowCounts.{CountsRow};
 ghost use Rattle.jpg_file.specs.Read.RowData.{CanTakeData, IsInsideRow, TakesRowData, TakesRowRun};
 ghost use Rattle.jpg_file.specs.Read.RowStops.{StopsRowData, StopsRowRun};
 ghost use Rattle.jpg_file.specs.Read.RowTurns.{IsRowIn, KeepsRowIn, TurnsRow, block_rows_of, unfinished, zero_picture};
 
-use crate::read::data::DataStep;
 use crate::read::machine::ScanReader;
 use jpg_base::{BitStore, Frame, NoMemory, ScanHead};
 use jpg_coefs::{Coefs, ScanMachine, Taken};
@@ -28,13 +28,6 @@ pub struct RowWork {
     pub left: u64,
     pub later: u32,
     pub waiting: BitStore,
-}
-
-/// The result of data, and whether the MCU row is complete with them.
-#[derive(Clone, Copy, Debug, PartialEq, Eq)]
-pub struct RowStep {
-    pub step: DataStep,
-    pub row: bool,
 }
 
 // The rows of blocks of component `i` in an MCU row: one if it is the only component, none if there is no such
@@ -119,85 +112,68 @@ impl RowWork {
         self.later -= 1;
     }
 
-    // Counts complete units.
-    fn count(&mut self, units: u64, step: DataStep) -> RowStep
-        requires { units ≤ self.old.left }
-        ensures answer { result ≡ record { step = step; row = (self.old.left - units) == 0 } }
-        ensures counted { self.new ≡ counted self.old units }
-    {
-        self.left -= units;
-        RowStep {
-            step,
-            row: self.left == 0,
-        }
-    }
-
     /// Gives the machine bits up to the last one of the MCU row. Those after it wait.
-    pub fn take(&mut self, machine: &mut ScanReader, store: BitStore) -> RowStep
+    pub fn take(&mut self, machine: &mut ScanReader, store: BitStore) -> Taken
         requires open { CanTakeData self.old machine.old }
         requires inside { IsInsideRow self.old machine.old }
         requires some { 1 ≤ self.old.left }
-        requires none { self.old.waiting ≡ [] }
-        ensures takes { TakesRowData self.old machine.old store result.step self.new machine.new }
-        ensures stops { StopsRowData self.old machine.old store result.step }
+        ensures takes { TakesRowData self.old machine.old store result self.new machine.new }
+        ensures stops { StopsRowData self.old machine.old store result }
         ensures counts { CountsRow self.old machine.old result self.new machine.new }
     {
         let mut store = store;
         let before = machine.units_left();
         let taken = machine.bits_in_row(&mut store, &mut self.coefs, &self.tops, self.left);
-        let units = before - machine.units_left();
-        match taken {
-            Taken::More => self.count(units, DataStep::More),
-            Taken::Units => {
-                self.waiting = store;
-                self.count(units, DataStep::More)
-            }
-            Taken::IntervalDone => self.count(units, DataStep::Whole),
-            Taken::Fault(fault) => self.count(units, DataStep::Fault(fault)),
-        }
+        self.left -= before - machine.units_left();
+        self.waiting = waiting_of(taken, store);
+        taken
     }
 
     /// Gives it the bits of plain bytes in the same way, and answers how many bytes were given.
-    pub fn take_bytes(&mut self, machine: &mut ScanReader, bytes: &[u8]) -> (usize, RowStep)
+    pub fn take_bytes(&mut self, machine: &mut ScanReader, bytes: &[u8]) -> (usize, Taken)
         requires open { CanTakeData self.old machine.old }
         requires inside { IsInsideRow self.old machine.old }
         requires left { 1 ≤ self.old.left }
-        requires none { self.old.waiting ≡ [] }
         requires some { 1 ≤ length bytes.now }
         requires few { length bytes.now < 4294967296 }
-        ensures takes { TakesRowRun self.old machine.old bytes.now result.0 result.1.step self.new machine.new }
-        ensures stops { StopsRowRun self.old machine.old bytes.now result.0 result.1.step }
+        ensures takes { TakesRowRun self.old machine.old bytes.now result.0 result.1 self.new machine.new }
+        ensures stops { StopsRowRun self.old machine.old bytes.now result.0 result.1 }
         ensures counts { CountsRow self.old machine.old result.1 self.new machine.new }
     {
         let before = machine.units_left();
         let got = machine.bytes_in_row(bytes, &mut self.coefs, &self.tops, self.left);
-        let units = before - machine.units_left();
+        self.left -= before - machine.units_left();
         let given = got.bits.div_ceil(8) as usize;
-        match got.taken {
-            Taken::More => (given, self.count(units, DataStep::More)),
-            Taken::Units => {
-                self.waiting = last_bits(bytes[given - 1], got.bits - 8 * (given as u64 - 1));
-                (given, self.count(units, DataStep::More))
-            }
-            Taken::IntervalDone => (given, self.count(units, DataStep::Whole)),
-            Taken::Fault(fault) => (given, self.count(units, DataStep::Fault(fault))),
-        }
+        let last = last_bits(bytes[given - 1], got.bits - 8 * (given as u64 - 1));
+        self.waiting = waiting_of(got.taken, last);
+        (given, got.taken)
     }
 }
 
 impl RowWork {
     /// Takes the bits that wait.
-    pub fn take_waiting(&mut self, machine: &mut ScanReader) -> RowStep
+    pub fn take_waiting(&mut self, machine: &mut ScanReader) -> Taken
         requires open { CanTakeData self.old machine.old }
         requires inside { IsInsideRow self.old machine.old }
         requires some { 1 ≤ self.old.left }
-        ensures takes { TakesRowData self.old machine.old self.old.waiting result.step self.new machine.new }
-        ensures stops { StopsRowData self.old machine.old self.old.waiting result.step }
+        ensures takes { TakesRowData self.old machine.old self.old.waiting result self.new machine.new }
+        ensures stops { StopsRowData self.old machine.old self.old.waiting result }
         ensures counts { CountsRow self.old machine.old result self.new machine.new }
     {
         let store = self.waiting.copy();
-        self.waiting = BitStore::new();
         self.take(machine, store)
+    }
+}
+
+// The bits that wait, where these follow those that were taken.
+fn waiting_of(taken: Taken, rest: BitStore) -> BitStore
+    ensures { result ≡ waits_of taken rest }
+{
+    match taken {
+        Taken::More => BitStore::new(),
+        Taken::Units => rest,
+        Taken::IntervalDone => BitStore::new(),
+        Taken::Fault(_) => BitStore::new(),
     }
 }
 

@@ -1,18 +1,16 @@
 //! The data of a scan, read byte by byte (T.81, B.1.1.5, E.1.4).
-ghost use Rattle.std.specs.Prelude.{◌≡◌, ◌+◌, ◌<◌, ◌≤◌, ◌&&◌, not, false, true, ℕ, List, [], ◌∷◌, ◌++◌, length};
-ghost use Rattle.jpg_spec.specs.Items.{Item};
-ghost use Rattle.jpg_spec.specs.ScanReading.{ScanPlace, ScanAt, with_byte};
+ghost use Rattle.std.specs.Prelude.{◌≡◌, ◌+◌, ◌<◌, ◌≤◌, ◌&&◌, not, false, true, ℕ, List, length, Ok, Err};
+ghost use Rattle.jpg_spec.specs.ScanReading.{ScanPlace};
 ghost use Rattle.jpg_spec.specs.declared.frame.Limits.{Limits};
 ghost use Rattle.jpg_coefs.specs.Machine.{fault_of};
 ghost use Rattle.jpg_coefs.specs.Picture.{Picture};
-ghost use Rattle.jpg_file.specs.declared.read.scan.ScanStep.TheVariants as answer;
 ghost use Rattle.jpg_file.specs.Read.RowPlaces.{scan_left};
-ghost use Rattle.jpg_file.specs.Read.InData.{ArePlain, AtWork, GoesInside, IsInside, MarkerAt, NextBegins, TakesCode, TakesData, TakesRun, TakesScanByte};
+ghost use Rattle.jpg_file.specs.Read.InData.{ArePlain, AtWork, IsInside, MarkerAt, NextBegins, TakesCode, TakesData, TakesRun, TakesScanByte, byte_answer, scan_answer, work_after};
 
-use crate::read::data::{DataStep, take_data};
+use crate::read::data::take_data;
 use crate::read::machine::ScanReader;
 use jpg_base::codes::RST0;
-use jpg_coefs::{Coefs, ScanMachine, UnitFault};
+use jpg_coefs::{Coefs, ScanMachine, Taken, UnitFault};
 use jpg_huff::{Gate, Passed};
 use jpg_spec::Fault;
 
@@ -34,17 +32,6 @@ pub struct InScan {
     pub work: ScanWork,
 }
 
-/// The result of a byte.
-#[derive(Clone, Copy, Debug, PartialEq, Eq)]
-pub enum ScanStep {
-    /// The data go on.
-    More,
-    /// The marker of this code ended the data of the scan, whose intervals are complete.
-    Marker(u8),
-    /// The byte reveals this fault.
-    Fault(Fault),
-}
-
 /// The fault of a file for the fault of a unit.
 pub fn named(fault: UnitFault) -> Fault
     ensures { result ≡ fault_of fault }
@@ -58,16 +45,27 @@ pub fn named(fault: UnitFault) -> Fault
     }
 }
 
+/// The answer to a byte, by that to its data.
+pub fn by_data(answer: Result<(), Fault>) -> Result<bool, Fault>
+    ensures { result ≡ byte_answer answer }
+{
+    match answer {
+        Ok(()) => Ok(false),
+        Err(fault) => Err(fault),
+    }
+}
+
 impl InScan {
-    /// Takes a byte of the file, after those of the scan so far.
-    pub fn byte(&mut self, coefs: &mut Coefs, byte: u8) -> ScanStep
+    /// Takes a byte of the file, after those of the scan so far, and answers whether the data are over: then it is the
+    /// code of the marker that ended them, and all intervals are complete.
+    pub fn byte(&mut self, coefs: &mut Coefs, byte: u8) -> Result<bool, Fault>
         requires { IsInside self.old coefs.old }
         ensures after { TakesScanByte self.old coefs.old byte result self.new coefs.new }
-        ensures waited { (code : ℕ) → result ≡ answer.Marker code → self.old.gate ≡ true }
+        ensures waited { result ≡ Ok true → self.old.gate ≡ true }
     {
         match self.gate.byte(byte) {
-            Passed::More => ScanStep::More,
-            Passed::Data(data) => self.work.data(coefs, data),
+            Passed::More => Ok(false),
+            Passed::Data(data) => by_data(self.work.data(coefs, data)),
             Passed::Marker(code) => self.work.marker(code),
         }
     }
@@ -85,74 +83,67 @@ impl InScan {
 
     /// Takes plain bytes from the start of a run, and answers how many were taken: at most up to the one that ends the
     /// interval or reveals a fault.
-    pub fn run(&mut self, coefs: &mut Coefs, run: &[u8]) -> (usize, ScanStep)
+    pub fn run(&mut self, coefs: &mut Coefs, run: &[u8]) -> (usize, Result<(), Fault>)
         requires inside { IsInside self.old coefs.old }
         requires gate { self.old.gate ≡ false }
         requires due { self.old.work.whole ≡ false }
         requires some { 1 ≤ length run.now }
         requires few { length run.now < 4294967296 }
         requires plain { ArePlain run.now }
-        ensures after { TakesRun self.old coefs.old run.now result.0 result.1 self.new coefs.new }
-        ensures goes { GoesInside result.1 }
+        ensures { TakesRun self.old coefs.old run.now result.0 result.1 self.new coefs.new }
     {
-        let (n, step) = self.work.machine.run(coefs, run);
-        match step {
-            DataStep::More => (n, ScanStep::More),
-            DataStep::Whole => {
-                self.work.whole = true;
-                (n, ScanStep::More)
-            }
-            DataStep::Fault(fault) => (n, ScanStep::Fault(named(fault))),
-        }
+        let (n, taken) = self.work.machine.run(coefs, run);
+        (n, self.work.stepped(taken))
     }
 }
 
 impl ScanWork {
     // Takes a data byte.
-    fn data(&mut self, coefs: &mut Coefs, byte: u8) -> ScanStep
+    fn data(&mut self, coefs: &mut Coefs, byte: u8) -> Result<(), Fault>
         requires { (limits : Limits) × (p : ScanPlace) × AtWork limits p self.old coefs.old }
         ensures { TakesData self.old coefs.old byte result self.new coefs.new }
     {
         if self.whole {
-            ScanStep::Fault(Fault::ExtraData)
-        } else {
-            self.due_data(coefs, byte)
+            return Err(Fault::ExtraData);
         }
+        let taken = take_data(&mut self.machine, coefs, byte);
+        self.stepped(taken)
     }
 
-    // Takes a data byte while units are left.
-    fn due_data(&mut self, coefs: &mut Coefs, byte: u8) -> ScanStep
-        requires open { (limits : Limits) × (p : ScanPlace) × AtWork limits p self.old coefs.old }
-        requires due { self.old.whole ≡ false }
-        ensures { TakesData self.old coefs.old byte result self.new coefs.new }
+    /// Notes what the machine answered to data.
+    pub fn stepped(&mut self, taken: Taken) -> Result<(), Fault>
+        requires { self.old.whole ≡ false }
+        ensures answer { result ≡ scan_answer taken }
+        ensures work { self.new ≡ work_after self.old self.old.machine taken }
     {
-        match take_data(&mut self.machine, coefs, byte) {
-            DataStep::More => ScanStep::More,
-            DataStep::Whole => {
+        match taken {
+            Taken::More => Ok(()),
+            Taken::Units => Ok(()),
+            Taken::IntervalDone => {
                 self.whole = true;
-                ScanStep::More
+                Ok(())
             }
-            DataStep::Fault(fault) => ScanStep::Fault(named(fault)),
+            Taken::Fault(fault) => Err(named(fault)),
         }
     }
 
-    /// Takes a marker's code, whatever picture there is.
-    pub fn marker(&mut self, code: u8) -> ScanStep
+    /// Takes a marker's code, whatever picture there is, and answers whether the data are over.
+    pub fn marker(&mut self, code: u8) -> Result<bool, Fault>
         requires { (limits : Limits) × (p : ScanPlace) × (bytes : List ℕ) × (now : Picture) × MarkerAt limits bytes p code self.old now }
         ensures takes { (now : Picture) → TakesCode self.old now code result self.new }
         ensures left { scan_left self.new ≡ scan_left self.old }
-        ensures done { (last : ℕ) → result ≡ ScanStep.Marker last → scan_left self.new ≡ 0 }
-        ensures wrong { (fault : Fault) → result ≡ ScanStep.Fault fault → self.old.whole ≡ true → code ≡ 0xd0 + self.old.turn → ⊥ }
+        ensures done { result ≡ Ok true → scan_left self.new ≡ 0 }
+        ensures wrong { (fault : Fault) → result ≡ Err fault → self.old.whole ≡ true → code ≡ 0xd0 + self.old.turn → ⊥ }
     {
         if !self.whole {
-            ScanStep::Fault(Fault::EntropyShort)
+            Err(Fault::EntropyShort)
         } else if self.due == 0 {
-            ScanStep::Marker(code)
+            Ok(true)
         } else if code != RST0 + self.turn {
-            ScanStep::Fault(Fault::RestartWrong)
+            Err(Fault::RestartWrong)
         } else {
             self.next_interval();
-            ScanStep::More
+            Ok(false)
         }
     }
 

@@ -7,47 +7,51 @@ ghost use Rattle.jpg_file.specs.Read.File.{HeadStands, StandsForFile, keeping_of
 ghost use Rattle.jpg_file.specs.Read.RowsKnown.{KnowsByte, KnowsHead, KnowsSome};
 ghost use Rattle.jpg_file.specs.Read.RowsNone.{NoneByte, NoneHead, NoneSome};
 ghost use Rattle.jpg_file.specs.Read.RowFaults.{FaultsResumed, FaultsSome};
-ghost use Rattle.jpg_file.specs.Read.Strips.{CountsRowsOfScan, CountsStrip, GoesOnRest, IfStops, IsNoRow, NotWanting, SparesRows, StripGoes, StripStands, TakesFirstByte, TakesFirstHead, TakesResumed, TakesStrip};
+ghost use Rattle.jpg_file.specs.Read.Step.{IfStops, IsNoRow, NotWanting};
+ghost use Rattle.jpg_file.specs.Read.Strips.{CountsRowsOfScan, CountsStrip, GoesOnRest, SparesRows, StripGoes, StripStands, TakesFirstByte, TakesFirstHead, TakesResumed, TakesStrip};
 
 use crate::read::file::FileWork;
 use crate::read::items::ItemStep;
 use crate::read::rows::RowWork;
+use crate::read::step::Step;
 use crate::read::strip_head::{StripHead, strip_of};
-use crate::read::strips::{StripStep, end_step};
 use jpg_base::Stop;
 
-/// A file that is being read, and the current MCU row and the head of its picture once there is one.
+/// A file that is being read, whether it is to be read MCU row by MCU row, and the current MCU row and the head of its
+/// picture once there is one.
 #[derive(Drop)]
 pub struct StripWork {
     pub file: FileWork,
+    pub by_row: bool,
     pub rows: Option<RowWork>,
     pub strip: Option<StripHead>,
 }
 
 impl StripWork {
     /// Goes to the next MCU row if one is complete, and takes the bits that wait after it.
-    pub fn resume(&mut self) -> StripStep
+    pub fn resume(&mut self) -> Step
         requires { (bytes : List ℕ) × StripStands (limits_of self.old.file) bytes self.old.rows self.old.file }
         ensures after { TakesResumed self.old result self.new }
         ensures goes { GoesOnRest result }
-        ensures plain { is_some self.old.rows ≡ false → result ≡ StripStep.More }
+        ensures plain { is_some self.old.rows ≡ false → result ≡ Step.More }
         ensures stays { is_some self.new.rows ≡ is_some self.old.rows }
         ensures rows { CountsStrip result self.old.rows self.new.rows }
         ensures memory { NotWanting result }
         ensures strip { self.new.strip ≡ self.old.strip }
+        ensures by_row { self.new.by_row ≡ self.old.by_row }
         ensures sparing { SparesRows self.old.rows self.old.file → SparesRows self.new.rows self.new.file }
         ensures head { self.new.file.head ≡ self.old.file.head }
         ensures keeping { keeping_of self.new.file ≡ keeping_of self.old.file }
         ensures faults { FaultsResumed self.old result }
     {
         match &mut self.rows {
-            None => StripStep::More,
+            None => Step::More,
             Some(rows) => self.file.row_rest(rows),
         }
     }
 
     /// Takes some of these bytes, and answers how many these were and the result of the last one.
-    pub fn some(&mut self, bytes: &[u8]) -> (usize, StripStep)
+    pub fn some(&mut self, bytes: &[u8]) -> (usize, Step)
         requires stands { (front : List ℕ) × StripGoes (limits_of self.old.file) front self.old.rows self.old.file }
         requires limits { AreLimits (limits_of self.old.file) }
         requires room { self.old.file.reading.taken < (limits_of self.old.file).input }
@@ -63,7 +67,9 @@ impl StripWork {
         ensures sparing { keeping_of self.old.file ≡ copying.None → SparesRows self.old.rows self.old.file → SparesRows self.new.rows self.new.file }
         ensures head { is_some self.old.rows ≡ true → self.new.file.head ≡ self.old.file.head }
         ensures keeping { keeping_of self.new.file ≡ keeping_of self.old.file }
-        ensures none { self.old.rows ≡ None → NoneSome self.old bytes.now result.0 result.1 self.new }
+        ensures by_row { self.new.by_row ≡ self.old.by_row }
+        ensures plain { self.old.rows ≡ None → self.old.by_row ≡ false → self.new.rows ≡ None }
+        ensures none { self.old.rows ≡ None → self.old.by_row ≡ true → NoneSome self.old bytes.now result.0 result.1 self.new }
         ensures faults { FaultsSome self.old bytes.now result.0 result.1 }
     {
         if self.rows.is_none() {
@@ -76,7 +82,7 @@ impl StripWork {
     }
 
     // The same, where there is no current MCU row.
-    fn plain(&mut self, bytes: &[u8]) -> (usize, StripStep)
+    fn plain(&mut self, bytes: &[u8]) -> (usize, Step)
         requires stands { (front : List ℕ) × StandsForFile (limits_of self.old.file) front self.old.file }
         requires none { self.old.rows ≡ None }
         requires limits { AreLimits (limits_of self.old.file) }
@@ -89,18 +95,27 @@ impl StripWork {
         ensures stops { IfStops result.1 (self.new.rows ≡ None) }
         ensures sparing { keeping_of self.old.file ≡ copying.None → SparesRows self.new.rows self.new.file }
         ensures keeping { keeping_of self.new.file ≡ keeping_of self.old.file }
-        ensures none { NoneSome self.old bytes.now result.0 result.1 self.new }
+        ensures by_row { self.new.by_row ≡ self.old.by_row }
+        ensures plain { self.old.by_row ≡ false → self.new.rows ≡ None }
+        ensures none { self.old.by_row ≡ true → NoneSome self.old bytes.now result.0 result.1 self.new }
     {
-        if self.file.head.is_some() {
-            let (n, answer) = self.file.some(bytes);
-            return (n, end_step(answer));
+        if self.awaits_rows() {
+            let n = self.file.front(bytes);
+            return (n + 1, self.first_byte(bytes[n]));
         }
-        let n = self.file.front(bytes);
-        (n + 1, self.first_byte(bytes[n]))
+        self.file.some(bytes)
+    }
+
+    // Whether MCU rows are to be read, and the first scan header isn't complete yet.
+    fn awaits_rows(&self) -> bool
+        ensures yes { result ≡ true → (self.now.by_row ≡ true) × (self.now.file.head ≡ None) }
+        ensures no { result ≡ false → self.now.by_row ≡ true → is_some self.now.file.head ≡ true }
+    {
+        self.by_row && self.file.head.is_none()
     }
 
     // Takes a byte before the first scan.
-    fn first_byte(&mut self, byte: u8) -> StripStep
+    fn first_byte(&mut self, byte: u8) -> Step
         requires stands { (bytes : List ℕ) × StandsForFile (limits_of self.old.file) bytes self.old.file }
         requires none { self.old.rows ≡ None }
         requires first { self.old.file.head ≡ None }
@@ -114,19 +129,20 @@ impl StripWork {
         ensures sparing { keeping_of self.old.file ≡ copying.None → SparesRows self.new.rows self.new.file }
         ensures head { IfStops result (self.new.file.head ≡ self.old.file.head) }
         ensures keeping { keeping_of self.new.file ≡ keeping_of self.old.file }
+        ensures by_row { self.new.by_row ≡ self.old.by_row }
         ensures none { NoneByte self.old byte result self.new }
     {
         match self.file.step(byte) {
-            ItemStep::More => StripStep::More,
+            ItemStep::More => Step::More,
             ItemStep::Head => self.take_head(),
-            ItemStep::Eoi => end_step(self.file.take_end()),
-            ItemStep::Fault(fault) => StripStep::Ended(Stop::Fault(fault)),
-            ItemStep::NoMemory => StripStep::Ended(Stop::NoMemory),
+            ItemStep::Eoi => self.file.take_end(),
+            ItemStep::Fault(fault) => Step::Ended(Stop::Fault(fault)),
+            ItemStep::NoMemory => Step::Ended(Stop::NoMemory),
         }
     }
 
     // Takes the first scan header, which is complete.
-    fn take_head(&mut self) -> StripStep
+    fn take_head(&mut self) -> Step
         requires stands { (bytes : List ℕ) × HeadStands (limits_of self.old.file) bytes self.old.file }
         requires none { self.old.rows ≡ None }
         requires first { self.old.file.head ≡ None }
@@ -138,18 +154,19 @@ impl StripWork {
         ensures sparing { keeping_of self.old.file ≡ copying.None → SparesRows self.new.rows self.new.file }
         ensures head { IfStops result (self.new.file.head ≡ self.old.file.head) }
         ensures keeping { keeping_of self.new.file ≡ keeping_of self.old.file }
+        ensures by_row { self.new.by_row ≡ self.old.by_row }
         ensures none { NoneHead self.old result self.new }
     {
         let Some((frame, head)) = self.file.head_of_all() else {
-            return end_step(self.file.take_head());
+            return self.file.take_head();
         };
         match self.file.begin_rows(&frame, &head) {
             Ok(rows) => {
                 self.strip = Some(strip_of(&self.file));
                 self.rows = Some(rows);
-                StripStep::More
+                Step::More
             }
-            Err(stop) => StripStep::Ended(stop),
+            Err(stop) => Step::Ended(stop),
         }
     }
 }

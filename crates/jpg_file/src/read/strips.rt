@@ -8,7 +8,8 @@ ghost use Rattle.jpg_base.specs.declared.stop.Stop.TheVariants as stop;
 ghost use Rattle.jpg_file.specs.Read.File.{keeping_of, limits_of};
 ghost use Rattle.jpg_file.specs.Read.InData.{ArePlain};
 ghost use Rattle.jpg_file.specs.Read.Reading.{IsOpenScan, IsSparing};
-ghost use Rattle.jpg_file.specs.Read.Strips.{BeginsRows, CountsRowsOfScan, CountsRows, IsNoRow, NotWanting, FindsHead, GoesByRow, GoesOnRest, HasHeadOfAll, HasLaterHead, end_step, PassesItem, PassesLaterHead, StandsByRow, TakesLaterByte, TakesRest, TakesRowByte, TakesRunOfRows};
+ghost use Rattle.jpg_file.specs.Read.Step.{IsNoRow, NotWanting};
+ghost use Rattle.jpg_file.specs.Read.Strips.{BeginsRows, CountsRowsOfScan, CountsRows, FindsHead, GoesByRow, GoesOnRest, HasHeadOfAll, HasLaterHead, PassesItem, PassesLaterHead, StandsByRow, TakesLaterByte, TakesRest, TakesRowByte, TakesRunOfRows};
 ghost use Rattle.jpg_file.specs.Read.RowStops.{StopsByte, StopsRest, StopsRun};
 ghost use Rattle.jpg_file.specs.Read.RowTurns.{unfinished};
 ghost use Rattle.jpg_file.specs.Read.RowsNone.{FindsNone};
@@ -18,41 +19,28 @@ ghost use Rattle.jpg_file.specs.declared.read.rows.RowWork.{RowWork as Row};
 use crate::read::file::{FileWork, plain_length};
 use crate::read::items::ItemStep;
 use crate::read::rows::RowWork;
-use crate::read::scan::ScanStep;
 use crate::read::scan_header::judge_head;
+use crate::read::step::Step;
 use jpg_base::{Frame, ScanHead, Stop};
 use jpg_spec::{Fault, FaultAt};
 
-/// The result of bytes.
-#[derive(Clone, Copy, Debug, PartialEq, Eq)]
-pub enum StripStep {
-    /// The file goes on.
-    More,
-    /// A further MCU row is complete.
-    Row,
-    /// The file is complete.
-    Whole,
-    /// It stops.
-    Ended(Stop),
-}
-
 // A fault at this number of bytes.
-fn fault_at(fault: Fault, at: u64) -> StripStep
-    ensures { result ≡ StripStep.Ended (stop.Fault (record { fault = fault; at = at })) }
+fn fault_at(fault: Fault, at: u64) -> Step
+    ensures { result ≡ Step.Ended (stop.Fault (record { fault = fault; at = at })) }
 {
-    StripStep::Ended(Stop::Fault(FaultAt { fault, at }))
+    Step::Ended(Stop::Fault(FaultAt { fault, at }))
 }
 
 // The result of data that go on.
-fn row_step(row: bool) -> StripStep
-    ensures { result ≡ (if row then StripStep.Row else StripStep.More) }
+fn row_step(row: bool) -> Step
+    ensures { result ≡ (if row then Step.Row else Step.More) }
 {
-    if row { StripStep::Row } else { StripStep::More }
+    if row { Step::Row } else { Step::More }
 }
 
 impl FileWork {
     /// Goes to the next MCU row if one is complete, and takes the bits that wait after it.
-    pub fn row_rest(&mut self, rows: &mut RowWork) -> StripStep
+    pub fn row_rest(&mut self, rows: &mut RowWork) -> Step
         requires { (bytes : List ℕ) × StandsByRow (limits_of self.old) bytes self.old rows.old }
         ensures after { TakesRest self.old rows.old result self.new rows.new }
         ensures stops { StopsRest self.old rows.old result }
@@ -64,24 +52,23 @@ impl FileWork {
     {
         let at = self.reading.taken;
         let Some(scan) = &mut self.reading.scan else {
-            return StripStep::More;
+            return Step::More;
         };
         rows.next();
         if rows.waiting.len() == 0 {
-            return StripStep::More;
+            return Step::More;
         }
         let (step, row) = scan.rest_in_row(rows);
         match step {
-            ScanStep::More => row_step(row),
-            ScanStep::Fault(fault) => fault_at(fault, at),
-            ScanStep::Marker(_) => unreachable!(),
+            Ok(()) => row_step(row),
+            Err(fault) => fault_at(fault, at),
         }
     }
 }
 
 impl FileWork {
     /// Takes a byte inside the data of the scan.
-    pub fn row_byte(&mut self, rows: &mut RowWork, byte: u8) -> StripStep
+    pub fn row_byte(&mut self, rows: &mut RowWork, byte: u8) -> Step
         requires stands { (bytes : List ℕ) × GoesByRow (limits_of self.old) bytes self.old rows.old }
         requires inside { is_some self.old.reading.scan ≡ true }
         requires limits { AreLimits (limits_of self.old) }
@@ -101,18 +88,18 @@ impl FileWork {
         self.reading.taken = at;
         let (step, row) = scan.byte_in_row(rows, byte);
         match step {
-            ScanStep::More => row_step(row),
-            ScanStep::Fault(fault) => fault_at(fault, at),
-            ScanStep::Marker(code) => {
+            Ok(false) => row_step(row),
+            Ok(true) => {
                 self.reading.scan = None;
-                let came = self.reading.items.marker(code, at);
+                let came = self.reading.items.marker(byte, at);
                 self.later_item(came)
             }
+            Err(fault) => fault_at(fault, at),
         }
     }
 
     /// Takes plain bytes inside the data of the scan, and answers how many.
-    pub fn row_run(&mut self, rows: &mut RowWork, run: &[u8]) -> (usize, StripStep)
+    pub fn row_run(&mut self, rows: &mut RowWork, run: &[u8]) -> (usize, Step)
         requires stands { (bytes : List ℕ) × GoesByRow (limits_of self.old) bytes self.old rows.old }
         requires limits { AreLimits (limits_of self.old) }
         requires opened { IsOpenScan self.old.reading }
@@ -134,16 +121,15 @@ impl FileWork {
         let at = self.reading.taken + n as u64;
         self.reading.taken = at;
         match step {
-            ScanStep::More => (n, row_step(row)),
-            ScanStep::Fault(fault) => (n, fault_at(fault, at)),
-            ScanStep::Marker(_) => unreachable!(),
+            Ok(()) => (n, row_step(row)),
+            Err(fault) => (n, fault_at(fault, at)),
         }
     }
 }
 
 impl FileWork {
     /// Takes some of these bytes, and answers how many these were and the result of the last one.
-    pub fn row_some(&mut self, rows: &mut RowWork, bytes: &[u8]) -> (usize, StripStep)
+    pub fn row_some(&mut self, rows: &mut RowWork, bytes: &[u8]) -> (usize, Step)
         requires stands { (front : List ℕ) × GoesByRow (limits_of self.old) front self.old rows.old }
         requires limits { AreLimits (limits_of self.old) }
         requires room { self.old.reading.taken < (limits_of self.old).input }
@@ -171,7 +157,7 @@ impl FileWork {
     }
 
     // Takes a byte inside the data of the scan, perhaps after fill bytes, and answers how many these were and its result.
-    fn scan_some(&mut self, rows: &mut RowWork, bytes: &[u8]) -> (usize, StripStep)
+    fn scan_some(&mut self, rows: &mut RowWork, bytes: &[u8]) -> (usize, Step)
         requires stands { (front : List ℕ) × GoesByRow (limits_of self.old) front self.old rows.old }
         requires inside { is_some self.old.reading.scan ≡ true }
         requires limits { AreLimits (limits_of self.old) }
@@ -192,7 +178,7 @@ impl FileWork {
 
 impl FileWork {
     // Takes some of these bytes after the scan, and answers how many these were and the result of the last one.
-    fn later_some(&mut self, bytes: &[u8]) -> (usize, StripStep)
+    fn later_some(&mut self, bytes: &[u8]) -> (usize, Step)
         requires stands { (front : List ℕ) × (rows : Row) × GoesByRow (limits_of self.old) front self.old rows }
         requires none { is_some self.old.reading.scan ≡ false }
         requires limits { AreLimits (limits_of self.old) }
@@ -210,7 +196,7 @@ impl FileWork {
     }
 
     /// Takes a byte after the scan.
-    pub fn later_byte(&mut self, byte: u8) -> StripStep
+    pub fn later_byte(&mut self, byte: u8) -> Step
         requires stands { (bytes : List ℕ) × (rows : Row) × GoesByRow (limits_of self.old) bytes self.old rows }
         requires none { is_some self.old.reading.scan ≡ false }
         requires limits { AreLimits (limits_of self.old) }
@@ -227,23 +213,23 @@ impl FileWork {
     }
 
     // The result of an item after the scan.
-    fn later_item(&self, came: ItemStep) -> StripStep
+    fn later_item(&self, came: ItemStep) -> Step
         requires { came ≡ ItemStep.Head → HasLaterHead self.now }
         ensures after { PassesItem self.now came result }
         ensures memory { (came ≡ ItemStep.NoMemory → ⊥) → NotWanting result }
         ensures no { IsNoRow result }
     {
         match came {
-            ItemStep::More => StripStep::More,
+            ItemStep::More => Step::More,
             ItemStep::Head => self.later_head(),
-            ItemStep::Eoi => end_step(self.take_end()),
-            ItemStep::Fault(fault) => StripStep::Ended(Stop::Fault(fault)),
-            ItemStep::NoMemory => StripStep::Ended(Stop::NoMemory),
+            ItemStep::Eoi => self.take_end(),
+            ItemStep::Fault(fault) => Step::Ended(Stop::Fault(fault)),
+            ItemStep::NoMemory => Step::Ended(Stop::NoMemory),
         }
     }
 
     // The fault of a scan header after a scan of all components.
-    fn later_head(&self) -> StripStep
+    fn later_head(&self) -> Step
         requires { HasLaterHead self.now }
         ensures after { PassesLaterHead self.now result }
         ensures memory { NotWanting result }
@@ -261,19 +247,6 @@ impl FileWork {
             Err(fault) => fault_at(fault, self.reading.taken),
             Ok(_) => unreachable!(),
         }
-    }
-}
-
-/// The result of a byte of a file that isn't read by MCU rows.
-pub fn end_step(answer: Result<bool, Stop>) -> StripStep
-    ensures is { result ≡ end_step answer }
-    ensures no { IsNoRow result }
-    ensures memory { (answer ≡ Err stop.NoMemory → ⊥) → NotWanting result }
-{
-    match answer {
-        Ok(false) => StripStep::More,
-        Ok(true) => StripStep::Whole,
-        Err(stop) => StripStep::Ended(stop),
     }
 }
 
@@ -317,17 +290,14 @@ impl FileWork {
             return Err(Stop::NoMemory);
         };
         match self.reading.begin_head(&mut self.begun) {
-            ItemStep::More => {
+            Ok(()) => {
                 if self.reading.items.segments.reserve().is_err() {
                     return Err(Stop::NoMemory);
                 }
                 self.note_head();
                 Ok(rows)
             }
-            ItemStep::Fault(fault) => Err(Stop::Fault(fault)),
-            ItemStep::Head => unreachable!(),
-            ItemStep::Eoi => unreachable!(),
-            ItemStep::NoMemory => unreachable!(),
+            Err(fault) => Err(Stop::Fault(fault)),
         }
     }
 }

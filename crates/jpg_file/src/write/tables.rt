@@ -1,72 +1,27 @@
-//! Typical tables and their DHT segments (T.81, B.2.4.2, Annex K.3).
-ghost use Rattle.std.specs.Prelude.{◌≡◌, ◌<◌, ◌≤◌, ◌+◌, ◌*◌, ◌∷◌, ◌++◌, length, replicate, slice_set, false, true, All, Ok};
-ghost use Rattle.jpg_spec_write.specs.ScanText.{typical_table};
+//! The tables that a scan needs; those are written that aren't the last ones of their class and slot (T.81, B.2.4.2).
+ghost use Rattle.std.specs.Prelude.{◌≡◌, ◌<◌, ◌≤◌, ◌==◌, ◌∷◌, ◌++◌, [], if◌then◌else◌, length, All, Ok};
+ghost use Rattle.std.specs.Option.{option_map};
+ghost use Rattle.jpg_spec_write.specs.FileText.{holds_table, tables_given, tables_text, with_table};
+ghost use Rattle.jpg_spec_write.specs.ScanText.{is_same};
 ghost use Rattle.jpg_huff.specs.BitOut.{CanSend, Sends};
+ghost use Rattle.jpg_huff.specs.Sets.{in_slot};
 ghost use Rattle.jpg_huff.specs.Tables.{table_of};
-ghost use Rattle.jpg_huff.specs.Typical.{annex_table};
-ghost use Rattle.jpg_file.specs.Write.WriteTables.{HasSlots, IsTypicalSet, given_in, part_due, part_given, part_tables_due, parts_given, table_due};
+ghost use Rattle.jpg_prog_write.specs.Written.{tables_in};
+ghost use Rattle.jpg_file.specs.Write.WriteTables.{GivesTables, HasFour, IsTablePlace, class_tables, given_by};
 
 use arrayvec::ArrayVec;
 use jpg_base::codes::DHT;
 use jpg_base::{Desk, WriteFault};
-use jpg_huff::{BitOut, Table, TableSet, Typical, typical};
+use jpg_huff::{BitOut, Table, TableSet};
 use jpg_markers::write_segment;
-use jpg_spec::ScanPart;
 
-/// Which of the typical tables were written so far, by twice their class (0 is DC, 1 is AC) and their slot.
-#[derive(Drop)]
-pub struct Given {
-    pub flags: [bool; 4],
-}
-
-impl Given {
-    /// No tables.
-    pub fn new() -> Given
-        ensures { result.flags ≡ replicate 4 false }
-    {
-        Given { flags: [false; 4] }
-    }
-}
-
-// K.3 and K.5 in slot 0, K.4 and K.6 in slot 1.
-fn kind_of(class: u8, slot: u8) -> Typical
-    ensures { annex_table result ≡ typical_table class slot }
-{
-    if class == 0 {
-        if slot == 0 {
-            Typical::DcLuma
-        } else {
-            Typical::DcChroma
-        }
-    } else if slot == 0 {
-        Typical::AcLuma
-    } else {
-        Typical::AcChroma
-    }
-}
-
-fn table_in(class: u8, slot: u8) -> Table
-    ensures { table_of result ≡ typical_table class slot }
-{
-    typical(kind_of(class, slot))
-}
-
-/// The four typical tables in slots 0 and 1.
-pub fn typical_set() -> TableSet
-    ensures { IsTypicalSet result }
-{
-    let mut set = TableSet::new();
-    set.set_dc(0, &table_in(0, 0));
-    set.set_dc(1, &table_in(0, 1));
-    set.set_ac(0, &table_in(1, 0));
-    set.set_ac(1, &table_in(1, 1));
-    set
-}
+/// A class of tables, 0 for DC and 1 for AC, and slot 0 or 1.
+pub type TablePlace = (u8, u8);
 
 // The contents of a DHT segment: one byte for class and slot, 16 counts, at most 256 symbols.
-pub(crate) type Contents = ArrayVec<u8, 273>;
+type Contents = ArrayVec<u8, 273>;
 
-pub(crate) fn contents_of(place: u8, table: &Table) -> Contents
+fn contents_of(place: u8, table: &Table) -> Contents
     requires counts { length (table_of table.now).counts ≡ 16 }
     requires symbols { length (table_of table.now).symbols ≤ 256 }
     ensures { result.items ≡ place ∷ (table_of table.now).counts ++ (table_of table.now).symbols }
@@ -79,7 +34,7 @@ pub(crate) fn contents_of(place: u8, table: &Table) -> Contents
 }
 
 // The contents before the symbols.
-pub(crate) fn counted(place: u8, table: &Table) -> Contents
+fn counted(place: u8, table: &Table) -> Contents
     requires { length (table_of table.now).counts ≡ 16 }
     ensures value { result.items ≡ place ∷ (table_of table.now).counts }
     ensures long { length result.items ≡ 17 }
@@ -92,62 +47,101 @@ pub(crate) fn counted(place: u8, table: &Table) -> Contents
     contents
 }
 
-// Writes a DHT segment of a typical table, if it wasn't written yet.
+// The table of a class and slot.
+fn table_in(tables: &TableSet, class: u8, slot: u8) -> Option<&Table>
+    ensures { option_map (λ t. t.now) result ≡ in_slot (class_tables tables.now class) slot }
+{
+    if class == 0 {
+        tables.dc(slot)
+    } else {
+        tables.ac(slot)
+    }
+}
+
+// Whether the tables have the same codes.
+fn is_same(old: &Table, table: &Table) -> bool
+    requires old { length (table_of old.now).counts ≡ 16 }
+    requires new { length (table_of table.now).counts ≡ 16 }
+    ensures { result ≡ is_same (table_of old.now) (table_of table.now) }
+{
+    counted(0, old).as_slice() == counted(0, table).as_slice() && old.symbols() == table.symbols()
+}
+
+// Whether the table is the last one of its class and slot.
+fn holds(given: &TableSet, class: u8, slot: u8, table: &Table) -> bool
+    requires class { class < 2 }
+    requires new { length (table_of table.now).counts ≡ 16 }
+    ensures { result ≡ holds_table (given_by given.now class slot) (table_of table.now) }
+{
+    match table_in(given, class, slot) {
+        Some(old) => is_same(old, table),
+        None => false,
+    }
+}
+
+// Notes the table as the last one of its class and slot.
+fn put(given: &mut TableSet, class: u8, slot: u8, table: &Table)
+    requires class { class < 2 }
+    requires slot { slot < 4 }
+    requires four { HasFour given.old }
+    ensures four { HasFour given.new }
+    ensures given { given_by given.new ≡ with_table (given_by given.old) class slot (table_of table.now) }
+{
+    if class == 0 {
+        given.set_dc(slot, table);
+    } else {
+        given.set_ac(slot, table);
+    }
+}
+
+// Writes a DHT segment of a table, if it isn't the last one of its class and slot.
 fn write_table<D: Desk>(
     class: u8,
     slot: u8,
-    given: &mut Given,
+    tables: &TableSet,
+    given: &mut TableSet,
     out: &mut BitOut,
     desk: &mut D,
 ) -> Result<(), WriteFault>
     requires can { CanSend (D.state desk.old) out.old }
     requires class { class < 2 }
     requires slot { slot < 2 }
-    ensures sends { Sends (D.state desk.old) out.old (table_due given.old.flags class slot) result out.new (D.state desk.new) }
-    ensures given { given.new.flags ≡ slice_set given.old.flags (2 * class + slot) true }
+    requires tables { GivesTables tables.now (tables_in tables.now) }
+    requires four { HasFour given.old }
+    ensures four { HasFour given.new }
+    ensures sends { Sends (D.state desk.old) out.old (tables_text (given_by given.old) (tables_in tables.now) ((class, slot) ∷ [])) result out.new (D.state desk.new) }
+    ensures given { given_by given.new ≡ with_table (given_by given.old) class slot (tables_in tables.now class slot) }
 {
-    let place = (2 * class + slot) as usize;
-    let is_given = given.flags[place];
-    given.flags[place] = true;
-    if is_given {
+    let Some(table) = table_in(tables, class, slot) else {
+        return Ok(());
+    };
+    let is_held = holds(given, class, slot, table);
+    put(given, class, slot, table);
+    if is_held {
         return Ok(());
     }
-    let table = table_in(class, slot);
-    let contents = contents_of(16 * class + slot, &table);
+    let contents = contents_of(16 * class + slot, table);
     write_segment(DHT, contents.as_slice(), out, desk)
 }
 
-// Writes the tables of a component, DC and then AC.
-fn write_part<D: Desk>(
-    part: &ScanPart,
-    given: &mut Given,
+/// Writes a DHT segment for each of these tables that isn't the last one of its class and slot.
+pub fn write_due<D: Desk>(
+    needed: &[TablePlace],
+    tables: &TableSet,
+    given: &mut TableSet,
     out: &mut BitOut,
     desk: &mut D,
 ) -> Result<(), WriteFault>
     requires can { CanSend (D.state desk.old) out.old }
-    requires slots { HasSlots part.now }
-    ensures sends { Sends (D.state desk.old) out.old (part_due given.old.flags part.now) result out.new (D.state desk.new) }
-    ensures given { (u : Unit {0}) → result ≡ Ok u → given.new.flags ≡ part_given given.old.flags part.now }
+    requires needed { All IsTablePlace needed.now }
+    requires tables { GivesTables tables.now (tables_in tables.now) }
+    requires four { HasFour given.old }
+    ensures four { HasFour given.new }
+    ensures sends { Sends (D.state desk.old) out.old (tables_text (given_by given.old) (tables_in tables.now) needed.now) result out.new (D.state desk.new) }
+    ensures given { (u : Unit {0}) → result ≡ Ok u → given_by given.new ≡ tables_given (given_by given.old) (tables_in tables.now) needed.now }
 {
-    write_table(0, part.dc, given, out, desk)?;
-    write_table(1, part.ac, given, out, desk)
-}
-
-/// Writes a DHT segment for each table of these parts of a scan header that wasn't written yet, per component DC and
-/// then AC.
-pub fn write_tables<D: Desk>(
-    parts: &[ScanPart],
-    given: &mut Given,
-    out: &mut BitOut,
-    desk: &mut D,
-) -> Result<(), WriteFault>
-    requires can { CanSend (D.state desk.old) out.old }
-    requires slots { All HasSlots parts.now }
-    ensures sends { Sends (D.state desk.old) out.old (part_tables_due given.old.flags parts.now) result out.new (D.state desk.new) }
-    ensures given { (u : Unit {0}) → result ≡ Ok u → given_in given.new.flags ≡ parts_given given.old.flags parts.now }
-{
-    for part in parts {
-        write_part(part, given, out, desk)?;
+    for place in needed {
+        write_table(place.0, place.1, tables, given, out, desk)?;
     }
     Ok(())
 }

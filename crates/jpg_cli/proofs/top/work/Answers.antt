@@ -1,10 +1,10 @@
 use Rattle.std.proofs.Common.{map, subst, sym, Ok, Err}
 use Rattle.std.specs.Prelude.{string_bytes}
-use Rattle.jpg_spec_words.specs.CommentWords.{WordsTold}
+use Rattle.jpg_spec_words.specs.Requests.{WordsTold}
 use Rattle.jpg_cli.specs.Commands.{Command, IsCommand, command_asked}
 use Rattle.jpg_cli.specs.Tools.Ends.{formats_of}
 use Rattle.jpg_cli.specs.Run.{Worked}
-use Rattle.jpg_cli.specs.declared.words.comments.WordsStop.{WordsStop}
+use Rattle.jpg_cli.specs.declared.words.files.WordsStop.{WordsStop}
 use Rattle.jpg_cli.specs.declared.words.Asked.{Asked}
 use Rattle.jpg_cli.proofs.InsertedThen.{asked_inserted}
 use Rattle.jpg_cli.proofs.ImageShown.{asked_shown}

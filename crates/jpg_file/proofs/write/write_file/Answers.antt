@@ -2,15 +2,12 @@ use Rattle.std.proofs.Common.{Err}
 use Rattle.std.proofs.lemmas.Result.{err_from_is_err_and}
 use Rattle.jpg_spec.specs.Markers.{eoi}
 use Rattle.jpg_huff.proofs.Together.{sends_then, sends_fault, sends_same}
-use Rattle.jpg_file.proofs.WholeText.{file_is, prog_can, seq_can}
+use Rattle.jpg_file.proofs.WrittenText.{can_scans, file_is}
 use Rattle.jpg_file.proofs.AllWritten.{all_written}
 use Rattle.jpg_file.proofs.write.write_file.Goals as goal
 
-pub write_scans-requires-clause-seq : goal.write_scans-requires-clause-seq
-write_scans-requires-clause-seq g c = seq_can c.args.plan.now c.args.kept.now (g.V.BlockView.numbers c.args.view.now) (g.V.BlockView.blocks c.args.view.now) c.requires.plan
-
-pub write_scans-requires-clause-prog : goal.write_scans-requires-clause-prog
-write_scans-requires-clause-prog g c = prog_can c.args.plan.now c.args.kept.now (g.V.BlockView.numbers c.args.view.now) (g.V.BlockView.blocks c.args.view.now) c.requires.plan
+pub write_scans-requires-clause-scans : goal.write_scans-requires-clause-scans
+write_scans-requires-clause-scans g c = can_scans c.args.plan.now c.args.kept.now (g.V.BlockView.numbers c.args.view.now) (g.V.BlockView.blocks c.args.view.now) c.requires.plan
 
 pub returns-in_err-file_head : goal.returns-in_err-file_head
 returns-in_err-file_head g c =

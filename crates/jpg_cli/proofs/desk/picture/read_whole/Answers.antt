@@ -13,6 +13,7 @@ loop-at-init g c =
       opened = c.requires.open;
       limits = c.requires.limits;
       keeping = refl;
+      plain = c.requires.plain;
       room = refl;
     }
 
@@ -28,5 +29,6 @@ loop-at-preserved g c =
       opened = c.in-More.ensures.goes_on.0;
       limits = c.in-More.ensures.limits;
       keeping = c.in-More.ensures.keeping ∙ so.keeping;
+      plain = c.in-More.ensures.plain;
       room = search rules;
     }

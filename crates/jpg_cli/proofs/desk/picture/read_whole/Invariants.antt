@@ -2,6 +2,7 @@ use Rattle.std.specs.Prelude.{◌≡◌, ◌-◌, ◌^◌, List, ℕ, true, leng
 use Rattle.std.specs.Io.KnownBytes.{Consumes}
 use Rattle.jpg_spec.specs.Segments.{standard_limits}
 use Rattle.jpg_file.specs.Read.File.{keeping_of}
+use Rattle.jpg_file.specs.Read.ReadRows.{IsPlain}
 use Rattle.jpg_cli.specs.Desk.ReadPicture.{HasFed}
 use Rattle.jpg_cli.specs.Stays.{OnlyReads}
 use Rattle.jpg_cli.proofs.desk.picture.read_whole.Given as goal
@@ -15,6 +16,7 @@ invariant-loop-at g l =
       opened : (state l.desk).input_open ≡ true;
       limits : l.reader.limits ≡ standard_limits;
       keeping : keeping_of l.reader.file ≡ keeping_of l.initial.reader.file;
+      plain : IsPlain l.reader;
       room : length l.buffer ≡ 16384;
     }
 

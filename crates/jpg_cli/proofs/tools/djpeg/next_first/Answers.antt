@@ -20,6 +20,6 @@ returns-in-End-clause-goes_on g c = c.at_first_end.ensures.goes_on (g.D.Desk.sta
 pub returns-in-Bytes-clause-after : goal.returns-in-Bytes-clause-after
 returns-in-Bytes-clause-after g c = λ start bytes k still had.
     let state = g.D.Desk.state in
-    let fits = within_most bytes c.read_within.new.buffer c.in-Bytes.count c.room.result (room_left c.args.gray bytes c.args.reader.now c.room.result c.requires.limits k c.room.ensures) (k.fed).short c.in-Bytes.ensures.within in
+    let fits = within_most bytes c.read_within.new.buffer c.in-Bytes.count c.room.result (room_left c.args.gray bytes c.args.reader.now c.room.result c.requires.limits k c.room.ensures.is) (k.fed).short c.in-Bytes.ensures.within in
     first_piece c.args.gray start (state c.args.desk.now) (state c.read_within.new.desk) c.in-Bytes.count c.read_within.new.buffer bytes c.take_first.result c.take_first.new.reader fits c.in-Bytes.ensures.read c.requires.open had
     (c.take_first.ensures.taken bytes k fits)

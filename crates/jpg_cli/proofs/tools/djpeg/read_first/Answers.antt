@@ -12,6 +12,7 @@ loop-step-init g c =
       read = ([], fed_nothing c.args.gray c.args.reader.now c.requires.limits c.requires.none, none_read s.left);
       opened = c.requires.open;
       limits = c.requires.limits;
+      by_row = c.requires.by_row;
       room = search rules;
     }
 
@@ -26,5 +27,6 @@ loop-step-preserved g c =
       read = (so.read.0 ++ after.0, after.2, after.3);
       opened = c.in-More.ensures.goes_on.1;
       limits = c.in-More.ensures.limits;
+      by_row = c.in-More.ensures.by_row;
       room = search rules;
     }

@@ -13,6 +13,7 @@ invariant-loop-step g l =
       read : (bytes : List ℕ) × HasFedPlainly l.gray l.reader bytes × Consumes (state l.initial.desk).left (state l.desk).left bytes;
       opened : (state l.desk).input_open ≡ true;
       limits : l.reader.limits ≡ standard_limits;
+      by_row : l.reader.by_row ≡ true;
       room : length l.buffer ≡ 16384;
     }
 

@@ -108,6 +108,7 @@ loop-used-preserved g c =
       kept = works_then (state c.args.desk.now) (state so.desk) (state c.push.new.desk) so.invariant.kept (writes_work (state so.desk) (state c.push.new.desk) next.only);
       opened = next.only.input_open ∙ so.invariant.opened;
       done = c.feed_row-answer.ensures.done;
+      by_row = c.feed_row-answer.ensures.by_row;
       shows = λ old start h all m k.
           (let a = so.invariant.shows old start h all m k in
           let b = row_here s old start h all a.0 so.rest.now so.answer c.in-Some.used so.reader so.image e (state so.desk) c.in-Some.ensures a.1 in (

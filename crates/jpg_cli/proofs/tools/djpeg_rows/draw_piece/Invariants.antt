@@ -18,6 +18,7 @@ invariant-loop-used g l =
       kept : OnlyWorks (state l.initial.desk) (state l.desk);
       opened : (state l.desk).input_open ≡ true;
       done : EndsDoneRow l.answer l.reader;
+      by_row : l.reader.by_row ≡ true;
       shows : (old start : DeskState) (h : Head) (all : List ℕ) (m : ℕ)
           → IsShowing s old start h all m l.piece l.fn.answer (at_work l.initial.reader l.initial.image first (state l.initial.desk))
           → (n : ℕ) × IsShowing s old start h all n l.rest l.answer (at_work l.reader l.image now (state l.desk));

@@ -7,7 +7,7 @@ use Rattle.jpg_cli.proofs.tools.djpeg_rows.draw_rows.Goals as goal
 pub loop-step-init : goal.loop-step-init
 loop-step-init g c =
     let done = c.draw_piece-step.ensures in
-    record { kept = done.kept; goes_on = done.goes_on; room = search rules; shows = λ old start h all m k. (all, done.drawn old start h all m k) }
+    record { kept = done.kept; goes_on = done.goes_on; room = search rules; by_row = done.by_row; shows = λ old start h all m k. (all, done.drawn old start h all m k) }
 
 pub finish_rows-requires : goal.finish_rows-requires
 finish_rows-requires g c =
@@ -63,6 +63,7 @@ loop-step-preserved g c =
       kept = works_then (state c.args.desk.now) (state c.loop-step.desk) (state c.next_rows-step.new.desk) so.kept next.kept;
       goes_on = next.goes_on;
       room = search rules;
+      by_row = next.by_row;
       shows = λ old start h all m k.
           (let a = so.shows old start h all m k in
           let b = more_here s old start h a.0 c.loop-step.step c.loop-step.reader c.loop-step.image _ _ c.in-More.is a.1 in

@@ -1,6 +1,6 @@
 use Rattle.std.proofs.Common.{◌≡◌, ◌≤◌, All, option_map, ◌-◌, ◌++◌, length}
 use Rattle.jpg_spec_encode.specs.EncodingLaws.{AreFactors}
-use Rattle.jpg_spec_words.specs.Requests.{factors_from, factors_named}
+use Rattle.jpg_spec_words.specs.EncodeWords.{factors_from, factors_named}
 use Rattle.jpg_cli.proofs.words.cjpeg_values.factors_named.Given as goal
 
 abbrev pub invariant-loop-rest : goal.invariant-loop-rest

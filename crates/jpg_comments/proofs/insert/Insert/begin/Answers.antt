@@ -6,7 +6,7 @@ use Rattle.jpg_comments.specs.Appending.{AppendsText}
 use Rattle.jpg_comments.specs.Inserting.{AfterHeadPiece, CopiesRest, InsertsUpTo}
 use Rattle.jpg_comments.proofs.Taken.{appends_none, appends_as}
 use Rattle.jpg_comments.proofs.HeadByPieces.{AfterCopy, whole_head}
-use Rattle.jpg_comments.proofs.InsertedPieces.{StandsWith, kept_of, by_limits, stops_before, goes_on_before, head_at, stops_at_head, copies_rest, goes_on_after}
+use Rattle.jpg_comments.proofs.InsertedPieces.{StandsWith, kept_of, stops_before, goes_on_before, head_at, stops_at_head, copies_rest, goes_on_after}
 use Rattle.jpg_comments.proofs.insert.Insert.begin.Goals as goal
 
 pub returns-in_err-used-clause-answered : goal.returns-in_err-used-clause-answered
@@ -16,7 +16,7 @@ returns-in_err-used-clause-answered c = λ comment bytes text h.
     let next = reading_of c.read_head.new.reader in
     let e = c.in_err-used.field-0.0 in
     let back = err_from_is_err_and c.from_residual.result c.from_residual.ensures.1 in
-    let after = by_limits self bytes c.args.piece.now c.read_head.new.head (Err e) next k.0 (λ z. c.in_err-used.ensures.answered bytes z) in
+    let after = c.in_err-used.ensures.answered self.limits bytes k.0 in
     rw (back.1, back.2) (appends_none (λ all. InsertsUpTo self.limits comment self.replace (bytes ++ c.args.piece.now) all e) text c.args.out.now
     (stops_before self.limits comment self.replace bytes c.args.piece.now text c.read_head.new.head e next k.1 after))
 
@@ -25,7 +25,7 @@ returns-in_default-clause-answered c = λ comment bytes text h.
     let self = c.args.self.now in
     let k = kept_of comment bytes text self c.requires h in
     let next = reading_of c.read_head.new.reader in
-    let after = by_limits self bytes c.args.piece.now c.read_head.new.head (Ok c.in_ok-used.used) next k.0 (λ z. c.in_ok-used.ensures.answered bytes z) in
+    let after = c.in_ok-used.ensures.answered self.limits bytes k.0 in
     appends_none (λ all. StandsWith self.limits comment self.replace self.stop self.segment (bytes ++ c.args.piece.now) all self.taken c.read_head.new.head next) text c.args.out.now
     (goes_on_before comment bytes c.args.piece.now text c.read_head.new.head self next c.requires h
     (subst (λ (o : Option ℕ). AfterHeadPiece self.limits self.replace bytes c.args.piece.now (Ok o) c.read_head.new.head next) c.in_default.is after))
@@ -38,7 +38,7 @@ returns-in_err-write_head-clause-answered c = λ comment bytes text h.
     let next = reading_of c.read_head.new.reader in
     let used = c.in-Some.used in
     let head = c.read_head.new.head in
-    let after = subst (λ (o : Option ℕ). AfterHeadPiece self.limits self.replace bytes piece (Ok o) head next) c.in-Some.is (by_limits self bytes piece head (Ok c.in_ok-used.used) next k.0 (λ z. c.in_ok-used.ensures.answered bytes z)) in
+    let after = subst (λ (o : Option ℕ). AfterHeadPiece self.limits self.replace bytes piece (Ok o) head next) c.in-Some.is (c.in_ok-used.ensures.answered self.limits bytes k.0) in
     let back = err_from_is_err_and c.from_residual-in_err-write_head.result c.from_residual-in_err-write_head.ensures.1 in
     let whole = whole_head head self.segment next.code in
     let is : whole_head c.as_slice.result.now c.as_slice-2.result.now c.code.result ≡ whole =
@@ -55,7 +55,7 @@ returns-in_err-taken-clause-answered c = λ comment bytes text h.
     let next = reading_of c.read_head.new.reader in
     let used = c.in-Some.used in
     let head = c.read_head.new.head in
-    let after = subst (λ (o : Option ℕ). AfterHeadPiece self.limits self.replace bytes piece (Ok o) head next) c.in-Some.is (by_limits self bytes piece head (Ok c.in_ok-used.used) next k.0 (λ z. c.in_ok-used.ensures.answered bytes z)) in
+    let after = subst (λ (o : Option ℕ). AfterHeadPiece self.limits self.replace bytes piece (Ok o) head next) c.in-Some.is (c.in_ok-used.ensures.answered self.limits bytes k.0) in
     let back = err_from_is_err_and c.from_residual-in_err-taken.result c.from_residual-in_err-taken.ensures.1 in
     let is : whole_head c.as_slice.result.now c.as_slice-2.result.now c.code.result ≡ whole_head head self.segment next.code =
     ap (λ l. whole_head l c.as_slice-2.result.now c.code.result) c.as_slice.ensures ∙ ap (λ l. whole_head head l c.code.result) c.as_slice-2.ensures ∙ ap (λ n. whole_head head self.segment n) c.code.ensures in
@@ -71,7 +71,7 @@ returns-clause-answered c = λ comment bytes text h.
     let next = reading_of c.read_head.new.reader in
     let used = c.in-Some.used in
     let head = c.read_head.new.head in
-    let after = subst (λ (o : Option ℕ). AfterHeadPiece self.limits self.replace bytes piece (Ok o) head next) c.in-Some.is (by_limits self bytes piece head (Ok c.in_ok-used.used) next k.0 (λ z. c.in_ok-used.ensures.answered bytes z)) in
+    let after = subst (λ (o : Option ℕ). AfterHeadPiece self.limits self.replace bytes piece (Ok o) head next) c.in-Some.is (c.in_ok-used.ensures.answered self.limits bytes k.0) in
     let is : whole_head c.as_slice.result.now c.as_slice-2.result.now c.code.result ≡ whole_head head self.segment next.code =
     ap (λ l. whole_head l c.as_slice-2.result.now c.code.result) c.as_slice.ensures ∙ ap (λ l. whole_head head l c.code.result) c.as_slice-2.ensures ∙ ap (λ n. whole_head head self.segment n) c.code.ensures in
     let wrote = c.in_ok-write_head.ensures ∙ ap (λ l. c.args.out.now ++ l) is in

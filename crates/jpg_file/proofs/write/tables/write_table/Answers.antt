@@ -1,9 +1,43 @@
-use Rattle.std.proofs.Common.{[], Ok}
+use Rattle.std.proofs.Common.{◌≡◌, [], Ok, None, Some, sym, ap, ◌∙◌}
+use Rattle.std.specs.Option.{option_map}
+use Rattle.jpg_spec_write.specs.FileText.{segment_text}
 use Rattle.jpg_huff.proofs.Together.{sends_nothing, sends_same}
-use Rattle.jpg_file.proofs.GivenTables.{due_none}
+use Rattle.jpg_huff.specs.Tables.{table_of}
+use Rattle.jpg_prog_write.specs.Written.{tables_in}
+use Rattle.jpg_file.specs.Write.WriteTables.{given_by}
+use Rattle.jpg_file.proofs.DueTables.{held_text, sent_text}
+use Rattle.jpg_file.proofs.TableSets.{found}
 use Rattle.jpg_file.proofs.write.tables.write_table.Goals as goal
 
-pub returns-then-is_given-clause-sends : goal.returns-then-is_given-clause-sends
-returns-then-is_given-clause-sends g c =
+pub returns-in_default-clause-sends : goal.returns-in_default-clause-sends
+returns-in_default-clause-sends g c =
+    let there = c.requires.tables c.args.class c.args.slot c.requires.class c.requires.slot in
+    let none : None ≡ Some there.0 = sym (ap (option_map (λ t. t.now)) c.in_default.is) ∙ c.table_in.ensures ∙ there.1 in
+    cc
+
+pub returns-in_default-clause-given : goal.returns-in_default-clause-given
+returns-in_default-clause-given g c =
+    let there = c.requires.tables c.args.class c.args.slot c.requires.class c.requires.slot in
+    let none : None ≡ Some there.0 = sym (ap (option_map (λ t. t.now)) c.in_default.is) ∙ c.table_in.ensures ∙ there.1 in
+    cc
+
+pub returns-then-is_held-clause-sends : goal.returns-then-is_held-clause-sends
+returns-then-is_held-clause-sends g c =
     let s = g.D.Desk.state c.args.desk.now in
-    sends_same s s c.args.out.now c.args.out.now [] _ (Ok tt) (due_none c.args.given.now.flags c.args.class c.args.slot c.requires.class c.requires.slot c.if-is_given.true) (sends_nothing s c.args.out.now c.requires.can.none)
+    let set = c.args.tables.now in
+    let t = c.in-Some.table.now in
+    let at = sym c.table_in.ensures ∙ ap (option_map (λ t. t.now)) c.in-Some.is in
+    sends_same s s c.args.out.now c.args.out.now [] _ (Ok tt)
+    (held_text (given_by c.args.given.now) (tables_in set) c.args.class c.args.slot (table_of t) (found set c.args.class c.args.slot t at) (sym c.holds-is_held.ensures ∙ c.if-is_held.true))
+    (sends_nothing s c.args.out.now c.requires.can.none)
+
+pub returns-clause-sends : goal.returns-clause-sends
+returns-clause-sends g c =
+    let state = g.D.Desk.state in
+    let set = c.args.tables.now in
+    let t = c.in-Some.table.now in
+    let at = sym c.table_in.ensures ∙ ap (option_map (λ t. t.now)) c.in-Some.is in
+    sends_same (state c.args.desk.now) (state c.write_segment.new.desk) c.args.out.now c.write_segment.new.out _ _ c.write_segment.result
+    (ap (segment_text 0xc4) (c.as_slice.ensures.value ∙ c.contents_of-contents.ensures)
+    ∙ sent_text (given_by c.args.given.now) (tables_in set) c.args.class c.args.slot (table_of t) (found set c.args.class c.args.slot t at) (sym c.holds-is_held.ensures ∙ c.if-is_held.false))
+    c.write_segment.ensures

@@ -22,30 +22,6 @@ begin_head-requires c =
     let h = o.1 in
     record { stands = (zero_picture f, zero_sizes f, (o.0, h.items, h.blocks, zero_whole (limits_of w) o.0 w f h o.2.framed c.checked.ensures (first_of (limits_of w) o.0 w h c.requires.first))) }
 
-pub unreachable-requires : goal.unreachable-requires
-unreachable-requires c =
-    let w = c.args.self.now in
-    let f = c.args.frame.now in
-    let o = c.requires.of in
-    let h = o.1 in
-    c.in-Head.ensures.after (zero_picture f) (zero_sizes f) o.0 h.items h.blocks (zero_whole (limits_of w) o.0 w f h o.2.framed c.checked.ensures (first_of (limits_of w) o.0 w h c.requires.first))
-
-pub unreachable-requires-in-Eoi : goal.unreachable-requires-in-Eoi
-unreachable-requires-in-Eoi c =
-    let w = c.args.self.now in
-    let f = c.args.frame.now in
-    let o = c.requires.of in
-    let h = o.1 in
-    c.in-Eoi.ensures.after (zero_picture f) (zero_sizes f) o.0 h.items h.blocks (zero_whole (limits_of w) o.0 w f h o.2.framed c.checked.ensures (first_of (limits_of w) o.0 w h c.requires.first))
-
-pub unreachable-requires-in-NoMemory : goal.unreachable-requires-in-NoMemory
-unreachable-requires-in-NoMemory c =
-    let w = c.args.self.now in
-    let f = c.args.frame.now in
-    let o = c.requires.of in
-    let h = o.1 in
-    c.in-NoMemory.ensures.after (zero_picture f) (zero_sizes f) o.0 h.items h.blocks (zero_whole (limits_of w) o.0 w f h o.2.framed c.checked.ensures (first_of (limits_of w) o.0 w h c.requires.first))
-
 pub returns-else-is_err-clause-after : goal.returns-else-is_err-clause-after
 returns-else-is_err-clause-after c = λ bytes h k.
     let w = c.args.self.now in
@@ -56,16 +32,16 @@ returns-else-is_err-clause-after c = λ bytes h k.
     let taken = c.begin_head.new.self in
     let room : Reading = record taken { items = record taken.items { segments = c.reserve.new.self } } in
     let roomy : FileWork = record { alloc = w.alloc; reading = room; begun = c.begin_head.new.begun; head = w.head } in
-    let a = c.in-More.ensures.after (zero_picture f) (zero_sizes f) bytes h.items h.blocks whole in
+    let a = c.in-Ok-begin_head.ensures.after (zero_picture f) (zero_sizes f) bytes h.items h.blocks whole in
     rows_begun (limits_of w) bytes w roomy c.note_head.new.self f c.args.head.now rows h k first (head_room (limits_of w) bytes h.items w.reading.items taken (zero_picture f) c.begin_head.new.begun c.reserve.new.self c.reserve.ensures.same a) refl c.note_head.ensures
-    (λ scan has. c.in-More.ensures.left bytes h.items h.blocks (zero_picture f) scan whole has refl) c.in-Ok.ensures.zero c.in-Ok.ensures.at c.in-Ok.ensures.waiting c.in-Ok.ensures.first
+    (λ scan has. c.in-Ok-begin_head.ensures.left bytes h.items h.blocks (zero_picture f) scan whole has refl) c.in-Ok.ensures.zero c.in-Ok.ensures.at c.in-Ok.ensures.waiting c.in-Ok.ensures.first
 
-pub returns-in-Fault-clause-after : goal.returns-in-Fault-clause-after
-returns-in-Fault-clause-after c = λ bytes h k.
+pub returns-in-Err-clause-after : goal.returns-in-Err-clause-after
+returns-in-Err-clause-after c = λ bytes h k.
     let w = c.args.self.now in
     let f = c.args.frame.now in
     let whole = zero_whole (limits_of w) bytes w f h k.framed c.checked.ensures (first_of (limits_of w) bytes w h c.requires.first) in
-    let a = c.in-Fault.ensures.after (zero_picture f) (zero_sizes f) bytes h.items h.blocks whole in
+    let a = c.in-Err.ensures.after (zero_picture f) (zero_sizes f) bytes h.items h.blocks whole in
     (a.1, a.0)
 
 pub returns-else-is_err-clause-all : goal.returns-else-is_err-clause-all
@@ -79,7 +55,7 @@ returns-else-is_err-clause-all c = λ head is.
     let taken = c.begin_head.new.self in
     let room : Reading = record taken { items = record taken.items { segments = c.reserve.new.self } } in
     let roomy : FileWork = record { alloc = w.alloc; reading = room; begun = c.begin_head.new.begun; head = w.head } in
-    let a = c.in-More.ensures.after (zero_picture f) (zero_sizes f) o.0 h.items h.blocks whole in
+    let a = c.in-Ok-begin_head.ensures.after (zero_picture f) (zero_sizes f) o.0 h.items h.blocks whole in
     let b = head_room (limits_of w) o.0 h.items w.reading.items taken (zero_picture f) c.begin_head.new.begun c.reserve.new.self c.reserve.ensures.same a in
     c.in-Ok.ensures.count ∙ head_rows f c.args.head.now k.is_head k.all
     ∙ ap (λ (g : Frame). rows_of_all g) (sym (kept_frame (limits_of w) o.0 w roomy c.note_head.new.self f c.args.head.now head h k b c.requires.first c.note_head.ensures is))
@@ -93,5 +69,5 @@ returns-else-is_err-clause-told c = λ bytes h k.
     let taken = c.begin_head.new.self in
     let room : Reading = record taken { items = record taken.items { segments = c.reserve.new.self } } in
     let roomy : FileWork = record { alloc = w.alloc; reading = room; begun = c.begin_head.new.begun; head = w.head } in
-    let a = c.in-More.ensures.after (zero_picture f) (zero_sizes f) bytes h.items h.blocks whole in
+    let a = c.in-Ok-begin_head.ensures.after (zero_picture f) (zero_sizes f) bytes h.items h.blocks whole in
     begins_told (limits_of w) bytes w roomy c.note_head.new.self f c.args.head.now h k first (head_room (limits_of w) bytes h.items w.reading.items taken (zero_picture f) c.begin_head.new.begun c.reserve.new.self c.reserve.ensures.same a) c.note_head.ensures

@@ -1,7 +1,8 @@
 use Rattle.std.proofs.Common.{sym, subst}
 use Rattle.jpg_file.specs.Read.File.{with_picture}
-use Rattle.jpg_file.specs.Read.Strips.{AfterRows, NotWanting}
-use Rattle.jpg_file.specs.declared.read.strips.StripStep.{StripStep}
+use Rattle.jpg_file.specs.Read.Step.{NotWanting}
+use Rattle.jpg_file.specs.Read.Strips.{AfterRows}
+use Rattle.jpg_file.specs.declared.read.step.Step.{Step}
 use Rattle.jpg_file.proofs.StripAlone.{frame_there, none_accepted}
 use Rattle.jpg_file.proofs.StripItems.{head_stops}
 use Rattle.jpg_file.proofs.read.file.FileWork.later_head.Goals as goal
@@ -19,8 +20,8 @@ unreachable-requires-in-Ok c =
 pub returns-clause-after : goal.returns-clause-after
 returns-clause-after c = λ limits bytes whole rows h.
     let w = c.args.self.now in
-    subst (λ (a : StripStep). AfterRows limits bytes a w rows) (sym c.fault_at.ensures)
+    subst (λ (a : Step). AfterRows limits bytes a w rows) (sym c.fault_at.ensures)
     (head_stops limits bytes (with_picture w whole) c.in-Some.frame c.contents.result.now c.in-Err.fault h c.in-Some.is c.contents.ensures c.in-Err.ensures)
 
 pub returns-clause-memory : goal.returns-clause-memory
-returns-clause-memory c = subst (λ (a : StripStep). NotWanting a) (sym c.fault_at.ensures) tt
+returns-clause-memory c = subst (λ (a : Step). NotWanting a) (sym c.fault_at.ensures) tt

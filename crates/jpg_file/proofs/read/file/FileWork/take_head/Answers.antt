@@ -1,8 +1,7 @@
-use Rattle.std.proofs.Common.{◌∙◌, refl, sym, ap, subst}
+use Rattle.std.proofs.Common.{◌∙◌, Err, refl, sym, ap, subst}
 use Rattle.jpg_file.specs.Read.File.{limits_of}
 use Rattle.jpg_file.specs.Read.Reading.{HeadWhole}
 use Rattle.jpg_file.specs.declared.read.file.FileWork.{FileWork}
-use Rattle.jpg_file.specs.declared.read.items.ItemStep.TheVariants as step
 use Rattle.jpg_file.proofs.FileSteps.{head_after, head_goes, head_whole, no_room, room_made}
 use Rattle.jpg_file.proofs.read.file.FileWork.take_head.Goals as goal
 
@@ -16,41 +15,20 @@ take_head-requires c =
     let same = ap (λ i. i.limits) made.items in
     record { stands = (o.0, h.items, h.blocks, subst (λ l. HeadWhole l o.0 h.items h.blocks new.reading new.begun) (sym same) (head_whole (limits_of old) o.0 old new h made)) }
 
-pub returns-in-More-clause-after : goal.returns-in-More-clause-after
-returns-in-More-clause-after c = λ bytes h.
+pub returns-in-Ok-clause-after : goal.returns-in-Ok-clause-after
+returns-in-Ok-clause-after c = λ bytes h.
     let old = c.args.self.now in
     let room = c.make_room.new.self in
     let taken : FileWork = record { alloc = room.alloc; reading = c.take_head.new.self; begun = c.take_head.new.begun; head = room.head } in
-    head_goes (limits_of old) bytes old room taken _ h (room_made old room c.make_room.result c.make_room.ensures.made (sym c.is_err.ensures.value ∙ c.if-is_err.false)) c.make_room.ensures.head c.in-More.ensures.after refl c.note_head.ensures
+    head_goes (limits_of old) bytes old room taken _ h (room_made old room c.make_room.result c.make_room.ensures.made (sym c.is_err.ensures.value ∙ c.if-is_err.false)) c.make_room.ensures.head c.in-Ok.ensures.after refl c.note_head.ensures
 
-pub returns-in-Fault-clause-after : goal.returns-in-Fault-clause-after
-returns-in-Fault-clause-after c = λ bytes h.
+pub returns-in-Err-clause-after : goal.returns-in-Err-clause-after
+returns-in-Err-clause-after c = λ bytes h.
     let old = c.args.self.now in
     let room = c.make_room.new.self in
     let made = room_made old room c.make_room.result c.make_room.ensures.made (sym c.is_err.ensures.value ∙ c.if-is_err.false) in
-    let a = head_after (limits_of old) bytes old room (step.Fault c.in-Fault.fault) c.take_head.new.self c.take_head.new.begun h made c.in-Fault.ensures.after in
+    let a = head_after (limits_of old) bytes old room (Err c.in-Err.fault) c.take_head.new.self c.take_head.new.begun h made c.in-Err.ensures.after in
     (a.1, a.0)
 
 pub returns-then-is_err-clause-after : goal.returns-then-is_err-clause-after
 returns-then-is_err-clause-after c = λ bytes h. no_room c.args.self.now c.make_room.new.self c.make_room.result c.make_room.ensures.made (sym c.is_err.ensures.value ∙ c.if-is_err.true)
-
-pub unreachable-requires : goal.unreachable-requires
-unreachable-requires c =
-    let old = c.args.self.now in
-    let o = c.requires.stands in
-    let made = room_made old c.make_room.new.self c.make_room.result c.make_room.ensures.made (sym c.is_err.ensures.value ∙ c.if-is_err.false) in
-    head_after (limits_of old) o.0 old c.make_room.new.self step.Head c.take_head.new.self c.take_head.new.begun o.1 made c.in-Head.ensures.after
-
-pub unreachable-requires-in-Eoi : goal.unreachable-requires-in-Eoi
-unreachable-requires-in-Eoi c =
-    let old = c.args.self.now in
-    let o = c.requires.stands in
-    let made = room_made old c.make_room.new.self c.make_room.result c.make_room.ensures.made (sym c.is_err.ensures.value ∙ c.if-is_err.false) in
-    head_after (limits_of old) o.0 old c.make_room.new.self step.Eoi c.take_head.new.self c.take_head.new.begun o.1 made c.in-Eoi.ensures.after
-
-pub unreachable-requires-in-NoMemory : goal.unreachable-requires-in-NoMemory
-unreachable-requires-in-NoMemory c =
-    let old = c.args.self.now in
-    let o = c.requires.stands in
-    let made = room_made old c.make_room.new.self c.make_room.result c.make_room.ensures.made (sym c.is_err.ensures.value ∙ c.if-is_err.false) in
-    head_after (limits_of old) o.0 old c.make_room.new.self step.NoMemory c.take_head.new.self c.take_head.new.begun o.1 made c.in-NoMemory.ensures.after

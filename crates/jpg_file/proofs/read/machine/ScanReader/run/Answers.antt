@@ -1,3 +1,4 @@
+use Rattle.std.proofs.Common.{[]}
 use Rattle.jpg_seq.specs.Reader.{sequential}
 use Rattle.jpg_prog_read.specs.AcStands.{progressive_ac}
 use Rattle.jpg_prog_read.specs.DcFirstPass.{first_pass}
@@ -8,13 +9,13 @@ use Rattle.jpg_file.proofs.Machines.{is_sequential, is_dc_first, is_dc_later, is
 use Rattle.jpg_file.proofs.read.machine.ScanReader.run.Goals as goal
 
 pub returns-in-Sequential : goal.returns-in-Sequential
-returns-in-Sequential c = rw c.in-Sequential.is (run_of (λ m. Sequential m) sequential any_scan is_sequential c.in-Sequential.machine c.take_bytes.new.machine c.args.coefs.now c.take_bytes.new.coefs c.args.bytes.now c.take_bytes.result.0 c.take_bytes.result.1 c.take_bytes.ensures)
+returns-in-Sequential c = rw c.in-Sequential.is (run_of (λ m. Sequential m) sequential any_scan is_sequential c.in-Sequential.machine c.take_bytes.new.machine c.args.coefs.now c.take_bytes.new.coefs c.args.bytes.now c.take_bytes.result.0 c.take_bytes.result.1 [] c.take_bytes.ensures)
 
 pub returns-in-DcFirst : goal.returns-in-DcFirst
-returns-in-DcFirst c = rw c.in-DcFirst.is (run_of (λ m. DcFirst m) first_pass any_scan is_dc_first c.in-DcFirst.machine c.take_run.new.machine c.args.coefs.now c.take_run.new.coefs c.args.bytes.now c.take_run.result.0 c.take_run.result.1 c.take_run.ensures)
+returns-in-DcFirst c = rw c.in-DcFirst.is (run_of (λ m. DcFirst m) first_pass any_scan is_dc_first c.in-DcFirst.machine c.take_run.new.machine c.args.coefs.now c.take_run.new.coefs c.args.bytes.now c.take_run.result.0 c.take_run.result.1 [] c.take_run.ensures)
 
 pub returns-in-DcRefine : goal.returns-in-DcRefine
-returns-in-DcRefine c = rw c.in-DcRefine.is (run_of (λ m. DcRefine m) refinement any_scan is_dc_later c.in-DcRefine.machine c.take_run-in-DcRefine.new.machine c.args.coefs.now c.take_run-in-DcRefine.new.coefs c.args.bytes.now c.take_run-in-DcRefine.result.0 c.take_run-in-DcRefine.result.1 c.take_run-in-DcRefine.ensures)
+returns-in-DcRefine c = rw c.in-DcRefine.is (run_of (λ m. DcRefine m) refinement any_scan is_dc_later c.in-DcRefine.machine c.take_run-in-DcRefine.new.machine c.args.coefs.now c.take_run-in-DcRefine.new.coefs c.args.bytes.now c.take_run-in-DcRefine.result.0 c.take_run-in-DcRefine.result.1 [] c.take_run-in-DcRefine.ensures)
 
 pub returns-in-Ac : goal.returns-in-Ac
-returns-in-Ac c = rw c.in-Ac.is (run_of (λ m. Ac m) progressive_ac any_scan is_ac c.in-Ac.machine c.take_run-in-Ac.new.machine c.args.coefs.now c.take_run-in-Ac.new.coefs c.args.bytes.now c.take_run-in-Ac.result.0 c.take_run-in-Ac.result.1 c.take_run-in-Ac.ensures)
+returns-in-Ac c = rw c.in-Ac.is (run_of (λ m. Ac m) progressive_ac any_scan is_ac c.in-Ac.machine c.take_run-in-Ac.new.machine c.args.coefs.now c.take_run-in-Ac.new.coefs c.args.bytes.now c.take_run-in-Ac.result.0 c.take_run-in-Ac.result.1 [] c.take_run-in-Ac.ensures)

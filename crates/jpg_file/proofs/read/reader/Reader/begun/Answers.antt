@@ -7,4 +7,4 @@ pub returns : goal.returns
 returns c = λ bytes h.
     let k = subst (λ (r : ReaderState). HasRead bytes r) (sym c.self.view_is) h in
     subst (λ (r : ReaderState). TellsBegun r.limits bytes c.is_complete.result) c.self.view_is
-    (tells_begun c.self.inside.limits bytes c.self.inside.file c.is_complete.result k.open c.is_complete.ensures)
+    (tells_begun c.self.inside.limits bytes c.self.inside.work.file c.is_complete.result k.open c.is_complete.ensures)

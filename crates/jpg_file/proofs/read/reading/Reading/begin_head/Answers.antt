@@ -18,7 +18,11 @@ use Rattle.jpg_spec.proofs.Common.{some_once}
 use Rattle.jpg_file.proofs.RowCounts.{begun_places}
 use Rattle.jpg_file.proofs.ScanHistories.{begun_more, table_there}
 use Rattle.jpg_file.proofs.HeaderTaken.{found, judged, head_begins, head_shows}
+use Rattle.jpg_file.proofs.Scannings.{none_some}
 use Rattle.jpg_file.proofs.read.reading.Reading.begin_head.Goals as goal
+
+pub unreachable-requires : goal.unreachable-requires
+unreachable-requires c = let k = c.requires.stands.2.3 in none_some c.args.self.now.items.held.frame k.frame k.framed c.in_default.is
 
 pub begin_data-requires : goal.begin_data-requires
 begin_data-requires c =

@@ -1,7 +1,8 @@
 use Rattle.std.proofs.Common.{sym, ap, subst, ◌∙◌}
+use Rattle.std.specs.Prelude.{Result}
+use Rattle.jpg_spec.specs.declared.fault.Fault.{Fault}
 use Rattle.jpg_spec.proofs.Common.{some_once}
-use Rattle.jpg_file.specs.Read.InData.{GoesInside, TakesRun}
-use Rattle.jpg_file.specs.declared.read.scan.ScanStep.{ScanStep}
+use Rattle.jpg_file.specs.Read.InData.{TakesRun}
 use Rattle.jpg_file.specs.declared.read.scan.InScan.{InScan}
 use Rattle.jpg_file.proofs.Scannings.{data_of, none_some, run_goes_on, run_shows}
 use Rattle.jpg_file.proofs.read.reading.Reading.scan_run.Goals as goal
@@ -11,9 +12,6 @@ unreachable-requires c = let s = c.requires.stands.3 in none_some c.args.self.no
 
 pub unreachable-requires-in_default-scan : goal.unreachable-requires-in_default-scan
 unreachable-requires-in_default-scan c = let s = c.requires.stands.3 in none_some c.args.self.now.scan s.scan s.inside c.in_default-scan.is
-
-pub unreachable-requires-in-Marker : goal.unreachable-requires-in-Marker
-unreachable-requires-in-Marker c = subst (λ (a : ScanStep). GoesInside a) c.in-Marker.is c.run-n.ensures.goes
 
 pub run-n-requires-clause-inside : goal.run-n-requires-clause-inside
 run-n-requires-clause-inside c =
@@ -30,8 +28,8 @@ run-n-requires-clause-due c =
     let o = c.requires.opened in
     ap (λ (s : InScan). s.work.whole) (some_once c.in-Some-scan.scan o.scan (sym c.in-Some-scan.is ∙ o.inside)) ∙ o.due
 
-pub returns-in-More-clause-after : goal.returns-in-More-clause-after
-returns-in-More-clause-after c = run_goes_on c.args.self.now c.in-Some.coefs c.run-n.new.coefs c.in-Some-scan.scan c.run-n.new.self c.args.run.now c.run-n.result.0 c.in-Some.is c.in-Some-scan.is (subst (λ (a : ScanStep). TakesRun c.in-Some-scan.scan c.in-Some.coefs c.args.run.now c.run-n.result.0 a c.run-n.new.self c.run-n.new.coefs) c.in-More.is c.run-n.ensures.after)
+pub returns-in-Ok-clause-after : goal.returns-in-Ok-clause-after
+returns-in-Ok-clause-after c = run_goes_on c.args.self.now c.in-Some.coefs c.run-n.new.coefs c.in-Some-scan.scan c.run-n.new.self c.args.run.now c.run-n.result.0 c.in-Some.is c.in-Some-scan.is (subst (λ (a : Result (Unit {0}) Fault). TakesRun c.in-Some-scan.scan c.in-Some.coefs c.args.run.now c.run-n.result.0 a c.run-n.new.self c.run-n.new.coefs) c.in-Ok.is c.run-n.ensures)
 
-pub returns-in-Fault-clause-after : goal.returns-in-Fault-clause-after
-returns-in-Fault-clause-after c = run_shows c.args.self.now _ c.in-Some.coefs c.run-n.new.coefs c.in-Some-scan.scan c.run-n.new.self c.args.run.now c.run-n.result.0 c.in-Fault.fault c.in-Some.is c.in-Some-scan.is (subst (λ (a : ScanStep). TakesRun c.in-Some-scan.scan c.in-Some.coefs c.args.run.now c.run-n.result.0 a c.run-n.new.self c.run-n.new.coefs) c.in-Fault.is c.run-n.ensures.after)
+pub returns-in-Err-clause-after : goal.returns-in-Err-clause-after
+returns-in-Err-clause-after c = run_shows c.args.self.now _ c.in-Some.coefs c.run-n.new.coefs c.in-Some-scan.scan c.run-n.new.self c.args.run.now c.run-n.result.0 c.in-Err.fault c.in-Some.is c.in-Some-scan.is (subst (λ (a : Result (Unit {0}) Fault). TakesRun c.in-Some-scan.scan c.in-Some.coefs c.args.run.now c.run-n.result.0 a c.run-n.new.self c.run-n.new.coefs) c.in-Err.is c.run-n.ensures)

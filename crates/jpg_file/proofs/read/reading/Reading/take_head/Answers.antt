@@ -1,7 +1,11 @@
 use Rattle.std.proofs.Common.{◌∙◌, Option, sym, subst}
 use Rattle.jpg_coefs.specs.Picture.{Picture}
 use Rattle.jpg_file.specs.Read.Reading.{AfterHead, HeadWhole}
+use Rattle.jpg_file.proofs.Scannings.{none_some}
 use Rattle.jpg_file.proofs.read.reading.Reading.take_head.Goals as goal
+
+pub unreachable-requires : goal.unreachable-requires
+unreachable-requires c = let k = c.requires.stands.3 in none_some c.args.self.now.coefs k.coefs k.has c.in_default.is
 
 pub begin_head-requires : goal.begin_head-requires
 begin_head-requires c =

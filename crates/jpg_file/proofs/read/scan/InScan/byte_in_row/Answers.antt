@@ -1,47 +1,53 @@
-use Rattle.std.proofs.Common.{◌≡◌, ◌∙◌, ◌++◌, ◌∷◌, [], ℕ, List, Bool, refl, sym, ap, subst}
+use Rattle.std.proofs.Common.{◌≡◌, ◌∙◌, ◌++◌, ◌∷◌, [], ℕ, List, Bool, false, Ok, Err, refl, sym, ap, subst}
+use Rattle.std.specs.Prelude.{Result}
 use Rattle.jpg_spec.specs.Bits.{bits_of}
+use Rattle.jpg_spec.specs.declared.fault.Fault.{Fault}
 use Rattle.jpg_spec.specs.declared.fault.Fault.TheVariants as fault
-use Rattle.jpg_file.specs.Read.InData.{MarkerAt}
-use Rattle.jpg_file.specs.declared.read.scan.ScanStep.TheVariants as step
+use Rattle.jpg_file.specs.Read.RowData.{AfterRowByte, AfterRowBytes}
+use Rattle.jpg_file.specs.declared.read.scan.InScan.{InScan}
+use Rattle.jpg_file.specs.Read.InData.{AfterByte, MarkerAt}
 use Rattle.jpg_file.specs.Read.Machine.{any_scan}
-use Rattle.jpg_file.specs.Read.RowData.{RowBits}
+use Rattle.jpg_file.specs.Read.Data.{GivesBits}
 use Rattle.jpg_file.proofs.RowBits.{half_after}
 use Rattle.jpg_file.proofs.RowCounts.{counts_scan, none_counted}
 use Rattle.jpg_file.proofs.FaultsData.{byte_extra, byte_faults, byte_wrong, goes_on}
-use Rattle.jpg_file.proofs.RowScans.{open_scan, rest_as, rest_none, work_same}
-use Rattle.jpg_file.proofs.ScanBytes.{data_at, ff_byte, marker_at, marker_byte, whole_extra}
+use Rattle.jpg_file.proofs.RowScans.{by_data, open_scan, rest_none}
+use Rattle.jpg_file.proofs.ScanBytes.{as_stepped, data_at, ff_byte, marker_at, marker_byte, whole_extra}
 use Rattle.jpg_file.proofs.read.scan.InScan.byte_in_row.Goals as goal
 
 pub returns-in-More-clause-takes : goal.returns-in-More-clause-takes
 returns-in-More-clause-takes c = λ limits items contents bytes whole at d.
-    (whole, at, rest_none limits items contents (bytes ++ c.args.byte ∷ []) step.More c.args.rows.now.waiting (record (c.args.self.now) { gate = c.byte.new.self }) whole c.requires.none (ff_byte limits items contents bytes c.args.byte c.args.self.now c.byte.new.self whole d c.in-More.ensures.0 c.in-More.ensures.1))
+    (whole, at, rest_none limits items contents (bytes ++ c.args.byte ∷ []) c.args.byte (Ok false) c.args.rows.now.waiting (record (c.args.self.now) { gate = c.byte.new.self }) whole c.requires.none (ff_byte limits items contents bytes c.args.byte c.args.self.now c.byte.new.self whole d c.in-More.ensures.0 c.in-More.ensures.1))
 
 pub returns-then-self-clause-takes : goal.returns-then-self-clause-takes
 returns-then-self-clause-takes c = λ limits items contents bytes whole at d.
     let all : List ℕ = bytes ++ c.args.byte ∷ [] in
     let here = data_at limits items contents bytes c.args.byte c.in-Data.data c.args.self.now whole d c.in-Data.ensures.0 in
-    (whole, at, rest_none limits items contents all (step.Fault fault.ExtraData) c.args.rows.now.waiting (record { gate = c.byte.new.self; work = c.args.self.now.work }) whole c.requires.none (whole_extra limits all d.place c.in-Data.data c.args.self.now.work whole here c.if-self.true d.work))
+    (whole, at, rest_none limits items contents all c.args.byte (Err fault.ExtraData) c.args.rows.now.waiting (record { gate = c.byte.new.self; work = c.args.self.now.work }) whole c.requires.none (whole_extra limits all d.place c.in-Data.data c.args.self.now.work whole here c.if-self.true d.work))
 
-pub take-got-requires-clause-open : goal.take-got-requires-clause-open
-take-got-requires-clause-open c =
+pub take-taken-requires-clause-open : goal.take-taken-requires-clause-open
+take-taken-requires-clause-open c =
     let o = c.requires.inside in let i = o.inside in
     (o.whole, o.row, open_scan i.0 i.1 i.2 i.3 c.args.self.now o.whole i.4 c.if-self.false)
 
-pub take-got-requires-clause-inside : goal.take-got-requires-clause-inside
-take-got-requires-clause-inside c = (c.requires.inside.due c.if-self.false).0
+pub take-taken-requires-clause-inside : goal.take-taken-requires-clause-inside
+take-taken-requires-clause-inside c = (c.requires.inside.due c.if-self.false).0
 
-pub take-got-requires-clause-some : goal.take-got-requires-clause-some
-take-got-requires-clause-some c = (c.requires.inside.due c.if-self.false).1
+pub take-taken-requires-clause-some : goal.take-taken-requires-clause-some
+take-taken-requires-clause-some c = (c.requires.inside.due c.if-self.false).1
 
 pub returns-else-self-clause-takes : goal.returns-else-self-clause-takes
 returns-else-self-clause-takes c = λ limits items contents bytes whole at d.
     let all : List ℕ = bytes ++ c.args.byte ∷ [] in
     let here = data_at limits items contents bytes c.args.byte c.in-Data.data c.args.self.now whole d c.in-Data.ensures.0 in
-    let t = c.take-got.ensures.takes whole at (open_scan limits items contents bytes c.args.self.now whole d c.if-self.false) in
+    let t = c.take-taken.ensures.takes whole at (open_scan limits items contents bytes c.args.self.now whole d c.if-self.false) in
     let e : c.push.new.self ≡ bits_of 8 c.in-Data.data = c.push.ensures ∙ ap (λ (z : List Bool). z ++ bits_of 8 c.in-Data.data) c.new-store.ensures in
-    let B : List Bool → Type 0 = λ z. RowBits any_scan c.args.self.now.work.machine whole z c.take-got.result.step c.take-got.new.self.waiting c.take-got.new.machine t.0 in
-    let k = half_after limits items contents all d.place c.in-Data.data c.byte.new.self c.args.self.now.work whole t.0 c.take-got.result.step c.take-got.new.self.waiting c.take-got.new.machine d.of here c.in-Data.ensures.1 d.work c.if-self.false (subst B e t.2) in
-    (t.0, t.1, rest_as limits items contents all c.byte.new.self c.args.self.now.work c.stepped.new.self c.take-got.new.machine t.0 c.take-got.result.step c.stepped.result c.take-got.new.self.waiting c.stepped.ensures.answer (c.stepped.ensures.work ∙ work_same c.args.self.now.work c.take-got.new.machine c.take-got.result.step) k)
+    let B : List Bool → Type 0 = λ z. GivesBits any_scan c.args.self.now.work.machine whole z c.take-taken.result c.take-taken.new.self.waiting c.take-taken.new.machine t.0 in
+    let k = half_after limits items contents all d.place c.in-Data.data c.byte.new.self c.args.self.now.work whole t.0 c.take-taken.result c.take-taken.new.self.waiting c.take-taken.new.machine d.of here c.in-Data.ensures.1 d.work c.if-self.false (subst B e t.2) in
+    let z = as_stepped c.args.self.now.work c.stepped.new.self c.take-taken.new.machine c.take-taken.result c.stepped.result (λ a v. AfterRowBytes limits items contents all a c.take-taken.new.self.waiting (record { gate = c.byte.new.self; work = v }) t.0) c.stepped.ensures.answer c.stepped.ensures.work k in
+    let new : InScan = record { gate = c.byte.new.self; work = c.stepped.new.self } in
+    let R : Result Bool Fault → Type 0 = λ a. AfterRowByte limits items contents all c.args.byte a c.take-taken.new.self.waiting new t.0 in
+    (t.0, t.1, subst R (sym c.by_data.ensures) (by_data limits items contents all c.args.byte c.stepped.result c.take-taken.new.self.waiting new t.0 z))
 
 pub returns-in-Marker-clause-takes : goal.returns-in-Marker-clause-takes
 returns-in-Marker-clause-takes c = λ limits items contents bytes whole at d.
@@ -53,8 +59,9 @@ returns-in-Marker-clause-takes c = λ limits items contents bytes whole at d.
     let m = subst P e.3 (marker_at limits items contents bytes c.in-Marker.code c.args.self.now whole d e.0 z f) in (
       whole,
       at,
-      rest_none limits items contents all c.marker.result c.args.rows.now.waiting (record { gate = c.byte.new.self; work = c.marker.new.self }) whole c.requires.none
-          (marker_byte limits items contents all d.place m.fill c.in-Marker.code c.byte.new.self c.marker.new.self whole c.marker.result d.of z f m.at e.4 (c.marker.ensures.takes whole limits d.place all m)),
+      rest_none limits items contents all c.args.byte c.marker.result c.args.rows.now.waiting (record { gate = c.byte.new.self; work = c.marker.new.self }) whole c.requires.none
+          (subst (λ n. AfterByte limits items contents all n c.marker.result (record { gate = c.byte.new.self; work = c.marker.new.self }) whole) e.3
+          (marker_byte limits items contents all d.place m.fill c.in-Marker.code c.byte.new.self c.marker.new.self whole c.marker.result d.of z f m.at e.4 (c.marker.ensures.takes whole limits d.place all m))),
     )
 
 pub marker-requires : goal.marker-requires
@@ -76,21 +83,21 @@ returns-then-self-clause-counts c = none_counted c.args.self.now.work c.args.sel
 pub returns-else-self-clause-counts : goal.returns-else-self-clause-counts
 returns-else-self-clause-counts c =
     let w = c.args.self.now.work in
-    counts_scan w c.args.rows.now c.take-got.result c.stepped.new.self c.take-got.new.self c.take-got.new.machine c.if-self.false (c.requires.inside.due c.if-self.false).1 c.take-got.ensures.counts (c.stepped.ensures.work ∙ work_same w c.take-got.new.machine c.take-got.result.step)
+    counts_scan w c.args.rows.now c.take-taken.result c.stepped.new.self c.take-taken.new.self c.take-taken.new.machine c.if-self.false (c.requires.inside.due c.if-self.false).1 c.take-taken.ensures.counts c.stepped.ensures.work
 
 pub returns-in-Marker-clause-counts : goal.returns-in-Marker-clause-counts
 returns-in-Marker-clause-counts c = none_counted c.args.self.now.work c.marker.new.self c.args.rows.now c.marker.ensures.left c.requires.none
 
 pub returns-in-More-clause-stops : goal.returns-in-More-clause-stops
-returns-in-More-clause-stops c = goes_on c.args.self.now c.args.rows.now c.args.byte step.More refl
+returns-in-More-clause-stops c = goes_on c.args.self.now c.args.rows.now c.args.byte (Ok false) refl
 
 pub returns-then-self-clause-stops : goal.returns-then-self-clause-stops
-returns-then-self-clause-stops c = byte_extra c.args.self.now c.args.rows.now c.args.byte c.in-Data.data (step.Fault fault.ExtraData) c.in-Data.ensures.0 c.if-self.true
+returns-then-self-clause-stops c = byte_extra c.args.self.now c.args.rows.now c.args.byte c.in-Data.data (Err fault.ExtraData) c.in-Data.ensures.0 c.if-self.true
 
 pub returns-else-self-clause-stops : goal.returns-else-self-clause-stops
 returns-else-self-clause-stops c =
     let e : c.push.new.self ≡ bits_of 8 c.in-Data.data = c.push.ensures ∙ ap (λ (z : List Bool). z ++ bits_of 8 c.in-Data.data) c.new-store.ensures in
-    byte_faults c.args.self.now c.args.rows.now c.args.byte c.in-Data.data c.push.new.self c.stepped.result c.take-got.result.step c.in-Data.ensures.0 c.if-self.false e c.stepped.ensures.answer c.take-got.ensures.stops
+    byte_faults c.args.self.now c.args.rows.now c.args.byte c.in-Data.data c.push.new.self c.stepped.result c.by_data.result c.take-taken.result c.in-Data.ensures.0 c.if-self.false e c.stepped.ensures.answer c.by_data.ensures c.take-taken.ensures.stops
 
 pub returns-in-Marker-clause-stops : goal.returns-in-Marker-clause-stops
 returns-in-Marker-clause-stops c =

@@ -1,4 +1,3 @@
-use Rattle.std.proofs.Common.{refl}
 use Rattle.jpg_spec.specs.ScanReading.{with_interval}
 use Rattle.jpg_file.proofs.ScanBytes.{short_marker, last_marker, last_framed, wrong_marker, right_marker}
 use Rattle.jpg_file.proofs.read.scan.ScanWork.marker.Goals as goal
@@ -15,7 +14,7 @@ pub returns-then-not-self-clause-takes : goal.returns-then-not-self-clause-takes
 returns-then-not-self-clause-takes c = λ now limits p bytes m. short_marker limits bytes p m.fill c.args.code c.args.self.now now m.no_zero m.no_fill m.at c.if-not-self.true m.work
 
 pub returns-then-self-eq0-clause-takes : goal.returns-then-self-eq0-clause-takes
-returns-then-self-eq0-clause-takes c = λ now limits p bytes m. (refl, last_framed limits p c.args.self.now now c.if-not-self.false m.work, last_marker limits p c.args.self.now now c.if-not-self.false c.if-self-eq0.true m.work)
+returns-then-self-eq0-clause-takes c = λ now limits p bytes m. (last_framed limits p c.args.self.now now c.if-not-self.false m.work, last_marker limits p c.args.self.now now c.if-not-self.false c.if-self-eq0.true m.work)
 
 pub returns-then-code-self-clause-takes : goal.returns-then-code-self-clause-takes
 returns-then-code-self-clause-takes c = λ now limits p bytes m.

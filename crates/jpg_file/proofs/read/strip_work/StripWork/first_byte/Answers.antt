@@ -5,7 +5,7 @@ use Rattle.jpg_file.specs.Read.File.{HeadStands, limits_of}
 use Rattle.jpg_file.specs.Read.RowsNone.{HasNoRows, NoneAfter}
 use Rattle.jpg_file.specs.Read.Strips.{AfterStrip}
 use Rattle.jpg_file.specs.declared.read.rows.RowWork.{RowWork}
-use Rattle.jpg_file.specs.declared.read.strips.StripStep.TheVariants as step
+use Rattle.jpg_file.specs.declared.read.step.Step.TheVariants as step
 use Rattle.jpg_file.proofs.StripWorks.{plain_after}
 use Rattle.jpg_file.proofs.RowsNone.{none_after, none_before, none_fault, none_plain}
 use Rattle.jpg_file.proofs.read.strip_work.StripWork.first_byte.Goals as goal
@@ -21,7 +21,7 @@ pub returns-in-Eoi-clause-after : goal.returns-in-Eoi-clause-after
 returns-in-Eoi-clause-after c = λ bytes k.
     let w = c.args.self.now.file in
     let all = bytes ++ c.args.byte ∷ [] in
-    plain_after ⊥ (limits_of w) all c.args.self.now.rows c.step.new.self c.take_end.result c.end_step.result c.requires.none c.end_step.ensures.is (c.take_end.ensures.end (limits_of w) all (c.in-Eoi.ensures.after bytes k))
+    plain_after ⊥ (limits_of w) all c.args.self.now.rows c.step.new.self c.take_end.result c.requires.none (c.take_end.ensures.end (limits_of w) all (c.in-Eoi.ensures.after bytes k))
 
 pub returns-in-Fault-clause-after : goal.returns-in-Fault-clause-after
 returns-in-Fault-clause-after c = λ bytes k.
@@ -49,7 +49,7 @@ pub returns-in-Eoi-clause-none : goal.returns-in-Eoi-clause-none
 returns-in-Eoi-clause-none c = λ bytes k.
     let w = c.args.self.now.file in
     let all = bytes ++ c.args.byte ∷ [] in
-    none_plain ⊥ (limits_of w) bytes c.args.byte c.step.new.self c.take_end.result c.end_step.result c.args.self.now.rows c.end_step.ensures.is (c.in-Eoi.ensures.head ∙ c.requires.first) (c.take_end.ensures.end (limits_of w) all (c.in-Eoi.ensures.after bytes k))
+    none_plain ⊥ (limits_of w) bytes c.args.byte c.step.new.self c.take_end.result c.args.self.now.rows (c.in-Eoi.ensures.head ∙ c.requires.first) (c.take_end.ensures.end (limits_of w) all (c.in-Eoi.ensures.after bytes k))
     (none_before (limits_of w) bytes w k c.requires.first)
 
 pub returns-in-Fault-clause-none : goal.returns-in-Fault-clause-none

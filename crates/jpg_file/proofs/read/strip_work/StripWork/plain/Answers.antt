@@ -4,8 +4,8 @@ use Rattle.jpg_file.proofs.RowsNone.{none_after, none_first, none_seen}
 use Rattle.jpg_file.proofs.StripWorks.{first_known, first_plain, some_plain}
 use Rattle.jpg_file.proofs.read.strip_work.StripWork.plain.Goals as goal
 
-pub returns-then-is_some-clause-after : goal.returns-then-is_some-clause-after
-returns-then-is_some-clause-after c = some_plain c.args.self.now.file c.args.self.now.rows c.args.bytes.now c.some-n.result.0 c.some-n.result.1 c.some-n.new.self c.end_step.result c.requires.none c.end_step.ensures.is c.some-n.ensures.after
+pub returns-clause-after : goal.returns-clause-after
+returns-clause-after c = some_plain c.args.self.now.file c.args.self.now.rows c.args.bytes.now c.some.result.0 c.some.result.1 c.some.new.self c.requires.none c.some.ensures.after
 
 pub first_byte-requires-clause-stands : goal.first_byte-requires-clause-stands
 first_byte-requires-clause-stands c =
@@ -15,17 +15,17 @@ first_byte-requires-clause-stands c =
     let all = o.0 ++ take c.front-n.result c.args.bytes.now in
     (all, subst (λ l. StandsForFile l all c.front-n.new.self) (sym p.limits) (p.stands (limits_of w) o.0 o.1))
 
-pub returns-clause-after : goal.returns-clause-after
-returns-clause-after c = first_plain c.args.self.now.file c.front-n.new.self c.args.bytes.now c.front-n.result c.args.self.now.rows c.first_byte.new.self.rows c.first_byte.new.self.file c.first_byte.result c.requires.none c.front-n.ensures.after c.first_byte.ensures.after c.first_byte.ensures.head
+pub returns-then-awaits_rows-clause-after : goal.returns-then-awaits_rows-clause-after
+returns-then-awaits_rows-clause-after c = first_plain c.args.self.now.file c.front-n.new.self c.args.bytes.now c.front-n.result c.args.self.now.rows c.first_byte.new.self.rows c.first_byte.new.self.file c.first_byte.result c.requires.none c.front-n.ensures.after c.first_byte.ensures.after c.first_byte.ensures.head
 
-pub returns-clause-known : goal.returns-clause-known
-returns-clause-known c = first_known c.args.self.now.file c.front-n.new.self c.args.bytes.now c.front-n.result c.first_byte.new.self.rows c.first_byte.new.self.strip c.front-n.ensures.after c.first_byte.ensures.known
-
-pub returns-then-is_some-clause-none : goal.returns-then-is_some-clause-none
-returns-then-is_some-clause-none c = λ bytes k none.
-    let w = c.args.self.now.file in
-    let more = take c.some-n.result.0 c.args.bytes.now in
-    none_after (limits_of w) (bytes ++ more) c.end_step.result c.args.self.now.rows (none_seen (limits_of w) bytes more w k (search rules) none)
+pub returns-then-awaits_rows-clause-known : goal.returns-then-awaits_rows-clause-known
+returns-then-awaits_rows-clause-known c = first_known c.args.self.now.file c.front-n.new.self c.args.bytes.now c.front-n.result c.first_byte.new.self.rows c.first_byte.new.self.strip c.front-n.ensures.after c.first_byte.ensures.known
 
 pub returns-clause-none : goal.returns-clause-none
-returns-clause-none c = λ bytes k none. none_first c.args.self.now.file c.front-n.new.self c.args.bytes.now c.front-n.result c.first_byte.result c.first_byte.new.self.rows c.front-n.ensures.after c.first_byte.ensures.none bytes k
+returns-clause-none c = λ by bytes k none.
+    let w = c.args.self.now.file in
+    let more = take c.some.result.0 c.args.bytes.now in
+    none_after (limits_of w) (bytes ++ more) c.some.result.1 c.args.self.now.rows (none_seen (limits_of w) bytes more w k (c.awaits_rows.ensures.no c.if-awaits_rows.false by) none)
+
+pub returns-then-awaits_rows-clause-none : goal.returns-then-awaits_rows-clause-none
+returns-then-awaits_rows-clause-none c = λ by bytes k none. none_first c.args.self.now.file c.front-n.new.self c.args.bytes.now c.front-n.result c.first_byte.result c.first_byte.new.self.rows c.front-n.ensures.after c.first_byte.ensures.none bytes k

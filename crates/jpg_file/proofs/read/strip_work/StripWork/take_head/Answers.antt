@@ -10,7 +10,7 @@ use Rattle.jpg_file.proofs.read.strip_work.StripWork.take_head.Goals as goal
 pub returns-in_default-clause-after : goal.returns-in_default-clause-after
 returns-in_default-clause-after c = λ bytes h.
     let w = c.args.self.now.file in
-    plain_after (MakesPicture w) (limits_of w) bytes c.args.self.now.rows c.take_head.new.self c.take_head.result c.end_step.result c.requires.none c.end_step.ensures.is (c.take_head.ensures.after bytes h)
+    plain_after (MakesPicture w) (limits_of w) bytes c.args.self.now.rows c.take_head.new.self c.take_head.result c.requires.none (c.take_head.ensures.after bytes h)
 
 pub begin_rows-requires-clause-of : goal.begin_rows-requires-clause-of
 begin_rows-requires-clause-of c =
@@ -41,7 +41,7 @@ returns-in-Ok-clause-known c = λ bytes h.
 pub returns-in_default-clause-none : goal.returns-in_default-clause-none
 returns-in_default-clause-none c = λ front byte none h.
     let w = c.args.self.now.file in
-    none_after (limits_of w) (front ++ byte ∷ []) c.end_step.result c.args.self.now.rows (none_found (limits_of w) front byte w h c.requires.first c.in_default.ensures.none none)
+    none_after (limits_of w) (front ++ byte ∷ []) c.take_head.result c.args.self.now.rows (none_found (limits_of w) front byte w h c.requires.first c.in_default.ensures.none none)
 
 pub returns-in-Err-clause-none : goal.returns-in-Err-clause-none
 returns-in-Err-clause-none c = λ front byte none h.

@@ -1,6 +1,0 @@
-use Rattle.std.specs.Prelude.{◌≡◌, length, map, take}
-use Rattle.jpg_file.specs.Write.WriteProgScan.{prog_part}
-use Rattle.jpg_file.proofs.write.prog_scan.parts_of.Given as goal
-
-abbrev pub invariant-loop-component : goal.invariant-loop-component
-invariant-loop-component l = (l.parts.items ≡ map (prog_part l.colour l.has_dc l.has_ac) (take l.component-index l.components)) × (length l.parts.items ≡ l.component-index)

@@ -1,0 +1,26 @@
+-- The result of bytes of a file that is read, and what it isn't.
+use Rattle.jpg_base.specs.declared.stop.Stop.TheVariants as stop
+use Rattle.jpg_file.specs.declared.read.step.Step.{Step}
+use Rattle.jpg_file.specs.declared.read.step.Step.TheVariants as step
+
+-- where it stops
+abbrev pub IfStops : Step → Type 0 → Type 0
+IfStops step.More holds = Unit {0}
+IfStops step.Row holds = Unit {0}
+IfStops step.Whole holds = Unit {0}
+IfStops (step.Ended e) holds = holds
+
+-- no MCU row is complete
+abbrev pub IsNoRow : Step → Type 0
+IsNoRow step.More = Unit {0}
+IsNoRow step.Row = ⊥
+IsNoRow step.Whole = Unit {0}
+IsNoRow (step.Ended e) = Unit {0}
+
+-- not NoMemory
+abbrev pub NotWanting : Step → Type 0
+NotWanting step.More = Unit {0}
+NotWanting step.Row = Unit {0}
+NotWanting step.Whole = Unit {0}
+NotWanting (step.Ended (stop.Fault f)) = Unit {0}
+NotWanting (step.Ended stop.NoMemory) = ⊥
